@@ -1,0 +1,107 @@
+-- One step of a number, and that the reading function and the relation are one.
+use Rattle.std.proofs.Common.{rules, IfSome, IsSome, chars, ◌≡◌, ℕ, ◌+◌, ◌*◌, ◌-◌, ◌<◌, Bool, true, false, List, [], ◌∷◌, ◌++◌, length, Option, Some, None, ap, sym, ◌∙◌, refl, arith, subst}
+use Rattle.std.proofs.lemmas.Bool.Decides.{nat_tests}
+use Rattle.std.specs.Borrow.{Bor}
+use Rattle.fancy_lex.specs.Text.{Text}
+use Rattle.fancy_lex.specs.Number.{is_digit, AllDigits, value_after, run, at_digit, number, StartsWithNumber, GivesNumber, IsWord}
+
+pub digit_is : (d : ℕ) → d < 10 → is_digit (d + 48) ≡ true
+digit_is d h = grind (arith, nat_tests)
+
+pub run_step : (n : ℕ) (t : Text) (d : ℕ) (r : Text) → t ≡ (d + 48) ∷ r → d < 10 → run n t ≡ run (n * 10 + d) r
+unfolding run
+run_step n t d r e h =
+    let back : d + 48 - 48 ≡ d = omega arith in
+    rw (e, run, digit_is d h, back) refl
+
+pub run_first : (t : Text) (d : ℕ) (r : Text) → t ≡ (d + 48) ∷ r → d < 10 → run 0 t ≡ run d r
+run_first t d r e h = let same : 0 * 10 + d ≡ d = omega arith in run_step 0 t d r e h ∙ ap (λ n. run n r) same
+
+pub run_stop : (n : ℕ) (t : Text) → at_digit t ≡ false → run n t ≡ (n, t)
+unfolding run
+run_stop n [] e = refl
+run_stop n (c ∷ r) e = rw e refl
+
+pub at_digit_is : (t : Text) (d : ℕ) (r : Text) → t ≡ (d + 48) ∷ r → d < 10 → at_digit t ≡ true
+at_digit_is t d r e h = rw e (digit_is d h)
+
+pub number_none : (t : Text) → at_digit t ≡ false → number t ≡ None
+unfolding number
+number_none t e = rw e refl
+
+pub number_some : (t : Text) → at_digit t ≡ true → number t ≡ Some (run 0 t)
+unfolding number
+number_some t e = rw e refl
+
+run_digits : (n : ℕ) (w v : Text) → AllDigits w → run n (w ++ v) ≡ run (value_after n w) v
+unfolding run
+run_digits n [] v h = refl
+run_digits n (c ∷ w) v (d, h) = rw d (run_digits (n * 10 + (c - 48)) w v h)
+
+at_stop : (v : Text) → ((c : ℕ) (t : Text) → v ≡ c ∷ t → is_digit c ≡ false) → at_digit v ≡ false
+at_stop [] h = refl
+at_stop (c ∷ t) h = h c t refl
+
+at_front : (w v : Text) → AllDigits w → 0 < length w → at_digit (w ++ v) ≡ true
+at_front [] v a h = absurd (omega arith)
+at_front (c ∷ w) v a h = a.0
+
+-- whatever the relation gives is the function's answer
+pub number_complete : (t v : Text) (k : ℕ) → StartsWithNumber t v k → number t ≡ Some (k, v)
+number_complete t v k b =
+    let digits = b.number.digits in
+    rw (b.cut, number_some _ (at_front b.w v digits b.number.some), run_digits 0 b.w v digits, run_stop _ v (at_stop v b.number.stops), b.number.value_is) refl
+
+-- the digits at the front, and the rest
+record Split (t : Text) : Type 0 where
+  w : Text
+  v : Text
+  cut : t ≡ w ++ v
+  digits : AllDigits w
+  stops : (c : ℕ) (r : Text) → v ≡ c ∷ r → is_digit c ≡ false
+
+split : (t : Text) → Split t
+split [] = record { w = []; v = []; cut = refl; digits = tt; stops = λ c r e. absurd (nil_cons c r e) } where
+  nil_cons : (c : ℕ) (r : Text) → [] ≡ c ∷ r → ⊥
+  nil_cons c r e = cc
+split (c ∷ t) = by_test (split t) (is_digit c) refl where
+  by_test : Split t → (b : Bool) → is_digit c ≡ b → Split (c ∷ t)
+  by_test s true e = record { w = c ∷ s.w; v = s.v; cut = ap (λ u. c ∷ u) s.cut; digits = (e, s.digits); stops = s.stops }
+  by_test s false e = record { w = []; v = c ∷ t; cut = refl; digits = tt; stops = λ d r q. ap is_digit (head_same d r q) ∙ e } where
+    head_same : (d : ℕ) (r : Text) → c ∷ t ≡ d ∷ r → d ≡ c
+    head_same d r q = cc
+
+same_answer : (k m : ℕ) (v u : Text) → ◌≡◌ {A = Option (ℕ × Text)} (Some (k, v)) (Some (m, u)) → (k ≡ m) × (v ≡ u)
+same_answer k m v u e =
+    let pair : ◌≡◌ {A = ℕ × Text} (k, v) (m, u) = cc in
+    (ap (λ (p : ℕ × Text). p.0) pair, ap (λ (p : ℕ × Text). p.1) pair)
+
+no_answer : (p : ℕ × Text) → None ≡ Some p → ⊥
+no_answer p e = cc
+
+-- so the function's answer is the relation's
+pub number_sound : (t v : Text) (k : ℕ) → number t ≡ Some (k, v) → StartsWithNumber t v k
+number_sound t v k e = by_split (split t) where
+  by_split : Split t → StartsWithNumber t v k
+  by_split s = by_front s.w s refl where
+    by_front : (w : Text) (s : Split t) → s.w ≡ w → StartsWithNumber t v k
+    by_front [] s z =
+        let bare : t ≡ s.v = s.cut ∙ ap (λ u. u ++ s.v) z in
+        absurd (no_answer (k, v) (sym (number_none t (ap at_digit bare ∙ at_stop s.v s.stops)) ∙ e))
+    by_front (c ∷ w) s z =
+        let some : 0 < length s.w = rw z (omega arith) in
+        let found : StartsWithNumber t s.v (value_after 0 s.w) = record { w = s.w; cut = s.cut; number = record { digits = s.digits; some = some; stops = s.stops; value_is = refl } } in
+        let same = same_answer _ _ _ _ (sym (number_complete t s.v _ found) ∙ e) in
+        subst (λ u. StartsWithNumber t u k) same.1 (subst (StartsWithNumber t s.v) same.0 found)
+
+pub number_derives : (t : Text) (r : Option (Option ℕ × Bor (List ℕ))) → GivesNumber t r → IfSome r (λ p. (n : ℕ) × IsWord p.0 n × StartsWithNumber t (chars p.1.now) n)
+number_derives t None h = tt
+number_derives t (Some p) (n, e, word) = (n, word, number_sound t (chars p.1.now) n e)
+
+pub number_only : (t v : Text) (n : ℕ) (r : Option (Option ℕ × Bor (List ℕ))) → GivesNumber t r → StartsWithNumber t v n → IfSome r (λ p. (chars p.1.now ≡ v) × IsWord p.0 n) × IsSome r
+number_only t v n None h b = absurd (no_answer (n, v) (sym h ∙ number_complete t v n b))
+number_only t v n (Some p) (m, e, word) b =
+    let same = same_answer m n (chars p.1.now) v (sym e ∙ number_complete t v n b) in
+    ((same.1, subst (IsWord p.0) same.0 word), search rules)
+
+pub ruleset number_steps = (run_step, run_first, run_stop, at_digit_is, number_none, number_some)

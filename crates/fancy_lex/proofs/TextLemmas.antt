@@ -1,0 +1,43 @@
+-- The characters of a string that grows.
+use Rattle.std.proofs.Common.{◌≡◌, length, length-append, sym, ℕ, Bool, true, false, if◌then◌else◌, List, [], ◌∷◌, ◌++◌, chars, refl, ap, ◌∙◌, rules}
+use Rattle.std.proofs.Math.Utf8.{encode, encodes}
+use Rattle.std.specs.Str.{IsUtf8}
+use Rattle.std.specs.Char.{IsScalar}
+use Rattle.std.proofs.lemmas.Str.{chars-append, chars_past_char, chars-nil, IsUtf8-encode, length-encode, encodes-chars}
+use Rattle.std.proofs.Common.{String, Global, string_bytes}
+use Rattle.std.specs.Prelude.{encode_utf8_all}
+use Rattle.std.specs.Str.{bytes_eq}
+use Rattle.std.proofs.lemmas.Bool.Decides.{same_from_decides}
+use Rattle.std.proofs.lemmas.Str.{IsUtf8-string_bytes}
+use Rattle.std.proofs.lemmas.Slice.Eq.{bytes_eq-Decides}
+use Rattle.fancy_lex.specs.Text.{Text, bytes, text_of}
+
+pub chars_pushed : (bs : List ℕ) (c : ℕ) → IsUtf8 bs → IsScalar c → chars (bs ++ encode c) ≡ chars bs ++ c ∷ []
+chars_pushed bs c u s =
+    let one : chars (encode c) ≡ c ∷ [] = chars_past_char (encode c) [] c (IsUtf8-encode c s) (search rules) ∙ ap (λ t. c ∷ t) chars-nil in
+    chars-append bs (encode c) u ∙ ap (λ t. chars bs ++ t) one
+
+pub pushed : (b : Bool) (bs : List ℕ) (c : ℕ) → IsUtf8 bs → IsScalar c → chars (if b then bs ++ encode c else bs) ≡ (if b then chars bs ++ c ∷ [] else chars bs)
+pushed true bs c u s = chars_pushed bs c u s
+pushed false bs c u s = refl
+
+pub appended : (b : Bool) (bs ts : List ℕ) → IsUtf8 bs → chars (if b then bs ++ ts else bs) ≡ (if b then chars bs ++ chars ts else chars bs)
+appended true bs ts u = chars-append bs ts u
+appended false bs ts u = refl
+
+length_encodes : (cs : Text) → bytes cs ≡ length (encodes cs)
+unfolding bytes
+length_encodes [] = refl
+length_encodes (c ∷ cs) = rw (length_encodes cs, ← length-encode c) (sym (length-append (encode c) (encodes cs)))
+
+-- the length in bytes
+pub bytes_chars : (bs : List ℕ) → IsUtf8 bs → bytes (chars bs) ≡ length bs
+bytes_chars bs u = length_encodes (chars bs) ∙ ap length (encodes-chars bs u)
+
+-- two strings have the same bytes where they have the same characters
+pub same_text : (a b : String Global) → bytes_eq (string_bytes a) (string_bytes b) ≡ bytes_eq (text_of a) (text_of b)
+same_text a b =
+    same_from_decides _ _ (bytes_eq-Decides (string_bytes a) (string_bytes b)) (
+      λ e. sym (encodes-chars _ (IsUtf8-string_bytes a)) ∙ ap encode_utf8_all ((bytes_eq-Decides (text_of a) (text_of b)).0 e) ∙ encodes-chars _ (IsUtf8-string_bytes b),
+      λ e. (bytes_eq-Decides (text_of a) (text_of b)).1 (ap chars e),
+    )

@@ -1,0 +1,26 @@
+-- Texts as lists of characters, and places in them.
+use Rattle.std.specs.Prelude.{ℕ, ◌+◌, ◌-◌, List, [], ◌∷◌, chars, string_bytes, String, Option, Some, None, if◌then◌else◌, ◌==◌}
+use Rattle.std.specs.Char.{len_utf8}
+use Rattle.std.specs.declared.alloc.Global.{Global}
+
+-- the characters of a text, by their codes
+abbrev pub Text : Type 0
+Text = List ℕ
+
+-- the characters of a string
+abbrev pub text_of : String Global → Text
+text_of s = chars (string_bytes s)
+
+-- the length in bytes
+unfoldable pub bytes : Text → ℕ
+bytes [] = 0
+bytes (c ∷ t) = len_utf8 c + bytes t
+
+-- the place where `t` begins, at the end of a text of n bytes
+abbrev pub place_of : ℕ → Text → ℕ
+place_of n t = n - bytes t
+
+-- what follows the character, if the text begins with it
+abbrev pub strip : ℕ → Text → Option Text
+strip mark [] = None
+strip mark (c ∷ t) = if c == mark then Some t else None

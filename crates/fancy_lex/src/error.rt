@@ -1,0 +1,146 @@
+//! Why a pattern is refused.
+ghost use Rattle.std.specs.Prelude.{◌≡◌, IfOk, Some};
+ghost use Rattle.fancy_lex.specs.Fault.{kind_of, kind_text, error_text, SameError};
+
+use std::alloc::{AllocError, Global};
+use std::fmt;
+
+/// A place in the pattern, in bytes.
+pub type ParseErrorPosition = usize;
+
+pub type Result<T> = std::result::Result<T, Error>;
+
+/// A fault of the pattern, or that memory ran out.
+#[derive(Debug, Drop)]
+pub enum Error {
+    ParseError(ParseErrorPosition, ParseError),
+    OutOfMemory,
+}
+
+/// The kinds of faults.
+#[derive(Debug, Drop)]
+pub enum ParseError {
+    GeneralParseError(String),
+    UnclosedOpenParen,
+    InvalidRepeat,
+    RecursionExceeded,
+    TrailingBackslash,
+    InvalidEscape(String),
+    UnclosedUnicodeName,
+    InvalidHex,
+    InvalidCodepointValue,
+    InvalidClass,
+    UnknownFlag(String),
+    ChangingUnicodeModeUnsupported,
+    InvalidBackref,
+    TargetNotRepeatable,
+    InvalidGroupName,
+    InvalidGroupNameBackref(String),
+}
+
+impl fmt::Display for ParseError {
+    ghost output = { λ e. Some (kind_text (kind_of e)) };
+
+    fn fmt<W: fmt::Write>(&self, f: &mut fmt::Formatter<W>) -> fmt::Result {
+        match self {
+            ParseError::GeneralParseError(s) => write!(f, "General parsing error: {s}"),
+            ParseError::UnclosedOpenParen => {
+                f.write_str("Opening parenthesis without closing parenthesis")
+            }
+            ParseError::InvalidRepeat => f.write_str("Invalid repeat syntax"),
+            ParseError::RecursionExceeded => f.write_str("Pattern too deeply nested"),
+            ParseError::TrailingBackslash => f.write_str("Backslash without following character"),
+            ParseError::InvalidEscape(s) => write!(f, "Invalid escape: {s}"),
+            ParseError::UnclosedUnicodeName => f.write_str("Unicode escape not closed"),
+            ParseError::InvalidHex => f.write_str("Invalid hex escape"),
+            ParseError::InvalidCodepointValue => {
+                f.write_str("Invalid codepoint for hex or unicode escape")
+            }
+            ParseError::InvalidClass => f.write_str("Invalid character class"),
+            ParseError::UnknownFlag(s) => write!(f, "Unknown group flag: {s}"),
+            ParseError::ChangingUnicodeModeUnsupported => {
+                f.write_str("Changing Unicode mode inline is not supported")
+            }
+            ParseError::InvalidBackref => f.write_str("Invalid back reference"),
+            ParseError::TargetNotRepeatable => f.write_str("Target of repeat operator is invalid"),
+            ParseError::InvalidGroupName => f.write_str("Could not parse group name"),
+            ParseError::InvalidGroupNameBackref(s) => {
+                write!(f, "Invalid group name in back reference: {s}")
+            }
+        }
+    }
+}
+
+impl fmt::Display for Error {
+    ghost output = { λ e. Some (error_text e) };
+
+    fn fmt<W: fmt::Write>(&self, f: &mut fmt::Formatter<W>) -> fmt::Result {
+        match self {
+            Error::ParseError(place, kind) => {
+                write!(f, "Parsing error at position {place}: {kind}")
+            }
+            Error::OutOfMemory => f.write_str("out of memory"),
+        }
+    }
+}
+
+impl std::error::Error for Error {}
+
+impl ParseError {
+    /// An equal kind, in memory of its own.
+    pub fn clone(&self, alloc: Global) -> std::result::Result<ParseError, AllocError>
+        ensures { IfOk result (λ e. kind_of e ≡ kind_of self.now) }
+    {
+        Ok(match self {
+            ParseError::GeneralParseError(s) => {
+                ParseError::GeneralParseError(String::from_str(alloc, s.as_str())?)
+            }
+            ParseError::UnclosedOpenParen => ParseError::UnclosedOpenParen,
+            ParseError::InvalidRepeat => ParseError::InvalidRepeat,
+            ParseError::RecursionExceeded => ParseError::RecursionExceeded,
+            ParseError::TrailingBackslash => ParseError::TrailingBackslash,
+            ParseError::InvalidEscape(s) => {
+                ParseError::InvalidEscape(String::from_str(alloc, s.as_str())?)
+            }
+            ParseError::UnclosedUnicodeName => ParseError::UnclosedUnicodeName,
+            ParseError::InvalidHex => ParseError::InvalidHex,
+            ParseError::InvalidCodepointValue => ParseError::InvalidCodepointValue,
+            ParseError::InvalidClass => ParseError::InvalidClass,
+            ParseError::UnknownFlag(s) => {
+                ParseError::UnknownFlag(String::from_str(alloc, s.as_str())?)
+            }
+            ParseError::ChangingUnicodeModeUnsupported => {
+                ParseError::ChangingUnicodeModeUnsupported
+            }
+            ParseError::InvalidBackref => ParseError::InvalidBackref,
+            ParseError::TargetNotRepeatable => ParseError::TargetNotRepeatable,
+            ParseError::InvalidGroupName => ParseError::InvalidGroupName,
+            ParseError::InvalidGroupNameBackref(s) => {
+                ParseError::InvalidGroupNameBackref(String::from_str(alloc, s.as_str())?)
+            }
+        })
+    }
+}
+
+impl Error {
+    /// An equal error, in memory of its own.
+    pub fn clone(&self, alloc: Global) -> std::result::Result<Error, AllocError>
+        ensures { IfOk result (λ e. SameError e self.now) }
+    {
+        match self {
+            Error::ParseError(place, kind) => Ok(Error::ParseError(*place, kind.clone(alloc)?)),
+            Error::OutOfMemory => Ok(Error::OutOfMemory),
+        }
+    }
+}
+
+impl From<AllocError> for Error {
+    ghost use Rattle.fancy_lex.specs.declared.error.Error.TheVariants.{OutOfMemory};
+    ghost use Rattle.std.specs.Prelude.{◌≡◌};
+
+    ghost from_gives = { λ _ e. e ≡ OutOfMemory };
+
+    fn from(_refused: AllocError) -> Error {
+        Error::OutOfMemory
+    }
+}

@@ -1,0 +1,8 @@
+//! The lowest layer: flags, errors, and what is read from the text without knowing a tree.
+#![tactic(auto)]
+
+pub mod error;
+pub mod escape;
+pub mod flags;
+pub mod name;
+pub mod text;

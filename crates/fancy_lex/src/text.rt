@@ -1,0 +1,33 @@
+//! Steps over the text, which allocate nothing.
+ghost use Rattle.std.specs.Prelude.{◌≡◌, ◌+◌, ◌<◌, ◌≤◌, [], ◌∷◌, length, chars, MatchOption, IfSome, option_map};
+ghost use Rattle.fancy_lex.specs.Text.{strip, place_of};
+
+/// The first character, and what follows it.
+#[inline]
+pub fn next(text: &str) -> Option<(char, &str)>
+    ensures value { MatchOption result (chars text.now ≡ []) (λ p. chars text.now ≡ p.0 ∷ chars p.1.now) }
+    ensures shorter { MatchOption result (length text.now ≡ 0) (λ p. length p.1.now < length text.now) }
+{
+    let mut chars = text.chars();
+    let c = chars.next()?;
+    Some((c, chars.as_str()))
+}
+
+/// What follows the character, if the text begins with it.
+#[inline]
+pub fn after(text: &str, mark: char) -> Option<&str>
+    ensures value { strip mark (chars text.now) ≡ option_map (λ r. chars r.now) result }
+    ensures shorter { IfSome result (λ r. length r.now < length text.now) }
+{
+    let (c, rest) = next(text)?;
+    if c == mark { Some(rest) } else { None }
+}
+
+/// The place where `text` begins, at the end of a text of `end` bytes.
+#[inline]
+pub fn place(text: &str, end: usize) -> usize
+    requires { length text.now ≤ end }
+    ensures { result ≡ place_of end (chars text.now) }
+{
+    end - text.len()
+}
