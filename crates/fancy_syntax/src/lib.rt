@@ -1,0 +1,4 @@
+//! Patterns as trees: what a text reads as, and the text that a tree is printed as.
+#![tactic(auto)]
+
+pub mod expr;
