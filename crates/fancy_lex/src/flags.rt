@@ -51,10 +51,7 @@ impl Flags {
             unicode: has(bits, FLAG_UNICODE),
             crlf: has(bits, FLAG_CRLF),
             oniguruma_mode: has(bits, FLAG_ONIGURUMA_MODE),
-            ignore_numbered_groups: has(
-                bits,
-                FLAG_IGNORE_NUMBERED_GROUPS_WHEN_NAMED_GROUPS_EXIST
-            ),
+            ignore_numbered_groups: has(bits, FLAG_IGNORE_NUMBERED_GROUPS_WHEN_NAMED_GROUPS_EXIST),
         }
     }
 }

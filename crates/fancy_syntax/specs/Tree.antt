@@ -172,7 +172,3 @@ abbrev mutual
   depth_absent (expression a e) = max (depth a) (depth e)
   depth_absent (stopper t) = depth t
   depth_absent clear = 0
-
-abbrev pub is_conditional : Tree → Bool
-is_conditional (conditional c t f) = true
-is_conditional _ = false

@@ -1,0 +1,11 @@
+pub mod Ahead
+pub mod Grammar
+pub mod Join
+pub mod Marks
+pub mod Openings
+pub mod Quantified
+pub mod Reads
+pub mod Resolved
+pub mod State
+pub mod Tree
+pub mod View

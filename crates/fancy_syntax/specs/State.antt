@@ -1,0 +1,19 @@
+-- Where a reading stands, and what it comes to.
+use Rattle.std.specs.Prelude.{ℕ}
+use Rattle.fancy_lex.specs.Fault.{Kind}
+use Rattle.fancy_lex.specs.Text.{Text}
+use Rattle.fancy_lex.specs.declared.flags.Flags.{Flags}
+
+-- the flags that hold, and the text that is still to be read
+pub record State : Type 0 where
+  pub flags : Flags
+  pub rest : Text
+
+-- the same flags at a later text
+abbrev pub at : State → Text → State
+at s t = record s { rest = t }
+
+-- what is read, with the state after it; or the fault that ends the reading, with its place
+pub data Outcome (A : Type 0) : Type 0 where
+  done : A → State → Outcome A
+  fault : Kind → ℕ → Outcome A

@@ -1,0 +1,61 @@
+-- The tree that an `Expr` stands for.
+use Rattle.std.specs.Prelude.{List, map, option_map}
+use Rattle.fancy_lex.specs.Target.{view_target}
+use Rattle.fancy_lex.specs.Text.{text_of}
+use Rattle.fancy_syntax.specs.Tree.{Tree, empty, any, assertion, general_newline, literal, literal_bytes, concat, alt, group, look_around, repeat, delegate, backref, backref_at_level, atomic_group, keep_out, continue_from_previous_match_end, backref_exists, conditional, subroutine_call, verb, absent, define_group, ast_node, AbsentTree, repeater, expression, stopper, clear, AstTree, ast_group, ast_backref, ast_call, ast_condition, trees_of}
+use Rattle.fancy_syntax.specs.declared.expr.Expr.{Expr, fold-Expr}
+use Rattle.fancy_syntax.specs.declared.expr.Absent.{Absent, fold-Absent}
+use Rattle.fancy_syntax.specs.declared.expr.AstNode.{AstNode, fold-AstNode}
+use Rattle.fancy_syntax.specs.declared.expr.Absent.TheOpen.{Absent-F, AstNode-F, Expr-F}
+
+-- one level, with each tree inside already seen
+abbrev pub absent_step : Absent-F AbsentTree AstTree Tree → AbsentTree
+absent_step (Absent-F.Repeater t) = repeater t.value
+absent_step (Absent-F.Expression a e) = expression a.value e.value
+absent_step (Absent-F.Stopper t) = stopper t.value
+absent_step Absent-F.Clear = clear
+
+abbrev pub ast_step : AstNode-F AbsentTree AstTree Tree → AstTree
+ast_step (AstNode-F.AstGroup name inner) = ast_group (option_map text_of name) inner.value
+ast_step (AstNode-F.AstNode::Backref t casei level) = ast_backref (view_target t) casei level
+ast_step (AstNode-F.AstNode::SubroutineCall t) = ast_call (view_target t)
+ast_step (AstNode-F.AstNode::BackrefExistsCondition t level) = ast_condition (view_target t) level
+
+abbrev pub expr_step : Expr-F AbsentTree AstTree Tree → Tree
+expr_step Expr-F.Empty = empty
+expr_step (Expr-F.Any newline crlf) = any newline crlf
+expr_step (Expr-F.Assertion a) = assertion a
+expr_step (Expr-F.GeneralNewline u) = general_newline u
+expr_step (Expr-F.Literal s casei) = literal (text_of s) casei
+expr_step (Expr-F.LiteralBytes b) = literal_bytes b.items
+expr_step (Expr-F.Concat v) = concat (trees_of v.items)
+expr_step (Expr-F.Alt v) = alt (trees_of v.items)
+expr_step (Expr-F.Group t) = group t.value
+expr_step (Expr-F.LookAround t l) = look_around t.value l
+expr_step (Expr-F.Repeat t lo hi greedy) = repeat t.value lo hi greedy
+expr_step (Expr-F.Delegate s casei) = delegate (text_of s) casei
+expr_step (Expr-F.Expr::Backref n casei) = backref n casei
+expr_step (Expr-F.BackrefWithRelativeRecursionLevel n level casei) = backref_at_level n level casei
+expr_step (Expr-F.AtomicGroup t) = atomic_group t.value
+expr_step Expr-F.KeepOut = keep_out
+expr_step Expr-F.ContinueFromPreviousMatchEnd = continue_from_previous_match_end
+expr_step (Expr-F.Expr::BackrefExistsCondition n level) = backref_exists n level
+expr_step (Expr-F.Conditional c t f) = conditional c.value t.value f.value
+expr_step (Expr-F.Expr::SubroutineCall n) = subroutine_call n
+expr_step (Expr-F.BacktrackingControlVerb v) = verb v
+expr_step (Expr-F.Absent a) = absent a
+expr_step (Expr-F.DefineGroup t) = define_group t.value
+expr_step (Expr-F.AstNode n place) = ast_node n place
+
+abbrev pub view : Expr → Tree
+view = fold-Expr AbsentTree AstTree Tree absent_step ast_step expr_step
+
+abbrev pub view_absent : Absent → AbsentTree
+view_absent = fold-Absent AbsentTree AstTree Tree absent_step ast_step expr_step
+
+abbrev pub view_ast : AstNode → AstTree
+view_ast = fold-AstNode AbsentTree AstTree Tree absent_step ast_step expr_step
+
+-- the trees of several
+abbrev pub views : List Expr → List Tree
+views = map view
