@@ -1,2 +1,4 @@
+pub mod LayoutLaws
+pub mod LayoutLemmas
 pub mod NumberLemmas
 pub mod TextLemmas

@@ -4,5 +4,6 @@
 pub mod error;
 pub mod escape;
 pub mod flags;
+pub mod layout;
 pub mod name;
 pub mod text;

@@ -1,0 +1,84 @@
+-- One step of the layout's definition, where the text is known by an equation.
+use Rattle.std.proofs.Common.{◌≡◌, ◌≢◌, ◌+◌, ℕ, Bool, true, [], ◌∷◌, Some, None, false, arith, ◌==◌, ◌&&◌, if◌then◌else◌, is_some, ap, refl}
+use Rattle.std.proofs.lemmas.Bool.Decides.{nat_tests}
+use Rattle.fancy_lex.specs.Characters.{line_feed, hash, close_paren, backslash}
+use Rattle.fancy_lex.specs.Text.{Text}
+use Rattle.fancy_lex.specs.Layout.{rest, fault, layout_from, between, two, comment, escaped, line, is_blank, opened}
+
+module _ (n : ℕ) (x : Bool) (t : Text) where
+  pub comment_end : t ≡ [] → layout_from n x comment t ≡ fault n
+  unfolding layout_from
+  comment_end e = ap (layout_from n x comment) e
+
+  pub escaped_end : t ≡ [] → layout_from n x escaped t ≡ fault (n + 1)
+  unfolding layout_from
+  escaped_end e = ap (layout_from n x escaped) e
+
+  pub line_end : t ≡ [] → layout_from n x line t ≡ rest t
+  unfolding layout_from
+  line_end e = rw e refl
+
+  pub between_end : t ≡ [] → layout_from n x between t ≡ rest t
+  unfolding layout_from
+  between_end e = rw e refl
+
+  module _ (c : ℕ) (r : Text) where
+    pub comment_step : t ≡ c ∷ r → layout_from n x comment t ≡ (if c == close_paren then layout_from n x between r else if c == backslash then layout_from n x escaped r else layout_from n x comment r)
+    unfolding layout_from
+    comment_step e = ap (layout_from n x comment) e
+
+    pub escaped_step : t ≡ c ∷ r → layout_from n x escaped t ≡ layout_from n x comment r
+    unfolding layout_from
+    escaped_step e = ap (layout_from n x escaped) e
+
+    pub line_step : t ≡ c ∷ r → layout_from n x line t ≡ (if c == line_feed then layout_from n x between r else layout_from n x line r)
+    unfolding layout_from
+    line_step e = ap (layout_from n x line) e
+
+    pub between_step : t ≡ c ∷ r → layout_from n x between t ≡ (if is_some (opened t) then layout_from n x two r else if x && c == hash then layout_from n x line r else if x && is_blank c then layout_from n x between r else rest t)
+    unfolding layout_from
+    between_step e = rw e refl
+
+-- `(?#` opens a comment
+pub between_opened : (n : ℕ) (x : Bool) (t i : Text) → opened t ≡ Some i → layout_from n x between t ≡ layout_from n x comment i
+unfolding layout_from
+between_opened n x [] i e = cc
+between_opened n x (c ∷ []) i e = grind (arith, nat_tests)
+between_opened n x (c ∷ d ∷ []) i e = grind (arith, nat_tests)
+between_opened n x (c ∷ d ∷ f ∷ r) i e = grind (arith, nat_tests)
+
+-- nothing that the flag lets pass
+pub between_plain : (n : ℕ) (t : Text) → opened t ≡ None → layout_from n false between t ≡ rest t
+unfolding layout_from
+between_plain n [] e = refl
+between_plain n (c ∷ r) e = grind (arith, nat_tests)
+
+-- the cases of a step, by what the code has tested
+module _ (n : ℕ) (x : Bool) (t : Text) (c : ℕ) (r : Text) (e : t ≡ c ∷ r) (none : opened t ≡ None) (ignore_space : x ≡ true) where
+  pub between_line : c ≡ hash → layout_from n x between t ≡ layout_from n x line r
+  between_line h = let step = between_step n x t c r e in grind (arith, nat_tests)
+
+  pub between_blank : c ≢ hash → is_blank c ≡ true → layout_from n x between t ≡ layout_from n x between r
+  between_blank h b = let step = between_step n x t c r e in grind (arith, nat_tests)
+
+  pub between_other : c ≢ hash → is_blank c ≡ false → layout_from n x between t ≡ rest t
+  between_other h b = let step = between_step n x t c r e in grind (arith, nat_tests)
+
+-- the same inside a comment and a line comment
+module _ (n : ℕ) (x : Bool) (t : Text) (c : ℕ) (r : Text) (e : t ≡ c ∷ r) where
+  pub comment_close : c ≡ close_paren → layout_from n x comment t ≡ layout_from n x between r
+  comment_close h = let step = comment_step n x t c r e in grind (arith, nat_tests)
+
+  pub comment_escape : c ≡ backslash → layout_from n x comment t ≡ layout_from n x escaped r
+  comment_escape k = let step = comment_step n x t c r e in grind (arith, nat_tests)
+
+  pub comment_plain : c ≢ close_paren → c ≢ backslash → layout_from n x comment t ≡ layout_from n x comment r
+  comment_plain h k = let step = comment_step n x t c r e in grind (arith, nat_tests)
+
+  pub line_close : c ≡ line_feed → layout_from n x line t ≡ layout_from n x between r
+  line_close h = let step = line_step n x t c r e in grind (arith, nat_tests)
+
+  pub line_plain : c ≢ line_feed → layout_from n x line t ≡ layout_from n x line r
+  line_plain h = let step = line_step n x t c r e in grind (arith, nat_tests)
+
+pub ruleset layout_steps = (comment_end, escaped_end, line_end, between_end, comment_close, comment_escape, comment_plain, escaped_step, line_close, line_plain, between_opened, between_plain, between_line, between_blank, between_other)

@@ -1,0 +1,15 @@
+use Rattle.std.proofs.Common.{◌≡◌, ◌≤◌, Bool, length, chars}
+use denote.Text.{Utf8}
+use denote.Shadow.{shadow}
+use Rattle.fancy_lex.specs.Layout as spec
+use Rattle.fancy_lex.proofs.layout.comment.Given as goal
+
+abbrev pub invariant-loop-c : goal.invariant-loop-c
+invariant-loop-c l = record {
+  text : shadow (Utf8 l.left);
+  same : (x : Bool) → spec.layout_from l.end x spec.comment (chars l.text) ≡ spec.layout_from l.end x spec.comment (chars l.left);
+  within : length l.left ≤ length l.text;
+}
+
+abbrev pub decreases-loop-c : goal.decreases-loop-c
+decreases-loop-c l = length l.left

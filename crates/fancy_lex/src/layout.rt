@@ -1,0 +1,110 @@
+//! Layout: the comments and blanks between the parts of a pattern.
+ghost use Rattle.std.specs.Prelude.{◌≡◌, ℕ, ◌+◌, ◌<◌, ◌≤◌, ◌^◌, Bool, length, chars, MatchResult, IfOk, IfErr, IfSome, option_map};
+ghost use Rattle.fancy_lex.specs.Text.{Text};
+ghost use Rattle.fancy_lex.specs.Layout as spec;
+ghost use Rattle.fancy_lex.specs.Layout.{rest, fault, skipped};
+
+use crate::text::{after, next};
+
+/// Reads a comment behind its `(?#`: the text behind it, or the place of its fault in a pattern of `end` bytes.
+#[tactic(auto, using(crate::proofs::LayoutLemmas::layout_steps))]
+fn comment(text: &str, end: usize) -> Result<&str, usize>
+    requires { end < 2 ^ 63 }
+    ensures value { (x : Bool) → MatchResult result (λ r. spec.layout_from end x spec.comment (chars text.now) ≡ spec.layout_from end x spec.between (chars r.now)) (λ p. spec.layout_from end x spec.comment (chars text.now) ≡ fault p) }
+    ensures shorter { IfOk result (λ r. length r.now < length text.now) }
+    ensures place { IfErr result (λ p. p ≤ end + 1) }
+{
+    let mut left = text;
+    while let Some((c, after)) = next(left) {
+        if c == ')' {
+            return Ok(after);
+        }
+        left = after;
+        if c == '\\' {
+            let Some((_, pair)) = next(left) else {
+                return Err(end + 1);
+            };
+            left = pair;
+        }
+    }
+    Err(end)
+}
+
+/// Reads a line comment behind its `#`: the text behind it.
+#[tactic(auto, using(crate::proofs::LayoutLemmas::layout_steps))]
+fn line(text: &str) -> &str
+    ensures value { (n : ℕ) (x : Bool) → spec.layout_from n x spec.line (chars text.now) ≡ spec.layout_from n x spec.between (chars result.now) }
+    ensures within { length result.now ≤ length text.now }
+{
+    let mut left = text;
+    while let Some((c, after)) = next(left) {
+        if c == '\n' {
+            return after;
+        }
+        left = after;
+    }
+    left
+}
+
+/// Whether the character is layout under IGNORE_SPACE.
+fn is_blank(c: char) -> bool
+    ensures { result ≡ spec.is_blank c }
+{
+    c == ' ' || c == '\r' || c == '\n' || c == '\t'
+}
+
+/// What follows the `(?#` at the front.
+#[inline]
+fn opened(text: &str) -> Option<&str>
+    ensures value { spec.opened (chars text.now) ≡ option_map (λ r. chars r.now) result }
+    ensures shorter { IfSome result (λ r. length r.now < length text.now) }
+{
+    let paren = after(text, '(')?;
+    let question = after(paren, '?')?;
+    after(question, '#')
+}
+
+/// Reads the layout at the front, one unit after another.
+#[tactic(auto, using(crate::proofs::LayoutLemmas::layout_steps))]
+fn read_layout(text: &str, ignore_space: bool, end: usize) -> Result<&str, usize>
+    requires { end < 2 ^ 63 }
+    ensures value { spec.layout end ignore_space (chars text.now) ≡ skipped result }
+    ensures within { IfOk result (λ r. length r.now ≤ length text.now) }
+    ensures place { IfErr result (λ p. p ≤ end + 1) }
+{
+    let mut left = text;
+    loop {
+        if let Some(inside) = opened(left) {
+            left = comment(inside, end)?;
+            continue;
+        }
+        if !ignore_space {
+            return Ok(left);
+        }
+        let Some((c, after)) = next(left) else {
+            return Ok(left);
+        };
+        if c == '#' {
+            left = line(after);
+        } else if is_blank(c) {
+            left = after;
+        } else {
+            return Ok(left);
+        }
+    }
+}
+
+/// Reads the layout at the front of `text`, the rest of a pattern of `end` bytes: the text behind it.
+/// Where a comment in it is not closed, the error is the place of that fault: the pattern's end, or the
+/// byte past it where the pattern ends with a backslash that guards nothing.
+pub fn layout(text: &str, ignore_space: bool, end: usize) -> Result<&str, usize>
+    requires { end < 2 ^ 63 }
+    ensures value { spec.layout end ignore_space (chars text.now) ≡ skipped result }
+    ensures derives { MatchResult result (λ r. spec.Before ignore_space (chars text.now) (chars r.now)) (λ p. spec.Unclosed end ignore_space (chars text.now) p) }
+    ensures only { (v : Text) → spec.Before ignore_space (chars text.now) v → skipped result ≡ rest v }
+    ensures only_fault { (p : ℕ) → spec.Unclosed end ignore_space (chars text.now) p → skipped result ≡ fault p }
+    ensures within { IfOk result (λ r. length r.now ≤ length text.now) }
+    ensures place { IfErr result (λ p. p ≤ end + 1) }
+{
+    read_layout(text, ignore_space, end)
+}
