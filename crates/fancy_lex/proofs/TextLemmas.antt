@@ -1,4 +1,8 @@
 -- The characters of a string that grows.
+use Rattle.std.proofs.Common.{zero-add, suc, ◌+◌, ◌-◌, ◌<◌, ◌≤◌, append_assoc, append-nil, subst, arith, take}
+use Rattle.std.specs.Str.{IsCharBoundary}
+use Rattle.std.proofs.Math.Seq.{take-append_seam}
+use Rattle.std.proofs.lemmas.Str.{length-le-encodes, encodes-append, IsCharBoundary-at_seam}
 use Rattle.std.proofs.Common.{◌≡◌, length, length-append, sym, ℕ, Bool, true, false, if◌then◌else◌, List, [], ◌∷◌, ◌++◌, chars, refl, ap, ◌∙◌, rules}
 use Rattle.std.proofs.Math.Utf8.{encode, encodes}
 use Rattle.std.specs.Str.{IsUtf8}
@@ -41,3 +45,29 @@ same_text a b =
       λ e. sym (encodes-chars _ (IsUtf8-string_bytes a)) ∙ ap encode_utf8_all ((bytes_eq-Decides (text_of a) (text_of b)).0 e) ∙ encodes-chars _ (IsUtf8-string_bytes b),
       λ e. (bytes_eq-Decides (text_of a) (text_of b)).1 (ap chars e),
     )
+
+-- a text that ends with another's characters ends with its bytes
+pub cut_bytes : (s r : List ℕ) (w : Text) → IsUtf8 s → IsUtf8 r → chars s ≡ w ++ chars r → s ≡ encodes w ++ r
+cut_bytes s r w u v e =
+    sym (encodes-chars s u) ∙ ap encodes e ∙ encodes-append w (chars r) ∙ ap (λ b. encodes w ++ b) (encodes-chars r v)
+
+cut_lengths : (s r : List ℕ) (w : Text) → IsUtf8 s → IsUtf8 r → chars s ≡ w ++ chars r → length s ≡ length (encodes w) + length r
+cut_lengths s r w u v e = ap length (cut_bytes s r w u v e) ∙ length-append (encodes w) r
+
+pub cut_le : (s r : List ℕ) (w : Text) → IsUtf8 s → IsUtf8 r → chars s ≡ w ++ chars r → length r ≤ length s
+cut_le s r w u v e = omega (arith, cut_lengths s r w u v e)
+
+pub cut_boundary : (s r : List ℕ) (w : Text) → IsUtf8 s → IsUtf8 r → chars s ≡ w ++ chars r → IsCharBoundary s (length s - length r)
+cut_boundary s r w u v e =
+    let cut = cut_bytes s r w u v e in
+    let long : length s ≡ length (encodes w) + length r = ap length cut ∙ length-append (encodes w) r in
+    let at : length (encodes w) ≡ length s - length r = omega arith in
+    subst (IsCharBoundary s) at (IsCharBoundary-at_seam s (encodes w) r cut v)
+
+pub front_is : (s r f : List ℕ) (w : Text) → IsUtf8 s → IsUtf8 r → IsUtf8 f → chars s ≡ w ++ chars r → f ≡ take (length s - length r) s → chars s ≡ chars f ++ chars r
+front_is s r f w u v g e q =
+    let cut = cut_bytes s r w u v e in
+    let long : length s ≡ length (encodes w) + length r = ap length cut ∙ length-append (encodes w) r in
+    let at : length s - length r ≡ length (encodes w) = omega arith in
+    let is : f ≡ encodes w = rw (q, at) (ap (take (length (encodes w))) cut ∙ take-append_seam (encodes w) r) in
+    ap chars (cut ∙ ap (λ b. b ++ r) (sym is)) ∙ chars-append f r g

@@ -1,6 +1,6 @@
 //! Steps over the text, which allocate nothing.
-ghost use Rattle.std.specs.Prelude.{◌≡◌, ◌+◌, ◌<◌, ◌≤◌, [], ◌∷◌, length, chars, MatchOption, IfSome, option_map};
-ghost use Rattle.fancy_lex.specs.Text.{strip, place_of};
+ghost use Rattle.std.specs.Prelude.{◌≡◌, ◌+◌, ◌<◌, ◌≤◌, [], ◌∷◌, ◌++◌, length, chars, MatchOption, IfSome, option_map};
+ghost use Rattle.fancy_lex.specs.Text.{Text, strip, place_of};
 
 /// The first character, and what follows it.
 #[inline]
@@ -30,4 +30,13 @@ pub fn place(text: &str, end: usize) -> usize
     ensures { result ≡ place_of end (chars text.now) }
 {
     end - text.len()
+}
+
+/// The slice of `text` before `rest`, with which it ends.
+#[inline]
+pub fn front<'a>(text: &'a str, rest: &str) -> &'a str
+    requires { (w : Text) × (chars text.now ≡ w ++ chars rest.now) }
+    ensures { chars text.now ≡ chars result.now ++ chars rest.now }
+{
+    &text[..text.len() - rest.len()]
 }
