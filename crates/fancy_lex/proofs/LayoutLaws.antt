@@ -1,11 +1,11 @@
 -- The reading function and the relation are one.
-use Rattle.std.proofs.Common.{◌≡◌, ◌≢◌, Result, Ok, Err, MatchResult, chars, ◌+◌, ℕ, zero, suc, Bool, true, false, List, [], ◌∷◌, ◌++◌, length, Some, None, ap, sym, ◌∙◌, refl, arith, ◌⊎◌, inl, inr, append_assoc, append-nil, length-append, ◌<◌, Option, subst}
+use Rattle.std.proofs.Common.{◌≡◌, ◌≢◌, Result, Ok, Err, MatchResult, chars, ◌+◌, ℕ, zero, suc, Bool, true, false, List, [], ◌∷◌, ◌++◌, length, Some, None, ap, sym, ◌∙◌, refl, arith, ◌⊎◌, inl, inr, append_assoc, append-nil, length-append, ◌<◌, ◌≤◌, Option, subst}
 use Rattle.std.proofs.lemmas.Bool.Decides.{nat_tests}
 use Rattle.std.proofs.lemmas.Bool.{cases_eq}
 use Rattle.std.specs.Borrow.{Bor}
 use Rattle.fancy_lex.specs.Characters.{line_feed, hash, open_paren, close_paren, backslash}
 use Rattle.fancy_lex.specs.Text.{Text}
-use Rattle.fancy_lex.specs.Layout.{skipped, rest, fault, Inside, nothing, plain, pair, InLine, end_line, on_line, opening, IsUnit, Units, none, more, Stops, layout_from, between, comment, escaped, line, is_blank, opened, Open, at_end, after_backslash, Unclosed, Before}
+use Rattle.fancy_lex.specs.Layout.{skipped, rest, fault, Inside, nothing, plain, pair, InLine, end_line, on_line, opening, IsUnit, Units, none, more, Stops, layout, layout_from, between, comment, escaped, line, is_blank, opened, Open, at_end, after_backslash, Unclosed, Before}
 use Rattle.fancy_lex.proofs.LayoutLemmas.{between_opened, comment_step, comment_end, escaped_end, escaped_step, escaped_end, line_step, between_line, between_blank, between_other, between_plain, between_end, line_end}
 
 snoc : (i r : Text) (c : ℕ) → (i ++ c ∷ []) ++ r ≡ i ++ c ∷ r
@@ -281,3 +281,10 @@ unclosed_sound n x t p e =
 pub derives_from : (n : ℕ) (x : Bool) (t : Text) (r : Result (Bor (List ℕ)) ℕ) → layout_from n x between t ≡ skipped r → MatchResult r (λ v. Before x t (chars v.now)) (λ p. Unclosed n x t p)
 derives_from n x t (Ok v) e = layout_sound n x t (chars v.now) e
 derives_from n x t (Err p) e = unclosed_sound n x t p e
+
+-- what is left is the end of the text
+pub layout_cut : (n : ℕ) (x : Bool) (t v : Text) → layout n x t ≡ rest v → (w : Text) × (t ≡ w ++ v)
+layout_cut n x t v e = let b = layout_sound n x t v e in (b.w, b.cut)
+
+pub layout_length : (n : ℕ) (x : Bool) (t v : Text) → layout n x t ≡ rest v → length v ≤ length t
+layout_length n x t v e = let (w, cut) = layout_cut n x t v e in omega (arith, simp length-append at (ap length cut))

@@ -1,4 +1,9 @@
+pub mod BoundaryLaws
+pub mod BoundaryLemmas
+pub mod HexLemmas
 pub mod LayoutLaws
 pub mod LayoutLemmas
 pub mod NumberLemmas
+pub mod PropertyLemmas
+pub mod ReadingLemmas
 pub mod TextLemmas

@@ -1,20 +1,44 @@
--- The characters of the language that have a name, by their codes.
-use Rattle.std.specs.Prelude.{ℕ}
+-- The characters of the language, by their codes.
+use Rattle.std.specs.Prelude.{ℕ, Bool, false, ◌||◌, ◌==◌, List, [], ◌∷◌, codes}
+use Prim.Native.Char.{code}
+use Prim.Native.String.{String}
 
 abbrev pub line_feed : ℕ
-line_feed = 10
+line_feed = code "\n"
 
 abbrev pub hash : ℕ
-hash = 35
+hash = code "#"
 
 abbrev pub open_paren : ℕ
-open_paren = 40
+open_paren = code "("
 
 abbrev pub close_paren : ℕ
-close_paren = 41
+close_paren = code ")"
+
+abbrev pub open_brace : ℕ
+open_brace = code "{"
+
+abbrev pub close_brace : ℕ
+close_brace = code "}"
+
+abbrev pub comma : ℕ
+comma = code ","
 
 abbrev pub question_mark : ℕ
-question_mark = 63
+question_mark = code "?"
 
 abbrev pub backslash : ℕ
-backslash = 92
+backslash = code "\\"
+
+abbrev pub caret : ℕ
+caret = code "^"
+
+abbrev pub is_among : ℕ → List ℕ → Bool
+is_among c [] = false
+is_among c (d ∷ []) = c == d
+is_among c (d ∷ e ∷ rest) = c == d || is_among c (e ∷ rest)
+
+-- the character is one of these
+infix 60 ◌∈◌
+abbrev pub ◌∈◌ : ℕ → String → Bool
+c ∈ s = is_among c (codes s)

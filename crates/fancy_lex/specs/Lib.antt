@@ -1,8 +1,15 @@
 pub mod Bits
+pub mod Boundary
+pub mod BoundaryName
 pub mod Characters
+pub mod Escaped
 pub mod Fault
 pub mod Flags
+pub mod Hex
 pub mod Layout
 pub mod Number
+pub mod Property
+pub mod PropertyForm
+pub mod Reading
 pub mod Target
 pub mod Text

@@ -3,7 +3,9 @@ ghost use Rattle.std.specs.Prelude.{◌≡◌, ℕ, ◌+◌, ◌<◌, ◌≤◌,
 ghost use Rattle.fancy_lex.specs.Text.{Text};
 ghost use Rattle.fancy_lex.specs.Layout as spec;
 ghost use Rattle.fancy_lex.specs.Layout.{rest, fault, skipped};
+ghost use Rattle.fancy_lex.specs.Reading.{layout_reading, rest_reading};
 
+use crate::error::{Error, ParseError};
 use crate::text::{after, next};
 
 /// Reads a comment behind its `(?#`: the text behind it, or the place of its fault in a pattern of `end` bytes.
@@ -107,4 +109,16 @@ pub fn layout(text: &str, ignore_space: bool, end: usize) -> Result<&str, usize>
     ensures place { IfErr result (λ p. p ≤ end + 1) }
 {
     read_layout(text, ignore_space, end)
+}
+
+/// The same with the fault as an error: UnclosedOpenParen at its place.
+pub fn skip(text: &str, ignore_space: bool, end: usize) -> Result<&str, Error>
+    requires { end < 2 ^ 63 }
+    ensures value { layout_reading (spec.layout end ignore_space (chars text.now)) ≡ rest_reading result }
+    ensures within { IfOk result (λ r. length r.now ≤ length text.now) }
+{
+    match layout(text, ignore_space, end) {
+        Ok(rest) => Ok(rest),
+        Err(place) => Err(Error::ParseError(place, ParseError::UnclosedOpenParen)),
+    }
 }

@@ -6,4 +6,5 @@ pub mod escape;
 pub mod flags;
 pub mod layout;
 pub mod name;
+pub mod property;
 pub mod text;

@@ -1,6 +1,8 @@
-//! Steps over the text, which allocate nothing.
-ghost use Rattle.std.specs.Prelude.{◌≡◌, ◌+◌, ◌<◌, ◌≤◌, [], ◌∷◌, ◌++◌, length, chars, MatchOption, IfSome, option_map};
-ghost use Rattle.fancy_lex.specs.Text.{Text, strip, place_of};
+//! Steps over the text, which allocate nothing, and strings that grow.
+ghost use Rattle.std.specs.Prelude.{◌≡◌, ◌+◌, ◌-◌, ◌<◌, ◌≤◌, [], ◌∷◌, ◌++◌, length, chars, MatchOption, IfSome, option_map, is_ok, if◌then◌else◌};
+ghost use Rattle.fancy_lex.specs.Text.{Text, strip, place_of, text_of};
+
+use std::alloc::AllocError;
 
 /// The first character, and what follows it.
 #[inline]
@@ -32,6 +34,15 @@ pub fn place(text: &str, end: usize) -> usize
     end - text.len()
 }
 
+/// The place of the byte before `text`, at the end of a text of `end` bytes.
+#[inline]
+pub fn place_before(text: &str, end: usize) -> usize
+    requires { length text.now < end }
+    ensures { result ≡ place_of end (chars text.now) - 1 }
+{
+    end - text.len() - 1
+}
+
 /// The slice of `text` before `rest`, with which it ends.
 #[inline]
 pub fn front<'a>(text: &'a str, rest: &str) -> &'a str
@@ -39,4 +50,20 @@ pub fn front<'a>(text: &'a str, rest: &str) -> &'a str
     ensures { chars text.now ≡ chars result.now ++ chars rest.now }
 {
     &text[..text.len() - rest.len()]
+}
+
+/// Adds the character to the string.
+#[inline]
+pub fn push(out: &mut String, c: char) -> Result<(), AllocError>
+    ensures { text_of out.new ≡ (if is_ok result then text_of out.old ++ c ∷ [] else text_of out.old) }
+{
+    out.push(c)
+}
+
+/// Adds the text to the string.
+#[inline]
+pub fn append(out: &mut String, text: &str) -> Result<(), AllocError>
+    ensures { text_of out.new ≡ (if is_ok result then text_of out.old ++ chars text.now else text_of out.old) }
+{
+    out.push_str(text)
 }

@@ -11,6 +11,11 @@ use Rattle.fancy_syntax.specs.Tree.{Tree}
 use Rattle.fancy_syntax.specs.View.{view}
 use Rattle.fancy_syntax.specs.declared.expr.Expr.{Expr}
 
+-- memory ran out, or the error is this fault
+abbrev pub IsFault : Error → Kind → ℕ → Type 0
+IsFault (ParseError p k) kind place = (kind_of k ≡ kind) × (p ≡ place)
+IsFault OutOfMemory kind place = Unit {0}
+
 -- memory ran out, or the fault is an outcome
 abbrev pub Fails : {A : Type 0} → Error → (Outcome A → Type 0) → Type 0
 Fails (ParseError p k) P = P (fault (kind_of k) p)

@@ -2,3 +2,6 @@
 #![tactic(auto)]
 
 pub mod expr;
+mod grammar;
+mod resolve;
+pub mod tree;

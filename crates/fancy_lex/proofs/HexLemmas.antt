@@ -1,0 +1,57 @@
+-- One step of a run of digits, where a number counts those to come.
+use Rattle.std.proofs.Common.{◌≡◌, add-one, ℕ, suc, ◌+◌, ◌*◌, ◌-◌, ◌<◌, ◌≤◌, ◌^◌, Bool, true, Some, None, refl, arith, nat_lt}
+use Rattle.std.proofs.Math.Nat.{pow-suc, pow-le-pow_right}
+use Rattle.std.proofs.lemmas.Bool.Decides.{nat_tests}
+use Rattle.fancy_lex.specs.Text.{Text, strip}
+use Rattle.fancy_lex.specs.Layout.{layout}
+use Rattle.fancy_lex.specs.Reading.{gives, error_reading, layout_reading}
+use Rattle.fancy_lex.specs.declared.error.Error.{Error}
+use Rattle.fancy_lex.proofs.ReadingLemmas.{bind_error}
+use Rattle.fancy_lex.specs.Hex.{fixed, hex_digit, digits, closed}
+
+-- how many are still to come
+one_more : (w i : ℕ) → i < w → w - i ≡ suc (w - (i + 1))
+one_more w i h = omega arith
+
+pub fixed_step : (w i v d : ℕ) (t r : Text) → i < w → hex_digit t ≡ Some (d, r) → fixed (w - i) v t ≡ fixed (w - (i + 1)) (v * 16 + d) r
+unfolding fixed
+fixed_step w i v d t r h e = rw (one_more w i h, e) refl
+
+pub fixed_short : (w i v : ℕ) (t : Text) → i < w → hex_digit t ≡ None → fixed (w - i) v t ≡ None
+unfolding fixed
+fixed_short w i v t h e = rw (one_more w i h, e) refl
+
+pub fixed_done : (w i v : ℕ) (t : Text) → w ≤ i → fixed (w - i) v t ≡ Some (v, t)
+unfolding fixed
+fixed_done w i v t h = let none : w - i ≡ 0 = omega arith in rw none refl
+
+module _ (n : ℕ) (x : Bool) (h i v : ℕ) (t : Text) where
+  pub digits_step : (d : ℕ) (r u : Text) → i < 8 → hex_digit t ≡ Some (d, r) → layout_reading (layout n x r) ≡ gives tt u → digits n x h (8 - i) (nat_lt 0 i) v t ≡ digits n x h (8 - (i + 1)) (nat_lt 0 (i + 1)) (v * 16 + d) u
+  unfolding digits
+  digits_step d r u l e s =
+      let some : nat_lt 0 (i + 1) ≡ true = grind (arith, nat_tests) in
+      rw (one_more 8 i l, digits, e, s, some) refl
+
+  pub digits_fault : (d : ℕ) (r : Text) (b : Error) → i < 8 → hex_digit t ≡ Some (d, r) → layout_reading (layout n x r) ≡ error_reading b → digits n x h (8 - i) (nat_lt 0 i) v t ≡ error_reading b
+  unfolding digits
+  digits_fault d r b l e s = rw (one_more 8 i l, digits, e) (bind_error _ _ b s)
+
+  pub digits_end : i < 8 → hex_digit t ≡ None → digits n x h (8 - i) (nat_lt 0 i) v t ≡ closed h (nat_lt 0 i) v (strip 125 t)
+  unfolding digits
+  digits_end l e = rw (one_more 8 i l, digits, e) refl
+
+  pub digits_done : 8 ≤ i → digits n x h (8 - i) (nat_lt 0 i) v t ≡ closed h true v (strip 125 t)
+  unfolding digits
+  digits_done l =
+      let none : 8 - i ≡ 0 = omega arith in
+      let some : nat_lt 0 i ≡ true = grind (arith, nat_tests) in
+      rw (none, digits, some) refl
+
+-- a digit more keeps a value of eight digits in a word
+pub push_small : (v d i : ℕ) → v < 16 ^ i → d < 16 → i < 8 → v * 16 + d < 16 ^ (i + 1)
+push_small v d i a b l = rw (add-one, pow-suc) (omega arith)
+
+pub push_fits : (v d i : ℕ) → v < 16 ^ i → d < 16 → i < 8 → v * 16 + d < 2 ^ 32
+push_fits v d i a b l =
+    let top : 16 ^ (i + 1) ≤ 16 ^ 8 = let up : i + 1 ≤ 8 = omega arith in pow-le-pow_right {n = 16} (omega arith) up in
+    omega (arith, push_small v d i a b l)

@@ -1,0 +1,80 @@
+-- A name in lower case, and the text before a mark.
+use Rattle.std.proofs.Common.{◌≡◌, ◌↔◌, IsTrue, suc, ◌⊎◌, inl, inr, ⊎_elim, append-nil, ℕ, ◌<◌, ◌≤◌, Bool, ◌==◌, List, [], ◌∷◌, ◌++◌, length, take, drop, get_or, map, chars, Option, Some, None, option_map, Bor, refl, ap, sym, ◌∙◌, subst, arith, length-append}
+use Rattle.std.specs.Char.{to_ascii_lowercase}
+use Rattle.std.specs.Str.{IsUtf8, IsCharBoundary, NonePass, bytes_eq}
+use Rattle.std.proofs.Math.Utf8.{encode, encodes}
+use Rattle.std.proofs.lemmas.Bool.Decides.{nat_tests, same_from_decides}
+use Rattle.std.proofs.lemmas.Bool.{cases_lt}
+use Rattle.std.proofs.lemmas.List.{map-append}
+use Rattle.std.proofs.lemmas.Str.Ascii.{lowercase_ascii}
+use Rattle.std.proofs.lemmas.Slice.Eq.{bytes_eq-Decides}
+use Rattle.std.proofs.lemmas.Str.{encode_ascii, inside_one, encodes_same, encodes-chars, chars_from_encodes, chars-append, chars_past_char, IsUtf8-take, IsUtf8-drop, IsCharBoundary-before_ascii}
+use Rattle.std.proofs.lemmas.Str.Pattern.{IsSplitOnceResult, split_parts, drop_at_char}
+use Rattle.fancy_lex.specs.Property.{cut_at, lowered}
+use Rattle.fancy_lex.specs.Text.{Text}
+
+-- the text before a mark
+cut_first : (mark : ℕ) (w v : Text) → NonePass (λ d. d == mark) w → cut_at mark (w ++ (mark ∷ v)) ≡ Some (w, v)
+cut_first mark [] v h = grind (arith, nat_tests)
+cut_first mark (c ∷ w) v h = rw (h.0, cut_first mark w v h.1) refl
+
+cut_none : (mark : ℕ) (t : Text) → NonePass (λ d. d == mark) t → cut_at mark t ≡ None
+cut_none mark [] h = refl
+cut_none mark (c ∷ t) h = rw (h.0, cut_none mark t h.1) refl
+
+pub cut_split : (mark : ℕ) (bs : List ℕ) (r : Option (Bor (List ℕ) × Bor (List ℕ))) → IsUtf8 bs → mark < 128 → IsSplitOnceResult mark bs r → cut_at mark (chars bs) ≡ option_map (λ p. (chars p.0.now, chars p.1.now)) r
+cut_split mark bs None u low (cs, e, none) =
+    let same = chars_from_encodes cs bs u e in
+    cut_none mark (chars bs) (subst (NonePass (λ d. d == mark)) same none)
+cut_split mark bs (Some x) u low h =
+    let (i, j, (before, here), front, back, _, start, _) = h in
+    let cut : bs ≡ x.0.now ++ (mark ∷ x.1.now) = (split_parts mark bs (Some x) h low).0 in
+    let inside : i < length bs = rw cut (omega (arith, length-append x.0.now (mark ∷ x.1.now), start)) in
+    let is_mark : get_or bs i 0 ≡ mark = here.byte low in
+    let bound : IsCharBoundary bs i = IsCharBoundary-before_ascii bs i inside (omega arith) in
+    let front_utf8 : IsUtf8 x.0.now = rw front (IsUtf8-take bs i u bound) in
+    let rest : drop i bs ≡ mark ∷ x.1.now = rw back (drop_at_char mark bs i j here low) in
+    let rest_utf8 : IsUtf8 (mark ∷ x.1.now) = rw (← rest) (IsUtf8-drop bs i u bound) in
+    let split : chars bs ≡ chars x.0.now ++ (mark ∷ chars x.1.now) =
+    ap chars cut ∙ chars-append x.0.now (mark ∷ x.1.now) front_utf8
+    ∙ ap (λ t. chars x.0.now ++ t) (chars_past_char (mark ∷ x.1.now) x.1.now mark rest_utf8 (rw (encode_ascii mark low) refl)) in
+    let (cs, e, none) = before in
+    let same : cs ≡ chars x.0.now = rw front (chars_from_encodes cs (take i bs) (IsUtf8-take bs i u bound) e) in
+    ap (cut_at mark) split ∙ cut_first mark (chars x.0.now) (chars x.1.now) (subst (NonePass (λ d. d == mark)) same none)
+
+-- a byte of a character past ASCII stays
+stays : (bs : List ℕ) → ((k : ℕ) → k < length bs → 128 ≤ get_or bs k 0) → map to_ascii_lowercase bs ≡ bs
+stays [] h = refl
+stays (b ∷ bs) h =
+    let first : 128 ≤ b = h 0 (omega arith) in
+    let same : to_ascii_lowercase b ≡ b = grind (arith, nat_tests) in
+    rw (same, stays bs (λ k l. h (suc k) (omega arith))) refl
+
+lowered_encode : (c : ℕ) → map to_ascii_lowercase (encode c) ≡ encode (to_ascii_lowercase c)
+lowered_encode c = by_size (cases_lt c 128) where
+  by_size : (c < 128) ⊎ (128 ≤ c) → map to_ascii_lowercase (encode c) ≡ encode (to_ascii_lowercase c)
+  by_size (inl low) =
+      let small : to_ascii_lowercase c < 128 = lowercase_ascii c low in
+      rw (encode_ascii c low, encode_ascii (to_ascii_lowercase c) small) refl
+  by_size (inr high) =
+      let same : to_ascii_lowercase c ≡ c = grind (arith, nat_tests) in
+      rw same (stays (encode c) (λ k l. ⊎_elim (λ h. absurd (omega (arith, inside_one c [] (encode c) k (sym (append-nil (encode c))) l h))) (λ h. h) (cases_lt (get_or (encode c) k 0) 128)))
+
+lowered_encodes : (cs : Text) → map to_ascii_lowercase (encodes cs) ≡ encodes (lowered cs)
+lowered_encodes [] = refl
+lowered_encodes (c ∷ cs) = rw (map-append to_ascii_lowercase (encode c) (encodes cs), lowered_encode c, lowered_encodes cs) refl
+
+pub same_word : (r : Bool) (name word : List ℕ) → IsUtf8 name → IsUtf8 word → lowered (chars word) ≡ chars word → IsTrue r ↔ (map to_ascii_lowercase name ≡ map to_ascii_lowercase word) → r ≡ bytes_eq (lowered (chars name)) (chars word)
+same_word r name word u v small test =
+    same_from_decides r _ (λ e. forth (test.0 e), λ e. test.1 (back e)) (bytes_eq-Decides (lowered (chars name)) (chars word)) where
+      of_name : map to_ascii_lowercase name ≡ encodes (lowered (chars name))
+      of_name = ap (map to_ascii_lowercase) (sym (encodes-chars name u)) ∙ lowered_encodes (chars name)
+
+      of_word : map to_ascii_lowercase word ≡ encodes (chars word)
+      of_word = ap (map to_ascii_lowercase) (sym (encodes-chars word v)) ∙ lowered_encodes (chars word) ∙ ap encodes small
+
+      forth : map to_ascii_lowercase name ≡ map to_ascii_lowercase word → lowered (chars name) ≡ chars word
+      forth e = encodes_same _ _ (sym of_name ∙ e ∙ of_word)
+
+      back : lowered (chars name) ≡ chars word → map to_ascii_lowercase name ≡ map to_ascii_lowercase word
+      back e = of_name ∙ ap encodes e ∙ sym of_word

@@ -1,0 +1,35 @@
+-- What an escape stands for.
+use Rattle.std.specs.Prelude.{ℕ, Bool, [], ◌∷◌, chars}
+use Rattle.fancy_lex.specs.Characters.{backslash}
+use Rattle.fancy_lex.specs.Text.{Text}
+use Rattle.fancy_lex.specs.declared.escape.Assertion.{Assertion}
+use Rattle.fancy_lex.specs.declared.escape.DelegateText as declared_text
+use Rattle.fancy_lex.specs.declared.escape.DelegateText.TheVariants as text
+use Rattle.fancy_lex.specs.declared.escape.Escaped as declared
+use Rattle.fancy_lex.specs.declared.escape.Escaped.TheVariants as code
+
+-- a leaf of the tree, with texts as lists of characters; the last flag of a literal and of a delegate is `casei`
+pub data Escape : Type 0 where
+  literal : ℕ → Bool → Escape
+  literal_bytes : ℕ → Escape
+  any : Bool → Bool → Escape
+  assertion : Assertion → Escape
+  general_newline : Bool → Escape
+  keep_out : Escape
+  continue_from_previous_match_end : Escape
+  delegate : Text → Bool → Escape
+
+-- the characters of a delegate's text
+abbrev pub delegate_text : declared_text.DelegateText → Text
+delegate_text (text.Letter c) = backslash ∷ c ∷ []
+delegate_text (text.Fixed s) = chars s.now
+
+abbrev pub escape_of : declared.Escaped → Escape
+escape_of (code.Literal val casei) = literal val casei
+escape_of (code.LiteralBytes byte) = literal_bytes byte
+escape_of (code.Any newline crlf) = any newline crlf
+escape_of (code.Assertion a) = assertion a
+escape_of (code.GeneralNewline unicode) = general_newline unicode
+escape_of code.KeepOut = keep_out
+escape_of code.ContinueFromPreviousMatchEnd = continue_from_previous_match_end
+escape_of (code.Delegate inner casei) = delegate (delegate_text inner) casei

@@ -1,0 +1,126 @@
+-- Properties: what stands behind `\p` or `\P`, and the text that is written for it.
+use Rattle.std.specs.Prelude.{ℕ, Bool, true, false, not, ◌==◌, ◌&&◌, ◌||◌, if◌then◌else◌, List, [], ◌∷◌, ◌++◌, chars, codes, map, Option, Some, None, option_map}
+use Rattle.std.specs.Borrow.{Bor}
+use Rattle.std.specs.Char.{to_ascii_lowercase}
+use Rattle.std.specs.Str.{bytes_eq}
+use Rattle.fancy_lex.specs.Characters.{caret, open_brace, close_brace}
+use Rattle.fancy_lex.specs.Text.{Text}
+use Rattle.fancy_lex.specs.declared.property.Known.{Known}
+use Rattle.fancy_lex.specs.declared.property.Known.TheVariants.{Alnum, Blank, Cntrl, Word, Graph, Print, Cs, Other}
+use Rattle.fancy_lex.specs.declared.property.Property as code
+use Rattle.fancy_lex.specs.declared.property.PropertyName as code_name
+use Rattle.fancy_lex.specs.declared.property.PropertyName.TheVariants as written
+
+-- a property's name: one character, or what stands in braces
+pub data PropertyName : Type 0 where
+  single : ℕ → PropertyName
+  braced : Text → PropertyName
+
+-- the property behind `\p`, or behind `\P`, which negates it
+pub record Property : Type 0 where
+  pub negated : Bool
+  pub name : PropertyName
+
+abbrev pub view_name : code_name.PropertyName → PropertyName
+view_name (written.Single c) = single c
+view_name (written.Braced s) = braced (chars s.now)
+
+-- a property in code, with its name as characters
+abbrev pub view_property : code.Property → Property
+view_property p = record { negated = p.negated; name = view_name p.name }
+
+-- what stands before the first such character, and what follows it
+abbrev pub cut_at : ℕ → Text → Option (Text × Text)
+cut_at mark [] = None
+cut_at mark (c ∷ t) = if c == mark then Some ([], t) else option_map (λ p. (c ∷ p.0, p.1)) (cut_at mark t)
+
+-- the name behind the letter, and the text left; none where no text is left, or the brace is not closed
+unfoldable pub name_at : Text → Option (PropertyName × Text)
+name_at [] = None
+name_at (c ∷ t) = if c == open_brace then option_map (λ p. (braced p.0, p.1)) (cut_at close_brace t) else Some (single c, t)
+
+-- the same with the letter
+unfoldable pub read_property : Bool → Text → Option (Property × Text)
+read_property negated t = option_map (λ p. (record { negated = negated; name = p.0 }, p.1)) (name_at t)
+
+-- how a name is written
+pub data Form : Type 0 where
+  -- as a set with these items
+  set : Text → Form
+  -- as this text, or the other where the property is negated
+  pair : Text → Text → Form
+
+-- which name of the table this is
+abbrev pub look_up : Text → Known
+look_up name =
+    if bytes_eq name (codes "alnum") then Alnum
+    else if bytes_eq name (codes "blank") then Blank
+    else if bytes_eq name (codes "cntrl") then Cntrl
+    else if bytes_eq name (codes "word") then Word
+    else if bytes_eq name (codes "graph") then Graph
+    else if bytes_eq name (codes "print") then Print
+    else if bytes_eq name (codes "cs") then Cs
+    else Other
+
+-- one with UNICODE, and the other without
+abbrev pub by : Bool → Form → Form → Form
+by unicode with without = if unicode then with else without
+
+-- the table: how each name is written with UNICODE, and without
+abbrev pub form : Bool → Known → Text → Form
+form unicode Alnum name = by unicode (set (codes "\\p{alpha}\\p{digit}")) (set (codes "[:alnum:]"))
+form unicode Blank name = by unicode (set (codes "\\p{Zs}\\x09")) (set (codes "\\t "))
+form unicode Cntrl name = by unicode (set (codes "\\x00-\\x1F\\x7F-\\x9F")) (set (codes "[:cntrl:]"))
+form unicode Word name = by unicode (pair (codes "\\w") (codes "\\W")) (set (codes "_[:alnum:]"))
+form unicode Graph name = by unicode (pair (codes "[^\\p{White_Space}\\p{C}]") (codes "[\\p{White_Space}\\p{C}]")) (set (codes "[:graph:]"))
+form unicode Print name = by unicode (pair (codes "[^\\p{C}\\t\\n\\v\\f\\r]") (codes "[\\p{C}\\t\\n\\v\\f\\r]")) (set (codes "[:print:]"))
+form unicode Cs name = pair (codes "\\P{any}") (codes "\\p{any}")
+form unicode Other name = pair (codes "\\p{" ++ name ++ codes "}") (codes "\\P{" ++ name ++ codes "}")
+
+-- the text of a form, inside a class or outside
+abbrev pub form_text : Bool → Bool → Form → Text
+form_text inside true (set items) = codes "[^" ++ items ++ codes "]"
+form_text true false (set items) = items
+form_text false false (set items) = codes "[" ++ items ++ codes "]"
+form_text inside true (pair plain turned) = turned
+form_text inside false (pair plain turned) = plain
+
+-- one caret in front of a name turns the negation
+abbrev pub turn : Bool → Text → Bool × Text
+turn negated [] = (negated, [])
+turn negated (c ∷ t) = if c == caret then (not negated, t) else (negated, c ∷ t)
+
+-- ASCII letters in lower case, all else as it is
+abbrev pub lowered : Text → Text
+lowered = map to_ascii_lowercase
+
+abbrev pub named_text : Bool → Bool → Bool × Text → Text
+named_text unicode inside p = form_text inside p.0 (form unicode (look_up (lowered p.1)) (lowered p.1))
+
+-- a pair in code, with the name as characters
+abbrev pub turned : Bool × Bor (List ℕ) → Bool × Text
+turned p = (p.0, chars p.1.now)
+
+-- `\p`, or `\P` for a negated property
+abbrev pub letter : Bool → Text
+letter negated = if negated then codes "\\P" else codes "\\p"
+
+-- the text that is written for a property
+unfoldable pub property_text : Bool → Bool → Property → Text
+property_text unicode inside p =
+    elim p.name [ single c ↦ letter p.negated ++ c ∷ [] | braced s ↦ named_text unicode inside (turn p.negated s) ]
+
+-- whether the second text begins with the first
+abbrev pub begins_with : Text → Text → Bool
+begins_with [] t = true
+begins_with (c ∷ w) [] = false
+begins_with (c ∷ w) (d ∷ t) = (c == d) && begins_with w t
+
+-- whether the first text stands somewhere in the other
+abbrev pub holds : Text → Text → Bool
+holds w [] = begins_with w []
+holds w (c ∷ t) = begins_with w (c ∷ t) || holds w t
+
+-- whether the text is a negated set that names properties or other classes
+abbrev pub is_negated : Text → Bool
+is_negated t = begins_with (codes "[^") t && (holds (codes "\\p{") t || holds (codes "\\P{") t || holds (codes "[:") t)

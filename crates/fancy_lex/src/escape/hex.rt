@@ -1,0 +1,155 @@
+//! Hex codes behind `\x`, `\u` and `\U`.
+ghost use Rattle.std.specs.Prelude.{◌≡◌, ℕ, ◌+◌, ◌*◌, ◌-◌, ◌^◌, ◌<◌, ◌≤◌, length, chars, IfSome, IfOk, option_map, false};
+ghost use Rattle.fancy_lex.specs.Escaped.{escape_of};
+ghost use Rattle.fancy_lex.specs.Hex as spec;
+ghost use Rattle.fancy_lex.specs.Reading.{reading};
+ghost use Rattle.fancy_lex.specs.Text.{strip, place_of};
+
+use crate::error::{Error, ParseError};
+use crate::escape::Escaped;
+use crate::flags::Flags;
+use crate::layout::skip;
+use crate::text::{after, next, place};
+
+/// The value of the digit at the front.
+#[tactic(auto, unfolding(crate::specs::Hex::hex_digit))]
+fn hex_digit(text: &str) -> Option<(u32, &str)>
+    ensures value { spec.hex_digit (chars text.now) ≡ option_map (λ p. (p.0, chars p.1.now)) result }
+    ensures shorter { IfSome result (λ p. length p.1.now < length text.now) }
+    ensures small { IfSome result (λ p. p.0 < 16) }
+{
+    let (c, rest) = next(text)?;
+    let digit = c.to_digit(16)?;
+    Some((digit, rest))
+}
+
+/// Reads so many digits, if they stand at the front.
+fn fixed(text: &str, width: u32) -> Option<(u32, &str)>
+    requires { width ≤ 8 }
+    ensures value { spec.fixed width 0 (chars text.now) ≡ option_map (λ p. (p.0, chars p.1.now)) result }
+    ensures within { IfSome result (λ p. length p.1.now ≤ length text.now) }
+{
+    let mut left = text;
+    let mut value = 0u32;
+    for _read in 0..width {
+        let (digit, rest) = hex_digit(left)?;
+        value = value * 16 + digit;
+        left = rest;
+    }
+    Some((value, left))
+}
+
+/// Reads the closing brace, where some digit stands before it.
+fn closed(text: &str, some: bool, value: u32, place: usize) -> Result<(u32, &str), Error>
+    ensures value { spec.closed place some value (strip 125 (chars text.now)) ≡ reading (λ v. v) result }
+    ensures shorter { IfOk result (λ p. length p.1.now < length text.now) }
+{
+    if some {
+        if let Some(rest) = after(text, '}') {
+            return Ok((value, rest));
+        }
+    }
+    Err(Error::ParseError(place, ParseError::InvalidHex))
+}
+
+/// Reads up to eight digits, each with layout behind it, and the closing brace.
+fn digits(text: &str, ignore_space: bool, end: usize, place: usize) -> Result<(u32, &str), Error>
+    requires { end < 2 ^ 63 }
+    ensures value { spec.digits end ignore_space place 8 false 0 (chars text.now) ≡ reading (λ v. v) result }
+    ensures shorter { IfOk result (λ p. length p.1.now < length text.now) }
+{
+    let mut left = text;
+    let mut value = 0u32;
+    for read in 0..8u32 {
+        let Some((digit, rest)) = hex_digit(left) else {
+            return closed(left, read > 0, value, place);
+        };
+        value = value * 16 + digit;
+        left = skip(rest, ignore_space, end)?;
+    }
+    closed(left, true, value, place)
+}
+
+/// Reads what stands behind the opening brace.
+#[tactic(auto, unfolding(crate::specs::Hex::braced))]
+fn braced(text: &str, ignore_space: bool, end: usize, place: usize) -> Result<(u32, &str), Error>
+    requires { end < 2 ^ 63 }
+    ensures value { spec.braced end ignore_space place (chars text.now) ≡ reading (λ v. v) result }
+    ensures shorter { IfOk result (λ p. length p.1.now < length text.now) }
+{
+    let rest = skip(text, ignore_space, end)?;
+    digits(rest, ignore_space, end, place)
+}
+
+/// Reads a code of so many digits, or one in braces; its fault is at `place`.
+#[tactic(auto, unfolding(crate::specs::Hex::value))]
+fn value(
+    text: &str,
+    width: u32,
+    ignore_space: bool,
+    end: usize,
+    place: usize,
+) -> Result<(u32, &str), Error>
+    requires bounded { end < 2 ^ 63 }
+    requires width { width ≤ 8 }
+    ensures value { spec.value end ignore_space place width (chars text.now) ≡ reading (λ v. v) result }
+    ensures within { IfOk result (λ p. length p.1.now ≤ length text.now) }
+{
+    if let Some(read) = fixed(text, width) {
+        return Ok(read);
+    }
+    match after(text, '{') {
+        Some(inside) => braced(inside, ignore_space, end, place),
+        None => Err(Error::ParseError(place, ParseError::InvalidHex)),
+    }
+}
+
+/// What a value stands for: behind `\x`, where UNICODE is off, a byte from 80 to FF; else a character. The fault of a
+/// value that is no scalar value is at `place`.
+#[tactic(auto, unfolding(crate::specs::Hex::coded))]
+fn coded<'a>(
+    rest: &'a str,
+    value: u32,
+    width: u32,
+    flags: Flags,
+    place: usize,
+) -> Result<(Escaped<'a>, &'a str), Error>
+    ensures value { spec.coded flags width place value (chars rest.now) ≡ reading escape_of result }
+    ensures within { IfOk result (λ p. length p.1.now ≤ length rest.now) }
+{
+    if width == 2 && !flags.unicode && value >= 0x80 && value <= 0xFF {
+        return Ok((Escaped::LiteralBytes { byte: value as u8 }, rest));
+    }
+    match char::from_u32(value) {
+        Some(val) => Ok((
+            Escaped::Literal {
+                val,
+                casei: flags.casei,
+            },
+            rest,
+        )),
+        None => Err(Error::ParseError(place, ParseError::InvalidCodepointValue)),
+    }
+}
+
+/// Reads a hex code behind its letter, in a pattern of `end` bytes: layout, then `width` digits, or one to eight in
+/// braces with layout round them. Its faults are at the place behind the first layout: InvalidHex, and
+/// InvalidCodepointValue where the value is no character; or UnclosedOpenParen where a comment in layout is open.
+#[tactic(auto, unfolding(crate::specs::Hex::hex))]
+pub fn hex<'a>(
+    text: &'a str,
+    width: u32,
+    flags: Flags,
+    end: usize,
+) -> Result<(Escaped<'a>, &'a str), Error>
+    requires bounded { end < 2 ^ 63 }
+    requires width { width ≤ 8 }
+    requires inside { length text.now ≤ end }
+    ensures value { spec.hex end flags width (chars text.now) ≡ reading escape_of result }
+    ensures within { IfOk result (λ p. length p.1.now ≤ length text.now) }
+{
+    let rest = skip(text, flags.ignore_space, end)?;
+    let place = place(rest, end);
+    let (value, rest) = value(rest, width, flags.ignore_space, end, place)?;
+    coded(rest, value, width, flags, place)
+}

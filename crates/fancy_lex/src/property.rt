@@ -1,0 +1,266 @@
+//! Properties: what stands behind `\p` or `\P`, and the text that is written for it.
+ghost use Rattle.std.specs.Prelude.{◌≡◌, ℕ, Bool, true, false, ◌<◌, ◌≤◌, ◌∷◌, ◌++◌, length, chars, IfSome, OnOk, MatchOption, Some, None, option_map, if◌then◌else◌};
+ghost use Rattle.std.specs.Str.{bytes_eq};
+ghost use Rattle.fancy_lex.specs.Property as spec;
+ghost use Rattle.fancy_lex.specs.PropertyForm.{view_form, named};
+ghost use Rattle.fancy_lex.specs.Text.{Text, text_of, BeginsWith};
+
+use crate::text::{after, append, next, push};
+use std::alloc::AllocError;
+
+/// The name of a property.
+#[derive(Clone, Copy)]
+pub enum PropertyName<'a> {
+    /// One character.
+    Single(char),
+    /// What stands in braces.
+    Braced(&'a str),
+}
+
+/// A property as the pattern names it.
+#[derive(Clone, Copy)]
+pub struct Property<'a> {
+    /// Whether it stands behind `\P`.
+    pub negated: bool,
+    pub name: PropertyName<'a>,
+}
+
+/// Reads what stands behind the letter of `\p` or `\P`: one character, or a name in braces. None where no text is
+/// left, or the brace is not closed.
+#[tactic(auto, unfolding(crate::specs::Property::read_property, crate::specs::Property::name_at))]
+pub fn read_property(text: &str, negated: bool) -> Option<(Property<'_>, &str)>
+    ensures value { spec.read_property negated (chars text.now) ≡ option_map (λ p. (spec.view_property p.0, chars p.1.now)) result }
+    ensures shorter { IfSome result (λ p. length p.1.now < length text.now) }
+{
+    let (c, rest) = next(text)?;
+    if c == '{' {
+        let (name, rest) = until_brace(rest)?;
+        let name = PropertyName::Braced(name);
+        return Some((Property { negated, name }, rest));
+    }
+    let name = PropertyName::Single(c);
+    Some((Property { negated, name }, rest))
+}
+
+/// What stands before the first closing brace, and what follows it.
+fn until_brace(text: &str) -> Option<(&str, &str)>
+    ensures value { spec.cut_at 125 (chars text.now) ≡ option_map (λ p. (chars p.0.now, chars p.1.now)) result }
+    ensures shorter { IfSome result (λ p. length p.1.now < length text.now) }
+{
+    text.split_once('}')
+}
+
+/// The names that are written in a way of their own, and any other.
+#[derive(Clone, Copy)]
+enum Known {
+    Alnum,
+    Blank,
+    Cntrl,
+    Word,
+    Graph,
+    Print,
+    Cs,
+    Other,
+}
+
+/// How a name is written.
+#[derive(Clone, Copy)]
+enum Form<'a> {
+    /// As a set with these items.
+    Set(&'static str),
+    /// As this text, or the other where the property is negated.
+    Pair(&'static str, &'static str),
+    /// As the name itself in lower case.
+    Name(&'a str),
+}
+
+/// Whether the name is the word, which has small letters alone.
+fn is_word(name: &str, word: &str) -> bool
+    requires small { spec.lowered (chars word.now) ≡ chars word.now }
+    ensures { result ≡ bytes_eq (spec.lowered (chars name.now)) (chars word.now) }
+{
+    name.eq_ignore_ascii_case(word)
+}
+
+/// Which of the known names this is, in letters of either case.
+fn look_up(name: &str) -> Known
+    ensures { result ≡ spec.look_up (spec.lowered (chars name.now)) }
+{
+    if is_word(name, "alnum") {
+        Known::Alnum
+    } else if is_word(name, "blank") {
+        Known::Blank
+    } else if is_word(name, "cntrl") {
+        Known::Cntrl
+    } else if is_word(name, "word") {
+        Known::Word
+    } else if is_word(name, "graph") {
+        Known::Graph
+    } else if is_word(name, "print") {
+        Known::Print
+    } else if is_word(name, "cs") {
+        Known::Cs
+    } else {
+        Known::Other
+    }
+}
+
+/// One with UNICODE, and the other without.
+#[inline]
+fn by<'a>(unicode: bool, with: Form<'a>, without: Form<'a>) -> Form<'a>
+    ensures { view_form result ≡ spec.by unicode (view_form with.entry) (view_form without.entry) }
+{
+    if unicode { with } else { without }
+}
+
+/// How the known name is written.
+fn form_of(known: Known, name: &str, unicode: bool) -> Form<'_>
+    ensures { view_form result ≡ spec.form unicode known (spec.lowered (chars name.now)) }
+{
+    match known {
+        Known::Alnum => by(
+            unicode,
+            Form::Set("\\p{alpha}\\p{digit}"),
+            Form::Set("[:alnum:]"),
+        ),
+        Known::Blank => by(unicode, Form::Set("\\p{Zs}\\x09"), Form::Set("\\t ")),
+        Known::Cntrl => by(
+            unicode,
+            Form::Set("\\x00-\\x1F\\x7F-\\x9F"),
+            Form::Set("[:cntrl:]"),
+        ),
+        Known::Word => by(unicode, Form::Pair("\\w", "\\W"), Form::Set("_[:alnum:]")),
+        Known::Graph => by(
+            unicode,
+            Form::Pair("[^\\p{White_Space}\\p{C}]", "[\\p{White_Space}\\p{C}]"),
+            Form::Set("[:graph:]"),
+        ),
+        Known::Print => by(
+            unicode,
+            Form::Pair("[^\\p{C}\\t\\n\\v\\f\\r]", "[\\p{C}\\t\\n\\v\\f\\r]"),
+            Form::Set("[:print:]"),
+        ),
+        Known::Cs => Form::Pair("\\P{any}", "\\p{any}"),
+        Known::Other => Form::Name(name),
+    }
+}
+
+/// The name without a caret in front, and whether it is negated then.
+fn turn(negated: bool, name: &str) -> (bool, &str)
+    ensures { spec.turned result ≡ spec.turn negated (chars name.now) }
+{
+    match after(name, '^') {
+        Some(rest) => (!negated, rest),
+        None => (negated, name),
+    }
+}
+
+/// Whether what is written in a class is a negated set that names properties or other classes.
+fn is_negated_form(known: Known, negated: bool, unicode: bool) -> bool
+    ensures { (name : Text) → result ≡ spec.is_negated (spec.form_text true negated (spec.form unicode known name)) }
+{
+    match known {
+        Known::Alnum => negated,
+        Known::Blank => negated && unicode,
+        Known::Cntrl | Known::Word => negated && !unicode,
+        Known::Graph | Known::Print => negated != unicode,
+        Known::Cs | Known::Other => false,
+    }
+}
+
+/// Whether what is written for the property in a class is a negated set that names properties or other classes.
+#[tactic(auto, unfolding(crate::specs::Property::property_text))]
+pub fn is_negated(property: Property, unicode: bool) -> bool
+    ensures { result ≡ spec.is_negated (spec.property_text unicode true (spec.view_property property.entry)) }
+{
+    match property.name {
+        PropertyName::Single(_) => false,
+        PropertyName::Braced(name) => {
+            let (negated, name) = turn(property.negated, name);
+            is_negated_form(look_up(name), negated, unicode)
+        }
+    }
+}
+
+/// Adds the name with its ASCII letters in lower case.
+fn push_lowered(out: &mut String, name: &str) -> Result<(), AllocError>
+    ensures grown { OnOk result (text_of out.new ≡ text_of out.old ++ spec.lowered (chars name.now)) }
+    ensures kept { BeginsWith (text_of out.new) (text_of out.old) }
+{
+    let mut left = name;
+    while let Some((c, rest)) = next(left) {
+        push(out, c.to_ascii_lowercase())?;
+        left = rest;
+    }
+    Ok(())
+}
+
+/// Adds a set with these items; in a class the items alone, where it is not negated.
+fn push_set(out: &mut String, items: &str, negated: bool, inside: bool) -> Result<(), AllocError>
+    ensures grown { OnOk result (text_of out.new ≡ text_of out.old ++ spec.form_text inside negated (spec.set (chars items.now))) }
+    ensures kept { BeginsWith (text_of out.new) (text_of out.old) }
+{
+    if inside && !negated {
+        return append(out, items);
+    }
+    push(out, '[')?;
+    if negated {
+        push(out, '^')?;
+    }
+    append(out, items)?;
+    push(out, ']')
+}
+
+/// Adds the name in braces behind its letter.
+fn push_name(out: &mut String, name: &str, negated: bool) -> Result<(), AllocError>
+    ensures grown { OnOk result (text_of out.new ≡ text_of out.old ++ spec.form_text true negated (named (chars name.now))) }
+    ensures kept { BeginsWith (text_of out.new) (text_of out.old) }
+{
+    append(out, letter(negated))?;
+    push(out, '{')?;
+    push_lowered(out, name)?;
+    push(out, '}')
+}
+
+/// `\p`, or `\P` for a negated property.
+fn letter(negated: bool) -> &'static str
+    ensures { chars result.now ≡ spec.letter negated }
+{
+    if negated { "\\P" } else { "\\p" }
+}
+
+/// Adds the form's text.
+fn push_form(out: &mut String, form: Form, negated: bool, inside: bool) -> Result<(), AllocError>
+    ensures grown { OnOk result (text_of out.new ≡ text_of out.old ++ spec.form_text inside negated (view_form form.entry)) }
+    ensures kept { BeginsWith (text_of out.new) (text_of out.old) }
+{
+    match form {
+        Form::Set(items) => push_set(out, items, negated, inside),
+        Form::Pair(plain, turned) => append(out, if negated { turned } else { plain }),
+        Form::Name(name) => push_name(out, name, negated),
+    }
+}
+
+/// Adds the text that is written for the property, in a class or outside. Where memory runs out, a beginning of it
+/// may have been added.
+#[tactic(auto, unfolding(crate::specs::Property::property_text))]
+pub fn push_property(
+    out: &mut String,
+    property: Property,
+    unicode: bool,
+    inside: bool,
+) -> Result<(), AllocError>
+    ensures grown { OnOk result (text_of out.new ≡ text_of out.old ++ spec.property_text unicode inside (spec.view_property property.entry)) }
+    ensures kept { BeginsWith (text_of out.new) (text_of out.old) }
+{
+    match property.name {
+        PropertyName::Single(c) => {
+            append(out, letter(property.negated))?;
+            push(out, c)
+        }
+        PropertyName::Braced(name) => {
+            let (negated, name) = turn(property.negated, name);
+            push_form(out, form_of(look_up(name), name, unicode), negated, inside)
+        }
+    }
+}

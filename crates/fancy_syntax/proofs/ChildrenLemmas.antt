@@ -1,0 +1,36 @@
+-- The children of a node that holds a list, and of a leaf.
+use Rattle.std.proofs.Common.{◌≡◌, true, List, [], ◌∷◌, Global, Vec, rules, ◌∙◌, refl, ap}
+use Rattle.std.proofs.lemmas.Bool.{false≢true}
+use Rattle.fancy_syntax.specs.Tree.{Tree, concat, alt, group, look_around, repeat, atomic_group, conditional, absent, repeater, expression, stopper, define_group, children, is_leaf, list_of, trees_of}
+use Rattle.fancy_syntax.specs.View.{view, views}
+use Rattle.fancy_syntax.specs.declared.expr.Expr.{Expr, Concat, Alt, the_lemmas}
+
+pub list_of_trees_of : (ts : List Tree) → list_of (trees_of ts) ≡ ts
+list_of_trees_of [] = refl
+list_of_trees_of (t ∷ ts) = ap (λ us. t ∷ us) (list_of_trees_of ts)
+
+pub view_Concat : (v : Vec Expr Global) → view (Concat v) ≡ concat (trees_of (views v.items))
+view_Concat v = search (rules, the_lemmas)
+
+pub view_Alt : (v : Vec Expr Global) → view (Alt v) ≡ alt (trees_of (views v.items))
+view_Alt v = search (rules, the_lemmas)
+
+pub children_Concat : (e : Expr) (v : Vec Expr Global) → e ≡ Concat v → children (view e) ≡ views v.items
+children_Concat e v h = ap (λ x. children (view x)) h ∙ ap children (view_Concat v) ∙ list_of_trees_of _
+
+pub children_Alt : (e : Expr) (v : Vec Expr Global) → e ≡ Alt v → children (view e) ≡ views v.items
+children_Alt e v h = ap (λ x. children (view x)) h ∙ ap children (view_Alt v) ∙ list_of_trees_of _
+
+pub leaf_children : (t : Tree) → is_leaf t ≡ true → children t ≡ []
+leaf_children (concat ts) h = absurd (false≢true h)
+leaf_children (alt ts) h = absurd (false≢true h)
+leaf_children (group t) h = absurd (false≢true h)
+leaf_children (look_around t l) h = absurd (false≢true h)
+leaf_children (repeat t lo hi greedy) h = absurd (false≢true h)
+leaf_children (atomic_group t) h = absurd (false≢true h)
+leaf_children (conditional c t f) h = absurd (false≢true h)
+leaf_children (absent (repeater t)) h = absurd (false≢true h)
+leaf_children (absent (expression a e)) h = absurd (false≢true h)
+leaf_children (absent (stopper t)) h = absurd (false≢true h)
+leaf_children (define_group t) h = absurd (false≢true h)
+leaf_children _ h = refl

@@ -1,0 +1,6 @@
+use Rattle.std.proofs.lemmas.Bool.Decides.{Decides-at}
+use Rattle.fancy_syntax.specs.SameLaws.{same_absent-Decides}
+use Rattle.fancy_syntax.proofs.expr.equality.AbsentPartialEq.eq.Goals as goal
+
+pub returns-clause-decides : goal.returns-clause-decides
+returns-clause-decides c = Decides-at _ _ c.is_same_absent.ensures (same_absent-Decides _ _)

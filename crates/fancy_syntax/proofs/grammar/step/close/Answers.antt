@@ -1,0 +1,18 @@
+use Rattle.std.proofs.Common.{◌≡◌, refl}
+use Rattle.fancy_syntax.specs.Grammar.{Piece, piece, Atom}
+use Rattle.fancy_syntax.specs.Parsed.{state}
+use Rattle.fancy_syntax.specs.Quantified.{quant}
+use Rattle.fancy_syntax.specs.View.{view}
+use Rattle.fancy_syntax.proofs.MachineLemmas.{opens_unclosed, opens_closed}
+use Rattle.fancy_syntax.proofs.OutcomeLemmas.{Reads-map, at_done}
+use Rattle.fancy_syntax.proofs.grammar.step.close.Goals as goal
+
+pub returns-in_default-clause-value : goal.returns-in_default-clause-value
+returns-in_default-clause-value c = λ d s t i r. rw c.place.ensures (opens_unclosed i r c.in_default.ensures.value)
+
+pub returns-clause-value : goal.returns-clause-value
+returns-clause-value c =
+    λ d s t i r.
+    let a = at_done (Atom c.args.end d s) c.in_ok-atom.ensures refl (opens_closed i r c.in-Some.ensures.value) in
+    Reads-map (λ o. quant c.args.end (view c.in_ok-atom.atom) (state (record { flags = c.args.here.flags; rest = c.in-Some.rest })) ≡ o) (Piece c.args.end d s)
+    c.quantify.result (λ o q. piece a q) c.quantify.ensures.value

@@ -1,0 +1,119 @@
+//! A child lent for writing.
+ghost use Rattle.std.specs.Prelude.{◌≡◌, ◌<◌, Some, length, option_map, slice_get};
+ghost use Rattle.std.specs.Borrow.{sem};
+ghost use Rattle.std.specs.Fn.{FnOnceReturnsAtMut};
+ghost use Rattle.fancy_syntax.specs.Tree.{Tree, children, is_list, with_child as tree_with_child};
+ghost use Rattle.fancy_syntax.specs.View.{view};
+ghost use Rattle.fancy_syntax.specs.Writes.{LendsAbsentBox, LendsChild, child_at as tree_child_at, view_of_absent};
+ghost use Rattle.fancy_syntax.specs.declared.expr.Expr.{Expr};
+
+use super::parent::{Parent, change_child, lend_child, replace_child};
+use super::{Absent, Expr};
+
+impl Parent for Expr {
+    type Child = Expr;
+
+    ghost Seen = { Tree };
+
+    ghost show = { view };
+
+    ghost see = { view };
+
+    ghost child_at = { tree_child_at };
+
+    ghost with_child = { tree_with_child };
+
+    ghost holds_list = { is_list };
+
+    fn has_list(&self) -> bool {
+        matches!(self, Expr::Concat(_) | Expr::Alt(_))
+    }
+
+    fn list_mut(&mut self) -> Option<&mut Vec<Expr>> {
+        match self {
+            Expr::Concat(children) => Some(children),
+            Expr::Alt(children) => Some(children),
+            _ => None,
+        }
+    }
+
+    fn box_mut(&mut self, i: usize) -> Option<&mut Box<Expr>> {
+        match i {
+            0 => match self {
+                Expr::Group(child) => Some(child),
+                Expr::LookAround(child, _) => Some(child),
+                Expr::Repeat { child, .. } => Some(child),
+                Expr::AtomicGroup(child) => Some(child),
+                Expr::DefineGroup { definitions } => Some(definitions),
+                Expr::Absent(absent) => absent.box_mut(i),
+                Expr::Conditional { condition, .. } => Some(condition),
+                _ => None,
+            },
+            1 => match self {
+                Expr::Absent(absent) => absent.box_mut(i),
+                Expr::Conditional { true_branch, .. } => Some(true_branch),
+                _ => None,
+            },
+            2 => match self {
+                Expr::Conditional { false_branch, .. } => Some(false_branch),
+                _ => None,
+            },
+            _ => None,
+        }
+    }
+}
+
+impl Absent {
+    fn box_mut(&mut self, i: usize) -> Option<&mut Box<Expr>>
+        ensures* writes_back { sem 𝓛 (LendsAbsentBox self.entry i result) }
+        ensures value { option_map (λ b. view b.now.value) result ≡ slice_get (children (view_of_absent self.old)) i }
+    {
+        match i {
+            0 => match self {
+                Absent::Repeater(child) => Some(child),
+                Absent::Expression { absent, .. } => Some(absent),
+                Absent::Stopper(child) => Some(child),
+                Absent::Clear => None,
+            },
+            1 => match self {
+                Absent::Expression { exp, .. } => Some(exp),
+                Absent::Repeater(_) => None,
+                Absent::Stopper(_) => None,
+                Absent::Clear => None,
+            },
+            _ => None,
+        }
+    }
+}
+
+impl Expr {
+    /// The child i, counted from 0 in the order of the text, if there is one. What is written there is that child
+    /// afterwards, and all else stays as it was.
+    pub fn child_mut(&mut self, i: usize) -> Option<&mut Expr>
+        ensures* writes_back { sem 𝓛 (LendsChild self.entry i result) }
+        ensures value { option_map (λ child. view child.now) result ≡ slice_get (children (view self.old)) i }
+    {
+        lend_child(self, i)
+    }
+
+    /// Sets child i, and answers the one that was there.
+    pub fn replace_child(&mut self, i: usize, child: Expr) -> Expr
+        requires { i < length (children (view self.old)) }
+        ensures writes { view self.new ≡ tree_with_child (view self.old) i (view child) }
+        ensures value { slice_get (children (view self.old)) i ≡ Some (view result) }
+    {
+        replace_child(self, i, child)
+    }
+
+    /// Lets `change` write child i.
+    pub fn change_child<F: FnOnce(&mut Expr)>(&mut self, i: usize, change: F)
+    where
+        F: Drop,
+        requires within { i < length (children (view self.old)) }
+        requires callable { F.IsAlwaysCallable change }
+        ensures { (old : Expr) × (new : Expr) × (slice_get (children (view self.old)) i ≡ Some (view old))
+            × FnOnceReturnsAtMut F.FnOnce change old tt new × (view self.new ≡ tree_with_child (view self.old) i (view new)) }
+    {
+        change_child(self, i, change);
+    }
+}

@@ -1,0 +1,115 @@
+//! The immediate children of a node.
+ghost use Rattle.std.specs.Prelude.{◌≡◌, []};
+ghost use Rattle.std.specs.Bool.{OnTrue};
+ghost use Rattle.std.specs.Iterator.{YieldsFirstRef, item_count};
+ghost use Rattle.fancy_syntax.specs.Children.{children_of, left};
+ghost use Rattle.fancy_syntax.specs.Tree.{children, is_leaf};
+ghost use Rattle.fancy_syntax.specs.View.{view, views};
+
+use super::{Absent, Expr};
+use std::slice;
+
+impl Expr {
+    /// Whether a node of this variant has no children, whatever it holds.
+    #[tactic(auto, using(crate::proofs::ChildrenLemmas::leaf_children))]
+    pub fn is_leaf_node(&self) -> bool
+        ensures value { result ≡ is_leaf (view self.now) }
+        ensures childless { OnTrue result (children (view self.now) ≡ []) }
+    {
+        match self {
+            Expr::Concat(_)
+            | Expr::Alt(_)
+            | Expr::Group(_)
+            | Expr::LookAround(..)
+            | Expr::Repeat { .. }
+            | Expr::AtomicGroup(_)
+            | Expr::Conditional { .. }
+            | Expr::DefineGroup { .. } => false,
+            Expr::Absent(absent) => matches!(absent, Absent::Clear),
+            _ => true,
+        }
+    }
+
+    /// The immediate children, in the order of the text. What an `AstNode` holds is no child.
+    #[tactic(auto, using(crate::proofs::ChildrenLemmas::children_Concat, crate::proofs::ChildrenLemmas::children_Alt))]
+    pub fn children_iter(&self) -> ExprChildrenIter<'_>
+        ensures trees { views (left result) ≡ children (view self.now) }
+        ensures values { left result ≡ children_of self.now }
+    {
+        match self {
+            Expr::Concat(children) => ExprChildrenIter::Vec(children.iter()),
+            Expr::Alt(children) => ExprChildrenIter::Vec(children.iter()),
+            Expr::Group(child)
+            | Expr::LookAround(child, _)
+            | Expr::Repeat { child, .. }
+            | Expr::AtomicGroup(child)
+            | Expr::DefineGroup { definitions: child }
+            | Expr::Absent(Absent::Repeater(child))
+            | Expr::Absent(Absent::Stopper(child)) => ExprChildrenIter::Single(Some(child)),
+            Expr::Absent(Absent::Expression { absent, exp }) => ExprChildrenIter::Triple {
+                first: Some(absent),
+                second: Some(exp),
+                third: None,
+            },
+            Expr::Conditional {
+                condition,
+                true_branch,
+                false_branch,
+            } => ExprChildrenIter::Triple {
+                first: Some(condition),
+                second: Some(true_branch),
+                third: Some(false_branch),
+            },
+            _ => ExprChildrenIter::Empty,
+        }
+    }
+}
+
+/// Gives the immediate children of a node, in the order of the text.
+#[derive(Drop)]
+pub enum ExprChildrenIter<'a> {
+    /// No child.
+    Empty,
+    /// The one child, until it is given.
+    Single(Option<&'a Expr>),
+    /// The children of a list that are not given yet.
+    Vec(slice::Iter<'a, Expr>),
+    /// Up to three children, each until it is given.
+    Triple {
+        first: Option<&'a Expr>,
+        second: Option<&'a Expr>,
+        third: Option<&'a Expr>,
+    },
+}
+
+impl<'a> Iterator for ExprChildrenIter<'a> {
+    type Item = &'a Expr;
+
+    ghost next_gives = { YieldsFirstRef left };
+
+    ghost remaining = { item_count left };
+
+    fn next(&mut self) -> Option<&'a Expr> {
+        match self {
+            ExprChildrenIter::Empty => None,
+            ExprChildrenIter::Single(child) => child.take(),
+            ExprChildrenIter::Vec(children) => children.next(),
+            ExprChildrenIter::Triple { .. } => {
+                if let ExprChildrenIter::Triple { first, .. } = self
+                    && let Some(child) = first.take()
+                {
+                    return Some(child);
+                }
+                if let ExprChildrenIter::Triple { second, .. } = self
+                    && let Some(child) = second.take()
+                {
+                    return Some(child);
+                }
+                if let ExprChildrenIter::Triple { third, .. } = self {
+                    return third.take();
+                }
+                None
+            }
+        }
+    }
+}

@@ -1,0 +1,44 @@
+//! A search through what lies below a node.
+ghost use Rattle.std.specs.Prelude.{◌≡◌, true, false};
+ghost use Rattle.std.specs.Fn.{FnReturnsAt};
+ghost use Rattle.fancy_syntax.specs.Descendants.{IsDescendant};
+
+use super::Expr;
+
+impl Expr {
+    /// Whether the predicate is true of a proper descendant: of a child, or of a descendant of one. It is not asked about
+    /// the node itself, and in no fixed order about the others.
+    pub fn has_descendant<F: Fn(&Expr) -> bool + Drop>(&self, predicate: F) -> bool
+        requires { (d : _) → IsDescendant d.now self.now → F.pre predicate d }
+        ensures found { result ≡ true → (d : Expr) × IsDescendant d self.now × FnReturnsAt F.Fn predicate d true }
+        ensures none { result ≡ false → (d : Expr) → IsDescendant d self.now → FnReturnsAt F.Fn predicate d false }
+    {
+        any_below(self, &predicate)
+    }
+}
+
+#[cycle(any_below)]
+fn any_below<F: Fn(&Expr) -> bool>(tree: &Expr, predicate: &F) -> bool
+    requires { (d : _) → IsDescendant d.now tree.now → F.pre predicate.now d }
+    ensures found { result ≡ true → (d : Expr) × IsDescendant d tree.now × FnReturnsAt F.Fn predicate.now d true }
+    ensures none { result ≡ false → (d : Expr) → IsDescendant d tree.now → FnReturnsAt F.Fn predicate.now d false }
+{
+    let mut children = tree.children_iter();
+    while let Some(child) = children.next() {
+        if holds(child, predicate) {
+            return true;
+        }
+        if any_below(child, predicate) {
+            return true;
+        }
+    }
+    false
+}
+
+// apart from the recursion, so that what the predicate answers is known there
+fn holds<F: Fn(&Expr) -> bool>(tree: &Expr, predicate: &F) -> bool
+    requires { F.pre predicate.now tree }
+    ensures { FnReturnsAt F.Fn predicate.now tree.now result }
+{
+    predicate(tree)
+}

@@ -1,0 +1,95 @@
+//! The grammar: a loop over a stack of open groups reads the raw tree of a text.
+ghost use Rattle.std.specs.Prelude.{◌≡◌, ◌∷◌, [], ◌++◌, ◌<◌, ◌≤◌, length, chars, vec_len, vec_capacity, IfOk};
+ghost use Rattle.fancy_syntax.specs.Grammar as spec;
+ghost use Rattle.fancy_syntax.specs.Parsed.{state, Reads};
+ghost use Rattle.fancy_syntax.specs.Reads.{ReadsWhole};
+
+mod ahead;
+mod fault;
+mod frame;
+mod quantified;
+mod state;
+mod step;
+
+use crate::expr::Expr;
+use crate::grammar::ahead::is_end;
+use crate::grammar::fault::{general, not_read_yet};
+use crate::grammar::frame::{Frame, Opener};
+use crate::grammar::state::State;
+use crate::grammar::step::{MAX_DEPTH, Step, close, read_step};
+use fancy_lex::error::Error;
+use fancy_lex::flags::Flags;
+use fancy_lex::text::{after, next, place};
+use std::alloc::Global;
+
+/// Reads a whole text: its raw tree, in which a capturing group is an AstNode with the place of its parenthesis.
+pub(crate) fn parse(alloc: Global, text: &str, flags: Flags) -> Result<Expr, Error>
+    ensures reads { ReadsWhole result flags (chars text.now) }
+{
+    if is_unread_mode(flags) {
+        return Err(not_read_yet(alloc, 0));
+    }
+    let end = text.len();
+    let (tree, here) = alternation(alloc, State { flags, rest: text }, end)?;
+    match next(here.rest) {
+        None => Ok(tree),
+        Some(_) => Err(general(alloc, "end of string not reached", place(here.rest, end))),
+    }
+}
+
+/// Whether nothing is read under the flags yet.
+fn is_unread_mode(flags: Flags) -> bool
+    ensures { result ≡ spec.is_unread_mode flags }
+{
+    flags.ignore_space || flags.oniguruma_mode || flags.ignore_numbered_groups
+}
+
+/// Reads branches with bars between, up to where the outermost ends.
+fn alternation<'a>(alloc: Global, start: State<'a>, end: usize) -> Result<(Expr, State<'a>), Error>
+    requires { length start.rest.now ≤ end }
+    ensures value { Reads result (spec.Alternation end 0 (state start.entry)) }
+    ensures within { IfOk result (λ p. length p.1.rest.now ≤ length start.entry.rest.now) }
+{
+    let mut stack = Vec::with_capacity(alloc, MAX_DEPTH)?;
+    let mut frame = Frame::new(alloc, Opener::Top);
+    let mut here = start;
+    loop {
+        if !is_end(here.rest) {
+            let (read, behind) = read_step(alloc, here, stack.len(), end)?;
+            match read {
+                Step::Piece(piece) => {
+                    frame.add(piece)?;
+                    here = behind;
+                }
+                Step::Open(opener) => {
+                    push_frame(&mut stack, frame);
+                    frame = Frame::new(alloc, opener);
+                    here = behind;
+                }
+            }
+        } else if let Some(rest) = after(here.rest, '|') {
+            frame = frame.end_branch(alloc)?;
+            here = State { rest, ..here };
+        } else {
+            let (opener, inner) = frame.finish()?;
+            let Some(outer) = stack.pop() else {
+                return Ok((inner, here));
+            };
+            let (piece, behind) = close(alloc, opener, inner, here, end)?;
+            frame = outer;
+            frame.add(piece)?;
+            here = behind;
+        }
+    }
+}
+
+/// Puts a frame on the stack, in the room that was reserved for it.
+fn push_frame(stack: &mut Vec<Frame>, frame: Frame)
+    requires { vec_len stack.old < vec_capacity stack.old }
+    ensures items { stack.new.items ≡ stack.old.items ++ frame ∷ [] }
+    ensures capacity { vec_capacity stack.old ≤ vec_capacity stack.new }
+{
+    let Ok(()) = stack.push(frame) else {
+        unreachable!()
+    };
+}

@@ -1,0 +1,7 @@
+//! Tests of the trees: each public call once, and each allocation refused in turn.
+#![tactic(auto)]
+
+#[cfg(test)]
+mod samples;
+#[cfg(test)]
+mod tests;
