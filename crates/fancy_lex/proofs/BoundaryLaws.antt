@@ -1,18 +1,17 @@
 -- A boundary's name, and the words that are spelled.
-use Rattle.std.proofs.Common.{◌≡◌, ◌≢◌, ℕ, zero, suc, ◌<◌, ◌≤◌, Bool, true, false, not, ◌&&◌, ◌==◌, List, [], ◌∷◌, ◌++◌, length, codes, Option, Some, None, option_map, refl, ap, sym, ◌∙◌, arith}
+use Rattle.std.proofs.Common.{◌≡◌, ℕ, zero, suc, ◌<◌, Bool, true, false, not, ◌&&◌, ◌==◌, [], ◌∷◌, length, codes, Option, Some, None, refl, ap, sym, ◌∙◌, arith}
 use Rattle.std.specs.Str.{bytes_eq}
 use Rattle.std.proofs.lemmas.Slice.Eq.{bytes_eq-Decides}
 use Rattle.std.proofs.lemmas.Bool.Decides.{nat_tests}
-use Rattle.std.proofs.lemmas.Bool.{cases_eq}
 use Rattle.fancy_lex.specs.declared.escape.Assertion.{Assertion}
 use Rattle.fancy_lex.specs.declared.escape.Assertion.TheVariants.{LeftWordBoundary, RightWordBoundary, LeftWordHalfBoundary, RightWordHalfBoundary}
-use Rattle.fancy_lex.specs.Boundary.{name, named, braced, up_to_brace}
+use Rattle.fancy_lex.specs.Boundary.{name, named, braced}
 use Rattle.fancy_lex.specs.BoundaryName.{behind, spelled, spelled_name, refused, refused_behind}
 use Rattle.fancy_lex.specs.Characters.{close_brace}
 use Rattle.fancy_lex.specs.Escaped.{assertion}
 use Rattle.fancy_lex.specs.Fault.{unclosed_open_paren, invalid_escape}
 use Rattle.fancy_lex.specs.Layout.{Skipped, rest, fault, layout}
-use Rattle.fancy_lex.specs.Reading.{Reading, gives, fails, no_memory, ◌>=>◌, layout_reading, Fails, fault_at}
+use Rattle.fancy_lex.specs.Reading.{Reading, gives, fails, no_memory, ◌>=>◌, fault_at}
 use Rattle.fancy_lex.specs.Text.{Text, strip}
 use Rattle.fancy_lex.proofs.BoundaryLemmas.{spelled_open, spelled_end, spelled_step, spelled_other, name_start, name_end, name_start_half, name_end_half}
 use Rattle.fancy_lex.proofs.LayoutLaws.{layout_length}

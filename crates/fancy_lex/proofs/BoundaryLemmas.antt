@@ -1,10 +1,9 @@
 -- One step of a boundary's name.
-use Rattle.std.proofs.Common.{◌≡◌, ◌≢◌, ℕ, zero, suc, pred, ◌<◌, ◌≤◌, Bool, false, ◌==◌, List, [], ◌∷◌, ◌++◌, length, codes, Option, Some, None, option_map, refl, ap, sym, ◌∙◌, append_assoc, arith}
+use Rattle.std.proofs.Common.{◌≡◌, ◌≢◌, ℕ, zero, suc, pred, ◌<◌, ◌≤◌, Bool, false, ◌==◌, [], ◌∷◌, ◌++◌, length, codes, Option, Some, None, option_map, refl, ap, sym, ◌∙◌, append_assoc, arith}
 use Rattle.std.proofs.lemmas.Bool.Decides.{nat_tests}
 use Rattle.fancy_lex.specs.declared.error.Error.{Error}
 use Rattle.fancy_lex.specs.declared.error.Error.TheVariants.{ParseError, OutOfMemory}
 use Rattle.fancy_lex.specs.Boundary.{name, opening}
-use Rattle.fancy_lex.specs.Escaped.{Escape}
 use Rattle.fancy_lex.specs.Fault.{invalid_escape}
 use Rattle.fancy_lex.specs.Reading.{Reading, gives, fails, no_memory, fault_at, ◌>=>◌, layout_reading, error_reading, Fails}
 use Rattle.fancy_lex.specs.Characters.{close_brace}

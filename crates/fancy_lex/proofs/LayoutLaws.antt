@@ -288,3 +288,10 @@ layout_cut n x t v e = let b = layout_sound n x t v e in (b.w, b.cut)
 
 pub layout_length : (n : ℕ) (x : Bool) (t v : Text) → layout n x t ≡ rest v → length v ≤ length t
 layout_length n x t v e = let (w, cut) = layout_cut n x t v e in omega (arith, simp length-append at (ap length cut))
+
+-- the fault stands at most one past the end
+pub layout_place : (n : ℕ) (x : Bool) (t : Text) (p : ℕ) → layout n x t ≡ fault p → p ≤ n + 1
+layout_place n x t p e = place (unclosed_sound n x t p e).inside where
+  place : {r : Text} {q : ℕ} → Open n r q → q ≤ n + 1
+  place (at_end i) = omega arith
+  place (after_backslash i e f j) = omega (arith, f)

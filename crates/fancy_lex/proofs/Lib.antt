@@ -1,9 +1,15 @@
 pub mod BoundaryLaws
 pub mod BoundaryLemmas
+pub mod ClassLaws
+pub mod ClassLemmas
+pub mod EscapeFrame
+pub mod EscapeLaws
+pub mod EscapeLemmas
 pub mod HexLemmas
 pub mod LayoutLaws
 pub mod LayoutLemmas
 pub mod NumberLemmas
+pub mod PlaceLaws
 pub mod PropertyLemmas
 pub mod ReadingLemmas
 pub mod TextLemmas

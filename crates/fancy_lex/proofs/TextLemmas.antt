@@ -1,8 +1,9 @@
 -- The characters of a string that grows.
-use Rattle.std.proofs.Common.{zero-add, suc, ◌+◌, ◌-◌, ◌<◌, ◌≤◌, append_assoc, append-nil, subst, arith, take}
+use Rattle.std.proofs.Common.{◌+◌, ◌-◌, ◌≤◌, subst, arith, take}
 use Rattle.std.specs.Str.{IsCharBoundary}
 use Rattle.std.proofs.Math.Seq.{take-append_seam}
-use Rattle.std.proofs.lemmas.Str.{length-le-encodes, encodes-append, IsCharBoundary-at_seam}
+use Rattle.std.proofs.lemmas.List.{nil_from_length}
+use Rattle.std.proofs.lemmas.Str.{encodes-append, IsCharBoundary-at_seam}
 use Rattle.std.proofs.Common.{◌≡◌, length, length-append, sym, ℕ, Bool, true, false, if◌then◌else◌, List, [], ◌∷◌, ◌++◌, chars, refl, ap, ◌∙◌, rules}
 use Rattle.std.proofs.Math.Utf8.{encode, encodes}
 use Rattle.std.specs.Str.{IsUtf8}
@@ -56,6 +57,12 @@ cut_lengths s r w u v e = ap length (cut_bytes s r w u v e) ∙ length-append (e
 
 pub cut_le : (s r : List ℕ) (w : Text) → IsUtf8 s → IsUtf8 r → chars s ≡ w ++ chars r → length r ≤ length s
 cut_le s r w u v e = omega (arith, cut_lengths s r w u v e)
+
+-- where no byte was cut off, the text is the same
+pub cut_nothing : (s r : List ℕ) (w : Text) → IsUtf8 s → IsUtf8 r → chars s ≡ w ++ chars r → length r ≡ length s → chars r ≡ chars s
+cut_nothing s r w u v e q =
+    let none : encodes w ≡ [] = nil_from_length (encodes w) (omega (arith, cut_lengths s r w u v e)) in
+    ap chars (sym (cut_bytes s r w u v e ∙ ap (λ b. b ++ r) none))
 
 pub cut_boundary : (s r : List ℕ) (w : Text) → IsUtf8 s → IsUtf8 r → chars s ≡ w ++ chars r → IsCharBoundary s (length s - length r)
 cut_boundary s r w u v e =

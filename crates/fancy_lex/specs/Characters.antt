@@ -15,6 +15,12 @@ open_paren = code "("
 abbrev pub close_paren : ℕ
 close_paren = code ")"
 
+abbrev pub open_bracket : ℕ
+open_bracket = code "["
+
+abbrev pub close_bracket : ℕ
+close_bracket = code "]"
+
 abbrev pub open_brace : ℕ
 open_brace = code "{"
 
@@ -26,6 +32,9 @@ comma = code ","
 
 abbrev pub question_mark : ℕ
 question_mark = code "?"
+
+abbrev pub bar : ℕ
+bar = code "|"
 
 abbrev pub backslash : ℕ
 backslash = code "\\"

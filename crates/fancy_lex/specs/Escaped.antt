@@ -1,6 +1,7 @@
 -- What an escape stands for.
-use Rattle.std.specs.Prelude.{ℕ, Bool, [], ◌∷◌, chars}
+use Rattle.std.specs.Prelude.{ℕ, Bool, [], ◌∷◌, codes}
 use Rattle.fancy_lex.specs.Characters.{backslash}
+use Rattle.fancy_lex.specs.Property.{property_text, view_property}
 use Rattle.fancy_lex.specs.Text.{Text}
 use Rattle.fancy_lex.specs.declared.escape.Assertion.{Assertion}
 use Rattle.fancy_lex.specs.declared.escape.DelegateText as declared_text
@@ -22,7 +23,9 @@ pub data Escape : Type 0 where
 -- the characters of a delegate's text
 abbrev pub delegate_text : declared_text.DelegateText → Text
 delegate_text (text.Letter c) = backslash ∷ c ∷ []
-delegate_text (text.Fixed s) = chars s.now
+delegate_text text.HexDigit = codes "[0-9A-Fa-f]"
+delegate_text text.NotHexDigit = codes "[^0-9A-Fa-f]"
+delegate_text (text.Property property unicode inside) = property_text unicode inside (view_property property)
 
 abbrev pub escape_of : declared.Escaped → Escape
 escape_of (code.Literal val casei) = literal val casei

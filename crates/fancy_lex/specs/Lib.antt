@@ -2,6 +2,8 @@ pub mod Bits
 pub mod Boundary
 pub mod BoundaryName
 pub mod Characters
+pub mod Class
+pub mod Escape
 pub mod Escaped
 pub mod Fault
 pub mod Flags

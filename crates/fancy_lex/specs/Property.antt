@@ -122,5 +122,5 @@ holds w [] = begins_with w []
 holds w (c ∷ t) = begins_with w (c ∷ t) || holds w t
 
 -- whether the text is a negated set that names properties or other classes
-abbrev pub is_negated : Text → Bool
-is_negated t = begins_with (codes "[^") t && (holds (codes "\\p{") t || holds (codes "\\P{") t || holds (codes "[:") t)
+abbrev pub is_negated_set : Text → Bool
+is_negated_set t = begins_with (codes "[^") t && (holds (codes "\\p{") t || holds (codes "\\P{") t || holds (codes "[:") t)

@@ -1,4 +1,21 @@
-//! What escapes stand for.
+//! Escapes: what stands behind a backslash.
+ghost use Rattle.std.specs.Prelude.{◌≡◌, ◌+◌, ◌^◌, ◌<◌, ◌≤◌, [], ◌∷◌, if◌then◌else◌, false, length, chars, IfOk};
+ghost use Rattle.fancy_lex.specs.Characters.{backslash};
+ghost use Rattle.fancy_lex.specs.Escape as spec;
+ghost use Rattle.fancy_lex.specs.Escaped as leaf;
+ghost use Rattle.fancy_lex.specs.Escaped.{Escape, escape_of, delegate_text};
+ghost use Rattle.fancy_lex.specs.Fault.{invalid_escape, not_read_yet};
+ghost use Rattle.fancy_lex.specs.Reading.{Gives, Fails, fault_at};
+ghost use Rattle.fancy_lex.specs.Text.{text_of};
+
+use crate::error::{Error, ParseError};
+use crate::escape::boundary::boundary;
+use crate::escape::hex::hex;
+use crate::flags::Flags;
+use crate::name::number;
+use crate::property::{Property, read_property};
+use crate::text::{next, place as place_of, push};
+use std::alloc::{AllocError, Global};
 
 pub mod boundary;
 pub mod hex;
@@ -51,6 +68,239 @@ pub enum Escaped<'a> {
 pub enum DelegateText<'a> {
     /// A backslash and the letter.
     Letter(char),
-    /// This text.
-    Fixed(&'a str),
+    /// `[0-9A-Fa-f]`.
+    HexDigit,
+    /// `[^0-9A-Fa-f]`.
+    NotHexDigit,
+    /// What is written for the property, with UNICODE or without, in a class or outside.
+    Property {
+        property: Property<'a>,
+        unicode: bool,
+        inside: bool,
+    },
+}
+
+/// A backslash and the letter.
+fn letter_name(alloc: Global, c: char) -> Result<String, AllocError>
+    ensures { IfOk result (λ s. text_of s ≡ backslash ∷ c ∷ []) }
+{
+    let mut name = String::new(alloc);
+    push(&mut name, '\\')?;
+    push(&mut name, c)?;
+    Ok(name)
+}
+
+/// The fault of a letter that is no escape.
+fn unknown(alloc: Global, c: char, place: usize) -> Error
+    ensures { Fails result (fault_at {A = Escape} place (invalid_escape (backslash ∷ c ∷ []))) }
+{
+    match letter_name(alloc, c) {
+        Ok(name) => Error::ParseError(place, ParseError::InvalidEscape(name)),
+        Err(refused) => Error::from(refused),
+    }
+}
+
+/// The fault that stands in for what is not read yet.
+fn unread(alloc: Global, place: usize) -> Error
+    ensures { Fails result (fault_at {A = Escape} place not_read_yet) }
+{
+    match String::from_str(alloc, "not read yet") {
+        Ok(text) => Error::ParseError(place, ParseError::GeneralParseError(text)),
+        Err(refused) => Error::from(refused),
+    }
+}
+
+/// A literal in which case counts.
+fn literal(val: char) -> Escaped<'static>
+    ensures { escape_of result ≡ leaf.literal val false }
+{
+    Escaped::Literal { val, casei: false }
+}
+
+/// A delegate that stands for itself, in which case does not count.
+fn hex_digit(inner: DelegateText<'static>) -> Escaped<'static>
+    ensures { escape_of result ≡ leaf.delegate (delegate_text inner.entry) false }
+{
+    Escaped::Delegate {
+        inner,
+        casei: false,
+    }
+}
+
+/// Whether the character stands for itself behind a backslash: any but a letter, a digit, and outside a class `<` and `>`.
+fn is_itself(c: char, inside: bool) -> bool
+    ensures { result ≡ spec.is_itself inside c }
+{
+    !c.is_ascii_alphanumeric() && (inside || !matches!(c, '<' | '>'))
+}
+
+/// The fault of digits: outside a class they are not read yet, and no class holds them.
+#[tactic(auto, unfolding(crate::specs::Escape::numbered))]
+fn numbered(alloc: Global, text: &str, inside: bool, place: usize, end: usize) -> Error
+    requires { length text.now ≤ end }
+    ensures { Fails result (spec.numbered end inside place (chars text.now)) }
+{
+    if !inside {
+        return unread(alloc, place);
+    }
+    match number(text) {
+        None => Error::ParseError(place, ParseError::InvalidClass),
+        Some((Some(_), _)) => Error::ParseError(place, ParseError::InvalidClass),
+        Some((None, _)) => Error::ParseError(place_of(text, end), ParseError::InvalidBackref),
+    }
+}
+
+/// Reads a property behind its letter.
+#[tactic(auto, using(crate::proofs::EscapeLemmas::property_steps))]
+fn property<'a>(
+    alloc: Global,
+    text: &'a str,
+    letter: char,
+    flags: Flags,
+    inside: bool,
+    place: usize,
+) -> Result<(Escaped<'a>, &'a str), Error>
+    ensures value { Gives escape_of result (spec.property flags inside place letter (chars text.now)) }
+    ensures within { IfOk result (λ p. length p.1.now ≤ length text.now) }
+{
+    if next(text).is_none() {
+        return Err(unknown(alloc, letter, place));
+    }
+    let Some((property, rest)) = read_property(text, letter == 'P') else {
+        return Err(Error::ParseError(place, ParseError::UnclosedUnicodeName));
+    };
+    let inner = DelegateText::Property {
+        property,
+        unicode: flags.unicode,
+        inside,
+    };
+    let casei = flags.casei;
+    Ok((Escaped::Delegate { inner, casei }, rest))
+}
+
+/// Reads an escape that is one in a class only, behind its letter.
+#[tactic(auto, unfolding(crate::specs::Escape::in_class))]
+fn in_class<'a>(
+    alloc: Global,
+    c: char,
+    rest: &'a str,
+    place: usize,
+) -> Result<(Escaped<'a>, &'a str), Error>
+    ensures value { Gives escape_of result (spec.in_class place c (chars rest.now)) }
+    ensures within { IfOk result (λ p. length p.1.now ≤ length rest.now) }
+{
+    match c {
+        'b' => Ok((literal('\x08'), rest)),
+        'k' | 'A' | 'z' | 'B' | 'K' | 'G' | 'R' => Ok((literal(c), rest)),
+        _ => Err(unknown(alloc, c, place)),
+    }
+}
+
+/// The boundary, or in Oniguruma mode its mark as it stands.
+fn mark(c: char, boundary: Assertion, flags: Flags) -> Escaped<'static>
+    ensures { escape_of result ≡ (if flags.oniguruma_mode then leaf.literal c false else leaf.assertion boundary) }
+{
+    if flags.oniguruma_mode {
+        literal(c)
+    } else {
+        Escaped::Assertion(boundary)
+    }
+}
+
+/// Reads an escape that is one outside a class only, behind its letter.
+#[tactic(auto, unfolding(crate::specs::Escape::outside))]
+fn outside<'a>(
+    alloc: Global,
+    c: char,
+    rest: &'a str,
+    flags: Flags,
+    place: usize,
+    end: usize,
+) -> Result<(Escaped<'a>, &'a str), Error>
+    requires { end < 2 ^ 63 }
+    ensures value { Gives escape_of result (spec.outside end flags place c (chars rest.now)) }
+    ensures within { IfOk result (λ p. length p.1.now ≤ length rest.now) }
+{
+    let crlf = flags.crlf;
+    let unicode = flags.unicode;
+    let leaf = match c {
+        'A' => Escaped::Assertion(Assertion::StartText),
+        'z' => Escaped::Assertion(Assertion::EndText),
+        'Z' => Escaped::Assertion(Assertion::EndTextIgnoreTrailingNewlines { crlf }),
+        'K' => Escaped::KeepOut,
+        'G' => Escaped::ContinueFromPreviousMatchEnd,
+        'R' => Escaped::GeneralNewline { unicode },
+        'O' => Escaped::Any {
+            newline: true,
+            crlf: true,
+        },
+        'N' => Escaped::Any {
+            newline: false,
+            crlf: false,
+        },
+        '<' => mark(c, Assertion::LeftWordBoundary, flags),
+        '>' => mark(c, Assertion::RightWordBoundary, flags),
+        'k' | 'g' => return Err(unread(alloc, place)),
+        'b' => return boundary(alloc, rest, false, flags, place, end),
+        'B' => return boundary(alloc, rest, true, flags, place, end),
+        _ => return Err(unknown(alloc, c, place)),
+    };
+    Ok((leaf, rest))
+}
+
+/// Reads what stands behind the backslash at `place` in a pattern of `end` bytes, in a class where `inside` says so.
+/// The faults, at the backslash where no other place is named: TrailingBackslash at the end of the text; InvalidEscape
+/// for a letter that is no escape, and for a boundary's braces that are not closed or hold no name; UnclosedUnicodeName
+/// for a property's; InvalidClass for digits in a class, or InvalidBackref at the first of them where no word holds
+/// their number; those of `hex` behind `x`, `u` and `U`; UnclosedOpenParen where a comment in layout is open. Outside a
+/// class references and calls are not read yet.
+#[tactic(auto, unfolding(crate::specs::Escape::escape))]
+pub fn escape<'a>(
+    alloc: Global,
+    text: &'a str,
+    flags: Flags,
+    inside: bool,
+    place: usize,
+    end: usize,
+) -> Result<(Escaped<'a>, &'a str), Error>
+    requires bounded { end < 2 ^ 63 }
+    requires within { length text.now ≤ end }
+    ensures value { Gives escape_of result (spec.escape end flags inside place (chars text.now)) }
+    ensures shorter { IfOk result (λ p. length p.1.now < length text.now) }
+{
+    let Some((c, rest)) = next(text) else {
+        return Err(Error::ParseError(place, ParseError::TrailingBackslash));
+    };
+    match c {
+        '0'..='9' => Err(numbered(alloc, text, inside, place, end)),
+        'd' | 'D' | 's' | 'S' | 'w' | 'W' => Ok((
+            Escaped::Delegate {
+                inner: DelegateText::Letter(c),
+                casei: flags.casei,
+            },
+            rest,
+        )),
+        'h' => Ok((hex_digit(DelegateText::HexDigit), rest)),
+        'H' => Ok((hex_digit(DelegateText::NotHexDigit), rest)),
+        'x' => hex(rest, 2, flags, end),
+        'u' => hex(rest, 4, flags, end),
+        'U' => hex(rest, 8, flags, end),
+        'p' | 'P' => property(alloc, rest, c, flags, inside, place),
+        'a' => Ok((literal('\x07'), rest)),
+        'f' => Ok((literal('\x0C'), rest)),
+        'n' => Ok((literal('\n'), rest)),
+        'r' => Ok((literal('\r'), rest)),
+        't' => Ok((literal('\t'), rest)),
+        'v' => Ok((literal('\x0B'), rest)),
+        'e' => Ok((literal('\x1B'), rest)),
+        _ => {
+            if is_itself(c, inside) {
+                Ok((literal(c), rest))
+            } else if inside {
+                in_class(alloc, c, rest, place)
+            } else {
+                outside(alloc, c, rest, flags, place, end)
+            }
+        }
+    }
 }

@@ -1,6 +1,7 @@
 //! The lowest layer: flags, errors, and what is read from the text without knowing a tree.
 #![tactic(auto)]
 
+pub mod class;
 pub mod error;
 pub mod escape;
 pub mod flags;

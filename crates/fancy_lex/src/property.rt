@@ -1,6 +1,7 @@
 //! Properties: what stands behind `\p` or `\P`, and the text that is written for it.
 ghost use Rattle.std.specs.Prelude.{◌≡◌, ℕ, Bool, true, false, ◌<◌, ◌≤◌, ◌∷◌, ◌++◌, length, chars, IfSome, OnOk, MatchOption, Some, None, option_map, if◌then◌else◌};
 ghost use Rattle.std.specs.Str.{bytes_eq};
+ghost use Rattle.fancy_lex.specs.Characters.{close_brace};
 ghost use Rattle.fancy_lex.specs.Property as spec;
 ghost use Rattle.fancy_lex.specs.PropertyForm.{view_form, named};
 ghost use Rattle.fancy_lex.specs.Text.{Text, text_of, BeginsWith};
@@ -44,7 +45,7 @@ pub fn read_property(text: &str, negated: bool) -> Option<(Property<'_>, &str)>
 
 /// What stands before the first closing brace, and what follows it.
 fn until_brace(text: &str) -> Option<(&str, &str)>
-    ensures value { spec.cut_at 125 (chars text.now) ≡ option_map (λ p. (chars p.0.now, chars p.1.now)) result }
+    ensures value { spec.cut_at close_brace (chars text.now) ≡ option_map (λ p. (chars p.0.now, chars p.1.now)) result }
     ensures shorter { IfSome result (λ p. length p.1.now < length text.now) }
 {
     text.split_once('}')
@@ -155,9 +156,9 @@ fn turn(negated: bool, name: &str) -> (bool, &str)
     }
 }
 
-/// Whether what is written in a class is a negated set that names properties or other classes.
+/// Whether what is written is a negated set that names properties or other classes.
 fn is_negated_form(known: Known, negated: bool, unicode: bool) -> bool
-    ensures { (name : Text) → result ≡ spec.is_negated (spec.form_text true negated (spec.form unicode known name)) }
+    ensures { (inside : Bool) (name : Text) → result ≡ spec.is_negated_set (spec.form_text inside negated (spec.form unicode known name)) }
 {
     match known {
         Known::Alnum => negated,
@@ -168,10 +169,10 @@ fn is_negated_form(known: Known, negated: bool, unicode: bool) -> bool
     }
 }
 
-/// Whether what is written for the property in a class is a negated set that names properties or other classes.
+/// Whether what is written for the property is a negated set that names properties or other classes.
 #[tactic(auto, unfolding(crate::specs::Property::property_text))]
 pub fn is_negated(property: Property, unicode: bool) -> bool
-    ensures { result ≡ spec.is_negated (spec.property_text unicode true (spec.view_property property.entry)) }
+    ensures { (inside : Bool) → result ≡ spec.is_negated_set (spec.property_text unicode inside (spec.view_property property.entry)) }
 {
     match property.name {
         PropertyName::Single(_) => false,

@@ -1,4 +1,4 @@
-use Rattle.std.proofs.Common.{◌-◌, arith, length, ◌∙◌, rules}
+use Rattle.std.proofs.Common.{arith}
 use Rattle.fancy_lex.proofs.TextLemmas.{cut_le, cut_boundary, front_is}
 use Rattle.fancy_lex.proofs.text.front.Goals as goal
 

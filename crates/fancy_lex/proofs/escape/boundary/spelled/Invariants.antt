@@ -1,4 +1,4 @@
-use Rattle.std.proofs.Common.{◌≡◌, ◌≤◌, ◌+◌, length, chars}
+use Rattle.std.proofs.Common.{◌≡◌, ◌≤◌, length, chars}
 use denote.Text.{Utf8}
 use denote.Shadow.{shadow}
 use Rattle.fancy_lex.specs.BoundaryName as spec

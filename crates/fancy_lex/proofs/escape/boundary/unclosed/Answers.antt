@@ -2,7 +2,6 @@ use Rattle.std.proofs.Common.{ap, sym}
 use Rattle.std.specs.Str.{chars}
 use Rattle.fancy_lex.specs.Fault.{invalid_escape}
 use Rattle.fancy_lex.specs.Reading.{fault_at}
-use Rattle.fancy_lex.specs.Text.{Text}
 use Rattle.fancy_lex.proofs.escape.boundary.unclosed.Goals as goal
 
 pub returns-in-Ok : goal.returns-in-Ok

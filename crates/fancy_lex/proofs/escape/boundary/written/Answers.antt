@@ -1,9 +1,9 @@
-use Rattle.std.proofs.Common.{ℕ, suc, pred, length, chars, ap, sym, ◌∙◌, ◌++◌, [], ◌≡◌, ◌<◌, ◌≤◌, arith, rules, subst}
+use Rattle.std.proofs.Common.{suc, pred, length, chars, ap, sym, ◌∙◌, ◌++◌, arith, rules, subst}
 use Rattle.std.proofs.lemmas.Result.{err_from_is_err_and}
 use Rattle.std.proofs.lemmas.Str.{chars-nil}
 use Rattle.fancy_lex.specs.Reading.{Fails}
 use Rattle.fancy_lex.specs.Text.{Text}
-use Rattle.fancy_lex.proofs.BoundaryLemmas.{rest_of, refused_from, refused_open, refused_end, refused_close, refused_step, step_length}
+use Rattle.fancy_lex.proofs.BoundaryLemmas.{refused_from, refused_open, refused_end, refused_close, refused_step, step_length}
 use Rattle.fancy_lex.proofs.escape.boundary.written.Goals as goal
 
 pub loop-out-init : goal.loop-out-init

@@ -1,4 +1,4 @@
-use Rattle.std.proofs.Common.{◌≡◌, ◌≤◌, ◌<◌, ℕ, length, chars}
+use Rattle.std.proofs.Common.{◌≡◌, ◌<◌, ℕ, length, chars}
 use denote.Text.{Utf8}
 use denote.Shadow.{shadow}
 use Rattle.fancy_lex.specs.BoundaryName.{refused, refused_behind}

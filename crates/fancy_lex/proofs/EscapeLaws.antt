@@ -1,0 +1,279 @@
+-- What holds of every escape: it leaves the end of the text, its fault stands at most one past the end, and it answers.
+use Rattle.std.proofs.Common.{length, codes, ◌≡◌, ℕ, zero, suc, ◌+◌, ◌*◌, ◌≤◌, Bool, true, false, ◌==◌, nat_lt, if◌then◌else◌, [], ◌∷◌, ◌++◌, Option, Some, None, option_map, refl, ap, sym, ◌∙◌, subst, append_assoc, arith}
+use Rattle.std.specs.Char.{digit_value}
+use Rattle.std.specs.Option.{option_and_then}
+use Rattle.fancy_lex.specs.declared.flags.Flags.{Flags}
+use Rattle.fancy_lex.specs.Boundary as boundaries
+use Rattle.fancy_lex.specs.Characters.{open_brace, close_brace, ◌∈◌}
+use Rattle.fancy_lex.specs.Escape.{escape, numbered, property, outside, in_class}
+use Rattle.fancy_lex.specs.Escaped.{Escape}
+use Rattle.fancy_lex.specs.Fault.{Fault, Kind, invalid_escape}
+use Rattle.fancy_lex.specs.Hex as hexes
+use Rattle.fancy_lex.specs.Layout.{Skipped, rest, fault, layout}
+use Rattle.fancy_lex.specs.Number.{number}
+use Rattle.fancy_lex.specs.Property.{single, braced, cut_at, name_at, read_property}
+use Rattle.fancy_lex.specs.Reading.{Reading, gives, fails, no_memory, fault_at, ◌>=>◌, choose, layout_reading}
+use Rattle.fancy_lex.specs.Text.{Text, bytes, strip, place_of}
+use Rattle.fancy_lex.proofs.LayoutLaws.{layout_cut, layout_place}
+use Rattle.fancy_lex.proofs.BoundaryLaws.{strip_is}
+
+-- the text ends with the other
+abbrev pub Ends : Text → Text → Type 0
+Ends t v = (w : Text) × (t ≡ w ++ v)
+
+pub ends_whole : (t : Text) → Ends t t
+ends_whole t = ([], refl)
+
+pub ends_past : (c : ℕ) (t v : Text) → Ends t v → Ends (c ∷ t) v
+ends_past c t v (w, e) = (c ∷ w, ap (λ s. c ∷ s) e)
+
+pub ends_twice : (t u v : Text) → Ends t u → Ends u v → Ends t v
+ends_twice t u v (w, e) (z, h) = (w ++ z, e ∙ ap (λ s. w ++ s) h ∙ sym (append_assoc w z v))
+
+-- a reading of the text leaves its end, or finds a fault at a place of at most m; it is an answer
+pub data Leaves {A : Type 0} (m : ℕ) : Text → Reading A → Type 0 where
+  leaves : {t u : Text} {a : A} → Ends t u → Leaves m t (gives a u)
+  faults : {t : Text} {e : Fault} → e.place ≤ m → Leaves m t (fails e)
+
+whole : {A : Type 0} {a : A} {m : ℕ} (t : Text) → Leaves m t (gives a t)
+whole t = leaves (ends_whole t)
+
+pub whole_next : {A : Type 0} {a : A} {m c : ℕ} (t : Text) → Leaves m (c ∷ t) (gives a t)
+whole_next {c} t = leaves (ends_past c t t (ends_whole t))
+
+pub leaves_none : {A : Type 0} {m p : ℕ} {k : Kind} {t : Text} → p ≤ m → Leaves {A = A} m t (fault_at p k)
+leaves_none l = faults l
+
+pub leaves_past : {A : Type 0} {m : ℕ} {t u : Text} {o : Reading A} → Ends t u → Leaves m u o → Leaves m t o
+leaves_past e (leaves h) = leaves (ends_twice _ _ _ e h)
+leaves_past e (faults l) = faults l
+
+pub leaves_if : {A : Type 0} {m : ℕ} {t : Text} {x y : Reading A} (b : Bool) → Leaves m t x → Leaves m t y → Leaves m t (if b then x else y)
+leaves_if true l k = l
+leaves_if false l k = k
+
+pub leaves_both : {A B : Type 0} {m : ℕ} {t : Text} {o : Reading A} {f : A → Text → Reading B} → Leaves m t o → ((a : A) (u : Text) → Leaves m u (f a u)) → Leaves m t (o >=> f)
+leaves_both (leaves {u} {a} e) k = leaves_past e (k a u)
+leaves_both (faults l) k = faults l
+
+leaves_choose : {A B : Type 0} {m : ℕ} {t : Text} {f : A → Reading B} {d : Reading B} (o : Option A) → ((a : A) → o ≡ Some a → Leaves m t (f a)) → Leaves m t d → Leaves m t (choose o f d)
+leaves_choose (Some a) l k = l a refl
+leaves_choose None l k = k
+
+pub ends_strip : (m : ℕ) (t u : Text) → strip m t ≡ Some u → Ends t u
+ends_strip m t u e = (m ∷ [], strip_is m t u e)
+
+-- the same of what reads a value or nothing
+abbrev LeavesSome : {A : Type 0} → Text → Option (A × Text) → Type 0
+LeavesSome t (Some p) = Ends t p.1
+LeavesSome t None = Unit {0}
+
+ends_some : {A : Type 0} (t : Text) (o : Option (A × Text)) (p : A × Text) → LeavesSome t o → o ≡ Some p → Ends t p.1
+ends_some t o p l e = subst (LeavesSome t) e l
+
+some_if : {A : Type 0} (t : Text) (b : Bool) (p : A × Text) → Ends t p.1 → LeavesSome t (if b then Some p else None)
+some_if t true p e = e
+some_if t false p e = tt
+
+some_past : {A : Type 0} (t u : Text) (o : Option (A × Text)) → Ends t u → LeavesSome u o → LeavesSome t o
+some_past t u (Some p) e l = ends_twice t u p.1 e l
+some_past t u None e l = tt
+
+some_both : {A B : Type 0} (t : Text) (o : Option (A × Text)) (f : A × Text → Option (B × Text)) → LeavesSome t o → ((p : A × Text) → LeavesSome p.1 (f p)) → LeavesSome t (option_and_then f o)
+some_both t (Some p) f l m = some_past t p.1 (f p) l (m p)
+some_both t None f l m = tt
+
+-- hex digits
+leaves_digit : (t : Text) → LeavesSome t (hexes.hex_digit t)
+unfolding hexes.hex_digit
+leaves_digit [] = tt
+leaves_digit (c ∷ t) = some_if (c ∷ t) (nat_lt (digit_value c) 16) (digit_value c, t) (ends_past c t t (ends_whole t))
+
+leaves_fixed : (k v : ℕ) (t : Text) → LeavesSome t (hexes.fixed k v t)
+unfolding hexes.fixed
+leaves_fixed zero v t = ends_whole t
+leaves_fixed (suc k) v t = some_both t (hexes.hex_digit t) _ (leaves_digit t) (λ p. leaves_fixed k (v * 16 + p.0) p.1)
+
+-- properties
+some_map : {A B : Type 0} (t : Text) (o : Option (A × Text)) (f : A → B) → LeavesSome t o → LeavesSome t (option_map (λ p. (f p.0, p.1)) o)
+some_map t (Some p) f l = l
+some_map t None f l = tt
+
+leaves_cut : (mark : ℕ) (t : Text) → LeavesSome t (cut_at mark t)
+leaves_cut mark [] = tt
+leaves_cut mark (c ∷ t) = at (c == mark) (leaves_cut mark t) where
+  past : Ends (c ∷ t) t
+  past = ends_past c t t (ends_whole t)
+
+  at : (b : Bool) → LeavesSome t (cut_at mark t) → LeavesSome (c ∷ t) (if b then Some ([], t) else option_map (λ p. (c ∷ p.0, p.1)) (cut_at mark t))
+  at true l = past
+  at false l = some_past (c ∷ t) t _ past (some_map t (cut_at mark t) _ l)
+
+leaves_name_at : (t : Text) → LeavesSome t (name_at t)
+unfolding name_at
+leaves_name_at [] = tt
+leaves_name_at (c ∷ t) = at (c == open_brace) where
+  past : Ends (c ∷ t) t
+  past = ends_past c t t (ends_whole t)
+
+  at : (b : Bool) → LeavesSome (c ∷ t) (if b then option_map (λ p. (braced p.0, p.1)) (cut_at close_brace t) else Some (single c, t))
+  at true = some_past (c ∷ t) t _ past (some_map t (cut_at close_brace t) _ (leaves_cut close_brace t))
+  at false = past
+
+leaves_read : (negated : Bool) (t : Text) → LeavesSome t (read_property negated t)
+unfolding read_property
+leaves_read negated t = some_map t (name_at t) _ (leaves_name_at t)
+
+-- a pattern of n bytes; no fault is past m
+module _ (m n : ℕ) (up : n + 1 ≤ m) where
+  place_up : (t : Text) → place_of n t ≤ m
+  place_up t = omega (arith, up)
+
+  leaves_layout : (x : Bool) (t : Text) → Leaves m t (layout_reading (layout n x t))
+  leaves_layout x t = at (layout n x t) refl where
+    at : (o : Skipped) → layout n x t ≡ o → Leaves m t (layout_reading o)
+    at (rest u) e = leaves (layout_cut n x t u e)
+    at (fault p) e = leaves_none (omega (arith, up, layout_place n x t p e))
+
+  -- hex codes
+  module _ (x : Bool) (h : ℕ) (l : h ≤ m) where
+    leaves_closed : (some : Bool) (v : ℕ) (t : Text) → Leaves m t (hexes.closed h some v (strip close_brace t))
+    leaves_closed some v t = at some (strip close_brace t) refl where
+      at : (some : Bool) (o : Option Text) → strip close_brace t ≡ o → Leaves m t (hexes.closed h some v o)
+      at true (Some u) e = leaves (ends_strip close_brace t u e)
+      at true None e = leaves_none l
+      at false o e = leaves_none l
+
+    leaves_digits : (k : ℕ) (some : Bool) (v : ℕ) (t : Text) → Leaves m t (hexes.digits n x h k some v t)
+    unfolding hexes.digits
+    leaves_digits zero some v t = leaves_closed some v t
+    leaves_digits (suc k) some v t =
+        leaves_choose (hexes.hex_digit t)
+        (λ p e. leaves_past (ends_some t _ p (leaves_digit t) e) (leaves_both (leaves_layout x p.1) (λ _ u. leaves_digits k true (v * 16 + p.0) u)))
+        (leaves_closed some v t)
+
+    leaves_braced : (t : Text) → Leaves m t (hexes.braced n x h t)
+    unfolding hexes.braced
+    leaves_braced t = leaves_both (leaves_layout x t) (λ _ u. leaves_digits 8 false 0 u)
+
+    leaves_value : (width : ℕ) (t : Text) → Leaves m t (hexes.value n x h width t)
+    unfolding hexes.value
+    leaves_value width t =
+        leaves_choose (hexes.fixed width 0 t) (λ p e. leaves (ends_some t _ p (leaves_fixed width 0 t) e))
+        (leaves_choose (strip open_brace t) (λ u e. leaves_past (ends_strip open_brace t u e) (leaves_braced u)) (leaves_none l))
+
+  module _ (f : Flags) (width h : ℕ) (l : h ≤ m) where
+    none_at_code : {A : Type 0} {k : Kind} {t : Text} → Leaves {A = A} m t (fault_at h k)
+    none_at_code = leaves_none l
+
+    leaves_coded : (v : ℕ) (t : Text) → Leaves m t (hexes.coded f width h v t)
+    unfolding hexes.coded
+    leaves_coded v t = search (leaves_if, whole, none_at_code)
+
+  leaves_hex : (f : Flags) (width : ℕ) (t : Text) → Leaves m t (hexes.hex n f width t)
+  unfolding hexes.hex
+  leaves_hex f width t =
+      leaves_both (leaves_layout f.ignore_space t)
+      (λ _ u. leaves_both (leaves_value f.ignore_space (place_of n u) (place_up u) width u) (leaves_coded f width (place_of n u) (place_up u)))
+
+  -- word boundaries
+  module _ (x : Bool) (p : ℕ) (l : p ≤ m) where
+    leaves_name_behind : (k : ℕ) → ((t : Text) → Leaves m t (boundaries.name n x p k t)) → (t : Text) → Leaves m t (boundaries.up_to_brace (fault_at p (invalid_escape (codes "\\b{...}"))) (gives []) (λ c v. boundaries.name n x p k v >=> (λ w v. gives (c ∷ w) v)) t)
+    leaves_name_behind k more [] = leaves_none l
+    leaves_name_behind k more (c ∷ t) =
+        let past = ends_past c t t (ends_whole t) in
+        leaves_if (c == close_brace) (leaves past) (leaves_past past (leaves_both (more t) (λ w v. whole v)))
+
+    leaves_name : (k : ℕ) (t : Text) → Leaves m t (boundaries.name n x p k t)
+    unfolding boundaries.name
+    leaves_name zero t = leaves_none l
+    leaves_name (suc k) t = leaves_both (leaves_layout x t) (λ _ u. leaves_name_behind k (leaves_name k) u)
+
+    leaves_named : (negated : Bool) (t : Text) → Leaves m t (boundaries.braced n x p negated t)
+    unfolding boundaries.braced
+    leaves_named negated t = leaves_both (leaves_name (suc (length t)) t) (λ w u. leaves_choose (boundaries.named negated w) (λ a e. whole u) (leaves_none l))
+
+    leaves_boundary : (negated : Bool) (t : Text) → Leaves m t (boundaries.boundary n x p negated t)
+    unfolding boundaries.boundary
+    leaves_boundary negated t = at (layout n x t) refl where
+      at : (o : Skipped) → layout n x t ≡ o → Leaves m t (layout_reading o >=> (λ _ u. choose (strip open_brace u) (λ inside. layout_reading (layout n x inside) >=> (λ _ v. if boundaries.at_count v then gives (boundaries.plain negated) t else boundaries.braced n x p negated inside)) (gives (boundaries.plain negated) t)))
+      at (rest u) e = leaves_choose (strip open_brace u) (λ inside h. braces u inside e h (layout n x inside) refl) (whole t) where
+        braces : (u inside : Text) → layout n x t ≡ rest u → strip open_brace u ≡ Some inside → (o : Skipped) → layout n x inside ≡ o → Leaves m t (layout_reading o >=> (λ _ v. if boundaries.at_count v then gives (boundaries.plain negated) t else boundaries.braced n x p negated inside))
+        braces u inside e h (rest v) i =
+            leaves_if (boundaries.at_count v) (whole t)
+            (leaves_past (ends_twice t u inside (layout_cut n x t u e) (ends_strip open_brace u inside h)) (leaves_named negated inside))
+        braces u inside e h (fault q) i = leaves_none (omega (arith, up, layout_place n x inside q i))
+      at (fault q) e = leaves_none (omega (arith, up, layout_place n x t q e))
+
+-- escapes
+module _ (m n : ℕ) (up : n + 1 ≤ m) (f : Flags) (inside : Bool) (p : ℕ) (l : p ≤ m) where
+  none_here : {A : Type 0} {k : Kind} {t : Text} → Leaves {A = A} m t (fault_at p k)
+  none_here = leaves_none l
+
+  leaves_property : (c : ℕ) (t : Text) → Leaves m t (property f inside p c t)
+  unfolding property
+  leaves_property c [] = none_here
+  leaves_property c (d ∷ t) =
+      leaves_choose (read_property (c ∈ "P") (d ∷ t)) (λ q e. leaves (ends_some (d ∷ t) _ q (leaves_read (c ∈ "P") (d ∷ t)) e)) none_here
+
+  leaves_numbered : (t : Text) → Leaves m t (numbered n inside p t)
+  unfolding numbered
+  leaves_numbered t = leaves_if _ none_here (leaves_choose (number t) (λ q e. leaves_if _ none_here (leaves_none (place_up m n up t))) none_here)
+
+  boundary_here : (negated : Bool) (t : Text) → Leaves m t (boundaries.boundary n f.ignore_space p negated t)
+  boundary_here = leaves_boundary m n up f.ignore_space p l
+
+  leaves_outside : (c : ℕ) (t : Text) → Leaves m t (outside n f p c t)
+  unfolding outside
+  leaves_outside c t = search (leaves_if, whole, none_here, boundary_here) depth 60 fits 3000
+
+  leaves_in_class : (c : ℕ) (t : Text) → Leaves m t (in_class p c t)
+  unfolding in_class
+  leaves_in_class c t = search (leaves_if, whole, none_here)
+
+  -- the same behind the letter
+  module _ (c d : ℕ) (t : Text) where
+    past : Ends (d ∷ t) t
+    past = ends_past d t t (ends_whole t)
+
+    hex_next : (width : ℕ) → Leaves m (d ∷ t) (hexes.hex n f width t)
+    hex_next width = leaves_past past (leaves_hex m n up f width t)
+
+    property_next : Leaves m (d ∷ t) (property f inside p c t)
+    property_next = leaves_past past (leaves_property c t)
+
+    in_class_next : Leaves m (d ∷ t) (in_class p c t)
+    in_class_next = leaves_past past (leaves_in_class c t)
+
+    outside_next : Leaves m (d ∷ t) (outside n f p c t)
+    outside_next = leaves_past past (leaves_outside c t)
+
+  -- the end of the text is left, or the fault stands at most one past the end, or at the backslash
+  pub leaves_escape : (t : Text) → Leaves m t (escape n f inside p t)
+  unfolding escape
+  leaves_escape [] = none_here
+  leaves_escape (c ∷ t) =
+      search (leaves_if, whole_next, leaves_numbered, hex_next, property_next, in_class_next, outside_next) depth 60 fits 3000
+
+-- what is left is the end of the text
+pub escape_cut : (n : ℕ) (f : Flags) (b : Bool) (p : ℕ) (t u : Text) (e : Escape) → escape n f b p t ≡ gives e u → (w : Text) × (t ≡ w ++ u)
+escape_cut n f b p t u e q = at (escape n f b p t) (leaves_escape (n + 1 + p) n (omega arith) f b p (omega arith) t) q where
+  at : (o : Reading Escape) → Leaves (n + 1 + p) t o → o ≡ gives e u → Ends t u
+  at (gives a v) (leaves h) q = let same : v ≡ u = cc in subst (Ends t) same h
+  at (fails g) l q = absurd (cc)
+  at no_memory l q = elim l [ ]
+
+bytes_ends : (w u : Text) → bytes u ≤ bytes (w ++ u)
+unfolding bytes
+bytes_ends [] u = omega arith
+bytes_ends (c ∷ w) u = omega (arith, bytes_ends w u)
+
+pub escape_within : (n : ℕ) (f : Flags) (b : Bool) (p : ℕ) (t u : Text) (e : Escape) → escape n f b p t ≡ gives e u → bytes u ≤ bytes t
+escape_within n f b p t u e q = let (w, cut) = escape_cut n f b p t u e q in rw cut (bytes_ends w u)
+
+pub escape_answers : (n : ℕ) (f : Flags) (b : Bool) (p : ℕ) (t : Text) → escape n f b p t ≡ no_memory → ⊥
+escape_answers n f b p t q = at (escape n f b p t) (leaves_escape (n + 1 + p) n (omega arith) f b p (omega arith) t) q where
+  at : (o : Reading Escape) → Leaves (n + 1 + p) t o → o ≡ no_memory → ⊥
+  at (gives a v) l q = cc
+  at (fails g) l q = cc
+  at no_memory l q = elim l [ ]

@@ -1,0 +1,30 @@
+-- The cases of a property behind its letter.
+use Rattle.std.proofs.Common.{◌≡◌, ℕ, Bool, [], ◌∷◌, Option, Some, None, refl, ap, sym, ◌∙◌}
+use Rattle.fancy_lex.specs.declared.flags.Flags.{Flags}
+use Rattle.fancy_lex.specs.Characters.{◌∈◌}
+use Rattle.fancy_lex.specs.Escape.{property, unknown}
+use Rattle.fancy_lex.specs.Escaped.{delegate}
+use Rattle.fancy_lex.specs.Fault.{unclosed_unicode_name}
+use Rattle.fancy_lex.specs.Property.{Property, read_property, name_at, property_text}
+use Rattle.fancy_lex.specs.Reading.{gives, fault_at}
+use Rattle.fancy_lex.specs.Text.{Text}
+
+module _ (f : Flags) (inside : Bool) (p c : ℕ) (t : Text) where
+  pub property_end : t ≡ [] → property f inside p c t ≡ unknown p c
+  unfolding property
+  property_end e = rw e refl
+
+  pub property_unclosed : (d : ℕ) (r : Text) → t ≡ d ∷ r → read_property (c ∈ "P") t ≡ None → property f inside p c t ≡ fault_at p unclosed_unicode_name
+  unfolding property
+  property_unclosed d r e h =
+      let here : read_property (c ∈ "P") (d ∷ r) ≡ None = ap (read_property (c ∈ "P")) (sym e) ∙ h in
+      rw (e, property, here) refl
+
+pub property_read : (f : Flags) (inside : Bool) (p c : ℕ) (t : Text) (q : Property) (v : Text) → read_property (c ∈ "P") t ≡ Some (q, v) → property f inside p c t ≡ gives (delegate (property_text f.unicode inside q) f.casei) v
+unfolding property read_property name_at
+property_read f inside p c [] q v h = absurd (nothing h) where
+  nothing : {A : Type 0} {a : A} → ◌≡◌ {A = Option A} None (Some a) → ⊥
+  nothing h = cc
+property_read f inside p c (d ∷ r) q v h = rw h refl
+
+pub ruleset property_steps = (property_end, property_unclosed, property_read)

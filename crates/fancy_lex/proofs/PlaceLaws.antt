@@ -1,0 +1,42 @@
+-- What holds of every class: it leaves the end of the text, its fault stands at most one past the end, and it answers.
+use Rattle.std.proofs.Common.{◌≡◌, ℕ, zero, suc, ◌+◌, ◌-◌, Bool, true, false, ◌||◌, ◌==◌, [], ◌∷◌, ◌++◌, Option, Some, None, refl, arith}
+use Rattle.fancy_lex.specs.Characters.{backslash, caret, open_bracket, close_bracket}
+use Rattle.fancy_lex.specs.Class.{class, items, item_text, is_negated, opening, with_mark}
+use Rattle.fancy_lex.specs.Reading.{choose}
+use Rattle.fancy_lex.specs.Text.{Text, bytes, place_of, strip}
+use Rattle.fancy_lex.specs.declared.flags.Flags.{Flags}
+use Rattle.fancy_lex.proofs.EscapeLaws.{Ends, ends_whole, ends_past, ends_twice, ends_strip, Leaves, whole_next, leaves_none, leaves_past, leaves_if, leaves_both, leaves_escape}
+
+-- what stands behind the front of a class ends the text
+ends_mark : (m : ℕ) (p : Text × Text) → Ends p.1 (with_mark m p).1
+ends_mark m p = at (strip m p.1) refl where
+  at : (o : Option Text) → strip m p.1 ≡ o → Ends p.1 (choose {B = Text × Text} o (λ u. (p.0 ++ m ∷ [], u)) p).1
+  at None e = ends_whole p.1
+  at (Some u) e = ends_strip m p.1 u e
+
+ends_opening : (out t : Text) → Ends t (opening out t).1
+unfolding opening
+ends_opening out t =
+    let start : Text × Text = (out ++ open_bracket ∷ [], t) in
+    ends_twice t _ _ (ends_mark caret start) (ends_mark close_bracket (with_mark caret start))
+
+module _ (n : ℕ) (f : Flags) where
+  leaves_items : (k depth : ℕ) (seen : Bool) (out t : Text) → Leaves (n + 1) t (items n f k depth seen out t)
+  unfolding items
+  leaves_items zero depth seen out t = leaves_none (omega arith)
+  leaves_items (suc k) depth seen out [] = leaves_none (omega arith)
+  leaves_items (suc k) depth seen out (c ∷ t) =
+      let past = ends_past c t t (ends_whole t) in
+      leaves_if (c == backslash)
+      (leaves_past past
+      (leaves_both (leaves_escape (n + 1) n (omega arith) f true (place_of n (c ∷ t)) (omega arith) t) (λ e u. leaves_items k depth (seen || is_negated e) (out ++ item_text seen e) u)))
+      (leaves_if (c == open_bracket)
+      (leaves_past past (leaves_past (ends_opening out t) (leaves_items k (depth + 1) seen (opening out t).0 (opening out t).1)))
+      (leaves_if (c == close_bracket)
+      (leaves_if (depth == 0) (whole_next t) (leaves_past past (leaves_items k (depth - 1) seen (out ++ c ∷ []) t)))
+      (leaves_past past (leaves_items k depth seen (out ++ c ∷ []) t))))
+
+  -- the end of the text is left, or the fault stands at most one past the end
+  pub leaves_class : (t : Text) → Leaves (n + 1) t (class n f t)
+  unfolding class
+  leaves_class t = leaves_past (ends_opening [] t) (leaves_items (suc (bytes t)) 0 false (opening [] t).0 (opening [] t).1)

@@ -1,0 +1,16 @@
+use Rattle.std.proofs.Common.{◌≡◌, ◌≤◌, ◌<◌, ◌+◌, ℕ, length, chars}
+use denote.Text.{Utf8}
+use denote.Shadow.{shadow}
+use Rattle.fancy_lex.specs.Class as spec
+use Rattle.fancy_lex.specs.Text.{text_of}
+use Rattle.fancy_lex.proofs.class.read_class.Given as goal
+
+abbrev pub invariant-loop-c : goal.invariant-loop-c
+invariant-loop-c l = record {
+  text : shadow (Utf8 l.left);
+  same : (k : ℕ) × (length l.left < k) × (spec.class l.end l.flags (chars l.text) ≡ spec.items l.end l.flags k l.depth l.seen (text_of l.out) (chars l.left));
+  within : l.depth + length l.left ≤ length l.text;
+}
+
+abbrev pub decreases-loop-c : goal.decreases-loop-c
+decreases-loop-c l = length l.left

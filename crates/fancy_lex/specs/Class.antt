@@ -1,0 +1,128 @@
+-- Classes: what stands behind an opening bracket, and the text that is written for it.
+use Rattle.std.specs.Prelude.{◌≡◌, ℕ, zero, suc, ◌+◌, ◌-◌, ◌/◌, ◌%◌, Bool, true, false, not, ◌&&◌, ◌||◌, ◌==◌, nat_lt, if◌then◌else◌, [], ◌∷◌, ◌++◌, codes}
+use Prim.Native.Char.{code}
+use Rattle.fancy_lex.specs.Characters.{backslash, caret, open_bracket, close_bracket, ◌∈◌}
+use Rattle.fancy_lex.specs.Escape.{escape}
+use Rattle.fancy_lex.specs.Escaped.{Escape, literal, literal_bytes, delegate}
+use Rattle.fancy_lex.specs.Fault.{Fault, invalid_class, kind_of}
+use Rattle.fancy_lex.specs.Property.{is_negated_set}
+use Rattle.fancy_lex.specs.Reading.{Reading, gives, fails, fault_at, choose, ◌>=>◌}
+use Rattle.fancy_lex.specs.Text.{Text, bytes, place_of, strip}
+use Rattle.fancy_lex.specs.declared.error.Error.{Error}
+use Rattle.fancy_lex.specs.declared.error.Error.TheVariants.{ParseError, OutOfMemory}
+use Rattle.fancy_lex.specs.declared.flags.Flags.{Flags}
+
+-- the characters that stand behind a backslash in a class
+abbrev pub is_mark : ℕ → Bool
+is_mark c = c ∈ "\\.+*?()|[]{}^$#&-~"
+
+-- a digit's character, in upper case
+abbrev pub hex_digit : ℕ → ℕ
+hex_digit d = if nat_lt d 10 then code "0" + d else code "A" + (d - 10)
+
+-- a character, behind a backslash where it is a mark
+abbrev pub char_text : ℕ → Text
+char_text c = if is_mark c then backslash ∷ c ∷ [] else c ∷ []
+
+-- `\x` and the two digits of a byte
+abbrev pub byte_text : ℕ → Text
+byte_text b = codes "\\x" ++ (hex_digit (b / 16) ∷ hex_digit (b % 16) ∷ [])
+
+-- what is written for an escape; in a class it is a character, a byte or a text
+abbrev pub escape_text : Escape → Text
+escape_text (literal c casei) = char_text c
+escape_text (literal_bytes b) = byte_text b
+escape_text (delegate t casei) = t
+escape_text _ = []
+
+-- whether it is a negated set that names properties or other classes
+abbrev pub is_negated : Escape → Bool
+is_negated (delegate t casei) = is_negated_set t
+is_negated _ = false
+
+-- what stands before the next negated set
+abbrev pub joint : Bool → Text
+joint needed = if needed then codes "&&" else []
+
+-- the text of an escape where `seen` says whether a negated set is written already
+abbrev pub item_text : Bool → Escape → Text
+item_text seen e = joint (seen && is_negated e) ++ escape_text e
+
+-- the mark is written too, where it stands at the front
+abbrev pub with_mark : ℕ → Text × Text → Text × Text
+with_mark mark p = choose {B = Text × Text} (strip mark p.1) (λ u. (p.0 ++ mark ∷ [], u)) p
+
+-- what begins a class, behind what is written so far: the bracket, a caret, and a closing bracket that is plain; and what is left
+unfoldable pub opening : Text → Text → Text × Text
+opening out t = with_mark close_bracket (with_mark caret (out ++ open_bracket ∷ [], t))
+
+-- a class in a pattern of n bytes, under these flags
+module _ (n : ℕ) (f : Flags) where
+  -- What is left of a class, `depth` classes inside the first, behind what is written so far. The first number is how
+  -- many steps are left, and `seen` says whether a negated set is written already.
+  unfoldable pub items : ℕ → ℕ → Bool → Text → Text → Reading Text
+  items zero depth seen out t = fault_at n invalid_class
+  items (suc k) depth seen out [] = fault_at n invalid_class
+  items (suc k) depth seen out (c ∷ t) =
+      if c == backslash then escape n f true (place_of n (c ∷ t)) t >=> (λ e u. items k depth (seen || is_negated e) (out ++ item_text seen e) u)
+      else if c == open_bracket then items k (depth + 1) seen (opening out t).0 (opening out t).1
+      else if c == close_bracket then (if depth == 0 then gives (out ++ c ∷ []) t else items k (depth - 1) seen (out ++ c ∷ []) t)
+      else items k depth seen (out ++ c ∷ []) t
+
+  -- the class behind the bracket
+  unfoldable pub class : Text → Reading Text
+  class t = items (suc (bytes t)) 0 false (opening [] t).0 (opening [] t).1
+
+-- what a class comes to: what is written, whether a negated set is among it or was before, and what is left; or a fault
+pub data Outcome : Type 0 where
+  written : Text → Bool → Text → Outcome
+  fault : Fault → Outcome
+
+-- a plain character
+abbrev pub is_plain : ℕ → Bool
+is_plain c = not (c ∈ "\\[]")
+
+abbrev pub unclosed : ℕ → Fault
+unclosed n = record { place = n; kind = invalid_class }
+
+mutual
+  -- a class behind its bracket; the flag says whether a negated set was written before it
+  pub data Class : ℕ → Flags → Bool → Text → Outcome → Type 0 where
+    class_items : {n : ℕ} {f : Flags} {b a : Bool} {t u v head w : Text} → ◌≡◌ {A = Text × Text} (opening [] t) (head, u) →
+        Items n f b u (written w a v) → Class n f b t (written (head ++ w) a v)
+    items_fault : {n : ℕ} {f : Flags} {b : Bool} {t u head : Text} {e : Fault} → ◌≡◌ {A = Text × Text} (opening [] t) (head, u) →
+        Items n f b u (fault e) → Class n f b t (fault e)
+
+  -- items through the closing bracket
+  pub data Items : ℕ → Flags → Bool → Text → Outcome → Type 0 where
+    close : {n : ℕ} {f : Flags} {b : Bool} {v : Text} → Items n f b (close_bracket ∷ v) (written (close_bracket ∷ []) b v)
+    plain : {n c : ℕ} {f : Flags} {b a : Bool} {t v w : Text} → is_plain c ≡ true →
+        Items n f b t (written w a v) → Items n f b (c ∷ t) (written (c ∷ w) a v)
+    escaped : {n : ℕ} {f : Flags} {b a : Bool} {t u v w : Text} {e : Escape} → escape n f true (place_of n (backslash ∷ t)) t ≡ gives e u →
+        Items n f (b || is_negated e) u (written w a v) → Items n f b (backslash ∷ t) (written (item_text b e ++ w) a v)
+    nested : {n : ℕ} {f : Flags} {b m a : Bool} {t u v x w : Text} → Class n f b t (written x m u) →
+        Items n f m u (written w a v) → Items n f b (open_bracket ∷ t) (written (x ++ w) a v)
+    -- the end of the text
+    end : {n : ℕ} {f : Flags} {b : Bool} → Items n f b [] (fault (unclosed n))
+    plain_fault : {n c : ℕ} {f : Flags} {b : Bool} {t : Text} {e : Fault} → is_plain c ≡ true →
+        Items n f b t (fault e) → Items n f b (c ∷ t) (fault e)
+    escape_fault : {n : ℕ} {f : Flags} {b : Bool} {t : Text} {e : Fault} → escape n f true (place_of n (backslash ∷ t)) t ≡ fails e →
+        Items n f b (backslash ∷ t) (fault e)
+    escaped_fault : {n : ℕ} {f : Flags} {b : Bool} {t u : Text} {x : Escape} {e : Fault} → escape n f true (place_of n (backslash ∷ t)) t ≡ gives x u →
+        Items n f (b || is_negated x) u (fault e) → Items n f b (backslash ∷ t) (fault e)
+    class_fault : {n : ℕ} {f : Flags} {b : Bool} {t : Text} {e : Fault} → Class n f b t (fault e) → Items n f b (open_bracket ∷ t) (fault e)
+    nested_fault : {n : ℕ} {f : Flags} {b m : Bool} {t u x : Text} {e : Fault} → Class n f b t (written x m u) →
+        Items n f m u (fault e) → Items n f b (open_bracket ∷ t) (fault e)
+
+-- the text begins, behind the bracket, with a class for which `out` is written, and which `v` follows
+abbrev pub StartsWithClass : ℕ → Flags → Text → Text → Text → Type 0
+StartsWithClass n f t v out = (a : Bool) × Class n f false t (written out a v)
+
+-- the class behind the bracket cannot be read, for this fault
+abbrev pub ClassFaults : ℕ → Flags → Text → Fault → Type 0
+ClassFaults n f t e = Class n f false t (fault e)
+
+-- memory ran out, or the class has this fault
+abbrev pub IsFault : ℕ → Flags → Text → Error → Type 0
+IsFault n f t (ParseError p k) = ClassFaults n f t (record { place = p; kind = kind_of k })
+IsFault n f t OutOfMemory = Unit {0}

@@ -1,0 +1,213 @@
+//! Classes: what stands behind an opening bracket, and the text that is written for it.
+ghost use Rattle.std.specs.Prelude.{◌≡◌, ℕ, ◌+◌, ◌/◌, ◌%◌, ◌^◌, ◌<◌, ◌≤◌, ◌||◌, [], ◌∷◌, ◌++◌, length, chars, IfOk, OnOk, MatchResult, codes};
+ghost use Rattle.fancy_lex.specs.Class as spec;
+ghost use Rattle.fancy_lex.specs.Escaped.{escape_of, delegate_text};
+ghost use Rattle.fancy_lex.specs.Property.{is_negated_set};
+ghost use Rattle.fancy_lex.specs.Reading.{Gives, Fails, gives, fault_at};
+ghost use Rattle.fancy_lex.specs.Fault.{Fault};
+ghost use Rattle.fancy_lex.specs.Text.{Text, text_of};
+ghost use Rattle.fancy_lex.specs.declared.error.Error.TheVariants.{OutOfMemory};
+
+use crate::error::{Error, ParseError};
+use crate::escape::{DelegateText, Escaped, escape};
+use crate::flags::Flags;
+use crate::property::{is_negated, push_property};
+use crate::text::{after, append, next, place, push};
+use std::alloc::{AllocError, Global};
+
+/// Whether the character stands behind a backslash in a class.
+fn is_mark(c: char) -> bool
+    ensures { result ≡ spec.is_mark c }
+{
+    matches!(
+        c,
+        '\\' | '.'
+            | '+'
+            | '*'
+            | '?'
+            | '('
+            | ')'
+            | '|'
+            | '['
+            | ']'
+            | '{'
+            | '}'
+            | '^'
+            | '$'
+            | '#'
+            | '&'
+            | '-'
+            | '~'
+    )
+}
+
+/// Adds the character, behind a backslash where it is a mark.
+fn push_quoted(out: &mut String, c: char) -> Result<(), AllocError>
+    ensures { OnOk result (text_of out.new ≡ text_of out.old ++ spec.char_text c) }
+{
+    if is_mark(c) {
+        push(out, '\\')?;
+    }
+    push(out, c)
+}
+
+/// The character of a hex digit, in upper case.
+fn hex_digit(digit: u8) -> char
+    requires { digit < 16 }
+    ensures { result ≡ spec.hex_digit digit }
+{
+    let code = if digit < 10 {
+        b'0' + digit
+    } else {
+        b'A' + (digit - 10)
+    };
+    code as char
+}
+
+/// Adds `\x` and the two digits of the byte.
+fn push_byte(out: &mut String, byte: u8) -> Result<(), AllocError>
+    ensures { OnOk result (text_of out.new ≡ text_of out.old ++ spec.byte_text byte) }
+{
+    append(out, "\\x")?;
+    push(out, hex_digit(byte / 16))?;
+    push(out, hex_digit(byte % 16))
+}
+
+/// Adds the delegate's text.
+pub fn push_delegate(out: &mut String, text: DelegateText) -> Result<(), AllocError>
+    ensures { OnOk result (text_of out.new ≡ text_of out.old ++ delegate_text text.entry) }
+{
+    match text {
+        DelegateText::Letter(c) => {
+            push(out, '\\')?;
+            push(out, c)
+        }
+        DelegateText::HexDigit => append(out, "[0-9A-Fa-f]"),
+        DelegateText::NotHexDigit => append(out, "[^0-9A-Fa-f]"),
+        DelegateText::Property {
+            property,
+            unicode,
+            inside,
+        } => { push_property(out, property, unicode, inside) }
+    }
+}
+
+/// Whether the text of a delegate in a class is a negated set that names properties or other classes.
+fn is_negated_text(text: DelegateText) -> bool
+    ensures { result ≡ is_negated_set (delegate_text text.entry) }
+{
+    match text {
+        DelegateText::Property {
+            property,
+            unicode,
+            ..
+        } => is_negated(property, unicode),
+        _ => false,
+    }
+}
+
+/// Adds the `&&` before the next negated set, where one is needed.
+fn push_joint(out: &mut String, needed: bool) -> Result<(), AllocError>
+    ensures { OnOk result (text_of out.new ≡ text_of out.old ++ spec.joint needed) }
+{
+    if needed { append(out, "&&") } else { Ok(()) }
+}
+
+/// Adds what is written for an escape in a class, where `seen` says whether a negated set was added before. Gives
+/// whether one was added by then.
+fn push_item(out: &mut String, escaped: Escaped, seen: bool) -> Result<bool, AllocError>
+    ensures grown { OnOk result (text_of out.new ≡ text_of out.old ++ spec.item_text seen (escape_of escaped.entry)) }
+    ensures seen { IfOk result (λ now. now ≡ (seen || spec.is_negated (escape_of escaped.entry))) }
+{
+    match escaped {
+        Escaped::Literal { val, .. } => {
+            push_quoted(out, val)?;
+            Ok(seen)
+        }
+        Escaped::LiteralBytes { byte } => {
+            push_byte(out, byte)?;
+            Ok(seen)
+        }
+        Escaped::Delegate { inner, .. } => {
+            let negated = is_negated_text(inner);
+            push_joint(out, seen && negated)?;
+            push_delegate(out, inner)?;
+            Ok(seen || negated)
+        }
+        _ => Ok(seen),
+    }
+}
+
+/// Adds the mark where the text begins with it, and gives what follows.
+fn push_mark<'a>(out: &mut String, text: &'a str, mark: char) -> Result<&'a str, AllocError>
+    ensures value { IfOk result (λ r. spec.with_mark mark (text_of out.old, chars text.now) ≡ (text_of out.new, chars r.now)) }
+    ensures within { IfOk result (λ r. length r.now ≤ length text.now) }
+{
+    let Some(rest) = after(text, mark) else {
+        return Ok(text);
+    };
+    push(out, mark)?;
+    Ok(rest)
+}
+
+/// Adds what begins a class behind its bracket: the bracket, a caret, and a closing bracket, which is plain there.
+#[tactic(auto, unfolding(crate::specs::Class::opening))]
+fn opening<'a>(out: &mut String, text: &'a str) -> Result<&'a str, AllocError>
+    ensures value { IfOk result (λ r. spec.opening (text_of out.old) (chars text.now) ≡ (text_of out.new, chars r.now)) }
+    ensures within { IfOk result (λ r. length r.now ≤ length text.now) }
+{
+    push(out, '[')?;
+    let text = push_mark(out, text, '^')?;
+    push_mark(out, text, ']')
+}
+
+/// Reads a class and those that nest in it through its last bracket: what is written, and the text left.
+fn read_class(alloc: Global, text: &str, flags: Flags, end: usize) -> Result<(String, &str), Error>
+    requires bounded { end < 2 ^ 63 }
+    requires inside { length text.now ≤ end }
+    ensures value { Gives text_of result (spec.class end flags (chars text.now)) }
+    ensures shorter { IfOk result (λ p. length p.1.now < length text.now) }
+{
+    let mut out = String::new(alloc);
+    let mut left = opening(&mut out, text)?;
+    let mut depth = 0usize;
+    let mut seen = false;
+    while let Some((c, rest)) = next(left) {
+        if c == '\\' {
+            let (escaped, after) = escape(alloc, rest, flags, true, place(left, end), end)?;
+            seen = push_item(&mut out, escaped, seen)?;
+            left = after;
+            continue;
+        }
+        if c == '[' {
+            left = opening(&mut out, rest)?;
+            depth += 1;
+            continue;
+        }
+        push(&mut out, c)?;
+        left = rest;
+        if c == ']' {
+            if depth == 0 {
+                return Ok((out, left));
+            }
+            depth -= 1;
+        }
+    }
+    Err(Error::ParseError(end, ParseError::InvalidClass))
+}
+
+/// Reads a class behind its opening bracket, in the rest of a pattern of `end` bytes: the text that is written for it,
+/// and the text left. Where the pattern ends in the class, the fault is `InvalidClass` at its end; else it is the
+/// fault of the first escape that cannot be read. What follows the class changes nothing.
+pub fn class(alloc: Global, text: &str, flags: Flags, end: usize) -> Result<(String, &str), Error>
+    requires bounded { end < 2 ^ 63 }
+    requires inside { length text.now ≤ end }
+    ensures value { Gives text_of result (spec.class end flags (chars text.now)) }
+    ensures derives { MatchResult result (λ p. spec.StartsWithClass end flags (chars text.now) (chars p.1.now) (text_of p.0)) (λ e. spec.IsFault end flags (chars text.now) e) }
+    ensures only { (v out : Text) → spec.StartsWithClass end flags (chars text.now) v out → MatchResult result (λ p. (text_of p.0 ≡ out) × (chars p.1.now ≡ v)) (λ e. e ≡ OutOfMemory) }
+    ensures only_fault { (e : Fault) → spec.ClassFaults end flags (chars text.now) e → MatchResult result (λ _. ⊥) (λ error. Fails error (fault_at {A = Text} e.place e.kind)) }
+    ensures follows { (m : ℕ) (s : Text) → IfOk result (λ p. spec.class m flags (chars text.now ++ s) ≡ gives (text_of p.0) (chars p.1.now ++ s)) }
+    ensures shorter { IfOk result (λ p. length p.1.now < length text.now) }
+{
+    read_class(alloc, text, flags, end)
+}

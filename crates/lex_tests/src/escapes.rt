@@ -1,0 +1,148 @@
+//! Escapes outside a class: what each stands for, and what is left; or the fault.
+use fancy_lex::class::push_delegate;
+use fancy_lex::escape::{DelegateText, Escaped, escape};
+use fancy_lex::flags::{
+    FLAG_CASEI, FLAG_CRLF, FLAG_IGNORE_SPACE, FLAG_ONIGURUMA_MODE, FLAG_UNICODE, Flags,
+};
+use std::alloc::{AllocError, Global};
+
+fn delegate(alloc: Global, inner: DelegateText, casei: bool) -> Result<String, AllocError> {
+    let mut text = String::new(alloc);
+    push_delegate(&mut text, inner)?;
+    format!(in alloc; "Delegate {text} {casei}")
+}
+
+fn shown(alloc: Global, escaped: Escaped) -> Result<String, AllocError> {
+    match escaped {
+        Escaped::Literal { val, casei } => format!(in alloc; "Literal {val} {casei}"),
+        Escaped::LiteralBytes { byte } => format!(in alloc; "LiteralBytes {byte}"),
+        Escaped::Any { newline, crlf } => format!(in alloc; "Any {newline} {crlf}"),
+        Escaped::Assertion(assertion) => format!(in alloc; "{assertion:?}"),
+        Escaped::GeneralNewline { unicode } => format!(in alloc; "GeneralNewline {unicode}"),
+        Escaped::KeepOut => String::from_str(alloc, "KeepOut"),
+        Escaped::ContinueFromPreviousMatchEnd => {
+            String::from_str(alloc, "ContinueFromPreviousMatchEnd")
+        }
+        Escaped::Delegate { inner, casei } => delegate(alloc, inner, casei),
+    }
+}
+
+/// What the reader answers for the first escape of a pattern.
+fn answer(alloc: Global, pattern: &str, flags: u32) -> Result<String, AllocError> {
+    let Some((front, text)) = pattern.split_once('\\') else {
+        return String::from_str(alloc, "no escape");
+    };
+    let flags = Flags::from_bits(flags);
+    match escape(alloc, text, flags, false, front.len(), pattern.len()) {
+        Ok((escaped, rest)) => {
+            let leaf = shown(alloc, escaped)?;
+            format!(in alloc; "{leaf} then {rest}")
+        }
+        Err(error) => format!(in alloc; "{error}"),
+    }
+}
+
+#[test]
+fn escapes_stand_for_leaves(rt: HostRuntime) -> Result<(), AllocError> {
+    for (pattern, leaf) in [
+        ("\\u21D2", "Literal \u{21D2} false then "),
+        ("\\U{0001F60A}", "Literal \u{1F60A} false then "),
+        ("\\x{80}", "Literal \u{80} false then "),
+        ("\\A*", "StartText then *"),
+        ("\\b{1}", "WordBoundary then {1}"),
+        ("\\b{1", "WordBoundary then {1"),
+        ("\\PL", "Delegate \\PL false then "),
+        ("\\p{Greek}", "Delegate \\p{greek} false then "),
+        ("\\P{^cs}", "Delegate \\P{any} false then "),
+        ("\\p{^^x}", "Delegate \\P{^x} false then "),
+        ("\\p{\u{C9}A}", "Delegate \\p{\u{C9}a} false then "),
+        ("\\N", "Any false false then "),
+        ("\\R", "GeneralNewline true then "),
+    ] {
+        let answered = answer(rt.alloc(), pattern, FLAG_UNICODE)?;
+        assert_eq!(rt; answered.as_str(), leaf, "at {pattern}");
+    }
+    Ok(())
+}
+
+#[test]
+fn flags_change_what_an_escape_stands_for(rt: HostRuntime) -> Result<(), AllocError> {
+    let spaced = FLAG_UNICODE | FLAG_IGNORE_SPACE;
+    for (pattern, flags, leaf) in [
+        ("\\x { 4 1 }", spaced, "Literal A false then "),
+        (
+            "\\xFF",
+            FLAG_UNICODE | FLAG_CASEI,
+            "Literal \u{FF} true then ",
+        ),
+        ("\\xFF", 0, "LiteralBytes 255 then "),
+        ("\\x{80}", 0, "LiteralBytes 128 then "),
+        (
+            "\\p{Ll}",
+            FLAG_UNICODE | FLAG_CASEI,
+            "Delegate \\p{ll} true then ",
+        ),
+        (
+            "\\<",
+            FLAG_UNICODE | FLAG_ONIGURUMA_MODE,
+            "Literal < false then ",
+        ),
+        (
+            "\\Z",
+            FLAG_UNICODE | FLAG_CRLF,
+            "EndTextIgnoreTrailingNewlines { crlf: true } then ",
+        ),
+        ("\\b { s t a r t }", spaced, "LeftWordBoundary then "),
+        (
+            "\\b { s t a (?# x)r t} a )",
+            spaced,
+            "LeftWordBoundary then  a )",
+        ),
+    ] {
+        let answered = answer(rt.alloc(), pattern, flags)?;
+        assert_eq!(rt; answered.as_str(), leaf, "at {pattern}");
+    }
+    Ok(())
+}
+
+#[test]
+fn faults_of_escapes_say_their_place(rt: HostRuntime) -> Result<(), AllocError> {
+    for (pattern, fault) in [
+        (".\\c", "Parsing error at position 1: Invalid escape: \\c"),
+        ("\\p", "Parsing error at position 0: Invalid escape: \\p"),
+        (
+            "\\p{Greek",
+            "Parsing error at position 0: Unicode escape not closed",
+        ),
+        (
+            "\\x{800000000}",
+            "Parsing error at position 2: Invalid hex escape",
+        ),
+        ("\\u123x", "Parsing error at position 2: Invalid hex escape"),
+        ("\\x{42", "Parsing error at position 2: Invalid hex escape"),
+        (
+            "\\x{D800}",
+            "Parsing error at position 2: Invalid codepoint for hex or unicode escape",
+        ),
+        (
+            "\\b{",
+            "Parsing error at position 0: Invalid escape: \\b{...}",
+        ),
+        (
+            "\\b{ start }",
+            "Parsing error at position 0: Invalid escape: \\b{ start }",
+        ),
+        (
+            "\\B{x}",
+            "Parsing error at position 0: Invalid escape: \\B{x}",
+        ),
+        (
+            "\\b(?#",
+            "Parsing error at position 5: Opening parenthesis without closing parenthesis",
+        ),
+    ] {
+        let answered = answer(rt.alloc(), pattern, FLAG_UNICODE)?;
+        assert_eq!(rt; answered.as_str(), fault, "at {pattern}");
+    }
+    Ok(())
+}

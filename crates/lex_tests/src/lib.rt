@@ -1,0 +1,7 @@
+//! Tests of the escape and class readers on worked patterns.
+#![tactic(auto)]
+
+#[cfg(test)]
+mod classes;
+#[cfg(test)]
+mod escapes;
