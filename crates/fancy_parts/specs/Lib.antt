@@ -1,1 +1,5 @@
+pub mod FlagLetters
+pub mod FlagReads
 pub mod Quantifier
+pub mod Quote
+pub mod Room

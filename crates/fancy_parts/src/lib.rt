@@ -2,3 +2,5 @@
 #![tactic(auto)]
 
 pub mod heads;
+pub mod quote;
+pub mod room;

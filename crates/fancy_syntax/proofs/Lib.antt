@@ -8,6 +8,8 @@ mod Unique
 pub mod ChildrenLemmas
 pub mod Descents
 pub mod LoanLemmas
+pub mod PrintLemmas
+pub mod PrintableLemmas
 pub mod SameLemmas
 pub mod Verdict
 pub mod WriteLemmas

@@ -1,18 +1,22 @@
 -- How each step of the loop keeps what stands on the stack.
-use Rattle.std.proofs.Common.{◌≡◌, ℕ, ◌+◌, ◌<◌, ◌≤◌, true, false, List, [], ◌∷◌, ◌++◌, length, Some, None, Result, Ok, Err, refl, sym, ap, ◌∙◌, subst, append-nil, arith}
+use Rattle.std.proofs.Common.{◌≡◌, ℕ, ◌+◌, true, false, List, [], ◌∷◌, ◌++◌, length, Some, None, Result, Ok, Err, refl, sym, ap, ◌∙◌, subst, append-nil, arith}
 use Rattle.std.proofs.lemmas.List.{length_push}
 use Rattle.fancy_lex.specs.Fault.{Kind, unclosed_open_paren}
 use Rattle.fancy_lex.specs.Text.{Text, place_of, strip}
 use Rattle.fancy_lex.specs.declared.error.Error.{Error}
-use Rattle.fancy_syntax.specs.Ahead.{ends, bar, close_paren}
-use Rattle.fancy_syntax.specs.Grammar.{Alternation, alternation, alternation_fault, Branches, last, branch_fault, Branch, branch, pieces_fault, Pieces, stop, piece_fault, Piece, piece, atom_fault, Atom, atom, AtomOf, a_group, group_fault, Inside, inside, inside_fault, unclosed, max_depth}
+use Rattle.fancy_syntax.specs.Ahead.{ends, skipped}
+use Rattle.fancy_lex.specs.Characters.{bar, close_paren}
+use Rattle.fancy_lex.specs.Layout.{rest, fault as open_comment}
+use Rattle.fancy_lex.specs.declared.error.Error.TheVariants.{ParseError}
+use Rattle.fancy_lex.specs.declared.error.ParseError.TheVariants.{UnclosedOpenParen}
+use Rattle.fancy_syntax.specs.Reads.{Fails}
+use Rattle.fancy_syntax.specs.Grammar.{Alternation, alternation, alternation_fault, last, branch_fault, Branch, branch, pieces_fault, stop, piece_fault, Piece, piece, layout_fault, atom_fault, Atom, atom, a_group, group_fault, a_scope, scope_fault, inside, inside_fault, unclosed}
 use Rattle.fancy_syntax.specs.Join.{solid, one_or, choice}
-use Rattle.fancy_syntax.specs.Machine.{Opens, capture, closed_tree, StepsOn, GivesPiece, before, Reading, Levels, top, inner}
+use Rattle.fancy_syntax.specs.Machine.{Opens, capture, scoped, closed_tree, closed_flags, StepsOn, GivesPiece, Reading, Levels, top, inner}
 use Rattle.fancy_syntax.specs.Quantified.{quant}
-use Rattle.fancy_syntax.specs.State.{State, at, Outcome, done, fault}
+use Rattle.fancy_syntax.specs.Row.{trees}
+use Rattle.fancy_syntax.specs.State.{State, at, done, fault}
 use Rattle.fancy_syntax.specs.Tree.{Tree, concat}
-use Rattle.fancy_syntax.specs.View.{view, views}
-use Rattle.fancy_syntax.specs.declared.expr.Expr.{Expr}
 use Rattle.fancy_syntax.specs.declared.grammar.frame.Frame.{Frame}
 use Rattle.fancy_syntax.specs.declared.grammar.frame.Opener.{Opener}
 use Rattle.fancy_syntax.specs.declared.grammar.frame.Opener.TheVariants.{Top}
@@ -23,28 +27,40 @@ use Rattle.fancy_syntax.proofs.OutcomeLemmas.{Fails-map, before-nil, before-push
 
 -- ---- a step
 
-pub steps_piece : {n d : ℕ} {s t : State} {a : Tree} (r : Result (Step × declared.State) Error) → Atom n d s (done a t) → GivesPiece r (quant n a t) →
-    StepsOn r n d s
-steps_piece (Ok (step.Piece tree, behind)) a h = piece a h
-steps_piece (Ok (step.Open opener, behind)) a h = absurd h
-steps_piece {n} {d} {s} {t} {a = tree} (Err e) a h = Fails-map (λ o. quant n tree t ≡ o) (Piece n d s) e (λ k p g. piece a g) h
+pub steps_piece : (n d : ℕ) (s : State) (u : Text) {t : State} {a : Tree} (r : Result (Step × declared.State) Error) → skipped n s ≡ rest u →
+    Atom n d (at s u) (done a t) → GivesPiece r (quant n a t) → StepsOn r n d s
+steps_piece n d s u (Ok (step.Piece tree, behind)) l a h = piece l a h
+steps_piece n d s u (Ok (step.Open opener, behind)) l a h = absurd h
+steps_piece n d s u {t} {a = tree} (Err e) l a h = Fails-map (λ o. quant n tree t ≡ o) (Piece n d s) e (λ k p g. piece l a g) h
+
+-- a fault of the layout before a piece is the piece's
+pub steps_layout : (n d : ℕ) (s : State) {p : ℕ} (e : Error) → e ≡ ParseError p UnclosedOpenParen → skipped n s ≡ open_comment p → Fails e (Piece n d s)
+steps_layout n d s e i l = rw i (layout_fault l)
 
 -- ---- what opens a group
 
 pub opens_fault : {n d p : ℕ} {s v : State} {k : Kind} {o : Opener} → Opens n d s o v → Alternation n (d + 1) v (fault k p) → Piece n d s (fault k p)
-opens_fault (capture e h) r = atom_fault (atom e (group_fault (inside_fault h r)))
+opens_fault (capture l e) r = atom_fault l (atom e (group_fault (inside_fault r)))
+opens_fault (scoped l e) r = atom_fault l (atom e (scope_fault (inside_fault r)))
 
 pub opens_unclosed : {n d : ℕ} {s v w : State} {r : Tree} {o : Opener} → Opens n d s o v → Alternation n (d + 1) v (done r w) →
     strip close_paren w.rest ≡ None → Piece n d s (fault unclosed_open_paren (place_of n w.rest))
-opens_unclosed (capture e h) r f = atom_fault (atom e (group_fault (unclosed h r f)))
+opens_unclosed (capture l e) r f = atom_fault l (atom e (group_fault (unclosed r f)))
+opens_unclosed (scoped l e) r f = atom_fault l (atom e (scope_fault (unclosed r f)))
 
+-- the state behind a closed group, where its inside ends before the text
+abbrev pub behind_group : Opener → State → Text → State
+behind_group o w u = record { flags = closed_flags o w.flags; rest = u }
+
+-- a closed group is an atom, behind the layout before it
 pub opens_closed : {n d : ℕ} {s v w : State} {u : Text} {r : Tree} {o : Opener} → Opens n d s o v → Alternation n (d + 1) v (done r w) →
-    strip close_paren w.rest ≡ Some u → Atom n d s (done (closed_tree o r) (at w u))
-opens_closed (capture e h) r f = atom e (a_group (inside h r f))
+    strip close_paren w.rest ≡ Some u → (t : Text) × (skipped n s ≡ rest t) × Atom n d (at s t) (done (closed_tree o r) (behind_group o w u))
+opens_closed (capture {u = t} l e) r f = (t, l, atom e (a_group (inside r f)))
+opens_closed (scoped {u = t} l e) r f = (t, l, atom e (a_scope (inside r f)))
 
 -- ---- what is read of the innermost group
 
-reading_new : (n d : ℕ) (s : State) (bs ps : List Expr) → bs ≡ [] → ps ≡ [] → Reading n d s bs ps s
+reading_new : (n d : ℕ) (s : State) (bs ps : List Tree) → bs ≡ [] → ps ≡ [] → Reading n d s bs ps s
 reading_new n d s bs ps e f = record {
   begin = s;
   read = [];
@@ -53,8 +69,8 @@ reading_new n d s bs ps e f = record {
   all = λ o b. rw (e, before-nil) b;
 }
 
-reading_piece : {n d : ℕ} {s t v : State} {r : Tree} {bs ps : List Expr} (cs qs : List Expr) → Reading n d s bs ps t → ends t.rest ≡ false →
-    Piece n d t (done r v) → cs ≡ bs → views qs ≡ views ps ++ solid (r ∷ []) → Reading n d s cs qs v
+reading_piece : {n d : ℕ} {s t v : State} {r : Tree} {bs ps : List Tree} (cs qs : List Tree) → Reading n d s bs ps t → ends t.rest ≡ false →
+    Piece n d t (done r v) → cs ≡ bs → qs ≡ ps ++ solid (r ∷ []) → Reading n d s cs qs v
 reading_piece {r} cs qs h e a i j = record {
   begin = h.begin;
   read = h.read ++ r ∷ [];
@@ -64,17 +80,17 @@ reading_piece {r} cs qs h e a i j = record {
 }
 
 -- the tree of the branch that is open
-abbrev joined : List Expr → Tree
-joined ps = one_or concat (views ps)
+abbrev joined : List Tree → Tree
+joined = one_or concat
 
 -- the open branch ends at t
-reading_branch : {n d : ℕ} {s t : State} {bs ps : List Expr} (h : Reading n d s bs ps t) → ends t.rest ≡ true → Branch n d h.begin (done (joined ps) t)
+reading_branch : {n d : ℕ} {s t : State} {bs ps : List Tree} (h : Reading n d s bs ps t) → ends t.rest ≡ true → Branch n d h.begin (done (joined ps) t)
 reading_branch {n} {d} {t} h e =
     let b = branch (h.branch (done [] t) (stop e)) in
     subst (λ x. Branch n d h.begin (done (one_or concat x) t)) (ap solid (append-nil h.read) ∙ h.same) b
 
-reading_bar : {n d : ℕ} {s t : State} {u : Text} {bs ps : List Expr} (cs qs : List Expr) → Reading n d s bs ps t → ends t.rest ≡ true →
-    strip bar t.rest ≡ Some u → views cs ≡ views bs ++ joined ps ∷ [] → qs ≡ [] → Reading n d s cs qs (at t u)
+reading_bar : {n d : ℕ} {s t : State} {u : Text} {bs ps : List Tree} (cs qs : List Tree) → Reading n d s bs ps t → ends t.rest ≡ true →
+    strip bar t.rest ≡ Some u → cs ≡ bs ++ joined ps ∷ [] → qs ≡ [] → Reading n d s cs qs (at t u)
 reading_bar {t} {u} cs qs h e f i j = record {
   begin = at t u;
   read = [];
@@ -83,11 +99,11 @@ reading_bar {t} {u} cs qs h e f i j = record {
   all = λ o b. rw (i, before-push) (h.all _ (more_any o (reading_branch h e) f b));
 }
 
-reading_end : {n d : ℕ} {s t : State} {bs ps : List Expr} → Reading n d s bs ps t → ends t.rest ≡ true → strip bar t.rest ≡ None →
-    Alternation n d s (done (choice (views bs ++ joined ps ∷ [])) t)
+reading_end : {n d : ℕ} {s t : State} {bs ps : List Tree} → Reading n d s bs ps t → ends t.rest ≡ true → strip bar t.rest ≡ None →
+    Alternation n d s (done (choice (bs ++ joined ps ∷ [])) t)
 reading_end h e f = alternation (h.all _ (last (reading_branch h e) f))
 
-reading_fault : {n d p : ℕ} {s t : State} {k : Kind} {bs ps : List Expr} → Reading n d s bs ps t → ends t.rest ≡ false → Piece n d t (fault k p) →
+reading_fault : {n d p : ℕ} {s t : State} {k : Kind} {bs ps : List Tree} → Reading n d s bs ps t → ends t.rest ≡ false → Piece n d t (fault k p) →
     Alternation n d s (fault k p)
 reading_fault {p} {k} h e a =
     alternation_fault (h.all (fault k p) (branch_fault (pieces_fault (h.branch (fault k p) (piece_fault e a)))))
@@ -122,7 +138,7 @@ record Outer (n : ℕ) (first : State) (gs : List Frame) (g : Frame) (o : Opener
   here : State
   deeper : d ≡ depth + 1
   levels : Levels n first gs g.opener depth start
-  reading : Reading n depth start g.branches.items g.pieces.items here
+  reading : Reading n depth start (trees g.branches) (trees g.pieces) here
   more : ends here.rest ≡ false
   opens : Opens n depth here o s
 
@@ -137,7 +153,7 @@ levels_pop {n} {first} gs g (inner {d} {s} {t} {frames} f i l h m j) e =
       here = t;
       deeper = refl;
       levels = subst (λ x. Levels n first gs x.opener d s) p.1 (subst (λ x. Levels n first x f.opener d s) p.0 l);
-      reading = subst (λ (x : Frame). Reading n d s x.branches.items x.pieces.items t) p.1 h;
+      reading = subst (λ (x : Frame). Reading n d s (trees x.branches) (trees x.pieces) t) p.1 h;
       more = m;
       opens = j;
     }
@@ -149,9 +165,9 @@ pub record Running (n : ℕ) (first : State) (stack : List Frame) (f : Frame) (t
   pub start : State
   pub is_depth : depth ≡ length stack
   pub levels : Levels n first stack f.opener depth start
-  pub reading : Reading n depth start f.branches.items f.pieces.items t
+  pub reading : Reading n depth start (trees f.branches) (trees f.pieces) t
 
-pub running_start : (n : ℕ) (first : State) (stack : List Frame) (f : Frame) → stack ≡ [] → f.branches.items ≡ [] → f.pieces.items ≡ [] →
+pub running_start : (n : ℕ) (first : State) (stack : List Frame) (f : Frame) → stack ≡ [] → trees f.branches ≡ [] → trees f.pieces ≡ [] →
     f.opener ≡ Top → Running n first stack f first
 running_start n first stack f e i j k = record {
   depth = 0;
@@ -166,8 +182,8 @@ pub running_fault : {n : ℕ} {first t : State} {stack : List Frame} {f : Frame}
 running_fault {n} {t} {p} {k} h e a = levels_fault h.levels (reading_fault h.reading e (subst (λ d. Piece n d t (fault k p)) (sym h.is_depth) a))
 
 pub running_piece : {n : ℕ} {first t v : State} {stack : List Frame} {f : Frame} {r : Tree} (g : Frame) → Running n first stack f t → ends t.rest ≡ false →
-    Piece n (length stack) t (done r v) → g.opener ≡ f.opener → g.branches.items ≡ f.branches.items →
-    views g.pieces.items ≡ views f.pieces.items ++ solid (r ∷ []) → Running n first stack g v
+    Piece n (length stack) t (done r v) → g.opener ≡ f.opener → trees g.branches ≡ trees f.branches →
+    trees g.pieces ≡ trees f.pieces ++ solid (r ∷ []) → Running n first stack g v
 running_piece {n} {t} {v} {r} g h e a i j k = record {
   depth = h.depth;
   start = h.start;
@@ -177,7 +193,7 @@ running_piece {n} {t} {v} {r} g h e a i j k = record {
 }
 
 pub running_open : {n : ℕ} {first t v : State} {stack : List Frame} {f : Frame} {o : Opener} (all : List Frame) (g : Frame) → Running n first stack f t →
-    ends t.rest ≡ false → Opens n (length stack) t o v → all ≡ stack ++ f ∷ [] → g.opener ≡ o → g.branches.items ≡ [] → g.pieces.items ≡ [] →
+    ends t.rest ≡ false → Opens n (length stack) t o v → all ≡ stack ++ f ∷ [] → g.opener ≡ o → trees g.branches ≡ [] → trees g.pieces ≡ [] →
     Running n first all g v
 running_open {n} {t} {v} {stack} {f} {o} all g h e a i j k l = record {
   depth = h.depth + 1;
@@ -188,8 +204,8 @@ running_open {n} {t} {v} {stack} {f} {o} all g h e a i j k l = record {
 }
 
 pub running_bar : {n : ℕ} {first t : State} {u : Text} {stack : List Frame} {f : Frame} (g : Frame) → Running n first stack f t → ends t.rest ≡ true →
-    strip bar t.rest ≡ Some u → g.opener ≡ f.opener → views g.branches.items ≡ views f.branches.items ++ joined f.pieces.items ∷ [] →
-    g.pieces.items ≡ [] → Running n first stack g (at t u)
+    strip bar t.rest ≡ Some u → g.opener ≡ f.opener → trees g.branches ≡ trees f.branches ++ joined (trees f.pieces) ∷ [] →
+    trees g.pieces ≡ [] → Running n first stack g (at t u)
 running_bar g h e a i j k = record {
   depth = h.depth;
   start = h.start;
@@ -199,7 +215,7 @@ running_bar g h e a i j k = record {
 }
 
 pub running_end : {n : ℕ} {first t : State} {stack : List Frame} {f : Frame} (r : Tree) → Running n first stack f t → ends t.rest ≡ true →
-    strip bar t.rest ≡ None → r ≡ choice (views f.branches.items ++ joined f.pieces.items ∷ []) → stack ≡ [] → Alternation n 0 first (done r t)
+    strip bar t.rest ≡ None → r ≡ choice (trees f.branches ++ joined (trees f.pieces) ∷ []) → stack ≡ [] → Alternation n 0 first (done r t)
 running_end {n} {first} {t} r h e a i j =
     let m = levels_none h.levels j in
     rw i (subst (λ s. Alternation n 0 s (done _ t)) m.1 (subst (λ d. Alternation n d h.start (done _ t)) m.0 (reading_end h.reading e a)))
@@ -215,7 +231,7 @@ pub record Closing (n : ℕ) (first : State) (stack : List Frame) (g : Frame) (o
 
 pub running_closing : {n : ℕ} {first t : State} {all : List Frame} {f : Frame} (stack : List Frame) (g : Frame) (r : Tree) (q : Opener) → q ≡ f.opener →
     Running n first all f t → ends t.rest ≡ true → strip bar t.rest ≡ None →
-    r ≡ choice (views f.branches.items ++ joined f.pieces.items ∷ []) → all ≡ stack ++ g ∷ [] → Closing n first stack g q r t
+    r ≡ choice (trees f.branches ++ joined (trees f.pieces) ∷ []) → all ≡ stack ++ g ∷ [] → Closing n first stack g q r t
 running_closing {n} {t} {f} stack g r q z h e a i j =
     let o = levels_pop stack g h.levels j in
     let m : o.depth ≡ length stack = omega (arith, o.deeper, h.is_depth, ap length j, length_push stack g) in

@@ -1,10 +1,11 @@
 -- How what a part comes to is what the whole comes to.
-use Rattle.std.proofs.Common.{◌≡◌, ℕ, Bool, true, false, if◌then◌else◌, List, [], ◌∷◌, ◌++◌, Some, Result, Ok, Err, IfOk, refl, ap, append_assoc}
+use Rattle.std.proofs.Common.{◌≡◌, ℕ, Bool, true, false, if◌then◌else◌, List, [], ◌∷◌, ◌++◌, Some, Result, Ok, Err, refl, ap, append_assoc}
 use Rattle.fancy_lex.specs.Fault.{Kind}
 use Rattle.fancy_lex.specs.Text.{Text, strip}
 use Rattle.fancy_lex.specs.declared.error.Error.{Error}
 use Rattle.fancy_lex.specs.declared.error.Error.TheVariants.{ParseError, OutOfMemory}
-use Rattle.fancy_syntax.specs.Ahead.{ends, bar}
+use Rattle.fancy_lex.specs.Characters.{bar}
+use Rattle.fancy_syntax.specs.Ahead.{ends}
 use Rattle.fancy_syntax.specs.Grammar.{Branch, Branches, more, more_fault, Piece, Pieces, next, next_fault}
 use Rattle.fancy_syntax.specs.Join.{is_empty, solid}
 use Rattle.fancy_syntax.specs.Machine.{before}

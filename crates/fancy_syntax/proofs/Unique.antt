@@ -1,11 +1,32 @@
 -- From a start there is at most one outcome.
-use Rattle.std.proofs.Common.{◌≡◌, ℕ, refl, subst, ap, arith, List}
+use Rattle.std.proofs.Common.{◌≡◌, ℕ, refl, sym, subst, ap, ◌∙◌, List}
 use Rattle.fancy_lex.specs.Text.{Text, place_of}
 use Rattle.fancy_lex.specs.declared.flags.Flags.{Flags}
-use Rattle.fancy_syntax.specs.Ahead.{Ahead}
-use Rattle.fancy_syntax.specs.Grammar.{Alternation, alternation, alternation_fault, Branches, last, more, branch_fault, more_fault, Branch, branch, pieces_fault, Pieces, stop, next, piece_fault, next_fault, Piece, piece, atom_fault, Atom, atom, AtomOf, a_nothing, a_leaf, a_group, group_fault, headed_fault, headed_too_deep, Inside, inside, too_deep, inside_fault, unclosed, Whole, whole, whole_fault, left_over, unread_mode}
-use Rattle.fancy_syntax.specs.State.{State, Outcome}
+use Rattle.fancy_lex.specs.Layout.{rest, fault as open_comment}
+use Rattle.fancy_syntax.specs.Ahead.{Ahead, skipped}
+use Rattle.fancy_syntax.specs.Grammar.{Alternation, alternation, alternation_fault, Branches, last, more, branch_fault, more_fault, Branch, branch, pieces_fault, Pieces, stop, next, piece_fault, next_fault, Piece, piece, layout_fault, atom_fault, Atom, atom, AtomOf, a_nothing, a_leaf, a_group, group_fault, a_scope, scope_fault, Inside, inside, inside_fault, unclosed, Whole, whole, whole_fault, left_over, unread_mode}
+use Rattle.fancy_syntax.specs.State.{State, at, Outcome}
 use Rattle.fancy_syntax.specs.Tree.{Tree}
+
+-- ---- layout is a function
+
+same_skipped : (n : ℕ) {s z : State} → s ≡ z → skipped n s ≡ skipped n z
+same_skipped n e = ap (skipped n) e
+
+rest_same : (u v : Text) → rest u ≡ rest v → u ≡ v
+rest_same u v e = cc
+
+rest_or_fault : (u : Text) (p : ℕ) → rest u ≡ open_comment p → ⊥
+rest_or_fault u p e = cc
+
+same_layout : (n : ℕ) {s z : State} {u v : Text} → skipped n s ≡ rest u → skipped n z ≡ rest v → s ≡ z → u ≡ v
+same_layout n {u} {v} l m e = rest_same u v (sym l ∙ same_skipped n e ∙ m)
+
+layout_or_fault : (n : ℕ) {s z : State} {u : Text} {p : ℕ} → skipped n s ≡ rest u → skipped n z ≡ open_comment p → s ≡ z → ⊥
+layout_or_fault n {u} {p} l m e = rest_or_fault u p (sym l ∙ same_skipped n e ∙ m)
+
+ap_at : {s z : State} {u v : Text} → s ≡ z → u ≡ v → at s u ≡ at z v
+ap_at e i = cc
 
 -- by induction on both derivations: an earlier part has one outcome, which says which rule reads on
 mutual
@@ -58,10 +79,16 @@ mutual
   pieces_unique (next_fault f a m) (next_fault g b n) e = let h = piece_unique a b e in let i = pieces_unique m n cc in cc
 
   piece_unique : {n d : ℕ} {s z : State} {o q : Outcome Tree} → Piece n d s o → Piece n d z q → s ≡ z → o ≡ q
-  piece_unique (piece a f) (piece b g) e = let h = atom_unique a b e in cc
-  piece_unique (piece a f) (atom_fault b) e = let h = atom_unique a b e in cc
-  piece_unique (atom_fault a) (piece b g) e = let h = atom_unique a b e in cc
-  piece_unique (atom_fault a) (atom_fault b) e = let h = atom_unique a b e in cc
+  piece_unique (piece {n} l a f) (piece m b g) e =
+      let i = same_layout n l m e in let h = atom_unique a b (ap_at e i) in cc
+  piece_unique (piece {n} l a f) (layout_fault m) e = absurd (layout_or_fault n l m e)
+  piece_unique (piece {n} l a f) (atom_fault m b) e = let i = same_layout n l m e in let h = atom_unique a b (ap_at e i) in cc
+  piece_unique (layout_fault {n} l) (piece m b g) e = absurd (layout_or_fault n m l (sym e))
+  piece_unique (layout_fault {n} l) (layout_fault m) e = let h = same_skipped n e in cc
+  piece_unique (layout_fault {n} l) (atom_fault m b) e = absurd (layout_or_fault n m l (sym e))
+  piece_unique (atom_fault {n} l a) (piece m b g) e = let i = same_layout n l m e in let h = atom_unique a b (ap_at e i) in cc
+  piece_unique (atom_fault {n} l a) (layout_fault m) e = absurd (layout_or_fault n l m e)
+  piece_unique (atom_fault {n} l a) (atom_fault m b) e = let i = same_layout n l m e in let h = atom_unique a b (ap_at e i) in h
 
   atom_unique : {n d : ℕ} {s z : State} {o q : Outcome Tree} → Atom n d s o → Atom n d z q → s ≡ z → o ≡ q
   atom_unique (atom {n} {d} {k} f a) (atom {s = z} {o = q} {k = l} g b) e =
@@ -70,32 +97,25 @@ mutual
   of_unique : {k : Ahead} {n d : ℕ} {s z : State} {o q : Outcome Tree} → AtomOf k n d s o → AtomOf k n d z q → s ≡ z → o ≡ q
   of_unique a_nothing a_nothing e = cc
   of_unique a_leaf a_leaf e = cc
-  of_unique (a_group {n} a) (a_group b) e = let p = ap (λ (x : State). place_of n x.rest) e in let h = inside_unique a b p cc in cc
-  of_unique (a_group {n} a) (group_fault b) e = let p = ap (λ (x : State). place_of n x.rest) e in let h = inside_unique a b p cc in cc
-  of_unique (group_fault {n} a) (a_group b) e = let p = ap (λ (x : State). place_of n x.rest) e in let h = inside_unique a b p cc in cc
-  of_unique (group_fault {n} a) (group_fault b) e = let p = ap (λ (x : State). place_of n x.rest) e in let h = inside_unique a b p cc in cc
-  of_unique (headed_fault l) (headed_fault m) e = cc
-  of_unique (headed_fault l) (headed_too_deep m) e = absurd (omega arith)
-  of_unique (headed_too_deep l) (headed_fault m) e = absurd (omega arith)
-  of_unique (headed_too_deep {n} l) (headed_too_deep m) e = let p = ap (λ (x : State). place_of n x.rest) e in cc
+  of_unique (a_group {n} a) (a_group b) e = let p = ap (λ (x : State). place_of n x.rest) e in let h = inside_unique a b cc in cc
+  of_unique (a_group {n} a) (group_fault b) e = let h = inside_unique a b cc in cc
+  of_unique (group_fault {n} a) (a_group b) e = let h = inside_unique a b cc in cc
+  of_unique (group_fault {n} a) (group_fault b) e = let h = inside_unique a b cc in cc
+  of_unique (a_scope a) (a_scope b) e = let h = inside_unique a b refl in cc
+  of_unique (a_scope a) (scope_fault b) e = let h = inside_unique a b refl in cc
+  of_unique (scope_fault a) (a_scope b) e = let h = inside_unique a b refl in cc
+  of_unique (scope_fault a) (scope_fault b) e = let h = inside_unique a b refl in cc
 
-  inside_unique : {n d p r : ℕ} {s z : State} {o q : Outcome Tree} → Inside n d p s o → Inside n d r z q → p ≡ r → s ≡ z → o ≡ q
-  inside_unique (inside l a f) (inside m b g) i e = let h = alternation_unique a b e in cc
-  inside_unique (inside l a f) (too_deep m) i e = absurd (omega arith)
-  inside_unique (inside l a f) (inside_fault m b) i e = let h = alternation_unique a b e in cc
-  inside_unique (inside l a f) (unclosed m b g) i e = let h = alternation_unique a b e in cc
-  inside_unique (too_deep l) (inside m b g) i e = absurd (omega arith)
-  inside_unique (too_deep l) (too_deep m) i e = cc
-  inside_unique (too_deep l) (inside_fault m b) i e = absurd (omega arith)
-  inside_unique (too_deep l) (unclosed m b g) i e = absurd (omega arith)
-  inside_unique (inside_fault l a) (inside m b g) i e = let h = alternation_unique a b e in cc
-  inside_unique (inside_fault l a) (too_deep m) i e = absurd (omega arith)
-  inside_unique (inside_fault l a) (inside_fault m b) i e = alternation_unique a b e
-  inside_unique (inside_fault l a) (unclosed m b g) i e = let h = alternation_unique a b e in cc
-  inside_unique (unclosed l a f) (inside m b g) i e = let h = alternation_unique a b e in cc
-  inside_unique (unclosed l a f) (too_deep m) i e = absurd (omega arith)
-  inside_unique (unclosed l a f) (inside_fault m b) i e = let h = alternation_unique a b e in cc
-  inside_unique (unclosed {n} l a f) (unclosed m b g) i e = let h = alternation_unique a b e in cc
+  inside_unique : {n d : ℕ} {s z : State} {o q : Outcome Tree} → Inside n d s o → Inside n d z q → s ≡ z → o ≡ q
+  inside_unique (inside a f) (inside b g) e = let h = alternation_unique a b e in cc
+  inside_unique (inside a f) (inside_fault b) e = let h = alternation_unique a b e in cc
+  inside_unique (inside a f) (unclosed b g) e = let h = alternation_unique a b e in cc
+  inside_unique (inside_fault a) (inside b g) e = let h = alternation_unique a b e in cc
+  inside_unique (inside_fault a) (inside_fault b) e = alternation_unique a b e
+  inside_unique (inside_fault a) (unclosed b g) e = let h = alternation_unique a b e in cc
+  inside_unique (unclosed a f) (inside b g) e = let h = alternation_unique a b e in cc
+  inside_unique (unclosed a f) (inside_fault b) e = let h = alternation_unique a b e in cc
+  inside_unique (unclosed {n} a f) (unclosed b g) e = let h = alternation_unique a b e in cc
 
 pub whole_unique : {f : Flags} {text : Text} {o q : Outcome Tree} → Whole f text o → Whole f text q → o ≡ q
 whole_unique (whole m a f) (whole k b g) = alternation_unique a b refl

@@ -1,91 +1,124 @@
 -- What stands before an atom.
-use Rattle.std.specs.Prelude.{ℕ, Bool, true, false, ◌==◌, ◌||◌, ◌&&◌, List, [], ◌∷◌, if◌then◌else◌, codes}
-use Rattle.fancy_lex.specs.Fault.{Kind, general_parse_error}
+use Rattle.std.specs.Prelude.{ℕ, ◌+◌, Bool, true, false, ◌==◌, ◌||◌, ◌&&◌, nat_le, [], ◌∷◌, if◌then◌else◌}
+use Prim.Native.Char.{code}
+use Rattle.fancy_lex.specs.Characters.{◌∈◌}
+use Rattle.fancy_lex.specs.Class.{class}
+use Rattle.fancy_lex.specs.Escape.{escape}
+use Rattle.fancy_lex.specs.Escaped as escaped
+use Rattle.fancy_lex.specs.Escaped.{Escape}
+use Rattle.fancy_lex.specs.Fault.{Kind, not_read_yet, recursion_exceeded, unclosed_open_paren}
+use Rattle.fancy_lex.specs.Layout.{layout, Skipped, rest, fault as open_comment}
+use Rattle.fancy_lex.specs.Reading.{Reading, gives, fails, no_memory}
 use Rattle.fancy_lex.specs.Text.{Text, place_of}
+use Rattle.fancy_lex.specs.declared.escape.Assertion.{Assertion}
+use Rattle.fancy_lex.specs.declared.escape.Assertion.TheVariants.{StartText, EndText, StartLine, EndLine}
+use Rattle.fancy_lex.specs.declared.flags.Flags.{Flags}
+use Rattle.fancy_parts.specs.FlagLetters.{Letters, letters, setting, bad, scope as scoped}
 use Rattle.fancy_syntax.specs.State.{State, at, Outcome, done, fault}
-use Rattle.fancy_syntax.specs.Tree.{Tree, literal}
+use Rattle.fancy_syntax.specs.Tree.{Tree, empty, any, assertion, general_newline, literal, literal_bytes, delegate, keep_out, continue_from_previous_match_end}
 
-abbrev pub open_paren : ℕ
-open_paren = 40
+-- groups nest less deep than this
+abbrev pub max_depth : ℕ
+max_depth = 64
 
-abbrev pub close_paren : ℕ
-close_paren = 41
-
-abbrev pub bar : ℕ
-bar = 124
-
-abbrev pub question_mark : ℕ
-question_mark = 63
-
-abbrev pub star : ℕ
-star = 42
-
-abbrev pub plus : ℕ
-plus = 43
-
-abbrev pub hash : ℕ
-hash = 35
-
-abbrev pub dot : ℕ
-dot = 46
-
-abbrev pub caret : ℕ
-caret = 94
-
-abbrev pub dollar : ℕ
-dollar = 36
-
-abbrev pub backslash : ℕ
-backslash = 92
-
-abbrev pub open_bracket : ℕ
-open_bracket = 91
-
--- the kind of the fault that stands in for what is not read yet
-abbrev pub not_read_yet : Kind
-not_read_yet = general_parse_error (codes "not read yet")
+-- the layout at the front of the state's text
+abbrev pub skipped : ℕ → State → Skipped
+skipped n s = layout n s.flags.ignore_space s.rest
 
 -- a branch ends here: at the end, a bar or a closing parenthesis
 abbrev pub ends : Text → Bool
 ends [] = true
-ends (c ∷ t) = c == bar || c == close_paren
+ends (c ∷ t) = c ∈ "|)"
 
 -- what stands before an atom decides its rule
 pub data Ahead : Type 0 where
   nothing : Ahead  -- no atom: it is Empty, and takes no character
-  leaf : Outcome Tree → Ahead  -- an atom that holds no other tree, or its fault
-  group : Text → Ahead  -- a group without a head, whose inside begins with the text
-  headed : Text → Ahead  -- a group whose head begins with the text
+  leaf : Outcome Tree → Ahead  -- an atom that holds no branches, or its fault
+  group : Text → Ahead  -- a capturing group, whose inside begins with the text
+  scope : Flags → Text → Ahead  -- a group of flags, with those that hold inside, where the text begins
+
+-- the fault of a group, or of what is not read yet
+abbrev pub faulty : Kind → ℕ → Ahead
+faulty k p = leaf (fault k p)
+
+-- what `^` stands for: under MULTI the start of each line
+abbrev pub start_anchor : Flags → Assertion
+start_anchor f = if f.multi then StartLine f.crlf else StartText
+
+-- what `$` stands for: under MULTI the end of each line
+abbrev pub end_anchor : Flags → Assertion
+end_anchor f = if f.multi then EndLine f.crlf else EndText
+
+-- the node of an escape's leaf
+abbrev pub leaf_node : Escape → Tree
+leaf_node (escaped.literal c casei) = literal (c ∷ []) casei
+leaf_node (escaped.literal_bytes b) = literal_bytes (b ∷ [])
+leaf_node (escaped.any newline crlf) = any newline crlf
+leaf_node (escaped.assertion a) = assertion a
+leaf_node (escaped.general_newline unicode) = general_newline unicode
+leaf_node escaped.keep_out = keep_out
+leaf_node escaped.continue_from_previous_match_end = continue_from_previous_match_end
+leaf_node (escaped.delegate t casei) = delegate t casei
+
+-- what a reader comes to, as the outcome of a leaf; no definition of a reader says that memory ran out
+abbrev pub leaf_outcome : {A : Type 0} → (A → Tree) → State → Reading A → Outcome Tree
+leaf_outcome node s (gives a t) = done (node a) (at s t)
+leaf_outcome node s (fails e) = fault e.kind e.place
+leaf_outcome node s no_memory = fault not_read_yet 0
+
+-- an atom of one character, an escape or a class
+abbrev pub leaf_of : ℕ → State → ℕ → Text → Outcome Tree
+leaf_of n s c t =
+    if c == code "." then done (any s.flags.dotnl s.flags.crlf) (at s t)
+    else if c == code "^" then done (assertion (start_anchor s.flags)) (at s t)
+    else if c == code "$" then done (assertion (end_anchor s.flags)) (at s t)
+    else if c == code "\\" then leaf_outcome leaf_node s (escape n s.flags false (place_of n (c ∷ t)) t)
+    else if c == code "[" then leaf_outcome (λ w. delegate w s.flags.casei) s (class n s.flags t)
+    else done (literal (c ∷ []) s.flags.casei) (at s t)
 
 -- before these the atom is Empty; the end is another such place
 abbrev pub is_before_nothing : ℕ → Bool
-is_before_nothing c = c == plus || c == star || c == question_mark || c == bar || c == close_paren
+is_before_nothing c = c ∈ "+*?|)"
 
--- atoms that begin with these are not read yet
-abbrev pub is_unread : ℕ → Bool
-is_unread c = c == dot || c == caret || c == dollar || c == backslash || c == open_bracket
+-- heads of groups that are not read yet: one of these characters, or `P<`, `P=` and `P>`
+abbrev pub is_later_mark : ℕ → Bool
+is_later_mark c = c ∈ "=!<'~>("
 
--- behind a question mark that stands right behind a parenthesis; a comment is not read yet
-abbrev pub question_ahead : ℕ → Text → Text → Ahead
-question_ahead n t [] = headed t
-question_ahead n t (c ∷ u) = if c == hash then leaf (fault not_read_yet (place_of n t)) else headed t
+abbrev pub is_later_head : Text → Bool
+is_later_head [] = false
+is_later_head (c ∷ []) = is_later_mark c
+is_later_head (c ∷ d ∷ t) = is_later_mark c || (c == code "P" && d ∈ "<=>")
 
--- behind a parenthesis
-abbrev pub paren_ahead : ℕ → Text → Ahead
-paren_ahead n [] = group []
-paren_ahead n (c ∷ t) =
-    if c == question_mark then question_ahead n (c ∷ t) t
-    else if c == star then headed (c ∷ t)
+-- a flag group, whose letters were read
+abbrev pub flags_ahead : Letters → Ahead
+flags_ahead (setting f u) = leaf (done empty (record { flags = f; rest = u }))
+flags_ahead (scoped f u) = scope f u
+flags_ahead (bad k p) = faulty k p
+
+-- behind the question mark of a group's head
+abbrev pub question_ahead : ℕ → State → Text → Ahead
+question_ahead n s t = if is_later_head t then faulty not_read_yet (place_of n t) else flags_ahead (letters n s.flags t)
+
+-- behind the parenthesis and layout: the head of the group, if it has one
+abbrev pub head_ahead : ℕ → State → Text → Ahead
+head_ahead n s [] = group []
+head_ahead n s (c ∷ t) =
+    if c == code "?" then question_ahead n s t
+    else if c == code "*" then faulty not_read_yet (place_of n (c ∷ t))
     else group (c ∷ t)
 
--- what stands before an atom in a pattern of n bytes
-abbrev pub ahead_of : ℕ → State → Text → Ahead
-ahead_of n s [] = nothing
-ahead_of n s (c ∷ t) =
-    if c == open_paren then paren_ahead n t
-    else if is_before_nothing c then nothing
-    else if is_unread c then leaf (fault not_read_yet (place_of n (c ∷ t)))
-    else leaf (done (literal (c ∷ []) s.flags.casei) (at s t))
+abbrev pub behind_layout : ℕ → State → Skipped → Ahead
+behind_layout n s (rest u) = head_ahead n s u
+behind_layout n s (open_comment p) = faulty unclosed_open_paren p
 
-unfoldable pub ahead : ℕ → State → Ahead
-ahead n s = ahead_of n s s.rest
+-- what stands before an atom in a pattern of n bytes, inside d groups
+abbrev pub ahead_of : ℕ → ℕ → State → Text → Ahead
+ahead_of n d s [] = nothing
+ahead_of n d s (c ∷ t) =
+    if c == code "(" then (
+    if nat_le max_depth (d + 1) then faulty recursion_exceeded (place_of n (c ∷ t)) else behind_layout n s (skipped n (at s t)))
+    else if is_before_nothing c then nothing
+    else leaf (leaf_of n s c t)
+
+unfoldable pub ahead : ℕ → ℕ → State → Ahead
+ahead n d s = ahead_of n d s s.rest

@@ -1,5 +1,6 @@
 -- What is answered for a text.
-use Rattle.std.specs.Prelude.{◌≡◌, ℕ, ◌+◌, ◌≤◌, map}
+use Rattle.std.specs.Prelude.{◌≡◌, ℕ, ◌+◌, ◌≤◌, List, map, String, Vec}
+use Rattle.std.specs.declared.alloc.Global.{Global}
 use Rattle.fancy_lex.specs.Text.{Text, text_of}
 use Rattle.fancy_lex.specs.declared.error.Error.{Error}
 use Rattle.fancy_lex.specs.declared.error.Error.TheVariants.{ParseError, OutOfMemory}
@@ -10,11 +11,15 @@ use Rattle.fancy_syntax.specs.Resolved.{resolved}
 use Rattle.fancy_syntax.specs.Tree.{Tree}
 use Rattle.fancy_syntax.specs.declared.tree.ExprTree.{ExprTree}
 
+-- a name with the numbers of its groups
+abbrev pub named : String Global × Vec ℕ Global → Text × List ℕ
+named (name, numbers) = (text_of name, numbers.items)
+
 -- what an answer says beside its tree
 abbrev pub marks_of : ExprTree → Marks
 marks_of t = record {
   backrefs = t.backrefs.keys;
-  named_groups = map (λ e. (text_of e.0, e.1.items)) t.named_groups.entries;
+  named_groups = map named t.named_groups.entries;
   numeric_capture_group_references = t.numeric_capture_group_references;
   contains_subroutines = t.contains_subroutines;
   self_recursive = t.self_recursive;

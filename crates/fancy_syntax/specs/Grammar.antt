@@ -1,19 +1,17 @@
 -- The grammar: what each production reads from a state, in a pattern of n bytes and at a depth of open groups.
 -- A production of m parts has a rule for what it reads, and one for the fault of each part.
-use Rattle.std.specs.Prelude.{◌≡◌, ℕ, ◌+◌, ◌<◌, ◌≤◌, Bool, true, false, List, [], ◌∷◌, Option, Some, None}
+use Rattle.std.specs.Prelude.{◌≡◌, ℕ, ◌+◌, Bool, true, false, List, [], ◌∷◌, Some, None}
 use Rattle.std.specs.Prelude.{codes, ◌||◌}
-use Rattle.fancy_lex.specs.Fault.{Kind, general_parse_error, recursion_exceeded, unclosed_open_paren}
+use Rattle.fancy_lex.specs.Characters.{bar, close_paren}
+use Rattle.fancy_lex.specs.Fault.{Kind, general_parse_error, not_read_yet, unclosed_open_paren}
+use Rattle.fancy_lex.specs.Layout.{rest, fault as open_comment}
 use Rattle.fancy_lex.specs.Text.{Text, bytes, place_of, strip}
 use Rattle.fancy_lex.specs.declared.flags.Flags.{Flags}
-use Rattle.fancy_syntax.specs.Ahead.{Ahead, nothing, leaf, group, headed, ahead, ends, bar, close_paren, not_read_yet}
+use Rattle.fancy_syntax.specs.Ahead.{Ahead, nothing, leaf, group, scope, ahead, ends, skipped}
 use Rattle.fancy_syntax.specs.Join.{join, choice}
 use Rattle.fancy_syntax.specs.Quantified.{quant}
 use Rattle.fancy_syntax.specs.State.{State, at, Outcome, done, fault}
 use Rattle.fancy_syntax.specs.Tree.{Tree, empty, ast_node, ast_group}
-
--- groups nest less deep than this
-abbrev pub max_depth : ℕ
-max_depth = 64
 
 mutual
   -- branches with bars between
@@ -42,38 +40,40 @@ mutual
     next_fault : {n d p : ℕ} {s t : State} {r : Tree} {k : Kind} → ends s.rest ≡ false → Piece n d s (done r t) →
         Pieces n d t (fault k p) → Pieces n d s (fault k p)
 
-  -- an atom under the quantifier that follows it
+  -- layout, and an atom under the quantifier that follows it
   pub data Piece : ℕ → ℕ → State → Outcome Tree → Type 0 where
-    piece : {n d : ℕ} {s t : State} {a : Tree} {o : Outcome Tree} → Atom n d s (done a t) → quant n a t ≡ o → Piece n d s o
-    atom_fault : {n d p : ℕ} {s : State} {k : Kind} → Atom n d s (fault k p) → Piece n d s (fault k p)
+    piece : {n d : ℕ} {s t : State} {u : Text} {a : Tree} {o : Outcome Tree} → skipped n s ≡ rest u → Atom n d (at s u) (done a t) →
+        quant n a t ≡ o → Piece n d s o
+    layout_fault : {n d p : ℕ} {s : State} → skipped n s ≡ open_comment p → Piece n d s (fault unclosed_open_paren p)
+    atom_fault : {n d p : ℕ} {s : State} {u : Text} {k : Kind} → skipped n s ≡ rest u → Atom n d (at s u) (fault k p) → Piece n d s (fault k p)
 
   -- what stands ahead decides which rule of an atom applies
   pub data Atom : ℕ → ℕ → State → Outcome Tree → Type 0 where
-    atom : {n d : ℕ} {s : State} {o : Outcome Tree} {k : Ahead} → ahead n s ≡ k → AtomOf k n d s o → Atom n d s o
+    atom : {n d : ℕ} {s : State} {o : Outcome Tree} {k : Ahead} → ahead n d s ≡ k → AtomOf k n d s o → Atom n d s o
 
   pub data AtomOf : Ahead → ℕ → ℕ → State → Outcome Tree → Type 0 where
     a_nothing : {n d : ℕ} {s : State} → AtomOf nothing n d s (done empty s)
     a_leaf : {n d : ℕ} {s : State} {o : Outcome Tree} → AtomOf (leaf o) n d s o
-    a_group : {n d : ℕ} {s v : State} {t : Text} {r : Tree} → Inside n d (place_of n s.rest) (at s t) (done r v) →
+    a_group : {n d : ℕ} {s v : State} {t : Text} {r : Tree} → Inside n d (at s t) (done r v) →
         AtomOf (group t) n d s (done (ast_node (ast_group None r) (place_of n s.rest)) v)
-    group_fault : {n d p : ℕ} {s : State} {t : Text} {k : Kind} → Inside n d (place_of n s.rest) (at s t) (fault k p) →
-        AtomOf (group t) n d s (fault k p)
-    headed_fault : {n d : ℕ} {s : State} {t : Text} → d + 1 < max_depth → AtomOf (headed t) n d s (fault not_read_yet (place_of n t))
-    headed_too_deep : {n d : ℕ} {s : State} {t : Text} → max_depth ≤ d + 1 →
-        AtomOf (headed t) n d s (fault recursion_exceeded (place_of n s.rest))
+    group_fault : {n d p : ℕ} {s : State} {t : Text} {k : Kind} → Inside n d (at s t) (fault k p) → AtomOf (group t) n d s (fault k p)
+    -- the flags from before a group of flags hold again behind it
+    a_scope : {n d : ℕ} {f : Flags} {s v : State} {t : Text} {r : Tree} → Inside n d (record { flags = f; rest = t }) (done r v) →
+        AtomOf (scope f t) n d s (done r (record v { flags = s.flags }))
+    scope_fault : {n d p : ℕ} {f : Flags} {s : State} {t : Text} {k : Kind} → Inside n d (record { flags = f; rest = t }) (fault k p) →
+        AtomOf (scope f t) n d s (fault k p)
 
-  -- the inside of a group whose parenthesis stands at the place q, through the closing one
-  pub data Inside : ℕ → ℕ → ℕ → State → Outcome Tree → Type 0 where
-    inside : {n d q : ℕ} {s v : State} {u : Text} {r : Tree} → d + 1 < max_depth → Alternation n (d + 1) s (done r v) →
-        strip close_paren v.rest ≡ Some u → Inside n d q s (done r (at v u))
-    too_deep : {n d q : ℕ} {s : State} → max_depth ≤ d + 1 → Inside n d q s (fault recursion_exceeded q)
-    inside_fault : {n d p q : ℕ} {s : State} {k : Kind} → d + 1 < max_depth → Alternation n (d + 1) s (fault k p) → Inside n d q s (fault k p)
-    unclosed : {n d q : ℕ} {s v : State} {r : Tree} → d + 1 < max_depth → Alternation n (d + 1) s (done r v) →
-        strip close_paren v.rest ≡ None → Inside n d q s (fault unclosed_open_paren (place_of n v.rest))
+  -- the inside of a group, one level deeper, through its closing parenthesis
+  pub data Inside : ℕ → ℕ → State → Outcome Tree → Type 0 where
+    inside : {n d : ℕ} {s v : State} {u : Text} {r : Tree} → Alternation n (d + 1) s (done r v) → strip close_paren v.rest ≡ Some u →
+        Inside n d s (done r (at v u))
+    inside_fault : {n d p : ℕ} {s : State} {k : Kind} → Alternation n (d + 1) s (fault k p) → Inside n d s (fault k p)
+    unclosed : {n d : ℕ} {s v : State} {r : Tree} → Alternation n (d + 1) s (done r v) → strip close_paren v.rest ≡ None →
+        Inside n d s (fault unclosed_open_paren (place_of n v.rest))
 
 -- the flags with which nothing is read yet
 abbrev pub is_unread_mode : Flags → Bool
-is_unread_mode f = f.ignore_space || f.oniguruma_mode || f.ignore_numbered_groups
+is_unread_mode f = f.oniguruma_mode || f.ignore_numbered_groups
 
 -- the state before a whole text
 abbrev pub start : Flags → Text → State

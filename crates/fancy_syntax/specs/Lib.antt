@@ -7,11 +7,15 @@ pub mod Join
 pub mod Loans
 pub mod Machine
 pub mod Marks
+pub mod Normal
 pub mod Openings
 pub mod Parsed
+pub mod Printable
+pub mod Printed
 pub mod Quantified
 pub mod Reads
 pub mod Resolved
+pub mod Row
 pub mod Same
 pub mod SameLaws
 pub mod Slices

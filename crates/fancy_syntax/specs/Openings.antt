@@ -1,5 +1,5 @@
 -- The capturing groups of a raw tree, and their numbers.
-use Rattle.std.specs.Prelude.{ℕ, Bool, true, false, ◌||◌, List, [], ◌∷◌, ◌++◌, Option, Some, None, if◌then◌else◌}
+use Rattle.std.specs.Prelude.{ℕ, List, [], ◌∷◌, ◌++◌, Option}
 use Rattle.fancy_lex.specs.Text.{Text}
 use Rattle.fancy_syntax.specs.Tree.{Tree, Trees, no_trees, more_trees, concat, alt, group, look_around, repeat, atomic_group, conditional, absent, define_group, ast_node, AbsentTree, repeater, expression, stopper, clear, AstTree, ast_group}
 

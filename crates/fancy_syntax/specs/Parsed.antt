@@ -1,7 +1,11 @@
 -- How the answers of the parser's readers stand to the grammar's.
-use Rattle.std.specs.Prelude.{◌≡◌, ℕ, List, Option, Some, None, chars, Result, MatchResult}
+use Rattle.std.specs.Prelude.{◌≡◌, ℕ, ◌+◌, ◌<◌, List, Option, Some, None, chars, length, Result, MatchResult, ⊤}
+use Rattle.std.specs.Borrow.{Bor}
 use Rattle.fancy_lex.specs.declared.error.Error.{Error}
-use Rattle.fancy_syntax.specs.Ahead.{Ahead, nothing, leaf, group, headed}
+use Rattle.fancy_syntax.specs.Ahead.{Ahead, nothing, leaf, group, scope, max_depth}
+use Rattle.fancy_lex.specs.Layout.{Skipped, rest, fault as open_comment}
+use Rattle.fancy_lex.specs.declared.error.Error.TheVariants.{ParseError}
+use Rattle.fancy_lex.specs.declared.error.ParseError.TheVariants.{UnclosedOpenParen}
 use Rattle.fancy_syntax.specs.Reads.{Fails}
 use Rattle.fancy_syntax.specs.State as spec
 use Rattle.fancy_syntax.specs.State.{Outcome, done}
@@ -9,7 +13,7 @@ use Rattle.fancy_syntax.specs.Tree.{Tree}
 use Rattle.fancy_syntax.specs.View.{view}
 use Rattle.fancy_syntax.specs.declared.expr.Expr.{Expr}
 use Rattle.fancy_syntax.specs.declared.grammar.ahead.Ahead as declared
-use Rattle.fancy_syntax.specs.declared.grammar.ahead.Ahead.TheVariants.{Nothing, Leaf, Group, Headed}
+use Rattle.fancy_syntax.specs.declared.grammar.ahead.Ahead.TheVariants.{Nothing, Leaf, Group, Scope}
 use Rattle.fancy_syntax.specs.declared.grammar.state.State.{State}
 
 -- the state, with its text as a list of characters
@@ -28,7 +32,7 @@ abbrev pub view_ahead : declared.Ahead → Ahead
 view_ahead Nothing = nothing
 view_ahead (Leaf atom behind) = leaf (done (view atom) (state behind))
 view_ahead (Group inside) = group (chars inside.now)
-view_ahead (Headed head) = headed (chars head.now)
+view_ahead (Scope inside) = scope inside.flags (chars inside.rest.now)
 
 -- what the parser sees ahead is what stands there
 abbrev pub Sees : Result declared.Ahead Error → Ahead → Type 0
@@ -39,4 +43,19 @@ abbrev pub behind : declared.Ahead → Option (List ℕ)
 behind Nothing = None
 behind (Leaf atom next) = Some next.rest.now
 behind (Group inside) = Some inside.now
-behind (Headed head) = Some head.now
+behind (Scope inside) = Some inside.rest.now
+
+-- the text behind the layout, or the fault of an open comment in it
+abbrev pub Skips : Result (Bor (List ℕ)) Error → Skipped → Type 0
+Skips r s = MatchResult r (λ t. s ≡ rest (chars t.now)) (λ e. (p : ℕ) × (e ≡ ParseError p UnclosedOpenParen) × (s ≡ open_comment p))
+
+-- where no byte was taken, the text is the same
+abbrev pub IsUnmoved : List ℕ → List ℕ → Type 0
+IsUnmoved t u = length u ≡ length t → chars u ≡ chars t
+
+-- a group is seen only where one may open inside d groups
+abbrev pub IsBelow : declared.Ahead → ℕ → Type 0
+IsBelow Nothing d = ⊤
+IsBelow (Leaf atom next) d = ⊤
+IsBelow (Group inside) d = d + 1 < max_depth
+IsBelow (Scope inside) d = d + 1 < max_depth

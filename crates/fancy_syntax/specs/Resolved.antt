@@ -1,6 +1,5 @@
 -- The tree that is answered for a raw one: its capturing groups are numbered by their opening parentheses.
-use Rattle.std.specs.Prelude.{ℕ}
-use Rattle.fancy_syntax.specs.Tree.{Tree, Trees, no_trees, more_trees, concat, alt, group, look_around, repeat, atomic_group, conditional, absent, define_group, ast_node, AbsentTree, repeater, expression, stopper, clear, AstTree, ast_group}
+use Rattle.fancy_syntax.specs.Tree.{Tree, Trees, no_trees, more_trees, concat, alt, group, look_around, repeat, atomic_group, conditional, absent, define_group, ast_node, AbsentTree, repeater, expression, stopper, clear, ast_group}
 
 abbrev mutual
   -- each capturing group becomes a Group of its resolved inside, whose number is the rank of its opening

@@ -14,6 +14,7 @@ use Rattle.fancy_syntax.specs.declared.expr.BacktrackingControlVerb.{Backtrackin
 use Rattle.fancy_syntax.specs.declared.expr.LookAround.{LookAround}
 use Rattle.fancy_syntax.specs.Tree.{Tree, empty, any, assertion, general_newline, literal, literal_bytes, concat, alt, group, look_around, repeat, delegate, backref, backref_at_level, atomic_group, keep_out, continue_from_previous_match_end, backref_exists, conditional, subroutine_call, verb, absent, define_group, ast_node, Trees, no_trees, more_trees, AbsentTree, repeater, expression, stopper, clear, AstTree, ast_group, ast_backref, ast_call, ast_condition}
 
+-- whether two fields of a tree are the same
 abbrev pub same_look : LookAround → LookAround → Bool
 same_look = look_eq.ghosts.eq
 

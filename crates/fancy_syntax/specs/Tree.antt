@@ -2,7 +2,6 @@
 use Rattle.std.specs.Prelude.{ℕ, zero, suc, ◌+◌, max, ℤ, Bool, true, false, List, [], ◌∷◌, Option}
 use Rattle.fancy_lex.specs.declared.escape.Assertion.{Assertion}
 use Rattle.fancy_lex.specs.Target.{Target}
-use Rattle.fancy_lex.specs.Text.{Text}
 use Rattle.fancy_syntax.specs.declared.expr.LookAround.{LookAround}
 use Rattle.fancy_syntax.specs.declared.expr.BacktrackingControlVerb.{BacktrackingControlVerb}
 

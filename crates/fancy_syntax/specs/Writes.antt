@@ -19,6 +19,7 @@ child_at t i = slice_get (children t) i
 abbrev pub LendsChild : MutBor Expr → ℕ → Option (MutBor Expr) → Fml
 LendsChild = LendsChildAt expr.the_row expr.the_row Tree view view with_child
 
+-- the node of such a kind
 abbrev pub view_of_absent : Absent → Tree
 view_of_absent a = absent (view_absent a)
 

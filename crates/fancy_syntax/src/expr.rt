@@ -7,8 +7,8 @@ mod equality;
 mod parent;
 
 pub use children::ExprChildrenIter;
-use fancy_lex::escape::Assertion;
-use fancy_lex::name::CaptureGroupTarget;
+pub use fancy_lex::escape::Assertion;
+pub use fancy_lex::name::CaptureGroupTarget;
 
 /// Which way a look-around looks, and whether it wants its pattern to match there.
 #[derive(Clone, Copy, PartialEq, Eq, Debug, Drop)]
@@ -23,7 +23,7 @@ pub enum LookAround {
     LookBehindNeg,
 }
 
-/// A verb, which takes no text and steers the search.
+/// A verb, which steers the search.
 #[derive(Clone, Copy, PartialEq, Eq, Debug, Drop)]
 pub enum BacktrackingControlVerb {
     /// `(*FAIL)` or `(*F)`
@@ -38,7 +38,7 @@ pub enum BacktrackingControlVerb {
     Prune,
 }
 
-/// A node whose group is not known by its number yet. It counts as a leaf.
+/// A node as it is read, before the groups have numbers. It counts as a leaf, an `AstGroup` too.
 #[cycle(expr)]
 #[derive(Debug, Drop)]
 pub enum AstNode {
@@ -69,7 +69,7 @@ pub enum AstNode {
     },
 }
 
-/// A node of what must not stand in the text.
+/// What must not stand in the text.
 #[cycle(expr)]
 #[derive(Debug, Drop)]
 pub enum Absent {
@@ -139,7 +139,7 @@ pub enum Expr {
         /// Whether as often as possible is tried first.
         greedy: bool,
     },
-    /// A class of characters, in the words of a plain engine.
+    /// One character of a class, which is kept as its text.
     Delegate {
         /// The text of the class.
         inner: String,
@@ -186,7 +186,7 @@ pub enum Expr {
     },
     /// A call of the group of this number; 0 is the whole pattern.
     SubroutineCall(usize),
-    /// A verb.
+    /// A verb, which takes no text.
     BacktrackingControlVerb(BacktrackingControlVerb),
     /// What must not stand in the text.
     Absent(Absent),
@@ -195,6 +195,6 @@ pub enum Expr {
         /// What stands in the group.
         definitions: Box<Expr>,
     },
-    /// A node whose group is not known by its number yet, and the byte offset at which it stands in the pattern.
+    /// A node as it is read, and its place in the pattern as a byte offset.
     AstNode(AstNode, usize),
 }

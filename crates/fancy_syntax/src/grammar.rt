@@ -1,5 +1,5 @@
 //! The grammar: a loop over a stack of open groups reads the raw tree of a text.
-ghost use Rattle.std.specs.Prelude.{◌≡◌, ◌∷◌, [], ◌++◌, ◌<◌, ◌≤◌, length, chars, vec_len, vec_capacity, IfOk};
+ghost use Rattle.std.specs.Prelude.{◌≡◌, ◌∷◌, [], ◌++◌, ◌<◌, ◌≤◌, ◌^◌, length, chars, vec_len, vec_capacity, IfOk};
 ghost use Rattle.fancy_syntax.specs.Grammar as spec;
 ghost use Rattle.fancy_syntax.specs.Parsed.{state, Reads};
 ghost use Rattle.fancy_syntax.specs.Reads.{ReadsWhole};
@@ -8,21 +8,23 @@ mod ahead;
 mod fault;
 mod frame;
 mod quantified;
+mod row;
 mod state;
 mod step;
 
 use crate::expr::Expr;
-use crate::grammar::ahead::is_end;
+use crate::grammar::ahead::{MAX_DEPTH, is_end};
 use crate::grammar::fault::{general, not_read_yet};
 use crate::grammar::frame::{Frame, Opener};
 use crate::grammar::state::State;
-use crate::grammar::step::{MAX_DEPTH, Step, close, read_step};
+use crate::grammar::step::{Step, close, read_step};
 use fancy_lex::error::Error;
 use fancy_lex::flags::Flags;
 use fancy_lex::text::{after, next, place};
 use std::alloc::Global;
 
 /// Reads a whole text: its raw tree, in which a capturing group is an AstNode with the place of its parenthesis.
+/// Else the fault of the text, or OutOfMemory.
 pub(crate) fn parse(alloc: Global, text: &str, flags: Flags) -> Result<Expr, Error>
     ensures reads { ReadsWhole result flags (chars text.now) }
 {
@@ -41,29 +43,30 @@ pub(crate) fn parse(alloc: Global, text: &str, flags: Flags) -> Result<Expr, Err
 fn is_unread_mode(flags: Flags) -> bool
     ensures { result ≡ spec.is_unread_mode flags }
 {
-    flags.ignore_space || flags.oniguruma_mode || flags.ignore_numbered_groups
+    flags.oniguruma_mode || flags.ignore_numbered_groups
 }
 
 /// Reads branches with bars between, up to where the outermost ends.
 fn alternation<'a>(alloc: Global, start: State<'a>, end: usize) -> Result<(Expr, State<'a>), Error>
-    requires { length start.rest.now ≤ end }
+    requires within { length start.rest.now ≤ end }
+    requires end { end < 2 ^ 63 }
     ensures value { Reads result (spec.Alternation end 0 (state start.entry)) }
     ensures within { IfOk result (λ p. length p.1.rest.now ≤ length start.entry.rest.now) }
 {
     let mut stack = Vec::with_capacity(alloc, MAX_DEPTH)?;
-    let mut frame = Frame::new(alloc, Opener::Top);
+    let mut frame = Frame::new(Opener::Top);
     let mut here = start;
     loop {
         if !is_end(here.rest) {
             let (read, behind) = read_step(alloc, here, stack.len(), end)?;
             match read {
                 Step::Piece(piece) => {
-                    frame.add(piece)?;
+                    frame = frame.with_piece(alloc, piece)?;
                     here = behind;
                 }
                 Step::Open(opener) => {
                     push_frame(&mut stack, frame);
-                    frame = Frame::new(alloc, opener);
+                    frame = Frame::new(opener);
                     here = behind;
                 }
             }
@@ -71,13 +74,12 @@ fn alternation<'a>(alloc: Global, start: State<'a>, end: usize) -> Result<(Expr,
             frame = frame.end_branch(alloc)?;
             here = State { rest, ..here };
         } else {
-            let (opener, inner) = frame.finish()?;
+            let (opener, inner) = frame.finish(alloc)?;
             let Some(outer) = stack.pop() else {
                 return Ok((inner, here));
             };
             let (piece, behind) = close(alloc, opener, inner, here, end)?;
-            frame = outer;
-            frame.add(piece)?;
+            frame = outer.with_piece(alloc, piece)?;
             here = behind;
         }
     }

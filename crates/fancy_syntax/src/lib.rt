@@ -3,5 +3,8 @@
 
 pub mod expr;
 mod grammar;
+pub mod print;
 mod resolve;
 pub mod tree;
+
+pub use fancy_lex::{error, flags};

@@ -11,7 +11,7 @@ use crate::grammar::parse;
 use crate::resolve::resolve;
 use fancy_lex::error::Result;
 use fancy_lex::flags::{FLAG_UNICODE, Flags};
-use std::alloc::Global;
+use std::alloc::{AllocError, Global};
 use std::collections::{BTreeMap, BTreeSet};
 
 /// A pattern's tree, and what is said of the pattern beside it.
@@ -35,6 +35,26 @@ pub struct ExprTree {
     pub out_of_range_backref: Option<usize>,
     /// The groups without a name have no number.
     pub numbered_groups_ignored: bool,
+}
+
+impl ExprTree {
+    /// An equal tree with equal marks, in memory of its own.
+    pub fn clone(&self, alloc: Global) -> std::result::Result<Self, AllocError>
+        ensures tree { IfOk result (λ t. view t.expr ≡ view self.now.expr) }
+        ensures marks { IfOk result (λ t. marks_of t ≡ marks_of self.now) }
+    {
+        Ok(ExprTree {
+            expr: self.expr.clone(alloc)?,
+            backrefs: self.backrefs.clone()?,
+            named_groups: self.named_groups.clone()?,
+            numeric_capture_group_references: self.numeric_capture_group_references,
+            contains_subroutines: self.contains_subroutines,
+            self_recursive: self.self_recursive,
+            total_groups: self.total_groups,
+            out_of_range_backref: self.out_of_range_backref,
+            numbered_groups_ignored: self.numbered_groups_ignored,
+        })
+    }
 }
 
 impl Expr {

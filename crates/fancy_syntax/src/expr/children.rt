@@ -76,8 +76,11 @@ pub enum ExprChildrenIter<'a> {
     Vec(slice::Iter<'a, Expr>),
     /// Up to three children, each until it is given.
     Triple {
+        /// The child to give first.
         first: Option<&'a Expr>,
+        /// The child to give next.
         second: Option<&'a Expr>,
+        /// The child to give last.
         third: Option<&'a Expr>,
     },
 }

@@ -62,232 +62,250 @@ impl Eq for Expr {
 }
 
 #[cycle(same)]
-fn is_same_node(a: &AstNode, b: &AstNode) -> bool
-    ensures { result ≡ same_ast (view_ast a.now) (view_ast b.now) }
+fn is_same_node(node: &AstNode, other: &AstNode) -> bool
+    ensures { result ≡ same_ast (view_ast node.now) (view_ast other.now) }
 {
-    match a {
-        AstNode::AstGroup { name: a, inner: x } => match b {
-            AstNode::AstGroup { name: b, inner: y } => is_same_name(a, b) && is_same(x, y),
-            AstNode::Backref { .. } => false,
-            AstNode::SubroutineCall(_) => false,
-            AstNode::BackrefExistsCondition { .. } => false,
+    match node {
+        AstNode::AstGroup { name, inner } => match other {
+            AstNode::AstGroup {
+                name: other_name,
+                inner: other_inner,
+            } => is_same_name(name, other_name) && is_same(inner, other_inner),
+            AstNode::Backref { .. }
+            | AstNode::SubroutineCall(_)
+            | AstNode::BackrefExistsCondition { .. } => false,
         },
         AstNode::Backref {
-            target: a,
-            casei: x,
-            relative_recursion_level: l,
-        } => match b {
+            target,
+            casei,
+            relative_recursion_level,
+        } => match other {
             AstNode::Backref {
-                target: b,
-                casei: y,
-                relative_recursion_level: m,
-            } => a == b && x == y && l == m,
-            AstNode::AstGroup { .. } => false,
-            AstNode::SubroutineCall(_) => false,
-            AstNode::BackrefExistsCondition { .. } => false,
+                target: other_target,
+                casei: other_casei,
+                relative_recursion_level: other_level,
+            } => target == other_target
+                && casei == other_casei
+                && relative_recursion_level == other_level,
+            AstNode::AstGroup { .. }
+            | AstNode::SubroutineCall(_)
+            | AstNode::BackrefExistsCondition { .. } => false,
         },
-        AstNode::SubroutineCall(a) => match b {
-            AstNode::SubroutineCall(b) => a == b,
-            AstNode::AstGroup { .. } => false,
-            AstNode::Backref { .. } => false,
-            AstNode::BackrefExistsCondition { .. } => false,
+        AstNode::SubroutineCall(target) => match other {
+            AstNode::SubroutineCall(other_target) => target == other_target,
+            AstNode::AstGroup { .. }
+            | AstNode::Backref { .. }
+            | AstNode::BackrefExistsCondition { .. } => false,
         },
         AstNode::BackrefExistsCondition {
-            target: a,
-            relative_recursion_level: l,
-        } => match b {
+            target,
+            relative_recursion_level,
+        } => match other {
             AstNode::BackrefExistsCondition {
-                target: b,
-                relative_recursion_level: m,
-            } => a == b && l == m,
-            AstNode::AstGroup { .. } => false,
-            AstNode::Backref { .. } => false,
-            AstNode::SubroutineCall(_) => false,
+                target: other_target,
+                relative_recursion_level: other_level,
+            } => target == other_target && relative_recursion_level == other_level,
+            AstNode::AstGroup { .. } | AstNode::Backref { .. } | AstNode::SubroutineCall(_) =>
+                false,
         },
     }
 }
 
 #[cycle(same)]
-fn is_same_absent(a: &Absent, b: &Absent) -> bool
-    ensures { result ≡ same_absent (view_absent a.now) (view_absent b.now) }
+fn is_same_absent(absent: &Absent, other: &Absent) -> bool
+    ensures { result ≡ same_absent (view_absent absent.now) (view_absent other.now) }
 {
-    match a {
-        Absent::Repeater(a) => match b {
-            Absent::Repeater(b) => is_same(a, b),
-            Absent::Expression { .. } => false,
-            Absent::Stopper(_) => false,
-            Absent::Clear => false,
+    match absent {
+        Absent::Repeater(child) => match other {
+            Absent::Repeater(other_child) => is_same(child, other_child),
+            Absent::Expression { .. } | Absent::Stopper(_) | Absent::Clear => false,
         },
-        Absent::Expression { absent: a, exp: x } => match b {
-            Absent::Expression { absent: b, exp: y } => is_same(a, b) && is_same(x, y),
-            Absent::Repeater(_) => false,
-            Absent::Stopper(_) => false,
-            Absent::Clear => false,
+        Absent::Expression { absent, exp } => match other {
+            Absent::Expression {
+                absent: other_absent,
+                exp: other_exp,
+            } => is_same(absent, other_absent) && is_same(exp, other_exp),
+            Absent::Repeater(_) | Absent::Stopper(_) | Absent::Clear => false,
         },
-        Absent::Stopper(a) => match b {
-            Absent::Stopper(b) => is_same(a, b),
-            Absent::Repeater(_) => false,
-            Absent::Expression { .. } => false,
-            Absent::Clear => false,
+        Absent::Stopper(child) => match other {
+            Absent::Stopper(other_child) => is_same(child, other_child),
+            Absent::Repeater(_) | Absent::Expression { .. } | Absent::Clear => false,
         },
-        Absent::Clear => matches!(b, Absent::Clear),
+        Absent::Clear => matches!(other, Absent::Clear),
     }
 }
 
 #[cycle(same)]
-fn is_same(a: &Expr, b: &Expr) -> bool
-    ensures { result ≡ same (view a.now) (view b.now) }
+fn is_same(tree: &Expr, other: &Expr) -> bool
+    ensures { result ≡ same (view tree.now) (view other.now) }
 {
-    match a {
-        Expr::Empty => matches!(b, Expr::Empty),
-        Expr::Any {
-            newline: a,
-            crlf: x,
-        } => match b {
+    match tree {
+        Expr::Empty => matches!(other, Expr::Empty),
+        Expr::Any { newline, crlf } => match other {
             Expr::Any {
-                newline: b,
-                crlf: y,
-            } => a == b && x == y,
+                newline: other_newline,
+                crlf: other_crlf,
+            } => newline == other_newline && crlf == other_crlf,
             _ => false,
         },
-        Expr::Assertion(a) => match b {
-            Expr::Assertion(b) => a == b,
+        Expr::Assertion(assertion) => match other {
+            Expr::Assertion(other_assertion) => assertion == other_assertion,
             _ => false,
         },
-        Expr::GeneralNewline { unicode: a } => match b {
-            Expr::GeneralNewline { unicode: b } => a == b,
+        Expr::GeneralNewline { unicode } => match other {
+            Expr::GeneralNewline {
+                unicode: other_unicode,
+            } => unicode == other_unicode,
             _ => false,
         },
-        Expr::Literal { val: a, casei: x } => match b {
-            Expr::Literal { val: b, casei: y } => is_same_text(a, b) && x == y,
+        Expr::Literal { val, casei } => match other {
+            Expr::Literal {
+                val: other_val,
+                casei: other_casei,
+            } => is_same_text(val, other_val) && casei == other_casei,
             _ => false,
         },
-        Expr::LiteralBytes { bytes: a } => match b {
-            Expr::LiteralBytes { bytes: b } => a == b,
+        Expr::LiteralBytes { bytes } => match other {
+            Expr::LiteralBytes { bytes: other_bytes } => bytes == other_bytes,
             _ => false,
         },
-        Expr::Concat(a) => match b {
-            Expr::Concat(b) => is_same_list(a, b),
+        Expr::Concat(parts) => match other {
+            Expr::Concat(other_parts) => is_same_list(parts, other_parts),
             _ => false,
         },
-        Expr::Alt(a) => match b {
-            Expr::Alt(b) => is_same_list(a, b),
+        Expr::Alt(branches) => match other {
+            Expr::Alt(other_branches) => is_same_list(branches, other_branches),
             _ => false,
         },
-        Expr::Group(a) => match b {
-            Expr::Group(b) => is_same(a, b),
+        Expr::Group(child) => match other {
+            Expr::Group(other_child) => is_same(child, other_child),
             _ => false,
         },
-        Expr::LookAround(a, x) => match b {
-            Expr::LookAround(b, y) => is_same(a, b) && x == y,
+        Expr::LookAround(child, look) => match other {
+            Expr::LookAround(other_child, other_look) => is_same(child, other_child)
+                && look == other_look,
             _ => false,
         },
         Expr::Repeat {
-            child: a,
-            lo: l,
-            hi: h,
-            greedy: x,
-        } => match b {
+            child,
+            lo,
+            hi,
+            greedy,
+        } => match other {
             Expr::Repeat {
-                child: b,
-                lo: m,
-                hi: i,
-                greedy: y,
-            } => is_same(a, b) && l == m && h == i && x == y,
+                child: other_child,
+                lo: other_lo,
+                hi: other_hi,
+                greedy: other_greedy,
+            } => is_same(child, other_child)
+                && lo == other_lo
+                && hi == other_hi
+                && greedy == other_greedy,
             _ => false,
         },
-        Expr::Delegate { inner: a, casei: x } => match b {
-            Expr::Delegate { inner: b, casei: y } => is_same_text(a, b) && x == y,
+        Expr::Delegate { inner, casei } => match other {
+            Expr::Delegate {
+                inner: other_inner,
+                casei: other_casei,
+            } => is_same_text(inner, other_inner) && casei == other_casei,
             _ => false,
         },
-        Expr::Backref { group: a, casei: x } => match b {
-            Expr::Backref { group: b, casei: y } => a == b && x == y,
+        Expr::Backref { group, casei } => match other {
+            Expr::Backref {
+                group: other_group,
+                casei: other_casei,
+            } => group == other_group && casei == other_casei,
             _ => false,
         },
         Expr::BackrefWithRelativeRecursionLevel {
-            group: a,
-            relative_level: l,
-            casei: x,
-        } => match b {
+            group,
+            relative_level,
+            casei,
+        } => match other {
             Expr::BackrefWithRelativeRecursionLevel {
-                group: b,
-                relative_level: m,
-                casei: y,
-            } => a == b && l == m && x == y,
+                group: other_group,
+                relative_level: other_level,
+                casei: other_casei,
+            } => group == other_group && relative_level == other_level && casei == other_casei,
             _ => false,
         },
-        Expr::AtomicGroup(a) => match b {
-            Expr::AtomicGroup(b) => is_same(a, b),
+        Expr::AtomicGroup(child) => match other {
+            Expr::AtomicGroup(other_child) => is_same(child, other_child),
             _ => false,
         },
-        Expr::KeepOut => matches!(b, Expr::KeepOut),
-        Expr::ContinueFromPreviousMatchEnd => matches!(b, Expr::ContinueFromPreviousMatchEnd),
+        Expr::KeepOut => matches!(other, Expr::KeepOut),
+        Expr::ContinueFromPreviousMatchEnd => matches!(other, Expr::ContinueFromPreviousMatchEnd),
         Expr::BackrefExistsCondition {
-            group: a,
-            relative_recursion_level: l,
-        } => match b {
+            group,
+            relative_recursion_level,
+        } => match other {
             Expr::BackrefExistsCondition {
-                group: b,
-                relative_recursion_level: m,
-            } => a == b && l == m,
+                group: other_group,
+                relative_recursion_level: other_level,
+            } => group == other_group && relative_recursion_level == other_level,
             _ => false,
         },
         Expr::Conditional {
-            condition: a,
-            true_branch: x,
-            false_branch: l,
-        } => match b {
+            condition,
+            true_branch,
+            false_branch,
+        } => match other {
             Expr::Conditional {
-                condition: b,
-                true_branch: y,
-                false_branch: m,
-            } => is_same(a, b) && is_same(x, y) && is_same(l, m),
+                condition: other_condition,
+                true_branch: other_true_branch,
+                false_branch: other_false_branch,
+            } => is_same(condition, other_condition)
+                && is_same(true_branch, other_true_branch)
+                && is_same(false_branch, other_false_branch),
             _ => false,
         },
-        Expr::SubroutineCall(a) => match b {
-            Expr::SubroutineCall(b) => a == b,
+        Expr::SubroutineCall(group) => match other {
+            Expr::SubroutineCall(other_group) => group == other_group,
             _ => false,
         },
-        Expr::BacktrackingControlVerb(a) => match b {
-            Expr::BacktrackingControlVerb(b) => a == b,
+        Expr::BacktrackingControlVerb(verb) => match other {
+            Expr::BacktrackingControlVerb(other_verb) => verb == other_verb,
             _ => false,
         },
-        Expr::Absent(a) => match b {
-            Expr::Absent(b) => is_same_absent(a, b),
+        Expr::Absent(absent) => match other {
+            Expr::Absent(other_absent) => is_same_absent(absent, other_absent),
             _ => false,
         },
-        Expr::DefineGroup { definitions: a } => match b {
-            Expr::DefineGroup { definitions: b } => is_same(a, b),
+        Expr::DefineGroup { definitions } => match other {
+            Expr::DefineGroup {
+                definitions: other_definitions,
+            } => is_same(definitions, other_definitions),
             _ => false,
         },
-        Expr::AstNode(a, x) => match b {
-            Expr::AstNode(b, y) => is_same_node(a, b) && x == y,
+        Expr::AstNode(node, place) => match other {
+            Expr::AstNode(other_node, other_place) => is_same_node(node, other_node)
+                && place == other_place,
             _ => false,
         },
     }
 }
 
-fn is_same_name(a: &Option<String>, b: &Option<String>) -> bool
-    ensures { result ≡ same_name (option_map text_of a.now) (option_map text_of b.now) }
+fn is_same_name(name: &Option<String>, other: &Option<String>) -> bool
+    ensures { result ≡ same_name (option_map text_of name.now) (option_map text_of other.now) }
 {
-    match a {
-        None => b.is_none(),
-        Some(a) => match b {
+    match name {
+        None => other.is_none(),
+        Some(name) => match other {
             None => false,
-            Some(b) => is_same_text(a, b),
+            Some(other) => is_same_text(name, other),
         },
     }
 }
 
 #[cycle(same)]
-fn is_same_list(a: &[Expr], b: &[Expr]) -> bool
-    ensures { result ≡ same_all (trees_of (views a.now)) (trees_of (views b.now)) }
+fn is_same_list(trees: &[Expr], others: &[Expr]) -> bool
+    ensures { result ≡ same_all (trees_of (views trees.now)) (trees_of (views others.now)) }
 {
-    if a.len() != b.len() {
+    if trees.len() != others.len() {
         return false;
     }
-    for i in 0..a.len() {
-        if !is_same(&a[i], &b[i]) {
+    for i in 0..trees.len() {
+        if !is_same(&trees[i], &others[i]) {
             return false;
         }
     }

@@ -1,7 +1,6 @@
 //! Faults whose kind carries a text.
 ghost use Rattle.std.specs.Prelude.{chars};
-ghost use Rattle.fancy_lex.specs.Fault.{general_parse_error};
-ghost use Rattle.fancy_syntax.specs.Ahead as spec;
+ghost use Rattle.fancy_lex.specs.Fault as spec;
 ghost use Rattle.fancy_syntax.specs.Reads.{IsFault};
 
 use fancy_lex::error::{Error, ParseError};
@@ -9,7 +8,7 @@ use std::alloc::Global;
 
 /// The general fault with this message, or that memory ran out.
 pub(crate) fn general(alloc: Global, message: &str, place: usize) -> Error
-    ensures { IsFault result (general_parse_error (chars message.now)) place }
+    ensures { IsFault result (spec.general_parse_error (chars message.now)) place }
 {
     match String::from_str(alloc, message) {
         Ok(message) => Error::ParseError(place, ParseError::GeneralParseError(message)),

@@ -1,10 +1,13 @@
 //! The groups that are open.
-ghost use Rattle.std.specs.Prelude.{◌≡◌, [], ◌∷◌, ◌++◌, IfOk, OnOk};
+ghost use Rattle.std.specs.Prelude.{◌≡◌, [], ◌∷◌, ◌++◌, IfOk};
 ghost use Rattle.fancy_syntax.specs.Join as spec;
+ghost use Rattle.fancy_syntax.specs.Row.{trees};
 ghost use Rattle.fancy_syntax.specs.Tree.{concat};
-ghost use Rattle.fancy_syntax.specs.View.{view, views};
+ghost use Rattle.fancy_syntax.specs.View.{view};
 
 use crate::expr::{AstNode, Expr};
+use crate::grammar::row::Row;
+use fancy_lex::flags::Flags;
 use std::alloc::{AllocError, Global};
 
 /// What opened a group.
@@ -14,85 +17,105 @@ pub(crate) enum Opener {
     Top,
     /// The parenthesis of a capturing group, at this place.
     Capture(usize),
+    /// The letters of a group of flags, before which these flags held.
+    Scope(Flags),
 }
 
 /// An open group: its finished branches, and the pieces of the branch that is open.
 #[derive(Drop)]
 pub(crate) struct Frame {
     pub(crate) opener: Opener,
-    pub(crate) branches: Vec<Expr>,
-    pub(crate) pieces: Vec<Expr>,
+    pub(crate) branches: Row,
+    pub(crate) pieces: Row,
 }
 
 impl Frame {
     /// A group in which nothing is read yet.
-    pub(crate) fn new(alloc: Global, opener: Opener) -> Frame
+    pub(crate) fn new(opener: Opener) -> Frame
         ensures opener { result.opener ≡ opener }
-        ensures branches { result.branches.items ≡ [] }
-        ensures pieces { result.pieces.items ≡ [] }
+        ensures branches { trees result.branches ≡ [] }
+        ensures pieces { trees result.pieces ≡ [] }
     {
         Frame {
             opener,
-            branches: Vec::new(alloc),
-            pieces: Vec::new(alloc),
+            branches: Row::None,
+            pieces: Row::None,
         }
     }
 
     /// Adds a piece to the open branch; an Empty one is left out.
-    pub(crate) fn add(&mut self, piece: Expr) -> Result<(), AllocError>
-        ensures opener { self.new.opener ≡ self.old.opener }
-        ensures branches { self.new.branches.items ≡ self.old.branches.items }
-        ensures pieces { OnOk result (views self.new.pieces.items ≡ views self.old.pieces.items ++ spec.solid (view piece ∷ [])) }
+    pub(crate) fn with_piece(self, alloc: Global, piece: Expr) -> Result<Frame, AllocError>
+        ensures opener { IfOk result (λ f. f.opener ≡ self.opener) }
+        ensures branches { IfOk result (λ f. trees f.branches ≡ trees self.branches) }
+        ensures pieces { IfOk result (λ f. trees f.pieces ≡ trees self.pieces ++ spec.solid (view piece ∷ [])) }
     {
-        if !is_empty(&piece) {
-            self.pieces.push(piece)?;
+        if is_empty(&piece) {
+            return Ok(self);
         }
-        Ok(())
+        let Frame {
+            opener,
+            branches,
+            pieces,
+        } = self;
+        Ok(Frame {
+            opener,
+            branches,
+            pieces: pieces.with(alloc, piece)?,
+        })
     }
 
     /// Ends the open branch, and opens the next.
     pub(crate) fn end_branch(self, alloc: Global) -> Result<Frame, AllocError>
         ensures opener { IfOk result (λ f. f.opener ≡ self.opener) }
-        ensures branches { IfOk result (λ f. views f.branches.items ≡ views self.branches.items ++ spec.one_or concat (views self.pieces.items) ∷ []) }
-        ensures pieces { IfOk result (λ f. f.pieces.items ≡ []) }
+        ensures branches { IfOk result (λ f. trees f.branches ≡ trees self.branches ++ spec.one_or concat (trees self.pieces) ∷ []) }
+        ensures pieces { IfOk result (λ f. trees f.pieces ≡ []) }
     {
         let Frame {
             opener,
-            mut branches,
+            branches,
             pieces,
         } = self;
-        branches.push(join(pieces))?;
         Ok(Frame {
             opener,
-            branches,
-            pieces: Vec::new(alloc),
+            branches: branches.with(alloc, pieces.concat())?,
+            pieces: Row::None,
         })
     }
 
     /// Ends the group: what opened it, and the tree of its inside.
-    pub(crate) fn finish(self) -> Result<(Opener, Expr), AllocError>
+    pub(crate) fn finish(self, alloc: Global) -> Result<(Opener, Expr), AllocError>
         ensures opener { IfOk result (λ p. p.0 ≡ self.opener) }
-        ensures tree { IfOk result (λ p. view p.1 ≡ spec.choice (views self.branches.items ++ spec.one_or concat (views self.pieces.items) ∷ [])) }
+        ensures tree { IfOk result (λ p. view p.1 ≡ spec.choice (trees self.branches ++ spec.one_or concat (trees self.pieces) ∷ [])) }
     {
         let Frame {
             opener,
-            mut branches,
+            branches,
             pieces,
         } = self;
-        branches.push(join(pieces))?;
-        Ok((opener, choice(branches)))
+        let branches = branches.with(alloc, pieces.concat())?;
+        Ok((opener, branches.choice()))
     }
 }
 
 impl Opener {
-    ghost use Rattle.fancy_syntax.specs.Machine.{closed_tree};
+    ghost use Rattle.fancy_syntax.specs.Machine.{closed_tree, closed_flags};
+
+    /// The flags that hold behind the group that this opened, where `inside` hold at its end.
+    pub(crate) fn flags_behind(&self, inside: Flags) -> Flags
+        ensures { result ≡ closed_flags self.now inside }
+    {
+        match self {
+            Opener::Scope(before) => *before,
+            Opener::Top | Opener::Capture(_) => inside,
+        }
+    }
 
     /// The tree of the group that this opened, around its inside.
     pub(crate) fn closed(self, alloc: Global, inner: Expr) -> Result<Expr, AllocError>
         ensures { IfOk result (λ e. view e ≡ closed_tree self (view inner)) }
     {
         match self {
-            Opener::Top => Ok(inner),
+            Opener::Top | Opener::Scope(_) => Ok(inner),
             Opener::Capture(place) => {
                 let inner = Box::new(alloc, inner)?;
                 Ok(Expr::AstNode(AstNode::AstGroup { name: None, inner }, place))
@@ -106,24 +129,4 @@ fn is_empty(tree: &Expr) -> bool
     ensures { result ≡ spec.is_empty (view tree.now) }
 {
     matches!(tree, Expr::Empty)
-}
-
-/// The tree of a branch of these pieces.
-fn join(mut pieces: Vec<Expr>) -> Expr
-    ensures { view result ≡ spec.one_or concat (views pieces.items) }
-{
-    if pieces.len() > 1 {
-        return Expr::Concat(pieces);
-    }
-    pieces.pop().unwrap_or(Expr::Empty)
-}
-
-/// The tree of a choice among these branches.
-fn choice(mut branches: Vec<Expr>) -> Expr
-    ensures { view result ≡ spec.choice (views branches.items) }
-{
-    if branches.len() > 1 {
-        return Expr::Alt(branches);
-    }
-    branches.pop().unwrap_or(Expr::Empty)
 }

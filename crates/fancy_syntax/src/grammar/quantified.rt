@@ -1,12 +1,13 @@
 //! A tree under the quantifier that follows it.
-ghost use Rattle.std.specs.Prelude.{◌≡◌, ◌≤◌, false, length, chars, if◌then◌else◌, Some, None, IfOk};
+ghost use Rattle.std.specs.Prelude.{◌≡◌, ◌≤◌, ◌<◌, ◌^◌, false, length, chars, if◌then◌else◌, Some, None, IfOk};
 ghost use Rattle.fancy_lex.specs.Text.{strip};
-ghost use Rattle.fancy_syntax.specs.Ahead.{question_mark};
+ghost use Rattle.fancy_lex.specs.Characters.{question_mark};
 ghost use Rattle.fancy_syntax.specs.Quantified as spec;
 ghost use Rattle.fancy_syntax.specs.Parsed.{state, Gives};
 ghost use Rattle.fancy_syntax.specs.View.{view};
 
 use crate::expr::Expr;
+use crate::grammar::ahead::skip_layout;
 use crate::grammar::fault::not_read_yet;
 use crate::grammar::state::State;
 use fancy_lex::error::{Error, ParseError};
@@ -36,7 +37,7 @@ fn is_greedy(flags: Flags, lazy: bool) -> bool
     if flags.swap_greed { lazy } else { !lazy }
 }
 
-/// Reads the quantifier that follows the tree, if one does: the tree under it, and the state behind it.
+/// Reads layout and the quantifier that follows the tree, if one does: the tree under it, and the state behind it.
 ///
 /// TargetNotRepeatable at the mark or the closing brace, where the tree takes no quantifier.
 #[tactic(auto, unfolding(crate::specs::Quantified::quant))]
@@ -46,16 +47,19 @@ pub(crate) fn quantify<'a>(
     here: State<'a>,
     end: usize,
 ) -> Result<(Expr, State<'a>), Error>
-    requires { length here.rest.now ≤ end }
+    requires within { length here.rest.now ≤ end }
+    requires end { end < 2 ^ 63 }
     ensures value { Gives result (spec.quant end (view tree) (state here.entry)) }
     ensures within { IfOk result (λ p. length p.1.rest.now ≤ length here.entry.rest.now) }
 {
-    let Some((lo, hi, rest)) = counts(here.rest) else {
-        return Ok((tree, here));
+    let rest = skip_layout(here, end)?;
+    let Some((lo, hi, rest)) = counts(rest, here.flags.ignore_space) else {
+        return Ok((tree, State { rest, ..here }));
     };
     if !is_repeatable(&tree) {
         return Err(Error::ParseError(place_before(rest, end), ParseError::TargetNotRepeatable));
     }
+    let rest = skip_layout(State { rest, ..here }, end)?;
     let (lazy, rest) = lazy_mark(rest);
     if after(rest, '+').is_some() {
         return Err(not_read_yet(alloc, place(rest, end)));

@@ -1,28 +1,21 @@
 //! The steps of the loop that read a piece, or the parentheses of a group.
-ghost use Rattle.std.specs.Prelude.{◌≡◌, ℕ, ◌+◌, ◌<◌, ◌≤◌, false, length, chars, IfOk, IfErr};
-ghost use Rattle.fancy_lex.specs.Fault.{recursion_exceeded};
-ghost use Rattle.fancy_lex.specs.Text.{place_of};
+ghost use Rattle.std.specs.Prelude.{◌≡◌, ℕ, ◌+◌, ◌<◌, ◌≤◌, ◌^◌, false, length, chars, IfOk};
 ghost use Rattle.fancy_syntax.specs.Ahead.{ends};
 ghost use Rattle.fancy_syntax.specs.Grammar as spec;
-ghost use Rattle.fancy_syntax.specs.Machine.{Opens, StepsOn, GivesPiece};
+ghost use Rattle.fancy_syntax.specs.Machine.{Opens, OpensBelow, StepsOn, GivesPiece};
 ghost use Rattle.fancy_syntax.specs.Parsed.{state, Reads};
 ghost use Rattle.fancy_syntax.specs.Quantified.{quant};
-ghost use Rattle.fancy_syntax.specs.Reads.{IsFault};
 ghost use Rattle.fancy_syntax.specs.State as states;
 ghost use Rattle.fancy_syntax.specs.View.{view};
 
 use crate::expr::Expr;
-use crate::grammar::ahead::{Ahead, look_ahead};
-use crate::grammar::fault::not_read_yet;
+use crate::grammar::ahead::{Ahead, look_ahead, skip_layout};
 use crate::grammar::frame::Opener;
 use crate::grammar::quantified::quantify;
 use crate::grammar::state::State;
 use fancy_lex::error::{Error, ParseError};
 use fancy_lex::text::{after, place};
 use std::alloc::Global;
-
-/// Groups nest less deep than this.
-pub(crate) const MAX_DEPTH: usize = 64;
 
 /// What a step reads.
 pub(crate) enum Step {
@@ -32,7 +25,7 @@ pub(crate) enum Step {
     Open(Opener),
 }
 
-/// Reads a piece, or the opening of a group.
+/// Reads a piece, or the opening of a group. A fault is the piece's.
 pub(crate) fn read_step<'a>(
     alloc: Global,
     here: State<'a>,
@@ -40,16 +33,19 @@ pub(crate) fn read_step<'a>(
     end: usize,
 ) -> Result<(Step, State<'a>), Error>
     requires within { length here.rest.now ≤ end }
+    requires end { end < 2 ^ 63 }
     requires more { ends (chars here.rest.now) ≡ false }
     ensures value { StepsOn result end depth (state here.entry) }
     ensures shorter { IfOk result (λ p. length p.1.rest.now < length here.entry.rest.now) }
+    ensures below { IfOk result (λ p. OpensBelow p.0 depth) }
 {
-    match look_ahead(alloc, here, end)? {
-        Ahead::Nothing => piece(alloc, Expr::Empty, here, end),
+    let rest = skip_layout(here, end)?;
+    let start = State { rest, ..here };
+    match look_ahead(alloc, start, depth, end)? {
+        Ahead::Nothing => piece(alloc, Expr::Empty, start, end),
         Ahead::Leaf(atom, behind) => piece(alloc, atom, behind, end),
         Ahead::Group(inside) => {
-            go_deeper(here, depth, end)?;
-            let opener = Opener::Capture(place(here.rest, end));
+            let opener = Opener::Capture(place(rest, end));
             Ok((
                 Step::Open(opener),
                 State {
@@ -58,10 +54,7 @@ pub(crate) fn read_step<'a>(
                 },
             ))
         }
-        Ahead::Headed(head) => {
-            go_deeper(here, depth, end)?;
-            Err(not_read_yet(alloc, place(head, end)))
-        }
+        Ahead::Scope(inside) => Ok((Step::Open(Opener::Scope(here.flags)), inside)),
     }
 }
 
@@ -72,7 +65,8 @@ fn piece<'a>(
     here: State<'a>,
     end: usize,
 ) -> Result<(Step, State<'a>), Error>
-    requires { length here.rest.now ≤ end }
+    requires within { length here.rest.now ≤ end }
+    requires end { end < 2 ^ 63 }
     ensures value { GivesPiece result (quant end (view atom) (state here.entry)) }
     ensures within { IfOk result (λ p. length p.1.rest.now ≤ length here.entry.rest.now) }
 {
@@ -80,19 +74,7 @@ fn piece<'a>(
     Ok((Step::Piece(piece), behind))
 }
 
-/// RecursionExceeded where a group here nests too deep.
-fn go_deeper(here: State<'_>, depth: usize, end: usize) -> Result<(), Error>
-    requires { length here.rest.now ≤ end }
-    ensures fits { IfOk result (λ _. depth + 1 < spec.max_depth) }
-    ensures fault { IfErr result (λ e. (spec.max_depth ≤ depth + 1) × IsFault e recursion_exceeded (place_of end (chars here.entry.rest.now))) }
-{
-    if depth >= MAX_DEPTH - 1 {
-        return Err(Error::ParseError(place(here.rest, end), ParseError::RecursionExceeded));
-    }
-    Ok(())
-}
-
-/// Reads the closing parenthesis of a group, and its quantifier.
+/// Reads the closing parenthesis of a group, and its quantifier. UnclosedOpenParen where no closing parenthesis stands.
 pub(crate) fn close<'a>(
     alloc: Global,
     opener: Opener,
@@ -100,7 +82,8 @@ pub(crate) fn close<'a>(
     here: State<'a>,
     end: usize,
 ) -> Result<(Expr, State<'a>), Error>
-    requires { length here.rest.now ≤ end }
+    requires within { length here.rest.now ≤ end }
+    requires end { end < 2 ^ 63 }
     ensures value { (d : ℕ) (s t : states.State) → Opens end d s opener t → spec.Alternation end (d + 1) t (states.done (view inner) (state here.entry)) →
         Reads result (spec.Piece end d s) }
     ensures shorter { IfOk result (λ p. length p.1.rest.now < length here.entry.rest.now) }
@@ -108,6 +91,7 @@ pub(crate) fn close<'a>(
     let Some(rest) = after(here.rest, ')') else {
         return Err(Error::ParseError(place(here.rest, end), ParseError::UnclosedOpenParen));
     };
+    let flags = opener.flags_behind(here.flags);
     let atom = opener.closed(alloc, inner)?;
-    quantify(alloc, atom, State { rest, ..here }, end)
+    quantify(alloc, atom, State { flags, rest }, end)
 }

@@ -1,5 +1,5 @@
 use Rattle.std.proofs.Common.{◌≤◌, length, vec_capacity}
-use Rattle.fancy_syntax.specs.Grammar.{max_depth}
+use Rattle.fancy_syntax.specs.Ahead.{max_depth}
 use Rattle.fancy_syntax.specs.Parsed.{state}
 use Rattle.fancy_syntax.proofs.MachineLemmas.{Running}
 use Rattle.fancy_syntax.proofs.grammar.alternation.Given as goal

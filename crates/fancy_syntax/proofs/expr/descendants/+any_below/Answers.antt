@@ -1,10 +1,9 @@
-use Rattle.std.proofs.Common.{rules, ◌≡◌, ◌<◌, true, false, ◌∷◌, ◌∙◌, sym, refl, ap, arith, subst}
+use Rattle.std.proofs.Common.{rules, ◌<◌, ◌∙◌, sym, refl, ap, arith, subst}
 use Rattle.std.specs.Fn.{FnReturnsAt}
 use Rattle.fancy_syntax.specs.Tree.{depth}
 use Rattle.fancy_syntax.specs.View.{view, views}
-use Rattle.fancy_syntax.specs.Children.{children_of, left}
-use Rattle.fancy_syntax.specs.Descendants.{IsDescendant, child, deeper}
-use Rattle.fancy_syntax.proofs.Descents.{HoldsFrom, sweep_head, sweep_next, sweep_end, sweep_start, depth_of_child}
+use Rattle.fancy_syntax.specs.Descendants.{child, deeper}
+use Rattle.fancy_syntax.proofs.Descents.{sweep_head, sweep_next, sweep_end, depth_of_child}
 use Rattle.fancy_syntax.proofs.expr.descendants.+any_below.Goals as goal
 
 pub holds-requires : goal.holds-requires

@@ -3,4 +3,4 @@ use Rattle.fancy_syntax.specs.View.{views}
 use Rattle.fancy_syntax.proofs.expr.equality.+same.Given as goal
 
 abbrev pub invariant-is_same_list-loop-i : goal.invariant-is_same_list-loop-i
-invariant-is_same_list-loop-i l = views (take l.i l.a) ≡ views (take l.i l.b)
+invariant-is_same_list-loop-i l = views (take l.i l.trees) ≡ views (take l.i l.others)

@@ -1,7 +1,11 @@
-use Rattle.std.proofs.Common.{◌≡◌, ◌++◌, ◌∙◌, ap}
-use Rattle.std.proofs.Math.Utf8.{encode}
-use Rattle.fancy_syntax.proofs.TreeLemmas.{view_character}
+use Rattle.std.proofs.Common.{chars, ◌∷◌, [], ◌++◌, ◌∙◌, ap}
+use Rattle.std.proofs.lemmas.Str.{chars-nil}
+use Rattle.fancy_lex.specs.Text.{Text}
+use Rattle.fancy_syntax.specs.Tree.{literal}
+use Rattle.fancy_syntax.proofs.TreeLemmas.{view_Literal}
 use Rattle.fancy_syntax.proofs.grammar.ahead.literal.Goals as goal
 
 pub returns : goal.returns
-returns c = view_character _ c.args.c _ (c.in_ok-push.ensures.bytes ∙ ap (λ t. t ++ encode c.args.c) c.new-val.ensures.bytes) c.ranges.c.0
+returns c =
+    let none = ap chars c.new-val.ensures.bytes ∙ chars-nil in
+    view_Literal _ _ ∙ ap (λ (t : Text). literal t c.args.casei) (c.in_ok-push.ensures ∙ ap (λ (t : Text). t ++ c.args.c ∷ []) none)

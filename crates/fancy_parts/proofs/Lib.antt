@@ -1,0 +1,3 @@
+pub mod FlagLemmas
+pub mod QuoteLemmas
+pub mod RoomLemmas

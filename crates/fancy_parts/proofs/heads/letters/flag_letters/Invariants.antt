@@ -1,0 +1,17 @@
+use Rattle.std.proofs.Common.{◌≡◌, ◌≤◌, ◌<◌, ◌++◌, length, chars, ℕ}
+use denote.Text.{Utf8}
+use denote.Shadow.{shadow}
+use Rattle.fancy_lex.specs.Text.{Text}
+use Rattle.fancy_parts.specs.FlagLetters as spec
+use Rattle.fancy_parts.proofs.heads.letters.flag_letters.Given as goal
+
+abbrev pub invariant-loop-here : goal.invariant-loop-here
+invariant-loop-here l = record {
+  text : shadow (Utf8 l.left);
+  steps : (k : ℕ) × (length l.left < k) × (spec.letters l.end l.fn.flags (chars l.text) ≡ spec.letters_in l.end (chars l.text) k l.clears l.flags (chars l.left));
+  behind : (w : Text) × (chars l.text ≡ w ++ chars l.left);
+  within : length l.left ≤ length l.text;
+}
+
+abbrev pub decreases-loop-here : goal.decreases-loop-here
+decreases-loop-here l = length l.left

@@ -1,0 +1,168 @@
+//! The letters of a flag group.
+ghost use Rattle.std.specs.Prelude.{◌≡◌, ◌<◌, ◌≤◌, ◌^◌, ◌++◌, length, chars, ◌||◌, option_map, MatchResult, IfOk};
+ghost use Rattle.fancy_lex.specs.Text.{Text, bytes, text_of};
+ghost use Rattle.fancy_parts.specs.FlagLetters as spec;
+ghost use Rattle.fancy_parts.specs.FlagReads.{GivesLetters, GivesStep, FailsStep, rest_length, IsShorter, GoesOneOn};
+
+use fancy_lex::error::{Error, ParseError};
+use fancy_lex::flags::Flags;
+use fancy_lex::layout::layout;
+use fancy_lex::text::{front, next, place};
+use std::alloc::{AllocError, Global};
+
+/// What the letters of a flag group come to.
+#[derive(Drop)]
+pub enum Letters<'a> {
+    /// Closed by a parenthesis: these flags hold from there on.
+    Setting(Flags, &'a str),
+    /// Closed by a colon: these flags hold inside the group.
+    Scope(Flags, &'a str),
+}
+
+/// One letter: the letters end there, or go on.
+#[derive(Drop)]
+enum Step<'a> {
+    Ends(Letters<'a>),
+    Goes(bool, Flags, &'a str),
+}
+
+/// The flags with the letter's flag set or cleared; none where the letter names no flag.
+fn with_letter(flags: Flags, on: bool, letter: char) -> Option<Flags>
+    ensures { spec.with_letter flags on letter ≡ result }
+{
+    if letter == 'i' {
+        Some(Flags { casei: on, ..flags })
+    } else if letter == 'm' {
+        Some(Flags { multi: on, ..flags })
+    } else if letter == 'R' {
+        Some(Flags { crlf: on, ..flags })
+    } else if letter == 's' {
+        Some(Flags { dotnl: on, ..flags })
+    } else if letter == 'U' {
+        Some(Flags {
+            swap_greed: on,
+            ..flags
+        })
+    } else if letter == 'x' {
+        Some(Flags {
+            ignore_space: on,
+            ..flags
+        })
+    } else {
+        None
+    }
+}
+
+/// The text of an unknown flag: `(?` and the letters through the one before `rest`.
+fn flag_text(alloc: Global, letters: &str, rest: &str) -> Result<String, AllocError>
+    requires { (w : Text) × (chars letters.now ≡ w ++ chars rest.now) }
+    ensures { IfOk result (λ s. text_of s ≡ spec.flag_text (chars letters.now) (chars rest.now)) }
+{
+    let read = front(letters, rest);
+    let mut text = String::from_str(alloc, "(?")?;
+    text.push_str(read)?;
+    Ok(text)
+}
+
+/// The fault of the letter before `rest`.
+fn unknown_flag(alloc: Global, letters: &str, rest: &str, end: usize) -> Error
+    requires behind { (w : Text) × (chars letters.now ≡ w ++ chars rest.now) }
+    requires within { length letters.now ≤ end }
+    ensures { FailsStep result (spec.unknown end (chars letters.now) (chars rest.now)) }
+{
+    match flag_text(alloc, letters, rest) {
+        Ok(text) => Error::ParseError(place(letters, end), ParseError::UnknownFlag(text)),
+        Err(_) => Error::OutOfMemory,
+    }
+}
+
+/// Whether nothing was read of the letters before `here`.
+#[tactic(auto, using(fancy_lex::proofs::TextLemmas::bytes_chars))]
+fn is_first(letters: &str, here: &str) -> bool
+    ensures { result ≡ spec.is_first (chars letters.now) (chars here.now) }
+{
+    here.len() == letters.len()
+}
+
+/// Whether a minus sign alone was read of the letters before `here`.
+#[tactic(auto, using(fancy_lex::proofs::TextLemmas::bytes_chars))]
+fn is_behind_minus(letters: &str, clears: bool, here: &str) -> bool
+    ensures { result ≡ spec.is_behind_minus (chars letters.now) clears (chars here.now) }
+{
+    clears && here.len() + 1 == letters.len()
+}
+
+/// Whether a parenthesis at `here` closes no letter at all.
+fn closes_nothing(letters: &str, clears: bool, here: &str) -> bool
+    ensures { result ≡ (spec.is_first (chars letters.now) (chars here.now) || spec.is_behind_minus (chars letters.now) clears (chars here.now)) }
+{
+    is_first(letters, here) || is_behind_minus(letters, clears, here)
+}
+
+/// Reads the letter at `here`.
+fn flag_letter<'a>(alloc: Global, letters: &str, clears: bool, flags: Flags, here: &'a str, end: usize) -> Result<Step<'a>, Error>
+    requires behind { (w : Text) × (chars letters.now ≡ w ++ chars here.now) }
+    requires within { length letters.now ≤ end }
+    ensures value { GivesStep result (spec.step end (chars letters.now) clears flags (chars here.now)) }
+    ensures shorter { IfOk result (λ s. IsShorter s (length here.now)) }
+    ensures one_on { IfOk result (λ s. GoesOneOn s (chars here.now)) }
+{
+    let Some((letter, rest)) = next(here) else {
+        return Err(Error::ParseError(end, ParseError::UnclosedOpenParen));
+    };
+    if letter == ')' {
+        if closes_nothing(letters, clears, here) {
+            return Err(unknown_flag(alloc, letters, rest, end));
+        }
+        return Ok(Step::Ends(Letters::Setting(flags, rest)));
+    }
+    if letter == ':' {
+        if is_behind_minus(letters, clears, here) {
+            return Err(unknown_flag(alloc, letters, rest, end));
+        }
+        return Ok(Step::Ends(Letters::Scope(flags, rest)));
+    }
+    if letter == '-' {
+        if clears {
+            return Err(unknown_flag(alloc, letters, rest, end));
+        }
+        return Ok(Step::Goes(true, flags, rest));
+    }
+    if letter == 'u' {
+        if clears == flags.unicode {
+            return Err(Error::ParseError(place(here, end), ParseError::ChangingUnicodeModeUnsupported));
+        }
+        return Ok(Step::Goes(clears, flags, rest));
+    }
+    match with_letter(flags, !clears, letter) {
+        Some(changed) => Ok(Step::Goes(clears, changed, rest)),
+        None => Err(unknown_flag(alloc, letters, rest, end)),
+    }
+}
+
+/// Reads the letters of a flag group, which begin behind the `(?`: the flags that hold behind them, and whether
+/// they were closed by a parenthesis or by a colon.
+pub fn flag_letters<'a>(alloc: Global, text: &'a str, flags: Flags, end: usize) -> Result<Letters<'a>, Error>
+    requires within { length text.now ≤ end }
+    requires end { end < 2 ^ 63 }
+    ensures value { GivesLetters result (spec.letters end flags (chars text.now)) }
+    ensures shorter { IfOk result (λ l. rest_length l < length text.now) }
+{
+    let mut clears = false;
+    let mut flags = flags;
+    let mut left = text;
+    loop {
+        let here = match layout(left, flags.ignore_space, end) {
+            Ok(here) => here,
+            Err(place) => return Err(Error::ParseError(place, ParseError::UnclosedOpenParen)),
+        };
+        match flag_letter(alloc, text, clears, flags, here, end)? {
+            Step::Ends(read) => return Ok(read),
+            Step::Goes(now_clears, changed, rest) => {
+                clears = now_clears;
+                flags = changed;
+                left = rest;
+            }
+        }
+    }
+}

@@ -1,0 +1,207 @@
+//! The text that a character, a number or a quantifier is printed as: how many bytes it has, and its writing.
+ghost use Rattle.std.specs.Prelude.{◌≡◌, ◌+◌, ◌<◌, ◌≤◌, chars, decimal};
+ghost use Rattle.fancy_lex.specs.Number.{IsWord};
+ghost use Rattle.fancy_lex.specs.Text.{bytes};
+ghost use Rattle.fancy_parts.specs.Quote as spec;
+ghost use Rattle.fancy_parts.specs.Room.{HasRoom, Appended};
+
+use crate::room::{put, put_ascii};
+use fancy_lex::text::next;
+
+/// What is written behind a backslash for a character, if it is not written as itself.
+pub fn behind(c: char) -> Option<char>
+    ensures { spec.behind c ≡ result }
+{
+    match c {
+        '\n' => Some('n'),
+        '\t' => Some('t'),
+        '\r' => Some('r'),
+        '\\' | '.' | '+' | '*' | '?' | '(' | ')' | '|' | '[' | ']' | '{' | '}' | '^' | '$' | '#' =>
+            Some(c),
+        _ => None,
+    }
+}
+
+/// How many bytes a character is printed as.
+#[inline]
+#[tactic(auto, using(crate::proofs::RoomLemmas::room_steps), unfolding(crate::specs::Quote::quoted))]
+fn quoted_len(c: char) -> usize
+    ensures { result ≡ bytes (spec.quoted c) }
+{
+    match behind(c) {
+        None => c.len_utf8(),
+        Some(letter) => 1 + letter.len_utf8(),
+    }
+}
+
+/// Writes a character, behind a backslash where it needs one.
+#[inline]
+#[tactic(auto, using(crate::proofs::RoomLemmas::room_steps), unfolding(crate::specs::Quote::quoted))]
+fn put_quoted(buf: &mut String, c: char)
+    requires { HasRoom buf.old (spec.quoted c) }
+    ensures { Appended buf.old buf.new (spec.quoted c) }
+{
+    match behind(c) {
+        None => put(buf, c),
+        Some(letter) => {
+            put(buf, '\\');
+            put(buf, letter);
+        }
+    }
+}
+
+/// How many bytes a text is printed as, where a word holds it.
+#[tactic(auto, using(crate::proofs::QuoteLemmas::quote_steps))]
+pub fn quotes_len(text: &str) -> Option<usize>
+    ensures { IsWord result (bytes (spec.quotes (chars text.now))) }
+{
+    let mut left = text;
+    let mut len = 0usize;
+    while let Some((c, rest)) = next(left) {
+        let Some(more) = len.checked_add(quoted_len(c)) else {
+            return None;
+        };
+        len = more;
+        left = rest;
+    }
+    Some(len)
+}
+
+/// Writes a text, with each character quoted that needs it.
+#[tactic(auto, using(crate::proofs::QuoteLemmas::quote_steps, crate::proofs::RoomLemmas::room_steps))]
+pub fn put_quotes(buf: &mut String, text: &str)
+    requires { HasRoom buf.old (spec.quotes (chars text.now)) }
+    ensures { Appended buf.old buf.new (spec.quotes (chars text.now)) }
+{
+    let mut left = text;
+    while let Some((c, rest)) = next(left) {
+        put_quoted(buf, c);
+        left = rest;
+    }
+}
+
+/// How many digits a number has.
+#[tactic(auto, using(crate::proofs::QuoteLemmas::number_steps))]
+pub fn number_len(n: usize) -> usize
+    ensures value { result ≡ bytes (decimal n) }
+    ensures within { result ≤ 20 }
+{
+    if n < 10 { 1 } else { number_len(n / 10) + 1 }
+}
+
+/// The digit of a number below ten.
+#[inline]
+fn digit(n: usize) -> char
+    requires { n < 10 }
+    ensures { result ≡ 48 + n }
+{
+    char::from(b'0' + n as u8)
+}
+
+/// Writes a number in decimal digits.
+#[tactic(auto, using(crate::proofs::RoomLemmas::room_steps, crate::proofs::QuoteLemmas::number_steps))]
+pub fn put_number(buf: &mut String, n: usize)
+    requires { HasRoom buf.old (decimal n) }
+    ensures { Appended buf.old buf.new (decimal n) }
+{
+    if n < 10 {
+        put(buf, digit(n));
+    } else {
+        put_number(buf, n / 10);
+        put(buf, digit(n % 10));
+    }
+}
+
+/// How many bytes a quantifier is printed as.
+#[tactic(auto, using(crate::proofs::RoomLemmas::room_steps))]
+pub fn quantifier_len(lo: usize, hi: usize, greedy: bool) -> usize
+    ensures value { result ≡ bytes (spec.quantifier lo hi greedy) }
+    ensures within { result ≤ 44 }
+{
+    counts_len(lo, hi) + usize::from(!greedy)
+}
+
+/// The mark that stands for a least and a greatest count.
+#[tactic(auto, unfolding(crate::specs::Quote::mark))]
+fn mark(lo: usize, hi: usize) -> Option<char>
+    ensures { spec.mark lo hi ≡ result }
+{
+    if lo == 0 && hi == 1 {
+        Some('?')
+    } else if lo == 0 && hi == usize::MAX {
+        Some('*')
+    } else if lo == 1 && hi == usize::MAX {
+        Some('+')
+    } else {
+        None
+    }
+}
+
+#[tactic(auto, using(crate::proofs::RoomLemmas::room_steps, crate::proofs::QuoteLemmas::counts_steps))]
+fn counts_len(lo: usize, hi: usize) -> usize
+    ensures value { result ≡ bytes (spec.counts_text lo hi) }
+    ensures within { result ≤ 43 }
+{
+    match mark(lo, hi) {
+        Some(mark) => mark.len_utf8(),
+        None => range_len(lo, hi) + 2,
+    }
+}
+
+#[tactic(auto, using(crate::proofs::RoomLemmas::room_steps, crate::proofs::QuoteLemmas::range_steps))]
+fn range_len(lo: usize, hi: usize) -> usize
+    ensures value { result ≡ bytes (spec.range lo hi) }
+    ensures within { result ≤ 41 }
+{
+    if lo == hi {
+        number_len(lo)
+    } else if hi == usize::MAX {
+        number_len(lo) + 1
+    } else {
+        number_len(lo) + number_len(hi) + 1
+    }
+}
+
+/// Writes a quantifier.
+#[tactic(auto, using(crate::proofs::RoomLemmas::room_steps))]
+pub fn put_quantifier(buf: &mut String, lo: usize, hi: usize, greedy: bool)
+    requires { HasRoom buf.old (spec.quantifier lo hi greedy) }
+    ensures { Appended buf.old buf.new (spec.quantifier lo hi greedy) }
+{
+    put_counts(buf, lo, hi);
+    if !greedy {
+        put(buf, '?');
+    }
+}
+
+#[tactic(auto, using(crate::proofs::RoomLemmas::room_steps, crate::proofs::QuoteLemmas::counts_steps))]
+fn put_counts(buf: &mut String, lo: usize, hi: usize)
+    requires { HasRoom buf.old (spec.counts_text lo hi) }
+    ensures { Appended buf.old buf.new (spec.counts_text lo hi) }
+{
+    match mark(lo, hi) {
+        Some(mark) => put(buf, mark),
+        None => {
+            put(buf, '{');
+            put_range(buf, lo, hi);
+            put(buf, '}');
+        }
+    }
+}
+
+#[tactic(auto, using(crate::proofs::RoomLemmas::room_steps, crate::proofs::QuoteLemmas::range_steps))]
+fn put_range(buf: &mut String, lo: usize, hi: usize)
+    requires { HasRoom buf.old (spec.range lo hi) }
+    ensures { Appended buf.old buf.new (spec.range lo hi) }
+{
+    if lo == hi {
+        put_number(buf, lo);
+    } else if hi == usize::MAX {
+        put_number(buf, lo);
+        put(buf, ',');
+    } else {
+        put_number(buf, lo);
+        put(buf, ',');
+        put_number(buf, hi);
+    }
+}

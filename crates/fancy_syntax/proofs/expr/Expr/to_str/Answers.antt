@@ -1,0 +1,16 @@
+use Rattle.std.proofs.Common.{arith, ap, ◌++◌, ◌∙◌}
+use Rattle.std.specs.Prelude.{encode_utf8_all}
+use Rattle.fancy_syntax.specs.Printed.{printed}
+use Rattle.fancy_syntax.specs.View.{view}
+use Rattle.fancy_syntax.proofs.PrintLemmas.{added, bytes_none}
+use Rattle.fancy_syntax.proofs.expr.Expr.to_str.Goals as goal
+
+pub returns-in_default-clause-nothing_to_print : goal.returns-in_default-clause-nothing_to_print
+returns-in_default-clause-nothing_to_print c h = absurd (omega (arith, bytes_none _ h, c.in_default.ensures))
+
+pub returns-in_err-reserve-clause-nothing_to_print : goal.returns-in_err-reserve-clause-nothing_to_print
+returns-in_err-reserve-clause-nothing_to_print c h = let w = c.args.buf.now.bytes.ok in absurd (omega (arith, bytes_none _ h, c.in-Some.ensures, c.in_err-reserve.ensures.full))
+
+pub returns-clause-appended : goal.returns-clause-appended
+returns-clause-appended c =
+    added c.reserve.new.self c.put_tree.new.buf _ c.put_tree.ensures ∙ ap (λ bs. bs ++ encode_utf8_all (printed (view c.args.self.now) c.args.precedence)) c.reserve.ensures.bytes

@@ -1,0 +1,7 @@
+use Rattle.std.proofs.Common.{◌≡◌}
+use Rattle.fancy_syntax.specs.Printable.{all_printable}
+use Rattle.fancy_syntax.proofs.PrintLemmas.{left}
+use Rattle.fancy_syntax.proofs.print.printable.+printable.Given as goal
+
+abbrev pub invariant-are_printable-loop-tree : goal.invariant-are_printable-loop-tree
+invariant-are_printable-loop-tree l = all_printable (left l.trees 0) ≡ all_printable (left l.trees l.tree-index)

@@ -1,0 +1,46 @@
+//! The text of a tree.
+ghost use Rattle.std.specs.Prelude.{◌≡◌, [], ◌++◌, true, IfOk, IsOk, OnOk, OnErr, string_bytes, encode_utf8_all};
+ghost use Rattle.fancy_syntax.specs.Printable.{printable};
+ghost use Rattle.fancy_syntax.specs.Printed.{printed, has_text};
+ghost use Rattle.fancy_syntax.specs.View.{view};
+
+mod count;
+mod fixed;
+mod printable;
+mod write;
+
+use crate::expr::Expr;
+use crate::print::count::tree_len;
+use crate::print::printable::is_printable;
+use crate::print::write::put_tree;
+use std::alloc::{AllocError, Global};
+
+impl Expr {
+    /// Whether the tree is printable: whether its text reads back as its normal form. So far no tree is told printable
+    /// that holds another variant than Empty, Literal, Concat, Alt, Group and Repeat, and no memory is taken.
+    pub fn is_printable(&self, alloc: Global) -> Result<bool, AllocError>
+        ensures exact { IfOk result (λ b. b ≡ printable (view self.now)) }
+        ensures text { IfOk result (λ b. b ≡ true → has_text (view self.now) ≡ true) }
+    {
+        Ok(is_printable(self))
+    }
+
+    /// Appends the tree's text to `buf`; the caller owes a tree that has one, as every printable tree has. Above
+    /// precedence 0 an `Alt`, above 1 a `Concat` and above 2 a `Repeat` stands in a group of its own. The buffer grows
+    /// once, by the text's length in bytes; where that is refused, the answer is `AllocError` and `buf` holds what it held.
+    pub fn to_str(&self, buf: &mut String, precedence: u8) -> Result<(), AllocError>
+        requires text { has_text (view self.now) ≡ true }
+        ensures appended { OnOk result (string_bytes buf.new ≡ string_bytes buf.old ++ encode_utf8_all (printed (view self.now) precedence)) }
+        ensures unchanged { OnErr result (string_bytes buf.new ≡ string_bytes buf.old) }
+        ensures nothing_to_print { printed (view self.now) precedence ≡ [] → IsOk result }
+    {
+        let Some(more) = tree_len(self, precedence) else {
+            // No memory has room for so long a text, whatever this request is answered.
+            let _refused = buf.reserve(usize::MAX);
+            return Err(AllocError);
+        };
+        buf.reserve(more)?;
+        put_tree(buf, self, precedence);
+        Ok(())
+    }
+}

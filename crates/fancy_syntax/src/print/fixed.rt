@@ -1,0 +1,44 @@
+//! The texts that do not depend on what a tree holds.
+ghost use Rattle.std.specs.Prelude.{◌≡◌, true, nat_lt};
+ghost use Rattle.std.specs.List.{list_all};
+ghost use Rattle.fancy_syntax.specs.Printed as spec;
+
+use fancy_lex::escape::Assertion;
+
+/// The text of a node for any character.
+pub fn any_text(newline: bool, crlf: bool) -> &'static str
+    ensures text { spec.any_text newline crlf ≡ result.now }
+    ensures ascii { list_all (λ b. nat_lt b 128) result.now ≡ true }
+{
+    if newline {
+        "(?s:.)"
+    } else if crlf {
+        "(?R-s:.)"
+    } else {
+        "."
+    }
+}
+
+/// The text of an assertion; nothing for the one that has none.
+pub fn assertion_text(assertion: Assertion) -> &'static str
+    ensures text { spec.assertion_text assertion ≡ result.now }
+    ensures ascii { list_all (λ b. nat_lt b 128) result.now ≡ true }
+{
+    match assertion {
+        Assertion::StartText => "^",
+        Assertion::EndText => "$",
+        Assertion::StartLine { crlf: false } => "(?m:^)",
+        Assertion::StartLine { crlf: true } => "(?Rm:^)",
+        Assertion::StartLineOniguruma { crlf: false } => "(?m:^)",
+        Assertion::StartLineOniguruma { crlf: true } => "(?Rm:^)",
+        Assertion::EndLine { crlf: false } => "(?m:$)",
+        Assertion::EndLine { crlf: true } => "(?Rm:$)",
+        Assertion::WordBoundary => "\\b",
+        Assertion::NotWordBoundary => "\\B",
+        Assertion::LeftWordBoundary => "\\<",
+        Assertion::RightWordBoundary => "\\>",
+        Assertion::LeftWordHalfBoundary => "\\b{start-half}",
+        Assertion::RightWordHalfBoundary => "\\b{end-half}",
+        Assertion::EndTextIgnoreTrailingNewlines { .. } => "",
+    }
+}

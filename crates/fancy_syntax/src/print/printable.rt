@@ -1,0 +1,100 @@
+//! Whether a tree's text reads back as its normal form.
+ghost use Rattle.std.specs.Prelude.{◌≡◌, nat_lt, length, chars};
+ghost use Rattle.fancy_syntax.specs.Join.{is_empty, join};
+ghost use Rattle.fancy_syntax.specs.Normal.{normal, items};
+ghost use Rattle.fancy_syntax.specs.Printable as spec;
+ghost use Rattle.fancy_syntax.specs.Tree.{trees_of};
+ghost use Rattle.fancy_syntax.specs.View.{view, views};
+
+use crate::expr::Expr;
+use fancy_lex::text::next;
+
+/// Whether the tree is printable.
+#[cycle(printable)]
+pub fn is_printable(tree: &Expr) -> bool
+    ensures { result ≡ spec.printable (view tree.now) }
+{
+    match tree {
+        Expr::Empty => true,
+        Expr::Literal { .. } => true,
+        Expr::Concat(children) => are_printable(children),
+        Expr::Alt(children) => are_printable(children),
+        Expr::Group(child) => is_printable(child),
+        Expr::Repeat { child, lo, hi, .. } => {
+            // Once read, they are known to be counts.
+            let _counts = (*lo, *hi);
+            is_printable(child) && takes_quantifier(child)
+        }
+        _ => false,
+    }
+}
+
+#[cycle(printable)]
+fn are_printable(trees: &[Expr]) -> bool
+    ensures { result ≡ spec.all_printable (trees_of (views trees.now)) }
+{
+    for tree in trees {
+        if !is_printable(tree) {
+            return false;
+        }
+    }
+    true
+}
+
+/// Whether a quantifier may stand behind the tree's text.
+fn takes_quantifier(tree: &Expr) -> bool
+    ensures { result ≡ spec.takes_quantifier (view tree.now) }
+{
+    !is_empty_in_normal_form(tree) && !is_long(tree)
+}
+
+/// Whether a quantifier would take the last character of the tree's text alone.
+fn is_long(tree: &Expr) -> bool
+    ensures { result ≡ spec.is_long (view tree.now) }
+{
+    match tree {
+        Expr::Literal { val, casei: false } => has_several(val.as_str()),
+        _ => false,
+    }
+}
+
+/// Whether the text has two characters or more.
+fn has_several(text: &str) -> bool
+    ensures { result ≡ nat_lt 1 (length (chars text.now)) }
+{
+    let Some((_, rest)) = next(text) else {
+        return false;
+    };
+    next(rest).is_some()
+}
+
+/// Whether the tree's normal form is Empty.
+#[cycle(normal)]
+fn is_empty_in_normal_form(tree: &Expr) -> bool
+    ensures { result ≡ is_empty (normal (view tree.now)) }
+{
+    match tree {
+        Expr::Empty => true,
+        Expr::DefineGroup { .. } => true,
+        Expr::Literal { val, .. } => next(val.as_str()).is_none(),
+        Expr::Concat(children) => are_empty_in_normal_form(children),
+        Expr::Alt(children) => match children.as_slice() {
+            [] => true,
+            [only] => is_empty_in_normal_form(only),
+            _ => false,
+        },
+        _ => false,
+    }
+}
+
+#[cycle(normal)]
+fn are_empty_in_normal_form(trees: &[Expr]) -> bool
+    ensures { result ≡ is_empty (join (items (trees_of (views trees.now)))) }
+{
+    for tree in trees {
+        if !is_empty_in_normal_form(tree) {
+            return false;
+        }
+    }
+    true
+}

@@ -1,0 +1,140 @@
+//! Writing a tree's text into a string that has room for it.
+ghost use Rattle.std.specs.Prelude.{◌≡◌, ◌++◌, codes, if◌then◌else◌, [], nat_lt, true};
+ghost use Rattle.std.specs.List.{list_all};
+ghost use Rattle.fancy_lex.specs.Text.{text_of};
+ghost use Rattle.fancy_parts.specs.Quote.{quotes, quantifier};
+ghost use Rattle.fancy_parts.specs.Room.{HasRoom, Appended};
+ghost use Rattle.fancy_syntax.specs.Printed.{printed, printed_all, printed_branches, grouped, caseless};
+ghost use Rattle.fancy_syntax.specs.Tree.{trees_of};
+ghost use Rattle.fancy_syntax.specs.View.{view, views};
+
+use crate::expr::Expr;
+use crate::print::fixed::{any_text, assertion_text};
+use fancy_parts::quote::{put_quantifier, put_quotes};
+use fancy_parts::room::{put, put_ascii, put_text};
+
+/// Writes a text of ASCII characters, where it is asked.
+#[inline]
+#[tactic(auto, using(crate::proofs::PrintLemmas::write_steps))]
+fn put_if(buf: &mut String, asked: bool, text: &str)
+    requires ascii { list_all (λ b. nat_lt b 128) text.now ≡ true }
+    requires room { HasRoom buf.old (if asked then text.now else []) }
+    ensures { Appended buf.old buf.new (if asked then text.now else []) }
+{
+    if asked {
+        put_ascii(buf, text);
+    }
+}
+
+#[tactic(auto, using(crate::proofs::PrintLemmas::write_steps))]
+fn put_literal(buf: &mut String, val: &String, casei: bool)
+    requires { HasRoom buf.old (caseless casei (quotes (text_of val.now))) }
+    ensures { Appended buf.old buf.new (caseless casei (quotes (text_of val.now))) }
+{
+    put_if(buf, casei, "(?i:");
+    put_quotes(buf, val.as_str());
+    put_if(buf, casei, ")");
+}
+
+#[tactic(auto, using(crate::proofs::PrintLemmas::write_steps))]
+fn put_delegate(buf: &mut String, inner: &String, casei: bool)
+    requires { HasRoom buf.old (caseless casei (text_of inner.now)) }
+    ensures { Appended buf.old buf.new (caseless casei (text_of inner.now)) }
+{
+    put_if(buf, casei, "(?i:");
+    put_text(buf, inner);
+    put_if(buf, casei, ")");
+}
+
+/// Writes a tree's text.
+#[cycle(write)]
+#[tactic(auto, using(crate::proofs::PrintLemmas::write_steps))]
+pub fn put_tree(buf: &mut String, tree: &Expr, precedence: u8)
+    requires { HasRoom buf.old (printed (view tree.now) precedence) }
+    ensures { Appended buf.old buf.new (printed (view tree.now) precedence) }
+{
+    match tree {
+        Expr::Any { newline, crlf } => put_ascii(buf, any_text(*newline, *crlf)),
+        Expr::Assertion(assertion) => put_ascii(buf, assertion_text(*assertion)),
+        Expr::Literal { val, casei } => put_literal(buf, val, *casei),
+        Expr::Delegate { inner, casei } => put_delegate(buf, inner, *casei),
+        Expr::Concat(children) => put_concat(buf, children, precedence > 1),
+        Expr::Alt(children) => put_alt(buf, children, precedence > 0),
+        Expr::Group(child) => put_group(buf, child),
+        Expr::Repeat {
+            child,
+            lo,
+            hi,
+            greedy,
+        } => put_repeat(buf, child, *lo, *hi, *greedy, precedence > 2),
+        _ => {}
+    }
+}
+
+#[cycle(write)]
+#[tactic(auto, using(crate::proofs::PrintLemmas::write_steps))]
+fn put_concat(buf: &mut String, trees: &[Expr], is_grouped: bool)
+    requires { HasRoom buf.old (grouped is_grouped (printed_all (trees_of (views trees.now)))) }
+    ensures { Appended buf.old buf.new (grouped is_grouped (printed_all (trees_of (views trees.now)))) }
+{
+    put_if(buf, is_grouped, "(?:");
+    put_all(buf, trees);
+    put_if(buf, is_grouped, ")");
+}
+
+#[cycle(write)]
+#[tactic(auto, using(crate::proofs::PrintLemmas::write_steps))]
+fn put_all(buf: &mut String, trees: &[Expr])
+    requires { HasRoom buf.old (printed_all (trees_of (views trees.now))) }
+    ensures { Appended buf.old buf.new (printed_all (trees_of (views trees.now))) }
+{
+    for tree in trees {
+        put_tree(buf, tree, 2);
+    }
+}
+
+#[cycle(write)]
+#[tactic(auto, using(crate::proofs::PrintLemmas::write_steps))]
+fn put_alt(buf: &mut String, trees: &[Expr], is_grouped: bool)
+    requires { HasRoom buf.old (grouped is_grouped (printed_branches (trees_of (views trees.now)))) }
+    ensures { Appended buf.old buf.new (grouped is_grouped (printed_branches (trees_of (views trees.now)))) }
+{
+    put_if(buf, is_grouped, "(?:");
+    put_branches(buf, trees);
+    put_if(buf, is_grouped, ")");
+}
+
+#[cycle(write)]
+#[tactic(auto, using(crate::proofs::PrintLemmas::write_steps))]
+fn put_branches(buf: &mut String, trees: &[Expr])
+    requires { HasRoom buf.old (printed_branches (trees_of (views trees.now))) }
+    ensures { Appended buf.old buf.new (printed_branches (trees_of (views trees.now))) }
+{
+    for (i, tree) in trees.iter().enumerate() {
+        put_if(buf, i > 0, "|");
+        put_tree(buf, tree, 1);
+    }
+}
+
+#[cycle(write)]
+#[tactic(auto, using(crate::proofs::PrintLemmas::write_steps))]
+fn put_group(buf: &mut String, tree: &Expr)
+    requires { HasRoom buf.old (codes "(" ++ (printed (view tree.now) 0 ++ codes ")")) }
+    ensures { Appended buf.old buf.new (codes "(" ++ (printed (view tree.now) 0 ++ codes ")")) }
+{
+    put(buf, '(');
+    put_tree(buf, tree, 0);
+    put(buf, ')');
+}
+
+#[cycle(write)]
+#[tactic(auto, using(crate::proofs::PrintLemmas::write_steps))]
+fn put_repeat(buf: &mut String, child: &Expr, lo: usize, hi: usize, greedy: bool, is_grouped: bool)
+    requires { HasRoom buf.old (grouped is_grouped (printed (view child.now) 3 ++ quantifier lo hi greedy)) }
+    ensures { Appended buf.old buf.new (grouped is_grouped (printed (view child.now) 3 ++ quantifier lo hi greedy)) }
+{
+    put_if(buf, is_grouped, "(?:");
+    put_tree(buf, child, 3);
+    put_quantifier(buf, lo, hi, greedy);
+    put_if(buf, is_grouped, ")");
+}
