@@ -1,0 +1,24 @@
+//! `fre FLAGS PATTERN` writes the tree of a pattern, its marks and its text, a line each.
+#![tactic(auto)]
+
+use fre_program::program::fre_run;
+use std::io::BufWriter;
+use std::process::ExitCode;
+use std::{env, io};
+
+/// Runs the program on the words behind its name; an error where memory is wanting for them.
+fn run(rt: &HostRuntime) -> io::Result<u8> {
+    let words: Vec<String> = env::args(rt)?.skip(1).collect(rt.alloc())?;
+    let mut out = BufWriter::new(rt.alloc(), rt.stdout())?;
+    Ok(fre_run(rt.alloc(), &words, &mut out, &mut rt.stderr()))
+}
+
+fn main(rt: HostRuntime) -> ExitCode {
+    match run(&rt) {
+        Ok(status) => ExitCode::from(status),
+        Err(_) => ExitCode::from(3),
+    }
+}
+
+#[cfg(test)]
+mod tests;

@@ -1,0 +1,47 @@
+-- The word that names flags: `-` for none, or letters.
+use Rattle.std.specs.Prelude.{◌≡◌, Bool, true, false, ◌||◌, ◌==◌, ◌⊎◌, ℕ, [], ◌∷◌, codes}
+use Rattle.std.specs.List.{list_all}
+use Rattle.fancy_lex.specs.Text.{Text}
+use Rattle.fancy_lex.specs.declared.flags.Flags.{Flags}
+
+-- whether the character stands in the word
+abbrev pub has : ℕ → Text → Bool
+has c [] = false
+has c (d ∷ t) = d == c || has c t
+
+-- the flags that the letters of a word name
+abbrev pub named_flags : Text → Flags
+named_flags w = record {
+  casei = has 105 w;  -- i
+  multi = has 109 w;  -- m
+  dotnl = has 115 w;  -- s
+  swap_greed = has 85 w;  -- U
+  ignore_space = has 120 w;  -- x
+  unicode = has 117 w;  -- u
+  crlf = has 82 w;  -- R
+  oniguruma_mode = has 111 w;  -- o
+  ignore_numbered_groups = has 110 w;  -- n
+}
+
+-- whether the character is one of those letters
+abbrev pub is_letter : ℕ → Bool
+is_letter c = has c (codes "imsUxuRon")
+
+-- the word is `-`, or one letter or more and nothing else
+abbrev pub NamesFlags : Text → Type 0
+NamesFlags [] = ⊥
+NamesFlags (c ∷ t) = (c ∷ t ≡ codes "-") ⊎ (list_all is_letter (c ∷ t) ≡ true)
+
+-- the flags that either names
+abbrev pub either : Flags → Flags → Flags
+either f g = record {
+  casei = f.casei || g.casei;
+  multi = f.multi || g.multi;
+  dotnl = f.dotnl || g.dotnl;
+  swap_greed = f.swap_greed || g.swap_greed;
+  ignore_space = f.ignore_space || g.ignore_space;
+  unicode = f.unicode || g.unicode;
+  crlf = f.crlf || g.crlf;
+  oniguruma_mode = f.oniguruma_mode || g.oniguruma_mode;
+  ignore_numbered_groups = f.ignore_numbered_groups || g.ignore_numbered_groups;
+}

@@ -1,0 +1,2 @@
+pub mod FlagWord
+pub mod Words

@@ -1,0 +1,266 @@
+//! The lines that say what a pattern reads as. Each ends with LF.
+use fancy_lex::escape::Assertion;
+use fancy_lex::name::CaptureGroupTarget;
+use fancy_syntax::expr::{Absent, AstNode, BacktrackingControlVerb, Expr, LookAround};
+use fancy_syntax::tree::ExprTree;
+use std::collections::{BTreeMap, BTreeSet};
+use std::io::Write;
+use std::{fmt, io};
+
+/// Bytes in hexadecimal, `-` where there are none.
+#[derive(Clone, Copy)]
+struct Hex<'a>(&'a [u8]);
+
+impl fmt::Display for Hex<'_> {
+    fn fmt<W: fmt::Write>(&self, f: &mut fmt::Formatter<W>) -> fmt::Result {
+        if self.0.is_empty() {
+            return f.write_str("-");
+        }
+        for byte in self.0 {
+            write!(f, "{byte:02x}")?;
+        }
+        Ok(())
+    }
+}
+
+/// A value, or `none`.
+#[derive(Clone, Copy)]
+struct OrNone<T>(Option<T>);
+
+impl<T: fmt::Display> fmt::Display for OrNone<T> {
+    fn fmt<W: fmt::Write>(&self, f: &mut fmt::Formatter<W>) -> fmt::Result {
+        match &self.0 {
+            Some(value) => write!(f, "{value}"),
+            None => f.write_str("none"),
+        }
+    }
+}
+
+/// Numbers with commas between, `-` where there are none.
+#[derive(Clone, Copy)]
+struct Numbers<'a>(&'a [usize]);
+
+impl fmt::Display for Numbers<'_> {
+    fn fmt<W: fmt::Write>(&self, f: &mut fmt::Formatter<W>) -> fmt::Result {
+        let Some((first, others)) = self.0.split_first() else {
+            return f.write_str("-");
+        };
+        write!(f, "{first}")?;
+        for number in others {
+            write!(f, ",{number}")?;
+        }
+        Ok(())
+    }
+}
+
+/// The same of a set, in ascending order.
+#[derive(Clone, Copy)]
+struct NumberSet<'a>(&'a BTreeSet<usize>);
+
+impl fmt::Display for NumberSet<'_> {
+    fn fmt<W: fmt::Write>(&self, f: &mut fmt::Formatter<W>) -> fmt::Result {
+        let mut numbers = self.0.iter();
+        let Some(first) = numbers.next() else {
+            return f.write_str("-");
+        };
+        write!(f, "{first}")?;
+        for number in numbers {
+            write!(f, ",{number}")?;
+        }
+        Ok(())
+    }
+}
+
+/// Each name with its numbers, in byte order with semicolons between, `-` where there are none.
+#[derive(Clone, Copy)]
+struct NamedGroups<'a>(&'a BTreeMap<String, Vec<usize>>);
+
+impl fmt::Display for NamedGroups<'_> {
+    fn fmt<W: fmt::Write>(&self, f: &mut fmt::Formatter<W>) -> fmt::Result {
+        let mut groups = self.0.iter();
+        let Some((name, numbers)) = groups.next() else {
+            return f.write_str("-");
+        };
+        write!(f, "{}:{}", Hex(name.as_bytes()), Numbers(numbers))?;
+        for (name, numbers) in groups {
+            write!(f, ";{}:{}", Hex(name.as_bytes()), Numbers(numbers))?;
+        }
+        Ok(())
+    }
+}
+
+/// What a reference names.
+#[derive(Clone, Copy)]
+struct Target<'a>(&'a CaptureGroupTarget);
+
+impl fmt::Display for Target<'_> {
+    fn fmt<W: fmt::Write>(&self, f: &mut fmt::Formatter<W>) -> fmt::Result {
+        match self.0 {
+            CaptureGroupTarget::ByNumber(number) => write!(f, "number:{number}"),
+            CaptureGroupTarget::ByName(name) => write!(f, "name:{}", Hex(name.as_bytes())),
+            CaptureGroupTarget::Relative(amount) => write!(f, "relative:{amount}"),
+        }
+    }
+}
+
+fn look_around_name(look_around: LookAround) -> &'static str {
+    match look_around {
+        LookAround::LookAhead => "LookAhead",
+        LookAround::LookAheadNeg => "LookAheadNeg",
+        LookAround::LookBehind => "LookBehind",
+        LookAround::LookBehindNeg => "LookBehindNeg",
+    }
+}
+
+fn verb_name(verb: BacktrackingControlVerb) -> &'static str {
+    match verb {
+        BacktrackingControlVerb::Fail => "Fail",
+        BacktrackingControlVerb::Accept => "Accept",
+        BacktrackingControlVerb::Commit => "Commit",
+        BacktrackingControlVerb::Skip => "Skip",
+        BacktrackingControlVerb::Prune => "Prune",
+    }
+}
+
+fn absent_name(absent: &Absent) -> &'static str {
+    match absent {
+        Absent::Repeater(_) => "Repeater",
+        Absent::Expression { .. } => "Expression",
+        Absent::Stopper(_) => "Stopper",
+        Absent::Clear => "Clear",
+    }
+}
+
+/// An assertion's name, with its field where it has one.
+#[derive(Clone, Copy)]
+struct AssertionText(Assertion);
+
+impl fmt::Display for AssertionText {
+    fn fmt<W: fmt::Write>(&self, f: &mut fmt::Formatter<W>) -> fmt::Result {
+        match self.0 {
+            Assertion::StartText => f.write_str("StartText"),
+            Assertion::EndText => f.write_str("EndText"),
+            Assertion::EndTextIgnoreTrailingNewlines { crlf } => {
+                write!(f, "EndTextIgnoreTrailingNewlines crlf={crlf}")
+            }
+            Assertion::StartLine { crlf } => write!(f, "StartLine crlf={crlf}"),
+            Assertion::StartLineOniguruma { crlf } => write!(f, "StartLineOniguruma crlf={crlf}"),
+            Assertion::EndLine { crlf } => write!(f, "EndLine crlf={crlf}"),
+            Assertion::LeftWordBoundary => f.write_str("LeftWordBoundary"),
+            Assertion::LeftWordHalfBoundary => f.write_str("LeftWordHalfBoundary"),
+            Assertion::RightWordBoundary => f.write_str("RightWordBoundary"),
+            Assertion::RightWordHalfBoundary => f.write_str("RightWordHalfBoundary"),
+            Assertion::WordBoundary => f.write_str("WordBoundary"),
+            Assertion::NotWordBoundary => f.write_str("NotWordBoundary"),
+        }
+    }
+}
+
+/// The name of a node's variant.
+fn node_name(node: &Expr) -> &'static str {
+    match node {
+        Expr::Empty => "Empty",
+        Expr::Any { .. } => "Any",
+        Expr::Assertion(_) => "Assertion",
+        Expr::GeneralNewline { .. } => "GeneralNewline",
+        Expr::Literal { .. } => "Literal",
+        Expr::LiteralBytes { .. } => "LiteralBytes",
+        Expr::Concat(_) => "Concat",
+        Expr::Alt(_) => "Alt",
+        Expr::Group(_) => "Group",
+        Expr::LookAround(_, _) => "LookAround",
+        Expr::Repeat { .. } => "Repeat",
+        Expr::Delegate { .. } => "Delegate",
+        Expr::Backref { .. } => "Backref",
+        Expr::BackrefWithRelativeRecursionLevel { .. } => "BackrefWithRelativeRecursionLevel",
+        Expr::AtomicGroup(_) => "AtomicGroup",
+        Expr::KeepOut => "KeepOut",
+        Expr::ContinueFromPreviousMatchEnd => "ContinueFromPreviousMatchEnd",
+        Expr::BackrefExistsCondition { .. } => "BackrefExistsCondition",
+        Expr::Conditional { .. } => "Conditional",
+        Expr::SubroutineCall(_) => "SubroutineCall",
+        Expr::BacktrackingControlVerb(_) => "BacktrackingControlVerb",
+        Expr::Absent(_) => "Absent",
+        Expr::DefineGroup { .. } => "DefineGroup",
+        Expr::AstNode(_, _) => "AstNode",
+    }
+}
+
+/// A node's fields behind its name, its children left out.
+#[derive(Clone, Copy)]
+struct Fields<'a>(&'a Expr);
+
+impl fmt::Display for Fields<'_> {
+    fn fmt<W: fmt::Write>(&self, f: &mut fmt::Formatter<W>) -> fmt::Result {
+        match self.0 {
+            Expr::Any { newline, crlf } => write!(f, " newline={newline} crlf={crlf}"),
+            Expr::Assertion(assertion) => write!(f, " {}", AssertionText(*assertion)),
+            Expr::GeneralNewline { unicode } => write!(f, " unicode={unicode}"),
+            Expr::Literal { val, casei } => write!(f, " {} casei={casei}", Hex(val.as_bytes())),
+            Expr::LiteralBytes { bytes } => write!(f, " {}", Hex(bytes)),
+            Expr::LookAround(_, look_around) => write!(f, " {}", look_around_name(*look_around)),
+            Expr::Repeat { lo, hi, greedy, .. } => write!(f, " {lo} {hi} greedy={greedy}"),
+            Expr::Delegate { inner, casei } => write!(
+                f,
+                " {} casei={casei}",
+                Hex(inner.as_bytes())
+            ),
+            Expr::Backref { group, casei } => write!(f, " {group} casei={casei}"),
+            Expr::BackrefWithRelativeRecursionLevel {
+                group,
+                relative_level,
+                casei,
+            } => { write!(f, " {group} {relative_level} casei={casei}") }
+            Expr::BackrefExistsCondition {
+                group,
+                relative_recursion_level,
+            } => { write!(f, " {group} {}", OrNone(*relative_recursion_level)) }
+            Expr::SubroutineCall(group) => write!(f, " {group}"),
+            Expr::BacktrackingControlVerb(verb) => write!(f, " {}", verb_name(*verb)),
+            Expr::Absent(absent) => write!(f, " {}", absent_name(absent)),
+            Expr::AstNode(AstNode::SubroutineCall(target), place) => {
+                write!(f, " SubroutineCall {} {place}", Target(target))
+            }
+            _ => Ok(()),
+        }
+    }
+}
+
+/// Writes a line for each node of the tree in preorder, indented by two spaces a level.
+pub(crate) fn write_nodes<O: Write>(out: &mut O, tree: &Expr, level: usize) -> io::Result<()> {
+    for _ in 0..level {
+        out.write_all(b"  ")?;
+    }
+    writeln!(out, "{}{}", node_name(tree), Fields(tree))?;
+    for child in tree.children_iter() {
+        write_nodes(out, child, level.saturating_add(1))?;
+    }
+    Ok(())
+}
+
+/// Writes the line of what is known of the tree's groups and references.
+pub(crate) fn write_marks<O: Write>(out: &mut O, tree: &ExprTree) -> io::Result<()> {
+    write!(
+        out,
+        "marks groups={} backrefs={}",
+        tree.total_groups,
+        NumberSet(&tree.backrefs)
+    )?;
+    write!(out, " named={}", NamedGroups(&tree.named_groups))?;
+    write!(out, " numeric={}", tree.numeric_capture_group_references)?;
+    write!(
+        out,
+        " calls={} self={}",
+        tree.contains_subroutines, tree.self_recursive
+    )?;
+    write!(out, " out_of_range={}", OrNone(tree.out_of_range_backref))?;
+    writeln!(out, " ignored={}", tree.numbered_groups_ignored)
+}
+
+/// Writes the line of the tree's text, or of its want of one.
+pub(crate) fn write_text<O: Write>(out: &mut O, text: &Option<String>) -> io::Result<()> {
+    match text {
+        Some(text) => writeln!(out, "text {}", Hex(text.as_bytes())),
+        None => writeln!(out, "text none"),
+    }
+}

@@ -1,0 +1,110 @@
+//! A run of the program.
+ghost use Rattle.std.specs.Prelude.{◌≡◌, ◌≤◌, chars, Ok, MatchOption};
+ghost use Rattle.fancy_lex.specs.Flags.{flags_of};
+ghost use Rattle.fre_program.specs.Words.{IsWellFormed, OfWords, HasTree, HasFault};
+
+use crate::fault::Fault;
+use crate::flag_word::flags_named;
+use crate::lines::{write_marks, write_nodes, write_text};
+use fancy_lex::error::Error;
+use fancy_syntax::expr::Expr;
+use fancy_syntax::tree::ExprTree;
+use std::alloc::{AllocError, Global};
+use std::io::Write;
+
+/// What is said of a pattern.
+#[derive(Clone, Copy)]
+enum Verdict {
+    Accepted,
+    Refused,
+}
+
+/// The flags and the pattern that the words name.
+fn named_by(words: &[String]) -> Option<(u32, &str)>
+    ensures { MatchOption result (IsWellFormed words.now → ⊥) (λ p. OfWords (λ f pattern. (f ≡ flags_of p.0) × (pattern ≡ chars p.1.now)) words.now) }
+{
+    let [flags, pattern] = words else {
+        return None;
+    };
+    Some((flags_named(flags.as_str())?, pattern.as_str()))
+}
+
+/// The tree's text, where it is printable.
+fn text_of(alloc: Global, tree: &Expr) -> Result<Option<String>, AllocError> {
+    if !tree.is_printable(alloc)? {
+        return Ok(None);
+    }
+    let mut text = String::new(alloc);
+    tree.to_str(&mut text, 0)?;
+    Ok(Some(text))
+}
+
+/// Writes all that is known of the tree.
+fn write_tree<O: Write>(alloc: Global, out: &mut O, tree: &ExprTree) -> Result<(), Fault> {
+    let text = text_of(alloc, &tree.expr)?;
+    write_nodes(out, &tree.expr, 0)?;
+    write_marks(out, tree)?;
+    write_text(out, &text)?;
+    out.flush()?;
+    Ok(())
+}
+
+/// Reads the pattern, and writes its tree on `out` or its fault on `err`.
+fn answer<O: Write, E: Write>(
+    alloc: Global,
+    pattern: &str,
+    flags: u32,
+    out: &mut O,
+    err: &mut E,
+) -> Result<Verdict, Fault>
+    ensures accepted { result ≡ Ok Verdict.Accepted → HasTree (flags_of flags) (chars pattern.now) }
+    ensures refused { result ≡ Ok Verdict.Refused → HasFault (flags_of flags) (chars pattern.now) }
+{
+    match Expr::parse_tree_with_flags(alloc, pattern, flags) {
+        Ok(tree) => {
+            write_tree(alloc, out, &tree)?;
+            Ok(Verdict::Accepted)
+        }
+        Err(Error::OutOfMemory) => Err(Fault::Memory(AllocError)),
+        Err(refusal) => {
+            writeln!(err, "{refusal}")?;
+            Ok(Verdict::Refused)
+        }
+    }
+}
+
+/// Says on `err` how the program is called.
+fn explain<E: Write>(err: &mut E) -> Result<(), Fault> {
+    writeln!(err, "{}", Fault::Usage)?;
+    Ok(())
+}
+
+/// Tries to say why there is no answer.
+fn give_up<E: Write>(err: &mut E, fault: Fault) -> u8
+    ensures { result ≡ 3 }
+{
+    let _ = writeln!(err, "{fault}");
+    3
+}
+
+/// Runs the program on the words behind its name, and answers its status: 0 where the pattern is accepted, with the
+/// lines on `out`; 1 where it is refused, with why on `err`; 2 where the words are not well formed, with the usage on
+/// `err`; 3 where memory or a write was wanting, which is tried on `err`. Then `out` may hold a beginning.
+pub fn fre_run<O: Write, E: Write>(alloc: Global, words: &[String], out: &mut O, err: &mut E) -> u8
+    ensures accepted { result ≡ 0 → OfWords HasTree words.now }
+    ensures refused { result ≡ 1 → OfWords HasFault words.now }
+    ensures misused { result ≡ 2 → IsWellFormed words.now → ⊥ }
+    ensures status { result ≤ 3 }
+{
+    let Some((flags, pattern)) = named_by(words) else {
+        return match explain(err) {
+            Ok(()) => 2,
+            Err(fault) => give_up(err, fault),
+        };
+    };
+    match answer(alloc, pattern, flags, out, err) {
+        Ok(Verdict::Accepted) => 0,
+        Ok(Verdict::Refused) => 1,
+        Err(fault) => give_up(err, fault),
+    }
+}

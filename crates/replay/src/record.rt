@@ -1,0 +1,67 @@
+//! Recorded answers: the lines of the files, whose fields tabs part. Texts are in hexadecimal, `-` where empty.
+use crate::comparison::Answer;
+use anyhow::{Result, bail};
+use std::alloc::Global;
+use std::str;
+
+/// Flags, a pattern, and what is answered: the status, standard output and standard error.
+#[derive(Drop)]
+pub(crate) struct Reading {
+    /// The flags and the pattern.
+    pub(crate) words: [String; 2],
+    pub(crate) answer: Answer,
+}
+
+/// A precedence, the lines of a tree, and its text, `none` where it is not printable.
+#[derive(Drop)]
+pub(crate) struct Printing {
+    pub(crate) precedence: u8,
+    pub(crate) lines: String,
+    pub(crate) text: Option<String>,
+}
+
+#[derive(Drop)]
+pub(crate) enum Record {
+    Reading(Reading),
+    Printing(Printing),
+}
+
+/// The bytes of a field.
+pub(crate) fn bytes(alloc: Global, field: &str) -> Result<Vec<u8>> {
+    if field == "-" {
+        return Ok(Vec::new(alloc));
+    }
+    Ok(hex::decode(alloc, field)?)
+}
+
+/// The text of a field.
+pub(crate) fn text(alloc: Global, field: &str) -> Result<String> {
+    let bytes = bytes(alloc, field)?;
+    Ok(String::from_str(alloc, str::from_utf8(&bytes)?)?)
+}
+
+impl Record {
+    pub(crate) fn read(alloc: Global, line: &str) -> Result<Record> {
+        let fields: Vec<&str> = line.split('\t').collect(alloc)?;
+        Ok(match fields.as_slice() {
+            [flags, pattern, status, out, err] => Record::Reading(Reading {
+                words: [String::from_str(alloc, flags)?, text(alloc, pattern)?],
+                answer: Answer {
+                    status: status.parse::<u8>()?,
+                    out: bytes(alloc, out)?,
+                    err: bytes(alloc, err)?,
+                },
+            }),
+            [precedence, lines, printed] => Record::Printing(Printing {
+                precedence: precedence.parse::<u8>()?,
+                lines: text(alloc, lines)?,
+                text: if *printed == "none" {
+                    None
+                } else {
+                    Some(text(alloc, printed)?)
+                },
+            }),
+            _ => bail!("another number of fields"),
+        })
+    }
+}
