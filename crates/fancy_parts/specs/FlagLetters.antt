@@ -9,8 +9,8 @@ use Rattle.fancy_lex.specs.declared.flags.Flags.{Flags}
 -- what the letters come to
 pub data Letters : Type 0 where
   setting : Flags → Text → Letters  -- closed by a parenthesis: these flags hold from there on
-  scope : Flags → Text → Letters    -- closed by a colon: these flags hold inside the group
-  bad : Kind → ℕ → Letters          -- a fault, with its place
+  scope : Flags → Text → Letters  -- closed by a colon: these flags hold inside the group
+  bad : Kind → ℕ → Letters  -- a fault, with its place
 
 -- the flag of this letter set or cleared; none where it names no flag
 abbrev pub with_letter : Flags → Bool → ℕ → Option Flags
@@ -30,7 +30,7 @@ same false b = not b
 -- one letter read: the letters end there, or go on under these flags
 pub data Step : Type 0 where
   ends : Letters → Step
-  goes : Bool → Flags → Text → Step    -- whether letters clear their flags from there on
+  goes : Bool → Flags → Text → Step  -- whether letters clear their flags from there on
 
 -- the text of an unknown flag: `(?` and the letters `t` through the one before `u`
 abbrev pub flag_text : Text → Text → Text
@@ -59,14 +59,14 @@ module _ (n : ℕ) (t : Text) where
   step clears f [] = ends (bad unclosed_open_paren n)
   step clears f (c ∷ u) =
       if c == code ")" then (
-        if is_first t (c ∷ u) || is_behind_minus t clears (c ∷ u) then unknown u else ends (setting f u))
+      if is_first t (c ∷ u) || is_behind_minus t clears (c ∷ u) then unknown u else ends (setting f u))
       else if c == code ":" then (
-        if is_behind_minus t clears (c ∷ u) then unknown u else ends (scope f u))
+      if is_behind_minus t clears (c ∷ u) then unknown u else ends (scope f u))
       else if c == code "-" then (
-        if clears then unknown u else goes true f u)
+      if clears then unknown u else goes true f u)
       -- the Unicode mode may be said again, and not changed
       else if c == code "u" then (
-        if same clears f.unicode then ends (bad changing_unicode_mode_unsupported (place_of n (c ∷ u))) else goes clears f u)
+      if same clears f.unicode then ends (bad changing_unicode_mode_unsupported (place_of n (c ∷ u))) else goes clears f u)
       else with_flag clears u (with_letter f (not clears) c)
 
   abbrev pub on_layout : Skipped → (Text → Step) → Step

@@ -4,11 +4,10 @@ ghost use Rattle.fancy_parts.specs.Quantifier as spec;
 
 mod letters;
 
-pub use letters::{Letters, flag_letters};
-
 use fancy_lex::layout::layout;
 use fancy_lex::name::number;
 use fancy_lex::text::{after, next};
+pub use letters::{Letters, flag_letters};
 
 /// What stands behind the layout, where every comment in it is closed.
 #[tactic(auto, unfolding(crate::specs::Quantifier::skip))]

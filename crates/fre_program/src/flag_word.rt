@@ -45,7 +45,7 @@ fn letters(word: &str) -> Option<u32>
 
 /// The flags that a word names, where it names any: `-` none, and letters a flag each.
 #[tactic(auto, using(crate::proofs::FlagLemmas::names_none, crate::proofs::FlagLemmas::names_dash, crate::proofs::FlagLemmas::names_letters, crate::proofs::FlagLemmas::names_other))]
-pub(crate) fn flags_named(word: &str) -> Option<u32>
+pub fn flags_named(word: &str) -> Option<u32>
     ensures { MatchOption result (NamesFlags (chars word.now) → ⊥) (λ bits. NamesFlags (chars word.now) × (flags_of bits ≡ named_flags (chars word.now))) }
 {
     let (first, behind) = next(word)?;

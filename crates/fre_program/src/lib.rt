@@ -2,6 +2,6 @@
 #![tactic(auto)]
 
 mod fault;
-mod flag_word;
+pub mod flag_word;
 mod lines;
 pub mod program;

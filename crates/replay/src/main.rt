@@ -7,8 +7,10 @@ mod nodes;
 mod record;
 mod unread;
 
-use anyhow::{Context, Result};
+use anyhow::{Context, Result, ensure};
 use comparison::{Answer, Outcome, compare_readings, compare_texts};
+use fancy_syntax::expr::Expr;
+use fre_program::flag_word::flags_named;
 use fre_program::program::fre_run;
 use nodes::read_tree;
 use record::{Printing, Reading, Record};
@@ -46,9 +48,31 @@ fn answer_now(alloc: Global, record: &Reading) -> Answer {
     Answer { status, out, err }
 }
 
-/// The text of the tree now, none where it is not printable.
+/// Whether a clone of the pattern's tree is equal to it, where the pattern has one.
+fn is_cloned(alloc: Global, record: &Reading) -> Result<bool> {
+    let [word, pattern] = &record.words;
+    let Some(flags) = flags_named(word.as_str()) else {
+        return Ok(true);
+    };
+    let Ok(tree) = Expr::parse_tree_with_flags(alloc, pattern.as_str(), flags) else {
+        return Ok(true);
+    };
+    Ok(tree.clone(alloc)?.expr == tree.expr)
+}
+
+/// Replays a pattern.
+fn replay_reading(alloc: Global, record: &Reading) -> Result<Outcome> {
+    if !is_cloned(alloc, record)? {
+        return Ok(Outcome::Different);
+    }
+    Ok(compare_readings(record, &answer_now(alloc, record)))
+}
+
+/// The text of the tree now, none where it is not printable. It is that of a clone, which must be equal.
 fn text_now(alloc: Global, record: &Printing) -> Result<Option<String>> {
-    let tree = read_tree(alloc, record.lines.as_str())?;
+    let source = read_tree(alloc, record.lines.as_str())?;
+    let tree = source.clone(alloc)?;
+    ensure!(tree == source, "a clone differs from its source");
     if !tree.is_printable(alloc)? {
         return Ok(None);
     }
@@ -60,7 +84,7 @@ fn text_now(alloc: Global, record: &Printing) -> Result<Option<String>> {
 /// Replays a line of a file.
 fn replay_line(alloc: Global, line: &str) -> Result<Outcome> {
     Ok(match Record::read(alloc, line)? {
-        Record::Reading(record) => compare_readings(&record, &answer_now(alloc, &record)),
+        Record::Reading(record) => replay_reading(alloc, &record)?,
         Record::Printing(record) => compare_texts(&record, &text_now(alloc, &record)?),
     })
 }

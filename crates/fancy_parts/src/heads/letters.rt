@@ -100,7 +100,14 @@ fn closes_nothing(letters: &str, clears: bool, here: &str) -> bool
 }
 
 /// Reads the letter at `here`.
-fn flag_letter<'a>(alloc: Global, letters: &str, clears: bool, flags: Flags, here: &'a str, end: usize) -> Result<Step<'a>, Error>
+fn flag_letter<'a>(
+    alloc: Global,
+    letters: &str,
+    clears: bool,
+    flags: Flags,
+    here: &'a str,
+    end: usize,
+) -> Result<Step<'a>, Error>
     requires behind { (w : Text) × (chars letters.now ≡ w ++ chars here.now) }
     requires within { length letters.now ≤ end }
     ensures value { GivesStep result (spec.step end (chars letters.now) clears flags (chars here.now)) }
@@ -130,7 +137,10 @@ fn flag_letter<'a>(alloc: Global, letters: &str, clears: bool, flags: Flags, her
     }
     if letter == 'u' {
         if clears == flags.unicode {
-            return Err(Error::ParseError(place(here, end), ParseError::ChangingUnicodeModeUnsupported));
+            return Err(Error::ParseError(
+                place(here, end),
+                ParseError::ChangingUnicodeModeUnsupported,
+            ));
         }
         return Ok(Step::Goes(clears, flags, rest));
     }
@@ -142,7 +152,12 @@ fn flag_letter<'a>(alloc: Global, letters: &str, clears: bool, flags: Flags, her
 
 /// Reads the letters of a flag group, which begin behind the `(?`: the flags that hold behind them, and whether
 /// they were closed by a parenthesis or by a colon.
-pub fn flag_letters<'a>(alloc: Global, text: &'a str, flags: Flags, end: usize) -> Result<Letters<'a>, Error>
+pub fn flag_letters<'a>(
+    alloc: Global,
+    text: &'a str,
+    flags: Flags,
+    end: usize,
+) -> Result<Letters<'a>, Error>
     requires within { length text.now ≤ end }
     requires end { end < 2 ^ 63 }
     ensures value { GivesLetters result (spec.letters end flags (chars text.now)) }
