@@ -1,5 +1,5 @@
 //! Numbers, and what a reference names.
-ghost use Rattle.std.specs.Prelude.{◌≡◌, ℕ, ◌+◌, ◌*◌, ◌<◌, ◌≤◌, ◌∷◌, length, chars, IfOk, IfSome, OnSome, MatchOption, false, IsSome, List};
+ghost use Rattle.std.specs.Prelude.{◌↔◌, IsTrue, ◌≡◌, ℕ, ◌+◌, ◌*◌, ◌<◌, ◌≤◌, ◌∷◌, length, chars, IfOk, IfSome, OnSome, MatchOption, false, IsSome, List};
 ghost use Rattle.std.specs.Str.{bytes_eq};
 ghost use Rattle.std.specs.Cmp.{on_per, on_equiv, partial_equiv_from_equiv};
 ghost use Rattle.fancy_lex.specs.Number as spec;
@@ -41,26 +41,36 @@ impl PartialEq for CaptureGroupTarget {
 
     ghost laws = { on_per view_target (partial_equiv_from_equiv same_target-equiv) };
 
-    fn eq(&self, other: &CaptureGroupTarget) -> bool {
-        match self {
-            CaptureGroupTarget::ByNumber(a) => match other {
-                CaptureGroupTarget::ByNumber(b) => a == b,
-                _ => false,
-            },
-            CaptureGroupTarget::ByName(a) => match other {
-                CaptureGroupTarget::ByName(b) => is_same_text(a, b),
-                _ => false,
-            },
-            CaptureGroupTarget::Relative(a) => match other {
-                CaptureGroupTarget::Relative(b) => a == b,
-                _ => false,
-            },
-        }
+    fn eq(&self, other: &CaptureGroupTarget) -> bool
+        ensures value { result ≡ same_target (view_target self.now) (view_target other.now) }
+        ensures decides { IsTrue result ↔ (view_target self.now ≡ view_target other.now) }
+    {
+        is_same_target(self, other)
     }
 }
 
 impl Eq for CaptureGroupTarget {
     ghost laws = { on_equiv view_target same_target-equiv };
+}
+
+/// Whether two targets are the same.
+fn is_same_target(a: &CaptureGroupTarget, b: &CaptureGroupTarget) -> bool
+    ensures { result ≡ same_target (view_target a.now) (view_target b.now) }
+{
+    match a {
+        CaptureGroupTarget::ByNumber(a) => match b {
+            CaptureGroupTarget::ByNumber(b) => a == b,
+            _ => false,
+        },
+        CaptureGroupTarget::ByName(a) => match b {
+            CaptureGroupTarget::ByName(b) => is_same_text(a, b),
+            _ => false,
+        },
+        CaptureGroupTarget::Relative(a) => match b {
+            CaptureGroupTarget::Relative(b) => a == b,
+            _ => false,
+        },
+    }
 }
 
 /// Whether two strings hold the same text.

@@ -61,7 +61,7 @@ fn alternation<'a>(alloc: Global, start: State<'a>, end: usize) -> Result<(Expr,
             let (read, behind) = read_step(alloc, here, stack.len(), end)?;
             match read {
                 Step::Piece(piece) => {
-                    frame = frame.with_piece(alloc, piece)?;
+                    frame.add(alloc, piece)?;
                     here = behind;
                 }
                 Step::Open(opener) => {
@@ -71,7 +71,7 @@ fn alternation<'a>(alloc: Global, start: State<'a>, end: usize) -> Result<(Expr,
                 }
             }
         } else if let Some(rest) = after(here.rest, '|') {
-            frame = frame.end_branch(alloc)?;
+            frame.end_branch(alloc)?;
             here = State { rest, ..here };
         } else {
             let (opener, inner) = frame.finish(alloc)?;
@@ -79,7 +79,8 @@ fn alternation<'a>(alloc: Global, start: State<'a>, end: usize) -> Result<(Expr,
                 return Ok((inner, here));
             };
             let (piece, behind) = close(alloc, opener, inner, here, end)?;
-            frame = outer.with_piece(alloc, piece)?;
+            frame = outer;
+            frame.add(alloc, piece)?;
             here = behind;
         }
     }

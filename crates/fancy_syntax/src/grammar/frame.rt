@@ -1,5 +1,5 @@
 //! The groups that are open.
-ghost use Rattle.std.specs.Prelude.{◌≡◌, [], ◌∷◌, ◌++◌, IfOk};
+ghost use Rattle.std.specs.Prelude.{◌≡◌, [], ◌∷◌, ◌++◌, IfOk, OnOk};
 ghost use Rattle.fancy_syntax.specs.Join as spec;
 ghost use Rattle.fancy_syntax.specs.Row.{trees};
 ghost use Rattle.fancy_syntax.specs.Tree.{concat};
@@ -9,6 +9,7 @@ use crate::expr::{AstNode, Expr};
 use crate::grammar::row::Row;
 use fancy_lex::flags::Flags;
 use std::alloc::{AllocError, Global};
+use std::mem;
 
 /// What opened a group.
 #[derive(Drop)]
@@ -44,42 +45,25 @@ impl Frame {
     }
 
     /// Adds a piece to the open branch; an Empty one is left out.
-    pub(crate) fn with_piece(self, alloc: Global, piece: Expr) -> Result<Frame, AllocError>
-        ensures opener { IfOk result (λ f. f.opener ≡ self.opener) }
-        ensures branches { IfOk result (λ f. trees f.branches ≡ trees self.branches) }
-        ensures pieces { IfOk result (λ f. trees f.pieces ≡ trees self.pieces ++ spec.solid (view piece ∷ [])) }
+    pub(crate) fn add(&mut self, alloc: Global, piece: Expr) -> Result<(), AllocError>
+        ensures opener { self.new.opener ≡ self.old.opener }
+        ensures branches { trees self.new.branches ≡ trees self.old.branches }
+        ensures pieces { OnOk result (trees self.new.pieces ≡ trees self.old.pieces ++ spec.solid (view piece ∷ [])) }
     {
         if is_empty(&piece) {
-            return Ok(self);
+            return Ok(());
         }
-        let Frame {
-            opener,
-            branches,
-            pieces,
-        } = self;
-        Ok(Frame {
-            opener,
-            branches,
-            pieces: pieces.with(alloc, piece)?,
-        })
+        self.pieces.add(alloc, piece)
     }
 
     /// Ends the open branch, and opens the next.
-    pub(crate) fn end_branch(self, alloc: Global) -> Result<Frame, AllocError>
-        ensures opener { IfOk result (λ f. f.opener ≡ self.opener) }
-        ensures branches { IfOk result (λ f. trees f.branches ≡ trees self.branches ++ spec.one_or concat (trees self.pieces) ∷ []) }
-        ensures pieces { IfOk result (λ f. trees f.pieces ≡ []) }
+    pub(crate) fn end_branch(&mut self, alloc: Global) -> Result<(), AllocError>
+        ensures opener { self.new.opener ≡ self.old.opener }
+        ensures branches { OnOk result (trees self.new.branches ≡ trees self.old.branches ++ spec.one_or concat (trees self.old.pieces) ∷ []) }
+        ensures pieces { OnOk result (trees self.new.pieces ≡ []) }
     {
-        let Frame {
-            opener,
-            branches,
-            pieces,
-        } = self;
-        Ok(Frame {
-            opener,
-            branches: branches.with(alloc, pieces.concat())?,
-            pieces: Row::None,
-        })
+        let branch = mem::replace(&mut self.pieces, Row::None).concat();
+        self.branches.add(alloc, branch)
     }
 
     /// Ends the group: what opened it, and the tree of its inside.
@@ -89,10 +73,10 @@ impl Frame {
     {
         let Frame {
             opener,
-            branches,
+            mut branches,
             pieces,
         } = self;
-        let branches = branches.with(alloc, pieces.concat())?;
+        branches.add(alloc, pieces.concat())?;
         Ok((opener, branches.choice()))
     }
 }

@@ -3,6 +3,7 @@ ghost use Rattle.std.specs.Prelude.{◌≤◌, vec_len};
 
 use crate::expr::Expr;
 use std::alloc::{AllocError, Global};
+use std::mem;
 
 /// Trees in a row. A list is made only of two or more, since their node will own it.
 #[derive(Drop)]
@@ -19,15 +20,28 @@ pub(crate) struct Several {
     ghost two: { 2 ≤ vec_len trees },
 }
 
+impl Several {
+    ghost use Rattle.std.specs.Prelude.{◌≡◌, [], ◌∷◌, ◌++◌, OnOk};
+    ghost use Rattle.fancy_syntax.specs.View.{view, views};
+
+    /// Adds a tree at the end.
+    fn add(&mut self, tree: Expr) -> Result<(), AllocError>
+        ensures { OnOk result (views self.new.trees.items ≡ views self.old.trees.items ++ view tree ∷ []) }
+    {
+        self.trees.push(tree)?;
+        Ok(())
+    }
+}
+
 impl Row {
-    ghost use Rattle.std.specs.Prelude.{◌≡◌, [], ◌∷◌, ◌++◌, IfOk};
+    ghost use Rattle.std.specs.Prelude.{◌≡◌, [], ◌∷◌, ◌++◌, IfOk, OnOk};
     ghost use Rattle.fancy_syntax.specs.Join.{one_or, choice};
     ghost use Rattle.fancy_syntax.specs.Row.{trees};
     ghost use Rattle.fancy_syntax.specs.Tree.{concat};
     ghost use Rattle.fancy_syntax.specs.View.{view};
 
     /// The row with one tree more, at its end.
-    pub(crate) fn with(self, alloc: Global, tree: Expr) -> Result<Row, AllocError>
+    fn with(self, alloc: Global, tree: Expr) -> Result<Row, AllocError>
         ensures { IfOk result (λ r. trees r ≡ trees self ++ view tree ∷ []) }
     {
         match self {
@@ -38,12 +52,22 @@ impl Row {
                 trees.push(tree)?;
                 Ok(Row::Several(Several { trees }))
             }
-            Row::Several(several) => {
-                let Several { mut trees } = several;
-                trees.push(tree)?;
-                Ok(Row::Several(Several { trees }))
+            Row::Several(mut several) => {
+                several.add(tree)?;
+                Ok(Row::Several(several))
             }
         }
+    }
+
+    /// Adds a tree at the end. A row of several is not moved for it.
+    pub(crate) fn add(&mut self, alloc: Global, tree: Expr) -> Result<(), AllocError>
+        ensures { OnOk result (trees self.new ≡ trees self.old ++ view tree ∷ []) }
+    {
+        if let Row::Several(several) = self {
+            return several.add(tree);
+        }
+        *self = mem::replace(self, Row::None).with(alloc, tree)?;
+        Ok(())
     }
 
     /// The tree of a branch of these pieces.

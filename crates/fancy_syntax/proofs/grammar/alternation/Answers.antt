@@ -30,9 +30,9 @@ returns-in_err-read-clause-value c =
 pub loop-here-preserved-in-Piece : goal.loop-here-preserved-in-Piece
 loop-here-preserved-in-Piece c =
     let n : c.len.result ≡ length c.loop-here.stack.items = omega (arith, c.len.ensures, c.loop-here.stack.ok.0) in
-    let f = c.in_ok-frame-in-Piece.ensures in
+    let f = c.in_ok-add-in-Piece.ensures in
     record {
-      running = running_piece c.in_ok-frame-in-Piece.frame c.loop-here.invariant.running (sym c.if-not-is_end.ensures)
+      running = running_piece c.add.new.self c.loop-here.invariant.running (sym c.if-not-is_end.ensures)
           (subst (λ d. Piece c.args.end d (state c.loop-here.here) (done (view c.in-Piece.piece) (state c.in_ok-read.behind))) n
           (rw c.in-Piece.is at c.in_ok-read.ensures.value)) f.opener f.branches f.pieces;
       room = c.loop-here.invariant.room;
@@ -53,9 +53,9 @@ loop-here-preserved-in-Open c =
 
 pub loop-here-preserved-in-Some : goal.loop-here-preserved-in-Some
 loop-here-preserved-in-Some c =
-    let f = c.in_ok-frame.ensures in
+    let f = c.in_ok-end_branch.ensures in
     record {
-      running = running_bar c.in_ok-frame.frame c.loop-here.invariant.running (sym c.if-not-is_end.ensures) c.in-Some.ensures.value f.opener f.branches f.pieces;
+      running = running_bar c.end_branch.new.self c.loop-here.invariant.running (sym c.if-not-is_end.ensures) c.in-Some.ensures.value f.opener f.branches f.pieces;
       room = c.loop-here.invariant.room;
       within = omega (arith, c.loop-here.invariant.within, c.in-Some.ensures.shorter);
     }
@@ -78,9 +78,9 @@ pub loop-here-preserved : goal.loop-here-preserved
 loop-here-preserved c =
     let w = running_closing c.pop.new.self.items c.in-Some-pop.outer (view c.in_ok-opener.inner) c.in_ok-opener.opener c.in_ok-opener.ensures.opener
     c.loop-here.invariant.running (sym c.if-not-is_end.ensures) c.in_default.ensures.value c.in_ok-opener.ensures.tree c.in-Some-pop.ensures.items in
-    let f = c.in_ok-frame-2.ensures in
+    let f = c.in_ok-add.ensures in
     record {
-      running = running_piece c.in_ok-frame-2.frame w.outer w.more (c.in_ok-piece.ensures.value _ w.here w.inside w.opens w.whole)
+      running = running_piece c.add-in_default.new.self w.outer w.more (c.in_ok-piece.ensures.value _ w.here w.inside w.opens w.whole)
           f.opener f.branches f.pieces;
       room = omega (arith, c.loop-here.invariant.room, c.in-Some-pop.ensures.capacity);
       within = omega (arith, c.loop-here.invariant.within, c.in_ok-piece.ensures.shorter);
