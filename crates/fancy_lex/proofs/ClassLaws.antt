@@ -6,18 +6,18 @@ use Rattle.std.proofs.lemmas.Str.{len_utf8_bounds}
 use Rattle.std.specs.Borrow.{Bor}
 use Rattle.std.specs.declared.alloc.Global.{Global}
 use Rattle.fancy_lex.specs.Characters.{backslash, open_bracket, close_bracket, caret}
-use Rattle.fancy_lex.specs.Class.{opening, with_mark, items, class, item_text, is_negated, is_plain, unclosed, Outcome, written, fault, Class, class_items, items_fault, Items, close, plain, escaped, nested, end, plain_fault, escape_fault, escaped_fault, class_fault, nested_fault, StartsWithClass, ClassFaults, IsFault}
+use Rattle.fancy_lex.specs.Class.{class_head, with_mark, items, class, item_text, is_negated, is_plain, unclosed, Outcome, written, fault, Class, class_items, items_fault, Items, close, plain, escaped, nested, end, plain_fault, escape_fault, escaped_fault, class_fault, nested_fault, StartsWithClass, ClassFaults, IsFault}
 use Rattle.fancy_lex.specs.Escape.{escape}
 use Rattle.fancy_lex.specs.Escaped.{Escape}
 use Rattle.fancy_lex.specs.Fault.{Fault}
-use Rattle.fancy_lex.specs.Reading.{Reading, gives, fails, no_memory, fault_at, choose, Gives, Fails}
+use Rattle.fancy_lex.specs.Reading.{Reading, gives, fails, fault_at, choose, Gives, Fails}
 use Rattle.fancy_lex.specs.Text.{Text, bytes, place_of, strip, text_of}
 use Rattle.fancy_lex.specs.declared.error.Error.{Error}
 use Rattle.fancy_lex.specs.declared.error.Error.TheVariants.{ParseError, OutOfMemory}
 use Rattle.fancy_lex.specs.declared.flags.Flags.{Flags}
 use Rattle.fancy_lex.proofs.ClassLemmas.{items_end, items_plain, items_open, items_escape, pred_lt}
 use Rattle.fancy_lex.proofs.EscapeFrame.{escape_frame}
-use Rattle.fancy_lex.proofs.EscapeLaws.{escape_within, escape_answers}
+use Rattle.fancy_lex.proofs.EscapeLaws.{escape_within}
 
 bytes_cons : (c : ℕ) (t : Text) → bytes t < bytes (c ∷ t)
 unfolding bytes
@@ -44,15 +44,15 @@ mark_bytes m p = by_strip (strip m p.1) refl where
   by_strip None e = omega arith
   by_strip (Some u) e = omega (arith, strip_bytes m p.1 u e)
 
-opening_behind : (out t : Text) → ◌≡◌ {A = Text × Text} (opening out t) (behind out (opening [] t))
-unfolding opening
-opening_behind out t =
+class_head_behind : (out t : Text) → ◌≡◌ {A = Text × Text} (class_head out t) (behind out (class_head [] t))
+unfolding class_head
+class_head_behind out t =
     let start : Text × Text = (open_bracket ∷ [], t) in
     ap (with_mark close_bracket) (mark_behind caret out start) ∙ mark_behind close_bracket out (with_mark caret start)
 
-opening_bytes : (t : Text) → bytes (opening [] t).1 ≤ bytes t
-unfolding opening
-opening_bytes t =
+class_head_bytes : (t : Text) → bytes (class_head [] t).1 ≤ bytes t
+unfolding class_head
+class_head_bytes t =
     let start : Text × Text = (open_bracket ∷ [], t) in
     omega (arith, mark_bytes close_bracket (with_mark caret start), mark_bytes caret start)
 
@@ -79,7 +79,7 @@ Runs n f here t depth out (written w a v) = (j : ℕ) × (bytes v < j) × (bytes
 Runs n f here t depth out (fault e) = here ≡ fails e
 
 abbrev at_class : ℕ → Flags → ℕ → ℕ → Bool → Text → Text → Reading Text
-at_class n f k depth b out t = items n f k depth b (opening out t).0 (opening out t).1
+at_class n f k depth b out t = items n f k depth b (class_head out t).0 (class_head out t).1
 
 -- one step, for which x is written, and what comes of the rest
 after : (n : ℕ) (f : Flags) (here there : Reading Text) (t s : Text) (depth : ℕ) (out x : Text) → here ≡ there → bytes s ≤ bytes t → (w : Text) (a : Bool) (v : Text) → Runs n f there s depth (out ++ x) (written w a v) → Runs n f here t depth out (written (x ++ w) a v)
@@ -95,8 +95,8 @@ items_fails n f zero depth b out t e q m = absurd (omega arith)
 items_fails n f (suc k) depth b out t e q m = rw q refl
 
 module _ (n : ℕ) (f : Flags) (k depth : ℕ) (b : Bool) (out t : Text) where
-  class_head : (head u : Text) → ◌≡◌ {A = Text × Text} (opening [] t) (head, u) → at_class n f k depth b out t ≡ items n f k depth b (out ++ head) u
-  class_head head u e = ap (λ (p : Text × Text). items n f k depth b p.0 p.1) (opening_behind out t ∙ ap (behind out) e)
+  at_head : (head u : Text) → ◌≡◌ {A = Text × Text} (class_head [] t) (head, u) → at_class n f k depth b out t ≡ items n f k depth b (out ++ head) u
+  at_head head u e = ap (λ (p : Text × Text). items n f k depth b p.0 p.1) (class_head_behind out t ∙ ap (behind out) e)
 
   plain_item : (c : ℕ) → is_plain c ≡ true → 0 < k → items n f k depth b out (c ∷ t) ≡ items n f (pred k) depth b (out ++ c ∷ []) t
   plain_item c p m = let (x, y, z) = not_special c p in items_plain n f depth b out (c ∷ t) c t refl k m x y z
@@ -105,8 +105,8 @@ module _ (n : ℕ) (f : Flags) (k depth : ℕ) (b : Bool) (out t : Text) where
   step_left : (c : ℕ) → bytes (c ∷ t) < k → bytes t < pred k
   step_left c l = pred_lt (bytes t) (bytes (c ∷ t)) k (bytes_cons c t) l
 
-head_bytes : (t head u : Text) → ◌≡◌ {A = Text × Text} (opening [] t) (head, u) → bytes u ≤ bytes t
-head_bytes t head u e = subst (λ (p : Text × Text). bytes p.1 ≤ bytes t) e (opening_bytes t)
+head_bytes : (t head u : Text) → ◌≡◌ {A = Text × Text} (class_head [] t) (head, u) → bytes u ≤ bytes t
+head_bytes t head u e = subst (λ (p : Text × Text). bytes p.1 ≤ bytes t) e (class_head_bytes t)
 
 positive : (a k : ℕ) → a < k → 0 < k
 positive a k l = omega arith
@@ -115,9 +115,9 @@ mutual
   run_class : {n : ℕ} {f : Flags} {b : Bool} {t : Text} {o : Outcome} → Class n f b t o → (k depth : ℕ) (out : Text) → bytes t < k → Runs n f (at_class n f k depth b out t) t depth out o
   run_class {n} {f} {b} {t} (class_items {a} {u} {v} {head} {w} e h) k depth out l =
       let less = head_bytes t head u e in
-      after n f _ _ t u depth out head (class_head n f k depth b out t head u e) less w a v (run_items h k depth (out ++ head) (omega (arith, less, l)))
+      after n f _ _ t u depth out head (at_head n f k depth b out t head u e) less w a v (run_items h k depth (out ++ head) (omega (arith, less, l)))
   run_class {n} {f} {b} {t} (items_fault {u} {head} e h) k depth out l =
-      class_head n f k depth b out t head u e ∙ run_items h k depth (out ++ head) (omega (arith, head_bytes t head u e, l))
+      at_head n f k depth b out t head u e ∙ run_items h k depth (out ++ head) (omega (arith, head_bytes t head u e, l))
 
   run_items : {n : ℕ} {f : Flags} {b : Bool} {t : Text} {o : Outcome} → Items n f b t o → (k depth : ℕ) (out : Text) → bytes t < k → Runs n f (items n f k depth b out t) t depth out o
   run_items {n} {f} {b} (close {v}) k depth out l =
@@ -170,7 +170,7 @@ Reads n f b t = (o : Outcome) × Items n f b t o × Less t o
 abbrev ReadsShort : ℕ → Flags → ℕ → Type 0
 ReadsShort n f k = (b : Bool) (t : Text) → bytes t < k → Reads n f b t
 
-class_within : (n : ℕ) (f : Flags) (b : Bool) (t head u : Text) → ◌≡◌ {A = Text × Text} (opening [] t) (head, u) → Reads n f b u → (o : Outcome) × Class n f b t o × Less t o
+class_within : (n : ℕ) (f : Flags) (b : Bool) (t head u : Text) → ◌≡◌ {A = Text × Text} (class_head [] t) (head, u) → Reads n f b u → (o : Outcome) × Class n f b t o × Less t o
 class_within n f b t head u e (written w a v, h, less) = (written (head ++ w) a v, class_items e h, omega (arith, less, head_bytes t head u e))
 class_within n f b t head u e (fault x, h, less) = (fault x, items_fault e h, tt)
 
@@ -186,7 +186,6 @@ module _ (n : ℕ) (f : Flags) (k : ℕ) (reads : ReadsShort n f k) (b : Bool) (
   escape_reads : (r : Reading Escape) → escape n f true (place_of n (backslash ∷ t)) t ≡ r → Reads n f b (backslash ∷ t)
   escape_reads (gives e u) q = escaped_reads e u q (reads (b || is_negated e) u (omega (arith, escape_within n f true _ t u e q, l)))
   escape_reads (fails e) q = (fault e, escape_fault q, tt)
-  escape_reads no_memory q = absurd (escape_answers n f true _ t q)
 
   behind_class : (x : Text) (m : Bool) (u : Text) → Class n f b t (written x m u) → bytes u < bytes t → Reads n f m u → Reads n f b (open_bracket ∷ t)
   behind_class x m u g shorter (written w a v, h, less) = (written (x ++ w) a v, nested g h, omega (arith, less, shorter, bytes_cons 91 t))
@@ -198,8 +197,8 @@ module _ (n : ℕ) (f : Flags) (k : ℕ) (reads : ReadsShort n f k) (b : Bool) (
 
   nested_reads : Reads n f b (open_bracket ∷ t)
   nested_reads =
-      let p = opening [] t in
-      class_item (class_within n f b t p.0 p.1 refl (reads b p.1 (omega (arith, opening_bytes t, l))))
+      let p = class_head [] t in
+      class_item (class_within n f b t p.0 p.1 refl (reads b p.1 (omega (arith, class_head_bytes t, l))))
 
   one_more : (c : ℕ) → Reads n f b (c ∷ t)
   one_more c = by_backslash (cases_eq c 92) where
@@ -225,7 +224,7 @@ items_read n f (suc k) b (c ∷ t) l = one_more n f k (items_read n f k) b t (om
 
 class_reads : (n : ℕ) (f : Flags) (t : Text) → (o : Outcome) × Class n f false t o
 class_reads n f t =
-    let p = opening [] t in
+    let p = class_head [] t in
     let (o, h, less) = class_within n f false t p.0 p.1 refl (items_read n f (suc (bytes p.1)) false p.1 (omega arith)) in
     (o, h)
 
@@ -251,9 +250,9 @@ mark_frame m out t s d r e = rw e (by_test (d == m)) where
   by_test true = refl
   by_test false = refl
 
-opening_frame : (t s : Text) (c : ℕ) (u : Text) → (opening [] t).1 ≡ c ∷ u → ◌≡◌ {A = Text × Text} (opening [] (t ++ s)) (before s (opening [] t))
-unfolding opening
-opening_frame t s c u e =
+class_head_frame : (t s : Text) (c : ℕ) (u : Text) → (class_head [] t).1 ≡ c ∷ u → ◌≡◌ {A = Text × Text} (class_head [] (t ++ s)) (before s (class_head [] t))
+unfolding class_head
+class_head_frame t s c u e =
     let p = with_mark caret (open_bracket ∷ [], t) in
     let (d, r, q) = mark_some close_bracket p.0 p.1 c u e in
     let (d', r', q') = mark_some caret (open_bracket ∷ []) t d r q in
@@ -263,7 +262,7 @@ mutual
   class_frame : {n : ℕ} {f : Flags} {b a : Bool} {t w v : Text} → Class n f b t (written w a v) → (m : ℕ) (s : Text) → Class m f b (t ++ s) (written w a (v ++ s))
   class_frame {t} (class_items e h) m s =
       let (c, u, q) = items_some h in
-      class_items (opening_frame t s c u (ap (λ (p : Text × Text). p.1) e ∙ q) ∙ ap (before s) e) (items_frame h m s)
+      class_items (class_head_frame t s c u (ap (λ (p : Text × Text). p.1) e ∙ q) ∙ ap (before s) e) (items_frame h m s)
 
   items_frame : {n : ℕ} {f : Flags} {b a : Bool} {t w v : Text} → Items n f b t (written w a v) → (m : ℕ) (s : Text) → Items m f b (t ++ s) (written w a (v ++ s))
   items_frame close m s = close

@@ -1,7 +1,7 @@
 -- One step of a class, where k steps are left.
 use Rattle.std.proofs.Common.{◌≡◌, ◌≢◌, ℕ, zero, suc, pred, ◌+◌, ◌-◌, ◌<◌, Bool, true, false, ◌||◌, ◌==◌, [], ◌∷◌, ◌++◌, refl, ap, sym, ◌∙◌, arith, subst}
 use Rattle.std.proofs.lemmas.Bool.Decides.{nat_tests}
-use Rattle.fancy_lex.specs.Class.{opening, items, class, item_text, is_negated}
+use Rattle.fancy_lex.specs.Class.{class_head, items, class, item_text, is_negated}
 use Rattle.fancy_lex.specs.Escape.{escape}
 use Rattle.fancy_lex.specs.Escaped.{Escape}
 use Rattle.fancy_lex.specs.Fault.{invalid_class}
@@ -27,7 +27,7 @@ module _ (n : ℕ) (f : Flags) where
     items_plain zero m g h i = absurd (omega arith)
     items_plain (suc k) m g h i = rw (e, items) (grind (arith, nat_tests))
 
-    pub items_open : (k : ℕ) → 0 < k → c ≡ 91 → items n f k depth seen out t ≡ items n f (pred k) (depth + 1) seen (opening out r).0 (opening out r).1
+    pub items_open : (k : ℕ) → 0 < k → c ≡ 91 → items n f k depth seen out t ≡ items n f (pred k) (depth + 1) seen (class_head out r).0 (class_head out r).1
     unfolding items
     items_open zero m g = absurd (omega arith)
     items_open (suc k) m g = rw (e, items, g) refl
@@ -56,13 +56,13 @@ module _ (n : ℕ) (f : Flags) where
         let here = subst (λ s. Fails b (escape n f true (place_of n s) r)) (e ∙ ap (λ d. d ∷ r) g) q in
         rw (e, g, items) (fails_first _ _ b here)
 
-  pub class_init : (t o out left : Text) → o ≡ [] → ◌≡◌ {A = Text × Text} (opening o t) (out, left) → class n f t ≡ items n f (suc (bytes t)) 0 false out left
+  pub class_init : (t o out left : Text) → o ≡ [] → ◌≡◌ {A = Text × Text} (class_head o t) (out, left) → class n f t ≡ items n f (suc (bytes t)) 0 false out left
   unfolding class
-  class_init t o out left z e = ap (λ (p : Text × Text). items n f (suc (bytes t)) 0 false p.0 p.1) (ap (λ u. opening u t) (sym z) ∙ e)
+  class_init t o out left z e = ap (λ (p : Text × Text). items n f (suc (bytes t)) 0 false p.0 p.1) (ap (λ u. class_head u t) (sym z) ∙ e)
 
 -- the same, where the code holds the parts
 module _ (n : ℕ) (f : Flags) (depth : ℕ) (seen : Bool) (out t : Text) (c : ℕ) (r : Text) (e : t ≡ c ∷ r) (k : ℕ) (some : 0 < k) where
-  pub open_step : (o u : Text) → c ≡ 91 → ◌≡◌ {A = Text × Text} (opening out r) (o, u) → items n f k depth seen out t ≡ items n f (pred k) (depth + 1) seen o u
+  pub open_step : (o u : Text) → c ≡ 91 → ◌≡◌ {A = Text × Text} (class_head out r) (o, u) → items n f k depth seen out t ≡ items n f (pred k) (depth + 1) seen o u
   open_step o u g q =
       items_open n f depth seen out t c r e k some g ∙ ap (λ (p : Text × Text). items n f (pred k) (depth + 1) seen p.0 p.1) q
 

@@ -2,17 +2,17 @@
 use Rattle.std.proofs.Common.{◌≡◌, ◌≢◌, ℕ, zero, suc, ◌+◌, ◌*◌, ◌^◌, Bool, true, false, ◌&&◌, ◌==◌, nat_lt, if◌then◌else◌, is_some, not, nat_le, option_and_then, [], ◌∷◌, ◌++◌, Option, Some, None, option_map, refl, ap, sym, ◌∙◌, arith, subst, ◌⊎◌, inl, inr}
 use Rattle.std.proofs.lemmas.Bool.{cases_eq}
 use Rattle.std.proofs.lemmas.Bool.Decides.{nat_tests}
-use Rattle.std.specs.Char.{digit_value}
+use Rattle.std.specs.Char.{digit_value, is_ascii_digit}
 use Rattle.fancy_lex.specs.Characters.{open_paren, open_brace, close_brace, close_paren, backslash, line_feed, hash, ◌∈◌}
-use Rattle.fancy_lex.specs.Escape.{escape, numbered, property, in_class, is_itself}
+use Rattle.fancy_lex.specs.Escape.{escape, reference_fault, property, in_class, is_itself}
 use Rattle.fancy_lex.specs.Escaped.{Escape, delegate, literal, literal_bytes}
 use Rattle.fancy_lex.specs.Fault.{Fault, invalid_backref, invalid_class, invalid_hex, invalid_codepoint_value, unclosed_unicode_name}
-use Rattle.fancy_lex.specs.Hex.{hex, value, braced, digits, fixed, hex_digit, closed, coded, is_scalar}
-use Rattle.fancy_lex.specs.Layout.{layout, layout_from, Skipped, rest, fault, State, between, two, one, comment, escaped, line, opened, is_blank}
-use Rattle.fancy_lex.specs.Number.{number, is_digit}
+use Rattle.fancy_lex.specs.Hex.{hex, value, braced_value, digits, fixed_digits, hex_digit, closing_brace, leaf_of_value, is_scalar}
+use Rattle.fancy_lex.specs.Layout.{layout, layout_from, Skipped, rest, fault, State, between, two, one, comment, escaped, line, after_comment_head, is_blank}
+use Rattle.fancy_lex.specs.Number.{number}
 use Rattle.fancy_lex.specs.Property.{Property, PropertyName, single, read_property, name_at, cut_at, property_text}
 use Rattle.fancy_lex.specs.Property as property_spec
-use Rattle.fancy_lex.specs.Reading.{Reading, gives, fails, no_memory, fault_at, choose, layout_reading, ◌>=>◌}
+use Rattle.fancy_lex.specs.Reading.{Reading, gives, fails, fault_at, choose, layout_reading, ◌>=>◌}
 use Rattle.fancy_lex.specs.Text.{Text, place_of, strip}
 use Rattle.fancy_lex.specs.declared.flags.Flags.{Flags}
 use Rattle.fancy_lex.proofs.LayoutLemmas.{between_step}
@@ -24,15 +24,15 @@ from_if true p q p' q' a z f g e = f e
 from_if false p q p' q' a z f g e = g e
 
 -- with s behind a text, a comment that is open in it stays open
-opened_more : (d : ℕ) (t s : Text) → is_some (opened (d ∷ t)) ≡ true → is_some (opened (d ∷ (t ++ s))) ≡ true
+opened_more : (d : ℕ) (t s : Text) → is_some (after_comment_head (d ∷ t)) ≡ true → is_some (after_comment_head (d ∷ (t ++ s))) ≡ true
 opened_more d [] s e = grind (arith, nat_tests)
 opened_more d (a ∷ []) s e = grind (arith, nat_tests)
 opened_more d (a ∷ b ∷ u) s e = grind (arith, nat_tests)
 
-not_opened : (d : ℕ) (t : Text) → d ≢ open_paren → is_some (opened (d ∷ t)) ≡ false
+not_opened : (d : ℕ) (t : Text) → d ≢ open_paren → is_some (after_comment_head (d ∷ t)) ≡ false
 not_opened d t h = grind (arith, nat_tests)
 
-at_paren : (n : ℕ) (x : Bool) (d : ℕ) (t : Text) → d ≡ open_paren → is_some (opened (d ∷ t)) ≡ false → layout_from n x between (d ∷ t) ≡ rest (d ∷ t)
+at_paren : (n : ℕ) (x : Bool) (d : ℕ) (t : Text) → d ≡ open_paren → is_some (after_comment_head (d ∷ t)) ≡ false → layout_from n x between (d ∷ t) ≡ rest (d ∷ t)
 at_paren n x d t h q = let step = between_step n x (d ∷ t) d t refl in grind (arith, nat_tests)
 
 rest_same : (v w : Text) → rest v ≡ rest w → v ≡ w
@@ -49,7 +49,7 @@ step_on n x b d t =
     else if x && is_blank d then layout_from n x between t
     else rest (d ∷ t)
 
-step_is : (n : ℕ) (x b : Bool) (d : ℕ) (t : Text) → is_some (opened (d ∷ t)) ≡ b → layout_from n x between (d ∷ t) ≡ step_on n x b d t
+step_is : (n : ℕ) (x b : Bool) (d : ℕ) (t : Text) → is_some (after_comment_head (d ∷ t)) ≡ b → layout_from n x between (d ∷ t) ≡ step_on n x b d t
 step_is n x b d t q = between_step n x (d ∷ t) d t refl ∙ ap (λ a. step_on n x a d t) q
 
 module _ (n m : ℕ) (x : Bool) (s : Text) (c : ℕ) (r : Text) (paren : c ≢ open_paren) where
@@ -57,13 +57,13 @@ module _ (n m : ℕ) (x : Bool) (s : Text) (c : ℕ) (r : Text) (paren : c ≢ o
   From st t = layout_from n x st t ≡ rest (c ∷ r) → layout_from m x st (t ++ s) ≡ rest ((c ∷ r) ++ s)
 
   module _ (d : ℕ) (t : Text) (rec : (st : State) → From st t) where
-    from_step : (b : Bool) → is_some (opened (d ∷ t)) ≡ b → is_some (opened (d ∷ (t ++ s))) ≡ b → From between (d ∷ t)
+    from_step : (b : Bool) → is_some (after_comment_head (d ∷ t)) ≡ b → is_some (after_comment_head (d ∷ (t ++ s))) ≡ b → From between (d ∷ t)
     from_step b q z e =
         step_is m x b d (t ++ s) z
         ∙ from_if b _ _ _ _ _ _ (rec two) (from_if (x && d == hash) _ _ _ _ _ _ (rec line)
         (from_if (x && is_blank d) _ _ _ _ _ _ (rec between) (λ q. ap (λ (l : Text). rest (l ++ s)) (rest_same (d ∷ t) (c ∷ r) q)))) (sym (step_is n x b d t q) ∙ e)
 
-    from_between : (b : Bool) → is_some (opened (d ∷ t)) ≡ b → (d ≡ open_paren) ⊎ (d ≢ open_paren) → From between (d ∷ t)
+    from_between : (b : Bool) → is_some (after_comment_head (d ∷ t)) ≡ b → (d ≡ open_paren) ⊎ (d ≢ open_paren) → From between (d ∷ t)
     from_between true q h e = from_step true q (opened_more d t s q) e
     from_between false q (inr h) e = from_step false q (not_opened d (t ++ s) h) e
     from_between false q (inl h) e =
@@ -98,7 +98,6 @@ layout_frame n m x t s c r h e = layout_from_frame n m x s c r h t between e
 abbrev Stays : {A : Type 0} → Reading A → (Text → Reading A) → Type 0
 Stays (gives a u) there = (s : Text) → there s ≡ gives a (u ++ s)
 Stays (fails e) there = Unit {0}
-Stays no_memory there = Unit {0}
 
 -- the text begins with another character than `(`
 abbrev Begins : Text → Type 0
@@ -108,7 +107,6 @@ Begins t = (c : ℕ) × (r : Text) × (t ≡ c ∷ r) × (c ≢ open_paren)
 abbrev Firm : {A : Type 0} → Text → Reading A → (Text → Reading A) → Type 0
 Firm t (gives a u) there = Begins t × ((s : Text) → there s ≡ gives a (u ++ s))
 Firm t (fails e) there = Unit {0}
-Firm t no_memory there = Unit {0}
 
 stays_if : {A : Type 0} (b : Bool) (p q : Reading A) (p' q' : Text → Reading A) → Stays p p' → Stays q q' → Stays (if b then p else q) (λ s. if b then p' s else q' s)
 stays_if true p q p' q' h k = h
@@ -117,7 +115,6 @@ stays_if false p q p' q' h k = k
 firm_from : {A : Type 0} (c : ℕ) (t : Text) (o : Reading A) (there : Text → Reading A) → c ≢ open_paren → Stays o there → Firm (c ∷ t) o there
 firm_from c t (gives a u) there h same = ((c, t, refl, h), same)
 firm_from c t (fails e) there h k = tt
-firm_from c t no_memory there h k = tt
 
 -- behind layout
 behind_layout : {A : Type 0} (n m : ℕ) (x : Bool) (t : Text) (R : Text → Reading A) (S : Text → Text → Reading A) → ((v : Text) → Firm v (R v) (λ s. S s (v ++ s))) → Stays (layout_reading (layout n x t) >=> (λ _ v. R v)) (λ s. layout_reading (layout m x (t ++ s)) >=> (λ _ v. S s v))
@@ -126,7 +123,6 @@ behind_layout {A = A} n m x t R S firm = by_layout (layout n x t) refl where
   by_reading v e (gives a u) ((c, r, q, h), same) = λ s.
       ap (λ o. layout_reading o >=> (λ _ v. S s v)) (layout_frame n m x t s c r h (e ∙ ap rest q) ∙ ap (λ (l : Text). rest (l ++ s)) (sym q)) ∙ same s
   by_reading v e (fails z) h = tt
-  by_reading v e no_memory h = tt
 
   by_layout : (k : Skipped) → layout n x t ≡ k → Stays (layout_reading k >=> (λ _ v. R v)) (λ s. layout_reading (layout m x (t ++ s)) >=> (λ _ v. S s v))
   by_layout (rest v) e = by_reading v e (R v) (firm v)
@@ -138,15 +134,15 @@ is_hex : (c : ℕ) → nat_lt (digit_value c) 16 ≡ true → c ≢ open_paren
 is_hex c h = grind (arith, nat_tests)
 
 module _ (n m : ℕ) (x : Bool) (h : ℕ) (h' : Text → ℕ) where
-  closed_firm : (some : Bool) (v : ℕ) (t : Text) → Firm t (closed h some v (strip close_brace t)) (λ s. closed (h' s) some v (strip close_brace (t ++ s)))
+  closed_firm : (some : Bool) (v : ℕ) (t : Text) → Firm t (closing_brace h some v (strip close_brace t)) (λ s. closing_brace (h' s) some v (strip close_brace (t ++ s)))
   closed_firm false v t = tt
   closed_firm true v [] = tt
   closed_firm true v (c ∷ t) = by_test (c == close_brace) refl where
-    by_test : (b : Bool) → (c == close_brace) ≡ b → Firm (c ∷ t) (closed h true v (if b then Some t else None)) (λ s. closed (h' s) true v (if b then Some (t ++ s) else None))
+    by_test : (b : Bool) → (c == close_brace) ≡ b → Firm (c ∷ t) (closing_brace h true v (if b then Some t else None)) (λ s. closing_brace (h' s) true v (if b then Some (t ++ s) else None))
     by_test true e = let other : c ≢ open_paren = grind (arith, nat_tests) in ((c, t, refl, other), λ s. refl)
     by_test false e = tt
 
-  closed_none : (some : Bool) (v : ℕ) (there : Text → Reading ℕ) → Firm [] (closed h some v None) there
+  closed_none : (some : Bool) (v : ℕ) (there : Text → Reading ℕ) → Firm [] (closing_brace h some v None) there
   closed_none true v there = tt
   closed_none false v there = tt
 
@@ -156,8 +152,8 @@ module _ (n m : ℕ) (x : Bool) (h : ℕ) (h' : Text → ℕ) where
   -- behind a digit come layout and more digits, else the closing brace
   digits_on : (k : ℕ) (some : Bool) (v d c : ℕ) (t : Text) → ((v : ℕ) → DigitsFirm k true v) → (b : Bool) → (b ≡ true → c ≢ open_paren)
       → Firm (c ∷ t)
-      (choose (if b then Some (d, t) else None) (λ (p : ℕ × Text). layout_reading (layout n x p.1) >=> (λ _ t. digits n x h k true (v * 16 + p.0) t)) (closed h some v (strip close_brace (c ∷ t))))
-      (λ s. choose (if b then Some (d, t ++ s) else None) (λ (p : ℕ × Text). layout_reading (layout m x p.1) >=> (λ _ t. digits m x (h' s) k true (v * 16 + p.0) t)) (closed (h' s) some v (strip close_brace ((c ∷ t) ++ s))))
+      (choose (if b then Some (d, t) else None) (λ (p : ℕ × Text). layout_reading (layout n x p.1) >=> (λ _ t. digits n x h k true (v * 16 + p.0) t)) (closing_brace h some v (strip close_brace (c ∷ t))))
+      (λ s. choose (if b then Some (d, t ++ s) else None) (λ (p : ℕ × Text). layout_reading (layout m x p.1) >=> (λ _ t. digits m x (h' s) k true (v * 16 + p.0) t)) (closing_brace (h' s) some v (strip close_brace ((c ∷ t) ++ s))))
   digits_on k some v d c t more false f = closed_firm some v (c ∷ t)
   digits_on k some v d c t more true f =
       firm_from c t _ _ (f refl) (behind_layout n m x t (digits n x h k true (v * 16 + d)) (λ s u. digits m x (h' s) k true (v * 16 + d) u) (more (v * 16 + d)))
@@ -168,8 +164,8 @@ module _ (n m : ℕ) (x : Bool) (h : ℕ) (h' : Text → ℕ) where
   digits_firm (suc k) some v [] = closed_none some v _
   digits_firm (suc k) some v (c ∷ t) = digits_on k some v (digit_value c) c t (λ v. digits_firm k true v) (nat_lt (digit_value c) 16) (is_hex c)
 
-  braced_firm : (t : Text) → Firm (open_brace ∷ t) (braced n x h t) (λ s. braced m x (h' s) (t ++ s))
-  unfolding braced
+  braced_firm : (t : Text) → Firm (open_brace ∷ t) (braced_value n x h t) (λ s. braced_value m x (h' s) (t ++ s))
+  unfolding braced_value
   braced_firm t =
       let other : open_brace ≢ open_paren = grind (arith, nat_tests) in
       firm_from open_brace t _ _ other (behind_layout n m x t (digits n x h 8 false 0) (λ s v. digits m x (h' s) 8 false 0 v) (digits_firm 8 false 0))
@@ -187,20 +183,20 @@ some_if : {A : Type 0} (b : Bool) (p q : Option (A × Text)) (p' q' : Text → O
 some_if true p q p' q' h k = h
 some_if false p q p' q' h k = k
 
-fixed_on : (k v d : ℕ) (t : Text) → ((v : ℕ) → StaysSome (fixed k v t) (λ s. fixed k v (t ++ s))) → (b : Bool)
-    → StaysSome (option_and_then (λ (p : ℕ × Text). fixed k (v * 16 + p.0) p.1) (if b then Some (d, t) else None)) (λ s. option_and_then (λ (p : ℕ × Text). fixed k (v * 16 + p.0) p.1) (if b then Some (d, t ++ s) else None))
+fixed_on : (k v d : ℕ) (t : Text) → ((v : ℕ) → StaysSome (fixed_digits k v t) (λ s. fixed_digits k v (t ++ s))) → (b : Bool)
+    → StaysSome (option_and_then (λ (p : ℕ × Text). fixed_digits k (v * 16 + p.0) p.1) (if b then Some (d, t) else None)) (λ s. option_and_then (λ (p : ℕ × Text). fixed_digits k (v * 16 + p.0) p.1) (if b then Some (d, t ++ s) else None))
 fixed_on k v d t more true = more (v * 16 + d)
 fixed_on k v d t more false = tt
 
-fixed_stays : (k v : ℕ) (t : Text) → StaysSome (fixed k v t) (λ s. fixed k v (t ++ s))
-unfolding fixed hex_digit
+fixed_stays : (k v : ℕ) (t : Text) → StaysSome (fixed_digits k v t) (λ s. fixed_digits k v (t ++ s))
+unfolding fixed_digits hex_digit
 fixed_stays zero v t = λ s. refl
 fixed_stays (suc k) v [] = tt
 fixed_stays (suc k) v (c ∷ t) = fixed_on k v (digit_value c) t (λ v. fixed_stays k v t) (nat_lt (digit_value c) 16)
 
 -- a run of digits begins with a digit
-fixed_paren : (k v c : ℕ) (t : Text) → c ≡ open_paren → fixed (suc k) v (c ∷ t) ≡ None
-unfolding fixed hex_digit
+fixed_paren : (k v c : ℕ) (t : Text) → c ≡ open_paren → fixed_digits (suc k) v (c ∷ t) ≡ None
+unfolding fixed_digits hex_digit
 fixed_paren k v c t e = rw e refl
 
 not_both : {A : Type 0} (p : A) → Some p ≡ None → ⊥
@@ -211,16 +207,16 @@ module _ (n m : ℕ) (x : Bool) (h : ℕ) (h' : Text → ℕ) where
   ValueFirm w t = Firm t (value n x h (suc w) t) (λ s. value m x (h' s) (suc w) (t ++ s))
 
   value_brace : (w : ℕ) (t : Text) → ValueFirm w (open_brace ∷ t)
-  unfolding value fixed hex_digit
+  unfolding value fixed_digits hex_digit
   value_brace w t = braced_firm n m x h h' t
 
-  value_on : (w c : ℕ) (t : Text) → c ≢ open_brace → (o : Option (ℕ × Text)) → fixed (suc w) 0 (c ∷ t) ≡ o → StaysSome o (λ s. fixed (suc w) 0 (c ∷ (t ++ s)))
-      → Firm (c ∷ t) (choose o (λ p. gives p.0 p.1) (choose (strip open_brace (c ∷ t)) (braced n x h) (fault_at h invalid_hex))) (λ s. value m x (h' s) (suc w) (c ∷ (t ++ s)))
+  value_on : (w c : ℕ) (t : Text) → c ≢ open_brace → (o : Option (ℕ × Text)) → fixed_digits (suc w) 0 (c ∷ t) ≡ o → StaysSome o (λ s. fixed_digits (suc w) 0 (c ∷ (t ++ s)))
+      → Firm (c ∷ t) (choose o (λ p. gives p.0 p.1) (choose (strip open_brace (c ∷ t)) (braced_value n x h) (fault_at h invalid_hex))) (λ s. value m x (h' s) (suc w) (c ∷ (t ++ s)))
   unfolding value
   value_on w c t other None e k = let test : (c == open_brace) ≡ false = grind (arith, nat_tests) in rw test tt
   value_on w c t other (Some p) e same = (
     (c, t, refl, λ z. not_both p (sym e ∙ fixed_paren w 0 c t z)),
-    λ s. ap (λ o. choose o (λ (p : ℕ × Text). gives p.0 p.1) (choose (strip open_brace (c ∷ (t ++ s))) (braced m x (h' s)) (fault_at (h' s) invalid_hex))) (same s),
+    λ s. ap (λ o. choose o (λ (p : ℕ × Text). gives p.0 p.1) (choose (strip open_brace (c ∷ (t ++ s))) (braced_value m x (h' s)) (fault_at (h' s) invalid_hex))) (same s),
   )
 
   value_other : (w c : ℕ) (t : Text) → c ≢ open_brace → ValueFirm w (c ∷ t)
@@ -228,7 +224,7 @@ module _ (n m : ℕ) (x : Bool) (h : ℕ) (h' : Text → ℕ) where
   value_other w c t other = value_on w c t other _ refl (fixed_stays (suc w) 0 (c ∷ t))
 
   value_none : (w : ℕ) → ValueFirm w []
-  unfolding value fixed hex_digit
+  unfolding value fixed_digits hex_digit
   value_none w = tt
 
   value_firm : (w : ℕ) (t : Text) → ValueFirm w t
@@ -243,19 +239,18 @@ coded_on h true c y z t u there other front same = (front, same)
 coded_on h false true y z t u there other front same = (front, same)
 coded_on h false false y z t u there other front same = tt
 
-coded_firm : (f : Flags) (w h : ℕ) (h' : Text → ℕ) (t : Text) (o : Reading ℕ) (there : Text → Reading ℕ) → Firm t o there → Firm t (o >=> coded f w h) (λ s. there s >=> coded f w (h' s))
-unfolding coded
+coded_firm : (f : Flags) (w h : ℕ) (h' : Text → ℕ) (t : Text) (o : Reading ℕ) (there : Text → Reading ℕ) → Firm t o there → Firm t (o >=> leaf_of_value f w h) (λ s. there s >=> leaf_of_value f w (h' s))
+unfolding leaf_of_value
 coded_firm f w h h' t (gives a u) there (front, same) =
-    coded_on h (w == 2 && not f.unicode && nat_le 0x80 a && nat_le a 0xFF) (is_scalar a) (literal_bytes a) (literal a f.casei) t u _ (λ s. fault_at (h' s) invalid_codepoint_value) front (λ s. ap (λ o. o >=> coded f w (h' s)) (same s))
+    coded_on h (w == 2 && not f.unicode && nat_le 0x80 a && nat_le a 0xFF) (is_scalar a) (literal_bytes a) (literal a f.casei) t u _ (λ s. fault_at (h' s) invalid_codepoint_value) front (λ s. ap (λ o. o >=> leaf_of_value f w (h' s)) (same s))
 coded_firm f w h h' t (fails e) there k = tt
-coded_firm f w h h' t no_memory there k = tt
 
 hex_stays : (n m : ℕ) (f : Flags) (w : ℕ) (t : Text) → Stays (hex n f (suc w) t) (λ s. hex m f (suc w) (t ++ s))
 unfolding hex
 hex_stays n m f w t =
     behind_layout n m f.ignore_space t
-    (λ v. value n f.ignore_space (place_of n v) (suc w) v >=> coded f (suc w) (place_of n v))
-    (λ s v. value m f.ignore_space (place_of m v) (suc w) v >=> coded f (suc w) (place_of m v))
+    (λ v. value n f.ignore_space (place_of n v) (suc w) v >=> leaf_of_value f (suc w) (place_of n v))
+    (λ s v. value m f.ignore_space (place_of m v) (suc w) v >=> leaf_of_value f (suc w) (place_of m v))
     (λ v. coded_firm f (suc w) (place_of n v) (λ s. place_of m (v ++ s)) v _ _ (value_firm n m f.ignore_space (place_of n v) (λ s. place_of m (v ++ s)) w v))
 
 -- Properties.
@@ -293,8 +288,8 @@ numbered_on : (n p : ℕ) (t : Text) (there : Text → Reading Escape) (o : Opti
 numbered_on n p t there None = tt
 numbered_on n p t there (Some q) = either_fault (nat_lt q.0 (2 ^ 64)) _ _ there
 
-numbered_stays : (n p : ℕ) (t : Text) (there : Text → Reading Escape) → Stays (numbered n true p t) there
-unfolding numbered
+numbered_stays : (n p : ℕ) (t : Text) (there : Text → Reading Escape) → Stays (reference_fault n true p t) there
+unfolding reference_fault
 numbered_stays n p t there = numbered_on n p t there (number t)
 
 value_stays : (e : Escape) (t : Text) → Stays (gives e t) (λ s. gives e (t ++ s))
@@ -308,7 +303,7 @@ escape_stays : (n m : ℕ) (f : Flags) (p q : ℕ) (t : Text) → Stays (escape 
 unfolding escape
 escape_stays n m f p q [] = tt
 escape_stays n m f p q (c ∷ t) =
-    stays_if (is_digit c) _ _ _ _ (numbered_stays n p (c ∷ t) _)
+    stays_if (is_ascii_digit c) _ _ _ _ (numbered_stays n p (c ∷ t) _)
     (stays_if (c ∈ "dDsSwW") _ _ _ _ (value_stays _ t)
     (stays_if (c ∈ "h") _ _ _ _ (value_stays _ t)
     (stays_if (c ∈ "H") _ _ _ _ (value_stays _ t)

@@ -1,21 +1,21 @@
--- What holds of every escape: it leaves the end of the text, its fault stands at most one past the end, and it answers.
+-- What holds of every escape: it leaves the end of the text, and its fault stands at most one past the end.
 use Rattle.std.proofs.Common.{length, codes, ◌≡◌, ℕ, zero, suc, ◌+◌, ◌*◌, ◌≤◌, Bool, true, false, ◌==◌, nat_lt, if◌then◌else◌, [], ◌∷◌, ◌++◌, Option, Some, None, option_map, refl, ap, sym, ◌∙◌, subst, append_assoc, arith}
 use Rattle.std.specs.Char.{digit_value}
 use Rattle.std.specs.Option.{option_and_then}
 use Rattle.fancy_lex.specs.declared.flags.Flags.{Flags}
 use Rattle.fancy_lex.specs.Boundary as boundaries
 use Rattle.fancy_lex.specs.Characters.{open_brace, close_brace, ◌∈◌}
-use Rattle.fancy_lex.specs.Escape.{escape, numbered, property, outside, in_class}
+use Rattle.fancy_lex.specs.Escape.{escape, reference_fault, property, outside, in_class}
 use Rattle.fancy_lex.specs.Escaped.{Escape}
 use Rattle.fancy_lex.specs.Fault.{Fault, Kind, invalid_escape}
 use Rattle.fancy_lex.specs.Hex as hexes
 use Rattle.fancy_lex.specs.Layout.{Skipped, rest, fault, layout}
 use Rattle.fancy_lex.specs.Number.{number}
 use Rattle.fancy_lex.specs.Property.{single, braced, cut_at, name_at, read_property}
-use Rattle.fancy_lex.specs.Reading.{Reading, gives, fails, no_memory, fault_at, ◌>=>◌, choose, layout_reading}
+use Rattle.fancy_lex.specs.Reading.{Reading, gives, fails, fault_at, ◌>=>◌, choose, layout_reading}
 use Rattle.fancy_lex.specs.Text.{Text, bytes, strip, place_of}
 use Rattle.fancy_lex.proofs.LayoutLaws.{layout_cut, layout_place}
-use Rattle.fancy_lex.proofs.BoundaryLaws.{strip_is}
+use Rattle.fancy_lex.proofs.TextLemmas.{bytes-append, strip_is}
 
 -- the text ends with the other
 abbrev pub Ends : Text → Text → Type 0
@@ -89,8 +89,8 @@ unfolding hexes.hex_digit
 leaves_digit [] = tt
 leaves_digit (c ∷ t) = some_if (c ∷ t) (nat_lt (digit_value c) 16) (digit_value c, t) (ends_past c t t (ends_whole t))
 
-leaves_fixed : (k v : ℕ) (t : Text) → LeavesSome t (hexes.fixed k v t)
-unfolding hexes.fixed
+leaves_fixed : (k v : ℕ) (t : Text) → LeavesSome t (hexes.fixed_digits k v t)
+unfolding hexes.fixed_digits
 leaves_fixed zero v t = ends_whole t
 leaves_fixed (suc k) v t = some_both t (hexes.hex_digit t) _ (leaves_digit t) (λ p. leaves_fixed k (v * 16 + p.0) p.1)
 
@@ -129,7 +129,7 @@ module _ (m n : ℕ) (up : n + 1 ≤ m) where
   place_up : (t : Text) → place_of n t ≤ m
   place_up t = omega (arith, up)
 
-  leaves_layout : (x : Bool) (t : Text) → Leaves m t (layout_reading (layout n x t))
+  pub leaves_layout : (x : Bool) (t : Text) → Leaves m t (layout_reading (layout n x t))
   leaves_layout x t = at (layout n x t) refl where
     at : (o : Skipped) → layout n x t ≡ o → Leaves m t (layout_reading o)
     at (rest u) e = leaves (layout_cut n x t u e)
@@ -137,9 +137,9 @@ module _ (m n : ℕ) (up : n + 1 ≤ m) where
 
   -- hex codes
   module _ (x : Bool) (h : ℕ) (l : h ≤ m) where
-    leaves_closed : (some : Bool) (v : ℕ) (t : Text) → Leaves m t (hexes.closed h some v (strip close_brace t))
+    leaves_closed : (some : Bool) (v : ℕ) (t : Text) → Leaves m t (hexes.closing_brace h some v (strip close_brace t))
     leaves_closed some v t = at some (strip close_brace t) refl where
-      at : (some : Bool) (o : Option Text) → strip close_brace t ≡ o → Leaves m t (hexes.closed h some v o)
+      at : (some : Bool) (o : Option Text) → strip close_brace t ≡ o → Leaves m t (hexes.closing_brace h some v o)
       at true (Some u) e = leaves (ends_strip close_brace t u e)
       at true None e = leaves_none l
       at false o e = leaves_none l
@@ -152,22 +152,22 @@ module _ (m n : ℕ) (up : n + 1 ≤ m) where
         (λ p e. leaves_past (ends_some t _ p (leaves_digit t) e) (leaves_both (leaves_layout x p.1) (λ _ u. leaves_digits k true (v * 16 + p.0) u)))
         (leaves_closed some v t)
 
-    leaves_braced : (t : Text) → Leaves m t (hexes.braced n x h t)
-    unfolding hexes.braced
+    leaves_braced : (t : Text) → Leaves m t (hexes.braced_value n x h t)
+    unfolding hexes.braced_value
     leaves_braced t = leaves_both (leaves_layout x t) (λ _ u. leaves_digits 8 false 0 u)
 
     leaves_value : (width : ℕ) (t : Text) → Leaves m t (hexes.value n x h width t)
     unfolding hexes.value
     leaves_value width t =
-        leaves_choose (hexes.fixed width 0 t) (λ p e. leaves (ends_some t _ p (leaves_fixed width 0 t) e))
+        leaves_choose (hexes.fixed_digits width 0 t) (λ p e. leaves (ends_some t _ p (leaves_fixed width 0 t) e))
         (leaves_choose (strip open_brace t) (λ u e. leaves_past (ends_strip open_brace t u e) (leaves_braced u)) (leaves_none l))
 
   module _ (f : Flags) (width h : ℕ) (l : h ≤ m) where
     none_at_code : {A : Type 0} {k : Kind} {t : Text} → Leaves {A = A} m t (fault_at h k)
     none_at_code = leaves_none l
 
-    leaves_coded : (v : ℕ) (t : Text) → Leaves m t (hexes.coded f width h v t)
-    unfolding hexes.coded
+    leaves_coded : (v : ℕ) (t : Text) → Leaves m t (hexes.leaf_of_value f width h v t)
+    unfolding hexes.leaf_of_value
     leaves_coded v t = search (leaves_if, whole, none_at_code)
 
   leaves_hex : (f : Flags) (width : ℕ) (t : Text) → Leaves m t (hexes.hex n f width t)
@@ -189,16 +189,16 @@ module _ (m n : ℕ) (up : n + 1 ≤ m) where
     leaves_name zero t = leaves_none l
     leaves_name (suc k) t = leaves_both (leaves_layout x t) (λ _ u. leaves_name_behind k (leaves_name k) u)
 
-    leaves_named : (negated : Bool) (t : Text) → Leaves m t (boundaries.braced n x p negated t)
-    unfolding boundaries.braced
-    leaves_named negated t = leaves_both (leaves_name (suc (length t)) t) (λ w u. leaves_choose (boundaries.named negated w) (λ a e. whole u) (leaves_none l))
+    leaves_named : (negated : Bool) (t : Text) → Leaves m t (boundaries.named_boundary n x p negated t)
+    unfolding boundaries.named_boundary
+    leaves_named negated t = leaves_both (leaves_name (suc (length t)) t) (λ w u. leaves_choose (boundaries.boundary_of_name negated w) (λ a e. whole u) (leaves_none l))
 
     leaves_boundary : (negated : Bool) (t : Text) → Leaves m t (boundaries.boundary n x p negated t)
     unfolding boundaries.boundary
     leaves_boundary negated t = at (layout n x t) refl where
-      at : (o : Skipped) → layout n x t ≡ o → Leaves m t (layout_reading o >=> (λ _ u. choose (strip open_brace u) (λ inside. layout_reading (layout n x inside) >=> (λ _ v. if boundaries.at_count v then gives (boundaries.plain negated) t else boundaries.braced n x p negated inside)) (gives (boundaries.plain negated) t)))
+      at : (o : Skipped) → layout n x t ≡ o → Leaves m t (layout_reading o >=> (λ _ u. choose (strip open_brace u) (λ inside. layout_reading (layout n x inside) >=> (λ _ v. if boundaries.at_count v then gives (boundaries.unnamed_boundary negated) t else boundaries.named_boundary n x p negated inside)) (gives (boundaries.unnamed_boundary negated) t)))
       at (rest u) e = leaves_choose (strip open_brace u) (λ inside h. braces u inside e h (layout n x inside) refl) (whole t) where
-        braces : (u inside : Text) → layout n x t ≡ rest u → strip open_brace u ≡ Some inside → (o : Skipped) → layout n x inside ≡ o → Leaves m t (layout_reading o >=> (λ _ v. if boundaries.at_count v then gives (boundaries.plain negated) t else boundaries.braced n x p negated inside))
+        braces : (u inside : Text) → layout n x t ≡ rest u → strip open_brace u ≡ Some inside → (o : Skipped) → layout n x inside ≡ o → Leaves m t (layout_reading o >=> (λ _ v. if boundaries.at_count v then gives (boundaries.unnamed_boundary negated) t else boundaries.named_boundary n x p negated inside))
         braces u inside e h (rest v) i =
             leaves_if (boundaries.at_count v) (whole t)
             (leaves_past (ends_twice t u inside (layout_cut n x t u e) (ends_strip open_brace u inside h)) (leaves_named negated inside))
@@ -216,8 +216,8 @@ module _ (m n : ℕ) (up : n + 1 ≤ m) (f : Flags) (inside : Bool) (p : ℕ) (l
   leaves_property c (d ∷ t) =
       leaves_choose (read_property (c ∈ "P") (d ∷ t)) (λ q e. leaves (ends_some (d ∷ t) _ q (leaves_read (c ∈ "P") (d ∷ t)) e)) none_here
 
-  leaves_numbered : (t : Text) → Leaves m t (numbered n inside p t)
-  unfolding numbered
+  leaves_numbered : (t : Text) → Leaves m t (reference_fault n inside p t)
+  unfolding reference_fault
   leaves_numbered t = leaves_if _ none_here (leaves_choose (number t) (λ q e. leaves_if _ none_here (leaves_none (place_up m n up t))) none_here)
 
   boundary_here : (negated : Bool) (t : Text) → Leaves m t (boundaries.boundary n f.ignore_space p negated t)
@@ -261,19 +261,6 @@ escape_cut n f b p t u e q = at (escape n f b p t) (leaves_escape (n + 1 + p) n 
   at : (o : Reading Escape) → Leaves (n + 1 + p) t o → o ≡ gives e u → Ends t u
   at (gives a v) (leaves h) q = let same : v ≡ u = cc in subst (Ends t) same h
   at (fails g) l q = absurd (cc)
-  at no_memory l q = elim l [ ]
-
-bytes_ends : (w u : Text) → bytes u ≤ bytes (w ++ u)
-unfolding bytes
-bytes_ends [] u = omega arith
-bytes_ends (c ∷ w) u = omega (arith, bytes_ends w u)
 
 pub escape_within : (n : ℕ) (f : Flags) (b : Bool) (p : ℕ) (t u : Text) (e : Escape) → escape n f b p t ≡ gives e u → bytes u ≤ bytes t
-escape_within n f b p t u e q = let (w, cut) = escape_cut n f b p t u e q in rw cut (bytes_ends w u)
-
-pub escape_answers : (n : ℕ) (f : Flags) (b : Bool) (p : ℕ) (t : Text) → escape n f b p t ≡ no_memory → ⊥
-escape_answers n f b p t q = at (escape n f b p t) (leaves_escape (n + 1 + p) n (omega arith) f b p (omega arith) t) q where
-  at : (o : Reading Escape) → Leaves (n + 1 + p) t o → o ≡ no_memory → ⊥
-  at (gives a v) l q = cc
-  at (fails g) l q = cc
-  at no_memory l q = elim l [ ]
+escape_within n f b p t u e q = let (w, cut) = escape_cut n f b p t u e q in rw cut (omega (arith, bytes-append w u))

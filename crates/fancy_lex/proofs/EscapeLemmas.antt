@@ -2,7 +2,7 @@
 use Rattle.std.proofs.Common.{◌≡◌, ℕ, Bool, [], ◌∷◌, Option, Some, None, refl, ap, sym, ◌∙◌}
 use Rattle.fancy_lex.specs.declared.flags.Flags.{Flags}
 use Rattle.fancy_lex.specs.Characters.{◌∈◌}
-use Rattle.fancy_lex.specs.Escape.{property, unknown}
+use Rattle.fancy_lex.specs.Escape.{property, unknown_escape}
 use Rattle.fancy_lex.specs.Escaped.{delegate}
 use Rattle.fancy_lex.specs.Fault.{unclosed_unicode_name}
 use Rattle.fancy_lex.specs.Property.{Property, read_property, name_at, property_text}
@@ -10,7 +10,7 @@ use Rattle.fancy_lex.specs.Reading.{gives, fault_at}
 use Rattle.fancy_lex.specs.Text.{Text}
 
 module _ (f : Flags) (inside : Bool) (p c : ℕ) (t : Text) where
-  pub property_end : t ≡ [] → property f inside p c t ≡ unknown p c
+  pub property_end : t ≡ [] → property f inside p c t ≡ unknown_escape p c
   unfolding property
   property_end e = rw e refl
 

@@ -2,27 +2,28 @@
 use Rattle.std.proofs.Common.{◌≡◌, add-one, ℕ, suc, ◌+◌, ◌*◌, ◌-◌, ◌<◌, ◌≤◌, ◌^◌, Bool, true, Some, None, refl, arith, nat_lt}
 use Rattle.std.proofs.Math.Nat.{pow-suc, pow-le-pow_right}
 use Rattle.std.proofs.lemmas.Bool.Decides.{nat_tests}
+use Rattle.fancy_lex.specs.Characters.{close_brace}
 use Rattle.fancy_lex.specs.Text.{Text, strip}
 use Rattle.fancy_lex.specs.Layout.{layout}
-use Rattle.fancy_lex.specs.Reading.{gives, error_reading, layout_reading}
+use Rattle.fancy_lex.specs.Reading.{gives, Says, layout_reading}
 use Rattle.fancy_lex.specs.declared.error.Error.{Error}
-use Rattle.fancy_lex.proofs.ReadingLemmas.{bind_error}
-use Rattle.fancy_lex.specs.Hex.{fixed, hex_digit, digits, closed}
+use Rattle.fancy_lex.proofs.ReadingLemmas.{says_first}
+use Rattle.fancy_lex.specs.Hex.{fixed_digits, hex_digit, digits, closing_brace}
 
 -- how many are still to come
 one_more : (w i : ℕ) → i < w → w - i ≡ suc (w - (i + 1))
 one_more w i h = omega arith
 
-pub fixed_step : (w i v d : ℕ) (t r : Text) → i < w → hex_digit t ≡ Some (d, r) → fixed (w - i) v t ≡ fixed (w - (i + 1)) (v * 16 + d) r
-unfolding fixed
+pub fixed_step : (w i v d : ℕ) (t r : Text) → i < w → hex_digit t ≡ Some (d, r) → fixed_digits (w - i) v t ≡ fixed_digits (w - (i + 1)) (v * 16 + d) r
+unfolding fixed_digits
 fixed_step w i v d t r h e = rw (one_more w i h, e) refl
 
-pub fixed_short : (w i v : ℕ) (t : Text) → i < w → hex_digit t ≡ None → fixed (w - i) v t ≡ None
-unfolding fixed
+pub fixed_short : (w i v : ℕ) (t : Text) → i < w → hex_digit t ≡ None → fixed_digits (w - i) v t ≡ None
+unfolding fixed_digits
 fixed_short w i v t h e = rw (one_more w i h, e) refl
 
-pub fixed_done : (w i v : ℕ) (t : Text) → w ≤ i → fixed (w - i) v t ≡ Some (v, t)
-unfolding fixed
+pub fixed_done : (w i v : ℕ) (t : Text) → w ≤ i → fixed_digits (w - i) v t ≡ Some (v, t)
+unfolding fixed_digits
 fixed_done w i v t h = let none : w - i ≡ 0 = omega arith in rw none refl
 
 module _ (n : ℕ) (x : Bool) (h i v : ℕ) (t : Text) where
@@ -32,15 +33,15 @@ module _ (n : ℕ) (x : Bool) (h i v : ℕ) (t : Text) where
       let some : nat_lt 0 (i + 1) ≡ true = grind (arith, nat_tests) in
       rw (one_more 8 i l, digits, e, s, some) refl
 
-  pub digits_fault : (d : ℕ) (r : Text) (b : Error) → i < 8 → hex_digit t ≡ Some (d, r) → layout_reading (layout n x r) ≡ error_reading b → digits n x h (8 - i) (nat_lt 0 i) v t ≡ error_reading b
+  pub digits_fault : (d : ℕ) (r : Text) (b : Error) → i < 8 → hex_digit t ≡ Some (d, r) → Says b (layout_reading (layout n x r)) → Says b (digits n x h (8 - i) (nat_lt 0 i) v t)
   unfolding digits
-  digits_fault d r b l e s = rw (one_more 8 i l, digits, e) (bind_error _ _ b s)
+  digits_fault d r b l e s = rw (one_more 8 i l, digits, e) (says_first _ _ b s)
 
-  pub digits_end : i < 8 → hex_digit t ≡ None → digits n x h (8 - i) (nat_lt 0 i) v t ≡ closed h (nat_lt 0 i) v (strip 125 t)
+  pub digits_end : i < 8 → hex_digit t ≡ None → digits n x h (8 - i) (nat_lt 0 i) v t ≡ closing_brace h (nat_lt 0 i) v (strip close_brace t)
   unfolding digits
   digits_end l e = rw (one_more 8 i l, digits, e) refl
 
-  pub digits_done : 8 ≤ i → digits n x h (8 - i) (nat_lt 0 i) v t ≡ closed h true v (strip 125 t)
+  pub digits_done : 8 ≤ i → digits n x h (8 - i) (nat_lt 0 i) v t ≡ closing_brace h true v (strip close_brace t)
   unfolding digits
   digits_done l =
       let none : 8 - i ≡ 0 = omega arith in

@@ -5,7 +5,7 @@ use Rattle.std.proofs.lemmas.Bool.{cases_eq}
 use Rattle.std.specs.Borrow.{Bor}
 use Rattle.fancy_lex.specs.Characters.{line_feed, hash, open_paren, close_paren, backslash}
 use Rattle.fancy_lex.specs.Text.{Text}
-use Rattle.fancy_lex.specs.Layout.{skipped, rest, fault, Inside, nothing, plain, pair, InLine, end_line, on_line, opening, IsUnit, Units, none, more, Stops, layout, layout_from, between, comment, escaped, line, is_blank, opened, Open, at_end, after_backslash, Unclosed, Before}
+use Rattle.fancy_lex.specs.Layout.{skipped_of, rest, fault, Inside, nothing, plain, pair, InLine, end_line, on_line, comment_head, IsUnit, Units, none, more, Stops, layout, layout_from, between, comment, escaped, line, is_blank, after_comment_head, Open, at_end, after_backslash, Unclosed, Before}
 use Rattle.fancy_lex.proofs.LayoutLemmas.{between_opened, comment_step, comment_end, escaped_end, escaped_step, escaped_end, line_step, between_line, between_blank, between_other, between_plain, between_end, line_end}
 
 snoc : (i r : Text) (c : ℕ) → (i ++ c ∷ []) ++ r ≡ i ++ c ∷ r
@@ -33,12 +33,12 @@ module _ (n : ℕ) (x : Bool) where
       let now : layout_from n x line (c ∷ (t ++ r)) ≡ layout_from n x line (t ++ r) = grind (arith, nat_tests) in
       now ∙ past_line h r
 
-  past_comment : {i : Text} → Inside i → (r : Text) → layout_from n x between (opening ++ (i ++ close_paren ∷ r)) ≡ layout_from n x between r
+  past_comment : {i : Text} → Inside i → (r : Text) → layout_from n x between (comment_head ++ (i ++ close_paren ∷ r)) ≡ layout_from n x between r
   past_comment {i} h r =
       between_opened n x _ (i ++ close_paren ∷ r) refl ∙ past_inside h (close_paren ∷ r) ∙ comment_step n x _ close_paren r refl
 
   -- a character that opens no comment
-  not_open : (c : ℕ) (r : Text) → c ≢ open_paren → opened (c ∷ r) ≡ None
+  not_open : (c : ℕ) (r : Text) → c ≢ open_paren → after_comment_head (c ∷ r) ≡ None
   not_open c r h = grind (arith, nat_tests)
 
   at_hash : x ≡ true → (r : Text) → layout_from n x between (hash ∷ r) ≡ layout_from n x line r
@@ -123,15 +123,15 @@ open_fault n x t p (after_backslash i e q h) =
     rw (e, q) (past_inside n x h (backslash ∷ []) ∙ comment_step n x _ backslash [] refl ∙ escaped_end n x [] refl)
 
 -- `(?#`, told from the text
-opened_is : (t i : Text) → opened t ≡ Some i → t ≡ opening ++ i
+opened_is : (t i : Text) → after_comment_head t ≡ Some i → t ≡ comment_head ++ i
 opened_is [] i e = cc
 opened_is (c ∷ []) i e = grind (arith, nat_tests)
 opened_is (c ∷ d ∷ []) i e = grind (arith, nat_tests)
 opened_is (c ∷ d ∷ f ∷ r) i e = grind (arith, nat_tests)
 
-opened_cases : (t : Text) → ((i : Text) × (t ≡ opening ++ i)) ⊎ (opened t ≡ None)
-opened_cases t = opened_by t (opened t) refl where
-  opened_by : (t : Text) (o : Option Text) → opened t ≡ o → ((i : Text) × (t ≡ opening ++ i)) ⊎ (opened t ≡ None)
+opened_cases : (t : Text) → ((i : Text) × (t ≡ comment_head ++ i)) ⊎ (after_comment_head t ≡ None)
+opened_cases t = opened_by t (after_comment_head t) refl where
+  opened_by : (t : Text) (o : Option Text) → after_comment_head t ≡ o → ((i : Text) × (t ≡ comment_head ++ i)) ⊎ (after_comment_head t ≡ None)
   opened_by t (Some i) e = inl (i, opened_is t i e)
   opened_by t None e = inr e
 
@@ -139,23 +139,23 @@ opened_cases t = opened_by t (opened t) refl where
 data Front (n : ℕ) (x : Bool) (t : Text) : Type 0 where
   stop : Stops x t → layout_from n x between t ≡ rest t → Front n x t
   unit : (u r : Text) → t ≡ u ++ r → IsUnit x u r → 0 < length u → Front n x t
-  open_comment : (r : Text) (p : ℕ) → t ≡ opening ++ r → Open n r p → Front n x t
+  open_comment : (r : Text) (p : ℕ) → t ≡ comment_head ++ r → Open n r p → Front n x t
 
-some_none : (t i r : Text) → opened t ≡ None → t ≡ r → opened r ≡ Some i → ⊥
-some_none t i r n e s = let same = ap opened e in cc
+some_none : (t i r : Text) → after_comment_head t ≡ None → t ≡ r → after_comment_head r ≡ Some i → ⊥
+some_none t i r n e s = let same = ap after_comment_head e in cc
 
 told_apart : (c : ℕ) → is_blank c ≡ true → is_blank c ≡ false → ⊥
 told_apart c a b = cc
 
-stops_from : (x : Bool) (t : Text) → opened t ≡ None → (x ≡ true → (c : ℕ) (r : Text) → t ≡ c ∷ r → (c ≢ hash) × (is_blank c ≡ false)) → Stops x t
-stops_from x t n others = record { no_unit = no_unit; no_opening = λ i e. some_none t i (opening ++ i) n e refl } where
+stops_from : (x : Bool) (t : Text) → after_comment_head t ≡ None → (x ≡ true → (c : ℕ) (r : Text) → t ≡ c ∷ r → (c ≢ hash) × (is_blank c ≡ false)) → Stops x t
+stops_from x t n others = record { no_unit = no_unit; no_comment_head = λ i e. some_none t i (comment_head ++ i) n e refl } where
   no_unit : (u r : Text) → t ≡ u ++ r → IsUnit x u r → ⊥
   no_unit u r e (inl (i, h, q)) = some_none t _ _ n (e ∙ ap (λ s. s ++ r) q) refl
   no_unit u r e (inr (on, inl (c, b, q))) = told_apart c b (others on c r (e ∙ ap (λ s. s ++ r) q)).1
   no_unit u r e (inr (on, inr (i, h, inl q))) = (others on hash _ (e ∙ ap (λ s. s ++ r) q)).0 refl
   no_unit u r e (inr (on, inr (i, h, inr (q, z)))) = (others on hash _ (e ∙ ap (λ s. s ++ r) q)).0 refl
 
-front_extended : (n : ℕ) (t : Text) → opened t ≡ None → Front n true t
+front_extended : (n : ℕ) (t : Text) → after_comment_head t ≡ None → Front n true t
 front_extended n [] e = stop (stops_from true [] e (λ _ c r q. absurd (nil_cons c r q))) (between_end n true [] refl) where
   nil_cons : (c : ℕ) (r : Text) → [] ≡ c ∷ r → ⊥
   nil_cons c r q = cc
@@ -183,18 +183,18 @@ front : (n : ℕ) (x : Bool) (t : Text) → Front n x t
 front n x t =
     elim (opened_cases t) [
       | inl (i, e) ↦ elim (split_comment n i) [
-        | inl (j, r, h, q) ↦ unit (opening ++ (j ++ close_paren ∷ [])) r (at_comment i j r e q) (inl (j, h, refl)) (omega arith)
+        | inl (j, r, h, q) ↦ unit (comment_head ++ (j ++ close_paren ∷ [])) r (at_comment i j r e q) (inl (j, h, refl)) (omega arith)
         | inr (p, h) ↦ open_comment i p e h
       ]
       | inr e ↦ by_flag x e
     ] where
-      at_comment : (i j r : Text) → t ≡ opening ++ i → i ≡ j ++ close_paren ∷ r → t ≡ (opening ++ (j ++ close_paren ∷ [])) ++ r
+      at_comment : (i j r : Text) → t ≡ comment_head ++ i → i ≡ j ++ close_paren ∷ r → t ≡ (comment_head ++ (j ++ close_paren ∷ [])) ++ r
       at_comment i j r e q = rw (e, q, snoc) refl
 
       off : false ≡ true → ⊥
       off e = cc
 
-      by_flag : (x : Bool) → opened t ≡ None → Front n x t
+      by_flag : (x : Bool) → after_comment_head t ≡ None → Front n x t
       by_flag true e = front_extended n t e
       by_flag false e = stop (stops_from false t e (λ h c r q. absurd (off h))) (between_plain n t e)
 
@@ -203,7 +203,7 @@ stop_rest n x v s =
     elim (front n x v) [
       | stop _ e ↦ e
       | unit u r e h _ ↦ absurd (s.no_unit u r e h)
-      | open_comment r p e h ↦ absurd (s.no_opening r e)
+      | open_comment r p e h ↦ absurd (s.no_comment_head r e)
     ]
 
 -- whatever the relation gives is the function's answer
@@ -236,7 +236,7 @@ told_more n x t u r e h (inr (p, b)) =
       record {
         w = u ++ b.w;
         r = b.r;
-        cut = e ∙ ap (λ s. u ++ s) b.cut ∙ sym (append_assoc u b.w (opening ++ b.r));
+        cut = e ∙ ap (λ s. u ++ s) b.cut ∙ sym (append_assoc u b.w (comment_head ++ b.r));
         units = more u b.w refl unit b.units;
         inside = b.inside;
       },
@@ -278,7 +278,7 @@ unclosed_sound n x t p e =
       | inr (q, b) ↦ let same : q ≡ p = faults_same q p (sym (unclosed_complete n x t q b) ∙ e) in subst (Unclosed n x t) same b
     ]
 
-pub derives_from : (n : ℕ) (x : Bool) (t : Text) (r : Result (Bor (List ℕ)) ℕ) → layout_from n x between t ≡ skipped r → MatchResult r (λ v. Before x t (chars v.now)) (λ p. Unclosed n x t p)
+pub derives_from : (n : ℕ) (x : Bool) (t : Text) (r : Result (Bor (List ℕ)) ℕ) → layout_from n x between t ≡ skipped_of r → MatchResult r (λ v. Before x t (chars v.now)) (λ p. Unclosed n x t p)
 derives_from n x t (Ok v) e = layout_sound n x t (chars v.now) e
 derives_from n x t (Err p) e = unclosed_sound n x t p e
 

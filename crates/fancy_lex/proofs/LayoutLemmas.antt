@@ -1,9 +1,9 @@
 -- One step of the layout's definition, where the text is known by an equation.
-use Rattle.std.proofs.Common.{◌≡◌, ◌≢◌, ◌+◌, ℕ, Bool, true, [], ◌∷◌, Some, None, false, arith, ◌==◌, ◌&&◌, if◌then◌else◌, is_some, ap, refl}
+use Rattle.std.proofs.Common.{◌≡◌, ◌≢◌, ◌+◌, ℕ, Bool, true, [], ◌∷◌, Some, None, false, arith, ◌==◌, ◌&&◌, ◌||◌, if◌then◌else◌, is_some, ap, refl, ◌∙◌}
 use Rattle.std.proofs.lemmas.Bool.Decides.{nat_tests}
-use Rattle.fancy_lex.specs.Characters.{line_feed, hash, close_paren, backslash}
+use Rattle.fancy_lex.specs.Characters.{line_feed, hash, open_paren, close_paren, backslash}
 use Rattle.fancy_lex.specs.Text.{Text}
-use Rattle.fancy_lex.specs.Layout.{rest, fault, layout_from, between, two, comment, escaped, line, is_blank, opened}
+use Rattle.fancy_lex.specs.Layout.{rest, fault, layout_from, between, two, comment, escaped, line, is_blank, after_comment_head}
 
 module _ (n : ℕ) (x : Bool) (t : Text) where
   pub comment_end : t ≡ [] → layout_from n x comment t ≡ fault n
@@ -35,12 +35,12 @@ module _ (n : ℕ) (x : Bool) (t : Text) where
     unfolding layout_from
     line_step e = ap (layout_from n x line) e
 
-    pub between_step : t ≡ c ∷ r → layout_from n x between t ≡ (if is_some (opened t) then layout_from n x two r else if x && c == hash then layout_from n x line r else if x && is_blank c then layout_from n x between r else rest t)
+    pub between_step : t ≡ c ∷ r → layout_from n x between t ≡ (if is_some (after_comment_head t) then layout_from n x two r else if x && c == hash then layout_from n x line r else if x && is_blank c then layout_from n x between r else rest t)
     unfolding layout_from
     between_step e = rw e refl
 
 -- `(?#` opens a comment
-pub between_opened : (n : ℕ) (x : Bool) (t i : Text) → opened t ≡ Some i → layout_from n x between t ≡ layout_from n x comment i
+pub between_opened : (n : ℕ) (x : Bool) (t i : Text) → after_comment_head t ≡ Some i → layout_from n x between t ≡ layout_from n x comment i
 unfolding layout_from
 between_opened n x [] i e = cc
 between_opened n x (c ∷ []) i e = grind (arith, nat_tests)
@@ -48,13 +48,13 @@ between_opened n x (c ∷ d ∷ []) i e = grind (arith, nat_tests)
 between_opened n x (c ∷ d ∷ f ∷ r) i e = grind (arith, nat_tests)
 
 -- nothing that the flag lets pass
-pub between_plain : (n : ℕ) (t : Text) → opened t ≡ None → layout_from n false between t ≡ rest t
+pub between_plain : (n : ℕ) (t : Text) → after_comment_head t ≡ None → layout_from n false between t ≡ rest t
 unfolding layout_from
 between_plain n [] e = refl
 between_plain n (c ∷ r) e = grind (arith, nat_tests)
 
 -- the cases of a step, by what the code has tested
-module _ (n : ℕ) (x : Bool) (t : Text) (c : ℕ) (r : Text) (e : t ≡ c ∷ r) (none : opened t ≡ None) (ignore_space : x ≡ true) where
+module _ (n : ℕ) (x : Bool) (t : Text) (c : ℕ) (r : Text) (e : t ≡ c ∷ r) (none : after_comment_head t ≡ None) (ignore_space : x ≡ true) where
   pub between_line : c ≡ hash → layout_from n x between t ≡ layout_from n x line r
   between_line h = let step = between_step n x t c r e in grind (arith, nat_tests)
 
@@ -63,6 +63,24 @@ module _ (n : ℕ) (x : Bool) (t : Text) (c : ℕ) (r : Text) (e : t ≡ c ∷ r
 
   pub between_other : c ≢ hash → is_blank c ≡ false → layout_from n x between t ≡ rest t
   between_other h b = let step = between_step n x t c r e in grind (arith, nat_tests)
+
+-- nothing, by the first character
+module _ (n : ℕ) (x : Bool) (t : Text) (c : ℕ) (r : Text) (e : t ≡ c ∷ r) (paren : c ≢ open_paren) where
+  no_comment_head : is_some (after_comment_head (c ∷ r)) ≡ false
+  no_comment_head = grind (arith, nat_tests)
+
+  by_flag : (y : Bool) → (y && (c == hash || is_blank c)) ≡ false →
+      (if y && c == hash then layout_from n x line r else if y && is_blank c then layout_from n x between r else rest t) ≡ rest t
+  by_flag y h = grind (arith, nat_tests)
+
+  no_unit : (x && (c == hash || is_blank c)) ≡ false → layout_from n x between t ≡ rest t
+  no_unit h = between_step n x t c r e ∙ rw (e, no_comment_head) (rw e at by_flag x h)
+
+  pub between_flagless : x ≡ false → layout_from n x between t ≡ rest t
+  between_flagless f = no_unit (ap (λ y. y && (c == hash || is_blank c)) f)
+
+  pub between_first : c ≢ hash → is_blank c ≡ false → layout_from n x between t ≡ rest t
+  between_first h b = no_unit (grind (arith, nat_tests))
 
 -- the same inside a comment and a line comment
 module _ (n : ℕ) (x : Bool) (t : Text) (c : ℕ) (r : Text) (e : t ≡ c ∷ r) where

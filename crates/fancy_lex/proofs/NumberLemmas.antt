@@ -2,10 +2,11 @@
 use Rattle.std.proofs.Common.{rules, IfSome, IsSome, chars, ◌≡◌, ℕ, ◌+◌, ◌*◌, ◌-◌, ◌<◌, Bool, true, false, List, [], ◌∷◌, ◌++◌, length, Option, Some, None, ap, sym, ◌∙◌, refl, arith, subst}
 use Rattle.std.proofs.lemmas.Bool.Decides.{nat_tests}
 use Rattle.std.specs.Borrow.{Bor}
+use Rattle.std.specs.Char.{is_ascii_digit}
 use Rattle.fancy_lex.specs.Text.{Text}
-use Rattle.fancy_lex.specs.Number.{is_digit, AllDigits, value_after, run, at_digit, number, StartsWithNumber, GivesNumber, IsWord}
+use Rattle.fancy_lex.specs.Number.{AllDigits, value_after, run, at_digit, number, StartsWithNumber, GivesNumber, IsWord}
 
-pub digit_is : (d : ℕ) → d < 10 → is_digit (d + 48) ≡ true
+pub digit_is : (d : ℕ) → d < 10 → is_ascii_digit (d + 48) ≡ true
 digit_is d h = grind (arith, nat_tests)
 
 pub run_step : (n : ℕ) (t : Text) (d : ℕ) (r : Text) → t ≡ (d + 48) ∷ r → d < 10 → run n t ≡ run (n * 10 + d) r
@@ -38,7 +39,7 @@ unfolding run
 run_digits n [] v h = refl
 run_digits n (c ∷ w) v (d, h) = rw d (run_digits (n * 10 + (c - 48)) w v h)
 
-at_stop : (v : Text) → ((c : ℕ) (t : Text) → v ≡ c ∷ t → is_digit c ≡ false) → at_digit v ≡ false
+at_stop : (v : Text) → ((c : ℕ) (t : Text) → v ≡ c ∷ t → is_ascii_digit c ≡ false) → at_digit v ≡ false
 at_stop [] h = refl
 at_stop (c ∷ t) h = h c t refl
 
@@ -58,16 +59,16 @@ record Split (t : Text) : Type 0 where
   v : Text
   cut : t ≡ w ++ v
   digits : AllDigits w
-  stops : (c : ℕ) (r : Text) → v ≡ c ∷ r → is_digit c ≡ false
+  stops : (c : ℕ) (r : Text) → v ≡ c ∷ r → is_ascii_digit c ≡ false
 
 split : (t : Text) → Split t
 split [] = record { w = []; v = []; cut = refl; digits = tt; stops = λ c r e. absurd (nil_cons c r e) } where
   nil_cons : (c : ℕ) (r : Text) → [] ≡ c ∷ r → ⊥
   nil_cons c r e = cc
-split (c ∷ t) = by_test (split t) (is_digit c) refl where
-  by_test : Split t → (b : Bool) → is_digit c ≡ b → Split (c ∷ t)
+split (c ∷ t) = by_test (split t) (is_ascii_digit c) refl where
+  by_test : Split t → (b : Bool) → is_ascii_digit c ≡ b → Split (c ∷ t)
   by_test s true e = record { w = c ∷ s.w; v = s.v; cut = ap (λ u. c ∷ u) s.cut; digits = (e, s.digits); stops = s.stops }
-  by_test s false e = record { w = []; v = c ∷ t; cut = refl; digits = tt; stops = λ d r q. ap is_digit (head_same d r q) ∙ e } where
+  by_test s false e = record { w = []; v = c ∷ t; cut = refl; digits = tt; stops = λ d r q. ap is_ascii_digit (head_same d r q) ∙ e } where
     head_same : (d : ℕ) (r : Text) → c ∷ t ≡ d ∷ r → d ≡ c
     head_same d r q = cc
 

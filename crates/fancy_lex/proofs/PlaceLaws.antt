@@ -1,7 +1,7 @@
 -- What holds of every class: it leaves the end of the text, its fault stands at most one past the end, and it answers.
 use Rattle.std.proofs.Common.{◌≡◌, ℕ, zero, suc, ◌+◌, ◌-◌, Bool, true, false, ◌||◌, ◌==◌, [], ◌∷◌, ◌++◌, Option, Some, None, refl, arith}
 use Rattle.fancy_lex.specs.Characters.{backslash, caret, open_bracket, close_bracket}
-use Rattle.fancy_lex.specs.Class.{class, items, item_text, is_negated, opening, with_mark}
+use Rattle.fancy_lex.specs.Class.{class, items, item_text, is_negated, class_head, with_mark}
 use Rattle.fancy_lex.specs.Reading.{choose}
 use Rattle.fancy_lex.specs.Text.{Text, bytes, place_of, strip}
 use Rattle.fancy_lex.specs.declared.flags.Flags.{Flags}
@@ -14,9 +14,9 @@ ends_mark m p = at (strip m p.1) refl where
   at None e = ends_whole p.1
   at (Some u) e = ends_strip m p.1 u e
 
-ends_opening : (out t : Text) → Ends t (opening out t).1
-unfolding opening
-ends_opening out t =
+ends_class_head : (out t : Text) → Ends t (class_head out t).1
+unfolding class_head
+ends_class_head out t =
     let start : Text × Text = (out ++ open_bracket ∷ [], t) in
     ends_twice t _ _ (ends_mark caret start) (ends_mark close_bracket (with_mark caret start))
 
@@ -31,7 +31,7 @@ module _ (n : ℕ) (f : Flags) where
       (leaves_past past
       (leaves_both (leaves_escape (n + 1) n (omega arith) f true (place_of n (c ∷ t)) (omega arith) t) (λ e u. leaves_items k depth (seen || is_negated e) (out ++ item_text seen e) u)))
       (leaves_if (c == open_bracket)
-      (leaves_past past (leaves_past (ends_opening out t) (leaves_items k (depth + 1) seen (opening out t).0 (opening out t).1)))
+      (leaves_past past (leaves_past (ends_class_head out t) (leaves_items k (depth + 1) seen (class_head out t).0 (class_head out t).1)))
       (leaves_if (c == close_bracket)
       (leaves_if (depth == 0) (whole_next t) (leaves_past past (leaves_items k (depth - 1) seen (out ++ c ∷ []) t)))
       (leaves_past past (leaves_items k depth seen (out ++ c ∷ []) t))))
@@ -39,4 +39,4 @@ module _ (n : ℕ) (f : Flags) where
   -- the end of the text is left, or the fault stands at most one past the end
   pub leaves_class : (t : Text) → Leaves (n + 1) t (class n f t)
   unfolding class
-  leaves_class t = leaves_past (ends_opening [] t) (leaves_items (suc (bytes t)) 0 false (opening [] t).0 (opening [] t).1)
+  leaves_class t = leaves_past (ends_class_head [] t) (leaves_items (suc (bytes t)) 0 false (class_head [] t).0 (class_head [] t).1)

@@ -10,7 +10,7 @@ use Rattle.std.proofs.lemmas.Str.Ascii.{lowercase_ascii}
 use Rattle.std.proofs.lemmas.Slice.Eq.{bytes_eq-Decides}
 use Rattle.std.proofs.lemmas.Str.{encode_ascii, inside_one, encodes_same, encodes-chars, chars_from_encodes, chars-append, chars_past_char, IsUtf8-take, IsUtf8-drop, IsCharBoundary-before_ascii}
 use Rattle.std.proofs.lemmas.Str.Pattern.{IsSplitOnceResult, split_parts, drop_at_char}
-use Rattle.fancy_lex.specs.Property.{cut_at, lowered}
+use Rattle.fancy_lex.specs.Property.{cut_at, lowercase}
 use Rattle.fancy_lex.specs.Text.{Text}
 
 -- the text before a mark
@@ -50,8 +50,8 @@ stays (b ∷ bs) h =
     let same : to_ascii_lowercase b ≡ b = grind (arith, nat_tests) in
     rw (same, stays bs (λ k l. h (suc k) (omega arith))) refl
 
-lowered_encode : (c : ℕ) → map to_ascii_lowercase (encode c) ≡ encode (to_ascii_lowercase c)
-lowered_encode c = by_size (cases_lt c 128) where
+lowercase_encode : (c : ℕ) → map to_ascii_lowercase (encode c) ≡ encode (to_ascii_lowercase c)
+lowercase_encode c = by_size (cases_lt c 128) where
   by_size : (c < 128) ⊎ (128 ≤ c) → map to_ascii_lowercase (encode c) ≡ encode (to_ascii_lowercase c)
   by_size (inl low) =
       let small : to_ascii_lowercase c < 128 = lowercase_ascii c low in
@@ -60,21 +60,21 @@ lowered_encode c = by_size (cases_lt c 128) where
       let same : to_ascii_lowercase c ≡ c = grind (arith, nat_tests) in
       rw same (stays (encode c) (λ k l. ⊎_elim (λ h. absurd (omega (arith, inside_one c [] (encode c) k (sym (append-nil (encode c))) l h))) (λ h. h) (cases_lt (get_or (encode c) k 0) 128)))
 
-lowered_encodes : (cs : Text) → map to_ascii_lowercase (encodes cs) ≡ encodes (lowered cs)
-lowered_encodes [] = refl
-lowered_encodes (c ∷ cs) = rw (map-append to_ascii_lowercase (encode c) (encodes cs), lowered_encode c, lowered_encodes cs) refl
+lowercase_encodes : (cs : Text) → map to_ascii_lowercase (encodes cs) ≡ encodes (lowercase cs)
+lowercase_encodes [] = refl
+lowercase_encodes (c ∷ cs) = rw (map-append to_ascii_lowercase (encode c) (encodes cs), lowercase_encode c, lowercase_encodes cs) refl
 
-pub same_word : (r : Bool) (name word : List ℕ) → IsUtf8 name → IsUtf8 word → lowered (chars word) ≡ chars word → IsTrue r ↔ (map to_ascii_lowercase name ≡ map to_ascii_lowercase word) → r ≡ bytes_eq (lowered (chars name)) (chars word)
+pub same_word : (r : Bool) (name word : List ℕ) → IsUtf8 name → IsUtf8 word → lowercase (chars word) ≡ chars word → IsTrue r ↔ (map to_ascii_lowercase name ≡ map to_ascii_lowercase word) → r ≡ bytes_eq (lowercase (chars name)) (chars word)
 same_word r name word u v small test =
-    same_from_decides r _ (λ e. forth (test.0 e), λ e. test.1 (back e)) (bytes_eq-Decides (lowered (chars name)) (chars word)) where
-      of_name : map to_ascii_lowercase name ≡ encodes (lowered (chars name))
-      of_name = ap (map to_ascii_lowercase) (sym (encodes-chars name u)) ∙ lowered_encodes (chars name)
+    same_from_decides r _ (λ e. forth (test.0 e), λ e. test.1 (back e)) (bytes_eq-Decides (lowercase (chars name)) (chars word)) where
+      of_name : map to_ascii_lowercase name ≡ encodes (lowercase (chars name))
+      of_name = ap (map to_ascii_lowercase) (sym (encodes-chars name u)) ∙ lowercase_encodes (chars name)
 
       of_word : map to_ascii_lowercase word ≡ encodes (chars word)
-      of_word = ap (map to_ascii_lowercase) (sym (encodes-chars word v)) ∙ lowered_encodes (chars word) ∙ ap encodes small
+      of_word = ap (map to_ascii_lowercase) (sym (encodes-chars word v)) ∙ lowercase_encodes (chars word) ∙ ap encodes small
 
-      forth : map to_ascii_lowercase name ≡ map to_ascii_lowercase word → lowered (chars name) ≡ chars word
+      forth : map to_ascii_lowercase name ≡ map to_ascii_lowercase word → lowercase (chars name) ≡ chars word
       forth e = encodes_same _ _ (sym of_name ∙ e ∙ of_word)
 
-      back : lowered (chars name) ≡ chars word → map to_ascii_lowercase name ≡ map to_ascii_lowercase word
+      back : lowercase (chars name) ≡ chars word → map to_ascii_lowercase name ≡ map to_ascii_lowercase word
       back e = of_name ∙ ap encodes e ∙ sym of_word

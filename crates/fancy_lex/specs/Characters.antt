@@ -42,12 +42,13 @@ backslash = code "\\"
 abbrev pub caret : ℕ
 caret = code "^"
 
+-- the character is in the list
 abbrev pub is_among : ℕ → List ℕ → Bool
 is_among c [] = false
 is_among c (d ∷ []) = c == d
 is_among c (d ∷ e ∷ rest) = c == d || is_among c (e ∷ rest)
 
--- the character is one of these
+-- the character is one of the text's
 infix 60 ◌∈◌
 abbrev pub ◌∈◌ : ℕ → String → Bool
 c ∈ s = is_among c (codes s)

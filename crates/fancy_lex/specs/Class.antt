@@ -13,20 +13,20 @@ use Rattle.fancy_lex.specs.declared.error.Error.TheVariants.{ParseError, OutOfMe
 use Rattle.fancy_lex.specs.declared.flags.Flags.{Flags}
 
 -- the characters that stand behind a backslash in a class
-abbrev pub is_mark : ℕ → Bool
-is_mark c = c ∈ "\\.+*?()|[]{}^$#&-~"
+abbrev pub needs_backslash_in_class : ℕ → Bool
+needs_backslash_in_class c = c ∈ "\\.+*?()|[]{}^$#&-~"
 
 -- a digit's character, in upper case
-abbrev pub hex_digit : ℕ → ℕ
-hex_digit d = if nat_lt d 10 then code "0" + d else code "A" + (d - 10)
+abbrev pub upper_hex_digit : ℕ → ℕ
+upper_hex_digit d = if nat_lt d 10 then code "0" + d else code "A" + (d - 10)
 
 -- a character, behind a backslash where it is a mark
 abbrev pub char_text : ℕ → Text
-char_text c = if is_mark c then backslash ∷ c ∷ [] else c ∷ []
+char_text c = if needs_backslash_in_class c then backslash ∷ c ∷ [] else c ∷ []
 
 -- `\x` and the two digits of a byte
 abbrev pub byte_text : ℕ → Text
-byte_text b = codes "\\x" ++ (hex_digit (b / 16) ∷ hex_digit (b % 16) ∷ [])
+byte_text b = codes "\\x" ++ (upper_hex_digit (b / 16) ∷ upper_hex_digit (b % 16) ∷ [])
 
 -- what is written for an escape; in a class it is a character, a byte or a text
 abbrev pub escape_text : Escape → Text
@@ -52,9 +52,10 @@ item_text seen e = joint (seen && is_negated e) ++ escape_text e
 abbrev pub with_mark : ℕ → Text × Text → Text × Text
 with_mark mark p = choose {B = Text × Text} (strip mark p.1) (λ u. (p.0 ++ mark ∷ [], u)) p
 
--- what begins a class, behind what is written so far: the bracket, a caret, and a closing bracket that is plain; and what is left
-unfoldable pub opening : Text → Text → Text × Text
-opening out t = with_mark close_bracket (with_mark caret (out ++ open_bracket ∷ [], t))
+-- what begins a class, behind what is written so far: the bracket, a caret, and a closing bracket that is plain; and
+-- what is left
+unfoldable pub class_head : Text → Text → Text × Text
+class_head out t = with_mark close_bracket (with_mark caret (out ++ open_bracket ∷ [], t))
 
 -- a class in a pattern of n bytes, under these flags
 module _ (n : ℕ) (f : Flags) where
@@ -64,14 +65,17 @@ module _ (n : ℕ) (f : Flags) where
   items zero depth seen out t = fault_at n invalid_class
   items (suc k) depth seen out [] = fault_at n invalid_class
   items (suc k) depth seen out (c ∷ t) =
-      if c == backslash then escape n f true (place_of n (c ∷ t)) t >=> (λ e u. items k depth (seen || is_negated e) (out ++ item_text seen e) u)
-      else if c == open_bracket then items k (depth + 1) seen (opening out t).0 (opening out t).1
-      else if c == close_bracket then (if depth == 0 then gives (out ++ c ∷ []) t else items k (depth - 1) seen (out ++ c ∷ []) t)
+      if c == backslash then
+      escape n f true (place_of n (c ∷ t)) t >=> (λ e u.
+      items k depth (seen || is_negated e) (out ++ item_text seen e) u)
+      else if c == open_bracket then items k (depth + 1) seen (class_head out t).0 (class_head out t).1
+      else if c == close_bracket then (
+      if depth == 0 then gives (out ++ c ∷ []) t else items k (depth - 1) seen (out ++ c ∷ []) t)
       else items k depth seen (out ++ c ∷ []) t
 
   -- the class behind the bracket
   unfoldable pub class : Text → Reading Text
-  class t = items (suc (bytes t)) 0 false (opening [] t).0 (opening [] t).1
+  class t = items (suc (bytes t)) 0 false (class_head [] t).0 (class_head [] t).1
 
 -- what a class comes to: what is written, whether a negated set is among it or was before, and what is left; or a fault
 pub data Outcome : Type 0 where
@@ -82,23 +86,28 @@ pub data Outcome : Type 0 where
 abbrev pub is_plain : ℕ → Bool
 is_plain c = not (c ∈ "\\[]")
 
+-- the fault of a class that does not end in a pattern of n bytes
 abbrev pub unclosed : ℕ → Fault
 unclosed n = record { place = n; kind = invalid_class }
 
 mutual
   -- a class behind its bracket; the flag says whether a negated set was written before it
   pub data Class : ℕ → Flags → Bool → Text → Outcome → Type 0 where
-    class_items : {n : ℕ} {f : Flags} {b a : Bool} {t u v head w : Text} → ◌≡◌ {A = Text × Text} (opening [] t) (head, u) →
+    class_items : {n : ℕ} {f : Flags} {b a : Bool} {t u v head w : Text} →
+        ◌≡◌ {A = Text × Text} (class_head [] t) (head, u) →
         Items n f b u (written w a v) → Class n f b t (written (head ++ w) a v)
-    items_fault : {n : ℕ} {f : Flags} {b : Bool} {t u head : Text} {e : Fault} → ◌≡◌ {A = Text × Text} (opening [] t) (head, u) →
+    items_fault : {n : ℕ} {f : Flags} {b : Bool} {t u head : Text} {e : Fault} →
+        ◌≡◌ {A = Text × Text} (class_head [] t) (head, u) →
         Items n f b u (fault e) → Class n f b t (fault e)
 
   -- items through the closing bracket
   pub data Items : ℕ → Flags → Bool → Text → Outcome → Type 0 where
-    close : {n : ℕ} {f : Flags} {b : Bool} {v : Text} → Items n f b (close_bracket ∷ v) (written (close_bracket ∷ []) b v)
+    close : {n : ℕ} {f : Flags} {b : Bool} {v : Text} →
+        Items n f b (close_bracket ∷ v) (written (close_bracket ∷ []) b v)
     plain : {n c : ℕ} {f : Flags} {b a : Bool} {t v w : Text} → is_plain c ≡ true →
         Items n f b t (written w a v) → Items n f b (c ∷ t) (written (c ∷ w) a v)
-    escaped : {n : ℕ} {f : Flags} {b a : Bool} {t u v w : Text} {e : Escape} → escape n f true (place_of n (backslash ∷ t)) t ≡ gives e u →
+    escaped : {n : ℕ} {f : Flags} {b a : Bool} {t u v w : Text} {e : Escape} →
+        escape n f true (place_of n (backslash ∷ t)) t ≡ gives e u →
         Items n f (b || is_negated e) u (written w a v) → Items n f b (backslash ∷ t) (written (item_text b e ++ w) a v)
     nested : {n : ℕ} {f : Flags} {b m a : Bool} {t u v x w : Text} → Class n f b t (written x m u) →
         Items n f m u (written w a v) → Items n f b (open_bracket ∷ t) (written (x ++ w) a v)
@@ -106,11 +115,14 @@ mutual
     end : {n : ℕ} {f : Flags} {b : Bool} → Items n f b [] (fault (unclosed n))
     plain_fault : {n c : ℕ} {f : Flags} {b : Bool} {t : Text} {e : Fault} → is_plain c ≡ true →
         Items n f b t (fault e) → Items n f b (c ∷ t) (fault e)
-    escape_fault : {n : ℕ} {f : Flags} {b : Bool} {t : Text} {e : Fault} → escape n f true (place_of n (backslash ∷ t)) t ≡ fails e →
+    escape_fault : {n : ℕ} {f : Flags} {b : Bool} {t : Text} {e : Fault} →
+        escape n f true (place_of n (backslash ∷ t)) t ≡ fails e →
         Items n f b (backslash ∷ t) (fault e)
-    escaped_fault : {n : ℕ} {f : Flags} {b : Bool} {t u : Text} {x : Escape} {e : Fault} → escape n f true (place_of n (backslash ∷ t)) t ≡ gives x u →
+    escaped_fault : {n : ℕ} {f : Flags} {b : Bool} {t u : Text} {x : Escape} {e : Fault} →
+        escape n f true (place_of n (backslash ∷ t)) t ≡ gives x u →
         Items n f (b || is_negated x) u (fault e) → Items n f b (backslash ∷ t) (fault e)
-    class_fault : {n : ℕ} {f : Flags} {b : Bool} {t : Text} {e : Fault} → Class n f b t (fault e) → Items n f b (open_bracket ∷ t) (fault e)
+    class_fault : {n : ℕ} {f : Flags} {b : Bool} {t : Text} {e : Fault} →
+        Class n f b t (fault e) → Items n f b (open_bracket ∷ t) (fault e)
     nested_fault : {n : ℕ} {f : Flags} {b m : Bool} {t u x : Text} {e : Fault} → Class n f b t (written x m u) →
         Items n f m u (fault e) → Items n f b (open_bracket ∷ t) (fault e)
 

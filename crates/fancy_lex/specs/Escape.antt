@@ -1,31 +1,34 @@
 -- Escapes: what stands behind a backslash.
-use Rattle.std.specs.Prelude.{ℕ, ◌^◌, Bool, true, false, not, ◌&&◌, ◌||◌, nat_lt, if◌then◌else◌, [], ◌∷◌, codes}
-use Rattle.std.specs.Char.{is_ascii_alphanumeric}
+use Rattle.std.specs.Prelude.{ℕ, ◌^◌, Bool, true, false, not, ◌&&◌, ◌||◌, nat_lt, if◌then◌else◌, [], ◌∷◌}
+use Prim.Native.Char.{code}
+use Rattle.std.specs.Char.{is_ascii_alphanumeric, is_ascii_digit}
 use Rattle.fancy_lex.specs.declared.escape.Assertion.TheVariants.{StartText, EndText, EndTextIgnoreTrailingNewlines, LeftWordBoundary, RightWordBoundary}
 use Rattle.fancy_lex.specs.declared.flags.Flags.{Flags}
 use Rattle.fancy_lex.specs.Boundary.{boundary}
 use Rattle.fancy_lex.specs.Characters.{backslash, ◌∈◌}
-use Rattle.fancy_lex.specs.Escaped.{Escape, literal, any, assertion, general_newline, keep_out, continue_from_previous_match_end, delegate}
+use Rattle.fancy_lex.specs.Escaped.{hex_class, negated_hex_class, Escape, literal, any, assertion, general_newline, keep_out, continue_from_previous_match_end, delegate}
 use Rattle.fancy_lex.specs.Fault.{trailing_backslash, invalid_escape, invalid_class, invalid_backref, unclosed_unicode_name, not_read_yet}
 use Rattle.fancy_lex.specs.Hex.{hex}
-use Rattle.fancy_lex.specs.Number.{is_digit, number}
+use Rattle.fancy_lex.specs.Number.{number}
 use Rattle.fancy_lex.specs.Property.{read_property, property_text}
 use Rattle.fancy_lex.specs.Reading.{Reading, gives, fault_at, choose}
 use Rattle.fancy_lex.specs.Text.{Text, place_of}
 
 -- the fault of a letter that is no escape; in all that follows the backslash stands at the place p
-abbrev pub unknown : ℕ → ℕ → Reading Escape
-unknown p c = fault_at p (invalid_escape (backslash ∷ c ∷ []))
+abbrev pub unknown_escape : ℕ → ℕ → Reading Escape
+unknown_escape p c = fault_at p (invalid_escape (backslash ∷ c ∷ []))
 
 -- the digits of a back reference, which no class holds; the pattern has n bytes
-unfoldable pub numbered : ℕ → Bool → ℕ → Text → Reading Escape
-numbered n inside p t =
+unfoldable pub reference_fault : ℕ → Bool → ℕ → Text → Reading Escape
+reference_fault n inside p t =
     if not inside then fault_at p not_read_yet
-    else choose (number t) (λ q. if nat_lt q.0 (2 ^ 64) then fault_at p invalid_class else fault_at (place_of n t) invalid_backref) (fault_at p invalid_class)
+    else choose (number t)
+    (λ q. if nat_lt q.0 (2 ^ 64) then fault_at p invalid_class else fault_at (place_of n t) invalid_backref)
+    (fault_at p invalid_class)
 
 -- a property behind its letter
 unfoldable pub property : Flags → Bool → ℕ → ℕ → Text → Reading Escape
-property f inside p c [] = unknown p c
+property f inside p c [] = unknown_escape p c
 property f inside p c (d ∷ t) =
     choose (read_property (c ∈ "P") (d ∷ t))
     (λ q. gives (delegate (property_text f.unicode inside q.0) f.casei) q.1)
@@ -48,14 +51,14 @@ outside n f p c t =
     else if c ∈ "g" then fault_at p not_read_yet
     else if c ∈ "b" then boundary n f.ignore_space p false t
     else if c ∈ "B" then boundary n f.ignore_space p true t
-    else unknown p c
+    else unknown_escape p c
 
 -- in a class only
 unfoldable pub in_class : ℕ → ℕ → Text → Reading Escape
 in_class p c t =
-    if c ∈ "b" then gives (literal 8 false) t
+    if c ∈ "b" then gives (literal (code "\u{8}") false) t
     else if c ∈ "kAzBKGR" then gives (literal c false) t
-    else unknown p c
+    else unknown_escape p c
 
 -- neither a letter nor a digit; outside a class `<` and `>` are boundaries
 abbrev pub is_itself : Bool → ℕ → Bool
@@ -65,21 +68,21 @@ is_itself inside c = not (is_ascii_alphanumeric c) && (inside || not (c ∈ "<>"
 unfoldable pub escape : ℕ → Flags → Bool → ℕ → Text → Reading Escape
 escape n f inside p [] = fault_at p trailing_backslash
 escape n f inside p (c ∷ t) =
-    if is_digit c then numbered n inside p (c ∷ t)
+    if is_ascii_digit c then reference_fault n inside p (c ∷ t)
     else if c ∈ "dDsSwW" then gives (delegate (backslash ∷ c ∷ []) f.casei) t
-    else if c ∈ "h" then gives (delegate (codes "[0-9A-Fa-f]") false) t
-    else if c ∈ "H" then gives (delegate (codes "[^0-9A-Fa-f]") false) t
+    else if c ∈ "h" then gives (delegate hex_class false) t
+    else if c ∈ "H" then gives (delegate negated_hex_class false) t
     else if c ∈ "x" then hex n f 2 t
     else if c ∈ "u" then hex n f 4 t
     else if c ∈ "U" then hex n f 8 t
     else if c ∈ "pP" then property f inside p c t
-    else if c ∈ "a" then gives (literal 7 false) t
-    else if c ∈ "f" then gives (literal 12 false) t
-    else if c ∈ "n" then gives (literal 10 false) t
-    else if c ∈ "r" then gives (literal 13 false) t
-    else if c ∈ "t" then gives (literal 9 false) t
-    else if c ∈ "v" then gives (literal 11 false) t
-    else if c ∈ "e" then gives (literal 27 false) t
+    else if c ∈ "a" then gives (literal (code "\u{7}") false) t
+    else if c ∈ "f" then gives (literal (code "\u{c}") false) t
+    else if c ∈ "n" then gives (literal (code "\n") false) t
+    else if c ∈ "r" then gives (literal (code "\r") false) t
+    else if c ∈ "t" then gives (literal (code "\t") false) t
+    else if c ∈ "v" then gives (literal (code "\u{b}") false) t
+    else if c ∈ "e" then gives (literal (code "\u{1b}") false) t
     else if is_itself inside c then gives (literal c false) t
     else if inside then in_class p c t
     else outside n f p c t

@@ -20,13 +20,22 @@ pub data Escape : Type 0 where
   continue_from_previous_match_end : Escape
   delegate : Text → Bool → Escape
 
+-- what is written for `\h`
+abbrev pub hex_class : Text
+hex_class = codes "[0-9A-Fa-f]"
+
+-- what is written for `\H`
+abbrev pub negated_hex_class : Text
+negated_hex_class = codes "[^0-9A-Fa-f]"
+
 -- the characters of a delegate's text
 abbrev pub delegate_text : declared_text.DelegateText → Text
 delegate_text (text.Letter c) = backslash ∷ c ∷ []
-delegate_text text.HexDigit = codes "[0-9A-Fa-f]"
-delegate_text text.NotHexDigit = codes "[^0-9A-Fa-f]"
+delegate_text text.HexDigit = hex_class
+delegate_text text.NotHexDigit = negated_hex_class
 delegate_text (text.Property property unicode inside) = property_text unicode inside (view_property property)
 
+-- what the code's value stands for
 abbrev pub escape_of : declared.Escaped → Escape
 escape_of (code.Literal val casei) = literal val casei
 escape_of (code.LiteralBytes byte) = literal_bytes byte

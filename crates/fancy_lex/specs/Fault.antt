@@ -26,10 +26,12 @@ pub data Kind : Type 0 where
   invalid_group_name : Kind
   invalid_group_name_backref : Text → Kind
 
+-- a kind, and the place in bytes
 pub record Fault : Type 0 where
   pub place : ℕ
   pub kind : Kind
 
+-- the kind that the code's value stands for
 abbrev pub kind_of : declared.ParseError → Kind
 kind_of (code.GeneralParseError s) = general_parse_error (chars (string_bytes s))
 kind_of code.UnclosedOpenParen = unclosed_open_paren
@@ -73,7 +75,8 @@ kind_text (invalid_group_name_backref s) = codes "Invalid group name in back ref
 
 -- the bytes that an error prints
 abbrev pub error_text : Error → List ℕ
-error_text (ParseError place kind) = codes "Parsing error at position " ++ (decimal place ++ (codes ": " ++ kind_text (kind_of kind)))
+error_text (ParseError place kind) =
+    codes "Parsing error at position " ++ (decimal place ++ (codes ": " ++ kind_text (kind_of kind)))
 error_text OutOfMemory = codes "out of memory"
 
 -- the same kind at the same place, or both that memory ran out

@@ -15,15 +15,16 @@ hex_digit [] = None
 hex_digit (c ∷ t) = if nat_lt (digit_value c) 16 then Some (digit_value c, t) else None
 
 -- exactly k digits, behind those of the value v
-unfoldable pub fixed : ℕ → ℕ → Text → Option (ℕ × Text)
-fixed zero v t = Some (v, t)
-fixed (suc k) v t = option_and_then (λ p. fixed k (v * 16 + p.0) p.1) (hex_digit t)
+unfoldable pub fixed_digits : ℕ → ℕ → Text → Option (ℕ × Text)
+fixed_digits zero v t = Some (v, t)
+fixed_digits (suc k) v t = option_and_then (λ p. fixed_digits k (v * 16 + p.0) p.1) (hex_digit t)
 
 -- the closing brace, where a digit stands before it
-abbrev pub closed : ℕ → Bool → ℕ → Option Text → Reading ℕ
-closed h true v (Some t) = gives v t
-closed h _ _ _ = fault_at h invalid_hex
+abbrev pub closing_brace : ℕ → Bool → ℕ → Option Text → Reading ℕ
+closing_brace h true v (Some t) = gives v t
+closing_brace h _ _ _ = fault_at h invalid_hex
 
+-- a character has this code: it is no surrogate, and not too great
 abbrev pub is_scalar : ℕ → Bool
 is_scalar v = nat_lt v 0xD800 || (nat_lt 0xDFFF v && nat_lt v 0x110000)
 
@@ -31,24 +32,25 @@ is_scalar v = nat_lt v 0xD800 || (nat_lt 0xDFFF v && nat_lt v 0x110000)
 module _ (n : ℕ) (x : Bool) (h : ℕ) where
   -- up to k digits with layout behind each, behind those of the value v, and the closing brace
   unfoldable pub digits : ℕ → Bool → ℕ → Text → Reading ℕ
-  digits zero some v t = closed h some v (strip close_brace t)
+  digits zero some v t = closing_brace h some v (strip close_brace t)
   digits (suc k) some v t =
       choose (hex_digit t)
       (λ p. layout_reading (layout n x p.1) >=> (λ _ t. digits k true (v * 16 + p.0) t))
-      (closed h some v (strip close_brace t))
+      (closing_brace h some v (strip close_brace t))
 
   -- one to eight digits with layout before, between and behind them
-  unfoldable pub braced : Text → Reading ℕ
-  braced t = layout_reading (layout n x t) >=> (λ _ t. digits 8 false 0 t)
+  unfoldable pub braced_value : Text → Reading ℕ
+  braced_value t = layout_reading (layout n x t) >=> (λ _ t. digits 8 false 0 t)
 
   -- the value of a code of so many digits, or of one in braces
   unfoldable pub value : ℕ → Text → Reading ℕ
   value width t =
-      choose (fixed width 0 t) (λ p. gives p.0 p.1) (choose (strip open_brace t) braced (fault_at h invalid_hex))
+      choose (fixed_digits width 0 t) (λ p. gives p.0 p.1)
+      (choose (strip open_brace t) braced_value (fault_at h invalid_hex))
 
 -- what the value v stands for behind `\x`, where the width is 2, and behind the others
-unfoldable pub coded : Flags → ℕ → ℕ → ℕ → Text → Reading Escape
-coded f width h v t =
+unfoldable pub leaf_of_value : Flags → ℕ → ℕ → ℕ → Text → Reading Escape
+leaf_of_value f width h v t =
     if width == 2 && not f.unicode && nat_le 0x80 v && nat_le v 0xFF then gives (literal_bytes v) t
     else if is_scalar v then gives (literal v f.casei) t
     else fault_at h invalid_codepoint_value
@@ -57,4 +59,4 @@ coded f width h v t =
 unfoldable pub hex : ℕ → Flags → ℕ → Text → Reading Escape
 hex n f width t =
     layout_reading (layout n f.ignore_space t) >=> (λ _ t.
-    value n f.ignore_space (place_of n t) width t >=> coded f width (place_of n t))
+    value n f.ignore_space (place_of n t) width t >=> leaf_of_value f width (place_of n t))

@@ -1,12 +1,13 @@
 -- Layout: comments, and under IGNORE_SPACE blanks and line comments.
-use Rattle.std.specs.Prelude.{◌≡◌, ◌≢◌, ℕ, ◌+◌, Bool, true, ◌&&◌, ◌||◌, ◌==◌, if◌then◌else◌, List, [], ◌∷◌, ◌++◌, ◌⊎◌, option_and_then, Option, is_some, Result, Ok, Err, chars, codes}
+use Rattle.std.specs.Prelude.{◌≡◌, ◌≢◌, ℕ, ◌+◌, Bool, true, ◌&&◌, ◌||◌, ◌==◌, if◌then◌else◌, List, [], ◌∷◌, ◌++◌, ◌⊎◌, option_and_then, Option, Some, None, is_some, Result, Ok, Err, chars, codes}
 use Rattle.std.specs.Borrow.{Bor}
+use Prim.Native.Char.{code}
 use Rattle.fancy_lex.specs.Characters.{line_feed, hash, open_paren, close_paren, question_mark, backslash}
 use Rattle.fancy_lex.specs.Text.{Text, strip}
 
 -- a space, CR, LF or TAB
 abbrev pub is_blank : ℕ → Bool
-is_blank c = ((c == 32 || c == 13) || c == 10) || c == 9
+is_blank c = ((c == code " " || c == code "\r") || c == code "\n") || c == code "\t"
 
 -- the inside of a comment: characters other than `\` and `)`, and pairs of `\` and any character
 pub data Inside : Text → Type 0 where
@@ -20,13 +21,14 @@ pub data InLine : Text → Type 0 where
   on_line : {c : ℕ} {t : Text} → c ≢ line_feed → InLine t → InLine (c ∷ t)
 
 -- what a comment begins with
-abbrev pub opening : Text
-opening = codes "(?#"
+abbrev pub comment_head : Text
+comment_head = codes "(?#"
 
 -- `(?#`, a comment's inside, and `)`
 abbrev pub IsComment : Text → Type 0
-IsComment u = (t : Text) × Inside t × (u ≡ opening ++ (t ++ (close_paren ∷ [])))
+IsComment u = (t : Text) × Inside t × (u ≡ comment_head ++ (t ++ (close_paren ∷ [])))
 
+-- one blank character
 abbrev pub IsBlank : Text → Type 0
 IsBlank u = (c : ℕ) × (is_blank c ≡ true) × (u ≡ c ∷ [])
 
@@ -46,7 +48,7 @@ pub data Units : Bool → Text → Text → Type 0 where
 -- `v` begins neither with a unit nor with `(?#`
 pub record Stops (x : Bool) (v : Text) : Type 0 where
   pub no_unit : (u t : Text) → v ≡ u ++ t → IsUnit x u t → ⊥
-  pub no_opening : (t : Text) → v ≡ opening ++ t → ⊥
+  pub no_comment_head : (t : Text) → v ≡ comment_head ++ t → ⊥
 
 -- `w` is the layout at its place, where `v` follows
 pub record Layout (x : Bool) (w v : Text) : Type 0 where
@@ -68,8 +70,8 @@ pub data Open : ℕ → Text → ℕ → Type 0 where
 pub record Unclosed (n : ℕ) (x : Bool) (t : Text) (p : ℕ) : Type 0 where
   pub w : Text
   pub r : Text
-  pub cut : t ≡ w ++ (opening ++ r)
-  pub units : Units x w (opening ++ r)
+  pub cut : t ≡ w ++ (comment_head ++ r)
+  pub units : Units x w (comment_head ++ r)
   pub inside : Open n r p
 
 -- what a reader of layout answers: the rest of the text, or the place of the fault
@@ -77,9 +79,15 @@ pub data Skipped : Type 0 where
   rest : Text → Skipped
   fault : ℕ → Skipped
 
-abbrev pub skipped : Result (Bor (List ℕ)) ℕ → Skipped
-skipped (Ok r) = rest (chars r.now)
-skipped (Err p) = fault p
+-- what follows layout with no open comment
+abbrev pub rest_of : Skipped → Option Text
+rest_of (rest t) = Some t
+rest_of (fault p) = None
+
+-- what the code answers
+abbrev pub skipped_of : Result (Bor (List ℕ)) ℕ → Skipped
+skipped_of (Ok r) = rest (chars r.now)
+skipped_of (Err p) = fault p
 
 -- where a reader of layout stands: between units, in `(?#`, in a comment, behind its backslash, or in a line comment
 pub data State : Type 0 where
@@ -91,14 +99,14 @@ pub data State : Type 0 where
   line : State
 
 -- what follows `(?#` at the front
-abbrev pub opened : Text → Option Text
-opened t = option_and_then (strip hash) (option_and_then (strip question_mark) (strip open_paren t))
+abbrev pub after_comment_head : Text → Option Text
+after_comment_head t = option_and_then (strip hash) (option_and_then (strip question_mark) (strip open_paren t))
 
 -- what is left behind the rest of the layout, or the place of an unclosed comment's fault in a text of n bytes
 unfoldable pub layout_from : ℕ → Bool → State → Text → Skipped
 layout_from n x between [] = rest []
 layout_from n x between (c ∷ t) =
-    if is_some (opened (c ∷ t)) then layout_from n x two t
+    if is_some (after_comment_head (c ∷ t)) then layout_from n x two t
     else if x && c == hash then layout_from n x line t
     else if x && is_blank c then layout_from n x between t
     else rest (c ∷ t)

@@ -1,7 +1,8 @@
 -- Properties: what stands behind `\p` or `\P`, and the text that is written for it.
-use Rattle.std.specs.Prelude.{ℕ, Bool, true, false, not, ◌==◌, ◌&&◌, ◌||◌, if◌then◌else◌, List, [], ◌∷◌, ◌++◌, chars, codes, map, Option, Some, None, option_map}
+use Rattle.std.specs.Prelude.{ℕ, Bool, true, false, not, ◌==◌, ◌&&◌, ◌||◌, nat_eq, if◌then◌else◌, List, [], ◌∷◌, ◌++◌, chars, codes, map, Option, Some, None, option_map}
 use Rattle.std.specs.Borrow.{Bor}
 use Rattle.std.specs.Char.{to_ascii_lowercase}
+use Rattle.std.specs.List.{starts_with}
 use Rattle.std.specs.Str.{bytes_eq}
 use Rattle.fancy_lex.specs.Characters.{caret, open_brace, close_brace}
 use Rattle.fancy_lex.specs.Text.{Text}
@@ -21,6 +22,7 @@ pub record Property : Type 0 where
   pub negated : Bool
   pub name : PropertyName
 
+-- a name in code, as characters
 abbrev pub view_name : code_name.PropertyName → PropertyName
 view_name (written.Single c) = single c
 view_name (written.Braced s) = braced (chars s.now)
@@ -37,7 +39,9 @@ cut_at mark (c ∷ t) = if c == mark then Some ([], t) else option_map (λ p. (c
 -- the name behind the letter, and the text left; none where no text is left, or the brace is not closed
 unfoldable pub name_at : Text → Option (PropertyName × Text)
 name_at [] = None
-name_at (c ∷ t) = if c == open_brace then option_map (λ p. (braced p.0, p.1)) (cut_at close_brace t) else Some (single c, t)
+name_at (c ∷ t) =
+    if c == open_brace then option_map (λ p. (braced p.0, p.1)) (cut_at close_brace t)
+    else Some (single c, t)
 
 -- the same with the letter
 unfoldable pub read_property : Bool → Text → Option (Property × Text)
@@ -72,8 +76,10 @@ form unicode Alnum name = by unicode (set (codes "\\p{alpha}\\p{digit}")) (set (
 form unicode Blank name = by unicode (set (codes "\\p{Zs}\\x09")) (set (codes "\\t "))
 form unicode Cntrl name = by unicode (set (codes "\\x00-\\x1F\\x7F-\\x9F")) (set (codes "[:cntrl:]"))
 form unicode Word name = by unicode (pair (codes "\\w") (codes "\\W")) (set (codes "_[:alnum:]"))
-form unicode Graph name = by unicode (pair (codes "[^\\p{White_Space}\\p{C}]") (codes "[\\p{White_Space}\\p{C}]")) (set (codes "[:graph:]"))
-form unicode Print name = by unicode (pair (codes "[^\\p{C}\\t\\n\\v\\f\\r]") (codes "[\\p{C}\\t\\n\\v\\f\\r]")) (set (codes "[:print:]"))
+form unicode Graph name =
+    by unicode (pair (codes "[^\\p{White_Space}\\p{C}]") (codes "[\\p{White_Space}\\p{C}]")) (set (codes "[:graph:]"))
+form unicode Print name =
+    by unicode (pair (codes "[^\\p{C}\\t\\n\\v\\f\\r]") (codes "[\\p{C}\\t\\n\\v\\f\\r]")) (set (codes "[:print:]"))
 form unicode Cs name = pair (codes "\\P{any}") (codes "\\p{any}")
 form unicode Other name = pair (codes "\\p{" ++ name ++ codes "}") (codes "\\P{" ++ name ++ codes "}")
 
@@ -91,15 +97,16 @@ turn negated [] = (negated, [])
 turn negated (c ∷ t) = if c == caret then (not negated, t) else (negated, c ∷ t)
 
 -- ASCII letters in lower case, all else as it is
-abbrev pub lowered : Text → Text
-lowered = map to_ascii_lowercase
+abbrev pub lowercase : Text → Text
+lowercase = map to_ascii_lowercase
 
-abbrev pub named_text : Bool → Bool → Bool × Text → Text
-named_text unicode inside p = form_text inside p.0 (form unicode (look_up (lowered p.1)) (lowered p.1))
+-- the text that is written for a name in braces, behind its caret
+abbrev pub braced_text : Bool → Bool → Bool × Text → Text
+braced_text unicode inside p = form_text inside p.0 (form unicode (look_up (lowercase p.1)) (lowercase p.1))
 
 -- a pair in code, with the name as characters
-abbrev pub turned : Bool × Bor (List ℕ) → Bool × Text
-turned p = (p.0, chars p.1.now)
+abbrev pub view_turn : Bool × Bor (List ℕ) → Bool × Text
+view_turn p = (p.0, chars p.1.now)
 
 -- `\p`, or `\P` for a negated property
 abbrev pub letter : Bool → Text
@@ -108,19 +115,14 @@ letter negated = if negated then codes "\\P" else codes "\\p"
 -- the text that is written for a property
 unfoldable pub property_text : Bool → Bool → Property → Text
 property_text unicode inside p =
-    elim p.name [ single c ↦ letter p.negated ++ c ∷ [] | braced s ↦ named_text unicode inside (turn p.negated s) ]
+    elim p.name [ single c ↦ letter p.negated ++ c ∷ [] | braced s ↦ braced_text unicode inside (turn p.negated s) ]
 
--- whether the second text begins with the first
-abbrev pub begins_with : Text → Text → Bool
-begins_with [] t = true
-begins_with (c ∷ w) [] = false
-begins_with (c ∷ w) (d ∷ t) = (c == d) && begins_with w t
-
--- whether the first text stands somewhere in the other
+-- whether the text holds the other
 abbrev pub holds : Text → Text → Bool
-holds w [] = begins_with w []
-holds w (c ∷ t) = begins_with w (c ∷ t) || holds w t
+holds [] w = starts_with nat_eq [] w
+holds (c ∷ t) w = starts_with nat_eq (c ∷ t) w || holds t w
 
 -- whether the text is a negated set that names properties or other classes
 abbrev pub is_negated_set : Text → Bool
-is_negated_set t = begins_with (codes "[^") t && (holds (codes "\\p{") t || holds (codes "\\P{") t || holds (codes "[:") t)
+is_negated_set t =
+    starts_with nat_eq t (codes "[^") && (holds t (codes "\\p{") || holds t (codes "\\P{") || holds t (codes "[:"))

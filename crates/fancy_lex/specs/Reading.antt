@@ -1,5 +1,5 @@
 -- What a reader comes to that can find a fault.
-use Rattle.std.specs.Prelude.{◌≡◌, ℕ, List, chars, Option, Some, None, Result, Ok, Err, MatchResult, ⊤}
+use Rattle.std.specs.Prelude.{◌≡◌, ℕ, List, chars, Option, Some, None, Result, MatchResult, ⊤}
 use Rattle.std.specs.Borrow.{Bor}
 use Rattle.fancy_lex.specs.Text.{Text}
 use Rattle.fancy_lex.specs.Fault.{Fault, Kind, unclosed_open_paren, kind_of}
@@ -7,12 +7,12 @@ use Rattle.fancy_lex.specs.Layout.{Skipped, rest, fault}
 use Rattle.fancy_lex.specs.declared.error.Error.{Error}
 use Rattle.fancy_lex.specs.declared.error.Error.TheVariants.{ParseError, OutOfMemory}
 
--- a value and what is left of the text, or a fault; or, in code alone, that memory ran out
+-- a value and what is left of the text, or a fault
 pub data Reading (A : Type 0) : Type 0 where
   gives : A → Text → Reading A
   fails : Fault → Reading A
-  no_memory : Reading A
 
+-- the fault of this kind at this place
 abbrev pub fault_at : {A : Type 0} → ℕ → Kind → Reading A
 fault_at p k = fails (record { place = p; kind = k })
 
@@ -21,37 +21,35 @@ infixl 10 ◌>=>◌
 abbrev pub ◌>=>◌ : {A B : Type 0} → Reading A → (A → Text → Reading B) → Reading B
 gives a t >=> f = f a t
 fails e >=> f = fails e
-no_memory >=> f = no_memory
 
 -- one reading if there is something to read from, else the other
 abbrev pub choose : {A B : Type 0} → Option A → (A → B) → B → B
 choose (Some a) f b = f a
 choose None f b = b
 
-abbrev pub error_reading : {A : Type 0} → Error → Reading A
-error_reading (ParseError p k) = fault_at p (kind_of k)
-error_reading OutOfMemory = no_memory
-
--- what the code answers, its value seen through f
-abbrev pub reading : {A B : Type 0} → (A → B) → Result (A × Bor (List ℕ)) Error → Reading B
-reading f (Ok p) = gives (f p.0) (chars p.1.now)
-reading f (Err e) = error_reading e
-
--- the same of an answer with no value
-abbrev pub rest_reading : Result (Bor (List ℕ)) Error → Reading (Unit {0})
-rest_reading (Ok r) = gives tt (chars r.now)
-rest_reading (Err e) = error_reading e
-
 -- an unclosed comment in layout is a fault of the pattern
 abbrev pub layout_reading : Skipped → Reading (Unit {0})
 layout_reading (rest t) = gives tt t
 layout_reading (fault p) = fault_at p unclosed_open_paren
+
+-- the error says the reading's fault
+abbrev pub Says : {A : Type 0} → Error → Reading A → Type 0
+Says (ParseError p k) o = o ≡ fault_at p (kind_of k)
+Says OutOfMemory o = ⊥
+
+-- the code's answer is the reading, with its value seen through f
+abbrev pub Reads : {A B : Type 0} → (A → B) → Result (A × Bor (List ℕ)) Error → Reading B → Type 0
+Reads f r o = MatchResult r (λ p. o ≡ gives (f p.0) (chars p.1.now)) (λ e. Says e o)
+
+-- the same of an answer with no value
+abbrev pub ReadsRest : Result (Bor (List ℕ)) Error → Reading (Unit {0}) → Type 0
+ReadsRest r o = MatchResult r (λ t. o ≡ gives tt (chars t.now)) (λ e. Says e o)
 
 -- the error says the reading's fault, or that memory ran out
 abbrev pub Fails : {B : Type 0} → Error → Reading B → Type 0
 Fails OutOfMemory o = ⊤
 Fails (ParseError p k) o = o ≡ fault_at p (kind_of k)
 
--- the code's answer is the reading, unless memory ran out
+-- the code's answer is the reading, with its value seen through f, unless memory ran out
 abbrev pub Gives : {A B : Type 0} → (A → B) → Result (A × Bor (List ℕ)) Error → Reading B → Type 0
 Gives f r o = MatchResult r (λ p. o ≡ gives (f p.0) (chars p.1.now)) (λ e. Fails e o)

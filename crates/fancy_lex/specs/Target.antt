@@ -11,11 +11,13 @@ use Rattle.fancy_lex.specs.Text.{Text, text_of}
 use Rattle.fancy_lex.specs.declared.name.CaptureGroupTarget.{CaptureGroupTarget}
 use Rattle.fancy_lex.specs.declared.name.CaptureGroupTarget.TheVariants as target
 
+-- a group by its number, by its name, or so many groups away
 pub data Target : Type 0 where
   by_number : ℕ → Target
   by_name : Text → Target
   relative : ℤ → Target
 
+-- the target that the code's value stands for
 abbrev pub view_target : CaptureGroupTarget → Target
 view_target (target.ByNumber n) = by_number n
 view_target (target.ByName s) = by_name (text_of s)

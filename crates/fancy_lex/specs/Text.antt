@@ -1,5 +1,5 @@
 -- Texts as lists of characters, and places in them.
-use Rattle.std.specs.Prelude.{◌≡◌, ℕ, ◌+◌, ◌-◌, List, [], ◌∷◌, ◌++◌, chars, string_bytes, String, Option, Some, None, if◌then◌else◌, ◌==◌}
+use Rattle.std.specs.Prelude.{◌≡◌, ℕ, ◌+◌, ◌-◌, List, [], ◌∷◌, ◌++◌, chars, string_bytes, String, Option, Some, None, option_and_then, if◌then◌else◌, ◌==◌}
 use Rattle.std.specs.Char.{len_utf8}
 use Rattle.std.specs.declared.alloc.Global.{Global}
 
@@ -24,6 +24,11 @@ place_of n t = n - bytes t
 abbrev pub strip : ℕ → Text → Option Text
 strip mark [] = None
 strip mark (c ∷ t) = if c == mark then Some t else None
+
+-- what follows the word, if the text begins with it
+abbrev pub strip_word : Text → Text → Option Text
+strip_word [] t = Some t
+strip_word (c ∷ w) t = option_and_then (strip_word w) (strip c t)
 
 -- the text begins with the other
 abbrev pub BeginsWith : Text → Text → Type 0

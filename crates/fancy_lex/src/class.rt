@@ -16,8 +16,8 @@ use crate::text::{after, append, next, place, push};
 use std::alloc::{AllocError, Global};
 
 /// Whether the character stands behind a backslash in a class.
-fn is_mark(c: char) -> bool
-    ensures { result ≡ spec.is_mark c }
+fn needs_backslash_in_class(c: char) -> bool
+    ensures { result ≡ spec.needs_backslash_in_class c }
 {
     matches!(
         c,
@@ -45,16 +45,16 @@ fn is_mark(c: char) -> bool
 fn push_quoted(out: &mut String, c: char) -> Result<(), AllocError>
     ensures { OnOk result (text_of out.new ≡ text_of out.old ++ spec.char_text c) }
 {
-    if is_mark(c) {
+    if needs_backslash_in_class(c) {
         push(out, '\\')?;
     }
     push(out, c)
 }
 
 /// The character of a hex digit, in upper case.
-fn hex_digit(digit: u8) -> char
+fn upper_hex_digit(digit: u8) -> char
     requires { digit < 16 }
-    ensures { result ≡ spec.hex_digit digit }
+    ensures { result ≡ spec.upper_hex_digit digit }
 {
     let code = if digit < 10 {
         b'0' + digit
@@ -69,8 +69,8 @@ fn push_byte(out: &mut String, byte: u8) -> Result<(), AllocError>
     ensures { OnOk result (text_of out.new ≡ text_of out.old ++ spec.byte_text byte) }
 {
     append(out, "\\x")?;
-    push(out, hex_digit(byte / 16))?;
-    push(out, hex_digit(byte % 16))
+    push(out, upper_hex_digit(byte / 16))?;
+    push(out, upper_hex_digit(byte % 16))
 }
 
 /// Adds the delegate's text.
@@ -140,7 +140,8 @@ fn push_item(out: &mut String, escaped: Escaped, seen: bool) -> Result<bool, All
 
 /// Adds the mark where the text begins with it, and gives what follows.
 fn push_mark<'a>(out: &mut String, text: &'a str, mark: char) -> Result<&'a str, AllocError>
-    ensures value { IfOk result (λ r. spec.with_mark mark (text_of out.old, chars text.now) ≡ (text_of out.new, chars r.now)) }
+    ensures value { IfOk result
+        (λ r. spec.with_mark mark (text_of out.old, chars text.now) ≡ (text_of out.new, chars r.now)) }
     ensures within { IfOk result (λ r. length r.now ≤ length text.now) }
 {
     let Some(rest) = after(text, mark) else {
@@ -151,9 +152,10 @@ fn push_mark<'a>(out: &mut String, text: &'a str, mark: char) -> Result<&'a str,
 }
 
 /// Adds what begins a class behind its bracket: the bracket, a caret, and a closing bracket, which is plain there.
-#[tactic(auto, unfolding(crate::specs::Class::opening))]
-fn opening<'a>(out: &mut String, text: &'a str) -> Result<&'a str, AllocError>
-    ensures value { IfOk result (λ r. spec.opening (text_of out.old) (chars text.now) ≡ (text_of out.new, chars r.now)) }
+#[tactic(auto, unfolding(crate::specs::Class::class_head))]
+fn push_head<'a>(out: &mut String, text: &'a str) -> Result<&'a str, AllocError>
+    ensures value { IfOk result
+        (λ r. spec.class_head (text_of out.old) (chars text.now) ≡ (text_of out.new, chars r.now)) }
     ensures within { IfOk result (λ r. length r.now ≤ length text.now) }
 {
     push(out, '[')?;
@@ -169,7 +171,7 @@ fn read_class(alloc: Global, text: &str, flags: Flags, end: usize) -> Result<(St
     ensures shorter { IfOk result (λ p. length p.1.now < length text.now) }
 {
     let mut out = String::new(alloc);
-    let mut left = opening(&mut out, text)?;
+    let mut left = push_head(&mut out, text)?;
     let mut depth = 0usize;
     let mut seen = false;
     while let Some((c, rest)) = next(left) {
@@ -180,7 +182,7 @@ fn read_class(alloc: Global, text: &str, flags: Flags, end: usize) -> Result<(St
             continue;
         }
         if c == '[' {
-            left = opening(&mut out, rest)?;
+            left = push_head(&mut out, rest)?;
             depth += 1;
             continue;
         }
@@ -203,10 +205,15 @@ pub fn class(alloc: Global, text: &str, flags: Flags, end: usize) -> Result<(Str
     requires bounded { end < 2 ^ 63 }
     requires inside { length text.now ≤ end }
     ensures value { Gives text_of result (spec.class end flags (chars text.now)) }
-    ensures derives { MatchResult result (λ p. spec.StartsWithClass end flags (chars text.now) (chars p.1.now) (text_of p.0)) (λ e. spec.IsFault end flags (chars text.now) e) }
-    ensures only { (v out : Text) → spec.StartsWithClass end flags (chars text.now) v out → MatchResult result (λ p. (text_of p.0 ≡ out) × (chars p.1.now ≡ v)) (λ e. e ≡ OutOfMemory) }
-    ensures only_fault { (e : Fault) → spec.ClassFaults end flags (chars text.now) e → MatchResult result (λ _. ⊥) (λ error. Fails error (fault_at {A = Text} e.place e.kind)) }
-    ensures follows { (m : ℕ) (s : Text) → IfOk result (λ p. spec.class m flags (chars text.now ++ s) ≡ gives (text_of p.0) (chars p.1.now ++ s)) }
+    ensures derives { MatchResult result
+        (λ p. spec.StartsWithClass end flags (chars text.now) (chars p.1.now) (text_of p.0))
+        (λ e. spec.IsFault end flags (chars text.now) e) }
+    ensures only { (v out : Text) → spec.StartsWithClass end flags (chars text.now) v out →
+        MatchResult result (λ p. (text_of p.0 ≡ out) × (chars p.1.now ≡ v)) (λ e. e ≡ OutOfMemory) }
+    ensures only_fault { (e : Fault) → spec.ClassFaults end flags (chars text.now) e →
+        MatchResult result (λ _. ⊥) (λ error. Fails error (fault_at {A = Text} e.place e.kind)) }
+    ensures follows { (m : ℕ) (s : Text) →
+        IfOk result (λ p. spec.class m flags (chars text.now ++ s) ≡ gives (text_of p.0) (chars p.1.now ++ s)) }
     ensures shorter { IfOk result (λ p. length p.1.now < length text.now) }
 {
     read_class(alloc, text, flags, end)

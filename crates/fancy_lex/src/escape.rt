@@ -19,6 +19,7 @@ use std::alloc::{AllocError, Global};
 
 pub mod boundary;
 pub mod hex;
+pub mod reference;
 
 /// A condition on the place in the text, which takes no character.
 #[derive(Clone, Copy, PartialEq, Eq, Debug, Drop)]
@@ -91,7 +92,7 @@ fn letter_name(alloc: Global, c: char) -> Result<String, AllocError>
 }
 
 /// The fault of a letter that is no escape.
-fn unknown(alloc: Global, c: char, place: usize) -> Error
+fn unknown_escape(alloc: Global, c: char, place: usize) -> Error
     ensures { Fails result (fault_at {A = Escape} place (invalid_escape (backslash ∷ c ∷ []))) }
 {
     match letter_name(alloc, c) {
@@ -101,7 +102,7 @@ fn unknown(alloc: Global, c: char, place: usize) -> Error
 }
 
 /// The fault that stands in for what is not read yet.
-fn unread(alloc: Global, place: usize) -> Error
+fn unread_fault(alloc: Global, place: usize) -> Error
     ensures { Fails result (fault_at {A = Escape} place not_read_yet) }
 {
     match String::from_str(alloc, "not read yet") {
@@ -117,8 +118,8 @@ fn literal(val: char) -> Escaped<'static>
     Escaped::Literal { val, casei: false }
 }
 
-/// A delegate that stands for itself, in which case does not count.
-fn hex_digit(inner: DelegateText<'static>) -> Escaped<'static>
+/// A delegate in which case counts.
+fn delegate(inner: DelegateText<'static>) -> Escaped<'static>
     ensures { escape_of result ≡ leaf.delegate (delegate_text inner.entry) false }
 {
     Escaped::Delegate {
@@ -127,7 +128,8 @@ fn hex_digit(inner: DelegateText<'static>) -> Escaped<'static>
     }
 }
 
-/// Whether the character stands for itself behind a backslash: any but a letter, a digit, and outside a class `<` and `>`.
+/// Whether the character stands for itself behind a backslash: any but a letter, a digit, and outside a class `<`
+/// and `>`.
 fn is_itself(c: char, inside: bool) -> bool
     ensures { result ≡ spec.is_itself inside c }
 {
@@ -135,13 +137,13 @@ fn is_itself(c: char, inside: bool) -> bool
 }
 
 /// The fault of digits: outside a class they are not read yet, and no class holds them.
-#[tactic(auto, unfolding(crate::specs::Escape::numbered))]
-fn numbered(alloc: Global, text: &str, inside: bool, place: usize, end: usize) -> Error
+#[tactic(auto, unfolding(crate::specs::Escape::reference_fault))]
+fn reference_fault(alloc: Global, text: &str, inside: bool, place: usize, end: usize) -> Error
     requires { length text.now ≤ end }
-    ensures { Fails result (spec.numbered end inside place (chars text.now)) }
+    ensures { Fails result (spec.reference_fault end inside place (chars text.now)) }
 {
     if !inside {
-        return unread(alloc, place);
+        return unread_fault(alloc, place);
     }
     match number(text) {
         None => Error::ParseError(place, ParseError::InvalidClass),
@@ -164,7 +166,7 @@ fn property<'a>(
     ensures within { IfOk result (λ p. length p.1.now ≤ length text.now) }
 {
     if next(text).is_none() {
-        return Err(unknown(alloc, letter, place));
+        return Err(unknown_escape(alloc, letter, place));
     }
     let Some((property, rest)) = read_property(text, letter == 'P') else {
         return Err(Error::ParseError(place, ParseError::UnclosedUnicodeName));
@@ -192,12 +194,12 @@ fn in_class<'a>(
     match c {
         'b' => Ok((literal('\x08'), rest)),
         'k' | 'A' | 'z' | 'B' | 'K' | 'G' | 'R' => Ok((literal(c), rest)),
-        _ => Err(unknown(alloc, c, place)),
+        _ => Err(unknown_escape(alloc, c, place)),
     }
 }
 
 /// The boundary, or in Oniguruma mode its mark as it stands.
-fn mark(c: char, boundary: Assertion, flags: Flags) -> Escaped<'static>
+fn word_boundary(c: char, boundary: Assertion, flags: Flags) -> Escaped<'static>
     ensures { escape_of result ≡ (if flags.oniguruma_mode then leaf.literal c false else leaf.assertion boundary) }
 {
     if flags.oniguruma_mode {
@@ -238,12 +240,12 @@ fn outside<'a>(
             newline: false,
             crlf: false,
         },
-        '<' => mark(c, Assertion::LeftWordBoundary, flags),
-        '>' => mark(c, Assertion::RightWordBoundary, flags),
-        'k' | 'g' => return Err(unread(alloc, place)),
+        '<' => word_boundary(c, Assertion::LeftWordBoundary, flags),
+        '>' => word_boundary(c, Assertion::RightWordBoundary, flags),
+        'k' | 'g' => return Err(unread_fault(alloc, place)),
         'b' => return boundary(alloc, rest, false, flags, place, end),
         'B' => return boundary(alloc, rest, true, flags, place, end),
-        _ => return Err(unknown(alloc, c, place)),
+        _ => return Err(unknown_escape(alloc, c, place)),
     };
     Ok((leaf, rest))
 }
@@ -272,7 +274,7 @@ pub fn escape<'a>(
         return Err(Error::ParseError(place, ParseError::TrailingBackslash));
     };
     match c {
-        '0'..='9' => Err(numbered(alloc, text, inside, place, end)),
+        '0'..='9' => Err(reference_fault(alloc, text, inside, place, end)),
         'd' | 'D' | 's' | 'S' | 'w' | 'W' => Ok((
             Escaped::Delegate {
                 inner: DelegateText::Letter(c),
@@ -280,8 +282,8 @@ pub fn escape<'a>(
             },
             rest,
         )),
-        'h' => Ok((hex_digit(DelegateText::HexDigit), rest)),
-        'H' => Ok((hex_digit(DelegateText::NotHexDigit), rest)),
+        'h' => Ok((delegate(DelegateText::HexDigit), rest)),
+        'H' => Ok((delegate(DelegateText::NotHexDigit), rest)),
         'x' => hex(rest, 2, flags, end),
         'u' => hex(rest, 4, flags, end),
         'U' => hex(rest, 8, flags, end),

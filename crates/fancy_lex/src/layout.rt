@@ -1,9 +1,9 @@
 //! Layout: the comments and blanks between the parts of a pattern.
-ghost use Rattle.std.specs.Prelude.{◌≡◌, ℕ, ◌+◌, ◌<◌, ◌≤◌, ◌^◌, Bool, length, chars, MatchResult, IfOk, IfErr, IfSome, option_map};
+ghost use Rattle.std.specs.Prelude.{◌≡◌, ℕ, ◌+◌, ◌<◌, ◌≤◌, ◌^◌, Bool, length, chars, MatchResult, IfOk, IfErr, IfSome, option_map, false};
 ghost use Rattle.fancy_lex.specs.Text.{Text};
 ghost use Rattle.fancy_lex.specs.Layout as spec;
-ghost use Rattle.fancy_lex.specs.Layout.{rest, fault, skipped};
-ghost use Rattle.fancy_lex.specs.Reading.{layout_reading, rest_reading};
+ghost use Rattle.fancy_lex.specs.Layout.{rest, fault, rest_of, skipped_of};
+ghost use Rattle.fancy_lex.specs.Reading.{layout_reading, ReadsRest};
 
 use crate::error::{Error, ParseError};
 use crate::text::{after, next};
@@ -12,7 +12,10 @@ use crate::text::{after, next};
 #[tactic(auto, using(crate::proofs::LayoutLemmas::layout_steps))]
 fn comment(text: &str, end: usize) -> Result<&str, usize>
     requires { end < 2 ^ 63 }
-    ensures value { (x : Bool) → MatchResult result (λ r. spec.layout_from end x spec.comment (chars text.now) ≡ spec.layout_from end x spec.between (chars r.now)) (λ p. spec.layout_from end x spec.comment (chars text.now) ≡ fault p) }
+    ensures value { (x : Bool) →
+        MatchResult result
+        (λ r. spec.layout_from end x spec.comment (chars text.now) ≡ spec.layout_from end x spec.between (chars r.now))
+        (λ p. spec.layout_from end x spec.comment (chars text.now) ≡ fault p) }
     ensures shorter { IfOk result (λ r. length r.now < length text.now) }
     ensures place { IfErr result (λ p. p ≤ end + 1) }
 {
@@ -35,7 +38,8 @@ fn comment(text: &str, end: usize) -> Result<&str, usize>
 /// Reads a line comment behind its `#`: the text behind it.
 #[tactic(auto, using(crate::proofs::LayoutLemmas::layout_steps))]
 fn line(text: &str) -> &str
-    ensures value { (n : ℕ) (x : Bool) → spec.layout_from n x spec.line (chars text.now) ≡ spec.layout_from n x spec.between (chars result.now) }
+    ensures value { (n : ℕ) (x : Bool) →
+        spec.layout_from n x spec.line (chars text.now) ≡ spec.layout_from n x spec.between (chars result.now) }
     ensures within { length result.now ≤ length text.now }
 {
     let mut left = text;
@@ -57,8 +61,8 @@ fn is_blank(c: char) -> bool
 
 /// What follows the `(?#` at the front.
 #[inline]
-fn opened(text: &str) -> Option<&str>
-    ensures value { spec.opened (chars text.now) ≡ option_map (λ r. chars r.now) result }
+fn after_comment_head(text: &str) -> Option<&str>
+    ensures value { spec.after_comment_head (chars text.now) ≡ option_map (λ r. chars r.now) result }
     ensures shorter { IfSome result (λ r. length r.now < length text.now) }
 {
     let paren = after(text, '(')?;
@@ -67,16 +71,17 @@ fn opened(text: &str) -> Option<&str>
 }
 
 /// Reads the layout at the front, one unit after another.
+#[inline(never)]
 #[tactic(auto, using(crate::proofs::LayoutLemmas::layout_steps))]
-fn read_layout(text: &str, ignore_space: bool, end: usize) -> Result<&str, usize>
+fn read_units(text: &str, ignore_space: bool, end: usize) -> Result<&str, usize>
     requires { end < 2 ^ 63 }
-    ensures value { spec.layout end ignore_space (chars text.now) ≡ skipped result }
+    ensures value { spec.layout end ignore_space (chars text.now) ≡ skipped_of result }
     ensures within { IfOk result (λ r. length r.now ≤ length text.now) }
     ensures place { IfErr result (λ p. p ≤ end + 1) }
 {
     let mut left = text;
     loop {
-        if let Some(inside) = opened(left) {
+        if let Some(inside) = after_comment_head(left) {
             left = comment(inside, end)?;
             continue;
         }
@@ -96,25 +101,65 @@ fn read_layout(text: &str, ignore_space: bool, end: usize) -> Result<&str, usize
     }
 }
 
+/// Whether layout may begin here, as its first character shows.
+#[inline]
+fn begins_layout(text: &str, ignore_space: bool) -> bool
+    ensures { result ≡ false → (n : ℕ) → spec.layout n ignore_space (chars text.now) ≡ rest (chars text.now) }
+{
+    let Some((c, _)) = next(text) else {
+        return false;
+    };
+    c == '(' || ignore_space && (c == '#' || is_blank(c))
+}
+
+/// Reads the layout at the front, where any begins there.
+#[inline]
+fn read_layout(text: &str, ignore_space: bool, end: usize) -> Result<&str, usize>
+    requires { end < 2 ^ 63 }
+    ensures value { spec.layout end ignore_space (chars text.now) ≡ skipped_of result }
+    ensures within { IfOk result (λ r. length r.now ≤ length text.now) }
+    ensures place { IfErr result (λ p. p ≤ end + 1) }
+{
+    if begins_layout(text, ignore_space) {
+        read_units(text, ignore_space, end)
+    } else {
+        Ok(text)
+    }
+}
+
 /// Reads the layout at the front of `text`, the rest of a pattern of `end` bytes: the text behind it.
 /// Where a comment in it is not closed, the error is the place of that fault: the pattern's end, or the
 /// byte past it where the pattern ends with a backslash that guards nothing.
+#[inline]
 pub fn layout(text: &str, ignore_space: bool, end: usize) -> Result<&str, usize>
     requires { end < 2 ^ 63 }
-    ensures value { spec.layout end ignore_space (chars text.now) ≡ skipped result }
-    ensures derives { MatchResult result (λ r. spec.Before ignore_space (chars text.now) (chars r.now)) (λ p. spec.Unclosed end ignore_space (chars text.now) p) }
-    ensures only { (v : Text) → spec.Before ignore_space (chars text.now) v → skipped result ≡ rest v }
-    ensures only_fault { (p : ℕ) → spec.Unclosed end ignore_space (chars text.now) p → skipped result ≡ fault p }
+    ensures value { spec.layout end ignore_space (chars text.now) ≡ skipped_of result }
+    ensures derives { MatchResult result
+        (λ r. spec.Before ignore_space (chars text.now) (chars r.now))
+        (λ p. spec.Unclosed end ignore_space (chars text.now) p) }
+    ensures only { (v : Text) → spec.Before ignore_space (chars text.now) v → skipped_of result ≡ rest v }
+    ensures only_fault { (p : ℕ) → spec.Unclosed end ignore_space (chars text.now) p → skipped_of result ≡ fault p }
     ensures within { IfOk result (λ r. length r.now ≤ length text.now) }
     ensures place { IfErr result (λ p. p ≤ end + 1) }
 {
     read_layout(text, ignore_space, end)
 }
 
-/// The same with the fault as an error: UnclosedOpenParen at its place.
+/// What follows the layout at the front, if no comment in it is open.
+#[inline]
+pub fn past_layout(text: &str, ignore_space: bool, end: usize) -> Option<&str>
+    requires { end < 2 ^ 63 }
+    ensures value { rest_of (spec.layout end ignore_space (chars text.now)) ≡ option_map (λ r. chars r.now) result }
+    ensures within { IfSome result (λ r. length r.now ≤ length text.now) }
+{
+    layout(text, ignore_space, end).ok()
+}
+
+/// The layout at the front, as `layout` reads it, with the fault as an error: UnclosedOpenParen at its place.
+#[inline]
 pub fn skip(text: &str, ignore_space: bool, end: usize) -> Result<&str, Error>
     requires { end < 2 ^ 63 }
-    ensures value { layout_reading (spec.layout end ignore_space (chars text.now)) ≡ rest_reading result }
+    ensures value { ReadsRest result (layout_reading (spec.layout end ignore_space (chars text.now))) }
     ensures within { IfOk result (λ r. length r.now ≤ length text.now) }
 {
     match layout(text, ignore_space, end) {

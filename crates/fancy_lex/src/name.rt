@@ -84,11 +84,12 @@ pub fn is_same_text(a: &String, b: &String) -> bool
 /// The value of the digit at the front, and what follows it.
 #[inline]
 fn digit(text: &str) -> Option<(usize, &str)>
-    ensures value { MatchOption result (spec.at_digit (chars text.now) ≡ false) (λ p. (chars text.now ≡ (p.0 + 48) ∷ chars p.1.now) × (p.0 < 10)) }
+    ensures value { MatchOption result (spec.at_digit (chars text.now) ≡ false)
+        (λ p. (chars text.now ≡ spec.digit_code p.0 ∷ chars p.1.now) × (p.0 < 10)) }
     ensures shorter { IfSome result (λ p. length p.1.now < length text.now) }
 {
     let (c, rest) = next(text)?;
-    if c >= '0' && c <= '9' {
+    if c.is_ascii_digit() {
         Some((c as usize - 48, rest))
     } else {
         None
@@ -122,8 +123,10 @@ fn read_number(text: &str) -> Option<(Option<usize>, &str)>
 #[inline]
 pub fn number(text: &str) -> Option<(Option<usize>, &str)>
     ensures value { spec.GivesNumber (chars text.now) result }
-    ensures derives { IfSome result (λ p. (n : ℕ) × spec.IsWord p.0 n × spec.StartsWithNumber (chars text.now) (chars p.1.now) n) }
-    ensures only { (v : List ℕ) (n : ℕ) → spec.StartsWithNumber (chars text.now) v n → IfSome result (λ p. (chars p.1.now ≡ v) × spec.IsWord p.0 n) × IsSome result }
+    ensures derives { IfSome result
+        (λ p. (n : ℕ) × spec.IsWord p.0 n × spec.StartsWithNumber (chars text.now) (chars p.1.now) n) }
+    ensures only { (v : List ℕ) (n : ℕ) → spec.StartsWithNumber (chars text.now) v n →
+        IfSome result (λ p. (chars p.1.now ≡ v) × spec.IsWord p.0 n) × IsSome result }
     ensures shorter { IfSome result (λ p. length p.1.now < length text.now) }
 {
     read_number(text)

@@ -3,7 +3,7 @@ ghost use Rattle.std.specs.Prelude.{◌≡◌, ℕ, Bool, true, false, ◌<◌, 
 ghost use Rattle.std.specs.Str.{bytes_eq};
 ghost use Rattle.fancy_lex.specs.Characters.{close_brace};
 ghost use Rattle.fancy_lex.specs.Property as spec;
-ghost use Rattle.fancy_lex.specs.PropertyForm.{view_form, named};
+ghost use Rattle.fancy_lex.specs.PropertyForm.{view_form, other_form};
 ghost use Rattle.fancy_lex.specs.Text.{Text, text_of, BeginsWith};
 
 use crate::text::{after, append, next, push};
@@ -30,7 +30,8 @@ pub struct Property<'a> {
 /// left, or the brace is not closed.
 #[tactic(auto, unfolding(crate::specs::Property::read_property, crate::specs::Property::name_at))]
 pub fn read_property(text: &str, negated: bool) -> Option<(Property<'_>, &str)>
-    ensures value { spec.read_property negated (chars text.now) ≡ option_map (λ p. (spec.view_property p.0, chars p.1.now)) result }
+    ensures value { spec.read_property negated (chars text.now) ≡
+        option_map (λ p. (spec.view_property p.0, chars p.1.now)) result }
     ensures shorter { IfSome result (λ p. length p.1.now < length text.now) }
 {
     let (c, rest) = next(text)?;
@@ -77,15 +78,15 @@ enum Form<'a> {
 
 /// Whether the name is the word, which has small letters alone.
 fn is_word(name: &str, word: &str) -> bool
-    requires small { spec.lowered (chars word.now) ≡ chars word.now }
-    ensures { result ≡ bytes_eq (spec.lowered (chars name.now)) (chars word.now) }
+    requires small { spec.lowercase (chars word.now) ≡ chars word.now }
+    ensures { result ≡ bytes_eq (spec.lowercase (chars name.now)) (chars word.now) }
 {
     name.eq_ignore_ascii_case(word)
 }
 
 /// Which of the known names this is, in letters of either case.
 fn look_up(name: &str) -> Known
-    ensures { result ≡ spec.look_up (spec.lowered (chars name.now)) }
+    ensures { result ≡ spec.look_up (spec.lowercase (chars name.now)) }
 {
     if is_word(name, "alnum") {
         Known::Alnum
@@ -116,7 +117,7 @@ fn by<'a>(unicode: bool, with: Form<'a>, without: Form<'a>) -> Form<'a>
 
 /// How the known name is written.
 fn form_of(known: Known, name: &str, unicode: bool) -> Form<'_>
-    ensures { view_form result ≡ spec.form unicode known (spec.lowered (chars name.now)) }
+    ensures { view_form result ≡ spec.form unicode known (spec.lowercase (chars name.now)) }
 {
     match known {
         Known::Alnum => by(
@@ -148,7 +149,7 @@ fn form_of(known: Known, name: &str, unicode: bool) -> Form<'_>
 
 /// The name without a caret in front, and whether it is negated then.
 fn turn(negated: bool, name: &str) -> (bool, &str)
-    ensures { spec.turned result ≡ spec.turn negated (chars name.now) }
+    ensures { spec.view_turn result ≡ spec.turn negated (chars name.now) }
 {
     match after(name, '^') {
         Some(rest) => (!negated, rest),
@@ -158,7 +159,8 @@ fn turn(negated: bool, name: &str) -> (bool, &str)
 
 /// Whether what is written is a negated set that names properties or other classes.
 fn is_negated_form(known: Known, negated: bool, unicode: bool) -> bool
-    ensures { (inside : Bool) (name : Text) → result ≡ spec.is_negated_set (spec.form_text inside negated (spec.form unicode known name)) }
+    ensures { (inside : Bool) (name : Text) →
+        result ≡ spec.is_negated_set (spec.form_text inside negated (spec.form unicode known name)) }
 {
     match known {
         Known::Alnum => negated,
@@ -172,7 +174,8 @@ fn is_negated_form(known: Known, negated: bool, unicode: bool) -> bool
 /// Whether what is written for the property is a negated set that names properties or other classes.
 #[tactic(auto, unfolding(crate::specs::Property::property_text))]
 pub fn is_negated(property: Property, unicode: bool) -> bool
-    ensures { (inside : Bool) → result ≡ spec.is_negated_set (spec.property_text unicode inside (spec.view_property property.entry)) }
+    ensures { (inside : Bool) →
+        result ≡ spec.is_negated_set (spec.property_text unicode inside (spec.view_property property.entry)) }
 {
     match property.name {
         PropertyName::Single(_) => false,
@@ -184,8 +187,8 @@ pub fn is_negated(property: Property, unicode: bool) -> bool
 }
 
 /// Adds the name with its ASCII letters in lower case.
-fn push_lowered(out: &mut String, name: &str) -> Result<(), AllocError>
-    ensures grown { OnOk result (text_of out.new ≡ text_of out.old ++ spec.lowered (chars name.now)) }
+fn push_lowercase(out: &mut String, name: &str) -> Result<(), AllocError>
+    ensures grown { OnOk result (text_of out.new ≡ text_of out.old ++ spec.lowercase (chars name.now)) }
     ensures kept { BeginsWith (text_of out.new) (text_of out.old) }
 {
     let mut left = name;
@@ -198,7 +201,8 @@ fn push_lowered(out: &mut String, name: &str) -> Result<(), AllocError>
 
 /// Adds a set with these items; in a class the items alone, where it is not negated.
 fn push_set(out: &mut String, items: &str, negated: bool, inside: bool) -> Result<(), AllocError>
-    ensures grown { OnOk result (text_of out.new ≡ text_of out.old ++ spec.form_text inside negated (spec.set (chars items.now))) }
+    ensures grown { OnOk result
+        (text_of out.new ≡ text_of out.old ++ spec.form_text inside negated (spec.set (chars items.now))) }
     ensures kept { BeginsWith (text_of out.new) (text_of out.old) }
 {
     if inside && !negated {
@@ -214,12 +218,13 @@ fn push_set(out: &mut String, items: &str, negated: bool, inside: bool) -> Resul
 
 /// Adds the name in braces behind its letter.
 fn push_name(out: &mut String, name: &str, negated: bool) -> Result<(), AllocError>
-    ensures grown { OnOk result (text_of out.new ≡ text_of out.old ++ spec.form_text true negated (named (chars name.now))) }
+    ensures grown { OnOk result
+        (text_of out.new ≡ text_of out.old ++ spec.form_text true negated (other_form (chars name.now))) }
     ensures kept { BeginsWith (text_of out.new) (text_of out.old) }
 {
     append(out, letter(negated))?;
     push(out, '{')?;
-    push_lowered(out, name)?;
+    push_lowercase(out, name)?;
     push(out, '}')
 }
 
@@ -232,7 +237,8 @@ fn letter(negated: bool) -> &'static str
 
 /// Adds the form's text.
 fn push_form(out: &mut String, form: Form, negated: bool, inside: bool) -> Result<(), AllocError>
-    ensures grown { OnOk result (text_of out.new ≡ text_of out.old ++ spec.form_text inside negated (view_form form.entry)) }
+    ensures grown { OnOk result
+        (text_of out.new ≡ text_of out.old ++ spec.form_text inside negated (view_form form.entry)) }
     ensures kept { BeginsWith (text_of out.new) (text_of out.old) }
 {
     match form {
@@ -251,7 +257,8 @@ pub fn push_property(
     unicode: bool,
     inside: bool,
 ) -> Result<(), AllocError>
-    ensures grown { OnOk result (text_of out.new ≡ text_of out.old ++ spec.property_text unicode inside (spec.view_property property.entry)) }
+    ensures grown { let text = spec.property_text unicode inside (spec.view_property property.entry) in
+        OnOk result (text_of out.new ≡ text_of out.old ++ text) }
     ensures kept { BeginsWith (text_of out.new) (text_of out.old) }
 {
     match property.name {

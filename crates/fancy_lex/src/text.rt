@@ -1,6 +1,6 @@
 //! Steps over the text, which allocate nothing, and strings that grow.
 ghost use Rattle.std.specs.Prelude.{◌≡◌, ◌+◌, ◌-◌, ◌<◌, ◌≤◌, [], ◌∷◌, ◌++◌, length, chars, MatchOption, IfSome, option_map, is_ok, if◌then◌else◌};
-ghost use Rattle.fancy_lex.specs.Text.{Text, strip, place_of, text_of};
+ghost use Rattle.fancy_lex.specs.Text.{Text, bytes, strip, strip_word, place_of, text_of};
 
 use std::alloc::AllocError;
 
@@ -23,6 +23,22 @@ pub fn after(text: &str, mark: char) -> Option<&str>
 {
     let (c, rest) = next(text)?;
     if c == mark { Some(rest) } else { None }
+}
+
+/// What follows the word, if the text begins with it.
+pub fn after_word<'a>(text: &'a str, word: &str) -> Option<&'a str>
+    ensures value { strip_word (chars word.now) (chars text.now) ≡ option_map (λ r. chars r.now) result }
+    ensures within { IfSome result (λ r. length r.now ≤ length text.now) }
+{
+    text.strip_prefix(word)
+}
+
+/// How many bytes are left.
+#[inline]
+pub fn bytes_left(text: &str) -> usize
+    ensures { result ≡ bytes (chars text.now) }
+{
+    text.len()
 }
 
 /// The place where `text` begins, at the end of a text of `end` bytes.

@@ -3,14 +3,16 @@ use Rattle.std.proofs.Common.{◌≡◌, ℕ, suc, ◌-◌, ◌<◌, [], ◌∷�
 use Rattle.std.proofs.Math.Seq.{take-append_seam}
 use Rattle.std.specs.Str.{chars as the_chars}
 use Rattle.std.proofs.Common.{zero}
-use Rattle.fancy_lex.specs.Fault.{unclosed_open_paren}
-use Rattle.fancy_lex.specs.Layout.{layout, rest, fault}
+use Rattle.fancy_lex.proofs.BoundaryLemmas.{rest_from_reading}
+use Rattle.fancy_lex.proofs.LayoutLaws.{layout_cut}
+use Rattle.fancy_lex.proofs.ReadingLemmas.{fails_first}
+use Rattle.fancy_lex.specs.Layout.{layout}
+use Rattle.fancy_lex.specs.Reading.{Reading, gives, layout_reading, Says, Fails}
 use Rattle.fancy_lex.specs.Text.{Text, bytes}
 use Rattle.fancy_lex.specs.declared.flags.Flags.{Flags}
 use Rattle.fancy_lex.specs.declared.error.Error.{Error}
 use Rattle.fancy_lex.specs.declared.error.Error.TheVariants.{ParseError, OutOfMemory}
-use Rattle.fancy_parts.specs.FlagReads.{FailsStep, FailsLetters}
-use Rattle.fancy_parts.specs.FlagLetters.{Letters, bad, Step, ends, goes, step, letters_in, letters}
+use Rattle.fancy_parts.specs.FlagLetters.{Letters, ends, goes, step, letters_in, letters}
 
 -- what was read of a text is its front
 pub front_read : (t w u : Text) → t ≡ w ++ u → take (length t - length u) t ≡ w
@@ -33,39 +35,66 @@ two_marks = refl
 -- ---- the letters, from one layout and letter to the next
 
 module _ (n : ℕ) (t : Text) (clears : Bool) (f : Flags) (u : Text) where
-  letters_fault : (k p : ℕ) → layout n f.ignore_space u ≡ fault p → letters_in n t (suc k) clears f u ≡ bad unclosed_open_paren p
-  unfolding letters_in
-  letters_fault k p e = rw e refl
+  -- the layout before the letter
+  abbrev before : Reading (Unit {0})
+  before = layout_reading (layout n f.ignore_space u)
 
-  letters_end : (k : ℕ) (v : Text) (l : Letters) → layout n f.ignore_space u ≡ rest v → step n t clears f v ≡ ends l →
-      letters_in n t (suc k) clears f u ≡ l
+  layout_fault : (k : ℕ) (b : Error) → Says b before → Fails b (letters_in n t (suc k) clears f u)
   unfolding letters_in
-  letters_end k v l e h = rw (e, h) refl
+  layout_fault k (ParseError p d) e = rw e refl
+  layout_fault k OutOfMemory e = tt
 
-  letters_go : (k : ℕ) (v : Text) (c : Bool) (g : Flags) (w : Text) → layout n f.ignore_space u ≡ rest v → step n t clears f v ≡ goes c g w →
+  letter_fault : (k : ℕ) (v : Text) (b : Error) → before ≡ gives tt v → Fails b (step n t clears f v) →
+      Fails b (letters_in n t (suc k) clears f u)
+  unfolding letters_in
+  letter_fault k v b e h = rw e (fails_first _ _ b h)
+
+  letters_end : (k : ℕ) (v : Text) (l : Letters) (w : Text) → before ≡ gives tt v → step n t clears f v ≡ gives (ends l) w →
+      letters_in n t (suc k) clears f u ≡ gives l w
+  unfolding letters_in
+  letters_end k v l w e h = rw (e, h) refl
+
+  letters_go : (k : ℕ) (v : Text) (c : Bool) (g : Flags) (w : Text) → before ≡ gives tt v → step n t clears f v ≡ gives (goes c g) w →
       letters_in n t (suc k) clears f u ≡ letters_in n t k c g w
   unfolding letters_in
   letters_go k v c g w e h = rw (e, h) refl
 
-  pub in_fault : (k m p : ℕ) → m < k → layout n f.ignore_space u ≡ fault p → letters_in n t k clears f u ≡ bad unclosed_open_paren p
-  in_fault zero m p h e = absurd (omega arith)
-  in_fault (suc k) m p h e = letters_fault k p e
+  -- the same where more steps are left than m
+  module _ (k m : ℕ) (some : m < k) where
+    pub in_layout_fault : (b : Error) → Says b before → Fails b (letters_in n t k clears f u)
+    in_layout_fault b e = by_steps k some
+      where
+        by_steps : (k : ℕ) → m < k → Fails b (letters_in n t k clears f u)
+        by_steps zero h = absurd (omega arith)
+        by_steps (suc k) h = layout_fault k b e
 
-  pub in_end : (k m : ℕ) (v : Text) (l : Letters) → m < k → layout n f.ignore_space u ≡ rest v → step n t clears f v ≡ ends l →
-      letters_in n t k clears f u ≡ l
-  in_end zero m v l h e i = absurd (omega arith)
-  in_end (suc k) m v l h e i = letters_end k v l e i
+    module _ (v : Text) (e : before ≡ gives tt v) where
+      pub in_letter_fault : (b : Error) → Fails b (step n t clears f v) → Fails b (letters_in n t k clears f u)
+      in_letter_fault b i = by_steps k some
+        where
+          by_steps : (k : ℕ) → m < k → Fails b (letters_in n t k clears f u)
+          by_steps zero h = absurd (omega arith)
+          by_steps (suc k) h = letter_fault k v b e i
 
-  pub in_go : (k m q : ℕ) (v : Text) (c : Bool) (g : Flags) (w : Text) → m < k → q < m → layout n f.ignore_space u ≡ rest v →
-      step n t clears f v ≡ goes c g w → (j : ℕ) × (q < j) × (letters_in n t k clears f u ≡ letters_in n t j c g w)
-  in_go zero m q v c g w h l e i = absurd (omega arith)
-  in_go (suc k) m q v c g w h l e i = (k, omega arith, letters_go k v c g w e i)
+      pub in_end : (l : Letters) (w : Text) → step n t clears f v ≡ gives (ends l) w → letters_in n t k clears f u ≡ gives l w
+      in_end l w i = by_steps k some
+        where
+          by_steps : (k : ℕ) → m < k → letters_in n t k clears f u ≡ gives l w
+          by_steps zero h = absurd (omega arith)
+          by_steps (suc k) h = letters_end k v l w e i
+
+      pub in_go : (q : ℕ) (c : Bool) (g : Flags) (w : Text) → q < m → step n t clears f v ≡ gives (goes c g) w →
+          (j : ℕ) × (q < j) × (letters_in n t k clears f u ≡ letters_in n t j c g w)
+      in_go q c g w l i = by_steps k some
+        where
+          by_steps : (k : ℕ) → m < k → (j : ℕ) × (q < j) × (letters_in n t k clears f u ≡ letters_in n t j c g w)
+          by_steps zero h = absurd (omega arith)
+          by_steps (suc k) h = (k, omega arith, letters_go k v c g w e i)
 
 pub letters_start : (n : ℕ) (f : Flags) (t : Text) → letters n f t ≡ letters_in n t (suc (bytes t)) false f t
 unfolding letters
 letters_start n f t = refl
 
--- the fault of a letter is the letters' own
-pub fails_letters : (b : Error) (s : Step) (l : Letters) → ((m : Letters) → s ≡ ends m → l ≡ m) → FailsStep b s → FailsLetters b l
-fails_letters (ParseError p k) s l f h = f _ h
-fails_letters OutOfMemory s l f h = tt
+-- what follows layout that was read ends the text
+pub layout_end : (n : ℕ) (x : Bool) (t v : Text) → layout_reading (layout n x t) ≡ gives tt v → (w : Text) × (t ≡ w ++ v)
+layout_end n x t v e = layout_cut n x t v (rest_from_reading (layout n x t) v e)

@@ -1,3 +1,7 @@
+pub mod FlagLaws
 pub mod FlagLemmas
+pub mod HeadLaws
+pub mod NameLemmas
+pub mod NamedLaws
 pub mod QuoteLemmas
 pub mod RoomLemmas

@@ -1,5 +1,7 @@
 -- Steps of a text that is counted, or written into room.
-use Rattle.std.proofs.Common.{◌≡◌, ℕ, ◌+◌, ◌≤◌, Bool, true, false, nat_lt, if◌then◌else◌, List, [], ◌∷◌, ◌++◌, length, String, Global, string_bytes, Option, chars, refl, sym, ap, ◌∙◌, append_assoc, append-nil, arith, subst}
+use Rattle.std.proofs.Common.{◌≡◌, ℕ, ◌+◌, ◌≤◌, Bool, true, false, nat_lt, if◌then◌else◌, List, [], ◌∷◌, ◌++◌, length}
+use Rattle.std.proofs.Common.{String, Global, string_bytes, chars, refl, sym, ap, ◌∙◌, append_assoc, append-nil}
+use Rattle.std.proofs.Common.{arith, subst}
 use Rattle.std.specs.String.{string_len, string_capacity}
 use Rattle.std.specs.List.{list_all}
 use Rattle.std.specs.Str.{IsUtf8, IsAscii}
@@ -9,15 +11,9 @@ use Rattle.std.proofs.lemmas.Str.{chars-append, chars-IsAscii, IsUtf8-string_byt
 use Rattle.std.proofs.lemmas.Str.Ascii.{IsAscii-from_all}
 use Rattle.std.proofs.lemmas.List.Sums.{AllPass-from_list_all}
 use borrow.Author.Tests.{ltb-true}
-use Rattle.fancy_lex.specs.Number.{IsWord}
 use Rattle.fancy_lex.specs.Text.{Text, text_of, bytes}
-use Rattle.fancy_lex.proofs.TextLemmas.{bytes_chars}
-use Rattle.fancy_parts.specs.Room.{HasRoom, Appended}
-
-pub bytes-append : (xs ys : Text) → bytes (xs ++ ys) ≡ bytes xs + bytes ys
-unfolding bytes
-bytes-append [] ys = omega arith
-bytes-append (x ∷ xs) ys = omega (arith, bytes-append xs ys)
+use Rattle.fancy_lex.proofs.TextLemmas.{bytes-append, bytes_chars}
+use Rattle.fancy_parts.specs.Room.{in_word, HasRoom, Appended}
 
 pub bytes-cons : (c : ℕ) (t : Text) → bytes (c ∷ t) ≡ len_utf8 c + bytes t
 unfolding bytes
@@ -93,22 +89,32 @@ pub writing_ends : (a b : String Global) (whole : Text) → Writing a b [] whole
 writing_ends a b whole w = w.ends b (nothing_written b)
 
 -- a count of all but the rest
-pub record Counting (len : Option ℕ) (rest whole : Text) : Type 0 where
+pub record Counting (len : ℕ) (rest whole : Text) : Type 0 where
   pub so_far : ℕ
-  pub counted : IsWord len so_far
+  pub counted : len ≡ in_word so_far
   pub sum : so_far + bytes rest ≡ bytes whole
 
-pub counting_as : (len : Option ℕ) (rest other whole : Text) → rest ≡ other → Counting len rest whole → Counting len other whole
+pub counting_as : (len : ℕ) (rest other whole : Text) → rest ≡ other → Counting len rest whole
+    → Counting len other whole
 counting_as len rest other whole e n = subst (λ t. Counting len t whole) e n
 
-pub counting_later : (len more next : Option ℕ) (xs ys whole : Text) → Counting len (xs ++ ys) whole → IsWord more (bytes xs)
-    → ((m n : ℕ) → IsWord len m → IsWord more n → IsWord next (m + n)) → Counting next ys whole
+pub counting_later : (len more next : ℕ) (xs ys whole : Text) → Counting len (xs ++ ys) whole
+    → more ≡ in_word (bytes xs) → next ≡ in_word (len + more) → Counting next ys whole
 counting_later len more next xs ys whole c w s =
-    record { so_far = c.so_far + bytes xs; counted = s c.so_far (bytes xs) c.counted w; sum = omega (arith, c.sum, bytes-append xs ys) }
+    record {
+      so_far = c.so_far + bytes xs;
+      counted = omega (arith, c.counted);
+      sum = omega (arith, c.sum, bytes-append xs ys);
+    }
 
-pub counting_ends : (len : Option ℕ) (whole : Text) → Counting len [] whole → IsWord len (bytes whole)
+pub counting_ends : (len : ℕ) (whole : Text) → Counting len [] whole → len ≡ in_word (bytes whole)
 unfolding bytes
-counting_ends len whole c = let same : c.so_far ≡ bytes whole = omega (arith, c.sum) in subst (IsWord len) same c.counted
+counting_ends len whole c = omega (arith, c.counted, c.sum)
+
+-- room for a count is room for the text, since no string has room for the greatest word
+pub room_counted : (s : String Global) (t : Text) (len : ℕ) → len ≡ in_word (bytes t)
+    → string_len s + len ≤ string_capacity s → HasRoom s t
+room_counted s t len e h = omega (arith, s.bytes.small)
 
 -- ---- several texts, one behind the other
 

@@ -1,5 +1,10 @@
 pub mod FlagLetters
 pub mod FlagReads
+pub mod GroupName
+pub mod HeadReference
+pub mod Groups
+pub mod Meaning
 pub mod Quantifier
 pub mod Quote
+pub mod Ranks
 pub mod Room

@@ -1,8 +1,12 @@
 -- Texts that are counted first and then written into a string that has room for them.
-use Rattle.std.specs.Prelude.{◌≡◌, ◌+◌, ◌≤◌, ◌++◌, String}
+use Rattle.std.specs.Prelude.{◌≡◌, ℕ, ◌+◌, ◌-◌, ◌^◌, ◌≤◌, ◌++◌, min, String}
 use Rattle.std.specs.String.{string_len, string_capacity}
 use Rattle.std.specs.declared.alloc.Global.{Global}
 use Rattle.fancy_lex.specs.Text.{Text, text_of, bytes}
+
+-- a count as a word holds it: past the greatest word it is the greatest
+abbrev pub in_word : ℕ → ℕ
+in_word n = min n (2 ^ 64 - 1)
 
 -- the string can take the text without growing
 abbrev pub HasRoom : String Global → Text → Type 0

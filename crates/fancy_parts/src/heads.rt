@@ -3,20 +3,14 @@ ghost use Rattle.std.specs.Prelude.{◌≡◌, ℕ, ◌<◌, ◌≤◌, length, 
 ghost use Rattle.fancy_parts.specs.Quantifier as spec;
 
 mod letters;
+pub mod names;
+pub mod references;
 
-use fancy_lex::layout::layout;
+use crate::counts::Counts;
+use fancy_lex::layout::past_layout;
 use fancy_lex::name::number;
 use fancy_lex::text::{after, next};
 pub use letters::{Letters, flag_letters};
-
-/// What stands behind the layout, where every comment in it is closed.
-#[tactic(auto, unfolding(crate::specs::Quantifier::skip))]
-fn skip(text: &str, ignore_space: bool) -> Option<&str>
-    ensures value { spec.skip ignore_space (chars text.now) ≡ option_map (λ r. chars r.now) result }
-    ensures within { IfSome result (λ r. length r.now ≤ length text.now) }
-{
-    layout(text, ignore_space, 0).ok()
-}
 
 /// Reads a count of a repeat: none where no digit stands. A count that no word holds is refused.
 #[tactic(auto, unfolding(crate::specs::Quantifier::count))]
@@ -37,56 +31,74 @@ fn spaced_count(text: &str, ignore_space: bool) -> Option<(Option<usize>, &str)>
     ensures value { spec.spaced_count ignore_space (chars text.now) ≡ option_map (λ p. (p.0, chars p.1.now)) result }
     ensures within { IfSome result (λ p. length p.1.now ≤ length text.now) }
 {
-    let start = skip(text, ignore_space)?;
+    let start = past_layout(text, ignore_space, 0)?;
     let (n, rest) = count(start)?;
-    let rest = skip(rest, ignore_space)?;
+    let rest = past_layout(rest, ignore_space, 0)?;
     Some((n, rest))
 }
 
-/// Reads the greatest count and the closing brace, behind the comma.
-#[tactic(auto, unfolding(crate::specs::Quantifier::upper))]
-fn upper(text: &str, ignore_space: bool, low: usize) -> Option<(usize, usize, &str)>
-    ensures value { spec.upper ignore_space low (chars text.now) ≡ option_map (λ p. (p.0, p.1, chars p.2.now)) result }
-    ensures shorter { IfSome result (λ p. length p.2.now < length text.now) }
+/// Reads the greatest count and the closing brace, behind the comma that follows the least one.
+#[tactic(auto, unfolding(crate::specs::Quantifier::counts_from))]
+fn counts_from(text: &str, ignore_space: bool, low: usize) -> Option<(Counts, &str)>
+    ensures value { spec.counts_from ignore_space low (chars text.now) ≡ option_map (λ p. (p.0, chars p.1.now)) result }
+    ensures shorter { IfSome result (λ p. length p.1.now < length text.now) }
 {
     let (high, rest) = spaced_count(text, ignore_space)?;
     let rest = after(rest, '}')?;
-    Some((low, high.unwrap_or(usize::MAX), rest))
+    Some((in_braces(low, high.unwrap_or(usize::MAX)), rest))
 }
 
 /// Reads the braces of a repeat, behind the opening one.
-#[tactic(auto, unfolding(crate::specs::Quantifier::braces))]
-fn braces(text: &str, ignore_space: bool) -> Option<(usize, usize, &str)>
-    ensures value { spec.braces ignore_space (chars text.now) ≡ option_map (λ p. (p.0, p.1, chars p.2.now)) result }
-    ensures shorter { IfSome result (λ p. length p.2.now < length text.now) }
+#[tactic(auto, unfolding(crate::specs::Quantifier::braced_counts))]
+fn braced_counts(text: &str, ignore_space: bool) -> Option<(Counts, &str)>
+    ensures value { spec.braced_counts ignore_space (chars text.now) ≡ option_map (λ p. (p.0, chars p.1.now)) result }
+    ensures shorter { IfSome result (λ p. length p.1.now < length text.now) }
 {
     let (low, rest) = spaced_count(text, ignore_space)?;
     if let Some(after) = after(rest, '}') {
         let n = low?;
-        return Some((n, n, after));
+        return Some((in_braces(n, n), after));
     }
     let rest = after(rest, ',')?;
-    upper(rest, ignore_space, low.unwrap_or(0))
+    counts_from(rest, ignore_space, low.unwrap_or(0))
 }
 
-/// Reads the counts of a quantifier, `?`, `*`, `+` or braces that read whole: the least, the greatest, and the
-/// text behind the mark or the closing brace. None where no quantifier stands. Inside braces layout is passed
-/// over, comments always and blanks where `ignore_space` says so.
+/// These counts in braces.
+fn in_braces(low: usize, high: usize) -> Counts
+    ensures { result ≡ spec.in_braces low high }
+{
+    Counts {
+        low,
+        high,
+        braces: true,
+    }
+}
+
+/// The counts of a mark.
+fn as_mark(low: usize, high: usize) -> Counts
+    ensures { result ≡ spec.as_mark low high }
+{
+    Counts {
+        low,
+        high,
+        braces: false,
+    }
+}
+
+/// Reads the counts of a quantifier, `?`, `*`, `+` or braces that read whole, and the text behind the mark or the
+/// closing brace. None where no quantifier stands. Inside braces layout is passed over, comments always and blanks
+/// where `ignore_space` says so.
 #[tactic(auto, unfolding(crate::specs::Quantifier::counts))]
-pub fn counts(text: &str, ignore_space: bool) -> Option<(usize, usize, &str)>
-    ensures value { spec.counts ignore_space (chars text.now) ≡ option_map (λ p. (p.0, p.1, chars p.2.now)) result }
-    ensures shorter { IfSome result (λ p. length p.2.now < length text.now) }
+pub fn counts(text: &str, ignore_space: bool) -> Option<(Counts, &str)>
+    ensures value { spec.counts ignore_space (chars text.now) ≡ option_map (λ p. (p.0, chars p.1.now)) result }
+    ensures shorter { IfSome result (λ p. length p.1.now < length text.now) }
 {
     let (c, rest) = next(text)?;
-    if c == '?' {
-        Some((0, 1, rest))
-    } else if c == '*' {
-        Some((0, usize::MAX, rest))
-    } else if c == '+' {
-        Some((1, usize::MAX, rest))
-    } else if c == '{' {
-        braces(rest, ignore_space)
-    } else {
-        None
+    match c {
+        '?' => Some((as_mark(0, 1), rest)),
+        '*' => Some((as_mark(0, usize::MAX), rest)),
+        '+' => Some((as_mark(1, usize::MAX), rest)),
+        '{' => braced_counts(rest, ignore_space),
+        _ => None,
     }
 }

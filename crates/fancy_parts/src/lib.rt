@@ -1,6 +1,8 @@
-//! The parts of the grammar that know no tree: quantifiers at the front of a text, and the text of a character.
+//! What knows no tree: quantifiers at the front of a text, the numbers of groups, and the text of a character.
 #![tactic(auto)]
 
+pub mod counts;
 pub mod heads;
 pub mod quote;
+pub mod ranks;
 pub mod room;

@@ -1,17 +1,22 @@
 //! The text that a character, a number or a quantifier is printed as: how many bytes it has, and its writing.
-ghost use Rattle.std.specs.Prelude.{◌≡◌, ◌+◌, ◌<◌, ◌≤◌, chars, decimal};
-ghost use Rattle.fancy_lex.specs.Number.{IsWord};
+ghost use Rattle.std.specs.Prelude.{◌≡◌, ◌+◌, ◌<◌, ◌≤◌, chars, decimal, is_some};
+ghost use Rattle.fancy_lex.specs.Number.{digit_code};
 ghost use Rattle.fancy_lex.specs.Text.{bytes};
 ghost use Rattle.fancy_parts.specs.Quote as spec;
+ghost use Rattle.fancy_parts.specs.Quote.{AreAsTheyStand};
 ghost use Rattle.fancy_parts.specs.Room.{HasRoom, Appended};
 
-use crate::room::{put, put_ascii};
-use fancy_lex::text::next;
+use crate::room::{put, put_text};
+use fancy_lex::text::{front, next};
 
 /// What is written behind a backslash for a character, if it is not written as itself.
-pub fn behind(c: char) -> Option<char>
-    ensures { spec.behind c ≡ result }
+pub fn behind_backslash(c: char) -> Option<char>
+    ensures { spec.behind_backslash c ≡ result }
 {
+    // Most characters are told from the marks by these tests.
+    if c.is_ascii_alphanumeric() || !c.is_ascii() {
+        return None;
+    }
     match c {
         '\n' => Some('n'),
         '\t' => Some('t'),
@@ -22,26 +27,22 @@ pub fn behind(c: char) -> Option<char>
     }
 }
 
-/// How many bytes a character is printed as.
+/// Whether a backslash stands before the character of the byte, as before none that has several bytes.
 #[inline]
-#[tactic(auto, using(crate::proofs::RoomLemmas::room_steps), unfolding(crate::specs::Quote::quoted))]
-fn quoted_len(c: char) -> usize
-    ensures { result ≡ bytes (spec.quoted c) }
+fn is_quoted(byte: u8) -> bool
+    ensures { result ≡ is_some (spec.behind_backslash byte) }
 {
-    match behind(c) {
-        None => c.len_utf8(),
-        Some(letter) => 1 + letter.len_utf8(),
-    }
+    behind_backslash(char::from(byte)).is_some()
 }
 
 /// Writes a character, behind a backslash where it needs one.
 #[inline]
-#[tactic(auto, using(crate::proofs::RoomLemmas::room_steps), unfolding(crate::specs::Quote::quoted))]
-fn put_quoted(buf: &mut String, c: char)
-    requires { HasRoom buf.old (spec.quoted c) }
-    ensures { Appended buf.old buf.new (spec.quoted c) }
+#[tactic(auto, using(crate::proofs::RoomLemmas::room_steps), unfolding(crate::specs::Quote::quote))]
+fn put_quote(buf: &mut String, c: char)
+    requires { HasRoom buf.old (spec.quote c) }
+    ensures { Appended buf.old buf.new (spec.quote c) }
 {
-    match behind(c) {
+    match behind_backslash(c) {
         None => put(buf, c),
         Some(letter) => {
             put(buf, '\\');
@@ -50,32 +51,63 @@ fn put_quoted(buf: &mut String, c: char)
     }
 }
 
-/// How many bytes a text is printed as, where a word holds it.
-#[tactic(auto, using(crate::proofs::QuoteLemmas::quote_steps))]
-pub fn quotes_len(text: &str) -> Option<usize>
-    ensures { IsWord result (bytes (spec.quotes (chars text.now))) }
+/// How many bytes a text is printed as.
+#[inline]
+pub fn quotes_len(text: &str) -> usize
+    ensures { result ≡ bytes (spec.quotes (chars text.now)) }
 {
-    let mut left = text;
-    let mut len = 0usize;
-    while let Some((c, rest)) = next(left) {
-        let Some(more) = len.checked_add(quoted_len(c)) else {
-            return None;
-        };
-        len = more;
-        left = rest;
+    let mut len = text.len();
+    for byte in text.as_bytes() {
+        if is_quoted(*byte) {
+            len += 1;
+        }
     }
-    Some(len)
+    len
 }
 
 /// Writes a text, with each character quoted that needs it.
-#[tactic(auto, using(crate::proofs::QuoteLemmas::quote_steps, crate::proofs::RoomLemmas::room_steps))]
+#[inline]
 pub fn put_quotes(buf: &mut String, text: &str)
     requires { HasRoom buf.old (spec.quotes (chars text.now)) }
     ensures { Appended buf.old buf.new (spec.quotes (chars text.now)) }
 {
+    // In the tree of a pattern a literal is one character, for which a push is shorter than a copy.
+    if let [byte] = text.as_bytes() {
+        put_quote(buf, char::from(*byte));
+    } else {
+        put_runs(buf, text);
+    }
+}
+
+/// What follows the characters at the front that are printed as themselves.
+#[inline]
+fn after_run(text: &str) -> &str
+    ensures { AreAsTheyStand (chars text.now) (chars result.now) }
+{
     let mut left = text;
     while let Some((c, rest)) = next(left) {
-        put_quoted(buf, c);
+        if behind_backslash(c).is_some() {
+            return left;
+        }
+        left = rest;
+    }
+    left
+}
+
+/// Writes a text, the characters that are printed as themselves in runs.
+#[inline(never)]
+fn put_runs(buf: &mut String, text: &str)
+    requires { HasRoom buf.old (spec.quotes (chars text.now)) }
+    ensures { Appended buf.old buf.new (spec.quotes (chars text.now)) }
+{
+    let mut left = text;
+    loop {
+        let marked = after_run(left);
+        put_text(buf, front(left, marked));
+        let Some((c, rest)) = next(marked) else {
+            return;
+        };
+        put_quote(buf, c);
         left = rest;
     }
 }
@@ -93,7 +125,7 @@ pub fn number_len(n: usize) -> usize
 #[inline]
 fn digit(n: usize) -> char
     requires { n < 10 }
-    ensures { result ≡ 48 + n }
+    ensures { result ≡ digit_code n }
 {
     char::from(b'0' + n as u8)
 }

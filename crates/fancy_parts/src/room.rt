@@ -1,17 +1,8 @@
 //! Writing into a string that has room, which cannot fail, and the counts that make the room.
-ghost use Rattle.std.specs.Prelude.{◌≡◌, ℕ, ◌+◌, ◌∷◌, [], true, nat_lt};
+ghost use Rattle.std.specs.Prelude.{◌≡◌, ◌∷◌, [], true, nat_lt, chars};
 ghost use Rattle.std.specs.List.{list_all};
-ghost use Rattle.fancy_lex.specs.Number.{IsWord};
-ghost use Rattle.fancy_lex.specs.Text.{text_of, bytes};
+ghost use Rattle.fancy_lex.specs.Text.{bytes};
 ghost use Rattle.fancy_parts.specs.Room.{HasRoom, Appended};
-
-/// The sum of two counts, where a word holds it.
-#[inline]
-pub fn sum(a: Option<usize>, b: Option<usize>) -> Option<usize>
-    ensures { (m n : ℕ) → IsWord a m → IsWord b n → IsWord result (m + n) }
-{
-    a?.checked_add(b?)
-}
 
 /// How many bytes a text of ASCII characters has.
 #[inline]
@@ -22,12 +13,12 @@ pub fn ascii_len(text: &str) -> usize
     text.len()
 }
 
-/// How many bytes the text of a string has.
+/// How many bytes a text has.
 #[inline]
-pub fn text_len(text: &String) -> usize
-    ensures { result ≡ bytes (text_of text.now) }
+pub fn text_len(text: &str) -> usize
+    ensures { result ≡ bytes (chars text.now) }
 {
-    text.as_str().len()
+    text.len()
 }
 
 /// Writes a character.
@@ -49,11 +40,11 @@ pub fn put_ascii(buf: &mut String, text: &str)
     buf.push_str(text).unwrap();
 }
 
-/// Writes the text of a string.
+/// Writes a text.
 #[inline]
-pub fn put_text(buf: &mut String, text: &String)
-    requires { HasRoom buf.old (text_of text.now) }
-    ensures { Appended buf.old buf.new (text_of text.now) }
+pub fn put_text(buf: &mut String, text: &str)
+    requires { HasRoom buf.old (chars text.now) }
+    ensures { Appended buf.old buf.new (chars text.now) }
 {
-    buf.push_str(text.as_str()).unwrap();
+    buf.push_str(text).unwrap();
 }

@@ -1,68 +1,121 @@
 -- A piece that starts where a branch does not end reads a character.
-use Rattle.std.proofs.Common.{◌≡◌, ℕ, ◌+◌, ◌-◌, Bool, true, false, ◌||◌, if◌then◌else◌, ◌⊎◌, inl, inr, [], ◌∷◌, ◌==◌, Option, Some, nat_le, Result, Ok, Err, IfOk, refl, sym, ◌∙◌, true≢false, tests, rules, ap}
-use Rattle.std.proofs.Common.{◌<◌, ◌≤◌, length, arith, ⊎_elim}
+use Rattle.std.proofs.Common.{◌≡◌, ◌≢◌, ℕ, ◌+◌, ◌-◌, ◌<◌, ◌≤◌, Bool, true, false, ◌||◌, ◌&&◌, if◌then◌else◌, ◌⊎◌, inl, inr, [], ◌∷◌, ◌==◌, Option, Some, None, nat_le, nat_lt, Result, Ok, Err, IfOk, codes, refl, sym, ◌∙◌, subst, true≢false, tests, rules, ap, length, arith, ⊎_elim}
 use Rattle.std.proofs.Math.Nat.{eq-or-lt_of_le}
+use Rattle.std.proofs.lemmas.Bool.Decides.{nat_tests}
 use Prim.Native.Char.{code}
-use Rattle.fancy_lex.specs.Fault.{target_not_repeatable, not_read_yet, recursion_exceeded}
+use Rattle.fancy_lex.specs.Characters.{◌∈◌}
+use Rattle.fancy_lex.specs.Fault.{target_not_repeatable, recursion_exceeded}
 use Rattle.fancy_lex.specs.Layout.{layout, layout_from, Skipped, rest, fault as open_comment}
-use Rattle.fancy_lex.specs.Text.{Text, place_of}
+use Rattle.fancy_lex.specs.Reading.{Reading, gives, fails, choose}
+use Rattle.fancy_lex.specs.Text.{Text, bytes, place_of, strip_word}
 use Rattle.fancy_lex.specs.declared.error.Error.{Error}
-use Rattle.fancy_parts.specs.FlagLetters.{Letters, letters, setting, scope as scoped, bad}
-use Rattle.fancy_parts.specs.Quantifier.{counts, most}
-use Rattle.fancy_syntax.specs.Ahead.{Ahead, nothing, leaf, group, ahead, ahead_of, head_ahead, question_ahead, flags_ahead, behind_layout, faulty, leaf_of, is_before_nothing, is_later_head, ends, skipped, max_depth}
+use Rattle.fancy_parts.specs.FlagLetters.{Letters, setting, scope as scoped}
+use Rattle.fancy_parts.specs.Quantifier.{counts, as_mark, most}
+use Rattle.fancy_parts.specs.declared.counts.Counts.{Counts}
+use Rattle.fancy_syntax.specs.Ahead.{Ahead, nothing, leaf, opens, condition, body, ahead, ahead_of, head_ahead, question_ahead, python_ahead, less_ahead, absent_ahead, conditional_ahead, condition_ahead, verb_condition, later, flags_ahead, behind_layout, faulty, leaf_of, is_before_nothing, is_before_target, ends, skipped, max_depth}
+use Rattle.fancy_syntax.specs.Head.{Head, define}
 use Rattle.fancy_syntax.specs.Machine.{GivesPiece}
-use Rattle.fancy_syntax.specs.Quantified.{quant}
-use Rattle.fancy_syntax.specs.State.{State, at, Outcome, fault}
+use Rattle.fancy_syntax.specs.Quantified.{quant, quants, adjacent, max_adjacent}
+use Rattle.fancy_syntax.specs.State.{State, at, Outcome, done, fault, and_then}
 use Rattle.fancy_syntax.specs.Tree.{Tree, empty}
-use Rattle.fancy_syntax.specs.declared.grammar.state.State as declared
+use Rattle.fancy_syntax.specs.Verb.{verb_at}
 use Rattle.fancy_syntax.specs.declared.grammar.step.Step.{Step}
 use Rattle.fancy_syntax.specs.declared.grammar.step.Step.TheVariants as step
 
 -- ---- a parenthesis opens something
 
-flags_not_nothing : (l : Letters) → flags_ahead l ≡ nothing → ⊥
-flags_not_nothing (setting f u) e = cc
-flags_not_nothing (scoped f u) e = cc
-flags_not_nothing (bad k p) e = cc
+-- something stands ahead
+abbrev IsThere : Ahead → Type 0
+IsThere k = k ≡ nothing → ⊥
 
-if_not_nothing : (b : Bool) (x y : Ahead) → (x ≡ nothing → ⊥) → (y ≡ nothing → ⊥) → (if b then x else y) ≡ nothing → ⊥
-if_not_nothing true x y f g e = f e
-if_not_nothing false x y f g e = g e
+leaf_there : (o : Outcome Tree) → IsThere (leaf o)
+leaf_there o e = cc
 
-leaf_not_nothing : (o : Outcome Tree) → leaf o ≡ nothing → ⊥
-leaf_not_nothing o e = cc
+opens_there : (h : Head) (s : State) → IsThere (opens h s)
+opens_there h s e = cc
 
-group_not_nothing : (t : Text) → group t ≡ nothing → ⊥
-group_not_nothing t e = cc
+flags_there : (o : Reading Letters) → IsThere (flags_ahead o)
+flags_there (gives (setting f) u) e = cc
+flags_there (gives (scoped f) u) e = cc
+flags_there (fails k) e = cc
 
-question_not_nothing : (n : ℕ) (s : State) (t : Text) → question_ahead n s t ≡ nothing → ⊥
-question_not_nothing n s t =
-    if_not_nothing (is_later_head t) (faulty not_read_yet (place_of n t)) (flags_ahead (letters n s.flags t)) (leaf_not_nothing _) (flags_not_nothing _)
+either_there : (b : Bool) {x y : Ahead} → IsThere x → IsThere y → IsThere (if b then x else y)
+either_there true f g = f
+either_there false f g = g
 
-head_not_nothing : (n : ℕ) (s : State) (t : Text) → head_ahead n s t ≡ nothing → ⊥
-head_not_nothing n s [] e = cc
-head_not_nothing n s (c ∷ t) e =
-    let other = if c == code "*" then faulty not_read_yet (place_of n (c ∷ t)) else group (c ∷ t) in
-    if_not_nothing (c == code "?") (question_ahead n s t) other (question_not_nothing n s t)
-    (if_not_nothing (c == code "*") (faulty not_read_yet (place_of n (c ∷ t))) (group (c ∷ t)) (leaf_not_nothing _) (group_not_nothing _)) e
+choice_there : {A : Type 0} (o : Option A) (f : A → Ahead) (x : Ahead) → ((a : A) → IsThere (f a)) → IsThere x → IsThere (choose o f x)
+choice_there (Some a) f x g h = g a
+choice_there None f x g h = h
 
-behind_not_nothing : (n : ℕ) (s : State) (k : Skipped) → behind_layout n s k ≡ nothing → ⊥
-behind_not_nothing n s (rest u) = head_not_nothing n s u
-behind_not_nothing n s (open_comment p) = leaf_not_nothing _
+condition_there : (s : State) → IsThere (condition s)
+condition_there s e = cc
 
-deep_not_nothing : (n d c : ℕ) (s : State) (t : Text) →
-    (if nat_le max_depth (d + 1) then faulty recursion_exceeded (place_of n (c ∷ t)) else behind_layout n s (skipped n (at s t))) ≡ nothing → ⊥
-deep_not_nothing n d c s t =
-    if_not_nothing (nat_le max_depth (d + 1)) (faulty recursion_exceeded (place_of n (c ∷ t))) (behind_layout n s (skipped n (at s t))) (leaf_not_nothing _)
-    (behind_not_nothing n s (skipped n (at s t)))
+body_there : (c : Tree) (s : State) → IsThere (body c s)
+body_there c s e = cc
+
+conditional_there : (n : ℕ) (s : State) (t : Text) → IsThere (conditional_ahead n s t)
+conditional_there n s [] = leaf_there _
+conditional_there n s (c ∷ t) =
+    choice_there (strip_word (codes "DEFINE)") (c ∷ t)) _ _ (λ u. opens_there _ _)
+    (either_there (is_before_target c) (leaf_there _) (either_there (c == code "*") (choice_there (verb_at t) _ _ (λ p. body_there _ _) (leaf_there _)) (condition_there _)))
+
+absent_there : (n : ℕ) (s : State) (t : Text) → IsThere (absent_ahead n s t)
+absent_there n s [] = leaf_there _
+absent_there n s (c ∷ t) = either_there (c == code "|") (λ e. cc) (opens_there _ _)
+
+less_there : (n : ℕ) (s : State) (m t : Text) → IsThere (less_ahead n s m t)
+less_there n s m [] = leaf_there _
+less_there n s m (c ∷ t) = either_there (c == code "=") (opens_there _ _) (either_there (c == code "!") (opens_there _ _) (leaf_there _))
+
+python_there : (n : ℕ) (s : State) (m t : Text) → IsThere (python_ahead n s m t)
+python_there n s m [] = flags_there _
+python_there n s m (c ∷ t) = either_there (c ∈ "<=>") (leaf_there _) (flags_there _)
+
+question_there : (n : ℕ) (s : State) (t : Text) → IsThere (question_ahead n s t)
+question_there n s [] = flags_there _
+question_there n s (c ∷ t) =
+    either_there (c == code "=") (opens_there _ _) (either_there (c == code "!") (opens_there _ _) (either_there (c == code "<") (less_there n s (c ∷ t) t)
+    (either_there (c == code "'") (leaf_there _) (either_there (c == code "P") (python_there n s (c ∷ t) t) (either_there (c == code "~") (absent_there n s t)
+    (either_there (c == code ">") (opens_there _ _) (either_there (c == code "(") (conditional_there n s t) (flags_there _))))))))
+
+head_there : (n : ℕ) (s : State) (t : Text) → IsThere (head_ahead n s t)
+head_there n s [] = opens_there _ _
+head_there n s (c ∷ t) =
+    either_there (c == code "?") (question_there n s t)
+    (either_there (c == code "*") (choice_there (verb_at t) _ _ (λ p. leaf_there _) (leaf_there _)) (opens_there _ _))
+
+behind_there : (n : ℕ) (s : State) (k : Skipped) → IsThere (behind_layout n s k)
+behind_there n s (rest u) = head_there n s u
+behind_there n s (open_comment p) = leaf_there _
+
+deep_there : (n d c : ℕ) (s : State) (t : Text) →
+    IsThere (if nat_le max_depth (d + 1) then faulty recursion_exceeded (place_of n (c ∷ t)) else behind_layout n s (skipped n (at s t)))
+deep_there n d c s t = either_there (nat_le max_depth (d + 1)) (leaf_there _) (behind_there n s (skipped n (at s t)))
 
 before_nothing : (n d : ℕ) (s : State) (c : ℕ) (t : Text) → ahead_of n d s (c ∷ t) ≡ nothing → is_before_nothing c ≡ true
-before_nothing n d s c t e = by_tests (c == code "(") (is_before_nothing c) _ (deep_not_nothing n d c s t) e
+before_nothing n d s c t e = by_tests (c == code "(") (is_before_nothing c) _ (deep_there n d c s t) e
   where
     by_tests : (p b : Bool) (x : Ahead) → (x ≡ nothing → ⊥) → (if p then x else if b then nothing else leaf (leaf_of n s c t)) ≡ nothing → b ≡ true
     by_tests true b x f e = absurd (f e)
     by_tests false true x f e = refl
-    by_tests false false x f e = absurd (leaf_not_nothing _ e)
+    by_tests false false x f e = absurd (leaf_there _ e)
+
+-- ---- the heads of conditionals
+
+pub defines : (n : ℕ) (s : State) (c : ℕ) (t u : Text) → s.rest ≡ c ∷ t → strip_word (codes "DEFINE)") s.rest ≡ Some u →
+    conditional_ahead n s s.rest ≡ opens define (at s u)
+defines n s c t u e h = ap (conditional_ahead n s) e ∙ ap (λ o. choose o (λ v. opens define (at s v)) (condition_ahead n s c t)) (ap (strip_word (codes "DEFINE)")) (sym e) ∙ h)
+
+pub no_condition_ahead : (n : ℕ) (s : State) (c : ℕ) (t : Text) → s.rest ≡ c ∷ t → strip_word (codes "DEFINE)") s.rest ≡ None → is_before_target c ≡ false →
+    c ≢ code "*" → conditional_ahead n s s.rest ≡ condition s
+no_condition_ahead n s c t e h i j =
+    ap (conditional_ahead n s) e ∙ ap (λ o. choose o (λ v. opens define (at s v)) (condition_ahead n s c t)) (ap (strip_word (codes "DEFINE)")) (sym e) ∙ h)
+    ∙ other (is_before_target c) (c == code "*") i (search (tests, rules)) ∙ ap (λ x. condition (at s x)) (sym e)
+  where
+    other : (b d : Bool) → b ≡ false → d ≡ false → (if b then later n (c ∷ t) else if d then verb_condition n s c t else condition (at s (c ∷ t))) ≡ condition (at s (c ∷ t))
+    other true d i j = absurd (true≢false i)
+    other false true i j = absurd (true≢false j)
+    other false false i j = refl
 
 -- ---- a mark begins a quantifier, before which no layout stands
 
@@ -88,40 +141,60 @@ no_layout n false c t (inr (inl e)) = rw e refl
 no_layout n true c t (inr (inr e)) = rw e refl
 no_layout n false c t (inr (inr e)) = rw e refl
 
-mark_counts : (x : Bool) (c : ℕ) (t : Text) → IsMark c → (lo : ℕ) × (hi : ℕ) × (◌≡◌ {A = Option (ℕ × ℕ × Text)} (counts x (c ∷ t)) (Some (lo, hi, t)))
+mark_counts : (x : Bool) (c : ℕ) (t : Text) → IsMark c → (q : Counts) × (◌≡◌ {A = Option (Counts × Text)} (counts x (c ∷ t)) (Some (q, t)))
 unfolding counts
-mark_counts x c t (inl e) = (1, most, rw e refl)
-mark_counts x c t (inr (inl e)) = (0, most, rw e refl)
-mark_counts x c t (inr (inr e)) = (0, 1, rw e refl)
+mark_counts x c t (inl e) = (as_mark 1 most, rw e refl)
+mark_counts x c t (inr (inl e)) = (as_mark 0 most, rw e refl)
+mark_counts x c t (inr (inr e)) = (as_mark 0 1, rw e refl)
 
--- Empty under a mark is a fault
-mark_fault : (n : ℕ) (s : State) (c : ℕ) (t : Text) → IsMark c → quant n empty (at s (c ∷ t)) ≡ fault target_not_repeatable (place_of n t - 1)
+-- a mark takes one byte
+mark_bytes : (c : ℕ) (t : Text) → IsMark c → nat_lt (bytes t + 1) (bytes (c ∷ t)) ≡ false
+unfolding bytes
+mark_bytes c t (inl e) = rw e (grind (arith, nat_tests))
+mark_bytes c t (inr (inl e)) = rw e (grind (arith, nat_tests))
+mark_bytes c t (inr (inr e)) = rw e (grind (arith, nat_tests))
+
+and_false : (b c : Bool) → c ≡ false → (b && (true && c)) ≡ false
+and_false true c e = e
+and_false false c e = refl
+
+-- Empty under a mark with which the piece begins is a fault
+mark_fault : (n : ℕ) (s : State) (c : ℕ) (t : Text) → IsMark c →
+    quant n (bytes (c ∷ t)) empty (at s (c ∷ t)) ≡ fault target_not_repeatable (place_of n t - 1)
 unfolding quant
-mark_fault n s c t m = let (lo, hi, e) = mark_counts s.flags.ignore_space c t m in rw (no_layout n s.flags.ignore_space c t m, e) refl
+mark_fault n s c t m =
+    let (q, e) = mark_counts s.flags.ignore_space c t m in
+    let kept = and_false s.flags.oniguruma_mode _ (mark_bytes c t m) in
+    rw (no_layout n s.flags.ignore_space c t m, e, kept) refl
 
-nothing_repeats : (n d : ℕ) (s : State) (u : Text) → ahead n d (at s u) ≡ nothing → ends u ≡ false → (p : ℕ) × (quant n empty (at s u) ≡ fault target_not_repeatable p)
+nothing_repeats : (n d : ℕ) (s : State) (u : Text) → ahead n d (at s u) ≡ nothing → ends u ≡ false →
+    (p : ℕ) × (quants n d (bytes u) empty (at s u) ≡ fault target_not_repeatable p)
 unfolding ahead
 nothing_repeats n d s [] e h = absurd (true≢false h)
-nothing_repeats n d s (c ∷ t) e h = (_, mark_fault n s c t (mark_is c t (before_nothing n d (at s (c ∷ t)) c t e) h))
+nothing_repeats n d s (c ∷ t) e h =
+    let f = mark_fault n s c t (mark_is c t (before_nothing n d (at s (c ∷ t)) c t e) h) in
+    (_, ap (λ o. and_then o (λ b z. if z.flags.oniguruma_mode then adjacent max_adjacent n d b z else done b z)) f)
 
 -- where no atom stands and the branch does not end, no piece is read
-pub nothing_stops : (n d : ℕ) (s : State) (u : Text) (r : Result (Step × declared.State) Error) (P : Step × declared.State → Type 0) →
-    ahead n d (at s u) ≡ nothing → ends u ≡ false → GivesPiece r (quant n empty (at s u)) → IfOk r P
-nothing_stops n d s u (Ok (step.Piece piece, t)) P e h g = absurd (let p = nothing_repeats n d s u e h in cc)
-nothing_stops n d s u (Ok (step.Open opener, t)) P e h g = absurd g
-nothing_stops n d s u (Err e) P f h g = tt
+pub nothing_stops : (n d : ℕ) (s : State) (u : Text) (r : Result Step Error) (v : State) (P : Step → Type 0) →
+    ahead n d (at s u) ≡ nothing → ends u ≡ false → GivesPiece r (quants n d (bytes u) empty (at s u)) v → IfOk r P
+nothing_stops n d s u (Ok (step.Piece piece)) v P e h g = absurd (let p = nothing_repeats n d s u e h in cc)
+nothing_stops n d s u (Ok (step.Open opener)) v P e h g = absurd g
+nothing_stops n d s u (Err e) v P f h g = tt
 
 -- behind the layout before a piece, nothing is read only where layout was
-pub nothing_shorter : (n d l m : ℕ) (s : State) (u : Text) (r : Result (Step × declared.State) Error) → ahead n d (at s u) ≡ nothing → ends s.rest ≡ false →
-    GivesPiece r (quant n empty (at s u)) → l ≤ m → (l ≡ m → u ≡ s.rest) → IfOk r (λ p. length p.1.rest.now ≤ l) → IfOk r (λ p. length p.1.rest.now < m)
-nothing_shorter n d l m s u r e h g i same within = ⊎_elim stops shorter (eq-or-lt_of_le i)
+pub nothing_shorter : (n d k l m left : ℕ) (s : State) (u : Text) (r : Result Step Error) (v : State) → ahead n d (at s u) ≡ nothing → ends s.rest ≡ false →
+    left ≡ bytes s.rest → GivesPiece r (quants n d left empty (at s u)) v → l ≤ m → (l ≡ m → u ≡ s.rest) → k ≤ l → IfOk r (λ _. k < m)
+nothing_shorter n d k l m left s u r v e h b g i same within = ⊎_elim stops shorter (eq-or-lt_of_le i)
   where
-    below : (r : Result (Step × declared.State) Error) → l < m → IfOk r (λ p. length p.1.rest.now ≤ l) → IfOk r (λ p. length p.1.rest.now < m)
-    below (Ok p) i w = omega (arith, w, i)
-    below (Err e) i w = tt
+    below : (r : Result Step Error) → l < m → IfOk r (λ _. k < m)
+    below (Ok p) i = omega (arith, within, i)
+    below (Err e) i = tt
 
-    shorter : l < m → IfOk r (λ p. length p.1.rest.now < m)
-    shorter i = below r i within
+    shorter : l < m → IfOk r (λ _. k < m)
+    shorter i = below r i
 
-    stops : l ≡ m → IfOk r (λ p. length p.1.rest.now < m)
-    stops j = nothing_stops n d s u r _ e (ap ends (same j) ∙ h) g
+    stops : l ≡ m → IfOk r (λ _. k < m)
+    stops j =
+        let at_start : left ≡ bytes u = b ∙ ap bytes (sym (same j)) in
+        nothing_stops n d s u r v _ e (ap ends (same j) ∙ h) (subst (λ x. GivesPiece r (quants n d x empty (at s u)) v) at_start g)

@@ -1,127 +1,245 @@
 -- How each step of the loop keeps what stands on the stack.
-use Rattle.std.proofs.Common.{◌≡◌, ℕ, ◌+◌, true, false, List, [], ◌∷◌, ◌++◌, length, Some, None, Result, Ok, Err, refl, sym, ap, ◌∙◌, subst, append-nil, arith}
+use Rattle.std.proofs.Common.{◌≡◌, ◌≢◌, ◌==◌, if◌then◌else◌, tests, rules, codes, ℕ, ◌+◌, Bool, true, false, true≢false, List, [], ◌∷◌, ◌++◌, length, Some, None, Result, Ok, Err, refl, sym, ap, ◌∙◌, subst, append-nil, arith}
 use Rattle.std.proofs.lemmas.List.{length_push}
-use Rattle.fancy_lex.specs.Fault.{Kind, unclosed_open_paren}
-use Rattle.fancy_lex.specs.Text.{Text, place_of, strip}
-use Rattle.fancy_lex.specs.declared.error.Error.{Error}
-use Rattle.fancy_syntax.specs.Ahead.{ends, skipped}
-use Rattle.fancy_lex.specs.Characters.{bar, close_paren}
+use Prim.Native.Char.{code}
+use Rattle.fancy_lex.specs.Characters.{bar}
+use Rattle.fancy_lex.specs.Fault.{Kind, general_parse_error}
 use Rattle.fancy_lex.specs.Layout.{rest, fault as open_comment}
+use Rattle.fancy_lex.specs.Text.{Text, bytes, place_of, strip}
+use Rattle.fancy_lex.specs.declared.error.Error.{Error}
+use Rattle.fancy_lex.specs.declared.flags.Flags.{Flags}
 use Rattle.fancy_lex.specs.declared.error.Error.TheVariants.{ParseError}
 use Rattle.fancy_lex.specs.declared.error.ParseError.TheVariants.{UnclosedOpenParen}
-use Rattle.fancy_syntax.specs.Reads.{Fails}
-use Rattle.fancy_syntax.specs.Grammar.{Alternation, alternation, alternation_fault, last, branch_fault, Branch, branch, pieces_fault, stop, piece_fault, Piece, piece, layout_fault, atom_fault, Atom, atom, a_group, group_fault, a_scope, scope_fault, inside, inside_fault, unclosed}
+use Rattle.fancy_syntax.specs.Ahead.{ahead, ends, skipped}
+use Rattle.fancy_syntax.specs.Ahead as seen
+use Rattle.fancy_syntax.specs.Grammar.{Alternation, alternation, Branches, last, branch_fault, Branch, branch, stop, piece_fault, Piece, piece, layout_fault, Atom, atom, inside, the_body, condition_fault, two_branches, one_branch, absent_fault, closed, closed_at, group_behind, conditional_behind, conditional_of, branches_of, no_body}
+use Rattle.fancy_syntax.specs.Grammar as grammar
 use Rattle.fancy_syntax.specs.Join.{solid, one_or, choice}
-use Rattle.fancy_syntax.specs.Machine.{Opens, capture, scoped, closed_tree, closed_flags, StepsOn, GivesPiece, Reading, Levels, top, inner}
-use Rattle.fancy_syntax.specs.Quantified.{quant}
+use Rattle.fancy_syntax.specs.Machine.{Open, top, group, condition, body, first, second, open_of, holds_one, is_second, opened_by_bar, branches_at_bar, IsFaultOfBar, Part, Opens, a_group, a_condition, a_body, behind_condition, a_branch, behind_branch, lacks_body, node_of_part, goes_on, behind_part, ended_part, StepsOn, GivesPiece, Reading, Levels, outermost, inner, before}
+use Rattle.fancy_syntax.specs.Head.{Head, node_of}
+use Rattle.fancy_syntax.specs.Quantified.{quants}
+use Rattle.fancy_syntax.specs.Reads.{Fails}
 use Rattle.fancy_syntax.specs.Row.{trees}
-use Rattle.fancy_syntax.specs.State.{State, at, done, fault}
-use Rattle.fancy_syntax.specs.Tree.{Tree, concat}
+use Rattle.fancy_syntax.specs.State.{State, at, Outcome, done, fault, and_then}
+use Rattle.fancy_syntax.specs.Tree.{Tree, concat, absent, expression}
 use Rattle.fancy_syntax.specs.declared.grammar.frame.Frame.{Frame}
-use Rattle.fancy_syntax.specs.declared.grammar.frame.Opener.{Opener}
-use Rattle.fancy_syntax.specs.declared.grammar.frame.Opener.TheVariants.{Top}
-use Rattle.fancy_syntax.specs.declared.grammar.state.State as declared
 use Rattle.fancy_syntax.specs.declared.grammar.step.Step.{Step}
 use Rattle.fancy_syntax.specs.declared.grammar.step.Step.TheVariants as step
+use Rattle.fancy_lex.proofs.TextLemmas.{strip_is}
 use Rattle.fancy_syntax.proofs.OutcomeLemmas.{Fails-map, before-nil, before-push, more_any, next_any, solid-append}
 
 -- ---- a step
 
-pub steps_piece : (n d : ℕ) (s : State) (u : Text) {t : State} {a : Tree} (r : Result (Step × declared.State) Error) → skipped n s ≡ rest u →
-    Atom n d (at s u) (done a t) → GivesPiece r (quant n a t) → StepsOn r n d s
-steps_piece n d s u (Ok (step.Piece tree, behind)) l a h = piece l a h
-steps_piece n d s u (Ok (step.Open opener, behind)) l a h = absurd h
-steps_piece n d s u {t} {a = tree} (Err e) l a h = Fails-map (λ o. quant n tree t ≡ o) (Piece n d s) e (λ k p g. piece l a g) h
+-- an atom behind layout is a piece under its quantifiers
+pub piece_of : {n d left : ℕ} {s : State} {u : Text} {q o : Outcome Tree} → left ≡ bytes s.rest → skipped n s ≡ rest u → Atom n d (at s u) q →
+    and_then q (quants n d left) ≡ o → Piece n d s o
+piece_of {n} {d} {q} {o} i l a e = piece l a (subst (λ m. and_then q (quants n d m) ≡ o) i e)
+
+pub steps_piece : {n d left : ℕ} (s : State) {t : State} {u : Text} {a : Tree} (r : Result Step Error) (v : State) → left ≡ bytes s.rest →
+    skipped n s ≡ rest u → Atom n d (at s u) (done a t) → GivesPiece r (quants n d left a t) v → StepsOn r n d s v
+steps_piece s (Ok (step.Piece tree)) v i l a h = piece_of i l a h
+steps_piece s (Ok (step.Open opener)) v i l a h = absurd h
+steps_piece {n} {d} {left} s {t} {a = tree} (Err e) v i l a h =
+    Fails-map (λ o. quants n d left tree t ≡ o) (Piece n d s) e (λ k p g. piece_of i l a g) h
 
 -- a fault of the layout before a piece is the piece's
 pub steps_layout : (n d : ℕ) (s : State) {p : ℕ} (e : Error) → e ≡ ParseError p UnclosedOpenParen → skipped n s ≡ open_comment p → Fails e (Piece n d s)
 steps_layout n d s e i l = rw i (layout_fault l)
 
--- ---- what opens a group
+-- ---- what is open
 
-pub opens_fault : {n d p : ℕ} {s v : State} {k : Kind} {o : Opener} → Opens n d s o v → Alternation n (d + 1) v (fault k p) → Piece n d s (fault k p)
-opens_fault (capture l e) r = atom_fault l (atom e (group_fault (inside_fault r)))
-opens_fault (scoped l e) r = atom_fault l (atom e (scope_fault (inside_fault r)))
+-- a fault inside is the piece's
+pub opens_fault : {n d p : ℕ} {s v : State} {k : Kind} {o : Open} → Opens n d s o v → Part o n (d + 1) v (fault k p) → Piece n d s (fault k p)
+opens_fault (a_group l e) r = piece l (atom e (grammar.a_group (inside r refl) refl)) refl
+opens_fault (a_condition l e) r = piece l (atom e (condition_fault (inside r refl))) refl
+opens_fault (a_body l e) r = piece l (atom e (grammar.a_body (the_body r refl))) refl
+opens_fault (behind_condition (a_condition l e) i) r = piece l (atom e (grammar.a_condition i (the_body r refl))) refl
+opens_fault (a_branch l e) r = piece l (atom e (absent_fault r)) refl
+opens_fault (behind_branch (a_branch l e) b f) r = piece l (atom e (two_branches b f r refl)) refl
 
-pub opens_unclosed : {n d : ℕ} {s v w : State} {r : Tree} {o : Opener} → Opens n d s o v → Alternation n (d + 1) v (done r w) →
-    strip close_paren w.rest ≡ None → Piece n d s (fault unclosed_open_paren (place_of n w.rest))
-opens_unclosed (capture l e) r f = atom_fault l (atom e (group_fault (unclosed r f)))
-opens_unclosed (scoped l e) r f = atom_fault l (atom e (scope_fault (unclosed r f)))
+-- a closing parenthesis is taken whatever the tree
+closed_through : (n : ℕ) (f : Tree → Tree) (g : Tree → State → Outcome Tree) (r : Tree) (s : State) →
+    and_then (closed n (f r) s) g ≡ and_then (closed n r s) (λ x t. g (f x) t)
+closed_through n f g r s = by_text s.rest
+  where
+    by_test : (u : Text) (b : Bool) →
+        and_then (if b then done (f r) (at s u) else fault (general_parse_error (codes "expected close paren")) (place_of n s.rest)) g
+        ≡ and_then (if b then done r (at s u) else fault (general_parse_error (codes "expected close paren")) (place_of n s.rest)) (λ x t. g (f x) t)
+    by_test u true = refl
+    by_test u false = refl
 
--- the state behind a closed group, where its inside ends before the text
-abbrev pub behind_group : Opener → State → Text → State
-behind_group o w u = record { flags = closed_flags o w.flags; rest = u }
+    by_text : (u : Text) → and_then (closed_at n (f r) s u) g ≡ and_then (closed_at n r s u) (λ x t. g (f x) t)
+    by_text [] = refl
+    by_text (c ∷ u) = by_test u (c == code ")")
 
--- a closed group is an atom, behind the layout before it
-pub opens_closed : {n d : ℕ} {s v w : State} {u : Text} {r : Tree} {o : Opener} → Opens n d s o v → Alternation n (d + 1) v (done r w) →
-    strip close_paren w.rest ≡ Some u → (t : Text) × (skipped n s ≡ rest t) × Atom n d (at s t) (done (closed_tree o r) (behind_group o w u))
-opens_closed (capture {u = t} l e) r f = (t, l, atom e (a_group (inside r f)))
-opens_closed (scoped {u = t} l e) r f = (t, l, atom e (a_scope (inside r f)))
+kept : (o : Outcome Tree) → o ≡ and_then o (λ x t. done x t)
+kept (done r s) = refl
+kept (fault k p) = refl
 
--- ---- what is read of the innermost group
+-- what comes out where a part ends, as the grammar says it
+group_ends : (n : ℕ) (h : Head) (p : ℕ) (f : Flags) (r : Tree) (s : State) →
+    and_then (closed n r s) (group_behind h p f) ≡ ended_part n (group h p f) r s
+group_ends n h p f r s = sym (closed_through n (node_of h p) (behind_part (group h p f)) r s)
 
-reading_new : (n d : ℕ) (s : State) (bs ps : List Tree) → bs ≡ [] → ps ≡ [] → Reading n d s bs ps s
-reading_new n d s bs ps e f = record {
+body_ends : (n : ℕ) (c : Tree) (left : ℕ) (r : Tree) (s : State) → conditional_behind n c left r s ≡ ended_part n (body c left) r s
+body_ends n c left r s =
+    let whole = conditional_of c (branches_of r).0 (branches_of r).1 in
+    ap (λ o. if lacks_body (body c left) s then fault (general_parse_error no_body) (place_of n s.rest) else o) (kept (closed n whole s))
+
+pub ended_without_body : (n : ℕ) (p : Open) (r : Tree) (s : State) → lacks_body p s ≡ true →
+    ended_part n p r s ≡ fault (general_parse_error no_body) (place_of n s.rest)
+ended_without_body n p r s e = rw e refl
+
+pub ended_unclosed : (n : ℕ) (p : Open) (r : Tree) (s : State) {k : Kind} {q : ℕ} → lacks_body p s ≡ false → closed n (node_of_part p r) s ≡ fault k q →
+    ended_part n p r s ≡ fault k q
+ended_unclosed n p r s e h = rw (e, h) refl
+
+pub ended_closed : (n : ℕ) (p : Open) (r : Tree) (s t : State) → lacks_body p s ≡ false → closed n (node_of_part p r) s ≡ done (node_of_part p r) t →
+    ended_part n p r s ≡ behind_part p (node_of_part p r) t
+ended_closed n p r s t e h = rw (e, h) refl
+
+-- a part may be followed by a bar only where it is the second branch of an absent expression, and then by a fault
+abbrev MayEnd : Open → State → Type 0
+MayEnd p s = holds_one p ≡ true → is_second p ≡ false → strip bar s.rest ≡ None
+
+-- a part ends, and with it the atom
+opens_ended : {n d : ℕ} {s v : State} {p : Open} (r : Tree) (w : State) → Opens n d s p v → Part p n (d + 1) v (done r w) → goes_on p ≡ false →
+    MayEnd p w → (t : Text) × (skipped n s ≡ rest t) × Atom n d (at s t) (ended_part n p r w)
+opens_ended q w (a_group {u} l e) r g f = (u, l, atom e (grammar.a_group (inside r refl) (group_ends _ _ _ _ q w)))
+opens_ended q w (a_condition l e) r g f = absurd (true≢false g)
+opens_ended q w (a_body {u} l e) r g f = (u, l, atom e (grammar.a_body (the_body r (body_ends _ _ _ q w))))
+opens_ended q w (behind_condition (a_condition {u} l e) i) r g f = (u, l, atom e (grammar.a_condition i (the_body r (body_ends _ _ _ q w))))
+opens_ended q w (a_branch {u} l e) r g f = (u, l, atom e (one_branch r (f refl refl) (kept _)))
+opens_ended q w (behind_branch (a_branch {u} l e) b i) r g f = (u, l, atom e (two_branches b i r (kept _)))
+
+-- where the atom goes on, the body of the conditional comes next
+pub condition_ended : {n d : ℕ} {s v t : State} {p : Open} {c : Tree} (r : Tree) (w : State) → Opens n d s p v → Part p n (d + 1) v (done r w) → goes_on p ≡ true →
+    ended_part n p r w ≡ done c t → Opens n d s (body c (bytes t.rest)) t
+condition_ended {n} r w (a_condition l e) x g h = behind_condition (a_condition l e) (inside x (kept (closed n r w) ∙ h))
+condition_ended r w (a_group l e) x g h = absurd (true≢false (sym g))
+condition_ended r w (a_body l e) x g h = absurd (true≢false (sym g))
+condition_ended r w (behind_condition x y) z g h = absurd (true≢false (sym g))
+condition_ended r w (a_branch l e) x g h = absurd (true≢false (sym g))
+condition_ended r w (behind_branch x y z) a g h = absurd (true≢false (sym g))
+
+-- a fault at the end of a part is the piece's
+pub ended_fault : {n d q : ℕ} {s v : State} {k : Kind} {p : Open} (r : Tree) (w : State) → Opens n d s p v → Part p n (d + 1) v (done r w) →
+    MayEnd p w → ended_part n p r w ≡ fault k q → Piece n d s (fault k q)
+ended_fault {n} r w (a_condition l e) x f h = piece l (atom e (condition_fault (inside x (kept (closed n r w) ∙ h)))) refl
+ended_fault {n} {d} {s} r w (a_group l e) x f h =
+    let (u, i, y) = opens_ended r w (a_group l e) x refl f in piece i (subst (Atom n d (at s u)) h y) refl
+ended_fault {n} {d} {s} r w (a_body l e) x f h =
+    let (u, i, y) = opens_ended r w (a_body l e) x refl f in piece i (subst (Atom n d (at s u)) h y) refl
+ended_fault {n} {d} {s} r w (behind_condition a b) x f h =
+    let (u, i, y) = opens_ended r w (behind_condition a b) x refl f in piece i (subst (Atom n d (at s u)) h y) refl
+ended_fault {n} {d} {s} r w (a_branch l e) x f h =
+    let (u, i, y) = opens_ended r w (a_branch l e) x refl f in piece i (subst (Atom n d (at s u)) h y) refl
+ended_fault {n} {d} {s} r w (behind_branch a b c) x f h =
+    let (u, i, y) = opens_ended r w (behind_branch a b c) x refl f in piece i (subst (Atom n d (at s u)) h y) refl
+
+-- the atom that ends with a part, under its quantifiers
+pub closes : {n d left : ℕ} {s v t : State} {a : Tree} {p : Open} (r : Tree) (w : State) (q : Result Step Error) (z : State) → Opens n d s p v →
+    Part p n (d + 1) v (done r w) → goes_on p ≡ false → strip bar w.rest ≡ None → ended_part n p r w ≡ done a t → left ≡ bytes s.rest →
+    GivesPiece q (quants n d left a t) z → StepsOn q n d s z
+closes {n} {d} {s} r w q z x y g f h i e =
+    let (u, l, b) = opens_ended r w x y g (λ _ _. f) in steps_piece s q z i l (subst (Atom n d (at s u)) h b) e
+
+-- ---- what is read of the innermost part
+
+reading_new : (n d : ℕ) (p : Open) (s : State) (bs ps : List Tree) → bs ≡ [] → ps ≡ [] → Reading n d p s bs ps s
+reading_new n d p s bs ps e f = record {
   begin = s;
   read = [];
   same = rw f;
-  branch = λ o p. rw before-nil p;
+  branch = λ o b. rw before-nil b;
   all = λ o b. rw (e, before-nil) b;
+  one = λ _. (refl, e);
 }
 
-reading_piece : {n d : ℕ} {s t v : State} {r : Tree} {bs ps : List Tree} (cs qs : List Tree) → Reading n d s bs ps t → ends t.rest ≡ false →
-    Piece n d t (done r v) → cs ≡ bs → qs ≡ ps ++ solid (r ∷ []) → Reading n d s cs qs v
+reading_piece : {n d : ℕ} {p : Open} {s t v : State} {r : Tree} {bs ps : List Tree} (cs qs : List Tree) → Reading n d p s bs ps t → ends t.rest ≡ false →
+    Piece n d t (done r v) → cs ≡ bs → qs ≡ ps ++ solid (r ∷ []) → Reading n d p s cs qs v
 reading_piece {r} cs qs h e a i j = record {
   begin = h.begin;
   read = h.read ++ r ∷ [];
   same = solid-append h.read (r ∷ []) ∙ ap (λ x. x ++ solid (r ∷ [])) h.same ∙ sym j;
   branch = λ o p. rw before-push (h.branch _ (next_any o e a p));
   all = λ o b. rw i (h.all o b);
+  one = λ k. ((h.one k).0, i ∙ (h.one k).1);
 }
 
 -- the tree of the branch that is open
-abbrev joined : List Tree → Tree
+abbrev pub joined : List Tree → Tree
 joined = one_or concat
 
 -- the open branch ends at t
-reading_branch : {n d : ℕ} {s t : State} {bs ps : List Tree} (h : Reading n d s bs ps t) → ends t.rest ≡ true → Branch n d h.begin (done (joined ps) t)
+reading_branch : {n d : ℕ} {p : Open} {s t : State} {bs ps : List Tree} (h : Reading n d p s bs ps t) → ends t.rest ≡ true →
+    Branch n d h.begin (done (joined ps) t)
 reading_branch {n} {d} {t} h e =
-    let b = branch (h.branch (done [] t) (stop e)) in
+    let b = branch (h.branch (done [] t) (stop e)) refl in
     subst (λ x. Branch n d h.begin (done (one_or concat x) t)) (ap solid (append-nil h.read) ∙ h.same) b
 
-reading_bar : {n d : ℕ} {s t : State} {u : Text} {bs ps : List Tree} (cs qs : List Tree) → Reading n d s bs ps t → ends t.rest ≡ true →
-    strip bar t.rest ≡ Some u → cs ≡ bs ++ joined ps ∷ [] → qs ≡ [] → Reading n d s cs qs (at t u)
-reading_bar {t} {u} cs qs h e f i j = record {
+-- the one branch of a part that holds no other
+reading_one : {n d : ℕ} {p : Open} {s t : State} {bs ps : List Tree} → Reading n d p s bs ps t → holds_one p ≡ true → ends t.rest ≡ true →
+    Branch n d s (done (joined ps) t)
+reading_one {n} {d} {t} {ps} h k e = subst (λ (x : State). Branch n d x (done (joined ps) t)) (h.one k).0 (reading_branch h e)
+
+reading_bar : {n d : ℕ} {p : Open} {s t : State} {u : Text} {bs ps : List Tree} (cs qs : List Tree) → Reading n d p s bs ps t → holds_one p ≡ false →
+    ends t.rest ≡ true → strip bar t.rest ≡ Some u → cs ≡ bs ++ joined ps ∷ [] → qs ≡ [] → Reading n d p s cs qs (at t u)
+reading_bar {n} {d} {s} {t} {u} {bs} {ps} cs qs h k e f i j = record {
   begin = at t u;
   read = [];
   same = rw j;
   branch = λ o p. rw before-nil p;
-  all = λ o b. rw (i, before-push) (h.all _ (more_any o (reading_branch h e) f b));
+  all = λ o b.
+      subst (λ l. Branches n d s (before l o)) (sym i)
+      (subst (Branches n d s) (sym (before-push bs (joined ps) o)) (h.all _ (more_any o (reading_branch h e) f b)));
+  one = λ l. absurd (true≢false (sym l ∙ k));
 }
 
-reading_end : {n d : ℕ} {s t : State} {bs ps : List Tree} → Reading n d s bs ps t → ends t.rest ≡ true → strip bar t.rest ≡ None →
+reading_alternation : {n d : ℕ} {p : Open} {s t : State} {bs ps : List Tree} → Reading n d p s bs ps t → ends t.rest ≡ true → strip bar t.rest ≡ None →
     Alternation n d s (done (choice (bs ++ joined ps ∷ [])) t)
-reading_end h e f = alternation (h.all _ (last (reading_branch h e) f))
+reading_alternation h e f = alternation (h.all _ (last (reading_branch h e) f)) refl
 
-reading_fault : {n d p : ℕ} {s t : State} {k : Kind} {bs ps : List Tree} → Reading n d s bs ps t → ends t.rest ≡ false → Piece n d t (fault k p) →
-    Alternation n d s (fault k p)
-reading_fault {p} {k} h e a =
-    alternation_fault (h.all (fault k p) (branch_fault (pieces_fault (h.branch (fault k p) (piece_fault e a)))))
+-- what is open ends at t
+reading_end : {n d : ℕ} {s t : State} {bs ps : List Tree} (p : Open) → Reading n d p s bs ps t → ends t.rest ≡ true → strip bar t.rest ≡ None →
+    Part p n d s (done (choice (bs ++ joined ps ∷ [])) t)
+reading_end top h e f = reading_alternation h e f
+reading_end (group _ _ _) h e f = reading_alternation h e f
+reading_end condition h e f = reading_alternation h e f
+reading_end (body _ _) h e f = reading_alternation h e f
+reading_end {n} {d} {s} {t} {ps} first h e f =
+    subst (λ l. Branch n d s (done (choice (l ++ joined ps ∷ [])) t)) (sym (h.one refl).1) (reading_one h refl e)
+reading_end {n} {d} {s} {t} {ps} (second a) h e f =
+    subst (λ l. Branch n d s (done (choice (l ++ joined ps ∷ [])) t)) (sym (h.one refl).1) (reading_one h refl e)
+
+reading_branch_fault : {n d q : ℕ} {p : Open} {s t : State} {k : Kind} {bs ps : List Tree} (h : Reading n d p s bs ps t) → ends t.rest ≡ false →
+    Piece n d t (fault k q) → Branch n d h.begin (fault k q)
+reading_branch_fault {q} {k} h e a = branch (h.branch (fault k q) (piece_fault e a)) refl
+
+reading_fault : {n d q : ℕ} {s t : State} {k : Kind} {bs ps : List Tree} (p : Open) → Reading n d p s bs ps t → ends t.rest ≡ false →
+    Piece n d t (fault k q) → Part p n d s (fault k q)
+reading_fault {q} {k} top h e a = alternation (h.all (fault k q) (branch_fault (reading_branch_fault h e a))) refl
+reading_fault {q} {k} (group _ _ _) h e a = alternation (h.all (fault k q) (branch_fault (reading_branch_fault h e a))) refl
+reading_fault {q} {k} condition h e a = alternation (h.all (fault k q) (branch_fault (reading_branch_fault h e a))) refl
+reading_fault {q} {k} (body _ _) h e a = alternation (h.all (fault k q) (branch_fault (reading_branch_fault h e a))) refl
+reading_fault {n} {d} {q} {k} first h e a = subst (λ (x : State). Branch n d x (fault k q)) (h.one refl).0 (reading_branch_fault h e a)
+reading_fault {n} {d} {q} {k} (second b) h e a = subst (λ (x : State). Branch n d x (fault k q)) (h.one refl).0 (reading_branch_fault h e a)
 
 -- ---- the stack of open groups
 
-levels_fault : {n : ℕ} {first : State} {d p : ℕ} {s : State} {k : Kind} {fs : List Frame} {o : Opener} → Levels n first fs o d s →
-    Alternation n d s (fault k p) → Alternation n 0 first (fault k p)
-levels_fault top r = r
-levels_fault (inner f e l h i j) r = levels_fault l (reading_fault h i (opens_fault j r))
+-- the fault of what is open is that of the whole
+levels_fault : {n : ℕ} {start : State} {d p : ℕ} {s : State} {k : Kind} {fs : List Frame} {o : Open} → Levels n start fs o d s →
+    Part o n d s (fault k p) → Alternation n 0 start (fault k p)
+levels_fault outermost r = r
+levels_fault (inner f e l h i m j) r = levels_fault l (reading_fault (open_of f.opener) h m (opens_fault j r))
 
 push-not_nil : {A : Type 0} (l : List A) (x : A) → [] ≡ l ++ x ∷ [] → ⊥
 push-not_nil [] x e = cc
 push-not_nil (y ∷ l) x e = cc
 
-levels_none : {n : ℕ} {first : State} {d : ℕ} {s : State} {fs : List Frame} {o : Opener} → Levels n first fs o d s → fs ≡ [] → (d ≡ 0) × (s ≡ first)
-levels_none top e = (refl, refl)
-levels_none (inner {frames} f i l h j k) e = absurd (push-not_nil frames f (sym e ∙ i))
+levels_none : {n : ℕ} {start : State} {d : ℕ} {s : State} {fs : List Frame} {o : Open} → Levels n start fs o d s → fs ≡ [] → (d ≡ 0) × (s ≡ start) × (o ≡ top)
+levels_none outermost e = (refl, refl, refl)
+levels_none (inner {frames} f i l h a j k) e = absurd (push-not_nil frames f (sym e ∙ i))
 
 push-same : {A : Type 0} (l m : List A) (x y : A) → l ++ x ∷ [] ≡ m ++ y ∷ [] → (l ≡ m) × (x ≡ y)
 push-same [] [] x y e = (refl, cc)
@@ -131,115 +249,196 @@ push-same (a ∷ []) [] x y e = absurd cc
 push-same (a ∷ c ∷ l) [] x y e = absurd cc
 push-same (a ∷ l) (b ∷ m) x y e = let t : l ++ x ∷ [] ≡ m ++ y ∷ [] = cc in let h = push-same l m x y t in (cc, h.1)
 
--- the group on top of the stack, in which the innermost one was opened
-record Outer (n : ℕ) (first : State) (gs : List Frame) (g : Frame) (o : Opener) (d : ℕ) (s : State) : Type 0 where
+-- the group on top of the stack, in which the innermost part was opened
+record Outer (n : ℕ) (start : State) (gs : List Frame) (g : Frame) (o : Open) (d : ℕ) (s : State) : Type 0 where
   depth : ℕ
-  start : State
+  begin : State
   here : State
   deeper : d ≡ depth + 1
-  levels : Levels n first gs g.opener depth start
-  reading : Reading n depth start (trees g.branches) (trees g.pieces) here
+  levels : Levels n start gs (open_of g.opener) depth begin
+  reading : Reading n depth (open_of g.opener) begin (trees g.branches) (trees g.pieces) here
+  left : g.left ≡ bytes here.rest
   more : ends here.rest ≡ false
   opens : Opens n depth here o s
 
-levels_pop : {n : ℕ} {first : State} (gs : List Frame) (g : Frame) {d : ℕ} {s : State} {fs : List Frame} {o : Opener} → Levels n first fs o d s →
-    fs ≡ gs ++ g ∷ [] → Outer n first gs g o d s
-levels_pop gs g top e = absurd (push-not_nil gs g e)
-levels_pop {n} {first} gs g (inner {d} {s} {t} {frames} f i l h m j) e =
+levels_pop : {n : ℕ} {start : State} (gs : List Frame) (g : Frame) {d : ℕ} {s : State} {fs : List Frame} {o : Open} → Levels n start fs o d s →
+    fs ≡ gs ++ g ∷ [] → Outer n start gs g o d s
+levels_pop gs g outermost e = absurd (push-not_nil gs g e)
+levels_pop {n} {start} gs g (inner {d} {s} {t} {frames} f i l h a m j) e =
     let p = push-same frames gs f g (sym i ∙ e) in
     record {
       depth = d;
-      start = s;
+      begin = s;
       here = t;
       deeper = refl;
-      levels = subst (λ x. Levels n first gs x.opener d s) p.1 (subst (λ x. Levels n first x f.opener d s) p.0 l);
-      reading = subst (λ (x : Frame). Reading n d s (trees x.branches) (trees x.pieces) t) p.1 h;
+      levels = subst (λ (x : Frame). Levels n start gs (open_of x.opener) d s) p.1 (subst (λ x. Levels n start x (open_of f.opener) d s) p.0 l);
+      reading = subst (λ (x : Frame). Reading n d (open_of x.opener) s (trees x.branches) (trees x.pieces) t) p.1 h;
+      left = subst (λ (x : Frame). x.left ≡ bytes t.rest) p.1 a;
       more = m;
       opens = j;
     }
 
--- ---- the loop's state: the stack, the innermost group and where it stands
+-- ---- the loop's state: the stack, the innermost part and where it stands
 
-pub record Running (n : ℕ) (first : State) (stack : List Frame) (f : Frame) (t : State) : Type 0 where
+pub record Running (n : ℕ) (start : State) (stack : List Frame) (f : Frame) (t : State) : Type 0 where
   pub depth : ℕ
-  pub start : State
+  pub begin : State
   pub is_depth : depth ≡ length stack
-  pub levels : Levels n first stack f.opener depth start
-  pub reading : Reading n depth start (trees f.branches) (trees f.pieces) t
+  pub levels : Levels n start stack (open_of f.opener) depth begin
+  pub reading : Reading n depth (open_of f.opener) begin (trees f.branches) (trees f.pieces) t
 
-pub running_start : (n : ℕ) (first : State) (stack : List Frame) (f : Frame) → stack ≡ [] → trees f.branches ≡ [] → trees f.pieces ≡ [] →
-    f.opener ≡ Top → Running n first stack f first
-running_start n first stack f e i j k = record {
+pub running_start : (n : ℕ) (start : State) (stack : List Frame) (f : Frame) → stack ≡ [] → trees f.branches ≡ [] → trees f.pieces ≡ [] →
+    open_of f.opener ≡ top → Running n start stack f start
+running_start n start stack f e i j k = record {
   depth = 0;
-  start = first;
+  begin = start;
   is_depth = rw e;
-  levels = rw (e, k) top;
-  reading = reading_new n 0 first _ _ i j;
+  levels = rw (e, k) outermost;
+  reading = reading_new n 0 _ start _ _ i j;
 }
 
-pub running_fault : {n : ℕ} {first t : State} {stack : List Frame} {f : Frame} {p : ℕ} {k : Kind} (h : Running n first stack f t) → ends t.rest ≡ false →
-    Piece n (length stack) t (fault k p) → Alternation n 0 first (fault k p)
-running_fault {n} {t} {p} {k} h e a = levels_fault h.levels (reading_fault h.reading e (subst (λ d. Piece n d t (fault k p)) (sym h.is_depth) a))
+-- what stands on the stack does not change by where the piece began
+pub running_left : {n : ℕ} {start t : State} {stack : List Frame} {f : Frame} (left : ℕ) → Running n start stack f t →
+    Running n start stack (record f { left = left }) t
+running_left left h = record { depth = h.depth; begin = h.begin; is_depth = h.is_depth; levels = h.levels; reading = h.reading }
 
-pub running_piece : {n : ℕ} {first t v : State} {stack : List Frame} {f : Frame} {r : Tree} (g : Frame) → Running n first stack f t → ends t.rest ≡ false →
-    Piece n (length stack) t (done r v) → g.opener ≡ f.opener → trees g.branches ≡ trees f.branches →
-    trees g.pieces ≡ trees f.pieces ++ solid (r ∷ []) → Running n first stack g v
+pub running_fault : {n : ℕ} {start t : State} {stack : List Frame} {f : Frame} {p : ℕ} {k : Kind} (h : Running n start stack f t) → ends t.rest ≡ false →
+    Piece n (length stack) t (fault k p) → Alternation n 0 start (fault k p)
+running_fault {n} {t} {f} {p} {k} h e a =
+    levels_fault h.levels (reading_fault (open_of f.opener) h.reading e (subst (λ d. Piece n d t (fault k p)) (sym h.is_depth) a))
+
+pub running_piece : {n : ℕ} {start t v : State} {stack : List Frame} {f : Frame} {r : Tree} (g : Frame) → Running n start stack f t → ends t.rest ≡ false →
+    Piece n (length stack) t (done r v) → open_of g.opener ≡ open_of f.opener → trees g.branches ≡ trees f.branches →
+    trees g.pieces ≡ trees f.pieces ++ solid (r ∷ []) → Running n start stack g v
 running_piece {n} {t} {v} {r} g h e a i j k = record {
   depth = h.depth;
-  start = h.start;
+  begin = h.begin;
   is_depth = h.is_depth;
   levels = rw i h.levels;
-  reading = reading_piece _ _ h.reading e (subst (λ d. Piece n d t (done r v)) (sym h.is_depth) a) j k;
+  reading = rw i (reading_piece _ _ h.reading e (subst (λ d. Piece n d t (done r v)) (sym h.is_depth) a) j k);
 }
 
-pub running_open : {n : ℕ} {first t v : State} {stack : List Frame} {f : Frame} {o : Opener} (all : List Frame) (g : Frame) → Running n first stack f t →
-    ends t.rest ≡ false → Opens n (length stack) t o v → all ≡ stack ++ f ∷ [] → g.opener ≡ o → trees g.branches ≡ [] → trees g.pieces ≡ [] →
-    Running n first all g v
-running_open {n} {t} {v} {stack} {f} {o} all g h e a i j k l = record {
+-- a part is opened in a piece that began where so many bytes were left
+pub running_open : {n : ℕ} {start t v : State} {stack : List Frame} {f : Frame} {o : Open} (all : List Frame) (g : Frame) → Running n start stack f t →
+    f.left ≡ bytes t.rest → ends t.rest ≡ false → Opens n (length stack) t o v → all ≡ stack ++ f ∷ [] → open_of g.opener ≡ o → trees g.branches ≡ [] →
+    trees g.pieces ≡ [] → Running n start all g v
+running_open {n} {t} {v} {stack} {f} {o} all g h b e a i j k l = record {
   depth = h.depth + 1;
-  start = v;
+  begin = v;
   is_depth = omega (arith, h.is_depth, ap length i, length_push stack f);
-  levels = rw j (inner f i h.levels h.reading e (subst (λ d. Opens n d t o v) (sym h.is_depth) a));
-  reading = reading_new n _ v _ _ k l;
+  levels = rw j (inner f i h.levels h.reading b e (subst (λ d. Opens n d t o v) (sym h.is_depth) a));
+  reading = reading_new n _ _ v _ _ k l;
 }
 
-pub running_bar : {n : ℕ} {first t : State} {u : Text} {stack : List Frame} {f : Frame} (g : Frame) → Running n first stack f t → ends t.rest ≡ true →
-    strip bar t.rest ≡ Some u → g.opener ≡ f.opener → trees g.branches ≡ trees f.branches ++ joined (trees f.pieces) ∷ [] →
-    trees g.pieces ≡ [] → Running n first stack g (at t u)
-running_bar g h e a i j k = record {
-  depth = h.depth;
-  start = h.start;
-  is_depth = h.is_depth;
-  levels = rw i h.levels;
-  reading = reading_bar _ _ h.reading e a j k;
-}
+-- behind a bar the second branch of an absent expression is open
+levels_bar : {n d : ℕ} {start s t : State} {u : Text} {a : Tree} {fs : List Frame} → Levels n start fs first d s → Branch n d s (done a t) →
+    strip bar t.rest ≡ Some u → Levels n start fs (second a) d (at t u)
+levels_bar (inner f i l h m j x) b e = inner f i l h m j (behind_branch x b e)
 
-pub running_end : {n : ℕ} {first t : State} {stack : List Frame} {f : Frame} (r : Tree) → Running n first stack f t → ends t.rest ≡ true →
-    strip bar t.rest ≡ None → r ≡ choice (trees f.branches ++ joined (trees f.pieces) ∷ []) → stack ≡ [] → Alternation n 0 first (done r t)
-running_end {n} {first} {t} r h e a i j =
+pub running_bar : {n : ℕ} {start t : State} {u : Text} {stack : List Frame} {f : Frame} (g : Frame) → Running n start stack f t → ends t.rest ≡ true →
+    strip bar t.rest ≡ Some u → is_second (open_of f.opener) ≡ false → open_of g.opener ≡ opened_by_bar (open_of f.opener) (joined (trees f.pieces)) →
+    trees g.branches ≡ branches_at_bar (open_of f.opener) (trees f.branches) (joined (trees f.pieces)) → trees g.pieces ≡ [] → Running n start stack g (at t u)
+running_bar {n} {start} {t} {u} {stack} {f} g h e b x i j k = by_open (open_of f.opener) h.levels h.reading x i j
+  where
+    ordinary : {p : Open} → holds_one p ≡ false → Levels n start stack p h.depth h.begin →
+        Reading n h.depth p h.begin (trees f.branches) (trees f.pieces) t → open_of g.opener ≡ p →
+        trees g.branches ≡ trees f.branches ++ joined (trees f.pieces) ∷ [] → Running n start stack g (at t u)
+    ordinary z l r i j = record {
+      depth = h.depth;
+      begin = h.begin;
+      is_depth = h.is_depth;
+      levels = rw i l;
+      reading = rw i (reading_bar _ _ r z e b j k);
+    }
+
+    by_open : (p : Open) → Levels n start stack p h.depth h.begin → Reading n h.depth p h.begin (trees f.branches) (trees f.pieces) t →
+        is_second p ≡ false → open_of g.opener ≡ opened_by_bar p (joined (trees f.pieces)) →
+        trees g.branches ≡ branches_at_bar p (trees f.branches) (joined (trees f.pieces)) → Running n start stack g (at t u)
+    by_open top l r x i j = ordinary refl l r i j
+    by_open (group _ _ _) l r x i j = ordinary refl l r i j
+    by_open condition l r x i j = ordinary refl l r i j
+    by_open (body _ _) l r x i j = ordinary refl l r i j
+    by_open first l r x i j = record {
+      depth = h.depth;
+      begin = at t u;
+      is_depth = h.is_depth;
+      levels = rw i (levels_bar l (reading_one r refl e) b);
+      reading = rw i (reading_new n _ _ _ _ _ (j ∙ (r.one refl).1) k);
+    }
+    by_open (second a) l r x i j = absurd (true≢false x)
+
+-- where another character than the closing parenthesis follows
+pub closed_other : (n : ℕ) (r : Tree) (t : State) (c : ℕ) (u : Text) → t.rest ≡ c ∷ u → c ≢ code ")" →
+    closed n r t ≡ fault (general_parse_error (codes "expected close paren")) (place_of n t.rest)
+closed_other n r t c u e h = ap (closed_at n r t) e ∙ other (c == code ")") (search (tests, rules))
+  where
+    other : (b : Bool) → b ≡ false → (if b then done r (at t u) else fault (general_parse_error (codes "expected close paren")) (place_of n t.rest))
+        ≡ fault (general_parse_error (codes "expected close paren")) (place_of n t.rest)
+    other true i = absurd (true≢false i)
+    other false i = refl
+
+bar_does_not_close : bar ≢ code ")"
+bar_does_not_close e = omega (arith, e)
+
+second_fault : {n d p : ℕ} {start s t : State} {k : Kind} {a r : Tree} {fs : List Frame} → Levels n start fs (second a) d s → Branch n d s (done r t) →
+    closed n (absent (expression a r)) t ≡ fault k p → Alternation n 0 start (fault k p)
+second_fault {n} {t} {a} {r} (inner f i l h m j x) b e =
+    levels_fault l (reading_fault (open_of f.opener) h j (ended_fault r t x b (λ _ z. absurd (true≢false z)) (sym (kept _) ∙ e)))
+
+pub running_bar_fault : {n : ℕ} {start t : State} {u : Text} {stack : List Frame} {f : Frame} (o : Outcome Tree) → Running n start stack f t →
+    ends t.rest ≡ true → strip bar t.rest ≡ Some u → IsFaultOfBar (open_of f.opener) (place_of n t.rest) o → Alternation n 0 start o
+running_bar_fault {n} {start} {t} {u} {stack} {f} o h e b x = by_open (open_of f.opener) h.levels h.reading x
+  where
+    by_open : (p : Open) → Levels n start stack p h.depth h.begin → Reading n h.depth p h.begin (trees f.branches) (trees f.pieces) t →
+        IsFaultOfBar p (place_of n t.rest) o → Alternation n 0 start o
+    by_open (second a) l r x =
+        subst (Alternation n 0 start) (sym x)
+        (second_fault l (reading_one r refl e) (closed_other n (absent (expression a (joined (trees f.pieces)))) t bar u (strip_is bar t.rest u b) bar_does_not_close))
+    by_open top l r x = absurd x
+    by_open (group _ _ _) l r x = absurd x
+    by_open condition l r x = absurd x
+    by_open (body _ _) l r x = absurd x
+    by_open first l r x = absurd x
+
+pub running_end : {n : ℕ} {start t : State} {stack : List Frame} {f : Frame} (r : Tree) → Running n start stack f t → ends t.rest ≡ true →
+    strip bar t.rest ≡ None → r ≡ choice (trees f.branches ++ joined (trees f.pieces) ∷ []) → stack ≡ [] → Alternation n 0 start (done r t)
+running_end {n} {start} {t} r h e a i j =
     let m = levels_none h.levels j in
-    rw i (subst (λ s. Alternation n 0 s (done _ t)) m.1 (subst (λ d. Alternation n d h.start (done _ t)) m.0 (reading_end h.reading e a)))
+    rw i (subst (λ s. Alternation n 0 s (done _ t)) m.1 (subst (λ d. Alternation n d h.begin (done _ t)) m.0 (reading_alternation h.reading e a)))
 
--- what the group that is to be closed stands in
-pub record Closing (n : ℕ) (first : State) (stack : List Frame) (g : Frame) (o : Opener) (r : Tree) (t : State) : Type 0 where
+opens_not_top : {n d : ℕ} {s v : State} {o : Open} → Opens n d s o v → o ≢ top
+opens_not_top (a_group l e) i = cc
+opens_not_top (a_condition l e) i = cc
+opens_not_top (a_body l e) i = cc
+opens_not_top (behind_condition x y) i = cc
+opens_not_top (a_branch l e) i = cc
+opens_not_top (behind_branch x y z) i = cc
+
+-- what the part that is to be closed stands in
+pub record Closing (n : ℕ) (start : State) (stack : List Frame) (g : Frame) (o : Open) (r : Tree) (t : State) : Type 0 where
   pub here : State
   pub inside : State
-  pub outer : Running n first stack g here
+  pub outer : Running n start stack g here
+  pub left : g.left ≡ bytes here.rest
   pub more : ends here.rest ≡ false
   pub opens : Opens n (length stack) here o inside
-  pub whole : Alternation n (length stack + 1) inside (done r t)
+  pub whole : Part o n (length stack + 1) inside (done r t)
+  pub not_top : o ≢ top
 
-pub running_closing : {n : ℕ} {first t : State} {all : List Frame} {f : Frame} (stack : List Frame) (g : Frame) (r : Tree) (q : Opener) → q ≡ f.opener →
-    Running n first all f t → ends t.rest ≡ true → strip bar t.rest ≡ None →
-    r ≡ choice (trees f.branches ++ joined (trees f.pieces) ∷ []) → all ≡ stack ++ g ∷ [] → Closing n first stack g q r t
+pub running_closing : {n : ℕ} {start t : State} {all : List Frame} {f : Frame} (stack : List Frame) (g : Frame) (r : Tree) (q : Open) → q ≡ open_of f.opener →
+    Running n start all f t → ends t.rest ≡ true → strip bar t.rest ≡ None →
+    r ≡ choice (trees f.branches ++ joined (trees f.pieces) ∷ []) → all ≡ stack ++ g ∷ [] → Closing n start stack g q r t
 running_closing {n} {t} {f} stack g r q z h e a i j =
     let o = levels_pop stack g h.levels j in
     let m : o.depth ≡ length stack = omega (arith, o.deeper, h.is_depth, ap length j, length_push stack g) in
+    let opens : Opens n (length stack) o.here q h.begin = rw z (subst (λ d. Opens n d o.here (open_of f.opener) h.begin) m o.opens) in
     record {
       here = o.here;
-      inside = h.start;
-      outer = record { depth = o.depth; start = o.start; is_depth = m; levels = o.levels; reading = o.reading };
+      inside = h.begin;
+      outer = record { depth = o.depth; begin = o.begin; is_depth = m; levels = o.levels; reading = o.reading };
+      left = o.left;
       more = o.more;
-      opens = rw z (subst (λ d. Opens n d o.here f.opener h.start) m o.opens);
-      whole = rw i (subst (λ d. Alternation n d h.start (done _ t)) (o.deeper ∙ ap (λ d. d + 1) m) (reading_end h.reading e a));
+      opens = opens;
+      whole = rw (z, i) (subst (λ d. Part (open_of f.opener) n d h.begin (done _ t)) (o.deeper ∙ ap (λ d. d + 1) m) (reading_end (open_of f.opener) h.reading e a));
+      not_top = opens_not_top opens;
     }

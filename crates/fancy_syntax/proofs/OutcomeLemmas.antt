@@ -6,7 +6,7 @@ use Rattle.fancy_lex.specs.declared.error.Error.{Error}
 use Rattle.fancy_lex.specs.declared.error.Error.TheVariants.{ParseError, OutOfMemory}
 use Rattle.fancy_lex.specs.Characters.{bar}
 use Rattle.fancy_syntax.specs.Ahead.{ends}
-use Rattle.fancy_syntax.specs.Grammar.{Branch, Branches, more, more_fault, Piece, Pieces, next, next_fault}
+use Rattle.fancy_syntax.specs.Grammar.{Branch, Branches, more, Piece, Pieces, next}
 use Rattle.fancy_syntax.specs.Join.{is_empty, solid}
 use Rattle.fancy_syntax.specs.Machine.{before}
 use Rattle.fancy_syntax.specs.Parsed.{Reads}
@@ -51,10 +51,8 @@ solid-append (r ∷ l) m = by_test (is_empty r) (solid-append l m)
 
 pub more_any : {n d : ℕ} {s t : State} {u : Text} {r : Tree} (o : Outcome (List Tree)) → Branch n d s (done r t) → strip bar t.rest ≡ Some u →
     Branches n d (at t u) o → Branches n d s (before (r ∷ []) o)
-more_any (done l v) b e m = more b e m
-more_any (fault k p) b e m = more_fault b e m
+more_any o b e m = more b e m refl
 
 pub next_any : {n d : ℕ} {s t : State} {r : Tree} (o : Outcome (List Tree)) → ends s.rest ≡ false → Piece n d s (done r t) → Pieces n d t o →
     Pieces n d s (before (r ∷ []) o)
-next_any (done l v) e a m = next e a m
-next_any (fault k p) e a m = next_fault e a m
+next_any o e a m = next e a m refl

@@ -1,12 +1,37 @@
 -- From a start there is at most one outcome.
-use Rattle.std.proofs.Common.{◌≡◌, ℕ, refl, sym, subst, ap, ◌∙◌, List}
-use Rattle.fancy_lex.specs.Text.{Text, place_of}
+use Rattle.std.proofs.Common.{◌≡◌, ℕ, refl, sym, subst, ap, ◌∙◌, List, ◌∷◌}
+use Rattle.fancy_lex.specs.Fault.{Kind}
+use Rattle.fancy_lex.specs.Text.{Text, bytes, place_of}
 use Rattle.fancy_lex.specs.declared.flags.Flags.{Flags}
 use Rattle.fancy_lex.specs.Layout.{rest, fault as open_comment}
 use Rattle.fancy_syntax.specs.Ahead.{Ahead, skipped}
-use Rattle.fancy_syntax.specs.Grammar.{Alternation, alternation, alternation_fault, Branches, last, more, branch_fault, more_fault, Branch, branch, pieces_fault, Pieces, stop, next, piece_fault, next_fault, Piece, piece, layout_fault, atom_fault, Atom, atom, AtomOf, a_nothing, a_leaf, a_group, group_fault, a_scope, scope_fault, Inside, inside, inside_fault, unclosed, Whole, whole, whole_fault, left_over, unread_mode}
-use Rattle.fancy_syntax.specs.State.{State, at, Outcome}
-use Rattle.fancy_syntax.specs.Tree.{Tree}
+use Rattle.fancy_syntax.specs.Grammar.{Alternation, alternation, Branches, last, more, branch_fault, Branch, branch, Pieces, stop, next, piece_fault, Piece, piece, layout_fault, Atom, atom, AtomOf, a_nothing, a_leaf, a_group, a_condition, condition_fault, a_body, two_branches, one_branch, absent_fault, Inside, inside, Body, the_body, Whole, whole, unread_mode, closed, ended, group_behind, conditional_behind, alone}
+use Rattle.fancy_syntax.specs.Head.{Head}
+use Rattle.fancy_syntax.specs.Join.{choice, join}
+use Rattle.fancy_syntax.specs.Quantified.{quants}
+use Rattle.fancy_syntax.specs.State.{State, at, Outcome, done, fault, and_then, seen_through}
+use Rattle.fancy_syntax.specs.Tree.{Tree, absent, expression}
+
+-- ---- what one outcome says of another
+
+value_of : {A : Type 0} {a b : A} {s t : State} → ◌≡◌ {A = Outcome A} (done a s) (done b t) → a ≡ b
+value_of e = cc
+
+state_of : {A : Type 0} {a b : A} {s t : State} → ◌≡◌ {A = Outcome A} (done a s) (done b t) → s ≡ t
+state_of e = cc
+
+done_or_fault : {A : Type 0} {a : A} {s : State} {k : Kind} {p : ℕ} → ◌≡◌ {A = Outcome A} (done a s) (fault k p) → ⊥
+done_or_fault e = cc
+
+same_fault : {A B : Type 0} {k j : Kind} {p q : ℕ} → ◌≡◌ {A = Outcome A} (fault k p) (fault j q) → ◌≡◌ {A = Outcome B} (fault k p) (fault j q)
+same_fault e = cc
+
+-- the same part behind the same outcome
+then_same : {A B : Type 0} (f : A → State → Outcome B) {q r : Outcome A} {o m : Outcome B} → and_then q f ≡ o → and_then r f ≡ m → q ≡ r → o ≡ m
+then_same f e g h = sym e ∙ ap (λ x. and_then x f) h ∙ g
+
+in_front_same : {A : Type 0} {a b : A} {q r o m : Outcome (List A)} → seen_through (λ l. a ∷ l) q ≡ o → seen_through (λ l. b ∷ l) r ≡ m → a ≡ b → q ≡ r → o ≡ m
+in_front_same {b} {q} e g i h = sym e ∙ ap (λ x. seen_through (λ l. x ∷ l) q) i ∙ ap (seen_through (λ l. b ∷ l)) h ∙ g
 
 -- ---- layout is a function
 
@@ -31,64 +56,42 @@ ap_at e i = cc
 -- by induction on both derivations: an earlier part has one outcome, which says which rule reads on
 mutual
   alternation_unique : {n d : ℕ} {s z : State} {o q : Outcome Tree} → Alternation n d s o → Alternation n d z q → s ≡ z → o ≡ q
-  alternation_unique (alternation a) (alternation b) e = let h = branches_unique a b e in cc
-  alternation_unique (alternation a) (alternation_fault b) e = let h = branches_unique a b e in cc
-  alternation_unique (alternation_fault a) (alternation b) e = let h = branches_unique a b e in cc
-  alternation_unique (alternation_fault a) (alternation_fault b) e = let h = branches_unique a b e in cc
+  alternation_unique (alternation a f) (alternation b g) e = then_same _ f g (branches_unique a b e)
 
   branches_unique : {n d : ℕ} {s z : State} {o q : Outcome (List Tree)} → Branches n d s o → Branches n d z q → s ≡ z → o ≡ q
   branches_unique (last a f) (last b g) e = let h = branch_unique a b e in cc
-  branches_unique (last a f) (more b g n) e = let h = branch_unique a b e in cc
-  branches_unique (last a f) (branch_fault b) e = let h = branch_unique a b e in cc
-  branches_unique (last a f) (more_fault b g n) e = let h = branch_unique a b e in cc
-  branches_unique (more a f m) (last b g) e = let h = branch_unique a b e in cc
-  branches_unique (more a f m) (more b g n) e = let h = branch_unique a b e in let i = branches_unique m n cc in cc
-  branches_unique (more a f m) (branch_fault b) e = let h = branch_unique a b e in cc
-  branches_unique (more a f m) (more_fault b g n) e = let h = branch_unique a b e in let i = branches_unique m n cc in cc
-  branches_unique (branch_fault a) (last b g) e = let h = branch_unique a b e in cc
-  branches_unique (branch_fault a) (more b g n) e = let h = branch_unique a b e in cc
-  branches_unique (branch_fault a) (branch_fault b) e = let h = branch_unique a b e in cc
-  branches_unique (branch_fault a) (more_fault b g n) e = let h = branch_unique a b e in cc
-  branches_unique (more_fault a f m) (last b g) e = let h = branch_unique a b e in cc
-  branches_unique (more_fault a f m) (more b g n) e = let h = branch_unique a b e in let i = branches_unique m n cc in cc
-  branches_unique (more_fault a f m) (branch_fault b) e = let h = branch_unique a b e in cc
-  branches_unique (more_fault a f m) (more_fault b g n) e = let h = branch_unique a b e in let i = branches_unique m n cc in cc
+  branches_unique (last a f) (more b g m i) e = let h = branch_unique a b e in absurd cc
+  branches_unique (last a f) (branch_fault b) e = absurd (done_or_fault (branch_unique a b e))
+  branches_unique (more a f m i) (last b g) e = let h = branch_unique a b e in absurd cc
+  branches_unique (more a f m i) (more b g l j) e =
+      let h = branch_unique a b e in in_front_same i j (value_of h) (branches_unique m l cc)
+  branches_unique (more a f m i) (branch_fault b) e = absurd (done_or_fault (branch_unique a b e))
+  branches_unique (branch_fault a) (last b g) e = absurd (done_or_fault (sym (branch_unique a b e)))
+  branches_unique (branch_fault a) (more b g m i) e = absurd (done_or_fault (sym (branch_unique a b e)))
+  branches_unique (branch_fault a) (branch_fault b) e = same_fault (branch_unique a b e)
 
   branch_unique : {n d : ℕ} {s z : State} {o q : Outcome Tree} → Branch n d s o → Branch n d z q → s ≡ z → o ≡ q
-  branch_unique (branch a) (branch b) e = let h = pieces_unique a b e in cc
-  branch_unique (branch a) (pieces_fault b) e = let h = pieces_unique a b e in cc
-  branch_unique (pieces_fault a) (branch b) e = let h = pieces_unique a b e in cc
-  branch_unique (pieces_fault a) (pieces_fault b) e = let h = pieces_unique a b e in cc
+  branch_unique (branch a f) (branch b g) e = then_same _ f g (pieces_unique a b e)
 
   pieces_unique : {n d : ℕ} {s z : State} {o q : Outcome (List Tree)} → Pieces n d s o → Pieces n d z q → s ≡ z → o ≡ q
   pieces_unique (stop f) (stop g) e = cc
-  pieces_unique (stop f) (next g b n) e = cc
-  pieces_unique (stop f) (piece_fault g b) e = cc
-  pieces_unique (stop f) (next_fault g b n) e = cc
-  pieces_unique (next f a m) (stop g) e = cc
-  pieces_unique (next f a m) (next g b n) e = let h = piece_unique a b e in let i = pieces_unique m n cc in cc
-  pieces_unique (next f a m) (piece_fault g b) e = let h = piece_unique a b e in cc
-  pieces_unique (next f a m) (next_fault g b n) e = let h = piece_unique a b e in let i = pieces_unique m n cc in cc
-  pieces_unique (piece_fault f a) (stop g) e = cc
-  pieces_unique (piece_fault f a) (next g b n) e = let h = piece_unique a b e in cc
-  pieces_unique (piece_fault f a) (piece_fault g b) e = let h = piece_unique a b e in cc
-  pieces_unique (piece_fault f a) (next_fault g b n) e = let h = piece_unique a b e in cc
-  pieces_unique (next_fault f a m) (stop g) e = cc
-  pieces_unique (next_fault f a m) (next g b n) e = let h = piece_unique a b e in let i = pieces_unique m n cc in cc
-  pieces_unique (next_fault f a m) (piece_fault g b) e = let h = piece_unique a b e in cc
-  pieces_unique (next_fault f a m) (next_fault g b n) e = let h = piece_unique a b e in let i = pieces_unique m n cc in cc
+  pieces_unique (stop f) (next g b m i) e = absurd cc
+  pieces_unique (stop f) (piece_fault g b) e = absurd cc
+  pieces_unique (next f a m i) (stop g) e = absurd cc
+  pieces_unique (next f a m i) (next g b l j) e =
+      let h = piece_unique a b e in in_front_same i j (value_of h) (pieces_unique m l (state_of h))
+  pieces_unique (next f a m i) (piece_fault g b) e = absurd (done_or_fault (piece_unique a b e))
+  pieces_unique (piece_fault f a) (stop g) e = absurd cc
+  pieces_unique (piece_fault f a) (next g b m i) e = absurd (done_or_fault (sym (piece_unique a b e)))
+  pieces_unique (piece_fault f a) (piece_fault g b) e = same_fault (piece_unique a b e)
 
   piece_unique : {n d : ℕ} {s z : State} {o q : Outcome Tree} → Piece n d s o → Piece n d z q → s ≡ z → o ≡ q
-  piece_unique (piece {n} l a f) (piece m b g) e =
-      let i = same_layout n l m e in let h = atom_unique a b (ap_at e i) in cc
+  piece_unique (piece {n} {d} {s} {q} l a f) (piece m b g) e =
+      let h = atom_unique a b (ap_at e (same_layout n l m e)) in
+      sym f ∙ ap (λ (x : State). and_then q (quants n d (bytes x.rest))) e ∙ then_same _ refl g h
   piece_unique (piece {n} l a f) (layout_fault m) e = absurd (layout_or_fault n l m e)
-  piece_unique (piece {n} l a f) (atom_fault m b) e = let i = same_layout n l m e in let h = atom_unique a b (ap_at e i) in cc
   piece_unique (layout_fault {n} l) (piece m b g) e = absurd (layout_or_fault n m l (sym e))
   piece_unique (layout_fault {n} l) (layout_fault m) e = let h = same_skipped n e in cc
-  piece_unique (layout_fault {n} l) (atom_fault m b) e = absurd (layout_or_fault n m l (sym e))
-  piece_unique (atom_fault {n} l a) (piece m b g) e = let i = same_layout n l m e in let h = atom_unique a b (ap_at e i) in cc
-  piece_unique (atom_fault {n} l a) (layout_fault m) e = absurd (layout_or_fault n l m e)
-  piece_unique (atom_fault {n} l a) (atom_fault m b) e = let i = same_layout n l m e in let h = atom_unique a b (ap_at e i) in h
 
   atom_unique : {n d : ℕ} {s z : State} {o q : Outcome Tree} → Atom n d s o → Atom n d z q → s ≡ z → o ≡ q
   atom_unique (atom {n} {d} {k} f a) (atom {s = z} {o = q} {k = l} g b) e =
@@ -97,40 +100,38 @@ mutual
   of_unique : {k : Ahead} {n d : ℕ} {s z : State} {o q : Outcome Tree} → AtomOf k n d s o → AtomOf k n d z q → s ≡ z → o ≡ q
   of_unique a_nothing a_nothing e = cc
   of_unique a_leaf a_leaf e = cc
-  of_unique (a_group {n} a) (a_group b) e = let p = ap (λ (x : State). place_of n x.rest) e in let h = inside_unique a b cc in cc
-  of_unique (a_group {n} a) (group_fault b) e = let h = inside_unique a b cc in cc
-  of_unique (group_fault {n} a) (a_group b) e = let h = inside_unique a b cc in cc
-  of_unique (group_fault {n} a) (group_fault b) e = let h = inside_unique a b cc in cc
-  of_unique (a_scope a) (a_scope b) e = let h = inside_unique a b refl in cc
-  of_unique (a_scope a) (scope_fault b) e = let h = inside_unique a b refl in cc
-  of_unique (scope_fault a) (a_scope b) e = let h = inside_unique a b refl in cc
-  of_unique (scope_fault a) (scope_fault b) e = let h = inside_unique a b refl in cc
+  of_unique (a_group {n} {h} {q} a f) (a_group b g) e =
+      sym f ∙ ap (λ (x : State). and_then q (group_behind h (place_of n x.rest) x.flags)) e ∙ then_same _ refl g (inside_unique a b refl)
+  of_unique (a_condition i a) (a_condition j b) e =
+      let h = inside_unique i j refl in body_unique a b (value_of h) (state_of h)
+  of_unique (a_condition i a) (condition_fault j) e = absurd (done_or_fault (inside_unique i j refl))
+  of_unique (condition_fault i) (a_condition j b) e = absurd (done_or_fault (sym (inside_unique i j refl)))
+  of_unique (condition_fault i) (condition_fault j) e = inside_unique i j refl
+  of_unique (a_body a) (a_body b) e = body_unique a b refl refl
+  of_unique (two_branches {n} {q} a f m i) (two_branches b g l j) e =
+      let h = branch_unique a b refl in
+      sym i ∙ ap (λ (x : Tree). and_then q (λ r. closed n (absent (expression x r)))) (value_of h) ∙ then_same _ refl j (branch_unique m l cc)
+  of_unique (two_branches a f m i) (one_branch b g j) e = let h = branch_unique a b refl in absurd cc
+  of_unique (two_branches a f m i) (absent_fault b) e = absurd (done_or_fault (branch_unique a b refl))
+  of_unique (one_branch a f i) (two_branches b g l j) e = let h = branch_unique a b refl in absurd cc
+  of_unique (one_branch {n} {v} a f i) (one_branch {a = c} b g j) e =
+      let h = branch_unique a b refl in
+      sym i ∙ ap (λ (x : Tree). closed n (alone x) v) (value_of h) ∙ ap (closed n (alone c)) (state_of h) ∙ j
+  of_unique (one_branch a f i) (absent_fault b) e = absurd (done_or_fault (branch_unique a b refl))
+  of_unique (absent_fault a) (two_branches b g l j) e = absurd (done_or_fault (sym (branch_unique a b refl)))
+  of_unique (absent_fault a) (one_branch b g j) e = absurd (done_or_fault (sym (branch_unique a b refl)))
+  of_unique (absent_fault a) (absent_fault b) e = branch_unique a b refl
 
   inside_unique : {n d : ℕ} {s z : State} {o q : Outcome Tree} → Inside n d s o → Inside n d z q → s ≡ z → o ≡ q
-  inside_unique (inside a f) (inside b g) e = let h = alternation_unique a b e in cc
-  inside_unique (inside a f) (inside_fault b) e = let h = alternation_unique a b e in cc
-  inside_unique (inside a f) (unclosed b g) e = let h = alternation_unique a b e in cc
-  inside_unique (inside_fault a) (inside b g) e = let h = alternation_unique a b e in cc
-  inside_unique (inside_fault a) (inside_fault b) e = alternation_unique a b e
-  inside_unique (inside_fault a) (unclosed b g) e = let h = alternation_unique a b e in cc
-  inside_unique (unclosed a f) (inside b g) e = let h = alternation_unique a b e in cc
-  inside_unique (unclosed a f) (inside_fault b) e = let h = alternation_unique a b e in cc
-  inside_unique (unclosed {n} a f) (unclosed b g) e = let h = alternation_unique a b e in cc
+  inside_unique (inside a f) (inside b g) e = then_same _ f g (alternation_unique a b e)
+
+  body_unique : {n d : ℕ} {c x : Tree} {s z : State} {o q : Outcome Tree} → Body n d c s o → Body n d x z q → c ≡ x → s ≡ z → o ≡ q
+  body_unique (the_body {n} {s} {q} a f) (the_body {c = x} b g) i e =
+      sym f ∙ ap (λ (y : Tree). and_then q (conditional_behind n y (bytes s.rest))) i
+      ∙ ap (λ (y : State). and_then q (conditional_behind n x (bytes y.rest))) e ∙ then_same _ refl g (alternation_unique a b e)
 
 pub whole_unique : {f : Flags} {text : Text} {o q : Outcome Tree} → Whole f text o → Whole f text q → o ≡ q
-whole_unique (whole m a f) (whole k b g) = alternation_unique a b refl
-whole_unique (whole m a f) (whole_fault k b) = let h = alternation_unique a b refl in cc
-whole_unique (whole m a f) (left_over k b g) = let h = alternation_unique a b refl in cc
-whole_unique (whole m a f) (unread_mode k) = cc
-whole_unique (whole_fault m a) (whole k b g) = let h = alternation_unique a b refl in cc
-whole_unique (whole_fault m a) (whole_fault k b) = alternation_unique a b refl
-whole_unique (whole_fault m a) (left_over k b g) = let h = alternation_unique a b refl in cc
-whole_unique (whole_fault m a) (unread_mode k) = cc
-whole_unique (left_over m a f) (whole k b g) = let h = alternation_unique a b refl in cc
-whole_unique (left_over m a f) (whole_fault k b) = let h = alternation_unique a b refl in cc
-whole_unique (left_over m a f) (left_over k b g) = let h = alternation_unique a b refl in cc
-whole_unique (left_over m a f) (unread_mode k) = cc
-whole_unique (unread_mode m) (whole k b g) = cc
-whole_unique (unread_mode m) (whole_fault k b) = cc
-whole_unique (unread_mode m) (left_over k b g) = cc
-whole_unique (unread_mode m) (unread_mode k) = cc
+whole_unique (whole m a f) (whole k b g) = then_same _ f g (alternation_unique a b refl)
+whole_unique (whole m a f) (unread_mode k) = absurd cc
+whole_unique (unread_mode m) (whole k b g) = absurd cc
+whole_unique (unread_mode m) (unread_mode k) = refl

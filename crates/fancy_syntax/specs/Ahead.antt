@@ -1,21 +1,25 @@
 -- What stands before an atom.
-use Rattle.std.specs.Prelude.{ℕ, ◌+◌, Bool, true, false, ◌==◌, ◌||◌, ◌&&◌, nat_le, [], ◌∷◌, if◌then◌else◌}
+use Rattle.std.specs.Prelude.{ℕ, ◌+◌, Bool, true, false, ◌==◌, ◌||◌, nat_le, [], ◌∷◌, if◌then◌else◌, None, codes}
+use Rattle.std.specs.Char.{is_ascii_digit}
 use Prim.Native.Char.{code}
 use Rattle.fancy_lex.specs.Characters.{◌∈◌}
 use Rattle.fancy_lex.specs.Class.{class}
 use Rattle.fancy_lex.specs.Escape.{escape}
 use Rattle.fancy_lex.specs.Escaped as escaped
 use Rattle.fancy_lex.specs.Escaped.{Escape}
-use Rattle.fancy_lex.specs.Fault.{Kind, not_read_yet, recursion_exceeded, unclosed_open_paren}
+use Rattle.fancy_lex.specs.Fault.{Kind, not_read_yet, recursion_exceeded, target_not_repeatable, unclosed_open_paren}
 use Rattle.fancy_lex.specs.Layout.{layout, Skipped, rest, fault as open_comment}
-use Rattle.fancy_lex.specs.Reading.{Reading, gives, fails, no_memory}
-use Rattle.fancy_lex.specs.Text.{Text, place_of}
+use Rattle.fancy_lex.specs.Reading.{Reading, gives, fails, choose}
+use Rattle.fancy_lex.specs.Text.{Text, place_of, strip_word}
 use Rattle.fancy_lex.specs.declared.escape.Assertion.{Assertion}
 use Rattle.fancy_lex.specs.declared.escape.Assertion.TheVariants.{StartText, EndText, StartLine, EndLine}
 use Rattle.fancy_lex.specs.declared.flags.Flags.{Flags}
-use Rattle.fancy_parts.specs.FlagLetters.{Letters, letters, setting, bad, scope as scoped}
+use Rattle.fancy_parts.specs.FlagLetters.{Letters, letters, setting, scope as scoped}
+use Rattle.fancy_syntax.specs.Head.{Head, capture, scope, look, atomic, define, repeater}
 use Rattle.fancy_syntax.specs.State.{State, at, Outcome, done, fault}
-use Rattle.fancy_syntax.specs.Tree.{Tree, empty, any, assertion, general_newline, literal, literal_bytes, delegate, keep_out, continue_from_previous_match_end}
+use Rattle.fancy_syntax.specs.Tree.{Tree, empty, any, assertion, general_newline, literal, literal_bytes, delegate, keep_out, continue_from_previous_match_end, verb}
+use Rattle.fancy_syntax.specs.Verb.{verb_at}
+use Rattle.fancy_syntax.specs.declared.expr.LookAround.TheVariants.{LookAhead, LookAheadNeg, LookBehind, LookBehindNeg}
 
 -- groups nest less deep than this
 abbrev pub max_depth : ℕ
@@ -34,8 +38,10 @@ ends (c ∷ t) = c ∈ "|)"
 pub data Ahead : Type 0 where
   nothing : Ahead  -- no atom: it is Empty, and takes no character
   leaf : Outcome Tree → Ahead  -- an atom that holds no branches, or its fault
-  group : Text → Ahead  -- a capturing group, whose inside begins with the text
-  scope : Flags → Text → Ahead  -- a group of flags, with those that hold inside, where the text begins
+  opens : Head → State → Ahead  -- a group of one alternation, which begins at the state
+  condition : State → Ahead  -- a conditional whose condition is an alternation, which begins at the state
+  body : Tree → State → Ahead  -- a conditional whose condition is this tree; its body begins at the state
+  absent_branch : State → Ahead  -- `(?~|` of an absent expression, stopper or clear; a branch begins at the state
 
 -- the fault of a group, or of what is not read yet
 abbrev pub faulty : Kind → ℕ → Ahead
@@ -60,11 +66,10 @@ leaf_node escaped.keep_out = keep_out
 leaf_node escaped.continue_from_previous_match_end = continue_from_previous_match_end
 leaf_node (escaped.delegate t casei) = delegate t casei
 
--- what a reader comes to, as the outcome of a leaf; no definition of a reader says that memory ran out
+-- what a reader comes to, as the outcome of a leaf
 abbrev pub leaf_outcome : {A : Type 0} → (A → Tree) → State → Reading A → Outcome Tree
 leaf_outcome node s (gives a t) = done (node a) (at s t)
 leaf_outcome node s (fails e) = fault e.kind e.place
-leaf_outcome node s no_memory = fault not_read_yet 0
 
 -- an atom of one character, an escape or a class
 abbrev pub leaf_of : ℕ → State → ℕ → Text → Outcome Tree
@@ -80,32 +85,80 @@ leaf_of n s c t =
 abbrev pub is_before_nothing : ℕ → Bool
 is_before_nothing c = c ∈ "+*?|)"
 
--- heads of groups that are not read yet: one of these characters, or `P<`, `P=` and `P>`
-abbrev pub is_later_mark : ℕ → Bool
-is_later_mark c = c ∈ "=!<'~>("
-
-abbrev pub is_later_head : Text → Bool
-is_later_head [] = false
-is_later_head (c ∷ []) = is_later_mark c
-is_later_head (c ∷ d ∷ t) = is_later_mark c || (c == code "P" && d ∈ "<=>")
+-- a head with a name, which is not read yet
+abbrev pub later : ℕ → Text → Ahead
+later n t = faulty not_read_yet (place_of n t)
 
 -- a flag group, whose letters were read
-abbrev pub flags_ahead : Letters → Ahead
-flags_ahead (setting f u) = leaf (done empty (record { flags = f; rest = u }))
-flags_ahead (scoped f u) = scope f u
-flags_ahead (bad k p) = faulty k p
+abbrev pub flags_ahead : Reading Letters → Ahead
+flags_ahead (gives (setting f) u) = leaf (done empty (record { flags = f; rest = u }))
+flags_ahead (gives (scoped f) u) = opens scope (record { flags = f; rest = u })
+flags_ahead (fails e) = faulty e.kind e.place
+
+-- a verb, whose name and closing parenthesis stand behind the asterisk at the front
+abbrev pub verb_ahead : ℕ → State → ℕ → Text → Ahead
+verb_ahead n s c t = choose (verb_at t) (λ p. leaf (done (verb p.0) (at s p.1))) (faulty target_not_repeatable (place_of n (c ∷ t)))
+
+-- a verb as the condition of a conditional
+abbrev pub verb_condition : ℕ → State → ℕ → Text → Ahead
+verb_condition n s c t = choose (verb_at t) (λ p. body (verb p.0) (at s p.1)) (faulty target_not_repeatable (place_of n (c ∷ t)))
+
+-- with these a condition's target begins
+abbrev pub is_before_target : ℕ → Bool
+is_before_target c = c ∈ "'<+-" || is_ascii_digit c
+
+-- the condition of a conditional: a target, which is not read yet, a verb, or an alternation
+abbrev pub condition_ahead : ℕ → State → ℕ → Text → Ahead
+condition_ahead n s c t =
+    if is_before_target c then later n (c ∷ t)
+    else if c == code "*" then verb_condition n s c t
+    else condition (at s (c ∷ t))
+
+-- behind `(?(`, where more text is due
+abbrev pub conditional_ahead : ℕ → State → Text → Ahead
+conditional_ahead n s [] = faulty unclosed_open_paren n
+conditional_ahead n s (c ∷ t) =
+    choose (strip_word (codes "DEFINE)") (c ∷ t)) (λ u. opens define (at s u)) (condition_ahead n s c t)
+
+-- behind `(?~`, where more text is due: a bar, or an alternation
+abbrev pub absent_ahead : ℕ → State → Text → Ahead
+absent_ahead n s [] = faulty unclosed_open_paren n
+absent_ahead n s (c ∷ t) = if c == code "|" then absent_branch (at s t) else opens repeater (at s (c ∷ t))
+
+-- behind `(?<`, which begins at m: look-behind, or a name
+abbrev pub less_ahead : ℕ → State → Text → Text → Ahead
+less_ahead n s m [] = later n m
+less_ahead n s m (c ∷ t) =
+    if c == code "=" then opens (look LookBehind) (at s t)
+    else if c == code "!" then opens (look LookBehindNeg) (at s t)
+    else later n m
+
+-- behind `(?P`, which begins at m: a name, or letters of flags
+abbrev pub python_ahead : ℕ → State → Text → Text → Ahead
+python_ahead n s m [] = flags_ahead (letters n s.flags m)
+python_ahead n s m (c ∷ t) = if c ∈ "<=>" then later n m else flags_ahead (letters n s.flags m)
 
 -- behind the question mark of a group's head
 abbrev pub question_ahead : ℕ → State → Text → Ahead
-question_ahead n s t = if is_later_head t then faulty not_read_yet (place_of n t) else flags_ahead (letters n s.flags t)
+question_ahead n s [] = flags_ahead (letters n s.flags [])
+question_ahead n s (c ∷ t) =
+    if c == code "=" then opens (look LookAhead) (at s t)
+    else if c == code "!" then opens (look LookAheadNeg) (at s t)
+    else if c == code "<" then less_ahead n s (c ∷ t) t
+    else if c == code "'" then later n (c ∷ t)
+    else if c == code "P" then python_ahead n s (c ∷ t) t
+    else if c == code "~" then absent_ahead n s t
+    else if c == code ">" then opens atomic (at s t)
+    else if c == code "(" then conditional_ahead n s t
+    else flags_ahead (letters n s.flags (c ∷ t))
 
 -- behind the parenthesis and layout: the head of the group, if it has one
 abbrev pub head_ahead : ℕ → State → Text → Ahead
-head_ahead n s [] = group []
+head_ahead n s [] = opens (capture None) (at s [])
 head_ahead n s (c ∷ t) =
     if c == code "?" then question_ahead n s t
-    else if c == code "*" then faulty not_read_yet (place_of n (c ∷ t))
-    else group (c ∷ t)
+    else if c == code "*" then verb_ahead n s c t
+    else opens (capture None) (at s (c ∷ t))
 
 abbrev pub behind_layout : ℕ → State → Skipped → Ahead
 behind_layout n s (rest u) = head_ahead n s u

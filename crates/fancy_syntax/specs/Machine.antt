@@ -1,83 +1,167 @@
 -- The groups that are open, as the parser's stack holds them.
-use Rattle.std.specs.Prelude.{◌≡◌, ℕ, ◌+◌, ◌<◌, false, List, [], ◌∷◌, ◌++◌, None, Result, MatchResult, ⊤}
+use Rattle.std.specs.Prelude.{◌≡◌, ℕ, ◌+◌, ◌<◌, ◌==◌, ◌&&◌, not, if◌then◌else◌, Bool, true, false, List, [], ◌∷◌, ◌++◌, Some, Result, MatchResult, ⊤, codes}
+use Rattle.fancy_lex.specs.Characters.{bar}
+use Rattle.fancy_lex.specs.Fault.{general_parse_error}
 use Rattle.fancy_lex.specs.Layout.{rest}
-use Rattle.fancy_lex.specs.Text.{Text, place_of}
-use Rattle.fancy_lex.specs.declared.flags.Flags.{Flags}
+use Rattle.fancy_lex.specs.Text.{Text, bytes, place_of, strip}
 use Rattle.fancy_lex.specs.declared.error.Error.{Error}
-use Rattle.fancy_syntax.specs.Ahead.{ahead, group, scope, ends, skipped, max_depth}
-use Rattle.fancy_syntax.specs.Grammar.{Branches, Pieces, Piece}
+use Rattle.fancy_lex.specs.declared.flags.Flags.{Flags}
+use Rattle.fancy_syntax.specs.Ahead.{ahead, ends, skipped, max_depth}
+use Rattle.fancy_syntax.specs.Ahead as seen
+use Rattle.fancy_syntax.specs.Grammar.{Alternation, Branches, Branch, Pieces, Piece, Inside, closed, no_body, is_condition, branches_of, conditional_of, alone}
+use Rattle.fancy_syntax.specs.Head.{Head, node_of, flags_behind}
 use Rattle.fancy_syntax.specs.Join.{solid}
-use Rattle.fancy_syntax.specs.Parsed.{state}
+use Rattle.fancy_syntax.specs.Parsed.{head_of}
 use Rattle.fancy_syntax.specs.Reads.{Fails}
 use Rattle.fancy_syntax.specs.Row.{trees}
-use Rattle.fancy_syntax.specs.State.{State, at, Outcome, done, fault}
-use Rattle.fancy_syntax.specs.Tree.{Tree, ast_node, ast_group}
+use Rattle.fancy_syntax.specs.State.{State, at, Outcome, done, fault, and_then, seen_through}
+use Rattle.fancy_syntax.specs.Tree.{Tree, absent, expression}
 use Rattle.fancy_syntax.specs.View.{view}
 use Rattle.fancy_syntax.specs.declared.grammar.frame.Frame.{Frame}
 use Rattle.fancy_syntax.specs.declared.grammar.frame.Opener.{Opener}
-use Rattle.fancy_syntax.specs.declared.grammar.frame.Opener.TheVariants.{Top, Capture, Scope}
-use Rattle.fancy_syntax.specs.declared.grammar.state.State as declared
+use Rattle.fancy_syntax.specs.declared.grammar.frame.Opener.TheVariants as opener
 use Rattle.fancy_syntax.specs.declared.grammar.step.Step.{Step}
 use Rattle.fancy_syntax.specs.declared.grammar.step.Step.TheVariants as step
 
--- a piece at s opens a group whose inside begins at t
-pub data Opens : ℕ → ℕ → State → Opener → State → Type 0 where
-  capture : {n d : ℕ} {s : State} {u t : Text} → skipped n s ≡ rest u → ahead n d (at s u) ≡ group t →
-      Opens n d s (Capture (place_of n u)) (at s t)
-  scoped : {n d : ℕ} {f : Flags} {s : State} {u t : Text} → skipped n s ≡ rest u → ahead n d (at s u) ≡ scope f t →
-      Opens n d s (Scope s.flags) (record { flags = f; rest = t })
+-- what is open
+pub data Open : Type 0 where
+  top : Open  -- the whole text
+  group : Head → ℕ → Flags → Open  -- a group that opens at the place, and the flags before it
+  condition : Open  -- the condition of a conditional
+  body : Tree → ℕ → Open  -- the body of a conditional of this condition, which began where so many bytes were left
+  first : Open  -- the branch behind `(?~|`
+  second : Tree → Open  -- the branch behind that one and a bar
 
--- the tree of the group that the opener opened, around that of its inside
-abbrev pub closed_tree : Opener → Tree → Tree
-closed_tree Top r = r
-closed_tree (Capture place) r = ast_node (ast_group None r) place
-closed_tree (Scope f) r = r
+abbrev pub open_of : Opener → Open
+open_of opener.Top = top
+open_of (opener.Group head place flags) = group (head_of head) place flags
+open_of opener.Condition = condition
+open_of (opener.Body c left) = body (view c.value) left
+open_of opener.First = first
+open_of (opener.Second a) = second (view a.value)
 
--- the flags behind the group that the opener opened, where f hold at the end of its inside
-abbrev pub closed_flags : Opener → Flags → Flags
-closed_flags Top f = f
-closed_flags (Capture place) f = f
-closed_flags (Scope g) f = g
+-- whether no bar parts branches there
+abbrev pub holds_one : Open → Bool
+holds_one first = true
+holds_one (second a) = true
+holds_one _ = false
+
+abbrev pub is_second : Open → Bool
+is_second (second a) = true
+is_second _ = false
+
+-- what is open behind a bar, where the branch before it is the tree
+abbrev pub opened_by_bar : Open → Tree → Open
+opened_by_bar first a = second a
+opened_by_bar p a = p
+
+-- the branches behind a bar
+abbrev pub branches_at_bar : Open → List Tree → Tree → List Tree
+branches_at_bar first l a = l
+branches_at_bar _ l a = l ++ a ∷ []
+
+-- no bar may stand behind the second branch of an absent expression
+abbrev pub IsFaultOfBar : Open → ℕ → Outcome Tree → Type 0
+IsFaultOfBar (second a) p o = o ≡ fault (general_parse_error (codes "expected close paren")) p
+IsFaultOfBar _ p o = ⊥
+
+-- what is read of what is open
+abbrev pub Part : Open → ℕ → ℕ → State → Outcome Tree → Type 0
+Part first n d s o = Branch n d s o
+Part (second a) n d s o = Branch n d s o
+Part top n d s o = Alternation n d s o
+Part (group h p f) n d s o = Alternation n d s o
+Part condition n d s o = Alternation n d s o
+Part (body c left) n d s o = Alternation n d s o
+
+-- a piece at s opens this, and what is read of it begins at t
+pub data Opens : ℕ → ℕ → State → Open → State → Type 0 where
+  a_group : {n d : ℕ} {h : Head} {s t : State} {u : Text} → skipped n s ≡ rest u → ahead n d (at s u) ≡ seen.opens h t →
+      Opens n d s (group h (place_of n u) s.flags) t
+  a_condition : {n d : ℕ} {s t : State} {u : Text} → skipped n s ≡ rest u → ahead n d (at s u) ≡ seen.condition t →
+      Opens n d s condition t
+  a_body : {n d : ℕ} {c : Tree} {s t : State} {u : Text} → skipped n s ≡ rest u → ahead n d (at s u) ≡ seen.body c t →
+      Opens n d s (body c (bytes t.rest)) t
+  behind_condition : {n d : ℕ} {c : Tree} {s t v : State} → Opens n d s condition t → Inside n d t (done c v) →
+      Opens n d s (body c (bytes v.rest)) v
+  a_branch : {n d : ℕ} {s t : State} {u : Text} → skipped n s ≡ rest u → ahead n d (at s u) ≡ seen.absent_branch t →
+      Opens n d s first t
+  behind_branch : {n d : ℕ} {a : Tree} {s t v : State} {u : Text} → Opens n d s first t → Branch n (d + 1) t (done a v) →
+      strip bar v.rest ≡ Some u → Opens n d s (second a) (at v u)
+
+-- the body of a conditional is wanting: it takes no byte, and the condition cannot do without
+abbrev pub lacks_body : Open → State → Bool
+lacks_body (body c left) s = bytes s.rest == left && not (is_condition c)
+lacks_body _ s = false
+
+-- the tree of what was open, around the tree read inside
+abbrev pub node_of_part : Open → Tree → Tree
+node_of_part top r = r
+node_of_part (group h p f) r = node_of h p r
+node_of_part condition r = r
+node_of_part (body c left) r = conditional_of c (branches_of r).0 (branches_of r).1
+node_of_part first r = alone r
+node_of_part (second a) r = absent (expression a r)
+
+-- the flags behind what was open
+abbrev pub flags_behind_part : Open → Flags → Flags
+flags_behind_part (group h p f) g = flags_behind h f g
+flags_behind_part _ g = g
+
+-- whether the atom goes on behind what is open: the body follows a condition
+abbrev pub goes_on : Open → Bool
+goes_on condition = true
+goes_on _ = false
+
+-- what is left and holds behind the closing parenthesis of what is open
+abbrev pub behind_part : Open → Tree → State → Outcome Tree
+behind_part p r s = done r (record s { flags = flags_behind_part p s.flags })
+
+-- what comes out where what is open ends with the tree r at s
+abbrev pub ended_part : ℕ → Open → Tree → State → Outcome Tree
+ended_part n p r s =
+    if lacks_body p s then fault (general_parse_error no_body) (place_of n s.rest)
+    else and_then (closed n (node_of_part p r) s) (behind_part p)
 
 -- a group is opened only where one may open inside d groups
 abbrev pub OpensBelow : Step → ℕ → Type 0
 OpensBelow (step.Piece piece) d = ⊤
 OpensBelow (step.Open opener) d = d + 1 < max_depth
 
--- a step from s reads a piece, or opens a group, and ends at t
+-- a step from s reads a piece, or opens a part of one, and ends at t
 abbrev pub Steps : ℕ → ℕ → State → Step → State → Type 0
 Steps n d s (step.Piece piece) t = Piece n d s (done (view piece) t)
-Steps n d s (step.Open opener) t = Opens n d s opener t
+Steps n d s (step.Open opener) t = Opens n d s (open_of opener) t
 
--- a step from s, or the fault of a piece there
-abbrev pub StepsOn : Result (Step × declared.State) Error → ℕ → ℕ → State → Type 0
-StepsOn r n d s = MatchResult r (λ p. Steps n d s p.0 (state p.1)) (λ e. Fails e (Piece n d s))
+-- a step from s to t, or the fault of a piece there
+abbrev pub StepsOn : Result Step Error → ℕ → ℕ → State → State → Type 0
+StepsOn r n d s t = MatchResult r (λ p. Steps n d s p t) (λ e. Fails e (Piece n d s))
 
 -- the step reads a piece, to this outcome
 abbrev pub IsPiece : Step → State → Outcome Tree → Type 0
 IsPiece (step.Piece piece) t o = o ≡ done (view piece) t
 IsPiece (step.Open opener) t o = ⊥
 
--- a step that reads a piece, or a fault, is the outcome
-abbrev pub GivesPiece : Result (Step × declared.State) Error → Outcome Tree → Type 0
-GivesPiece r o = MatchResult r (λ p. IsPiece p.0 (state p.1) o) (λ e. Fails e (λ q. o ≡ q))
+-- a step that reads a piece, up to t, or a fault, is the outcome
+abbrev pub GivesPiece : Result Step Error → Outcome Tree → State → Type 0
+GivesPiece r o t = MatchResult r (λ p. IsPiece p t o) (λ e. Fails e (λ q. o ≡ q))
 
 -- the trees so far, before those that follow
 abbrev pub before : List Tree → Outcome (List Tree) → Outcome (List Tree)
-before l (done m s) = done (l ++ m) s
-before l (fault k p) = fault k p
+before l = seen_through (λ m. l ++ m)
 
--- what is read of an alternation that begins at s: branches, and the pieces of the branch that is open at t
-pub record Reading (n d : ℕ) (s : State) (branches pieces : List Tree) (t : State) : Type 0 where
+-- what is read of a part that begins at s: branches, and the pieces of the branch that is open at t
+pub record Reading (n d : ℕ) (p : Open) (s : State) (branches pieces : List Tree) (t : State) : Type 0 where
   pub begin : State
   pub read : List Tree
   pub same : solid read ≡ pieces
   pub branch : (o : Outcome (List Tree)) → Pieces n d t o → Pieces n d begin (before read o)
   pub all : (o : Outcome (List Tree)) → Branches n d begin o → Branches n d s (before branches o)
+  pub one : holds_one p ≡ true → (begin ≡ s) × (branches ≡ [])
 
--- the open groups of a text that begins at `first`; the alternation of the innermost begins at s, at depth d
-pub data Levels (n : ℕ) (first : State) : List Frame → Opener → ℕ → State → Type 0 where
-  top : Levels n first [] Top 0 first
-  inner : {d : ℕ} {s t v : State} {o : Opener} {all frames : List Frame} (f : Frame) → all ≡ frames ++ f ∷ [] →
-      Levels n first frames f.opener d s → Reading n d s (trees f.branches) (trees f.pieces) t → ends t.rest ≡ false → Opens n d t o v →
-      Levels n first all o (d + 1) v
+-- the open groups of a text that begins at `start`; what is read of the innermost begins at s, at depth d
+pub data Levels (n : ℕ) (start : State) : List Frame → Open → ℕ → State → Type 0 where
+  outermost : Levels n start [] top 0 start
+  inner : {d : ℕ} {s t v : State} {p : Open} {all frames : List Frame} (f : Frame) → all ≡ frames ++ f ∷ [] →
+      Levels n start frames (open_of f.opener) d s → Reading n d (open_of f.opener) s (trees f.branches) (trees f.pieces) t →
+      f.left ≡ bytes t.rest → ends t.rest ≡ false → Opens n d t p v → Levels n start all p (d + 1) v

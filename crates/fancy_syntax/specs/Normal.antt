@@ -1,13 +1,13 @@
 -- The normal form of a tree: what its printed text is read as.
 use Rattle.std.specs.Prelude.{ℕ, Bool, false, not, ◌&&◌, List, [], ◌∷◌, ◌++◌, map, is_none}
 use Rattle.fancy_lex.specs.declared.escape.Assertion.TheVariants.{StartLine, StartLineOniguruma}
-use Rattle.fancy_parts.specs.Quote.{behind}
+use Rattle.fancy_parts.specs.Quote.{behind_backslash}
 use Rattle.fancy_syntax.specs.Join.{solid, join, choice}
 use Rattle.fancy_syntax.specs.Tree.{Tree, Trees, no_trees, more_trees, empty, any, assertion, literal, concat, alt, group, repeat, define_group}
 
 -- one character, which keeps its case flag only where it is printed without a backslash
 abbrev pub character : Bool → ℕ → Tree
-character casei c = literal (c ∷ []) (casei && is_none (behind c))
+character casei c = literal (c ∷ []) (casei && is_none (behind_backslash c))
 
 -- what a tree of this normal form is among the parts of a sequence
 abbrev pub items_of : Tree → Tree → List Tree

@@ -1,11 +1,12 @@
 -- How the answers of the parser's readers stand to the grammar's.
-use Rattle.std.specs.Prelude.{◌≡◌, ℕ, ◌+◌, ◌<◌, List, Option, Some, None, chars, length, Result, MatchResult, ⊤}
+use Rattle.std.specs.Prelude.{◌≡◌, ℕ, ◌+◌, ◌<◌, List, Option, Some, None, option_map, chars, length, Result, MatchResult, ⊤}
 use Rattle.std.specs.Borrow.{Bor}
 use Rattle.fancy_lex.specs.declared.error.Error.{Error}
-use Rattle.fancy_syntax.specs.Ahead.{Ahead, nothing, leaf, group, scope, max_depth}
+use Rattle.fancy_syntax.specs.Ahead.{Ahead, nothing, leaf, opens, condition, body, absent_branch, max_depth}
 use Rattle.fancy_lex.specs.Layout.{Skipped, rest, fault as open_comment}
 use Rattle.fancy_lex.specs.declared.error.Error.TheVariants.{ParseError}
 use Rattle.fancy_lex.specs.declared.error.ParseError.TheVariants.{UnclosedOpenParen}
+use Rattle.fancy_syntax.specs.Head as head
 use Rattle.fancy_syntax.specs.Reads.{Fails}
 use Rattle.fancy_syntax.specs.State as spec
 use Rattle.fancy_syntax.specs.State.{Outcome, done}
@@ -13,37 +14,73 @@ use Rattle.fancy_syntax.specs.Tree.{Tree}
 use Rattle.fancy_syntax.specs.View.{view}
 use Rattle.fancy_syntax.specs.declared.expr.Expr.{Expr}
 use Rattle.fancy_syntax.specs.declared.grammar.ahead.Ahead as declared
-use Rattle.fancy_syntax.specs.declared.grammar.ahead.Ahead.TheVariants.{Nothing, Leaf, Group, Scope}
+use Rattle.fancy_syntax.specs.declared.grammar.ahead.Ahead.TheVariants.{Nothing, Leaf, Group, Condition, Body, AbsentBranch}
+use Rattle.fancy_syntax.specs.declared.grammar.head.Head.{Head}
+use Rattle.fancy_syntax.specs.declared.grammar.head.Head.TheVariants as code
 use Rattle.fancy_syntax.specs.declared.grammar.state.State.{State}
 
 -- the state, with its text as a list of characters
 abbrev pub state : State → spec.State
 state s = record { flags = s.flags; rest = chars s.rest.now }
 
+-- the head, with its name as a list of characters
+abbrev pub head_of : Head → head.Head
+head_of (code.Capture name) = head.capture (option_map (λ t. chars t.now) name)
+head_of code.Scope = head.scope
+head_of (code.Look look) = head.look look
+head_of code.Atomic = head.atomic
+head_of code.Define = head.define
+head_of code.Repeater = head.repeater
+
 -- a tree and the state behind it, or the fault, is an outcome
 abbrev pub Reads : Result (Expr × State) Error → (Outcome Tree → Type 0) → Type 0
 Reads r P = MatchResult r (λ found. P (done (view found.0) (state found.1))) (λ e. Fails e P)
 
--- a tree and the state behind it, or the fault, is the outcome
-abbrev pub Gives : Result (Expr × State) Error → Outcome Tree → Type 0
-Gives r o = Reads r (λ q. o ≡ q)
+-- the tree and the state come to these, or a fault is found: the outcome
+abbrev pub Turns : Result (Unit {0}) Error → Tree → spec.State → Outcome Tree → Type 0
+Turns r t s o = MatchResult r (λ _. o ≡ done t s) (λ e. Fails e (λ q. o ≡ q))
 
-abbrev pub view_ahead : declared.Ahead → Ahead
-view_ahead Nothing = nothing
-view_ahead (Leaf atom behind) = leaf (done (view atom) (state behind))
-view_ahead (Group inside) = group (chars inside.now)
-view_ahead (Scope inside) = scope inside.flags (chars inside.rest.now)
+-- a value is read, up to the state, or a fault is found: the outcome
+abbrev pub Gives : {A : Type 0} → Result A Error → spec.State → Outcome A → Type 0
+Gives r s o = MatchResult r (λ a. o ≡ done a s) (λ e. Fails e (λ q. o ≡ q))
+
+-- the tree of an expression is read, up to the state, or a fault is found: the outcome
+abbrev pub GivesTree : Result Expr Error → spec.State → Outcome Tree → Type 0
+GivesTree r s o = MatchResult r (λ e. o ≡ done (view e) s) (λ e. Fails e (λ q. o ≡ q))
+
+-- what stands ahead, where the parser comes to the state
+abbrev pub view_ahead : declared.Ahead → spec.State → Ahead
+view_ahead Nothing s = nothing
+view_ahead (Leaf atom) s = leaf (done (view atom) s)
+view_ahead (Group h) s = opens (head_of h) s
+view_ahead Condition s = condition s
+view_ahead (Body c) s = body (view c.value) s
+view_ahead AbsentBranch s = absent_branch s
 
 -- what the parser sees ahead is what stands there
-abbrev pub Sees : Result declared.Ahead Error → Ahead → Type 0
-Sees r k = MatchResult r (λ a. k ≡ view_ahead a) (λ e. Fails e (λ o. k ≡ leaf o))
+abbrev pub Sees : Result declared.Ahead Error → spec.State → Ahead → Type 0
+Sees r s k = MatchResult r (λ a. k ≡ view_ahead a s) (λ e. Fails e (λ o. k ≡ leaf o))
 
--- the bytes behind what is seen, where it takes any
-abbrev pub behind : declared.Ahead → Option (List ℕ)
-behind Nothing = None
-behind (Leaf atom next) = Some next.rest.now
-behind (Group inside) = Some inside.now
-behind (Scope inside) = Some inside.rest.now
+-- where nothing is seen, the state is the same
+abbrev pub StaysAtNothing : declared.Ahead → State → State → Type 0
+StaysAtNothing Nothing s t = t ≡ s
+StaysAtNothing _ s t = ⊤
+
+-- where something is seen, bytes are taken
+abbrev pub TakesBytes : declared.Ahead → List ℕ → List ℕ → Type 0
+TakesBytes Nothing t u = ⊤
+TakesBytes _ t u = length u < length t
+
+-- something is seen
+abbrev pub IsSomething : declared.Ahead → Type 0
+IsSomething Nothing = ⊥
+IsSomething _ = ⊤
+
+-- a group is seen only where one may open inside d groups
+abbrev pub IsBelow : declared.Ahead → ℕ → Type 0
+IsBelow Nothing d = ⊤
+IsBelow (Leaf atom) d = ⊤
+IsBelow _ d = d + 1 < max_depth
 
 -- the text behind the layout, or the fault of an open comment in it
 abbrev pub Skips : Result (Bor (List ℕ)) Error → Skipped → Type 0
@@ -52,10 +89,3 @@ Skips r s = MatchResult r (λ t. s ≡ rest (chars t.now)) (λ e. (p : ℕ) × (
 -- where no byte was taken, the text is the same
 abbrev pub IsUnmoved : List ℕ → List ℕ → Type 0
 IsUnmoved t u = length u ≡ length t → chars u ≡ chars t
-
--- a group is seen only where one may open inside d groups
-abbrev pub IsBelow : declared.Ahead → ℕ → Type 0
-IsBelow Nothing d = ⊤
-IsBelow (Leaf atom next) d = ⊤
-IsBelow (Group inside) d = d + 1 < max_depth
-IsBelow (Scope inside) d = d + 1 < max_depth

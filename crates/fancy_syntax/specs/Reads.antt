@@ -5,9 +5,8 @@ use Rattle.fancy_lex.specs.Text.{Text}
 use Rattle.fancy_lex.specs.declared.error.Error.{Error}
 use Rattle.fancy_lex.specs.declared.error.Error.TheVariants.{ParseError, OutOfMemory}
 use Rattle.fancy_lex.specs.declared.flags.Flags.{Flags}
-use Rattle.fancy_syntax.specs.Grammar.{Derives, Faults, Whole}
+use Rattle.fancy_syntax.specs.Grammar.{Derives, Whole}
 use Rattle.fancy_syntax.specs.State.{Outcome, fault}
-use Rattle.fancy_syntax.specs.Tree.{Tree}
 use Rattle.fancy_syntax.specs.View.{view}
 use Rattle.fancy_syntax.specs.declared.expr.Expr.{Expr}
 
@@ -24,11 +23,3 @@ Fails OutOfMemory P = Unit {0}
 -- the raw tree of a whole text, or its fault
 abbrev pub ReadsWhole : Result Expr Error → Flags → Text → Type 0
 ReadsWhole r f text = MatchResult r (λ e. Derives f text (view e)) (λ e. Fails e (Whole f text))
-
--- memory ran out, or the text has this fault and no other, and no tree
-abbrev pub IsOnlyFault : Error → Flags → Text → Type 0
-IsOnlyFault (ParseError p k) f text =
-    Faults f text (kind_of k) p
-    × ((j : Kind) (q : ℕ) → Faults f text j q → (j ≡ kind_of k) × (q ≡ p))
-    × ((r : Tree) → Derives f text r → ⊥)
-IsOnlyFault OutOfMemory f text = Unit {0}

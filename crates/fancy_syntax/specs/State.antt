@@ -17,3 +17,12 @@ at s t = record s { rest = t }
 pub data Outcome (A : Type 0) : Type 0 where
   done : A → State → Outcome A
   fault : Kind → ℕ → Outcome A
+
+-- one part behind another: a fault of the first is that of both
+abbrev pub and_then : {A B : Type 0} → Outcome A → (A → State → Outcome B) → Outcome B
+and_then (done a s) f = f a s
+and_then (fault k p) f = fault k p
+
+-- what is read, seen through f
+abbrev pub seen_through : {A B : Type 0} → (A → B) → Outcome A → Outcome B
+seen_through f o = and_then o (λ a s. done (f a) s)

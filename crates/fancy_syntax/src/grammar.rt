@@ -5,22 +5,27 @@ ghost use Rattle.fancy_syntax.specs.Parsed.{state, Reads};
 ghost use Rattle.fancy_syntax.specs.Reads.{ReadsWhole};
 
 mod ahead;
+mod conditional;
 mod fault;
 mod frame;
+mod head;
+mod look;
+mod plain;
 mod quantified;
 mod row;
 mod state;
 mod step;
 
 use crate::expr::Expr;
-use crate::grammar::ahead::{MAX_DEPTH, is_end};
+use crate::grammar::ahead::{MAX_DEPTH, is_end, literal};
 use crate::grammar::fault::{general, not_read_yet};
 use crate::grammar::frame::{Frame, Opener};
+use crate::grammar::plain::plain;
 use crate::grammar::state::State;
 use crate::grammar::step::{Step, close, read_step};
 use fancy_lex::error::Error;
 use fancy_lex::flags::Flags;
-use fancy_lex::text::{after, next, place};
+use fancy_lex::text::{after, bytes_left, next, place};
 use std::alloc::Global;
 
 /// Reads a whole text: its raw tree, in which a capturing group is an AstNode with the place of its parenthesis.
@@ -43,7 +48,7 @@ pub(crate) fn parse(alloc: Global, text: &str, flags: Flags) -> Result<Expr, Err
 fn is_unread_mode(flags: Flags) -> bool
     ensures { result ≡ spec.is_unread_mode flags }
 {
-    flags.oniguruma_mode || flags.ignore_numbered_groups
+    flags.oniguruma_mode
 }
 
 /// Reads branches with bars between, up to where the outermost ends.
@@ -57,42 +62,52 @@ fn alternation<'a>(alloc: Global, start: State<'a>, end: usize) -> Result<(Expr,
     let mut frame = Frame::new(Opener::Top);
     let mut here = start;
     loop {
-        if !is_end(here.rest) {
-            let (read, behind) = read_step(alloc, here, stack.len(), end)?;
-            match read {
-                Step::Piece(piece) => {
-                    frame.add(alloc, piece)?;
-                    here = behind;
-                }
+        if let Some((c, rest)) = plain(here) {
+            let leaf = literal(alloc, c, here.flags.casei)?;
+            frame.add(alloc, leaf)?;
+            here.rest = rest;
+        } else if !is_end(here.rest) {
+            frame.left = bytes_left(here.rest);
+            match read_step(alloc, &mut here, stack.len(), end)? {
+                Step::Piece(piece) => frame.add(alloc, piece)?,
                 Step::Open(opener) => {
                     push_frame(&mut stack, frame);
                     frame = Frame::new(opener);
-                    here = behind;
                 }
             }
         } else if let Some(rest) = after(here.rest, '|') {
-            frame.end_branch(alloc)?;
-            here = State { rest, ..here };
+            frame.bar(alloc, place(here.rest, end))?;
+            here.rest = rest;
         } else {
             let (opener, inner) = frame.finish(alloc)?;
             let Some(outer) = stack.pop() else {
                 return Ok((inner, here));
             };
-            let (piece, behind) = close(alloc, opener, inner, here, end)?;
             frame = outer;
-            frame.add(alloc, piece)?;
-            here = behind;
+            match close(
+                alloc,
+                opener,
+                inner,
+                &mut here,
+                frame.left,
+                stack.len(),
+                end,
+            )? {
+                Step::Piece(piece) => frame.add(alloc, piece)?,
+                Step::Open(opener) => {
+                    push_frame(&mut stack, frame);
+                    frame = Frame::new(opener);
+                }
+            }
         }
     }
 }
 
 /// Puts a frame on the stack, in the room that was reserved for it.
-fn push_frame(stack: &mut Vec<Frame>, frame: Frame)
+fn push_frame<'a>(stack: &mut Vec<Frame<'a>>, frame: Frame<'a>)
     requires { vec_len stack.old < vec_capacity stack.old }
-    ensures items { stack.new.items ≡ stack.old.items ++ frame ∷ [] }
+    ensures items { stack.new.items ≡ stack.old.items ++ frame.entry ∷ [] }
     ensures capacity { vec_capacity stack.old ≤ vec_capacity stack.new }
 {
-    let Ok(()) = stack.push(frame) else {
-        unreachable!()
-    };
+    stack.push_reserved(frame);
 }

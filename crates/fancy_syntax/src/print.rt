@@ -27,19 +27,17 @@ impl Expr {
 
     /// Appends the tree's text to `buf`; the caller owes a tree that has one, as every printable tree has. Above
     /// precedence 0 an `Alt`, above 1 a `Concat` and above 2 a `Repeat` stands in a group of its own. The buffer grows
-    /// once, by the text's length in bytes; where that is refused, the answer is `AllocError` and `buf` holds what it held.
+    /// once, by the text's length in bytes; where that is refused, the answer is `AllocError` and `buf` holds what it
+    /// held.
     pub fn to_str(&self, buf: &mut String, precedence: u8) -> Result<(), AllocError>
         requires text { has_text (view self.now) ≡ true }
-        ensures appended { OnOk result (string_bytes buf.new ≡ string_bytes buf.old ++ encode_utf8_all (printed (view self.now) precedence)) }
+        ensures appended { OnOk result (string_bytes buf.new ≡
+            string_bytes buf.old ++ encode_utf8_all (printed (view self.now) precedence)) }
         ensures unchanged { OnErr result (string_bytes buf.new ≡ string_bytes buf.old) }
         ensures nothing_to_print { printed (view self.now) precedence ≡ [] → IsOk result }
     {
-        let Some(more) = tree_len(self, precedence) else {
-            // No memory has room for so long a text, whatever this request is answered.
-            let _refused = buf.reserve(usize::MAX);
-            return Err(AllocError);
-        };
-        buf.reserve(more)?;
+        // No string has room for the greatest word, for which a longer text is counted.
+        buf.reserve(tree_len(self, precedence))?;
         put_tree(buf, self, precedence);
         Ok(())
     }

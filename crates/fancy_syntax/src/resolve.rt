@@ -1,113 +1,104 @@
-//! From a raw tree to the one that is answered: each capturing group becomes a `Group`.
-ghost use Rattle.std.specs.Prelude.{◌≡◌, ◌+◌, ◌≤◌, length};
-ghost use Rattle.fancy_syntax.specs.Openings.{openings, openings_all, openings_absent, openings_ast};
-ghost use Rattle.fancy_syntax.specs.Resolved.{resolved, resolved_all, resolved_absent};
-ghost use Rattle.fancy_syntax.specs.Tree.{trees_of, ast_node};
-ghost use Rattle.fancy_syntax.specs.View.{view, view_absent, view_ast, views};
+//! From a raw tree to the one that is answered: groups get their numbers, and references what they mean.
+ghost use Rattle.std.specs.Prelude.{◌≡◌, ◌<◌, ◌^◌, ◌&&◌, chars, length, IfOk, IfErr, None};
+ghost use Rattle.std.specs.List.{list_any};
+ghost use Rattle.fancy_parts.specs.Groups.{groups_of};
+ghost use Rattle.fancy_parts.specs.Ranks.{counted_in, is_named, named_groups};
+ghost use Rattle.fancy_syntax.specs.Items.{items, openings};
+ghost use Rattle.fancy_syntax.specs.Marks as spec;
+ghost use Rattle.fancy_syntax.specs.Notes.{IsThatFault, view_marks};
+ghost use Rattle.fancy_syntax.specs.Ordered.{Ascends};
+ghost use Rattle.fancy_syntax.specs.Resolved.{resolved, fault_of};
+ghost use Rattle.fancy_syntax.specs.View.{view};
 
-use crate::expr::{Absent, AstNode, Expr};
-use std::mem;
+mod notes;
+mod rewrite;
+mod survey;
 
-/// Resolves the tree in its own memory, and counts its capturing groups.
-#[cycle(resolve)]
-pub(crate) fn resolve(tree: Expr, groups: &mut usize) -> Expr
-    requires { groups.old + length (openings (view tree)) ≤ usize.MAX }
-    ensures tree { view result ≡ resolved (view tree) }
-    ensures groups { groups.new ≡ groups.old + length (openings (view tree)) }
+use crate::expr::Expr;
+use crate::resolve::notes::{Known, Progress};
+use crate::resolve::rewrite::rewrite;
+use crate::resolve::survey::survey;
+use fancy_lex::error::{Error, Result};
+use fancy_lex::flags::Flags;
+use fancy_parts::ranks::Groups;
+use std::alloc::{AllocError, Global};
+use std::collections::{BTreeMap, BTreeSet};
+
+/// What is said of a tree beside it; `ExprTree` says what each field is.
+#[derive(Debug, Drop)]
+pub(crate) struct Marks {
+    pub backrefs: BTreeSet<usize>,
+    pub named_groups: BTreeMap<String, Vec<usize>>,
+    pub numeric_capture_group_references: bool,
+    pub contains_subroutines: bool,
+    pub self_recursive: bool,
+    pub total_groups: usize,
+    pub out_of_range_backref: Option<usize>,
+    pub numbered_groups_ignored: bool,
+}
+
+/// Resolves the raw tree of the pattern in its place, and answers its marks, or the first fault of its references.
+pub(crate) fn resolve(alloc: Global, tree: &mut Expr, pattern: &str, flags: Flags) -> Result<Marks>
+    requires { Ascends 0 (length pattern.now) (items (view tree.old)) }
+    ensures tree { IfOk result (λ _. view tree.new ≡ resolved flags (view tree.old)) }
+    ensures marks { IfOk result (λ m. view_marks m ≡ spec.marks flags (chars pattern.now) (view tree.old)) }
+    ensures no_fault { IfOk result (λ _. fault_of flags (view tree.old) ≡ None) }
+    ensures fault { IfErr result (λ e. IsThatFault e (fault_of flags (view tree.old))) }
 {
-    match tree {
-        Expr::Concat(parts) => Expr::Concat(resolve_all(parts, groups)),
-        Expr::Alt(branches) => Expr::Alt(resolve_all(branches, groups)),
-        Expr::Group(child) => Expr::Group(resolve_child(child, groups)),
-        Expr::LookAround(child, look) => Expr::LookAround(resolve_child(child, groups), look),
-        Expr::Repeat {
-            child,
-            lo,
-            hi,
-            greedy,
-        } => Expr::Repeat {
-            child: resolve_child(child, groups),
-            lo,
-            hi,
-            greedy,
-        },
-        Expr::AtomicGroup(child) => Expr::AtomicGroup(resolve_child(child, groups)),
-        Expr::Conditional {
-            condition,
-            true_branch,
-            false_branch,
-        } => Expr::Conditional {
-            condition: resolve_child(condition, groups),
-            true_branch: resolve_child(true_branch, groups),
-            false_branch: resolve_child(false_branch, groups),
-        },
-        Expr::Absent(absent) => Expr::Absent(resolve_absent(absent, groups)),
-        Expr::DefineGroup { definitions } => Expr::DefineGroup {
-            definitions: resolve_child(definitions, groups),
-        },
-        Expr::AstNode(node, place) => resolve_node(node, place, groups),
-        leaf => leaf,
+    let (named, groups) = find_groups(alloc, tree, flags.ignore_numbered_groups)?;
+    let known = Known {
+        pattern,
+        named,
+        groups,
+    };
+    let mut progress = Progress::new(alloc);
+    rewrite(tree, &known, &mut progress)?;
+    let Progress {
+        backrefs,
+        out_of_range,
+        numeric,
+        calls,
+        self_recursive,
+        fault,
+        ..
+    } = progress;
+    let Known { named, groups, .. } = known;
+    let Groups { total, names } = groups;
+    match fault {
+        Some((place, kind)) => Err(Error::ParseError(place, kind)),
+        None => Ok(Marks {
+            backrefs,
+            named_groups: names,
+            numeric_capture_group_references: numeric,
+            contains_subroutines: calls,
+            self_recursive,
+            total_groups: total,
+            out_of_range_backref: out_of_range,
+            numbered_groups_ignored: named,
+        }),
     }
 }
 
-/// Resolves the node that is read at the place: a capturing group, or a reference.
-#[cycle(resolve)]
-fn resolve_node(node: AstNode, place: usize, groups: &mut usize) -> Expr
-    requires { groups.old + length (openings_ast (view_ast node) place) ≤ usize.MAX }
-    ensures tree { view result ≡ resolved (ast_node (view_ast node) place) }
-    ensures groups { groups.new ≡ groups.old + length (openings_ast (view_ast node) place) }
+/// The groups that have a number, and whether only those with a name have one, which the flag may ask for.
+fn find_groups(
+    alloc: Global,
+    tree: &Expr,
+    ignore: bool,
+) -> std::result::Result<(bool, Groups), AllocError>
+    requires { length (openings (view tree.now)) < 2 ^ 63 }
+    ensures named { IfOk result (λ p. p.0 ≡ (ignore && list_any is_named (openings (view tree.now)))) }
+    ensures total { IfOk result (λ p. p.1.total ≡ length (counted_in p.0 (openings (view tree.now)))) }
+    ensures names { IfOk result
+        (λ p. (groups_of p.1).names ≡ named_groups (counted_in p.0 (openings (view tree.now)))) }
 {
-    match node {
-        AstNode::AstGroup { inner, .. } => {
-            *groups += 1;
-            Expr::Group(resolve_child(inner, groups))
+    let mut groups = Groups::new(alloc);
+    survey(alloc, tree, ignore, &mut groups)?;
+    if ignore {
+        if groups.total == 0 {
+            let mut unnamed = Groups::new(alloc);
+            survey(alloc, tree, false, &mut unnamed)?;
+            return Ok((false, unnamed));
         }
-        reference => Expr::AstNode(reference, place),
     }
-}
-
-/// Resolves the trees in the node.
-#[cycle(resolve)]
-fn resolve_absent(absent: Absent, groups: &mut usize) -> Absent
-    requires { groups.old + length (openings_absent (view_absent absent)) ≤ usize.MAX }
-    ensures absent { view_absent result ≡ resolved_absent (view_absent absent) }
-    ensures groups { groups.new ≡ groups.old + length (openings_absent (view_absent absent)) }
-{
-    match absent {
-        Absent::Repeater(child) => Absent::Repeater(resolve_child(child, groups)),
-        Absent::Expression { absent, exp } => Absent::Expression {
-            absent: resolve_child(absent, groups),
-            exp: resolve_child(exp, groups),
-        },
-        Absent::Stopper(child) => Absent::Stopper(resolve_child(child, groups)),
-        Absent::Clear => Absent::Clear,
-    }
-}
-
-/// Resolves the tree in its box.
-#[cycle(resolve)]
-fn resolve_child(child: Box<Expr>, groups: &mut usize) -> Box<Expr>
-    requires { groups.old + length (openings (view child.value)) ≤ usize.MAX }
-    ensures child { view result.value ≡ resolved (view child.value) }
-    ensures groups { groups.new ≡ groups.old + length (openings (view child.value)) }
-{
-    let mut child = child;
-    let tree = mem::replace(&mut *child, Expr::Empty);
-    *child = resolve(tree, groups);
-    child
-}
-
-/// Resolves the trees in their places, from the first on.
-#[cycle(resolve)]
-fn resolve_all(trees: Vec<Expr>, groups: &mut usize) -> Vec<Expr>
-    requires { groups.old + length (openings_all (trees_of (views trees.items))) ≤ usize.MAX }
-    ensures trees { trees_of (views result.items) ≡ resolved_all (trees_of (views trees.items)) }
-    ensures groups { groups.new ≡ groups.old + length (openings_all (trees_of (views trees.items))) }
-{
-    let mut trees = trees;
-    for i in 0..trees.len() {
-        let tree = mem::replace(&mut trees[i], Expr::Empty);
-        trees[i] = resolve(tree, groups);
-    }
-    trees
+    Ok((ignore, groups))
 }

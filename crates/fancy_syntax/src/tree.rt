@@ -1,14 +1,13 @@
 //! Patterns read whole.
 ghost use Rattle.std.specs.Prelude.{◌≡◌, chars, length, IfOk, IfErr};
 ghost use Rattle.fancy_lex.specs.Flags.{flags_of};
-ghost use Rattle.fancy_syntax.specs.Answer.{marks_of, IsTreeOf, IsWithin};
-ghost use Rattle.fancy_syntax.specs.Grammar.{Faults};
-ghost use Rattle.fancy_syntax.specs.Reads.{IsOnlyFault};
+ghost use Rattle.fancy_syntax.specs.Answer.{marks_of, IsTreeOf, IsFaultOf, IsOnlyFault, IsWithin};
+ghost use Rattle.fancy_syntax.specs.Notes.{view_marks};
 ghost use Rattle.fancy_syntax.specs.View.{view};
 
 use crate::expr::Expr;
 use crate::grammar::parse;
-use crate::resolve::resolve;
+use crate::resolve::{Marks, resolve};
 use fancy_lex::error::Result;
 use fancy_lex::flags::{FLAG_UNICODE, Flags};
 use std::alloc::{AllocError, Global};
@@ -19,11 +18,11 @@ use std::collections::{BTreeMap, BTreeSet};
 pub struct ExprTree {
     /// The tree, in which each capturing group is a `Group`: the k-th in text order has the number k.
     pub expr: Expr,
-    /// The numbers of the groups that back references mean.
+    /// The numbers of back references, up to `total_groups`; 0 too.
     pub backrefs: BTreeSet<usize>,
     /// For each name the numbers of its groups, ascending.
     pub named_groups: BTreeMap<String, Vec<usize>>,
-    /// Some reference or call was written as a plain number.
+    /// Some back reference was written as a backslash and digits, or some call by a number.
     pub numeric_capture_group_references: bool,
     /// Some group is called.
     pub contains_subroutines: bool,
@@ -33,11 +32,38 @@ pub struct ExprTree {
     pub total_groups: usize,
     /// The number of the first back reference to a group that is not there.
     pub out_of_range_backref: Option<usize>,
-    /// The groups without a name have no number.
+    /// The groups without a name have no number: the flag says so, and some group has a name.
     pub numbered_groups_ignored: bool,
 }
 
 impl ExprTree {
+    fn new(expr: Expr, marks: Marks) -> ExprTree
+        ensures expr { result.expr ≡ expr }
+        ensures marks { marks_of result ≡ view_marks marks }
+    {
+        let Marks {
+            backrefs,
+            named_groups,
+            numeric_capture_group_references,
+            contains_subroutines,
+            self_recursive,
+            total_groups,
+            out_of_range_backref,
+            numbered_groups_ignored,
+        } = marks;
+        ExprTree {
+            expr,
+            backrefs,
+            named_groups,
+            numeric_capture_group_references,
+            contains_subroutines,
+            self_recursive,
+            total_groups,
+            out_of_range_backref,
+            numbered_groups_ignored,
+        }
+    }
+
     /// An equal tree with equal marks, in memory of its own.
     pub fn clone(&self, alloc: Global) -> std::result::Result<Self, AllocError>
         ensures tree { IfOk result (λ t. view t.expr ≡ view self.now.expr) }
@@ -62,32 +88,24 @@ impl Expr {
     /// place in bytes that is at most one past the end, or `OutOfMemory` where memory was refused.
     pub fn parse_tree_with_flags(alloc: Global, re: &str, flags: u32) -> Result<ExprTree>
         ensures found { IfOk result (λ t. IsTreeOf (flags_of flags) (chars re.now) (view t.expr) (marks_of t)) }
-        ensures only { IfOk result (λ t. (e : _) (m : _) → IsTreeOf (flags_of flags) (chars re.now) e m → (e ≡ view t.expr) × (m ≡ marks_of t)) }
-        ensures exact { IfOk result (λ t. (k : _) (p : _) → Faults (flags_of flags) (chars re.now) k p → ⊥) }
+        ensures only { IfOk result (λ t. (e : _) (m : _) → IsTreeOf (flags_of flags) (chars re.now) e m → (e ≡
+            view t.expr) × (m ≡ marks_of t)) }
+        ensures exact { IfOk result (λ t. (k : _) (p : _) → IsFaultOf (flags_of flags) (chars re.now) k p → ⊥) }
         ensures fault { IfErr result (λ e. IsOnlyFault e (flags_of flags) (chars re.now)) }
         ensures place { IfErr result (λ e. IsWithin e (length re.now)) }
     {
-        let raw = parse(alloc, re, Flags::from_bits(flags))?;
-        let mut groups = 0;
-        let expr = resolve(raw, &mut groups);
-        Ok(ExprTree {
-            expr,
-            backrefs: BTreeSet::new(alloc),
-            named_groups: BTreeMap::new(alloc),
-            numeric_capture_group_references: false,
-            contains_subroutines: false,
-            self_recursive: false,
-            total_groups: groups,
-            out_of_range_backref: None,
-            numbered_groups_ignored: false,
-        })
+        let flags = Flags::from_bits(flags);
+        let mut expr = parse(alloc, re, flags)?;
+        let marks = resolve(alloc, &mut expr, re, flags)?;
+        Ok(ExprTree::new(expr, marks))
     }
 
     /// Reads the pattern under `FLAG_UNICODE` alone, as `parse_tree_with_flags` does.
     pub fn parse_tree(alloc: Global, re: &str) -> Result<ExprTree>
         ensures found { IfOk result (λ t. IsTreeOf (flags_of FLAG_UNICODE) (chars re.now) (view t.expr) (marks_of t)) }
-        ensures only { IfOk result (λ t. (e : _) (m : _) → IsTreeOf (flags_of FLAG_UNICODE) (chars re.now) e m → (e ≡ view t.expr) × (m ≡ marks_of t)) }
-        ensures exact { IfOk result (λ t. (k : _) (p : _) → Faults (flags_of FLAG_UNICODE) (chars re.now) k p → ⊥) }
+        ensures only { IfOk result (λ t. (e : _) (m : _) → IsTreeOf (flags_of FLAG_UNICODE) (chars re.now) e m →
+            (e ≡ view t.expr) × (m ≡ marks_of t)) }
+        ensures exact { IfOk result (λ t. (k : _) (p : _) → IsFaultOf (flags_of FLAG_UNICODE) (chars re.now) k p → ⊥) }
         ensures fault { IfErr result (λ e. IsOnlyFault e (flags_of FLAG_UNICODE) (chars re.now)) }
         ensures place { IfErr result (λ e. IsWithin e (length re.now)) }
     {

@@ -21,4 +21,6 @@ fn main(rt: HostRuntime) -> ExitCode {
 }
 
 #[cfg(test)]
+mod groups;
+#[cfg(test)]
 mod tests;

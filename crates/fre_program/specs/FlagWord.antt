@@ -1,6 +1,7 @@
 -- The word that names flags: `-` for none, or letters.
 use Rattle.std.specs.Prelude.{◌≡◌, Bool, true, false, ◌||◌, ◌==◌, ◌⊎◌, ℕ, [], ◌∷◌, codes}
 use Rattle.std.specs.List.{list_all}
+use Prim.Native.Char.{code}
 use Rattle.fancy_lex.specs.Text.{Text}
 use Rattle.fancy_lex.specs.declared.flags.Flags.{Flags}
 
@@ -12,15 +13,15 @@ has c (d ∷ t) = d == c || has c t
 -- the flags that the letters of a word name
 abbrev pub named_flags : Text → Flags
 named_flags w = record {
-  casei = has 105 w;  -- i
-  multi = has 109 w;  -- m
-  dotnl = has 115 w;  -- s
-  swap_greed = has 85 w;  -- U
-  ignore_space = has 120 w;  -- x
-  unicode = has 117 w;  -- u
-  crlf = has 82 w;  -- R
-  oniguruma_mode = has 111 w;  -- o
-  ignore_numbered_groups = has 110 w;  -- n
+  casei = has (code "i") w;
+  multi = has (code "m") w;
+  dotnl = has (code "s") w;
+  swap_greed = has (code "U") w;
+  ignore_space = has (code "x") w;
+  unicode = has (code "u") w;
+  crlf = has (code "R") w;
+  oniguruma_mode = has (code "o") w;
+  ignore_numbered_groups = has (code "n") w;
 }
 
 -- whether the character is one of those letters

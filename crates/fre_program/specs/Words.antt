@@ -4,8 +4,7 @@ use Rattle.std.specs.declared.alloc.Global.{Global}
 use Rattle.fancy_lex.specs.Fault.{Kind}
 use Rattle.fancy_lex.specs.Text.{Text, text_of}
 use Rattle.fancy_lex.specs.declared.flags.Flags.{Flags}
-use Rattle.fancy_syntax.specs.Answer.{IsTreeOf}
-use Rattle.fancy_syntax.specs.Grammar.{Faults}
+use Rattle.fancy_syntax.specs.Answer.{IsTreeOf, IsFaultOf}
 use Rattle.fancy_syntax.specs.Marks.{Marks}
 use Rattle.fancy_syntax.specs.Tree.{Tree}
 use Rattle.fre_program.specs.FlagWord.{NamesFlags, named_flags}
@@ -26,4 +25,4 @@ HasTree f pattern = (t : Tree) × (m : Marks) × IsTreeOf f pattern t m
 
 -- the pattern has a fault under the flags
 abbrev pub HasFault : Flags → Text → Type 0
-HasFault f pattern = (k : Kind) × (place : ℕ) × Faults f pattern k place
+HasFault f pattern = (k : Kind) × (place : ℕ) × IsFaultOf f pattern k place

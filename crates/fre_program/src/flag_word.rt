@@ -13,7 +13,8 @@ use fancy_lex::text::next;
 /// The flag that a letter names.
 fn flag_of(letter: char) -> Option<u32>
     ensures none { MatchOption result (is_letter letter ≡ false) (λ _. is_letter letter ≡ true) }
-    ensures flag { MatchOption result (Unit {0}) (λ flag. (bits : ℕ) → flags_of (bit_or bits flag) ≡ either (flags_of bits) (named_flags (letter ∷ []))) }
+    ensures flag { MatchOption result (Unit {0}) (λ flag. (bits : ℕ) → flags_of (bit_or bits flag) ≡
+        either (flags_of bits) (named_flags (letter ∷ []))) }
 {
     match letter {
         'i' => Some(FLAG_CASEI),
@@ -32,7 +33,8 @@ fn flag_of(letter: char) -> Option<u32>
 /// The flags that the letters name, where each names one.
 #[tactic(auto, using(crate::proofs::FlagLemmas::letters_start, crate::proofs::FlagLemmas::letters_next, crate::proofs::FlagLemmas::letters_end, crate::proofs::FlagLemmas::letters_fail))]
 fn letters(word: &str) -> Option<u32>
-    ensures { MatchOption result (list_all is_letter (chars word.now) ≡ false) (λ bits. (list_all is_letter (chars word.now) ≡ true) × (flags_of bits ≡ named_flags (chars word.now))) }
+    ensures { MatchOption result (list_all is_letter (chars word.now) ≡ false)
+        (λ bits. (list_all is_letter (chars word.now) ≡ true) × (flags_of bits ≡ named_flags (chars word.now))) }
 {
     let mut flags = 0;
     let mut rest = word;
@@ -46,7 +48,8 @@ fn letters(word: &str) -> Option<u32>
 /// The flags that a word names, where it names any: `-` none, and letters a flag each.
 #[tactic(auto, using(crate::proofs::FlagLemmas::names_none, crate::proofs::FlagLemmas::names_dash, crate::proofs::FlagLemmas::names_letters, crate::proofs::FlagLemmas::names_other))]
 pub fn flags_named(word: &str) -> Option<u32>
-    ensures { MatchOption result (NamesFlags (chars word.now) → ⊥) (λ bits. NamesFlags (chars word.now) × (flags_of bits ≡ named_flags (chars word.now))) }
+    ensures { MatchOption result (NamesFlags (chars word.now) → ⊥) (λ bits. NamesFlags (chars word.now) ×
+        (flags_of bits ≡ named_flags (chars word.now))) }
 {
     let (first, behind) = next(word)?;
     if first == '-' && next(behind).is_none() {

@@ -21,7 +21,8 @@ enum Verdict {
 
 /// The flags and the pattern that the words name.
 fn named_by(words: &[String]) -> Option<(u32, &str)>
-    ensures { MatchOption result (IsWellFormed words.now → ⊥) (λ p. OfWords (λ f pattern. (f ≡ flags_of p.0) × (pattern ≡ chars p.1.now)) words.now) }
+    ensures { MatchOption result (IsWellFormed words.now → ⊥) (λ p. OfWords (λ f pattern. (f ≡ flags_of p.0) ×
+        (pattern ≡ chars p.1.now)) words.now) }
 {
     let [flags, pattern] = words else {
         return None;

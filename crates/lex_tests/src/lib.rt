@@ -5,3 +5,5 @@
 mod classes;
 #[cfg(test)]
 mod escapes;
+#[cfg(test)]
+mod references;

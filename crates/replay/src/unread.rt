@@ -2,20 +2,28 @@
 
 /// Whether nothing is read under the flags.
 fn is_unread_mode(flags: &str) -> bool {
-    flags.contains('o') || flags.contains('n')
+    flags.contains('o')
 }
 
-/// Whether layout may end right before a text.
-fn is_behind_layout(before: &str) -> bool {
-    before.ends_with([')', ' ', '\n', '\r', '\t'])
+/// Whether a group's head with a name begins behind its question mark.
+fn is_named_head(text: &str) -> bool {
+    match text.strip_prefix('<') {
+        Some(behind) => !behind.starts_with(['=', '!']),
+        None => {
+            text.starts_with('\'')
+                || text.starts_with("P<")
+                || text.starts_with("P=")
+                || text.starts_with("P>")
+        }
+    }
 }
 
-/// Whether a group's head that is not read yet begins behind its question mark.
-fn is_later_head(text: &str) -> bool {
-    text.starts_with(['=', '!', '<', '\'', '~', '>', '('])
-        || text.starts_with("P<")
-        || text.starts_with("P=")
-        || text.starts_with("P>")
+/// Whether the target of a condition begins behind its parenthesis.
+fn is_target(text: &str) -> bool {
+    match text.chars().next() {
+        Some(c) => matches!(c, '\'' | '<' | '+' | '-') || c.is_ascii_digit(),
+        None => false,
+    }
 }
 
 /// Whether an escape behind its backslash is a reference or a call.
@@ -31,11 +39,10 @@ fn is_unread_at(before: &str, text: &str) -> bool {
     if let Some(escape) = text.strip_prefix('\\') {
         return is_reference(escape);
     }
-    match text.chars().next() {
-        Some('*') => before.ends_with('(') || is_behind_layout(before),
-        Some('+') => before.ends_with(['?', '*', '+', '}']) || is_behind_layout(before),
-        _ => before.ends_with('?') && is_later_head(text),
+    if before.ends_with("?(") {
+        return is_target(text);
     }
+    before.ends_with('?') && is_named_head(text)
 }
 
 /// Whether the pattern has at the place what is not read yet under the flags.

@@ -4,6 +4,8 @@
 #[cfg(test)]
 mod calls;
 #[cfg(test)]
+mod parsed;
+#[cfg(test)]
 mod samples;
 #[cfg(test)]
 mod tests;

@@ -1,8 +1,9 @@
 //! Hex codes behind `\x`, `\u` and `\U`.
 ghost use Rattle.std.specs.Prelude.{◌≡◌, ℕ, ◌+◌, ◌*◌, ◌-◌, ◌^◌, ◌<◌, ◌≤◌, length, chars, IfSome, IfOk, option_map, false};
+ghost use Rattle.fancy_lex.specs.Characters.{close_brace};
 ghost use Rattle.fancy_lex.specs.Escaped.{escape_of};
 ghost use Rattle.fancy_lex.specs.Hex as spec;
-ghost use Rattle.fancy_lex.specs.Reading.{reading};
+ghost use Rattle.fancy_lex.specs.Reading.{Reads};
 ghost use Rattle.fancy_lex.specs.Text.{strip, place_of};
 
 use crate::error::{Error, ParseError};
@@ -24,9 +25,9 @@ fn hex_digit(text: &str) -> Option<(u32, &str)>
 }
 
 /// Reads so many digits, if they stand at the front.
-fn fixed(text: &str, width: u32) -> Option<(u32, &str)>
+fn fixed_digits(text: &str, width: u32) -> Option<(u32, &str)>
     requires { width ≤ 8 }
-    ensures value { spec.fixed width 0 (chars text.now) ≡ option_map (λ p. (p.0, chars p.1.now)) result }
+    ensures value { spec.fixed_digits width 0 (chars text.now) ≡ option_map (λ p. (p.0, chars p.1.now)) result }
     ensures within { IfSome result (λ p. length p.1.now ≤ length text.now) }
 {
     let mut left = text;
@@ -40,8 +41,8 @@ fn fixed(text: &str, width: u32) -> Option<(u32, &str)>
 }
 
 /// Reads the closing brace, where some digit stands before it.
-fn closed(text: &str, some: bool, value: u32, place: usize) -> Result<(u32, &str), Error>
-    ensures value { spec.closed place some value (strip 125 (chars text.now)) ≡ reading (λ v. v) result }
+fn closing_brace(text: &str, some: bool, value: u32, place: usize) -> Result<(u32, &str), Error>
+    ensures value { Reads (λ v. v) result (spec.closing_brace place some value (strip close_brace (chars text.now))) }
     ensures shorter { IfOk result (λ p. length p.1.now < length text.now) }
 {
     if some {
@@ -55,26 +56,31 @@ fn closed(text: &str, some: bool, value: u32, place: usize) -> Result<(u32, &str
 /// Reads up to eight digits, each with layout behind it, and the closing brace.
 fn digits(text: &str, ignore_space: bool, end: usize, place: usize) -> Result<(u32, &str), Error>
     requires { end < 2 ^ 63 }
-    ensures value { spec.digits end ignore_space place 8 false 0 (chars text.now) ≡ reading (λ v. v) result }
+    ensures value { Reads (λ v. v) result (spec.digits end ignore_space place 8 false 0 (chars text.now)) }
     ensures shorter { IfOk result (λ p. length p.1.now < length text.now) }
 {
     let mut left = text;
     let mut value = 0u32;
     for read in 0..8u32 {
         let Some((digit, rest)) = hex_digit(left) else {
-            return closed(left, read > 0, value, place);
+            return closing_brace(left, read > 0, value, place);
         };
         value = value * 16 + digit;
         left = skip(rest, ignore_space, end)?;
     }
-    closed(left, true, value, place)
+    closing_brace(left, true, value, place)
 }
 
 /// Reads what stands behind the opening brace.
-#[tactic(auto, unfolding(crate::specs::Hex::braced))]
-fn braced(text: &str, ignore_space: bool, end: usize, place: usize) -> Result<(u32, &str), Error>
+#[tactic(auto, unfolding(crate::specs::Hex::braced_value))]
+fn braced_value(
+    text: &str,
+    ignore_space: bool,
+    end: usize,
+    place: usize,
+) -> Result<(u32, &str), Error>
     requires { end < 2 ^ 63 }
-    ensures value { spec.braced end ignore_space place (chars text.now) ≡ reading (λ v. v) result }
+    ensures value { Reads (λ v. v) result (spec.braced_value end ignore_space place (chars text.now)) }
     ensures shorter { IfOk result (λ p. length p.1.now < length text.now) }
 {
     let rest = skip(text, ignore_space, end)?;
@@ -92,29 +98,29 @@ fn value(
 ) -> Result<(u32, &str), Error>
     requires bounded { end < 2 ^ 63 }
     requires width { width ≤ 8 }
-    ensures value { spec.value end ignore_space place width (chars text.now) ≡ reading (λ v. v) result }
+    ensures value { Reads (λ v. v) result (spec.value end ignore_space place width (chars text.now)) }
     ensures within { IfOk result (λ p. length p.1.now ≤ length text.now) }
 {
-    if let Some(read) = fixed(text, width) {
+    if let Some(read) = fixed_digits(text, width) {
         return Ok(read);
     }
     match after(text, '{') {
-        Some(inside) => braced(inside, ignore_space, end, place),
+        Some(inside) => braced_value(inside, ignore_space, end, place),
         None => Err(Error::ParseError(place, ParseError::InvalidHex)),
     }
 }
 
 /// What a value stands for: behind `\x`, where UNICODE is off, a byte from 80 to FF; else a character. The fault of a
 /// value that is no scalar value is at `place`.
-#[tactic(auto, unfolding(crate::specs::Hex::coded))]
-fn coded<'a>(
+#[tactic(auto, unfolding(crate::specs::Hex::leaf_of_value))]
+fn leaf_of_value<'a>(
     rest: &'a str,
     value: u32,
     width: u32,
     flags: Flags,
     place: usize,
 ) -> Result<(Escaped<'a>, &'a str), Error>
-    ensures value { spec.coded flags width place value (chars rest.now) ≡ reading escape_of result }
+    ensures value { Reads escape_of result (spec.leaf_of_value flags width place value (chars rest.now)) }
     ensures within { IfOk result (λ p. length p.1.now ≤ length rest.now) }
 {
     if width == 2 && !flags.unicode && value >= 0x80 && value <= 0xFF {
@@ -145,11 +151,11 @@ pub fn hex<'a>(
     requires bounded { end < 2 ^ 63 }
     requires width { width ≤ 8 }
     requires inside { length text.now ≤ end }
-    ensures value { spec.hex end flags width (chars text.now) ≡ reading escape_of result }
+    ensures value { Reads escape_of result (spec.hex end flags width (chars text.now)) }
     ensures within { IfOk result (λ p. length p.1.now ≤ length text.now) }
 {
     let rest = skip(text, flags.ignore_space, end)?;
     let place = place(rest, end);
     let (value, rest) = value(rest, width, flags.ignore_space, end, place)?;
-    coded(rest, value, width, flags, place)
+    leaf_of_value(rest, value, width, flags, place)
 }

@@ -1,29 +1,30 @@
 //! The letters of a flag group.
-ghost use Rattle.std.specs.Prelude.{◌≡◌, ◌<◌, ◌≤◌, ◌^◌, ◌++◌, length, chars, ◌||◌, option_map, MatchResult, IfOk};
+ghost use Rattle.std.specs.Prelude.{◌≡◌, ℕ, ◌<◌, ◌≤◌, ◌^◌, ◌++◌, ◌∷◌, length, chars, ◌||◌, IfOk};
+ghost use Rattle.fancy_lex.specs.Reading.{Gives, Fails};
 ghost use Rattle.fancy_lex.specs.Text.{Text, bytes, text_of};
 ghost use Rattle.fancy_parts.specs.FlagLetters as spec;
-ghost use Rattle.fancy_parts.specs.FlagReads.{GivesLetters, GivesStep, FailsStep, rest_length, IsShorter, GoesOneOn};
+ghost use Rattle.fancy_parts.specs.FlagReads.{letters_of, step_of};
 
 use fancy_lex::error::{Error, ParseError};
 use fancy_lex::flags::Flags;
-use fancy_lex::layout::layout;
+use fancy_lex::layout::skip;
 use fancy_lex::text::{front, next, place};
 use std::alloc::{AllocError, Global};
 
 /// What the letters of a flag group come to.
-#[derive(Drop)]
-pub enum Letters<'a> {
+#[derive(Clone, Copy)]
+pub enum Letters {
     /// Closed by a parenthesis: these flags hold from there on.
-    Setting(Flags, &'a str),
+    Setting(Flags),
     /// Closed by a colon: these flags hold inside the group.
-    Scope(Flags, &'a str),
+    Scope(Flags),
 }
 
-/// One letter: the letters end there, or go on.
-#[derive(Drop)]
-enum Step<'a> {
-    Ends(Letters<'a>),
-    Goes(bool, Flags, &'a str),
+/// One letter: the letters end there, or go on, and then clear their flags or set them.
+#[derive(Clone, Copy)]
+enum Step {
+    Ends(Letters),
+    Goes(bool, Flags),
 }
 
 /// The flags with the letter's flag set or cleared; none where the letter names no flag.
@@ -68,7 +69,7 @@ fn flag_text(alloc: Global, letters: &str, rest: &str) -> Result<String, AllocEr
 fn unknown_flag(alloc: Global, letters: &str, rest: &str, end: usize) -> Error
     requires behind { (w : Text) × (chars letters.now ≡ w ++ chars rest.now) }
     requires within { length letters.now ≤ end }
-    ensures { FailsStep result (spec.unknown end (chars letters.now) (chars rest.now)) }
+    ensures { Fails result (spec.unknown_letter end (chars letters.now) (chars rest.now)) }
 {
     match flag_text(alloc, letters, rest) {
         Ok(text) => Error::ParseError(place(letters, end), ParseError::UnknownFlag(text)),
@@ -94,7 +95,8 @@ fn is_behind_minus(letters: &str, clears: bool, here: &str) -> bool
 
 /// Whether a parenthesis at `here` closes no letter at all.
 fn closes_nothing(letters: &str, clears: bool, here: &str) -> bool
-    ensures { result ≡ (spec.is_first (chars letters.now) (chars here.now) || spec.is_behind_minus (chars letters.now) clears (chars here.now)) }
+    ensures { let first = spec.is_first (chars letters.now) (chars here.now) in
+        result ≡ (first || spec.is_behind_minus (chars letters.now) clears (chars here.now)) }
 {
     is_first(letters, here) || is_behind_minus(letters, clears, here)
 }
@@ -107,12 +109,12 @@ fn flag_letter<'a>(
     flags: Flags,
     here: &'a str,
     end: usize,
-) -> Result<Step<'a>, Error>
+) -> Result<(Step, &'a str), Error>
     requires behind { (w : Text) × (chars letters.now ≡ w ++ chars here.now) }
     requires within { length letters.now ≤ end }
-    ensures value { GivesStep result (spec.step end (chars letters.now) clears flags (chars here.now)) }
-    ensures shorter { IfOk result (λ s. IsShorter s (length here.now)) }
-    ensures one_on { IfOk result (λ s. GoesOneOn s (chars here.now)) }
+    ensures value { Gives step_of result (spec.step end (chars letters.now) clears flags (chars here.now)) }
+    ensures one_on { IfOk result (λ p. (c : ℕ) × (chars here.now ≡ c ∷ chars p.1.now)) }
+    ensures shorter { IfOk result (λ p. length p.1.now < length here.now) }
 {
     let Some((letter, rest)) = next(here) else {
         return Err(Error::ParseError(end, ParseError::UnclosedOpenParen));
@@ -121,19 +123,19 @@ fn flag_letter<'a>(
         if closes_nothing(letters, clears, here) {
             return Err(unknown_flag(alloc, letters, rest, end));
         }
-        return Ok(Step::Ends(Letters::Setting(flags, rest)));
+        return Ok((Step::Ends(Letters::Setting(flags)), rest));
     }
     if letter == ':' {
         if is_behind_minus(letters, clears, here) {
             return Err(unknown_flag(alloc, letters, rest, end));
         }
-        return Ok(Step::Ends(Letters::Scope(flags, rest)));
+        return Ok((Step::Ends(Letters::Scope(flags)), rest));
     }
     if letter == '-' {
         if clears {
             return Err(unknown_flag(alloc, letters, rest, end));
         }
-        return Ok(Step::Goes(true, flags, rest));
+        return Ok((Step::Goes(true, flags), rest));
     }
     if letter == 'u' {
         if clears == flags.unicode {
@@ -142,38 +144,38 @@ fn flag_letter<'a>(
                 ParseError::ChangingUnicodeModeUnsupported,
             ));
         }
-        return Ok(Step::Goes(clears, flags, rest));
+        return Ok((Step::Goes(clears, flags), rest));
     }
     match with_letter(flags, !clears, letter) {
-        Some(changed) => Ok(Step::Goes(clears, changed, rest)),
+        Some(changed) => Ok((Step::Goes(clears, changed), rest)),
         None => Err(unknown_flag(alloc, letters, rest, end)),
     }
 }
 
-/// Reads the letters of a flag group, which begin behind the `(?`: the flags that hold behind them, and whether
-/// they were closed by a parenthesis or by a colon.
-pub fn flag_letters<'a>(
+/// Reads the letters of a flag group, which begin behind the `(?`, in the rest of a pattern of `end` bytes: what they
+/// come to, and the text behind the parenthesis or the colon. UnknownFlag at the first letter for a letter that names
+/// no flag, for a second minus, and where no letter stands before the end; ChangingUnicodeModeUnsupported at a `u` that
+/// is not the mode; UnclosedOpenParen where the text ends, or a comment in layout is open.
+pub fn flag_letters(
     alloc: Global,
-    text: &'a str,
+    text: &str,
     flags: Flags,
     end: usize,
-) -> Result<Letters<'a>, Error>
+) -> Result<(Letters, &str), Error>
     requires within { length text.now ≤ end }
     requires end { end < 2 ^ 63 }
-    ensures value { GivesLetters result (spec.letters end flags (chars text.now)) }
-    ensures shorter { IfOk result (λ l. rest_length l < length text.now) }
+    ensures value { Gives letters_of result (spec.letters end flags (chars text.now)) }
+    ensures shorter { IfOk result (λ p. length p.1.now < length text.now) }
 {
     let mut clears = false;
     let mut flags = flags;
     let mut left = text;
     loop {
-        let here = match layout(left, flags.ignore_space, end) {
-            Ok(here) => here,
-            Err(place) => return Err(Error::ParseError(place, ParseError::UnclosedOpenParen)),
-        };
-        match flag_letter(alloc, text, clears, flags, here, end)? {
-            Step::Ends(read) => return Ok(read),
-            Step::Goes(now_clears, changed, rest) => {
+        let here = skip(left, flags.ignore_space, end)?;
+        let (step, rest) = flag_letter(alloc, text, clears, flags, here, end)?;
+        match step {
+            Step::Ends(letters) => return Ok((letters, rest)),
+            Step::Goes(now_clears, changed) => {
                 clears = now_clears;
                 flags = changed;
                 left = rest;

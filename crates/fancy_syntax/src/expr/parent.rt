@@ -1,4 +1,5 @@
-//! Values that hold children of a type, each in a `Box` or all in one `Vec`. The functions at the end are proved for any two
+//! Values that hold children of a type, each in a `Box` or all in one `Vec`. The functions at the end are proved for
+//! any two
 //! types, and so for a type whose children are of that type again.
 ghost use Rattle.std.specs.Prelude.{◌≡◌, ℕ, Bool, false, true, Option, Some, option_map, is_some, IsTrue, slice_get};
 ghost use Rattle.std.specs.Borrow.{sem};
@@ -34,7 +35,8 @@ pub trait Parent {
     fn list_mut(&mut self) -> Option<&mut Vec<Self::Child>>
         requires { holds_list (show self.old) ≡ true }
         ensures* writes_back { sem 𝓛 (LendsListAt Self.row Self.Child.row Seen show see with_child self.entry result) }
-        ensures value { (i : ℕ) → option_map (λ v. option_map see (slice_get v.now.items i)) result ≡ Some (child_at (show self.old) i) };
+        ensures value { (i : ℕ) → option_map (λ v. option_map see (slice_get v.now.items i)) result ≡
+            Some (child_at (show self.old) i) };
 
     /// The box of child i, if there is one.
     fn box_mut(&mut self, i: usize) -> Option<&mut Box<Self::Child>>

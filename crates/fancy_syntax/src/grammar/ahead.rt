@@ -2,12 +2,13 @@
 ghost use Rattle.std.specs.Prelude.{◌≡◌, ◌+◌, ◌<◌, ◌≤◌, ◌^◌, ◌∷◌, [], length, chars, IfOk, IfSome};
 ghost use Rattle.fancy_lex.specs.Escaped.{escape_of};
 ghost use Rattle.fancy_syntax.specs.Ahead as spec;
-ghost use Rattle.fancy_syntax.specs.Parsed.{state, behind, Gives, Sees, Skips, IsUnmoved, IsBelow};
+ghost use Rattle.fancy_syntax.specs.Parsed.{state, Gives, GivesTree, Sees, Skips, IsUnmoved, IsBelow, StaysAtNothing, TakesBytes, IsSomething};
 ghost use Rattle.fancy_syntax.specs.Tree.{literal};
 ghost use Rattle.fancy_syntax.specs.View.{view};
 
 use crate::expr::Expr;
-use crate::grammar::fault::not_read_yet;
+use crate::grammar::head::Head;
+use crate::grammar::look::{look_at_verb, look_behind_question};
 use crate::grammar::state::State;
 use fancy_lex::class::{class, push_delegate};
 use fancy_lex::error::{Error, ParseError};
@@ -15,7 +16,6 @@ use fancy_lex::escape::{Assertion, Escaped, escape};
 use fancy_lex::flags::Flags;
 use fancy_lex::layout::layout;
 use fancy_lex::text::{next, place, push};
-use fancy_parts::heads::{Letters, flag_letters};
 use std::alloc::{AllocError, Global};
 
 /// Groups nest less deep than this.
@@ -25,12 +25,16 @@ pub(crate) const MAX_DEPTH: usize = 64;
 pub(crate) enum Ahead<'a> {
     /// No atom: it is Empty, and takes no character.
     Nothing,
-    /// An atom that holds no branches, and the state behind it.
-    Leaf(Expr, State<'a>),
-    /// The inside of a capturing group.
-    Group(&'a str),
-    /// The inside of a group of flags, under the flags that hold there.
-    Scope(State<'a>),
+    /// An atom that holds no branches.
+    Leaf(Expr),
+    /// A group that holds one alternation.
+    Group(Head<'a>),
+    /// A conditional whose condition is an alternation.
+    Condition,
+    /// A conditional whose condition is this tree.
+    Body(Box<Expr>),
+    /// `(?~|` of an absent expression, stopper or clear.
+    AbsentBranch,
 }
 
 /// Whether a branch ends here: at the end, a bar or a closing parenthesis.
@@ -44,6 +48,7 @@ pub(crate) fn is_end(text: &str) -> bool
 }
 
 /// Reads the layout at the front: the text behind it.
+#[inline]
 pub(crate) fn skip_layout<'a>(here: State<'a>, end: usize) -> Result<&'a str, Error>
     requires { end < 2 ^ 63 }
     ensures value { Skips result (spec.skipped end (state here.entry)) }
@@ -56,18 +61,20 @@ pub(crate) fn skip_layout<'a>(here: State<'a>, end: usize) -> Result<&'a str, Er
     }
 }
 
-/// Reads what stands before an atom.
+/// Reads what stands before an atom, through a leaf, or up to where the first part of a group begins.
 #[tactic(auto, unfolding(crate::specs::Ahead::ahead))]
 pub(crate) fn look_ahead<'a>(
     alloc: Global,
-    here: State<'a>,
+    here: &mut State<'a>,
     depth: usize,
     end: usize,
 ) -> Result<Ahead<'a>, Error>
-    requires within { length here.rest.now ≤ end }
+    requires within { length here.old.rest.now ≤ end }
     requires end { end < 2 ^ 63 }
-    ensures value { Sees result (spec.ahead end depth (state here.entry)) }
-    ensures shorter { IfOk result (λ a. IfSome (behind a) (λ t. length t < length here.entry.rest.now)) }
+    requires depth { depth < 64 }
+    ensures value { Sees result (state here.new) (spec.ahead end depth (state here.old)) }
+    ensures stays { IfOk result (λ a. StaysAtNothing a here.old here.new) }
+    ensures shorter { IfOk result (λ a. TakesBytes a here.old.rest.now here.new.rest.now) }
     ensures below { IfOk result (λ a. IsBelow a depth) }
 {
     let Some((c, rest)) = next(here.rest) else {
@@ -75,14 +82,15 @@ pub(crate) fn look_ahead<'a>(
     };
     if c == '(' {
         if depth >= MAX_DEPTH - 1 {
-            return Err(Error::ParseError(place(here.rest, end), ParseError::RecursionExceeded));
+            let paren = place(here.rest, end);
+            return Err(Error::ParseError(paren, ParseError::RecursionExceeded));
         }
-        look_at_group(alloc, State { rest, ..here }, end)
+        here.rest = rest;
+        look_at_group(alloc, here, end)
     } else if is_before_nothing(c) {
         Ok(Ahead::Nothing)
     } else {
-        let (atom, behind) = leaf(alloc, c, here, rest, end)?;
-        Ok(Ahead::Leaf(atom, behind))
+        Ok(Ahead::Leaf(leaf(alloc, c, here, rest, end)?))
     }
 }
 
@@ -90,40 +98,40 @@ pub(crate) fn look_ahead<'a>(
 fn leaf<'a>(
     alloc: Global,
     c: char,
-    here: State<'a>,
+    here: &mut State<'a>,
     rest: &'a str,
     end: usize,
-) -> Result<(Expr, State<'a>), Error>
-    requires within { length here.rest.now ≤ end }
+) -> Result<Expr, Error>
+    requires within { length here.old.rest.now ≤ end }
     requires end { end < 2 ^ 63 }
-    requires front { chars here.rest.now ≡ c ∷ chars rest.now }
-    requires shorter { length rest.now < length here.rest.now }
-    ensures value { Gives result (spec.leaf_of end (state here.entry) c (chars rest.now)) }
-    ensures within { IfOk result (λ p. length p.1.rest.now ≤ length rest.now) }
+    requires front { chars here.old.rest.now ≡ c ∷ chars rest.now }
+    requires shorter { length rest.now < length here.old.rest.now }
+    ensures value { GivesTree result (state here.new) (spec.leaf_of end (state here.old) c (chars rest.now)) }
+    ensures within { IfOk result (λ _. length here.new.rest.now ≤ length rest.now) }
 {
-    let behind = State { rest, ..here };
+    let backslash = place(here.rest, end);
+    here.rest = rest;
     let flags = here.flags;
     if c == '.' {
-        Ok((
-            Expr::Any {
-                newline: flags.dotnl,
-                crlf: flags.crlf,
-            },
-            behind,
-        ))
+        Ok(Expr::Any {
+            newline: flags.dotnl,
+            crlf: flags.crlf,
+        })
     } else if c == '^' {
-        Ok((Expr::Assertion(start_anchor(flags)), behind))
+        Ok(Expr::Assertion(start_anchor(flags)))
     } else if c == '$' {
-        Ok((Expr::Assertion(end_anchor(flags)), behind))
+        Ok(Expr::Assertion(end_anchor(flags)))
     } else if c == '\\' {
-        let (escaped, rest) = escape(alloc, rest, flags, false, place(here.rest, end), end)?;
-        Ok((leaf_node(alloc, escaped)?, State { rest, ..here }))
+        let (escaped, rest) = escape(alloc, rest, flags, false, backslash, end)?;
+        here.rest = rest;
+        Ok(leaf_node(alloc, escaped)?)
     } else if c == '[' {
         let (inner, rest) = class(alloc, rest, flags, end)?;
+        here.rest = rest;
         let casei = flags.casei;
-        Ok((Expr::Delegate { inner, casei }, State { rest, ..here }))
+        Ok(Expr::Delegate { inner, casei })
     } else {
-        Ok((literal(alloc, c, flags.casei)?, behind))
+        Ok(literal(alloc, c, flags.casei)?)
     }
 }
 
@@ -171,63 +179,28 @@ fn end_anchor(flags: Flags) -> Assertion
     }
 }
 
-/// Reads what stands behind a parenthesis.
-fn look_at_group<'a>(alloc: Global, inside: State<'a>, end: usize) -> Result<Ahead<'a>, Error>
-    requires within { length inside.rest.now ≤ end }
+/// Reads what stands behind a parenthesis: the head of the group, if it has one.
+fn look_at_group<'a>(alloc: Global, here: &mut State<'a>, end: usize) -> Result<Ahead<'a>, Error>
+    requires within { length here.old.rest.now ≤ end }
     requires end { end < 2 ^ 63 }
-    ensures value { Sees result (spec.behind_layout end (state inside.entry) (spec.skipped end (state inside.entry))) }
-    ensures within { IfOk result (λ a. IfSome (behind a) (λ t. length t ≤ length inside.entry.rest.now)) }
+    ensures value { Sees result (state here.new) (spec.behind_layout end (state here.old)
+        (spec.skipped end (state here.old))) }
+    ensures within { length here.new.rest.now ≤ length here.old.rest.now }
+    ensures something { IfOk result (λ a. IsSomething a) }
 {
-    let head = skip_layout(inside, end)?;
-    let Some((c, rest)) = next(head) else {
-        return Ok(Ahead::Group(head));
+    here.rest = skip_layout(*here, end)?;
+    let Some((c, rest)) = next(here.rest) else {
+        return Ok(Ahead::Group(Head::Capture(None)));
     };
     if c == '?' {
-        look_at_flags(alloc, State { rest, ..inside }, end)
+        here.rest = rest;
+        look_behind_question(alloc, here, end)
     } else if c == '*' {
-        Err(not_read_yet(alloc, place(head, end)))
+        let verb = look_at_verb(here, rest, end)?;
+        Ok(Ahead::Leaf(Expr::BacktrackingControlVerb(verb)))
     } else {
-        Ok(Ahead::Group(head))
+        Ok(Ahead::Group(Head::Capture(None)))
     }
-}
-
-/// Reads what stands behind a parenthesis and a question mark.
-fn look_at_flags<'a>(alloc: Global, here: State<'a>, end: usize) -> Result<Ahead<'a>, Error>
-    requires within { length here.rest.now ≤ end }
-    requires end { end < 2 ^ 63 }
-    ensures value { Sees result (spec.question_ahead end (state here.entry) (chars here.entry.rest.now)) }
-    ensures within { IfOk result (λ a. IfSome (behind a) (λ t. length t ≤ length here.entry.rest.now)) }
-{
-    if is_later_head(here.rest) {
-        return Err(not_read_yet(alloc, place(here.rest, end)));
-    }
-    match flag_letters(alloc, here.rest, here.flags, end)? {
-        Letters::Setting(flags, rest) => Ok(Ahead::Leaf(Expr::Empty, State { flags, rest })),
-        Letters::Scope(flags, rest) => Ok(Ahead::Scope(State { flags, rest })),
-    }
-}
-
-/// Whether a head begins here that is not read yet.
-fn is_later_head(text: &str) -> bool
-    ensures { result ≡ spec.is_later_head (chars text.now) }
-{
-    let Some((c, rest)) = next(text) else {
-        return false;
-    };
-    if is_later_mark(c) {
-        return true;
-    }
-    let Some((d, _)) = next(rest) else {
-        return false;
-    };
-    c == 'P' && (d == '<' || d == '=' || d == '>')
-}
-
-/// Whether a head that begins with the character is not read yet.
-fn is_later_mark(c: char) -> bool
-    ensures { result ≡ spec.is_later_mark c }
-{
-    c == '=' || c == '!' || c == '<' || c == '\'' || c == '~' || c == '>' || c == '('
 }
 
 /// Whether the atom before the character is Empty.
@@ -238,10 +211,11 @@ fn is_before_nothing(c: char) -> bool
 }
 
 /// The character as a literal.
-fn literal(alloc: Global, c: char, casei: bool) -> Result<Expr, AllocError>
+#[inline]
+pub(crate) fn literal(alloc: Global, c: char, casei: bool) -> Result<Expr, AllocError>
     ensures { IfOk result (λ e. view e ≡ literal (c ∷ []) casei) }
 {
-    let mut val = String::new(alloc);
+    let mut val = String::with_capacity(alloc, c.len_utf8())?;
     push(&mut val, c)?;
     Ok(Expr::Literal { val, casei })
 }

@@ -5,35 +5,57 @@ ghost use Rattle.fancy_syntax.specs.Row.{trees};
 ghost use Rattle.fancy_syntax.specs.Tree.{concat};
 ghost use Rattle.fancy_syntax.specs.View.{view};
 
-use crate::expr::{AstNode, Expr};
+use crate::expr::Expr;
+use crate::grammar::fault::general;
+use crate::grammar::head::Head;
 use crate::grammar::row::Row;
+use fancy_lex::error::Error;
 use fancy_lex::flags::Flags;
 use std::alloc::{AllocError, Global};
 use std::mem;
 
-/// What opened a group.
+/// What is open.
 #[derive(Drop)]
-pub(crate) enum Opener {
+pub(crate) enum Opener<'a> {
     /// The whole text.
     Top,
-    /// The parenthesis of a capturing group, at this place.
-    Capture(usize),
-    /// The letters of a group of flags, before which these flags held.
-    Scope(Flags),
+    /// A group that opens at the place, and the flags before it.
+    Group {
+        head: Head<'a>,
+        place: usize,
+        flags: Flags,
+    },
+    /// The condition of a conditional.
+    Condition,
+    /// The body of a conditional of this condition, which began where so many bytes were left.
+    Body {
+        condition: Box<Expr>,
+        left: usize,
+    },
+    /// The branch behind `(?~|`.
+    First,
+    /// The branch behind that one and a bar.
+    Second(Box<Expr>),
 }
 
 /// An open group: its finished branches, and the pieces of the branch that is open.
 #[derive(Drop)]
-pub(crate) struct Frame {
-    pub(crate) opener: Opener,
+pub(crate) struct Frame<'a> {
+    pub(crate) opener: Opener<'a>,
     pub(crate) branches: Row,
     pub(crate) pieces: Row,
+    /// How many bytes were left where the piece began that holds the groups above this one.
+    pub(crate) left: usize,
 }
 
-impl Frame {
+impl<'a> Frame<'a> {
+    ghost use Rattle.std.specs.Prelude.{false, IfErr};
+    ghost use Rattle.fancy_syntax.specs.Machine.{open_of, opened_by_bar, branches_at_bar, is_second, IsFaultOfBar};
+    ghost use Rattle.fancy_syntax.specs.Reads.{Fails};
+
     /// A group in which nothing is read yet.
-    pub(crate) fn new(opener: Opener) -> Frame
-        ensures opener { result.opener ≡ opener }
+    pub(crate) fn new(opener: Opener<'a>) -> Frame<'a>
+        ensures opener { result.opener ≡ opener.entry }
         ensures branches { trees result.branches ≡ [] }
         ensures pieces { trees result.pieces ≡ [] }
     {
@@ -41,10 +63,12 @@ impl Frame {
             opener,
             branches: Row::None,
             pieces: Row::None,
+            left: 0,
         }
     }
 
     /// Adds a piece to the open branch; an Empty one is left out.
+    #[inline]
     pub(crate) fn add(&mut self, alloc: Global, piece: Expr) -> Result<(), AllocError>
         ensures opener { self.new.opener ≡ self.old.opener }
         ensures branches { trees self.new.branches ≡ trees self.old.branches }
@@ -56,60 +80,69 @@ impl Frame {
         self.pieces.add(alloc, piece)
     }
 
-    /// Ends the open branch, and opens the next.
-    pub(crate) fn end_branch(&mut self, alloc: Global) -> Result<(), AllocError>
+    /// Takes the pieces of the open branch: its tree.
+    fn take_branch(&mut self) -> Expr
         ensures opener { self.new.opener ≡ self.old.opener }
-        ensures branches { OnOk result (trees self.new.branches ≡ trees self.old.branches ++ spec.one_or concat (trees self.old.pieces) ∷ []) }
+        ensures branches { self.new.branches ≡ self.old.branches }
+        ensures pieces { trees self.new.pieces ≡ [] }
+        ensures tree { view result ≡ spec.one_or concat (trees self.old.pieces) }
+    {
+        mem::replace(&mut self.pieces, Row::None).concat()
+    }
+
+    /// Ends the open branch at the bar at the place, and opens what comes next.
+    ///
+    /// Behind the second branch of an absent expression no bar may stand: the general fault, at the bar.
+    pub(crate) fn bar(&mut self, alloc: Global, place: usize) -> Result<(), Error>
+        ensures opener { OnOk result (open_of self.new.opener ≡ opened_by_bar (open_of self.old.opener)
+            (spec.one_or concat (trees self.old.pieces))) }
+        ensures branches { OnOk result (trees self.new.branches ≡ branches_at_bar (open_of self.old.opener)
+            (trees self.old.branches) (spec.one_or concat (trees self.old.pieces))) }
+        ensures pieces { OnOk result (trees self.new.pieces ≡ []) }
+        ensures allowed { IfOk result (λ _. is_second (open_of self.old.opener) ≡ false) }
+        ensures fault { IfErr result (λ e. Fails e (IsFaultOfBar (open_of self.old.opener) place)) }
+    {
+        match &self.opener {
+            Opener::First => {
+                let branch = self.take_branch();
+                self.opener = Opener::Second(Box::new(alloc, branch)?);
+                Ok(())
+            }
+            Opener::Second(_) => Err(general(alloc, "expected close paren", place)),
+            _ => Ok(self.end_branch(alloc)?),
+        }
+    }
+
+    /// Ends the open branch, and opens the next.
+    fn end_branch(&mut self, alloc: Global) -> Result<(), AllocError>
+        ensures opener { self.new.opener ≡ self.old.opener }
+        ensures branches { OnOk result (trees self.new.branches ≡ trees self.old.branches ++ spec.one_or concat
+            (trees self.old.pieces) ∷ []) }
         ensures pieces { OnOk result (trees self.new.pieces ≡ []) }
     {
-        let branch = mem::replace(&mut self.pieces, Row::None).concat();
+        let branch = self.take_branch();
         self.branches.add(alloc, branch)
     }
 
     /// Ends the group: what opened it, and the tree of its inside.
-    pub(crate) fn finish(self, alloc: Global) -> Result<(Opener, Expr), AllocError>
-        ensures opener { IfOk result (λ p. p.0 ≡ self.opener) }
-        ensures tree { IfOk result (λ p. view p.1 ≡ spec.choice (trees self.branches ++ spec.one_or concat (trees self.pieces) ∷ [])) }
+    pub(crate) fn finish(self, alloc: Global) -> Result<(Opener<'a>, Expr), AllocError>
+        ensures opener { IfOk result (λ p. p.0 ≡ self.entry.opener) }
+        ensures tree { IfOk result (λ p. view p.1 ≡ spec.choice (trees self.entry.branches ++ spec.one_or concat
+            (trees self.entry.pieces) ∷ [])) }
     {
         let Frame {
             opener,
             mut branches,
             pieces,
+            ..
         } = self;
         branches.add(alloc, pieces.concat())?;
         Ok((opener, branches.choice()))
     }
 }
 
-impl Opener {
-    ghost use Rattle.fancy_syntax.specs.Machine.{closed_tree, closed_flags};
-
-    /// The flags that hold behind the group that this opened, where `inside` hold at its end.
-    pub(crate) fn flags_behind(&self, inside: Flags) -> Flags
-        ensures { result ≡ closed_flags self.now inside }
-    {
-        match self {
-            Opener::Scope(before) => *before,
-            Opener::Top | Opener::Capture(_) => inside,
-        }
-    }
-
-    /// The tree of the group that this opened, around its inside.
-    pub(crate) fn closed(self, alloc: Global, inner: Expr) -> Result<Expr, AllocError>
-        ensures { IfOk result (λ e. view e ≡ closed_tree self (view inner)) }
-    {
-        match self {
-            Opener::Top | Opener::Scope(_) => Ok(inner),
-            Opener::Capture(place) => {
-                let inner = Box::new(alloc, inner)?;
-                Ok(Expr::AstNode(AstNode::AstGroup { name: None, inner }, place))
-            }
-        }
-    }
-}
-
 /// Whether the tree is Empty.
-fn is_empty(tree: &Expr) -> bool
+pub(crate) fn is_empty(tree: &Expr) -> bool
     ensures { result ≡ spec.is_empty (view tree.now) }
 {
     matches!(tree, Expr::Empty)

@@ -1,33 +1,53 @@
-//! A tree under the quantifier that follows it.
-ghost use Rattle.std.specs.Prelude.{◌≡◌, ◌≤◌, ◌<◌, ◌^◌, false, length, chars, if◌then◌else◌, Some, None, IfOk};
-ghost use Rattle.fancy_lex.specs.Text.{strip};
-ghost use Rattle.fancy_lex.specs.Characters.{question_mark};
+//! A tree under the quantifiers that follow it.
+ghost use Rattle.std.specs.Prelude.{◌≡◌, ◌≤◌, ◌<◌, ◌+◌, ◌^◌, true, false, length, chars, Some, None, IfOk};
+ghost use Rattle.fancy_syntax.specs.Join.{is_empty};
 ghost use Rattle.fancy_syntax.specs.Quantified as spec;
-ghost use Rattle.fancy_syntax.specs.Parsed.{state, Gives};
+ghost use Rattle.fancy_syntax.specs.Parsed.{state, Turns, Gives};
 ghost use Rattle.fancy_syntax.specs.View.{view};
 
 use crate::expr::Expr;
-use crate::grammar::ahead::skip_layout;
-use crate::grammar::fault::not_read_yet;
+use crate::grammar::ahead::{MAX_DEPTH, skip_layout};
+use crate::grammar::frame::is_empty;
 use crate::grammar::state::State;
 use fancy_lex::error::{Error, ParseError};
 use fancy_lex::flags::Flags;
-use fancy_lex::text::{after, place, place_before};
+use fancy_lex::text::{after, bytes_left, place, place_before};
+use fancy_parts::counts::Counts;
 use fancy_parts::heads::counts;
-use std::alloc::Global;
+use std::alloc::{AllocError, Global};
+use std::mem;
 
-/// Whether a quantifier may follow the tree.
-fn is_repeatable(tree: &Expr) -> bool
-    ensures { result ≡ spec.is_repeatable (view tree.now) }
+/// How many adjacent quantifiers may follow the first.
+const MAX_ADJACENT: usize = 4;
+
+/// The marks behind the counts of a quantifier.
+#[derive(Clone, Copy)]
+pub(crate) struct Suffix {
+    pub(crate) lazy: bool,
+    pub(crate) possessive: bool,
+}
+
+/// Whether a quantifier may follow the tree; in Oniguruma mode none follows an assertion.
+fn is_repeatable(flags: Flags, tree: &Expr) -> bool
+    ensures { result ≡ spec.is_repeatable flags (view tree.now) }
 {
-    !matches!(
-        tree,
+    match tree {
         Expr::Empty
-            | Expr::LookAround(_, _)
-            | Expr::KeepOut
-            | Expr::ContinueFromPreviousMatchEnd
-            | Expr::BacktrackingControlVerb(_)
-    )
+        | Expr::LookAround(_, _)
+        | Expr::KeepOut
+        | Expr::ContinueFromPreviousMatchEnd
+        | Expr::BacktrackingControlVerb(_) => false,
+        Expr::Assertion(_) => !flags.oniguruma_mode,
+        _ => true,
+    }
+}
+
+/// Whether an Empty stays without the quantifier whose mark or closing brace the text follows, as in Oniguruma mode
+/// where that stands behind the start, at which so many bytes were left.
+fn is_dropped(flags: Flags, left: usize, tree: &Expr, text: &str) -> bool
+    ensures { result ≡ spec.is_dropped flags left (view tree.now) (chars text.now) }
+{
+    flags.oniguruma_mode && is_empty(tree) && left > 0 && bytes_left(text) < left - 1
 }
 
 /// A quantifier is greedy without the lazy mark; swapped, with it.
@@ -37,54 +57,194 @@ fn is_greedy(flags: Flags, lazy: bool) -> bool
     if flags.swap_greed { lazy } else { !lazy }
 }
 
-/// Reads layout and the quantifier that follows the tree, if one does: the tree under it, and the state behind it.
-///
-/// TargetNotRepeatable at the mark or the closing brace, where the tree takes no quantifier.
-#[tactic(auto, unfolding(crate::specs::Quantified::quant))]
-pub(crate) fn quantify<'a>(
+/// Reads the quantifiers of the tree, before which so many bytes were left, and puts the tree under them.
+#[inline]
+pub(crate) fn quantify(
     alloc: Global,
-    tree: Expr,
-    here: State<'a>,
+    tree: &mut Expr,
+    here: &mut State,
+    left: usize,
+    depth: usize,
     end: usize,
-) -> Result<(Expr, State<'a>), Error>
-    requires within { length here.rest.now ≤ end }
+) -> Result<(), Error>
+    requires within { length here.old.rest.now ≤ end }
     requires end { end < 2 ^ 63 }
-    ensures value { Gives result (spec.quant end (view tree) (state here.entry)) }
-    ensures within { IfOk result (λ p. length p.1.rest.now ≤ length here.entry.rest.now) }
+    requires depth { depth < 64 }
+    ensures value { Turns result (view tree.new) (state here.new)
+        (spec.quants end depth left (view tree.old) (state here.old)) }
+    ensures within { length here.new.rest.now ≤ length here.old.rest.now }
 {
-    let rest = skip_layout(here, end)?;
-    let Some((lo, hi, rest)) = counts(rest, here.flags.ignore_space) else {
-        return Ok((tree, State { rest, ..here }));
-    };
-    if !is_repeatable(&tree) {
-        return Err(Error::ParseError(place_before(rest, end), ParseError::TargetNotRepeatable));
+    quantify_once(alloc, tree, here, left, end)?;
+    if here.flags.oniguruma_mode {
+        quantify_adjacent(alloc, tree, here, depth, end)?;
     }
-    let rest = skip_layout(State { rest, ..here }, end)?;
-    let (lazy, rest) = lazy_mark(rest);
-    if after(rest, '+').is_some() {
-        return Err(not_read_yet(alloc, place(rest, end)));
-    }
-    let child = Box::new(alloc, tree)?;
-    let greedy = is_greedy(here.flags, lazy);
-    Ok((
-        Expr::Repeat {
-            child,
-            lo,
-            hi,
-            greedy,
-        },
-        State { rest, ..here },
-    ))
+    Ok(())
 }
 
-/// Reads the lazy mark: whether it stands there, and the text behind it.
-fn lazy_mark(text: &str) -> (bool, &str)
-    ensures mark { strip question_mark (chars text.now) ≡ (if result.0 then Some (chars result.1.now) else None) }
-    ensures unmarked { result.0 ≡ false → result.1.now ≡ text.now }
-    ensures within { length result.1.now ≤ length text.now }
+/// Reads the quantifiers that are adjacent to an earlier one. RecursionExceeded behind a fifth, or at depth 64.
+fn quantify_adjacent(
+    alloc: Global,
+    tree: &mut Expr,
+    here: &mut State,
+    depth: usize,
+    end: usize,
+) -> Result<(), Error>
+    requires within { length here.old.rest.now ≤ end }
+    requires end { end < 2 ^ 63 }
+    requires depth { depth < 64 }
+    ensures value { Turns result (view tree.new) (state here.new)
+        (spec.adjacent spec.max_adjacent end depth (view tree.old) (state here.old)) }
+    ensures within { length here.new.rest.now ≤ length here.old.rest.now }
 {
-    match after(text, '?') {
-        Some(rest) => (true, rest),
-        None => (false, text),
+    let mut depth = depth;
+    let mut more = MAX_ADJACENT;
+    loop {
+        let before = bytes_left(here.rest);
+        quantify_once(alloc, tree, here, before, end)?;
+        if bytes_left(here.rest) == before {
+            return Ok(());
+        }
+        if !may_count(more, depth) {
+            let behind = place(here.rest, end);
+            return Err(Error::ParseError(behind, ParseError::RecursionExceeded));
+        }
+        more -= 1;
+        depth += 1;
     }
+}
+
+/// Whether one adjacent quantifier more may count at the depth.
+fn may_count(more: usize, depth: usize) -> bool
+    requires { depth < 64 }
+    ensures { result ≡ spec.may_count more depth }
+{
+    more > 0 && depth + 1 < MAX_DEPTH
+}
+
+/// Reads layout and the quantifier that follows the tree, if one does, and puts the tree under it.
+#[inline]
+#[tactic(auto, unfolding(crate::specs::Quantified::quant))]
+fn quantify_once(
+    alloc: Global,
+    tree: &mut Expr,
+    here: &mut State,
+    left: usize,
+    end: usize,
+) -> Result<(), Error>
+    requires within { length here.old.rest.now ≤ end }
+    requires end { end < 2 ^ 63 }
+    ensures value { Turns result (view tree.new) (state here.new)
+        (spec.quant end left (view tree.old) (state here.old)) }
+    ensures within { length here.new.rest.now ≤ length here.old.rest.now }
+{
+    here.rest = skip_layout(*here, end)?;
+    let Some((counts, rest)) = counts(here.rest, here.flags.ignore_space) else {
+        return Ok(());
+    };
+    here.rest = rest;
+    repeat(alloc, tree, counts, here, left, end)
+}
+
+/// Puts the tree under a quantifier of these counts, and reads what follows them.
+///
+/// TargetNotRepeatable at the mark or the closing brace, where the tree takes no quantifier.
+fn repeat(
+    alloc: Global,
+    tree: &mut Expr,
+    counts: Counts,
+    here: &mut State,
+    left: usize,
+    end: usize,
+) -> Result<(), Error>
+    requires within { length here.old.rest.now < end }
+    requires end { end < 2 ^ 63 }
+    ensures value { Turns result (view tree.new) (state here.new)
+        (spec.counted end left (view tree.old) (state here.old) (Some (counts, chars here.old.rest.now))) }
+    ensures within { length here.new.rest.now ≤ length here.old.rest.now }
+{
+    if is_repeatable(here.flags, tree) {
+        let marks = read_suffix(here, counts, end)?;
+        put_under(alloc, tree, here.flags, counts, marks)?;
+        return Ok(());
+    }
+    if is_dropped(here.flags, left, tree, here.rest) {
+        read_suffix(here, counts, end)?;
+        return Ok(());
+    }
+    let mark = place_before(here.rest, end);
+    Err(Error::ParseError(mark, ParseError::TargetNotRepeatable))
+}
+
+/// Reads layout and the marks behind the counts of a quantifier: the lazy one, and directly the possessive one.
+fn read_suffix(here: &mut State, counts: Counts, end: usize) -> Result<Suffix, Error>
+    requires end { end < 2 ^ 63 }
+    ensures value { Gives result (state here.new) (spec.suffix end (state here.old) counts) }
+    ensures flags { here.new.flags ≡ here.old.flags }
+    ensures within { length here.new.rest.now ≤ length here.old.rest.now }
+{
+    here.rest = skip_layout(*here, end)?;
+    let mut lazy = false;
+    if let Some(rest) = after(here.rest, '?') {
+        lazy = true;
+        here.rest = rest;
+    }
+    if may_be_possessive(here.flags, counts)
+        && let Some(rest) = after(here.rest, '+')
+    {
+        here.rest = rest;
+        return Ok(Suffix {
+            lazy,
+            possessive: true,
+        });
+    }
+    Ok(Suffix {
+        lazy,
+        possessive: false,
+    })
+}
+
+/// Whether a possessive mark may follow the counts: in Oniguruma mode it does not behind braces.
+fn may_be_possessive(flags: Flags, counts: Counts) -> bool
+    ensures { result ≡ spec.may_be_possessive flags counts }
+{
+    !(flags.oniguruma_mode && counts.braces)
+}
+
+/// Puts the tree under a quantifier of these counts and marks.
+fn put_under(
+    alloc: Global,
+    tree: &mut Expr,
+    flags: Flags,
+    counts: Counts,
+    marks: Suffix,
+) -> Result<(), AllocError>
+    ensures { IfOk result (λ _. view tree.new ≡ spec.quantified flags counts marks (view tree.old)) }
+{
+    let child = Box::new(alloc, mem::replace(tree, Expr::Empty))?;
+    let greedy = is_greedy(flags, marks.lazy);
+    let swapped = is_swapped(flags, counts);
+    let (lo, hi) = if swapped {
+        (counts.high, counts.low)
+    } else {
+        (counts.low, counts.high)
+    };
+    let repeat = Expr::Repeat {
+        child,
+        lo,
+        hi,
+        greedy,
+    };
+    if swapped || marks.possessive {
+        *tree = Expr::AtomicGroup(Box::new(alloc, repeat)?);
+    } else {
+        *tree = repeat;
+    }
+    Ok(())
+}
+
+/// Whether the counts change places: in Oniguruma mode a greatest one below the least one does.
+fn is_swapped(flags: Flags, counts: Counts) -> bool
+    ensures { result ≡ spec.is_swapped flags counts }
+{
+    flags.oniguruma_mode && counts.high < counts.low
 }

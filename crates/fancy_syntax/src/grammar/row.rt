@@ -21,52 +21,50 @@ pub(crate) struct Several {
 }
 
 impl Several {
-    ghost use Rattle.std.specs.Prelude.{◌≡◌, [], ◌∷◌, ◌++◌, OnOk};
+    ghost use Rattle.std.specs.Prelude.{◌≡◌, [], ◌∷◌, ◌++◌, OnOk, IfOk};
     ghost use Rattle.fancy_syntax.specs.View.{view, views};
 
+    /// Two trees, with room for as many more.
+    fn pair(alloc: Global, first: Expr, second: Expr) -> Result<Several, AllocError>
+        ensures { IfOk result (λ s. views s.trees.items ≡ view first ∷ view second ∷ []) }
+    {
+        let mut trees = Vec::with_capacity(alloc, 4)?;
+        trees.push_reserved(first);
+        trees.push_reserved(second);
+        Ok(Several { trees })
+    }
+
     /// Adds a tree at the end.
+    #[inline]
     fn add(&mut self, tree: Expr) -> Result<(), AllocError>
         ensures { OnOk result (views self.new.trees.items ≡ views self.old.trees.items ++ view tree ∷ []) }
     {
-        self.trees.push(tree)?;
+        self.trees.reserve(1)?;
+        self.trees.push_reserved(tree);
         Ok(())
     }
 }
 
 impl Row {
-    ghost use Rattle.std.specs.Prelude.{◌≡◌, [], ◌∷◌, ◌++◌, IfOk, OnOk};
+    ghost use Rattle.std.specs.Prelude.{◌≡◌, [], ◌∷◌, ◌++◌, OnOk};
     ghost use Rattle.fancy_syntax.specs.Join.{one_or, choice};
     ghost use Rattle.fancy_syntax.specs.Row.{trees};
     ghost use Rattle.fancy_syntax.specs.Tree.{concat};
     ghost use Rattle.fancy_syntax.specs.View.{view};
 
-    /// The row with one tree more, at its end.
-    fn with(self, alloc: Global, tree: Expr) -> Result<Row, AllocError>
-        ensures { IfOk result (λ r. trees r ≡ trees self ++ view tree ∷ []) }
-    {
-        match self {
-            Row::None => Ok(Row::One(tree)),
-            Row::One(first) => {
-                let mut trees = Vec::with_capacity(alloc, 2)?;
-                trees.push(first)?;
-                trees.push(tree)?;
-                Ok(Row::Several(Several { trees }))
-            }
-            Row::Several(mut several) => {
-                several.add(tree)?;
-                Ok(Row::Several(several))
-            }
-        }
-    }
-
-    /// Adds a tree at the end. A row of several is not moved for it.
+    /// Adds a tree at the end.
+    #[inline]
     pub(crate) fn add(&mut self, alloc: Global, tree: Expr) -> Result<(), AllocError>
         ensures { OnOk result (trees self.new ≡ trees self.old ++ view tree ∷ []) }
     {
-        if let Row::Several(several) = self {
-            return several.add(tree);
+        match self {
+            Row::None => *self = Row::One(tree),
+            Row::One(first) => {
+                let first = mem::replace(first, Expr::Empty);
+                *self = Row::Several(Several::pair(alloc, first, tree)?);
+            }
+            Row::Several(several) => several.add(tree)?,
         }
-        *self = mem::replace(self, Row::None).with(alloc, tree)?;
         Ok(())
     }
 

@@ -1,97 +1,213 @@
-//! The steps of the loop that read a piece, or the parentheses of a group.
-ghost use Rattle.std.specs.Prelude.{◌≡◌, ℕ, ◌+◌, ◌<◌, ◌≤◌, ◌^◌, false, length, chars, IfOk};
+//! The steps of the loop that read a piece, or come to the next part of a group.
+ghost use Rattle.std.specs.Prelude.{◌≡◌, ℕ, ◌+◌, ◌<◌, ◌≤◌, ◌^◌, false, length, chars, IfOk, MatchResult, None};
+ghost use Rattle.fancy_lex.specs.Characters.{bar};
+ghost use Rattle.fancy_lex.specs.Text.{bytes, strip};
 ghost use Rattle.fancy_syntax.specs.Ahead.{ends};
 ghost use Rattle.fancy_syntax.specs.Grammar as spec;
-ghost use Rattle.fancy_syntax.specs.Machine.{Opens, OpensBelow, StepsOn, GivesPiece};
-ghost use Rattle.fancy_syntax.specs.Parsed.{state, Reads};
-ghost use Rattle.fancy_syntax.specs.Quantified.{quant};
+ghost use Rattle.fancy_syntax.specs.Machine as machine;
+ghost use Rattle.fancy_syntax.specs.Machine.{Opens, OpensBelow, Part, StepsOn, GivesPiece, ended_part, open_of};
+ghost use Rattle.fancy_syntax.specs.Parsed.{state, GivesTree};
+ghost use Rattle.fancy_syntax.specs.Quantified.{quants};
+ghost use Rattle.fancy_syntax.specs.Reads.{Fails};
 ghost use Rattle.fancy_syntax.specs.State as states;
+ghost use Rattle.fancy_syntax.specs.Tree.{Tree};
 ghost use Rattle.fancy_syntax.specs.View.{view};
 
-use crate::expr::Expr;
+use crate::expr::{Absent, Expr};
 use crate::grammar::ahead::{Ahead, look_ahead, skip_layout};
+use crate::grammar::conditional::{alone, branches_of, conditional, is_condition};
+use crate::grammar::fault::general;
 use crate::grammar::frame::Opener;
+use crate::grammar::head::{flags_behind, node};
 use crate::grammar::quantified::quantify;
 use crate::grammar::state::State;
 use fancy_lex::error::{Error, ParseError};
-use fancy_lex::text::{after, place};
-use std::alloc::Global;
+use fancy_lex::flags::Flags;
+use fancy_lex::text::{bytes_left, next, place};
+use std::alloc::{AllocError, Global};
 
 /// What a step reads.
-pub(crate) enum Step {
+pub(crate) enum Step<'a> {
     /// A piece, to its end.
     Piece(Expr),
-    /// The opening of a group, up to its inside.
-    Open(Opener),
+    /// The opening of a part of a group, up to its inside.
+    Open(Opener<'a>),
 }
 
 /// Reads a piece, or the opening of a group. A fault is the piece's.
 pub(crate) fn read_step<'a>(
     alloc: Global,
-    here: State<'a>,
+    here: &mut State<'a>,
     depth: usize,
     end: usize,
-) -> Result<(Step, State<'a>), Error>
-    requires within { length here.rest.now ≤ end }
+) -> Result<Step<'a>, Error>
+    requires within { length here.old.rest.now ≤ end }
     requires end { end < 2 ^ 63 }
-    requires more { ends (chars here.rest.now) ≡ false }
-    ensures value { StepsOn result end depth (state here.entry) }
-    ensures shorter { IfOk result (λ p. length p.1.rest.now < length here.entry.rest.now) }
-    ensures below { IfOk result (λ p. OpensBelow p.0 depth) }
+    requires depth { depth < 64 }
+    requires more { ends (chars here.old.rest.now) ≡ false }
+    ensures value { StepsOn result end depth (state here.old) (state here.new) }
+    ensures shorter { IfOk result (λ _. length here.new.rest.now < length here.old.rest.now) }
+    ensures below { IfOk result (λ p. OpensBelow p depth) }
 {
-    let rest = skip_layout(here, end)?;
-    let start = State { rest, ..here };
-    match look_ahead(alloc, start, depth, end)? {
-        Ahead::Nothing => piece(alloc, Expr::Empty, start, end),
-        Ahead::Leaf(atom, behind) => piece(alloc, atom, behind, end),
-        Ahead::Group(inside) => {
-            let opener = Opener::Capture(place(rest, end));
-            Ok((
-                Step::Open(opener),
-                State {
-                    rest: inside,
-                    ..here
-                },
-            ))
-        }
-        Ahead::Scope(inside) => Ok((Step::Open(Opener::Scope(here.flags)), inside)),
+    let left = bytes_left(here.rest);
+    here.rest = skip_layout(*here, end)?;
+    let before = *here;
+    match look_ahead(alloc, here, depth, end)? {
+        Ahead::Nothing => piece(alloc, Expr::Empty, here, left, depth, end),
+        Ahead::Leaf(atom) => piece(alloc, atom, here, left, depth, end),
+        Ahead::Group(head) => Ok(Step::Open(Opener::Group {
+            head,
+            place: place(before.rest, end),
+            flags: before.flags,
+        })),
+        Ahead::Condition => Ok(Step::Open(Opener::Condition)),
+        Ahead::Body(condition) => Ok(Step::Open(Opener::Body {
+            condition,
+            left: bytes_left(here.rest),
+        })),
+        Ahead::AbsentBranch => Ok(Step::Open(Opener::First)),
     }
 }
 
-/// Reads the quantifier of an atom.
+/// Reads the quantifiers of an atom.
+#[inline]
 fn piece<'a>(
     alloc: Global,
     atom: Expr,
-    here: State<'a>,
+    here: &mut State<'a>,
+    left: usize,
+    depth: usize,
     end: usize,
-) -> Result<(Step, State<'a>), Error>
-    requires within { length here.rest.now ≤ end }
+) -> Result<Step<'a>, Error>
+    requires within { length here.old.rest.now ≤ end }
     requires end { end < 2 ^ 63 }
-    ensures value { GivesPiece result (quant end (view atom) (state here.entry)) }
-    ensures within { IfOk result (λ p. length p.1.rest.now ≤ length here.entry.rest.now) }
+    requires depth { depth < 64 }
+    ensures value { GivesPiece result (quants end depth left (view atom) (state here.old)) (state here.new) }
+    ensures within { length here.new.rest.now ≤ length here.old.rest.now }
 {
-    let (piece, behind) = quantify(alloc, atom, here, end)?;
-    Ok((Step::Piece(piece), behind))
+    let mut piece = atom;
+    quantify(alloc, &mut piece, here, left, depth, end)?;
+    Ok(Step::Piece(piece))
 }
 
-/// Reads the closing parenthesis of a group, and its quantifier. UnclosedOpenParen where no closing parenthesis stands.
+/// Ends what is open, where no branch follows: a piece, or the part that comes next. A fault is the piece's.
 pub(crate) fn close<'a>(
+    alloc: Global,
+    opener: Opener<'a>,
+    inner: Expr,
+    here: &mut State<'a>,
+    left: usize,
+    depth: usize,
+    end: usize,
+) -> Result<Step<'a>, Error>
+    requires within { length here.old.rest.now ≤ end }
+    requires end { end < 2 ^ 63 }
+    requires depth { depth < 64 }
+    requires last { strip bar (chars here.old.rest.now) ≡ None }
+    ensures value { (s t : states.State) → left ≡ bytes s.rest → Opens end depth s (open_of opener.entry) t →
+        Part (open_of opener.entry) end (depth + 1) t (states.done (view inner) (state here.old)) →
+        StepsOn result end depth s (state here.new) }
+    ensures shorter { IfOk result (λ _. length here.new.rest.now < length here.old.rest.now) }
+{
+    let has_body = goes_on(&opener);
+    let atom = end_part(alloc, opener, inner, here, end)?;
+    if !has_body {
+        return piece(alloc, atom, here, left, depth, end);
+    }
+    let condition = Box::new(alloc, atom)?;
+    let left = bytes_left(here.rest);
+    Ok(Step::Open(Opener::Body { condition, left }))
+}
+
+/// Whether the atom goes on behind what is open: the body of a conditional follows its condition.
+fn goes_on(opener: &Opener) -> bool
+    ensures { result ≡ machine.goes_on (open_of opener.now) }
+{
+    matches!(opener, Opener::Condition)
+}
+
+/// Reads the closing parenthesis of what is open: the tree that comes out, under the flags that hold there.
+///
+/// The general fault where a conditional has no body; else the faults of `close_paren`.
+fn end_part(
     alloc: Global,
     opener: Opener,
     inner: Expr,
-    here: State<'a>,
+    here: &mut State,
     end: usize,
-) -> Result<(Expr, State<'a>), Error>
-    requires within { length here.rest.now ≤ end }
-    requires end { end < 2 ^ 63 }
-    ensures value { (d : ℕ) (s t : states.State) → Opens end d s opener t → spec.Alternation end (d + 1) t (states.done (view inner) (state here.entry)) →
-        Reads result (spec.Piece end d s) }
-    ensures shorter { IfOk result (λ p. length p.1.rest.now < length here.entry.rest.now) }
+) -> Result<Expr, Error>
+    requires within { length here.old.rest.now ≤ end }
+    ensures value { GivesTree result (state here.new) (ended_part end (open_of opener.entry) (view inner) (state here.old)) }
+    ensures shorter { IfOk result (λ _. length here.new.rest.now < length here.old.rest.now) }
 {
-    let Some(rest) = after(here.rest, ')') else {
-        return Err(Error::ParseError(place(here.rest, end), ParseError::UnclosedOpenParen));
+    if lacks_body(&opener, here.rest) {
+        return Err(general(alloc, NO_BODY, place(here.rest, end)));
+    }
+    close_paren(alloc, here, end)?;
+    here.flags = flags_behind_part(&opener, here.flags);
+    Ok(node_of_part(alloc, opener, inner)?)
+}
+
+/// Whether what is open is the body of a conditional that takes no byte before the text, and the condition cannot do
+/// without.
+fn lacks_body(opener: &Opener, text: &str) -> bool
+    ensures { (s : states.State) → s.rest ≡ chars text.now → result ≡ machine.lacks_body (open_of opener.now) s }
+{
+    match opener {
+        Opener::Body { condition, left } => bytes_left(text) == *left && !is_condition(condition),
+        _ => false,
+    }
+}
+
+/// The flags behind what was open, where `inside` hold at its end.
+fn flags_behind_part(opener: &Opener, inside: Flags) -> Flags
+    ensures { result ≡ machine.flags_behind_part (open_of opener.now) inside }
+{
+    match opener {
+        Opener::Group { head, flags, .. } => flags_behind(*head, *flags, inside),
+        _ => inside,
+    }
+}
+
+/// The tree of what was open, around the tree read inside.
+fn node_of_part(alloc: Global, opener: Opener, inner: Expr) -> Result<Expr, AllocError>
+    ensures { IfOk result (λ e. view e ≡ machine.node_of_part (open_of opener.entry) (view inner)) }
+{
+    match opener {
+        Opener::Top | Opener::Condition => Ok(inner),
+        Opener::Group { head, place, .. } => node(alloc, head, place, inner),
+        Opener::Body { condition, .. } => {
+            let (true_branch, false_branch) = branches_of(inner);
+            conditional(alloc, condition, true_branch, false_branch)
+        }
+        Opener::First => alone(alloc, inner),
+        Opener::Second(absent) => {
+            let exp = Box::new(alloc, inner)?;
+            Ok(Expr::Absent(Absent::Expression { absent, exp }))
+        }
+    }
+}
+
+/// The message of a conditional without a body.
+const NO_BODY: &str =
+    "expected conditional to be a backreference or at least an expression for when the condition is true";
+
+/// Reads a closing parenthesis. UnclosedOpenParen at the end of the text; at a bar, which is behind the second branch
+/// of an absent expression, the general fault.
+pub(crate) fn close_paren(alloc: Global, here: &mut State, end: usize) -> Result<(), Error>
+    requires within { length here.old.rest.now ≤ end }
+    ensures value { (r : Tree) → MatchResult result (λ _. spec.closed end r (state here.old) ≡
+        states.done r (state here.new)) (λ e. Fails e (λ o. spec.closed end r (state here.old) ≡ o)) }
+    ensures shorter { IfOk result (λ _. length here.new.rest.now < length here.old.rest.now) }
+{
+    let Some((c, rest)) = next(here.rest) else {
+        let behind = place(here.rest, end);
+        return Err(Error::ParseError(behind, ParseError::UnclosedOpenParen));
     };
-    let flags = opener.flags_behind(here.flags);
-    let atom = opener.closed(alloc, inner)?;
-    quantify(alloc, atom, State { flags, rest }, end)
+    if c != ')' {
+        let bar = place(here.rest, end);
+        return Err(general(alloc, "expected close paren", bar));
+    }
+    here.rest = rest;
+    Ok(())
 }

@@ -68,7 +68,8 @@ fn has_several(text: &str) -> bool
     next(rest).is_some()
 }
 
-/// Whether the tree's normal form is Empty.
+/// Whether the tree's normal form is Empty. It looks into no Group and no Repeat, so that `is_printable`, which asks it
+/// of the child of each Repeat, comes to no node more than twice.
 #[cycle(normal)]
 fn is_empty_in_normal_form(tree: &Expr) -> bool
     ensures { result ≡ is_empty (normal (view tree.now)) }

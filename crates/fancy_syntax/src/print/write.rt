@@ -1,7 +1,6 @@
 //! Writing a tree's text into a string that has room for it.
-ghost use Rattle.std.specs.Prelude.{◌≡◌, ◌++◌, codes, if◌then◌else◌, [], nat_lt, true};
+ghost use Rattle.std.specs.Prelude.{◌≡◌, ◌++◌, codes, if◌then◌else◌, [], nat_lt, true, chars};
 ghost use Rattle.std.specs.List.{list_all};
-ghost use Rattle.fancy_lex.specs.Text.{text_of};
 ghost use Rattle.fancy_parts.specs.Quote.{quotes, quantifier};
 ghost use Rattle.fancy_parts.specs.Room.{HasRoom, Appended};
 ghost use Rattle.fancy_syntax.specs.Printed.{printed, printed_all, printed_branches, grouped, caseless};
@@ -26,20 +25,47 @@ fn put_if(buf: &mut String, asked: bool, text: &str)
     }
 }
 
-#[tactic(auto, using(crate::proofs::PrintLemmas::write_steps))]
-fn put_literal(buf: &mut String, val: &String, casei: bool)
-    requires { HasRoom buf.old (caseless casei (quotes (text_of val.now))) }
-    ensures { Appended buf.old buf.new (caseless casei (quotes (text_of val.now))) }
+// Only the calls for what is rare or holds trees save registers: none of them is inlined into the call for a leaf.
+
+/// Writes a text that does not depend on what a tree holds.
+#[inline(never)]
+fn put_fixed(buf: &mut String, text: &str)
+    requires ascii { list_all (λ b. nat_lt b 128) text.now ≡ true }
+    requires room { HasRoom buf.old text.now }
+    ensures { Appended buf.old buf.new text.now }
 {
-    put_if(buf, casei, "(?i:");
-    put_quotes(buf, val.as_str());
-    put_if(buf, casei, ")");
+    put_ascii(buf, text);
 }
 
+#[inline]
+#[tactic(auto, unfolding(crate::specs::Printed::caseless))]
+fn put_literal(buf: &mut String, val: &str, casei: bool)
+    requires { HasRoom buf.old (caseless casei (quotes (chars val.now))) }
+    ensures { Appended buf.old buf.new (caseless casei (quotes (chars val.now))) }
+{
+    if casei {
+        put_caseless_literal(buf, val);
+    } else {
+        put_quotes(buf, val);
+    }
+}
+
+#[inline(never)]
 #[tactic(auto, using(crate::proofs::PrintLemmas::write_steps))]
-fn put_delegate(buf: &mut String, inner: &String, casei: bool)
-    requires { HasRoom buf.old (caseless casei (text_of inner.now)) }
-    ensures { Appended buf.old buf.new (caseless casei (text_of inner.now)) }
+fn put_caseless_literal(buf: &mut String, val: &str)
+    requires { HasRoom buf.old (caseless true (quotes (chars val.now))) }
+    ensures { Appended buf.old buf.new (caseless true (quotes (chars val.now))) }
+{
+    put_ascii(buf, "(?i:");
+    put_quotes(buf, val);
+    put(buf, ')');
+}
+
+#[inline(never)]
+#[tactic(auto, using(crate::proofs::PrintLemmas::write_steps))]
+fn put_delegate(buf: &mut String, inner: &str, casei: bool)
+    requires { HasRoom buf.old (caseless casei (chars inner.now)) }
+    ensures { Appended buf.old buf.new (caseless casei (chars inner.now)) }
 {
     put_if(buf, casei, "(?i:");
     put_text(buf, inner);
@@ -54,10 +80,10 @@ pub fn put_tree(buf: &mut String, tree: &Expr, precedence: u8)
     ensures { Appended buf.old buf.new (printed (view tree.now) precedence) }
 {
     match tree {
-        Expr::Any { newline, crlf } => put_ascii(buf, any_text(*newline, *crlf)),
-        Expr::Assertion(assertion) => put_ascii(buf, assertion_text(*assertion)),
-        Expr::Literal { val, casei } => put_literal(buf, val, *casei),
-        Expr::Delegate { inner, casei } => put_delegate(buf, inner, *casei),
+        Expr::Any { newline, crlf } => put_fixed(buf, any_text(*newline, *crlf)),
+        Expr::Assertion(assertion) => put_fixed(buf, assertion_text(*assertion)),
+        Expr::Literal { val, casei } => put_literal(buf, val.as_str(), *casei),
+        Expr::Delegate { inner, casei } => put_delegate(buf, inner.as_str(), *casei),
         Expr::Concat(children) => put_concat(buf, children, precedence > 1),
         Expr::Alt(children) => put_alt(buf, children, precedence > 0),
         Expr::Group(child) => put_group(buf, child),
@@ -72,6 +98,7 @@ pub fn put_tree(buf: &mut String, tree: &Expr, precedence: u8)
 }
 
 #[cycle(write)]
+#[inline(never)]
 #[tactic(auto, using(crate::proofs::PrintLemmas::write_steps))]
 fn put_concat(buf: &mut String, trees: &[Expr], is_grouped: bool)
     requires { HasRoom buf.old (grouped is_grouped (printed_all (trees_of (views trees.now)))) }
@@ -94,6 +121,7 @@ fn put_all(buf: &mut String, trees: &[Expr])
 }
 
 #[cycle(write)]
+#[inline(never)]
 #[tactic(auto, using(crate::proofs::PrintLemmas::write_steps))]
 fn put_alt(buf: &mut String, trees: &[Expr], is_grouped: bool)
     requires { HasRoom buf.old (grouped is_grouped (printed_branches (trees_of (views trees.now)))) }
@@ -117,6 +145,7 @@ fn put_branches(buf: &mut String, trees: &[Expr])
 }
 
 #[cycle(write)]
+#[inline(never)]
 #[tactic(auto, using(crate::proofs::PrintLemmas::write_steps))]
 fn put_group(buf: &mut String, tree: &Expr)
     requires { HasRoom buf.old (codes "(" ++ (printed (view tree.now) 0 ++ codes ")")) }
@@ -128,6 +157,7 @@ fn put_group(buf: &mut String, tree: &Expr)
 }
 
 #[cycle(write)]
+#[inline(never)]
 #[tactic(auto, using(crate::proofs::PrintLemmas::write_steps))]
 fn put_repeat(buf: &mut String, child: &Expr, lo: usize, hi: usize, greedy: bool, is_grouped: bool)
     requires { HasRoom buf.old (grouped is_grouped (printed (view child.now) 3 ++ quantifier lo hi greedy)) }

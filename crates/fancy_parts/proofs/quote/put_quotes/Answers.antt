@@ -1,24 +1,15 @@
-use Rattle.std.proofs.Common.{ap, chars, rules}
-use Rattle.fancy_parts.specs.Quote.{quotes, quoted}
-use Rattle.fancy_parts.proofs.RoomLemmas.{writing_starts, writing_as, writing_room, writing_later, writing_ends}
-use Rattle.fancy_parts.proofs.QuoteLemmas.{quotes_left}
+use Rattle.std.proofs.Common.{subst, rules, sym}
+use Rattle.fancy_parts.specs.Room.{HasRoom}
+use Rattle.fancy_parts.proofs.QuoteLemmas.{one_quoted}
+use Rattle.fancy_parts.proofs.RoomLemmas.{written_as}
 use Rattle.fancy_parts.proofs.quote.put_quotes.Goals as goal
 
-pub loop-c-init : goal.loop-c-init
-loop-c-init c = record { text = search rules; writing = writing_starts c.args.buf.now (quotes (chars c.args.text.now)) c.requires }
+pub put_quote-requires : goal.put_quote-requires
+put_quote-requires c =
+    let one = one_quoted c.args.text.now c.from.result c.utf8.text (search rules) (search rules) (search rules) in
+    subst (HasRoom c.args.buf.now) one c.requires
 
-pub put_quoted-requires : goal.put_quoted-requires
-put_quoted-requires c =
-    let e = quotes_left (chars c.loop-c.left.now) (chars c.in-Some.rest.now) c.in-Some.c c.in-Some.ensures.value in
-    writing_room c.args.buf.now c.loop-c.buf (quoted c.in-Some.c) (quotes (chars c.in-Some.rest.now)) _ (writing_as _ _ _ _ _ e c.loop-c.invariant.writing)
-
-pub loop-c-preserved : goal.loop-c-preserved
-loop-c-preserved c =
-    let e = quotes_left (chars c.loop-c.left.now) (chars c.in-Some.rest.now) c.in-Some.c c.in-Some.ensures.value in
-    record {
-      text = search rules;
-      writing = writing_later c.args.buf.now c.loop-c.buf c.put_quoted.new.buf (quoted c.in-Some.c) (quotes (chars c.in-Some.rest.now)) _ (writing_as _ _ _ _ _ e c.loop-c.invariant.writing) c.put_quoted.ensures;
-    }
-
-pub returns : goal.returns
-returns c = writing_ends c.args.buf.now c.loop-c.buf _ (writing_as _ _ _ _ _ (ap quotes c.in_default.ensures.value) c.loop-c.invariant.writing)
+pub returns-in-len1 : goal.returns-in-len1
+returns-in-len1 c =
+    let one = one_quoted c.args.text.now c.from.result c.utf8.text (search rules) (search rules) (search rules) in
+    written_as c.args.buf.now c.put_quote.new.buf _ _ c.put_quote.ensures (sym one)

@@ -1,7 +1,9 @@
-use Rattle.std.proofs.Common.{arith, chars}
-use Rattle.fancy_parts.proofs.QuoteLemmas.{quotes_step}
+use Rattle.std.proofs.Common.{◌≡◌, take, take_all, ◌∙◌, arith}
+use Rattle.fancy_parts.proofs.QuoteLemmas.{quotes_bytes}
 use Rattle.fancy_parts.proofs.quote.quotes_len.Goals as goal
 
-pub returns-in_default-checked_add : goal.returns-in_default-checked_add
-returns-in_default-checked_add c =
-    omega (arith, quotes_step (chars c.loop-c.left.now) (chars c.in-Some.rest.now) c.in-Some.c c.in-Some.ensures.value, c.in_default-checked_add.ensures)
+pub returns : goal.returns
+returns c =
+    let bytes = c.args.text.now in
+    let all : take c.loop-byte.byte-index bytes ≡ bytes = take_all c.loop-byte.byte-index bytes (omega arith) in
+    (rw all at c.loop-byte.invariant) ∙ quotes_bytes bytes c.utf8.text

@@ -1,87 +1,138 @@
-use Rattle.std.proofs.Common.{◌≡◌, sym, length, [], arith, subst}
-use Rattle.std.proofs.lemmas.List.{nil_from_length}
+use Rattle.std.proofs.Common.{◌≡◌, ap, sym, length, [], arith, subst}
+use Rattle.std.proofs.lemmas.List.{nil_from_length, length_push}
 use Rattle.std.proofs.lemmas.Result.{err_from_is_err_and}
 use Rattle.fancy_syntax.specs.Grammar.{Alternation, Piece}
-use Rattle.fancy_syntax.specs.Machine.{Opens}
+use Rattle.fancy_syntax.specs.Machine.{Opens, IsFaultOfBar, open_of}
 use Rattle.fancy_syntax.specs.Parsed.{state}
 use Rattle.fancy_syntax.specs.State.{done, fault}
 use Rattle.fancy_syntax.specs.View.{view}
-use Rattle.fancy_syntax.proofs.MachineLemmas.{running_start, running_fault, running_piece, running_open, running_bar, running_end, running_closing}
+use Rattle.fancy_syntax.proofs.MachineLemmas.{running_start, running_left, running_fault, running_piece, running_open, running_bar, running_bar_fault, running_end, running_closing}
 use Rattle.fancy_syntax.proofs.OutcomeLemmas.{Fails-map}
 use Rattle.fancy_syntax.proofs.grammar.alternation.Goals as goal
 
-pub loop-here-init : goal.loop-here-init
-loop-here-init c =
+pub loop-c-init : goal.loop-c-init
+loop-c-init c =
     let f = c.new-frame.ensures in
     record {
-      running = running_start c.args.end (state c.args.start) _ _ c.in_ok-stack.ensures.items f.branches f.pieces f.opener;
+      running = running_start c.args.end (state c.args.start) _ _ c.in_ok-stack.ensures.items f.branches f.pieces (ap open_of f.opener);
       room = c.in_ok-stack.ensures.capacity;
+      depth = rw c.in_ok-stack.ensures.items (omega arith);
       within = omega arith;
     }
 
-pub returns-in_err-read-clause-value : goal.returns-in_err-read-clause-value
-returns-in_err-read-clause-value c =
-    let n : c.len.result ≡ length c.loop-here.stack.items = omega (arith, c.len.ensures, c.loop-here.stack.ok.0) in
-    let e = err_from_is_err_and c.from_residual-in_err-read.result c.from_residual-in_err-read.ensures.1 in
-    rw (e.1, e.2) (Fails-map (Piece c.args.end c.len.result (state c.loop-here.here)) (Alternation c.args.end 0 (state c.args.start)) c.in_err-read.field-0.0
-    (λ k p h. running_fault c.loop-here.invariant.running (sym c.if-not-is_end.ensures)
-    (subst (λ d. Piece c.args.end d (state c.loop-here.here) (fault k p)) n h)) c.in_err-read.ensures.value)
+pub loop-c-preserved-in-Some : goal.loop-c-preserved-in-Some
+loop-c-preserved-in-Some c =
+    let f = c.in_ok-add.ensures in
+    let plain = c.in-Some.ensures.plain in
+    let leaf = c.in_ok-leaf.ensures in
+    record {
+      running = running_piece c.add.new.self c.loop-c.invariant.running plain.more (plain.piece _ _) (ap open_of f.opener) f.branches (rw leaf at f.pieces);
+      room = c.loop-c.invariant.room;
+      depth = c.loop-c.invariant.depth;
+      within = omega (arith, c.loop-c.invariant.within, c.in-Some.ensures.shorter);
+    }
 
-pub loop-here-preserved-in-Piece : goal.loop-here-preserved-in-Piece
-loop-here-preserved-in-Piece c =
-    let n : c.len.result ≡ length c.loop-here.stack.items = omega (arith, c.len.ensures, c.loop-here.stack.ok.0) in
+pub returns-in_err-piece-clause-value : goal.returns-in_err-piece-clause-value
+returns-in_err-piece-clause-value c =
+    let n : c.len.result ≡ length c.loop-c.stack.items = omega (arith, c.len.ensures, c.loop-c.stack.ok.0) in
+    let e = err_from_is_err_and c.from_residual-in_err-piece.result c.from_residual-in_err-piece.ensures.1 in
+    rw (e.1, e.2) (Fails-map (Piece c.args.end c.len.result (state c.loop-c.here)) (Alternation c.args.end 0 (state c.args.start)) c.in_err-piece.field-0.0
+    (λ k p h. running_fault c.loop-c.invariant.running (sym c.if-not-is_end.ensures)
+    (subst (λ d. Piece c.args.end d (state c.loop-c.here) (fault k p)) n h)) c.in_err-piece.ensures.value)
+
+pub loop-c-preserved-in-Continue-branch-6 : goal.loop-c-preserved-in-Continue-branch-6
+loop-c-preserved-in-Continue-branch-6 c =
+    let n : c.len.result ≡ length c.loop-c.stack.items = omega (arith, c.len.ensures, c.loop-c.stack.ok.0) in
     let f = c.in_ok-add-in-Piece.ensures in
     record {
-      running = running_piece c.add.new.self c.loop-here.invariant.running (sym c.if-not-is_end.ensures)
-          (subst (λ d. Piece c.args.end d (state c.loop-here.here) (done (view c.in-Piece.piece) (state c.in_ok-read.behind))) n
-          (rw c.in-Piece.is at c.in_ok-read.ensures.value)) f.opener f.branches f.pieces;
-      room = c.loop-here.invariant.room;
-      within = omega (arith, c.loop-here.invariant.within, c.in_ok-read.ensures.shorter);
+      running = running_piece c.add-in-Piece.new.self c.loop-c.invariant.running (sym c.if-not-is_end.ensures)
+          (subst (λ d. Piece c.args.end d (state c.loop-c.here) (done (view c.in-Piece.piece) (state c.read_step.new.here))) n
+          (rw c.in-Piece.is at c.in_ok-piece.ensures.value)) (ap open_of f.opener) f.branches f.pieces;
+      room = c.loop-c.invariant.room;
+      depth = c.loop-c.invariant.depth;
+      within = omega (arith, c.loop-c.invariant.within, c.in_ok-piece.ensures.shorter);
     }
 
-pub loop-here-preserved-in-Open : goal.loop-here-preserved-in-Open
-loop-here-preserved-in-Open c =
-    let n : c.len.result ≡ length c.loop-here.stack.items = omega (arith, c.len.ensures, c.loop-here.stack.ok.0) in
+pub loop-c-preserved-in-Open : goal.loop-c-preserved-in-Open
+loop-c-preserved-in-Open c =
+    let n : c.len.result ≡ length c.loop-c.stack.items = omega (arith, c.len.ensures, c.loop-c.stack.ok.0) in
     let f = c.new-frame-in-Open.ensures in
+    let items = c.push_frame.ensures.items in
+    let below = rw c.in-Open.is at c.in_ok-piece.ensures.below in
     record {
-      running = running_open c.push_frame.new.stack.items c.new-frame-in-Open.result c.loop-here.invariant.running (sym c.if-not-is_end.ensures)
-          (subst (λ d. Opens c.args.end d (state c.loop-here.here) c.in-Open.opener (state c.in_ok-read.behind)) n
-          (rw c.in-Open.is at c.in_ok-read.ensures.value)) c.push_frame.ensures.items f.opener f.branches f.pieces;
-      room = omega (arith, c.loop-here.invariant.room, c.push_frame.ensures.capacity);
-      within = omega (arith, c.loop-here.invariant.within, c.in_ok-read.ensures.shorter);
+      running = running_open c.push_frame.new.stack.items c.new-frame-in-Open.result (running_left c.bytes_left.result c.loop-c.invariant.running)
+          c.bytes_left.ensures (sym c.if-not-is_end.ensures)
+          (subst (λ d. Opens c.args.end d (state c.loop-c.here) (open_of c.in-Open.opener) (state c.read_step.new.here)) n
+          (rw c.in-Open.is at c.in_ok-piece.ensures.value)) items (ap open_of f.opener) f.branches f.pieces;
+      room = omega (arith, c.loop-c.invariant.room, c.push_frame.ensures.capacity);
+      depth = omega (arith, n, below, ap length items, length_push c.loop-c.stack.items (record c.loop-c.frame { left = c.bytes_left.result }));
+      within = omega (arith, c.loop-c.invariant.within, c.in_ok-piece.ensures.shorter);
     }
 
-pub loop-here-preserved-in-Some : goal.loop-here-preserved-in-Some
-loop-here-preserved-in-Some c =
-    let f = c.in_ok-end_branch.ensures in
+pub returns-in_err-bar-clause-value : goal.returns-in_err-bar-clause-value
+returns-in_err-bar-clause-value c =
+    let e = err_from_is_err_and c.from_residual-in_err-bar.result c.from_residual-in_err-bar.ensures.1 in
+    rw (e.1, e.2) (Fails-map (IsFaultOfBar (open_of c.loop-c.frame.opener) c.place.result) (Alternation c.args.end 0 (state c.args.start)) c.in_err-bar.field-0.0
+    (λ k p h. running_bar_fault _ c.loop-c.invariant.running (sym c.if-not-is_end.ensures) c.in-Some-after.ensures.value
+    (subst (λ q. IsFaultOfBar (open_of c.loop-c.frame.opener) q (fault k p)) c.place.ensures h)) c.in_err-bar.ensures.fault)
+
+pub loop-c-preserved-in-Some-after : goal.loop-c-preserved-in-Some-after
+loop-c-preserved-in-Some-after c =
+    let f = c.in_ok-bar.ensures in
     record {
-      running = running_bar c.end_branch.new.self c.loop-here.invariant.running (sym c.if-not-is_end.ensures) c.in-Some.ensures.value f.opener f.branches f.pieces;
-      room = c.loop-here.invariant.room;
-      within = omega (arith, c.loop-here.invariant.within, c.in-Some.ensures.shorter);
+      running = running_bar c.bar.new.self c.loop-c.invariant.running (sym c.if-not-is_end.ensures) c.in-Some-after.ensures.value f.allowed f.opener f.branches f.pieces;
+      room = c.loop-c.invariant.room;
+      depth = c.loop-c.invariant.depth;
+      within = omega (arith, c.loop-c.invariant.within, c.in-Some-after.ensures.shorter);
     }
 
 pub returns-in_default-pop-clause-value : goal.returns-in_default-pop-clause-value
 returns-in_default-pop-clause-value c =
-    let none : c.loop-here.stack.items ≡ [] = nil_from_length _ (omega (arith, c.loop-here.stack.ok.0, c.in_default-pop.ensures.cases.0)) in
-    running_end (view c.in_ok-opener.inner) c.loop-here.invariant.running (sym c.if-not-is_end.ensures) c.in_default.ensures.value
+    let none : c.loop-c.stack.items ≡ [] = nil_from_length _ (omega (arith, c.loop-c.stack.ok.0, c.in_default-pop.ensures.cases.0)) in
+    running_end (view c.in_ok-opener.inner) c.loop-c.invariant.running (sym c.if-not-is_end.ensures) c.in_default-after.ensures.value
     c.in_ok-opener.ensures.tree none
 
-pub returns-in_err-piece-clause-value : goal.returns-in_err-piece-clause-value
-returns-in_err-piece-clause-value c =
-    let w = running_closing c.pop.new.self.items c.in-Some-pop.outer (view c.in_ok-opener.inner) c.in_ok-opener.opener c.in_ok-opener.ensures.opener
-    c.loop-here.invariant.running (sym c.if-not-is_end.ensures) c.in_default.ensures.value c.in_ok-opener.ensures.tree c.in-Some-pop.ensures.items in
-    let e = err_from_is_err_and c.from_residual-in_err-piece.result c.from_residual-in_err-piece.ensures.1 in
-    rw (e.1, e.2) (Fails-map (Piece c.args.end (length c.pop.new.self.items) w.here) (Alternation c.args.end 0 (state c.args.start)) c.in_err-piece.field-0.0
-    (λ k p h. running_fault w.outer w.more h) (c.in_err-piece.ensures.value _ w.here w.inside w.opens w.whole))
+pub returns-in_err-piece-2-clause-value : goal.returns-in_err-piece-2-clause-value
+returns-in_err-piece-2-clause-value c =
+    let w = running_closing c.pop.new.self.items c.in-Some-pop.outer (view c.in_ok-opener.inner) (open_of c.in_ok-opener.opener) (ap open_of c.in_ok-opener.ensures.opener)
+    c.loop-c.invariant.running (sym c.if-not-is_end.ensures) c.in_default-after.ensures.value c.in_ok-opener.ensures.tree c.in-Some-pop.ensures.items in
+    let n : c.len-in_default-after.result ≡ length c.pop.new.self.items = omega (arith, c.len-in_default-after.ensures, c.pop.new.self.ok.0) in
+    let e = err_from_is_err_and c.from_residual-in_err-piece-2.result c.from_residual-in_err-piece-2.ensures.1 in
+    rw (e.1, e.2) (Fails-map (Piece c.args.end c.len-in_default-after.result w.here) (Alternation c.args.end 0 (state c.args.start)) c.in_err-piece-2.field-0.0
+    (λ k p h. running_fault w.outer w.more (subst (λ d. Piece c.args.end d w.here (fault k p)) n h))
+    (c.in_err-piece-2.ensures.value w.here w.inside w.left (rw n w.opens) (rw n w.whole)))
 
-pub loop-here-preserved : goal.loop-here-preserved
-loop-here-preserved c =
-    let w = running_closing c.pop.new.self.items c.in-Some-pop.outer (view c.in_ok-opener.inner) c.in_ok-opener.opener c.in_ok-opener.ensures.opener
-    c.loop-here.invariant.running (sym c.if-not-is_end.ensures) c.in_default.ensures.value c.in_ok-opener.ensures.tree c.in-Some-pop.ensures.items in
-    let f = c.in_ok-add.ensures in
+pub loop-c-preserved-in-Continue-branch-11 : goal.loop-c-preserved-in-Continue-branch-11
+loop-c-preserved-in-Continue-branch-11 c =
+    let popped = c.in-Some-pop.ensures.items in
+    let w = running_closing c.pop.new.self.items c.in-Some-pop.outer (view c.in_ok-opener.inner) (open_of c.in_ok-opener.opener) (ap open_of c.in_ok-opener.ensures.opener)
+    c.loop-c.invariant.running (sym c.if-not-is_end.ensures) c.in_default-after.ensures.value c.in_ok-opener.ensures.tree popped in
+    let n : c.len-in_default-after.result ≡ length c.pop.new.self.items = omega (arith, c.len-in_default-after.ensures, c.pop.new.self.ok.0) in
+    let steps = c.in_ok-piece-2.ensures.value w.here w.inside w.left (rw n w.opens) (rw n w.whole) in
+    let f = c.in_ok-add-in-Piece-2.ensures in
     record {
-      running = running_piece c.add-in_default.new.self w.outer w.more (c.in_ok-piece.ensures.value _ w.here w.inside w.opens w.whole)
-          f.opener f.branches f.pieces;
-      room = omega (arith, c.loop-here.invariant.room, c.in-Some-pop.ensures.capacity);
-      within = omega (arith, c.loop-here.invariant.within, c.in_ok-piece.ensures.shorter);
+      running = running_piece c.add-in-Piece-2.new.self w.outer w.more
+          (subst (λ d. Piece c.args.end d w.here (done (view c.in-Piece-2.piece) (state c.close.new.here))) n (rw c.in-Piece-2.is at steps))
+          (ap open_of f.opener) f.branches f.pieces;
+      room = omega (arith, c.loop-c.invariant.room, c.in-Some-pop.ensures.capacity);
+      depth = omega (arith, c.loop-c.invariant.depth, ap length popped, length_push c.pop.new.self.items c.in-Some-pop.outer);
+      within = omega (arith, c.loop-c.invariant.within, c.in_ok-piece-2.ensures.shorter);
+    }
+
+pub loop-c-preserved : goal.loop-c-preserved
+loop-c-preserved c =
+    let popped = c.in-Some-pop.ensures.items in
+    let w = running_closing c.pop.new.self.items c.in-Some-pop.outer (view c.in_ok-opener.inner) (open_of c.in_ok-opener.opener) (ap open_of c.in_ok-opener.ensures.opener)
+    c.loop-c.invariant.running (sym c.if-not-is_end.ensures) c.in_default-after.ensures.value c.in_ok-opener.ensures.tree popped in
+    let n : c.len-in_default-after.result ≡ length c.pop.new.self.items = omega (arith, c.len-in_default-after.ensures, c.pop.new.self.ok.0) in
+    let steps = c.in_ok-piece-2.ensures.value w.here w.inside w.left (rw n w.opens) (rw n w.whole) in
+    let f = c.new-frame-in-Open-2.ensures in
+    let pushed = c.push_frame-in-Open-2.ensures.items in
+    record {
+      running = running_open c.push_frame-in-Open-2.new.stack.items c.new-frame-in-Open-2.result w.outer w.left w.more
+          (subst (λ d. Opens c.args.end d w.here (open_of c.in-Open-2.opener) (state c.close.new.here)) n (rw c.in-Open-2.is at steps))
+          pushed (ap open_of f.opener) f.branches f.pieces;
+      room = omega (arith, c.loop-c.invariant.room, c.in-Some-pop.ensures.capacity, c.push_frame-in-Open-2.ensures.capacity);
+      depth = omega (arith, c.loop-c.invariant.depth, ap length popped, ap length pushed, length_push c.pop.new.self.items c.in-Some-pop.outer);
+      within = omega (arith, c.loop-c.invariant.within, c.in_ok-piece-2.ensures.shorter);
     }

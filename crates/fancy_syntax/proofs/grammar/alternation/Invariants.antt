@@ -1,15 +1,16 @@
-use Rattle.std.proofs.Common.{◌≤◌, length, vec_capacity}
+use Rattle.std.proofs.Common.{◌≤◌, ◌<◌, length, vec_capacity}
 use Rattle.fancy_syntax.specs.Ahead.{max_depth}
 use Rattle.fancy_syntax.specs.Parsed.{state}
 use Rattle.fancy_syntax.proofs.MachineLemmas.{Running}
 use Rattle.fancy_syntax.proofs.grammar.alternation.Given as goal
 
-abbrev pub invariant-loop-here : goal.invariant-loop-here
-invariant-loop-here l = record {
+abbrev pub invariant-loop-c : goal.invariant-loop-c
+invariant-loop-c l = record {
   running : Running l.fn.end (state l.fn.start) l.stack.items l.frame (state l.here);
   room : max_depth ≤ vec_capacity l.stack;
+  depth : length l.stack.items < max_depth;
   within : length l.here.rest.now ≤ length l.fn.start.rest.now;
 }
 
-abbrev pub decreases-loop-here : goal.decreases-loop-here
-decreases-loop-here l = length l.here.rest.now
+abbrev pub decreases-loop-c : goal.decreases-loop-c
+decreases-loop-c l = length l.here.rest.now

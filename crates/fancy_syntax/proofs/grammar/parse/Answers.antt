@@ -1,20 +1,14 @@
-use Rattle.std.proofs.Common.{◌≡◌, codes, refl, sym, subst, ℕ}
+use Rattle.std.proofs.Common.{◌≡◌, ◌∷◌, refl, sym, subst, ap, ℕ}
 use Rattle.std.proofs.lemmas.Result.{err_from_is_err_and}
 use Rattle.std.specs.Str.{chars}
 use Rattle.fancy_lex.proofs.TextLemmas.{bytes_chars}
-use Rattle.fancy_lex.specs.Fault.{general_parse_error}
-use Rattle.fancy_lex.specs.Text.{Text}
-use Rattle.fancy_syntax.specs.Grammar.{Alternation, Whole, whole, whole_fault, left_over, unread_mode, start}
+use Rattle.fancy_syntax.specs.Grammar.{Alternation, Whole, whole, unread_mode, start, ended_at}
 use Rattle.fancy_syntax.specs.Parsed.{state}
-use Rattle.fancy_syntax.specs.Reads.{IsFault}
 use Rattle.fancy_syntax.specs.State.{done, fault}
 use Rattle.fancy_syntax.specs.View.{view}
+use Rattle.fancy_syntax.proofs.FaultLemmas.{says_end}
 use Rattle.fancy_syntax.proofs.OutcomeLemmas.{Fails-map, Fails-is}
 use Rattle.fancy_syntax.proofs.grammar.parse.Goals as goal
-
-message : chars (codes "end of string not reached") ≡ codes "end of string not reached"
-unfolding chars
-message = refl
 
 pub returns-then-is_unread_mode : goal.returns-then-is_unread_mode
 returns-then-is_unread_mode c = record {
@@ -27,29 +21,31 @@ returns-in_err-tree c =
     let e = err_from_is_err_and c.from_residual.result c.from_residual.ensures.1 in
     record {
       reads = rw (e.1, e.2) (Fails-map (Alternation _ 0 (start c.args.flags (chars c.args.text.now))) (Whole c.args.flags (chars c.args.text.now)) c.in_err-tree.field-0.0
-          (λ k p h. whole_fault (sym c.if-is_unread_mode.ensures)
-          (subst (λ (m : ℕ). Alternation m 0 (start c.args.flags (chars c.args.text.now)) (fault k p)) (sym n) h)) c.in_err-tree.ensures.value);
+          (λ k p h. whole (sym c.if-is_unread_mode.ensures)
+          (subst (λ (m : ℕ). Alternation m 0 (start c.args.flags (chars c.args.text.now)) (fault k p)) (sym n) h) refl) c.in_err-tree.ensures.value);
     }
 
 pub returns-in-None : goal.returns-in-None
 returns-in-None c =
     let n = bytes_chars c.args.text.now c.utf8.text in
+    let here = state c.in_ok-tree.here in
     record {
       reads = (
-        state c.in_ok-tree.here,
+        here,
         whole (sym c.if-is_unread_mode.ensures)
-            (subst (λ (m : ℕ). Alternation m 0 (start c.args.flags (chars c.args.text.now)) (done (view c.in_ok-tree.tree) (state c.in_ok-tree.here))) (sym n)
-            c.in_ok-tree.ensures.value) c.in-None.ensures.value,
+            (subst (λ (m : ℕ). Alternation m 0 (start c.args.flags (chars c.args.text.now)) (done (view c.in_ok-tree.tree) here)) (sym n) c.in_ok-tree.ensures.value)
+            (ap (ended_at _ (view c.in_ok-tree.tree) here) c.in-None.ensures.value),
       );
     }
 
 pub returns-in-Some : goal.returns-in-Some
 returns-in-Some c =
     let n = bytes_chars c.args.text.now c.utf8.text in
-    let f = subst (λ (t : Text). IsFault c.general.result (general_parse_error t) c.place.result) message c.general.ensures in
+    let f = says_end c.general.result c.place.result c.general.ensures in
+    let here = state c.in_ok-tree.here in
     record {
       reads = Fails-is (Whole c.args.flags (chars c.args.text.now)) c.general.result _ _ (rw (c.place.ensures, ← n) at f)
-          (left_over (sym c.if-is_unread_mode.ensures)
-          (subst (λ (m : ℕ). Alternation m 0 (start c.args.flags (chars c.args.text.now)) (done (view c.in_ok-tree.tree) (state c.in_ok-tree.here))) (sym n)
-          c.in_ok-tree.ensures.value) c.in-Some.ensures.value);
+          (whole (sym c.if-is_unread_mode.ensures)
+          (subst (λ (m : ℕ). Alternation m 0 (start c.args.flags (chars c.args.text.now)) (done (view c.in_ok-tree.tree) here)) (sym n) c.in_ok-tree.ensures.value)
+          (ap (ended_at _ (view c.in_ok-tree.tree) here) c.in-Some.ensures.value));
     }

@@ -5,7 +5,7 @@ use Rattle.fancy_lex.proofs.escape.hex.digits.Goals as goal
 
 pub returns-in_default-clause-value : goal.returns-in_default-clause-value
 returns-in_default-clause-value c =
-    c.loop-read.invariant.same ∙ digits_end _ _ _ _ _ _ c.loop-read-test.true c.in_default.ensures.value ∙ c.closed.ensures.value
+    rw (c.loop-read.invariant.same, digits_end _ _ _ _ _ _ c.loop-read-test.true c.in_default.ensures.value) c.closing_brace.ensures.value
 
 pub overflow_mul-value : goal.overflow_mul-value
 overflow_mul-value c =
@@ -18,7 +18,7 @@ overflow_add-value c =
 pub returns-in_err-left-clause-value : goal.returns-in_err-left-clause-value
 returns-in_err-left-clause-value c =
     let p = err_from_is_err_and c.from_residual.result c.from_residual.ensures.1 in
-    rw (p.1, p.2) (c.loop-read.invariant.same ∙ digits_fault _ _ _ _ _ _ _ _ _ c.loop-read-test.true c.in-Some.ensures.value c.in_err-left.ensures.value)
+    rw (p.1, p.2, c.loop-read.invariant.same) (digits_fault _ _ _ _ _ _ _ _ _ c.loop-read-test.true c.in-Some.ensures.value c.in_err-left.ensures.value)
 
 pub loop-read-preserved : goal.loop-read-preserved
 loop-read-preserved c = record {
@@ -30,4 +30,4 @@ loop-read-preserved c = record {
 
 pub returns-clause-value : goal.returns-clause-value
 returns-clause-value c =
-    c.loop-read.invariant.same ∙ digits_done _ _ _ _ _ _ c.loop-read-test.false ∙ c.closed-2.ensures.value
+    rw (c.loop-read.invariant.same, digits_done _ _ _ _ _ _ c.loop-read-test.false) c.closing_brace-2.ensures.value

@@ -1,15 +1,18 @@
-use Rattle.std.proofs.Common.{arith, ap, ◌++◌, ◌∙◌}
+use Rattle.std.proofs.Common.{arith, rules, ap, ◌++◌, ◌∙◌}
 use Rattle.std.specs.Prelude.{encode_utf8_all}
+use Rattle.fancy_parts.proofs.RoomLemmas.{room_counted}
 use Rattle.fancy_syntax.specs.Printed.{printed}
 use Rattle.fancy_syntax.specs.View.{view}
 use Rattle.fancy_syntax.proofs.PrintLemmas.{added, bytes_none}
 use Rattle.fancy_syntax.proofs.expr.Expr.to_str.Goals as goal
 
-pub returns-in_default-clause-nothing_to_print : goal.returns-in_default-clause-nothing_to_print
-returns-in_default-clause-nothing_to_print c h = absurd (omega (arith, bytes_none _ h, c.in_default.ensures))
+pub put_tree-requires : goal.put_tree-requires
+put_tree-requires c = room_counted c.reserve.new.self _ c.tree_len.result c.tree_len.ensures (search rules)
 
 pub returns-in_err-reserve-clause-nothing_to_print : goal.returns-in_err-reserve-clause-nothing_to_print
-returns-in_err-reserve-clause-nothing_to_print c h = let w = c.args.buf.now.bytes.ok in absurd (omega (arith, bytes_none _ h, c.in-Some.ensures, c.in_err-reserve.ensures.full))
+returns-in_err-reserve-clause-nothing_to_print c h =
+    let w = c.args.buf.now.bytes.ok in
+    absurd (omega (arith, bytes_none _ h, c.tree_len.ensures, c.in_err-reserve.ensures.full))
 
 pub returns-clause-appended : goal.returns-clause-appended
 returns-clause-appended c =

@@ -1,22 +1,28 @@
-use Rattle.std.proofs.Common.{◌≡◌, ap}
-use Rattle.fancy_lex.specs.declared.flags.Flags.{Flags}
-use Rattle.fancy_syntax.specs.Grammar.{Piece, piece, Atom}
+use Rattle.std.proofs.Common.{◌≡◌, sym, ◌∙◌}
+use Rattle.std.proofs.lemmas.Result.{err_from_is_err_and}
+use Rattle.fancy_syntax.specs.Grammar.{Piece}
+use Rattle.fancy_syntax.specs.Machine.{open_of, ended_part}
 use Rattle.fancy_syntax.specs.Parsed.{state}
-use Rattle.fancy_syntax.specs.Quantified.{quant}
-use Rattle.fancy_syntax.specs.State.{State, at}
 use Rattle.fancy_syntax.specs.View.{view}
-use Rattle.fancy_syntax.proofs.MachineLemmas.{opens_unclosed, opens_closed}
-use Rattle.fancy_syntax.proofs.OutcomeLemmas.{Reads-map, at_done}
+use Rattle.fancy_syntax.proofs.MachineLemmas.{ended_fault, condition_ended, closes}
+use Rattle.fancy_syntax.proofs.OutcomeLemmas.{Fails-map}
 use Rattle.fancy_syntax.proofs.grammar.step.close.Goals as goal
 
-pub returns-in_default-clause-value : goal.returns-in_default-clause-value
-returns-in_default-clause-value c = λ d s t i r. rw c.place.ensures (opens_unclosed i r c.in_default.ensures.value)
+pub returns-in_err-atom-clause-value : goal.returns-in_err-atom-clause-value
+returns-in_err-atom-clause-value c =
+    λ s t i o p.
+    let e = err_from_is_err_and c.from_residual.result c.from_residual.ensures.1 in
+    rw (e.1, e.2) (Fails-map (λ q. ended_part c.args.end (open_of c.args.opener) (view c.args.inner) (state c.args.here.now) ≡ q) (Piece c.args.end c.args.depth s)
+    c.in_err-atom.field-0.0 (λ k q h. ended_fault (view c.args.inner) (state c.args.here.now) o p (λ _ _. c.requires.last) h) c.in_err-atom.ensures.value)
+
+pub returns-then-not-has_body-clause-value : goal.returns-then-not-has_body-clause-value
+returns-then-not-has_body-clause-value c =
+    λ s t i o p.
+    closes (view c.args.inner) (state c.args.here.now) c.piece.result _ o p (sym c.goes_on-has_body.ensures ∙ c.if-not-has_body.true) c.requires.last
+    c.in_ok-atom.ensures.value i c.piece.ensures.value
 
 pub returns-clause-value : goal.returns-clause-value
 returns-clause-value c =
-    λ d s t i r.
-    let (u, l, whole) = opens_closed i r c.in-Some.ensures.value in
-    let behind = state (record { flags = c.flags_behind-flags.result; rest = c.in-Some.rest }) in
-    let flags : ◌≡◌ {A = State} behind _ = ap (λ (f : Flags). record behind { flags = f }) c.flags_behind-flags.ensures in
-    let a = at_done (Atom c.args.end d (at s u)) c.in_ok-atom.ensures flags whole in
-    Reads-map (λ o. quant c.args.end (view c.in_ok-atom.atom) behind ≡ o) (Piece c.args.end d s) c.quantify.result (λ o q. piece l a q) c.quantify.ensures.value
+    λ s t i o p.
+    rw (c.bytes_left-left.ensures, c.in_ok-condition.ensures.ok) (condition_ended (view c.args.inner) (state c.args.here.now) o p
+    (sym c.goes_on-has_body.ensures ∙ c.if-not-has_body.false) c.in_ok-atom.ensures.value)

@@ -1,8 +1,8 @@
-use Rattle.std.proofs.Common.{◌≡◌}
+use Rattle.std.proofs.Common.{◌≡◌, refl, sym, subst, ap, length}
 use Rattle.std.proofs.lemmas.Result.{err_from_is_err_and}
 use Rattle.fancy_syntax.specs.Ahead.{ahead, leaf}
-use Rattle.fancy_syntax.specs.Grammar.{Piece, atom_fault, atom, a_nothing, a_leaf}
-use Rattle.fancy_syntax.specs.Machine.{capture, scoped}
+use Rattle.fancy_syntax.specs.Grammar.{Piece, piece, atom, a_nothing, a_leaf}
+use Rattle.fancy_syntax.specs.Machine.{a_group, a_condition, a_body, a_branch}
 use Rattle.fancy_syntax.specs.Parsed.{state}
 use Rattle.fancy_syntax.proofs.AheadLemmas.{nothing_shorter}
 use Rattle.fancy_syntax.proofs.MachineLemmas.{steps_piece, steps_layout}
@@ -10,33 +10,45 @@ use Rattle.fancy_syntax.proofs.OutcomeLemmas.{Fails-map}
 use Rattle.fancy_syntax.proofs.TreeLemmas.{view_Empty}
 use Rattle.fancy_syntax.proofs.grammar.step.read_step.Goals as goal
 
-pub returns-in_err-rest-clause-value : goal.returns-in_err-rest-clause-value
-returns-in_err-rest-clause-value c =
+pub returns-in_err-here-clause-value : goal.returns-in_err-here-clause-value
+returns-in_err-here-clause-value c =
     let e = err_from_is_err_and c.from_residual.result c.from_residual.ensures.1 in
-    let (p, is, layout) = c.in_err-rest.ensures.value in rw (e.1, e.2) (steps_layout _ _ _ _ is layout)
+    let (p, is, layout) = c.in_err-here.ensures.value in rw (e.1, e.2) (steps_layout _ _ _ _ is layout)
 
 pub returns-in_err-look_ahead-clause-value : goal.returns-in_err-look_ahead-clause-value
 returns-in_err-look_ahead-clause-value c =
     let e = err_from_is_err_and c.from_residual-in_err-look_ahead.result c.from_residual-in_err-look_ahead.ensures.1 in
-    rw (e.1, e.2) (Fails-map (λ o. ahead c.args.end c.args.depth _ ≡ leaf o) (Piece c.args.end c.args.depth (state c.args.here))
-    c.in_err-look_ahead.field-0.0 (λ k p h. atom_fault c.in_ok-rest.ensures.value (atom h a_leaf)) c.in_err-look_ahead.ensures.value)
-
-pub returns-in-Nothing-clause-value : goal.returns-in-Nothing-clause-value
-returns-in-Nothing-clause-value c =
-    steps_piece _ _ _ _ _ c.in_ok-rest.ensures.value (atom (rw c.in-Nothing.is at c.in_ok-look_ahead.ensures.value) a_nothing) (rw view_Empty at c.piece.ensures.value)
-
-pub returns-in-Nothing-clause-shorter : goal.returns-in-Nothing-clause-shorter
-returns-in-Nothing-clause-shorter c =
-    nothing_shorter c.args.end c.args.depth _ _ (state c.args.here) _ _ (rw c.in-Nothing.is at c.in_ok-look_ahead.ensures.value) c.requires.more
-    (rw view_Empty at c.piece.ensures.value) c.in_ok-rest.ensures.within c.in_ok-rest.ensures.unmoved c.piece.ensures.within
+    rw (e.1, e.2) (Fails-map (λ o. ahead c.args.end c.args.depth _ ≡ leaf o) (Piece c.args.end c.args.depth (state c.args.here.now))
+    c.in_err-look_ahead.field-0.0 (λ k p h. piece c.in_ok-here.ensures.value (atom h a_leaf) refl) c.in_err-look_ahead.ensures.value)
 
 pub returns-in-Leaf-clause-value : goal.returns-in-Leaf-clause-value
 returns-in-Leaf-clause-value c =
-    steps_piece _ _ _ _ _ c.in_ok-rest.ensures.value (atom (rw c.in-Leaf.is at c.in_ok-look_ahead.ensures.value) a_leaf) c.piece-in-Leaf.ensures.value
+    steps_piece (state c.args.here.now) _ _ c.bytes_left-left.ensures c.in_ok-here.ensures.value
+    (atom (rw c.in-Leaf.is at c.in_ok-look_ahead.ensures.value) a_leaf) c.piece-in-Leaf.ensures.value
+
+pub returns-in-Nothing-clause-value : goal.returns-in-Nothing-clause-value
+returns-in-Nothing-clause-value c =
+    let stays = rw c.in-Nothing.is at c.in_ok-look_ahead.ensures.stays in
+    steps_piece (state c.args.here.now) _ _ c.bytes_left-left.ensures c.in_ok-here.ensures.value
+    (atom (rw c.in-Nothing.is at c.in_ok-look_ahead.ensures.value) a_nothing) (rw (view_Empty, stays) at c.piece.ensures.value)
+
+pub returns-in-Nothing-clause-shorter : goal.returns-in-Nothing-clause-shorter
+returns-in-Nothing-clause-shorter c =
+    let stays = rw c.in-Nothing.is at c.in_ok-look_ahead.ensures.stays in
+    nothing_shorter c.args.end c.args.depth _ _ _ _ (state c.args.here.now) _ _ _ (rw c.in-Nothing.is at c.in_ok-look_ahead.ensures.value) c.requires.more
+    c.bytes_left-left.ensures (rw (view_Empty, stays) at c.piece.ensures.value) c.in_ok-here.ensures.within c.in_ok-here.ensures.unmoved
+    (rw stays at c.piece.ensures.within)
 
 pub returns-in-Group-clause-value : goal.returns-in-Group-clause-value
 returns-in-Group-clause-value c =
-    rw c.place.ensures (capture c.in_ok-rest.ensures.value (rw c.in-Group.is at c.in_ok-look_ahead.ensures.value))
+    rw c.place.ensures (a_group c.in_ok-here.ensures.value (rw c.in-Group.is at c.in_ok-look_ahead.ensures.value))
 
-pub returns-in-Scope-clause-value : goal.returns-in-Scope-clause-value
-returns-in-Scope-clause-value c = scoped c.in_ok-rest.ensures.value (rw c.in-Scope.is at c.in_ok-look_ahead.ensures.value)
+pub returns-in-Condition-clause-value : goal.returns-in-Condition-clause-value
+returns-in-Condition-clause-value c = a_condition c.in_ok-here.ensures.value (rw c.in-Condition.is at c.in_ok-look_ahead.ensures.value)
+
+pub returns-in-Body-clause-value : goal.returns-in-Body-clause-value
+returns-in-Body-clause-value c =
+    rw c.bytes_left.ensures (a_body c.in_ok-here.ensures.value (rw c.in-Body.is at c.in_ok-look_ahead.ensures.value))
+
+pub returns-in-AbsentBranch-clause-value : goal.returns-in-AbsentBranch-clause-value
+returns-in-AbsentBranch-clause-value c = a_branch c.in_ok-here.ensures.value (rw c.in-AbsentBranch.is at c.in_ok-look_ahead.ensures.value)

@@ -1,0 +1,15 @@
+use Rattle.std.proofs.Common.{◌≡◌, ◌++◌, length, chars}
+use denote.Text.{Utf8}
+use denote.Shadow.{shadow}
+use Rattle.fancy_lex.specs.Property.{lowercase}
+use Rattle.fancy_lex.specs.Text.{Text, text_of}
+use Rattle.fancy_lex.proofs.property.push_lowercase.Given as goal
+
+abbrev pub invariant-loop-c : goal.invariant-loop-c
+invariant-loop-c l = record {
+  text : shadow (Utf8 l.left);
+  written : (w : Text) × (chars l.name ≡ w ++ chars l.left) × (text_of l.out ≡ text_of l.initial.out ++ lowercase w);
+}
+
+abbrev pub decreases-loop-c : goal.decreases-loop-c
+decreases-loop-c l = length l.left

@@ -1,0 +1,34 @@
+-- Names: what stands before the first closing mark.
+use Rattle.std.specs.Prelude.{◌≡◌, ◌≢◌, ℕ, ◌<◌, ◌==◌, if◌then◌else◌, [], ◌∷◌, ◌++◌, length, Option, None, option_map}
+use Rattle.std.specs.Option.{option_and_then}
+use Prim.Native.Char.{code}
+use Rattle.fancy_lex.specs.Id.{filled}
+use Rattle.fancy_lex.specs.Property.{cut_at}
+use Rattle.fancy_lex.specs.Text.{Text}
+
+-- no character is the mark
+abbrev pub Without : ℕ → Text → Type 0
+Without mark [] = Unit {0}
+Without mark (c ∷ t) = (c ≢ mark) × Without mark t
+
+-- the text begins with the name `w`, one or more characters up to the first closing mark, and `v` follows the mark
+pub record StartsWithName (mark : ℕ) (t w v : Text) : Type 0 where
+  pub cut : t ≡ w ++ (mark ∷ v)
+  pub some : 0 < length w
+  pub first : Without mark w
+
+-- the name before the closing mark, and what follows the mark
+unfoldable pub name_before : ℕ → Text → Option (Text × Text)
+name_before mark t = option_and_then filled (cut_at mark t)
+
+-- the name between `<` and `>` or between two `'`, and what follows the closing mark
+unfoldable pub marked_name : Text → Option (Text × Text)
+marked_name [] = None
+marked_name (c ∷ t) =
+    if c == code "<" then name_before (code ">") t
+    else if c == code "'" then name_before (code "'") t
+    else None
+
+-- what a name writes, where it writes something, and what follows the name
+abbrev pub of_name : {A : Type 0} → (Text → Option A) → Option (Text × Text) → Option (A × Text)
+of_name f o = option_and_then (λ q. option_map (λ a. (a, q.1)) (f q.0)) o

@@ -1,0 +1,60 @@
+-- References in escapes: what stands behind `\k`, behind `\g`, or behind a backslash in digits.
+use Rattle.std.specs.Prelude.{ℕ, ◌^◌, Bool, true, false, ◌&&◌, ◌||◌, nat_lt, if◌then◌else◌, [], ◌∷◌, Option, Some, None, option_map, is_some}
+use Rattle.std.specs.Option.{option_and_then}
+use Rattle.fancy_lex.specs.Characters.{◌∈◌}
+use Rattle.fancy_lex.specs.Delimited.{marked_name, of_name}
+use Rattle.fancy_lex.specs.Fault.{invalid_backref}
+use Rattle.fancy_lex.specs.IdReference.{IdReference, amount_alone, id_reference}
+use Rattle.fancy_lex.specs.Number.{at_digit, number}
+use Rattle.fancy_lex.specs.NumberText.{is_nothing, number_text}
+use Rattle.fancy_lex.specs.Reading.{Reading, gives, fault_at, ◌>=>◌, choose}
+use Rattle.fancy_lex.specs.Referred.{Reference, Call, call_to, reference_to, target_of_name, name_reading, reference_by_name}
+use Rattle.fancy_lex.specs.Target.{Target, by_number, relative}
+use Rattle.fancy_lex.specs.Text.{Text, place_of}
+
+-- a number that a word holds, or else the fault of the digits at the place p
+abbrev pub number_reading : ℕ → ℕ × Text → Reading ℕ
+number_reading p q = if nat_lt q.0 (2 ^ 64) then gives q.0 q.1 else fault_at p invalid_backref
+
+-- all the digits at the front, which number a group
+unfoldable pub group_number : ℕ → Text → Reading ℕ
+group_number n t = choose (number t) (number_reading (place_of n t)) (fault_at (place_of n t) invalid_backref)
+
+-- a back reference in digits, in a pattern of n bytes
+unfoldable pub numbered_reference : ℕ → Text → Reading Reference
+numbered_reference n t = group_number n t >=> (λ k u. gives (reference_to (place_of n t) (by_number k) None) u)
+
+-- a back reference behind `\k`
+unfoldable pub back_reference : ℕ → Text → Reading Reference
+back_reference n t = reference_by_name (place_of n t) true (marked_name t)
+
+-- the name of a call is relative: a sign alone, or a sign and a number text
+unfoldable pub is_relative : Text → Bool
+is_relative [] = false
+is_relative (c ∷ t) = (c ∈ "+-") && (is_nothing t || is_some (number_text t))
+
+-- an id reference without an id is a relative target
+abbrev pub relative_target : IdReference → Option Target
+relative_target (amount_alone z) = Some (relative z)
+relative_target _ = None
+
+-- the target of a call by name; a relative name must be an id reference without an id
+unfoldable pub call_target : Text → Option Target
+call_target w = if is_relative w then option_and_then relative_target (id_reference true w) else Some (target_of_name w)
+
+-- the call by name at the place p
+unfoldable pub written_call : ℕ → Text → Option Call
+written_call p w = option_map (call_to p) (call_target w)
+
+-- the call between marks, at the place p
+unfoldable pub marked_call : ℕ → Text → Option (Call × Text)
+marked_call p t = of_name (written_call p) (marked_name t)
+
+-- a call in digits
+unfoldable pub numbered_call : ℕ → Text → Reading Call
+numbered_call n t = group_number n t >=> (λ k u. gives (call_to (place_of n t) (by_number k)) u)
+
+-- a call behind `\g`: all the digits there, or a name between marks
+unfoldable pub subroutine_call : ℕ → Text → Reading Call
+subroutine_call n t =
+    if at_digit t then numbered_call n t else name_reading (place_of n t) (marked_call (place_of n t) t)

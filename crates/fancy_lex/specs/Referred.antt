@@ -1,0 +1,78 @@
+-- References: what a name or an id reference names, and where it stands.
+use Rattle.std.specs.Prelude.{ℕ, ℤ, Bool, List, Option, Some, None, option_map, chars}
+use Rattle.std.specs.Borrow.{Bor}
+use Rattle.fancy_lex.specs.Delimited.{of_name}
+use Rattle.fancy_lex.specs.Fault.{invalid_group_name}
+use Rattle.fancy_lex.specs.IdReference.{IdReference, id_alone, id_and_amount, amount_alone, id_reference}
+use Rattle.fancy_lex.specs.NumberText.{number_text}
+use Rattle.fancy_lex.specs.Reading.{Reading, gives, fault_at, choose}
+use Rattle.fancy_lex.specs.Target.{Target, by_number, by_name, relative}
+use Rattle.fancy_lex.specs.Text.{Text}
+use Rattle.fancy_lex.specs.declared.target.Target as declared_target
+use Rattle.fancy_lex.specs.declared.target.Target.TheVariants as code
+use Rattle.fancy_lex.specs.declared.target.Reference as declared_reference
+use Rattle.fancy_lex.specs.declared.target.Call as declared_call
+
+-- what asks for a group's match: the group, the level of recursion where one is written, and the place
+pub record Reference : Type 0 where
+  pub target : Target
+  pub level : Option ℤ
+  pub place : ℕ
+
+-- what calls a group: the group, and the place
+pub record Call : Type 0 where
+  pub target : Target
+  pub place : ℕ
+
+-- the reference at the place p to this group, at this level
+abbrev pub reference_to : ℕ → Target → Option ℤ → Reference
+reference_to p g l = record { target = g; level = l; place = p }
+
+-- the call at the place p of this group
+abbrev pub call_to : ℕ → Target → Call
+call_to p g = record { target = g; place = p }
+
+-- a target in code, with its name as characters
+abbrev pub view_borrowed : declared_target.Target → Target
+view_borrowed (code.ByNumber n) = by_number n
+view_borrowed (code.ByName s) = by_name (chars s.now)
+view_borrowed (code.Relative z) = relative z
+
+-- a reference in code
+abbrev pub view_reference : declared_reference.Reference → Reference
+view_reference r = reference_to r.place (view_borrowed r.target) r.level
+
+-- a call in code
+abbrev pub view_call : declared_call.Call → Call
+view_call c = call_to c.place (view_borrowed c.target)
+
+-- what code answers beside the rest of a text, seen through f
+abbrev pub view_read : {A B : Type 0} → (A → B) → A × Bor (List ℕ) → B × Text
+view_read f p = (f p.0, chars p.1.now)
+
+-- the group of the number, or else of the name
+abbrev pub number_or_name : Text → Option ℕ → Target
+number_or_name w (Some n) = by_number n
+number_or_name w None = by_name w
+
+-- a number text names a group by its number, and any other name by itself
+unfoldable pub target_of_name : Text → Target
+target_of_name w = number_or_name w (number_text w)
+
+-- the reference at the place p that an id reference says: relative without an id; an amount behind an id is a level
+unfoldable pub reference_of : ℕ → IdReference → Reference
+reference_of p (id_alone w) = reference_to p (target_of_name w) None
+reference_of p (id_and_amount w z) = reference_to p (target_of_name w) (Some z)
+reference_of p (amount_alone z) = reference_to p (relative z) None
+
+-- the reference that all of the text writes; the flag allows amounts
+unfoldable pub written_reference : ℕ → Bool → Text → Option Reference
+written_reference p amounts w = option_map (reference_of p) (id_reference amounts w)
+
+-- what was read, or else the fault of the reference at the place p
+abbrev pub name_reading : {A : Type 0} → ℕ → Option (A × Text) → Reading A
+name_reading p o = choose o (λ q. gives q.0 q.1) (fault_at p invalid_group_name)
+
+-- the reference at the place p that the name found there writes
+unfoldable pub reference_by_name : ℕ → Bool → Option (Text × Text) → Reading Reference
+reference_by_name p amounts o = name_reading p (of_name (written_reference p amounts) o)

@@ -1,0 +1,59 @@
+//! Names: what stands before the first closing mark.
+ghost use Rattle.std.specs.Prelude.{◌≡◌, ◌<◌, length, chars, IfSome, Some};
+ghost use Rattle.fancy_lex.specs.Delimited as spec;
+ghost use Rattle.fancy_lex.specs.Id.{parts};
+ghost use Rattle.fancy_lex.specs.Property.{cut_at};
+ghost use Rattle.fancy_lex.specs.Text.{Text};
+
+use crate::text::next;
+
+/// The text before the first such mark, and the text behind it.
+fn split_at(text: &str, mark: char) -> Option<(&str, &str)>
+    requires { mark < 128 }
+    ensures value { cut_at mark (chars text.now) ≡ parts result }
+    ensures shorter { IfSome result (λ p. length p.1.now < length text.now) }
+{
+    text.split_once(mark)
+}
+
+#[tactic(auto, unfolding(crate::specs::Delimited::name_before))]
+fn read_name(text: &str, mark: char) -> Option<(&str, &str)>
+    requires { mark < 128 }
+    ensures value { spec.name_before mark (chars text.now) ≡ parts result }
+    ensures shorter { IfSome result (λ p. length p.1.now < length text.now) }
+{
+    let (name, rest) = split_at(text, mark)?;
+    if next(name).is_none() {
+        return None;
+    }
+    Some((name, rest))
+}
+
+/// Reads a name, one or more characters up to the first closing mark, which is an ASCII character: the name, and the
+/// text behind the mark. None where no character or no closing mark stands there.
+pub fn name_before(text: &str, mark: char) -> Option<(&str, &str)>
+    requires ascii { mark < 128 }
+    ensures value { spec.name_before mark (chars text.now) ≡ parts result }
+    ensures derives { IfSome result (λ p. spec.StartsWithName mark (chars text.now) (chars p.0.now) (chars p.1.now)) }
+    ensures only { (w v : Text) → spec.StartsWithName mark (chars text.now) w v → parts result ≡ Some (w, v) }
+    ensures shorter { IfSome result (λ p. length p.1.now < length text.now) }
+{
+    read_name(text, mark)
+}
+
+/// Reads a name between `<` and `>`, or between two `'`: the name, and the text behind the closing mark. None where no
+/// opening mark stands at the front, or no name and closing mark behind it.
+#[tactic(auto, unfolding(crate::specs::Delimited::marked_name))]
+pub fn marked_name(text: &str) -> Option<(&str, &str)>
+    ensures value { spec.marked_name (chars text.now) ≡ parts result }
+    ensures shorter { IfSome result (λ p. length p.1.now < length text.now) }
+{
+    let (mark, rest) = next(text)?;
+    if mark == '<' {
+        name_before(rest, '>')
+    } else if mark == '\'' {
+        name_before(rest, '\'')
+    } else {
+        None
+    }
+}

@@ -1,0 +1,148 @@
+//! References in escapes: what stands behind `\k`, behind `\g`, or behind a backslash in digits.
+ghost use Rattle.std.specs.Prelude.{◌≡◌, ◌<◌, ◌≤◌, length, chars, IfOk, IfSome, option_map};
+ghost use Rattle.fancy_lex.specs.EscapeReference as spec;
+ghost use Rattle.fancy_lex.specs.NumberText.{is_nothing};
+ghost use Rattle.fancy_lex.specs.Number.{at_digit};
+ghost use Rattle.fancy_lex.specs.Reading.{Reads};
+ghost use Rattle.fancy_lex.specs.Referred.{view_read, view_borrowed, view_reference, view_call};
+
+use crate::delimited::marked_name;
+use crate::error::{Error, ParseError};
+use crate::id::{IdReference, id_reference};
+use crate::name::number;
+use crate::number_text::number_text;
+use crate::target::{Call, Reference, Target, reference_by_name, target_of_name};
+use crate::text::{next, place};
+
+/// Reads all the digits at the front, which number a group, in a pattern of `end` bytes. The fault is InvalidBackref at
+/// the first of them, where no word holds their number.
+#[tactic(auto, unfolding(crate::specs::EscapeReference::group_number))]
+pub fn group_number(text: &str, end: usize) -> Result<(usize, &str), Error>
+    requires { length text.now ≤ end }
+    ensures value { Reads (λ n. n) result (spec.group_number end (chars text.now)) }
+    ensures shorter { IfOk result (λ p. length p.1.now < length text.now) }
+{
+    match number(text) {
+        Some((Some(number), rest)) => Ok((number, rest)),
+        _ => Err(Error::ParseError(place(text, end), ParseError::InvalidBackref)),
+    }
+}
+
+/// Reads a back reference in digits, behind its backslash in a pattern of `end` bytes. Its place is that of the first
+/// digit, and so is that of the fault: InvalidBackref where no word holds the number.
+#[tactic(auto, unfolding(crate::specs::EscapeReference::numbered_reference))]
+pub fn numbered_reference(text: &str, end: usize) -> Result<(Reference<'_>, &str), Error>
+    requires { length text.now ≤ end }
+    ensures value { Reads view_reference result (spec.numbered_reference end (chars text.now)) }
+    ensures shorter { IfOk result (λ p. length p.1.now < length text.now) }
+{
+    let place = place(text, end);
+    let (number, rest) = group_number(text, end)?;
+    let reference = Reference {
+        target: Target::ByNumber(number),
+        level: None,
+        place,
+    };
+    Ok((reference, rest))
+}
+
+/// Reads a back reference behind `\k`, in a pattern of `end` bytes: an id reference between `<` and `>` or between two
+/// `'`. Its place is that of the opening mark, and so is that of the fault: InvalidGroupName where it does not read.
+#[tactic(auto, unfolding(crate::specs::EscapeReference::back_reference))]
+pub fn back_reference(text: &str, end: usize) -> Result<(Reference<'_>, &str), Error>
+    requires { length text.now ≤ end }
+    ensures value { Reads view_reference result (spec.back_reference end (chars text.now)) }
+    ensures shorter { IfOk result (λ p. length p.1.now < length text.now) }
+{
+    reference_by_name(marked_name(text), true, place(text, end))
+}
+
+/// Whether the name of a call is relative: a sign alone, or a sign and a number text.
+#[tactic(auto, unfolding(crate::specs::EscapeReference::is_relative))]
+fn is_relative(name: &str) -> bool
+    ensures { result ≡ spec.is_relative (chars name.now) }
+{
+    let Some((sign, rest)) = next(name) else {
+        return false;
+    };
+    if sign != '+' && sign != '-' {
+        return false;
+    }
+    next(rest).is_none() || number_text(rest).is_some()
+}
+
+/// What a call by this name calls; none where the name is relative and no id reference.
+#[tactic(auto, unfolding(crate::specs::EscapeReference::call_target))]
+fn call_target(name: &str) -> Option<Target<'_>>
+    ensures value { spec.call_target (chars name.now) ≡ option_map view_borrowed result }
+{
+    if !is_relative(name) {
+        return Some(target_of_name(name));
+    }
+    match id_reference(name, true)? {
+        IdReference::Amount(amount) => Some(Target::Relative(amount)),
+        _ => None,
+    }
+}
+
+/// Reads a call in digits.
+#[tactic(auto, unfolding(crate::specs::EscapeReference::numbered_call))]
+fn numbered_call(text: &str, end: usize) -> Result<(Call<'_>, &str), Error>
+    requires { length text.now ≤ end }
+    ensures value { Reads view_call result (spec.numbered_call end (chars text.now)) }
+    ensures shorter { IfOk result (λ p. length p.1.now < length text.now) }
+{
+    let place = place(text, end);
+    let (number, rest) = group_number(text, end)?;
+    let target = Target::ByNumber(number);
+    Ok((Call { target, place }, rest))
+}
+
+/// The call by this name at the place; none where the name is relative and no id reference.
+#[tactic(auto, unfolding(crate::specs::EscapeReference::written_call))]
+fn written_call(name: &str, place: usize) -> Option<Call<'_>>
+    ensures value { spec.written_call place (chars name.now) ≡ option_map view_call result }
+{
+    let target = call_target(name)?;
+    Some(Call { target, place })
+}
+
+/// Reads a call between marks.
+#[tactic(auto, unfolding(crate::specs::EscapeReference::marked_call))]
+fn marked_call(text: &str, place: usize) -> Option<(Call<'_>, &str)>
+    ensures value { spec.marked_call place (chars text.now) ≡ option_map (view_read view_call) result }
+    ensures shorter { IfSome result (λ p. length p.1.now < length text.now) }
+{
+    let (name, rest) = marked_name(text)?;
+    Some((written_call(name, place)?, rest))
+}
+
+/// Whether a digit stands at the front.
+fn is_at_digit(text: &str) -> bool
+    ensures { result ≡ at_digit (chars text.now) }
+{
+    match next(text) {
+        Some((c, _)) => c.is_ascii_digit(),
+        None => false,
+    }
+}
+
+/// Reads a call behind `\g`, in a pattern of `end` bytes: all the digits there, or a name between `<` and `>` or
+/// between two `'`. Its place is that of the first digit or of the opening mark, and so is that of the fault:
+/// InvalidBackref for digits whose number no word holds; InvalidGroupName where no name reads, or where one that is
+/// relative is no id reference.
+#[tactic(auto, unfolding(crate::specs::EscapeReference::subroutine_call))]
+pub fn subroutine_call(text: &str, end: usize) -> Result<(Call<'_>, &str), Error>
+    requires { length text.now ≤ end }
+    ensures value { Reads view_call result (spec.subroutine_call end (chars text.now)) }
+    ensures shorter { IfOk result (λ p. length p.1.now < length text.now) }
+{
+    if is_at_digit(text) {
+        return numbered_call(text, end);
+    }
+    let place = place(text, end);
+    match marked_call(text, place) {
+        Some(read) => Ok(read),
+        None => Err(Error::ParseError(place, ParseError::InvalidGroupName)),
+    }
+}

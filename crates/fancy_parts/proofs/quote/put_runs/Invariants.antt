@@ -1,0 +1,15 @@
+use Rattle.std.proofs.Common.{length, chars}
+use denote.Text.{Utf8}
+use denote.Shadow.{shadow}
+use Rattle.fancy_parts.specs.Quote.{quotes}
+use Rattle.fancy_parts.proofs.RoomLemmas.{Writing}
+use Rattle.fancy_parts.proofs.quote.put_runs.Given as goal
+
+abbrev pub invariant-loop-c : goal.invariant-loop-c
+invariant-loop-c l = record {
+  text : shadow (Utf8 l.left);
+  writing : Writing l.initial.buf l.buf (quotes (chars l.left)) (quotes (chars l.text));
+}
+
+abbrev pub decreases-loop-c : goal.decreases-loop-c
+decreases-loop-c l = length l.left

@@ -1,0 +1,18 @@
+-- The name of a group, behind the question mark of its head.
+use Rattle.std.specs.Prelude.{ℕ, ◌-◌, ◌==◌, if◌then◌else◌, [], ◌∷◌, Option, None}
+use Rattle.std.specs.Option.{option_and_then}
+use Prim.Native.Char.{code}
+use Rattle.fancy_lex.specs.Delimited.{name_before, marked_name}
+use Rattle.fancy_lex.specs.Reading.{Reading}
+use Rattle.fancy_lex.specs.Referred.{name_reading}
+use Rattle.fancy_lex.specs.Text.{Text, strip, place_of}
+
+-- `<name>`, `'name'` or `P<name>`, and what follows
+unfoldable pub head_name : Text → Option (Text × Text)
+head_name [] = None
+head_name (c ∷ t) =
+    if c == code "P" then option_and_then (name_before (code ">")) (strip (code "<") t) else marked_name (c ∷ t)
+
+-- the name of a group in a pattern of n bytes; its fault stands at the question mark, one byte before the text
+unfoldable pub group_name : ℕ → Text → Reading Text
+group_name n t = name_reading (place_of n t - 1) (head_name t)

@@ -1,0 +1,62 @@
+-- How the code's groups, roles and meanings stand to the definitions.
+use Rattle.std.specs.Prelude.{ℕ, ◌+◌, Bool, List, [], ◌∷◌, ◌++◌, Option, Some, None, map, unwrap_or, bytes_eq, String}
+use Rattle.std.specs.Prelude.{Vec, if◌then◌else◌}
+use Rattle.std.specs.Map.{lookup}
+use Rattle.std.specs.Ordering.{match_ordering}
+use Rattle.std.specs.declared.alloc.Global.{Global}
+use Rattle.fancy_lex.specs.Fault.{kind_of}
+use Rattle.fancy_lex.specs.Text.{Text, text_of}
+use Rattle.fancy_parts.specs.Meaning as spec
+use Rattle.fancy_parts.specs.Ranks.{Opening, is_counted, name_cmp}
+use Rattle.fancy_parts.specs.declared.ranks.Groups as code
+use Rattle.fancy_parts.specs.declared.ranks.Meaning as meant
+use Rattle.fancy_parts.specs.declared.ranks.Meaning.TheVariants as means
+use Rattle.fancy_parts.specs.declared.ranks.Role as role
+use Rattle.fancy_parts.specs.declared.ranks.Role.TheVariants as does
+
+-- how many groups were found, and for each name, in order, its numbers
+pub record Groups : Type 0 where
+  pub total : ℕ
+  pub names : List (Text × List ℕ)
+
+abbrev pub no_groups : Groups
+no_groups = record { total = 0; names = [] }
+
+-- the entries with the number behind those of the name, or alone where the name is new
+abbrev pub with_number : Text → ℕ → List (Text × List ℕ) → List (Text × List ℕ)
+with_number t n [] = (t, n ∷ []) ∷ []
+with_number t n (e ∷ es) =
+    match_ordering (name_cmp t e.0) ((t, n ∷ []) ∷ e ∷ es) ((e.0, e.1 ++ n ∷ []) ∷ es) (e ∷ with_number t n es)
+
+abbrev pub with_named : Option Text → ℕ → List (Text × List ℕ) → List (Text × List ℕ)
+with_named None n es = es
+with_named (Some t) n es = with_number t n es
+
+-- with one group more, which has the next number
+abbrev pub with_group : Groups → Option Text → Groups
+with_group s name = record { total = s.total + 1; names = with_named name (s.total + 1) s.names }
+
+-- the opening is passed: its group has the next number, if it has one
+abbrev pub with_opening : Bool → Groups → Opening → Groups
+with_opening named s o = if is_counted named o.name then with_group s o.name else s
+
+-- the numbers of a name, or none
+abbrev pub numbers_under : List (Text × List ℕ) → Text → List ℕ
+numbers_under es t = unwrap_or (lookup (λ u. bytes_eq t u) es) []
+
+-- a name with the numbers of its groups
+abbrev pub named : String Global × Vec ℕ Global → Text × List ℕ
+named (name, numbers) = (text_of name, numbers.items)
+
+abbrev pub groups_of : code.Groups → Groups
+groups_of g = record { total = g.total; names = map named g.names.entries }
+
+abbrev pub role_of : role.Role → spec.Role
+role_of does.BackReference = spec.back_reference
+role_of does.Call = spec.call
+role_of does.Condition = spec.condition
+
+abbrev pub meaning_of : meant.Meaning → spec.Meaning
+meaning_of (means.Number n) = spec.number n
+meaning_of means.Unresolved = spec.unresolved
+meaning_of (means.Faulty k) = spec.faulty (kind_of k)

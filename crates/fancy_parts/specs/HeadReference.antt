@@ -1,0 +1,39 @@
+-- References in heads of groups: `(?P=id)`, `(?P>name)`, and what a condition asks for.
+use Rattle.std.specs.Prelude.{ℕ, Bool, true, false, ◌||◌, if◌then◌else◌, [], ◌∷◌, Option, Some, None, option_map}
+use Rattle.std.specs.Char.{is_ascii_digit}
+use Rattle.std.specs.Option.{option_and_then}
+use Rattle.fancy_lex.specs.Characters.{close_paren, ◌∈◌}
+use Rattle.fancy_lex.specs.Delimited.{name_before, marked_name, of_name}
+use Rattle.fancy_lex.specs.Reading.{Reading}
+use Rattle.fancy_lex.specs.Referred.{Reference, Call, call_to, target_of_name, name_reading, reference_by_name}
+use Rattle.fancy_lex.specs.Text.{Text, strip, place_of}
+
+-- behind `(?P=`: an id and a closing parenthesis, in a pattern of n bytes
+unfoldable pub named_reference : ℕ → Text → Reading Reference
+named_reference n t = reference_by_name (place_of n t) false (name_before close_paren t)
+
+-- the call at the place p by a number or a name
+abbrev pub call_of : ℕ → Text → Option Call
+call_of p w = Some (call_to p (target_of_name w))
+
+-- behind `(?P>`: a name and a closing parenthesis
+unfoldable pub named_call : ℕ → Text → Reading Call
+named_call n t = name_reading (place_of n t) (of_name (call_of (place_of n t)) (name_before close_paren t))
+
+-- a condition that begins so asks for a group
+unfoldable pub begins_target : Text → Bool
+begins_target [] = false
+begins_target (c ∷ t) = (c ∈ "'<+-") || is_ascii_digit c
+
+-- the same with a closing parenthesis behind the name
+abbrev pub with_close_paren : Option (Text × Text) → Option (Text × Text)
+with_close_paren o = option_and_then (λ q. option_map (λ u. (q.0, u)) (strip close_paren q.1)) o
+
+-- `'name')`, `<name>)` or `name)`, and what follows
+unfoldable pub condition_name : Text → Option (Text × Text)
+condition_name [] = None
+condition_name (c ∷ t) = if c ∈ "'<" then with_close_paren (marked_name (c ∷ t)) else name_before close_paren (c ∷ t)
+
+-- right behind `(?(`: an id reference as the condition's target, in a pattern of n bytes
+unfoldable pub condition_target : ℕ → Text → Reading Reference
+condition_target n t = reference_by_name (place_of n t) true (condition_name t)

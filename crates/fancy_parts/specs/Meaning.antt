@@ -1,0 +1,80 @@
+-- What a reference means, by the groups that have a number.
+use Rattle.std.specs.Prelude.{ℕ, ◌+◌, ◌-◌, ℤ, pos, negsuc, nat_le, List, [], ◌∷◌, length, slice_get, Option, Some, None}
+use Rattle.std.specs.Prelude.{if◌then◌else◌}
+use Rattle.fancy_lex.specs.Fault.{Kind, Fault, invalid_backref, invalid_group_name_backref}
+use Rattle.fancy_lex.specs.Target.{Target, by_number, by_name, relative}
+use Rattle.fancy_lex.specs.Text.{Text}
+use Rattle.fancy_parts.specs.Ranks.{Opening, opened_before, numbers}
+
+-- what a reference does with the group that it means
+pub data Role : Type 0 where
+  back_reference : Role  -- it stands for what the group matched
+  call : Role  -- it calls the group
+  condition : Role  -- it asks whether the group has matched
+
+-- a reference: its place, what it does, and what it names
+pub record Reference : Type 0 where
+  pub place : ℕ
+  pub role : Role
+  pub target : Target
+
+-- a group's number, nothing yet, or a fault
+pub data Meaning : Type 0 where
+  number : ℕ → Meaning
+  unresolved : Meaning
+  faulty : Kind → Meaning
+
+-- where there is no such group, a call is left as it is, and the others are faults
+abbrev pub no_group : Role → Meaning
+no_group call = unresolved
+no_group _ = faulty invalid_backref
+
+-- the group, or none
+abbrev pub group_or_none : Role → Option ℕ → Meaning
+group_or_none role None = no_group role
+group_or_none role (Some n) = number n
+
+-- a back reference behind the openings of c groups means one of these; before its group's opening it is a fault
+abbrev pub back_to : ℕ → Text → Option ℕ → Meaning
+back_to c name None = faulty invalid_backref
+back_to c name (Some n) = if nat_le n c then number n else faulty (invalid_group_name_backref name)
+
+-- the last of the numbers
+abbrev pub last_of : List ℕ → Option ℕ
+last_of ns = slice_get ns (length ns - 1)
+
+-- a call means the only group of a name
+abbrev pub only_one : List ℕ → Meaning
+only_one (n ∷ []) = number n
+only_one _ = unresolved
+
+-- what a name means behind the openings of c groups, where the groups of the name have these numbers: the last of them
+abbrev pub means_name : Role → ℕ → Text → List ℕ → Meaning
+means_name back_reference c name ns = back_to c name (last_of ns)
+means_name call c name ns = only_one ns
+means_name condition c name ns = group_or_none condition (last_of ns)
+
+-- +k is the k-th group to open behind c groups, and -k the k-th last of these, where -(c + 1) is 0; none is below 0
+abbrev pub at_distance : ℕ → ℤ → Option ℕ
+at_distance c (pos k) = Some (c + k)
+at_distance c (negsuc k) = if nat_le k c then Some (c - k) else None
+
+-- what a target means behind the openings of c groups, where each name has these numbers
+abbrev pub means : (Text → List ℕ) → ℕ → Role → Target → Meaning
+means numbers_of c role (by_number n) = number n
+means numbers_of c role (by_name name) = means_name role c name (numbers_of name)
+means numbers_of c role (relative z) = group_or_none role (at_distance c z)
+
+-- what a reference means among the groups that have a number
+abbrev pub meaning : List Opening → Reference → Meaning
+meaning groups r = means (λ t. numbers t groups) (opened_before groups r.place) r.role r.target
+
+-- the fault of a meaning at the place, or else the other
+abbrev pub fault_or : Meaning → ℕ → Option Fault → Option Fault
+fault_or (faulty k) place other = Some (record { place = place; kind = k })
+fault_or _ place other = other
+
+-- the first fault of the references
+abbrev pub first_fault : List Opening → List Reference → Option Fault
+first_fault groups [] = None
+first_fault groups (r ∷ l) = fault_or (meaning groups r) r.place (first_fault groups l)

@@ -1,0 +1,76 @@
+//! References in heads of groups: `(?P=id)`, `(?P>name)`, and what a condition asks for.
+ghost use Rattle.std.specs.Prelude.{◌≡◌, ◌<◌, ◌≤◌, length, chars, IfOk, IfSome, option_map};
+ghost use Rattle.fancy_lex.specs.Id.{parts};
+ghost use Rattle.fancy_lex.specs.Reading.{Reads};
+ghost use Rattle.fancy_lex.specs.Referred.{view_reference, view_call};
+ghost use Rattle.fancy_parts.specs.HeadReference as spec;
+
+use fancy_lex::delimited::{marked_name, name_before};
+use fancy_lex::error::{Error, ParseError};
+use fancy_lex::target::{Call, Reference, reference_by_name, target_of_name};
+use fancy_lex::text::{after, next, place};
+
+/// Reads a back reference behind `(?P=` in a pattern of `end` bytes: an id, and the closing parenthesis. Its place is
+/// that of the id, and so is that of the fault: InvalidGroupName where it does not read.
+#[tactic(auto, unfolding(crate::specs::HeadReference::named_reference))]
+pub fn named_reference(text: &str, end: usize) -> Result<(Reference<'_>, &str), Error>
+    requires { length text.now ≤ end }
+    ensures value { Reads view_reference result (spec.named_reference end (chars text.now)) }
+    ensures shorter { IfOk result (λ p. length p.1.now < length text.now) }
+{
+    reference_by_name(name_before(text, ')'), false, place(text, end))
+}
+
+/// Reads a call behind `(?P>` in a pattern of `end` bytes: a name, which is a number or itself, and the closing
+/// parenthesis. Its place is that of the name, and so is that of the fault: InvalidGroupName where no name or no
+/// parenthesis stands there.
+#[tactic(auto, unfolding(crate::specs::HeadReference::named_call))]
+pub fn named_call(text: &str, end: usize) -> Result<(Call<'_>, &str), Error>
+    requires { length text.now ≤ end }
+    ensures value { Reads view_call result (spec.named_call end (chars text.now)) }
+    ensures shorter { IfOk result (λ p. length p.1.now < length text.now) }
+{
+    let place = place(text, end);
+    let Some((name, rest)) = name_before(text, ')') else {
+        return Err(Error::ParseError(place, ParseError::InvalidGroupName));
+    };
+    let target = target_of_name(name);
+    Ok((Call { target, place }, rest))
+}
+
+/// Whether a condition that begins so asks for a group: by a quote, a `<`, a sign or an ASCII digit.
+#[tactic(auto, unfolding(crate::specs::HeadReference::begins_target))]
+pub fn begins_target(condition: &str) -> bool
+    ensures { result ≡ spec.begins_target (chars condition.now) }
+{
+    let Some((c, _)) = next(condition) else {
+        return false;
+    };
+    c == '\'' || c == '<' || c == '+' || c == '-' || c.is_ascii_digit()
+}
+
+/// Reads a name between marks and a closing parenthesis, or a name up to the parenthesis.
+#[tactic(auto, unfolding(crate::specs::HeadReference::condition_name))]
+fn condition_name(text: &str) -> Option<(&str, &str)>
+    ensures value { spec.condition_name (chars text.now) ≡ parts result }
+    ensures shorter { IfSome result (λ p. length p.1.now < length text.now) }
+{
+    let (first, _) = next(text)?;
+    if first != '\'' && first != '<' {
+        return name_before(text, ')');
+    }
+    let (name, rest) = marked_name(text)?;
+    Some((name, after(rest, ')')?))
+}
+
+/// Reads what a condition asks for right behind its `(?(`, in a pattern of `end` bytes: an id reference as `'ref')`,
+/// `<ref>)` or `ref)`. Its place is right behind the `(?(`, and so is that of the fault: InvalidGroupName where it does
+/// not read.
+#[tactic(auto, unfolding(crate::specs::HeadReference::condition_target))]
+pub fn condition_target(text: &str, end: usize) -> Result<(Reference<'_>, &str), Error>
+    requires { length text.now ≤ end }
+    ensures value { Reads view_reference result (spec.condition_target end (chars text.now)) }
+    ensures shorter { IfOk result (λ p. length p.1.now < length text.now) }
+{
+    reference_by_name(condition_name(text), true, place(text, end))
+}

@@ -1,0 +1,172 @@
+//! The numbers of capturing groups, and what a reference means by them.
+ghost use Rattle.std.specs.Prelude.{◌≡◌, ◌+◌, ◌<◌, ◌^◌, IfOk, map, option_map};
+ghost use Rattle.fancy_lex.specs.Target.{view_target};
+ghost use Rattle.fancy_lex.specs.Text.{text_of};
+ghost use Rattle.fancy_parts.specs.Groups.{groups_of, no_groups, with_group, with_number, numbers_under, named};
+ghost use Rattle.fancy_parts.specs.Groups.{role_of, meaning_of};
+ghost use Rattle.fancy_parts.specs.Meaning as spec;
+ghost use Rattle.fancy_parts.specs.Meaning.{at_distance, last_of, means, means_name, only_one};
+
+use fancy_lex::error::ParseError;
+use fancy_lex::name::CaptureGroupTarget;
+use std::alloc::{AllocError, Global};
+use std::collections::BTreeMap;
+
+/// What a reference does with the group that it means.
+#[derive(Clone, Copy, PartialEq, Eq, Debug, Drop)]
+pub enum Role {
+    /// It stands for what the group matched.
+    BackReference,
+    /// It calls the group.
+    Call,
+    /// It asks whether the group has matched.
+    Condition,
+}
+
+/// What a reference means.
+#[derive(Debug, Drop)]
+pub enum Meaning {
+    /// The group of this number.
+    Number(usize),
+    /// No group: the call is left as it is.
+    Unresolved,
+    /// No group, which is a fault.
+    Faulty(ParseError),
+}
+
+/// The groups that have a number, as far as they are found.
+#[derive(Debug, Drop)]
+pub struct Groups {
+    /// How many there are.
+    pub total: usize,
+    /// For each name the numbers of its groups, ascending.
+    pub names: BTreeMap<String, Vec<usize>>,
+}
+
+impl Groups {
+    /// No groups.
+    pub fn new(alloc: Global) -> Groups
+        ensures { groups_of result ≡ no_groups }
+    {
+        Groups {
+            total: 0,
+            names: BTreeMap::new(alloc),
+        }
+    }
+
+    /// Adds a group, which has the next number.
+    pub fn add(&mut self, alloc: Global, name: &Option<String>) -> Result<(), AllocError>
+        requires { self.old.total + 1 < 2 ^ 64 }
+        ensures { IfOk result
+            (λ _. groups_of self.new ≡ with_group (groups_of self.old) (option_map text_of name.now)) }
+    {
+        self.total += 1;
+        match name {
+            Some(name) => add_number(alloc, &mut self.names, name, self.total),
+            None => Ok(()),
+        }
+    }
+}
+
+/// Adds the number behind those that the name has.
+fn add_number(
+    alloc: Global,
+    names: &mut BTreeMap<String, Vec<usize>>,
+    name: &String,
+    number: usize,
+) -> Result<(), AllocError>
+    ensures { IfOk result
+        (λ _. map named names.new.entries ≡ with_number (text_of name.now) number (map named names.old.entries)) }
+{
+    match names.get_mut(name.as_str()) {
+        Some(numbers) => numbers.push(number)?,
+        None => {
+            let mut numbers = Vec::new(alloc);
+            numbers.push(number)?;
+            names.insert(name.clone()?, numbers)?;
+        }
+    }
+    Ok(())
+}
+
+/// What a target means behind the openings of so many groups.
+pub fn meaning_behind(
+    groups: &Groups,
+    passed: usize,
+    role: Role,
+    target: &CaptureGroupTarget,
+) -> Result<Meaning, AllocError>
+    requires { passed < 2 ^ 63 }
+    ensures { IfOk result
+        (λ m. meaning_of m
+        ≡ means (numbers_under (groups_of groups.now).names) passed (role_of role) (view_target target.now)) }
+{
+    match target {
+        CaptureGroupTarget::ByNumber(number) => Ok(Meaning::Number(*number)),
+        CaptureGroupTarget::ByName(name) => match groups.names.get(name.as_str()) {
+            Some(numbers) => by_name(role, passed, name, numbers.as_slice()),
+            None => by_name(role, passed, name, &[]),
+        },
+        CaptureGroupTarget::Relative(amount) => Ok(group_or_none(role, at(passed, *amount))),
+    }
+}
+
+/// What a name means behind the openings of so many groups, where its groups have these numbers.
+fn by_name(
+    role: Role,
+    passed: usize,
+    name: &String,
+    numbers: &[usize],
+) -> Result<Meaning, AllocError>
+    ensures { IfOk result (λ m. meaning_of m ≡ means_name (role_of role) passed (text_of name.now) numbers.now) }
+{
+    match role {
+        Role::Call => Ok(only(numbers)),
+        Role::Condition => Ok(group_or_none(role, last(numbers))),
+        Role::BackReference => match last(numbers) {
+            Some(number) if number <= passed => Ok(Meaning::Number(number)),
+            Some(_) => Ok(Meaning::Faulty(ParseError::InvalidGroupNameBackref(name.clone()?))),
+            None => Ok(Meaning::Faulty(ParseError::InvalidBackref)),
+        },
+    }
+}
+
+/// The only number.
+fn only(numbers: &[usize]) -> Meaning
+    ensures { meaning_of result ≡ only_one numbers.now }
+{
+    match numbers {
+        [number] => Meaning::Number(*number),
+        _ => Meaning::Unresolved,
+    }
+}
+
+/// The last number.
+fn last(numbers: &[usize]) -> Option<usize>
+    ensures { result ≡ last_of numbers.now }
+{
+    numbers.last().copied()
+}
+
+/// The group of the number, or what it means that there is none.
+fn group_or_none(role: Role, number: Option<usize>) -> Meaning
+    ensures { meaning_of result ≡ spec.group_or_none (role_of role) number }
+{
+    match number {
+        Some(number) => Meaning::Number(number),
+        None if role == Role::Call => Meaning::Unresolved,
+        None => Meaning::Faulty(ParseError::InvalidBackref),
+    }
+}
+
+/// The number so many groups behind those that opened, or before the next.
+fn at(passed: usize, amount: isize) -> Option<usize>
+    requires { passed < 2 ^ 63 }
+    ensures { result ≡ at_distance passed amount }
+{
+    if amount >= 0 {
+        Some(passed + amount as usize)
+    } else {
+        passed.checked_sub(-(amount + 1) as usize)
+    }
+}

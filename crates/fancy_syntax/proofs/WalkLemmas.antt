@@ -1,0 +1,142 @@
+-- Walks over parts, one behind another.
+use Rattle.std.proofs.Common.{◌≡◌, ℕ, ◌+◌, ◌<◌, ◌≤◌, List, ◌++◌, Bool, true, false, length, length-append, refl, ap}
+use Rattle.std.proofs.Common.{◌∙◌, [], ◌∷◌, drop, drop-cons, get_or, add-one, take, set, sym, arith, zero, suc}
+use Rattle.std.proofs.Common.{length-set}
+use Rattle.std.proofs.lemmas.Grind.{take-set_at}
+use Rattle.std.proofs.lemmas.List.{take_all, take-set}
+use Rattle.std.proofs.lemmas.List.{drop_all}
+use Rattle.std.proofs.lemmas.List.Sums.{fold-append}
+use Rattle.fancy_parts.specs.Groups.{Groups, with_opening}
+use Rattle.fancy_parts.specs.Ranks.{Opening, is_counted}
+use Rattle.fancy_syntax.proofs.ItemLemmas.{length_openings}
+use Rattle.fancy_syntax.specs.Items.{Item, opening, reference, items, items_all, openings_in}
+use Rattle.fancy_syntax.specs.Tree.{Tree, trees_of, more_trees}
+use Rattle.fancy_syntax.specs.View.{view, views}
+use Rattle.fancy_syntax.specs.declared.expr.Expr.{Expr}
+use Rattle.fancy_syntax.specs.Walk.{found, find_item, Known, Progress, noted, note_item, rebuilt, rebuilt_all}
+
+pub found_append : (named : Bool) (s : Groups) (a b : List Item) →
+    found named s (a ++ b) ≡ found named (found named s a) b
+found_append named s a b = fold-append (find_item named) s a b
+
+pub noted_append : (k : Known) (s : Progress) (a b : List Item) → noted k s (a ++ b) ≡ noted k (noted k s a) b
+noted_append k s a b = fold-append (note_item k) s a b
+
+-- a walk passes at most as many groups as there are openings
+
+opening_total : (named : Bool) (s : Groups) (o : Opening) (b : Bool) → is_counted named o.name ≡ b →
+    (with_opening named s o).total ≤ s.total + 1
+opening_total named s o true e = rw e (omega arith)
+opening_total named s o false e = rw e (omega arith)
+
+total_le : (named : Bool) (s : Groups) (l : List Item) → (found named s l).total ≤ s.total + length (openings_in l)
+total_le named s [] = omega arith
+total_le named s (opening o ∷ l) =
+    omega (arith, total_le named (with_opening named s o) l, opening_total named s o (is_counted named o.name) refl)
+total_le named s (reference r ∷ l) = total_le named s l
+
+pub found_le : (named : Bool) (s f : Groups) (l : List Item) → f ≡ found named s l →
+    f.total ≤ s.total + length (openings_in l)
+found_le named s f l e = omega (arith, total_le named s l, ap (λ (g : Groups). g.total) e)
+
+opening_passed : (k : Known) (s : Progress) (o : Opening) (b : Bool) → is_counted k.named o.name ≡ b →
+    (note_item k s (opening o)).passed ≤ s.passed + 1
+opening_passed k s o true e = rw e (omega arith)
+opening_passed k s o false e = rw e (omega arith)
+
+passed_le : (k : Known) (s : Progress) (l : List Item) → (noted k s l).passed ≤ s.passed + length (openings_in l)
+passed_le k s [] = omega arith
+passed_le k s (opening o ∷ l) =
+    omega (arith, passed_le k (note_item k s (opening o)) l, opening_passed k s o (is_counted k.named o.name) refl)
+passed_le k s (reference r ∷ l) = passed_le k (note_item k s (reference r)) l
+
+pub noted_le : (k : Known) (s p : Progress) (l : List Item) → p ≡ noted k s l →
+    p.passed ≤ s.passed + length (openings_in l)
+noted_le k s p l e = omega (arith, passed_le k s l, ap (λ (q : Progress). q.passed) e)
+
+-- the items of the trees from the i-th on
+abbrev pub rest : List Expr → ℕ → List Item
+rest es i = items_all (trees_of (views (drop i es)))
+
+pub rest_next : (es : List Expr) (i : ℕ) (e : Expr) → i < length es → e ≡ get_or es i e →
+    rest es i ≡ items (view e) ++ rest es (i + 1)
+rest_next es i e h k = rw (drop-cons es i e, ← k, add-one) refl
+
+pub rest_none : (es : List Expr) (i : ℕ) → length es ≤ i → rest es i ≡ []
+rest_none es i h = rw (drop_all i es h) refl
+
+pub count_two : (l x y : List Item) → l ≡ x ++ y →
+    length (openings_in l) ≡ length (openings_in x) + length (openings_in y)
+count_two l x y h = ap (λ m. length (openings_in m)) h ∙ length_openings x y
+
+-- the trees rebuilt one after another
+abbrev pub rebuilt_list : Known → Progress → List Tree → List Tree
+rebuilt_list k s [] = []
+rebuilt_list k s (t ∷ ts) = rebuilt k s t ∷ rebuilt_list k (noted k s (items t)) ts
+
+pub rebuilt_trees : (k : Known) (s : Progress) (ts : List Tree) →
+    rebuilt_all k s (trees_of ts) ≡ trees_of (rebuilt_list k s ts)
+rebuilt_trees k s [] = refl
+rebuilt_trees k s (t ∷ ts) = ap (λ us. more_trees (rebuilt k s t) us) (rebuilt_trees k (noted k s (items t)) ts)
+
+-- a list whose end from i on is known
+front_next : (l r : List Tree) (i : ℕ) (x : Tree) → drop i l ≡ x ∷ r → take (suc i) l ≡ take i l ++ (x ∷ [])
+front_next [] r zero x h = absurd (cc)
+front_next [] r (suc i) x h = absurd (cc)
+front_next (y ∷ l) r zero x h = let same : y ≡ x = cc in rw same refl
+front_next (y ∷ l) r (suc i) x h = ap (λ m. y ∷ m) (front_next l r i x h)
+
+drop_next : (l r : List Tree) (i : ℕ) (x : Tree) → drop i l ≡ x ∷ r → drop (suc i) l ≡ r
+drop_next [] r zero x h = absurd (cc)
+drop_next [] r (suc i) x h = absurd (cc)
+drop_next (y ∷ l) r zero x h = cc
+drop_next (y ∷ l) r (suc i) x h = drop_next l r i x h
+
+views_append : (a b : List Expr) → views (a ++ b) ≡ views a ++ views b
+views_append [] b = refl
+views_append (e ∷ a) b = ap (λ l. view e ∷ l) (views_append a b)
+
+-- the front that is rebuilt, with one tree more
+pub front_rebuilt : (k : Known) (s : Progress) (es now : List Expr) (all : List Tree) (i : ℕ) (e e2 : Expr) →
+    length now ≡ length es → i < length es → e ≡ get_or es i e →
+    view e2 ≡ rebuilt k s (view e) → views (take i now) ≡ take i all →
+    rebuilt_list k s (views (drop i es)) ≡ drop i all →
+    views (take (i + 1) (set now i e2)) ≡ take (i + 1) all
+front_rebuilt k s es now all i e e2 n h g v f d =
+    let es_cut : drop i es ≡ e ∷ drop (i + 1) es = rw (drop-cons es i e, ← g, add-one) refl in
+    let cut : drop i all ≡ rebuilt k s (view e) ∷ rebuilt_list k (noted k s (items (view e))) (views (drop (i + 1) es))
+    = sym d ∙ ap (λ l. rebuilt_list k s (views l)) es_cut in
+    let taken : take (i + 1) (set now i e2) ≡ take i now ++ (e2 ∷ [])
+    = take-set_at now i (i + 1) e2 refl (omega arith) in
+    ap views taken ∙ views_append (take i now) (e2 ∷ []) ∙ ap (λ l. l ++ (view e2 ∷ [])) f
+    ∙ ap (λ x. take i all ++ (x ∷ [])) v
+    ∙ sym (front_next all _ i _ cut) ∙ ap (λ j. take j all) (sym (add-one i))
+
+pub rest_rebuilt : (k : Known) (s s2 : Progress) (es : List Expr) (all : List Tree) (i : ℕ) (e : Expr) → i < length es →
+    e ≡ get_or es i e →
+    s2 ≡ noted k s (items (view e)) → rebuilt_list k s (views (drop i es)) ≡ drop i all →
+    rebuilt_list k s2 (views (drop (i + 1) es)) ≡ drop (i + 1) all
+rest_rebuilt k s s2 es all i e h g n d =
+    let es_cut : drop i es ≡ e ∷ drop (i + 1) es = rw (drop-cons es i e, ← g, add-one) refl in
+    let cut : drop i all ≡ rebuilt k s (view e) ∷ rebuilt_list k (noted k s (items (view e))) (views (drop (i + 1) es))
+    = sym d ∙ ap (λ l. rebuilt_list k s (views l)) es_cut in
+    ap (λ p. rebuilt_list k p (views (drop (i + 1) es))) n ∙ sym (drop_next all _ i _ cut)
+    ∙ ap (λ j. drop j all) (sym (add-one i))
+
+rebuilt_length : (k : Known) (s : Progress) (ts : List Tree) → length (rebuilt_list k s ts) ≡ length ts
+rebuilt_length k s [] = refl
+rebuilt_length k s (t ∷ ts) = ap suc (rebuilt_length k (noted k s (items t)) ts)
+
+views_length : (es : List Expr) → length (views es) ≡ length es
+views_length [] = refl
+views_length (e ∷ es) = ap suc (views_length es)
+
+-- all are rebuilt
+pub all_rebuilt : (k : Known) (s : Progress) (es now : List Expr) (i : ℕ) → length now ≡ length es → length es ≤ i →
+    views (take i now) ≡ take i (rebuilt_list k s (views es)) →
+    trees_of (views now) ≡ rebuilt_all k s (trees_of (views es))
+all_rebuilt k s es now i n h f =
+    let a : take i now ≡ now = take_all i now (omega arith) in
+    let b : take i (rebuilt_list k s (views es)) ≡ rebuilt_list k s (views es)
+    = take_all i (rebuilt_list k s (views es)) (omega (arith, rebuilt_length k s (views es), views_length es)) in
+    ap (λ l. trees_of (views l)) (sym a) ∙ ap trees_of (f ∙ b) ∙ sym (rebuilt_trees k s (views es))

@@ -1,0 +1,10 @@
+use Rattle.std.proofs.Common.{refl}
+use Rattle.fancy_syntax.specs.Machine.{IsFaultOfBar, open_of}
+use Rattle.fancy_syntax.proofs.FaultLemmas.{says_close_paren}
+use Rattle.fancy_syntax.proofs.OutcomeLemmas.{Fails-is}
+use Rattle.fancy_syntax.proofs.grammar.frame.Frame.bar.Goals as goal
+
+pub returns-in-Second-clause-fault : goal.returns-in-Second-clause-fault
+returns-in-Second-clause-fault c =
+    Fails-is (IsFaultOfBar (open_of c.args.self.now.opener) c.args.place) c.general.result _ _ (says_close_paren c.general.result c.args.place c.general.ensures)
+    (rw c.in-Second.is refl)

@@ -1,0 +1,18 @@
+use Rattle.std.proofs.Common.{◌≡◌, ◌∷◌, Some, None, codes, ap, sym, ◌∙◌}
+use Rattle.std.specs.Str.{chars}
+use Rattle.fancy_lex.specs.Text.{strip_word}
+use Rattle.fancy_syntax.specs.Ahead.{conditional_ahead}
+use Rattle.fancy_syntax.specs.Parsed.{state}
+use Rattle.fancy_syntax.proofs.AheadLemmas.{defines, no_condition_ahead}
+use Rattle.fancy_syntax.proofs.grammar.look.look_at_conditional.Goals as goal
+
+pub returns-in-Some-after_word-clause-value : goal.returns-in-Some-after_word-clause-value
+unfolding chars
+returns-in-Some-after_word-clause-value c =
+    defines c.args.end (state c.args.here.now) _ _ _ c.in-Some.ensures.value c.in-Some-after_word.ensures.value
+
+pub returns-clause-value : goal.returns-clause-value
+unfolding chars
+returns-clause-value c =
+    no_condition_ahead c.args.end (state c.args.here.now) _ _ c.in-Some.ensures.value c.in_default-after_word.ensures.value
+    (sym c.is_before_target.ensures ∙ c.if-is_before_target.false) c.if-c-eq42.false

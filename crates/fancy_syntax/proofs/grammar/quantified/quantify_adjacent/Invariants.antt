@@ -1,0 +1,16 @@
+use Rattle.std.proofs.Common.{◌≡◌, ◌≤◌, ◌<◌, length}
+use Rattle.fancy_syntax.specs.Quantified as spec
+use Rattle.fancy_syntax.specs.Parsed.{state}
+use Rattle.fancy_syntax.specs.View.{view}
+use Rattle.fancy_syntax.proofs.grammar.quantified.quantify_adjacent.Given as goal
+
+abbrev pub invariant-loop-behind : goal.invariant-loop-behind
+invariant-loop-behind l = record {
+  value : spec.adjacent spec.max_adjacent l.fn.end l.fn.depth (view l.fn.tree) (state l.fn.here)
+      ≡ spec.adjacent l.more l.fn.end l.depth (view l.tree) (state l.here);
+  deep : l.depth < 64;
+  within : length l.here.rest.now ≤ length l.fn.here.rest.now;
+}
+
+abbrev pub decreases-loop-behind : goal.decreases-loop-behind
+decreases-loop-behind l = l.more

@@ -1,0 +1,90 @@
+use Rattle.std.proofs.Common.{arith, rules, ◌≡◌, ◌+◌, ◌++◌, get_or, length, sym, ap, ◌∙◌, ◌<◌, ◌≢◌, length-set}
+use Rattle.std.proofs.Common.{get_or-set_other, Box, Global, refl}
+use Rattle.fancy_syntax.specs.Items.{items}
+use Rattle.fancy_syntax.specs.Notes.{known_of, progress_of}
+use Rattle.fancy_syntax.specs.View.{view, views}
+use Rattle.fancy_syntax.specs.Walk.{noted}
+use Rattle.fancy_syntax.specs.declared.expr.Expr.{Expr, the_lemmas}
+use Rattle.fancy_syntax.proofs.PartLemmas.{two_parts, three_lent, two_count, three_count, two_noted, three_noted}
+use Rattle.fancy_syntax.proofs.PartLemmas.{third_noted}
+use Rattle.fancy_syntax.proofs.WalkLemmas.{noted_append, noted_le, count_two, rest, rest_next, rebuilt_list}
+use Rattle.fancy_syntax.proofs.WalkLemmas.{front_rebuilt, rest_rebuilt, all_rebuilt}
+use Rattle.fancy_syntax.proofs.resolve.rewrite.+rewrite.Goals as goal
+
+pub rewrite-rewrite_child-requires-in-Conditional : goal.rewrite-rewrite_child-requires-in-Conditional
+rewrite-rewrite_child-requires-in-Conditional t c =
+    let is = c.in-Conditional in
+    let parts = three_lent is.is is.condition-is is.true_branch-is is.false_branch-is in
+    let count = three_count parts in
+    (search (rules, the_lemmas), omega arith)
+
+pub rewrite-rewrite_child-requires-in-Conditional-2 : goal.rewrite-rewrite_child-requires-in-Conditional-2
+rewrite-rewrite_child-requires-in-Conditional-2 t c =
+    let is = c.in-Conditional in
+    let parts = three_lent is.is is.condition-is is.true_branch-is is.false_branch-is in
+    let first = c.in_ok-rewrite_child-in-Conditional.ensures in
+    let room = three_noted (known_of c.args.known.now) _ _ parts first.progress in
+    (search (rules, the_lemmas), omega arith)
+
+pub rewrite-rewrite_child-requires-in-Conditional-3 : goal.rewrite-rewrite_child-requires-in-Conditional-3
+rewrite-rewrite_child-requires-in-Conditional-3 t c =
+    let is = c.in-Conditional in
+    let parts = three_lent is.is is.condition-is is.true_branch-is is.false_branch-is in
+    let first = c.in_ok-rewrite_child-in-Conditional.ensures in let second = c.in_ok-rewrite_child-in-Conditional-2.ensures in
+    let room = third_noted (known_of c.args.known.now) _ _ _ parts first.progress second.progress in
+    (search (rules, the_lemmas), omega arith)
+
+pub rewrite_absent-rewrite_child-requires-in-Expression : goal.rewrite_absent-rewrite_child-requires-in-Expression
+rewrite_absent-rewrite_child-requires-in-Expression t c =
+    let parts = two_parts c.in-Expression.is refl refl in
+    let count = two_count parts in
+    (search (rules, the_lemmas), omega arith)
+
+pub rewrite_absent-rewrite_child-requires-in-Expression-2 : goal.rewrite_absent-rewrite_child-requires-in-Expression-2
+rewrite_absent-rewrite_child-requires-in-Expression-2 t c =
+    let parts = two_parts c.in-Expression.is refl refl in
+    let room = two_noted (known_of c.args.known.now) _ _ parts c.in_ok-rewrite_child-in-Expression.ensures.progress in
+    (search (rules, the_lemmas), omega arith)
+
+pub rewrite_all-rewrite-requires : goal.rewrite_all-rewrite-requires
+rewrite_all-rewrite-requires t c =
+    let es = c.args.trees.now.items in let i = c.loop-i.i in let e = c.index_mut.result.now in
+    let same = c.loop-i.invariant.0.1 i e (omega arith) in
+    let tree : e ≡ get_or es i e = cc in
+    let step : rest es i ≡ items (view e) ++ rest es (i + 1) = rest_next es i e (omega arith) tree in (
+      search (rules, the_lemmas),
+      omega
+          (arith, count_two (rest es i) (items (view e)) (rest es (i + 1)) step, c.loop-i.invariant.2),
+    )
+
+pub rewrite_all-loop-i-preserved : goal.rewrite_all-loop-i-preserved
+rewrite_all-loop-i-preserved t c =
+    let es = c.args.trees.now.items in let i = c.loop-i.i in let e = c.index_mut.result.now in
+    let now = c.loop-i.trees.items in
+    let k = known_of c.args.known.now in
+    let all = rebuilt_list k (progress_of c.args.progress.now) (views es) in
+    let s = progress_of c.loop-i.progress in
+    let same = c.loop-i.invariant.0.1 i e (omega arith) in
+    let tree : e ≡ get_or es i e = cc in
+    let lengths = c.loop-i.invariant.0.0 in
+    let below : i < length es = omega arith in
+    let step : rest es i ≡ items (view e) ++ rest es (i + 1) = rest_next es i e below tree in
+    let now_is = c.in_ok-rewrite.ensures in (
+      (
+        omega (arith, length-set {A = Expr}),
+        λ j d h. let apart : j ≢ i = omega arith in rw get_or-set_other (c.loop-i.invariant.0.1 j d (omega arith)),
+      ),
+      rw now_is.progress
+          (sym (noted_append k s (items (view e)) (rest es (i + 1))) ∙ ap (noted k s) (sym step) ∙ c.loop-i.invariant.1),
+      let passed = noted_le k s (progress_of c.rewrite.new.progress) (items (view e)) now_is.progress in
+          omega (arith, count_two (rest es i) (items (view e)) (rest es (i + 1)) step, passed, c.loop-i.invariant.2),
+      front_rebuilt k s es now all i e c.rewrite.new.tree lengths below tree now_is.tree c.loop-i.invariant.3
+          c.loop-i.invariant.4,
+      rest_rebuilt k s (progress_of c.rewrite.new.progress) es all i e below tree now_is.progress c.loop-i.invariant.4,
+    )
+
+pub rewrite_all-returns-clause-tree : goal.rewrite_all-returns-clause-tree
+rewrite_all-returns-clause-tree t c =
+    all_rebuilt (known_of c.args.known.now)
+    (progress_of c.args.progress.now) c.args.trees.now.items c.loop-i.trees.items c.loop-i.i c.loop-i.invariant.0.0
+    (omega arith) c.loop-i.invariant.3

@@ -1,0 +1,61 @@
+use Rattle.std.proofs.Common.{arith, rules, ◌≡◌, ◌+◌, ◌++◌, length, ap, sym, ◌∙◌, refl}
+use Rattle.fancy_parts.specs.Groups.{groups_of}
+use Rattle.fancy_syntax.specs.Items.{items, openings_in}
+use Rattle.fancy_syntax.specs.View.{view}
+use Rattle.fancy_syntax.specs.Walk.{found}
+use Rattle.fancy_syntax.specs.declared.expr.Expr.{the_lemmas}
+use Rattle.fancy_syntax.proofs.ItemLemmas.{length_openings}
+use Rattle.fancy_syntax.proofs.PartLemmas.{two_parts, three_parts, two_count, three_count, two_found, three_found}
+use Rattle.fancy_syntax.proofs.PartLemmas.{third_found}
+use Rattle.fancy_syntax.proofs.WalkLemmas.{found_append, found_le, count_two, rest, rest_next}
+use Rattle.fancy_syntax.proofs.resolve.survey.+survey.Goals as goal
+
+pub survey-survey-requires-in-Conditional : goal.survey-survey-requires-in-Conditional
+survey-survey-requires-in-Conditional t c =
+    let parts = three_parts c.in-Conditional.is c.deref-in-Conditional.ensures refl refl in
+    let count = three_count parts in
+    (search (rules, the_lemmas), omega arith)
+
+pub survey-survey-requires-in-Conditional-2 : goal.survey-survey-requires-in-Conditional-2
+survey-survey-requires-in-Conditional-2 t c =
+    let parts = three_parts c.in-Conditional.is c.deref-in-Conditional.ensures c.deref-in-Conditional-2.ensures refl in
+    let room = three_found c.args.named _ _ parts c.in_ok-survey-in-Conditional.ensures.found in
+    (search (rules, the_lemmas), omega arith)
+
+pub survey-survey-requires-in-Conditional-3 : goal.survey-survey-requires-in-Conditional-3
+survey-survey-requires-in-Conditional-3 t c =
+    let first = c.deref-in-Conditional.ensures in let second = c.deref-in-Conditional-2.ensures in
+    let parts = three_parts c.in-Conditional.is first second c.deref-in-Conditional-3.ensures in
+    let before = c.in_ok-survey-in-Conditional.ensures in let behind = c.in_ok-survey-in-Conditional-2.ensures in
+    let room = third_found c.args.named _ _ _ parts before.found behind.found in
+    (search (rules, the_lemmas), omega arith)
+
+pub survey_absent-survey-requires-in-Expression : goal.survey_absent-survey-requires-in-Expression
+survey_absent-survey-requires-in-Expression t c =
+    let parts = two_parts c.in-Expression.is c.deref-in-Expression.ensures refl in
+    let count = two_count parts in
+    (search (rules, the_lemmas), omega arith)
+
+pub survey_absent-survey-requires-in-Expression-2 : goal.survey_absent-survey-requires-in-Expression-2
+survey_absent-survey-requires-in-Expression-2 t c =
+    let parts = two_parts c.in-Expression.is c.deref-in-Expression.ensures c.deref-in-Expression-2.ensures in
+    let room = two_found c.args.named _ _ parts c.in_ok-survey-in-Expression.ensures.found in
+    (search (rules, the_lemmas), omega arith)
+
+pub survey_all-survey-requires : goal.survey_all-survey-requires
+survey_all-survey-requires t c =
+    let es = c.args.trees.now.items in let i = c.loop-tree.tree-index in let l = items (view c.tree-item.result) in
+    let step : rest es i ≡ l ++ rest es (i + 1) = rest_next es i c.tree-item.result (omega arith) (cc) in
+    (search (rules, the_lemmas), omega (arith, count_two (rest es i) l (rest es (i + 1)) step, c.loop-tree.invariant.1))
+
+pub survey_all-loop-tree-preserved : goal.survey_all-loop-tree-preserved
+survey_all-loop-tree-preserved t c =
+    let es = c.args.trees.now.items in let i = c.loop-tree.tree-index in let l = items (view c.tree-item.result) in
+    let step : rest es i ≡ l ++ rest es (i + 1) = rest_next es i c.tree-item.result (omega arith) (cc) in
+    let now = c.in_ok-survey.ensures.found in (
+      rw now
+          (sym (found_append c.args.named (groups_of c.loop-tree.groups) l (rest es (i + 1)))
+          ∙ ap (found c.args.named (groups_of c.loop-tree.groups)) (sym step) ∙ c.loop-tree.invariant.0),
+      let total = found_le c.args.named (groups_of c.loop-tree.groups) (groups_of c.survey.new.groups) l now in
+          omega (arith, count_two (rest es i) l (rest es (i + 1)) step, total, c.loop-tree.invariant.1),
+    )

@@ -1,0 +1,21 @@
+-- Characters that are pieces of their own.
+use Rattle.std.specs.Prelude.{◌≡◌, ℕ, Bool, false, [], ◌∷◌}
+use Rattle.fancy_lex.specs.Characters.{◌∈◌}
+use Rattle.fancy_lex.specs.Text.{Text}
+use Rattle.fancy_syntax.specs.Ahead.{ends}
+use Rattle.fancy_syntax.specs.Grammar.{Piece}
+use Rattle.fancy_syntax.specs.State.{State, at, done}
+use Rattle.fancy_syntax.specs.Tree.{literal}
+
+-- with these a group, an escape, a class, a quantifier, another leaf or the end of a branch begins
+abbrev pub is_special : ℕ → Bool
+is_special c = c ∈ "()|.^$\\[*+?"
+
+-- with these a quantifier begins, or a comment before one
+abbrev pub is_suffix : ℕ → Bool
+is_suffix c = c ∈ "(*+?{"
+
+-- the character at s is a piece, wherever s stands, and t follows it
+pub record IsPlain (s : State) (c : ℕ) (t : Text) : Type 0 where
+  pub more : ends s.rest ≡ false
+  pub piece : (n d : ℕ) → Piece n d s (done (literal (c ∷ []) s.flags.casei) (at s t))

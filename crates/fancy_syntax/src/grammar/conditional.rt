@@ -1,0 +1,100 @@
+//! Conditionals and absent nodes: what becomes of the trees that were read inside them.
+ghost use Rattle.std.specs.Prelude.{◌≡◌, IfOk};
+ghost use Rattle.fancy_syntax.specs.Grammar as spec;
+ghost use Rattle.fancy_syntax.specs.Join as join;
+ghost use Rattle.fancy_syntax.specs.Tree.{alt, trees_of};
+ghost use Rattle.fancy_syntax.specs.View.{view, view_ast, views};
+
+use crate::expr::{Absent, AstNode, Expr};
+use crate::grammar::frame::is_empty;
+use std::alloc::{AllocError, Global};
+
+/// Whether the tree is a condition on a group.
+pub(crate) fn is_condition(tree: &Expr) -> bool
+    ensures { result ≡ spec.is_condition (view tree.now) }
+{
+    match tree {
+        Expr::AstNode(node, _) => is_condition_node(node),
+        _ => false,
+    }
+}
+
+/// Whether the node is a condition on a group.
+fn is_condition_node(node: &AstNode) -> bool
+    ensures { result ≡ spec.is_condition_node (view_ast node.now) }
+{
+    match node {
+        AstNode::BackrefExistsCondition { .. } => true,
+        AstNode::AstGroup { .. } => false,
+        AstNode::Backref { .. } => false,
+        AstNode::SubroutineCall(_) => false,
+    }
+}
+
+/// The branches of a conditional's body: of an Alt the first, and the choice among the others.
+pub(crate) fn branches_of(body: Expr) -> (Expr, Expr)
+    ensures first { view result.0 ≡ (spec.branches_of (view body)).0 }
+    ensures others { view result.1 ≡ (spec.branches_of (view body)).1 }
+{
+    match body {
+        Expr::Alt(branches) => first_and_others(branches),
+        body => (body, Expr::Empty),
+    }
+}
+
+/// The first branch, and the choice among the others.
+fn first_and_others(branches: Vec<Expr>) -> (Expr, Expr)
+    ensures first { view result.0 ≡ (spec.branches_of (alt (trees_of (views branches.items)))).0 }
+    ensures others { view result.1 ≡ (spec.branches_of (alt (trees_of (views branches.items)))).1 }
+{
+    let mut branches = branches;
+    if branches.is_empty() {
+        return (Expr::Alt(branches), Expr::Empty);
+    }
+    let first = branches.remove(0);
+    (first, choice(branches))
+}
+
+/// A choice among the branches.
+fn choice(branches: Vec<Expr>) -> Expr
+    ensures { view result ≡ join.choice (views branches.items) }
+{
+    let mut branches = branches;
+    if branches.len() > 1 {
+        return Expr::Alt(branches);
+    }
+    match branches.pop() {
+        Some(branch) => branch,
+        None => Expr::Empty,
+    }
+}
+
+/// The conditional of these branches; where both are Empty, the condition alone.
+pub(crate) fn conditional(
+    alloc: Global,
+    condition: Box<Expr>,
+    true_branch: Expr,
+    false_branch: Expr,
+) -> Result<Expr, AllocError>
+    ensures { IfOk result (λ e. view e ≡
+        spec.conditional_of (view condition.value) (view true_branch) (view false_branch)) }
+{
+    if is_empty(&true_branch) && is_empty(&false_branch) {
+        return Ok(Box::into_inner(condition));
+    }
+    Ok(Expr::Conditional {
+        condition,
+        true_branch: Box::new(alloc, true_branch)?,
+        false_branch: Box::new(alloc, false_branch)?,
+    })
+}
+
+/// A branch behind `(?~|` that no other follows: a stopper, or where it is Empty a clear.
+pub(crate) fn alone(alloc: Global, branch: Expr) -> Result<Expr, AllocError>
+    ensures { IfOk result (λ e. view e ≡ spec.alone (view branch)) }
+{
+    if is_empty(&branch) {
+        return Ok(Expr::Absent(Absent::Clear));
+    }
+    Ok(Expr::Absent(Absent::Stopper(Box::new(alloc, branch)?)))
+}

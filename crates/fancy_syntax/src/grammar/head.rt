@@ -1,0 +1,63 @@
+//! What opens a group that holds one alternation.
+ghost use Rattle.std.specs.Prelude.{◌≡◌, IfOk, option_map, chars};
+ghost use Rattle.fancy_syntax.specs.Head as spec;
+ghost use Rattle.fancy_syntax.specs.Parsed.{head_of};
+ghost use Rattle.fancy_syntax.specs.Tree.{ast_node, ast_group};
+ghost use Rattle.fancy_syntax.specs.View.{view};
+
+use crate::expr::{Absent, AstNode, Expr, LookAround};
+use fancy_lex::flags::Flags;
+use std::alloc::{AllocError, Global};
+
+/// What opens a group.
+#[derive(Clone, Copy)]
+pub(crate) enum Head<'a> {
+    /// A capturing group, with its name if it has one.
+    Capture(Option<&'a str>),
+    /// A group of flags.
+    Scope,
+    Look(LookAround),
+    Atomic,
+    Define,
+    /// An absent repeater.
+    Repeater,
+}
+
+/// The flags behind a group, from those before it and those at the end of its inside.
+pub(crate) fn flags_behind(head: Head, before: Flags, inside: Flags) -> Flags
+    ensures { result ≡ spec.flags_behind (head_of head.entry) before inside }
+{
+    match head {
+        Head::Scope => before,
+        _ => inside,
+    }
+}
+
+/// The node round the inside of a group that opens at the place.
+pub(crate) fn node(alloc: Global, head: Head, place: usize, inner: Expr) -> Result<Expr, AllocError>
+    ensures { IfOk result (λ e. view e ≡ spec.node_of (head_of head.entry) place (view inner)) }
+{
+    match head {
+        Head::Capture(name) => capture(alloc, name, place, inner),
+        Head::Scope => Ok(inner),
+        Head::Look(look) => Ok(Expr::LookAround(Box::new(alloc, inner)?, look)),
+        Head::Atomic => Ok(Expr::AtomicGroup(Box::new(alloc, inner)?)),
+        Head::Define => Ok(Expr::DefineGroup {
+            definitions: Box::new(alloc, inner)?,
+        }),
+        Head::Repeater => Ok(Expr::Absent(Absent::Repeater(Box::new(alloc, inner)?))),
+    }
+}
+
+/// The node of a capturing group.
+fn capture(alloc: Global, name: Option<&str>, place: usize, inner: Expr) -> Result<Expr, AllocError>
+    ensures { IfOk result (λ e. view e ≡ ast_node (ast_group (option_map
+        (λ t. chars t.now) name.entry) (view inner)) place) }
+{
+    let inner = Box::new(alloc, inner)?;
+    let Some(name) = name else {
+        return Ok(Expr::AstNode(AstNode::AstGroup { name: None, inner }, place));
+    };
+    let name = Some(String::from_str(alloc, name)?);
+    Ok(Expr::AstNode(AstNode::AstGroup { name, inner }, place))
+}

@@ -1,0 +1,129 @@
+//! What the second walk knows, and what it notes of each reference.
+ghost use Rattle.std.specs.Prelude.{◌≡◌, ◌<◌, ◌^◌, chars, IfOk};
+ghost use Rattle.fancy_syntax.specs.Marks as spec;
+ghost use Rattle.fancy_syntax.specs.Notes.{progress_of, number_meant, noted_one};
+ghost use Rattle.fancy_syntax.specs.Walk.{nothing_noted};
+
+use fancy_lex::error::ParseError;
+use fancy_lex::name::CaptureGroupTarget;
+use fancy_parts::ranks::{Groups, Meaning, Role, meaning_behind};
+use std::alloc::{AllocError, Global};
+use std::collections::BTreeSet;
+
+/// What is known when references are resolved.
+#[derive(Debug, Drop)]
+pub(super) struct Known<'a> {
+    /// The pattern.
+    pub pattern: &'a str,
+    /// Groups without a name have no number.
+    pub named: bool,
+    /// The groups that have a number.
+    pub groups: Groups,
+}
+
+/// How far the second walk has come, and what it noted.
+#[derive(Debug, Drop)]
+pub(super) struct Progress {
+    /// How many groups with a number opened.
+    pub passed: usize,
+    /// The numbers of back references, up to the number of groups.
+    pub backrefs: BTreeSet<usize>,
+    /// The first of the other numbers.
+    pub out_of_range: Option<usize>,
+    /// Some reference is written as a number.
+    pub numeric: bool,
+    /// Some call is written.
+    pub calls: bool,
+    /// Some call by the number 0 is written.
+    pub self_recursive: bool,
+    /// The first fault, with its place.
+    pub fault: Option<(usize, ParseError)>,
+}
+
+impl Progress {
+    /// Nothing passed, and nothing noted.
+    pub fn new(alloc: Global) -> Progress
+        ensures { progress_of result ≡ nothing_noted }
+    {
+        Progress {
+            passed: 0,
+            backrefs: BTreeSet::new(alloc),
+            out_of_range: None,
+            numeric: false,
+            calls: false,
+            self_recursive: false,
+            fault: None,
+        }
+    }
+}
+
+/// Notes the reference, and answers the number that it means.
+pub(super) fn refer(
+    known: &Known,
+    progress: &mut Progress,
+    place: usize,
+    role: Role,
+    target: &CaptureGroupTarget,
+) -> Result<Option<usize>, AllocError>
+    requires { progress.old.passed < 2 ^ 63 }
+    ensures number { IfOk result (λ n. n ≡ number_meant known.now progress.old role target.now) }
+    ensures progress { IfOk result
+        (λ _. progress_of progress.new ≡ noted_one known.now progress.old place role target.now) }
+    ensures passed { progress.new.passed ≡ progress.old.passed }
+{
+    let meaning = meaning_behind(&known.groups, progress.passed, role, target)?;
+    match role {
+        Role::Call => progress.calls = true,
+        _ => {}
+    }
+    if let CaptureGroupTarget::ByNumber(number) = target {
+        match role {
+            Role::Call => {
+                progress.numeric = true;
+                if *number == 0 {
+                    progress.self_recursive = true;
+                }
+            }
+            Role::BackReference => {
+                if is_behind_backslash(known.pattern, place) {
+                    progress.numeric = true;
+                }
+            }
+            Role::Condition => {}
+        }
+    }
+    match meaning {
+        Meaning::Number(number) => {
+            if let Role::BackReference = role {
+                if number <= known.groups.total {
+                    progress.backrefs.insert(number)?;
+                } else if progress.out_of_range.is_none() {
+                    progress.out_of_range = Some(number);
+                }
+            }
+            Ok(Some(number))
+        }
+        Meaning::Unresolved => Ok(None),
+        Meaning::Faulty(kind) => {
+            if progress.fault.is_none() {
+                progress.fault = Some((place, kind));
+            }
+            Ok(None)
+        }
+    }
+}
+
+/// Whether a backslash stands right before the place.
+fn is_behind_backslash(pattern: &str, place: usize) -> bool
+    ensures { result ≡ spec.is_behind_backslash (chars pattern.now) place }
+{
+    let bytes = pattern.as_bytes();
+    if place == 0 {
+        return false;
+    }
+    let before = place - 1;
+    if before >= bytes.len() {
+        return false;
+    }
+    bytes[before] == b'\\'
+}

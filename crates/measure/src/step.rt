@@ -1,0 +1,60 @@
+//! How far a pattern is taken.
+use crate::sample::Sample;
+use anyhow::{Context, Result, bail};
+use fancy_syntax::error::Error;
+use fancy_syntax::expr::Expr;
+use fre_program::flag_word::flags_named;
+use std::alloc::Global;
+
+/// What is done to a pattern last. Each step does those before it too.
+#[derive(Clone, Copy)]
+pub(crate) enum Step {
+    /// The line is decoded.
+    Decode,
+    /// The pattern is read.
+    Read,
+    /// The tree is asked whether it is printable.
+    Ask,
+    /// The tree is printed.
+    Print,
+}
+
+impl Step {
+    /// The last step of a mode.
+    pub(crate) fn named(mode: &str) -> Option<Step> {
+        Some(match mode {
+            "none" => Step::Decode,
+            "parse" => Step::Read,
+            "printable" => Step::Ask,
+            "text" => Step::Print,
+            _ => return None,
+        })
+    }
+
+    /// The bytes of the pattern where it is only decoded; 1 where it is read, or is printable; the bytes of its tree's
+    /// text where it is printed. 0 where the pattern has a fault, or its tree is not printable.
+    pub(crate) fn amount(self, alloc: Global, sample: &Sample) -> Result<usize> {
+        let [word, pattern] = &sample.words;
+        let flags = flags_named(word.as_str()).context("no flags")?;
+        if let Step::Decode = self {
+            return Ok(pattern.len());
+        }
+        let tree = match Expr::parse_tree_with_flags(alloc, pattern.as_str(), flags) {
+            Ok(tree) => tree,
+            Err(Error::OutOfMemory) => bail!("out of memory"),
+            Err(Error::ParseError(_, _)) => return Ok(0),
+        };
+        if let Step::Read = self {
+            return Ok(1);
+        }
+        if !tree.expr.is_printable(alloc)? {
+            return Ok(0);
+        }
+        if let Step::Ask = self {
+            return Ok(1);
+        }
+        let mut text = String::new(alloc);
+        tree.expr.to_str(&mut text, 0)?;
+        Ok(text.len())
+    }
+}
