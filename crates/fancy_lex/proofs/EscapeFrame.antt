@@ -4,12 +4,12 @@ use Rattle.std.proofs.lemmas.Bool.{cases_eq}
 use Rattle.std.proofs.lemmas.Bool.Decides.{nat_tests}
 use Rattle.std.specs.Char.{digit_value, is_ascii_digit}
 use Rattle.fancy_lex.specs.Characters.{open_paren, open_brace, close_brace, close_paren, backslash, line_feed, hash, ◌∈◌}
-use Rattle.fancy_lex.specs.Escape.{escape, reference_fault, property, in_class, is_itself}
+use Rattle.fancy_lex.specs.Escape.{escape, numbered, property, in_class, is_itself}
+use Rattle.fancy_lex.specs.EscapeReference.{group_number}
 use Rattle.fancy_lex.specs.Escaped.{Escape, delegate, literal, literal_bytes}
-use Rattle.fancy_lex.specs.Fault.{Fault, invalid_backref, invalid_class, invalid_hex, invalid_codepoint_value, unclosed_unicode_name}
+use Rattle.fancy_lex.specs.Fault.{Fault, invalid_class, invalid_hex, invalid_codepoint_value, unclosed_unicode_name}
 use Rattle.fancy_lex.specs.Hex.{hex, value, braced_value, digits, fixed_digits, hex_digit, closing_brace, leaf_of_value, is_scalar}
 use Rattle.fancy_lex.specs.Layout.{layout, layout_from, Skipped, rest, fault, State, between, two, one, comment, escaped, line, after_comment_head, is_blank}
-use Rattle.fancy_lex.specs.Number.{number}
 use Rattle.fancy_lex.specs.Property.{Property, PropertyName, single, read_property, name_at, cut_at, property_text}
 use Rattle.fancy_lex.specs.Property as property_spec
 use Rattle.fancy_lex.specs.Reading.{Reading, gives, fails, fault_at, choose, layout_reading, ◌>=>◌}
@@ -280,17 +280,13 @@ property_stays f p q c (d ∷ t) = property_on f p q c d t _ (read_stays (c ∈ 
 
 -- The table.
 
-either_fault : {A : Type 0} (b : Bool) (x y : Fault) (there : Text → Reading A) → Stays (if b then fails x else fails y) there
-either_fault true x y there = tt
-either_fault false x y there = tt
+numbered_on : (p : ℕ) (there : Text → Reading Escape) (o : Reading ℕ) → Stays (o >=> (λ k u. fault_at p invalid_class)) there
+numbered_on p there (gives k u) = tt
+numbered_on p there (fails e) = tt
 
-numbered_on : (n p : ℕ) (t : Text) (there : Text → Reading Escape) (o : Option (ℕ × Text)) → Stays (choose o (λ q. if nat_lt q.0 (2 ^ 64) then fault_at p invalid_class else fault_at (place_of n t) invalid_backref) (fault_at p invalid_class)) there
-numbered_on n p t there None = tt
-numbered_on n p t there (Some q) = either_fault (nat_lt q.0 (2 ^ 64)) _ _ there
-
-numbered_stays : (n p : ℕ) (t : Text) (there : Text → Reading Escape) → Stays (reference_fault n true p t) there
-unfolding reference_fault
-numbered_stays n p t there = numbered_on n p t there (number t)
+numbered_stays : (n : ℕ) (f : Flags) (p : ℕ) (t : Text) (there : Text → Reading Escape) → Stays (numbered n f true p t) there
+unfolding numbered
+numbered_stays n f p t there = numbered_on p there (group_number n t)
 
 value_stays : (e : Escape) (t : Text) → Stays (gives e t) (λ s. gives e (t ++ s))
 value_stays e t = λ s. refl
@@ -303,7 +299,7 @@ escape_stays : (n m : ℕ) (f : Flags) (p q : ℕ) (t : Text) → Stays (escape 
 unfolding escape
 escape_stays n m f p q [] = tt
 escape_stays n m f p q (c ∷ t) =
-    stays_if (is_ascii_digit c) _ _ _ _ (numbered_stays n p (c ∷ t) _)
+    stays_if (is_ascii_digit c) _ _ _ _ (numbered_stays n f p (c ∷ t) _)
     (stays_if (c ∈ "dDsSwW") _ _ _ _ (value_stays _ t)
     (stays_if (c ∈ "h") _ _ _ _ (value_stays _ t)
     (stays_if (c ∈ "H") _ _ _ _ (value_stays _ t)

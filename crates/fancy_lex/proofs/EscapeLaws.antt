@@ -5,83 +5,21 @@ use Rattle.std.specs.Option.{option_and_then}
 use Rattle.fancy_lex.specs.declared.flags.Flags.{Flags}
 use Rattle.fancy_lex.specs.Boundary as boundaries
 use Rattle.fancy_lex.specs.Characters.{open_brace, close_brace, ◌∈◌}
-use Rattle.fancy_lex.specs.Escape.{escape, reference_fault, property, outside, in_class}
+use Rattle.fancy_lex.specs.Escape.{escape, numbered, call, referring, property, outside, in_class}
+use Rattle.fancy_lex.specs.EscapeReference.{back_reference}
 use Rattle.fancy_lex.specs.Escaped.{Escape}
 use Rattle.fancy_lex.specs.Fault.{Fault, Kind, invalid_escape}
 use Rattle.fancy_lex.specs.Hex as hexes
 use Rattle.fancy_lex.specs.Layout.{Skipped, rest, fault, layout}
-use Rattle.fancy_lex.specs.Number.{number}
 use Rattle.fancy_lex.specs.Property.{single, braced, cut_at, name_at, read_property}
 use Rattle.fancy_lex.specs.Reading.{Reading, gives, fails, fault_at, ◌>=>◌, choose, layout_reading}
+use Rattle.fancy_lex.specs.Referred.{Reference}
 use Rattle.fancy_lex.specs.Text.{Text, bytes, strip, place_of}
 use Rattle.fancy_lex.proofs.LayoutLaws.{layout_cut, layout_place}
-use Rattle.fancy_lex.proofs.TextLemmas.{bytes-append, strip_is}
-
--- the text ends with the other
-abbrev pub Ends : Text → Text → Type 0
-Ends t v = (w : Text) × (t ≡ w ++ v)
-
-pub ends_whole : (t : Text) → Ends t t
-ends_whole t = ([], refl)
-
-pub ends_past : (c : ℕ) (t v : Text) → Ends t v → Ends (c ∷ t) v
-ends_past c t v (w, e) = (c ∷ w, ap (λ s. c ∷ s) e)
-
-pub ends_twice : (t u v : Text) → Ends t u → Ends u v → Ends t v
-ends_twice t u v (w, e) (z, h) = (w ++ z, e ∙ ap (λ s. w ++ s) h ∙ sym (append_assoc w z v))
-
--- a reading of the text leaves its end, or finds a fault at a place of at most m; it is an answer
-pub data Leaves {A : Type 0} (m : ℕ) : Text → Reading A → Type 0 where
-  leaves : {t u : Text} {a : A} → Ends t u → Leaves m t (gives a u)
-  faults : {t : Text} {e : Fault} → e.place ≤ m → Leaves m t (fails e)
-
-whole : {A : Type 0} {a : A} {m : ℕ} (t : Text) → Leaves m t (gives a t)
-whole t = leaves (ends_whole t)
-
-pub whole_next : {A : Type 0} {a : A} {m c : ℕ} (t : Text) → Leaves m (c ∷ t) (gives a t)
-whole_next {c} t = leaves (ends_past c t t (ends_whole t))
-
-pub leaves_none : {A : Type 0} {m p : ℕ} {k : Kind} {t : Text} → p ≤ m → Leaves {A = A} m t (fault_at p k)
-leaves_none l = faults l
-
-pub leaves_past : {A : Type 0} {m : ℕ} {t u : Text} {o : Reading A} → Ends t u → Leaves m u o → Leaves m t o
-leaves_past e (leaves h) = leaves (ends_twice _ _ _ e h)
-leaves_past e (faults l) = faults l
-
-pub leaves_if : {A : Type 0} {m : ℕ} {t : Text} {x y : Reading A} (b : Bool) → Leaves m t x → Leaves m t y → Leaves m t (if b then x else y)
-leaves_if true l k = l
-leaves_if false l k = k
-
-pub leaves_both : {A B : Type 0} {m : ℕ} {t : Text} {o : Reading A} {f : A → Text → Reading B} → Leaves m t o → ((a : A) (u : Text) → Leaves m u (f a u)) → Leaves m t (o >=> f)
-leaves_both (leaves {u} {a} e) k = leaves_past e (k a u)
-leaves_both (faults l) k = faults l
-
-leaves_choose : {A B : Type 0} {m : ℕ} {t : Text} {f : A → Reading B} {d : Reading B} (o : Option A) → ((a : A) → o ≡ Some a → Leaves m t (f a)) → Leaves m t d → Leaves m t (choose o f d)
-leaves_choose (Some a) l k = l a refl
-leaves_choose None l k = k
-
-pub ends_strip : (m : ℕ) (t u : Text) → strip m t ≡ Some u → Ends t u
-ends_strip m t u e = (m ∷ [], strip_is m t u e)
-
--- the same of what reads a value or nothing
-abbrev LeavesSome : {A : Type 0} → Text → Option (A × Text) → Type 0
-LeavesSome t (Some p) = Ends t p.1
-LeavesSome t None = Unit {0}
-
-ends_some : {A : Type 0} (t : Text) (o : Option (A × Text)) (p : A × Text) → LeavesSome t o → o ≡ Some p → Ends t p.1
-ends_some t o p l e = subst (LeavesSome t) e l
-
-some_if : {A : Type 0} (t : Text) (b : Bool) (p : A × Text) → Ends t p.1 → LeavesSome t (if b then Some p else None)
-some_if t true p e = e
-some_if t false p e = tt
-
-some_past : {A : Type 0} (t u : Text) (o : Option (A × Text)) → Ends t u → LeavesSome u o → LeavesSome t o
-some_past t u (Some p) e l = ends_twice t u p.1 e l
-some_past t u None e l = tt
-
-some_both : {A B : Type 0} (t : Text) (o : Option (A × Text)) (f : A × Text → Option (B × Text)) → LeavesSome t o → ((p : A × Text) → LeavesSome p.1 (f p)) → LeavesSome t (option_and_then f o)
-some_both t (Some p) f l m = some_past t p.1 (f p) l (m p)
-some_both t None f l m = tt
+use Rattle.fancy_lex.proofs.LeaveLaws.{Ends, ends_whole, ends_past, ends_twice, Leaves, whole, whole_next, leaves_none, leaves_past, leaves_if, leaves_both, leaves_choose, ends_strip, LeavesSome, ends_some, some_if, some_past, some_both, leaves}
+use Rattle.fancy_lex.proofs.ReferenceLaws.{takes_number, takes_numbered_reference, takes_back_reference, takes_subroutine_call}
+use Rattle.fancy_lex.proofs.TakeLaws.{takes_leaves}
+use Rattle.fancy_lex.proofs.TextLemmas.{bytes-append}
 
 -- hex digits
 leaves_digit : (t : Text) → LeavesSome t (hexes.hex_digit t)
@@ -216,16 +154,32 @@ module _ (m n : ℕ) (up : n + 1 ≤ m) (f : Flags) (inside : Bool) (p : ℕ) (l
   leaves_property c (d ∷ t) =
       leaves_choose (read_property (c ∈ "P") (d ∷ t)) (λ q e. leaves (ends_some (d ∷ t) _ q (leaves_read (c ∈ "P") (d ∷ t)) e)) none_here
 
-  leaves_numbered : (t : Text) → Leaves m t (reference_fault n inside p t)
-  unfolding reference_fault
-  leaves_numbered t = leaves_if _ none_here (leaves_choose (number t) (λ q e. leaves_if _ none_here (leaves_none (place_up m n up t))) none_here)
+  in_text : n ≤ m
+  in_text = omega (arith, up)
+
+  leaves_referring : {t : Text} {o : Reading Reference} → Leaves m t o → Leaves m t (referring f o)
+  leaves_referring h = leaves_both h (λ r u. whole u)
+
+  leaves_numbered : (t : Text) → Leaves m t (numbered n f inside p t)
+  unfolding numbered
+  leaves_numbered t =
+      leaves_if inside (leaves_both (takes_leaves n 1 t in_text (takes_number n t)) (λ k u. none_here))
+      (leaves_referring (takes_leaves n 1 t in_text (takes_numbered_reference n t)))
+
+  leaves_named_reference : (t : Text) → Leaves m t (referring f (back_reference n t))
+  leaves_named_reference t = leaves_referring (takes_leaves n 3 t in_text (takes_back_reference n t))
+
+  leaves_call : (c : ℕ) (t : Text) → Leaves m t (call n p c t)
+  unfolding call
+  leaves_call c [] = none_here
+  leaves_call c (d ∷ t) = leaves_both (takes_leaves n 1 (d ∷ t) in_text (takes_subroutine_call n (d ∷ t))) (λ r u. whole u)
 
   boundary_here : (negated : Bool) (t : Text) → Leaves m t (boundaries.boundary n f.ignore_space p negated t)
   boundary_here = leaves_boundary m n up f.ignore_space p l
 
   leaves_outside : (c : ℕ) (t : Text) → Leaves m t (outside n f p c t)
   unfolding outside
-  leaves_outside c t = search (leaves_if, whole, none_here, boundary_here) depth 60 fits 3000
+  leaves_outside c t = search (leaves_if, whole, none_here, boundary_here, leaves_named_reference, leaves_call) depth 60 fits 3000
 
   leaves_in_class : (c : ℕ) (t : Text) → Leaves m t (in_class p c t)
   unfolding in_class

@@ -5,7 +5,8 @@ use Rattle.fancy_lex.specs.Class.{class, items, item_text, is_negated, class_hea
 use Rattle.fancy_lex.specs.Reading.{choose}
 use Rattle.fancy_lex.specs.Text.{Text, bytes, place_of, strip}
 use Rattle.fancy_lex.specs.declared.flags.Flags.{Flags}
-use Rattle.fancy_lex.proofs.EscapeLaws.{Ends, ends_whole, ends_past, ends_twice, ends_strip, Leaves, whole_next, leaves_none, leaves_past, leaves_if, leaves_both, leaves_escape}
+use Rattle.fancy_lex.proofs.EscapeLaws.{leaves_escape}
+use Rattle.fancy_lex.proofs.LeaveLaws.{Ends, ends_whole, ends_past, ends_twice, ends_strip, Leaves, whole_next, leaves_none, leaves_past, leaves_if, leaves_both}
 
 -- what stands behind the front of a class ends the text
 ends_mark : (m : ℕ) (p : Text × Text) → Ends p.1 (with_mark m p).1

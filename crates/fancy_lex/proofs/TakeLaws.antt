@@ -5,7 +5,7 @@ use Rattle.fancy_lex.specs.Fault.{Fault}
 use Rattle.fancy_lex.specs.Reading.{Reading, gives, fails, ◌>=>◌}
 use Rattle.fancy_lex.specs.Text.{Text, bytes}
 use Rattle.fancy_lex.proofs.TextLemmas.{bytes-append}
-use Rattle.fancy_lex.proofs.EscapeLaws.{Leaves, leaves, faults}
+use Rattle.fancy_lex.proofs.LeaveLaws.{Leaves, leaves, faults}
 
 -- `u` is left of the text behind a word of at least k characters
 pub record Takes (k : ℕ) (t u : Text) : Type 0 where

@@ -1,30 +1,38 @@
 -- Escapes: what stands behind a backslash.
-use Rattle.std.specs.Prelude.{ℕ, ◌^◌, Bool, true, false, not, ◌&&◌, ◌||◌, nat_lt, if◌then◌else◌, [], ◌∷◌}
+use Rattle.std.specs.Prelude.{ℕ, Bool, true, false, not, ◌&&◌, ◌||◌, if◌then◌else◌, [], ◌∷◌}
 use Prim.Native.Char.{code}
 use Rattle.std.specs.Char.{is_ascii_alphanumeric, is_ascii_digit}
 use Rattle.fancy_lex.specs.declared.escape.Assertion.TheVariants.{StartText, EndText, EndTextIgnoreTrailingNewlines, LeftWordBoundary, RightWordBoundary}
 use Rattle.fancy_lex.specs.declared.flags.Flags.{Flags}
 use Rattle.fancy_lex.specs.Boundary.{boundary}
 use Rattle.fancy_lex.specs.Characters.{backslash, ◌∈◌}
-use Rattle.fancy_lex.specs.Escaped.{hex_class, negated_hex_class, Escape, literal, any, assertion, general_newline, keep_out, continue_from_previous_match_end, delegate}
-use Rattle.fancy_lex.specs.Fault.{trailing_backslash, invalid_escape, invalid_class, invalid_backref, unclosed_unicode_name, not_read_yet}
+use Rattle.fancy_lex.specs.EscapeReference as reference
+use Rattle.fancy_lex.specs.Escaped.{hex_class, negated_hex_class, Escape, literal, any, assertion, general_newline, keep_out, continue_from_previous_match_end, delegate, backref, subroutine_call}
+use Rattle.fancy_lex.specs.Fault.{trailing_backslash, invalid_escape, invalid_class, unclosed_unicode_name}
 use Rattle.fancy_lex.specs.Hex.{hex}
-use Rattle.fancy_lex.specs.Number.{number}
 use Rattle.fancy_lex.specs.Property.{read_property, property_text}
-use Rattle.fancy_lex.specs.Reading.{Reading, gives, fault_at, choose}
-use Rattle.fancy_lex.specs.Text.{Text, place_of}
+use Rattle.fancy_lex.specs.Reading.{Reading, gives, fault_at, ◌>=>◌, choose}
+use Rattle.fancy_lex.specs.Referred.{Reference}
+use Rattle.fancy_lex.specs.Text.{Text}
 
 -- the fault of a letter that is no escape; in all that follows the backslash stands at the place p
 abbrev pub unknown_escape : ℕ → ℕ → Reading Escape
 unknown_escape p c = fault_at p (invalid_escape (backslash ∷ c ∷ []))
 
--- the digits of a back reference, which no class holds; the pattern has n bytes
-unfoldable pub reference_fault : ℕ → Bool → ℕ → Text → Reading Escape
-reference_fault n inside p t =
-    if not inside then fault_at p not_read_yet
-    else choose (number t)
-    (λ q. if nat_lt q.0 (2 ^ 64) then fault_at p invalid_class else fault_at (place_of n t) invalid_backref)
-    (fault_at p invalid_class)
+-- the leaf of a back reference
+abbrev pub referring : Flags → Reading Reference → Reading Escape
+referring f o = o >=> (λ r u. gives (backref r f.casei) u)
+
+-- digits are a back reference, which no class holds; the pattern has n bytes
+unfoldable pub numbered : ℕ → Flags → Bool → ℕ → Text → Reading Escape
+numbered n f inside p t =
+    if inside then reference.group_number n t >=> (λ k u. fault_at p invalid_class)
+    else referring f (reference.numbered_reference n t)
+
+-- a call behind its letter
+unfoldable pub call : ℕ → ℕ → ℕ → Text → Reading Escape
+call n p c [] = unknown_escape p c
+call n p c (d ∷ t) = reference.subroutine_call n (d ∷ t) >=> (λ r u. gives (subroutine_call r) u)
 
 -- a property behind its letter
 unfoldable pub property : Flags → Bool → ℕ → ℕ → Text → Reading Escape
@@ -47,8 +55,8 @@ outside n f p c t =
     else if c ∈ "N" then gives (any false false) t
     else if c ∈ "<" then gives (if f.oniguruma_mode then literal c false else assertion LeftWordBoundary) t
     else if c ∈ ">" then gives (if f.oniguruma_mode then literal c false else assertion RightWordBoundary) t
-    else if c ∈ "k" then fault_at p not_read_yet
-    else if c ∈ "g" then fault_at p not_read_yet
+    else if c ∈ "k" then referring f (reference.back_reference n t)
+    else if c ∈ "g" then call n p c t
     else if c ∈ "b" then boundary n f.ignore_space p false t
     else if c ∈ "B" then boundary n f.ignore_space p true t
     else unknown_escape p c
@@ -68,7 +76,7 @@ is_itself inside c = not (is_ascii_alphanumeric c) && (inside || not (c ∈ "<>"
 unfoldable pub escape : ℕ → Flags → Bool → ℕ → Text → Reading Escape
 escape n f inside p [] = fault_at p trailing_backslash
 escape n f inside p (c ∷ t) =
-    if is_ascii_digit c then reference_fault n inside p (c ∷ t)
+    if is_ascii_digit c then numbered n f inside p (c ∷ t)
     else if c ∈ "dDsSwW" then gives (delegate (backslash ∷ c ∷ []) f.casei) t
     else if c ∈ "h" then gives (delegate hex_class false) t
     else if c ∈ "H" then gives (delegate negated_hex_class false) t

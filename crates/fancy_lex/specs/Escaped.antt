@@ -2,6 +2,7 @@
 use Rattle.std.specs.Prelude.{ℕ, Bool, [], ◌∷◌, codes}
 use Rattle.fancy_lex.specs.Characters.{backslash}
 use Rattle.fancy_lex.specs.Property.{property_text, view_property}
+use Rattle.fancy_lex.specs.Referred.{Reference, Call, view_reference, view_call}
 use Rattle.fancy_lex.specs.Text.{Text}
 use Rattle.fancy_lex.specs.declared.escape.Assertion.{Assertion}
 use Rattle.fancy_lex.specs.declared.escape.DelegateText as declared_text
@@ -9,7 +10,7 @@ use Rattle.fancy_lex.specs.declared.escape.DelegateText.TheVariants as text
 use Rattle.fancy_lex.specs.declared.escape.Escaped as declared
 use Rattle.fancy_lex.specs.declared.escape.Escaped.TheVariants as code
 
--- a leaf of the tree, with texts as lists of characters; the last flag of a literal and of a delegate is `casei`
+-- a leaf of the tree, with texts as lists of characters; the last flag of a literal, a delegate and a reference is `casei`
 pub data Escape : Type 0 where
   literal : ℕ → Bool → Escape
   literal_bytes : ℕ → Escape
@@ -19,6 +20,8 @@ pub data Escape : Type 0 where
   keep_out : Escape
   continue_from_previous_match_end : Escape
   delegate : Text → Bool → Escape
+  backref : Reference → Bool → Escape
+  subroutine_call : Call → Escape
 
 -- what is written for `\h`
 abbrev pub hex_class : Text
@@ -45,3 +48,5 @@ escape_of (code.GeneralNewline unicode) = general_newline unicode
 escape_of code.KeepOut = keep_out
 escape_of code.ContinueFromPreviousMatchEnd = continue_from_previous_match_end
 escape_of (code.Delegate inner casei) = delegate (delegate_text inner) casei
+escape_of (code.Backref reference casei) = backref (view_reference reference) casei
+escape_of (code.SubroutineCall call) = subroutine_call (view_call call)

@@ -50,10 +50,6 @@ kind_of code.TargetNotRepeatable = target_not_repeatable
 kind_of code.InvalidGroupName = invalid_group_name
 kind_of (code.InvalidGroupNameBackref s) = invalid_group_name_backref (chars (string_bytes s))
 
--- the kind of the fault that stands in for what is not read yet
-abbrev pub not_read_yet : Kind
-not_read_yet = general_parse_error (codes "not read yet")
-
 -- the bytes that a kind prints
 abbrev pub kind_text : Kind → List ℕ
 kind_text (general_parse_error s) = codes "General parsing error: " ++ encode_utf8_all s

@@ -2,19 +2,21 @@
 ghost use Rattle.std.specs.Prelude.{◌≡◌, ◌+◌, ◌^◌, ◌<◌, ◌≤◌, [], ◌∷◌, if◌then◌else◌, false, length, chars, IfOk};
 ghost use Rattle.fancy_lex.specs.Characters.{backslash};
 ghost use Rattle.fancy_lex.specs.Escape as spec;
+ghost use Rattle.fancy_lex.specs.EscapeReference as references;
 ghost use Rattle.fancy_lex.specs.Escaped as leaf;
 ghost use Rattle.fancy_lex.specs.Escaped.{Escape, escape_of, delegate_text};
-ghost use Rattle.fancy_lex.specs.Fault.{invalid_escape, not_read_yet};
-ghost use Rattle.fancy_lex.specs.Reading.{Gives, Fails, fault_at};
+ghost use Rattle.fancy_lex.specs.Fault.{invalid_escape};
+ghost use Rattle.fancy_lex.specs.Reading.{Reads, Gives, Fails, fault_at};
 ghost use Rattle.fancy_lex.specs.Text.{text_of};
 
 use crate::error::{Error, ParseError};
 use crate::escape::boundary::boundary;
 use crate::escape::hex::hex;
+use crate::escape::reference::{back_reference, group_number, numbered_reference, subroutine_call};
 use crate::flags::Flags;
-use crate::name::number;
 use crate::property::{Property, read_property};
-use crate::text::{next, place as place_of, push};
+use crate::target::{Call, Reference};
+use crate::text::{next, push};
 use std::alloc::{AllocError, Global};
 
 pub mod boundary;
@@ -62,6 +64,11 @@ pub enum Escaped<'a> {
         inner: DelegateText<'a>,
         casei: bool,
     },
+    Backref {
+        reference: Reference<'a>,
+        casei: bool,
+    },
+    SubroutineCall(Call<'a>),
 }
 
 /// The text of a delegate, which is not built yet.
@@ -101,16 +108,6 @@ fn unknown_escape(alloc: Global, c: char, place: usize) -> Error
     }
 }
 
-/// The fault that stands in for what is not read yet.
-fn unread_fault(alloc: Global, place: usize) -> Error
-    ensures { Fails result (fault_at {A = Escape} place not_read_yet) }
-{
-    match String::from_str(alloc, "not read yet") {
-        Ok(text) => Error::ParseError(place, ParseError::GeneralParseError(text)),
-        Err(refused) => Error::from(refused),
-    }
-}
-
 /// A literal in which case counts.
 fn literal(val: char) -> Escaped<'static>
     ensures { escape_of result ≡ leaf.literal val false }
@@ -136,20 +133,58 @@ fn is_itself(c: char, inside: bool) -> bool
     !c.is_ascii_alphanumeric() && (inside || !matches!(c, '<' | '>'))
 }
 
-/// The fault of digits: outside a class they are not read yet, and no class holds them.
-#[tactic(auto, unfolding(crate::specs::Escape::reference_fault))]
-fn reference_fault(alloc: Global, text: &str, inside: bool, place: usize, end: usize) -> Error
+/// Reads digits, which are a back reference. In a class the fault is InvalidClass at `place`, unless no word holds their
+/// number.
+#[tactic(auto, unfolding(crate::specs::Escape::numbered))]
+fn numbered(
+    text: &str,
+    flags: Flags,
+    inside: bool,
+    place: usize,
+    end: usize,
+) -> Result<(Escaped<'_>, &str), Error>
     requires { length text.now ≤ end }
-    ensures { Fails result (spec.reference_fault end inside place (chars text.now)) }
+    ensures value { Reads escape_of result (spec.numbered end flags inside place (chars text.now)) }
+    ensures shorter { IfOk result (λ p. length p.1.now < length text.now) }
 {
-    if !inside {
-        return unread_fault(alloc, place);
+    if inside {
+        group_number(text, end)?;
+        return Err(Error::ParseError(place, ParseError::InvalidClass));
     }
-    match number(text) {
-        None => Error::ParseError(place, ParseError::InvalidClass),
-        Some((Some(_), _)) => Error::ParseError(place, ParseError::InvalidClass),
-        Some((None, _)) => Error::ParseError(place_of(text, end), ParseError::InvalidBackref),
+    let (reference, rest) = numbered_reference(text, end)?;
+    let casei = flags.casei;
+    Ok((Escaped::Backref { reference, casei }, rest))
+}
+
+/// Reads a named back reference, behind its letter.
+fn named(text: &str, flags: Flags, end: usize) -> Result<(Escaped<'_>, &str), Error>
+    requires { length text.now ≤ end }
+    ensures value { Reads escape_of result (spec.referring flags (references.back_reference end (chars text.now))) }
+    ensures within { IfOk result (λ p. length p.1.now ≤ length text.now) }
+{
+    let (reference, rest) = back_reference(text, end)?;
+    let casei = flags.casei;
+    Ok((Escaped::Backref { reference, casei }, rest))
+}
+
+/// Reads a call behind its letter. InvalidEscape at `place` where the text ends.
+#[tactic(auto, unfolding(crate::specs::Escape::call))]
+fn call<'a>(
+    alloc: Global,
+    text: &'a str,
+    letter: char,
+    place: usize,
+    end: usize,
+) -> Result<(Escaped<'a>, &'a str), Error>
+    requires { length text.now ≤ end }
+    ensures value { Gives escape_of result (spec.call end place letter (chars text.now)) }
+    ensures within { IfOk result (λ p. length p.1.now ≤ length text.now) }
+{
+    if next(text).is_none() {
+        return Err(unknown_escape(alloc, letter, place));
     }
+    let (call, rest) = subroutine_call(text, end)?;
+    Ok((Escaped::SubroutineCall(call), rest))
 }
 
 /// Reads a property behind its letter.
@@ -219,7 +254,8 @@ fn outside<'a>(
     place: usize,
     end: usize,
 ) -> Result<(Escaped<'a>, &'a str), Error>
-    requires { end < 2 ^ 63 }
+    requires bounded { end < 2 ^ 63 }
+    requires within { length rest.now ≤ end }
     ensures value { Gives escape_of result (spec.outside end flags place c (chars rest.now)) }
     ensures within { IfOk result (λ p. length p.1.now ≤ length rest.now) }
 {
@@ -242,7 +278,8 @@ fn outside<'a>(
         },
         '<' => word_boundary(c, Assertion::LeftWordBoundary, flags),
         '>' => word_boundary(c, Assertion::RightWordBoundary, flags),
-        'k' | 'g' => return Err(unread_fault(alloc, place)),
+        'k' => return named(rest, flags, end),
+        'g' => return call(alloc, rest, c, place, end),
         'b' => return boundary(alloc, rest, false, flags, place, end),
         'B' => return boundary(alloc, rest, true, flags, place, end),
         _ => return Err(unknown_escape(alloc, c, place)),
@@ -251,11 +288,12 @@ fn outside<'a>(
 }
 
 /// Reads what stands behind the backslash at `place` in a pattern of `end` bytes, in a class where `inside` says so.
+///
 /// The faults, at the backslash where no other place is named: TrailingBackslash at the end of the text; InvalidEscape
-/// for a letter that is no escape, and for a boundary's braces that are not closed or hold no name; UnclosedUnicodeName
-/// for a property's; InvalidClass for digits in a class, or InvalidBackref at the first of them where no word holds
-/// their number; those of `hex` behind `x`, `u` and `U`; UnclosedOpenParen where a comment in layout is open. Outside a
-/// class references and calls are not read yet.
+/// for a letter that is no escape, for a `g` at the end of the text, and for a boundary's braces that are not closed or
+/// hold no name; UnclosedUnicodeName for a property's; InvalidClass for digits in a class; InvalidBackref at the first
+/// of digits whose number no word holds; those of `hex` behind `x`, `u` and `U`; those of `back_reference` behind `k`,
+/// and of `subroutine_call` behind `g`, outside a class; UnclosedOpenParen where a comment in layout is open.
 #[tactic(auto, unfolding(crate::specs::Escape::escape))]
 pub fn escape<'a>(
     alloc: Global,
@@ -274,7 +312,7 @@ pub fn escape<'a>(
         return Err(Error::ParseError(place, ParseError::TrailingBackslash));
     };
     match c {
-        '0'..='9' => Err(reference_fault(alloc, text, inside, place, end)),
+        '0'..='9' => numbered(text, flags, inside, place, end),
         'd' | 'D' | 's' | 'S' | 'w' | 'W' => Ok((
             Escaped::Delegate {
                 inner: DelegateText::Letter(c),

@@ -1,6 +1,7 @@
 -- The letters of a flag group leave the end of the text, or their fault stands at most one past the end.
 use Rattle.std.proofs.Common.{ℕ, zero, suc, ◌+◌, Bool, false, [], ◌∷◌, Option, Some, None, arith}
-use Rattle.fancy_lex.proofs.EscapeLaws.{ends_whole, Leaves, leaves, whole_next, leaves_none, leaves_if, leaves_both, leaves_layout}
+use Rattle.fancy_lex.proofs.EscapeLaws.{leaves_layout}
+use Rattle.fancy_lex.proofs.LeaveLaws.{ends_whole, Leaves, leaves, whole_next, leaves_none, leaves_if, leaves_both}
 use Rattle.fancy_lex.specs.Fault.{changing_unicode_mode_unsupported}
 use Rattle.fancy_lex.specs.Reading.{Reading, fault_at}
 use Rattle.fancy_lex.specs.Text.{Text, bytes, place_of}

@@ -6,10 +6,11 @@ use Rattle.std.proofs.lemmas.Bool.{cond_both}
 use Prim.Native.Char.{code}
 use Rattle.fancy_lex.specs.Characters.{close_paren, ◌∈◌}
 use Rattle.fancy_lex.specs.Delimited.{name_before}
-use Rattle.fancy_lex.specs.Referred.{name_reading}
+use Rattle.fancy_lex.specs.Referred.{name_reading, target_of_name}
 use Rattle.fancy_lex.specs.Text.{Text, strip, place_of}
 use Rattle.fancy_lex.proofs.TextLemmas.{strip_is}
 use Rattle.fancy_lex.proofs.ReferenceLaws.{takes_name, takes_marked_name, takes_by_name, takes_reference_by_name}
+use Rattle.fancy_lex.proofs.ReferencePlaces.{IfGives, ReferenceAt, CallAt, named_at, call_to_at, reference_by_name_at}
 use Rattle.fancy_lex.proofs.TakeLaws.{Takes, TakesSome, TakesOrFails, takes, fault_within, takes_on, takes_one, takes_less_some}
 use Rattle.fancy_parts.specs.GroupName.{head_name, group_name}
 use Rattle.fancy_parts.specs.HeadReference.{named_reference, call_of, named_call, condition_name, with_close_paren, condition_target}
@@ -76,3 +77,18 @@ module _ (n : ℕ) where
   pub takes_condition_target : (t : Text) → TakesOrFails n 2 t (condition_target n t)
   unfolding condition_target
   takes_condition_target t = takes_reference_by_name n 2 t true (condition_name t) (takes_condition_name t)
+
+module _ (n : ℕ) (t : Text) where
+  pub named_reference_at : IfGives (ReferenceAt (place_of n t)) (named_reference n t)
+  unfolding named_reference
+  named_reference_at = reference_by_name_at (place_of n t) false (name_before close_paren t)
+
+  pub named_call_at : IfGives (CallAt (place_of n t)) (named_call n t)
+  unfolding named_call
+  named_call_at =
+      let p = place_of n t in
+      named_at p (CallAt p) (call_of p) (name_before close_paren t) (λ w. call_to_at p (Some (target_of_name w)))
+
+  pub condition_target_at : IfGives (ReferenceAt (place_of n t)) (condition_target n t)
+  unfolding condition_target
+  condition_target_at = reference_by_name_at (place_of n t) true (condition_name t)

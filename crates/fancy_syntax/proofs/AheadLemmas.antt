@@ -7,12 +7,15 @@ use Rattle.fancy_lex.specs.Characters.{◌∈◌}
 use Rattle.fancy_lex.specs.Fault.{target_not_repeatable, recursion_exceeded}
 use Rattle.fancy_lex.specs.Layout.{layout, layout_from, Skipped, rest, fault as open_comment}
 use Rattle.fancy_lex.specs.Reading.{Reading, gives, fails, choose}
+use Rattle.fancy_lex.specs.Referred.{Reference}
 use Rattle.fancy_lex.specs.Text.{Text, bytes, place_of, strip_word}
 use Rattle.fancy_lex.specs.declared.error.Error.{Error}
 use Rattle.fancy_parts.specs.FlagLetters.{Letters, setting, scope as scoped}
+use Rattle.fancy_parts.specs.GroupName.{group_name}
+use Rattle.fancy_parts.specs.HeadReference.{begins_target, condition_target}
 use Rattle.fancy_parts.specs.Quantifier.{counts, as_mark, most}
 use Rattle.fancy_parts.specs.declared.counts.Counts.{Counts}
-use Rattle.fancy_syntax.specs.Ahead.{Ahead, nothing, leaf, opens, condition, body, ahead, ahead_of, head_ahead, question_ahead, python_ahead, less_ahead, absent_ahead, conditional_ahead, condition_ahead, verb_condition, later, flags_ahead, behind_layout, faulty, leaf_of, is_before_nothing, is_before_target, ends, skipped, max_depth}
+use Rattle.fancy_syntax.specs.Ahead.{Ahead, nothing, leaf, opens, condition, body, ahead, ahead_of, head_ahead, question_ahead, python_ahead, less_ahead, absent_ahead, conditional_ahead, condition_ahead, verb_condition, named_ahead, target_ahead, flags_ahead, behind_layout, faulty, leaf_of, is_before_nothing, ends, skipped, max_depth}
 use Rattle.fancy_syntax.specs.Head.{Head, define}
 use Rattle.fancy_syntax.specs.Machine.{GivesPiece}
 use Rattle.fancy_syntax.specs.Quantified.{quant, quants, adjacent, max_adjacent}
@@ -39,6 +42,14 @@ flags_there (gives (setting f) u) e = cc
 flags_there (gives (scoped f) u) e = cc
 flags_there (fails k) e = cc
 
+named_there : (s : State) (o : Reading Text) → IsThere (named_ahead s o)
+named_there s (gives w u) e = cc
+named_there s (fails k) e = cc
+
+target_there : (s : State) (o : Reading Reference) → IsThere (target_ahead s o)
+target_there s (gives r u) e = cc
+target_there s (fails k) e = cc
+
 either_there : (b : Bool) {x y : Ahead} → IsThere x → IsThere y → IsThere (if b then x else y)
 either_there true f g = f
 either_there false f g = g
@@ -57,25 +68,26 @@ conditional_there : (n : ℕ) (s : State) (t : Text) → IsThere (conditional_ah
 conditional_there n s [] = leaf_there _
 conditional_there n s (c ∷ t) =
     choice_there (strip_word (codes "DEFINE)") (c ∷ t)) _ _ (λ u. opens_there _ _)
-    (either_there (is_before_target c) (leaf_there _) (either_there (c == code "*") (choice_there (verb_at t) _ _ (λ p. body_there _ _) (leaf_there _)) (condition_there _)))
+    (either_there (begins_target (c ∷ t)) (target_there s _) (either_there (c == code "*") (choice_there (verb_at t) _ _ (λ p. body_there _ _) (leaf_there _)) (condition_there _)))
 
 absent_there : (n : ℕ) (s : State) (t : Text) → IsThere (absent_ahead n s t)
 absent_there n s [] = leaf_there _
 absent_there n s (c ∷ t) = either_there (c == code "|") (λ e. cc) (opens_there _ _)
 
 less_there : (n : ℕ) (s : State) (m t : Text) → IsThere (less_ahead n s m t)
-less_there n s m [] = leaf_there _
-less_there n s m (c ∷ t) = either_there (c == code "=") (opens_there _ _) (either_there (c == code "!") (opens_there _ _) (leaf_there _))
+less_there n s m [] = named_there s _
+less_there n s m (c ∷ t) = either_there (c == code "=") (opens_there _ _) (either_there (c == code "!") (opens_there _ _) (named_there s _))
 
 python_there : (n : ℕ) (s : State) (m t : Text) → IsThere (python_ahead n s m t)
 python_there n s m [] = flags_there _
-python_there n s m (c ∷ t) = either_there (c ∈ "<=>") (leaf_there _) (flags_there _)
+python_there n s m (c ∷ t) =
+    either_there (c == code "<") (named_there s _) (either_there (c == code "=") (leaf_there _) (either_there (c == code ">") (leaf_there _) (flags_there _)))
 
 question_there : (n : ℕ) (s : State) (t : Text) → IsThere (question_ahead n s t)
 question_there n s [] = flags_there _
 question_there n s (c ∷ t) =
     either_there (c == code "=") (opens_there _ _) (either_there (c == code "!") (opens_there _ _) (either_there (c == code "<") (less_there n s (c ∷ t) t)
-    (either_there (c == code "'") (leaf_there _) (either_there (c == code "P") (python_there n s (c ∷ t) t) (either_there (c == code "~") (absent_there n s t)
+    (either_there (c == code "'") (named_there s _) (either_there (c == code "P") (python_there n s (c ∷ t) t) (either_there (c == code "~") (absent_there n s t)
     (either_there (c == code ">") (opens_there _ _) (either_there (c == code "(") (conditional_there n s t) (flags_there _))))))))
 
 head_there : (n : ℕ) (s : State) (t : Text) → IsThere (head_ahead n s t)
@@ -106,13 +118,23 @@ pub defines : (n : ℕ) (s : State) (c : ℕ) (t u : Text) → s.rest ≡ c ∷ 
     conditional_ahead n s s.rest ≡ opens define (at s u)
 defines n s c t u e h = ap (conditional_ahead n s) e ∙ ap (λ o. choose o (λ v. opens define (at s v)) (condition_ahead n s c t)) (ap (strip_word (codes "DEFINE)")) (sym e) ∙ h)
 
-pub no_condition_ahead : (n : ℕ) (s : State) (c : ℕ) (t : Text) → s.rest ≡ c ∷ t → strip_word (codes "DEFINE)") s.rest ≡ None → is_before_target c ≡ false →
+pub target_stands : (n : ℕ) (s : State) (c : ℕ) (t : Text) → s.rest ≡ c ∷ t → strip_word (codes "DEFINE)") s.rest ≡ None → begins_target s.rest ≡ true →
+    conditional_ahead n s s.rest ≡ target_ahead s (condition_target n s.rest)
+target_stands n s c t e h i =
+    ap (conditional_ahead n s) e ∙ ap (λ o. choose o (λ v. opens define (at s v)) (condition_ahead n s c t)) (ap (strip_word (codes "DEFINE)")) (sym e) ∙ h)
+    ∙ there (begins_target (c ∷ t)) _ (ap begins_target (sym e) ∙ i) ∙ ap (λ u. target_ahead s (condition_target n u)) (sym e)
+  where
+    there : (b : Bool) (x : Ahead) → b ≡ true → (if b then target_ahead s (condition_target n (c ∷ t)) else x) ≡ target_ahead s (condition_target n (c ∷ t))
+    there true x i = refl
+    there false x i = absurd (true≢false (sym i))
+
+pub no_condition_ahead : (n : ℕ) (s : State) (c : ℕ) (t : Text) → s.rest ≡ c ∷ t → strip_word (codes "DEFINE)") s.rest ≡ None → begins_target s.rest ≡ false →
     c ≢ code "*" → conditional_ahead n s s.rest ≡ condition s
 no_condition_ahead n s c t e h i j =
     ap (conditional_ahead n s) e ∙ ap (λ o. choose o (λ v. opens define (at s v)) (condition_ahead n s c t)) (ap (strip_word (codes "DEFINE)")) (sym e) ∙ h)
-    ∙ other (is_before_target c) (c == code "*") i (search (tests, rules)) ∙ ap (λ x. condition (at s x)) (sym e)
+    ∙ other (begins_target (c ∷ t)) (c == code "*") (ap begins_target (sym e) ∙ i) (search (tests, rules)) ∙ ap (λ x. condition (at s x)) (sym e)
   where
-    other : (b d : Bool) → b ≡ false → d ≡ false → (if b then later n (c ∷ t) else if d then verb_condition n s c t else condition (at s (c ∷ t))) ≡ condition (at s (c ∷ t))
+    other : (b d : Bool) → b ≡ false → d ≡ false → (if b then target_ahead s (condition_target n (c ∷ t)) else if d then verb_condition n s c t else condition (at s (c ∷ t))) ≡ condition (at s (c ∷ t))
     other true d i j = absurd (true≢false i)
     other false true i j = absurd (true≢false j)
     other false false i j = refl

@@ -1,16 +1,12 @@
 -- The messages of faults, as lists of characters.
 use Rattle.std.proofs.Common.{codes, ℕ}
 use Rattle.std.specs.Str.{chars}
-use Rattle.fancy_lex.specs.Fault.{general_parse_error, not_read_yet}
+use Rattle.fancy_lex.specs.Fault.{general_parse_error}
 use Rattle.fancy_lex.specs.declared.error.Error.{Error}
 use Rattle.fancy_syntax.specs.Grammar.{no_body}
 use Rattle.fancy_syntax.specs.Reads.{IsFault}
 
 module _ (e : Error) (p : ℕ) where
-  pub says_not_read_yet : IsFault e (general_parse_error (chars (codes "not read yet"))) p → IsFault e not_read_yet p
-  unfolding chars
-  says_not_read_yet h = h
-
   pub says_close_paren : IsFault e (general_parse_error (chars (codes "expected close paren"))) p → IsFault e (general_parse_error (codes "expected close paren")) p
   unfolding chars
   says_close_paren h = h

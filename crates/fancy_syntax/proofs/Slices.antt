@@ -4,10 +4,15 @@ use Rattle.std.specs.Prelude.{◌==◌, ◌||◌, not, nat_lt, nat_le, ◌^◌, 
 use Rattle.std.proofs.lemmas.Bool.{cond_both}
 use Rattle.std.proofs.lemmas.Str.{len_utf8_bounds}
 use Rattle.std.specs.Char.{is_ascii_digit}
-use Rattle.fancy_lex.proofs.EscapeLaws.{Leaves, leaves, faults, leaves_escape}
+use Rattle.fancy_lex.proofs.EscapeLaws.{leaves_escape}
+use Rattle.fancy_lex.proofs.LeaveLaws.{Leaves, leaves, faults}
 use Rattle.fancy_lex.proofs.LayoutLaws.{layout_cut, layout_place}
 use Rattle.fancy_lex.proofs.PlaceLaws.{leaves_class}
+use Rattle.fancy_lex.proofs.EscapePlaces.{Placed, Stands, placed_escape}
+use Rattle.fancy_lex.proofs.ReferencePlaces.{IfGives, ReferenceAt, CallAt}
+use Rattle.fancy_lex.proofs.TakeLaws.{Takes, TakesOrFails, takes, fault_within, takes_bytes, takes_less}
 use Rattle.fancy_lex.proofs.TextLemmas.{bytes-append, strip_is, strip_word_is}
+use Rattle.fancy_lex.specs.Referred as referred_spec
 use Rattle.fancy_lex.specs.Characters.{bar, ◌∈◌}
 use Rattle.fancy_lex.specs.Class.{class}
 use Rattle.fancy_lex.specs.Escape.{escape}
@@ -21,11 +26,14 @@ use Rattle.fancy_lex.specs.Reading.{Reading, gives, fails, choose}
 use Rattle.fancy_lex.specs.Text.{Text, bytes, place_of, strip, strip_word}
 use Rattle.fancy_lex.specs.declared.flags.Flags.{Flags}
 use Rattle.fancy_parts.proofs.FlagLaws.{leaves_letters}
+use Rattle.fancy_parts.proofs.HeadLaws.{takes_group_name, takes_named_reference, takes_named_call, takes_condition_target, named_reference_at, named_call_at, condition_target_at}
+use Rattle.fancy_parts.specs.GroupName.{group_name}
+use Rattle.fancy_parts.specs.HeadReference.{named_reference, named_call, begins_target, condition_target}
 use Rattle.fancy_parts.specs.FlagLetters.{Letters, letters, setting, scope as scoped}
 use Rattle.fancy_parts.specs.Quantifier.{counts, braced_counts, counts_from, in_braces, spaced_count, past_layout, count, count_of, exact_or_range, most}
 use Rattle.fancy_parts.specs.declared.counts.Counts.{Counts}
-use Rattle.fancy_syntax.specs.Ahead.{Ahead, nothing, leaf, opens, condition, body, absent_branch, ahead, ahead_of, behind_layout, head_ahead, question_ahead, python_ahead, less_ahead, absent_ahead, conditional_ahead, condition_ahead, flags_ahead, leaf_node, leaf_outcome, leaf_of, is_before_nothing, is_before_target, max_depth, skipped}
-use Rattle.fancy_syntax.specs.Grammar.{Alternation, alternation, Branches, last, more, branch_fault, Branch, branch, Pieces, stop, next, piece_fault, Piece, piece, layout_fault, Atom, atom, AtomOf, a_nothing, a_leaf, a_group, a_condition, condition_fault, a_body, two_branches, one_branch, absent_fault, Inside, inside, Body, the_body, Whole, whole, unread_mode, start, closed, closed_at, ended, ended_at, branches_of, conditional_of, conditional_behind, is_condition, alone}
+use Rattle.fancy_syntax.specs.Ahead.{Ahead, nothing, leaf, opens, condition, body, absent_branch, ahead, ahead_of, behind_layout, head_ahead, question_ahead, python_ahead, less_ahead, absent_ahead, conditional_ahead, condition_ahead, flags_ahead, leaf_node, leaf_outcome, leaf_of, is_before_nothing, max_depth, skipped, named_ahead, target_ahead, backref_node, call_node, condition_node}
+use Rattle.fancy_syntax.specs.Grammar.{Alternation, alternation, Branches, last, more, branch_fault, Branch, branch, Pieces, stop, next, piece_fault, Piece, piece, layout_fault, Atom, atom, AtomOf, a_nothing, a_leaf, a_group, a_condition, condition_fault, a_body, two_branches, one_branch, absent_fault, Inside, inside, Body, the_body, Whole, whole, start, closed, closed_at, ended, ended_at, branches_of, conditional_of, conditional_behind, is_condition, alone}
 use Rattle.fancy_syntax.specs.Head.{Head, capture, scope, look, atomic, define, repeater, node_of}
 use Rattle.fancy_syntax.specs.Join.{join, choice, solid, is_empty, one_or}
 use Rattle.fancy_parts.specs.Meaning.{Reference}
@@ -116,9 +124,17 @@ opened {n} {l} {t} {u} {v} name a b = record {
   ascends = λ h. (omega arith, raised (place_of n t + 1) (place_of n u) (place_of n v) l (omega (arith, h, a.1)) (b.ascends (omega (arith, h, a.1))));
 }
 
--- a reference alone: its place is in the slice
-pub referred : {n : ℕ} {t u : Text} (r : Reference) → Slice t u → place_of n t ≤ r.place → r.place < place_of n u → Span n (reference r ∷ []) t u
-referred r a h i = record { slice = a; ascends = λ _. (h, omega (arith, i)) }
+taken : {k : ℕ} {t u : Text} → Takes k t u → Slice t u
+taken a = record { word = a.word; cut = a.cut }
+
+-- a reference alone, whose place is that of a mark in the slice
+referred : {n : ℕ} {t m u : Text} (r : Reference) → Slice t m → Takes 1 m u → r.place ≡ place_of n m → Span n (reference r ∷ []) t u
+referred {n} {t} {m} {u} r a k e =
+    let more = takes_bytes k in
+    record {
+      slice = on a (taken k);
+      ascends = λ h. (omega (arith, h, e, fits a), omega (arith, h, e, fits a, more));
+    }
 
 -- ---- the items of trees that are put together
 
@@ -390,9 +406,35 @@ flags_slice n s t (fails e) a (faults l) = l
 letters_ahead_slice : (n : ℕ) (s z : State) (t : Text) → Past s t → AheadSlice n s (flags_ahead (letters n z.flags t))
 letters_ahead_slice n s z t h = flags_slice n s t (letters n z.flags t) h (leaves_letters n z.flags t)
 
+at_least_one : {t u : Text} → Takes 2 t u → Takes 1 t u
+at_least_one a = record { word = a.word; cut = a.cut; long = omega (arith, a.long) }
+
+name_slice : (n : ℕ) (s z : State) (t : Text) (o : Reading Text) → Past s t → TakesOrFails n 3 t o → AheadSlice n s (named_ahead z o)
+name_slice n s z t (gives w u) h (takes a) = further s h (taken a)
+name_slice n s z t (fails e) h (fault_within l) = omega (arith, l)
+
+group_name_slice : (n : ℕ) (s z : State) (t : Text) → Past s t → AheadSlice n s (named_ahead z (group_name n t))
+group_name_slice n s z t h = name_slice n s z t (group_name n t) h (takes_group_name n t)
+
+target_slice : (n : ℕ) (s z : State) (t : Text) (o : Reading referred_spec.Reference) → Past s t → TakesOrFails n 2 t o →
+    IfGives (ReferenceAt (place_of n t)) o → AheadSlice n s (target_ahead z o)
+target_slice n s z t (gives r u) h (takes a) e = referred _ h.0 (at_least_one a) e
+target_slice n s z t (fails k) h (fault_within l) e = omega (arith, l)
+
+backref_slice : (n : ℕ) (s z : State) (casei : Bool) (t : Text) (o : Reading referred_spec.Reference) → Past s t → TakesOrFails n 2 t o →
+    IfGives (ReferenceAt (place_of n t)) o → Within items n s (leaf_outcome (backref_node casei) z o)
+backref_slice n s z casei t (gives r u) h (takes a) e = referred _ h.0 (at_least_one a) e
+backref_slice n s z casei t (fails k) h (fault_within l) e = omega (arith, l)
+
+call_slice : (n : ℕ) (s z : State) (t : Text) (o : Reading referred_spec.Call) → Past s t → TakesOrFails n 2 t o →
+    IfGives (CallAt (place_of n t)) o → Within items n s (leaf_outcome call_node z o)
+call_slice n s z t (gives c u) h (takes a) e = referred _ h.0 (at_least_one a) e
+call_slice n s z t (fails k) h (fault_within l) e = omega (arith, l)
+
 condition_ahead_slice : (n : ℕ) (s z : State) (c : ℕ) (t : Text) → Past s (c ∷ t) → AheadSlice n s (condition_ahead n z c t)
 condition_ahead_slice n s z c t h =
-    cond_both (is_before_target c) _ _ (AheadSlice n s) (λ _. omega arith) (λ _.
+    cond_both (begins_target (c ∷ t)) _ _ (AheadSlice n s)
+    (λ _. target_slice n s z (c ∷ t) (condition_target n (c ∷ t)) h (takes_condition_target n (c ∷ t)) (condition_target_at n (c ∷ t))) (λ _.
     cond_both (c == code "*") _ _ (AheadSlice n s)
     (λ _. choose_both (AheadSlice n s) (verb_at t) _ _ (λ p e. leaf_past n s (verb_past s t p (further s h (one c t)) e)) (omega arith)) (λ _. h))
 
@@ -405,15 +447,21 @@ absent_ahead_slice : (n : ℕ) (s z : State) (t : Text) → Past s t → AheadSl
 absent_ahead_slice n s z [] h = omega arith
 absent_ahead_slice n s z (c ∷ t) h = cond_both (c == code "|") _ _ (AheadSlice n s) (λ _. further s h (one c t)) (λ _. h)
 
-less_ahead_slice : (n : ℕ) (s z : State) (m t : Text) → Past s t → AheadSlice n s (less_ahead n z m t)
-less_ahead_slice n s z m [] h = omega arith
-less_ahead_slice n s z m (c ∷ t) h =
+less_ahead_slice : (n : ℕ) (s z : State) (m t : Text) → Past s m → Past s t → AheadSlice n s (less_ahead n z m t)
+less_ahead_slice n s z m [] k h = group_name_slice n s z m k
+less_ahead_slice n s z m (c ∷ t) k h =
     cond_both (c == code "=") _ _ (AheadSlice n s) (λ _. further s h (one c t)) (λ _.
-    cond_both (c == code "!") _ _ (AheadSlice n s) (λ _. further s h (one c t)) (λ _. omega arith))
+    cond_both (c == code "!") _ _ (AheadSlice n s) (λ _. further s h (one c t)) (λ _. group_name_slice n s z m k))
 
-python_ahead_slice : (n : ℕ) (s z : State) (m t : Text) → Past s m → AheadSlice n s (python_ahead n z m t)
-python_ahead_slice n s z m [] h = letters_ahead_slice n s z m h
-python_ahead_slice n s z m (c ∷ t) h = cond_both (c ∈ "<=>") _ _ (AheadSlice n s) (λ _. omega arith) (λ _. letters_ahead_slice n s z m h)
+python_ahead_slice : (n : ℕ) (s z : State) (m t : Text) → Past s m → Past s t → AheadSlice n s (python_ahead n z m t)
+python_ahead_slice n s z m [] h k = letters_ahead_slice n s z m h
+python_ahead_slice n s z m (c ∷ t) h k =
+    let P = AheadSlice n s in let more = further s k (one c t) in
+    cond_both (c == code "<") _ _ P (λ _. group_name_slice n s z m h) (λ _.
+    cond_both (c == code "=") _ _ P
+    (λ _. backref_slice n s z z.flags.casei t (named_reference n t) more (takes_named_reference n t) (named_reference_at n t)) (λ _.
+    cond_both (c == code ">") _ _ P
+    (λ _. call_slice n s z t (named_call n t) more (takes_named_call n t) (named_call_at n t)) (λ _. letters_ahead_slice n s z m h)))
 
 question_slice : (n : ℕ) (s z : State) (t : Text) → Past s t → AheadSlice n s (question_ahead n z t)
 question_slice n s z [] h = letters_ahead_slice n s z [] h
@@ -421,9 +469,9 @@ question_slice n s z (c ∷ t) h =
     let more = further s h (one c t) in let P = AheadSlice n s in
     cond_both (c == code "=") _ _ P (λ _. more) (λ _.
     cond_both (c == code "!") _ _ P (λ _. more) (λ _.
-    cond_both (c == code "<") _ _ P (λ _. less_ahead_slice n s z (c ∷ t) t more) (λ _.
-    cond_both (c == code "'") _ _ P (λ _. omega arith) (λ _.
-    cond_both (c == code "P") _ _ P (λ _. python_ahead_slice n s z (c ∷ t) t h) (λ _.
+    cond_both (c == code "<") _ _ P (λ _. less_ahead_slice n s z (c ∷ t) t h more) (λ _.
+    cond_both (c == code "'") _ _ P (λ _. group_name_slice n s z (c ∷ t) h) (λ _.
+    cond_both (c == code "P") _ _ P (λ _. python_ahead_slice n s z (c ∷ t) t h more) (λ _.
     cond_both (c == code "~") _ _ P (λ _. absent_ahead_slice n s z t more) (λ _.
     cond_both (c == code ">") _ _ P (λ _. more) (λ _.
     cond_both (c == code "(") _ _ P (λ _. conditional_ahead_slice n s z t more) (λ _. letters_ahead_slice n s z (c ∷ t) h))))))))
@@ -439,22 +487,32 @@ behind_slice : (n : ℕ) (s z : State) (t : Text) (k : Skipped) → Past s t →
 behind_slice n s z t (rest u) h i = head_slice n s z u (further s h i)
 behind_slice n s z t (open_comment p) h i = i
 
--- a leaf holds no group
-leaf_items : (e : Escape) → items (leaf_node e) ≡ []
-leaf_items (escaped.literal c casei) = refl
-leaf_items (escaped.literal_bytes b) = refl
-leaf_items (escaped.any newline crlf) = refl
-leaf_items (escaped.assertion a) = refl
-leaf_items (escaped.general_newline unicode) = refl
-leaf_items escaped.keep_out = refl
-leaf_items escaped.continue_from_previous_match_end = refl
-leaf_items (escaped.delegate t casei) = refl
+-- what an escape stands for, behind a first character
+escape_slice : (n : ℕ) (s z : State) (t : Text) → Slice s.rest t → (o : Reading Escape) → Leaves (n + 1) t o → Placed n t o →
+    Within items n s (leaf_outcome leaf_node z o)
+escape_slice n s z t h (gives e u) (leaves l) p = by_leaf e p
+  where
+    plain : Span n [] s.rest u
+    plain = bare n (on h (cut_slice l))
 
--- a leaf that a reader comes to, behind a first character
-read_slice : {A : Type 0} (n : ℕ) (node : A → Tree) → ((a : A) → items (node a) ≡ []) → (s : State) (t : Text) → Slice s.rest t → (o : Reading A) →
-    Leaves (n + 1) t o → Within items n s (leaf_outcome node s o)
-read_slice n node z s t h (gives a u) (leaves e) = listed (sym (z a)) (bare n (on h (cut_slice e)))
-read_slice n node z s t h (fails e) (faults l) = l
+    by_leaf : (e : Escape) → Placed n t (gives e u) → Span n (items (leaf_node e)) s.rest u
+    by_leaf (escaped.literal c casei) p = plain
+    by_leaf (escaped.literal_bytes b) p = plain
+    by_leaf (escaped.any newline crlf) p = plain
+    by_leaf (escaped.assertion a) p = plain
+    by_leaf (escaped.general_newline unicode) p = plain
+    by_leaf escaped.keep_out p = plain
+    by_leaf escaped.continue_from_previous_match_end p = plain
+    by_leaf (escaped.delegate t casei) p = plain
+    by_leaf (escaped.backref r casei) p = referred _ (on h (cut_slice p.ends)) p.takes p.place
+    by_leaf (escaped.subroutine_call c) p = referred _ (on h (cut_slice p.ends)) p.takes p.place
+escape_slice n s z t h (fails e) (faults l) p = l
+
+-- a class, behind its bracket
+class_slice : (n : ℕ) (s z : State) (casei : Bool) (t : Text) → Slice s.rest t → (o : Reading Text) → Leaves (n + 1) t o →
+    Within items n s (leaf_outcome (λ w. delegate w casei) z o)
+class_slice n s z casei t h (gives a u) (leaves e) = bare n (on h (cut_slice e))
+class_slice n s z casei t h (fails e) (faults l) = l
 
 leaf_slice : (n : ℕ) (s : State) (c : ℕ) (t : Text) → Past s t → Within items n s (leaf_of n s c t)
 leaf_slice n s c t h =
@@ -464,9 +522,10 @@ leaf_slice n s c t h =
     cond_both (c == code "^") _ _ (Within items n s) (λ _. plain) (λ _.
     cond_both (c == code "$") _ _ (Within items n s) (λ _. plain) (λ _.
     cond_both (c == code "\\") _ _ (Within items n s)
-    (λ _. read_slice n leaf_node leaf_items s t h.0 (escape n s.flags false p t) (leaves_escape (n + 1) n (omega arith) s.flags false p (omega arith) t)) (λ _.
+    (λ _. escape_slice n s s t h.0 (escape n s.flags false p t) (leaves_escape (n + 1) n (omega arith) s.flags false p (omega arith) t)
+    (placed_escape n s.flags false p t)) (λ _.
     cond_both (c == code "[") _ _ (Within items n s)
-    (λ _. read_slice n (λ w. delegate w s.flags.casei) (λ _. refl) s t h.0 (class n s.flags t) (leaves_class n s.flags t)) (λ _. plain)))))
+    (λ _. class_slice n s s s.flags.casei t h.0 (class n s.flags t) (leaves_class n s.flags t)) (λ _. plain)))))
 
 ahead_slice : (n d : ℕ) (s : State) → AheadSlice n s (ahead n d s)
 unfolding ahead
@@ -592,9 +651,8 @@ mutual
       then_slice items items n s t q _ (alternation_slice r) e (λ a v i. conditional_slice n (bytes t.rest) s v c a (then h i))
 
 whole_slice : {f : Flags} {text : Text} {o : Outcome Tree} → Whole f text o → Within items (bytes text) (start f text) o
-whole_slice (whole {f} {text} {q} m a e) =
+whole_slice (whole {f} {text} {q} a e) =
     then_slice items items (bytes text) (start f text) (start f text) q _ (alternation_slice a) e (λ r t h. ended_slice (bytes text) (start f text) t r h)
-whole_slice (unread_mode m) = omega arith
 
 -- the place of a fault is at most one past the end
 pub place_within : {f : Flags} {text : Text} {k : Kind} {p : ℕ} → Whole f text (fault k p) → p ≤ bytes text + 1

@@ -5,7 +5,7 @@ use Rattle.fancy_lex.specs.Text.{Text, bytes, place_of}
 use Rattle.fancy_lex.specs.declared.flags.Flags.{Flags}
 use Rattle.fancy_lex.specs.Layout.{rest, fault as open_comment}
 use Rattle.fancy_syntax.specs.Ahead.{Ahead, skipped}
-use Rattle.fancy_syntax.specs.Grammar.{Alternation, alternation, Branches, last, more, branch_fault, Branch, branch, Pieces, stop, next, piece_fault, Piece, piece, layout_fault, Atom, atom, AtomOf, a_nothing, a_leaf, a_group, a_condition, condition_fault, a_body, two_branches, one_branch, absent_fault, Inside, inside, Body, the_body, Whole, whole, unread_mode, closed, ended, group_behind, conditional_behind, alone}
+use Rattle.fancy_syntax.specs.Grammar.{Alternation, alternation, Branches, last, more, branch_fault, Branch, branch, Pieces, stop, next, piece_fault, Piece, piece, layout_fault, Atom, atom, AtomOf, a_nothing, a_leaf, a_group, a_condition, condition_fault, a_body, two_branches, one_branch, absent_fault, Inside, inside, Body, the_body, Whole, whole, closed, ended, group_behind, conditional_behind, alone}
 use Rattle.fancy_syntax.specs.Head.{Head}
 use Rattle.fancy_syntax.specs.Join.{choice, join}
 use Rattle.fancy_syntax.specs.Quantified.{quants}
@@ -131,7 +131,4 @@ mutual
       ∙ ap (λ (y : State). and_then q (conditional_behind n x (bytes y.rest))) e ∙ then_same _ refl g (alternation_unique a b e)
 
 pub whole_unique : {f : Flags} {text : Text} {o q : Outcome Tree} → Whole f text o → Whole f text q → o ≡ q
-whole_unique (whole m a f) (whole k b g) = then_same _ f g (alternation_unique a b refl)
-whole_unique (whole m a f) (unread_mode k) = absurd cc
-whole_unique (unread_mode m) (whole k b g) = absurd cc
-whole_unique (unread_mode m) (unread_mode k) = refl
+whole_unique (whole a f) (whole b g) = then_same _ f g (alternation_unique a b refl)

@@ -1,23 +1,25 @@
 -- What stands before an atom.
-use Rattle.std.specs.Prelude.{ℕ, ◌+◌, Bool, true, false, ◌==◌, ◌||◌, nat_le, [], ◌∷◌, if◌then◌else◌, None, codes}
-use Rattle.std.specs.Char.{is_ascii_digit}
+use Rattle.std.specs.Prelude.{ℕ, ◌+◌, Bool, true, false, ◌==◌, nat_le, [], ◌∷◌, if◌then◌else◌, Some, None, codes}
 use Prim.Native.Char.{code}
 use Rattle.fancy_lex.specs.Characters.{◌∈◌}
 use Rattle.fancy_lex.specs.Class.{class}
 use Rattle.fancy_lex.specs.Escape.{escape}
 use Rattle.fancy_lex.specs.Escaped as escaped
 use Rattle.fancy_lex.specs.Escaped.{Escape}
-use Rattle.fancy_lex.specs.Fault.{Kind, not_read_yet, recursion_exceeded, target_not_repeatable, unclosed_open_paren}
+use Rattle.fancy_lex.specs.Fault.{Kind, recursion_exceeded, target_not_repeatable, unclosed_open_paren}
 use Rattle.fancy_lex.specs.Layout.{layout, Skipped, rest, fault as open_comment}
 use Rattle.fancy_lex.specs.Reading.{Reading, gives, fails, choose}
+use Rattle.fancy_lex.specs.Referred.{Reference, Call}
 use Rattle.fancy_lex.specs.Text.{Text, place_of, strip_word}
 use Rattle.fancy_lex.specs.declared.escape.Assertion.{Assertion}
-use Rattle.fancy_lex.specs.declared.escape.Assertion.TheVariants.{StartText, EndText, StartLine, EndLine}
+use Rattle.fancy_lex.specs.declared.escape.Assertion.TheVariants.{StartText, EndText, StartLine, StartLineOniguruma, EndLine}
 use Rattle.fancy_lex.specs.declared.flags.Flags.{Flags}
 use Rattle.fancy_parts.specs.FlagLetters.{Letters, letters, setting, scope as scoped}
+use Rattle.fancy_parts.specs.GroupName.{group_name}
+use Rattle.fancy_parts.specs.HeadReference.{named_reference, named_call, begins_target, condition_target}
 use Rattle.fancy_syntax.specs.Head.{Head, capture, scope, look, atomic, define, repeater}
 use Rattle.fancy_syntax.specs.State.{State, at, Outcome, done, fault}
-use Rattle.fancy_syntax.specs.Tree.{Tree, empty, any, assertion, general_newline, literal, literal_bytes, delegate, keep_out, continue_from_previous_match_end, verb}
+use Rattle.fancy_syntax.specs.Tree.{Tree, empty, any, assertion, general_newline, literal, literal_bytes, delegate, keep_out, continue_from_previous_match_end, verb, ast_node, ast_backref, ast_call, ast_condition}
 use Rattle.fancy_syntax.specs.Verb.{verb_at}
 use Rattle.fancy_syntax.specs.declared.expr.LookAround.TheVariants.{LookAhead, LookAheadNeg, LookBehind, LookBehindNeg}
 
@@ -43,17 +45,31 @@ pub data Ahead : Type 0 where
   body : Tree → State → Ahead  -- a conditional whose condition is this tree; its body begins at the state
   absent_branch : State → Ahead  -- `(?~|` of an absent expression, stopper or clear; a branch begins at the state
 
--- the fault of a group, or of what is not read yet
+-- the fault of a group
 abbrev pub faulty : Kind → ℕ → Ahead
 faulty k p = leaf (fault k p)
 
+-- the start of each line; in Oniguruma mode it has a variant of its own
+abbrev pub start_of_line : Flags → Assertion
+start_of_line f = if f.oniguruma_mode then StartLineOniguruma f.crlf else StartLine f.crlf
+
 -- what `^` stands for: under MULTI the start of each line
 abbrev pub start_anchor : Flags → Assertion
-start_anchor f = if f.multi then StartLine f.crlf else StartText
+start_anchor f = if f.multi then start_of_line f else StartText
 
 -- what `$` stands for: under MULTI the end of each line
 abbrev pub end_anchor : Flags → Assertion
 end_anchor f = if f.multi then EndLine f.crlf else EndText
+
+-- the nodes of references, before they are resolved
+abbrev pub backref_node : Bool → Reference → Tree
+backref_node casei r = ast_node (ast_backref r.target casei r.level) r.place
+
+abbrev pub call_node : Call → Tree
+call_node c = ast_node (ast_call c.target) c.place
+
+abbrev pub condition_node : Reference → Tree
+condition_node r = ast_node (ast_condition r.target r.level) r.place
 
 -- the node of an escape's leaf
 abbrev pub leaf_node : Escape → Tree
@@ -65,6 +81,8 @@ leaf_node (escaped.general_newline unicode) = general_newline unicode
 leaf_node escaped.keep_out = keep_out
 leaf_node escaped.continue_from_previous_match_end = continue_from_previous_match_end
 leaf_node (escaped.delegate t casei) = delegate t casei
+leaf_node (escaped.backref r casei) = backref_node casei r
+leaf_node (escaped.subroutine_call c) = call_node c
 
 -- what a reader comes to, as the outcome of a leaf
 abbrev pub leaf_outcome : {A : Type 0} → (A → Tree) → State → Reading A → Outcome Tree
@@ -85,9 +103,15 @@ leaf_of n s c t =
 abbrev pub is_before_nothing : ℕ → Bool
 is_before_nothing c = c ∈ "+*?|)"
 
--- a head with a name, which is not read yet
-abbrev pub later : ℕ → Text → Ahead
-later n t = faulty not_read_yet (place_of n t)
+-- a group whose name was read
+abbrev pub named_ahead : State → Reading Text → Ahead
+named_ahead s (gives w u) = opens (capture (Some w)) (at s u)
+named_ahead s (fails e) = faulty e.kind e.place
+
+-- a conditional whose target was read
+abbrev pub target_ahead : State → Reading Reference → Ahead
+target_ahead s (gives r u) = body (condition_node r) (at s u)
+target_ahead s (fails e) = faulty e.kind e.place
 
 -- a flag group, whose letters were read
 abbrev pub flags_ahead : Reading Letters → Ahead
@@ -103,14 +127,10 @@ verb_ahead n s c t = choose (verb_at t) (λ p. leaf (done (verb p.0) (at s p.1))
 abbrev pub verb_condition : ℕ → State → ℕ → Text → Ahead
 verb_condition n s c t = choose (verb_at t) (λ p. body (verb p.0) (at s p.1)) (faulty target_not_repeatable (place_of n (c ∷ t)))
 
--- with these a condition's target begins
-abbrev pub is_before_target : ℕ → Bool
-is_before_target c = c ∈ "'<+-" || is_ascii_digit c
-
--- the condition of a conditional: a target, which is not read yet, a verb, or an alternation
+-- the condition of a conditional: a target, a verb, or an alternation
 abbrev pub condition_ahead : ℕ → State → ℕ → Text → Ahead
 condition_ahead n s c t =
-    if is_before_target c then later n (c ∷ t)
+    if begins_target (c ∷ t) then target_ahead s (condition_target n (c ∷ t))
     else if c == code "*" then verb_condition n s c t
     else condition (at s (c ∷ t))
 
@@ -127,16 +147,20 @@ absent_ahead n s (c ∷ t) = if c == code "|" then absent_branch (at s t) else o
 
 -- behind `(?<`, which begins at m: look-behind, or a name
 abbrev pub less_ahead : ℕ → State → Text → Text → Ahead
-less_ahead n s m [] = later n m
+less_ahead n s m [] = named_ahead s (group_name n m)
 less_ahead n s m (c ∷ t) =
     if c == code "=" then opens (look LookBehind) (at s t)
     else if c == code "!" then opens (look LookBehindNeg) (at s t)
-    else later n m
+    else named_ahead s (group_name n m)
 
--- behind `(?P`, which begins at m: a name, or letters of flags
+-- behind `(?P`, which begins at m: a name, a reference, a call, or letters of flags
 abbrev pub python_ahead : ℕ → State → Text → Text → Ahead
 python_ahead n s m [] = flags_ahead (letters n s.flags m)
-python_ahead n s m (c ∷ t) = if c ∈ "<=>" then later n m else flags_ahead (letters n s.flags m)
+python_ahead n s m (c ∷ t) =
+    if c == code "<" then named_ahead s (group_name n m)
+    else if c == code "=" then leaf (leaf_outcome (backref_node s.flags.casei) s (named_reference n t))
+    else if c == code ">" then leaf (leaf_outcome call_node s (named_call n t))
+    else flags_ahead (letters n s.flags m)
 
 -- behind the question mark of a group's head
 abbrev pub question_ahead : ℕ → State → Text → Ahead
@@ -145,7 +169,7 @@ question_ahead n s (c ∷ t) =
     if c == code "=" then opens (look LookAhead) (at s t)
     else if c == code "!" then opens (look LookAheadNeg) (at s t)
     else if c == code "<" then less_ahead n s (c ∷ t) t
-    else if c == code "'" then later n (c ∷ t)
+    else if c == code "'" then named_ahead s (group_name n (c ∷ t))
     else if c == code "P" then python_ahead n s (c ∷ t) t
     else if c == code "~" then absent_ahead n s t
     else if c == code ">" then opens atomic (at s t)

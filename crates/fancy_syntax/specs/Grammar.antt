@@ -3,7 +3,7 @@
 use Rattle.std.specs.Prelude.{◌≡◌, ℕ, ◌+◌, ◌==◌, Bool, true, false, not, ◌&&◌, List, [], ◌∷◌, Some, None, codes, ◌||◌, if◌then◌else◌}
 use Prim.Native.Char.{code}
 use Rattle.fancy_lex.specs.Characters.{bar}
-use Rattle.fancy_lex.specs.Fault.{Kind, general_parse_error, not_read_yet, unclosed_open_paren}
+use Rattle.fancy_lex.specs.Fault.{Kind, general_parse_error, unclosed_open_paren}
 use Rattle.fancy_lex.specs.Layout.{rest, fault as open_comment}
 use Rattle.fancy_lex.specs.Text.{Text, bytes, place_of, strip}
 use Rattle.fancy_lex.specs.declared.flags.Flags.{Flags}
@@ -130,10 +130,6 @@ mutual
 
 -- ---- a whole text
 
--- the flags with which nothing is read yet
-abbrev pub is_unread_mode : Flags → Bool
-is_unread_mode f = f.oniguruma_mode
-
 -- the state before a whole text
 abbrev pub start : Flags → Text → State
 start f text = record { flags = f; rest = text }
@@ -148,9 +144,8 @@ ended n r s = ended_at n r s s.rest
 
 -- a whole text under the flags handed in
 pub data Whole : Flags → Text → Outcome Tree → Type 0 where
-  whole : {f : Flags} {text : Text} {q o : Outcome Tree} → is_unread_mode f ≡ false →
-      Alternation (bytes text) 0 (start f text) q → and_then q (ended (bytes text)) ≡ o → Whole f text o
-  unread_mode : {f : Flags} {text : Text} → is_unread_mode f ≡ true → Whole f text (fault not_read_yet 0)
+  whole : {f : Flags} {text : Text} {q o : Outcome Tree} → Alternation (bytes text) 0 (start f text) q →
+      and_then q (ended (bytes text)) ≡ o → Whole f text o
 
 -- the grammar derives all of the text, with this raw tree
 abbrev pub Derives : Flags → Text → Tree → Type 0

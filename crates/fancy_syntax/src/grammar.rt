@@ -12,13 +12,14 @@ mod head;
 mod look;
 mod plain;
 mod quantified;
+mod reference;
 mod row;
 mod state;
 mod step;
 
 use crate::expr::Expr;
 use crate::grammar::ahead::{MAX_DEPTH, is_end, literal};
-use crate::grammar::fault::{general, not_read_yet};
+use crate::grammar::fault::general;
 use crate::grammar::frame::{Frame, Opener};
 use crate::grammar::plain::plain;
 use crate::grammar::state::State;
@@ -33,22 +34,12 @@ use std::alloc::Global;
 pub(crate) fn parse(alloc: Global, text: &str, flags: Flags) -> Result<Expr, Error>
     ensures reads { ReadsWhole result flags (chars text.now) }
 {
-    if is_unread_mode(flags) {
-        return Err(not_read_yet(alloc, 0));
-    }
     let end = text.len();
     let (tree, here) = alternation(alloc, State { flags, rest: text }, end)?;
     match next(here.rest) {
         None => Ok(tree),
         Some(_) => Err(general(alloc, "end of string not reached", place(here.rest, end))),
     }
-}
-
-/// Whether nothing is read under the flags yet.
-fn is_unread_mode(flags: Flags) -> bool
-    ensures { result ≡ spec.is_unread_mode flags }
-{
-    flags.oniguruma_mode
 }
 
 /// Reads branches with bars between, up to where the outermost ends.

@@ -117,7 +117,9 @@ fn groups_have_their_trees(rt: HostRuntime) -> Result<(), Fail> {
     for (pattern, lines, groups) in TREES {
         let (status, out, err) = run(rt.alloc(), pattern)?;
         assert!(rt; status == 0 && err.is_empty(), "{pattern}");
-        let (tree, marks) = str::from_utf8(&out)?.split_once("marks ").ok_or("no marks")?;
+        let (tree, marks) = str::from_utf8(&out)?
+            .split_once("marks ")
+            .ok_or("no marks")?;
         assert_eq!(rt; tree, lines, "{pattern}");
         let wanted = format!(in rt.alloc(); "groups={groups} backrefs=- ")?;
         assert!(rt; marks.starts_with(wanted.as_str()), "{pattern}");
@@ -126,9 +128,12 @@ fn groups_have_their_trees(rt: HostRuntime) -> Result<(), Fail> {
 }
 
 const TARGET: &str = "Target of repeat operator is invalid";
+
 const UNCLOSED: &str = "Opening parenthesis without closing parenthesis";
+
 const NO_BRANCH: &str = "General parsing error: expected conditional to be a backreference \
     or at least an expression for when the condition is true";
+
 const NO_PARENTHESIS: &str = "General parsing error: expected close paren";
 
 /// Patterns that are refused, the place, and the text.

@@ -24,6 +24,8 @@ fn shown(alloc: Global, escaped: Escaped) -> Result<String, AllocError> {
             String::from_str(alloc, "ContinueFromPreviousMatchEnd")
         }
         Escaped::Delegate { inner, casei } => delegate(alloc, inner, casei),
+        Escaped::Backref { reference, casei } => format!(in alloc; "{reference:?} {casei}"),
+        Escaped::SubroutineCall(call) => format!(in alloc; "{call:?}"),
     }
 }
 

@@ -1,6 +1,5 @@
 //! How an answer stands to the recorded one.
 use crate::record::{Printing, Reading};
-use crate::unread::is_unread;
 use std::str;
 
 /// What a run ended with, and what it wrote.
@@ -14,8 +13,6 @@ pub(crate) struct Answer {
 #[derive(Clone, Copy)]
 pub(crate) enum Outcome {
     Same,
-    /// The pattern is refused where it has what is not read yet.
-    Unread,
     /// The tree is the same, and its text is not printed yet.
     WithoutText,
     Different,
@@ -23,14 +20,6 @@ pub(crate) enum Outcome {
 
 /// The nodes whose text is printed.
 const PRINTED: [&str; 6] = ["Empty", "Literal", "Concat", "Alt", "Group", "Repeat"];
-
-/// The place of the fault that stands in for what is not read yet, if this is its text.
-fn unread_place(err: &[u8]) -> Option<usize> {
-    let text = str::from_utf8(err).ok()?;
-    let text = text.strip_prefix("Parsing error at position ")?;
-    let place = text.strip_suffix(": General parsing error: not read yet\n")?;
-    place.parse::<usize>().ok()
-}
 
 /// Whether some line is of a node whose text is not printed yet.
 fn has_other_node(lines: &str) -> bool {
@@ -63,20 +52,12 @@ fn is_without_text(recorded: &[u8], out: &[u8]) -> bool {
 /// How what is answered on a pattern stands to what was recorded.
 pub(crate) fn compare_readings(record: &Reading, answer: &Answer) -> Outcome {
     let recorded = &record.answer;
-    let [flags, pattern] = &record.words;
     let is_same_end = answer.status == recorded.status && answer.err == recorded.err;
     if is_same_end && answer.out == recorded.out {
         return Outcome::Same;
     }
     if is_same_end && is_without_text(&recorded.out, &answer.out) {
         return Outcome::WithoutText;
-    }
-    if answer.status == 1
-        && answer.out.is_empty()
-        && let Some(place) = unread_place(&answer.err)
-        && is_unread(flags.as_str(), pattern.as_str(), place)
-    {
-        return Outcome::Unread;
     }
     Outcome::Different
 }

@@ -5,7 +5,6 @@
 mod comparison;
 mod nodes;
 mod record;
-mod unread;
 
 use anyhow::{Context, Result, ensure};
 use comparison::{Answer, Outcome, compare_readings, compare_texts};
@@ -23,7 +22,6 @@ use std::{env, fs};
 #[derive(Clone, Copy)]
 struct Counts {
     same: usize,
-    unread: usize,
     without_text: usize,
     different: usize,
 }
@@ -32,7 +30,6 @@ impl Counts {
     fn add(&mut self, outcome: Outcome) {
         let count = match outcome {
             Outcome::Same => &mut self.same,
-            Outcome::Unread => &mut self.unread,
             Outcome::WithoutText => &mut self.without_text,
             Outcome::Different => &mut self.different,
         };
@@ -94,7 +91,6 @@ fn replay(rt: &(impl Files + Print + AllocGlobal), name: &str) -> Result<Counts>
     let text = fs::read_to_string(rt, name).context(format_args!("reading {name}"))?;
     let mut counts = Counts {
         same: 0,
-        unread: 0,
         without_text: 0,
         different: 0,
     };
@@ -107,13 +103,10 @@ fn replay(rt: &(impl Files + Print + AllocGlobal), name: &str) -> Result<Counts>
     }
     let Counts {
         same,
-        unread,
         without_text,
         different,
     } = counts;
-    println!(rt;
-        "{name}: {same} same, {unread} not read yet, {without_text} without text, {different} different"
-    )?;
+    println!(rt; "{name}: {same} same, {without_text} without text, {different} different")?;
     Ok(counts)
 }
 

@@ -9,6 +9,7 @@ ghost use Rattle.fancy_syntax.specs.View.{view};
 use crate::expr::Expr;
 use crate::grammar::head::Head;
 use crate::grammar::look::{look_at_verb, look_behind_question};
+use crate::grammar::reference::{backref, subroutine_call};
 use crate::grammar::state::State;
 use fancy_lex::class::{class, push_delegate};
 use fancy_lex::error::{Error, ParseError};
@@ -154,6 +155,8 @@ fn leaf_node(alloc: Global, leaf: Escaped) -> Result<Expr, AllocError>
             push_delegate(&mut inner, text)?;
             Ok(Expr::Delegate { inner, casei })
         }
+        Escaped::Backref { reference, casei } => backref(alloc, reference, casei),
+        Escaped::SubroutineCall(call) => subroutine_call(alloc, call),
     }
 }
 
@@ -161,10 +164,13 @@ fn leaf_node(alloc: Global, leaf: Escaped) -> Result<Expr, AllocError>
 fn start_anchor(flags: Flags) -> Assertion
     ensures { result ≡ spec.start_anchor flags }
 {
-    if flags.multi {
-        Assertion::StartLine { crlf: flags.crlf }
-    } else {
+    let crlf = flags.crlf;
+    if !flags.multi {
         Assertion::StartText
+    } else if flags.oniguruma_mode {
+        Assertion::StartLineOniguruma { crlf }
+    } else {
+        Assertion::StartLine { crlf }
     }
 }
 

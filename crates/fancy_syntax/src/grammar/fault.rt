@@ -1,4 +1,4 @@
-//! Faults whose kind carries a text.
+//! The fault whose kind carries a message.
 ghost use Rattle.std.specs.Prelude.{chars};
 ghost use Rattle.fancy_lex.specs.Fault as spec;
 ghost use Rattle.fancy_syntax.specs.Reads.{IsFault};
@@ -14,11 +14,4 @@ pub(crate) fn general(alloc: Global, message: &str, place: usize) -> Error
         Ok(message) => Error::ParseError(place, ParseError::GeneralParseError(message)),
         Err(refused) => Error::from(refused),
     }
-}
-
-/// The fault that stands in for what is not read yet, or that memory ran out.
-pub(crate) fn not_read_yet(alloc: Global, place: usize) -> Error
-    ensures { IsFault result spec.not_read_yet place }
-{
-    general(alloc, "not read yet", place)
 }

@@ -3,7 +3,9 @@ ghost use Rattle.std.specs.Prelude.{◌≡◌, ◌<◌, ◌≤◌, ◌^◌, leng
 ghost use Rattle.fancy_lex.specs.Fault.{target_not_repeatable};
 ghost use Rattle.fancy_lex.specs.Text.{place_of};
 ghost use Rattle.fancy_parts.specs.FlagLetters.{letters};
-ghost use Rattle.fancy_syntax.specs.Ahead.{opens};
+ghost use Rattle.fancy_parts.specs.GroupName as names;
+ghost use Rattle.fancy_parts.specs.HeadReference as references;
+ghost use Rattle.fancy_syntax.specs.Ahead.{leaf, opens};
 ghost use Rattle.fancy_syntax.specs.Head as head;
 ghost use Rattle.fancy_syntax.specs.State.{at};
 ghost use Rattle.fancy_syntax.specs.Ahead as spec;
@@ -13,11 +15,15 @@ ghost use Rattle.fancy_syntax.specs.Verb as verbs;
 
 use crate::expr::{BacktrackingControlVerb, Expr, LookAround};
 use crate::grammar::ahead::Ahead;
-use crate::grammar::fault::not_read_yet;
 use crate::grammar::head::Head;
+use crate::grammar::reference::{backref, condition, subroutine_call};
 use crate::grammar::state::State;
 use fancy_lex::error::{Error, ParseError};
 use fancy_lex::text::{after, after_word, next, place};
+use fancy_parts::heads::names::group_name;
+use fancy_parts::heads::references::{
+    begins_target, condition_target, named_call, named_reference,
+};
 use fancy_parts::heads::{Letters, flag_letters};
 use std::alloc::Global;
 
@@ -27,7 +33,7 @@ pub(crate) fn look_behind_question<'a>(
     here: &mut State<'a>,
     end: usize,
 ) -> Result<Ahead<'a>, Error>
-    requires within { length here.old.rest.now ≤ end }
+    requires within { length here.old.rest.now < end }
     requires end { end < 2 ^ 63 }
     ensures value { Sees result (state here.new) (spec.question_ahead end (state here.old) (chars here.old.rest.now)) }
     ensures within { length here.new.rest.now ≤ length here.old.rest.now }
@@ -39,8 +45,8 @@ pub(crate) fn look_behind_question<'a>(
     match c {
         '=' => Ok(open_look(here, rest, LookAround::LookAhead)),
         '!' => Ok(open_look(here, rest, LookAround::LookAheadNeg)),
-        '<' => look_behind_less(alloc, here, rest, end),
-        '\'' => Err(not_read_yet(alloc, place(here.rest, end))),
+        '<' => look_behind_less(here, rest, end),
+        '\'' => look_at_name(here, end),
         'P' => look_behind_p(alloc, here, rest, end),
         '~' => {
             here.rest = rest;
@@ -69,14 +75,9 @@ fn open_look<'a>(here: &mut State<'a>, inside: &'a str, look: LookAround) -> Ahe
     Ahead::Group(Head::Look(look))
 }
 
-/// Reads what stands behind `(?<`: look-behind. A name is not read yet.
-fn look_behind_less<'a>(
-    alloc: Global,
-    here: &mut State<'a>,
-    rest: &'a str,
-    end: usize,
-) -> Result<Ahead<'a>, Error>
-    requires within { length here.old.rest.now ≤ end }
+/// Reads what stands behind `(?<`: look-behind, or a name.
+fn look_behind_less<'a>(here: &mut State<'a>, rest: &'a str, end: usize) -> Result<Ahead<'a>, Error>
+    requires within { length here.old.rest.now < end }
     requires shorter { length rest.now ≤ length here.old.rest.now }
     ensures value { Sees result (state here.new)
         (spec.less_ahead end (state here.old) (chars here.old.rest.now) (chars rest.now)) }
@@ -89,29 +90,84 @@ fn look_behind_less<'a>(
     if let Some(inside) = after(rest, '!') {
         return Ok(open_look(here, inside, LookAround::LookBehindNeg));
     }
-    Err(not_read_yet(alloc, place(here.rest, end)))
+    look_at_name(here, end)
 }
 
-/// Reads what stands behind `(?P`: letters of flags, of which none is a `P`. A name is not read yet.
+/// Reads the name of a group, behind the question mark.
+fn look_at_name<'a>(here: &mut State<'a>, end: usize) -> Result<Ahead<'a>, Error>
+    requires within { length here.old.rest.now < end }
+    ensures value { Sees result (state here.new)
+        (spec.named_ahead (state here.old) (names.group_name end (chars here.old.rest.now))) }
+    ensures within { length here.new.rest.now ≤ length here.old.rest.now }
+    ensures something { IfOk result (λ a. IsSomething a) }
+{
+    let (name, inside) = group_name(here.rest, end)?;
+    here.rest = inside;
+    Ok(Ahead::Group(Head::Capture(Some(name))))
+}
+
+/// Reads what stands behind `(?P`: a name, a reference, a call, or letters of flags, of which none is a `P`.
 fn look_behind_p<'a>(
     alloc: Global,
     here: &mut State<'a>,
-    rest: &str,
+    rest: &'a str,
     end: usize,
 ) -> Result<Ahead<'a>, Error>
-    requires within { length here.old.rest.now ≤ end }
+    requires within { length here.old.rest.now < end }
+    requires shorter { length rest.now ≤ length here.old.rest.now }
     requires end { end < 2 ^ 63 }
     ensures value { Sees result (state here.new)
         (spec.python_ahead end (state here.old) (chars here.old.rest.now) (chars rest.now)) }
     ensures within { length here.new.rest.now ≤ length here.old.rest.now }
     ensures something { IfOk result (λ a. IsSomething a) }
 {
-    if let Some((c, _)) = next(rest)
-        && (c == '<' || c == '=' || c == '>')
-    {
-        return Err(not_read_yet(alloc, place(here.rest, end)));
+    let Some((c, behind)) = next(rest) else {
+        return look_at_flags(alloc, here, end);
+    };
+    match c {
+        '<' => look_at_name(here, end),
+        '=' => look_at_reference(alloc, here, behind, end),
+        '>' => look_at_call(alloc, here, behind, end),
+        _ => look_at_flags(alloc, here, end),
     }
-    look_at_flags(alloc, here, end)
+}
+
+/// Reads a back reference, whose id begins at the text.
+fn look_at_reference<'a>(
+    alloc: Global,
+    here: &mut State<'a>,
+    id: &'a str,
+    end: usize,
+) -> Result<Ahead<'a>, Error>
+    requires within { length here.old.rest.now ≤ end }
+    requires shorter { length id.now ≤ length here.old.rest.now }
+    ensures value { Sees result (state here.new) (leaf (spec.leaf_outcome (spec.backref_node here.old.flags.casei)
+        (state here.old) (references.named_reference end (chars id.now)))) }
+    ensures within { length here.new.rest.now ≤ length here.old.rest.now }
+    ensures something { IfOk result (λ a. IsSomething a) }
+{
+    let (reference, rest) = named_reference(id, end)?;
+    here.rest = rest;
+    Ok(Ahead::Leaf(backref(alloc, reference, here.flags.casei)?))
+}
+
+/// Reads a call, whose name begins at the text.
+fn look_at_call<'a>(
+    alloc: Global,
+    here: &mut State<'a>,
+    name: &'a str,
+    end: usize,
+) -> Result<Ahead<'a>, Error>
+    requires within { length here.old.rest.now ≤ end }
+    requires shorter { length name.now ≤ length here.old.rest.now }
+    ensures value { Sees result (state here.new) (leaf (spec.leaf_outcome spec.call_node
+        (state here.old) (references.named_call end (chars name.now)))) }
+    ensures within { length here.new.rest.now ≤ length here.old.rest.now }
+    ensures something { IfOk result (λ a. IsSomething a) }
+{
+    let (call, rest) = named_call(name, end)?;
+    here.rest = rest;
+    Ok(Ahead::Leaf(subroutine_call(alloc, call)?))
 }
 
 /// Reads the letters of a flag group.
@@ -153,9 +209,10 @@ fn look_at_absent<'a>(here: &mut State<'a>, end: usize) -> Result<Ahead<'a>, Err
     }
 }
 
-/// Reads what stands behind `(?(`: the word DEFINE, a verb, or nothing. A target is not read yet.
+/// Reads what stands behind `(?(`: the word DEFINE, a target, a verb, or nothing.
 ///
-/// UnclosedOpenParen at the end of the text; TargetNotRepeatable at the asterisk of no verb.
+/// UnclosedOpenParen at the end of the text; TargetNotRepeatable at the asterisk of no verb; the faults of
+/// `condition_target`.
 fn look_at_conditional<'a>(
     alloc: Global,
     here: &mut State<'a>,
@@ -174,8 +231,8 @@ fn look_at_conditional<'a>(
         here.rest = definitions;
         return Ok(Ahead::Group(Head::Define));
     }
-    if is_before_target(c) {
-        return Err(not_read_yet(alloc, place(here.rest, end)));
+    if begins_target(here.rest) {
+        return look_at_target(alloc, here, end);
     }
     if c == '*' {
         let verb = look_at_verb(here, rest, end)?;
@@ -185,11 +242,18 @@ fn look_at_conditional<'a>(
     Ok(Ahead::Condition)
 }
 
-/// Whether the target of a condition begins with the character.
-fn is_before_target(c: char) -> bool
-    ensures { result ≡ spec.is_before_target c }
+/// Reads what a condition asks for.
+fn look_at_target<'a>(alloc: Global, here: &mut State<'a>, end: usize) -> Result<Ahead<'a>, Error>
+    requires within { length here.old.rest.now ≤ end }
+    ensures value { Sees result (state here.new)
+        (spec.target_ahead (state here.old) (references.condition_target end (chars here.old.rest.now))) }
+    ensures within { length here.new.rest.now ≤ length here.old.rest.now }
+    ensures something { IfOk result (λ a. IsSomething a) }
 {
-    c == '\'' || c == '<' || c == '+' || c == '-' || c.is_ascii_digit()
+    let (target, rest) = condition_target(here.rest, end)?;
+    here.rest = rest;
+    let condition = condition(alloc, target)?;
+    Ok(Ahead::Body(Box::new(alloc, condition)?))
 }
 
 /// Reads the verb behind the asterisk at the front, which `rest` follows. TargetNotRepeatable at the asterisk of no

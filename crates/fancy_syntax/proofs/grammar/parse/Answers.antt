@@ -2,7 +2,7 @@ use Rattle.std.proofs.Common.{◌≡◌, ◌∷◌, refl, sym, subst, ap, ℕ}
 use Rattle.std.proofs.lemmas.Result.{err_from_is_err_and}
 use Rattle.std.specs.Str.{chars}
 use Rattle.fancy_lex.proofs.TextLemmas.{bytes_chars}
-use Rattle.fancy_syntax.specs.Grammar.{Alternation, Whole, whole, unread_mode, start, ended_at}
+use Rattle.fancy_syntax.specs.Grammar.{Alternation, Whole, whole, start, ended_at}
 use Rattle.fancy_syntax.specs.Parsed.{state}
 use Rattle.fancy_syntax.specs.State.{done, fault}
 use Rattle.fancy_syntax.specs.View.{view}
@@ -10,18 +10,13 @@ use Rattle.fancy_syntax.proofs.FaultLemmas.{says_end}
 use Rattle.fancy_syntax.proofs.OutcomeLemmas.{Fails-map, Fails-is}
 use Rattle.fancy_syntax.proofs.grammar.parse.Goals as goal
 
-pub returns-then-is_unread_mode : goal.returns-then-is_unread_mode
-returns-then-is_unread_mode c = record {
-  reads = Fails-is (Whole c.args.flags (chars c.args.text.now)) c.not_read_yet.result _ _ c.not_read_yet.ensures (unread_mode (sym c.if-is_unread_mode.ensures));
-}
-
 pub returns-in_err-tree : goal.returns-in_err-tree
 returns-in_err-tree c =
     let n = bytes_chars c.args.text.now c.utf8.text in
     let e = err_from_is_err_and c.from_residual.result c.from_residual.ensures.1 in
     record {
       reads = rw (e.1, e.2) (Fails-map (Alternation _ 0 (start c.args.flags (chars c.args.text.now))) (Whole c.args.flags (chars c.args.text.now)) c.in_err-tree.field-0.0
-          (λ k p h. whole (sym c.if-is_unread_mode.ensures)
+          (λ k p h. whole
           (subst (λ (m : ℕ). Alternation m 0 (start c.args.flags (chars c.args.text.now)) (fault k p)) (sym n) h) refl) c.in_err-tree.ensures.value);
     }
 
@@ -32,7 +27,7 @@ returns-in-None c =
     record {
       reads = (
         here,
-        whole (sym c.if-is_unread_mode.ensures)
+        whole
             (subst (λ (m : ℕ). Alternation m 0 (start c.args.flags (chars c.args.text.now)) (done (view c.in_ok-tree.tree) here)) (sym n) c.in_ok-tree.ensures.value)
             (ap (ended_at _ (view c.in_ok-tree.tree) here) c.in-None.ensures.value),
       );
@@ -45,7 +40,7 @@ returns-in-Some c =
     let here = state c.in_ok-tree.here in
     record {
       reads = Fails-is (Whole c.args.flags (chars c.args.text.now)) c.general.result _ _ (rw (c.place.ensures, ← n) at f)
-          (whole (sym c.if-is_unread_mode.ensures)
+          (whole
           (subst (λ (m : ℕ). Alternation m 0 (start c.args.flags (chars c.args.text.now)) (done (view c.in_ok-tree.tree) here)) (sym n) c.in_ok-tree.ensures.value)
           (ap (ended_at _ (view c.in_ok-tree.tree) here) c.in-Some.ensures.value));
     }

@@ -1,9 +1,9 @@
-use Rattle.std.proofs.Common.{◌≡◌, ◌∷◌, Some, None, codes, ap, sym, ◌∙◌}
+use Rattle.std.proofs.Common.{◌≡◌, ◌∷◌, Some, None, codes, ap, sym, subst, ◌∙◌}
 use Rattle.std.specs.Str.{chars}
 use Rattle.fancy_lex.specs.Text.{strip_word}
 use Rattle.fancy_syntax.specs.Ahead.{conditional_ahead}
-use Rattle.fancy_syntax.specs.Parsed.{state}
-use Rattle.fancy_syntax.proofs.AheadLemmas.{defines, no_condition_ahead}
+use Rattle.fancy_syntax.specs.Parsed.{state, Sees}
+use Rattle.fancy_syntax.proofs.AheadLemmas.{defines, target_stands, no_condition_ahead}
 use Rattle.fancy_syntax.proofs.grammar.look.look_at_conditional.Goals as goal
 
 pub returns-in-Some-after_word-clause-value : goal.returns-in-Some-after_word-clause-value
@@ -11,8 +11,15 @@ unfolding chars
 returns-in-Some-after_word-clause-value c =
     defines c.args.end (state c.args.here.now) _ _ _ c.in-Some.ensures.value c.in-Some-after_word.ensures.value
 
+pub returns-then-begins_target-clause-value : goal.returns-then-begins_target-clause-value
+unfolding chars
+returns-then-begins_target-clause-value c =
+    let stands = target_stands c.args.end (state c.args.here.now) _ _ c.in-Some.ensures.value c.in_default-after_word.ensures.value
+    (sym c.begins_target.ensures ∙ c.if-begins_target.true) in
+    subst (Sees c.look_at_target.result (state c.look_at_target.new.here)) (sym stands) c.look_at_target.ensures.value
+
 pub returns-clause-value : goal.returns-clause-value
 unfolding chars
 returns-clause-value c =
     no_condition_ahead c.args.end (state c.args.here.now) _ _ c.in-Some.ensures.value c.in_default-after_word.ensures.value
-    (sym c.is_before_target.ensures ∙ c.if-is_before_target.false) c.if-c-eq42.false
+    (sym c.begins_target.ensures ∙ c.if-begins_target.false) c.if-c-eq42.false
