@@ -1,20 +1,8 @@
 //! What the program answers on groups of every kind.
-use fre_program::program::fre_run;
+use crate::answers::answer;
 use std::alloc::Global;
 use std::str;
 use std::test::Fail;
-
-/// The status, and what was written on standard output and on standard error.
-fn run(alloc: Global, pattern: &str) -> Result<(u8, Vec<u8>, Vec<u8>), Fail> {
-    let words = [
-        String::from_str(alloc, "u")?,
-        String::from_str(alloc, pattern)?,
-    ];
-    let mut out = Vec::new(alloc);
-    let mut err = Vec::new(alloc);
-    let status = fre_run(alloc, &words, &mut out, &mut err);
-    Ok((status, out, err))
-}
 
 /// Patterns, the lines of their trees, and how many groups they have.
 const TREES: [(&str, &str, usize); 15] = [
@@ -115,7 +103,7 @@ const TREES: [(&str, &str, usize); 15] = [
 #[test]
 fn groups_have_their_trees(rt: HostRuntime) -> Result<(), Fail> {
     for (pattern, lines, groups) in TREES {
-        let (status, out, err) = run(rt.alloc(), pattern)?;
+        let (status, out, err) = answer(rt.alloc(), "u", pattern)?;
         assert!(rt; status == 0 && err.is_empty(), "{pattern}");
         let (tree, marks) = str::from_utf8(&out)?
             .split_once("marks ")
@@ -156,7 +144,7 @@ const FAULTS: [(&str, usize, &str); 13] = [
 #[test]
 fn groups_are_refused_at_their_places(rt: HostRuntime) -> Result<(), Fail> {
     for (pattern, place, text) in FAULTS {
-        let (status, out, err) = run(rt.alloc(), pattern)?;
+        let (status, out, err) = answer(rt.alloc(), "u", pattern)?;
         assert!(rt; status == 1 && out.is_empty(), "{pattern}");
         let line = format!(in rt.alloc(); "Parsing error at position {place}: {text}\n")?;
         assert_eq!(rt; str::from_utf8(&err)?, line.as_str(), "{pattern}");
@@ -179,10 +167,10 @@ fn nested(alloc: Global, levels: usize) -> Result<String, Fail> {
 
 #[test]
 fn less_than_64_groups_nest(rt: HostRuntime) -> Result<(), Fail> {
-    let (status, out, _) = run(rt.alloc(), nested(rt.alloc(), 63)?.as_str())?;
+    let (status, out, _) = answer(rt.alloc(), "u", nested(rt.alloc(), 63)?.as_str())?;
     assert_eq!(rt; status, 0);
     assert!(rt; out.starts_with(b"Literal 61 casei=false\nmarks groups=0 "));
-    let (status, _, err) = run(rt.alloc(), nested(rt.alloc(), 64)?.as_str())?;
+    let (status, _, err) = answer(rt.alloc(), "u", nested(rt.alloc(), 64)?.as_str())?;
     assert_eq!(rt; status, 1);
     assert_eq!(rt;
         str::from_utf8(&err)?,

@@ -21,6 +21,12 @@ fn main(rt: HostRuntime) -> ExitCode {
 }
 
 #[cfg(test)]
+mod answers;
+#[cfg(test)]
+mod faults;
+#[cfg(test)]
 mod groups;
+#[cfg(test)]
+mod lines;
 #[cfg(test)]
 mod tests;

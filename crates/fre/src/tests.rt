@@ -76,6 +76,14 @@ marks groups=1 backrefs=- named=- numeric=false calls=false self=false out_of_ra
 text 28617c6229632a
 ";
 
+const NAMED: &str = "Concat
+  Group
+    Literal 78 casei=false
+  Backref 1 casei=false
+marks groups=1 backrefs=1 named=6e:1 numeric=false calls=false self=false out_of_range=none ignored=false
+text none
+";
+
 const REFUSED: &str =
     "Parsing error at position 2: Opening parenthesis without closing parenthesis\n";
 
@@ -91,14 +99,15 @@ const USAGE: &str = "usage: fre FLAGS PATTERN\n";
 
 #[test]
 fn answers(rt: HostRuntime) -> Result<(), Fail> {
-    let rows: [(&[&str], u8, &str, &str); 9] = [
+    let rows: [(&[&str], u8, &str, &str); 10] = [
         (&["u", "(a|b)c*"], 0, ACCEPTED, ""),
+        (&["u", "(?<n>x)\\k<n>"], 0, NAMED, ""),
         (&["-", "a("], 1, "", REFUSED),
         (
-            &["u", "a\\1"],
+            &["u", "\\k<-2>\\k<b>"],
             1,
             "",
-            "Parsing error at position 1: General parsing error: not read yet\n",
+            "Parsing error at position 2: Invalid back reference\n",
         ),
         (&["z", "a"], 2, "", USAGE),
         (&["uz", "a("], 2, "", USAGE),
