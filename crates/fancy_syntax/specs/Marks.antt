@@ -19,7 +19,7 @@ pub record Marks : Type 0 where
   pub named_groups : List (Text × List ℕ)  -- for each name, in order, the numbers of its groups
   pub numeric_capture_group_references : Bool  -- some reference is written as a number
   pub contains_subroutines : Bool  -- some call is written
-  pub self_recursive : Bool  -- some call of the whole pattern is written
+  pub self_recursive : Bool  -- some call by the number 0 is written
   pub total_groups : ℕ  -- how many groups have a number
   pub out_of_range_backref : Option ℕ  -- the first back reference to no group
   pub numbered_groups_ignored : Bool  -- some group has a name, and those without one have no number

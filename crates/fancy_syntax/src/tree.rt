@@ -26,7 +26,7 @@ pub struct ExprTree {
     pub numeric_capture_group_references: bool,
     /// Some group is called.
     pub contains_subroutines: bool,
-    /// Some call is of the whole pattern.
+    /// Some call is by the number 0: of the whole pattern.
     pub self_recursive: bool,
     /// How many groups have a number.
     pub total_groups: usize,
