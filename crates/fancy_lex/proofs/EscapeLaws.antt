@@ -1,14 +1,13 @@
 -- What holds of every escape: it leaves the end of the text, and its fault stands at most one past the end.
-use Rattle.std.proofs.Common.{length, codes, ◌≡◌, ℕ, zero, suc, ◌+◌, ◌*◌, ◌≤◌, Bool, true, false, ◌==◌, nat_lt, if◌then◌else◌, [], ◌∷◌, ◌++◌, Option, Some, None, option_map, refl, ap, sym, ◌∙◌, subst, append_assoc, arith}
+use Rattle.std.proofs.Common.{length, codes, ◌≡◌, ℕ, zero, suc, ◌+◌, ◌*◌, ◌≤◌, Bool, true, false, ◌==◌, nat_lt, if◌then◌else◌, [], ◌∷◌, ◌++◌, Option, Some, None, option_map, refl, ◌∙◌, subst, arith}
 use Rattle.std.specs.Char.{digit_value}
-use Rattle.std.specs.Option.{option_and_then}
 use Rattle.fancy_lex.specs.declared.flags.Flags.{Flags}
 use Rattle.fancy_lex.specs.Boundary as boundaries
 use Rattle.fancy_lex.specs.Characters.{open_brace, close_brace, ◌∈◌}
 use Rattle.fancy_lex.specs.Escape.{escape, numbered, call, referring, property, outside, in_class}
 use Rattle.fancy_lex.specs.EscapeReference.{back_reference}
 use Rattle.fancy_lex.specs.Escaped.{Escape}
-use Rattle.fancy_lex.specs.Fault.{Fault, Kind, invalid_escape}
+use Rattle.fancy_lex.specs.Fault.{Kind, invalid_escape}
 use Rattle.fancy_lex.specs.Hex as hexes
 use Rattle.fancy_lex.specs.Layout.{Skipped, rest, fault, layout}
 use Rattle.fancy_lex.specs.Property.{single, braced, cut_at, name_at, read_property}

@@ -6,7 +6,7 @@ pub mod DelimitedLaws
 pub mod EscapeFrame
 pub mod EscapeLaws
 pub mod EscapeLemmas
-pub mod EscapePlaces
+pub mod EscapeSound
 pub mod HexLemmas
 pub mod IdLemmas
 pub mod IdReferenceLaws

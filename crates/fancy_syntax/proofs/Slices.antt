@@ -1,6 +1,6 @@
 -- What is read is a slice of the text, in which groups and references stand one behind another.
-use Rattle.std.proofs.Common.{length, ◌≡◌, ℕ, zero, suc, ◌+◌, ◌≤◌, ◌<◌, ◌-◌, ◌∷◌, [], ◌++◌, List, refl, sym, ap, ◌∙◌, subst, arith, Bool, true, false, Option, Some, None, append_assoc, append-nil, length-append}
-use Rattle.std.specs.Prelude.{◌==◌, ◌||◌, not, nat_lt, nat_le, ◌^◌, ◌*◌, IfSome, is_some, option_map, option_and_then, unwrap_or, codes, ◌&&◌}
+use Rattle.std.proofs.Common.{◌≡◌, ℕ, zero, suc, ◌+◌, ◌≤◌, ◌<◌, ◌-◌, ◌∷◌, [], ◌++◌, List, refl, sym, ap, ◌∙◌, subst, arith, Bool, true, false, Option, Some, None, append_assoc, append-nil}
+use Rattle.std.specs.Prelude.{◌==◌, ◌||◌, not, nat_lt, nat_le, ◌^◌, ◌*◌, IfSome, option_map, option_and_then, unwrap_or, codes, ◌&&◌}
 use Rattle.std.proofs.lemmas.Bool.{cond_both}
 use Rattle.std.proofs.lemmas.Str.{len_utf8_bounds}
 use Rattle.std.specs.Char.{is_ascii_digit}
@@ -8,9 +8,9 @@ use Rattle.fancy_lex.proofs.EscapeLaws.{leaves_escape}
 use Rattle.fancy_lex.proofs.LeaveLaws.{Leaves, leaves, faults}
 use Rattle.fancy_lex.proofs.LayoutLaws.{layout_cut, layout_place}
 use Rattle.fancy_lex.proofs.PlaceLaws.{leaves_class}
-use Rattle.fancy_lex.proofs.EscapePlaces.{Placed, Stands, placed_escape}
+use Rattle.fancy_lex.proofs.EscapeSound.{Sound, sound_escape}
 use Rattle.fancy_lex.proofs.ReferencePlaces.{IfGives, ReferenceAt, CallAt}
-use Rattle.fancy_lex.proofs.TakeLaws.{Takes, TakesOrFails, takes, fault_within, takes_bytes, takes_less}
+use Rattle.fancy_lex.proofs.TakeLaws.{Takes, TakesOrFails, takes, fault_within, takes_bytes}
 use Rattle.fancy_lex.proofs.TextLemmas.{bytes-append, strip_is, strip_word_is}
 use Rattle.fancy_lex.specs.Referred as referred_spec
 use Rattle.fancy_lex.specs.Characters.{bar, ◌∈◌}
@@ -32,7 +32,7 @@ use Rattle.fancy_parts.specs.HeadReference.{named_reference, named_call, begins_
 use Rattle.fancy_parts.specs.FlagLetters.{Letters, letters, setting, scope as scoped}
 use Rattle.fancy_parts.specs.Quantifier.{counts, braced_counts, counts_from, in_braces, spaced_count, past_layout, count, count_of, exact_or_range, most}
 use Rattle.fancy_parts.specs.declared.counts.Counts.{Counts}
-use Rattle.fancy_syntax.specs.Ahead.{Ahead, nothing, leaf, opens, condition, body, absent_branch, ahead, ahead_of, behind_layout, head_ahead, question_ahead, python_ahead, less_ahead, absent_ahead, conditional_ahead, condition_ahead, flags_ahead, leaf_node, leaf_outcome, leaf_of, is_before_nothing, max_depth, skipped, named_ahead, target_ahead, backref_node, call_node, condition_node}
+use Rattle.fancy_syntax.specs.Ahead.{Ahead, nothing, leaf, opens, condition, body, absent_branch, ahead, ahead_of, behind_layout, head_ahead, question_ahead, python_ahead, less_ahead, absent_ahead, conditional_ahead, condition_ahead, flags_ahead, leaf_node, leaf_outcome, leaf_of, is_before_nothing, max_depth, skipped, named_ahead, target_ahead, backref_node, call_node}
 use Rattle.fancy_syntax.specs.Grammar.{Alternation, alternation, Branches, last, more, branch_fault, Branch, branch, Pieces, stop, next, piece_fault, Piece, piece, layout_fault, Atom, atom, AtomOf, a_nothing, a_leaf, a_group, a_condition, condition_fault, a_body, two_branches, one_branch, absent_fault, Inside, inside, Body, the_body, Whole, whole, start, closed, closed_at, ended, ended_at, branches_of, conditional_of, conditional_behind, is_condition, alone}
 use Rattle.fancy_syntax.specs.Head.{Head, capture, scope, look, atomic, define, repeater, node_of}
 use Rattle.fancy_syntax.specs.Join.{join, choice, solid, is_empty, one_or}
@@ -41,8 +41,8 @@ use Rattle.fancy_syntax.specs.Items.{Item, opening, reference, items, items_all}
 use Rattle.fancy_syntax.specs.Quantified.{quants, adjacent, max_adjacent, is_unmoved, quant, quant_at, counted, suffix, suffix_at, behind_lazy, may_be_possessive, is_swapped, quantified, is_repeatable, is_dropped}
 use Rattle.fancy_syntax.specs.Ordered.{Ascends, place_of_item}
 use Rattle.fancy_syntax.specs.Slices.{Slice, Span, Within, items_of}
-use Rattle.fancy_syntax.specs.State.{State, at, Outcome, done, fault, and_then, seen_through}
-use Rattle.fancy_syntax.specs.Tree.{Tree, Trees, no_trees, more_trees, empty, concat, alt, delegate, conditional, absent, expression, trees_of, list_of}
+use Rattle.fancy_syntax.specs.State.{State, at, Outcome, done, fault, and_then}
+use Rattle.fancy_syntax.specs.Tree.{Tree, Trees, no_trees, more_trees, empty, concat, alt, delegate, absent, expression, trees_of, list_of}
 use Rattle.fancy_syntax.specs.Verb.{verb_at}
 use Rattle.fancy_syntax.specs.declared.expr.BacktrackingControlVerb.{BacktrackingControlVerb}
 use Rattle.fancy_syntax.specs.declared.expr.BacktrackingControlVerb.TheVariants.{Fail, Accept, Commit, Skip, Prune}
@@ -488,14 +488,14 @@ behind_slice n s z t (rest u) h i = head_slice n s z u (further s h i)
 behind_slice n s z t (open_comment p) h i = i
 
 -- what an escape stands for, behind a first character
-escape_slice : (n : ℕ) (s z : State) (t : Text) → Slice s.rest t → (o : Reading Escape) → Leaves (n + 1) t o → Placed n t o →
+escape_slice : (n : ℕ) (s z : State) (t : Text) → Slice s.rest t → (o : Reading Escape) → Leaves (n + 1) t o → Sound n t o →
     Within items n s (leaf_outcome leaf_node z o)
 escape_slice n s z t h (gives e u) (leaves l) p = by_leaf e p
   where
     plain : Span n [] s.rest u
     plain = bare n (on h (cut_slice l))
 
-    by_leaf : (e : Escape) → Placed n t (gives e u) → Span n (items (leaf_node e)) s.rest u
+    by_leaf : (e : Escape) → Sound n t (gives e u) → Span n (items (leaf_node e)) s.rest u
     by_leaf (escaped.literal c casei) p = plain
     by_leaf (escaped.literal_bytes b) p = plain
     by_leaf (escaped.any newline crlf) p = plain
@@ -523,7 +523,7 @@ leaf_slice n s c t h =
     cond_both (c == code "$") _ _ (Within items n s) (λ _. plain) (λ _.
     cond_both (c == code "\\") _ _ (Within items n s)
     (λ _. escape_slice n s s t h.0 (escape n s.flags false p t) (leaves_escape (n + 1) n (omega arith) s.flags false p (omega arith) t)
-    (placed_escape n s.flags false p t)) (λ _.
+    (sound_escape n s.flags false p t)) (λ _.
     cond_both (c == code "[") _ _ (Within items n s)
     (λ _. class_slice n s s s.flags.casei t h.0 (class n s.flags t) (leaves_class n s.flags t)) (λ _. plain)))))
 

@@ -1,5 +1,6 @@
 pub mod Ahead
 pub mod Answer
+pub mod Answered
 pub mod Children
 pub mod Descendants
 pub mod Fits
@@ -15,6 +16,7 @@ pub mod Notes
 pub mod Ordered
 pub mod Parsed
 pub mod Plain
+pub mod Preorder
 pub mod Printable
 pub mod Printed
 pub mod Quantified

@@ -1,7 +1,9 @@
 //! Patterns read whole.
-ghost use Rattle.std.specs.Prelude.{◌≡◌, chars, length, IfOk, IfErr};
+ghost use Rattle.std.specs.Prelude.{◌≡◌, chars, filter, find, length, nat_le, nat_lt, IfOk, IfErr};
 ghost use Rattle.fancy_lex.specs.Flags.{flags_of};
 ghost use Rattle.fancy_syntax.specs.Answer.{marks_of, IsTreeOf, IsFaultOf, IsOnlyFault, IsWithin};
+ghost use Rattle.fancy_syntax.specs.Answered.{groups, groups_referred, has_call, IsAnswered};
+ghost use Rattle.fancy_syntax.specs.Marks.{ascending};
 ghost use Rattle.fancy_syntax.specs.Notes.{view_marks};
 ghost use Rattle.fancy_syntax.specs.View.{view};
 
@@ -91,6 +93,13 @@ impl Expr {
         ensures only { IfOk result (λ t. (e : _) (m : _) → IsTreeOf (flags_of flags) (chars re.now) e m → (e ≡
             view t.expr) × (m ≡ marks_of t)) }
         ensures exact { IfOk result (λ t. (k : _) (p : _) → IsFaultOf (flags_of flags) (chars re.now) k p → ⊥) }
+        ensures nodes { IfOk result (λ t. IsAnswered (view t.expr)) }
+        ensures groups { IfOk result (λ t. length (groups (view t.expr)) ≡ t.total_groups) }
+        ensures calls { IfOk result (λ t. has_call (view t.expr) ≡ t.contains_subroutines) }
+        ensures backrefs { IfOk result (λ t. t.backrefs.keys ≡
+            ascending (filter (λ n. nat_le n t.total_groups) (groups_referred (view t.expr)))) }
+        ensures out_of_range { IfOk result (λ t. t.out_of_range_backref ≡
+            find (λ n. nat_lt t.total_groups n) (groups_referred (view t.expr))) }
         ensures fault { IfErr result (λ e. IsOnlyFault e (flags_of flags) (chars re.now)) }
         ensures place { IfErr result (λ e. IsWithin e (length re.now)) }
     {
@@ -106,6 +115,13 @@ impl Expr {
         ensures only { IfOk result (λ t. (e : _) (m : _) → IsTreeOf (flags_of FLAG_UNICODE) (chars re.now) e m →
             (e ≡ view t.expr) × (m ≡ marks_of t)) }
         ensures exact { IfOk result (λ t. (k : _) (p : _) → IsFaultOf (flags_of FLAG_UNICODE) (chars re.now) k p → ⊥) }
+        ensures nodes { IfOk result (λ t. IsAnswered (view t.expr)) }
+        ensures groups { IfOk result (λ t. length (groups (view t.expr)) ≡ t.total_groups) }
+        ensures calls { IfOk result (λ t. has_call (view t.expr) ≡ t.contains_subroutines) }
+        ensures backrefs { IfOk result (λ t. t.backrefs.keys ≡
+            ascending (filter (λ n. nat_le n t.total_groups) (groups_referred (view t.expr)))) }
+        ensures out_of_range { IfOk result (λ t. t.out_of_range_backref ≡
+            find (λ n. nat_lt t.total_groups n) (groups_referred (view t.expr))) }
         ensures fault { IfErr result (λ e. IsOnlyFault e (flags_of FLAG_UNICODE) (chars re.now)) }
         ensures place { IfErr result (λ e. IsWithin e (length re.now)) }
     {

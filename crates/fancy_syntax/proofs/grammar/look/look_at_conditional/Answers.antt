@@ -1,7 +1,5 @@
-use Rattle.std.proofs.Common.{◌≡◌, ◌∷◌, Some, None, codes, ap, sym, subst, ◌∙◌}
+use Rattle.std.proofs.Common.{◌≡◌, ◌∷◌, sym, subst, ◌∙◌}
 use Rattle.std.specs.Str.{chars}
-use Rattle.fancy_lex.specs.Text.{strip_word}
-use Rattle.fancy_syntax.specs.Ahead.{conditional_ahead}
 use Rattle.fancy_syntax.specs.Parsed.{state, Sees}
 use Rattle.fancy_syntax.proofs.AheadLemmas.{defines, target_stands, no_condition_ahead}
 use Rattle.fancy_syntax.proofs.grammar.look.look_at_conditional.Goals as goal
