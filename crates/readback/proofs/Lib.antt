@@ -1,0 +1,11 @@
+mod CarriedLaws
+mod ClearLemmas
+mod CountTexts
+mod DelegateLemmas
+mod InFront
+mod LeafLemmas
+mod PrintableLaws
+mod ReadBack
+mod RuleLemmas
+mod ShapeLemmas
+mod TooDeep

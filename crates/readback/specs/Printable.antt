@@ -1,0 +1,31 @@
+-- The trees whose text reads back as their normal form.
+use Rattle.std.specs.Prelude.{Bool, true, false, not, ◌&&◌, is_some}
+use Rattle.std.specs.Str.{all_scalars}
+use Rattle.fancy_lex.specs.declared.escape.Assertion.TheVariants.{EndTextIgnoreTrailingNewlines}
+use Rattle.fancy_syntax.specs.Join.{is_empty}
+use Rattle.fancy_syntax.specs.Printable.{is_count, is_long}
+use Rattle.fancy_syntax.specs.Tree.{Tree, Trees, no_trees, more_trees, empty, any, assertion, literal, concat, alt, group, repeat, delegate, define_group}
+use Rattle.readback.specs.Normal.{bare, class_of, normal}
+
+-- what a quantifier may stand behind
+abbrev pub takes_quantifier : Tree → Bool
+takes_quantifier t = not (is_empty (normal false t)) && not (is_long t)
+
+abbrev mutual
+  pub printable : Tree → Bool
+  printable empty = true
+  printable (any newline crlf) = true
+  printable (assertion (EndTextIgnoreTrailingNewlines crlf)) = false
+  printable (assertion a) = true
+  printable (literal s casei) = all_scalars s
+  printable (delegate s casei) = all_scalars s && is_some (class_of (bare false) s)
+  printable (concat ts) = all_printable ts
+  printable (alt ts) = all_printable ts
+  printable (group t) = printable t
+  printable (repeat t lo hi greedy) = printable t && (takes_quantifier t && (is_count lo && is_count hi))
+  printable (define_group t) = true
+  printable _ = false
+
+  pub all_printable : Trees → Bool
+  all_printable no_trees = true
+  all_printable (more_trees t ts) = printable t && all_printable ts
