@@ -9,3 +9,4 @@ mod ReadBack
 mod RuleLemmas
 mod ShapeLemmas
 mod TooDeep
+mod ReadBackLaws

@@ -1,26 +1,30 @@
--- The law: what is printed reads back as the normal form.
-use Rattle.std.specs.Prelude.{◌≡◌, ℕ, ◌<◌, ◌≤◌, Bool, true, false, codes}
-use Rattle.fancy_lex.specs.Fault.{recursion_exceeded}
+-- The laws of printing, as statements.
+use Rattle.std.specs.Prelude.{◌≡◌, ℕ, ◌<◌, Bool, true, false}
+use Rattle.std.specs.Str.{all_scalars}
 use Rattle.fancy_lex.specs.Flags.{flags_of}
 use Rattle.fancy_lex.specs.Text.{Text}
 use Rattle.fancy_lex.specs.declared.flags.TheConstants.{FLAG_UNICODE}
-use Rattle.fancy_syntax.specs.Normal as landed
-use Rattle.fancy_syntax.specs.Printable as stands
-use Rattle.fancy_syntax.specs.Grammar.{Derives, Faults}
 use Rattle.fancy_syntax.specs.Printed.{printed}
-use Rattle.fancy_syntax.specs.Resolved.{resolved}
-use Rattle.fancy_syntax.specs.Tree.{Tree, Trees, no_trees, more_trees, literal, concat, alt, group, repeat, delegate, define_group}
+use Rattle.fancy_syntax.specs.Tree.{Tree, Trees, no_trees, more_trees, concat, alt, group, repeat, delegate}
 use Rattle.readback.specs.Nest.{nest}
 use Rattle.readback.specs.Normal.{bare, normal}
-use Rattle.readback.specs.Over.{over}
 use Rattle.readback.specs.Printable.{printable}
+use Rattle.readback.specs.ReadBack as answers
 
 abbrev pub ReadsBack : Type 0
-ReadsBack = (t : Tree) (p : ℕ) (u : Bool) → printable t ≡ true → nest t p < 64 → (r : Tree) × Derives (bare u) (printed t p) r × (resolved (bare u) r ≡ normal u t)
+ReadsBack = (t : Tree) (p : ℕ) → answers.ReadsBack t p
 
--- where 64 printed groups nest or more, the text's fault is the first that is too deep
-abbrev pub TooDeep : Type 0
-TooDeep = (t : Tree) (p : ℕ) (u : Bool) → printable t ≡ true → 64 ≤ nest t p → Faults (bare u) (printed t p) recursion_exceeded (over t p)
+-- what equal texts were printed for has equal normal forms
+abbrev pub SameTexts : Type 0
+SameTexts = (t s : Tree) (p q : ℕ) (u : Bool) → printable t ≡ true → printable s ≡ true → nest t p < 64 →
+    printed t p ≡ printed s q → normal u t ≡ normal u s
+
+-- the printed text is of scalar values
+abbrev pub Scalars : Type 0
+Scalars = (t : Tree) (p : ℕ) → printable t ≡ true → all_scalars (printed t p) ≡ true
+
+abbrev pub FlagsAre : Type 0
+FlagsAre = (bare false ≡ flags_of 0) × (bare true ≡ flags_of FLAG_UNICODE)
 
 abbrev mutual
   -- no Delegate stands where the text is made of it
@@ -45,4 +49,3 @@ DelegatesStay = (u i : Bool) (s : Text) → printable (delegate s i) ≡ true �
 
 abbrev pub NormalIsPrintable : Type 0
 NormalIsPrintable = (t : Tree) (u : Bool) → printable t ≡ true → printable (normal u t) ≡ true
-

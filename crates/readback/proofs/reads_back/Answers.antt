@@ -1,6 +1,12 @@
 use Rattle.readback.proofs.reads_back.Goals as goal
-use Rattle.readback.proofs.ReadBack.{reads_back}
-use Rattle.readback.proofs.PrintableLaws.{told}
+use Rattle.std.proofs.Common.{refl}
+use Rattle.readback.proofs.ReadBackLaws.{read_back_only, same_texts}
 
-pub returns : goal.returns
-returns c = record { reads = λ t p u h l. let (r, d, b) = reads_back t p u (told t h) l in (r, d, b.is _) }
+pub returns-clause-reads : goal.returns-clause-reads
+returns-clause-reads c = read_back_only
+
+pub returns-clause-texts : goal.returns-clause-texts
+returns-clause-texts c = same_texts
+
+pub returns-clause-flags : goal.returns-clause-flags
+returns-clause-flags c = (refl, refl)
