@@ -292,7 +292,7 @@ boundary_none n x p negated t =
     none_then (layout_reading (layout n x t)) _ (λ _ v. none_choose (strip open_brace v) _ _ (λ inside. none_then (layout_reading (layout n x inside)) _ (λ _ w.
     none_if (at_count w) _ _ tt (none_then (name n x p (suc _) inside) _ (λ word r. none_choose (boundary_of_name negated word) _ _ (λ a. tt) tt)))) tt)
 
-referring_none : (f : Flags) (o : Reading Reference) → NoDelegate (referring f o)
+pub referring_none : (f : Flags) (o : Reading Reference) → NoDelegate (referring f o)
 referring_none f o = none_then o (λ r u. gives (backref r f.casei) u) (λ r u. tt)
 
 call_none : (n p c : ℕ) (t : Text) → NoDelegate (call n p c t)

@@ -1,7 +1,7 @@
 //! Reading back what was printed.
 #![tactic(auto)]
 
-ghost use Rattle.readback.specs.Law.{FlagsAre, ReadsBack, SameTexts};
+ghost use Rattle.readback.specs.Law.{FlagsAre, NormalIsNormal, NormalIsPrintable, ReadsBack, SameTexts};
 
 /// What is printed for a printable tree, at any precedence, has one answer where it is read again, with no flag and
 /// with UNICODE alone: the tree's normal form, or, where 64 printed groups nest or more, the place of the first that is
@@ -10,4 +10,10 @@ pub fn reads_back()
     ensures reads { ReadsBack }
     ensures texts { SameTexts }
     ensures flags { FlagsAre }
+{}
+
+/// A normal form is printable, and where it holds no Delegate its own normal form.
+pub fn normal_forms()
+    ensures fixed { NormalIsNormal }
+    ensures printable { NormalIsPrintable }
 {}
