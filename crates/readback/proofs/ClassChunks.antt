@@ -10,6 +10,7 @@ use Rattle.fancy_lex.specs.Escaped.{Escape, literal, literal_bytes, delegate}
 use Rattle.fancy_lex.specs.Reading.{gives}
 use Rattle.fancy_lex.specs.Text.{Text, place_of, strip}
 use Rattle.readback.specs.Normal.{bare}
+use Rattle.readback.proofs.ScalarLemmas.{scalars_append}
 
 -- from s on, a class's items are read to v, whatever was seen before
 abbrev pub Goes : ℕ → Text → Text → Type 0
@@ -36,16 +37,6 @@ pass_nested m t s v k g b =
 
 pub pass_class : (m : ℕ) (t head r v : Text) → ◌≡◌ {A = Text × Text} (class_head [] t) (head, r) → Goes m r v → ClassGoes m t v
 pass_class m t head r v e g b = let (y, a, h) = g b in (head ++ y, a, class_items e h)
-
--- ---- scalar values
-
-pub scalars_append : (a b : Text) → all_scalars a ≡ true → all_scalars b ≡ true → all_scalars (a ++ b) ≡ true
-scalars_append [] b h k = k
-scalars_append (c ∷ a) b h k = let (x, y) = and_parts _ (all_scalars a) h in and_from _ _ x (scalars_append a b y k)
-
-pub scalars_behind : (a b : Text) → all_scalars (a ++ b) ≡ true → all_scalars b ≡ true
-scalars_behind [] b h = h
-scalars_behind (c ∷ a) b h = scalars_behind a b (and_parts _ (all_scalars (a ++ b)) h).1
 
 -- what is written for an item: it goes on, and begins with neither a caret nor a closing bracket
 pub record Chunk (w : Text) : Type 0 where

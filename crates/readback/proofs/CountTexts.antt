@@ -24,7 +24,7 @@ digit_is c h =
     let v = digit_value_digit c r in
     (and_from _ _ (le-leb 48 c (omega arith)) (le-leb c 57 (omega arith)), omega arith)
 
-all_digits : (ds : Text) → parse.AllDigits 10 ds → AllDigits ds
+pub all_digits : (ds : Text) → parse.AllDigits 10 ds → AllDigits ds
 all_digits [] h = tt
 all_digits (d ∷ ds) h = ((digit_is d h.0).0, all_digits ds h.1)
 

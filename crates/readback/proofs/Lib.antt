@@ -4,14 +4,16 @@ mod ClassChunks
 mod ClearLemmas
 mod CountTexts
 mod DelegateLaws
-mod DelegateLemmas
+mod DelegateTexts
 mod InFront
 mod LeafLemmas
 mod NormalLaws
 mod PrintableLaws
+mod PrintedScalars
 mod ReadBack
 mod ReadBackLaws
 mod RewrittenLaws
 mod RuleLemmas
+mod ScalarLemmas
 mod ShapeLemmas
 mod TooDeep

@@ -17,7 +17,7 @@ use Rattle.fancy_syntax.specs.Tree.{Tree, Trees, no_trees, more_trees, empty, an
 use Rattle.readback.specs.Normal.{bare, class_of, whole_leaf, whole_of, normal, items, normals}
 use Rattle.readback.specs.Printable.{printable, all_printable}
 use Rattle.readback.proofs.ShapeLemmas.{Printable, ArePrintable}
-use Rattle.readback.proofs.DelegateLemmas.{delegate_text}
+use Rattle.readback.proofs.DelegateTexts.{delegate_text}
 
 no_truth : {X : Type 0} → false ≡ true → X
 no_truth h = absurd cc
@@ -26,7 +26,7 @@ is_false : (b : Bool) → not b ≡ true → b ≡ false
 is_false true h = no_truth h
 is_false false h = refl
 
-count_below : (n : ℕ) → is_count n ≡ true → n < 2 ^ 64
+pub count_below : (n : ℕ) → is_count n ≡ true → n < 2 ^ 64
 count_below n h = grind (arith, nat_tests)
 
 -- ---- a normal form is Empty, or a quantifier may stand behind it
