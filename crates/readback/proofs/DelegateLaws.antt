@@ -17,7 +17,6 @@ use Rattle.fancy_lex.specs.Text.{Text, bytes, place_of}
 use Rattle.fancy_lex.proofs.ClassLaws.{class_complete, class_reads}
 use Rattle.fancy_syntax.specs.Ahead.{leaf_node, leaf_outcome}
 use Rattle.fancy_syntax.specs.Tree.{delegate}
-use Rattle.readback.specs.Law.{DelegatesStay}
 use Rattle.readback.specs.Normal.{bare, under, class_of, whole_leaf, normal}
 use Rattle.readback.specs.Printable.{printable}
 use Rattle.readback.proofs.ScalarLemmas.{scalars_append}
@@ -220,7 +219,7 @@ escape_stays u i t h =
 no_class : {X : Type 0} (s : Text) → is_some (class_of (bare false) s) ≡ false → IsWhole s → X
 no_class s e h = no_truth (sym e ∙ (and_parts (all_scalars s) _ h).1)
 
-pub delegates_stay : DelegatesStay
+pub delegates_stay : (u i : Bool) (s : Text) → IsWhole s → printable (normal u (delegate s i)) ≡ true
 delegates_stay u i [] h = no_class [] nothing_whole h
 delegates_stay u i (c ∷ t) h = by_bracket (cases_eq c 91)
   where

@@ -1,7 +1,7 @@
 -- Normal forms are printable, and where they hold no Delegate normal.
-use Rattle.std.proofs.Common.{◌≡◌, ℕ, Bool, true, false, not, ◌&&◌, if◌then◌else◌, List, [], ◌∷◌, ◌++◌, map, is_none, refl, sym, ap, ap₂, ◌∙◌}
+use Rattle.std.proofs.Common.{◌≡◌, ℕ, Bool, true, false, true≢false, not, ◌&&◌, if◌then◌else◌, List, [], ◌∷◌, ◌++◌, map, is_none, refl, sym, ap, ap₂, ◌∙◌}
 use Rattle.std.specs.Cmp.{first_so, second_so}
-use Rattle.std.proofs.lemmas.Bool.{and_from}
+use Rattle.std.proofs.lemmas.Bool.{and_from, or_parts}
 use Rattle.std.specs.Str.{all_scalars}
 use Rattle.fancy_lex.specs.Text.{Text}
 use Rattle.fancy_lex.specs.declared.escape.Assertion.TheVariants.{StartLineOniguruma, EndTextIgnoreTrailingNewlines}
@@ -10,9 +10,10 @@ use Rattle.fancy_syntax.specs.Join.{is_empty, solid, one_or, join, choice}
 use Rattle.fancy_syntax.specs.Normal.{character, items_of}
 use Rattle.fancy_syntax.specs.Printable.{is_count, is_long}
 use Rattle.fancy_syntax.specs.Tree.{Tree, Trees, no_trees, more_trees, empty, any, assertion, literal, concat, alt, group, repeat, delegate, define_group, trees_of}
-use Rattle.readback.specs.Law.{DelegatesStay, HasNoDelegate, HaveNoDelegate}
+use Rattle.readback.specs.HasDelegate.{has_delegate, any_has_delegate}
 use Rattle.readback.specs.Normal.{normal, items, normals}
 use Rattle.readback.specs.Printable.{printable, all_printable}
+use Rattle.readback.proofs.DelegateLaws.{delegates_stay}
 use Rattle.readback.proofs.RuleLemmas.{solid_append, solid_solid}
 use Rattle.readback.proofs.PrintableLaws.{blank, blanks, normal_empty, IsDelegate, delegate_class}
 
@@ -89,11 +90,11 @@ any_fixed u true b = record { same = refl; single = refl }
 any_fixed u false b = record { same = refl; single = refl }
 
 mutual
-  fixed : (u : Bool) (t : Tree) → HasNoDelegate t → Fixed u (normal u t)
+  fixed : (u : Bool) (t : Tree) → has_delegate t ≡ false → Fixed u (normal u t)
   fixed u (any a b) h = any_fixed u a b
   fixed u (assertion (StartLineOniguruma crlf)) h = record { same = refl; single = refl }
   fixed u (literal s i) h = join_fixed u (map (character i) s) (characters_fixed u i s)
-  fixed u (delegate s i) h = absurd h
+  fixed u (delegate s i) h = absurd (true≢false h)
   fixed u (concat ts) h = join_fixed u (items u ts) (all_items u ts h)
   fixed u (alt ts) h = choice_fixed u (normals u ts) (all_normals u ts h)
   fixed u (group t) h = let r = fixed u t h in record { same = ap group r.same; single = refl }
@@ -101,15 +102,18 @@ mutual
   fixed u (define_group t) h = empty_fixed u
   fixed u _ h = record { same = refl; single = refl }
 
-  all_items : (u : Bool) (ts : Trees) → HaveNoDelegate ts → AllFixed u (items u ts)
+  all_items : (u : Bool) (ts : Trees) → any_has_delegate ts ≡ false → AllFixed u (items u ts)
   all_items u no_trees h = tt
-  all_items u (more_trees t ts) h = append_fixed u (items_of t (normal u t)) (items u ts) (parts_fixed u t (normal u t) (fixed u t h.0)) (all_items u ts h.1)
+  all_items u (more_trees t ts) h =
+      let (a, b) = or_parts (has_delegate t) (any_has_delegate ts) h in
+      append_fixed u (items_of t (normal u t)) (items u ts) (parts_fixed u t (normal u t) (fixed u t a)) (all_items u ts b)
 
-  all_normals : (u : Bool) (ts : Trees) → HaveNoDelegate ts → AllFixed u (normals u ts)
+  all_normals : (u : Bool) (ts : Trees) → any_has_delegate ts ≡ false → AllFixed u (normals u ts)
   all_normals u no_trees h = tt
-  all_normals u (more_trees t ts) h = (fixed u t h.0, all_normals u ts h.1)
+  all_normals u (more_trees t ts) h =
+      let (a, b) = or_parts (has_delegate t) (any_has_delegate ts) h in (fixed u t a, all_normals u ts b)
 
-pub normal_normal : (t : Tree) (u : Bool) → HasNoDelegate t → normal u (normal u t) ≡ normal u t
+pub normal_normal : (t : Tree) (u : Bool) → has_delegate t ≡ false → normal u (normal u t) ≡ normal u t
 normal_normal t u h = (fixed u t h).same
 
 -- ---- a normal form is printable
@@ -202,30 +206,30 @@ repeat_kept u t lo hi greedy h r =
     record { is = and_from (printable (normal u t)) _ r.is (and_from (not (is_empty (normal false (normal u t))) && not (is_long (normal u t))) (is_count lo && is_count hi) takes counts); short = refl; stays = refl }
 
 mutual
-  kept : DelegatesStay → (u : Bool) (t : Tree) → printable t ≡ true → Kept (normal u t)
-  kept k u empty h = empty_kept
-  kept k u (any a b) h = record { is = refl; short = refl; stays = refl }
-  kept k u (assertion (EndTextIgnoreTrailingNewlines crlf)) h = no_truth h
-  kept k u (assertion (StartLineOniguruma crlf)) h = record { is = refl; short = refl; stays = refl }
-  kept k u (assertion a) h = record { is = refl; short = refl; stays = refl }
-  kept k u (literal s i) h = join_kept (map (character i) s) (characters_kept i s h)
-  kept k u (delegate s i) h = delegate_kept _ (delegate_class _ s (delegate s i) tt) (k u i s h)
-  kept k u (concat ts) h = join_kept (items u ts) (kept_items k u ts h)
-  kept k u (alt ts) h = choice_kept (normals u ts) (kept_normals k u ts h)
-  kept k u (group t) h = let r = kept k u t h in record { is = r.is; short = refl; stays = refl }
-  kept k u (repeat t lo hi greedy) h = repeat_kept u t lo hi greedy h (kept k u t (first_so (printable t) _ h))
-  kept k u (define_group t) h = empty_kept
-  kept k u _ h = no_truth h
+  kept : (u : Bool) (t : Tree) → printable t ≡ true → Kept (normal u t)
+  kept u empty h = empty_kept
+  kept u (any a b) h = record { is = refl; short = refl; stays = refl }
+  kept u (assertion (EndTextIgnoreTrailingNewlines crlf)) h = no_truth h
+  kept u (assertion (StartLineOniguruma crlf)) h = record { is = refl; short = refl; stays = refl }
+  kept u (assertion a) h = record { is = refl; short = refl; stays = refl }
+  kept u (literal s i) h = join_kept (map (character i) s) (characters_kept i s h)
+  kept u (delegate s i) h = delegate_kept _ (delegate_class _ s (delegate s i) tt) (delegates_stay u i s h)
+  kept u (concat ts) h = join_kept (items u ts) (kept_items u ts h)
+  kept u (alt ts) h = choice_kept (normals u ts) (kept_normals u ts h)
+  kept u (group t) h = let r = kept u t h in record { is = r.is; short = refl; stays = refl }
+  kept u (repeat t lo hi greedy) h = repeat_kept u t lo hi greedy h (kept u t (first_so (printable t) _ h))
+  kept u (define_group t) h = empty_kept
+  kept u _ h = no_truth h
 
-  kept_items : DelegatesStay → (u : Bool) (ts : Trees) → all_printable ts ≡ true → AllKept (items u ts)
-  kept_items k u no_trees h = tt
-  kept_items k u (more_trees t ts) h =
+  kept_items : (u : Bool) (ts : Trees) → all_printable ts ≡ true → AllKept (items u ts)
+  kept_items u no_trees h = tt
+  kept_items u (more_trees t ts) h =
       let p = first_so (printable t) _ h in
-      append_kept (items_of t (normal u t)) (items u ts) (parts_kept t (normal u t) p (kept k u t p)) (kept_items k u ts (second_so (printable t) _ h))
+      append_kept (items_of t (normal u t)) (items u ts) (parts_kept t (normal u t) p (kept u t p)) (kept_items u ts (second_so (printable t) _ h))
 
-  kept_normals : DelegatesStay → (u : Bool) (ts : Trees) → all_printable ts ≡ true → AllKept (normals u ts)
-  kept_normals k u no_trees h = tt
-  kept_normals k u (more_trees t ts) h = (kept k u t (first_so (printable t) _ h), kept_normals k u ts (second_so (printable t) _ h))
+  kept_normals : (u : Bool) (ts : Trees) → all_printable ts ≡ true → AllKept (normals u ts)
+  kept_normals u no_trees h = tt
+  kept_normals u (more_trees t ts) h = (kept u t (first_so (printable t) _ h), kept_normals u ts (second_so (printable t) _ h))
 
-pub normal_printable : DelegatesStay → (t : Tree) (u : Bool) → printable t ≡ true → printable (normal u t) ≡ true
-normal_printable k t u h = (kept k u t h).is
+pub normal_printable : (t : Tree) (u : Bool) → printable t ≡ true → printable (normal u t) ≡ true
+normal_printable t u h = (kept u t h).is

@@ -1,6 +1,6 @@
 -- The text of a printable tree has one answer.
 use Rattle.std.proofs.Common.{◌≡◌, ℕ, ◌<◌, ◌≤◌, Bool, true, false, if◌then◌else◌, nat_lt, nat_le, List, [], ◌∷◌, length, filter, filter_map, map, Option, Some, None, refl, sym, ap, ap₂, ◌∙◌, subst}
-use Rattle.std.specs.Prelude.{find, fold}
+use Rattle.std.specs.Prelude.{find, fold, chars, encode_utf8_all}
 use Rattle.std.specs.BTreeSet.{insert_key}
 use Rattle.std.specs.List.{list_any}
 use Rattle.std.proofs.lemmas.Bool.{cond_both, cond-true}
@@ -24,13 +24,13 @@ use Rattle.fancy_syntax.specs.Resolved.{fault_of}
 use Rattle.fancy_syntax.specs.Tree.{Tree, empty}
 use Rattle.fancy_syntax.proofs.AnsweredLaws.{groups_total}
 use Rattle.fancy_syntax.proofs.Verdict.{only_tree, no_fault, only_reading}
-use Rattle.readback.specs.Law.{SameTexts}
 use Rattle.readback.specs.Nest.{nest}
 use Rattle.readback.specs.Normal.{bare, normal}
 use Rattle.readback.specs.Over.{over}
 use Rattle.readback.specs.Printable.{printable}
-use Rattle.readback.specs.ReadBack.{marks_of_groups, Answer, read, refused, IsAnswerOf, IsOnlyAnswer, read_back, ReadsBack}
+use Rattle.readback.specs.ReadBack.{marks_of_groups, Answer, read, refused, IsAnswerOf, IsOnlyAnswer, read_back, IsReadBack}
 use Rattle.readback.proofs.PrintableLaws.{told}
+use Rattle.readback.proofs.PrintedScalars.{printed_spelled}
 use Rattle.readback.proofs.ReadBack.{reads_back}
 use Rattle.readback.proofs.RuleLemmas.{OnlyGroups, Becomes}
 use Rattle.readback.proofs.TooDeep.{too_deep}
@@ -93,12 +93,16 @@ only_refused f text p a = record { is = of_reading a; only = λ b h. other b h }
     other (refused k q) h =
         let (e, d) = (only_reading (ParseError p RecursionExceeded) f text a).1 k q h in ap₂ refused e d
 
-pub read_back_only : (t : Tree) (p : ℕ) → ReadsBack t p
+pub read_back_only : (t : Tree) (p : ℕ) → printable t ≡ true → IsReadBack t p (printed t p)
 read_back_only t p h u =
     cond_both (nat_lt (nest t p) max_depth) _ _ (IsOnlyAnswer (bare u) (printed t p))
     (λ yes. let (r, d, b) = reads_back t p u (told t h) (ltb-true (nest t p) max_depth yes) in
     only_read (bare u) (printed t p) (normal u t) _ (tree_of u (printed t p) r (normal u t) d b))
     (λ no. only_refused (bare u) (printed t p) (over t p) (too_deep t p u (told t h) (ltb-false (nest t p) max_depth no)))
+
+-- the same of the bytes
+pub bytes_read_back : (t : Tree) (p : ℕ) → printable t ≡ true → IsReadBack t p (chars (encode_utf8_all (printed t p)))
+bytes_read_back t p h = subst (IsReadBack t p) (sym (printed_spelled t p h)) (read_back_only t p h)
 
 -- ---- equal texts
 
@@ -116,7 +120,9 @@ read_where : (t : Tree) (p : ℕ) (u : Bool) → nest t p < 64 →
     read_back u t p ≡ read (normal u t) (marks_of_groups (length (groups (normal u t))))
 read_where t p u l = cond-true _ _ _ (lt-ltb (nest t p) max_depth l)
 
-pub same_texts : SameTexts
+-- what was printed as the same text has the same normal form
+pub same_texts : (t s : Tree) (p q : ℕ) (u : Bool) → printable t ≡ true → printable s ≡ true → nest t p < 64 →
+    printed t p ≡ printed s q → normal u t ≡ normal u s
 same_texts t s p q u h k l e =
     let here = read_back_only t p h u in
     let there = read_back_only s q k u in

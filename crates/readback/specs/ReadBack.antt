@@ -1,5 +1,5 @@
 -- What the text that is printed for a tree comes to where it is read again.
-use Rattle.std.specs.Prelude.{◌≡◌, ℕ, Bool, true, false, nat_lt, if◌then◌else◌, [], length, None}
+use Rattle.std.specs.Prelude.{◌≡◌, ℕ, Bool, false, nat_lt, if◌then◌else◌, [], length, None}
 use Rattle.fancy_lex.specs.Fault.{Kind, recursion_exceeded}
 use Rattle.fancy_lex.specs.Text.{Text}
 use Rattle.fancy_lex.specs.declared.flags.Flags.{Flags}
@@ -7,12 +7,10 @@ use Rattle.fancy_syntax.specs.Ahead.{max_depth}
 use Rattle.fancy_syntax.specs.Answer.{IsTreeOf, IsFaultOf}
 use Rattle.fancy_syntax.specs.Answered.{groups}
 use Rattle.fancy_syntax.specs.Marks.{Marks}
-use Rattle.fancy_syntax.specs.Printed.{printed}
 use Rattle.fancy_syntax.specs.Tree.{Tree}
 use Rattle.readback.specs.Nest.{nest}
 use Rattle.readback.specs.Normal.{bare, normal}
 use Rattle.readback.specs.Over.{over}
-use Rattle.readback.specs.Printable.{printable}
 
 -- the marks of a tree with so many groups, none of which has a name, and with no reference
 abbrev pub marks_of_groups : ℕ → Marks
@@ -48,6 +46,6 @@ read_back u t p =
     if nat_lt (nest t p) max_depth then read (normal u t) (marks_of_groups (length (groups (normal u t))))
     else refused recursion_exceeded (over t p)
 
--- the text of a printable tree, at any precedence, is read back, with no flag and with UNICODE alone
-abbrev pub ReadsBack : Tree → ℕ → Type 0
-ReadsBack t p = printable t ≡ true → (u : Bool) → IsOnlyAnswer (bare u) (printed t p) (read_back u t p)
+-- the text has that answer and no other, with no flag and with UNICODE alone
+abbrev pub IsReadBack : Tree → ℕ → Text → Type 0
+IsReadBack t p text = (u : Bool) → IsOnlyAnswer (bare u) text (read_back u t p)

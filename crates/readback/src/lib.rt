@@ -1,13 +1,14 @@
 //! Reading back what was printed.
 #![tactic(auto)]
 
-ghost use Rattle.readback.specs.Law.{FlagsAre, NormalIsNormal, NormalIsPrintable, ReadsBack, SameTexts};
+ghost use Rattle.readback.specs.Law.{BytesReadBack, FlagsAre, NormalIsNormal, NormalIsPrintable, ReadsBack, SameTexts};
 
 /// What is printed for a printable tree, at any precedence, has one answer where it is read again, with no flag and
 /// with UNICODE alone: the tree's normal form, or, where 64 printed groups nest or more, the place of the first that is
 /// too deep. So equal texts were printed for equal normal forms.
 pub fn reads_back()
     ensures reads { ReadsBack }
+    ensures bytes { BytesReadBack }
     ensures texts { SameTexts }
     ensures flags { FlagsAre }
 {}
