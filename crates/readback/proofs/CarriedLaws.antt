@@ -19,9 +19,10 @@ use Rattle.fancy_lex.specs.Reading.{Reading, gives, fails, fault_at, choose, lay
 use Rattle.fancy_lex.specs.Referred.{Reference}
 use Rattle.fancy_lex.specs.Text.{Text, bytes, place_of, strip}
 use Rattle.fancy_lex.specs.declared.flags.Flags.{Flags}
-use Rattle.fancy_lex.proofs.EscapeFrame.{escape_frame}
+use Rattle.fancy_lex.proofs.EscapeFrame.{StaysSome, read_stays, escape_frame}
 use Rattle.fancy_lex.proofs.TextLemmas.{bytes-append}
 use Rattle.readback.specs.Normal.{under, bare}
+use Rattle.readback.proofs.ClearLemmas.{no_truth}
 
 -- ---- the same text under other flags
 
@@ -58,9 +59,6 @@ property_too u i inside p c (d ∷ t) = by_property (read_property (c ∈ "P") (
 byte_scalar : (v : ℕ) (a : Bool) → (a && nat_le v 0xFF) ≡ true → is_scalar v ≡ true
 byte_scalar v false h = absurd cc
 byte_scalar v true h = grind (arith, nat_tests)
-
-no_truth : {X : Type 0} → false ≡ true → X
-no_truth h = absurd cc
 
 both_too : (b s : Bool) (x y z : Escape) (t : Text) (e : Fault) → (b ≡ true → s ≡ true) → Too (if b then gives x t else if s then gives y t else fails e) (if s then gives z t else fails e)
 both_too true true x y z t e h = (z, refl)
@@ -319,30 +317,6 @@ outside_none u i n p c t =
     (none_if (c ∈ "B") _ _ (boundary_none n false p true t) tt)))))))))))))
 
 -- properties
-
-abbrev StaysSome : {A : Type 0} → Option (A × Text) → (Text → Option (A × Text)) → Type 0
-StaysSome (Some p) there = (s : Text) → there s ≡ Some (p.0, p.1 ++ s)
-StaysSome None there = Unit {0}
-
-some_map : {A B : Type 0} (g : A → B) (o : Option (A × Text)) (there : Text → Option (A × Text)) → StaysSome o there → StaysSome (option_map {T = A × Text} {U = B × Text} (λ p. (g p.0, p.1)) o) (λ s. option_map {T = A × Text} {U = B × Text} (λ p. (g p.0, p.1)) (there s))
-some_map {A} {B} g (Some p) there same = λ s. ap (λ o. option_map {T = A × Text} {U = B × Text} (λ p. (g p.0, p.1)) o) (same s)
-some_map g None there h = tt
-
-some_if : {A : Type 0} (b : Bool) (p q : Option (A × Text)) (p' q' : Text → Option (A × Text)) → StaysSome p p' → StaysSome q q' → StaysSome (if b then p else q) (λ s. if b then p' s else q' s)
-some_if true p q p' q' h k = h
-some_if false p q p' q' h k = k
-
-cut_stays : (mark : ℕ) (t : Text) → StaysSome (cut_at mark t) (λ s. cut_at mark (t ++ s))
-cut_stays mark [] = tt
-cut_stays mark (c ∷ t) = some_if (c == mark) _ _ _ _ (λ s. refl) (some_map (λ w. c ∷ w) _ _ (cut_stays mark t))
-
-name_stays : (c : ℕ) (t : Text) → StaysSome (name_at (c ∷ t)) (λ s. name_at (c ∷ (t ++ s)))
-unfolding name_at
-name_stays c t = some_if (c == open_brace) _ _ _ _ (some_map property_spec.braced _ _ (cut_stays close_brace t)) (λ s. refl)
-
-read_stays : (b : Bool) (c : ℕ) (t : Text) → StaysSome (read_property b (c ∷ t)) (λ s. read_property b (c ∷ (t ++ s)))
-unfolding read_property
-read_stays b c t = some_map (λ (w : PropertyName). let p : Property = record { negated = b; name = w } in p) _ _ (name_stays c t)
 
 module _ (u i : Bool) where
   property_keeps : (p c : ℕ) (t : Text) → Keeps (property (bare false) false p c t) (λ m q s. property (under u i false false false) false q c (t ++ s))

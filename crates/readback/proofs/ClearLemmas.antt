@@ -2,6 +2,7 @@
 use Rattle.std.proofs.Common.{◌≡◌, ℕ, Bool, true, false, ◌==◌, ⊎_elim, List, [], ◌∷◌, Some, None, unwrap_or, refl, sym, ap, subst, eqb-true}
 use Rattle.std.specs.List.{list_any}
 use Rattle.std.proofs.lemmas.Bool.{or_parts, or_cases, cond_both, both_ways}
+use Rattle.std.proofs.lemmas.Option.{same_Some}
 use Rattle.fancy_lex.specs.Characters.{◌∈◌, bar}
 use Rattle.fancy_lex.specs.Escape.{escape}
 use Rattle.fancy_lex.specs.Escaped as escaped
@@ -13,6 +14,9 @@ use Rattle.fancy_lex.proofs.LayoutLemmas.{between_plain}
 use Rattle.fancy_parts.specs.Quantifier.{counts}
 use Rattle.fancy_parts.specs.Quote.{behind_backslash, marks, needs_backslash}
 use Rattle.fancy_syntax.specs.Ahead.{ends}
+
+pub no_truth : {X : Type 0} → false ≡ true → X
+no_truth h = absurd cc
 
 -- a quantifier's mark or brace stands in front
 abbrev pub begins_mark : Text → Bool
@@ -141,9 +145,6 @@ escapes_r : Escapes 114 13
 unfolding escape
 escapes_r n f p t = refl
 
-some_same : (a b : ℕ) → Some a ≡ Some b → a ≡ b
-some_same a b e = ap (λ o. unwrap_or o 0) e
-
 pub behind_some : (c x : ℕ) → behind_backslash c ≡ Some x → Escapes x c
 behind_some c x =
     cond_both (c == 10) _ _ (λ y. y ≡ Some x → Escapes x c)
@@ -153,8 +154,8 @@ behind_some c x =
     (λ _. cond_both (c == 13) _ _ (λ y. y ≡ Some x → Escapes x c)
     (λ t e. from 114 13 e t escapes_r)
     (λ _. cond_both (needs_backslash c) _ _ (λ y. y ≡ Some x → Escapes x c)
-    (λ t e. subst (λ y. Escapes y c) (some_same c x e) (each_at (λ m. Escapes m m) marks c escapes_marks t))
+    (λ t e. subst (λ y. Escapes y c) (same_Some c x e) (each_at (λ m. Escapes m m) marks c escapes_marks t))
     (λ _ e. absurd cc))))
   where
     from : (y d : ℕ) → Some y ≡ Some x → (c == d) ≡ true → Escapes y d → Escapes x c
-    from y d e t h = subst (λ z. Escapes z c) (some_same y x e) (subst (Escapes y) (sym (eqb-true c d t)) h)
+    from y d e t h = subst (λ z. Escapes z c) (same_Some y x e) (subst (Escapes y) (sym (eqb-true c d t)) h)

@@ -26,9 +26,7 @@ use Rattle.readback.proofs.DelegateTexts.{bracket_read, bracket_normal, escape_r
 use Rattle.readback.proofs.ChunkLemmas.{name_of, name_scalars, bracket_goes, caret_goes, IsName, NameOk, NameSome, name_ok, prop, single_small, single_large, braced_small, braced_large, hex_word, space_other, unprinted, alpha_digit, blank_chunk, controls, word_class, word_chunk, letter_chunk, lowercase_ok, turn_ok}
 use Rattle.readback.proofs.RewrittenLaws.{ClassAgain, class_again}
 use Rattle.readback.proofs.RuleLemmas.{st}
-
-no_truth : {X : Type 0} → false ≡ true → X
-no_truth h = absurd cc
+use Rattle.readback.proofs.ClearLemmas.{no_truth}
 
 -- the text is one whole class or class escape
 abbrev IsWhole : Text → Type 0

@@ -14,11 +14,9 @@ use Rattle.readback.specs.Normal.{under, bare, whole_of, whole_leaf, class_of, n
 use Rattle.readback.proofs.CarriedLaws.{class_carries, escape_carries}
 use Rattle.readback.proofs.RuleLemmas.{st, AtomAs, reads_leaf, leaf_at}
 use Rattle.readback.proofs.ShapeLemmas.{DelegateText}
+use Rattle.readback.proofs.ClearLemmas.{no_truth}
 
-no_truth : {X : Type 0} → false ≡ true → X
-no_truth h = absurd cc
-
-abbrev IsDelegate : Tree → Type 0
+abbrev pub IsDelegate : Tree → Type 0
 IsDelegate (delegate w i) = Unit {0}
 IsDelegate _ = ⊥
 

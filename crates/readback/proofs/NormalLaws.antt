@@ -1,7 +1,7 @@
 -- Normal forms are printable, and where they hold no Delegate normal.
 use Rattle.std.proofs.Common.{◌≡◌, ℕ, Bool, true, false, true≢false, not, ◌&&◌, if◌then◌else◌, List, [], ◌∷◌, ◌++◌, map, is_none, refl, sym, ap, ap₂, ◌∙◌}
 use Rattle.std.specs.Cmp.{first_so, second_so}
-use Rattle.std.proofs.lemmas.Bool.{and_from, or_parts}
+use Rattle.std.proofs.lemmas.Bool.{not_from_false, and_from, or_parts}
 use Rattle.std.specs.Str.{all_scalars}
 use Rattle.fancy_lex.specs.Text.{Text}
 use Rattle.fancy_lex.specs.declared.escape.Assertion.TheVariants.{StartLineOniguruma, EndTextIgnoreTrailingNewlines}
@@ -15,10 +15,9 @@ use Rattle.readback.specs.Normal.{normal, items, normals}
 use Rattle.readback.specs.Printable.{printable, all_printable}
 use Rattle.readback.proofs.DelegateLaws.{delegates_stay}
 use Rattle.readback.proofs.RuleLemmas.{solid_append, solid_solid}
-use Rattle.readback.proofs.PrintableLaws.{blank, blanks, normal_empty, IsDelegate, delegate_class}
-
-no_truth : {X : Type 0} → false ≡ true → X
-no_truth h = absurd cc
+use Rattle.readback.proofs.PrintableLaws.{blank, blanks, normal_empty, delegate_class}
+use Rattle.readback.proofs.ClearLemmas.{no_truth}
+use Rattle.readback.proofs.DelegateTexts.{IsDelegate}
 
 -- ---- a normal form is its own
 
@@ -192,9 +191,6 @@ delegate_kept : (t : Tree) → IsDelegate t → printable t ≡ true → Kept t
 delegate_kept (delegate w i) d h = record { is = h; short = refl; stays = refl }
 delegate_kept _ d h = absurd d
 
-not_true : (b : Bool) → b ≡ false → not b ≡ true
-not_true b e = rw e refl
-
 repeat_kept : (u : Bool) (t : Tree) (lo hi : ℕ) (greedy : Bool) → printable (repeat t lo hi greedy) ≡ true → Kept (normal u t) → Kept (repeat (normal u t) lo hi greedy)
 repeat_kept u t lo hi greedy h r =
     let k = second_so (printable t) _ h in
@@ -202,7 +198,7 @@ repeat_kept u t lo hi greedy h r =
     let counts = second_so (not (is_empty (normal false t)) && not (is_long t)) _ k in
     let full = first_so _ (not (is_long t)) quantifier in
     let again : is_empty (normal false (normal u t)) ≡ is_empty (normal false t) = normal_empty false (normal u t) ∙ r.stays ∙ normal_empty u t ∙ sym (normal_empty false t) in
-    let takes = and_from (not (is_empty (normal false (normal u t)))) (not (is_long (normal u t))) (ap not again ∙ full) (not_true (is_long (normal u t)) r.short) in
+    let takes = and_from (not (is_empty (normal false (normal u t)))) (not (is_long (normal u t))) (ap not again ∙ full) (not_from_false (is_long (normal u t)) r.short) in
     record { is = and_from (printable (normal u t)) _ r.is (and_from (not (is_empty (normal false (normal u t))) && not (is_long (normal u t))) (is_count lo && is_count hi) takes counts); short = refl; stays = refl }
 
 mutual

@@ -5,6 +5,7 @@ use Rattle.std.specs.List.{list_all}
 use Rattle.std.specs.Str.{all_scalars}
 use Rattle.std.proofs.lemmas.Bool.Decides.{nat_tests}
 use Rattle.std.proofs.lemmas.List.Folds.{list_all-append}
+use Rattle.std.proofs.lemmas.Bool.{not-true}
 use Rattle.fancy_lex.specs.Text.{Text}
 use Rattle.fancy_lex.specs.declared.escape.Assertion.TheVariants.{EndTextIgnoreTrailingNewlines, StartLineOniguruma}
 use Rattle.fancy_lex.specs.declared.flags.Flags.{Flags}
@@ -17,14 +18,8 @@ use Rattle.fancy_syntax.specs.Tree.{Tree, Trees, no_trees, more_trees, empty, an
 use Rattle.readback.specs.Normal.{bare, class_of, whole_leaf, whole_of, normal, items, normals}
 use Rattle.readback.specs.Printable.{printable, all_printable}
 use Rattle.readback.proofs.ShapeLemmas.{Printable, ArePrintable}
-use Rattle.readback.proofs.DelegateTexts.{delegate_text}
-
-no_truth : {X : Type 0} → false ≡ true → X
-no_truth h = absurd cc
-
-is_false : (b : Bool) → not b ≡ true → b ≡ false
-is_false true h = no_truth h
-is_false false h = refl
+use Rattle.readback.proofs.DelegateTexts.{IsDelegate, delegate_text}
+use Rattle.readback.proofs.ClearLemmas.{no_truth}
 
 pub count_below : (n : ℕ) → is_count n ≡ true → n < 2 ^ 64
 count_below n h = grind (arith, nat_tests)
@@ -65,9 +60,6 @@ good_characters i [] = tt
 good_characters i (c ∷ s) = (λ _. refl, good_characters i s)
 
 -- what a Delegate's text reads as is a Delegate
-abbrev pub IsDelegate : Tree → Type 0
-IsDelegate (delegate w i) = Unit {0}
-IsDelegate _ = ⊥
 
 delegate_whole : (s : Text) (t d : Tree) → IsDelegate d → IsDelegate (unwrap_or (whole_of s t) d)
 delegate_whole [] (delegate w i) d h = tt
@@ -202,7 +194,7 @@ mutual
       let k = second_so (printable t) _ h in
       let quantifier = first_so _ (is_count lo && is_count hi) k in
       let counts = second_so (not (is_empty (normal false t)) && not (is_long t)) _ k in
-      (child, takes t child (first_so _ (not (is_long t)) quantifier), is_false (is_long t) (second_so (not (is_empty (normal false t))) _ quantifier), count_below lo (first_so _ (is_count hi) counts), count_below hi (second_so (is_count lo) _ counts))
+      (child, takes t child (first_so _ (not (is_long t)) quantifier), not-true (is_long t) (second_so (not (is_empty (normal false t))) _ quantifier), count_below lo (first_so _ (is_count hi) counts), count_below hi (second_so (is_count lo) _ counts))
   told (define_group t) h = tt
   told _ h = no_truth h
 

@@ -32,7 +32,7 @@ ReadsBranch u k m x = (n d : ℕ) (v : Text) → d + m < 64 → Stops v → Bran
 abbrev pub ReadsWhole : Bool → (Text → Text) → ℕ → Tree → Type 0
 ReadsWhole u k m x = (n d : ℕ) (v : Text) → d + m < 64 → Ends v → WholeAs n d (bare u) (k v) v x
 
-abbrev Starts : (Text → Text) → Type 0
+abbrev pub Starts : (Text → Text) → Type 0
 Starts k = (v : Text) → Begins (k v)
 
 atom_run : (u : Bool) (k : Text → Text) (m : ℕ) (x : Tree) → Starts k → ReadsAtom u k m x → ReadsRun u k m (solid (x ∷ []))
@@ -46,13 +46,13 @@ to_whole : (u : Bool) (k : Text → Text) (m : ℕ) (x : Tree) → ReadsBranch u
 to_whole u k m x b n d v l e = reads_only n d (bare u) (k v) v x (b n d v l e.stops) e
 
 -- in a group of its own
-abbrev wrapped : (Text → Text) → Text → Text
+abbrev pub wrapped : (Text → Text) → Text → Text
 wrapped k v = open_if true (k (41 ∷ v))
 
 wrap_atom : (u : Bool) (k : Text → Text) (m : ℕ) (x : Tree) → ReadsWhole u k m x → ReadsAtom u (wrapped k) (1 + m) x
 wrap_atom u k m x w n d v l _ = reads_grouped n d (bare u) (k (41 ∷ v)) v x (kept u false false false false) (omega arith) (w n (d + 1) (41 ∷ v) (omega arith) (ends_close v))
 
-wrap_starts : (k : Text → Text) → Starts (wrapped k)
+pub wrap_starts : (k : Text → Text) → Starts (wrapped k)
 wrap_starts k v = begins_head 58 (k (41 ∷ v)) refl
 
 -- The statement of the induction: what the texts k3, k2, k1 and k0 of the four precedences, with m3 to m0 groups nested, read as:

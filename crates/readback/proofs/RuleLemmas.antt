@@ -2,6 +2,8 @@
 use Rattle.std.proofs.Common.{◌≡◌, ℕ, ◌+◌, ◌<◌, ◌≤◌, suc, Bool, true, false, not, ◌&&◌, ◌==◌, nat_le, nat_lt, List, [], ◌∷◌, ◌++◌, map, Option, Some, None, is_none, refl, sym, ap, ap₂, ◌∙◌, subst, arith, append_assoc, append-nil, le-leb, if◌then◌else◌}
 use Rattle.std.proofs.lemmas.Bool.{cond-true, cond-false, cond_both}
 use Rattle.std.proofs.lemmas.Bool.Decides.{nat_tests}
+use Rattle.std.proofs.Math.Bool.{and-true, and-false, not-not}
+use Rattle.std.proofs.lemmas.List.{map-append}
 use Rattle.fancy_lex.specs.Fault.{Kind, recursion_exceeded}
 use Rattle.fancy_lex.specs.Layout.{layout, after_comment_head, rest}
 use Rattle.fancy_lex.specs.Reading.{Reading, gives, choose, layout_reading}
@@ -159,10 +161,6 @@ module _ (g : List Opening) where
       ap₂ (λ (b : Bool) (m : List Tree). if b then m else there t ∷ m) (resolved_empty t h.0) (solid_resolved l h.1)
       ∙ resolved_cond (is_empty t) t (solid l)
 
-  map_append : (l m : List Tree) → map there (l ++ m) ≡ map there l ++ map there m
-  map_append [] m = refl
-  map_append (t ∷ l) m = ap (λ x. there t ∷ x) (map_append l m)
-
   resolved_join : (l : List Tree) → EachHasGroups l → there (join l) ≡ one_or concat (solid (map there l))
   resolved_join l h = resolved_concat (solid l) ∙ ap (one_or concat) (sym (solid_resolved l h))
 
@@ -212,7 +210,7 @@ pub run_chain : {n d : ℕ} {f : Flags} {s t v : Text} {xs ys : List Tree} → R
 run_chain {n} {d} {f} {s} p q = record {
   trees = p.trees ++ q.trees;
   pieces = λ o r. subst (Pieces n d (st f s)) (before_append p.trees q.trees o) (p.pieces (before q.trees o) (q.pieces o r));
-  are = λ g. ap solid (map_append g p.trees q.trees) ∙ solid_append (map (resolved_in false g) p.trees) (map (resolved_in false g) q.trees)
+  are = λ g. ap solid (map-append (resolved_in false g) p.trees q.trees) ∙ solid_append (map (resolved_in false g) p.trees) (map (resolved_in false g) q.trees)
       ∙ ap₂ (λ a b. a ++ b) (p.are g) (q.are g);
   groups = each_append p.trees q.trees p.groups q.groups;
 }
@@ -279,10 +277,6 @@ lazy_read n f c v true k h =
 lazy_read n f c v false k h =
     ap (suffix_at (st f (63 ∷ v)) c) (skip_here n f (63 ∷ v) k refl) ∙ no_possessive f c true (63 ∷ v) v h
 
-not_not : (b : Bool) → not (not b) ≡ b
-not_not true = refl
-not_not false = refl
-
 quant_some : (n left : ℕ) (f : Flags) (a : Tree) (q v : Text) (lo hi : ℕ) (greedy : Bool) → Kept f → Clear v →
     IsQuantifier lo hi greedy v q → is_repeatable f a ≡ true →
     quant n left a (st f q) ≡ done (repeat a lo hi greedy) (st f v)
@@ -294,7 +288,7 @@ quant_some n left f a q v lo hi greedy k c m r =
     ∙ ap (quantified.counted n left a (st f q)) m.counts
     ∙ cond-true _ _ _ r
     ∙ ap (seen_through (λ m. quantified.quantified f counted m a)) (lazy_read n f counted v greedy k c)
-    ∙ ap (λ x. done x (st f v)) (quantified_as f a counted (not greedy) greedy k (not_not greedy))
+    ∙ ap (λ x. done x (st f v)) (quantified_as f a counted (not greedy) greedy k (not-not greedy))
 
 -- an atom under a quantifier
 pub reads_repeat : (n d : ℕ) (f : Flags) (s q v : Text) (x : Tree) (lo hi : ℕ) (greedy : Bool) → Kept f →
@@ -484,14 +478,6 @@ pub leaf_at : (n d : ℕ) (f : Flags) (c : ℕ) (t : Text) → (c == 40) ≡ fal
 unfolding ahead
 leaf_at n d f c t a b = cond-false _ _ _ a ∙ cond-false _ _ _ b
 
-and_true : (b : Bool) → (b && true) ≡ b
-and_true true = refl
-and_true false = refl
-
-and_false : (b : Bool) → (b && false) ≡ false
-and_false true = refl
-and_false false = refl
-
 plain_leaf : (n d : ℕ) (f : Flags) (c : ℕ) (v : Text) → behind_backslash c ≡ None →
     ahead n d (st f (c ∷ v)) ≡ leaf (done (literal (c ∷ []) f.casei) (st f v))
 plain_leaf n d f c v e =
@@ -511,13 +497,13 @@ pub reads_char : (n d : ℕ) (f : Flags) (c : ℕ) (v : Text) (o : Option ℕ) �
     AtomAs n d f (put_as c o v) v (literal (c ∷ []) (f.casei && is_none o))
 reads_char n d f c v None e =
     reads_leaf n d f (c ∷ v) v (literal (c ∷ []) (f.casei && true))
-    (plain_leaf n d f c v e ∙ ap (λ b. leaf (done (literal (c ∷ []) b) (st f v))) (sym (and_true f.casei)))
+    (plain_leaf n d f c v e ∙ ap (λ b. leaf (done (literal (c ∷ []) b) (st f v))) (sym (and-true f.casei)))
     (record { is = λ g. refl; groups = tt })
 reads_char n d f c v (Some x) e =
     reads_leaf n d f (92 ∷ x ∷ v) v (literal (c ∷ []) (f.casei && false))
     (leaf_at n d f 92 (x ∷ v) refl refl
     ∙ ap (λ r. leaf (leaf_outcome leaf_node (st f (92 ∷ x ∷ v)) r)) (behind_some c x e n f (place_of n (92 ∷ x ∷ v)) v)
-    ∙ ap (λ b. leaf (done (literal (c ∷ []) b) (st f v))) (sym (and_false f.casei)))
+    ∙ ap (λ b. leaf (done (literal (c ∷ []) b) (st f v))) (sym (and-false f.casei)))
     (record { is = λ g. refl; groups = tt })
 
 -- ---- faults

@@ -7,7 +7,7 @@ use Rattle.fancy_syntax.specs.Quantified.{is_repeatable}
 use Rattle.fancy_syntax.specs.Tree.{Tree, Trees, no_trees, more_trees, empty, any, assertion, literal, concat, alt, group, repeat, delegate, define_group}
 use Rattle.readback.specs.Normal.{under, bare, normal}
 use Rattle.readback.proofs.InFront.{put, puts, put_branches, put_barred, open_if, close_if}
-use Rattle.readback.proofs.ClearLemmas.{Clear, not_asking, clear_lazy, clear_close, stops_bar}
+use Rattle.readback.proofs.ClearLemmas.{no_truth, Clear, not_asking, clear_lazy, clear_close, stops_bar}
 use Rattle.readback.proofs.RuleLemmas.{AtomAs}
 use Rattle.readback.proofs.LeafLemmas.{Begins, begins_char, begins_any, begins_assertion, quotes_clear, HasText}
 
@@ -44,19 +44,16 @@ IsAtom empty = ⊥
 IsAtom (define_group t) = ⊥
 IsAtom _ = Unit {0}
 
-false_true : {X : Type 0} → false ≡ true → X
-false_true e = absurd cc
-
 long_two : (c d : ℕ) (cs : Text) → is_long (literal (c ∷ d ∷ cs) false) ≡ true
 long_two c d cs = lt-ltb 1 (length (c ∷ d ∷ cs)) (omega arith)
 
 pub atom_of : (t : Tree) → is_repeatable (bare false) (normal false t) ≡ true → is_long t ≡ false → IsAtom t
 atom_of (literal s true) n l = tt
-atom_of (literal [] false) n l = false_true n
+atom_of (literal [] false) n l = no_truth n
 atom_of (literal (c ∷ []) false) n l = tt
-atom_of (literal (c ∷ d ∷ cs) false) n l = false_true (sym l ∙ long_two c d cs)
-atom_of empty n l = false_true n
-atom_of (define_group t) n l = false_true n
+atom_of (literal (c ∷ d ∷ cs) false) n l = no_truth (sym l ∙ long_two c d cs)
+atom_of empty n l = no_truth n
+atom_of (define_group t) n l = no_truth n
 atom_of _ n l = tt
 
 -- a head that opens no comment

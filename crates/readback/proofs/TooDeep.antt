@@ -17,7 +17,7 @@ use Rattle.readback.specs.Over.{at_open, at_open_if, place, places, branch_place
 use Rattle.readback.proofs.InFront.{put, puts, put_branches, put_barred, put_any, put_assertion, put_line, put_quotes, open_if, close_if, put_alone, put_text}
 use Rattle.readback.proofs.ClearLemmas.{Clear, Ends, clear_close, stops_bar, ends_close, ends_nothing}
 use Rattle.readback.proofs.LeafLemmas.{Begins, begins_any, begins_assertion, HasText}
-use Rattle.readback.proofs.ReadBack.{EachReads, reads_each, text_high, nest_high}
+use Rattle.readback.proofs.ReadBack.{Starts, wrapped, wrap_starts, EachReads, reads_each, text_high, nest_high}
 use Rattle.readback.proofs.RuleLemmas.{st, kept, fails_deep, fails_group, fails_grouped, fails_piece, fails_first, fails_more, fails_whole, fails_text}
 use Rattle.readback.proofs.ShapeLemmas.{Printable, ArePrintable, atom_of, begins_head, begins_group, begins_atom, clear_put, clear_puts}
 
@@ -81,9 +81,6 @@ abbrev EachFails : Bool → Trees → Type 0
 EachFails u no_trees = Unit {0}
 EachFails u (more_trees t ts) = Fails u t × EachFails u ts
 
-abbrev Starts : (Text → Text) → Type 0
-Starts k = (v : Text) → Begins (k v)
-
 to_whole : (u : Bool) (k : Text → Text) (m : ℕ) (o : ℕ → Text → Text) → FailsRun u k m o → FailsWhole u k m o
 to_whole u k m o r n d v l h e = fails_whole n d (bare u) recursion_exceeded _ (k v) (fails_first n d (bare u) recursion_exceeded _ (k v) (r n d v l h e.stops.clear))
 
@@ -113,43 +110,37 @@ opened u n d t inner f l =
     (λ yes. let h = leb-true 63 d yes in fails_deep n d (bare u) t (omega arith))
     (λ no. let h = leb-false 63 d no in f (omega arith))
 
-abbrev wrapped_by : (Text → Text) → Text → Text
-wrapped_by k v = open_if true (k (41 ∷ v))
-
 abbrev wrapped_left : (Text → Text) → (ℕ → Text → Text) → ℕ → Text → Text
 wrapped_left k o d v = left_open d (open_if true (k (41 ∷ v))) (o (d + 1) (41 ∷ v))
 
-wrap_fails : (u : Bool) (k : Text → Text) (m : ℕ) (o : ℕ → Text → Text) → FailsWhole u k m o → FailsAtom u (wrapped_by k) (1 + m) (wrapped_left k o)
+wrap_fails : (u : Bool) (k : Text → Text) (m : ℕ) (o : ℕ → Text → Text) → FailsWhole u k m o → FailsAtom u (wrapped k) (1 + m) (wrapped_left k o)
 wrap_fails u k m o w n d v l h =
     let s = k (41 ∷ v) in
     opened u n d (63 ∷ 58 ∷ s) (o (d + 1) (41 ∷ v))
     (λ b. fails_grouped n d (bare u) recursion_exceeded _ s (kept u false false false false) b (w n (d + 1) (41 ∷ v) b (omega arith) (ends_close v))) l
 
-wrap_starts : (k : Text → Text) → Starts (wrapped_by k)
-wrap_starts k v = begins_head 58 (k (41 ∷ v)) refl
-
 -- wrapped from 1 on, from 2 on, from 3 on
 by_whole : (u : Bool) (k : Text → Text) (m : ℕ) (o : ℕ → Text → Text) → FailsWhole u k m o
-    → FailsBy u (wrapped_by k) (wrapped_by k) (wrapped_by k) k (1 + m) (1 + m) (1 + m) (0 + m) (wrapped_left k o) (wrapped_left k o) (wrapped_left k o) o
+    → FailsBy u (wrapped k) (wrapped k) (wrapped k) k (1 + m) (1 + m) (1 + m) (0 + m) (wrapped_left k o) (wrapped_left k o) (wrapped_left k o) o
 by_whole u k m o w =
     let a = wrap_fails u k m o w in
-    let r = atom_run u (wrapped_by k) (1 + m) (wrapped_left k o) (wrap_starts k) a in
+    let r = atom_run u (wrapped k) (1 + m) (wrapped_left k o) (wrap_starts k) a in
     record { atom = a; high = r; run = r; branch = r; whole = λ n d v l h e. w n d v l (omega arith) e }
 
 by_branch : (u : Bool) (k : Text → Text) (m : ℕ) (o : ℕ → Text → Text) → FailsRun u k m o
-    → FailsBy u (wrapped_by k) (wrapped_by k) k k (1 + m) (1 + m) (0 + m) (0 + m) (wrapped_left k o) (wrapped_left k o) o o
+    → FailsBy u (wrapped k) (wrapped k) k k (1 + m) (1 + m) (0 + m) (0 + m) (wrapped_left k o) (wrapped_left k o) o o
 by_branch u k m o b =
     let w = to_whole u k m o b in
     let a = wrap_fails u k m o w in
-    let r = atom_run u (wrapped_by k) (1 + m) (wrapped_left k o) (wrap_starts k) a in
+    let r = atom_run u (wrapped k) (1 + m) (wrapped_left k o) (wrap_starts k) a in
     record { atom = a; high = r; run = r; branch = λ n d v l h c. b n d v l (omega arith) c; whole = λ n d v l h e. w n d v l (omega arith) e }
 
 by_run : (u : Bool) (k : Text → Text) (m : ℕ) (o : ℕ → Text → Text) → FailsRun u k m o
-    → FailsBy u (wrapped_by k) k k k (1 + m) (0 + m) (0 + m) (0 + m) (wrapped_left k o) o o o
+    → FailsBy u (wrapped k) k k k (1 + m) (0 + m) (0 + m) (0 + m) (wrapped_left k o) o o o
 by_run u k m o b =
     let w = to_whole u k m o b in
     let a = wrap_fails u k m o w in
-    record { atom = a; high = atom_run u (wrapped_by k) (1 + m) (wrapped_left k o) (wrap_starts k) a; run = λ n d v l h c. b n d v l (omega arith) c; branch = λ n d v l h c. b n d v l (omega arith) c; whole = λ n d v l h e. w n d v l (omega arith) e }
+    record { atom = a; high = atom_run u (wrapped k) (1 + m) (wrapped_left k o) (wrap_starts k) a; run = λ n d v l h c. b n d v l (omega arith) c; branch = λ n d v l h c. b n d v l (omega arith) c; whole = λ n d v l h e. w n d v l (omega arith) e }
 
 any_fails : (u a b : Bool) → Fails u (any a b)
 any_fails u true b = by_one u (put_any true b) (λ v. (_, refl)) (begins_any true b)
