@@ -1,20 +1,18 @@
 -- A class, and an escape that stands for one, reads the same whatever follows it; and under other flags it reads to the same end.
-use Rattle.std.proofs.Common.{◌≡◌, ℕ, zero, suc, ◌+◌, ◌-◌, ◌^◌, ◌≤◌, Bool, true, false, not, ◌&&◌, ◌||◌, ◌==◌, nat_lt, nat_le, if◌then◌else◌, [], ◌∷◌, ◌++◌, codes, Option, Some, None, option_map, refl, sym, ap, ◌∙◌, subst, arith}
+use Rattle.std.proofs.Common.{◌≡◌, ℕ, zero, suc, ◌+◌, ◌-◌, ◌≤◌, Bool, true, false, not, ◌&&◌, ◌||◌, ◌==◌, nat_le, if◌then◌else◌, [], ◌∷◌, ◌++◌, codes, Option, Some, None, refl, sym, ap, ◌∙◌, subst, arith}
 use Rattle.std.proofs.lemmas.Bool.Decides.{nat_tests}
 use Rattle.fancy_lex.specs.Boundary.{boundary, named_boundary, name, boundary_of_name, at_count}
 use Rattle.std.specs.Char.{is_ascii_digit}
-use Rattle.fancy_lex.specs.Characters.{backslash, open_bracket, close_bracket, caret, open_brace, close_brace, ◌∈◌}
+use Rattle.fancy_lex.specs.Characters.{backslash, open_bracket, close_bracket, caret, open_brace, ◌∈◌}
 use Rattle.fancy_lex.specs.Class.{items, class, class_head, with_mark, item_text, is_negated}
 use Rattle.fancy_lex.specs.Escape.{escape, referring, numbered, call, property, outside, in_class, is_itself}
 use Rattle.fancy_lex.specs.EscapeReference as reference
 use Rattle.fancy_lex.specs.EscapeReference.{group_number}
 use Rattle.fancy_lex.specs.Escaped.{Escape, literal, literal_bytes, delegate, backref, subroutine_call}
-use Rattle.fancy_lex.specs.Fault.{Fault, invalid_class, invalid_backref, invalid_codepoint_value, unclosed_unicode_name}
+use Rattle.fancy_lex.specs.Fault.{Fault, invalid_class, invalid_codepoint_value, unclosed_unicode_name}
 use Rattle.fancy_lex.specs.Hex.{hex, value, leaf_of_value, is_scalar}
 use Rattle.fancy_lex.specs.Layout.{layout}
-use Rattle.fancy_lex.specs.Number.{number}
-use Rattle.fancy_lex.specs.Property.{Property, PropertyName, read_property, name_at, cut_at, property_text}
-use Rattle.fancy_lex.specs.Property as property_spec
+use Rattle.fancy_lex.specs.Property.{Property, read_property, property_text}
 use Rattle.fancy_lex.specs.Reading.{Reading, gives, fails, fault_at, choose, layout_reading, ◌>=>◌}
 use Rattle.fancy_lex.specs.Referred.{Reference}
 use Rattle.fancy_lex.specs.Text.{Text, bytes, place_of, strip}

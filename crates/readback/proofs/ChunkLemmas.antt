@@ -1,5 +1,5 @@
 -- Each thing that is written for an escape in a class is read again there.
-use Rattle.std.proofs.Common.{◌≡◌, ℕ, ◌+◌, ◌*◌, ◌/◌, ◌%◌, ◌^◌, ◌<◌, Bool, true, false, true≢false, not, ◌&&◌, ◌==◌, nat_lt, nat_le, if◌then◌else◌, [], ◌∷◌, ◌++◌, codes, Option, Some, None, option_map, refl, sym, ap, ◌∙◌, subst, arith, append_assoc, lt-ltb}
+use Rattle.std.proofs.Common.{◌≡◌, ℕ, ◌+◌, ◌*◌, ◌/◌, ◌%◌, ◌<◌, Bool, true, false, not, ◌&&◌, ◌==◌, nat_le, if◌then◌else◌, [], ◌∷◌, ◌++◌, codes, Option, Some, None, option_map, refl, sym, ap, ◌∙◌, subst, arith, append_assoc, lt-ltb}
 use Rattle.std.proofs.lemmas.Bool.{not-true, cond-false, cond_both, and_from, and_parts}
 use lib.Utf8.{scalar}
 use Rattle.std.proofs.lemmas.Bool.Decides.{nat_tests}
@@ -11,11 +11,10 @@ use Rattle.fancy_lex.specs.Characters.{caret, ◌∈◌}
 use Rattle.fancy_lex.specs.Class.{class_head, is_plain, byte_text, upper_hex_digit}
 use Rattle.fancy_lex.specs.Escape.{escape, numbered, property, in_class, is_itself}
 use Rattle.fancy_lex.specs.Escaped.{Escape, literal, literal_bytes, delegate}
-use Rattle.fancy_lex.specs.Fault.{Fault, invalid_class, invalid_backref, invalid_codepoint_value, unclosed_unicode_name}
+use Rattle.fancy_lex.specs.Fault.{invalid_class, invalid_codepoint_value, unclosed_unicode_name}
 use Rattle.fancy_lex.specs.Hex as hexes
 use Rattle.fancy_lex.specs.Hex.{hex, value, leaf_of_value, is_scalar, fixed_digits}
 use Rattle.fancy_lex.specs.Layout.{layout}
-use Rattle.fancy_lex.specs.Number.{number}
 use Rattle.fancy_lex.specs.Property.{Property, PropertyName, single, braced, read_property, name_at, cut_at, property_text, Form, set, pair, form, form_text, look_up, lowercase, turn, letter}
 use Rattle.fancy_lex.specs.Reading.{Reading, gives, fails, fault_at, choose, layout_reading, ◌>=>◌}
 use Rattle.fancy_lex.specs.EscapeReference.{group_number}

@@ -1,6 +1,6 @@
 -- What a class is rewritten to is a class again, item by item.
 use Rattle.std.proofs.Common.{◌≡◌, ℕ, Bool, true, false, ◌||◌, ◌==◌, nat_le, List, [], ◌∷◌, ◌++◌, codes, None, refl, sym, ap, ◌∙◌, subst, append_assoc, ⊎_elim, eqb-true}
-use Rattle.std.proofs.lemmas.Bool.{and_from, and_parts, or_parts, or_cases, cond_both, both_ways}
+use Rattle.std.proofs.lemmas.Bool.{and_from, or_parts, or_cases, cond_both, both_ways}
 use Rattle.std.specs.Char.{IsScalar}
 use Rattle.std.specs.Str.{all_scalars}
 use Rattle.fancy_lex.specs.Characters.{is_among}

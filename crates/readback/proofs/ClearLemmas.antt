@@ -1,5 +1,5 @@
 -- What may follow a piece: no comment, and no quantifier.
-use Rattle.std.proofs.Common.{◌≡◌, ℕ, Bool, true, false, ◌==◌, ⊎_elim, List, [], ◌∷◌, Some, None, unwrap_or, refl, sym, ap, subst, eqb-true}
+use Rattle.std.proofs.Common.{◌≡◌, ℕ, Bool, true, false, ◌==◌, ⊎_elim, List, [], ◌∷◌, Some, None, refl, sym, subst, eqb-true}
 use Rattle.std.specs.List.{list_any}
 use Rattle.std.proofs.lemmas.Bool.{or_parts, or_cases, cond_both, both_ways}
 use Rattle.std.proofs.lemmas.Option.{same_Some}

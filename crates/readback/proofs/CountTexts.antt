@@ -13,7 +13,7 @@ use Rattle.fancy_lex.specs.Number.{AllDigits, at_digit, number, value_after}
 use Rattle.fancy_lex.specs.Reading.{gives}
 use Rattle.fancy_lex.specs.Text.{Text, strip}
 use Rattle.fancy_lex.proofs.NumberLemmas.{number_complete, number_none}
-use Rattle.fancy_parts.specs.Quantifier.{most, past_layout, count, spaced_count, in_braces, as_mark, counts_from, braced_counts, counts}
+use Rattle.fancy_parts.specs.Quantifier.{most, past_layout, count, spaced_count, counts_from, braced_counts, counts}
 use Rattle.fancy_parts.specs.declared.counts.Counts.{Counts}
 use Rattle.fancy_parts.specs.Quote.{range, mark, counts_as, counts_text, quantifier}
 use Rattle.readback.proofs.ClearLemmas.{Clear, not_open, no_layout, clear_brace}

@@ -24,7 +24,7 @@ use Rattle.readback.specs.Normal.{under, bare}
 use Rattle.readback.proofs.InFront.{put_as, put_quotes, put_any, put_line, put_assertion}
 use Rattle.readback.proofs.ClearLemmas.{Clear, not_open, clear_close, ends_close, behind_none}
 use Rattle.readback.proofs.CountTexts.{NoName}
-use Rattle.readback.proofs.RuleLemmas.{Becomes, Kept, kept, st, AtomAs, WholeAs, Run, no_run, run_chain, reads_piece, reads_branch, reads_only, join_one, reads_scope, scope_at, one_letter, two_letters, spelled, last_letter, more_letters, reads_leaf, leaf_at, reads_char}
+use Rattle.readback.proofs.RuleLemmas.{Kept, kept, st, AtomAs, WholeAs, Run, no_run, run_chain, reads_piece, reads_branch, reads_only, join_one, reads_scope, scope_at, one_letter, two_letters, spelled, last_letter, more_letters, reads_leaf, leaf_at, reads_char}
 
 -- the text of an atom, or of what begins with one
 pub record Begins (s : Text) : Type 0 where

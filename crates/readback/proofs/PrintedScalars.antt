@@ -1,5 +1,5 @@
 -- What is printed for a printable tree is of scalar values, so its bytes spell it.
-use Rattle.std.proofs.Common.{◌≡◌, ℕ, ◌^◌, ◌<◌, ◌-◌, Bool, true, false, ◌&&◌, ◌==◌, nat_lt, [], ◌∷◌, ◌++◌, Option, Some, None, codes, decimal, chars, refl, ◌∙◌, subst, sym, arith, eqb-true}
+use Rattle.std.proofs.Common.{◌≡◌, ℕ, ◌^◌, ◌<◌, Bool, true, false, ◌&&◌, ◌==◌, nat_lt, [], ◌∷◌, ◌++◌, Option, codes, decimal, chars, refl, arith}
 use Rattle.std.specs.Prelude.{encode_utf8_all}
 use Rattle.std.proofs.lemmas.Bool.{and_from, and_parts, cond_both}
 use Rattle.std.proofs.lemmas.Bool.Decides.{nat_tests}
@@ -13,10 +13,10 @@ use Rattle.fancy_lex.specs.Text.{Text}
 use Rattle.fancy_lex.specs.declared.escape.Assertion.{Assertion}
 use Rattle.fancy_lex.specs.declared.escape.Assertion.TheVariants.{StartLine, StartLineOniguruma, EndLine}
 use Rattle.fancy_parts.specs.Quantifier.{most}
-use Rattle.fancy_parts.specs.Quote.{needs_backslash, behind_backslash, quote_as, quote, quotes, range, mark, counts_as, counts_text, quantifier}
+use Rattle.fancy_parts.specs.Quote.{needs_backslash, quote_as, quote, quotes, range, mark, counts_as, counts_text, quantifier}
 use Rattle.fancy_syntax.specs.Printable.{is_count}
 use Rattle.fancy_syntax.specs.Printed.{any_text, assertion_text, grouped, caseless, printed, printed_all, printed_branches, barred}
-use Rattle.fancy_syntax.specs.Tree.{Tree, Trees, no_trees, more_trees, empty, any, assertion, literal, concat, alt, group, repeat, delegate, define_group}
+use Rattle.fancy_syntax.specs.Tree.{Tree, Trees, no_trees, more_trees, any, assertion, literal, concat, alt, group, repeat, delegate}
 use Rattle.readback.specs.Printable.{printable, all_printable, takes_quantifier}
 use Rattle.readback.proofs.CountTexts.{all_digits}
 use Rattle.readback.proofs.PrintableLaws.{count_below}

@@ -8,7 +8,6 @@ use Rattle.fancy_syntax.specs.Grammar.{Derives}
 use Rattle.fancy_syntax.specs.Join.{solid, join, choice}
 use Rattle.fancy_syntax.specs.Normal.{character, items_of}
 use Rattle.fancy_syntax.specs.Printed.{printed, printed_all, printed_branches, grouped}
-use Rattle.fancy_syntax.specs.Resolved.{resolved}
 use Rattle.fancy_syntax.specs.Tree.{Tree, Trees, no_trees, more_trees, empty, any, assertion, literal, concat, alt, group, repeat, delegate, define_group}
 use Rattle.readback.specs.Nest.{nest, nests, one_if, is_line}
 use Rattle.readback.specs.Normal.{under, bare, normal, items, normals}

@@ -1,5 +1,5 @@
 -- The text of a printable tree has one answer.
-use Rattle.std.proofs.Common.{◌≡◌, ℕ, ◌<◌, ◌≤◌, Bool, true, false, if◌then◌else◌, nat_lt, nat_le, List, [], ◌∷◌, length, filter, filter_map, map, Option, Some, None, refl, sym, ap, ap₂, ◌∙◌, subst}
+use Rattle.std.proofs.Common.{◌≡◌, ℕ, ◌<◌, Bool, true, false, if◌then◌else◌, nat_lt, nat_le, List, [], ◌∷◌, length, filter, filter_map, map, None, refl, sym, ap, ap₂, ◌∙◌, subst}
 use Rattle.std.specs.Prelude.{find, fold, chars, encode_utf8_all}
 use Rattle.std.specs.BTreeSet.{insert_key}
 use Rattle.std.specs.List.{list_any}
@@ -12,12 +12,12 @@ use Rattle.fancy_lex.specs.declared.error.Error.TheVariants.{ParseError}
 use Rattle.fancy_lex.specs.declared.error.ParseError.TheVariants.{RecursionExceeded}
 use Rattle.fancy_lex.specs.declared.flags.Flags.{Flags}
 use Rattle.fancy_parts.specs.Meaning.{first_fault}
-use Rattle.fancy_parts.specs.Ranks.{counted_in, named_groups, names, numbers, name_cmp}
+use Rattle.fancy_parts.specs.Ranks.{counted_in, named_groups, numbers, name_cmp}
 use Rattle.fancy_syntax.specs.Ahead.{max_depth}
-use Rattle.fancy_syntax.specs.Answer.{IsTreeOf, IsFaultOf, of_reading}
+use Rattle.fancy_syntax.specs.Answer.{IsTreeOf, of_reading}
 use Rattle.fancy_syntax.specs.Answered.{groups}
 use Rattle.fancy_syntax.specs.Grammar.{Derives, Faults}
-use Rattle.fancy_syntax.specs.Items.{Item, opening, reference, items, openings, openings_in, references, references_in}
+use Rattle.fancy_syntax.specs.Items.{Item, opening, reference, items, openings, openings_in, references_in}
 use Rattle.fancy_syntax.specs.Marks.{Marks, marks, ascending, back_numbers, is_numeric, is_call, is_call_of_all}
 use Rattle.fancy_syntax.specs.Printed.{printed}
 use Rattle.fancy_syntax.specs.Resolved.{fault_of}

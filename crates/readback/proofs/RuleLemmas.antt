@@ -1,12 +1,12 @@
 -- What the grammar's rules read, under flags with which no blank is layout. Nothing else speaks of the rules.
 use Rattle.std.proofs.Common.{◌≡◌, ℕ, ◌+◌, ◌<◌, ◌≤◌, suc, Bool, true, false, not, ◌&&◌, ◌==◌, nat_le, nat_lt, List, [], ◌∷◌, ◌++◌, map, Option, Some, None, is_none, refl, sym, ap, ap₂, ◌∙◌, subst, arith, append_assoc, append-nil, le-leb, if◌then◌else◌}
-use Rattle.std.proofs.lemmas.Bool.{cond-true, cond-false, cond_both}
+use Rattle.std.proofs.lemmas.Bool.{cond-true, cond-false}
 use Rattle.std.proofs.lemmas.Bool.Decides.{nat_tests}
 use Rattle.std.proofs.Math.Bool.{and-true, and-false, not-not}
 use Rattle.std.proofs.lemmas.List.{map-append}
 use Rattle.fancy_lex.specs.Fault.{Kind, recursion_exceeded}
 use Rattle.fancy_lex.specs.Layout.{layout, after_comment_head, rest}
-use Rattle.fancy_lex.specs.Reading.{Reading, gives, choose, layout_reading}
+use Rattle.fancy_lex.specs.Reading.{gives, choose, layout_reading}
 use Rattle.fancy_lex.specs.Text.{Text, bytes, strip, place_of}
 use Rattle.fancy_lex.specs.declared.flags.Flags.{Flags}
 use Rattle.fancy_parts.specs.FlagLetters as letters

@@ -16,7 +16,7 @@ use Rattle.readback.specs.Normal.{bare}
 use Rattle.readback.specs.Over.{at_open, at_open_if, place, places, branch_places, barred_places, over}
 use Rattle.readback.proofs.InFront.{put, puts, put_branches, put_barred, put_any, put_assertion, put_line, put_quotes, open_if, close_if, put_alone, put_text}
 use Rattle.readback.proofs.ClearLemmas.{Clear, Ends, clear_close, stops_bar, ends_close, ends_nothing}
-use Rattle.readback.proofs.LeafLemmas.{Begins, begins_any, begins_assertion, HasText}
+use Rattle.readback.proofs.LeafLemmas.{begins_any, begins_assertion, HasText}
 use Rattle.readback.proofs.ReadBack.{Starts, wrapped, wrap_starts, EachReads, reads_each, text_high, nest_high}
 use Rattle.readback.proofs.RuleLemmas.{st, kept, fails_deep, fails_group, fails_grouped, fails_piece, fails_first, fails_more, fails_whole, fails_text}
 use Rattle.readback.proofs.ShapeLemmas.{Printable, ArePrintable, atom_of, begins_head, begins_group, begins_atom, clear_put, clear_puts}
