@@ -3,6 +3,7 @@ pub mod AnswerLaws
 pub mod AnsweredLaws
 pub mod BackslashLemmas
 pub mod ChildrenLemmas
+mod DelegateLemmas
 pub mod Descents
 mod FaultLemmas
 pub mod FoundLaws

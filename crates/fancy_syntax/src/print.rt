@@ -5,6 +5,7 @@ ghost use Rattle.fancy_syntax.specs.Printed.{printed, has_text};
 ghost use Rattle.fancy_syntax.specs.View.{view};
 
 mod count;
+mod delegate;
 mod fixed;
 mod printable;
 mod write;
@@ -16,13 +17,15 @@ use crate::print::write::put_tree;
 use std::alloc::{AllocError, Global};
 
 impl Expr {
-    /// Whether the tree is printable: whether its text reads back as its normal form. So far no tree is told printable
-    /// that holds another variant than Empty, Literal, Concat, Alt, Group and Repeat, and no memory is taken.
+    /// Whether the tree is printable: whether each node outside the inside of a DefineGroup has a text, that of each
+    /// Delegate is one whole class or class escape, and under each Repeat stands neither a tree that reads as nothing nor
+    /// a Literal, with case counted, of two characters or more. `AllocError` where memory was refused, which is asked for
+    /// where a Delegate's text is read.
     pub fn is_printable(&self, alloc: Global) -> Result<bool, AllocError>
         ensures exact { IfOk result (λ b. b ≡ printable (view self.now)) }
         ensures text { IfOk result (λ b. b ≡ true → has_text (view self.now) ≡ true) }
     {
-        Ok(is_printable(self))
+        is_printable(alloc, self)
     }
 
     /// Appends the tree's text to `buf`; the caller owes a tree that has one, as every printable tree has. Above
