@@ -20,7 +20,7 @@ use Rattle.fancy_lex.specs.Reading.{Reading, gives, fails, fault_at, choose, lay
 use Rattle.fancy_lex.specs.EscapeReference.{group_number}
 use Rattle.fancy_lex.specs.declared.flags.Flags.{Flags}
 use Rattle.fancy_lex.specs.Text.{Text, place_of, strip}
-use Rattle.readback.specs.Normal.{bare, under}
+use Rattle.fancy_syntax.specs.Normal.{bare, under}
 use Rattle.readback.proofs.ClearLemmas.{not_open, no_layout}
 use Rattle.readback.proofs.ScalarLemmas.{scalars_append}
 use Rattle.readback.proofs.ClassChunks.{Goes, ClassGoes, pass_close, pass_plain, pass_escape, pass_nested, pass_class, Chunk, Fine, both_chunk, Each, each_at}

@@ -17,8 +17,8 @@ use Rattle.fancy_lex.specs.Text.{Text, bytes, place_of}
 use Rattle.fancy_lex.proofs.ClassLaws.{class_complete, class_reads}
 use Rattle.fancy_syntax.specs.Ahead.{leaf_node, leaf_outcome}
 use Rattle.fancy_syntax.specs.Tree.{delegate}
-use Rattle.readback.specs.Normal.{bare, under, class_of, whole_leaf, normal}
-use Rattle.readback.specs.Printable.{printable}
+use Rattle.fancy_syntax.specs.Normal.{bare, under, class_of, whole_leaf, normal}
+use Rattle.fancy_syntax.specs.Printable.{printable}
 use Rattle.readback.proofs.ScalarLemmas.{scalars_append}
 use Rattle.readback.proofs.ClassChunks.{ClassGoes, Chunk, both_chunk, Each, each_at}
 use Rattle.readback.proofs.CarriedLaws.{referring_none, class_carries, escape_carries, NoDelegate, hex_none, outside_none}

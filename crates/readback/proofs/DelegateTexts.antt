@@ -10,7 +10,7 @@ use Rattle.fancy_lex.specs.Text.{Text, bytes, place_of}
 use Rattle.fancy_syntax.specs.Ahead.{leaf, leaf_node, leaf_outcome}
 use Rattle.fancy_syntax.specs.State.{State}
 use Rattle.fancy_syntax.specs.Tree.{Tree, delegate}
-use Rattle.readback.specs.Normal.{under, bare, whole_of, whole_leaf, class_of, normal}
+use Rattle.fancy_syntax.specs.Normal.{under, bare, whole_of, whole_leaf, class_of, normal}
 use Rattle.readback.proofs.CarriedLaws.{class_carries, escape_carries}
 use Rattle.readback.proofs.RuleLemmas.{st, AtomAs, reads_leaf, leaf_at}
 use Rattle.readback.proofs.ShapeLemmas.{DelegateText}

@@ -16,11 +16,10 @@ use Rattle.fancy_parts.specs.FlagLetters.{step}
 use Rattle.fancy_parts.specs.Quote.{behind_backslash}
 use Rattle.fancy_syntax.specs.Ahead as before_atom
 use Rattle.fancy_syntax.specs.Ahead.{Ahead, leaf, ahead, leaf_node, leaf_outcome}
-use Rattle.fancy_syntax.specs.Normal.{character}
+use Rattle.fancy_syntax.specs.Normal.{character, under, bare}
 use Rattle.fancy_syntax.specs.State.{done}
 use Rattle.fancy_syntax.specs.Tree.{Tree, any, assertion}
 use Rattle.readback.specs.Nest.{one_if, is_line}
-use Rattle.readback.specs.Normal.{under, bare}
 use Rattle.readback.proofs.InFront.{put_as, put_quotes, put_any, put_line, put_assertion}
 use Rattle.readback.proofs.ClearLemmas.{Clear, not_open, clear_close, ends_close, behind_none}
 use Rattle.readback.proofs.CountTexts.{NoName}

@@ -8,6 +8,7 @@ mod DelegateTexts
 mod InFront
 mod LeafLemmas
 mod NormalLaws
+mod OverLemmas
 mod PrintableLaws
 mod PrintedScalars
 mod ReadBack

@@ -7,12 +7,10 @@ use Rattle.fancy_lex.specs.Text.{Text}
 use Rattle.fancy_lex.specs.declared.escape.Assertion.TheVariants.{StartLineOniguruma, EndTextIgnoreTrailingNewlines}
 use Rattle.fancy_parts.specs.Quote.{behind_backslash}
 use Rattle.fancy_syntax.specs.Join.{is_empty, solid, one_or, join, choice}
-use Rattle.fancy_syntax.specs.Normal.{character, items_of}
-use Rattle.fancy_syntax.specs.Printable.{is_count, is_long}
+use Rattle.fancy_syntax.specs.Normal.{character, items_of, normal, items, normals}
+use Rattle.fancy_syntax.specs.Printable.{is_count, is_long, printable, all_printable}
 use Rattle.fancy_syntax.specs.Tree.{Tree, Trees, no_trees, more_trees, empty, any, assertion, literal, concat, alt, group, repeat, delegate, define_group, trees_of}
 use Rattle.readback.specs.HasDelegate.{has_delegate, any_has_delegate}
-use Rattle.readback.specs.Normal.{normal, items, normals}
-use Rattle.readback.specs.Printable.{printable, all_printable}
 use Rattle.readback.proofs.DelegateLaws.{delegates_stay}
 use Rattle.readback.proofs.RuleLemmas.{solid_append, solid_solid}
 use Rattle.readback.proofs.PrintableLaws.{blank, blanks, normal_empty, delegate_class}

@@ -10,13 +10,11 @@ use Rattle.fancy_lex.specs.Text.{Text}
 use Rattle.fancy_lex.specs.declared.escape.Assertion.TheVariants.{EndTextIgnoreTrailingNewlines, StartLineOniguruma}
 use Rattle.fancy_lex.specs.declared.flags.Flags.{Flags}
 use Rattle.fancy_syntax.specs.Join.{is_empty, solid, one_or, join, choice}
-use Rattle.fancy_syntax.specs.Normal.{character, items_of}
-use Rattle.fancy_syntax.specs.Printable.{is_count, is_long}
+use Rattle.fancy_syntax.specs.Normal.{character, items_of, bare, class_of, whole_leaf, whole_of, normal, items, normals}
+use Rattle.fancy_syntax.specs.Printable.{is_count, is_long, printable, all_printable}
 use Rattle.fancy_syntax.specs.Quantified.{is_repeatable}
 use Rattle.fancy_syntax.specs.State.{Outcome, done, fault}
 use Rattle.fancy_syntax.specs.Tree.{Tree, Trees, no_trees, more_trees, empty, any, assertion, literal, concat, alt, group, repeat, delegate, define_group}
-use Rattle.readback.specs.Normal.{bare, class_of, whole_leaf, whole_of, normal, items, normals}
-use Rattle.readback.specs.Printable.{printable, all_printable}
 use Rattle.readback.proofs.ShapeLemmas.{Printable, ArePrintable}
 use Rattle.readback.proofs.DelegateTexts.{IsDelegate, delegate_text}
 use Rattle.readback.proofs.ClearLemmas.{no_truth}

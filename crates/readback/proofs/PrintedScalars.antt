@@ -14,10 +14,9 @@ use Rattle.fancy_lex.specs.declared.escape.Assertion.{Assertion}
 use Rattle.fancy_lex.specs.declared.escape.Assertion.TheVariants.{StartLine, StartLineOniguruma, EndLine}
 use Rattle.fancy_parts.specs.Quantifier.{most}
 use Rattle.fancy_parts.specs.Quote.{needs_backslash, quote_as, quote, quotes, range, mark, counts_as, counts_text, quantifier}
-use Rattle.fancy_syntax.specs.Printable.{is_count}
+use Rattle.fancy_syntax.specs.Printable.{is_count, printable, all_printable, takes_quantifier}
 use Rattle.fancy_syntax.specs.Printed.{any_text, assertion_text, grouped, caseless, printed, printed_all, printed_branches, barred}
 use Rattle.fancy_syntax.specs.Tree.{Tree, Trees, no_trees, more_trees, any, assertion, literal, concat, alt, group, repeat, delegate}
-use Rattle.readback.specs.Printable.{printable, all_printable, takes_quantifier}
 use Rattle.readback.proofs.CountTexts.{all_digits}
 use Rattle.readback.proofs.PrintableLaws.{count_below}
 use Rattle.readback.proofs.ScalarLemmas.{scalars_append}

@@ -6,11 +6,10 @@ use Rattle.fancy_lex.specs.declared.escape.Assertion.TheVariants.{StartLineOnigu
 use Rattle.fancy_parts.specs.Quote.{behind_backslash, quantifier}
 use Rattle.fancy_syntax.specs.Grammar.{Derives}
 use Rattle.fancy_syntax.specs.Join.{solid, join, choice}
-use Rattle.fancy_syntax.specs.Normal.{character, items_of}
+use Rattle.fancy_syntax.specs.Normal.{character, items_of, under, bare, normal, items, normals}
 use Rattle.fancy_syntax.specs.Printed.{printed, printed_all, printed_branches, grouped}
 use Rattle.fancy_syntax.specs.Tree.{Tree, Trees, no_trees, more_trees, empty, any, assertion, literal, concat, alt, group, repeat, delegate, define_group}
 use Rattle.readback.specs.Nest.{nest, nests, one_if, is_line}
-use Rattle.readback.specs.Normal.{under, bare, normal, items, normals}
 use Rattle.readback.proofs.InFront.{put, puts, put_branches, put_barred, put_any, put_assertion, put_quotes, open_if, put_alone}
 use Rattle.readback.proofs.ClearLemmas.{Clear, Stops, Ends, clear_close, stops_bar, ends_close, ends_nothing}
 use Rattle.readback.proofs.CountTexts.{NoName, clear_name, quantifier_read}

@@ -25,9 +25,9 @@ use Rattle.fancy_syntax.specs.Tree.{Tree, empty}
 use Rattle.fancy_syntax.proofs.AnsweredLaws.{groups_total}
 use Rattle.fancy_syntax.proofs.Verdict.{only_tree, no_fault, only_reading}
 use Rattle.readback.specs.Nest.{nest}
-use Rattle.readback.specs.Normal.{bare, normal}
+use Rattle.fancy_syntax.specs.Normal.{bare, normal}
 use Rattle.readback.specs.Over.{over}
-use Rattle.readback.specs.Printable.{printable}
+use Rattle.fancy_syntax.specs.Printable.{printable}
 use Rattle.readback.specs.ReadBack.{marks_of_groups, Answer, read, refused, IsAnswerOf, IsOnlyAnswer, read_back, IsReadBack}
 use Rattle.readback.proofs.PrintableLaws.{told}
 use Rattle.readback.proofs.PrintedScalars.{printed_spelled}

@@ -10,7 +10,7 @@ use Rattle.fancy_lex.specs.Reading.{Reading, gives, choose}
 use Rattle.fancy_lex.specs.Text.{Text, strip}
 use Rattle.fancy_lex.specs.declared.flags.Flags.{Flags}
 use Rattle.fancy_lex.proofs.EscapeLaws.{escape_cut}
-use Rattle.readback.specs.Normal.{under}
+use Rattle.fancy_syntax.specs.Normal.{under}
 use Rattle.readback.proofs.ScalarLemmas.{scalars_append, scalars_behind}
 use Rattle.readback.proofs.ClassChunks.{Goes, ClassGoes, pass_close, pass_plain, pass_nested, pass_class, Chunk, Fine, both_chunk, char_chunk, amp_chunk}
 use Rattle.readback.proofs.ChunkLemmas.{open_plain, open_caret, byte_chunk, FineOf, escape_fine}

@@ -5,7 +5,7 @@ use Rattle.fancy_parts.specs.Quote.{behind_backslash, quantifier}
 use Rattle.fancy_syntax.specs.Printable.{is_long}
 use Rattle.fancy_syntax.specs.Quantified.{is_repeatable}
 use Rattle.fancy_syntax.specs.Tree.{Tree, Trees, no_trees, more_trees, empty, any, assertion, literal, concat, alt, group, repeat, delegate, define_group}
-use Rattle.readback.specs.Normal.{under, bare, normal}
+use Rattle.fancy_syntax.specs.Normal.{under, bare, normal}
 use Rattle.readback.proofs.InFront.{put, puts, put_branches, put_barred, open_if, close_if}
 use Rattle.readback.proofs.ClearLemmas.{no_truth, Clear, not_asking, clear_lazy, clear_close, stops_bar}
 use Rattle.readback.proofs.RuleLemmas.{AtomAs}

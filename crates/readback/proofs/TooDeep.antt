@@ -12,8 +12,9 @@ use Rattle.fancy_syntax.specs.Printed.{printed}
 use Rattle.fancy_syntax.specs.State.{fault}
 use Rattle.fancy_syntax.specs.Tree.{Tree, Trees, no_trees, more_trees, empty, any, assertion, literal, concat, alt, group, repeat, delegate, define_group}
 use Rattle.readback.specs.Nest.{nest, nests}
-use Rattle.readback.specs.Normal.{bare}
-use Rattle.readback.specs.Over.{at_open, at_open_if, place, places, branch_places, barred_places, over}
+use Rattle.fancy_syntax.specs.Normal.{bare}
+use Rattle.readback.specs.Over.{over}
+use Rattle.readback.proofs.OverLemmas.{over_place, at_open, at_open_if, place, places, branch_places, barred_places}
 use Rattle.readback.proofs.InFront.{put, puts, put_branches, put_barred, put_any, put_assertion, put_line, put_quotes, open_if, close_if, put_alone, put_text}
 use Rattle.readback.proofs.ClearLemmas.{Clear, Ends, clear_close, stops_bar, ends_close, ends_nothing}
 use Rattle.readback.proofs.LeafLemmas.{begins_any, begins_assertion, HasText}
@@ -277,7 +278,7 @@ mutual
       cond_bytes b _ _ _ _ _ (left_bytes t 1 d (put_barred ts v)) (omega (arith, put_bytes t 1 (put_barred ts v), barred_bytes ts d v)) in
       omega (arith, h, bar_bytes (put t 1 (put_barred ts v)))
 
-place_high : (t : Tree) (p : ℕ) → 3 ≤ p → over t p ≡ over t 3
+place_high : (t : Tree) (p : ℕ) → 3 ≤ p → place t p 0 ≡ place t 3 0
 place_high (concat ts) p h = ap (λ b. at_open_if b 0 (places ts)) (lt-ltb 1 p (omega arith))
 place_high (alt ts) p h = ap (λ b. at_open_if b 0 (branch_places ts)) (lt-ltb 0 p (omega arith))
 place_high (repeat t lo hi greedy) p h = ap (λ b. at_open_if b 0 (place t 3)) (lt-ltb 2 p (omega arith))
@@ -289,18 +290,22 @@ DeepFrom u s p = Faults (bare u) s recursion_exceeded p
 from_whole : (u : Bool) (s : Text) (p : ℕ) → Alternation (bytes s) 0 (st (bare u) s) (fault recursion_exceeded p) → DeepFrom u s p
 from_whole u s p w = fails_text (bare u) s recursion_exceeded p w
 
-at_level : (t : Tree) (p : ℕ) (u : Bool) → 64 ≤ nest t p → FailsWhole u (put t p) (nest t p) (left t p) → DeepFrom u (printed t p) (over t p)
+at_level : (t : Tree) (p : ℕ) (u : Bool) → 64 ≤ nest t p → FailsWhole u (put t p) (nest t p) (left t p) → DeepFrom u (printed t p) (place t p 0)
 at_level t p u h w =
     let s = put t p [] in
-    let here : place_of (bytes s) (left t p 0 []) ≡ over t p = omega (arith, left_bytes t p 0 []) in
-    subst (λ x. DeepFrom u x (over t p)) (put_alone t p) (subst (DeepFrom u s) here (from_whole u s _ (w (bytes s) 0 [] (omega arith) (omega arith) ends_nothing)))
+    let here : place_of (bytes s) (left t p 0 []) ≡ place t p 0 = omega (arith, left_bytes t p 0 []) in
+    subst (λ x. DeepFrom u x (place t p 0)) (put_alone t p) (subst (DeepFrom u s) here (from_whole u s _ (w (bytes s) 0 [] (omega arith) (omega arith) ends_nothing)))
 
-pub too_deep : (t : Tree) (p : ℕ) (u : Bool) → Printable t → 64 ≤ nest t p → DeepFrom u (printed t p) (over t p)
-too_deep t zero u h m = at_level t 0 u m (fails u t h).whole
-too_deep t (suc zero) u h m = at_level t 1 u m (to_whole u (put t 1) (nest t 1) (left t 1) (fails u t h).branch)
-too_deep t (suc (suc zero)) u h m = at_level t 2 u m (to_whole u (put t 2) (nest t 2) (left t 2) (fails u t h).run)
-too_deep t (suc (suc (suc p))) u h m =
+at_place : (t : Tree) (p : ℕ) (u : Bool) → Printable t → 64 ≤ nest t p → DeepFrom u (printed t p) (place t p 0)
+at_place t zero u h m = at_level t 0 u m (fails u t h).whole
+at_place t (suc zero) u h m = at_level t 1 u m (to_whole u (put t 1) (nest t 1) (left t 1) (fails u t h).branch)
+at_place t (suc (suc zero)) u h m = at_level t 2 u m (to_whole u (put t 2) (nest t 2) (left t 2) (fails u t h).run)
+at_place t (suc (suc (suc p))) u h m =
     let big : 3 ≤ suc (suc (suc p)) = omega arith in
     subst (DeepFrom u (printed t (suc (suc (suc p))))) (sym (place_high t (suc (suc (suc p))) big))
-    (subst (λ s. DeepFrom u s (over t 3)) (sym (text_high t (suc (suc (suc p))) big))
+    (subst (λ s. DeepFrom u s (place t 3 0)) (sym (text_high t (suc (suc (suc p))) big))
     (at_level t 3 u (omega (arith, nest_high t (suc (suc (suc p))) big)) (to_whole u (put t 3) (nest t 3) (left t 3) (fails u t h).high)))
+
+pub too_deep : (t : Tree) (p : ℕ) (u : Bool) → Printable t → 64 ≤ nest t p →
+    Faults (bare u) (printed t p) recursion_exceeded (over t p)
+too_deep t p u h m = subst (DeepFrom u (printed t p)) (sym (over_place t p m)) (at_place t p u h m)

@@ -6,8 +6,8 @@ use Rattle.fancy_syntax.specs.Printed.{printed}
 use Rattle.fancy_syntax.specs.Tree.{Tree}
 use Rattle.readback.specs.HasDelegate.{has_delegate}
 use Rattle.readback.specs.Nest.{nest}
-use Rattle.readback.specs.Normal.{bare, normal}
-use Rattle.readback.specs.Printable.{printable}
+use Rattle.fancy_syntax.specs.Normal.{bare, normal}
+use Rattle.fancy_syntax.specs.Printable.{printable}
 use Rattle.readback.specs.ReadBack.{IsReadBack}
 
 -- the text of a printable tree is read back, at any precedence
