@@ -33,14 +33,16 @@ all_plain (c ∷ w) = is_plain c && all_plain w
 
 word_goes : (w : Text) → all_plain w ≡ true → (m : ℕ) (s v : Text) → Goes m s v → Goes m (w ++ s) v
 word_goes [] h m s v g = g
-word_goes (c ∷ w) h m s v g = pass_plain m c (w ++ s) v (first_so (is_plain c) _ h) (word_goes w (second_so (is_plain c) _ h) m s v g)
+word_goes (c ∷ w) h m s v g =
+    pass_plain m c (w ++ s) v (first_so (is_plain c) _ h) (word_goes w (second_so (is_plain c) _ h) m s v g)
 
 pub word_chunk : (c : ℕ) (w : Text) → all_plain (c ∷ w) ≡ true → (c == 94) ≡ false → (c == 93) ≡ false →
     all_scalars (c ∷ w) ≡ true → Chunk (c ∷ w)
 word_chunk c w h a b k =
     record { goes = word_goes (c ∷ w) h; no_caret = λ s. rw a refl; no_close = λ s. rw b refl; scalars = k }
 
-pub open_plain : (t : Text) → strip 94 t ≡ None → strip 93 t ≡ None → ◌≡◌ {A = Text × Text} (class_head [] t) (91 ∷ [], t)
+pub open_plain : (t : Text) → strip 94 t ≡ None → strip 93 t ≡ None →
+    ◌≡◌ {A = Text × Text} (class_head [] t) (91 ∷ [], t)
 unfolding class_head
 open_plain t a b = rw (a, b) refl
 
@@ -51,18 +53,30 @@ open_caret t b = rw b refl
 pub bracket_goes : (w : Text) → Chunk w → (m : ℕ) (s : Text) → ClassGoes m ((w ++ 93 ∷ []) ++ s) s
 bracket_goes w c m s =
     subst (λ z. ClassGoes m z s) (sym (append_assoc w (93 ∷ []) s))
-    (pass_class m (w ++ 93 ∷ s) (91 ∷ []) (w ++ 93 ∷ s) s (open_plain _ (c.no_caret _) (c.no_close _)) (c.goes m (93 ∷ s) s (pass_close m s)))
+    (pass_class m (w ++ 93 ∷ s) (91 ∷ []) (w ++ 93 ∷ s) s (open_plain _ (c.no_caret _) (c.no_close _))
+    (c.goes m (93 ∷ s) s (pass_close m s)))
 
 pub caret_goes : (w : Text) → Chunk w → (m : ℕ) (s : Text) → ClassGoes m (94 ∷ ((w ++ 93 ∷ []) ++ s)) s
 caret_goes w c m s =
     subst (λ z. ClassGoes m (94 ∷ z) s) (sym (append_assoc w (93 ∷ []) s))
-    (pass_class m (94 ∷ (w ++ 93 ∷ s)) (91 ∷ 94 ∷ []) (w ++ 93 ∷ s) s (open_caret _ (c.no_close _)) (c.goes m (93 ∷ s) s (pass_close m s)))
+    (pass_class m (94 ∷ (w ++ 93 ∷ s)) (91 ∷ 94 ∷ []) (w ++ 93 ∷ s) s (open_caret _ (c.no_close _))
+    (c.goes m (93 ∷ s) s (pass_close m s)))
 
 pub bracket_chunk : (w : Text) → Chunk w → Chunk (91 ∷ (w ++ 93 ∷ []))
-bracket_chunk w c = record { goes = λ m s v g. pass_nested m ((w ++ 93 ∷ []) ++ s) s v (bracket_goes w c m s) g; no_caret = λ s. refl; no_close = λ s. refl; scalars = scalars_append w (93 ∷ []) c.scalars refl }
+bracket_chunk w c = record {
+  goes = λ m s v g. pass_nested m ((w ++ 93 ∷ []) ++ s) s v (bracket_goes w c m s) g;
+  no_caret = λ s. refl;
+  no_close = λ s. refl;
+  scalars = scalars_append w (93 ∷ []) c.scalars refl;
+}
 
 pub caret_chunk : (w : Text) → Chunk w → Chunk (91 ∷ 94 ∷ (w ++ 93 ∷ []))
-caret_chunk w c = record { goes = λ m s v g. pass_nested m (94 ∷ ((w ++ 93 ∷ []) ++ s)) s v (caret_goes w c m s) g; no_caret = λ s. refl; no_close = λ s. refl; scalars = scalars_append w (93 ∷ []) c.scalars refl }
+caret_chunk w c = record {
+  goes = λ m s v g. pass_nested m (94 ∷ ((w ++ 93 ∷ []) ++ s)) s v (caret_goes w c m s) g;
+  no_caret = λ s. refl;
+  no_close = λ s. refl;
+  scalars = scalars_append w (93 ∷ []) c.scalars refl;
+}
 
 -- an escape that is read whatever follows it
 escape_chunk : (w : Text) (e : Escape) → all_scalars w ≡ true →
@@ -160,19 +174,27 @@ prop b name = record { negated = b; name = name }
 
 -- in a class or outside
 module _ (m p : ℕ) (inside : Bool) where
-  pub single_small : (c : ℕ) (s : Text) → (c == 123) ≡ false → escape m (bare false) inside p (112 ∷ c ∷ s) ≡ gives (delegate (property_text false inside (prop false (single c))) false) s
+  pub single_small : (c : ℕ) (s : Text) → (c == 123) ≡ false →
+      escape m (bare false) inside p (112 ∷ c ∷ s) ≡ gives
+      (delegate (property_text false inside (prop false (single c))) false) s
   unfolding escape property read_property name_at
   single_small c s h = rw h refl
 
-  pub single_large : (c : ℕ) (s : Text) → (c == 123) ≡ false → escape m (bare false) inside p (80 ∷ c ∷ s) ≡ gives (delegate (property_text false inside (prop true (single c))) false) s
+  pub single_large : (c : ℕ) (s : Text) → (c == 123) ≡ false →
+      escape m (bare false) inside p (80 ∷ c ∷ s) ≡ gives
+      (delegate (property_text false inside (prop true (single c))) false) s
   unfolding escape property read_property name_at
   single_large c s h = rw h refl
 
-  pub braced_small : (w s : Text) → IsName w → escape m (bare false) inside p (112 ∷ 123 ∷ (w ++ 125 ∷ s)) ≡ gives (delegate (property_text false inside (prop false (braced w))) false) s
+  pub braced_small : (w s : Text) → IsName w →
+      escape m (bare false) inside p (112 ∷ 123 ∷ (w ++ 125 ∷ s)) ≡ gives
+      (delegate (property_text false inside (prop false (braced w))) false) s
   unfolding escape property read_property name_at
   braced_small w s h = rw (cut_back w s h) refl
 
-  pub braced_large : (w s : Text) → IsName w → escape m (bare false) inside p (80 ∷ 123 ∷ (w ++ 125 ∷ s)) ≡ gives (delegate (property_text false inside (prop true (braced w))) false) s
+  pub braced_large : (w s : Text) → IsName w →
+      escape m (bare false) inside p (80 ∷ 123 ∷ (w ++ 125 ∷ s)) ≡ gives
+      (delegate (property_text false inside (prop true (braced w))) false) s
   unfolding escape property read_property name_at
   braced_large w s h = rw (cut_back w s h) refl
 
@@ -183,12 +205,14 @@ single_chunk true c h k = escape_chunk (80 ∷ c ∷ []) _ (and_from _ true k re
 small_chunk : (w : Text) → IsName w → Chunk (92 ∷ 112 ∷ 123 ∷ (w ++ 125 ∷ []))
 small_chunk w h =
     escape_chunk (112 ∷ 123 ∷ (w ++ 125 ∷ [])) _ (scalars_append w (125 ∷ []) (name_scalars w h) refl)
-    (λ m p s. ap (λ z. escape m (bare false) true p (112 ∷ 123 ∷ z)) (append_assoc w (125 ∷ []) s) ∙ braced_small m p true w s h)
+    (λ m p s. ap (λ z. escape m (bare false) true p (112 ∷ 123 ∷ z)) (append_assoc w (125 ∷ []) s)
+    ∙ braced_small m p true w s h)
 
 large_chunk : (w : Text) → IsName w → Chunk (92 ∷ 80 ∷ 123 ∷ (w ++ 125 ∷ []))
 large_chunk w h =
     escape_chunk (80 ∷ 123 ∷ (w ++ 125 ∷ [])) _ (scalars_append w (125 ∷ []) (name_scalars w h) refl)
-    (λ m p s. ap (λ z. escape m (bare false) true p (80 ∷ 123 ∷ z)) (append_assoc w (125 ∷ []) s) ∙ braced_large m p true w s h)
+    (λ m p s. ap (λ z. escape m (bare false) true p (80 ∷ 123 ∷ z)) (append_assoc w (125 ∷ []) s)
+    ∙ braced_large m p true w s h)
 
 -- closed escapes
 pub letter_chunks : Each (λ c. Chunk (92 ∷ c ∷ [])) (codes "dDsSwWtnvfr")
@@ -205,7 +229,19 @@ letter_chunks = (
           escape_chunk (119 ∷ []) _ refl (λ m p s. refl),
           (
             escape_chunk (87 ∷ []) _ refl (λ m p s. refl),
-            (escape_chunk (116 ∷ []) _ refl (λ m p s. refl), (escape_chunk (110 ∷ []) _ refl (λ m p s. refl), (escape_chunk (118 ∷ []) _ refl (λ m p s. refl), (escape_chunk (102 ∷ []) _ refl (λ m p s. refl), (escape_chunk (114 ∷ []) _ refl (λ m p s. refl), tt))))),
+            (
+              escape_chunk (116 ∷ []) _ refl (λ m p s. refl),
+              (
+                escape_chunk (110 ∷ []) _ refl (λ m p s. refl),
+                (
+                  escape_chunk (118 ∷ []) _ refl (λ m p s. refl),
+                  (
+                    escape_chunk (102 ∷ []) _ refl (λ m p s. refl),
+                    (escape_chunk (114 ∷ []) _ refl (λ m p s. refl), tt),
+                  ),
+                ),
+              ),
+            ),
           ),
         ),
       ),
@@ -231,17 +267,22 @@ small_scalar v h = grind (arith, nat_tests)
 
 coded_some : (h v : ℕ) (s : Text) → v < 256 → (e : Escape) × (leaf_of_value (bare false) 2 h v s ≡ gives e s)
 unfolding leaf_of_value
-coded_some h v s l = by_tests (2 == 2 && not false && nat_le 0x80 v && nat_le v 0xFF) (is_scalar v) (small_scalar v l) where
-  by_tests : (b c : Bool) → c ≡ true → (e : Escape) × ((if b then gives (literal_bytes v) s else if c then gives (literal v false) s else fault_at h invalid_codepoint_value) ≡ gives e s)
-  by_tests true c k = (_, refl)
-  by_tests false true k = (_, refl)
-  by_tests false false k = absurd cc
+coded_some h v s l =
+    by_tests (2 == 2 && not false && nat_le 0x80 v && nat_le v 0xFF) (is_scalar v) (small_scalar v l) where
+      by_tests : (b c : Bool) → c ≡ true →
+          (e : Escape) × ((if b then gives (literal_bytes v) s else if c then gives
+          (literal v false) s else fault_at h invalid_codepoint_value) ≡ gives e s)
+      by_tests true c k = (_, refl)
+      by_tests false true k = (_, refl)
+      by_tests false false k = absurd cc
 
-digits_read : (a b : ℕ) (s : Text) → a < 16 → b < 16 → fixed_digits 2 0 (upper_hex_digit a ∷ upper_hex_digit b ∷ s) ≡ Some ((0 * 16 + a) * 16 + b, s)
+digits_read : (a b : ℕ) (s : Text) → a < 16 → b < 16 →
+    fixed_digits 2 0 (upper_hex_digit a ∷ upper_hex_digit b ∷ s) ≡ Some ((0 * 16 + a) * 16 + b, s)
 unfolding fixed_digits hexes.hex_digit
 digits_read a b s h k = rw (hex_value a h, lt-ltb a 16 h, hex_value b k, lt-ltb b 16 k) refl
 
-hex_some : (m : ℕ) (a b : ℕ) (s : Text) → a < 16 → b < 16 → (e : Escape) × (hex m (bare false) 2 (upper_hex_digit a ∷ upper_hex_digit b ∷ s) ≡ gives e s)
+hex_some : (m : ℕ) (a b : ℕ) (s : Text) → a < 16 → b < 16 →
+    (e : Escape) × (hex m (bare false) 2 (upper_hex_digit a ∷ upper_hex_digit b ∷ s) ≡ gives e s)
 unfolding hex value
 hex_some m a b s h k =
     let t = upper_hex_digit a ∷ upper_hex_digit b ∷ s in
@@ -258,7 +299,9 @@ byte_chunk v h =
     let a : v / 16 < 16 = omega arith in
     let b : v % 16 < 16 = omega arith in
     record {
-      goes = λ m s r g. let (e, q) = hex_some m (v / 16) (v % 16) s a b in pass_escape m (120 ∷ upper_hex_digit (v / 16) ∷ upper_hex_digit (v % 16) ∷ s) s r e (hex_escape m _ _ ∙ q) g;
+      goes =
+          λ m s r g. let (e, q) = hex_some m (v / 16) (v % 16) s a b in
+          pass_escape m (120 ∷ upper_hex_digit (v / 16) ∷ upper_hex_digit (v % 16) ∷ s) s r e (hex_escape m _ _ ∙ q) g;
       no_caret = λ s. refl;
       no_close = λ s. refl;
       scalars = and_from _ _ (hex_scalar (v / 16) a) (and_from _ true (hex_scalar (v % 16) b) refl);
@@ -275,10 +318,14 @@ pub word_class : (c : ℕ) (w : Text) → all_plain (c ∷ w) ≡ true → (c ==
 word_class c w h a b k = bracket_chunk (c ∷ w) (word_chunk c w h a b k)
 
 pub alpha_digit : Chunk (codes "\\p{alpha}\\p{digit}")
-alpha_digit = both_chunk (codes "\\p{alpha}") (codes "\\p{digit}") (small_chunk (codes "alpha") (name_of (codes "alpha") refl)) (small_chunk (codes "digit") (name_of (codes "digit") refl))
+alpha_digit =
+    both_chunk (codes "\\p{alpha}") (codes "\\p{digit}") (small_chunk (codes "alpha") (name_of (codes "alpha") refl))
+    (small_chunk (codes "digit") (name_of (codes "digit") refl))
 
 pub blank_chunk : Chunk (codes "\\p{Zs}\\x09")
-blank_chunk = both_chunk (codes "\\p{Zs}") (codes "\\x09") (small_chunk (codes "Zs") (name_of (codes "Zs") refl)) (byte_chunk 9 refl)
+blank_chunk =
+    both_chunk (codes "\\p{Zs}") (codes "\\x09") (small_chunk (codes "Zs") (name_of (codes "Zs") refl))
+    (byte_chunk 9 refl)
 
 pub controls : Chunk (codes "\\x00-\\x1F\\x7F-\\x9F")
 controls =
@@ -292,7 +339,8 @@ controls =
 pub space_other : Chunk (codes "\\p{White_Space}\\p{C}")
 space_other =
     both_chunk (codes "\\p{White_Space}") (codes "\\p{C}")
-    (small_chunk (codes "White_Space") (name_of (codes "White_Space") refl)) (small_chunk (codes "C") (name_of (codes "C") refl))
+    (small_chunk (codes "White_Space") (name_of (codes "White_Space") refl))
+    (small_chunk (codes "C") (name_of (codes "C") refl))
 
 pub unprinted : Chunk (codes "\\p{C}\\t\\n\\v\\f\\r")
 unprinted =
@@ -314,18 +362,36 @@ form_ok true name h =
     cond_both (bytes_eq name (codes "alnum")) _ _ (λ k. FormOk (form true k name)) (λ _. alpha_digit)
     (λ _. cond_both (bytes_eq name (codes "blank")) _ _ (λ k. FormOk (form true k name)) (λ _. blank_chunk)
     (λ _. cond_both (bytes_eq name (codes "cntrl")) _ _ (λ k. FormOk (form true k name)) (λ _. controls)
-    (λ _. cond_both (bytes_eq name (codes "word")) _ _ (λ k. FormOk (form true k name)) (λ _. (letter_chunk 119 refl, letter_chunk 87 refl))
-    (λ _. cond_both (bytes_eq name (codes "graph")) _ _ (λ k. FormOk (form true k name)) (λ _. (caret_chunk (codes "\\p{White_Space}\\p{C}") space_other, bracket_chunk (codes "\\p{White_Space}\\p{C}") space_other))
-    (λ _. cond_both (bytes_eq name (codes "print")) _ _ (λ k. FormOk (form true k name)) (λ _. (caret_chunk (codes "\\p{C}\\t\\n\\v\\f\\r") unprinted, bracket_chunk (codes "\\p{C}\\t\\n\\v\\f\\r") unprinted))
+    (λ _. cond_both (bytes_eq name (codes "word")) _ _ (λ k. FormOk (form true k name))
+    (λ _. (letter_chunk 119 refl, letter_chunk 87 refl))
+    (λ _. cond_both (bytes_eq name (codes "graph")) _ _ (λ k. FormOk (form true k name))
+    (λ _. (
+      caret_chunk (codes "\\p{White_Space}\\p{C}") space_other,
+      bracket_chunk
+          (codes "\\p{White_Space}\\p{C}") space_other,
+    ))
+    (λ _. cond_both (bytes_eq name (codes "print")) _ _ (λ k. FormOk (form true k name))
+    (λ _. (
+      caret_chunk (codes "\\p{C}\\t\\n\\v\\f\\r") unprinted,
+      bracket_chunk
+          (codes "\\p{C}\\t\\n\\v\\f\\r") unprinted,
+    ))
     (λ _. cond_both (bytes_eq name (codes "cs")) _ _ (λ k. FormOk (form true k name)) (λ _. (any_large, any_small))
     (λ _. (small_chunk name h, large_chunk name h))))))))
 form_ok false name h =
-    cond_both (bytes_eq name (codes "alnum")) _ _ (λ k. FormOk (form false k name)) (λ _. word_class 58 (codes "alnum:") refl refl refl refl)
-    (λ _. cond_both (bytes_eq name (codes "blank")) _ _ (λ k. FormOk (form false k name)) (λ _. both_chunk (codes "\\t") (codes " ") (letter_chunk 116 refl) (word_chunk 32 [] refl refl refl refl))
-    (λ _. cond_both (bytes_eq name (codes "cntrl")) _ _ (λ k. FormOk (form false k name)) (λ _. word_class 58 (codes "cntrl:") refl refl refl refl)
-    (λ _. cond_both (bytes_eq name (codes "word")) _ _ (λ k. FormOk (form false k name)) (λ _. both_chunk (codes "_") (codes "[:alnum:]") (word_chunk 95 [] refl refl refl refl) (word_class 58 (codes "alnum:") refl refl refl refl))
-    (λ _. cond_both (bytes_eq name (codes "graph")) _ _ (λ k. FormOk (form false k name)) (λ _. word_class 58 (codes "graph:") refl refl refl refl)
-    (λ _. cond_both (bytes_eq name (codes "print")) _ _ (λ k. FormOk (form false k name)) (λ _. word_class 58 (codes "print:") refl refl refl refl)
+    cond_both (bytes_eq name (codes "alnum")) _ _ (λ k. FormOk (form false k name))
+    (λ _. word_class 58 (codes "alnum:") refl refl refl refl)
+    (λ _. cond_both (bytes_eq name (codes "blank")) _ _ (λ k. FormOk (form false k name))
+    (λ _. both_chunk (codes "\\t") (codes " ") (letter_chunk 116 refl) (word_chunk 32 [] refl refl refl refl))
+    (λ _. cond_both (bytes_eq name (codes "cntrl")) _ _ (λ k. FormOk (form false k name))
+    (λ _. word_class 58 (codes "cntrl:") refl refl refl refl)
+    (λ _. cond_both (bytes_eq name (codes "word")) _ _ (λ k. FormOk (form false k name))
+    (λ _. both_chunk (codes "_") (codes "[:alnum:]") (word_chunk 95 [] refl refl refl refl)
+    (word_class 58 (codes "alnum:") refl refl refl refl))
+    (λ _. cond_both (bytes_eq name (codes "graph")) _ _ (λ k. FormOk (form false k name))
+    (λ _. word_class 58 (codes "graph:") refl refl refl refl)
+    (λ _. cond_both (bytes_eq name (codes "print")) _ _ (λ k. FormOk (form false k name))
+    (λ _. word_class 58 (codes "print:") refl refl refl refl)
     (λ _. cond_both (bytes_eq name (codes "cs")) _ _ (λ k. FormOk (form false k name)) (λ _. (any_large, any_small))
     (λ _. (small_chunk name h, large_chunk name h))))))))
 
@@ -353,7 +419,8 @@ fine_if : (b : Bool) (p q : Reading Escape) → (b ≡ true → FineOf p) → Fi
 fine_if true p q h k = h refl
 fine_if false p q h k = k
 
-fine_then : {A : Type 0} (o : Reading A) (k : A → Text → Reading Escape) → ((a : A) (t : Text) → FineOf (k a t)) → FineOf (o >=> k)
+fine_then : {A : Type 0} (o : Reading A) (k : A → Text → Reading Escape) → ((a : A) (t : Text) → FineOf (k a t)) →
+    FineOf (o >=> k)
 fine_then (gives a t) k h = h a t
 fine_then (fails e) k h = tt
 
@@ -371,38 +438,54 @@ scalar_is v h = grind (arith, nat_tests)
 coded_fine : (u i : Bool) (w h v : ℕ) (t : Text) → FineOf (leaf_of_value (under u i false false false) w h v t)
 unfolding leaf_of_value
 coded_fine u i w h v t =
-    fine_if (w == 2 && not u && nat_le 0x80 v && nat_le v 0xFF) (gives (literal_bytes v) t) (if is_scalar v then gives (literal v i) t else fault_at h invalid_codepoint_value)
-    (λ e. second_so (w == 2 && not u && nat_le 0x80 v) _ e) (fine_if (is_scalar v) (gives (literal v i) t) (fault_at h invalid_codepoint_value) (scalar_is v) tt)
+    fine_if (w == 2 && not u && nat_le 0x80 v && nat_le v 0xFF) (gives (literal_bytes v) t)
+    (if is_scalar v then gives (literal v i) t else fault_at h invalid_codepoint_value)
+    (λ e. second_so (w == 2 && not u && nat_le 0x80 v) _ e)
+    (fine_if (is_scalar v) (gives (literal v i) t) (fault_at h invalid_codepoint_value) (scalar_is v) tt)
 
 hex_fine : (u i : Bool) (n w : ℕ) (t : Text) → FineOf (hex n (under u i false false false) w t)
 unfolding hex
-hex_fine u i n w t = fine_then (layout_reading (layout n false t)) _ (λ _ v. fine_then (value n false (place_of n v) w v) _ (λ a r. coded_fine u i w (place_of n v) a r))
+hex_fine u i n w t =
+    fine_then (layout_reading (layout n false t)) _
+    (λ _ v. fine_then (value n false (place_of n v) w v) _ (λ a r. coded_fine u i w (place_of n v) a r))
 
 read_fine : (u i : Bool) (p : ℕ) (b : Bool) (o : Option (PropertyName × Text)) → NameSome o
-    → FineOf (choose (option_map {T = PropertyName × Text} {U = Property × Text} (λ q. (prop b q.0, q.1)) o) (λ q. gives (delegate (property_text u true q.0) i) q.1) (fault_at p unclosed_unicode_name))
+    → FineOf (choose (option_map {T = PropertyName × Text} {U = Property × Text} (λ q. (prop b q.0, q.1)) o)
+    (λ q. gives (delegate (property_text u true q.0) i) q.1) (fault_at p unclosed_unicode_name))
 read_fine u i p b None h = tt
 read_fine u i p b (Some q) h = property_chunk u b q.0 h
 
-property_fine : (u i : Bool) (p c : ℕ) (t : Text) → all_scalars t ≡ true → FineOf (property (under u i false false false) true p c t)
+property_fine : (u i : Bool) (p c : ℕ) (t : Text) → all_scalars t ≡ true →
+    FineOf (property (under u i false false false) true p c t)
 unfolding property read_property
 property_fine u i p c [] h = tt
 property_fine u i p c (d ∷ t) h = read_fine u i p (c ∈ "P") (name_at (d ∷ t)) (name_ok d t h)
 
 set_letter : (c : ℕ) → c ∈ "dDsSwW" ≡ true → Chunk (92 ∷ c ∷ [])
-set_letter c h = each_at (λ c. Chunk (92 ∷ c ∷ [])) (codes "dDsSwW") c (letter_chunks.0, (letter_chunks.1.0, (letter_chunks.1.1.0, (letter_chunks.1.1.1.0, (letter_chunks.1.1.1.1.0, (letter_chunks.1.1.1.1.1.0, tt)))))) h
+set_letter c h =
+    each_at (λ c. Chunk (92 ∷ c ∷ [])) (codes "dDsSwW") c (
+      letter_chunks.0,
+      (
+        letter_chunks.1.0,
+        (letter_chunks.1.1.0, (letter_chunks.1.1.1.0, (letter_chunks.1.1.1.1.0, (letter_chunks.1.1.1.1.1.0, tt)))),
+      ),
+    ) h
 
 pub hex_word : Chunk (codes "0-9A-Fa-f")
 hex_word = word_chunk 48 (codes "-9A-Fa-f") refl refl refl refl
 
-pub escape_fine : (u i : Bool) (n p : ℕ) (t : Text) → all_scalars t ≡ true → FineOf (escape n (under u i false false false) true p t)
+pub escape_fine : (u i : Bool) (n p : ℕ) (t : Text) → all_scalars t ≡ true →
+    FineOf (escape n (under u i false false false) true p t)
 unfolding escape in_class
 escape_fine u i n p [] k = tt
 escape_fine u i n p (c ∷ t) k =
     let (here, more) = and_parts _ (all_scalars t) k in
     fine_if (is_ascii_digit c) _ _ (λ _. numbered_fine n p (under u i false false false) (c ∷ t))
     (fine_if (c ∈ "dDsSwW") (gives (delegate (92 ∷ c ∷ []) i) t) _ (λ e. set_letter c e)
-    (fine_if (c ∈ "h") (gives (delegate (codes "[0-9A-Fa-f]") false) t) _ (λ _. bracket_chunk (codes "0-9A-Fa-f") hex_word)
-    (fine_if (c ∈ "H") (gives (delegate (codes "[^0-9A-Fa-f]") false) t) _ (λ _. caret_chunk (codes "0-9A-Fa-f") hex_word)
+    (fine_if (c ∈ "h") (gives (delegate (codes "[0-9A-Fa-f]") false) t) _
+    (λ _. bracket_chunk (codes "0-9A-Fa-f") hex_word)
+    (fine_if (c ∈ "H") (gives (delegate (codes "[^0-9A-Fa-f]") false) t) _
+    (λ _. caret_chunk (codes "0-9A-Fa-f") hex_word)
     (fine_if (c ∈ "x") (hex n (under u i false false false) 2 t) _ (λ _. hex_fine u i n 2 t)
     (fine_if (c ∈ "u") (hex n (under u i false false false) 4 t) _ (λ _. hex_fine u i n 4 t)
     (fine_if (c ∈ "U") (hex n (under u i false false false) 8 t) _ (λ _. hex_fine u i n 8 t)

@@ -26,7 +26,8 @@ pass_close m v b = (_, b, close)
 pub pass_plain : (m c : ℕ) (s v : Text) → is_plain c ≡ true → Goes m s v → Goes m (c ∷ s) v
 pass_plain m c s v p g b = let (y, a, h) = g b in (c ∷ y, a, plain p h)
 
-pub pass_escape : (m : ℕ) (t s v : Text) (e : Escape) → escape m (bare false) true (place_of m (92 ∷ t)) t ≡ gives e s → Goes m s v → Goes m (92 ∷ t) v
+pub pass_escape : (m : ℕ) (t s v : Text) (e : Escape) →
+    escape m (bare false) true (place_of m (92 ∷ t)) t ≡ gives e s → Goes m s v → Goes m (92 ∷ t) v
 pass_escape m t s v e q g b = let (y, a, h) = g (b || is_negated e) in (item_text b e ++ y, a, escaped q h)
 
 pub pass_nested : (m : ℕ) (t s v : Text) → ClassGoes m t s → Goes m s v → Goes m (91 ∷ t) v
@@ -35,7 +36,8 @@ pass_nested m t s v k g b =
     let (y, a, i) = g c in
     (x ++ y, a, nested h i)
 
-pub pass_class : (m : ℕ) (t head r v : Text) → ◌≡◌ {A = Text × Text} (class_head [] t) (head, r) → Goes m r v → ClassGoes m t v
+pub pass_class : (m : ℕ) (t head r v : Text) → ◌≡◌ {A = Text × Text} (class_head [] t) (head, r) → Goes m r v →
+    ClassGoes m t v
 pass_class m t head r v e g b = let (y, a, h) = g b in (head ++ y, a, class_items e h)
 
 -- what is written for an item: it goes on, and begins with neither a caret nor a closing bracket
@@ -62,7 +64,12 @@ both_chunk w x p q =
     }
 
 pub amp_chunk : Chunk (codes "&&")
-amp_chunk = record { goes = λ m s v g. pass_plain m 38 (38 ∷ s) v refl (pass_plain m 38 s v refl g); no_caret = λ s. refl; no_close = λ s. refl; scalars = refl }
+amp_chunk = record {
+  goes = λ m s v g. pass_plain m 38 (38 ∷ s) v refl (pass_plain m 38 s v refl g);
+  no_caret = λ s. refl;
+  no_close = λ s. refl;
+  scalars = refl;
+}
 
 -- ---- characters
 
@@ -83,7 +90,8 @@ pub each_at : (P : ℕ → Type 0) (xs : List ℕ) (c : ℕ) → Each P xs → i
 each_at P [] c h e = absurd (both_ways false refl e)
 each_at P (x ∷ []) c h e = subst P (sym (eqb-true c x e)) h.0
 each_at P (x ∷ y ∷ xs) c h e =
-    ⊎_elim (λ same. subst P (sym (eqb-true c x same)) h.0) (λ more. each_at P (y ∷ xs) c h.1 more) (or_cases (c == x) _ e)
+    ⊎_elim (λ same. subst P (sym (eqb-true c x same)) h.0) (λ more. each_at P (y ∷ xs) c h.1 more)
+    (or_cases (c == x) _ e)
 
 abbrev class_marks : Text
 class_marks = codes "\\.+*?()|[]{}^$#&-~"
@@ -93,11 +101,59 @@ Escapes c = (m p : ℕ) (s : Text) → escape m (bare false) true p (c ∷ s) �
 
 escapes_marks : Each Escapes class_marks
 unfolding escape
-escapes_marks = ((λ m p s. refl), ((λ m p s. refl), ((λ m p s. refl), ((λ m p s. refl), ((λ m p s. refl), ((λ m p s. refl), ((λ m p s. refl), ((λ m p s. refl), ((λ m p s. refl), ((λ m p s. refl), ((λ m p s. refl), ((λ m p s. refl), ((λ m p s. refl), ((λ m p s. refl), ((λ m p s. refl), ((λ m p s. refl), ((λ m p s. refl), ((λ m p s. refl), tt))))))))))))))))))
+escapes_marks = (
+  (λ m p s. refl),
+  (
+    (λ m p s. refl),
+    (
+      (λ m p s. refl),
+      (
+        (λ m p s. refl),
+        (
+          (λ m p s. refl),
+          (
+            (λ m p s. refl),
+            (
+              (λ m p s. refl),
+              (
+                (λ m p s. refl),
+                (
+                  (λ m p s. refl),
+                  (
+                    (λ m p s. refl),
+                    (
+                      (λ m p s. refl),
+                      (
+                        (λ m p s. refl),
+                        (
+                          (λ m p s. refl),
+                          (
+                            (λ m p s. refl),
+                            ((λ m p s. refl), ((λ m p s. refl), ((λ m p s. refl), ((λ m p s. refl), tt)))),
+                          ),
+                        ),
+                      ),
+                    ),
+                  ),
+                ),
+              ),
+            ),
+          ),
+        ),
+      ),
+    ),
+  ),
+)
 
 mark_chunk : (c : ℕ) → IsScalar c → needs_backslash_in_class c ≡ true → Chunk (92 ∷ c ∷ [])
 mark_chunk c k h =
-    record { goes = λ m s v g. pass_escape m (c ∷ s) s v (literal c false) (each_at Escapes class_marks c escapes_marks h m (place_of m (92 ∷ c ∷ s)) s) g; no_caret = λ s. refl; no_close = λ s. refl; scalars = and_from _ true k refl }
+    record {
+      goes = λ m s v g. pass_escape m (c ∷ s) s v (literal c false)
+          (each_at Escapes class_marks c escapes_marks h m (place_of m (92 ∷ c ∷ s)) s) g;
+      no_caret = λ s. refl;
+      no_close = λ s. refl;
+      scalars = and_from _ true k refl;
+    }
 
 plain_chunk : (c : ℕ) → IsScalar c → needs_backslash_in_class c ≡ false → Chunk (c ∷ [])
 plain_chunk c i h =
@@ -107,7 +163,12 @@ plain_chunk c i h =
     let bracket = k.0 in
     let close_ = k.1.0 in
     let caret_ = k.1.1.1.1.0 in
-    record { goes = λ m s v g. pass_plain m c s v (rw (slash, bracket, close_) refl) g; no_caret = λ s. rw caret_ refl; no_close = λ s. rw close_ refl; scalars = and_from _ true i refl }
+    record {
+      goes = λ m s v g. pass_plain m c s v (rw (slash, bracket, close_) refl) g;
+      no_caret = λ s. rw caret_ refl;
+      no_close = λ s. rw close_ refl;
+      scalars = and_from _ true i refl;
+    }
 
 pub char_chunk : (c : ℕ) → IsScalar c → Chunk (char_text c)
 char_chunk c k = cond_both (needs_backslash_in_class c) _ _ Chunk (λ h. mark_chunk c k h) (λ h. plain_chunk c k h)

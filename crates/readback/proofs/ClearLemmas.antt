@@ -94,7 +94,10 @@ pub ends_close : (v : Text) → Ends (41 ∷ v)
 ends_close v = record { stops = record { clear = clear_close v; ends = refl }; no_bar = refl }
 
 pub ends_nothing : Ends []
-ends_nothing = record { stops = record { clear = record { no_comment = refl; no_mark = refl }; ends = refl }; no_bar = refl }
+ends_nothing = record {
+  stops = record { clear = record { no_comment = refl; no_mark = refl }; ends = refl };
+  no_bar = refl;
+}
 
 -- ---- the characters that are quoted
 
@@ -131,7 +134,43 @@ Escapes x c = (n : ℕ) (f : Flags) (p : ℕ) (t : Text) → escape n f false p 
 
 escapes_marks : Each (λ m. Escapes m m) marks
 unfolding escape
-escapes_marks = ((λ n f p t. refl), ((λ n f p t. refl), ((λ n f p t. refl), ((λ n f p t. refl), ((λ n f p t. refl), ((λ n f p t. refl), ((λ n f p t. refl), ((λ n f p t. refl), ((λ n f p t. refl), ((λ n f p t. refl), ((λ n f p t. refl), ((λ n f p t. refl), ((λ n f p t. refl), ((λ n f p t. refl), ((λ n f p t. refl), tt)))))))))))))))
+escapes_marks = (
+  (λ n f p t. refl),
+  (
+    (λ n f p t. refl),
+    (
+      (λ n f p t. refl),
+      (
+        (λ n f p t. refl),
+        (
+          (λ n f p t. refl),
+          (
+            (λ n f p t. refl),
+            (
+              (λ n f p t. refl),
+              (
+                (λ n f p t. refl),
+                (
+                  (λ n f p t. refl),
+                  (
+                    (λ n f p t. refl),
+                    (
+                      (λ n f p t. refl),
+                      (
+                        (λ n f p t. refl),
+                        ((λ n f p t. refl), ((λ n f p t. refl), ((λ n f p t. refl), tt))),
+                      ),
+                    ),
+                  ),
+                ),
+              ),
+            ),
+          ),
+        ),
+      ),
+    ),
+  ),
+)
 
 escapes_n : Escapes 110 10
 unfolding escape

@@ -43,7 +43,12 @@ number_read n s h d =
     (record {
       w = decimal n;
       cut = refl;
-      number = record { digits = all_digits (decimal n) numeral.1; some = numeral.0; stops = stop_at s d; value_is = sym value ∙ same_value 0 (decimal n) numeral.1 };
+      number = record {
+        digits = all_digits (decimal n) numeral.1;
+        some = numeral.0;
+        stops = stop_at s d;
+        value_is = sym value ∙ same_value 0 (decimal n) numeral.1;
+      };
     })
 
 no_comment : (ds s : Text) → IsNumeral 10 ds → after_comment_head (ds ++ s) ≡ None
@@ -63,7 +68,14 @@ count_read : (n : ℕ) (s : Text) → n < 2 ^ 64 → at_digit s ≡ false → af
     spaced_count false (decimal n ++ s) ≡ counted_some n s
 unfolding spaced_count count
 count_read n s h d e =
-    rw (skip_same (decimal n ++ s) (no_comment (decimal n) s (decimal_is_IsNumeral n h).0), number_read n s h d, lt-ltb n (2 ^ 64) h, skip_same s e) refl
+    rw (
+      skip_same (decimal n ++ s)
+          (no_comment (decimal n) s (decimal_is_IsNumeral n h).0),
+      number_read n s h d,
+      lt-ltb n
+          (2 ^ 64) h,
+      skip_same s e,
+    ) refl
 
 count_none : (s : Text) → at_digit s ≡ false → after_comment_head s ≡ None → spaced_count false s ≡ counted_none s
 unfolding spaced_count count
@@ -77,14 +89,16 @@ braces_one : (n : ℕ) (s : Text) → n < 2 ^ 64 → braced_counts false (decima
 unfolding braced_counts
 braces_one n s h = rw (count_read n (125 ∷ s) h refl refl) refl
 
-braces_open : (lo : ℕ) (s : Text) → lo < 2 ^ 64 → braced_counts false (decimal lo ++ 44 ∷ 125 ∷ s) ≡ counted lo most true s
+braces_open : (lo : ℕ) (s : Text) → lo < 2 ^ 64 →
+    braced_counts false (decimal lo ++ 44 ∷ 125 ∷ s) ≡ counted lo most true s
 unfolding braced_counts counts_from
 braces_open lo s h = rw (count_read lo (44 ∷ 125 ∷ s) h refl refl, count_none (125 ∷ s) refl refl) refl
 
 braces_both : (lo hi : ℕ) (s : Text) → lo < 2 ^ 64 → hi < 2 ^ 64 →
     braced_counts false (decimal lo ++ 44 ∷ (decimal hi ++ 125 ∷ s)) ≡ counted lo hi true s
 unfolding braced_counts counts_from
-braces_both lo hi s l h = rw (count_read lo (44 ∷ (decimal hi ++ 125 ∷ s)) l refl refl, count_read hi (125 ∷ s) h refl refl) refl
+braces_both lo hi s l h =
+    rw (count_read lo (44 ∷ (decimal hi ++ 125 ∷ s)) l refl refl, count_read hi (125 ∷ s) h refl refl) refl
 
 -- a boundary ends before the text: no name in braces follows it
 abbrev pub NoName : Text → Type 0
@@ -103,7 +117,8 @@ digit_first (d ∷ ds) s h = rw ((digit_is d h.1.0).0) refl
 
 brace_name : (ds s : Text) → IsNumeral 10 ds → NoName (123 ∷ (ds ++ s))
 unfolding boundary
-brace_name ds s h n p negated = rw (no_layout n (123 ∷ (ds ++ s)) refl, no_layout n (ds ++ s) (no_comment ds s h), digit_first ds s h) refl
+brace_name ds s h n p negated =
+    rw (no_layout n (123 ∷ (ds ++ s)) refl, no_layout n (ds ++ s) (no_comment ds s h), digit_first ds s h) refl
 
 -- the mark w in front of s
 pub record IsMark (lo hi : ℕ) (s w : Text) : Type 0 where
@@ -116,12 +131,13 @@ same_counts : (lo hi l h : ℕ) (b : Bool) (s : Text) → l ≡ lo → h ≡ hi 
 same_counts lo hi l h b s e g = ap₂ (λ x y. counted x y b s) (sym e) (sym g)
 
 brace_mark : (lo hi n : ℕ) (w r s : Text) → n < 2 ^ 64 → r ≡ decimal n ++ w →
-    braced_counts false (decimal n ++ (w ++ 125 ∷ s)) ≡ counted lo hi true s → IsMark lo hi s (codes "{" ++ (r ++ codes "}"))
+    braced_counts false (decimal n ++ (w ++ 125 ∷ s)) ≡ counted lo hi true s →
+    IsMark lo hi s (codes "{" ++ (r ++ codes "}"))
 unfolding counts
 brace_mark lo hi n w r s h q e =
     let numeral = (decimal_is_IsNumeral n h).0 in
     let same : (r ++ 125 ∷ []) ++ s ≡ decimal n ++ (w ++ 125 ∷ s) =
-        append_assoc r (125 ∷ []) s ∙ ap (λ x. x ++ 125 ∷ s) q ∙ append_assoc (decimal n) w (125 ∷ s) in
+    append_assoc r (125 ∷ []) s ∙ ap (λ x. x ++ 125 ∷ s) q ∙ append_assoc (decimal n) w (125 ∷ s) in
     record {
       braces = true;
       counts = ap (braced_counts false) same ∙ e;
@@ -132,7 +148,12 @@ brace_mark lo hi n w r s h q e =
 sign_mark : (lo hi l h c : ℕ) (s : Text) → lo ≡ l → hi ≡ h → counts false (c ∷ s) ≡ counted l h false s →
     after_comment_head (c ∷ s) ≡ None → strip 123 (c ∷ s) ≡ None → IsMark lo hi s (c ∷ [])
 sign_mark lo hi l h c s a b e o n =
-    record { braces = false; counts = e ∙ same_counts l h lo hi false s a b; no_comment = o; no_name = no_brace (c ∷ s) o n }
+    record {
+      braces = false;
+      counts = e ∙ same_counts l h lo hi false s a b;
+      no_comment = o;
+      no_name = no_brace (c ∷ s) o n;
+    }
 
 abbrev MarkIs : ℕ → ℕ → Text → Option ℕ → Type 0
 MarkIs lo hi s o = IsMark lo hi s (counts_as lo hi o)
@@ -155,9 +176,11 @@ mark_read lo hi s l h =
     cond_both ((lo == 0) && (hi == 1)) _ _ (MarkIs lo hi s)
     (λ e. let (a, b) = and_parts _ _ e in sign_mark lo hi 0 1 63 s (eqb-true lo 0 a) (eqb-true hi 1 b) refl refl refl)
     (λ _. cond_both ((lo == 0) && (hi == most)) _ _ (MarkIs lo hi s)
-    (λ e. let (a, b) = and_parts _ _ e in sign_mark lo hi 0 most 42 s (eqb-true lo 0 a) (eqb-true hi most b) refl refl refl)
+    (λ e. let (a, b) = and_parts _ _ e in
+    sign_mark lo hi 0 most 42 s (eqb-true lo 0 a) (eqb-true hi most b) refl refl refl)
     (λ _. cond_both ((lo == 1) && (hi == most)) _ _ (MarkIs lo hi s)
-    (λ e. let (a, b) = and_parts _ _ e in sign_mark lo hi 1 most 43 s (eqb-true lo 1 a) (eqb-true hi most b) refl refl refl)
+    (λ e. let (a, b) = and_parts _ _ e in
+    sign_mark lo hi 1 most 43 s (eqb-true lo 1 a) (eqb-true hi most b) refl refl refl)
     (λ _. range_mark lo hi s l h)))
 
 -- the lazy mark

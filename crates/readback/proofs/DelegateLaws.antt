@@ -37,14 +37,17 @@ unfolding class_of
 class_whole t k g =
     let (y, a, h) = g false in
     and_from (all_scalars (91 ∷ t)) _ k
-    (ap (λ o. is_some (whole_leaf (leaf_outcome (λ w. delegate w false) (st (bare false) (91 ∷ t)) o))) (class_complete (bytes (91 ∷ t)) (bare false) t _ h))
+    (ap (λ o. is_some (whole_leaf (leaf_outcome (λ w. delegate w false) (st (bare false) (91 ∷ t)) o)))
+    (class_complete (bytes (91 ∷ t)) (bare false) t _ h))
 
 escape_whole : (t w : Text) (b : Bool) → all_scalars t ≡ true →
-    escape (bytes (92 ∷ t)) (bare false) false (place_of (bytes (92 ∷ t)) (92 ∷ t)) t ≡ gives (escaped.delegate w b) [] →
+    escape (bytes (92 ∷ t)) (bare false) false (place_of (bytes (92 ∷ t)) (92 ∷ t)) t ≡ gives
+    (escaped.delegate w b) [] →
     IsWhole (92 ∷ t)
 unfolding class_of
 escape_whole t w b k e =
-    and_from (all_scalars (92 ∷ t)) _ k (ap (λ o. is_some (whole_leaf (leaf_outcome leaf_node (st (bare false) (92 ∷ t)) o))) e)
+    and_from (all_scalars (92 ∷ t)) _ k
+    (ap (λ o. is_some (whole_leaf (leaf_outcome leaf_node (st (bare false) (92 ∷ t)) o))) e)
 
 -- ---- a class
 
@@ -66,7 +69,8 @@ class_stays u i n t x k e = by_reading (class_reads n (under u i false false fal
 
     by_reading : (o : Outcome) × Class n (under u i false false false) false t o → IsWhole x
     by_reading (written w a v, h) =
-        again (subst ClassAgain (same_written x w v (sym (class_complete n (under u i false false false) t _ h) ∙ e)).0 (class_again h k))
+        again (subst ClassAgain (same_written x w v (sym (class_complete n (under u i false false false) t _ h) ∙ e)).0
+        (class_again h k))
     by_reading (fault z, h) = absurd (no_fault z (sym (class_complete n (under u i false false false) t _ h) ∙ e))
 
 -- ---- a class escape
@@ -131,18 +135,36 @@ form_whole true name h =
     cond_both (bytes_eq name (codes "alnum")) _ _ (λ k. FormWhole (form true k name)) (λ _. alpha_digit)
     (λ _. cond_both (bytes_eq name (codes "blank")) _ _ (λ k. FormWhole (form true k name)) (λ _. blank_chunk)
     (λ _. cond_both (bytes_eq name (codes "cntrl")) _ _ (λ k. FormWhole (form true k name)) (λ _. controls)
-    (λ _. cond_both (bytes_eq name (codes "word")) _ _ (λ k. FormWhole (form true k name)) (λ _. (letter_whole 119 refl, letter_whole 87 refl))
-    (λ _. cond_both (bytes_eq name (codes "graph")) _ _ (λ k. FormWhole (form true k name)) (λ _. (caret_whole (codes "\\p{White_Space}\\p{C}") space_other, bracket_whole (codes "\\p{White_Space}\\p{C}") space_other))
-    (λ _. cond_both (bytes_eq name (codes "print")) _ _ (λ k. FormWhole (form true k name)) (λ _. (caret_whole (codes "\\p{C}\\t\\n\\v\\f\\r") unprinted, bracket_whole (codes "\\p{C}\\t\\n\\v\\f\\r") unprinted))
+    (λ _. cond_both (bytes_eq name (codes "word")) _ _ (λ k. FormWhole (form true k name))
+    (λ _. (letter_whole 119 refl, letter_whole 87 refl))
+    (λ _. cond_both (bytes_eq name (codes "graph")) _ _ (λ k. FormWhole (form true k name))
+    (λ _. (
+      caret_whole (codes "\\p{White_Space}\\p{C}") space_other,
+      bracket_whole
+          (codes "\\p{White_Space}\\p{C}") space_other,
+    ))
+    (λ _. cond_both (bytes_eq name (codes "print")) _ _ (λ k. FormWhole (form true k name))
+    (λ _. (
+      caret_whole (codes "\\p{C}\\t\\n\\v\\f\\r") unprinted,
+      bracket_whole
+          (codes "\\p{C}\\t\\n\\v\\f\\r") unprinted,
+    ))
     (λ _. cond_both (bytes_eq name (codes "cs")) _ _ (λ k. FormWhole (form true k name)) (λ _. (any_large, any_small))
     (λ _. (small_whole name h, large_whole name h))))))))
 form_whole false name h =
-    cond_both (bytes_eq name (codes "alnum")) _ _ (λ k. FormWhole (form false k name)) (λ _. word_class 58 (codes "alnum:") refl refl refl refl)
-    (λ _. cond_both (bytes_eq name (codes "blank")) _ _ (λ k. FormWhole (form false k name)) (λ _. both_chunk (codes "\\t") (codes " ") (letter_chunk 116 refl) (word_chunk 32 [] refl refl refl refl))
-    (λ _. cond_both (bytes_eq name (codes "cntrl")) _ _ (λ k. FormWhole (form false k name)) (λ _. word_class 58 (codes "cntrl:") refl refl refl refl)
-    (λ _. cond_both (bytes_eq name (codes "word")) _ _ (λ k. FormWhole (form false k name)) (λ _. both_chunk (codes "_") (codes "[:alnum:]") (word_chunk 95 [] refl refl refl refl) (word_class 58 (codes "alnum:") refl refl refl refl))
-    (λ _. cond_both (bytes_eq name (codes "graph")) _ _ (λ k. FormWhole (form false k name)) (λ _. word_class 58 (codes "graph:") refl refl refl refl)
-    (λ _. cond_both (bytes_eq name (codes "print")) _ _ (λ k. FormWhole (form false k name)) (λ _. word_class 58 (codes "print:") refl refl refl refl)
+    cond_both (bytes_eq name (codes "alnum")) _ _ (λ k. FormWhole (form false k name))
+    (λ _. word_class 58 (codes "alnum:") refl refl refl refl)
+    (λ _. cond_both (bytes_eq name (codes "blank")) _ _ (λ k. FormWhole (form false k name))
+    (λ _. both_chunk (codes "\\t") (codes " ") (letter_chunk 116 refl) (word_chunk 32 [] refl refl refl refl))
+    (λ _. cond_both (bytes_eq name (codes "cntrl")) _ _ (λ k. FormWhole (form false k name))
+    (λ _. word_class 58 (codes "cntrl:") refl refl refl refl)
+    (λ _. cond_both (bytes_eq name (codes "word")) _ _ (λ k. FormWhole (form false k name))
+    (λ _. both_chunk (codes "_") (codes "[:alnum:]") (word_chunk 95 [] refl refl refl refl)
+    (word_class 58 (codes "alnum:") refl refl refl refl))
+    (λ _. cond_both (bytes_eq name (codes "graph")) _ _ (λ k. FormWhole (form false k name))
+    (λ _. word_class 58 (codes "graph:") refl refl refl refl)
+    (λ _. cond_both (bytes_eq name (codes "print")) _ _ (λ k. FormWhole (form false k name))
+    (λ _. word_class 58 (codes "print:") refl refl refl refl)
     (λ _. cond_both (bytes_eq name (codes "cs")) _ _ (λ k. FormWhole (form false k name)) (λ _. (any_large, any_small))
     (λ _. (small_whole name h, large_whole name h))))))))
 
@@ -161,24 +183,30 @@ property_whole u b (braced s) h =
     outside_form p.0 (form u (look_up (lowercase p.1)) (lowercase p.1)) (form_whole u (lowercase p.1) ok)
 
 read_whole : (u i : Bool) (p : ℕ) (b : Bool) (o : Option (PropertyName × Text)) → NameSome o
-    → WholeOf (choose (option_map {T = PropertyName × Text} {U = Property × Text} (λ q. (prop b q.0, q.1)) o) (λ q. gives (escaped.delegate (property_text u false q.0) i) q.1) (fault_at p unclosed_unicode_name))
+    → WholeOf (choose (option_map {T = PropertyName × Text} {U = Property × Text} (λ q. (prop b q.0, q.1)) o)
+    (λ q. gives (escaped.delegate (property_text u false q.0) i) q.1) (fault_at p unclosed_unicode_name))
 read_whole u i p b None h = tt
 read_whole u i p b (Some q) h = property_whole u b q.0 h
 
-outside_property : (u i : Bool) (p c : ℕ) (t : Text) → all_scalars t ≡ true → WholeOf (property (under u i false false false) false p c t)
+outside_property : (u i : Bool) (p c : ℕ) (t : Text) → all_scalars t ≡ true →
+    WholeOf (property (under u i false false false) false p c t)
 unfolding property read_property
 outside_property u i p c [] h = tt
 outside_property u i p c (d ∷ t) h = read_whole u i p (c ∈ "P") (name_at (d ∷ t)) (name_ok d t h)
 
-outside_whole : (u i : Bool) (n p : ℕ) (t : Text) → all_scalars t ≡ true → WholeOf (escape n (under u i false false false) false p t)
+outside_whole : (u i : Bool) (n p : ℕ) (t : Text) → all_scalars t ≡ true →
+    WholeOf (escape n (under u i false false false) false p t)
 unfolding escape numbered
 outside_whole u i n p [] k = tt
 outside_whole u i n p (c ∷ t) k =
     let f = under u i false false false in
-    whole_if (is_ascii_digit c) (numbered n f false p (c ∷ t)) _ (λ _. whole_none _ (referring_none f (numbered_reference n (c ∷ t))))
+    whole_if (is_ascii_digit c) (numbered n f false p (c ∷ t)) _
+    (λ _. whole_none _ (referring_none f (numbered_reference n (c ∷ t))))
     (whole_if (c ∈ "dDsSwW") (gives (escaped.delegate (92 ∷ c ∷ []) i) t) _ (λ e. letter_whole c e)
-    (whole_if (c ∈ "h") (gives (escaped.delegate (codes "[0-9A-Fa-f]") false) t) _ (λ _. bracket_whole (codes "0-9A-Fa-f") hex_word)
-    (whole_if (c ∈ "H") (gives (escaped.delegate (codes "[^0-9A-Fa-f]") false) t) _ (λ _. caret_whole (codes "0-9A-Fa-f") hex_word)
+    (whole_if (c ∈ "h") (gives (escaped.delegate (codes "[0-9A-Fa-f]") false) t) _
+    (λ _. bracket_whole (codes "0-9A-Fa-f") hex_word)
+    (whole_if (c ∈ "H") (gives (escaped.delegate (codes "[^0-9A-Fa-f]") false) t) _
+    (λ _. caret_whole (codes "0-9A-Fa-f") hex_word)
     (whole_if (c ∈ "x") (hex n f 2 t) _ (λ _. whole_none _ (hex_none n f 2 t))
     (whole_if (c ∈ "u") (hex n f 4 t) _ (λ _. whole_none _ (hex_none n f 4 t))
     (whole_if (c ∈ "U") (hex n f 8 t) _ (λ _. whole_none _ (hex_none n f 8 t))
@@ -223,10 +251,12 @@ delegates_stay u i (c ∷ t) h = by_bracket (cases_eq c 91)
   where
     by_escape : (c ≢ 91) → (c ≡ 92) ⊎ (c ≢ 92) → printable (normal u (delegate (c ∷ t) i)) ≡ true
     by_escape a (inl e) =
-        subst (λ x. printable (normal u (delegate (x ∷ t) i)) ≡ true) (sym e) (escape_stays u i t (subst (λ x. IsWhole (x ∷ t)) e h))
+        subst (λ x. printable (normal u (delegate (x ∷ t) i)) ≡ true) (sym e)
+        (escape_stays u i t (subst (λ x. IsWhole (x ∷ t)) e h))
     by_escape a (inr b) = no_class (c ∷ t) (no_other c t (ne_eqb c 91 a) (ne_eqb c 92 b)) h
 
     by_bracket : (c ≡ 91) ⊎ (c ≢ 91) → printable (normal u (delegate (c ∷ t) i)) ≡ true
     by_bracket (inl e) =
-        subst (λ x. printable (normal u (delegate (x ∷ t) i)) ≡ true) (sym e) (bracket_stays u i t (subst (λ x. IsWhole (x ∷ t)) e h))
+        subst (λ x. printable (normal u (delegate (x ∷ t) i)) ≡ true) (sym e)
+        (bracket_stays u i t (subst (λ x. IsWhole (x ∷ t)) e h))
     by_bracket (inr a) = by_escape a (cases_eq c 92)

@@ -27,21 +27,27 @@ whole_is (c ∷ s) t h = no_truth h
 
 -- ---- a class
 
-bracket_whole : (s : State) (o : Reading Text) → is_some (whole_leaf (leaf_outcome (λ w. delegate w false) s o)) ≡ true → (w : Text) × (o ≡ gives w [])
+bracket_whole : (s : State) (o : Reading Text) →
+    is_some (whole_leaf (leaf_outcome (λ w. delegate w false) s o)) ≡ true → (w : Text) × (o ≡ gives w [])
 bracket_whole s (gives w v) h = (w, ap (gives w) (whole_is v (delegate w false) h).0)
 bracket_whole s (fails e) h = no_truth h
 
-pub bracket_read : (t : Text) → is_some (class_of (bare false) (91 ∷ t)) ≡ true → (w : Text) × (class (bytes (91 ∷ t)) (bare false) t ≡ gives w [])
+pub bracket_read : (t : Text) → is_some (class_of (bare false) (91 ∷ t)) ≡ true →
+    (w : Text) × (class (bytes (91 ∷ t)) (bare false) t ≡ gives w [])
 unfolding class_of
 bracket_read t h = bracket_whole (st (bare false) (91 ∷ t)) _ h
 
-pub bracket_normal : (u i : Bool) (t x : Text) → class (bytes (91 ∷ t)) (under u i false false false) (t ++ []) ≡ gives x [] → normal u (delegate (91 ∷ t) i) ≡ delegate x i
+pub bracket_normal : (u i : Bool) (t x : Text) →
+    class (bytes (91 ∷ t)) (under u i false false false) (t ++ []) ≡ gives x [] →
+    normal u (delegate (91 ∷ t) i) ≡ delegate x i
 unfolding class_of
 bracket_normal u i t x e =
-    ap (λ o. unwrap_or (whole_leaf (leaf_outcome (λ w. delegate w i) (st (under u i false false false) (91 ∷ t)) o)) (delegate (91 ∷ t) i))
+    ap (λ o. unwrap_or (whole_leaf (leaf_outcome (λ w. delegate w i) (st (under u i false false false) (91 ∷ t)) o))
+    (delegate (91 ∷ t) i))
     (ap (class (bytes (91 ∷ t)) (under u i false false false)) (sym (append-nil t)) ∙ e)
 
-bracket_atom : (n d : ℕ) (u i : Bool) (t x v : Text) → class n (under u i false false false) (t ++ v) ≡ gives x v → AtomAs n d (under u i false false false) (91 ∷ (t ++ v)) v (delegate x i)
+bracket_atom : (n d : ℕ) (u i : Bool) (t x v : Text) → class n (under u i false false false) (t ++ v) ≡ gives x v →
+    AtomAs n d (under u i false false false) (91 ∷ (t ++ v)) v (delegate x i)
 bracket_atom n d u i t x v e =
     let g = under u i false false false in
     reads_leaf n d g (91 ∷ (t ++ v)) v (delegate x i)
@@ -54,33 +60,43 @@ bracket_text t h =
     record {
       reads = λ n d u i v.
           let (x, same) = class_carries u i (bytes (91 ∷ t)) t w [] e in
-          subst (AtomAs n d (under u i false false false) (91 ∷ (t ++ v)) v) (sym (bracket_normal u i t x (same (bytes (91 ∷ t)) []))) (bracket_atom n d u i t x v (same n v));
+          subst (AtomAs n d (under u i false false false) (91 ∷ (t ++ v)) v)
+          (sym (bracket_normal u i t x (same (bytes (91 ∷ t)) []))) (bracket_atom n d u i t x v (same n v));
       begins = λ v. record { clear = record { no_comment = refl; no_mark = refl }; goes = refl };
     }
 
 -- ---- a class escape
 
-escape_delegate : (s : State) (e : Escape) (v : Text) → v ≡ [] → IsDelegate (leaf_node e) → (w : Text) × (b : Bool) × (◌≡◌ {A = Reading Escape} (gives e v) (gives (escaped.delegate w b) []))
+escape_delegate : (s : State) (e : Escape) (v : Text) → v ≡ [] → IsDelegate (leaf_node e) →
+    (w : Text) × (b : Bool) × (◌≡◌ {A = Reading Escape} (gives e v) (gives (escaped.delegate w b) []))
 escape_delegate s (escaped.delegate w b) v z h = (w, b, ap (gives (escaped.delegate w b)) z)
 escape_delegate s _ v z h = absurd h
 
-escape_whole : (s : State) (o : Reading Escape) → is_some (whole_leaf (leaf_outcome leaf_node s o)) ≡ true → (w : Text) × (b : Bool) × (o ≡ gives (escaped.delegate w b) [])
+escape_whole : (s : State) (o : Reading Escape) → is_some (whole_leaf (leaf_outcome leaf_node s o)) ≡ true →
+    (w : Text) × (b : Bool) × (o ≡ gives (escaped.delegate w b) [])
 escape_whole s (gives e v) h = let (z, d) = whole_is v (leaf_node e) h in escape_delegate s e v z d
 escape_whole s (fails e) h = no_truth h
 
 pub escape_read : (t : Text) → is_some (class_of (bare false) (92 ∷ t)) ≡ true
-    → (w : Text) × (b : Bool) × (escape (bytes (92 ∷ t)) (bare false) false (place_of (bytes (92 ∷ t)) (92 ∷ t)) t ≡ gives (escaped.delegate w b) [])
+    → (w : Text) × (b : Bool)
+    × (escape (bytes (92 ∷ t)) (bare false) false (place_of (bytes (92 ∷ t)) (92 ∷ t)) t ≡ gives
+    (escaped.delegate w b) [])
 unfolding class_of
 escape_read t h = escape_whole (st (bare false) (92 ∷ t)) _ h
 
-pub escape_normal : (u i : Bool) (t x : Text) (b : Bool) → escape (bytes (92 ∷ t)) (under u i false false false) false (place_of (bytes (92 ∷ t)) (92 ∷ t)) (t ++ []) ≡ gives (escaped.delegate x b) []
+pub escape_normal : (u i : Bool) (t x : Text) (b : Bool) →
+    escape (bytes (92 ∷ t)) (under u i false false false) false (place_of (bytes (92 ∷ t)) (92 ∷ t)) (t ++ []) ≡ gives
+    (escaped.delegate x b) []
     → normal u (delegate (92 ∷ t) i) ≡ delegate x b
 unfolding class_of
 escape_normal u i t x b e =
-    ap (λ o. unwrap_or (whole_leaf (leaf_outcome leaf_node (st (under u i false false false) (92 ∷ t)) o)) (delegate (92 ∷ t) i))
-    (ap (escape (bytes (92 ∷ t)) (under u i false false false) false (place_of (bytes (92 ∷ t)) (92 ∷ t))) (sym (append-nil t)) ∙ e)
+    ap (λ o. unwrap_or (whole_leaf (leaf_outcome leaf_node (st (under u i false false false) (92 ∷ t)) o))
+    (delegate (92 ∷ t) i))
+    (ap (escape (bytes (92 ∷ t)) (under u i false false false) false (place_of (bytes (92 ∷ t)) (92 ∷ t)))
+    (sym (append-nil t)) ∙ e)
 
-escape_atom : (n d : ℕ) (u i : Bool) (t x v : Text) (b : Bool) → escape n (under u i false false false) false (place_of n (92 ∷ (t ++ v))) (t ++ v) ≡ gives (escaped.delegate x b) v
+escape_atom : (n d : ℕ) (u i : Bool) (t x v : Text) (b : Bool) →
+    escape n (under u i false false false) false (place_of n (92 ∷ (t ++ v))) (t ++ v) ≡ gives (escaped.delegate x b) v
     → AtomAs n d (under u i false false false) (92 ∷ (t ++ v)) v (delegate x b)
 escape_atom n d u i t x v b e =
     let g = under u i false false false in
@@ -96,11 +112,14 @@ escape_text t h =
     record {
       reads = λ n d u i v.
           let (x, c, same) = escape_carries u i n0 p0 t w [] b e in
-          subst (AtomAs n d (under u i false false false) (92 ∷ (t ++ v)) v) (sym (escape_normal u i t x c (same n0 p0 []))) (escape_atom n d u i t x v c (same n (place_of n (92 ∷ (t ++ v))) v));
+          subst (AtomAs n d (under u i false false false) (92 ∷ (t ++ v)) v)
+          (sym (escape_normal u i t x c (same n0 p0 [])))
+          (escape_atom n d u i t x v c (same n (place_of n (92 ∷ (t ++ v))) v));
       begins = λ v. record { clear = record { no_comment = refl; no_mark = refl }; goes = refl };
     }
 
-pub no_other : (c : ℕ) (t : Text) → (c == 91) ≡ false → (c == 92) ≡ false → is_some (class_of (bare false) (c ∷ t)) ≡ false
+pub no_other : (c : ℕ) (t : Text) → (c == 91) ≡ false → (c == 92) ≡ false →
+    is_some (class_of (bare false) (c ∷ t)) ≡ false
 unfolding class_of
 no_other c t a b = ap is_some (cond-false _ _ _ (or_from (c == 91) (c == 92) a b))
 
@@ -113,9 +132,13 @@ pub delegate_text : (s : Text) → is_some (class_of (bare false) s) ≡ true �
 delegate_text [] h = no_truth (sym nothing_whole ∙ h)
 delegate_text (c ∷ t) h = by_bracket (cases_eq c 91) where
   by_escape : (c ≢ 91) → (c ≡ 92) ⊎ (c ≢ 92) → DelegateText (c ∷ t)
-  by_escape a (inl e) = subst (λ x. DelegateText (x ∷ t)) (sym e) (escape_text t (subst (λ x. is_some (class_of (bare false) (x ∷ t)) ≡ true) e h))
+  by_escape a (inl e) =
+      subst (λ x. DelegateText (x ∷ t)) (sym e)
+      (escape_text t (subst (λ x. is_some (class_of (bare false) (x ∷ t)) ≡ true) e h))
   by_escape a (inr b) = no_truth (sym (no_other c t (ne_eqb c 91 a) (ne_eqb c 92 b)) ∙ h)
 
   by_bracket : (c ≡ 91) ⊎ (c ≢ 91) → DelegateText (c ∷ t)
-  by_bracket (inl e) = subst (λ x. DelegateText (x ∷ t)) (sym e) (bracket_text t (subst (λ x. is_some (class_of (bare false) (x ∷ t)) ≡ true) e h))
+  by_bracket (inl e) =
+      subst (λ x. DelegateText (x ∷ t)) (sym e)
+      (bracket_text t (subst (λ x. is_some (class_of (bare false) (x ∷ t)) ≡ true) e h))
   by_bracket (inr a) = by_escape a (cases_eq c 92)

@@ -95,7 +95,9 @@ quoted_put c v = as_put c (behind_backslash c) v
 
 quotes_put : (cs v : Text) → put_quotes cs v ≡ quotes cs ++ v
 quotes_put [] v = refl
-quotes_put (c ∷ cs) v = ap (put_as c (behind_backslash c)) (quotes_put cs v) ∙ (quoted_put c (quotes cs ++ v) ∙ sym (append_assoc (quote c) (quotes cs) v))
+quotes_put (c ∷ cs) v =
+    ap (put_as c (behind_backslash c)) (quotes_put cs v)
+    ∙ (quoted_put c (quotes cs ++ v) ∙ sym (append_assoc (quote c) (quotes cs) v))
 
 any_put : (a b : Bool) (v : Text) → put_any a b v ≡ any_text a b ++ v
 any_put true b v = refl
@@ -115,27 +117,38 @@ mutual
   pub put_text : (t : Tree) (p : ℕ) (v : Text) → put t p v ≡ printed t p ++ v
   put_text (any a b) p v = any_put a b v
   put_text (assertion a) p v = assertion_put a v
-  put_text (literal s casei) p v = ap (fold_if casei) (quotes_put s (close_if casei v)) ∙ caseless_put casei (quotes s) v
+  put_text (literal s casei) p v =
+      ap (fold_if casei) (quotes_put s (close_if casei v)) ∙ caseless_put casei (quotes s) v
   put_text (delegate s casei) p v = caseless_put casei s v
-  put_text (concat ts) p v = ap (open_if (nat_lt 1 p)) (puts_text ts (close_if (nat_lt 1 p) v)) ∙ grouped_put (nat_lt 1 p) (printed_all ts) v
-  put_text (alt ts) p v = ap (open_if (nat_lt 0 p)) (branches_text ts (close_if (nat_lt 0 p) v)) ∙ grouped_put (nat_lt 0 p) (printed_branches ts) v
+  put_text (concat ts) p v =
+      ap (open_if (nat_lt 1 p)) (puts_text ts (close_if (nat_lt 1 p) v)) ∙ grouped_put (nat_lt 1 p) (printed_all ts) v
+  put_text (alt ts) p v =
+      ap (open_if (nat_lt 0 p)) (branches_text ts (close_if (nat_lt 0 p) v))
+      ∙ grouped_put (nat_lt 0 p) (printed_branches ts) v
   put_text (group t) p v = ap (λ w. 40 ∷ w) (put_text t 0 (41 ∷ v) ∙ sym (append_assoc (printed t 0) (41 ∷ []) v))
   put_text (repeat t lo hi greedy) p v =
-      ap (open_if (nat_lt 2 p)) (put_text t 3 (quantifier lo hi greedy ++ close_if (nat_lt 2 p) v) ∙ sym (append_assoc (printed t 3) (quantifier lo hi greedy) (close_if (nat_lt 2 p) v)))
+      ap (open_if (nat_lt 2 p))
+      (put_text t 3 (quantifier lo hi greedy ++ close_if (nat_lt 2 p) v)
+      ∙ sym (append_assoc (printed t 3) (quantifier lo hi greedy) (close_if (nat_lt 2 p) v)))
       ∙ grouped_put (nat_lt 2 p) (printed t 3 ++ quantifier lo hi greedy) v
   put_text _ p v = refl
 
   puts_text : (ts : Trees) (v : Text) → puts ts v ≡ printed_all ts ++ v
   puts_text no_trees v = refl
-  puts_text (more_trees t ts) v = ap (put t 2) (puts_text ts v) ∙ (put_text t 2 (printed_all ts ++ v) ∙ sym (append_assoc (printed t 2) (printed_all ts) v))
+  puts_text (more_trees t ts) v =
+      ap (put t 2) (puts_text ts v)
+      ∙ (put_text t 2 (printed_all ts ++ v) ∙ sym (append_assoc (printed t 2) (printed_all ts) v))
 
   branches_text : (ts : Trees) (v : Text) → put_branches ts v ≡ printed_branches ts ++ v
   branches_text no_trees v = refl
-  branches_text (more_trees t ts) v = ap (put t 1) (barred_text ts v) ∙ (put_text t 1 (barred ts ++ v) ∙ sym (append_assoc (printed t 1) (barred ts) v))
+  branches_text (more_trees t ts) v =
+      ap (put t 1) (barred_text ts v) ∙ (put_text t 1 (barred ts ++ v) ∙ sym (append_assoc (printed t 1) (barred ts) v))
 
   barred_text : (ts : Trees) (v : Text) → put_barred ts v ≡ barred ts ++ v
   barred_text no_trees v = refl
-  barred_text (more_trees t ts) v = ap (λ w. 124 ∷ w) (ap (put t 1) (barred_text ts v) ∙ (put_text t 1 (barred ts ++ v) ∙ sym (append_assoc (printed t 1) (barred ts) v)))
+  barred_text (more_trees t ts) v =
+      ap (λ w. 124 ∷ w) (ap (put t 1) (barred_text ts v)
+      ∙ (put_text t 1 (barred ts ++ v) ∙ sym (append_assoc (printed t 1) (barred ts) v)))
 
 -- a text is what is put in front of nothing
 pub put_alone : (t : Tree) (p : ℕ) → put t p [] ≡ printed t p

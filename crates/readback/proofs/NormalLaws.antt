@@ -41,7 +41,8 @@ append_fixed u (x ∷ l) m h k = (h.0, append_fixed u l m h.1 k)
 
 items_same : (u : Bool) (l : List Tree) → AllFixed u l → items u (trees_of l) ≡ solid l
 items_same u [] h = refl
-items_same u (x ∷ l) h = ap₂ (λ a b. a ++ b) (ap (items_of x) h.0.same ∙ h.0.single) (items_same u l h.1) ∙ sym (solid_append (x ∷ []) l)
+items_same u (x ∷ l) h =
+    ap₂ (λ a b. a ++ b) (ap (items_of x) h.0.same ∙ h.0.single) (items_same u l h.1) ∙ sym (solid_append (x ∷ []) l)
 
 normals_same : (u : Bool) (l : List Tree) → AllFixed u l → normals u (trees_of l) ≡ l
 normals_same u [] h = refl
@@ -54,7 +55,10 @@ one_fixed : (u : Bool) (l : List Tree) → AllFixed u l → solid l ≡ l → Fi
 one_fixed u [] h e = empty_fixed u
 one_fixed u (x ∷ []) h e = h.0
 one_fixed u (x ∷ y ∷ l) h e =
-    record { same = ap join (items_same u (x ∷ y ∷ l) h) ∙ ap (one_or concat) (solid_solid (x ∷ y ∷ l)) ∙ ap (one_or concat) e; single = refl }
+    record {
+      same = ap join (items_same u (x ∷ y ∷ l) h) ∙ ap (one_or concat) (solid_solid (x ∷ y ∷ l)) ∙ ap (one_or concat) e;
+      single = refl;
+    }
 
 join_fixed : (u : Bool) (l : List Tree) → AllFixed u l → Fixed u (join l)
 join_fixed u l h = one_fixed u (solid l) (solid_fixed u l h) (solid_solid l)
@@ -75,8 +79,14 @@ single_char c false = refl
 
 characters_fixed : (u b : Bool) (cs : Text) → AllFixed u (map (character b) cs)
 characters_fixed u b [] = tt
-characters_fixed u b (c ∷ cs) =
-    (record { same = ap (literal (c ∷ [])) (and_twice b (is_none (behind_backslash c))); single = single_char c (b && is_none (behind_backslash c)) }, characters_fixed u b cs)
+characters_fixed u b (c ∷ cs) = (
+  record {
+    same = ap (literal (c ∷ [])) (and_twice b (is_none (behind_backslash c)));
+    single = single_char c
+        (b && is_none (behind_backslash c));
+  },
+  characters_fixed u b cs,
+)
 
 parts_fixed : (u : Bool) (t n : Tree) → Fixed u n → AllFixed u (items_of t n)
 parts_fixed u (literal s false) n h = characters_fixed u false s
@@ -95,7 +105,8 @@ mutual
   fixed u (concat ts) h = join_fixed u (items u ts) (all_items u ts h)
   fixed u (alt ts) h = choice_fixed u (normals u ts) (all_normals u ts h)
   fixed u (group t) h = let r = fixed u t h in record { same = ap group r.same; single = refl }
-  fixed u (repeat t lo hi greedy) h = let r = fixed u t h in record { same = ap (λ x. repeat x lo hi greedy) r.same; single = refl }
+  fixed u (repeat t lo hi greedy) h =
+      let r = fixed u t h in record { same = ap (λ x. repeat x lo hi greedy) r.same; single = refl }
   fixed u (define_group t) h = empty_fixed u
   fixed u _ h = record { same = refl; single = refl }
 
@@ -103,7 +114,8 @@ mutual
   all_items u no_trees h = tt
   all_items u (more_trees t ts) h =
       let (a, b) = or_parts (has_delegate t) (any_has_delegate ts) h in
-      append_fixed u (items_of t (normal u t)) (items u ts) (parts_fixed u t (normal u t) (fixed u t a)) (all_items u ts b)
+      append_fixed u (items_of t (normal u t)) (items u ts) (parts_fixed u t (normal u t) (fixed u t a))
+      (all_items u ts b)
 
   all_normals : (u : Bool) (ts : Trees) → any_has_delegate ts ≡ false → AllFixed u (normals u ts)
   all_normals u no_trees h = tt
@@ -162,7 +174,11 @@ one_kept : (l : List Tree) → AllKept l → AllSolid l → Kept (one_or concat 
 one_kept [] h s = empty_kept
 one_kept (x ∷ []) h s = h.0
 one_kept (x ∷ y ∷ l) h s =
-    record { is = all_are (x ∷ y ∷ l) h; short = refl; stays = first_blank (blank x) (blanks (trees_of (y ∷ l))) (h.0.stays ∙ s.0) }
+    record {
+      is = all_are (x ∷ y ∷ l) h;
+      short = refl;
+      stays = first_blank (blank x) (blanks (trees_of (y ∷ l))) (h.0.stays ∙ s.0);
+    }
 
 join_kept : (l : List Tree) → AllKept l → Kept (join l)
 join_kept l h = one_kept (solid l) (solid_kept l h) (all_solid l)
@@ -178,8 +194,15 @@ char_short c false = refl
 
 characters_kept : (b : Bool) (cs : Text) → all_scalars cs ≡ true → AllKept (map (character b) cs)
 characters_kept b [] h = tt
-characters_kept b (c ∷ cs) h =
-    (record { is = and_from _ true (first_so _ (all_scalars cs) h) refl; short = char_short c (b && is_none (behind_backslash c)); stays = refl }, characters_kept b cs (second_so _ (all_scalars cs) h))
+characters_kept b (c ∷ cs) h = (
+  record {
+    is = and_from _ true (first_so _ (all_scalars cs) h) refl;
+    short = char_short c
+        (b && is_none (behind_backslash c));
+    stays = refl;
+  },
+  characters_kept b cs (second_so _ (all_scalars cs) h),
+)
 
 parts_kept : (t n : Tree) → printable t ≡ true → Kept n → AllKept (items_of t n)
 parts_kept (literal s false) n p h = characters_kept false s p
@@ -189,15 +212,25 @@ delegate_kept : (t : Tree) → IsDelegate t → printable t ≡ true → Kept t
 delegate_kept (delegate w i) d h = record { is = h; short = refl; stays = refl }
 delegate_kept _ d h = absurd d
 
-repeat_kept : (u : Bool) (t : Tree) (lo hi : ℕ) (greedy : Bool) → printable (repeat t lo hi greedy) ≡ true → Kept (normal u t) → Kept (repeat (normal u t) lo hi greedy)
+repeat_kept : (u : Bool) (t : Tree) (lo hi : ℕ) (greedy : Bool) → printable (repeat t lo hi greedy) ≡ true →
+    Kept (normal u t) → Kept (repeat (normal u t) lo hi greedy)
 repeat_kept u t lo hi greedy h r =
     let k = second_so (printable t) _ h in
     let quantifier = first_so _ (is_count lo && is_count hi) k in
     let counts = second_so (not (is_empty (normal false t)) && not (is_long t)) _ k in
     let full = first_so _ (not (is_long t)) quantifier in
-    let again : is_empty (normal false (normal u t)) ≡ is_empty (normal false t) = normal_empty false (normal u t) ∙ r.stays ∙ normal_empty u t ∙ sym (normal_empty false t) in
-    let takes = and_from (not (is_empty (normal false (normal u t)))) (not (is_long (normal u t))) (ap not again ∙ full) (not_from_false (is_long (normal u t)) r.short) in
-    record { is = and_from (printable (normal u t)) _ r.is (and_from (not (is_empty (normal false (normal u t))) && not (is_long (normal u t))) (is_count lo && is_count hi) takes counts); short = refl; stays = refl }
+    let again : is_empty (normal false (normal u t)) ≡ is_empty (normal false t) =
+    normal_empty false (normal u t) ∙ r.stays ∙ normal_empty u t ∙ sym (normal_empty false t) in
+    let takes =
+    and_from (not (is_empty (normal false (normal u t)))) (not (is_long (normal u t))) (ap not again ∙ full)
+    (not_from_false (is_long (normal u t)) r.short) in
+    record {
+      is = and_from (printable (normal u t)) _ r.is
+          (and_from (not (is_empty (normal false (normal u t))) && not (is_long (normal u t)))
+          (is_count lo && is_count hi) takes counts);
+      short = refl;
+      stays = refl;
+    }
 
 mutual
   kept : (u : Bool) (t : Tree) → printable t ≡ true → Kept (normal u t)
@@ -219,11 +252,13 @@ mutual
   kept_items u no_trees h = tt
   kept_items u (more_trees t ts) h =
       let p = first_so (printable t) _ h in
-      append_kept (items_of t (normal u t)) (items u ts) (parts_kept t (normal u t) p (kept u t p)) (kept_items u ts (second_so (printable t) _ h))
+      append_kept (items_of t (normal u t)) (items u ts) (parts_kept t (normal u t) p (kept u t p))
+      (kept_items u ts (second_so (printable t) _ h))
 
   kept_normals : (u : Bool) (ts : Trees) → all_printable ts ≡ true → AllKept (normals u ts)
   kept_normals u no_trees h = tt
-  kept_normals u (more_trees t ts) h = (kept u t (first_so (printable t) _ h), kept_normals u ts (second_so (printable t) _ h))
+  kept_normals u (more_trees t ts) h =
+      (kept u t (first_so (printable t) _ h), kept_normals u ts (second_so (printable t) _ h))
 
 pub normal_printable : (t : Tree) (u : Bool) → printable t ≡ true → printable (normal u t) ≡ true
 normal_printable t u h = (kept u t h).is

@@ -77,7 +77,8 @@ behind_head q l h = cond-false _ _ _ (not_deep q.round h)
     not_deep : (n : ℕ) → n < 63 → (n + 1 == 64) ≡ false
     not_deep n h = grind (arith, nat_tests)
 
-group_deep : (head : Text) (k : Parens) (m : ℕ) (o : ℕ → ℕ) → Finds k m o → (b : Bool) (start d : ℕ) → nat_le 63 d ≡ b → d < 64 →
+group_deep : (head : Text) (k : Parens) (m : ℕ) (o : ℕ → ℕ) → Finds k m o → (b : Bool) (start d : ℕ) →
+    nat_le 63 d ≡ b → d < 64 →
     64 ≤ d + (1 + m) → first (in_group true head k start d) ≡
     Some (record { place = start + (if b then 0 else bytes head + o (d + 1)); round = 63 })
 group_deep head k m o f true start d e l h =
@@ -134,9 +135,11 @@ both_find k l m n w o r f g = record {
       (λ x. first (k start d ++ l (start + w) d) ≡ Some (record { place = start + x; round = 63 }))
       (λ yes. in_deep (k start d) (l (start + w) d) _ (f.deep start d h (leb-true 64 (d + m) yes)))
       (λ no. let a = leb-false 64 (d + m) no in
-      behind_shallow (k start d) (l (start + w) d) (f.shallow start d a) ∙ g.deep (start + w) d h (omega arith) ∙ at_same _ _ (omega arith));
+      behind_shallow (k start d) (l (start + w) d) (f.shallow start d a) ∙ g.deep (start + w) d h (omega arith)
+      ∙ at_same _ _ (omega arith));
   shallow = λ start d h.
-      behind_shallow (k start d) (l (start + w) d) (f.shallow start d (omega arith)) ∙ g.shallow (start + w) d (omega arith);
+      behind_shallow (k start d) (l (start + w) d) (f.shallow start d (omega arith))
+      ∙ g.shallow (start + w) d (omega arith);
 }
 
 -- a byte further on
@@ -170,18 +173,23 @@ mutual
   all_find : (ts : Trees) → Finds (parens_all ts) (nests ts 2) (places ts)
   all_find no_trees = none_find
   all_find (more_trees t ts) =
-      both_find (parens t 2) (parens_all ts) (nest t 2) (nests ts 2) (bytes (printed t 2)) (place t 2) (places ts) (parens_find t 2) (all_find ts)
+      both_find (parens t 2) (parens_all ts) (nest t 2) (nests ts 2) (bytes (printed t 2)) (place t 2) (places ts)
+      (parens_find t 2) (all_find ts)
 
   branches_find : (ts : Trees) → Finds (parens_branches ts) (nests ts 1) (branch_places ts)
   branches_find no_trees = none_find
   branches_find (more_trees t ts) =
-      both_find (parens t 1) (parens_barred ts) (nest t 1) (nests ts 1) (bytes (printed t 1)) (place t 1) (barred_places ts) (parens_find t 1) (barred_find ts)
+      both_find (parens t 1) (parens_barred ts) (nest t 1) (nests ts 1) (bytes (printed t 1)) (place t 1)
+      (barred_places ts) (parens_find t 1) (barred_find ts)
 
   barred_find : (ts : Trees) → Finds (parens_barred ts) (nests ts 1) (barred_places ts)
   barred_find no_trees = none_find
   barred_find (more_trees t ts) = shifted _ _ _
-      (both_find (parens t 1) (parens_barred ts) (nest t 1) (nests ts 1) (bytes (printed t 1)) (place t 1) (barred_places ts) (parens_find t 1) (barred_find ts))
+      (both_find (parens t 1) (parens_barred ts) (nest t 1) (nests ts 1) (bytes (printed t 1)) (place t 1)
+      (barred_places ts) (parens_find t 1) (barred_find ts))
 
 -- the first that is too deep stands there
 pub over_place : (t : Tree) (p : ℕ) → 64 ≤ nest t p → over t p ≡ place t p 0
-over_place t p h = ap (λ o. unwrap_or (option_map (λ q. q.place) o) 0) ((parens_find t p).deep 0 0 (omega arith) (omega arith)) ∙ omega arith
+over_place t p h =
+    ap (λ o. unwrap_or (option_map (λ q. q.place) o) 0) ((parens_find t p).deep 0 0 (omega arith) (omega arith))
+    ∙ omega arith

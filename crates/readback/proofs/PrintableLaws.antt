@@ -68,7 +68,8 @@ delegate_leaf : (o : Outcome Tree) (d : Tree) → IsDelegate d → IsDelegate (u
 delegate_leaf (done t s) d h = delegate_whole s.rest t d h
 delegate_leaf (fault k p) d h = h
 
-delegate_if : (b : Bool) (o : Outcome Tree) (d : Tree) → IsDelegate d → IsDelegate (unwrap_or (if b then whole_leaf o else None) d)
+delegate_if : (b : Bool) (o : Outcome Tree) (d : Tree) → IsDelegate d →
+    IsDelegate (unwrap_or (if b then whole_leaf o else None) d)
 delegate_if true o d h = delegate_leaf o d h
 delegate_if false o d h = h
 
@@ -98,7 +99,9 @@ mutual
 
   good_items : (u : Bool) (ts : Trees) → ArePrintable ts → AllGood (items u ts)
   good_items u no_trees h = tt
-  good_items u (more_trees t ts) h = good_append (items_of t (normal u t)) (items u ts) (good_parts t (normal u t) (good_normal u t h.0)) (good_items u ts h.1)
+  good_items u (more_trees t ts) h =
+      good_append (items_of t (normal u t)) (items u ts) (good_parts t (normal u t) (good_normal u t h.0))
+      (good_items u ts h.1)
 
   good_normals : (u : Bool) (ts : Trees) → ArePrintable ts → AllGood (normals u ts)
   good_normals u no_trees h = tt
@@ -133,7 +136,8 @@ one_front : (t : Tree) (l : List Tree) → is_empty t ≡ false → is_empty (on
 one_front t [] e = e
 one_front t (u ∷ l) e = refl
 
-solid_front : (b : Bool) (t : Tree) (l : List Tree) → is_empty t ≡ b → is_empty (one_or concat (solid l)) ≡ list_all is_empty l
+solid_front : (b : Bool) (t : Tree) (l : List Tree) → is_empty t ≡ b →
+    is_empty (one_or concat (solid l)) ≡ list_all is_empty l
     → is_empty (one_or concat (if b then solid l else t ∷ solid l)) ≡ (b && list_all is_empty l)
 solid_front true t l e more = more
 solid_front false t l e more = one_front t (solid l) e
@@ -166,14 +170,16 @@ mutual
   items_empty : (u : Bool) (ts : Trees) → list_all is_empty (items u ts) ≡ blanks ts
   items_empty u no_trees = refl
   items_empty u (more_trees t ts) =
-      list_all-append is_empty (items_of t (normal u t)) (items u ts) ∙ ap₂ (λ a b. a && b) (parts_empty t (normal u t) (normal_empty u t)) (items_empty u ts)
+      list_all-append is_empty (items_of t (normal u t)) (items u ts)
+      ∙ ap₂ (λ a b. a && b) (parts_empty t (normal u t) (normal_empty u t)) (items_empty u ts)
 
   choice_empty : (u : Bool) (ts : Trees) → is_empty (choice (normals u ts)) ≡ blank_choice ts
   choice_empty u no_trees = refl
   choice_empty u (more_trees t no_trees) = normal_empty u t
   choice_empty u (more_trees t (more_trees v ts)) = refl
 
-takes : (t : Tree) → Printable t → not (is_empty (normal false t)) ≡ true → (u : Bool) → is_repeatable (bare u) (normal u t) ≡ true
+takes : (t : Tree) → Printable t → not (is_empty (normal false t)) ≡ true → (u : Bool) →
+    is_repeatable (bare u) (normal u t) ≡ true
 takes t h e u = good_normal u t h u ∙ ap not (normal_empty u t ∙ sym (normal_empty false t)) ∙ e
 
 mutual
@@ -191,8 +197,15 @@ mutual
       let child = told t (first_so (printable t) _ h) in
       let k = second_so (printable t) _ h in
       let quantifier = first_so _ (is_count lo && is_count hi) k in
-      let counts = second_so (not (is_empty (normal false t)) && not (is_long t)) _ k in
-      (child, takes t child (first_so _ (not (is_long t)) quantifier), not-true (is_long t) (second_so (not (is_empty (normal false t))) _ quantifier), count_below lo (first_so _ (is_count hi) counts), count_below hi (second_so (is_count lo) _ counts))
+      let counts = second_so (not (is_empty (normal false t)) && not (is_long t)) _ k in (
+        child,
+        takes t child (first_so _ (not (is_long t)) quantifier),
+        not-true (is_long t)
+            (second_so (not (is_empty (normal false t))) _ quantifier),
+        count_below lo
+            (first_so _ (is_count hi) counts),
+        count_below hi (second_so (is_count lo) _ counts),
+      )
   told (define_group t) h = tt
   told _ h = no_truth h
 

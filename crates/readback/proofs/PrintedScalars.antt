@@ -33,7 +33,8 @@ quote_scalars c k =
 quotes_scalars : (s : Text) → all_scalars s ≡ true → all_scalars (quotes s) ≡ true
 quotes_scalars [] h = refl
 quotes_scalars (c ∷ s) h =
-    let (a, b) = and_parts _ (all_scalars s) h in scalars_append (quote c) (quotes s) (quote_scalars c a) (quotes_scalars s b)
+    let (a, b) = and_parts _ (all_scalars s) h in
+    scalars_append (quote c) (quotes s) (quote_scalars c a) (quotes_scalars s b)
 
 digit_scalar : (c : ℕ) → is_ascii_digit c ≡ true → IsScalar c
 digit_scalar c h = grind (arith, nat_tests)
@@ -62,7 +63,8 @@ counts_scalars lo hi l h =
     (λ _. cond_both ((lo == 1) && (hi == most)) _ _ P (λ _. refl)
     (λ _. scalars_append (range lo hi) (codes "}") (range_scalars lo hi l h) refl)))
 
-quantifier_scalars : (lo hi : ℕ) (greedy : Bool) → lo < 2 ^ 64 → hi < 2 ^ 64 → all_scalars (quantifier lo hi greedy) ≡ true
+quantifier_scalars : (lo hi : ℕ) (greedy : Bool) → lo < 2 ^ 64 → hi < 2 ^ 64 →
+    all_scalars (quantifier lo hi greedy) ≡ true
 quantifier_scalars lo hi true l h = scalars_append (counts_text lo hi) [] (counts_scalars lo hi l h) refl
 quantifier_scalars lo hi false l h = scalars_append (counts_text lo hi) (codes "?") (counts_scalars lo hi l h) refl
 
@@ -95,7 +97,8 @@ repeat_scalars : (t : Tree) (lo hi : ℕ) (greedy : Bool) (p : ℕ) → (is_coun
 repeat_scalars t lo hi greedy p counts h =
     let (l, k) = and_parts (is_count lo) (is_count hi) counts in
     grouped_scalars (nat_lt 2 p) _
-    (scalars_append (printed t 3) (quantifier lo hi greedy) h (quantifier_scalars lo hi greedy (count_below lo l) (count_below hi k)))
+    (scalars_append (printed t 3) (quantifier lo hi greedy) h
+    (quantifier_scalars lo hi greedy (count_below lo l) (count_below hi k)))
 
 mutual
   pub printed_scalars : (t : Tree) (p : ℕ) → printable t ≡ true → all_scalars (printed t p) ≡ true
@@ -114,17 +117,20 @@ mutual
   all_printed : (ts : Trees) → all_printable ts ≡ true → all_scalars (printed_all ts) ≡ true
   all_printed no_trees h = refl
   all_printed (more_trees t ts) h =
-      scalars_append (printed t 2) (printed_all ts) (printed_scalars t 2 (first_so (printable t) _ h)) (all_printed ts (second_so (printable t) _ h))
+      scalars_append (printed t 2) (printed_all ts) (printed_scalars t 2 (first_so (printable t) _ h))
+      (all_printed ts (second_so (printable t) _ h))
 
   branches_printed : (ts : Trees) → all_printable ts ≡ true → all_scalars (printed_branches ts) ≡ true
   branches_printed no_trees h = refl
   branches_printed (more_trees t ts) h =
-      scalars_append (printed t 1) (barred ts) (printed_scalars t 1 (first_so (printable t) _ h)) (barred_printed ts (second_so (printable t) _ h))
+      scalars_append (printed t 1) (barred ts) (printed_scalars t 1 (first_so (printable t) _ h))
+      (barred_printed ts (second_so (printable t) _ h))
 
   barred_printed : (ts : Trees) → all_printable ts ≡ true → all_scalars (barred ts) ≡ true
   barred_printed no_trees h = refl
   barred_printed (more_trees t ts) h =
-      scalars_append (printed t 1) (barred ts) (printed_scalars t 1 (first_so (printable t) _ h)) (barred_printed ts (second_so (printable t) _ h))
+      scalars_append (printed t 1) (barred ts) (printed_scalars t 1 (first_so (printable t) _ h))
+      (barred_printed ts (second_so (printable t) _ h))
 
 -- the bytes that are printed spell the text
 pub printed_spelled : (t : Tree) (p : ℕ) → printable t ≡ true → chars (encode_utf8_all (printed t p)) ≡ printed t p

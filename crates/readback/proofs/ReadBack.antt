@@ -33,11 +33,14 @@ ReadsWhole u k m x = (n d : ℕ) (v : Text) → d + m < 64 → Ends v → WholeA
 abbrev pub Starts : (Text → Text) → Type 0
 Starts k = (v : Text) → Begins (k v)
 
-atom_run : (u : Bool) (k : Text → Text) (m : ℕ) (x : Tree) → Starts k → ReadsAtom u k m x → ReadsRun u k m (solid (x ∷ []))
+atom_run : (u : Bool) (k : Text → Text) (m : ℕ) (x : Tree) → Starts k → ReadsAtom u k m x →
+    ReadsRun u k m (solid (x ∷ []))
 atom_run u k m x s a n d v l c =
-    reads_piece n d (bare u) (k v) v x (kept u false false false false) (s v).goes (s v).clear.no_comment c (a n d v l (clear_name v c))
+    reads_piece n d (bare u) (k v) v x (kept u false false false false) (s v).goes (s v).clear.no_comment c
+    (a n d v l (clear_name v c))
 
-to_branch : (u : Bool) (k : Text → Text) (m : ℕ) (ys : List Tree) (x : Tree) → join ys ≡ x → ReadsRun u k m ys → ReadsBranch u k m x
+to_branch : (u : Bool) (k : Text → Text) (m : ℕ) (ys : List Tree) (x : Tree) → join ys ≡ x → ReadsRun u k m ys →
+    ReadsBranch u k m x
 to_branch u k m ys x e r n d v l h = reads_branch x (r n d v l h.clear) e h
 
 to_whole : (u : Bool) (k : Text → Text) (m : ℕ) (x : Tree) → ReadsBranch u k m x → ReadsWhole u k m x
@@ -48,14 +51,17 @@ abbrev pub wrapped : (Text → Text) → Text → Text
 wrapped k v = open_if true (k (41 ∷ v))
 
 wrap_atom : (u : Bool) (k : Text → Text) (m : ℕ) (x : Tree) → ReadsWhole u k m x → ReadsAtom u (wrapped k) (1 + m) x
-wrap_atom u k m x w n d v l _ = reads_grouped n d (bare u) (k (41 ∷ v)) v x (kept u false false false false) (omega arith) (w n (d + 1) (41 ∷ v) (omega arith) (ends_close v))
+wrap_atom u k m x w n d v l _ =
+    reads_grouped n d (bare u) (k (41 ∷ v)) v x (kept u false false false false) (omega arith)
+    (w n (d + 1) (41 ∷ v) (omega arith) (ends_close v))
 
 pub wrap_starts : (k : Text → Text) → Starts (wrapped k)
 wrap_starts k v = begins_head 58 (k (41 ∷ v)) refl
 
 -- The statement of the induction: what the texts k3, k2, k1 and k0 of the four precedences, with m3 to m0 groups nested, read as:
 -- the tree x as an atom where IsOne, pieces with the trees ys, a branch with the tree x, and a whole alternation.
-pub record ReadsBy (u : Bool) (k3 k2 k1 k0 : Text → Text) (m3 m2 m1 m0 : ℕ) (IsOne : Type 0) (x : Tree) (ys : List Tree) : Type 0 where
+pub record ReadsBy (u : Bool) (k3 k2 k1 k0 : Text → Text) (m3 m2 m1 m0 : ℕ) (IsOne : Type 0) (x : Tree)
+    (ys : List Tree) : Type 0 where
   pub atom : IsOne → ReadsAtom u k3 m3 x
   pub high : ReadsRun u k3 m3 ys
   pub run : ReadsRun u k2 m2 ys
@@ -63,14 +69,17 @@ pub record ReadsBy (u : Bool) (k3 k2 k1 k0 : Text → Text) (m3 m2 m1 m0 : ℕ) 
   pub whole : ReadsWhole u k0 m0 x
 
 abbrev pub Reads : Bool → Tree → Type 0
-Reads u t = ReadsBy u (put t 3) (put t 2) (put t 1) (put t 0) (nest t 3) (nest t 2) (nest t 1) (nest t 0) (IsAtom t) (normal u t) (items_of t (normal u t))
+Reads u t =
+    ReadsBy u (put t 3) (put t 2) (put t 1) (put t 0) (nest t 3) (nest t 2) (nest t 1) (nest t 0) (IsAtom t)
+    (normal u t) (items_of t (normal u t))
 
 abbrev pub EachReads : Bool → Trees → Type 0
 EachReads u no_trees = Unit {0}
 EachReads u (more_trees t ts) = Reads u t × EachReads u ts
 
 -- never wrapped
-by_atom : (u : Bool) (k : Text → Text) (m : ℕ) (IsOne : Type 0) (x : Tree) → Starts k → ReadsAtom u k m x → ReadsBy u k k k k m m m m IsOne x (solid (x ∷ []))
+by_atom : (u : Bool) (k : Text → Text) (m : ℕ) (IsOne : Type 0) (x : Tree) → Starts k → ReadsAtom u k m x →
+    ReadsBy u k k k k m m m m IsOne x (solid (x ∷ []))
 by_atom u k m i x s a =
     let r = atom_run u k m x s a in
     let b = to_branch u k m (solid (x ∷ [])) x (join_one x) r in
@@ -82,17 +91,30 @@ by_whole : (u : Bool) (k : Text → Text) (m : ℕ) (IsOne : Type 0) (x : Tree) 
 by_whole u k m i x w =
     let a = wrap_atom u k m x w in
     let r = atom_run u (wrapped k) (1 + m) x (wrap_starts k) a in
-    record { atom = λ _. a; high = r; run = r; branch = to_branch u (wrapped k) (1 + m) (solid (x ∷ [])) x (join_one x) r; whole = λ n d v l e. w n d v (omega arith) e }
+    record {
+      atom = λ _. a;
+      high = r;
+      run = r;
+      branch = to_branch u (wrapped k) (1 + m) (solid (x ∷ [])) x (join_one x) r;
+      whole = λ n d v l e. w n d v (omega arith) e;
+    }
 
 -- wrapped from 2 on
-by_branch : (u : Bool) (k : Text → Text) (m : ℕ) (IsOne : Type 0) (x : Tree) (ys : List Tree) → join ys ≡ x → ReadsRun u k m ys
+by_branch : (u : Bool) (k : Text → Text) (m : ℕ) (IsOne : Type 0) (x : Tree) (ys : List Tree) → join ys ≡ x →
+    ReadsRun u k m ys
     → ReadsBy u (wrapped k) (wrapped k) k k (1 + m) (1 + m) (0 + m) (0 + m) IsOne x (solid (x ∷ []))
 by_branch u k m i x ys e r =
     let b = to_branch u k m ys x e r in
     let w = to_whole u k m x b in
     let a = wrap_atom u k m x w in
     let h = atom_run u (wrapped k) (1 + m) x (wrap_starts k) a in
-    record { atom = λ _. a; high = h; run = h; branch = λ n d v l c. b n d v (omega arith) c; whole = λ n d v l c. w n d v (omega arith) c }
+    record {
+      atom = λ _. a;
+      high = h;
+      run = h;
+      branch = λ n d v l c. b n d v (omega arith) c;
+      whole = λ n d v l c. w n d v (omega arith) c;
+    }
 
 -- wrapped from 3 on
 by_run : (u : Bool) (k : Text → Text) (m : ℕ) (IsOne : Type 0) (x : Tree) → ReadsRun u k m (solid (x ∷ []))
@@ -101,7 +123,13 @@ by_run u k m i x r =
     let b = to_branch u k m (solid (x ∷ [])) x (join_one x) r in
     let w = to_whole u k m x b in
     let a = wrap_atom u k m x w in
-    record { atom = λ _. a; high = atom_run u (wrapped k) (1 + m) x (wrap_starts k) a; run = λ n d v l c. r n d v (omega arith) c; branch = λ n d v l c. b n d v (omega arith) c; whole = λ n d v l c. w n d v (omega arith) c }
+    record {
+      atom = λ _. a;
+      high = atom_run u (wrapped k) (1 + m) x (wrap_starts k) a;
+      run = λ n d v l c. r n d v (omega arith) c;
+      branch = λ n d v l c. b n d v (omega arith) c;
+      whole = λ n d v l c. w n d v (omega arith) c;
+    }
 
 -- ---- each kind of tree
 
@@ -118,7 +146,9 @@ define_reads u t =
     record { atom = λ i. absurd i; high = r.high; run = r.run; branch = r.branch; whole = r.whole }
 
 any_reads : (u a b : Bool) → Reads u (any a b)
-any_reads u a b = by_atom u (put_any a b) (one_if (a || b)) (Unit {0}) (any a (not a && b)) (begins_any a b) (λ n d v l _. reads_any n d u a b v l)
+any_reads u a b =
+    by_atom u (put_any a b) (one_if (a || b)) (Unit {0}) (any a (not a && b)) (begins_any a b)
+    (λ n d v l _. reads_any n d u a b v l)
 
 assertion_is : (u : Bool) (a : Assertion) → read_assertion a ≡ normal u (assertion a)
 assertion_is u (StartLineOniguruma crlf) = refl
@@ -129,7 +159,8 @@ assertion_reads u a h =
     let k = put_assertion a in
     let m = one_if (is_line a) in
     subst (λ x. ReadsBy u k k k k m m m m (Unit {0}) x (solid (x ∷ []))) (assertion_is u a)
-    (by_atom u k m (Unit {0}) (read_assertion a) (λ v. begins_assertion a v h) (λ n d v l e. reads_assertion n d u a v h l e))
+    (by_atom u k m (Unit {0}) (read_assertion a) (λ v. begins_assertion a v h)
+    (λ n d v l e. reads_assertion n d u a v h l e))
 
 caseless_reads : (u : Bool) (s : Text) → Reads u (literal s true)
 caseless_reads u s =
@@ -139,9 +170,11 @@ caseless_reads u s =
     by_atom u k 1 (Unit {0}) x (λ v. begins_head 105 _ refl)
     (λ n d v l _. reads_caseless n d u (put_quotes s (41 ∷ v)) v x l
     (reads_only n (d + 1) f (put_quotes s (41 ∷ v)) (41 ∷ v) x
-    (reads_branch x (quotes_run n (d + 1) f s (41 ∷ v) (kept u true false false false) (clear_close v)) refl (ends_close v).stops) (ends_close v)))
+    (reads_branch x (quotes_run n (d + 1) f s (41 ∷ v) (kept u true false false false) (clear_close v)) refl
+    (ends_close v).stops) (ends_close v)))
 
-literal_atom : (u : Bool) (s : Text) → IsAtom (literal s false) → ReadsAtom u (put_quotes s) 0 (join (map (character false) s))
+literal_atom : (u : Bool) (s : Text) → IsAtom (literal s false) →
+    ReadsAtom u (put_quotes s) 0 (join (map (character false) s))
 literal_atom u [] i n d v l _ = absurd i
 literal_atom u (c ∷ []) i n d v l _ = reads_char n d (bare u) c v (behind_backslash c) refl
 literal_atom u (c ∷ e ∷ cs) i n d v l _ = absurd i
@@ -155,41 +188,54 @@ literal_reads u s =
     record { atom = literal_atom u s; high = r; run = r; branch = b; whole = to_whole u k 0 (join ys) b }
 
 delegate_reads : (u : Bool) (s : Text) → DelegateText s → Reads u (delegate s false)
-delegate_reads u s h = by_atom u (λ v. s ++ v) 0 (Unit {0}) (normal u (delegate s false)) h.begins (λ n d v l _. h.reads n d u false v)
+delegate_reads u s h =
+    by_atom u (λ v. s ++ v) 0 (Unit {0}) (normal u (delegate s false)) h.begins (λ n d v l _. h.reads n d u false v)
 
 caseless_delegate_reads : (u : Bool) (s : Text) → DelegateText s → Reads u (delegate s true)
 caseless_delegate_reads u s h =
     let x = normal u (delegate s true) in
     by_atom u (λ v. 40 ∷ 63 ∷ 105 ∷ 58 ∷ (s ++ 41 ∷ v)) 1 (Unit {0}) x (λ v. begins_head 105 _ refl)
     (λ n d v l _. reads_caseless n d u (s ++ 41 ∷ v) v x l
-    (whole_atom n (d + 1) (under u true false false false) (s ++ 41 ∷ v) v x (kept u true false false false) (h.begins (41 ∷ v)) (h.reads n (d + 1) u true (41 ∷ v))))
+    (whole_atom n (d + 1) (under u true false false false) (s ++ 41 ∷ v) v x (kept u true false false false)
+    (h.begins (41 ∷ v)) (h.reads n (d + 1) u true (41 ∷ v))))
 
 group_reads : (u : Bool) (t : Tree) → Printable t → Reads u t → Reads u (group t)
 group_reads u t h r =
     let k = λ (v : Text). 40 ∷ put t 0 (41 ∷ v) in
     by_atom u k (1 + nest t 0) (Unit {0}) (group (normal u t))
     (λ v. begins_group _ (clear_put t h 0 (41 ∷ v) (clear_close v)))
-    (λ n d v l _. reads_group n d (bare u) (put t 0 (41 ∷ v)) v (normal u t) (kept u false false false false) (omega arith) (clear_put t h 0 (41 ∷ v) (clear_close v)) (r.whole n (d + 1) (41 ∷ v) (omega arith) (ends_close v)))
+    (λ n d v l _. reads_group n d (bare u) (put t 0 (41 ∷ v)) v (normal u t) (kept u false false false false)
+    (omega arith) (clear_put t h 0 (41 ∷ v) (clear_close v))
+    (r.whole n (d + 1) (41 ∷ v) (omega arith) (ends_close v)))
 
 concat_run : (u : Bool) (ts : Trees) → ArePrintable ts → EachReads u ts → ReadsRun u (puts ts) (nests ts 2) (items u ts)
 concat_run u no_trees h r n d v l c = no_run n d (bare u) v
 concat_run u (more_trees t ts) h r n d v l c =
-    run_chain (r.0.run n d (puts ts v) (omega arith) (clear_puts ts h.1 v c)) (concat_run u ts h.1 r.1 n d v (omega arith) c)
+    run_chain (r.0.run n d (puts ts v) (omega arith) (clear_puts ts h.1 v c))
+    (concat_run u ts h.1 r.1 n d v (omega arith) c)
 
 concat_reads : (u : Bool) (ts : Trees) → ArePrintable ts → EachReads u ts → Reads u (concat ts)
-concat_reads u ts h r = by_branch u (puts ts) (nests ts 2) (Unit {0}) (join (items u ts)) (items u ts) refl (concat_run u ts h r)
+concat_reads u ts h r =
+    by_branch u (puts ts) (nests ts 2) (Unit {0}) (join (items u ts)) (items u ts) refl (concat_run u ts h r)
 
-alt_branches : (u : Bool) (t : Tree) (ts : Trees) → Reads u t → EachReads u ts → (n d : ℕ) (v : Text) → d + nest t 1 < 64 → d + nests ts 1 < 64 → Ends v
+alt_branches : (u : Bool) (t : Tree) (ts : Trees) → Reads u t → EachReads u ts → (n d : ℕ) (v : Text) →
+    d + nest t 1 < 64 → d + nests ts 1 < 64 → Ends v
     → BranchesAs n d (bare u) (put t 1 (put_barred ts v)) v (normal u t ∷ normals u ts)
-alt_branches u t no_trees r rs n d v l m e = reads_last n d (bare u) (put t 1 v) v (normal u t) (r.branch n d v l e.stops) e
+alt_branches u t no_trees r rs n d v l m e =
+    reads_last n d (bare u) (put t 1 v) v (normal u t) (r.branch n d v l e.stops) e
 alt_branches u t (more_trees x xs) r rs n d v l m e =
-    reads_more n d (bare u) (put t 1 (124 ∷ put x 1 (put_barred xs v))) (put x 1 (put_barred xs v)) v (normal u t) (normal u x ∷ normals u xs)
-    (r.branch n d (124 ∷ put x 1 (put_barred xs v)) l (stops_bar _)) (alt_branches u x xs rs.0 rs.1 n d v (omega arith) (omega arith) e)
+    reads_more n d (bare u) (put t 1 (124 ∷ put x 1 (put_barred xs v))) (put x 1 (put_barred xs v)) v (normal u t)
+    (normal u x ∷ normals u xs)
+    (r.branch n d (124 ∷ put x 1 (put_barred xs v)) l (stops_bar _))
+    (alt_branches u x xs rs.0 rs.1 n d v (omega arith) (omega arith) e)
 
-alt_whole : (u : Bool) (ts : Trees) → EachReads u ts → ReadsWhole u (put_branches ts) (nests ts 1) (choice (normals u ts))
-alt_whole u no_trees r n d v l e = reads_only n d (bare u) v v empty (reads_branch empty (no_run n d (bare u) v) refl e.stops) e
+alt_whole : (u : Bool) (ts : Trees) → EachReads u ts →
+    ReadsWhole u (put_branches ts) (nests ts 1) (choice (normals u ts))
+alt_whole u no_trees r n d v l e =
+    reads_only n d (bare u) v v empty (reads_branch empty (no_run n d (bare u) v) refl e.stops) e
 alt_whole u (more_trees t ts) r n d v l e =
-    reads_whole n d (bare u) (put t 1 (put_barred ts v)) v (normal u t ∷ normals u ts) (alt_branches u t ts r.0 r.1 n d v (omega arith) (omega arith) e)
+    reads_whole n d (bare u) (put t 1 (put_barred ts v)) v (normal u t ∷ normals u ts)
+    (alt_branches u t ts r.0 r.1 n d v (omega arith) (omega arith) e)
 
 alt_reads : (u : Bool) (ts : Trees) → EachReads u ts → Reads u (alt ts)
 alt_reads u ts r = by_whole u (put_branches ts) (nests ts 1) (Unit {0}) (choice (normals u ts)) (alt_whole u ts r)
@@ -201,11 +247,14 @@ repeat_run u t lo hi greedy h r n d v l c =
     let m = quantifier_read lo hi greedy v h.3 h.4 in
     let i = atom_of t (h.1 false) h.2 in
     let b = begins_atom t h.0 i q in
-    reads_repeat n d (bare u) (put t 3 q) q v (normal u t) lo hi greedy (kept u false false false false) b.goes b.clear.no_comment c m (h.1 u) (r.atom i n d q l m.no_name)
+    reads_repeat n d (bare u) (put t 3 q) q v (normal u t) lo hi greedy
+    (kept u false false false false) b.goes b.clear.no_comment c m (h.1 u) (r.atom i n d q l m.no_name)
 
-repeat_reads : (u : Bool) (t : Tree) (lo hi : ℕ) (greedy : Bool) → Printable (repeat t lo hi greedy) → Reads u t → Reads u (repeat t lo hi greedy)
+repeat_reads : (u : Bool) (t : Tree) (lo hi : ℕ) (greedy : Bool) → Printable (repeat t lo hi greedy) → Reads u t →
+    Reads u (repeat t lo hi greedy)
 repeat_reads u t lo hi greedy h r =
-    by_run u (λ v. put t 3 (quantifier lo hi greedy ++ v)) (nest t 3) (Unit {0}) (repeat (normal u t) lo hi greedy) (repeat_run u t lo hi greedy h r)
+    by_run u (λ v. put t 3 (quantifier lo hi greedy ++ v)) (nest t 3) (Unit {0}) (repeat (normal u t) lo hi greedy)
+    (repeat_run u t lo hi greedy h r)
 
 mutual
   pub reads : (u : Bool) (t : Tree) → Printable t → Reads u t
@@ -236,7 +285,8 @@ join_items u t = join_one (normal u t)
 pub text_high : (t : Tree) (p : ℕ) → 3 ≤ p → printed t p ≡ printed t 3
 text_high (concat ts) p h = ap (λ b. grouped b (printed_all ts)) (lt-ltb 1 p (omega arith))
 text_high (alt ts) p h = ap (λ b. grouped b (printed_branches ts)) (lt-ltb 0 p (omega arith))
-text_high (repeat t lo hi greedy) p h = ap (λ b. grouped b (printed t 3 ++ quantifier lo hi greedy)) (lt-ltb 2 p (omega arith))
+text_high (repeat t lo hi greedy) p h =
+    ap (λ b. grouped b (printed t 3 ++ quantifier lo hi greedy)) (lt-ltb 2 p (omega arith))
 text_high t p h = refl
 
 pub nest_high : (t : Tree) (p : ℕ) → 3 ≤ p → nest t p ≡ nest t 3
@@ -245,8 +295,11 @@ nest_high (alt ts) p h = ap (λ b. one_if b + nests ts 1) (lt-ltb 0 p (omega ari
 nest_high (repeat t lo hi greedy) p h = ap (λ b. one_if b + nest t 3) (lt-ltb 2 p (omega arith))
 nest_high t p h = refl
 
-from_run : (u : Bool) (t : Tree) (p : ℕ) → ReadsRun u (put t p) (nest t p) (items_of t (normal u t)) → ReadsWhole u (put t p) (nest t p) (normal u t)
-from_run u t p r = to_whole u (put t p) (nest t p) (normal u t) (to_branch u (put t p) (nest t p) (items_of t (normal u t)) (normal u t) (join_items u t) r)
+from_run : (u : Bool) (t : Tree) (p : ℕ) → ReadsRun u (put t p) (nest t p) (items_of t (normal u t)) →
+    ReadsWhole u (put t p) (nest t p) (normal u t)
+from_run u t p r =
+    to_whole u (put t p) (nest t p) (normal u t)
+    (to_branch u (put t p) (nest t p) (items_of t (normal u t)) (normal u t) (join_items u t) r)
 
 abbrev ReadsFrom : Bool → Tree → Text → Type 0
 ReadsFrom u t s = (r : Tree) × Derives (bare u) s r × Becomes r (normal u t)
@@ -254,8 +307,11 @@ ReadsFrom u t s = (r : Tree) × Derives (bare u) s r × Becomes r (normal u t)
 from_whole : (u : Bool) (t : Tree) (s : Text) → WholeAs (bytes s) 0 (bare u) s [] (normal u t) → ReadsFrom u t s
 from_whole u t s w = reads_text (bare u) s (normal u t) w
 
-at_level : (t : Tree) (p : ℕ) (u : Bool) → nest t p < 64 → ReadsWhole u (put t p) (nest t p) (normal u t) → ReadsFrom u t (printed t p)
-at_level t p u l w = subst (ReadsFrom u t) (put_alone t p) (from_whole u t (put t p []) (w (bytes (put t p [])) 0 [] (omega arith) ends_nothing))
+at_level : (t : Tree) (p : ℕ) (u : Bool) → nest t p < 64 → ReadsWhole u (put t p) (nest t p) (normal u t) →
+    ReadsFrom u t (printed t p)
+at_level t p u l w =
+    subst (ReadsFrom u t) (put_alone t p)
+    (from_whole u t (put t p []) (w (bytes (put t p [])) 0 [] (omega arith) ends_nothing))
 
 pub reads_back : (t : Tree) (p : ℕ) (u : Bool) → Printable t → nest t p < 64 → ReadsFrom u t (printed t p)
 reads_back t zero u h l = at_level t 0 u l (reads u t h).whole
@@ -263,4 +319,5 @@ reads_back t (suc zero) u h l = at_level t 1 u l (to_whole u (put t 1) (nest t 1
 reads_back t (suc (suc zero)) u h l = at_level t 2 u l (from_run u t 2 (reads u t h).run)
 reads_back t (suc (suc (suc p))) u h l =
     let big : 3 ≤ suc (suc (suc p)) = omega arith in
-    subst (ReadsFrom u t) (sym (text_high t (suc (suc (suc p))) big)) (at_level t 3 u (omega (arith, nest_high t (suc (suc (suc p))) big)) (from_run u t 3 (reads u t h).high))
+    subst (ReadsFrom u t) (sym (text_high t (suc (suc (suc p))) big))
+    (at_level t 3 u (omega (arith, nest_high t (suc (suc (suc p))) big)) (from_run u t 3 (reads u t h).high))

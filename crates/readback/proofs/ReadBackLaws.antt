@@ -53,7 +53,7 @@ marks_are u text r h =
     let none = no_references (items r) h in
     let numbered = counted_in false (openings r) in
     let unnamed : named_groups numbered ≡ [] =
-        ap (λ l. map (λ t. (t, numbers t numbered)) (fold (insert_key name_cmp) [] l)) (no_names (items r) h) in
+    ap (λ l. map (λ t. (t, numbers t numbered)) (fold (insert_key name_cmp) [] l)) (no_names (items r) h) in
     λ i. record {
       backrefs = ascending (filter (λ n. nat_le n (length numbered)) (back_numbers numbered (none i)));
       named_groups = unnamed i;
@@ -74,7 +74,7 @@ tree_of u text r x d b =
     let numbered = counted_in false (openings r) in
     let none : fault_of (bare u) r ≡ None = ap (first_fault numbered) (no_references (items r) b.groups) in
     let found : IsTreeOf (bare u) text x (marks_of_groups (length numbered)) =
-        (r, d, none, sym (b.is numbered), sym (marks_are u text r b.groups)) in
+    (r, d, none, sym (b.is numbered), sym (marks_are u text r b.groups)) in
     subst (λ n. IsTreeOf (bare u) text x (marks_of_groups n)) (sym (groups_total found)) found
 
 only_read : (f : Flags) (text : Text) (t : Tree) (m : Marks) → IsTreeOf f text t m → IsOnlyAnswer f text (read t m)
@@ -98,7 +98,8 @@ read_back_only t p h u =
     cond_both (nat_lt (nest t p) max_depth) _ _ (IsOnlyAnswer (bare u) (printed t p))
     (λ yes. let (r, d, b) = reads_back t p u (told t h) (ltb-true (nest t p) max_depth yes) in
     only_read (bare u) (printed t p) (normal u t) _ (tree_of u (printed t p) r (normal u t) d b))
-    (λ no. only_refused (bare u) (printed t p) (over t p) (too_deep t p u (told t h) (ltb-false (nest t p) max_depth no)))
+    (λ no. only_refused (bare u) (printed t p) (over t p)
+    (too_deep t p u (told t h) (ltb-false (nest t p) max_depth no)))
 
 -- the same of the bytes
 pub bytes_read_back : (t : Tree) (p : ℕ) → printable t ≡ true → IsReadBack t p (chars (encode_utf8_all (printed t p)))
@@ -127,6 +128,6 @@ same_texts t s p q u h k l e =
     let here = read_back_only t p h u in
     let there = read_back_only s q k u in
     let same : read_back u s q ≡ read_back u t p =
-        here.only (read_back u s q) (subst (λ w. IsAnswerOf (bare u) w (read_back u s q)) (sym e) there.is) in
+    here.only (read_back u s q) (subst (λ w. IsAnswerOf (bare u) w (read_back u s q)) (sym e) there.is) in
     from_read (nat_lt (nest s q) max_depth) (normal u s) (normal u t) _ _ recursion_exceeded (over s q)
     (same ∙ read_where t p u l)

@@ -53,15 +53,20 @@ class_head_is (c ∷ t) = by_caret (c == 94) refl where
   behind_caret : (t : Text) → (c == 94) ≡ true → Opened (c ∷ t) (with_mark 93 (91 ∷ 94 ∷ [], t))
   behind_caret [] e = opened _ _ (caret_head [] (ap (λ x. x ∷ []) (eqb-true c 94 e)) refl)
   behind_caret (d ∷ t) e = by_close (d == 93) refl where
-    by_close : (x : Bool) → (d == 93) ≡ x → Opened (c ∷ d ∷ t) (choose {B = Text × Text} (if x then Some t else None) (λ u. (91 ∷ 94 ∷ 93 ∷ [], u)) (91 ∷ 94 ∷ [], d ∷ t))
+    by_close : (x : Bool) → (d == 93) ≡ x →
+        Opened (c ∷ d ∷ t) (choose {B = Text × Text} (if x then Some t else None) (λ u. (91 ∷ 94 ∷ 93 ∷ [], u))
+        (91 ∷ 94 ∷ [], d ∷ t))
     by_close true q = opened _ _ (both_head t (ap₂ (λ x y. x ∷ y ∷ t) (eqb-true c 94 e) (eqb-true d 93 q)))
     by_close false q = opened _ _ (caret_head (d ∷ t) (ap (λ x. x ∷ d ∷ t) (eqb-true c 94 e)) (rw q refl))
 
-  no_caret : (x : Bool) → (c == 93) ≡ x → (c == 94) ≡ false → Opened (c ∷ t) (choose {B = Text × Text} (if x then Some t else None) (λ u. (91 ∷ 93 ∷ [], u)) (91 ∷ [], c ∷ t))
+  no_caret : (x : Bool) → (c == 93) ≡ x → (c == 94) ≡ false →
+      Opened (c ∷ t) (choose {B = Text × Text} (if x then Some t else None) (λ u. (91 ∷ 93 ∷ [], u)) (91 ∷ [], c ∷ t))
   no_caret true q e = opened _ _ (close_head t (ap (λ x. x ∷ t) (eqb-true c 93 q)))
   no_caret false q e = opened _ _ (plain_head (rw e refl) (rw q refl))
 
-  by_caret : (x : Bool) → (c == 94) ≡ x → Opened (c ∷ t) (with_mark 93 (choose {B = Text × Text} (if x then Some t else None) (λ u. (91 ∷ 94 ∷ [], u)) (91 ∷ [], c ∷ t)))
+  by_caret : (x : Bool) → (c == 94) ≡ x →
+      Opened (c ∷ t) (with_mark 93
+      (choose {B = Text × Text} (if x then Some t else None) (λ u. (91 ∷ 94 ∷ [], u)) (91 ∷ [], c ∷ t)))
   by_caret true e = behind_caret t e
   by_caret false e = no_caret (c == 93) refl e
 
@@ -139,7 +144,9 @@ nested_again : (t r w x : Text) → ClassAgain x → ItemsAgain r w → ItemsAga
 nested_again t r w x c h =
     subst (λ z. ItemsAgain (91 ∷ t) (z ++ w)) (sym c.is)
     (record {
-      goes = λ m s. pass_nested m ((c.inner ++ w) ++ s) (w ++ s) s (subst (λ z. ClassGoes m z (w ++ s)) (sym (append_assoc c.inner w s)) (c.goes m (w ++ s))) (h.goes m s);
+      goes =
+          λ m s. pass_nested m ((c.inner ++ w) ++ s) (w ++ s) s
+          (subst (λ z. ClassGoes m z (w ++ s)) (sym (append_assoc c.inner w s)) (c.goes m (w ++ s))) (h.goes m s);
       no_caret = λ _ s. refl;
       no_close = λ _ s. refl;
       scalars = scalars_append c.inner w c.scalars h.scalars;
@@ -180,7 +187,8 @@ mutual
 -- ---- by induction on the derivation
 
 mutual
-  pub class_again : {n : ℕ} {u i b a : Bool} {t x v : Text} → Class n (under u i false false false) b t (written x a v) →
+  pub class_again : {n : ℕ} {u i b a : Bool} {t x v : Text} →
+      Class n (under u i false false false) b t (written x a v) →
       all_scalars t ≡ true → ClassAgain x
   class_again {t} (class_items {u} {head} {w} e h) k =
       opened_again t _ w (subst (Opened t) e (class_head_is t)) (items_again h (head_rest t head u e k))
@@ -188,7 +196,12 @@ mutual
   items_again : {n : ℕ} {u i b a : Bool} {t w v : Text} → Items n (under u i false false false) b t (written w a v) →
       all_scalars t ≡ true → ItemsAgain t w
   items_again close k =
-      record { goes = λ m s. pass_close m s; no_caret = λ _ s. refl; no_close = λ e s. same_front 93 93 _ s e; scalars = refl }
+      record {
+        goes = λ m s. pass_close m s;
+        no_caret = λ _ s. refl;
+        no_close = λ e s. same_front 93 93 _ s e;
+        scalars = refl;
+      }
   items_again (plain {c} {t} {w} p h) k =
       let (here, more) = and_parts _ (all_scalars t) k in plain_again c t w p here (items_again h more)
   items_again {n} {u} {i} {b} (escaped {t} {u = r} {w} {e} q h) k =

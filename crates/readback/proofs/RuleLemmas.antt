@@ -104,7 +104,8 @@ resolved_repeatable g f (ast_node (ast_call t) p) h = absurd h
 resolved_repeatable g f (ast_node (ast_condition t l) p) h = absurd h
 resolved_repeatable g f _ h = refl
 
-solid_cond : (t : Tree) (l : List Tree) (b : Bool) → is_empty t ≡ b → solid l ≡ l → solid (if b then l else t ∷ l) ≡ (if b then l else t ∷ l)
+solid_cond : (t : Tree) (l : List Tree) (b : Bool) → is_empty t ≡ b → solid l ≡ l →
+    solid (if b then l else t ∷ l) ≡ (if b then l else t ∷ l)
 solid_cond t l true e h = h
 solid_cond t l false e h = cond-false _ _ _ e ∙ ap (λ m. t ∷ m) h
 
@@ -209,8 +210,11 @@ pub run_chain : {n d : ℕ} {f : Flags} {s t v : Text} {xs ys : List Tree} → R
     Run n d f s v (xs ++ ys)
 run_chain {n} {d} {f} {s} p q = record {
   trees = p.trees ++ q.trees;
-  pieces = λ o r. subst (Pieces n d (st f s)) (before_append p.trees q.trees o) (p.pieces (before q.trees o) (q.pieces o r));
-  are = λ g. ap solid (map-append (resolved_in false g) p.trees q.trees) ∙ solid_append (map (resolved_in false g) p.trees) (map (resolved_in false g) q.trees)
+  pieces =
+      λ o r. subst (Pieces n d (st f s)) (before_append p.trees q.trees o) (p.pieces (before q.trees o) (q.pieces o r));
+  are =
+      λ g. ap solid (map-append (resolved_in false g) p.trees q.trees)
+      ∙ solid_append (map (resolved_in false g) p.trees) (map (resolved_in false g) q.trees)
       ∙ ap₂ (λ a b. a ++ b) (p.are g) (q.are g);
   groups = each_append p.trees q.trees p.groups q.groups;
 }
@@ -235,7 +239,8 @@ quants_one n d left f a b s v k e =
     ap (λ q. and_then q (λ b t. if t.flags.oniguruma_mode then adjacent max_adjacent n d b t else done b t)) e
     ∙ cond-false _ _ _ k.not_oniguruma
 
-quant_none : (n left : ℕ) (f : Flags) (a : Tree) (v : Text) → Kept f → Clear v → quant n left a (st f v) ≡ done a (st f v)
+quant_none : (n left : ℕ) (f : Flags) (a : Tree) (v : Text) → Kept f → Clear v →
+    quant n left a (st f v) ≡ done a (st f v)
 unfolding quant
 quant_none n left f a v k c =
     ap (quant_at n left a (st f v)) (skip_here n f v k c.no_comment)
@@ -246,10 +251,12 @@ pub reads_piece : (n d : ℕ) (f : Flags) (s v : Text) (x : Tree) → Kept f →
     after_comment_head s ≡ None → Clear v → AtomAs n d f s v x → Run n d f s v (solid (x ∷ []))
 reads_piece n d f s v x k e o c a =
     run_piece a.tree x
-    (piece (skip_here n f s k o) a.derives (quants_one n d (bytes s) f a.tree a.tree v v k (quant_none n (bytes s) f a.tree v k c)))
+    (piece (skip_here n f s k o) a.derives
+    (quants_one n d (bytes s) f a.tree a.tree v v k (quant_none n (bytes s) f a.tree v k c)))
     e a.becomes
 
-greed : (f : Flags) (lazy greedy : Bool) → f.swap_greed ≡ false → not lazy ≡ greedy → quantified.is_greedy f lazy ≡ greedy
+greed : (f : Flags) (lazy greedy : Bool) → f.swap_greed ≡ false → not lazy ≡ greedy →
+    quantified.is_greedy f lazy ≡ greedy
 greed f lazy greedy e h = cond-false _ _ _ e ∙ h
 
 -- the tree under a quantifier without the possessive mark
@@ -297,10 +304,11 @@ pub reads_repeat : (n d : ℕ) (f : Flags) (s q v : Text) (x : Tree) (lo hi : �
 reads_repeat n d f s q v x lo hi greedy k e o c m r a =
     let b = a.becomes in
     let repeatable : is_repeatable f a.tree ≡ true =
-        sym (resolved_repeatable [] f a.tree b.groups) ∙ ap (is_repeatable f) (b.is []) ∙ r in
+    sym (resolved_repeatable [] f a.tree b.groups) ∙ ap (is_repeatable f) (b.is []) ∙ r in
     run_piece (repeat a.tree lo hi greedy) (repeat x lo hi greedy)
     (piece (skip_here n f s k o) a.derives
-    (quants_one n d (bytes s) f a.tree (repeat a.tree lo hi greedy) q v k (quant_some n (bytes s) f a.tree q v lo hi greedy k c m repeatable)))
+    (quants_one n d (bytes s) f a.tree (repeat a.tree lo hi greedy) q v k
+    (quant_some n (bytes s) f a.tree q v lo hi greedy k c m repeatable)))
     e (record { is = λ g. ap (λ y. repeat y lo hi greedy) (b.is g); groups = b.groups })
 
 -- ---- branches
@@ -313,7 +321,9 @@ reads_branch {n} {d} {f} {s} {v} x r e h = record {
   becomes = record {
     is = λ g. ap (λ l. resolved_in false g (join l)) (append-nil r.trees) ∙ resolved_join g r.trees r.groups
         ∙ ap (one_or concat) (sym (solid_solid (map (resolved_in false g) r.trees))) ∙ ap join (r.are g) ∙ e;
-    groups = subst (λ l. OnlyGroups (items (join l))) (sym (append-nil r.trees)) (concat_groups (solid r.trees) (solid_groups r.trees r.groups));
+    groups =
+        subst (λ l. OnlyGroups (items (join l))) (sym (append-nil r.trees))
+        (concat_groups (solid r.trees) (solid_groups r.trees r.groups));
   };
 }
 
@@ -413,7 +423,8 @@ module _ (n : ℕ) (t : Text) (c : Bool) (f : Flags) (u : Text) (h : Kept f) (o 
   pub more_letters : (k : ℕ) (b : Bool) (g : Flags) (v : Text) (l : Letters) (w : Text) →
       step n t c f u ≡ gives (goes b g) v → Spelled n t k b g v l w → Spelled n t (k + 1) c f u l w
   more_letters k b g v l w e r j m =
-      let (i, q, same) = in_go n t c f u j (k + 1) m u (ap layout_reading (skip_here n f u h o)) k b g v (omega arith) e in
+      let (i, q, same) =
+      in_go n t c f u j (k + 1) m u (ap layout_reading (skip_here n f u h o)) k b g v (omega arith) e in
       same ∙ r i q
 
 pub spelled : (n k : ℕ) (f : Flags) (t : Text) (l : Letters) (w : Text) → Spelled n t k false f t l w → k ≤ bytes t →
@@ -422,9 +433,11 @@ spelled n k f t l w h m = letters_start n f t ∙ h (suc (bytes t)) (omega arith
 
 colon : (n : ℕ) (f : Flags) (s : Text) → Kept f → letters.letters n f (58 ∷ s) ≡ gives (letters.scope f) s
 colon n f s k =
-    spelled n 0 f (58 ∷ s) (letters.scope f) s (last_letter n (58 ∷ s) false f (58 ∷ s) k refl (letters.scope f) s refl) (omega arith)
+    spelled n 0 f (58 ∷ s) (letters.scope f) s (last_letter n (58 ∷ s) false f (58 ∷ s) k refl (letters.scope f) s refl)
+    (omega arith)
 
-grouped_at : (n d : ℕ) (f : Flags) (s : Text) → Kept f → d + 1 < 64 → ahead n d (st f (40 ∷ 63 ∷ 58 ∷ s)) ≡ opens scope (st f s)
+grouped_at : (n d : ℕ) (f : Flags) (s : Text) → Kept f → d + 1 < 64 →
+    ahead n d (st f (40 ∷ 63 ∷ 58 ∷ s)) ≡ opens scope (st f s)
 grouped_at n d f s k l = scope_at n d f f (58 ∷ s) s k l refl refl (colon n f s k)
 
 -- `(?:`
@@ -490,7 +503,8 @@ plain_leaf n d f c v e =
     let (close, l) = k in
     let (bar_, m) = l in
     let (bracket, o) = m in
-    leaf_at n d f c v paren (rw (plus, star, ask, bar_, close) refl) ∙ rw (dot, o.1.1.1.0, o.1.1.1.1.0, slash, bracket) refl
+    leaf_at n d f c v paren (rw (plus, star, ask, bar_, close) refl)
+    ∙ rw (dot, o.1.1.1.0, o.1.1.1.1.0, slash, bracket) refl
 
 -- a character, as it is printed
 pub reads_char : (n d : ℕ) (f : Flags) (c : ℕ) (v : Text) (o : Option ℕ) → behind_backslash c ≡ o →
@@ -509,7 +523,8 @@ reads_char n d f c v (Some x) e =
 -- ---- faults
 
 -- a group that is too deep
-pub fails_deep : (n d : ℕ) (f : Flags) (t : Text) → 64 ≤ d + 1 → Atom n d (st f (40 ∷ t)) (fault recursion_exceeded (place_of n (40 ∷ t)))
+pub fails_deep : (n d : ℕ) (f : Flags) (t : Text) → 64 ≤ d + 1 →
+    Atom n d (st f (40 ∷ t)) (fault recursion_exceeded (place_of n (40 ∷ t)))
 unfolding ahead
 fails_deep n d f t h =
     let deep : nat_le max_depth (d + 1) ≡ true = le-leb 64 (d + 1) h in atom (cond-true _ _ _ deep) a_leaf

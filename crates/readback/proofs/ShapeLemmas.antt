@@ -13,7 +13,8 @@ use Rattle.readback.proofs.LeafLemmas.{Begins, begins_char, begins_any, begins_a
 
 -- a Delegate's text in front of anything reads as its normal form
 pub record DelegateText (s : Text) : Type 0 where
-  pub reads : (n d : ℕ) (u i : Bool) (v : Text) → AtomAs n d (under u i false false false) (s ++ v) v (normal u (delegate s i))
+  pub reads : (n d : ℕ) (u i : Bool) (v : Text) →
+      AtomAs n d (under u i false false false) (s ++ v) v (normal u (delegate s i))
   pub begins : (v : Text) → Begins (s ++ v)
 
 abbrev mutual
@@ -26,7 +27,9 @@ abbrev mutual
   Printable (concat ts) = ArePrintable ts
   Printable (alt ts) = ArePrintable ts
   Printable (group t) = Printable t
-  Printable (repeat t lo hi greedy) = Printable t × ((u : Bool) → is_repeatable (bare u) (normal u t) ≡ true) × (is_long t ≡ false) × (lo < 2 ^ 64) × (hi < 2 ^ 64)
+  Printable (repeat t lo hi greedy) =
+      Printable t × ((u : Bool) → is_repeatable (bare u) (normal u t) ≡ true) × (is_long t ≡ false) × (lo < 2 ^ 64)
+      × (hi < 2 ^ 64)
   Printable (define_group t) = Unit {0}
   Printable _ = ⊥
 
@@ -63,7 +66,8 @@ begins_head x s e = record { clear = record { no_comment = rw e refl; no_mark = 
 pub begins_group : (s : Text) → Clear s → Begins (40 ∷ s)
 begins_group s c = record { clear = record { no_comment = not_asking s (clear_lazy s c); no_mark = refl }; goes = refl }
 
-clear_if : (b : Bool) (k : Text → Text) (v : Text) → ((w : Text) → Clear w → Clear (k w)) → Clear v → Clear (open_if b (k (close_if b v)))
+clear_if : (b : Bool) (k : Text → Text) (v : Text) → ((w : Text) → Clear w → Clear (k w)) → Clear v →
+    Clear (open_if b (k (close_if b v)))
 clear_if true k v h c = (begins_head 58 _ refl).clear
 clear_if false k v h c = h v c
 
