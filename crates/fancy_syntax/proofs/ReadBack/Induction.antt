@@ -9,13 +9,13 @@ use Rattle.fancy_syntax.specs.Join.{solid, join, choice}
 use Rattle.fancy_syntax.specs.Normal.{character, items_of, under, bare, normal, items, normals}
 use Rattle.fancy_syntax.specs.Printed.{printed, printed_all, printed_branches, grouped}
 use Rattle.fancy_syntax.specs.Tree.{Tree, Trees, no_trees, more_trees, empty, any, assertion, literal, concat, alt, group, repeat, delegate, define_group}
-use Rattle.readback.specs.Nest.{nest, nests, one_if, is_line}
-use Rattle.readback.proofs.InFront.{put, puts, put_branches, put_barred, put_any, put_assertion, put_quotes, open_if, put_alone}
-use Rattle.readback.proofs.ClearLemmas.{Clear, Stops, Ends, clear_close, stops_bar, ends_close, ends_nothing}
-use Rattle.readback.proofs.CountTexts.{NoName, clear_name, quantifier_read}
-use Rattle.readback.proofs.RuleLemmas.{Becomes, kept, AtomAs, BranchAs, BranchesAs, WholeAs, Run, no_run, run_chain, reads_piece, reads_repeat, reads_branch, reads_last, reads_more, reads_whole, reads_only, reads_group, reads_grouped, reads_caseless, reads_char, reads_text, join_one}
-use Rattle.readback.proofs.LeafLemmas.{Begins, whole_atom, quotes_run, reads_any, begins_any, reads_assertion, begins_assertion, read_assertion, HasText}
-use Rattle.readback.proofs.ShapeLemmas.{DelegateText, Printable, ArePrintable, IsAtom, atom_of, begins_head, begins_group, begins_atom, clear_put, clear_puts}
+use Rattle.fancy_syntax.specs.Nest.{nest, nests, one_if, is_line}
+use Rattle.fancy_syntax.proofs.ReadBack.InFront.{put, puts, put_branches, put_barred, put_any, put_assertion, put_quotes, open_if, put_alone}
+use Rattle.fancy_syntax.proofs.ReadBack.ClearLemmas.{Clear, Stops, Ends, clear_close, stops_bar, ends_close, ends_nothing}
+use Rattle.fancy_syntax.proofs.ReadBack.CountTexts.{NoName, clear_name, quantifier_read}
+use Rattle.fancy_syntax.proofs.ReadBack.RuleLemmas.{Becomes, kept, AtomAs, BranchAs, BranchesAs, WholeAs, Run, no_run, run_chain, reads_piece, reads_repeat, reads_branch, reads_last, reads_more, reads_whole, reads_only, reads_group, reads_grouped, reads_caseless, reads_char, reads_text, join_one}
+use Rattle.fancy_syntax.proofs.ReadBack.LeafLemmas.{Begins, whole_atom, quotes_run, reads_any, begins_any, reads_assertion, begins_assertion, read_assertion, HasText}
+use Rattle.fancy_syntax.proofs.ReadBack.ShapeLemmas.{DelegateText, Printable, ArePrintable, IsAtom, atom_of, begins_head, begins_group, begins_atom, clear_put, clear_puts}
 
 -- what k prints, with m groups nested, reads as the tree x
 abbrev pub ReadsAtom : Bool → (Text → Text) → ℕ → Tree → Type 0

@@ -30,9 +30,9 @@ use Rattle.fancy_syntax.specs.State.{State, Outcome, done, fault, and_then, seen
 use Rattle.fancy_syntax.specs.Tree as tree
 use Rattle.fancy_syntax.specs.Tree.{Tree, empty, any, assertion, literal, concat, alt, repeat, trees_of, ast_node, ast_group, ast_backref, ast_call, ast_condition}
 use Rattle.fancy_syntax.specs.Normal.{under}
-use Rattle.readback.proofs.InFront.{put_as}
-use Rattle.readback.proofs.ClearLemmas.{Clear, no_layout, clear_counts, clear_lazy, clear_star, clear_plus, Stops, Ends, behind_none, behind_some}
-use Rattle.readback.proofs.CountTexts.{IsQuantifier, lazy}
+use Rattle.fancy_syntax.proofs.ReadBack.InFront.{put_as}
+use Rattle.fancy_syntax.proofs.ReadBack.ClearLemmas.{Clear, no_layout, clear_counts, clear_lazy, clear_star, clear_plus, Stops, Ends, behind_none, behind_some}
+use Rattle.fancy_syntax.proofs.ReadBack.CountTexts.{IsQuantifier, lazy}
 
 abbrev pub st : Flags → Text → State
 st f s = record { flags = f; rest = s }

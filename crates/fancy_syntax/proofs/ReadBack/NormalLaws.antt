@@ -10,12 +10,12 @@ use Rattle.fancy_syntax.specs.Join.{is_empty, solid, one_or, join, choice}
 use Rattle.fancy_syntax.specs.Normal.{character, items_of, normal, items, normals}
 use Rattle.fancy_syntax.specs.Printable.{is_count, is_long, printable, all_printable}
 use Rattle.fancy_syntax.specs.Tree.{Tree, Trees, no_trees, more_trees, empty, any, assertion, literal, concat, alt, group, repeat, delegate, define_group, trees_of}
-use Rattle.readback.specs.HasDelegate.{has_delegate, any_has_delegate}
-use Rattle.readback.proofs.DelegateLaws.{delegates_stay}
-use Rattle.readback.proofs.RuleLemmas.{solid_append, solid_solid}
-use Rattle.readback.proofs.PrintableLaws.{blank, blanks, normal_empty, delegate_class}
-use Rattle.readback.proofs.ClearLemmas.{no_truth}
-use Rattle.readback.proofs.DelegateTexts.{IsDelegate}
+use Rattle.fancy_syntax.specs.HasDelegate.{has_delegate, any_has_delegate}
+use Rattle.fancy_syntax.proofs.ReadBack.DelegateLaws.{delegates_stay}
+use Rattle.fancy_syntax.proofs.ReadBack.RuleLemmas.{solid_append, solid_solid}
+use Rattle.fancy_syntax.proofs.ReadBack.PrintableLaws.{blank, blanks, normal_empty, delegate_class}
+use Rattle.fancy_syntax.proofs.ReadBack.ClearLemmas.{no_truth}
+use Rattle.fancy_syntax.proofs.ReadBack.DelegateTexts.{IsDelegate}
 
 -- ---- a normal form is its own
 

@@ -19,11 +19,11 @@ use Rattle.fancy_syntax.specs.Ahead.{Ahead, leaf, ahead, leaf_node, leaf_outcome
 use Rattle.fancy_syntax.specs.Normal.{character, under, bare}
 use Rattle.fancy_syntax.specs.State.{done}
 use Rattle.fancy_syntax.specs.Tree.{Tree, any, assertion}
-use Rattle.readback.specs.Nest.{one_if, is_line}
-use Rattle.readback.proofs.InFront.{put_as, put_quotes, put_any, put_line, put_assertion}
-use Rattle.readback.proofs.ClearLemmas.{Clear, not_open, clear_close, ends_close, behind_none}
-use Rattle.readback.proofs.CountTexts.{NoName}
-use Rattle.readback.proofs.RuleLemmas.{Kept, kept, st, AtomAs, WholeAs, Run, no_run, run_chain, reads_piece, reads_branch, reads_only, join_one, reads_scope, scope_at, one_letter, two_letters, spelled, last_letter, more_letters, reads_leaf, leaf_at, reads_char}
+use Rattle.fancy_syntax.specs.Nest.{one_if, is_line}
+use Rattle.fancy_syntax.proofs.ReadBack.InFront.{put_as, put_quotes, put_any, put_line, put_assertion}
+use Rattle.fancy_syntax.proofs.ReadBack.ClearLemmas.{Clear, not_open, clear_close, ends_close, behind_none}
+use Rattle.fancy_syntax.proofs.ReadBack.CountTexts.{NoName}
+use Rattle.fancy_syntax.proofs.ReadBack.RuleLemmas.{Kept, kept, st, AtomAs, WholeAs, Run, no_run, run_chain, reads_piece, reads_branch, reads_only, join_one, reads_scope, scope_at, one_letter, two_letters, spelled, last_letter, more_letters, reads_leaf, leaf_at, reads_char}
 
 -- the text of an atom, or of what begins with one
 pub record Begins (s : Text) : Type 0 where

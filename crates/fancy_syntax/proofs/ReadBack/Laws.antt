@@ -24,16 +24,16 @@ use Rattle.fancy_syntax.specs.Resolved.{fault_of}
 use Rattle.fancy_syntax.specs.Tree.{Tree, empty}
 use Rattle.fancy_syntax.proofs.AnsweredLaws.{groups_total}
 use Rattle.fancy_syntax.proofs.Verdict.{only_tree, no_fault, only_reading}
-use Rattle.readback.specs.Nest.{nest}
+use Rattle.fancy_syntax.specs.Nest.{nest}
 use Rattle.fancy_syntax.specs.Normal.{bare, normal}
-use Rattle.readback.specs.Over.{over}
+use Rattle.fancy_syntax.specs.Over.{over}
 use Rattle.fancy_syntax.specs.Printable.{printable}
-use Rattle.readback.specs.ReadBack.{marks_of_groups, Answer, read, refused, IsAnswerOf, IsOnlyAnswer, read_back, IsReadBack}
-use Rattle.readback.proofs.PrintableLaws.{told}
-use Rattle.readback.proofs.PrintedScalars.{printed_spelled}
-use Rattle.readback.proofs.ReadBack.{reads_back}
-use Rattle.readback.proofs.RuleLemmas.{OnlyGroups, Becomes}
-use Rattle.readback.proofs.TooDeep.{too_deep}
+use Rattle.fancy_syntax.specs.ReadBack.{marks_of_groups, Answer, read, refused, IsAnswerOf, IsOnlyAnswer, read_back, IsReadBack}
+use Rattle.fancy_syntax.proofs.ReadBack.PrintableLaws.{told}
+use Rattle.fancy_syntax.proofs.ReadBack.PrintedScalars.{printed_spelled}
+use Rattle.fancy_syntax.proofs.ReadBack.Induction.{reads_back}
+use Rattle.fancy_syntax.proofs.ReadBack.RuleLemmas.{OnlyGroups, Becomes}
+use Rattle.fancy_syntax.proofs.ReadBack.TooDeep.{too_deep}
 
 -- ---- the marks
 

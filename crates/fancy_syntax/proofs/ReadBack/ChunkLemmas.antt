@@ -21,9 +21,9 @@ use Rattle.fancy_lex.specs.EscapeReference.{group_number}
 use Rattle.fancy_lex.specs.declared.flags.Flags.{Flags}
 use Rattle.fancy_lex.specs.Text.{Text, place_of, strip}
 use Rattle.fancy_syntax.specs.Normal.{bare, under}
-use Rattle.readback.proofs.ClearLemmas.{not_open, no_layout}
-use Rattle.readback.proofs.ScalarLemmas.{scalars_append}
-use Rattle.readback.proofs.ClassChunks.{Goes, ClassGoes, pass_close, pass_plain, pass_escape, pass_nested, pass_class, Chunk, Fine, both_chunk, Each, each_at}
+use Rattle.fancy_syntax.proofs.ReadBack.ClearLemmas.{not_open, no_layout}
+use Rattle.fancy_syntax.proofs.ReadBack.ScalarLemmas.{scalars_append}
+use Rattle.fancy_syntax.proofs.ReadBack.ClassChunks.{Goes, ClassGoes, pass_close, pass_plain, pass_escape, pass_nested, pass_class, Chunk, Fine, both_chunk, Each, each_at}
 
 -- ---- plain words, and classes in classes
 

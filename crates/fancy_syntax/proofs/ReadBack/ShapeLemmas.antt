@@ -6,10 +6,10 @@ use Rattle.fancy_syntax.specs.Printable.{is_long}
 use Rattle.fancy_syntax.specs.Quantified.{is_repeatable}
 use Rattle.fancy_syntax.specs.Tree.{Tree, Trees, no_trees, more_trees, empty, any, assertion, literal, concat, alt, group, repeat, delegate, define_group}
 use Rattle.fancy_syntax.specs.Normal.{under, bare, normal}
-use Rattle.readback.proofs.InFront.{put, puts, put_branches, put_barred, open_if, close_if}
-use Rattle.readback.proofs.ClearLemmas.{no_truth, Clear, not_asking, clear_lazy, clear_close, stops_bar}
-use Rattle.readback.proofs.RuleLemmas.{AtomAs}
-use Rattle.readback.proofs.LeafLemmas.{Begins, begins_char, begins_any, begins_assertion, quotes_clear, HasText}
+use Rattle.fancy_syntax.proofs.ReadBack.InFront.{put, puts, put_branches, put_barred, open_if, close_if}
+use Rattle.fancy_syntax.proofs.ReadBack.ClearLemmas.{no_truth, Clear, not_asking, clear_lazy, clear_close, stops_bar}
+use Rattle.fancy_syntax.proofs.ReadBack.RuleLemmas.{AtomAs}
+use Rattle.fancy_syntax.proofs.ReadBack.LeafLemmas.{Begins, begins_char, begins_any, begins_assertion, quotes_clear, HasText}
 
 -- a Delegate's text in front of anything reads as its normal form
 pub record DelegateText (s : Text) : Type 0 where

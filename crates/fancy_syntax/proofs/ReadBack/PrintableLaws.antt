@@ -15,9 +15,9 @@ use Rattle.fancy_syntax.specs.Printable.{is_count, is_long, printable, all_print
 use Rattle.fancy_syntax.specs.Quantified.{is_repeatable}
 use Rattle.fancy_syntax.specs.State.{Outcome, done, fault}
 use Rattle.fancy_syntax.specs.Tree.{Tree, Trees, no_trees, more_trees, empty, any, assertion, literal, concat, alt, group, repeat, delegate, define_group}
-use Rattle.readback.proofs.ShapeLemmas.{Printable, ArePrintable}
-use Rattle.readback.proofs.DelegateTexts.{IsDelegate, delegate_text}
-use Rattle.readback.proofs.ClearLemmas.{no_truth}
+use Rattle.fancy_syntax.proofs.ReadBack.ShapeLemmas.{Printable, ArePrintable}
+use Rattle.fancy_syntax.proofs.ReadBack.DelegateTexts.{IsDelegate, delegate_text}
+use Rattle.fancy_syntax.proofs.ReadBack.ClearLemmas.{no_truth}
 
 pub count_below : (n : ℕ) → is_count n ≡ true → n < 2 ^ 64
 count_below n h = grind (arith, nat_tests)

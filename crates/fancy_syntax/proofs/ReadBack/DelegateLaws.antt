@@ -19,14 +19,14 @@ use Rattle.fancy_syntax.specs.Ahead.{leaf_node, leaf_outcome}
 use Rattle.fancy_syntax.specs.Tree.{delegate}
 use Rattle.fancy_syntax.specs.Normal.{bare, under, class_of, whole_leaf, normal}
 use Rattle.fancy_syntax.specs.Printable.{printable}
-use Rattle.readback.proofs.ScalarLemmas.{scalars_append}
-use Rattle.readback.proofs.ClassChunks.{ClassGoes, Chunk, both_chunk, Each, each_at}
-use Rattle.readback.proofs.CarriedLaws.{referring_none, class_carries, escape_carries, NoDelegate, hex_none, outside_none}
-use Rattle.readback.proofs.DelegateTexts.{bracket_read, bracket_normal, escape_read, escape_normal, no_other, nothing_whole}
-use Rattle.readback.proofs.ChunkLemmas.{name_of, name_scalars, bracket_goes, caret_goes, IsName, NameOk, NameSome, name_ok, prop, single_small, single_large, braced_small, braced_large, hex_word, space_other, unprinted, alpha_digit, blank_chunk, controls, word_class, word_chunk, letter_chunk, lowercase_ok, turn_ok}
-use Rattle.readback.proofs.RewrittenLaws.{ClassAgain, class_again}
-use Rattle.readback.proofs.RuleLemmas.{st}
-use Rattle.readback.proofs.ClearLemmas.{no_truth}
+use Rattle.fancy_syntax.proofs.ReadBack.ScalarLemmas.{scalars_append}
+use Rattle.fancy_syntax.proofs.ReadBack.ClassChunks.{ClassGoes, Chunk, both_chunk, Each, each_at}
+use Rattle.fancy_syntax.proofs.ReadBack.CarriedLaws.{referring_none, class_carries, escape_carries, NoDelegate, hex_none, outside_none}
+use Rattle.fancy_syntax.proofs.ReadBack.DelegateTexts.{bracket_read, bracket_normal, escape_read, escape_normal, no_other, nothing_whole}
+use Rattle.fancy_syntax.proofs.ReadBack.ChunkLemmas.{name_of, name_scalars, bracket_goes, caret_goes, IsName, NameOk, NameSome, name_ok, prop, single_small, single_large, braced_small, braced_large, hex_word, space_other, unprinted, alpha_digit, blank_chunk, controls, word_class, word_chunk, letter_chunk, lowercase_ok, turn_ok}
+use Rattle.fancy_syntax.proofs.ReadBack.RewrittenLaws.{ClassAgain, class_again}
+use Rattle.fancy_syntax.proofs.ReadBack.RuleLemmas.{st}
+use Rattle.fancy_syntax.proofs.ReadBack.ClearLemmas.{no_truth}
 
 -- the text is one whole class or class escape
 abbrev IsWhole : Text → Type 0

@@ -8,9 +8,9 @@ use Rattle.fancy_syntax.specs.Answer.{IsTreeOf, IsFaultOf}
 use Rattle.fancy_syntax.specs.Answered.{groups}
 use Rattle.fancy_syntax.specs.Marks.{Marks}
 use Rattle.fancy_syntax.specs.Tree.{Tree}
-use Rattle.readback.specs.Nest.{nest}
+use Rattle.fancy_syntax.specs.Nest.{nest}
 use Rattle.fancy_syntax.specs.Normal.{bare, normal}
-use Rattle.readback.specs.Over.{over}
+use Rattle.fancy_syntax.specs.Over.{over}
 
 -- the marks of a tree with so many groups, none of which has a name, and with no reference
 abbrev pub marks_of_groups : ℕ → Marks

@@ -11,9 +11,9 @@ use Rattle.fancy_lex.specs.Text.{Text, strip}
 use Rattle.fancy_lex.specs.declared.flags.Flags.{Flags}
 use Rattle.fancy_lex.proofs.EscapeLaws.{escape_cut}
 use Rattle.fancy_syntax.specs.Normal.{under}
-use Rattle.readback.proofs.ScalarLemmas.{scalars_append, scalars_behind}
-use Rattle.readback.proofs.ClassChunks.{Goes, ClassGoes, pass_close, pass_plain, pass_nested, pass_class, Chunk, Fine, both_chunk, char_chunk, amp_chunk}
-use Rattle.readback.proofs.ChunkLemmas.{open_plain, open_caret, byte_chunk, FineOf, escape_fine}
+use Rattle.fancy_syntax.proofs.ReadBack.ScalarLemmas.{scalars_append, scalars_behind}
+use Rattle.fancy_syntax.proofs.ReadBack.ClassChunks.{Goes, ClassGoes, pass_close, pass_plain, pass_nested, pass_class, Chunk, Fine, both_chunk, char_chunk, amp_chunk}
+use Rattle.fancy_syntax.proofs.ReadBack.ChunkLemmas.{open_plain, open_caret, byte_chunk, FineOf, escape_fine}
 
 -- what is written for an item
 text_chunk : (e : Escape) → Fine e → Chunk (escape_text e)

@@ -17,9 +17,9 @@ use Rattle.fancy_parts.specs.Quote.{needs_backslash, quote_as, quote, quotes, ra
 use Rattle.fancy_syntax.specs.Printable.{is_count, printable, all_printable, takes_quantifier}
 use Rattle.fancy_syntax.specs.Printed.{any_text, assertion_text, grouped, caseless, printed, printed_all, printed_branches, barred}
 use Rattle.fancy_syntax.specs.Tree.{Tree, Trees, no_trees, more_trees, any, assertion, literal, concat, alt, group, repeat, delegate}
-use Rattle.readback.proofs.CountTexts.{all_digits}
-use Rattle.readback.proofs.PrintableLaws.{count_below}
-use Rattle.readback.proofs.ScalarLemmas.{scalars_append}
+use Rattle.fancy_syntax.proofs.ReadBack.CountTexts.{all_digits}
+use Rattle.fancy_syntax.proofs.ReadBack.PrintableLaws.{count_below}
+use Rattle.fancy_syntax.proofs.ReadBack.ScalarLemmas.{scalars_append}
 
 quote_scalars : (c : ℕ) → IsScalar c → all_scalars (quote c) ≡ true
 unfolding quote

@@ -9,8 +9,8 @@ use Rattle.std.proofs.Common.{leb-true, leb-false}
 use Rattle.fancy_lex.specs.Text.{Text, bytes}
 use Rattle.fancy_syntax.specs.Printed.{printed}
 use Rattle.fancy_syntax.specs.Tree.{Tree, Trees, no_trees, more_trees, any, assertion, literal, concat, alt, group, repeat, delegate}
-use Rattle.readback.specs.Nest.{one_if, is_line, nest, nests}
-use Rattle.readback.specs.Over.{Paren, Parens, no_parens, in_group, parens, parens_all, parens_branches, parens_barred, is_too_deep, over}
+use Rattle.fancy_syntax.specs.Nest.{one_if, is_line, nest, nests}
+use Rattle.fancy_syntax.specs.Over.{Paren, Parens, no_parens, in_group, parens, parens_all, parens_branches, parens_barred, is_too_deep, over}
 
 -- of a group whose head has so many bytes, where d groups are open round it
 abbrev pub at_open : ℕ → ℕ → ℕ → ℕ

@@ -11,10 +11,10 @@ use Rattle.fancy_syntax.specs.Ahead.{leaf, leaf_node, leaf_outcome}
 use Rattle.fancy_syntax.specs.State.{State}
 use Rattle.fancy_syntax.specs.Tree.{Tree, delegate}
 use Rattle.fancy_syntax.specs.Normal.{under, bare, whole_of, whole_leaf, class_of, normal}
-use Rattle.readback.proofs.CarriedLaws.{class_carries, escape_carries}
-use Rattle.readback.proofs.RuleLemmas.{st, AtomAs, reads_leaf, leaf_at}
-use Rattle.readback.proofs.ShapeLemmas.{DelegateText}
-use Rattle.readback.proofs.ClearLemmas.{no_truth}
+use Rattle.fancy_syntax.proofs.ReadBack.CarriedLaws.{class_carries, escape_carries}
+use Rattle.fancy_syntax.proofs.ReadBack.RuleLemmas.{st, AtomAs, reads_leaf, leaf_at}
+use Rattle.fancy_syntax.proofs.ReadBack.ShapeLemmas.{DelegateText}
+use Rattle.fancy_syntax.proofs.ReadBack.ClearLemmas.{no_truth}
 
 abbrev pub IsDelegate : Tree → Type 0
 IsDelegate (delegate w i) = Unit {0}

@@ -10,7 +10,7 @@ use Rattle.fancy_lex.specs.Escaped.{Escape, literal, literal_bytes, delegate}
 use Rattle.fancy_lex.specs.Reading.{gives}
 use Rattle.fancy_lex.specs.Text.{Text, place_of, strip}
 use Rattle.fancy_syntax.specs.Normal.{bare}
-use Rattle.readback.proofs.ScalarLemmas.{scalars_append}
+use Rattle.fancy_syntax.proofs.ReadBack.ScalarLemmas.{scalars_append}
 
 -- from s on, a class's items are read to v, whatever was seen before
 abbrev pub Goes : ℕ → Text → Text → Type 0

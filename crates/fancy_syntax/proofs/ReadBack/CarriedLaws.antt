@@ -20,7 +20,7 @@ use Rattle.fancy_lex.specs.declared.flags.Flags.{Flags}
 use Rattle.fancy_lex.proofs.EscapeFrame.{StaysSome, read_stays, escape_frame}
 use Rattle.fancy_lex.proofs.TextLemmas.{bytes-append}
 use Rattle.fancy_syntax.specs.Normal.{under, bare}
-use Rattle.readback.proofs.ClearLemmas.{no_truth}
+use Rattle.fancy_syntax.proofs.ReadBack.ClearLemmas.{no_truth}
 
 -- ---- the same text under other flags
 

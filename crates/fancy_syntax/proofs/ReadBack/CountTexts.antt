@@ -16,7 +16,7 @@ use Rattle.fancy_lex.proofs.NumberLemmas.{number_complete, number_none}
 use Rattle.fancy_parts.specs.Quantifier.{most, past_layout, count, spaced_count, counts_from, braced_counts, counts}
 use Rattle.fancy_parts.specs.declared.counts.Counts.{Counts}
 use Rattle.fancy_parts.specs.Quote.{range, mark, counts_as, counts_text, quantifier}
-use Rattle.readback.proofs.ClearLemmas.{Clear, not_open, no_layout, clear_brace}
+use Rattle.fancy_syntax.proofs.ReadBack.ClearLemmas.{Clear, not_open, no_layout, clear_brace}
 
 digit_is : (c : ℕ) → digit_value c < 10 → (is_ascii_digit c ≡ true) × (c - 48 ≡ digit_value c)
 digit_is c h =

@@ -11,16 +11,16 @@ use Rattle.fancy_syntax.specs.Grammar.{Alternation, Branches, Pieces, Atom, Faul
 use Rattle.fancy_syntax.specs.Printed.{printed}
 use Rattle.fancy_syntax.specs.State.{fault}
 use Rattle.fancy_syntax.specs.Tree.{Tree, Trees, no_trees, more_trees, empty, any, assertion, literal, concat, alt, group, repeat, delegate, define_group}
-use Rattle.readback.specs.Nest.{nest, nests}
+use Rattle.fancy_syntax.specs.Nest.{nest, nests}
 use Rattle.fancy_syntax.specs.Normal.{bare}
-use Rattle.readback.specs.Over.{over}
-use Rattle.readback.proofs.OverLemmas.{over_place, at_open, at_open_if, place, places, branch_places, barred_places}
-use Rattle.readback.proofs.InFront.{put, puts, put_branches, put_barred, put_any, put_assertion, put_line, put_quotes, open_if, close_if, put_alone, put_text}
-use Rattle.readback.proofs.ClearLemmas.{Clear, Ends, clear_close, stops_bar, ends_close, ends_nothing}
-use Rattle.readback.proofs.LeafLemmas.{begins_any, begins_assertion, HasText}
-use Rattle.readback.proofs.ReadBack.{Starts, wrapped, wrap_starts, EachReads, reads_each, text_high, nest_high}
-use Rattle.readback.proofs.RuleLemmas.{st, kept, fails_deep, fails_group, fails_grouped, fails_piece, fails_first, fails_more, fails_whole, fails_text}
-use Rattle.readback.proofs.ShapeLemmas.{Printable, ArePrintable, atom_of, begins_head, begins_group, begins_atom, clear_put, clear_puts}
+use Rattle.fancy_syntax.specs.Over.{over}
+use Rattle.fancy_syntax.proofs.ReadBack.OverLemmas.{over_place, at_open, at_open_if, place, places, branch_places, barred_places}
+use Rattle.fancy_syntax.proofs.ReadBack.InFront.{put, puts, put_branches, put_barred, put_any, put_assertion, put_line, put_quotes, open_if, close_if, put_alone, put_text}
+use Rattle.fancy_syntax.proofs.ReadBack.ClearLemmas.{Clear, Ends, clear_close, stops_bar, ends_close, ends_nothing}
+use Rattle.fancy_syntax.proofs.ReadBack.LeafLemmas.{begins_any, begins_assertion, HasText}
+use Rattle.fancy_syntax.proofs.ReadBack.Induction.{Starts, wrapped, wrap_starts, EachReads, reads_each, text_high, nest_high}
+use Rattle.fancy_syntax.proofs.ReadBack.RuleLemmas.{st, kept, fails_deep, fails_group, fails_grouped, fails_piece, fails_first, fails_more, fails_whole, fails_text}
+use Rattle.fancy_syntax.proofs.ReadBack.ShapeLemmas.{Printable, ArePrintable, atom_of, begins_head, begins_group, begins_atom, clear_put, clear_puts}
 
 -- the text that is left at that place
 abbrev left_open : ℕ → Text → Text → Text
