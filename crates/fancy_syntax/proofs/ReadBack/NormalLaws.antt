@@ -12,7 +12,8 @@ use Rattle.fancy_syntax.specs.Printable.{is_count, is_long, printable, all_print
 use Rattle.fancy_syntax.specs.Tree.{Tree, Trees, no_trees, more_trees, empty, any, assertion, literal, concat, alt, group, repeat, delegate, define_group, trees_of}
 use Rattle.fancy_syntax.specs.HasDelegate.{has_delegate, any_has_delegate}
 use Rattle.fancy_syntax.proofs.ReadBack.DelegateLaws.{delegates_stay}
-use Rattle.fancy_syntax.proofs.ReadBack.RuleLemmas.{solid_append, solid_solid}
+use Rattle.fancy_syntax.proofs.OutcomeLemmas.{solid-append}
+use Rattle.fancy_syntax.proofs.ReadBack.RuleLemmas.{solid_solid}
 use Rattle.fancy_syntax.proofs.ReadBack.PrintableLaws.{blank, blanks, normal_empty, delegate_class}
 use Rattle.fancy_syntax.proofs.ReadBack.ClearLemmas.{no_truth}
 use Rattle.fancy_syntax.proofs.ReadBack.DelegateTexts.{IsDelegate}
@@ -42,7 +43,7 @@ append_fixed u (x ∷ l) m h k = (h.0, append_fixed u l m h.1 k)
 items_same : (u : Bool) (l : List Tree) → AllFixed u l → items u (trees_of l) ≡ solid l
 items_same u [] h = refl
 items_same u (x ∷ l) h =
-    ap₂ (λ a b. a ++ b) (ap (items_of x) h.0.same ∙ h.0.single) (items_same u l h.1) ∙ sym (solid_append (x ∷ []) l)
+    ap₂ (λ a b. a ++ b) (ap (items_of x) h.0.same ∙ h.0.single) (items_same u l h.1) ∙ sym (solid-append (x ∷ []) l)
 
 normals_same : (u : Bool) (l : List Tree) → AllFixed u l → normals u (trees_of l) ≡ l
 normals_same u [] h = refl

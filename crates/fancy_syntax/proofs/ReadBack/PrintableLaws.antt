@@ -15,6 +15,7 @@ use Rattle.fancy_syntax.specs.Printable.{is_count, is_long, printable, all_print
 use Rattle.fancy_syntax.specs.Quantified.{is_repeatable}
 use Rattle.fancy_syntax.specs.State.{Outcome, done, fault}
 use Rattle.fancy_syntax.specs.Tree.{Tree, Trees, no_trees, more_trees, empty, any, assertion, literal, concat, alt, group, repeat, delegate, define_group}
+use Rattle.fancy_syntax.proofs.PrintableLemmas.{join_empty, one_solid}
 use Rattle.fancy_syntax.proofs.ReadBack.ShapeLemmas.{Printable, ArePrintable}
 use Rattle.fancy_syntax.proofs.ReadBack.DelegateTexts.{IsDelegate, delegate_text}
 use Rattle.fancy_syntax.proofs.ReadBack.ClearLemmas.{no_truth}
@@ -131,24 +132,6 @@ abbrev mutual
   blank_choice no_trees = true
   blank_choice (more_trees t no_trees) = blank t
   blank_choice (more_trees t (more_trees u ts)) = false
-
-one_front : (t : Tree) (l : List Tree) → is_empty t ≡ false → is_empty (one_or concat (t ∷ l)) ≡ false
-one_front t [] e = e
-one_front t (u ∷ l) e = refl
-
-solid_front : (b : Bool) (t : Tree) (l : List Tree) → is_empty t ≡ b →
-    is_empty (one_or concat (solid l)) ≡ list_all is_empty l
-    → is_empty (one_or concat (if b then solid l else t ∷ solid l)) ≡ (b && list_all is_empty l)
-solid_front true t l e more = more
-solid_front false t l e more = one_front t (solid l) e
-
-join_empty : (l : List Tree) → is_empty (join l) ≡ list_all is_empty l
-join_empty [] = refl
-join_empty (t ∷ l) = solid_front (is_empty t) t l refl (join_empty l)
-
-one_solid : (b : Bool) (n : Tree) → is_empty n ≡ b → list_all is_empty (if b then [] else n ∷ []) ≡ b
-one_solid true n e = refl
-one_solid false n e = rw e refl
 
 characters_empty : (i : Bool) (s : Text) → is_empty (join (map (character i) s)) ≡ blank (literal s i)
 characters_empty i [] = refl

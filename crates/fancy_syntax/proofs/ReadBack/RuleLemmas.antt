@@ -29,6 +29,7 @@ use Rattle.fancy_syntax.specs.Resolved.{resolved_in, resolved_all}
 use Rattle.fancy_syntax.specs.State.{State, Outcome, done, fault, and_then, seen_through}
 use Rattle.fancy_syntax.specs.Tree as tree
 use Rattle.fancy_syntax.specs.Tree.{Tree, empty, any, assertion, literal, concat, alt, repeat, trees_of, ast_node, ast_group, ast_backref, ast_call, ast_condition}
+use Rattle.fancy_syntax.proofs.OutcomeLemmas.{before-nil, solid-append}
 use Rattle.fancy_syntax.specs.Normal.{under}
 use Rattle.fancy_syntax.proofs.ReadBack.InFront.{put_as}
 use Rattle.fancy_syntax.proofs.ReadBack.ClearLemmas.{Clear, no_layout, clear_counts, clear_lazy, clear_star, clear_plus, Stops, Ends, behind_none, behind_some}
@@ -113,15 +114,6 @@ pub solid_solid : (l : List Tree) → solid (solid l) ≡ solid l
 solid_solid [] = refl
 solid_solid (t ∷ l) = solid_cond t (solid l) (is_empty t) refl (solid_solid l)
 
-pub solid_append : (l m : List Tree) → solid (l ++ m) ≡ solid l ++ solid m
-solid_append [] m = refl
-solid_append (t ∷ l) m = by_test (is_empty t) (solid_append l m)
-  where
-    by_test : (b : Bool) → solid (l ++ m) ≡ solid l ++ solid m →
-        (if b then solid (l ++ m) else t ∷ solid (l ++ m)) ≡ (if b then solid l else t ∷ solid l) ++ solid m
-    by_test true h = h
-    by_test false h = ap (λ x. t ∷ x) h
-
 pub join_one : (x : Tree) → join (solid (x ∷ [])) ≡ x
 join_one empty = refl
 join_one _ = refl
@@ -195,12 +187,8 @@ pub record Run (n d : ℕ) (f : Flags) (s v : Text) (ys : List Tree) : Type 0 wh
   pub are : (g : List Opening) → solid (map (resolved_in false g) trees) ≡ ys
   pub groups : EachHasGroups trees
 
-before_nothing : {n d : ℕ} {s : State} (q : Outcome (List Tree)) → Pieces n d s q → Pieces n d s (before [] q)
-before_nothing (done l s) p = p
-before_nothing (fault k e) p = p
-
 pub no_run : (n d : ℕ) (f : Flags) (v : Text) → Run n d f v v []
-no_run n d f v = record { trees = []; pieces = λ q p. before_nothing q p; are = λ g. refl; groups = tt }
+no_run n d f v = record { trees = []; pieces = λ q p. subst (Pieces n d (st f v)) (sym (before-nil q)) p; are = λ g. refl; groups = tt }
 
 before_append : (l m : List Tree) (q : Outcome (List Tree)) → before l (before m q) ≡ before (l ++ m) q
 before_append l m (done k s) = ap (λ n. done n s) (sym (append_assoc l m k))
@@ -214,7 +202,7 @@ run_chain {n} {d} {f} {s} p q = record {
       λ o r. subst (Pieces n d (st f s)) (before_append p.trees q.trees o) (p.pieces (before q.trees o) (q.pieces o r));
   are =
       λ g. ap solid (map-append (resolved_in false g) p.trees q.trees)
-      ∙ solid_append (map (resolved_in false g) p.trees) (map (resolved_in false g) q.trees)
+      ∙ solid-append (map (resolved_in false g) p.trees) (map (resolved_in false g) q.trees)
       ∙ ap₂ (λ a b. a ++ b) (p.are g) (q.are g);
   groups = each_append p.trees q.trees p.groups q.groups;
 }
