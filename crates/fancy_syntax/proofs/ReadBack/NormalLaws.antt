@@ -1,5 +1,6 @@
 -- Normal forms are printable, and where they hold no Delegate normal.
-use Rattle.std.proofs.Common.{◌≡◌, ℕ, Bool, true, false, true≢false, not, ◌&&◌, if◌then◌else◌, List, [], ◌∷◌, ◌++◌, map, is_none, refl, sym, ap, ap₂, ◌∙◌}
+use Rattle.std.proofs.Common.{◌≡◌, ℕ, Bool, true, false, true≢false, not, ◌&&◌, if◌then◌else◌, List, [], ◌∷◌, ◌++◌, map, is_none, Result, Ok, Err, IfOk, refl, sym, ap, ap₂, ◌∙◌}
+use Rattle.std.specs.declared.alloc.AllocError.{AllocError}
 use Rattle.std.specs.Cmp.{first_so, second_so}
 use Rattle.std.proofs.lemmas.Bool.{not_from_false, and_from, or_parts}
 use Rattle.std.specs.Str.{all_scalars}
@@ -263,3 +264,15 @@ mutual
 
 pub normal_printable : (t : Tree) (u : Bool) → printable t ≡ true → printable (normal u t) ≡ true
 normal_printable t u h = (kept u t h).is
+
+-- ---- what is told of a tree
+
+pub normal_if : (r : Result Bool AllocError) (t : Tree) → IfOk r (λ b. b ≡ printable t) →
+    IfOk r (λ b. b ≡ true → (u : Bool) → printable (normal u t) ≡ true)
+normal_if (Ok b) t is = λ h u. normal_printable t u (sym is ∙ h)
+normal_if (Err e) t is = tt
+
+pub fixed_if : (r : Result Bool AllocError) (t : Tree) →
+    IfOk r (λ b. b ≡ true → has_delegate t ≡ false → (u : Bool) → normal u (normal u t) ≡ normal u t)
+fixed_if (Ok b) t = λ _ none u. normal_normal t u none
+fixed_if (Err e) t = tt
