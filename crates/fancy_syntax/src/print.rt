@@ -1,5 +1,6 @@
 //! The text of a tree.
-ghost use Rattle.std.specs.Prelude.{◌≡◌, ℕ, ◌<◌, Bool, List, [], ◌++◌, true, false, IfOk, IsOk, OnOk, OnErr, string_bytes, chars, encode_utf8_all};
+ghost use Rattle.std.specs.Prelude.{◌≡◌, ℕ, ◌<◌, Bool, List, [], ◌++◌, true, false, IfOk, IsOk, OnOk, OnErr};
+ghost use Rattle.std.specs.Prelude.{string_bytes, chars, encode_utf8_all};
 ghost use Rattle.fancy_syntax.specs.Ahead.{max_depth};
 ghost use Rattle.fancy_syntax.specs.HasDelegate.{has_delegate};
 ghost use Rattle.fancy_syntax.specs.Nest.{nest};

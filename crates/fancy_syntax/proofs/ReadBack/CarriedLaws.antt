@@ -1,4 +1,4 @@
--- A class, and an escape that stands for one, reads the same whatever follows it; and under other flags it reads to the same end.
+-- A class, and an escape that stands for one, reads the same whatever follows it, and under other flags to the same end.
 use Rattle.std.proofs.Common.{◌≡◌, ℕ, zero, suc, ◌+◌, ◌-◌, ◌≤◌, Bool, true, false, not, ◌&&◌, ◌||◌, ◌==◌, nat_le, if◌then◌else◌, [], ◌∷◌, ◌++◌, codes, Option, Some, None, refl, sym, ap, ◌∙◌, subst, arith}
 use Rattle.std.proofs.lemmas.Bool.Decides.{nat_tests}
 use Rattle.fancy_lex.specs.Boundary.{boundary, named_boundary, name, boundary_of_name, at_count}
@@ -121,7 +121,7 @@ escape_too u i n p (c ∷ t) =
 
 -- ---- a class
 
--- where the reading gives something, the others, with k steps or more, give one thing, with what follows behind what is left
+-- where the reading gives something, the others, with k steps or more, give one thing, with what follows it left too
 abbrev Carries : ℕ → Reading Text → (ℕ → ℕ → Text → Reading Text) → Type 0
 Carries k (gives w v) there = (x : Text) × ((j m : ℕ) (s : Text) → k ≤ j → there j m s ≡ gives x (v ++ s))
 Carries k (fails e) there = Unit {0}

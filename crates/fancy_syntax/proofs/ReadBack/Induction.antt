@@ -58,7 +58,7 @@ wrap_atom u k m x w n d v l _ =
 pub wrap_starts : (k : Text → Text) → Starts (wrapped k)
 wrap_starts k v = begins_head 58 (k (41 ∷ v)) refl
 
--- The statement of the induction: what the texts k3, k2, k1 and k0 of the four precedences, with m3 to m0 groups nested, read as:
+-- What the texts k3, k2, k1 and k0 of the four precedences read as, with m3 to m0 groups nested:
 -- the tree x as an atom where IsOne, pieces with the trees ys, a branch with the tree x, and a whole alternation.
 pub record ReadsBy (u : Bool) (k3 k2 k1 k0 : Text → Text) (m3 m2 m1 m0 : ℕ) (IsOne : Type 0) (x : Tree)
     (ys : List Tree) : Type 0 where

@@ -1,4 +1,3 @@
-use Rattle.std.proofs.Common.{Ok, Err, sym, ◌∙◌}
 use Rattle.fancy_syntax.specs.View.{view}
 use Rattle.fancy_syntax.proofs.PrintableLemmas.{has_text_if}
 use Rattle.fancy_syntax.proofs.ReadBack.NormalLaws.{normal_if, fixed_if}
