@@ -7,6 +7,7 @@ pub mod Descents
 mod FaultLemmas
 pub mod FoundLaws
 pub mod ItemLemmas
+mod LevelLaws
 pub mod LoanLemmas
 mod MachineLemmas
 pub mod NoteLaws
