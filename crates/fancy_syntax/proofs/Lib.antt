@@ -2,6 +2,7 @@ mod AheadLemmas
 pub mod AnswerLaws
 pub mod AnsweredLaws
 pub mod BackslashLemmas
+mod BoundLaws
 pub mod ChildrenLemmas
 pub mod Descents
 mod FaultLemmas

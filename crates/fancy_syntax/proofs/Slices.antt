@@ -65,7 +65,7 @@ fits {u} a = omega (arith, ap bytes a.cut, bytes-append a.word u)
 one : (c : ℕ) (t : Text) → Slice (c ∷ t) t
 one c t = record { word = c ∷ []; cut = refl }
 
-one_bytes : (c : ℕ) (t : Text) → bytes t + 1 ≤ bytes (c ∷ t)
+pub one_bytes : (c : ℕ) (t : Text) → bytes t + 1 ≤ bytes (c ∷ t)
 unfolding bytes
 one_bytes c t = omega (arith, (len_utf8_bounds c).0)
 
@@ -592,7 +592,7 @@ node_slice n atomic s t r v a b = before a.0 b
 node_slice n define s t r v a b = before a.0 b
 node_slice n repeater s t r v a b = before a.0 b
 
-trees_back : (ts : Trees) → trees_of (list_of ts) ≡ ts
+pub trees_back : (ts : Trees) → trees_of (list_of ts) ≡ ts
 trees_back no_trees = refl
 trees_back (more_trees t ts) = ap (more_trees t) (trees_back ts)
 
