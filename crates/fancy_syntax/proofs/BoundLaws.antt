@@ -1,5 +1,5 @@
--- A tree is small beside its text. Each part of the grammar keeps two bounds, by induction on its derivation: its nodes by the
--- bytes that it takes, and its levels by the groups that may still open.
+-- A tree is small beside its text. Each part of the grammar keeps two bounds, by induction on its derivation: its nodes
+-- by the bytes that it takes, and its levels by the groups that may still open.
 use Rattle.std.proofs.Common.{◌≡◌, ℕ, zero, suc, ◌+◌, ◌*◌, ◌≤◌, ◌<◌, max, Bool, true, false, not, ◌&&◌, ◌==◌, nat_lt, nat_le, if◌then◌else◌, List, [], ◌∷◌, ◌++◌, length, length-append, Option, Some, None, IfSome, refl, ap, subst, arith, chars}
 use Rattle.std.proofs.lemmas.Bool.{cond_both}
 use Rattle.std.proofs.lemmas.Bool.Decides.{nat_tests}
@@ -12,9 +12,9 @@ use Rattle.fancy_lex.specs.Text.{Text, bytes, place_of, strip}
 use Rattle.fancy_lex.specs.declared.flags.Flags.{Flags}
 use Rattle.fancy_parts.specs.Quantifier.{counts}
 use Rattle.fancy_parts.specs.declared.counts.Counts.{Counts}
-use Rattle.fancy_syntax.specs.Ahead.{Ahead, nothing, leaf, opens, condition, body, absent_branch, ahead, ahead_of, behind_layout, is_before_nothing, leaf_of, max_depth, skipped}
+use Rattle.fancy_syntax.specs.Ahead.{Ahead, nothing, leaf, ahead, ahead_of, behind_layout, is_before_nothing, max_depth, skipped}
 use Rattle.fancy_syntax.specs.Answer.{IsTreeOf}
-use Rattle.fancy_syntax.specs.Grammar.{Alternation, alternation, Branches, last, more, branch_fault, Branch, branch, Pieces, stop, next, piece_fault, Piece, piece, layout_fault, Atom, atom, AtomOf, a_nothing, a_leaf, a_group, a_condition, condition_fault, a_body, two_branches, one_branch, absent_fault, Inside, inside, Body, the_body, Whole, whole, start, closed, closed_at, ended, ended_at, branches_of, conditional_of, conditional_behind, is_condition, alone}
+use Rattle.fancy_syntax.specs.Grammar.{Alternation, alternation, Branches, last, more, branch_fault, Branch, branch, Pieces, stop, next, piece_fault, Piece, piece, layout_fault, Atom, atom, AtomOf, a_nothing, a_leaf, a_group, a_condition, condition_fault, a_body, two_branches, one_branch, absent_fault, Inside, inside, Body, the_body, Whole, whole, start, closed, closed_at, ended, ended_at, branches_of, conditional_of, is_condition, alone}
 use Rattle.fancy_syntax.specs.Head.{Head, capture, scope, look, atomic, define, repeater, node_of}
 use Rattle.fancy_syntax.specs.Items.{openings}
 use Rattle.fancy_syntax.specs.Join.{join, choice, solid, is_empty, one_or}
@@ -24,7 +24,7 @@ use Rattle.fancy_syntax.specs.Preorder.{preorder, preorder_all}
 use Rattle.fancy_syntax.specs.Quantified.{quants, adjacent, max_adjacent, is_unmoved, quant, quant_at, counted as counted_at, suffix, is_swapped, quantified, is_repeatable, is_dropped}
 use Rattle.fancy_syntax.specs.Slices.{Within}
 use Rattle.fancy_syntax.specs.State.{State, at, Outcome, done, fault, and_then}
-use Rattle.fancy_syntax.specs.Tree.{Tree, Trees, no_trees, more_trees, empty, concat, alt, absent, expression, trees_of, list_of, nodes, depth}
+use Rattle.fancy_syntax.specs.Tree.{Tree, more_trees, empty, concat, alt, absent, expression, trees_of, list_of, nodes, depth}
 use Rattle.fancy_syntax.specs.declared.grammar.quantified.Suffix.{Suffix}
 use Rattle.fancy_syntax.proofs.LevelLaws.{size, resolved_size, levels, levels_all, resolved_levels}
 use Rattle.fancy_syntax.proofs.ReadLaws.{Makes, IsReadLeaf, ReadAhead, ahead_read}
@@ -146,7 +146,8 @@ node_over define p t = (omega arith, omega arith)
 node_over repeater p t = (omega arith, omega arith)
 
 alone_over : (a : Tree) → IsNodeOver a (alone a)
-alone_over a = cond_both (is_empty a) _ _ (IsNodeOver a) (λ _. (omega arith, omega arith)) (λ _. (omega arith, omega arith))
+alone_over a =
+    cond_both (is_empty a) _ _ (IsNodeOver a) (λ _. (omega arith, omega arith)) (λ _. (omega arith, omega arith))
 
 -- ---- outcomes
 
@@ -155,12 +156,14 @@ abbrev Holds : {A : Type 0} → (A → State → Type 0) → Outcome A → Type 
 Holds P (done a s) = P a s
 Holds P (fault k p) = Unit {0}
 
-then_holds : {A B : Type 0} (P : A → State → Type 0) (Q : B → State → Type 0) (q : Outcome A) {o : Outcome B} (f : A → State → Outcome B) →
-    Holds P q → and_then q f ≡ o → ((a : A) (s : State) → P a s → Holds Q (f a s)) → Holds Q o
+then_holds : {A B : Type 0} (P : A → State → Type 0) (Q : B → State → Type 0) (q : Outcome A) {o : Outcome B}
+    (f : A → State → Outcome B) → Holds P q → and_then q f ≡ o →
+    ((a : A) (s : State) → P a s → Holds Q (f a s)) → Holds Q o
 then_holds P Q (done a s) f h e g = subst (Holds Q) e (g a s h)
 then_holds P Q (fault k p) f h e g = subst (Holds Q) e tt
 
-holds_too : {A : Type 0} (P Q : A → State → Type 0) (o : Outcome A) → ((a : A) (s : State) → P a s → Q a s) → Holds P o → Holds Q o
+holds_too : {A : Type 0} (P Q : A → State → Type 0) (o : Outcome A) → ((a : A) (s : State) → P a s → Q a s) →
+    Holds P o → Holds Q o
 holds_too P Q (done a s) f h = f a s h
 holds_too P Q (fault k p) f h = tt
 
@@ -217,8 +220,8 @@ quant_grows : (n left : ℕ) (a : Tree) (t : State) → Holds (Grows a t) (quant
 unfolding quant
 quant_grows n left a t = by_layout (skipped n t) (layout_slice n t.flags.ignore_space t.rest)
   where
-    by_counts : (v : Text) → bytes v ≤ bytes t.rest → (o : Option (Counts × Text)) → IfSome o (λ p. bytes p.1 + 1 ≤ bytes v) →
-        Holds (Grows a t) (counted_at n left a (at t v) o)
+    by_counts : (v : Text) → bytes v ≤ bytes t.rest → (o : Option (Counts × Text)) →
+        IfSome o (λ p. bytes p.1 + 1 ≤ bytes v) → Holds (Grows a t) (counted_at n left a (at t v) o)
     by_counts v l None h = (omega (arith, l), omega (arith, l), omega arith)
     by_counts v l (Some (c, u)) h =
         let marks = suffix_ends n (at t u) c in
@@ -241,23 +244,27 @@ unmoved_bytes s t e = grind (arith, nat_tests)
 adjacent_grows : (k n d : ℕ) (a : Tree) (t : State) → Holds (GrowsBy k a t) (adjacent k n d a t)
 unfolding adjacent
 adjacent_grows zero n d a t =
-    then_holds (Grows a t) (GrowsBy zero a t) (quant n (bytes t.rest) a t) _ (quant_grows n (bytes t.rest) a t) refl (λ b v h.
-    cond_both (is_unmoved t v) _ _ (Holds (GrowsBy zero a t)) (λ e. (h.0, omega (arith, h.1, unmoved_bytes t v e))) (λ _. tt))
+    let Q = GrowsBy zero a t in let once = quant_grows n (bytes t.rest) a t in
+    then_holds (Grows a t) Q (quant n (bytes t.rest) a t) _ once refl (λ b v h.
+    cond_both (is_unmoved t v) _ _ (Holds Q) (λ e. (h.0, omega (arith, h.1, unmoved_bytes t v e))) (λ _. tt))
 adjacent_grows (suc k) n d a t =
+    let Q = GrowsBy (suc k) a t in let once = quant_grows n (bytes t.rest) a t in
     let more = adjacent_grows k n (d + 1) in
-    then_holds (Grows a t) (GrowsBy (suc k) a t) (quant n (bytes t.rest) a t) _ (quant_grows n (bytes t.rest) a t) refl (λ b v h.
-    cond_both (is_unmoved t v) _ _ (Holds (GrowsBy (suc k) a t)) (λ e. (h.0, omega (arith, h.1, unmoved_bytes t v e))) (λ _.
-    cond_both (nat_lt (d + 1) max_depth) _ _ (Holds (GrowsBy (suc k) a t))
-    (λ _. holds_too (GrowsBy k b v) (GrowsBy (suc k) a t) (adjacent k n (d + 1) b v) (λ x w i.
+    then_holds (Grows a t) Q (quant n (bytes t.rest) a t) _ once refl (λ b v h.
+    cond_both (is_unmoved t v) _ _ (Holds Q) (λ e. (h.0, omega (arith, h.1, unmoved_bytes t v e))) (λ _.
+    cond_both (nat_lt (d + 1) max_depth) _ _ (Holds Q)
+    (λ _. holds_too (GrowsBy k b v) Q (adjacent k n (d + 1) b v) (λ x w i.
     (omega (arith, h.0, i.0), omega (arith, h.2, i.1))) (more b v)) (λ _. tt)))
 
 -- one, and four adjacent to it
 quants_grow : (n d left : ℕ) (a : Tree) (t : State) → Holds (GrowsBy 5 a t) (quants n d left a t)
 quants_grow n d left a t =
-    then_holds (Grows a t) (GrowsBy 5 a t) (quant n left a t) _ (quant_grows n left a t) refl (λ b v h.
-    cond_both v.flags.oniguruma_mode _ _ (Holds (GrowsBy 5 a t))
-    (λ _. holds_too (GrowsBy max_adjacent b v) (GrowsBy 5 a t) (adjacent max_adjacent n d b v) (λ x w i.
-    (omega (arith, h.0, i.0), omega (arith, h.2, i.1))) (adjacent_grows max_adjacent n d b v)) (λ _. (h.0, omega (arith, h.2))))
+    let Q = GrowsBy 5 a t in
+    then_holds (Grows a t) Q (quant n left a t) _ (quant_grows n left a t) refl (λ b v h.
+    cond_both v.flags.oniguruma_mode _ _ (Holds Q)
+    (λ _. holds_too (GrowsBy max_adjacent b v) Q (adjacent max_adjacent n d b v) (λ x w i.
+    (omega (arith, h.0, i.0), omega (arith, h.2, i.1))) (adjacent_grows max_adjacent n d b v))
+    (λ _. (h.0, omega (arith, h.2))))
 
 -- ---- what stands ahead
 
@@ -310,7 +317,8 @@ BranchesFit d s l t =
 abbrev InsideFits : ℕ → State → Tree → State → Type 0
 InsideFits d s r t = (size r + 1 + 2 * bytes t.rest ≤ 2 * bytes s.rest) × (levels r + 13 * d ≤ 819)
 
-leaf_fits : (n d : ℕ) (s : State) (o : Outcome Tree) → d < 64 → LeafSlice n s o → Makes IsReadLeaf o → Holds (Fits 820 d s) o
+leaf_fits : (n d : ℕ) (s : State) (o : Outcome Tree) → d < 64 → LeafSlice n s o → Makes IsReadLeaf o →
+    Holds (Fits 820 d s) o
 leaf_fits n d s (done a t) l h i = (omega (arith, h.1, weight_most a, ap length i.1), omega (arith, l, i.2))
 leaf_fits n d s (fault k p) l h i = tt
 
@@ -354,14 +362,15 @@ mutual
       of_fits a l (subst (AheadSlice n s) e (ahead_slice n d s)) (subst ReadAhead e (ahead_read n d s))
       (subst (OpensBelow d) e (ahead_below n d s))
 
-  of_fits : {k : Ahead} {n d : ℕ} {s : State} {o : Outcome Tree} → AtomOf k n d s o → d < 64 → AheadSlice n s k → ReadAhead k →
-      OpensBelow d k → Holds (Fits 820 d s) o
+  of_fits : {k : Ahead} {n d : ℕ} {s : State} {o : Outcome Tree} → AtomOf k n d s o → d < 64 →
+      AheadSlice n s k → ReadAhead k → OpensBelow d k → Holds (Fits 820 d s) o
   of_fits a_nothing l h r b = (omega arith, omega (arith, l))
   of_fits (a_leaf {n} {d} {s} {o}) l h r b = leaf_fits n d s o l h r
   of_fits (a_group {n} {d} {h = head} {s} {t} {q} i e) l h r b =
+      let p = place_of n s.rest in
       then_holds (InsideFits d t) (Fits 820 d s) q _ (inside_fits i b) e (λ x v k.
-      let over = node_over head (place_of n s.rest) x in
-      (omega (arith, weight_most (node_of head (place_of n s.rest) x), over.0, k.0, h.1), omega (arith, over.1, k.1)))
+      let over = node_over head p x in
+      (omega (arith, weight_most (node_of head p x), over.0, k.0, h.1), omega (arith, over.1, k.1)))
   of_fits (a_condition {d} {s} i m) l h r b =
       let c = inside_fits i b in body_fits m s (omega (arith, c.0, h.1)) c.1 b
   of_fits (condition_fault i) l h r b = tt
@@ -370,7 +379,8 @@ mutual
       let first = branch_fits x b in let past = strip_bytes bar v.rest u e in
       then_holds (Fills 831 (d + 1) (at v u)) (Fits 820 d s) q _ (branch_fits m b) f (λ y w i.
       closed_holds (Fits 820 d s) n (absent (expression a y)) w (λ z k.
-      (omega (arith, h.1, first.0, past, i.0, k, length-append (preorder a) (preorder y)), omega (arith, first.1, i.1))))
+      let both = length-append (preorder a) (preorder y) in
+      (omega (arith, h.1, first.0, past, i.0, k, both), omega (arith, first.1, i.1))))
   of_fits (one_branch {n} {d} {s} {v} {a} x e f) l h r b =
       let first = branch_fits x b in let over = alone_over a in
       subst (Holds (Fits 820 d s)) f (closed_holds (Fits 820 d s) n (alone a) v (λ z k.
@@ -388,9 +398,10 @@ mutual
       then_holds (Fills 832 (d + 1) t) (Fits 820 d s) q _ (alternation_fits a l) e (λ x v i.
       cond_both (bytes v.rest == bytes t.rest && not (is_condition c)) _ _ (Holds (Fits 820 d s)) (λ _. tt) (λ _.
       let parts = branches_of x in let whole = conditional_of c parts.0 parts.1 in let deep = branches_levels x in
-      closed_holds (Fits 820 d s) n whole v (λ z k.
-      (omega (arith, weight_most whole, conditional_size c parts.0 parts.1, branches_size x, g, i.0, k),
-      omega (arith, conditional_levels c parts.0 parts.1, deep.0, deep.1, h, i.1, l)))))
+      closed_holds (Fits 820 d s) n whole v (λ z k. (
+        omega (arith, weight_most whole, conditional_size c parts.0 parts.1, branches_size x, g, i.0, k),
+        omega (arith, conditional_levels c parts.0 parts.1, deep.0, deep.1, h, i.1, l),
+      ))))
 
 -- ---- a whole text
 
@@ -410,8 +421,7 @@ whole_fits (whole {f} {text} {q} a e) =
 pub bounded : {f : Flags} {re : List ℕ} {t : Tree} {m : Marks} → IsUtf8 re → IsTreeOf f (chars re) t m →
     (nodes t ≤ 2 * length re + 1) × (depth t ≤ 832)
 bounded {f} {re} {t} u (r, a, none, e, d) =
-    let small = whole_fits a.1 in let named = only_named f (openings r) in let numbered = counted f (openings r) in
-    (
+    let small = whole_fits a.1 in let named = only_named f (openings r) in let numbered = counted f (openings r) in (
       omega (arith, ap nodes e, resolved_size named numbered r, small.0, bytes_chars re u),
       omega (arith, ap depth e, resolved_levels named numbered r, small.1),
     )

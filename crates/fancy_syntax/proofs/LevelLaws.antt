@@ -1,14 +1,14 @@
 -- Resolving takes nodes away, and adds neither a node nor a level.
-use Rattle.std.proofs.Common.{◌≡◌, ℕ, ℤ, suc, ◌+◌, ◌≤◌, max, Bool, true, false, if◌then◌else◌, List, [], ◌∷◌, ◌++◌, length, length-append, Option, Some, None, filter, map, refl, ap, arith}
+use Rattle.std.proofs.Common.{◌≡◌, ℕ, ℤ, suc, ◌+◌, ◌≤◌, max, Bool, List, [], ◌∷◌, ◌++◌, length, length-append, Option, Some, None, filter, refl, ap, arith}
 use Rattle.std.proofs.lemmas.Bool.{cond_both}
 use Rattle.std.proofs.lemmas.List.{length-map}
 use Rattle.fancy_lex.specs.Target.{Target}
 use Rattle.fancy_parts.specs.Meaning.{Meaning, number, unresolved, faulty, means, back_reference, call, condition}
 use Rattle.fancy_parts.specs.Ranks.{Opening, is_counted, numbers, opened_before}
 use Rattle.fancy_syntax.specs.Preorder.{preorder, preorder_all, preorder_absent}
-use Rattle.fancy_syntax.specs.Resolved.{resolved_in, resolved_all, resolved_absent, group_or_inside, node_of}
+use Rattle.fancy_syntax.specs.Resolved.{resolved_in, resolved_all, resolved_absent, node_of}
 use Rattle.fancy_syntax.specs.Tree.{Tree, Trees, no_trees, more_trees, concat, alt, group, look_around, repeat, atomic_group, conditional, absent, define_group, ast_node, AbsentTree, repeater, expression, stopper, clear, ast_group, ast_backref, ast_call, ast_condition, nodes, nodes_all, nodes_absent, depth, depth_all, depth_absent}
-use Rattle.fancy_syntax.proofs.PreorderLaws.{is_kept, kept, resolved_nodes}
+use Rattle.fancy_syntax.proofs.PreorderLaws.{is_kept, resolved_nodes}
 
 -- ---- nodes
 
@@ -28,8 +28,9 @@ mutual
   nodes_preorder (repeat t lo hi greedy) = omega (arith, nodes_preorder t)
   nodes_preorder (atomic_group t) = omega (arith, nodes_preorder t)
   nodes_preorder (conditional c t f) =
-      let inner = two_lists (preorder t) (preorder f) (nodes t) (nodes f) (nodes_preorder t) (nodes_preorder f) in
-      omega (arith, two_lists (preorder c) (preorder t ++ preorder f) (nodes c) (nodes t + nodes f) (nodes_preorder c) inner)
+      let both = two_lists (preorder t) (preorder f) (nodes t) (nodes f) (nodes_preorder t) (nodes_preorder f) in
+      let l = preorder t ++ preorder f in
+      omega (arith, two_lists (preorder c) l (nodes c) (nodes t + nodes f) (nodes_preorder c) both)
   nodes_preorder (absent a) = omega (arith, nodes_preorder_absent a)
   nodes_preorder (define_group t) = omega (arith, nodes_preorder t)
   nodes_preorder (ast_node (ast_group name t) place) = omega arith
@@ -45,7 +46,8 @@ mutual
 
   nodes_preorder_absent : (a : AbsentTree) → nodes_absent a ≤ length (preorder_absent a)
   nodes_preorder_absent (repeater t) = nodes_preorder t
-  nodes_preorder_absent (expression a e) = two_lists (preorder a) (preorder e) (nodes a) (nodes e) (nodes_preorder a) (nodes_preorder e)
+  nodes_preorder_absent (expression a e) =
+      two_lists (preorder a) (preorder e) (nodes a) (nodes e) (nodes_preorder a) (nodes_preorder e)
   nodes_preorder_absent (stopper t) = nodes_preorder t
   nodes_preorder_absent clear = omega arith
 
@@ -126,9 +128,11 @@ module _ (named : Bool) (g : List Opening) where
     resolved_levels (define_group t) = omega (arith, resolved_levels t)
     resolved_levels (ast_node (ast_group name t) place) =
         let inside = resolved_levels t in
-        cond_both (is_counted named name) _ _ (λ u. depth u ≤ suc (levels t)) (λ _. omega (arith, inside)) (λ _. omega (arith, inside))
+        cond_both (is_counted named name) _ _ (λ u. depth u ≤ suc (levels t)) (λ _. omega (arith, inside))
+        (λ _. omega (arith, inside))
     resolved_levels (ast_node (ast_backref t casei level) place) =
-        omega (arith, backref_level (means (λ u. numbers u g) (opened_before g place) back_reference t) t casei level place)
+        let m = means (λ u. numbers u g) (opened_before g place) back_reference t in
+        omega (arith, backref_level m t casei level place)
     resolved_levels (ast_node (ast_call t) place) =
         omega (arith, call_level (means (λ u. numbers u g) (opened_before g place) call t) t place)
     resolved_levels (ast_node (ast_condition t level) place) =

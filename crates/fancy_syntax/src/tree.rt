@@ -94,7 +94,8 @@ impl Expr {
         ensures only { IfOk result (λ t. (e : _) (m : _) → IsTreeOf (flags_of flags) (chars re.now) e m → (e ≡
             view t.expr) × (m ≡ marks_of t)) }
         ensures exact { IfOk result (λ t. (k : _) (p : _) → IsFaultOf (flags_of flags) (chars re.now) k p → ⊥) }
-        ensures bounds { IfOk result (λ t. (nodes (view t.expr) ≤ 2 * length re.now + 1) × (depth (view t.expr) ≤ 832)) }
+        ensures bounds { IfOk result (λ t. (nodes (view t.expr) ≤ 2 * length re.now + 1) ×
+            (depth (view t.expr) ≤ 832)) }
         ensures nodes { IfOk result (λ t. IsAnswered (view t.expr)) }
         ensures groups { IfOk result (λ t. length (groups (view t.expr)) ≡ t.total_groups) }
         ensures calls { IfOk result (λ t. has_call (view t.expr) ≡ t.contains_subroutines) }
@@ -117,7 +118,8 @@ impl Expr {
         ensures only { IfOk result (λ t. (e : _) (m : _) → IsTreeOf (flags_of FLAG_UNICODE) (chars re.now) e m →
             (e ≡ view t.expr) × (m ≡ marks_of t)) }
         ensures exact { IfOk result (λ t. (k : _) (p : _) → IsFaultOf (flags_of FLAG_UNICODE) (chars re.now) k p → ⊥) }
-        ensures bounds { IfOk result (λ t. (nodes (view t.expr) ≤ 2 * length re.now + 1) × (depth (view t.expr) ≤ 832)) }
+        ensures bounds { IfOk result (λ t. (nodes (view t.expr) ≤ 2 * length re.now + 1) ×
+            (depth (view t.expr) ≤ 832)) }
         ensures nodes { IfOk result (λ t. IsAnswered (view t.expr)) }
         ensures groups { IfOk result (λ t. length (groups (view t.expr)) ≡ t.total_groups) }
         ensures calls { IfOk result (λ t. has_call (view t.expr) ≡ t.contains_subroutines) }
