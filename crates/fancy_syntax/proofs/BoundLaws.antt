@@ -14,6 +14,7 @@ use Rattle.fancy_parts.specs.Quantifier.{counts}
 use Rattle.fancy_parts.specs.declared.counts.Counts.{Counts}
 use Rattle.fancy_syntax.specs.Ahead.{Ahead, nothing, leaf, ahead, ahead_of, behind_layout, is_before_nothing, max_depth, skipped}
 use Rattle.fancy_syntax.specs.Answer.{IsTreeOf}
+use Rattle.fancy_syntax.specs.Answered.{IsSmall}
 use Rattle.fancy_syntax.specs.Grammar.{Alternation, alternation, Branches, last, more, branch_fault, Branch, branch, Pieces, stop, next, piece_fault, Piece, piece, layout_fault, Atom, atom, AtomOf, a_nothing, a_leaf, a_group, a_condition, condition_fault, a_body, two_branches, one_branch, absent_fault, Inside, inside, Body, the_body, Whole, whole, start, closed, closed_at, ended, ended_at, branches_of, conditional_of, is_condition, alone}
 use Rattle.fancy_syntax.specs.Head.{Head, capture, scope, look, atomic, define, repeater, node_of}
 use Rattle.fancy_syntax.specs.Items.{openings}
@@ -417,9 +418,9 @@ whole_fits (whole {f} {text} {q} a e) =
     let P = Fills 832 0 (start f text) in
     then_holds P P q _ (alternation_fits a (omega arith)) e (λ r t h. ended_holds P (bytes text) r t h)
 
--- the tree of a text of n bytes has at most 2 n + 1 nodes and 832 levels
+-- an answered tree is small beside its text
 pub bounded : {f : Flags} {re : List ℕ} {t : Tree} {m : Marks} → IsUtf8 re → IsTreeOf f (chars re) t m →
-    (nodes t ≤ 2 * length re + 1) × (depth t ≤ 832)
+    IsSmall t (length re)
 bounded {f} {re} {t} u (r, a, none, e, d) =
     let small = whole_fits a.1 in let named = only_named f (openings r) in let numbered = counted f (openings r) in (
       omega (arith, ap nodes e, resolved_size named numbered r, small.0, bytes_chars re u),
