@@ -23,6 +23,8 @@ fn main(rt: HostRuntime) -> ExitCode {
 #[cfg(test)]
 mod answers;
 #[cfg(test)]
+mod bounds;
+#[cfg(test)]
 mod faults;
 #[cfg(test)]
 mod groups;
