@@ -2,12 +2,14 @@ mod AheadLemmas
 pub mod AnswerLaws
 pub mod AnsweredLaws
 pub mod BackslashLemmas
+mod BoundLaws
 pub mod ChildrenLemmas
 mod DelegateLemmas
 pub mod Descents
 mod FaultLemmas
 pub mod FoundLaws
 pub mod ItemLemmas
+mod LevelLaws
 pub mod LoanLemmas
 mod MachineLemmas
 pub mod NoteLaws

@@ -1,5 +1,5 @@
 -- What is true of the nodes of every raw tree.
-use Rattle.std.proofs.Common.{◌≡◌, ℕ, zero, suc, ◌+◌, ◌≤◌, Bool, false, ◌==◌, ◌&&◌, not, List, [], ◌∷◌, ◌++◌, length, Option, Some, None, refl, subst, nat_lt, nat_le, codes, arith}
+use Rattle.std.proofs.Common.{◌≡◌, ℕ, zero, suc, ◌+◌, ◌≤◌, Bool, false, ◌==◌, ◌&&◌, not, List, [], ◌∷◌, ◌++◌, length, Option, Some, None, refl, subst, nat_lt, nat_le, sym, codes, arith}
 use Rattle.std.proofs.lemmas.Bool.{cond_both}
 use Rattle.std.specs.List.{AllByRecursion}
 use Prim.Native.Char.{code}
@@ -29,6 +29,7 @@ use Rattle.fancy_syntax.specs.State.{State, at, Outcome, done, fault, and_then}
 use Rattle.fancy_syntax.specs.Tree.{Tree, Trees, no_trees, more_trees, literal, literal_bytes, concat, alt, group, backref, backref_at_level, backref_exists, subroutine_call, delegate, absent, expression, trees_of, list_of}
 use Rattle.fancy_syntax.specs.Verb.{verb_at}
 use Rattle.fancy_syntax.specs.declared.grammar.quantified.Suffix.{Suffix}
+use Rattle.fancy_syntax.proofs.LevelLaws.{levels}
 
 -- what holds of a node of a raw tree: it is none that resolving makes, and what holds of an answered one
 abbrev pub IsReadNode : Tree → Type 0
@@ -90,7 +91,7 @@ choice_read (t ∷ u ∷ ts) h = (omega arith, all_read (t ∷ u ∷ ts) h)
 -- ---- outcomes
 
 -- what was read is so
-abbrev Makes : {A : Type 0} → (A → Type 0) → Outcome A → Type 0
+abbrev pub Makes : {A : Type 0} → (A → Type 0) → Outcome A → Type 0
 Makes P (done a s) = P a
 Makes P (fault k p) = Unit {0}
 
@@ -148,38 +149,45 @@ quants_read n d left a t h =
 
 -- ---- what stands ahead
 
-abbrev ReadAhead : Ahead → Type 0
-ReadAhead (leaf o) = Makes IsRead o
-ReadAhead (body c s) = IsRead c
+-- so is a node that stands alone
+abbrev pub IsReadLeaf : Tree → Type 0
+IsReadLeaf t = IsReadNode t × (preorder t ≡ t ∷ []) × (levels t ≡ 1)
+
+leaf_is_read : (t : Tree) → IsReadLeaf t → IsRead t
+leaf_is_read t h = subst (AllByRecursion IsReadNode) (sym h.1) (h.0, tt)
+
+abbrev pub ReadAhead : Ahead → Type 0
+ReadAhead (leaf o) = Makes IsReadLeaf o
+ReadAhead (body c s) = IsReadLeaf c
 ReadAhead _ = Unit {0}
 
-escape_read : (n : ℕ) (s : State) (t : Text) (o : Reading Escape) → Sound n t o → Makes IsRead (leaf_outcome leaf_node s o)
-escape_read n s t (gives (escaped.literal c casei) u) h = (refl, tt)
-escape_read n s t (gives (escaped.literal_bytes b) u) h = ((refl, (h, tt)), tt)
-escape_read n s t (gives (escaped.any newline crlf) u) h = (tt, tt)
-escape_read n s t (gives (escaped.assertion a) u) h = (tt, tt)
-escape_read n s t (gives (escaped.general_newline unicode) u) h = (tt, tt)
-escape_read n s t (gives escaped.keep_out u) h = (tt, tt)
-escape_read n s t (gives escaped.continue_from_previous_match_end u) h = (tt, tt)
-escape_read n s t (gives (escaped.delegate w casei) u) h = (tt, tt)
-escape_read n s t (gives (escaped.backref r casei) u) h = (tt, tt)
-escape_read n s t (gives (escaped.subroutine_call c) u) h = (tt, tt)
+escape_read : (n : ℕ) (s : State) (t : Text) (o : Reading Escape) → Sound n t o → Makes IsReadLeaf (leaf_outcome leaf_node s o)
+escape_read n s t (gives (escaped.literal c casei) u) h = (refl, refl, refl)
+escape_read n s t (gives (escaped.literal_bytes b) u) h = ((refl, (h, tt)), refl, refl)
+escape_read n s t (gives (escaped.any newline crlf) u) h = (tt, refl, refl)
+escape_read n s t (gives (escaped.assertion a) u) h = (tt, refl, refl)
+escape_read n s t (gives (escaped.general_newline unicode) u) h = (tt, refl, refl)
+escape_read n s t (gives escaped.keep_out u) h = (tt, refl, refl)
+escape_read n s t (gives escaped.continue_from_previous_match_end u) h = (tt, refl, refl)
+escape_read n s t (gives (escaped.delegate w casei) u) h = (tt, refl, refl)
+escape_read n s t (gives (escaped.backref r casei) u) h = (tt, refl, refl)
+escape_read n s t (gives (escaped.subroutine_call c) u) h = (tt, refl, refl)
 escape_read n s t (fails e) h = tt
 
-class_read : (s : State) (casei : Bool) (o : Reading Text) → Makes IsRead (leaf_outcome (λ w. delegate w casei) s o)
-class_read s casei (gives w u) = (tt, tt)
+class_read : (s : State) (casei : Bool) (o : Reading Text) → Makes IsReadLeaf (leaf_outcome (λ w. delegate w casei) s o)
+class_read s casei (gives w u) = (tt, refl, refl)
 class_read s casei (fails e) = tt
 
-backref_read : (s : State) (casei : Bool) (o : Reading Reference) → Makes IsRead (leaf_outcome (backref_node casei) s o)
-backref_read s casei (gives r u) = (tt, tt)
+backref_read : (s : State) (casei : Bool) (o : Reading Reference) → Makes IsReadLeaf (leaf_outcome (backref_node casei) s o)
+backref_read s casei (gives r u) = (tt, refl, refl)
 backref_read s casei (fails e) = tt
 
-call_read : (s : State) (o : Reading Call) → Makes IsRead (leaf_outcome call_node s o)
-call_read s (gives c u) = (tt, tt)
+call_read : (s : State) (o : Reading Call) → Makes IsReadLeaf (leaf_outcome call_node s o)
+call_read s (gives c u) = (tt, refl, refl)
 call_read s (fails e) = tt
 
 target_read : (s : State) (o : Reading Reference) → ReadAhead (target_ahead s o)
-target_read s (gives r u) = (tt, tt)
+target_read s (gives r u) = (tt, refl, refl)
 target_read s (fails e) = tt
 
 named_read : (s : State) (o : Reading Text) → ReadAhead (named_ahead s o)
@@ -187,14 +195,14 @@ named_read s (gives w u) = tt
 named_read s (fails e) = tt
 
 flags_read : (o : Reading Letters) → ReadAhead (flags_ahead o)
-flags_read (gives (setting f) u) = (tt, tt)
+flags_read (gives (setting f) u) = (tt, refl, refl)
 flags_read (gives (scoped f) u) = tt
 flags_read (fails e) = tt
 
 condition_read : (n : ℕ) (s : State) (c : ℕ) (t : Text) → ReadAhead (condition_ahead n s c t)
 condition_read n s c t =
     cond_both (begins_target (c ∷ t)) _ _ ReadAhead (λ _. target_read s (condition_target n (c ∷ t))) (λ _.
-    cond_both (c == code "*") _ _ ReadAhead (λ _. choose_makes ReadAhead (verb_at t) _ _ (λ p. (tt, tt)) tt) (λ _. tt))
+    cond_both (c == code "*") _ _ ReadAhead (λ _. choose_makes ReadAhead (verb_at t) _ _ (λ p. (tt, refl, refl)) tt) (λ _. tt))
 
 conditional_read : (n : ℕ) (s : State) (t : Text) → ReadAhead (conditional_ahead n s t)
 conditional_read n s [] = tt
@@ -234,23 +242,23 @@ head_read : (n : ℕ) (s : State) (t : Text) → ReadAhead (head_ahead n s t)
 head_read n s [] = tt
 head_read n s (c ∷ t) =
     cond_both (c == code "?") _ _ ReadAhead (λ _. question_read n s t) (λ _.
-    cond_both (c == code "*") _ _ ReadAhead (λ _. choose_makes ReadAhead (verb_at t) _ _ (λ p. (tt, tt)) tt) (λ _. tt))
+    cond_both (c == code "*") _ _ ReadAhead (λ _. choose_makes ReadAhead (verb_at t) _ _ (λ p. (tt, refl, refl)) tt) (λ _. tt))
 
 behind_read : (n : ℕ) (s : State) (k : Skipped) → ReadAhead (behind_layout n s k)
 behind_read n s (rest u) = head_read n s u
 behind_read n s (open_comment p) = tt
 
-leaf_read : (n : ℕ) (s : State) (c : ℕ) (t : Text) → Makes IsRead (leaf_of n s c t)
+leaf_read : (n : ℕ) (s : State) (c : ℕ) (t : Text) → Makes IsReadLeaf (leaf_of n s c t)
 leaf_read n s c t =
-    let P = Makes IsRead in
-    cond_both (c == code ".") _ _ P (λ _. (tt, tt)) (λ _.
-    cond_both (c == code "^") _ _ P (λ _. (tt, tt)) (λ _.
-    cond_both (c == code "$") _ _ P (λ _. (tt, tt)) (λ _.
+    let P = Makes IsReadLeaf in
+    cond_both (c == code ".") _ _ P (λ _. (tt, refl, refl)) (λ _.
+    cond_both (c == code "^") _ _ P (λ _. (tt, refl, refl)) (λ _.
+    cond_both (c == code "$") _ _ P (λ _. (tt, refl, refl)) (λ _.
     cond_both (c == code "\\") _ _ P
     (λ _. escape_read n s t (escape n s.flags false (place_of n (c ∷ t)) t) (sound_escape n s.flags false (place_of n (c ∷ t)) t)) (λ _.
-    cond_both (c == code "[") _ _ P (λ _. class_read s s.flags.casei (class n s.flags t)) (λ _. (refl, tt))))))
+    cond_both (c == code "[") _ _ P (λ _. class_read s s.flags.casei (class n s.flags t)) (λ _. (refl, refl, refl))))))
 
-ahead_read : (n d : ℕ) (s : State) → ReadAhead (ahead n d s)
+pub ahead_read : (n d : ℕ) (s : State) → ReadAhead (ahead n d s)
 unfolding ahead
 ahead_read n d s = by_text s.rest
   where
@@ -260,6 +268,10 @@ ahead_read n d s = by_text s.rest
         cond_both (c == code "(") _ _ ReadAhead
         (λ _. cond_both (nat_le max_depth (d + 1)) _ _ ReadAhead (λ _. tt) (λ _. behind_read n s (skipped n (at s t)))) (λ _.
         cond_both (is_before_nothing c) _ _ ReadAhead (λ _. tt) (λ _. leaf_read n s c t))
+
+leaf_read_whole : (o : Outcome Tree) → Makes IsReadLeaf o → Makes IsRead o
+leaf_read_whole (done a s) h = leaf_is_read a h
+leaf_read_whole (fault k p) h = tt
 
 -- ---- what a part comes to behind its last one
 
@@ -328,12 +340,12 @@ mutual
 
   of_read : {k : Ahead} {n d : ℕ} {s : State} {o : Outcome Tree} → AtomOf k n d s o → ReadAhead k → Makes IsRead o
   of_read a_nothing h = (tt, tt)
-  of_read a_leaf h = h
+  of_read (a_leaf {o}) h = leaf_read_whole o h
   of_read (a_group {n} {h = head} {s} {q} i e) h =
       then_makes IsRead IsRead q _ (inside_read i) e (λ r v a. node_read head (place_of n s.rest) r a)
   of_read (a_condition i b) h = body_read b (inside_read i)
   of_read (condition_fault i) h = tt
-  of_read (a_body b) h = body_read b h
+  of_read (a_body {c} b) h = body_read b (leaf_is_read c h)
   of_read (two_branches {n} {a} {q} b e m f) h =
       let first = branch_read b in
       then_makes IsRead IsRead q _ (branch_read m) f

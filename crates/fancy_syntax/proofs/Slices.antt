@@ -50,7 +50,7 @@ use Rattle.fancy_syntax.specs.declared.grammar.quantified.Suffix.{Suffix}
 
 -- ---- slices
 
-here : (t : Text) → Slice t t
+pub here : (t : Text) → Slice t t
 here t = record { word = []; cut = refl }
 
 on : {t u v : Text} → Slice t u → Slice u v → Slice t v
@@ -59,17 +59,17 @@ on {v} a b = record {
   cut = a.cut ∙ ap (λ x. a.word ++ x) b.cut ∙ sym (append_assoc a.word b.word v);
 }
 
-fits : {t u : Text} → Slice t u → bytes u ≤ bytes t
+pub fits : {t u : Text} → Slice t u → bytes u ≤ bytes t
 fits {u} a = omega (arith, ap bytes a.cut, bytes-append a.word u)
 
 one : (c : ℕ) (t : Text) → Slice (c ∷ t) t
 one c t = record { word = c ∷ []; cut = refl }
 
-one_bytes : (c : ℕ) (t : Text) → bytes t + 1 ≤ bytes (c ∷ t)
+pub one_bytes : (c : ℕ) (t : Text) → bytes t + 1 ≤ bytes (c ∷ t)
 unfolding bytes
 one_bytes c t = omega (arith, (len_utf8_bounds c).0)
 
-strip_slice : (c : ℕ) (t u : Text) → strip c t ≡ Some u → Slice t u
+pub strip_slice : (c : ℕ) (t u : Text) → strip c t ≡ Some u → Slice t u
 strip_slice c t u e = record { word = c ∷ []; cut = strip_is c t u e }
 
 cut_slice : {t u : Text} → (w : Text) × (t ≡ w ++ u) → Slice t u
@@ -90,7 +90,7 @@ joined a b c [] m h i = raised a b c m h i
 joined a b c (x ∷ l) m h i = (h.0, joined (place_of_item x + 1) b c l m h.1 i)
 
 -- a slice without items
-bare : {t u : Text} (n : ℕ) → Slice t u → Span n [] t u
+pub bare : {t u : Text} (n : ℕ) → Slice t u → Span n [] t u
 bare n a = record { slice = a; ascends = λ h. omega (arith, fits a) }
 
 -- one part behind another
@@ -253,23 +253,38 @@ braces_slice x t = by_cases (spaced_count x t) (spaced_slice x t)
     by_cases None h = tt
     by_cases (Some p) h = closed p.0 p.1 (strip (code "}") p.1) refl h
 
+-- behind the first character
+behind_first : (x : Bool) (c : ℕ) (t : Text) → Counted t (counts x (c ∷ t))
+unfolding counts
+behind_first x c t =
+    cond_both (c == code "?") _ _ (Counted t) (λ _. here t) (λ _.
+    cond_both (c == code "*") _ _ (Counted t) (λ _. here t) (λ _.
+    cond_both (c == code "+") _ _ (Counted t) (λ _. here t) (λ _.
+    cond_both (c == code "{") _ _ (Counted t) (λ _. braces_slice x t) (λ _. tt))))
+
 counts_slice : (x : Bool) (t : Text) → Counted t (counts x t)
 unfolding counts
 counts_slice x [] = tt
-counts_slice x (c ∷ t) =
-    cond_both (c == code "?") _ _ (Counted (c ∷ t)) (λ _. one c t) (λ _.
-    cond_both (c == code "*") _ _ (Counted (c ∷ t)) (λ _. one c t) (λ _.
-    cond_both (c == code "+") _ _ (Counted (c ∷ t)) (λ _. one c t) (λ _.
-    cond_both (c == code "{") _ _ (Counted (c ∷ t)) (λ _. past (braced_counts x t) (one c t) (braces_slice x t)) (λ _. tt))))
+counts_slice x (c ∷ t) = past (counts x (c ∷ t)) (one c t) (behind_first x c t)
+
+-- the counts take a byte or more
+pub counts_past : (x : Bool) (t : Text) → IfSome (counts x t) (λ p. bytes p.1 + 1 ≤ bytes t)
+unfolding counts
+counts_past x [] = tt
+counts_past x (c ∷ t) = by_counts (counts x (c ∷ t)) (behind_first x c t)
+  where
+    by_counts : (o : Option (Counts × Text)) → Counted t o → IfSome o (λ p. bytes p.1 + 1 ≤ bytes (c ∷ t))
+    by_counts None h = tt
+    by_counts (Some p) h = omega (arith, fits h, one_bytes c t)
 
 -- ---- layout
 
 -- the text behind the layout ends the text, and an open comment's place is at most one past the end
-abbrev SkippedSlice : ℕ → Text → Skipped → Type 0
+abbrev pub SkippedSlice : ℕ → Text → Skipped → Type 0
 SkippedSlice n t (rest u) = Slice t u
 SkippedSlice n t (open_comment p) = p ≤ n + 1
 
-layout_slice : (n : ℕ) (x : Bool) (t : Text) → SkippedSlice n t (layout n x t)
+pub layout_slice : (n : ℕ) (x : Bool) (t : Text) → SkippedSlice n t (layout n x t)
 layout_slice n x t = by_layout (layout n x t) refl
   where
     by_layout : (k : Skipped) → layout n x t ≡ k → SkippedSlice n t k
@@ -290,7 +305,7 @@ choose_both P None f b g h = h
 
 -- ---- quantifiers
 
-suffix_slice : (n : ℕ) (l : List Item) (s w : State) (c : Counts) → Span n l s.rest w.rest → Within (λ (m : Suffix). l) n s (suffix n w c)
+pub suffix_slice : (n : ℕ) (l : List Item) (s w : State) (c : Counts) → Span n l s.rest w.rest → Within (λ (m : Suffix). l) n s (suffix n w c)
 suffix_slice n l s w c h = by_layout (skipped n w) (layout_slice n w.flags.ignore_space w.rest)
   where
     W : Outcome Suffix → Type 0
@@ -349,27 +364,36 @@ quants_slice n d left a s t h =
 -- ---- what stands ahead
 
 -- a slice and at least a byte before it
-abbrev Past : State → Text → Type 0
+abbrev pub Past : State → Text → Type 0
 Past s t = Slice s.rest t × (bytes t + 1 ≤ bytes s.rest)
 
 further : (s : State) {t u : Text} → Past s t → Slice t u → Past s u
 further s (a, h) b = (on a b, omega (arith, h, fits b))
 
+-- a leaf takes a byte or more
+abbrev pub LeafSlice : ℕ → State → Outcome Tree → Type 0
+LeafSlice n s (done a t) = Span n (items a) s.rest t.rest × (bytes t.rest + 1 ≤ bytes s.rest)
+LeafSlice n s (fault k p) = p ≤ n + 1
+
+leaf_within : (n : ℕ) (s : State) (o : Outcome Tree) → LeafSlice n s o → Within items n s o
+leaf_within n s (done a t) h = h.0
+leaf_within n s (fault k p) h = h
+
 -- what an atom takes by what stands ahead
-abbrev AheadSlice : ℕ → State → Ahead → Type 0
+abbrev pub AheadSlice : ℕ → State → Ahead → Type 0
 AheadSlice n s nothing = Unit {0}
-AheadSlice n s (leaf o) = Within items n s o
+AheadSlice n s (leaf o) = LeafSlice n s o
 AheadSlice n s (opens h t) = Past s t.rest
 AheadSlice n s (condition t) = Past s t.rest
-AheadSlice n s (body c t) = Span n (items c) s.rest t.rest
+AheadSlice n s (body c t) = Span n (items c) s.rest t.rest × (bytes t.rest + 2 ≤ bytes s.rest)
 AheadSlice n s (absent_branch t) = Past s t.rest
 
 first_slice : (s : State) (c : ℕ) (t : Text) → s.rest ≡ c ∷ t → Past s t
 first_slice s c t e = (record { word = c ∷ []; cut = e }, omega (arith, ap bytes e, one_bytes c t))
 
 -- a leaf without items
-leaf_past : (n : ℕ) (s : State) {t : Text} → Past s t → Span n [] s.rest t
-leaf_past n s h = bare n h.0
+leaf_past : (n : ℕ) (s : State) {t : Text} → Past s t → Span n [] s.rest t × (bytes t + 1 ≤ bytes s.rest)
+leaf_past n s h = (bare n h.0, h.1)
 
 word_slice : (w t u : Text) → strip_word w t ≡ Some u → Slice t u
 word_slice w t u e = record { word = w; cut = strip_word_is w t u e }
@@ -395,8 +419,11 @@ verb_slice t =
     named_slice Fail (codes "FAIL)") (named_slice Fail (codes "F)") (named_slice Accept (codes "ACCEPT)") (named_slice Commit (codes "COMMIT)")
     (named_slice Skip (codes "SKIP)") (named_slice Prune (codes "PRUNE)") (no_verb t))))))
 
+verb_rest : (t : Text) (p : BacktrackingControlVerb × Text) → verb_at t ≡ Some p → Slice t p.1
+verb_rest t p e = subst (λ o. IfSome o (λ p. Slice t p.1)) e (verb_slice t).slice
+
 verb_past : (s : State) (t : Text) (p : BacktrackingControlVerb × Text) → Past s t → verb_at t ≡ Some p → Past s p.1
-verb_past s t p h e = further s h (subst (λ o. IfSome o (λ p. Slice t p.1)) e (verb_slice t).slice)
+verb_past s t p h e = further s h (verb_rest t p e)
 
 flags_slice : (n : ℕ) (s : State) (t : Text) (o : Reading Letters) → Past s t → Leaves (n + 1) t o → AheadSlice n s (flags_ahead o)
 flags_slice n s t (gives (setting f) u) a (leaves e) = leaf_past n s (further s a (cut_slice e))
@@ -418,17 +445,17 @@ group_name_slice n s z t h = name_slice n s z t (group_name n t) h (takes_group_
 
 target_slice : (n : ℕ) (s z : State) (t : Text) (o : Reading referred_spec.Reference) → Past s t → TakesOrFails n 2 t o →
     IfGives (ReferenceAt (place_of n t)) o → AheadSlice n s (target_ahead z o)
-target_slice n s z t (gives r u) h (takes a) e = referred _ h.0 (at_least_one a) e
+target_slice n s z t (gives r u) h (takes a) e = (referred _ h.0 (at_least_one a) e, omega (arith, h.1, takes_bytes a))
 target_slice n s z t (fails k) h (fault_within l) e = omega (arith, l)
 
 backref_slice : (n : ℕ) (s z : State) (casei : Bool) (t : Text) (o : Reading referred_spec.Reference) → Past s t → TakesOrFails n 2 t o →
-    IfGives (ReferenceAt (place_of n t)) o → Within items n s (leaf_outcome (backref_node casei) z o)
-backref_slice n s z casei t (gives r u) h (takes a) e = referred _ h.0 (at_least_one a) e
+    IfGives (ReferenceAt (place_of n t)) o → LeafSlice n s (leaf_outcome (backref_node casei) z o)
+backref_slice n s z casei t (gives r u) h (takes a) e = (referred _ h.0 (at_least_one a) e, omega (arith, h.1, takes_bytes a))
 backref_slice n s z casei t (fails k) h (fault_within l) e = omega (arith, l)
 
 call_slice : (n : ℕ) (s z : State) (t : Text) (o : Reading referred_spec.Call) → Past s t → TakesOrFails n 2 t o →
-    IfGives (CallAt (place_of n t)) o → Within items n s (leaf_outcome call_node z o)
-call_slice n s z t (gives c u) h (takes a) e = referred _ h.0 (at_least_one a) e
+    IfGives (CallAt (place_of n t)) o → LeafSlice n s (leaf_outcome call_node z o)
+call_slice n s z t (gives c u) h (takes a) e = (referred _ h.0 (at_least_one a) e, omega (arith, h.1, takes_bytes a))
 call_slice n s z t (fails k) h (fault_within l) e = omega (arith, l)
 
 condition_ahead_slice : (n : ℕ) (s z : State) (c : ℕ) (t : Text) → Past s (c ∷ t) → AheadSlice n s (condition_ahead n z c t)
@@ -436,7 +463,12 @@ condition_ahead_slice n s z c t h =
     cond_both (begins_target (c ∷ t)) _ _ (AheadSlice n s)
     (λ _. target_slice n s z (c ∷ t) (condition_target n (c ∷ t)) h (takes_condition_target n (c ∷ t)) (condition_target_at n (c ∷ t))) (λ _.
     cond_both (c == code "*") _ _ (AheadSlice n s)
-    (λ _. choose_both (AheadSlice n s) (verb_at t) _ _ (λ p e. leaf_past n s (verb_past s t p (further s h (one c t)) e)) (omega arith)) (λ _. h))
+    (λ _. choose_both (AheadSlice n s) (verb_at t) _ _ (λ p e. verb_condition_slice p e) (omega arith)) (λ _. h))
+  where
+    verb_condition_slice : (p : BacktrackingControlVerb × Text) → verb_at t ≡ Some p →
+        Span n [] s.rest p.1 × (bytes p.1 + 2 ≤ bytes s.rest)
+    verb_condition_slice p e =
+        let a = verb_rest t p e in (bare n (on (on h.0 (one c t)) a), omega (arith, h.1, one_bytes c t, fits a))
 
 conditional_ahead_slice : (n : ℕ) (s z : State) (t : Text) → Past s t → AheadSlice n s (conditional_ahead n z t)
 conditional_ahead_slice n s z [] h = omega arith
@@ -488,12 +520,12 @@ behind_slice n s z t (rest u) h i = head_slice n s z u (further s h i)
 behind_slice n s z t (open_comment p) h i = i
 
 -- what an escape stands for, behind a first character
-escape_slice : (n : ℕ) (s z : State) (t : Text) → Slice s.rest t → (o : Reading Escape) → Leaves (n + 1) t o → Sound n t o →
-    Within items n s (leaf_outcome leaf_node z o)
-escape_slice n s z t h (gives e u) (leaves l) p = by_leaf e p
+escape_slice : (n : ℕ) (s z : State) (t : Text) → Past s t → (o : Reading Escape) → Leaves (n + 1) t o → Sound n t o →
+    LeafSlice n s (leaf_outcome leaf_node z o)
+escape_slice n s z t h (gives e u) (leaves l) p = (by_leaf e p, (further s h (cut_slice l)).1)
   where
     plain : Span n [] s.rest u
-    plain = bare n (on h (cut_slice l))
+    plain = bare n (on h.0 (cut_slice l))
 
     by_leaf : (e : Escape) → Sound n t (gives e u) → Span n (items (leaf_node e)) s.rest u
     by_leaf (escaped.literal c casei) p = plain
@@ -504,30 +536,30 @@ escape_slice n s z t h (gives e u) (leaves l) p = by_leaf e p
     by_leaf escaped.keep_out p = plain
     by_leaf escaped.continue_from_previous_match_end p = plain
     by_leaf (escaped.delegate t casei) p = plain
-    by_leaf (escaped.backref r casei) p = referred _ (on h (cut_slice p.ends)) p.takes p.place
-    by_leaf (escaped.subroutine_call c) p = referred _ (on h (cut_slice p.ends)) p.takes p.place
+    by_leaf (escaped.backref r casei) p = referred _ (on h.0 (cut_slice p.ends)) p.takes p.place
+    by_leaf (escaped.subroutine_call c) p = referred _ (on h.0 (cut_slice p.ends)) p.takes p.place
 escape_slice n s z t h (fails e) (faults l) p = l
 
 -- a class, behind its bracket
-class_slice : (n : ℕ) (s z : State) (casei : Bool) (t : Text) → Slice s.rest t → (o : Reading Text) → Leaves (n + 1) t o →
-    Within items n s (leaf_outcome (λ w. delegate w casei) z o)
-class_slice n s z casei t h (gives a u) (leaves e) = bare n (on h (cut_slice e))
+class_slice : (n : ℕ) (s z : State) (casei : Bool) (t : Text) → Past s t → (o : Reading Text) → Leaves (n + 1) t o →
+    LeafSlice n s (leaf_outcome (λ w. delegate w casei) z o)
+class_slice n s z casei t h (gives a u) (leaves e) = leaf_past n s (further s h (cut_slice e))
 class_slice n s z casei t h (fails e) (faults l) = l
 
-leaf_slice : (n : ℕ) (s : State) (c : ℕ) (t : Text) → Past s t → Within items n s (leaf_of n s c t)
+leaf_slice : (n : ℕ) (s : State) (c : ℕ) (t : Text) → Past s t → LeafSlice n s (leaf_of n s c t)
 leaf_slice n s c t h =
     let plain = leaf_past n s h in
     let p = place_of n (c ∷ t) in
-    cond_both (c == code ".") _ _ (Within items n s) (λ _. plain) (λ _.
-    cond_both (c == code "^") _ _ (Within items n s) (λ _. plain) (λ _.
-    cond_both (c == code "$") _ _ (Within items n s) (λ _. plain) (λ _.
-    cond_both (c == code "\\") _ _ (Within items n s)
-    (λ _. escape_slice n s s t h.0 (escape n s.flags false p t) (leaves_escape (n + 1) n (omega arith) s.flags false p (omega arith) t)
+    cond_both (c == code ".") _ _ (LeafSlice n s) (λ _. plain) (λ _.
+    cond_both (c == code "^") _ _ (LeafSlice n s) (λ _. plain) (λ _.
+    cond_both (c == code "$") _ _ (LeafSlice n s) (λ _. plain) (λ _.
+    cond_both (c == code "\\") _ _ (LeafSlice n s)
+    (λ _. escape_slice n s s t h (escape n s.flags false p t) (leaves_escape (n + 1) n (omega arith) s.flags false p (omega arith) t)
     (sound_escape n s.flags false p t)) (λ _.
-    cond_both (c == code "[") _ _ (Within items n s)
-    (λ _. class_slice n s s s.flags.casei t h.0 (class n s.flags t) (leaves_class n s.flags t)) (λ _. plain)))))
+    cond_both (c == code "[") _ _ (LeafSlice n s)
+    (λ _. class_slice n s s s.flags.casei t h (class n s.flags t) (leaves_class n s.flags t)) (λ _. plain)))))
 
-ahead_slice : (n d : ℕ) (s : State) → AheadSlice n s (ahead n d s)
+pub ahead_slice : (n d : ℕ) (s : State) → AheadSlice n s (ahead n d s)
 unfolding ahead
 ahead_slice n d s = by_text s.rest refl
   where
@@ -560,7 +592,7 @@ node_slice n atomic s t r v a b = before a.0 b
 node_slice n define s t r v a b = before a.0 b
 node_slice n repeater s t r v a b = before a.0 b
 
-trees_back : (ts : Trees) → trees_of (list_of ts) ≡ ts
+pub trees_back : (ts : Trees) → trees_of (list_of ts) ≡ ts
 trees_back no_trees = refl
 trees_back (more_trees t ts) = ap (more_trees t) (trees_back ts)
 
@@ -596,7 +628,7 @@ ended_slice n s t r h = by_text t.rest
 
 -- ---- the grammar
 
-skipped_slice : (n : ℕ) (s : State) (u : Text) → skipped n s ≡ rest u → Slice s.rest u
+pub skipped_slice : (n : ℕ) (s : State) (u : Text) → skipped n s ≡ rest u → Slice s.rest u
 skipped_slice n s u l = subst (SkippedSlice n s.rest) l (layout_slice n s.flags.ignore_space s.rest)
 
 mutual
@@ -630,12 +662,12 @@ mutual
 
   of_slice : {k : Ahead} {n d : ℕ} {s : State} {o : Outcome Tree} → AtomOf k n d s o → AheadSlice n s k → Within items n s o
   of_slice (a_nothing {n} {s}) h = bare n (here s.rest)
-  of_slice a_leaf h = h
+  of_slice (a_leaf {n} {s} {o}) h = leaf_within n s o h
   of_slice (a_group {n} {h = head} {s} {t} {q} i e) h =
       then_slice items items n s t q _ (inside_slice i) e (λ r v a. node_slice n head s t r v.rest h a)
   of_slice (a_condition {s} i b) h = body_slice s b (before h.0 (inside_slice i))
   of_slice (condition_fault i) h = inside_slice i
-  of_slice (a_body {s} b) h = body_slice s b h
+  of_slice (a_body {s} b) h = body_slice s b h.0
   of_slice (two_branches {n} {s} {v} {u} {a} {q} b e m f) h =
       let k = before h.0 (behind (branch_slice b) (strip_slice bar v.rest u e)) in
       then_slice items items n s (at v u) q _ (branch_slice m) f (λ r w x. closed_slice n s w (absent (expression a r)) (then k x))

@@ -1,8 +1,8 @@
 -- What is true of every tree that is answered, and how its marks speak of it.
-use Rattle.std.specs.Prelude.{◌≡◌, ℕ, ◌≤◌, Bool, true, false, List, length, filter, filter_map, Option, Some, None}
+use Rattle.std.specs.Prelude.{◌≡◌, ℕ, ◌+◌, ◌*◌, ◌≤◌, Bool, true, false, List, length, filter, filter_map, Option, Some, None}
 use Rattle.std.specs.List.{AllByRecursion, list_any}
 use Rattle.fancy_syntax.specs.Preorder.{preorder}
-use Rattle.fancy_syntax.specs.Tree.{Tree, literal, literal_bytes, alt, group, backref, backref_at_level, subroutine_call, ast_node, AstTree, ast_call, list_of}
+use Rattle.fancy_syntax.specs.Tree.{Tree, literal, literal_bytes, alt, group, backref, backref_at_level, subroutine_call, ast_node, AstTree, ast_call, list_of, nodes, depth}
 
 -- only a call stays as it was read
 abbrev pub is_call_as_read : AstTree → Bool
@@ -21,6 +21,11 @@ IsAnsweredNode _ = Unit {0}
 -- this is true of each node
 abbrev pub IsAnswered : Tree → Type 0
 IsAnswered t = AllByRecursion IsAnsweredNode (preorder t)
+
+-- a tree of n bytes has at most 2 n + 1 nodes, and at most 832 levels: on each of 64 an Alt, a Concat, five quantifiers of
+-- two nodes, and a group or leaf
+abbrev pub IsSmall : Tree → ℕ → Type 0
+IsSmall t n = (nodes t ≤ 2 * n + 1) × (depth t ≤ 832)
 
 abbrev pub is_group : Tree → Bool
 is_group (group t) = true

@@ -2,7 +2,7 @@
 ghost use Rattle.std.specs.Prelude.{◌≡◌, chars, filter, find, length, nat_le, nat_lt, IfOk, IfErr};
 ghost use Rattle.fancy_lex.specs.Flags.{flags_of};
 ghost use Rattle.fancy_syntax.specs.Answer.{marks_of, IsTreeOf, IsFaultOf, IsOnlyFault, IsWithin};
-ghost use Rattle.fancy_syntax.specs.Answered.{groups, groups_referred, has_call, IsAnswered};
+ghost use Rattle.fancy_syntax.specs.Answered.{groups, groups_referred, has_call, IsAnswered, IsSmall};
 ghost use Rattle.fancy_syntax.specs.Marks.{ascending};
 ghost use Rattle.fancy_syntax.specs.Notes.{view_marks};
 ghost use Rattle.fancy_syntax.specs.View.{view};
@@ -93,6 +93,7 @@ impl Expr {
         ensures only { IfOk result (λ t. (e : _) (m : _) → IsTreeOf (flags_of flags) (chars re.now) e m → (e ≡
             view t.expr) × (m ≡ marks_of t)) }
         ensures exact { IfOk result (λ t. (k : _) (p : _) → IsFaultOf (flags_of flags) (chars re.now) k p → ⊥) }
+        ensures bounds { IfOk result (λ t. IsSmall (view t.expr) (length re.now)) }
         ensures nodes { IfOk result (λ t. IsAnswered (view t.expr)) }
         ensures groups { IfOk result (λ t. length (groups (view t.expr)) ≡ t.total_groups) }
         ensures calls { IfOk result (λ t. has_call (view t.expr) ≡ t.contains_subroutines) }
@@ -115,6 +116,7 @@ impl Expr {
         ensures only { IfOk result (λ t. (e : _) (m : _) → IsTreeOf (flags_of FLAG_UNICODE) (chars re.now) e m →
             (e ≡ view t.expr) × (m ≡ marks_of t)) }
         ensures exact { IfOk result (λ t. (k : _) (p : _) → IsFaultOf (flags_of FLAG_UNICODE) (chars re.now) k p → ⊥) }
+        ensures bounds { IfOk result (λ t. IsSmall (view t.expr) (length re.now)) }
         ensures nodes { IfOk result (λ t. IsAnswered (view t.expr)) }
         ensures groups { IfOk result (λ t. length (groups (view t.expr)) ≡ t.total_groups) }
         ensures calls { IfOk result (λ t. has_call (view t.expr) ≡ t.contains_subroutines) }

@@ -3,6 +3,7 @@ use Rattle.std.proofs.lemmas.Result.{err_from_is_err_and}
 use Rattle.fancy_syntax.specs.Answer.{IsTreeOf, IsOnlyFault, marks_of}
 use Rattle.fancy_syntax.specs.View.{view}
 use Rattle.fancy_syntax.proofs.AnsweredLaws.{answered, groups_total, calls_marked, backrefs_marked, out_of_range_marked}
+use Rattle.fancy_syntax.proofs.BoundLaws.{bounded}
 use Rattle.fancy_syntax.proofs.Verdict.{only_tree, no_fault, only_reading, only_resolving, reading_within}
 use Rattle.fancy_syntax.proofs.Verdict.{resolving_within, text_order}
 use Rattle.fancy_syntax.proofs.expr.Expr.parse_tree_with_flags.Goals as goal
@@ -56,6 +57,9 @@ returns-clause-only c e m b = only_tree _ _ _ e _ m (returns-clause-found c) b
 
 pub returns-clause-exact : goal.returns-clause-exact
 returns-clause-exact c k p b = no_fault _ _ _ _ k p (returns-clause-found c) b
+
+pub returns-clause-bounds : goal.returns-clause-bounds
+returns-clause-bounds c = bounded c.utf8.re (returns-clause-found c)
 
 pub returns-clause-nodes : goal.returns-clause-nodes
 returns-clause-nodes c = answered (returns-clause-found c)
