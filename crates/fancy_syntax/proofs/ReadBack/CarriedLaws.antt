@@ -210,7 +210,7 @@ module _ (u i : Bool) (n : ℕ) where
   end_carries zero depth seen out there = tt
   end_carries (suc k) depth seen out there = tt
 
-  -- behind an class_head bracket
+  -- behind an opening bracket
   open_carries : (k : ℕ) → ItemsCarry k → (depth : ℕ) (seen seen' : Bool) (out out' t : Text)
       → Carries k (items n (bare false) k depth seen (class_head out t).0 (class_head out t).1)
       (λ j m s. items m (under u i false false false) j depth seen' (class_head out' (t ++ s)).0

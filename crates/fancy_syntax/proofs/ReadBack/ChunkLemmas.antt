@@ -21,9 +21,9 @@ use Rattle.fancy_lex.specs.EscapeReference.{group_number}
 use Rattle.fancy_lex.specs.declared.flags.Flags.{Flags}
 use Rattle.fancy_lex.specs.Text.{Text, place_of, strip}
 use Rattle.fancy_syntax.specs.Normal.{bare, under}
-use Rattle.fancy_syntax.proofs.ReadBack.ClearLemmas.{not_open, no_layout}
+use Rattle.fancy_syntax.proofs.ReadBack.ClearLemmas.{Each, no_more, also, each_among, not_open, no_layout}
 use Rattle.fancy_syntax.proofs.ReadBack.ScalarLemmas.{scalars_append}
-use Rattle.fancy_syntax.proofs.ReadBack.ClassChunks.{Goes, ClassGoes, pass_close, pass_plain, pass_escape, pass_nested, pass_class, Chunk, Fine, both_chunk, Each, each_at}
+use Rattle.fancy_syntax.proofs.ReadBack.ClassChunks.{Goes, ClassGoes, pass_close, pass_plain, pass_escape, pass_nested, pass_class, Chunk, Fine, both_chunk}
 
 -- ---- plain words, and classes in classes
 
@@ -215,42 +215,18 @@ large_chunk w h =
     ∙ braced_large m p true w s h)
 
 -- closed escapes
-pub letter_chunks : Each (λ c. Chunk (92 ∷ c ∷ [])) (codes "dDsSwWtnvfr")
+letter_chunks : Each (λ c. Chunk (92 ∷ c ∷ [])) (codes "dDsSwWtnvfr")
 unfolding escape
-letter_chunks = (
-  escape_chunk (100 ∷ []) _ refl (λ m p s. refl),
-  (
-    escape_chunk (68 ∷ []) _ refl (λ m p s. refl),
-    (
-      escape_chunk (115 ∷ []) _ refl (λ m p s. refl),
-      (
-        escape_chunk (83 ∷ []) _ refl (λ m p s. refl),
-        (
-          escape_chunk (119 ∷ []) _ refl (λ m p s. refl),
-          (
-            escape_chunk (87 ∷ []) _ refl (λ m p s. refl),
-            (
-              escape_chunk (116 ∷ []) _ refl (λ m p s. refl),
-              (
-                escape_chunk (110 ∷ []) _ refl (λ m p s. refl),
-                (
-                  escape_chunk (118 ∷ []) _ refl (λ m p s. refl),
-                  (
-                    escape_chunk (102 ∷ []) _ refl (λ m p s. refl),
-                    (escape_chunk (114 ∷ []) _ refl (λ m p s. refl), tt),
-                  ),
-                ),
-              ),
-            ),
-          ),
-        ),
-      ),
-    ),
-  ),
-)
+letter_chunks =
+    also (escape_chunk (100 ∷ []) _ refl (λ m p s. refl)) (also (escape_chunk (68 ∷ []) _ refl (λ m p s. refl))
+    (also (escape_chunk (115 ∷ []) _ refl (λ m p s. refl)) (also (escape_chunk (83 ∷ []) _ refl (λ m p s. refl))
+    (also (escape_chunk (119 ∷ []) _ refl (λ m p s. refl)) (also (escape_chunk (87 ∷ []) _ refl (λ m p s. refl))
+    (also (escape_chunk (116 ∷ []) _ refl (λ m p s. refl)) (also (escape_chunk (110 ∷ []) _ refl (λ m p s. refl))
+    (also (escape_chunk (118 ∷ []) _ refl (λ m p s. refl)) (also (escape_chunk (102 ∷ []) _ refl (λ m p s. refl))
+    (also (escape_chunk (114 ∷ []) _ refl (λ m p s. refl)) no_more))))))))))
 
 pub letter_chunk : (c : ℕ) → c ∈ "dDsSwWtnvfr" ≡ true → Chunk (92 ∷ c ∷ [])
-letter_chunk c h = each_at (λ c. Chunk (92 ∷ c ∷ [])) (codes "dDsSwWtnvfr") c letter_chunks h
+letter_chunk c h = each_among (λ c. Chunk (92 ∷ c ∷ [])) (codes "dDsSwWtnvfr") c letter_chunks h
 
 -- a byte
 hex_value : (d : ℕ) → d < 16 → digit_value (upper_hex_digit d) ≡ d
@@ -309,9 +285,10 @@ byte_chunk v h =
 
 -- ---- the table of names
 
-abbrev pub FormOk : Form → Type 0
-FormOk (set items) = Chunk items
-FormOk (pair a b) = Chunk a × Chunk b
+-- the parts of a form: items of a set, or two texts of which P holds
+abbrev pub FormOf : (Text → Type 0) → Form → Type 0
+FormOf P (set items) = Chunk items
+FormOf P (pair a b) = P a × P b
 
 pub word_class : (c : ℕ) (w : Text) → all_plain (c ∷ w) ≡ true → (c == 94) ≡ false → (c == 93) ≡ false →
     all_scalars (c ∷ w) ≡ true → Chunk (91 ∷ ((c ∷ w) ++ 93 ∷ []))
@@ -350,52 +327,68 @@ unprinted =
     (both_chunk (codes "\\v") (codes "\\f\\r") (letter_chunk 118 refl)
     (both_chunk (codes "\\f") (codes "\\r") (letter_chunk 102 refl) (letter_chunk 114 refl)))))
 
-any_small : Chunk (codes "\\p{any}")
-any_small = small_chunk (codes "any") (name_of (codes "any") refl)
+blank_set : Chunk (codes "\\t ")
+blank_set = both_chunk (codes "\\t") (codes " ") (letter_chunk 116 refl) (word_chunk 32 [] refl refl refl refl)
 
-any_large : Chunk (codes "\\P{any}")
-any_large = large_chunk (codes "any") (name_of (codes "any") refl)
+word_set : Chunk (codes "_[:alnum:]")
+word_set =
+    both_chunk (codes "_") (codes "[:alnum:]") (word_chunk 95 [] refl refl refl refl)
+    (word_class 58 (codes "alnum:") refl refl refl refl)
+
+-- P holds of the pairs of texts in the table
+pub record Pairs (P : Text → Type 0) : Type 0 where
+  pub word : P (codes "\\w") × P (codes "\\W")
+  pub graph : P (codes "[^\\p{White_Space}\\p{C}]") × P (codes "[\\p{White_Space}\\p{C}]")
+  pub print : P (codes "[^\\p{C}\\t\\n\\v\\f\\r]") × P (codes "[\\p{C}\\t\\n\\v\\f\\r]")
+  pub small : (w : Text) → IsName w → P (92 ∷ 112 ∷ 123 ∷ (w ++ 125 ∷ []))
+  pub large : (w : Text) → IsName w → P (92 ∷ 80 ∷ 123 ∷ (w ++ 125 ∷ []))
 
 -- the tests of the table, one by one, for any name
-pub form_ok : (u : Bool) (name : Text) → IsName name → FormOk (form u (look_up name) name)
-form_ok true name h =
-    cond_both (bytes_eq name (codes "alnum")) _ _ (λ k. FormOk (form true k name)) (λ _. alpha_digit)
-    (λ _. cond_both (bytes_eq name (codes "blank")) _ _ (λ k. FormOk (form true k name)) (λ _. blank_chunk)
-    (λ _. cond_both (bytes_eq name (codes "cntrl")) _ _ (λ k. FormOk (form true k name)) (λ _. controls)
-    (λ _. cond_both (bytes_eq name (codes "word")) _ _ (λ k. FormOk (form true k name))
-    (λ _. (letter_chunk 119 refl, letter_chunk 87 refl))
-    (λ _. cond_both (bytes_eq name (codes "graph")) _ _ (λ k. FormOk (form true k name))
-    (λ _. (
-      caret_chunk (codes "\\p{White_Space}\\p{C}") space_other,
-      bracket_chunk
-          (codes "\\p{White_Space}\\p{C}") space_other,
-    ))
-    (λ _. cond_both (bytes_eq name (codes "print")) _ _ (λ k. FormOk (form true k name))
-    (λ _. (
-      caret_chunk (codes "\\p{C}\\t\\n\\v\\f\\r") unprinted,
-      bracket_chunk
-          (codes "\\p{C}\\t\\n\\v\\f\\r") unprinted,
-    ))
-    (λ _. cond_both (bytes_eq name (codes "cs")) _ _ (λ k. FormOk (form true k name)) (λ _. (any_large, any_small))
-    (λ _. (small_chunk name h, large_chunk name h))))))))
-form_ok false name h =
-    cond_both (bytes_eq name (codes "alnum")) _ _ (λ k. FormOk (form false k name))
-    (λ _. word_class 58 (codes "alnum:") refl refl refl refl)
-    (λ _. cond_both (bytes_eq name (codes "blank")) _ _ (λ k. FormOk (form false k name))
-    (λ _. both_chunk (codes "\\t") (codes " ") (letter_chunk 116 refl) (word_chunk 32 [] refl refl refl refl))
-    (λ _. cond_both (bytes_eq name (codes "cntrl")) _ _ (λ k. FormOk (form false k name))
-    (λ _. word_class 58 (codes "cntrl:") refl refl refl refl)
-    (λ _. cond_both (bytes_eq name (codes "word")) _ _ (λ k. FormOk (form false k name))
-    (λ _. both_chunk (codes "_") (codes "[:alnum:]") (word_chunk 95 [] refl refl refl refl)
-    (word_class 58 (codes "alnum:") refl refl refl refl))
-    (λ _. cond_both (bytes_eq name (codes "graph")) _ _ (λ k. FormOk (form false k name))
-    (λ _. word_class 58 (codes "graph:") refl refl refl refl)
-    (λ _. cond_both (bytes_eq name (codes "print")) _ _ (λ k. FormOk (form false k name))
-    (λ _. word_class 58 (codes "print:") refl refl refl refl)
-    (λ _. cond_both (bytes_eq name (codes "cs")) _ _ (λ k. FormOk (form false k name)) (λ _. (any_large, any_small))
-    (λ _. (small_chunk name h, large_chunk name h))))))))
+module _ (P : Text → Type 0) (ps : Pairs P) (name : Text) (h : IsName name) where
+  surrogates : P (codes "\\P{any}") × P (codes "\\p{any}")
+  surrogates =
+      (ps.large (codes "any") (name_of (codes "any") refl), ps.small (codes "any") (name_of (codes "any") refl))
 
-form_chunk : (b : Bool) (f : Form) → FormOk f → Chunk (form_text true b f)
+  pub form_of : (u : Bool) → FormOf P (form u (look_up name) name)
+  form_of true =
+      cond_both (bytes_eq name (codes "alnum")) _ _ (λ k. FormOf P (form true k name)) (λ _. alpha_digit)
+      (λ _. cond_both (bytes_eq name (codes "blank")) _ _ (λ k. FormOf P (form true k name)) (λ _. blank_chunk)
+      (λ _. cond_both (bytes_eq name (codes "cntrl")) _ _ (λ k. FormOf P (form true k name)) (λ _. controls)
+      (λ _. cond_both (bytes_eq name (codes "word")) _ _ (λ k. FormOf P (form true k name)) (λ _. ps.word)
+      (λ _. cond_both (bytes_eq name (codes "graph")) _ _ (λ k. FormOf P (form true k name)) (λ _. ps.graph)
+      (λ _. cond_both (bytes_eq name (codes "print")) _ _ (λ k. FormOf P (form true k name)) (λ _. ps.print)
+      (λ _. cond_both (bytes_eq name (codes "cs")) _ _ (λ k. FormOf P (form true k name)) (λ _. surrogates)
+      (λ _. (ps.small name h, ps.large name h))))))))
+  form_of false =
+      cond_both (bytes_eq name (codes "alnum")) _ _ (λ k. FormOf P (form false k name))
+      (λ _. word_class 58 (codes "alnum:") refl refl refl refl)
+      (λ _. cond_both (bytes_eq name (codes "blank")) _ _ (λ k. FormOf P (form false k name)) (λ _. blank_set)
+      (λ _. cond_both (bytes_eq name (codes "cntrl")) _ _ (λ k. FormOf P (form false k name))
+      (λ _. word_class 58 (codes "cntrl:") refl refl refl refl)
+      (λ _. cond_both (bytes_eq name (codes "word")) _ _ (λ k. FormOf P (form false k name)) (λ _. word_set)
+      (λ _. cond_both (bytes_eq name (codes "graph")) _ _ (λ k. FormOf P (form false k name))
+      (λ _. word_class 58 (codes "graph:") refl refl refl refl)
+      (λ _. cond_both (bytes_eq name (codes "print")) _ _ (λ k. FormOf P (form false k name))
+      (λ _. word_class 58 (codes "print:") refl refl refl refl)
+      (λ _. cond_both (bytes_eq name (codes "cs")) _ _ (λ k. FormOf P (form false k name)) (λ _. surrogates)
+      (λ _. (ps.small name h, ps.large name h))))))))
+
+chunk_pairs : Pairs Chunk
+chunk_pairs = record {
+  word = (letter_chunk 119 refl, letter_chunk 87 refl);
+  graph = (
+    caret_chunk (codes "\\p{White_Space}\\p{C}") space_other,
+    bracket_chunk (codes "\\p{White_Space}\\p{C}") space_other,
+  );
+  print = (
+    caret_chunk (codes "\\p{C}\\t\\n\\v\\f\\r") unprinted,
+    bracket_chunk (codes "\\p{C}\\t\\n\\v\\f\\r") unprinted,
+  );
+  small = small_chunk;
+  large = large_chunk;
+}
+
+form_chunk : (b : Bool) (f : Form) → FormOf Chunk f → Chunk (form_text true b f)
 form_chunk true (set items) h = caret_chunk items h
 form_chunk false (set items) h = h
 form_chunk true (pair x y) h = h.1
@@ -407,7 +400,7 @@ property_chunk u b (single c) h = single_chunk b c h.0 h.1
 property_chunk u b (braced s) h =
     let p = turn b s in
     let ok = lowercase_ok p.1 (turn_ok b s h) in
-    form_chunk p.0 (form u (look_up (lowercase p.1)) (lowercase p.1)) (form_ok u (lowercase p.1) ok)
+    form_chunk p.0 (form u (look_up (lowercase p.1)) (lowercase p.1)) (form_of Chunk chunk_pairs (lowercase p.1) ok u)
 
 -- ---- what an escape in a class stands for
 
@@ -461,15 +454,8 @@ unfolding property read_property
 property_fine u i p c [] h = tt
 property_fine u i p c (d ∷ t) h = read_fine u i p (c ∈ "P") (name_at (d ∷ t)) (name_ok d t h)
 
-set_letter : (c : ℕ) → c ∈ "dDsSwW" ≡ true → Chunk (92 ∷ c ∷ [])
-set_letter c h =
-    each_at (λ c. Chunk (92 ∷ c ∷ [])) (codes "dDsSwW") c (
-      letter_chunks.0,
-      (
-        letter_chunks.1.0,
-        (letter_chunks.1.1.0, (letter_chunks.1.1.1.0, (letter_chunks.1.1.1.1.0, (letter_chunks.1.1.1.1.1.0, tt)))),
-      ),
-    ) h
+set_letter : (c : ℕ) → c ∈ "dDsSwW" ≡ true → c ∈ "dDsSwWtnvfr" ≡ true
+set_letter c h = grind (arith, nat_tests)
 
 pub hex_word : Chunk (codes "0-9A-Fa-f")
 hex_word = word_chunk 48 (codes "-9A-Fa-f") refl refl refl refl
@@ -481,7 +467,7 @@ escape_fine u i n p [] k = tt
 escape_fine u i n p (c ∷ t) k =
     let (here, more) = and_parts _ (all_scalars t) k in
     fine_if (is_ascii_digit c) _ _ (λ _. numbered_fine n p (under u i false false false) (c ∷ t))
-    (fine_if (c ∈ "dDsSwW") (gives (delegate (92 ∷ c ∷ []) i) t) _ (λ e. set_letter c e)
+    (fine_if (c ∈ "dDsSwW") (gives (delegate (92 ∷ c ∷ []) i) t) _ (λ e. letter_chunk c (set_letter c e))
     (fine_if (c ∈ "h") (gives (delegate (codes "[0-9A-Fa-f]") false) t) _
     (λ _. bracket_chunk (codes "0-9A-Fa-f") hex_word)
     (fine_if (c ∈ "H") (gives (delegate (codes "[^0-9A-Fa-f]") false) t) _

@@ -10,6 +10,7 @@ use Rattle.fancy_lex.specs.Escaped.{Escape, literal, literal_bytes, delegate}
 use Rattle.fancy_lex.specs.Reading.{gives}
 use Rattle.fancy_lex.specs.Text.{Text, place_of, strip}
 use Rattle.fancy_syntax.specs.Normal.{bare}
+use Rattle.fancy_syntax.proofs.ReadBack.ClearLemmas.{Each, no_more, also, none_among, each_among}
 use Rattle.fancy_syntax.proofs.ReadBack.ScalarLemmas.{scalars_append}
 
 -- from s on, a class's items are read to v, whatever was seen before
@@ -73,26 +74,6 @@ amp_chunk = record {
 
 -- ---- characters
 
-abbrev NoneOf : ℕ → List ℕ → Type 0
-NoneOf c [] = Unit {0}
-NoneOf c (x ∷ xs) = ((c == x) ≡ false) × NoneOf c xs
-
-none_of : (c : ℕ) (xs : List ℕ) → is_among c xs ≡ false → NoneOf c xs
-none_of c [] h = tt
-none_of c (x ∷ []) h = (h, tt)
-none_of c (x ∷ y ∷ xs) h = let (a, b) = or_parts (c == x) _ h in (a, none_of c (y ∷ xs) b)
-
-abbrev pub Each : (ℕ → Type 0) → List ℕ → Type 0
-Each P [] = Unit {0}
-Each P (x ∷ xs) = P x × Each P xs
-
-pub each_at : (P : ℕ → Type 0) (xs : List ℕ) (c : ℕ) → Each P xs → is_among c xs ≡ true → P c
-each_at P [] c h e = absurd (both_ways false refl e)
-each_at P (x ∷ []) c h e = subst P (sym (eqb-true c x e)) h.0
-each_at P (x ∷ y ∷ xs) c h e =
-    ⊎_elim (λ same. subst P (sym (eqb-true c x same)) h.0) (λ more. each_at P (y ∷ xs) c h.1 more)
-    (or_cases (c == x) _ e)
-
 abbrev class_marks : Text
 class_marks = codes "\\.+*?()|[]{}^$#&-~"
 
@@ -101,55 +82,18 @@ Escapes c = (m p : ℕ) (s : Text) → escape m (bare false) true p (c ∷ s) �
 
 escapes_marks : Each Escapes class_marks
 unfolding escape
-escapes_marks = (
-  (λ m p s. refl),
-  (
-    (λ m p s. refl),
-    (
-      (λ m p s. refl),
-      (
-        (λ m p s. refl),
-        (
-          (λ m p s. refl),
-          (
-            (λ m p s. refl),
-            (
-              (λ m p s. refl),
-              (
-                (λ m p s. refl),
-                (
-                  (λ m p s. refl),
-                  (
-                    (λ m p s. refl),
-                    (
-                      (λ m p s. refl),
-                      (
-                        (λ m p s. refl),
-                        (
-                          (λ m p s. refl),
-                          (
-                            (λ m p s. refl),
-                            ((λ m p s. refl), ((λ m p s. refl), ((λ m p s. refl), ((λ m p s. refl), tt)))),
-                          ),
-                        ),
-                      ),
-                    ),
-                  ),
-                ),
-              ),
-            ),
-          ),
-        ),
-      ),
-    ),
-  ),
-)
+escapes_marks =
+    also (λ m p s. refl) (also (λ m p s. refl) (also (λ m p s. refl) (also (λ m p s. refl)
+    (also (λ m p s. refl) (also (λ m p s. refl) (also (λ m p s. refl) (also (λ m p s. refl)
+    (also (λ m p s. refl) (also (λ m p s. refl) (also (λ m p s. refl) (also (λ m p s. refl)
+    (also (λ m p s. refl) (also (λ m p s. refl) (also (λ m p s. refl) (also (λ m p s. refl)
+    (also (λ m p s. refl) (also (λ m p s. refl) no_more)))))))))))))))))
 
 mark_chunk : (c : ℕ) → IsScalar c → needs_backslash_in_class c ≡ true → Chunk (92 ∷ c ∷ [])
 mark_chunk c k h =
     record {
       goes = λ m s v g. pass_escape m (c ∷ s) s v (literal c false)
-          (each_at Escapes class_marks c escapes_marks h m (place_of m (92 ∷ c ∷ s)) s) g;
+          (each_among Escapes class_marks c escapes_marks h m (place_of m (92 ∷ c ∷ s)) s) g;
       no_caret = λ s. refl;
       no_close = λ s. refl;
       scalars = and_from _ true k refl;
@@ -157,7 +101,7 @@ mark_chunk c k h =
 
 plain_chunk : (c : ℕ) → IsScalar c → needs_backslash_in_class c ≡ false → Chunk (c ∷ [])
 plain_chunk c i h =
-    let n = none_of c class_marks h in
+    let n = none_among c class_marks h in
     let slash = n.0 in
     let k = n.1.1.1.1.1.1.1.1 in
     let bracket = k.0 in

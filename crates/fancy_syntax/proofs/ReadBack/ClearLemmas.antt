@@ -1,9 +1,10 @@
 -- What may follow a piece: no comment, and no quantifier.
-use Rattle.std.proofs.Common.{◌≡◌, ℕ, Bool, true, false, ◌==◌, ⊎_elim, List, [], ◌∷◌, Some, None, refl, sym, subst, eqb-true}
+use Rattle.std.proofs.Common.{◌≡◌, ℕ, Bool, true, false, ◌==◌, ⊎_elim, List, [], ◌∷◌, Some, None, refl, sym, subst, eqb-true, ap, ◌∙◌, ◌||◌}
 use Rattle.std.specs.List.{list_any}
+use Rattle.std.proofs.Math.Bool.{or-false}
 use Rattle.std.proofs.lemmas.Bool.{or_parts, or_cases, cond_both, both_ways}
 use Rattle.std.proofs.lemmas.Option.{same_Some}
-use Rattle.fancy_lex.specs.Characters.{◌∈◌, bar}
+use Rattle.fancy_lex.specs.Characters.{is_among, ◌∈◌, bar}
 use Rattle.fancy_lex.specs.Escape.{escape}
 use Rattle.fancy_lex.specs.Escaped as escaped
 use Rattle.fancy_lex.specs.Layout.{layout, after_comment_head, rest}
@@ -110,14 +111,27 @@ none_of : (c : ℕ) (xs : List ℕ) → list_any (λ m. c == m) xs ≡ false →
 none_of c [] h = tt
 none_of c (x ∷ xs) h = let (a, b) = or_parts (c == x) _ h in (a, none_of c xs b)
 
-abbrev pub Each : (ℕ → Type 0) → List ℕ → Type 0
-Each P [] = Unit {0}
-Each P (x ∷ xs) = P x × Each P xs
+-- it is so of each character
+pub data Each (P : ℕ → Type 0) : List ℕ → Type 0 where
+  no_more : Each P []
+  also : {x : ℕ} {xs : List ℕ} → P x → Each P xs → Each P (x ∷ xs)
 
 each_at : (P : ℕ → Type 0) (xs : List ℕ) (c : ℕ) → Each P xs → list_any (λ m. c == m) xs ≡ true → P c
-each_at P [] c h e = absurd (both_ways false refl e)
-each_at P (x ∷ xs) c h e =
-    ⊎_elim (λ same. subst P (sym (eqb-true c x same)) h.0) (λ more. each_at P xs c h.1 more) (or_cases (c == x) _ e)
+each_at P [] c no_more e = absurd (both_ways false refl e)
+each_at P (x ∷ xs) c (also h k) e =
+    ⊎_elim (λ same. subst P (sym (eqb-true c x same)) h) (λ more. each_at P xs c k more) (or_cases (c == x) _ e)
+
+-- the same of a character that is said to be in a list
+among_any : (c : ℕ) (xs : List ℕ) → is_among c xs ≡ list_any (λ m. c == m) xs
+among_any c [] = refl
+among_any c (x ∷ []) = sym (or-false (c == x))
+among_any c (x ∷ y ∷ xs) = ap (λ b. c == x || b) (among_any c (y ∷ xs))
+
+pub none_among : (c : ℕ) (xs : List ℕ) → is_among c xs ≡ false → NoneOf c xs
+none_among c xs h = none_of c xs (sym (among_any c xs) ∙ h)
+
+pub each_among : (P : ℕ → Type 0) (xs : List ℕ) (c : ℕ) → Each P xs → is_among c xs ≡ true → P c
+each_among P xs c h e = each_at P xs c h (sym (among_any c xs) ∙ e)
 
 -- a character printed as itself is no mark
 pub behind_none : (c : ℕ) → behind_backslash c ≡ None → NoneOf c marks
@@ -134,43 +148,11 @@ Escapes x c = (n : ℕ) (f : Flags) (p : ℕ) (t : Text) → escape n f false p 
 
 escapes_marks : Each (λ m. Escapes m m) marks
 unfolding escape
-escapes_marks = (
-  (λ n f p t. refl),
-  (
-    (λ n f p t. refl),
-    (
-      (λ n f p t. refl),
-      (
-        (λ n f p t. refl),
-        (
-          (λ n f p t. refl),
-          (
-            (λ n f p t. refl),
-            (
-              (λ n f p t. refl),
-              (
-                (λ n f p t. refl),
-                (
-                  (λ n f p t. refl),
-                  (
-                    (λ n f p t. refl),
-                    (
-                      (λ n f p t. refl),
-                      (
-                        (λ n f p t. refl),
-                        ((λ n f p t. refl), ((λ n f p t. refl), ((λ n f p t. refl), tt))),
-                      ),
-                    ),
-                  ),
-                ),
-              ),
-            ),
-          ),
-        ),
-      ),
-    ),
-  ),
-)
+escapes_marks =
+    also (λ n f p t. refl) (also (λ n f p t. refl) (also (λ n f p t. refl) (also (λ n f p t. refl)
+    (also (λ n f p t. refl) (also (λ n f p t. refl) (also (λ n f p t. refl) (also (λ n f p t. refl)
+    (also (λ n f p t. refl) (also (λ n f p t. refl) (also (λ n f p t. refl) (also (λ n f p t. refl)
+    (also (λ n f p t. refl) (also (λ n f p t. refl) (also (λ n f p t. refl) no_more))))))))))))))
 
 escapes_n : Escapes 110 10
 unfolding escape

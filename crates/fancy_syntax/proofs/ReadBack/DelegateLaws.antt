@@ -20,13 +20,13 @@ use Rattle.fancy_syntax.specs.Tree.{delegate}
 use Rattle.fancy_syntax.specs.Normal.{bare, under, class_of, whole_leaf, normal}
 use Rattle.fancy_syntax.specs.Printable.{printable}
 use Rattle.fancy_syntax.proofs.ReadBack.ScalarLemmas.{scalars_append}
-use Rattle.fancy_syntax.proofs.ReadBack.ClassChunks.{ClassGoes, Chunk, both_chunk, Each, each_at}
+use Rattle.fancy_syntax.proofs.ReadBack.ClassChunks.{ClassGoes, Chunk, both_chunk}
 use Rattle.fancy_syntax.proofs.ReadBack.CarriedLaws.{referring_none, class_carries, escape_carries, NoDelegate, hex_none, outside_none}
 use Rattle.fancy_syntax.proofs.ReadBack.DelegateTexts.{bracket_read, bracket_normal, escape_read, escape_normal, no_other, nothing_whole}
-use Rattle.fancy_syntax.proofs.ReadBack.ChunkLemmas.{name_of, name_scalars, bracket_goes, caret_goes, IsName, NameOk, NameSome, name_ok, prop, single_small, single_large, braced_small, braced_large, hex_word, space_other, unprinted, alpha_digit, blank_chunk, controls, word_class, word_chunk, letter_chunk, lowercase_ok, turn_ok}
+use Rattle.fancy_syntax.proofs.ReadBack.ChunkLemmas.{FormOf, Pairs, form_of, name_scalars, bracket_goes, caret_goes, IsName, NameOk, NameSome, name_ok, prop, single_small, single_large, braced_small, braced_large, hex_word, space_other, unprinted, lowercase_ok, turn_ok}
 use Rattle.fancy_syntax.proofs.ReadBack.RewrittenLaws.{ClassAgain, class_again}
 use Rattle.fancy_syntax.proofs.ReadBack.RuleLemmas.{st}
-use Rattle.fancy_syntax.proofs.ReadBack.ClearLemmas.{no_truth}
+use Rattle.fancy_syntax.proofs.ReadBack.ClearLemmas.{Each, no_more, also, each_among, no_truth}
 
 -- the text is one whole class or class escape
 abbrev IsWhole : Text → Type 0
@@ -87,10 +87,6 @@ whole_if : (b : Bool) (p q : Reading Escape) → (b ≡ true → WholeOf p) → 
 whole_if true p q h k = h refl
 whole_if false p q h k = k
 
-abbrev FormWhole : Form → Type 0
-FormWhole (set items) = Chunk items
-FormWhole (pair a b) = IsWhole a × IsWhole b
-
 bracket_whole : (w : Text) → Chunk w → IsWhole (91 ∷ (w ++ 93 ∷ []))
 bracket_whole w c =
     class_whole (w ++ 93 ∷ []) (scalars_append w (93 ∷ []) c.scalars refl)
@@ -119,56 +115,27 @@ single_whole true c h k = escape_whole (80 ∷ c ∷ []) _ _ (and_from _ true k 
 
 letters_whole : Each (λ c. IsWhole (92 ∷ c ∷ [])) (codes "dDsSwW")
 unfolding class_of escape
-letters_whole = (refl, (refl, (refl, (refl, (refl, (refl, tt))))))
+letters_whole = also refl (also refl (also refl (also refl (also refl (also refl no_more)))))
 
 letter_whole : (c : ℕ) → c ∈ "dDsSwW" ≡ true → IsWhole (92 ∷ c ∷ [])
-letter_whole c h = each_at (λ c. IsWhole (92 ∷ c ∷ [])) (codes "dDsSwW") c letters_whole h
+letter_whole c h = each_among (λ c. IsWhole (92 ∷ c ∷ [])) (codes "dDsSwW") c letters_whole h
 
-any_small : IsWhole (codes "\\p{any}")
-any_small = small_whole (codes "any") (name_of (codes "any") refl)
+whole_pairs : Pairs IsWhole
+whole_pairs = record {
+  word = (letter_whole 119 refl, letter_whole 87 refl);
+  graph = (
+    caret_whole (codes "\\p{White_Space}\\p{C}") space_other,
+    bracket_whole (codes "\\p{White_Space}\\p{C}") space_other,
+  );
+  print = (
+    caret_whole (codes "\\p{C}\\t\\n\\v\\f\\r") unprinted,
+    bracket_whole (codes "\\p{C}\\t\\n\\v\\f\\r") unprinted,
+  );
+  small = small_whole;
+  large = large_whole;
+}
 
-any_large : IsWhole (codes "\\P{any}")
-any_large = large_whole (codes "any") (name_of (codes "any") refl)
-
-form_whole : (u : Bool) (name : Text) → IsName name → FormWhole (form u (look_up name) name)
-form_whole true name h =
-    cond_both (bytes_eq name (codes "alnum")) _ _ (λ k. FormWhole (form true k name)) (λ _. alpha_digit)
-    (λ _. cond_both (bytes_eq name (codes "blank")) _ _ (λ k. FormWhole (form true k name)) (λ _. blank_chunk)
-    (λ _. cond_both (bytes_eq name (codes "cntrl")) _ _ (λ k. FormWhole (form true k name)) (λ _. controls)
-    (λ _. cond_both (bytes_eq name (codes "word")) _ _ (λ k. FormWhole (form true k name))
-    (λ _. (letter_whole 119 refl, letter_whole 87 refl))
-    (λ _. cond_both (bytes_eq name (codes "graph")) _ _ (λ k. FormWhole (form true k name))
-    (λ _. (
-      caret_whole (codes "\\p{White_Space}\\p{C}") space_other,
-      bracket_whole
-          (codes "\\p{White_Space}\\p{C}") space_other,
-    ))
-    (λ _. cond_both (bytes_eq name (codes "print")) _ _ (λ k. FormWhole (form true k name))
-    (λ _. (
-      caret_whole (codes "\\p{C}\\t\\n\\v\\f\\r") unprinted,
-      bracket_whole
-          (codes "\\p{C}\\t\\n\\v\\f\\r") unprinted,
-    ))
-    (λ _. cond_both (bytes_eq name (codes "cs")) _ _ (λ k. FormWhole (form true k name)) (λ _. (any_large, any_small))
-    (λ _. (small_whole name h, large_whole name h))))))))
-form_whole false name h =
-    cond_both (bytes_eq name (codes "alnum")) _ _ (λ k. FormWhole (form false k name))
-    (λ _. word_class 58 (codes "alnum:") refl refl refl refl)
-    (λ _. cond_both (bytes_eq name (codes "blank")) _ _ (λ k. FormWhole (form false k name))
-    (λ _. both_chunk (codes "\\t") (codes " ") (letter_chunk 116 refl) (word_chunk 32 [] refl refl refl refl))
-    (λ _. cond_both (bytes_eq name (codes "cntrl")) _ _ (λ k. FormWhole (form false k name))
-    (λ _. word_class 58 (codes "cntrl:") refl refl refl refl)
-    (λ _. cond_both (bytes_eq name (codes "word")) _ _ (λ k. FormWhole (form false k name))
-    (λ _. both_chunk (codes "_") (codes "[:alnum:]") (word_chunk 95 [] refl refl refl refl)
-    (word_class 58 (codes "alnum:") refl refl refl refl))
-    (λ _. cond_both (bytes_eq name (codes "graph")) _ _ (λ k. FormWhole (form false k name))
-    (λ _. word_class 58 (codes "graph:") refl refl refl refl)
-    (λ _. cond_both (bytes_eq name (codes "print")) _ _ (λ k. FormWhole (form false k name))
-    (λ _. word_class 58 (codes "print:") refl refl refl refl)
-    (λ _. cond_both (bytes_eq name (codes "cs")) _ _ (λ k. FormWhole (form false k name)) (λ _. (any_large, any_small))
-    (λ _. (small_whole name h, large_whole name h))))))))
-
-outside_form : (b : Bool) (f : Form) → FormWhole f → IsWhole (form_text false b f)
+outside_form : (b : Bool) (f : Form) → FormOf IsWhole f → IsWhole (form_text false b f)
 outside_form true (set items) h = caret_whole items h
 outside_form false (set items) h = bracket_whole items h
 outside_form true (pair x y) h = h.1
@@ -180,7 +147,8 @@ property_whole u b (single c) h = single_whole b c h.0 h.1
 property_whole u b (braced s) h =
     let p = turn b s in
     let ok = lowercase_ok p.1 (turn_ok b s h) in
-    outside_form p.0 (form u (look_up (lowercase p.1)) (lowercase p.1)) (form_whole u (lowercase p.1) ok)
+    outside_form p.0 (form u (look_up (lowercase p.1)) (lowercase p.1))
+    (form_of IsWhole whole_pairs (lowercase p.1) ok u)
 
 read_whole : (u i : Bool) (p : ℕ) (b : Bool) (o : Option (PropertyName × Text)) → NameSome o
     → WholeOf (choose (option_map {T = PropertyName × Text} {U = Property × Text} (λ q. (prop b q.0, q.1)) o)

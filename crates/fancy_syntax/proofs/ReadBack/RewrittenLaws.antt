@@ -35,14 +35,14 @@ same_front k c t w = by_test (c == k) where
   by_test true e = absurd cc
   by_test false e = refl
 
--- what an class_head takes
+-- what the beginning of a class takes
 data Heads (t : Text) : Text → Text → Type 0 where
   plain_head : strip 94 t ≡ None → strip 93 t ≡ None → Heads t (91 ∷ []) t
   caret_head : (u : Text) → t ≡ 94 ∷ u → strip 93 u ≡ None → Heads t (91 ∷ 94 ∷ []) u
   close_head : (u : Text) → t ≡ 93 ∷ u → Heads t (91 ∷ 93 ∷ []) u
   both_head : (u : Text) → t ≡ 94 ∷ 93 ∷ u → Heads t (91 ∷ 94 ∷ 93 ∷ []) u
 
--- the head and the rest of an class_head, by the first characters
+-- the head and the rest of a class, by the first characters
 data Opened (t : Text) : Text × Text → Type 0 where
   opened : (head r : Text) → Heads t head r → Opened t (head, r)
 
