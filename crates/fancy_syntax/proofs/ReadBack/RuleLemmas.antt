@@ -188,7 +188,12 @@ pub record Run (n d : ℕ) (f : Flags) (s v : Text) (ys : List Tree) : Type 0 wh
   pub groups : EachHasGroups trees
 
 pub no_run : (n d : ℕ) (f : Flags) (v : Text) → Run n d f v v []
-no_run n d f v = record { trees = []; pieces = λ q p. subst (Pieces n d (st f v)) (sym (before-nil q)) p; are = λ g. refl; groups = tt }
+no_run n d f v = record {
+  trees = [];
+  pieces = λ q p. subst (Pieces n d (st f v)) (sym (before-nil q)) p;
+  are = λ g. refl;
+  groups = tt;
+}
 
 before_append : (l m : List Tree) (q : Outcome (List Tree)) → before l (before m q) ≡ before (l ++ m) q
 before_append l m (done k s) = ap (λ n. done n s) (sym (append_assoc l m k))
