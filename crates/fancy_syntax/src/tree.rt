@@ -88,6 +88,7 @@ impl ExprTree {
 impl Expr {
     /// Reads the pattern under the flags whose bits are set. The answer is its tree, or its only fault, at a
     /// place in bytes that is at most one past the end, or `OutOfMemory` where memory was refused.
+    /// The tree of a pattern of n bytes has at most 2 n + 1 nodes, and at most 832 levels.
     pub fn parse_tree_with_flags(alloc: Global, re: &str, flags: u32) -> Result<ExprTree>
         ensures found { IfOk result (λ t. IsTreeOf (flags_of flags) (chars re.now) (view t.expr) (marks_of t)) }
         ensures only { IfOk result (λ t. (e : _) (m : _) → IsTreeOf (flags_of flags) (chars re.now) e m → (e ≡
