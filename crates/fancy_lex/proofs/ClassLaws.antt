@@ -222,7 +222,7 @@ items_read n f zero b t l = absurd (omega arith)
 items_read n f (suc k) b [] l = (fault (unclosed n), end, tt)
 items_read n f (suc k) b (c ∷ t) l = one_more n f k (items_read n f k) b t (omega (arith, l, bytes_cons c t)) c
 
-class_reads : (n : ℕ) (f : Flags) (t : Text) → (o : Outcome) × Class n f false t o
+pub class_reads : (n : ℕ) (f : Flags) (t : Text) → (o : Outcome) × Class n f false t o
 class_reads n f t =
     let p = class_head [] t in
     let (o, h, less) = class_within n f false t p.0 p.1 refl (items_read n f (suc (bytes p.1)) false p.1 (omega arith)) in

@@ -21,6 +21,7 @@ mod PreorderLaws
 pub mod PrintLemmas
 pub mod PrintableLemmas
 mod QuantLemmas
+pub mod ReadBack
 mod ReadLaws
 pub mod ResolveLaws
 pub mod SameLemmas

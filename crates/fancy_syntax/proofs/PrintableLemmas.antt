@@ -66,11 +66,11 @@ solid_front : (b : Bool) (t : Tree) (ts : List Tree) → is_empty t ≡ b → is
 solid_front true t ts e rest = rest
 solid_front false t ts e rest = one_front t (solid ts) e
 
-join_empty : (ts : List Tree) → is_empty (join ts) ≡ list_all is_empty ts
+pub join_empty : (ts : List Tree) → is_empty (join ts) ≡ list_all is_empty ts
 join_empty [] = refl
 join_empty (t ∷ ts) = solid_front (is_empty t) t ts refl (join_empty ts)
 
-one_solid : (b : Bool) (n : Tree) → is_empty n ≡ b → list_all is_empty (if b then [] else n ∷ []) ≡ b
+pub one_solid : (b : Bool) (n : Tree) → is_empty n ≡ b → list_all is_empty (if b then [] else n ∷ []) ≡ b
 one_solid true n e = refl
 one_solid false n e = rw e refl
 
