@@ -1,5 +1,5 @@
 -- A boundary's relation holds of exactly what the function answers.
-use Rattle.std.proofs.Common.{◌≡◌, ◌≢◌, ℕ, zero, suc, ◌<◌, Bool, true, false, ◌==◌, [], ◌∷◌, length, List, Result, Option, Some, None, refl, ap, sym, ◌∙◌, subst, arith}
+use Rattle.std.proofs.Common.{◌≡◌, ◌≢◌, ℕ, zero, suc, ◌<◌, Bool, true, false, ◌==◌, [], ◌∷◌, length, List, Result, Option, Some, None, refl, ap, ◌∙◌, subst, arith}
 use Rattle.std.proofs.lemmas.Bool.Decides.{nat_tests}
 use Rattle.std.specs.Borrow.{Bor}
 use Rattle.fancy_lex.specs.declared.error.Error.{Error}
@@ -10,7 +10,7 @@ use Rattle.fancy_lex.specs.Characters.{open_brace, close_brace}
 use Rattle.fancy_lex.specs.Escaped.{Escape, assertion, escape_of}
 use Rattle.fancy_lex.specs.Fault.{Fault}
 use Rattle.fancy_lex.specs.FaultTable.{comment_not_closed, name_of_no_boundary}
-use Rattle.fancy_lex.specs.Layout.{Skipped, rest, fault, layout, Before, Unclosed}
+use Rattle.fancy_lex.specs.Layout.{Skipped, rest, fault, layout, Before}
 use Rattle.fancy_lex.specs.Reading.{Reading, gives, fails, ◌>=>◌, Gives, Derives}
 use Rattle.fancy_lex.specs.Text.{Text, strip}
 use Rattle.fancy_lex.proofs.BoundaryLaws.{name_open, name_unclosed, name_close, name_step}

@@ -1,5 +1,5 @@
 -- Layout: comments, and under IGNORE_SPACE blanks and line comments.
-use Rattle.std.specs.Prelude.{◌≡◌, ◌≢◌, ℕ, ◌+◌, Bool, true, ◌&&◌, ◌||◌, ◌==◌, if◌then◌else◌, List, [], ◌∷◌, ◌++◌, ◌⊎◌, option_and_then, Option, Some, None, is_some, Result, Ok, Err, chars, codes}
+use Rattle.std.specs.Prelude.{◌≡◌, ◌≢◌, ℕ, Bool, true, ◌&&◌, ◌||◌, ◌==◌, if◌then◌else◌, List, [], ◌∷◌, ◌++◌, ◌⊎◌, option_and_then, Option, Some, None, is_some, Result, Ok, Err, chars, codes}
 use Rattle.std.specs.Borrow.{Bor}
 use Prim.Native.Char.{code}
 use Rattle.fancy_lex.specs.Characters.{line_feed, hash, open_paren, close_paren, question_mark, backslash}

@@ -1,5 +1,5 @@
 -- The relation of a flag group's letters holds of exactly what the function answers.
-use Rattle.std.proofs.Common.{◌≡◌, ◌≢◌, ◌⊎◌, inl, inr, ℕ, zero, suc, ◌+◌, ◌<◌, ◌≤◌, ◌==◌, ◌&&◌, ◌||◌, Bool, true, false, not, if◌then◌else◌, List, [], ◌∷◌, ◌++◌, codes, length, Result, Option, Some, None, refl, ap, sym, ◌∙◌, subst, arith, append_assoc}
+use Rattle.std.proofs.Common.{◌≡◌, ◌≢◌, ◌⊎◌, inl, inr, ℕ, zero, suc, ◌+◌, ◌<◌, ◌≤◌, ◌==◌, ◌&&◌, ◌||◌, Bool, true, false, not, if◌then◌else◌, List, [], ◌∷◌, ◌++◌, Result, Option, Some, None, refl, ap, sym, ◌∙◌, subst, arith, append_assoc}
 use Rattle.std.proofs.lemmas.Bool.{cases_eq}
 use Rattle.std.proofs.lemmas.Bool.Decides.{nat_tests}
 use Rattle.std.proofs.lemmas.List.{append_cancel_right}
@@ -11,14 +11,13 @@ use Rattle.fancy_lex.proofs.LayoutLaws.{layout_sound, layout_complete, unclosed_
 use Rattle.fancy_lex.proofs.ReadingLemmas.{derives_answer, only_answer}
 use Rattle.fancy_lex.proofs.TextLemmas.{bytes-append}
 use Rattle.fancy_lex.specs.Characters.{open_paren, hash, ◌∈◌}
-use Rattle.fancy_lex.specs.Fault.{Fault}
 use Rattle.fancy_lex.specs.FaultTable.{comment_not_closed, group_not_closed, no_flag_letter, mode_changed}
-use Rattle.fancy_lex.specs.Layout.{Skipped, rest, fault, layout, Units, none, more as unit_more, IsUnit, is_blank, Before, Unclosed}
-use Rattle.fancy_lex.specs.Reading.{Reading, gives, fails, ◌>=>◌, layout_reading, Gives, Derives}
+use Rattle.fancy_lex.specs.Layout.{Skipped, rest, fault, layout, Units, none, more as unit_more, IsUnit, is_blank, Before}
+use Rattle.fancy_lex.specs.Reading.{Reading, gives, fails, ◌>=>◌, Gives, Derives}
 use Rattle.fancy_lex.specs.Text.{Text, bytes}
 use Rattle.fancy_lex.specs.declared.error.Error.{Error}
 use Rattle.fancy_lex.specs.declared.flags.Flags.{Flags}
-use Rattle.fancy_parts.specs.FlagLetters.{Letters, setting, scope, with_letter, Step, ends, goes, before, is_first, is_behind_minus, unknown_letter, goes_on, step, behind_step, letters_in, letters, NoLetter, nothing_closed, nothing_scoped, second_minus, no_flag, Letter, flag, same_mode, minus, parenthesis, colon, no_letter, other_mode, Next, LettersFrom, last, more, letter_fault, text_end, open_layout, FlagGroup}
+use Rattle.fancy_parts.specs.FlagLetters.{Letters, setting, scope, with_letter, Step, ends, goes, is_first, is_behind_minus, unknown_letter, goes_on, step, behind_step, letters_in, letters, NoLetter, nothing_closed, nothing_scoped, second_minus, no_flag, Letter, flag, same_mode, minus, parenthesis, colon, no_letter, other_mode, Next, LettersFrom, last, more, letter_fault, text_end, open_layout, FlagGroup}
 use Rattle.fancy_parts.specs.FlagReads.{letters_of}
 use Rattle.fancy_parts.specs.declared.heads.letters.Letters as declared
 use Rattle.fancy_parts.proofs.FlagLemmas.{front_read}

@@ -1,6 +1,6 @@
 -- The grammar: what each production reads from a state, in a pattern of n bytes and at a depth of open groups.
 -- A part that comes first has a rule for its fault; where a part is the last, its outcome decides the whole.
-use Rattle.std.specs.Prelude.{◌≡◌, ℕ, ◌+◌, ◌==◌, Bool, true, false, not, ◌&&◌, List, [], ◌∷◌, Some, None, codes, ◌||◌, if◌then◌else◌}
+use Rattle.std.specs.Prelude.{◌≡◌, ℕ, ◌+◌, ◌==◌, Bool, true, false, not, ◌&&◌, List, [], ◌∷◌, Some, None, if◌then◌else◌}
 use Prim.Native.Char.{code}
 use Rattle.fancy_lex.specs.Characters.{bar}
 use Rattle.fancy_lex.specs.Fault.{Kind}

@@ -1,5 +1,5 @@
 -- The groups that are open, as the parser's stack holds them.
-use Rattle.std.specs.Prelude.{◌≡◌, ℕ, ◌+◌, ◌<◌, ◌==◌, ◌&&◌, not, if◌then◌else◌, Bool, true, false, List, [], ◌∷◌, ◌++◌, Some, Result, MatchResult, ⊤, codes}
+use Rattle.std.specs.Prelude.{◌≡◌, ℕ, ◌+◌, ◌<◌, ◌==◌, ◌&&◌, not, if◌then◌else◌, Bool, true, false, List, [], ◌∷◌, ◌++◌, Some, Result, MatchResult, ⊤}
 use Rattle.fancy_lex.specs.Characters.{bar}
 use Rattle.fancy_lex.specs.Fault.{general_parse_error}
 use Rattle.fancy_lex.specs.FaultTable.{close_paren_expected, body_wanting}

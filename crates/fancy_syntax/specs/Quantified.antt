@@ -1,5 +1,5 @@
 -- A tree under the quantifiers that follow it.
-use Rattle.std.specs.Prelude.{ℕ, zero, suc, ◌+◌, ◌-◌, ◌==◌, Bool, true, false, not, ◌&&◌, nat_lt, Option, Some, None, if◌then◌else◌}
+use Rattle.std.specs.Prelude.{ℕ, zero, suc, ◌+◌, ◌==◌, Bool, true, false, not, ◌&&◌, nat_lt, Option, Some, None, if◌then◌else◌}
 use Prim.Native.Char.{code}
 use Rattle.fancy_lex.specs.FaultTable.{comment_not_closed, not_repeatable, quantifier_too_deep}
 use Rattle.fancy_lex.specs.Layout.{Skipped, rest, fault as open_comment}
