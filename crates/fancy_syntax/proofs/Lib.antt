@@ -9,6 +9,7 @@ pub mod FoundLaws
 pub mod ItemLemmas
 pub mod LoanLemmas
 mod MachineLemmas
+pub mod NamedNumbers
 pub mod NoteLaws
 pub mod OrderLaws
 mod OutcomeLemmas
