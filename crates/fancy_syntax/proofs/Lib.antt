@@ -12,6 +12,7 @@ pub mod ItemLemmas
 mod LevelLaws
 pub mod LoanLemmas
 mod MachineLemmas
+pub mod NamedNumbers
 pub mod NoteLaws
 pub mod OrderLaws
 mod OutcomeLemmas

@@ -2,7 +2,7 @@
 ghost use Rattle.std.specs.Prelude.{◌≡◌, chars, filter, find, length, nat_le, nat_lt, IfOk, IfErr};
 ghost use Rattle.fancy_lex.specs.Flags.{flags_of};
 ghost use Rattle.fancy_syntax.specs.Answer.{marks_of, IsTreeOf, IsFaultOf, IsOnlyFault, IsWithin};
-ghost use Rattle.fancy_syntax.specs.Answered.{groups, groups_referred, has_call, IsAnswered, IsSmall};
+ghost use Rattle.fancy_syntax.specs.Answered.{groups, groups_referred, has_call, AreNamed, IsAnswered, IsSmall};
 ghost use Rattle.fancy_syntax.specs.Marks.{ascending};
 ghost use Rattle.fancy_syntax.specs.Notes.{view_marks};
 ghost use Rattle.fancy_syntax.specs.View.{view};
@@ -88,6 +88,7 @@ impl ExprTree {
 impl Expr {
     /// Reads the pattern under the flags whose bits are set. The answer is its tree, or its only fault, at a
     /// place in bytes that is at most one past the end, or `OutOfMemory` where memory was refused.
+    /// The tree of a pattern of n bytes has at most 2 n + 1 nodes, and at most 832 levels.
     pub fn parse_tree_with_flags(alloc: Global, re: &str, flags: u32) -> Result<ExprTree>
         ensures found { IfOk result (λ t. IsTreeOf (flags_of flags) (chars re.now) (view t.expr) (marks_of t)) }
         ensures only { IfOk result (λ t. (e : _) (m : _) → IsTreeOf (flags_of flags) (chars re.now) e m → (e ≡
@@ -96,6 +97,7 @@ impl Expr {
         ensures bounds { IfOk result (λ t. IsSmall (view t.expr) (length re.now)) }
         ensures nodes { IfOk result (λ t. IsAnswered (view t.expr)) }
         ensures groups { IfOk result (λ t. length (groups (view t.expr)) ≡ t.total_groups) }
+        ensures names { IfOk result (λ t. AreNamed t.total_groups (marks_of t).named_groups) }
         ensures calls { IfOk result (λ t. has_call (view t.expr) ≡ t.contains_subroutines) }
         ensures backrefs { IfOk result (λ t. t.backrefs.keys ≡
             ascending (filter (λ n. nat_le n t.total_groups) (groups_referred (view t.expr)))) }
@@ -119,6 +121,7 @@ impl Expr {
         ensures bounds { IfOk result (λ t. IsSmall (view t.expr) (length re.now)) }
         ensures nodes { IfOk result (λ t. IsAnswered (view t.expr)) }
         ensures groups { IfOk result (λ t. length (groups (view t.expr)) ≡ t.total_groups) }
+        ensures names { IfOk result (λ t. AreNamed t.total_groups (marks_of t).named_groups) }
         ensures calls { IfOk result (λ t. has_call (view t.expr) ≡ t.contains_subroutines) }
         ensures backrefs { IfOk result (λ t. t.backrefs.keys ≡
             ascending (filter (λ n. nat_le n t.total_groups) (groups_referred (view t.expr)))) }
