@@ -28,6 +28,7 @@ use Rattle.fancy_syntax.specs.State.{State, at, Outcome, done, fault, and_then}
 use Rattle.fancy_syntax.specs.Tree.{Tree, more_trees, empty, concat, alt, absent, expression, trees_of, list_of, nodes, depth}
 use Rattle.fancy_syntax.specs.declared.grammar.quantified.Suffix.{Suffix}
 use Rattle.fancy_syntax.proofs.LevelLaws.{size, resolved_size, levels, levels_all, resolved_levels}
+use Rattle.fancy_syntax.proofs.OutcomeLemmas.{Holds, then_holds}
 use Rattle.fancy_syntax.proofs.ReadLaws.{Makes, IsReadLeaf, ReadAhead, ahead_read}
 use Rattle.fancy_syntax.proofs.Slices.{one_bytes, fits, here, bare, skipped_slice, suffix_slice, counts_past, LeafSlice, AheadSlice, ahead_slice, layout_slice, SkippedSlice, trees_back}
 
@@ -151,17 +152,6 @@ alone_over a =
     cond_both (is_empty a) _ _ (IsNodeOver a) (λ _. (omega arith, omega arith)) (λ _. (omega arith, omega arith))
 
 -- ---- outcomes
-
--- what was read is so, where it ends
-abbrev Holds : {A : Type 0} → (A → State → Type 0) → Outcome A → Type 0
-Holds P (done a s) = P a s
-Holds P (fault k p) = Unit {0}
-
-then_holds : {A B : Type 0} (P : A → State → Type 0) (Q : B → State → Type 0) (q : Outcome A) {o : Outcome B}
-    (f : A → State → Outcome B) → Holds P q → and_then q f ≡ o →
-    ((a : A) (s : State) → P a s → Holds Q (f a s)) → Holds Q o
-then_holds P Q (done a s) f h e g = subst (Holds Q) e (g a s h)
-then_holds P Q (fault k p) f h e g = subst (Holds Q) e tt
 
 holds_too : {A : Type 0} (P Q : A → State → Type 0) (o : Outcome A) → ((a : A) (s : State) → P a s → Q a s) →
     Holds P o → Holds Q o

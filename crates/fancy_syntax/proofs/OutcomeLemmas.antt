@@ -1,5 +1,5 @@
 -- How what a part comes to is what the whole comes to.
-use Rattle.std.proofs.Common.{◌≡◌, ℕ, Bool, true, false, if◌then◌else◌, List, [], ◌∷◌, ◌++◌, Some, Result, Ok, Err, refl, ap, append_assoc}
+use Rattle.std.proofs.Common.{◌≡◌, ℕ, Bool, true, false, if◌then◌else◌, List, [], ◌∷◌, ◌++◌, Some, Result, Ok, Err, refl, ap, subst, append_assoc}
 use Rattle.fancy_lex.specs.Fault.{Kind}
 use Rattle.fancy_lex.specs.Text.{Text, strip}
 use Rattle.fancy_lex.specs.declared.error.Error.{Error}
@@ -11,10 +11,22 @@ use Rattle.fancy_syntax.specs.Join.{is_empty, solid}
 use Rattle.fancy_syntax.specs.Machine.{before}
 use Rattle.fancy_syntax.specs.Parsed.{Reads}
 use Rattle.fancy_syntax.specs.Reads.{Fails, IsFault}
-use Rattle.fancy_syntax.specs.State.{State, at, Outcome, done, fault}
+use Rattle.fancy_syntax.specs.State.{State, at, Outcome, done, fault, and_then}
 use Rattle.fancy_syntax.specs.Tree.{Tree}
 use Rattle.fancy_syntax.specs.declared.expr.Expr.{Expr}
 use Rattle.fancy_syntax.specs.declared.grammar.state.State as declared
+
+-- what was read is so, where it ends
+abbrev pub Holds : {A : Type 0} → (A → State → Type 0) → Outcome A → Type 0
+Holds P (done a s) = P a s
+Holds P (fault k p) = Unit {0}
+
+-- one part behind another
+pub then_holds : {A B : Type 0} (P : A → State → Type 0) (Q : B → State → Type 0) (q : Outcome A) {o : Outcome B}
+    (f : A → State → Outcome B) → Holds P q → and_then q f ≡ o →
+    ((a : A) (s : State) → P a s → Holds Q (f a s)) → Holds Q o
+then_holds P Q (done a s) f h e g = subst (Holds Q) e (g a s h)
+then_holds P Q (fault k p) f h e g = subst (Holds Q) e tt
 
 pub Fails-map : {A B : Type 0} (P : Outcome A → Type 0) (Q : Outcome B → Type 0) (e : Error) →
     ((k : Kind) (p : ℕ) → P (fault k p) → Q (fault k p)) → Fails e P → Fails e Q

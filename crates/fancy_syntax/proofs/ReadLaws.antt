@@ -30,6 +30,7 @@ use Rattle.fancy_syntax.specs.Tree.{Tree, Trees, no_trees, more_trees, literal, 
 use Rattle.fancy_syntax.specs.Verb.{verb_at}
 use Rattle.fancy_syntax.specs.declared.grammar.quantified.Suffix.{Suffix}
 use Rattle.fancy_syntax.proofs.LevelLaws.{levels}
+use Rattle.fancy_syntax.proofs.OutcomeLemmas.{Holds, then_holds}
 
 -- what holds of a node of a raw tree: it is none that resolving makes, and what holds of an answered one
 abbrev pub IsReadNode : Tree → Type 0
@@ -92,13 +93,11 @@ choice_read (t ∷ u ∷ ts) h = (omega arith, all_read (t ∷ u ∷ ts) h)
 
 -- what was read is so
 abbrev pub Makes : {A : Type 0} → (A → Type 0) → Outcome A → Type 0
-Makes P (done a s) = P a
-Makes P (fault k p) = Unit {0}
+Makes P o = Holds (λ a s. P a) o
 
 then_makes : {A B : Type 0} (P : A → Type 0) (Q : B → Type 0) (q : Outcome A) {o : Outcome B} (f : A → State → Outcome B) → Makes P q → and_then q f ≡ o →
     ((a : A) (s : State) → P a → Makes Q (f a s)) → Makes Q o
-then_makes P Q (done a s) f h e g = subst (Makes Q) e (g a s h)
-then_makes P Q (fault k p) f h e g = subst (Makes Q) e tt
+then_makes P Q q f h e g = then_holds (λ a s. P a) (λ a s. Q a) q f h e g
 
 choose_makes : {A B : Type 0} (P : B → Type 0) (o : Option A) (f : A → B) (b : B) → ((a : A) → P (f a)) → P b → P (choose o f b)
 choose_makes P (Some a) f b g h = g a
