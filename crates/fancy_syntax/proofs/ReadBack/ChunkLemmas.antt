@@ -1,7 +1,6 @@
 -- Each thing that is written for an escape in a class is read again there.
 use Rattle.std.proofs.Common.{◌≡◌, ℕ, ◌+◌, ◌*◌, ◌/◌, ◌%◌, ◌<◌, Bool, true, false, not, ◌&&◌, ◌==◌, nat_le, if◌then◌else◌, [], ◌∷◌, ◌++◌, codes, Option, Some, None, option_map, refl, sym, ap, ◌∙◌, subst, arith, append_assoc, lt-ltb}
 use Rattle.std.proofs.lemmas.Bool.{not-true, cond-false, cond_both, and_from, and_parts}
-use lib.Utf8.{scalar}
 use Rattle.std.proofs.lemmas.Bool.Decides.{nat_tests}
 use Rattle.std.specs.Char.{IsScalar, digit_value, is_ascii_digit, to_ascii_lowercase}
 use Rattle.std.specs.Cmp.{first_so, second_so}
@@ -96,15 +95,16 @@ IsName [] = Unit {0}
 IsName (c ∷ w) = ((c == 125) ≡ false) × (IsScalar c × IsName w)
 
 abbrev is_name : Text → Bool
-is_name w = list_all (λ c. not (c == 125) && scalar c) w
+is_name w = list_all (λ c. not (c == 125)) w && all_scalars w
 
 -- a name that is written out
 pub name_of : (w : Text) → is_name w ≡ true → IsName w
 name_of [] h = tt
 name_of (c ∷ w) h =
-    let (here, more) = and_parts _ (is_name w) h in
-    let (a, b) = and_parts (not (c == 125)) _ here in
-    (not-true (c == 125) a, (b, name_of w more))
+    let (braces, scalars) = and_parts _ (all_scalars (c ∷ w)) h in
+    let (a, more) = and_parts (not (c == 125)) _ braces in
+    let (b, rest) = and_parts _ (all_scalars w) scalars in
+    (not-true (c == 125) a, (b, name_of w (and_from _ _ more rest)))
 
 pub name_scalars : (w : Text) → IsName w → all_scalars w ≡ true
 name_scalars [] h = refl

@@ -1,7 +1,7 @@
 -- What a printable Delegate's text is read as is printable again.
 use Rattle.std.proofs.Common.{◌≡◌, ◌≢◌, ℕ, Bool, true, false, ◌==◌, ◌&&◌, if◌then◌else◌, [], ◌∷◌, ◌++◌, codes, Option, Some, None, is_some, option_map, ◌⊎◌, inl, inr, refl, sym, ap, ◌∙◌, subst, append-nil, ne_eqb}
-use Rattle.std.proofs.lemmas.Bool.{and_from, and_parts, cond_both, cases_eq}
-use Rattle.std.specs.Str.{all_scalars, bytes_eq}
+use Rattle.std.proofs.lemmas.Bool.{and_from, and_parts, cases_eq}
+use Rattle.std.specs.Str.{all_scalars}
 use Rattle.fancy_lex.specs.Characters.{◌∈◌}
 use Rattle.fancy_lex.specs.Class.{class, Class, Outcome, written, fault}
 use Rattle.fancy_lex.specs.Escape.{escape, numbered, property, is_itself}
@@ -20,7 +20,7 @@ use Rattle.fancy_syntax.specs.Tree.{delegate}
 use Rattle.fancy_syntax.specs.Normal.{bare, under, class_of, whole_leaf, normal}
 use Rattle.fancy_syntax.specs.Printable.{printable}
 use Rattle.fancy_syntax.proofs.ReadBack.ScalarLemmas.{scalars_append}
-use Rattle.fancy_syntax.proofs.ReadBack.ClassChunks.{ClassGoes, Chunk, both_chunk}
+use Rattle.fancy_syntax.proofs.ReadBack.ClassChunks.{ClassGoes, Chunk}
 use Rattle.fancy_syntax.proofs.ReadBack.CarriedLaws.{referring_none, class_carries, escape_carries, NoDelegate, hex_none, outside_none}
 use Rattle.fancy_syntax.proofs.ReadBack.DelegateTexts.{bracket_read, bracket_normal, escape_read, escape_normal, no_other, nothing_whole}
 use Rattle.fancy_syntax.proofs.ReadBack.ChunkLemmas.{FormOf, Pairs, form_of, name_scalars, bracket_goes, caret_goes, IsName, NameOk, NameSome, name_ok, prop, single_small, single_large, braced_small, braced_large, hex_word, space_other, unprinted, lowercase_ok, turn_ok}

@@ -15,6 +15,7 @@ use Rattle.fancy_syntax.proofs.ReadBack.CarriedLaws.{class_carries, escape_carri
 use Rattle.fancy_syntax.proofs.ReadBack.RuleLemmas.{st, AtomAs, reads_leaf, leaf_at}
 use Rattle.fancy_syntax.proofs.ReadBack.ShapeLemmas.{DelegateText}
 use Rattle.fancy_syntax.proofs.ReadBack.ClearLemmas.{no_truth}
+use Rattle.fancy_syntax.proofs.ReadBack.LeafLemmas.{begins_by}
 
 abbrev pub IsDelegate : Tree → Type 0
 IsDelegate (delegate w i) = Unit {0}
@@ -62,7 +63,7 @@ bracket_text t h =
           let (x, same) = class_carries u i (bytes (91 ∷ t)) t w [] e in
           subst (AtomAs n d (under u i false false false) (91 ∷ (t ++ v)) v)
           (sym (bracket_normal u i t x (same (bytes (91 ∷ t)) []))) (bracket_atom n d u i t x v (same n v));
-      begins = λ v. record { clear = record { no_comment = refl; no_mark = refl }; goes = refl };
+      begins = λ v. begins_by refl refl refl;
     }
 
 -- ---- a class escape
@@ -115,7 +116,7 @@ escape_text t h =
           subst (AtomAs n d (under u i false false false) (92 ∷ (t ++ v)) v)
           (sym (escape_normal u i t x c (same n0 p0 [])))
           (escape_atom n d u i t x v c (same n (place_of n (92 ∷ (t ++ v))) v));
-      begins = λ v. record { clear = record { no_comment = refl; no_mark = refl }; goes = refl };
+      begins = λ v. begins_by refl refl refl;
     }
 
 pub no_other : (c : ℕ) (t : Text) → (c == 91) ≡ false → (c == 92) ≡ false →

@@ -5,7 +5,7 @@ use Rattle.fancy_lex.specs.Boundary.{boundary, named_boundary, name}
 use Rattle.fancy_lex.specs.Escape.{escape, outside}
 use Rattle.fancy_lex.specs.Escaped as escaped
 use Rattle.fancy_lex.specs.Escaped.{Escape}
-use Rattle.fancy_lex.specs.Layout.{layout_from}
+use Rattle.fancy_lex.specs.Layout.{after_comment_head, layout_from}
 use Rattle.fancy_lex.specs.Reading.{gives}
 use Rattle.fancy_lex.specs.Text.{Text, bytes, place_of}
 use Rattle.fancy_lex.specs.declared.escape.Assertion.{Assertion}
@@ -21,7 +21,7 @@ use Rattle.fancy_syntax.specs.State.{done}
 use Rattle.fancy_syntax.specs.Tree.{Tree, any, assertion}
 use Rattle.fancy_syntax.specs.Nest.{one_if, is_line}
 use Rattle.fancy_syntax.proofs.ReadBack.InFront.{put_as, put_quotes, put_any, put_line, put_assertion}
-use Rattle.fancy_syntax.proofs.ReadBack.ClearLemmas.{Clear, not_open, clear_close, ends_close, behind_none}
+use Rattle.fancy_syntax.proofs.ReadBack.ClearLemmas.{begins_mark, Clear, not_open, clear_close, ends_close, behind_none}
 use Rattle.fancy_syntax.proofs.ReadBack.CountTexts.{NoName}
 use Rattle.fancy_syntax.proofs.ReadBack.RuleLemmas.{Kept, kept, st, AtomAs, WholeAs, Run, no_run, run_chain, reads_piece, reads_branch, reads_only, join_one, reads_scope, scope_at, one_letter, two_letters, spelled, last_letter, more_letters, reads_leaf, leaf_at, reads_char}
 
@@ -29,6 +29,10 @@ use Rattle.fancy_syntax.proofs.ReadBack.RuleLemmas.{Kept, kept, st, AtomAs, Whol
 pub record Begins (s : Text) : Type 0 where
   pub clear : Clear s
   pub goes : before_atom.ends s ≡ false
+
+-- told from the first characters
+pub begins_by : {s : Text} → after_comment_head s ≡ None → begins_mark s ≡ false → before_atom.ends s ≡ false → Begins s
+begins_by e m g = record { clear = record { no_comment = e; no_mark = m }; goes = g }
 
 -- an atom alone in a group
 pub whole_atom : (n d : ℕ) (f : Flags) (s v : Text) (x : Tree) → Kept f → Begins s → AtomAs n d f s (41 ∷ v) x →
@@ -54,7 +58,7 @@ begins_char c v None e =
       clear = record { no_comment = not_open c v paren; no_mark = rw (ask, star, plus, m.1.1.0) refl };
       goes = rw (bar_, close) refl;
     }
-begins_char c v (Some x) e = record { clear = record { no_comment = refl; no_mark = refl }; goes = refl }
+begins_char c v (Some x) e = begins_by refl refl refl
 
 pub quotes_clear : (cs v : Text) → Clear v → Clear (put_quotes cs v)
 quotes_clear [] v h = h
@@ -80,7 +84,7 @@ reads_dot n d f v =
     })
 
 begins_dot : (v : Text) → Begins (46 ∷ v)
-begins_dot v = record { clear = record { no_comment = refl; no_mark = refl }; goes = refl }
+begins_dot v = begins_by refl refl refl
 
 minus_letters : (n : ℕ) (u : Bool) (s : Text) →
     letters.letters n (bare u) (82 ∷ 45 ∷ 115 ∷ 58 ∷ s) ≡ gives (letters.scope (under u false false false true)) s
@@ -119,8 +123,8 @@ reads_any n d u false true v l =
 reads_any n d u false false v l = reads_dot n d (bare u) v
 
 pub begins_any : (a b : Bool) (v : Text) → Begins (put_any a b v)
-begins_any true b v = record { clear = record { no_comment = refl; no_mark = refl }; goes = refl }
-begins_any false true v = record { clear = record { no_comment = refl; no_mark = refl }; goes = refl }
+begins_any true b v = begins_by refl refl refl
+begins_any false true v = begins_by refl refl refl
 begins_any false false v = begins_dot v
 
 -- ---- conditions on a place
@@ -243,12 +247,12 @@ reads_assertion n d u RightWordHalfBoundary v h l m =
     reads_assertion_escape n d u _ v RightWordHalfBoundary (λ p. boundary_escape n u p _ ∙ half_end n p v)
 
 begins_line : (c : ℕ) (r : Bool) (v : Text) → Begins (put_line c r v)
-begins_line c false v = record { clear = record { no_comment = refl; no_mark = refl }; goes = refl }
-begins_line c true v = record { clear = record { no_comment = refl; no_mark = refl }; goes = refl }
+begins_line c false v = begins_by refl refl refl
+begins_line c true v = begins_by refl refl refl
 
 pub begins_assertion : (a : Assertion) (v : Text) → HasText a → Begins (put_assertion a v)
 begins_assertion (EndTextIgnoreTrailingNewlines crlf) v h = absurd h
 begins_assertion (StartLine crlf) v h = begins_line 94 crlf v
 begins_assertion (StartLineOniguruma crlf) v h = begins_line 94 crlf v
 begins_assertion (EndLine crlf) v h = begins_line 36 crlf v
-begins_assertion _ v h = record { clear = record { no_comment = refl; no_mark = refl }; goes = refl }
+begins_assertion _ v h = begins_by refl refl refl
