@@ -23,6 +23,7 @@ pub mod PrintableLemmas
 mod QuantLemmas
 mod ReadLaws
 pub mod ResolveLaws
+mod RoomLaws
 pub mod SameLemmas
 mod Slices
 mod TreeLemmas
