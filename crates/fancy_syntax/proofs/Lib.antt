@@ -25,6 +25,7 @@ mod QuantLemmas
 pub mod ReadBack
 mod ReadLaws
 pub mod ResolveLaws
+mod RoomLaws
 pub mod SameLemmas
 mod Slices
 mod TreeLemmas

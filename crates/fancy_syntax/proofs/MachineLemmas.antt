@@ -1,5 +1,5 @@
 -- How each step of the loop keeps what stands on the stack.
-use Rattle.std.proofs.Common.{◌≡◌, ◌≢◌, ◌==◌, if◌then◌else◌, tests, rules, ℕ, ◌+◌, Bool, true, false, true≢false, List, [], ◌∷◌, ◌++◌, length, Some, None, Result, Ok, Err, refl, sym, ap, ◌∙◌, subst, append-nil, arith}
+use Rattle.std.proofs.Common.{◌≡◌, ◌≢◌, ◌==◌, ◌≤◌, ◌<◌, if◌then◌else◌, tests, rules, ℕ, ◌+◌, Bool, true, false, true≢false, List, [], ◌∷◌, ◌++◌, length, Some, None, Result, Ok, Err, refl, sym, ap, ◌∙◌, subst, append-nil, arith}
 use Rattle.std.proofs.lemmas.List.{length_push}
 use Prim.Native.Char.{code}
 use Rattle.fancy_lex.specs.Characters.{bar}
@@ -15,7 +15,7 @@ use Rattle.fancy_syntax.specs.Ahead.{ends, skipped}
 use Rattle.fancy_syntax.specs.Grammar.{Alternation, alternation, Branches, last, branch_fault, Branch, branch, stop, piece_fault, Piece, piece, layout_fault, Atom, atom, inside, the_body, condition_fault, two_branches, one_branch, absent_fault, closed, closed_at, group_behind, conditional_behind, conditional_of, branches_of}
 use Rattle.fancy_syntax.specs.Grammar as grammar
 use Rattle.fancy_syntax.specs.Join.{solid, one_or, choice}
-use Rattle.fancy_syntax.specs.Machine.{Open, top, group, condition, body, first, second, open_of, holds_one, is_second, opened_by_bar, branches_at_bar, IsFaultOfBar, Part, Opens, a_group, a_condition, a_body, behind_condition, a_branch, behind_branch, lacks_body, node_of_part, goes_on, behind_part, ended_part, StepsOn, GivesPiece, Reading, Levels, outermost, inner, before}
+use Rattle.fancy_syntax.specs.Machine.{parens, Open, top, group, condition, body, first, second, open_of, holds_one, is_second, opened_by_bar, branches_at_bar, IsFaultOfBar, Part, Opens, a_group, a_condition, a_body, behind_condition, a_branch, behind_branch, lacks_body, node_of_part, goes_on, behind_part, ended_part, StepsOn, GivesPiece, Reading, Levels, outermost, inner, before}
 use Rattle.fancy_syntax.specs.Head.{Head, node_of}
 use Rattle.fancy_syntax.specs.Quantified.{quants}
 use Rattle.fancy_syntax.specs.Reads.{Fails}
@@ -27,6 +27,8 @@ use Rattle.fancy_syntax.specs.declared.grammar.step.Step.{Step}
 use Rattle.fancy_syntax.specs.declared.grammar.step.Step.TheVariants as step
 use Rattle.fancy_lex.proofs.TextLemmas.{strip_is}
 use Rattle.fancy_syntax.proofs.OutcomeLemmas.{Fails-map, before-nil, before-push, more_any, next_any, solid-append}
+use Rattle.fancy_syntax.proofs.RoomLaws.{slice_parens, opens_parens}
+use Rattle.fancy_syntax.proofs.Slices.{here, on, strip_slice, piece_slice}
 
 -- ---- a step
 
@@ -154,6 +156,7 @@ reading_new n d p s bs ps e f = record {
   branch = λ o b. rw before-nil b;
   all = λ o b. rw (e, before-nil) b;
   one = λ _. (refl, e);
+  slice = here s.rest;
 }
 
 reading_piece : {n d : ℕ} {p : Open} {s t v : State} {r : Tree} {bs ps : List Tree} (cs qs : List Tree) → Reading n d p s bs ps t → ends t.rest ≡ false →
@@ -165,6 +168,7 @@ reading_piece {r} cs qs h e a i j = record {
   branch = λ o p. rw before-push (h.branch _ (next_any o e a p));
   all = λ o b. rw i (h.all o b);
   one = λ k. ((h.one k).0, i ∙ (h.one k).1);
+  slice = on h.slice (piece_slice a).slice;
 }
 
 -- the tree of the branch that is open
@@ -194,6 +198,7 @@ reading_bar {n} {d} {s} {t} {u} {bs} {ps} cs qs h k e f i j = record {
       subst (λ l. Branches n d s (before l o)) (sym i)
       (subst (Branches n d s) (sym (before-push bs (joined ps) o)) (h.all _ (more_any o (reading_branch h e) f b)));
   one = λ l. absurd (true≢false (sym l ∙ k));
+  slice = on h.slice (strip_slice bar t.rest u f);
 }
 
 reading_alternation : {n d : ℕ} {p : Open} {s t : State} {bs ps : List Tree} → Reading n d p s bs ps t → ends t.rest ≡ true → strip bar t.rest ≡ None →
@@ -442,3 +447,15 @@ running_closing {n} {t} {f} stack g r q z h e a i j =
       whole = rw (z, i) (subst (λ d. Part (open_of f.opener) n d h.begin (done _ t)) (o.deeper ∙ ap (λ d. d + 1) m) (reading_end (open_of f.opener) h.reading e a));
       not_top = opens_not_top opens;
     }
+
+-- ---- the room for the stack
+
+-- each open group took a parenthesis
+levels_parens : {n : ℕ} {start : State} {d : ℕ} {s : State} {fs : List Frame} {o : Open} → Levels n start fs o d s → d + parens s.rest ≤ parens start.rest
+levels_parens outermost = omega arith
+levels_parens (inner f i l h a m j) = omega (arith, levels_parens l, slice_parens h.slice, opens_parens j)
+
+-- another group is opened only where a parenthesis is left for it
+pub running_room : {n : ℕ} {start t v : State} {stack : List Frame} {f : Frame} {o : Open} → Running n start stack f t →
+    Opens n (length stack) t o v → length stack < parens start.rest
+running_room h j = omega (arith, h.is_depth, levels_parens h.levels, slice_parens h.reading.slice, opens_parens j)

@@ -53,7 +53,7 @@ use Rattle.fancy_syntax.specs.declared.grammar.quantified.Suffix.{Suffix}
 pub here : (t : Text) → Slice t t
 here t = record { word = []; cut = refl }
 
-on : {t u v : Text} → Slice t u → Slice u v → Slice t v
+pub on : {t u v : Text} → Slice t u → Slice u v → Slice t v
 on {v} a b = record {
   word = a.word ++ b.word;
   cut = a.cut ∙ ap (λ x. a.word ++ x) b.cut ∙ sym (append_assoc a.word b.word v);
@@ -642,7 +642,7 @@ mutual
       then_slice items_of items_of n s (at t u) q _ (branches_slice m) f (λ l v i. then h i)
   branches_slice (branch_fault b) = branch_slice b
 
-  branch_slice : {n d : ℕ} {s : State} {o : Outcome Tree} → Branch n d s o → Within items n s o
+  pub branch_slice : {n d : ℕ} {s : State} {o : Outcome Tree} → Branch n d s o → Within items n s o
   branch_slice (branch {n} {s} {q} b e) = then_slice items_of items n s s q _ (pieces_slice b) e (λ l v h. listed (sym (items_join l)) h)
 
   pieces_slice : {n d : ℕ} {s : State} {o : Outcome (List Tree)} → Pieces n d s o → Within items_of n s o
@@ -651,7 +651,7 @@ mutual
       let h = piece_slice a in then_slice items_of items_of n s t q _ (pieces_slice m) f (λ l v i. then h i)
   pieces_slice (piece_fault e a) = piece_slice a
 
-  piece_slice : {n d : ℕ} {s : State} {o : Outcome Tree} → Piece n d s o → Within items n s o
+  pub piece_slice : {n d : ℕ} {s : State} {o : Outcome Tree} → Piece n d s o → Within items n s o
   piece_slice (piece {n} {d} {s} {u} {q} l x e) =
       let k = skipped_slice n s u l in
       then_slice items items n s (at s u) q _ (atom_slice x) e (λ a t i. quants_slice n d (bytes s.rest) a s t (before k i))
@@ -675,7 +675,7 @@ mutual
       subst (Within items n s) f (closed_slice n s v (alone a) (listed (items_alone a) (before h.0 (branch_slice b))))
   of_slice (absent_fault b) h = branch_slice b
 
-  inside_slice : {n d : ℕ} {s : State} {o : Outcome Tree} → Inside n d s o → Within items n s o
+  pub inside_slice : {n d : ℕ} {s : State} {o : Outcome Tree} → Inside n d s o → Within items n s o
   inside_slice (inside {n} {s} {q} r e) = then_slice items items n s s q _ (alternation_slice r) e (λ t v h. closed_slice n s v t h)
 
   body_slice : {n d : ℕ} {c : Tree} (s : State) {t : State} {o : Outcome Tree} → Body n d c t o → Span n (items c) s.rest t.rest → Within items n s o

@@ -1,5 +1,7 @@
 -- The groups that are open, as the parser's stack holds them.
 use Rattle.std.specs.Prelude.{◌≡◌, ℕ, ◌+◌, ◌<◌, ◌==◌, ◌&&◌, not, if◌then◌else◌, Bool, true, false, List, [], ◌∷◌, ◌++◌, Some, Result, MatchResult, ⊤}
+use Prim.Native.Char.{code}
+use Rattle.std.specs.List.{count_by}
 use Rattle.fancy_lex.specs.Characters.{bar}
 use Rattle.fancy_lex.specs.Fault.{general_parse_error}
 use Rattle.fancy_lex.specs.FaultTable.{close_paren_expected, body_wanting}
@@ -15,6 +17,7 @@ use Rattle.fancy_syntax.specs.Join.{solid}
 use Rattle.fancy_syntax.specs.Parsed.{head_of}
 use Rattle.fancy_syntax.specs.Reads.{Fails}
 use Rattle.fancy_syntax.specs.Row.{trees}
+use Rattle.fancy_syntax.specs.Slices.{Slice}
 use Rattle.fancy_syntax.specs.State.{State, at, Outcome, done, fault, faulted, and_then, seen_through}
 use Rattle.fancy_syntax.specs.Tree.{Tree, absent, expression}
 use Rattle.fancy_syntax.specs.View.{view}
@@ -23,6 +26,10 @@ use Rattle.fancy_syntax.specs.declared.grammar.frame.Opener.{Opener}
 use Rattle.fancy_syntax.specs.declared.grammar.frame.Opener.TheVariants as opener
 use Rattle.fancy_syntax.specs.declared.grammar.step.Step.{Step}
 use Rattle.fancy_syntax.specs.declared.grammar.step.Step.TheVariants as step
+
+-- how many groups the text could open: its opening parentheses
+abbrev pub parens : Text → ℕ
+parens = count_by (λ c. c == code "(")
 
 -- what is open
 pub data Open : Type 0 where
@@ -159,6 +166,7 @@ pub record Reading (n d : ℕ) (p : Open) (s : State) (branches pieces : List Tr
   pub branch : (o : Outcome (List Tree)) → Pieces n d t o → Pieces n d begin (before read o)
   pub all : (o : Outcome (List Tree)) → Branches n d begin o → Branches n d s (before branches o)
   pub one : holds_one p ≡ true → (begin ≡ s) × (branches ≡ [])
+  pub slice : Slice s.rest t.rest
 
 -- the open groups of a text that begins at `start`; what is read of the innermost begins at s, at depth d
 pub data Levels (n : ℕ) (start : State) : List Frame → Open → ℕ → State → Type 0 where

@@ -6,7 +6,7 @@ use Rattle.fancy_syntax.specs.Machine.{Opens, IsFaultOfBar, open_of}
 use Rattle.fancy_syntax.specs.Parsed.{state}
 use Rattle.fancy_syntax.specs.State.{done, fault}
 use Rattle.fancy_syntax.specs.View.{view}
-use Rattle.fancy_syntax.proofs.MachineLemmas.{running_start, running_left, running_fault, running_piece, running_open, running_bar, running_bar_fault, running_end, running_closing}
+use Rattle.fancy_syntax.proofs.MachineLemmas.{running_start, running_left, running_fault, running_piece, running_open, running_bar, running_bar_fault, running_end, running_closing, running_room}
 use Rattle.fancy_syntax.proofs.OutcomeLemmas.{Fails-map}
 use Rattle.fancy_syntax.proofs.grammar.alternation.Goals as goal
 
@@ -15,7 +15,7 @@ loop-c-init c =
     let f = c.new-frame.ensures in
     record {
       running = running_start c.args.end (state c.args.start) _ _ c.in_ok-stack.ensures.items f.branches f.pieces (ap open_of f.opener);
-      room = c.in_ok-stack.ensures.capacity;
+      room = omega (arith, c.room.ensures, c.in_ok-stack.ensures.capacity);
       depth = rw c.in_ok-stack.ensures.items (omega arith);
       within = omega arith;
     }
@@ -52,6 +52,13 @@ loop-c-preserved-in-Continue-branch-6 c =
       depth = c.loop-c.invariant.depth;
       within = omega (arith, c.loop-c.invariant.within, c.in_ok-piece.ensures.shorter);
     }
+
+pub push_frame-requires : goal.push_frame-requires
+push_frame-requires c =
+    let n : c.len.result ≡ length c.loop-c.stack.items = omega (arith, c.len.ensures, c.loop-c.stack.ok.0) in
+    let opens = subst (λ d. Opens c.args.end d (state c.loop-c.here) (open_of c.in-Open.opener) (state c.read_step.new.here)) n
+        (rw c.in-Open.is at c.in_ok-piece.ensures.value) in
+    omega (arith, c.loop-c.stack.ok.0, c.loop-c.invariant.depth, c.loop-c.invariant.room, running_room c.loop-c.invariant.running opens)
 
 pub loop-c-preserved-in-Open : goal.loop-c-preserved-in-Open
 loop-c-preserved-in-Open c =
@@ -118,6 +125,17 @@ loop-c-preserved-in-Continue-branch-11 c =
       depth = omega (arith, c.loop-c.invariant.depth, ap length popped, length_push c.pop.new.self.items c.in-Some-pop.outer);
       within = omega (arith, c.loop-c.invariant.within, c.in_ok-piece-2.ensures.shorter);
     }
+
+pub push_frame-requires-in-Open-2 : goal.push_frame-requires-in-Open-2
+push_frame-requires-in-Open-2 c =
+    let popped = c.in-Some-pop.ensures.items in
+    let w = running_closing c.pop.new.self.items c.in-Some-pop.outer (view c.in_ok-opener.inner) (open_of c.in_ok-opener.opener) (ap open_of c.in_ok-opener.ensures.opener)
+    c.loop-c.invariant.running (sym c.if-not-is_end.ensures) c.in_default-after.ensures.value c.in_ok-opener.ensures.tree popped in
+    let n : c.len-in_default-after.result ≡ length c.pop.new.self.items = omega (arith, c.len-in_default-after.ensures, c.pop.new.self.ok.0) in
+    let steps = c.in_ok-piece-2.ensures.value w.here w.inside w.left (rw n w.opens) (rw n w.whole) in
+    let opens = subst (λ d. Opens c.args.end d w.here (open_of c.in-Open-2.opener) (state c.close.new.here)) n (rw c.in-Open-2.is at steps) in
+    omega (arith, c.pop.new.self.ok.0, c.loop-c.invariant.depth, ap length popped, length_push c.pop.new.self.items c.in-Some-pop.outer,
+    c.loop-c.invariant.room, c.in-Some-pop.ensures.capacity, running_room w.outer opens)
 
 pub loop-c-preserved : goal.loop-c-preserved
 loop-c-preserved c =

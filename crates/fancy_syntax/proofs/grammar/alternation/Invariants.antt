@@ -1,5 +1,6 @@
-use Rattle.std.proofs.Common.{◌≤◌, ◌<◌, length, vec_capacity}
+use Rattle.std.proofs.Common.{◌≤◌, ◌<◌, length, chars, min, vec_capacity}
 use Rattle.fancy_syntax.specs.Ahead.{max_depth}
+use Rattle.fancy_syntax.specs.Machine.{parens}
 use Rattle.fancy_syntax.specs.Parsed.{state}
 use Rattle.fancy_syntax.proofs.MachineLemmas.{Running}
 use Rattle.fancy_syntax.proofs.grammar.alternation.Given as goal
@@ -7,7 +8,7 @@ use Rattle.fancy_syntax.proofs.grammar.alternation.Given as goal
 abbrev pub invariant-loop-c : goal.invariant-loop-c
 invariant-loop-c l = record {
   running : Running l.fn.end (state l.fn.start) l.stack.items l.frame (state l.here);
-  room : max_depth ≤ vec_capacity l.stack;
+  room : min (parens (chars l.fn.start.rest.now)) max_depth ≤ vec_capacity l.stack;
   depth : length l.stack.items < max_depth;
   within : length l.here.rest.now ≤ length l.fn.start.rest.now;
 }
