@@ -2,7 +2,6 @@
 use Rattle.std.proofs.Common.{◌≡◌, ℕ, zero, suc, ◌<◌, Bool, true, false, not, ◌&&◌, ◌==◌, [], ◌∷◌, length, codes, Option, Some, None, refl, ap, sym, ◌∙◌, arith}
 use Rattle.std.specs.Str.{bytes_eq}
 use Rattle.std.proofs.lemmas.Slice.Eq.{bytes_eq-Decides}
-use Rattle.std.proofs.lemmas.Bool.Decides.{nat_tests}
 use Rattle.fancy_lex.specs.declared.escape.Assertion.{Assertion}
 use Rattle.fancy_lex.specs.declared.escape.Assertion.TheVariants.{LeftWordBoundary, RightWordBoundary, LeftWordHalfBoundary, RightWordHalfBoundary}
 use Rattle.fancy_lex.specs.Boundary.{name, boundary_of_name, named_boundary}
@@ -34,19 +33,19 @@ plain_head c w b = by (c == close_brace) refl b where
 
 -- one step of a name
 module _ (n : ℕ) (x : Bool) (p k : ℕ) (t : Text) where
-  name_open : (q : ℕ) → layout n x t ≡ fault q → name n x p (suc k) t ≡ fault_at q unclosed_open_paren
+  pub name_open : (q : ℕ) → layout n x t ≡ fault q → name n x p (suc k) t ≡ fault_at q unclosed_open_paren
   unfolding name
   name_open q e = rw e refl
 
-  name_unclosed : layout n x t ≡ rest [] → name n x p (suc k) t ≡ fault_at p (invalid_escape (codes "\\b{...}"))
+  pub name_unclosed : layout n x t ≡ rest [] → name n x p (suc k) t ≡ fault_at p (invalid_escape (codes "\\b{...}"))
   unfolding name
   name_unclosed e = rw e refl
 
-  name_close : (c : ℕ) (r : Text) → layout n x t ≡ rest (c ∷ r) → (c == close_brace) ≡ true → name n x p (suc k) t ≡ gives [] r
+  pub name_close : (c : ℕ) (r : Text) → layout n x t ≡ rest (c ∷ r) → (c == close_brace) ≡ true → name n x p (suc k) t ≡ gives [] r
   unfolding name
   name_close c r e h = rw (e, h) refl
 
-  name_step : (c : ℕ) (r : Text) → layout n x t ≡ rest (c ∷ r) → (c == close_brace) ≡ false → name n x p (suc k) t ≡ (name n x p k r >=> (λ w v. gives (c ∷ w) v))
+  pub name_step : (c : ℕ) (r : Text) → layout n x t ≡ rest (c ∷ r) → (c == close_brace) ≡ false → name n x p (suc k) t ≡ (name n x p k r >=> (λ w v. gives (c ∷ w) v))
   unfolding name
   name_step c r e h = rw (e, h) refl
 

@@ -3,8 +3,9 @@ use Rattle.std.proofs.Common.{◌≡◌, ◌≢◌, ℕ, zero, suc, pred, ◌<�
 use Rattle.std.proofs.lemmas.Bool.Decides.{nat_tests}
 use Rattle.fancy_lex.specs.declared.error.Error.{Error}
 use Rattle.fancy_lex.specs.declared.error.Error.TheVariants.{ParseError, OutOfMemory}
-use Rattle.fancy_lex.specs.Boundary.{name, boundary_head}
+use Rattle.fancy_lex.specs.Boundary.{name}
 use Rattle.fancy_lex.specs.Fault.{invalid_escape}
+use Rattle.fancy_lex.specs.FaultTable.{boundary_head}
 use Rattle.fancy_lex.specs.Reading.{Reading, gives, fails, fault_at, ◌>=>◌, layout_reading, Says, Fails}
 use Rattle.fancy_lex.specs.Characters.{close_brace}
 use Rattle.fancy_lex.specs.Layout.{Skipped, rest, fault, rest_of, layout}

@@ -6,10 +6,11 @@ use Rattle.std.proofs.lemmas.Str.{len_utf8_bounds}
 use Rattle.std.specs.Borrow.{Bor}
 use Rattle.std.specs.declared.alloc.Global.{Global}
 use Rattle.fancy_lex.specs.Characters.{backslash, open_bracket, close_bracket, caret}
-use Rattle.fancy_lex.specs.Class.{class_head, with_mark, items, class, item_text, is_negated, is_plain, unclosed, Outcome, written, fault, Class, class_items, items_fault, Items, close, plain, escaped, nested, end, plain_fault, escape_fault, escaped_fault, class_fault, nested_fault, StartsWithClass, ClassFaults, IsFault}
+use Rattle.fancy_lex.specs.Class.{class_head, with_mark, items, class, item_text, is_negated, is_plain, Outcome, written, fault, Class, class_items, items_fault, Items, close, plain, escaped, nested, end, plain_fault, escape_fault, escaped_fault, class_fault, nested_fault, StartsWithClass, ClassFaults, IsFault}
 use Rattle.fancy_lex.specs.Escape.{escape}
 use Rattle.fancy_lex.specs.Escaped.{Escape}
 use Rattle.fancy_lex.specs.Fault.{Fault}
+use Rattle.fancy_lex.specs.FaultTable.{class_not_closed}
 use Rattle.fancy_lex.specs.Reading.{Reading, gives, fails, fault_at, choose, Gives, Fails}
 use Rattle.fancy_lex.specs.Text.{Text, bytes, place_of, strip, text_of}
 use Rattle.fancy_lex.specs.declared.error.Error.{Error}
@@ -219,10 +220,10 @@ module _ (n : ℕ) (f : Flags) (k : ℕ) (reads : ReadsShort n f k) (b : Bool) (
 
 items_read : (n : ℕ) (f : Flags) (k : ℕ) → ReadsShort n f k
 items_read n f zero b t l = absurd (omega arith)
-items_read n f (suc k) b [] l = (fault (unclosed n), end, tt)
+items_read n f (suc k) b [] l = (fault (class_not_closed n), end, tt)
 items_read n f (suc k) b (c ∷ t) l = one_more n f k (items_read n f k) b t (omega (arith, l, bytes_cons c t)) c
 
-class_reads : (n : ℕ) (f : Flags) (t : Text) → (o : Outcome) × Class n f false t o
+pub class_reads : (n : ℕ) (f : Flags) (t : Text) → (o : Outcome) × Class n f false t o
 class_reads n f t =
     let p = class_head [] t in
     let (o, h, less) = class_within n f false t p.0 p.1 refl (items_read n f (suc (bytes p.1)) false p.1 (omega arith)) in

@@ -1,5 +1,5 @@
 -- In a class an escape reads the same whatever follows it.
-use Rattle.std.proofs.Common.{◌≡◌, ◌≢◌, ℕ, zero, suc, ◌+◌, ◌*◌, ◌^◌, Bool, true, false, ◌&&◌, ◌==◌, nat_lt, if◌then◌else◌, is_some, not, nat_le, option_and_then, [], ◌∷◌, ◌++◌, Option, Some, None, option_map, refl, ap, sym, ◌∙◌, arith, subst, ◌⊎◌, inl, inr}
+use Rattle.std.proofs.Common.{◌≡◌, ◌≢◌, ℕ, zero, suc, ◌+◌, ◌*◌, Bool, true, false, ◌&&◌, ◌==◌, nat_lt, if◌then◌else◌, is_some, not, nat_le, option_and_then, [], ◌∷◌, ◌++◌, Option, Some, None, option_map, refl, ap, sym, ◌∙◌, arith, subst, ◌⊎◌, inl, inr}
 use Rattle.std.proofs.lemmas.Bool.{cases_eq}
 use Rattle.std.proofs.lemmas.Bool.Decides.{nat_tests}
 use Rattle.std.specs.Char.{digit_value, is_ascii_digit}
@@ -171,7 +171,7 @@ module _ (n m : ℕ) (x : Bool) (h : ℕ) (h' : Text → ℕ) where
       firm_from open_brace t _ _ other (behind_layout n m x t (digits n x h 8 false 0) (λ s v. digits m x (h' s) 8 false 0 v) (digits_firm 8 false 0))
 
 -- the same of what reads a value or nothing
-abbrev StaysSome : {A : Type 0} → Option (A × Text) → (Text → Option (A × Text)) → Type 0
+abbrev pub StaysSome : {A : Type 0} → Option (A × Text) → (Text → Option (A × Text)) → Type 0
 StaysSome (Some p) there = (s : Text) → there s ≡ Some (p.0, p.1 ++ s)
 StaysSome None there = Unit {0}
 
@@ -263,7 +263,7 @@ name_stays : (c : ℕ) (t : Text) → StaysSome (name_at (c ∷ t)) (λ s. name_
 unfolding name_at
 name_stays c t = some_if (c == open_brace) _ _ _ _ (some_map property_spec.braced _ _ (cut_stays close_brace t)) (λ s. refl)
 
-read_stays : (b : Bool) (c : ℕ) (t : Text) → StaysSome (read_property b (c ∷ t)) (λ s. read_property b (c ∷ (t ++ s)))
+pub read_stays : (b : Bool) (c : ℕ) (t : Text) → StaysSome (read_property b (c ∷ t)) (λ s. read_property b (c ∷ (t ++ s)))
 unfolding read_property
 read_stays b c t = some_map (λ (w : PropertyName). let p : Property = record { negated = b; name = w } in p) _ _ (name_stays c t)
 

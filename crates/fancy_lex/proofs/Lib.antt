@@ -1,5 +1,6 @@
 pub mod BoundaryLaws
 pub mod BoundaryLemmas
+pub mod BoundaryRelation
 pub mod ClassLaws
 pub mod ClassLemmas
 pub mod DelimitedLaws

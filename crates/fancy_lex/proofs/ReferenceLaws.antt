@@ -5,9 +5,9 @@ use Rattle.std.proofs.lemmas.Bool.{cond_both}
 use Prim.Native.Char.{code}
 use Rattle.fancy_lex.specs.Delimited.{name_before, marked_name, of_name}
 use Rattle.fancy_lex.specs.EscapeReference.{number_reading, group_number, numbered_reference, back_reference, written_call, marked_call, numbered_call, subroutine_call}
-use Rattle.fancy_lex.specs.Fault.{invalid_backref}
+use Rattle.fancy_lex.specs.FaultTable.{number_too_great}
 use Rattle.fancy_lex.specs.Number.{number, at_digit}
-use Rattle.fancy_lex.specs.Reading.{fault_at, choose}
+use Rattle.fancy_lex.specs.Reading.{fails, choose}
 use Rattle.fancy_lex.specs.Referred.{call_to, reference_to, name_reading, reference_by_name, written_reference}
 use Rattle.fancy_lex.specs.Target.{by_number}
 use Rattle.fancy_lex.specs.Text.{Text, place_of}
@@ -74,11 +74,11 @@ module _ (n : ℕ) where
   pub takes_number : (t : Text) → TakesOrFails n 1 t (group_number n t)
   unfolding group_number
   takes_number t = at (number t) refl where
-    fails_here : {A : Type 0} → TakesOrFails {A = A} n 1 t (fault_at (place_of n t) invalid_backref)
+    fails_here : {A : Type 0} → TakesOrFails {A = A} n 1 t (fails (number_too_great n t))
     fails_here = fault_within (place_within t)
 
     at : (o : Option (ℕ × Text)) → number t ≡ o →
-        TakesOrFails n 1 t (choose o (number_reading (place_of n t)) (fault_at (place_of n t) invalid_backref))
+        TakesOrFails n 1 t (choose o (number_reading (number_too_great n t)) (fails (number_too_great n t)))
     at None e = fails_here
     at (Some (k, u)) e =
         let starts = number_sound t u k e in

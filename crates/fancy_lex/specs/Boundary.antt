@@ -1,14 +1,15 @@
 -- Word boundaries behind `\b` and `\B`.
-use Rattle.std.specs.Prelude.{ℕ, zero, suc, Bool, false, ◌||◌, ◌==◌, if◌then◌else◌, [], ◌∷◌, ◌++◌, length, codes, Option, Some, None}
+use Rattle.std.specs.Prelude.{◌≡◌, ◌≢◌, ℕ, zero, suc, Bool, true, false, ◌||◌, ◌==◌, if◌then◌else◌, [], ◌∷◌, length, codes, Option, Some, None}
 use Rattle.std.specs.Str.{bytes_eq}
 use Rattle.std.specs.Char.{is_ascii_digit}
 use Rattle.fancy_lex.specs.declared.escape.Assertion.{Assertion}
 use Rattle.fancy_lex.specs.declared.escape.Assertion.TheVariants.{LeftWordBoundary, RightWordBoundary, LeftWordHalfBoundary, RightWordHalfBoundary, WordBoundary, NotWordBoundary}
 use Rattle.fancy_lex.specs.Characters.{open_brace, close_brace, comma}
 use Rattle.fancy_lex.specs.Escaped.{Escape, assertion}
-use Rattle.fancy_lex.specs.Fault.{invalid_escape}
-use Rattle.fancy_lex.specs.Layout.{layout}
-use Rattle.fancy_lex.specs.Reading.{Reading, gives, fault_at, ◌>=>◌, choose, layout_reading}
+use Rattle.fancy_lex.specs.Fault.{Fault}
+use Rattle.fancy_lex.specs.FaultTable.{comment_not_closed, boundary_not_closed, name_of_no_boundary}
+use Rattle.fancy_lex.specs.Layout.{layout, Before, Unclosed}
+use Rattle.fancy_lex.specs.Reading.{Reading, gives, fails, ◌>=>◌, choose, layout_reading}
 use Rattle.fancy_lex.specs.Text.{Text, strip}
 
 -- the names of `\b`; `\B`, which is negated, has none
@@ -25,10 +26,6 @@ boundary_of_name negated name =
 abbrev pub unnamed_boundary : Bool → Escape
 unnamed_boundary negated = assertion (if negated then NotWordBoundary else WordBoundary)
 
--- what stands before the name
-abbrev pub boundary_head : Bool → Text
-boundary_head negated = if negated then codes "\\B{" else codes "\\b{"
-
 -- behind a brace and layout, what begins the count of a repeat
 abbrev pub at_count : Text → Bool
 at_count [] = false
@@ -43,11 +40,11 @@ up_to_brace end closed more (c ∷ t) = if c == close_brace then closed t else m
 module _ (n : ℕ) (x : Bool) (p : ℕ) where
   -- the name up to the first closing brace outside layout, with layout taken out; k steps are left
   unfoldable pub name : ℕ → Text → Reading Text
-  name zero t = fault_at p (invalid_escape (codes "\\b{...}"))
+  name zero t = fails (boundary_not_closed p)
   name (suc k) t =
       layout_reading (layout n x t) >=> (λ _ u.
       up_to_brace
-      (fault_at p (invalid_escape (codes "\\b{...}")))
+      (fails (boundary_not_closed p))
       (gives [])
       (λ c v. name k v >=> (λ w v. gives (c ∷ w) v))
       u)
@@ -57,7 +54,7 @@ module _ (n : ℕ) (x : Bool) (p : ℕ) where
   named_boundary negated t =
       name (suc (length t)) t >=> (λ w v.
       choose (boundary_of_name negated w) (λ a. gives (assertion a) v)
-      (fault_at p (invalid_escape (boundary_head negated ++ (w ++ codes "}")))))
+      (fails (name_of_no_boundary p negated w)))
 
   -- behind the letter: where no braces belong to the boundary, it ends right there
   unfoldable pub boundary : Bool → Text → Reading Escape
@@ -67,3 +64,34 @@ module _ (n : ℕ) (x : Bool) (p : ℕ) where
       (λ inside. layout_reading (layout n x inside) >=> (λ _ v.
       if at_count v then gives (unnamed_boundary negated) t else named_boundary negated inside))
       (gives (unnamed_boundary negated) t))
+
+-- ---- the same as relations: what stands there, and what it comes to
+
+-- the name behind the opening brace: up to the first closing one outside layout, with layout taken out
+pub data BracedName (n : ℕ) (x : Bool) (p : ℕ) : Text → Reading Text → Type 0 where
+  close : {t v : Text} → Before x t (close_brace ∷ v) → BracedName n x p t (gives [] v)
+  character : {c : ℕ} {t u v w : Text} → c ≢ close_brace → Before x t (c ∷ u) → BracedName n x p u (gives w v) →
+      BracedName n x p t (gives (c ∷ w) v)
+  open_layout : {q : ℕ} {t : Text} → Unclosed n x t q → BracedName n x p t (fails (comment_not_closed q))
+  no_end : {t : Text} → Before x t [] → BracedName n x p t (fails (boundary_not_closed p))
+  fault_behind : {c : ℕ} {t u : Text} {e : Fault} → c ≢ close_brace → Before x t (c ∷ u) → BracedName n x p u (fails e) →
+      BracedName n x p t (fails e)
+
+-- a brace stands behind layout, with `u` behind it, where the count of a repeat does or does not begin behind layout
+abbrev pub Braces : Bool → Text → Text → Bool → Type 0
+Braces x t u counts = Before x t (open_brace ∷ u) × (v : Text) × Before x u v × (at_count v ≡ counts)
+
+-- a boundary behind its letter: braces belong to it where they do not begin the count of a repeat
+pub data Boundary (n : ℕ) (x : Bool) (p : ℕ) (negated : Bool) : Text → Reading Escape → Type 0 where
+  no_brace : {t u : Text} → Before x t u → strip open_brace u ≡ None →
+      Boundary n x p negated t (gives (unnamed_boundary negated) t)
+  count : {t u : Text} → Braces x t u true → Boundary n x p negated t (gives (unnamed_boundary negated) t)
+  known : {t u v w : Text} {a : Assertion} → Braces x t u false → BracedName n x p u (gives w v) →
+      boundary_of_name negated w ≡ Some a → Boundary n x p negated t (gives (assertion a) v)
+  unknown : {t u v w : Text} → Braces x t u false → BracedName n x p u (gives w v) → boundary_of_name negated w ≡ None →
+      Boundary n x p negated t (fails (name_of_no_boundary p negated w))
+  name_fault : {t u : Text} {e : Fault} → Braces x t u false → BracedName n x p u (fails e) →
+      Boundary n x p negated t (fails e)
+  open_before : {q : ℕ} {t : Text} → Unclosed n x t q → Boundary n x p negated t (fails (comment_not_closed q))
+  open_inside : {q : ℕ} {t u : Text} → Before x t (open_brace ∷ u) → Unclosed n x u q →
+      Boundary n x p negated t (fails (comment_not_closed q))

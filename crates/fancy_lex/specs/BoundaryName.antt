@@ -2,10 +2,11 @@
 use Rattle.std.specs.Prelude.{ℕ, suc, Bool, [], ◌∷◌, ◌++◌, length, codes, Option, Some, option_map, option_and_then}
 use Rattle.fancy_lex.specs.declared.escape.Assertion.{Assertion}
 use Rattle.fancy_lex.specs.declared.escape.Assertion.TheVariants.{LeftWordBoundary, RightWordBoundary, LeftWordHalfBoundary, RightWordHalfBoundary}
-use Rattle.fancy_lex.specs.Boundary.{name, boundary_head}
+use Rattle.fancy_lex.specs.Boundary.{name}
 use Rattle.fancy_lex.specs.Characters.{close_brace}
 use Rattle.fancy_lex.specs.Escaped.{Escape}
 use Rattle.fancy_lex.specs.Fault.{invalid_escape}
+use Rattle.fancy_lex.specs.FaultTable.{boundary_head}
 use Rattle.fancy_lex.specs.Layout.{layout, rest_of}
 use Rattle.fancy_lex.specs.Reading.{Reading, fault_at, ◌>=>◌, choose}
 use Rattle.fancy_lex.specs.Text.{Text, strip}

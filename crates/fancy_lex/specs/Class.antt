@@ -4,9 +4,10 @@ use Prim.Native.Char.{code}
 use Rattle.fancy_lex.specs.Characters.{backslash, caret, open_bracket, close_bracket, ◌∈◌}
 use Rattle.fancy_lex.specs.Escape.{escape}
 use Rattle.fancy_lex.specs.Escaped.{Escape, literal, literal_bytes, delegate}
-use Rattle.fancy_lex.specs.Fault.{Fault, invalid_class, kind_of}
+use Rattle.fancy_lex.specs.Fault.{Fault, kind_of}
+use Rattle.fancy_lex.specs.FaultTable.{class_not_closed}
 use Rattle.fancy_lex.specs.Property.{is_negated_set}
-use Rattle.fancy_lex.specs.Reading.{Reading, gives, fails, fault_at, choose, ◌>=>◌}
+use Rattle.fancy_lex.specs.Reading.{Reading, gives, fails, choose, ◌>=>◌}
 use Rattle.fancy_lex.specs.Text.{Text, bytes, place_of, strip}
 use Rattle.fancy_lex.specs.declared.error.Error.{Error}
 use Rattle.fancy_lex.specs.declared.error.Error.TheVariants.{ParseError, OutOfMemory}
@@ -62,8 +63,8 @@ module _ (n : ℕ) (f : Flags) where
   -- What is left of a class, `depth` classes inside the first, behind what is written so far. The first number is how
   -- many steps are left, and `seen` says whether a negated set is written already.
   unfoldable pub items : ℕ → ℕ → Bool → Text → Text → Reading Text
-  items zero depth seen out t = fault_at n invalid_class
-  items (suc k) depth seen out [] = fault_at n invalid_class
+  items zero depth seen out t = fails (class_not_closed n)
+  items (suc k) depth seen out [] = fails (class_not_closed n)
   items (suc k) depth seen out (c ∷ t) =
       if c == backslash then
       escape n f true (place_of n (c ∷ t)) t >=> (λ e u.
@@ -85,10 +86,6 @@ pub data Outcome : Type 0 where
 -- a plain character
 abbrev pub is_plain : ℕ → Bool
 is_plain c = not (c ∈ "\\[]")
-
--- the fault of a class that does not end in a pattern of n bytes
-abbrev pub unclosed : ℕ → Fault
-unclosed n = record { place = n; kind = invalid_class }
 
 mutual
   -- a class behind its bracket; the flag says whether a negated set was written before it
@@ -112,7 +109,7 @@ mutual
     nested : {n : ℕ} {f : Flags} {b m a : Bool} {t u v x w : Text} → Class n f b t (written x m u) →
         Items n f m u (written w a v) → Items n f b (open_bracket ∷ t) (written (x ++ w) a v)
     -- the end of the text
-    end : {n : ℕ} {f : Flags} {b : Bool} → Items n f b [] (fault (unclosed n))
+    end : {n : ℕ} {f : Flags} {b : Bool} → Items n f b [] (fault (class_not_closed n))
     plain_fault : {n c : ℕ} {f : Flags} {b : Bool} {t : Text} {e : Fault} → is_plain c ≡ true →
         Items n f b t (fault e) → Items n f b (c ∷ t) (fault e)
     escape_fault : {n : ℕ} {f : Flags} {b : Bool} {t : Text} {e : Fault} →

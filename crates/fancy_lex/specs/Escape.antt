@@ -8,16 +8,16 @@ use Rattle.fancy_lex.specs.Boundary.{boundary}
 use Rattle.fancy_lex.specs.Characters.{backslash, ◌∈◌}
 use Rattle.fancy_lex.specs.EscapeReference as reference
 use Rattle.fancy_lex.specs.Escaped.{hex_class, negated_hex_class, Escape, literal, any, assertion, general_newline, keep_out, continue_from_previous_match_end, delegate, backref, subroutine_call}
-use Rattle.fancy_lex.specs.Fault.{trailing_backslash, invalid_escape, invalid_class, unclosed_unicode_name}
+use Rattle.fancy_lex.specs.FaultTable.{backslash_at_end, letter_of_no_escape, number_in_class, property_not_closed}
 use Rattle.fancy_lex.specs.Hex.{hex}
 use Rattle.fancy_lex.specs.Property.{read_property, property_text}
-use Rattle.fancy_lex.specs.Reading.{Reading, gives, fault_at, ◌>=>◌, choose}
+use Rattle.fancy_lex.specs.Reading.{Reading, gives, fails, ◌>=>◌, choose}
 use Rattle.fancy_lex.specs.Referred.{Reference}
 use Rattle.fancy_lex.specs.Text.{Text}
 
 -- the fault of a letter that is no escape; in all that follows the backslash stands at the place p
 abbrev pub unknown_escape : ℕ → ℕ → Reading Escape
-unknown_escape p c = fault_at p (invalid_escape (backslash ∷ c ∷ []))
+unknown_escape p c = fails (letter_of_no_escape p c)
 
 -- the leaf of a back reference
 abbrev pub referring : Flags → Reading Reference → Reading Escape
@@ -26,7 +26,7 @@ referring f o = o >=> (λ r u. gives (backref r f.casei) u)
 -- digits are a back reference, which no class holds; the pattern has n bytes
 unfoldable pub numbered : ℕ → Flags → Bool → ℕ → Text → Reading Escape
 numbered n f inside p t =
-    if inside then reference.group_number n t >=> (λ k u. fault_at p invalid_class)
+    if inside then reference.group_number n t >=> (λ k u. fails (number_in_class p))
     else referring f (reference.numbered_reference n t)
 
 -- a call behind its letter
@@ -40,7 +40,7 @@ property f inside p c [] = unknown_escape p c
 property f inside p c (d ∷ t) =
     choose (read_property (c ∈ "P") (d ∷ t))
     (λ q. gives (delegate (property_text f.unicode inside q.0) f.casei) q.1)
-    (fault_at p unclosed_unicode_name)
+    (fails (property_not_closed p))
 
 -- outside a class only
 unfoldable pub outside : ℕ → Flags → ℕ → ℕ → Text → Reading Escape
@@ -74,7 +74,7 @@ is_itself inside c = not (is_ascii_alphanumeric c) && (inside || not (c ∈ "<>"
 
 -- what stands behind the backslash of a pattern of n bytes, in a class or outside
 unfoldable pub escape : ℕ → Flags → Bool → ℕ → Text → Reading Escape
-escape n f inside p [] = fault_at p trailing_backslash
+escape n f inside p [] = fails (backslash_at_end p)
 escape n f inside p (c ∷ t) =
     if is_ascii_digit c then numbered n f inside p (c ∷ t)
     else if c ∈ "dDsSwW" then gives (delegate (backslash ∷ c ∷ []) f.casei) t

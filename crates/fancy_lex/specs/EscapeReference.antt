@@ -3,22 +3,23 @@ use Rattle.std.specs.Prelude.{ℕ, ◌^◌, Bool, true, false, ◌&&◌, ◌||�
 use Rattle.std.specs.Option.{option_and_then}
 use Rattle.fancy_lex.specs.Characters.{◌∈◌}
 use Rattle.fancy_lex.specs.Delimited.{marked_name, of_name}
-use Rattle.fancy_lex.specs.Fault.{invalid_backref}
+use Rattle.fancy_lex.specs.Fault.{Fault}
+use Rattle.fancy_lex.specs.FaultTable.{number_too_great}
 use Rattle.fancy_lex.specs.IdReference.{IdReference, amount_alone, id_reference}
 use Rattle.fancy_lex.specs.Number.{at_digit, number}
 use Rattle.fancy_lex.specs.NumberText.{is_nothing, number_text}
-use Rattle.fancy_lex.specs.Reading.{Reading, gives, fault_at, ◌>=>◌, choose}
+use Rattle.fancy_lex.specs.Reading.{Reading, gives, fails, ◌>=>◌, choose}
 use Rattle.fancy_lex.specs.Referred.{Reference, Call, call_to, reference_to, target_of_name, name_reading, reference_by_name}
 use Rattle.fancy_lex.specs.Target.{Target, by_number, relative}
 use Rattle.fancy_lex.specs.Text.{Text, place_of}
 
--- a number that a word holds, or else the fault of the digits at the place p
-abbrev pub number_reading : ℕ → ℕ × Text → Reading ℕ
-number_reading p q = if nat_lt q.0 (2 ^ 64) then gives q.0 q.1 else fault_at p invalid_backref
+-- a number that a word holds, or else the fault
+abbrev pub number_reading : Fault → ℕ × Text → Reading ℕ
+number_reading e q = if nat_lt q.0 (2 ^ 64) then gives q.0 q.1 else fails e
 
 -- all the digits at the front, which number a group
 unfoldable pub group_number : ℕ → Text → Reading ℕ
-group_number n t = choose (number t) (number_reading (place_of n t)) (fault_at (place_of n t) invalid_backref)
+group_number n t = choose (number t) (number_reading (number_too_great n t)) (fails (number_too_great n t))
 
 -- a back reference in digits, in a pattern of n bytes
 unfoldable pub numbered_reference : ℕ → Text → Reading Reference

@@ -4,9 +4,9 @@ use Rattle.std.specs.Char.{digit_value}
 use Rattle.fancy_lex.specs.declared.flags.Flags.{Flags}
 use Rattle.fancy_lex.specs.Characters.{open_brace, close_brace}
 use Rattle.fancy_lex.specs.Escaped.{Escape, literal, literal_bytes}
-use Rattle.fancy_lex.specs.Fault.{invalid_hex, invalid_codepoint_value}
+use Rattle.fancy_lex.specs.FaultTable.{code_not_read, code_of_no_character}
 use Rattle.fancy_lex.specs.Layout.{layout}
-use Rattle.fancy_lex.specs.Reading.{Reading, gives, fault_at, ◌>=>◌, choose, layout_reading}
+use Rattle.fancy_lex.specs.Reading.{Reading, gives, fails, ◌>=>◌, choose, layout_reading}
 use Rattle.fancy_lex.specs.Text.{Text, strip, place_of}
 
 -- the value of the digit at the front, in either case, and what is left
@@ -22,7 +22,7 @@ fixed_digits (suc k) v t = option_and_then (λ p. fixed_digits k (v * 16 + p.0) 
 -- the closing brace, where a digit stands before it
 abbrev pub closing_brace : ℕ → Bool → ℕ → Option Text → Reading ℕ
 closing_brace h true v (Some t) = gives v t
-closing_brace h _ _ _ = fault_at h invalid_hex
+closing_brace h _ _ _ = fails (code_not_read h)
 
 -- a character has this code: it is no surrogate, and not too great
 abbrev pub is_scalar : ℕ → Bool
@@ -46,14 +46,14 @@ module _ (n : ℕ) (x : Bool) (h : ℕ) where
   unfoldable pub value : ℕ → Text → Reading ℕ
   value width t =
       choose (fixed_digits width 0 t) (λ p. gives p.0 p.1)
-      (choose (strip open_brace t) braced_value (fault_at h invalid_hex))
+      (choose (strip open_brace t) braced_value (fails (code_not_read h)))
 
 -- what the value v stands for behind `\x`, where the width is 2, and behind the others
 unfoldable pub leaf_of_value : Flags → ℕ → ℕ → ℕ → Text → Reading Escape
 leaf_of_value f width h v t =
     if width == 2 && not f.unicode && nat_le 0x80 v && nat_le v 0xFF then gives (literal_bytes v) t
     else if is_scalar v then gives (literal v f.casei) t
-    else fault_at h invalid_codepoint_value
+    else fails (code_of_no_character h)
 
 -- behind the letter
 unfoldable pub hex : ℕ → Flags → ℕ → Text → Reading Escape

@@ -1,8 +1,9 @@
 -- Layout: comments, and under IGNORE_SPACE blanks and line comments.
-use Rattle.std.specs.Prelude.{◌≡◌, ◌≢◌, ℕ, ◌+◌, Bool, true, ◌&&◌, ◌||◌, ◌==◌, if◌then◌else◌, List, [], ◌∷◌, ◌++◌, ◌⊎◌, option_and_then, Option, Some, None, is_some, Result, Ok, Err, chars, codes}
+use Rattle.std.specs.Prelude.{◌≡◌, ◌≢◌, ℕ, Bool, true, ◌&&◌, ◌||◌, ◌==◌, if◌then◌else◌, List, [], ◌∷◌, ◌++◌, ◌⊎◌, option_and_then, Option, Some, None, is_some, Result, Ok, Err, chars, codes}
 use Rattle.std.specs.Borrow.{Bor}
 use Prim.Native.Char.{code}
 use Rattle.fancy_lex.specs.Characters.{line_feed, hash, open_paren, close_paren, question_mark, backslash}
+use Rattle.fancy_lex.specs.FaultTable.{end_in_comment, end_behind_backslash}
 use Rattle.fancy_lex.specs.Text.{Text, strip}
 
 -- a space, CR, LF or TAB
@@ -63,8 +64,8 @@ pub record Before (x : Bool) (t v : Text) : Type 0 where
 
 -- a comment's inside that does not end: all of the text, or all but an unpaired backslash
 pub data Open : ℕ → Text → ℕ → Type 0 where
-  at_end : {n : ℕ} {t : Text} → Inside t → Open n t n
-  after_backslash : {n p : ℕ} {t : Text} (i : Text) → t ≡ i ++ (backslash ∷ []) → p ≡ n + 1 → Inside i → Open n t p
+  at_end : {n : ℕ} {t : Text} → Inside t → Open n t (end_in_comment n)
+  after_backslash : {n p : ℕ} {t : Text} (i : Text) → t ≡ i ++ (backslash ∷ []) → p ≡ end_behind_backslash n → Inside i → Open n t p
 
 -- in a text of n bytes that ends with `t`, the layout at `t` holds an unclosed comment, with its fault at p
 pub record Unclosed (n : ℕ) (x : Bool) (t : Text) (p : ℕ) : Type 0 where
@@ -114,12 +115,12 @@ layout_from n x two [] = rest []
 layout_from n x two (c ∷ t) = layout_from n x one t
 layout_from n x one [] = rest []
 layout_from n x one (c ∷ t) = layout_from n x comment t
-layout_from n x comment [] = fault n
+layout_from n x comment [] = fault (end_in_comment n)
 layout_from n x comment (c ∷ t) =
     if c == close_paren then layout_from n x between t
     else if c == backslash then layout_from n x escaped t
     else layout_from n x comment t
-layout_from n x escaped [] = fault (n + 1)
+layout_from n x escaped [] = fault (end_behind_backslash n)
 layout_from n x escaped (c ∷ t) = layout_from n x comment t
 layout_from n x line [] = rest []
 layout_from n x line (c ∷ t) = if c == line_feed then layout_from n x between t else layout_from n x line t

@@ -8,6 +8,7 @@ pub mod Escape
 pub mod EscapeReference
 pub mod Escaped
 pub mod Fault
+pub mod FaultTable
 pub mod Flags
 pub mod Hex
 pub mod Id

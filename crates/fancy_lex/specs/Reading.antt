@@ -2,7 +2,8 @@
 use Rattle.std.specs.Prelude.{◌≡◌, ℕ, List, chars, Option, Some, None, Result, MatchResult, ⊤}
 use Rattle.std.specs.Borrow.{Bor}
 use Rattle.fancy_lex.specs.Text.{Text}
-use Rattle.fancy_lex.specs.Fault.{Fault, Kind, unclosed_open_paren, kind_of}
+use Rattle.fancy_lex.specs.Fault.{Fault, Kind, kind_of}
+use Rattle.fancy_lex.specs.FaultTable.{comment_not_closed}
 use Rattle.fancy_lex.specs.Layout.{Skipped, rest, fault}
 use Rattle.fancy_lex.specs.declared.error.Error.{Error}
 use Rattle.fancy_lex.specs.declared.error.Error.TheVariants.{ParseError, OutOfMemory}
@@ -27,10 +28,14 @@ abbrev pub choose : {A B : Type 0} → Option A → (A → B) → B → B
 choose (Some a) f b = f a
 choose None f b = b
 
+-- what was read and what follows it, or else the fault
+abbrev pub read_or : {A : Type 0} → Fault → Option (A × Text) → Reading A
+read_or e o = choose o (λ q. gives q.0 q.1) (fails e)
+
 -- an unclosed comment in layout is a fault of the pattern
 abbrev pub layout_reading : Skipped → Reading (Unit {0})
 layout_reading (rest t) = gives tt t
-layout_reading (fault p) = fault_at p unclosed_open_paren
+layout_reading (fault p) = fails (comment_not_closed p)
 
 -- the error says the reading's fault
 abbrev pub Says : {A : Type 0} → Error → Reading A → Type 0
@@ -53,3 +58,12 @@ Fails (ParseError p k) o = o ≡ fault_at p (kind_of k)
 -- the code's answer is the reading, with its value seen through f, unless memory ran out
 abbrev pub Gives : {A B : Type 0} → (A → B) → Result (A × Bor (List ℕ)) Error → Reading B → Type 0
 Gives f r o = MatchResult r (λ p. o ≡ gives (f p.0) (chars p.1.now)) (λ e. Fails e o)
+
+-- the relation gives the error's fault, or memory ran out
+abbrev pub DerivesFault : {B : Type 0} → Error → (Reading B → Type 0) → Type 0
+DerivesFault OutOfMemory R = ⊤
+DerivesFault (ParseError p k) R = R (fault_at p (kind_of k))
+
+-- the relation gives the code's answer, with its value seen through f, unless memory ran out
+abbrev pub Derives : {A B : Type 0} → (A → B) → Result (A × Bor (List ℕ)) Error → (Reading B → Type 0) → Type 0
+Derives f r R = MatchResult r (λ p. R (gives (f p.0) (chars p.1.now))) (λ e. DerivesFault e R)

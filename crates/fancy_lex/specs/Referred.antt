@@ -2,10 +2,10 @@
 use Rattle.std.specs.Prelude.{ℕ, ℤ, Bool, List, Option, Some, None, option_map, chars}
 use Rattle.std.specs.Borrow.{Bor}
 use Rattle.fancy_lex.specs.Delimited.{of_name}
-use Rattle.fancy_lex.specs.Fault.{invalid_group_name}
+use Rattle.fancy_lex.specs.FaultTable.{reference_not_read}
 use Rattle.fancy_lex.specs.IdReference.{IdReference, id_alone, id_and_amount, amount_alone, id_reference}
 use Rattle.fancy_lex.specs.NumberText.{number_text}
-use Rattle.fancy_lex.specs.Reading.{Reading, gives, fault_at, choose}
+use Rattle.fancy_lex.specs.Reading.{Reading, read_or}
 use Rattle.fancy_lex.specs.Target.{Target, by_number, by_name, relative}
 use Rattle.fancy_lex.specs.Text.{Text}
 use Rattle.fancy_lex.specs.declared.target.Target as declared_target
@@ -71,7 +71,7 @@ written_reference p amounts w = option_map (reference_of p) (id_reference amount
 
 -- what was read, or else the fault of the reference at the place p
 abbrev pub name_reading : {A : Type 0} → ℕ → Option (A × Text) → Reading A
-name_reading p o = choose o (λ q. gives q.0 q.1) (fault_at p invalid_group_name)
+name_reading p o = read_or (reference_not_read p) o
 
 -- the reference at the place p that the name found there writes
 unfoldable pub reference_by_name : ℕ → Bool → Option (Text × Text) → Reading Reference

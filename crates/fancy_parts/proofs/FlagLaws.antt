@@ -2,9 +2,9 @@
 use Rattle.std.proofs.Common.{ℕ, zero, suc, ◌+◌, Bool, false, [], ◌∷◌, Option, Some, None, arith}
 use Rattle.fancy_lex.proofs.EscapeLaws.{leaves_layout}
 use Rattle.fancy_lex.proofs.LeaveLaws.{ends_whole, Leaves, leaves, whole_next, leaves_none, leaves_if, leaves_both}
-use Rattle.fancy_lex.specs.Fault.{changing_unicode_mode_unsupported}
-use Rattle.fancy_lex.specs.Reading.{Reading, fault_at}
-use Rattle.fancy_lex.specs.Text.{Text, bytes, place_of}
+use Rattle.fancy_lex.specs.FaultTable.{mode_changed}
+use Rattle.fancy_lex.specs.Reading.{Reading, fails}
+use Rattle.fancy_lex.specs.Text.{Text, bytes}
 use Rattle.fancy_lex.specs.declared.flags.Flags.{Flags}
 use Rattle.fancy_parts.specs.FlagLetters.{Letters, Step, ends, goes, step, unknown_letter, goes_on, behind_step, letters_in, letters}
 
@@ -16,7 +16,7 @@ module _ (n : ℕ) (t : Text) where
   leaves_goes_on clears c u (Some f) = whole_next u
   leaves_goes_on clears c u None = leaves_unknown u (c ∷ u)
 
-  leaves_changing : (c : ℕ) (u : Text) → Leaves {A = Step} (n + 1) (c ∷ u) (fault_at (place_of n (c ∷ u)) changing_unicode_mode_unsupported)
+  leaves_changing : (c : ℕ) (u : Text) → Leaves {A = Step} (n + 1) (c ∷ u) (fails (mode_changed n (c ∷ u)))
   leaves_changing c u = leaves_none (omega arith)
 
   leaves_step : (clears : Bool) (f : Flags) (u : Text) → Leaves (n + 1) u (step n t clears f u)

@@ -1,6 +1,7 @@
 pub mod FlagLaws
 pub mod FlagLemmas
 pub mod HeadLaws
+pub mod LetterRelation
 pub mod NameLemmas
 pub mod NamedLaws
 pub mod QuoteLemmas

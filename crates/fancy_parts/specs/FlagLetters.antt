@@ -1,11 +1,13 @@
 -- The letters behind the `(?` of a flag group.
-use Rattle.std.specs.Prelude.{ℕ, zero, suc, ◌+◌, ◌-◌, ◌==◌, ◌&&◌, ◌||◌, Bool, true, false, not, [], ◌∷◌, ◌++◌, codes, length, take, Option, Some, None, if◌then◌else◌}
+use Rattle.std.specs.Prelude.{◌≡◌, ◌≢◌, ◌⊎◌, ℕ, zero, suc, ◌+◌, ◌-◌, ◌==◌, ◌&&◌, ◌||◌, Bool, true, false, not, [], ◌∷◌, ◌++◌, codes, length, take, Option, Some, None, if◌then◌else◌}
 use Rattle.std.proofs.Math.Bool.{beq}
 use Prim.Native.Char.{code}
-use Rattle.fancy_lex.specs.Fault.{unclosed_open_paren, unknown_flag, changing_unicode_mode_unsupported}
-use Rattle.fancy_lex.specs.Layout.{layout}
-use Rattle.fancy_lex.specs.Reading.{Reading, gives, fault_at, ◌>=>◌, layout_reading}
-use Rattle.fancy_lex.specs.Text.{Text, bytes, place_of}
+use Rattle.fancy_lex.specs.Characters.{◌∈◌}
+use Rattle.fancy_lex.specs.Fault.{Fault}
+use Rattle.fancy_lex.specs.FaultTable.{comment_not_closed, group_not_closed, no_flag_letter, mode_changed}
+use Rattle.fancy_lex.specs.Layout.{layout, Before, Unclosed}
+use Rattle.fancy_lex.specs.Reading.{Reading, gives, fails, ◌>=>◌, layout_reading}
+use Rattle.fancy_lex.specs.Text.{Text, bytes}
 use Rattle.fancy_lex.specs.declared.flags.Flags.{Flags}
 
 -- what the letters come to
@@ -29,9 +31,9 @@ pub data Step : Type 0 where
   ends : Letters → Step
   goes : Bool → Flags → Step  -- whether letters clear their flags from there on
 
--- the text of an unknown flag: `(?` and the letters `t` through the one before `u`
-abbrev pub flag_text : Text → Text → Text
-flag_text t u = codes "(?" ++ take (length t - length u) t
+-- of the letters `t` what stands before `u`
+abbrev pub before : Text → Text → Text
+before t u = take (length t - length u) t
 
 -- of the letters `t` nothing was read before `u`
 abbrev pub is_first : Text → Text → Bool
@@ -50,7 +52,7 @@ behind_step more (goes clears f) u = more clears f u
 module _ (n : ℕ) (t : Text) where
   -- the fault of the character before `u`
   abbrev pub unknown_letter : Text → Reading Step
-  unknown_letter u = fault_at (place_of n t) (unknown_flag (flag_text t u))
+  unknown_letter u = fails (no_flag_letter n t (before t u))
 
   -- the letters go on under these flags, if the letter before `u` names one
   abbrev pub goes_on : Bool → Text → Option Flags → Reading Step
@@ -59,7 +61,7 @@ module _ (n : ℕ) (t : Text) where
 
   -- the letter at the front of the text
   abbrev pub step : Bool → Flags → Text → Reading Step
-  step clears f [] = fault_at n unclosed_open_paren
+  step clears f [] = fails (group_not_closed n)
   step clears f (c ∷ u) =
       if c == code ")" then (
       if is_first t (c ∷ u) || is_behind_minus t clears (c ∷ u) then unknown_letter u else gives (ends (setting f)) u)
@@ -69,16 +71,62 @@ module _ (n : ℕ) (t : Text) where
       if clears then unknown_letter u else gives (goes true f) u)
       -- the Unicode mode may be said again, and not changed
       else if c == code "u" then (
-      if beq clears f.unicode then fault_at (place_of n (c ∷ u)) changing_unicode_mode_unsupported
+      if beq clears f.unicode then fails (mode_changed n (c ∷ u))
       else gives (goes clears f) u)
       else goes_on clears u (with_letter f (not clears) c)
 
   -- at most k letters, each with layout before it
   unfoldable pub letters_in : ℕ → Bool → Flags → Text → Reading Letters
-  letters_in zero clears f u = fault_at n unclosed_open_paren
+  letters_in zero clears f u = fails (group_not_closed n)
   letters_in (suc k) clears f u =
       layout_reading (layout n f.ignore_space u) >=> (λ _ v. step clears f v >=> behind_step (letters_in k))
 
 -- the letters of a flag group, whose text begins behind the `(?`
 unfoldable pub letters : ℕ → Flags → Text → Reading Letters
 letters n f t = letters_in n t (suc (bytes t)) false f t
+
+-- ---- the same as a relation: what stands there, and what it comes to
+
+-- the character is no letter of flags, where `w` was read before it, and `clears` says whether a minus was
+pub data NoLetter (w : Text) (clears : Bool) (f : Flags) (c : ℕ) : Type 0 where
+  nothing_closed : c ≡ code ")" → (w ≡ []) ⊎ (w ≡ codes "-") → NoLetter w clears f c
+  nothing_scoped : c ≡ code ":" → w ≡ codes "-" → NoLetter w clears f c
+  second_minus : c ≡ code "-" → clears ≡ true → NoLetter w clears f c
+  no_flag : (c ∈ ")-:u") ≡ false → with_letter f (not clears) c ≡ None → NoLetter w clears f c
+
+-- the letters `t` of a pattern of n bytes
+module _ (n : ℕ) (t : Text) where
+  -- one letter, mark or fault, before `u`
+  pub data Letter (w : Text) (clears : Bool) (f : Flags) (c : ℕ) (u : Text) : Reading Step → Type 0 where
+    flag : {g : Flags} → with_letter f (not clears) c ≡ Some g → Letter w clears f c u (gives (goes clears g) u)
+    same_mode : c ≡ code "u" → f.unicode ≡ not clears → Letter w clears f c u (gives (goes clears f) u)
+    minus : c ≡ code "-" → clears ≡ false → Letter w clears f c u (gives (goes true f) u)
+    parenthesis : c ≡ code ")" → w ≢ [] → w ≢ codes "-" → Letter w clears f c u (gives (ends (setting f)) u)
+    colon : c ≡ code ":" → w ≢ codes "-" → Letter w clears f c u (gives (ends (scope f)) u)
+    no_letter : NoLetter w clears f c → Letter w clears f c u (fails (no_flag_letter n t (w ++ c ∷ [])))
+    other_mode : c ≡ code "u" → f.unicode ≡ clears → Letter w clears f c u (fails (mode_changed n (c ∷ u)))
+
+  -- layout, and behind it one letter, mark or fault, before `v`; `w` is what was read of the letters before it
+  pub record Next (clears : Bool) (f : Flags) (u v : Text) (q : Reading Step) : Type 0 where
+    pub c : ℕ
+    pub w : Text
+    pub layout : Before f.ignore_space u (c ∷ v)
+    pub read : t ≡ w ++ (c ∷ v)
+    pub letter : Letter w clears f c v q
+
+  -- what is left of the letters under these flags, where `clears` says whether a minus was read
+  pub data LettersFrom : Bool → Flags → Text → Reading Letters → Type 0 where
+    last : {clears : Bool} {f : Flags} {u v : Text} {l : Letters} → Next clears f u v (gives (ends l) v) →
+        LettersFrom clears f u (gives l v)
+    more : {clears b : Bool} {f g : Flags} {u v : Text} {o : Reading Letters} → Next clears f u v (gives (goes b g) v) →
+        LettersFrom b g v o → LettersFrom clears f u o
+    letter_fault : {clears : Bool} {f : Flags} {u v : Text} {e : Fault} → Next clears f u v (fails e) →
+        LettersFrom clears f u (fails e)
+    text_end : {clears : Bool} {f : Flags} {u : Text} → Before f.ignore_space u [] →
+        LettersFrom clears f u (fails (group_not_closed n))
+    open_layout : {clears : Bool} {f : Flags} {u : Text} {q : ℕ} → Unclosed n f.ignore_space u q →
+        LettersFrom clears f u (fails (comment_not_closed q))
+
+-- the letters of a flag group, from behind the `(?`
+abbrev pub FlagGroup : ℕ → Flags → Text → Reading Letters → Type 0
+FlagGroup n f t o = LettersFrom n t false f t o

@@ -1,11 +1,11 @@
 -- The name of a group, behind the question mark of its head.
-use Rattle.std.specs.Prelude.{ℕ, ◌-◌, ◌==◌, if◌then◌else◌, [], ◌∷◌, Option, None}
+use Rattle.std.specs.Prelude.{ℕ, ◌==◌, if◌then◌else◌, [], ◌∷◌, Option, None}
 use Rattle.std.specs.Option.{option_and_then}
 use Prim.Native.Char.{code}
 use Rattle.fancy_lex.specs.Delimited.{name_before, marked_name}
-use Rattle.fancy_lex.specs.Reading.{Reading}
-use Rattle.fancy_lex.specs.Referred.{name_reading}
-use Rattle.fancy_lex.specs.Text.{Text, strip, place_of}
+use Rattle.fancy_lex.specs.FaultTable.{group_not_named}
+use Rattle.fancy_lex.specs.Reading.{Reading, read_or}
+use Rattle.fancy_lex.specs.Text.{Text, strip}
 
 -- `<name>`, `'name'` or `P<name>`, and what follows
 unfoldable pub head_name : Text → Option (Text × Text)
@@ -13,6 +13,6 @@ head_name [] = None
 head_name (c ∷ t) =
     if c == code "P" then option_and_then (name_before (code ">")) (strip (code "<") t) else marked_name (c ∷ t)
 
--- the name of a group in a pattern of n bytes; its fault stands at the question mark, one byte before the text
+-- the name of a group in a pattern of n bytes
 unfoldable pub group_name : ℕ → Text → Reading Text
-group_name n t = name_reading (place_of n t - 1) (head_name t)
+group_name n t = read_or (group_not_named n t) (head_name t)

@@ -1,7 +1,8 @@
 -- What a reference means, by the groups that have a number.
 use Rattle.std.specs.Prelude.{ℕ, ◌+◌, ◌-◌, ℤ, pos, negsuc, nat_le, List, [], ◌∷◌, length, slice_get, Option, Some, None}
 use Rattle.std.specs.Prelude.{if◌then◌else◌}
-use Rattle.fancy_lex.specs.Fault.{Kind, Fault, invalid_backref, invalid_group_name_backref}
+use Rattle.fancy_lex.specs.Fault.{Kind, Fault}
+use Rattle.fancy_lex.specs.FaultTable.{name_of_later_group, no_such_group, of_reference}
 use Rattle.fancy_lex.specs.Target.{Target, by_number, by_name, relative}
 use Rattle.fancy_lex.specs.Text.{Text}
 use Rattle.fancy_parts.specs.Ranks.{Opening, opened_before, numbers}
@@ -27,7 +28,7 @@ pub data Meaning : Type 0 where
 -- where there is no such group, a call is left as it is, and the others are faults
 abbrev pub no_group : Role → Meaning
 no_group call = unresolved
-no_group _ = faulty invalid_backref
+no_group _ = faulty no_such_group
 
 -- the group, or none
 abbrev pub group_or_none : Role → Option ℕ → Meaning
@@ -36,8 +37,8 @@ group_or_none role (Some n) = number n
 
 -- a back reference behind the openings of c groups means one of these; before its group's opening it is a fault
 abbrev pub back_to : ℕ → Text → Option ℕ → Meaning
-back_to c name None = faulty invalid_backref
-back_to c name (Some n) = if nat_le n c then number n else faulty (invalid_group_name_backref name)
+back_to c name None = faulty no_such_group
+back_to c name (Some n) = if nat_le n c then number n else faulty (name_of_later_group name)
 
 -- the last of the numbers
 abbrev pub last_of : List ℕ → Option ℕ
@@ -71,7 +72,7 @@ meaning groups r = means (λ t. numbers t groups) (opened_before groups r.place)
 
 -- the fault of a meaning at the place, or else the other
 abbrev pub fault_or : Meaning → ℕ → Option Fault → Option Fault
-fault_or (faulty k) place other = Some (record { place = place; kind = k })
+fault_or (faulty k) place other = Some (of_reference place k)
 fault_or _ place other = other
 
 -- the first fault of the references

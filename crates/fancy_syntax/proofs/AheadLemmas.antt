@@ -3,8 +3,8 @@ use Rattle.std.proofs.Common.{◌≡◌, ◌≢◌, ℕ, ◌+◌, ◌-◌, ◌<�
 use Rattle.std.proofs.Math.Nat.{eq-or-lt_of_le}
 use Rattle.std.proofs.lemmas.Bool.Decides.{nat_tests}
 use Prim.Native.Char.{code}
-use Rattle.fancy_lex.specs.Characters.{◌∈◌}
-use Rattle.fancy_lex.specs.Fault.{target_not_repeatable, recursion_exceeded}
+use Rattle.fancy_lex.specs.Fault.{target_not_repeatable}
+use Rattle.fancy_lex.specs.FaultTable.{group_too_deep}
 use Rattle.fancy_lex.specs.Layout.{layout, layout_from, Skipped, rest, fault as open_comment}
 use Rattle.fancy_lex.specs.Reading.{Reading, gives, fails, choose}
 use Rattle.fancy_lex.specs.Referred.{Reference}
@@ -100,7 +100,7 @@ behind_there n s (rest u) = head_there n s u
 behind_there n s (open_comment p) = leaf_there _
 
 deep_there : (n d c : ℕ) (s : State) (t : Text) →
-    IsThere (if nat_le max_depth (d + 1) then faulty recursion_exceeded (place_of n (c ∷ t)) else behind_layout n s (skipped n (at s t)))
+    IsThere (if nat_le max_depth (d + 1) then faulty (group_too_deep n (c ∷ t)) else behind_layout n s (skipped n (at s t)))
 deep_there n d c s t = either_there (nat_le max_depth (d + 1)) (leaf_there _) (behind_there n s (skipped n (at s t)))
 
 before_nothing : (n d : ℕ) (s : State) (c : ℕ) (t : Text) → ahead_of n d s (c ∷ t) ≡ nothing → is_before_nothing c ≡ true

@@ -1,8 +1,8 @@
 -- What is true of every answered tree, by the nodes of the raw tree that it was resolved from.
-use Rattle.std.proofs.Common.{◌≡◌, ℕ, ℤ, suc, ◌+◌, ◌≤◌, Bool, true, false, ◌||◌, if◌then◌else◌, List, [], ◌∷◌, length, Option, Some, None, filter, filter_map, map, nat_le, nat_lt, refl, sym, ap, ◌∙◌, subst}
+use Rattle.std.proofs.Common.{◌≡◌, ℕ, ℤ, suc, ◌+◌, ◌≤◌, ◌==◌, Bool, true, false, ◌||◌, if◌then◌else◌, List, [], ◌∷◌, length, Option, Some, None, filter, filter_map, map, nat_le, nat_lt, refl, sym, ap, ◌∙◌, subst}
 use Rattle.std.specs.List.{AllByRecursion, list_any}
 use Rattle.std.proofs.lemmas.List.{length-map}
-use Rattle.std.specs.Prelude.{find}
+use Rattle.std.specs.Prelude.{find, slice_get}
 use Rattle.fancy_lex.specs.Fault.{Fault, invalid_group_name_backref}
 use Rattle.fancy_lex.specs.Target.{Target, by_number, by_name, relative}
 use Rattle.fancy_lex.specs.Text.{Text}
@@ -10,12 +10,15 @@ use Rattle.fancy_lex.specs.declared.flags.Flags.{Flags}
 use Rattle.fancy_parts.specs.Meaning.{Meaning, number, unresolved, faulty, means, meaning, back_to, last_of, group_or_none, at_distance, Role, back_reference, call, condition, Reference, fault_or, first_fault}
 use Rattle.fancy_parts.specs.Ranks.{Opening, is_counted, numbers, opened_before, only_named, counted_in, counted}
 use Rattle.fancy_syntax.specs.Answer.{IsTreeOf}
-use Rattle.fancy_syntax.specs.Answered.{IsAnsweredNode, IsAnswered, is_group, groups, is_call_node, has_call, group_referred, groups_referred}
+use Rattle.fancy_syntax.specs.Answered.{IsAnsweredNode, IsAnswered, AreNamed, is_group, groups, is_call_node, has_call, group_referred, groups_referred}
 use Rattle.fancy_syntax.specs.Items.{openings_in, references_in, openings, references}
 use Rattle.fancy_syntax.specs.Marks.{Marks, marks, is_call, back_number, back_numbers, ascending}
 use Rattle.fancy_syntax.specs.Preorder.{preorder}
 use Rattle.fancy_syntax.specs.Resolved.{resolved_in, resolved_all, node_of}
 use Rattle.fancy_syntax.specs.Tree.{Tree, Trees, no_trees, more_trees, literal, literal_bytes, alt, group, backref, backref_at_level, backref_exists, subroutine_call, ast_node, ast_group, ast_backref, ast_call, ast_condition, list_of}
+use Rattle.fancy_parts.specs.Groups.{numbers_under}
+use Rattle.fancy_parts.proofs.NamedLaws.{under_named}
+use Rattle.fancy_syntax.proofs.NamedNumbers.{named_ascend, carries, number_carried}
 use Rattle.fancy_syntax.proofs.PreorderLaws.{kept, resolved_nodes, item_of, items_of_nodes}
 use Rattle.fancy_syntax.proofs.ReadLaws.{IsReadNode, IsRead, derived_read}
 
@@ -349,6 +352,15 @@ module _ {f : Flags} {text : Text} {t : Tree} {m : Marks} (a : IsTreeOf f text t
       let groups_of = numbered_groups named numbered (preorder raw) in
       ap length groups_in_order ∙ length-map groups_of (λ q. group (resolved_in named numbered q.1))
       ∙ sym (length-map groups_of (λ q. q.0)) ∙ ap length openings_in_order ∙ ap (λ k. k.total_groups) (sym is_marks)
+
+  -- of each name they are the numbers, and of the groups that carry it
+  pub names_marked : AreNamed m.total_groups m.named_groups
+  names_marked = subst (λ k. AreNamed k.total_groups k.named_groups) (sym is_marks) (named_ascend numbered)
+
+  pub named_numbers : (w : Text) (k : ℕ) → list_any (λ j. j == suc k) (numbers_under m.named_groups w) ≡ carries w (slice_get numbered k)
+  named_numbers w k =
+      ap (λ q. list_any (λ j. j == suc k) (numbers_under q.named_groups w)) is_marks
+      ∙ ap (list_any (λ j. j == suc k)) (under_named numbered w) ∙ number_carried w k numbered
 
   -- a call is said where one stands
   pub calls_marked : has_call t ≡ m.contains_subroutines

@@ -4,6 +4,7 @@ pub mod AnsweredLaws
 pub mod BackslashLemmas
 mod BoundLaws
 pub mod ChildrenLemmas
+mod DelegateLemmas
 pub mod Descents
 mod FaultLemmas
 pub mod FoundLaws
@@ -11,6 +12,7 @@ pub mod ItemLemmas
 mod LevelLaws
 pub mod LoanLemmas
 mod MachineLemmas
+pub mod NamedNumbers
 pub mod NoteLaws
 pub mod OrderLaws
 mod OutcomeLemmas
@@ -20,6 +22,7 @@ mod PreorderLaws
 pub mod PrintLemmas
 pub mod PrintableLemmas
 mod QuantLemmas
+pub mod ReadBack
 mod ReadLaws
 pub mod ResolveLaws
 pub mod SameLemmas

@@ -1,18 +1,18 @@
 -- How each step of the loop keeps what stands on the stack.
-use Rattle.std.proofs.Common.{◌≡◌, ◌≢◌, ◌==◌, if◌then◌else◌, tests, rules, codes, ℕ, ◌+◌, Bool, true, false, true≢false, List, [], ◌∷◌, ◌++◌, length, Some, None, Result, Ok, Err, refl, sym, ap, ◌∙◌, subst, append-nil, arith}
+use Rattle.std.proofs.Common.{◌≡◌, ◌≢◌, ◌==◌, if◌then◌else◌, tests, rules, ℕ, ◌+◌, Bool, true, false, true≢false, List, [], ◌∷◌, ◌++◌, length, Some, None, Result, Ok, Err, refl, sym, ap, ◌∙◌, subst, append-nil, arith}
 use Rattle.std.proofs.lemmas.List.{length_push}
 use Prim.Native.Char.{code}
 use Rattle.fancy_lex.specs.Characters.{bar}
-use Rattle.fancy_lex.specs.Fault.{Kind, general_parse_error}
+use Rattle.fancy_lex.specs.Fault.{Kind}
+use Rattle.fancy_lex.specs.FaultTable.{bar_for_close_paren, body_wanting}
 use Rattle.fancy_lex.specs.Layout.{rest, fault as open_comment}
 use Rattle.fancy_lex.specs.Text.{Text, bytes, place_of, strip}
 use Rattle.fancy_lex.specs.declared.error.Error.{Error}
 use Rattle.fancy_lex.specs.declared.flags.Flags.{Flags}
 use Rattle.fancy_lex.specs.declared.error.Error.TheVariants.{ParseError}
 use Rattle.fancy_lex.specs.declared.error.ParseError.TheVariants.{UnclosedOpenParen}
-use Rattle.fancy_syntax.specs.Ahead.{ahead, ends, skipped}
-use Rattle.fancy_syntax.specs.Ahead as seen
-use Rattle.fancy_syntax.specs.Grammar.{Alternation, alternation, Branches, last, branch_fault, Branch, branch, stop, piece_fault, Piece, piece, layout_fault, Atom, atom, inside, the_body, condition_fault, two_branches, one_branch, absent_fault, closed, closed_at, group_behind, conditional_behind, conditional_of, branches_of, no_body}
+use Rattle.fancy_syntax.specs.Ahead.{ends, skipped}
+use Rattle.fancy_syntax.specs.Grammar.{Alternation, alternation, Branches, last, branch_fault, Branch, branch, stop, piece_fault, Piece, piece, layout_fault, Atom, atom, inside, the_body, condition_fault, two_branches, one_branch, absent_fault, closed, closed_at, group_behind, conditional_behind, conditional_of, branches_of}
 use Rattle.fancy_syntax.specs.Grammar as grammar
 use Rattle.fancy_syntax.specs.Join.{solid, one_or, choice}
 use Rattle.fancy_syntax.specs.Machine.{Open, top, group, condition, body, first, second, open_of, holds_one, is_second, opened_by_bar, branches_at_bar, IsFaultOfBar, Part, Opens, a_group, a_condition, a_body, behind_condition, a_branch, behind_branch, lacks_body, node_of_part, goes_on, behind_part, ended_part, StepsOn, GivesPiece, Reading, Levels, outermost, inner, before}
@@ -20,7 +20,7 @@ use Rattle.fancy_syntax.specs.Head.{Head, node_of}
 use Rattle.fancy_syntax.specs.Quantified.{quants}
 use Rattle.fancy_syntax.specs.Reads.{Fails}
 use Rattle.fancy_syntax.specs.Row.{trees}
-use Rattle.fancy_syntax.specs.State.{State, at, Outcome, done, fault, and_then}
+use Rattle.fancy_syntax.specs.State.{State, at, Outcome, done, fault, faulted, and_then}
 use Rattle.fancy_syntax.specs.Tree.{Tree, concat, absent, expression}
 use Rattle.fancy_syntax.specs.declared.grammar.frame.Frame.{Frame}
 use Rattle.fancy_syntax.specs.declared.grammar.step.Step.{Step}
@@ -63,8 +63,8 @@ closed_through : (n : ℕ) (f : Tree → Tree) (g : Tree → State → Outcome T
 closed_through n f g r s = by_text s.rest
   where
     by_test : (u : Text) (b : Bool) →
-        and_then (if b then done (f r) (at s u) else fault (general_parse_error (codes "expected close paren")) (place_of n s.rest)) g
-        ≡ and_then (if b then done r (at s u) else fault (general_parse_error (codes "expected close paren")) (place_of n s.rest)) (λ x t. g (f x) t)
+        and_then (if b then done (f r) (at s u) else faulted (bar_for_close_paren n s.rest)) g
+        ≡ and_then (if b then done r (at s u) else faulted (bar_for_close_paren n s.rest)) (λ x t. g (f x) t)
     by_test u true = refl
     by_test u false = refl
 
@@ -84,10 +84,10 @@ group_ends n h p f r s = sym (closed_through n (node_of h p) (behind_part (group
 body_ends : (n : ℕ) (c : Tree) (left : ℕ) (r : Tree) (s : State) → conditional_behind n c left r s ≡ ended_part n (body c left) r s
 body_ends n c left r s =
     let whole = conditional_of c (branches_of r).0 (branches_of r).1 in
-    ap (λ o. if lacks_body (body c left) s then fault (general_parse_error no_body) (place_of n s.rest) else o) (kept (closed n whole s))
+    ap (λ o. if lacks_body (body c left) s then faulted (body_wanting n s.rest) else o) (kept (closed n whole s))
 
 pub ended_without_body : (n : ℕ) (p : Open) (r : Tree) (s : State) → lacks_body p s ≡ true →
-    ended_part n p r s ≡ fault (general_parse_error no_body) (place_of n s.rest)
+    ended_part n p r s ≡ faulted (body_wanting n s.rest)
 ended_without_body n p r s e = rw e refl
 
 pub ended_unclosed : (n : ℕ) (p : Open) (r : Tree) (s : State) {k : Kind} {q : ℕ} → lacks_body p s ≡ false → closed n (node_of_part p r) s ≡ fault k q →
@@ -369,11 +369,11 @@ running_bar {n} {start} {t} {u} {stack} {f} g h e b x i j k = by_open (open_of f
 
 -- where another character than the closing parenthesis follows
 pub closed_other : (n : ℕ) (r : Tree) (t : State) (c : ℕ) (u : Text) → t.rest ≡ c ∷ u → c ≢ code ")" →
-    closed n r t ≡ fault (general_parse_error (codes "expected close paren")) (place_of n t.rest)
+    closed n r t ≡ faulted (bar_for_close_paren n t.rest)
 closed_other n r t c u e h = ap (closed_at n r t) e ∙ other (c == code ")") (search (tests, rules))
   where
-    other : (b : Bool) → b ≡ false → (if b then done r (at t u) else fault (general_parse_error (codes "expected close paren")) (place_of n t.rest))
-        ≡ fault (general_parse_error (codes "expected close paren")) (place_of n t.rest)
+    other : (b : Bool) → b ≡ false → (if b then done r (at t u) else faulted (bar_for_close_paren n t.rest))
+        ≡ faulted (bar_for_close_paren n t.rest)
     other true i = absurd (true≢false i)
     other false i = refl
 

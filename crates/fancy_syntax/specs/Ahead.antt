@@ -6,7 +6,8 @@ use Rattle.fancy_lex.specs.Class.{class}
 use Rattle.fancy_lex.specs.Escape.{escape}
 use Rattle.fancy_lex.specs.Escaped as escaped
 use Rattle.fancy_lex.specs.Escaped.{Escape}
-use Rattle.fancy_lex.specs.Fault.{Kind, recursion_exceeded, target_not_repeatable, unclosed_open_paren}
+use Rattle.fancy_lex.specs.Fault.{Fault}
+use Rattle.fancy_lex.specs.FaultTable.{comment_not_closed, group_too_deep, group_not_closed, unknown_verb}
 use Rattle.fancy_lex.specs.Layout.{layout, Skipped, rest, fault as open_comment}
 use Rattle.fancy_lex.specs.Reading.{Reading, gives, fails, choose}
 use Rattle.fancy_lex.specs.Referred.{Reference, Call}
@@ -18,7 +19,7 @@ use Rattle.fancy_parts.specs.FlagLetters.{Letters, letters, setting, scope as sc
 use Rattle.fancy_parts.specs.GroupName.{group_name}
 use Rattle.fancy_parts.specs.HeadReference.{named_reference, named_call, begins_target, condition_target}
 use Rattle.fancy_syntax.specs.Head.{Head, capture, scope, look, atomic, define, repeater}
-use Rattle.fancy_syntax.specs.State.{State, at, Outcome, done, fault}
+use Rattle.fancy_syntax.specs.State.{State, at, Outcome, done, faulted}
 use Rattle.fancy_syntax.specs.Tree.{Tree, empty, any, assertion, general_newline, literal, literal_bytes, delegate, keep_out, continue_from_previous_match_end, verb, ast_node, ast_backref, ast_call, ast_condition}
 use Rattle.fancy_syntax.specs.Verb.{verb_at}
 use Rattle.fancy_syntax.specs.declared.expr.LookAround.TheVariants.{LookAhead, LookAheadNeg, LookBehind, LookBehindNeg}
@@ -45,9 +46,9 @@ pub data Ahead : Type 0 where
   body : Tree → State → Ahead  -- a conditional whose condition is this tree; its body begins at the state
   absent_branch : State → Ahead  -- `(?~|` of an absent expression, stopper or clear; a branch begins at the state
 
--- the fault of a group
-abbrev pub faulty : Kind → ℕ → Ahead
-faulty k p = leaf (fault k p)
+-- a group with this fault
+abbrev pub faulty : Fault → Ahead
+faulty e = leaf (faulted e)
 
 -- the start of each line; in Oniguruma mode it has a variant of its own
 abbrev pub start_of_line : Flags → Assertion
@@ -87,7 +88,7 @@ leaf_node (escaped.subroutine_call c) = call_node c
 -- what a reader comes to, as the outcome of a leaf
 abbrev pub leaf_outcome : {A : Type 0} → (A → Tree) → State → Reading A → Outcome Tree
 leaf_outcome node s (gives a t) = done (node a) (at s t)
-leaf_outcome node s (fails e) = fault e.kind e.place
+leaf_outcome node s (fails e) = faulted e
 
 -- an atom of one character, an escape or a class
 abbrev pub leaf_of : ℕ → State → ℕ → Text → Outcome Tree
@@ -106,26 +107,26 @@ is_before_nothing c = c ∈ "+*?|)"
 -- a group whose name was read
 abbrev pub named_ahead : State → Reading Text → Ahead
 named_ahead s (gives w u) = opens (capture (Some w)) (at s u)
-named_ahead s (fails e) = faulty e.kind e.place
+named_ahead s (fails e) = faulty e
 
 -- a conditional whose target was read
 abbrev pub target_ahead : State → Reading Reference → Ahead
 target_ahead s (gives r u) = body (condition_node r) (at s u)
-target_ahead s (fails e) = faulty e.kind e.place
+target_ahead s (fails e) = faulty e
 
 -- a flag group, whose letters were read
 abbrev pub flags_ahead : Reading Letters → Ahead
 flags_ahead (gives (setting f) u) = leaf (done empty (record { flags = f; rest = u }))
 flags_ahead (gives (scoped f) u) = opens scope (record { flags = f; rest = u })
-flags_ahead (fails e) = faulty e.kind e.place
+flags_ahead (fails e) = faulty e
 
 -- a verb, whose name and closing parenthesis stand behind the asterisk at the front
 abbrev pub verb_ahead : ℕ → State → ℕ → Text → Ahead
-verb_ahead n s c t = choose (verb_at t) (λ p. leaf (done (verb p.0) (at s p.1))) (faulty target_not_repeatable (place_of n (c ∷ t)))
+verb_ahead n s c t = choose (verb_at t) (λ p. leaf (done (verb p.0) (at s p.1))) (faulty (unknown_verb n (c ∷ t)))
 
 -- a verb as the condition of a conditional
 abbrev pub verb_condition : ℕ → State → ℕ → Text → Ahead
-verb_condition n s c t = choose (verb_at t) (λ p. body (verb p.0) (at s p.1)) (faulty target_not_repeatable (place_of n (c ∷ t)))
+verb_condition n s c t = choose (verb_at t) (λ p. body (verb p.0) (at s p.1)) (faulty (unknown_verb n (c ∷ t)))
 
 -- the condition of a conditional: a target, a verb, or an alternation
 abbrev pub condition_ahead : ℕ → State → ℕ → Text → Ahead
@@ -136,13 +137,13 @@ condition_ahead n s c t =
 
 -- behind `(?(`, where more text is due
 abbrev pub conditional_ahead : ℕ → State → Text → Ahead
-conditional_ahead n s [] = faulty unclosed_open_paren n
+conditional_ahead n s [] = faulty (group_not_closed n)
 conditional_ahead n s (c ∷ t) =
     choose (strip_word (codes "DEFINE)") (c ∷ t)) (λ u. opens define (at s u)) (condition_ahead n s c t)
 
 -- behind `(?~`, where more text is due: a bar, or an alternation
 abbrev pub absent_ahead : ℕ → State → Text → Ahead
-absent_ahead n s [] = faulty unclosed_open_paren n
+absent_ahead n s [] = faulty (group_not_closed n)
 absent_ahead n s (c ∷ t) = if c == code "|" then absent_branch (at s t) else opens repeater (at s (c ∷ t))
 
 -- behind `(?<`, which begins at m: look-behind, or a name
@@ -186,14 +187,14 @@ head_ahead n s (c ∷ t) =
 
 abbrev pub behind_layout : ℕ → State → Skipped → Ahead
 behind_layout n s (rest u) = head_ahead n s u
-behind_layout n s (open_comment p) = faulty unclosed_open_paren p
+behind_layout n s (open_comment p) = faulty (comment_not_closed p)
 
 -- what stands before an atom in a pattern of n bytes, inside d groups
 abbrev pub ahead_of : ℕ → ℕ → State → Text → Ahead
 ahead_of n d s [] = nothing
 ahead_of n d s (c ∷ t) =
     if c == code "(" then (
-    if nat_le max_depth (d + 1) then faulty recursion_exceeded (place_of n (c ∷ t)) else behind_layout n s (skipped n (at s t)))
+    if nat_le max_depth (d + 1) then faulty (group_too_deep n (c ∷ t)) else behind_layout n s (skipped n (at s t)))
     else if is_before_nothing c then nothing
     else leaf (leaf_of n s c t)
 

@@ -1,6 +1,7 @@
 -- What is true of every tree that is answered, and how its marks speak of it.
-use Rattle.std.specs.Prelude.{◌≡◌, ℕ, ◌+◌, ◌*◌, ◌≤◌, Bool, true, false, List, length, filter, filter_map, Option, Some, None}
+use Rattle.std.specs.Prelude.{◌≡◌, ℕ, ◌+◌, ◌*◌, ◌<◌, ◌≤◌, Bool, true, false, List, [], ◌∷◌, length, filter, filter_map, Option, Some, None}
 use Rattle.std.specs.List.{AllByRecursion, list_any}
+use Rattle.fancy_lex.specs.Text.{Text}
 use Rattle.fancy_syntax.specs.Preorder.{preorder}
 use Rattle.fancy_syntax.specs.Tree.{Tree, literal, literal_bytes, alt, group, backref, backref_at_level, subroutine_call, ast_node, AstTree, ast_call, list_of, nodes, depth}
 
@@ -34,6 +35,15 @@ is_group _ = false
 -- the Groups in preorder: the k-th has the number k
 abbrev pub groups : Tree → List Tree
 groups t = filter is_group (preorder t)
+
+-- the numbers ascend, from above k up to n
+abbrev pub Ascend : ℕ → ℕ → List ℕ → Type 0
+Ascend k n [] = Unit {0}
+Ascend k n (m ∷ l) = (k < m) × (m ≤ n) × Ascend m n l
+
+-- each name has numbers, and they ascend from 1 up to the total
+abbrev pub AreNamed : ℕ → List (Text × List ℕ) → Type 0
+AreNamed total l = AllByRecursion (λ e. (0 < length e.1) × Ascend 0 total e.1) l
 
 -- whether the node is a call, resolved or not
 abbrev pub is_call_node : Tree → Bool

@@ -1,9 +1,10 @@
 -- The grammar: what each production reads from a state, in a pattern of n bytes and at a depth of open groups.
 -- A part that comes first has a rule for its fault; where a part is the last, its outcome decides the whole.
-use Rattle.std.specs.Prelude.{◌≡◌, ℕ, ◌+◌, ◌==◌, Bool, true, false, not, ◌&&◌, List, [], ◌∷◌, Some, None, codes, ◌||◌, if◌then◌else◌}
+use Rattle.std.specs.Prelude.{◌≡◌, ℕ, ◌+◌, ◌==◌, Bool, true, false, not, ◌&&◌, List, [], ◌∷◌, Some, None, if◌then◌else◌}
 use Prim.Native.Char.{code}
 use Rattle.fancy_lex.specs.Characters.{bar}
-use Rattle.fancy_lex.specs.Fault.{Kind, general_parse_error, unclosed_open_paren}
+use Rattle.fancy_lex.specs.Fault.{Kind}
+use Rattle.fancy_lex.specs.FaultTable.{comment_not_closed, group_not_closed, bar_for_close_paren, close_paren_left_over, body_wanting}
 use Rattle.fancy_lex.specs.Layout.{rest, fault as open_comment}
 use Rattle.fancy_lex.specs.Text.{Text, bytes, place_of, strip}
 use Rattle.fancy_lex.specs.declared.flags.Flags.{Flags}
@@ -11,16 +12,16 @@ use Rattle.fancy_syntax.specs.Ahead.{Ahead, nothing, leaf, opens, condition, bod
 use Rattle.fancy_syntax.specs.Head.{Head, node_of, flags_behind}
 use Rattle.fancy_syntax.specs.Join.{join, choice, is_empty}
 use Rattle.fancy_syntax.specs.Quantified.{quants}
-use Rattle.fancy_syntax.specs.State.{State, at, Outcome, done, fault, and_then, seen_through}
+use Rattle.fancy_syntax.specs.State.{State, at, Outcome, done, fault, faulted, and_then, seen_through}
 use Rattle.fancy_syntax.specs.Tree.{Tree, more_trees, list_of, empty, alt, conditional, absent, clear, stopper, expression, ast_node, AstTree, ast_condition}
 
 -- ---- what a part comes to behind its last one
 
 -- the tree, where the closing parenthesis follows
 abbrev pub closed_at : ℕ → Tree → State → Text → Outcome Tree
-closed_at n r s [] = fault unclosed_open_paren (place_of n s.rest)
+closed_at n r s [] = faulted (group_not_closed n)
 closed_at n r s (c ∷ t) =
-    if c == code ")" then done r (at s t) else fault (general_parse_error (codes "expected close paren")) (place_of n s.rest)
+    if c == code ")" then done r (at s t) else faulted (bar_for_close_paren n s.rest)
 
 abbrev pub closed : ℕ → Tree → State → Outcome Tree
 closed n r s = closed_at n r s s.rest
@@ -47,14 +48,11 @@ abbrev pub branches_of : Tree → Tree × Tree
 branches_of (alt (more_trees t ts)) = (t, choice (list_of ts))
 branches_of r = (r, empty)
 
-abbrev pub no_body : Text
-no_body = codes "expected conditional to be a backreference or at least an expression for when the condition is true"
-
 -- the conditional of the condition c, whose body began where so many bytes were left;
 -- a condition on a group alone may do without a body
 abbrev pub conditional_behind : ℕ → Tree → ℕ → Tree → State → Outcome Tree
 conditional_behind n c left r s =
-    if bytes s.rest == left && not (is_condition c) then fault (general_parse_error no_body) (place_of n s.rest)
+    if bytes s.rest == left && not (is_condition c) then faulted (body_wanting n s.rest)
     else closed n (conditional_of c (branches_of r).0 (branches_of r).1) s
 
 -- a branch behind `(?~|`, where no other follows
@@ -92,7 +90,7 @@ mutual
   pub data Piece : ℕ → ℕ → State → Outcome Tree → Type 0 where
     piece : {n d : ℕ} {s : State} {u : Text} {q o : Outcome Tree} → skipped n s ≡ rest u → Atom n d (at s u) q →
         and_then q (quants n d (bytes s.rest)) ≡ o → Piece n d s o
-    layout_fault : {n d p : ℕ} {s : State} → skipped n s ≡ open_comment p → Piece n d s (fault unclosed_open_paren p)
+    layout_fault : {n d p : ℕ} {s : State} → skipped n s ≡ open_comment p → Piece n d s (faulted (comment_not_closed p))
 
   -- what stands ahead decides which rule of an atom applies
   pub data Atom : ℕ → ℕ → State → Outcome Tree → Type 0 where
@@ -137,7 +135,7 @@ start f text = record { flags = f; rest = text }
 -- the tree, where nothing is left over
 abbrev pub ended_at : ℕ → Tree → State → Text → Outcome Tree
 ended_at n r s [] = done r s
-ended_at n r s (c ∷ t) = fault (general_parse_error (codes "end of string not reached")) (place_of n s.rest)
+ended_at n r s (c ∷ t) = faulted (close_paren_left_over n s.rest)
 
 abbrev pub ended : ℕ → Tree → State → Outcome Tree
 ended n r s = ended_at n r s s.rest

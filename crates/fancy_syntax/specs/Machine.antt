@@ -1,20 +1,21 @@
 -- The groups that are open, as the parser's stack holds them.
-use Rattle.std.specs.Prelude.{◌≡◌, ℕ, ◌+◌, ◌<◌, ◌==◌, ◌&&◌, not, if◌then◌else◌, Bool, true, false, List, [], ◌∷◌, ◌++◌, Some, Result, MatchResult, ⊤, codes}
+use Rattle.std.specs.Prelude.{◌≡◌, ℕ, ◌+◌, ◌<◌, ◌==◌, ◌&&◌, not, if◌then◌else◌, Bool, true, false, List, [], ◌∷◌, ◌++◌, Some, Result, MatchResult, ⊤}
 use Rattle.fancy_lex.specs.Characters.{bar}
 use Rattle.fancy_lex.specs.Fault.{general_parse_error}
+use Rattle.fancy_lex.specs.FaultTable.{close_paren_expected, body_wanting}
 use Rattle.fancy_lex.specs.Layout.{rest}
 use Rattle.fancy_lex.specs.Text.{Text, bytes, place_of, strip}
 use Rattle.fancy_lex.specs.declared.error.Error.{Error}
 use Rattle.fancy_lex.specs.declared.flags.Flags.{Flags}
 use Rattle.fancy_syntax.specs.Ahead.{ahead, ends, skipped, max_depth}
 use Rattle.fancy_syntax.specs.Ahead as seen
-use Rattle.fancy_syntax.specs.Grammar.{Alternation, Branches, Branch, Pieces, Piece, Inside, closed, no_body, is_condition, branches_of, conditional_of, alone}
+use Rattle.fancy_syntax.specs.Grammar.{Alternation, Branches, Branch, Pieces, Piece, Inside, closed, is_condition, branches_of, conditional_of, alone}
 use Rattle.fancy_syntax.specs.Head.{Head, node_of, flags_behind}
 use Rattle.fancy_syntax.specs.Join.{solid}
 use Rattle.fancy_syntax.specs.Parsed.{head_of}
 use Rattle.fancy_syntax.specs.Reads.{Fails}
 use Rattle.fancy_syntax.specs.Row.{trees}
-use Rattle.fancy_syntax.specs.State.{State, at, Outcome, done, fault, and_then, seen_through}
+use Rattle.fancy_syntax.specs.State.{State, at, Outcome, done, fault, faulted, and_then, seen_through}
 use Rattle.fancy_syntax.specs.Tree.{Tree, absent, expression}
 use Rattle.fancy_syntax.specs.View.{view}
 use Rattle.fancy_syntax.specs.declared.grammar.frame.Frame.{Frame}
@@ -62,7 +63,7 @@ branches_at_bar _ l a = l ++ a ∷ []
 
 -- no bar may stand behind the second branch of an absent expression
 abbrev pub IsFaultOfBar : Open → ℕ → Outcome Tree → Type 0
-IsFaultOfBar (second a) p o = o ≡ fault (general_parse_error (codes "expected close paren")) p
+IsFaultOfBar (second a) p o = o ≡ fault (general_parse_error close_paren_expected) p
 IsFaultOfBar _ p o = ⊥
 
 -- what is read of what is open
@@ -120,7 +121,7 @@ behind_part p r s = done r (record s { flags = flags_behind_part p s.flags })
 -- what comes out where what is open ends with the tree r at s
 abbrev pub ended_part : ℕ → Open → Tree → State → Outcome Tree
 ended_part n p r s =
-    if lacks_body p s then fault (general_parse_error no_body) (place_of n s.rest)
+    if lacks_body p s then faulted (body_wanting n s.rest)
     else and_then (closed n (node_of_part p r) s) (behind_part p)
 
 -- a group is opened only where one may open inside d groups

@@ -1,16 +1,16 @@
 -- A tree under the quantifiers that follow it.
-use Rattle.std.specs.Prelude.{ℕ, zero, suc, ◌+◌, ◌-◌, ◌==◌, Bool, true, false, not, ◌&&◌, nat_lt, Option, Some, None, if◌then◌else◌}
+use Rattle.std.specs.Prelude.{ℕ, zero, suc, ◌+◌, ◌==◌, Bool, true, false, not, ◌&&◌, nat_lt, Option, Some, None, if◌then◌else◌}
 use Prim.Native.Char.{code}
-use Rattle.fancy_lex.specs.Fault.{recursion_exceeded, target_not_repeatable, unclosed_open_paren}
+use Rattle.fancy_lex.specs.FaultTable.{comment_not_closed, not_repeatable, quantifier_too_deep}
 use Rattle.fancy_lex.specs.Layout.{Skipped, rest, fault as open_comment}
 use Rattle.fancy_lex.specs.Reading.{choose}
-use Rattle.fancy_lex.specs.Text.{Text, bytes, place_of, strip}
+use Rattle.fancy_lex.specs.Text.{Text, bytes, strip}
 use Rattle.fancy_lex.specs.declared.flags.Flags.{Flags}
 use Rattle.fancy_parts.specs.Quantifier.{counts}
 use Rattle.fancy_parts.specs.declared.counts.Counts.{Counts}
 use Rattle.fancy_syntax.specs.Ahead.{max_depth, skipped}
 use Rattle.fancy_syntax.specs.Join.{is_empty}
-use Rattle.fancy_syntax.specs.State.{State, at, Outcome, done, fault, and_then, seen_through}
+use Rattle.fancy_syntax.specs.State.{State, at, Outcome, done, faulted, and_then, seen_through}
 use Rattle.fancy_syntax.specs.Tree.{Tree, empty, assertion, look_around, keep_out, continue_from_previous_match_end, verb, repeat, atomic_group}
 use Rattle.fancy_syntax.specs.declared.grammar.quantified.Suffix.{Suffix}
 
@@ -59,7 +59,7 @@ behind_lazy s c lazy t =
 -- behind the counts: layout, and then the lazy mark
 abbrev pub suffix_at : State → Counts → Skipped → Outcome Suffix
 suffix_at s c (rest t) = choose (strip (code "?") t) (behind_lazy s c true) (behind_lazy s c false t)
-suffix_at s c (open_comment p) = fault unclosed_open_paren p
+suffix_at s c (open_comment p) = faulted (comment_not_closed p)
 
 -- the marks behind the counts
 abbrev pub suffix : ℕ → State → Counts → Outcome Suffix
@@ -71,12 +71,12 @@ counted n left a s None = done a s
 counted n left a s (Some (c, t)) =
     if is_repeatable s.flags a then seen_through (λ m. quantified s.flags c m a) (suffix n (at s t) c)
     else if is_dropped s.flags left a t then seen_through (λ m. a) (suffix n (at s t) c)
-    else fault target_not_repeatable (place_of n t - 1)
+    else faulted (not_repeatable n t)
 
 -- behind the layout before a quantifier
 abbrev pub quant_at : ℕ → ℕ → Tree → State → Skipped → Outcome Tree
 quant_at n left a s (rest t) = counted n left a (at s t) (counts s.flags.ignore_space t)
-quant_at n left a s (open_comment p) = fault unclosed_open_paren p
+quant_at n left a s (open_comment p) = faulted (comment_not_closed p)
 
 -- layout, and the tree under the quantifier that follows it, or the tree itself where none does
 unfoldable pub quant : ℕ → ℕ → Tree → State → Outcome Tree
@@ -94,12 +94,12 @@ may_count (suc k) d = nat_lt (d + 1) max_depth
 -- adjacent quantifiers at depth d: each that takes a byte counts, and is one level deeper; k may count
 unfoldable pub adjacent : ℕ → ℕ → ℕ → Tree → State → Outcome Tree
 adjacent zero n d a s =
-    and_then (quant n (bytes s.rest) a s) (λ b t. if is_unmoved s t then done b t else fault recursion_exceeded (place_of n t.rest))
+    and_then (quant n (bytes s.rest) a s) (λ b t. if is_unmoved s t then done b t else faulted (quantifier_too_deep n t.rest))
 adjacent (suc k) n d a s =
     and_then (quant n (bytes s.rest) a s) (λ b t.
     if is_unmoved s t then done b t
     else if nat_lt (d + 1) max_depth then adjacent k n (d + 1) b t
-    else fault recursion_exceeded (place_of n t.rest))
+    else faulted (quantifier_too_deep n t.rest))
 
 -- how many adjacent quantifiers may follow the first
 abbrev pub max_adjacent : ℕ

@@ -1,6 +1,6 @@
 -- Where a reading stands, and what it comes to.
 use Rattle.std.specs.Prelude.{ℕ}
-use Rattle.fancy_lex.specs.Fault.{Kind}
+use Rattle.fancy_lex.specs.Fault.{Kind, Fault}
 use Rattle.fancy_lex.specs.Text.{Text}
 use Rattle.fancy_lex.specs.declared.flags.Flags.{Flags}
 
@@ -17,6 +17,10 @@ at s t = record s { rest = t }
 pub data Outcome (A : Type 0) : Type 0 where
   done : A → State → Outcome A
   fault : Kind → ℕ → Outcome A
+
+-- this fault, as an outcome
+abbrev pub faulted : {A : Type 0} → Fault → Outcome A
+faulted e = fault e.kind e.place
 
 -- one part behind another: a fault of the first is that of both
 abbrev pub and_then : {A B : Type 0} → Outcome A → (A → State → Outcome B) → Outcome B

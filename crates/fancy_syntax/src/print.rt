@@ -1,10 +1,18 @@
 //! The text of a tree.
-ghost use Rattle.std.specs.Prelude.{◌≡◌, [], ◌++◌, true, IfOk, IsOk, OnOk, OnErr, string_bytes, encode_utf8_all};
+ghost use Rattle.std.specs.Prelude.{◌≡◌, ℕ, ◌<◌, Bool, List, [], ◌++◌, true, false, IfOk, IsOk, OnOk, OnErr};
+ghost use Rattle.std.specs.Prelude.{string_bytes, chars, encode_utf8_all};
+ghost use Rattle.fancy_syntax.specs.Ahead.{max_depth};
+ghost use Rattle.fancy_syntax.specs.HasDelegate.{has_delegate};
+ghost use Rattle.fancy_syntax.specs.Nest.{nest};
+ghost use Rattle.fancy_syntax.specs.Normal.{normal};
 ghost use Rattle.fancy_syntax.specs.Printable.{printable};
 ghost use Rattle.fancy_syntax.specs.Printed.{printed, has_text};
+ghost use Rattle.fancy_syntax.specs.ReadBack.{IsReadBack};
+ghost use Rattle.fancy_syntax.specs.Tree.{Tree};
 ghost use Rattle.fancy_syntax.specs.View.{view};
 
 mod count;
+mod delegate;
 mod fixed;
 mod printable;
 mod write;
@@ -16,24 +24,37 @@ use crate::print::write::put_tree;
 use std::alloc::{AllocError, Global};
 
 impl Expr {
-    /// Whether the tree is printable: whether its text reads back as its normal form. So far no tree is told printable
-    /// that holds another variant than Empty, Literal, Concat, Alt, Group and Repeat, and no memory is taken.
+    /// Whether the tree is printable: whether each node outside the inside of a DefineGroup has a text, that of each
+    /// Delegate is one whole class or class escape, and under each Repeat stands neither a tree that reads as nothing nor
+    /// a Literal, with case counted, of two characters or more. `AllocError` where memory was refused, which is asked for
+    /// where a Delegate's text is read. The normal form of a printable tree is printable too, and it is its own normal
+    /// form where the tree holds no Delegate.
     pub fn is_printable(&self, alloc: Global) -> Result<bool, AllocError>
         ensures exact { IfOk result (λ b. b ≡ printable (view self.now)) }
         ensures text { IfOk result (λ b. b ≡ true → has_text (view self.now) ≡ true) }
+        ensures normal { IfOk result (λ b. b ≡ true → (u : Bool) → printable (normal u (view self.now)) ≡ true) }
+        ensures fixed { IfOk result (λ b. b ≡ true → has_delegate (view self.now) ≡ false → (u : Bool) →
+            normal u (normal u (view self.now)) ≡ normal u (view self.now)) }
     {
-        Ok(is_printable(self))
+        is_printable(alloc, self)
     }
 
     /// Appends the tree's text to `buf`; the caller owes a tree that has one, as every printable tree has. Above
     /// precedence 0 an `Alt`, above 1 a `Concat` and above 2 a `Repeat` stands in a group of its own. The buffer grows
     /// once, by the text's length in bytes; where that is refused, the answer is `AllocError` and `buf` holds what it
-    /// held.
+    /// held. What is appended for a printable tree reads as its normal form, with no flag and with `FLAG_UNICODE` alone;
+    /// where 64 printed groups nest or more, it is refused as `RecursionExceeded`, at the byte of the first opening
+    /// parenthesis that has 63 groups open round it. So trees that are printed as one text have one normal form.
     pub fn to_str(&self, buf: &mut String, precedence: u8) -> Result<(), AllocError>
         requires text { has_text (view self.now) ≡ true }
         ensures appended { OnOk result (string_bytes buf.new ≡
             string_bytes buf.old ++ encode_utf8_all (printed (view self.now) precedence)) }
         ensures unchanged { OnErr result (string_bytes buf.new ≡ string_bytes buf.old) }
+        ensures reads_back { OnOk result (printable (view self.now) ≡ true → (w : List ℕ) × (string_bytes buf.new ≡
+            string_bytes buf.old ++ w) × IsReadBack (view self.now) precedence (chars w)) }
+        ensures same_text { printable (view self.now) ≡ true → nest (view self.now) precedence < max_depth →
+            (s : Tree) (q : ℕ) (u : Bool) → printable s ≡ true → printed (view self.now) precedence ≡ printed s q →
+            normal u (view self.now) ≡ normal u s }
         ensures nothing_to_print { printed (view self.now) precedence ≡ [] → IsOk result }
     {
         // No string has room for the greatest word, for which a longer text is counted.

@@ -2,7 +2,7 @@
 ghost use Rattle.std.specs.Prelude.{◌≡◌, chars, filter, find, length, nat_le, nat_lt, IfOk, IfErr};
 ghost use Rattle.fancy_lex.specs.Flags.{flags_of};
 ghost use Rattle.fancy_syntax.specs.Answer.{marks_of, IsTreeOf, IsFaultOf, IsOnlyFault, IsWithin};
-ghost use Rattle.fancy_syntax.specs.Answered.{groups, groups_referred, has_call, IsAnswered, IsSmall};
+ghost use Rattle.fancy_syntax.specs.Answered.{groups, groups_referred, has_call, AreNamed, IsAnswered, IsSmall};
 ghost use Rattle.fancy_syntax.specs.Marks.{ascending};
 ghost use Rattle.fancy_syntax.specs.Notes.{view_marks};
 ghost use Rattle.fancy_syntax.specs.View.{view};
@@ -97,6 +97,7 @@ impl Expr {
         ensures bounds { IfOk result (λ t. IsSmall (view t.expr) (length re.now)) }
         ensures nodes { IfOk result (λ t. IsAnswered (view t.expr)) }
         ensures groups { IfOk result (λ t. length (groups (view t.expr)) ≡ t.total_groups) }
+        ensures names { IfOk result (λ t. AreNamed t.total_groups (marks_of t).named_groups) }
         ensures calls { IfOk result (λ t. has_call (view t.expr) ≡ t.contains_subroutines) }
         ensures backrefs { IfOk result (λ t. t.backrefs.keys ≡
             ascending (filter (λ n. nat_le n t.total_groups) (groups_referred (view t.expr)))) }
@@ -120,6 +121,7 @@ impl Expr {
         ensures bounds { IfOk result (λ t. IsSmall (view t.expr) (length re.now)) }
         ensures nodes { IfOk result (λ t. IsAnswered (view t.expr)) }
         ensures groups { IfOk result (λ t. length (groups (view t.expr)) ≡ t.total_groups) }
+        ensures names { IfOk result (λ t. AreNamed t.total_groups (marks_of t).named_groups) }
         ensures calls { IfOk result (λ t. has_call (view t.expr) ≡ t.contains_subroutines) }
         ensures backrefs { IfOk result (λ t. t.backrefs.keys ≡
             ascending (filter (λ n. nat_le n t.total_groups) (groups_referred (view t.expr)))) }

@@ -1,7 +1,7 @@
 //! `fre FLAGS PATTERN` writes the tree of a pattern, its marks and its text, a line each.
 #![tactic(auto)]
 
-use fre_program::program::fre_run;
+use fre_program::program::{fre_run, out_of_memory};
 use std::io::BufWriter;
 use std::process::ExitCode;
 use std::{env, io};
@@ -16,7 +16,7 @@ fn run(rt: &HostRuntime) -> io::Result<u8> {
 fn main(rt: HostRuntime) -> ExitCode {
     match run(&rt) {
         Ok(status) => ExitCode::from(status),
-        Err(_) => ExitCode::from(3),
+        Err(_) => ExitCode::from(out_of_memory(&mut rt.stderr())),
     }
 }
 

@@ -5,12 +5,14 @@ use std::io;
 use std::io::{ErrorKind, Write};
 use std::test::Fail;
 
-/// Takes what is written, and refuses one write or flush, the one with this number.
+/// Takes what is written, and refuses one write or flush, the one with this number. It remembers whether a flush stands
+/// behind the last write.
 #[derive(Drop)]
 struct Refusing {
     text: Vec<u8>,
     refused: Option<usize>,
     has_refused: bool,
+    is_flushed: bool,
 }
 
 impl Refusing {
@@ -19,6 +21,7 @@ impl Refusing {
             text: Vec::new(alloc),
             refused,
             has_refused: false,
+            is_flushed: true,
         }
     }
 
@@ -39,12 +42,15 @@ impl Refusing {
 impl Write for Refusing {
     fn write(&mut self, bytes: &[u8]) -> io::Result<usize> {
         self.count()?;
+        self.is_flushed = false;
         self.text.extend_from_slice(bytes)?;
         Ok(bytes.len())
     }
 
     fn flush(&mut self) -> io::Result<()> {
-        self.count()
+        self.count()?;
+        self.is_flushed = true;
+        Ok(())
     }
 }
 
@@ -99,10 +105,12 @@ const USAGE: &str = "usage: fre FLAGS PATTERN\n";
 
 #[test]
 fn answers(rt: HostRuntime) -> Result<(), Fail> {
-    let rows: [(&[&str], u8, &str, &str); 10] = [
+    let rows: [(&[&str], u8, &str, &str); 12] = [
         (&["u", "(a|b)c*"], 0, ACCEPTED, ""),
         (&["u", "(?<n>x)\\k<n>"], 0, NAMED, ""),
+        (&["u", ""], 0, EMPTY, ""),
         (&["-", "a("], 1, "", REFUSED),
+        (&["u", "a)b"], 1, "", LEFT_OVER),
         (
             &["u", "\\k<-2>\\k<b>"],
             1,
@@ -119,6 +127,7 @@ fn answers(rt: HostRuntime) -> Result<(), Fail> {
     for (words, status, out, err) in rows {
         let (now, written, said) = run(rt.alloc(), words, None, None)?;
         assert_eq!(rt; now, status, "{words:?}");
+        assert!(rt; written.is_flushed, "{words:?}");
         assert_eq!(rt; written.text.as_slice(), out.as_bytes(), "{words:?}");
         assert_eq!(rt; said.text.as_slice(), err.as_bytes(), "{words:?}");
     }
@@ -163,55 +172,4 @@ fn refused_error_line(rt: HostRuntime) -> Result<(), Fail> {
         }
     }
     Ok(())
-}
-
-/// The words in memory, or none where memory is refused.
-fn owned(alloc: Global, words: &[&str]) -> Option<Vec<String>> {
-    let mut owned = Vec::new(alloc);
-    for word in words {
-        owned.push(String::from_str(alloc, word).ok()?).ok()?;
-    }
-    Some(owned)
-}
-
-/// Whether the whole was written, or for a want of memory a beginning of it.
-fn is_answer(status: u8, out: &[u8], err: &[u8], row: (u8, &str, &str)) -> bool {
-    let (whole, lines, line) = row;
-    if status == 3 {
-        return lines.as_bytes().starts_with(out) && *err == *"out of memory\n".as_bytes();
-    }
-    status == whole && *out == *lines.as_bytes() && *err == *line.as_bytes()
-}
-
-/// What was written into the buffer, of which so many bytes are left.
-fn written(buffer: &[u8], left: usize) -> &[u8] {
-    let count = buffer.len().saturating_sub(left);
-    buffer.get(..count).unwrap_or(&[])
-}
-
-/// Passes under each `rt try --test --fail-alloc N` too: the answer is the same, or that memory ran out.
-#[test]
-fn refused_memory(rt: HostRuntime) {
-    let rows: [(&str, u8, &str, &str); 4] = [
-        ("(a|b)c*", 0, ACCEPTED, ""),
-        ("", 0, EMPTY, ""),
-        ("a(", 1, "", REFUSED),
-        ("a)b", 1, "", LEFT_OVER),
-    ];
-    for (pattern, status, lines, line) in rows {
-        let Some(words) = owned(rt.alloc(), &["u", pattern]) else {
-            return;
-        };
-        let mut out = [0u8; 400];
-        let mut err = [0u8; 100];
-        let mut out_left = &mut out[..];
-        let mut err_left = &mut err[..];
-        let now = fre_run(rt.alloc(), &words, &mut out_left, &mut err_left);
-        let left = (out_left.len(), err_left.len());
-        let (out, err) = (written(&out, left.0), written(&err, left.1));
-        assert!(rt;
-            is_answer(now, out, err, (status, lines, line)),
-            "{pattern}: {now}"
-        );
-    }
 }

@@ -88,6 +88,13 @@ fn give_up<E: Write>(err: &mut E, fault: Fault) -> u8
     3
 }
 
+/// Tries to say on `err` that memory was wanting for the words, and answers the status for that, 3.
+pub fn out_of_memory<E: Write>(err: &mut E) -> u8
+    ensures status { result ≡ 3 }
+{
+    give_up(err, Fault::Memory(AllocError))
+}
+
 /// Runs the program on the words behind its name, and answers its status: 0 where the pattern is accepted, with the
 /// lines on `out`; 1 where it is refused, with why on `err`; 2 where the words are not well formed, with the usage on
 /// `err`; 3 where memory or a write was wanting, which is tried on `err`. Then `out` may hold a beginning.

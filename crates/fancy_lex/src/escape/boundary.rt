@@ -3,7 +3,8 @@ ghost use Rattle.std.specs.Prelude.{◌≡◌, ℕ, ◌^◌, ◌<◌, ◌≤◌,
 ghost use Rattle.fancy_lex.specs.Boundary as spec;
 ghost use Rattle.fancy_lex.specs.Escaped.{Escape, escape_of};
 ghost use Rattle.fancy_lex.specs.Fault.{invalid_escape};
-ghost use Rattle.fancy_lex.specs.Reading.{Gives, Fails, fault_at};
+ghost use Rattle.fancy_lex.specs.FaultTable.{boundary_head, boundary_not_closed};
+ghost use Rattle.fancy_lex.specs.Reading.{Reading, Gives, Fails, Derives, fails, fault_at};
 ghost use Rattle.fancy_lex.specs.BoundaryName as name_spec;
 ghost use Rattle.fancy_lex.specs.Text.{text_of};
 
@@ -78,7 +79,7 @@ fn known_boundary(text: &str, ignore_space: bool, end: usize) -> Option<(Asserti
 
 /// The fault of braces that are not closed.
 fn unclosed_fault(alloc: Global, place: usize) -> Error
-    ensures { Fails result (fault_at {A = Escape} place (invalid_escape (codes "\\b{...}"))) }
+    ensures { Fails {B = Escape} result (fails (boundary_not_closed place)) }
 {
     match String::from_str(alloc, "\\b{...}") {
         Ok(text) => Error::ParseError(place, ParseError::InvalidEscape(text)),
@@ -88,7 +89,7 @@ fn unclosed_fault(alloc: Global, place: usize) -> Error
 
 /// What stands before the name, with its backslash.
 fn boundary_head(negated: bool) -> &'static str
-    ensures { chars result.now ≡ spec.boundary_head negated }
+    ensures { chars result.now ≡ boundary_head negated }
 {
     if negated { "\\B{" } else { "\\b{" }
 }
@@ -145,11 +146,9 @@ fn named_boundary<'a>(
     Err(Error::ParseError(place, ParseError::InvalidEscape(text)))
 }
 
-/// Reads a word boundary behind its letter, `B` where it is negated; its backslash stands at `place` in a pattern of
-/// `end` bytes. Braces belong to it unless they begin a repeat. UnclosedOpenParen where a comment in its layout is
-/// open; InvalidEscape at `place` where its braces are not closed, or hold no name of a boundary.
+/// Reads a word boundary behind its letter, with the braces that belong to it.
 #[tactic(auto, unfolding(crate::specs::Boundary::boundary))]
-pub fn boundary<'a>(
+fn read_boundary<'a>(
     alloc: Global,
     text: &'a str,
     negated: bool,
@@ -170,4 +169,26 @@ pub fn boundary<'a>(
         return Ok((unnamed_boundary(negated), text));
     }
     named_boundary(alloc, inside, negated, flags.ignore_space, place, end)
+}
+
+/// Reads a word boundary behind its letter, `B` where it is negated; its backslash stands at `place` in a pattern of
+/// `end` bytes. Braces belong to it unless they begin a repeat. UnclosedOpenParen where a comment in its layout is
+/// open; InvalidEscape at `place` where its braces are not closed, or hold no name of a boundary.
+#[inline]
+pub fn boundary<'a>(
+    alloc: Global,
+    text: &'a str,
+    negated: bool,
+    flags: Flags,
+    place: usize,
+    end: usize,
+) -> Result<(Escaped<'a>, &'a str), Error>
+    requires { end < 2 ^ 63 }
+    ensures value { Gives escape_of result (spec.boundary end flags.ignore_space place negated (chars text.now)) }
+    ensures derives { Derives escape_of result (spec.Boundary end flags.ignore_space place negated (chars text.now)) }
+    ensures only { (o : Reading Escape) → spec.Boundary end flags.ignore_space place negated (chars text.now) o →
+        Gives escape_of result o }
+    ensures within { IfOk result (λ p. length p.1.now ≤ length text.now) }
+{
+    read_boundary(alloc, text, negated, flags, place, end)
 }

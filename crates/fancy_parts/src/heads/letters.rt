@@ -1,6 +1,6 @@
 //! The letters of a flag group.
-ghost use Rattle.std.specs.Prelude.{◌≡◌, ℕ, ◌<◌, ◌≤◌, ◌^◌, ◌++◌, ◌∷◌, length, chars, ◌||◌, IfOk};
-ghost use Rattle.fancy_lex.specs.Reading.{Gives, Fails};
+ghost use Rattle.std.specs.Prelude.{◌≡◌, ℕ, ◌<◌, ◌≤◌, ◌^◌, ◌++◌, ◌∷◌, length, chars, codes, ◌||◌, IfOk};
+ghost use Rattle.fancy_lex.specs.Reading.{Reading, Gives, Fails, Derives};
 ghost use Rattle.fancy_lex.specs.Text.{Text, bytes, text_of};
 ghost use Rattle.fancy_parts.specs.FlagLetters as spec;
 ghost use Rattle.fancy_parts.specs.FlagReads.{letters_of, step_of};
@@ -57,7 +57,7 @@ fn with_letter(flags: Flags, on: bool, letter: char) -> Option<Flags>
 /// The text of an unknown flag: `(?` and the letters through the one before `rest`.
 fn flag_text(alloc: Global, letters: &str, rest: &str) -> Result<String, AllocError>
     requires { (w : Text) × (chars letters.now ≡ w ++ chars rest.now) }
-    ensures { IfOk result (λ s. text_of s ≡ spec.flag_text (chars letters.now) (chars rest.now)) }
+    ensures { IfOk result (λ s. text_of s ≡ codes "(?" ++ spec.before (chars letters.now) (chars rest.now)) }
 {
     let read = front(letters, rest);
     let mut text = String::from_str(alloc, "(?")?;
@@ -152,11 +152,8 @@ fn flag_letter<'a>(
     }
 }
 
-/// Reads the letters of a flag group, which begin behind the `(?`, in the rest of a pattern of `end` bytes: what they
-/// come to, and the text behind the parenthesis or the colon. UnknownFlag at the first letter for a letter that names
-/// no flag, for a second minus, and where no letter stands before the end; ChangingUnicodeModeUnsupported at a `u` that
-/// is not the mode; UnclosedOpenParen where the text ends, or a comment in layout is open.
-pub fn flag_letters(
+/// Reads the letters of a flag group, one after another.
+fn read_letters(
     alloc: Global,
     text: &str,
     flags: Flags,
@@ -182,4 +179,24 @@ pub fn flag_letters(
             }
         }
     }
+}
+
+/// Reads the letters of a flag group, which begin behind the `(?`, in the rest of a pattern of `end` bytes: what they
+/// come to, and the text behind the parenthesis or the colon. UnknownFlag at the first letter for a letter that names
+/// no flag, for a second minus, and where no letter stands before the end; ChangingUnicodeModeUnsupported at a `u` that
+/// is not the mode; UnclosedOpenParen where the text ends, or a comment in layout is open.
+pub fn flag_letters(
+    alloc: Global,
+    text: &str,
+    flags: Flags,
+    end: usize,
+) -> Result<(Letters, &str), Error>
+    requires within { length text.now ≤ end }
+    requires end { end < 2 ^ 63 }
+    ensures value { Gives letters_of result (spec.letters end flags (chars text.now)) }
+    ensures derives { Derives letters_of result (spec.FlagGroup end flags (chars text.now)) }
+    ensures only { (o : Reading spec.Letters) → spec.FlagGroup end flags (chars text.now) o → Gives letters_of result o }
+    ensures shorter { IfOk result (λ p. length p.1.now < length text.now) }
+{
+    read_letters(alloc, text, flags, end)
 }

@@ -201,8 +201,7 @@ pub(crate) fn close_paren(alloc: Global, here: &mut State, end: usize) -> Result
     ensures shorter { IfOk result (λ _. length here.new.rest.now < length here.old.rest.now) }
 {
     let Some((c, rest)) = next(here.rest) else {
-        let behind = place(here.rest, end);
-        return Err(Error::ParseError(behind, ParseError::UnclosedOpenParen));
+        return Err(Error::ParseError(end, ParseError::UnclosedOpenParen));
     };
     if c != ')' {
         let bar = place(here.rest, end);

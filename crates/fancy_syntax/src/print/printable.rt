@@ -1,44 +1,59 @@
 //! Whether a tree's text reads back as its normal form.
-ghost use Rattle.std.specs.Prelude.{◌≡◌, nat_lt, length, chars};
+ghost use Rattle.std.specs.Prelude.{◌≡◌, false, nat_lt, length, chars, IfOk};
 ghost use Rattle.fancy_syntax.specs.Join.{is_empty, join};
 ghost use Rattle.fancy_syntax.specs.Normal.{normal, items};
 ghost use Rattle.fancy_syntax.specs.Printable as spec;
+ghost use Rattle.fancy_syntax.specs.Tree as tree;
 ghost use Rattle.fancy_syntax.specs.Tree.{trees_of};
 ghost use Rattle.fancy_syntax.specs.View.{view, views};
 
 use crate::expr::Expr;
+use crate::print::delegate::is_whole;
+use fancy_lex::escape::Assertion;
 use fancy_lex::text::next;
+use std::alloc::{AllocError, Global};
 
 /// Whether the tree is printable.
 #[cycle(printable)]
-pub fn is_printable(tree: &Expr) -> bool
-    ensures { result ≡ spec.printable (view tree.now) }
+pub(crate) fn is_printable(alloc: Global, tree: &Expr) -> Result<bool, AllocError>
+    ensures { IfOk result (λ b. b ≡ spec.printable (view tree.now)) }
 {
     match tree {
-        Expr::Empty => true,
-        Expr::Literal { .. } => true,
-        Expr::Concat(children) => are_printable(children),
-        Expr::Alt(children) => are_printable(children),
-        Expr::Group(child) => is_printable(child),
+        Expr::Empty => Ok(true),
+        Expr::Any { .. } => Ok(true),
+        Expr::Assertion(assertion) => Ok(has_text(*assertion)),
+        Expr::Literal { .. } => Ok(true),
+        Expr::Delegate { inner, .. } => is_whole(alloc, inner.as_str()),
+        Expr::Concat(children) => are_printable(alloc, children),
+        Expr::Alt(children) => are_printable(alloc, children),
+        Expr::Group(child) => is_printable(alloc, child),
         Expr::Repeat { child, lo, hi, .. } => {
             // Once read, they are known to be counts.
             let _counts = (*lo, *hi);
-            is_printable(child) && takes_quantifier(child)
+            Ok(takes_quantifier(child) && is_printable(alloc, child)?)
         }
-        _ => false,
+        Expr::DefineGroup { .. } => Ok(true),
+        _ => Ok(false),
     }
 }
 
 #[cycle(printable)]
-fn are_printable(trees: &[Expr]) -> bool
-    ensures { result ≡ spec.all_printable (trees_of (views trees.now)) }
+fn are_printable(alloc: Global, trees: &[Expr]) -> Result<bool, AllocError>
+    ensures { IfOk result (λ b. b ≡ spec.all_printable (trees_of (views trees.now))) }
 {
     for tree in trees {
-        if !is_printable(tree) {
-            return false;
+        if !is_printable(alloc, tree)? {
+            return Ok(false);
         }
     }
-    true
+    Ok(true)
+}
+
+/// Whether the assertion has a text.
+fn has_text(assertion: Assertion) -> bool
+    ensures { result ≡ spec.printable (tree.assertion assertion) }
+{
+    !matches!(assertion, Assertion::EndTextIgnoreTrailingNewlines { .. })
 }
 
 /// Whether a quantifier may stand behind the tree's text.
@@ -72,7 +87,7 @@ fn has_several(text: &str) -> bool
 /// of the child of each Repeat, comes to no node more than twice.
 #[cycle(normal)]
 fn is_empty_in_normal_form(tree: &Expr) -> bool
-    ensures { result ≡ is_empty (normal (view tree.now)) }
+    ensures { result ≡ is_empty (normal false (view tree.now)) }
 {
     match tree {
         Expr::Empty => true,
@@ -90,7 +105,7 @@ fn is_empty_in_normal_form(tree: &Expr) -> bool
 
 #[cycle(normal)]
 fn are_empty_in_normal_form(trees: &[Expr]) -> bool
-    ensures { result ≡ is_empty (join (items (trees_of (views trees.now)))) }
+    ensures { result ≡ is_empty (join (items false (trees_of (views trees.now)))) }
 {
     for tree in trees {
         if !is_empty_in_normal_form(tree) {

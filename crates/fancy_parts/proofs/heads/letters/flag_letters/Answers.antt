@@ -1,49 +1,8 @@
-use Rattle.std.proofs.Common.{◌<◌, ◌∙◌, refl, rules, arith, suc, length, [], chars}
-use Rattle.std.proofs.lemmas.Result.{err_from_is_err_and}
-use Rattle.fancy_lex.proofs.TextLemmas.{bytes_chars}
-use Rattle.fancy_lex.specs.Text.{bytes}
-use Rattle.fancy_parts.proofs.FlagLemmas.{behind_more, in_layout_fault, in_letter_fault, in_end, in_go, layout_end, letters_start, behind_next}
+use Rattle.fancy_parts.proofs.LetterRelation.{letters_derive, letters_only}
 use Rattle.fancy_parts.proofs.heads.letters.flag_letters.Goals as goal
 
-pub loop-here-init : goal.loop-here-init
-loop-here-init c = record {
-  text = c.utf8.text;
-  steps = (suc (bytes (chars c.args.text.now)), omega (arith, bytes_chars c.args.text.now c.utf8.text), letters_start _ _ _);
-  behind = ([], refl);
-  within = omega arith;
-}
+pub returns-clause-derives : goal.returns-clause-derives
+returns-clause-derives c = letters_derive _ _ _ _ c.read_letters.ensures.value
 
-pub returns-in_err-here-clause-value : goal.returns-in_err-here-clause-value
-returns-in_err-here-clause-value c =
-    let (k, h, e) = c.loop-here.invariant.steps in
-    let is = err_from_is_err_and c.from_residual.result c.from_residual.ensures.1 in
-    rw (is.1, is.2, e) (in_layout_fault _ _ _ _ _ k _ h _ c.in_err-here.ensures.value)
-
-pub flag_letter-requires-clause-behind : goal.flag_letter-requires-clause-behind
-flag_letter-requires-clause-behind c =
-    let cut = layout_end _ _ _ _ c.in_ok-here.ensures.value in behind_more _ _ _ _ c.loop-here.invariant.behind cut.1
-
-pub returns-in_err-step-clause-value : goal.returns-in_err-step-clause-value
-returns-in_err-step-clause-value c =
-    let (k, h, e) = c.loop-here.invariant.steps in
-    let is = err_from_is_err_and c.from_residual-in_err-step.result c.from_residual-in_err-step.ensures.1 in
-    rw (is.1, is.2, e) (in_letter_fault _ _ _ _ _ k _ h _ c.in_ok-here.ensures.value _ c.in_err-step.ensures.value)
-
-pub returns-in-Ends-clause-value : goal.returns-in-Ends-clause-value
-returns-in-Ends-clause-value c =
-    let (k, h, e) = c.loop-here.invariant.steps in
-    e ∙ in_end _ _ _ _ _ k _ h _ c.in_ok-here.ensures.value _ _ (rw c.in-Ends.is at c.in_ok-step.ensures.value)
-
-pub loop-here-preserved : goal.loop-here-preserved
-loop-here-preserved c =
-    let (k, h, e) = c.loop-here.invariant.steps in
-    let less : length c.in_ok-step.rest.now < length c.loop-here.left.now =
-    omega (arith, c.in_ok-step.ensures.shorter, c.in_ok-here.ensures.within) in
-    let (j, i, f) = in_go _ _ _ _ _ k _ h _ c.in_ok-here.ensures.value _ _ _ _ less (rw c.in-Goes.is at c.in_ok-step.ensures.value) in
-    let (x, y) = c.in_ok-step.ensures.one_on in
-    let cut = layout_end _ _ _ _ c.in_ok-here.ensures.value in record {
-      text = search rules;
-      steps = (j, i, e ∙ f);
-      behind = behind_next _ _ _ _ (behind_more _ _ _ _ c.loop-here.invariant.behind cut.1) y;
-      within = omega (arith, less, c.loop-here.invariant.within);
-    }
+pub returns-clause-only : goal.returns-clause-only
+returns-clause-only c o h = letters_only _ _ _ _ c.read_letters.ensures.value o h

@@ -1,7 +1,13 @@
-use Rattle.std.proofs.Common.{sym, ◌∙◌}
 use Rattle.fancy_syntax.specs.View.{view}
-use Rattle.fancy_syntax.proofs.PrintableLemmas.{printable_text}
+use Rattle.fancy_syntax.proofs.PrintableLemmas.{has_text_if}
+use Rattle.fancy_syntax.proofs.ReadBack.NormalLaws.{normal_if, fixed_if}
 use Rattle.fancy_syntax.proofs.expr.Expr.is_printable.Goals as goal
 
 pub returns-clause-text : goal.returns-clause-text
-returns-clause-text c h = printable_text (view c.args.self.now) (sym c.is_printable.ensures ∙ h)
+returns-clause-text c = has_text_if c.is_printable.result (view c.args.self.now) c.is_printable.ensures
+
+pub returns-clause-normal : goal.returns-clause-normal
+returns-clause-normal c = normal_if c.is_printable.result (view c.args.self.now) c.is_printable.ensures
+
+pub returns-clause-fixed : goal.returns-clause-fixed
+returns-clause-fixed c = fixed_if c.is_printable.result (view c.args.self.now)

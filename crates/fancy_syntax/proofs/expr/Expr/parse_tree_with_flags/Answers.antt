@@ -2,7 +2,7 @@ use Rattle.std.proofs.Common.{◌≡◌, subst, chars, ap, ◌∙◌}
 use Rattle.std.proofs.lemmas.Result.{err_from_is_err_and}
 use Rattle.fancy_syntax.specs.Answer.{IsTreeOf, IsOnlyFault, marks_of}
 use Rattle.fancy_syntax.specs.View.{view}
-use Rattle.fancy_syntax.proofs.AnsweredLaws.{answered, groups_total, calls_marked, backrefs_marked, out_of_range_marked}
+use Rattle.fancy_syntax.proofs.AnsweredLaws.{answered, groups_total, names_marked, calls_marked, backrefs_marked, out_of_range_marked}
 use Rattle.fancy_syntax.proofs.BoundLaws.{bounded}
 use Rattle.fancy_syntax.proofs.Verdict.{only_tree, no_fault, only_reading, only_resolving, reading_within}
 use Rattle.fancy_syntax.proofs.Verdict.{resolving_within, text_order}
@@ -66,6 +66,9 @@ returns-clause-nodes c = answered (returns-clause-found c)
 
 pub returns-clause-groups : goal.returns-clause-groups
 returns-clause-groups c = groups_total (returns-clause-found c)
+
+pub returns-clause-names : goal.returns-clause-names
+returns-clause-names c = names_marked (returns-clause-found c)
 
 pub returns-clause-calls : goal.returns-clause-calls
 returns-clause-calls c = calls_marked (returns-clause-found c)

@@ -1,5 +1,5 @@
-use Rattle.std.proofs.Common.{◌≡◌, ap, ◌∙◌}
-use Rattle.fancy_syntax.specs.Grammar.{closed, closed_at}
+use Rattle.std.proofs.Common.{◌≡◌}
+use Rattle.fancy_syntax.specs.Grammar.{closed}
 use Rattle.fancy_syntax.specs.Parsed.{state}
 use Rattle.fancy_syntax.proofs.FaultLemmas.{says_close_paren}
 use Rattle.fancy_syntax.proofs.MachineLemmas.{closed_other}

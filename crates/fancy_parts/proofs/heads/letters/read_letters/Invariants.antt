@@ -3,7 +3,7 @@ use denote.Text.{Utf8}
 use denote.Shadow.{shadow}
 use Rattle.fancy_lex.specs.Text.{Text}
 use Rattle.fancy_parts.specs.FlagLetters as spec
-use Rattle.fancy_parts.proofs.heads.letters.flag_letters.Given as goal
+use Rattle.fancy_parts.proofs.heads.letters.read_letters.Given as goal
 
 abbrev pub invariant-loop-here : goal.invariant-loop-here
 invariant-loop-here l = record {

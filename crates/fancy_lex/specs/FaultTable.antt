@@ -1,0 +1,141 @@
+-- The faults of a pattern of n bytes, a row for each: what went wrong, the kind with its text, and the place. A row
+-- that takes a place p is told it by the reader; one that takes a text t measures it where that is left to be read.
+use Rattle.std.specs.Prelude.{ℕ, ◌+◌, ◌-◌, Bool, [], ◌∷◌, ◌++◌, codes, if◌then◌else◌}
+use Rattle.fancy_lex.specs.Characters.{backslash}
+use Rattle.fancy_lex.specs.Fault.{Kind, Fault, general_parse_error, unclosed_open_paren, recursion_exceeded, trailing_backslash, invalid_escape, unclosed_unicode_name, invalid_hex, invalid_codepoint_value, invalid_class, unknown_flag, changing_unicode_mode_unsupported, invalid_backref, target_not_repeatable, invalid_group_name, invalid_group_name_backref}
+use Rattle.fancy_lex.specs.Text.{Text, place_of}
+
+-- ---- the texts of the general faults
+
+abbrev pub close_paren_expected : Text
+close_paren_expected = codes "expected close paren"
+
+abbrev pub end_expected : Text
+end_expected = codes "end of string not reached"
+
+abbrev pub body_expected : Text
+body_expected = codes "expected conditional to be a backreference or at least an expression for when the condition is true"
+
+-- ---- layout, groups and quantifiers
+
+-- a comment without its `)`, at one of the next two places
+abbrev pub comment_not_closed : ℕ → Fault
+comment_not_closed p = record { place = p; kind = unclosed_open_paren }
+
+-- the end of the text
+abbrev pub end_in_comment : ℕ → ℕ
+end_in_comment n = n
+
+-- one past the end, where the text ends right behind an unpaired backslash
+abbrev pub end_behind_backslash : ℕ → ℕ
+end_behind_backslash n = n + 1
+
+-- a group whose inside would be too deep: at its `(`, where t begins
+abbrev pub group_too_deep : ℕ → Text → Fault
+group_too_deep n t = record { place = place_of n t; kind = recursion_exceeded }
+
+-- an adjacent quantifier too many, or too deep: behind its reading, where t begins
+abbrev pub quantifier_too_deep : ℕ → Text → Fault
+quantifier_too_deep n t = record { place = place_of n t; kind = recursion_exceeded }
+
+-- a quantifier on what is not repeatable: at its mark or closing brace, one byte before t
+abbrev pub not_repeatable : ℕ → Text → Fault
+not_repeatable n t = record { place = place_of n t - 1; kind = target_not_repeatable }
+
+-- the end of the text where a group's `)`, a flag letter, or the text behind `(?(` or `(?~` is due
+abbrev pub group_not_closed : ℕ → Fault
+group_not_closed n = record { place = n; kind = unclosed_open_paren }
+
+-- a bar behind the second branch of an absent expression: at that bar, where t begins
+abbrev pub bar_for_close_paren : ℕ → Text → Fault
+bar_for_close_paren n t = record { place = place_of n t; kind = general_parse_error close_paren_expected }
+
+-- a `)` that closes nothing: there, where t begins
+abbrev pub close_paren_left_over : ℕ → Text → Fault
+close_paren_left_over n t = record { place = place_of n t; kind = general_parse_error end_expected }
+
+-- a conditional whose body takes no byte, and whose condition is none on a group: behind the condition's `)`, where t begins
+abbrev pub body_wanting : ℕ → Text → Fault
+body_wanting n t = record { place = place_of n t; kind = general_parse_error body_expected }
+
+-- ---- heads of groups
+
+-- a character that is no letter of flags, with which `w` ends: right behind the `?`, where t begins, and it with `w`
+abbrev pub no_flag_letter : ℕ → Text → Text → Fault
+no_flag_letter n t w = record { place = place_of n t; kind = unknown_flag (codes "(?" ++ w) }
+
+-- `u` set or cleared against the mode: at the `u`, where t begins
+abbrev pub mode_changed : ℕ → Text → Fault
+mode_changed n t = record { place = place_of n t; kind = changing_unicode_mode_unsupported }
+
+-- a named group without its name or closing mark: at the `?`, one byte before t
+abbrev pub group_not_named : ℕ → Text → Fault
+group_not_named n t = record { place = place_of n t - 1; kind = invalid_group_name }
+
+-- a reference, call or condition's target that does not read: at the reference's place
+abbrev pub reference_not_read : ℕ → Fault
+reference_not_read p = record { place = p; kind = invalid_group_name }
+
+-- an unknown verb: at the `*`, where t begins
+abbrev pub unknown_verb : ℕ → Text → Fault
+unknown_verb n t = record { place = place_of n t; kind = target_not_repeatable }
+
+-- ---- escapes, whose backslash stands at the place p
+
+-- a backslash at the end
+abbrev pub backslash_at_end : ℕ → Fault
+backslash_at_end p = record { place = p; kind = trailing_backslash }
+
+-- a number that no word holds, behind a backslash or `\g`: at its first digit, where t begins
+abbrev pub number_too_great : ℕ → Text → Fault
+number_too_great n t = record { place = place_of n t; kind = invalid_backref }
+
+-- a letter that is no escape
+abbrev pub letter_of_no_escape : ℕ → ℕ → Fault
+letter_of_no_escape p c = record { place = p; kind = invalid_escape (backslash ∷ c ∷ []) }
+
+-- the braces of a boundary without their end; the text is the same for `\B`
+abbrev pub boundary_not_closed : ℕ → Fault
+boundary_not_closed p = record { place = p; kind = invalid_escape (codes "\\b{...}") }
+
+-- what stands before a boundary's name; `\B` is negated
+abbrev pub boundary_head : Bool → Text
+boundary_head negated = if negated then codes "\\B{" else codes "\\b{"
+
+-- a name that no boundary has
+abbrev pub name_of_no_boundary : ℕ → Bool → Text → Fault
+name_of_no_boundary p negated w = record { place = p; kind = invalid_escape (boundary_head negated ++ (w ++ codes "}")) }
+
+-- the name of a property in braces that do not end
+abbrev pub property_not_closed : ℕ → Fault
+property_not_closed p = record { place = p; kind = unclosed_unicode_name }
+
+-- a code that does not read: where its digits or its brace should stand, at the place h
+abbrev pub code_not_read : ℕ → Fault
+code_not_read h = record { place = h; kind = invalid_hex }
+
+-- a code of no character: there too
+abbrev pub code_of_no_character : ℕ → Fault
+code_of_no_character h = record { place = h; kind = invalid_codepoint_value }
+
+-- the end of the text in a class
+abbrev pub class_not_closed : ℕ → Fault
+class_not_closed n = record { place = n; kind = invalid_class }
+
+-- a backslash and a digit in a class
+abbrev pub number_in_class : ℕ → Fault
+number_in_class p = record { place = p; kind = invalid_class }
+
+-- ---- references, once the whole text was read: each at its reference's place
+
+-- a back reference by a name whose last group opens at it or behind it
+abbrev pub name_of_later_group : Text → Kind
+name_of_later_group w = invalid_group_name_backref w
+
+-- an unknown name, or a number below 0, in a back reference or condition
+abbrev pub no_such_group : Kind
+no_such_group = invalid_backref
+
+-- the fault of this kind of the reference at the place p
+abbrev pub of_reference : ℕ → Kind → Fault
+of_reference p k = record { place = p; kind = k }

@@ -1,0 +1,466 @@
+-- The relation of a flag group's letters holds of exactly what the function answers.
+use Rattle.std.proofs.Common.{◌≡◌, ◌≢◌, ◌⊎◌, inl, inr, ℕ, zero, suc, ◌+◌, ◌<◌, ◌≤◌, ◌==◌, ◌&&◌, ◌||◌, Bool, true, false, not, if◌then◌else◌, List, [], ◌∷◌, ◌++◌, Result, Option, Some, None, refl, ap, sym, ◌∙◌, subst, arith, append_assoc}
+use Rattle.std.proofs.lemmas.Bool.{cases_eq}
+use Rattle.std.proofs.lemmas.Bool.Decides.{nat_tests}
+use Rattle.std.proofs.lemmas.List.{append_cancel_right}
+use Rattle.std.proofs.lemmas.Str.{len_utf8_bounds}
+use Rattle.std.proofs.Math.Bool.{beq}
+use Rattle.std.specs.Borrow.{Bor}
+use Prim.Native.Char.{code}
+use Rattle.fancy_lex.proofs.LayoutLaws.{layout_sound, layout_complete, unclosed_sound, unclosed_complete}
+use Rattle.fancy_lex.proofs.ReadingLemmas.{derives_answer, only_answer}
+use Rattle.fancy_lex.proofs.TextLemmas.{bytes-append}
+use Rattle.fancy_lex.specs.Characters.{open_paren, hash, ◌∈◌}
+use Rattle.fancy_lex.specs.FaultTable.{comment_not_closed, group_not_closed, no_flag_letter, mode_changed}
+use Rattle.fancy_lex.specs.Layout.{Skipped, rest, fault, layout, Units, none, more as unit_more, IsUnit, is_blank, Before}
+use Rattle.fancy_lex.specs.Reading.{Reading, gives, fails, ◌>=>◌, Gives, Derives}
+use Rattle.fancy_lex.specs.Text.{Text, bytes}
+use Rattle.fancy_lex.specs.declared.error.Error.{Error}
+use Rattle.fancy_lex.specs.declared.flags.Flags.{Flags}
+use Rattle.fancy_parts.specs.FlagLetters.{Letters, setting, scope, with_letter, Step, ends, goes, is_first, is_behind_minus, unknown_letter, goes_on, step, behind_step, letters_in, letters, NoLetter, nothing_closed, nothing_scoped, second_minus, no_flag, Letter, flag, same_mode, minus, parenthesis, colon, no_letter, other_mode, Next, LettersFrom, last, more, letter_fault, text_end, open_layout, FlagGroup}
+use Rattle.fancy_parts.specs.FlagReads.{letters_of}
+use Rattle.fancy_parts.specs.declared.heads.letters.Letters as declared
+use Rattle.fancy_parts.proofs.FlagLemmas.{front_read}
+
+abbrev one_minus : Text
+one_minus = code "-" ∷ []
+
+-- ---- a minus alone, told from lengths
+
+bytes_some : (c : ℕ) (t : Text) → 1 + bytes t ≤ bytes (c ∷ t)
+unfolding bytes
+bytes_some c t = omega (arith, len_utf8_bounds c)
+
+-- nothing was read, a minus alone, or something else
+data Front (w : Text) : Type 0 where
+  nothing : w ≡ [] → Front w
+  dash : w ≡ one_minus → Front w
+  other : w ≢ [] → w ≢ one_minus → Front w
+
+not_nil : (c : ℕ) (w : Text) → c ∷ w ≢ []
+not_nil c w e = cc
+
+front : (w : Text) → Front w
+front [] = nothing refl
+front (c ∷ []) =
+    elim (cases_eq c (code "-")) [
+      | inl e ↦ dash (ap (λ d. d ∷ []) e)
+      | inr d ↦ other (not_nil c []) (λ e. d (head_is e))
+    ] where
+      head_is : c ∷ [] ≡ one_minus → c ≡ code "-"
+      head_is e = cc
+front (c ∷ d ∷ w) = other (not_nil c (d ∷ w)) two where
+  two : c ∷ d ∷ w ≢ one_minus
+  two e = cc
+
+-- what was read, as `clears` tells of it
+record Told (w : Text) (clears : Bool) : Type 0 where
+  pub is : w ≡ one_minus → clears ≡ true
+  pub one : clears ≡ true → bytes w ≡ 1 → w ≡ one_minus
+  pub some : clears ≡ true → w ≢ []
+
+told_start : Told [] false
+told_start = record { is = λ e. absurd (no e); one = λ e. absurd (off e); some = λ e. absurd (off e) } where
+  no : [] ≡ one_minus → ⊥
+  no e = cc
+
+  off : false ≡ true → ⊥
+  off e = cc
+
+nil_of_bytes : (w : Text) → bytes w ≡ 0 → w ≡ []
+nil_of_bytes [] e = refl
+nil_of_bytes (c ∷ w) e = absurd (omega (arith, bytes_some c w, e))
+
+head_same : (a b : ℕ) (s t : Text) → a ∷ s ≡ b ∷ t → a ≡ b
+head_same a b s t e = cc
+
+blank_no_minus : (c : ℕ) → is_blank c ≡ true → c ≢ code "-"
+blank_no_minus c b e = grind (arith, nat_tests)
+
+-- no layout is a minus
+not_layout : (x : Bool) (l v : Text) → Units x l v → l ≢ one_minus
+not_layout x l v none e = absurd cc
+not_layout x l v (unit_more u t cut unit h) e = by_unit unit where
+  begins : (c : ℕ) (s : Text) → u ≡ c ∷ s → c ≡ code "-"
+  begins c s q = head_same c (code "-") (s ++ t) [] (sym (cut ∙ ap (λ a. a ++ t) q) ∙ e)
+
+  not_begun : (c : ℕ) (s : Text) → (c == code "-") ≡ false → u ≡ c ∷ s → ⊥
+  not_begun c s d q = let same : c ≡ code "-" = begins c s q in grind (arith, nat_tests)
+
+  by_unit : IsUnit x u (t ++ v) → ⊥
+  by_unit (inl (i, h, q)) = not_begun open_paren _ refl q
+  by_unit (inr (on, inl (c, b, q))) = blank_no_minus c b (begins c [] q)
+  by_unit (inr (on, inr (i, h, inl q))) = not_begun hash _ refl q
+  by_unit (inr (on, inr (i, h, inr (q, y)))) = not_begun hash _ refl q
+
+prefix_nil : (w l : Text) → w ++ l ≡ [] → w ≡ []
+prefix_nil [] l e = refl
+prefix_nil (c ∷ w) l e = absurd (cc)
+
+alone_or_all : (w l : Text) → w ++ l ≡ one_minus → (w ≡ one_minus) ⊎ (l ≡ one_minus)
+alone_or_all [] l e = inr e
+alone_or_all (c ∷ w) l e = inl (keep (prefix_nil w l tail)) where
+  tail : w ++ l ≡ []
+  tail = cc
+
+  head : c ≡ code "-"
+  head = head_same c (code "-") (w ++ l) [] e
+
+  keep : w ≡ [] → c ∷ w ≡ one_minus
+  keep z = rw (z, head) refl
+
+last_same : (w : Text) (c d : ℕ) → w ++ c ∷ [] ≡ d ∷ [] → c ≡ d
+last_same [] c d e = head_same c d [] [] e
+last_same (b ∷ []) c d e = absurd (cc)
+last_same (b ∷ a ∷ w) c d e = absurd (cc)
+
+bytes_minus : bytes one_minus ≡ 1
+unfolding bytes
+bytes_minus = refl
+
+bytes_none : bytes [] ≡ 0
+unfolding bytes
+bytes_none = refl
+
+at_least : (w : Text) → w ≢ [] → 1 ≤ bytes w
+at_least [] d = absurd (d refl)
+at_least (c ∷ w) d = omega (arith, bytes_some c w)
+
+-- layout behind what was read
+told_layout : (x clears : Bool) (w l v : Text) → Told w clears → Units x l v → Told (w ++ l) clears
+told_layout x clears w l v h units = record { is = is; one = one; some = λ c e. h.some c (prefix_nil w l e) } where
+  is : w ++ l ≡ one_minus → clears ≡ true
+  is e =
+      elim (alone_or_all w l e) [
+        | inl a ↦ h.is a
+        | inr a ↦ absurd (not_layout x l v units a)
+      ]
+
+  one : clears ≡ true → bytes (w ++ l) ≡ 1 → w ++ l ≡ one_minus
+  one c e =
+      let some = at_least w (h.some c) in
+      let sum = bytes-append w l in
+      let none = nil_of_bytes l (omega (arith, some, sum, e)) in
+      let alone = h.one c (omega (arith, some, sum, e)) in
+      rw (none, alone) refl
+
+-- a character behind it
+told_more : (clears : Bool) (w : Text) (c : ℕ) → Told w clears → c ≢ code "-" → Told (w ++ c ∷ []) clears
+told_more clears w c h d = record {
+  is = λ e. absurd (d (last_same w c (code "-") e));
+  one = λ on e. absurd (omega (arith, at_least w (h.some on), bytes-append w (c ∷ []), bytes_some c [], e));
+  some = λ on e. h.some on (prefix_nil w (c ∷ []) e);
+}
+
+-- a minus behind it, the first
+told_minus : (w : Text) (c : ℕ) → c ≡ code "-" → Told (w ++ c ∷ []) true
+told_minus w c d = record { is = λ e. refl; one = one; some = some } where
+  some : true ≡ true → w ++ c ∷ [] ≢ []
+  some on e = absurd (omega (arith, ap bytes e, bytes-append w (c ∷ []), bytes_some c [], bytes_none))
+
+  one : true ≡ true → bytes (w ++ c ∷ []) ≡ 1 → w ++ c ∷ [] ≡ one_minus
+  one on e =
+      let none = nil_of_bytes w (omega (arith, bytes-append w (c ∷ []), bytes_some c [], e)) in
+      rw (none, d) refl
+
+-- ---- one letter
+
+same_test : (a b : ℕ) → a ≡ b → (a == b) ≡ true
+same_test a b e = grind (arith, nat_tests)
+
+other_test : (a b : ℕ) → a ≢ b → (a == b) ≡ false
+other_test a b d = grind (arith, nat_tests)
+
+module _ (n : ℕ) (t w : Text) (clears : Bool) (f : Flags) (c : ℕ) (u : Text) (told : Told w clears) (cut : t ≡ w ++ (c ∷ u)) where
+  sum : bytes t ≡ bytes w + bytes (c ∷ u)
+  sum = ap bytes cut ∙ bytes-append w (c ∷ u)
+
+  unknown_is : unknown_letter n t u ≡ fails (no_flag_letter n t (w ++ c ∷ []))
+  unknown_is =
+      ap (λ s. fails (no_flag_letter n t s)) (front_read t (w ++ c ∷ []) u (cut ∙ sym (append_assoc w (c ∷ []) u)))
+
+  first_at : w ≡ [] → is_first t (c ∷ u) ≡ true
+  first_at e = same_test (bytes (c ∷ u)) (bytes t) (sym (ap bytes (cut ∙ ap (λ s. s ++ (c ∷ u)) e)))
+
+  not_first : w ≢ [] → is_first t (c ∷ u) ≡ false
+  not_first d = other_test (bytes (c ∷ u)) (bytes t) (λ e. absurd (omega (arith, at_least w d, sum, e)))
+
+  minus_at : w ≡ one_minus → is_behind_minus t clears (c ∷ u) ≡ true
+  minus_at e =
+      let is : (bytes (c ∷ u) + 1 == bytes t) ≡ true = same_test (bytes (c ∷ u) + 1) (bytes t) (omega (arith, sum, ap bytes e, bytes_minus)) in
+      rw (told.is e, is) refl
+
+  no_minus : w ≢ one_minus → is_behind_minus t clears (c ∷ u) ≡ false
+  no_minus d = by clears refl where
+    by : (b : Bool) → clears ≡ b → (b && (bytes (c ∷ u) + 1 == bytes t)) ≡ false
+    by false e = refl
+    by true e = other_test (bytes (c ∷ u) + 1) (bytes t) (λ q. d (told.one e (omega (arith, sum, q))))
+
+  closes_bad : (w ≡ []) ⊎ (w ≡ one_minus) → (is_first t (c ∷ u) || is_behind_minus t clears (c ∷ u)) ≡ true
+  closes_bad (inl e) = rw (first_at e) refl
+  closes_bad (inr e) = rw (minus_at e) (or_true (is_first t (c ∷ u))) where
+    or_true : (b : Bool) → (b || true) ≡ true
+    or_true true = refl
+    or_true false = refl
+
+  closes_well : w ≢ [] → w ≢ one_minus → (is_first t (c ∷ u) || is_behind_minus t clears (c ∷ u)) ≡ false
+  closes_well d e = rw (not_first d, no_minus e) refl
+
+  -- the step, by its character
+  at_parenthesis : c ≡ code ")" → (b : Bool) → (is_first t (c ∷ u) || is_behind_minus t clears (c ∷ u)) ≡ b →
+      step n t clears f (c ∷ u) ≡ (if b then unknown_letter n t u else gives (ends (setting f)) u)
+  at_parenthesis e b h = let is : (c == code ")") ≡ true = same_test c (code ")") e in rw (is, h) refl
+
+  at_colon : c ≡ code ":" → (b : Bool) → is_behind_minus t clears (c ∷ u) ≡ b →
+      step n t clears f (c ∷ u) ≡ (if b then unknown_letter n t u else gives (ends (scope f)) u)
+  at_colon e b h =
+      let is : (c == code ":") ≡ true = same_test c (code ":") e in
+      let a : (c == code ")") ≡ false = rw e refl in
+      rw (a, is, h) refl
+
+  at_minus : c ≡ code "-" → (b : Bool) → clears ≡ b → step n t clears f (c ∷ u) ≡ (if b then unknown_letter n t u else gives (goes true f) u)
+  at_minus e b h =
+      let is : (c == code "-") ≡ true = same_test c (code "-") e in
+      let a : (c == code ")") ≡ false = rw e refl in
+      let d : (c == code ":") ≡ false = rw e refl in
+      rw (a, d, is, h) refl
+
+  at_mode : c ≡ code "u" → (b : Bool) → beq clears f.unicode ≡ b →
+      step n t clears f (c ∷ u) ≡ (if b then fails (mode_changed n (c ∷ u)) else gives (goes clears f) u)
+  at_mode e b h =
+      let is : (c == code "u") ≡ true = same_test c (code "u") e in
+      let a : (c == code ")") ≡ false = rw e refl in
+      let d : (c == code ":") ≡ false = rw e refl in
+      let g : (c == code "-") ≡ false = rw e refl in
+      rw (a, d, g, is, h) refl
+
+  at_other : c ≢ code ")" → c ≢ code ":" → c ≢ code "-" → c ≢ code "u" →
+      step n t clears f (c ∷ u) ≡ goes_on n t clears u (with_letter f (not clears) c)
+  at_other a b d e =
+      let a : (c == code ")") ≡ false = other_test c (code ")") a in
+      let b : (c == code ":") ≡ false = other_test c (code ":") b in
+      let d : (c == code "-") ≡ false = other_test c (code "-") d in
+      let e : (c == code "u") ≡ false = other_test c (code "u") e in
+      rw (a, b, d, e) refl
+
+  opposite : (a b : Bool) → beq a b ≡ false → b ≡ not a
+  opposite true true e = absurd (cc)
+  opposite true false e = refl
+  opposite false true e = refl
+  opposite false false e = absurd (cc)
+
+  equal : (a b : Bool) → beq a b ≡ true → b ≡ a
+  equal true true e = refl
+  equal true false e = absurd (cc)
+  equal false true e = absurd (cc)
+  equal false false e = refl
+
+  -- the relation holds of the step
+  letter_at : Letter n t w clears f c u (step n t clears f (c ∷ u))
+  letter_at =
+      elim (cases_eq c (code ")")) [
+        | inl a ↦ on_parenthesis a (front w)
+        | inr a ↦ elim (cases_eq c (code ":")) [
+          | inl b ↦ on_colon b (front w)
+          | inr b ↦ elim (cases_eq c (code "-")) [
+            | inl d ↦ on_minus d clears refl
+            | inr d ↦ elim (cases_eq c (code "u")) [
+              | inl e ↦ on_mode e (beq clears f.unicode) refl
+              | inr e ↦ on_other a b d e (with_letter f (not clears) c) refl
+            ]
+          ]
+        ]
+      ] where
+        bad : NoLetter w clears f c → Letter n t w clears f c u (unknown_letter n t u)
+        bad h = rw unknown_is (no_letter h)
+
+        on_parenthesis : c ≡ code ")" → Front w → Letter n t w clears f c u (step n t clears f (c ∷ u))
+        on_parenthesis a (nothing e) = rw (at_parenthesis a true (closes_bad (inl e))) (bad (nothing_closed a (inl e)))
+        on_parenthesis a (dash e) = rw (at_parenthesis a true (closes_bad (inr e))) (bad (nothing_closed a (inr e)))
+        on_parenthesis a (other d e) = rw (at_parenthesis a false (closes_well d e)) (parenthesis a d e)
+
+        on_colon : c ≡ code ":" → Front w → Letter n t w clears f c u (step n t clears f (c ∷ u))
+        on_colon a (nothing e) = rw (at_colon a false (no_minus (λ q. nil_or e q))) (colon a (λ q. nil_or e q)) where
+          nil_or : w ≡ [] → w ≡ one_minus → ⊥
+          nil_or e q = let both = sym e ∙ q in cc
+        on_colon a (dash e) = rw (at_colon a true (minus_at e)) (bad (nothing_scoped a e))
+        on_colon a (other d e) = rw (at_colon a false (no_minus e)) (colon a e)
+
+        on_minus : c ≡ code "-" → (b : Bool) → clears ≡ b → Letter n t w clears f c u (step n t clears f (c ∷ u))
+        on_minus a true e = rw (at_minus a true e) (bad (second_minus a e))
+        on_minus a false e = rw (at_minus a false e) (minus a e)
+
+        on_mode : c ≡ code "u" → (b : Bool) → beq clears f.unicode ≡ b → Letter n t w clears f c u (step n t clears f (c ∷ u))
+        on_mode a true e = rw (at_mode a true e) (other_mode a (equal clears f.unicode e))
+        on_mode a false e = rw (at_mode a false e) (same_mode a (opposite clears f.unicode e))
+
+        on_other : c ≢ code ")" → c ≢ code ":" → c ≢ code "-" → c ≢ code "u" → (o : Option Flags) →
+            with_letter f (not clears) c ≡ o → Letter n t w clears f c u (step n t clears f (c ∷ u))
+        on_other a b d e None h =
+            let among : (c ∈ ")-:u") ≡ false = grind (arith, nat_tests) in
+            rw (at_other a b d e, h) (bad (no_flag among h))
+        on_other a b d e (Some g) h = rw (at_other a b d e, h) (flag h)
+
+  -- and of nothing else
+  letter_is : {q : Reading Step} → Letter n t w clears f c u q → step n t clears f (c ∷ u) ≡ q
+  letter_is (flag {g} e) =
+      at_other (not_at (code ")") (λ a. none_at (code ")") refl a)) (not_at (code ":") (λ a. none_at (code ":") refl a))
+      (not_at (code "-") (λ a. none_at (code "-") refl a)) (not_at (code "u") (λ a. none_at (code "u") refl a))
+      ∙ rw e refl where
+        none_at : (d : ℕ) → with_letter f (not clears) d ≡ None → c ≡ d → with_letter f (not clears) c ≡ None
+        none_at d h a = rw a h
+
+        not_at : (d : ℕ) → (c ≡ d → with_letter f (not clears) c ≡ None) → c ≢ d
+        not_at d h a = let both = sym (h a) ∙ e in cc
+  letter_is (same_mode a e) = at_mode a false (rw e (differ clears)) where
+    differ : (b : Bool) → beq b (not b) ≡ false
+    differ true = refl
+    differ false = refl
+  letter_is (minus a e) = at_minus a false e
+  letter_is (parenthesis a d e) = at_parenthesis a false (closes_well d e)
+  letter_is (colon a d) = at_colon a false (no_minus d)
+  letter_is (other_mode a e) = at_mode a true (rw e (agree clears)) where
+    agree : (b : Bool) → beq b b ≡ true
+    agree true = refl
+    agree false = refl
+  letter_is (no_letter h) = by h ∙ unknown_is where
+    by : NoLetter w clears f c → step n t clears f (c ∷ u) ≡ unknown_letter n t u
+    by (nothing_closed a e) = at_parenthesis a true (closes_bad e)
+    by (nothing_scoped a e) = at_colon a true (minus_at e)
+    by (second_minus a e) = at_minus a true e
+    by (no_flag a e) =
+        at_other (grind (arith, nat_tests)) (grind (arith, nat_tests)) (grind (arith, nat_tests)) (grind (arith, nat_tests)) ∙ rw e refl
+
+  -- what is known of `clears` behind it
+  told_behind : {b : Bool} {g : Flags} {r : Text} → Letter n t w clears f c u (gives (goes b g) r) → Told (w ++ c ∷ []) b
+  told_behind (flag e) = told_more clears w c told no_minus_flag where
+    no_minus_flag : c ≢ code "-"
+    no_minus_flag a = let none : with_letter f (not clears) c ≡ None = rw a refl in let both = sym none ∙ e in cc
+  told_behind (same_mode a e) = told_more clears w c told no_minus_mode where
+    no_minus_mode : c ≢ code "-"
+    no_minus_mode d = grind (arith, nat_tests)
+  told_behind (minus a e) = told_minus w c a
+
+-- ---- the letters, one after another
+
+-- a letter leaves what follows it
+letter_rest : {n : ℕ} {t w : Text} {clears : Bool} {f : Flags} {c : ℕ} {u r : Text} {s : Step} →
+    Letter n t w clears f c u (gives s r) → r ≡ u
+letter_rest (flag e) = refl
+letter_rest (same_mode a e) = refl
+letter_rest (minus a e) = refl
+letter_rest (parenthesis a d e) = refl
+letter_rest (colon a d) = refl
+
+-- what was read of the letters before `u`
+abbrev Reached : Text → Bool → Text → Type 0
+Reached t clears u = (w : Text) × (t ≡ w ++ u) × Told w clears
+
+module _ (n : ℕ) (t : Text) where
+  -- one step of the function
+  read_open : (k : ℕ) (clears : Bool) (f : Flags) (u : Text) (q : ℕ) → layout n f.ignore_space u ≡ fault q →
+      letters_in n t (suc k) clears f u ≡ fails (comment_not_closed q)
+  unfolding letters_in
+  read_open k clears f u q e = rw e refl
+
+  read_end : (k : ℕ) (clears : Bool) (f : Flags) (u : Text) → layout n f.ignore_space u ≡ rest [] →
+      letters_in n t (suc k) clears f u ≡ fails (group_not_closed n)
+  unfolding letters_in
+  read_end k clears f u e = rw e refl
+
+  read_step : (k : ℕ) (clears : Bool) (f : Flags) (u v : Text) → layout n f.ignore_space u ≡ rest v →
+      letters_in n t (suc k) clears f u ≡ (step n t clears f v >=> behind_step (letters_in n t k))
+  unfolding letters_in
+  read_step k clears f u v e = rw e refl
+
+  -- the text behind layout and a letter is shorter
+  shorter : (w u : Text) (c : ℕ) (v : Text) (k : ℕ) → u ≡ w ++ (c ∷ v) → bytes u < suc k → bytes v < k
+  shorter w u c v k cut l = omega (arith, ap bytes cut, bytes-append w (c ∷ v), bytes_some c v, l)
+
+  -- before the letter that follows the layout
+  module _ (clears : Bool) (f : Flags) (u : Text) (c : ℕ) (v : Text) (at : Reached t clears u) (b : Before f.ignore_space u (c ∷ v)) where
+    cut_at : t ≡ (at.0 ++ b.w) ++ (c ∷ v)
+    cut_at = at.1 ∙ ap (λ s. at.0 ++ s) b.cut ∙ sym (append_assoc at.0 b.w (c ∷ v))
+
+    told_at : Told (at.0 ++ b.w) clears
+    told_at = told_layout f.ignore_space clears at.0 b.w (c ∷ v) at.2 b.layout.units
+
+    told_as : (w : Text) → t ≡ w ++ (c ∷ v) → Told w clears
+    told_as w e = subst (λ s. Told s clears) (append_cancel_right (at.0 ++ b.w) w (c ∷ v) (sym cut_at ∙ e)) told_at
+
+  -- and behind it
+  reach_on : {clears b : Bool} {f g : Flags} {u v : Text} → Reached t clears u → Next n t clears f u v (gives (goes b g) v) →
+      Reached t b v
+  reach_on {clears} {b} {f} {g} {u} {v} at x = (
+    x.w ++ x.c ∷ [],
+    x.read ∙ sym (append_assoc x.w (x.c ∷ []) v),
+    told_behind n t x.w clears f x.c v (told_as clears f u x.c v at x.layout x.w x.read) x.read x.letter,
+  )
+
+  abbrev ReadShort : ℕ → Type 0
+  ReadShort k =
+      (clears : Bool) (f : Flags) (u : Text) → Reached t clears u → bytes u < k → LettersFrom n t clears f u (letters_in n t k clears f u)
+
+  -- what the function answers, the relation gives
+  module _ (k : ℕ) (reads : ReadShort k) (clears : Bool) (f : Flags) (u : Text) (at : Reached t clears u) (l : bytes u < suc k) where
+    read_behind : (c : ℕ) (v : Text) (b : Before f.ignore_space u (c ∷ v)) (q : Reading Step) →
+        Letter n t (at.0 ++ b.w) clears f c v q → LettersFrom n t clears f u (q >=> behind_step (letters_in n t k))
+    read_behind c v b q h = by q h where
+      next : (q : Reading Step) → Letter n t (at.0 ++ b.w) clears f c v q → Next n t clears f u v q
+      next q h = record { c = c; w = at.0 ++ b.w; layout = b; read = cut_at clears f u c v at b; letter = h }
+
+      by : (q : Reading Step) → Letter n t (at.0 ++ b.w) clears f c v q →
+          LettersFrom n t clears f u (q >=> behind_step (letters_in n t k))
+      by (gives (ends a) r) h =
+          rw (letter_rest h) (last (next (gives (ends a) v) (subst (λ s. Letter n t (at.0 ++ b.w) clears f c v (gives (ends a) s)) (letter_rest h) h)))
+      by (gives (goes d g) r) h =
+          let here = next (gives (goes d g) v) (subst (λ s. Letter n t (at.0 ++ b.w) clears f c v (gives (goes d g) s)) (letter_rest h) h) in
+          rw (letter_rest h) (more here (reads d g v (reach_on at here) (shorter b.w u c v k b.cut l)))
+      by (fails e) h = letter_fault (next (fails e) h)
+
+    read_layout : (s : Skipped) → layout n f.ignore_space u ≡ s → LettersFrom n t clears f u (letters_in n t (suc k) clears f u)
+    read_layout (fault q) e = rw (read_open k clears f u q e) (open_layout (unclosed_sound n f.ignore_space u q e))
+    read_layout (rest []) e = rw (read_end k clears f u e) (text_end (layout_sound n f.ignore_space u [] e))
+    read_layout (rest (c ∷ v)) e =
+        let b = layout_sound n f.ignore_space u (c ∷ v) e in
+        let h = letter_at n t (at.0 ++ b.w) clears f c v (told_at clears f u c v at b) (cut_at clears f u c v at b) in
+        rw (read_step k clears f u (c ∷ v) e) (read_behind c v b (step n t clears f (c ∷ v)) h)
+
+  letters_read : (k : ℕ) → ReadShort k
+  letters_read zero clears f u at l = absurd (omega arith)
+  letters_read (suc k) clears f u at l = read_layout k (letters_read k) clears f u at l (layout n f.ignore_space u) refl
+
+  -- whatever the relation gives is the function's answer: by induction on the derivation
+  step_is : {clears : Bool} {f : Flags} {u v : Text} {q : Reading Step} (k : ℕ) → Reached t clears u → (x : Next n t clears f u v q) →
+      letters_in n t (suc k) clears f u ≡ (q >=> behind_step (letters_in n t k))
+  step_is {clears} {f} {u} {v} {q} k at x =
+      read_step k clears f u (x.c ∷ v) (layout_complete n f.ignore_space u (x.c ∷ v) x.layout)
+      ∙ ap (λ o. o >=> behind_step (letters_in n t k))
+      (letter_is n t x.w clears f x.c v (told_as clears f u x.c v at x.layout x.w x.read) x.read x.letter)
+
+  letters_are : (k : ℕ) {clears : Bool} {f : Flags} {u : Text} {o : Reading Letters} → LettersFrom n t clears f u o →
+      Reached t clears u → bytes u < k → letters_in n t k clears f u ≡ o
+  letters_are zero h at l = absurd (omega arith)
+  letters_are (suc k) (last x) at l = step_is k at x
+  letters_are (suc k) {clears} {f} {u} (more {b} {g} {v} x h) at l =
+      step_is k at x ∙ letters_are k h (reach_on at x) (shorter x.layout.w u x.c v k x.layout.cut l)
+  letters_are (suc k) (letter_fault x) at l = step_is k at x
+  letters_are (suc k) {clears} {f} {u} (text_end b) at l =
+      read_end k clears f u (layout_complete n f.ignore_space u [] b)
+  letters_are (suc k) {clears} {f} {u} (open_layout {q} b) at l =
+      read_open k clears f u q (unclosed_complete n f.ignore_space u q b)
+
+-- ---- the clauses of the reader
+
+module _ (n : ℕ) (f : Flags) (t : Text) (r : Result (declared.Letters × Bor (List ℕ)) Error) (g : Gives letters_of r (letters n f t)) where
+  at_start : Reached t false t
+  at_start = ([], refl, told_start)
+
+  pub letters_derive : Derives letters_of r (FlagGroup n f t)
+  unfolding letters
+  letters_derive =
+      derives_answer letters_of r (FlagGroup n f t) (letters n f t) (letters_read n t (suc (bytes t)) false f t at_start (omega arith)) g
+
+  pub letters_only : (o : Reading Letters) → FlagGroup n f t o → Gives letters_of r o
+  unfolding letters
+  letters_only o h = only_answer letters_of r (letters n f t) o (letters_are n t (suc (bytes t)) h at_start (omega arith)) g

@@ -1,0 +1,21 @@
+-- What is printed reads back: texts in front of others, what the grammar reads of them, and normal forms.
+pub mod CarriedLaws
+pub mod ChunkLemmas
+pub mod ClassChunks
+pub mod ClearLemmas
+pub mod CountTexts
+pub mod DelegateLaws
+pub mod DelegateTexts
+pub mod InFront
+pub mod Induction
+pub mod Laws
+pub mod LeafLemmas
+pub mod NormalLaws
+pub mod OverLemmas
+pub mod PrintableLaws
+pub mod PrintedScalars
+pub mod RewrittenLaws
+pub mod RuleLemmas
+pub mod ScalarLemmas
+pub mod ShapeLemmas
+pub mod TooDeep

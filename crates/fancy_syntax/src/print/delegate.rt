@@ -1,0 +1,70 @@
+//! Whether a Delegate's text is one whole class or one whole class escape.
+ghost use Rattle.std.specs.Prelude.{◌≡◌, ◌∷◌, ◌+◌, ◌<◌, ◌^◌, [], chars, is_some, length, false, IfOk};
+ghost use Rattle.fancy_lex.specs.Characters.{open_bracket, backslash};
+ghost use Rattle.fancy_lex.specs.declared.error.Error.TheVariants.{OutOfMemory};
+ghost use Rattle.fancy_lex.specs.Escaped.{escape_of};
+ghost use Rattle.fancy_syntax.specs.Ahead.{leaf_node};
+ghost use Rattle.fancy_syntax.specs.Normal.{bare, class_of, whole_of};
+
+use fancy_lex::class::class;
+use fancy_lex::error::Error;
+use fancy_lex::escape::{Escaped, escape};
+use fancy_lex::flags::Flags;
+use fancy_lex::text::next;
+use std::alloc::{AllocError, Global};
+
+/// Whether the text alone, read under no flags, is one whole class or one whole class escape.
+pub(crate) fn is_whole(alloc: Global, text: &str) -> Result<bool, AllocError>
+    ensures { IfOk result (λ b. b ≡ is_some (class_of (bare false) (chars text.now))) }
+{
+    let Some((c, rest)) = next(text) else {
+        return Ok(false);
+    };
+    match c {
+        '[' => is_whole_class(alloc, rest, text.len()),
+        '\\' => is_whole_escape(alloc, rest, text.len()),
+        _ => Ok(false),
+    }
+}
+
+/// Whether a bracket and the text are one whole class, of so many bytes.
+fn is_whole_class(alloc: Global, text: &str, end: usize) -> Result<bool, AllocError>
+    requires bounded { end < 2 ^ 63 }
+    requires whole { end ≡ length text.now + 1 }
+    ensures { IfOk result (λ b. b ≡ is_some (class_of (bare false) (open_bracket ∷ chars text.now))) }
+{
+    match class(alloc, text, Flags::from_bits(0), end) {
+        Ok((_, rest)) => Ok(next(rest).is_none()),
+        Err(error) => is_no_class(error),
+    }
+}
+
+/// Whether a backslash and the text are one whole class escape, of so many bytes.
+fn is_whole_escape(alloc: Global, text: &str, end: usize) -> Result<bool, AllocError>
+    requires bounded { end < 2 ^ 63 }
+    requires whole { end ≡ length text.now + 1 }
+    ensures { IfOk result (λ b. b ≡ is_some (class_of (bare false) (backslash ∷ chars text.now))) }
+{
+    match escape(alloc, text, Flags::from_bits(0), false, 0, end) {
+        Ok((leaf, rest)) => Ok(is_class(leaf) && next(rest).is_none()),
+        Err(error) => is_no_class(error),
+    }
+}
+
+/// Whether the escape stands for a class.
+fn is_class(leaf: Escaped) -> bool
+    ensures { result ≡ is_some (whole_of [] (leaf_node (escape_of leaf.entry))) }
+{
+    matches!(leaf, Escaped::Delegate { .. })
+}
+
+/// False for a fault of the text; the refusal where memory ran out.
+fn is_no_class(error: Error) -> Result<bool, AllocError>
+    ensures no { IfOk result (λ b. b ≡ false) }
+    ensures fault { IfOk result (λ _. error ≡ OutOfMemory → ⊥) }
+{
+    match error {
+        Error::ParseError(..) => Ok(false),
+        Error::OutOfMemory => Err(AllocError),
+    }
+}
