@@ -24,7 +24,7 @@ use Rattle.fancy_parts.specs.Ranks.{only_named, counted}
 use Rattle.fancy_syntax.specs.Preorder.{preorder, preorder_all}
 use Rattle.fancy_syntax.specs.Quantified.{quants, adjacent, max_adjacent, is_unmoved, quant, quant_at, counted as counted_at, suffix, is_swapped, quantified, is_repeatable, is_dropped}
 use Rattle.fancy_syntax.specs.Slices.{Within}
-use Rattle.fancy_syntax.specs.State.{State, at, Outcome, done, fault, and_then}
+use Rattle.fancy_syntax.specs.State.{State, at, Outcome, done, fault}
 use Rattle.fancy_syntax.specs.Tree.{Tree, more_trees, empty, concat, alt, absent, expression, trees_of, list_of, nodes, depth}
 use Rattle.fancy_syntax.specs.declared.grammar.quantified.Suffix.{Suffix}
 use Rattle.fancy_syntax.proofs.LevelLaws.{size, resolved_size, levels, levels_all, resolved_levels}

@@ -17,7 +17,7 @@ fn measured(out: &[u8]) -> Result<(usize, usize), Fail> {
     Ok((nodes, levels))
 }
 
-/// The patterns of up to six bytes with most nodes, and how many: the first two have 2 n + 1.
+/// Patterns of up to six bytes, and how many nodes they have; none was found with more. The first two have 2 n + 1.
 const MOST_NODES: [(&str, usize); 7] = [
     ("", 1),
     ("|", 3),
@@ -29,7 +29,7 @@ const MOST_NODES: [(&str, usize); 7] = [
 ];
 
 #[test]
-fn short_patterns_have_twice_their_bytes_and_one(rt: HostRuntime) -> Result<(), Fail> {
+fn short_patterns_come_near_the_bound_on_nodes(rt: HostRuntime) -> Result<(), Fail> {
     for (pattern, wanted) in MOST_NODES {
         let (status, out, _) = answer(rt.alloc(), "u", pattern)?;
         assert_eq!(rt; status, 0, "{pattern}");
