@@ -1,6 +1,5 @@
 -- A Delegate's text, read as a class or an escape.
-use Rattle.std.proofs.Common.{◌≡◌, ℕ, ◌+◌, ◌-◌, Bool, true, false, not, List, [], ◌∷◌, Option, Some, None, MatchOption, is_some, unwrap_or, Result, Ok, Err, IfOk, chars, length, refl, sym, ap, ◌∙◌, arith}
-use Rattle.std.proofs.lemmas.Bool.{cond_both}
+use Rattle.std.proofs.Common.{◌≡◌, ℕ, ◌+◌, Bool, true, false, not, List, [], ◌∷◌, Option, Some, None, MatchOption, is_some, Result, Ok, Err, IfOk, chars, length, refl, sym, ap, ◌∙◌, arith}
 use Rattle.std.specs.Borrow.{Bor}
 use Rattle.std.specs.declared.alloc.AllocError.{AllocError}
 use Rattle.std.specs.Char.{len_utf8}
@@ -8,7 +7,6 @@ use Rattle.std.specs.Str.{IsUtf8, all_scalars}
 use Rattle.fancy_lex.specs.Characters.{open_bracket, backslash, ◌∈◌}
 use Rattle.fancy_lex.specs.Class.{class}
 use Rattle.fancy_lex.specs.Escape.{escape}
-use Rattle.fancy_lex.specs.Escaped as escaped
 use Rattle.fancy_lex.specs.Escaped.{Escape}
 use Rattle.fancy_lex.specs.Fault.{Fault, kind_of}
 use Rattle.fancy_lex.specs.Flags.{flags_of}
@@ -21,11 +19,11 @@ use Rattle.fancy_lex.specs.declared.flags.Flags.{Flags}
 use Rattle.fancy_lex.proofs.TextLemmas.{bytes_chars}
 use Rattle.fancy_syntax.specs.Ahead.{leaf_node, leaf_outcome}
 use Rattle.fancy_syntax.specs.Grammar.{start}
-use Rattle.fancy_syntax.specs.Normal.{under, bare, class_of, whole_of, whole_leaf, normal}
+use Rattle.fancy_syntax.specs.Normal.{bare, class_of, whole_of, whole_leaf, normal}
 use Rattle.fancy_syntax.specs.Join.{is_empty}
 use Rattle.fancy_syntax.specs.Printable.{printable}
-use Rattle.fancy_syntax.specs.State.{Outcome, done, fault}
 use Rattle.fancy_syntax.specs.Tree.{Tree, empty, assertion, literal, concat, alt, delegate, define_group}
+use Rattle.fancy_syntax.proofs.ReadBack.PrintableLaws.{normal_empty}
 
 falsity : false ≡ true → ⊥
 falsity h = cc
@@ -110,22 +108,7 @@ pub one_shorter : (s r : List ℕ) (c : ℕ) → IsUtf8 s → IsUtf8 r → chars
 unfolding bytes
 one_shorter s r c u v is one = sym (bytes_chars s u) ∙ rw (is, one, bytes_chars r v) (omega arith)
 
--- ---- a Delegate's normal form is a Delegate
-
-solid_whole : (v : Text) (r d : Tree) → is_empty d ≡ false → is_empty (unwrap_or (whole_of v r) d) ≡ false
-solid_whole [] (delegate s casei) d h = refl
-solid_whole [] _ d h = h
-solid_whole (c ∷ v) r d h = h
-
-solid_leaf : (o : Outcome Tree) (d : Tree) → is_empty d ≡ false → is_empty (unwrap_or (whole_leaf o) d) ≡ false
-solid_leaf (done r s) d h = solid_whole s.rest r d h
-solid_leaf (fault k p) d h = h
-
-delegate_solid : (f : Flags) (s : Text) (casei : Bool) → false ≡ is_empty (unwrap_or (class_of f s) (delegate s casei))
-unfolding class_of
-delegate_solid f [] casei = refl
-delegate_solid f (c ∷ t) casei = cond_both (c ∈ "[\\") _ _ (λ o. false ≡ is_empty (unwrap_or o (delegate (c ∷ t) casei)))
-    (λ e. sym (solid_leaf _ (delegate (c ∷ t) casei) refl)) (λ e. refl)
+-- ---- what the code tells of a variant
 
 -- the printable Delegates, as the code tells them
 pub delegate_told : (r : Result Bool AllocError) (s : Text) (casei : Bool) (e : Tree) → all_scalars s ≡ true →
@@ -148,7 +131,7 @@ solid_variant (literal s casei) h = absurd (falsity (sym h))
 solid_variant (concat ts) h = absurd (falsity (sym h))
 solid_variant (alt ts) h = absurd (falsity (sym h))
 solid_variant (define_group t) h = absurd (falsity (sym h))
-solid_variant (delegate s casei) h = delegate_solid (under false casei false false false) s casei
+solid_variant (delegate s casei) h = sym (normal_empty false (delegate s casei))
 solid_variant (assertion (StartLineOniguruma crlf)) h = refl
 solid_variant (assertion a) h = refl
 solid_variant _ h = refl
