@@ -25,10 +25,10 @@ use std::alloc::{AllocError, Global};
 
 impl Expr {
     /// Whether the tree is printable: whether each node outside the inside of a DefineGroup has a text, that of each
-    /// Delegate is one whole class or class escape, and under each Repeat stands neither a tree that reads as nothing nor
-    /// a Literal, with case counted, of two characters or more. `AllocError` where memory was refused, which is asked for
-    /// where a Delegate's text is read. The normal form of a printable tree is printable too, and it is its own normal
-    /// form where the tree holds no Delegate.
+    /// Delegate is one whole class or class escape, and under each Repeat stands neither a tree that reads as nothing
+    /// nor a Literal, with case counted, of two characters or more. `AllocError` where memory was refused, which is
+    /// asked for where a Delegate's text is read. The normal form of a printable tree is printable too, and it is its
+    /// own normal form where the tree holds no Delegate.
     pub fn is_printable(&self, alloc: Global) -> Result<bool, AllocError>
         ensures exact { IfOk result (λ b. b ≡ printable (view self.now)) }
         ensures text { IfOk result (λ b. b ≡ true → has_text (view self.now) ≡ true) }
