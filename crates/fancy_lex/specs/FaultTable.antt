@@ -14,11 +14,12 @@ abbrev pub end_expected : Text
 end_expected = codes "end of string not reached"
 
 abbrev pub body_expected : Text
-body_expected = codes "expected conditional to be a backreference or at least an expression for when the condition is true"
+body_expected =
+    codes "expected conditional to be a backreference or at least an expression for when the condition is true"
 
 -- ---- layout, groups and quantifiers
 
--- a comment without its `)`, at one of the next two places
+-- a comment without its `)`: at one of the next two places
 abbrev pub comment_not_closed : ℕ → Fault
 comment_not_closed p = record { place = p; kind = unclosed_open_paren }
 
@@ -54,13 +55,14 @@ bar_for_close_paren n t = record { place = place_of n t; kind = general_parse_er
 abbrev pub close_paren_left_over : ℕ → Text → Fault
 close_paren_left_over n t = record { place = place_of n t; kind = general_parse_error end_expected }
 
--- a conditional whose body takes no byte, and whose condition is none on a group: behind the condition's `)`, where t begins
+-- a conditional whose body takes no byte, and whose condition is none on a group: behind the condition's `)`, where t
+-- begins
 abbrev pub body_wanting : ℕ → Text → Fault
 body_wanting n t = record { place = place_of n t; kind = general_parse_error body_expected }
 
 -- ---- heads of groups
 
--- a character that is no letter of flags, with which `w` ends: right behind the `?`, where t begins, and it with `w`
+-- a character that is no letter of flags: right behind the `?`, where t begins with `w` through that character
 abbrev pub no_flag_letter : ℕ → Text → Text → Fault
 no_flag_letter n t w = record { place = place_of n t; kind = unknown_flag (codes "(?" ++ w) }
 
@@ -104,7 +106,10 @@ boundary_head negated = if negated then codes "\\B{" else codes "\\b{"
 
 -- a name that no boundary has
 abbrev pub name_of_no_boundary : ℕ → Bool → Text → Fault
-name_of_no_boundary p negated w = record { place = p; kind = invalid_escape (boundary_head negated ++ (w ++ codes "}")) }
+name_of_no_boundary p negated w = record {
+  place = p;
+  kind = invalid_escape (boundary_head negated ++ (w ++ codes "}"));
+}
 
 -- the name of a property in braces that do not end
 abbrev pub property_not_closed : ℕ → Fault

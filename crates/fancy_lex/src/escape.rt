@@ -4,9 +4,8 @@ ghost use Rattle.fancy_lex.specs.Characters.{backslash};
 ghost use Rattle.fancy_lex.specs.Escape as spec;
 ghost use Rattle.fancy_lex.specs.EscapeReference as references;
 ghost use Rattle.fancy_lex.specs.Escaped as leaf;
-ghost use Rattle.fancy_lex.specs.Escaped.{Escape, escape_of, delegate_text};
-ghost use Rattle.fancy_lex.specs.Fault.{invalid_escape};
-ghost use Rattle.fancy_lex.specs.Reading.{Reads, Gives, Fails, fault_at};
+ghost use Rattle.fancy_lex.specs.Escaped.{escape_of, delegate_text};
+ghost use Rattle.fancy_lex.specs.Reading.{Reads, Gives, Fails};
 ghost use Rattle.fancy_lex.specs.Text.{text_of};
 
 use crate::error::{Error, ParseError};
@@ -100,7 +99,7 @@ fn letter_name(alloc: Global, c: char) -> Result<String, AllocError>
 
 /// The fault of a letter that is no escape.
 fn unknown_escape(alloc: Global, c: char, place: usize) -> Error
-    ensures { Fails result (fault_at {A = Escape} place (invalid_escape (backslash ∷ c ∷ []))) }
+    ensures { Fails result (spec.unknown_escape place c) }
 {
     match letter_name(alloc, c) {
         Ok(name) => Error::ParseError(place, ParseError::InvalidEscape(name)),

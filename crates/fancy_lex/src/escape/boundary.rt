@@ -1,5 +1,5 @@
 //! Word boundaries behind `\b` and `\B`.
-ghost use Rattle.std.specs.Prelude.{◌≡◌, ℕ, ◌^◌, ◌<◌, ◌≤◌, length, chars, IfSome, IfOk, MatchResult, option_map, codes};
+ghost use Rattle.std.specs.Prelude.{◌≡◌, ℕ, ◌^◌, ◌<◌, ◌≤◌, length, chars, IfSome, IfOk, MatchResult, option_map};
 ghost use Rattle.fancy_lex.specs.Boundary as spec;
 ghost use Rattle.fancy_lex.specs.Escaped.{Escape, escape_of};
 ghost use Rattle.fancy_lex.specs.Fault.{invalid_escape};

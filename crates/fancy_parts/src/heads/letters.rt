@@ -195,7 +195,8 @@ pub fn flag_letters(
     requires end { end < 2 ^ 63 }
     ensures value { Gives letters_of result (spec.letters end flags (chars text.now)) }
     ensures derives { Derives letters_of result (spec.FlagGroup end flags (chars text.now)) }
-    ensures only { (o : Reading spec.Letters) → spec.FlagGroup end flags (chars text.now) o → Gives letters_of result o }
+    ensures only { (o : Reading spec.Letters) → spec.FlagGroup end flags (chars text.now) o →
+        Gives letters_of result o }
     ensures shorter { IfOk result (λ p. length p.1.now < length text.now) }
 {
     read_letters(alloc, text, flags, end)
