@@ -1,9 +1,6 @@
 -- What the second walk comes to from the start, over a raw tree in text order.
-use Rattle.std.proofs.Common.{◌≡◌, ℕ, List, [], nat_le, nat_lt, length, refl, ap, ◌∙◌}
-use Rattle.std.specs.Prelude.{fold, find, filter}
-use Rattle.std.specs.BTreeSet.{insert_key}
-use Rattle.std.specs.Ordering.{nat_cmp}
-use Rattle.fancy_lex.specs.Text.{Text}
+use Rattle.std.proofs.Common.{◌≡◌, ℕ, List, nat_le, nat_lt, length, refl, ap, ◌∙◌}
+use Rattle.std.specs.Prelude.{find, filter}
 use Rattle.fancy_lex.specs.declared.flags.Flags.{Flags}
 use Rattle.fancy_parts.proofs.NamedLaws.{under_named}
 use Rattle.fancy_parts.specs.Groups.{numbers_under}

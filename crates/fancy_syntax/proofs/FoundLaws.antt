@@ -1,12 +1,12 @@
 -- What the first walk finds.
-use Rattle.std.proofs.Common.{◌≡◌, ℕ, Bool, true, false, List, [], ◌∷◌, length, refl, sym, ap, ◌∙◌, arith, is_some}
+use Rattle.std.proofs.Common.{◌≡◌, ℕ, Bool, true, false, List, [], ◌∷◌, length, refl, ap, ◌∙◌, arith, is_some}
 use Rattle.std.proofs.Common.{nat_lt, ◌&&◌}
 use Rattle.std.specs.List.{list_any}
 use Rattle.fancy_parts.proofs.NamedLaws.{with_all, all_named, all_total}
 use Rattle.fancy_parts.specs.Groups.{Groups, no_groups, with_opening}
 use Rattle.fancy_parts.specs.Ranks.{Opening, is_named, is_counted, counted_in, named_groups}
 use Rattle.fancy_syntax.specs.Items.{Item, opening, reference, openings_in}
-use Rattle.fancy_syntax.specs.Walk.{found, find_item}
+use Rattle.fancy_syntax.specs.Walk.{found}
 
 -- the groups that have a number are added, one after another
 found_step : (named : Bool) (s : Groups) (o : Opening) (l : List Item) (b : Bool) → is_counted named o.name ≡ b →

@@ -1,5 +1,5 @@
 -- The items of the nodes that have several children.
-use Rattle.std.proofs.Common.{◌≡◌, ℕ, ◌+◌, ◌≤◌, ◌++◌, List, Bool, arith, length, ap, sym, ◌∙◌, rules, Box, Global}
+use Rattle.std.proofs.Common.{◌≡◌, ◌+◌, ◌≤◌, ◌++◌, List, Bool, arith, length, ap, sym, ◌∙◌, rules, Box, Global}
 use Rattle.fancy_parts.specs.Groups.{Groups}
 use Rattle.fancy_syntax.specs.Items.{Item, items, items_absent, openings_in}
 use Rattle.fancy_syntax.specs.Tree.{conditional, expression}

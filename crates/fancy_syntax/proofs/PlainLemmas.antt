@@ -1,12 +1,11 @@
 -- A plain character is a piece.
-use Rattle.std.proofs.Common.{◌≡◌, ◌≢◌, if◌then◌else◌, zero, suc, ℕ, Bool, true, false, ◌||◌, ◌==◌, [], ◌∷◌, Some, None, refl, sym, ◌∙◌, ap, arith, tests, rules}
+use Rattle.std.proofs.Common.{◌≡◌, if◌then◌else◌, zero, suc, ℕ, Bool, true, false, ◌==◌, [], ◌∷◌, None, refl, ◌∙◌, ap, arith, tests, rules}
 use Rattle.std.proofs.lemmas.Bool.Decides.{nat_tests}
 use Prim.Native.Char.{code}
 use Rattle.fancy_lex.specs.Layout.{layout, layout_from, rest}
 use Rattle.fancy_lex.specs.Text.{Text}
-use Rattle.fancy_lex.specs.declared.flags.Flags.{Flags}
 use Rattle.fancy_parts.specs.Quantifier.{counts}
-use Rattle.fancy_syntax.specs.Ahead.{ahead, leaf, leaf_of, ends}
+use Rattle.fancy_syntax.specs.Ahead.{ahead, leaf, ends}
 use Rattle.fancy_syntax.specs.Grammar.{piece, atom, a_leaf}
 use Rattle.fancy_syntax.specs.Plain.{is_special, is_suffix, IsPlain}
 use Rattle.fancy_syntax.specs.Quantified.{quant, quants, adjacent, max_adjacent, is_unmoved}

@@ -1,5 +1,5 @@
 -- One reading of an adjacent quantifier.
-use Rattle.std.proofs.Common.{◌≡◌, ◌≢◌, ◌<◌, ◌≤◌, ℕ, zero, suc, ◌+◌, Bool, true, false, true≢false, nat_lt, ◌==◌, refl, sym, ap, subst, ◌∙◌, arith, tests, rules, Result, Err, Ok}
+use Rattle.std.proofs.Common.{◌≡◌, ◌≢◌, ◌<◌, ℕ, zero, suc, ◌+◌, true, false, true≢false, ◌==◌, refl, sym, subst, arith, tests, rules}
 use Rattle.std.proofs.lemmas.Bool.Decides.{nat_tests}
 use Rattle.fancy_lex.specs.Fault.{Kind, recursion_exceeded}
 use Rattle.fancy_lex.specs.Text.{bytes, place_of}

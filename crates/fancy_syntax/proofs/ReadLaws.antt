@@ -4,7 +4,6 @@ use Rattle.std.proofs.lemmas.Bool.{cond_both}
 use Rattle.std.specs.List.{AllByRecursion}
 use Prim.Native.Char.{code}
 use Rattle.fancy_lex.proofs.EscapeSound.{Sound, sound_escape}
-use Rattle.fancy_lex.specs.Characters.{◌∈◌}
 use Rattle.fancy_lex.specs.Class.{class}
 use Rattle.fancy_lex.specs.Escape.{escape}
 use Rattle.fancy_lex.specs.Escaped as escaped

@@ -1,6 +1,6 @@
 -- What is read is a slice of the text, in which groups and references stand one behind another.
-use Rattle.std.proofs.Common.{◌≡◌, ℕ, zero, suc, ◌+◌, ◌≤◌, ◌<◌, ◌-◌, ◌∷◌, [], ◌++◌, List, refl, sym, ap, ◌∙◌, subst, arith, Bool, true, false, Option, Some, None, append_assoc, append-nil}
-use Rattle.std.specs.Prelude.{◌==◌, ◌||◌, not, nat_lt, nat_le, ◌^◌, ◌*◌, IfSome, option_map, option_and_then, unwrap_or, codes, ◌&&◌}
+use Rattle.std.proofs.Common.{◌≡◌, ℕ, zero, suc, ◌+◌, ◌≤◌, ◌-◌, ◌∷◌, [], ◌++◌, List, refl, sym, ap, ◌∙◌, subst, arith, Bool, true, false, Option, Some, None, append_assoc, append-nil}
+use Rattle.std.specs.Prelude.{◌==◌, not, nat_lt, nat_le, ◌^◌, ◌*◌, IfSome, option_map, option_and_then, unwrap_or, codes, ◌&&◌}
 use Rattle.std.proofs.lemmas.Bool.{cond_both}
 use Rattle.std.proofs.lemmas.Str.{len_utf8_bounds}
 use Rattle.std.specs.Char.{is_ascii_digit}
@@ -13,7 +13,7 @@ use Rattle.fancy_lex.proofs.ReferencePlaces.{IfGives, ReferenceAt, CallAt}
 use Rattle.fancy_lex.proofs.TakeLaws.{Takes, TakesOrFails, takes, fault_within, takes_bytes}
 use Rattle.fancy_lex.proofs.TextLemmas.{bytes-append, strip_is, strip_word_is}
 use Rattle.fancy_lex.specs.Referred as referred_spec
-use Rattle.fancy_lex.specs.Characters.{bar, ◌∈◌}
+use Rattle.fancy_lex.specs.Characters.{bar}
 use Rattle.fancy_lex.specs.Class.{class}
 use Rattle.fancy_lex.specs.Escape.{escape}
 use Rattle.fancy_lex.specs.Escaped as escaped

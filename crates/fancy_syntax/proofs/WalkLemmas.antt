@@ -1,9 +1,8 @@
 -- Walks over parts, one behind another.
-use Rattle.std.proofs.Common.{◌≡◌, ℕ, ◌+◌, ◌<◌, ◌≤◌, List, ◌++◌, Bool, true, false, length, length-append, refl, ap}
+use Rattle.std.proofs.Common.{◌≡◌, ℕ, ◌+◌, ◌<◌, ◌≤◌, List, ◌++◌, Bool, true, false, length, refl, ap}
 use Rattle.std.proofs.Common.{◌∙◌, [], ◌∷◌, drop, drop-cons, get_or, add-one, take, set, sym, arith, zero, suc}
-use Rattle.std.proofs.Common.{length-set}
 use Rattle.std.proofs.lemmas.Grind.{take-set_at}
-use Rattle.std.proofs.lemmas.List.{take_all, take-set}
+use Rattle.std.proofs.lemmas.List.{take_all}
 use Rattle.std.proofs.lemmas.List.{drop_all}
 use Rattle.std.proofs.lemmas.List.Sums.{fold-append}
 use Rattle.fancy_parts.specs.Groups.{Groups, with_opening}

@@ -1,5 +1,5 @@
 -- How the answers of the parser's readers stand to the grammar's.
-use Rattle.std.specs.Prelude.{◌≡◌, ℕ, ◌+◌, ◌<◌, List, Option, Some, None, option_map, chars, length, Result, MatchResult, ⊤}
+use Rattle.std.specs.Prelude.{◌≡◌, ℕ, ◌+◌, ◌<◌, List, option_map, chars, length, Result, MatchResult, ⊤}
 use Rattle.std.specs.Borrow.{Bor}
 use Rattle.fancy_lex.specs.declared.error.Error.{Error}
 use Rattle.fancy_syntax.specs.Ahead.{Ahead, nothing, leaf, opens, condition, body, absent_branch, max_depth}

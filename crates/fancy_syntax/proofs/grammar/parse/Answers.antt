@@ -1,4 +1,4 @@
-use Rattle.std.proofs.Common.{◌≡◌, ◌∷◌, refl, sym, subst, ap, ℕ}
+use Rattle.std.proofs.Common.{refl, sym, subst, ap, ℕ}
 use Rattle.std.proofs.lemmas.Result.{err_from_is_err_and}
 use Rattle.std.specs.Str.{chars}
 use Rattle.fancy_lex.proofs.TextLemmas.{bytes_chars}

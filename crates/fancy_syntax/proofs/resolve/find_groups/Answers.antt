@@ -1,4 +1,4 @@
-use Rattle.std.proofs.Common.{◌≡◌, length, true, false, refl, ap, ◌∙◌, sym, nat_lt}
+use Rattle.std.proofs.Common.{◌≡◌, length, true, false, ap, ◌∙◌, sym, nat_lt}
 use Rattle.std.specs.List.{list_any}
 use Rattle.fancy_parts.specs.Groups.{groups_of}
 use Rattle.fancy_parts.specs.Ranks.{counted_in, is_named}

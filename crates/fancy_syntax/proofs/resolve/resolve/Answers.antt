@@ -1,7 +1,7 @@
-use Rattle.std.proofs.Common.{◌≡◌, arith, chars, length, option_map, ap, sym, ◌∙◌}
+use Rattle.std.proofs.Common.{arith, chars, length, option_map, ap, sym, ◌∙◌}
 use Rattle.fancy_parts.specs.Groups.{groups_of}
 use Rattle.fancy_syntax.specs.Items.{items}
-use Rattle.fancy_syntax.specs.Notes.{fault_at, progress_of}
+use Rattle.fancy_syntax.specs.Notes.{fault_at}
 use Rattle.fancy_syntax.specs.View.{view}
 use Rattle.fancy_syntax.specs.Walk.{Known, Progress, noted, rebuilt}
 use Rattle.fancy_syntax.proofs.AnswerLaws.{known_suits, marks_noted, law_tree, law_fault, law_marks}

@@ -1,4 +1,4 @@
-use Rattle.std.proofs.Common.{◌≡◌, subst, chars, ap, ◌∙◌}
+use Rattle.std.proofs.Common.{subst, chars, ap, ◌∙◌}
 use Rattle.std.proofs.lemmas.Result.{err_from_is_err_and}
 use Rattle.fancy_syntax.specs.Answer.{IsTreeOf, IsOnlyFault, marks_of}
 use Rattle.fancy_syntax.specs.View.{view}

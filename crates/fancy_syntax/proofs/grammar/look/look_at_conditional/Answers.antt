@@ -1,4 +1,4 @@
-use Rattle.std.proofs.Common.{◌≡◌, ◌∷◌, sym, subst, ◌∙◌}
+use Rattle.std.proofs.Common.{sym, subst, ◌∙◌}
 use Rattle.std.specs.Str.{chars}
 use Rattle.fancy_syntax.specs.Parsed.{state, Sees}
 use Rattle.fancy_syntax.proofs.AheadLemmas.{defines, target_stands, no_condition_ahead}

@@ -5,7 +5,7 @@ use Rattle.fancy_syntax.specs.Machine.{open_of, ended_part, node_of_part}
 use Rattle.fancy_syntax.specs.Parsed.{state}
 use Rattle.fancy_syntax.specs.View.{view}
 use Rattle.fancy_syntax.proofs.FaultLemmas.{says_no_body}
-use Rattle.fancy_syntax.proofs.MachineLemmas.{ended_without_body, ended_unclosed, ended_closed}
+use Rattle.fancy_syntax.proofs.MachineLemmas.{ended_without_body, ended_unclosed}
 use Rattle.fancy_syntax.proofs.OutcomeLemmas.{Fails-is, Fails-map}
 use Rattle.fancy_syntax.proofs.grammar.step.end_part.Goals as goal
 

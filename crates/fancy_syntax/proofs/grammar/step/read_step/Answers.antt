@@ -1,4 +1,4 @@
-use Rattle.std.proofs.Common.{◌≡◌, refl, sym, subst, ap, length}
+use Rattle.std.proofs.Common.{◌≡◌, refl}
 use Rattle.std.proofs.lemmas.Result.{err_from_is_err_and}
 use Rattle.fancy_syntax.specs.Ahead.{ahead, leaf}
 use Rattle.fancy_syntax.specs.Grammar.{Piece, piece, atom, a_nothing, a_leaf}

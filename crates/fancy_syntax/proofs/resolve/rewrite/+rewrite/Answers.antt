@@ -1,5 +1,5 @@
 use Rattle.std.proofs.Common.{arith, rules, ◌≡◌, ◌+◌, ◌++◌, get_or, length, sym, ap, ◌∙◌, ◌<◌, ◌≢◌, length-set}
-use Rattle.std.proofs.Common.{get_or-set_other, Box, Global, refl}
+use Rattle.std.proofs.Common.{get_or-set_other, refl}
 use Rattle.fancy_syntax.specs.Items.{items}
 use Rattle.fancy_syntax.specs.Notes.{known_of, progress_of}
 use Rattle.fancy_syntax.specs.View.{view, views}

@@ -1,10 +1,9 @@
-use Rattle.std.proofs.Common.{arith, rules, ◌≡◌, ◌+◌, ◌++◌, length, ap, sym, ◌∙◌, refl}
+use Rattle.std.proofs.Common.{arith, rules, ◌≡◌, ◌+◌, ◌++◌, ap, sym, ◌∙◌, refl}
 use Rattle.fancy_parts.specs.Groups.{groups_of}
-use Rattle.fancy_syntax.specs.Items.{items, openings_in}
+use Rattle.fancy_syntax.specs.Items.{items}
 use Rattle.fancy_syntax.specs.View.{view}
 use Rattle.fancy_syntax.specs.Walk.{found}
 use Rattle.fancy_syntax.specs.declared.expr.Expr.{the_lemmas}
-use Rattle.fancy_syntax.proofs.ItemLemmas.{length_openings}
 use Rattle.fancy_syntax.proofs.PartLemmas.{two_parts, three_parts, two_count, three_count, two_found, three_found}
 use Rattle.fancy_syntax.proofs.PartLemmas.{third_found}
 use Rattle.fancy_syntax.proofs.WalkLemmas.{found_append, found_le, count_two, rest, rest_next}
