@@ -1,5 +1,5 @@
 -- Faults: a kind and a place, apart from how the code holds them.
-use Rattle.std.specs.Prelude.{◌≡◌, ℕ, List, ◌++◌, codes, string_bytes, encode_utf8_all, chars}
+use Rattle.std.specs.Prelude.{◌≡◌, ℕ, Bool, true, false, List, ◌++◌, codes, string_bytes, encode_utf8_all, chars}
 use Rattle.std.specs.Fmt.{decimal}
 use Rattle.fancy_lex.specs.Text.{Text}
 use Rattle.fancy_lex.specs.declared.error.Error.{Error}
@@ -80,3 +80,15 @@ abbrev pub SameError : Error → Error → Type 0
 SameError (ParseError p k) (ParseError q l) = (p ≡ q) × (kind_of k ≡ kind_of l)
 SameError OutOfMemory OutOfMemory = Unit {0}
 SameError _ _ = ⊥
+
+-- whether the kind carries a text, whose clone takes memory
+abbrev pub carries_text : Kind → Bool
+carries_text (general_parse_error s) = true
+carries_text (invalid_escape s) = true
+carries_text (unknown_flag s) = true
+carries_text (invalid_group_name_backref s) = true
+carries_text _ = false
+
+abbrev pub error_carries_text : Error → Bool
+error_carries_text (ParseError place kind) = carries_text (kind_of kind)
+error_carries_text OutOfMemory = false

@@ -23,6 +23,11 @@ view_target (target.ByNumber n) = by_number n
 view_target (target.ByName s) = by_name (text_of s)
 view_target (target.Relative z) = relative z
 
+-- whether the target is a name, whose clone takes memory
+abbrev pub is_name : Target → Bool
+is_name (by_name s) = true
+is_name _ = false
+
 -- whether two targets are the same
 abbrev pub same_target : Target → Target → Bool
 same_target (by_number m) (by_number n) = nat_eq m n

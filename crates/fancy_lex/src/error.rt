@@ -1,6 +1,6 @@
 //! Why a pattern is refused.
-ghost use Rattle.std.specs.Prelude.{◌≡◌, IfOk, Some};
-ghost use Rattle.fancy_lex.specs.Fault.{kind_of, kind_text, error_text, SameError};
+ghost use Rattle.std.specs.Prelude.{◌≡◌, false, IfOk, IsOk, Some};
+ghost use Rattle.fancy_lex.specs.Fault.{kind_of, kind_text, error_text, SameError, carries_text, error_carries_text};
 
 use std::alloc::{AllocError, AllocFailed, Global};
 use std::fmt;
@@ -87,9 +87,10 @@ impl fmt::Display for Error {
 impl std::error::Error for Error {}
 
 impl ParseError {
-    /// An equal kind, in memory of its own.
+    /// An equal kind, in memory of its own. One that carries no text takes none.
     pub fn clone(&self, alloc: Global) -> std::result::Result<ParseError, AllocError>
-        ensures { IfOk result (λ e. kind_of e ≡ kind_of self.now) }
+        ensures equal { IfOk result (λ e. kind_of e ≡ kind_of self.now) }
+        ensures without_memory { carries_text (kind_of self.now) ≡ false → IsOk result }
     {
         Ok(match self {
             ParseError::GeneralParseError(s) => {
@@ -123,9 +124,10 @@ impl ParseError {
 }
 
 impl Error {
-    /// An equal error, in memory of its own.
+    /// An equal error, in memory of its own. One that carries no text takes none.
     pub fn clone(&self, alloc: Global) -> std::result::Result<Error, AllocError>
-        ensures { IfOk result (λ e. SameError e self.now) }
+        ensures equal { IfOk result (λ e. SameError e self.now) }
+        ensures without_memory { error_carries_text self.now ≡ false → IsOk result }
     {
         match self {
             Error::ParseError(place, kind) => Ok(Error::ParseError(*place, kind.clone(alloc)?)),

@@ -1,9 +1,9 @@
 //! Numbers, and what a reference names.
-ghost use Rattle.std.specs.Prelude.{◌↔◌, IsTrue, ◌≡◌, ℕ, ◌+◌, ◌*◌, ◌<◌, ◌≤◌, ◌∷◌, length, chars, IfOk, IfSome, OnSome, MatchOption, false, IsSome, List};
+ghost use Rattle.std.specs.Prelude.{◌↔◌, IsTrue, ◌≡◌, ℕ, ◌+◌, ◌*◌, ◌<◌, ◌≤◌, ◌∷◌, length, chars, IfOk, IfSome, OnSome, MatchOption, false, IsOk, IsSome, List};
 ghost use Rattle.std.specs.Str.{bytes_eq};
 ghost use Rattle.std.specs.Cmp.{on_per, on_equiv, partial_equiv_from_equiv};
 ghost use Rattle.fancy_lex.specs.Number as spec;
-ghost use Rattle.fancy_lex.specs.Target.{view_target, same_target, same_target-equiv};
+ghost use Rattle.fancy_lex.specs.Target.{view_target, is_name, same_target, same_target-equiv};
 ghost use Rattle.fancy_lex.specs.Text.{text_of};
 
 use crate::text::next;
@@ -21,9 +21,10 @@ pub enum CaptureGroupTarget {
 }
 
 impl CaptureGroupTarget {
-    /// An equal target, in memory of its own.
+    /// An equal target, in memory of its own. One that is no name takes none.
     pub fn clone(&self, alloc: Global) -> Result<Self, AllocError>
         ensures equal { IfOk result (λ target. view_target target ≡ view_target self.now) }
+        ensures without_memory { is_name (view_target self.now) ≡ false → IsOk result }
     {
         match self {
             CaptureGroupTarget::ByNumber(number) => Ok(CaptureGroupTarget::ByNumber(*number)),

@@ -86,6 +86,22 @@ is_leaf (absent (stopper t)) = false
 is_leaf (define_group t) = false
 is_leaf _ = true
 
+-- whether the node holds nothing that takes memory: no text, no bytes, no tree, and no target
+abbrev pub holds_nothing : Tree → Bool
+holds_nothing empty = true
+holds_nothing (any newline crlf) = true
+holds_nothing (assertion a) = true
+holds_nothing (general_newline unicode) = true
+holds_nothing (backref n casei) = true
+holds_nothing (backref_at_level n level casei) = true
+holds_nothing keep_out = true
+holds_nothing continue_from_previous_match_end = true
+holds_nothing (backref_exists n level) = true
+holds_nothing (subroutine_call n) = true
+holds_nothing (verb v) = true
+holds_nothing (absent clear) = true
+holds_nothing _ = false
+
 -- the trees with the one at i set to u, where there is one
 abbrev pub with_tree : Trees → ℕ → Tree → Trees
 with_tree no_trees i u = no_trees

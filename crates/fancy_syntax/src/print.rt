@@ -1,6 +1,7 @@
 //! The text of a tree.
-ghost use Rattle.std.specs.Prelude.{◌≡◌, ℕ, ◌<◌, Bool, List, [], ◌++◌, true, false, IfOk, IsOk, OnOk, OnErr};
-ghost use Rattle.std.specs.Prelude.{string_bytes, chars, encode_utf8_all};
+ghost use Rattle.std.specs.Prelude.{◌≡◌, ℕ, ◌+◌, ◌<◌, ◌≤◌, Bool, List, [], ◌++◌, true, false, IfOk, IsOk, OnOk, OnErr};
+ghost use Rattle.std.specs.Prelude.{string_bytes, string_len, string_capacity, chars, encode_utf8_all};
+ghost use Rattle.fancy_lex.specs.Text.{bytes};
 ghost use Rattle.fancy_syntax.specs.Ahead.{max_depth};
 ghost use Rattle.fancy_syntax.specs.HasDelegate.{has_delegate};
 ghost use Rattle.fancy_syntax.specs.Nest.{nest};
@@ -41,8 +42,8 @@ impl Expr {
 
     /// Appends the tree's text to `buf`; the caller owes a tree that has one, as every printable tree has. Above
     /// precedence 0 an `Alt`, above 1 a `Concat` and above 2 a `Repeat` stands in a group of its own. The buffer grows
-    /// once, by the text's length in bytes; where that is refused, the answer is `AllocError` and `buf` holds what it
-    /// held. What is appended for a printable tree reads as its normal form, with no flag and with `FLAG_UNICODE` alone;
+    /// once, by the text's length in bytes, where it lacks room for that; where that is refused, the answer is
+    /// `AllocError` and `buf` holds what it held. What is appended for a printable tree reads as its normal form, with no flag and with `FLAG_UNICODE` alone;
     /// where 64 printed groups nest or more, it is refused as `RecursionExceeded`, at the byte of the first opening
     /// parenthesis that has 63 groups open round it. So trees that are printed as one text have one normal form.
     pub fn to_str(&self, buf: &mut String, precedence: u8) -> Result<(), AllocError>
@@ -55,6 +56,8 @@ impl Expr {
         ensures same_text { printable (view self.now) ≡ true → nest (view self.now) precedence < max_depth →
             (s : Tree) (q : ℕ) (u : Bool) → printable s ≡ true → printed (view self.now) precedence ≡ printed s q →
             normal u (view self.now) ≡ normal u s }
+        ensures room { string_len buf.old + bytes (printed (view self.now) precedence) ≤ string_capacity buf.old →
+            IsOk result }
         ensures nothing_to_print { printed (view self.now) precedence ≡ [] → IsOk result }
     {
         // No string has room for the greatest word, for which a longer text is counted.

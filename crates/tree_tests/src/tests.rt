@@ -89,21 +89,20 @@ fn only_proper_descendants_are_asked(rt: HostRuntime) -> Result<(), AllocError> 
 }
 
 #[test]
-fn a_child_is_replaced_or_changed_in_place(rt: HostRuntime) -> Result<(), AllocError> {
-    let mut tree = Expr::Conditional {
-        condition: literal(rt.alloc())?,
-        true_branch: Box::new(rt.alloc(), Expr::SubroutineCall(2))?,
-        false_branch: Box::new(rt.alloc(), Expr::SubroutineCall(3))?,
-    };
-    assert!(rt;
-        matches!(
-            tree.replace_child(1, Expr::SubroutineCall(5)),
-            Expr::SubroutineCall(2)
-        )
-    );
-    tree.change_child(2, |child| *child = Expr::SubroutineCall(6));
-    assert_eq!(rt; called(&mut tree, 0), None);
-    assert_eq!(rt; called(&mut tree, 1), Some(5));
-    assert_eq!(rt; called(&mut tree, 2), Some(6));
+fn nodes_and_absent_forms_are_equal_to_their_clones_alone(rt: HostRuntime) -> Result<(), AllocError> {
+    let all = samples(rt.alloc())?;
+    for (i, sample) in all.iter().enumerate() {
+        for (j, other) in all.iter().enumerate() {
+            match (&sample.tree, &other.tree) {
+                (Expr::AstNode(a, _), Expr::AstNode(b, _)) => {
+                    assert_eq!(rt; a.clone(rt.alloc())? == *b, i == j, "at {i}, {j}");
+                }
+                (Expr::Absent(a), Expr::Absent(b)) => {
+                    assert_eq!(rt; a.clone(rt.alloc())? == *b, i == j, "at {i}, {j}");
+                }
+                _ => {}
+            }
+        }
+    }
     Ok(())
 }

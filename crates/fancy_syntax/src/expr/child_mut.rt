@@ -1,13 +1,12 @@
 //! A child lent for writing.
 ghost use Rattle.std.specs.Prelude.{◌≡◌, ◌<◌, Some, length, option_map, slice_get};
 ghost use Rattle.std.specs.Borrow.{sem};
-ghost use Rattle.std.specs.Fn.{FnOnceReturnsAtMut};
 ghost use Rattle.fancy_syntax.specs.Tree.{Tree, children, is_list, with_child as tree_with_child};
 ghost use Rattle.fancy_syntax.specs.View.{view};
 ghost use Rattle.fancy_syntax.specs.Writes.{LendsAbsentBox, LendsChild, child_at as tree_child_at, view_of_absent};
 ghost use Rattle.fancy_syntax.specs.declared.expr.Expr.{Expr};
 
-use super::parent::{Parent, change_child, lend_child, replace_child};
+use super::parent::{Parent, lend_child};
 use super::{Absent, Expr};
 
 impl Parent for Expr {
@@ -94,26 +93,5 @@ impl Expr {
         ensures value { option_map (λ child. view child.now) result ≡ slice_get (children (view self.old)) i }
     {
         lend_child(self, i)
-    }
-
-    /// Sets child i, and answers the one that was there.
-    pub fn replace_child(&mut self, i: usize, child: Expr) -> Expr
-        requires { i < length (children (view self.old)) }
-        ensures writes { view self.new ≡ tree_with_child (view self.old) i (view child) }
-        ensures value { slice_get (children (view self.old)) i ≡ Some (view result) }
-    {
-        replace_child(self, i, child)
-    }
-
-    /// Lets `change` write child i.
-    pub fn change_child<F: FnOnce(&mut Expr)>(&mut self, i: usize, change: F)
-    where
-        F: Drop,
-        requires within { i < length (children (view self.old)) }
-        requires callable { F.IsAlwaysCallable change }
-        ensures { (old : Expr) × (new : Expr) × (slice_get (children (view self.old)) i ≡ Some (view old))
-            × FnOnceReturnsAtMut F.FnOnce change old tt new × (view self.new ≡ tree_with_child (view self.old) i (view new)) }
-    {
-        change_child(self, i, change);
     }
 }

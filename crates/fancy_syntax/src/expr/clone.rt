@@ -1,5 +1,6 @@
 //! Clones of trees: equal to their source, in memory of their own.
-ghost use Rattle.std.specs.Prelude.{◌≡◌, IfOk};
+ghost use Rattle.std.specs.Prelude.{◌≡◌, true, IfOk, IsOk};
+ghost use Rattle.fancy_syntax.specs.Tree.{clear, holds_nothing};
 ghost use Rattle.fancy_syntax.specs.View.{view, view_absent, view_ast, views};
 
 use super::{Absent, AstNode, Expr};
@@ -45,10 +46,11 @@ impl AstNode {
 }
 
 impl Absent {
-    /// An equal node, in memory of its own.
+    /// An equal node, in memory of its own. `Clear` takes none.
     #[cycle(clone)]
     pub fn clone(&self, alloc: Global) -> Result<Self, AllocError>
         ensures equal { IfOk result (λ absent. view_absent absent ≡ view_absent self.now) }
+        ensures without_memory { view_absent self.now ≡ clear → IsOk result }
     {
         match self {
             Absent::Repeater(child) => Ok(Absent::Repeater(clone_box(alloc, child)?)),
@@ -63,10 +65,11 @@ impl Absent {
 }
 
 impl Expr {
-    /// An equal tree, in memory of its own.
+    /// An equal tree, in memory of its own. A node that holds no text, no bytes, no tree and no target takes none.
     #[cycle(clone)]
     pub fn clone(&self, alloc: Global) -> Result<Self, AllocError>
         ensures equal { IfOk result (λ tree. view tree ≡ view self.now) }
+        ensures without_memory { holds_nothing (view self.now) ≡ true → IsOk result }
     {
         match self {
             Expr::Empty => Ok(Expr::Empty),

@@ -1,12 +1,8 @@
-//! Values that hold children of a type, each in a `Box` or all in one `Vec`. The functions at the end are proved for
-//! any two
-//! types, and so for a type whose children are of that type again.
+//! Values that hold children of a type, each in a `Box` or all in one `Vec`. The function at the end is proved for any
+//! two types, and so for a type whose children are of that type again.
 ghost use Rattle.std.specs.Prelude.{◌≡◌, ℕ, Bool, false, true, Option, Some, option_map, is_some, IsTrue, slice_get};
 ghost use Rattle.std.specs.Borrow.{sem};
-ghost use Rattle.std.specs.Fn.{FnOnceReturnsAtMut};
 ghost use Rattle.fancy_syntax.specs.Loans.{LendsChildAt, LendsBoxAt, LendsListAt};
-
-use std::mem;
 
 /// A value with children, which it holds in one of two ways.
 pub trait Parent {
@@ -60,33 +56,5 @@ pub fn lend_child<P: Parent>(parent: &mut P, i: usize) -> Option<&mut P::Child>
             Some(child) => Some(child),
             None => None,
         }
-    }
-}
-
-/// Sets child i, and answers the one that was there.
-pub fn replace_child<P: Parent>(parent: &mut P, i: usize, child: P::Child) -> P::Child
-where
-    P::Child: Drop,
-    requires { IsTrue (is_some (P.child_at (P.show parent.old) i)) }
-    ensures writes { P.show parent.new ≡ P.with_child (P.show parent.old) i (P.see child) }
-    ensures value { P.child_at (P.show parent.old) i ≡ Some (P.see result) }
-{
-    match lend_child(parent, i) {
-        Some(place) => mem::replace(place, child),
-        None => child,
-    }
-}
-
-/// Lets `change` write child i.
-pub fn change_child<P: Parent, F: FnOnce(&mut P::Child)>(parent: &mut P, i: usize, change: F)
-where
-    F: Drop,
-    requires within { IsTrue (is_some (P.child_at (P.show parent.old) i)) }
-    requires callable { F.IsAlwaysCallable change }
-    ensures { (old : P.Child) × (new : P.Child) × (P.child_at (P.show parent.old) i ≡ Some (P.see old))
-        × FnOnceReturnsAtMut F.FnOnce change old tt new × (P.show parent.new ≡ P.with_child (P.show parent.old) i (P.see new)) }
-{
-    if let Some(child) = lend_child(parent, i) {
-        change(child);
     }
 }
