@@ -136,7 +136,12 @@ impl<'a> Frame<'a> {
             pieces,
             ..
         } = self;
-        branches.add(alloc, pieces.concat())?;
+        let branch = pieces.concat();
+        // Mostly it is the only one: this saves making a row of it.
+        if matches!(branches, Row::None) {
+            return Ok((opener, branch));
+        }
+        branches.add(alloc, branch)?;
         Ok((opener, branches.choice()))
     }
 }
