@@ -77,6 +77,11 @@ impl<'a> Frame<'a> {
         if is_empty(&piece) {
             return Ok(());
         }
+        // The first is put in place here: this saves a call for each branch.
+        if matches!(self.pieces, Row::None) {
+            self.pieces = Row::One(piece);
+            return Ok(());
+        }
         self.pieces.add(alloc, piece)
     }
 
