@@ -57,7 +57,7 @@ pub push_frame-requires : goal.push_frame-requires
 push_frame-requires c =
     let n : c.len.result ≡ length c.loop-c.stack.items = omega (arith, c.len.ensures, c.loop-c.stack.ok.0) in
     let opens = subst (λ d. Opens c.args.end d (state c.loop-c.here) (open_of c.in-Open.opener) (state c.read_step.new.here)) n
-        (rw c.in-Open.is at c.in_ok-piece.ensures.value) in
+    (rw c.in-Open.is at c.in_ok-piece.ensures.value) in
     omega (arith, c.loop-c.stack.ok.0, c.loop-c.invariant.depth, c.loop-c.invariant.room, running_room c.loop-c.invariant.running opens)
 
 pub loop-c-preserved-in-Open : goal.loop-c-preserved-in-Open
@@ -134,8 +134,16 @@ push_frame-requires-in-Open-2 c =
     let n : c.len-in_default-after.result ≡ length c.pop.new.self.items = omega (arith, c.len-in_default-after.ensures, c.pop.new.self.ok.0) in
     let steps = c.in_ok-piece-2.ensures.value w.here w.inside w.left (rw n w.opens) (rw n w.whole) in
     let opens = subst (λ d. Opens c.args.end d w.here (open_of c.in-Open-2.opener) (state c.close.new.here)) n (rw c.in-Open-2.is at steps) in
-    omega (arith, c.pop.new.self.ok.0, c.loop-c.invariant.depth, ap length popped, length_push c.pop.new.self.items c.in-Some-pop.outer,
-    c.loop-c.invariant.room, c.in-Some-pop.ensures.capacity, running_room w.outer opens)
+    omega (
+      arith,
+      c.pop.new.self.ok.0,
+      c.loop-c.invariant.depth,
+      ap length popped,
+      length_push c.pop.new.self.items c.in-Some-pop.outer,
+      c.loop-c.invariant.room,
+      c.in-Some-pop.ensures.capacity,
+      running_room w.outer opens,
+    )
 
 pub loop-c-preserved : goal.loop-c-preserved
 loop-c-preserved c =
