@@ -99,7 +99,7 @@ fn alternation<'a>(alloc: Global, start: State<'a>, end: usize) -> Result<(Expr,
 /// How many groups may be open at once in the text: at most its opening parentheses, and at most `MAX_DEPTH`.
 ///
 /// A request for all the frames is so large that malloc puts its free blocks together at each, and then hands out the
-/// small blocks of a tree slowly: this saves a tenth of what reading a short text costs.
+/// small blocks of a tree slowly: this saves a twentieth of what reading a short text costs.
 fn room(text: &str) -> usize
     ensures { result ≡ min (parens (chars text.now)) max_depth }
 {

@@ -77,6 +77,11 @@ impl<'a> Frame<'a> {
         if is_empty(&piece) {
             return Ok(());
         }
+        // The first is put in place here: this saves a call for each branch.
+        if matches!(self.pieces, Row::None) {
+            self.pieces = Row::One(piece);
+            return Ok(());
+        }
         self.pieces.add(alloc, piece)
     }
 
@@ -136,7 +141,12 @@ impl<'a> Frame<'a> {
             pieces,
             ..
         } = self;
-        branches.add(alloc, pieces.concat())?;
+        let branch = pieces.concat();
+        // Mostly it is the only one: this saves making a row of it.
+        if matches!(branches, Row::None) {
+            return Ok((opener, branch));
+        }
+        branches.add(alloc, branch)?;
         Ok((opener, branches.choice()))
     }
 }

@@ -8,18 +8,18 @@ use crate::grammar::state::State;
 use fancy_lex::text::next;
 
 /// The character at the front and what follows it, where one look ahead shows that it is a literal with no layout and
-/// no quantifier. Where blanks are layout, none is told plain.
+/// no quantifier.
 #[inline]
 pub(crate) fn plain<'a>(here: State<'a>) -> Option<(char, &'a str)>
     ensures plain { IfSome result (λ p. IsPlain (state here.entry) p.0 (chars p.1.now)) }
     ensures shorter { IfSome result (λ p. length p.1.now < length here.entry.rest.now) }
 {
-    if here.flags.ignore_space {
-        return None;
-    }
     let (c, rest) = next(here.rest)?;
     let (d, _) = next(rest)?;
     if is_special(c) || is_suffix(d) {
+        return None;
+    }
+    if is_layout(here.flags.ignore_space, c) || is_layout(here.flags.ignore_space, d) {
         return None;
     }
     Some((c, rest))
@@ -49,4 +49,12 @@ fn is_suffix(c: char) -> bool
     ensures { result ≡ spec.is_suffix c }
 {
     c == '(' || c == '*' || c == '+' || c == '?' || c == '{'
+}
+
+/// Whether a blank or a line comment begins with the character, where these are layout.
+#[inline]
+fn is_layout(ignore_space: bool, c: char) -> bool
+    ensures { result ≡ spec.is_layout ignore_space c }
+{
+    ignore_space && (c == '#' || c == ' ' || c == '\r' || c == '\n' || c == '\t')
 }
