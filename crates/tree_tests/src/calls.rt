@@ -1,4 +1,5 @@
 //! Each call on patterns and errors once, where there is memory.
+use fancy_lex::escape::Assertion;
 use fancy_syntax::error::{Error, ParseError};
 use fancy_syntax::expr::{CaptureGroupTarget, Expr};
 use fancy_syntax::flags::FLAG_UNICODE;
@@ -75,6 +76,68 @@ fn text_is_appended(rt: HostRuntime) -> Result<(), Fail> {
     assert_eq!(rt; printed(alloc, &tree, 0, "x")?.as_str(), "x(?:a|b)c");
     assert_eq!(rt; printed(alloc, &tree, 2, "x")?.as_str(), "x(?:(?:a|b)c)");
     assert!(rt; tree.is_printable(alloc)?);
+    Ok(())
+}
+
+/// A tree for each kind of group that is printed, in which one such group nests.
+fn one_printed_group(alloc: Global) -> Result<Vec<Expr>, AllocError> {
+    let [a, b, c] = [
+        literal(alloc, "a", false)?,
+        literal(alloc, "b", false)?,
+        literal(alloc, "c", false)?,
+    ];
+    let row = Expr::Concat(vec![in alloc; a, b]?);
+    let choice = Expr::Alt(vec![in alloc; c, Expr::Empty]?);
+    let repeat = star(alloc, literal(alloc, "d", false)?)?;
+    let class = Expr::Delegate {
+        inner: String::from_str(alloc, "[e]")?,
+        casei: true,
+    };
+    Ok(vec![in alloc;
+        literal(alloc, "fg", true)?,
+        class,
+        star(alloc, row)?,
+        star(alloc, choice)?,
+        star(alloc, repeat)?,
+        Expr::Any {
+            newline: true,
+            crlf: false
+        },
+        Expr::Any {
+            newline: false,
+            crlf: true
+        },
+        Expr::Assertion(Assertion::StartLine { crlf: true }),
+        Expr::Assertion(Assertion::StartLineOniguruma { crlf: false }),
+        Expr::Assertion(Assertion::EndLine { crlf: false }),
+    ]?)
+}
+
+#[test]
+fn less_than_64_printed_groups_nest(rt: HostRuntime) -> Result<(), Fail> {
+    let alloc = rt.alloc();
+    for (i, tree) in one_printed_group(alloc)?.iter().enumerate() {
+        let mut nested = tree.clone(alloc)?;
+        for _ in 0..62 {
+            nested = Expr::Group(Box::new(alloc, nested)?);
+        }
+        let text = printed(alloc, &nested, 0, "")?;
+        assert_eq!(rt;
+            Expr::parse_tree(alloc, text.as_str())?.total_groups,
+            62,
+            "at {i}"
+        );
+        nested = Expr::Group(Box::new(alloc, nested)?);
+        let text = printed(alloc, &nested, 0, "")?;
+        let refused = Expr::parse_tree(alloc, text.as_str());
+        assert!(rt;
+            matches!(
+                refused,
+                Err(Error::ParseError(63, ParseError::RecursionExceeded))
+            ),
+            "at {i}"
+        );
+    }
     Ok(())
 }
 

@@ -89,7 +89,9 @@ fn only_proper_descendants_are_asked(rt: HostRuntime) -> Result<(), AllocError> 
 }
 
 #[test]
-fn nodes_and_absent_forms_are_equal_to_their_clones_alone(rt: HostRuntime) -> Result<(), AllocError> {
+fn nodes_and_absent_forms_are_equal_to_their_clones_alone(
+    rt: HostRuntime,
+) -> Result<(), AllocError> {
     let all = samples(rt.alloc())?;
     for (i, sample) in all.iter().enumerate() {
         for (j, other) in all.iter().enumerate() {
