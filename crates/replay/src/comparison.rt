@@ -1,4 +1,8 @@
 //! How an answer stands to the recorded one.
+
+/// What the program says where memory was refused.
+pub(crate) const OUT_OF_MEMORY: &str = "out of memory\n";
+
 /// What a run ended with, and what it wrote.
 #[derive(Drop)]
 pub(crate) struct Answer {
@@ -12,7 +16,7 @@ impl Answer {
     /// recorded lines.
     pub(crate) fn is_out_of_memory(&self, recorded: &Answer) -> bool {
         self.status == 3
-            && self.err.as_slice() == b"out of memory\n".as_slice()
+            && self.err.as_slice() == OUT_OF_MEMORY.as_bytes()
             && recorded.out.starts_with(&self.out)
     }
 

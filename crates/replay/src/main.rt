@@ -9,7 +9,7 @@ mod nodes;
 mod record;
 
 use anyhow::{Context, Result, ensure};
-use comparison::Answer;
+use comparison::{Answer, OUT_OF_MEMORY};
 use fancy_syntax::expr::Expr;
 use fre_program::flag_word::flags_named;
 use fre_program::program::fre_run;
@@ -19,10 +19,12 @@ use std::alloc::Global;
 use std::rt::Files;
 use std::{env, fs};
 
-/// What the program answers now; an error where memory was refused.
+/// What the program answers now; an error where memory was refused. It writes into room that is there, so that what is
+/// refused is no write.
 fn answer_now(alloc: Global, record: &Reading) -> Result<Answer> {
-    let mut out = Vec::new(alloc);
-    let mut err = Vec::new(alloc);
+    let recorded = &record.answer;
+    let mut out = Vec::with_capacity(alloc, recorded.out.len())?;
+    let mut err = Vec::with_capacity(alloc, recorded.err.len().max(OUT_OF_MEMORY.len()))?;
     let status = fre_run(alloc, record.words.as_slice(), &mut out, &mut err);
     let answer = Answer { status, out, err };
     ensure!(
