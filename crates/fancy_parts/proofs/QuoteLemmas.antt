@@ -107,7 +107,8 @@ none_marked : (bs : List ℕ) → ((k : ℕ) → k < length bs → 128 ≤ get_o
 none_marked [] h = refl
 none_marked (b ∷ bs) h = rw (not_behind b (h 0 (omega arith))) (none_marked bs (λ k l. h (suc k) (omega arith)))
 
-bytes_high : (c k : ℕ) → 128 ≤ c → k < length (encode c) → 128 ≤ get_or (encode c) k 0
+-- a character past ASCII has no byte of ASCII
+pub bytes_high : (c k : ℕ) → 128 ≤ c → k < length (encode c) → 128 ≤ get_or (encode c) k 0
 bytes_high c k h l =
     let whole : encode c ≡ encode c ++ [] = sym (append-nil (encode c)) in
     let low : get_or (encode c) k 0 < 128 → c ≡ get_or (encode c) k 0 = inside_one c [] (encode c) k whole l in

@@ -1,16 +1,17 @@
 -- How many groups may be open: each begins with a parenthesis of the text.
-use Rattle.std.proofs.Common.{◌≡◌, ◌==◌, if◌then◌else◌, ℕ, ◌+◌, ◌≤◌, ◌<◌, suc, Bool, true, false, List, [], ◌∷◌, ◌++◌, refl, sym, ap, ◌∙◌, subst, arith, chars, nat_lt, append-nil, length, get_or}
+use Rattle.std.proofs.Common.{◌≡◌, ◌==◌, if◌then◌else◌, ℕ, ◌+◌, ◌≤◌, ◌<◌, suc, Bool, true, false, List, [], ◌∷◌, ◌++◌, refl, sym, ap, ◌∙◌, subst, arith, chars, nat_lt, length, get_or}
 use Rattle.std.specs.Prelude.{⊤}
 use Rattle.std.proofs.lemmas.Bool.{cond_both}
 use Rattle.std.proofs.lemmas.Bool.Decides.{nat_tests}
 use Rattle.std.proofs.lemmas.List.Sums.{sum_by-append}
-use Rattle.std.proofs.lemmas.Str.{encodes-chars, encode_ascii, inside_one}
+use Rattle.std.proofs.lemmas.Str.{encodes-chars, encode_ascii}
 use Rattle.std.proofs.Math.Utf8.{encode, encodes}
 use Rattle.std.specs.Str.{IsUtf8}
 use Prim.Native.Char.{code}
 use borrow.Author.Tests.{ltb-true, ltb-false}
 use Rattle.fancy_lex.specs.Characters.{bar}
 use Rattle.fancy_lex.specs.Text.{Text, bytes}
+use Rattle.fancy_parts.proofs.QuoteLemmas.{bytes_high}
 use Rattle.fancy_syntax.specs.Ahead.{Ahead, nothing, leaf, opens, condition, body, absent_branch, ahead, ahead_of, is_before_nothing}
 use Rattle.fancy_syntax.specs.Machine.{parens, Open, Opens, a_group, a_condition, a_body, behind_condition, a_branch, behind_branch}
 use Rattle.fancy_syntax.specs.Slices.{Slice}
@@ -85,28 +86,19 @@ opens_parens (behind_branch {v} {u} x b e) =
 
 -- ---- the parentheses of a text by its bytes
 
+other : (b : ℕ) → 128 ≤ b → (b == code "(") ≡ false
+other b h = grind (arith, nat_tests)
+
 -- no byte of a longer character is one
 none_high : (bs : List ℕ) → ((k : ℕ) → k < length bs → 128 ≤ get_or bs k 0) → parens bs ≡ 0
 none_high [] h = refl
 none_high (b ∷ bs) h = rw (other b (h 0 (omega arith))) (none_high bs (λ k l. h (suc k) (omega arith)))
-  where
-    other : (b : ℕ) → 128 ≤ b → (b == code "(") ≡ false
-    other b h = grind (arith, nat_tests)
-
-bytes_high : (c k : ℕ) → 128 ≤ c → k < length (encode c) → 128 ≤ get_or (encode c) k 0
-bytes_high c k h l =
-    let whole : encode c ≡ encode c ++ [] = sym (append-nil (encode c)) in
-    let low : get_or (encode c) k 0 < 128 → c ≡ get_or (encode c) k 0 = inside_one c [] (encode c) k whole l in
-    grind arith
 
 encoded_char : (c : ℕ) (b : Bool) → nat_lt c 128 ≡ b → parens (encode c) ≡ parens (c ∷ [])
 encoded_char c true e = ap parens (encode_ascii c (ltb-true c 128 e))
 encoded_char c false e =
     let h : 128 ≤ c = ltb-false c 128 e in
     none_high (encode c) (λ k l. bytes_high c k h l) ∙ sym (rw (other c h) refl)
-  where
-    other : (b : ℕ) → 128 ≤ b → (b == code "(") ≡ false
-    other b h = grind (arith, nat_tests)
 
 encoded : (t : Text) → parens (encodes t) ≡ parens t
 encoded [] = refl
