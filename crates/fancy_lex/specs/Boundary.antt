@@ -1,9 +1,12 @@
 -- Word boundaries behind `\b` and `\B`.
-use Rattle.std.specs.Prelude.{◌≡◌, ◌≢◌, ℕ, zero, suc, Bool, true, false, ◌||◌, ◌==◌, if◌then◌else◌, [], ◌∷◌, length, codes, Option, Some, None}
+use Rattle.std.specs.Prelude.{◌≡◌, ◌≢◌, ℕ, zero, suc, Bool, true, false, ◌||◌, ◌==◌, if◌then◌else◌, [], ◌∷◌, length}
+use Rattle.std.specs.Prelude.{codes, Option, Some, None}
 use Rattle.std.specs.Str.{bytes_eq}
 use Rattle.std.specs.Char.{is_ascii_digit}
 use Rattle.fancy_lex.specs.declared.escape.Assertion.{Assertion}
-use Rattle.fancy_lex.specs.declared.escape.Assertion.TheVariants.{LeftWordBoundary, RightWordBoundary, LeftWordHalfBoundary, RightWordHalfBoundary, WordBoundary, NotWordBoundary}
+use Rattle.fancy_lex.specs.declared.escape.Assertion.TheVariants.{LeftWordBoundary, RightWordBoundary}
+use Rattle.fancy_lex.specs.declared.escape.Assertion.TheVariants.{LeftWordHalfBoundary, RightWordHalfBoundary}
+use Rattle.fancy_lex.specs.declared.escape.Assertion.TheVariants.{WordBoundary, NotWordBoundary}
 use Rattle.fancy_lex.specs.Characters.{open_brace, close_brace, comma}
 use Rattle.fancy_lex.specs.Escaped.{Escape, assertion}
 use Rattle.fancy_lex.specs.Fault.{Fault}
@@ -74,8 +77,8 @@ pub data BracedName (n : ℕ) (x : Bool) (p : ℕ) : Text → Reading Text → T
       BracedName n x p t (gives (c ∷ w) v)
   open_layout : {q : ℕ} {t : Text} → Unclosed n x t q → BracedName n x p t (fails (comment_not_closed q))
   no_end : {t : Text} → Before x t [] → BracedName n x p t (fails (boundary_not_closed p))
-  fault_behind : {c : ℕ} {t u : Text} {e : Fault} → c ≢ close_brace → Before x t (c ∷ u) → BracedName n x p u (fails e) →
-      BracedName n x p t (fails e)
+  fault_behind : {c : ℕ} {t u : Text} {e : Fault} → c ≢ close_brace → Before x t (c ∷ u) →
+      BracedName n x p u (fails e) → BracedName n x p t (fails e)
 
 -- a brace stands behind layout, with `u` behind it, where the count of a repeat does or does not begin behind layout
 abbrev pub Braces : Bool → Text → Text → Bool → Type 0

@@ -1,7 +1,8 @@
 -- A boundary's name, as a word that stands there and as a fault tells it.
 use Rattle.std.specs.Prelude.{ℕ, suc, Bool, [], ◌∷◌, ◌++◌, length, codes, Option, Some, option_map, option_and_then}
 use Rattle.fancy_lex.specs.declared.escape.Assertion.{Assertion}
-use Rattle.fancy_lex.specs.declared.escape.Assertion.TheVariants.{LeftWordBoundary, RightWordBoundary, LeftWordHalfBoundary, RightWordHalfBoundary}
+use Rattle.fancy_lex.specs.declared.escape.Assertion.TheVariants.{LeftWordBoundary, RightWordBoundary}
+use Rattle.fancy_lex.specs.declared.escape.Assertion.TheVariants.{LeftWordHalfBoundary, RightWordHalfBoundary}
 use Rattle.fancy_lex.specs.Boundary.{name}
 use Rattle.fancy_lex.specs.Characters.{close_brace}
 use Rattle.fancy_lex.specs.Escaped.{Escape}

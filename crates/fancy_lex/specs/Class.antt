@@ -1,5 +1,6 @@
 -- Classes: what stands behind an opening bracket, and the text that is written for it.
-use Rattle.std.specs.Prelude.{◌≡◌, ℕ, zero, suc, ◌+◌, ◌-◌, ◌/◌, ◌%◌, Bool, true, false, not, ◌&&◌, ◌||◌, ◌==◌, nat_lt, if◌then◌else◌, [], ◌∷◌, ◌++◌, codes}
+use Rattle.std.specs.Prelude.{◌≡◌, ℕ, zero, suc, ◌+◌, ◌-◌, ◌/◌, ◌%◌, Bool, true, false, not, ◌&&◌, ◌||◌, ◌==◌, nat_lt}
+use Rattle.std.specs.Prelude.{if◌then◌else◌, [], ◌∷◌, ◌++◌, codes}
 use Prim.Native.Char.{code}
 use Rattle.fancy_lex.specs.Characters.{backslash, caret, open_bracket, close_bracket, ◌∈◌}
 use Rattle.fancy_lex.specs.Escape.{escape}

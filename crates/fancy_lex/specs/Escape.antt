@@ -2,12 +2,14 @@
 use Rattle.std.specs.Prelude.{ℕ, Bool, true, false, not, ◌&&◌, ◌||◌, if◌then◌else◌, [], ◌∷◌}
 use Prim.Native.Char.{code}
 use Rattle.std.specs.Char.{is_ascii_alphanumeric, is_ascii_digit}
-use Rattle.fancy_lex.specs.declared.escape.Assertion.TheVariants.{StartText, EndText, EndTextIgnoreTrailingNewlines, LeftWordBoundary, RightWordBoundary}
+use Rattle.fancy_lex.specs.declared.escape.Assertion.TheVariants.{StartText, EndText, EndTextIgnoreTrailingNewlines}
+use Rattle.fancy_lex.specs.declared.escape.Assertion.TheVariants.{LeftWordBoundary, RightWordBoundary}
 use Rattle.fancy_lex.specs.declared.flags.Flags.{Flags}
 use Rattle.fancy_lex.specs.Boundary.{boundary}
 use Rattle.fancy_lex.specs.Characters.{backslash, ◌∈◌}
 use Rattle.fancy_lex.specs.EscapeReference as reference
-use Rattle.fancy_lex.specs.Escaped.{hex_class, negated_hex_class, Escape, literal, any, assertion, general_newline, keep_out, continue_from_previous_match_end, delegate, backref, subroutine_call}
+use Rattle.fancy_lex.specs.Escaped.{hex_class, negated_hex_class, Escape, literal, any, assertion, general_newline}
+use Rattle.fancy_lex.specs.Escaped.{keep_out, continue_from_previous_match_end, delegate, backref, subroutine_call}
 use Rattle.fancy_lex.specs.FaultTable.{backslash_at_end, letter_of_no_escape, number_in_class, property_not_closed}
 use Rattle.fancy_lex.specs.Hex.{hex}
 use Rattle.fancy_lex.specs.Property.{read_property, property_text}

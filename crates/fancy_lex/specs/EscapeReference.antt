@@ -1,5 +1,6 @@
 -- References in escapes: what stands behind `\k`, behind `\g`, or behind a backslash in digits.
-use Rattle.std.specs.Prelude.{ℕ, ◌^◌, Bool, true, false, ◌&&◌, ◌||◌, nat_lt, if◌then◌else◌, [], ◌∷◌, Option, Some, None, option_map, is_some}
+use Rattle.std.specs.Prelude.{ℕ, ◌^◌, Bool, true, false, ◌&&◌, ◌||◌, nat_lt, if◌then◌else◌, [], ◌∷◌, Option, Some, None}
+use Rattle.std.specs.Prelude.{option_map, is_some}
 use Rattle.std.specs.Option.{option_and_then}
 use Rattle.fancy_lex.specs.Characters.{◌∈◌}
 use Rattle.fancy_lex.specs.Delimited.{marked_name, of_name}
@@ -9,7 +10,8 @@ use Rattle.fancy_lex.specs.IdReference.{IdReference, amount_alone, id_reference}
 use Rattle.fancy_lex.specs.Number.{at_digit, number}
 use Rattle.fancy_lex.specs.NumberText.{is_nothing, number_text}
 use Rattle.fancy_lex.specs.Reading.{Reading, gives, fails, ◌>=>◌, choose}
-use Rattle.fancy_lex.specs.Referred.{Reference, Call, call_to, reference_to, target_of_name, name_reading, reference_by_name}
+use Rattle.fancy_lex.specs.Referred.{Reference, Call, call_to, reference_to, target_of_name, name_reading}
+use Rattle.fancy_lex.specs.Referred.{reference_by_name}
 use Rattle.fancy_lex.specs.Target.{Target, by_number, relative}
 use Rattle.fancy_lex.specs.Text.{Text, place_of}
 

@@ -10,7 +10,8 @@ use Rattle.fancy_lex.specs.declared.escape.DelegateText.TheVariants as text
 use Rattle.fancy_lex.specs.declared.escape.Escaped as declared
 use Rattle.fancy_lex.specs.declared.escape.Escaped.TheVariants as code
 
--- a leaf of the tree, with texts as lists of characters; the last flag of a literal, a delegate and a reference is `casei`
+-- a leaf of the tree, with texts as lists of characters; the last flag of a literal, a delegate and a reference is
+-- `casei`
 pub data Escape : Type 0 where
   literal : ℕ → Bool → Escape
   literal_bytes : ℕ → Escape

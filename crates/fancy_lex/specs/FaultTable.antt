@@ -2,7 +2,11 @@
 -- that takes a place p is told it by the reader; one that takes a text t measures it where that is left to be read.
 use Rattle.std.specs.Prelude.{ℕ, ◌+◌, ◌-◌, Bool, [], ◌∷◌, ◌++◌, codes, if◌then◌else◌}
 use Rattle.fancy_lex.specs.Characters.{backslash}
-use Rattle.fancy_lex.specs.Fault.{Kind, Fault, general_parse_error, unclosed_open_paren, recursion_exceeded, trailing_backslash, invalid_escape, unclosed_unicode_name, invalid_hex, invalid_codepoint_value, invalid_class, unknown_flag, changing_unicode_mode_unsupported, invalid_backref, target_not_repeatable, invalid_group_name, invalid_group_name_backref}
+use Rattle.fancy_lex.specs.Fault.{Kind, Fault, general_parse_error, unclosed_open_paren, recursion_exceeded}
+use Rattle.fancy_lex.specs.Fault.{trailing_backslash, invalid_escape, unclosed_unicode_name, invalid_hex}
+use Rattle.fancy_lex.specs.Fault.{invalid_codepoint_value, invalid_class, unknown_flag}
+use Rattle.fancy_lex.specs.Fault.{changing_unicode_mode_unsupported, invalid_backref, target_not_repeatable}
+use Rattle.fancy_lex.specs.Fault.{invalid_group_name, invalid_group_name_backref}
 use Rattle.fancy_lex.specs.Text.{Text, place_of}
 
 -- ---- the texts of the general faults

@@ -1,5 +1,6 @@
 -- Layout: comments, and under IGNORE_SPACE blanks and line comments.
-use Rattle.std.specs.Prelude.{◌≡◌, ◌≢◌, ℕ, Bool, true, ◌&&◌, ◌||◌, ◌==◌, if◌then◌else◌, List, [], ◌∷◌, ◌++◌, ◌⊎◌, option_and_then, Option, Some, None, is_some, Result, Ok, Err, chars, codes}
+use Rattle.std.specs.Prelude.{◌≡◌, ◌≢◌, ℕ, Bool, true, ◌&&◌, ◌||◌, ◌==◌, if◌then◌else◌, List, [], ◌∷◌, ◌++◌, ◌⊎◌}
+use Rattle.std.specs.Prelude.{option_and_then, Option, Some, None, is_some, Result, Ok, Err, chars, codes}
 use Rattle.std.specs.Borrow.{Bor}
 use Prim.Native.Char.{code}
 use Rattle.fancy_lex.specs.Characters.{line_feed, hash, open_paren, close_paren, question_mark, backslash}
@@ -65,7 +66,8 @@ pub record Before (x : Bool) (t v : Text) : Type 0 where
 -- a comment's inside that does not end: all of the text, or all but an unpaired backslash
 pub data Open : ℕ → Text → ℕ → Type 0 where
   at_end : {n : ℕ} {t : Text} → Inside t → Open n t (end_in_comment n)
-  after_backslash : {n p : ℕ} {t : Text} (i : Text) → t ≡ i ++ (backslash ∷ []) → p ≡ end_behind_backslash n → Inside i → Open n t p
+  after_backslash : {n p : ℕ} {t : Text} (i : Text) → t ≡ i ++ (backslash ∷ []) → p ≡ end_behind_backslash n →
+      Inside i → Open n t p
 
 -- in a text of n bytes that ends with `t`, the layout at `t` holds an unclosed comment, with its fault at p
 pub record Unclosed (n : ℕ) (x : Bool) (t : Text) (p : ℕ) : Type 0 where

@@ -13,14 +13,17 @@ use Rattle.fancy_lex.specs.Reading.{Reading, gives, fails, choose}
 use Rattle.fancy_lex.specs.Referred.{Reference, Call}
 use Rattle.fancy_lex.specs.Text.{Text, place_of, strip_word}
 use Rattle.fancy_lex.specs.declared.escape.Assertion.{Assertion}
-use Rattle.fancy_lex.specs.declared.escape.Assertion.TheVariants.{StartText, EndText, StartLine, StartLineOniguruma, EndLine}
+use Rattle.fancy_lex.specs.declared.escape.Assertion.TheVariants.{StartText, EndText, StartLine, StartLineOniguruma}
+use Rattle.fancy_lex.specs.declared.escape.Assertion.TheVariants.{EndLine}
 use Rattle.fancy_lex.specs.declared.flags.Flags.{Flags}
 use Rattle.fancy_parts.specs.FlagLetters.{Letters, letters, setting, scope as scoped}
 use Rattle.fancy_parts.specs.GroupName.{group_name}
 use Rattle.fancy_parts.specs.HeadReference.{named_reference, named_call, begins_target, condition_target}
 use Rattle.fancy_syntax.specs.Head.{Head, capture, scope, look, atomic, define, repeater}
 use Rattle.fancy_syntax.specs.State.{State, at, Outcome, done, faulted}
-use Rattle.fancy_syntax.specs.Tree.{Tree, empty, any, assertion, general_newline, literal, literal_bytes, delegate, keep_out, continue_from_previous_match_end, verb, ast_node, ast_backref, ast_call, ast_condition}
+use Rattle.fancy_syntax.specs.Tree.{Tree, empty, any, assertion, general_newline, literal, literal_bytes, delegate}
+use Rattle.fancy_syntax.specs.Tree.{keep_out, continue_from_previous_match_end, verb, ast_node, ast_backref, ast_call}
+use Rattle.fancy_syntax.specs.Tree.{ast_condition}
 use Rattle.fancy_syntax.specs.Verb.{verb_at}
 use Rattle.fancy_syntax.specs.declared.expr.LookAround.TheVariants.{LookAhead, LookAheadNeg, LookBehind, LookBehindNeg}
 

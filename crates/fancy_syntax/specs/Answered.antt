@@ -1,17 +1,19 @@
 -- What is true of every tree that is answered, and how its marks speak of it.
-use Rattle.std.specs.Prelude.{◌≡◌, ℕ, ◌+◌, ◌*◌, ◌<◌, ◌≤◌, Bool, true, false, List, [], ◌∷◌, length, filter, filter_map, Option, Some, None}
+use Rattle.std.specs.Prelude.{◌≡◌, ℕ, ◌+◌, ◌*◌, ◌<◌, ◌≤◌, Bool, true, false, List, [], ◌∷◌, length, filter, filter_map}
+use Rattle.std.specs.Prelude.{Option, Some, None}
 use Rattle.std.specs.List.{AllByRecursion, list_any}
 use Rattle.fancy_lex.specs.Text.{Text}
 use Rattle.fancy_syntax.specs.Preorder.{preorder}
-use Rattle.fancy_syntax.specs.Tree.{Tree, literal, literal_bytes, alt, group, backref, backref_at_level, subroutine_call, ast_node, AstTree, ast_call, list_of, nodes, depth}
+use Rattle.fancy_syntax.specs.Tree.{Tree, literal, literal_bytes, alt, group, backref, backref_at_level}
+use Rattle.fancy_syntax.specs.Tree.{subroutine_call, ast_node, AstTree, ast_call, list_of, nodes, depth}
 
 -- only a call stays as it was read
 abbrev pub is_call_as_read : AstTree → Bool
 is_call_as_read (ast_call t) = true
 is_call_as_read _ = false
 
--- a Literal holds one character, a LiteralBytes one byte above the ASCII ones, an Alt two children or more, and an AstNode
--- a call
+-- a Literal holds one character, a LiteralBytes one byte above the ASCII ones, an Alt two children or more, and an
+-- AstNode a call
 abbrev pub IsAnsweredNode : Tree → Type 0
 IsAnsweredNode (literal w casei) = length w ≡ 1
 IsAnsweredNode (literal_bytes w) = (length w ≡ 1) × AllByRecursion (λ b. (0x80 ≤ b) × (b ≤ 0xFF)) w
@@ -23,8 +25,8 @@ IsAnsweredNode _ = Unit {0}
 abbrev pub IsAnswered : Tree → Type 0
 IsAnswered t = AllByRecursion IsAnsweredNode (preorder t)
 
--- a tree of n bytes has at most 2 n + 1 nodes, and at most 832 levels: on each of 64 an Alt, a Concat, five quantifiers of
--- two nodes, and a group or leaf
+-- a tree of n bytes has at most 2 n + 1 nodes, and at most 832 levels: on each of 64 an Alt, a Concat, five
+-- quantifiers of two nodes, and a group or leaf
 abbrev pub IsSmall : Tree → ℕ → Type 0
 IsSmall t n = (nodes t ≤ 2 * n + 1) × (depth t ≤ 832)
 

@@ -4,7 +4,8 @@ use Rattle.std.specs.Prelude.{◌≡◌, ℕ, ◌+◌, ◌==◌, Bool, true, fal
 use Prim.Native.Char.{code}
 use Rattle.fancy_lex.specs.Characters.{bar}
 use Rattle.fancy_lex.specs.Fault.{Kind}
-use Rattle.fancy_lex.specs.FaultTable.{comment_not_closed, group_not_closed, bar_for_close_paren, close_paren_left_over, body_wanting}
+use Rattle.fancy_lex.specs.FaultTable.{comment_not_closed, group_not_closed, bar_for_close_paren, close_paren_left_over}
+use Rattle.fancy_lex.specs.FaultTable.{body_wanting}
 use Rattle.fancy_lex.specs.Layout.{rest, fault as open_comment}
 use Rattle.fancy_lex.specs.Text.{Text, bytes, place_of, strip}
 use Rattle.fancy_lex.specs.declared.flags.Flags.{Flags}
@@ -13,7 +14,8 @@ use Rattle.fancy_syntax.specs.Head.{Head, node_of, flags_behind}
 use Rattle.fancy_syntax.specs.Join.{join, choice, is_empty}
 use Rattle.fancy_syntax.specs.Quantified.{quants}
 use Rattle.fancy_syntax.specs.State.{State, at, Outcome, done, fault, faulted, and_then, seen_through}
-use Rattle.fancy_syntax.specs.Tree.{Tree, more_trees, list_of, empty, alt, conditional, absent, clear, stopper, expression, ast_node, AstTree, ast_condition}
+use Rattle.fancy_syntax.specs.Tree.{Tree, more_trees, list_of, empty, alt, conditional, absent, clear, stopper}
+use Rattle.fancy_syntax.specs.Tree.{expression, ast_node, AstTree, ast_condition}
 
 -- ---- what a part comes to behind its last one
 
@@ -108,9 +110,9 @@ mutual
         AtomOf (condition t) n d s (fault k p)
     a_body : {n d : ℕ} {c : Tree} {s t : State} {o : Outcome Tree} → Body n d c t o → AtomOf (body c t) n d s o
     -- an absent expression's two branches; a stopper's or a clear's one
-    two_branches : {n d : ℕ} {s t v : State} {u : Text} {a : Tree} {q o : Outcome Tree} → Branch n (d + 1) t (done a v) →
-        strip bar v.rest ≡ Some u → Branch n (d + 1) (at v u) q → and_then q (λ e. closed n (absent (expression a e))) ≡ o →
-        AtomOf (absent_branch t) n d s o
+    two_branches : {n d : ℕ} {s t v : State} {u : Text} {a : Tree} {q o : Outcome Tree} →
+        Branch n (d + 1) t (done a v) → strip bar v.rest ≡ Some u → Branch n (d + 1) (at v u) q →
+        and_then q (λ e. closed n (absent (expression a e))) ≡ o → AtomOf (absent_branch t) n d s o
     one_branch : {n d : ℕ} {s t v : State} {a : Tree} {o : Outcome Tree} → Branch n (d + 1) t (done a v) →
         strip bar v.rest ≡ None → closed n (alone a) v ≡ o → AtomOf (absent_branch t) n d s o
     absent_fault : {n d p : ℕ} {s t : State} {k : Kind} → Branch n (d + 1) t (fault k p) →

@@ -2,7 +2,8 @@
 use Rattle.std.specs.Prelude.{ℕ, Option}
 use Rattle.fancy_lex.specs.Text.{Text}
 use Rattle.fancy_lex.specs.declared.flags.Flags.{Flags}
-use Rattle.fancy_syntax.specs.Tree.{Tree, look_around, atomic_group, define_group, absent, repeater as repeater_of, ast_node, ast_group}
+use Rattle.fancy_syntax.specs.Tree.{Tree, look_around, atomic_group, define_group, absent, repeater as repeater_of}
+use Rattle.fancy_syntax.specs.Tree.{ast_node, ast_group}
 use Rattle.fancy_syntax.specs.declared.expr.LookAround.{LookAround}
 
 pub data Head : Type 0 where

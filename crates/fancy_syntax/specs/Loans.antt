@@ -12,20 +12,28 @@ use Rattle.std.specs.declared.alloc.Global.{Global}
 use Rattle.std.specs.declared.boxed.Box.{Box}
 use denote.RattleType.{RattleType}
 
-module _ (R C : RattleType) (Seen : Type 0) (show : R.Denot → Seen) (see : C.Denot → Seen) (with_child : Seen → ℕ → Seen → Seen) where
+module _ (R C : RattleType) (Seen : Type 0) (show : R.Denot → Seen) (see : C.Denot → Seen)
+    (with_child : Seen → ℕ → Seen → Seen) where
   -- r lends child i
   abbrev pub LendsChildAt : MutBor R.Denot → ℕ → Option (MutBor C.Denot) → Fml
-  LendsChildAt e i r = LendsSo R C e r (λ n w. OnSome r (show n ≡ with_child (show e.now) i (see w))) (λ n. show n ≡ show e.now)
+  LendsChildAt e i r =
+      LendsSo R C e r (λ n w. OnSome r (show n ≡ with_child (show e.now) i (see w))) (λ n. show n ≡ show e.now)
 
   -- r lends the box of child i
   abbrev pub LendsBoxAt : MutBor R.Denot → ℕ → Option (MutBor (Box C.Denot Global)) → Fml
-  LendsBoxAt e i r = LendsSo R (box.the_row C global.the_row ghosts) e r (λ n w. OnSome r (show n ≡ with_child (show e.now) i (see w.value))) (λ n. show n ≡ show e.now)
+  LendsBoxAt e i r =
+      LendsSo R (box.the_row C global.the_row ghosts) e r
+      (λ n w. OnSome r (show n ≡ with_child (show e.now) i (see w.value))) (λ n. show n ≡ show e.now)
 
-  -- n has the list w in place of the one that r lends: with an element of it written it is e with that child, and with none it is e
+  -- n has the list w in place of the one that r lends: with an element of it written it is e with that child, and with
+  -- none it is e
   abbrev pub Rewrites : R.Denot → Option (MutBor (Vec C.Denot Global)) → R.Denot → Vec C.Denot Global → Type 0
-  Rewrites e (Some v) n w = ((i : ℕ) (c : C.Denot) → w ≡ with_item v.now i c → show n ≡ with_child (show e) i (see c)) × (w ≡ v.now → show n ≡ show e)
+  Rewrites e (Some v) n w =
+      ((i : ℕ) (c : C.Denot) → w ≡ with_item v.now i c → show n ≡ with_child (show e) i (see c))
+      × (w ≡ v.now → show n ≡ show e)
   Rewrites e None n w = ⊤
 
   -- r lends the list of children
   abbrev pub LendsListAt : MutBor R.Denot → Option (MutBor (Vec C.Denot Global)) → Fml
-  LendsListAt e r = LendsSo R (vec.the_row C global.the_row ghosts) e r (λ n w. Rewrites e.now r n w) (λ n. show n ≡ show e.now)
+  LendsListAt e r =
+      LendsSo R (vec.the_row C global.the_row ghosts) e r (λ n w. Rewrites e.now r n w) (λ n. show n ≡ show e.now)

@@ -1,5 +1,6 @@
 -- The normal form of a tree, under a Unicode setting: what its printed text is read as.
-use Rattle.std.specs.Prelude.{ℕ, Bool, false, not, ◌&&◌, if◌then◌else◌, List, [], ◌∷◌, ◌++◌, map, is_none, Option, Some, None, unwrap_or}
+use Rattle.std.specs.Prelude.{ℕ, Bool, false, not, ◌&&◌, if◌then◌else◌, List, [], ◌∷◌, ◌++◌, map, is_none, Option, Some}
+use Rattle.std.specs.Prelude.{None, unwrap_or}
 use Rattle.fancy_lex.specs.Characters.{◌∈◌}
 use Rattle.fancy_lex.specs.Text.{Text, bytes}
 use Rattle.fancy_lex.specs.declared.escape.Assertion.TheVariants.{StartLine, StartLineOniguruma}
@@ -9,7 +10,8 @@ use Rattle.fancy_syntax.specs.Ahead.{leaf_of}
 use Rattle.fancy_syntax.specs.Grammar.{start}
 use Rattle.fancy_syntax.specs.Join.{solid, join, choice}
 use Rattle.fancy_syntax.specs.State.{Outcome, done, fault}
-use Rattle.fancy_syntax.specs.Tree.{Tree, Trees, no_trees, more_trees, empty, any, assertion, literal, concat, alt, group, repeat, delegate, define_group}
+use Rattle.fancy_syntax.specs.Tree.{Tree, Trees, no_trees, more_trees, empty, any, assertion, literal, concat, alt}
+use Rattle.fancy_syntax.specs.Tree.{group, repeat, delegate, define_group}
 
 -- ---- the flags that a printed text is read under
 

@@ -33,7 +33,8 @@ progress_of p = record {
 
 -- the number that a reference means to the walk, where it means one
 abbrev pub number_meant : Known → Progress → Role → CaptureGroupTarget → Option ℕ
-number_meant k p role target = walk.number_in (walk.means_here (known_of k) (progress_of p) (role_of role) (view_target target))
+number_meant k p role target =
+    walk.number_in (walk.means_here (known_of k) (progress_of p) (role_of role) (view_target target))
 
 -- the walk with a reference noted
 abbrev pub noted_one : Known → Progress → ℕ → Role → CaptureGroupTarget → walk.Progress

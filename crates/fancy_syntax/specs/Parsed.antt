@@ -14,7 +14,8 @@ use Rattle.fancy_syntax.specs.Tree.{Tree}
 use Rattle.fancy_syntax.specs.View.{view}
 use Rattle.fancy_syntax.specs.declared.expr.Expr.{Expr}
 use Rattle.fancy_syntax.specs.declared.grammar.ahead.Ahead as declared
-use Rattle.fancy_syntax.specs.declared.grammar.ahead.Ahead.TheVariants.{Nothing, Leaf, Group, Condition, Body, AbsentBranch}
+use Rattle.fancy_syntax.specs.declared.grammar.ahead.Ahead.TheVariants.{Nothing, Leaf, Group, Condition, Body}
+use Rattle.fancy_syntax.specs.declared.grammar.ahead.Ahead.TheVariants.{AbsentBranch}
 use Rattle.fancy_syntax.specs.declared.grammar.head.Head.{Head}
 use Rattle.fancy_syntax.specs.declared.grammar.head.Head.TheVariants as code
 use Rattle.fancy_syntax.specs.declared.grammar.state.State.{State}
@@ -84,7 +85,9 @@ IsBelow _ d = d + 1 < max_depth
 
 -- the text behind the layout, or the fault of an open comment in it
 abbrev pub Skips : Result (Bor (List ℕ)) Error → Skipped → Type 0
-Skips r s = MatchResult r (λ t. s ≡ rest (chars t.now)) (λ e. (p : ℕ) × (e ≡ ParseError p UnclosedOpenParen) × (s ≡ open_comment p))
+Skips r s =
+    MatchResult r (λ t. s ≡ rest (chars t.now))
+    (λ e. (p : ℕ) × (e ≡ ParseError p UnclosedOpenParen) × (s ≡ open_comment p))
 
 -- where no byte was taken, the text is the same
 abbrev pub IsUnmoved : List ℕ → List ℕ → Type 0

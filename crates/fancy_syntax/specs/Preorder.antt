@@ -1,6 +1,8 @@
 -- The nodes of a tree in preorder: each before those that stand in it, in text order.
 use Rattle.std.specs.Prelude.{List, [], ◌∷◌, ◌++◌}
-use Rattle.fancy_syntax.specs.Tree.{Tree, Trees, no_trees, more_trees, concat, alt, group, look_around, repeat, atomic_group, conditional, absent, define_group, ast_node, AbsentTree, repeater, expression, stopper, clear, ast_group}
+use Rattle.fancy_syntax.specs.Tree.{Tree, Trees, no_trees, more_trees, concat, alt, group, look_around, repeat}
+use Rattle.fancy_syntax.specs.Tree.{atomic_group, conditional, absent, define_group, ast_node, AbsentTree, repeater}
+use Rattle.fancy_syntax.specs.Tree.{expression, stopper, clear, ast_group}
 
 abbrev mutual
   pub preorder : Tree → List Tree

@@ -5,7 +5,8 @@ use Rattle.fancy_lex.specs.declared.escape.Assertion.TheVariants.{EndTextIgnoreT
 use Rattle.fancy_parts.specs.Quantifier.{most}
 use Rattle.fancy_syntax.specs.Join.{is_empty}
 use Rattle.fancy_syntax.specs.Normal.{bare, class_of, normal}
-use Rattle.fancy_syntax.specs.Tree.{Tree, Trees, no_trees, more_trees, empty, any, assertion, literal, concat, alt, group, repeat, delegate, define_group}
+use Rattle.fancy_syntax.specs.Tree.{Tree, Trees, no_trees, more_trees, empty, any, assertion, literal, concat, alt}
+use Rattle.fancy_syntax.specs.Tree.{group, repeat, delegate, define_group}
 
 -- a count that a word holds
 abbrev pub is_count : ℕ → Bool
@@ -21,8 +22,8 @@ abbrev pub takes_quantifier : Tree → Bool
 takes_quantifier t = not (is_empty (normal false t)) && not (is_long t)
 
 abbrev mutual
-  -- every node has a text, that of a Delegate is one whole class or class escape, and under each Repeat stands what takes
-  -- the quantifier as a whole; what a DefineGroup holds is not looked at
+  -- every node has a text, that of a Delegate is one whole class or class escape, and under each Repeat stands what
+  -- takes the quantifier as a whole; what a DefineGroup holds is not looked at
   pub printable : Tree → Bool
   printable empty = true
   printable (any newline crlf) = true

@@ -2,9 +2,14 @@
 use Rattle.std.specs.Prelude.{ℕ, Bool, true, false, ◌&&◌, nat_lt, [], ◌++◌, codes}
 use Rattle.fancy_lex.specs.Text.{Text}
 use Rattle.fancy_lex.specs.declared.escape.Assertion.{Assertion}
-use Rattle.fancy_lex.specs.declared.escape.Assertion.TheVariants.{StartText, EndText, EndTextIgnoreTrailingNewlines, StartLine, StartLineOniguruma, EndLine, LeftWordBoundary, LeftWordHalfBoundary, RightWordBoundary, RightWordHalfBoundary, WordBoundary, NotWordBoundary}
+use Rattle.fancy_lex.specs.declared.escape.Assertion.TheVariants.{StartText, EndText, EndTextIgnoreTrailingNewlines}
+use Rattle.fancy_lex.specs.declared.escape.Assertion.TheVariants.{StartLine, StartLineOniguruma, EndLine}
+use Rattle.fancy_lex.specs.declared.escape.Assertion.TheVariants.{LeftWordBoundary, LeftWordHalfBoundary}
+use Rattle.fancy_lex.specs.declared.escape.Assertion.TheVariants.{RightWordBoundary, RightWordHalfBoundary}
+use Rattle.fancy_lex.specs.declared.escape.Assertion.TheVariants.{WordBoundary, NotWordBoundary}
 use Rattle.fancy_parts.specs.Quote.{quotes, quantifier}
-use Rattle.fancy_syntax.specs.Tree.{Tree, Trees, no_trees, more_trees, empty, any, assertion, literal, concat, alt, group, repeat, delegate, define_group}
+use Rattle.fancy_syntax.specs.Tree.{Tree, Trees, no_trees, more_trees, empty, any, assertion, literal, concat, alt}
+use Rattle.fancy_syntax.specs.Tree.{group, repeat, delegate, define_group}
 
 -- any character, with the flags that it needs
 abbrev pub any_text : Bool → Bool → Text

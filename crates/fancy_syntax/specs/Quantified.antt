@@ -1,5 +1,6 @@
 -- A tree under the quantifiers that follow it.
-use Rattle.std.specs.Prelude.{ℕ, zero, suc, ◌+◌, ◌==◌, Bool, true, false, not, ◌&&◌, nat_lt, Option, Some, None, if◌then◌else◌}
+use Rattle.std.specs.Prelude.{ℕ, zero, suc, ◌+◌, ◌==◌, Bool, true, false, not, ◌&&◌, nat_lt, Option, Some, None}
+use Rattle.std.specs.Prelude.{if◌then◌else◌}
 use Prim.Native.Char.{code}
 use Rattle.fancy_lex.specs.FaultTable.{comment_not_closed, not_repeatable, quantifier_too_deep}
 use Rattle.fancy_lex.specs.Layout.{Skipped, rest, fault as open_comment}
@@ -11,7 +12,8 @@ use Rattle.fancy_parts.specs.declared.counts.Counts.{Counts}
 use Rattle.fancy_syntax.specs.Ahead.{max_depth, skipped}
 use Rattle.fancy_syntax.specs.Join.{is_empty}
 use Rattle.fancy_syntax.specs.State.{State, at, Outcome, done, faulted, and_then, seen_through}
-use Rattle.fancy_syntax.specs.Tree.{Tree, empty, assertion, look_around, keep_out, continue_from_previous_match_end, verb, repeat, atomic_group}
+use Rattle.fancy_syntax.specs.Tree.{Tree, empty, assertion, look_around, keep_out, continue_from_previous_match_end}
+use Rattle.fancy_syntax.specs.Tree.{verb, repeat, atomic_group}
 use Rattle.fancy_syntax.specs.declared.grammar.quantified.Suffix.{Suffix}
 
 -- whether a quantifier may follow the tree; in Oniguruma mode none follows an assertion
@@ -94,7 +96,9 @@ may_count (suc k) d = nat_lt (d + 1) max_depth
 -- adjacent quantifiers at depth d: each that takes a byte counts, and is one level deeper; k may count
 unfoldable pub adjacent : ℕ → ℕ → ℕ → Tree → State → Outcome Tree
 adjacent zero n d a s =
-    and_then (quant n (bytes s.rest) a s) (λ b t. if is_unmoved s t then done b t else faulted (quantifier_too_deep n t.rest))
+    and_then (quant n (bytes s.rest) a s) (λ b t.
+    if is_unmoved s t then done b t
+    else faulted (quantifier_too_deep n t.rest))
 adjacent (suc k) n d a s =
     and_then (quant n (bytes s.rest) a s) (λ b t.
     if is_unmoved s t then done b t
@@ -105,7 +109,8 @@ adjacent (suc k) n d a s =
 abbrev pub max_adjacent : ℕ
 max_adjacent = 4
 
--- the quantifiers of an atom at depth d, before which so many bytes were left: one, and in Oniguruma mode those adjacent to it
+-- the quantifiers of an atom at depth d, before which so many bytes were left: one, and in Oniguruma mode those
+-- adjacent to it
 abbrev pub quants : ℕ → ℕ → ℕ → Tree → State → Outcome Tree
 quants n d left a s =
     and_then (quant n left a s) (λ b t. if t.flags.oniguruma_mode then adjacent max_adjacent n d b t else done b t)

@@ -12,7 +12,12 @@ use Rattle.fancy_syntax.specs.contracts.expr.BacktrackingControlVerbPartialEq.Th
 use Rattle.fancy_syntax.specs.contracts.expr.LookAroundPartialEq.TheImpl as look_eq
 use Rattle.fancy_syntax.specs.declared.expr.BacktrackingControlVerb.{BacktrackingControlVerb}
 use Rattle.fancy_syntax.specs.declared.expr.LookAround.{LookAround}
-use Rattle.fancy_syntax.specs.Tree.{Tree, empty, any, assertion, general_newline, literal, literal_bytes, concat, alt, group, look_around, repeat, delegate, backref, backref_at_level, atomic_group, keep_out, continue_from_previous_match_end, backref_exists, conditional, subroutine_call, verb, absent, define_group, ast_node, Trees, no_trees, more_trees, AbsentTree, repeater, expression, stopper, clear, AstTree, ast_group, ast_backref, ast_call, ast_condition}
+use Rattle.fancy_syntax.specs.Tree.{Tree, empty, any, assertion, general_newline, literal, literal_bytes, concat, alt}
+use Rattle.fancy_syntax.specs.Tree.{group, look_around, repeat, delegate, backref, backref_at_level, atomic_group}
+use Rattle.fancy_syntax.specs.Tree.{keep_out, continue_from_previous_match_end, backref_exists, conditional}
+use Rattle.fancy_syntax.specs.Tree.{subroutine_call, verb, absent, define_group, ast_node, Trees, no_trees, more_trees}
+use Rattle.fancy_syntax.specs.Tree.{AbsentTree, repeater, expression, stopper, clear, AstTree, ast_group, ast_backref}
+use Rattle.fancy_syntax.specs.Tree.{ast_call, ast_condition}
 
 -- whether two fields of a tree are the same
 abbrev pub same_look : LookAround → LookAround → Bool
@@ -43,10 +48,12 @@ abbrev mutual
   same (alt ts) (alt ts') = same_all ts ts'
   same (group t) (group t') = same t t'
   same (look_around t l) (look_around t' l') = same t t' && same_look l l'
-  same (repeat t lo hi greedy) (repeat t' lo' hi' greedy') = same t t' && nat_eq lo lo' && nat_eq hi hi' && beq greedy greedy'
+  same (repeat t lo hi greedy) (repeat t' lo' hi' greedy') =
+      same t t' && nat_eq lo lo' && nat_eq hi hi' && beq greedy greedy'
   same (delegate text casei) (delegate text' casei') = bytes_eq text text' && beq casei casei'
   same (backref n casei) (backref n' casei') = nat_eq n n' && beq casei casei'
-  same (backref_at_level n level casei) (backref_at_level n' level' casei') = nat_eq n n' && int_eq level level' && beq casei casei'
+  same (backref_at_level n level casei) (backref_at_level n' level' casei') =
+      nat_eq n n' && int_eq level level' && beq casei casei'
   same (atomic_group t) (atomic_group t') = same t t'
   same keep_out keep_out = true
   same continue_from_previous_match_end continue_from_previous_match_end = true
@@ -73,7 +80,9 @@ abbrev mutual
 
   pub same_ast : AstTree → AstTree → Bool
   same_ast (ast_group name t) (ast_group name' t') = same_name name name' && same t t'
-  same_ast (ast_backref target casei level) (ast_backref target' casei' level') = same_target target target' && beq casei casei' && same_level level level'
+  same_ast (ast_backref target casei level) (ast_backref target' casei' level') =
+      same_target target target' && beq casei casei' && same_level level level'
   same_ast (ast_call target) (ast_call target') = same_target target target'
-  same_ast (ast_condition target level) (ast_condition target' level') = same_target target target' && same_level level level'
+  same_ast (ast_condition target level) (ast_condition target' level') =
+      same_target target target' && same_level level level'
   same_ast _ _ = false
