@@ -6,7 +6,7 @@ use Rattle.fancy_lex.specs.Characters.{bar}
 use Rattle.fancy_lex.specs.Fault.{Kind}
 use Rattle.fancy_lex.specs.FaultTable.{bar_for_close_paren, body_wanting}
 use Rattle.fancy_lex.specs.Layout.{rest, fault as open_comment}
-use Rattle.fancy_lex.specs.Text.{Text, bytes, place_of, strip}
+use Rattle.fancy_lex.specs.Text.{Text, bytes, strip}
 use Rattle.fancy_lex.specs.declared.error.Error.{Error}
 use Rattle.fancy_lex.specs.declared.flags.Flags.{Flags}
 use Rattle.fancy_lex.specs.declared.error.Error.TheVariants.{ParseError}
@@ -391,11 +391,11 @@ second_fault {n} {t} {a} {r} (inner f i l h m j x) b e =
     levels_fault l (reading_fault (open_of f.opener) h j (ended_fault r t x b (λ _ z. absurd (true≢false z)) (sym (kept _) ∙ e)))
 
 pub running_bar_fault : {n : ℕ} {start t : State} {u : Text} {stack : List Frame} {f : Frame} (o : Outcome Tree) → Running n start stack f t →
-    ends t.rest ≡ true → strip bar t.rest ≡ Some u → IsFaultOfBar (open_of f.opener) (place_of n t.rest) o → Alternation n 0 start o
+    ends t.rest ≡ true → strip bar t.rest ≡ Some u → IsFaultOfBar (open_of f.opener) n t.rest o → Alternation n 0 start o
 running_bar_fault {n} {start} {t} {u} {stack} {f} o h e b x = by_open (open_of f.opener) h.levels h.reading x
   where
     by_open : (p : Open) → Levels n start stack p h.depth h.begin → Reading n h.depth p h.begin (trees f.branches) (trees f.pieces) t →
-        IsFaultOfBar p (place_of n t.rest) o → Alternation n 0 start o
+        IsFaultOfBar p n t.rest o → Alternation n 0 start o
     by_open (second a) l r x =
         subst (Alternation n 0 start) (sym x)
         (second_fault l (reading_one r refl e) (closed_other n (absent (expression a (joined (trees f.pieces)))) t bar u (strip_is bar t.rest u b) bar_does_not_close))

@@ -10,7 +10,7 @@ use Rattle.fancy_syntax.specs.Grammar.{Branch, Branches, more, Piece, Pieces, ne
 use Rattle.fancy_syntax.specs.Join.{is_empty, solid}
 use Rattle.fancy_syntax.specs.Machine.{before}
 use Rattle.fancy_syntax.specs.Parsed.{Reads}
-use Rattle.fancy_syntax.specs.Reads.{Fails, IsFault}
+use Rattle.fancy_syntax.specs.Reads.{Fails, IsFaultAt}
 use Rattle.fancy_syntax.specs.State.{State, at, Outcome, done, fault, and_then}
 use Rattle.fancy_syntax.specs.Tree.{Tree}
 use Rattle.fancy_syntax.specs.declared.expr.Expr.{Expr}
@@ -33,7 +33,7 @@ pub Fails-map : {A B : Type 0} (P : Outcome A → Type 0) (Q : Outcome B → Typ
 Fails-map P Q (ParseError p k) f h = f _ p h
 Fails-map P Q OutOfMemory f h = tt
 
-pub Fails-is : {A : Type 0} (P : Outcome A → Type 0) (e : Error) (k : Kind) (p : ℕ) → IsFault e k p → P (fault k p) → Fails e P
+pub Fails-is : {A : Type 0} (P : Outcome A → Type 0) (e : Error) (k : Kind) (p : ℕ) → IsFaultAt e k p → P (fault k p) → Fails e P
 Fails-is P (ParseError q j) k p h d = rw (h.0, h.1) d
 Fails-is P OutOfMemory k p h d = tt
 

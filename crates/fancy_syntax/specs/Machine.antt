@@ -1,24 +1,25 @@
 -- The groups that are open, as the parser's stack holds them.
-use Rattle.std.specs.Prelude.{◌≡◌, ℕ, ◌+◌, ◌<◌, ◌==◌, ◌&&◌, not, if◌then◌else◌, Bool, true, false, List, [], ◌∷◌, ◌++◌, Some, Result, MatchResult, ⊤}
+use Rattle.std.specs.Prelude.{◌≡◌, ℕ, ◌+◌, ◌<◌, ◌==◌, ◌&&◌, not, if◌then◌else◌, Bool, true, false, List, [], ◌∷◌, ◌++◌}
+use Rattle.std.specs.Prelude.{Some, Result, MatchResult, ⊤}
 use Prim.Native.Char.{code}
 use Rattle.std.specs.List.{count_by}
 use Rattle.fancy_lex.specs.Characters.{bar}
-use Rattle.fancy_lex.specs.Fault.{general_parse_error}
-use Rattle.fancy_lex.specs.FaultTable.{close_paren_expected, body_wanting}
+use Rattle.fancy_lex.specs.FaultTable.{bar_for_close_paren, body_wanting}
 use Rattle.fancy_lex.specs.Layout.{rest}
 use Rattle.fancy_lex.specs.Text.{Text, bytes, place_of, strip}
 use Rattle.fancy_lex.specs.declared.error.Error.{Error}
 use Rattle.fancy_lex.specs.declared.flags.Flags.{Flags}
 use Rattle.fancy_syntax.specs.Ahead.{ahead, ends, skipped, max_depth}
 use Rattle.fancy_syntax.specs.Ahead as seen
-use Rattle.fancy_syntax.specs.Grammar.{Alternation, Branches, Branch, Pieces, Piece, Inside, closed, is_condition, branches_of, conditional_of, alone}
+use Rattle.fancy_syntax.specs.Grammar.{Alternation, Branches, Branch, Pieces, Piece, Inside, closed, is_condition}
+use Rattle.fancy_syntax.specs.Grammar.{branches_of, conditional_of, alone}
 use Rattle.fancy_syntax.specs.Head.{Head, node_of, flags_behind}
 use Rattle.fancy_syntax.specs.Join.{solid}
 use Rattle.fancy_syntax.specs.Parsed.{head_of}
 use Rattle.fancy_syntax.specs.Reads.{Fails}
 use Rattle.fancy_syntax.specs.Row.{trees}
 use Rattle.fancy_syntax.specs.Slices.{Slice}
-use Rattle.fancy_syntax.specs.State.{State, at, Outcome, done, fault, faulted, and_then, seen_through}
+use Rattle.fancy_syntax.specs.State.{State, at, Outcome, done, faulted, and_then, seen_through}
 use Rattle.fancy_syntax.specs.Tree.{Tree, absent, expression}
 use Rattle.fancy_syntax.specs.View.{view}
 use Rattle.fancy_syntax.specs.declared.grammar.frame.Frame.{Frame}
@@ -69,9 +70,9 @@ branches_at_bar first l a = l
 branches_at_bar _ l a = l ++ a ∷ []
 
 -- no bar may stand behind the second branch of an absent expression
-abbrev pub IsFaultOfBar : Open → ℕ → Outcome Tree → Type 0
-IsFaultOfBar (second a) p o = o ≡ fault (general_parse_error close_paren_expected) p
-IsFaultOfBar _ p o = ⊥
+abbrev pub IsFaultOfBar : Open → ℕ → Text → Outcome Tree → Type 0
+IsFaultOfBar (second a) n t o = o ≡ faulted (bar_for_close_paren n t)
+IsFaultOfBar _ n t o = ⊥
 
 -- what is read of what is open
 abbrev pub Part : Open → ℕ → ℕ → State → Outcome Tree → Type 0
@@ -94,8 +95,8 @@ pub data Opens : ℕ → ℕ → State → Open → State → Type 0 where
       Opens n d s (body c (bytes v.rest)) v
   a_branch : {n d : ℕ} {s t : State} {u : Text} → skipped n s ≡ rest u → ahead n d (at s u) ≡ seen.absent_branch t →
       Opens n d s first t
-  behind_branch : {n d : ℕ} {a : Tree} {s t v : State} {u : Text} → Opens n d s first t → Branch n (d + 1) t (done a v) →
-      strip bar v.rest ≡ Some u → Opens n d s (second a) (at v u)
+  behind_branch : {n d : ℕ} {a : Tree} {s t v : State} {u : Text} → Opens n d s first t →
+      Branch n (d + 1) t (done a v) → strip bar v.rest ≡ Some u → Opens n d s (second a) (at v u)
 
 -- the body of a conditional is wanting: it takes no byte, and the condition cannot do without
 abbrev pub lacks_body : Open → State → Bool
@@ -172,5 +173,6 @@ pub record Reading (n d : ℕ) (p : Open) (s : State) (branches pieces : List Tr
 pub data Levels (n : ℕ) (start : State) : List Frame → Open → ℕ → State → Type 0 where
   outermost : Levels n start [] top 0 start
   inner : {d : ℕ} {s t v : State} {p : Open} {all frames : List Frame} (f : Frame) → all ≡ frames ++ f ∷ [] →
-      Levels n start frames (open_of f.opener) d s → Reading n d (open_of f.opener) s (trees f.branches) (trees f.pieces) t →
-      f.left ≡ bytes t.rest → ends t.rest ≡ false → Opens n d t p v → Levels n start all p (d + 1) v
+      Levels n start frames (open_of f.opener) d s →
+      Reading n d (open_of f.opener) s (trees f.branches) (trees f.pieces) t → f.left ≡ bytes t.rest →
+      ends t.rest ≡ false → Opens n d t p v → Levels n start all p (d + 1) v

@@ -50,6 +50,7 @@ pub(crate) struct Frame<'a> {
 
 impl<'a> Frame<'a> {
     ghost use Rattle.std.specs.Prelude.{false, IfErr};
+    ghost use Rattle.fancy_lex.specs.Text.{place_of};
     ghost use Rattle.fancy_syntax.specs.Machine.{open_of, opened_by_bar, branches_at_bar, is_second, IsFaultOfBar};
     ghost use Rattle.fancy_syntax.specs.Reads.{Fails};
 
@@ -105,7 +106,8 @@ impl<'a> Frame<'a> {
             (trees self.old.branches) (spec.one_or concat (trees self.old.pieces))) }
         ensures pieces { OnOk result (trees self.new.pieces ≡ []) }
         ensures allowed { IfOk result (λ _. is_second (open_of self.old.opener) ≡ false) }
-        ensures fault { IfErr result (λ e. Fails e (IsFaultOfBar (open_of self.old.opener) place)) }
+        ensures fault { (n : _) (t : _) → place ≡ place_of n t →
+            IfErr result (λ e. Fails e (IsFaultOfBar (open_of self.old.opener) n t)) }
     {
         match &self.opener {
             Opener::First => {

@@ -1,7 +1,6 @@
 //! The heads of groups: what stands behind a parenthesis and a question mark or an asterisk.
 ghost use Rattle.std.specs.Prelude.{◌≡◌, ◌<◌, ◌≤◌, ◌^◌, length, chars, Some, None, IfOk, IfSome, option_map, MatchResult};
-ghost use Rattle.fancy_lex.specs.Fault.{target_not_repeatable};
-ghost use Rattle.fancy_lex.specs.Text.{place_of};
+ghost use Rattle.fancy_lex.specs.FaultTable.{unknown_verb};
 ghost use Rattle.fancy_parts.specs.FlagLetters.{letters};
 ghost use Rattle.fancy_parts.specs.GroupName as names;
 ghost use Rattle.fancy_parts.specs.HeadReference as references;
@@ -266,8 +265,7 @@ pub(crate) fn look_at_verb<'a>(
     requires within { length here.old.rest.now ≤ end }
     requires shorter { length rest.now ≤ length here.old.rest.now }
     ensures value { MatchResult result (λ v. verbs.verb_at (chars rest.now) ≡ Some (v, chars here.new.rest.now))
-        (λ e. (verbs.verb_at (chars rest.now) ≡ None) ×
-        IsFault e target_not_repeatable (place_of end (chars here.old.rest.now))) }
+        (λ e. (verbs.verb_at (chars rest.now) ≡ None) × IsFault e (unknown_verb end (chars here.old.rest.now))) }
     ensures flags { here.new.flags ≡ here.old.flags }
     ensures within { length here.new.rest.now ≤ length here.old.rest.now }
 {

@@ -79,9 +79,10 @@ loop-c-preserved-in-Open c =
 pub returns-in_err-bar-clause-value : goal.returns-in_err-bar-clause-value
 returns-in_err-bar-clause-value c =
     let e = err_from_is_err_and c.from_residual-in_err-bar.result c.from_residual-in_err-bar.ensures.1 in
-    rw (e.1, e.2) (Fails-map (IsFaultOfBar (open_of c.loop-c.frame.opener) c.place.result) (Alternation c.args.end 0 (state c.args.start)) c.in_err-bar.field-0.0
-    (λ k p h. running_bar_fault _ c.loop-c.invariant.running (sym c.if-not-is_end.ensures) c.in-Some-after.ensures.value
-    (subst (λ q. IsFaultOfBar (open_of c.loop-c.frame.opener) q (fault k p)) c.place.ensures h)) c.in_err-bar.ensures.fault)
+    let rest = (state c.loop-c.here).rest in
+    rw (e.1, e.2) (Fails-map (IsFaultOfBar (open_of c.loop-c.frame.opener) c.args.end rest) (Alternation c.args.end 0 (state c.args.start)) c.in_err-bar.field-0.0
+    (λ k p h. running_bar_fault _ c.loop-c.invariant.running (sym c.if-not-is_end.ensures) c.in-Some-after.ensures.value h)
+    (c.in_err-bar.ensures.fault c.args.end rest c.place.ensures))
 
 pub loop-c-preserved-in-Some-after : goal.loop-c-preserved-in-Some-after
 loop-c-preserved-in-Some-after c =

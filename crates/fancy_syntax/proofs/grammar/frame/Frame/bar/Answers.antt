@@ -1,10 +1,13 @@
-use Rattle.std.proofs.Common.{refl}
+use Rattle.std.proofs.Common.{ap}
+use Rattle.fancy_lex.specs.Fault.{general_parse_error}
+use Rattle.fancy_lex.specs.FaultTable.{close_paren_expected}
 use Rattle.fancy_syntax.specs.Machine.{IsFaultOfBar, open_of}
+use Rattle.fancy_syntax.specs.State.{fault}
 use Rattle.fancy_syntax.proofs.FaultLemmas.{says_close_paren}
 use Rattle.fancy_syntax.proofs.OutcomeLemmas.{Fails-is}
 use Rattle.fancy_syntax.proofs.grammar.frame.Frame.bar.Goals as goal
 
 pub returns-in-Second-clause-fault : goal.returns-in-Second-clause-fault
-returns-in-Second-clause-fault c =
-    Fails-is (IsFaultOfBar (open_of c.args.self.now.opener) c.args.place) c.general.result _ _ (says_close_paren c.general.result c.args.place c.general.ensures)
-    (rw c.in-Second.is refl)
+returns-in-Second-clause-fault c n t h =
+    Fails-is (IsFaultOfBar (open_of c.args.self.now.opener) n t) c.general.result _ _ (says_close_paren c.general.result c.args.place c.general.ensures)
+    (rw c.in-Second.is (ap (fault (general_parse_error close_paren_expected)) h))
