@@ -9,7 +9,6 @@ pub mod Same
 pub mod SameLaws
 pub mod Loans
 pub mod Writes
-
 -- ---- reading: the grammar, what references mean, and what is answered
 pub mod State
 pub mod Head
@@ -24,7 +23,6 @@ pub mod Marks
 pub mod Answer
 pub mod Preorder
 pub mod Answered
-
 -- ---- printing, and what a printed text reads as
 pub mod Printed
 pub mod HasDelegate
@@ -33,7 +31,6 @@ pub mod Printable
 pub mod Nest
 pub mod Over
 pub mod ReadBack
-
 -- What only the private contracts and the proofs of the code speak of.
 
 -- ---- the parser's loop
@@ -43,7 +40,6 @@ pub mod Plain
 pub mod Row
 pub mod Slices
 pub mod Machine
-
 -- ---- the resolver's walks
 pub mod Ordered
 pub mod Walk

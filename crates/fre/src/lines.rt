@@ -4,7 +4,7 @@ use std::str;
 use std::test::Fail;
 
 /// Flags, a pattern, and the lines of its tree.
-const TREES: [(&str, &str, &str); 36] = [
+const TREES: [(&str, &str, &str); 40] = [
     ("u", "", "Empty\n"),
     ("us", ".", "Any newline=true crlf=false\n"),
     ("uR", "\\O", "Any newline=true crlf=true\n"),
@@ -35,6 +35,7 @@ const TREES: [(&str, &str, &str); 36] = [
     ("u", "|", "Alt\n  Empty\n  Empty\n"),
     ("u", "()", "Group\n  Empty\n"),
     ("u", "(?!)", "LookAround LookAheadNeg\n  Empty\n"),
+    ("u", "(?<=)", "LookAround LookBehind\n  Empty\n"),
     (
         "u",
         "a{2,}?",
@@ -65,7 +66,10 @@ const TREES: [(&str, &str, &str); 36] = [
         "Concat\n  Group\n    Empty\n  Conditional\n    BackrefExistsCondition 1 -1\n    Literal 62 casei=false\n    Empty\n",
     ),
     ("u", "\\g0", "SubroutineCall 0\n"),
+    ("u", "(*ACCEPT)", "BacktrackingControlVerb Accept\n"),
+    ("u", "(*COMMIT)", "BacktrackingControlVerb Commit\n"),
     ("u", "(*SKIP)", "BacktrackingControlVerb Skip\n"),
+    ("u", "(*PRUNE)", "BacktrackingControlVerb Prune\n"),
     ("u", "(?~a)", "Absent Repeater\n  Literal 61 casei=false\n"),
     ("u", "(?(DEFINE))", "DefineGroup\n  Empty\n"),
     ("u", "\\g<-2>", "AstNode SubroutineCall relative:-2 2\n"),
