@@ -1,4 +1,5 @@
-//! Recorded answers: the lines of the files, whose fields tabs part. Texts are in hexadecimal, `-` where empty.
+//! Recorded answers: the lines of the files, whose fields tabs part. Texts are in hexadecimal, `-` or nothing where
+//! empty.
 use crate::comparison::Answer;
 use anyhow::{Result, bail};
 use std::alloc::Global;
