@@ -1,8 +1,11 @@
 //! Plain characters, which most pieces are.
-ghost use Rattle.std.specs.Prelude.{◌≡◌, ◌<◌, length, chars, IfSome};
+ghost use Rattle.std.specs.Prelude.{◌≡◌, ◌<◌, ℕ, true, length, chars, IfSome};
 ghost use Rattle.fancy_syntax.specs.Parsed.{state};
 ghost use Rattle.fancy_syntax.specs.Plain as spec;
 ghost use Rattle.fancy_syntax.specs.Plain.{IsPlain};
+ghost use Rattle.fancy_syntax.specs.Quantified.{quants};
+ghost use Rattle.fancy_syntax.specs.State.{done};
+ghost use Rattle.fancy_syntax.specs.Tree.{Tree};
 
 use crate::grammar::state::State;
 use fancy_lex::text::next;
@@ -23,6 +26,17 @@ pub(crate) fn plain<'a>(here: State<'a>) -> Option<(char, &'a str)>
         return None;
     }
     Some((c, rest))
+}
+
+/// Whether one look ahead shows that no quantifier follows, and no layout before one.
+#[inline]
+pub(crate) fn is_unquantified(here: State) -> bool
+    ensures { result ≡ true → (n d left : ℕ) (a : Tree) → quants n d left a (state here.entry) ≡ done a (state here.entry) }
+{
+    let Some((c, _)) = next(here.rest) else {
+        return true;
+    };
+    !is_suffix(c) && !is_layout(here.flags.ignore_space, c)
 }
 
 /// Whether another thing than a literal begins with the character.

@@ -19,6 +19,7 @@ use crate::grammar::conditional::{alone, branches_of, conditional, is_condition}
 use crate::grammar::fault::general;
 use crate::grammar::frame::Opener;
 use crate::grammar::head::{flags_behind, node};
+use crate::grammar::plain::is_unquantified;
 use crate::grammar::quantified::quantify;
 use crate::grammar::state::State;
 use fancy_lex::error::{Error, ParseError};
@@ -54,7 +55,14 @@ pub(crate) fn read_step<'a>(
     let before = *here;
     match look_ahead(alloc, here, depth, end)? {
         Ahead::Nothing => piece(alloc, Expr::Empty, here, left, depth, end),
-        Ahead::Leaf(atom) => piece(alloc, atom, here, left, depth, end),
+        Ahead::Leaf(mut atom) => {
+            // As `piece` does, but in its place, and mostly no quantifier follows: this saves two calls for each leaf.
+            if is_unquantified(*here) {
+                return Ok(Step::Piece(atom));
+            }
+            quantify(alloc, &mut atom, here, left, depth, end)?;
+            Ok(Step::Piece(atom))
+        }
         Ahead::Group(head) => Ok(Step::Open(Opener::Group {
             head,
             place: place(before.rest, end),

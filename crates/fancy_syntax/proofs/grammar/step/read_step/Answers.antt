@@ -1,9 +1,10 @@
-use Rattle.std.proofs.Common.{◌≡◌, refl}
+use Rattle.std.proofs.Common.{◌≡◌, Ok, Err, refl}
 use Rattle.std.proofs.lemmas.Result.{err_from_is_err_and}
 use Rattle.fancy_syntax.specs.Ahead.{ahead, leaf}
 use Rattle.fancy_syntax.specs.Grammar.{Piece, piece, atom, a_nothing, a_leaf}
 use Rattle.fancy_syntax.specs.Machine.{a_group, a_condition, a_body, a_branch}
 use Rattle.fancy_syntax.specs.Parsed.{state}
+use Rattle.fancy_syntax.specs.declared.grammar.step.Step.TheVariants as step
 use Rattle.fancy_syntax.proofs.AheadLemmas.{nothing_shorter}
 use Rattle.fancy_syntax.proofs.MachineLemmas.{steps_piece, steps_layout}
 use Rattle.fancy_syntax.proofs.OutcomeLemmas.{Fails-map}
@@ -21,10 +22,21 @@ returns-in_err-look_ahead-clause-value c =
     rw (e.1, e.2) (Fails-map (λ o. ahead c.args.end c.args.depth _ ≡ leaf o) (Piece c.args.end c.args.depth (state c.args.here.now))
     c.in_err-look_ahead.field-0.0 (λ k p h. piece c.in_ok-here.ensures.value (atom h a_leaf) refl) c.in_err-look_ahead.ensures.value)
 
-pub returns-in-Leaf-clause-value : goal.returns-in-Leaf-clause-value
-returns-in-Leaf-clause-value c =
-    steps_piece (state c.args.here.now) _ _ c.bytes_left-left.ensures c.in_ok-here.ensures.value
-    (atom (rw c.in-Leaf.is at c.in_ok-look_ahead.ensures.value) a_leaf) c.piece-in-Leaf.ensures.value
+pub returns-then-is_unquantified-clause-value : goal.returns-then-is_unquantified-clause-value
+returns-then-is_unquantified-clause-value c =
+    steps_piece (state c.args.here.now) (Ok (step.Piece _)) _ c.bytes_left-left.ensures c.in_ok-here.ensures.value
+    (atom (rw c.in-Leaf.is at c.in_ok-look_ahead.ensures.value) a_leaf) (c.is_unquantified.ensures c.if-is_unquantified.true _ _ _ _)
+
+pub returns-in_ok-quantify-in-Leaf-clause-value : goal.returns-in_ok-quantify-in-Leaf-clause-value
+returns-in_ok-quantify-in-Leaf-clause-value c =
+    steps_piece (state c.args.here.now) (Ok (step.Piece _)) _ c.bytes_left-left.ensures c.in_ok-here.ensures.value
+    (atom (rw c.in-Leaf.is at c.in_ok-look_ahead.ensures.value) a_leaf) c.in_ok-quantify-in-Leaf.ensures.value
+
+pub returns-in_err-quantify-in-Leaf-clause-value : goal.returns-in_err-quantify-in-Leaf-clause-value
+returns-in_err-quantify-in-Leaf-clause-value c =
+    let e = err_from_is_err_and c.from_residual-in_err-quantify-in-Leaf.result c.from_residual-in_err-quantify-in-Leaf.ensures.1 in
+    rw (e.1, e.2) (steps_piece (state c.args.here.now) (Err c.in_err-quantify-in-Leaf.field-0.0) (state c.args.here.now) c.bytes_left-left.ensures c.in_ok-here.ensures.value
+    (atom (rw c.in-Leaf.is at c.in_ok-look_ahead.ensures.value) a_leaf) c.in_err-quantify-in-Leaf.ensures.value)
 
 pub returns-in-Nothing-clause-value : goal.returns-in-Nothing-clause-value
 returns-in-Nothing-clause-value c =
