@@ -8,8 +8,9 @@ mod comparison;
 mod nodes;
 mod record;
 
-use anyhow::{Context, Result, ensure};
+use anyhow::{Context, Result, bail, ensure};
 use comparison::{Answer, OUT_OF_MEMORY};
+use fancy_syntax::error::Error;
 use fancy_syntax::expr::Expr;
 use fre_program::flag_word::flags_named;
 use fre_program::program::fre_run;
@@ -43,6 +44,7 @@ fn is_cloned(alloc: Global, record: &Reading) -> Result<bool> {
     };
     match Expr::parse_tree_with_flags(alloc, pattern.as_str(), flags) {
         Ok(tree) => Ok(tree.clone(alloc)?.expr == tree.expr),
+        Err(Error::OutOfMemory) => bail!("memory was refused"),
         Err(error) => {
             let copy = error.clone(alloc)?;
             let said = format!(in alloc; "{error}")?;
@@ -56,13 +58,16 @@ fn replay_reading(alloc: Global, record: &Reading) -> Result<bool> {
     Ok(is_cloned(alloc, record)? && answer_now(alloc, record)?.is(&record.answer))
 }
 
-/// The text of the tree now, none where it is not printable.
+/// The text of the tree now, none where it is not printable. A refusal of memory for the text is said to be one, and
+/// leaves nothing of it.
 fn text_now(alloc: Global, tree: &Expr, precedence: u8) -> Result<Option<String>> {
     if !tree.is_printable(alloc)? {
         return Ok(None);
     }
     let mut text = String::new(alloc);
-    tree.to_str(&mut text, precedence)?;
+    let printed = tree.to_str(&mut text, precedence);
+    ensure!(printed.is_ok() || text.is_empty(), "the buffer changed");
+    printed.context("no room for the text")?;
     Ok(Some(text))
 }
 

@@ -1,5 +1,5 @@
 //! Trees read back from the lines that name their nodes, as `fre` writes them.
-use crate::record::{bytes, text};
+use crate::record::{bytes, parts, text};
 use anyhow::{Context, Result, bail};
 use fancy_lex::escape::Assertion;
 use fancy_lex::name::CaptureGroupTarget;
@@ -218,7 +218,7 @@ pub(crate) fn read_tree(alloc: Global, lines: &str) -> Result<Expr> {
     for line in lines.rsplit('\n') {
         let named = line.trim_start();
         let level = (line.len().saturating_sub(named.len())) / 2;
-        let words: Vec<&str> = named.split(' ').collect(alloc)?;
+        let words = parts(alloc, named, ' ')?;
         let children = take_children(alloc, &mut trees, level + 1)?;
         let tree = node(alloc, &words, children)?;
         trees.push(Placed { level, tree })?;

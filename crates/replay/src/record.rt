@@ -27,6 +27,16 @@ pub(crate) enum Record {
     Printing(Printing),
 }
 
+/// What stands between the separators. To collect it would ask for room by what is expected, and do without it where
+/// that is refused; here each refusal is passed on.
+pub(crate) fn parts(alloc: Global, line: &str, separator: char) -> Result<Vec<&str>> {
+    let mut parts = Vec::new(alloc);
+    for part in line.split(separator) {
+        parts.push(part)?;
+    }
+    Ok(parts)
+}
+
 /// The bytes of a field.
 pub(crate) fn bytes(alloc: Global, field: &str) -> Result<Vec<u8>> {
     if field == "-" {
@@ -43,7 +53,7 @@ pub(crate) fn text(alloc: Global, field: &str) -> Result<String> {
 
 impl Record {
     pub(crate) fn read(alloc: Global, line: &str) -> Result<Record> {
-        let fields: Vec<&str> = line.split('\t').collect(alloc)?;
+        let fields = parts(alloc, line, '\t')?;
         Ok(match fields.as_slice() {
             [flags, pattern, status, out, err] => Record::Reading(Reading {
                 words: [String::from_str(alloc, flags)?, text(alloc, pattern)?],

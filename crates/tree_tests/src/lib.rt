@@ -6,6 +6,8 @@ mod calls;
 #[cfg(test)]
 mod parsed;
 #[cfg(test)]
+mod refused;
+#[cfg(test)]
 mod samples;
 #[cfg(test)]
 mod tests;

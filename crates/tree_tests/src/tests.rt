@@ -61,11 +61,7 @@ fn what_is_written_is_the_child(rt: HostRuntime) -> Result<(), AllocError> {
 fn a_clone_is_equal_and_others_are_not(rt: HostRuntime) -> Result<(), AllocError> {
     let all = samples(rt.alloc())?;
     for (i, sample) in all.iter().enumerate() {
-        // where memory was refused, the source is as it was and can be cloned again
-        let copy = match sample.tree.clone(rt.alloc()) {
-            Ok(copy) => copy,
-            Err(_) => sample.tree.clone(rt.alloc())?,
-        };
+        let copy = sample.tree.clone(rt.alloc())?;
         for (j, other) in all.iter().enumerate() {
             assert_eq!(rt; copy == other.tree, i == j, "at {i}, {j}");
         }
