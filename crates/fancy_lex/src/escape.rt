@@ -132,8 +132,8 @@ fn is_itself(c: char, inside: bool) -> bool
     !c.is_ascii_alphanumeric() && (inside || !matches!(c, '<' | '>'))
 }
 
-/// Reads digits, which are a back reference. In a class the fault is InvalidClass at `place`, unless no word holds their
-/// number.
+/// Reads digits, which are a back reference. In a class the fault is InvalidClass at `place`, unless no word holds
+/// their number.
 #[tactic(auto, unfolding(crate::specs::Escape::numbered))]
 fn numbered(
     text: &str,

@@ -62,8 +62,8 @@ fn possessive_groups_have_three_levels_each(rt: HostRuntime) -> Result<(), Fail>
     Ok(())
 }
 
-/// Adds as many possessive quantifiers as a piece inside so many groups may have in Oniguruma's mode: one, and up to four
-/// adjacent ones, each of which is one deeper.
+/// Adds as many possessive quantifiers as a piece inside so many groups may have in Oniguruma's mode: one, and up to
+/// four adjacent ones, each of which is one deeper.
 fn push_quantifiers(pattern: &mut String, depth: usize) -> Result<(), Fail> {
     let adjacent = 63usize.saturating_sub(depth).min(4);
     for _ in 0..adjacent.saturating_add(1) {

@@ -1,7 +1,7 @@
-//! Replays recorded answers of the original's program: `replay FILE..` runs `fre` on each pattern of the files, compares
-//! what it answers byte by byte, and writes for each file how many answers are the same. The status says only whether
-//! every line was replayed: it is 0 where an answer is different, so that a run in which memory is refused, which ends
-//! with another, is told from one with a wrong answer.
+//! Replays recorded answers of the original's program: `replay FILE..` runs `fre` on each pattern of the files,
+//! compares what it answers byte by byte, and writes for each file how many answers are the same. The status says only
+//! whether every line was replayed: it is 0 where an answer is different, so that a run in which memory is refused,
+//! which ends with another, is told from one with a wrong answer.
 #![tactic(auto)]
 
 mod comparison;

@@ -62,7 +62,8 @@ fn targets_are_as_before_their_clones(rt: HostRuntime) -> Result<(), AllocError>
     Ok(())
 }
 
-/// A pattern whose tree has every mark: two groups of one name, and references to a name, to a number and past the last.
+/// A pattern whose tree has every mark: two groups of one name, and references to a name, to a number and past the
+/// last.
 fn marked(alloc: Global) -> Result<ExprTree, Error> {
     Expr::parse_tree(alloc, "(?<n>a)(?<n>b)\\k<n>\\1\\7\\g<n>")
 }

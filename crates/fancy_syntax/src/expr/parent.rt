@@ -43,7 +43,8 @@ pub trait Parent {
 
 /// The child i, if there is one, to be read and written.
 pub fn lend_child<P: Parent>(parent: &mut P, i: usize) -> Option<&mut P::Child>
-    ensures* writes_back { sem 𝓛 (LendsChildAt P.row P.Child.row P.Seen P.show P.see P.with_child parent.entry i result) }
+    ensures* writes_back { sem 𝓛
+        (LendsChildAt P.row P.Child.row P.Seen P.show P.see P.with_child parent.entry i result) }
     ensures value { option_map (λ child. P.see child.now) result ≡ P.child_at (P.show parent.old) i }
 {
     if parent.has_list() {

@@ -66,7 +66,8 @@ pub(crate) fn look_behind_question<'a>(
 /// The look-around whose inside begins at the text.
 fn open_look<'a>(here: &mut State<'a>, inside: &'a str, look: LookAround) -> Ahead<'a>
     requires { length inside.now ≤ length here.old.rest.now }
-    ensures value { Sees (Ok result) (state here.new) (opens (head.look look) (at (state here.old) (chars inside.now))) }
+    ensures value { Sees (Ok result) (state here.new)
+        (opens (head.look look) (at (state here.old) (chars inside.now))) }
     ensures within { length here.new.rest.now ≤ length here.old.rest.now }
     ensures something { IsSomething result }
 {

@@ -31,7 +31,8 @@ pub(crate) fn plain<'a>(here: State<'a>) -> Option<(char, &'a str)>
 /// Whether one look ahead shows that no quantifier follows, and no layout before one.
 #[inline]
 pub(crate) fn is_unquantified(here: State) -> bool
-    ensures { result ≡ true → (n d left : ℕ) (a : Tree) → quants n d left a (state here.entry) ≡ done a (state here.entry) }
+    ensures { result ≡ true → (n d left : ℕ) (a : Tree) →
+        quants n d left a (state here.entry) ≡ done a (state here.entry) }
 {
     let Some((c, _)) = next(here.rest) else {
         return true;

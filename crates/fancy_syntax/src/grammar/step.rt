@@ -145,7 +145,8 @@ fn end_part(
     end: usize,
 ) -> Result<Expr, Error>
     requires within { length here.old.rest.now ≤ end }
-    ensures value { GivesTree result (state here.new) (ended_part end (open_of opener.entry) (view inner) (state here.old)) }
+    ensures value { GivesTree result (state here.new)
+        (ended_part end (open_of opener.entry) (view inner) (state here.old)) }
     ensures shorter { IfOk result (λ _. length here.new.rest.now < length here.old.rest.now) }
 {
     if lacks_body(&opener, here.rest) {
