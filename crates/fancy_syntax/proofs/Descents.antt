@@ -4,7 +4,7 @@ use Rattle.std.specs.List.{IsAmong}
 use Rattle.std.proofs.lemmas.List.{get_or-map, length-map}
 use Rattle.fancy_syntax.specs.Children.{children_of}
 use Rattle.fancy_syntax.specs.Descendants.{IsDescendant, child, deeper}
-use Rattle.fancy_syntax.specs.Tree.{Tree, concat, alt, group, look_around, repeat, atomic_group, conditional, absent, define_group, Trees, no_trees, more_trees, repeater, expression, stopper, list_of, children, depth, depth_all}
+use Rattle.fancy_grammar.specs.Tree.{Tree, concat, alt, group, look_around, repeat, atomic_group, conditional, absent, define_group, Trees, no_trees, more_trees, repeater, expression, stopper, list_of, children, depth, depth_all}
 use Rattle.fancy_syntax.specs.View.{view, views}
 use Rattle.fancy_syntax.specs.declared.expr.Expr.{Expr}
 

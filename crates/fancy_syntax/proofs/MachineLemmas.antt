@@ -11,24 +11,25 @@ use Rattle.fancy_lex.specs.declared.error.Error.{Error}
 use Rattle.fancy_lex.specs.declared.flags.Flags.{Flags}
 use Rattle.fancy_lex.specs.declared.error.Error.TheVariants.{ParseError}
 use Rattle.fancy_lex.specs.declared.error.ParseError.TheVariants.{UnclosedOpenParen}
-use Rattle.fancy_syntax.specs.Ahead.{ends, skipped}
-use Rattle.fancy_syntax.specs.Grammar.{Alternation, alternation, Branches, last, branch_fault, Branch, branch, stop, piece_fault, Piece, piece, layout_fault, Atom, atom, inside, the_body, condition_fault, two_branches, one_branch, absent_fault, closed, closed_at, group_behind, conditional_behind, conditional_of, branches_of}
-use Rattle.fancy_syntax.specs.Grammar as grammar
-use Rattle.fancy_syntax.specs.Join.{solid, one_or, choice}
-use Rattle.fancy_syntax.specs.Machine.{parens, Open, top, group, condition, body, first, second, open_of, holds_one, is_second, opened_by_bar, branches_at_bar, IsFaultOfBar, Part, Opens, a_group, a_condition, a_body, behind_condition, a_branch, behind_branch, lacks_body, node_of_part, goes_on, behind_part, ended_part, StepsOn, GivesPiece, Reading, Levels, outermost, inner, before}
-use Rattle.fancy_syntax.specs.Head.{Head, node_of}
-use Rattle.fancy_syntax.specs.Quantified.{quants}
-use Rattle.fancy_syntax.specs.Reads.{Fails}
+use Rattle.fancy_grammar.specs.Ahead.{ends, skipped}
+use Rattle.fancy_grammar.specs.Grammar.{Alternation, alternation, Branches, last, branch_fault, Branch, branch, stop, piece_fault, Piece, piece, layout_fault, Atom, atom, inside, the_body, condition_fault, two_branches, one_branch, absent_fault, closed, closed_at, group_behind, conditional_behind, conditional_of, branches_of}
+use Rattle.fancy_grammar.specs.Grammar as grammar
+use Rattle.fancy_grammar.specs.Join.{solid, one_or, choice}
+use Rattle.fancy_syntax.specs.Machine.{parens, Open, top, group, condition, body, first, second, open_of, holds_one, is_second, opened_by_bar, branches_at_bar, IsFaultOfBar, Part, Opens, a_group, a_condition, a_body, behind_condition, a_branch, behind_branch, lacks_body, node_of_part, goes_on, behind_part, ended_part, StepsOn, GivesPiece, Reading, Levels, outermost, inner}
+use Rattle.fancy_grammar.specs.Grammar.{before}
+use Rattle.fancy_grammar.specs.Head.{Head, node_of}
+use Rattle.fancy_grammar.specs.Quantified.{quants}
+use Rattle.fancy_grammar.specs.Fails.{Fails}
 use Rattle.fancy_syntax.specs.Row.{trees}
-use Rattle.fancy_syntax.specs.State.{State, at, Outcome, done, fault, faulted, and_then}
-use Rattle.fancy_syntax.specs.Tree.{Tree, concat, absent, expression}
+use Rattle.fancy_grammar.specs.State.{State, at, Outcome, done, fault, faulted, and_then}
+use Rattle.fancy_grammar.specs.Tree.{Tree, concat, absent, expression}
 use Rattle.fancy_syntax.specs.declared.grammar.frame.Frame.{Frame}
 use Rattle.fancy_syntax.specs.declared.grammar.step.Step.{Step}
 use Rattle.fancy_syntax.specs.declared.grammar.step.Step.TheVariants as step
 use Rattle.fancy_lex.proofs.TextLemmas.{strip_is}
-use Rattle.fancy_syntax.proofs.OutcomeLemmas.{Fails-map, before-nil, before-push, more_any, next_any, solid-append}
+use Rattle.fancy_grammar.proofs.OutcomeLemmas.{Fails-map, before-nil, before-push, more_any, next_any, solid-append}
 use Rattle.fancy_syntax.proofs.RoomLaws.{slice_parens, opens_parens}
-use Rattle.fancy_syntax.proofs.Slices.{here, on, strip_slice, piece_slice}
+use Rattle.fancy_grammar.proofs.Slices.{here, on, strip_slice, piece_slice}
 
 -- ---- a step
 

@@ -1,13 +1,13 @@
 -- The items of the nodes that have several children.
 use Rattle.std.proofs.Common.{◌≡◌, ◌+◌, ◌≤◌, ◌++◌, List, Bool, arith, length, ap, sym, ◌∙◌, rules, Box, Global}
 use Rattle.fancy_parts.specs.Groups.{Groups}
-use Rattle.fancy_syntax.specs.Items.{Item, items, items_absent, openings_in}
-use Rattle.fancy_syntax.specs.Tree.{conditional, expression}
+use Rattle.fancy_grammar.specs.Items.{Item, items, items_absent, openings_in}
+use Rattle.fancy_grammar.specs.Tree.{conditional, expression}
 use Rattle.fancy_syntax.specs.View.{view, view_absent}
-use Rattle.fancy_syntax.specs.Walk.{Known, Progress, found, noted}
+use Rattle.fancy_grammar.specs.Walk.{Known, Progress, found, noted}
 use Rattle.fancy_syntax.specs.declared.expr.Absent.{Absent, Expression}
 use Rattle.fancy_syntax.specs.declared.expr.Expr.{Expr, Conditional, the_lemmas}
-use Rattle.fancy_syntax.proofs.ItemLemmas.{length_openings}
+use Rattle.fancy_grammar.proofs.ItemLemmas.{length_openings}
 use Rattle.fancy_syntax.proofs.WalkLemmas.{found_le, noted_le}
 
 -- the items are those of two trees, or of three

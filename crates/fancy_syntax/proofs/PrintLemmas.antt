@@ -9,8 +9,8 @@ use Rattle.fancy_lex.specs.Text.{Text, text_of, bytes}
 use Rattle.fancy_parts.specs.Room.{HasRoom, Appended}
 use Rattle.fancy_lex.proofs.TextLemmas.{bytes-append}
 use Rattle.fancy_parts.proofs.RoomLemmas.{bytes-cons, bytes-nil, room_front, then_written, written_three, nothing_written}
-use Rattle.fancy_syntax.specs.Tree.{Trees, no_trees, more_trees, trees_of}
-use Rattle.fancy_syntax.specs.Printed.{grouped, caseless, printed, printed_all, printed_branches, barred}
+use Rattle.fancy_grammar.specs.Tree.{Trees, no_trees, more_trees, trees_of}
+use Rattle.fancy_grammar.specs.Printed.{grouped, caseless, printed, printed_all, printed_branches, barred}
 use Rattle.fancy_syntax.specs.declared.expr.Expr.{Expr}
 use Rattle.fancy_syntax.specs.View.{view, views}
 

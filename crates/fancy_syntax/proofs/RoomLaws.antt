@@ -12,11 +12,11 @@ use borrow.Author.Tests.{ltb-true, ltb-false}
 use Rattle.fancy_lex.specs.Characters.{bar}
 use Rattle.fancy_lex.specs.Text.{Text, bytes}
 use Rattle.fancy_parts.proofs.QuoteLemmas.{bytes_high}
-use Rattle.fancy_syntax.specs.Ahead.{Ahead, nothing, leaf, opens, condition, body, absent_branch, ahead, ahead_of, is_before_nothing}
+use Rattle.fancy_grammar.specs.Ahead.{Ahead, nothing, leaf, opens, condition, body, absent_branch, ahead, ahead_of, is_before_nothing}
 use Rattle.fancy_syntax.specs.Machine.{parens, Open, Opens, a_group, a_condition, a_body, behind_condition, a_branch, behind_branch}
-use Rattle.fancy_syntax.specs.Slices.{Slice}
-use Rattle.fancy_syntax.specs.State.{State, at}
-use Rattle.fancy_syntax.proofs.Slices.{AheadSlice, ahead_slice, skipped_slice, inside_slice, branch_slice, strip_slice}
+use Rattle.fancy_grammar.specs.Slices.{Slice}
+use Rattle.fancy_grammar.specs.State.{State, at}
+use Rattle.fancy_grammar.proofs.Slices.{AheadSlice, ahead_slice, skipped_slice, inside_slice, branch_slice, strip_slice}
 
 parens-append : (t u : Text) → parens (t ++ u) ≡ parens t + parens u
 parens-append t u = sum_by-append (λ c. if c == code "(" then 1 else 0) t u

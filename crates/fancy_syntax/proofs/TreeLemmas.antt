@@ -1,7 +1,7 @@
 -- The trees of the nodes that the parser makes.
 use Rattle.std.proofs.Common.{◌≡◌, Bool, Global, String, rules}
 use Rattle.fancy_lex.specs.Text.{text_of}
-use Rattle.fancy_syntax.specs.Tree.{empty, literal, delegate}
+use Rattle.fancy_grammar.specs.Tree.{empty, literal, delegate}
 use Rattle.fancy_syntax.specs.View.{view}
 use Rattle.fancy_syntax.specs.declared.expr.Expr.{Empty, Literal, Delegate, the_lemmas}
 

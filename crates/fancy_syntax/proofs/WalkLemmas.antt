@@ -7,12 +7,12 @@ use Rattle.std.proofs.lemmas.List.{drop_all}
 use Rattle.std.proofs.lemmas.List.Sums.{fold-append}
 use Rattle.fancy_parts.specs.Groups.{Groups, with_opening}
 use Rattle.fancy_parts.specs.Ranks.{Opening, is_counted}
-use Rattle.fancy_syntax.proofs.ItemLemmas.{length_openings}
-use Rattle.fancy_syntax.specs.Items.{Item, opening, reference, items, items_all, openings_in}
-use Rattle.fancy_syntax.specs.Tree.{Tree, trees_of, more_trees}
+use Rattle.fancy_grammar.proofs.ItemLemmas.{length_openings}
+use Rattle.fancy_grammar.specs.Items.{Item, opening, reference, items, items_all, openings_in}
+use Rattle.fancy_grammar.specs.Tree.{Tree, trees_of, more_trees}
 use Rattle.fancy_syntax.specs.View.{view, views}
 use Rattle.fancy_syntax.specs.declared.expr.Expr.{Expr}
-use Rattle.fancy_syntax.specs.Walk.{found, find_item, Known, Progress, noted, note_item, rebuilt, rebuilt_all}
+use Rattle.fancy_grammar.specs.Walk.{found, find_item, Known, Progress, noted, note_item, rebuilt, rebuilt_all}
 
 pub found_append : (named : Bool) (s : Groups) (a b : List Item) →
     found named s (a ++ b) ≡ found named (found named s a) b

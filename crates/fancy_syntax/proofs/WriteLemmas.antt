@@ -5,7 +5,7 @@ use Rattle.std.proofs.lemmas.List.{map-set}
 use Rattle.std.proofs.lemmas.Option.{slice_get-map}
 use Rattle.std.specs.Vec.{with_item}
 use Rattle.fancy_syntax.proofs.ChildrenLemmas.{view_Concat, view_Alt, children_Concat, children_Alt}
-use Rattle.fancy_syntax.specs.Tree.{Tree, Trees, concat, alt, more_trees, children, with_child, with_tree, trees_of}
+use Rattle.fancy_grammar.specs.Tree.{Tree, Trees, concat, alt, more_trees, children, with_child, with_tree, trees_of}
 use Rattle.fancy_syntax.specs.View.{view, views}
 use Rattle.fancy_syntax.specs.declared.expr.Expr.{Expr, Concat, Alt}
 

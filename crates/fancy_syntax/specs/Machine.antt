@@ -9,18 +9,18 @@ use Rattle.fancy_lex.specs.Layout.{rest}
 use Rattle.fancy_lex.specs.Text.{Text, bytes, place_of, strip}
 use Rattle.fancy_lex.specs.declared.error.Error.{Error}
 use Rattle.fancy_lex.specs.declared.flags.Flags.{Flags}
-use Rattle.fancy_syntax.specs.Ahead.{ahead, ends, skipped, max_depth}
-use Rattle.fancy_syntax.specs.Ahead as seen
-use Rattle.fancy_syntax.specs.Grammar.{Alternation, Branches, Branch, Pieces, Piece, Inside, closed, is_condition}
-use Rattle.fancy_syntax.specs.Grammar.{branches_of, conditional_of, alone}
-use Rattle.fancy_syntax.specs.Head.{Head, node_of, flags_behind}
-use Rattle.fancy_syntax.specs.Join.{solid}
+use Rattle.fancy_grammar.specs.Ahead.{ahead, ends, skipped, max_depth}
+use Rattle.fancy_grammar.specs.Ahead as seen
+use Rattle.fancy_grammar.specs.Grammar.{Alternation, Branches, Branch, Pieces, Piece, Inside, closed, is_condition}
+use Rattle.fancy_grammar.specs.Grammar.{branches_of, conditional_of, alone, before}
+use Rattle.fancy_grammar.specs.Head.{Head, node_of, flags_behind}
+use Rattle.fancy_grammar.specs.Join.{solid}
 use Rattle.fancy_syntax.specs.Parsed.{head_of}
-use Rattle.fancy_syntax.specs.Reads.{Fails}
+use Rattle.fancy_grammar.specs.Fails.{Fails}
 use Rattle.fancy_syntax.specs.Row.{trees}
-use Rattle.fancy_syntax.specs.Slices.{Slice}
-use Rattle.fancy_syntax.specs.State.{State, at, Outcome, done, faulted, and_then, seen_through}
-use Rattle.fancy_syntax.specs.Tree.{Tree, absent, expression}
+use Rattle.fancy_grammar.specs.Slices.{Slice}
+use Rattle.fancy_grammar.specs.State.{State, at, Outcome, done, faulted, and_then}
+use Rattle.fancy_grammar.specs.Tree.{Tree, absent, expression}
 use Rattle.fancy_syntax.specs.View.{view}
 use Rattle.fancy_syntax.specs.declared.grammar.frame.Frame.{Frame}
 use Rattle.fancy_syntax.specs.declared.grammar.frame.Opener.{Opener}
@@ -154,10 +154,6 @@ IsPiece (step.Open opener) t o = ⊥
 -- a step that reads a piece, up to t, or a fault, is the outcome
 abbrev pub GivesPiece : Result Step Error → Outcome Tree → State → Type 0
 GivesPiece r o t = MatchResult r (λ p. IsPiece p t o) (λ e. Fails e (λ q. o ≡ q))
-
--- the trees so far, before those that follow
-abbrev pub before : List Tree → Outcome (List Tree) → Outcome (List Tree)
-before l = seen_through (λ m. l ++ m)
 
 -- what is read of a part that begins at s: branches, and the pieces of the branch that is open at t
 pub record Reading (n d : ℕ) (p : Open) (s : State) (branches pieces : List Tree) (t : State) : Type 0 where

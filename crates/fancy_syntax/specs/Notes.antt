@@ -1,15 +1,13 @@
 -- How the resolver's own values stand to the definitions.
-use Rattle.std.specs.Prelude.{◌≡◌, ℕ, Option, Some, chars, map, option_map}
+use Rattle.std.specs.Prelude.{ℕ, Option, chars, map, option_map}
 use Rattle.fancy_lex.specs.Fault.{Fault, kind_of}
-use Rattle.fancy_lex.specs.declared.error.Error.{Error}
-use Rattle.fancy_lex.specs.declared.error.Error.TheVariants.{ParseError, OutOfMemory}
 use Rattle.fancy_lex.specs.declared.error.ParseError as declared
 use Rattle.fancy_lex.specs.Target.{view_target}
 use Rattle.fancy_lex.specs.declared.name.CaptureGroupTarget.{CaptureGroupTarget}
 use Rattle.fancy_parts.specs.Groups.{groups_of, named, role_of}
 use Rattle.fancy_parts.specs.declared.ranks.Role.{Role}
-use Rattle.fancy_syntax.specs.Marks as spec
-use Rattle.fancy_syntax.specs.Walk as walk
+use Rattle.fancy_grammar.specs.Marks as spec
+use Rattle.fancy_grammar.specs.Walk as walk
 use Rattle.fancy_syntax.specs.declared.resolve.Marks.{Marks}
 use Rattle.fancy_syntax.specs.declared.resolve.notes.Known.{Known}
 use Rattle.fancy_syntax.specs.declared.resolve.notes.Progress.{Progress}
@@ -52,8 +50,3 @@ view_marks m = record {
   out_of_range_backref = m.out_of_range_backref;
   numbered_groups_ignored = m.numbered_groups_ignored;
 }
-
--- memory ran out, or it is that fault
-abbrev pub IsThatFault : Error → Option Fault → Type 0
-IsThatFault (ParseError p k) o = o ≡ Some (record { place = p; kind = kind_of k })
-IsThatFault OutOfMemory o = Unit {0}

@@ -2,15 +2,16 @@
 use Rattle.std.specs.Prelude.{◌≡◌, ℕ, ◌+◌, ◌<◌, List, option_map, chars, length, Result, MatchResult, ⊤}
 use Rattle.std.specs.Borrow.{Bor}
 use Rattle.fancy_lex.specs.declared.error.Error.{Error}
-use Rattle.fancy_syntax.specs.Ahead.{Ahead, nothing, leaf, opens, condition, body, absent_branch, max_depth}
+use Rattle.fancy_grammar.specs.Ahead.{Ahead, nothing, leaf, opens, condition, body, absent_branch, max_depth}
 use Rattle.fancy_lex.specs.Layout.{Skipped, rest, fault as open_comment}
 use Rattle.fancy_lex.specs.declared.error.Error.TheVariants.{ParseError}
 use Rattle.fancy_lex.specs.declared.error.ParseError.TheVariants.{UnclosedOpenParen}
-use Rattle.fancy_syntax.specs.Head as head
-use Rattle.fancy_syntax.specs.Reads.{Fails}
-use Rattle.fancy_syntax.specs.State as spec
-use Rattle.fancy_syntax.specs.State.{Outcome, done}
-use Rattle.fancy_syntax.specs.Tree.{Tree}
+use Rattle.fancy_grammar.specs.Head as head
+use Rattle.fancy_grammar.specs.Fails.{Fails}
+use Rattle.fancy_grammar.specs.Quantified as quantified
+use Rattle.fancy_grammar.specs.State as spec
+use Rattle.fancy_grammar.specs.State.{Outcome, done}
+use Rattle.fancy_grammar.specs.Tree.{Tree}
 use Rattle.fancy_syntax.specs.View.{view}
 use Rattle.fancy_syntax.specs.declared.expr.Expr.{Expr}
 use Rattle.fancy_syntax.specs.declared.grammar.ahead.Ahead as declared
@@ -18,6 +19,7 @@ use Rattle.fancy_syntax.specs.declared.grammar.ahead.Ahead.TheVariants.{Nothing,
 use Rattle.fancy_syntax.specs.declared.grammar.ahead.Ahead.TheVariants.{AbsentBranch}
 use Rattle.fancy_syntax.specs.declared.grammar.head.Head.{Head}
 use Rattle.fancy_syntax.specs.declared.grammar.head.Head.TheVariants as code
+use Rattle.fancy_syntax.specs.declared.grammar.quantified.Suffix.{Suffix}
 use Rattle.fancy_syntax.specs.declared.grammar.state.State.{State}
 
 -- the state, with its text as a list of characters
@@ -44,6 +46,14 @@ Turns r t s o = MatchResult r (λ _. o ≡ done t s) (λ e. Fails e (λ q. o ≡
 -- a value is read, up to the state, or a fault is found: the outcome
 abbrev pub Gives : {A : Type 0} → Result A Error → spec.State → Outcome A → Type 0
 Gives r s o = MatchResult r (λ a. o ≡ done a s) (λ e. Fails e (λ q. o ≡ q))
+
+-- the marks behind the counts of a quantifier
+abbrev pub suffix_of : Suffix → quantified.Suffix
+suffix_of m = record { lazy = m.lazy; possessive = m.possessive }
+
+-- such marks are read, up to the state, or a fault is found: the outcome
+abbrev pub GivesSuffix : Result Suffix Error → spec.State → Outcome quantified.Suffix → Type 0
+GivesSuffix r s o = MatchResult r (λ m. o ≡ done (suffix_of m) s) (λ e. Fails e (λ q. o ≡ q))
 
 -- the tree of an expression is read, up to the state, or a fault is found: the outcome
 abbrev pub GivesTree : Result Expr Error → spec.State → Outcome Tree → Type 0

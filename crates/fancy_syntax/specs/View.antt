@@ -2,12 +2,12 @@
 use Rattle.std.specs.Prelude.{List, map, option_map}
 use Rattle.fancy_lex.specs.Target.{view_target}
 use Rattle.fancy_lex.specs.Text.{text_of}
-use Rattle.fancy_syntax.specs.Tree.{Tree, empty, any, assertion, general_newline, literal, literal_bytes, concat, alt}
-use Rattle.fancy_syntax.specs.Tree.{group, look_around, repeat, delegate, backref, backref_at_level, atomic_group}
-use Rattle.fancy_syntax.specs.Tree.{keep_out, continue_from_previous_match_end, backref_exists, conditional}
-use Rattle.fancy_syntax.specs.Tree.{subroutine_call, verb, absent, define_group, ast_node, AbsentTree, repeater}
-use Rattle.fancy_syntax.specs.Tree.{expression, stopper, clear, AstTree, ast_group, ast_backref, ast_call}
-use Rattle.fancy_syntax.specs.Tree.{ast_condition, trees_of}
+use Rattle.fancy_grammar.specs.Tree.{Tree, empty, any, assertion, general_newline, literal, literal_bytes, concat, alt}
+use Rattle.fancy_grammar.specs.Tree.{group, look_around, repeat, delegate, backref, backref_at_level, atomic_group}
+use Rattle.fancy_grammar.specs.Tree.{keep_out, continue_from_previous_match_end, backref_exists, conditional}
+use Rattle.fancy_grammar.specs.Tree.{subroutine_call, verb, absent, define_group, ast_node, AbsentTree, repeater}
+use Rattle.fancy_grammar.specs.Tree.{expression, stopper, clear, AstTree, ast_group, ast_backref, ast_call}
+use Rattle.fancy_grammar.specs.Tree.{ast_condition, trees_of}
 use Rattle.fancy_syntax.specs.declared.expr.Expr.{Expr, fold-Expr}
 use Rattle.fancy_syntax.specs.declared.expr.Absent.{Absent, fold-Absent}
 use Rattle.fancy_syntax.specs.declared.expr.AstNode.{AstNode, fold-AstNode}

@@ -4,7 +4,7 @@ use Rattle.std.specs.Borrow.{MutBor, Fml}
 use Rattle.std.specs.declared.alloc.Global.{Global}
 use Rattle.std.specs.declared.boxed.Box.{Box}
 use Rattle.fancy_syntax.specs.Loans.{LendsChildAt, LendsBoxAt}
-use Rattle.fancy_syntax.specs.Tree.{Tree, absent, children, with_child}
+use Rattle.fancy_grammar.specs.Tree.{Tree, absent, children, with_child}
 use Rattle.fancy_syntax.specs.View.{view, view_absent}
 use Rattle.fancy_syntax.specs.contracts.expr.Absent as absent_type
 use Rattle.fancy_syntax.specs.contracts.expr.Expr as expr

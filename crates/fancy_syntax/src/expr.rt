@@ -7,36 +7,9 @@ mod equality;
 mod parent;
 
 pub use children::ExprChildrenIter;
+pub use fancy_grammar::kinds::{BacktrackingControlVerb, LookAround};
 pub use fancy_lex::escape::Assertion;
 pub use fancy_lex::name::CaptureGroupTarget;
-
-/// Which way a look-around looks, and whether it wants its pattern to match there.
-#[derive(Clone, Copy, PartialEq, Eq, Debug, Drop)]
-pub enum LookAround {
-    /// `(?=..)`
-    LookAhead,
-    /// `(?!..)`
-    LookAheadNeg,
-    /// `(?<=..)`
-    LookBehind,
-    /// `(?<!..)`
-    LookBehindNeg,
-}
-
-/// A verb, which steers the search.
-#[derive(Clone, Copy, PartialEq, Eq, Debug, Drop)]
-pub enum BacktrackingControlVerb {
-    /// `(*FAIL)` or `(*F)`
-    Fail,
-    /// `(*ACCEPT)`
-    Accept,
-    /// `(*COMMIT)`
-    Commit,
-    /// `(*SKIP)`
-    Skip,
-    /// `(*PRUNE)`
-    Prune,
-}
 
 /// A node as it is read, before the groups have numbers. It counts as a leaf, an `AstGroup` too.
 #[cycle(expr)]

@@ -2,14 +2,14 @@
 ghost use Rattle.std.specs.Prelude.{◌≡◌, ℕ, ◌+◌, ◌<◌, ◌≤◌, Bool, List, [], ◌++◌, true, false, IfOk, IsOk, OnOk, OnErr};
 ghost use Rattle.std.specs.Prelude.{string_bytes, string_len, string_capacity, chars, encode_utf8_all};
 ghost use Rattle.fancy_lex.specs.Text.{bytes};
-ghost use Rattle.fancy_syntax.specs.Ahead.{max_depth};
-ghost use Rattle.fancy_syntax.specs.HasDelegate.{has_delegate};
-ghost use Rattle.fancy_syntax.specs.Nest.{nest};
-ghost use Rattle.fancy_syntax.specs.Normal.{normal};
-ghost use Rattle.fancy_syntax.specs.Printable.{printable};
-ghost use Rattle.fancy_syntax.specs.Printed.{printed, has_text};
-ghost use Rattle.fancy_syntax.specs.ReadBack.{IsReadBack};
-ghost use Rattle.fancy_syntax.specs.Tree.{Tree};
+ghost use Rattle.fancy_grammar.specs.Ahead.{max_depth};
+ghost use Rattle.fancy_grammar.specs.HasDelegate.{has_delegate};
+ghost use Rattle.fancy_grammar.specs.Nest.{nest};
+ghost use Rattle.fancy_grammar.specs.Normal.{normal};
+ghost use Rattle.fancy_grammar.specs.Printable.{printable};
+ghost use Rattle.fancy_grammar.specs.Printed.{printed, has_text};
+ghost use Rattle.fancy_grammar.specs.ReadBack.{IsReadBack};
+ghost use Rattle.fancy_grammar.specs.Tree.{Tree};
 ghost use Rattle.fancy_syntax.specs.View.{view};
 
 mod count;

@@ -3,11 +3,12 @@ ghost use Rattle.std.specs.Prelude.{◌≡◌, ◌<◌, ◌^◌, ◌&&◌, chars
 ghost use Rattle.std.specs.List.{list_any};
 ghost use Rattle.fancy_parts.specs.Groups.{groups_of};
 ghost use Rattle.fancy_parts.specs.Ranks.{counted_in, is_named, named_groups};
-ghost use Rattle.fancy_syntax.specs.Items.{items, openings};
-ghost use Rattle.fancy_syntax.specs.Marks as spec;
-ghost use Rattle.fancy_syntax.specs.Notes.{IsThatFault, view_marks};
-ghost use Rattle.fancy_syntax.specs.Ordered.{Ascends};
-ghost use Rattle.fancy_syntax.specs.Resolved.{resolved, fault_of};
+ghost use Rattle.fancy_grammar.specs.Items.{items, openings};
+ghost use Rattle.fancy_grammar.specs.Marks as spec;
+ghost use Rattle.fancy_grammar.specs.Fails.{IsThatFault};
+ghost use Rattle.fancy_syntax.specs.Notes.{view_marks};
+ghost use Rattle.fancy_grammar.specs.Ordered.{Ascends};
+ghost use Rattle.fancy_grammar.specs.Resolved.{resolved, fault_of};
 ghost use Rattle.fancy_syntax.specs.View.{view};
 
 mod notes;

@@ -1,9 +1,10 @@
 //! Patterns read whole.
 ghost use Rattle.std.specs.Prelude.{◌≡◌, chars, filter, find, length, nat_le, nat_lt, IfOk, IfErr};
 ghost use Rattle.fancy_lex.specs.Flags.{flags_of};
-ghost use Rattle.fancy_syntax.specs.Answer.{marks_of, IsTreeOf, IsFaultOf, IsOnlyFault, IsWithin};
-ghost use Rattle.fancy_syntax.specs.Answered.{groups, groups_referred, has_call, AreNamed, IsAnswered, IsSmall};
-ghost use Rattle.fancy_syntax.specs.Marks.{ascending};
+ghost use Rattle.fancy_grammar.specs.Answer.{IsTreeOf, IsFaultOf, IsOnlyFault, IsWithin};
+ghost use Rattle.fancy_syntax.specs.Answer.{marks_of};
+ghost use Rattle.fancy_grammar.specs.Answered.{groups, groups_referred, has_call, AreNamed, IsAnswered, IsSmall};
+ghost use Rattle.fancy_grammar.specs.Marks.{ascending};
 ghost use Rattle.fancy_syntax.specs.Notes.{view_marks};
 ghost use Rattle.fancy_syntax.specs.View.{view};
 

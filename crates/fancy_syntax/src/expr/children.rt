@@ -3,7 +3,7 @@ ghost use Rattle.std.specs.Prelude.{◌≡◌, []};
 ghost use Rattle.std.specs.Bool.{OnTrue};
 ghost use Rattle.std.specs.Iterator.{YieldsFirstRef, item_count};
 ghost use Rattle.fancy_syntax.specs.Children.{children_of, left};
-ghost use Rattle.fancy_syntax.specs.Tree.{children, is_leaf};
+ghost use Rattle.fancy_grammar.specs.Tree.{children, is_leaf};
 ghost use Rattle.fancy_syntax.specs.View.{view, views};
 
 use super::{Absent, Expr};

@@ -1,6 +1,6 @@
 //! Clones of trees: equal to their source, in memory of their own.
 ghost use Rattle.std.specs.Prelude.{◌≡◌, true, IfOk, IsOk};
-ghost use Rattle.fancy_syntax.specs.Tree.{clear, holds_nothing};
+ghost use Rattle.fancy_grammar.specs.Tree.{clear, holds_nothing};
 ghost use Rattle.fancy_syntax.specs.View.{view, view_absent, view_ast, views};
 
 use super::{Absent, AstNode, Expr};

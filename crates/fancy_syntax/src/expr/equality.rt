@@ -2,9 +2,9 @@
 ghost use Rattle.std.specs.Prelude.{◌≡◌, ◌↔◌, IsTrue, option_map};
 ghost use Rattle.std.specs.Cmp.{on_per, on_equiv, partial_equiv_from_equiv};
 ghost use Rattle.fancy_lex.specs.Text.{text_of};
-ghost use Rattle.fancy_syntax.specs.Same.{same, same_all, same_absent, same_ast, same_name};
-ghost use Rattle.fancy_syntax.specs.SameLaws.{same-equiv, same_absent-equiv, same_ast-equiv};
-ghost use Rattle.fancy_syntax.specs.Tree.{trees_of};
+ghost use Rattle.fancy_grammar.specs.Same.{same, same_all, same_absent, same_ast, same_name};
+ghost use Rattle.fancy_grammar.specs.SameLaws.{same-equiv, same_absent-equiv, same_ast-equiv};
+ghost use Rattle.fancy_grammar.specs.Tree.{trees_of};
 ghost use Rattle.fancy_syntax.specs.View.{view, views, view_ast, view_absent};
 
 use super::{Absent, AstNode, Expr};

@@ -1,9 +1,9 @@
 //! What stands before an atom.
 ghost use Rattle.std.specs.Prelude.{◌≡◌, ◌+◌, ◌<◌, ◌≤◌, ◌^◌, ◌∷◌, [], length, chars, IfOk, IfSome};
 ghost use Rattle.fancy_lex.specs.Escaped.{escape_of};
-ghost use Rattle.fancy_syntax.specs.Ahead as spec;
+ghost use Rattle.fancy_grammar.specs.Ahead as spec;
 ghost use Rattle.fancy_syntax.specs.Parsed.{state, Gives, GivesTree, Sees, Skips, IsUnmoved, IsBelow, StaysAtNothing, TakesBytes, IsSomething};
-ghost use Rattle.fancy_syntax.specs.Tree.{literal};
+ghost use Rattle.fancy_grammar.specs.Tree.{literal};
 ghost use Rattle.fancy_syntax.specs.View.{view};
 
 use crate::expr::Expr;
@@ -63,7 +63,7 @@ pub(crate) fn skip_layout<'a>(here: State<'a>, end: usize) -> Result<&'a str, Er
 }
 
 /// Reads what stands before an atom, through a leaf, or up to where the first part of a group begins.
-#[tactic(auto, unfolding(crate::specs::Ahead::ahead))]
+#[tactic(auto, unfolding(fancy_grammar::specs::Ahead::ahead))]
 pub(crate) fn look_ahead<'a>(
     alloc: Global,
     here: &mut State<'a>,

@@ -1,8 +1,8 @@
 //! Conditionals and absent nodes: what becomes of the trees that were read inside them.
 ghost use Rattle.std.specs.Prelude.{◌≡◌, IfOk};
-ghost use Rattle.fancy_syntax.specs.Grammar as spec;
-ghost use Rattle.fancy_syntax.specs.Join as join;
-ghost use Rattle.fancy_syntax.specs.Tree.{alt, trees_of};
+ghost use Rattle.fancy_grammar.specs.Grammar as spec;
+ghost use Rattle.fancy_grammar.specs.Join as join;
+ghost use Rattle.fancy_grammar.specs.Tree.{alt, trees_of};
 ghost use Rattle.fancy_syntax.specs.View.{view, view_ast, views};
 
 use crate::expr::{Absent, AstNode, Expr};

@@ -1,7 +1,7 @@
 //! The fault whose kind carries a message.
 ghost use Rattle.std.specs.Prelude.{chars};
 ghost use Rattle.fancy_lex.specs.Fault as spec;
-ghost use Rattle.fancy_syntax.specs.Reads.{IsFaultAt};
+ghost use Rattle.fancy_grammar.specs.Fails.{IsFaultAt};
 
 use fancy_lex::error::{Error, ParseError};
 use std::alloc::Global;

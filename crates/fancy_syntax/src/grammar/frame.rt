@@ -1,8 +1,8 @@
 //! The groups that are open.
 ghost use Rattle.std.specs.Prelude.{◌≡◌, [], ◌∷◌, ◌++◌, IfOk, OnOk};
-ghost use Rattle.fancy_syntax.specs.Join as spec;
+ghost use Rattle.fancy_grammar.specs.Join as spec;
 ghost use Rattle.fancy_syntax.specs.Row.{trees};
-ghost use Rattle.fancy_syntax.specs.Tree.{concat};
+ghost use Rattle.fancy_grammar.specs.Tree.{concat};
 ghost use Rattle.fancy_syntax.specs.View.{view};
 
 use crate::expr::Expr;
@@ -52,7 +52,7 @@ impl<'a> Frame<'a> {
     ghost use Rattle.std.specs.Prelude.{false, IfErr};
     ghost use Rattle.fancy_lex.specs.Text.{place_of};
     ghost use Rattle.fancy_syntax.specs.Machine.{open_of, opened_by_bar, branches_at_bar, is_second, IsFaultOfBar};
-    ghost use Rattle.fancy_syntax.specs.Reads.{Fails};
+    ghost use Rattle.fancy_grammar.specs.Fails.{Fails};
 
     /// A group in which nothing is read yet.
     pub(crate) fn new(opener: Opener<'a>) -> Frame<'a>

@@ -1,8 +1,8 @@
 //! What opens a group that holds one alternation.
 ghost use Rattle.std.specs.Prelude.{◌≡◌, IfOk, option_map, chars};
-ghost use Rattle.fancy_syntax.specs.Head as spec;
+ghost use Rattle.fancy_grammar.specs.Head as spec;
 ghost use Rattle.fancy_syntax.specs.Parsed.{head_of};
-ghost use Rattle.fancy_syntax.specs.Tree.{ast_node, ast_group};
+ghost use Rattle.fancy_grammar.specs.Tree.{ast_node, ast_group};
 ghost use Rattle.fancy_syntax.specs.View.{view};
 
 use crate::expr::{Absent, AstNode, Expr, LookAround};

@@ -4,13 +4,13 @@ ghost use Rattle.fancy_lex.specs.FaultTable.{unknown_verb};
 ghost use Rattle.fancy_parts.specs.FlagLetters.{letters};
 ghost use Rattle.fancy_parts.specs.GroupName as names;
 ghost use Rattle.fancy_parts.specs.HeadReference as references;
-ghost use Rattle.fancy_syntax.specs.Ahead.{leaf, opens};
-ghost use Rattle.fancy_syntax.specs.Head as head;
-ghost use Rattle.fancy_syntax.specs.State.{at};
-ghost use Rattle.fancy_syntax.specs.Ahead as spec;
+ghost use Rattle.fancy_grammar.specs.Ahead.{leaf, opens};
+ghost use Rattle.fancy_grammar.specs.Head as head;
+ghost use Rattle.fancy_grammar.specs.State.{at};
+ghost use Rattle.fancy_grammar.specs.Ahead as spec;
 ghost use Rattle.fancy_syntax.specs.Parsed.{state, Sees, IsSomething};
-ghost use Rattle.fancy_syntax.specs.Reads.{IsFault};
-ghost use Rattle.fancy_syntax.specs.Verb as verbs;
+ghost use Rattle.fancy_grammar.specs.Fails.{IsFault};
+ghost use Rattle.fancy_grammar.specs.Verb as verbs;
 
 use crate::expr::{BacktrackingControlVerb, Expr, LookAround};
 use crate::grammar::ahead::Ahead;
@@ -279,7 +279,7 @@ pub(crate) fn look_at_verb<'a>(
 }
 
 /// The verb whose name and closing parenthesis stand at the front, and what follows them.
-#[tactic(auto, unfolding(crate::specs::Verb::verb_at))]
+#[tactic(auto, unfolding(fancy_grammar::specs::Verb::verb_at))]
 fn verb_at(text: &str) -> Option<(BacktrackingControlVerb, &str)>
     ensures value { verbs.verb_at (chars text.now) ≡ option_map (λ p. (p.0, chars p.1.now)) result }
     ensures within { IfSome result (λ p. length p.1.now ≤ length text.now) }

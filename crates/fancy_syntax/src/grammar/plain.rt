@@ -1,11 +1,11 @@
 //! Plain characters, which most pieces are.
 ghost use Rattle.std.specs.Prelude.{◌≡◌, ◌<◌, ℕ, true, length, chars, IfSome};
 ghost use Rattle.fancy_syntax.specs.Parsed.{state};
-ghost use Rattle.fancy_syntax.specs.Plain as spec;
-ghost use Rattle.fancy_syntax.specs.Plain.{IsPlain};
-ghost use Rattle.fancy_syntax.specs.Quantified.{quants};
-ghost use Rattle.fancy_syntax.specs.State.{done};
-ghost use Rattle.fancy_syntax.specs.Tree.{Tree};
+ghost use Rattle.fancy_grammar.specs.Plain as spec;
+ghost use Rattle.fancy_grammar.specs.Plain.{IsPlain};
+ghost use Rattle.fancy_grammar.specs.Quantified.{quants};
+ghost use Rattle.fancy_grammar.specs.State.{done};
+ghost use Rattle.fancy_grammar.specs.Tree.{Tree};
 
 use crate::grammar::state::State;
 use fancy_lex::text::next;

@@ -1,8 +1,8 @@
 //! A tree under the quantifiers that follow it.
 ghost use Rattle.std.specs.Prelude.{◌≡◌, ◌≤◌, ◌<◌, ◌+◌, ◌^◌, true, false, length, chars, Some, None, IfOk};
-ghost use Rattle.fancy_syntax.specs.Join.{is_empty};
-ghost use Rattle.fancy_syntax.specs.Quantified as spec;
-ghost use Rattle.fancy_syntax.specs.Parsed.{state, Turns, Gives};
+ghost use Rattle.fancy_grammar.specs.Join.{is_empty};
+ghost use Rattle.fancy_grammar.specs.Quantified as spec;
+ghost use Rattle.fancy_syntax.specs.Parsed.{state, suffix_of, Turns, GivesSuffix};
 ghost use Rattle.fancy_syntax.specs.View.{view};
 
 use crate::expr::Expr;
@@ -123,7 +123,7 @@ fn may_count(more: usize, depth: usize) -> bool
 
 /// Reads layout and the quantifier that follows the tree, if one does, and puts the tree under it.
 #[inline]
-#[tactic(auto, unfolding(crate::specs::Quantified::quant))]
+#[tactic(auto, unfolding(fancy_grammar::specs::Quantified::quant))]
 fn quantify_once(
     alloc: Global,
     tree: &mut Expr,
@@ -178,7 +178,7 @@ fn repeat(
 /// Reads layout and the marks behind the counts of a quantifier: the lazy one, and directly the possessive one.
 fn read_suffix(here: &mut State, counts: Counts, end: usize) -> Result<Suffix, Error>
     requires end { end < 2 ^ 63 }
-    ensures value { Gives result (state here.new) (spec.suffix end (state here.old) counts) }
+    ensures value { GivesSuffix result (state here.new) (spec.suffix end (state here.old) counts) }
     ensures flags { here.new.flags ≡ here.old.flags }
     ensures within { length here.new.rest.now ≤ length here.old.rest.now }
 {
@@ -218,7 +218,7 @@ fn put_under(
     counts: Counts,
     marks: Suffix,
 ) -> Result<(), AllocError>
-    ensures { IfOk result (λ _. view tree.new ≡ spec.quantified flags counts marks (view tree.old)) }
+    ensures { IfOk result (λ _. view tree.new ≡ spec.quantified flags counts (suffix_of marks) (view tree.old)) }
 {
     let child = Box::new(alloc, mem::replace(tree, Expr::Empty))?;
     let greedy = is_greedy(flags, marks.lazy);

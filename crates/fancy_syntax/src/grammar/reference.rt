@@ -1,7 +1,7 @@
 //! The nodes of references, whose groups are not known yet.
 ghost use Rattle.std.specs.Prelude.{◌≡◌, IfOk};
 ghost use Rattle.fancy_lex.specs.Referred.{view_reference, view_call};
-ghost use Rattle.fancy_syntax.specs.Ahead as spec;
+ghost use Rattle.fancy_grammar.specs.Ahead as spec;
 ghost use Rattle.fancy_syntax.specs.View.{view};
 
 use crate::expr::{AstNode, Expr};

@@ -47,9 +47,9 @@ impl Several {
 
 impl Row {
     ghost use Rattle.std.specs.Prelude.{◌≡◌, [], ◌∷◌, ◌++◌, OnOk};
-    ghost use Rattle.fancy_syntax.specs.Join.{one_or, choice};
+    ghost use Rattle.fancy_grammar.specs.Join.{one_or, choice};
     ghost use Rattle.fancy_syntax.specs.Row.{trees};
-    ghost use Rattle.fancy_syntax.specs.Tree.{concat};
+    ghost use Rattle.fancy_grammar.specs.Tree.{concat};
     ghost use Rattle.fancy_syntax.specs.View.{view};
 
     /// Adds a tree at the end.

@@ -2,15 +2,15 @@
 ghost use Rattle.std.specs.Prelude.{◌≡◌, ℕ, ◌+◌, ◌<◌, ◌≤◌, ◌^◌, false, length, chars, IfOk, MatchResult, None};
 ghost use Rattle.fancy_lex.specs.Characters.{bar};
 ghost use Rattle.fancy_lex.specs.Text.{bytes, strip};
-ghost use Rattle.fancy_syntax.specs.Ahead.{ends};
-ghost use Rattle.fancy_syntax.specs.Grammar as spec;
+ghost use Rattle.fancy_grammar.specs.Ahead.{ends};
+ghost use Rattle.fancy_grammar.specs.Grammar as spec;
 ghost use Rattle.fancy_syntax.specs.Machine as machine;
 ghost use Rattle.fancy_syntax.specs.Machine.{Opens, OpensBelow, Part, StepsOn, GivesPiece, ended_part, open_of};
 ghost use Rattle.fancy_syntax.specs.Parsed.{state, GivesTree};
-ghost use Rattle.fancy_syntax.specs.Quantified.{quants};
-ghost use Rattle.fancy_syntax.specs.Reads.{Fails};
-ghost use Rattle.fancy_syntax.specs.State as states;
-ghost use Rattle.fancy_syntax.specs.Tree.{Tree};
+ghost use Rattle.fancy_grammar.specs.Quantified.{quants};
+ghost use Rattle.fancy_grammar.specs.Fails.{Fails};
+ghost use Rattle.fancy_grammar.specs.State as states;
+ghost use Rattle.fancy_grammar.specs.Tree.{Tree};
 ghost use Rattle.fancy_syntax.specs.View.{view};
 
 use crate::expr::{Absent, Expr};

@@ -4,8 +4,8 @@ ghost use Rattle.std.specs.List.{list_all};
 ghost use Rattle.fancy_lex.specs.Text.{Text, bytes};
 ghost use Rattle.fancy_parts.specs.Quote.{quantifier};
 ghost use Rattle.fancy_parts.specs.Room.{in_word};
-ghost use Rattle.fancy_syntax.specs.Printed.{printed, printed_all, printed_branches, grouped, caseless};
-ghost use Rattle.fancy_syntax.specs.Tree.{trees_of};
+ghost use Rattle.fancy_grammar.specs.Printed.{printed, printed_all, printed_branches, grouped, caseless};
+ghost use Rattle.fancy_grammar.specs.Tree.{trees_of};
 ghost use Rattle.fancy_syntax.specs.View.{view, views};
 
 use crate::expr::Expr;

@@ -3,8 +3,8 @@ ghost use Rattle.std.specs.Prelude.{◌≡◌, ◌∷◌, ◌+◌, ◌<◌, ◌^
 ghost use Rattle.fancy_lex.specs.Characters.{open_bracket, backslash};
 ghost use Rattle.fancy_lex.specs.declared.error.Error.TheVariants.{OutOfMemory};
 ghost use Rattle.fancy_lex.specs.Escaped.{escape_of};
-ghost use Rattle.fancy_syntax.specs.Ahead.{leaf_node};
-ghost use Rattle.fancy_syntax.specs.Normal.{bare, class_of, whole_of};
+ghost use Rattle.fancy_grammar.specs.Ahead.{leaf_node};
+ghost use Rattle.fancy_grammar.specs.Normal.{bare, class_of, whole_of};
 
 use fancy_lex::class::class;
 use fancy_lex::error::Error;

@@ -1,7 +1,7 @@
 //! The texts that do not depend on what a tree holds.
 ghost use Rattle.std.specs.Prelude.{◌≡◌, true, nat_lt};
 ghost use Rattle.std.specs.List.{list_all};
-ghost use Rattle.fancy_syntax.specs.Printed as spec;
+ghost use Rattle.fancy_grammar.specs.Printed as spec;
 
 use fancy_lex::escape::Assertion;
 

@@ -1,10 +1,10 @@
 //! Whether a tree's text reads back as its normal form.
 ghost use Rattle.std.specs.Prelude.{◌≡◌, false, nat_lt, length, chars, IfOk};
-ghost use Rattle.fancy_syntax.specs.Join.{is_empty, join};
-ghost use Rattle.fancy_syntax.specs.Normal.{normal, items};
-ghost use Rattle.fancy_syntax.specs.Printable as spec;
-ghost use Rattle.fancy_syntax.specs.Tree as tree;
-ghost use Rattle.fancy_syntax.specs.Tree.{trees_of};
+ghost use Rattle.fancy_grammar.specs.Join.{is_empty, join};
+ghost use Rattle.fancy_grammar.specs.Normal.{normal, items};
+ghost use Rattle.fancy_grammar.specs.Printable as spec;
+ghost use Rattle.fancy_grammar.specs.Tree as tree;
+ghost use Rattle.fancy_grammar.specs.Tree.{trees_of};
 ghost use Rattle.fancy_syntax.specs.View.{view, views};
 
 use crate::expr::Expr;

@@ -3,8 +3,8 @@ ghost use Rattle.std.specs.Prelude.{◌≡◌, ◌++◌, codes, if◌then◌else
 ghost use Rattle.std.specs.List.{list_all};
 ghost use Rattle.fancy_parts.specs.Quote.{quotes, quantifier};
 ghost use Rattle.fancy_parts.specs.Room.{HasRoom, Appended};
-ghost use Rattle.fancy_syntax.specs.Printed.{printed, printed_all, printed_branches, grouped, caseless};
-ghost use Rattle.fancy_syntax.specs.Tree.{trees_of};
+ghost use Rattle.fancy_grammar.specs.Printed.{printed, printed_all, printed_branches, grouped, caseless};
+ghost use Rattle.fancy_grammar.specs.Tree.{trees_of};
 ghost use Rattle.fancy_syntax.specs.View.{view, views};
 
 use crate::expr::Expr;
@@ -38,7 +38,7 @@ fn put_fixed(buf: &mut String, text: &str)
 }
 
 #[inline]
-#[tactic(auto, unfolding(crate::specs::Printed::caseless))]
+#[tactic(auto, unfolding(fancy_grammar::specs::Printed::caseless))]
 fn put_literal(buf: &mut String, val: &str, casei: bool)
     requires { HasRoom buf.old (caseless casei (quotes (chars val.now))) }
     ensures { Appended buf.old buf.new (caseless casei (quotes (chars val.now))) }

@@ -1,8 +1,8 @@
 //! What the second walk knows, and what it notes of each reference.
 ghost use Rattle.std.specs.Prelude.{◌≡◌, ◌<◌, ◌^◌, chars, IfOk};
-ghost use Rattle.fancy_syntax.specs.Marks as spec;
+ghost use Rattle.fancy_grammar.specs.Marks as spec;
 ghost use Rattle.fancy_syntax.specs.Notes.{progress_of, number_meant, noted_one};
-ghost use Rattle.fancy_syntax.specs.Walk.{nothing_noted};
+ghost use Rattle.fancy_grammar.specs.Walk.{nothing_noted};
 
 use fancy_lex::error::ParseError;
 use fancy_lex::name::CaptureGroupTarget;

@@ -2,11 +2,11 @@
 ghost use Rattle.std.specs.Prelude.{◌≡◌, ◌+◌, ◌<◌, ◌^◌, length, IfOk, option_map};
 ghost use Rattle.fancy_lex.specs.Text.{text_of};
 ghost use Rattle.fancy_parts.specs.Ranks.{is_counted};
-ghost use Rattle.fancy_syntax.specs.Items.{items, items_all, items_absent, items_ast, openings_in};
+ghost use Rattle.fancy_grammar.specs.Items.{items, items_all, items_absent, items_ast, openings_in};
 ghost use Rattle.fancy_syntax.specs.Notes.{known_of, progress_of};
-ghost use Rattle.fancy_syntax.specs.Tree.{trees_of, ast_node};
+ghost use Rattle.fancy_grammar.specs.Tree.{trees_of, ast_node};
 ghost use Rattle.fancy_syntax.specs.View.{view, view_absent, view_ast, views};
-ghost use Rattle.fancy_syntax.specs.Walk.{noted, rebuilt, rebuilt_all, rebuilt_absent};
+ghost use Rattle.fancy_grammar.specs.Walk.{noted, rebuilt, rebuilt_all, rebuilt_absent};
 
 use crate::expr::{Absent, AstNode, Expr};
 use crate::resolve::notes::{Known, Progress, refer};

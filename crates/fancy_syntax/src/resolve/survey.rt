@@ -1,10 +1,10 @@
 //! The first walk: the groups that have a number, and the numbers of each name.
 ghost use Rattle.std.specs.Prelude.{◌≡◌, ◌+◌, ◌<◌, ◌^◌, length, IfOk};
 ghost use Rattle.fancy_parts.specs.Groups.{groups_of};
-ghost use Rattle.fancy_syntax.specs.Items.{items, items_all, items_absent, items_ast, openings_in};
-ghost use Rattle.fancy_syntax.specs.Tree.{trees_of};
+ghost use Rattle.fancy_grammar.specs.Items.{items, items_all, items_absent, items_ast, openings_in};
+ghost use Rattle.fancy_grammar.specs.Tree.{trees_of};
 ghost use Rattle.fancy_syntax.specs.View.{view, view_absent, view_ast, views};
-ghost use Rattle.fancy_syntax.specs.Walk.{found};
+ghost use Rattle.fancy_grammar.specs.Walk.{found};
 
 use crate::expr::{Absent, AstNode, Expr};
 use fancy_parts::ranks::Groups;

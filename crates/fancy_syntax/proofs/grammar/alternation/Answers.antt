@@ -1,13 +1,13 @@
 use Rattle.std.proofs.Common.{◌≡◌, ap, sym, length, [], arith, subst}
 use Rattle.std.proofs.lemmas.List.{nil_from_length, length_push}
 use Rattle.std.proofs.lemmas.Result.{err_from_is_err_and}
-use Rattle.fancy_syntax.specs.Grammar.{Alternation, Piece}
+use Rattle.fancy_grammar.specs.Grammar.{Alternation, Piece}
 use Rattle.fancy_syntax.specs.Machine.{Opens, IsFaultOfBar, open_of}
 use Rattle.fancy_syntax.specs.Parsed.{state}
-use Rattle.fancy_syntax.specs.State.{done, fault}
+use Rattle.fancy_grammar.specs.State.{done, fault}
 use Rattle.fancy_syntax.specs.View.{view}
 use Rattle.fancy_syntax.proofs.MachineLemmas.{running_start, running_left, running_fault, running_piece, running_open, running_bar, running_bar_fault, running_end, running_closing, running_room}
-use Rattle.fancy_syntax.proofs.OutcomeLemmas.{Fails-map}
+use Rattle.fancy_grammar.proofs.OutcomeLemmas.{Fails-map}
 use Rattle.fancy_syntax.proofs.grammar.alternation.Goals as goal
 
 pub loop-c-init : goal.loop-c-init

@@ -2,12 +2,12 @@ use Rattle.std.proofs.Common.{refl, sym, subst, ap, ℕ}
 use Rattle.std.proofs.lemmas.Result.{err_from_is_err_and}
 use Rattle.std.specs.Str.{chars}
 use Rattle.fancy_lex.proofs.TextLemmas.{bytes_chars}
-use Rattle.fancy_syntax.specs.Grammar.{Alternation, Whole, whole, start, ended_at}
+use Rattle.fancy_grammar.specs.Grammar.{Alternation, Whole, whole, start, ended_at}
 use Rattle.fancy_syntax.specs.Parsed.{state}
-use Rattle.fancy_syntax.specs.State.{done, fault}
+use Rattle.fancy_grammar.specs.State.{done, fault}
 use Rattle.fancy_syntax.specs.View.{view}
-use Rattle.fancy_syntax.proofs.FaultLemmas.{says_end}
-use Rattle.fancy_syntax.proofs.OutcomeLemmas.{Fails-map, Fails-is}
+use Rattle.fancy_grammar.proofs.FaultLemmas.{says_end}
+use Rattle.fancy_grammar.proofs.OutcomeLemmas.{Fails-map, Fails-is}
 use Rattle.fancy_syntax.proofs.grammar.parse.Goals as goal
 
 pub returns-in_err-tree : goal.returns-in_err-tree

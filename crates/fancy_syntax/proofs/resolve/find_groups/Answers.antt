@@ -2,9 +2,9 @@ use Rattle.std.proofs.Common.{◌≡◌, length, true, false, ap, ◌∙◌, sym
 use Rattle.std.specs.List.{list_any}
 use Rattle.fancy_parts.specs.Groups.{groups_of}
 use Rattle.fancy_parts.specs.Ranks.{counted_in, is_named}
-use Rattle.fancy_syntax.specs.Items.{items, openings}
+use Rattle.fancy_grammar.specs.Items.{items, openings}
 use Rattle.fancy_syntax.specs.View.{view}
-use Rattle.fancy_syntax.proofs.FoundLaws.{start_total, start_names, any_named, some_counted, none_counted, not_asked}
+use Rattle.fancy_grammar.proofs.FoundLaws.{start_total, start_names, any_named, some_counted, none_counted, not_asked}
 use Rattle.fancy_syntax.proofs.resolve.find_groups.Goals as goal
 use Rattle.fancy_syntax.proofs.resolve.find_groups.Goals.{then-ignore+else-groups-eq0, else-ignore}
 

@@ -1,11 +1,11 @@
 use Rattle.std.proofs.Common.{arith, chars, length, option_map, ap, sym, ◌∙◌}
 use Rattle.fancy_parts.specs.Groups.{groups_of}
-use Rattle.fancy_syntax.specs.Items.{items}
+use Rattle.fancy_grammar.specs.Items.{items}
 use Rattle.fancy_syntax.specs.Notes.{fault_at}
 use Rattle.fancy_syntax.specs.View.{view}
-use Rattle.fancy_syntax.specs.Walk.{Known, Progress, noted, rebuilt}
-use Rattle.fancy_syntax.proofs.AnswerLaws.{known_suits, marks_noted, law_tree, law_fault, law_marks}
-use Rattle.fancy_syntax.proofs.OrderLaws.{openings_fit}
+use Rattle.fancy_grammar.specs.Walk.{Known, Progress, noted, rebuilt}
+use Rattle.fancy_grammar.proofs.AnswerLaws.{known_suits, marks_noted, law_tree, law_fault, law_marks}
+use Rattle.fancy_grammar.proofs.OrderLaws.{openings_fit}
 use Rattle.fancy_syntax.proofs.resolve.resolve.Goals as goal
 
 pub find_groups-requires : goal.find_groups-requires

@@ -1,6 +1,6 @@
 use Rattle.fancy_syntax.specs.View.{view}
-use Rattle.fancy_syntax.proofs.PrintableLemmas.{has_text_if}
-use Rattle.fancy_syntax.proofs.ReadBack.NormalLaws.{normal_if, fixed_if}
+use Rattle.fancy_grammar.proofs.PrintableLemmas.{has_text_if}
+use Rattle.fancy_grammar.proofs.ReadBack.NormalLaws.{normal_if, fixed_if}
 use Rattle.fancy_syntax.proofs.expr.Expr.is_printable.Goals as goal
 
 pub returns-clause-text : goal.returns-clause-text

@@ -1,11 +1,12 @@
 use Rattle.std.proofs.Common.{subst, chars, ap, ◌∙◌}
 use Rattle.std.proofs.lemmas.Result.{err_from_is_err_and}
-use Rattle.fancy_syntax.specs.Answer.{IsTreeOf, IsOnlyFault, marks_of}
+use Rattle.fancy_grammar.specs.Answer.{IsTreeOf, IsOnlyFault}
+use Rattle.fancy_syntax.specs.Answer.{marks_of}
 use Rattle.fancy_syntax.specs.View.{view}
-use Rattle.fancy_syntax.proofs.AnsweredLaws.{answered, groups_total, names_marked, calls_marked, backrefs_marked, out_of_range_marked}
-use Rattle.fancy_syntax.proofs.BoundLaws.{bounded}
-use Rattle.fancy_syntax.proofs.Verdict.{only_tree, no_fault, only_reading, only_resolving, reading_within}
-use Rattle.fancy_syntax.proofs.Verdict.{resolving_within, text_order}
+use Rattle.fancy_grammar.proofs.AnsweredLaws.{answered, groups_total, names_marked, calls_marked, backrefs_marked, out_of_range_marked}
+use Rattle.fancy_grammar.proofs.BoundLaws.{bounded}
+use Rattle.fancy_grammar.proofs.Verdict.{only_tree, no_fault, only_reading, only_resolving, reading_within}
+use Rattle.fancy_grammar.proofs.Verdict.{resolving_within, text_order}
 use Rattle.fancy_syntax.proofs.expr.Expr.parse_tree_with_flags.Goals as goal
 
 pub returns-in_err-expr-clause-fault : goal.returns-in_err-expr-clause-fault

@@ -1,6 +1,6 @@
 use Rattle.std.proofs.Common.{rules, ◌<◌, ◌∙◌, sym, refl, ap, arith, subst}
 use Rattle.std.specs.Fn.{FnReturnsAt}
-use Rattle.fancy_syntax.specs.Tree.{depth}
+use Rattle.fancy_grammar.specs.Tree.{depth}
 use Rattle.fancy_syntax.specs.View.{view, views}
 use Rattle.fancy_syntax.specs.Descendants.{child, deeper}
 use Rattle.fancy_syntax.proofs.Descents.{sweep_head, sweep_next, sweep_end, depth_of_child}

@@ -1,6 +1,6 @@
 use Rattle.std.proofs.Common.{length, false}
 use Rattle.std.specs.Fn.{FnReturnsAt}
-use Rattle.fancy_syntax.specs.Tree.{depth}
+use Rattle.fancy_grammar.specs.Tree.{depth}
 use Rattle.fancy_syntax.specs.View.{view}
 use Rattle.fancy_syntax.specs.Children.{left}
 use Rattle.fancy_syntax.proofs.Descents.{Sweep}

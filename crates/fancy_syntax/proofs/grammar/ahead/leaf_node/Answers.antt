@@ -1,8 +1,8 @@
 use Rattle.std.proofs.Common.{◌++◌, ◌∙◌, ap, sym, chars}
 use Rattle.std.proofs.lemmas.Str.{chars-nil}
 use Rattle.fancy_lex.specs.Escaped.{escape_of, delegate_text}
-use Rattle.fancy_syntax.specs.Ahead as spec
-use Rattle.fancy_syntax.specs.Tree.{delegate}
+use Rattle.fancy_grammar.specs.Ahead as spec
+use Rattle.fancy_grammar.specs.Tree.{delegate}
 use Rattle.fancy_syntax.proofs.TreeLemmas.{view_Delegate}
 use Rattle.fancy_syntax.proofs.grammar.ahead.leaf_node.Goals as goal
 

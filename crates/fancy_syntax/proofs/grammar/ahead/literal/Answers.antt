@@ -1,7 +1,7 @@
 use Rattle.std.proofs.Common.{chars, ◌∷◌, [], ◌++◌, ◌∙◌, ap}
 use Rattle.std.proofs.lemmas.Str.{chars-nil}
 use Rattle.fancy_lex.specs.Text.{Text}
-use Rattle.fancy_syntax.specs.Tree.{literal}
+use Rattle.fancy_grammar.specs.Tree.{literal}
 use Rattle.fancy_syntax.proofs.TreeLemmas.{view_Literal}
 use Rattle.fancy_syntax.proofs.grammar.ahead.literal.Goals as goal
 

@@ -1,7 +1,7 @@
 use Rattle.std.proofs.Common.{◌≡◌, ◌<◌, List, [], ◌∷◌, length, remove, ap, sym, ◌∙◌, refl, arith}
-use Rattle.fancy_syntax.specs.Grammar as spec
-use Rattle.fancy_syntax.specs.Join as join
-use Rattle.fancy_syntax.specs.Tree.{Tree, alt, trees_of, list_of}
+use Rattle.fancy_grammar.specs.Grammar as spec
+use Rattle.fancy_grammar.specs.Join as join
+use Rattle.fancy_grammar.specs.Tree.{Tree, alt, trees_of, list_of}
 use Rattle.fancy_syntax.specs.View.{views}
 use Rattle.fancy_syntax.specs.declared.expr.Expr.{Expr}
 use Rattle.fancy_syntax.proofs.grammar.conditional.first_and_others.Goals as goal

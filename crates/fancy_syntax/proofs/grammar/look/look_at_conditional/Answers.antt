@@ -1,7 +1,7 @@
 use Rattle.std.proofs.Common.{sym, subst, ◌∙◌}
 use Rattle.std.specs.Str.{chars}
 use Rattle.fancy_syntax.specs.Parsed.{state, Sees}
-use Rattle.fancy_syntax.proofs.AheadLemmas.{defines, target_stands, no_condition_ahead}
+use Rattle.fancy_grammar.proofs.AheadLemmas.{defines, target_stands, no_condition_ahead}
 use Rattle.fancy_syntax.proofs.grammar.look.look_at_conditional.Goals as goal
 
 pub returns-in-Some-after_word-clause-value : goal.returns-in-Some-after_word-clause-value

@@ -1,6 +1,6 @@
 use Rattle.std.proofs.Common.{false, ◌≡◌, ◌∙◌, sym, rules}
 use Rattle.fancy_syntax.specs.Parsed.{state}
-use Rattle.fancy_syntax.proofs.PlainLemmas.{unquantified, unquantified_at_end}
+use Rattle.fancy_grammar.proofs.PlainLemmas.{unquantified, unquantified_at_end}
 use Rattle.fancy_syntax.proofs.grammar.plain.is_unquantified.Goals as goal
 
 pub returns-in_default : goal.returns-in_default

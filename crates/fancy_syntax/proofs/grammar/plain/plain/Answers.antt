@@ -1,5 +1,5 @@
 use Rattle.std.proofs.Common.{sym}
-use Rattle.fancy_syntax.proofs.PlainLemmas.{is_plain}
+use Rattle.fancy_grammar.proofs.PlainLemmas.{is_plain}
 use Rattle.fancy_syntax.proofs.grammar.plain.plain.Goals as goal
 
 pub returns-clause-plain : goal.returns-clause-plain

@@ -1,11 +1,11 @@
 use Rattle.std.proofs.Common.{◌≡◌, ◌+◌, ◌-◌, sym, ◌∙◌, arith}
 use Rattle.std.proofs.lemmas.Result.{err_from_is_err_and}
 use Rattle.fancy_syntax.specs.Parsed.{state}
-use Rattle.fancy_syntax.specs.Quantified.{quant, adjacent, max_adjacent}
-use Rattle.fancy_syntax.specs.State.{done, fault}
+use Rattle.fancy_grammar.specs.Quantified.{quant, adjacent, max_adjacent}
+use Rattle.fancy_grammar.specs.State.{done, fault}
 use Rattle.fancy_syntax.specs.View.{view}
-use Rattle.fancy_syntax.proofs.OutcomeLemmas.{Fails-map}
-use Rattle.fancy_syntax.proofs.QuantLemmas.{adjacent_fault, adjacent_ends, adjacent_stops, adjacent_counts, some_may_count, unmoved_is, moved_is, from_start}
+use Rattle.fancy_grammar.proofs.OutcomeLemmas.{Fails-map}
+use Rattle.fancy_grammar.proofs.QuantLemmas.{adjacent_fault, adjacent_ends, adjacent_stops, adjacent_counts, some_may_count, unmoved_is, moved_is, from_start}
 use Rattle.fancy_syntax.proofs.grammar.quantified.quantify_adjacent.Goals as goal
 
 pub returns-in_err-quantify_once-clause-value : goal.returns-in_err-quantify_once-clause-value

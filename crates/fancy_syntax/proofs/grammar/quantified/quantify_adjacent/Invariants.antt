@@ -1,5 +1,5 @@
 use Rattle.std.proofs.Common.{◌≡◌, ◌≤◌, ◌<◌, length}
-use Rattle.fancy_syntax.specs.Quantified as spec
+use Rattle.fancy_grammar.specs.Quantified as spec
 use Rattle.fancy_syntax.specs.Parsed.{state}
 use Rattle.fancy_syntax.specs.View.{view}
 use Rattle.fancy_syntax.proofs.grammar.quantified.quantify_adjacent.Given as goal

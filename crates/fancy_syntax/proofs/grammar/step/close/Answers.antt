@@ -1,11 +1,11 @@
 use Rattle.std.proofs.Common.{◌≡◌, sym, ◌∙◌}
 use Rattle.std.proofs.lemmas.Result.{err_from_is_err_and}
-use Rattle.fancy_syntax.specs.Grammar.{Piece}
+use Rattle.fancy_grammar.specs.Grammar.{Piece}
 use Rattle.fancy_syntax.specs.Machine.{open_of, ended_part}
 use Rattle.fancy_syntax.specs.Parsed.{state}
 use Rattle.fancy_syntax.specs.View.{view}
 use Rattle.fancy_syntax.proofs.MachineLemmas.{ended_fault, condition_ended, closes}
-use Rattle.fancy_syntax.proofs.OutcomeLemmas.{Fails-map}
+use Rattle.fancy_grammar.proofs.OutcomeLemmas.{Fails-map}
 use Rattle.fancy_syntax.proofs.grammar.step.close.Goals as goal
 
 pub returns-in_err-atom-clause-value : goal.returns-in_err-atom-clause-value

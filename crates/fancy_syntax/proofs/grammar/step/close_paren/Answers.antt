@@ -1,9 +1,9 @@
 use Rattle.std.proofs.Common.{◌≡◌}
-use Rattle.fancy_syntax.specs.Grammar.{closed}
+use Rattle.fancy_grammar.specs.Grammar.{closed}
 use Rattle.fancy_syntax.specs.Parsed.{state}
-use Rattle.fancy_syntax.proofs.FaultLemmas.{says_close_paren}
+use Rattle.fancy_grammar.proofs.FaultLemmas.{says_close_paren}
 use Rattle.fancy_syntax.proofs.MachineLemmas.{closed_other}
-use Rattle.fancy_syntax.proofs.OutcomeLemmas.{Fails-is}
+use Rattle.fancy_grammar.proofs.OutcomeLemmas.{Fails-is}
 use Rattle.fancy_syntax.proofs.grammar.step.close_paren.Goals as goal
 
 pub returns-then-c-ne41-clause-value : goal.returns-then-c-ne41-clause-value

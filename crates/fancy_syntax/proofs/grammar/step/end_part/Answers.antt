@@ -1,12 +1,12 @@
 use Rattle.std.proofs.Common.{◌≡◌, refl, sym, ◌∙◌}
 use Rattle.std.proofs.lemmas.Result.{err_from_is_err_and}
-use Rattle.fancy_syntax.specs.Grammar.{closed}
+use Rattle.fancy_grammar.specs.Grammar.{closed}
 use Rattle.fancy_syntax.specs.Machine.{open_of, ended_part, node_of_part}
 use Rattle.fancy_syntax.specs.Parsed.{state}
 use Rattle.fancy_syntax.specs.View.{view}
-use Rattle.fancy_syntax.proofs.FaultLemmas.{says_no_body}
+use Rattle.fancy_grammar.proofs.FaultLemmas.{says_no_body}
 use Rattle.fancy_syntax.proofs.MachineLemmas.{ended_without_body, ended_unclosed}
-use Rattle.fancy_syntax.proofs.OutcomeLemmas.{Fails-is, Fails-map}
+use Rattle.fancy_grammar.proofs.OutcomeLemmas.{Fails-is, Fails-map}
 use Rattle.fancy_syntax.proofs.grammar.step.end_part.Goals as goal
 
 pub returns-then-lacks_body-clause-value : goal.returns-then-lacks_body-clause-value

@@ -1,13 +1,13 @@
 use Rattle.std.proofs.Common.{◌≡◌, Ok, Err, refl}
 use Rattle.std.proofs.lemmas.Result.{err_from_is_err_and}
-use Rattle.fancy_syntax.specs.Ahead.{ahead, leaf}
-use Rattle.fancy_syntax.specs.Grammar.{Piece, piece, atom, a_nothing, a_leaf}
+use Rattle.fancy_grammar.specs.Ahead.{ahead, leaf}
+use Rattle.fancy_grammar.specs.Grammar.{Piece, piece, atom, a_nothing, a_leaf}
 use Rattle.fancy_syntax.specs.Machine.{a_group, a_condition, a_body, a_branch}
 use Rattle.fancy_syntax.specs.Parsed.{state}
 use Rattle.fancy_syntax.specs.declared.grammar.step.Step.TheVariants as step
-use Rattle.fancy_syntax.proofs.AheadLemmas.{nothing_shorter}
+use Rattle.fancy_syntax.proofs.StepLemmas.{nothing_shorter}
 use Rattle.fancy_syntax.proofs.MachineLemmas.{steps_piece, steps_layout}
-use Rattle.fancy_syntax.proofs.OutcomeLemmas.{Fails-map}
+use Rattle.fancy_grammar.proofs.OutcomeLemmas.{Fails-map}
 use Rattle.fancy_syntax.proofs.TreeLemmas.{view_Empty}
 use Rattle.fancy_syntax.proofs.grammar.step.read_step.Goals as goal
 

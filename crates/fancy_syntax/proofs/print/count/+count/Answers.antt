@@ -1,6 +1,6 @@
 use Rattle.std.proofs.Common.{◌≡◌, ◌++◌, ◌+◌, append_assoc, [], nat_lt, rules, codes, sym, ◌∙◌, arith}
 use Rattle.fancy_parts.proofs.RoomLemmas.{counting_as, counting_later, counting_ends}
-use Rattle.fancy_syntax.specs.Printed.{printed, printed_all}
+use Rattle.fancy_grammar.specs.Printed.{printed, printed_all}
 use Rattle.fancy_syntax.specs.View.{view}
 use Rattle.fancy_syntax.specs.declared.expr.Expr.{the_lemmas}
 use Rattle.fancy_syntax.proofs.PrintLemmas.{asked, left, branches, bytes_none}

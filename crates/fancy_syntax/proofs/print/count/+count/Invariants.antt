@@ -1,5 +1,5 @@
 use Rattle.fancy_parts.proofs.RoomLemmas.{Counting}
-use Rattle.fancy_syntax.specs.Printed.{printed_all}
+use Rattle.fancy_grammar.specs.Printed.{printed_all}
 use Rattle.fancy_syntax.proofs.PrintLemmas.{left, branches}
 use Rattle.fancy_syntax.proofs.print.count.+count.Given as goal
 

@@ -1,7 +1,7 @@
 use Rattle.std.proofs.Common.{◌≡◌, false, refl, rules}
 use Rattle.std.specs.Str.{IsUtf8}
 use Rattle.fancy_lex.specs.Characters.{◌∈◌}
-use Rattle.fancy_syntax.proofs.DelegateLemmas.{none_of_nothing, none_of_others, one_shorter}
+use Rattle.fancy_grammar.proofs.DelegateLemmas.{none_of_nothing, none_of_others, one_shorter}
 use Rattle.fancy_syntax.proofs.print.delegate.is_whole.Goals as goal
 
 pub returns-in_default : goal.returns-in_default

@@ -1,6 +1,6 @@
 use Rattle.std.proofs.Common.{chars}
 use Rattle.fancy_lex.specs.Class.{class}
-use Rattle.fancy_syntax.proofs.DelegateLemmas.{class_read, class_faulty, failed}
+use Rattle.fancy_grammar.proofs.DelegateLemmas.{class_read, class_faulty, failed}
 use Rattle.fancy_syntax.proofs.print.delegate.is_whole_class.Goals as goal
 
 pub returns-in-Ok : goal.returns-in-Ok

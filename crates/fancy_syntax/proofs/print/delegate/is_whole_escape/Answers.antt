@@ -1,6 +1,6 @@
 use Rattle.std.proofs.Common.{false, chars}
 use Rattle.fancy_lex.specs.Escape.{escape}
-use Rattle.fancy_syntax.proofs.DelegateLemmas.{escape_read, escape_other, escape_faulty, failed}
+use Rattle.fancy_grammar.proofs.DelegateLemmas.{escape_read, escape_other, escape_faulty, failed}
 use Rattle.fancy_syntax.proofs.print.delegate.is_whole_escape.Goals as goal
 
 pub returns-then-is_class : goal.returns-then-is_class

@@ -1,11 +1,12 @@
 use Rattle.std.proofs.Common.{◌≡◌, false, rules, sym, ◌∙◌}
-use Rattle.fancy_syntax.specs.Join.{is_empty}
-use Rattle.fancy_syntax.specs.Normal.{normal}
+use Rattle.fancy_grammar.specs.Join.{is_empty}
+use Rattle.fancy_grammar.specs.Normal.{normal}
 use Rattle.fancy_syntax.specs.View.{view}
 use Rattle.fancy_syntax.proofs.PrintLemmas.{left}
-use Rattle.fancy_syntax.proofs.PrintableLemmas.{items_join_empty, empties_stop, empties_end, alt_several}
+use Rattle.fancy_grammar.proofs.PrintableLemmas.{items_join_empty}
+use Rattle.fancy_syntax.proofs.EmptyLemmas.{empties_stop, empties_end, alt_several}
 use Rattle.fancy_syntax.specs.declared.expr.Expr.{the_lemmas}
-use Rattle.fancy_syntax.proofs.DelegateLemmas.{may_be_blank, solid_variant}
+use Rattle.fancy_grammar.proofs.DelegateLemmas.{may_be_blank, solid_variant}
 use Rattle.fancy_syntax.proofs.print.printable.+normal.Goals as goal
 
 pub are_empty_in_normal_form-returns-then-not-is_empty_in_normal_form : goal.are_empty_in_normal_form-returns-then-not-is_empty_in_normal_form

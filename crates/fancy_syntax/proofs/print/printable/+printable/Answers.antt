@@ -1,12 +1,12 @@
 use Rattle.std.proofs.Common.{◌≡◌, false, ap, sym, is_some, IfOk, string_bytes, rules, ◌∙◌}
 use Rattle.std.proofs.lemmas.Str.{scalars-chars, IsUtf8-string_bytes}
 use Rattle.fancy_lex.specs.Text.{text_of}
-use Rattle.fancy_syntax.specs.Normal.{bare, class_of}
-use Rattle.fancy_syntax.specs.Printable.{printable}
-use Rattle.fancy_syntax.specs.Tree.{literal, delegate}
+use Rattle.fancy_grammar.specs.Normal.{bare, class_of}
+use Rattle.fancy_grammar.specs.Printable.{printable}
+use Rattle.fancy_grammar.specs.Tree.{literal, delegate}
 use Rattle.fancy_syntax.specs.View.{view}
 use Rattle.fancy_syntax.specs.declared.expr.Expr.{the_lemmas}
-use Rattle.fancy_syntax.proofs.DelegateLemmas.{delegate_told}
+use Rattle.fancy_grammar.proofs.DelegateLemmas.{delegate_told}
 use Rattle.fancy_syntax.proofs.print.printable.+printable.Goals as goal
 
 pub is_printable-returns-in-Literal : goal.is_printable-returns-in-Literal

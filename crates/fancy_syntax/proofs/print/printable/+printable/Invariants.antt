@@ -1,5 +1,5 @@
 use Rattle.std.proofs.Common.{◌≡◌}
-use Rattle.fancy_syntax.specs.Printable.{all_printable}
+use Rattle.fancy_grammar.specs.Printable.{all_printable}
 use Rattle.fancy_syntax.proofs.PrintLemmas.{left}
 use Rattle.fancy_syntax.proofs.print.printable.+printable.Given as goal
 

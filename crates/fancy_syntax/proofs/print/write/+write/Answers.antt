@@ -1,6 +1,6 @@
 use Rattle.std.proofs.Common.{◌≡◌, ◌++◌, ◌+◌, [], nat_lt, rules, codes}
 use Rattle.fancy_parts.proofs.RoomLemmas.{writing_as, writing_room, writing_later, writing_ends}
-use Rattle.fancy_syntax.specs.Printed.{printed, printed_all}
+use Rattle.fancy_grammar.specs.Printed.{printed, printed_all}
 use Rattle.fancy_syntax.specs.View.{view}
 use Rattle.fancy_syntax.specs.declared.expr.Expr.{the_lemmas}
 use Rattle.fancy_syntax.proofs.PrintLemmas.{asked, left, branches, all_step, all_end, branches_step, branches_end, bar_room, no_text_written}

@@ -1,5 +1,5 @@
 use Rattle.std.proofs.Common.{arith, ap, length}
-use Rattle.fancy_syntax.proofs.BackslashLemmas.{behind_place, behind_end}
+use Rattle.fancy_grammar.proofs.BackslashLemmas.{behind_place, behind_end}
 use Rattle.fancy_syntax.proofs.resolve.notes.is_behind_backslash.Goals as goal
 
 pub returns-then-before-bytes : goal.returns-then-before-bytes

@@ -1,9 +1,9 @@
 use Rattle.std.proofs.Common.{arith, rules, ◌≡◌, ◌+◌, ◌++◌, get_or, length, sym, ap, ◌∙◌, ◌<◌, ◌≢◌, length-set}
 use Rattle.std.proofs.Common.{get_or-set_other, refl}
-use Rattle.fancy_syntax.specs.Items.{items}
+use Rattle.fancy_grammar.specs.Items.{items}
 use Rattle.fancy_syntax.specs.Notes.{known_of, progress_of}
 use Rattle.fancy_syntax.specs.View.{view, views}
-use Rattle.fancy_syntax.specs.Walk.{noted}
+use Rattle.fancy_grammar.specs.Walk.{noted}
 use Rattle.fancy_syntax.specs.declared.expr.Expr.{Expr, the_lemmas}
 use Rattle.fancy_syntax.proofs.PartLemmas.{two_parts, three_lent, two_count, three_count, two_noted, three_noted}
 use Rattle.fancy_syntax.proofs.PartLemmas.{third_noted}

@@ -1,8 +1,8 @@
 use Rattle.std.proofs.Common.{◌≡◌, ◌+◌, ◌≤◌, length, take, drop}
-use Rattle.fancy_syntax.specs.Items.{openings_in}
+use Rattle.fancy_grammar.specs.Items.{openings_in}
 use Rattle.fancy_syntax.specs.Notes.{known_of, progress_of}
 use Rattle.fancy_syntax.specs.View.{views}
-use Rattle.fancy_syntax.specs.Walk.{noted}
+use Rattle.fancy_grammar.specs.Walk.{noted}
 use Rattle.fancy_syntax.proofs.WalkLemmas.{rest, rebuilt_list}
 use Rattle.fancy_syntax.proofs.resolve.rewrite.+rewrite.Given as goal
 

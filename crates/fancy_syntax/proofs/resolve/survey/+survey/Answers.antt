@@ -1,8 +1,8 @@
 use Rattle.std.proofs.Common.{arith, rules, ◌≡◌, ◌+◌, ◌++◌, ap, sym, ◌∙◌, refl}
 use Rattle.fancy_parts.specs.Groups.{groups_of}
-use Rattle.fancy_syntax.specs.Items.{items}
+use Rattle.fancy_grammar.specs.Items.{items}
 use Rattle.fancy_syntax.specs.View.{view}
-use Rattle.fancy_syntax.specs.Walk.{found}
+use Rattle.fancy_grammar.specs.Walk.{found}
 use Rattle.fancy_syntax.specs.declared.expr.Expr.{the_lemmas}
 use Rattle.fancy_syntax.proofs.PartLemmas.{two_parts, three_parts, two_count, three_count, two_found, three_found}
 use Rattle.fancy_syntax.proofs.PartLemmas.{third_found}

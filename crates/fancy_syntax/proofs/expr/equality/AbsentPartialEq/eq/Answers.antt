@@ -1,5 +1,5 @@
 use Rattle.std.proofs.lemmas.Bool.Decides.{Decides-at}
-use Rattle.fancy_syntax.specs.SameLaws.{same_absent-Decides}
+use Rattle.fancy_grammar.specs.SameLaws.{same_absent-Decides}
 use Rattle.fancy_syntax.proofs.expr.equality.AbsentPartialEq.eq.Goals as goal
 
 pub returns-clause-decides : goal.returns-clause-decides

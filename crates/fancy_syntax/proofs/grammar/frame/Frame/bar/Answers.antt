@@ -2,9 +2,9 @@ use Rattle.std.proofs.Common.{ap}
 use Rattle.fancy_lex.specs.Fault.{general_parse_error}
 use Rattle.fancy_lex.specs.FaultTable.{close_paren_expected}
 use Rattle.fancy_syntax.specs.Machine.{IsFaultOfBar, open_of}
-use Rattle.fancy_syntax.specs.State.{fault}
-use Rattle.fancy_syntax.proofs.FaultLemmas.{says_close_paren}
-use Rattle.fancy_syntax.proofs.OutcomeLemmas.{Fails-is}
+use Rattle.fancy_grammar.specs.State.{fault}
+use Rattle.fancy_grammar.proofs.FaultLemmas.{says_close_paren}
+use Rattle.fancy_grammar.proofs.OutcomeLemmas.{Fails-is}
 use Rattle.fancy_syntax.proofs.grammar.frame.Frame.bar.Goals as goal
 
 pub returns-in-Second-clause-fault : goal.returns-in-Second-clause-fault

@@ -1,0 +1,192 @@
+-- A piece that starts where a branch does not end reads a character.
+use Rattle.std.proofs.Common.{◌≡◌, ◌≢◌, ℕ, ◌+◌, ◌-◌, Bool, true, false, ◌||◌, ◌&&◌, if◌then◌else◌, ◌⊎◌, inl, inr, [], ◌∷◌, ◌==◌, Option, Some, None, nat_le, nat_lt, codes, refl, sym, ◌∙◌, true≢false, tests, rules, ap, arith}
+use Rattle.std.proofs.lemmas.Bool.Decides.{nat_tests}
+use Prim.Native.Char.{code}
+use Rattle.fancy_lex.specs.Fault.{target_not_repeatable}
+use Rattle.fancy_lex.specs.FaultTable.{group_too_deep}
+use Rattle.fancy_lex.specs.Layout.{layout, layout_from, Skipped, rest, fault as open_comment}
+use Rattle.fancy_lex.specs.Reading.{Reading, gives, fails, choose}
+use Rattle.fancy_lex.specs.Referred.{Reference}
+use Rattle.fancy_lex.specs.Text.{Text, bytes, place_of, strip_word}
+use Rattle.fancy_parts.specs.FlagLetters.{Letters, setting, scope as scoped}
+use Rattle.fancy_parts.specs.HeadReference.{begins_target, condition_target}
+use Rattle.fancy_parts.specs.Quantifier.{counts, as_mark, most}
+use Rattle.fancy_parts.specs.declared.counts.Counts.{Counts}
+use Rattle.fancy_grammar.specs.Ahead.{Ahead, nothing, leaf, opens, condition, body, ahead, ahead_of, head_ahead, question_ahead, python_ahead, less_ahead, absent_ahead, conditional_ahead, condition_ahead, verb_condition, named_ahead, target_ahead, flags_ahead, behind_layout, faulty, leaf_of, is_before_nothing, ends, skipped, max_depth}
+use Rattle.fancy_grammar.specs.Head.{Head, define}
+use Rattle.fancy_grammar.specs.Quantified.{quant, quants, adjacent, max_adjacent}
+use Rattle.fancy_grammar.specs.State.{State, at, Outcome, done, fault, and_then}
+use Rattle.fancy_grammar.specs.Tree.{Tree, empty}
+use Rattle.fancy_grammar.specs.Verb.{verb_at}
+
+-- ---- a parenthesis opens something
+
+-- something stands ahead
+abbrev IsThere : Ahead → Type 0
+IsThere k = k ≡ nothing → ⊥
+
+leaf_there : (o : Outcome Tree) → IsThere (leaf o)
+leaf_there o e = cc
+
+opens_there : (h : Head) (s : State) → IsThere (opens h s)
+opens_there h s e = cc
+
+flags_there : (o : Reading Letters) → IsThere (flags_ahead o)
+flags_there (gives (setting f) u) e = cc
+flags_there (gives (scoped f) u) e = cc
+flags_there (fails k) e = cc
+
+named_there : (s : State) (o : Reading Text) → IsThere (named_ahead s o)
+named_there s (gives w u) e = cc
+named_there s (fails k) e = cc
+
+target_there : (s : State) (o : Reading Reference) → IsThere (target_ahead s o)
+target_there s (gives r u) e = cc
+target_there s (fails k) e = cc
+
+either_there : (b : Bool) {x y : Ahead} → IsThere x → IsThere y → IsThere (if b then x else y)
+either_there true f g = f
+either_there false f g = g
+
+choice_there : {A : Type 0} (o : Option A) (f : A → Ahead) (x : Ahead) → ((a : A) → IsThere (f a)) → IsThere x → IsThere (choose o f x)
+choice_there (Some a) f x g h = g a
+choice_there None f x g h = h
+
+condition_there : (s : State) → IsThere (condition s)
+condition_there s e = cc
+
+body_there : (c : Tree) (s : State) → IsThere (body c s)
+body_there c s e = cc
+
+conditional_there : (n : ℕ) (s : State) (t : Text) → IsThere (conditional_ahead n s t)
+conditional_there n s [] = leaf_there _
+conditional_there n s (c ∷ t) =
+    choice_there (strip_word (codes "DEFINE)") (c ∷ t)) _ _ (λ u. opens_there _ _)
+    (either_there (begins_target (c ∷ t)) (target_there s _) (either_there (c == code "*") (choice_there (verb_at t) _ _ (λ p. body_there _ _) (leaf_there _)) (condition_there _)))
+
+absent_there : (n : ℕ) (s : State) (t : Text) → IsThere (absent_ahead n s t)
+absent_there n s [] = leaf_there _
+absent_there n s (c ∷ t) = either_there (c == code "|") (λ e. cc) (opens_there _ _)
+
+less_there : (n : ℕ) (s : State) (m t : Text) → IsThere (less_ahead n s m t)
+less_there n s m [] = named_there s _
+less_there n s m (c ∷ t) = either_there (c == code "=") (opens_there _ _) (either_there (c == code "!") (opens_there _ _) (named_there s _))
+
+python_there : (n : ℕ) (s : State) (m t : Text) → IsThere (python_ahead n s m t)
+python_there n s m [] = flags_there _
+python_there n s m (c ∷ t) =
+    either_there (c == code "<") (named_there s _) (either_there (c == code "=") (leaf_there _) (either_there (c == code ">") (leaf_there _) (flags_there _)))
+
+question_there : (n : ℕ) (s : State) (t : Text) → IsThere (question_ahead n s t)
+question_there n s [] = flags_there _
+question_there n s (c ∷ t) =
+    either_there (c == code "=") (opens_there _ _) (either_there (c == code "!") (opens_there _ _) (either_there (c == code "<") (less_there n s (c ∷ t) t)
+    (either_there (c == code "'") (named_there s _) (either_there (c == code "P") (python_there n s (c ∷ t) t) (either_there (c == code "~") (absent_there n s t)
+    (either_there (c == code ">") (opens_there _ _) (either_there (c == code "(") (conditional_there n s t) (flags_there _))))))))
+
+head_there : (n : ℕ) (s : State) (t : Text) → IsThere (head_ahead n s t)
+head_there n s [] = opens_there _ _
+head_there n s (c ∷ t) =
+    either_there (c == code "?") (question_there n s t)
+    (either_there (c == code "*") (choice_there (verb_at t) _ _ (λ p. leaf_there _) (leaf_there _)) (opens_there _ _))
+
+behind_there : (n : ℕ) (s : State) (k : Skipped) → IsThere (behind_layout n s k)
+behind_there n s (rest u) = head_there n s u
+behind_there n s (open_comment p) = leaf_there _
+
+deep_there : (n d c : ℕ) (s : State) (t : Text) →
+    IsThere (if nat_le max_depth (d + 1) then faulty (group_too_deep n (c ∷ t)) else behind_layout n s (skipped n (at s t)))
+deep_there n d c s t = either_there (nat_le max_depth (d + 1)) (leaf_there _) (behind_there n s (skipped n (at s t)))
+
+before_nothing : (n d : ℕ) (s : State) (c : ℕ) (t : Text) → ahead_of n d s (c ∷ t) ≡ nothing → is_before_nothing c ≡ true
+before_nothing n d s c t e = by_tests (c == code "(") (is_before_nothing c) _ (deep_there n d c s t) e
+  where
+    by_tests : (p b : Bool) (x : Ahead) → (x ≡ nothing → ⊥) → (if p then x else if b then nothing else leaf (leaf_of n s c t)) ≡ nothing → b ≡ true
+    by_tests true b x f e = absurd (f e)
+    by_tests false true x f e = refl
+    by_tests false false x f e = absurd (leaf_there _ e)
+
+-- ---- the heads of conditionals
+
+pub defines : (n : ℕ) (s : State) (c : ℕ) (t u : Text) → s.rest ≡ c ∷ t → strip_word (codes "DEFINE)") s.rest ≡ Some u →
+    conditional_ahead n s s.rest ≡ opens define (at s u)
+defines n s c t u e h = ap (conditional_ahead n s) e ∙ ap (λ o. choose o (λ v. opens define (at s v)) (condition_ahead n s c t)) (ap (strip_word (codes "DEFINE)")) (sym e) ∙ h)
+
+pub target_stands : (n : ℕ) (s : State) (c : ℕ) (t : Text) → s.rest ≡ c ∷ t → strip_word (codes "DEFINE)") s.rest ≡ None → begins_target s.rest ≡ true →
+    conditional_ahead n s s.rest ≡ target_ahead s (condition_target n s.rest)
+target_stands n s c t e h i =
+    ap (conditional_ahead n s) e ∙ ap (λ o. choose o (λ v. opens define (at s v)) (condition_ahead n s c t)) (ap (strip_word (codes "DEFINE)")) (sym e) ∙ h)
+    ∙ there (begins_target (c ∷ t)) _ (ap begins_target (sym e) ∙ i) ∙ ap (λ u. target_ahead s (condition_target n u)) (sym e)
+  where
+    there : (b : Bool) (x : Ahead) → b ≡ true → (if b then target_ahead s (condition_target n (c ∷ t)) else x) ≡ target_ahead s (condition_target n (c ∷ t))
+    there true x i = refl
+    there false x i = absurd (true≢false (sym i))
+
+pub no_condition_ahead : (n : ℕ) (s : State) (c : ℕ) (t : Text) → s.rest ≡ c ∷ t → strip_word (codes "DEFINE)") s.rest ≡ None → begins_target s.rest ≡ false →
+    c ≢ code "*" → conditional_ahead n s s.rest ≡ condition s
+no_condition_ahead n s c t e h i j =
+    ap (conditional_ahead n s) e ∙ ap (λ o. choose o (λ v. opens define (at s v)) (condition_ahead n s c t)) (ap (strip_word (codes "DEFINE)")) (sym e) ∙ h)
+    ∙ other (begins_target (c ∷ t)) (c == code "*") (ap begins_target (sym e) ∙ i) (search (tests, rules)) ∙ ap (λ x. condition (at s x)) (sym e)
+  where
+    other : (b d : Bool) → b ≡ false → d ≡ false → (if b then target_ahead s (condition_target n (c ∷ t)) else if d then verb_condition n s c t else condition (at s (c ∷ t))) ≡ condition (at s (c ∷ t))
+    other true d i j = absurd (true≢false i)
+    other false true i j = absurd (true≢false j)
+    other false false i j = refl
+
+-- ---- a mark begins a quantifier, before which no layout stands
+
+abbrev IsMark : ℕ → Type 0
+IsMark c = (c ≡ code "+") ⊎ ((c ≡ code "*") ⊎ (c ≡ code "?"))
+
+mark_is : (c : ℕ) (t : Text) → is_before_nothing c ≡ true → ends (c ∷ t) ≡ false → IsMark c
+mark_is c t h k = by_tests (c == code "+") (c == code "*") (c == code "?") (c == code "|") (c == code ")") refl refl refl h k
+  where
+    by_tests : (p s q b r : Bool) → (c == code "+") ≡ p → (c == code "*") ≡ s → (c == code "?") ≡ q →
+        (p || (s || (q || (b || r)))) ≡ true → (b || r) ≡ false → IsMark c
+    by_tests true s q b r e f g h k = inl (search (tests, rules))
+    by_tests false true q b r e f g h k = inr (inl (search (tests, rules)))
+    by_tests false false true b r e f g h k = inr (inr (search (tests, rules)))
+    by_tests false false false b r e f g h k = absurd (true≢false (sym h ∙ k))
+
+no_layout : (n : ℕ) (x : Bool) (c : ℕ) (t : Text) → IsMark c → layout n x (c ∷ t) ≡ rest (c ∷ t)
+unfolding layout_from
+no_layout n true c t (inl e) = rw e refl
+no_layout n false c t (inl e) = rw e refl
+no_layout n true c t (inr (inl e)) = rw e refl
+no_layout n false c t (inr (inl e)) = rw e refl
+no_layout n true c t (inr (inr e)) = rw e refl
+no_layout n false c t (inr (inr e)) = rw e refl
+
+mark_counts : (x : Bool) (c : ℕ) (t : Text) → IsMark c → (q : Counts) × (◌≡◌ {A = Option (Counts × Text)} (counts x (c ∷ t)) (Some (q, t)))
+unfolding counts
+mark_counts x c t (inl e) = (as_mark 1 most, rw e refl)
+mark_counts x c t (inr (inl e)) = (as_mark 0 most, rw e refl)
+mark_counts x c t (inr (inr e)) = (as_mark 0 1, rw e refl)
+
+-- a mark takes one byte
+mark_bytes : (c : ℕ) (t : Text) → IsMark c → nat_lt (bytes t + 1) (bytes (c ∷ t)) ≡ false
+unfolding bytes
+mark_bytes c t (inl e) = rw e (grind (arith, nat_tests))
+mark_bytes c t (inr (inl e)) = rw e (grind (arith, nat_tests))
+mark_bytes c t (inr (inr e)) = rw e (grind (arith, nat_tests))
+
+and_false : (b c : Bool) → c ≡ false → (b && (true && c)) ≡ false
+and_false true c e = e
+and_false false c e = refl
+
+-- Empty under a mark with which the piece begins is a fault
+mark_fault : (n : ℕ) (s : State) (c : ℕ) (t : Text) → IsMark c →
+    quant n (bytes (c ∷ t)) empty (at s (c ∷ t)) ≡ fault target_not_repeatable (place_of n t - 1)
+unfolding quant
+mark_fault n s c t m =
+    let (q, e) = mark_counts s.flags.ignore_space c t m in
+    let kept = and_false s.flags.oniguruma_mode _ (mark_bytes c t m) in
+    rw (no_layout n s.flags.ignore_space c t m, e, kept) refl
+
+pub nothing_repeats : (n d : ℕ) (s : State) (u : Text) → ahead n d (at s u) ≡ nothing → ends u ≡ false →
+    (p : ℕ) × (quants n d (bytes u) empty (at s u) ≡ fault target_not_repeatable p)
+unfolding ahead
+nothing_repeats n d s [] e h = absurd (true≢false h)
+nothing_repeats n d s (c ∷ t) e h =
+    let f = mark_fault n s c t (mark_is c t (before_nothing n d (at s (c ∷ t)) c t e) h) in
+    (_, ap (λ o. and_then o (λ b z. if z.flags.oniguruma_mode then adjacent max_adjacent n d b z else done b z)) f)

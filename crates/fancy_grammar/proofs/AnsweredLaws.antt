@@ -1,0 +1,387 @@
+-- What is true of every answered tree, by the nodes of the raw tree that it was resolved from.
+use Rattle.std.proofs.Common.{◌≡◌, ℕ, ℤ, suc, ◌≤◌, ◌==◌, Bool, true, false, ◌||◌, if◌then◌else◌, List, [], ◌∷◌, length, Option, Some, None, filter, filter_map, map, nat_le, nat_lt, refl, sym, ap, ◌∙◌, subst}
+use Rattle.std.specs.List.{AllByRecursion, list_any}
+use Rattle.std.proofs.lemmas.List.{length-map}
+use Rattle.std.specs.Prelude.{find, slice_get}
+use Rattle.fancy_lex.specs.Fault.{Fault, invalid_group_name_backref}
+use Rattle.fancy_lex.specs.Target.{Target, by_number, by_name, relative}
+use Rattle.fancy_lex.specs.Text.{Text}
+use Rattle.fancy_lex.specs.declared.flags.Flags.{Flags}
+use Rattle.fancy_parts.specs.Meaning.{Meaning, number, unresolved, faulty, means, meaning, back_to, last_of, group_or_none, at_distance, Role, back_reference, call, condition, Reference, fault_or, first_fault}
+use Rattle.fancy_parts.specs.Ranks.{Opening, is_counted, numbers, opened_before, only_named, counted_in, counted}
+use Rattle.fancy_grammar.specs.Answer.{IsTreeOf}
+use Rattle.fancy_grammar.specs.Answered.{IsAnsweredNode, IsAnswered, AreNamed, is_group, groups, is_call_node, has_call, group_referred, groups_referred}
+use Rattle.fancy_grammar.specs.Items.{openings_in, references_in, openings, references}
+use Rattle.fancy_grammar.specs.Marks.{Marks, marks, is_call, back_number, back_numbers, ascending}
+use Rattle.fancy_grammar.specs.Preorder.{preorder}
+use Rattle.fancy_grammar.specs.Resolved.{resolved_in, resolved_all, node_of}
+use Rattle.fancy_grammar.specs.Tree.{Tree, Trees, no_trees, more_trees, literal, literal_bytes, alt, group, backref, backref_at_level, backref_exists, subroutine_call, ast_node, ast_group, ast_backref, ast_call, ast_condition, list_of}
+use Rattle.fancy_parts.specs.Groups.{numbers_under}
+use Rattle.fancy_parts.proofs.NamedLaws.{under_named}
+use Rattle.fancy_grammar.proofs.NamedNumbers.{named_ascend, carries, number_carried}
+use Rattle.fancy_grammar.proofs.PreorderLaws.{kept, resolved_nodes, item_of, items_of_nodes}
+use Rattle.fancy_grammar.proofs.ReadLaws.{IsReadNode, IsRead, derived_read}
+
+-- ---- what a reference comes to
+
+-- a group is none of these
+backref_no_group : (m : Meaning) (t : Target) (casei : Bool) (level : Option ℤ) (place : ℕ) →
+    is_group (node_of m (ast_backref t casei level) place) ≡ false
+backref_no_group (number n) t casei None place = refl
+backref_no_group (number n) t casei (Some level) place = refl
+backref_no_group unresolved t casei level place = refl
+backref_no_group (faulty k) t casei level place = refl
+
+call_no_group : (m : Meaning) (t : Target) (place : ℕ) → is_group (node_of m (ast_call t) place) ≡ false
+call_no_group (number n) t place = refl
+call_no_group unresolved t place = refl
+call_no_group (faulty k) t place = refl
+
+condition_no_group : (m : Meaning) (t : Target) (level : Option ℤ) (place : ℕ) →
+    is_group (node_of m (ast_condition t level) place) ≡ false
+condition_no_group (number n) t level place = refl
+condition_no_group unresolved t level place = refl
+condition_no_group (faulty k) t level place = refl
+
+-- a call is one of these, and the others are none
+backref_no_call : (m : Meaning) (t : Target) (casei : Bool) (level : Option ℤ) (place : ℕ) →
+    is_call_node (node_of m (ast_backref t casei level) place) ≡ false
+backref_no_call (number n) t casei None place = refl
+backref_no_call (number n) t casei (Some level) place = refl
+backref_no_call unresolved t casei level place = refl
+backref_no_call (faulty k) t casei level place = refl
+
+call_is_call : (m : Meaning) (t : Target) (place : ℕ) → is_call_node (node_of m (ast_call t) place) ≡ true
+call_is_call (number n) t place = refl
+call_is_call unresolved t place = refl
+call_is_call (faulty k) t place = refl
+
+condition_no_call : (m : Meaning) (t : Target) (level : Option ℤ) (place : ℕ) →
+    is_call_node (node_of m (ast_condition t level) place) ≡ false
+condition_no_call (number n) t level place = refl
+condition_no_call unresolved t level place = refl
+condition_no_call (faulty k) t level place = refl
+
+-- the groups that they refer to
+backref_refers : (m : Meaning) (t : Target) (casei : Bool) (level : Option ℤ) (place : ℕ) →
+    group_referred (node_of m (ast_backref t casei level) place) ≡ back_number back_reference m
+backref_refers (number n) t casei None place = refl
+backref_refers (number n) t casei (Some level) place = refl
+backref_refers unresolved t casei level place = refl
+backref_refers (faulty k) t casei level place = refl
+
+call_refers : (m : Meaning) (t : Target) (place : ℕ) → group_referred (node_of m (ast_call t) place) ≡ back_number call m
+call_refers (number n) t place = refl
+call_refers unresolved t place = refl
+call_refers (faulty k) t place = refl
+
+condition_refers : (m : Meaning) (t : Target) (level : Option ℤ) (place : ℕ) →
+    group_referred (node_of m (ast_condition t level) place) ≡ back_number condition m
+condition_refers (number n) t level place = refl
+condition_refers unresolved t level place = refl
+condition_refers (faulty k) t level place = refl
+
+-- where there is no fault, one behind has none
+none_behind : (m : Meaning) (p : ℕ) (o : Option Fault) → fault_or m p o ≡ None → o ≡ None
+none_behind (number n) p o e = e
+none_behind unresolved p o e = e
+none_behind (faulty k) p o e = absurd cc
+
+-- a back reference and a condition mean a number, or are faults
+back_to_resolved : (c : ℕ) (name : Text) (o : Option ℕ) → back_to c name o ≡ unresolved → ⊥
+back_to_resolved c name None e = cc
+back_to_resolved c name (Some n) e = by_test (nat_le n c) e
+  where
+    by_test : (b : Bool) → (if b then number n else faulty (invalid_group_name_backref name)) ≡ unresolved → ⊥
+    by_test true e = cc
+    by_test false e = cc
+
+group_or_fault : (o : Option ℕ) → group_or_none back_reference o ≡ unresolved → ⊥
+group_or_fault None e = cc
+group_or_fault (Some n) e = cc
+
+condition_or_fault : (o : Option ℕ) → group_or_none condition o ≡ unresolved → ⊥
+condition_or_fault None e = cc
+condition_or_fault (Some n) e = cc
+
+back_reference_resolved : (u : Text → List ℕ) (c : ℕ) (t : Target) → means u c back_reference t ≡ unresolved → ⊥
+back_reference_resolved u c (by_number n) e = cc
+back_reference_resolved u c (by_name w) e = back_to_resolved c w (last_of (u w)) e
+back_reference_resolved u c (relative z) e = group_or_fault (at_distance c z) e
+
+condition_resolved : (u : Text → List ℕ) (c : ℕ) (t : Target) → means u c condition t ≡ unresolved → ⊥
+condition_resolved u c (by_number n) e = cc
+condition_resolved u c (by_name w) e = condition_or_fault (last_of (u w)) e
+condition_resolved u c (relative z) e = condition_or_fault (at_distance c z) e
+
+backref_answered : (m : Meaning) (t : Target) (casei : Bool) (level : Option ℤ) (place : ℕ) (o : Option Fault) →
+    (m ≡ unresolved → ⊥) → fault_or m place o ≡ None → IsAnsweredNode (node_of m (ast_backref t casei level) place)
+backref_answered (number n) t casei None place o u e = tt
+backref_answered (number n) t casei (Some level) place o u e = tt
+backref_answered unresolved t casei level place o u e = absurd (u refl)
+backref_answered (faulty k) t casei level place o u e = absurd cc
+
+call_answered : (m : Meaning) (t : Target) (place : ℕ) → IsAnsweredNode (node_of m (ast_call t) place)
+call_answered (number n) t place = tt
+call_answered unresolved t place = refl
+call_answered (faulty k) t place = refl
+
+condition_answered : (m : Meaning) (t : Target) (level : Option ℤ) (place : ℕ) (o : Option Fault) →
+    (m ≡ unresolved → ⊥) → fault_or m place o ≡ None → IsAnsweredNode (node_of m (ast_condition t level) place)
+condition_answered (number n) t level place o u e = tt
+condition_answered unresolved t level place o u e = absurd (u refl)
+condition_answered (faulty k) t level place o u e = absurd cc
+
+-- ---- the nodes that resolving keeps
+
+module _ (named : Bool) (g : List Opening) where
+  -- what a reference at the place means
+  abbrev means_here : Role → Target → ℕ → Meaning
+  means_here role t place = means (λ u. numbers u g) (opened_before g place) role t
+
+  -- a capturing group that has a number: its opening, and its inside
+  abbrev pub numbered_group : Tree → Option (Opening × Tree)
+  numbered_group (ast_node (ast_group name t) place) =
+      if is_counted named name then Some (record { place = place; name = name }, t) else None
+  numbered_group _ = None
+
+  abbrev pub numbered_groups : List Tree → List (Opening × Tree)
+  numbered_groups l = filter_map numbered_group l
+
+  -- their openings are those that have a number
+  openings_counted : (l : List Tree) →
+      map (λ q. q.0) (numbered_groups l) ≡ counted_in named (openings_in (filter_map item_of l))
+  openings_counted [] = refl
+  openings_counted (ast_node (ast_group name t) place ∷ l) = by_name (is_counted named name) refl (openings_counted l)
+    where
+      by_name : (b : Bool) → is_counted named name ≡ b →
+          map (λ q. q.0) (numbered_groups l) ≡ counted_in named (openings_in (filter_map item_of l)) →
+          map (λ q. q.0) (numbered_groups (ast_node (ast_group name t) place ∷ l))
+          ≡ counted_in named (openings_in (filter_map item_of (ast_node (ast_group name t) place ∷ l)))
+      by_name true e more = rw e (ap (λ l. record { place = place; name = name } ∷ l) more)
+      by_name false e more = rw e more
+  openings_counted (ast_node (ast_backref t casei level) place ∷ l) = openings_counted l
+  openings_counted (ast_node (ast_call t) place ∷ l) = openings_counted l
+  openings_counted (ast_node (ast_condition t level) place ∷ l) = openings_counted l
+  openings_counted (_ ∷ l) = openings_counted l
+
+  if_false : {A : Type 0} (x y : A) (b : Bool) → b ≡ false → (if b then x else y) ≡ y
+  if_false x y b e = ap (λ b. if b then x else y) e
+
+  -- the Groups are these with their insides resolved
+  groups_kept : (l : List Tree) → AllByRecursion IsReadNode l →
+      filter is_group (kept named g l) ≡ map (λ q. group (resolved_in named g q.1)) (numbered_groups l)
+  groups_kept [] h = refl
+  groups_kept (ast_node (ast_group name t) place ∷ l) h = by_name (is_counted named name) refl (groups_kept l h.1)
+    where
+      by_name : (b : Bool) → is_counted named name ≡ b →
+          filter is_group (kept named g l) ≡ map (λ q. group (resolved_in named g q.1)) (numbered_groups l) →
+          filter is_group (kept named g (ast_node (ast_group name t) place ∷ l))
+          ≡ map (λ q. group (resolved_in named g q.1)) (numbered_groups (ast_node (ast_group name t) place ∷ l))
+      by_name true e more = rw (e, e) (ap (λ l. group (resolved_in named g t) ∷ l) more)
+      by_name false e more = rw e more
+  groups_kept (ast_node (ast_backref t casei level) place ∷ l) h =
+      if_false _ _ _ (backref_no_group (means_here back_reference t place) t casei level place) ∙ groups_kept l h.1
+  groups_kept (ast_node (ast_call t) place ∷ l) h =
+      if_false _ _ _ (call_no_group (means_here call t place) t place) ∙ groups_kept l h.1
+  groups_kept (ast_node (ast_condition t level) place ∷ l) h =
+      if_false _ _ _ (condition_no_group (means_here condition t place) t level place) ∙ groups_kept l h.1
+  groups_kept (group t ∷ l) h = absurd h.0
+  groups_kept (backref n casei ∷ l) h = absurd h.0
+  groups_kept (backref_at_level n level casei ∷ l) h = absurd h.0
+  groups_kept (backref_exists n level ∷ l) h = absurd h.0
+  groups_kept (subroutine_call n ∷ l) h = absurd h.0
+  groups_kept (_ ∷ l) h = groups_kept l h.1
+
+  -- calls stay calls
+  calls_kept : (l : List Tree) → AllByRecursion IsReadNode l →
+      list_any is_call_node (kept named g l) ≡ list_any (λ x. is_call x.role) (references_in (filter_map item_of l))
+  calls_kept [] h = refl
+  calls_kept (ast_node (ast_group name t) place ∷ l) h = by_name (is_counted named name) refl (calls_kept l h.1)
+    where
+      by_name : (b : Bool) → is_counted named name ≡ b →
+          list_any is_call_node (kept named g l) ≡ list_any (λ x. is_call x.role) (references_in (filter_map item_of l)) →
+          list_any is_call_node (kept named g (ast_node (ast_group name t) place ∷ l))
+          ≡ list_any (λ x. is_call x.role) (references_in (filter_map item_of l))
+      by_name true e more = rw (e, e) more
+      by_name false e more = rw e more
+  calls_kept (ast_node (ast_backref t casei level) place ∷ l) h =
+      ap (λ b. b || list_any is_call_node (kept named g l)) (backref_no_call (means_here back_reference t place) t casei level place)
+      ∙ calls_kept l h.1
+  calls_kept (ast_node (ast_call t) place ∷ l) h =
+      ap (λ b. b || list_any is_call_node (kept named g l)) (call_is_call (means_here call t place) t place)
+  calls_kept (ast_node (ast_condition t level) place ∷ l) h =
+      ap (λ b. b || list_any is_call_node (kept named g l)) (condition_no_call (means_here condition t place) t level place)
+      ∙ calls_kept l h.1
+  calls_kept (group t ∷ l) h = absurd h.0
+  calls_kept (backref n casei ∷ l) h = absurd h.0
+  calls_kept (backref_at_level n level casei ∷ l) h = absurd h.0
+  calls_kept (backref_exists n level ∷ l) h = absurd h.0
+  calls_kept (subroutine_call n ∷ l) h = absurd h.0
+  calls_kept (_ ∷ l) h = calls_kept l h.1
+
+  -- one number more, if there is one
+  abbrev in_front : Option ℕ → List ℕ → List ℕ
+  in_front (Some n) l = n ∷ l
+  in_front None l = l
+
+  filter_map_step : {A : Type 0} (f : A → Option ℕ) (x : A) (l : List A) → filter_map f (x ∷ l) ≡ in_front (f x) (filter_map f l)
+  filter_map_step f x l = by_option (f x) refl
+    where
+      by_option : (o : Option ℕ) → f x ≡ o → filter_map f (x ∷ l) ≡ in_front o (filter_map f l)
+      by_option (Some n) e = rw e refl
+      by_option None e = rw e refl
+
+  numbers_step : (x : Tree) (r : Reference) (l : List Tree) (m : List Reference) →
+      group_referred x ≡ back_number r.role (meaning g r) →
+      filter_map group_referred l ≡ back_numbers g m → filter_map group_referred (x ∷ l) ≡ back_numbers g (r ∷ m)
+  numbers_step x r l m e h =
+      filter_map_step group_referred x l ∙ ap (λ o. in_front o (filter_map group_referred l)) e
+      ∙ ap (in_front (back_number r.role (meaning g r))) h
+      ∙ sym (filter_map_step (λ r. back_number r.role (meaning g r)) r m)
+
+  -- the numbers of back references
+  numbers_kept : (l : List Tree) → AllByRecursion IsReadNode l →
+      filter_map group_referred (kept named g l) ≡ back_numbers g (references_in (filter_map item_of l))
+  numbers_kept [] h = refl
+  numbers_kept (ast_node (ast_group name t) place ∷ l) h = by_name (is_counted named name) refl (numbers_kept l h.1)
+    where
+      by_name : (b : Bool) → is_counted named name ≡ b →
+          filter_map group_referred (kept named g l) ≡ back_numbers g (references_in (filter_map item_of l)) →
+          filter_map group_referred (kept named g (ast_node (ast_group name t) place ∷ l))
+          ≡ back_numbers g (references_in (filter_map item_of l))
+      by_name true e more = rw (e, e) more
+      by_name false e more = rw e more
+  numbers_kept (ast_node (ast_backref t casei level) place ∷ l) h =
+      numbers_step (resolved_in named g (ast_node (ast_backref t casei level) place))
+      (record { place = place; role = back_reference; target = t }) (kept named g l) (references_in (filter_map item_of l))
+      (backref_refers (means_here back_reference t place) t casei level place) (numbers_kept l h.1)
+  numbers_kept (ast_node (ast_call t) place ∷ l) h =
+      numbers_step (resolved_in named g (ast_node (ast_call t) place)) (record { place = place; role = call; target = t })
+      (kept named g l) (references_in (filter_map item_of l)) (call_refers (means_here call t place) t place) (numbers_kept l h.1)
+  numbers_kept (ast_node (ast_condition t level) place ∷ l) h =
+      numbers_step (resolved_in named g (ast_node (ast_condition t level) place))
+      (record { place = place; role = condition; target = t }) (kept named g l) (references_in (filter_map item_of l))
+      (condition_refers (means_here condition t place) t level place) (numbers_kept l h.1)
+  numbers_kept (group t ∷ l) h = absurd h.0
+  numbers_kept (backref n casei ∷ l) h = absurd h.0
+  numbers_kept (backref_at_level n level casei ∷ l) h = absurd h.0
+  numbers_kept (backref_exists n level ∷ l) h = absurd h.0
+  numbers_kept (subroutine_call n ∷ l) h = absurd h.0
+  numbers_kept (_ ∷ l) h = numbers_kept l h.1
+
+  list_length : (ts : Trees) → length (list_of (resolved_all named g ts)) ≡ length (list_of ts)
+  list_length no_trees = refl
+  list_length (more_trees t ts) = ap suc (list_length ts)
+
+  -- where no reference has a fault, each node is one of an answered tree
+  answered_kept : (l : List Tree) → AllByRecursion IsReadNode l →
+      first_fault g (references_in (filter_map item_of l)) ≡ None → AllByRecursion IsAnsweredNode (kept named g l)
+  answered_kept [] h n = tt
+  answered_kept (ast_node (ast_group name t) place ∷ l) h n =
+      by_name (is_counted named name) refl (answered_kept l h.1 n)
+    where
+      by_name : (b : Bool) → is_counted named name ≡ b → AllByRecursion IsAnsweredNode (kept named g l) →
+          AllByRecursion IsAnsweredNode (kept named g (ast_node (ast_group name t) place ∷ l))
+      by_name true e more = rw (e, e) (tt, more)
+      by_name false e more = rw e more
+  answered_kept (ast_node (ast_backref t casei level) place ∷ l) h n =
+      let m = means_here back_reference t place in
+      let behind = first_fault g (references_in (filter_map item_of l)) in (
+        backref_answered m t casei level place behind (back_reference_resolved (λ u. numbers u g) (opened_before g place) t) n,
+        answered_kept l h.1 (none_behind m place behind n),
+      )
+  answered_kept (ast_node (ast_call t) place ∷ l) h n =
+      let m = means_here call t place in
+      let behind = first_fault g (references_in (filter_map item_of l)) in
+      (call_answered m t place, answered_kept l h.1 (none_behind m place behind n))
+  answered_kept (ast_node (ast_condition t level) place ∷ l) h n =
+      let m = means_here condition t place in
+      let behind = first_fault g (references_in (filter_map item_of l)) in (
+        condition_answered m t level place behind (condition_resolved (λ u. numbers u g) (opened_before g place) t) n,
+        answered_kept l h.1 (none_behind m place behind n),
+      )
+  answered_kept (literal w casei ∷ l) h n = (h.0, answered_kept l h.1 n)
+  answered_kept (literal_bytes w ∷ l) h n = (h.0, answered_kept l h.1 n)
+  answered_kept (alt ts ∷ l) h n = (subst (λ k. 2 ≤ k) (sym (list_length ts)) h.0, answered_kept l h.1 n)
+  answered_kept (group t ∷ l) h n = absurd h.0
+  answered_kept (backref k casei ∷ l) h n = absurd h.0
+  answered_kept (backref_at_level k level casei ∷ l) h n = absurd h.0
+  answered_kept (backref_exists k level ∷ l) h n = absurd h.0
+  answered_kept (subroutine_call k ∷ l) h n = absurd h.0
+  answered_kept (_ ∷ l) h n = (tt, answered_kept l h.1 n)
+
+-- ---- answered trees
+
+module _ {f : Flags} {text : Text} {t : Tree} {m : Marks} (a : IsTreeOf f text t m) where
+  abbrev raw : Tree
+  raw = a.0
+
+  abbrev named : Bool
+  named = only_named f (openings raw)
+
+  abbrev numbered : List Opening
+  numbered = counted f (openings raw)
+
+  nodes : preorder t ≡ kept named numbered (preorder raw)
+  nodes = ap preorder a.3 ∙ resolved_nodes named numbered raw
+
+  nodes_read : IsRead raw
+  nodes_read = derived_read a.1.1
+
+  is_marks : m ≡ marks f text raw
+  is_marks = a.4
+
+  -- each node is one of an answered tree
+  pub answered : IsAnswered t
+  answered =
+      let no_fault = ap (λ l. first_fault numbered (references_in l)) (sym (items_of_nodes raw)) ∙ a.2 in
+      subst (AllByRecursion IsAnsweredNode) (sym nodes) (answered_kept named numbered (preorder raw) nodes_read no_fault)
+
+  -- the Groups in preorder are the groups that have a number, in the order of their opening parentheses
+  pub groups_in_order : groups t ≡ map (λ q. group (resolved_in named numbered q.1)) (numbered_groups named numbered (preorder raw))
+  groups_in_order = ap (filter is_group) nodes ∙ groups_kept named numbered (preorder raw) nodes_read
+
+  pub openings_in_order : map (λ q. q.0) (numbered_groups named numbered (preorder raw)) ≡ numbered
+  openings_in_order =
+      openings_counted named numbered (preorder raw) ∙ ap (λ l. counted_in named (openings_in l)) (sym (items_of_nodes raw))
+
+  -- as many as are said
+  pub groups_total : length (groups t) ≡ m.total_groups
+  groups_total =
+      let groups_of = numbered_groups named numbered (preorder raw) in
+      ap length groups_in_order ∙ length-map groups_of (λ q. group (resolved_in named numbered q.1))
+      ∙ sym (length-map groups_of (λ q. q.0)) ∙ ap length openings_in_order ∙ ap (λ k. k.total_groups) (sym is_marks)
+
+  -- of each name they are the numbers, and of the groups that carry it
+  pub names_marked : AreNamed m.total_groups m.named_groups
+  names_marked = subst (λ k. AreNamed k.total_groups k.named_groups) (sym is_marks) (named_ascend numbered)
+
+  pub named_numbers : (w : Text) (k : ℕ) → list_any (λ j. j == suc k) (numbers_under m.named_groups w) ≡ carries w (slice_get numbered k)
+  named_numbers w k =
+      ap (λ q. list_any (λ j. j == suc k) (numbers_under q.named_groups w)) is_marks
+      ∙ ap (list_any (λ j. j == suc k)) (under_named numbered w) ∙ number_carried w k numbered
+
+  -- a call is said where one stands
+  pub calls_marked : has_call t ≡ m.contains_subroutines
+  calls_marked =
+      ap (list_any is_call_node) nodes ∙ calls_kept named numbered (preorder raw) nodes_read
+      ∙ ap (λ l. list_any (λ x. is_call x.role) (references_in l)) (sym (items_of_nodes raw))
+      ∙ ap (λ k. k.contains_subroutines) (sym is_marks)
+
+  numbers_referred : groups_referred t ≡ back_numbers numbered (references raw)
+  numbers_referred =
+      ap (filter_map group_referred) nodes ∙ numbers_kept named numbered (preorder raw) nodes_read
+      ∙ ap (λ l. back_numbers numbered (references_in l)) (sym (items_of_nodes raw))
+
+  -- the numbers up to the total, each once, are said
+  pub backrefs_marked : m.backrefs ≡ ascending (filter (λ n. nat_le n m.total_groups) (groups_referred t))
+  backrefs_marked =
+      subst (λ k. k.backrefs ≡ ascending (filter (λ n. nat_le n k.total_groups) (groups_referred t))) (sym is_marks)
+      (ap (λ l. ascending (filter (λ n. nat_le n (length numbered)) l)) (sym numbers_referred))
+
+  -- and the first above it
+  pub out_of_range_marked : m.out_of_range_backref ≡ find (λ n. nat_lt m.total_groups n) (groups_referred t)
+  out_of_range_marked =
+      subst (λ k. k.out_of_range_backref ≡ find (λ n. nat_lt k.total_groups n) (groups_referred t)) (sym is_marks)
+      (ap (find (λ n. nat_lt (length numbered) n)) (sym numbers_referred))

@@ -1,0 +1,137 @@
+-- A Delegate's text, read as a class or an escape.
+use Rattle.std.proofs.Common.{◌≡◌, ℕ, ◌+◌, Bool, true, false, not, List, [], ◌∷◌, Option, Some, None, MatchOption, is_some, Result, Ok, Err, IfOk, chars, length, refl, sym, ap, ◌∙◌, arith}
+use Rattle.std.specs.Borrow.{Bor}
+use Rattle.std.specs.declared.alloc.AllocError.{AllocError}
+use Rattle.std.specs.Char.{len_utf8}
+use Rattle.std.specs.Str.{IsUtf8, all_scalars}
+use Rattle.fancy_lex.specs.Characters.{open_bracket, backslash, ◌∈◌}
+use Rattle.fancy_lex.specs.Class.{class}
+use Rattle.fancy_lex.specs.Escape.{escape}
+use Rattle.fancy_lex.specs.Escaped.{Escape}
+use Rattle.fancy_lex.specs.Fault.{Fault, kind_of}
+use Rattle.fancy_lex.specs.Flags.{flags_of}
+use Rattle.fancy_lex.specs.Reading.{Reading, gives, fails, Fails}
+use Rattle.fancy_lex.specs.Text.{Text, bytes}
+use Rattle.fancy_lex.specs.declared.error.Error.{Error}
+use Rattle.fancy_lex.specs.declared.error.Error.TheVariants.{ParseError, OutOfMemory}
+use Rattle.fancy_lex.specs.declared.escape.Assertion.TheVariants.{StartLineOniguruma}
+use Rattle.fancy_lex.specs.declared.flags.Flags.{Flags}
+use Rattle.fancy_lex.proofs.TextLemmas.{bytes_chars}
+use Rattle.fancy_grammar.specs.Ahead.{leaf_node, leaf_outcome}
+use Rattle.fancy_grammar.specs.Grammar.{start}
+use Rattle.fancy_grammar.specs.Normal.{bare, class_of, whole_of, whole_leaf, normal}
+use Rattle.fancy_grammar.specs.Join.{is_empty}
+use Rattle.fancy_grammar.specs.Printable.{printable}
+use Rattle.fancy_grammar.specs.Tree.{Tree, empty, assertion, literal, concat, alt, delegate, define_group}
+use Rattle.fancy_grammar.proofs.ReadBack.PrintableLaws.{normal_empty}
+
+falsity : false ≡ true → ⊥
+falsity h = cc
+
+-- a text behind a character of one byte
+one_more : (bs : List ℕ) (n : ℕ) → IsUtf8 bs → n ≡ length bs + 1 → n ≡ 1 + bytes (chars bs)
+one_more bs n u e = e ∙ rw (bytes_chars bs u) (omega arith)
+
+-- whether something is left behind a Delegate, as the code asks it
+whole_left : (o : Option (ℕ × Bor (List ℕ))) (b : Bool) (r : Tree) (v : Text) → true ≡ is_some (whole_of [] r) → is_some o ≡ not b →
+    MatchOption o (v ≡ []) (λ p. v ≡ p.0 ∷ chars p.1.now) → b ≡ is_some (whole_of v r)
+whole_left None true r v class none is = class ∙ ap (λ w. is_some (whole_of w r)) (sym is)
+whole_left (Some p) false r v class none is = ap (λ w. is_some (whole_of w r)) (sym is)
+whole_left None false r v class none is = absurd (falsity none)
+whole_left (Some p) true r v class none is = absurd (falsity (sym none))
+
+-- what is no Delegate is none, whatever is left
+other_left : (r : Tree) (v : Text) → false ≡ is_some (whole_of [] r) → false ≡ is_some (whole_of v r)
+other_left r [] other = other
+other_left r (c ∷ v) other = refl
+
+module _ (bs : List ℕ) (n : ℕ) (f : Flags) (utf8 : IsUtf8 bs) (whole : n ≡ length bs + 1) (is : f ≡ flags_of 0) where
+  -- a class under no flags, as a leaf
+  class_leaf : class_of (bare false) (open_bracket ∷ chars bs) ≡
+      whole_leaf (leaf_outcome (λ w. delegate w false) (start (bare false) (open_bracket ∷ chars bs)) (class n f (chars bs)))
+  unfolding class_of bytes
+  class_leaf = rw (one_more bs n utf8 whole, is) refl
+
+  pub class_read : (w v : Text) (o : Option (ℕ × Bor (List ℕ))) (b : Bool) → class n f (chars bs) ≡ gives w v →
+      is_some o ≡ not b → MatchOption o (v ≡ []) (λ p. v ≡ p.0 ∷ chars p.1.now) →
+      b ≡ is_some (class_of (bare false) (open_bracket ∷ chars bs))
+  class_read w v o b e none left = whole_left o b (delegate w false) v refl none left ∙ sym (ap is_some (class_leaf ∙
+      ap (λ q. whole_leaf (leaf_outcome (λ w. delegate w false) (start (bare false) (open_bracket ∷ chars bs)) q)) e))
+
+  pub class_faulty : (e : Fault) → class n f (chars bs) ≡ fails e →
+      false ≡ is_some (class_of (bare false) (open_bracket ∷ chars bs))
+  class_faulty e h = sym (ap is_some (class_leaf ∙
+      ap (λ q. whole_leaf (leaf_outcome (λ w. delegate w false) (start (bare false) (open_bracket ∷ chars bs)) q)) h))
+
+  -- an escape under no flags, as a leaf
+  escape_leaf : class_of (bare false) (backslash ∷ chars bs) ≡
+      whole_leaf (leaf_outcome leaf_node (start (bare false) (backslash ∷ chars bs)) (escape n f false 0 (chars bs)))
+  unfolding class_of bytes
+  escape_leaf = rw (one_more bs n utf8 whole, is) (grind arith)
+
+  escape_is : (q : Reading Escape) → escape n f false 0 (chars bs) ≡ q → is_some (class_of (bare false) (backslash ∷ chars bs)) ≡
+      is_some (whole_leaf (leaf_outcome leaf_node (start (bare false) (backslash ∷ chars bs)) q))
+  escape_is q e = ap is_some (escape_leaf ∙
+      ap (λ q. whole_leaf (leaf_outcome leaf_node (start (bare false) (backslash ∷ chars bs)) q)) e)
+
+  pub escape_read : (x : Escape) (v : Text) (o : Option (ℕ × Bor (List ℕ))) (a b : Bool) → escape n f false 0 (chars bs) ≡ gives x v →
+      a ≡ is_some (whole_of [] (leaf_node x)) → a ≡ true → is_some o ≡ not b → MatchOption o (v ≡ []) (λ p. v ≡ p.0 ∷ chars p.1.now) →
+      b ≡ is_some (class_of (bare false) (backslash ∷ chars bs))
+  escape_read x v o a b e class is_class none left = whole_left o b (leaf_node x) v (sym is_class ∙ class) none left ∙ sym (escape_is _ e)
+
+  pub escape_other : (x : Escape) (v : Text) (a : Bool) → escape n f false 0 (chars bs) ≡ gives x v →
+      a ≡ is_some (whole_of [] (leaf_node x)) → a ≡ false → a ≡ is_some (class_of (bare false) (backslash ∷ chars bs))
+  escape_other x v a e class is_other = is_other ∙ other_left (leaf_node x) v (sym is_other ∙ class) ∙ sym (escape_is _ e)
+
+  pub escape_faulty : (e : Fault) → escape n f false 0 (chars bs) ≡ fails e →
+      false ≡ is_some (class_of (bare false) (backslash ∷ chars bs))
+  escape_faulty e h = sym (escape_is _ h)
+
+-- the answer where a reading failed, unless memory ran out
+pub failed : {A : Type 0} (r : Result Bool AllocError) (error : Error) (o : Reading A) (x : Bool) → IfOk r (λ b. b ≡ false) →
+    IfOk r (λ _. error ≡ OutOfMemory → ⊥) → Fails error o → ((e : Fault) → o ≡ fails e → false ≡ x) → IfOk r (λ b. b ≡ x)
+failed (Ok b) (ParseError p k) o x is in_memory f faulty = is ∙ faulty (record { place = p; kind = kind_of k }) f
+failed (Ok b) OutOfMemory o x is in_memory f faulty = absurd (in_memory refl)
+failed (Err m) error o x is in_memory f faulty = tt
+
+-- a text that begins with neither mark is no class
+pub none_of_nothing : (bs : List ℕ) → chars bs ≡ [] → false ≡ is_some (class_of (bare false) (chars bs))
+unfolding class_of
+none_of_nothing bs is = rw is refl
+
+pub none_of_others : (bs r : List ℕ) (c : ℕ) → chars bs ≡ c ∷ chars r → c ∈ "[\\" ≡ false →
+    false ≡ is_some (class_of (bare false) (chars bs))
+unfolding class_of
+none_of_others bs r c is other = rw (is, other) refl
+
+pub one_shorter : (s r : List ℕ) (c : ℕ) → IsUtf8 s → IsUtf8 r → chars s ≡ c ∷ chars r → len_utf8 c ≡ 1 → length s ≡ length r + 1
+unfolding bytes
+one_shorter s r c u v is one = sym (bytes_chars s u) ∙ rw (is, one, bytes_chars r v) (omega arith)
+
+-- ---- what the code tells of a variant
+
+-- the printable Delegates, as the code tells them
+pub delegate_told : (r : Result Bool AllocError) (s : Text) (casei : Bool) (e : Tree) → all_scalars s ≡ true →
+    IfOk r (λ b. b ≡ is_some (class_of (bare false) s)) → e ≡ delegate s casei → IfOk r (λ b. b ≡ printable e)
+delegate_told (Ok b) s casei e scalars is seen = is ∙ rw (seen, scalars) refl
+delegate_told (Err m) s casei e scalars is seen = tt
+
+-- the variants whose normal form may be Empty
+abbrev pub may_be_blank : Tree → Bool
+may_be_blank empty = true
+may_be_blank (literal s casei) = true
+may_be_blank (concat ts) = true
+may_be_blank (alt ts) = true
+may_be_blank (define_group t) = true
+may_be_blank _ = false
+
+pub solid_variant : (t : Tree) → may_be_blank t ≡ false → false ≡ is_empty (normal false t)
+solid_variant empty h = absurd (falsity (sym h))
+solid_variant (literal s casei) h = absurd (falsity (sym h))
+solid_variant (concat ts) h = absurd (falsity (sym h))
+solid_variant (alt ts) h = absurd (falsity (sym h))
+solid_variant (define_group t) h = absurd (falsity (sym h))
+solid_variant (delegate s casei) h = sym (normal_empty false (delegate s casei))
+solid_variant (assertion (StartLineOniguruma crlf)) h = refl
+solid_variant (assertion a) h = refl
+solid_variant _ h = refl

@@ -1,0 +1,62 @@
+-- How what a part comes to is what the whole comes to.
+use Rattle.std.proofs.Common.{◌≡◌, ℕ, Bool, true, false, if◌then◌else◌, List, [], ◌∷◌, ◌++◌, Some, refl, ap, subst, append_assoc}
+use Rattle.fancy_lex.specs.Fault.{Kind}
+use Rattle.fancy_lex.specs.Text.{Text, strip}
+use Rattle.fancy_lex.specs.declared.error.Error.{Error}
+use Rattle.fancy_lex.specs.declared.error.Error.TheVariants.{ParseError, OutOfMemory}
+use Rattle.fancy_lex.specs.Characters.{bar}
+use Rattle.fancy_grammar.specs.Ahead.{ends}
+use Rattle.fancy_grammar.specs.Grammar.{before, Branch, Branches, more, Piece, Pieces, next}
+use Rattle.fancy_grammar.specs.Join.{is_empty, solid}
+use Rattle.fancy_grammar.specs.Fails.{Fails, IsFaultAt}
+use Rattle.fancy_grammar.specs.State.{State, at, Outcome, done, fault, and_then}
+use Rattle.fancy_grammar.specs.Tree.{Tree}
+
+-- what was read is so, where it ends
+abbrev pub Holds : {A : Type 0} → (A → State → Type 0) → Outcome A → Type 0
+Holds P (done a s) = P a s
+Holds P (fault k p) = Unit {0}
+
+-- one part behind another
+pub then_holds : {A B : Type 0} (P : A → State → Type 0) (Q : B → State → Type 0) (q : Outcome A) {o : Outcome B}
+    (f : A → State → Outcome B) → Holds P q → and_then q f ≡ o →
+    ((a : A) (s : State) → P a s → Holds Q (f a s)) → Holds Q o
+then_holds P Q (done a s) f h e g = subst (Holds Q) e (g a s h)
+then_holds P Q (fault k p) f h e g = subst (Holds Q) e tt
+
+pub Fails-map : {A B : Type 0} (P : Outcome A → Type 0) (Q : Outcome B → Type 0) (e : Error) →
+    ((k : Kind) (p : ℕ) → P (fault k p) → Q (fault k p)) → Fails e P → Fails e Q
+Fails-map P Q (ParseError p k) f h = f _ p h
+Fails-map P Q OutOfMemory f h = tt
+
+pub Fails-is : {A : Type 0} (P : Outcome A → Type 0) (e : Error) (k : Kind) (p : ℕ) → IsFaultAt e k p → P (fault k p) → Fails e P
+Fails-is P (ParseError q j) k p h d = rw (h.0, h.1) d
+Fails-is P OutOfMemory k p h d = tt
+
+pub at_done : {A : Type 0} (P : Outcome A → Type 0) {a b : A} {s t : State} → b ≡ a → t ≡ s → P (done a s) → P (done b t)
+at_done P e f h = rw (e, f) h
+
+pub before-nil : (o : Outcome (List Tree)) → before [] o ≡ o
+before-nil (done l s) = refl
+before-nil (fault k p) = refl
+
+pub before-push : (l : List Tree) (r : Tree) (o : Outcome (List Tree)) → before (l ++ r ∷ []) o ≡ before l (before (r ∷ []) o)
+before-push l r (done m s) = ap (λ n. done n s) (append_assoc l (r ∷ []) m)
+before-push l r (fault k p) = refl
+
+pub solid-append : (l m : List Tree) → solid (l ++ m) ≡ solid l ++ solid m
+solid-append [] m = refl
+solid-append (r ∷ l) m = by_test (is_empty r) (solid-append l m)
+  where
+    by_test : (b : Bool) → solid (l ++ m) ≡ solid l ++ solid m →
+        (if b then solid (l ++ m) else r ∷ solid (l ++ m)) ≡ (if b then solid l else r ∷ solid l) ++ solid m
+    by_test true h = h
+    by_test false h = ap (λ x. r ∷ x) h
+
+pub more_any : {n d : ℕ} {s t : State} {u : Text} {r : Tree} (o : Outcome (List Tree)) → Branch n d s (done r t) → strip bar t.rest ≡ Some u →
+    Branches n d (at t u) o → Branches n d s (before (r ∷ []) o)
+more_any o b e m = more b e m refl
+
+pub next_any : {n d : ℕ} {s t : State} {r : Tree} (o : Outcome (List Tree)) → ends s.rest ≡ false → Piece n d s (done r t) → Pieces n d t o →
+    Pieces n d s (before (r ∷ []) o)
+next_any o e a m = next e a m refl

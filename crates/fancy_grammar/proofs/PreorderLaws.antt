@@ -1,0 +1,142 @@
+-- Resolving keeps the nodes of a raw tree in their order, and its items are those of its nodes.
+use Rattle.std.proofs.Common.{◌≡◌, ℕ, ℤ, Bool, true, false, if◌then◌else◌, List, [], ◌∷◌, ◌++◌, Option, Some, None, filter, filter_map, map, refl, sym, ap, ◌∙◌}
+use Rattle.std.proofs.lemmas.List.{map-append}
+use Rattle.std.proofs.lemmas.List.Elements.{filter-append, filter_map-append}
+use Rattle.fancy_lex.specs.Text.{Text}
+use Rattle.fancy_lex.specs.Target.{Target}
+use Rattle.fancy_parts.specs.Meaning.{Meaning, number, unresolved, faulty, means, back_reference, call, condition}
+use Rattle.fancy_parts.specs.Ranks.{Opening, is_counted, numbers, opened_before}
+use Rattle.fancy_grammar.specs.Items.{Item, opening, reference, items, items_all, items_absent}
+use Rattle.fancy_grammar.specs.Preorder.{preorder, preorder_all, preorder_absent}
+use Rattle.fancy_grammar.specs.Resolved.{resolved_in, resolved_all, resolved_absent, group_or_inside, node_of}
+use Rattle.fancy_grammar.specs.Tree.{Tree, Trees, no_trees, more_trees, concat, alt, group, look_around, repeat, atomic_group, conditional, absent, define_group, ast_node, AbsentTree, repeater, expression, stopper, clear, ast_group, ast_backref, ast_call, ast_condition}
+
+-- ---- the nodes that resolving keeps
+
+-- whether a node stays: all but a capturing group without a number
+abbrev pub is_kept : Bool → Tree → Bool
+is_kept named (ast_node (ast_group name t) place) = is_counted named name
+is_kept named _ = true
+
+-- a reference that is resolved is one node
+one_backref : (m : Meaning) (t : Target) (casei : Bool) (level : Option ℤ) (place : ℕ) →
+    preorder (node_of m (ast_backref t casei level) place) ≡ node_of m (ast_backref t casei level) place ∷ []
+one_backref (number n) t casei None place = refl
+one_backref (number n) t casei (Some level) place = refl
+one_backref unresolved t casei level place = refl
+one_backref (faulty k) t casei level place = refl
+
+one_call : (m : Meaning) (t : Target) (place : ℕ) → preorder (node_of m (ast_call t) place) ≡ node_of m (ast_call t) place ∷ []
+one_call (number n) t place = refl
+one_call unresolved t place = refl
+one_call (faulty k) t place = refl
+
+one_condition : (m : Meaning) (t : Target) (level : Option ℤ) (place : ℕ) →
+    preorder (node_of m (ast_condition t level) place) ≡ node_of m (ast_condition t level) place ∷ []
+one_condition (number n) t level place = refl
+one_condition unresolved t level place = refl
+one_condition (faulty k) t level place = refl
+
+module _ (named : Bool) (g : List Opening) where
+  -- what is left of nodes, resolved
+  abbrev pub kept : List Tree → List Tree
+  kept l = map (resolved_in named g) (filter (is_kept named) l)
+
+  kept_append : (a b : List Tree) → kept (a ++ b) ≡ kept a ++ kept b
+  kept_append a b =
+      ap (map (resolved_in named g)) (filter-append (is_kept named) a b)
+      ∙ map-append (resolved_in named g) (filter (is_kept named) a) (filter (is_kept named) b)
+
+  two : {a b : List Tree} (c d : List Tree) → a ≡ kept c → b ≡ kept d → a ++ b ≡ kept (c ++ d)
+  two c d e h = (λ i. e i ++ h i) ∙ sym (kept_append c d)
+
+  group_kept : (name : Option Text) (t : Tree) (place : ℕ) (b : Bool) → is_counted named name ≡ b →
+      preorder (resolved_in named g t) ≡ kept (preorder t) →
+      preorder (group_or_inside b (resolved_in named g t)) ≡ kept (ast_node (ast_group name t) place ∷ preorder t)
+  group_kept name t place true e h =
+      let node = ast_node (ast_group name t) place in
+      ap (λ l. group (resolved_in named g t) ∷ l) h
+      ∙ ap (λ b. group_or_inside b (resolved_in named g t) ∷ kept (preorder t)) (sym e)
+      ∙ ap (λ b. map (resolved_in named g) (if b then node ∷ filter (is_kept named) (preorder t) else filter (is_kept named) (preorder t))) (sym e)
+  group_kept name t place false e h =
+      let node = ast_node (ast_group name t) place in
+      h ∙ ap (λ b. map (resolved_in named g) (if b then node ∷ filter (is_kept named) (preorder t) else filter (is_kept named) (preorder t))) (sym e)
+
+  mutual
+    pub resolved_nodes : (t : Tree) → preorder (resolved_in named g t) ≡ kept (preorder t)
+    resolved_nodes (concat ts) = ap (λ l. concat (resolved_all named g ts) ∷ l) (all_nodes ts)
+    resolved_nodes (alt ts) = ap (λ l. alt (resolved_all named g ts) ∷ l) (all_nodes ts)
+    resolved_nodes (group t) = ap (λ l. group (resolved_in named g t) ∷ l) (resolved_nodes t)
+    resolved_nodes (look_around t k) = ap (λ l. look_around (resolved_in named g t) k ∷ l) (resolved_nodes t)
+    resolved_nodes (repeat t lo hi greedy) =
+        ap (λ l. repeat (resolved_in named g t) lo hi greedy ∷ l) (resolved_nodes t)
+    resolved_nodes (atomic_group t) = ap (λ l. atomic_group (resolved_in named g t) ∷ l) (resolved_nodes t)
+    resolved_nodes (conditional c t f) =
+        ap (λ l. resolved_in named g (conditional c t f) ∷ l)
+        (two (preorder c) (preorder t ++ preorder f) (resolved_nodes c) (two (preorder t) (preorder f) (resolved_nodes t) (resolved_nodes f)))
+    resolved_nodes (absent a) = ap (λ l. absent (resolved_absent named g a) ∷ l) (absent_nodes a)
+    resolved_nodes (define_group t) = ap (λ l. define_group (resolved_in named g t) ∷ l) (resolved_nodes t)
+    resolved_nodes (ast_node (ast_group name t) place) =
+        group_kept name t place (is_counted named name) refl (resolved_nodes t)
+    resolved_nodes (ast_node (ast_backref t casei level) place) =
+        one_backref (means (λ u. numbers u g) (opened_before g place) back_reference t) t casei level place
+    resolved_nodes (ast_node (ast_call t) place) =
+        one_call (means (λ u. numbers u g) (opened_before g place) call t) t place
+    resolved_nodes (ast_node (ast_condition t level) place) =
+        one_condition (means (λ u. numbers u g) (opened_before g place) condition t) t level place
+    resolved_nodes _ = refl
+
+    all_nodes : (ts : Trees) → preorder_all (resolved_all named g ts) ≡ kept (preorder_all ts)
+    all_nodes no_trees = refl
+    all_nodes (more_trees t ts) = two (preorder t) (preorder_all ts) (resolved_nodes t) (all_nodes ts)
+
+    absent_nodes : (a : AbsentTree) → preorder_absent (resolved_absent named g a) ≡ kept (preorder_absent a)
+    absent_nodes (repeater t) = resolved_nodes t
+    absent_nodes (expression a e) = two (preorder a) (preorder e) (resolved_nodes a) (resolved_nodes e)
+    absent_nodes (stopper t) = resolved_nodes t
+    absent_nodes clear = refl
+
+-- ---- the items of nodes
+
+-- what a node opens or refers to
+abbrev pub item_of : Tree → Option Item
+item_of (ast_node (ast_group name t) place) = Some (opening (record { place = place; name = name }))
+item_of (ast_node (ast_backref target casei level) place) =
+    Some (reference (record { place = place; role = back_reference; target = target }))
+item_of (ast_node (ast_call target) place) = Some (reference (record { place = place; role = call; target = target }))
+item_of (ast_node (ast_condition target level) place) =
+    Some (reference (record { place = place; role = condition; target = target }))
+item_of _ = None
+
+both_items : {a b : List Item} (c d : List Tree) → a ≡ filter_map item_of c → b ≡ filter_map item_of d →
+    a ++ b ≡ filter_map item_of (c ++ d)
+both_items c d e h = (λ i. e i ++ h i) ∙ sym (filter_map-append item_of c d)
+
+mutual
+  pub items_of_nodes : (t : Tree) → items t ≡ filter_map item_of (preorder t)
+  items_of_nodes (concat ts) = all_items ts
+  items_of_nodes (alt ts) = all_items ts
+  items_of_nodes (group t) = items_of_nodes t
+  items_of_nodes (look_around t k) = items_of_nodes t
+  items_of_nodes (repeat t lo hi greedy) = items_of_nodes t
+  items_of_nodes (atomic_group t) = items_of_nodes t
+  items_of_nodes (conditional c t f) =
+      both_items (preorder c) (preorder t ++ preorder f) (items_of_nodes c) (both_items (preorder t) (preorder f) (items_of_nodes t) (items_of_nodes f))
+  items_of_nodes (absent a) = absent_items a
+  items_of_nodes (define_group t) = items_of_nodes t
+  items_of_nodes (ast_node (ast_group name t) place) =
+      ap (λ l. opening (record { place = place; name = name }) ∷ l) (items_of_nodes t)
+  items_of_nodes (ast_node (ast_backref target casei level) place) = refl
+  items_of_nodes (ast_node (ast_call target) place) = refl
+  items_of_nodes (ast_node (ast_condition target level) place) = refl
+  items_of_nodes _ = refl
+
+  all_items : (ts : Trees) → items_all ts ≡ filter_map item_of (preorder_all ts)
+  all_items no_trees = refl
+  all_items (more_trees t ts) = both_items (preorder t) (preorder_all ts) (items_of_nodes t) (all_items ts)
+
+  absent_items : (a : AbsentTree) → items_absent a ≡ filter_map item_of (preorder_absent a)
+  absent_items (repeater t) = items_of_nodes t
+  absent_items (expression a e) = both_items (preorder a) (preorder e) (items_of_nodes a) (items_of_nodes e)
+  absent_items (stopper t) = items_of_nodes t
+  absent_items clear = refl

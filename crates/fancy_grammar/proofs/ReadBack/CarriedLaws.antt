@@ -1,0 +1,438 @@
+-- A class, and an escape for one, read the same whatever follows them, and under other flags to the same end.
+use Rattle.std.proofs.Common.{◌≡◌, ℕ, zero, suc, ◌+◌, ◌-◌, ◌≤◌, Bool, true, false, not, ◌&&◌, ◌||◌, ◌==◌, nat_le, if◌then◌else◌, [], ◌∷◌, ◌++◌, codes, Option, Some, None, refl, sym, ap, ◌∙◌, subst, arith}
+use Rattle.std.proofs.lemmas.Bool.Decides.{nat_tests}
+use Rattle.fancy_lex.specs.Boundary.{boundary, named_boundary, name, boundary_of_name, at_count}
+use Rattle.std.specs.Char.{is_ascii_digit}
+use Rattle.fancy_lex.specs.Characters.{backslash, open_bracket, close_bracket, caret, open_brace, ◌∈◌}
+use Rattle.fancy_lex.specs.Class.{items, class, class_head, with_mark, item_text, is_negated}
+use Rattle.fancy_lex.specs.Escape.{escape, referring, numbered, call, property, outside, in_class, is_itself}
+use Rattle.fancy_lex.specs.EscapeReference as reference
+use Rattle.fancy_lex.specs.EscapeReference.{group_number}
+use Rattle.fancy_lex.specs.Escaped.{Escape, literal, literal_bytes, delegate, backref, subroutine_call}
+use Rattle.fancy_lex.specs.Fault.{Fault, invalid_class, invalid_codepoint_value, unclosed_unicode_name}
+use Rattle.fancy_lex.specs.Hex.{hex, value, leaf_of_value, is_scalar}
+use Rattle.fancy_lex.specs.Layout.{layout}
+use Rattle.fancy_lex.specs.Property.{Property, read_property, property_text}
+use Rattle.fancy_lex.specs.Reading.{Reading, gives, fails, fault_at, choose, layout_reading, ◌>=>◌}
+use Rattle.fancy_lex.specs.Referred.{Reference}
+use Rattle.fancy_lex.specs.Text.{Text, bytes, place_of, strip}
+use Rattle.fancy_lex.specs.declared.flags.Flags.{Flags}
+use Rattle.fancy_lex.proofs.EscapeFrame.{StaysSome, read_stays, escape_frame}
+use Rattle.fancy_lex.proofs.TextLemmas.{bytes-append}
+use Rattle.fancy_grammar.specs.Normal.{under, bare}
+use Rattle.fancy_grammar.proofs.ReadBack.ClearLemmas.{no_truth}
+
+-- ---- the same text under other flags
+
+-- where the one reading gives something, the other gives something with the same text left
+abbrev Too : Reading Escape → Reading Escape → Type 0
+Too (gives a u) other = (b : Escape) × (other ≡ gives b u)
+Too (fails e) other = Unit {0}
+
+too_if : (b : Bool) (p q p' q' : Reading Escape) → Too p p' → Too q q' → Too (if b then p else q) (if b then p' else q')
+too_if true p q p' q' h k = h
+too_if false p q p' q' h k = k
+
+too_then : {A : Type 0} (o : Reading A) (k k' : A → Text → Reading Escape) →
+    ((a : A) (t : Text) → Too (k a t) (k' a t)) → Too (o >=> k) (o >=> k')
+too_then (gives a u) k k' h = h a u
+too_then (fails e) k k' h = tt
+
+numbered_too : (n p : ℕ) (t : Text) (other : Reading Escape) → Too (numbered n (bare false) true p t) other
+unfolding numbered
+numbered_too n p t other = by_number (group_number n t)
+  where
+    by_number : (o : Reading ℕ) → Too (o >=> (λ k u. fault_at p invalid_class)) other
+    by_number (gives k u) = tt
+    by_number (fails e) = tt
+
+property_too : (u i inside : Bool) (p c : ℕ) (t : Text) →
+    Too (property (bare false) inside p c t) (property (under u i false false false) inside p c t)
+unfolding property
+property_too u i inside p c [] = tt
+property_too u i inside p c (d ∷ t) = by_property (read_property (c ∈ "P") (d ∷ t)) where
+  by_property : (o : Option (Property × Text)) →
+      Too (choose o (λ q. gives (delegate (property_text false inside q.0) false) q.1)
+      (fault_at p unclosed_unicode_name)) (choose o (λ q. gives (delegate (property_text u inside q.0) i) q.1)
+      (fault_at p unclosed_unicode_name))
+  by_property None = tt
+  by_property (Some q) = (_, refl)
+
+-- a byte is a scalar value
+byte_scalar : (v : ℕ) (a : Bool) → (a && nat_le v 0xFF) ≡ true → is_scalar v ≡ true
+byte_scalar v false h = absurd cc
+byte_scalar v true h = grind (arith, nat_tests)
+
+both_too : (b s : Bool) (x y z : Escape) (t : Text) (e : Fault) → (b ≡ true → s ≡ true) →
+    Too (if b then gives x t else if s then gives y t else fails e) (if s then gives z t else fails e)
+both_too true true x y z t e h = (z, refl)
+both_too true false x y z t e h = no_truth (h refl)
+both_too false true x y z t e h = (z, refl)
+both_too false false x y z t e h = tt
+
+same_too : (b s : Bool) (x y x' y' : Escape) (t : Text) (e e' : Fault) →
+    Too (if b then gives x t else if s then gives y t else fails e)
+    (if b then gives x' t else if s then gives y' t else fails e')
+same_too true s x y x' y' t e e' = (x', refl)
+same_too false true x y x' y' t e e' = (y', refl)
+same_too false false x y x' y' t e e' = tt
+
+never : (a b c : Bool) → (((a && false) && b) && c) ≡ false
+never true b c = refl
+never false b c = refl
+
+coded_too : (u i : Bool) (w h v : ℕ) (t : Text) →
+    Too (leaf_of_value (bare false) w h v t) (leaf_of_value (under u i false false false) w h v t)
+unfolding leaf_of_value
+coded_too false i w h v t = same_too (w == 2 && not false && nat_le 0x80 v && nat_le v 0xFF) (is_scalar v) _ _ _ _ t _ _
+coded_too true i w h v t =
+    rw (never (w == 2) (nat_le 0x80 v) (nat_le v 0xFF))
+    (both_too (((w == 2) && true) && nat_le 0x80 v && nat_le v 0xFF) (is_scalar v) _ _ _ t _ (byte_scalar v _))
+
+hex_too : (u i : Bool) (n w : ℕ) (t : Text) → Too (hex n (bare false) w t) (hex n (under u i false false false) w t)
+unfolding hex
+hex_too u i n w t =
+    too_then (layout_reading (layout n false t)) _ _
+    (λ _ v. too_then (value n false (place_of n v) w v) _ _ (λ a r. coded_too u i w (place_of n v) a r))
+
+escape_too : (u i : Bool) (n p : ℕ) (t : Text) →
+    Too (escape n (bare false) true p t) (escape n (under u i false false false) true p t)
+unfolding escape in_class
+escape_too u i n p [] = tt
+escape_too u i n p (c ∷ t) =
+    too_if (is_ascii_digit c) _ _ _ _ (numbered_too n p (c ∷ t) _)
+    (too_if (c ∈ "dDsSwW") _ _ _ _ (_, refl)
+    (too_if (c ∈ "h") _ _ _ _ (_, refl)
+    (too_if (c ∈ "H") _ _ _ _ (_, refl)
+    (too_if (c ∈ "x") _ _ _ _ (hex_too u i n 2 t)
+    (too_if (c ∈ "u") _ _ _ _ (hex_too u i n 4 t)
+    (too_if (c ∈ "U") _ _ _ _ (hex_too u i n 8 t)
+    (too_if (c ∈ "pP") _ _ _ _ (property_too u i true p c t)
+    (too_if (c ∈ "a") _ _ _ _ (_, refl)
+    (too_if (c ∈ "f") _ _ _ _ (_, refl)
+    (too_if (c ∈ "n") _ _ _ _ (_, refl)
+    (too_if (c ∈ "r") _ _ _ _ (_, refl)
+    (too_if (c ∈ "t") _ _ _ _ (_, refl)
+    (too_if (c ∈ "v") _ _ _ _ (_, refl)
+    (too_if (c ∈ "e") _ _ _ _ (_, refl)
+    (too_if (is_itself true c) _ _ _ _ (_, refl)
+    (too_if (c ∈ "b") _ _ _ _ (_, refl)
+    (too_if (c ∈ "kAzBKGR") _ _ _ _ (_, refl) tt)))))))))))))))))
+
+-- ---- a class
+
+-- where the reading gives something, the others, with k steps or more, give one thing, with what follows it left too
+abbrev Carries : ℕ → Reading Text → (ℕ → ℕ → Text → Reading Text) → Type 0
+Carries k (gives w v) there = (x : Text) × ((j m : ℕ) (s : Text) → k ≤ j → there j m s ≡ gives x (v ++ s))
+Carries k (fails e) there = Unit {0}
+
+carry_if : (k : ℕ) (b : Bool) (p q : Reading Text) (p' q' : ℕ → ℕ → Text → Reading Text) → Carries k p p' →
+    Carries k q q'
+    → Carries k (if b then p else q) (λ j m s. if b then p' j m s else q' j m s)
+carry_if k true p q p' q' g h = g
+carry_if k false p q p' q' g h = h
+
+carry_same : (k : ℕ) (o : Reading Text) (there here : ℕ → ℕ → Text → Reading Text) →
+    ((j m : ℕ) (s : Text) → here j m s ≡ there j m s) → Carries k o there → Carries k o here
+carry_same k (gives w v) there here e (x, h) = (x, λ j m s l. e j m s ∙ h j m s l)
+carry_same k (fails z) there here e h = tt
+
+-- a step more
+carry_step : (k : ℕ) (o : Reading Text) (there here : ℕ → ℕ → Text → Reading Text) →
+    ((j m : ℕ) (s : Text) → here (suc j) m s ≡ there j m s) → Carries k o there → Carries (suc k) o here
+carry_step k (gives w v) there here e (x, h) = (x, late) where
+  late : (j m : ℕ) (s : Text) → suc k ≤ j → here j m s ≡ gives x (v ++ s)
+  late zero m s l = absurd (omega arith)
+  late (suc j) m s l = e j m s ∙ h j m s (omega arith)
+carry_step k (fails z) there here e h = tt
+
+-- with s behind what is left
+abbrev behind : Text → Text × Text → Text × Text
+behind s p = (p.0, p.1 ++ s)
+
+mark_some : (m : ℕ) (out t : Text) (c : ℕ) (u : Text) → (with_mark m (out, t)).1 ≡ c ∷ u →
+    (d : ℕ) × (r : Text) × (t ≡ d ∷ r)
+mark_some m out [] c u e = absurd cc
+mark_some m out (d ∷ r) c u e = (d, r, refl)
+
+mark_frame : (m : ℕ) (out t s : Text) (d : ℕ) (r : Text) → t ≡ d ∷ r →
+    ◌≡◌ {A = Text × Text} (with_mark m (out, t ++ s)) (behind s (with_mark m (out, t)))
+mark_frame m out t s d r e = rw e (by_test (d == m)) where
+  by_test : (x : Bool) →
+      ◌≡◌ {A = Text × Text} (choose {B = Text × Text} (if x then Some (r ++ s) else None) (λ u. (out ++ m ∷ [], u))
+      (out, d ∷ (r ++ s))) (behind s
+      (choose {B = Text × Text} (if x then Some r else None) (λ u. (out ++ m ∷ [], u)) (out, d ∷ r)))
+  by_test true = refl
+  by_test false = refl
+
+-- what is left hangs not on what is written
+mark_left : (m : ℕ) (out out' t : Text) → (with_mark m (out, t)).1 ≡ (with_mark m (out', t)).1
+mark_left m out out' [] = refl
+mark_left m out out' (d ∷ r) = by_test (d == m) where
+  by_test : (x : Bool) →
+      (choose {B = Text × Text} (if x then Some r else None) (λ u. (out ++ m ∷ [], u))
+      (out, d ∷ r)).1 ≡ (choose {B = Text × Text} (if x then Some r else None) (λ u. (out' ++ m ∷ [], u))
+      (out', d ∷ r)).1
+  by_test true = refl
+  by_test false = refl
+
+opening_left : (out out' t : Text) → (class_head out t).1 ≡ (class_head out' t).1
+unfolding class_head
+opening_left out out' t =
+    let p = with_mark caret (out ++ open_bracket ∷ [], t) in
+    let q = with_mark caret (out' ++ open_bracket ∷ [], t) in
+    mark_left close_bracket p.0 q.0 p.1
+    ∙ ap (λ r. (with_mark close_bracket (q.0, r)).1)
+    (mark_left caret (out ++ open_bracket ∷ []) (out' ++ open_bracket ∷ []) t)
+
+opening_frame : (out t s : Text) (c : ℕ) (u : Text) → (class_head out t).1 ≡ c ∷ u →
+    ◌≡◌ {A = Text × Text} (class_head out (t ++ s)) (behind s (class_head out t))
+unfolding class_head
+opening_frame out t s c u e =
+    let p = with_mark caret (out ++ open_bracket ∷ [], t) in
+    let (d, r, q) = mark_some close_bracket p.0 p.1 c u e in
+    let (d', r', q') = mark_some caret (out ++ open_bracket ∷ []) t d r q in
+    ap (with_mark close_bracket) (mark_frame caret (out ++ open_bracket ∷ []) t s d' r' q')
+    ∙ mark_frame close_bracket p.0 p.1 s d r q
+
+rest_is : (a w r v : Text) → gives a r ≡ gives w v → r ≡ v
+rest_is a w r v e = cc
+
+module _ (u i : Bool) (n : ℕ) where
+  abbrev ItemsCarry : ℕ → Type 0
+  ItemsCarry k = (depth : ℕ) (seen seen' : Bool) (out out' t : Text)
+      → Carries k (items n (bare false) k depth seen out t)
+      (λ j m s. items m (under u i false false false) j depth seen' out' (t ++ s))
+
+  end_carries : (k depth : ℕ) (seen : Bool) (out : Text) (there : ℕ → ℕ → Text → Reading Text) →
+      Carries k (items n (bare false) k depth seen out []) there
+  unfolding items
+  end_carries zero depth seen out there = tt
+  end_carries (suc k) depth seen out there = tt
+
+  -- behind an opening bracket
+  open_carries : (k : ℕ) → ItemsCarry k → (depth : ℕ) (seen seen' : Bool) (out out' t : Text)
+      → Carries k (items n (bare false) k depth seen (class_head out t).0 (class_head out t).1)
+      (λ j m s. items m (under u i false false false) j depth seen' (class_head out' (t ++ s)).0
+      (class_head out' (t ++ s)).1)
+  open_carries k more depth seen seen' out out' t = by_left (class_head out t).1 refl where
+    by_left : (v : Text) → (class_head out t).1 ≡ v →
+        Carries k (items n (bare false) k depth seen (class_head out t).0 v)
+        (λ j m s. items m (under u i false false false) j depth seen' (class_head out' (t ++ s)).0
+        (class_head out' (t ++ s)).1)
+    by_left [] e = end_carries k depth seen (class_head out t).0 _
+    by_left (c ∷ v) e =
+        let left = sym (opening_left out out' t) ∙ e in
+        carry_same k _ (λ j m s. items m (under u i false false false) j depth seen' (class_head out' t).0
+        ((c ∷ v) ++ s)) _
+        (λ j m s. ap (λ (p : Text × Text). items m (under u i false false false) j depth seen' p.0 p.1)
+        (opening_frame out' t s c v left)
+        ∙ ap (λ (r : Text). items m (under u i false false false) j depth seen' (class_head out' t).0 (r ++ s)) left)
+        (more depth seen seen' (class_head out t).0 (class_head out' t).0 (c ∷ v))
+
+  inner_carries : (k : ℕ) → ItemsCarry k →
+      (depth : ℕ) (seen seen' : Bool) (out out' t : Text) (p : ℕ) (q : ℕ → Text → ℕ)
+      → Carries k (escape n (bare false) true p t >=>
+      (λ e v. items n (bare false) k depth (seen || is_negated e) (out ++ item_text seen e) v))
+      (λ j m s. escape m (under u i false false false) true (q m s) (t ++ s) >=>
+      (λ e v. items m (under u i false false false) j depth (seen' || is_negated e) (out' ++ item_text seen' e) v))
+  inner_carries k more depth seen seen' out out' t p q =
+      by_escape (escape n (bare false) true p t) (escape_too u i n p t) where
+        by_escape : (o : Reading Escape) → Too o (escape n (under u i false false false) true p t)
+            → Carries k (o >=> (λ e v. items n (bare false) k depth (seen || is_negated e) (out ++ item_text seen e) v))
+            (λ j m s. escape m (under u i false false false) true (q m s) (t ++ s) >=>
+            (λ e v. items m (under u i false false false) j depth (seen' || is_negated e)
+            (out' ++ item_text seen' e) v))
+        by_escape (gives e v) (x, h) =
+            carry_same k _ (λ j m s. items m (under u i false false false) j depth (seen' || is_negated x)
+            (out' ++ item_text seen' x) (v ++ s)) _
+            (λ j m s. ap (λ o. o >=> (λ e v. items m (under u i false false false) j depth (seen' || is_negated e)
+            (out' ++ item_text seen' e) v)) (escape_frame n m (under u i false false false) p (q m s) t v s x h))
+            (more depth (seen || is_negated e) (seen' || is_negated x) (out ++ item_text seen e)
+            (out' ++ item_text seen' x) v)
+        by_escape (fails e) h = tt
+
+  items_carry : (k : ℕ) → ItemsCarry k
+  unfolding items
+  items_carry zero depth seen seen' out out' t = tt
+  items_carry (suc k) depth seen seen' out out' [] = tt
+  items_carry (suc k) depth seen seen' out out' (c ∷ t) =
+      let more = items_carry k in
+      carry_step k _
+      (λ j m s.
+      if c == backslash then escape m (under u i false false false) true (place_of m (c ∷ (t ++ s))) (t ++ s) >=>
+      (λ e v. items m (under u i false false false) j depth (seen' || is_negated e) (out' ++ item_text seen' e) v)
+      else if c == open_bracket then items m (under u i false false false) j (depth + 1) seen'
+      (class_head out' (t ++ s)).0 (class_head out' (t ++ s)).1
+      else if c == close_bracket
+      then (if depth == 0 then gives (out' ++ c ∷ []) (t ++ s) else items m (under u i false false false) j
+      (depth - 1) seen' (out' ++ c ∷ []) (t ++ s))
+      else items m (under u i false false false) j depth seen' (out' ++ c ∷ []) (t ++ s))
+      _ (λ j m s. refl)
+      (carry_if k (c == backslash) _ _ _ _
+      (inner_carries k more depth seen seen' out out' t _ (λ m s. place_of m (c ∷ (t ++ s))))
+      (carry_if k (c == open_bracket) _ _ _ _ (open_carries k more (depth + 1) seen seen' out out' t)
+      (carry_if k (c == close_bracket) _ _ _ _
+      (carry_if k (depth == 0) _ _ _ _ (out' ++ c ∷ [], λ j m s l. refl)
+      (more (depth - 1) seen seen' (out ++ c ∷ []) (out' ++ c ∷ []) t))
+      (more depth seen seen' (out ++ c ∷ []) (out' ++ c ∷ []) t))))
+
+  pub class_carries : (t w v : Text) → class n (bare false) t ≡ gives w v →
+      (x : Text) × ((m : ℕ) (s : Text) → class m (under u i false false false) (t ++ s) ≡ gives x (v ++ s))
+  unfolding class
+  class_carries t w v e =
+      from (class n (bare false) t) e
+      (open_carries (suc (bytes t)) (items_carry (suc (bytes t))) 0 false false [] [] t) where
+        from : (o : Reading Text) → o ≡ gives w v
+            → Carries (suc (bytes t)) o
+            (λ j m s. items m (under u i false false false) j 0 false (class_head [] (t ++ s)).0
+            (class_head [] (t ++ s)).1)
+            → (x : Text) × ((m : ℕ) (s : Text) →
+            items m (under u i false false false) (suc (bytes (t ++ s))) 0 false (class_head [] (t ++ s)).0
+            (class_head [] (t ++ s)).1 ≡ gives x (v ++ s))
+        from (gives a r) e (x, h) = (
+          x,
+          λ m s. h (suc (bytes (t ++ s))) m s (omega (arith, bytes-append t s))
+              ∙ ap (λ z. gives x (z ++ s)) (rest_is a w r v e),
+        )
+        from (fails z) e h = absurd cc
+
+-- ---- a class escape
+
+-- where the reading gives a Delegate, the others give one, with what follows behind what is left
+abbrev Keeps : Reading Escape → (ℕ → ℕ → Text → Reading Escape) → Type 0
+Keeps (gives (delegate w c) u) there =
+    (x : Text) × (b : Bool) × ((m q : ℕ) (s : Text) → there m q s ≡ gives (delegate x b) (u ++ s))
+Keeps _ there = Unit {0}
+
+abbrev pub NoDelegate : Reading Escape → Type 0
+NoDelegate (gives (delegate w c) u) = ⊥
+NoDelegate _ = Unit {0}
+
+keep_none : (o : Reading Escape) (there : ℕ → ℕ → Text → Reading Escape) → NoDelegate o → Keeps o there
+keep_none (gives (delegate w c) u) there h = absurd h
+keep_none _ there h = tt
+
+keep_if : (b : Bool) (p q : Reading Escape) (p' q' : ℕ → ℕ → Text → Reading Escape) → Keeps p p' → Keeps q q' →
+    Keeps (if b then p else q) (λ m r s. if b then p' m r s else q' m r s)
+keep_if true p q p' q' g h = g
+keep_if false p q p' q' g h = h
+
+none_if : (b : Bool) (p q : Reading Escape) → NoDelegate p → NoDelegate q → NoDelegate (if b then p else q)
+none_if true p q g h = g
+none_if false p q g h = h
+
+none_then : {A : Type 0} (o : Reading A) (k : A → Text → Reading Escape) → ((a : A) (t : Text) → NoDelegate (k a t)) →
+    NoDelegate (o >=> k)
+none_then (gives a u) k h = h a u
+none_then (fails e) k h = tt
+
+none_choose : {A : Type 0} (o : Option A) (f : A → Reading Escape) (r : Reading Escape) →
+    ((a : A) → NoDelegate (f a)) → NoDelegate r → NoDelegate (choose o f r)
+none_choose (Some a) f r g h = g a
+none_choose None f r g h = h
+
+coded_none : (f : Flags) (w h v : ℕ) (t : Text) → NoDelegate (leaf_of_value f w h v t)
+unfolding leaf_of_value
+coded_none f w h v t = by_tests (w == 2 && not f.unicode && nat_le 0x80 v && nat_le v 0xFF) (is_scalar v) where
+  by_tests : (b s : Bool) →
+      NoDelegate (if b then gives (literal_bytes v) t else if s then gives
+      (literal v f.casei) t else fault_at h invalid_codepoint_value)
+  by_tests true s = tt
+  by_tests false true = tt
+  by_tests false false = tt
+
+pub hex_none : (n : ℕ) (f : Flags) (w : ℕ) (t : Text) → NoDelegate (hex n f w t)
+unfolding hex
+hex_none n f w t =
+    none_then (layout_reading (layout n f.ignore_space t)) _
+    (λ _ v. none_then (value n f.ignore_space (place_of n v) w v) _ (λ a r. coded_none f w (place_of n v) a r))
+
+boundary_none : (n : ℕ) (x : Bool) (p : ℕ) (negated : Bool) (t : Text) → NoDelegate (boundary n x p negated t)
+unfolding boundary named_boundary
+boundary_none n x p negated t =
+    none_then (layout_reading (layout n x t)) _
+    (λ _ v. none_choose (strip open_brace v) _ _ (λ inside. none_then (layout_reading (layout n x inside)) _ (λ _ w.
+    none_if (at_count w) _ _ tt
+    (none_then (name n x p (suc _) inside) _
+    (λ word r. none_choose (boundary_of_name negated word) _ _ (λ a. tt) tt)))) tt)
+
+pub referring_none : (f : Flags) (o : Reading Reference) → NoDelegate (referring f o)
+referring_none f o = none_then o (λ r u. gives (backref r f.casei) u) (λ r u. tt)
+
+call_none : (n p c : ℕ) (t : Text) → NoDelegate (call n p c t)
+unfolding call
+call_none n p c [] = tt
+call_none n p c (d ∷ t) =
+    none_then (reference.subroutine_call n (d ∷ t)) (λ r u. gives (subroutine_call r) u) (λ r u. tt)
+
+pub outside_none : (u i : Bool) (n p c : ℕ) (t : Text) → NoDelegate (outside n (under u i false false false) p c t)
+unfolding outside
+outside_none u i n p c t =
+    none_if (c ∈ "A") _ _ tt
+    (none_if (c ∈ "z") _ _ tt
+    (none_if (c ∈ "Z") _ _ tt
+    (none_if (c ∈ "K") _ _ tt
+    (none_if (c ∈ "G") _ _ tt
+    (none_if (c ∈ "R") _ _ tt
+    (none_if (c ∈ "O") _ _ tt
+    (none_if (c ∈ "N") _ _ tt
+    (none_if (c ∈ "<") _ _ tt
+    (none_if (c ∈ ">") _ _ tt
+    (none_if (c ∈ "k") _ _ (referring_none (under u i false false false) (reference.back_reference n t))
+    (none_if (c ∈ "g") _ _ (call_none n p c t)
+    (none_if (c ∈ "b") _ _ (boundary_none n false p false t)
+    (none_if (c ∈ "B") _ _ (boundary_none n false p true t) tt)))))))))))))
+
+-- properties
+
+module _ (u i : Bool) where
+  property_keeps : (p c : ℕ) (t : Text) →
+      Keeps (property (bare false) false p c t) (λ m q s. property (under u i false false false) false q c (t ++ s))
+  unfolding property
+  property_keeps p c [] = tt
+  property_keeps p c (d ∷ t) = by_property (read_property (c ∈ "P") (d ∷ t)) (read_stays (c ∈ "P") d t) where
+    by_property : (o : Option (Property × Text)) → StaysSome o (λ s. read_property (c ∈ "P") (d ∷ (t ++ s)))
+        → Keeps (choose o (λ r. gives (delegate (property_text false false r.0) false) r.1)
+        (fault_at p unclosed_unicode_name))
+        (λ m q s. choose (read_property (c ∈ "P") (d ∷ (t ++ s)))
+        (λ r. gives (delegate (property_text u false r.0) i) r.1) (fault_at q unclosed_unicode_name))
+    by_property None h = tt
+    by_property (Some a) h = (
+      property_text u false a.0,
+      i,
+      λ m q s. ap
+          (λ o. choose o (λ r. gives (delegate (property_text u false r.0) i) r.1) (fault_at q unclosed_unicode_name))
+          (h s),
+    )
+
+  escape_keeps : (n p : ℕ) (t : Text) →
+      Keeps (escape n (bare false) false p t) (λ m q s. escape m (under u i false false false) false q (t ++ s))
+  unfolding escape numbered
+  escape_keeps n p [] = tt
+  escape_keeps n p (c ∷ t) =
+      keep_if (is_ascii_digit c) _ _ _ _
+      (keep_none _ _ (referring_none (bare false) (reference.numbered_reference n (c ∷ t))))
+      (keep_if (c ∈ "dDsSwW") _ _ _ _ (backslash ∷ c ∷ [], i, λ m q s. refl)
+      (keep_if (c ∈ "h") _ _ _ _ (codes "[0-9A-Fa-f]", false, λ m q s. refl)
+      (keep_if (c ∈ "H") _ _ _ _ (codes "[^0-9A-Fa-f]", false, λ m q s. refl)
+      (keep_if (c ∈ "x") _ _ _ _ (keep_none _ _ (hex_none n (bare false) 2 t))
+      (keep_if (c ∈ "u") _ _ _ _ (keep_none _ _ (hex_none n (bare false) 4 t))
+      (keep_if (c ∈ "U") _ _ _ _ (keep_none _ _ (hex_none n (bare false) 8 t))
+      (keep_if (c ∈ "pP") _ _ _ _ (property_keeps p c t)
+      (keep_if (c ∈ "a") _ _ _ _ tt
+      (keep_if (c ∈ "f") _ _ _ _ tt
+      (keep_if (c ∈ "n") _ _ _ _ tt
+      (keep_if (c ∈ "r") _ _ _ _ tt
+      (keep_if (c ∈ "t") _ _ _ _ tt
+      (keep_if (c ∈ "v") _ _ _ _ tt
+      (keep_if (c ∈ "e") _ _ _ _ tt
+      (keep_if (is_itself false c) _ _ _ _ tt
+      (keep_none _ _ (outside_none false false n p c t)))))))))))))))))
+
+  pub escape_carries : (n p : ℕ) (t w v : Text) (b : Bool) → escape n (bare false) false p t ≡ gives (delegate w b) v
+      → (x : Text) × (c : Bool)
+      × ((m q : ℕ) (s : Text) →
+      escape m (under u i false false false) false q (t ++ s) ≡ gives (delegate x c) (v ++ s))
+  escape_carries n p t w v b e =
+      subst (λ o. Keeps o (λ m q s. escape m (under u i false false false) false q (t ++ s))) e (escape_keeps n p t)

@@ -1,0 +1,182 @@
+-- What may follow a piece: no comment, and no quantifier.
+use Rattle.std.proofs.Common.{◌≡◌, ℕ, Bool, true, false, ◌==◌, ⊎_elim, List, [], ◌∷◌, Some, None, refl, sym, subst, eqb-true, ap, ◌∙◌, ◌||◌}
+use Rattle.std.specs.List.{list_any}
+use Rattle.std.proofs.Math.Bool.{or-false}
+use Rattle.std.proofs.lemmas.Bool.{or_parts, or_cases, cond_both, both_ways}
+use Rattle.std.proofs.lemmas.Option.{same_Some}
+use Rattle.fancy_lex.specs.Characters.{is_among, ◌∈◌, bar}
+use Rattle.fancy_lex.specs.Escape.{escape}
+use Rattle.fancy_lex.specs.Escaped as escaped
+use Rattle.fancy_lex.specs.Layout.{layout, after_comment_head, rest}
+use Rattle.fancy_lex.specs.Reading.{gives}
+use Rattle.fancy_lex.specs.Text.{Text, strip}
+use Rattle.fancy_lex.specs.declared.flags.Flags.{Flags}
+use Rattle.fancy_lex.proofs.LayoutLemmas.{between_plain}
+use Rattle.fancy_parts.specs.Quantifier.{counts}
+use Rattle.fancy_parts.specs.Quote.{behind_backslash, marks, needs_backslash}
+use Rattle.fancy_grammar.specs.Ahead.{ends}
+
+pub no_truth : {X : Type 0} → false ≡ true → X
+no_truth h = absurd cc
+
+-- a quantifier's mark or brace stands in front
+abbrev pub begins_mark : Text → Bool
+begins_mark [] = false
+begins_mark (c ∷ s) = c ∈ "?*+{"
+
+pub record Clear (s : Text) : Type 0 where
+  pub no_comment : after_comment_head s ≡ None
+  pub no_mark : begins_mark s ≡ false
+
+pub not_open : (c : ℕ) (s : Text) → (c == 40) ≡ false → after_comment_head (c ∷ s) ≡ None
+not_open c s e = rw e refl
+
+pub not_asking : (s : Text) → strip 63 s ≡ None → after_comment_head (40 ∷ s) ≡ None
+not_asking s e = rw e refl
+
+pub no_layout : (n : ℕ) (s : Text) → after_comment_head s ≡ None → layout n false s ≡ rest s
+no_layout n s e = between_plain n s e
+
+pub clear_layout : (n : ℕ) (s : Text) → Clear s → layout n false s ≡ rest s
+clear_layout n s h = no_layout n s h.no_comment
+
+-- a character that begins no quantifier
+pub record NoMark (c : ℕ) : Type 0 where
+  pub question : (c == 63) ≡ false
+  pub star : (c == 42) ≡ false
+  pub plus : (c == 43) ≡ false
+  pub brace : (c == 123) ≡ false
+
+pub no_mark_is : (c : ℕ) → c ∈ "?*+{" ≡ false → NoMark c
+no_mark_is c h =
+    let (a, h1) = or_parts (c == 63) _ h in
+    let (b, h2) = or_parts (c == 42) _ h1 in
+    let (d, e) = or_parts (c == 43) _ h2 in
+    record { question = a; star = b; plus = d; brace = e }
+
+pub clear_counts : (x : Bool) (s : Text) → Clear s → counts x s ≡ None
+unfolding counts
+clear_counts x [] h = refl
+clear_counts x (c ∷ s) h = let m = no_mark_is c h.no_mark in rw (m.question, m.star, m.plus, m.brace) refl
+
+pub clear_lazy : (s : Text) → Clear s → strip 63 s ≡ None
+clear_lazy [] h = refl
+clear_lazy (c ∷ s) h = rw ((no_mark_is c h.no_mark).question) refl
+
+pub clear_star : (s : Text) → Clear s → strip 42 s ≡ None
+clear_star [] h = refl
+clear_star (c ∷ s) h = rw ((no_mark_is c h.no_mark).star) refl
+
+pub clear_plus : (s : Text) → Clear s → strip 43 s ≡ None
+clear_plus [] h = refl
+clear_plus (c ∷ s) h = rw ((no_mark_is c h.no_mark).plus) refl
+
+pub clear_brace : (s : Text) → Clear s → strip 123 s ≡ None
+clear_brace [] h = refl
+clear_brace (c ∷ s) h = rw ((no_mark_is c h.no_mark).brace) refl
+
+-- where a branch stops
+pub record Stops (v : Text) : Type 0 where
+  pub clear : Clear v
+  pub ends : ends v ≡ true
+
+-- where an alternation ends
+pub record Ends (v : Text) : Type 0 where
+  pub stops : Stops v
+  pub no_bar : strip bar v ≡ None
+
+pub clear_close : (v : Text) → Clear (41 ∷ v)
+clear_close v = record { no_comment = refl; no_mark = refl }
+
+pub stops_bar : (v : Text) → Stops (124 ∷ v)
+stops_bar v = record { clear = record { no_comment = refl; no_mark = refl }; ends = refl }
+
+pub ends_close : (v : Text) → Ends (41 ∷ v)
+ends_close v = record { stops = record { clear = clear_close v; ends = refl }; no_bar = refl }
+
+pub ends_nothing : Ends []
+ends_nothing = record {
+  stops = record { clear = record { no_comment = refl; no_mark = refl }; ends = refl };
+  no_bar = refl;
+}
+
+-- ---- the characters that are quoted
+
+-- none of the characters
+abbrev pub NoneOf : ℕ → List ℕ → Type 0
+NoneOf c [] = Unit {0}
+NoneOf c (x ∷ xs) = ((c == x) ≡ false) × NoneOf c xs
+
+none_of : (c : ℕ) (xs : List ℕ) → list_any (λ m. c == m) xs ≡ false → NoneOf c xs
+none_of c [] h = tt
+none_of c (x ∷ xs) h = let (a, b) = or_parts (c == x) _ h in (a, none_of c xs b)
+
+-- it is so of each character
+pub data Each (P : ℕ → Type 0) : List ℕ → Type 0 where
+  no_more : Each P []
+  also : {x : ℕ} {xs : List ℕ} → P x → Each P xs → Each P (x ∷ xs)
+
+each_at : (P : ℕ → Type 0) (xs : List ℕ) (c : ℕ) → Each P xs → list_any (λ m. c == m) xs ≡ true → P c
+each_at P [] c no_more e = absurd (both_ways false refl e)
+each_at P (x ∷ xs) c (also h k) e =
+    ⊎_elim (λ same. subst P (sym (eqb-true c x same)) h) (λ more. each_at P xs c k more) (or_cases (c == x) _ e)
+
+-- the same of a character that is said to be in a list
+among_any : (c : ℕ) (xs : List ℕ) → is_among c xs ≡ list_any (λ m. c == m) xs
+among_any c [] = refl
+among_any c (x ∷ []) = sym (or-false (c == x))
+among_any c (x ∷ y ∷ xs) = ap (λ b. c == x || b) (among_any c (y ∷ xs))
+
+pub none_among : (c : ℕ) (xs : List ℕ) → is_among c xs ≡ false → NoneOf c xs
+none_among c xs h = none_of c xs (sym (among_any c xs) ∙ h)
+
+pub each_among : (P : ℕ → Type 0) (xs : List ℕ) (c : ℕ) → Each P xs → is_among c xs ≡ true → P c
+each_among P xs c h e = each_at P xs c h (sym (among_any c xs) ∙ e)
+
+-- a character printed as itself is no mark
+pub behind_none : (c : ℕ) → behind_backslash c ≡ None → NoneOf c marks
+behind_none c =
+    cond_both (c == 10) _ _ (λ y. y ≡ None → NoneOf c marks) (λ t e. absurd cc)
+    (λ _. cond_both (c == 9) _ _ (λ y. y ≡ None → NoneOf c marks) (λ t e. absurd cc)
+    (λ _. cond_both (c == 13) _ _ (λ y. y ≡ None → NoneOf c marks) (λ t e. absurd cc)
+    (λ _. cond_both (needs_backslash c) _ _ (λ y. y ≡ None → NoneOf c marks) (λ t e. absurd cc)
+    (λ n e. none_of c marks n))))
+
+-- what is printed behind a backslash is read as the character
+abbrev pub Escapes : ℕ → ℕ → Type 0
+Escapes x c = (n : ℕ) (f : Flags) (p : ℕ) (t : Text) → escape n f false p (x ∷ t) ≡ gives (escaped.literal c false) t
+
+escapes_marks : Each (λ m. Escapes m m) marks
+unfolding escape
+escapes_marks =
+    also (λ n f p t. refl) (also (λ n f p t. refl) (also (λ n f p t. refl) (also (λ n f p t. refl)
+    (also (λ n f p t. refl) (also (λ n f p t. refl) (also (λ n f p t. refl) (also (λ n f p t. refl)
+    (also (λ n f p t. refl) (also (λ n f p t. refl) (also (λ n f p t. refl) (also (λ n f p t. refl)
+    (also (λ n f p t. refl) (also (λ n f p t. refl) (also (λ n f p t. refl) no_more))))))))))))))
+
+escapes_n : Escapes 110 10
+unfolding escape
+escapes_n n f p t = refl
+
+escapes_t : Escapes 116 9
+unfolding escape
+escapes_t n f p t = refl
+
+escapes_r : Escapes 114 13
+unfolding escape
+escapes_r n f p t = refl
+
+pub behind_some : (c x : ℕ) → behind_backslash c ≡ Some x → Escapes x c
+behind_some c x =
+    cond_both (c == 10) _ _ (λ y. y ≡ Some x → Escapes x c)
+    (λ t e. from 110 10 e t escapes_n)
+    (λ _. cond_both (c == 9) _ _ (λ y. y ≡ Some x → Escapes x c)
+    (λ t e. from 116 9 e t escapes_t)
+    (λ _. cond_both (c == 13) _ _ (λ y. y ≡ Some x → Escapes x c)
+    (λ t e. from 114 13 e t escapes_r)
+    (λ _. cond_both (needs_backslash c) _ _ (λ y. y ≡ Some x → Escapes x c)
+    (λ t e. subst (λ y. Escapes y c) (same_Some c x e) (each_at (λ m. Escapes m m) marks c escapes_marks t))
+    (λ _ e. absurd cc))))
+  where
+    from : (y d : ℕ) → Some y ≡ Some x → (c == d) ≡ true → Escapes y d → Escapes x c
+    from y d e t h = subst (λ z. Escapes z c) (same_Some y x e) (subst (Escapes y) (sym (eqb-true c d t)) h)

@@ -1,0 +1,208 @@
+-- Counts that were printed are read back.
+use Rattle.std.proofs.Common.{◌≡◌, ℕ, ◌+◌, ◌*◌, ◌-◌, ◌^◌, ◌<◌, Bool, true, false, ◌&&◌, ◌==◌, [], ◌∷◌, ◌++◌, Option, Some, None, codes, decimal, refl, sym, ap, ap₂, ◌∙◌, arith, append_assoc, append-nil, eqb-true, ne_eqb, le-leb, lt-ltb, subst}
+use Rattle.std.specs.Char.{digit_value, is_ascii_digit}
+use Rattle.std.specs.Str.Parse.{IsNumeral, digits_value_after}
+use Rattle.std.specs.Str.Parse as parse
+use Rattle.std.proofs.lemmas.Bool.{and_from, cond_both, and_parts}
+use Rattle.std.proofs.lemmas.Fmt.{decimal_is_IsNumeral}
+use Rattle.std.proofs.lemmas.Str.{digit_value_digit}
+use Rattle.std.proofs.lemmas.Str.Parse.{digit_from_value}
+use Rattle.fancy_lex.specs.Boundary.{boundary, unnamed_boundary, at_count}
+use Rattle.fancy_lex.specs.Layout.{after_comment_head, rest_of}
+use Rattle.fancy_lex.specs.Number.{AllDigits, at_digit, number, value_after}
+use Rattle.fancy_lex.specs.Reading.{gives}
+use Rattle.fancy_lex.specs.Text.{Text, strip}
+use Rattle.fancy_lex.proofs.NumberLemmas.{number_complete, number_none}
+use Rattle.fancy_parts.specs.Quantifier.{most, past_layout, count, spaced_count, counts_from, braced_counts, counts}
+use Rattle.fancy_parts.specs.declared.counts.Counts.{Counts}
+use Rattle.fancy_parts.specs.Quote.{range, mark, counts_as, counts_text, quantifier}
+use Rattle.fancy_grammar.proofs.ReadBack.ClearLemmas.{Clear, not_open, no_layout, clear_brace}
+
+digit_is : (c : ℕ) → digit_value c < 10 → (is_ascii_digit c ≡ true) × (c - 48 ≡ digit_value c)
+digit_is c h =
+    let r = digit_from_value c h in
+    let v = digit_value_digit c r in
+    (and_from _ _ (le-leb 48 c (omega arith)) (le-leb c 57 (omega arith)), omega arith)
+
+pub all_digits : (ds : Text) → parse.AllDigits 10 ds → AllDigits ds
+all_digits [] h = tt
+all_digits (d ∷ ds) h = ((digit_is d h.0).0, all_digits ds h.1)
+
+same_value : (a : ℕ) (ds : Text) → parse.AllDigits 10 ds → digits_value_after 10 a ds ≡ value_after a ds
+same_value a [] h = refl
+same_value a (d ∷ ds) h =
+    same_value (a * 10 + digit_value d) ds h.1 ∙ ap (λ x. value_after (a * 10 + x) ds) (sym (digit_is d h.0).1)
+
+stop_at : (s : Text) → at_digit s ≡ false → (c : ℕ) (t : Text) → s ≡ c ∷ t → is_ascii_digit c ≡ false
+stop_at s h c t e = sym (ap at_digit e) ∙ h
+
+number_read : (n : ℕ) (s : Text) → n < 2 ^ 64 → at_digit s ≡ false → number (decimal n ++ s) ≡ Some (n, s)
+number_read n s h d =
+    let (numeral, value) = decimal_is_IsNumeral n h in
+    number_complete (decimal n ++ s) s n
+    (record {
+      w = decimal n;
+      cut = refl;
+      number = record {
+        digits = all_digits (decimal n) numeral.1;
+        some = numeral.0;
+        stops = stop_at s d;
+        value_is = sym value ∙ same_value 0 (decimal n) numeral.1;
+      };
+    })
+
+no_comment : (ds s : Text) → IsNumeral 10 ds → after_comment_head (ds ++ s) ≡ None
+no_comment [] s h = absurd (omega (arith, h.0))
+no_comment (d ∷ ds) s h = let r = digit_from_value d h.1.0 in not_open d (ds ++ s) (ne_eqb d 40 (omega arith))
+
+skip_same : (s : Text) → after_comment_head s ≡ None → past_layout false s ≡ Some s
+skip_same s e = ap rest_of (no_layout 0 s e)
+
+abbrev counted_some : ℕ → Text → Option (Option ℕ × Text)
+counted_some n s = Some (Some n, s)
+
+abbrev counted_none : Text → Option (Option ℕ × Text)
+counted_none s = Some (None, s)
+
+count_read : (n : ℕ) (s : Text) → n < 2 ^ 64 → at_digit s ≡ false → after_comment_head s ≡ None →
+    spaced_count false (decimal n ++ s) ≡ counted_some n s
+unfolding spaced_count count
+count_read n s h d e =
+    rw (
+      skip_same (decimal n ++ s)
+          (no_comment (decimal n) s (decimal_is_IsNumeral n h).0),
+      number_read n s h d,
+      lt-ltb n
+          (2 ^ 64) h,
+      skip_same s e,
+    ) refl
+
+count_none : (s : Text) → at_digit s ≡ false → after_comment_head s ≡ None → spaced_count false s ≡ counted_none s
+unfolding spaced_count count
+count_none s d e = rw (skip_same s e, number_none s d, skip_same s e) refl
+
+-- the counts, whether they stand in braces, and what follows them
+abbrev pub counted : ℕ → ℕ → Bool → Text → Option (Counts × Text)
+counted lo hi b s = Some (record { low = lo; high = hi; braces = b }, s)
+
+braces_one : (n : ℕ) (s : Text) → n < 2 ^ 64 → braced_counts false (decimal n ++ 125 ∷ s) ≡ counted n n true s
+unfolding braced_counts
+braces_one n s h = rw (count_read n (125 ∷ s) h refl refl) refl
+
+braces_open : (lo : ℕ) (s : Text) → lo < 2 ^ 64 →
+    braced_counts false (decimal lo ++ 44 ∷ 125 ∷ s) ≡ counted lo most true s
+unfolding braced_counts counts_from
+braces_open lo s h = rw (count_read lo (44 ∷ 125 ∷ s) h refl refl, count_none (125 ∷ s) refl refl) refl
+
+braces_both : (lo hi : ℕ) (s : Text) → lo < 2 ^ 64 → hi < 2 ^ 64 →
+    braced_counts false (decimal lo ++ 44 ∷ (decimal hi ++ 125 ∷ s)) ≡ counted lo hi true s
+unfolding braced_counts counts_from
+braces_both lo hi s l h =
+    rw (count_read lo (44 ∷ (decimal hi ++ 125 ∷ s)) l refl refl, count_read hi (125 ∷ s) h refl refl) refl
+
+-- a boundary ends before the text: no name in braces follows it
+abbrev pub NoName : Text → Type 0
+NoName v = (n p : ℕ) (negated : Bool) → boundary n false p negated v ≡ gives (unnamed_boundary negated) v
+
+pub no_brace : (v : Text) → after_comment_head v ≡ None → strip 123 v ≡ None → NoName v
+unfolding boundary
+no_brace v e b n p negated = rw (no_layout n v e, b) refl
+
+pub clear_name : (v : Text) → Clear v → NoName v
+clear_name v h = no_brace v h.no_comment (clear_brace v h)
+
+digit_first : (ds s : Text) → IsNumeral 10 ds → at_count (ds ++ s) ≡ true
+digit_first [] s h = absurd (omega (arith, h.0))
+digit_first (d ∷ ds) s h = rw ((digit_is d h.1.0).0) refl
+
+brace_name : (ds s : Text) → IsNumeral 10 ds → NoName (123 ∷ (ds ++ s))
+unfolding boundary
+brace_name ds s h n p negated =
+    rw (no_layout n (123 ∷ (ds ++ s)) refl, no_layout n (ds ++ s) (no_comment ds s h), digit_first ds s h) refl
+
+-- the mark w in front of s
+pub record IsMark (lo hi : ℕ) (s w : Text) : Type 0 where
+  pub braces : Bool
+  pub counts : counts false (w ++ s) ≡ counted lo hi braces s
+  pub no_comment : after_comment_head (w ++ s) ≡ None
+  pub no_name : NoName (w ++ s)
+
+same_counts : (lo hi l h : ℕ) (b : Bool) (s : Text) → l ≡ lo → h ≡ hi → counted lo hi b s ≡ counted l h b s
+same_counts lo hi l h b s e g = ap₂ (λ x y. counted x y b s) (sym e) (sym g)
+
+brace_mark : (lo hi n : ℕ) (w r s : Text) → n < 2 ^ 64 → r ≡ decimal n ++ w →
+    braced_counts false (decimal n ++ (w ++ 125 ∷ s)) ≡ counted lo hi true s →
+    IsMark lo hi s (codes "{" ++ (r ++ codes "}"))
+unfolding counts
+brace_mark lo hi n w r s h q e =
+    let numeral = (decimal_is_IsNumeral n h).0 in
+    let same : (r ++ 125 ∷ []) ++ s ≡ decimal n ++ (w ++ 125 ∷ s) =
+    append_assoc r (125 ∷ []) s ∙ ap (λ x. x ++ 125 ∷ s) q ∙ append_assoc (decimal n) w (125 ∷ s) in
+    record {
+      braces = true;
+      counts = ap (braced_counts false) same ∙ e;
+      no_comment = refl;
+      no_name = subst (λ x. NoName (123 ∷ x)) (sym same) (brace_name (decimal n) (w ++ 125 ∷ s) numeral);
+    }
+
+sign_mark : (lo hi l h c : ℕ) (s : Text) → lo ≡ l → hi ≡ h → counts false (c ∷ s) ≡ counted l h false s →
+    after_comment_head (c ∷ s) ≡ None → strip 123 (c ∷ s) ≡ None → IsMark lo hi s (c ∷ [])
+sign_mark lo hi l h c s a b e o n =
+    record {
+      braces = false;
+      counts = e ∙ same_counts l h lo hi false s a b;
+      no_comment = o;
+      no_name = no_brace (c ∷ s) o n;
+    }
+
+abbrev MarkIs : ℕ → ℕ → Text → Option ℕ → Type 0
+MarkIs lo hi s o = IsMark lo hi s (counts_as lo hi o)
+
+range_mark : (lo hi : ℕ) (s : Text) → lo < 2 ^ 64 → hi < 2 ^ 64 → MarkIs lo hi s None
+unfolding range
+range_mark lo hi s l h =
+    cond_both (lo == hi) _ _ (λ r. IsMark lo hi s (codes "{" ++ (r ++ codes "}")))
+    (λ e. brace_mark lo hi lo [] _ s l (sym (append-nil (decimal lo)))
+    (braces_one lo s l ∙ same_counts lo lo lo hi true s refl (sym (eqb-true lo hi e))))
+    (λ _. cond_both (hi == most) _ _ (λ r. IsMark lo hi s (codes "{" ++ (r ++ codes "}")))
+    (λ e. brace_mark lo hi lo (codes ",") _ s l refl
+    (braces_open lo s l ∙ same_counts lo most lo hi true s refl (eqb-true hi most e)))
+    (λ _. brace_mark lo hi lo (codes "," ++ decimal hi) _ s l refl
+    (ap (λ x. braced_counts false (decimal lo ++ 44 ∷ x)) refl ∙ braces_both lo hi s l h)))
+
+mark_read : (lo hi : ℕ) (s : Text) → lo < 2 ^ 64 → hi < 2 ^ 64 → IsMark lo hi s (counts_text lo hi)
+unfolding counts_text mark counts
+mark_read lo hi s l h =
+    cond_both ((lo == 0) && (hi == 1)) _ _ (MarkIs lo hi s)
+    (λ e. let (a, b) = and_parts _ _ e in sign_mark lo hi 0 1 63 s (eqb-true lo 0 a) (eqb-true hi 1 b) refl refl refl)
+    (λ _. cond_both ((lo == 0) && (hi == most)) _ _ (MarkIs lo hi s)
+    (λ e. let (a, b) = and_parts _ _ e in
+    sign_mark lo hi 0 most 42 s (eqb-true lo 0 a) (eqb-true hi most b) refl refl refl)
+    (λ _. cond_both ((lo == 1) && (hi == most)) _ _ (MarkIs lo hi s)
+    (λ e. let (a, b) = and_parts _ _ e in
+    sign_mark lo hi 1 most 43 s (eqb-true lo 1 a) (eqb-true hi most b) refl refl refl)
+    (λ _. range_mark lo hi s l h)))
+
+-- the lazy mark
+abbrev pub lazy : Bool → Text
+lazy true = []
+lazy false = codes "?"
+
+-- a whole quantifier in front of v
+pub record IsQuantifier (lo hi : ℕ) (greedy : Bool) (v q : Text) : Type 0 where
+  pub no_comment : after_comment_head q ≡ None
+  pub braces : Bool
+  pub counts : counts false q ≡ counted lo hi braces (lazy greedy ++ v)
+  pub no_name : NoName q
+
+lazy_is : (lo hi : ℕ) (greedy : Bool) → quantifier lo hi greedy ≡ counts_text lo hi ++ lazy greedy
+lazy_is lo hi true = refl
+lazy_is lo hi false = refl
+
+pub quantifier_read : (lo hi : ℕ) (greedy : Bool) (v : Text) → lo < 2 ^ 64 → hi < 2 ^ 64 →
+    IsQuantifier lo hi greedy v (quantifier lo hi greedy ++ v)
+quantifier_read lo hi greedy v l h =
+    let m = mark_read lo hi (lazy greedy ++ v) l h in
+    subst (IsQuantifier lo hi greedy v)
+    (sym (ap (λ w. w ++ v) (lazy_is lo hi greedy) ∙ append_assoc (counts_text lo hi) (lazy greedy) v))
+    (record { no_comment = m.no_comment; braces = m.braces; counts = m.counts; no_name = m.no_name })

@@ -1,0 +1,230 @@
+-- What a printable Delegate's text is read as is printable again.
+use Rattle.std.proofs.Common.{◌≡◌, ◌≢◌, ℕ, Bool, true, false, ◌==◌, ◌&&◌, if◌then◌else◌, [], ◌∷◌, ◌++◌, codes, Option, Some, None, is_some, option_map, ◌⊎◌, inl, inr, refl, sym, ap, ◌∙◌, subst, append-nil, ne_eqb}
+use Rattle.std.proofs.lemmas.Bool.{and_from, and_parts, cases_eq}
+use Rattle.std.specs.Str.{all_scalars}
+use Rattle.fancy_lex.specs.Characters.{◌∈◌}
+use Rattle.fancy_lex.specs.Class.{class, Class, Outcome, written, fault}
+use Rattle.fancy_lex.specs.Escape.{escape, numbered, property, is_itself}
+use Rattle.fancy_lex.specs.EscapeReference.{numbered_reference}
+use Rattle.fancy_lex.specs.Escaped as escaped
+use Rattle.fancy_lex.specs.Escaped.{Escape}
+use Rattle.fancy_lex.specs.Fault.{Fault, unclosed_unicode_name}
+use Rattle.fancy_lex.specs.Hex.{hex}
+use Rattle.std.specs.Char.{IsScalar, is_ascii_digit}
+use Rattle.fancy_lex.specs.Property.{Property, PropertyName, single, braced, read_property, name_at, property_text, Form, set, pair, form, form_text, look_up, lowercase, turn, letter}
+use Rattle.fancy_lex.specs.Reading.{Reading, gives, fails, fault_at, choose}
+use Rattle.fancy_lex.specs.Text.{Text, bytes, place_of}
+use Rattle.fancy_lex.proofs.ClassLaws.{class_complete, class_reads}
+use Rattle.fancy_grammar.specs.Ahead.{leaf_node, leaf_outcome}
+use Rattle.fancy_grammar.specs.Tree.{delegate}
+use Rattle.fancy_grammar.specs.Normal.{bare, under, class_of, whole_leaf, normal}
+use Rattle.fancy_grammar.specs.Printable.{printable}
+use Rattle.fancy_grammar.proofs.ReadBack.ScalarLemmas.{scalars_append}
+use Rattle.fancy_grammar.proofs.ReadBack.ClassChunks.{ClassGoes, Chunk}
+use Rattle.fancy_grammar.proofs.ReadBack.CarriedLaws.{referring_none, class_carries, escape_carries, NoDelegate, hex_none, outside_none}
+use Rattle.fancy_grammar.proofs.ReadBack.DelegateTexts.{bracket_read, bracket_normal, escape_read, escape_normal, no_other, nothing_whole}
+use Rattle.fancy_grammar.proofs.ReadBack.ChunkLemmas.{FormOf, Pairs, form_of, name_scalars, bracket_goes, caret_goes, IsName, NameOk, NameSome, name_ok, prop, single_small, single_large, braced_small, braced_large, hex_word, space_other, unprinted, lowercase_ok, turn_ok}
+use Rattle.fancy_grammar.proofs.ReadBack.RewrittenLaws.{ClassAgain, class_again}
+use Rattle.fancy_grammar.proofs.ReadBack.RuleLemmas.{st}
+use Rattle.fancy_grammar.proofs.ReadBack.ClearLemmas.{Each, no_more, also, each_among, no_truth}
+
+-- the text is one whole class or class escape
+abbrev IsWhole : Text → Type 0
+IsWhole w = (all_scalars w && is_some (class_of (bare false) w)) ≡ true
+
+class_whole : (t : Text) → all_scalars t ≡ true → ClassGoes (bytes (91 ∷ t)) t [] → IsWhole (91 ∷ t)
+unfolding class_of
+class_whole t k g =
+    let (y, a, h) = g false in
+    and_from (all_scalars (91 ∷ t)) _ k
+    (ap (λ o. is_some (whole_leaf (leaf_outcome (λ w. delegate w false) (st (bare false) (91 ∷ t)) o)))
+    (class_complete (bytes (91 ∷ t)) (bare false) t _ h))
+
+escape_whole : (t w : Text) (b : Bool) → all_scalars t ≡ true →
+    escape (bytes (92 ∷ t)) (bare false) false (place_of (bytes (92 ∷ t)) (92 ∷ t)) t ≡ gives
+    (escaped.delegate w b) [] →
+    IsWhole (92 ∷ t)
+unfolding class_of
+escape_whole t w b k e =
+    and_from (all_scalars (92 ∷ t)) _ k
+    (ap (λ o. is_some (whole_leaf (leaf_outcome leaf_node (st (bare false) (92 ∷ t)) o))) e)
+
+-- ---- a class
+
+same_written : (x w v : Text) → gives w v ≡ gives x [] → (w ≡ x) × (v ≡ [])
+same_written x w v e = (cc, cc)
+
+class_stays : (u i : Bool) (n : ℕ) (t x : Text) → all_scalars t ≡ true →
+    class n (under u i false false false) t ≡ gives x [] → IsWhole x
+class_stays u i n t x k e = by_reading (class_reads n (under u i false false false) t)
+  where
+    no_fault : (z : Fault) → ◌≡◌ {A = Reading Text} (fails z) (gives x []) → ⊥
+    no_fault z q = cc
+
+    again : ClassAgain x → IsWhole x
+    again c =
+        subst IsWhole (sym c.is)
+        (class_whole c.inner c.scalars
+        (subst (λ z. ClassGoes (bytes (91 ∷ c.inner)) z []) (append-nil c.inner) (c.goes (bytes (91 ∷ c.inner)) [])))
+
+    by_reading : (o : Outcome) × Class n (under u i false false false) false t o → IsWhole x
+    by_reading (written w a v, h) =
+        again (subst ClassAgain (same_written x w v (sym (class_complete n (under u i false false false) t _ h) ∙ e)).0
+        (class_again h k))
+    by_reading (fault z, h) = absurd (no_fault z (sym (class_complete n (under u i false false false) t _ h) ∙ e))
+
+-- ---- a class escape
+
+abbrev WholeOf : Reading Escape → Type 0
+WholeOf (gives (escaped.delegate w b) t) = IsWhole w
+WholeOf _ = Unit {0}
+
+whole_none : (o : Reading Escape) → NoDelegate o → WholeOf o
+whole_none (gives (escaped.delegate w b) t) h = absurd h
+whole_none _ h = tt
+
+whole_if : (b : Bool) (p q : Reading Escape) → (b ≡ true → WholeOf p) → WholeOf q → WholeOf (if b then p else q)
+whole_if true p q h k = h refl
+whole_if false p q h k = k
+
+bracket_whole : (w : Text) → Chunk w → IsWhole (91 ∷ (w ++ 93 ∷ []))
+bracket_whole w c =
+    class_whole (w ++ 93 ∷ []) (scalars_append w (93 ∷ []) c.scalars refl)
+    (subst (λ z. ClassGoes (bytes (91 ∷ (w ++ 93 ∷ []))) z []) (append-nil (w ++ 93 ∷ []))
+    (bracket_goes w c (bytes (91 ∷ (w ++ 93 ∷ []))) []))
+
+caret_whole : (w : Text) → Chunk w → IsWhole (91 ∷ 94 ∷ (w ++ 93 ∷ []))
+caret_whole w c =
+    let m = bytes (91 ∷ 94 ∷ (w ++ 93 ∷ [])) in
+    class_whole (94 ∷ (w ++ 93 ∷ [])) (scalars_append w (93 ∷ []) c.scalars refl)
+    (subst (λ z. ClassGoes m (94 ∷ z) []) (append-nil (w ++ 93 ∷ [])) (caret_goes w c m []))
+
+small_whole : (w : Text) → IsName w → IsWhole (92 ∷ 112 ∷ 123 ∷ (w ++ 125 ∷ []))
+small_whole w h =
+    escape_whole (112 ∷ 123 ∷ (w ++ 125 ∷ [])) _ _ (scalars_append w (125 ∷ []) (name_scalars w h) refl)
+    (braced_small _ _ false w [] h)
+
+large_whole : (w : Text) → IsName w → IsWhole (92 ∷ 80 ∷ 123 ∷ (w ++ 125 ∷ []))
+large_whole w h =
+    escape_whole (80 ∷ 123 ∷ (w ++ 125 ∷ [])) _ _ (scalars_append w (125 ∷ []) (name_scalars w h) refl)
+    (braced_large _ _ false w [] h)
+
+single_whole : (b : Bool) (c : ℕ) → (c == 123) ≡ false → IsScalar c → IsWhole (letter b ++ c ∷ [])
+single_whole false c h k = escape_whole (112 ∷ c ∷ []) _ _ (and_from _ true k refl) (single_small _ _ false c [] h)
+single_whole true c h k = escape_whole (80 ∷ c ∷ []) _ _ (and_from _ true k refl) (single_large _ _ false c [] h)
+
+letters_whole : Each (λ c. IsWhole (92 ∷ c ∷ [])) (codes "dDsSwW")
+unfolding class_of escape
+letters_whole = also refl (also refl (also refl (also refl (also refl (also refl no_more)))))
+
+letter_whole : (c : ℕ) → c ∈ "dDsSwW" ≡ true → IsWhole (92 ∷ c ∷ [])
+letter_whole c h = each_among (λ c. IsWhole (92 ∷ c ∷ [])) (codes "dDsSwW") c letters_whole h
+
+whole_pairs : Pairs IsWhole
+whole_pairs = record {
+  word = (letter_whole 119 refl, letter_whole 87 refl);
+  graph = (
+    caret_whole (codes "\\p{White_Space}\\p{C}") space_other,
+    bracket_whole (codes "\\p{White_Space}\\p{C}") space_other,
+  );
+  print = (
+    caret_whole (codes "\\p{C}\\t\\n\\v\\f\\r") unprinted,
+    bracket_whole (codes "\\p{C}\\t\\n\\v\\f\\r") unprinted,
+  );
+  small = small_whole;
+  large = large_whole;
+}
+
+outside_form : (b : Bool) (f : Form) → FormOf IsWhole f → IsWhole (form_text false b f)
+outside_form true (set items) h = caret_whole items h
+outside_form false (set items) h = bracket_whole items h
+outside_form true (pair x y) h = h.1
+outside_form false (pair x y) h = h.0
+
+property_whole : (u b : Bool) (name : PropertyName) → NameOk name → IsWhole (property_text u false (prop b name))
+unfolding property_text
+property_whole u b (single c) h = single_whole b c h.0 h.1
+property_whole u b (braced s) h =
+    let p = turn b s in
+    let ok = lowercase_ok p.1 (turn_ok b s h) in
+    outside_form p.0 (form u (look_up (lowercase p.1)) (lowercase p.1))
+    (form_of IsWhole whole_pairs (lowercase p.1) ok u)
+
+read_whole : (u i : Bool) (p : ℕ) (b : Bool) (o : Option (PropertyName × Text)) → NameSome o
+    → WholeOf (choose (option_map {T = PropertyName × Text} {U = Property × Text} (λ q. (prop b q.0, q.1)) o)
+    (λ q. gives (escaped.delegate (property_text u false q.0) i) q.1) (fault_at p unclosed_unicode_name))
+read_whole u i p b None h = tt
+read_whole u i p b (Some q) h = property_whole u b q.0 h
+
+outside_property : (u i : Bool) (p c : ℕ) (t : Text) → all_scalars t ≡ true →
+    WholeOf (property (under u i false false false) false p c t)
+unfolding property read_property
+outside_property u i p c [] h = tt
+outside_property u i p c (d ∷ t) h = read_whole u i p (c ∈ "P") (name_at (d ∷ t)) (name_ok d t h)
+
+outside_whole : (u i : Bool) (n p : ℕ) (t : Text) → all_scalars t ≡ true →
+    WholeOf (escape n (under u i false false false) false p t)
+unfolding escape numbered
+outside_whole u i n p [] k = tt
+outside_whole u i n p (c ∷ t) k =
+    let f = under u i false false false in
+    whole_if (is_ascii_digit c) (numbered n f false p (c ∷ t)) _
+    (λ _. whole_none _ (referring_none f (numbered_reference n (c ∷ t))))
+    (whole_if (c ∈ "dDsSwW") (gives (escaped.delegate (92 ∷ c ∷ []) i) t) _ (λ e. letter_whole c e)
+    (whole_if (c ∈ "h") (gives (escaped.delegate (codes "[0-9A-Fa-f]") false) t) _
+    (λ _. bracket_whole (codes "0-9A-Fa-f") hex_word)
+    (whole_if (c ∈ "H") (gives (escaped.delegate (codes "[^0-9A-Fa-f]") false) t) _
+    (λ _. caret_whole (codes "0-9A-Fa-f") hex_word)
+    (whole_if (c ∈ "x") (hex n f 2 t) _ (λ _. whole_none _ (hex_none n f 2 t))
+    (whole_if (c ∈ "u") (hex n f 4 t) _ (λ _. whole_none _ (hex_none n f 4 t))
+    (whole_if (c ∈ "U") (hex n f 8 t) _ (λ _. whole_none _ (hex_none n f 8 t))
+    (whole_if (c ∈ "pP") (property f false p c t) _ (λ _. outside_property u i p c t (and_parts _ (all_scalars t) k).1)
+    (whole_if (c ∈ "a") (gives (escaped.literal 7 false) t) _ (λ _. tt)
+    (whole_if (c ∈ "f") (gives (escaped.literal 12 false) t) _ (λ _. tt)
+    (whole_if (c ∈ "n") (gives (escaped.literal 10 false) t) _ (λ _. tt)
+    (whole_if (c ∈ "r") (gives (escaped.literal 13 false) t) _ (λ _. tt)
+    (whole_if (c ∈ "t") (gives (escaped.literal 9 false) t) _ (λ _. tt)
+    (whole_if (c ∈ "v") (gives (escaped.literal 11 false) t) _ (λ _. tt)
+    (whole_if (c ∈ "e") (gives (escaped.literal 27 false) t) _ (λ _. tt)
+    (whole_if (is_itself false c) (gives (escaped.literal c false) t) _ (λ _. tt)
+    (whole_none _ (outside_none u i n p c t)))))))))))))))))
+
+-- ---- a Delegate
+
+bracket_stays : (u i : Bool) (t : Text) → IsWhole (91 ∷ t) → printable (normal u (delegate (91 ∷ t) i)) ≡ true
+bracket_stays u i t h =
+    let (k, whole) = and_parts (all_scalars (91 ∷ t)) _ h in
+    let (w, e) = bracket_read t whole in
+    let (x, same) = class_carries u i (bytes (91 ∷ t)) t w [] e in
+    let here = same (bytes (91 ∷ t)) [] in
+    ap printable (bracket_normal u i t x here)
+    ∙ class_stays u i (bytes (91 ∷ t)) (t ++ []) x (scalars_append t [] k refl) here
+
+escape_stays : (u i : Bool) (t : Text) → IsWhole (92 ∷ t) → printable (normal u (delegate (92 ∷ t) i)) ≡ true
+escape_stays u i t h =
+    let (k, whole) = and_parts (all_scalars (92 ∷ t)) _ h in
+    let (w, b, e) = escape_read t whole in
+    let n = bytes (92 ∷ t) in
+    let p = place_of n (92 ∷ t) in
+    let (x, c, same) = escape_carries u i n p t w [] b e in
+    ap printable (escape_normal u i t x c (same n p []))
+    ∙ subst WholeOf (same n p []) (outside_whole u i n p (t ++ []) (scalars_append t [] k refl))
+
+no_class : {X : Type 0} (s : Text) → is_some (class_of (bare false) s) ≡ false → IsWhole s → X
+no_class s e h = no_truth (sym e ∙ (and_parts (all_scalars s) _ h).1)
+
+pub delegates_stay : (u i : Bool) (s : Text) → IsWhole s → printable (normal u (delegate s i)) ≡ true
+delegates_stay u i [] h = no_class [] nothing_whole h
+delegates_stay u i (c ∷ t) h = by_bracket (cases_eq c 91)
+  where
+    by_escape : (c ≢ 91) → (c ≡ 92) ⊎ (c ≢ 92) → printable (normal u (delegate (c ∷ t) i)) ≡ true
+    by_escape a (inl e) =
+        subst (λ x. printable (normal u (delegate (x ∷ t) i)) ≡ true) (sym e)
+        (escape_stays u i t (subst (λ x. IsWhole (x ∷ t)) e h))
+    by_escape a (inr b) = no_class (c ∷ t) (no_other c t (ne_eqb c 91 a) (ne_eqb c 92 b)) h
+
+    by_bracket : (c ≡ 91) ⊎ (c ≢ 91) → printable (normal u (delegate (c ∷ t) i)) ≡ true
+    by_bracket (inl e) =
+        subst (λ x. printable (normal u (delegate (x ∷ t) i)) ≡ true) (sym e)
+        (bracket_stays u i t (subst (λ x. IsWhole (x ∷ t)) e h))
+    by_bracket (inr a) = by_escape a (cases_eq c 92)

@@ -1,0 +1,323 @@
+-- What is printed reads back.
+use Rattle.std.proofs.Common.{◌≡◌, ℕ, zero, suc, ◌+◌, ◌<◌, ◌≤◌, Bool, true, false, not, ◌&&◌, ◌||◌, List, [], ◌∷◌, ◌++◌, map, refl, sym, ap, subst, arith, lt-ltb}
+use Rattle.fancy_lex.specs.Text.{Text, bytes}
+use Rattle.fancy_lex.specs.declared.escape.Assertion.{Assertion}
+use Rattle.fancy_lex.specs.declared.escape.Assertion.TheVariants.{StartLineOniguruma}
+use Rattle.fancy_parts.specs.Quote.{behind_backslash, quantifier}
+use Rattle.fancy_grammar.specs.Grammar.{Derives}
+use Rattle.fancy_grammar.specs.Join.{solid, join, choice}
+use Rattle.fancy_grammar.specs.Normal.{character, items_of, under, bare, normal, items, normals}
+use Rattle.fancy_grammar.specs.Printed.{printed, printed_all, printed_branches, grouped}
+use Rattle.fancy_grammar.specs.Tree.{Tree, Trees, no_trees, more_trees, empty, any, assertion, literal, concat, alt, group, repeat, delegate, define_group}
+use Rattle.fancy_grammar.specs.Nest.{nest, nests, one_if, is_line}
+use Rattle.fancy_grammar.proofs.ReadBack.InFront.{put, puts, put_branches, put_barred, put_any, put_assertion, put_quotes, open_if, put_alone}
+use Rattle.fancy_grammar.proofs.ReadBack.ClearLemmas.{Clear, Stops, Ends, clear_close, stops_bar, ends_close, ends_nothing}
+use Rattle.fancy_grammar.proofs.ReadBack.CountTexts.{NoName, clear_name, quantifier_read}
+use Rattle.fancy_grammar.proofs.ReadBack.RuleLemmas.{Becomes, kept, AtomAs, BranchAs, BranchesAs, WholeAs, Run, no_run, run_chain, reads_piece, reads_repeat, reads_branch, reads_last, reads_more, reads_whole, reads_only, reads_group, reads_grouped, reads_caseless, reads_char, reads_text, join_one}
+use Rattle.fancy_grammar.proofs.ReadBack.LeafLemmas.{Begins, whole_atom, quotes_run, reads_any, begins_any, reads_assertion, begins_assertion, read_assertion, HasText}
+use Rattle.fancy_grammar.proofs.ReadBack.ShapeLemmas.{DelegateText, Printable, ArePrintable, IsAtom, atom_of, begins_head, begins_group, begins_atom, clear_put, clear_puts}
+
+-- what k prints, with m groups nested, reads as the tree x
+abbrev pub ReadsAtom : Bool → (Text → Text) → ℕ → Tree → Type 0
+ReadsAtom u k m x = (n d : ℕ) (v : Text) → d + m < 64 → NoName v → AtomAs n d (bare u) (k v) v x
+
+abbrev pub ReadsRun : Bool → (Text → Text) → ℕ → List Tree → Type 0
+ReadsRun u k m ys = (n d : ℕ) (v : Text) → d + m < 64 → Clear v → Run n d (bare u) (k v) v ys
+
+abbrev pub ReadsBranch : Bool → (Text → Text) → ℕ → Tree → Type 0
+ReadsBranch u k m x = (n d : ℕ) (v : Text) → d + m < 64 → Stops v → BranchAs n d (bare u) (k v) v x
+
+abbrev pub ReadsWhole : Bool → (Text → Text) → ℕ → Tree → Type 0
+ReadsWhole u k m x = (n d : ℕ) (v : Text) → d + m < 64 → Ends v → WholeAs n d (bare u) (k v) v x
+
+abbrev pub Starts : (Text → Text) → Type 0
+Starts k = (v : Text) → Begins (k v)
+
+atom_run : (u : Bool) (k : Text → Text) (m : ℕ) (x : Tree) → Starts k → ReadsAtom u k m x →
+    ReadsRun u k m (solid (x ∷ []))
+atom_run u k m x s a n d v l c =
+    reads_piece n d (bare u) (k v) v x (kept u false false false false) (s v).goes (s v).clear.no_comment c
+    (a n d v l (clear_name v c))
+
+to_branch : (u : Bool) (k : Text → Text) (m : ℕ) (ys : List Tree) (x : Tree) → join ys ≡ x → ReadsRun u k m ys →
+    ReadsBranch u k m x
+to_branch u k m ys x e r n d v l h = reads_branch x (r n d v l h.clear) e h
+
+to_whole : (u : Bool) (k : Text → Text) (m : ℕ) (x : Tree) → ReadsBranch u k m x → ReadsWhole u k m x
+to_whole u k m x b n d v l e = reads_only n d (bare u) (k v) v x (b n d v l e.stops) e
+
+-- in a group of its own
+abbrev pub wrapped : (Text → Text) → Text → Text
+wrapped k v = open_if true (k (41 ∷ v))
+
+wrap_atom : (u : Bool) (k : Text → Text) (m : ℕ) (x : Tree) → ReadsWhole u k m x → ReadsAtom u (wrapped k) (1 + m) x
+wrap_atom u k m x w n d v l _ =
+    reads_grouped n d (bare u) (k (41 ∷ v)) v x (kept u false false false false) (omega arith)
+    (w n (d + 1) (41 ∷ v) (omega arith) (ends_close v))
+
+pub wrap_starts : (k : Text → Text) → Starts (wrapped k)
+wrap_starts k v = begins_head 58 (k (41 ∷ v)) refl
+
+-- What the texts k3, k2, k1 and k0 of the four precedences read as, with m3 to m0 groups nested:
+-- the tree x as an atom where IsOne, pieces with the trees ys, a branch with the tree x, and a whole alternation.
+pub record ReadsBy (u : Bool) (k3 k2 k1 k0 : Text → Text) (m3 m2 m1 m0 : ℕ) (IsOne : Type 0) (x : Tree)
+    (ys : List Tree) : Type 0 where
+  pub atom : IsOne → ReadsAtom u k3 m3 x
+  pub high : ReadsRun u k3 m3 ys
+  pub run : ReadsRun u k2 m2 ys
+  pub branch : ReadsBranch u k1 m1 x
+  pub whole : ReadsWhole u k0 m0 x
+
+abbrev pub Reads : Bool → Tree → Type 0
+Reads u t =
+    ReadsBy u (put t 3) (put t 2) (put t 1) (put t 0) (nest t 3) (nest t 2) (nest t 1) (nest t 0) (IsAtom t)
+    (normal u t) (items_of t (normal u t))
+
+abbrev pub EachReads : Bool → Trees → Type 0
+EachReads u no_trees = Unit {0}
+EachReads u (more_trees t ts) = Reads u t × EachReads u ts
+
+-- never wrapped
+by_atom : (u : Bool) (k : Text → Text) (m : ℕ) (IsOne : Type 0) (x : Tree) → Starts k → ReadsAtom u k m x →
+    ReadsBy u k k k k m m m m IsOne x (solid (x ∷ []))
+by_atom u k m i x s a =
+    let r = atom_run u k m x s a in
+    let b = to_branch u k m (solid (x ∷ [])) x (join_one x) r in
+    record { atom = λ _. a; high = r; run = r; branch = b; whole = to_whole u k m x b }
+
+-- wrapped from 1 on
+by_whole : (u : Bool) (k : Text → Text) (m : ℕ) (IsOne : Type 0) (x : Tree) → ReadsWhole u k m x
+    → ReadsBy u (wrapped k) (wrapped k) (wrapped k) k (1 + m) (1 + m) (1 + m) (0 + m) IsOne x (solid (x ∷ []))
+by_whole u k m i x w =
+    let a = wrap_atom u k m x w in
+    let r = atom_run u (wrapped k) (1 + m) x (wrap_starts k) a in
+    record {
+      atom = λ _. a;
+      high = r;
+      run = r;
+      branch = to_branch u (wrapped k) (1 + m) (solid (x ∷ [])) x (join_one x) r;
+      whole = λ n d v l e. w n d v (omega arith) e;
+    }
+
+-- wrapped from 2 on
+by_branch : (u : Bool) (k : Text → Text) (m : ℕ) (IsOne : Type 0) (x : Tree) (ys : List Tree) → join ys ≡ x →
+    ReadsRun u k m ys
+    → ReadsBy u (wrapped k) (wrapped k) k k (1 + m) (1 + m) (0 + m) (0 + m) IsOne x (solid (x ∷ []))
+by_branch u k m i x ys e r =
+    let b = to_branch u k m ys x e r in
+    let w = to_whole u k m x b in
+    let a = wrap_atom u k m x w in
+    let h = atom_run u (wrapped k) (1 + m) x (wrap_starts k) a in
+    record {
+      atom = λ _. a;
+      high = h;
+      run = h;
+      branch = λ n d v l c. b n d v (omega arith) c;
+      whole = λ n d v l c. w n d v (omega arith) c;
+    }
+
+-- wrapped from 3 on
+by_run : (u : Bool) (k : Text → Text) (m : ℕ) (IsOne : Type 0) (x : Tree) → ReadsRun u k m (solid (x ∷ []))
+    → ReadsBy u (wrapped k) k k k (1 + m) (0 + m) (0 + m) (0 + m) IsOne x (solid (x ∷ []))
+by_run u k m i x r =
+    let b = to_branch u k m (solid (x ∷ [])) x (join_one x) r in
+    let w = to_whole u k m x b in
+    let a = wrap_atom u k m x w in
+    record {
+      atom = λ _. a;
+      high = atom_run u (wrapped k) (1 + m) x (wrap_starts k) a;
+      run = λ n d v l c. r n d v (omega arith) c;
+      branch = λ n d v l c. b n d v (omega arith) c;
+      whole = λ n d v l c. w n d v (omega arith) c;
+    }
+
+-- ---- each kind of tree
+
+empty_reads : (u : Bool) → Reads u empty
+empty_reads u =
+    let k = λ (v : Text). v in
+    let r : ReadsRun u k 0 [] = λ n d v l c. no_run n d (bare u) v in
+    let b = to_branch u k 0 [] empty refl r in
+    record { atom = λ i. absurd i; high = r; run = r; branch = b; whole = to_whole u k 0 empty b }
+
+define_reads : (u : Bool) (t : Tree) → Reads u (define_group t)
+define_reads u t =
+    let r = empty_reads u in
+    record { atom = λ i. absurd i; high = r.high; run = r.run; branch = r.branch; whole = r.whole }
+
+any_reads : (u a b : Bool) → Reads u (any a b)
+any_reads u a b =
+    by_atom u (put_any a b) (one_if (a || b)) (Unit {0}) (any a (not a && b)) (begins_any a b)
+    (λ n d v l _. reads_any n d u a b v l)
+
+assertion_is : (u : Bool) (a : Assertion) → read_assertion a ≡ normal u (assertion a)
+assertion_is u (StartLineOniguruma crlf) = refl
+assertion_is u _ = refl
+
+assertion_reads : (u : Bool) (a : Assertion) → HasText a → Reads u (assertion a)
+assertion_reads u a h =
+    let k = put_assertion a in
+    let m = one_if (is_line a) in
+    subst (λ x. ReadsBy u k k k k m m m m (Unit {0}) x (solid (x ∷ []))) (assertion_is u a)
+    (by_atom u k m (Unit {0}) (read_assertion a) (λ v. begins_assertion a v h)
+    (λ n d v l e. reads_assertion n d u a v h l e))
+
+caseless_reads : (u : Bool) (s : Text) → Reads u (literal s true)
+caseless_reads u s =
+    let k = λ (v : Text). 40 ∷ 63 ∷ 105 ∷ 58 ∷ put_quotes s (41 ∷ v) in
+    let f = under u true false false false in
+    let x = join (map (character true) s) in
+    by_atom u k 1 (Unit {0}) x (λ v. begins_head 105 _ refl)
+    (λ n d v l _. reads_caseless n d u (put_quotes s (41 ∷ v)) v x l
+    (reads_only n (d + 1) f (put_quotes s (41 ∷ v)) (41 ∷ v) x
+    (reads_branch x (quotes_run n (d + 1) f s (41 ∷ v) (kept u true false false false) (clear_close v)) refl
+    (ends_close v).stops) (ends_close v)))
+
+literal_atom : (u : Bool) (s : Text) → IsAtom (literal s false) →
+    ReadsAtom u (put_quotes s) 0 (join (map (character false) s))
+literal_atom u [] i n d v l _ = absurd i
+literal_atom u (c ∷ []) i n d v l _ = reads_char n d (bare u) c v (behind_backslash c) refl
+literal_atom u (c ∷ e ∷ cs) i n d v l _ = absurd i
+
+literal_reads : (u : Bool) (s : Text) → Reads u (literal s false)
+literal_reads u s =
+    let k = put_quotes s in
+    let ys = map (character false) s in
+    let r : ReadsRun u k 0 ys = λ n d v l c. quotes_run n d (bare u) s v (kept u false false false false) c in
+    let b = to_branch u k 0 ys (join ys) refl r in
+    record { atom = literal_atom u s; high = r; run = r; branch = b; whole = to_whole u k 0 (join ys) b }
+
+delegate_reads : (u : Bool) (s : Text) → DelegateText s → Reads u (delegate s false)
+delegate_reads u s h =
+    by_atom u (λ v. s ++ v) 0 (Unit {0}) (normal u (delegate s false)) h.begins (λ n d v l _. h.reads n d u false v)
+
+caseless_delegate_reads : (u : Bool) (s : Text) → DelegateText s → Reads u (delegate s true)
+caseless_delegate_reads u s h =
+    let x = normal u (delegate s true) in
+    by_atom u (λ v. 40 ∷ 63 ∷ 105 ∷ 58 ∷ (s ++ 41 ∷ v)) 1 (Unit {0}) x (λ v. begins_head 105 _ refl)
+    (λ n d v l _. reads_caseless n d u (s ++ 41 ∷ v) v x l
+    (whole_atom n (d + 1) (under u true false false false) (s ++ 41 ∷ v) v x (kept u true false false false)
+    (h.begins (41 ∷ v)) (h.reads n (d + 1) u true (41 ∷ v))))
+
+group_reads : (u : Bool) (t : Tree) → Printable t → Reads u t → Reads u (group t)
+group_reads u t h r =
+    let k = λ (v : Text). 40 ∷ put t 0 (41 ∷ v) in
+    by_atom u k (1 + nest t 0) (Unit {0}) (group (normal u t))
+    (λ v. begins_group _ (clear_put t h 0 (41 ∷ v) (clear_close v)))
+    (λ n d v l _. reads_group n d (bare u) (put t 0 (41 ∷ v)) v (normal u t) (kept u false false false false)
+    (omega arith) (clear_put t h 0 (41 ∷ v) (clear_close v))
+    (r.whole n (d + 1) (41 ∷ v) (omega arith) (ends_close v)))
+
+concat_run : (u : Bool) (ts : Trees) → ArePrintable ts → EachReads u ts → ReadsRun u (puts ts) (nests ts 2) (items u ts)
+concat_run u no_trees h r n d v l c = no_run n d (bare u) v
+concat_run u (more_trees t ts) h r n d v l c =
+    run_chain (r.0.run n d (puts ts v) (omega arith) (clear_puts ts h.1 v c))
+    (concat_run u ts h.1 r.1 n d v (omega arith) c)
+
+concat_reads : (u : Bool) (ts : Trees) → ArePrintable ts → EachReads u ts → Reads u (concat ts)
+concat_reads u ts h r =
+    by_branch u (puts ts) (nests ts 2) (Unit {0}) (join (items u ts)) (items u ts) refl (concat_run u ts h r)
+
+alt_branches : (u : Bool) (t : Tree) (ts : Trees) → Reads u t → EachReads u ts → (n d : ℕ) (v : Text) →
+    d + nest t 1 < 64 → d + nests ts 1 < 64 → Ends v
+    → BranchesAs n d (bare u) (put t 1 (put_barred ts v)) v (normal u t ∷ normals u ts)
+alt_branches u t no_trees r rs n d v l m e =
+    reads_last n d (bare u) (put t 1 v) v (normal u t) (r.branch n d v l e.stops) e
+alt_branches u t (more_trees x xs) r rs n d v l m e =
+    reads_more n d (bare u) (put t 1 (124 ∷ put x 1 (put_barred xs v))) (put x 1 (put_barred xs v)) v (normal u t)
+    (normal u x ∷ normals u xs)
+    (r.branch n d (124 ∷ put x 1 (put_barred xs v)) l (stops_bar _))
+    (alt_branches u x xs rs.0 rs.1 n d v (omega arith) (omega arith) e)
+
+alt_whole : (u : Bool) (ts : Trees) → EachReads u ts →
+    ReadsWhole u (put_branches ts) (nests ts 1) (choice (normals u ts))
+alt_whole u no_trees r n d v l e =
+    reads_only n d (bare u) v v empty (reads_branch empty (no_run n d (bare u) v) refl e.stops) e
+alt_whole u (more_trees t ts) r n d v l e =
+    reads_whole n d (bare u) (put t 1 (put_barred ts v)) v (normal u t ∷ normals u ts)
+    (alt_branches u t ts r.0 r.1 n d v (omega arith) (omega arith) e)
+
+alt_reads : (u : Bool) (ts : Trees) → EachReads u ts → Reads u (alt ts)
+alt_reads u ts r = by_whole u (put_branches ts) (nests ts 1) (Unit {0}) (choice (normals u ts)) (alt_whole u ts r)
+
+repeat_run : (u : Bool) (t : Tree) (lo hi : ℕ) (greedy : Bool) → Printable (repeat t lo hi greedy) → Reads u t
+    → ReadsRun u (λ v. put t 3 (quantifier lo hi greedy ++ v)) (nest t 3) (repeat (normal u t) lo hi greedy ∷ [])
+repeat_run u t lo hi greedy h r n d v l c =
+    let q = quantifier lo hi greedy ++ v in
+    let m = quantifier_read lo hi greedy v h.3 h.4 in
+    let i = atom_of t (h.1 false) h.2 in
+    let b = begins_atom t h.0 i q in
+    reads_repeat n d (bare u) (put t 3 q) q v (normal u t) lo hi greedy
+    (kept u false false false false) b.goes b.clear.no_comment c m (h.1 u) (r.atom i n d q l m.no_name)
+
+repeat_reads : (u : Bool) (t : Tree) (lo hi : ℕ) (greedy : Bool) → Printable (repeat t lo hi greedy) → Reads u t →
+    Reads u (repeat t lo hi greedy)
+repeat_reads u t lo hi greedy h r =
+    by_run u (λ v. put t 3 (quantifier lo hi greedy ++ v)) (nest t 3) (Unit {0}) (repeat (normal u t) lo hi greedy)
+    (repeat_run u t lo hi greedy h r)
+
+mutual
+  pub reads : (u : Bool) (t : Tree) → Printable t → Reads u t
+  reads u empty h = empty_reads u
+  reads u (any a b) h = any_reads u a b
+  reads u (assertion a) h = assertion_reads u a h
+  reads u (literal s true) h = caseless_reads u s
+  reads u (literal s false) h = literal_reads u s
+  reads u (delegate s true) h = caseless_delegate_reads u s h
+  reads u (delegate s false) h = delegate_reads u s h
+  reads u (concat ts) h = concat_reads u ts h (reads_each u ts h)
+  reads u (alt ts) h = alt_reads u ts (reads_each u ts h)
+  reads u (group t) h = group_reads u t h (reads u t h)
+  reads u (repeat t lo hi greedy) h = repeat_reads u t lo hi greedy h (reads u t h.0)
+  reads u (define_group t) h = define_reads u t
+  reads u _ h = absurd h
+
+  pub reads_each : (u : Bool) (ts : Trees) → ArePrintable ts → EachReads u ts
+  reads_each u no_trees h = tt
+  reads_each u (more_trees t ts) h = (reads u t h.0, reads_each u ts h.1)
+
+-- ---- any precedence
+
+join_items : (u : Bool) (t : Tree) → join (items_of t (normal u t)) ≡ normal u t
+join_items u (literal s false) = refl
+join_items u t = join_one (normal u t)
+
+pub text_high : (t : Tree) (p : ℕ) → 3 ≤ p → printed t p ≡ printed t 3
+text_high (concat ts) p h = ap (λ b. grouped b (printed_all ts)) (lt-ltb 1 p (omega arith))
+text_high (alt ts) p h = ap (λ b. grouped b (printed_branches ts)) (lt-ltb 0 p (omega arith))
+text_high (repeat t lo hi greedy) p h =
+    ap (λ b. grouped b (printed t 3 ++ quantifier lo hi greedy)) (lt-ltb 2 p (omega arith))
+text_high t p h = refl
+
+pub nest_high : (t : Tree) (p : ℕ) → 3 ≤ p → nest t p ≡ nest t 3
+nest_high (concat ts) p h = ap (λ b. one_if b + nests ts 2) (lt-ltb 1 p (omega arith))
+nest_high (alt ts) p h = ap (λ b. one_if b + nests ts 1) (lt-ltb 0 p (omega arith))
+nest_high (repeat t lo hi greedy) p h = ap (λ b. one_if b + nest t 3) (lt-ltb 2 p (omega arith))
+nest_high t p h = refl
+
+from_run : (u : Bool) (t : Tree) (p : ℕ) → ReadsRun u (put t p) (nest t p) (items_of t (normal u t)) →
+    ReadsWhole u (put t p) (nest t p) (normal u t)
+from_run u t p r =
+    to_whole u (put t p) (nest t p) (normal u t)
+    (to_branch u (put t p) (nest t p) (items_of t (normal u t)) (normal u t) (join_items u t) r)
+
+abbrev ReadsFrom : Bool → Tree → Text → Type 0
+ReadsFrom u t s = (r : Tree) × Derives (bare u) s r × Becomes r (normal u t)
+
+from_whole : (u : Bool) (t : Tree) (s : Text) → WholeAs (bytes s) 0 (bare u) s [] (normal u t) → ReadsFrom u t s
+from_whole u t s w = reads_text (bare u) s (normal u t) w
+
+at_level : (t : Tree) (p : ℕ) (u : Bool) → nest t p < 64 → ReadsWhole u (put t p) (nest t p) (normal u t) →
+    ReadsFrom u t (printed t p)
+at_level t p u l w =
+    subst (ReadsFrom u t) (put_alone t p)
+    (from_whole u t (put t p []) (w (bytes (put t p [])) 0 [] (omega arith) ends_nothing))
+
+pub reads_back : (t : Tree) (p : ℕ) (u : Bool) → Printable t → nest t p < 64 → ReadsFrom u t (printed t p)
+reads_back t zero u h l = at_level t 0 u l (reads u t h).whole
+reads_back t (suc zero) u h l = at_level t 1 u l (to_whole u (put t 1) (nest t 1) (normal u t) (reads u t h).branch)
+reads_back t (suc (suc zero)) u h l = at_level t 2 u l (from_run u t 2 (reads u t h).run)
+reads_back t (suc (suc (suc p))) u h l =
+    let big : 3 ≤ suc (suc (suc p)) = omega arith in
+    subst (ReadsFrom u t) (sym (text_high t (suc (suc (suc p))) big))
+    (at_level t 3 u (omega (arith, nest_high t (suc (suc (suc p))) big)) (from_run u t 3 (reads u t h).high))

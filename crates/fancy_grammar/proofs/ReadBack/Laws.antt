@@ -1,0 +1,133 @@
+-- The text of a printable tree has one answer.
+use Rattle.std.proofs.Common.{◌≡◌, ℕ, ◌<◌, Bool, true, false, if◌then◌else◌, nat_lt, nat_le, List, [], ◌∷◌, length, filter, filter_map, map, None, refl, sym, ap, ap₂, ◌∙◌, subst}
+use Rattle.std.specs.Prelude.{find, fold, chars, encode_utf8_all}
+use Rattle.std.specs.BTreeSet.{insert_key}
+use Rattle.std.specs.List.{list_any}
+use Rattle.std.proofs.lemmas.Bool.{cond_both, cond-true}
+use borrow.Author.Tests.{ltb-true, ltb-false}
+use Rattle.std.proofs.Common.{lt-ltb}
+use Rattle.fancy_lex.specs.Fault.{Kind, recursion_exceeded}
+use Rattle.fancy_lex.specs.Text.{Text}
+use Rattle.fancy_lex.specs.declared.error.Error.TheVariants.{ParseError}
+use Rattle.fancy_lex.specs.declared.error.ParseError.TheVariants.{RecursionExceeded}
+use Rattle.fancy_lex.specs.declared.flags.Flags.{Flags}
+use Rattle.fancy_parts.specs.Meaning.{first_fault}
+use Rattle.fancy_parts.specs.Ranks.{counted_in, named_groups, numbers, name_cmp}
+use Rattle.fancy_grammar.specs.Ahead.{max_depth}
+use Rattle.fancy_grammar.specs.Answer.{IsTreeOf, of_reading}
+use Rattle.fancy_grammar.specs.Answered.{groups}
+use Rattle.fancy_grammar.specs.Grammar.{Derives, Faults}
+use Rattle.fancy_grammar.specs.Items.{Item, opening, reference, items, openings, openings_in, references_in}
+use Rattle.fancy_grammar.specs.Marks.{Marks, marks, ascending, back_numbers, is_numeric, is_call, is_call_of_all}
+use Rattle.fancy_grammar.specs.Printed.{printed}
+use Rattle.fancy_grammar.specs.Resolved.{fault_of}
+use Rattle.fancy_grammar.specs.Tree.{Tree, empty}
+use Rattle.fancy_grammar.proofs.AnsweredLaws.{groups_total}
+use Rattle.fancy_grammar.proofs.Verdict.{only_tree, no_fault, only_reading}
+use Rattle.fancy_grammar.specs.Nest.{nest}
+use Rattle.fancy_grammar.specs.Normal.{bare, normal}
+use Rattle.fancy_grammar.specs.Over.{over}
+use Rattle.fancy_grammar.specs.Printable.{printable}
+use Rattle.fancy_grammar.specs.ReadBack.{marks_of_groups, Answer, read, refused, IsAnswerOf, IsOnlyAnswer, read_back, IsReadBack}
+use Rattle.fancy_grammar.proofs.ReadBack.PrintableLaws.{told}
+use Rattle.fancy_grammar.proofs.ReadBack.PrintedScalars.{printed_spelled}
+use Rattle.fancy_grammar.proofs.ReadBack.Induction.{reads_back}
+use Rattle.fancy_grammar.proofs.ReadBack.RuleLemmas.{OnlyGroups, Becomes}
+use Rattle.fancy_grammar.proofs.ReadBack.TooDeep.{too_deep}
+
+-- ---- the marks
+
+no_references : (l : List Item) → OnlyGroups l → references_in l ≡ []
+no_references [] h = refl
+no_references (opening o ∷ l) h = no_references l h.1
+no_references (reference r ∷ l) h = absurd h
+
+no_names : (l : List Item) → OnlyGroups l → filter_map (λ o. o.name) (counted_in false (openings_in l)) ≡ []
+no_names [] h = refl
+no_names (opening o ∷ l) h = rw h.0 (no_names l h.1)
+no_names (reference r ∷ l) h = absurd h
+
+marks_are : (u : Bool) (text : Text) (r : Tree) → OnlyGroups (items r) →
+    marks (bare u) text r ≡ marks_of_groups (length (counted_in false (openings r)))
+marks_are u text r h =
+    let none = no_references (items r) h in
+    let numbered = counted_in false (openings r) in
+    let unnamed : named_groups numbered ≡ [] =
+    ap (λ l. map (λ t. (t, numbers t numbered)) (fold (insert_key name_cmp) [] l)) (no_names (items r) h) in
+    λ i. record {
+      backrefs = ascending (filter (λ n. nat_le n (length numbered)) (back_numbers numbered (none i)));
+      named_groups = unnamed i;
+      numeric_capture_group_references = list_any (λ x. is_numeric text x.place x.role x.target) (none i);
+      contains_subroutines = list_any (λ x. is_call x.role) (none i);
+      self_recursive = list_any (λ x. is_call_of_all x.role x.target) (none i);
+      total_groups = length numbered;
+      out_of_range_backref = find (λ n. nat_lt (length numbered) n) (back_numbers numbered (none i));
+      numbered_groups_ignored = false;
+    }
+
+-- ---- the answer
+
+-- a text that derives a tree with groups alone
+tree_of : (u : Bool) (text : Text) (r x : Tree) → Derives (bare u) text r → Becomes r x →
+    IsTreeOf (bare u) text x (marks_of_groups (length (groups x)))
+tree_of u text r x d b =
+    let numbered = counted_in false (openings r) in
+    let none : fault_of (bare u) r ≡ None = ap (first_fault numbered) (no_references (items r) b.groups) in
+    let found : IsTreeOf (bare u) text x (marks_of_groups (length numbered)) =
+    (r, d, none, sym (b.is numbered), sym (marks_are u text r b.groups)) in
+    subst (λ n. IsTreeOf (bare u) text x (marks_of_groups n)) (sym (groups_total found)) found
+
+only_read : (f : Flags) (text : Text) (t : Tree) (m : Marks) → IsTreeOf f text t m → IsOnlyAnswer f text (read t m)
+only_read f text t m a = record { is = a; only = λ b h. other b h }
+  where
+    other : (b : Answer) → IsAnswerOf f text b → b ≡ read t m
+    other (read s k) h = let (e, d) = only_tree f text t s m k a h in ap₂ read e d
+    other (refused k p) h = absurd (no_fault f text t m k p a h)
+
+only_refused : (f : Flags) (text : Text) (p : ℕ) → Faults f text recursion_exceeded p →
+    IsOnlyAnswer f text (refused recursion_exceeded p)
+only_refused f text p a = record { is = of_reading a; only = λ b h. other b h }
+  where
+    other : (b : Answer) → IsAnswerOf f text b → b ≡ refused recursion_exceeded p
+    other (read s k) h = absurd (no_fault f text s k recursion_exceeded p h (of_reading a))
+    other (refused k q) h =
+        let (e, d) = (only_reading (ParseError p RecursionExceeded) f text a).1 k q h in ap₂ refused e d
+
+pub read_back_only : (t : Tree) (p : ℕ) → printable t ≡ true → IsReadBack t p (printed t p)
+read_back_only t p h u =
+    cond_both (nat_lt (nest t p) max_depth) _ _ (IsOnlyAnswer (bare u) (printed t p))
+    (λ yes. let (r, d, b) = reads_back t p u (told t h) (ltb-true (nest t p) max_depth yes) in
+    only_read (bare u) (printed t p) (normal u t) _ (tree_of u (printed t p) r (normal u t) d b))
+    (λ no. only_refused (bare u) (printed t p) (over t p)
+    (too_deep t p u (told t h) (ltb-false (nest t p) max_depth no)))
+
+-- the same of the bytes
+pub bytes_read_back : (t : Tree) (p : ℕ) → printable t ≡ true → IsReadBack t p (chars (encode_utf8_all (printed t p)))
+bytes_read_back t p h = subst (IsReadBack t p) (sym (printed_spelled t p h)) (read_back_only t p h)
+
+-- ---- equal texts
+
+tree_read : Answer → Tree
+tree_read (read t m) = t
+tree_read (refused k p) = empty
+
+from_read : (b : Bool) (x y : Tree) (m k : Marks) (j : Kind) (p : ℕ) →
+    (if b then read x m else refused j p) ≡ read y k → y ≡ x
+unfolding tree_read
+from_read true x y m k j p e = sym (ap tree_read e)
+from_read false x y m k j p e = absurd cc
+
+read_where : (t : Tree) (p : ℕ) (u : Bool) → nest t p < 64 →
+    read_back u t p ≡ read (normal u t) (marks_of_groups (length (groups (normal u t))))
+read_where t p u l = cond-true _ _ _ (lt-ltb (nest t p) max_depth l)
+
+-- what was printed as the same text has the same normal form
+pub same_texts : (t s : Tree) (p q : ℕ) (u : Bool) → printable t ≡ true → printable s ≡ true → nest t p < 64 →
+    printed t p ≡ printed s q → normal u t ≡ normal u s
+same_texts t s p q u h k l e =
+    let here = read_back_only t p h u in
+    let there = read_back_only s q k u in
+    let same : read_back u s q ≡ read_back u t p =
+    here.only (read_back u s q) (subst (λ w. IsAnswerOf (bare u) w (read_back u s q)) (sym e) there.is) in
+    from_read (nat_lt (nest s q) max_depth) (normal u s) (normal u t) _ _ recursion_exceeded (over s q)
+    (same ∙ read_where t p u l)

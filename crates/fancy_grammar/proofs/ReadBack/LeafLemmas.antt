@@ -1,0 +1,258 @@
+-- Nodes that hold no branches, as they are printed.
+use Rattle.std.proofs.Common.{◌≡◌, ℕ, ◌+◌, ◌<◌, Bool, true, false, not, ◌&&◌, ◌||◌, ◌==◌, [], ◌∷◌, map, Option, Some, None, refl, ap, ◌∙◌, arith, ne_eqb}
+use Rattle.std.proofs.lemmas.Bool.{cond-false}
+use Rattle.fancy_lex.specs.Boundary.{boundary, named_boundary, name}
+use Rattle.fancy_lex.specs.Escape.{escape, outside}
+use Rattle.fancy_lex.specs.Escaped as escaped
+use Rattle.fancy_lex.specs.Escaped.{Escape}
+use Rattle.fancy_lex.specs.Layout.{after_comment_head, layout_from}
+use Rattle.fancy_lex.specs.Reading.{gives}
+use Rattle.fancy_lex.specs.Text.{Text, bytes, place_of}
+use Rattle.fancy_lex.specs.declared.escape.Assertion.{Assertion}
+use Rattle.fancy_lex.specs.declared.escape.Assertion.TheVariants.{StartText, EndText, EndTextIgnoreTrailingNewlines, StartLine, StartLineOniguruma, EndLine, LeftWordBoundary, LeftWordHalfBoundary, RightWordBoundary, RightWordHalfBoundary, WordBoundary, NotWordBoundary}
+use Rattle.fancy_lex.specs.declared.flags.Flags.{Flags}
+use Rattle.fancy_parts.specs.FlagLetters as letters
+use Rattle.fancy_parts.specs.FlagLetters.{step}
+use Rattle.fancy_parts.specs.Quote.{behind_backslash}
+use Rattle.fancy_grammar.specs.Ahead as before_atom
+use Rattle.fancy_grammar.specs.Ahead.{Ahead, leaf, ahead, leaf_node, leaf_outcome}
+use Rattle.fancy_grammar.specs.Normal.{character, under, bare}
+use Rattle.fancy_grammar.specs.State.{done}
+use Rattle.fancy_grammar.specs.Tree.{Tree, any, assertion}
+use Rattle.fancy_grammar.specs.Nest.{one_if, is_line}
+use Rattle.fancy_grammar.proofs.ReadBack.InFront.{put_as, put_quotes, put_any, put_line, put_assertion}
+use Rattle.fancy_grammar.proofs.ReadBack.ClearLemmas.{begins_mark, Clear, not_open, clear_close, ends_close, behind_none}
+use Rattle.fancy_grammar.proofs.ReadBack.CountTexts.{NoName}
+use Rattle.fancy_grammar.proofs.ReadBack.RuleLemmas.{Kept, kept, st, AtomAs, WholeAs, Run, no_run, run_chain, reads_piece, reads_branch, reads_only, join_one, reads_scope, scope_at, one_letter, two_letters, spelled, last_letter, more_letters, reads_leaf, leaf_at, reads_char}
+
+-- the text of an atom, or of what begins with one
+pub record Begins (s : Text) : Type 0 where
+  pub clear : Clear s
+  pub goes : before_atom.ends s ≡ false
+
+-- told from the first characters
+pub begins_by : {s : Text} → after_comment_head s ≡ None → begins_mark s ≡ false → before_atom.ends s ≡ false → Begins s
+begins_by e m g = record { clear = record { no_comment = e; no_mark = m }; goes = g }
+
+-- an atom alone in a group
+pub whole_atom : (n d : ℕ) (f : Flags) (s v : Text) (x : Tree) → Kept f → Begins s → AtomAs n d f s (41 ∷ v) x →
+    WholeAs n d f s (41 ∷ v) x
+whole_atom n d f s v x k b a =
+    reads_only n d f s (41 ∷ v) x
+    (reads_branch x (reads_piece n d f s (41 ∷ v) x k b.goes b.clear.no_comment (clear_close v) a) (join_one x)
+    (ends_close v).stops) (ends_close v)
+
+-- ---- characters
+
+pub begins_char : (c : ℕ) (v : Text) (o : Option ℕ) → behind_backslash c ≡ o → Begins (put_as c o v)
+begins_char c v None e =
+    let (slash, a) = behind_none c e in
+    let (dot, b) = a in
+    let (plus, h) = b in
+    let (star, i) = h in
+    let (ask, j) = i in
+    let (paren, k) = j in
+    let (close, l) = k in
+    let (bar_, m) = l in
+    record {
+      clear = record { no_comment = not_open c v paren; no_mark = rw (ask, star, plus, m.1.1.0) refl };
+      goes = rw (bar_, close) refl;
+    }
+begins_char c v (Some x) e = begins_by refl refl refl
+
+pub quotes_clear : (cs v : Text) → Clear v → Clear (put_quotes cs v)
+quotes_clear [] v h = h
+quotes_clear (c ∷ cs) v h = (begins_char c (put_quotes cs v) (behind_backslash c) refl).clear
+
+-- characters where nothing follows that takes the last
+pub quotes_run : (n d : ℕ) (f : Flags) (cs v : Text) → Kept f → Clear v →
+    Run n d f (put_quotes cs v) v (map (character f.casei) cs)
+quotes_run n d f [] v k h = no_run n d f v
+quotes_run n d f (c ∷ cs) v k h =
+    let s = put_quotes cs v in
+    let b = begins_char c s (behind_backslash c) refl in
+    run_chain (reads_piece n d f (put_as c (behind_backslash c) s) s (character f.casei c) k b.goes b.clear.no_comment
+    (quotes_clear cs v h) (reads_char n d f c s (behind_backslash c) refl)) (quotes_run n d f cs v k h)
+
+-- ---- any character
+
+reads_dot : (n d : ℕ) (f : Flags) (v : Text) → AtomAs n d f (46 ∷ v) v (any f.dotnl f.crlf)
+reads_dot n d f v =
+    reads_leaf n d f (46 ∷ v) v (any f.dotnl f.crlf) (leaf_at n d f 46 v refl refl) (record {
+      is = λ g. refl;
+      groups = tt;
+    })
+
+begins_dot : (v : Text) → Begins (46 ∷ v)
+begins_dot v = begins_by refl refl refl
+
+minus_letters : (n : ℕ) (u : Bool) (s : Text) →
+    letters.letters n (bare u) (82 ∷ 45 ∷ 115 ∷ 58 ∷ s) ≡ gives (letters.scope (under u false false false true)) s
+unfolding bytes
+minus_letters n u s =
+    let t = 82 ∷ 45 ∷ 115 ∷ 58 ∷ s in
+    let g = under u false false false true in
+    let far : (bytes (58 ∷ s) + 1 == bytes t) ≡ false = ne_eqb (bytes (58 ∷ s) + 1) (bytes t) (omega arith) in
+    let k = kept u false false false true in
+    spelled n 3 (bare u) t (letters.scope g) s
+    (more_letters n t false (bare u) t (kept u false false false false) refl 2 false g (45 ∷ 115 ∷ 58 ∷ s)
+    (letters.scope g) s refl
+    (more_letters n t false g (45 ∷ 115 ∷ 58 ∷ s) k refl 1 true g (115 ∷ 58 ∷ s) (letters.scope g) s refl
+    (more_letters n t true g (115 ∷ 58 ∷ s) k refl 0 true g (58 ∷ s) (letters.scope g) s refl
+    (last_letter n t true g (58 ∷ s) k refl (letters.scope g) s (cond-false _ _ _ far)))))
+    (omega arith)
+
+pub reads_any : (n d : ℕ) (u a b : Bool) (v : Text) → d + one_if (a || b) < 64 →
+    AtomAs n d (bare u) (put_any a b v) v (any a (not a && b))
+reads_any n d u true b v l =
+    let g = under u false false true false in
+    reads_scope n d (bare u) g (put_any true b v) (46 ∷ 41 ∷ v) v (any true false)
+    (scope_at n d (bare u) g (115 ∷ 58 ∷ 46 ∷ 41 ∷ v) (46 ∷ 41 ∷ v) (kept u false false false false) l refl refl
+    (one_letter n (bare u) g 115 (46 ∷ 41 ∷ v) (kept u false false false false)
+    (kept u false false true false) refl refl))
+    (whole_atom n (d + 1) g (46 ∷ 41 ∷ v) v (any true false) (kept u false false true false) (begins_dot (41 ∷ v))
+    (reads_dot n (d + 1) g (41 ∷ v)))
+reads_any n d u false true v l =
+    let g = under u false false false true in
+    reads_scope n d (bare u) g (put_any false true v) (46 ∷ 41 ∷ v) v (any false true)
+    (scope_at n d (bare u) g (82 ∷ 45 ∷ 115 ∷ 58 ∷ 46 ∷ 41 ∷ v) (46 ∷ 41 ∷ v)
+    (kept u false false false false) l refl refl
+    (minus_letters n u (46 ∷ 41 ∷ v)))
+    (whole_atom n (d + 1) g (46 ∷ 41 ∷ v) v (any false true) (kept u false false false true) (begins_dot (41 ∷ v))
+    (reads_dot n (d + 1) g (41 ∷ v)))
+reads_any n d u false false v l = reads_dot n d (bare u) v
+
+pub begins_any : (a b : Bool) (v : Text) → Begins (put_any a b v)
+begins_any true b v = begins_by refl refl refl
+begins_any false true v = begins_by refl refl refl
+begins_any false false v = begins_dot v
+
+-- ---- conditions on a place
+
+-- an anchor under MULTI in a group of its own
+line_atom : (n d c : ℕ) (u r : Bool) (v : Text) (x : Tree) → d + 1 < 64 → Begins (c ∷ 41 ∷ v) →
+    AtomAs n (d + 1) (under u false true false r) (c ∷ 41 ∷ v) (41 ∷ v) x → AtomAs n d (bare u) (put_line c r v) v x
+unfolding bytes
+line_atom n d c u false v x l b a =
+    let g = under u false true false false in
+    reads_scope n d (bare u) g (put_line c false v) (c ∷ 41 ∷ v) v x
+    (scope_at n d (bare u) g (109 ∷ 58 ∷ c ∷ 41 ∷ v) (c ∷ 41 ∷ v) (kept u false false false false) l refl refl
+    (one_letter n (bare u) g 109 (c ∷ 41 ∷ v) (kept u false false false false)
+    (kept u false true false false) refl refl))
+    (whole_atom n (d + 1) g (c ∷ 41 ∷ v) v x (kept u false true false false) b a)
+line_atom n d c u true v x l b a =
+    let g = under u false true false true in
+    reads_scope n d (bare u) g (put_line c true v) (c ∷ 41 ∷ v) v x
+    (scope_at n d (bare u) g (82 ∷ 109 ∷ 58 ∷ c ∷ 41 ∷ v) (c ∷ 41 ∷ v) (kept u false false false false) l refl refl
+    (two_letters n (bare u) (under u false false false true) g 82 109 (c ∷ 41 ∷ v) (kept u false false false false)
+    (kept u false false false true) (kept u false true false true) (omega arith) refl refl refl refl))
+    (whole_atom n (d + 1) g (c ∷ 41 ∷ v) v x (kept u false true false true) b a)
+
+-- an anchor, under the flags that it needs
+anchor : (n d : ℕ) (f : Flags) (c : ℕ) (v : Text) (a : Assertion) →
+    ahead n d (st f (c ∷ v)) ≡ leaf (done (assertion a) (st f v)) →
+    AtomAs n d f (c ∷ v) v (assertion a)
+anchor n d f c v a e = reads_leaf n d f (c ∷ v) v (assertion a) e (record { is = λ g. refl; groups = tt })
+
+start_line : (n d : ℕ) (u r : Bool) (v : Text) → d + 1 < 64 →
+    AtomAs n d (bare u) (put_line 94 r v) v (assertion (StartLine r))
+start_line n d u r v l =
+    let f = under u false true false r in
+    line_atom n d 94 u r v (assertion (StartLine r)) l (record {
+      clear = record { no_comment = refl; no_mark = refl };
+      goes = refl;
+    })
+    (anchor n (d + 1) f 94 (41 ∷ v) (StartLine r) (leaf_at n (d + 1) f 94 (41 ∷ v) refl refl))
+
+end_line : (n d : ℕ) (u r : Bool) (v : Text) → d + 1 < 64 →
+    AtomAs n d (bare u) (put_line 36 r v) v (assertion (EndLine r))
+end_line n d u r v l =
+    let f = under u false true false r in
+    line_atom n d 36 u r v (assertion (EndLine r)) l (record {
+      clear = record { no_comment = refl; no_mark = refl };
+      goes = refl;
+    })
+    (anchor n (d + 1) f 36 (41 ∷ v) (EndLine r) (leaf_at n (d + 1) f 36 (41 ∷ v) refl refl))
+
+-- an escape that is a leaf
+reads_assertion_escape : (n d : ℕ) (u : Bool) (t v : Text) (a : Assertion) →
+    ((p : ℕ) → escape n (bare u) false p t ≡ gives (escaped.assertion a) v) →
+    AtomAs n d (bare u) (92 ∷ t) v (assertion a)
+reads_assertion_escape n d u t v a e =
+    reads_leaf n d (bare u) (92 ∷ t) v (assertion a)
+    (leaf_at n d (bare u) 92 t refl refl
+    ∙ ap (λ r. leaf (leaf_outcome leaf_node (st (bare u) (92 ∷ t)) r)) (e (place_of n (92 ∷ t))))
+    (record { is = λ g. refl; groups = tt })
+
+half_start : (n p : ℕ) (v : Text) →
+    boundary n false p false (123 ∷ 115 ∷ 116 ∷ 97 ∷ 114 ∷ 116 ∷ 45 ∷ 104 ∷ 97 ∷ 108 ∷ 102 ∷ 125 ∷ v) ≡ gives
+    (escaped.assertion LeftWordHalfBoundary) v
+unfolding boundary named_boundary name layout_from
+half_start n p v = refl
+
+half_end : (n p : ℕ) (v : Text) →
+    boundary n false p false (123 ∷ 101 ∷ 110 ∷ 100 ∷ 45 ∷ 104 ∷ 97 ∷ 108 ∷ 102 ∷ 125 ∷ v) ≡ gives
+    (escaped.assertion RightWordHalfBoundary) v
+unfolding boundary named_boundary name layout_from
+half_end n p v = refl
+
+boundary_escape : (n : ℕ) (u : Bool) (p : ℕ) (t : Text) →
+    escape n (bare u) false p (98 ∷ t) ≡ boundary n false p false t
+unfolding escape outside
+boundary_escape n u p t = refl
+
+no_boundary_escape : (n : ℕ) (u : Bool) (p : ℕ) (t : Text) →
+    escape n (bare u) false p (66 ∷ t) ≡ boundary n false p true t
+unfolding escape outside
+no_boundary_escape n u p t = refl
+
+left_escape : (n : ℕ) (u : Bool) (p : ℕ) (t : Text) →
+    escape n (bare u) false p (60 ∷ t) ≡ gives (escaped.assertion LeftWordBoundary) t
+unfolding escape outside
+left_escape n u p t = refl
+
+right_escape : (n : ℕ) (u : Bool) (p : ℕ) (t : Text) →
+    escape n (bare u) false p (62 ∷ t) ≡ gives (escaped.assertion RightWordBoundary) t
+unfolding escape outside
+right_escape n u p t = refl
+
+-- the assertion that is read
+abbrev pub read_assertion : Assertion → Tree
+read_assertion (StartLineOniguruma crlf) = assertion (StartLine crlf)
+read_assertion a = assertion a
+
+abbrev pub HasText : Assertion → Type 0
+HasText (EndTextIgnoreTrailingNewlines crlf) = ⊥
+HasText _ = Unit {0}
+
+pub reads_assertion : (n d : ℕ) (u : Bool) (a : Assertion) (v : Text) → HasText a → d + one_if (is_line a) < 64 →
+    NoName v → AtomAs n d (bare u) (put_assertion a v) v (read_assertion a)
+reads_assertion n d u StartText v h l m = anchor n d (bare u) 94 v StartText (leaf_at n d (bare u) 94 v refl refl)
+reads_assertion n d u EndText v h l m = anchor n d (bare u) 36 v EndText (leaf_at n d (bare u) 36 v refl refl)
+reads_assertion n d u (EndTextIgnoreTrailingNewlines crlf) v h l m = absurd h
+reads_assertion n d u (StartLine crlf) v h l m = start_line n d u crlf v l
+reads_assertion n d u (StartLineOniguruma crlf) v h l m = start_line n d u crlf v l
+reads_assertion n d u (EndLine crlf) v h l m = end_line n d u crlf v l
+reads_assertion n d u WordBoundary v h l m =
+    reads_assertion_escape n d u (98 ∷ v) v WordBoundary (λ p. boundary_escape n u p v ∙ m n p false)
+reads_assertion n d u NotWordBoundary v h l m =
+    reads_assertion_escape n d u (66 ∷ v) v NotWordBoundary (λ p. no_boundary_escape n u p v ∙ m n p true)
+reads_assertion n d u LeftWordBoundary v h l m =
+    reads_assertion_escape n d u (60 ∷ v) v LeftWordBoundary (λ p. left_escape n u p v)
+reads_assertion n d u RightWordBoundary v h l m =
+    reads_assertion_escape n d u (62 ∷ v) v RightWordBoundary (λ p. right_escape n u p v)
+reads_assertion n d u LeftWordHalfBoundary v h l m =
+    reads_assertion_escape n d u _ v LeftWordHalfBoundary (λ p. boundary_escape n u p _ ∙ half_start n p v)
+reads_assertion n d u RightWordHalfBoundary v h l m =
+    reads_assertion_escape n d u _ v RightWordHalfBoundary (λ p. boundary_escape n u p _ ∙ half_end n p v)
+
+begins_line : (c : ℕ) (r : Bool) (v : Text) → Begins (put_line c r v)
+begins_line c false v = begins_by refl refl refl
+begins_line c true v = begins_by refl refl refl
+
+pub begins_assertion : (a : Assertion) (v : Text) → HasText a → Begins (put_assertion a v)
+begins_assertion (EndTextIgnoreTrailingNewlines crlf) v h = absurd h
+begins_assertion (StartLine crlf) v h = begins_line 94 crlf v
+begins_assertion (StartLineOniguruma crlf) v h = begins_line 94 crlf v
+begins_assertion (EndLine crlf) v h = begins_line 36 crlf v
+begins_assertion _ v h = begins_by refl refl refl

@@ -1,0 +1,195 @@
+-- The place of the first group that is too deep, by the nesting of each part.
+use Rattle.std.proofs.Common.{◌≡◌, ℕ, ◌+◌, ◌<◌, ◌≤◌, Bool, true, false, ◌||◌, nat_lt, nat_le, ◌==◌, if◌then◌else◌, List, [], ◌∷◌, ◌++◌, codes, Option, Some, None, option_map, unwrap_or, refl, ap, ◌∙◌, arith}
+use Rattle.std.proofs.lemmas.Bool.{cond_both, cond-true, cond-false}
+use Rattle.std.proofs.lemmas.Bool.Decides.{nat_tests}
+use Rattle.std.proofs.lemmas.List.Folds.{find-append}
+use Rattle.std.specs.Prelude.{find, max}
+use Rattle.std.specs.Option.{option_or}
+use Rattle.std.proofs.Common.{leb-true, leb-false}
+use Rattle.fancy_lex.specs.Text.{Text, bytes}
+use Rattle.fancy_grammar.specs.Printed.{printed}
+use Rattle.fancy_grammar.specs.Tree.{Tree, Trees, no_trees, more_trees, any, assertion, literal, concat, alt, group, repeat, delegate}
+use Rattle.fancy_grammar.specs.Nest.{one_if, is_line, nest, nests}
+use Rattle.fancy_grammar.specs.Over.{Paren, Parens, no_parens, in_group, parens, parens_all, parens_branches, parens_barred, is_too_deep, over}
+
+-- of a group whose head has so many bytes, where d groups are open round it
+abbrev pub at_open : ℕ → ℕ → ℕ → ℕ
+at_open d width inner = if nat_le 63 d then 0 else width + inner
+
+-- the same of a group that is there where that is asked
+abbrev pub at_open_if : Bool → ℕ → (ℕ → ℕ) → ℕ
+at_open_if true d inner = at_open d 3 (inner (d + 1))
+at_open_if false d inner = inner d
+
+-- the place in the text at p of the first group that opens where 63 are open, d of them round the tree
+abbrev mutual
+  pub place : Tree → ℕ → ℕ → ℕ
+  place (concat ts) p d = at_open_if (nat_lt 1 p) d (λ e. places ts e)
+  place (alt ts) p d = at_open_if (nat_lt 0 p) d (λ e. branch_places ts e)
+  place (group t) p d = at_open d 1 (place t 0 (d + 1))
+  place (repeat t lo hi greedy) p d = at_open_if (nat_lt 2 p) d (λ e. place t 3 e)
+  place _ p d = 0
+
+  pub places : Trees → ℕ → ℕ
+  places no_trees d = 0
+  places (more_trees t ts) d = if nat_le 64 (d + nest t 2) then place t 2 d else bytes (printed t 2) + places ts d
+
+  pub branch_places : Trees → ℕ → ℕ
+  branch_places no_trees d = 0
+  branch_places (more_trees t ts) d =
+      if nat_le 64 (d + nest t 1) then place t 1 d else bytes (printed t 1) + barred_places ts d
+
+  pub barred_places : Trees → ℕ → ℕ
+  barred_places no_trees d = 0
+  barred_places (more_trees t ts) d =
+      1 + (if nat_le 64 (d + nest t 1) then place t 1 d else bytes (printed t 1) + barred_places ts d)
+
+-- ---- the parentheses, in which so many groups nest, have their first that is too deep there
+
+abbrev first : List Paren → Option Paren
+first l = find is_too_deep l
+
+record Finds (k : Parens) (m : ℕ) (o : ℕ → ℕ) : Type 0 where
+  deep : (start d : ℕ) → d < 64 → 64 ≤ d + m → first (k start d) ≡ Some (record { place = start + o d; round = 63 })
+  shallow : (start d : ℕ) → d + m < 64 → first (k start d) ≡ None
+
+no_group : Finds no_parens 0 (λ d. 0)
+no_group = record { deep = λ start d l h. absurd (omega arith); shallow = λ start d h. refl }
+
+at_same : (x y : ℕ) → x ≡ y →
+    ◌≡◌ {A = Option Paren} (Some (record { place = x; round = 63 })) (Some (record { place = y; round = 63 }))
+at_same x y e = ap (λ z. Some (record { place = z; round = 63 })) e
+
+-- a group that is too deep
+at_head : (start d : ℕ) (l : List Paren) → d ≡ 63 →
+    first (record { place = start; round = d } ∷ l) ≡ Some (record { place = start + 0; round = 63 })
+at_head start d l e =
+    let same : start ≡ start + 0 = omega arith in
+    cond-true _ _ _ (deep d e) ∙ (λ i. Some (record { place = same i; round = e i }))
+  where
+    deep : (n : ℕ) → n ≡ 63 → (n + 1 == 64) ≡ true
+    deep n h = grind (arith, nat_tests)
+
+-- inside a group
+behind_head : (q : Paren) (l : List Paren) → q.round < 63 → first (q ∷ l) ≡ first l
+behind_head q l h = cond-false _ _ _ (not_deep q.round h)
+  where
+    not_deep : (n : ℕ) → n < 63 → (n + 1 == 64) ≡ false
+    not_deep n h = grind (arith, nat_tests)
+
+group_deep : (head : Text) (k : Parens) (m : ℕ) (o : ℕ → ℕ) → Finds k m o → (b : Bool) (start d : ℕ) →
+    nat_le 63 d ≡ b → d < 64 →
+    64 ≤ d + (1 + m) → first (in_group true head k start d) ≡
+    Some (record { place = start + (if b then 0 else bytes head + o (d + 1)); round = 63 })
+group_deep head k m o f true start d e l h =
+    at_head start d (k (start + bytes head) (d + 1)) (omega (arith, leb-true 63 d e))
+group_deep head k m o f false start d e l h =
+    let more = leb-false 63 d e in
+    behind_head (record { place = start; round = d }) (k (start + bytes head) (d + 1)) more
+    ∙ f.deep (start + bytes head) (d + 1) (omega arith) (omega arith)
+    ∙ at_same _ _ (omega arith)
+
+group_shallow : (head : Text) (k : Parens) (m : ℕ) (o : ℕ → ℕ) → Finds k m o → (start d : ℕ) → d + (1 + m) < 64 →
+    first (in_group true head k start d) ≡ None
+group_shallow head k m o f start d h =
+    behind_head (record { place = start; round = d }) (k (start + bytes head) (d + 1)) (omega arith)
+    ∙ f.shallow (start + bytes head) (d + 1) (omega arith)
+
+group_finds : (head : Text) (k : Parens) (m : ℕ) (o : ℕ → ℕ) → Finds k m o →
+    Finds (in_group true head k) (1 + m) (λ d. at_open d (bytes head) (o (d + 1)))
+group_finds head k m o f = record {
+  deep = λ start d l h. group_deep head k m o f (nat_le 63 d) start d refl l h;
+  shallow = λ start d h. group_shallow head k m o f start d h;
+}
+
+-- a group round these, where it is asked
+if_finds : (b : Bool) (k : Parens) (m : ℕ) (o : ℕ → ℕ) → Finds k m o →
+    Finds (in_group b (codes "(?:") k) (one_if b + m) (λ d. at_open_if b d o)
+unfolding bytes
+if_finds true k m o f = group_finds (codes "(?:") k m o f
+if_finds false k m o f = record {
+  deep = λ start d l h. f.deep start d l (omega arith);
+  shallow = λ start d h. f.shallow start d (omega arith);
+}
+
+leaf_finds : (b : Bool) → Finds (in_group b [] no_parens) (one_if b) (λ d. 0)
+leaf_finds true = record {
+  deep = λ start d l h. at_head start d [] (omega arith);
+  shallow = λ start d h. group_shallow [] no_parens 0 (λ d. 0) no_group start d (omega arith);
+}
+leaf_finds false = no_group
+
+-- ---- one part behind another
+
+behind_shallow : (a b : List Paren) → first a ≡ None → first (a ++ b) ≡ first b
+behind_shallow a b e = find-append is_too_deep a b ∙ ap (λ o. option_or o (first b)) e
+
+in_deep : (a b : List Paren) (q : Paren) → first a ≡ Some q → first (a ++ b) ≡ Some q
+in_deep a b q e = find-append is_too_deep a b ∙ ap (λ o. option_or o (first b)) e
+
+-- two parts, the second w bytes behind the start of the first
+both_find : (k l : Parens) (m n w : ℕ) (o r : ℕ → ℕ) → Finds k m o → Finds l n r →
+    Finds (λ start d. k start d ++ l (start + w) d) (max m n) (λ d. if nat_le 64 (d + m) then o d else w + r d)
+both_find k l m n w o r f g = record {
+  deep = λ start d h i. cond_both (nat_le 64 (d + m)) _ _
+      (λ x. first (k start d ++ l (start + w) d) ≡ Some (record { place = start + x; round = 63 }))
+      (λ yes. in_deep (k start d) (l (start + w) d) _ (f.deep start d h (leb-true 64 (d + m) yes)))
+      (λ no. let a = leb-false 64 (d + m) no in
+      behind_shallow (k start d) (l (start + w) d) (f.shallow start d a) ∙ g.deep (start + w) d h (omega arith)
+      ∙ at_same _ _ (omega arith));
+  shallow = λ start d h.
+      behind_shallow (k start d) (l (start + w) d) (f.shallow start d (omega arith))
+      ∙ g.shallow (start + w) d (omega arith);
+}
+
+-- a byte further on
+shifted : (k : Parens) (m : ℕ) (o : ℕ → ℕ) → Finds k m o → Finds (λ start d. k (start + 1) d) m (λ d. 1 + o d)
+shifted k m o f = record {
+  deep = λ start d l h. f.deep (start + 1) d l h ∙ at_same _ _ (omega arith);
+  shallow = λ start d h. f.shallow (start + 1) d h;
+}
+
+none_find : Finds (λ start d. []) 0 (λ d. 0)
+none_find = record { deep = λ start d l h. absurd (omega arith); shallow = λ start d h. refl }
+
+one_group : (t : Tree) → Finds (parens t 0) (nest t 0) (place t 0) →
+    Finds (in_group true (codes "(") (parens t 0)) (1 + nest t 0) (λ d. at_open d 1 (place t 0 (d + 1)))
+unfolding bytes
+one_group t f = group_finds (codes "(") (parens t 0) (nest t 0) (place t 0) f
+
+-- by induction on the tree
+mutual
+  parens_find : (t : Tree) (p : ℕ) → Finds (parens t p) (nest t p) (place t p)
+  parens_find (any newline crlf) p = leaf_finds (newline || crlf)
+  parens_find (assertion a) p = leaf_finds (is_line a)
+  parens_find (literal s casei) p = leaf_finds casei
+  parens_find (delegate s casei) p = leaf_finds casei
+  parens_find (concat ts) p = if_finds (nat_lt 1 p) (parens_all ts) (nests ts 2) (places ts) (all_find ts)
+  parens_find (alt ts) p = if_finds (nat_lt 0 p) (parens_branches ts) (nests ts 1) (branch_places ts) (branches_find ts)
+  parens_find (group t) p = one_group t (parens_find t 0)
+  parens_find (repeat t lo hi greedy) p = if_finds (nat_lt 2 p) (parens t 3) (nest t 3) (place t 3) (parens_find t 3)
+  parens_find _ p = none_find
+
+  all_find : (ts : Trees) → Finds (parens_all ts) (nests ts 2) (places ts)
+  all_find no_trees = none_find
+  all_find (more_trees t ts) =
+      both_find (parens t 2) (parens_all ts) (nest t 2) (nests ts 2) (bytes (printed t 2)) (place t 2) (places ts)
+      (parens_find t 2) (all_find ts)
+
+  branches_find : (ts : Trees) → Finds (parens_branches ts) (nests ts 1) (branch_places ts)
+  branches_find no_trees = none_find
+  branches_find (more_trees t ts) =
+      both_find (parens t 1) (parens_barred ts) (nest t 1) (nests ts 1) (bytes (printed t 1)) (place t 1)
+      (barred_places ts) (parens_find t 1) (barred_find ts)
+
+  barred_find : (ts : Trees) → Finds (parens_barred ts) (nests ts 1) (barred_places ts)
+  barred_find no_trees = none_find
+  barred_find (more_trees t ts) = shifted _ _ _
+      (both_find (parens t 1) (parens_barred ts) (nest t 1) (nests ts 1) (bytes (printed t 1)) (place t 1)
+      (barred_places ts) (parens_find t 1) (barred_find ts))
+
+-- the first that is too deep stands there
+pub over_place : (t : Tree) (p : ℕ) → 64 ≤ nest t p → over t p ≡ place t p 0
+over_place t p h =
+    ap (λ o. unwrap_or (option_map (λ q. q.place) o) 0) ((parens_find t p).deep 0 0 (omega arith) (omega arith))
+    ∙ omega arith

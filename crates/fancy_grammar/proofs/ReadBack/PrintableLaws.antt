@@ -1,0 +1,197 @@
+-- What is told printable is printable: above all, a quantifier may stand behind a normal form that is not Empty.
+use Rattle.std.proofs.Common.{◌≡◌, ℕ, ◌^◌, ◌<◌, Bool, true, false, not, ◌&&◌, if◌then◌else◌, List, [], ◌∷◌, ◌++◌, map, None, unwrap_or, refl, sym, ap, ap₂, ◌∙◌, arith}
+use Rattle.std.specs.Cmp.{first_so, second_so}
+use Rattle.std.specs.List.{list_all}
+use Rattle.std.specs.Str.{all_scalars}
+use Rattle.std.proofs.lemmas.Bool.Decides.{nat_tests}
+use Rattle.std.proofs.lemmas.List.Folds.{list_all-append}
+use Rattle.std.proofs.lemmas.Bool.{not-true}
+use Rattle.fancy_lex.specs.Text.{Text}
+use Rattle.fancy_lex.specs.declared.escape.Assertion.TheVariants.{EndTextIgnoreTrailingNewlines, StartLineOniguruma}
+use Rattle.fancy_lex.specs.declared.flags.Flags.{Flags}
+use Rattle.fancy_grammar.specs.Join.{is_empty, solid, one_or, join, choice}
+use Rattle.fancy_grammar.specs.Normal.{character, items_of, bare, class_of, whole_leaf, whole_of, normal, items, normals}
+use Rattle.fancy_grammar.specs.Printable.{is_count, is_long, printable, all_printable}
+use Rattle.fancy_grammar.specs.Quantified.{is_repeatable}
+use Rattle.fancy_grammar.specs.State.{Outcome, done, fault}
+use Rattle.fancy_grammar.specs.Tree.{Tree, Trees, no_trees, more_trees, empty, any, assertion, literal, concat, alt, group, repeat, delegate, define_group}
+use Rattle.fancy_grammar.proofs.PrintableLemmas.{join_empty, one_solid}
+use Rattle.fancy_grammar.proofs.ReadBack.ShapeLemmas.{Printable, ArePrintable}
+use Rattle.fancy_grammar.proofs.ReadBack.DelegateTexts.{IsDelegate, delegate_text}
+use Rattle.fancy_grammar.proofs.ReadBack.ClearLemmas.{no_truth}
+
+pub count_below : (n : ℕ) → is_count n ≡ true → n < 2 ^ 64
+count_below n h = grind (arith, nat_tests)
+
+-- ---- a normal form is Empty, or a quantifier may stand behind it
+
+abbrev Good : Tree → Type 0
+Good t = (u : Bool) → is_repeatable (bare u) t ≡ not (is_empty t)
+
+abbrev AllGood : List Tree → Type 0
+AllGood [] = Unit {0}
+AllGood (t ∷ l) = Good t × AllGood l
+
+good_append : (l m : List Tree) → AllGood l → AllGood m → AllGood (l ++ m)
+good_append [] m h k = k
+good_append (t ∷ l) m h k = (h.0, good_append l m h.1 k)
+
+good_cond : (b : Bool) (t : Tree) (l : List Tree) → Good t → AllGood l → AllGood (if b then l else t ∷ l)
+good_cond true t l h k = k
+good_cond false t l h k = (h, k)
+
+good_solid : (l : List Tree) → AllGood l → AllGood (solid l)
+good_solid [] h = tt
+good_solid (t ∷ l) h = good_cond (is_empty t) t (solid l) h.0 (good_solid l h.1)
+
+good_one : (l : List Tree) → AllGood l → Good (one_or concat l)
+good_one [] h = λ _. refl
+good_one (t ∷ []) h = h.0
+good_one (t ∷ u ∷ l) h = λ _. refl
+
+good_choice : (l : List Tree) → AllGood l → Good (choice l)
+good_choice [] h = λ _. refl
+good_choice (t ∷ []) h = h.0
+good_choice (t ∷ u ∷ l) h = λ _. refl
+
+good_characters : (i : Bool) (s : Text) → AllGood (map (character i) s)
+good_characters i [] = tt
+good_characters i (c ∷ s) = (λ _. refl, good_characters i s)
+
+-- what a Delegate's text reads as is a Delegate
+
+delegate_whole : (s : Text) (t d : Tree) → IsDelegate d → IsDelegate (unwrap_or (whole_of s t) d)
+delegate_whole [] (delegate w i) d h = tt
+delegate_whole [] _ d h = h
+delegate_whole (c ∷ s) t d h = h
+
+delegate_leaf : (o : Outcome Tree) (d : Tree) → IsDelegate d → IsDelegate (unwrap_or (whole_leaf o) d)
+delegate_leaf (done t s) d h = delegate_whole s.rest t d h
+delegate_leaf (fault k p) d h = h
+
+delegate_if : (b : Bool) (o : Outcome Tree) (d : Tree) → IsDelegate d →
+    IsDelegate (unwrap_or (if b then whole_leaf o else None) d)
+delegate_if true o d h = delegate_leaf o d h
+delegate_if false o d h = h
+
+pub delegate_class : (f : Flags) (s : Text) (d : Tree) → IsDelegate d → IsDelegate (unwrap_or (class_of f s) d)
+unfolding class_of
+delegate_class f [] d h = h
+delegate_class f (c ∷ t) d h = delegate_if _ _ d h
+
+good_delegate : (t : Tree) → IsDelegate t → Good t × (is_empty t ≡ false)
+good_delegate (delegate w i) h = (λ _. refl, refl)
+good_delegate _ h = absurd h
+
+mutual
+  good_normal : (u : Bool) (t : Tree) → Printable t → Good (normal u t)
+  good_normal u empty h = λ _. refl
+  good_normal u (any a b) h = λ _. refl
+  good_normal u (assertion (StartLineOniguruma crlf)) h = λ _. refl
+  good_normal u (assertion a) h = λ _. refl
+  good_normal u (literal s i) h = good_one (solid (map (character i) s)) (good_solid _ (good_characters i s))
+  good_normal u (delegate s i) h = (good_delegate _ (delegate_class _ s (delegate s i) tt)).0
+  good_normal u (concat ts) h = good_one (solid (items u ts)) (good_solid _ (good_items u ts h))
+  good_normal u (alt ts) h = good_choice (normals u ts) (good_normals u ts h)
+  good_normal u (group t) h = λ _. refl
+  good_normal u (repeat t lo hi greedy) h = λ _. refl
+  good_normal u (define_group t) h = λ _. refl
+  good_normal u _ h = absurd h
+
+  good_items : (u : Bool) (ts : Trees) → ArePrintable ts → AllGood (items u ts)
+  good_items u no_trees h = tt
+  good_items u (more_trees t ts) h =
+      good_append (items_of t (normal u t)) (items u ts) (good_parts t (normal u t) (good_normal u t h.0))
+      (good_items u ts h.1)
+
+  good_normals : (u : Bool) (ts : Trees) → ArePrintable ts → AllGood (normals u ts)
+  good_normals u no_trees h = tt
+  good_normals u (more_trees t ts) h = (good_normal u t h.0, good_normals u ts h.1)
+
+  good_parts : (t n : Tree) → Good n → AllGood (items_of t n)
+  good_parts (literal s false) n h = good_characters false s
+  good_parts t n h = good_solid (n ∷ []) (h, tt)
+
+-- ---- whether a normal form is Empty hangs on no setting
+
+abbrev mutual
+  pub blank : Tree → Bool
+  blank empty = true
+  blank (literal [] i) = true
+  blank (literal (c ∷ s) i) = false
+  blank (concat ts) = blanks ts
+  blank (alt ts) = blank_choice ts
+  blank (define_group t) = true
+  blank _ = false
+
+  pub blanks : Trees → Bool
+  blanks no_trees = true
+  blanks (more_trees t ts) = blank t && blanks ts
+
+  pub blank_choice : Trees → Bool
+  blank_choice no_trees = true
+  blank_choice (more_trees t no_trees) = blank t
+  blank_choice (more_trees t (more_trees u ts)) = false
+
+characters_empty : (i : Bool) (s : Text) → is_empty (join (map (character i) s)) ≡ blank (literal s i)
+characters_empty i [] = refl
+characters_empty i (c ∷ s) = join_empty (map (character i) (c ∷ s))
+
+parts_empty : (t n : Tree) → is_empty n ≡ blank t → list_all is_empty (items_of t n) ≡ blank t
+parts_empty (literal s false) n e = sym (join_empty (map (character false) s)) ∙ characters_empty false s
+parts_empty t n e = one_solid (is_empty n) n refl ∙ e
+
+mutual
+  pub normal_empty : (u : Bool) (t : Tree) → is_empty (normal u t) ≡ blank t
+  normal_empty u (assertion (StartLineOniguruma crlf)) = refl
+  normal_empty u (literal s i) = characters_empty i s
+  normal_empty u (delegate s i) = (good_delegate _ (delegate_class _ s (delegate s i) tt)).1
+  normal_empty u (concat ts) = join_empty (items u ts) ∙ items_empty u ts
+  normal_empty u (alt ts) = choice_empty u ts
+  normal_empty u _ = refl
+
+  items_empty : (u : Bool) (ts : Trees) → list_all is_empty (items u ts) ≡ blanks ts
+  items_empty u no_trees = refl
+  items_empty u (more_trees t ts) =
+      list_all-append is_empty (items_of t (normal u t)) (items u ts)
+      ∙ ap₂ (λ a b. a && b) (parts_empty t (normal u t) (normal_empty u t)) (items_empty u ts)
+
+  choice_empty : (u : Bool) (ts : Trees) → is_empty (choice (normals u ts)) ≡ blank_choice ts
+  choice_empty u no_trees = refl
+  choice_empty u (more_trees t no_trees) = normal_empty u t
+  choice_empty u (more_trees t (more_trees v ts)) = refl
+
+takes : (t : Tree) → Printable t → not (is_empty (normal false t)) ≡ true → (u : Bool) →
+    is_repeatable (bare u) (normal u t) ≡ true
+takes t h e u = good_normal u t h u ∙ ap not (normal_empty u t ∙ sym (normal_empty false t)) ∙ e
+
+mutual
+  pub told : (t : Tree) → printable t ≡ true → Printable t
+  told empty h = tt
+  told (any a b) h = tt
+  told (assertion (EndTextIgnoreTrailingNewlines crlf)) h = no_truth h
+  told (assertion a) h = tt
+  told (literal s i) h = tt
+  told (delegate s i) h = delegate_text s (second_so (all_scalars s) _ h)
+  told (concat ts) h = all_told ts h
+  told (alt ts) h = all_told ts h
+  told (group t) h = told t h
+  told (repeat t lo hi greedy) h =
+      let child = told t (first_so (printable t) _ h) in
+      let k = second_so (printable t) _ h in
+      let quantifier = first_so _ (is_count lo && is_count hi) k in
+      let counts = second_so (not (is_empty (normal false t)) && not (is_long t)) _ k in (
+        child,
+        takes t child (first_so _ (not (is_long t)) quantifier),
+        not-true (is_long t)
+            (second_so (not (is_empty (normal false t))) _ quantifier),
+        count_below lo
+            (first_so _ (is_count hi) counts),
+        count_below hi (second_so (is_count lo) _ counts),
+      )
+  told (define_group t) h = tt
+  told _ h = no_truth h
+
+  all_told : (ts : Trees) → all_printable ts ≡ true → ArePrintable ts
+  all_told no_trees h = tt
+  all_told (more_trees t ts) h = (told t (first_so (printable t) _ h), all_told ts (second_so (printable t) _ h))

@@ -1,0 +1,211 @@
+-- A rewritten class is one whole class again, and so is what a class escape is rewritten to.
+use Rattle.std.proofs.Common.{◌≡◌, ℕ, Bool, true, false, ◌&&◌, ◌==◌, if◌then◌else◌, [], ◌∷◌, ◌++◌, codes, Some, None, refl, sym, ap, ap₂, ◌∙◌, subst, append_assoc, eqb-true}
+use Rattle.std.proofs.lemmas.Bool.{and_from, and_parts}
+use Rattle.std.specs.Char.{IsScalar}
+use Rattle.std.specs.Str.{all_scalars}
+use Rattle.fancy_lex.specs.Class.{Class, class_items, Items, close, plain, escaped, nested, written, class_head, with_mark, item_text, joint, escape_text, is_plain, is_negated}
+use Rattle.fancy_lex.specs.Escape.{escape}
+use Rattle.fancy_lex.specs.Escaped.{Escape, literal, literal_bytes, delegate}
+use Rattle.fancy_lex.specs.Reading.{Reading, gives, choose}
+use Rattle.fancy_lex.specs.Text.{Text, strip}
+use Rattle.fancy_lex.specs.declared.flags.Flags.{Flags}
+use Rattle.fancy_lex.proofs.EscapeLaws.{escape_cut}
+use Rattle.fancy_grammar.specs.Normal.{under}
+use Rattle.fancy_grammar.proofs.ReadBack.ScalarLemmas.{scalars_append, scalars_behind}
+use Rattle.fancy_grammar.proofs.ReadBack.ClassChunks.{Goes, ClassGoes, pass_close, pass_plain, pass_nested, pass_class, Chunk, Fine, both_chunk, char_chunk, amp_chunk}
+use Rattle.fancy_grammar.proofs.ReadBack.ChunkLemmas.{open_plain, open_caret, byte_chunk, FineOf, escape_fine}
+
+-- what is written for an item
+text_chunk : (e : Escape) → Fine e → Chunk (escape_text e)
+text_chunk (literal c b) h = char_chunk c h
+text_chunk (literal_bytes v) h = byte_chunk v h
+text_chunk (delegate w b) h = h
+text_chunk _ h = absurd h
+
+item_chunk : (b : Bool) (e : Escape) → Fine e → Chunk (item_text b e)
+item_chunk b e h = by_joint (b && is_negated e) where
+  by_joint : (x : Bool) → Chunk (joint x ++ escape_text e)
+  by_joint true = both_chunk (codes "&&") (escape_text e) amp_chunk (text_chunk e h)
+  by_joint false = text_chunk e h
+
+-- where the text does not begin with the mark, what is written does not
+same_front : (k c : ℕ) (t w : Text) → strip k (c ∷ t) ≡ None → strip k (c ∷ w) ≡ None
+same_front k c t w = by_test (c == k) where
+  by_test : (x : Bool) → (if x then Some t else None) ≡ None → (if x then Some w else None) ≡ None
+  by_test true e = absurd cc
+  by_test false e = refl
+
+-- what the beginning of a class takes
+data Heads (t : Text) : Text → Text → Type 0 where
+  plain_head : strip 94 t ≡ None → strip 93 t ≡ None → Heads t (91 ∷ []) t
+  caret_head : (u : Text) → t ≡ 94 ∷ u → strip 93 u ≡ None → Heads t (91 ∷ 94 ∷ []) u
+  close_head : (u : Text) → t ≡ 93 ∷ u → Heads t (91 ∷ 93 ∷ []) u
+  both_head : (u : Text) → t ≡ 94 ∷ 93 ∷ u → Heads t (91 ∷ 94 ∷ 93 ∷ []) u
+
+-- the head and the rest of a class, by the first characters
+data Opened (t : Text) : Text × Text → Type 0 where
+  opened : (head r : Text) → Heads t head r → Opened t (head, r)
+
+class_head_is : (t : Text) → Opened t (class_head [] t)
+unfolding class_head
+class_head_is [] = opened (91 ∷ []) [] (plain_head refl refl)
+class_head_is (c ∷ t) = by_caret (c == 94) refl where
+  behind_caret : (t : Text) → (c == 94) ≡ true → Opened (c ∷ t) (with_mark 93 (91 ∷ 94 ∷ [], t))
+  behind_caret [] e = opened _ _ (caret_head [] (ap (λ x. x ∷ []) (eqb-true c 94 e)) refl)
+  behind_caret (d ∷ t) e = by_close (d == 93) refl where
+    by_close : (x : Bool) → (d == 93) ≡ x →
+        Opened (c ∷ d ∷ t) (choose {B = Text × Text} (if x then Some t else None) (λ u. (91 ∷ 94 ∷ 93 ∷ [], u))
+        (91 ∷ 94 ∷ [], d ∷ t))
+    by_close true q = opened _ _ (both_head t (ap₂ (λ x y. x ∷ y ∷ t) (eqb-true c 94 e) (eqb-true d 93 q)))
+    by_close false q = opened _ _ (caret_head (d ∷ t) (ap (λ x. x ∷ d ∷ t) (eqb-true c 94 e)) (rw q refl))
+
+  no_caret : (x : Bool) → (c == 93) ≡ x → (c == 94) ≡ false →
+      Opened (c ∷ t) (choose {B = Text × Text} (if x then Some t else None) (λ u. (91 ∷ 93 ∷ [], u)) (91 ∷ [], c ∷ t))
+  no_caret true q e = opened _ _ (close_head t (ap (λ x. x ∷ t) (eqb-true c 93 q)))
+  no_caret false q e = opened _ _ (plain_head (rw e refl) (rw q refl))
+
+  by_caret : (x : Bool) → (c == 94) ≡ x →
+      Opened (c ∷ t) (with_mark 93
+      (choose {B = Text × Text} (if x then Some t else None) (λ u. (91 ∷ 94 ∷ [], u)) (91 ∷ [], c ∷ t)))
+  by_caret true e = behind_caret t e
+  by_caret false e = no_caret (c == 93) refl e
+
+open_close : (t : Text) → ◌≡◌ {A = Text × Text} (class_head [] (93 ∷ t)) (91 ∷ 93 ∷ [], t)
+unfolding class_head
+open_close t = refl
+
+open_both : (t : Text) → ◌≡◌ {A = Text × Text} (class_head [] (94 ∷ 93 ∷ t)) (91 ∷ 94 ∷ 93 ∷ [], t)
+unfolding class_head
+open_both t = refl
+
+-- what is written for items that were read from t
+record ItemsAgain (t w : Text) : Type 0 where
+  goes : (m : ℕ) (s : Text) → Goes m (w ++ s) s
+  no_caret : strip 94 t ≡ None → (s : Text) → strip 94 (w ++ s) ≡ None
+  no_close : strip 93 t ≡ None → (s : Text) → strip 93 (w ++ s) ≡ None
+  scalars : all_scalars w ≡ true
+
+-- what is written for a class: a bracket, and what is a class behind it
+pub record ClassAgain (x : Text) : Type 0 where
+  pub inner : Text
+  pub is : x ≡ 91 ∷ inner
+  pub goes : (m : ℕ) (s : Text) → ClassGoes m (inner ++ s) s
+  pub scalars : all_scalars inner ≡ true
+
+head_again : (t head r w : Text) → Heads t head r → ItemsAgain r w → ClassAgain (head ++ w)
+head_again t head r w (plain_head a b) h = record {
+  inner = w;
+  is = refl;
+  goes = λ m s. pass_class m (w ++ s) _ (w ++ s) s (open_plain (w ++ s) (h.no_caret a s) (h.no_close b s)) (h.goes m s);
+  scalars = h.scalars;
+}
+head_again t head r w (caret_head u e b) h = record {
+  inner = 94 ∷ w;
+  is = refl;
+  goes = λ m s. pass_class m (94 ∷ (w ++ s)) _ (w ++ s) s (open_caret (w ++ s) (h.no_close b s)) (h.goes m s);
+  scalars = h.scalars;
+}
+head_again t head r w (close_head u e) h = record {
+  inner = 93 ∷ w;
+  is = refl;
+  goes = λ m s. pass_class m (93 ∷ (w ++ s)) _ (w ++ s) s (open_close (w ++ s)) (h.goes m s);
+  scalars = h.scalars;
+}
+head_again t head r w (both_head u e) h = record {
+  inner = 94 ∷ 93 ∷ w;
+  is = refl;
+  goes = λ m s. pass_class m (94 ∷ 93 ∷ (w ++ s)) _ (w ++ s) s (open_both (w ++ s)) (h.goes m s);
+  scalars = h.scalars;
+}
+
+opened_again : (t : Text) (p : Text × Text) (w : Text) → Opened t p → ItemsAgain p.1 w → ClassAgain (p.0 ++ w)
+opened_again t p w (opened head r h) k = head_again t head r w h k
+
+from_fine : (o : Reading Escape) (e : Escape) (r : Text) → o ≡ gives e r → FineOf o → Fine e
+from_fine o e r q h = subst FineOf q h
+
+plain_again : (c : ℕ) (t w : Text) → is_plain c ≡ true → IsScalar c → ItemsAgain t w → ItemsAgain (c ∷ t) (c ∷ w)
+plain_again c t w p k h = record {
+  goes = λ m s. pass_plain m c (w ++ s) s p (h.goes m s);
+  no_caret = λ e s. same_front 94 c t (w ++ s) e;
+  no_close = λ e s. same_front 93 c t (w ++ s) e;
+  scalars = and_from _ _ k h.scalars;
+}
+
+escaped_again : (t r w x : Text) → Chunk x → ItemsAgain r w → ItemsAgain (92 ∷ t) (x ++ w)
+escaped_again t r w x c h = record {
+  goes = λ m s. subst (λ z. Goes m z s) (sym (append_assoc x w s)) (c.goes m (w ++ s) s (h.goes m s));
+  no_caret = λ _ s. ap (strip 94) (append_assoc x w s) ∙ c.no_caret (w ++ s);
+  no_close = λ _ s. ap (strip 93) (append_assoc x w s) ∙ c.no_close (w ++ s);
+  scalars = scalars_append x w c.scalars h.scalars;
+}
+
+nested_again : (t r w x : Text) → ClassAgain x → ItemsAgain r w → ItemsAgain (91 ∷ t) (x ++ w)
+nested_again t r w x c h =
+    subst (λ z. ItemsAgain (91 ∷ t) (z ++ w)) (sym c.is)
+    (record {
+      goes =
+          λ m s. pass_nested m ((c.inner ++ w) ++ s) (w ++ s) s
+          (subst (λ z. ClassGoes m z (w ++ s)) (sym (append_assoc c.inner w s)) (c.goes m (w ++ s))) (h.goes m s);
+      no_caret = λ _ s. refl;
+      no_close = λ _ s. refl;
+      scalars = scalars_append c.inner w c.scalars h.scalars;
+    })
+
+-- ---- what is left behind a class is of scalar values too
+
+heads_rest : (t head r : Text) → Heads t head r → all_scalars t ≡ true → all_scalars r ≡ true
+heads_rest t head r (plain_head a b) k = k
+heads_rest t head r (caret_head u e b) k = subst (λ z. all_scalars z ≡ true) e k
+heads_rest t head r (close_head u e) k = subst (λ z. all_scalars z ≡ true) e k
+heads_rest t head r (both_head u e) k = subst (λ z. all_scalars z ≡ true) e k
+
+opened_rest : (t : Text) (p : Text × Text) → Opened t p → all_scalars t ≡ true → all_scalars p.1 ≡ true
+opened_rest t p (opened head r h) k = heads_rest t head r h k
+
+head_rest : (t head r : Text) → ◌≡◌ {A = Text × Text} (class_head [] t) (head, r) → all_scalars t ≡ true →
+    all_scalars r ≡ true
+head_rest t head r e k = opened_rest t (head, r) (subst (Opened t) e (class_head_is t)) k
+
+escape_rest : (n : ℕ) (f : Flags) (p : ℕ) (t r : Text) (e : Escape) → escape n f true p t ≡ gives e r →
+    all_scalars t ≡ true → all_scalars r ≡ true
+escape_rest n f p t r e q k =
+    let (w, cut) = escape_cut n f true p t r e q in scalars_behind w r (subst (λ z. all_scalars z ≡ true) cut k)
+
+mutual
+  class_rest : {n : ℕ} {f : Flags} {b a : Bool} {t x v : Text} → Class n f b t (written x a v) → all_scalars t ≡ true →
+      all_scalars v ≡ true
+  class_rest {t} (class_items {u} {head} e h) k = items_rest h (head_rest t head u e k)
+
+  items_rest : {n : ℕ} {f : Flags} {b a : Bool} {t w v : Text} → Items n f b t (written w a v) → all_scalars t ≡ true →
+      all_scalars v ≡ true
+  items_rest close k = k
+  items_rest (plain {c} {t} p h) k = items_rest h (and_parts _ (all_scalars t) k).1
+  items_rest {n} {f} (escaped {t} {u} {e} q h) k = items_rest h (escape_rest n f _ t u e q k)
+  items_rest (nested g h) k = items_rest h (class_rest g k)
+
+-- ---- by induction on the derivation
+
+mutual
+  pub class_again : {n : ℕ} {u i b a : Bool} {t x v : Text} →
+      Class n (under u i false false false) b t (written x a v) →
+      all_scalars t ≡ true → ClassAgain x
+  class_again {t} (class_items {u} {head} {w} e h) k =
+      opened_again t _ w (subst (Opened t) e (class_head_is t)) (items_again h (head_rest t head u e k))
+
+  items_again : {n : ℕ} {u i b a : Bool} {t w v : Text} → Items n (under u i false false false) b t (written w a v) →
+      all_scalars t ≡ true → ItemsAgain t w
+  items_again close k =
+      record {
+        goes = λ m s. pass_close m s;
+        no_caret = λ _ s. refl;
+        no_close = λ e s. same_front 93 93 _ s e;
+        scalars = refl;
+      }
+  items_again (plain {c} {t} {w} p h) k =
+      let (here, more) = and_parts _ (all_scalars t) k in plain_again c t w p here (items_again h more)
+  items_again {n} {u} {i} {b} (escaped {t} {u = r} {w} {e} q h) k =
+      escaped_again t r w (item_text b e) (item_chunk b e (from_fine _ e r q (escape_fine u i n _ t k)))
+      (items_again h (escape_rest n (under u i false false false) _ t r e q k))
+  items_again (nested {t} {u = r} {x} {w} g h) k =
+      nested_again t r w x (class_again g k) (items_again h (class_rest g k))

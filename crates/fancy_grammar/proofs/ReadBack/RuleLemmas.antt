@@ -1,0 +1,560 @@
+-- What the grammar's rules read, under flags with which no blank is layout. Nothing else speaks of the rules.
+use Rattle.std.proofs.Common.{◌≡◌, ℕ, ◌+◌, ◌<◌, ◌≤◌, suc, Bool, true, false, not, ◌&&◌, ◌==◌, nat_le, nat_lt, List, [], ◌∷◌, ◌++◌, map, Option, Some, None, is_none, refl, sym, ap, ap₂, ◌∙◌, subst, arith, append_assoc, append-nil, le-leb, if◌then◌else◌}
+use Rattle.std.proofs.lemmas.Bool.{cond-true, cond-false}
+use Rattle.std.proofs.lemmas.Bool.Decides.{nat_tests}
+use Rattle.std.proofs.Math.Bool.{and-true, and-false, not-not}
+use Rattle.std.proofs.lemmas.List.{map-append}
+use Rattle.fancy_lex.specs.Fault.{Kind, recursion_exceeded}
+use Rattle.fancy_lex.specs.Layout.{layout, after_comment_head, rest}
+use Rattle.fancy_lex.specs.Reading.{gives, choose, layout_reading}
+use Rattle.fancy_lex.specs.Text.{Text, bytes, strip, place_of}
+use Rattle.fancy_lex.specs.declared.flags.Flags.{Flags}
+use Rattle.fancy_parts.specs.FlagLetters as letters
+use Rattle.fancy_parts.specs.FlagLetters.{Letters, Step, letters_in, step, ends, goes}
+use Rattle.fancy_parts.specs.Quantifier.{counts}
+use Rattle.fancy_parts.specs.Quote.{behind_backslash}
+use Rattle.fancy_parts.specs.Ranks.{Opening}
+use Rattle.fancy_parts.specs.declared.counts.Counts.{Counts}
+use Rattle.fancy_parts.proofs.FlagLemmas.{letters_start, in_end, in_go}
+use Rattle.fancy_grammar.specs.Ahead as before_atom
+use Rattle.fancy_grammar.specs.Ahead.{Ahead, leaf, opens, ahead, skipped, max_depth, is_before_nothing, flags_ahead, question_ahead, head_ahead, behind_layout, leaf_of, leaf_node, leaf_outcome}
+use Rattle.fancy_grammar.specs.Grammar.{Alternation, alternation, Branches, last, more, branch_fault, Branch, branch, Pieces, stop, next, piece_fault, Piece, piece, Atom, atom, a_leaf, a_group, inside, Derives, Faults, whole}
+use Rattle.fancy_grammar.specs.Head.{Head, capture, scope}
+use Rattle.fancy_grammar.specs.Items.{Item, opening, reference, items, items_all}
+use Rattle.fancy_grammar.specs.Join.{is_empty, solid, one_or, join, choice}
+use Rattle.fancy_grammar.specs.Grammar.{before}
+use Rattle.fancy_grammar.specs.Quantified as quantified
+use Rattle.fancy_grammar.specs.Quantified.{is_repeatable, is_swapped, may_be_possessive, quant, quant_at, quants, adjacent, max_adjacent, behind_lazy, suffix, suffix_at}
+use Rattle.fancy_grammar.specs.Resolved.{resolved_in, resolved_all}
+use Rattle.fancy_grammar.specs.State.{State, Outcome, done, fault, and_then, seen_through}
+use Rattle.fancy_grammar.specs.Tree as tree
+use Rattle.fancy_grammar.specs.Tree.{Tree, empty, any, assertion, literal, concat, alt, repeat, trees_of, ast_node, ast_group, ast_backref, ast_call, ast_condition}
+use Rattle.fancy_grammar.proofs.OutcomeLemmas.{before-nil, solid-append}
+use Rattle.fancy_grammar.specs.Normal.{under}
+use Rattle.fancy_grammar.proofs.ReadBack.InFront.{put_as}
+use Rattle.fancy_grammar.proofs.ReadBack.ClearLemmas.{Clear, no_layout, clear_counts, clear_lazy, clear_star, clear_plus, Stops, Ends, behind_none, behind_some}
+use Rattle.fancy_grammar.proofs.ReadBack.CountTexts.{IsQuantifier, lazy}
+
+abbrev pub st : Flags → Text → State
+st f s = record { flags = f; rest = s }
+
+-- no blank is layout, and no quantifier is swapped
+pub record Kept (f : Flags) : Type 0 where
+  pub no_space : f.ignore_space ≡ false
+  pub not_swapped : f.swap_greed ≡ false
+  pub not_oniguruma : f.oniguruma_mode ≡ false
+
+pub kept : (u i m s r : Bool) → Kept (under u i m s r)
+kept u i m s r = record { no_space = refl; not_swapped = refl; not_oniguruma = refl }
+
+-- ---- trees that hold groups without a name, and no reference
+
+abbrev pub OnlyGroups : List Item → Type 0
+OnlyGroups [] = Unit {0}
+OnlyGroups (opening o ∷ l) = (o.name ≡ None) × OnlyGroups l
+OnlyGroups (reference r ∷ l) = ⊥
+
+groups_append : (l m : List Item) → OnlyGroups l → OnlyGroups m → OnlyGroups (l ++ m)
+groups_append [] m h k = k
+groups_append (opening o ∷ l) m h k = (h.0, groups_append l m h.1 k)
+groups_append (reference r ∷ l) m h k = absurd h
+
+abbrev pub EachHasGroups : List Tree → Type 0
+EachHasGroups [] = Unit {0}
+EachHasGroups (t ∷ l) = OnlyGroups (items t) × EachHasGroups l
+
+each_append : (l m : List Tree) → EachHasGroups l → EachHasGroups m → EachHasGroups (l ++ m)
+each_append [] m h k = k
+each_append (t ∷ l) m h k = (h.0, each_append l m h.1 k)
+
+all_groups : (l : List Tree) → EachHasGroups l → OnlyGroups (items_all (trees_of l))
+all_groups [] h = tt
+all_groups (t ∷ l) h = groups_append (items t) (items_all (trees_of l)) h.0 (all_groups l h.1)
+
+concat_groups : (l : List Tree) → EachHasGroups l → OnlyGroups (items (one_or concat l))
+concat_groups [] h = tt
+concat_groups (t ∷ []) h = h.0
+concat_groups (t ∷ u ∷ l) h = all_groups (t ∷ u ∷ l) h
+
+choice_groups : (l : List Tree) → EachHasGroups l → OnlyGroups (items (choice l))
+choice_groups [] h = tt
+choice_groups (t ∷ []) h = h.0
+choice_groups (t ∷ u ∷ l) h = all_groups (t ∷ u ∷ l) h
+
+if_groups : (b : Bool) (t : Tree) (l : List Tree) → OnlyGroups (items t) → EachHasGroups l →
+    EachHasGroups (if b then l else t ∷ l)
+if_groups true t l h k = k
+if_groups false t l h k = (h, k)
+
+solid_groups : (l : List Tree) → EachHasGroups l → EachHasGroups (solid l)
+solid_groups [] h = tt
+solid_groups (t ∷ l) h = if_groups (is_empty t) t (solid l) h.0 (solid_groups l h.1)
+
+-- a raw tree of that kind that resolves to x
+pub record Becomes (r x : Tree) : Type 0 where
+  pub is : (g : List Opening) → resolved_in false g r ≡ x
+  pub groups : OnlyGroups (items r)
+
+-- ---- what resolving keeps
+
+pub resolved_repeatable : (g : List Opening) (f : Flags) (t : Tree) → OnlyGroups (items t) →
+    is_repeatable f (resolved_in false g t) ≡ is_repeatable f t
+resolved_repeatable g f (ast_node (ast_group m t) p) h = refl
+resolved_repeatable g f (ast_node (ast_backref t c l) p) h = absurd h
+resolved_repeatable g f (ast_node (ast_call t) p) h = absurd h
+resolved_repeatable g f (ast_node (ast_condition t l) p) h = absurd h
+resolved_repeatable g f _ h = refl
+
+solid_cond : (t : Tree) (l : List Tree) (b : Bool) → is_empty t ≡ b → solid l ≡ l →
+    solid (if b then l else t ∷ l) ≡ (if b then l else t ∷ l)
+solid_cond t l true e h = h
+solid_cond t l false e h = cond-false _ _ _ e ∙ ap (λ m. t ∷ m) h
+
+pub solid_solid : (l : List Tree) → solid (solid l) ≡ solid l
+solid_solid [] = refl
+solid_solid (t ∷ l) = solid_cond t (solid l) (is_empty t) refl (solid_solid l)
+
+pub join_one : (x : Tree) → join (solid (x ∷ [])) ≡ x
+join_one empty = refl
+join_one _ = refl
+
+module _ (g : List Opening) where
+  abbrev there : Tree → Tree
+  there = resolved_in false g
+
+  resolved_trees : (l : List Tree) → resolved_all false g (trees_of l) ≡ trees_of (map there l)
+  resolved_trees [] = refl
+  resolved_trees (t ∷ l) = ap (tree.more_trees (there t)) (resolved_trees l)
+
+  resolved_concat : (l : List Tree) → there (one_or concat l) ≡ one_or concat (map there l)
+  resolved_concat [] = refl
+  resolved_concat (t ∷ []) = refl
+  resolved_concat (t ∷ u ∷ l) = ap concat (resolved_trees (t ∷ u ∷ l))
+
+  resolved_choice : (l : List Tree) → there (choice l) ≡ choice (map there l)
+  resolved_choice [] = refl
+  resolved_choice (t ∷ []) = refl
+  resolved_choice (t ∷ u ∷ l) = ap alt (resolved_trees (t ∷ u ∷ l))
+
+  resolved_empty : (t : Tree) → OnlyGroups (items t) → is_empty (there t) ≡ is_empty t
+  resolved_empty (ast_node (ast_group m t) p) h = refl
+  resolved_empty (ast_node (ast_backref t c l) p) h = absurd h
+  resolved_empty (ast_node (ast_call t) p) h = absurd h
+  resolved_empty (ast_node (ast_condition t l) p) h = absurd h
+  resolved_empty _ h = refl
+
+  resolved_cond : (b : Bool) (t : Tree) (l : List Tree) →
+      (if b then map there l else there t ∷ map there l) ≡ map there (if b then l else t ∷ l)
+  resolved_cond true t l = refl
+  resolved_cond false t l = refl
+
+  solid_resolved : (l : List Tree) → EachHasGroups l → solid (map there l) ≡ map there (solid l)
+  solid_resolved [] h = refl
+  solid_resolved (t ∷ l) h =
+      ap₂ (λ (b : Bool) (m : List Tree). if b then m else there t ∷ m) (resolved_empty t h.0) (solid_resolved l h.1)
+      ∙ resolved_cond (is_empty t) t (solid l)
+
+  resolved_join : (l : List Tree) → EachHasGroups l → there (join l) ≡ one_or concat (solid (map there l))
+  resolved_join l h = resolved_concat (solid l) ∙ ap (one_or concat) (sym (solid_resolved l h))
+
+-- ---- what the text from s to v reads as: a tree that becomes x
+
+pub record AtomAs (n d : ℕ) (f : Flags) (s v : Text) (x : Tree) : Type 0 where
+  pub tree : Tree
+  pub derives : Atom n d (st f s) (done tree (st f v))
+  pub becomes : Becomes tree x
+
+pub record BranchAs (n d : ℕ) (f : Flags) (s v : Text) (x : Tree) : Type 0 where
+  pub tree : Tree
+  pub derives : Branch n d (st f s) (done tree (st f v))
+  pub becomes : Becomes tree x
+
+pub record WholeAs (n d : ℕ) (f : Flags) (s v : Text) (x : Tree) : Type 0 where
+  pub tree : Tree
+  pub derives : Alternation n d (st f s) (done tree (st f v))
+  pub becomes : Becomes tree x
+
+pub record BranchesAs (n d : ℕ) (f : Flags) (s v : Text) (ys : List Tree) : Type 0 where
+  pub trees : List Tree
+  pub derives : Branches n d (st f s) (done trees (st f v))
+  pub are : (g : List Opening) → map (resolved_in false g) trees ≡ ys
+  pub groups : EachHasGroups trees
+
+-- the pieces from s to v, whatever pieces follow; without the Empties they are these
+pub record Run (n d : ℕ) (f : Flags) (s v : Text) (ys : List Tree) : Type 0 where
+  pub trees : List Tree
+  pub pieces : (q : Outcome (List Tree)) → Pieces n d (st f v) q → Pieces n d (st f s) (before trees q)
+  pub are : (g : List Opening) → solid (map (resolved_in false g) trees) ≡ ys
+  pub groups : EachHasGroups trees
+
+pub no_run : (n d : ℕ) (f : Flags) (v : Text) → Run n d f v v []
+no_run n d f v = record {
+  trees = [];
+  pieces = λ q p. subst (Pieces n d (st f v)) (sym (before-nil q)) p;
+  are = λ g. refl;
+  groups = tt;
+}
+
+before_append : (l m : List Tree) (q : Outcome (List Tree)) → before l (before m q) ≡ before (l ++ m) q
+before_append l m (done k s) = ap (λ n. done n s) (sym (append_assoc l m k))
+before_append l m (fault k e) = refl
+
+pub run_chain : {n d : ℕ} {f : Flags} {s t v : Text} {xs ys : List Tree} → Run n d f s t xs → Run n d f t v ys →
+    Run n d f s v (xs ++ ys)
+run_chain {n} {d} {f} {s} p q = record {
+  trees = p.trees ++ q.trees;
+  pieces =
+      λ o r. subst (Pieces n d (st f s)) (before_append p.trees q.trees o) (p.pieces (before q.trees o) (q.pieces o r));
+  are =
+      λ g. ap solid (map-append (resolved_in false g) p.trees q.trees)
+      ∙ solid-append (map (resolved_in false g) p.trees) (map (resolved_in false g) q.trees)
+      ∙ ap₂ (λ a b. a ++ b) (p.are g) (q.are g);
+  groups = each_append p.trees q.trees p.groups q.groups;
+}
+
+run_piece : {n d : ℕ} {f : Flags} {s v : Text} (r x : Tree) → Piece n d (st f s) (done r (st f v)) →
+    before_atom.ends s ≡ false → Becomes r x → Run n d f s v (solid (x ∷ []))
+run_piece r x p e b = record {
+  trees = r ∷ [];
+  pieces = λ q m. next e p m refl;
+  are = λ g. ap (λ y. solid (y ∷ [])) (b.is g);
+  groups = (b.groups, tt);
+}
+
+skip_here : (n : ℕ) (f : Flags) (s : Text) → Kept f → after_comment_head s ≡ None → skipped n (st f s) ≡ rest s
+skip_here n f s k e = ap (λ x. layout n x s) k.no_space ∙ no_layout n s e
+
+-- ---- pieces
+
+quants_one : (n d left : ℕ) (f : Flags) (a b : Tree) (s v : Text) → Kept f →
+    quant n left a (st f s) ≡ done b (st f v) → quants n d left a (st f s) ≡ done b (st f v)
+quants_one n d left f a b s v k e =
+    ap (λ q. and_then q (λ b t. if t.flags.oniguruma_mode then adjacent max_adjacent n d b t else done b t)) e
+    ∙ cond-false _ _ _ k.not_oniguruma
+
+quant_none : (n left : ℕ) (f : Flags) (a : Tree) (v : Text) → Kept f → Clear v →
+    quant n left a (st f v) ≡ done a (st f v)
+unfolding quant
+quant_none n left f a v k c =
+    ap (quant_at n left a (st f v)) (skip_here n f v k c.no_comment)
+    ∙ ap (quantified.counted n left a (st f v)) (clear_counts f.ignore_space v c)
+
+-- an atom that no quantifier follows
+pub reads_piece : (n d : ℕ) (f : Flags) (s v : Text) (x : Tree) → Kept f → before_atom.ends s ≡ false →
+    after_comment_head s ≡ None → Clear v → AtomAs n d f s v x → Run n d f s v (solid (x ∷ []))
+reads_piece n d f s v x k e o c a =
+    run_piece a.tree x
+    (piece (skip_here n f s k o) a.derives
+    (quants_one n d (bytes s) f a.tree a.tree v v k (quant_none n (bytes s) f a.tree v k c)))
+    e a.becomes
+
+greed : (f : Flags) (lazy greedy : Bool) → f.swap_greed ≡ false → not lazy ≡ greedy →
+    quantified.is_greedy f lazy ≡ greedy
+greed f lazy greedy e h = cond-false _ _ _ e ∙ h
+
+-- the tree under a quantifier without the possessive mark
+quantified_as : (f : Flags) (a : Tree) (c : Counts) (b greedy : Bool) → Kept f → not b ≡ greedy →
+    quantified.quantified f c (record { lazy = b; possessive = false }) a ≡ repeat a c.low c.high greedy
+quantified_as f a c b greedy k h =
+    cond-false _ _ _ (ap (λ o. o && nat_lt c.high c.low) k.not_oniguruma)
+    ∙ ap (λ g. repeat a c.low c.high g) (greed f b greedy k.not_swapped h)
+
+same_if : {A : Type 0} (b : Bool) (x : A) → (if b then x else x) ≡ x
+same_if true x = refl
+same_if false x = refl
+
+-- no possessive mark follows
+no_possessive : (f : Flags) (c : Counts) (b : Bool) (s v : Text) → Clear v →
+    behind_lazy (st f s) c b v ≡ done (record { lazy = b; possessive = false }) (st f v)
+no_possessive f c b s v k = rw (clear_plus v k) (same_if (may_be_possessive f c) _)
+
+lazy_read : (n : ℕ) (f : Flags) (c : Counts) (v : Text) (greedy : Bool) → Kept f → Clear v →
+    suffix n (st f (lazy greedy ++ v)) c ≡ done (record { lazy = not greedy; possessive = false }) (st f v)
+lazy_read n f c v true k h =
+    ap (suffix_at (st f v) c) (skip_here n f v k h.no_comment)
+    ∙ ap (λ o. choose o (behind_lazy (st f v) c true) (behind_lazy (st f v) c false v)) (clear_lazy v h)
+    ∙ no_possessive f c false v v h
+lazy_read n f c v false k h =
+    ap (suffix_at (st f (63 ∷ v)) c) (skip_here n f (63 ∷ v) k refl) ∙ no_possessive f c true (63 ∷ v) v h
+
+quant_some : (n left : ℕ) (f : Flags) (a : Tree) (q v : Text) (lo hi : ℕ) (greedy : Bool) → Kept f → Clear v →
+    IsQuantifier lo hi greedy v q → is_repeatable f a ≡ true →
+    quant n left a (st f q) ≡ done (repeat a lo hi greedy) (st f v)
+unfolding quant
+quant_some n left f a q v lo hi greedy k c m r =
+    let counted : Counts = record { low = lo; high = hi; braces = m.braces } in
+    ap (quant_at n left a (st f q)) (skip_here n f q k m.no_comment)
+    ∙ ap (λ x. quantified.counted n left a (st f q) (counts x q)) k.no_space
+    ∙ ap (quantified.counted n left a (st f q)) m.counts
+    ∙ cond-true _ _ _ r
+    ∙ ap (seen_through (λ m. quantified.quantified f counted m a)) (lazy_read n f counted v greedy k c)
+    ∙ ap (λ x. done x (st f v)) (quantified_as f a counted (not greedy) greedy k (not-not greedy))
+
+-- an atom under a quantifier
+pub reads_repeat : (n d : ℕ) (f : Flags) (s q v : Text) (x : Tree) (lo hi : ℕ) (greedy : Bool) → Kept f →
+    before_atom.ends s ≡ false → after_comment_head s ≡ None → Clear v → IsQuantifier lo hi greedy v q →
+    is_repeatable f x ≡ true → AtomAs n d f s q x → Run n d f s v (repeat x lo hi greedy ∷ [])
+reads_repeat n d f s q v x lo hi greedy k e o c m r a =
+    let b = a.becomes in
+    let repeatable : is_repeatable f a.tree ≡ true =
+    sym (resolved_repeatable [] f a.tree b.groups) ∙ ap (is_repeatable f) (b.is []) ∙ r in
+    run_piece (repeat a.tree lo hi greedy) (repeat x lo hi greedy)
+    (piece (skip_here n f s k o) a.derives
+    (quants_one n d (bytes s) f a.tree (repeat a.tree lo hi greedy) q v k
+    (quant_some n (bytes s) f a.tree q v lo hi greedy k c m repeatable)))
+    e (record { is = λ g. ap (λ y. repeat y lo hi greedy) (b.is g); groups = b.groups })
+
+-- ---- branches
+
+pub reads_branch : {n d : ℕ} {f : Flags} {s v : Text} {ys : List Tree} (x : Tree) → Run n d f s v ys → join ys ≡ x →
+    Stops v → BranchAs n d f s v x
+reads_branch {n} {d} {f} {s} {v} x r e h = record {
+  tree = join (r.trees ++ []);
+  derives = branch (r.pieces (done [] (st f v)) (stop h.ends)) refl;
+  becomes = record {
+    is = λ g. ap (λ l. resolved_in false g (join l)) (append-nil r.trees) ∙ resolved_join g r.trees r.groups
+        ∙ ap (one_or concat) (sym (solid_solid (map (resolved_in false g) r.trees))) ∙ ap join (r.are g) ∙ e;
+    groups =
+        subst (λ l. OnlyGroups (items (join l))) (sym (append-nil r.trees))
+        (concat_groups (solid r.trees) (solid_groups r.trees r.groups));
+  };
+}
+
+pub reads_last : (n d : ℕ) (f : Flags) (s v : Text) (x : Tree) → BranchAs n d f s v x → Ends v →
+    BranchesAs n d f s v (x ∷ [])
+reads_last n d f s v x b e = record {
+  trees = b.tree ∷ [];
+  derives = last b.derives e.no_bar;
+  are = λ g. ap (λ y. y ∷ []) (b.becomes.is g);
+  groups = (b.becomes.groups, tt);
+}
+
+pub reads_more : (n d : ℕ) (f : Flags) (s t v : Text) (x : Tree) (ys : List Tree) → BranchAs n d f s (124 ∷ t) x →
+    BranchesAs n d f t v ys → BranchesAs n d f s v (x ∷ ys)
+reads_more n d f s t v x ys b bs = record {
+  trees = b.tree ∷ bs.trees;
+  derives = more b.derives refl bs.derives refl;
+  are = λ g. ap₂ (λ y l. y ∷ l) (b.becomes.is g) (bs.are g);
+  groups = (b.becomes.groups, bs.groups);
+}
+
+pub reads_whole : (n d : ℕ) (f : Flags) (s v : Text) (ys : List Tree) → BranchesAs n d f s v ys →
+    WholeAs n d f s v (choice ys)
+reads_whole n d f s v ys b = record {
+  tree = choice b.trees;
+  derives = alternation b.derives refl;
+  becomes = record {
+    is = λ g. resolved_choice g b.trees ∙ ap choice (b.are g);
+    groups = choice_groups b.trees b.groups;
+  };
+}
+
+pub reads_only : (n d : ℕ) (f : Flags) (s v : Text) (x : Tree) → BranchAs n d f s v x → Ends v → WholeAs n d f s v x
+reads_only n d f s v x b e = reads_whole n d f s v (x ∷ []) (reads_last n d f s v x b e)
+
+-- ---- groups
+
+not_deep : (d : ℕ) → d + 1 < 64 → nat_le max_depth (d + 1) ≡ false
+not_deep d h = grind (arith, nat_tests)
+
+head_at : (n d : ℕ) (f : Flags) (t : Text) → Kept f → d + 1 < 64 → after_comment_head t ≡ None →
+    ahead n d (st f (40 ∷ t)) ≡ head_ahead n (st f (40 ∷ t)) t
+unfolding ahead
+head_at n d f t k l o = cond-false _ _ _ (not_deep d l) ∙ ap (behind_layout n (st f (40 ∷ t))) (skip_here n f t k o)
+
+some_none : {X : Type 0} (w : Text) → Some w ≡ None → X
+some_none w e = absurd cc
+
+-- no head
+head_group : (n : ℕ) (f : Flags) (s t : Text) → Clear t → head_ahead n (st f s) t ≡ opens (capture None) (st f t)
+head_group n f s [] c = refl
+head_group n f s (x ∷ t) c = by_tests (clear_lazy (x ∷ t) c) (clear_star (x ∷ t) c)
+  where
+    by_cases : (a b : Bool) (p q : Ahead) (w : Text) → (if a then Some w else None) ≡ None →
+        (if b then Some w else None) ≡ None →
+        (if a then p else if b then q else opens (capture None) (st f (x ∷ t))) ≡ opens (capture None) (st f (x ∷ t))
+    by_cases true b p q w e g = some_none w e
+    by_cases false true p q w e g = some_none w g
+    by_cases false false p q w e g = refl
+
+    by_tests : strip 63 (x ∷ t) ≡ None → strip 42 (x ∷ t) ≡ None →
+        head_ahead n (st f s) (x ∷ t) ≡ opens (capture None) (st f (x ∷ t))
+    by_tests a b = by_cases (x == 63) (x == 42) _ _ t a b
+
+group_at : (n d : ℕ) (f : Flags) (s : Text) → Kept f → d + 1 < 64 → Clear s →
+    ahead n d (st f (40 ∷ s)) ≡ opens (capture None) (st f s)
+group_at n d f s k l c = head_at n d f s k l c.no_comment ∙ head_group n f (40 ∷ s) s c
+
+-- a capturing group
+pub reads_group : (n d : ℕ) (f : Flags) (s v : Text) (x : Tree) → Kept f → d + 1 < 64 → Clear s →
+    WholeAs n (d + 1) f s (41 ∷ v) x → AtomAs n d f (40 ∷ s) v (tree.group x)
+reads_group n d f s v x k l c w = record {
+  tree = ast_node (ast_group None w.tree) (place_of n (40 ∷ s));
+  derives = atom (group_at n d f s k l c) (a_group (inside w.derives refl) refl);
+  becomes = record { is = λ g. ap tree.group (w.becomes.is g); groups = (refl, w.becomes.groups) };
+}
+
+-- a group of flags, whose letters begin with one that begins no other head
+pub scope_at : (n d : ℕ) (f g : Flags) (t u : Text) → Kept f → d + 1 < 64 → after_comment_head (63 ∷ t) ≡ None →
+    question_ahead n (st f (40 ∷ 63 ∷ t)) t ≡ flags_ahead (letters.letters n f t) →
+    letters.letters n f t ≡ gives (letters.scope g) u → ahead n d (st f (40 ∷ 63 ∷ t)) ≡ opens scope (st g u)
+scope_at n d f g t u k l o q e = head_at n d f (63 ∷ t) k l o ∙ q ∙ ap flags_ahead e
+
+pub reads_scope : (n d : ℕ) (f g : Flags) (s t v : Text) (x : Tree) → ahead n d (st f s) ≡ opens scope (st g t) →
+    WholeAs n (d + 1) g t (41 ∷ v) x → AtomAs n d f s v x
+reads_scope n d f g s t v x e w =
+    record { tree = w.tree; derives = atom e (a_group (inside w.derives refl) refl); becomes = w.becomes }
+
+-- with more than k letters to spare
+abbrev pub Spelled : ℕ → Text → ℕ → Bool → Flags → Text → Letters → Text → Type 0
+Spelled n t k c f u l w = (j : ℕ) → k < j → letters_in n t j c f u ≡ gives l w
+
+module _ (n : ℕ) (t : Text) (c : Bool) (f : Flags) (u : Text) (h : Kept f) (o : after_comment_head u ≡ None) where
+  pub last_letter : (l : Letters) (w : Text) → step n t c f u ≡ gives (ends l) w → Spelled n t 0 c f u l w
+  last_letter l w e j m = in_end n t c f u j 0 m u (ap layout_reading (skip_here n f u h o)) l w e
+
+  pub more_letters : (k : ℕ) (b : Bool) (g : Flags) (v : Text) (l : Letters) (w : Text) →
+      step n t c f u ≡ gives (goes b g) v → Spelled n t k b g v l w → Spelled n t (k + 1) c f u l w
+  more_letters k b g v l w e r j m =
+      let (i, q, same) =
+      in_go n t c f u j (k + 1) m u (ap layout_reading (skip_here n f u h o)) k b g v (omega arith) e in
+      same ∙ r i q
+
+pub spelled : (n k : ℕ) (f : Flags) (t : Text) (l : Letters) (w : Text) → Spelled n t k false f t l w → k ≤ bytes t →
+    letters.letters n f t ≡ gives l w
+spelled n k f t l w h m = letters_start n f t ∙ h (suc (bytes t)) (omega arith)
+
+colon : (n : ℕ) (f : Flags) (s : Text) → Kept f → letters.letters n f (58 ∷ s) ≡ gives (letters.scope f) s
+colon n f s k =
+    spelled n 0 f (58 ∷ s) (letters.scope f) s (last_letter n (58 ∷ s) false f (58 ∷ s) k refl (letters.scope f) s refl)
+    (omega arith)
+
+grouped_at : (n d : ℕ) (f : Flags) (s : Text) → Kept f → d + 1 < 64 →
+    ahead n d (st f (40 ∷ 63 ∷ 58 ∷ s)) ≡ opens scope (st f s)
+grouped_at n d f s k l = scope_at n d f f (58 ∷ s) s k l refl refl (colon n f s k)
+
+-- `(?:`
+pub reads_grouped : (n d : ℕ) (f : Flags) (s v : Text) (x : Tree) → Kept f → d + 1 < 64 →
+    WholeAs n (d + 1) f s (41 ∷ v) x → AtomAs n d f (40 ∷ 63 ∷ 58 ∷ s) v x
+reads_grouped n d f s v x k l w = reads_scope n d f f (40 ∷ 63 ∷ 58 ∷ s) s v x (grouped_at n d f s k l) w
+
+-- one letter and a colon
+pub one_letter : (n : ℕ) (f g : Flags) (c : ℕ) (s : Text) → Kept f → Kept g → after_comment_head (c ∷ 58 ∷ s) ≡ None →
+    step n (c ∷ 58 ∷ s) false f (c ∷ 58 ∷ s) ≡ gives (goes false g) (58 ∷ s) →
+    letters.letters n f (c ∷ 58 ∷ s) ≡ gives (letters.scope g) s
+unfolding bytes
+one_letter n f g c s k m o e =
+    let t = c ∷ 58 ∷ s in
+    spelled n 1 f t (letters.scope g) s
+    (more_letters n t false f t k o 0 false g (58 ∷ s) (letters.scope g) s e
+    (last_letter n t false g (58 ∷ s) m refl (letters.scope g) s refl)) (omega arith)
+
+pub two_letters : (n : ℕ) (f g h : Flags) (b c : ℕ) (s : Text) → Kept f → Kept g → Kept h → 1 ≤ bytes (b ∷ []) →
+    after_comment_head (b ∷ c ∷ 58 ∷ s) ≡ None → after_comment_head (c ∷ 58 ∷ s) ≡ None →
+    step n (b ∷ c ∷ 58 ∷ s) false f (b ∷ c ∷ 58 ∷ s) ≡ gives (goes false g) (c ∷ 58 ∷ s) →
+    step n (b ∷ c ∷ 58 ∷ s) false g (c ∷ 58 ∷ s) ≡ gives (goes false h) (58 ∷ s) →
+    letters.letters n f (b ∷ c ∷ 58 ∷ s) ≡ gives (letters.scope h) s
+unfolding bytes
+two_letters n f g h b c s k m p z o q e r =
+    let t = b ∷ c ∷ 58 ∷ s in
+    spelled n 2 f t (letters.scope h) s
+    (more_letters n t false f t k o 1 false g (c ∷ 58 ∷ s) (letters.scope h) s e
+    (more_letters n t false g (c ∷ 58 ∷ s) m q 0 false h (58 ∷ s) (letters.scope h) s r
+    (last_letter n t false h (58 ∷ s) p refl (letters.scope h) s refl))) (omega arith)
+
+-- `(?i:`
+pub reads_caseless : (n d : ℕ) (u : Bool) (s v : Text) (x : Tree) → d + 1 < 64 →
+    WholeAs n (d + 1) (under u true false false false) s (41 ∷ v) x →
+    AtomAs n d (under u false false false false) (40 ∷ 63 ∷ 105 ∷ 58 ∷ s) v x
+reads_caseless n d u s v x l w =
+    let f = under u false false false false in
+    let g = under u true false false false in
+    reads_scope n d f g (40 ∷ 63 ∷ 105 ∷ 58 ∷ s) s v x
+    (scope_at n d f g (105 ∷ 58 ∷ s) s (kept u false false false false) l refl refl
+    (one_letter n f g 105 s (kept u false false false false) (kept u true false false false) refl refl)) w
+
+-- ---- leaves
+
+pub reads_leaf : (n d : ℕ) (f : Flags) (s v : Text) (x : Tree) → ahead n d (st f s) ≡ leaf (done x (st f v)) →
+    Becomes x x → AtomAs n d f s v x
+reads_leaf n d f s v x e b = record { tree = x; derives = atom e a_leaf; becomes = b }
+
+pub leaf_at : (n d : ℕ) (f : Flags) (c : ℕ) (t : Text) → (c == 40) ≡ false → is_before_nothing c ≡ false →
+    ahead n d (st f (c ∷ t)) ≡ leaf (leaf_of n (st f (c ∷ t)) c t)
+unfolding ahead
+leaf_at n d f c t a b = cond-false _ _ _ a ∙ cond-false _ _ _ b
+
+plain_leaf : (n d : ℕ) (f : Flags) (c : ℕ) (v : Text) → behind_backslash c ≡ None →
+    ahead n d (st f (c ∷ v)) ≡ leaf (done (literal (c ∷ []) f.casei) (st f v))
+plain_leaf n d f c v e =
+    let (slash, a) = behind_none c e in
+    let (dot, b) = a in
+    let (plus, h) = b in
+    let (star, i) = h in
+    let (ask, j) = i in
+    let (paren, k) = j in
+    let (close, l) = k in
+    let (bar_, m) = l in
+    let (bracket, o) = m in
+    leaf_at n d f c v paren (rw (plus, star, ask, bar_, close) refl)
+    ∙ rw (dot, o.1.1.1.0, o.1.1.1.1.0, slash, bracket) refl
+
+-- a character, as it is printed
+pub reads_char : (n d : ℕ) (f : Flags) (c : ℕ) (v : Text) (o : Option ℕ) → behind_backslash c ≡ o →
+    AtomAs n d f (put_as c o v) v (literal (c ∷ []) (f.casei && is_none o))
+reads_char n d f c v None e =
+    reads_leaf n d f (c ∷ v) v (literal (c ∷ []) (f.casei && true))
+    (plain_leaf n d f c v e ∙ ap (λ b. leaf (done (literal (c ∷ []) b) (st f v))) (sym (and-true f.casei)))
+    (record { is = λ g. refl; groups = tt })
+reads_char n d f c v (Some x) e =
+    reads_leaf n d f (92 ∷ x ∷ v) v (literal (c ∷ []) (f.casei && false))
+    (leaf_at n d f 92 (x ∷ v) refl refl
+    ∙ ap (λ r. leaf (leaf_outcome leaf_node (st f (92 ∷ x ∷ v)) r)) (behind_some c x e n f (place_of n (92 ∷ x ∷ v)) v)
+    ∙ ap (λ b. leaf (done (literal (c ∷ []) b) (st f v))) (sym (and-false f.casei)))
+    (record { is = λ g. refl; groups = tt })
+
+-- ---- faults
+
+-- a group that is too deep
+pub fails_deep : (n d : ℕ) (f : Flags) (t : Text) → 64 ≤ d + 1 →
+    Atom n d (st f (40 ∷ t)) (fault recursion_exceeded (place_of n (40 ∷ t)))
+unfolding ahead
+fails_deep n d f t h =
+    let deep : nat_le max_depth (d + 1) ≡ true = le-leb 64 (d + 1) h in atom (cond-true _ _ _ deep) a_leaf
+
+module _ (n d : ℕ) (f : Flags) (k : Kind) (p : ℕ) where
+  fails_head : (g : Flags) (h : Head) (s t : Text) → ahead n d (st f s) ≡ opens h (st g t) →
+      Alternation n (d + 1) (st g t) (fault k p) → Atom n d (st f s) (fault k p)
+  fails_head g h s t e w = atom e (a_group (inside w refl) refl)
+
+  pub fails_group : (s : Text) → Kept f → d + 1 < 64 → Clear s → Alternation n (d + 1) (st f s) (fault k p) →
+      Atom n d (st f (40 ∷ s)) (fault k p)
+  fails_group s h l c w = fails_head f (capture None) (40 ∷ s) s (group_at n d f s h l c) w
+
+  pub fails_grouped : (s : Text) → Kept f → d + 1 < 64 → Alternation n (d + 1) (st f s) (fault k p) →
+      Atom n d (st f (40 ∷ 63 ∷ 58 ∷ s)) (fault k p)
+  fails_grouped s h l w = fails_head f scope (40 ∷ 63 ∷ 58 ∷ s) s (grouped_at n d f s h l) w
+
+  pub fails_piece : (s : Text) → Kept f → before_atom.ends s ≡ false → after_comment_head s ≡ None →
+      Atom n d (st f s) (fault k p) → Pieces n d (st f s) (fault k p)
+  fails_piece s h e o a = piece_fault e (piece (skip_here n f s h o) a refl)
+
+  pub fails_first : (s : Text) → Pieces n d (st f s) (fault k p) → Branches n d (st f s) (fault k p)
+  fails_first s q = branch_fault (branch q refl)
+
+  pub fails_more : (s t : Text) (x : Tree) → BranchAs n d f s (124 ∷ t) x → Branches n d (st f t) (fault k p) →
+      Branches n d (st f s) (fault k p)
+  fails_more s t x b q = more b.derives refl q refl
+
+  pub fails_whole : (s : Text) → Branches n d (st f s) (fault k p) → Alternation n d (st f s) (fault k p)
+  fails_whole s q = alternation q refl
+
+-- ---- a whole text
+
+pub reads_text : (f : Flags) (s : Text) (x : Tree) → WholeAs (bytes s) 0 f s [] x →
+    (r : Tree) × Derives f s r × Becomes r x
+reads_text f s x w = (w.tree, (_, whole w.derives refl), w.becomes)
+
+pub fails_text : (f : Flags) (s : Text) (k : Kind) (p : ℕ) → Alternation (bytes s) 0 (st f s) (fault k p) →
+    Faults f s k p
+fails_text f s k p w = whole w refl

@@ -1,0 +1,373 @@
+-- What is true of the nodes of every raw tree.
+use Rattle.std.proofs.Common.{◌≡◌, ℕ, zero, suc, ◌+◌, ◌≤◌, Bool, false, ◌==◌, ◌&&◌, not, List, [], ◌∷◌, ◌++◌, length, Option, Some, None, refl, subst, nat_lt, nat_le, sym, codes, arith}
+use Rattle.std.proofs.lemmas.Bool.{cond_both}
+use Rattle.std.specs.List.{AllByRecursion}
+use Prim.Native.Char.{code}
+use Rattle.fancy_lex.proofs.EscapeSound.{Sound, sound_escape}
+use Rattle.fancy_lex.specs.Class.{class}
+use Rattle.fancy_lex.specs.Escape.{escape}
+use Rattle.fancy_lex.specs.Escaped as escaped
+use Rattle.fancy_lex.specs.Escaped.{Escape}
+use Rattle.fancy_lex.specs.Layout.{Skipped, rest, fault as open_comment}
+use Rattle.fancy_lex.specs.Reading.{Reading, gives, fails, choose}
+use Rattle.fancy_lex.specs.Referred.{Reference, Call}
+use Rattle.fancy_lex.specs.Text.{Text, bytes, place_of, strip_word}
+use Rattle.fancy_lex.specs.declared.flags.Flags.{Flags}
+use Rattle.fancy_parts.specs.FlagLetters.{Letters, letters, setting, scope as scoped}
+use Rattle.fancy_parts.specs.GroupName.{group_name}
+use Rattle.fancy_parts.specs.HeadReference.{named_reference, named_call, begins_target, condition_target}
+use Rattle.fancy_parts.specs.Quantifier.{counts}
+use Rattle.fancy_parts.specs.declared.counts.Counts.{Counts}
+use Rattle.fancy_grammar.specs.Ahead.{Ahead, leaf, body, ahead, ahead_of, behind_layout, head_ahead, question_ahead, python_ahead, less_ahead, absent_ahead, conditional_ahead, condition_ahead, flags_ahead, named_ahead, target_ahead, backref_node, call_node, leaf_node, leaf_outcome, leaf_of, is_before_nothing, max_depth, skipped}
+use Rattle.fancy_grammar.specs.Grammar.{Alternation, alternation, Branches, last, more, branch_fault, Branch, branch, Pieces, stop, next, piece_fault, Piece, piece, layout_fault, Atom, atom, AtomOf, a_nothing, a_leaf, a_group, a_condition, condition_fault, a_body, two_branches, one_branch, absent_fault, Inside, inside, Body, the_body, Whole, whole, closed, closed_at, ended, ended_at, branches_of, conditional_of, conditional_behind, is_condition, alone}
+use Rattle.fancy_grammar.specs.Head.{Head, capture, scope, look, atomic, define, repeater, node_of}
+use Rattle.fancy_grammar.specs.Join.{join, choice, solid, is_empty, one_or}
+use Rattle.fancy_grammar.specs.Preorder.{preorder, preorder_all}
+use Rattle.fancy_grammar.specs.Quantified.{quants, adjacent, max_adjacent, is_unmoved, quant, quant_at, counted, suffix, is_swapped, quantified, is_repeatable, is_dropped}
+use Rattle.fancy_grammar.specs.State.{State, at, Outcome, done, fault, and_then}
+use Rattle.fancy_grammar.specs.Tree.{Tree, Trees, no_trees, more_trees, literal, literal_bytes, concat, alt, group, backref, backref_at_level, backref_exists, subroutine_call, delegate, absent, expression, trees_of, list_of}
+use Rattle.fancy_grammar.specs.Verb.{verb_at}
+use Rattle.fancy_grammar.specs.Quantified.{Suffix}
+use Rattle.fancy_grammar.proofs.LevelLaws.{levels}
+use Rattle.fancy_grammar.proofs.OutcomeLemmas.{Holds, then_holds}
+
+-- what holds of a node of a raw tree: it is none that resolving makes, and what holds of an answered one
+abbrev pub IsReadNode : Tree → Type 0
+IsReadNode (literal w casei) = length w ≡ 1
+IsReadNode (literal_bytes w) = (length w ≡ 1) × AllByRecursion (λ b. (0x80 ≤ b) × (b ≤ 0xFF)) w
+IsReadNode (alt ts) = 2 ≤ length (list_of ts)
+IsReadNode (group t) = ⊥
+IsReadNode (backref n casei) = ⊥
+IsReadNode (backref_at_level n level casei) = ⊥
+IsReadNode (backref_exists n level) = ⊥
+IsReadNode (subroutine_call n) = ⊥
+IsReadNode _ = Unit {0}
+
+abbrev pub IsRead : Tree → Type 0
+IsRead t = AllByRecursion IsReadNode (preorder t)
+
+abbrev AreRead : List Tree → Type 0
+AreRead ts = AllByRecursion IsRead ts
+
+both_read : (a b : List Tree) → AllByRecursion IsReadNode a → AllByRecursion IsReadNode b → AllByRecursion IsReadNode (a ++ b)
+both_read [] b h i = i
+both_read (t ∷ a) b h i = (h.0, both_read a b h.1 i)
+
+-- ---- trees that are put together
+
+all_read : (ts : List Tree) → AreRead ts → AllByRecursion IsReadNode (preorder_all (trees_of ts))
+all_read [] h = tt
+all_read (t ∷ ts) h = both_read (preorder t) (preorder_all (trees_of ts)) h.0 (all_read ts h.1)
+
+each_read : (ts : Trees) → AllByRecursion IsReadNode (preorder_all ts) → AreRead (list_of ts)
+each_read no_trees h = tt
+each_read (more_trees t ts) h = (front (preorder t) (preorder_all ts) h, each_read ts (back (preorder t) (preorder_all ts) h))
+  where
+    front : (a b : List Tree) → AllByRecursion IsReadNode (a ++ b) → AllByRecursion IsReadNode a
+    front [] b h = tt
+    front (x ∷ a) b h = (h.0, front a b h.1)
+
+    back : (a b : List Tree) → AllByRecursion IsReadNode (a ++ b) → AllByRecursion IsReadNode b
+    back [] b h = h
+    back (x ∷ a) b h = back a b h.1
+
+solid_read : (ts : List Tree) → AreRead ts → AreRead (solid ts)
+solid_read [] h = tt
+solid_read (t ∷ ts) h = cond_both (is_empty t) _ _ AreRead (λ _. solid_read ts h.1) (λ _. (h.0, solid_read ts h.1))
+
+join_read : (ts : List Tree) → AreRead ts → IsRead (join ts)
+join_read ts h = of_solid (solid ts) (solid_read ts h)
+  where
+    of_solid : (ts : List Tree) → AreRead ts → IsRead (one_or concat ts)
+    of_solid [] h = (tt, tt)
+    of_solid (t ∷ []) h = h.0
+    of_solid (t ∷ u ∷ ts) h = (tt, all_read (t ∷ u ∷ ts) h)
+
+choice_read : (ts : List Tree) → AreRead ts → IsRead (choice ts)
+choice_read [] h = (tt, tt)
+choice_read (t ∷ []) h = h.0
+choice_read (t ∷ u ∷ ts) h = (omega arith, all_read (t ∷ u ∷ ts) h)
+
+-- ---- outcomes
+
+-- what was read is so
+abbrev pub Makes : {A : Type 0} → (A → Type 0) → Outcome A → Type 0
+Makes P o = Holds (λ a s. P a) o
+
+then_makes : {A B : Type 0} (P : A → Type 0) (Q : B → Type 0) (q : Outcome A) {o : Outcome B} (f : A → State → Outcome B) → Makes P q → and_then q f ≡ o →
+    ((a : A) (s : State) → P a → Makes Q (f a s)) → Makes Q o
+then_makes P Q q f h e g = then_holds (λ a s. P a) (λ a s. Q a) q f h e g
+
+choose_makes : {A B : Type 0} (P : B → Type 0) (o : Option A) (f : A → B) (b : B) → ((a : A) → P (f a)) → P b → P (choose o f b)
+choose_makes P (Some a) f b g h = g a
+choose_makes P None f b g h = h
+
+any_made : {A : Type 0} (o : Outcome A) → Makes (λ _. Unit {0}) o
+any_made (done a s) = tt
+any_made (fault k p) = tt
+
+-- ---- quantifiers
+
+quantified_read : (f : Flags) (c : Counts) (m : Suffix) (a : Tree) → IsRead a → IsRead (quantified f c m a)
+quantified_read f c m a h =
+    cond_both (is_swapped f c) _ _ IsRead (λ _. (tt, (tt, h))) (λ _. cond_both m.possessive _ _ IsRead (λ _. (tt, (tt, h))) (λ _. (tt, h)))
+
+quant_read : (n left : ℕ) (a : Tree) (t : State) → IsRead a → Makes IsRead (quant n left a t)
+unfolding quant
+quant_read n left a t h = by_layout (skipped n t)
+  where
+    by_counts : (v : Text) (o : Option (Counts × Text)) → Makes IsRead (counted n left a (at t v) o)
+    by_counts v None = h
+    by_counts v (Some (c, u)) =
+        let marks = suffix n (at t u) c in
+        cond_both (is_repeatable t.flags a) _ _ (Makes IsRead)
+        (λ _. then_makes (λ _. Unit {0}) IsRead marks _ (any_made marks) refl (λ m s _. quantified_read t.flags c m a h)) (λ _.
+        cond_both (is_dropped t.flags left a u) _ _ (Makes IsRead)
+        (λ _. then_makes (λ _. Unit {0}) IsRead marks _ (any_made marks) refl (λ m s _. h)) (λ _. tt))
+
+    by_layout : (j : Skipped) → Makes IsRead (quant_at n left a t j)
+    by_layout (rest v) = by_counts v (counts t.flags.ignore_space v)
+    by_layout (open_comment p) = tt
+
+adjacent_read : (k n d : ℕ) (a : Tree) (t : State) → IsRead a → Makes IsRead (adjacent k n d a t)
+unfolding adjacent
+adjacent_read zero n d a t h =
+    then_makes IsRead IsRead (quant n (bytes t.rest) a t) _ (quant_read n (bytes t.rest) a t h) refl
+    (λ b v i. cond_both (is_unmoved t v) _ _ (Makes IsRead) (λ _. i) (λ _. tt))
+adjacent_read (suc k) n d a t h =
+    let more = adjacent_read k n (d + 1) in
+    then_makes IsRead IsRead (quant n (bytes t.rest) a t) _ (quant_read n (bytes t.rest) a t h) refl
+    (λ b v i. cond_both (is_unmoved t v) _ _ (Makes IsRead) (λ _. i)
+    (λ _. cond_both (nat_lt (d + 1) max_depth) _ _ (Makes IsRead) (λ _. more b v i) (λ _. tt)))
+
+quants_read : (n d left : ℕ) (a : Tree) (t : State) → IsRead a → Makes IsRead (quants n d left a t)
+quants_read n d left a t h =
+    then_makes IsRead IsRead (quant n left a t) _ (quant_read n left a t h) refl
+    (λ b v i. cond_both v.flags.oniguruma_mode _ _ (Makes IsRead) (λ _. adjacent_read max_adjacent n d b v i) (λ _. i))
+
+-- ---- what stands ahead
+
+-- so is a node that stands alone
+abbrev pub IsReadLeaf : Tree → Type 0
+IsReadLeaf t = IsReadNode t × (preorder t ≡ t ∷ []) × (levels t ≡ 1)
+
+leaf_is_read : (t : Tree) → IsReadLeaf t → IsRead t
+leaf_is_read t h = subst (AllByRecursion IsReadNode) (sym h.1) (h.0, tt)
+
+abbrev pub ReadAhead : Ahead → Type 0
+ReadAhead (leaf o) = Makes IsReadLeaf o
+ReadAhead (body c s) = IsReadLeaf c
+ReadAhead _ = Unit {0}
+
+escape_read : (n : ℕ) (s : State) (t : Text) (o : Reading Escape) → Sound n t o → Makes IsReadLeaf (leaf_outcome leaf_node s o)
+escape_read n s t (gives (escaped.literal c casei) u) h = (refl, refl, refl)
+escape_read n s t (gives (escaped.literal_bytes b) u) h = ((refl, (h, tt)), refl, refl)
+escape_read n s t (gives (escaped.any newline crlf) u) h = (tt, refl, refl)
+escape_read n s t (gives (escaped.assertion a) u) h = (tt, refl, refl)
+escape_read n s t (gives (escaped.general_newline unicode) u) h = (tt, refl, refl)
+escape_read n s t (gives escaped.keep_out u) h = (tt, refl, refl)
+escape_read n s t (gives escaped.continue_from_previous_match_end u) h = (tt, refl, refl)
+escape_read n s t (gives (escaped.delegate w casei) u) h = (tt, refl, refl)
+escape_read n s t (gives (escaped.backref r casei) u) h = (tt, refl, refl)
+escape_read n s t (gives (escaped.subroutine_call c) u) h = (tt, refl, refl)
+escape_read n s t (fails e) h = tt
+
+class_read : (s : State) (casei : Bool) (o : Reading Text) → Makes IsReadLeaf (leaf_outcome (λ w. delegate w casei) s o)
+class_read s casei (gives w u) = (tt, refl, refl)
+class_read s casei (fails e) = tt
+
+backref_read : (s : State) (casei : Bool) (o : Reading Reference) → Makes IsReadLeaf (leaf_outcome (backref_node casei) s o)
+backref_read s casei (gives r u) = (tt, refl, refl)
+backref_read s casei (fails e) = tt
+
+call_read : (s : State) (o : Reading Call) → Makes IsReadLeaf (leaf_outcome call_node s o)
+call_read s (gives c u) = (tt, refl, refl)
+call_read s (fails e) = tt
+
+target_read : (s : State) (o : Reading Reference) → ReadAhead (target_ahead s o)
+target_read s (gives r u) = (tt, refl, refl)
+target_read s (fails e) = tt
+
+named_read : (s : State) (o : Reading Text) → ReadAhead (named_ahead s o)
+named_read s (gives w u) = tt
+named_read s (fails e) = tt
+
+flags_read : (o : Reading Letters) → ReadAhead (flags_ahead o)
+flags_read (gives (setting f) u) = (tt, refl, refl)
+flags_read (gives (scoped f) u) = tt
+flags_read (fails e) = tt
+
+condition_read : (n : ℕ) (s : State) (c : ℕ) (t : Text) → ReadAhead (condition_ahead n s c t)
+condition_read n s c t =
+    cond_both (begins_target (c ∷ t)) _ _ ReadAhead (λ _. target_read s (condition_target n (c ∷ t))) (λ _.
+    cond_both (c == code "*") _ _ ReadAhead (λ _. choose_makes ReadAhead (verb_at t) _ _ (λ p. (tt, refl, refl)) tt) (λ _. tt))
+
+conditional_read : (n : ℕ) (s : State) (t : Text) → ReadAhead (conditional_ahead n s t)
+conditional_read n s [] = tt
+conditional_read n s (c ∷ t) =
+    choose_makes ReadAhead (strip_word (codes "DEFINE)") (c ∷ t)) _ _ (λ u. tt) (condition_read n s c t)
+
+absent_read : (n : ℕ) (s : State) (t : Text) → ReadAhead (absent_ahead n s t)
+absent_read n s [] = tt
+absent_read n s (c ∷ t) = cond_both (c == code "|") _ _ ReadAhead (λ _. tt) (λ _. tt)
+
+less_read : (n : ℕ) (s : State) (m t : Text) → ReadAhead (less_ahead n s m t)
+less_read n s m [] = named_read s (group_name n m)
+less_read n s m (c ∷ t) =
+    cond_both (c == code "=") _ _ ReadAhead (λ _. tt) (λ _.
+    cond_both (c == code "!") _ _ ReadAhead (λ _. tt) (λ _. named_read s (group_name n m)))
+
+python_read : (n : ℕ) (s : State) (m t : Text) → ReadAhead (python_ahead n s m t)
+python_read n s m [] = flags_read (letters n s.flags m)
+python_read n s m (c ∷ t) =
+    cond_both (c == code "<") _ _ ReadAhead (λ _. named_read s (group_name n m)) (λ _.
+    cond_both (c == code "=") _ _ ReadAhead (λ _. backref_read s s.flags.casei (named_reference n t)) (λ _.
+    cond_both (c == code ">") _ _ ReadAhead (λ _. call_read s (named_call n t)) (λ _. flags_read (letters n s.flags m))))
+
+question_read : (n : ℕ) (s : State) (t : Text) → ReadAhead (question_ahead n s t)
+question_read n s [] = flags_read (letters n s.flags [])
+question_read n s (c ∷ t) =
+    cond_both (c == code "=") _ _ ReadAhead (λ _. tt) (λ _.
+    cond_both (c == code "!") _ _ ReadAhead (λ _. tt) (λ _.
+    cond_both (c == code "<") _ _ ReadAhead (λ _. less_read n s (c ∷ t) t) (λ _.
+    cond_both (c == code "'") _ _ ReadAhead (λ _. named_read s (group_name n (c ∷ t))) (λ _.
+    cond_both (c == code "P") _ _ ReadAhead (λ _. python_read n s (c ∷ t) t) (λ _.
+    cond_both (c == code "~") _ _ ReadAhead (λ _. absent_read n s t) (λ _.
+    cond_both (c == code ">") _ _ ReadAhead (λ _. tt) (λ _.
+    cond_both (c == code "(") _ _ ReadAhead (λ _. conditional_read n s t) (λ _. flags_read (letters n s.flags (c ∷ t))))))))))
+
+head_read : (n : ℕ) (s : State) (t : Text) → ReadAhead (head_ahead n s t)
+head_read n s [] = tt
+head_read n s (c ∷ t) =
+    cond_both (c == code "?") _ _ ReadAhead (λ _. question_read n s t) (λ _.
+    cond_both (c == code "*") _ _ ReadAhead (λ _. choose_makes ReadAhead (verb_at t) _ _ (λ p. (tt, refl, refl)) tt) (λ _. tt))
+
+behind_read : (n : ℕ) (s : State) (k : Skipped) → ReadAhead (behind_layout n s k)
+behind_read n s (rest u) = head_read n s u
+behind_read n s (open_comment p) = tt
+
+leaf_read : (n : ℕ) (s : State) (c : ℕ) (t : Text) → Makes IsReadLeaf (leaf_of n s c t)
+leaf_read n s c t =
+    let P = Makes IsReadLeaf in
+    cond_both (c == code ".") _ _ P (λ _. (tt, refl, refl)) (λ _.
+    cond_both (c == code "^") _ _ P (λ _. (tt, refl, refl)) (λ _.
+    cond_both (c == code "$") _ _ P (λ _. (tt, refl, refl)) (λ _.
+    cond_both (c == code "\\") _ _ P
+    (λ _. escape_read n s t (escape n s.flags false (place_of n (c ∷ t)) t) (sound_escape n s.flags false (place_of n (c ∷ t)) t)) (λ _.
+    cond_both (c == code "[") _ _ P (λ _. class_read s s.flags.casei (class n s.flags t)) (λ _. (refl, refl, refl))))))
+
+pub ahead_read : (n d : ℕ) (s : State) → ReadAhead (ahead n d s)
+unfolding ahead
+ahead_read n d s = by_text s.rest
+  where
+    by_text : (t : Text) → ReadAhead (ahead_of n d s t)
+    by_text [] = tt
+    by_text (c ∷ t) =
+        cond_both (c == code "(") _ _ ReadAhead
+        (λ _. cond_both (nat_le max_depth (d + 1)) _ _ ReadAhead (λ _. tt) (λ _. behind_read n s (skipped n (at s t)))) (λ _.
+        cond_both (is_before_nothing c) _ _ ReadAhead (λ _. tt) (λ _. leaf_read n s c t))
+
+leaf_read_whole : (o : Outcome Tree) → Makes IsReadLeaf o → Makes IsRead o
+leaf_read_whole (done a s) h = leaf_is_read a h
+leaf_read_whole (fault k p) h = tt
+
+-- ---- what a part comes to behind its last one
+
+closed_read : (n : ℕ) (r : Tree) (s : State) → IsRead r → Makes IsRead (closed n r s)
+closed_read n r s h = by_text s.rest
+  where
+    by_text : (u : Text) → Makes IsRead (closed_at n r s u)
+    by_text [] = tt
+    by_text (c ∷ u) = cond_both (c == code ")") _ _ (Makes IsRead) (λ _. h) (λ _. tt)
+
+node_read : (h : Head) (p : ℕ) (r : Tree) → IsRead r → IsRead (node_of h p r)
+node_read (capture name) p r i = (tt, i)
+node_read scope p r i = i
+node_read (look l) p r i = (tt, i)
+node_read atomic p r i = (tt, i)
+node_read define p r i = (tt, i)
+node_read repeater p r i = (tt, i)
+
+conditional_of_read : (c t f : Tree) → IsRead c → IsRead t → IsRead f → IsRead (conditional_of c t f)
+conditional_of_read c t f h i j =
+    cond_both (is_empty t && is_empty f) _ _ IsRead (λ _. h)
+    (λ _. (tt, both_read (preorder c) (preorder t ++ preorder f) h (both_read (preorder t) (preorder f) i j)))
+
+branches_read : (r : Tree) → IsRead r → IsRead (branches_of r).0 × IsRead (branches_of r).1
+branches_read (alt (more_trees t ts)) h =
+    let each = each_read (more_trees t ts) h.1 in (each.0, choice_read (list_of ts) each.1)
+branches_read r h = (h, (tt, tt))
+
+alone_read : (a : Tree) → IsRead a → IsRead (alone a)
+alone_read a h = cond_both (is_empty a) _ _ IsRead (λ _. (tt, tt)) (λ _. (tt, h))
+
+behind_body_read : (n left : ℕ) (c r : Tree) (s : State) → IsRead c → IsRead r → Makes IsRead (conditional_behind n c left r s)
+behind_body_read n left c r s h i =
+    let b = branches_of r in let e = branches_read r i in
+    cond_both (bytes s.rest == left && not (is_condition c)) _ _ (Makes IsRead) (λ _. tt)
+    (λ _. closed_read n (conditional_of c b.0 b.1) s (conditional_of_read c b.0 b.1 h e.0 e.1))
+
+-- ---- the grammar
+
+mutual
+  alternation_read : {n d : ℕ} {s : State} {o : Outcome Tree} → Alternation n d s o → Makes IsRead o
+  alternation_read (alternation {q} b e) = then_makes AreRead IsRead q _ (branches_are_read b) e (λ l v h. choice_read l h)
+
+  branches_are_read : {n d : ℕ} {s : State} {o : Outcome (List Tree)} → Branches n d s o → Makes AreRead o
+  branches_are_read (last b e) = (branch_read b, tt)
+  branches_are_read (more {q} b e m f) =
+      let h = branch_read b in then_makes AreRead AreRead q _ (branches_are_read m) f (λ l v i. (h, i))
+  branches_are_read (branch_fault b) = tt
+
+  branch_read : {n d : ℕ} {s : State} {o : Outcome Tree} → Branch n d s o → Makes IsRead o
+  branch_read (branch {q} b e) = then_makes AreRead IsRead q _ (pieces_read b) e (λ l v h. join_read l h)
+
+  pieces_read : {n d : ℕ} {s : State} {o : Outcome (List Tree)} → Pieces n d s o → Makes AreRead o
+  pieces_read (stop e) = tt
+  pieces_read (next {q} e a m f) =
+      let h = piece_read a in then_makes AreRead AreRead q _ (pieces_read m) f (λ l v i. (h, i))
+  pieces_read (piece_fault e a) = tt
+
+  piece_read : {n d : ℕ} {s : State} {o : Outcome Tree} → Piece n d s o → Makes IsRead o
+  piece_read (piece {n} {d} {s} {q} l x e) =
+      then_makes IsRead IsRead q _ (atom_read x) e (λ a t i. quants_read n d (bytes s.rest) a t i)
+  piece_read (layout_fault l) = tt
+
+  atom_read : {n d : ℕ} {s : State} {o : Outcome Tree} → Atom n d s o → Makes IsRead o
+  atom_read (atom {n} {d} {s} e a) = of_read a (subst ReadAhead e (ahead_read n d s))
+
+  of_read : {k : Ahead} {n d : ℕ} {s : State} {o : Outcome Tree} → AtomOf k n d s o → ReadAhead k → Makes IsRead o
+  of_read a_nothing h = (tt, tt)
+  of_read (a_leaf {o}) h = leaf_read_whole o h
+  of_read (a_group {n} {h = head} {s} {q} i e) h =
+      then_makes IsRead IsRead q _ (inside_read i) e (λ r v a. node_read head (place_of n s.rest) r a)
+  of_read (a_condition i b) h = body_read b (inside_read i)
+  of_read (condition_fault i) h = tt
+  of_read (a_body {c} b) h = body_read b (leaf_is_read c h)
+  of_read (two_branches {n} {a} {q} b e m f) h =
+      let first = branch_read b in
+      then_makes IsRead IsRead q _ (branch_read m) f
+      (λ r w x. closed_read n (absent (expression a r)) w (tt, both_read (preorder a) (preorder r) first x))
+  of_read (one_branch {n} {v} {a} b e f) h = subst (Makes IsRead) f (closed_read n (alone a) v (alone_read a (branch_read b)))
+  of_read (absent_fault b) h = tt
+
+  inside_read : {n d : ℕ} {s : State} {o : Outcome Tree} → Inside n d s o → Makes IsRead o
+  inside_read (inside {n} {q} r e) = then_makes IsRead IsRead q _ (alternation_read r) e (λ t v h. closed_read n t v h)
+
+  body_read : {n d : ℕ} {c : Tree} {t : State} {o : Outcome Tree} → Body n d c t o → IsRead c → Makes IsRead o
+  body_read (the_body {n} {c} {s = t} {q} r e) h =
+      then_makes IsRead IsRead q _ (alternation_read r) e (λ a v i. behind_body_read n (bytes t.rest) c a v h i)
+
+ended_read : (n : ℕ) (r : Tree) (s : State) → IsRead r → Makes IsRead (ended n r s)
+ended_read n r s h = by_text s.rest
+  where
+    by_text : (u : Text) → Makes IsRead (ended_at n r s u)
+    by_text [] = h
+    by_text (c ∷ u) = tt
+
+whole_read : {f : Flags} {text : Text} {o : Outcome Tree} → Whole f text o → Makes IsRead o
+whole_read (whole {text} {q} a e) = then_makes IsRead IsRead q _ (alternation_read a) e (λ r t h. ended_read (bytes text) r t h)
+
+-- each raw tree of a text is so
+pub derived_read : {f : Flags} {text : Text} {r : Tree} {t : State} → Whole f text (done r t) → IsRead r
+derived_read a = whole_read a

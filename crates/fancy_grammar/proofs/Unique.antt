@@ -1,0 +1,132 @@
+-- From a start there is at most one outcome.
+use Rattle.std.proofs.Common.{◌≡◌, ℕ, refl, sym, subst, ap, ◌∙◌, List, ◌∷◌}
+use Rattle.fancy_lex.specs.Fault.{Kind}
+use Rattle.fancy_lex.specs.Text.{Text, bytes, place_of}
+use Rattle.fancy_lex.specs.declared.flags.Flags.{Flags}
+use Rattle.fancy_lex.specs.Layout.{rest, fault as open_comment}
+use Rattle.fancy_grammar.specs.Ahead.{Ahead, skipped}
+use Rattle.fancy_grammar.specs.Grammar.{Alternation, alternation, Branches, last, more, branch_fault, Branch, branch, Pieces, stop, next, piece_fault, Piece, piece, layout_fault, Atom, atom, AtomOf, a_nothing, a_leaf, a_group, a_condition, condition_fault, a_body, two_branches, one_branch, absent_fault, Inside, inside, Body, the_body, Whole, whole, closed, group_behind, conditional_behind, alone}
+use Rattle.fancy_grammar.specs.Quantified.{quants}
+use Rattle.fancy_grammar.specs.State.{State, at, Outcome, done, fault, and_then, seen_through}
+use Rattle.fancy_grammar.specs.Tree.{Tree, absent, expression}
+
+-- ---- what one outcome says of another
+
+value_of : {A : Type 0} {a b : A} {s t : State} → ◌≡◌ {A = Outcome A} (done a s) (done b t) → a ≡ b
+value_of e = cc
+
+state_of : {A : Type 0} {a b : A} {s t : State} → ◌≡◌ {A = Outcome A} (done a s) (done b t) → s ≡ t
+state_of e = cc
+
+done_or_fault : {A : Type 0} {a : A} {s : State} {k : Kind} {p : ℕ} → ◌≡◌ {A = Outcome A} (done a s) (fault k p) → ⊥
+done_or_fault e = cc
+
+same_fault : {A B : Type 0} {k j : Kind} {p q : ℕ} → ◌≡◌ {A = Outcome A} (fault k p) (fault j q) → ◌≡◌ {A = Outcome B} (fault k p) (fault j q)
+same_fault e = cc
+
+-- the same part behind the same outcome
+then_same : {A B : Type 0} (f : A → State → Outcome B) {q r : Outcome A} {o m : Outcome B} → and_then q f ≡ o → and_then r f ≡ m → q ≡ r → o ≡ m
+then_same f e g h = sym e ∙ ap (λ x. and_then x f) h ∙ g
+
+in_front_same : {A : Type 0} {a b : A} {q r o m : Outcome (List A)} → seen_through (λ l. a ∷ l) q ≡ o → seen_through (λ l. b ∷ l) r ≡ m → a ≡ b → q ≡ r → o ≡ m
+in_front_same {b} {q} e g i h = sym e ∙ ap (λ x. seen_through (λ l. x ∷ l) q) i ∙ ap (seen_through (λ l. b ∷ l)) h ∙ g
+
+-- ---- layout is a function
+
+same_skipped : (n : ℕ) {s z : State} → s ≡ z → skipped n s ≡ skipped n z
+same_skipped n e = ap (skipped n) e
+
+rest_same : (u v : Text) → rest u ≡ rest v → u ≡ v
+rest_same u v e = cc
+
+rest_or_fault : (u : Text) (p : ℕ) → rest u ≡ open_comment p → ⊥
+rest_or_fault u p e = cc
+
+same_layout : (n : ℕ) {s z : State} {u v : Text} → skipped n s ≡ rest u → skipped n z ≡ rest v → s ≡ z → u ≡ v
+same_layout n {u} {v} l m e = rest_same u v (sym l ∙ same_skipped n e ∙ m)
+
+layout_or_fault : (n : ℕ) {s z : State} {u : Text} {p : ℕ} → skipped n s ≡ rest u → skipped n z ≡ open_comment p → s ≡ z → ⊥
+layout_or_fault n {u} {p} l m e = rest_or_fault u p (sym l ∙ same_skipped n e ∙ m)
+
+ap_at : {s z : State} {u v : Text} → s ≡ z → u ≡ v → at s u ≡ at z v
+ap_at e i = cc
+
+-- by induction on both derivations: an earlier part has one outcome, which says which rule reads on
+mutual
+  alternation_unique : {n d : ℕ} {s z : State} {o q : Outcome Tree} → Alternation n d s o → Alternation n d z q → s ≡ z → o ≡ q
+  alternation_unique (alternation a f) (alternation b g) e = then_same _ f g (branches_unique a b e)
+
+  branches_unique : {n d : ℕ} {s z : State} {o q : Outcome (List Tree)} → Branches n d s o → Branches n d z q → s ≡ z → o ≡ q
+  branches_unique (last a f) (last b g) e = let h = branch_unique a b e in cc
+  branches_unique (last a f) (more b g m i) e = let h = branch_unique a b e in absurd cc
+  branches_unique (last a f) (branch_fault b) e = absurd (done_or_fault (branch_unique a b e))
+  branches_unique (more a f m i) (last b g) e = let h = branch_unique a b e in absurd cc
+  branches_unique (more a f m i) (more b g l j) e =
+      let h = branch_unique a b e in in_front_same i j (value_of h) (branches_unique m l cc)
+  branches_unique (more a f m i) (branch_fault b) e = absurd (done_or_fault (branch_unique a b e))
+  branches_unique (branch_fault a) (last b g) e = absurd (done_or_fault (sym (branch_unique a b e)))
+  branches_unique (branch_fault a) (more b g m i) e = absurd (done_or_fault (sym (branch_unique a b e)))
+  branches_unique (branch_fault a) (branch_fault b) e = same_fault (branch_unique a b e)
+
+  branch_unique : {n d : ℕ} {s z : State} {o q : Outcome Tree} → Branch n d s o → Branch n d z q → s ≡ z → o ≡ q
+  branch_unique (branch a f) (branch b g) e = then_same _ f g (pieces_unique a b e)
+
+  pieces_unique : {n d : ℕ} {s z : State} {o q : Outcome (List Tree)} → Pieces n d s o → Pieces n d z q → s ≡ z → o ≡ q
+  pieces_unique (stop f) (stop g) e = cc
+  pieces_unique (stop f) (next g b m i) e = absurd cc
+  pieces_unique (stop f) (piece_fault g b) e = absurd cc
+  pieces_unique (next f a m i) (stop g) e = absurd cc
+  pieces_unique (next f a m i) (next g b l j) e =
+      let h = piece_unique a b e in in_front_same i j (value_of h) (pieces_unique m l (state_of h))
+  pieces_unique (next f a m i) (piece_fault g b) e = absurd (done_or_fault (piece_unique a b e))
+  pieces_unique (piece_fault f a) (stop g) e = absurd cc
+  pieces_unique (piece_fault f a) (next g b m i) e = absurd (done_or_fault (sym (piece_unique a b e)))
+  pieces_unique (piece_fault f a) (piece_fault g b) e = same_fault (piece_unique a b e)
+
+  piece_unique : {n d : ℕ} {s z : State} {o q : Outcome Tree} → Piece n d s o → Piece n d z q → s ≡ z → o ≡ q
+  piece_unique (piece {n} {d} {s} {q} l a f) (piece m b g) e =
+      let h = atom_unique a b (ap_at e (same_layout n l m e)) in
+      sym f ∙ ap (λ (x : State). and_then q (quants n d (bytes x.rest))) e ∙ then_same _ refl g h
+  piece_unique (piece {n} l a f) (layout_fault m) e = absurd (layout_or_fault n l m e)
+  piece_unique (layout_fault {n} l) (piece m b g) e = absurd (layout_or_fault n m l (sym e))
+  piece_unique (layout_fault {n} l) (layout_fault m) e = let h = same_skipped n e in cc
+
+  atom_unique : {n d : ℕ} {s z : State} {o q : Outcome Tree} → Atom n d s o → Atom n d z q → s ≡ z → o ≡ q
+  atom_unique (atom {n} {d} {k} f a) (atom {s = z} {o = q} {k = l} g b) e =
+      let i : l ≡ k = cc in of_unique a (subst (λ (x : Ahead). AtomOf x n d z q) i b) e
+
+  of_unique : {k : Ahead} {n d : ℕ} {s z : State} {o q : Outcome Tree} → AtomOf k n d s o → AtomOf k n d z q → s ≡ z → o ≡ q
+  of_unique a_nothing a_nothing e = cc
+  of_unique a_leaf a_leaf e = cc
+  of_unique (a_group {n} {h} {q} a f) (a_group b g) e =
+      sym f ∙ ap (λ (x : State). and_then q (group_behind h (place_of n x.rest) x.flags)) e ∙ then_same _ refl g (inside_unique a b refl)
+  of_unique (a_condition i a) (a_condition j b) e =
+      let h = inside_unique i j refl in body_unique a b (value_of h) (state_of h)
+  of_unique (a_condition i a) (condition_fault j) e = absurd (done_or_fault (inside_unique i j refl))
+  of_unique (condition_fault i) (a_condition j b) e = absurd (done_or_fault (sym (inside_unique i j refl)))
+  of_unique (condition_fault i) (condition_fault j) e = inside_unique i j refl
+  of_unique (a_body a) (a_body b) e = body_unique a b refl refl
+  of_unique (two_branches {n} {q} a f m i) (two_branches b g l j) e =
+      let h = branch_unique a b refl in
+      sym i ∙ ap (λ (x : Tree). and_then q (λ r. closed n (absent (expression x r)))) (value_of h) ∙ then_same _ refl j (branch_unique m l cc)
+  of_unique (two_branches a f m i) (one_branch b g j) e = let h = branch_unique a b refl in absurd cc
+  of_unique (two_branches a f m i) (absent_fault b) e = absurd (done_or_fault (branch_unique a b refl))
+  of_unique (one_branch a f i) (two_branches b g l j) e = let h = branch_unique a b refl in absurd cc
+  of_unique (one_branch {n} {v} a f i) (one_branch {a = c} b g j) e =
+      let h = branch_unique a b refl in
+      sym i ∙ ap (λ (x : Tree). closed n (alone x) v) (value_of h) ∙ ap (closed n (alone c)) (state_of h) ∙ j
+  of_unique (one_branch a f i) (absent_fault b) e = absurd (done_or_fault (branch_unique a b refl))
+  of_unique (absent_fault a) (two_branches b g l j) e = absurd (done_or_fault (sym (branch_unique a b refl)))
+  of_unique (absent_fault a) (one_branch b g j) e = absurd (done_or_fault (sym (branch_unique a b refl)))
+  of_unique (absent_fault a) (absent_fault b) e = branch_unique a b refl
+
+  inside_unique : {n d : ℕ} {s z : State} {o q : Outcome Tree} → Inside n d s o → Inside n d z q → s ≡ z → o ≡ q
+  inside_unique (inside a f) (inside b g) e = then_same _ f g (alternation_unique a b e)
+
+  body_unique : {n d : ℕ} {c x : Tree} {s z : State} {o q : Outcome Tree} → Body n d c s o → Body n d x z q → c ≡ x → s ≡ z → o ≡ q
+  body_unique (the_body {n} {s} {q} a f) (the_body {c = x} b g) i e =
+      sym f ∙ ap (λ (y : Tree). and_then q (conditional_behind n y (bytes s.rest))) i
+      ∙ ap (λ (y : State). and_then q (conditional_behind n x (bytes y.rest))) e ∙ then_same _ refl g (alternation_unique a b e)
+
+pub whole_unique : {f : Flags} {text : Text} {o q : Outcome Tree} → Whole f text o → Whole f text q → o ≡ q
+whole_unique (whole a f) (whole b g) = then_same _ f g (alternation_unique a b refl)

@@ -1,0 +1,205 @@
+-- What stands before an atom.
+use Rattle.std.specs.Prelude.{ℕ, ◌+◌, Bool, true, false, ◌==◌, nat_le, [], ◌∷◌, if◌then◌else◌, Some, None, codes}
+use Prim.Native.Char.{code}
+use Rattle.fancy_lex.specs.Characters.{◌∈◌}
+use Rattle.fancy_lex.specs.Class.{class}
+use Rattle.fancy_lex.specs.Escape.{escape}
+use Rattle.fancy_lex.specs.Escaped as escaped
+use Rattle.fancy_lex.specs.Escaped.{Escape}
+use Rattle.fancy_lex.specs.Fault.{Fault}
+use Rattle.fancy_lex.specs.FaultTable.{comment_not_closed, group_too_deep, group_not_closed, unknown_verb}
+use Rattle.fancy_lex.specs.Layout.{layout, Skipped, rest, fault as open_comment}
+use Rattle.fancy_lex.specs.Reading.{Reading, gives, fails, choose}
+use Rattle.fancy_lex.specs.Referred.{Reference, Call}
+use Rattle.fancy_lex.specs.Text.{Text, place_of, strip_word}
+use Rattle.fancy_lex.specs.declared.escape.Assertion.{Assertion}
+use Rattle.fancy_lex.specs.declared.escape.Assertion.TheVariants.{StartText, EndText, StartLine, StartLineOniguruma}
+use Rattle.fancy_lex.specs.declared.escape.Assertion.TheVariants.{EndLine}
+use Rattle.fancy_lex.specs.declared.flags.Flags.{Flags}
+use Rattle.fancy_parts.specs.FlagLetters.{Letters, letters, setting, scope as scoped}
+use Rattle.fancy_parts.specs.GroupName.{group_name}
+use Rattle.fancy_parts.specs.HeadReference.{named_reference, named_call, begins_target, condition_target}
+use Rattle.fancy_grammar.specs.Head.{Head, capture, scope, look, atomic, define, repeater}
+use Rattle.fancy_grammar.specs.State.{State, at, Outcome, done, faulted}
+use Rattle.fancy_grammar.specs.Tree.{Tree, empty, any, assertion, general_newline, literal, literal_bytes, delegate}
+use Rattle.fancy_grammar.specs.Tree.{keep_out, continue_from_previous_match_end, verb, ast_node, ast_backref, ast_call}
+use Rattle.fancy_grammar.specs.Tree.{ast_condition}
+use Rattle.fancy_grammar.specs.Verb.{verb_at}
+use Rattle.fancy_grammar.specs.declared.kinds.LookAround.TheVariants.{LookAhead, LookAheadNeg, LookBehind, LookBehindNeg}
+
+-- groups nest less deep than this
+abbrev pub max_depth : ℕ
+max_depth = 64
+
+-- the layout at the front of the state's text
+abbrev pub skipped : ℕ → State → Skipped
+skipped n s = layout n s.flags.ignore_space s.rest
+
+-- a branch ends here: at the end, a bar or a closing parenthesis
+abbrev pub ends : Text → Bool
+ends [] = true
+ends (c ∷ t) = c ∈ "|)"
+
+-- what stands before an atom decides its rule
+pub data Ahead : Type 0 where
+  nothing : Ahead  -- no atom: it is Empty, and takes no character
+  leaf : Outcome Tree → Ahead  -- an atom that holds no branches, or its fault
+  opens : Head → State → Ahead  -- a group of one alternation, which begins at the state
+  condition : State → Ahead  -- a conditional whose condition is an alternation, which begins at the state
+  body : Tree → State → Ahead  -- a conditional whose condition is this tree; its body begins at the state
+  absent_branch : State → Ahead  -- `(?~|` of an absent expression, stopper or clear; a branch begins at the state
+
+-- a group with this fault
+abbrev pub faulty : Fault → Ahead
+faulty e = leaf (faulted e)
+
+-- the start of each line; in Oniguruma mode it has a variant of its own
+abbrev pub start_of_line : Flags → Assertion
+start_of_line f = if f.oniguruma_mode then StartLineOniguruma f.crlf else StartLine f.crlf
+
+-- what `^` stands for: under MULTI the start of each line
+abbrev pub start_anchor : Flags → Assertion
+start_anchor f = if f.multi then start_of_line f else StartText
+
+-- what `$` stands for: under MULTI the end of each line
+abbrev pub end_anchor : Flags → Assertion
+end_anchor f = if f.multi then EndLine f.crlf else EndText
+
+-- the nodes of references, before they are resolved
+abbrev pub backref_node : Bool → Reference → Tree
+backref_node casei r = ast_node (ast_backref r.target casei r.level) r.place
+
+abbrev pub call_node : Call → Tree
+call_node c = ast_node (ast_call c.target) c.place
+
+abbrev pub condition_node : Reference → Tree
+condition_node r = ast_node (ast_condition r.target r.level) r.place
+
+-- the node of an escape's leaf
+abbrev pub leaf_node : Escape → Tree
+leaf_node (escaped.literal c casei) = literal (c ∷ []) casei
+leaf_node (escaped.literal_bytes b) = literal_bytes (b ∷ [])
+leaf_node (escaped.any newline crlf) = any newline crlf
+leaf_node (escaped.assertion a) = assertion a
+leaf_node (escaped.general_newline unicode) = general_newline unicode
+leaf_node escaped.keep_out = keep_out
+leaf_node escaped.continue_from_previous_match_end = continue_from_previous_match_end
+leaf_node (escaped.delegate t casei) = delegate t casei
+leaf_node (escaped.backref r casei) = backref_node casei r
+leaf_node (escaped.subroutine_call c) = call_node c
+
+-- what a reader comes to, as the outcome of a leaf
+abbrev pub leaf_outcome : {A : Type 0} → (A → Tree) → State → Reading A → Outcome Tree
+leaf_outcome node s (gives a t) = done (node a) (at s t)
+leaf_outcome node s (fails e) = faulted e
+
+-- an atom of one character, an escape or a class
+abbrev pub leaf_of : ℕ → State → ℕ → Text → Outcome Tree
+leaf_of n s c t =
+    if c == code "." then done (any s.flags.dotnl s.flags.crlf) (at s t)
+    else if c == code "^" then done (assertion (start_anchor s.flags)) (at s t)
+    else if c == code "$" then done (assertion (end_anchor s.flags)) (at s t)
+    else if c == code "\\" then leaf_outcome leaf_node s (escape n s.flags false (place_of n (c ∷ t)) t)
+    else if c == code "[" then leaf_outcome (λ w. delegate w s.flags.casei) s (class n s.flags t)
+    else done (literal (c ∷ []) s.flags.casei) (at s t)
+
+-- before these the atom is Empty; the end is another such place
+abbrev pub is_before_nothing : ℕ → Bool
+is_before_nothing c = c ∈ "+*?|)"
+
+-- a group whose name was read
+abbrev pub named_ahead : State → Reading Text → Ahead
+named_ahead s (gives w u) = opens (capture (Some w)) (at s u)
+named_ahead s (fails e) = faulty e
+
+-- a conditional whose target was read
+abbrev pub target_ahead : State → Reading Reference → Ahead
+target_ahead s (gives r u) = body (condition_node r) (at s u)
+target_ahead s (fails e) = faulty e
+
+-- a flag group, whose letters were read
+abbrev pub flags_ahead : Reading Letters → Ahead
+flags_ahead (gives (setting f) u) = leaf (done empty (record { flags = f; rest = u }))
+flags_ahead (gives (scoped f) u) = opens scope (record { flags = f; rest = u })
+flags_ahead (fails e) = faulty e
+
+-- a verb, whose name and closing parenthesis stand behind the asterisk at the front
+abbrev pub verb_ahead : ℕ → State → ℕ → Text → Ahead
+verb_ahead n s c t = choose (verb_at t) (λ p. leaf (done (verb p.0) (at s p.1))) (faulty (unknown_verb n (c ∷ t)))
+
+-- a verb as the condition of a conditional
+abbrev pub verb_condition : ℕ → State → ℕ → Text → Ahead
+verb_condition n s c t = choose (verb_at t) (λ p. body (verb p.0) (at s p.1)) (faulty (unknown_verb n (c ∷ t)))
+
+-- the condition of a conditional: a target, a verb, or an alternation
+abbrev pub condition_ahead : ℕ → State → ℕ → Text → Ahead
+condition_ahead n s c t =
+    if begins_target (c ∷ t) then target_ahead s (condition_target n (c ∷ t))
+    else if c == code "*" then verb_condition n s c t
+    else condition (at s (c ∷ t))
+
+-- behind `(?(`, where more text is due
+abbrev pub conditional_ahead : ℕ → State → Text → Ahead
+conditional_ahead n s [] = faulty (group_not_closed n)
+conditional_ahead n s (c ∷ t) =
+    choose (strip_word (codes "DEFINE)") (c ∷ t)) (λ u. opens define (at s u)) (condition_ahead n s c t)
+
+-- behind `(?~`, where more text is due: a bar, or an alternation
+abbrev pub absent_ahead : ℕ → State → Text → Ahead
+absent_ahead n s [] = faulty (group_not_closed n)
+absent_ahead n s (c ∷ t) = if c == code "|" then absent_branch (at s t) else opens repeater (at s (c ∷ t))
+
+-- behind `(?<`, which begins at m: look-behind, or a name
+abbrev pub less_ahead : ℕ → State → Text → Text → Ahead
+less_ahead n s m [] = named_ahead s (group_name n m)
+less_ahead n s m (c ∷ t) =
+    if c == code "=" then opens (look LookBehind) (at s t)
+    else if c == code "!" then opens (look LookBehindNeg) (at s t)
+    else named_ahead s (group_name n m)
+
+-- behind `(?P`, which begins at m: a name, a reference, a call, or letters of flags
+abbrev pub python_ahead : ℕ → State → Text → Text → Ahead
+python_ahead n s m [] = flags_ahead (letters n s.flags m)
+python_ahead n s m (c ∷ t) =
+    if c == code "<" then named_ahead s (group_name n m)
+    else if c == code "=" then leaf (leaf_outcome (backref_node s.flags.casei) s (named_reference n t))
+    else if c == code ">" then leaf (leaf_outcome call_node s (named_call n t))
+    else flags_ahead (letters n s.flags m)
+
+-- behind the question mark of a group's head
+abbrev pub question_ahead : ℕ → State → Text → Ahead
+question_ahead n s [] = flags_ahead (letters n s.flags [])
+question_ahead n s (c ∷ t) =
+    if c == code "=" then opens (look LookAhead) (at s t)
+    else if c == code "!" then opens (look LookAheadNeg) (at s t)
+    else if c == code "<" then less_ahead n s (c ∷ t) t
+    else if c == code "'" then named_ahead s (group_name n (c ∷ t))
+    else if c == code "P" then python_ahead n s (c ∷ t) t
+    else if c == code "~" then absent_ahead n s t
+    else if c == code ">" then opens atomic (at s t)
+    else if c == code "(" then conditional_ahead n s t
+    else flags_ahead (letters n s.flags (c ∷ t))
+
+-- behind the parenthesis and layout: the head of the group, if it has one
+abbrev pub head_ahead : ℕ → State → Text → Ahead
+head_ahead n s [] = opens (capture None) (at s [])
+head_ahead n s (c ∷ t) =
+    if c == code "?" then question_ahead n s t
+    else if c == code "*" then verb_ahead n s c t
+    else opens (capture None) (at s (c ∷ t))
+
+abbrev pub behind_layout : ℕ → State → Skipped → Ahead
+behind_layout n s (rest u) = head_ahead n s u
+behind_layout n s (open_comment p) = faulty (comment_not_closed p)
+
+-- what stands before an atom in a pattern of n bytes, inside d groups
+abbrev pub ahead_of : ℕ → ℕ → State → Text → Ahead
+ahead_of n d s [] = nothing
+ahead_of n d s (c ∷ t) =
+    if c == code "(" then (
+    if nat_le max_depth (d + 1) then faulty (group_too_deep n (c ∷ t)) else behind_layout n s (skipped n (at s t)))
+    else if is_before_nothing c then nothing
+    else leaf (leaf_of n s c t)
+
+unfoldable pub ahead : ℕ → ℕ → State → Ahead
+ahead n d s = ahead_of n d s s.rest

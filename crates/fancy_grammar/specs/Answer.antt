@@ -1,0 +1,36 @@
+-- What is answered for a text: its tree with its marks, or its fault.
+use Rattle.std.specs.Prelude.{◌≡◌, ℕ, ◌+◌, ◌≤◌, Some, None}
+use Rattle.fancy_lex.specs.Fault.{Kind, kind_of}
+use Rattle.fancy_lex.specs.Text.{Text}
+use Rattle.fancy_lex.specs.declared.error.Error.{Error}
+use Rattle.fancy_lex.specs.declared.error.Error.TheVariants.{ParseError, OutOfMemory}
+use Rattle.fancy_lex.specs.declared.flags.Flags.{Flags}
+use Rattle.fancy_grammar.specs.Grammar.{Derives, Faults}
+use Rattle.fancy_grammar.specs.Marks.{Marks, marks}
+use Rattle.fancy_grammar.specs.Resolved.{resolved, fault_of}
+use Rattle.fancy_grammar.specs.Tree.{Tree}
+
+-- the grammar derives all of the text with a raw tree whose references have no fault, and which resolves to t and has
+-- the marks m
+abbrev pub IsTreeOf : Flags → Text → Tree → Marks → Type 0
+IsTreeOf f text t m =
+    (r : Tree) × Derives f text r × (fault_of f r ≡ None) × (t ≡ resolved f r) × (m ≡ marks f text r)
+
+-- the fault of the text: that of reading it, or, where the text derives, the first fault of its references
+pub data IsFaultOf : Flags → Text → Kind → ℕ → Type 0 where
+  of_reading : {f : Flags} {text : Text} {k : Kind} {p : ℕ} → Faults f text k p → IsFaultOf f text k p
+  of_resolving : {f : Flags} {text : Text} {k : Kind} {p : ℕ} {r : Tree} → Derives f text r →
+      fault_of f r ≡ Some (record { place = p; kind = k }) → IsFaultOf f text k p
+
+-- memory ran out, or the text has this fault and no other, and no tree
+abbrev pub IsOnlyFault : Error → Flags → Text → Type 0
+IsOnlyFault (ParseError p k) f text =
+    IsFaultOf f text (kind_of k) p
+    × ((j : Kind) (q : ℕ) → IsFaultOf f text j q → (j ≡ kind_of k) × (q ≡ p))
+    × ((t : Tree) (m : Marks) → IsTreeOf f text t m → ⊥)
+IsOnlyFault OutOfMemory f text = Unit {0}
+
+-- memory ran out, or the fault's place is at most one past the end of n bytes
+abbrev pub IsWithin : Error → ℕ → Type 0
+IsWithin (ParseError p k) n = p ≤ n + 1
+IsWithin OutOfMemory n = Unit {0}

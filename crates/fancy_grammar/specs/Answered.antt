@@ -1,0 +1,68 @@
+-- What is true of every tree that is answered, and how its marks speak of it.
+use Rattle.std.specs.Prelude.{◌≡◌, ℕ, ◌+◌, ◌*◌, ◌<◌, ◌≤◌, Bool, true, false, List, [], ◌∷◌, length, filter, filter_map}
+use Rattle.std.specs.Prelude.{Option, Some, None}
+use Rattle.std.specs.List.{AllByRecursion, list_any}
+use Rattle.fancy_lex.specs.Text.{Text}
+use Rattle.fancy_grammar.specs.Preorder.{preorder}
+use Rattle.fancy_grammar.specs.Tree.{Tree, literal, literal_bytes, alt, group, backref, backref_at_level}
+use Rattle.fancy_grammar.specs.Tree.{subroutine_call, ast_node, AstTree, ast_call, list_of, nodes, depth}
+
+-- only a call stays as it was read
+abbrev pub is_call_as_read : AstTree → Bool
+is_call_as_read (ast_call t) = true
+is_call_as_read _ = false
+
+-- a Literal holds one character, a LiteralBytes one byte above the ASCII ones, an Alt two children or more, and an
+-- AstNode a call
+abbrev pub IsAnsweredNode : Tree → Type 0
+IsAnsweredNode (literal w casei) = length w ≡ 1
+IsAnsweredNode (literal_bytes w) = (length w ≡ 1) × AllByRecursion (λ b. (0x80 ≤ b) × (b ≤ 0xFF)) w
+IsAnsweredNode (alt ts) = 2 ≤ length (list_of ts)
+IsAnsweredNode (ast_node node place) = is_call_as_read node ≡ true
+IsAnsweredNode _ = Unit {0}
+
+-- this is true of each node
+abbrev pub IsAnswered : Tree → Type 0
+IsAnswered t = AllByRecursion IsAnsweredNode (preorder t)
+
+-- a tree of n bytes has at most 2 n + 1 nodes, and at most 832 levels: on each of 64 an Alt, a Concat, five
+-- quantifiers of two nodes, and a group or leaf
+abbrev pub IsSmall : Tree → ℕ → Type 0
+IsSmall t n = (nodes t ≤ 2 * n + 1) × (depth t ≤ 832)
+
+abbrev pub is_group : Tree → Bool
+is_group (group t) = true
+is_group _ = false
+
+-- the Groups in preorder: the k-th has the number k
+abbrev pub groups : Tree → List Tree
+groups t = filter is_group (preorder t)
+
+-- the numbers ascend, from above k up to n
+abbrev pub Ascend : ℕ → ℕ → List ℕ → Type 0
+Ascend k n [] = Unit {0}
+Ascend k n (m ∷ l) = (k < m) × (m ≤ n) × Ascend m n l
+
+-- each name has numbers, and they ascend from 1 up to the total
+abbrev pub AreNamed : ℕ → List (Text × List ℕ) → Type 0
+AreNamed total l = AllByRecursion (λ e. (0 < length e.1) × Ascend 0 total e.1) l
+
+-- whether the node is a call, resolved or not
+abbrev pub is_call_node : Tree → Bool
+is_call_node (subroutine_call n) = true
+is_call_node (ast_node node place) = is_call_as_read node
+is_call_node _ = false
+
+-- whether some node is a call
+abbrev pub has_call : Tree → Bool
+has_call t = list_any is_call_node (preorder t)
+
+-- the group of a back reference
+abbrev pub group_referred : Tree → Option ℕ
+group_referred (backref n casei) = Some n
+group_referred (backref_at_level n level casei) = Some n
+group_referred _ = None
+
+-- the groups of the back references, in text order
+abbrev pub groups_referred : Tree → List ℕ
+groups_referred t = filter_map group_referred (preorder t)

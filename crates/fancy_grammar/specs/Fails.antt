@@ -1,0 +1,25 @@
+-- How an error stands to a fault and to an outcome.
+use Rattle.std.specs.Prelude.{◌≡◌, ℕ, Option, Some}
+use Rattle.fancy_lex.specs.Fault.{Kind, Fault, kind_of}
+use Rattle.fancy_lex.specs.declared.error.Error.{Error}
+use Rattle.fancy_lex.specs.declared.error.Error.TheVariants.{ParseError, OutOfMemory}
+use Rattle.fancy_grammar.specs.State.{Outcome, fault}
+
+-- memory ran out, or the error is of this kind, at this place
+abbrev pub IsFaultAt : Error → Kind → ℕ → Type 0
+IsFaultAt (ParseError p k) kind place = (kind_of k ≡ kind) × (p ≡ place)
+IsFaultAt OutOfMemory kind place = Unit {0}
+
+-- memory ran out, or the error is this fault
+abbrev pub IsFault : Error → Fault → Type 0
+IsFault e f = IsFaultAt e f.kind f.place
+
+-- memory ran out, or the fault is an outcome
+abbrev pub Fails : {A : Type 0} → Error → (Outcome A → Type 0) → Type 0
+Fails (ParseError p k) P = P (fault (kind_of k) p)
+Fails OutOfMemory P = Unit {0}
+
+-- memory ran out, or it is that fault
+abbrev pub IsThatFault : Error → Option Fault → Type 0
+IsThatFault (ParseError p k) o = o ≡ Some (record { place = p; kind = kind_of k })
+IsThatFault OutOfMemory o = Unit {0}

@@ -1,0 +1,160 @@
+-- The grammar: what each production reads from a state, in a pattern of n bytes and at a depth of open groups.
+-- A part that comes first has a rule for its fault; where a part is the last, its outcome decides the whole.
+use Rattle.std.specs.Prelude.{◌≡◌, ℕ, ◌+◌, ◌==◌, Bool, true, false, not, ◌&&◌, List, [], ◌∷◌, ◌++◌, Some, None, if◌then◌else◌}
+use Prim.Native.Char.{code}
+use Rattle.fancy_lex.specs.Characters.{bar}
+use Rattle.fancy_lex.specs.Fault.{Kind}
+use Rattle.fancy_lex.specs.FaultTable.{comment_not_closed, group_not_closed, bar_for_close_paren, close_paren_left_over}
+use Rattle.fancy_lex.specs.FaultTable.{body_wanting}
+use Rattle.fancy_lex.specs.Layout.{rest, fault as open_comment}
+use Rattle.fancy_lex.specs.Text.{Text, bytes, place_of, strip}
+use Rattle.fancy_lex.specs.declared.flags.Flags.{Flags}
+use Rattle.fancy_grammar.specs.Ahead.{Ahead, nothing, leaf, opens, condition, body, absent_branch, ahead, ends, skipped}
+use Rattle.fancy_grammar.specs.Head.{Head, node_of, flags_behind}
+use Rattle.fancy_grammar.specs.Join.{join, choice, is_empty}
+use Rattle.fancy_grammar.specs.Quantified.{quants}
+use Rattle.fancy_grammar.specs.State.{State, at, Outcome, done, fault, faulted, and_then, seen_through}
+use Rattle.fancy_grammar.specs.Tree.{Tree, more_trees, list_of, empty, alt, conditional, absent, clear, stopper}
+use Rattle.fancy_grammar.specs.Tree.{expression, ast_node, AstTree, ast_condition}
+
+-- ---- what a part comes to behind its last one
+
+-- the tree, where the closing parenthesis follows
+abbrev pub closed_at : ℕ → Tree → State → Text → Outcome Tree
+closed_at n r s [] = faulted (group_not_closed n)
+closed_at n r s (c ∷ t) =
+    if c == code ")" then done r (at s t) else faulted (bar_for_close_paren n s.rest)
+
+abbrev pub closed : ℕ → Tree → State → Outcome Tree
+closed n r s = closed_at n r s s.rest
+
+-- the group that the head opens at the place p, under the flags f, behind its closing parenthesis
+abbrev pub group_behind : Head → ℕ → Flags → Tree → State → Outcome Tree
+group_behind h p f r s = done (node_of h p r) (record s { flags = flags_behind h f s.flags })
+
+-- whether the tree is a condition on a group, before it is resolved
+abbrev pub is_condition_node : AstTree → Bool
+is_condition_node (ast_condition t level) = true
+is_condition_node _ = false
+
+abbrev pub is_condition : Tree → Bool
+is_condition (ast_node node place) = is_condition_node node
+is_condition _ = false
+
+-- a conditional of its branches; where both are Empty, the condition alone
+abbrev pub conditional_of : Tree → Tree → Tree → Tree
+conditional_of c t f = if is_empty t && is_empty f then c else conditional c t f
+
+-- the branches of a conditional's body: of an Alt the first, and the choice among the others
+abbrev pub branches_of : Tree → Tree × Tree
+branches_of (alt (more_trees t ts)) = (t, choice (list_of ts))
+branches_of r = (r, empty)
+
+-- the conditional of the condition c, whose body began where so many bytes were left;
+-- a condition on a group alone may do without a body
+abbrev pub conditional_behind : ℕ → Tree → ℕ → Tree → State → Outcome Tree
+conditional_behind n c left r s =
+    if bytes s.rest == left && not (is_condition c) then faulted (body_wanting n s.rest)
+    else closed n (conditional_of c (branches_of r).0 (branches_of r).1) s
+
+-- a branch behind `(?~|`, where no other follows
+abbrev pub alone : Tree → Tree
+alone a = if is_empty a then absent clear else absent (stopper a)
+
+-- ---- the productions
+
+mutual
+  -- branches with bars between
+  pub data Alternation : ℕ → ℕ → State → Outcome Tree → Type 0 where
+    alternation : {n d : ℕ} {s : State} {q : Outcome (List Tree)} {o : Outcome Tree} → Branches n d s q →
+        seen_through choice q ≡ o → Alternation n d s o
+
+  pub data Branches : ℕ → ℕ → State → Outcome (List Tree) → Type 0 where
+    last : {n d : ℕ} {s t : State} {r : Tree} → Branch n d s (done r t) → strip bar t.rest ≡ None →
+        Branches n d s (done (r ∷ []) t)
+    more : {n d : ℕ} {s t : State} {u : Text} {r : Tree} {q o : Outcome (List Tree)} → Branch n d s (done r t) →
+        strip bar t.rest ≡ Some u → Branches n d (at t u) q → seen_through (λ l. r ∷ l) q ≡ o → Branches n d s o
+    branch_fault : {n d p : ℕ} {s : State} {k : Kind} → Branch n d s (fault k p) → Branches n d s (fault k p)
+
+  -- pieces up to where a branch ends
+  pub data Branch : ℕ → ℕ → State → Outcome Tree → Type 0 where
+    branch : {n d : ℕ} {s : State} {q : Outcome (List Tree)} {o : Outcome Tree} → Pieces n d s q →
+        seen_through join q ≡ o → Branch n d s o
+
+  pub data Pieces : ℕ → ℕ → State → Outcome (List Tree) → Type 0 where
+    stop : {n d : ℕ} {s : State} → ends s.rest ≡ true → Pieces n d s (done [] s)
+    next : {n d : ℕ} {s t : State} {r : Tree} {q o : Outcome (List Tree)} → ends s.rest ≡ false →
+        Piece n d s (done r t) → Pieces n d t q → seen_through (λ l. r ∷ l) q ≡ o → Pieces n d s o
+    piece_fault : {n d p : ℕ} {s : State} {k : Kind} → ends s.rest ≡ false → Piece n d s (fault k p) →
+        Pieces n d s (fault k p)
+
+  -- layout, and an atom under the quantifiers that follow it
+  pub data Piece : ℕ → ℕ → State → Outcome Tree → Type 0 where
+    piece : {n d : ℕ} {s : State} {u : Text} {q o : Outcome Tree} → skipped n s ≡ rest u → Atom n d (at s u) q →
+        and_then q (quants n d (bytes s.rest)) ≡ o → Piece n d s o
+    layout_fault : {n d p : ℕ} {s : State} → skipped n s ≡ open_comment p → Piece n d s (faulted (comment_not_closed p))
+
+  -- what stands ahead decides which rule of an atom applies
+  pub data Atom : ℕ → ℕ → State → Outcome Tree → Type 0 where
+    atom : {n d : ℕ} {s : State} {o : Outcome Tree} {k : Ahead} → ahead n d s ≡ k → AtomOf k n d s o → Atom n d s o
+
+  pub data AtomOf : Ahead → ℕ → ℕ → State → Outcome Tree → Type 0 where
+    a_nothing : {n d : ℕ} {s : State} → AtomOf nothing n d s (done empty s)
+    a_leaf : {n d : ℕ} {s : State} {o : Outcome Tree} → AtomOf (leaf o) n d s o
+    a_group : {n d : ℕ} {h : Head} {s t : State} {q o : Outcome Tree} → Inside n d t q →
+        and_then q (group_behind h (place_of n s.rest) s.flags) ≡ o → AtomOf (opens h t) n d s o
+    -- a conditional: its condition's parentheses, and its body
+    a_condition : {n d : ℕ} {s t v : State} {c : Tree} {o : Outcome Tree} → Inside n d t (done c v) → Body n d c v o →
+        AtomOf (condition t) n d s o
+    condition_fault : {n d p : ℕ} {s t : State} {k : Kind} → Inside n d t (fault k p) →
+        AtomOf (condition t) n d s (fault k p)
+    a_body : {n d : ℕ} {c : Tree} {s t : State} {o : Outcome Tree} → Body n d c t o → AtomOf (body c t) n d s o
+    -- an absent expression's two branches; a stopper's or a clear's one
+    two_branches : {n d : ℕ} {s t v : State} {u : Text} {a : Tree} {q o : Outcome Tree} →
+        Branch n (d + 1) t (done a v) → strip bar v.rest ≡ Some u → Branch n (d + 1) (at v u) q →
+        and_then q (λ e. closed n (absent (expression a e))) ≡ o → AtomOf (absent_branch t) n d s o
+    one_branch : {n d : ℕ} {s t v : State} {a : Tree} {o : Outcome Tree} → Branch n (d + 1) t (done a v) →
+        strip bar v.rest ≡ None → closed n (alone a) v ≡ o → AtomOf (absent_branch t) n d s o
+    absent_fault : {n d p : ℕ} {s t : State} {k : Kind} → Branch n (d + 1) t (fault k p) →
+        AtomOf (absent_branch t) n d s (fault k p)
+
+  -- the inside of a group, one level deeper, through its closing parenthesis
+  pub data Inside : ℕ → ℕ → State → Outcome Tree → Type 0 where
+    inside : {n d : ℕ} {s : State} {q o : Outcome Tree} → Alternation n (d + 1) s q → and_then q (closed n) ≡ o →
+        Inside n d s o
+
+  -- the body of a conditional whose condition is the tree, through its closing parenthesis
+  pub data Body : ℕ → ℕ → Tree → State → Outcome Tree → Type 0 where
+    the_body : {n d : ℕ} {c : Tree} {s : State} {q o : Outcome Tree} → Alternation n (d + 1) s q →
+        and_then q (conditional_behind n c (bytes s.rest)) ≡ o → Body n d c s o
+
+-- ---- a whole text
+
+-- the state before a whole text
+abbrev pub start : Flags → Text → State
+start f text = record { flags = f; rest = text }
+
+-- the tree, where nothing is left over
+abbrev pub ended_at : ℕ → Tree → State → Text → Outcome Tree
+ended_at n r s [] = done r s
+ended_at n r s (c ∷ t) = faulted (close_paren_left_over n s.rest)
+
+abbrev pub ended : ℕ → Tree → State → Outcome Tree
+ended n r s = ended_at n r s s.rest
+
+-- a whole text under the flags handed in
+pub data Whole : Flags → Text → Outcome Tree → Type 0 where
+  whole : {f : Flags} {text : Text} {q o : Outcome Tree} → Alternation (bytes text) 0 (start f text) q →
+      and_then q (ended (bytes text)) ≡ o → Whole f text o
+
+-- the grammar derives all of the text, with this raw tree
+abbrev pub Derives : Flags → Text → Tree → Type 0
+Derives f text r = (t : State) × Whole f text (done r t)
+
+-- the reading of the text ends with this fault, at this place
+abbrev pub Faults : Flags → Text → Kind → ℕ → Type 0
+Faults f text k p = Whole f text (fault k p)
+
+-- the trees so far, before those that follow
+abbrev pub before : List Tree → Outcome (List Tree) → Outcome (List Tree)
+before l = seen_through (λ m. l ++ m)

@@ -1,0 +1,29 @@
+-- What opens a group that holds one alternation, and what the group comes to.
+use Rattle.std.specs.Prelude.{ℕ, Option}
+use Rattle.fancy_lex.specs.Text.{Text}
+use Rattle.fancy_lex.specs.declared.flags.Flags.{Flags}
+use Rattle.fancy_grammar.specs.Tree.{Tree, look_around, atomic_group, define_group, absent, repeater as repeater_of}
+use Rattle.fancy_grammar.specs.Tree.{ast_node, ast_group}
+use Rattle.fancy_grammar.specs.declared.kinds.LookAround.{LookAround}
+
+pub data Head : Type 0 where
+  capture : Option Text → Head  -- a capturing group, with its name if it has one
+  scope : Head  -- a group of flags
+  look : LookAround → Head
+  atomic : Head
+  define : Head
+  repeater : Head  -- an absent repeater
+
+-- the node round the inside of a group that opens at the place p
+abbrev pub node_of : Head → ℕ → Tree → Tree
+node_of (capture name) p t = ast_node (ast_group name t) p
+node_of scope p t = t
+node_of (look l) p t = look_around t l
+node_of atomic p t = atomic_group t
+node_of define p t = define_group t
+node_of repeater p t = absent (repeater_of t)
+
+-- the flags behind a group, from those before it and those at the end of its inside
+abbrev pub flags_behind : Head → Flags → Flags → Flags
+flags_behind scope before inside = before
+flags_behind _ before inside = inside

@@ -1,0 +1,78 @@
+-- What is said of a tree beside it.
+use Rattle.std.specs.Prelude.{ℕ, ◌-◌, Bool, true, false, ◌&&◌, ◌==◌, nat_le, nat_lt, List, [], length, Option, Some}
+use Rattle.std.specs.Prelude.{None}
+use Rattle.std.specs.Prelude.{encode_utf8_all, slice_index, filter, filter_map, find, fold}
+use Rattle.std.specs.BTreeSet.{insert_key}
+use Rattle.std.specs.List.{list_any}
+use Rattle.std.specs.Ordering.{nat_cmp}
+use Prim.Native.Char.{code}
+use Rattle.fancy_lex.specs.Target.{Target, by_number}
+use Rattle.fancy_lex.specs.Text.{Text}
+use Rattle.fancy_lex.specs.declared.flags.Flags.{Flags}
+use Rattle.fancy_parts.specs.Meaning.{Role, back_reference, call, condition, Reference, Meaning, number, meaning}
+use Rattle.fancy_parts.specs.Ranks.{Opening, only_named, counted_in, named_groups}
+use Rattle.fancy_grammar.specs.Items.{openings, references}
+use Rattle.fancy_grammar.specs.Tree.{Tree}
+
+pub record Marks : Type 0 where
+  pub backrefs : List ℕ  -- the numbers of the back references
+  pub named_groups : List (Text × List ℕ)  -- for each name, in order, the numbers of its groups
+  pub numeric_capture_group_references : Bool  -- some reference is written as a number
+  pub contains_subroutines : Bool  -- some call is written
+  pub self_recursive : Bool  -- some call by the number 0 is written
+  pub total_groups : ℕ  -- how many groups have a number
+  pub out_of_range_backref : Option ℕ  -- the first back reference to no group
+  pub numbered_groups_ignored : Bool  -- some group has a name, and those without one have no number
+
+-- the number of a back reference that has one
+abbrev pub back_number : Role → Meaning → Option ℕ
+back_number back_reference (number n) = Some n
+back_number _ _ = None
+
+-- the numbers of the back references, in text order
+abbrev pub back_numbers : List Opening → List Reference → List ℕ
+back_numbers groups l = filter_map (λ r. back_number r.role (meaning groups r)) l
+
+-- the numbers ascending, each once
+abbrev pub ascending : List ℕ → List ℕ
+ascending l = fold (insert_key nat_cmp) [] l
+
+-- whether the text has a backslash right before the place
+abbrev pub is_behind_backslash : Text → ℕ → Bool
+is_behind_backslash text place = nat_lt 0 place && slice_index (encode_utf8_all text) (place - 1) == code "\\"
+
+-- whether a reference by number counts as numeric: each call, and a back reference right behind its backslash
+abbrev pub is_numeric_role : Text → ℕ → Role → Bool
+is_numeric_role text place call = true
+is_numeric_role text place back_reference = is_behind_backslash text place
+is_numeric_role text place condition = false
+
+abbrev pub is_numeric : Text → ℕ → Role → Target → Bool
+is_numeric text place role (by_number n) = is_numeric_role text place role
+is_numeric text place role _ = false
+
+abbrev pub is_call : Role → Bool
+is_call call = true
+is_call _ = false
+
+-- whether it is a call by the number 0
+abbrev pub is_call_of_all : Role → Target → Bool
+is_call_of_all call (by_number n) = n == 0
+is_call_of_all _ _ = false
+
+-- the marks of a raw tree that was read from the text, under the flags that are handed in
+abbrev pub marks : Flags → Text → Tree → Marks
+marks f text r =
+    let named = only_named f (openings r) in
+    let groups = counted_in named (openings r) in
+    let total = length groups in
+    record {
+      backrefs = ascending (filter (λ n. nat_le n total) (back_numbers groups (references r)));
+      named_groups = named_groups groups;
+      numeric_capture_group_references = list_any (λ x. is_numeric text x.place x.role x.target) (references r);
+      contains_subroutines = list_any (λ x. is_call x.role) (references r);
+      self_recursive = list_any (λ x. is_call_of_all x.role x.target) (references r);
+      total_groups = total;
+      out_of_range_backref = find (λ n. nat_lt total n) (back_numbers groups (references r));
+      numbered_groups_ignored = named;
+    }

@@ -1,0 +1,36 @@
+-- How many of the groups that are printed for a tree nest.
+use Rattle.std.specs.Prelude.{ℕ, ◌+◌, max, Bool, true, false, ◌||◌, nat_lt}
+use Rattle.fancy_lex.specs.declared.escape.Assertion.{Assertion}
+use Rattle.fancy_lex.specs.declared.escape.Assertion.TheVariants.{StartLine, StartLineOniguruma, EndLine}
+use Rattle.fancy_grammar.specs.Tree.{Tree, Trees, no_trees, more_trees, any, assertion, literal, concat, alt, group}
+use Rattle.fancy_grammar.specs.Tree.{repeat, delegate}
+
+-- one group where it is printed
+abbrev pub one_if : Bool → ℕ
+one_if true = 1
+one_if false = 0
+
+-- the start or the end of each line, which is printed with its flags in a group
+abbrev pub is_line : Assertion → Bool
+is_line (StartLine crlf) = true
+is_line (StartLineOniguruma crlf) = true
+is_line (EndLine crlf) = true
+is_line _ = false
+
+abbrev mutual
+  -- in the tree's text at a precedence
+  pub nest : Tree → ℕ → ℕ
+  nest (any newline crlf) p = one_if (newline || crlf)
+  nest (assertion a) p = one_if (is_line a)
+  nest (literal s casei) p = one_if casei
+  nest (delegate s casei) p = one_if casei
+  nest (concat ts) p = one_if (nat_lt 1 p) + nests ts 2
+  nest (alt ts) p = one_if (nat_lt 0 p) + nests ts 1
+  nest (group t) p = 1 + nest t 0
+  nest (repeat t lo hi greedy) p = one_if (nat_lt 2 p) + nest t 3
+  nest _ p = 0
+
+  -- the most in any of several trees
+  pub nests : Trees → ℕ → ℕ
+  nests no_trees p = 0
+  nests (more_trees t ts) p = max (nest t p) (nests ts p)

@@ -1,0 +1,83 @@
+-- The normal form of a tree, under a Unicode setting: what its printed text is read as.
+use Rattle.std.specs.Prelude.{ℕ, Bool, false, not, ◌&&◌, if◌then◌else◌, List, [], ◌∷◌, ◌++◌, map, is_none, Option, Some}
+use Rattle.std.specs.Prelude.{None, unwrap_or}
+use Rattle.fancy_lex.specs.Characters.{◌∈◌}
+use Rattle.fancy_lex.specs.Text.{Text, bytes}
+use Rattle.fancy_lex.specs.declared.escape.Assertion.TheVariants.{StartLine, StartLineOniguruma}
+use Rattle.fancy_lex.specs.declared.flags.Flags.{Flags}
+use Rattle.fancy_parts.specs.Quote.{behind_backslash}
+use Rattle.fancy_grammar.specs.Ahead.{leaf_of}
+use Rattle.fancy_grammar.specs.Grammar.{start}
+use Rattle.fancy_grammar.specs.Join.{solid, join, choice}
+use Rattle.fancy_grammar.specs.State.{Outcome, done, fault}
+use Rattle.fancy_grammar.specs.Tree.{Tree, Trees, no_trees, more_trees, empty, any, assertion, literal, concat, alt}
+use Rattle.fancy_grammar.specs.Tree.{group, repeat, delegate, define_group}
+
+-- ---- the flags that a printed text is read under
+
+-- Unicode or not, and the flags that a printed group sets: under these nothing is layout and no quantifier is swapped
+abbrev pub under : Bool → Bool → Bool → Bool → Bool → Flags
+under unicode casei multi dotnl crlf = record {
+  casei = casei;
+  multi = multi;
+  dotnl = dotnl;
+  swap_greed = false;
+  ignore_space = false;
+  unicode = unicode;
+  crlf = crlf;
+  oniguruma_mode = false;
+  ignore_numbered_groups = false;
+}
+
+-- no flag, or UNICODE alone
+abbrev pub bare : Bool → Flags
+bare unicode = under unicode false false false false
+
+-- ---- the text of a Delegate, read again
+
+-- the leaf, where it is a Delegate and nothing is left behind it
+abbrev pub whole_of : Text → Tree → Option Tree
+whole_of [] (delegate s casei) = Some (delegate s casei)
+whole_of _ _ = None
+
+abbrev pub whole_leaf : Outcome Tree → Option Tree
+whole_leaf (done r s) = whole_of s.rest r
+whole_leaf (fault k p) = None
+
+-- the Delegate that the text alone is read as, where it is one whole class or one whole class escape
+unfoldable pub class_of : Flags → Text → Option Tree
+class_of f [] = None
+class_of f (c ∷ t) = if c ∈ "[\\" then whole_leaf (leaf_of (bytes (c ∷ t)) (start f (c ∷ t)) c t) else None
+
+-- ---- the normal form
+
+-- one character, which keeps its case flag only where it is printed without a backslash
+abbrev pub character : Bool → ℕ → Tree
+character casei c = literal (c ∷ []) (casei && is_none (behind_backslash c))
+
+-- what a tree of this normal form is among the parts of a sequence
+abbrev pub items_of : Tree → Tree → List Tree
+items_of (literal s false) n = map (character false) s
+items_of _ n = solid (n ∷ [])
+
+abbrev mutual
+  pub normal : Bool → Tree → Tree
+  normal u (any newline crlf) = any newline (not newline && crlf)
+  normal u (assertion (StartLineOniguruma crlf)) = assertion (StartLine crlf)
+  normal u (literal s casei) = join (map (character casei) s)
+  normal u (delegate s casei) = unwrap_or (class_of (under u casei false false false) s) (delegate s casei)
+  normal u (concat ts) = join (items u ts)
+  normal u (alt ts) = choice (normals u ts)
+  normal u (group t) = group (normal u t)
+  normal u (repeat t lo hi greedy) = repeat (normal u t) lo hi greedy
+  normal u (define_group t) = empty
+  normal u t = t
+
+  -- the parts of a sequence
+  pub items : Bool → Trees → List Tree
+  items u no_trees = []
+  items u (more_trees t ts) = items_of t (normal u t) ++ items u ts
+
+  pub normals : Bool → Trees → List Tree
+  normals u no_trees = []
+  normals u (more_trees t ts) = normal u t ∷ normals u ts

@@ -1,0 +1,63 @@
+-- The parentheses that open printed groups, and the first that stands too deep.
+use Rattle.std.specs.Prelude.{ℕ, ◌+◌, ◌==◌, Bool, true, false, ◌||◌, nat_lt, List, [], ◌∷◌, ◌++◌, codes, find}
+use Rattle.std.specs.Prelude.{option_map, unwrap_or}
+use Rattle.fancy_lex.specs.Text.{Text, bytes}
+use Rattle.fancy_grammar.specs.Ahead.{max_depth}
+use Rattle.fancy_grammar.specs.Printed.{printed}
+use Rattle.fancy_grammar.specs.Tree.{Tree, Trees, no_trees, more_trees, any, assertion, literal, concat, alt, group}
+use Rattle.fancy_grammar.specs.Tree.{repeat, delegate}
+use Rattle.fancy_grammar.specs.Nest.{is_line}
+
+-- the opening parenthesis of a printed group: its place in bytes, and how many groups are open round it
+pub record Paren : Type 0 where
+  pub place : ℕ
+  pub round : ℕ
+
+-- the parentheses from a place on, inside so many groups
+abbrev pub Parens : Type 0
+Parens = ℕ → ℕ → List Paren
+
+abbrev pub no_parens : Parens
+no_parens place round = []
+
+-- a group of this head round these, where it is printed
+abbrev pub in_group : Bool → Text → Parens → Parens
+in_group true head inside place round =
+    record { place = place; round = round } ∷ inside (place + bytes head) (round + 1)
+in_group false head inside place round = inside place round
+
+abbrev mutual
+  -- those of the tree's text at a precedence, in text order
+  pub parens : Tree → ℕ → Parens
+  parens (any newline crlf) p = in_group (newline || crlf) [] no_parens
+  parens (assertion a) p = in_group (is_line a) [] no_parens
+  parens (literal s casei) p = in_group casei [] no_parens
+  parens (delegate s casei) p = in_group casei [] no_parens
+  parens (concat ts) p = in_group (nat_lt 1 p) (codes "(?:") (parens_all ts)
+  parens (alt ts) p = in_group (nat_lt 0 p) (codes "(?:") (parens_branches ts)
+  parens (group t) p = in_group true (codes "(") (parens t 0)
+  parens (repeat t lo hi greedy) p = in_group (nat_lt 2 p) (codes "(?:") (parens t 3)
+  parens _ p = no_parens
+
+  pub parens_all : Trees → Parens
+  parens_all no_trees place round = []
+  parens_all (more_trees t ts) place round =
+      parens t 2 place round ++ parens_all ts (place + bytes (printed t 2)) round
+
+  pub parens_branches : Trees → Parens
+  parens_branches no_trees place round = []
+  parens_branches (more_trees t ts) place round =
+      parens t 1 place round ++ parens_barred ts (place + bytes (printed t 1)) round
+
+  pub parens_barred : Trees → Parens
+  parens_barred no_trees place round = []
+  parens_barred (more_trees t ts) place round =
+      parens t 1 (place + 1) round ++ parens_barred ts (place + 1 + bytes (printed t 1)) round
+
+-- a group that opens there is too deep, and none before it
+abbrev pub is_too_deep : Paren → Bool
+is_too_deep q = q.round + 1 == max_depth
+
+-- the place of the first group that is too deep
+abbrev pub over : Tree → ℕ → ℕ
+over t p = unwrap_or (option_map (λ q. q.place) (find is_too_deep (parens t p 0 0))) 0

@@ -1,0 +1,43 @@
+-- The trees whose text reads back as their normal form.
+use Rattle.std.specs.Prelude.{ℕ, Bool, true, false, not, ◌&&◌, is_some, nat_lt, nat_le, length}
+use Rattle.std.specs.Str.{all_scalars}
+use Rattle.fancy_lex.specs.declared.escape.Assertion.TheVariants.{EndTextIgnoreTrailingNewlines}
+use Rattle.fancy_parts.specs.Quantifier.{most}
+use Rattle.fancy_grammar.specs.Join.{is_empty}
+use Rattle.fancy_grammar.specs.Normal.{bare, class_of, normal}
+use Rattle.fancy_grammar.specs.Tree.{Tree, Trees, no_trees, more_trees, empty, any, assertion, literal, concat, alt}
+use Rattle.fancy_grammar.specs.Tree.{group, repeat, delegate, define_group}
+
+-- a count that a word holds
+abbrev pub is_count : ℕ → Bool
+is_count n = nat_le n most
+
+-- a Literal whose last character alone a quantifier would take
+abbrev pub is_long : Tree → Bool
+is_long (literal s false) = nat_lt 1 (length s)
+is_long _ = false
+
+-- what a quantifier may stand behind; whether a normal form is Empty hangs on no setting
+abbrev pub takes_quantifier : Tree → Bool
+takes_quantifier t = not (is_empty (normal false t)) && not (is_long t)
+
+abbrev mutual
+  -- every node has a text, that of a Delegate is one whole class or class escape, and under each Repeat stands what
+  -- takes the quantifier as a whole; what a DefineGroup holds is not looked at
+  pub printable : Tree → Bool
+  printable empty = true
+  printable (any newline crlf) = true
+  printable (assertion (EndTextIgnoreTrailingNewlines crlf)) = false
+  printable (assertion a) = true
+  printable (literal s casei) = all_scalars s
+  printable (delegate s casei) = all_scalars s && is_some (class_of (bare false) s)
+  printable (concat ts) = all_printable ts
+  printable (alt ts) = all_printable ts
+  printable (group t) = printable t
+  printable (repeat t lo hi greedy) = printable t && (takes_quantifier t && (is_count lo && is_count hi))
+  printable (define_group t) = true
+  printable _ = false
+
+  pub all_printable : Trees → Bool
+  all_printable no_trees = true
+  all_printable (more_trees t ts) = printable t && all_printable ts

@@ -1,0 +1,120 @@
+-- A tree under the quantifiers that follow it.
+use Rattle.std.specs.Prelude.{ℕ, zero, suc, ◌+◌, ◌==◌, Bool, true, false, not, ◌&&◌, nat_lt, Option, Some, None}
+use Rattle.std.specs.Prelude.{if◌then◌else◌}
+use Prim.Native.Char.{code}
+use Rattle.fancy_lex.specs.FaultTable.{comment_not_closed, not_repeatable, quantifier_too_deep}
+use Rattle.fancy_lex.specs.Layout.{Skipped, rest, fault as open_comment}
+use Rattle.fancy_lex.specs.Reading.{choose}
+use Rattle.fancy_lex.specs.Text.{Text, bytes, strip}
+use Rattle.fancy_lex.specs.declared.flags.Flags.{Flags}
+use Rattle.fancy_parts.specs.Quantifier.{counts}
+use Rattle.fancy_parts.specs.declared.counts.Counts.{Counts}
+use Rattle.fancy_grammar.specs.Ahead.{max_depth, skipped}
+use Rattle.fancy_grammar.specs.Join.{is_empty}
+use Rattle.fancy_grammar.specs.State.{State, at, Outcome, done, faulted, and_then, seen_through}
+use Rattle.fancy_grammar.specs.Tree.{Tree, empty, assertion, look_around, keep_out, continue_from_previous_match_end}
+use Rattle.fancy_grammar.specs.Tree.{verb, repeat, atomic_group}
+
+-- whether a quantifier may follow the tree; in Oniguruma mode none follows an assertion
+abbrev pub is_repeatable : Flags → Tree → Bool
+is_repeatable f empty = false
+is_repeatable f (look_around t l) = false
+is_repeatable f keep_out = false
+is_repeatable f continue_from_previous_match_end = false
+is_repeatable f (verb v) = false
+is_repeatable f (assertion a) = not f.oniguruma_mode
+is_repeatable f _ = true
+
+-- in Oniguruma mode an Empty stays without the quantifier whose mark or closing brace t follows,
+-- where that stands behind the start, at which so many bytes were left
+abbrev pub is_dropped : Flags → ℕ → Tree → Text → Bool
+is_dropped f left a t = f.oniguruma_mode && (is_empty a && nat_lt (bytes t + 1) left)
+
+-- a quantifier is greedy without the lazy mark; swapped, with it
+abbrev pub is_greedy : Flags → Bool → Bool
+is_greedy f lazy = if f.swap_greed then lazy else not lazy
+
+-- in Oniguruma mode a greatest count below the least one changes places with it
+abbrev pub is_swapped : Flags → Counts → Bool
+is_swapped f c = f.oniguruma_mode && nat_lt c.high c.low
+
+-- in Oniguruma mode nothing behind braces is possessive
+abbrev pub may_be_possessive : Flags → Counts → Bool
+may_be_possessive f c = not (f.oniguruma_mode && c.braces)
+
+-- the marks behind the counts of a quantifier: the lazy one, and the possessive one
+pub record Suffix : Type 0 where
+  pub lazy : Bool
+  pub possessive : Bool
+
+-- the tree under a quantifier of these counts and marks
+abbrev pub quantified : Flags → Counts → Suffix → Tree → Tree
+quantified f c m a =
+    if is_swapped f c then atomic_group (repeat a c.high c.low (is_greedy f m.lazy))
+    else if m.possessive then atomic_group (repeat a c.low c.high (is_greedy f m.lazy))
+    else repeat a c.low c.high (is_greedy f m.lazy)
+
+-- directly behind the lazy mark, or where it could stand: the possessive one
+abbrev pub behind_lazy : State → Counts → Bool → Text → Outcome Suffix
+behind_lazy s c lazy t =
+    let plain = done (record { lazy = lazy; possessive = false }) (at s t) in
+    if may_be_possessive s.flags c then
+    choose (strip (code "+") t) (λ u. done (record { lazy = lazy; possessive = true }) (at s u)) plain
+    else plain
+
+-- behind the counts: layout, and then the lazy mark
+abbrev pub suffix_at : State → Counts → Skipped → Outcome Suffix
+suffix_at s c (rest t) = choose (strip (code "?") t) (behind_lazy s c true) (behind_lazy s c false t)
+suffix_at s c (open_comment p) = faulted (comment_not_closed p)
+
+-- the marks behind the counts
+abbrev pub suffix : ℕ → State → Counts → Outcome Suffix
+suffix n s c = suffix_at s c (skipped n s)
+
+-- the tree under these counts; where it is not repeatable, the fault stands at the mark or the closing brace
+abbrev pub counted : ℕ → ℕ → Tree → State → Option (Counts × Text) → Outcome Tree
+counted n left a s None = done a s
+counted n left a s (Some (c, t)) =
+    if is_repeatable s.flags a then seen_through (λ m. quantified s.flags c m a) (suffix n (at s t) c)
+    else if is_dropped s.flags left a t then seen_through (λ m. a) (suffix n (at s t) c)
+    else faulted (not_repeatable n t)
+
+-- behind the layout before a quantifier
+abbrev pub quant_at : ℕ → ℕ → Tree → State → Skipped → Outcome Tree
+quant_at n left a s (rest t) = counted n left a (at s t) (counts s.flags.ignore_space t)
+quant_at n left a s (open_comment p) = faulted (comment_not_closed p)
+
+-- layout, and the tree under the quantifier that follows it, or the tree itself where none does
+unfoldable pub quant : ℕ → ℕ → Tree → State → Outcome Tree
+quant n left a s = quant_at n left a s (skipped n s)
+
+-- no byte was taken between the states
+abbrev pub is_unmoved : State → State → Bool
+is_unmoved s t = bytes t.rest == bytes s.rest
+
+-- one adjacent quantifier more may count, where so many may, at depth d
+abbrev pub may_count : ℕ → ℕ → Bool
+may_count zero d = false
+may_count (suc k) d = nat_lt (d + 1) max_depth
+
+-- adjacent quantifiers at depth d: each that takes a byte counts, and is one level deeper; k may count
+unfoldable pub adjacent : ℕ → ℕ → ℕ → Tree → State → Outcome Tree
+adjacent zero n d a s =
+    and_then (quant n (bytes s.rest) a s) (λ b t.
+    if is_unmoved s t then done b t
+    else faulted (quantifier_too_deep n t.rest))
+adjacent (suc k) n d a s =
+    and_then (quant n (bytes s.rest) a s) (λ b t.
+    if is_unmoved s t then done b t
+    else if nat_lt (d + 1) max_depth then adjacent k n (d + 1) b t
+    else faulted (quantifier_too_deep n t.rest))
+
+-- how many adjacent quantifiers may follow the first
+abbrev pub max_adjacent : ℕ
+max_adjacent = 4
+
+-- the quantifiers of an atom at depth d, before which so many bytes were left: one, and in Oniguruma mode those
+-- adjacent to it
+abbrev pub quants : ℕ → ℕ → ℕ → Tree → State → Outcome Tree
+quants n d left a s =
+    and_then (quant n left a s) (λ b t. if t.flags.oniguruma_mode then adjacent max_adjacent n d b t else done b t)

@@ -1,0 +1,51 @@
+-- What the text that is printed for a tree comes to where it is read again.
+use Rattle.std.specs.Prelude.{◌≡◌, ℕ, Bool, false, nat_lt, if◌then◌else◌, [], length, None}
+use Rattle.fancy_lex.specs.Fault.{Kind, recursion_exceeded}
+use Rattle.fancy_lex.specs.Text.{Text}
+use Rattle.fancy_lex.specs.declared.flags.Flags.{Flags}
+use Rattle.fancy_grammar.specs.Ahead.{max_depth}
+use Rattle.fancy_grammar.specs.Answer.{IsTreeOf, IsFaultOf}
+use Rattle.fancy_grammar.specs.Answered.{groups}
+use Rattle.fancy_grammar.specs.Marks.{Marks}
+use Rattle.fancy_grammar.specs.Tree.{Tree}
+use Rattle.fancy_grammar.specs.Nest.{nest}
+use Rattle.fancy_grammar.specs.Normal.{bare, normal}
+use Rattle.fancy_grammar.specs.Over.{over}
+
+-- the marks of a tree with so many groups, none of which has a name, and with no reference
+abbrev pub marks_of_groups : ℕ → Marks
+marks_of_groups n = record {
+  backrefs = [];
+  named_groups = [];
+  numeric_capture_group_references = false;
+  contains_subroutines = false;
+  self_recursive = false;
+  total_groups = n;
+  out_of_range_backref = None;
+  numbered_groups_ignored = false;
+}
+
+-- what is answered for a text: its tree with its marks, or its fault with the place
+pub data Answer : Type 0 where
+  read : Tree → Marks → Answer
+  refused : Kind → ℕ → Answer
+
+abbrev pub IsAnswerOf : Flags → Text → Answer → Type 0
+IsAnswerOf f text (read t m) = IsTreeOf f text t m
+IsAnswerOf f text (refused k p) = IsFaultOf f text k p
+
+-- the text has this answer, and no other
+pub record IsOnlyAnswer (f : Flags) (text : Text) (a : Answer) : Type 0 where
+  pub is : IsAnswerOf f text a
+  pub only : (b : Answer) → IsAnswerOf f text b → b ≡ a
+
+-- what is answered for the text of a printable tree: its normal form, with as many groups as that has; or, where 64
+-- printed groups nest or more, the place of the first group that opens too deep
+abbrev pub read_back : Bool → Tree → ℕ → Answer
+read_back u t p =
+    if nat_lt (nest t p) max_depth then read (normal u t) (marks_of_groups (length (groups (normal u t))))
+    else refused recursion_exceeded (over t p)
+
+-- the text has that answer and no other, with no flag and with UNICODE alone
+abbrev pub IsReadBack : Tree → ℕ → Text → Type 0
+IsReadBack t p text = (u : Bool) → IsOnlyAnswer (bare u) text (read_back u t p)

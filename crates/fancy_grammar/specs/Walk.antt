@@ -1,0 +1,129 @@
+-- What the resolver's two walks come to. They count the groups as they pass them.
+use Rattle.std.specs.Prelude.{ℕ, ◌+◌, Bool, false, ◌||◌, nat_le, List, [], Option, Some, None, fold, if◌then◌else◌}
+use Rattle.std.specs.BTreeSet.{insert_key}
+use Rattle.std.specs.Ordering.{nat_cmp}
+use Rattle.fancy_lex.specs.Fault.{Fault}
+use Rattle.fancy_lex.specs.Target.{Target}
+use Rattle.fancy_lex.specs.Text.{Text}
+use Rattle.fancy_parts.specs.Groups.{Groups, with_opening, numbers_under}
+use Rattle.fancy_parts.specs.Meaning.{Role, Reference, Meaning, number, means, fault_or}
+use Rattle.fancy_parts.specs.Ranks.{is_counted}
+use Rattle.fancy_grammar.specs.Items.{Item, opening, reference, items}
+use Rattle.fancy_grammar.specs.Marks.{back_number, is_numeric, is_call, is_call_of_all}
+use Rattle.fancy_grammar.specs.Resolved.{resolved_node, group_or_inside}
+use Rattle.fancy_grammar.specs.Tree.{Tree, Trees, no_trees, more_trees, concat, alt, group, look_around, repeat}
+use Rattle.fancy_grammar.specs.Tree.{atomic_group}
+use Rattle.fancy_grammar.specs.Tree.{conditional, define_group, absent, AbsentTree, repeater, expression, stopper, clear}
+use Rattle.fancy_grammar.specs.Tree.{ast_node, ast_group}
+
+-- ---- the first walk finds the groups
+
+abbrev pub find_item : Bool → Groups → Item → Groups
+find_item named s (opening o) = with_opening named s o
+find_item named s (reference r) = s
+
+abbrev pub found : Bool → Groups → List Item → Groups
+found named s l = fold (find_item named) s l
+
+-- ---- the second walk resolves the references, and notes the marks and the first fault
+
+-- what is known when references are resolved
+pub record Known : Type 0 where
+  pub text : Text
+  pub named : Bool
+  pub groups : Groups
+
+-- how far the walk has come, and what it noted
+pub record Progress : Type 0 where
+  pub passed : ℕ  -- groups with a number that opened
+  pub backrefs : List ℕ
+  pub out_of_range : Option ℕ
+  pub numeric : Bool
+  pub calls : Bool
+  pub self_recursive : Bool
+  pub fault : Option Fault
+
+-- the walk before its first step
+abbrev pub nothing_noted : Progress
+nothing_noted = record {
+  passed = 0;
+  backrefs = [];
+  out_of_range = None;
+  numeric = false;
+  calls = false;
+  self_recursive = false;
+  fault = None;
+}
+
+abbrev pub or_else : {A : Type 0} → Option A → Option A → Option A
+or_else None other = other
+or_else (Some a) other = Some a
+
+abbrev pub with_backref : ℕ → List ℕ → Option ℕ → List ℕ
+with_backref total l None = l
+with_backref total l (Some n) = if nat_le n total then insert_key nat_cmp l n else l
+
+abbrev pub beyond : ℕ → Option ℕ → Option ℕ
+beyond total None = None
+beyond total (Some n) = if nat_le n total then None else Some n
+
+abbrev pub note_meaning : Known → Progress → Reference → Meaning → Progress
+note_meaning k s r m = record {
+  passed = s.passed;
+  backrefs = with_backref k.groups.total s.backrefs (back_number r.role m);
+  out_of_range = or_else s.out_of_range (beyond k.groups.total (back_number r.role m));
+  numeric = s.numeric || is_numeric k.text r.place r.role r.target;
+  calls = s.calls || is_call r.role;
+  self_recursive = s.self_recursive || is_call_of_all r.role r.target;
+  fault = or_else s.fault (fault_or m r.place None);
+}
+
+-- what a target means to the walk, by the groups that it has passed
+abbrev pub means_here : Known → Progress → Role → Target → Meaning
+means_here k s role target = means (numbers_under k.groups.names) s.passed role target
+
+-- the number, where it has one
+abbrev pub number_in : Meaning → Option ℕ
+number_in (number n) = Some n
+number_in _ = None
+
+abbrev pub note_reference : Known → Progress → ℕ → Role → Target → Progress
+note_reference k s place role target =
+    note_meaning k s (record { place = place; role = role; target = target }) (means_here k s role target)
+
+abbrev pub note_item : Known → Progress → Item → Progress
+note_item k s (opening o) = record s { passed = if is_counted k.named o.name then s.passed + 1 else s.passed }
+note_item k s (reference r) = note_reference k s r.place r.role r.target
+
+abbrev pub noted : Known → Progress → List Item → Progress
+noted k s l = fold (note_item k) s l
+
+abbrev mutual
+  -- the tree resolved from there on
+  pub rebuilt : Known → Progress → Tree → Tree
+  rebuilt k s (concat ts) = concat (rebuilt_all k s ts)
+  rebuilt k s (alt ts) = alt (rebuilt_all k s ts)
+  rebuilt k s (group t) = group (rebuilt k s t)
+  rebuilt k s (look_around t l) = look_around (rebuilt k s t) l
+  rebuilt k s (repeat t lo hi greedy) = repeat (rebuilt k s t) lo hi greedy
+  rebuilt k s (atomic_group t) = atomic_group (rebuilt k s t)
+  rebuilt k s (conditional c t f) =
+      conditional (rebuilt k s c) (rebuilt k (noted k s (items c)) t)
+      (rebuilt k (noted k (noted k s (items c)) (items t)) f)
+  rebuilt k s (absent a) = absent (rebuilt_absent k s a)
+  rebuilt k s (define_group t) = define_group (rebuilt k s t)
+  rebuilt k s (ast_node (ast_group name t) place) =
+      let inside = note_item k s (opening (record { place = place; name = name })) in
+      group_or_inside (is_counted k.named name) (rebuilt k inside t)
+  rebuilt k s (ast_node node place) = resolved_node (numbers_under k.groups.names) s.passed node place
+  rebuilt k s t = t
+
+  pub rebuilt_all : Known → Progress → Trees → Trees
+  rebuilt_all k s no_trees = no_trees
+  rebuilt_all k s (more_trees t ts) = more_trees (rebuilt k s t) (rebuilt_all k (noted k s (items t)) ts)
+
+  pub rebuilt_absent : Known → Progress → AbsentTree → AbsentTree
+  rebuilt_absent k s (repeater t) = repeater (rebuilt k s t)
+  rebuilt_absent k s (expression a e) = expression (rebuilt k s a) (rebuilt k (noted k s (items a)) e)
+  rebuilt_absent k s (stopper t) = stopper (rebuilt k s t)
+  rebuilt_absent k s clear = clear

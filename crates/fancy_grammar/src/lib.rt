@@ -1,0 +1,5 @@
+//! The language of patterns: what a pattern means, and what is true of that. The definitions stand in specs/, and
+//! the laws in proofs/; of code there is only what both the definitions and the trees speak of.
+#![tactic(auto)]
+
+pub mod kinds;
