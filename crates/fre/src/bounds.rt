@@ -1,12 +1,12 @@
 //! How near trees come to the bounds on nodes and levels: 2 n + 1 and 832, for a pattern of n bytes.
-use crate::answers::answer;
+use crate::answers::{Answer, answer_to, has_fault};
 use std::alloc::Global;
 use std::str;
 use std::test::Fail;
 
-/// The nodes and the levels of a tree, by its lines.
-fn measured(out: &[u8]) -> Result<(usize, usize), Fail> {
-    let (tree, _) = str::from_utf8(out)?.split_once("marks ").ok_or("no marks")?;
+/// The nodes and the levels of the answered tree, by its lines.
+fn measured(answer: &Answer) -> Result<(usize, usize), Fail> {
+    let (tree, _) = answer.tree_and_marks()?;
     let mut nodes = 0usize;
     let mut levels = 0usize;
     for line in tree.lines() {
@@ -15,6 +15,15 @@ fn measured(out: &[u8]) -> Result<(usize, usize), Fail> {
         levels = levels.max((indent / 2).saturating_add(1));
     }
     Ok((nodes, levels))
+}
+
+/// The nodes and the levels of the pattern's tree; none where it is refused.
+fn bounds(alloc: Global, flags: &str, pattern: &str) -> Result<Option<(usize, usize)>, Fail> {
+    let answer = answer_to(alloc, flags, pattern)?;
+    if answer.status != 0 {
+        return Ok(None);
+    }
+    Ok(Some(measured(&answer)?))
 }
 
 /// Patterns of up to six bytes, and how many nodes they have; none was found with more. The first two have 2 n + 1.
@@ -31,34 +40,45 @@ const MOST_NODES: [(&str, usize); 7] = [
 #[test]
 fn short_patterns_come_near_the_bound_on_nodes(rt: HostRuntime) -> Result<(), Fail> {
     for (pattern, wanted) in MOST_NODES {
-        let (status, out, _) = answer(rt.alloc(), "u", pattern)?;
-        assert_eq!(rt; status, 0, "{pattern}");
-        let (nodes, _) = measured(&out)?;
-        assert_eq!(rt; nodes, wanted, "{pattern}");
+        let found = bounds(rt.alloc(), "u", pattern)?;
+        assert!(rt;
+            matches!(found, Some((nodes, _)) if nodes == wanted),
+            "{pattern}"
+        );
     }
     Ok(())
+}
+
+fn bounds_of_groups(alloc: Global) -> Result<Option<(usize, usize)>, Fail> {
+    let pattern = "(|)".repeat(alloc, 100)?;
+    bounds(alloc, "u", pattern.as_str())
 }
 
 #[test]
 fn a_long_pattern_has_four_nodes_for_three_bytes(rt: HostRuntime) -> Result<(), Fail> {
-    let pattern = "(|)".repeat(rt.alloc(), 100)?;
-    let (status, out, _) = answer(rt.alloc(), "u", pattern.as_str())?;
-    assert_eq!(rt; status, 0);
-    assert_eq!(rt; measured(&out)?, (401, 4));
+    assert!(rt; bounds_of_groups(rt.alloc())? == Some((401, 4)));
     Ok(())
 }
 
-#[test]
-fn possessive_groups_have_three_levels_each(rt: HostRuntime) -> Result<(), Fail> {
-    let mut pattern = "(".repeat(rt.alloc(), 63)?;
+/// 63 possessive groups round a letter: 253 bytes.
+fn possessive(alloc: Global) -> Result<String, Fail> {
+    let mut pattern = "(".repeat(alloc, 63)?;
     pattern.push('a')?;
     for _ in 0..63 {
         pattern.push_str(")*+")?;
     }
-    let (status, out, _) = answer(rt.alloc(), "u", pattern.as_str())?;
-    assert_eq!(rt; status, 0);
-    assert_eq!(rt; pattern.len(), 253);
-    assert_eq!(rt; measured(&out)?, (190, 190));
+    Ok(pattern)
+}
+
+/// The bytes, and the nodes and the levels of the tree.
+fn bounds_of_possessive(alloc: Global) -> Result<(usize, Option<(usize, usize)>), Fail> {
+    let pattern = possessive(alloc)?;
+    Ok((pattern.len(), bounds(alloc, "u", pattern.as_str())?))
+}
+
+#[test]
+fn possessive_groups_have_three_levels_each(rt: HostRuntime) -> Result<(), Fail> {
+    assert!(rt; bounds_of_possessive(rt.alloc())? == (253, Some((190, 190))));
     Ok(())
 }
 
@@ -84,34 +104,43 @@ fn deepest(alloc: Global) -> Result<String, Fail> {
     Ok(pattern)
 }
 
+/// The bytes, and the nodes and the levels of the tree.
+fn bounds_of_deepest(alloc: Global) -> Result<(usize, Option<(usize, usize)>), Fail> {
+    let pattern = deepest(alloc)?;
+    Ok((pattern.len(), bounds(alloc, "o", pattern.as_str())?))
+}
+
+/// Whether the pattern with one more quantifier is refused for it.
+fn is_deepest(alloc: Global) -> Result<bool, Fail> {
+    let mut pattern = deepest(alloc)?;
+    pattern.push('*')?;
+    has_fault(
+        alloc,
+        "o",
+        pattern.as_str(),
+        876,
+        "Pattern too deeply nested",
+    )
+}
+
 /// 20 levels less than the bound, which counts four adjacent quantifiers at each depth: at depths 60 to 63 there are
 /// three, two, one and none.
 #[test]
 fn the_deepest_tree_has_812_levels(rt: HostRuntime) -> Result<(), Fail> {
-    let mut pattern = deepest(rt.alloc())?;
-    let (status, out, _) = answer(rt.alloc(), "o", pattern.as_str())?;
-    assert_eq!(rt; status, 0);
-    assert_eq!(rt; pattern.len(), 875);
-    assert_eq!(rt; measured(&out)?, (940, 812));
-    pattern.push('*')?;
-    let (status, _, err) = answer(rt.alloc(), "o", pattern.as_str())?;
-    assert_eq!(rt; status, 1);
-    assert_eq!(rt;
-        str::from_utf8(&err)?,
-        "Parsing error at position 876: Pattern too deeply nested\n"
-    );
+    assert!(rt; bounds_of_deepest(rt.alloc())? == (875, Some((940, 812))));
+    assert!(rt; is_deepest(rt.alloc())?);
     Ok(())
 }
 
 /// Every kind of layout, class, quantifier, reference and conditional.
 const LONG: &str = "(?x)\\A(?<a>[\\p{^alnum}\\p{^blank}]{2,3}?|(?#c)\\k<a+0>|(?(1)\\x{41}|b))*+\\z";
 
-/// Lengths of fronts of it, and what is said of them.
-const FRONTS: [(usize, &str); 4] = [
-    (3, "3: Opening parenthesis without closing parenthesis"),
-    (5, "4: Backslash without following character"),
-    (10, "7: Could not parse group name"),
-    (12, "12: Invalid character class"),
+/// Lengths of fronts of it, and the place and the text of their faults.
+const FRONTS: [(usize, usize, &str); 4] = [
+    (3, 3, "Opening parenthesis without closing parenthesis"),
+    (5, 4, "Backslash without following character"),
+    (10, 7, "Could not parse group name"),
+    (12, 12, "Invalid character class"),
 ];
 
 /// The place of a fault, by its line.
@@ -124,23 +153,27 @@ fn place(err: &[u8]) -> Result<usize, Fail> {
     Ok(place.parse::<usize>()?)
 }
 
+fn front(end: usize) -> Result<&'static str, Fail> {
+    Ok(LONG.get(..end).ok_or("within a character")?)
+}
+
+/// Whether the pattern has a tree, or a fault at most one past its end.
+fn is_answered(alloc: Global, pattern: &str) -> Result<bool, Fail> {
+    let answer = answer_to(alloc, "u", pattern)?;
+    Ok(answer.status == 0 || place(&answer.err)? <= pattern.len().saturating_add(1))
+}
+
 #[test]
 fn each_front_has_a_tree_or_a_fault_at_most_one_past_its_end(rt: HostRuntime) -> Result<(), Fail> {
     for end in 0..LONG.len().saturating_add(1) {
-        let front = LONG.get(..end).ok_or("within a character")?;
-        let (status, _, err) = answer(rt.alloc(), "u", front)?;
-        assert!(rt;
-            status == 0 || place(&err)? <= end.saturating_add(1),
-            "{front}"
-        );
-        for (length, said) in FRONTS {
-            if length == end {
-                let line = format!(in rt.alloc(); "Parsing error at position {said}\n")?;
-                assert_eq!(rt; str::from_utf8(&err)?, line.as_str());
-            }
-        }
+        assert!(rt; is_answered(rt.alloc(), front(end)?)?, "{end}");
     }
-    let (status, _, _) = answer(rt.alloc(), "u", LONG)?;
-    assert_eq!(rt; status, 0);
+    for (end, place, text) in FRONTS {
+        assert!(rt;
+            has_fault(rt.alloc(), "u", front(end)?, place, text)?,
+            "{end}"
+        );
+    }
+    assert!(rt; bounds(rt.alloc(), "u", LONG)?.is_some());
     Ok(())
 }

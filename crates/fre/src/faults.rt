@@ -1,6 +1,5 @@
 //! Each fault of the language, with its place.
-use crate::answers::answer;
-use std::str;
+use crate::answers::has_fault;
 use std::test::Fail;
 
 const TARGET: &str = "Target of repeat operator is invalid";
@@ -86,10 +85,10 @@ const FAULTS: [(&str, &str, usize, &str); 39] = [
 #[test]
 fn each_fault_has_its_line(rt: HostRuntime) -> Result<(), Fail> {
     for (flags, pattern, place, text) in FAULTS {
-        let (status, out, err) = answer(rt.alloc(), flags, pattern)?;
-        assert!(rt; status == 1 && out.is_empty(), "{pattern}");
-        let line = format!(in rt.alloc(); "Parsing error at position {place}: {text}\n")?;
-        assert_eq!(rt; str::from_utf8(&err)?, line.as_str(), "{pattern}");
+        assert!(rt;
+            has_fault(rt.alloc(), flags, pattern, place, text)?,
+            "{pattern}"
+        );
     }
     Ok(())
 }

@@ -1,7 +1,6 @@
 //! What the program answers on groups of every kind.
-use crate::answers::answer;
+use crate::answers::{has_fault, has_tree};
 use std::alloc::Global;
-use std::str;
 use std::test::Fail;
 
 /// Patterns, the lines of their trees, and how many groups they have.
@@ -100,17 +99,19 @@ const TREES: [(&str, &str, usize); 15] = [
     ),
 ];
 
+/// Whether the pattern has these lines, and so many groups, none of which is referred to.
+fn has_groups(alloc: Global, pattern: &str, lines: &str, groups: usize) -> Result<bool, Fail> {
+    let marks = format!(in alloc; "groups={groups} backrefs=- ")?;
+    has_tree(alloc, "u", pattern, lines, marks.as_str())
+}
+
 #[test]
 fn groups_have_their_trees(rt: HostRuntime) -> Result<(), Fail> {
     for (pattern, lines, groups) in TREES {
-        let (status, out, err) = answer(rt.alloc(), "u", pattern)?;
-        assert!(rt; status == 0 && err.is_empty(), "{pattern}");
-        let (tree, marks) = str::from_utf8(&out)?
-            .split_once("marks ")
-            .ok_or("no marks")?;
-        assert_eq!(rt; tree, lines, "{pattern}");
-        let wanted = format!(in rt.alloc(); "groups={groups} backrefs=- ")?;
-        assert!(rt; marks.starts_with(wanted.as_str()), "{pattern}");
+        assert!(rt;
+            has_groups(rt.alloc(), pattern, lines, groups)?,
+            "{pattern}"
+        );
     }
     Ok(())
 }
@@ -144,20 +145,17 @@ const FAULTS: [(&str, usize, &str); 13] = [
 #[test]
 fn groups_are_refused_at_their_places(rt: HostRuntime) -> Result<(), Fail> {
     for (pattern, place, text) in FAULTS {
-        let (status, out, err) = answer(rt.alloc(), "u", pattern)?;
-        assert!(rt; status == 1 && out.is_empty(), "{pattern}");
-        let line = format!(in rt.alloc(); "Parsing error at position {place}: {text}\n")?;
-        assert_eq!(rt; str::from_utf8(&err)?, line.as_str(), "{pattern}");
+        assert!(rt;
+            has_fault(rt.alloc(), "u", pattern, place, text)?,
+            "{pattern}"
+        );
     }
     Ok(())
 }
 
 /// So many groups without a number, one in the other, round a letter.
 fn nested(alloc: Global, levels: usize) -> Result<String, Fail> {
-    let mut pattern = String::new(alloc);
-    for _ in 0..levels {
-        pattern.push_str("(?:")?;
-    }
+    let mut pattern = "(?:".repeat(alloc, levels)?;
     pattern.push('a')?;
     for _ in 0..levels {
         pattern.push(')')?;
@@ -165,16 +163,26 @@ fn nested(alloc: Global, levels: usize) -> Result<String, Fail> {
     Ok(pattern)
 }
 
+fn is_read(alloc: Global, levels: usize) -> Result<bool, Fail> {
+    let pattern = nested(alloc, levels)?;
+    let lines = "Literal 61 casei=false\n";
+    has_tree(alloc, "u", pattern.as_str(), lines, "groups=0 ")
+}
+
+fn is_too_deep(alloc: Global, levels: usize, place: usize) -> Result<bool, Fail> {
+    let pattern = nested(alloc, levels)?;
+    has_fault(
+        alloc,
+        "u",
+        pattern.as_str(),
+        place,
+        "Pattern too deeply nested",
+    )
+}
+
 #[test]
 fn less_than_64_groups_nest(rt: HostRuntime) -> Result<(), Fail> {
-    let (status, out, _) = answer(rt.alloc(), "u", nested(rt.alloc(), 63)?.as_str())?;
-    assert_eq!(rt; status, 0);
-    assert!(rt; out.starts_with(b"Literal 61 casei=false\nmarks groups=0 "));
-    let (status, _, err) = answer(rt.alloc(), "u", nested(rt.alloc(), 64)?.as_str())?;
-    assert_eq!(rt; status, 1);
-    assert_eq!(rt;
-        str::from_utf8(&err)?,
-        "Parsing error at position 189: Pattern too deeply nested\n"
-    );
+    assert!(rt; is_read(rt.alloc(), 63)?);
+    assert!(rt; is_too_deep(rt.alloc(), 64, 189)?);
     Ok(())
 }

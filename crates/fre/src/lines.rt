@@ -1,6 +1,6 @@
 //! The lines of each kind of node and of each form of mark.
-use crate::answers::answer;
-use std::str;
+use crate::answers::{answer_to, has_tree};
+use std::alloc::Global;
 use std::test::Fail;
 
 /// Flags, a pattern, and the lines of its tree.
@@ -112,26 +112,26 @@ const MARKS: [(&str, &str, &str); 6] = [
 #[test]
 fn each_node_has_its_line(rt: HostRuntime) -> Result<(), Fail> {
     for (flags, pattern, lines) in TREES {
-        let (status, out, err) = answer(rt.alloc(), flags, pattern)?;
-        assert!(rt; status == 0 && err.is_empty(), "{pattern}");
-        let (tree, _) = str::from_utf8(&out)?
-            .split_once("marks ")
-            .ok_or("no marks")?;
-        assert_eq!(rt; tree, lines, "{pattern}");
+        assert!(rt;
+            has_tree(rt.alloc(), flags, pattern, lines, "")?,
+            "{pattern}"
+        );
     }
     Ok(())
+}
+
+/// Whether these are the marks of the pattern, and nothing stands between them and its text.
+fn has_marks(alloc: Global, flags: &str, pattern: &str, wanted: &str) -> Result<bool, Fail> {
+    let answer = answer_to(alloc, flags, pattern)?;
+    let (_, behind) = answer.tree_and_marks()?;
+    let (marks, _) = behind.split_once("text ").ok_or("no text")?;
+    Ok(answer.status == 0 && answer.err.is_empty() && marks == wanted)
 }
 
 #[test]
 fn each_mark_has_its_form(rt: HostRuntime) -> Result<(), Fail> {
     for (flags, pattern, wanted) in MARKS {
-        let (status, out, err) = answer(rt.alloc(), flags, pattern)?;
-        assert!(rt; status == 0 && err.is_empty(), "{pattern}");
-        let (_, behind) = str::from_utf8(&out)?
-            .split_once("marks ")
-            .ok_or("no marks")?;
-        let (marks, _) = behind.split_once("text ").ok_or("no text")?;
-        assert_eq!(rt; marks, wanted, "{pattern}");
+        assert!(rt; has_marks(rt.alloc(), flags, pattern, wanted)?, "{pattern}");
     }
     Ok(())
 }

@@ -1,4 +1,4 @@
-//! What the program writes, and what it does where a write or memory is refused.
+//! What the program writes, and what it does where a write is refused.
 use fre_program::program::fre_run;
 use std::alloc::Global;
 use std::io;
@@ -54,21 +54,33 @@ impl Write for Refusing {
     }
 }
 
-/// The status, and what was written.
-fn run(
-    alloc: Global,
-    words: &[&str],
-    refused_out: Option<usize>,
-    refused_err: Option<usize>,
-) -> Result<(u8, Refusing, Refusing), Fail> {
+/// What a run came to, whose writes are refused so.
+#[derive(Drop)]
+struct Run {
+    status: u8,
+    out: Refusing,
+    err: Refusing,
+}
+
+fn owned(alloc: Global, words: &[&str]) -> Result<Vec<String>, Fail> {
     let mut owned = Vec::new(alloc);
     for word in words {
         owned.push(String::from_str(alloc, word)?)?;
     }
+    Ok(owned)
+}
+
+fn run_refusing(
+    alloc: Global,
+    words: &[&str],
+    refused_out: Option<usize>,
+    refused_err: Option<usize>,
+) -> Result<Run, Fail> {
+    let words = owned(alloc, words)?;
     let mut out = Refusing::new(alloc, refused_out);
     let mut err = Refusing::new(alloc, refused_err);
-    let status = fre_run(alloc, &owned, &mut out, &mut err);
-    Ok((status, out, err))
+    let status = fre_run(alloc, &words, &mut out, &mut err);
+    Ok(Run { status, out, err })
 }
 
 const ACCEPTED: &str = "Concat
@@ -125,51 +137,86 @@ fn answers(rt: HostRuntime) -> Result<(), Fail> {
         (&["u", "a", "b"], 2, "", USAGE),
     ];
     for (words, status, out, err) in rows {
-        let (now, written, said) = run(rt.alloc(), words, None, None)?;
-        assert_eq!(rt; now, status, "{words:?}");
-        assert!(rt; written.is_flushed, "{words:?}");
-        assert_eq!(rt; written.text.as_slice(), out.as_bytes(), "{words:?}");
-        assert_eq!(rt; said.text.as_slice(), err.as_bytes(), "{words:?}");
+        assert!(rt;
+            is_answer(rt.alloc(), words, status, out, err)?,
+            "{words:?}"
+        );
     }
     Ok(())
+}
+
+fn is_answer(
+    alloc: Global,
+    words: &[&str],
+    status: u8,
+    out: &str,
+    err: &str,
+) -> Result<bool, Fail> {
+    let run = run_refusing(alloc, words, None, None)?;
+    Ok(
+        run.status == status
+            && run.out.is_flushed
+            && run.out.text.as_slice() == out.as_bytes()
+            && run.err.text.as_slice() == err.as_bytes(),
+    )
+}
+
+const CANNOT_WRITE: &[u8] = b"cannot write\n";
+
+/// Whether the run whose write is refused says so, and has written a beginning; none where no write was refused, and
+/// then it ended well.
+fn tells_of_write(alloc: Global, number: usize) -> Result<Option<bool>, Fail> {
+    let run = run_refusing(alloc, &["u", "(a|b)c*"], Some(number), None)?;
+    if !run.out.has_refused && run.status == 0 {
+        return Ok(None);
+    }
+    Ok(Some(
+        run.status == 3
+            && ACCEPTED.as_bytes().starts_with(&run.out.text)
+            && run.err.text.as_slice() == CANNOT_WRITE,
+    ))
 }
 
 #[test]
 fn refused_write(rt: HostRuntime) -> Result<(), Fail> {
     for number in 0..1000 {
-        let (status, out, err) = run(rt.alloc(), &["u", "(a|b)c*"], Some(number), None)?;
-        if !out.has_refused {
-            assert!(rt; number > 0 && status == 0);
+        let Some(is_told) = tells_of_write(rt.alloc(), number)? else {
+            assert!(rt; number > 0);
             return Ok(());
-        }
-        assert_eq!(rt; status, 3, "write {number}");
-        assert!(rt;
-            ACCEPTED.as_bytes().starts_with(&out.text),
-            "write {number}"
-        );
-        assert_eq!(rt;
-            err.text.as_slice(),
-            "cannot write\n".as_bytes(),
-            "write {number}"
-        );
+        };
+        assert!(rt; is_told, "write {number}");
     }
     Err(Fail::new("the writes do not end"))
+}
+
+/// The same of a run that writes this line on standard error, and would end so.
+fn tells_of_line(
+    alloc: Global,
+    words: &[&str],
+    line: &str,
+    end: u8,
+    number: usize,
+) -> Result<Option<bool>, Fail> {
+    let run = run_refusing(alloc, words, None, Some(number))?;
+    if !run.err.has_refused && run.status == end {
+        return Ok(None);
+    }
+    let beginning = run.err.text.strip_suffix(CANNOT_WRITE).ok_or("no reason")?;
+    Ok(Some(run.status == 3 && run.out.text.is_empty() && line.as_bytes().starts_with(beginning)))
 }
 
 #[test]
 fn refused_error_line(rt: HostRuntime) -> Result<(), Fail> {
     for (words, line, end) in [(["-", "a("], REFUSED, 1), (["z", "a"], USAGE, 2)] {
+        let mut refusals = 0usize;
         for number in 0..1000 {
-            let (status, out, err) = run(rt.alloc(), &words, None, Some(number))?;
-            assert!(rt; out.text.is_empty());
-            if !err.has_refused {
-                assert!(rt; number > 0 && status == end);
+            let Some(is_told) = tells_of_line(rt.alloc(), &words, line, end, number)? else {
                 break;
-            }
-            assert_eq!(rt; status, 3, "write {number}");
-            let beginning = err.text.strip_suffix(b"cannot write\n").ok_or("no reason")?;
-            assert!(rt; line.as_bytes().starts_with(beginning), "write {number}");
+            };
+            assert!(rt; is_told, "write {number}");
+            refusals = refusals.saturating_add(1);
         }
+        assert!(rt; 0 < refusals && refusals < 1000);
     }
     Ok(())
 }

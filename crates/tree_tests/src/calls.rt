@@ -1,189 +1,238 @@
 //! Each call on patterns and errors once.
-use fancy_lex::escape::Assertion;
+use crate::trees::{literal, printed, star};
 use fancy_syntax::error::{Error, ParseError};
 use fancy_syntax::expr::{CaptureGroupTarget, Expr};
-use fancy_syntax::flags::FLAG_UNICODE;
+use fancy_syntax::flags::{
+    FLAG_CASEI, FLAG_CRLF, FLAG_DOTNL, FLAG_MULTI, FLAG_ONIGURUMA_MODE, FLAG_UNICODE,
+};
+use fancy_syntax::tree::ExprTree;
 use std::alloc::{AllocError, Global};
-use std::test::Fail;
 
-fn literal(alloc: Global, val: &str, casei: bool) -> Result<Expr, AllocError> {
-    Ok(Expr::Literal {
-        val: String::from_str(alloc, val)?,
-        casei,
-    })
+/// Whether nothing but its tree is known of it.
+fn is_plain(tree: &ExprTree) -> bool {
+    tree.backrefs.is_empty()
+        && tree.named_groups.is_empty()
+        && !tree.numeric_capture_group_references
+        && !tree.contains_subroutines
+        && !tree.self_recursive
+        && !tree.numbered_groups_ignored
+        && tree.total_groups == 0
+        && tree.out_of_range_backref.is_none()
 }
 
-fn star(alloc: Global, child: Expr) -> Result<Expr, AllocError> {
-    Ok(Expr::Repeat {
-        child: Box::new(alloc, child)?,
-        lo: 0,
-        hi: usize::MAX,
-        greedy: true,
-    })
+/// Whether the pattern reads as the tree, and nothing else is known of it.
+fn reads_as(alloc: Global, pattern: &str, wanted: Expr) -> Result<bool, Error> {
+    let tree = Expr::parse_tree(alloc, pattern)?;
+    Ok(is_plain(&tree) && tree.expr == wanted)
 }
 
-/// The text of the tree at the precedence, behind `start`; none where the tree is not printable.
-fn printed(alloc: Global, tree: &Expr, precedence: u8, start: &str) -> Result<String, AllocError> {
-    let mut text = String::from_str(alloc, start)?;
-    if tree.is_printable(alloc)? {
-        tree.to_str(&mut text, precedence)?;
-    }
-    Ok(text)
+fn bar(alloc: Global) -> Result<Expr, AllocError> {
+    Ok(Expr::Alt(vec![in alloc; Expr::Empty, Expr::Empty]?))
 }
 
 #[test]
-fn parse_tree_reads_with_unicode_alone(rt: HostRuntime) -> Result<(), Fail> {
+fn parse_tree_reads_with_unicode_alone(rt: HostRuntime) -> Result<(), Error> {
     let alloc = rt.alloc();
-    let empty = Expr::parse_tree(alloc, "")?;
-    assert!(rt; empty.expr == Expr::Empty);
-    assert!(rt; empty.backrefs.is_empty() && empty.named_groups.is_empty());
-    assert!(rt; !empty.numeric_capture_group_references && !empty.contains_subroutines);
-    assert!(rt; !empty.self_recursive && !empty.numbered_groups_ignored);
-    assert_eq!(rt; empty.total_groups, 0);
-    assert_eq!(rt; empty.out_of_range_backref, None);
-    let bar = Expr::parse_tree(alloc, "|")?;
-    assert!(rt; bar.expr == Expr::Alt(vec![in alloc; Expr::Empty, Expr::Empty]?));
-    let byte = Expr::parse_tree(alloc, "\\x80")?;
-    assert!(rt; byte.expr == literal(alloc, "\u{80}", false)?);
+    assert!(rt; reads_as(alloc, "", Expr::Empty)?);
+    assert!(rt; reads_as(alloc, "|", bar(alloc)?)?);
+    assert!(rt; reads_as(alloc, "\\x80", literal(alloc, "\u{80}", false)?)?);
     Ok(())
 }
 
+fn read(alloc: Global, pattern: &str, flags: u32) -> Result<Expr, Error> {
+    Ok(Expr::parse_tree_with_flags(alloc, pattern, flags)?.expr)
+}
+
+/// Whether the pattern reads as the tree, with one group.
+fn reads_with_a_group(alloc: Global, pattern: &str, wanted: &Expr) -> Result<bool, Error> {
+    let tree = Expr::parse_tree(alloc, pattern)?;
+    Ok(tree.total_groups == 1 && tree.expr == *wanted)
+}
+
+/// Whether the pattern's tree prints as the pattern, which reads as that tree again.
+fn is_read_again(alloc: Global, pattern: &str) -> Result<bool, Error> {
+    let tree = read(alloc, pattern, FLAG_UNICODE)?;
+    Ok(prints_as(alloc, &tree, 0, pattern)? && reads_with_a_group(alloc, pattern, &tree)?)
+}
+
+/// Whether the tree's text is put behind an `x`.
+fn prints_as(alloc: Global, tree: &Expr, precedence: u8, wanted: &str) -> Result<bool, AllocError> {
+    let text = printed(alloc, tree, precedence, "x")?;
+    Ok(text.as_str().strip_prefix("x") == Some(wanted))
+}
+
 #[test]
-fn a_printed_tree_is_read_again(rt: HostRuntime) -> Result<(), Fail> {
-    let alloc = rt.alloc();
-    let tree = Expr::parse_tree_with_flags(alloc, "(a|b)c*", FLAG_UNICODE)?;
-    assert_eq!(rt; tree.total_groups, 1);
-    let text = printed(alloc, &tree.expr, 0, "")?;
-    assert_eq!(rt; text.as_str(), "(a|b)c*");
-    let again = Expr::parse_tree(alloc, text.as_str())?;
-    assert!(rt; again.expr == tree.expr);
-    let copy = again.clone(alloc)?;
-    assert!(rt; copy.expr == tree.expr);
-    assert_eq!(rt; copy.total_groups, 1);
+fn a_printed_tree_is_read_again(rt: HostRuntime) -> Result<(), Error> {
+    assert!(rt; is_read_again(rt.alloc(), "(a|b)c*")?);
     Ok(())
 }
 
+fn is_appended(alloc: Global, pattern: &str, precedence: u8, wanted: &str) -> Result<bool, Error> {
+    let tree = read(alloc, pattern, FLAG_UNICODE)?;
+    Ok(prints_as(alloc, &tree, precedence, wanted)?)
+}
+
 #[test]
-fn text_is_appended(rt: HostRuntime) -> Result<(), Fail> {
+fn text_is_appended(rt: HostRuntime) -> Result<(), Error> {
     let alloc = rt.alloc();
-    let [a, b, c] = [
-        literal(alloc, "a", false)?,
-        literal(alloc, "b", false)?,
-        literal(alloc, "c", false)?,
-    ];
-    let choice = Expr::Alt(vec![in alloc; a, b]?);
-    let tree = Expr::Concat(vec![in alloc; choice, c]?);
-    assert_eq!(rt; printed(alloc, &tree, 0, "x")?.as_str(), "x(?:a|b)c");
-    assert_eq!(rt; printed(alloc, &tree, 2, "x")?.as_str(), "x(?:(?:a|b)c)");
-    assert!(rt; tree.is_printable(alloc)?);
+    assert!(rt; is_appended(alloc, "(?:a|b)c", 0, "(?:a|b)c")?);
+    assert!(rt; is_appended(alloc, "(?:a|b)c", 2, "(?:(?:a|b)c)")?);
     Ok(())
 }
 
-/// A tree for each kind of group that is printed, in which one such group nests.
-fn one_printed_group(alloc: Global) -> Result<Vec<Expr>, AllocError> {
-    let [a, b, c] = [
-        literal(alloc, "a", false)?,
-        literal(alloc, "b", false)?,
-        literal(alloc, "c", false)?,
-    ];
-    let row = Expr::Concat(vec![in alloc; a, b]?);
-    let choice = Expr::Alt(vec![in alloc; c, Expr::Empty]?);
-    let repeat = star(alloc, literal(alloc, "d", false)?)?;
-    let class = Expr::Delegate {
-        inner: String::from_str(alloc, "[e]")?,
-        casei: true,
-    };
-    Ok(vec![in alloc;
-        literal(alloc, "fg", true)?,
-        class,
-        star(alloc, row)?,
-        star(alloc, choice)?,
-        star(alloc, repeat)?,
-        Expr::Any {
-            newline: true,
-            crlf: false
-        },
-        Expr::Any {
-            newline: false,
-            crlf: true
-        },
-        Expr::Assertion(Assertion::StartLine { crlf: true }),
-        Expr::Assertion(Assertion::StartLineOniguruma { crlf: false }),
-        Expr::Assertion(Assertion::EndLine { crlf: false }),
-    ]?)
-}
-
-/// The fault of a text, none where it is read. Want of memory is no fault, and is passed on.
-fn fault_of(alloc: Global, text: &str) -> Result<Option<Error>, Error> {
-    match Expr::parse_tree(alloc, text) {
-        Ok(_) => Ok(None),
-        Err(Error::OutOfMemory) => Err(Error::OutOfMemory),
-        Err(fault) => Ok(Some(fault)),
-    }
-}
-
-#[test]
-fn less_than_64_printed_groups_nest(rt: HostRuntime) -> Result<(), Fail> {
-    let alloc = rt.alloc();
-    for (i, tree) in one_printed_group(alloc)?.iter().enumerate() {
-        let mut nested = tree.clone(alloc)?;
-        for _ in 0..62 {
-            nested = Expr::Group(Box::new(alloc, nested)?);
-        }
-        let text = printed(alloc, &nested, 0, "")?;
-        assert_eq!(rt;
-            Expr::parse_tree(alloc, text.as_str())?.total_groups,
-            62,
-            "at {i}"
-        );
+/// The tree in so many groups.
+fn nested(alloc: Global, tree: &Expr, groups: usize) -> Result<Expr, AllocError> {
+    let mut nested = tree.clone(alloc)?;
+    for _ in 0..groups {
         nested = Expr::Group(Box::new(alloc, nested)?);
-        let text = printed(alloc, &nested, 0, "")?;
-        let fault = fault_of(alloc, text.as_str())?;
+    }
+    Ok(nested)
+}
+
+fn nested_text(alloc: Global, tree: &Expr, groups: usize) -> Result<String, AllocError> {
+    let nested = nested(alloc, tree, groups)?;
+    printed(alloc, &nested, 0, "")
+}
+
+/// Whether the text has a tree with so many groups.
+fn has_groups(alloc: Global, text: &str, groups: usize) -> Result<bool, Error> {
+    Ok(Expr::parse_tree(alloc, text)?.total_groups == groups)
+}
+
+/// Whether the text nests too deeply at the place. Want of memory is no answer, and is passed on.
+fn is_too_deep(alloc: Global, text: &str, place: usize) -> Result<bool, Error> {
+    match Expr::parse_tree(alloc, text) {
+        Ok(_) => Ok(false),
+        Err(Error::OutOfMemory) => Err(Error::OutOfMemory),
+        Err(Error::ParseError(p, kind)) => {
+            Ok(p == place && matches!(kind, ParseError::RecursionExceeded))
+        }
+    }
+}
+
+/// Whether the tree's text, in which one group nests, is read inside 62 groups and not inside 63.
+fn nests_once(alloc: Global, tree: &Expr) -> Result<bool, Error> {
+    let read = nested_text(alloc, tree, 62)?;
+    Ok(has_groups(alloc, read.as_str(), 62)? && fails_in_63(alloc, tree)?)
+}
+
+fn fails_in_63(alloc: Global, tree: &Expr) -> Result<bool, Error> {
+    let refused = nested_text(alloc, tree, 63)?;
+    is_too_deep(alloc, refused.as_str(), 63)
+}
+
+fn pattern_nests_once(alloc: Global, pattern: &str, flags: u32) -> Result<bool, Error> {
+    let tree = read(alloc, pattern, flags)?;
+    nests_once(alloc, &tree)
+}
+
+/// A pattern, and its flags, for each kind of group that is printed; in each one such group nests.
+const ONE_PRINTED_GROUP: [(&str, u32); 9] = [
+    ("[e]", FLAG_CASEI),
+    ("(?:ab)*", 0),
+    ("(?:c|)*", 0),
+    ("(?:d*)*", 0),
+    (".", FLAG_DOTNL),
+    (".", FLAG_CRLF),
+    ("^", FLAG_MULTI | FLAG_CRLF),
+    ("^", FLAG_MULTI | FLAG_ONIGURUMA_MODE),
+    ("$", FLAG_MULTI),
+];
+
+#[test]
+fn less_than_64_printed_groups_nest(rt: HostRuntime) -> Result<(), Error> {
+    for (pattern, flags) in ONE_PRINTED_GROUP {
         assert!(rt;
-            matches!(
-                fault,
-                Some(Error::ParseError(63, ParseError::RecursionExceeded))
-            ),
-            "at {i}"
+            pattern_nests_once(rt.alloc(), pattern, flags)?,
+            "{pattern}"
         );
     }
     Ok(())
 }
 
+fn literal_nests_once(alloc: Global, val: &str, casei: bool) -> Result<bool, Error> {
+    let tree = literal(alloc, val, casei)?;
+    nests_once(alloc, &tree)
+}
+
 #[test]
-fn what_reads_as_another_tree_is_not_printable(rt: HostRuntime) -> Result<(), Fail> {
+fn the_group_of_a_literal_nests(rt: HostRuntime) -> Result<(), Error> {
+    assert!(rt; literal_nests_once(rt.alloc(), "fg", true)?);
+    Ok(())
+}
+
+/// Whether the repeated literal is printable.
+fn is_repeated(alloc: Global, val: &str, casei: bool) -> Result<bool, AllocError> {
+    let tree = star(alloc, literal(alloc, val, casei)?)?;
+    tree.is_printable(alloc)
+}
+
+fn is_printable(alloc: Global, tree: Expr) -> Result<bool, AllocError> {
+    tree.is_printable(alloc)
+}
+
+#[test]
+fn what_reads_as_another_tree_is_not_printable(rt: HostRuntime) -> Result<(), AllocError> {
     let alloc = rt.alloc();
-    assert!(rt; !star(alloc, Expr::Empty)?.is_printable(alloc)?);
-    assert!(rt; !star(alloc, literal(alloc, "ab", false)?)?.is_printable(alloc)?);
-    assert!(rt; star(alloc, literal(alloc, "ab", true)?)?.is_printable(alloc)?);
-    assert!(rt; star(alloc, literal(alloc, "a", false)?)?.is_printable(alloc)?);
+    assert!(rt; !is_printable(alloc, star(alloc, Expr::Empty)?)?);
+    assert!(rt; !is_repeated(alloc, "ab", false)?);
+    assert!(rt; is_repeated(alloc, "ab", true)?);
+    assert!(rt; is_repeated(alloc, "a", false)?);
     let reference = Expr::Backref {
         group: 1,
         casei: false,
     };
-    assert!(rt; !reference.is_printable(alloc)?);
+    assert!(rt; !is_printable(alloc, reference)?);
     Ok(())
 }
 
-#[test]
-fn errors_and_targets_are_cloned(rt: HostRuntime) -> Result<(), Fail> {
-    let alloc = rt.alloc();
-    let escape = ParseError::InvalidEscape(String::from_str(alloc, "\\c")?);
-    let error = Error::ParseError(1, escape).clone(alloc)?;
-    assert_eq!(rt;
-        format!(in alloc; "{error}")?.as_str(),
-        "Parsing error at position 1: Invalid escape: \\c"
-    );
-    let kind = ParseError::InvalidGroupNameBackref(String::from_str(alloc, "n")?).clone(alloc)?;
-    assert_eq!(rt;
-        format!(in alloc; "{kind}")?.as_str(),
-        "Invalid group name in back reference: n"
-    );
-    assert_eq!(rt;
-        format!(in alloc; "{}", Error::OutOfMemory)?.as_str(),
-        "out of memory"
-    );
+/// Whether the clone of the error has this text.
+fn error_clones_as(alloc: Global, error: &Error, wanted: &str) -> Result<bool, AllocError> {
+    let copy = error.clone(alloc)?;
+    Ok(format!(in alloc; "{copy}")?.as_str() == wanted)
+}
+
+/// The same of the pattern's fault. Want of memory is no answer, and is passed on.
+fn fault_clones_as(alloc: Global, pattern: &str, wanted: &str) -> Result<bool, Error> {
+    match Expr::parse_tree(alloc, pattern) {
+        Ok(_) => Ok(false),
+        Err(Error::OutOfMemory) => Err(Error::OutOfMemory),
+        Err(fault) => Ok(error_clones_as(alloc, &fault, wanted)?),
+    }
+}
+
+fn kind_clones_as(alloc: Global, kind: &ParseError, wanted: &str) -> Result<bool, AllocError> {
+    let copy = kind.clone(alloc)?;
+    Ok(format!(in alloc; "{copy}")?.as_str() == wanted)
+}
+
+fn is_kind_cloned(alloc: Global) -> Result<bool, AllocError> {
+    let kind = ParseError::UnknownFlag(String::from_str(alloc, "(?-:")?);
+    kind_clones_as(alloc, &kind, "Unknown group flag: (?-:")
+}
+
+fn is_target_cloned(alloc: Global) -> Result<bool, AllocError> {
     let target = CaptureGroupTarget::ByName(String::from_str(alloc, "n")?);
-    assert!(rt; target.clone(alloc)? == target);
+    Ok(target.clone(alloc)? == target)
+}
+
+/// Patterns, and what is said of their faults.
+const FAULTS: [(&str, &str); 2] = [
+    (".\\c", "Parsing error at position 1: Invalid escape: \\c"),
+    (
+        "(?<a>x)\\k<a>(?<a>y)",
+        "Parsing error at position 9: Invalid group name in back reference: a",
+    ),
+];
+
+#[test]
+fn errors_and_targets_are_cloned(rt: HostRuntime) -> Result<(), Error> {
+    let alloc = rt.alloc();
+    for (pattern, wanted) in FAULTS {
+        assert!(rt; fault_clones_as(alloc, pattern, wanted)?, "{pattern}");
+    }
+    assert!(rt; error_clones_as(alloc, &Error::OutOfMemory, "out of memory")?);
+    assert!(rt; is_kind_cloned(alloc)?);
+    assert!(rt; is_target_cloned(alloc)?);
     Ok(())
 }

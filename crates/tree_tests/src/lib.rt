@@ -1,4 +1,5 @@
-//! Tests of the trees: each public call once, and each allocation refused in turn.
+//! Tests of the trees: each public call once, and what stands where memory was refused. A run of each with its first
+//! request for memory refused, its second and so on comes from outside, by a script of the gate.
 #![tactic(auto)]
 
 #[cfg(test)]
@@ -11,3 +12,5 @@ mod refused;
 mod samples;
 #[cfg(test)]
 mod tests;
+#[cfg(test)]
+mod trees;

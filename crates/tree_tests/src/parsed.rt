@@ -1,100 +1,150 @@
 //! The calls on trees that come out of the reader, one of each kind of group.
+use fancy_syntax::error::Error;
 use fancy_syntax::expr::{Absent, BacktrackingControlVerb as Verb, Expr, LookAround};
-use std::alloc::Global;
-use std::test::Fail;
+use std::alloc::{AllocError, Global};
 
-/// The patterns of groups of every kind, and how many children their nodes have.
-const PATTERNS: [(&str, usize); 18] = [
-    ("(?=a)", 1),
-    ("(?!a)", 1),
-    ("(?<=a)", 1),
-    ("(?<!a)", 1),
-    ("(?>a)", 1),
-    ("a*+", 1),
-    ("(?(a)b|c)", 3),
-    ("(?(a)b)", 3),
-    ("(?(DEFINE)a)", 1),
-    ("(*FAIL)", 0),
-    ("(*ACCEPT)", 0),
-    ("(*COMMIT)", 0),
-    ("(*SKIP)", 0),
-    ("(*PRUNE)", 0),
-    ("(?~a)", 1),
-    ("(?~|a)", 1),
-    ("(?~|)", 0),
-    ("(?~|a|b)", 2),
+/// The patterns of groups of every kind, what their nodes are, and how many children these have.
+const PATTERNS: [(&str, &str, usize); 18] = [
+    ("(?=a)", "look-ahead", 1),
+    ("(?!a)", "negative look-ahead", 1),
+    ("(?<=a)", "look-behind", 1),
+    ("(?<!a)", "negative look-behind", 1),
+    ("(?>a)", "atomic group", 1),
+    ("a*+", "atomic group", 1),
+    ("(?(a)b|c)", "conditional", 3),
+    ("(?(a)b)", "conditional", 3),
+    ("(?(DEFINE)a)", "definitions", 1),
+    ("(*FAIL)", "fail", 0),
+    ("(*ACCEPT)", "accept", 0),
+    ("(*COMMIT)", "commit", 0),
+    ("(*SKIP)", "skip", 0),
+    ("(*PRUNE)", "prune", 0),
+    ("(?~a)", "absent repeater", 1),
+    ("(?~|a)", "absent stopper", 1),
+    ("(?~|)", "absent clear", 0),
+    ("(?~|a|b)", "absent expression", 2),
 ];
 
-/// Whether the i-th of the patterns has this tree's node.
-fn is_node_at(tree: &Expr, i: usize) -> bool {
+/// What the node is.
+fn node(tree: &Expr) -> &'static str {
     match tree {
-        Expr::LookAround(_, LookAround::LookAhead) => i == 0,
-        Expr::LookAround(_, LookAround::LookAheadNeg) => i == 1,
-        Expr::LookAround(_, LookAround::LookBehind) => i == 2,
-        Expr::LookAround(_, LookAround::LookBehindNeg) => i == 3,
-        Expr::AtomicGroup(_) => i == 4 || i == 5,
-        Expr::Conditional { .. } => i == 6 || i == 7,
-        Expr::DefineGroup { .. } => i == 8,
-        Expr::BacktrackingControlVerb(Verb::Fail) => i == 9,
-        Expr::BacktrackingControlVerb(Verb::Accept) => i == 10,
-        Expr::BacktrackingControlVerb(Verb::Commit) => i == 11,
-        Expr::BacktrackingControlVerb(Verb::Skip) => i == 12,
-        Expr::BacktrackingControlVerb(Verb::Prune) => i == 13,
-        Expr::Absent(Absent::Repeater(_)) => i == 14,
-        Expr::Absent(Absent::Stopper(_)) => i == 15,
-        Expr::Absent(Absent::Clear) => i == 16,
-        Expr::Absent(Absent::Expression { .. }) => i == 17,
-        _ => false,
+        Expr::LookAround(_, look) => look_around(*look),
+        Expr::AtomicGroup(_) => "atomic group",
+        Expr::Conditional { .. } => "conditional",
+        Expr::DefineGroup { .. } => "definitions",
+        Expr::BacktrackingControlVerb(verb) => control(*verb),
+        Expr::Absent(form) => absent(form),
+        _ => "another",
     }
 }
 
+fn look_around(look: LookAround) -> &'static str {
+    match look {
+        LookAround::LookAhead => "look-ahead",
+        LookAround::LookAheadNeg => "negative look-ahead",
+        LookAround::LookBehind => "look-behind",
+        LookAround::LookBehindNeg => "negative look-behind",
+    }
+}
+
+fn control(verb: Verb) -> &'static str {
+    match verb {
+        Verb::Fail => "fail",
+        Verb::Accept => "accept",
+        Verb::Commit => "commit",
+        Verb::Skip => "skip",
+        Verb::Prune => "prune",
+    }
+}
+
+fn absent(form: &Absent) -> &'static str {
+    match form {
+        Absent::Repeater(_) => "absent repeater",
+        Absent::Expression { .. } => "absent expression",
+        Absent::Stopper(_) => "absent stopper",
+        Absent::Clear => "absent clear",
+    }
+}
+
+fn read(alloc: Global, pattern: &str) -> Result<Expr, Error> {
+    Ok(Expr::parse_tree(alloc, pattern)?.expr)
+}
+
 /// The trees of the patterns.
-fn trees(alloc: Global) -> Result<Vec<Expr>, Fail> {
+fn trees(alloc: Global) -> Result<Vec<Expr>, Error> {
     let mut trees = Vec::new(alloc);
-    for (pattern, _) in PATTERNS {
-        trees.push(Expr::parse_tree(alloc, pattern)?.expr)?;
+    for (pattern, _, _) in PATTERNS {
+        trees.push(read(alloc, pattern)?)?;
     }
     Ok(trees)
 }
 
+fn counted(tree: &Expr) -> usize {
+    tree.children_iter().count()
+}
+
+/// Whether the pattern's node is this, with so many children.
+fn reads_as(alloc: Global, pattern: &str, name: &str, children: usize) -> Result<bool, Error> {
+    let tree = read(alloc, pattern)?;
+    Ok(node(&tree) == name && tree.is_leaf_node() == (children == 0) && counted(&tree) == children)
+}
+
 #[test]
-fn each_group_has_its_node(rt: HostRuntime) -> Result<(), Fail> {
-    for (i, (pattern, children)) in PATTERNS.iter().enumerate() {
-        let tree = Expr::parse_tree(rt.alloc(), pattern)?.expr;
-        assert!(rt; is_node_at(&tree, i), "{pattern}");
-        assert_eq!(rt; tree.is_leaf_node(), *children == 0, "{pattern}");
-        let mut found = 0usize;
-        for _ in tree.children_iter() {
-            found = found.saturating_add(1);
-        }
-        assert_eq!(rt; found, *children, "{pattern}");
+fn each_group_has_its_node(rt: HostRuntime) -> Result<(), Error> {
+    for (pattern, name, children) in PATTERNS {
+        assert!(rt; reads_as(rt.alloc(), pattern, name, children)?, "{pattern}");
     }
     Ok(())
 }
 
+/// Whether the clone of the tree is equal to the i-th of all, and to no other.
+fn clone_equals_alone(
+    alloc: Global,
+    tree: &Expr,
+    all: &[Expr],
+    i: usize,
+) -> Result<bool, AllocError> {
+    let copy = tree.clone(alloc)?;
+    Ok(
+        all.iter()
+            .enumerate()
+            .all(|(j, other)| (copy == *other) == (i == j)),
+    )
+}
+
 #[test]
-fn trees_that_were_read_are_cloned_and_compared(rt: HostRuntime) -> Result<(), Fail> {
+fn trees_that_were_read_are_cloned_and_compared(rt: HostRuntime) -> Result<(), Error> {
     let all = trees(rt.alloc())?;
     for (i, tree) in all.iter().enumerate() {
-        let copy = tree.clone(rt.alloc())?;
-        for (j, other) in all.iter().enumerate() {
-            assert_eq!(rt; copy == *other, i == j, "at {i}, {j}");
-        }
+        assert!(rt; clone_equals_alone(rt.alloc(), tree, &all, i)?, "at {i}");
     }
     Ok(())
 }
 
-#[test]
-fn children_of_what_was_read_are_written(rt: HostRuntime) -> Result<(), Fail> {
-    let mut all = trees(rt.alloc())?;
-    for (tree, (pattern, children)) in all.iter_mut().zip(PATTERNS) {
-        for i in 0..4 {
-            let source = tree.clone(rt.alloc())?;
-            if let Some(child) = tree.child_mut(i) {
-                *child = Expr::KeepOut;
-            }
-            assert_eq!(rt; *tree != source, i < children, "{pattern}");
+/// Whether writing child i changes the tree.
+fn changes(alloc: Global, tree: &mut Expr, i: usize) -> Result<bool, AllocError> {
+    let source = tree.clone(alloc)?;
+    if let Some(child) = tree.child_mut(i) {
+        *child = Expr::KeepOut;
+    }
+    Ok(*tree != source)
+}
+
+/// Whether writing changes the tree at each of its children, and at no place past them.
+fn are_written(alloc: Global, pattern: &str, children: usize) -> Result<bool, Error> {
+    let mut tree = read(alloc, pattern)?;
+    for i in 0..4 {
+        if changes(alloc, &mut tree, i)? != (i < children) {
+            return Ok(false);
         }
+    }
+    Ok(true)
+}
+
+#[test]
+fn children_of_what_was_read_are_written(rt: HostRuntime) -> Result<(), Error> {
+    for (pattern, _, children) in PATTERNS {
+        assert!(rt; are_written(rt.alloc(), pattern, children)?, "{pattern}");
     }
     Ok(())
 }

@@ -8,16 +8,38 @@ use fancy_syntax::tree::ExprTree;
 use std::alloc::{AllocError, Global};
 use std::test::Fail;
 
+/// Whether the source of a clone is as before, and so is the clone.
+fn is_tree_kept(alloc: Global, source: &Expr, before: &Expr) -> Result<bool, AllocError> {
+    let copy = source.clone(alloc);
+    Ok(source == before && copy? == *before)
+}
+
 #[test]
 fn trees_are_as_before_their_clones(rt: HostRuntime) -> Result<(), AllocError> {
     let sources = samples(rt.alloc())?;
     let before = samples(rt.alloc())?;
     for (i, (source, same)) in sources.iter().zip(&before).enumerate() {
-        let copy = source.tree.clone(rt.alloc());
-        assert!(rt; source.tree == same.tree, "at {i}");
-        assert!(rt; copy? == same.tree, "at {i}");
+        assert!(rt;
+            is_tree_kept(rt.alloc(), &source.tree, &same.tree)?,
+            "at {i}"
+        );
     }
     Ok(())
+}
+
+/// The same of the node or the absent form that they hold, if they hold one.
+fn is_part_kept(alloc: Global, source: &Expr, before: &Expr) -> Result<bool, AllocError> {
+    match (source, before) {
+        (Expr::AstNode(source, _), Expr::AstNode(before, _)) => {
+            let copy = source.clone(alloc);
+            Ok(source == before && copy? == *before)
+        }
+        (Expr::Absent(source), Expr::Absent(before)) => {
+            let copy = source.clone(alloc);
+            Ok(source == before && copy? == *before)
+        }
+        _ => Ok(true),
+    }
 }
 
 #[test]
@@ -25,19 +47,10 @@ fn nodes_and_absent_forms_are_as_before_their_clones(rt: HostRuntime) -> Result<
     let sources = samples(rt.alloc())?;
     let before = samples(rt.alloc())?;
     for (i, (source, same)) in sources.iter().zip(&before).enumerate() {
-        match (&source.tree, &same.tree) {
-            (Expr::AstNode(source, _), Expr::AstNode(same, _)) => {
-                let copy = source.clone(rt.alloc());
-                assert!(rt; source == same, "at {i}");
-                assert!(rt; copy? == *same, "at {i}");
-            }
-            (Expr::Absent(source), Expr::Absent(same)) => {
-                let copy = source.clone(rt.alloc());
-                assert!(rt; source == same, "at {i}");
-                assert!(rt; copy? == *same, "at {i}");
-            }
-            _ => {}
-        }
+        assert!(rt;
+            is_part_kept(rt.alloc(), &source.tree, &same.tree)?,
+            "at {i}"
+        );
     }
     Ok(())
 }
@@ -50,14 +63,21 @@ fn targets(alloc: Global) -> Result<[CaptureGroupTarget; 3], AllocError> {
     ])
 }
 
+fn is_target_kept(
+    alloc: Global,
+    source: &CaptureGroupTarget,
+    before: &CaptureGroupTarget,
+) -> Result<bool, AllocError> {
+    let copy = source.clone(alloc);
+    Ok(source == before && copy? == *before)
+}
+
 #[test]
 fn targets_are_as_before_their_clones(rt: HostRuntime) -> Result<(), AllocError> {
     let sources = targets(rt.alloc())?;
     let before = targets(rt.alloc())?;
     for (source, same) in sources.iter().zip(&before) {
-        let copy = source.clone(rt.alloc());
-        assert!(rt; source == same);
-        assert!(rt; copy? == *same);
+        assert!(rt; is_target_kept(rt.alloc(), source, same)?);
     }
     Ok(())
 }
@@ -81,79 +101,116 @@ fn is_same(a: &ExprTree, b: &ExprTree) -> bool {
         && a.numbered_groups_ignored == b.numbered_groups_ignored
 }
 
+fn is_marked_kept(alloc: Global, source: &ExprTree, before: &ExprTree) -> Result<bool, AllocError> {
+    let copy = source.clone(alloc);
+    Ok(is_same(source, before) && is_same(&copy?, before))
+}
+
+fn is_kept_beside(alloc: Global, source: &ExprTree) -> Result<bool, Error> {
+    let before = marked(alloc)?;
+    Ok(is_marked_kept(alloc, source, &before)?)
+}
+
+fn marked_is_kept(alloc: Global) -> Result<bool, Error> {
+    let source = marked(alloc)?;
+    is_kept_beside(alloc, &source)
+}
+
 #[test]
-fn a_tree_with_marks_is_as_before_its_clone(rt: HostRuntime) -> Result<(), Fail> {
-    let source = marked(rt.alloc())?;
-    let before = marked(rt.alloc())?;
-    let copy = source.clone(rt.alloc());
-    assert!(rt; is_same(&source, &before));
-    assert!(rt; is_same(&copy?, &before));
+fn a_tree_with_marks_is_as_before_its_clone(rt: HostRuntime) -> Result<(), Error> {
+    assert!(rt; marked_is_kept(rt.alloc())?);
     Ok(())
 }
 
-/// An error of each kind.
-fn kinds(alloc: Global) -> Result<[ParseError; 16], AllocError> {
-    let [general, escape, flag, name] = [
-        String::from_str(alloc, "end of string not reached")?,
-        String::from_str(alloc, "\\c")?,
-        String::from_str(alloc, "(?-:")?,
-        String::from_str(alloc, "name")?,
-    ];
-    Ok([
-        ParseError::GeneralParseError(general),
-        ParseError::UnclosedOpenParen,
-        ParseError::InvalidRepeat,
-        ParseError::RecursionExceeded,
-        ParseError::TrailingBackslash,
-        ParseError::InvalidEscape(escape),
-        ParseError::UnclosedUnicodeName,
-        ParseError::InvalidHex,
-        ParseError::InvalidCodepointValue,
-        ParseError::InvalidClass,
-        ParseError::UnknownFlag(flag),
-        ParseError::ChangingUnicodeModeUnsupported,
-        ParseError::InvalidBackref,
-        ParseError::TargetNotRepeatable,
-        ParseError::InvalidGroupName,
-        ParseError::InvalidGroupNameBackref(name),
-    ])
+/// The kinds that hold a text, which is `text`, and then one of each other kind.
+fn kind(alloc: Global, i: usize, text: &str) -> Result<ParseError, AllocError> {
+    match i {
+        0 => Ok(ParseError::GeneralParseError(String::from_str(alloc, text)?)),
+        1 => Ok(ParseError::InvalidEscape(String::from_str(alloc, text)?)),
+        2 => Ok(ParseError::UnknownFlag(String::from_str(alloc, text)?)),
+        3 => Ok(ParseError::InvalidGroupNameBackref(String::from_str(alloc, text)?)),
+        _ => Ok(plain_kind(i)),
+    }
+}
+
+fn plain_kind(i: usize) -> ParseError {
+    match i {
+        4 => ParseError::UnclosedOpenParen,
+        5 => ParseError::InvalidRepeat,
+        6 => ParseError::RecursionExceeded,
+        7 => ParseError::TrailingBackslash,
+        8 => ParseError::UnclosedUnicodeName,
+        9 => ParseError::InvalidHex,
+        10 => ParseError::InvalidCodepointValue,
+        11 => ParseError::InvalidClass,
+        12 => ParseError::ChangingUnicodeModeUnsupported,
+        13 => ParseError::InvalidBackref,
+        14 => ParseError::TargetNotRepeatable,
+        _ => ParseError::InvalidGroupName,
+    }
+}
+
+/// Whether the kind has the text before its clone, after it, and in it.
+fn is_kind_kept(alloc: Global, kind: &ParseError) -> Result<bool, AllocError> {
+    let before = format!(in alloc; "{kind}")?;
+    is_kind_kept_as(alloc, kind, before.as_str())
+}
+
+fn is_kind_kept_as(alloc: Global, kind: &ParseError, before: &str) -> Result<bool, AllocError> {
+    let copy = kind.clone(alloc);
+    let is_kept = kind_says(alloc, kind, before)?;
+    Ok(is_kept && kind_says(alloc, &copy?, before)?)
+}
+
+fn kind_says(alloc: Global, kind: &ParseError, wanted: &str) -> Result<bool, AllocError> {
+    Ok(format!(in alloc; "{kind}")?.as_str() == wanted)
+}
+
+fn is_each_kind_kept(alloc: Global, i: usize) -> Result<bool, AllocError> {
+    let kind = kind(alloc, i, "\\c")?;
+    is_kind_kept(alloc, &kind)
 }
 
 #[test]
-fn kinds_of_errors_are_as_before_their_clones(rt: HostRuntime) -> Result<(), Fail> {
-    let alloc = rt.alloc();
-    for kind in &kinds(alloc)? {
-        let before = format!(in alloc; "{kind}")?;
-        let copy = kind.clone(alloc);
-        assert_eq!(rt; format!(in alloc; "{kind}")?, before);
-        assert_eq!(rt; format!(in alloc; "{}", copy?)?, before);
+fn kinds_of_errors_are_as_before_their_clones(rt: HostRuntime) -> Result<(), AllocError> {
+    for i in 0..16 {
+        assert!(rt; is_each_kind_kept(rt.alloc(), i)?, "at {i}");
     }
     Ok(())
 }
 
+/// The same of an error.
+fn is_error_kept(alloc: Global, error: &Error) -> Result<bool, AllocError> {
+    let before = format!(in alloc; "{error}")?;
+    is_error_kept_as(alloc, error, before.as_str())
+}
+
+fn is_error_kept_as(alloc: Global, error: &Error, before: &str) -> Result<bool, AllocError> {
+    let copy = error.clone(alloc);
+    let is_kept = error_says(alloc, error, before)?;
+    Ok(is_kept && error_says(alloc, &copy?, before)?)
+}
+
+fn error_says(alloc: Global, error: &Error, wanted: &str) -> Result<bool, AllocError> {
+    Ok(format!(in alloc; "{error}")?.as_str() == wanted)
+}
+
+fn is_each_error_kept(alloc: Global, i: usize) -> Result<bool, AllocError> {
+    let error = Error::ParseError(3, kind(alloc, i, "\\c")?);
+    is_error_kept(alloc, &error)
+}
+
 #[test]
-fn errors_are_as_before_their_clones(rt: HostRuntime) -> Result<(), Fail> {
-    let alloc = rt.alloc();
-    for kind in kinds(alloc)? {
-        let error = Error::ParseError(3, kind);
-        let before = format!(in alloc; "{error}")?;
-        let copy = error.clone(alloc);
-        assert_eq!(rt; format!(in alloc; "{error}")?, before);
-        assert_eq!(rt; format!(in alloc; "{}", copy?)?, before);
+fn errors_are_as_before_their_clones(rt: HostRuntime) -> Result<(), AllocError> {
+    for i in 0..16 {
+        assert!(rt; is_each_error_kept(rt.alloc(), i)?, "at {i}");
     }
-    assert!(rt; matches!(Error::OutOfMemory.clone(alloc), Ok(Error::OutOfMemory)));
+    assert!(rt; matches!(Error::OutOfMemory.clone(rt.alloc()), Ok(Error::OutOfMemory)));
     Ok(())
 }
 
-fn literal(alloc: Global, val: &str) -> Result<Expr, AllocError> {
-    Ok(Expr::Literal {
-        val: String::from_str(alloc, val)?,
-        casei: false,
-    })
-}
-
-/// The tree's text behind `start`. Where memory is refused for it, `start` is what stands there.
-fn printed(alloc: Global, tree: &Expr, start: &str) -> Result<String, Fail> {
+/// Whether the tree's text is put behind `start`. Where memory is refused for it, `start` is what stands there.
+fn prints_behind(alloc: Global, tree: &Expr, start: &str, wanted: &str) -> Result<bool, Fail> {
     let mut text = String::from_str(alloc, start)?;
     if tree.is_printable(alloc)? {
         let answer = tree.to_str(&mut text, 0);
@@ -162,28 +219,24 @@ fn printed(alloc: Global, tree: &Expr, start: &str) -> Result<String, Fail> {
         }
         answer?;
     }
-    Ok(text)
+    Ok(text.as_str() == wanted)
+}
+
+fn pattern_prints_behind(
+    alloc: Global,
+    pattern: &str,
+    start: &str,
+    wanted: &str,
+) -> Result<bool, Fail> {
+    let tree = Expr::parse_tree(alloc, pattern)?.expr;
+    prints_behind(alloc, &tree, start, wanted)
 }
 
 #[test]
 fn buffers_are_as_before_printing(rt: HostRuntime) -> Result<(), Fail> {
     let alloc = rt.alloc();
-    let [a, b] = [literal(alloc, "a")?, literal(alloc, "b")?];
-    let twice = Expr::Repeat {
-        child: Box::new(alloc, Expr::Concat(vec![in alloc; a, b]?))?,
-        lo: 2,
-        hi: 3,
-        greedy: true,
-    };
-    assert_eq!(rt; printed(alloc, &twice, "")?.as_str(), "(?:ab){2,3}");
-    let [a, b, c] = [
-        literal(alloc, "a")?,
-        literal(alloc, "b")?,
-        literal(alloc, "c")?,
-    ];
-    let choice = Expr::Alt(vec![in alloc; a, b]?);
-    let row = Expr::Concat(vec![in alloc; choice, c]?);
-    assert_eq!(rt; printed(alloc, &row, "x")?.as_str(), "x(?:a|b)c");
+    assert!(rt; pattern_prints_behind(alloc, "(?:ab){2,3}", "", "(?:ab){2,3}")?);
+    assert!(rt; pattern_prints_behind(alloc, "(?:a|b)c", "x", "x(?:a|b)c")?);
     Ok(())
 }
 
@@ -195,19 +248,21 @@ fn an_empty_text_is_printed_without_memory(rt: HostRuntime) -> Result<(), Fail> 
     Ok(())
 }
 
-fn delegate(alloc: Global, text: &str) -> Result<Expr, AllocError> {
-    Ok(Expr::Delegate {
+/// Whether the text is one whole class or class escape, as a Delegate.
+fn is_delegate(alloc: Global, text: &str) -> Result<bool, AllocError> {
+    let tree = Expr::Delegate {
         inner: String::from_str(alloc, text)?,
         casei: false,
-    })
+    };
+    tree.is_printable(alloc)
 }
 
 #[test]
 fn what_is_printable_is_told_or_refused(rt: HostRuntime) -> Result<(), AllocError> {
     let alloc = rt.alloc();
-    assert!(rt; delegate(alloc, "[a-z&&[^b]]")?.is_printable(alloc)?);
-    assert!(rt; delegate(alloc, "\\p{Greek}")?.is_printable(alloc)?);
-    assert!(rt; !delegate(alloc, "[a]b")?.is_printable(alloc)?);
-    assert!(rt; !delegate(alloc, "\\p{Greek")?.is_printable(alloc)?);
+    assert!(rt; is_delegate(alloc, "[a-z&&[^b]]")?);
+    assert!(rt; is_delegate(alloc, "\\p{Greek}")?);
+    assert!(rt; !is_delegate(alloc, "[a]b")?);
+    assert!(rt; !is_delegate(alloc, "\\p{Greek")?);
     Ok(())
 }
