@@ -28,7 +28,7 @@ use Rattle.fancy_grammar.specs.State.{State, at, Outcome, done, fault}
 use Rattle.fancy_grammar.specs.Tree.{Tree, more_trees, empty, concat, alt, absent, expression, trees_of, list_of, nodes, depth}
 use Rattle.fancy_grammar.specs.Quantified.{Suffix}
 use Rattle.fancy_grammar.proofs.LevelLaws.{size, resolved_size, levels, levels_all, resolved_levels}
-use Rattle.fancy_grammar.proofs.OutcomeLemmas.{Holds, then_holds}
+use Rattle.fancy_grammar.proofs.OutcomeLemmas.{Holds, then_holds, behind_keeps}
 use Rattle.fancy_grammar.proofs.ReadLaws.{Makes, IsReadLeaf, ReadAhead, ahead_read}
 use Rattle.fancy_grammar.proofs.Slices.{one_bytes, fits, here, bare, skipped_slice, suffix_slice, counts_past, LeafSlice, AheadSlice, ahead_slice, layout_slice, SkippedSlice, trees_back}
 
@@ -349,9 +349,10 @@ mutual
   piece_fits (layout_fault k) l = tt
 
   atom_fits : {n d : ℕ} {s : State} {o : Outcome Tree} → Atom n d s o → d < 64 → Holds (Fits 820 d s) o
-  atom_fits (atom {n} {d} {s} e a) l =
-      of_fits a l (subst (AheadSlice n s) e (ahead_slice n d s)) (subst ReadAhead e (ahead_read n d s))
-      (subst (OpensBelow d) e (ahead_below n d s))
+  atom_fits (atom {n} {d} {s} {q} {k} e a b) l =
+      let h = of_fits a l (subst (AheadSlice n s) e (ahead_slice n d s)) (subst ReadAhead e (ahead_read n d s))
+          (subst (OpensBelow d) e (ahead_below n d s)) in
+      let P = Holds (Fits 820 d s) in subst P b (behind_keeps P (λ r t f i. i) k s.flags q h)
 
   of_fits : {k : Ahead} {n d : ℕ} {s : State} {o : Outcome Tree} → AtomOf k n d s o → d < 64 →
       AheadSlice n s k → ReadAhead k → OpensBelow d k → Holds (Fits 820 d s) o

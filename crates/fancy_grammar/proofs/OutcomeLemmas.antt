@@ -5,12 +5,20 @@ use Rattle.fancy_lex.specs.Text.{Text, strip}
 use Rattle.fancy_lex.specs.declared.error.Error.{Error}
 use Rattle.fancy_lex.specs.declared.error.Error.TheVariants.{ParseError, OutOfMemory}
 use Rattle.fancy_lex.specs.Characters.{bar}
-use Rattle.fancy_grammar.specs.Ahead.{ends}
-use Rattle.fancy_grammar.specs.Grammar.{before, Branch, Branches, more, Piece, Pieces, next}
+use Rattle.fancy_lex.specs.declared.flags.Flags.{Flags}
+use Rattle.fancy_grammar.specs.Ahead.{Ahead, nothing, leaf, opens, condition, body, absent_branch, ends}
+use Rattle.fancy_grammar.specs.Grammar.{before, restored, behind_atom, Branch, Branches, more, Piece, Pieces, next}
 use Rattle.fancy_grammar.specs.Join.{is_empty, solid}
 use Rattle.fancy_grammar.specs.Fails.{Fails, IsFaultAt}
 use Rattle.fancy_grammar.specs.State.{State, at, Outcome, done, fault, and_then}
 use Rattle.fancy_grammar.specs.Tree.{Tree}
+
+-- the same tree with other flags
+then_keeps : (P : Outcome Tree → Type 0) →
+    ((r : Tree) (t : State) (f : Flags) → P (done r t) → P (done r (record t { flags = f }))) →
+    (f : Flags) (q : Outcome Tree) → P q → P (restored f q)
+then_keeps P g f (done r t) h = g r t f h
+then_keeps P g f (fault k p) h = h
 
 -- what was read is so, where it ends
 abbrev pub Holds : {A : Type 0} → (A → State → Type 0) → Outcome A → Type 0
@@ -23,6 +31,17 @@ pub then_holds : {A B : Type 0} (P : A → State → Type 0) (Q : B → State �
     ((a : A) (s : State) → P a s → Holds Q (f a s)) → Holds Q o
 then_holds P Q (done a s) f h e g = subst (Holds Q) e (g a s h)
 then_holds P Q (fault k p) f h e g = subst (Holds Q) e tt
+
+-- what says nothing of the flags behind an atom holds whatever they are
+pub behind_keeps : (P : Outcome Tree → Type 0) →
+    ((r : Tree) (t : State) (f : Flags) → P (done r t) → P (done r (record t { flags = f }))) →
+    (k : Ahead) (f : Flags) (q : Outcome Tree) → P q → P (behind_atom k f q)
+behind_keeps P g nothing f q h = h
+behind_keeps P g (leaf o) f q h = h
+behind_keeps P g (opens a s) f q h = then_keeps P g f q h
+behind_keeps P g (condition s) f q h = then_keeps P g f q h
+behind_keeps P g (body c s) f q h = then_keeps P g f q h
+behind_keeps P g (absent_branch s) f q h = then_keeps P g f q h
 
 pub Fails-map : {A B : Type 0} (P : Outcome A → Type 0) (Q : Outcome B → Type 0) (e : Error) →
     ((k : Kind) (p : ℕ) → P (fault k p) → Q (fault k p)) → Fails e P → Fails e Q

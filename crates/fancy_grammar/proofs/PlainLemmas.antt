@@ -89,5 +89,5 @@ pub is_plain : (s : State) (c d : ℕ) (t u : Text) → is_layout s.flags.ignore
     s.rest ≡ c ∷ t → t ≡ d ∷ u → is_special c ≡ false → is_suffix d ≡ false → IsPlain s c t
 is_plain s c d t u x y e f h k = record {
   more = ap ends e ∙ no_end c t h;
-  piece = λ m b. piece (rw e (no_layout m c s.flags.ignore_space t (not_open c h) x)) (atom (is_leaf m b c s t h) a_leaf) (rw f (no_quants m b _ _ (at s (d ∷ u)) (λ l. no_quant m l d _ s u y k)));
+  piece = λ m b. piece (rw e (no_layout m c s.flags.ignore_space t (not_open c h) x)) (atom (is_leaf m b c s t h) a_leaf refl) (rw f (no_quants m b _ _ (at s (d ∷ u)) (λ l. no_quant m l d _ s u y k)));
 }

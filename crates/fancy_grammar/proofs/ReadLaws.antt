@@ -29,7 +29,7 @@ use Rattle.fancy_grammar.specs.Tree.{Tree, Trees, no_trees, more_trees, literal,
 use Rattle.fancy_grammar.specs.Verb.{verb_at}
 use Rattle.fancy_grammar.specs.Quantified.{Suffix}
 use Rattle.fancy_grammar.proofs.LevelLaws.{levels}
-use Rattle.fancy_grammar.proofs.OutcomeLemmas.{Holds, then_holds}
+use Rattle.fancy_grammar.proofs.OutcomeLemmas.{Holds, then_holds, behind_keeps}
 
 -- what holds of a node of a raw tree: it is none that resolving makes, and what holds of an answered one
 abbrev pub IsReadNode : Tree → Type 0
@@ -334,7 +334,9 @@ mutual
   piece_read (layout_fault l) = tt
 
   atom_read : {n d : ℕ} {s : State} {o : Outcome Tree} → Atom n d s o → Makes IsRead o
-  atom_read (atom {n} {d} {s} e a) = of_read a (subst ReadAhead e (ahead_read n d s))
+  atom_read (atom {n} {d} {s} {q} {k} e a b) =
+      let h = of_read a (subst ReadAhead e (ahead_read n d s)) in
+      subst (Makes IsRead) b (behind_keeps (Makes IsRead) (λ r t f i. i) k s.flags q h)
 
   of_read : {k : Ahead} {n d : ℕ} {s : State} {o : Outcome Tree} → AtomOf k n d s o → ReadAhead k → Makes IsRead o
   of_read a_nothing h = (tt, tt)

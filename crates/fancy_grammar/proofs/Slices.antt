@@ -32,6 +32,7 @@ use Rattle.fancy_parts.specs.HeadReference.{named_reference, named_call, begins_
 use Rattle.fancy_parts.specs.FlagLetters.{Letters, letters, setting, scope as scoped}
 use Rattle.fancy_parts.specs.Quantifier.{counts, braced_counts, counts_from, in_braces, spaced_count, past_layout, count, count_of, exact_or_range, most}
 use Rattle.fancy_parts.specs.declared.counts.Counts.{Counts}
+use Rattle.fancy_grammar.proofs.OutcomeLemmas.{behind_keeps}
 use Rattle.fancy_grammar.specs.Ahead.{Ahead, nothing, leaf, opens, condition, body, absent_branch, ahead, ahead_of, behind_layout, head_ahead, question_ahead, python_ahead, less_ahead, absent_ahead, conditional_ahead, condition_ahead, flags_ahead, leaf_node, leaf_outcome, leaf_of, is_before_nothing, max_depth, skipped, named_ahead, target_ahead, backref_node, call_node}
 use Rattle.fancy_grammar.specs.Grammar.{Alternation, alternation, Branches, last, more, branch_fault, Branch, branch, Pieces, stop, next, piece_fault, Piece, piece, layout_fault, Atom, atom, AtomOf, a_nothing, a_leaf, a_group, a_condition, condition_fault, a_body, two_branches, one_branch, absent_fault, Inside, inside, Body, the_body, Whole, whole, start, closed, closed_at, ended, ended_at, branches_of, conditional_of, conditional_behind, is_condition, alone}
 use Rattle.fancy_grammar.specs.Head.{Head, capture, scope, look, atomic, define, repeater, node_of}
@@ -658,7 +659,9 @@ mutual
   piece_slice (layout_fault {n} {p} {s} l) = subst (SkippedSlice n s.rest) l (layout_slice n s.flags.ignore_space s.rest)
 
   atom_slice : {n d : ℕ} {s : State} {o : Outcome Tree} → Atom n d s o → Within items n s o
-  atom_slice (atom {n} {d} {s} {k} e a) = of_slice a (subst (AheadSlice n s) e (ahead_slice n d s))
+  atom_slice (atom {n} {d} {s} {q} {k} e a b) =
+      let h = of_slice a (subst (AheadSlice n s) e (ahead_slice n d s)) in
+      subst (Within items n s) b (behind_keeps (Within items n s) (λ r t f i. i) k s.flags q h)
 
   of_slice : {k : Ahead} {n d : ℕ} {s : State} {o : Outcome Tree} → AtomOf k n d s o → AheadSlice n s k → Within items n s o
   of_slice (a_nothing {n} {s}) h = bare n (here s.rest)

@@ -5,7 +5,8 @@ use Rattle.fancy_lex.specs.Text.{Text, bytes, place_of}
 use Rattle.fancy_lex.specs.declared.flags.Flags.{Flags}
 use Rattle.fancy_lex.specs.Layout.{rest, fault as open_comment}
 use Rattle.fancy_grammar.specs.Ahead.{Ahead, skipped}
-use Rattle.fancy_grammar.specs.Grammar.{Alternation, alternation, Branches, last, more, branch_fault, Branch, branch, Pieces, stop, next, piece_fault, Piece, piece, layout_fault, Atom, atom, AtomOf, a_nothing, a_leaf, a_group, a_condition, condition_fault, a_body, two_branches, one_branch, absent_fault, Inside, inside, Body, the_body, Whole, whole, closed, group_behind, conditional_behind, alone}
+use Rattle.fancy_grammar.specs.Grammar.{Alternation, alternation, Branches, last, more, branch_fault, Branch, branch, Pieces, stop, next, piece_fault, Piece, piece, layout_fault, Atom, atom, AtomOf, a_nothing, a_leaf, a_group, a_condition, condition_fault, a_body, two_branches, one_branch, absent_fault, Inside, inside, Body, the_body, Whole, whole, closed, conditional_behind, alone}
+use Rattle.fancy_grammar.specs.Head.{node_of}
 use Rattle.fancy_grammar.specs.Quantified.{quants}
 use Rattle.fancy_grammar.specs.State.{State, at, Outcome, done, fault, and_then, seen_through}
 use Rattle.fancy_grammar.specs.Tree.{Tree, absent, expression}
@@ -92,14 +93,14 @@ mutual
   piece_unique (layout_fault {n} l) (layout_fault m) e = let h = same_skipped n e in cc
 
   atom_unique : {n d : ℕ} {s z : State} {o q : Outcome Tree} → Atom n d s o → Atom n d z q → s ≡ z → o ≡ q
-  atom_unique (atom {n} {d} {k} f a) (atom {s = z} {o = q} {k = l} g b) e =
-      let i : l ≡ k = cc in of_unique a (subst (λ (x : Ahead). AtomOf x n d z q) i b) e
+  atom_unique (atom {n} {d} {k} f a h) (atom {s = z} {q} {k = l} g b m) e =
+      let i : l ≡ k = cc in let same = of_unique a (subst (λ (x : Ahead). AtomOf x n d z q) i b) e in cc
 
   of_unique : {k : Ahead} {n d : ℕ} {s z : State} {o q : Outcome Tree} → AtomOf k n d s o → AtomOf k n d z q → s ≡ z → o ≡ q
   of_unique a_nothing a_nothing e = cc
   of_unique a_leaf a_leaf e = cc
   of_unique (a_group {n} {h} {q} a f) (a_group b g) e =
-      sym f ∙ ap (λ (x : State). and_then q (group_behind h (place_of n x.rest) x.flags)) e ∙ then_same _ refl g (inside_unique a b refl)
+      sym f ∙ ap (λ (x : State). seen_through (node_of h (place_of n x.rest)) q) e ∙ then_same _ refl g (inside_unique a b refl)
   of_unique (a_condition i a) (a_condition j b) e =
       let h = inside_unique i j refl in body_unique a b (value_of h) (state_of h)
   of_unique (a_condition i a) (condition_fault j) e = absurd (done_or_fault (inside_unique i j refl))

@@ -10,7 +10,7 @@ use Rattle.fancy_lex.specs.Layout.{rest, fault as open_comment}
 use Rattle.fancy_lex.specs.Text.{Text, bytes, place_of, strip}
 use Rattle.fancy_lex.specs.declared.flags.Flags.{Flags}
 use Rattle.fancy_grammar.specs.Ahead.{Ahead, nothing, leaf, opens, condition, body, absent_branch, ahead, ends, skipped}
-use Rattle.fancy_grammar.specs.Head.{Head, node_of, flags_behind}
+use Rattle.fancy_grammar.specs.Head.{Head, node_of}
 use Rattle.fancy_grammar.specs.Join.{join, choice, is_empty}
 use Rattle.fancy_grammar.specs.Quantified.{quants}
 use Rattle.fancy_grammar.specs.State.{State, at, Outcome, done, fault, faulted, and_then, seen_through}
@@ -27,10 +27,6 @@ closed_at n r s (c ∷ t) =
 
 abbrev pub closed : ℕ → Tree → State → Outcome Tree
 closed n r s = closed_at n r s s.rest
-
--- the group that the head opens at the place p, under the flags f, behind its closing parenthesis
-abbrev pub group_behind : Head → ℕ → Flags → Tree → State → Outcome Tree
-group_behind h p f r s = done (node_of h p r) (record s { flags = flags_behind h f s.flags })
 
 -- whether the tree is a condition on a group, before it is resolved
 abbrev pub is_condition_node : AstTree → Bool
@@ -60,6 +56,18 @@ conditional_behind n c left r s =
 -- a branch behind `(?~|`, where no other follows
 abbrev pub alone : Tree → Tree
 alone a = if is_empty a then absent clear else absent (stopper a)
+
+-- ---- the flags behind an atom
+
+-- what is read, with these flags behind it
+abbrev pub restored : Flags → Outcome Tree → Outcome Tree
+restored f q = and_then q (λ r t. done r (record t { flags = f }))
+
+-- behind a group the flags f from before it hold again; a leaf, as `(?flags)`, leaves its own
+abbrev pub behind_atom : Ahead → Flags → Outcome Tree → Outcome Tree
+behind_atom nothing f q = q
+behind_atom (leaf o) f q = q
+behind_atom _ f q = restored f q
 
 -- ---- the productions
 
@@ -96,13 +104,14 @@ mutual
 
   -- what stands ahead decides which rule of an atom applies
   pub data Atom : ℕ → ℕ → State → Outcome Tree → Type 0 where
-    atom : {n d : ℕ} {s : State} {o : Outcome Tree} {k : Ahead} → ahead n d s ≡ k → AtomOf k n d s o → Atom n d s o
+    atom : {n d : ℕ} {s : State} {q o : Outcome Tree} {k : Ahead} → ahead n d s ≡ k → AtomOf k n d s q →
+        behind_atom k s.flags q ≡ o → Atom n d s o
 
   pub data AtomOf : Ahead → ℕ → ℕ → State → Outcome Tree → Type 0 where
     a_nothing : {n d : ℕ} {s : State} → AtomOf nothing n d s (done empty s)
     a_leaf : {n d : ℕ} {s : State} {o : Outcome Tree} → AtomOf (leaf o) n d s o
     a_group : {n d : ℕ} {h : Head} {s t : State} {q o : Outcome Tree} → Inside n d t q →
-        and_then q (group_behind h (place_of n s.rest) s.flags) ≡ o → AtomOf (opens h t) n d s o
+        seen_through (node_of h (place_of n s.rest)) q ≡ o → AtomOf (opens h t) n d s o
     -- a conditional: its condition's parentheses, and its body
     a_condition : {n d : ℕ} {s t v : State} {c : Tree} {o : Outcome Tree} → Inside n d t (done c v) → Body n d c v o →
         AtomOf (condition t) n d s o

@@ -1,7 +1,6 @@
 -- What opens a group that holds one alternation, and what the group comes to.
 use Rattle.std.specs.Prelude.{ℕ, Option}
 use Rattle.fancy_lex.specs.Text.{Text}
-use Rattle.fancy_lex.specs.declared.flags.Flags.{Flags}
 use Rattle.fancy_grammar.specs.Tree.{Tree, look_around, atomic_group, define_group, absent, repeater as repeater_of}
 use Rattle.fancy_grammar.specs.Tree.{ast_node, ast_group}
 use Rattle.fancy_grammar.specs.declared.kinds.LookAround.{LookAround}
@@ -22,8 +21,3 @@ node_of (look l) p t = look_around t l
 node_of atomic p t = atomic_group t
 node_of define p t = define_group t
 node_of repeater p t = absent (repeater_of t)
-
--- the flags behind a group, from those before it and those at the end of its inside
-abbrev pub flags_behind : Head → Flags → Flags → Flags
-flags_behind scope before inside = before
-flags_behind _ before inside = inside

@@ -6,22 +6,22 @@ use Rattle.fancy_lex.specs.Characters.{bar}
 use Rattle.fancy_lex.specs.Fault.{Kind}
 use Rattle.fancy_lex.specs.FaultTable.{bar_for_close_paren, body_wanting}
 use Rattle.fancy_lex.specs.Layout.{rest, fault as open_comment}
-use Rattle.fancy_lex.specs.Text.{Text, bytes, strip}
+use Rattle.fancy_lex.specs.Text.{Text, bytes, place_of, strip}
 use Rattle.fancy_lex.specs.declared.error.Error.{Error}
 use Rattle.fancy_lex.specs.declared.flags.Flags.{Flags}
 use Rattle.fancy_lex.specs.declared.error.Error.TheVariants.{ParseError}
 use Rattle.fancy_lex.specs.declared.error.ParseError.TheVariants.{UnclosedOpenParen}
 use Rattle.fancy_grammar.specs.Ahead.{ends, skipped}
-use Rattle.fancy_grammar.specs.Grammar.{Alternation, alternation, Branches, last, branch_fault, Branch, branch, stop, piece_fault, Piece, piece, layout_fault, Atom, atom, inside, the_body, condition_fault, two_branches, one_branch, absent_fault, closed, closed_at, group_behind, conditional_behind, conditional_of, branches_of}
+use Rattle.fancy_grammar.specs.Grammar.{Alternation, alternation, Branches, last, branch_fault, Branch, branch, stop, piece_fault, Piece, piece, layout_fault, Atom, atom, inside, the_body, condition_fault, two_branches, one_branch, absent_fault, closed, closed_at, restored, conditional_behind, conditional_of, branches_of}
 use Rattle.fancy_grammar.specs.Grammar as grammar
 use Rattle.fancy_grammar.specs.Join.{solid, one_or, choice}
-use Rattle.fancy_syntax.specs.Machine.{parens, Open, top, group, condition, body, first, second, open_of, holds_one, is_second, opened_by_bar, branches_at_bar, IsFaultOfBar, Part, Opens, a_group, a_condition, a_body, behind_condition, a_branch, behind_branch, lacks_body, node_of_part, goes_on, behind_part, ended_part, StepsOn, GivesPiece, Reading, Levels, outermost, inner}
+use Rattle.fancy_syntax.specs.Machine.{parens, Open, top, group, condition, body, first, second, open_of, holds_one, is_second, opened_by_bar, branches_at_bar, IsFaultOfBar, Part, Opens, a_group, a_condition, a_body, behind_condition, a_branch, behind_branch, lacks_body, node_of_part, goes_on, ended_part, Began, StepsOn, GivesPiece, Reading, Levels, outermost, inner}
 use Rattle.fancy_grammar.specs.Grammar.{before}
 use Rattle.fancy_grammar.specs.Head.{Head, node_of}
 use Rattle.fancy_grammar.specs.Quantified.{quants}
 use Rattle.fancy_grammar.specs.Fails.{Fails}
 use Rattle.fancy_syntax.specs.Row.{trees}
-use Rattle.fancy_grammar.specs.State.{State, at, Outcome, done, fault, faulted, and_then}
+use Rattle.fancy_grammar.specs.State.{State, at, Outcome, done, fault, faulted, and_then, seen_through}
 use Rattle.fancy_grammar.specs.Tree.{Tree, concat, absent, expression}
 use Rattle.fancy_syntax.specs.declared.grammar.frame.Frame.{Frame}
 use Rattle.fancy_syntax.specs.declared.grammar.step.Step.{Step}
@@ -53,41 +53,26 @@ steps_layout n d s e i l = rw i (layout_fault l)
 
 -- a fault inside is the piece's
 pub opens_fault : {n d p : ℕ} {s v : State} {k : Kind} {o : Open} → Opens n d s o v → Part o n (d + 1) v (fault k p) → Piece n d s (fault k p)
-opens_fault (a_group l e) r = piece l (atom e (grammar.a_group (inside r refl) refl)) refl
-opens_fault (a_condition l e) r = piece l (atom e (condition_fault (inside r refl))) refl
-opens_fault (a_body l e) r = piece l (atom e (grammar.a_body (the_body r refl))) refl
-opens_fault (behind_condition (a_condition l e) i) r = piece l (atom e (grammar.a_condition i (the_body r refl))) refl
-opens_fault (a_branch l e) r = piece l (atom e (absent_fault r)) refl
-opens_fault (behind_branch (a_branch l e) b f) r = piece l (atom e (two_branches b f r refl)) refl
+opens_fault (a_group l e) r = piece l (atom e (grammar.a_group (inside r refl) refl) refl) refl
+opens_fault (a_condition l e) r = piece l (atom e (condition_fault (inside r refl)) refl) refl
+opens_fault (a_body l e) r = piece l (atom e (grammar.a_body (the_body r refl)) refl) refl
+opens_fault (behind_condition (a_condition l e) i) r = piece l (atom e (grammar.a_condition i (the_body r refl)) refl) refl
+opens_fault (a_branch l e) r = piece l (atom e (absent_fault r) refl) refl
+opens_fault (behind_branch (a_branch l e) b f) r = piece l (atom e (two_branches b f r refl) refl) refl
 
 -- a closing parenthesis is taken whatever the tree
-closed_through : (n : ℕ) (f : Tree → Tree) (g : Tree → State → Outcome Tree) (r : Tree) (s : State) →
-    and_then (closed n (f r) s) g ≡ and_then (closed n r s) (λ x t. g (f x) t)
-closed_through n f g r s = by_text s.rest
+closed_through : (n : ℕ) (f : Tree → Tree) (r : Tree) (s : State) → seen_through f (closed n r s) ≡ closed n (f r) s
+closed_through n f r s = by_text s.rest
   where
     by_test : (u : Text) (b : Bool) →
-        and_then (if b then done (f r) (at s u) else faulted (bar_for_close_paren n s.rest)) g
-        ≡ and_then (if b then done r (at s u) else faulted (bar_for_close_paren n s.rest)) (λ x t. g (f x) t)
+        seen_through f (if b then done r (at s u) else faulted (bar_for_close_paren n s.rest))
+        ≡ (if b then done (f r) (at s u) else faulted (bar_for_close_paren n s.rest))
     by_test u true = refl
     by_test u false = refl
 
-    by_text : (u : Text) → and_then (closed_at n (f r) s u) g ≡ and_then (closed_at n r s u) (λ x t. g (f x) t)
+    by_text : (u : Text) → seen_through f (closed_at n r s u) ≡ closed_at n (f r) s u
     by_text [] = refl
     by_text (c ∷ u) = by_test u (c == code ")")
-
-kept : (o : Outcome Tree) → o ≡ and_then o (λ x t. done x t)
-kept (done r s) = refl
-kept (fault k p) = refl
-
--- what comes out where a part ends, as the grammar says it
-group_ends : (n : ℕ) (h : Head) (p : ℕ) (f : Flags) (r : Tree) (s : State) →
-    and_then (closed n r s) (group_behind h p f) ≡ ended_part n (group h p f) r s
-group_ends n h p f r s = sym (closed_through n (node_of h p) (behind_part (group h p f)) r s)
-
-body_ends : (n : ℕ) (c : Tree) (left : ℕ) (r : Tree) (s : State) → conditional_behind n c left r s ≡ ended_part n (body c left) r s
-body_ends n c left r s =
-    let whole = conditional_of c (branches_of r).0 (branches_of r).1 in
-    ap (λ o. if lacks_body (body c left) s then faulted (body_wanting n s.rest) else o) (kept (closed n whole s))
 
 pub ended_without_body : (n : ℕ) (p : Open) (r : Tree) (s : State) → lacks_body p s ≡ true →
     ended_part n p r s ≡ faulted (body_wanting n s.rest)
@@ -97,28 +82,25 @@ pub ended_unclosed : (n : ℕ) (p : Open) (r : Tree) (s : State) {k : Kind} {q :
     ended_part n p r s ≡ fault k q
 ended_unclosed n p r s e h = rw (e, h) refl
 
-pub ended_closed : (n : ℕ) (p : Open) (r : Tree) (s t : State) → lacks_body p s ≡ false → closed n (node_of_part p r) s ≡ done (node_of_part p r) t →
-    ended_part n p r s ≡ behind_part p (node_of_part p r) t
-ended_closed n p r s t e h = rw (e, h) refl
-
 -- a part may be followed by a bar only where it is the second branch of an absent expression, and then by a fault
 abbrev MayEnd : Open → State → Type 0
 MayEnd p s = holds_one p ≡ true → is_second p ≡ false → strip bar s.rest ≡ None
 
--- a part ends, and with it the atom
+-- a part ends, and with it the atom: the flags from before it hold again
 opens_ended : {n d : ℕ} {s v : State} {p : Open} (r : Tree) (w : State) → Opens n d s p v → Part p n (d + 1) v (done r w) → goes_on p ≡ false →
-    MayEnd p w → (t : Text) × (skipped n s ≡ rest t) × Atom n d (at s t) (ended_part n p r w)
-opens_ended q w (a_group {u} l e) r g f = (u, l, atom e (grammar.a_group (inside r refl) (group_ends _ _ _ _ q w)))
+    MayEnd p w → (t : Text) × (skipped n s ≡ rest t) × Atom n d (at s t) (restored s.flags (ended_part n p r w))
+opens_ended {n} q w (a_group {h} {u} l e) r g f =
+    (u, l, atom e (grammar.a_group (inside r refl) (closed_through n (node_of h (place_of n u)) q w)) refl)
 opens_ended q w (a_condition l e) r g f = absurd (true≢false g)
-opens_ended q w (a_body {u} l e) r g f = (u, l, atom e (grammar.a_body (the_body r (body_ends _ _ _ q w))))
-opens_ended q w (behind_condition (a_condition {u} l e) i) r g f = (u, l, atom e (grammar.a_condition i (the_body r (body_ends _ _ _ q w))))
-opens_ended q w (a_branch {u} l e) r g f = (u, l, atom e (one_branch r (f refl refl) (kept _)))
-opens_ended q w (behind_branch (a_branch {u} l e) b i) r g f = (u, l, atom e (two_branches b i r (kept _)))
+opens_ended q w (a_body {u} l e) r g f = (u, l, atom e (grammar.a_body (the_body r refl)) refl)
+opens_ended q w (behind_condition (a_condition {u} l e) i) r g f = (u, l, atom e (grammar.a_condition i (the_body r refl)) refl)
+opens_ended q w (a_branch {u} l e) r g f = (u, l, atom e (one_branch r (f refl refl) refl) refl)
+opens_ended q w (behind_branch (a_branch {u} l e) b i) r g f = (u, l, atom e (two_branches b i r refl) refl)
 
 -- where the atom goes on, the body of the conditional comes next
 pub condition_ended : {n d : ℕ} {s v t : State} {p : Open} {c : Tree} (r : Tree) (w : State) → Opens n d s p v → Part p n (d + 1) v (done r w) → goes_on p ≡ true →
     ended_part n p r w ≡ done c t → Opens n d s (body c (bytes t.rest)) t
-condition_ended {n} r w (a_condition l e) x g h = behind_condition (a_condition l e) (inside x (kept (closed n r w) ∙ h))
+condition_ended r w (a_condition l e) x g h = behind_condition (a_condition l e) (inside x h)
 condition_ended r w (a_group l e) x g h = absurd (true≢false (sym g))
 condition_ended r w (a_body l e) x g h = absurd (true≢false (sym g))
 condition_ended r w (behind_condition x y) z g h = absurd (true≢false (sym g))
@@ -128,24 +110,29 @@ condition_ended r w (behind_branch x y z) a g h = absurd (true≢false (sym g))
 -- a fault at the end of a part is the piece's
 pub ended_fault : {n d q : ℕ} {s v : State} {k : Kind} {p : Open} (r : Tree) (w : State) → Opens n d s p v → Part p n (d + 1) v (done r w) →
     MayEnd p w → ended_part n p r w ≡ fault k q → Piece n d s (fault k q)
-ended_fault {n} r w (a_condition l e) x f h = piece l (atom e (condition_fault (inside x (kept (closed n r w) ∙ h)))) refl
-ended_fault {n} {d} {s} r w (a_group l e) x f h =
-    let (u, i, y) = opens_ended r w (a_group l e) x refl f in piece i (subst (Atom n d (at s u)) h y) refl
-ended_fault {n} {d} {s} r w (a_body l e) x f h =
-    let (u, i, y) = opens_ended r w (a_body l e) x refl f in piece i (subst (Atom n d (at s u)) h y) refl
-ended_fault {n} {d} {s} r w (behind_condition a b) x f h =
-    let (u, i, y) = opens_ended r w (behind_condition a b) x refl f in piece i (subst (Atom n d (at s u)) h y) refl
-ended_fault {n} {d} {s} r w (a_branch l e) x f h =
-    let (u, i, y) = opens_ended r w (a_branch l e) x refl f in piece i (subst (Atom n d (at s u)) h y) refl
-ended_fault {n} {d} {s} r w (behind_branch a b c) x f h =
-    let (u, i, y) = opens_ended r w (behind_branch a b c) x refl f in piece i (subst (Atom n d (at s u)) h y) refl
+ended_fault {n} {d} {q} {s} {k} {p} r w x y f h = by_goes (goes_on p) refl
+  where
+    of_condition : {v : State} {p : Open} → Opens n d s p v → Part p n (d + 1) v (done r w) → goes_on p ≡ true →
+        ended_part n p r w ≡ fault k q → Piece n d s (fault k q)
+    of_condition (a_condition l e) x g h = piece l (atom e (condition_fault (inside x h)) refl) refl
+    of_condition (a_group l e) x g h = absurd (true≢false (sym g))
+    of_condition (a_body l e) x g h = absurd (true≢false (sym g))
+    of_condition (behind_condition x y) z g h = absurd (true≢false (sym g))
+    of_condition (a_branch l e) x g h = absurd (true≢false (sym g))
+    of_condition (behind_branch x y z) a g h = absurd (true≢false (sym g))
+
+    by_goes : (b : Bool) → goes_on p ≡ b → Piece n d s (fault k q)
+    by_goes true g = of_condition x y g h
+    by_goes false g =
+        let (u, i, a) = opens_ended r w x y g f in piece i (subst (Atom n d (at s u)) (ap (restored s.flags) h) a) refl
 
 -- the atom that ends with a part, under its quantifiers
 pub closes : {n d left : ℕ} {s v t : State} {a : Tree} {p : Open} (r : Tree) (w : State) (q : Result Step Error) (z : State) → Opens n d s p v →
     Part p n (d + 1) v (done r w) → goes_on p ≡ false → strip bar w.rest ≡ None → ended_part n p r w ≡ done a t → left ≡ bytes s.rest →
-    GivesPiece q (quants n d left a t) z → StepsOn q n d s z
+    GivesPiece q (quants n d left a (record t { flags = s.flags })) z → StepsOn q n d s z
 closes {n} {d} {s} r w q z x y g f h i e =
-    let (u, l, b) = opens_ended r w x y g (λ _ _. f) in steps_piece s q z i l (subst (Atom n d (at s u)) h b) e
+    let (u, l, b) = opens_ended r w x y g (λ _ _. f) in
+    steps_piece s q z i l (subst (Atom n d (at s u)) (ap (restored s.flags) h) b) e
 
 -- ---- what is read of the innermost part
 
@@ -210,7 +197,7 @@ reading_alternation h e f = alternation (h.all _ (last (reading_branch h e) f)) 
 reading_end : {n d : ℕ} {s t : State} {bs ps : List Tree} (p : Open) → Reading n d p s bs ps t → ends t.rest ≡ true → strip bar t.rest ≡ None →
     Part p n d s (done (choice (bs ++ joined ps ∷ [])) t)
 reading_end top h e f = reading_alternation h e f
-reading_end (group _ _ _) h e f = reading_alternation h e f
+reading_end (group _ _) h e f = reading_alternation h e f
 reading_end condition h e f = reading_alternation h e f
 reading_end (body _ _) h e f = reading_alternation h e f
 reading_end {n} {d} {s} {t} {ps} first h e f =
@@ -225,7 +212,7 @@ reading_branch_fault {q} {k} h e a = branch (h.branch (fault k q) (piece_fault e
 reading_fault : {n d q : ℕ} {s t : State} {k : Kind} {bs ps : List Tree} (p : Open) → Reading n d p s bs ps t → ends t.rest ≡ false →
     Piece n d t (fault k q) → Part p n d s (fault k q)
 reading_fault {q} {k} top h e a = alternation (h.all (fault k q) (branch_fault (reading_branch_fault h e a))) refl
-reading_fault {q} {k} (group _ _ _) h e a = alternation (h.all (fault k q) (branch_fault (reading_branch_fault h e a))) refl
+reading_fault {q} {k} (group _ _) h e a = alternation (h.all (fault k q) (branch_fault (reading_branch_fault h e a))) refl
 reading_fault {q} {k} condition h e a = alternation (h.all (fault k q) (branch_fault (reading_branch_fault h e a))) refl
 reading_fault {q} {k} (body _ _) h e a = alternation (h.all (fault k q) (branch_fault (reading_branch_fault h e a))) refl
 reading_fault {n} {d} {q} {k} first h e a = subst (λ (x : State). Branch n d x (fault k q)) (h.one refl).0 (reading_branch_fault h e a)
@@ -263,7 +250,7 @@ record Outer (n : ℕ) (start : State) (gs : List Frame) (g : Frame) (o : Open) 
   deeper : d ≡ depth + 1
   levels : Levels n start gs (open_of g.opener) depth begin
   reading : Reading n depth (open_of g.opener) begin (trees g.branches) (trees g.pieces) here
-  left : g.left ≡ bytes here.rest
+  began : Began g here
   more : ends here.rest ≡ false
   opens : Opens n depth here o s
 
@@ -279,7 +266,7 @@ levels_pop {n} {start} gs g (inner {d} {s} {t} {frames} f i l h a m j) e =
       deeper = refl;
       levels = subst (λ (x : Frame). Levels n start gs (open_of x.opener) d s) p.1 (subst (λ x. Levels n start x (open_of f.opener) d s) p.0 l);
       reading = subst (λ (x : Frame). Reading n d (open_of x.opener) s (trees x.branches) (trees x.pieces) t) p.1 h;
-      left = subst (λ (x : Frame). x.left ≡ bytes t.rest) p.1 a;
+      began = subst (λ (x : Frame). Began x t) p.1 a;
       more = m;
       opens = j;
     }
@@ -304,9 +291,10 @@ running_start n start stack f e i j k = record {
 }
 
 -- what stands on the stack does not change by where the piece began
-pub running_left : {n : ℕ} {start t : State} {stack : List Frame} {f : Frame} (left : ℕ) → Running n start stack f t →
-    Running n start stack (record f { left = left }) t
-running_left left h = record { depth = h.depth; begin = h.begin; is_depth = h.is_depth; levels = h.levels; reading = h.reading }
+pub running_began : {n : ℕ} {start t : State} {stack : List Frame} {f : Frame} (left : ℕ) (flags : Flags) → Running n start stack f t →
+    Running n start stack (record f { left = left; flags = flags }) t
+running_began left flags h =
+    record { depth = h.depth; begin = h.begin; is_depth = h.is_depth; levels = h.levels; reading = h.reading }
 
 pub running_fault : {n : ℕ} {start t : State} {stack : List Frame} {f : Frame} {p : ℕ} {k : Kind} (h : Running n start stack f t) → ends t.rest ≡ false →
     Piece n (length stack) t (fault k p) → Alternation n 0 start (fault k p)
@@ -324,9 +312,9 @@ running_piece {n} {t} {v} {r} g h e a i j k = record {
   reading = rw i (reading_piece _ _ h.reading e (subst (λ d. Piece n d t (done r v)) (sym h.is_depth) a) j k);
 }
 
--- a part is opened in a piece that began where so many bytes were left
+-- a part is opened in the piece that began there
 pub running_open : {n : ℕ} {start t v : State} {stack : List Frame} {f : Frame} {o : Open} (all : List Frame) (g : Frame) → Running n start stack f t →
-    f.left ≡ bytes t.rest → ends t.rest ≡ false → Opens n (length stack) t o v → all ≡ stack ++ f ∷ [] → open_of g.opener ≡ o → trees g.branches ≡ [] →
+    Began f t → ends t.rest ≡ false → Opens n (length stack) t o v → all ≡ stack ++ f ∷ [] → open_of g.opener ≡ o → trees g.branches ≡ [] →
     trees g.pieces ≡ [] → Running n start all g v
 running_open {n} {t} {v} {stack} {f} {o} all g h b e a i j k l = record {
   depth = h.depth + 1;
@@ -361,7 +349,7 @@ running_bar {n} {start} {t} {u} {stack} {f} g h e b x i j k = by_open (open_of f
         is_second p ≡ false → open_of g.opener ≡ opened_by_bar p (joined (trees f.pieces)) →
         trees g.branches ≡ branches_at_bar p (trees f.branches) (joined (trees f.pieces)) → Running n start stack g (at t u)
     by_open top l r x i j = ordinary refl l r i j
-    by_open (group _ _ _) l r x i j = ordinary refl l r i j
+    by_open (group _ _) l r x i j = ordinary refl l r i j
     by_open condition l r x i j = ordinary refl l r i j
     by_open (body _ _) l r x i j = ordinary refl l r i j
     by_open first l r x i j = record {
@@ -389,7 +377,7 @@ bar_does_not_close e = omega (arith, e)
 second_fault : {n d p : ℕ} {start s t : State} {k : Kind} {a r : Tree} {fs : List Frame} → Levels n start fs (second a) d s → Branch n d s (done r t) →
     closed n (absent (expression a r)) t ≡ fault k p → Alternation n 0 start (fault k p)
 second_fault {n} {t} {a} {r} (inner f i l h m j x) b e =
-    levels_fault l (reading_fault (open_of f.opener) h j (ended_fault r t x b (λ _ z. absurd (true≢false z)) (sym (kept _) ∙ e)))
+    levels_fault l (reading_fault (open_of f.opener) h j (ended_fault r t x b (λ _ z. absurd (true≢false z)) e))
 
 pub running_bar_fault : {n : ℕ} {start t : State} {u : Text} {stack : List Frame} {f : Frame} (o : Outcome Tree) → Running n start stack f t →
     ends t.rest ≡ true → strip bar t.rest ≡ Some u → IsFaultOfBar (open_of f.opener) n t.rest o → Alternation n 0 start o
@@ -401,7 +389,7 @@ running_bar_fault {n} {start} {t} {u} {stack} {f} o h e b x = by_open (open_of f
         subst (Alternation n 0 start) (sym x)
         (second_fault l (reading_one r refl e) (closed_other n (absent (expression a (joined (trees f.pieces)))) t bar u (strip_is bar t.rest u b) bar_does_not_close))
     by_open top l r x = absurd x
-    by_open (group _ _ _) l r x = absurd x
+    by_open (group _ _) l r x = absurd x
     by_open condition l r x = absurd x
     by_open (body _ _) l r x = absurd x
     by_open first l r x = absurd x
@@ -425,7 +413,7 @@ pub record Closing (n : ℕ) (start : State) (stack : List Frame) (g : Frame) (o
   pub here : State
   pub inside : State
   pub outer : Running n start stack g here
-  pub left : g.left ≡ bytes here.rest
+  pub began : Began g here
   pub more : ends here.rest ≡ false
   pub opens : Opens n (length stack) here o inside
   pub whole : Part o n (length stack + 1) inside (done r t)
@@ -442,7 +430,7 @@ running_closing {n} {t} {f} stack g r q z h e a i j =
       here = o.here;
       inside = h.begin;
       outer = record { depth = o.depth; begin = o.begin; is_depth = m; levels = o.levels; reading = o.reading };
-      left = o.left;
+      began = o.began;
       more = o.more;
       opens = opens;
       whole = rw (z, i) (subst (λ d. Part (open_of f.opener) n d h.begin (done _ t)) (o.deeper ∙ ap (λ d. d + 1) m) (reading_end (open_of f.opener) h.reading e a));

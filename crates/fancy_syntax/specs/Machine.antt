@@ -8,18 +8,17 @@ use Rattle.fancy_lex.specs.FaultTable.{bar_for_close_paren, body_wanting}
 use Rattle.fancy_lex.specs.Layout.{rest}
 use Rattle.fancy_lex.specs.Text.{Text, bytes, place_of, strip}
 use Rattle.fancy_lex.specs.declared.error.Error.{Error}
-use Rattle.fancy_lex.specs.declared.flags.Flags.{Flags}
 use Rattle.fancy_grammar.specs.Ahead.{ahead, ends, skipped, max_depth}
 use Rattle.fancy_grammar.specs.Ahead as seen
 use Rattle.fancy_grammar.specs.Grammar.{Alternation, Branches, Branch, Pieces, Piece, Inside, closed, is_condition}
 use Rattle.fancy_grammar.specs.Grammar.{branches_of, conditional_of, alone, before}
-use Rattle.fancy_grammar.specs.Head.{Head, node_of, flags_behind}
+use Rattle.fancy_grammar.specs.Head.{Head, node_of}
 use Rattle.fancy_grammar.specs.Join.{solid}
 use Rattle.fancy_syntax.specs.Parsed.{head_of}
 use Rattle.fancy_grammar.specs.Fails.{Fails}
 use Rattle.fancy_syntax.specs.Row.{trees}
 use Rattle.fancy_grammar.specs.Slices.{Slice}
-use Rattle.fancy_grammar.specs.State.{State, at, Outcome, done, faulted, and_then}
+use Rattle.fancy_grammar.specs.State.{State, at, Outcome, done, faulted}
 use Rattle.fancy_grammar.specs.Tree.{Tree, absent, expression}
 use Rattle.fancy_syntax.specs.View.{view}
 use Rattle.fancy_syntax.specs.declared.grammar.frame.Frame.{Frame}
@@ -35,7 +34,7 @@ parens = count_by (λ c. c == code "(")
 -- what is open
 pub data Open : Type 0 where
   top : Open  -- the whole text
-  group : Head → ℕ → Flags → Open  -- a group that opens at the place, and the flags before it
+  group : Head → ℕ → Open  -- a group that opens at the place
   condition : Open  -- the condition of a conditional
   body : Tree → ℕ → Open  -- the body of a conditional of this condition, which began where so many bytes were left
   first : Open  -- the branch behind `(?~|`
@@ -43,7 +42,7 @@ pub data Open : Type 0 where
 
 abbrev pub open_of : Opener → Open
 open_of opener.Top = top
-open_of (opener.Group head place flags) = group (head_of head) place flags
+open_of (opener.Group head place) = group (head_of head) place
 open_of opener.Condition = condition
 open_of (opener.Body c left) = body (view c.value) left
 open_of opener.First = first
@@ -79,14 +78,14 @@ abbrev pub Part : Open → ℕ → ℕ → State → Outcome Tree → Type 0
 Part first n d s o = Branch n d s o
 Part (second a) n d s o = Branch n d s o
 Part top n d s o = Alternation n d s o
-Part (group h p f) n d s o = Alternation n d s o
+Part (group h p) n d s o = Alternation n d s o
 Part condition n d s o = Alternation n d s o
 Part (body c left) n d s o = Alternation n d s o
 
 -- a piece at s opens this, and what is read of it begins at t
 pub data Opens : ℕ → ℕ → State → Open → State → Type 0 where
   a_group : {n d : ℕ} {h : Head} {s t : State} {u : Text} → skipped n s ≡ rest u → ahead n d (at s u) ≡ seen.opens h t →
-      Opens n d s (group h (place_of n u) s.flags) t
+      Opens n d s (group h (place_of n u)) t
   a_condition : {n d : ℕ} {s t : State} {u : Text} → skipped n s ≡ rest u → ahead n d (at s u) ≡ seen.condition t →
       Opens n d s condition t
   a_body : {n d : ℕ} {c : Tree} {s t : State} {u : Text} → skipped n s ≡ rest u → ahead n d (at s u) ≡ seen.body c t →
@@ -106,31 +105,22 @@ lacks_body _ s = false
 -- the tree of what was open, around the tree read inside
 abbrev pub node_of_part : Open → Tree → Tree
 node_of_part top r = r
-node_of_part (group h p f) r = node_of h p r
+node_of_part (group h p) r = node_of h p r
 node_of_part condition r = r
 node_of_part (body c left) r = conditional_of c (branches_of r).0 (branches_of r).1
 node_of_part first r = alone r
 node_of_part (second a) r = absent (expression a r)
-
--- the flags behind what was open
-abbrev pub flags_behind_part : Open → Flags → Flags
-flags_behind_part (group h p f) g = flags_behind h f g
-flags_behind_part _ g = g
 
 -- whether the atom goes on behind what is open: the body follows a condition
 abbrev pub goes_on : Open → Bool
 goes_on condition = true
 goes_on _ = false
 
--- what is left and holds behind the closing parenthesis of what is open
-abbrev pub behind_part : Open → Tree → State → Outcome Tree
-behind_part p r s = done r (record s { flags = flags_behind_part p s.flags })
-
 -- what comes out where what is open ends with the tree r at s
 abbrev pub ended_part : ℕ → Open → Tree → State → Outcome Tree
 ended_part n p r s =
     if lacks_body p s then faulted (body_wanting n s.rest)
-    else and_then (closed n (node_of_part p r) s) (behind_part p)
+    else closed n (node_of_part p r) s
 
 -- a group is opened only where one may open inside d groups
 abbrev pub OpensBelow : Step → ℕ → Type 0
@@ -165,10 +155,14 @@ pub record Reading (n d : ℕ) (p : Open) (s : State) (branches pieces : List Tr
   pub one : holds_one p ≡ true → (begin ≡ s) × (branches ≡ [])
   pub slice : Slice s.rest t.rest
 
+-- the piece in which the parts above the frame were opened began at the state
+abbrev pub Began : Frame → State → Type 0
+Began f s = (f.left ≡ bytes s.rest) × (f.flags ≡ s.flags)
+
 -- the open groups of a text that begins at `start`; what is read of the innermost begins at s, at depth d
 pub data Levels (n : ℕ) (start : State) : List Frame → Open → ℕ → State → Type 0 where
   outermost : Levels n start [] top 0 start
   inner : {d : ℕ} {s t v : State} {p : Open} {all frames : List Frame} (f : Frame) → all ≡ frames ++ f ∷ [] →
       Levels n start frames (open_of f.opener) d s →
-      Reading n d (open_of f.opener) s (trees f.branches) (trees f.pieces) t → f.left ≡ bytes t.rest →
+      Reading n d (open_of f.opener) s (trees f.branches) (trees f.pieces) t → Began f t →
       ends t.rest ≡ false → Opens n d t p v → Levels n start all p (d + 1) v

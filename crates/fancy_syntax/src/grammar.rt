@@ -52,7 +52,7 @@ fn alternation<'a>(alloc: Global, start: State<'a>, end: usize) -> Result<(Expr,
     ensures within { IfOk result (λ p. length p.1.rest.now ≤ length start.entry.rest.now) }
 {
     let mut stack = Vec::with_capacity(alloc, room(start.rest))?;
-    let mut frame = Frame::new(Opener::Top);
+    let mut frame = Frame::new(Opener::Top, start.flags);
     let mut here = start;
     loop {
         if let Some((c, rest)) = plain(here) {
@@ -61,11 +61,12 @@ fn alternation<'a>(alloc: Global, start: State<'a>, end: usize) -> Result<(Expr,
             here.rest = rest;
         } else if !is_end(here.rest) {
             frame.left = bytes_left(here.rest);
+            frame.flags = here.flags;
             match read_step(alloc, &mut here, stack.len(), end)? {
                 Step::Piece(piece) => frame.add(alloc, piece)?,
                 Step::Open(opener) => {
                     push_frame(&mut stack, frame);
-                    frame = Frame::new(opener);
+                    frame = Frame::new(opener, here.flags);
                 }
             }
         } else if let Some(rest) = after(here.rest, '|') {
@@ -83,13 +84,14 @@ fn alternation<'a>(alloc: Global, start: State<'a>, end: usize) -> Result<(Expr,
                 inner,
                 &mut here,
                 frame.left,
+                frame.flags,
                 stack.len(),
                 end,
             )? {
                 Step::Piece(piece) => frame.add(alloc, piece)?,
                 Step::Open(opener) => {
                     push_frame(&mut stack, frame);
-                    frame = Frame::new(opener);
+                    frame = Frame::new(opener, here.flags);
                 }
             }
         }

@@ -390,7 +390,7 @@ pub reads_group : (n d : ℕ) (f : Flags) (s v : Text) (x : Tree) → Kept f →
     WholeAs n (d + 1) f s (41 ∷ v) x → AtomAs n d f (40 ∷ s) v (tree.group x)
 reads_group n d f s v x k l c w = record {
   tree = ast_node (ast_group None w.tree) (place_of n (40 ∷ s));
-  derives = atom (group_at n d f s k l c) (a_group (inside w.derives refl) refl);
+  derives = atom (group_at n d f s k l c) (a_group (inside w.derives refl) refl) refl;
   becomes = record { is = λ g. ap tree.group (w.becomes.is g); groups = (refl, w.becomes.groups) };
 }
 
@@ -403,7 +403,7 @@ scope_at n d f g t u k l o q e = head_at n d f (63 ∷ t) k l o ∙ q ∙ ap fla
 pub reads_scope : (n d : ℕ) (f g : Flags) (s t v : Text) (x : Tree) → ahead n d (st f s) ≡ opens scope (st g t) →
     WholeAs n (d + 1) g t (41 ∷ v) x → AtomAs n d f s v x
 reads_scope n d f g s t v x e w =
-    record { tree = w.tree; derives = atom e (a_group (inside w.derives refl) refl); becomes = w.becomes }
+    record { tree = w.tree; derives = atom e (a_group (inside w.derives refl) refl) refl; becomes = w.becomes }
 
 -- with more than k letters to spare
 abbrev pub Spelled : ℕ → Text → ℕ → Bool → Flags → Text → Letters → Text → Type 0
@@ -477,7 +477,7 @@ reads_caseless n d u s v x l w =
 
 pub reads_leaf : (n d : ℕ) (f : Flags) (s v : Text) (x : Tree) → ahead n d (st f s) ≡ leaf (done x (st f v)) →
     Becomes x x → AtomAs n d f s v x
-reads_leaf n d f s v x e b = record { tree = x; derives = atom e a_leaf; becomes = b }
+reads_leaf n d f s v x e b = record { tree = x; derives = atom e a_leaf refl; becomes = b }
 
 pub leaf_at : (n d : ℕ) (f : Flags) (c : ℕ) (t : Text) → (c == 40) ≡ false → is_before_nothing c ≡ false →
     ahead n d (st f (c ∷ t)) ≡ leaf (leaf_of n (st f (c ∷ t)) c t)
@@ -520,12 +520,12 @@ pub fails_deep : (n d : ℕ) (f : Flags) (t : Text) → 64 ≤ d + 1 →
     Atom n d (st f (40 ∷ t)) (fault recursion_exceeded (place_of n (40 ∷ t)))
 unfolding ahead
 fails_deep n d f t h =
-    let deep : nat_le max_depth (d + 1) ≡ true = le-leb 64 (d + 1) h in atom (cond-true _ _ _ deep) a_leaf
+    let deep : nat_le max_depth (d + 1) ≡ true = le-leb 64 (d + 1) h in atom (cond-true _ _ _ deep) a_leaf refl
 
 module _ (n d : ℕ) (f : Flags) (k : Kind) (p : ℕ) where
   fails_head : (g : Flags) (h : Head) (s t : Text) → ahead n d (st f s) ≡ opens h (st g t) →
       Alternation n (d + 1) (st g t) (fault k p) → Atom n d (st f s) (fault k p)
-  fails_head g h s t e w = atom e (a_group (inside w refl) refl)
+  fails_head g h s t e w = atom e (a_group (inside w refl) refl) refl
 
   pub fails_group : (s : Text) → Kept f → d + 1 < 64 → Clear s → Alternation n (d + 1) (st f s) (fault k p) →
       Atom n d (st f (40 ∷ s)) (fault k p)

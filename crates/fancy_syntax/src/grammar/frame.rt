@@ -19,19 +19,12 @@ use std::mem;
 pub(crate) enum Opener<'a> {
     /// The whole text.
     Top,
-    /// A group that opens at the place, and the flags before it.
-    Group {
-        head: Head<'a>,
-        place: usize,
-        flags: Flags,
-    },
+    /// A group that opens at the place.
+    Group { head: Head<'a>, place: usize },
     /// The condition of a conditional.
     Condition,
     /// The body of a conditional of this condition, which began where so many bytes were left.
-    Body {
-        condition: Box<Expr>,
-        left: usize,
-    },
+    Body { condition: Box<Expr>, left: usize },
     /// The branch behind `(?~|`.
     First,
     /// The branch behind that one and a bar.
@@ -44,8 +37,9 @@ pub(crate) struct Frame<'a> {
     pub(crate) opener: Opener<'a>,
     pub(crate) branches: Row,
     pub(crate) pieces: Row,
-    /// How many bytes were left where the piece began that holds the groups above this one.
+    /// How many bytes were left where the piece began that holds the groups above this one, and the flags that held.
     pub(crate) left: usize,
+    pub(crate) flags: Flags,
 }
 
 impl<'a> Frame<'a> {
@@ -54,8 +48,8 @@ impl<'a> Frame<'a> {
     ghost use Rattle.fancy_syntax.specs.Machine.{open_of, opened_by_bar, branches_at_bar, is_second, IsFaultOfBar};
     ghost use Rattle.fancy_grammar.specs.Fails.{Fails};
 
-    /// A group in which nothing is read yet.
-    pub(crate) fn new(opener: Opener<'a>) -> Frame<'a>
+    /// A group in which nothing is read yet, and where these flags hold.
+    pub(crate) fn new(opener: Opener<'a>, flags: Flags) -> Frame<'a>
         ensures opener { result.opener ≡ opener.entry }
         ensures branches { trees result.branches ≡ [] }
         ensures pieces { trees result.pieces ≡ [] }
@@ -65,6 +59,7 @@ impl<'a> Frame<'a> {
             branches: Row::None,
             pieces: Row::None,
             left: 0,
+            flags,
         }
     }
 

@@ -6,7 +6,6 @@ ghost use Rattle.fancy_grammar.specs.Tree.{ast_node, ast_group};
 ghost use Rattle.fancy_syntax.specs.View.{view};
 
 use crate::expr::{Absent, AstNode, Expr, LookAround};
-use fancy_lex::flags::Flags;
 use std::alloc::{AllocError, Global};
 
 /// What opens a group.
@@ -21,16 +20,6 @@ pub(crate) enum Head<'a> {
     Define,
     /// An absent repeater.
     Repeater,
-}
-
-/// The flags behind a group, from those before it and those at the end of its inside.
-pub(crate) fn flags_behind(head: Head, before: Flags, inside: Flags) -> Flags
-    ensures { result ≡ spec.flags_behind (head_of head.entry) before inside }
-{
-    match head {
-        Head::Scope => before,
-        _ => inside,
-    }
 }
 
 /// The node round the inside of a group that opens at the place.

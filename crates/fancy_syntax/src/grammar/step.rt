@@ -18,7 +18,7 @@ use crate::grammar::ahead::{Ahead, look_ahead, skip_layout};
 use crate::grammar::conditional::{alone, branches_of, conditional, is_condition};
 use crate::grammar::fault::general;
 use crate::grammar::frame::Opener;
-use crate::grammar::head::{flags_behind, node};
+use crate::grammar::head::node;
 use crate::grammar::plain::is_unquantified;
 use crate::grammar::quantified::quantify;
 use crate::grammar::state::State;
@@ -66,7 +66,6 @@ pub(crate) fn read_step<'a>(
         Ahead::Group(head) => Ok(Step::Open(Opener::Group {
             head,
             place: place(before.rest, end),
-            flags: before.flags,
         })),
         Ahead::Condition => Ok(Step::Open(Opener::Condition)),
         Ahead::Body(condition) => Ok(Step::Open(Opener::Body {
@@ -98,13 +97,15 @@ fn piece<'a>(
     Ok(Step::Piece(piece))
 }
 
-/// Ends what is open, where no branch follows: a piece, or the part that comes next. A fault is the piece's.
+/// Ends what is open, where no branch follows: a piece, or the part that comes next. The piece began under the flags,
+/// where so many bytes were left; a quantifier behind it is read under them. A fault is the piece's.
 pub(crate) fn close<'a>(
     alloc: Global,
     opener: Opener<'a>,
     inner: Expr,
     here: &mut State<'a>,
     left: usize,
+    flags: Flags,
     depth: usize,
     end: usize,
 ) -> Result<Step<'a>, Error>
@@ -112,14 +113,15 @@ pub(crate) fn close<'a>(
     requires end { end < 2 ^ 63 }
     requires depth { depth < 64 }
     requires last { strip bar (chars here.old.rest.now) ≡ None }
-    ensures value { (s t : states.State) → left ≡ bytes s.rest → Opens end depth s (open_of opener.entry) t →
-        Part (open_of opener.entry) end (depth + 1) t (states.done (view inner) (state here.old)) →
+    ensures value { (s t : states.State) → left ≡ bytes s.rest → flags ≡ s.flags →
+        Opens end depth s (open_of opener.entry) t → Part (open_of opener.entry) end (depth + 1) t (states.done (view inner) (state here.old)) →
         StepsOn result end depth s (state here.new) }
     ensures shorter { IfOk result (λ _. length here.new.rest.now < length here.old.rest.now) }
 {
     let has_body = goes_on(&opener);
     let atom = end_part(alloc, opener, inner, here, end)?;
     if !has_body {
+        here.flags = flags;
         return piece(alloc, atom, here, left, depth, end);
     }
     let condition = Box::new(alloc, atom)?;
@@ -134,7 +136,7 @@ fn goes_on(opener: &Opener) -> bool
     matches!(opener, Opener::Condition)
 }
 
-/// Reads the closing parenthesis of what is open: the tree that comes out, under the flags that hold there.
+/// Reads the closing parenthesis of what is open: the tree that comes out.
 ///
 /// The general fault where a conditional has no body; else the faults of `close_paren`.
 fn end_part(
@@ -153,7 +155,6 @@ fn end_part(
         return Err(general(alloc, NO_BODY, place(here.rest, end)));
     }
     close_paren(alloc, here, end)?;
-    here.flags = flags_behind_part(&opener, here.flags);
     Ok(node_of_part(alloc, opener, inner)?)
 }
 
@@ -168,23 +169,13 @@ fn lacks_body(opener: &Opener, text: &str) -> bool
     }
 }
 
-/// The flags behind what was open, where `inside` hold at its end.
-fn flags_behind_part(opener: &Opener, inside: Flags) -> Flags
-    ensures { result ≡ machine.flags_behind_part (open_of opener.now) inside }
-{
-    match opener {
-        Opener::Group { head, flags, .. } => flags_behind(*head, *flags, inside),
-        _ => inside,
-    }
-}
-
 /// The tree of what was open, around the tree read inside.
 fn node_of_part(alloc: Global, opener: Opener, inner: Expr) -> Result<Expr, AllocError>
     ensures { IfOk result (λ e. view e ≡ machine.node_of_part (open_of opener.entry) (view inner)) }
 {
     match opener {
         Opener::Top | Opener::Condition => Ok(inner),
-        Opener::Group { head, place, .. } => node(alloc, head, place, inner),
+        Opener::Group { head, place } => node(alloc, head, place, inner),
         Opener::Body { condition, .. } => {
             let (true_branch, false_branch) = branches_of(inner);
             conditional(alloc, condition, true_branch, false_branch)

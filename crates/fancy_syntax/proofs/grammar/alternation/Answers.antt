@@ -1,4 +1,4 @@
-use Rattle.std.proofs.Common.{◌≡◌, ap, sym, length, [], arith, subst}
+use Rattle.std.proofs.Common.{◌≡◌, ap, sym, length, [], arith, refl, subst}
 use Rattle.std.proofs.lemmas.List.{nil_from_length, length_push}
 use Rattle.std.proofs.lemmas.Result.{err_from_is_err_and}
 use Rattle.fancy_grammar.specs.Grammar.{Alternation, Piece}
@@ -6,7 +6,7 @@ use Rattle.fancy_syntax.specs.Machine.{Opens, IsFaultOfBar, open_of}
 use Rattle.fancy_syntax.specs.Parsed.{state}
 use Rattle.fancy_grammar.specs.State.{done, fault}
 use Rattle.fancy_syntax.specs.View.{view}
-use Rattle.fancy_syntax.proofs.MachineLemmas.{running_start, running_left, running_fault, running_piece, running_open, running_bar, running_bar_fault, running_end, running_closing, running_room}
+use Rattle.fancy_syntax.proofs.MachineLemmas.{running_start, running_began, running_fault, running_piece, running_open, running_bar, running_bar_fault, running_end, running_closing, running_room}
 use Rattle.fancy_grammar.proofs.OutcomeLemmas.{Fails-map}
 use Rattle.fancy_syntax.proofs.grammar.alternation.Goals as goal
 
@@ -67,12 +67,12 @@ loop-c-preserved-in-Open c =
     let items = c.push_frame.ensures.items in
     let below = rw c.in-Open.is at c.in_ok-piece.ensures.below in
     record {
-      running = running_open c.push_frame.new.stack.items c.new-frame-in-Open.result (running_left c.bytes_left.result c.loop-c.invariant.running)
-          c.bytes_left.ensures (sym c.if-not-is_end.ensures)
+      running = running_open c.push_frame.new.stack.items c.new-frame-in-Open.result (running_began c.bytes_left.result c.loop-c.here.flags c.loop-c.invariant.running)
+          (c.bytes_left.ensures, refl) (sym c.if-not-is_end.ensures)
           (subst (λ d. Opens c.args.end d (state c.loop-c.here) (open_of c.in-Open.opener) (state c.read_step.new.here)) n
           (rw c.in-Open.is at c.in_ok-piece.ensures.value)) items (ap open_of f.opener) f.branches f.pieces;
       room = omega (arith, c.loop-c.invariant.room, c.push_frame.ensures.capacity);
-      depth = omega (arith, n, below, ap length items, length_push c.loop-c.stack.items (record c.loop-c.frame { left = c.bytes_left.result }));
+      depth = omega (arith, n, below, ap length items, length_push c.loop-c.stack.items (record c.loop-c.frame { left = c.bytes_left.result; flags = c.loop-c.here.flags }));
       within = omega (arith, c.loop-c.invariant.within, c.in_ok-piece.ensures.shorter);
     }
 
@@ -108,7 +108,7 @@ returns-in_err-piece-2-clause-value c =
     let e = err_from_is_err_and c.from_residual-in_err-piece-2.result c.from_residual-in_err-piece-2.ensures.1 in
     rw (e.1, e.2) (Fails-map (Piece c.args.end c.len-in_default-after.result w.here) (Alternation c.args.end 0 (state c.args.start)) c.in_err-piece-2.field-0.0
     (λ k p h. running_fault w.outer w.more (subst (λ d. Piece c.args.end d w.here (fault k p)) n h))
-    (c.in_err-piece-2.ensures.value w.here w.inside w.left (rw n w.opens) (rw n w.whole)))
+    (c.in_err-piece-2.ensures.value w.here w.inside w.began.0 w.began.1 (rw n w.opens) (rw n w.whole)))
 
 pub loop-c-preserved-in-Continue-branch-11 : goal.loop-c-preserved-in-Continue-branch-11
 loop-c-preserved-in-Continue-branch-11 c =
@@ -116,7 +116,7 @@ loop-c-preserved-in-Continue-branch-11 c =
     let w = running_closing c.pop.new.self.items c.in-Some-pop.outer (view c.in_ok-opener.inner) (open_of c.in_ok-opener.opener) (ap open_of c.in_ok-opener.ensures.opener)
     c.loop-c.invariant.running (sym c.if-not-is_end.ensures) c.in_default-after.ensures.value c.in_ok-opener.ensures.tree popped in
     let n : c.len-in_default-after.result ≡ length c.pop.new.self.items = omega (arith, c.len-in_default-after.ensures, c.pop.new.self.ok.0) in
-    let steps = c.in_ok-piece-2.ensures.value w.here w.inside w.left (rw n w.opens) (rw n w.whole) in
+    let steps = c.in_ok-piece-2.ensures.value w.here w.inside w.began.0 w.began.1 (rw n w.opens) (rw n w.whole) in
     let f = c.in_ok-add-in-Piece-2.ensures in
     record {
       running = running_piece c.add-in-Piece-2.new.self w.outer w.more
@@ -133,7 +133,7 @@ push_frame-requires-in-Open-2 c =
     let w = running_closing c.pop.new.self.items c.in-Some-pop.outer (view c.in_ok-opener.inner) (open_of c.in_ok-opener.opener) (ap open_of c.in_ok-opener.ensures.opener)
     c.loop-c.invariant.running (sym c.if-not-is_end.ensures) c.in_default-after.ensures.value c.in_ok-opener.ensures.tree popped in
     let n : c.len-in_default-after.result ≡ length c.pop.new.self.items = omega (arith, c.len-in_default-after.ensures, c.pop.new.self.ok.0) in
-    let steps = c.in_ok-piece-2.ensures.value w.here w.inside w.left (rw n w.opens) (rw n w.whole) in
+    let steps = c.in_ok-piece-2.ensures.value w.here w.inside w.began.0 w.began.1 (rw n w.opens) (rw n w.whole) in
     let opens = subst (λ d. Opens c.args.end d w.here (open_of c.in-Open-2.opener) (state c.close.new.here)) n (rw c.in-Open-2.is at steps) in
     omega (
       arith,
@@ -152,11 +152,11 @@ loop-c-preserved c =
     let w = running_closing c.pop.new.self.items c.in-Some-pop.outer (view c.in_ok-opener.inner) (open_of c.in_ok-opener.opener) (ap open_of c.in_ok-opener.ensures.opener)
     c.loop-c.invariant.running (sym c.if-not-is_end.ensures) c.in_default-after.ensures.value c.in_ok-opener.ensures.tree popped in
     let n : c.len-in_default-after.result ≡ length c.pop.new.self.items = omega (arith, c.len-in_default-after.ensures, c.pop.new.self.ok.0) in
-    let steps = c.in_ok-piece-2.ensures.value w.here w.inside w.left (rw n w.opens) (rw n w.whole) in
+    let steps = c.in_ok-piece-2.ensures.value w.here w.inside w.began.0 w.began.1 (rw n w.opens) (rw n w.whole) in
     let f = c.new-frame-in-Open-2.ensures in
     let pushed = c.push_frame-in-Open-2.ensures.items in
     record {
-      running = running_open c.push_frame-in-Open-2.new.stack.items c.new-frame-in-Open-2.result w.outer w.left w.more
+      running = running_open c.push_frame-in-Open-2.new.stack.items c.new-frame-in-Open-2.result w.outer w.began w.more
           (subst (λ d. Opens c.args.end d w.here (open_of c.in-Open-2.opener) (state c.close.new.here)) n (rw c.in-Open-2.is at steps))
           pushed (ap open_of f.opener) f.branches f.pieces;
       room = omega (arith, c.loop-c.invariant.room, c.in-Some-pop.ensures.capacity, c.push_frame-in-Open-2.ensures.capacity);

@@ -20,29 +20,29 @@ pub returns-in_err-look_ahead-clause-value : goal.returns-in_err-look_ahead-clau
 returns-in_err-look_ahead-clause-value c =
     let e = err_from_is_err_and c.from_residual-in_err-look_ahead.result c.from_residual-in_err-look_ahead.ensures.1 in
     rw (e.1, e.2) (Fails-map (λ o. ahead c.args.end c.args.depth _ ≡ leaf o) (Piece c.args.end c.args.depth (state c.args.here.now))
-    c.in_err-look_ahead.field-0.0 (λ k p h. piece c.in_ok-here.ensures.value (atom h a_leaf) refl) c.in_err-look_ahead.ensures.value)
+    c.in_err-look_ahead.field-0.0 (λ k p h. piece c.in_ok-here.ensures.value (atom h a_leaf refl) refl) c.in_err-look_ahead.ensures.value)
 
 pub returns-then-is_unquantified-clause-value : goal.returns-then-is_unquantified-clause-value
 returns-then-is_unquantified-clause-value c =
     steps_piece (state c.args.here.now) (Ok (step.Piece _)) _ c.bytes_left-left.ensures c.in_ok-here.ensures.value
-    (atom (rw c.in-Leaf.is at c.in_ok-look_ahead.ensures.value) a_leaf) (c.is_unquantified.ensures c.if-is_unquantified.true _ _ _ _)
+    (atom (rw c.in-Leaf.is at c.in_ok-look_ahead.ensures.value) a_leaf refl) (c.is_unquantified.ensures c.if-is_unquantified.true _ _ _ _)
 
 pub returns-in_ok-quantify-in-Leaf-clause-value : goal.returns-in_ok-quantify-in-Leaf-clause-value
 returns-in_ok-quantify-in-Leaf-clause-value c =
     steps_piece (state c.args.here.now) (Ok (step.Piece _)) _ c.bytes_left-left.ensures c.in_ok-here.ensures.value
-    (atom (rw c.in-Leaf.is at c.in_ok-look_ahead.ensures.value) a_leaf) c.in_ok-quantify-in-Leaf.ensures.value
+    (atom (rw c.in-Leaf.is at c.in_ok-look_ahead.ensures.value) a_leaf refl) c.in_ok-quantify-in-Leaf.ensures.value
 
 pub returns-in_err-quantify-in-Leaf-clause-value : goal.returns-in_err-quantify-in-Leaf-clause-value
 returns-in_err-quantify-in-Leaf-clause-value c =
     let e = err_from_is_err_and c.from_residual-in_err-quantify-in-Leaf.result c.from_residual-in_err-quantify-in-Leaf.ensures.1 in
     rw (e.1, e.2) (steps_piece (state c.args.here.now) (Err c.in_err-quantify-in-Leaf.field-0.0) (state c.args.here.now) c.bytes_left-left.ensures c.in_ok-here.ensures.value
-    (atom (rw c.in-Leaf.is at c.in_ok-look_ahead.ensures.value) a_leaf) c.in_err-quantify-in-Leaf.ensures.value)
+    (atom (rw c.in-Leaf.is at c.in_ok-look_ahead.ensures.value) a_leaf refl) c.in_err-quantify-in-Leaf.ensures.value)
 
 pub returns-in-Nothing-clause-value : goal.returns-in-Nothing-clause-value
 returns-in-Nothing-clause-value c =
     let stays = rw c.in-Nothing.is at c.in_ok-look_ahead.ensures.stays in
     steps_piece (state c.args.here.now) _ _ c.bytes_left-left.ensures c.in_ok-here.ensures.value
-    (atom (rw c.in-Nothing.is at c.in_ok-look_ahead.ensures.value) a_nothing) (rw (view_Empty, stays) at c.piece.ensures.value)
+    (atom (rw c.in-Nothing.is at c.in_ok-look_ahead.ensures.value) a_nothing refl) (rw (view_Empty, stays) at c.piece.ensures.value)
 
 pub returns-in-Nothing-clause-shorter : goal.returns-in-Nothing-clause-shorter
 returns-in-Nothing-clause-shorter c =
