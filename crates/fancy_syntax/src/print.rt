@@ -44,10 +44,10 @@ impl Expr {
     /// precedence 0 an `Alt`, above 1 a `Concat` and above 2 a `Repeat` stands in a group of its own, and so does a
     /// `Literal` of several characters with its case kept under a `Repeat`. The buffer grows once, by the text's length
     /// in bytes, where it lacks room for that; where that is refused, the answer is `AllocError` and `buf` holds what
-    /// it held. What is appended for a printable tree reads as its normal form, with
-    /// no flag and with `FLAG_UNICODE` alone; where 64 printed groups nest or more, it is refused as
-    /// `RecursionExceeded`, at the byte of the first opening parenthesis that has 63 groups open round it. So trees
-    /// that are printed as one text have one normal form.
+    /// it held. What is appended for a printable tree reads as its normal form, with no flag and with `FLAG_UNICODE`
+    /// alone; where 64 printed groups nest or more, it is refused as `RecursionExceeded`, at the byte of the first
+    /// opening parenthesis that has 63 groups open round it. So trees that are printed as one text have one normal
+    /// form.
     pub fn to_str(&self, buf: &mut String, precedence: u8) -> Result<(), AllocError>
         requires text { has_text (view self.now) ≡ true }
         ensures appended { OnOk result (string_bytes buf.new ≡
