@@ -4,6 +4,7 @@ use Rattle.fancy_lex.specs.declared.escape.Assertion.{Assertion}
 use Rattle.fancy_lex.specs.declared.escape.Assertion.TheVariants.{StartLine, StartLineOniguruma, EndLine}
 use Rattle.fancy_grammar.specs.Tree.{Tree, Trees, no_trees, more_trees, any, assertion, literal, concat, alt, group}
 use Rattle.fancy_grammar.specs.Tree.{repeat, delegate}
+use Rattle.fancy_grammar.specs.Printed.{is_long}
 
 -- one group where it is printed
 abbrev pub one_if : Bool → ℕ
@@ -27,7 +28,7 @@ abbrev mutual
   nest (concat ts) p = one_if (nat_lt 1 p) + nests ts 2
   nest (alt ts) p = one_if (nat_lt 0 p) + nests ts 1
   nest (group t) p = 1 + nest t 0
-  nest (repeat t lo hi greedy) p = one_if (nat_lt 2 p) + nest t 3
+  nest (repeat t lo hi greedy) p = one_if (nat_lt 2 p) + (one_if (is_long t) + nest t 3)
   nest _ p = 0
 
   -- the most in any of several trees

@@ -3,7 +3,7 @@ use Rattle.std.specs.Prelude.{ℕ, ◌+◌, ◌==◌, Bool, true, false, ◌||�
 use Rattle.std.specs.Prelude.{option_map, unwrap_or}
 use Rattle.fancy_lex.specs.Text.{Text, bytes}
 use Rattle.fancy_grammar.specs.Ahead.{max_depth}
-use Rattle.fancy_grammar.specs.Printed.{printed}
+use Rattle.fancy_grammar.specs.Printed.{is_long, printed}
 use Rattle.fancy_grammar.specs.Tree.{Tree, Trees, no_trees, more_trees, any, assertion, literal, concat, alt, group}
 use Rattle.fancy_grammar.specs.Tree.{repeat, delegate}
 use Rattle.fancy_grammar.specs.Nest.{is_line}
@@ -36,7 +36,8 @@ abbrev mutual
   parens (concat ts) p = in_group (nat_lt 1 p) (codes "(?:") (parens_all ts)
   parens (alt ts) p = in_group (nat_lt 0 p) (codes "(?:") (parens_branches ts)
   parens (group t) p = in_group true (codes "(") (parens t 0)
-  parens (repeat t lo hi greedy) p = in_group (nat_lt 2 p) (codes "(?:") (parens t 3)
+  parens (repeat t lo hi greedy) p =
+      in_group (nat_lt 2 p) (codes "(?:") (in_group (is_long t) (codes "(?:") (parens t 3))
   parens _ p = no_parens
 
   pub parens_all : Trees → Parens

@@ -1,5 +1,5 @@
--- The trees whose text reads back as their normal form.
-use Rattle.std.specs.Prelude.{ℕ, Bool, true, false, not, ◌&&◌, is_some, nat_lt, nat_le, length}
+-- The trees whose text reads back as their normal form, where fewer than 64 printed groups nest.
+use Rattle.std.specs.Prelude.{ℕ, Bool, true, false, not, ◌&&◌, is_some, nat_le}
 use Rattle.std.specs.Str.{all_scalars}
 use Rattle.fancy_lex.specs.declared.escape.Assertion.TheVariants.{EndTextIgnoreTrailingNewlines}
 use Rattle.fancy_parts.specs.Quantifier.{most}
@@ -12,18 +12,13 @@ use Rattle.fancy_grammar.specs.Tree.{group, repeat, delegate, define_group}
 abbrev pub is_count : ℕ → Bool
 is_count n = nat_le n most
 
--- a Literal whose last character alone a quantifier would take
-abbrev pub is_long : Tree → Bool
-is_long (literal s false) = nat_lt 1 (length s)
-is_long _ = false
-
 -- what a quantifier may stand behind; whether a normal form is Empty hangs on no setting
 abbrev pub takes_quantifier : Tree → Bool
-takes_quantifier t = not (is_empty (normal false t)) && not (is_long t)
+takes_quantifier t = not (is_empty (normal false t))
 
 abbrev mutual
   -- every node has a text, that of a Delegate is one whole class or class escape, and under each Repeat stands what
-  -- takes the quantifier as a whole; what a DefineGroup holds is not looked at
+  -- takes a quantifier; what a DefineGroup holds is not looked at
   pub printable : Tree → Bool
   printable empty = true
   printable (any newline crlf) = true

@@ -1,5 +1,5 @@
 -- The text that a tree is printed as, at a precedence.
-use Rattle.std.specs.Prelude.{ℕ, Bool, true, false, ◌&&◌, nat_lt, [], ◌++◌, codes}
+use Rattle.std.specs.Prelude.{ℕ, Bool, true, false, ◌&&◌, nat_lt, [], ◌∷◌, ◌++◌, codes}
 use Rattle.fancy_lex.specs.Text.{Text}
 use Rattle.fancy_lex.specs.declared.escape.Assertion.{Assertion}
 use Rattle.fancy_lex.specs.declared.escape.Assertion.TheVariants.{StartText, EndText, EndTextIgnoreTrailingNewlines}
@@ -45,6 +45,12 @@ unfoldable pub caseless : Bool → Text → Text
 caseless true t = codes "(?i:" ++ (t ++ codes ")")
 caseless false t = t
 
+-- a Literal whose last character alone a quantifier would take
+abbrev pub is_long : Tree → Bool
+is_long (literal s true) = false
+is_long (literal (c ∷ d ∷ s) false) = true
+is_long _ = false
+
 abbrev mutual
   -- the variants that have no text of their own give nothing
   pub printed : Tree → ℕ → Text
@@ -55,7 +61,8 @@ abbrev mutual
   printed (concat ts) p = grouped (nat_lt 1 p) (printed_all ts)
   printed (alt ts) p = grouped (nat_lt 0 p) (printed_branches ts)
   printed (group t) p = codes "(" ++ (printed t 0 ++ codes ")")
-  printed (repeat t lo hi greedy) p = grouped (nat_lt 2 p) (printed t 3 ++ quantifier lo hi greedy)
+  printed (repeat t lo hi greedy) p =
+      grouped (nat_lt 2 p) (grouped (is_long t) (printed t 3) ++ quantifier lo hi greedy)
   printed _ p = []
 
   -- one behind the other
@@ -72,6 +79,10 @@ abbrev mutual
   pub barred : Trees → Text
   barred no_trees = []
   barred (more_trees t ts) = codes "|" ++ (printed t 1 ++ barred ts)
+
+-- what a quantifier is put behind
+abbrev pub repeated : Tree → Text
+repeated t = grouped (is_long t) (printed t 3)
 
 abbrev mutual
   -- every node has a text; what a DefineGroup holds is not looked at

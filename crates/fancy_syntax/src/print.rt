@@ -16,6 +16,7 @@ mod count;
 mod delegate;
 mod fixed;
 mod printable;
+mod repeated;
 mod write;
 
 use crate::expr::Expr;
@@ -26,10 +27,9 @@ use std::alloc::{AllocError, Global};
 
 impl Expr {
     /// Whether the tree is printable: whether each node outside the inside of a DefineGroup has a text, that of each
-    /// Delegate is one whole class or class escape, and under each Repeat stands neither a tree that reads as nothing
-    /// nor a Literal, with case counted, of two characters or more. `AllocError` where memory was refused, which is
-    /// asked for where a Delegate's text is read. The normal form of a printable tree is printable too, and it is its
-    /// own normal form where the tree holds no Delegate.
+    /// Delegate is one whole class or class escape, and under each Repeat stands no tree that reads as nothing.
+    /// `AllocError` where memory was refused, which is asked for where a Delegate's text is read. The normal form of a
+    /// printable tree is printable too, and it is its own normal form where the tree holds no Delegate.
     pub fn is_printable(&self, alloc: Global) -> Result<bool, AllocError>
         ensures exact { IfOk result (λ b. b ≡ printable (view self.now)) }
         ensures text { IfOk result (λ b. b ≡ true → has_text (view self.now) ≡ true) }
@@ -41,12 +41,13 @@ impl Expr {
     }
 
     /// Appends the tree's text to `buf`; the caller owes a tree that has one, as every printable tree has. Above
-    /// precedence 0 an `Alt`, above 1 a `Concat` and above 2 a `Repeat` stands in a group of its own. The buffer grows
-    /// once, by the text's length in bytes, where it lacks room for that; where that is refused, the answer is
-    /// `AllocError` and `buf` holds what it held. What is appended for a printable tree reads as its normal form, with
-    /// no flag and with `FLAG_UNICODE` alone; where 64 printed groups nest or more, it is refused as
-    /// `RecursionExceeded`, at the byte of the first opening parenthesis that has 63 groups open round it. So trees
-    /// that are printed as one text have one normal form.
+    /// precedence 0 an `Alt`, above 1 a `Concat` and above 2 a `Repeat` stands in a group of its own, and so does a
+    /// `Literal` of several characters with its case kept under a `Repeat`. The buffer grows once, by the text's length
+    /// in bytes, where it lacks room for that; where that is refused, the answer is `AllocError` and `buf` holds what
+    /// it held. What is appended for a printable tree reads as its normal form, with no flag and with `FLAG_UNICODE`
+    /// alone; where 64 printed groups nest or more, it is refused as `RecursionExceeded`, at the byte of the first
+    /// opening parenthesis that has 63 groups open round it. So trees that are printed as one text have one normal
+    /// form.
     pub fn to_str(&self, buf: &mut String, precedence: u8) -> Result<(), AllocError>
         requires text { has_text (view self.now) ≡ true }
         ensures appended { OnOk result (string_bytes buf.new ≡

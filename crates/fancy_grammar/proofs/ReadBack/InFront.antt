@@ -4,7 +4,7 @@ use Rattle.fancy_lex.specs.Text.{Text}
 use Rattle.fancy_lex.specs.declared.escape.Assertion.{Assertion}
 use Rattle.fancy_lex.specs.declared.escape.Assertion.TheVariants.{StartText, EndText, EndTextIgnoreTrailingNewlines, StartLine, StartLineOniguruma, EndLine, LeftWordBoundary, LeftWordHalfBoundary, RightWordBoundary, RightWordHalfBoundary, WordBoundary, NotWordBoundary}
 use Rattle.fancy_parts.specs.Quote.{behind_backslash, quote_as, quote, quotes, quantifier}
-use Rattle.fancy_grammar.specs.Printed.{any_text, assertion_text, grouped, caseless, printed, printed_all, printed_branches, barred}
+use Rattle.fancy_grammar.specs.Printed.{any_text, assertion_text, grouped, caseless, is_long, printed, repeated, printed_all, printed_branches, barred}
 use Rattle.fancy_grammar.specs.Tree.{Tree, Trees, no_trees, more_trees, any, assertion, literal, concat, alt, group, repeat, delegate}
 
 abbrev pub put_as : ℕ → Option ℕ → Text → Text
@@ -60,7 +60,9 @@ abbrev mutual
   put (concat ts) p v = open_if (nat_lt 1 p) (puts ts (close_if (nat_lt 1 p) v))
   put (alt ts) p v = open_if (nat_lt 0 p) (put_branches ts (close_if (nat_lt 0 p) v))
   put (group t) p v = 40 ∷ put t 0 (41 ∷ v)
-  put (repeat t lo hi greedy) p v = open_if (nat_lt 2 p) (put t 3 (quantifier lo hi greedy ++ close_if (nat_lt 2 p) v))
+  put (repeat t lo hi greedy) p v =
+      open_if (nat_lt 2 p) (open_if (is_long t)
+      (put t 3 (close_if (is_long t) (quantifier lo hi greedy ++ close_if (nat_lt 2 p) v))))
   put _ p v = v
 
   pub puts : Trees → Text → Text
@@ -74,6 +76,10 @@ abbrev mutual
   pub put_barred : Trees → Text → Text
   put_barred no_trees v = v
   put_barred (more_trees t ts) v = 124 ∷ put t 1 (put_barred ts v)
+
+-- what a quantifier is put behind
+abbrev pub put_repeated : Tree → Text → Text
+put_repeated t v = open_if (is_long t) (put t 3 (close_if (is_long t) v))
 
 grouped_put : (b : Bool) (w v : Text) → open_if b (w ++ close_if b v) ≡ grouped b w ++ v
 unfolding grouped
@@ -127,10 +133,11 @@ mutual
       ∙ grouped_put (nat_lt 0 p) (printed_branches ts) v
   put_text (group t) p v = ap (λ w. 40 ∷ w) (put_text t 0 (41 ∷ v) ∙ sym (append_assoc (printed t 0) (41 ∷ []) v))
   put_text (repeat t lo hi greedy) p v =
+      let w = quantifier lo hi greedy ++ close_if (nat_lt 2 p) v in
       ap (open_if (nat_lt 2 p))
-      (put_text t 3 (quantifier lo hi greedy ++ close_if (nat_lt 2 p) v)
-      ∙ sym (append_assoc (printed t 3) (quantifier lo hi greedy) (close_if (nat_lt 2 p) v)))
-      ∙ grouped_put (nat_lt 2 p) (printed t 3 ++ quantifier lo hi greedy) v
+      (ap (open_if (is_long t)) (put_text t 3 (close_if (is_long t) w)) ∙ grouped_put (is_long t) (printed t 3) w
+      ∙ sym (append_assoc (repeated t) (quantifier lo hi greedy) (close_if (nat_lt 2 p) v)))
+      ∙ grouped_put (nat_lt 2 p) (repeated t ++ quantifier lo hi greedy) v
   put_text _ p v = refl
 
   puts_text : (ts : Trees) (v : Text) → puts ts v ≡ printed_all ts ++ v

@@ -7,15 +7,16 @@ use Rattle.fancy_parts.specs.Quote.{behind_backslash, quantifier}
 use Rattle.fancy_grammar.specs.Grammar.{Derives}
 use Rattle.fancy_grammar.specs.Join.{solid, join, choice}
 use Rattle.fancy_grammar.specs.Normal.{character, items_of, under, bare, normal, items, normals}
-use Rattle.fancy_grammar.specs.Printed.{printed, printed_all, printed_branches, grouped}
+use Rattle.fancy_grammar.specs.Quantified.{is_repeatable}
+use Rattle.fancy_grammar.specs.Printed.{is_long, printed, repeated, printed_all, printed_branches, grouped}
 use Rattle.fancy_grammar.specs.Tree.{Tree, Trees, no_trees, more_trees, empty, any, assertion, literal, concat, alt, group, repeat, delegate, define_group}
 use Rattle.fancy_grammar.specs.Nest.{nest, nests, one_if, is_line}
-use Rattle.fancy_grammar.proofs.ReadBack.InFront.{put, puts, put_branches, put_barred, put_any, put_assertion, put_quotes, open_if, put_alone}
+use Rattle.fancy_grammar.proofs.ReadBack.InFront.{put, puts, put_branches, put_barred, put_repeated, put_any, put_assertion, put_quotes, open_if, close_if, put_alone}
 use Rattle.fancy_grammar.proofs.ReadBack.ClearLemmas.{Clear, Stops, Ends, clear_close, stops_bar, ends_close, ends_nothing}
 use Rattle.fancy_grammar.proofs.ReadBack.CountTexts.{NoName, clear_name, quantifier_read}
 use Rattle.fancy_grammar.proofs.ReadBack.RuleLemmas.{Becomes, kept, AtomAs, BranchAs, BranchesAs, WholeAs, Run, no_run, run_chain, reads_piece, reads_repeat, reads_branch, reads_last, reads_more, reads_whole, reads_only, reads_group, reads_grouped, reads_caseless, reads_char, reads_text, join_one}
 use Rattle.fancy_grammar.proofs.ReadBack.LeafLemmas.{Begins, whole_atom, quotes_run, reads_any, begins_any, reads_assertion, begins_assertion, read_assertion, HasText}
-use Rattle.fancy_grammar.proofs.ReadBack.ShapeLemmas.{DelegateText, Printable, ArePrintable, IsAtom, atom_of, begins_head, begins_group, begins_atom, clear_put, clear_puts}
+use Rattle.fancy_grammar.proofs.ReadBack.ShapeLemmas.{DelegateText, Printable, ArePrintable, IsAtom, atom_of, begins_head, begins_group, begins_atom, begins_repeated, clear_put, clear_puts}
 
 -- what k prints, with m groups nested, reads as the tree x
 abbrev pub ReadsAtom : Bool → (Text → Text) → ℕ → Tree → Type 0
@@ -240,21 +241,44 @@ alt_whole u (more_trees t ts) r n d v l e =
 alt_reads : (u : Bool) (ts : Trees) → EachReads u ts → Reads u (alt ts)
 alt_reads u ts r = by_whole u (put_branches ts) (nests ts 1) (Unit {0}) (choice (normals u ts)) (alt_whole u ts r)
 
+join_items : (u : Bool) (t : Tree) → join (items_of t (normal u t)) ≡ normal u t
+join_items u (literal s false) = refl
+join_items u t = join_one (normal u t)
+
+from_run : (u : Bool) (t : Tree) (p : ℕ) → ReadsRun u (put t p) (nest t p) (items_of t (normal u t)) →
+    ReadsWhole u (put t p) (nest t p) (normal u t)
+from_run u t p r =
+    to_whole u (put t p) (nest t p) (normal u t)
+    (to_branch u (put t p) (nest t p) (items_of t (normal u t)) (normal u t) (join_items u t) r)
+
+-- what is put in a group of its own where that is asked
+atom_if : (u b : Bool) (k : Text → Text) (m : ℕ) (x : Tree) → (b ≡ false → ReadsAtom u k m x) → ReadsWhole u k m x →
+    ReadsAtom u (λ v. open_if b (k (close_if b v))) (one_if b + m) x
+atom_if u true k m x a w = wrap_atom u k m x w
+atom_if u false k m x a w = λ n d v l c. a refl n d v (omega arith) c
+
+-- what a quantifier is put behind is one atom
+repeated_atom : (u : Bool) (t : Tree) → is_repeatable (bare false) (normal false t) ≡ true → Reads u t →
+    ReadsAtom u (put_repeated t) (one_if (is_long t) + nest t 3) (normal u t)
+repeated_atom u t n r =
+    atom_if u (is_long t) (put t 3) (nest t 3) (normal u t) (λ e. r.atom (atom_of t n e)) (from_run u t 3 r.high)
+
 repeat_run : (u : Bool) (t : Tree) (lo hi : ℕ) (greedy : Bool) → Printable (repeat t lo hi greedy) → Reads u t
-    → ReadsRun u (λ v. put t 3 (quantifier lo hi greedy ++ v)) (nest t 3) (repeat (normal u t) lo hi greedy ∷ [])
+    → ReadsRun u (λ v. put_repeated t (quantifier lo hi greedy ++ v)) (one_if (is_long t) + nest t 3)
+    (repeat (normal u t) lo hi greedy ∷ [])
 repeat_run u t lo hi greedy h r n d v l c =
     let q = quantifier lo hi greedy ++ v in
-    let m = quantifier_read lo hi greedy v h.3 h.4 in
-    let i = atom_of t (h.1 false) h.2 in
-    let b = begins_atom t h.0 i q in
-    reads_repeat n d (bare u) (put t 3 q) q v (normal u t) lo hi greedy
-    (kept u false false false false) b.goes b.clear.no_comment c m (h.1 u) (r.atom i n d q l m.no_name)
+    let m = quantifier_read lo hi greedy v h.2 h.3 in
+    let b = begins_repeated t (h.1 false) (begins_atom t h.0) q in
+    reads_repeat n d (bare u) (put_repeated t q) q v (normal u t) lo hi greedy
+    (kept u false false false false) b.goes b.clear.no_comment c m (h.1 u)
+    (repeated_atom u t (h.1 false) r n d q l m.no_name)
 
 repeat_reads : (u : Bool) (t : Tree) (lo hi : ℕ) (greedy : Bool) → Printable (repeat t lo hi greedy) → Reads u t →
     Reads u (repeat t lo hi greedy)
 repeat_reads u t lo hi greedy h r =
-    by_run u (λ v. put t 3 (quantifier lo hi greedy ++ v)) (nest t 3) (Unit {0}) (repeat (normal u t) lo hi greedy)
-    (repeat_run u t lo hi greedy h r)
+    by_run u (λ v. put_repeated t (quantifier lo hi greedy ++ v)) (one_if (is_long t) + nest t 3) (Unit {0})
+    (repeat (normal u t) lo hi greedy) (repeat_run u t lo hi greedy h r)
 
 mutual
   pub reads : (u : Bool) (t : Tree) → Printable t → Reads u t
@@ -278,28 +302,19 @@ mutual
 
 -- ---- any precedence
 
-join_items : (u : Bool) (t : Tree) → join (items_of t (normal u t)) ≡ normal u t
-join_items u (literal s false) = refl
-join_items u t = join_one (normal u t)
-
 pub text_high : (t : Tree) (p : ℕ) → 3 ≤ p → printed t p ≡ printed t 3
 text_high (concat ts) p h = ap (λ b. grouped b (printed_all ts)) (lt-ltb 1 p (omega arith))
 text_high (alt ts) p h = ap (λ b. grouped b (printed_branches ts)) (lt-ltb 0 p (omega arith))
 text_high (repeat t lo hi greedy) p h =
-    ap (λ b. grouped b (printed t 3 ++ quantifier lo hi greedy)) (lt-ltb 2 p (omega arith))
+    ap (λ b. grouped b (repeated t ++ quantifier lo hi greedy)) (lt-ltb 2 p (omega arith))
 text_high t p h = refl
 
 pub nest_high : (t : Tree) (p : ℕ) → 3 ≤ p → nest t p ≡ nest t 3
 nest_high (concat ts) p h = ap (λ b. one_if b + nests ts 2) (lt-ltb 1 p (omega arith))
 nest_high (alt ts) p h = ap (λ b. one_if b + nests ts 1) (lt-ltb 0 p (omega arith))
-nest_high (repeat t lo hi greedy) p h = ap (λ b. one_if b + nest t 3) (lt-ltb 2 p (omega arith))
+nest_high (repeat t lo hi greedy) p h =
+    ap (λ b. one_if b + (one_if (is_long t) + nest t 3)) (lt-ltb 2 p (omega arith))
 nest_high t p h = refl
-
-from_run : (u : Bool) (t : Tree) (p : ℕ) → ReadsRun u (put t p) (nest t p) (items_of t (normal u t)) →
-    ReadsWhole u (put t p) (nest t p) (normal u t)
-from_run u t p r =
-    to_whole u (put t p) (nest t p) (normal u t)
-    (to_branch u (put t p) (nest t p) (items_of t (normal u t)) (normal u t) (join_items u t) r)
 
 abbrev ReadsFrom : Bool → Tree → Text → Type 0
 ReadsFrom u t s = (r : Tree) × Derives (bare u) s r × Becomes r (normal u t)

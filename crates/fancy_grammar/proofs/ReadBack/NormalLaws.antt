@@ -2,14 +2,14 @@
 use Rattle.std.proofs.Common.{◌≡◌, ℕ, Bool, true, false, true≢false, not, ◌&&◌, if◌then◌else◌, List, [], ◌∷◌, ◌++◌, map, is_none, Result, Ok, Err, IfOk, refl, sym, ap, ap₂, ◌∙◌}
 use Rattle.std.specs.declared.alloc.AllocError.{AllocError}
 use Rattle.std.specs.Cmp.{first_so, second_so}
-use Rattle.std.proofs.lemmas.Bool.{not_from_false, and_from, or_parts}
+use Rattle.std.proofs.lemmas.Bool.{and_from, or_parts}
 use Rattle.std.specs.Str.{all_scalars}
 use Rattle.fancy_lex.specs.Text.{Text}
 use Rattle.fancy_lex.specs.declared.escape.Assertion.TheVariants.{StartLineOniguruma, EndTextIgnoreTrailingNewlines}
 use Rattle.fancy_parts.specs.Quote.{behind_backslash}
 use Rattle.fancy_grammar.specs.Join.{is_empty, solid, one_or, join, choice}
 use Rattle.fancy_grammar.specs.Normal.{character, items_of, normal, items, normals}
-use Rattle.fancy_grammar.specs.Printable.{is_count, is_long, printable, all_printable}
+use Rattle.fancy_grammar.specs.Printable.{is_count, printable, all_printable, takes_quantifier}
 use Rattle.fancy_grammar.specs.Tree.{Tree, Trees, no_trees, more_trees, empty, any, assertion, literal, concat, alt, group, repeat, delegate, define_group, trees_of}
 use Rattle.fancy_grammar.specs.HasDelegate.{has_delegate, any_has_delegate}
 use Rattle.fancy_grammar.proofs.ReadBack.DelegateLaws.{delegates_stay}
@@ -131,7 +131,6 @@ normal_normal t u h = (fixed u t h).same
 
 record Kept (n : Tree) : Type 0 where
   is : printable n ≡ true
-  short : is_long n ≡ false
   stays : blank n ≡ is_empty n
 
 abbrev AllKept : List Tree → Type 0
@@ -170,7 +169,7 @@ first_blank : (a b : Bool) → a ≡ false → (a && b) ≡ false
 first_blank a b e = rw e refl
 
 empty_kept : Kept empty
-empty_kept = record { is = refl; short = refl; stays = refl }
+empty_kept = record { is = refl; stays = refl }
 
 one_kept : (l : List Tree) → AllKept l → AllSolid l → Kept (one_or concat l)
 one_kept [] h s = empty_kept
@@ -178,7 +177,6 @@ one_kept (x ∷ []) h s = h.0
 one_kept (x ∷ y ∷ l) h s =
     record {
       is = all_are (x ∷ y ∷ l) h;
-      short = refl;
       stays = first_blank (blank x) (blanks (trees_of (y ∷ l))) (h.0.stays ∙ s.0);
     }
 
@@ -188,19 +186,13 @@ join_kept l h = one_kept (solid l) (solid_kept l h) (all_solid l)
 choice_kept : (l : List Tree) → AllKept l → Kept (choice l)
 choice_kept [] h = empty_kept
 choice_kept (x ∷ []) h = h.0
-choice_kept (x ∷ y ∷ l) h = record { is = all_are (x ∷ y ∷ l) h; short = refl; stays = refl }
-
-char_short : (c : ℕ) (m : Bool) → is_long (literal (c ∷ []) m) ≡ false
-char_short c true = refl
-char_short c false = refl
+choice_kept (x ∷ y ∷ l) h = record { is = all_are (x ∷ y ∷ l) h; stays = refl }
 
 characters_kept : (b : Bool) (cs : Text) → all_scalars cs ≡ true → AllKept (map (character b) cs)
 characters_kept b [] h = tt
 characters_kept b (c ∷ cs) h = (
   record {
     is = and_from _ true (first_so _ (all_scalars cs) h) refl;
-    short = char_short c
-        (b && is_none (behind_backslash c));
     stays = refl;
   },
   characters_kept b cs (second_so _ (all_scalars cs) h),
@@ -211,41 +203,35 @@ parts_kept (literal s false) n p h = characters_kept false s p
 parts_kept t n p h = solid_kept (n ∷ []) (h, tt)
 
 delegate_kept : (t : Tree) → IsDelegate t → printable t ≡ true → Kept t
-delegate_kept (delegate w i) d h = record { is = h; short = refl; stays = refl }
+delegate_kept (delegate w i) d h = record { is = h; stays = refl }
 delegate_kept _ d h = absurd d
 
 repeat_kept : (u : Bool) (t : Tree) (lo hi : ℕ) (greedy : Bool) → printable (repeat t lo hi greedy) ≡ true →
     Kept (normal u t) → Kept (repeat (normal u t) lo hi greedy)
 repeat_kept u t lo hi greedy h r =
     let k = second_so (printable t) _ h in
-    let quantifier = first_so _ (is_count lo && is_count hi) k in
-    let counts = second_so (not (is_empty (normal false t)) && not (is_long t)) _ k in
-    let full = first_so _ (not (is_long t)) quantifier in
+    let full = first_so _ (is_count lo && is_count hi) k in
+    let counts = second_so (takes_quantifier t) _ k in
     let again : is_empty (normal false (normal u t)) ≡ is_empty (normal false t) =
     normal_empty false (normal u t) ∙ r.stays ∙ normal_empty u t ∙ sym (normal_empty false t) in
-    let takes =
-    and_from (not (is_empty (normal false (normal u t)))) (not (is_long (normal u t))) (ap not again ∙ full)
-    (not_from_false (is_long (normal u t)) r.short) in
     record {
       is = and_from (printable (normal u t)) _ r.is
-          (and_from (not (is_empty (normal false (normal u t))) && not (is_long (normal u t)))
-          (is_count lo && is_count hi) takes counts);
-      short = refl;
+          (and_from (takes_quantifier (normal u t)) (is_count lo && is_count hi) (ap not again ∙ full) counts);
       stays = refl;
     }
 
 mutual
   kept : (u : Bool) (t : Tree) → printable t ≡ true → Kept (normal u t)
   kept u empty h = empty_kept
-  kept u (any a b) h = record { is = refl; short = refl; stays = refl }
+  kept u (any a b) h = record { is = refl; stays = refl }
   kept u (assertion (EndTextIgnoreTrailingNewlines crlf)) h = no_truth h
-  kept u (assertion (StartLineOniguruma crlf)) h = record { is = refl; short = refl; stays = refl }
-  kept u (assertion a) h = record { is = refl; short = refl; stays = refl }
+  kept u (assertion (StartLineOniguruma crlf)) h = record { is = refl; stays = refl }
+  kept u (assertion a) h = record { is = refl; stays = refl }
   kept u (literal s i) h = join_kept (map (character i) s) (characters_kept i s h)
   kept u (delegate s i) h = delegate_kept _ (delegate_class _ s (delegate s i) tt) (delegates_stay u i s h)
   kept u (concat ts) h = join_kept (items u ts) (kept_items u ts h)
   kept u (alt ts) h = choice_kept (normals u ts) (kept_normals u ts h)
-  kept u (group t) h = let r = kept u t h in record { is = r.is; short = refl; stays = refl }
+  kept u (group t) h = let r = kept u t h in record { is = r.is; stays = refl }
   kept u (repeat t lo hi greedy) h = repeat_kept u t lo hi greedy h (kept u t (first_so (printable t) _ h))
   kept u (define_group t) h = empty_kept
   kept u _ h = no_truth h

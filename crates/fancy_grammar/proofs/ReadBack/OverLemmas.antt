@@ -7,7 +7,7 @@ use Rattle.std.specs.Prelude.{find, max}
 use Rattle.std.specs.Option.{option_or}
 use Rattle.std.proofs.Common.{leb-true, leb-false}
 use Rattle.fancy_lex.specs.Text.{Text, bytes}
-use Rattle.fancy_grammar.specs.Printed.{printed}
+use Rattle.fancy_grammar.specs.Printed.{is_long, printed}
 use Rattle.fancy_grammar.specs.Tree.{Tree, Trees, no_trees, more_trees, any, assertion, literal, concat, alt, group, repeat, delegate}
 use Rattle.fancy_grammar.specs.Nest.{one_if, is_line, nest, nests}
 use Rattle.fancy_grammar.specs.Over.{Paren, Parens, no_parens, in_group, parens, parens_all, parens_branches, parens_barred, is_too_deep, over}
@@ -27,7 +27,7 @@ abbrev mutual
   place (concat ts) p d = at_open_if (nat_lt 1 p) d (λ e. places ts e)
   place (alt ts) p d = at_open_if (nat_lt 0 p) d (λ e. branch_places ts e)
   place (group t) p d = at_open d 1 (place t 0 (d + 1))
-  place (repeat t lo hi greedy) p d = at_open_if (nat_lt 2 p) d (λ e. place t 3 e)
+  place (repeat t lo hi greedy) p d = at_open_if (nat_lt 2 p) d (λ e. at_open_if (is_long t) e (place t 3))
   place _ p d = 0
 
   pub places : Trees → ℕ → ℕ
@@ -167,7 +167,10 @@ mutual
   parens_find (concat ts) p = if_finds (nat_lt 1 p) (parens_all ts) (nests ts 2) (places ts) (all_find ts)
   parens_find (alt ts) p = if_finds (nat_lt 0 p) (parens_branches ts) (nests ts 1) (branch_places ts) (branches_find ts)
   parens_find (group t) p = one_group t (parens_find t 0)
-  parens_find (repeat t lo hi greedy) p = if_finds (nat_lt 2 p) (parens t 3) (nest t 3) (place t 3) (parens_find t 3)
+  parens_find (repeat t lo hi greedy) p =
+      if_finds (nat_lt 2 p) (in_group (is_long t) (codes "(?:") (parens t 3)) (one_if (is_long t) + nest t 3)
+      (λ d. at_open_if (is_long t) d (place t 3))
+      (if_finds (is_long t) (parens t 3) (nest t 3) (place t 3) (parens_find t 3))
   parens_find _ p = none_find
 
   all_find : (ts : Trees) → Finds (parens_all ts) (nests ts 2) (places ts)

@@ -5,13 +5,12 @@ use Rattle.std.specs.List.{list_all}
 use Rattle.std.specs.Str.{all_scalars}
 use Rattle.std.proofs.lemmas.Bool.Decides.{nat_tests}
 use Rattle.std.proofs.lemmas.List.Folds.{list_all-append}
-use Rattle.std.proofs.lemmas.Bool.{not-true}
 use Rattle.fancy_lex.specs.Text.{Text}
 use Rattle.fancy_lex.specs.declared.escape.Assertion.TheVariants.{EndTextIgnoreTrailingNewlines, StartLineOniguruma}
 use Rattle.fancy_lex.specs.declared.flags.Flags.{Flags}
 use Rattle.fancy_grammar.specs.Join.{is_empty, solid, one_or, join, choice}
 use Rattle.fancy_grammar.specs.Normal.{character, items_of, bare, class_of, whole_leaf, whole_of, normal, items, normals}
-use Rattle.fancy_grammar.specs.Printable.{is_count, is_long, printable, all_printable}
+use Rattle.fancy_grammar.specs.Printable.{is_count, printable, all_printable, takes_quantifier}
 use Rattle.fancy_grammar.specs.Quantified.{is_repeatable}
 use Rattle.fancy_grammar.specs.State.{Outcome, done, fault}
 use Rattle.fancy_grammar.specs.Tree.{Tree, Trees, no_trees, more_trees, empty, any, assertion, literal, concat, alt, group, repeat, delegate, define_group}
@@ -179,14 +178,10 @@ mutual
   told (repeat t lo hi greedy) h =
       let child = told t (first_so (printable t) _ h) in
       let k = second_so (printable t) _ h in
-      let quantifier = first_so _ (is_count lo && is_count hi) k in
-      let counts = second_so (not (is_empty (normal false t)) && not (is_long t)) _ k in (
+      let counts = second_so (takes_quantifier t) _ k in (
         child,
-        takes t child (first_so _ (not (is_long t)) quantifier),
-        not-true (is_long t)
-            (second_so (not (is_empty (normal false t))) _ quantifier),
-        count_below lo
-            (first_so _ (is_count hi) counts),
+        takes t child (first_so _ (is_count lo && is_count hi) k),
+        count_below lo (first_so _ (is_count hi) counts),
         count_below hi (second_so (is_count lo) _ counts),
       )
   told (define_group t) h = tt

@@ -1,12 +1,12 @@
 -- What is printable, as a type; and how printed texts begin.
-use Rattle.std.proofs.Common.{◌≡◌, ℕ, ◌^◌, ◌<◌, ◌==◌, Bool, true, false, nat_lt, [], ◌∷◌, ◌++◌, length, refl, sym, ◌∙◌, arith, lt-ltb}
+use Rattle.std.proofs.Common.{◌≡◌, ℕ, ◌^◌, ◌<◌, ◌==◌, Bool, true, false, nat_lt, [], ◌∷◌, ◌++◌, refl, sym}
 use Rattle.fancy_lex.specs.Text.{Text}
 use Rattle.fancy_parts.specs.Quote.{behind_backslash, quantifier}
-use Rattle.fancy_grammar.specs.Printable.{is_long}
+use Rattle.fancy_grammar.specs.Printed.{is_long}
 use Rattle.fancy_grammar.specs.Quantified.{is_repeatable}
 use Rattle.fancy_grammar.specs.Tree.{Tree, Trees, no_trees, more_trees, empty, any, assertion, literal, concat, alt, group, repeat, delegate, define_group}
 use Rattle.fancy_grammar.specs.Normal.{under, bare, normal}
-use Rattle.fancy_grammar.proofs.ReadBack.InFront.{put, puts, put_branches, put_barred, open_if, close_if}
+use Rattle.fancy_grammar.proofs.ReadBack.InFront.{put, puts, put_branches, put_barred, put_repeated, open_if, close_if}
 use Rattle.fancy_grammar.proofs.ReadBack.ClearLemmas.{no_truth, Clear, not_asking, clear_lazy, clear_close, stops_bar}
 use Rattle.fancy_grammar.proofs.ReadBack.RuleLemmas.{AtomAs}
 use Rattle.fancy_grammar.proofs.ReadBack.LeafLemmas.{Begins, begins_char, begins_any, begins_assertion, quotes_clear, HasText}
@@ -28,8 +28,7 @@ abbrev mutual
   Printable (alt ts) = ArePrintable ts
   Printable (group t) = Printable t
   Printable (repeat t lo hi greedy) =
-      Printable t × ((u : Bool) → is_repeatable (bare u) (normal u t) ≡ true) × (is_long t ≡ false) × (lo < 2 ^ 64)
-      × (hi < 2 ^ 64)
+      Printable t × ((u : Bool) → is_repeatable (bare u) (normal u t) ≡ true) × (lo < 2 ^ 64) × (hi < 2 ^ 64)
   Printable (define_group t) = Unit {0}
   Printable _ = ⊥
 
@@ -47,14 +46,11 @@ IsAtom empty = ⊥
 IsAtom (define_group t) = ⊥
 IsAtom _ = Unit {0}
 
-long_two : (c d : ℕ) (cs : Text) → is_long (literal (c ∷ d ∷ cs) false) ≡ true
-long_two c d cs = lt-ltb 1 (length (c ∷ d ∷ cs)) (omega arith)
-
 pub atom_of : (t : Tree) → is_repeatable (bare false) (normal false t) ≡ true → is_long t ≡ false → IsAtom t
 atom_of (literal s true) n l = tt
 atom_of (literal [] false) n l = no_truth n
 atom_of (literal (c ∷ []) false) n l = tt
-atom_of (literal (c ∷ d ∷ cs) false) n l = no_truth (sym l ∙ long_two c d cs)
+atom_of (literal (c ∷ d ∷ cs) false) n l = no_truth (sym l)
 atom_of empty n l = no_truth n
 atom_of (define_group t) n l = no_truth n
 atom_of _ n l = tt
@@ -65,6 +61,14 @@ begins_head x s e = record { clear = record { no_comment = rw e refl; no_mark = 
 
 pub begins_group : (s : Text) → Clear s → Begins (40 ∷ s)
 begins_group s c = record { clear = record { no_comment = not_asking s (clear_lazy s c); no_mark = refl }; goes = refl }
+
+-- what a quantifier is put behind begins an atom
+pub begins_repeated : (t : Tree) → is_repeatable (bare false) (normal false t) ≡ true →
+    (IsAtom t → (w : Text) → Begins (put t 3 w)) → (v : Text) → Begins (put_repeated t v)
+begins_repeated t n h v = by_length (is_long t) refl where
+  by_length : (b : Bool) → is_long t ≡ b → Begins (open_if b (put t 3 (close_if b v)))
+  by_length true e = begins_head 58 _ refl
+  by_length false e = h (atom_of t n e) v
 
 clear_if : (b : Bool) (k : Text → Text) (v : Text) → ((w : Text) → Clear w → Clear (k w)) → Clear v →
     Clear (open_if b (k (close_if b v)))
@@ -101,8 +105,8 @@ mutual
   clear_put (alt ts) h p v c = clear_if (nat_lt 0 p) (put_branches ts) v (λ w e. clear_branches ts h w e) c
   clear_put (group t) h p v c = (begins_group _ (clear_put t h 0 (41 ∷ v) (clear_close v))).clear
   clear_put (repeat t lo hi greedy) h p v c =
-      clear_if (nat_lt 2 p) (λ w. put t 3 (quantifier lo hi greedy ++ w)) v
-      (λ w e. (begins_atom t h.0 (atom_of t (h.1 false) h.2) (quantifier lo hi greedy ++ w)).clear) c
+      clear_if (nat_lt 2 p) (λ w. put_repeated t (quantifier lo hi greedy ++ w)) v
+      (λ w e. (begins_repeated t (h.1 false) (λ i s. begins_atom t h.0 i s) (quantifier lo hi greedy ++ w)).clear) c
   clear_put (define_group t) h p v c = c
   clear_put _ h p v c = absurd h
 

@@ -8,19 +8,19 @@ use Rattle.fancy_lex.specs.declared.escape.Assertion.TheVariants.{StartLine, Sta
 use Rattle.fancy_parts.specs.Quote.{quantifier}
 use Rattle.fancy_lex.proofs.TextLemmas.{bytes-append}
 use Rattle.fancy_grammar.specs.Grammar.{Alternation, Branches, Pieces, Atom, Faults}
-use Rattle.fancy_grammar.specs.Printed.{printed}
+use Rattle.fancy_grammar.specs.Printed.{is_long, printed}
 use Rattle.fancy_grammar.specs.State.{fault}
 use Rattle.fancy_grammar.specs.Tree.{Tree, Trees, no_trees, more_trees, empty, any, assertion, literal, concat, alt, group, repeat, delegate, define_group}
-use Rattle.fancy_grammar.specs.Nest.{nest, nests}
+use Rattle.fancy_grammar.specs.Nest.{one_if, nest, nests}
 use Rattle.fancy_grammar.specs.Normal.{bare}
 use Rattle.fancy_grammar.specs.Over.{over}
 use Rattle.fancy_grammar.proofs.ReadBack.OverLemmas.{over_place, at_open, at_open_if, place, places, branch_places, barred_places}
-use Rattle.fancy_grammar.proofs.ReadBack.InFront.{put, puts, put_branches, put_barred, put_any, put_assertion, put_line, put_quotes, open_if, close_if, put_alone, put_text}
+use Rattle.fancy_grammar.proofs.ReadBack.InFront.{put, puts, put_branches, put_barred, put_repeated, put_any, put_assertion, put_line, put_quotes, open_if, close_if, put_alone, put_text}
 use Rattle.fancy_grammar.proofs.ReadBack.ClearLemmas.{Clear, Ends, clear_close, stops_bar, ends_close, ends_nothing}
 use Rattle.fancy_grammar.proofs.ReadBack.LeafLemmas.{begins_any, begins_assertion, HasText}
 use Rattle.fancy_grammar.proofs.ReadBack.Induction.{Starts, wrapped, wrap_starts, EachReads, reads_each, text_high, nest_high}
 use Rattle.fancy_grammar.proofs.ReadBack.RuleLemmas.{st, kept, fails_deep, fails_group, fails_grouped, fails_piece, fails_first, fails_more, fails_whole, fails_text}
-use Rattle.fancy_grammar.proofs.ReadBack.ShapeLemmas.{Printable, ArePrintable, atom_of, begins_head, begins_group, begins_atom, clear_put, clear_puts}
+use Rattle.fancy_grammar.proofs.ReadBack.ShapeLemmas.{Printable, ArePrintable, begins_head, begins_group, begins_atom, begins_repeated, clear_put, clear_puts}
 
 -- the text that is left at that place
 abbrev left_open : ℕ → Text → Text → Text
@@ -36,8 +36,8 @@ abbrev mutual
   left (alt ts) p d v = left_if (nat_lt 0 p) d (λ w. put_branches ts w) (λ e w. branch_lefts ts e w) v
   left (group t) p d v = left_open d (40 ∷ put t 0 (41 ∷ v)) (left t 0 (d + 1) (41 ∷ v))
   left (repeat t lo hi greedy) p d v =
-      left_if (nat_lt 2 p) d (λ w. put t 3 (quantifier lo hi greedy ++ w))
-      (λ e w. left t 3 e (quantifier lo hi greedy ++ w)) v
+      left_if (nat_lt 2 p) d (λ w. put_repeated t (quantifier lo hi greedy ++ w))
+      (λ e w. left_if (is_long t) e (put t 3) (left t 3) (quantifier lo hi greedy ++ w)) v
   left t p d v = put t p v
 
   lefts : Trees → ℕ → Text → Text
@@ -48,6 +48,9 @@ abbrev mutual
   branch_lefts no_trees d v = v
   branch_lefts (more_trees t ts) d v =
       if nat_le 64 (d + nest t 1) then left t 1 d (put_barred ts v) else branch_lefts ts d v
+
+abbrev repeated_left : Tree → ℕ → Text → Text
+repeated_left t d v = left_if (is_long t) d (put t 3) (left t 3) v
 
 -- What k prints in front of v, with m groups nested, fails where o leaves.
 abbrev AtomFails : Bool → ℕ → ℕ → Text → Text → Type 0
@@ -234,14 +237,26 @@ alt_fails u (more_trees t (more_trees x xs)) r q n d v l m e =
     (r.0.branch n d (124 ∷ rest) b (stops_bar rest))
     (alt_fails u (more_trees x xs) r.1 q.1 n d v l (omega arith) e))
 
+-- what is put in a group of its own where that is asked
+fails_if : (u b : Bool) (k : Text → Text) (m : ℕ) (o : ℕ → Text → Text) → FailsAtom u k m o → FailsWhole u k m o →
+    FailsAtom u (λ v. open_if b (k (close_if b v))) (one_if b + m) (λ d v. left_if b d k o v)
+fails_if u true k m o a w = wrap_fails u k m o w
+fails_if u false k m o a w = λ n d v l h. a n d v l (omega arith)
+
+-- what a quantifier is put behind
+repeated_fails : (u : Bool) (t : Tree) → Fails u t →
+    FailsAtom u (put_repeated t) (one_if (is_long t) + nest t 3) (repeated_left t)
+repeated_fails u t q =
+    fails_if u (is_long t) (put t 3) (nest t 3) (left t 3) q.atom (to_whole u (put t 3) (nest t 3) (left t 3) q.high)
+
 repeat_fails : (u : Bool) (t : Tree) (lo hi : ℕ) (greedy : Bool) → Printable (repeat t lo hi greedy) → Fails u t
-    → FailsRun u (λ v. put t 3 (quantifier lo hi greedy ++ v)) (nest t 3)
-    (λ d v. left t 3 d (quantifier lo hi greedy ++ v))
+    → FailsRun u (λ v. put_repeated t (quantifier lo hi greedy ++ v)) (one_if (is_long t) + nest t 3)
+    (λ d v. repeated_left t d (quantifier lo hi greedy ++ v))
 repeat_fails u t lo hi greedy h q n d v l m c =
     let w = quantifier lo hi greedy ++ v in
-    let b = begins_atom t h.0 (atom_of t (h.1 false) h.2) w in
-    fails_piece n d (bare u) recursion_exceeded _ (put t 3 w) (kept u false false false false) b.goes b.clear.no_comment
-    (q.atom n d w l m)
+    let b = begins_repeated t (h.1 false) (begins_atom t h.0) w in
+    fails_piece n d (bare u) recursion_exceeded _ (put_repeated t w) (kept u false false false false) b.goes
+    b.clear.no_comment (repeated_fails u t q n d w l m)
 
 mutual
   fails : (u : Bool) (t : Tree) → Printable t → Fails u t
@@ -262,8 +277,8 @@ mutual
       (alt_fails u ts (reads_each u ts h) (fails_each u ts h) n d v l m e))
   fails u (group t) h = group_fails u t h (fails u t h)
   fails u (repeat t lo hi greedy) h =
-      by_run u (λ v. put t 3 (quantifier lo hi greedy ++ v)) (nest t 3)
-      (λ d v. left t 3 d (quantifier lo hi greedy ++ v)) (repeat_fails u t lo hi greedy h (fails u t h.0))
+      by_run u (λ v. put_repeated t (quantifier lo hi greedy ++ v)) (one_if (is_long t) + nest t 3)
+      (λ d v. repeated_left t d (quantifier lo hi greedy ++ v)) (repeat_fails u t lo hi greedy h (fails u t h.0))
   fails u (define_group t) h = by_none u (λ v. v) (λ d v. v)
   fails u _ h = absurd h
 
@@ -317,8 +332,10 @@ mutual
       open_bytes d 1 (place t 0 (d + 1)) (40 ∷ put t 0 (41 ∷ v)) (left t 0 (d + 1) (41 ∷ v))
       (omega (arith, left_bytes t 0 (d + 1) (41 ∷ v), paren_bytes (put t 0 (41 ∷ v))))
   left_bytes (repeat t lo hi greedy) p d v =
-      if_bytes (nat_lt 2 p) d (λ w. put t 3 (quantifier lo hi greedy ++ w)) (place t 3)
-      (λ e w. left t 3 e (quantifier lo hi greedy ++ w)) v (λ e w. left_bytes t 3 e (quantifier lo hi greedy ++ w))
+      if_bytes (nat_lt 2 p) d (λ w. put_repeated t (quantifier lo hi greedy ++ w))
+      (λ e. at_open_if (is_long t) e (place t 3)) (λ e w. repeated_left t e (quantifier lo hi greedy ++ w)) v
+      (λ e w. if_bytes (is_long t) e (put t 3) (place t 3) (left t 3) (quantifier lo hi greedy ++ w)
+      (λ c x. left_bytes t 3 c x))
   left_bytes _ p d v = omega arith
 
   lefts_bytes : (ts : Trees) (d : ℕ) (v : Text) → places ts d + bytes (lefts ts d v) ≡ bytes (puts ts v)
@@ -348,7 +365,8 @@ mutual
 place_high : (t : Tree) (p : ℕ) → 3 ≤ p → place t p 0 ≡ place t 3 0
 place_high (concat ts) p h = ap (λ b. at_open_if b 0 (places ts)) (lt-ltb 1 p (omega arith))
 place_high (alt ts) p h = ap (λ b. at_open_if b 0 (branch_places ts)) (lt-ltb 0 p (omega arith))
-place_high (repeat t lo hi greedy) p h = ap (λ b. at_open_if b 0 (place t 3)) (lt-ltb 2 p (omega arith))
+place_high (repeat t lo hi greedy) p h =
+    ap (λ b. at_open_if b 0 (λ e. at_open_if (is_long t) e (place t 3))) (lt-ltb 2 p (omega arith))
 place_high t p h = refl
 
 abbrev DeepFrom : Bool → Text → ℕ → Type 0

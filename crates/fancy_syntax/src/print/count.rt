@@ -4,12 +4,13 @@ ghost use Rattle.std.specs.List.{list_all};
 ghost use Rattle.fancy_lex.specs.Text.{Text, bytes};
 ghost use Rattle.fancy_parts.specs.Quote.{quantifier};
 ghost use Rattle.fancy_parts.specs.Room.{in_word};
-ghost use Rattle.fancy_grammar.specs.Printed.{printed, printed_all, printed_branches, grouped, caseless};
+ghost use Rattle.fancy_grammar.specs.Printed.{printed, repeated, printed_all, printed_branches, grouped, caseless};
 ghost use Rattle.fancy_grammar.specs.Tree.{trees_of};
 ghost use Rattle.fancy_syntax.specs.View.{view, views};
 
 use crate::expr::Expr;
 use crate::print::fixed::{any_text, assertion_text};
+use crate::print::repeated::is_long;
 use fancy_parts::quote::{quantifier_len, quotes_len};
 use fancy_parts::room::{ascii_len, text_len};
 
@@ -102,8 +103,17 @@ fn group_len(tree: &Expr) -> usize
 #[inline(never)]
 #[tactic(auto, using(crate::proofs::PrintLemmas::count_steps))]
 fn repeat_len(child: &Expr, lo: usize, hi: usize, greedy: bool, is_grouped: bool) -> usize
-    ensures { result ≡ in_word (bytes (grouped is_grouped (printed (view child.now) 3 ++ quantifier lo hi greedy))) }
+    ensures { result ≡ in_word (bytes (grouped is_grouped (repeated (view child.now) ++ quantifier lo hi greedy))) }
 {
-    let len = tree_len(child, 3).saturating_add(quantifier_len(lo, hi, greedy));
+    let len = repeated_len(child).saturating_add(quantifier_len(lo, hi, greedy));
     grouped_len(is_grouped, len)
+}
+
+/// The length of what a quantifier stands behind.
+#[cycle(count)]
+#[inline]
+fn repeated_len(tree: &Expr) -> usize
+    ensures { result ≡ in_word (bytes (repeated (view tree.now))) }
+{
+    grouped_len(is_long(tree), tree_len(tree, 3))
 }

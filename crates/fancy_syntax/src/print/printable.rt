@@ -1,5 +1,5 @@
-//! Whether a tree's text reads back as its normal form.
-ghost use Rattle.std.specs.Prelude.{◌≡◌, false, nat_lt, length, chars, IfOk};
+//! Whether a tree's text reads back as its normal form, where fewer than 64 printed groups nest.
+ghost use Rattle.std.specs.Prelude.{◌≡◌, false, IfOk};
 ghost use Rattle.fancy_grammar.specs.Join.{is_empty, join};
 ghost use Rattle.fancy_grammar.specs.Normal.{normal, items};
 ghost use Rattle.fancy_grammar.specs.Printable as spec;
@@ -30,7 +30,7 @@ pub(crate) fn is_printable(alloc: Global, tree: &Expr) -> Result<bool, AllocErro
         Expr::Repeat { child, lo, hi, .. } => {
             // Once read, they are known to be counts.
             let _counts = (*lo, *hi);
-            Ok(takes_quantifier(child) && is_printable(alloc, child)?)
+            Ok(!is_empty_in_normal_form(child) && is_printable(alloc, child)?)
         }
         Expr::DefineGroup { .. } => Ok(true),
         _ => Ok(false),
@@ -54,33 +54,6 @@ fn has_text(assertion: Assertion) -> bool
     ensures { result ≡ spec.printable (tree.assertion assertion) }
 {
     !matches!(assertion, Assertion::EndTextIgnoreTrailingNewlines { .. })
-}
-
-/// Whether a quantifier may stand behind the tree's text.
-fn takes_quantifier(tree: &Expr) -> bool
-    ensures { result ≡ spec.takes_quantifier (view tree.now) }
-{
-    !is_empty_in_normal_form(tree) && !is_long(tree)
-}
-
-/// Whether a quantifier would take the last character of the tree's text alone.
-fn is_long(tree: &Expr) -> bool
-    ensures { result ≡ spec.is_long (view tree.now) }
-{
-    match tree {
-        Expr::Literal { val, casei: false } => has_several(val.as_str()),
-        _ => false,
-    }
-}
-
-/// Whether the text has two characters or more.
-fn has_several(text: &str) -> bool
-    ensures { result ≡ nat_lt 1 (length (chars text.now)) }
-{
-    let Some((_, rest)) = next(text) else {
-        return false;
-    };
-    next(rest).is_some()
 }
 
 /// Whether the tree's normal form is Empty. It looks into no Group and no Repeat, so that `is_printable`, which asks it

@@ -3,12 +3,13 @@ ghost use Rattle.std.specs.Prelude.{◌≡◌, ◌++◌, codes, if◌then◌else
 ghost use Rattle.std.specs.List.{list_all};
 ghost use Rattle.fancy_parts.specs.Quote.{quotes, quantifier};
 ghost use Rattle.fancy_parts.specs.Room.{HasRoom, Appended};
-ghost use Rattle.fancy_grammar.specs.Printed.{printed, printed_all, printed_branches, grouped, caseless};
+ghost use Rattle.fancy_grammar.specs.Printed.{printed, repeated, printed_all, printed_branches, grouped, caseless};
 ghost use Rattle.fancy_grammar.specs.Tree.{trees_of};
 ghost use Rattle.fancy_syntax.specs.View.{view, views};
 
 use crate::expr::Expr;
 use crate::print::fixed::{any_text, assertion_text};
+use crate::print::repeated::is_long;
 use fancy_parts::quote::{put_quantifier, put_quotes};
 use fancy_parts::room::{put, put_ascii, put_text};
 
@@ -160,11 +161,25 @@ fn put_group(buf: &mut String, tree: &Expr)
 #[inline(never)]
 #[tactic(auto, using(crate::proofs::PrintLemmas::write_steps))]
 fn put_repeat(buf: &mut String, child: &Expr, lo: usize, hi: usize, greedy: bool, is_grouped: bool)
-    requires { HasRoom buf.old (grouped is_grouped (printed (view child.now) 3 ++ quantifier lo hi greedy)) }
-    ensures { Appended buf.old buf.new (grouped is_grouped (printed (view child.now) 3 ++ quantifier lo hi greedy)) }
+    requires { HasRoom buf.old (grouped is_grouped (repeated (view child.now) ++ quantifier lo hi greedy)) }
+    ensures { Appended buf.old buf.new (grouped is_grouped (repeated (view child.now) ++ quantifier lo hi greedy)) }
 {
     put_if(buf, is_grouped, "(?:");
-    put_tree(buf, child, 3);
+    put_repeated(buf, child);
     put_quantifier(buf, lo, hi, greedy);
+    put_if(buf, is_grouped, ")");
+}
+
+/// Writes what a quantifier stands behind.
+#[cycle(write)]
+#[inline]
+#[tactic(auto, using(crate::proofs::PrintLemmas::write_steps))]
+fn put_repeated(buf: &mut String, tree: &Expr)
+    requires { HasRoom buf.old (repeated (view tree.now)) }
+    ensures { Appended buf.old buf.new (repeated (view tree.now)) }
+{
+    let is_grouped = is_long(tree);
+    put_if(buf, is_grouped, "(?:");
+    put_tree(buf, tree, 3);
     put_if(buf, is_grouped, ")");
 }

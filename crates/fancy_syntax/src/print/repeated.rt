@@ -1,0 +1,30 @@
+//! What is put in a group of its own where a quantifier stands behind it.
+ghost use Rattle.std.specs.Prelude.{◌≡◌, false, chars};
+ghost use Rattle.fancy_grammar.specs.Printed as spec;
+ghost use Rattle.fancy_grammar.specs.Tree.{literal};
+ghost use Rattle.fancy_syntax.specs.View.{view};
+
+use crate::expr::Expr;
+use fancy_lex::text::next;
+
+/// Whether a quantifier would take the last character of the tree's text alone.
+#[inline]
+pub fn is_long(tree: &Expr) -> bool
+    ensures { result ≡ spec.is_long (view tree.now) }
+{
+    match tree {
+        Expr::Literal { val, casei: false } => has_several(val.as_str()),
+        _ => false,
+    }
+}
+
+/// Whether the text has two characters or more.
+#[inline]
+fn has_several(text: &str) -> bool
+    ensures { result ≡ spec.is_long (literal (chars text.now) false) }
+{
+    let Some((_, rest)) = next(text) else {
+        return false;
+    };
+    next(rest).is_some()
+}
