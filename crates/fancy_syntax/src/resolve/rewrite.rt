@@ -100,7 +100,14 @@ fn resolve_node(
             target,
             casei,
             relative_recursion_level,
-        } => resolve_backref(target, casei, relative_recursion_level, place, known, progress),
+        } => resolve_backref(
+            target,
+            casei,
+            relative_recursion_level,
+            place,
+            known,
+            progress,
+        ),
         AstNode::SubroutineCall(target) => resolve_call(target, place, known, progress),
         AstNode::BackrefExistsCondition {
             target,
