@@ -1,10 +1,12 @@
 -- How the resolver's own values stand to the definitions.
-use Rattle.std.specs.Prelude.{ℕ, Option, chars, map, option_map}
+use Rattle.std.specs.Prelude.{ℕ, ◌||◌, Option, None, chars, map, option_map}
 use Rattle.fancy_lex.specs.Fault.{Fault, kind_of}
 use Rattle.fancy_lex.specs.declared.error.ParseError as declared
 use Rattle.fancy_lex.specs.Target.{view_target}
 use Rattle.fancy_lex.specs.declared.name.CaptureGroupTarget.{CaptureGroupTarget}
-use Rattle.fancy_parts.specs.Groups.{groups_of, named, role_of}
+use Rattle.fancy_parts.specs.Groups.{groups_of, meaning_of, named, role_of}
+use Rattle.fancy_parts.specs.Meaning.{fault_or}
+use Rattle.fancy_parts.specs.declared.ranks.Meaning.{Meaning}
 use Rattle.fancy_parts.specs.declared.ranks.Role.{Role}
 use Rattle.fancy_grammar.specs.Marks as spec
 use Rattle.fancy_grammar.specs.Walk as walk
@@ -38,6 +40,24 @@ number_meant k p role target =
 abbrev pub noted_one : Known → Progress → ℕ → Role → CaptureGroupTarget → walk.Progress
 noted_one k p place role target =
     walk.note_reference (known_of k) (progress_of p) place (role_of role) (view_target target)
+
+-- the walk with what the form of a reference says noted
+abbrev pub form_noted : Known → Progress → ℕ → Role → CaptureGroupTarget → walk.Progress
+form_noted k p place role target = record (progress_of p) {
+  numeric = p.numeric || spec.is_numeric (chars k.pattern.now) place (role_of role) (view_target target);
+  calls = p.calls || spec.is_call (role_of role);
+  self_recursive = p.self_recursive || spec.is_call_of_all (role_of role) (view_target target);
+}
+
+-- the walk with what the meaning of a reference says noted
+abbrev pub meaning_noted : Known → Progress → ℕ → Role → Meaning → walk.Progress
+meaning_noted k p place role m =
+    let total = (groups_of k.groups).total in let number = spec.back_number (role_of role) (meaning_of m) in
+    record (progress_of p) {
+      backrefs = walk.with_backref total p.backrefs.keys number;
+      out_of_range = walk.or_else p.out_of_range (walk.beyond total number);
+      fault = walk.or_else (option_map fault_at p.fault) (fault_or (meaning_of m) place None);
+    }
 
 abbrev pub view_marks : Marks → spec.Marks
 view_marks m = record {

@@ -1,8 +1,9 @@
 //! What the second walk knows, and what it notes of each reference.
 ghost use Rattle.std.specs.Prelude.{◌≡◌, ◌<◌, ◌^◌, chars, IfOk};
 ghost use Rattle.fancy_grammar.specs.Marks as spec;
-ghost use Rattle.fancy_syntax.specs.Notes.{progress_of, number_meant, noted_one};
-ghost use Rattle.fancy_grammar.specs.Walk.{nothing_noted};
+ghost use Rattle.fancy_parts.specs.Groups.{meaning_of};
+ghost use Rattle.fancy_syntax.specs.Notes.{progress_of, number_meant, noted_one, form_noted, meaning_noted};
+ghost use Rattle.fancy_grammar.specs.Walk.{nothing_noted, number_in};
 
 use fancy_lex::error::ParseError;
 use fancy_lex::name::CaptureGroupTarget;
@@ -72,6 +73,21 @@ pub(super) fn refer(
     ensures passed { progress.new.passed ≡ progress.old.passed }
 {
     let meaning = meaning_behind(&known.groups, progress.passed, role, target)?;
+    note_form(known, progress, place, role, target);
+    note_meaning(known, progress, place, role, meaning)
+}
+
+/// Notes how the reference is written: as a number, as a call, as a call of the whole pattern.
+fn note_form(
+    known: &Known,
+    progress: &mut Progress,
+    place: usize,
+    role: Role,
+    target: &CaptureGroupTarget,
+)
+    ensures progress { progress_of progress.new
+        ≡ form_noted known.now progress.old place role target.now }
+{
     match role {
         Role::Call => progress.calls = true,
         _ => {}
@@ -92,6 +108,21 @@ pub(super) fn refer(
             Role::Condition => {}
         }
     }
+}
+
+/// Notes the number that the reference means, or its fault, and answers the number.
+fn note_meaning(
+    known: &Known,
+    progress: &mut Progress,
+    place: usize,
+    role: Role,
+    meaning: Meaning,
+) -> Result<Option<usize>, AllocError>
+    ensures number { IfOk result (λ n. n ≡ number_in (meaning_of meaning)) }
+    ensures progress { IfOk result
+        (λ _. progress_of progress.new ≡ meaning_noted known.now progress.old place role meaning) }
+    ensures passed { progress.new.passed ≡ progress.old.passed }
+{
     match meaning {
         Meaning::Number(number) => {
             if let Role::BackReference = role {

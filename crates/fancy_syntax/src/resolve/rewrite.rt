@@ -1,15 +1,18 @@
 //! The second walk: each capturing group becomes a `Group`, and each reference what it means.
 ghost use Rattle.std.specs.Prelude.{◌≡◌, ◌+◌, ◌<◌, ◌^◌, length, IfOk, option_map};
+ghost use Rattle.fancy_lex.specs.Target.{view_target};
 ghost use Rattle.fancy_lex.specs.Text.{text_of};
 ghost use Rattle.fancy_parts.specs.Ranks.{is_counted};
+ghost use Rattle.fancy_parts.specs.declared.ranks.Role.TheVariants as does;
 ghost use Rattle.fancy_grammar.specs.Items.{items, items_all, items_absent, items_ast, openings_in};
-ghost use Rattle.fancy_syntax.specs.Notes.{known_of, progress_of};
-ghost use Rattle.fancy_grammar.specs.Tree.{trees_of, ast_node};
+ghost use Rattle.fancy_syntax.specs.Notes.{known_of, progress_of, noted_one};
+ghost use Rattle.fancy_grammar.specs.Tree.{trees_of, ast_node, ast_backref, ast_call, ast_condition};
 ghost use Rattle.fancy_syntax.specs.View.{view, view_absent, view_ast, views};
 ghost use Rattle.fancy_grammar.specs.Walk.{noted, rebuilt, rebuilt_all, rebuilt_absent};
 
 use crate::expr::{Absent, AstNode, Expr};
 use crate::resolve::notes::{Known, Progress, refer};
+use fancy_lex::name::CaptureGroupTarget;
 use fancy_parts::ranks::Role;
 use std::alloc::AllocError;
 use std::mem;
@@ -97,50 +100,102 @@ fn resolve_node(
             target,
             casei,
             relative_recursion_level,
-        } => match refer(known, progress, place, Role::BackReference, &target)? {
-            Some(group) => match relative_recursion_level {
-                Some(relative_level) => Ok(Expr::BackrefWithRelativeRecursionLevel {
-                    group,
-                    relative_level,
-                    casei,
-                }),
-                None => Ok(Expr::Backref { group, casei }),
-            },
-            None => Ok(Expr::AstNode(
-                AstNode::Backref {
-                    target,
-                    casei,
-                    relative_recursion_level,
-                },
-                place,
-            )),
-        },
-        AstNode::SubroutineCall(target) => match refer(
+        } => resolve_backref(
+            target,
+            casei,
+            relative_recursion_level,
+            place,
             known,
             progress,
-            place,
-            Role::Call,
-            &target,
-        )? {
-            Some(group) => Ok(Expr::SubroutineCall(group)),
-            None => Ok(Expr::AstNode(AstNode::SubroutineCall(target), place)),
-        },
+        ),
+        AstNode::SubroutineCall(target) => resolve_call(target, place, known, progress),
         AstNode::BackrefExistsCondition {
             target,
             relative_recursion_level,
-        } => match refer(known, progress, place, Role::Condition, &target)? {
-            Some(group) => Ok(Expr::BackrefExistsCondition {
+        } => resolve_condition(target, relative_recursion_level, place, known, progress),
+    }
+}
+
+/// The reference back that is read at the place, resolved.
+fn resolve_backref(
+    target: CaptureGroupTarget,
+    casei: bool,
+    relative_recursion_level: Option<isize>,
+    place: usize,
+    known: &Known,
+    progress: &mut Progress,
+) -> Result<Expr, AllocError>
+    requires { progress.old.passed < 2 ^ 63 }
+    ensures tree { IfOk result (λ e. view e ≡ rebuilt (known_of known.now) (progress_of progress.old)
+        (ast_node (ast_backref (view_target target) casei relative_recursion_level) place)) }
+    ensures progress { IfOk result
+        (λ _. progress_of progress.new ≡ noted_one known.now progress.old place does.BackReference target) }
+{
+    match refer(known, progress, place, Role::BackReference, &target)? {
+        Some(group) => match relative_recursion_level {
+            Some(relative_level) => Ok(Expr::BackrefWithRelativeRecursionLevel {
                 group,
-                relative_recursion_level,
+                relative_level,
+                casei,
             }),
-            None => Ok(Expr::AstNode(
-                AstNode::BackrefExistsCondition {
-                    target,
-                    relative_recursion_level,
-                },
-                place,
-            )),
+            None => Ok(Expr::Backref { group, casei }),
         },
+        None => Ok(Expr::AstNode(
+            AstNode::Backref {
+                target,
+                casei,
+                relative_recursion_level,
+            },
+            place,
+        )),
+    }
+}
+
+/// The call that is read at the place, resolved.
+fn resolve_call(
+    target: CaptureGroupTarget,
+    place: usize,
+    known: &Known,
+    progress: &mut Progress,
+) -> Result<Expr, AllocError>
+    requires { progress.old.passed < 2 ^ 63 }
+    ensures tree { IfOk result (λ e. view e ≡ rebuilt (known_of known.now) (progress_of progress.old)
+        (ast_node (ast_call (view_target target)) place)) }
+    ensures progress { IfOk result
+        (λ _. progress_of progress.new ≡ noted_one known.now progress.old place does.Call target) }
+{
+    match refer(known, progress, place, Role::Call, &target)? {
+        Some(group) => Ok(Expr::SubroutineCall(group)),
+        None => Ok(Expr::AstNode(AstNode::SubroutineCall(target), place)),
+    }
+}
+
+/// The condition that is read at the place, resolved.
+fn resolve_condition(
+    target: CaptureGroupTarget,
+    relative_recursion_level: Option<isize>,
+    place: usize,
+    known: &Known,
+    progress: &mut Progress,
+) -> Result<Expr, AllocError>
+    requires { progress.old.passed < 2 ^ 63 }
+    ensures tree { IfOk result (λ e. view e ≡ rebuilt (known_of known.now) (progress_of progress.old)
+        (ast_node (ast_condition (view_target target) relative_recursion_level) place)) }
+    ensures progress { IfOk result
+        (λ _. progress_of progress.new ≡ noted_one known.now progress.old place does.Condition target) }
+{
+    match refer(known, progress, place, Role::Condition, &target)? {
+        Some(group) => Ok(Expr::BackrefExistsCondition {
+            group,
+            relative_recursion_level,
+        }),
+        None => Ok(Expr::AstNode(
+            AstNode::BackrefExistsCondition {
+                target,
+                relative_recursion_level,
+            },
+            place,
+        )),
     }
 }
 
