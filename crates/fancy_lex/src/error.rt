@@ -1,5 +1,5 @@
 //! Why a pattern is refused.
-ghost use Rattle.std.specs.Prelude.{◌≡◌, false, IfOk, IsOk, Some};
+ghost use Rattle.std.specs.Prelude.{◌≡◌, ◌++◌, false, IfOk, IsOk, Some};
 ghost use Rattle.fancy_lex.specs.Fault.{kind_of, kind_text, error_text, SameError, carries_text, error_carries_text};
 
 use std::alloc::{AllocError, AllocFailed, Global};
@@ -38,36 +38,49 @@ pub enum ParseError {
     InvalidGroupNameBackref(String),
 }
 
+impl ParseError {
+    /// What the kind says: its words, and the text that it carries behind them, or none.
+    fn words(&self) -> (&'static str, &str)
+        ensures { kind_text (kind_of self.now) ≡ result.0.now ++ result.1.now }
+    {
+        match self {
+            ParseError::GeneralParseError(s) => ("General parsing error: ", s.as_str()),
+            ParseError::UnclosedOpenParen => (
+                "Opening parenthesis without closing parenthesis",
+                "",
+            ),
+            ParseError::InvalidRepeat => ("Invalid repeat syntax", ""),
+            ParseError::RecursionExceeded => ("Pattern too deeply nested", ""),
+            ParseError::TrailingBackslash => ("Backslash without following character", ""),
+            ParseError::InvalidEscape(s) => ("Invalid escape: ", s.as_str()),
+            ParseError::UnclosedUnicodeName => ("Unicode escape not closed", ""),
+            ParseError::InvalidHex => ("Invalid hex escape", ""),
+            ParseError::InvalidCodepointValue => (
+                "Invalid codepoint for hex or unicode escape",
+                "",
+            ),
+            ParseError::InvalidClass => ("Invalid character class", ""),
+            ParseError::UnknownFlag(s) => ("Unknown group flag: ", s.as_str()),
+            ParseError::ChangingUnicodeModeUnsupported => {
+                ("Changing Unicode mode inline is not supported", "")
+            }
+            ParseError::InvalidBackref => ("Invalid back reference", ""),
+            ParseError::TargetNotRepeatable => ("Target of repeat operator is invalid", ""),
+            ParseError::InvalidGroupName => ("Could not parse group name", ""),
+            ParseError::InvalidGroupNameBackref(s) => {
+                ("Invalid group name in back reference: ", s.as_str())
+            }
+        }
+    }
+}
+
 impl fmt::Display for ParseError {
     ghost output = { λ e. Some (kind_text (kind_of e)) };
 
     fn fmt<W: fmt::Write>(&self, f: &mut fmt::Formatter<W>) -> fmt::Result {
-        match self {
-            ParseError::GeneralParseError(s) => write!(f, "General parsing error: {s}"),
-            ParseError::UnclosedOpenParen => {
-                f.write_str("Opening parenthesis without closing parenthesis")
-            }
-            ParseError::InvalidRepeat => f.write_str("Invalid repeat syntax"),
-            ParseError::RecursionExceeded => f.write_str("Pattern too deeply nested"),
-            ParseError::TrailingBackslash => f.write_str("Backslash without following character"),
-            ParseError::InvalidEscape(s) => write!(f, "Invalid escape: {s}"),
-            ParseError::UnclosedUnicodeName => f.write_str("Unicode escape not closed"),
-            ParseError::InvalidHex => f.write_str("Invalid hex escape"),
-            ParseError::InvalidCodepointValue => {
-                f.write_str("Invalid codepoint for hex or unicode escape")
-            }
-            ParseError::InvalidClass => f.write_str("Invalid character class"),
-            ParseError::UnknownFlag(s) => write!(f, "Unknown group flag: {s}"),
-            ParseError::ChangingUnicodeModeUnsupported => {
-                f.write_str("Changing Unicode mode inline is not supported")
-            }
-            ParseError::InvalidBackref => f.write_str("Invalid back reference"),
-            ParseError::TargetNotRepeatable => f.write_str("Target of repeat operator is invalid"),
-            ParseError::InvalidGroupName => f.write_str("Could not parse group name"),
-            ParseError::InvalidGroupNameBackref(s) => {
-                write!(f, "Invalid group name in back reference: {s}")
-            }
-        }
+        let (words, carried) = self.words();
+        f.write_str(words)?;
+        f.write_str(carried)
     }
 }
 

@@ -1,9 +1,12 @@
 //! What stands before an atom.
-ghost use Rattle.std.specs.Prelude.{◌≡◌, ◌+◌, ◌<◌, ◌≤◌, ◌^◌, ◌∷◌, [], length, chars, IfOk, IfSome};
+ghost use Rattle.std.specs.Prelude.{◌≡◌, false, ◌+◌, ◌<◌, ◌≤◌, ◌^◌, ◌∷◌, [], length, chars, IfOk, IfSome};
+ghost use Rattle.fancy_lex.specs.Characters.{open_paren};
+ghost use Rattle.fancy_lex.specs.Class as classes;
+ghost use Rattle.fancy_lex.specs.Escape as escapes;
 ghost use Rattle.fancy_lex.specs.Escaped.{escape_of};
 ghost use Rattle.fancy_grammar.specs.Ahead as spec;
 ghost use Rattle.fancy_syntax.specs.Parsed.{state, Gives, GivesTree, Sees, Skips, IsUnmoved, IsBelow, StaysAtNothing, TakesBytes, IsSomething};
-ghost use Rattle.fancy_grammar.specs.Tree.{literal};
+ghost use Rattle.fancy_grammar.specs.Tree.{delegate, literal};
 ghost use Rattle.fancy_syntax.specs.View.{view};
 
 use crate::expr::Expr;
@@ -82,17 +85,39 @@ pub(crate) fn look_ahead<'a>(
         return Ok(Ahead::Nothing);
     };
     if c == '(' {
-        if depth >= MAX_DEPTH - 1 {
-            let paren = place(here.rest, end);
-            return Err(Error::ParseError(paren, ParseError::RecursionExceeded));
-        }
-        here.rest = rest;
-        look_at_group(alloc, here, end)
-    } else if is_before_nothing(c) {
-        Ok(Ahead::Nothing)
-    } else {
-        Ok(Ahead::Leaf(leaf(alloc, c, here, rest, end)?))
+        return open_group(alloc, here, rest, depth, end);
     }
+    if is_before_nothing(c) {
+        return Ok(Ahead::Nothing);
+    }
+    Ok(Ahead::Leaf(leaf(alloc, c, here, rest, end)?))
+}
+
+/// Reads from the parenthesis at the front, which `rest` follows, up to where the first part of the group begins.
+#[tactic(auto, unfolding(fancy_grammar::specs::Ahead::ahead))]
+fn open_group<'a>(
+    alloc: Global,
+    here: &mut State<'a>,
+    rest: &'a str,
+    depth: usize,
+    end: usize,
+) -> Result<Ahead<'a>, Error>
+    requires within { length here.old.rest.now ≤ end }
+    requires end { end < 2 ^ 63 }
+    requires depth { depth < 64 }
+    requires front { chars here.old.rest.now ≡ open_paren ∷ chars rest.now }
+    requires shorter { length rest.now < length here.old.rest.now }
+    ensures value { Sees result (state here.new) (spec.ahead end depth (state here.old)) }
+    ensures within { IfOk result (λ _. length here.new.rest.now < length here.old.rest.now) }
+    ensures something { IfOk result (λ a. IsSomething a) }
+    ensures below { IfOk result (λ _. depth + 1 < 64) }
+{
+    if depth >= MAX_DEPTH - 1 {
+        let paren = place(here.rest, end);
+        return Err(Error::ParseError(paren, ParseError::RecursionExceeded));
+    }
+    here.rest = rest;
+    look_at_group(alloc, here, end)
 }
 
 /// Reads an atom of one character, which `rest` follows, an escape or a class.
@@ -113,27 +138,44 @@ fn leaf<'a>(
     let backslash = place(here.rest, end);
     here.rest = rest;
     let flags = here.flags;
-    if c == '.' {
-        Ok(Expr::Any {
+    match c {
+        '.' => Ok(Expr::Any {
             newline: flags.dotnl,
             crlf: flags.crlf,
-        })
-    } else if c == '^' {
-        Ok(Expr::Assertion(start_anchor(flags)))
-    } else if c == '$' {
-        Ok(Expr::Assertion(end_anchor(flags)))
-    } else if c == '\\' {
-        let (escaped, rest) = escape(alloc, rest, flags, false, backslash, end)?;
-        here.rest = rest;
-        Ok(leaf_node(alloc, escaped)?)
-    } else if c == '[' {
-        let (inner, rest) = class(alloc, rest, flags, end)?;
-        here.rest = rest;
-        let casei = flags.casei;
-        Ok(Expr::Delegate { inner, casei })
-    } else {
-        Ok(literal(alloc, c, flags.casei)?)
+        }),
+        '^' => Ok(Expr::Assertion(start_anchor(flags))),
+        '$' => Ok(Expr::Assertion(end_anchor(flags))),
+        '\\' => escape_leaf(alloc, here, backslash, end),
+        '[' => class_leaf(alloc, here, end),
+        _ => Ok(literal(alloc, c, flags.casei)?),
     }
+}
+
+/// Reads what stands behind a backslash.
+fn escape_leaf(alloc: Global, here: &mut State, backslash: usize, end: usize) -> Result<Expr, Error>
+    requires within { length here.old.rest.now ≤ end }
+    requires end { end < 2 ^ 63 }
+    ensures value { GivesTree result (state here.new) (spec.leaf_outcome spec.leaf_node (state here.old)
+        (escapes.escape end here.old.flags false backslash (chars here.old.rest.now))) }
+    ensures within { IfOk result (λ _. length here.new.rest.now ≤ length here.old.rest.now) }
+{
+    let (escaped, rest) = escape(alloc, here.rest, here.flags, false, backslash, end)?;
+    here.rest = rest;
+    Ok(leaf_node(alloc, escaped)?)
+}
+
+/// Reads a class behind its bracket.
+fn class_leaf(alloc: Global, here: &mut State, end: usize) -> Result<Expr, Error>
+    requires within { length here.old.rest.now ≤ end }
+    requires end { end < 2 ^ 63 }
+    ensures value { GivesTree result (state here.new) (spec.leaf_outcome (λ w. delegate w here.old.flags.casei)
+        (state here.old) (classes.class end here.old.flags (chars here.old.rest.now))) }
+    ensures within { IfOk result (λ _. length here.new.rest.now ≤ length here.old.rest.now) }
+{
+    let (inner, rest) = class(alloc, here.rest, here.flags, end)?;
+    here.rest = rest;
+    let casei = here.flags.casei;
+    Ok(Expr::Delegate { inner, casei })
 }
 
 /// The node of an escape's leaf.

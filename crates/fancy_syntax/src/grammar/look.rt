@@ -1,5 +1,5 @@
 //! The heads of groups: what stands behind a parenthesis and a question mark or an asterisk.
-ghost use Rattle.std.specs.Prelude.{◌≡◌, ◌<◌, ◌≤◌, ◌^◌, length, chars, Some, None, IfOk, IfSome, option_map, MatchResult};
+ghost use Rattle.std.specs.Prelude.{◌≡◌, ◌∷◌, ℕ, ◌<◌, ◌≤◌, ◌^◌, length, chars, Some, None, IfOk, IfSome, option_map, MatchResult};
 ghost use Rattle.fancy_lex.specs.FaultTable.{unknown_verb};
 ghost use Rattle.fancy_parts.specs.FlagLetters.{letters};
 ghost use Rattle.fancy_parts.specs.GroupName as names;
@@ -235,11 +235,28 @@ fn look_at_conditional<'a>(
         return look_at_target(alloc, here, end);
     }
     if c == '*' {
-        let verb = look_at_verb(here, rest, end)?;
-        let verb = Box::new(alloc, Expr::BacktrackingControlVerb(verb))?;
-        return Ok(Ahead::Body(verb));
+        return look_at_verb_condition(alloc, here, rest, end);
     }
     Ok(Ahead::Condition)
+}
+
+/// Reads the verb that is a condition, behind the asterisk at the front, which `rest` follows.
+fn look_at_verb_condition<'a>(
+    alloc: Global,
+    here: &mut State<'a>,
+    rest: &'a str,
+    end: usize,
+) -> Result<Ahead<'a>, Error>
+    requires within { length here.old.rest.now ≤ end }
+    requires shorter { length rest.now ≤ length here.old.rest.now }
+    ensures value { (c : ℕ) → chars here.old.rest.now ≡ c ∷ chars rest.now →
+        Sees result (state here.new) (spec.verb_condition end (state here.old) c (chars rest.now)) }
+    ensures within { length here.new.rest.now ≤ length here.old.rest.now }
+    ensures something { IfOk result (λ a. IsSomething a) }
+{
+    let verb = look_at_verb(here, rest, end)?;
+    let verb = Box::new(alloc, Expr::BacktrackingControlVerb(verb))?;
+    Ok(Ahead::Body(verb))
 }
 
 /// Reads what a condition asks for.
@@ -252,8 +269,7 @@ fn look_at_target<'a>(alloc: Global, here: &mut State<'a>, end: usize) -> Result
 {
     let (target, rest) = condition_target(here.rest, end)?;
     here.rest = rest;
-    let condition = condition(alloc, target)?;
-    Ok(Ahead::Body(Box::new(alloc, condition)?))
+    Ok(Ahead::Body(condition(alloc, target)?))
 }
 
 /// Reads the verb behind the asterisk at the front, which `rest` follows. TargetNotRepeatable at the asterisk of no

@@ -1,7 +1,8 @@
 //! A tree under the quantifiers that follow it.
-ghost use Rattle.std.specs.Prelude.{◌≡◌, ◌≤◌, ◌<◌, ◌+◌, ◌^◌, true, false, length, chars, Some, None, IfOk};
+ghost use Rattle.std.specs.Prelude.{◌≡◌, ◌≤◌, ◌<◌, ◌+◌, ◌^◌, true, false, length, chars, Some, None, if◌then◌else◌, IfOk, OnOk};
 ghost use Rattle.fancy_grammar.specs.Join.{is_empty};
 ghost use Rattle.fancy_grammar.specs.Quantified as spec;
+ghost use Rattle.fancy_grammar.specs.Tree.{repeat, atomic_group};
 ghost use Rattle.fancy_syntax.specs.Parsed.{state, suffix_of, Turns, GivesSuffix};
 ghost use Rattle.fancy_syntax.specs.View.{view};
 
@@ -221,24 +222,38 @@ fn put_under(
     ensures { IfOk result (λ _. view tree.new ≡ spec.quantified flags counts (suffix_of marks) (view tree.old)) }
 {
     let child = Box::new(alloc, mem::replace(tree, Expr::Empty))?;
-    let greedy = is_greedy(flags, marks.lazy);
-    let swapped = is_swapped(flags, counts);
-    let (lo, hi) = if swapped {
+    *tree = repeated(child, flags, counts, marks.lazy);
+    if is_swapped(flags, counts) || marks.possessive {
+        make_atomic(alloc, tree)?;
+    }
+    Ok(())
+}
+
+/// The child between the counts.
+fn repeated(child: Box<Expr>, flags: Flags, counts: Counts, lazy: bool) -> Expr
+    ensures { let greedy = spec.is_greedy flags lazy in view result ≡ (if spec.is_swapped flags counts
+        then repeat (view child.value) counts.high counts.low greedy
+        else repeat (view child.value) counts.low counts.high greedy) }
+{
+    let (lo, hi) = if is_swapped(flags, counts) {
         (counts.high, counts.low)
     } else {
         (counts.low, counts.high)
     };
-    let repeat = Expr::Repeat {
+    let greedy = is_greedy(flags, lazy);
+    Expr::Repeat {
         child,
         lo,
         hi,
         greedy,
-    };
-    if swapped || marks.possessive {
-        *tree = Expr::AtomicGroup(Box::new(alloc, repeat)?);
-    } else {
-        *tree = repeat;
     }
+}
+
+/// Puts the tree in an atomic group.
+fn make_atomic(alloc: Global, tree: &mut Expr) -> Result<(), AllocError>
+    ensures { OnOk result (view tree.new ≡ atomic_group (view tree.old)) }
+{
+    *tree = Expr::AtomicGroup(Box::new(alloc, mem::replace(tree, Expr::Empty))?);
     Ok(())
 }
 

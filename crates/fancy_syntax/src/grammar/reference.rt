@@ -29,12 +29,12 @@ pub(crate) fn subroutine_call(alloc: Global, call: Call) -> Result<Expr, AllocEr
 }
 
 /// The node of a condition on a group.
-pub(crate) fn condition(alloc: Global, reference: Reference) -> Result<Expr, AllocError>
-    ensures { IfOk result (λ e. view e ≡ spec.condition_node (view_reference reference.entry)) }
+pub(crate) fn condition(alloc: Global, reference: Reference) -> Result<Box<Expr>, AllocError>
+    ensures { IfOk result (λ e. view e.value ≡ spec.condition_node (view_reference reference.entry)) }
 {
     let node = AstNode::BackrefExistsCondition {
         target: reference.target.to_owned(alloc)?,
         relative_recursion_level: reference.level,
     };
-    Ok(Expr::AstNode(node, reference.place))
+    Ok(Box::new(alloc, Expr::AstNode(node, reference.place))?)
 }

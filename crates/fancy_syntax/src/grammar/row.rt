@@ -24,12 +24,12 @@ impl Several {
     ghost use Rattle.std.specs.Prelude.{◌≡◌, [], ◌∷◌, ◌++◌, OnOk, IfOk};
     ghost use Rattle.fancy_syntax.specs.View.{view, views};
 
-    /// Two trees, with room for as many more.
-    fn pair(alloc: Global, first: Expr, second: Expr) -> Result<Several, AllocError>
-        ensures { IfOk result (λ s. views s.trees.items ≡ view first ∷ view second ∷ []) }
+    /// Two trees, the first taken from its place, with room for as many more.
+    fn pair(alloc: Global, first: &mut Expr, second: Expr) -> Result<Several, AllocError>
+        ensures { IfOk result (λ s. views s.trees.items ≡ view first.old ∷ view second ∷ []) }
     {
         let mut trees = Vec::with_capacity(alloc, 4)?;
-        trees.push_reserved(first);
+        trees.push_reserved(mem::replace(first, Expr::Empty));
         trees.push_reserved(second);
         Ok(Several { trees })
     }
@@ -59,10 +59,7 @@ impl Row {
     {
         match self {
             Row::None => *self = Row::One(tree),
-            Row::One(first) => {
-                let first = mem::replace(first, Expr::Empty);
-                *self = Row::Several(Several::pair(alloc, first, tree)?);
-            }
+            Row::One(first) => *self = Row::Several(Several::pair(alloc, first, tree)?),
             Row::Several(several) => several.add(tree)?,
         }
         Ok(())
