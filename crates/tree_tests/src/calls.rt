@@ -1,7 +1,8 @@
-//! Each call on patterns and errors once.
-use crate::trees::{literal, printed, star};
+//! Patterns that are read, and trees that are printed.
+use crate::questions::{Question, ask};
+use crate::trees::Source;
 use fancy_syntax::error::{Error, ParseError};
-use fancy_syntax::expr::{CaptureGroupTarget, Expr};
+use fancy_syntax::expr::Expr;
 use fancy_syntax::flags::{
     FLAG_CASEI, FLAG_CRLF, FLAG_DOTNL, FLAG_MULTI, FLAG_ONIGURUMA_MODE, FLAG_UNICODE,
 };
@@ -20,63 +21,140 @@ fn is_plain(tree: &ExprTree) -> bool {
         && tree.out_of_range_backref.is_none()
 }
 
-/// Whether the pattern reads as the tree, and nothing else is known of it.
-fn reads_as(alloc: Global, pattern: &str, wanted: Expr) -> Result<bool, Error> {
-    let tree = Expr::parse_tree(alloc, pattern)?;
-    Ok(is_plain(&tree) && tree.expr == wanted)
+/// Whether it is what `pattern` reads as with Unicode alone.
+fn is_tree_of(tree: &Expr, pattern: &str) -> bool {
+    match tree {
+        Expr::Empty => pattern.is_empty(),
+        Expr::Alt(parts) => {
+            pattern == "|" && matches!(parts.as_slice(), [Expr::Empty, Expr::Empty])
+        }
+        Expr::Literal { val, casei } => pattern == "\\x80" && val.as_str() == "\u{80}" && !casei,
+        _ => false,
+    }
 }
 
-fn bar(alloc: Global) -> Result<Expr, AllocError> {
-    Ok(Expr::Alt(vec![in alloc; Expr::Empty, Expr::Empty]?))
+fn is_read(alloc: Global, pattern: &str) -> Result<bool, Error> {
+    let tree = Expr::parse_tree(alloc, pattern)?;
+    Ok(is_plain(&tree) && is_tree_of(&tree.expr, pattern))
 }
+
+static PATTERNS: [&str; 3] = ["", "|", "\\x80"];
 
 #[test]
 fn parse_tree_reads_with_unicode_alone(rt: HostRuntime) -> Result<(), Error> {
-    let alloc = rt.alloc();
-    assert!(rt; reads_as(alloc, "", Expr::Empty)?);
-    assert!(rt; reads_as(alloc, "|", bar(alloc)?)?);
-    assert!(rt; reads_as(alloc, "\\x80", literal(alloc, "\u{80}", false)?)?);
+    for (i, pattern) in PATTERNS.iter().enumerate() {
+        assert!(rt; is_read(rt.alloc(), pattern)?, "at {i}");
+    }
     Ok(())
 }
 
-fn read(alloc: Global, pattern: &str, flags: u32) -> Result<Expr, Error> {
-    Ok(Expr::parse_tree_with_flags(alloc, pattern, flags)?.expr)
-}
-
-/// Whether the pattern reads as the tree, with one group.
-fn reads_with_a_group(alloc: Global, pattern: &str, wanted: &Expr) -> Result<bool, Error> {
-    let tree = Expr::parse_tree(alloc, pattern)?;
-    Ok(tree.total_groups == 1 && tree.expr == *wanted)
-}
-
-/// Whether the pattern's tree prints as the pattern, which reads as that tree again.
-fn is_read_again(alloc: Global, pattern: &str) -> Result<bool, Error> {
-    let tree = read(alloc, pattern, FLAG_UNICODE)?;
-    Ok(prints_as(alloc, &tree, 0, pattern)? && reads_with_a_group(alloc, pattern, &tree)?)
-}
-
-/// Whether the tree's text is put behind an `x`.
-fn prints_as(alloc: Global, tree: &Expr, precedence: u8, wanted: &str) -> Result<bool, AllocError> {
-    let text = printed(alloc, tree, precedence, "x")?;
-    Ok(text.as_str().strip_prefix("x") == Some(wanted))
-}
-
-#[test]
-fn a_printed_tree_is_read_again(rt: HostRuntime) -> Result<(), Error> {
-    assert!(rt; is_read_again(rt.alloc(), "(a|b)c*")?);
+/// Puts the text of the tree behind the other, where it is printable.
+fn put(alloc: Global, tree: &Expr, precedence: u8, text: &mut String) -> Result<(), AllocError> {
+    if tree.is_printable(alloc)? {
+        tree.to_str(text, precedence)?;
+    }
     Ok(())
 }
 
-fn is_appended(alloc: Global, pattern: &str, precedence: u8, wanted: &str) -> Result<bool, Error> {
-    let tree = read(alloc, pattern, FLAG_UNICODE)?;
-    Ok(prints_as(alloc, &tree, precedence, wanted)?)
+/// Whether the tree's text is put behind `start`. Where memory is refused for it, `start` is what stands there.
+fn is_put_behind(
+    alloc: Global,
+    tree: &Expr,
+    precedence: u8,
+    start: &str,
+    wanted: &str,
+) -> Result<bool, AllocError> {
+    let mut text = String::from_str(alloc, start)?;
+    let answer = put(alloc, tree, precedence, &mut text);
+    is_text(text.as_str(), answer, start, wanted)
+}
+
+fn is_text(
+    text: &str,
+    answer: Result<(), AllocError>,
+    start: &str,
+    wanted: &str,
+) -> Result<bool, AllocError> {
+    if answer.is_err() && text != start {
+        return Ok(false);
+    }
+    answer?;
+    Ok(text.strip_prefix(start) == Some(wanted))
+}
+
+/// Whether the text reads as the tree, which has so many groups.
+fn reads_as(alloc: Global, text: &str, tree: &Expr, groups: usize) -> Result<bool, Error> {
+    let again = Expr::parse_tree(alloc, text)?;
+    Ok(again.total_groups == groups && again.expr == *tree)
+}
+
+/// A pattern and how many groups it has, the precedence, what stands in the buffer, and the text.
+pub struct Printed {
+    source: Source,
+    groups: usize,
+    precedence: u8,
+    start: &'static str,
+    text: &'static str,
+}
+
+static PRINTED: [Printed; 4] = [
+    Printed {
+        source: Source::Pattern("(?:ab){2,3}", FLAG_UNICODE),
+        groups: 0,
+        precedence: 0,
+        start: "",
+        text: "(?:ab){2,3}",
+    },
+    Printed {
+        source: Source::Pattern("(?:a|b)c", FLAG_UNICODE),
+        groups: 0,
+        precedence: 0,
+        start: "x",
+        text: "(?:a|b)c",
+    },
+    Printed {
+        source: Source::Pattern("(?:a|b)c", FLAG_UNICODE),
+        groups: 0,
+        precedence: 2,
+        start: "x",
+        text: "(?:(?:a|b)c)",
+    },
+    Printed {
+        source: Source::Pattern("(a|b)c*", FLAG_UNICODE),
+        groups: 1,
+        precedence: 0,
+        start: "x",
+        text: "(a|b)c*",
+    },
+];
+
+/// Whether the tree has this text, which reads as the tree.
+pub fn is_printed(alloc: Global, tree: &Expr, row: &Printed) -> Result<bool, Error> {
+    Ok(
+        is_put_behind(alloc, tree, row.precedence, row.start, row.text)?
+            && reads_as(alloc, row.text, tree, row.groups)?,
+    )
 }
 
 #[test]
-fn text_is_appended(rt: HostRuntime) -> Result<(), Error> {
-    let alloc = rt.alloc();
-    assert!(rt; is_appended(alloc, "(?:a|b)c", 0, "(?:a|b)c")?);
-    assert!(rt; is_appended(alloc, "(?:a|b)c", 2, "(?:(?:a|b)c)")?);
+fn text_is_appended_and_read_again(rt: HostRuntime) -> Result<(), Error> {
+    for (i, row) in PRINTED.iter().enumerate() {
+        assert!(rt;
+            ask(rt.alloc(), &row.source, &Question::Prints(row))?,
+            "at {i}"
+        );
+    }
+    Ok(())
+}
+
+fn empty_is_printed(alloc: Global) -> Result<bool, AllocError> {
+    let mut text = String::from_str(alloc, "x")?;
+    Ok(Expr::Empty.to_str(&mut text, 0).is_ok() && text.as_str() == "x")
+}
+
+#[test]
+fn an_empty_text_is_printed_without_memory(rt: HostRuntime) -> Result<(), AllocError> {
+    assert!(rt; empty_is_printed(rt.alloc())?);
     Ok(())
 }
 
@@ -89,150 +167,81 @@ fn nested(alloc: Global, tree: &Expr, groups: usize) -> Result<Expr, AllocError>
     Ok(nested)
 }
 
+/// The text of the tree in so many groups; nothing where it is not printable.
 fn nested_text(alloc: Global, tree: &Expr, groups: usize) -> Result<String, AllocError> {
     let nested = nested(alloc, tree, groups)?;
-    printed(alloc, &nested, 0, "")
+    text_of(alloc, &nested)
 }
 
-/// Whether the text has a tree with so many groups.
-fn has_groups(alloc: Global, text: &str, groups: usize) -> Result<bool, Error> {
-    Ok(Expr::parse_tree(alloc, text)?.total_groups == groups)
+fn text_of(alloc: Global, tree: &Expr) -> Result<String, AllocError> {
+    let mut text = String::new(alloc);
+    put(alloc, tree, 0, &mut text)?;
+    Ok(text)
 }
 
-/// Whether the text nests too deeply at the place. Want of memory is no answer, and is passed on.
-fn is_too_deep(alloc: Global, text: &str, place: usize) -> Result<bool, Error> {
+/// How many groups the text has; none where it nests too deeply behind 63 of them.
+fn groups(alloc: Global, text: &str) -> Result<Option<usize>, Error> {
     match Expr::parse_tree(alloc, text) {
-        Ok(_) => Ok(false),
-        Err(Error::OutOfMemory) => Err(Error::OutOfMemory),
-        Err(Error::ParseError(p, kind)) => {
-            Ok(p == place && matches!(kind, ParseError::RecursionExceeded))
-        }
+        Ok(tree) => Ok(Some(tree.total_groups)),
+        Err(Error::ParseError(63, ParseError::RecursionExceeded)) => Ok(None),
+        Err(error) => Err(error),
     }
 }
 
+/// The same of the tree's text, inside so many groups.
+fn groups_inside(alloc: Global, tree: &Expr, outer: usize) -> Result<Option<usize>, Error> {
+    let text = nested_text(alloc, tree, outer)?;
+    groups(alloc, text.as_str())
+}
+
 /// Whether the tree's text, in which one group nests, is read inside 62 groups and not inside 63.
-fn nests_once(alloc: Global, tree: &Expr) -> Result<bool, Error> {
-    let read = nested_text(alloc, tree, 62)?;
-    Ok(has_groups(alloc, read.as_str(), 62)? && fails_in_63(alloc, tree)?)
+pub fn nests_once(alloc: Global, tree: &Expr) -> Result<bool, Error> {
+    Ok(groups_inside(alloc, tree, 62)? == Some(62) && groups_inside(alloc, tree, 63)?.is_none())
 }
 
-fn fails_in_63(alloc: Global, tree: &Expr) -> Result<bool, Error> {
-    let refused = nested_text(alloc, tree, 63)?;
-    is_too_deep(alloc, refused.as_str(), 63)
-}
-
-fn pattern_nests_once(alloc: Global, pattern: &str, flags: u32) -> Result<bool, Error> {
-    let tree = read(alloc, pattern, flags)?;
-    nests_once(alloc, &tree)
-}
-
-/// A pattern, and its flags, for each kind of group that is printed; in each one such group nests.
-const ONE_PRINTED_GROUP: [(&str, u32); 9] = [
-    ("[e]", FLAG_CASEI),
-    ("(?:ab)*", 0),
-    ("(?:c|)*", 0),
-    ("(?:d*)*", 0),
-    (".", FLAG_DOTNL),
-    (".", FLAG_CRLF),
-    ("^", FLAG_MULTI | FLAG_CRLF),
-    ("^", FLAG_MULTI | FLAG_ONIGURUMA_MODE),
-    ("$", FLAG_MULTI),
+/// A tree for each kind of group that is printed; in each one such group nests.
+static ONE_PRINTED_GROUP: [Source; 10] = [
+    Source::Pattern("[e]", FLAG_CASEI),
+    Source::Literal("fg", true),
+    Source::Pattern("(?:ab)*", 0),
+    Source::Pattern("(?:c|)*", 0),
+    Source::Pattern("(?:d*)*", 0),
+    Source::Pattern(".", FLAG_DOTNL),
+    Source::Pattern(".", FLAG_CRLF),
+    Source::Pattern("^", FLAG_MULTI | FLAG_CRLF),
+    Source::Pattern("^", FLAG_MULTI | FLAG_ONIGURUMA_MODE),
+    Source::Pattern("$", FLAG_MULTI),
 ];
 
 #[test]
 fn less_than_64_printed_groups_nest(rt: HostRuntime) -> Result<(), Error> {
-    for (pattern, flags) in ONE_PRINTED_GROUP {
-        assert!(rt;
-            pattern_nests_once(rt.alloc(), pattern, flags)?,
-            "{pattern}"
-        );
+    for (i, source) in ONE_PRINTED_GROUP.iter().enumerate() {
+        assert!(rt; ask(rt.alloc(), source, &Question::NestsOnce)?, "at {i}");
     }
     Ok(())
 }
 
-fn literal_nests_once(alloc: Global, val: &str, casei: bool) -> Result<bool, Error> {
-    let tree = literal(alloc, val, casei)?;
-    nests_once(alloc, &tree)
-}
-
-#[test]
-fn the_group_of_a_literal_nests(rt: HostRuntime) -> Result<(), Error> {
-    assert!(rt; literal_nests_once(rt.alloc(), "fg", true)?);
-    Ok(())
-}
-
-/// Whether the repeated literal is printable.
-fn is_repeated(alloc: Global, val: &str, casei: bool) -> Result<bool, AllocError> {
-    let tree = star(alloc, literal(alloc, val, casei)?)?;
-    tree.is_printable(alloc)
-}
-
-fn is_printable(alloc: Global, tree: Expr) -> Result<bool, AllocError> {
-    tree.is_printable(alloc)
-}
-
-#[test]
-fn what_reads_as_another_tree_is_not_printable(rt: HostRuntime) -> Result<(), AllocError> {
-    let alloc = rt.alloc();
-    assert!(rt; !is_printable(alloc, star(alloc, Expr::Empty)?)?);
-    assert!(rt; !is_repeated(alloc, "ab", false)?);
-    assert!(rt; is_repeated(alloc, "ab", true)?);
-    assert!(rt; is_repeated(alloc, "a", false)?);
-    let reference = Expr::Backref {
-        group: 1,
-        casei: false,
-    };
-    assert!(rt; !is_printable(alloc, reference)?);
-    Ok(())
-}
-
-/// Whether the clone of the error has this text.
-fn error_clones_as(alloc: Global, error: &Error, wanted: &str) -> Result<bool, AllocError> {
-    let copy = error.clone(alloc)?;
-    Ok(format!(in alloc; "{copy}")?.as_str() == wanted)
-}
-
-/// The same of the pattern's fault. Want of memory is no answer, and is passed on.
-fn fault_clones_as(alloc: Global, pattern: &str, wanted: &str) -> Result<bool, Error> {
-    match Expr::parse_tree(alloc, pattern) {
-        Ok(_) => Ok(false),
-        Err(Error::OutOfMemory) => Err(Error::OutOfMemory),
-        Err(fault) => Ok(error_clones_as(alloc, &fault, wanted)?),
-    }
-}
-
-fn kind_clones_as(alloc: Global, kind: &ParseError, wanted: &str) -> Result<bool, AllocError> {
-    let copy = kind.clone(alloc)?;
-    Ok(format!(in alloc; "{copy}")?.as_str() == wanted)
-}
-
-fn is_kind_cloned(alloc: Global) -> Result<bool, AllocError> {
-    let kind = ParseError::UnknownFlag(String::from_str(alloc, "(?-:")?);
-    kind_clones_as(alloc, &kind, "Unknown group flag: (?-:")
-}
-
-fn is_target_cloned(alloc: Global) -> Result<bool, AllocError> {
-    let target = CaptureGroupTarget::ByName(String::from_str(alloc, "n")?);
-    Ok(target.clone(alloc)? == target)
-}
-
-/// Patterns, and what is said of their faults.
-const FAULTS: [(&str, &str); 2] = [
-    (".\\c", "Parsing error at position 1: Invalid escape: \\c"),
-    (
-        "(?<a>x)\\k<a>(?<a>y)",
-        "Parsing error at position 9: Invalid group name in back reference: a",
-    ),
+/// Trees, and whether they are printable: not where a text reads as another tree, nor where a delegate is not one
+/// whole class or class escape.
+static PRINTABLE: [(Source, bool); 9] = [
+    (Source::RepeatedNothing, false),
+    (Source::RepeatedLiteral("ab", false), false),
+    (Source::RepeatedLiteral("ab", true), true),
+    (Source::RepeatedLiteral("a", false), true),
+    (Source::Reference, false),
+    (Source::Delegate("[a-z&&[^b]]"), true),
+    (Source::Delegate("\\p{Greek}"), true),
+    (Source::Delegate("[a]b"), false),
+    (Source::Delegate("\\p{Greek"), false),
 ];
 
 #[test]
-fn errors_and_targets_are_cloned(rt: HostRuntime) -> Result<(), Error> {
-    let alloc = rt.alloc();
-    for (pattern, wanted) in FAULTS {
-        assert!(rt; fault_clones_as(alloc, pattern, wanted)?, "{pattern}");
+fn what_reads_as_another_tree_is_not_printable(rt: HostRuntime) -> Result<(), Error> {
+    for (i, (source, wanted)) in PRINTABLE.iter().enumerate() {
+        assert!(rt;
+            ask(rt.alloc(), source, &Question::Printable)? == *wanted,
+            "at {i}"
+        );
     }
-    assert!(rt; error_clones_as(alloc, &Error::OutOfMemory, "out of memory")?);
-    assert!(rt; is_kind_cloned(alloc)?);
-    assert!(rt; is_target_cloned(alloc)?);
     Ok(())
 }

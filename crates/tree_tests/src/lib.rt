@@ -5,7 +5,9 @@
 #[cfg(test)]
 mod calls;
 #[cfg(test)]
-mod parsed;
+mod nodes;
+#[cfg(test)]
+mod questions;
 #[cfg(test)]
 mod refused;
 #[cfg(test)]

@@ -1,66 +1,73 @@
 //! What stands where memory was refused: each test looks at it, and then passes the refusal on. So each of them ends
 //! with a refusal in every run in which one request is refused.
-use crate::samples::samples;
+use crate::samples::{TREES, tree};
 use fancy_lex::name::CaptureGroupTarget;
 use fancy_syntax::error::{Error, ParseError};
-use fancy_syntax::expr::Expr;
+use fancy_syntax::expr::{Absent, AstNode, Expr};
 use fancy_syntax::tree::ExprTree;
 use std::alloc::{AllocError, Global};
-use std::test::Fail;
 
 /// Whether the source of a clone is as before, and so is the clone.
 fn is_tree_kept(alloc: Global, source: &Expr, before: &Expr) -> Result<bool, AllocError> {
-    let copy = source.clone(alloc);
-    Ok(source == before && copy? == *before)
+    match source.clone(alloc) {
+        Ok(copy) => Ok(source == before && copy == *before),
+        Err(_) if source != before => Ok(false),
+        Err(refused) => Err(refused),
+    }
+}
+
+fn is_node_kept(alloc: Global, source: &AstNode, before: &AstNode) -> Result<bool, AllocError> {
+    match source.clone(alloc) {
+        Ok(copy) => Ok(source == before && copy == *before),
+        Err(_) if source != before => Ok(false),
+        Err(refused) => Err(refused),
+    }
+}
+
+fn is_absent_kept(alloc: Global, source: &Absent, before: &Absent) -> Result<bool, AllocError> {
+    match source.clone(alloc) {
+        Ok(copy) => Ok(source == before && copy == *before),
+        Err(_) if source != before => Ok(false),
+        Err(refused) => Err(refused),
+    }
+}
+
+/// The same of the tree, and of the node or the absent form that it holds, if it holds one.
+fn is_kept(alloc: Global, source: &Expr, before: &Expr) -> Result<bool, AllocError> {
+    let is_part_kept = match (source, before) {
+        (Expr::AstNode(source, _), Expr::AstNode(before, _)) => is_node_kept(
+            alloc, source, before,
+        )?,
+        (Expr::Absent(source), Expr::Absent(before)) => is_absent_kept(alloc, source, before)?,
+        _ => true,
+    };
+    Ok(is_part_kept && is_tree_kept(alloc, source, before)?)
+}
+
+fn is_kept_beside(alloc: Global, i: usize, before: &Expr) -> Result<bool, Error> {
+    let source = tree(alloc, i)?;
+    Ok(is_kept(alloc, &source, before)?)
+}
+
+fn is_sample_kept(alloc: Global, i: usize) -> Result<bool, Error> {
+    let before = tree(alloc, i)?;
+    is_kept_beside(alloc, i, &before)
 }
 
 #[test]
-fn trees_are_as_before_their_clones(rt: HostRuntime) -> Result<(), AllocError> {
-    let sources = samples(rt.alloc())?;
-    let before = samples(rt.alloc())?;
-    for (i, (source, same)) in sources.iter().zip(&before).enumerate() {
-        assert!(rt;
-            is_tree_kept(rt.alloc(), &source.tree, &same.tree)?,
-            "at {i}"
-        );
+fn trees_and_their_parts_are_as_before_their_clones(rt: HostRuntime) -> Result<(), Error> {
+    for i in 0..TREES {
+        assert!(rt; is_sample_kept(rt.alloc(), i)?, "at {i}");
     }
     Ok(())
 }
 
-/// The same of the node or the absent form that they hold, if they hold one.
-fn is_part_kept(alloc: Global, source: &Expr, before: &Expr) -> Result<bool, AllocError> {
-    match (source, before) {
-        (Expr::AstNode(source, _), Expr::AstNode(before, _)) => {
-            let copy = source.clone(alloc);
-            Ok(source == before && copy? == *before)
-        }
-        (Expr::Absent(source), Expr::Absent(before)) => {
-            let copy = source.clone(alloc);
-            Ok(source == before && copy? == *before)
-        }
-        _ => Ok(true),
+fn target(alloc: Global, i: usize) -> Result<CaptureGroupTarget, AllocError> {
+    match i {
+        0 => Ok(CaptureGroupTarget::ByNumber(1)),
+        1 => Ok(CaptureGroupTarget::ByName(String::from_str(alloc, "name")?)),
+        _ => Ok(CaptureGroupTarget::Relative(-1)),
     }
-}
-
-#[test]
-fn nodes_and_absent_forms_are_as_before_their_clones(rt: HostRuntime) -> Result<(), AllocError> {
-    let sources = samples(rt.alloc())?;
-    let before = samples(rt.alloc())?;
-    for (i, (source, same)) in sources.iter().zip(&before).enumerate() {
-        assert!(rt;
-            is_part_kept(rt.alloc(), &source.tree, &same.tree)?,
-            "at {i}"
-        );
-    }
-    Ok(())
-}
-
-fn targets(alloc: Global) -> Result<[CaptureGroupTarget; 3], AllocError> {
-    Ok([
-        CaptureGroupTarget::ByNumber(1),
-        CaptureGroupTarget::ByName(String::from_str(alloc, "name")?),
-        CaptureGroupTarget::Relative(-1),
-    ])
 }
 
 fn is_target_kept(
@@ -68,16 +75,23 @@ fn is_target_kept(
     source: &CaptureGroupTarget,
     before: &CaptureGroupTarget,
 ) -> Result<bool, AllocError> {
-    let copy = source.clone(alloc);
-    Ok(source == before && copy? == *before)
+    match source.clone(alloc) {
+        Ok(copy) => Ok(source == before && copy == *before),
+        Err(_) if source != before => Ok(false),
+        Err(refused) => Err(refused),
+    }
+}
+
+fn is_each_target_kept(alloc: Global, i: usize) -> Result<bool, AllocError> {
+    let source = target(alloc, i)?;
+    let before = target(alloc, i)?;
+    is_target_kept(alloc, &source, &before)
 }
 
 #[test]
 fn targets_are_as_before_their_clones(rt: HostRuntime) -> Result<(), AllocError> {
-    let sources = targets(rt.alloc())?;
-    let before = targets(rt.alloc())?;
-    for (source, same) in sources.iter().zip(&before) {
-        assert!(rt; is_target_kept(rt.alloc(), source, same)?);
+    for i in 0..3 {
+        assert!(rt; is_each_target_kept(rt.alloc(), i)?, "at {i}");
     }
     Ok(())
 }
@@ -102,18 +116,21 @@ fn is_same(a: &ExprTree, b: &ExprTree) -> bool {
 }
 
 fn is_marked_kept(alloc: Global, source: &ExprTree, before: &ExprTree) -> Result<bool, AllocError> {
-    let copy = source.clone(alloc);
-    Ok(is_same(source, before) && is_same(&copy?, before))
+    match source.clone(alloc) {
+        Ok(copy) => Ok(is_same(source, before) && is_same(&copy, before)),
+        Err(_) if !is_same(source, before) => Ok(false),
+        Err(refused) => Err(refused),
+    }
 }
 
-fn is_kept_beside(alloc: Global, source: &ExprTree) -> Result<bool, Error> {
+fn is_marked_kept_beside(alloc: Global, source: &ExprTree) -> Result<bool, Error> {
     let before = marked(alloc)?;
     Ok(is_marked_kept(alloc, source, &before)?)
 }
 
 fn marked_is_kept(alloc: Global) -> Result<bool, Error> {
     let source = marked(alloc)?;
-    is_kept_beside(alloc, &source)
+    is_marked_kept_beside(alloc, &source)
 }
 
 #[test]
@@ -122,14 +139,41 @@ fn a_tree_with_marks_is_as_before_its_clone(rt: HostRuntime) -> Result<(), Error
     Ok(())
 }
 
-/// The kinds that hold a text, which is `text`, and then one of each other kind.
-fn kind(alloc: Global, i: usize, text: &str) -> Result<ParseError, AllocError> {
+/// What the kinds of errors say, of which the first four hold a text.
+static SAID: [&str; 16] = [
+    "General parsing error: \\c",
+    "Invalid escape: \\c",
+    "Unknown group flag: \\c",
+    "Invalid group name in back reference: \\c",
+    "Opening parenthesis without closing parenthesis",
+    "Invalid repeat syntax",
+    "Pattern too deeply nested",
+    "Backslash without following character",
+    "Unicode escape not closed",
+    "Invalid hex escape",
+    "Invalid codepoint for hex or unicode escape",
+    "Invalid character class",
+    "Changing Unicode mode inline is not supported",
+    "Invalid back reference",
+    "Target of repeat operator is invalid",
+    "Could not parse group name",
+];
+
+/// The kind that says the i-th of them.
+fn kind(alloc: Global, i: usize) -> Result<ParseError, AllocError> {
+    if i > 3 {
+        return Ok(plain_kind(i));
+    }
+    let text = String::from_str(alloc, "\\c")?;
+    Ok(kind_with_text(i, text))
+}
+
+fn kind_with_text(i: usize, text: String) -> ParseError {
     match i {
-        0 => Ok(ParseError::GeneralParseError(String::from_str(alloc, text)?)),
-        1 => Ok(ParseError::InvalidEscape(String::from_str(alloc, text)?)),
-        2 => Ok(ParseError::UnknownFlag(String::from_str(alloc, text)?)),
-        3 => Ok(ParseError::InvalidGroupNameBackref(String::from_str(alloc, text)?)),
-        _ => Ok(plain_kind(i)),
+        0 => ParseError::GeneralParseError(text),
+        1 => ParseError::InvalidEscape(text),
+        2 => ParseError::UnknownFlag(text),
+        _ => ParseError::InvalidGroupNameBackref(text),
     }
 }
 
@@ -150,119 +194,47 @@ fn plain_kind(i: usize) -> ParseError {
     }
 }
 
-/// Whether the kind has the text before its clone, after it, and in it.
-fn is_kind_kept(alloc: Global, kind: &ParseError) -> Result<bool, AllocError> {
-    let before = format!(in alloc; "{kind}")?;
-    is_kind_kept_as(alloc, kind, before.as_str())
-}
-
-fn is_kind_kept_as(alloc: Global, kind: &ParseError, before: &str) -> Result<bool, AllocError> {
-    let copy = kind.clone(alloc);
-    let is_kept = kind_says(alloc, kind, before)?;
-    Ok(is_kept && kind_says(alloc, &copy?, before)?)
-}
-
 fn kind_says(alloc: Global, kind: &ParseError, wanted: &str) -> Result<bool, AllocError> {
     Ok(format!(in alloc; "{kind}")?.as_str() == wanted)
 }
 
-fn is_each_kind_kept(alloc: Global, i: usize) -> Result<bool, AllocError> {
-    let kind = kind(alloc, i, "\\c")?;
-    is_kind_kept(alloc, &kind)
-}
-
-#[test]
-fn kinds_of_errors_are_as_before_their_clones(rt: HostRuntime) -> Result<(), AllocError> {
-    for i in 0..16 {
-        assert!(rt; is_each_kind_kept(rt.alloc(), i)?, "at {i}");
-    }
-    Ok(())
-}
-
-/// The same of an error.
-fn is_error_kept(alloc: Global, error: &Error) -> Result<bool, AllocError> {
-    let before = format!(in alloc; "{error}")?;
-    is_error_kept_as(alloc, error, before.as_str())
-}
-
-fn is_error_kept_as(alloc: Global, error: &Error, before: &str) -> Result<bool, AllocError> {
-    let copy = error.clone(alloc);
-    let is_kept = error_says(alloc, error, before)?;
-    Ok(is_kept && error_says(alloc, &copy?, before)?)
+/// Whether the source of a clone says what it said before, and so does the clone.
+fn is_kind_kept(alloc: Global, source: &ParseError, said: &str) -> Result<bool, AllocError> {
+    let copy = source.clone(alloc);
+    Ok(kind_says(alloc, source, said)? && kind_says(alloc, &copy?, said)?)
 }
 
 fn error_says(alloc: Global, error: &Error, wanted: &str) -> Result<bool, AllocError> {
-    Ok(format!(in alloc; "{error}")?.as_str() == wanted)
+    let text = format!(in alloc; "{error}")?;
+    Ok(text.as_str().strip_prefix("Parsing error at position 3: ") == Some(wanted))
 }
 
-fn is_each_error_kept(alloc: Global, i: usize) -> Result<bool, AllocError> {
-    let error = Error::ParseError(3, kind(alloc, i, "\\c")?);
-    is_error_kept(alloc, &error)
+/// The same of an error.
+fn is_error_kept(alloc: Global, source: &Error, said: &str) -> Result<bool, AllocError> {
+    let copy = source.clone(alloc);
+    Ok(error_says(alloc, source, said)? && error_says(alloc, &copy?, said)?)
+}
+
+fn is_each_kind_kept(alloc: Global, i: usize, said: &str) -> Result<bool, AllocError> {
+    let kind = kind(alloc, i)?;
+    is_kind_kept(alloc, &kind, said)
+}
+
+fn is_each_error_kept(alloc: Global, i: usize, said: &str) -> Result<bool, AllocError> {
+    let error = Error::ParseError(3, kind(alloc, i)?);
+    is_error_kept(alloc, &error, said)
 }
 
 #[test]
 fn errors_are_as_before_their_clones(rt: HostRuntime) -> Result<(), AllocError> {
-    for i in 0..16 {
-        assert!(rt; is_each_error_kept(rt.alloc(), i)?, "at {i}");
+    for (i, said) in SAID.iter().enumerate() {
+        assert!(rt; is_each_kind_kept(rt.alloc(), i, said)?, "{said}");
+        assert!(rt; is_each_error_kept(rt.alloc(), i, said)?, "{said}");
     }
     assert!(rt; matches!(Error::OutOfMemory.clone(rt.alloc()), Ok(Error::OutOfMemory)));
-    Ok(())
-}
-
-/// Whether the tree's text is put behind `start`. Where memory is refused for it, `start` is what stands there.
-fn prints_behind(alloc: Global, tree: &Expr, start: &str, wanted: &str) -> Result<bool, Fail> {
-    let mut text = String::from_str(alloc, start)?;
-    if tree.is_printable(alloc)? {
-        let answer = tree.to_str(&mut text, 0);
-        if answer.is_err() && text.as_str() != start {
-            return Err(Fail::new("the buffer changed"));
-        }
-        answer?;
-    }
-    Ok(text.as_str() == wanted)
-}
-
-fn pattern_prints_behind(
-    alloc: Global,
-    pattern: &str,
-    start: &str,
-    wanted: &str,
-) -> Result<bool, Fail> {
-    let tree = Expr::parse_tree(alloc, pattern)?.expr;
-    prints_behind(alloc, &tree, start, wanted)
-}
-
-#[test]
-fn buffers_are_as_before_printing(rt: HostRuntime) -> Result<(), Fail> {
-    let alloc = rt.alloc();
-    assert!(rt; pattern_prints_behind(alloc, "(?:ab){2,3}", "", "(?:ab){2,3}")?);
-    assert!(rt; pattern_prints_behind(alloc, "(?:a|b)c", "x", "x(?:a|b)c")?);
-    Ok(())
-}
-
-#[test]
-fn an_empty_text_is_printed_without_memory(rt: HostRuntime) -> Result<(), Fail> {
-    let mut text = String::from_str(rt.alloc(), "x")?;
-    assert!(rt; Expr::Empty.to_str(&mut text, 0).is_ok());
-    assert_eq!(rt; text.as_str(), "x");
-    Ok(())
-}
-
-/// Whether the text is one whole class or class escape, as a Delegate.
-fn is_delegate(alloc: Global, text: &str) -> Result<bool, AllocError> {
-    let tree = Expr::Delegate {
-        inner: String::from_str(alloc, text)?,
-        casei: false,
-    };
-    tree.is_printable(alloc)
-}
-
-#[test]
-fn what_is_printable_is_told_or_refused(rt: HostRuntime) -> Result<(), AllocError> {
-    let alloc = rt.alloc();
-    assert!(rt; is_delegate(alloc, "[a-z&&[^b]]")?);
-    assert!(rt; is_delegate(alloc, "\\p{Greek}")?);
-    assert!(rt; !is_delegate(alloc, "[a]b")?);
-    assert!(rt; !is_delegate(alloc, "\\p{Greek")?);
+    assert_eq!(rt;
+        format!(in rt.alloc(); "{}", Error::OutOfMemory)?.as_str(),
+        "out of memory"
+    );
     Ok(())
 }

@@ -1,135 +1,92 @@
-//! Tests of the calls on trees.
-use crate::samples::{Sample, samples};
-use crate::trees::literal;
+//! The calls on trees, on each of the trees with a number.
+use crate::samples::{TREES, children, tree};
+use fancy_syntax::error::Error;
 use fancy_syntax::expr::Expr;
 use std::alloc::{AllocError, Global};
 
-/// The number of the group that child i calls.
-fn called(tree: &mut Expr, i: usize) -> Option<usize> {
-    match tree.child_mut(i) {
-        Some(Expr::SubroutineCall(group)) => Some(*group),
-        _ => None,
-    }
-}
-
-/// How many children come, where they call the groups 1, 2 and so on.
-fn counted(tree: &Expr) -> usize {
+/// How many children come: first the written ones, so many, and then none that is written, nor calls another group than
+/// its place says.
+fn counted(tree: &Expr, written: usize) -> Option<usize> {
     let mut count = 0usize;
     for child in tree.children_iter() {
-        if matches!(child, Expr::SubroutineCall(n) if *n == count.saturating_add(1)) {
-            count = count.saturating_add(1);
-        } else {
-            return usize::MAX;
+        let is_written = count < written;
+        count = count.saturating_add(1);
+        let is_in_order = match child {
+            Expr::KeepOut => is_written,
+            Expr::SubroutineCall(group) => !is_written && *group == count,
+            _ => !is_written,
+        };
+        if !is_in_order {
+            return None;
         }
     }
-    count
+    Some(count)
 }
 
-#[test]
-fn each_child_comes_once_in_the_order_of_the_text(rt: HostRuntime) -> Result<(), AllocError> {
-    for (i, sample) in samples(rt.alloc())?.iter().enumerate() {
-        assert!(rt; sample.tree.is_leaf_node() == sample.is_leaf, "at {i}");
-        assert!(rt; counted(&sample.tree) == sample.children, "at {i}");
-    }
-    Ok(())
-}
-
-/// Writes a call of group 9 in the place of child k. Whether there is one.
+/// Writes in the place of child k. Whether there is one.
 fn write(tree: &mut Expr, k: usize) -> bool {
     let Some(child) = tree.child_mut(k) else {
         return false;
     };
-    *child = Expr::SubroutineCall(9);
+    *child = Expr::KeepOut;
     true
 }
 
-/// Whether child k is written where there is one, and then the children before it, and it, are the written ones.
-fn is_written(sample: &mut Sample, k: usize) -> bool {
-    let is_there = write(&mut sample.tree, k);
-    for j in 0..sample.children {
-        let wanted = if j <= k { 9 } else { j.saturating_add(1) };
-        if called(&mut sample.tree, j) != Some(wanted) {
+/// Whether the children come once, in the order of the text, and each of them, and no other, can be written.
+fn has_children(tree: &mut Expr, children: usize) -> bool {
+    if counted(tree, 0) != Some(children) {
+        return false;
+    }
+    for k in 0..4 {
+        let is_there = write(tree, k);
+        let written = children.min(k.saturating_add(1));
+        if is_there != (k < children) || counted(tree, written) != Some(children) {
             return false;
         }
     }
-    is_there == (k < sample.children)
+    true
+}
+
+fn tree_has_children(alloc: Global, i: usize) -> Result<bool, Error> {
+    let mut tree = tree(alloc, i)?;
+    let children = children(i);
+    Ok(tree.is_leaf_node() == children.is_none() && has_children(&mut tree, children.unwrap_or(0)))
 }
 
 #[test]
-fn what_is_written_is_the_child(rt: HostRuntime) -> Result<(), AllocError> {
-    for (i, sample) in samples(rt.alloc())?.iter_mut().enumerate() {
-        for k in 0..4 {
-            assert!(rt; is_written(sample, k), "at {i}");
+fn each_child_comes_once_in_the_order_of_the_text_and_is_written(
+    rt: HostRuntime,
+) -> Result<(), Error> {
+    for i in 0..TREES {
+        assert!(rt; tree_has_children(rt.alloc(), i)?, "at {i}");
+    }
+    Ok(())
+}
+
+fn add_trees(alloc: Global, all: &mut Vec<Expr>) -> Result<(), Error> {
+    for i in 0..TREES {
+        all.push(tree(alloc, i)?)?;
+    }
+    Ok(())
+}
+
+/// Whether the tree is equal to the i-th of all, and to no other.
+fn equals_alone(tree: &Expr, all: &[Expr], i: usize) -> bool {
+    for (j, other) in all.iter().enumerate() {
+        if (tree == other) != (i == j) {
+            return false;
         }
     }
-    Ok(())
+    true
 }
 
-/// Which of the samples the clone of the tree equals: the i-th alone.
-fn clone_equals_alone(
-    alloc: Global,
-    tree: &Expr,
-    all: &[Sample],
-    i: usize,
-) -> Result<bool, AllocError> {
+fn clone_equals_alone(alloc: Global, tree: &Expr, all: &[Expr], i: usize) -> Result<bool, Error> {
     let copy = tree.clone(alloc)?;
-    Ok(
-        all.iter()
-            .enumerate()
-            .all(|(j, other)| (copy == other.tree) == (i == j)),
-    )
-}
-
-#[test]
-fn a_clone_is_equal_and_others_are_not(rt: HostRuntime) -> Result<(), AllocError> {
-    let all = samples(rt.alloc())?;
-    for (i, sample) in all.iter().enumerate() {
-        assert!(rt;
-            clone_equals_alone(rt.alloc(), &sample.tree, &all, i)?,
-            "at {i}"
-        );
-    }
-    Ok(())
-}
-
-fn group(alloc: Global) -> Result<Expr, AllocError> {
-    Ok(Expr::Group(Box::new(alloc, literal(alloc, "a", false)?)?))
-}
-
-/// A group below a choice, below an atomic group.
-fn tower(alloc: Global) -> Result<Expr, AllocError> {
-    let choice = Expr::Alt(vec![in alloc; Expr::Empty, group(alloc)?, Expr::KeepOut]?);
-    Ok(Expr::AtomicGroup(Box::new(alloc, choice)?))
-}
-
-fn has_group(tree: &Expr) -> bool {
-    tree.has_descendant(|e| matches!(e, Expr::Group(_)))
-}
-
-fn has_literal(tree: &Expr) -> bool {
-    tree.has_descendant(|e| matches!(e, Expr::Literal { .. }))
-}
-
-fn has_no_group_below(tree: Expr) -> bool {
-    !has_group(&tree) && has_literal(&tree)
-}
-
-fn has_all_below(tree: Expr) -> bool {
-    has_group(&tree)
-        && has_literal(&tree)
-        && tree.has_descendant(|e| matches!(e, Expr::KeepOut))
-        && !tree.has_descendant(|e| matches!(e, Expr::AtomicGroup(_)))
-}
-
-#[test]
-fn only_proper_descendants_are_asked(rt: HostRuntime) -> Result<(), AllocError> {
-    assert!(rt; has_no_group_below(group(rt.alloc())?));
-    assert!(rt; has_all_below(tower(rt.alloc())?));
-    Ok(())
+    Ok(equals_alone(&copy, all, i))
 }
 
 /// Whether the clone of the one's node or absent form equals the other's; none where they hold no such two.
-fn clones_as(alloc: Global, one: &Expr, other: &Expr) -> Result<Option<bool>, AllocError> {
+fn part_clones_as(alloc: Global, one: &Expr, other: &Expr) -> Result<Option<bool>, AllocError> {
     match (one, other) {
         (Expr::AstNode(a, _), Expr::AstNode(b, _)) => Ok(Some(a.clone(alloc)? == *b)),
         (Expr::Absent(a), Expr::Absent(b)) => Ok(Some(a.clone(alloc)? == *b)),
@@ -137,16 +94,33 @@ fn clones_as(alloc: Global, one: &Expr, other: &Expr) -> Result<Option<bool>, Al
     }
 }
 
-#[test]
-fn nodes_and_absent_forms_are_equal_to_their_clones_alone(
-    rt: HostRuntime,
-) -> Result<(), AllocError> {
-    let all = samples(rt.alloc())?;
-    for (i, sample) in all.iter().enumerate() {
-        for (j, other) in all.iter().enumerate() {
-            let equal = clones_as(rt.alloc(), &sample.tree, &other.tree)?;
-            assert!(rt; equal.is_none() || equal == Some(i == j), "at {i}, {j}");
+fn part_equals_alone(alloc: Global, tree: &Expr, all: &[Expr], i: usize) -> Result<bool, Error> {
+    for (j, other) in all.iter().enumerate() {
+        if part_clones_as(alloc, tree, other)? == Some(i != j) {
+            return Ok(false);
         }
     }
+    Ok(true)
+}
+
+/// Whether the clone of each equals it alone, and so does the clone of the node or the absent form in it.
+fn are_equal_alone(alloc: Global, all: &[Expr]) -> Result<bool, Error> {
+    for (i, tree) in all.iter().enumerate() {
+        if !clone_equals_alone(alloc, tree, all, i)? || !part_equals_alone(alloc, tree, all, i)? {
+            return Ok(false);
+        }
+    }
+    Ok(true)
+}
+
+fn trees_are_equal_alone(alloc: Global) -> Result<bool, Error> {
+    let mut all = Vec::new(alloc);
+    add_trees(alloc, &mut all)?;
+    are_equal_alone(alloc, &all)
+}
+
+#[test]
+fn a_clone_is_equal_and_others_are_not(rt: HostRuntime) -> Result<(), Error> {
+    assert!(rt; trees_are_equal_alone(rt.alloc())?);
     Ok(())
 }

@@ -1,33 +1,63 @@
-//! Trees that are made by hand, and their texts.
+//! Where the trees come from: the reader, or a hand.
+use fancy_syntax::error::Error;
 use fancy_syntax::expr::Expr;
 use std::alloc::{AllocError, Global};
 
-pub fn literal(alloc: Global, val: &str, casei: bool) -> Result<Expr, AllocError> {
+/// The tree of the pattern.
+pub fn read(alloc: Global, pattern: &str, flags: u32) -> Result<Expr, Error> {
+    Ok(Expr::parse_tree_with_flags(alloc, pattern, flags)?.expr)
+}
+
+/// A pattern and its flags, or one node of this kind.
+#[derive(Clone, Copy)]
+pub enum Source {
+    Pattern(&'static str, u32),
+    Literal(&'static str, bool),
+    RepeatedLiteral(&'static str, bool),
+    RepeatedNothing,
+    Delegate(&'static str),
+    Reference,
+}
+
+pub fn tree_of(alloc: Global, source: &Source) -> Result<Expr, Error> {
+    match source {
+        Source::Pattern(pattern, flags) => read(alloc, pattern, *flags),
+        _ => Ok(by_hand(alloc, source)?),
+    }
+}
+
+fn by_hand(alloc: Global, source: &Source) -> Result<Expr, AllocError> {
+    match source {
+        Source::Literal(val, casei) => literal(alloc, val, *casei),
+        Source::RepeatedLiteral(val, casei) => star(alloc, literal(alloc, val, *casei)?),
+        Source::RepeatedNothing => star(alloc, Expr::Empty),
+        Source::Delegate(text) => delegate(alloc, text),
+        _ => Ok(Expr::Backref {
+            group: 1,
+            casei: false,
+        }),
+    }
+}
+
+fn literal(alloc: Global, val: &str, casei: bool) -> Result<Expr, AllocError> {
     Ok(Expr::Literal {
         val: String::from_str(alloc, val)?,
         casei,
     })
 }
 
-pub fn star(alloc: Global, child: Expr) -> Result<Expr, AllocError> {
+fn delegate(alloc: Global, text: &str) -> Result<Expr, AllocError> {
+    Ok(Expr::Delegate {
+        inner: String::from_str(alloc, text)?,
+        casei: false,
+    })
+}
+
+fn star(alloc: Global, child: Expr) -> Result<Expr, AllocError> {
     Ok(Expr::Repeat {
         child: Box::new(alloc, child)?,
         lo: 0,
         hi: usize::MAX,
         greedy: true,
     })
-}
-
-/// The text of the tree at the precedence, behind `start`; `start` alone where the tree is not printable.
-pub fn printed(
-    alloc: Global,
-    tree: &Expr,
-    precedence: u8,
-    start: &str,
-) -> Result<String, AllocError> {
-    let mut text = String::from_str(alloc, start)?;
-    if tree.is_printable(alloc)? {
-        tree.to_str(&mut text, precedence)?;
-    }
-    Ok(text)
 }

@@ -1,0 +1,88 @@
+//! What nodes are, at the top of a tree and below it.
+use crate::questions::{Question, ask};
+use crate::samples::PATTERNS;
+use crate::trees::Source;
+use fancy_syntax::error::Error;
+use fancy_syntax::expr::{Absent, BacktrackingControlVerb as Verb, Expr, LookAround};
+use fancy_syntax::flags::FLAG_UNICODE;
+
+pub fn node(tree: &Expr) -> &'static str {
+    match tree {
+        Expr::Literal { .. } => "literal",
+        Expr::KeepOut => "keep-out",
+        Expr::Group(_) => "group",
+        Expr::LookAround(_, look) => look_around(*look),
+        Expr::AtomicGroup(_) => "atomic group",
+        Expr::Conditional { .. } => "conditional",
+        Expr::DefineGroup { .. } => "definitions",
+        Expr::BacktrackingControlVerb(verb) => control(*verb),
+        Expr::Absent(form) => absent(form),
+        _ => "another",
+    }
+}
+
+fn look_around(look: LookAround) -> &'static str {
+    match look {
+        LookAround::LookAhead => "look-ahead",
+        LookAround::LookAheadNeg => "negative look-ahead",
+        LookAround::LookBehind => "look-behind",
+        LookAround::LookBehindNeg => "negative look-behind",
+    }
+}
+
+fn control(verb: Verb) -> &'static str {
+    match verb {
+        Verb::Fail => "fail",
+        Verb::Accept => "accept",
+        Verb::Commit => "commit",
+        Verb::Skip => "skip",
+        Verb::Prune => "prune",
+    }
+}
+
+fn absent(form: &Absent) -> &'static str {
+    match form {
+        Absent::Repeater(_) => "absent repeater",
+        Absent::Expression { .. } => "absent expression",
+        Absent::Stopper(_) => "absent stopper",
+        Absent::Clear => "absent clear",
+    }
+}
+
+#[test]
+fn each_group_has_its_node(rt: HostRuntime) -> Result<(), Error> {
+    for (i, (pattern, name, _)) in PATTERNS.iter().enumerate() {
+        let source = Source::Pattern(pattern, FLAG_UNICODE);
+        assert!(rt; ask(rt.alloc(), &source, &Question::Node(name))?, "at {i}");
+    }
+    Ok(())
+}
+
+/// A group below a choice, below an atomic group.
+const TOWER: &str = "(?>|(a)|\\K)";
+
+/// Patterns, nodes, and whether such a one is a proper descendant.
+static BELOW: [(&str, &str, bool); 6] = [
+    ("(a)", "group", false),
+    ("(a)", "literal", true),
+    (TOWER, "group", true),
+    (TOWER, "literal", true),
+    (TOWER, "keep-out", true),
+    (TOWER, "atomic group", false),
+];
+
+pub fn has_below(tree: &Expr, name: &str) -> bool {
+    tree.has_descendant(|below| node(below) == name)
+}
+
+#[test]
+fn only_proper_descendants_are_asked(rt: HostRuntime) -> Result<(), Error> {
+    for (i, (pattern, name, wanted)) in BELOW.iter().enumerate() {
+        let source = Source::Pattern(pattern, FLAG_UNICODE);
+        assert!(rt;
+            ask(rt.alloc(), &source, &Question::Below(name))? == *wanted,
+            "at {i}"
+        );
+    }
+    Ok(())
+}
