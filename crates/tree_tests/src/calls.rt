@@ -200,9 +200,10 @@ pub fn nests_once(alloc: Global, tree: &Expr) -> Result<bool, Error> {
 }
 
 /// A tree for each kind of group that is printed; in each one such group nests.
-static ONE_PRINTED_GROUP: [Source; 10] = [
+static ONE_PRINTED_GROUP: [Source; 11] = [
     Source::Pattern("[e]", FLAG_CASEI),
     Source::Literal("fg", true),
+    Source::RepeatedLiteral("ab", false),
     Source::Pattern("(?:ab)*", 0),
     Source::Pattern("(?:c|)*", 0),
     Source::Pattern("(?:d*)*", 0),
@@ -225,7 +226,7 @@ fn less_than_64_printed_groups_nest(rt: HostRuntime) -> Result<(), Error> {
 /// whole class or class escape.
 static PRINTABLE: [(Source, bool); 9] = [
     (Source::RepeatedNothing, false),
-    (Source::RepeatedLiteral("ab", false), false),
+    (Source::RepeatedLiteral("ab", false), true),
     (Source::RepeatedLiteral("ab", true), true),
     (Source::RepeatedLiteral("a", false), true),
     (Source::Reference, false),
