@@ -27,7 +27,7 @@ fn bounds(alloc: Global, flags: &str, pattern: &str) -> Result<Option<(usize, us
 }
 
 /// Patterns of up to six bytes, and how many nodes they have; none was found with more. The first two have 2 n + 1.
-const MOST_NODES: [(&str, usize); 7] = [
+static MOST_NODES: [(&str, usize); 7] = [
     ("", 1),
     ("|", 3),
     ("||", 4),
@@ -39,10 +39,10 @@ const MOST_NODES: [(&str, usize); 7] = [
 
 #[test]
 fn short_patterns_come_near_the_bound_on_nodes(rt: HostRuntime) -> Result<(), Fail> {
-    for (pattern, wanted) in MOST_NODES {
+    for (pattern, wanted) in MOST_NODES.iter() {
         let found = bounds(rt.alloc(), "u", pattern)?;
         assert!(rt;
-            matches!(found, Some((nodes, _)) if nodes == wanted),
+            matches!(found, Some((nodes, _)) if nodes == *wanted),
             "{pattern}"
         );
     }
@@ -136,7 +136,7 @@ fn the_deepest_tree_has_812_levels(rt: HostRuntime) -> Result<(), Fail> {
 const LONG: &str = "(?x)\\A(?<a>[\\p{^alnum}\\p{^blank}]{2,3}?|(?#c)\\k<a+0>|(?(1)\\x{41}|b))*+\\z";
 
 /// Lengths of fronts of it, and the place and the text of their faults.
-const FRONTS: [(usize, usize, &str); 4] = [
+static FRONTS: [(usize, usize, &str); 4] = [
     (3, 3, "Opening parenthesis without closing parenthesis"),
     (5, 4, "Backslash without following character"),
     (10, 7, "Could not parse group name"),
@@ -168,9 +168,9 @@ fn each_front_has_a_tree_or_a_fault_at_most_one_past_its_end(rt: HostRuntime) ->
     for end in 0..LONG.len().saturating_add(1) {
         assert!(rt; is_answered(rt.alloc(), front(end)?)?, "{end}");
     }
-    for (end, place, text) in FRONTS {
+    for (end, place, text) in FRONTS.iter() {
         assert!(rt;
-            has_fault(rt.alloc(), "u", front(end)?, place, text)?,
+            has_fault(rt.alloc(), "u", front(*end)?, *place, text)?,
             "{end}"
         );
     }

@@ -20,7 +20,7 @@ const NO_BODY: &str = "General parsing error: expected conditional to be a backr
     or at least an expression for when the condition is true";
 
 /// Flags, a pattern, the place of its fault, and the fault's text.
-const FAULTS: [(&str, &str, usize, &str); 39] = [
+static FAULTS: [(&str, &str, usize, &str); 39] = [
     ("u", "a(?#", 4, UNCLOSED),
     ("u", "a(?#\\", 6, UNCLOSED),
     ("uo", "a******", 7, TOO_DEEP),
@@ -84,9 +84,9 @@ const FAULTS: [(&str, &str, usize, &str); 39] = [
 
 #[test]
 fn each_fault_has_its_line(rt: HostRuntime) -> Result<(), Fail> {
-    for (flags, pattern, place, text) in FAULTS {
+    for (flags, pattern, place, text) in FAULTS.iter() {
         assert!(rt;
-            has_fault(rt.alloc(), flags, pattern, place, text)?,
+            has_fault(rt.alloc(), flags, pattern, *place, text)?,
             "{pattern}"
         );
     }

@@ -4,7 +4,7 @@ use std::alloc::Global;
 use std::test::Fail;
 
 /// Patterns, the lines of their trees, and how many groups they have.
-const TREES: [(&str, &str, usize); 15] = [
+static TREES: [(&str, &str, usize); 15] = [
     (
         "(?((?=a))b)",
         "Conditional
@@ -107,9 +107,9 @@ fn has_groups(alloc: Global, pattern: &str, lines: &str, groups: usize) -> Resul
 
 #[test]
 fn groups_have_their_trees(rt: HostRuntime) -> Result<(), Fail> {
-    for (pattern, lines, groups) in TREES {
+    for (pattern, lines, groups) in TREES.iter() {
         assert!(rt;
-            has_groups(rt.alloc(), pattern, lines, groups)?,
+            has_groups(rt.alloc(), pattern, lines, *groups)?,
             "{pattern}"
         );
     }
@@ -126,7 +126,7 @@ const NO_BRANCH: &str = "General parsing error: expected conditional to be a bac
 const NO_PARENTHESIS: &str = "General parsing error: expected close paren";
 
 /// Patterns that are refused, the place, and the text.
-const FAULTS: [(&str, usize, &str); 13] = [
+static FAULTS: [(&str, usize, &str); 13] = [
     ("(?(?=a)b)", 3, TARGET),
     ("(*F)+", 4, TARGET),
     ("(*x)", 1, TARGET),
@@ -144,9 +144,9 @@ const FAULTS: [(&str, usize, &str); 13] = [
 
 #[test]
 fn groups_are_refused_at_their_places(rt: HostRuntime) -> Result<(), Fail> {
-    for (pattern, place, text) in FAULTS {
+    for (pattern, place, text) in FAULTS.iter() {
         assert!(rt;
-            has_fault(rt.alloc(), "u", pattern, place, text)?,
+            has_fault(rt.alloc(), "u", pattern, *place, text)?,
             "{pattern}"
         );
     }

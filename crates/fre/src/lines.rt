@@ -4,7 +4,7 @@ use std::alloc::Global;
 use std::test::Fail;
 
 /// Flags, a pattern, and the lines of its tree.
-const TREES: [(&str, &str, &str); 40] = [
+static TREES: [(&str, &str, &str); 40] = [
     ("u", "", "Empty\n"),
     ("us", ".", "Any newline=true crlf=false\n"),
     ("uR", "\\O", "Any newline=true crlf=true\n"),
@@ -76,7 +76,7 @@ const TREES: [(&str, &str, &str); 40] = [
 ];
 
 /// Flags, a pattern, and what is known of its groups and references.
-const MARKS: [(&str, &str, &str); 6] = [
+static MARKS: [(&str, &str, &str); 6] = [
     (
         "u",
         "(?<b>x)(?<a>y)(?<b>z)",
@@ -111,7 +111,7 @@ const MARKS: [(&str, &str, &str); 6] = [
 
 #[test]
 fn each_node_has_its_line(rt: HostRuntime) -> Result<(), Fail> {
-    for (flags, pattern, lines) in TREES {
+    for (flags, pattern, lines) in TREES.iter() {
         assert!(rt;
             has_tree(rt.alloc(), flags, pattern, lines, "")?,
             "{pattern}"
@@ -130,7 +130,7 @@ fn has_marks(alloc: Global, flags: &str, pattern: &str, wanted: &str) -> Result<
 
 #[test]
 fn each_mark_has_its_form(rt: HostRuntime) -> Result<(), Fail> {
-    for (flags, pattern, wanted) in MARKS {
+    for (flags, pattern, wanted) in MARKS.iter() {
         assert!(rt; has_marks(rt.alloc(), flags, pattern, wanted)?, "{pattern}");
     }
     Ok(())

@@ -115,30 +115,32 @@ const LEFT_OVER: &str =
 
 const USAGE: &str = "usage: fre FLAGS PATTERN\n";
 
+/// Words, and the status, the output and the error of a run on them.
+static ANSWERS: [(&[&str], u8, &str, &str); 12] = [
+    (&["u", "(a|b)c*"], 0, ACCEPTED, ""),
+    (&["u", "(?<n>x)\\k<n>"], 0, NAMED, ""),
+    (&["u", ""], 0, EMPTY, ""),
+    (&["-", "a("], 1, "", REFUSED),
+    (&["u", "a)b"], 1, "", LEFT_OVER),
+    (
+        &["u", "\\k<-2>\\k<b>"],
+        1,
+        "",
+        "Parsing error at position 2: Invalid back reference\n",
+    ),
+    (&["z", "a"], 2, "", USAGE),
+    (&["uz", "a("], 2, "", USAGE),
+    (&["-u", "a"], 2, "", USAGE),
+    (&["", "a"], 2, "", USAGE),
+    (&["u"], 2, "", USAGE),
+    (&["u", "a", "b"], 2, "", USAGE),
+];
+
 #[test]
 fn answers(rt: HostRuntime) -> Result<(), Fail> {
-    let rows: [(&[&str], u8, &str, &str); 12] = [
-        (&["u", "(a|b)c*"], 0, ACCEPTED, ""),
-        (&["u", "(?<n>x)\\k<n>"], 0, NAMED, ""),
-        (&["u", ""], 0, EMPTY, ""),
-        (&["-", "a("], 1, "", REFUSED),
-        (&["u", "a)b"], 1, "", LEFT_OVER),
-        (
-            &["u", "\\k<-2>\\k<b>"],
-            1,
-            "",
-            "Parsing error at position 2: Invalid back reference\n",
-        ),
-        (&["z", "a"], 2, "", USAGE),
-        (&["uz", "a("], 2, "", USAGE),
-        (&["-u", "a"], 2, "", USAGE),
-        (&["", "a"], 2, "", USAGE),
-        (&["u"], 2, "", USAGE),
-        (&["u", "a", "b"], 2, "", USAGE),
-    ];
-    for (words, status, out, err) in rows {
+    for (words, status, out, err) in ANSWERS.iter() {
         assert!(rt;
-            is_answer(rt.alloc(), words, status, out, err)?,
+            is_answer(rt.alloc(), words, *status, out, err)?,
             "{words:?}"
         );
     }

@@ -15,85 +15,101 @@ fn answer(alloc: Global, pattern: &str, flags: u32) -> Result<String, AllocError
     }
 }
 
+fn says(alloc: Global, pattern: &str, flags: u32, wanted: &str) -> Result<bool, AllocError> {
+    Ok(answer(alloc, pattern, flags)?.as_str() == wanted)
+}
+
+/// Classes, and what is written for them.
+static WRITTEN: [(&str, &str); 11] = [
+    ("[[^]a]b]", "[[^]a]b] then "),
+    ("[]a]b", "[]a] then b"),
+    ("[^]a]b", "[^]a] then b"),
+    ("[\\]\\\\]", "[\\]\\\\] then "),
+    ("[\\b\\k\\B]", "[\u{8}kB] then "),
+    ("[\\d\\h]", "[\\d[0-9A-Fa-f]] then "),
+    ("[\\p{word}]", "[\\w] then "),
+    ("[\\xFF]", "[\u{FF}] then "),
+    ("[ ^]", "[ ^] then "),
+    (
+        "[\\p{^alnum}\\p{^blank}]",
+        "[[^\\p{alpha}\\p{digit}]&&[^\\p{Zs}\\x09]] then ",
+    ),
+    (
+        "[\\p{^alnum}[a\\p{graph}]]",
+        "[[^\\p{alpha}\\p{digit}][a&&[^\\p{White_Space}\\p{C}]]] then ",
+    ),
+];
+
 #[test]
 fn classes_are_written_anew(rt: HostRuntime) -> Result<(), AllocError> {
-    for (pattern, written) in [
-        ("[[^]a]b]", "[[^]a]b] then "),
-        ("[]a]b", "[]a] then b"),
-        ("[^]a]b", "[^]a] then b"),
-        ("[\\]\\\\]", "[\\]\\\\] then "),
-        ("[\\b\\k\\B]", "[\u{8}kB] then "),
-        ("[\\d\\h]", "[\\d[0-9A-Fa-f]] then "),
-        ("[\\p{word}]", "[\\w] then "),
-        ("[\\xFF]", "[\u{FF}] then "),
-        ("[ ^]", "[ ^] then "),
-        (
-            "[\\p{^alnum}\\p{^blank}]",
-            "[[^\\p{alpha}\\p{digit}]&&[^\\p{Zs}\\x09]] then ",
-        ),
-        (
-            "[\\p{^alnum}[a\\p{graph}]]",
-            "[[^\\p{alpha}\\p{digit}][a&&[^\\p{White_Space}\\p{C}]]] then ",
-        ),
-    ] {
-        let answered = answer(rt.alloc(), pattern, FLAG_UNICODE)?;
-        assert_eq!(rt; answered.as_str(), written, "at {pattern}");
+    for (pattern, written) in WRITTEN.iter() {
+        assert!(rt;
+            says(rt.alloc(), pattern, FLAG_UNICODE, written)?,
+            "at {pattern}"
+        );
     }
     Ok(())
 }
+
+/// The same with flags.
+static WRITTEN_WITH_FLAGS: [(&str, u32, &str); 4] = [
+    ("[\\p{word}]", 0, "[_[:alnum:]] then "),
+    ("[a-z\\n\\xFF]", 0, "[a-z\n\\xFF] then "),
+    ("[ ^] )", FLAG_UNICODE | FLAG_IGNORE_SPACE, "[ ^] then  )"),
+    (
+        "[\\x { 4 1 } ]",
+        FLAG_UNICODE | FLAG_IGNORE_SPACE,
+        "[A ] then ",
+    ),
+];
 
 #[test]
 fn flags_change_what_is_written(rt: HostRuntime) -> Result<(), AllocError> {
-    for (pattern, flags, written) in [
-        ("[\\p{word}]", 0, "[_[:alnum:]] then "),
-        ("[a-z\\n\\xFF]", 0, "[a-z\n\\xFF] then "),
-        ("[ ^] )", FLAG_UNICODE | FLAG_IGNORE_SPACE, "[ ^] then  )"),
-        (
-            "[\\x { 4 1 } ]",
-            FLAG_UNICODE | FLAG_IGNORE_SPACE,
-            "[A ] then ",
-        ),
-    ] {
-        let answered = answer(rt.alloc(), pattern, flags)?;
-        assert_eq!(rt; answered.as_str(), written, "at {pattern}");
+    for (pattern, flags, written) in WRITTEN_WITH_FLAGS.iter() {
+        assert!(rt; says(rt.alloc(), pattern, *flags, written)?, "at {pattern}");
     }
     Ok(())
 }
 
+/// Patterns that begin with no class, and why.
+static FAULTS: [(&str, &str); 10] = [
+    ("[]", "Parsing error at position 2: Invalid character class"),
+    (
+        "[^]",
+        "Parsing error at position 3: Invalid character class",
+    ),
+    ("[a", "Parsing error at position 2: Invalid character class"),
+    (
+        "[\\1]",
+        "Parsing error at position 1: Invalid character class",
+    ),
+    (
+        "[\\18446744073709551616]",
+        "Parsing error at position 2: Invalid back reference",
+    ),
+    ("[\\Z]", "Parsing error at position 1: Invalid escape: \\Z"),
+    ("[\\q", "Parsing error at position 1: Invalid escape: \\q"),
+    (
+        "[\\",
+        "Parsing error at position 1: Backslash without following character",
+    ),
+    (
+        "[\\x(?#]",
+        "Parsing error at position 7: Opening parenthesis without closing parenthesis",
+    ),
+    (
+        "[\\p{a",
+        "Parsing error at position 1: Unicode escape not closed",
+    ),
+];
+
 #[test]
 fn faults_of_classes_say_their_place(rt: HostRuntime) -> Result<(), AllocError> {
-    for (pattern, fault) in [
-        ("[]", "Parsing error at position 2: Invalid character class"),
-        (
-            "[^]",
-            "Parsing error at position 3: Invalid character class",
-        ),
-        ("[a", "Parsing error at position 2: Invalid character class"),
-        (
-            "[\\1]",
-            "Parsing error at position 1: Invalid character class",
-        ),
-        (
-            "[\\18446744073709551616]",
-            "Parsing error at position 2: Invalid back reference",
-        ),
-        ("[\\Z]", "Parsing error at position 1: Invalid escape: \\Z"),
-        ("[\\q", "Parsing error at position 1: Invalid escape: \\q"),
-        (
-            "[\\",
-            "Parsing error at position 1: Backslash without following character",
-        ),
-        (
-            "[\\x(?#]",
-            "Parsing error at position 7: Opening parenthesis without closing parenthesis",
-        ),
-        (
-            "[\\p{a",
-            "Parsing error at position 1: Unicode escape not closed",
-        ),
-    ] {
-        let answered = answer(rt.alloc(), pattern, FLAG_UNICODE)?;
-        assert_eq!(rt; answered.as_str(), fault, "at {pattern}");
+    for (pattern, fault) in FAULTS.iter() {
+        assert!(rt;
+            says(rt.alloc(), pattern, FLAG_UNICODE, fault)?,
+            "at {pattern}"
+        );
     }
     Ok(())
 }

@@ -44,107 +44,124 @@ fn answer(alloc: Global, pattern: &str, flags: u32) -> Result<String, AllocError
     }
 }
 
+fn says(alloc: Global, pattern: &str, flags: u32, wanted: &str) -> Result<bool, AllocError> {
+    Ok(answer(alloc, pattern, flags)?.as_str() == wanted)
+}
+
+/// Escapes, and what they stand for.
+static LEAVES: [(&str, &str); 13] = [
+    ("\\u21D2", "Literal \u{21D2} false then "),
+    ("\\U{0001F60A}", "Literal \u{1F60A} false then "),
+    ("\\x{80}", "Literal \u{80} false then "),
+    ("\\A*", "StartText then *"),
+    ("\\b{1}", "WordBoundary then {1}"),
+    ("\\b{1", "WordBoundary then {1"),
+    ("\\PL", "Delegate \\PL false then "),
+    ("\\p{Greek}", "Delegate \\p{greek} false then "),
+    ("\\P{^cs}", "Delegate \\P{any} false then "),
+    ("\\p{^^x}", "Delegate \\P{^x} false then "),
+    ("\\p{\u{C9}A}", "Delegate \\p{\u{C9}a} false then "),
+    ("\\N", "Any false false then "),
+    ("\\R", "GeneralNewline true then "),
+];
+
 #[test]
 fn escapes_stand_for_leaves(rt: HostRuntime) -> Result<(), AllocError> {
-    for (pattern, leaf) in [
-        ("\\u21D2", "Literal \u{21D2} false then "),
-        ("\\U{0001F60A}", "Literal \u{1F60A} false then "),
-        ("\\x{80}", "Literal \u{80} false then "),
-        ("\\A*", "StartText then *"),
-        ("\\b{1}", "WordBoundary then {1}"),
-        ("\\b{1", "WordBoundary then {1"),
-        ("\\PL", "Delegate \\PL false then "),
-        ("\\p{Greek}", "Delegate \\p{greek} false then "),
-        ("\\P{^cs}", "Delegate \\P{any} false then "),
-        ("\\p{^^x}", "Delegate \\P{^x} false then "),
-        ("\\p{\u{C9}A}", "Delegate \\p{\u{C9}a} false then "),
-        ("\\N", "Any false false then "),
-        ("\\R", "GeneralNewline true then "),
-    ] {
-        let answered = answer(rt.alloc(), pattern, FLAG_UNICODE)?;
-        assert_eq!(rt; answered.as_str(), leaf, "at {pattern}");
+    for (pattern, leaf) in LEAVES.iter() {
+        assert!(rt;
+            says(rt.alloc(), pattern, FLAG_UNICODE, leaf)?,
+            "at {pattern}"
+        );
     }
     Ok(())
 }
+
+const SPACED: u32 = FLAG_UNICODE | FLAG_IGNORE_SPACE;
+
+/// The same with flags.
+static LEAVES_WITH_FLAGS: [(&str, u32, &str); 9] = [
+    ("\\x { 4 1 }", SPACED, "Literal A false then "),
+    (
+        "\\xFF",
+        FLAG_UNICODE | FLAG_CASEI,
+        "Literal \u{FF} true then ",
+    ),
+    ("\\xFF", 0, "LiteralBytes 255 then "),
+    ("\\x{80}", 0, "LiteralBytes 128 then "),
+    (
+        "\\p{Ll}",
+        FLAG_UNICODE | FLAG_CASEI,
+        "Delegate \\p{ll} true then ",
+    ),
+    (
+        "\\<",
+        FLAG_UNICODE | FLAG_ONIGURUMA_MODE,
+        "Literal < false then ",
+    ),
+    (
+        "\\Z",
+        FLAG_UNICODE | FLAG_CRLF,
+        "EndTextIgnoreTrailingNewlines { crlf: true } then ",
+    ),
+    ("\\b { s t a r t }", SPACED, "LeftWordBoundary then "),
+    (
+        "\\b { s t a (?# x)r t} a )",
+        SPACED,
+        "LeftWordBoundary then  a )",
+    ),
+];
 
 #[test]
 fn flags_change_what_an_escape_stands_for(rt: HostRuntime) -> Result<(), AllocError> {
-    let spaced = FLAG_UNICODE | FLAG_IGNORE_SPACE;
-    for (pattern, flags, leaf) in [
-        ("\\x { 4 1 }", spaced, "Literal A false then "),
-        (
-            "\\xFF",
-            FLAG_UNICODE | FLAG_CASEI,
-            "Literal \u{FF} true then ",
-        ),
-        ("\\xFF", 0, "LiteralBytes 255 then "),
-        ("\\x{80}", 0, "LiteralBytes 128 then "),
-        (
-            "\\p{Ll}",
-            FLAG_UNICODE | FLAG_CASEI,
-            "Delegate \\p{ll} true then ",
-        ),
-        (
-            "\\<",
-            FLAG_UNICODE | FLAG_ONIGURUMA_MODE,
-            "Literal < false then ",
-        ),
-        (
-            "\\Z",
-            FLAG_UNICODE | FLAG_CRLF,
-            "EndTextIgnoreTrailingNewlines { crlf: true } then ",
-        ),
-        ("\\b { s t a r t }", spaced, "LeftWordBoundary then "),
-        (
-            "\\b { s t a (?# x)r t} a )",
-            spaced,
-            "LeftWordBoundary then  a )",
-        ),
-    ] {
-        let answered = answer(rt.alloc(), pattern, flags)?;
-        assert_eq!(rt; answered.as_str(), leaf, "at {pattern}");
+    for (pattern, flags, leaf) in LEAVES_WITH_FLAGS.iter() {
+        assert!(rt; says(rt.alloc(), pattern, *flags, leaf)?, "at {pattern}");
     }
     Ok(())
 }
 
+/// Patterns in which no escape stands, and why.
+static FAULTS: [(&str, &str); 11] = [
+    (".\\c", "Parsing error at position 1: Invalid escape: \\c"),
+    ("\\p", "Parsing error at position 0: Invalid escape: \\p"),
+    (
+        "\\p{Greek",
+        "Parsing error at position 0: Unicode escape not closed",
+    ),
+    (
+        "\\x{800000000}",
+        "Parsing error at position 2: Invalid hex escape",
+    ),
+    ("\\u123x", "Parsing error at position 2: Invalid hex escape"),
+    ("\\x{42", "Parsing error at position 2: Invalid hex escape"),
+    (
+        "\\x{D800}",
+        "Parsing error at position 2: Invalid codepoint for hex or unicode escape",
+    ),
+    (
+        "\\b{",
+        "Parsing error at position 0: Invalid escape: \\b{...}",
+    ),
+    (
+        "\\b{ start }",
+        "Parsing error at position 0: Invalid escape: \\b{ start }",
+    ),
+    (
+        "\\B{x}",
+        "Parsing error at position 0: Invalid escape: \\B{x}",
+    ),
+    (
+        "\\b(?#",
+        "Parsing error at position 5: Opening parenthesis without closing parenthesis",
+    ),
+];
+
 #[test]
 fn faults_of_escapes_say_their_place(rt: HostRuntime) -> Result<(), AllocError> {
-    for (pattern, fault) in [
-        (".\\c", "Parsing error at position 1: Invalid escape: \\c"),
-        ("\\p", "Parsing error at position 0: Invalid escape: \\p"),
-        (
-            "\\p{Greek",
-            "Parsing error at position 0: Unicode escape not closed",
-        ),
-        (
-            "\\x{800000000}",
-            "Parsing error at position 2: Invalid hex escape",
-        ),
-        ("\\u123x", "Parsing error at position 2: Invalid hex escape"),
-        ("\\x{42", "Parsing error at position 2: Invalid hex escape"),
-        (
-            "\\x{D800}",
-            "Parsing error at position 2: Invalid codepoint for hex or unicode escape",
-        ),
-        (
-            "\\b{",
-            "Parsing error at position 0: Invalid escape: \\b{...}",
-        ),
-        (
-            "\\b{ start }",
-            "Parsing error at position 0: Invalid escape: \\b{ start }",
-        ),
-        (
-            "\\B{x}",
-            "Parsing error at position 0: Invalid escape: \\B{x}",
-        ),
-        (
-            "\\b(?#",
-            "Parsing error at position 5: Opening parenthesis without closing parenthesis",
-        ),
-    ] {
-        let answered = answer(rt.alloc(), pattern, FLAG_UNICODE)?;
-        assert_eq!(rt; answered.as_str(), fault, "at {pattern}");
+    for (pattern, fault) in FAULTS.iter() {
+        assert!(rt;
+            says(rt.alloc(), pattern, FLAG_UNICODE, fault)?,
+            "at {pattern}"
+        );
     }
     Ok(())
 }
