@@ -33,7 +33,7 @@ fn is_absent_kept(alloc: Global, source: &Absent, before: &Absent) -> Result<boo
 }
 
 /// The same of the tree, and of the node or the absent form that it holds, if it holds one.
-fn is_kept(alloc: Global, source: &Expr, before: &Expr) -> Result<bool, AllocError> {
+fn is_kept(alloc: Global, source: &Expr, before: &Expr) -> Result<bool, Error> {
     let is_part_kept = match (source, before) {
         (Expr::AstNode(source, _), Expr::AstNode(before, _)) => is_node_kept(
             alloc, source, before,
@@ -46,7 +46,7 @@ fn is_kept(alloc: Global, source: &Expr, before: &Expr) -> Result<bool, AllocErr
 
 fn is_kept_beside(alloc: Global, i: usize, before: &Expr) -> Result<bool, Error> {
     let source = tree(alloc, i)?;
-    Ok(is_kept(alloc, &source, before)?)
+    is_kept(alloc, &source, before)
 }
 
 fn is_sample_kept(alloc: Global, i: usize) -> Result<bool, Error> {
@@ -115,17 +115,17 @@ fn is_same(a: &ExprTree, b: &ExprTree) -> bool {
         && a.numbered_groups_ignored == b.numbered_groups_ignored
 }
 
-fn is_marked_kept(alloc: Global, source: &ExprTree, before: &ExprTree) -> Result<bool, AllocError> {
+fn is_marked_kept(alloc: Global, source: &ExprTree, before: &ExprTree) -> Result<bool, Error> {
     match source.clone(alloc) {
         Ok(copy) => Ok(is_same(source, before) && is_same(&copy, before)),
         Err(_) if !is_same(source, before) => Ok(false),
-        Err(refused) => Err(refused),
+        Err(refused) => Err(Error::from(refused)),
     }
 }
 
 fn is_marked_kept_beside(alloc: Global, source: &ExprTree) -> Result<bool, Error> {
     let before = marked(alloc)?;
-    Ok(is_marked_kept(alloc, source, &before)?)
+    is_marked_kept(alloc, source, &before)
 }
 
 fn marked_is_kept(alloc: Global) -> Result<bool, Error> {
@@ -225,16 +225,17 @@ fn is_each_error_kept(alloc: Global, i: usize, said: &str) -> Result<bool, Alloc
     is_error_kept(alloc, &error, said)
 }
 
+fn is_out_of_memory_cloned(alloc: Global) -> Result<bool, AllocError> {
+    let copy = Error::OutOfMemory.clone(alloc)?;
+    Ok(format!(in alloc; "{copy}")?.as_str() == "out of memory")
+}
+
 #[test]
 fn errors_are_as_before_their_clones(rt: HostRuntime) -> Result<(), AllocError> {
     for (i, said) in SAID.iter().enumerate() {
-        assert!(rt; is_each_kind_kept(rt.alloc(), i, said)?, "{said}");
-        assert!(rt; is_each_error_kept(rt.alloc(), i, said)?, "{said}");
+        assert!(rt; is_each_kind_kept(rt.alloc(), i, said)?, "at {i}");
+        assert!(rt; is_each_error_kept(rt.alloc(), i, said)?, "at {i}");
     }
-    assert!(rt; matches!(Error::OutOfMemory.clone(rt.alloc()), Ok(Error::OutOfMemory)));
-    assert_eq!(rt;
-        format!(in rt.alloc(); "{}", Error::OutOfMemory)?.as_str(),
-        "out of memory"
-    );
+    assert!(rt; is_out_of_memory_cloned(rt.alloc())?);
     Ok(())
 }
