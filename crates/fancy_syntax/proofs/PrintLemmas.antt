@@ -1,16 +1,17 @@
 -- Steps of a tree's text.
 use Rattle.std.proofs.Common.{◌≡◌, ℕ, ◌+◌, ◌<◌, ◌≤◌, zero, suc, Bool, true, false, nat_lt, if◌then◌else◌, List, [], ◌∷◌, ◌++◌, length, drop, get_or, String, Global, codes, refl, sym, ap, subst, ◌∙◌, append-nil, drop-cons, add-one, arith}
-use Rattle.std.proofs.Common.{string_bytes}
+use Rattle.std.proofs.Common.{string_bytes, chars}
+use Rattle.std.specs.Str.{IsUtf8}
 use Rattle.std.specs.Prelude.{encode_utf8_all}
-use Rattle.std.proofs.lemmas.Str.{encodes-chars, encodes-append, IsUtf8-string_bytes}
+use Rattle.std.proofs.lemmas.Str.{encodes-chars, encodes-append, IsUtf8-string_bytes, len_utf8_bounds}
 use Rattle.std.proofs.lemmas.Bool.Decides.{nat_tests}
 use Rattle.std.proofs.lemmas.List.{drop_all}
 use Rattle.fancy_lex.specs.Text.{Text, text_of, bytes}
 use Rattle.fancy_parts.specs.Room.{HasRoom, Appended}
-use Rattle.fancy_lex.proofs.TextLemmas.{bytes-append}
+use Rattle.fancy_lex.proofs.TextLemmas.{bytes-append, bytes_chars}
 use Rattle.fancy_parts.proofs.RoomLemmas.{bytes-cons, bytes-nil, room_front, then_written, written_three, nothing_written}
-use Rattle.fancy_grammar.specs.Tree.{Trees, no_trees, more_trees, trees_of}
-use Rattle.fancy_grammar.specs.Printed.{grouped, caseless, printed, printed_all, printed_branches, barred}
+use Rattle.fancy_grammar.specs.Tree.{Tree, Trees, no_trees, more_trees, literal, trees_of}
+use Rattle.fancy_grammar.specs.Printed.{grouped, caseless, is_long, printed, repeated, printed_all, printed_branches, barred}
 use Rattle.fancy_syntax.specs.declared.expr.Expr.{Expr}
 use Rattle.fancy_syntax.specs.View.{view, views}
 
@@ -66,6 +67,15 @@ bar_more t = bytes-append (codes "|") t ∙ omega arith
 
 pub ruleset count_steps = (bar_more, bytes-append, bytes-cons, bytes-nil, grouped_more, grouped_same, caseless_more, caseless_same, group_more)
 
+-- a text of one byte is no long one
+pub short_text : (bs : List ℕ) → IsUtf8 bs → length bs < 2 → is_long (literal (chars bs) false) ≡ false
+unfolding bytes
+short_text bs utf8 h = by_chars (chars bs) (bytes_chars bs utf8) where
+  by_chars : (t : Text) → bytes t ≡ length bs → is_long (literal t false) ≡ false
+  by_chars [] e = refl
+  by_chars (c ∷ []) e = refl
+  by_chars (c ∷ d ∷ t) e = absurd (omega (arith, (len_utf8_bounds c).0, (len_utf8_bounds d).0))
+
 -- ---- what is written
 
 pub grouped_written : (a b c d : String Global) (g : Bool) (t : Text) → Appended a b (asked g (codes "(?:")) → Appended b c t → Appended c d (asked g (codes ")")) → Appended a d (grouped g t)
@@ -84,7 +94,13 @@ group_written a b c d t p q r = written_three a b c d (codes "(") t (codes ")") 
 pub no_text_written : (a : String Global) (t : Text) → t ≡ [] → Appended a a t
 no_text_written a t e = subst (λ u. Appended a a u) (sym e) (nothing_written a)
 
-pub ruleset write_steps = (bytes-append, bytes-cons, bytes-nil, nothing_written, grouped_len, caseless_len, grouped_written, caseless_written, repeat_written, group_written)
+pub long_written : (a b c d : String Global) (e : Tree) → is_long e ≡ true → Appended a b (codes "(?:") → Appended b c (printed e 3) → Appended c d (codes ")") → Appended a d (repeated e)
+long_written a b c d e l p q r = subst (λ g. Appended a d (grouped g (printed e 3))) (sym l) (grouped_written a b c d true (printed e 3) p q r)
+
+pub short_written : (a b : String Global) (e : Tree) → is_long e ≡ false → Appended a b (printed e 3) → Appended a b (repeated e)
+short_written a b e l p = subst (λ g. Appended a b (grouped g (printed e 3))) (sym l) (subst (λ t. Appended a b t) (sym (grouped_same (printed e 3))) p)
+
+pub ruleset write_steps = (bytes-append, bytes-cons, bytes-nil, nothing_written, grouped_len, caseless_len, grouped_written, caseless_written, repeat_written, long_written, short_written, group_written)
 
 -- ---- the trees of a list that are left
 

@@ -23,6 +23,10 @@ pub fn is_long(tree: &Expr) -> bool
 fn has_several(text: &str) -> bool
     ensures { result ≡ spec.is_long (literal (chars text.now) false) }
 {
+    // In the tree of a pattern a literal is one character, and mostly one byte.
+    if text.len() < 2 {
+        return false;
+    }
     let Some((_, rest)) = next(text) else {
         return false;
     };

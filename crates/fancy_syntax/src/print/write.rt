@@ -178,8 +178,11 @@ fn put_repeated(buf: &mut String, tree: &Expr)
     requires { HasRoom buf.old (repeated (view tree.now)) }
     ensures { Appended buf.old buf.new (repeated (view tree.now)) }
 {
-    let is_grouped = is_long(tree);
-    put_if(buf, is_grouped, "(?:");
-    put_tree(buf, tree, 3);
-    put_if(buf, is_grouped, ")");
+    if is_long(tree) {
+        put_ascii(buf, "(?:");
+        put_tree(buf, tree, 3);
+        put(buf, ')');
+    } else {
+        put_tree(buf, tree, 3);
+    }
 }
