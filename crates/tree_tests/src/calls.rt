@@ -57,7 +57,7 @@ fn put(alloc: Global, tree: &Expr, precedence: u8, text: &mut String) -> Result<
 }
 
 /// Whether the tree's text is put behind `start`. Where memory is refused for it, `start` is what stands there.
-fn is_put_behind(
+pub fn is_put_behind(
     alloc: Global,
     tree: &Expr,
     precedence: u8,
@@ -147,6 +147,26 @@ fn text_is_appended_and_read_again(rt: HostRuntime) -> Result<(), Error> {
     Ok(())
 }
 
+/// Trees whose texts read as others: a precedence, and the text.
+static REPEATED: [(Source, u8, &str); 5] = [
+    (Source::RepeatedLiteral("ab", false), 0, "(?:ab)*"),
+    (Source::RepeatedLiteral("ab", false), 3, "(?:(?:ab)*)"),
+    (Source::RepeatedLiteral(".\n", false), 0, "(?:\\.\\n)*"),
+    (Source::RepeatedLiteral("ab", true), 0, "(?i:ab)*"),
+    (Source::Literal("ab", false), 3, "ab"),
+];
+
+#[test]
+fn a_repeated_literal_stands_in_a_group(rt: HostRuntime) -> Result<(), Error> {
+    for (i, (source, precedence, text)) in REPEATED.iter().enumerate() {
+        assert!(rt;
+            ask(rt.alloc(), source, &Question::HasText(*precedence, text))?,
+            "at {i}"
+        );
+    }
+    Ok(())
+}
+
 fn empty_is_printed(alloc: Global) -> Result<bool, AllocError> {
     let mut text = String::from_str(alloc, "x")?;
     Ok(Expr::Empty.to_str(&mut text, 0).is_ok() && text.as_str() == "x")
@@ -203,7 +223,7 @@ pub fn nests_once(alloc: Global, tree: &Expr) -> Result<bool, Error> {
 static ONE_PRINTED_GROUP: [Source; 11] = [
     Source::Pattern("[e]", FLAG_CASEI),
     Source::Literal("fg", true),
-    Source::RepeatedLiteral("ab", false),
+    Source::RepeatedLiteral("hi", false),
     Source::Pattern("(?:ab)*", 0),
     Source::Pattern("(?:c|)*", 0),
     Source::Pattern("(?:d*)*", 0),
@@ -224,8 +244,9 @@ fn less_than_64_printed_groups_nest(rt: HostRuntime) -> Result<(), Error> {
 
 /// Trees, and whether they are printable: not where a text reads as another tree, nor where a delegate is not one
 /// whole class or class escape.
-static PRINTABLE: [(Source, bool); 9] = [
+static PRINTABLE: [(Source, bool); 10] = [
     (Source::RepeatedNothing, false),
+    (Source::RepeatedLiteral("", false), false),
     (Source::RepeatedLiteral("ab", false), true),
     (Source::RepeatedLiteral("ab", true), true),
     (Source::RepeatedLiteral("a", false), true),
