@@ -351,7 +351,7 @@ mutual
   atom_fits : {n d : ℕ} {s : State} {o : Outcome Tree} → Atom n d s o → d < 64 → Holds (Fits 820 d s) o
   atom_fits (atom {n} {d} {s} {q} {k} e a b) l =
       let h = of_fits a l (subst (AheadSlice n s) e (ahead_slice n d s)) (subst ReadAhead e (ahead_read n d s))
-          (subst (OpensBelow d) e (ahead_below n d s)) in
+      (subst (OpensBelow d) e (ahead_below n d s)) in
       let P = Holds (Fits 820 d s) in subst P b (behind_keeps P (λ r t f i. i) k s.flags q h)
 
   of_fits : {k : Ahead} {n d : ℕ} {s : State} {o : Outcome Tree} → AtomOf k n d s o → d < 64 →
