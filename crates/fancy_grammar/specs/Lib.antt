@@ -1,5 +1,10 @@
 -- What a pattern means: what the contracts of its parser and its printer speak of.
+
+-- ---- trees, and when two are the same
 pub mod Tree
+pub mod Same
+pub mod SameLaws
+-- ---- reading: the grammar, and the faults that it comes to
 pub mod State
 pub mod Head
 pub mod Verb
@@ -7,12 +12,15 @@ pub mod Ahead
 pub mod Join
 pub mod Quantified
 pub mod Grammar
+pub mod Fails
+-- ---- what references mean, and what is answered
 pub mod Items
 pub mod Resolved
 pub mod Marks
 pub mod Answer
 pub mod Preorder
 pub mod Answered
+-- ---- printing, and what a printed text reads as
 pub mod Printed
 pub mod HasDelegate
 pub mod Normal
@@ -20,11 +28,12 @@ pub mod Printable
 pub mod Nest
 pub mod Over
 pub mod ReadBack
+-- What only the laws, the private contracts and the proofs of the code speak of.
+
+-- ---- readings
 pub mod Plain
 pub mod Slices
+-- ---- resolving
 pub mod Ordered
 pub mod Walk
 pub mod Fits
-pub mod Same
-pub mod SameLaws
-pub mod Fails
