@@ -78,9 +78,8 @@ pub ended_without_body : (n : ℕ) (p : Open) (r : Tree) (s : State) → lacks_b
     ended_part n p r s ≡ faulted (body_wanting n s.rest)
 ended_without_body n p r s e = rw e refl
 
-pub ended_unclosed : (n : ℕ) (p : Open) (r : Tree) (s : State) {k : Kind} {q : ℕ} → lacks_body p s ≡ false → closed n (node_of_part p r) s ≡ fault k q →
-    ended_part n p r s ≡ fault k q
-ended_unclosed n p r s e h = rw (e, h) refl
+pub ended_closed : (n : ℕ) (p : Open) (r : Tree) (s : State) → lacks_body p s ≡ false → ended_part n p r s ≡ closed n (node_of_part p r) s
+ended_closed n p r s e = rw e refl
 
 -- a part may be followed by a bar only where it is the second branch of an absent expression, and then by a fault
 abbrev MayEnd : Open → State → Type 0

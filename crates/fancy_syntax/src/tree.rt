@@ -74,8 +74,15 @@ impl ExprTree {
         ensures tree { IfOk result (λ t. view t.expr ≡ view self.now.expr) }
         ensures marks { IfOk result (λ t. marks_of t ≡ marks_of self.now) }
     {
-        Ok(ExprTree {
-            expr: self.expr.clone(alloc)?,
+        let marks = self.clone_marks()?;
+        Ok(ExprTree::new(self.expr.clone(alloc)?, marks))
+    }
+
+    /// The marks of the tree, in memory of their own.
+    fn clone_marks(&self) -> std::result::Result<Marks, AllocError>
+        ensures { IfOk result (λ m. view_marks m ≡ marks_of self.now) }
+    {
+        Ok(Marks {
             backrefs: self.backrefs.clone()?,
             named_groups: self.named_groups.clone()?,
             numeric_capture_group_references: self.numeric_capture_group_references,
