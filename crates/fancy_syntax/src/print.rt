@@ -1,5 +1,5 @@
 //! The text of a tree.
-ghost use Rattle.std.specs.Prelude.{◌≡◌, ℕ, ◌+◌, ◌<◌, ◌≤◌, Bool, List, [], ◌++◌, true, false, IfOk, IsOk, OnOk, OnErr};
+ghost use Rattle.std.specs.Prelude.{◌≡◌, ℕ, ◌+◌, ◌<◌, ◌≤◌, Bool, List, [], ◌++◌, true, false, is_some, IfOk, IfSome, IsOk, OnOk, OnErr};
 ghost use Rattle.std.specs.Prelude.{string_bytes, string_len, string_capacity, chars, encode_utf8_all};
 ghost use Rattle.fancy_lex.specs.Text.{bytes};
 ghost use Rattle.fancy_grammar.specs.Ahead.{max_depth};
@@ -66,5 +66,22 @@ impl Expr {
         buf.reserve(tree_len(self, precedence))?;
         put_tree(buf, self, precedence);
         Ok(())
+    }
+
+    /// The text that `to_str` appends for the tree at the precedence, or none where the tree is not printable, as
+    /// `is_printable` says. `AllocError` where memory was refused, and no other error.
+    pub fn print(&self, alloc: Global, precedence: u8) -> Result<Option<String>, AllocError>
+        ensures exact { IfOk result (λ t. is_some t ≡ printable (view self.now)) }
+        ensures text { IfOk result (λ t. IfSome t (λ s.
+            string_bytes s ≡ encode_utf8_all (printed (view self.now) precedence))) }
+        ensures reads_back { IfOk result (λ t. IfSome t (λ s.
+            IsReadBack (view self.now) precedence (chars (string_bytes s)))) }
+    {
+        if !self.is_printable(alloc)? {
+            return Ok(None);
+        }
+        let mut text = String::new(alloc);
+        self.to_str(&mut text, precedence)?;
+        Ok(Some(text))
     }
 }

@@ -30,19 +30,9 @@ fn named_by(words: &[String]) -> Option<(u32, &str)>
     Some((flags_named(flags.as_str())?, pattern.as_str()))
 }
 
-/// The tree's text, where it is printable.
-fn text_of(alloc: Global, tree: &Expr) -> Result<Option<String>, AllocError> {
-    if !tree.is_printable(alloc)? {
-        return Ok(None);
-    }
-    let mut text = String::new(alloc);
-    tree.to_str(&mut text, 0)?;
-    Ok(Some(text))
-}
-
 /// Writes all that is known of the tree.
 fn write_tree<O: Write>(alloc: Global, out: &mut O, tree: &ExprTree) -> Result<(), Fault> {
-    let text = text_of(alloc, &tree.expr)?;
+    let text = tree.expr.print(alloc, 0)?;
     write_nodes(out, &tree.expr, 0)?;
     write_marks(out, tree)?;
     write_text(out, &text)?;

@@ -47,14 +47,9 @@ impl Step {
         if let Step::Read = self {
             return Ok(1);
         }
-        if !tree.expr.is_printable(alloc)? {
-            return Ok(0);
-        }
         if let Step::Ask = self {
-            return Ok(1);
+            return Ok(usize::from(tree.expr.is_printable(alloc)?));
         }
-        let mut text = String::new(alloc);
-        tree.expr.to_str(&mut text, 0)?;
-        Ok(text.len())
+        Ok(tree.expr.print(alloc, 0)?.map_or(0, |text| text.len()))
     }
 }

@@ -187,16 +187,10 @@ fn nested(alloc: Global, tree: &Expr, groups: usize) -> Result<Expr, AllocError>
     Ok(nested)
 }
 
-/// The text of the tree in so many groups; nothing where it is not printable.
-fn nested_text(alloc: Global, tree: &Expr, groups: usize) -> Result<String, AllocError> {
+/// The text of the tree in so many groups, where it is printable.
+fn nested_text(alloc: Global, tree: &Expr, groups: usize) -> Result<Option<String>, AllocError> {
     let nested = nested(alloc, tree, groups)?;
-    text_of(alloc, &nested)
-}
-
-fn text_of(alloc: Global, tree: &Expr) -> Result<String, AllocError> {
-    let mut text = String::new(alloc);
-    put(alloc, tree, 0, &mut text)?;
-    Ok(text)
+    nested.print(alloc, 0)
 }
 
 /// How many groups the text has; none where it nests too deeply behind 63 of them.
@@ -208,10 +202,12 @@ fn groups(alloc: Global, text: &str) -> Result<Option<usize>, Error> {
     }
 }
 
-/// The same of the tree's text, inside so many groups.
+/// The same of the tree's text inside so many groups; 0 where it is not printable.
 fn groups_inside(alloc: Global, tree: &Expr, outer: usize) -> Result<Option<usize>, Error> {
-    let text = nested_text(alloc, tree, outer)?;
-    groups(alloc, text.as_str())
+    match nested_text(alloc, tree, outer)? {
+        Some(text) => groups(alloc, text.as_str()),
+        None => Ok(Some(0)),
+    }
 }
 
 /// Whether the tree's text, in which one group nests, is read inside 62 groups and not inside 63.
