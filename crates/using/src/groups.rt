@@ -1,0 +1,17 @@
+//! What is said of groups and references.
+use fancy_syntax::expr::Expr;
+use fancy_syntax::tree::ExprTree;
+
+/// The group that a reference by the name means: the last one of that name.
+pub fn group_named(tree: &ExprTree, name: &str) -> Option<usize> {
+    tree.named_groups.get(name)?.last().copied()
+}
+
+/// Whether a call stays as it was read, because it means no group.
+pub fn calls_nothing(tree: &Expr) -> bool {
+    is_unresolved(tree) || tree.has_descendant(is_unresolved)
+}
+
+fn is_unresolved(node: &Expr) -> bool {
+    matches!(node, Expr::AstNode(..))
+}

@@ -1,0 +1,29 @@
+//! Callers with contracts of their own, which rest on those of the library.
+ghost use Rattle.std.specs.Prelude.{◌≡◌, chars, length, string_bytes, IfOk, MatchOption};
+ghost use Rattle.fancy_lex.specs.Flags.{flags_of};
+ghost use Rattle.fancy_syntax.specs.Answer.{IsTreeOf};
+ghost use Rattle.fancy_syntax.specs.Answered.{groups};
+ghost use Rattle.using.specs.Forms.{IsFormOf, HasNoForm};
+
+use fancy_syntax::error::Error;
+use fancy_syntax::expr::Expr;
+use fancy_syntax::flags::FLAG_UNICODE;
+use std::alloc::Global;
+
+/// The text that the pattern prints as; none where its tree is not printable.
+pub fn formatted(alloc: Global, pattern: &str) -> Result<Option<String>, Error>
+    ensures form { IfOk result (λ text. MatchOption text (HasNoForm (flags_of FLAG_UNICODE) (chars pattern.now))
+        (λ s. IsFormOf (flags_of FLAG_UNICODE) (chars pattern.now) (chars (string_bytes s)))) }
+{
+    let tree = Expr::parse_tree_with_flags(alloc, pattern, FLAG_UNICODE)?;
+    Ok(tree.expr.print(alloc, 0)?)
+}
+
+/// How many capturing groups the pattern has.
+pub fn group_count(alloc: Global, pattern: &str) -> Result<usize, Error>
+    ensures count { IfOk result (λ n. (t : _) (m : _) → IsTreeOf (flags_of FLAG_UNICODE) (chars pattern.now) t m →
+        length (groups t) ≡ n) }
+{
+    let tree = Expr::parse_tree_with_flags(alloc, pattern, FLAG_UNICODE)?;
+    Ok(tree.total_groups)
+}

@@ -1,0 +1,19 @@
+//! Walks over a tree.
+use fancy_syntax::expr::Expr;
+use std::alloc::AllocError;
+
+/// Adds the text of each literal, in the order of the pattern.
+pub fn push_literals(tree: &Expr, text: &mut String) -> Result<(), AllocError> {
+    if let Expr::Literal { val, .. } = tree {
+        text.push_str(val.as_str())?;
+    }
+    for child in tree.children_iter() {
+        push_literals(child, text)?;
+    }
+    Ok(())
+}
+
+/// Whether something may be repeated without a bound below the top of the tree.
+pub fn repeats_without_bound(tree: &Expr) -> bool {
+    tree.has_descendant(|below| matches!(below, Expr::Repeat { hi: usize::MAX, .. }))
+}
