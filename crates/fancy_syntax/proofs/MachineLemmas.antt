@@ -17,7 +17,7 @@ use Rattle.fancy_grammar.specs.Grammar as grammar
 use Rattle.fancy_grammar.specs.Join.{solid, one_or, choice}
 use Rattle.fancy_syntax.specs.Machine.{parens, Open, top, group, condition, body, first, second, open_of, holds_one, is_second, opened_by_bar, branches_at_bar, IsFaultOfBar, Part, Opens, a_group, a_condition, a_body, behind_condition, a_branch, behind_branch, lacks_body, node_of_part, goes_on, ended_part, Began, StepsOn, GivesPiece, Reading, Levels, outermost, inner}
 use Rattle.fancy_grammar.specs.Grammar.{before}
-use Rattle.fancy_grammar.specs.Head.{Head, node_of}
+use Rattle.fancy_grammar.specs.Head.{node_of}
 use Rattle.fancy_grammar.specs.Quantified.{quants}
 use Rattle.fancy_grammar.specs.Fails.{Fails}
 use Rattle.fancy_syntax.specs.Row.{trees}
