@@ -1,115 +1,98 @@
-//! Classes: what is written for each, and what is left; or the fault.
-use fancy_lex::class::class;
-use fancy_lex::flags::{FLAG_IGNORE_SPACE, FLAG_UNICODE, Flags};
-use fancy_lex::text::after;
-use std::alloc::{AllocError, Global};
+//! Classes.
+use crate::readers::Reader::Class;
+use crate::readers::{Row, first_wrong};
+use fancy_lex::flags::{FLAG_IGNORE_SPACE, FLAG_UNICODE};
+use std::alloc::AllocError;
 
-/// What the reader answers for a pattern that begins with a class.
-fn answer(alloc: Global, pattern: &str, flags: u32) -> Result<String, AllocError> {
-    let Some(text) = after(pattern, '[') else {
-        return String::from_str(alloc, "no class");
-    };
-    match class(alloc, text, Flags::from_bits(flags), pattern.len()) {
-        Ok((written, rest)) => format!(in alloc; "{written} then {rest}"),
-        Err(error) => format!(in alloc; "{error}"),
-    }
-}
-
-fn says(alloc: Global, pattern: &str, flags: u32, wanted: &str) -> Result<bool, AllocError> {
-    Ok(answer(alloc, pattern, flags)?.as_str() == wanted)
-}
-
-/// Classes, and what is written for them.
-static WRITTEN: [(&str, &str); 11] = [
-    ("[[^]a]b]", "[[^]a]b] then "),
-    ("[]a]b", "[]a] then b"),
-    ("[^]a]b", "[^]a] then b"),
-    ("[\\]\\\\]", "[\\]\\\\] then "),
-    ("[\\b\\k\\B]", "[\u{8}kB] then "),
-    ("[\\d\\h]", "[\\d[0-9A-Fa-f]] then "),
-    ("[\\p{word}]", "[\\w] then "),
-    ("[\\xFF]", "[\u{FF}] then "),
-    ("[ ^]", "[ ^] then "),
+static ROWS: [Row; 25] = [
+    // what is written for classes
+    (Class(FLAG_UNICODE), "[[^]a]b]", "[[^]a]b] then "),
+    (Class(FLAG_UNICODE), "[]a]b", "[]a] then b"),
+    (Class(FLAG_UNICODE), "[^]a]b", "[^]a] then b"),
+    (Class(FLAG_UNICODE), "[\\]\\\\]", "[\\]\\\\] then "),
+    (Class(FLAG_UNICODE), "[\\b\\k\\B]", "[\u{8}kB] then "),
+    (Class(FLAG_UNICODE), "[\\d\\h]", "[\\d[0-9A-Fa-f]] then "),
+    (Class(FLAG_UNICODE), "[\\p{word}]", "[\\w] then "),
+    (Class(FLAG_UNICODE), "[\\xFF]", "[\u{FF}] then "),
+    (Class(FLAG_UNICODE), "[ ^]", "[ ^] then "),
     (
+        Class(FLAG_UNICODE),
         "[\\p{^alnum}\\p{^blank}]",
         "[[^\\p{alpha}\\p{digit}]&&[^\\p{Zs}\\x09]] then ",
     ),
     (
+        Class(FLAG_UNICODE),
         "[\\p{^alnum}[a\\p{graph}]]",
         "[[^\\p{alpha}\\p{digit}][a&&[^\\p{White_Space}\\p{C}]]] then ",
     ),
-];
-
-#[test]
-fn classes_are_written_anew(rt: HostRuntime) -> Result<(), AllocError> {
-    for (pattern, written) in WRITTEN.iter() {
-        assert!(rt;
-            says(rt.alloc(), pattern, FLAG_UNICODE, written)?,
-            "at {pattern}"
-        );
-    }
-    Ok(())
-}
-
-/// The same with flags.
-static WRITTEN_WITH_FLAGS: [(&str, u32, &str); 4] = [
-    ("[\\p{word}]", 0, "[_[:alnum:]] then "),
-    ("[a-z\\n\\xFF]", 0, "[a-z\n\\xFF] then "),
-    ("[ ^] )", FLAG_UNICODE | FLAG_IGNORE_SPACE, "[ ^] then  )"),
+    // the same with flags
+    (Class(0), "[\\p{word}]", "[_[:alnum:]] then "),
+    (Class(0), "[a-z\\n\\xFF]", "[a-z\n\\xFF] then "),
     (
+        Class(FLAG_UNICODE | FLAG_IGNORE_SPACE),
+        "[ ^] )",
+        "[ ^] then  )",
+    ),
+    (
+        Class(FLAG_UNICODE | FLAG_IGNORE_SPACE),
         "[\\x { 4 1 } ]",
-        FLAG_UNICODE | FLAG_IGNORE_SPACE,
         "[A ] then ",
     ),
-];
-
-#[test]
-fn flags_change_what_is_written(rt: HostRuntime) -> Result<(), AllocError> {
-    for (pattern, flags, written) in WRITTEN_WITH_FLAGS.iter() {
-        assert!(rt; says(rt.alloc(), pattern, *flags, written)?, "at {pattern}");
-    }
-    Ok(())
-}
-
-/// Patterns that begin with no class, and why.
-static FAULTS: [(&str, &str); 10] = [
-    ("[]", "Parsing error at position 2: Invalid character class"),
+    // why no class stands there
     (
+        Class(FLAG_UNICODE),
+        "[]",
+        "Parsing error at position 2: Invalid character class",
+    ),
+    (
+        Class(FLAG_UNICODE),
         "[^]",
         "Parsing error at position 3: Invalid character class",
     ),
-    ("[a", "Parsing error at position 2: Invalid character class"),
     (
+        Class(FLAG_UNICODE),
+        "[a",
+        "Parsing error at position 2: Invalid character class",
+    ),
+    (
+        Class(FLAG_UNICODE),
         "[\\1]",
         "Parsing error at position 1: Invalid character class",
     ),
     (
+        Class(FLAG_UNICODE),
         "[\\18446744073709551616]",
         "Parsing error at position 2: Invalid back reference",
     ),
-    ("[\\Z]", "Parsing error at position 1: Invalid escape: \\Z"),
-    ("[\\q", "Parsing error at position 1: Invalid escape: \\q"),
     (
+        Class(FLAG_UNICODE),
+        "[\\Z]",
+        "Parsing error at position 1: Invalid escape: \\Z",
+    ),
+    (
+        Class(FLAG_UNICODE),
+        "[\\q",
+        "Parsing error at position 1: Invalid escape: \\q",
+    ),
+    (
+        Class(FLAG_UNICODE),
         "[\\",
         "Parsing error at position 1: Backslash without following character",
     ),
     (
+        Class(FLAG_UNICODE),
         "[\\x(?#]",
         "Parsing error at position 7: Opening parenthesis without closing parenthesis",
     ),
     (
+        Class(FLAG_UNICODE),
         "[\\p{a",
         "Parsing error at position 1: Unicode escape not closed",
     ),
 ];
 
 #[test]
-fn faults_of_classes_say_their_place(rt: HostRuntime) -> Result<(), AllocError> {
-    for (pattern, fault) in FAULTS.iter() {
-        assert!(rt;
-            says(rt.alloc(), pattern, FLAG_UNICODE, fault)?,
-            "at {pattern}"
-        );
-    }
+fn classes_are_read(rt: HostRuntime) -> Result<(), AllocError> {
+    assert_eq!(rt; first_wrong(rt.alloc(), &ROWS)?, None);
     Ok(())
 }

@@ -1,9 +1,11 @@
-//! Tests of the escape and class readers on worked patterns.
+//! Tests of the readers on worked patterns.
 #![tactic(auto)]
 
 #[cfg(test)]
 mod classes;
 #[cfg(test)]
 mod escapes;
+#[cfg(test)]
+mod readers;
 #[cfg(test)]
 mod references;
