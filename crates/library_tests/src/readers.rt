@@ -140,6 +140,7 @@ fn read<'a>(alloc: Global, reader: &Reader, pattern: &'a str) -> Answer<'a> {
 fn says(alloc: Global, reader: &Reader, pattern: &str, wanted: &str) -> Result<bool, AllocError> {
     let said = match read(alloc, reader, pattern) {
         Ok((read, rest)) => format!(in alloc; "{read} then {rest}")?,
+        Err(Error::OutOfMemory) => return Err(AllocError),
         Err(error) => format!(in alloc; "{error}")?,
     };
     Ok(said.as_str() == wanted)
