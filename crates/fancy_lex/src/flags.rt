@@ -26,6 +26,15 @@ pub const FLAG_ONIGURUMA_MODE: u32 = 128;
 /// no `Group` stands for `(a)`.
 pub const FLAG_IGNORE_NUMBERED_GROUPS_WHEN_NAMED_GROUPS_EXIST: u32 = 256;
 
+// Callers hand the flags in under these very numbers, by which `flags_of` tells them too.
+const _: () = prove!(FLAG_CASEI == 1 && FLAG_MULTI == 2 && FLAG_DOTNL == 4);
+
+const _: () = prove!(FLAG_SWAP_GREED == 8 && FLAG_IGNORE_SPACE == 16 && FLAG_UNICODE == 32);
+
+const _: () = prove!(FLAG_CRLF == 64 && FLAG_ONIGURUMA_MODE == 128);
+
+const _: () = prove!(FLAG_IGNORE_NUMBERED_GROUPS_WHEN_NAMED_GROUPS_EXIST == 256);
+
 /// The flags as a set: a field for each of the nine constants, which says whether it is among them.
 #[derive(Clone, Copy, PartialEq, Eq, Debug)]
 pub struct Flags {

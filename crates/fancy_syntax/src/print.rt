@@ -29,14 +29,16 @@ impl Expr {
     /// Whether the tree is printable: whether each node outside the inside of a DefineGroup has a text, that of each
     /// Delegate is one whole class or class escape, and under each Repeat stands no tree that reads as nothing.
     /// `AllocError` where memory was refused, which is asked for where a Delegate's text is read. The normal form of a
-    /// printable tree is printable too, and it is its own normal form where the tree holds no Delegate. The tree of
-    /// `(?:a|b)c` is printable, and that of `(?=a)` is not.
+    /// printable tree is printable too, and it is its own normal form, with Unicode or without, where the tree holds no
+    /// Delegate. The tree of `(?:a|b)c` is printable, and
+    /// that of `(?=a)` is not.
     pub fn is_printable(&self, alloc: Global) -> Result<bool, AllocError>
         ensures exact { IfOk result (λ b. b ≡ printable (view self.now)) }
         ensures text { IfOk result (λ b. b ≡ true → has_text (view self.now) ≡ true) }
         ensures normal { IfOk result (λ b. b ≡ true → (u : Bool) → printable (normal u (view self.now)) ≡ true) }
-        ensures fixed { IfOk result (λ b. b ≡ true → has_delegate (view self.now) ≡ false → (u : Bool) →
-            normal u (normal u (view self.now)) ≡ normal u (view self.now)) }
+        ensures fixed { IfOk result (λ b. b ≡ true → has_delegate (view self.now) ≡ false → (u v : Bool) →
+            normal v (normal u (view self.now)) ≡ normal u (view self.now)) }
+        ensures without_memory { has_delegate (view self.now) ≡ false → IsOk result }
     {
         is_printable(alloc, self)
     }
@@ -60,6 +62,7 @@ impl Expr {
         ensures appended { OnOk result (string_bytes buf.new ≡
             string_bytes buf.old ++ encode_utf8_all (printed (view self.now) precedence)) }
         ensures unchanged { OnErr result (string_bytes buf.new ≡ string_bytes buf.old) }
+        ensures capacity { OnErr result (string_capacity buf.new ≡ string_capacity buf.old) }
         ensures reads_back { OnOk result (printable (view self.now) ≡ true → (w : List ℕ) × (string_bytes buf.new ≡
             string_bytes buf.old ++ w) × IsReadBack (view self.now) precedence (chars w)) }
         ensures same_text { printable (view self.now) ≡ true → nest (view self.now) precedence < max_depth →

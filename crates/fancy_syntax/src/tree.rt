@@ -1,6 +1,6 @@
 //! Patterns read whole.
 ghost use Rattle.std.specs.Prelude.{◌≡◌, chars, filter, find, length, nat_le, nat_lt, IfOk, IfErr};
-ghost use Rattle.fancy_lex.specs.Flags.{flags_of};
+ghost use Rattle.fancy_lex.specs.Flags.{flags_of, unicode_alone};
 ghost use Rattle.fancy_grammar.specs.Answer.{IsTreeOf, IsFaultOf, IsOnlyFault, IsWithin};
 ghost use Rattle.fancy_syntax.specs.Answer.{marks_of};
 ghost use Rattle.fancy_grammar.specs.Answered.{groups, groups_referred, has_call, AreNamed, IsAnswered, IsSmall};
@@ -135,10 +135,10 @@ impl Expr {
     /// let has_year = tree.named_groups.contains_key("year"); // true
     /// ```
     pub fn parse_tree(alloc: Global, re: &str) -> Result<ExprTree>
-        ensures found { IfOk result (λ t. IsTreeOf (flags_of FLAG_UNICODE) (chars re.now) (view t.expr) (marks_of t)) }
-        ensures only { IfOk result (λ t. (e : _) (m : _) → IsTreeOf (flags_of FLAG_UNICODE) (chars re.now) e m →
+        ensures found { IfOk result (λ t. IsTreeOf unicode_alone (chars re.now) (view t.expr) (marks_of t)) }
+        ensures only { IfOk result (λ t. (e : _) (m : _) → IsTreeOf unicode_alone (chars re.now) e m →
             (e ≡ view t.expr) × (m ≡ marks_of t)) }
-        ensures exact { IfOk result (λ t. (k : _) (p : _) → IsFaultOf (flags_of FLAG_UNICODE) (chars re.now) k p → ⊥) }
+        ensures exact { IfOk result (λ t. (k : _) (p : _) → IsFaultOf unicode_alone (chars re.now) k p → ⊥) }
         ensures bounds { IfOk result (λ t. IsSmall (view t.expr) (length re.now)) }
         ensures nodes { IfOk result (λ t. IsAnswered (view t.expr)) }
         ensures groups { IfOk result (λ t. length (groups (view t.expr)) ≡ t.total_groups) }
@@ -148,7 +148,7 @@ impl Expr {
             ascending (filter (λ n. nat_le n t.total_groups) (groups_referred (view t.expr)))) }
         ensures out_of_range { IfOk result (λ t. t.out_of_range_backref ≡
             find (λ n. nat_lt t.total_groups n) (groups_referred (view t.expr))) }
-        ensures fault { IfErr result (λ e. IsOnlyFault e (flags_of FLAG_UNICODE) (chars re.now)) }
+        ensures fault { IfErr result (λ e. IsOnlyFault e unicode_alone (chars re.now)) }
         ensures place { IfErr result (λ e. IsWithin e (length re.now)) }
     {
         Expr::parse_tree_with_flags(alloc, re, FLAG_UNICODE)
