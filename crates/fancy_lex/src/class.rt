@@ -5,7 +5,7 @@ ghost use Rattle.fancy_lex.specs.Escaped.{escape_of, delegate_text};
 ghost use Rattle.fancy_lex.specs.Property.{is_negated_set};
 ghost use Rattle.fancy_lex.specs.Reading.{Gives, Fails, gives, fault_at};
 ghost use Rattle.fancy_lex.specs.Fault.{Fault};
-ghost use Rattle.fancy_lex.specs.Text.{Text, text_of};
+ghost use Rattle.fancy_lex.specs.Text.{Text, text_of, BeginsWith};
 ghost use Rattle.fancy_lex.specs.declared.error.Error.TheVariants.{OutOfMemory};
 
 use crate::error::{Error, ParseError};
@@ -73,9 +73,10 @@ fn push_byte(out: &mut String, byte: u8) -> Result<(), AllocError>
     push(out, upper_hex_digit(byte % 16))
 }
 
-/// Adds the delegate's text.
+/// Adds the delegate's text. Where memory runs out, a beginning of it may have been added.
 pub fn push_delegate(out: &mut String, text: DelegateText) -> Result<(), AllocError>
-    ensures { OnOk result (text_of out.new ≡ text_of out.old ++ delegate_text text.entry) }
+    ensures grown { OnOk result (text_of out.new ≡ text_of out.old ++ delegate_text text.entry) }
+    ensures kept { BeginsWith (text_of out.new) (text_of out.old) }
 {
     match text {
         DelegateText::Letter(c) => {

@@ -5,7 +5,7 @@ ghost use Rattle.fancy_lex.specs.Escape as spec;
 ghost use Rattle.fancy_lex.specs.EscapeReference as references;
 ghost use Rattle.fancy_lex.specs.Escaped as leaf;
 ghost use Rattle.fancy_lex.specs.Escaped.{escape_of, delegate_text};
-ghost use Rattle.fancy_lex.specs.Reading.{Reads, Gives, Fails};
+ghost use Rattle.fancy_lex.specs.Reading.{Reads, Answers, Reports};
 ghost use Rattle.fancy_lex.specs.Text.{text_of};
 
 use crate::error::{Error, ParseError};
@@ -99,7 +99,7 @@ fn letter_name(alloc: Global, c: char) -> Result<String, AllocError>
 
 /// The fault of a letter that is no escape.
 fn unknown_escape(alloc: Global, c: char, place: usize) -> Error
-    ensures { Fails result (spec.unknown_escape place c) }
+    ensures { Reports result (spec.unknown_escape place c) }
 {
     match letter_name(alloc, c) {
         Ok(name) => Error::ParseError(place, ParseError::InvalidEscape(name)),
@@ -176,7 +176,7 @@ fn call<'a>(
     end: usize,
 ) -> Result<(Escaped<'a>, &'a str), Error>
     requires { length text.now ≤ end }
-    ensures value { Gives escape_of result (spec.call end place letter (chars text.now)) }
+    ensures value { Answers escape_of result (spec.call end place letter (chars text.now)) }
     ensures within { IfOk result (λ p. length p.1.now ≤ length text.now) }
 {
     if next(text).is_none() {
@@ -196,7 +196,7 @@ fn property<'a>(
     inside: bool,
     place: usize,
 ) -> Result<(Escaped<'a>, &'a str), Error>
-    ensures value { Gives escape_of result (spec.property flags inside place letter (chars text.now)) }
+    ensures value { Answers escape_of result (spec.property flags inside place letter (chars text.now)) }
     ensures within { IfOk result (λ p. length p.1.now ≤ length text.now) }
 {
     if next(text).is_none() {
@@ -222,7 +222,7 @@ fn in_class<'a>(
     rest: &'a str,
     place: usize,
 ) -> Result<(Escaped<'a>, &'a str), Error>
-    ensures value { Gives escape_of result (spec.in_class place c (chars rest.now)) }
+    ensures value { Answers escape_of result (spec.in_class place c (chars rest.now)) }
     ensures within { IfOk result (λ p. length p.1.now ≤ length rest.now) }
 {
     match c {
@@ -255,7 +255,7 @@ fn outside<'a>(
 ) -> Result<(Escaped<'a>, &'a str), Error>
     requires bounded { end < 2 ^ 63 }
     requires within { length rest.now ≤ end }
-    ensures value { Gives escape_of result (spec.outside end flags place c (chars rest.now)) }
+    ensures value { Answers escape_of result (spec.outside end flags place c (chars rest.now)) }
     ensures within { IfOk result (λ p. length p.1.now ≤ length rest.now) }
 {
     let crlf = flags.crlf;
@@ -304,7 +304,7 @@ pub fn escape<'a>(
 ) -> Result<(Escaped<'a>, &'a str), Error>
     requires bounded { end < 2 ^ 63 }
     requires within { length text.now ≤ end }
-    ensures value { Gives escape_of result (spec.escape end flags inside place (chars text.now)) }
+    ensures value { Answers escape_of result (spec.escape end flags inside place (chars text.now)) }
     ensures shorter { IfOk result (λ p. length p.1.now < length text.now) }
 {
     let Some((c, rest)) = next(text) else {
