@@ -2,7 +2,7 @@
 use Rattle.std.proofs.Common.{◌≡◌, ℕ, List, Result, Ok, Err, refl, subst}
 use Rattle.std.specs.Borrow.{Bor}
 use Rattle.fancy_lex.specs.Text.{Text}
-use Rattle.fancy_lex.specs.Reading.{Reading, gives, fails, CarriesText, Says, Reports, Answers, Fails, Derives, ◌>=>◌}
+use Rattle.fancy_lex.specs.Reading.{Reading, gives, fails, CarriesText, Says, Reads, Reports, Answers, Fails, Gives, Derives, ◌>=>◌}
 use Rattle.fancy_lex.specs.declared.error.Error.{Error}
 use Rattle.fancy_lex.specs.declared.error.Error.TheVariants.{ParseError, OutOfMemory}
 
@@ -34,3 +34,13 @@ derives_answer f (Err (ParseError p k)) R o h g = subst R g h
 -- and what is the function's answer is the code's
 pub only_answer : {A B : Type 0} (f : A → B) (r : Result (A × Bor (List ℕ)) Error) (o q : Reading B) → o ≡ q → Answers f r o → Answers f r q
 only_answer f r o q e g = subst (Answers f r) e g
+
+-- the code's answer is the reading, however seldom memory runs out
+pub answers_gives : {A B : Type 0} (f : A → B) (r : Result (A × Bor (List ℕ)) Error) (o : Reading B) → Answers f r o → Gives f r o
+answers_gives f (Ok p) o g = g
+answers_gives f (Err e) o g = report_fails e o g
+
+pub reads_gives : {A B : Type 0} (f : A → B) (r : Result (A × Bor (List ℕ)) Error) (o : Reading B) → Reads f r o → Gives f r o
+reads_gives f (Ok p) o g = g
+reads_gives f (Err OutOfMemory) o g = absurd g
+reads_gives f (Err (ParseError p k)) o g = g

@@ -1,12 +1,12 @@
 //! Word boundaries behind `\b` and `\B`.
-ghost use Rattle.std.specs.Prelude.{◌≡◌, ℕ, ◌^◌, ◌<◌, ◌≤◌, [], ◌∷◌, ◌++◌, true, length, chars, IfSome, IfOk, MatchResult, option_map};
+ghost use Rattle.std.specs.Prelude.{◌≡◌, ℕ, ◌+◌, ◌^◌, ◌<◌, ◌≤◌, [], ◌∷◌, ◌++◌, true, length, chars, IfSome, IfErr, IfOk, MatchResult, option_map};
 ghost use Rattle.fancy_lex.specs.Boundary as spec;
 ghost use Rattle.fancy_lex.specs.Escaped.{Escape, escape_of};
-ghost use Rattle.fancy_lex.specs.Fault.{invalid_escape};
+ghost use Rattle.fancy_lex.specs.Fault.{StandsWithin, invalid_escape};
 ghost use Rattle.fancy_lex.specs.FaultTable.{boundary_head, boundary_not_closed};
 ghost use Rattle.fancy_lex.specs.Reading.{Reading, Answers, Reports, Derives, fails, fault_at};
 ghost use Rattle.fancy_lex.specs.BoundaryName as name_spec;
-ghost use Rattle.fancy_lex.specs.Text.{text_of};
+ghost use Rattle.fancy_lex.specs.Text.{EndsWith, text_of};
 
 use crate::error::{Error, ParseError};
 use crate::escape::{Assertion, Escaped};
@@ -200,6 +200,8 @@ pub fn boundary<'a>(
     ensures derives { Derives escape_of result (spec.Boundary end flags.ignore_space place negated (chars text.now)) }
     ensures only { (o : Reading Escape) → spec.Boundary end flags.ignore_space place negated (chars text.now) o →
         Answers escape_of result o }
+    ensures cut { IfOk result (λ p. EndsWith (chars text.now) (chars p.1.now)) }
+    ensures place { place ≤ end + 1 → IfErr result (λ e. StandsWithin (end + 1) e) }
     ensures within { IfOk result (λ p. length p.1.now ≤ length text.now) }
 {
     read_boundary(alloc, text, negated, flags, place, end)

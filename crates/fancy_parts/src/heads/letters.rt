@@ -1,7 +1,8 @@
 //! The letters of a flag group.
-ghost use Rattle.std.specs.Prelude.{◌≡◌, ℕ, ◌<◌, ◌≤◌, ◌^◌, ◌++◌, ◌∷◌, length, chars, codes, ◌||◌, IfOk};
+ghost use Rattle.std.specs.Prelude.{◌≡◌, ℕ, ◌+◌, ◌<◌, ◌≤◌, ◌^◌, ◌++◌, ◌∷◌, length, chars, codes, ◌||◌, IfErr, IfOk};
 ghost use Rattle.fancy_lex.specs.Reading.{Reading, Answers, Reports, Derives};
-ghost use Rattle.fancy_lex.specs.Text.{Text, bytes, text_of};
+ghost use Rattle.fancy_lex.specs.Text.{Text, EndsWith, bytes, text_of};
+ghost use Rattle.fancy_lex.specs.Fault.{StandsWithin};
 ghost use Rattle.fancy_parts.specs.FlagLetters as spec;
 ghost use Rattle.fancy_parts.specs.FlagReads.{letters_of, step_of};
 
@@ -197,6 +198,8 @@ pub fn flag_letters(
     ensures derives { Derives letters_of result (spec.FlagGroup end flags (chars text.now)) }
     ensures only { (o : Reading spec.Letters) → spec.FlagGroup end flags (chars text.now) o →
         Answers letters_of result o }
+    ensures cut { IfOk result (λ p. EndsWith (chars text.now) (chars p.1.now)) }
+    ensures place { IfErr result (λ e. StandsWithin (end + 1) e) }
     ensures shorter { IfOk result (λ p. length p.1.now < length text.now) }
 {
     read_letters(alloc, text, flags, end)
