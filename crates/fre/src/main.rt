@@ -21,14 +21,6 @@ fn main(rt: HostRuntime) -> ExitCode {
 }
 
 #[cfg(test)]
-mod answers;
-#[cfg(test)]
 mod bounds;
-#[cfg(test)]
-mod faults;
-#[cfg(test)]
-mod groups;
-#[cfg(test)]
-mod lines;
 #[cfg(test)]
 mod tests;

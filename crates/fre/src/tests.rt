@@ -1,15 +1,14 @@
 //! What the program writes, and what it does where a write is refused.
 use fre_program::program::fre_run;
-use std::alloc::Global;
+use std::alloc::{AllocError, Global};
 use std::io;
 use std::io::{ErrorKind, Write};
-use std::test::Fail;
 
 /// Takes what is written, and refuses one write or flush, the one with this number. It remembers whether a flush stands
 /// behind the last write.
 #[derive(Drop)]
-struct Refusing {
-    text: Vec<u8>,
+pub(crate) struct Refusing {
+    pub(crate) text: Vec<u8>,
     refused: Option<usize>,
     has_refused: bool,
     is_flushed: bool,
@@ -56,13 +55,13 @@ impl Write for Refusing {
 
 /// What a run came to, whose writes are refused so.
 #[derive(Drop)]
-struct Run {
+pub(crate) struct Run {
     status: u8,
-    out: Refusing,
+    pub(crate) out: Refusing,
     err: Refusing,
 }
 
-fn owned(alloc: Global, words: &[&str]) -> Result<Vec<String>, Fail> {
+fn owned(alloc: Global, words: &[&str]) -> Result<Vec<String>, AllocError> {
     let mut owned = Vec::new(alloc);
     for word in words {
         owned.push(String::from_str(alloc, word)?)?;
@@ -70,12 +69,12 @@ fn owned(alloc: Global, words: &[&str]) -> Result<Vec<String>, Fail> {
     Ok(owned)
 }
 
-fn run_refusing(
+pub(crate) fn run_refusing(
     alloc: Global,
     words: &[&str],
     refused_out: Option<usize>,
     refused_err: Option<usize>,
-) -> Result<Run, Fail> {
+) -> Result<Run, AllocError> {
     let words = owned(alloc, words)?;
     let mut out = Refusing::new(alloc, refused_out);
     let mut err = Refusing::new(alloc, refused_err);
@@ -137,7 +136,7 @@ static ANSWERS: [(&[&str], u8, &str, &str); 12] = [
 ];
 
 #[test]
-fn answers(rt: HostRuntime) -> Result<(), Fail> {
+fn answers(rt: HostRuntime) -> Result<(), AllocError> {
     for (words, status, out, err) in ANSWERS.iter() {
         assert!(rt;
             is_answer(rt.alloc(), words, *status, out, err)?,
@@ -147,13 +146,13 @@ fn answers(rt: HostRuntime) -> Result<(), Fail> {
     Ok(())
 }
 
-fn is_answer(
+pub(crate) fn is_answer(
     alloc: Global,
     words: &[&str],
     status: u8,
     out: &str,
     err: &str,
-) -> Result<bool, Fail> {
+) -> Result<bool, AllocError> {
     let run = run_refusing(alloc, words, None, None)?;
     Ok(
         run.status == status
@@ -165,60 +164,60 @@ fn is_answer(
 
 const CANNOT_WRITE: &[u8] = b"cannot write\n";
 
+/// Words, whether their lines on standard error are refused or those on standard output, and the status, the output and
+/// the error of a run in which no write is refused.
+static WRITES: [(&[&str], bool, u8, &str, &str); 3] = [
+    (&["u", "(a|b)c*"], false, 0, ACCEPTED, ""),
+    (&["-", "a("], true, 1, "", REFUSED),
+    (&["z", "a"], true, 2, "", USAGE),
+];
+
 /// Whether the run whose write is refused says so, and has written a beginning; none where no write was refused, and
 /// then it ended well.
-fn tells_of_write(alloc: Global, number: usize) -> Result<Option<bool>, Fail> {
-    let run = run_refusing(alloc, &["u", "(a|b)c*"], Some(number), None)?;
-    if !run.out.has_refused && run.status == 0 {
-        return Ok(None);
+fn tells_of_write(run: &Run, status: u8, out: &str, err: &str) -> Option<bool> {
+    if !run.out.has_refused && !run.err.has_refused && run.status == status {
+        return None;
     }
-    Ok(Some(
+    let Some(beginning) = run.err.text.strip_suffix(CANNOT_WRITE) else {
+        return Some(false);
+    };
+    Some(
         run.status == 3
-            && ACCEPTED.as_bytes().starts_with(&run.out.text)
-            && run.err.text.as_slice() == CANNOT_WRITE,
-    ))
+            && out.as_bytes().starts_with(&run.out.text)
+            && err.as_bytes().starts_with(beginning),
+    )
 }
 
-#[test]
-fn refused_write(rt: HostRuntime) -> Result<(), Fail> {
-    for number in 0..1000 {
-        let Some(is_told) = tells_of_write(rt.alloc(), number)? else {
-            assert!(rt; number > 0);
-            return Ok(());
-        };
-        assert!(rt; is_told, "write {number}");
-    }
-    Err(Fail::new("the writes do not end"))
-}
-
-/// The same of a run that writes this line on standard error, and would end so.
-fn tells_of_line(
+/// How many writes there are, each of which was refused in turn and told of; none where one was not told of, or they do
+/// not end.
+fn writes(
     alloc: Global,
     words: &[&str],
-    line: &str,
-    end: u8,
-    number: usize,
-) -> Result<Option<bool>, Fail> {
-    let run = run_refusing(alloc, words, None, Some(number))?;
-    if !run.err.has_refused && run.status == end {
-        return Ok(None);
+    on_error: bool,
+    status: u8,
+    out: &str,
+    err: &str,
+) -> Result<Option<usize>, AllocError> {
+    for number in 0..1000 {
+        let refused = Some(number);
+        let run = match on_error {
+            false => run_refusing(alloc, words, refused, None)?,
+            true => run_refusing(alloc, words, None, refused)?,
+        };
+        match tells_of_write(&run, status, out, err) {
+            Some(true) => {}
+            Some(false) => return Ok(None),
+            None => return Ok(Some(number)),
+        }
     }
-    let beginning = run.err.text.strip_suffix(CANNOT_WRITE).ok_or("no reason")?;
-    Ok(Some(run.status == 3 && run.out.text.is_empty() && line.as_bytes().starts_with(beginning)))
+    Ok(None)
 }
 
 #[test]
-fn refused_error_line(rt: HostRuntime) -> Result<(), Fail> {
-    for (words, line, end) in [(["-", "a("], REFUSED, 1), (["z", "a"], USAGE, 2)] {
-        let mut refusals = 0usize;
-        for number in 0..1000 {
-            let Some(is_told) = tells_of_line(rt.alloc(), &words, line, end, number)? else {
-                break;
-            };
-            assert!(rt; is_told, "write {number}");
-            refusals = refusals.saturating_add(1);
-        }
-        assert!(rt; 0 < refusals && refusals < 1000);
+fn refused_writes(rt: HostRuntime) -> Result<(), AllocError> {
+    for (words, on_error, status, out, err) in WRITES.iter() {
+        let writes = writes(rt.alloc(), words, *on_error, *status, out, err)?;
+        assert!(rt; writes.is_some_and(|writes| writes > 0), "{words:?}");
     }
     Ok(())
 }
