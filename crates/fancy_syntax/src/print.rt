@@ -30,8 +30,7 @@ impl Expr {
     /// Delegate is one whole class or class escape, and under each Repeat stands no tree that reads as nothing.
     /// `AllocError` where memory was refused, which is asked for where a Delegate's text is read. The normal form of a
     /// printable tree is printable too, and it is its own normal form, with Unicode or without, where the tree holds no
-    /// Delegate. The tree of `(?:a|b)c` is printable, and
-    /// that of `(?=a)` is not.
+    /// Delegate. The tree of `(?:a|b)c` is printable, and that of `(?=a)` is not.
     pub fn is_printable(&self, alloc: Global) -> Result<bool, AllocError>
         ensures exact { IfOk result (λ b. b ≡ printable (view self.now)) }
         ensures text { IfOk result (λ b. b ≡ true → has_text (view self.now) ≡ true) }
