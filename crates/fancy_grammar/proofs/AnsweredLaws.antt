@@ -10,7 +10,8 @@ use Rattle.fancy_lex.specs.declared.flags.Flags.{Flags}
 use Rattle.fancy_parts.specs.Meaning.{Meaning, number, unresolved, faulty, means, meaning, back_to, last_of, group_or_none, at_distance, Role, back_reference, call, condition, Reference, fault_or, first_fault}
 use Rattle.fancy_parts.specs.Ranks.{Opening, is_counted, numbers, opened_before, only_named, counted_in, counted}
 use Rattle.fancy_grammar.specs.Answer.{IsTreeOf}
-use Rattle.fancy_grammar.specs.Answered.{IsAnsweredNode, IsAnswered, AreNamed, is_group, groups, is_call_node, has_call, group_referred, groups_referred}
+use Rattle.fancy_grammar.specs.Answered.{IsAnsweredNode, IsAnswered, IsAnsweredWith, AreNamed, is_group, groups, is_call_node, has_call, group_referred, groups_referred, numbered_in, numbered_groups, HasGroupsOf}
+use Rattle.fancy_grammar.specs.Grammar.{Derives}
 use Rattle.fancy_grammar.specs.Items.{openings_in, references_in, openings, references}
 use Rattle.fancy_grammar.specs.Marks.{Marks, marks, is_call, back_number, back_numbers, ascending}
 use Rattle.fancy_grammar.specs.Preorder.{preorder}
@@ -20,6 +21,7 @@ use Rattle.fancy_parts.specs.Groups.{numbers_under}
 use Rattle.fancy_parts.proofs.NamedLaws.{under_named}
 use Rattle.fancy_grammar.proofs.NamedNumbers.{named_ascend, carries, number_carried}
 use Rattle.fancy_grammar.proofs.PreorderLaws.{kept, resolved_nodes, item_of, items_of_nodes}
+use Rattle.fancy_grammar.proofs.Verdict.{same_tree}
 use Rattle.fancy_grammar.proofs.ReadLaws.{IsReadNode, IsRead, derived_read}
 
 -- ---- what a reference comes to
@@ -139,24 +141,15 @@ module _ (named : Bool) (g : List Opening) where
   abbrev means_here : Role → Target → ℕ → Meaning
   means_here role t place = means (λ u. numbers u g) (opened_before g place) role t
 
-  -- a capturing group that has a number: its opening, and its inside
-  abbrev pub numbered_group : Tree → Option (Opening × Tree)
-  numbered_group (ast_node (ast_group name t) place) =
-      if is_counted named name then Some (record { place = place; name = name }, t) else None
-  numbered_group _ = None
-
-  abbrev pub numbered_groups : List Tree → List (Opening × Tree)
-  numbered_groups l = filter_map numbered_group l
-
   -- their openings are those that have a number
   openings_counted : (l : List Tree) →
-      map (λ q. q.0) (numbered_groups l) ≡ counted_in named (openings_in (filter_map item_of l))
+      map (λ q. q.0) (numbered_in named l) ≡ counted_in named (openings_in (filter_map item_of l))
   openings_counted [] = refl
   openings_counted (ast_node (ast_group name t) place ∷ l) = by_name (is_counted named name) refl (openings_counted l)
     where
       by_name : (b : Bool) → is_counted named name ≡ b →
-          map (λ q. q.0) (numbered_groups l) ≡ counted_in named (openings_in (filter_map item_of l)) →
-          map (λ q. q.0) (numbered_groups (ast_node (ast_group name t) place ∷ l))
+          map (λ q. q.0) (numbered_in named l) ≡ counted_in named (openings_in (filter_map item_of l)) →
+          map (λ q. q.0) (numbered_in named (ast_node (ast_group name t) place ∷ l))
           ≡ counted_in named (openings_in (filter_map item_of (ast_node (ast_group name t) place ∷ l)))
       by_name true e more = rw e (ap (λ l. record { place = place; name = name } ∷ l) more)
       by_name false e more = rw e more
@@ -170,14 +163,14 @@ module _ (named : Bool) (g : List Opening) where
 
   -- the Groups are these with their insides resolved
   groups_kept : (l : List Tree) → AllByRecursion IsReadNode l →
-      filter is_group (kept named g l) ≡ map (λ q. group (resolved_in named g q.1)) (numbered_groups l)
+      filter is_group (kept named g l) ≡ map (λ q. group (resolved_in named g q.1)) (numbered_in named l)
   groups_kept [] h = refl
   groups_kept (ast_node (ast_group name t) place ∷ l) h = by_name (is_counted named name) refl (groups_kept l h.1)
     where
       by_name : (b : Bool) → is_counted named name ≡ b →
-          filter is_group (kept named g l) ≡ map (λ q. group (resolved_in named g q.1)) (numbered_groups l) →
+          filter is_group (kept named g l) ≡ map (λ q. group (resolved_in named g q.1)) (numbered_in named l) →
           filter is_group (kept named g (ast_node (ast_group name t) place ∷ l))
-          ≡ map (λ q. group (resolved_in named g q.1)) (numbered_groups (ast_node (ast_group name t) place ∷ l))
+          ≡ map (λ q. group (resolved_in named g q.1)) (numbered_in named (ast_node (ast_group name t) place ∷ l))
       by_name true e more = rw (e, e) (ap (λ l. group (resolved_in named g t) ∷ l) more)
       by_name false e more = rw e more
   groups_kept (ast_node (ast_backref t casei level) place ∷ l) h =
@@ -333,28 +326,28 @@ module _ {f : Flags} {text : Text} {t : Tree} {m : Marks} (a : IsTreeOf f text t
   is_marks = a.4
 
   -- each node is one of an answered tree
-  pub answered : IsAnswered t
+  answered : IsAnswered t
   answered =
       let no_fault = ap (λ l. first_fault numbered (references_in l)) (sym (items_of_nodes raw)) ∙ a.2 in
       subst (AllByRecursion IsAnsweredNode) (sym nodes) (answered_kept named numbered (preorder raw) nodes_read no_fault)
 
   -- the Groups in preorder are the groups that have a number, in the order of their opening parentheses
-  pub groups_in_order : groups t ≡ map (λ q. group (resolved_in named numbered q.1)) (numbered_groups named numbered (preorder raw))
+  groups_in_order : groups t ≡ map (λ q. group (resolved_in named numbered q.1)) (numbered_groups f raw)
   groups_in_order = ap (filter is_group) nodes ∙ groups_kept named numbered (preorder raw) nodes_read
 
-  pub openings_in_order : map (λ q. q.0) (numbered_groups named numbered (preorder raw)) ≡ numbered
+  openings_in_order : map (λ q. q.0) (numbered_groups f raw) ≡ numbered
   openings_in_order =
       openings_counted named numbered (preorder raw) ∙ ap (λ l. counted_in named (openings_in l)) (sym (items_of_nodes raw))
 
   -- as many as are said
   pub groups_total : length (groups t) ≡ m.total_groups
   groups_total =
-      let groups_of = numbered_groups named numbered (preorder raw) in
+      let groups_of = numbered_groups f raw in
       ap length groups_in_order ∙ length-map groups_of (λ q. group (resolved_in named numbered q.1))
       ∙ sym (length-map groups_of (λ q. q.0)) ∙ ap length openings_in_order ∙ ap (λ k. k.total_groups) (sym is_marks)
 
   -- of each name they are the numbers, and of the groups that carry it
-  pub names_marked : AreNamed m.total_groups m.named_groups
+  names_marked : AreNamed m.total_groups m.named_groups
   names_marked = subst (λ k. AreNamed k.total_groups k.named_groups) (sym is_marks) (named_ascend numbered)
 
   pub named_numbers : (w : Text) (k : ℕ) → list_any (λ j. j == suc k) (numbers_under m.named_groups w) ≡ carries w (slice_get numbered k)
@@ -363,7 +356,7 @@ module _ {f : Flags} {text : Text} {t : Tree} {m : Marks} (a : IsTreeOf f text t
       ∙ ap (list_any (λ j. j == suc k)) (under_named numbered w) ∙ number_carried w k numbered
 
   -- a call is said where one stands
-  pub calls_marked : has_call t ≡ m.contains_subroutines
+  calls_marked : has_call t ≡ m.contains_subroutines
   calls_marked =
       ap (list_any is_call_node) nodes ∙ calls_kept named numbered (preorder raw) nodes_read
       ∙ ap (λ l. list_any (λ x. is_call x.role) (references_in l)) (sym (items_of_nodes raw))
@@ -375,13 +368,29 @@ module _ {f : Flags} {text : Text} {t : Tree} {m : Marks} (a : IsTreeOf f text t
       ∙ ap (λ l. back_numbers numbered (references_in l)) (sym (items_of_nodes raw))
 
   -- the numbers up to the total, each once, are said
-  pub backrefs_marked : m.backrefs ≡ ascending (filter (λ n. nat_le n m.total_groups) (groups_referred t))
+  backrefs_marked : m.backrefs ≡ ascending (filter (λ n. nat_le n m.total_groups) (groups_referred t))
   backrefs_marked =
       subst (λ k. k.backrefs ≡ ascending (filter (λ n. nat_le n k.total_groups) (groups_referred t))) (sym is_marks)
       (ap (λ l. ascending (filter (λ n. nat_le n (length numbered)) l)) (sym numbers_referred))
 
   -- and the first above it
-  pub out_of_range_marked : m.out_of_range_backref ≡ find (λ n. nat_lt m.total_groups n) (groups_referred t)
+  out_of_range_marked : m.out_of_range_backref ≡ find (λ n. nat_lt m.total_groups n) (groups_referred t)
   out_of_range_marked =
       subst (λ k. k.out_of_range_backref ≡ find (λ n. nat_lt k.total_groups n) (groups_referred t)) (sym is_marks)
       (ap (find (λ n. nat_lt (length numbered) n)) (sym numbers_referred))
+
+  -- all of it
+  pub answered_with : IsAnsweredWith t m
+  answered_with = record {
+    nodes = answered;
+    groups = groups_total;
+    names = names_marked;
+    calls = calls_marked;
+    backrefs = backrefs_marked;
+    out_of_range = out_of_range_marked;
+  }
+
+  -- the Groups are those of the one raw tree of the text
+  pub groups_of_raw : (r : Tree) → Derives f text r → HasGroupsOf f r t
+  groups_of_raw r b =
+      subst (λ q. HasGroupsOf f q t) (sym (same_tree a.1 b)) (record { in_order = openings_in_order; insides = groups_in_order })

@@ -21,7 +21,7 @@ use Rattle.fancy_grammar.proofs.OrderLaws.{fault_place}
 use Rattle.fancy_grammar.proofs.Slices.{place_within, ordered_within}
 use Rattle.fancy_grammar.proofs.Unique.{whole_unique}
 
-same_tree : {f : Flags} {text : Text} {r q : Tree} → Derives f text r → Derives f text q → q ≡ r
+pub same_tree : {f : Flags} {text : Text} {r q : Tree} → Derives f text r → Derives f text q → q ≡ r
 same_tree a b = let e = whole_unique a.1 b.1 in cc
 
 same_fault : {A : Type 0} {k j : Kind} {p q : ℕ} → ◌≡◌ {A = Outcome A} (fault k p) (fault j q) → (j ≡ k) × (q ≡ p)

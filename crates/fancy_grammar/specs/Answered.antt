@@ -1,11 +1,16 @@
 -- What is true of every tree that is answered, and how its marks speak of it.
-use Rattle.std.specs.Prelude.{◌≡◌, ℕ, ◌+◌, ◌*◌, ◌<◌, ◌≤◌, Bool, true, false, List, [], ◌∷◌, length, filter, filter_map}
-use Rattle.std.specs.Prelude.{Option, Some, None}
+use Rattle.std.specs.Prelude.{◌≡◌, ℕ, ◌+◌, ◌*◌, ◌<◌, ◌≤◌, Bool, true, false, List, [], ◌∷◌, length, filter, filter_map, map}
+use Rattle.std.specs.Prelude.{Option, Some, None, find, nat_le, nat_lt, if◌then◌else◌}
 use Rattle.std.specs.List.{AllByRecursion, list_any}
 use Rattle.fancy_lex.specs.Text.{Text}
+use Rattle.fancy_lex.specs.declared.flags.Flags.{Flags}
+use Rattle.fancy_parts.specs.Ranks.{Opening, only_named, is_counted, counted}
+use Rattle.fancy_grammar.specs.Items.{openings}
+use Rattle.fancy_grammar.specs.Marks.{Marks, ascending}
 use Rattle.fancy_grammar.specs.Preorder.{preorder}
+use Rattle.fancy_grammar.specs.Resolved.{resolved_in}
 use Rattle.fancy_grammar.specs.Tree.{Tree, literal, literal_bytes, alt, group, backref, backref_at_level}
-use Rattle.fancy_grammar.specs.Tree.{subroutine_call, ast_node, AstTree, ast_call, list_of, nodes, depth}
+use Rattle.fancy_grammar.specs.Tree.{subroutine_call, ast_node, AstTree, ast_group, ast_call, list_of, nodes, depth}
 
 -- only a call stays as it was read
 abbrev pub is_call_as_read : AstTree → Bool
@@ -66,3 +71,35 @@ group_referred _ = None
 -- the groups of the back references, in text order
 abbrev pub groups_referred : Tree → List ℕ
 groups_referred t = filter_map group_referred (preorder t)
+
+-- what the marks of an answered tree say of it
+pub record IsAnsweredWith (t : Tree) (m : Marks) : Type 0 where
+  pub nodes : IsAnswered t
+  pub groups : length (groups t) ≡ m.total_groups
+  pub names : AreNamed m.total_groups m.named_groups
+  pub calls : has_call t ≡ m.contains_subroutines
+  pub backrefs : m.backrefs ≡ ascending (filter (λ n. nat_le n m.total_groups) (groups_referred t))
+  pub out_of_range : m.out_of_range_backref ≡ find (λ n. nat_lt m.total_groups n) (groups_referred t)
+
+-- ---- the groups of the raw tree, which is read before they have their numbers
+
+-- a node's opening and inside, where it is a capturing group that has a number
+abbrev pub numbered_group : Bool → Tree → Option (Opening × Tree)
+numbered_group named (ast_node (ast_group name t) place) =
+    if is_counted named name then Some (record { place = place; name = name }, t) else None
+numbered_group _ _ = None
+
+-- of all that have a number
+abbrev pub numbered_in : Bool → List Tree → List (Opening × Tree)
+numbered_in named l = filter_map (numbered_group named) l
+
+-- the groups of the raw tree that have a number, in preorder
+abbrev pub numbered_groups : Flags → Tree → List (Opening × Tree)
+numbered_groups f r = numbered_in (only_named f (openings r)) (preorder r)
+
+-- their openings are those that have a number, in text order; and the k-th Group of the answered tree t holds the inside
+-- of the k-th of them, resolved
+pub record HasGroupsOf (f : Flags) (r t : Tree) : Type 0 where
+  pub in_order : map (λ g. g.0) (numbered_groups f r) ≡ counted f (openings r)
+  pub insides : groups t ≡
+      map (λ g. group (resolved_in (only_named f (openings r)) (counted f (openings r)) g.1)) (numbered_groups f r)

@@ -1,16 +1,15 @@
 -- How the resolver's own values stand to the definitions.
-use Rattle.std.specs.Prelude.{ℕ, ◌||◌, Option, None, chars, map, option_map}
+use Rattle.std.specs.Prelude.{ℕ, ◌||◌, Option, None, chars, option_map}
 use Rattle.fancy_lex.specs.Fault.{Fault, kind_of}
 use Rattle.fancy_lex.specs.declared.error.ParseError as declared
 use Rattle.fancy_lex.specs.Target.{view_target}
 use Rattle.fancy_lex.specs.declared.name.CaptureGroupTarget.{CaptureGroupTarget}
-use Rattle.fancy_parts.specs.Groups.{groups_of, meaning_of, named, role_of}
+use Rattle.fancy_parts.specs.Groups.{groups_of, meaning_of, role_of}
 use Rattle.fancy_parts.specs.Meaning.{fault_or}
 use Rattle.fancy_parts.specs.declared.ranks.Meaning.{Meaning}
 use Rattle.fancy_parts.specs.declared.ranks.Role.{Role}
 use Rattle.fancy_grammar.specs.Marks as spec
 use Rattle.fancy_grammar.specs.Walk as walk
-use Rattle.fancy_syntax.specs.declared.resolve.Marks.{Marks}
 use Rattle.fancy_syntax.specs.declared.resolve.notes.Known.{Known}
 use Rattle.fancy_syntax.specs.declared.resolve.notes.Progress.{Progress}
 
@@ -58,15 +57,3 @@ meaning_noted k p place role m =
       out_of_range = walk.or_else p.out_of_range (walk.beyond total number);
       fault = walk.or_else (option_map fault_at p.fault) (fault_or (meaning_of m) place None);
     }
-
-abbrev pub view_marks : Marks → spec.Marks
-view_marks m = record {
-  backrefs = m.backrefs.keys;
-  named_groups = map named m.named_groups.entries;
-  numeric_capture_group_references = m.numeric_capture_group_references;
-  contains_subroutines = m.contains_subroutines;
-  self_recursive = m.self_recursive;
-  total_groups = m.total_groups;
-  out_of_range_backref = m.out_of_range_backref;
-  numbered_groups_ignored = m.numbered_groups_ignored;
-}

@@ -4,9 +4,9 @@ ghost use Rattle.std.specs.List.{list_any};
 ghost use Rattle.fancy_parts.specs.Groups.{groups_of};
 ghost use Rattle.fancy_parts.specs.Ranks.{counted_in, is_named, named_groups};
 ghost use Rattle.fancy_grammar.specs.Items.{items, openings};
-ghost use Rattle.fancy_grammar.specs.Marks as spec;
+ghost use Rattle.fancy_grammar.specs.Marks.{marks};
 ghost use Rattle.fancy_grammar.specs.Fails.{IsThatFault};
-ghost use Rattle.fancy_syntax.specs.Notes.{view_marks};
+ghost use Rattle.fancy_syntax.specs.Answer.{marks_of};
 ghost use Rattle.fancy_grammar.specs.Ordered.{Ascends};
 ghost use Rattle.fancy_grammar.specs.Resolved.{resolved, fault_of};
 ghost use Rattle.fancy_syntax.specs.View.{view};
@@ -19,41 +19,29 @@ use crate::expr::Expr;
 use crate::resolve::notes::{Known, Progress};
 use crate::resolve::rewrite::rewrite;
 use crate::resolve::survey::survey;
+use crate::tree::ExprTree;
 use fancy_lex::error::{Error, Result};
 use fancy_lex::flags::Flags;
 use fancy_parts::ranks::Groups;
 use std::alloc::{AllocError, Global};
-use std::collections::{BTreeMap, BTreeSet};
 
-/// What is said of a tree beside it; `ExprTree` says what each field is.
-#[derive(Debug, Drop)]
-pub(crate) struct Marks {
-    pub backrefs: BTreeSet<usize>,
-    pub named_groups: BTreeMap<String, Vec<usize>>,
-    pub numeric_capture_group_references: bool,
-    pub contains_subroutines: bool,
-    pub self_recursive: bool,
-    pub total_groups: usize,
-    pub out_of_range_backref: Option<usize>,
-    pub numbered_groups_ignored: bool,
-}
-
-/// Resolves the raw tree of the pattern in its place, and answers its marks, or the first fault of its references.
-pub(crate) fn resolve(alloc: Global, tree: &mut Expr, pattern: &str, flags: Flags) -> Result<Marks>
-    requires { Ascends 0 (length pattern.now) (items (view tree.old)) }
-    ensures tree { IfOk result (λ _. view tree.new ≡ resolved flags (view tree.old)) }
-    ensures marks { IfOk result (λ m. view_marks m ≡ spec.marks flags (chars pattern.now) (view tree.old)) }
-    ensures no_fault { IfOk result (λ _. fault_of flags (view tree.old) ≡ None) }
-    ensures fault { IfErr result (λ e. IsThatFault e (fault_of flags (view tree.old))) }
+/// The raw tree of the pattern resolved in its place, with its marks, or the first fault of its references.
+pub(crate) fn resolve(alloc: Global, raw: Expr, pattern: &str, flags: Flags) -> Result<ExprTree>
+    requires { Ascends 0 (length pattern.now) (items (view raw)) }
+    ensures tree { IfOk result (λ t. view t.expr ≡ resolved flags (view raw)) }
+    ensures marks { IfOk result (λ t. marks_of t ≡ marks flags (chars pattern.now) (view raw)) }
+    ensures no_fault { IfOk result (λ _. fault_of flags (view raw) ≡ None) }
+    ensures fault { IfErr result (λ e. IsThatFault e (fault_of flags (view raw))) }
 {
-    let (named, groups) = find_groups(alloc, tree, flags.ignore_numbered_groups)?;
+    let (named, groups) = find_groups(alloc, &raw, flags.ignore_numbered_groups)?;
     let known = Known {
         pattern,
         named,
         groups,
     };
+    let mut expr = raw;
     let mut progress = Progress::new(alloc);
-    rewrite(tree, &known, &mut progress)?;
+    rewrite(&mut expr, &known, &mut progress)?;
     let Progress {
         backrefs,
         out_of_range,
@@ -67,7 +55,8 @@ pub(crate) fn resolve(alloc: Global, tree: &mut Expr, pattern: &str, flags: Flag
     let Groups { total, names } = groups;
     match fault {
         Some((place, kind)) => Err(Error::ParseError(place, kind)),
-        None => Ok(Marks {
+        None => Ok(ExprTree {
+            expr,
             backrefs,
             named_groups: names,
             numeric_capture_group_references: numeric,

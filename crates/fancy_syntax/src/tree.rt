@@ -1,16 +1,15 @@
 //! Patterns read whole.
-ghost use Rattle.std.specs.Prelude.{◌≡◌, chars, filter, find, length, nat_le, nat_lt, IfOk, IfErr};
+ghost use Rattle.std.specs.Prelude.{◌≡◌, chars, length, IfOk, IfErr};
 ghost use Rattle.fancy_lex.specs.Flags.{flags_of, unicode_alone};
 ghost use Rattle.fancy_grammar.specs.Answer.{IsTreeOf, IsFaultOf, IsOnlyFault, IsWithin};
 ghost use Rattle.fancy_syntax.specs.Answer.{marks_of};
-ghost use Rattle.fancy_grammar.specs.Answered.{groups, groups_referred, has_call, AreNamed, IsAnswered, IsSmall};
-ghost use Rattle.fancy_grammar.specs.Marks.{ascending};
-ghost use Rattle.fancy_syntax.specs.Notes.{view_marks};
+ghost use Rattle.fancy_grammar.specs.Answered.{IsAnsweredWith, HasGroupsOf, IsSmall};
+ghost use Rattle.fancy_grammar.specs.Grammar.{Derives};
 ghost use Rattle.fancy_syntax.specs.View.{view};
 
 use crate::expr::Expr;
 use crate::grammar::parse;
-use crate::resolve::{Marks, resolve};
+use crate::resolve::resolve;
 use fancy_lex::error::Result;
 use fancy_lex::flags::{FLAG_UNICODE, Flags};
 use std::alloc::{AllocError, Global};
@@ -42,47 +41,12 @@ pub struct ExprTree {
 }
 
 impl ExprTree {
-    fn new(expr: Expr, marks: Marks) -> ExprTree
-        ensures expr { result.expr ≡ expr }
-        ensures marks { marks_of result ≡ view_marks marks }
-    {
-        let Marks {
-            backrefs,
-            named_groups,
-            numeric_capture_group_references,
-            contains_subroutines,
-            self_recursive,
-            total_groups,
-            out_of_range_backref,
-            numbered_groups_ignored,
-        } = marks;
-        ExprTree {
-            expr,
-            backrefs,
-            named_groups,
-            numeric_capture_group_references,
-            contains_subroutines,
-            self_recursive,
-            total_groups,
-            out_of_range_backref,
-            numbered_groups_ignored,
-        }
-    }
-
     /// An equal tree with equal marks, in memory of its own. `AllocError` where that is refused.
     pub fn clone(&self, alloc: Global) -> std::result::Result<Self, AllocError>
         ensures tree { IfOk result (λ t. view t.expr ≡ view self.now.expr) }
         ensures marks { IfOk result (λ t. marks_of t ≡ marks_of self.now) }
     {
-        let marks = self.clone_marks()?;
-        Ok(ExprTree::new(self.expr.clone(alloc)?, marks))
-    }
-
-    /// The marks of the tree, in memory of their own.
-    fn clone_marks(&self) -> std::result::Result<Marks, AllocError>
-        ensures { IfOk result (λ m. view_marks m ≡ marks_of self.now) }
-    {
-        Ok(Marks {
+        Ok(ExprTree {
             backrefs: self.backrefs.clone()?,
             named_groups: self.named_groups.clone()?,
             numeric_capture_group_references: self.numeric_capture_group_references,
@@ -91,6 +55,7 @@ impl ExprTree {
             total_groups: self.total_groups,
             out_of_range_backref: self.out_of_range_backref,
             numbered_groups_ignored: self.numbered_groups_ignored,
+            expr: self.expr.clone(alloc)?,
         })
     }
 }
@@ -111,21 +76,15 @@ impl Expr {
             view t.expr) × (m ≡ marks_of t)) }
         ensures exact { IfOk result (λ t. (k : _) (p : _) → IsFaultOf (flags_of flags) (chars re.now) k p → ⊥) }
         ensures bounds { IfOk result (λ t. IsSmall (view t.expr) (length re.now)) }
-        ensures nodes { IfOk result (λ t. IsAnswered (view t.expr)) }
-        ensures groups { IfOk result (λ t. length (groups (view t.expr)) ≡ t.total_groups) }
-        ensures names { IfOk result (λ t. AreNamed t.total_groups (marks_of t).named_groups) }
-        ensures calls { IfOk result (λ t. has_call (view t.expr) ≡ t.contains_subroutines) }
-        ensures backrefs { IfOk result (λ t. t.backrefs.keys ≡
-            ascending (filter (λ n. nat_le n t.total_groups) (groups_referred (view t.expr)))) }
-        ensures out_of_range { IfOk result (λ t. t.out_of_range_backref ≡
-            find (λ n. nat_lt t.total_groups n) (groups_referred (view t.expr))) }
+        ensures answered { IfOk result (λ t. IsAnsweredWith (view t.expr) (marks_of t)) }
+        ensures groups { IfOk result (λ t. (r : _) → Derives (flags_of flags) (chars re.now) r →
+            HasGroupsOf (flags_of flags) r (view t.expr)) }
         ensures fault { IfErr result (λ e. IsOnlyFault e (flags_of flags) (chars re.now)) }
         ensures place { IfErr result (λ e. IsWithin e (length re.now)) }
     {
         let flags = Flags::from_bits(flags);
-        let mut expr = parse(alloc, re, flags)?;
-        let marks = resolve(alloc, &mut expr, re, flags)?;
-        Ok(ExprTree::new(expr, marks))
+        let raw = parse(alloc, re, flags)?;
+        resolve(alloc, raw, re, flags)
     }
 
     /// Reads the pattern under `FLAG_UNICODE` alone, as `parse_tree_with_flags` does, and with the same errors.
@@ -140,14 +99,9 @@ impl Expr {
             (e ≡ view t.expr) × (m ≡ marks_of t)) }
         ensures exact { IfOk result (λ t. (k : _) (p : _) → IsFaultOf unicode_alone (chars re.now) k p → ⊥) }
         ensures bounds { IfOk result (λ t. IsSmall (view t.expr) (length re.now)) }
-        ensures nodes { IfOk result (λ t. IsAnswered (view t.expr)) }
-        ensures groups { IfOk result (λ t. length (groups (view t.expr)) ≡ t.total_groups) }
-        ensures names { IfOk result (λ t. AreNamed t.total_groups (marks_of t).named_groups) }
-        ensures calls { IfOk result (λ t. has_call (view t.expr) ≡ t.contains_subroutines) }
-        ensures backrefs { IfOk result (λ t. t.backrefs.keys ≡
-            ascending (filter (λ n. nat_le n t.total_groups) (groups_referred (view t.expr)))) }
-        ensures out_of_range { IfOk result (λ t. t.out_of_range_backref ≡
-            find (λ n. nat_lt t.total_groups n) (groups_referred (view t.expr))) }
+        ensures answered { IfOk result (λ t. IsAnsweredWith (view t.expr) (marks_of t)) }
+        ensures groups { IfOk result (λ t. (r : _) → Derives unicode_alone (chars re.now) r →
+            HasGroupsOf unicode_alone r (view t.expr)) }
         ensures fault { IfErr result (λ e. IsOnlyFault e unicode_alone (chars re.now)) }
         ensures place { IfErr result (λ e. IsWithin e (length re.now)) }
     {

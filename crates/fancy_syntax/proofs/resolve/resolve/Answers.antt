@@ -10,16 +10,16 @@ use Rattle.fancy_syntax.proofs.resolve.resolve.Goals as goal
 
 pub find_groups-requires : goal.find_groups-requires
 find_groups-requires c =
-    omega (arith, openings_fit 0 (length c.args.pattern.now) (items (view c.args.tree.now)) c.requires)
+    omega (arith, openings_fit 0 (length c.args.pattern.now) (items (view c.args.raw)) c.requires)
 
 pub rewrite-requires : goal.rewrite-requires
 rewrite-requires c =
     let none = ap (λ (p : Progress). p.passed) c.new-progress.ensures in
-    omega (arith, openings_fit 0 (length c.args.pattern.now) (items (view c.args.tree.now)) c.requires)
+    omega (arith, openings_fit 0 (length c.args.pattern.now) (items (view c.args.raw)) c.requires)
 
 pub returns-in-Some-clause-fault : goal.returns-in-Some-clause-fault
 returns-in-Some-clause-fault c =
-    let f = c.args.flags in let r = view c.args.tree.now in let groups = groups_of c.in_ok-named.groups in
+    let f = c.args.flags in let r = view c.args.raw in let groups = groups_of c.in_ok-named.groups in
     let k : Known = record { text = chars c.args.pattern.now; named = c.in_ok-named.named; groups = groups } in
     let found = c.in_ok-named.ensures in
     let suits = known_suits f r k (length c.args.pattern.now) found.named found.total found.names c.requires in
@@ -28,7 +28,7 @@ returns-in-Some-clause-fault c =
 
 pub returns-in-None-clause-no_fault : goal.returns-in-None-clause-no_fault
 returns-in-None-clause-no_fault c =
-    let f = c.args.flags in let r = view c.args.tree.now in let groups = groups_of c.in_ok-named.groups in
+    let f = c.args.flags in let r = view c.args.raw in let groups = groups_of c.in_ok-named.groups in
     let k : Known = record { text = chars c.args.pattern.now; named = c.in_ok-named.named; groups = groups } in
     let found = c.in_ok-named.ensures in
     let suits = known_suits f r k (length c.args.pattern.now) found.named found.total found.names c.requires in
@@ -37,7 +37,7 @@ returns-in-None-clause-no_fault c =
 
 pub returns-in-None-clause-tree : goal.returns-in-None-clause-tree
 returns-in-None-clause-tree c =
-    let f = c.args.flags in let r = view c.args.tree.now in let groups = groups_of c.in_ok-named.groups in
+    let f = c.args.flags in let r = view c.args.raw in let groups = groups_of c.in_ok-named.groups in
     let k : Known = record { text = chars c.args.pattern.now; named = c.in_ok-named.named; groups = groups } in
     let found = c.in_ok-named.ensures in
     let suits = known_suits f r k (length c.args.pattern.now) found.named found.total found.names c.requires in
@@ -45,7 +45,7 @@ returns-in-None-clause-tree c =
 
 pub returns-in-None-clause-marks : goal.returns-in-None-clause-marks
 returns-in-None-clause-marks c =
-    let f = c.args.flags in let r = view c.args.tree.now in let groups = groups_of c.in_ok-named.groups in
+    let f = c.args.flags in let r = view c.args.raw in let groups = groups_of c.in_ok-named.groups in
     let k : Known = record { text = chars c.args.pattern.now; named = c.in_ok-named.named; groups = groups } in
     let found = c.in_ok-named.ensures in
     let suits = known_suits f r k (length c.args.pattern.now) found.named found.total found.names c.requires in

@@ -1,81 +1,84 @@
-use Rattle.std.proofs.Common.{subst, chars, ap, ◌∙◌}
-use Rattle.std.proofs.lemmas.Result.{err_from_is_err_and}
+use Rattle.std.proofs.Common.{◌≡◌, None, Result, Ok, Err, IfOk, IfErr, subst, chars}
+use Rattle.std.proofs.lemmas.Result.{err_from_is_err_and, IfOk-weaker, IfErr-weaker}
+use Rattle.fancy_lex.specs.Text.{Text}
+use Rattle.fancy_lex.specs.declared.error.Error.{Error}
+use Rattle.fancy_lex.specs.declared.flags.Flags.{Flags}
 use Rattle.fancy_grammar.specs.Answer.{IsTreeOf, IsOnlyFault}
+use Rattle.fancy_grammar.specs.Grammar.{Derives}
+use Rattle.fancy_grammar.specs.Marks.{marks}
+use Rattle.fancy_grammar.specs.Resolved.{resolved, fault_of}
+use Rattle.fancy_grammar.specs.Tree.{Tree}
 use Rattle.fancy_syntax.specs.Answer.{marks_of}
 use Rattle.fancy_syntax.specs.View.{view}
-use Rattle.fancy_grammar.proofs.AnsweredLaws.{answered, groups_total, names_marked, calls_marked, backrefs_marked, out_of_range_marked}
+use Rattle.fancy_syntax.specs.declared.tree.ExprTree.{ExprTree}
+use Rattle.fancy_grammar.proofs.AnsweredLaws.{answered_with, groups_of_raw}
 use Rattle.fancy_grammar.proofs.BoundLaws.{bounded}
 use Rattle.fancy_grammar.proofs.Verdict.{only_tree, no_fault, only_reading, only_resolving, reading_within}
 use Rattle.fancy_grammar.proofs.Verdict.{resolving_within, text_order}
 use Rattle.fancy_syntax.proofs.expr.Expr.parse_tree_with_flags.Goals as goal
 
-pub returns-in_err-expr-clause-fault : goal.returns-in_err-expr-clause-fault
-returns-in_err-expr-clause-fault c =
+pub returns-in_err-raw-clause-fault : goal.returns-in_err-raw-clause-fault
+returns-in_err-raw-clause-fault c =
     let e = err_from_is_err_and c.from_residual.result c.from_residual.ensures.1 in
-    let error = c.in_err-expr.field-0.0 in let text = chars c.args.re.now in
-    let only = only_reading error c.from_bits-flags.result text c.in_err-expr.ensures.reads in
+    let error = c.in_err-raw.field-0.0 in let text = chars c.args.re.now in
+    let only = only_reading error c.from_bits-flags.result text c.in_err-raw.ensures.reads in
     rw (e.1, e.2) (subst (λ f. IsOnlyFault error f text) c.from_bits-flags.ensures only)
 
-pub returns-in_err-expr-clause-place : goal.returns-in_err-expr-clause-place
-returns-in_err-expr-clause-place c =
+pub returns-in_err-raw-clause-place : goal.returns-in_err-raw-clause-place
+returns-in_err-raw-clause-place c =
     let e = err_from_is_err_and c.from_residual.result c.from_residual.ensures.1 in
-    rw (e.1, e.2) (reading_within c.in_err-expr.field-0.0 _ _ c.utf8.re c.in_err-expr.ensures.reads)
+    rw (e.1, e.2) (reading_within c.in_err-raw.field-0.0 _ _ c.utf8.re c.in_err-raw.ensures.reads)
 
 pub resolve-requires : goal.resolve-requires
 resolve-requires c =
-    text_order c.from_bits-flags.result c.args.re.now (view c.in_ok-expr.expr) c.utf8.re c.in_ok-expr.ensures.reads
+    text_order c.from_bits-flags.result c.args.re.now (view c.in_ok-raw.raw) c.utf8.re c.in_ok-raw.ensures.reads
 
-pub returns-in_err-marks-clause-fault : goal.returns-in_err-marks-clause-fault
-returns-in_err-marks-clause-fault c =
-    let e = err_from_is_err_and c.from_residual-in_err-marks.result c.from_residual-in_err-marks.ensures.1 in
-    let error = c.in_err-marks.field-0.0 in let text = chars c.args.re.now in let raw = view c.in_ok-expr.expr in
-    let first = c.in_err-marks.ensures.fault in
-    let only = only_resolving error c.from_bits-flags.result text raw c.in_ok-expr.ensures.reads first in
-    rw (e.1, e.2) (subst (λ f. IsOnlyFault error f text) c.from_bits-flags.ensures only)
+-- ---- what is resolved
 
-pub returns-in_err-marks-clause-place : goal.returns-in_err-marks-clause-place
-returns-in_err-marks-clause-place c =
-    let e = err_from_is_err_and c.from_residual-in_err-marks.result c.from_residual-in_err-marks.ensures.1 in
-    let error = c.in_err-marks.field-0.0 in let raw = view c.in_ok-expr.expr in let reads = c.in_ok-expr.ensures.reads in
-    let first = c.in_err-marks.ensures.fault in
-    rw (e.1, e.2) (resolving_within error c.from_bits-flags.result c.args.re.now raw c.utf8.re reads first)
+-- the tree of the text, where its raw tree is this one
+tree_of : {f : Flags} {text : Text} {r : Tree} (o : Result ExprTree Error) → Derives f text r →
+    IfOk o (λ t. view t.expr ≡ resolved f r) → IfOk o (λ t. marks_of t ≡ marks f text r) →
+    IfOk o (λ _. fault_of f r ≡ None) → IfOk o (λ t. IsTreeOf f text (view t.expr) (marks_of t))
+tree_of {r} (Ok t) reads tree said none = (r, reads, none, tree, said)
+tree_of (Err e) reads tree said none = tt
+
+-- what is true of the tree of a text is true of the answer
+told : {f : Flags} {text : Text} (o : Result ExprTree Error) (Q : ExprTree → Type 0) →
+    ((t : ExprTree) → IsTreeOf f text (view t.expr) (marks_of t) → Q t) →
+    IfOk o (λ t. IsTreeOf f text (view t.expr) (marks_of t)) → IfOk o Q
+told o Q more h = IfOk-weaker o _ Q more h
 
 pub returns-clause-found : goal.returns-clause-found
 returns-clause-found c =
-    let answer = c.in_ok-marks.ensures in let text = chars c.args.re.now in
-    let tree = view c.new.result.expr in let marks = marks_of c.new.result in
-    let here : IsTreeOf c.from_bits-flags.result text tree marks = (
-      view c.in_ok-expr.expr,
-      c.in_ok-expr.ensures.reads,
-      answer.no_fault,
-      ap view c.new.ensures.expr ∙ answer.tree,
-      c.new.ensures.marks ∙ answer.marks,
-    ) in
-    subst (λ f. IsTreeOf f text tree marks) c.from_bits-flags.ensures here
+    let answer = c.resolve.ensures in let text = chars c.args.re.now in
+    subst (λ f. IfOk c.resolve.result (λ t. IsTreeOf f text (view t.expr) (marks_of t))) c.from_bits-flags.ensures
+    (tree_of c.resolve.result c.in_ok-raw.ensures.reads answer.tree answer.marks answer.no_fault)
 
 pub returns-clause-only : goal.returns-clause-only
-returns-clause-only c e m b = only_tree _ _ _ e _ m (returns-clause-found c) b
+returns-clause-only c =
+    told c.resolve.result _ (λ t a e m b. only_tree _ _ _ e _ m a b) (returns-clause-found c)
 
 pub returns-clause-exact : goal.returns-clause-exact
-returns-clause-exact c k p b = no_fault _ _ _ _ k p (returns-clause-found c) b
+returns-clause-exact c = told c.resolve.result _ (λ t a k p b. no_fault _ _ _ _ k p a b) (returns-clause-found c)
 
 pub returns-clause-bounds : goal.returns-clause-bounds
-returns-clause-bounds c = bounded c.utf8.re (returns-clause-found c)
+returns-clause-bounds c = told c.resolve.result _ (λ t a. bounded c.utf8.re a) (returns-clause-found c)
 
-pub returns-clause-nodes : goal.returns-clause-nodes
-returns-clause-nodes c = answered (returns-clause-found c)
+pub returns-clause-answered : goal.returns-clause-answered
+returns-clause-answered c = told c.resolve.result _ (λ t a. answered_with a) (returns-clause-found c)
 
 pub returns-clause-groups : goal.returns-clause-groups
-returns-clause-groups c = groups_total (returns-clause-found c)
+returns-clause-groups c = told c.resolve.result _ (λ t a. groups_of_raw a) (returns-clause-found c)
 
-pub returns-clause-names : goal.returns-clause-names
-returns-clause-names c = names_marked (returns-clause-found c)
+pub returns-clause-fault : goal.returns-clause-fault
+returns-clause-fault c =
+    let text = chars c.args.re.now in
+    let only : IfErr c.resolve.result (λ e. IsOnlyFault e c.from_bits-flags.result text) =
+    IfErr-weaker c.resolve.result _ _ (λ e first. only_resolving e _ text (view c.in_ok-raw.raw) c.in_ok-raw.ensures.reads first) c.resolve.ensures.fault in
+    subst (λ f. IfErr c.resolve.result (λ e. IsOnlyFault e f text)) c.from_bits-flags.ensures only
 
-pub returns-clause-calls : goal.returns-clause-calls
-returns-clause-calls c = calls_marked (returns-clause-found c)
-
-pub returns-clause-backrefs : goal.returns-clause-backrefs
-returns-clause-backrefs c = backrefs_marked (returns-clause-found c)
-
-pub returns-clause-out_of_range : goal.returns-clause-out_of_range
-returns-clause-out_of_range c = out_of_range_marked (returns-clause-found c)
+pub returns-clause-place : goal.returns-clause-place
+returns-clause-place c =
+    IfErr-weaker c.resolve.result _ _
+    (λ e first. resolving_within e c.from_bits-flags.result c.args.re.now (view c.in_ok-raw.raw) c.utf8.re c.in_ok-raw.ensures.reads first)
+    c.resolve.ensures.fault
