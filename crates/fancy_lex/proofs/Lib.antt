@@ -9,6 +9,7 @@ pub mod EscapeLaws
 pub mod EscapeLemmas
 pub mod EscapeSound
 pub mod HexLemmas
+pub mod HexRelation
 pub mod IdLemmas
 pub mod IdReferenceLaws
 pub mod LayoutLaws
