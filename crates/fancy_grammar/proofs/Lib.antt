@@ -13,6 +13,7 @@ pub mod NoteLaws
 pub mod OrderLaws
 pub mod OutcomeLemmas
 pub mod PlainLemmas
+pub mod PremiseLaws
 pub mod PreorderLaws
 pub mod PrintableLemmas
 pub mod QuantLemmas

@@ -12,6 +12,7 @@ pub mod Ahead
 pub mod Join
 pub mod Quantified
 pub mod Grammar
+pub mod Premises
 pub mod Fails
 -- ---- what references mean, and what is answered
 pub mod Items

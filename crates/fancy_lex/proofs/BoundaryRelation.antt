@@ -152,7 +152,7 @@ module _ (n : ℕ) (x : Bool) (p : ℕ) (negated : Bool) where
   is_named t i (b, v, l, c) =
       answer_named t (open_brace ∷ i) i v (layout_complete n x t _ b) (strip_same open_brace i) (layout_complete n x i v l) c
 
-  boundary_is : {t : Text} {o : Reading Escape} → Boundary n x p negated t o → boundary n x p negated t ≡ o
+  pub boundary_is : {t : Text} {o : Reading Escape} → Boundary n x p negated t o → boundary n x p negated t ≡ o
   boundary_is {t} (no_brace {u} b s) = answer_no_brace t u (layout_complete n x t u b) s
   boundary_is {t} (count {u} (b, v, l, c)) =
       answer_count t (open_brace ∷ u) u v (layout_complete n x t _ b) (strip_same open_brace u) (layout_complete n x u v l) c
@@ -163,7 +163,7 @@ module _ (n : ℕ) (x : Bool) (p : ℕ) (negated : Bool) where
   boundary_is {t} (open_inside {q} {u} b l) =
       answer_inside t (open_brace ∷ u) u q (layout_complete n x t _ b) (strip_same open_brace u) (unclosed_complete n x u q l)
 
-boundary_reads : (n : ℕ) (x : Bool) (p : ℕ) (negated : Bool) (t : Text) → Boundary n x p negated t (boundary n x p negated t)
+pub boundary_reads : (n : ℕ) (x : Bool) (p : ℕ) (negated : Bool) (t : Text) → Boundary n x p negated t (boundary n x p negated t)
 boundary_reads n x p negated t = by_layout n x p negated t (layout n x t) refl
 
 -- ---- the clauses of the reader

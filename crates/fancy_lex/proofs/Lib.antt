@@ -1,15 +1,16 @@
-pub mod BoundaryLaws
-pub mod BoundaryLemmas
+mod BoundaryLaws
+mod BoundaryLemmas
 pub mod BoundaryRelation
 pub mod ClassLaws
-pub mod ClassLemmas
+mod ClassLemmas
 pub mod DelimitedLaws
 pub mod EscapeFrame
 pub mod EscapeLaws
-pub mod EscapeLemmas
+mod EscapeLemmas
 pub mod EscapeSound
-pub mod HexLemmas
-pub mod IdLemmas
+mod HexLemmas
+pub mod HexRelation
+mod IdLemmas
 pub mod IdReferenceLaws
 pub mod LayoutLaws
 pub mod LayoutLemmas
@@ -17,7 +18,7 @@ pub mod LeaveLaws
 pub mod NumberLemmas
 pub mod NumberTextLaws
 pub mod PlaceLaws
-pub mod PropertyLemmas
+mod PropertyLemmas
 pub mod ReadingLemmas
 pub mod ReferenceLaws
 pub mod ReferencePlaces

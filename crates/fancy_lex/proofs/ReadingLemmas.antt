@@ -40,7 +40,7 @@ pub answers_gives : {A B : Type 0} (f : A → B) (r : Result (A × Bor (List ℕ
 answers_gives f (Ok p) o g = g
 answers_gives f (Err e) o g = report_fails e o g
 
-pub reads_gives : {A B : Type 0} (f : A → B) (r : Result (A × Bor (List ℕ)) Error) (o : Reading B) → Reads f r o → Gives f r o
-reads_gives f (Ok p) o g = g
-reads_gives f (Err OutOfMemory) o g = absurd g
-reads_gives f (Err (ParseError p k)) o g = g
+pub reads_answers : {A B : Type 0} (f : A → B) (r : Result (A × Bor (List ℕ)) Error) (o : Reading B) → Reads f r o → Answers f r o
+reads_answers f (Ok p) o g = g
+reads_answers f (Err OutOfMemory) o g = absurd g
+reads_answers f (Err (ParseError p k)) o g = g

@@ -1,12 +1,13 @@
 -- Hex codes behind `\x`, `\u` and `\U`.
-use Rattle.std.specs.Prelude.{ℕ, zero, suc, ◌+◌, ◌*◌, Bool, true, false, not, ◌&&◌, ◌||◌, ◌==◌, nat_lt, nat_le}
+use Rattle.std.specs.Prelude.{◌≡◌, ◌<◌, ◌≤◌, ◌⊎◌, ℕ, zero, suc, ◌+◌, ◌*◌, Bool, true, false, not, ◌&&◌, ◌||◌, ◌==◌, nat_lt, nat_le}
 use Rattle.std.specs.Prelude.{if◌then◌else◌, [], ◌∷◌, Option, Some, None, option_and_then}
 use Rattle.std.specs.Char.{digit_value}
 use Rattle.fancy_lex.specs.declared.flags.Flags.{Flags}
 use Rattle.fancy_lex.specs.Characters.{open_brace, close_brace}
 use Rattle.fancy_lex.specs.Escaped.{Escape, literal, literal_bytes}
-use Rattle.fancy_lex.specs.FaultTable.{code_not_read, code_of_no_character}
-use Rattle.fancy_lex.specs.Layout.{layout}
+use Rattle.fancy_lex.specs.Fault.{Fault}
+use Rattle.fancy_lex.specs.FaultTable.{code_not_read, code_of_no_character, comment_not_closed}
+use Rattle.fancy_lex.specs.Layout.{layout, Before, Unclosed}
 use Rattle.fancy_lex.specs.Reading.{Reading, gives, fails, ◌>=>◌, choose, layout_reading}
 use Rattle.fancy_lex.specs.Text.{Text, strip, place_of}
 
@@ -61,3 +62,43 @@ unfoldable pub hex : ℕ → Flags → ℕ → Text → Reading Escape
 hex n f width t =
     layout_reading (layout n f.ignore_space t) >=> (λ _ t.
     value n f.ignore_space (place_of n t) width t >=> leaf_of_value f width (place_of n t))
+
+-- ---- the same as relations: what stands there, and what it comes to
+
+-- `t` begins with k digits, which write v, with layout behind each; `u` follows
+pub data Digits (x : Bool) : ℕ → ℕ → Text → Text → Type 0 where
+  no_digit : {t : Text} → Digits x 0 0 t t
+  digit : {k v d : ℕ} {t u w z : Text} → Digits x k v t u → hex_digit u ≡ Some (d, w) → Before x w z →
+      Digits x (k + 1) (v * 16 + d) t z
+
+-- behind k digits nothing reads: neither one more nor a closing brace that may stand there
+pub record Stuck (k : ℕ) (t : Text) : Type 0 where
+  pub no_more : (k ≡ 8) ⊎ (hex_digit t ≡ None)
+  pub no_end : (k ≡ 0) ⊎ (strip close_brace t ≡ None)
+
+-- a code in braces, behind the opening one: one to eight digits with layout before, between and behind them
+pub data BracedCode (n : ℕ) (x : Bool) (h : ℕ) : Text → Reading ℕ → Type 0 where
+  braced : {k v : ℕ} {t u w : Text} → Before x t u → Digits x k v u (close_brace ∷ w) → 0 < k → k ≤ 8 →
+      BracedCode n x h t (gives v w)
+  stuck : {k v : ℕ} {t u w : Text} → Before x t u → Digits x k v u w → k ≤ 8 → Stuck k w →
+      BracedCode n x h t (fails (code_not_read h))
+  open_before : {q : ℕ} {t : Text} → Unclosed n x t q → BracedCode n x h t (fails (comment_not_closed q))
+  open_behind : {k v d q : ℕ} {t u w z : Text} → Before x t u → Digits x k v u w → k < 8 → hex_digit w ≡ Some (d, z) →
+      Unclosed n x z q → BracedCode n x h t (fails (comment_not_closed q))
+
+-- a code that begins there: so many digits, or else one in braces
+pub data Code (n : ℕ) (x : Bool) (h width : ℕ) : Text → Reading ℕ → Type 0 where
+  fixed : {v : ℕ} {t u : Text} → fixed_digits width 0 t ≡ Some (v, u) → Code n x h width t (gives v u)
+  in_braces : {t : Text} {o : Reading ℕ} → fixed_digits width 0 (open_brace ∷ t) ≡ None → BracedCode n x h t o →
+      Code n x h width (open_brace ∷ t) o
+  neither : {t : Text} → fixed_digits width 0 t ≡ None → strip open_brace t ≡ None →
+      Code n x h width t (fails (code_not_read h))
+
+-- behind the letter: layout, and a code; what it stands for
+pub data HexCode (n : ℕ) (f : Flags) (width : ℕ) : Text → Reading Escape → Type 0 where
+  code : {v : ℕ} {t u w : Text} → Before f.ignore_space t u →
+      Code n f.ignore_space (place_of n u) width u (gives v w) →
+      HexCode n f width t (leaf_of_value f width (place_of n u) v w)
+  code_fault : {t u : Text} {e : Fault} → Before f.ignore_space t u →
+      Code n f.ignore_space (place_of n u) width u (fails e) → HexCode n f width t (fails e)
+  open_layout : {q : ℕ} {t : Text} → Unclosed n f.ignore_space t q → HexCode n f width t (fails (comment_not_closed q))

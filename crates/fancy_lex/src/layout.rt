@@ -1,6 +1,6 @@
 //! Layout: the comments and blanks between the parts of a pattern.
 ghost use Rattle.std.specs.Prelude.{◌≡◌, ℕ, ◌+◌, ◌<◌, ◌≤◌, ◌^◌, Bool, length, chars, MatchResult, IfOk, IfErr, IfSome, option_map, false};
-ghost use Rattle.fancy_lex.specs.Text.{Text};
+ghost use Rattle.fancy_lex.specs.Text.{Text, EndsWith};
 ghost use Rattle.fancy_lex.specs.Layout as spec;
 ghost use Rattle.fancy_lex.specs.Layout.{rest, fault, rest_of, skipped_of};
 ghost use Rattle.fancy_lex.specs.Reading.{layout_reading, ReadsRest};
@@ -160,6 +160,7 @@ pub fn past_layout(text: &str, ignore_space: bool, end: usize) -> Option<&str>
 pub fn skip(text: &str, ignore_space: bool, end: usize) -> Result<&str, Error>
     requires { end < 2 ^ 63 }
     ensures value { ReadsRest result (layout_reading (spec.layout end ignore_space (chars text.now))) }
+    ensures cut { IfOk result (λ r. EndsWith (chars text.now) (chars r.now)) }
     ensures within { IfOk result (λ r. length r.now ≤ length text.now) }
 {
     match layout(text, ignore_space, end) {

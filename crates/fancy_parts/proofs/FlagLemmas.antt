@@ -3,8 +3,6 @@ use Rattle.std.proofs.Common.{◌≡◌, ℕ, suc, ◌-◌, ◌<◌, [], ◌∷�
 use Rattle.std.proofs.Math.Seq.{take-append_seam}
 use Rattle.std.specs.Str.{chars as the_chars}
 use Rattle.std.proofs.Common.{zero}
-use Rattle.fancy_lex.proofs.BoundaryLemmas.{rest_from_reading}
-use Rattle.fancy_lex.proofs.LayoutLaws.{layout_cut}
 use Rattle.fancy_lex.proofs.ReadingLemmas.{reports_first}
 use Rattle.fancy_lex.specs.Layout.{layout}
 use Rattle.fancy_lex.specs.Reading.{Reading, gives, layout_reading, Says, Reports}
@@ -94,7 +92,3 @@ module _ (n : ℕ) (t : Text) (clears : Bool) (f : Flags) (u : Text) where
 pub letters_start : (n : ℕ) (f : Flags) (t : Text) → letters n f t ≡ letters_in n t (suc (bytes t)) false f t
 unfolding letters
 letters_start n f t = refl
-
--- what follows layout that was read ends the text
-pub layout_end : (n : ℕ) (x : Bool) (t v : Text) → layout_reading (layout n x t) ≡ gives tt v → (w : Text) × (t ≡ w ++ v)
-layout_end n x t v e = layout_cut n x t v (rest_from_reading (layout n x t) v e)

@@ -450,17 +450,25 @@ module _ (n : ℕ) (t : Text) where
   letters_are (suc k) {clears} {f} {u} (open_layout {q} b) at l =
       read_open k clears f u q (unclosed_complete n f.ignore_space u q b)
 
--- ---- the clauses of the reader
+-- ---- the letters of a flag group
 
-module _ (n : ℕ) (f : Flags) (t : Text) (r : Result (declared.Letters × Bor (List ℕ)) Error) (g : Answers letters_of r (letters n f t)) where
+module _ (n : ℕ) (f : Flags) (t : Text) where
   at_start : Reached t false t
   at_start = ([], refl, told_start)
 
-  pub letters_derive : Derives letters_of r (FlagGroup n f t)
+  pub flag_group_reads : FlagGroup n f t (letters n f t)
   unfolding letters
-  letters_derive =
-      derives_answer letters_of r (FlagGroup n f t) (letters n f t) (letters_read n t (suc (bytes t)) false f t at_start (omega arith)) g
+  flag_group_reads = letters_read n t (suc (bytes t)) false f t at_start (omega arith)
+
+  pub flag_group_is : {o : Reading Letters} → FlagGroup n f t o → letters n f t ≡ o
+  unfolding letters
+  flag_group_is h = letters_are n t (suc (bytes t)) h at_start (omega arith)
+
+-- ---- the clauses of the reader
+
+module _ (n : ℕ) (f : Flags) (t : Text) (r : Result (declared.Letters × Bor (List ℕ)) Error) (g : Answers letters_of r (letters n f t)) where
+  pub letters_derive : Derives letters_of r (FlagGroup n f t)
+  letters_derive = derives_answer letters_of r (FlagGroup n f t) (letters n f t) (flag_group_reads n f t) g
 
   pub letters_only : (o : Reading Letters) → FlagGroup n f t o → Answers letters_of r o
-  unfolding letters
-  letters_only o h = only_answer letters_of r (letters n f t) o (letters_are n t (suc (bytes t)) h at_start (omega arith)) g
+  letters_only o h = only_answer letters_of r (letters n f t) o (flag_group_is n f t h) g

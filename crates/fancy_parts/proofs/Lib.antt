@@ -3,7 +3,7 @@ pub mod FlagLaws
 pub mod FlagLemmas
 pub mod HeadLaws
 pub mod LetterRelation
-pub mod NameLemmas
+mod NameLemmas
 pub mod NamedLaws
 pub mod QuoteLemmas
 pub mod RoomLemmas

@@ -1,10 +1,10 @@
 //! Hex codes behind `\x`, `\u` and `\U`.
 ghost use Rattle.std.specs.Prelude.{◌≡◌, ℕ, ◌+◌, ◌*◌, ◌-◌, ◌^◌, ◌<◌, ◌≤◌, length, chars, IfSome, IfErr, IfOk, option_map, false};
 ghost use Rattle.fancy_lex.specs.Characters.{close_brace};
-ghost use Rattle.fancy_lex.specs.Escaped.{escape_of};
+ghost use Rattle.fancy_lex.specs.Escaped.{Escape, escape_of};
 ghost use Rattle.fancy_lex.specs.Fault.{StandsWithin};
 ghost use Rattle.fancy_lex.specs.Hex as spec;
-ghost use Rattle.fancy_lex.specs.Reading.{Reads};
+ghost use Rattle.fancy_lex.specs.Reading.{Derives, Reading, Reads};
 ghost use Rattle.fancy_lex.specs.Text.{EndsWith, strip, place_of};
 
 use crate::error::{Error, ParseError};
@@ -172,6 +172,8 @@ pub fn hex<'a>(
     requires width { width ≤ 8 }
     requires inside { length text.now ≤ end }
     ensures value { Reads escape_of result (spec.hex end flags width (chars text.now)) }
+    ensures derives { Derives escape_of result (spec.HexCode end flags width (chars text.now)) }
+    ensures only { (o : Reading Escape) → spec.HexCode end flags width (chars text.now) o → Reads escape_of result o }
     ensures cut { IfOk result (λ p. EndsWith (chars text.now) (chars p.1.now)) }
     ensures place { IfErr result (λ e. StandsWithin (end + 1) e) }
     ensures within { IfOk result (λ p. length p.1.now ≤ length text.now) }

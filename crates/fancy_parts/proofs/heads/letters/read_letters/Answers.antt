@@ -2,7 +2,7 @@ use Rattle.std.proofs.Common.{◌<◌, ◌∙◌, refl, rules, arith, suc, lengt
 use Rattle.std.proofs.lemmas.Result.{err_from_is_err_and}
 use Rattle.fancy_lex.proofs.TextLemmas.{bytes_chars}
 use Rattle.fancy_lex.specs.Text.{bytes}
-use Rattle.fancy_parts.proofs.FlagLemmas.{behind_more, in_layout_fault, in_letter_fault, in_end, in_go, layout_end, letters_start, behind_next}
+use Rattle.fancy_parts.proofs.FlagLemmas.{behind_more, in_layout_fault, in_letter_fault, in_end, in_go, letters_start, behind_next}
 use Rattle.fancy_parts.proofs.heads.letters.read_letters.Goals as goal
 
 pub loop-here-init : goal.loop-here-init
@@ -21,7 +21,7 @@ returns-in_err-here-clause-value c =
 
 pub flag_letter-requires-clause-behind : goal.flag_letter-requires-clause-behind
 flag_letter-requires-clause-behind c =
-    let cut = layout_end _ _ _ _ c.in_ok-here.ensures.value in behind_more _ _ _ _ c.loop-here.invariant.behind cut.1
+    let cut = c.in_ok-here.ensures.cut in behind_more _ _ _ _ c.loop-here.invariant.behind cut.1
 
 pub returns-in_err-step-clause-value : goal.returns-in_err-step-clause-value
 returns-in_err-step-clause-value c =
@@ -41,7 +41,7 @@ loop-here-preserved c =
     omega (arith, c.in_ok-step.ensures.shorter, c.in_ok-here.ensures.within) in
     let (j, i, f) = in_go _ _ _ _ _ k _ h _ c.in_ok-here.ensures.value _ _ _ _ less (rw c.in-Goes.is at c.in_ok-step.ensures.value) in
     let (x, y) = c.in_ok-step.ensures.one_on in
-    let cut = layout_end _ _ _ _ c.in_ok-here.ensures.value in record {
+    let cut = c.in_ok-here.ensures.cut in record {
       text = search rules;
       steps = (j, i, e ∙ f);
       behind = behind_next _ _ _ _ (behind_more _ _ _ _ c.loop-here.invariant.behind cut.1) y;

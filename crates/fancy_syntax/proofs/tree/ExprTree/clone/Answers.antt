@@ -16,6 +16,6 @@ named_same _ _ h = absurd h
 
 pub returns-clause-marks : goal.returns-clause-marks
 returns-clause-marks c =
-    let numbers = each_same _ _ c.in_ok-clone-2.ensures.cases in
-    let names = named_same c.args.self.now.named_groups.entries c.in_ok-clone-3.field-0.entries c.in_ok-clone-3.ensures.cases in
+    let numbers = each_same _ _ c.in_ok-clone.ensures.cases in
+    let names = named_same c.args.self.now.named_groups.entries c.in_ok-clone-2.field-0.entries c.in_ok-clone-2.ensures.cases in
     cc

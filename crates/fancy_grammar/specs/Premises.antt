@@ -1,0 +1,63 @@
+-- What the grammar's premises say by functions, said by the relations: what stands in the text, and what that comes to.
+-- Each is proved, as a clause of `premises`.
+use Rattle.std.specs.Prelude.{◌≡◌, ◌↔◌, ℕ, Bool, Some}
+use Rattle.fancy_lex.specs.Boundary.{boundary, Boundary}
+use Rattle.fancy_lex.specs.Class.{class, StartsWithClass, ClassFaults}
+use Rattle.fancy_lex.specs.Delimited.{name_before, StartsWithName}
+use Rattle.fancy_lex.specs.Escaped.{Escape}
+use Rattle.fancy_lex.specs.Fault.{Fault}
+use Rattle.fancy_lex.specs.Hex.{hex, HexCode}
+use Rattle.fancy_lex.specs.IdReference.{IdReference, id_reference, IsIdReference}
+use Rattle.fancy_lex.specs.Layout.{layout, rest, fault as open_comment, Before, Unclosed}
+use Rattle.fancy_lex.specs.Number.{number, StartsWithNumber}
+use Rattle.fancy_lex.specs.NumberText.{number_text, IsNumberText}
+use Rattle.fancy_lex.specs.Reading.{Reading, gives, fails}
+use Rattle.fancy_lex.specs.Text.{Text}
+use Rattle.fancy_lex.specs.declared.flags.Flags.{Flags}
+use Rattle.fancy_parts.specs.FlagLetters.{Letters, letters, FlagGroup}
+
+-- layout: what stands before the rest of the text, or an open comment
+abbrev pub LayoutIsRelated : Type 0
+LayoutIsRelated =
+    (n : ℕ) (x : Bool) (t : Text) →
+    ((v : Text) → (layout n x t ≡ rest v) ↔ Before x t v)
+    × ((p : ℕ) → (layout n x t ≡ open_comment p) ↔ Unclosed n x t p)
+
+-- a class behind its bracket, with what is written for it; or its fault
+abbrev pub ClassIsRelated : Type 0
+ClassIsRelated =
+    (n : ℕ) (f : Flags) (t : Text) →
+    ((out v : Text) → (class n f t ≡ gives out v) ↔ StartsWithClass n f t v out)
+    × ((e : Fault) → (class n f t ≡ fails e) ↔ ClassFaults n f t e)
+
+-- the letters of a flag group
+abbrev pub LettersAreRelated : Type 0
+LettersAreRelated = (n : ℕ) (f : Flags) (t : Text) (o : Reading Letters) → (letters n f t ≡ o) ↔ FlagGroup n f t o
+
+-- a boundary behind its letter
+abbrev pub BoundaryIsRelated : Type 0
+BoundaryIsRelated =
+    (n : ℕ) (x : Bool) (p : ℕ) (negated : Bool) (t : Text) (o : Reading Escape) →
+    (boundary n x p negated t ≡ o) ↔ Boundary n x p negated t o
+
+-- a hex code behind its letter
+abbrev pub HexIsRelated : Type 0
+HexIsRelated =
+    (n : ℕ) (f : Flags) (width : ℕ) (t : Text) (o : Reading Escape) → (hex n f width t ≡ o) ↔ HexCode n f width t o
+
+-- a number at the front
+abbrev pub NumberIsRelated : Type 0
+NumberIsRelated = (t v : Text) (k : ℕ) → (number t ≡ Some (k, v)) ↔ StartsWithNumber t v k
+
+-- a number text
+abbrev pub NumberTextIsRelated : Type 0
+NumberTextIsRelated = (t : Text) (k : ℕ) → (number_text t ≡ Some k) ↔ IsNumberText t k
+
+-- a name up to its closing mark
+abbrev pub NameIsRelated : Type 0
+NameIsRelated = (mark : ℕ) (t w v : Text) → (name_before mark t ≡ Some (w, v)) ↔ StartsWithName mark t w v
+
+-- an id reference
+abbrev pub IdReferenceIsRelated : Type 0
+IdReferenceIsRelated =
+    (relative : Bool) (t : Text) (r : IdReference) → (id_reference relative t ≡ Some r) ↔ IsIdReference relative t r
