@@ -1,7 +1,5 @@
 //! Every kind of fault.
-use fancy_syntax::error::{Error, ParseError};
-use fancy_syntax::expr::Expr;
-use fancy_syntax::flags::{FLAG_ONIGURUMA_MODE, FLAG_UNICODE};
+use fancy_syntax::{Error, Expr, FLAG_ONIGURUMA_MODE, FLAG_UNICODE, ParseError};
 use std::alloc::Global;
 
 /// A pattern or more for each kind, with the flags that it is read under; and two whose places are no columns.

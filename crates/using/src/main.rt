@@ -14,13 +14,12 @@ use crate::changes::replace_child;
 use crate::faults::{REFUSED, fault};
 use crate::groups::{calls_nothing, group_named};
 use crate::places::pointed;
-use crate::printing::starred;
+use crate::printing::in_a_row;
 use crate::proved::{formatted, group_count};
 use crate::summary::summary;
 use crate::walks::{push_literals, repeats_without_bound};
 use anyhow::Result;
-use fancy_syntax::expr::Expr;
-use fancy_syntax::tree::ExprTree;
+use fancy_syntax::{Expr, ExprTree};
 
 fn show_summary(rt: &HostRuntime, pattern: &str) -> Result<()> {
     let (groups, text) = summary(rt.alloc(), pattern)?;
@@ -46,9 +45,9 @@ fn show_literals(rt: &HostRuntime, tree: &Expr) -> Result<()> {
     Ok(())
 }
 
-fn show_starred(rt: &HostRuntime, tree: &Expr) -> Result<()> {
-    match starred(rt.alloc(), tree)? {
-        Some(text) => println!(rt; "  with a star: {text}")?,
+fn show_twice(rt: &HostRuntime, tree: &Expr) -> Result<()> {
+    match in_a_row(rt.alloc(), tree, tree)? {
+        Some(text) => println!(rt; "  twice: {text}")?,
         None => println!(rt; "  no text")?,
     }
     Ok(())
@@ -69,7 +68,7 @@ fn show_marks(rt: &HostRuntime, tree: &ExprTree) -> Result<()> {
 fn show_tree(rt: &HostRuntime, tree: &ExprTree) -> Result<()> {
     show_literals(rt, &tree.expr)?;
     show_marks(rt, tree)?;
-    show_starred(rt, &tree.expr)
+    show_twice(rt, &tree.expr)
 }
 
 fn show_pattern(rt: &HostRuntime, pattern: &str) -> Result<()> {
@@ -81,7 +80,7 @@ fn show_pattern(rt: &HostRuntime, pattern: &str) -> Result<()> {
 fn show_change(rt: &HostRuntime) -> Result<()> {
     let mut tree = Expr::parse_tree(rt.alloc(), "a|b")?.expr;
     if replace_child(&mut tree, 1, Expr::Empty) {
-        show_starred(rt, &tree)?;
+        show_twice(rt, &tree)?;
     }
     Ok(())
 }

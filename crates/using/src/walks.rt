@@ -1,5 +1,5 @@
 //! Walks over a tree.
-use fancy_syntax::expr::Expr;
+use fancy_syntax::Expr;
 use std::alloc::AllocError;
 
 /// Adds the text of each literal, in the order of the pattern.
