@@ -1,6 +1,7 @@
 -- What the text that is printed for a tree comes to where it is read again.
-use Rattle.std.specs.Prelude.{◌≡◌, ℕ, Bool, false, nat_lt, if◌then◌else◌, [], length, None}
+use Rattle.std.specs.Prelude.{◌≡◌, ℕ, Bool, true, false, nat_lt, if◌then◌else◌, [], length, None}
 use Rattle.fancy_lex.specs.Fault.{Kind, recursion_exceeded}
+use Rattle.fancy_lex.specs.Flags.{no_flag, unicode_alone}
 use Rattle.fancy_lex.specs.Text.{Text}
 use Rattle.fancy_lex.specs.declared.flags.Flags.{Flags}
 use Rattle.fancy_grammar.specs.Ahead.{max_depth}
@@ -9,7 +10,7 @@ use Rattle.fancy_grammar.specs.Answered.{groups}
 use Rattle.fancy_grammar.specs.Marks.{Marks}
 use Rattle.fancy_grammar.specs.Tree.{Tree}
 use Rattle.fancy_grammar.specs.Nest.{nest}
-use Rattle.fancy_grammar.specs.Normal.{bare, normal}
+use Rattle.fancy_grammar.specs.Normal.{normal}
 use Rattle.fancy_grammar.specs.Over.{over}
 
 -- the marks of a tree with so many groups, none of which has a name, and with no reference
@@ -46,6 +47,7 @@ read_back u t p =
     if nat_lt (nest t p) max_depth then read (normal u t) (marks_of_groups (length (groups (normal u t))))
     else refused recursion_exceeded (over t p)
 
--- the text has that answer and no other, with no flag and with UNICODE alone
-abbrev pub IsReadBack : Tree → ℕ → Text → Type 0
-IsReadBack t p text = (u : Bool) → IsOnlyAnswer (bare u) text (read_back u t p)
+-- the text has that answer and no other, with no flag and with FLAG_UNICODE alone
+pub record IsReadBack (t : Tree) (p : ℕ) (text : Text) : Type 0 where
+  pub plain : IsOnlyAnswer no_flag text (read_back false t p)
+  pub unicode : IsOnlyAnswer unicode_alone text (read_back true t p)

@@ -1,5 +1,5 @@
 -- The flags as a set.
-use Rattle.std.specs.Prelude.{ℕ}
+use Rattle.std.specs.Prelude.{ℕ, true, false}
 use Rattle.fancy_lex.specs.Bits.{has_bit}
 use Rattle.fancy_lex.specs.declared.flags.Flags.{Flags}
 
@@ -16,3 +16,21 @@ flags_of bits = record {
   oniguruma_mode = has_bit bits 128;
   ignore_numbered_groups = has_bit bits 256;
 }
+
+-- no flag
+abbrev pub no_flag : Flags
+no_flag = record {
+  casei = false;
+  multi = false;
+  dotnl = false;
+  swap_greed = false;
+  ignore_space = false;
+  unicode = false;
+  crlf = false;
+  oniguruma_mode = false;
+  ignore_numbered_groups = false;
+}
+
+-- FLAG_UNICODE alone
+abbrev pub unicode_alone : Flags
+unicode_alone = record no_flag { unicode = true }

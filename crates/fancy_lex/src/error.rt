@@ -5,41 +5,72 @@ ghost use Rattle.fancy_lex.specs.Fault.{kind_of, kind_text, error_text, SameErro
 use std::alloc::{AllocError, AllocFailed, Global};
 use std::fmt;
 
-/// A place in the pattern, in bytes.
+/// A place in the pattern, in bytes from its start: at most one past the end. It is one past the end only where the
+/// pattern ends with a backslash in a comment that is not closed, as `(?#a\`.
 pub type ParseErrorPosition = usize;
 
+/// What a call that reads a pattern answers.
 pub type Result<T> = std::result::Result<T, Error>;
 
-/// A fault of the pattern, or that memory ran out.
+/// Why a pattern has no tree: its fault, or that memory was refused. It is printed as `out of memory`, or as
+/// `Parsing error at position 0: Invalid escape: \y`.
 #[derive(Debug, Drop)]
 pub enum Error {
+    /// The pattern's fault: its place, and what is wrong there.
     ParseError(ParseErrorPosition, ParseError),
+    /// Memory was refused. It says nothing of the pattern.
     OutOfMemory,
 }
 
-/// The kinds of faults.
+/// What is wrong with a pattern. Each kind stands here with when it is answered, an example, and the place in bytes
+/// that is answered with it. Examples are read under `FLAG_UNICODE`, where no other flag is named.
 #[derive(Debug, Drop)]
 pub enum ParseError {
+    /// One of three, told by the text: a closing parenthesis that closes nothing, as `a)` at 1; a bar after the second
+    /// branch of an absent expression, as `(?~|a|b|c)` at 7; a conditional that has a condition and no body, as
+    /// `(?(a))` at 5.
     GeneralParseError(String),
+    /// The pattern ends in a group, as `a(` at 2, or in a comment, as `(?#a` at 4.
     UnclosedOpenParen,
+    /// Never answered: braces that hold no counts are plain characters, as in `a{x}`.
     InvalidRepeat,
+    /// A group inside 63 others, at its parenthesis; with `FLAG_ONIGURUMA_MODE` also where too many quantifiers follow
+    /// one another, or stand too deep, as `a******` at 7, where the last of them ends.
     RecursionExceeded,
+    /// The pattern ends with a backslash, as `a\` at 1.
     TrailingBackslash,
+    /// No escape is written so, as `\y` at 0, or no word boundary, as `\b{x}` at 0: at the backslash. It holds what is
+    /// written, and `\b{...}` where the boundary's braces are not closed.
     InvalidEscape(String),
+    /// The name of a property has no closing brace, as `\p{Greek` at 0, the backslash.
     UnclosedUnicodeName,
+    /// A code in hexadecimal has other digits than it needs, or no closing brace, as `\x{42` at 2.
     InvalidHex,
+    /// A code in hexadecimal is that of no character, as `\x{D800}` at 2.
     InvalidCodepointValue,
+    /// The pattern ends in a class, as `[a` at 2; or a digit follows a backslash in one, as `[\1]` at 1.
     InvalidClass,
+    /// No letter of a flag, a second minus, or no letter where one has to stand, as `(?z)` at 2, which is right after
+    /// the `?`. It holds `(?` and all through the character that is wrong.
     UnknownFlag(String),
+    /// A flag group turns Unicode on or off, as `(?-u)a` at 3, its `u`.
     ChangingUnicodeModeUnsupported,
+    /// A back reference or a condition names no group, as `\k<b>` at 2, or counts back to before the whole pattern, as
+    /// `\k<-2>` at 2; or the number of a back reference or a call is above `usize::MAX`, at its first digit.
     InvalidBackref,
+    /// A quantifier stands on nothing, as `+` at 0, or on what cannot be repeated, as `(?=a)+` at 5: a look-around, `\K`,
+    /// `\G`, a verb, and with `FLAG_ONIGURUMA_MODE` an assertion. The place is that of its mark or its closing brace.
+    /// Or no verb has this name, as `(*X)` at 1, the asterisk.
     TargetNotRepeatable,
+    /// The name of a group or in a reference is empty, is not closed, or is not one that may stand there: `(?<>a)` at
+    /// 1, the `?`, and `\k<n` at 2, where the reference has its place.
     InvalidGroupName,
+    /// A back reference by a name whose last group opens after it, as `\k<n>(?<n>a)` at 2. It holds the name.
     InvalidGroupNameBackref(String),
 }
 
 impl ParseError {
-    /// What the kind says: its words, and the text that it carries behind them, or none.
+    /// What the kind says: its words, and after them the text that it carries, or none.
     fn words(&self) -> (&'static str, &str)
         ensures { kind_text (kind_of self.now) ≡ result.0.now ++ result.1.now }
     {
@@ -100,7 +131,7 @@ impl fmt::Display for Error {
 impl std::error::Error for Error {}
 
 impl ParseError {
-    /// An equal kind, in memory of its own. One that carries no text takes none.
+    /// An equal kind, in memory of its own. `AllocError` where that is refused; one that carries no text takes none.
     pub fn clone(&self, alloc: Global) -> std::result::Result<ParseError, AllocError>
         ensures equal { IfOk result (λ e. kind_of e ≡ kind_of self.now) }
         ensures without_memory { carries_text (kind_of self.now) ≡ false → IsOk result }
@@ -137,7 +168,7 @@ impl ParseError {
 }
 
 impl Error {
-    /// An equal error, in memory of its own. One that carries no text takes none.
+    /// An equal error, in memory of its own. `AllocError` where that is refused; one that carries no text takes none.
     pub fn clone(&self, alloc: Global) -> std::result::Result<Error, AllocError>
         ensures equal { IfOk result (λ e. SameError e self.now) }
         ensures without_memory { error_carries_text self.now ≡ false → IsOk result }

@@ -1,12 +1,13 @@
 //! Escapes: what stands behind a backslash.
-ghost use Rattle.std.specs.Prelude.{◌≡◌, ◌+◌, ◌^◌, ◌<◌, ◌≤◌, [], ◌∷◌, if◌then◌else◌, false, length, chars, IfOk};
+ghost use Rattle.std.specs.Prelude.{◌≡◌, ◌+◌, ◌^◌, ◌<◌, ◌≤◌, [], ◌∷◌, if◌then◌else◌, false, length, chars, IfErr, IfOk};
 ghost use Rattle.fancy_lex.specs.Characters.{backslash};
 ghost use Rattle.fancy_lex.specs.Escape as spec;
 ghost use Rattle.fancy_lex.specs.EscapeReference as references;
 ghost use Rattle.fancy_lex.specs.Escaped as leaf;
 ghost use Rattle.fancy_lex.specs.Escaped.{escape_of, delegate_text};
-ghost use Rattle.fancy_lex.specs.Reading.{Reads, Gives, Fails};
-ghost use Rattle.fancy_lex.specs.Text.{text_of};
+ghost use Rattle.fancy_lex.specs.Reading.{Reads, Answers, Reports};
+ghost use Rattle.fancy_lex.specs.Text.{EndsWith, text_of};
+ghost use Rattle.fancy_lex.specs.Fault.{StandsWithin};
 
 use crate::error::{Error, ParseError};
 use crate::escape::boundary::boundary;
@@ -22,20 +23,34 @@ pub mod boundary;
 pub mod hex;
 pub mod reference;
 
-/// A condition on the place in the text, which takes no character.
+/// A condition on the place in the text, which takes no character. A `crlf` says whether CR LF counts as one line
+/// break, by `FLAG_CRLF`.
 #[derive(Clone, Copy, PartialEq, Eq, Debug, Drop)]
 pub enum Assertion {
+    /// The start of the text: `\A`, and `^` without `FLAG_MULTI`.
     StartText,
+    /// The end of the text: `\z`, and `$` without `FLAG_MULTI`.
     EndText,
+    /// The end of the text, or where nothing but line breaks is left of it: `\Z`.
     EndTextIgnoreTrailingNewlines { crlf: bool },
+    /// The start of a line: `^` with `FLAG_MULTI`, as in `(?m)^`.
     StartLine { crlf: bool },
+    /// The start of a line, but for an empty one at the end of the text: `^` with `FLAG_MULTI` and
+    /// `FLAG_ONIGURUMA_MODE`.
     StartLineOniguruma { crlf: bool },
+    /// The end of a line: `$` with `FLAG_MULTI`, as in `(?m)$`.
     EndLine { crlf: bool },
+    /// The start of a word: `\b{start}`, and `\<` without `FLAG_ONIGURUMA_MODE`.
     LeftWordBoundary,
+    /// No character of a word stands before the place: `\b{start-half}`.
     LeftWordHalfBoundary,
+    /// The end of a word: `\b{end}`, and `\>` without `FLAG_ONIGURUMA_MODE`.
     RightWordBoundary,
+    /// No character of a word stands after the place: `\b{end-half}`.
     RightWordHalfBoundary,
+    /// The start or the end of a word: `\b`.
     WordBoundary,
+    /// Neither the start nor the end of a word: `\B`.
     NotWordBoundary,
 }
 
@@ -99,7 +114,7 @@ fn letter_name(alloc: Global, c: char) -> Result<String, AllocError>
 
 /// The fault of a letter that is no escape.
 fn unknown_escape(alloc: Global, c: char, place: usize) -> Error
-    ensures { Fails result (spec.unknown_escape place c) }
+    ensures { Reports result (spec.unknown_escape place c) }
 {
     match letter_name(alloc, c) {
         Ok(name) => Error::ParseError(place, ParseError::InvalidEscape(name)),
@@ -176,7 +191,7 @@ fn call<'a>(
     end: usize,
 ) -> Result<(Escaped<'a>, &'a str), Error>
     requires { length text.now ≤ end }
-    ensures value { Gives escape_of result (spec.call end place letter (chars text.now)) }
+    ensures value { Answers escape_of result (spec.call end place letter (chars text.now)) }
     ensures within { IfOk result (λ p. length p.1.now ≤ length text.now) }
 {
     if next(text).is_none() {
@@ -196,7 +211,7 @@ fn property<'a>(
     inside: bool,
     place: usize,
 ) -> Result<(Escaped<'a>, &'a str), Error>
-    ensures value { Gives escape_of result (spec.property flags inside place letter (chars text.now)) }
+    ensures value { Answers escape_of result (spec.property flags inside place letter (chars text.now)) }
     ensures within { IfOk result (λ p. length p.1.now ≤ length text.now) }
 {
     if next(text).is_none() {
@@ -222,7 +237,7 @@ fn in_class<'a>(
     rest: &'a str,
     place: usize,
 ) -> Result<(Escaped<'a>, &'a str), Error>
-    ensures value { Gives escape_of result (spec.in_class place c (chars rest.now)) }
+    ensures value { Answers escape_of result (spec.in_class place c (chars rest.now)) }
     ensures within { IfOk result (λ p. length p.1.now ≤ length rest.now) }
 {
     match c {
@@ -255,7 +270,7 @@ fn outside<'a>(
 ) -> Result<(Escaped<'a>, &'a str), Error>
     requires bounded { end < 2 ^ 63 }
     requires within { length rest.now ≤ end }
-    ensures value { Gives escape_of result (spec.outside end flags place c (chars rest.now)) }
+    ensures value { Answers escape_of result (spec.outside end flags place c (chars rest.now)) }
     ensures within { IfOk result (λ p. length p.1.now ≤ length rest.now) }
 {
     let crlf = flags.crlf;
@@ -286,15 +301,8 @@ fn outside<'a>(
     Ok((leaf, rest))
 }
 
-/// Reads what stands behind the backslash at `place` in a pattern of `end` bytes, in a class where `inside` says so.
-///
-/// The faults, at the backslash where no other place is named: TrailingBackslash at the end of the text; InvalidEscape
-/// for a letter that is no escape, for a `g` at the end of the text, and for a boundary's braces that are not closed or
-/// hold no name; UnclosedUnicodeName for a property's; InvalidClass for digits in a class; InvalidBackref at the first
-/// of digits whose number no word holds; those of `hex` behind `x`, `u` and `U`; those of `back_reference` behind `k`,
-/// and of `subroutine_call` behind `g`, outside a class; UnclosedOpenParen where a comment in layout is open.
 #[tactic(auto, unfolding(crate::specs::Escape::escape))]
-pub fn escape<'a>(
+fn read_escape<'a>(
     alloc: Global,
     text: &'a str,
     flags: Flags,
@@ -304,7 +312,7 @@ pub fn escape<'a>(
 ) -> Result<(Escaped<'a>, &'a str), Error>
     requires bounded { end < 2 ^ 63 }
     requires within { length text.now ≤ end }
-    ensures value { Gives escape_of result (spec.escape end flags inside place (chars text.now)) }
+    ensures value { Answers escape_of result (spec.escape end flags inside place (chars text.now)) }
     ensures shorter { IfOk result (λ p. length p.1.now < length text.now) }
 {
     let Some((c, rest)) = next(text) else {
@@ -342,4 +350,30 @@ pub fn escape<'a>(
             }
         }
     }
+}
+
+/// Reads what stands behind the backslash at `place` in a pattern of `end` bytes, in a class where `inside` says so.
+///
+/// The faults, at the backslash where no other place is named: TrailingBackslash at the end of the text; InvalidEscape
+/// for a letter that is no escape, for a `g` at the end of the text, and for a boundary's braces that are not closed or
+/// hold no name; UnclosedUnicodeName for a property's; InvalidClass for digits in a class; InvalidBackref at the first
+/// of digits whose number no word holds; those of `hex` behind `x`, `u` and `U`; those of `back_reference` behind `k`,
+/// and of `subroutine_call` behind `g`, outside a class; UnclosedOpenParen where a comment in layout is open.
+#[inline]
+pub fn escape<'a>(
+    alloc: Global,
+    text: &'a str,
+    flags: Flags,
+    inside: bool,
+    place: usize,
+    end: usize,
+) -> Result<(Escaped<'a>, &'a str), Error>
+    requires bounded { end < 2 ^ 63 }
+    requires within { length text.now ≤ end }
+    ensures value { Answers escape_of result (spec.escape end flags inside place (chars text.now)) }
+    ensures cut { IfOk result (λ p. EndsWith (chars text.now) (chars p.1.now)) }
+    ensures place { place ≤ end + 1 → IfErr result (λ e. StandsWithin (end + 1) e) }
+    ensures shorter { IfOk result (λ p. length p.1.now < length text.now) }
+{
+    read_escape(alloc, text, flags, inside, place, end)
 }

@@ -9,19 +9,20 @@ ghost use Rattle.fancy_lex.specs.Text.{text_of};
 use crate::text::next;
 use std::alloc::{AllocError, Global};
 
-/// The group that a reference means, before its number is known.
+/// The group that a reference names, before its number is known.
 #[derive(Debug, Drop)]
 pub enum CaptureGroupTarget {
-    /// The group of this number.
+    /// The group of this number, as in `\1`; 0 is the whole pattern.
     ByNumber(usize),
-    /// The last group of this name.
+    /// The group of this name, as in `\k<n>`: of several the last one, but for a call, which means none of several.
     ByName(String),
-    /// So many groups before or behind the reference.
+    /// A group counted from the reference: -1 is the last that opens before it, as in `\k<-1>`, and 1 the first that
+    /// opens after it. It is never 0 in a pattern.
     Relative(isize),
 }
 
 impl CaptureGroupTarget {
-    /// An equal target, in memory of its own. One that is no name takes none.
+    /// An equal target, in memory of its own. `AllocError` where that is refused; one that is no name takes none.
     pub fn clone(&self, alloc: Global) -> Result<Self, AllocError>
         ensures equal { IfOk result (λ target. view_target target ≡ view_target self.now) }
         ensures without_memory { is_name (view_target self.now) ≡ false → IsOk result }
@@ -120,7 +121,7 @@ fn read_number(text: &str) -> Option<(Option<usize>, &str)>
     Some((value, left))
 }
 
-/// Reads the digits at the front: their value, where a word holds it, and the text behind them.
+/// Reads the digits at the front: their value, where a word holds it, and the text after them.
 #[inline]
 pub fn number(text: &str) -> Option<(Option<usize>, &str)>
     ensures value { spec.GivesNumber (chars text.now) result }

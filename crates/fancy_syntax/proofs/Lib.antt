@@ -1,3 +1,4 @@
+pub mod ApartLemmas
 pub mod ChildrenLemmas
 pub mod Descents
 mod EmptyLemmas

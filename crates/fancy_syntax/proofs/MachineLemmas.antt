@@ -17,7 +17,7 @@ use Rattle.fancy_grammar.specs.Grammar as grammar
 use Rattle.fancy_grammar.specs.Join.{solid, one_or, choice}
 use Rattle.fancy_syntax.specs.Machine.{parens, Open, top, group, condition, body, first, second, open_of, holds_one, is_second, opened_by_bar, branches_at_bar, IsFaultOfBar, Part, Opens, a_group, a_condition, a_body, behind_condition, a_branch, behind_branch, lacks_body, node_of_part, goes_on, ended_part, Began, StepsOn, GivesPiece, Reading, Levels, outermost, inner}
 use Rattle.fancy_grammar.specs.Grammar.{before}
-use Rattle.fancy_grammar.specs.Head.{Head, node_of}
+use Rattle.fancy_grammar.specs.Head.{node_of}
 use Rattle.fancy_grammar.specs.Quantified.{quants}
 use Rattle.fancy_grammar.specs.Fails.{Fails}
 use Rattle.fancy_syntax.specs.Row.{trees}
@@ -78,9 +78,8 @@ pub ended_without_body : (n : ℕ) (p : Open) (r : Tree) (s : State) → lacks_b
     ended_part n p r s ≡ faulted (body_wanting n s.rest)
 ended_without_body n p r s e = rw e refl
 
-pub ended_unclosed : (n : ℕ) (p : Open) (r : Tree) (s : State) {k : Kind} {q : ℕ} → lacks_body p s ≡ false → closed n (node_of_part p r) s ≡ fault k q →
-    ended_part n p r s ≡ fault k q
-ended_unclosed n p r s e h = rw (e, h) refl
+pub ended_closed : (n : ℕ) (p : Open) (r : Tree) (s : State) → lacks_body p s ≡ false → ended_part n p r s ≡ closed n (node_of_part p r) s
+ended_closed n p r s e = rw e refl
 
 -- a part may be followed by a bar only where it is the second branch of an absent expression, and then by a fault
 abbrev MayEnd : Open → State → Type 0

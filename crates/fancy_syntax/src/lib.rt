@@ -1,4 +1,16 @@
 //! Patterns as trees: what a text reads as, and the text that a tree is printed as.
+//!
+//! ```rust
+//! use fancy_syntax::{Error, Expr, FLAG_CASEI, FLAG_UNICODE};
+//!
+//! match Expr::parse_tree_with_flags(alloc, pattern, FLAG_CASEI | FLAG_UNICODE) {
+//!     Ok(tree) => println!(rt; "{} groups", tree.total_groups)?,
+//!     Err(Error::ParseError(place, kind)) => println!(rt; "at byte {place}: {kind}")?,
+//!     Err(Error::OutOfMemory) => println!(rt; "no memory to read it")?,
+//! }
+//! ```
+//!
+//! Each name that callers use stands here, beside its module.
 #![tactic(auto)]
 
 pub mod expr;
@@ -7,4 +19,14 @@ pub mod print;
 mod resolve;
 pub mod tree;
 
+pub use expr::{
+    Absent, Assertion, AstNode, BacktrackingControlVerb, CaptureGroupTarget, Expr,
+    ExprChildrenIter, LookAround,
+};
+pub use fancy_lex::error::{Error, ParseError, ParseErrorPosition, Result};
+pub use fancy_lex::flags::{
+    FLAG_CASEI, FLAG_CRLF, FLAG_DOTNL, FLAG_IGNORE_NUMBERED_GROUPS_WHEN_NAMED_GROUPS_EXIST,
+    FLAG_IGNORE_SPACE, FLAG_MULTI, FLAG_ONIGURUMA_MODE, FLAG_SWAP_GREED, FLAG_UNICODE,
+};
 pub use fancy_lex::{error, flags};
+pub use tree::ExprTree;

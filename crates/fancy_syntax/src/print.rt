@@ -29,13 +29,16 @@ impl Expr {
     /// Whether the tree is printable: whether each node outside the inside of a DefineGroup has a text, that of each
     /// Delegate is one whole class or class escape, and under each Repeat stands no tree that reads as nothing.
     /// `AllocError` where memory was refused, which is asked for where a Delegate's text is read. The normal form of a
-    /// printable tree is printable too, and it is its own normal form where the tree holds no Delegate.
+    /// printable tree is printable too, and it is its own normal form, with Unicode or without, where the tree holds no
+    /// Delegate. The tree of `(?:a|b)c` is printable, and
+    /// that of `(?=a)` is not.
     pub fn is_printable(&self, alloc: Global) -> Result<bool, AllocError>
         ensures exact { IfOk result (λ b. b ≡ printable (view self.now)) }
         ensures text { IfOk result (λ b. b ≡ true → has_text (view self.now) ≡ true) }
         ensures normal { IfOk result (λ b. b ≡ true → (u : Bool) → printable (normal u (view self.now)) ≡ true) }
-        ensures fixed { IfOk result (λ b. b ≡ true → has_delegate (view self.now) ≡ false → (u : Bool) →
-            normal u (normal u (view self.now)) ≡ normal u (view self.now)) }
+        ensures fixed { IfOk result (λ b. b ≡ true → has_delegate (view self.now) ≡ false → (u v : Bool) →
+            normal v (normal u (view self.now)) ≡ normal u (view self.now)) }
+        ensures without_memory { has_delegate (view self.now) ≡ false → IsOk result }
     {
         is_printable(alloc, self)
     }
@@ -48,11 +51,18 @@ impl Expr {
     /// alone; where 64 printed groups nest or more, it is refused as `RecursionExceeded`, at the byte of the first
     /// opening parenthesis that has 63 groups open round it. So trees that are printed as one text have one normal
     /// form.
+    ///
+    /// ```rust
+    /// if tree.is_printable(alloc)? {
+    ///     tree.to_str(&mut text, 0)?;
+    /// }
+    /// ```
     pub fn to_str(&self, buf: &mut String, precedence: u8) -> Result<(), AllocError>
         requires text { has_text (view self.now) ≡ true }
         ensures appended { OnOk result (string_bytes buf.new ≡
             string_bytes buf.old ++ encode_utf8_all (printed (view self.now) precedence)) }
         ensures unchanged { OnErr result (string_bytes buf.new ≡ string_bytes buf.old) }
+        ensures capacity { OnErr result (string_capacity buf.new ≡ string_capacity buf.old) }
         ensures reads_back { OnOk result (printable (view self.now) ≡ true → (w : List ℕ) × (string_bytes buf.new ≡
             string_bytes buf.old ++ w) × IsReadBack (view self.now) precedence (chars w)) }
         ensures same_text { printable (view self.now) ≡ true → nest (view self.now) precedence < max_depth →
@@ -69,7 +79,16 @@ impl Expr {
     }
 
     /// The text that `to_str` appends for the tree at the precedence, or none where the tree is not printable, as
-    /// `is_printable` says. `AllocError` where memory was refused, and no other error.
+    /// `is_printable` says. `AllocError` where memory was refused, and no other error. With precedence 0 the text is a
+    /// pattern of its own; the higher ones are for a text that goes into another.
+    ///
+    /// ```rust
+    /// let tree = Expr::parse_tree(alloc, "(?:a|b)c")?;
+    /// match tree.expr.print(alloc, 0)? {
+    ///     Some(text) => println!(rt; "{text}")?,
+    ///     None => println!(rt; "it has no text that is read back")?,
+    /// }
+    /// ```
     pub fn print(&self, alloc: Global, precedence: u8) -> Result<Option<String>, AllocError>
         ensures exact { IfOk result (λ t. is_some t ≡ printable (view self.now)) }
         ensures text { IfOk result (λ t. IfSome t (λ s.

@@ -1,6 +1,6 @@
 //! Patterns read whole.
 ghost use Rattle.std.specs.Prelude.{◌≡◌, chars, filter, find, length, nat_le, nat_lt, IfOk, IfErr};
-ghost use Rattle.fancy_lex.specs.Flags.{flags_of};
+ghost use Rattle.fancy_lex.specs.Flags.{flags_of, unicode_alone};
 ghost use Rattle.fancy_grammar.specs.Answer.{IsTreeOf, IsFaultOf, IsOnlyFault, IsWithin};
 ghost use Rattle.fancy_syntax.specs.Answer.{marks_of};
 ghost use Rattle.fancy_grammar.specs.Answered.{groups, groups_referred, has_call, AreNamed, IsAnswered, IsSmall};
@@ -16,24 +16,26 @@ use fancy_lex::flags::{FLAG_UNICODE, Flags};
 use std::alloc::{AllocError, Global};
 use std::collections::{BTreeMap, BTreeSet};
 
-/// A pattern's tree, and what is said of the pattern beside it.
+/// A pattern's tree, and what is said of the pattern beside it. Of `(?<a>x)(?<b>y)(?<a>z)` the names are `a` with the
+/// numbers 1 and 3, and `b` with 2, and the total is 3.
 #[derive(Debug, Drop)]
 pub struct ExprTree {
     /// The tree, in which each capturing group is a `Group`: the k-th in text order has the number k.
     pub expr: Expr,
-    /// The numbers of back references, up to `total_groups`; 0 too.
+    /// The numbers that back references have, as 1 of `(a)\1`, up to `total_groups`; 0 too, as of `\k<-1>`. Conditions
+    /// and calls are not among them.
     pub backrefs: BTreeSet<usize>,
     /// For each name the numbers of its groups, ascending.
     pub named_groups: BTreeMap<String, Vec<usize>>,
-    /// Some back reference was written as a backslash and digits, or some call by a number.
+    /// Some back reference was written as a backslash and digits, as `\1`, or some call by a number, as `\g<1>`.
     pub numeric_capture_group_references: bool,
-    /// Some group is called.
+    /// Some call stands in the pattern, as `\g<n>`, also one that means no group.
     pub contains_subroutines: bool,
-    /// Some call is by the number 0: of the whole pattern.
+    /// Some call is by the number 0, as `\g<0>`: of the whole pattern.
     pub self_recursive: bool,
     /// How many groups have a number.
     pub total_groups: usize,
-    /// The number of the first back reference to a group that is not there.
+    /// The number of the first back reference that is above `total_groups`, as 12 of `\12`: that is no fault.
     pub out_of_range_backref: Option<usize>,
     /// The groups without a name have no number: the flag says so, and some group has a name.
     pub numbered_groups_ignored: bool,
@@ -67,13 +69,20 @@ impl ExprTree {
         }
     }
 
-    /// An equal tree with equal marks, in memory of its own.
+    /// An equal tree with equal marks, in memory of its own. `AllocError` where that is refused.
     pub fn clone(&self, alloc: Global) -> std::result::Result<Self, AllocError>
         ensures tree { IfOk result (λ t. view t.expr ≡ view self.now.expr) }
         ensures marks { IfOk result (λ t. marks_of t ≡ marks_of self.now) }
     {
-        Ok(ExprTree {
-            expr: self.expr.clone(alloc)?,
+        let marks = self.clone_marks()?;
+        Ok(ExprTree::new(self.expr.clone(alloc)?, marks))
+    }
+
+    /// The marks of the tree, in memory of their own.
+    fn clone_marks(&self) -> std::result::Result<Marks, AllocError>
+        ensures { IfOk result (λ m. view_marks m ≡ marks_of self.now) }
+    {
+        Ok(Marks {
             backrefs: self.backrefs.clone()?,
             named_groups: self.named_groups.clone()?,
             numeric_capture_group_references: self.numeric_capture_group_references,
@@ -87,9 +96,15 @@ impl ExprTree {
 }
 
 impl Expr {
-    /// Reads the pattern under the flags whose bits are set. The answer is its tree, or its only fault, at a
-    /// place in bytes that is at most one past the end, or `OutOfMemory` where memory was refused.
+    /// Reads the pattern under the flags whose bits are set; other bits say nothing. The answer is its tree, or
+    /// `ParseError` with its only fault and the place of that, in bytes and at most one past the end, or `OutOfMemory`
+    /// where memory was refused. That a reference names no group is told only where all of the pattern could be read.
     /// The tree of a pattern of n bytes has at most 2 n + 1 nodes, and at most 832 levels.
+    ///
+    /// ```rust
+    /// let tree = Expr::parse_tree_with_flags(alloc, "(a|b)c*", FLAG_CASEI | FLAG_UNICODE)?;
+    /// let groups = tree.total_groups; // 1
+    /// ```
     pub fn parse_tree_with_flags(alloc: Global, re: &str, flags: u32) -> Result<ExprTree>
         ensures found { IfOk result (λ t. IsTreeOf (flags_of flags) (chars re.now) (view t.expr) (marks_of t)) }
         ensures only { IfOk result (λ t. (e : _) (m : _) → IsTreeOf (flags_of flags) (chars re.now) e m → (e ≡
@@ -113,12 +128,17 @@ impl Expr {
         Ok(ExprTree::new(expr, marks))
     }
 
-    /// Reads the pattern under `FLAG_UNICODE` alone, as `parse_tree_with_flags` does.
+    /// Reads the pattern under `FLAG_UNICODE` alone, as `parse_tree_with_flags` does, and with the same errors.
+    ///
+    /// ```rust
+    /// let tree = Expr::parse_tree(alloc, "(?<year>\\d{4})-\\k<year>")?;
+    /// let has_year = tree.named_groups.contains_key("year"); // true
+    /// ```
     pub fn parse_tree(alloc: Global, re: &str) -> Result<ExprTree>
-        ensures found { IfOk result (λ t. IsTreeOf (flags_of FLAG_UNICODE) (chars re.now) (view t.expr) (marks_of t)) }
-        ensures only { IfOk result (λ t. (e : _) (m : _) → IsTreeOf (flags_of FLAG_UNICODE) (chars re.now) e m →
+        ensures found { IfOk result (λ t. IsTreeOf unicode_alone (chars re.now) (view t.expr) (marks_of t)) }
+        ensures only { IfOk result (λ t. (e : _) (m : _) → IsTreeOf unicode_alone (chars re.now) e m →
             (e ≡ view t.expr) × (m ≡ marks_of t)) }
-        ensures exact { IfOk result (λ t. (k : _) (p : _) → IsFaultOf (flags_of FLAG_UNICODE) (chars re.now) k p → ⊥) }
+        ensures exact { IfOk result (λ t. (k : _) (p : _) → IsFaultOf unicode_alone (chars re.now) k p → ⊥) }
         ensures bounds { IfOk result (λ t. IsSmall (view t.expr) (length re.now)) }
         ensures nodes { IfOk result (λ t. IsAnswered (view t.expr)) }
         ensures groups { IfOk result (λ t. length (groups (view t.expr)) ≡ t.total_groups) }
@@ -128,7 +148,7 @@ impl Expr {
             ascending (filter (λ n. nat_le n t.total_groups) (groups_referred (view t.expr)))) }
         ensures out_of_range { IfOk result (λ t. t.out_of_range_backref ≡
             find (λ n. nat_lt t.total_groups n) (groups_referred (view t.expr))) }
-        ensures fault { IfErr result (λ e. IsOnlyFault e (flags_of FLAG_UNICODE) (chars re.now)) }
+        ensures fault { IfErr result (λ e. IsOnlyFault e unicode_alone (chars re.now)) }
         ensures place { IfErr result (λ e. IsWithin e (length re.now)) }
     {
         Expr::parse_tree_with_flags(alloc, re, FLAG_UNICODE)

@@ -1,8 +1,7 @@
 //! How far a pattern is taken.
 use crate::sample::Sample;
 use anyhow::{Context, Result, bail};
-use fancy_syntax::error::Error;
-use fancy_syntax::expr::Expr;
+use fancy_syntax::{Error, Expr};
 use fre_program::flag_word::flags_named;
 use std::alloc::Global;
 

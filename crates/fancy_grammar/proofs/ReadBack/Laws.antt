@@ -93,13 +93,16 @@ only_refused f text p a = record { is = of_reading a; only = λ b h. other b h }
     other (refused k q) h =
         let (e, d) = (only_reading (ParseError p RecursionExceeded) f text a).1 k q h in ap₂ refused e d
 
-pub read_back_only : (t : Tree) (p : ℕ) → printable t ≡ true → IsReadBack t p (printed t p)
-read_back_only t p h u =
+only_answer : (t : Tree) (p : ℕ) (u : Bool) → printable t ≡ true → IsOnlyAnswer (bare u) (printed t p) (read_back u t p)
+only_answer t p u h =
     cond_both (nat_lt (nest t p) max_depth) _ _ (IsOnlyAnswer (bare u) (printed t p))
     (λ yes. let (r, d, b) = reads_back t p u (told t h) (ltb-true (nest t p) max_depth yes) in
     only_read (bare u) (printed t p) (normal u t) _ (tree_of u (printed t p) r (normal u t) d b))
     (λ no. only_refused (bare u) (printed t p) (over t p)
     (too_deep t p u (told t h) (ltb-false (nest t p) max_depth no)))
+
+pub read_back_only : (t : Tree) (p : ℕ) → printable t ≡ true → IsReadBack t p (printed t p)
+read_back_only t p h = record { plain = only_answer t p false h; unicode = only_answer t p true h }
 
 -- the same of the bytes
 pub bytes_read_back : (t : Tree) (p : ℕ) → printable t ≡ true → IsReadBack t p (chars (encode_utf8_all (printed t p)))
@@ -125,8 +128,8 @@ read_where t p u l = cond-true _ _ _ (lt-ltb (nest t p) max_depth l)
 pub same_texts : (t s : Tree) (p q : ℕ) (u : Bool) → printable t ≡ true → printable s ≡ true → nest t p < 64 →
     printed t p ≡ printed s q → normal u t ≡ normal u s
 same_texts t s p q u h k l e =
-    let here = read_back_only t p h u in
-    let there = read_back_only s q k u in
+    let here = only_answer t p u h in
+    let there = only_answer s q u k in
     let same : read_back u s q ≡ read_back u t p =
     here.only (read_back u s q) (subst (λ w. IsAnswerOf (bare u) w (read_back u s q)) (sym e) there.is) in
     from_read (nat_lt (nest s q) max_depth) (normal u s) (normal u t) _ _ recursion_exceeded (over s q)

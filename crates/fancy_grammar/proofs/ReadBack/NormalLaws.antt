@@ -99,33 +99,33 @@ any_fixed u true b = record { same = refl; single = refl }
 any_fixed u false b = record { same = refl; single = refl }
 
 mutual
-  fixed : (u : Bool) (t : Tree) → has_delegate t ≡ false → Fixed u (normal u t)
-  fixed u (any a b) h = any_fixed u a b
-  fixed u (assertion (StartLineOniguruma crlf)) h = record { same = refl; single = refl }
-  fixed u (literal s i) h = join_fixed u (map (character i) s) (characters_fixed u i s)
-  fixed u (delegate s i) h = absurd (true≢false h)
-  fixed u (concat ts) h = join_fixed u (items u ts) (all_items u ts h)
-  fixed u (alt ts) h = choice_fixed u (normals u ts) (all_normals u ts h)
-  fixed u (group t) h = let r = fixed u t h in record { same = ap group r.same; single = refl }
-  fixed u (repeat t lo hi greedy) h =
-      let r = fixed u t h in record { same = ap (λ x. repeat x lo hi greedy) r.same; single = refl }
-  fixed u (define_group t) h = empty_fixed u
-  fixed u _ h = record { same = refl; single = refl }
+  fixed : (v u : Bool) (t : Tree) → has_delegate t ≡ false → Fixed v (normal u t)
+  fixed v u (any a b) h = any_fixed v a b
+  fixed v u (assertion (StartLineOniguruma crlf)) h = record { same = refl; single = refl }
+  fixed v u (literal s i) h = join_fixed v (map (character i) s) (characters_fixed v i s)
+  fixed v u (delegate s i) h = absurd (true≢false h)
+  fixed v u (concat ts) h = join_fixed v (items u ts) (all_items v u ts h)
+  fixed v u (alt ts) h = choice_fixed v (normals u ts) (all_normals v u ts h)
+  fixed v u (group t) h = let r = fixed v u t h in record { same = ap group r.same; single = refl }
+  fixed v u (repeat t lo hi greedy) h =
+      let r = fixed v u t h in record { same = ap (λ x. repeat x lo hi greedy) r.same; single = refl }
+  fixed v u (define_group t) h = empty_fixed v
+  fixed v u _ h = record { same = refl; single = refl }
 
-  all_items : (u : Bool) (ts : Trees) → any_has_delegate ts ≡ false → AllFixed u (items u ts)
-  all_items u no_trees h = tt
-  all_items u (more_trees t ts) h =
+  all_items : (v u : Bool) (ts : Trees) → any_has_delegate ts ≡ false → AllFixed v (items u ts)
+  all_items v u no_trees h = tt
+  all_items v u (more_trees t ts) h =
       let (a, b) = or_parts (has_delegate t) (any_has_delegate ts) h in
-      append_fixed u (items_of t (normal u t)) (items u ts) (parts_fixed u t (normal u t) (fixed u t a))
-      (all_items u ts b)
+      append_fixed v (items_of t (normal u t)) (items u ts) (parts_fixed v t (normal u t) (fixed v u t a))
+      (all_items v u ts b)
 
-  all_normals : (u : Bool) (ts : Trees) → any_has_delegate ts ≡ false → AllFixed u (normals u ts)
-  all_normals u no_trees h = tt
-  all_normals u (more_trees t ts) h =
-      let (a, b) = or_parts (has_delegate t) (any_has_delegate ts) h in (fixed u t a, all_normals u ts b)
+  all_normals : (v u : Bool) (ts : Trees) → any_has_delegate ts ≡ false → AllFixed v (normals u ts)
+  all_normals v u no_trees h = tt
+  all_normals v u (more_trees t ts) h =
+      let (a, b) = or_parts (has_delegate t) (any_has_delegate ts) h in (fixed v u t a, all_normals v u ts b)
 
-pub normal_normal : (t : Tree) (u : Bool) → has_delegate t ≡ false → normal u (normal u t) ≡ normal u t
-normal_normal t u h = (fixed u t h).same
+pub normal_normal : (t : Tree) (v u : Bool) → has_delegate t ≡ false → normal v (normal u t) ≡ normal u t
+normal_normal t v u h = (fixed v u t h).same
 
 -- ---- a normal form is printable
 
@@ -259,6 +259,6 @@ normal_if (Ok b) t is = λ h u. normal_printable t u (sym is ∙ h)
 normal_if (Err e) t is = tt
 
 pub fixed_if : (r : Result Bool AllocError) (t : Tree) →
-    IfOk r (λ b. b ≡ true → has_delegate t ≡ false → (u : Bool) → normal u (normal u t) ≡ normal u t)
-fixed_if (Ok b) t = λ _ none u. normal_normal t u none
+    IfOk r (λ b. b ≡ true → has_delegate t ≡ false → (u v : Bool) → normal v (normal u t) ≡ normal u t)
+fixed_if (Ok b) t = λ _ none u v. normal_normal t v u none
 fixed_if (Err e) t = tt

@@ -86,8 +86,14 @@ impl Absent {
 }
 
 impl Expr {
-    /// The child i, counted from 0 in the order of the text, if there is one. What is written there is that child
-    /// afterwards, and all else stays as it was.
+    /// The child i, counted from 0 in the order of the text, or none past the last. What is written there is that child
+    /// afterwards, and all else stays as it was. It takes no memory.
+    ///
+    /// ```rust
+    /// if let Some(child) = tree.child_mut(0) {
+    ///     *child = Expr::Empty;
+    /// }
+    /// ```
     pub fn child_mut(&mut self, i: usize) -> Option<&mut Expr>
         ensures* writes_back { sem 𝓛 (LendsChild self.entry i result) }
         ensures value { option_map (λ child. view child.now) result ≡ slice_get (children (view self.old)) i }

@@ -10,7 +10,8 @@ use super::{Absent, Expr};
 use std::slice;
 
 impl Expr {
-    /// Whether a node of this variant has no children, whatever it holds.
+    /// Whether a node of this variant has no children, whatever it holds. A `Concat` without children is no leaf, and
+    /// each `AstNode` is one.
     #[tactic(auto, using(crate::proofs::ChildrenLemmas::leaf_children))]
     pub fn is_leaf_node(&self) -> bool
         ensures value { result ≡ is_leaf (view self.now) }
@@ -30,7 +31,15 @@ impl Expr {
         }
     }
 
-    /// The immediate children, in the order of the text. What an `AstNode` holds is no child.
+    /// The immediate children, in the order of the text: of a `Conditional` the condition and the two branches, of an
+    /// absent expression what must not stand and what has to. What an `AstNode` holds is no child. It takes no memory.
+    ///
+    /// ```rust
+    /// let mut children = tree.children_iter();
+    /// while let Some(child) = children.next() {
+    ///     visit(child);
+    /// }
+    /// ```
     #[tactic(auto, using(crate::proofs::ChildrenLemmas::children_Concat, crate::proofs::ChildrenLemmas::children_Alt))]
     pub fn children_iter(&self) -> ExprChildrenIter<'_>
         ensures trees { views (left result) ≡ children (view self.now) }

@@ -7,7 +7,12 @@ use super::Expr;
 
 impl Expr {
     /// Whether the predicate is true of a proper descendant: of a child, or of a descendant of one. It must be callable
-    /// on each of these. It is not asked about the node itself, and about the others in no fixed order.
+    /// on each of these. It is not asked about the node itself, and about the others in no fixed order. It takes no
+    /// memory.
+    ///
+    /// ```rust
+    /// let looks_around = tree.has_descendant(|node| matches!(node, Expr::LookAround(..)));
+    /// ```
     pub fn has_descendant<F: Fn(&Expr) -> bool + Drop>(&self, predicate: F) -> bool
         requires { (d : _) → IsDescendant d.now self.now → F.pre predicate d }
         ensures found { result ≡ true → (d : Expr) × IsDescendant d self.now × FnReturnsAt F.Fn predicate d true }

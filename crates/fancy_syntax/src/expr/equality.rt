@@ -70,7 +70,7 @@ fn is_same_node(node: &AstNode, other: &AstNode) -> bool
             AstNode::AstGroup {
                 name: other_name,
                 inner: other_inner,
-            } => is_same_name(name, other_name) && is_same(inner, other_inner),
+            } => is_same_name(name, other_name) && is_same_child(inner, other_inner),
             AstNode::Backref { .. }
             | AstNode::SubroutineCall(_)
             | AstNode::BackrefExistsCondition { .. } => false,
@@ -84,15 +84,15 @@ fn is_same_node(node: &AstNode, other: &AstNode) -> bool
                 target: other_target,
                 casei: other_casei,
                 relative_recursion_level: other_level,
-            } => target == other_target
-                && casei == other_casei
-                && relative_recursion_level == other_level,
+            } => *target == *other_target
+                && *casei == *other_casei
+                && *relative_recursion_level == *other_level,
             AstNode::AstGroup { .. }
             | AstNode::SubroutineCall(_)
             | AstNode::BackrefExistsCondition { .. } => false,
         },
         AstNode::SubroutineCall(target) => match other {
-            AstNode::SubroutineCall(other_target) => target == other_target,
+            AstNode::SubroutineCall(other_target) => *target == *other_target,
             AstNode::AstGroup { .. }
             | AstNode::Backref { .. }
             | AstNode::BackrefExistsCondition { .. } => false,
@@ -104,7 +104,7 @@ fn is_same_node(node: &AstNode, other: &AstNode) -> bool
             AstNode::BackrefExistsCondition {
                 target: other_target,
                 relative_recursion_level: other_level,
-            } => target == other_target && relative_recursion_level == other_level,
+            } => *target == *other_target && *relative_recursion_level == *other_level,
             AstNode::AstGroup { .. } | AstNode::Backref { .. } | AstNode::SubroutineCall(_) =>
                 false,
         },
@@ -117,18 +117,18 @@ fn is_same_absent(absent: &Absent, other: &Absent) -> bool
 {
     match absent {
         Absent::Repeater(child) => match other {
-            Absent::Repeater(other_child) => is_same(child, other_child),
+            Absent::Repeater(other_child) => is_same_child(child, other_child),
             Absent::Expression { .. } | Absent::Stopper(_) | Absent::Clear => false,
         },
         Absent::Expression { absent, exp } => match other {
             Absent::Expression {
                 absent: other_absent,
                 exp: other_exp,
-            } => is_same(absent, other_absent) && is_same(exp, other_exp),
+            } => is_same_child(absent, other_absent) && is_same_child(exp, other_exp),
             Absent::Repeater(_) | Absent::Stopper(_) | Absent::Clear => false,
         },
         Absent::Stopper(child) => match other {
-            Absent::Stopper(other_child) => is_same(child, other_child),
+            Absent::Stopper(other_child) => is_same_child(child, other_child),
             Absent::Repeater(_) | Absent::Expression { .. } | Absent::Clear => false,
         },
         Absent::Clear => matches!(other, Absent::Clear),
@@ -145,28 +145,28 @@ fn is_same(tree: &Expr, other: &Expr) -> bool
             Expr::Any {
                 newline: other_newline,
                 crlf: other_crlf,
-            } => newline == other_newline && crlf == other_crlf,
+            } => *newline == *other_newline && *crlf == *other_crlf,
             _ => false,
         },
         Expr::Assertion(assertion) => match other {
-            Expr::Assertion(other_assertion) => assertion == other_assertion,
+            Expr::Assertion(other_assertion) => *assertion == *other_assertion,
             _ => false,
         },
         Expr::GeneralNewline { unicode } => match other {
             Expr::GeneralNewline {
                 unicode: other_unicode,
-            } => unicode == other_unicode,
+            } => *unicode == *other_unicode,
             _ => false,
         },
         Expr::Literal { val, casei } => match other {
             Expr::Literal {
                 val: other_val,
                 casei: other_casei,
-            } => is_same_text(val, other_val) && casei == other_casei,
+            } => is_same_text(val, other_val) && *casei == *other_casei,
             _ => false,
         },
         Expr::LiteralBytes { bytes } => match other {
-            Expr::LiteralBytes { bytes: other_bytes } => bytes == other_bytes,
+            Expr::LiteralBytes { bytes: other_bytes } => *bytes == *other_bytes,
             _ => false,
         },
         Expr::Concat(parts) => match other {
@@ -178,12 +178,12 @@ fn is_same(tree: &Expr, other: &Expr) -> bool
             _ => false,
         },
         Expr::Group(child) => match other {
-            Expr::Group(other_child) => is_same(child, other_child),
+            Expr::Group(other_child) => is_same_child(child, other_child),
             _ => false,
         },
         Expr::LookAround(child, look) => match other {
-            Expr::LookAround(other_child, other_look) => is_same(child, other_child)
-                && look == other_look,
+            Expr::LookAround(other_child, other_look) => is_same_child(child, other_child)
+                && *look == *other_look,
             _ => false,
         },
         Expr::Repeat {
@@ -197,24 +197,24 @@ fn is_same(tree: &Expr, other: &Expr) -> bool
                 lo: other_lo,
                 hi: other_hi,
                 greedy: other_greedy,
-            } => is_same(child, other_child)
-                && lo == other_lo
-                && hi == other_hi
-                && greedy == other_greedy,
+            } => is_same_child(child, other_child)
+                && *lo == *other_lo
+                && *hi == *other_hi
+                && *greedy == *other_greedy,
             _ => false,
         },
         Expr::Delegate { inner, casei } => match other {
             Expr::Delegate {
                 inner: other_inner,
                 casei: other_casei,
-            } => is_same_text(inner, other_inner) && casei == other_casei,
+            } => is_same_text(inner, other_inner) && *casei == *other_casei,
             _ => false,
         },
         Expr::Backref { group, casei } => match other {
             Expr::Backref {
                 group: other_group,
                 casei: other_casei,
-            } => group == other_group && casei == other_casei,
+            } => *group == *other_group && *casei == *other_casei,
             _ => false,
         },
         Expr::BackrefWithRelativeRecursionLevel {
@@ -226,11 +226,13 @@ fn is_same(tree: &Expr, other: &Expr) -> bool
                 group: other_group,
                 relative_level: other_level,
                 casei: other_casei,
-            } => group == other_group && relative_level == other_level && casei == other_casei,
+            } => *group == *other_group
+                && *relative_level == *other_level
+                && *casei == *other_casei,
             _ => false,
         },
         Expr::AtomicGroup(child) => match other {
-            Expr::AtomicGroup(other_child) => is_same(child, other_child),
+            Expr::AtomicGroup(other_child) => is_same_child(child, other_child),
             _ => false,
         },
         Expr::KeepOut => matches!(other, Expr::KeepOut),
@@ -242,7 +244,7 @@ fn is_same(tree: &Expr, other: &Expr) -> bool
             Expr::BackrefExistsCondition {
                 group: other_group,
                 relative_recursion_level: other_level,
-            } => group == other_group && relative_recursion_level == other_level,
+            } => *group == *other_group && *relative_recursion_level == *other_level,
             _ => false,
         },
         Expr::Conditional {
@@ -254,17 +256,17 @@ fn is_same(tree: &Expr, other: &Expr) -> bool
                 condition: other_condition,
                 true_branch: other_true_branch,
                 false_branch: other_false_branch,
-            } => is_same(condition, other_condition)
-                && is_same(true_branch, other_true_branch)
-                && is_same(false_branch, other_false_branch),
+            } => is_same_child(condition, other_condition)
+                && is_same_child(true_branch, other_true_branch)
+                && is_same_child(false_branch, other_false_branch),
             _ => false,
         },
         Expr::SubroutineCall(group) => match other {
-            Expr::SubroutineCall(other_group) => group == other_group,
+            Expr::SubroutineCall(other_group) => *group == *other_group,
             _ => false,
         },
         Expr::BacktrackingControlVerb(verb) => match other {
-            Expr::BacktrackingControlVerb(other_verb) => verb == other_verb,
+            Expr::BacktrackingControlVerb(other_verb) => *verb == *other_verb,
             _ => false,
         },
         Expr::Absent(absent) => match other {
@@ -274,12 +276,12 @@ fn is_same(tree: &Expr, other: &Expr) -> bool
         Expr::DefineGroup { definitions } => match other {
             Expr::DefineGroup {
                 definitions: other_definitions,
-            } => is_same(definitions, other_definitions),
+            } => is_same_child(definitions, other_definitions),
             _ => false,
         },
         Expr::AstNode(node, place) => match other {
             Expr::AstNode(other_node, other_place) => is_same_node(node, other_node)
-                && place == other_place,
+                && *place == *other_place,
             _ => false,
         },
     }
@@ -295,6 +297,13 @@ fn is_same_name(name: &Option<String>, other: &Option<String>) -> bool
             Some(other) => is_same_text(name, other),
         },
     }
+}
+
+#[cycle(same)]
+fn is_same_child(child: &Box<Expr>, other: &Box<Expr>) -> bool
+    ensures { result ≡ same (view child.now.value) (view other.now.value) }
+{
+    is_same(child, other)
 }
 
 #[cycle(same)]

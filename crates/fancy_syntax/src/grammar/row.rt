@@ -57,11 +57,12 @@ impl Row {
     pub(crate) fn add(&mut self, alloc: Global, tree: Expr) -> Result<(), AllocError>
         ensures { OnOk result (trees self.new ≡ trees self.old ++ view tree ∷ []) }
     {
-        match self {
-            Row::None => *self = Row::One(tree),
-            Row::One(first) => *self = Row::Several(Several::pair(alloc, first, tree)?),
-            Row::Several(several) => several.add(tree)?,
-        }
+        let row = match self {
+            Row::None => Row::One(tree),
+            Row::One(first) => Row::Several(Several::pair(alloc, first, tree)?),
+            Row::Several(several) => return several.add(tree),
+        };
+        *self = row;
         Ok(())
     }
 

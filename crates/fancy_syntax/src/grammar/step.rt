@@ -151,11 +151,23 @@ fn end_part(
         (ended_part end (open_of opener.entry) (view inner) (state here.old)) }
     ensures shorter { IfOk result (λ _. length here.new.rest.now < length here.old.rest.now) }
 {
-    if lacks_body(&opener, here.rest) {
+    read_end(alloc, &opener, here, end)?;
+    Ok(node_of_part(alloc, opener, inner)?)
+}
+
+/// Reads the closing parenthesis of what is open, whatever tree stands in it. The faults are those of `end_part`.
+fn read_end(alloc: Global, opener: &Opener, here: &mut State, end: usize) -> Result<(), Error>
+    requires within { length here.old.rest.now ≤ end }
+    ensures value { (r : Tree) → MatchResult result
+        (λ _. ended_part end (open_of opener.now) r (state here.old) ≡
+        states.done (machine.node_of_part (open_of opener.now) r) (state here.new))
+        (λ e. Fails e (λ o. ended_part end (open_of opener.now) r (state here.old) ≡ o)) }
+    ensures shorter { IfOk result (λ _. length here.new.rest.now < length here.old.rest.now) }
+{
+    if lacks_body(opener, here.rest) {
         return Err(general(alloc, NO_BODY, place(here.rest, end)));
     }
-    close_paren(alloc, here, end)?;
-    Ok(node_of_part(alloc, opener, inner)?)
+    close_paren(alloc, here, end)
 }
 
 /// Whether what is open is the body of a conditional that takes no byte before the text, and the condition cannot do

@@ -1,5 +1,6 @@
 //! Whether a tree's text reads back as its normal form, where fewer than 64 printed groups nest.
-ghost use Rattle.std.specs.Prelude.{◌≡◌, false, IfOk};
+ghost use Rattle.std.specs.Prelude.{◌≡◌, false, IfOk, IsOk};
+ghost use Rattle.fancy_grammar.specs.HasDelegate.{has_delegate, any_has_delegate};
 ghost use Rattle.fancy_grammar.specs.Join.{is_empty, join};
 ghost use Rattle.fancy_grammar.specs.Normal.{normal, items};
 ghost use Rattle.fancy_grammar.specs.Printable as spec;
@@ -16,7 +17,8 @@ use std::alloc::{AllocError, Global};
 /// Whether the tree is printable.
 #[cycle(printable)]
 pub(crate) fn is_printable(alloc: Global, tree: &Expr) -> Result<bool, AllocError>
-    ensures { IfOk result (λ b. b ≡ spec.printable (view tree.now)) }
+    ensures exact { IfOk result (λ b. b ≡ spec.printable (view tree.now)) }
+    ensures without_memory { has_delegate (view tree.now) ≡ false → IsOk result }
 {
     match tree {
         Expr::Empty => Ok(true),
@@ -39,7 +41,8 @@ pub(crate) fn is_printable(alloc: Global, tree: &Expr) -> Result<bool, AllocErro
 
 #[cycle(printable)]
 fn are_printable(alloc: Global, trees: &[Expr]) -> Result<bool, AllocError>
-    ensures { IfOk result (λ b. b ≡ spec.all_printable (trees_of (views trees.now))) }
+    ensures exact { IfOk result (λ b. b ≡ spec.all_printable (trees_of (views trees.now))) }
+    ensures without_memory { any_has_delegate (trees_of (views trees.now)) ≡ false → IsOk result }
 {
     for tree in trees {
         if !is_printable(alloc, tree)? {

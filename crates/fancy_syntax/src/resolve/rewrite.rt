@@ -49,10 +49,11 @@ pub(super) fn rewrite(
             rewrite_child(false_branch, known, progress)
         }
         Expr::Absent(absent) => rewrite_absent(absent, known, progress),
-        Expr::AstNode(_, _) => {
-            let Expr::AstNode(node, place) = mem::replace(tree, Expr::Empty) else {
-                unreachable!()
-            };
+        Expr::AstNode(node, place) => {
+            let place = *place;
+            // The node is moved alone, and not with its tree; what stands in its place then takes no memory.
+            let taken = AstNode::SubroutineCall(CaptureGroupTarget::ByNumber(0));
+            let node = mem::replace(node, taken);
             *tree = resolve_node(node, place, known, progress)?;
             Ok(())
         }

@@ -1,6 +1,5 @@
 //! What nodes are, at the top of a tree and below it.
-use crate::questions::{Question, ask};
-use crate::samples::PATTERNS;
+use crate::questions::{Question, Row, first_wrong};
 use crate::trees::Source;
 use fancy_syntax::error::Error;
 use fancy_syntax::expr::{Absent, BacktrackingControlVerb as Verb, Expr, LookAround};
@@ -13,6 +12,9 @@ pub fn node(tree: &Expr) -> &'static str {
         Expr::Group(_) => "group",
         Expr::LookAround(_, look) => look_around(*look),
         Expr::AtomicGroup(_) => "atomic group",
+        Expr::Repeat { .. } => "repeat",
+        Expr::Concat(_) => "row",
+        Expr::Alt(_) => "choice",
         Expr::Conditional { .. } => "conditional",
         Expr::DefineGroup { .. } => "definitions",
         Expr::BacktrackingControlVerb(verb) => control(*verb),
@@ -49,26 +51,41 @@ fn absent(form: &Absent) -> &'static str {
     }
 }
 
-#[test]
-fn each_group_has_its_node(rt: HostRuntime) -> Result<(), Error> {
-    for (i, (pattern, name, _)) in PATTERNS.iter().enumerate() {
-        let source = Source::Pattern(pattern, FLAG_UNICODE);
-        assert!(rt; ask(rt.alloc(), &source, &Question::Node(name))?, "at {i}");
-    }
-    Ok(())
-}
-
 /// A group below a choice, below an atomic group.
 const TOWER: &str = "(?>|(a)|\\K)";
 
-/// Patterns, nodes, and whether such a one is a proper descendant.
-static BELOW: [(&str, &str, bool); 6] = [
-    ("(a)", "group", false),
-    ("(a)", "literal", true),
-    (TOWER, "group", true),
-    (TOWER, "literal", true),
-    (TOWER, "keep-out", true),
-    (TOWER, "atomic group", false),
+/// Only proper descendants are asked.
+static BELOW: [Row; 6] = [
+    (
+        Source::Pattern("(a)", FLAG_UNICODE),
+        Question::Below("group"),
+        false,
+    ),
+    (
+        Source::Pattern("(a)", FLAG_UNICODE),
+        Question::Below("literal"),
+        true,
+    ),
+    (
+        Source::Pattern(TOWER, FLAG_UNICODE),
+        Question::Below("group"),
+        true,
+    ),
+    (
+        Source::Pattern(TOWER, FLAG_UNICODE),
+        Question::Below("literal"),
+        true,
+    ),
+    (
+        Source::Pattern(TOWER, FLAG_UNICODE),
+        Question::Below("keep-out"),
+        true,
+    ),
+    (
+        Source::Pattern(TOWER, FLAG_UNICODE),
+        Question::Below("atomic group"),
+        false,
+    ),
 ];
 
 pub fn has_below(tree: &Expr, name: &str) -> bool {
@@ -77,12 +94,6 @@ pub fn has_below(tree: &Expr, name: &str) -> bool {
 
 #[test]
 fn only_proper_descendants_are_asked(rt: HostRuntime) -> Result<(), Error> {
-    for (i, (pattern, name, wanted)) in BELOW.iter().enumerate() {
-        let source = Source::Pattern(pattern, FLAG_UNICODE);
-        assert!(rt;
-            ask(rt.alloc(), &source, &Question::Below(name))? == *wanted,
-            "at {i}"
-        );
-    }
+    assert_eq!(rt; first_wrong(rt.alloc(), &BELOW)?, None);
     Ok(())
 }

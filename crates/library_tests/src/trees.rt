@@ -8,13 +8,15 @@ pub fn read(alloc: Global, pattern: &str, flags: u32) -> Result<Expr, Error> {
     Ok(Expr::parse_tree_with_flags(alloc, pattern, flags)?.expr)
 }
 
-/// A pattern and its flags, or one node of this kind.
+/// A pattern and its flags, or nodes of this kind by hand.
 #[derive(Clone, Copy)]
 pub enum Source {
     Pattern(&'static str, u32),
     Literal(&'static str, bool),
     RepeatedLiteral(&'static str, bool),
     RepeatedNothing,
+    Empty,
+    EmptyOrEmpty,
     Delegate(&'static str),
     Reference,
 }
@@ -31,6 +33,8 @@ fn by_hand(alloc: Global, source: &Source) -> Result<Expr, AllocError> {
         Source::Literal(val, casei) => literal(alloc, val, *casei),
         Source::RepeatedLiteral(val, casei) => star(alloc, literal(alloc, val, *casei)?),
         Source::RepeatedNothing => star(alloc, Expr::Empty),
+        Source::Empty => Ok(Expr::Empty),
+        Source::EmptyOrEmpty => Ok(Expr::Alt(vec![in alloc; Expr::Empty, Expr::Empty]?)),
         Source::Delegate(text) => delegate(alloc, text),
         _ => Ok(Expr::Backref {
             group: 1,

@@ -2,7 +2,7 @@ use Rattle.std.proofs.Common.{◌≡◌, ℕ, List, [], ◌∷◌, String, strin
 use Rattle.std.specs.List.{AllZip, each_same}
 use Rattle.std.specs.Vec.{vec_len}
 use Rattle.fancy_parts.specs.Groups.{named}
-use Rattle.fancy_syntax.proofs.tree.ExprTree.clone.Goals as goal
+use Rattle.fancy_syntax.proofs.tree.ExprTree.clone_marks.Goals as goal
 
 named_same : (es fs : List (String Global × Vec ℕ Global)) →
     AllZip (λ p q. (string_bytes q.0 ≡ string_bytes p.0) × (AllZip (λ x y. y ≡ x) p.1.items q.1.items × (vec_len q.1 ≡ vec_len p.1))) es fs →
@@ -14,8 +14,8 @@ named_same (e ∷ es) (f ∷ fs) ((name, (numbers, long)), more) =
     let rest = named_same es fs more in cc
 named_same _ _ h = absurd h
 
-pub returns-clause-marks : goal.returns-clause-marks
-returns-clause-marks c =
-    let numbers = each_same _ _ c.in_ok-clone-2.ensures.cases in
-    let names = named_same c.args.self.now.named_groups.entries c.in_ok-clone-3.field-0.entries c.in_ok-clone-3.ensures.cases in
+pub returns : goal.returns
+returns c =
+    let numbers = each_same _ _ c.in_ok-clone.ensures.cases in
+    let names = named_same c.args.self.now.named_groups.entries c.in_ok-clone-2.field-0.entries c.in_ok-clone-2.ensures.cases in
     cc

@@ -1,0 +1,77 @@
+-- Two trees of different variants are not the same.
+use Rattle.std.proofs.Common.{◌≡◌, false, ◌∙◌, refl, ap, sym, subst}
+use Rattle.fancy_grammar.specs.Same.{same}
+use Rattle.fancy_grammar.specs.Tree.{Tree, AbsentTree, AstTree}
+use Rattle.fancy_syntax.specs.View.{view, view_absent, view_ast, absent_step, ast_step, expr_step}
+use Rattle.fancy_syntax.specs.declared.expr.Absent.{Absent}
+use Rattle.fancy_syntax.specs.declared.expr.Absent.TheOpen.{Expr-F}
+use Rattle.fancy_syntax.specs.declared.expr.AstNode.{AstNode}
+use Rattle.fancy_syntax.specs.declared.expr.Expr as expr
+use Rattle.fancy_syntax.specs.declared.expr.Expr.{Expr, out-Expr, roll-Expr, roll-out-Expr, map-Expr, fold_out-Expr}
+use Rattle.fancy_syntax.specs.declared.expr.Expr.TheVariants as variant
+
+-- that a tree is of another variant than one of this level
+abbrev pub Other : Expr-F Absent AstNode Expr → Expr → Type 0
+Other Expr-F.Empty y = y ≡ expr.Empty → ⊥
+Other (Expr-F.Any _ _) y = (a b : _) → y ≡ expr.Any a b → ⊥
+Other (Expr-F.Assertion _) y = (a : _) → y ≡ expr.Assertion a → ⊥
+Other (Expr-F.GeneralNewline _) y = (a : _) → y ≡ expr.GeneralNewline a → ⊥
+Other (Expr-F.Literal _ _) y = (a b : _) → y ≡ expr.Literal a b → ⊥
+Other (Expr-F.LiteralBytes _) y = (a : _) → y ≡ expr.LiteralBytes a → ⊥
+Other (Expr-F.Concat _) y = (a : _) → y ≡ expr.Concat a → ⊥
+Other (Expr-F.Alt _) y = (a : _) → y ≡ expr.Alt a → ⊥
+Other (Expr-F.Group _) y = (a : _) → y ≡ expr.Group a → ⊥
+Other (Expr-F.LookAround _ _) y = (a b : _) → y ≡ expr.LookAround a b → ⊥
+Other (Expr-F.Repeat _ _ _ _) y = (a b c d : _) → y ≡ expr.Repeat a b c d → ⊥
+Other (Expr-F.Delegate _ _) y = (a b : _) → y ≡ expr.Delegate a b → ⊥
+Other (Expr-F.Expr::Backref _ _) y = (a b : _) → y ≡ expr.Backref a b → ⊥
+Other (Expr-F.BackrefWithRelativeRecursionLevel _ _ _) y = (a b c : _) → y ≡ expr.BackrefWithRelativeRecursionLevel a b c → ⊥
+Other (Expr-F.AtomicGroup _) y = (a : _) → y ≡ expr.AtomicGroup a → ⊥
+Other Expr-F.KeepOut y = y ≡ expr.KeepOut → ⊥
+Other Expr-F.ContinueFromPreviousMatchEnd y = y ≡ expr.ContinueFromPreviousMatchEnd → ⊥
+Other (Expr-F.Expr::BackrefExistsCondition _ _) y = (a b : _) → y ≡ expr.BackrefExistsCondition a b → ⊥
+Other (Expr-F.Conditional _ _ _) y = (a b c : _) → y ≡ expr.Conditional a b c → ⊥
+Other (Expr-F.Expr::SubroutineCall _) y = (a : _) → y ≡ expr.SubroutineCall a → ⊥
+Other (Expr-F.BacktrackingControlVerb _) y = (a : _) → y ≡ expr.BacktrackingControlVerb a → ⊥
+Other (Expr-F.Absent _) y = (a : _) → y ≡ expr.Absent a → ⊥
+Other (Expr-F.DefineGroup _) y = (a : _) → y ≡ expr.DefineGroup a → ⊥
+Other (Expr-F.AstNode _ _) y = (a b : _) → y ≡ expr.AstNode a b → ⊥
+
+-- a level with each tree inside seen
+abbrev seen : Expr-F Absent AstNode Expr → Tree
+seen u = expr_step (map-Expr Absent AstNode Expr AbsentTree AstTree Tree view_absent view_ast view u)
+
+levels_apart : (u v : Expr-F Absent AstNode Expr) → Other u (roll-Expr v) → false ≡ same (seen u) (seen v)
+levels_apart Expr-F.Empty Expr-F.Empty h = absurd (h variant.rolls-Empty)
+levels_apart (Expr-F.Any _ _) (Expr-F.Any a b) h = absurd (h a b (variant.rolls-Any a b))
+levels_apart (Expr-F.Assertion _) (Expr-F.Assertion a) h = absurd (h a (variant.rolls-Assertion a))
+levels_apart (Expr-F.GeneralNewline _) (Expr-F.GeneralNewline a) h = absurd (h a (variant.rolls-GeneralNewline a))
+levels_apart (Expr-F.Literal _ _) (Expr-F.Literal a b) h = absurd (h a b (variant.rolls-Literal a b))
+levels_apart (Expr-F.LiteralBytes _) (Expr-F.LiteralBytes a) h = absurd (h a (variant.rolls-LiteralBytes a))
+levels_apart (Expr-F.Concat _) (Expr-F.Concat a) h = absurd (h a (variant.rolls-Concat a))
+levels_apart (Expr-F.Alt _) (Expr-F.Alt a) h = absurd (h a (variant.rolls-Alt a))
+levels_apart (Expr-F.Group _) (Expr-F.Group a) h = absurd (h a (variant.rolls-Group a))
+levels_apart (Expr-F.LookAround _ _) (Expr-F.LookAround a b) h = absurd (h a b (variant.rolls-LookAround a b))
+levels_apart (Expr-F.Repeat _ _ _ _) (Expr-F.Repeat a b c d) h = absurd (h a b c d (variant.rolls-Repeat a b c d))
+levels_apart (Expr-F.Delegate _ _) (Expr-F.Delegate a b) h = absurd (h a b (variant.rolls-Delegate a b))
+levels_apart (Expr-F.Expr::Backref _ _) (Expr-F.Expr::Backref a b) h = absurd (h a b (variant.rolls-Backref a b))
+levels_apart (Expr-F.BackrefWithRelativeRecursionLevel _ _ _) (Expr-F.BackrefWithRelativeRecursionLevel a b c) h = absurd (h a b c (variant.rolls-BackrefWithRelativeRecursionLevel a b c))
+levels_apart (Expr-F.AtomicGroup _) (Expr-F.AtomicGroup a) h = absurd (h a (variant.rolls-AtomicGroup a))
+levels_apart Expr-F.KeepOut Expr-F.KeepOut h = absurd (h variant.rolls-KeepOut)
+levels_apart Expr-F.ContinueFromPreviousMatchEnd Expr-F.ContinueFromPreviousMatchEnd h = absurd (h variant.rolls-ContinueFromPreviousMatchEnd)
+levels_apart (Expr-F.Expr::BackrefExistsCondition _ _) (Expr-F.Expr::BackrefExistsCondition a b) h = absurd (h a b (variant.rolls-BackrefExistsCondition a b))
+levels_apart (Expr-F.Conditional _ _ _) (Expr-F.Conditional a b c) h = absurd (h a b c (variant.rolls-Conditional a b c))
+levels_apart (Expr-F.Expr::SubroutineCall _) (Expr-F.Expr::SubroutineCall a) h = absurd (h a (variant.rolls-SubroutineCall a))
+levels_apart (Expr-F.BacktrackingControlVerb _) (Expr-F.BacktrackingControlVerb a) h = absurd (h a (variant.rolls-BacktrackingControlVerb a))
+levels_apart (Expr-F.Absent _) (Expr-F.Absent a) h = absurd (h a (variant.rolls-Absent a))
+levels_apart (Expr-F.DefineGroup _) (Expr-F.DefineGroup a) h = absurd (h a (variant.rolls-DefineGroup a))
+levels_apart (Expr-F.AstNode _ _) (Expr-F.AstNode a b) h = absurd (h a b (variant.rolls-AstNode a b))
+levels_apart _ _ h = refl
+
+seen_out : (x : Expr) → view x ≡ seen (out-Expr x)
+seen_out x = fold_out-Expr AbsentTree AstTree Tree absent_step ast_step expr_step x
+
+pub apart : (x y : Expr) (u : Expr-F Absent AstNode Expr) → out-Expr x ≡ u → Other u y → false ≡ same (view x) (view y)
+apart x y u is other =
+    levels_apart u (out-Expr y) (subst (Other u) (sym (roll-out-Expr y)) other)
+    ∙ ap (λ t. same t (seen (out-Expr y))) (sym (seen_out x ∙ ap seen is)) ∙ ap (same (view x)) (sym (seen_out y))

@@ -1,0 +1,98 @@
+//! Classes.
+use crate::readers::Reader::Class;
+use crate::readers::{Row, first_wrong};
+use fancy_lex::flags::{FLAG_IGNORE_SPACE, FLAG_UNICODE};
+use std::alloc::AllocError;
+
+static ROWS: [Row; 25] = [
+    // what is written for classes
+    (Class(FLAG_UNICODE), "[[^]a]b]", "[[^]a]b] then "),
+    (Class(FLAG_UNICODE), "[]a]b", "[]a] then b"),
+    (Class(FLAG_UNICODE), "[^]a]b", "[^]a] then b"),
+    (Class(FLAG_UNICODE), "[\\]\\\\]", "[\\]\\\\] then "),
+    (Class(FLAG_UNICODE), "[\\b\\k\\B]", "[\u{8}kB] then "),
+    (Class(FLAG_UNICODE), "[\\d\\h]", "[\\d[0-9A-Fa-f]] then "),
+    (Class(FLAG_UNICODE), "[\\p{word}]", "[\\w] then "),
+    (Class(FLAG_UNICODE), "[\\xFF]", "[\u{FF}] then "),
+    (Class(FLAG_UNICODE), "[ ^]", "[ ^] then "),
+    (
+        Class(FLAG_UNICODE),
+        "[\\p{^alnum}\\p{^blank}]",
+        "[[^\\p{alpha}\\p{digit}]&&[^\\p{Zs}\\x09]] then ",
+    ),
+    (
+        Class(FLAG_UNICODE),
+        "[\\p{^alnum}[a\\p{graph}]]",
+        "[[^\\p{alpha}\\p{digit}][a&&[^\\p{White_Space}\\p{C}]]] then ",
+    ),
+    // the same with flags
+    (Class(0), "[\\p{word}]", "[_[:alnum:]] then "),
+    (Class(0), "[a-z\\n\\xFF]", "[a-z\n\\xFF] then "),
+    (
+        Class(FLAG_UNICODE | FLAG_IGNORE_SPACE),
+        "[ ^] )",
+        "[ ^] then  )",
+    ),
+    (
+        Class(FLAG_UNICODE | FLAG_IGNORE_SPACE),
+        "[\\x { 4 1 } ]",
+        "[A ] then ",
+    ),
+    // why no class stands there
+    (
+        Class(FLAG_UNICODE),
+        "[]",
+        "Parsing error at position 2: Invalid character class",
+    ),
+    (
+        Class(FLAG_UNICODE),
+        "[^]",
+        "Parsing error at position 3: Invalid character class",
+    ),
+    (
+        Class(FLAG_UNICODE),
+        "[a",
+        "Parsing error at position 2: Invalid character class",
+    ),
+    (
+        Class(FLAG_UNICODE),
+        "[\\1]",
+        "Parsing error at position 1: Invalid character class",
+    ),
+    (
+        Class(FLAG_UNICODE),
+        "[\\18446744073709551616]",
+        "Parsing error at position 2: Invalid back reference",
+    ),
+    (
+        Class(FLAG_UNICODE),
+        "[\\Z]",
+        "Parsing error at position 1: Invalid escape: \\Z",
+    ),
+    (
+        Class(FLAG_UNICODE),
+        "[\\q",
+        "Parsing error at position 1: Invalid escape: \\q",
+    ),
+    (
+        Class(FLAG_UNICODE),
+        "[\\",
+        "Parsing error at position 1: Backslash without following character",
+    ),
+    (
+        Class(FLAG_UNICODE),
+        "[\\x(?#]",
+        "Parsing error at position 7: Opening parenthesis without closing parenthesis",
+    ),
+    (
+        Class(FLAG_UNICODE),
+        "[\\p{a",
+        "Parsing error at position 1: Unicode escape not closed",
+    ),
+];
+
+#[test]
+fn classes_are_read(rt: HostRuntime) -> Result<(), AllocError> {
+    assert_eq!(rt; first_wrong(rt.alloc(), &ROWS)?, None);
+    Ok(())
+}

@@ -1,0 +1,27 @@
+//! Tests of the readers on worked patterns; and of the trees: each public call once, and what stands where memory was
+//! refused. Each test passes a refusal on: a run of each with its first request for memory refused, its second and so on
+//! comes from outside, by a script of the gate.
+#![tactic(auto)]
+
+#[cfg(test)]
+mod calls;
+#[cfg(test)]
+mod classes;
+#[cfg(test)]
+mod escapes;
+#[cfg(test)]
+mod nodes;
+#[cfg(test)]
+mod questions;
+#[cfg(test)]
+mod readers;
+#[cfg(test)]
+mod references;
+#[cfg(test)]
+mod refused;
+#[cfg(test)]
+mod samples;
+#[cfg(test)]
+mod tests;
+#[cfg(test)]
+mod trees;

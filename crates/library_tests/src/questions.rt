@@ -1,0 +1,54 @@
+//! Questions of one tree. What owns a tree is dear to prove, so one function alone does it for all questions.
+use crate::calls::{is_put_behind, nests_once, reads_as};
+use crate::nodes::{has_below, node};
+use crate::trees::{Source, tree_of};
+use fancy_syntax::error::Error;
+use fancy_syntax::expr::Expr;
+use std::alloc::Global;
+
+/// Whether it is printable, one group nests in its text, its text at the precedence is put behind the first text and is
+/// the second, the text reads as it and it has so many groups, its node is this one, or there is such a node below its own.
+#[derive(Clone, Copy)]
+pub enum Question {
+    Printable,
+    NestsOnce,
+    HasText(u8, &'static str, &'static str),
+    ReadsAs(&'static str, usize),
+    Node(&'static str),
+    Below(&'static str),
+}
+
+/// Where a tree comes from, a question of it, and the answer.
+pub type Row = (Source, Question, bool);
+
+fn answer(alloc: Global, tree: &Expr, question: &Question) -> Result<bool, Error> {
+    match question {
+        Question::Printable => Ok(tree.is_printable(alloc)?),
+        Question::NestsOnce => nests_once(alloc, tree),
+        Question::HasText(precedence, start, text) => Ok(is_put_behind(
+            alloc,
+            tree,
+            *precedence,
+            start,
+            text,
+        )?),
+        Question::ReadsAs(text, groups) => reads_as(alloc, text, tree, *groups),
+        Question::Node(name) => Ok(node(tree) == *name),
+        Question::Below(name) => Ok(has_below(tree, name)),
+    }
+}
+
+fn ask(alloc: Global, source: &Source, question: &Question) -> Result<bool, Error> {
+    let tree = tree_of(alloc, source)?;
+    answer(alloc, &tree, question)
+}
+
+/// The number of the first row whose answer is another.
+pub fn first_wrong(alloc: Global, rows: &[Row]) -> Result<Option<usize>, Error> {
+    for (i, (source, question, wanted)) in rows.iter().enumerate() {
+        if ask(alloc, source, question)? != *wanted {
+            return Ok(Some(i));
+        }
+    }
+    Ok(None)
+}

@@ -1,0 +1,185 @@
+//! What the readers say of a pattern, and what they leave of it; or the fault.
+use crate::{classes, escapes, references};
+use fancy_lex::class::{class, push_delegate};
+use fancy_lex::error::Error;
+use fancy_lex::escape::reference::{back_reference, numbered_reference, subroutine_call};
+use fancy_lex::escape::{Escaped, escape};
+use fancy_lex::flags::Flags;
+use fancy_lex::name::CaptureGroupTarget;
+use fancy_lex::target::{Call, Reference, Target};
+use fancy_lex::text::after;
+use fancy_parts::heads::names::group_name;
+use fancy_parts::heads::references::{condition_target, named_call, named_reference};
+use std::alloc::{AllocError, Global};
+use std::fmt;
+
+/// What reads the first of its kind in a pattern: an escape or a class under these flags, the name of a group, or the
+/// reference that opens so.
+#[derive(Clone, Copy)]
+pub(crate) enum Reader {
+    Escape(u32),
+    Class(u32),
+    Name,
+    Reference(&'static str),
+}
+
+/// A reader, a pattern, and what the reader says of it.
+pub(crate) type Row = (Reader, &'static str, &'static str);
+
+/// What was read. What a delegate or a class is written as stands in memory of its own.
+#[derive(Drop)]
+enum Found<'a> {
+    Nothing,
+    Escape(Escaped<'a>),
+    Delegate(String, bool),
+    Class(String),
+    Name(&'a str),
+    Reference(Reference<'a>),
+    Call(Call<'a>),
+}
+
+impl fmt::Display for Found<'_> {
+    fn fmt<W: fmt::Write>(&self, f: &mut fmt::Formatter<W>) -> fmt::Result {
+        match self {
+            Found::Nothing => f.write_str("nothing"),
+            Found::Escape(escaped) => write_escaped(f, escaped),
+            Found::Delegate(text, casei) => write!(f, "Delegate {text} {casei}"),
+            Found::Class(text) => write!(f, "{text}"),
+            Found::Name(name) => write!(f, "{name}"),
+            Found::Reference(reference) => {
+                let Reference {
+                    target,
+                    level,
+                    place,
+                } = reference;
+                write!(f, "{target:?} {level:?} at {place}")
+            }
+            Found::Call(Call { target, place }) => write!(f, "{target:?} at {place}"),
+        }
+    }
+}
+
+fn write_escaped<W: fmt::Write>(f: &mut fmt::Formatter<W>, escaped: &Escaped) -> fmt::Result {
+    match escaped {
+        Escaped::Literal { val, casei } => write!(f, "Literal {val} {casei}"),
+        Escaped::LiteralBytes { byte } => write!(f, "LiteralBytes {byte}"),
+        Escaped::Any { newline, crlf } => write!(f, "Any {newline} {crlf}"),
+        Escaped::Assertion(assertion) => write!(f, "{assertion:?}"),
+        Escaped::GeneralNewline { unicode } => write!(f, "GeneralNewline {unicode}"),
+        _ => f.write_str("another"),
+    }
+}
+
+/// What is read, and what is left.
+type Answer<'a> = Result<(Found<'a>, &'a str), Error>;
+
+fn read_escape(alloc: Global, pattern: &str, flags: u32) -> Answer<'_> {
+    let Some((front, text)) = pattern.split_once('\\') else {
+        return Ok((Found::Nothing, pattern));
+    };
+    let flags = Flags::from_bits(flags);
+    let (escaped, rest) = escape(alloc, text, flags, false, front.len(), pattern.len())?;
+    let Escaped::Delegate { inner, casei } = escaped else {
+        return Ok((Found::Escape(escaped), rest));
+    };
+    let mut text = String::new(alloc);
+    push_delegate(&mut text, inner)?;
+    Ok((Found::Delegate(text, casei), rest))
+}
+
+fn read_class(alloc: Global, pattern: &str, flags: u32) -> Answer<'_> {
+    let Some(text) = after(pattern, '[') else {
+        return Ok((Found::Nothing, pattern));
+    };
+    let (written, rest) = class(alloc, text, Flags::from_bits(flags), pattern.len())?;
+    Ok((Found::Class(written), rest))
+}
+
+fn read_name(pattern: &str) -> Answer<'_> {
+    let Some(text) = after(pattern, '(').and_then(|head| after(head, '?')) else {
+        return Ok((Found::Nothing, pattern));
+    };
+    let (name, rest) = group_name(text, pattern.len())?;
+    Ok((Found::Name(name), rest))
+}
+
+fn reference<'a>((reference, rest): (Reference<'a>, &'a str)) -> (Found<'a>, &'a str) {
+    (Found::Reference(reference), rest)
+}
+
+fn call<'a>((call, rest): (Call<'a>, &'a str)) -> (Found<'a>, &'a str) {
+    (Found::Call(call), rest)
+}
+
+/// Reads the first reference that opens so.
+fn read_reference<'a>(pattern: &'a str, opening: &str) -> Answer<'a> {
+    let Some((_, text)) = pattern.split_once(opening) else {
+        return Ok((Found::Nothing, pattern));
+    };
+    let end = pattern.len();
+    Ok(match opening {
+        "\\k" => reference(back_reference(text, end)?),
+        "\\g" => call(subroutine_call(text, end)?),
+        "\\" => reference(numbered_reference(text, end)?),
+        "(?P=" => reference(named_reference(text, end)?),
+        "(?P>" => call(named_call(text, end)?),
+        _ => reference(condition_target(text, end)?),
+    })
+}
+
+fn read<'a>(alloc: Global, reader: &Reader, pattern: &'a str) -> Answer<'a> {
+    match reader {
+        Reader::Escape(flags) => read_escape(alloc, pattern, *flags),
+        Reader::Class(flags) => read_class(alloc, pattern, *flags),
+        Reader::Name => read_name(pattern),
+        Reader::Reference(opening) => read_reference(pattern, opening),
+    }
+}
+
+/// Whether the reader says this of the pattern.
+fn says(alloc: Global, reader: &Reader, pattern: &str, wanted: &str) -> Result<bool, AllocError> {
+    let said = match read(alloc, reader, pattern) {
+        Ok((read, rest)) => format!(in alloc; "{read} then {rest}")?,
+        Err(Error::OutOfMemory) => return Err(AllocError),
+        Err(error) => format!(in alloc; "{error}")?,
+    };
+    Ok(said.as_str() == wanted)
+}
+
+/// The first pattern of which its reader says another thing.
+pub(crate) fn first_wrong(
+    alloc: Global,
+    rows: &'static [Row],
+) -> Result<Option<&'static str>, AllocError> {
+    for (reader, pattern, wanted) in rows {
+        if !says(alloc, reader, pattern, wanted)? {
+            return Ok(Some(pattern));
+        }
+    }
+    Ok(None)
+}
+
+static TARGETS: [Target; 3] = [
+    Target::ByName("n"),
+    Target::ByNumber(3),
+    Target::Relative(-3),
+];
+
+/// Whether the target's copy is the same.
+fn is_copied(alloc: Global, target: &Target) -> Result<bool, AllocError> {
+    let copy = Target::to_owned(*target, alloc)?;
+    Ok(match (target, &copy) {
+        (Target::ByName(name), CaptureGroupTarget::ByName(copy)) => copy.as_str() == *name,
+        (Target::ByNumber(number), CaptureGroupTarget::ByNumber(copy)) => number == copy,
+        (Target::Relative(amount), CaptureGroupTarget::Relative(copy)) => amount == copy,
+        _ => false,
+    })
+}
+
+#[test]
+fn targets_are_copied(rt: HostRuntime) -> Result<(), AllocError> {
+    for (i, target) in TARGETS.iter().enumerate() {
+        assert!(rt; is_copied(rt.alloc(), target)?, "at {i}");
+    }
+    Ok(())
+}

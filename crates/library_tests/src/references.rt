@@ -1,0 +1,151 @@
+//! Names and references.
+use crate::readers::Reader::{Name, Reference};
+use crate::readers::{Row, first_wrong};
+use std::alloc::AllocError;
+
+const NAMELESS_AT_2: &str = "Parsing error at position 2: Could not parse group name";
+
+const NAMELESS_AT_3: &str = "Parsing error at position 3: Could not parse group name";
+
+const NAMELESS_AT_4: &str = "Parsing error at position 4: Could not parse group name";
+
+const NAMELESS_AT_7: &str = "Parsing error at position 7: Could not parse group name";
+
+static ROWS: [Row; 49] = [
+    // what references say
+    (
+        Reference("\\k"),
+        "\\k<n-3>x",
+        "ByName(\"n\") Some(-3) at 2 then x",
+    ),
+    (
+        Reference("\\k"),
+        "()\\k<1+3>",
+        "ByNumber(1) Some(3) at 4 then ",
+    ),
+    (Reference("\\k"), "\\k'-1'", "Relative(-1) None at 2 then "),
+    (
+        Reference("\\k"),
+        "\\k<a+0>",
+        "ByName(\"a\") Some(0) at 2 then ",
+    ),
+    (
+        Reference("\\k"),
+        "\\k<\u{E9}\u{661}_>",
+        "ByName(\"\u{E9}\u{661}_\") None at 2 then ",
+    ),
+    (
+        Reference("\\k"),
+        "\\k<+9223372036854775807>",
+        "Relative(9223372036854775807) None at 2 then ",
+    ),
+    (
+        Reference("\\k"),
+        "\\k<18446744073709551616>",
+        "ByName(\"18446744073709551616\") None at 2 then ",
+    ),
+    (Reference("\\"), "\\12x", "ByNumber(12) None at 1 then x"),
+    (
+        Reference("(?P="),
+        "(.)(?P=n)",
+        "ByName(\"n\") None at 7 then ",
+    ),
+    (
+        Reference("(?("),
+        "(?(+1)b)",
+        "Relative(1) None at 3 then b)",
+    ),
+    (
+        Reference("(?("),
+        "(?(<n-1>)b)",
+        "ByName(\"n\") Some(-1) at 3 then b)",
+    ),
+    (
+        Reference("(?("),
+        "(?('n')b)",
+        "ByName(\"n\") None at 3 then b)",
+    ),
+    (
+        Reference("(?("),
+        "(?(1a)b)",
+        "ByName(\"1a\") None at 3 then b)",
+    ),
+    // what calls say
+    (Reference("\\g"), "\\g12a", "ByNumber(12) at 2 then a"),
+    (Reference("\\g"), "\\g<01>", "ByNumber(1) at 2 then "),
+    (Reference("\\g"), "\\g'+1'", "Relative(1) at 2 then "),
+    (
+        Reference("\\g"),
+        "\\g<b c+1>",
+        "ByName(\"b c+1\") at 2 then ",
+    ),
+    (
+        Reference("\\g"),
+        "\\g<+18446744073709551616>",
+        "ByName(\"+18446744073709551616\") at 2 then ",
+    ),
+    (Reference("(?P>"), "(a)(?P>+1)", "ByNumber(1) at 7 then "),
+    (Reference("(?P>"), "(?P>-1)", "ByName(\"-1\") at 4 then "),
+    // the names of groups; or why they have none
+    (Name, "(?<1-2>a)", "1-2 then a)"),
+    (Name, "(?'a>b'(c))", "a>b then (c))"),
+    (Name, "(?P<n (?#o)>a)", "n (?#o) then a)"),
+    (
+        Name,
+        "(?<>a)",
+        "Parsing error at position 1: Could not parse group name",
+    ),
+    (
+        Name,
+        "(?<n",
+        "Parsing error at position 1: Could not parse group name",
+    ),
+    (
+        Name,
+        "(?P<>a)",
+        "Parsing error at position 1: Could not parse group name",
+    ),
+    (
+        Name,
+        "(?P'n'a)",
+        "Parsing error at position 1: Could not parse group name",
+    ),
+    // where a name is wanting
+    (Reference("\\k"), "\\k<+9223372036854775808>", NAMELESS_AT_2),
+    (Reference("\\k"), "\\k<+0>", NAMELESS_AT_2),
+    (Reference("\\k"), "\\k<id-withdash>", NAMELESS_AT_2),
+    (Reference("\\k"), "\\k<>", NAMELESS_AT_2),
+    (Reference("\\k"), "\\k<a", NAMELESS_AT_2),
+    (Reference("\\k"), "\\k<a b>", NAMELESS_AT_2),
+    (Reference("\\k"), "\\kx", NAMELESS_AT_2),
+    (Reference("\\g"), "\\g<+>", NAMELESS_AT_2),
+    (Reference("\\g"), "\\g<++1>", NAMELESS_AT_2),
+    (Reference("\\g"), "\\g<-0>", NAMELESS_AT_2),
+    (Reference("\\g"), "\\g<-9223372036854775808>", NAMELESS_AT_2),
+    (Reference("\\g"), "\\gx", NAMELESS_AT_2),
+    (Reference("\\g"), "\\g<a", NAMELESS_AT_2),
+    (Reference("(?P="), "(.)(?P=-)", NAMELESS_AT_7),
+    (Reference("(?P="), "(?P=a+1)", NAMELESS_AT_4),
+    (Reference("(?P>"), "(?P>)", NAMELESS_AT_4),
+    (Reference("(?("), "(?(1", NAMELESS_AT_3),
+    (Reference("(?("), "(?(<n)b)", NAMELESS_AT_3),
+    (Reference("(?("), "(?('n'b)", NAMELESS_AT_3),
+    (Reference("(?("), "(?(+0)b)", NAMELESS_AT_3),
+    // where no word holds the number
+    (
+        Reference("\\"),
+        "\\18446744073709551616",
+        "Parsing error at position 1: Invalid back reference",
+    ),
+    (
+        Reference("\\g"),
+        "\\g18446744073709551616",
+        "Parsing error at position 2: Invalid back reference",
+    ),
+];
+
+#[test]
+fn references_are_read(rt: HostRuntime) -> Result<(), AllocError> {
+    assert_eq!(rt; first_wrong(rt.alloc(), &ROWS)?, None);
+    Ok(())
+}
