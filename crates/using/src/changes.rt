@@ -1,5 +1,5 @@
 //! A tree that is changed.
-use fancy_syntax::expr::Expr;
+use fancy_syntax::Expr;
 
 /// Puts a tree in the place of the child i, and answers whether there is such a child.
 pub fn replace_child(tree: &mut Expr, i: usize, new: Expr) -> bool {

@@ -1,11 +1,9 @@
 //! Every kind of fault.
-use fancy_syntax::error::{Error, ParseError};
-use fancy_syntax::expr::Expr;
-use fancy_syntax::flags::{FLAG_ONIGURUMA_MODE, FLAG_UNICODE};
+use fancy_syntax::{Error, Expr, FLAG_ONIGURUMA_MODE, FLAG_UNICODE, ParseError};
 use std::alloc::Global;
 
-/// A pattern for each kind, with the flags that it is read under.
-pub static REFUSED: [(&str, u32); 17] = [
+/// A pattern or more for each kind, with the flags that it is read under; and two whose places are no columns.
+pub static REFUSED: [(&str, u32); 19] = [
     ("a)", FLAG_UNICODE),
     ("(?(a))", FLAG_UNICODE),
     ("(?~|a|b|c)", FLAG_UNICODE),
@@ -23,6 +21,8 @@ pub static REFUSED: [(&str, u32); 17] = [
     ("a**", FLAG_UNICODE),
     ("(?<a", FLAG_UNICODE),
     ("\\k<n>(?<n>a)", FLAG_UNICODE),
+    ("\u{e9})", FLAG_UNICODE),
+    ("(?#\\", FLAG_UNICODE),
 ];
 
 /// Where the pattern is refused, and why; none where it has a tree.

@@ -1,6 +1,5 @@
 //! What is said of groups and references.
-use fancy_syntax::expr::Expr;
-use fancy_syntax::tree::ExprTree;
+use fancy_syntax::{Expr, ExprTree};
 
 /// The group that a reference by the name means: the last one of that name.
 pub fn group_named(tree: &ExprTree, name: &str) -> Option<usize> {

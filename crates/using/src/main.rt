@@ -14,11 +14,12 @@ use crate::changes::replace_child;
 use crate::faults::{REFUSED, fault};
 use crate::groups::{calls_nothing, group_named};
 use crate::places::pointed;
-use crate::printing::starred;
+use crate::printing::in_a_row;
+use crate::proved::{formatted, group_count};
 use crate::summary::summary;
 use crate::walks::{push_literals, repeats_without_bound};
 use anyhow::Result;
-use fancy_syntax::expr::Expr;
+use fancy_syntax::{Expr, ExprTree};
 
 fn show_summary(rt: &HostRuntime, pattern: &str) -> Result<()> {
     let (groups, text) = summary(rt.alloc(), pattern)?;
@@ -37,59 +38,75 @@ fn show_fault(rt: &HostRuntime, pattern: &str, flags: u32) -> Result<()> {
     Ok(())
 }
 
-fn show_walks(rt: &HostRuntime, pattern: &str) -> Result<()> {
-    let tree = Expr::parse_tree(rt.alloc(), pattern)?;
+fn show_literals(rt: &HostRuntime, tree: &Expr) -> Result<()> {
     let mut text = String::new(rt.alloc());
-    push_literals(&tree.expr, &mut text)?;
-    let unbounded = repeats_without_bound(&tree.expr);
-    println!(rt; "{pattern} has the literals {text}; repeats without a bound: {unbounded}")?;
+    push_literals(tree, &mut text)?;
+    println!(rt; "  literals: {text}")?;
     Ok(())
 }
 
-fn show_groups(rt: &HostRuntime, pattern: &str) -> Result<()> {
-    let tree = Expr::parse_tree(rt.alloc(), pattern)?;
-    let nothing = calls_nothing(&tree.expr);
-    match group_named(&tree, "day") {
-        Some(number) => println!(rt; "{pattern}: day is {number}; calls nothing: {nothing}")?,
-        None => println!(rt; "{pattern}: day is no group; calls nothing: {nothing}")?,
+fn show_twice(rt: &HostRuntime, tree: &Expr) -> Result<()> {
+    match in_a_row(rt.alloc(), tree, tree)? {
+        Some(text) => println!(rt; "  twice: {text}")?,
+        None => println!(rt; "  no text")?,
     }
     Ok(())
 }
 
-fn show_starred(rt: &HostRuntime, pattern: &str) -> Result<()> {
-    let tree = Expr::parse_tree(rt.alloc(), pattern)?;
-    if let Some(text) = starred(rt.alloc(), &tree.expr)? {
-        println!(rt; "{pattern} with a star is {text}")?;
+fn show_marks(rt: &HostRuntime, tree: &ExprTree) -> Result<()> {
+    println!(rt;
+        "  repeats without a bound: {}",
+        repeats_without_bound(&tree.expr)
+    )?;
+    println!(rt; "  calls nothing: {}", calls_nothing(&tree.expr))?;
+    if let Some(number) = group_named(tree, "day") {
+        println!(rt; "  day is group {number}")?;
     }
     Ok(())
+}
+
+fn show_tree(rt: &HostRuntime, tree: &ExprTree) -> Result<()> {
+    show_literals(rt, &tree.expr)?;
+    show_marks(rt, tree)?;
+    show_twice(rt, &tree.expr)
+}
+
+fn show_pattern(rt: &HostRuntime, pattern: &str) -> Result<()> {
+    println!(rt; "{pattern}")?;
+    let tree = Expr::parse_tree(rt.alloc(), pattern)?;
+    show_tree(rt, &tree)
 }
 
 fn show_change(rt: &HostRuntime) -> Result<()> {
     let mut tree = Expr::parse_tree(rt.alloc(), "a|b")?.expr;
-    let new = Expr::parse_tree(rt.alloc(), "c+")?.expr;
-    let replaced = replace_child(&mut tree, 1, new);
-    if let Some(text) = tree.print(rt.alloc(), 0)? {
-        println!(rt; "replaced: {replaced}, prints as {text}")?;
+    if replace_child(&mut tree, 1, Expr::Empty) {
+        show_twice(rt, &tree)?;
     }
     Ok(())
 }
 
-fn main(rt: HostRuntime) -> Result<()> {
-    for pattern in ["(a|b)c*", "(a)\\1"] {
-        show_summary(&rt, pattern)?;
+fn show_proved(rt: &HostRuntime, pattern: &str) -> Result<()> {
+    println!(rt;
+        "{pattern} has {} groups",
+        group_count(rt.alloc(), pattern)?
+    )?;
+    if let Some(text) = formatted(rt.alloc(), pattern)? {
+        println!(rt; "  formatted: {text}")?;
     }
+    Ok(())
+}
+
+static PATTERNS: [&str; 4] = ["x(y|z)*", "(?<day>\\d)-\\k<day>", "(a)\\g<day>", "a|b"];
+
+fn main(rt: HostRuntime) -> Result<()> {
+    show_summary(&rt, "(a|b)c*")?;
+    show_summary(&rt, "(a)\\1")?;
     for (pattern, flags) in REFUSED.iter() {
         show_fault(&rt, pattern, *flags)?;
     }
-    for pattern in ["\u{e9})", "(?#\\"] {
-        show_fault(&rt, pattern, 0)?;
+    for pattern in PATTERNS.iter() {
+        show_pattern(&rt, pattern)?;
     }
-    show_walks(&rt, "x(y|z)*")?;
-    for pattern in ["(?<day>\\d)-\\k<day>", "(a)\\g<day>"] {
-        show_groups(&rt, pattern)?;
-    }
-    for pattern in ["a|b", "ab", "a", "(a)"] {
-        show_starred(&rt, pattern)?;
-    }
-    show_change(&rt)
+    show_change(&rt)?;
+    show_proved(&rt, "(?<n>a)(?#c)b")
 }

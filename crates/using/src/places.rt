@@ -3,7 +3,9 @@ use std::alloc::{AllocError, Global};
 
 /// The column of a place, in characters from 1. At the end, and one byte past it, it is that after the last character.
 pub fn column(pattern: &str, place: usize) -> usize {
-    let before = pattern.char_indices().take_while(|(start, _)| *start < place);
+    let before = pattern
+        .char_indices()
+        .take_while(|(start, _)| *start < place);
     before.count().saturating_add(1)
 }
 

@@ -1,12 +1,15 @@
 //! Text for a part of a pattern.
-use fancy_syntax::expr::Expr;
+use fancy_syntax::Expr;
 use std::alloc::{AllocError, Global};
 
-/// The text of the tree with a star that takes all of it; none where the tree is not printable.
-pub fn starred(alloc: Global, tree: &Expr) -> Result<Option<String>, AllocError> {
-    let Some(mut text) = tree.print(alloc, 3)? else {
+/// The text of the two trees in a row; none where one of them is not printable.
+pub fn in_a_row(alloc: Global, first: &Expr, second: &Expr) -> Result<Option<String>, AllocError> {
+    let Some(mut text) = first.print(alloc, 2)? else {
         return Ok(None);
     };
-    text.push('*')?;
+    if !second.is_printable(alloc)? {
+        return Ok(None);
+    }
+    second.to_str(&mut text, 2)?;
     Ok(Some(text))
 }

@@ -5,9 +5,7 @@ ghost use Rattle.fancy_syntax.specs.Answer.{IsTreeOf};
 ghost use Rattle.fancy_syntax.specs.Answered.{groups};
 ghost use Rattle.using.specs.Forms.{IsFormOf, HasNoForm};
 
-use fancy_syntax::error::Error;
-use fancy_syntax::expr::Expr;
-use fancy_syntax::flags::FLAG_UNICODE;
+use fancy_syntax::{Error, Expr, FLAG_UNICODE};
 use std::alloc::Global;
 
 /// The text that the pattern prints as; none where its tree is not printable.

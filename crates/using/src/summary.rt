@@ -1,6 +1,5 @@
 //! A first call.
-use fancy_syntax::error::Error;
-use fancy_syntax::expr::Expr;
+use fancy_syntax::{Error, Expr};
 use std::alloc::Global;
 
 /// How many groups the pattern has, and its text as it prints; no text where its tree is not printable.

@@ -1,5 +1,5 @@
 //! Walks over a tree.
-use fancy_syntax::expr::Expr;
+use fancy_syntax::Expr;
 use std::alloc::AllocError;
 
 /// Adds the text of each literal, in the order of the pattern.
@@ -13,7 +13,7 @@ pub fn push_literals(tree: &Expr, text: &mut String) -> Result<(), AllocError> {
     Ok(())
 }
 
-/// Whether something may be repeated without a bound below the top of the tree.
+/// Whether something below the top of the tree may be repeated without a bound.
 pub fn repeats_without_bound(tree: &Expr) -> bool {
     tree.has_descendant(|below| matches!(below, Expr::Repeat { hi: usize::MAX, .. }))
 }

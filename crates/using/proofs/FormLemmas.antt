@@ -1,0 +1,27 @@
+-- What follows of a pattern from what the library promises.
+use Rattle.std.proofs.Common.{◌≡◌, ℕ, chars, string_bytes, String, length, Option, Some, None, is_some, IfSome, MatchOption, ap, sym, ◌∙◌}
+use Rattle.std.specs.declared.alloc.Global.{Global}
+use Rattle.fancy_lex.specs.Text.{Text}
+use Rattle.fancy_lex.specs.declared.flags.Flags.{Flags}
+use Rattle.fancy_grammar.proofs.AnsweredLaws.{groups_total}
+use Rattle.fancy_syntax.specs.Answer.{IsTreeOf}
+use Rattle.fancy_syntax.specs.Answered.{groups}
+use Rattle.fancy_syntax.specs.Marks.{Marks}
+use Rattle.fancy_syntax.specs.Printable.{printable}
+use Rattle.fancy_syntax.specs.ReadBack.{IsReadBack}
+use Rattle.fancy_syntax.specs.Tree.{Tree}
+use Rattle.using.specs.Forms.{IsFormOf, HasNoForm}
+
+-- what a tree of the pattern prints as is a form of it, and without a text it has none
+pub form_of : (f : Flags) (pattern : Text) (t : Tree) (m : Marks) (text : Option (String Global)) →
+    IsTreeOf f pattern t m → is_some text ≡ printable t →
+    IfSome text (λ s. IsReadBack t 0 (chars (string_bytes s))) →
+    MatchOption text (HasNoForm f pattern) (λ s. IsFormOf f pattern (chars (string_bytes s)))
+form_of f pattern t m None found exact back = (t, m, found, sym exact)
+form_of f pattern t m (Some s) found exact back = (t, m, found, back)
+
+-- where a pattern has one tree, its Groups are as many as the marks say
+pub count_of : (f : Flags) (pattern : Text) (t : Tree) (m : Marks) →
+    ((e : Tree) (k : Marks) → IsTreeOf f pattern e k → (e ≡ t) × (k ≡ m)) →
+    (e : Tree) (k : Marks) → IsTreeOf f pattern e k → length (groups e) ≡ m.total_groups
+count_of f pattern t m only e k h = groups_total h ∙ ap (λ k. k.total_groups) (only e k h).1
