@@ -1,5 +1,5 @@
 //! A run of the program.
-ghost use Rattle.std.specs.Prelude.{◌≡◌, ◌≤◌, chars, Ok, MatchOption};
+ghost use Rattle.std.specs.Prelude.{◌≡◌, ◌≤◌, chars, IfOk, Ok, MatchOption};
 ghost use Rattle.fancy_lex.specs.Flags.{flags_of};
 ghost use Rattle.fre_program.specs.Words.{IsWellFormed, OfWords, HasTree, HasFault};
 
@@ -29,13 +29,15 @@ fn named_by(words: &[String]) -> Option<(u32, &str)>
 }
 
 /// Writes all that is known of the tree.
-fn write_tree<O: Write>(alloc: Global, out: &mut O, tree: &ExprTree) -> Result<(), Fault> {
+fn accept<O: Write>(alloc: Global, out: &mut O, tree: &ExprTree) -> Result<Verdict, Fault>
+    ensures { IfOk result (λ verdict. verdict ≡ Verdict.Accepted) }
+{
     let text = tree.expr.print(alloc, 0)?;
     write_nodes(out, &tree.expr, 0)?;
     write_marks(out, tree)?;
     write_text(out, &text)?;
     out.flush()?;
-    Ok(())
+    Ok(Verdict::Accepted)
 }
 
 /// Reads the pattern, and writes its tree on `out` or its fault on `err`.
@@ -50,10 +52,7 @@ fn answer<O: Write, E: Write>(
     ensures refused { result ≡ Ok Verdict.Refused → HasFault (flags_of flags) (chars pattern.now) }
 {
     match Expr::parse_tree_with_flags(alloc, pattern, flags) {
-        Ok(tree) => {
-            write_tree(alloc, out, &tree)?;
-            Ok(Verdict::Accepted)
-        }
+        Ok(tree) => accept(alloc, out, &tree),
         Err(Error::OutOfMemory) => Err(Fault::Memory(AllocError)),
         Err(refusal) => {
             writeln!(err, "{refusal}")?;

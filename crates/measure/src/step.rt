@@ -3,7 +3,7 @@ use crate::sample::Sample;
 use anyhow::{Context, Result, bail};
 use fancy_syntax::{Error, Expr};
 use fre_program::flag_word::flags_named;
-use std::alloc::Global;
+use std::alloc::{AllocError, Global};
 
 /// What is done to a pattern last. Each step does those before it too.
 #[derive(Clone, Copy)]
@@ -38,17 +38,19 @@ impl Step {
         if let Step::Decode = self {
             return Ok(pattern.len());
         }
-        let tree = match Expr::parse_tree_with_flags(alloc, pattern.as_str(), flags) {
-            Ok(tree) => tree,
+        match Expr::parse_tree_with_flags(alloc, pattern.as_str(), flags) {
+            Ok(tree) => Ok(self.amount_of_tree(alloc, &tree.expr)?),
             Err(Error::OutOfMemory) => bail!("out of memory"),
-            Err(Error::ParseError(_, _)) => return Ok(0),
-        };
-        if let Step::Read = self {
-            return Ok(1);
+            Err(Error::ParseError(_, _)) => Ok(0),
         }
-        if let Step::Ask = self {
-            return Ok(usize::from(tree.expr.is_printable(alloc)?));
+    }
+
+    /// The same of a pattern that was read as this tree.
+    fn amount_of_tree(self, alloc: Global, tree: &Expr) -> Result<usize, AllocError> {
+        match self {
+            Step::Ask => Ok(usize::from(tree.is_printable(alloc)?)),
+            Step::Print => Ok(tree.print(alloc, 0)?.map_or(0, |text| text.len())),
+            Step::Decode | Step::Read => Ok(1),
         }
-        Ok(tree.expr.print(alloc, 0)?.map_or(0, |text| text.len()))
     }
 }
