@@ -1,4 +1,4 @@
-use Rattle.std.proofs.Common.{rules, ◌<◌, ◌∙◌, ap, sym, arith}
+use Rattle.std.proofs.Common.{◌<◌, ◌∙◌, ap, sym, arith}
 use Rattle.fancy_syntax.specs.Children.{left}
 use Rattle.fancy_syntax.specs.Tree.{depth}
 use Rattle.fancy_syntax.specs.View.{view, views}
@@ -10,10 +10,10 @@ loop-child-init t c =
     sweep_start _ c.args.tree.now _ (ap left c.into_iter-child-iterator.ensures.into_iter_gives ∙ c.children_iter-child-items.ensures.values)
 
 pub push_literals-requires : goal.push_literals-requires
-push_literals-requires t c κs within =
+push_literals-requires t c =
     let among = sweep_head _ c.args.tree.now c.in-Some.child.now _ _ c.loop-child.invariant c.in-Some.ensures.steps in
     let less : depth (view c.in-Some.child.now) < depth (view c.args.tree.now) = depth_of_child c.args.tree.now c.in-Some.child.now (ap views (sym c.children_iter-child-items.ensures.values) ∙ c.children_iter-child-items.ensures.trees) among in
-    (omega (arith, less), search rules)
+    (omega (arith, less), tt)
 
 pub loop-child-preserved : goal.loop-child-preserved
 loop-child-preserved t c =
