@@ -1,0 +1,194 @@
+//! The verb `tree`: a pattern's tree with branches, and what is known of it.
+ghost use Rattle.std.specs.Prelude.{◌≡◌, ◌≤◌, chars, Ok};
+ghost use Rattle.fancy_lex.specs.Flags.{flags_of};
+ghost use Rattle.fre_program.specs.Words.{HasTree, HasFault};
+
+use crate::fault::{Fault, give_up};
+use crate::marks::write_marks;
+use crate::names::Names;
+use crate::place::Location;
+use crate::reading::read;
+use crate::words::{Held, is_reference, write_reference};
+use fancy_syntax::expr::{Absent, Expr};
+use fancy_syntax::tree::ExprTree;
+use std::alloc::Global;
+use std::io::Write;
+use std::{fmt, io};
+
+/// The characters of the branches.
+#[derive(Clone, Copy)]
+pub enum Style {
+    /// Those that Unicode has for drawing.
+    Lines,
+    /// Some of ASCII's.
+    Ascii,
+}
+
+/// What stands before a node: for each level from the first whether the node that it runs through is the last there.
+#[derive(Clone, Copy)]
+struct Branches<'a> {
+    style: Style,
+    lasts: &'a [bool],
+}
+
+impl Style {
+    /// What stands before a node itself.
+    fn own(self, is_last: bool) -> &'static str {
+        match (self, is_last) {
+            (Style::Lines, false) => "├─ ",
+            (Style::Lines, true) => "└─ ",
+            (Style::Ascii, false) => "|- ",
+            (Style::Ascii, true) => "`- ",
+        }
+    }
+
+    /// What stands at a level before what is below its node.
+    fn above(self, is_last: bool) -> &'static str {
+        match (self, is_last) {
+            (_, true) => "   ",
+            (Style::Lines, false) => "│  ",
+            (Style::Ascii, false) => "|  ",
+        }
+    }
+}
+
+impl fmt::Display for Branches<'_> {
+    fn fmt<W: fmt::Write>(&self, f: &mut fmt::Formatter<W>) -> fmt::Result {
+        let Some((own, above)) = self.lasts.split_last() else {
+            return Ok(());
+        };
+        for is_last in above {
+            f.write_str(self.style.above(*is_last))?;
+        }
+        f.write_str(self.style.own(*own))
+    }
+}
+
+/// A tree that is being drawn.
+#[derive(Drop)]
+struct Drawing<'a> {
+    style: Style,
+    pattern: &'a str,
+    names: Names<'a>,
+    /// How many groups are drawn.
+    groups: usize,
+    lasts: Vec<bool>,
+}
+
+impl Drawing<'_> {
+    /// Writes what the node is.
+    fn write_label<O: Write>(&mut self, out: &mut O, node: &Expr) -> io::Result<()> {
+        if is_reference(node) {
+            return write_reference(out, node, &self.names, self.pattern);
+        }
+        if let Expr::Group(_) = node {
+            self.groups = self.groups.saturating_add(1);
+            return writeln!(out, "{}", self.names.group(self.groups));
+        }
+        writeln!(out, "{}", Held(node))
+    }
+
+    /// Writes the node's line; `role` is what it is to its parent.
+    fn write_line<O: Write>(&mut self, out: &mut O, role: &str, node: &Expr) -> io::Result<()> {
+        let branches = Branches {
+            style: self.style,
+            lasts: &self.lasts,
+        };
+        write!(out, "{branches}{role}")?;
+        self.write_label(out, node)
+    }
+}
+
+/// What a child is to its parent, where so many follow it.
+fn role(parent: &Expr, following: usize) -> &'static str {
+    match (parent, following) {
+        (Expr::Conditional { .. }, 2) => "if: ",
+        (Expr::Conditional { .. }, 1) => "then: ",
+        (Expr::Conditional { .. }, _) => "else: ",
+        (Expr::Absent(Absent::Expression { .. }), 1) => "absent: ",
+        (Expr::Absent(Absent::Expression { .. }), _) => "text: ",
+        _ => "",
+    }
+}
+
+/// Draws the tree below the branches that are drawn.
+fn draw<O: Write>(
+    out: &mut O,
+    drawing: &mut Drawing<'_>,
+    as_what: &str,
+    tree: &Expr,
+) -> Result<(), Fault> {
+    drawing.write_line(out, as_what, tree)?;
+    let mut following = tree.children_iter().count();
+    for child in tree.children_iter() {
+        following = following.saturating_sub(1);
+        drawing.lasts.push(following == 0)?;
+        draw(out, drawing, role(tree, following), child)?;
+        drawing.lasts.pop();
+    }
+    Ok(())
+}
+
+/// Draws the pattern's tree, and writes what is known of it.
+fn write_tree<O: Write>(
+    alloc: Global,
+    style: Style,
+    pattern: &str,
+    tree: &ExprTree,
+    out: &mut O,
+) -> Result<(), Fault> {
+    let mut drawing = Drawing {
+        style,
+        pattern,
+        names: Names::of(alloc, tree)?,
+        groups: 0,
+        lasts: Vec::new(alloc),
+    };
+    draw(out, &mut drawing, "", &tree.expr)?;
+    write_marks(out, tree)?;
+    out.flush()?;
+    Ok(())
+}
+
+/// Reads the pattern, and writes its tree on `out`, or on `err` where and why it is refused.
+fn answer<O: Write, E: Write>(
+    alloc: Global,
+    flags: u32,
+    style: Style,
+    pattern: &str,
+    out: &mut O,
+    err: &mut E,
+) -> Result<u8, Fault>
+    ensures read { result ≡ Ok 0 → HasTree (flags_of flags) (chars pattern.now) }
+    ensures refused { result ≡ Ok 1 → HasFault (flags_of flags) (chars pattern.now) }
+{
+    let at = Location {
+        file: "PATTERN",
+        line: 1,
+    };
+    let Some(tree) = read(alloc, flags, at, pattern, err)? else {
+        return Ok(1);
+    };
+    write_tree(alloc, style, pattern, &tree, out)?;
+    Ok(0)
+}
+
+/// Draws the tree of a pattern, and answers the status: 0 where the pattern is read, with its tree and then what is
+/// known of its groups and references on `out`; 1 where it is refused, with where and why on `err`; 3 where memory or a
+/// write was wanting, which is tried on `err`. Then `out` may hold a beginning.
+pub fn draw_tree<O: Write, E: Write>(
+    alloc: Global,
+    flags: u32,
+    style: Style,
+    pattern: &str,
+    out: &mut O,
+    err: &mut E,
+) -> u8
+    ensures read { result ≡ 0 → HasTree (flags_of flags) (chars pattern.now) }
+    ensures refused { result ≡ 1 → HasFault (flags_of flags) (chars pattern.now) }
+{
+    match answer(alloc, flags, style, pattern, out, err) {
+        Ok(status) => status,
+        Err(fault) => give_up(err, fault),
+    }
+}

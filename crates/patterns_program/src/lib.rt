@@ -1,0 +1,17 @@
+//! What the program `patterns` does: it reads files of patterns, a pattern a line, and says of each what a verb asks.
+#![tactic(auto)]
+
+mod check;
+pub mod draw;
+pub mod fault;
+mod groups;
+mod lines;
+mod marks;
+mod names;
+mod outcome;
+pub mod place;
+mod printing;
+mod reading;
+pub mod run;
+pub mod sources;
+mod words;

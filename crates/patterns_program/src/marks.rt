@@ -1,0 +1,79 @@
+//! What is known of a pattern's groups and references, in words.
+use fancy_syntax::tree::ExprTree;
+use std::io;
+use std::io::Write;
+
+/// Writes the sentence on how many groups have a number.
+fn write_total<O: Write>(out: &mut O, total: usize) -> io::Result<()> {
+    match total {
+        0 => writeln!(out, "No group has a number."),
+        1 => writeln!(out, "1 group has a number."),
+        _ => writeln!(out, "{total} groups have a number."),
+    }
+}
+
+/// Writes a number of a list, of which so many are written.
+fn write_number<O: Write>(out: &mut O, written: usize, number: usize) -> io::Result<()> {
+    let comma = if written > 0 { "," } else { "" };
+    write!(out, "{comma} {number}")
+}
+
+/// Writes the sentence on the groups of a name.
+fn write_name<O: Write>(out: &mut O, name: &str, numbers: &[usize]) -> io::Result<()> {
+    write!(out, "{name:?} names group")?;
+    for (i, number) in numbers.iter().enumerate() {
+        write_number(out, i, *number)?;
+    }
+    writeln!(out, ".")
+}
+
+/// Writes a sentence for each name.
+fn write_names<O: Write>(out: &mut O, tree: &ExprTree) -> io::Result<()> {
+    for (name, numbers) in &tree.named_groups {
+        write_name(out, name.as_str(), numbers)?;
+    }
+    Ok(())
+}
+
+/// Writes the sentence on the groups that back references mean.
+fn write_referred<O: Write>(out: &mut O, tree: &ExprTree) -> io::Result<()> {
+    write!(out, "Back references mean group")?;
+    for (i, number) in tree.backrefs.iter().enumerate() {
+        write_number(out, i, *number)?;
+    }
+    writeln!(out, ".")
+}
+
+/// Writes the sentences on back references.
+fn write_references<O: Write>(out: &mut O, tree: &ExprTree) -> io::Result<()> {
+    if !tree.backrefs.is_empty() {
+        write_referred(out, tree)?;
+    }
+    if let Some(number) = tree.out_of_range_backref {
+        writeln!(
+            out,
+            "A back reference means group {number}, which is not there."
+        )?;
+    }
+    if tree.numeric_capture_group_references {
+        writeln!(out, "Some reference or call is by a number.")?;
+    }
+    Ok(())
+}
+
+/// Writes what is known of the groups and references, a sentence a line.
+pub(crate) fn write_marks<O: Write>(out: &mut O, tree: &ExprTree) -> io::Result<()> {
+    write_total(out, tree.total_groups)?;
+    if tree.numbered_groups_ignored {
+        writeln!(out, "Groups without a name have no number.")?;
+    }
+    write_names(out, tree)?;
+    write_references(out, tree)?;
+    if tree.contains_subroutines {
+        writeln!(out, "Some group is called.")?;
+    }
+    if tree.self_recursive {
+        writeln!(out, "The pattern calls itself.")?;
+    }
+    Ok(())
+}

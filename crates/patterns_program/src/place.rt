@@ -1,0 +1,99 @@
+//! Places of a pattern, as a terminal shows them.
+ghost use Rattle.std.specs.Prelude.{◌≡◌, ◌+◌, chars, false};
+ghost use Rattle.unicode_width.specs.Width.{str_width};
+
+use fancy_lex::error::ParseError;
+use std::io::Write;
+use std::{fmt, io};
+use unicode_width::UnicodeWidthStr;
+
+/// Where a pattern stands.
+#[derive(Clone, Copy)]
+pub struct Location<'a> {
+    /// The file's name, as it was given.
+    pub file: &'a str,
+    /// The number of the line with which the pattern begins, from 1.
+    pub line: u64,
+}
+
+impl fmt::Display for Location<'_> {
+    fn fmt<W: fmt::Write>(&self, f: &mut fmt::Formatter<W>) -> fmt::Result {
+        write!(f, "{}:{}", self.file, self.line)
+    }
+}
+
+/// The column of what follows the text in its line, from 1. Each character takes the columns that a terminal gives it,
+/// and a tab or another control character one.
+pub fn column_after(text: &str) -> usize
+    ensures value { result ≡ 1 + str_width false (chars text.now) }
+{
+    text.width() + 1
+}
+
+/// A line of a pattern, cut at a place.
+#[derive(Clone, Copy)]
+pub(crate) struct Cut<'a> {
+    /// How many line feeds stand before the line.
+    above: usize,
+    before: &'a str,
+    after: &'a str,
+}
+
+impl Cut<'_> {
+    /// Cuts at a byte offset: before the character that it falls into, and behind the last one where it is past the end.
+    pub(crate) fn at(pattern: &str, place: usize) -> Cut<'_> {
+        let (front, behind) = pattern.split_at(pattern.floor_char_boundary(place));
+        Cut {
+            above: front.matches('\n').count(),
+            before: front.rsplit_once('\n').map_or(front, |parts| parts.1),
+            after: behind.split_once('\n').map_or(behind, |parts| parts.0),
+        }
+    }
+}
+
+/// The place in words: its column, and its line where that is not the first.
+impl fmt::Display for Cut<'_> {
+    fn fmt<W: fmt::Write>(&self, f: &mut fmt::Formatter<W>) -> fmt::Result {
+        if self.above > 0 {
+            write!(f, "line {}, ", self.above.saturating_add(1))?;
+        }
+        write!(f, "column {}", column_after(self.before))
+    }
+}
+
+/// As many blanks as the text takes columns. A tab stays a tab, so that it takes what it takes in the text.
+#[derive(Clone, Copy)]
+struct Blank<'a>(&'a str);
+
+impl fmt::Display for Blank<'_> {
+    fn fmt<W: fmt::Write>(&self, f: &mut fmt::Formatter<W>) -> fmt::Result {
+        for (i, part) in self.0.split('\t').enumerate() {
+            if i > 0 {
+                f.write_char('\t')?;
+            }
+            for _ in 0..part.width() {
+                f.write_char(' ')?;
+            }
+        }
+        Ok(())
+    }
+}
+
+/// Writes where and why a pattern is refused, the line of the place, and a caret under the place.
+pub(crate) fn write_refusal<O: Write>(
+    out: &mut O,
+    at: Location<'_>,
+    pattern: &str,
+    place: usize,
+    kind: &ParseError,
+) -> io::Result<()> {
+    let Cut {
+        above,
+        before,
+        after,
+    } = Cut::at(pattern, place);
+    let line = at.line.saturating_add(above as u64);
+    writeln!(out, "{}:{line}:{}: {kind}", at.file, column_after(before))?;
+    writeln!(out, "{before}{after}")?;
+    writeln!(out, "{}^", Blank(before))
+}

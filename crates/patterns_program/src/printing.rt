@@ -1,0 +1,163 @@
+//! The verb `format`: each pattern as it prints.
+ghost use Rattle.std.specs.Prelude.{◌≡◌, chars, Ok};
+ghost use Rattle.fancy_lex.specs.Flags.{flags_of};
+ghost use Rattle.fre_program.specs.Words.{HasTree, HasFault};
+ghost use Rattle.patterns_program.specs.declared.outcome.Outcome.{Outcome};
+
+use crate::fault::Fault;
+use crate::outcome::Outcome;
+use crate::place::Location;
+use crate::reading::read;
+use fancy_lex::escape::Assertion;
+use fancy_syntax::error::Error;
+use fancy_syntax::expr::Expr;
+use std::alloc::{AllocError, Global};
+use std::io::Write;
+
+/// What a pattern is written as.
+#[derive(Drop)]
+enum Text {
+    /// As its tree prints.
+    Printed(String),
+    /// As it was, for this reason.
+    Kept(&'static str),
+}
+
+/// What has no text, where the node itself is such.
+fn textless(node: &Expr) -> Option<&'static str> {
+    Some(match node {
+        Expr::Assertion(Assertion::EndTextIgnoreTrailingNewlines { .. }) => "\\Z has no text",
+        Expr::GeneralNewline { .. } => "\\R has no text",
+        Expr::LiteralBytes { .. } => "a byte that is no character has no text",
+        Expr::LookAround(..) => "a look-around has no text",
+        Expr::Backref { .. } | Expr::BackrefWithRelativeRecursionLevel { .. } => {
+            "a back reference has no text"
+        }
+        Expr::AtomicGroup(_) => "an atomic group has no text",
+        Expr::KeepOut => "\\K has no text",
+        Expr::ContinueFromPreviousMatchEnd => "\\G has no text",
+        Expr::BackrefExistsCondition { .. } | Expr::Conditional { .. } => {
+            "a conditional has no text"
+        }
+        Expr::SubroutineCall(_) | Expr::AstNode(..) => "a call has no text",
+        Expr::BacktrackingControlVerb(_) => "a verb has no text",
+        Expr::Absent(_) => "an absent operator has no text",
+        _ => return None,
+    })
+}
+
+/// What in the tree has no text, the first in the order of the text. What a DefineGroup holds is not printed.
+fn first_textless(tree: &Expr) -> Option<&'static str> {
+    if let Expr::DefineGroup { .. } = tree {
+        return None;
+    }
+    if let Some(what) = textless(tree) {
+        return Some(what);
+    }
+    for child in tree.children_iter() {
+        if let Some(what) = first_textless(child) {
+            return Some(what);
+        }
+    }
+    None
+}
+
+/// Whether a printed text is read again: all are but those in which too many groups nest.
+fn is_read_again(alloc: Global, text: &str) -> Result<bool, Fault> {
+    match Expr::parse_tree(alloc, text) {
+        Ok(_) => Ok(true),
+        Err(Error::ParseError(..)) => Ok(false),
+        Err(Error::OutOfMemory) => Err(Fault::Memory(AllocError)),
+    }
+}
+
+/// Why a printed text cannot stand in a line for its pattern, where it cannot.
+fn hindrance(alloc: Global, text: &str) -> Result<Option<&'static str>, Fault> {
+    if text.contains(['\n', '\r']) {
+        return Ok(Some("its text holds a line break"));
+    }
+    if !is_read_again(alloc, text)? {
+        return Ok(Some("its text nests too deep"));
+    }
+    Ok(None)
+}
+
+/// What the tree's pattern is written as.
+fn text_of(alloc: Global, tree: &Expr) -> Result<Text, Fault> {
+    let Some(text) = tree.print(alloc, 0)? else {
+        return Ok(Text::Kept(first_textless(tree).unwrap_or("a repeat of nothing has no text")));
+    };
+    Ok(match hindrance(alloc, text.as_str())? {
+        Some(why) => Text::Kept(why),
+        None => Text::Printed(text),
+    })
+}
+
+/// Writes what the tree's pattern is written as; where it is kept, why goes to `err`.
+fn write_text<O: Write, E: Write>(
+    alloc: Global,
+    at: Location<'_>,
+    pattern: &str,
+    tree: &Expr,
+    out: &mut O,
+    err: &mut E,
+) -> Result<(), Fault> {
+    match text_of(alloc, tree)? {
+        Text::Printed(text) => writeln!(out, "{text}")?,
+        Text::Kept(why) => {
+            writeln!(err, "{at}: left as it is: {why}")?;
+            writeln!(out, "{pattern}")?;
+        }
+    }
+    Ok(())
+}
+
+/// Writes the pattern as it prints, a line of `out`. One that has no text is written as it was, with why on `err`, and so
+/// is one that is refused, with where and why.
+pub(crate) fn format_pattern<O: Write, E: Write>(
+    alloc: Global,
+    flags: u32,
+    at: Location<'_>,
+    pattern: &str,
+    out: &mut O,
+    err: &mut E,
+) -> Result<Outcome, Fault>
+    ensures good { result ≡ Ok Outcome.Good → HasTree (flags_of flags) (chars pattern.now) }
+    ensures refused { result ≡ Ok Outcome.Refused → HasFault (flags_of flags) (chars pattern.now) }
+    ensures read { result ≡ Ok Outcome.Unread → ⊥ }
+{
+    let Some(tree) = read(alloc, flags, at, pattern, err)? else {
+        writeln!(out, "{pattern}")?;
+        return Ok(Outcome::Refused);
+    };
+    write_text(alloc, at, pattern, &tree.expr, out, err)?;
+    Ok(Outcome::Good)
+}
+
+/// Whether the tree's pattern is written as it is.
+fn stays(alloc: Global, pattern: &str, tree: &Expr) -> Result<bool, Fault> {
+    Ok(match text_of(alloc, tree)? {
+        Text::Printed(text) => text.as_str() == pattern,
+        Text::Kept(_) => true,
+    })
+}
+
+/// Whether the pattern would be written as it is. Where it is refused, `err` says where and why.
+pub(crate) fn is_formatted<E: Write>(
+    alloc: Global,
+    flags: u32,
+    at: Location<'_>,
+    pattern: &str,
+    err: &mut E,
+) -> Result<Outcome, Fault>
+    ensures good { result ≡ Ok Outcome.Good → HasTree (flags_of flags) (chars pattern.now) }
+    ensures read { result ≡ Ok Outcome.Unread → ⊥ }
+{
+    let Some(tree) = read(alloc, flags, at, pattern, err)? else {
+        return Ok(Outcome::Refused);
+    };
+    if stays(alloc, pattern, &tree.expr)? {
+        return Ok(Outcome::Good);
+    }
+    Ok(Outcome::Refused)
+}

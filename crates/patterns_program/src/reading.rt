@@ -1,0 +1,33 @@
+//! Patterns read.
+ghost use Rattle.std.specs.Prelude.{chars, IfOk, OnSome, IfNone};
+ghost use Rattle.fancy_lex.specs.Flags.{flags_of};
+ghost use Rattle.fre_program.specs.Words.{HasTree, HasFault};
+
+use crate::fault::Fault;
+use crate::place::{Location, write_refusal};
+use fancy_syntax::error::Error;
+use fancy_syntax::expr::Expr;
+use fancy_syntax::tree::ExprTree;
+use std::alloc::{AllocError, Global};
+use std::io::Write;
+
+/// The tree of a pattern; none where it is refused, and then `refusals` says where and why.
+pub(crate) fn read<O: Write>(
+    alloc: Global,
+    flags: u32,
+    at: Location<'_>,
+    pattern: &str,
+    refusals: &mut O,
+) -> Result<Option<ExprTree>, Fault>
+    ensures read { IfOk result (λ answer. OnSome answer (HasTree (flags_of flags) (chars pattern.now))) }
+    ensures refused { IfOk result (λ answer. IfNone answer (HasFault (flags_of flags) (chars pattern.now))) }
+{
+    match Expr::parse_tree_with_flags(alloc, pattern, flags) {
+        Ok(tree) => Ok(Some(tree)),
+        Err(Error::ParseError(place, kind)) => {
+            write_refusal(refusals, at, pattern, place, &kind)?;
+            Ok(None)
+        }
+        Err(Error::OutOfMemory) => Err(Fault::Memory(AllocError)),
+    }
+}

@@ -1,0 +1,165 @@
+//! A run over files of patterns.
+ghost use Rattle.std.specs.Prelude.{◌≡◌, ◌≤◌};
+
+use crate::check::check;
+use crate::fault::{Fault, give_up};
+use crate::groups::list_groups;
+use crate::lines::next_line;
+use crate::outcome::Outcome;
+use crate::place::Location;
+use crate::printing::{format_pattern, is_formatted};
+use crate::sources::Sources;
+use std::alloc::{AllocError, Global};
+use std::io::{BufRead, ErrorKind, Write};
+use std::{io, str};
+
+/// The name of the standard input.
+pub const STANDARD_INPUT: &str = "-";
+
+/// What is asked of each pattern.
+#[derive(Clone, Copy)]
+pub enum Verb {
+    /// Whether it is read; where and why not goes to the output.
+    Check,
+    /// Its text as it prints, in the place of the line.
+    Format,
+    /// Whether it would be written as it is.
+    IsFormatted,
+    /// Its groups, and what its references and calls mean.
+    Groups,
+}
+
+/// A verb, and the flags that the patterns are read under.
+#[derive(Clone, Copy)]
+pub struct Job {
+    pub verb: Verb,
+    pub flags: u32,
+}
+
+/// Says that the line is no text; where lines are formatted, it is written as it was.
+fn pass_over<O: Write, E: Write>(
+    verb: Verb,
+    at: Location<'_>,
+    line: &[u8],
+    out: &mut O,
+    err: &mut E,
+) -> io::Result<()> {
+    writeln!(err, "{at}: the line is not UTF-8")?;
+    if let Verb::Format = verb {
+        out.write_all(line)?;
+        out.write_all(b"\n")?;
+    }
+    Ok(())
+}
+
+/// Does the verb's work on a line.
+fn answer_line<O: Write, E: Write>(
+    alloc: Global,
+    job: Job,
+    at: Location<'_>,
+    line: &[u8],
+    out: &mut O,
+    err: &mut E,
+) -> Result<Outcome, Fault> {
+    let Ok(pattern) = str::from_utf8(line) else {
+        pass_over(job.verb, at, line, out, err)?;
+        return Ok(Outcome::Unread);
+    };
+    match job.verb {
+        Verb::Check => check(alloc, job.flags, at, pattern, out),
+        Verb::Format => format_pattern(alloc, job.flags, at, pattern, out, err),
+        Verb::IsFormatted => is_formatted(alloc, job.flags, at, pattern, err),
+        Verb::Groups => list_groups(alloc, job.flags, at, pattern, out, err),
+    }
+}
+
+/// Says that a file cannot be opened, or not be read further; gives up where that is since memory is wanting.
+fn unread<E: Write>(file: &str, error: io::Error, err: &mut E) -> Result<Outcome, Fault> {
+    if error.kind() == ErrorKind::OutOfMemory {
+        return Err(Fault::Memory(AllocError));
+    }
+    writeln!(err, "patterns: {file}: {error}")?;
+    Ok(Outcome::Unread)
+}
+
+/// Does the verb's work on each line of a reader.
+fn answer_lines<R: BufRead, O: Write, E: Write>(
+    alloc: Global,
+    job: Job,
+    file: &str,
+    reader: &mut R,
+    out: &mut O,
+    err: &mut E,
+) -> Result<Outcome, Fault> {
+    let mut buffer = Vec::new(alloc);
+    let mut outcome = Outcome::Good;
+    for line in 1..u64::MAX {
+        match next_line(reader, &mut buffer) {
+            Ok(Some(text)) => {
+                let at = Location { file, line };
+                outcome = outcome.and(answer_line(alloc, job, at, text, out, err)?);
+            }
+            Ok(None) => return Ok(outcome),
+            Err(error) => return unread(file, error, err),
+        }
+    }
+    Ok(Outcome::Unread)
+}
+
+/// Does the verb's work on each line of a file.
+fn answer_file<S: Sources, O: Write, E: Write>(
+    alloc: Global,
+    job: Job,
+    file: &str,
+    sources: &S,
+    out: &mut O,
+    err: &mut E,
+) -> Result<Outcome, Fault> {
+    if file == STANDARD_INPUT {
+        return match sources.input() {
+            Ok(mut input) => answer_lines(alloc, job, file, &mut input, out, err),
+            Err(error) => unread(file, error, err),
+        };
+    }
+    match sources.open(file) {
+        Ok(mut opened) => answer_lines(alloc, job, file, &mut opened, out, err),
+        Err(error) => unread(file, error, err),
+    }
+}
+
+/// Does the verb's work on each line of each file, and sees that it is written.
+fn answer_files<S: Sources, O: Write, E: Write>(
+    alloc: Global,
+    job: Job,
+    files: &[&str],
+    sources: &S,
+    out: &mut O,
+    err: &mut E,
+) -> Result<Outcome, Fault> {
+    let mut outcome = Outcome::Good;
+    for file in files {
+        outcome = outcome.and(answer_file(alloc, job, file, sources, out, err)?);
+    }
+    out.flush()?;
+    Ok(outcome)
+}
+
+/// Does the job on each pattern of the files, a pattern a line, and answers the status of the run: 0 where each is as
+/// the verb asks; 1 where one is not; 2 where a file, or a line of one, could not be read, which is said on `err`, and
+/// the others were; 3 where memory or a write was wanting, which is tried on `err`, and then `out` may hold a beginning.
+/// A line ends with LF or CR LF. The file `-` is the standard input.
+pub fn run<S: Sources, O: Write, E: Write>(
+    alloc: Global,
+    job: Job,
+    files: &[&str],
+    sources: &S,
+    out: &mut O,
+    err: &mut E,
+) -> u8
+    ensures status { result ≤ 3 }
+{
+    match answer_files(alloc, job, files, sources, out, err) {
+        Ok(outcome) => outcome.status(),
+        Err(fault) => give_up(err, fault),
+    }
+}

@@ -1,0 +1,265 @@
+//! Nodes in words.
+use crate::names::Names;
+use crate::place::Cut;
+use fancy_lex::escape::Assertion;
+use fancy_lex::name::CaptureGroupTarget;
+use fancy_syntax::expr::{Absent, AstNode, BacktrackingControlVerb, Expr, LookAround};
+use std::io::Write;
+use std::{fmt, io};
+
+/// A text in which each control character is written as its code.
+#[derive(Clone, Copy)]
+struct Visible<'a>(&'a str);
+
+impl fmt::Display for Visible<'_> {
+    fn fmt<W: fmt::Write>(&self, f: &mut fmt::Formatter<W>) -> fmt::Result {
+        for c in self.0.chars() {
+            if c.is_control() {
+                write!(f, "\\u{{{:x}}}", u32::from(c))?;
+            } else {
+                f.write_char(c)?;
+            }
+        }
+        Ok(())
+    }
+}
+
+/// What is added where upper and lower case are one.
+fn case_words(casei: bool) -> &'static str {
+    if casei {
+        ", upper and lower case alike"
+    } else {
+        ""
+    }
+}
+
+fn any_words(newline: bool, crlf: bool) -> &'static str {
+    match (newline, crlf) {
+        (true, _) => "any character",
+        (false, false) => "any character but a line feed",
+        (false, true) => "any character but a carriage return or a line feed",
+    }
+}
+
+fn assertion_words(assertion: Assertion) -> &'static str {
+    match assertion {
+        Assertion::StartText => "start of the text",
+        Assertion::EndText => "end of the text",
+        Assertion::EndTextIgnoreTrailingNewlines { crlf: false } => {
+            "end of the text, but for line feeds that end it"
+        }
+        Assertion::EndTextIgnoreTrailingNewlines { crlf: true } => {
+            "end of the text, but for line feeds or CR LF that end it"
+        }
+        Assertion::StartLine { crlf: false } => "start of a line",
+        Assertion::StartLine { crlf: true } => "start of a line, CR LF counted as one end",
+        Assertion::StartLineOniguruma { crlf: false } => {
+            "start of a line, but not at the end of the text"
+        }
+        Assertion::StartLineOniguruma { crlf: true } => {
+            "start of a line, but not at the end of the text, CR LF counted as one end"
+        }
+        Assertion::EndLine { crlf: false } => "end of a line",
+        Assertion::EndLine { crlf: true } => "end of a line, CR LF counted as one end",
+        Assertion::LeftWordBoundary => "start of a word",
+        Assertion::LeftWordHalfBoundary => "no word character before",
+        Assertion::RightWordBoundary => "end of a word",
+        Assertion::RightWordHalfBoundary => "no word character after",
+        Assertion::WordBoundary => "start or end of a word",
+        Assertion::NotWordBoundary => "neither start nor end of a word",
+    }
+}
+
+fn look_around_words(look_around: LookAround) -> &'static str {
+    match look_around {
+        LookAround::LookAhead => "look-ahead: what follows matches",
+        LookAround::LookAheadNeg => "negative look-ahead: what follows does not match",
+        LookAround::LookBehind => "look-behind: what stands before matches",
+        LookAround::LookBehindNeg => "negative look-behind: what stands before does not match",
+    }
+}
+
+fn verb_words(verb: BacktrackingControlVerb) -> &'static str {
+    match verb {
+        BacktrackingControlVerb::Fail => "verb FAIL",
+        BacktrackingControlVerb::Accept => "verb ACCEPT",
+        BacktrackingControlVerb::Commit => "verb COMMIT",
+        BacktrackingControlVerb::Skip => "verb SKIP",
+        BacktrackingControlVerb::Prune => "verb PRUNE",
+    }
+}
+
+fn absent_words(absent: &Absent) -> &'static str {
+    match absent {
+        Absent::Repeater(_) => "absent repeater: any text that holds no match",
+        Absent::Expression { .. } => "absent expression: text that holds no match of another",
+        Absent::Stopper(_) => "absent stopper: from here on, no match",
+        Absent::Clear => "absent clear: the stopper ends",
+    }
+}
+
+/// What a node without fields of its own is, or one whose fields are its children.
+fn plain_words(node: &Expr) -> &'static str {
+    match node {
+        Expr::Empty => "nothing",
+        Expr::Any { newline, crlf } => any_words(*newline, *crlf),
+        Expr::Assertion(assertion) => assertion_words(*assertion),
+        Expr::GeneralNewline { unicode: false } => "any line break of ASCII",
+        Expr::GeneralNewline { unicode: true } => "any line break",
+        Expr::Concat(_) => "in a row",
+        Expr::Alt(_) => "one of",
+        Expr::LookAround(_, look_around) => look_around_words(*look_around),
+        Expr::AtomicGroup(_) => "atomic group",
+        Expr::KeepOut => "start of what is kept of the match",
+        Expr::ContinueFromPreviousMatchEnd => "end of the match before",
+        Expr::Conditional { .. } => "conditional",
+        Expr::BacktrackingControlVerb(verb) => verb_words(*verb),
+        Expr::Absent(absent) => absent_words(absent),
+        Expr::DefineGroup { .. } => "definitions",
+        _ => "a node that no answered tree has",
+    }
+}
+
+/// How often.
+#[derive(Clone, Copy)]
+struct Times {
+    least: usize,
+    most: usize,
+}
+
+impl fmt::Display for Times {
+    fn fmt<W: fmt::Write>(&self, f: &mut fmt::Formatter<W>) -> fmt::Result {
+        match (self.least, self.most) {
+            (1, 1) => f.write_str("exactly once"),
+            (least, usize::MAX) => write!(f, "{least} or more times"),
+            (least, most) if least == most => write!(f, "exactly {least} times"),
+            (least, most) => write!(f, "{least} to {most} times"),
+        }
+    }
+}
+
+/// Bytes in hexadecimal, with blanks between.
+#[derive(Clone, Copy)]
+struct Hex<'a>(&'a [u8]);
+
+impl fmt::Display for Hex<'_> {
+    fn fmt<W: fmt::Write>(&self, f: &mut fmt::Formatter<W>) -> fmt::Result {
+        for (i, byte) in self.0.iter().enumerate() {
+            let blank = if i > 0 { " " } else { "" };
+            write!(f, "{blank}{byte:02x}")?;
+        }
+        Ok(())
+    }
+}
+
+/// A level of recursion that a reference looks at, where it names one.
+#[derive(Clone, Copy)]
+struct Level(Option<isize>);
+
+impl fmt::Display for Level {
+    fn fmt<W: fmt::Write>(&self, f: &mut fmt::Formatter<W>) -> fmt::Result {
+        match self.0 {
+            Some(level) => write!(f, ", at the level of recursion {level:+}"),
+            None => Ok(()),
+        }
+    }
+}
+
+/// What a call means nothing by.
+#[derive(Clone, Copy)]
+struct Meant<'a>(&'a CaptureGroupTarget);
+
+impl fmt::Display for Meant<'_> {
+    fn fmt<W: fmt::Write>(&self, f: &mut fmt::Formatter<W>) -> fmt::Result {
+        match self.0 {
+            CaptureGroupTarget::ByNumber(number) => write!(f, "number {number}"),
+            CaptureGroupTarget::ByName(name) => write!(f, "name {:?}", name.as_str()),
+            CaptureGroupTarget::Relative(amount) => write!(f, "{amount:+} from here"),
+        }
+    }
+}
+
+/// Writes what a reference or a call means; nothing of any other node.
+pub(crate) fn write_reference<O: Write>(
+    out: &mut O,
+    node: &Expr,
+    names: &Names<'_>,
+    pattern: &str,
+) -> io::Result<()> {
+    match node {
+        Expr::Backref { group, casei } => {
+            let case = case_words(*casei);
+            writeln!(out, "back reference to {}{case}", names.group(*group))
+        }
+        Expr::BackrefWithRelativeRecursionLevel {
+            group,
+            relative_level,
+            casei,
+        } => {
+            let level = Level(Some(*relative_level));
+            let case = case_words(*casei);
+            writeln!(
+                out,
+                "back reference to {}{level}{case}",
+                names.group(*group)
+            )
+        }
+        Expr::BackrefExistsCondition {
+            group,
+            relative_recursion_level,
+        } => {
+            let level = Level(*relative_recursion_level);
+            writeln!(
+                out,
+                "condition on a match of {}{level}",
+                names.group(*group)
+            )
+        }
+        Expr::SubroutineCall(0) => writeln!(out, "call of the whole pattern"),
+        Expr::SubroutineCall(group) => writeln!(out, "call of {}", names.group(*group)),
+        Expr::AstNode(AstNode::SubroutineCall(target), place) => {
+            let at = Cut::at(pattern, *place);
+            writeln!(out, "call of no group, by {}, {at}", Meant(target))
+        }
+        _ => Ok(()),
+    }
+}
+
+/// Whether the node is a reference or a call.
+pub(crate) fn is_reference(node: &Expr) -> bool {
+    matches!(
+        node,
+        Expr::Backref { .. }
+            | Expr::BackrefWithRelativeRecursionLevel { .. }
+            | Expr::BackrefExistsCondition { .. }
+            | Expr::SubroutineCall(_)
+            | Expr::AstNode(..)
+    )
+}
+
+/// What a node holds that is neither a reference nor a group, in words.
+#[derive(Clone, Copy)]
+pub(crate) struct Held<'a>(pub(crate) &'a Expr);
+
+impl fmt::Display for Held<'_> {
+    fn fmt<W: fmt::Write>(&self, f: &mut fmt::Formatter<W>) -> fmt::Result {
+        match self.0 {
+            Expr::Literal { val, casei } => {
+                write!(f, "text {:?}{}", val.as_str(), case_words(*casei))
+            }
+            Expr::LiteralBytes { bytes } => write!(f, "bytes {}", Hex(bytes)),
+            Expr::Delegate { inner, casei } => {
+                write!(f, "class {}{}", Visible(inner.as_str()), case_words(*casei))
+            }
+            Expr::Repeat { lo, hi, greedy, .. } => {
+                let times = Times {
+                    least: *lo,
+                    most: *hi,
+                };
+                let first = if *greedy { "often" } else { "seldom" };
+                write!(f, "repeated {times}, as {first} as possible")
+            }
+            node => f.write_str(plain_words(node)),
+        }
+    }
+}
