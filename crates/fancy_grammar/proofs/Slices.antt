@@ -1,16 +1,15 @@
 -- What is read is a slice of the text, in which groups and references stand one behind another.
 use Rattle.std.proofs.Common.{◌≡◌, ℕ, zero, suc, ◌+◌, ◌≤◌, ◌-◌, ◌∷◌, [], ◌++◌, List, refl, sym, ap, ◌∙◌, subst, arith, Bool, true, false, Option, Some, None, append_assoc, append-nil}
-use Rattle.std.specs.Prelude.{◌==◌, not, nat_lt, nat_le, ◌^◌, ◌*◌, IfSome, option_map, option_and_then, unwrap_or, codes, ◌&&◌}
+use Rattle.std.specs.Prelude.{◌==◌, not, nat_lt, nat_le, IfSome, codes, ◌&&◌}
 use Rattle.std.proofs.lemmas.Bool.{cond_both}
 use Rattle.std.proofs.lemmas.Str.{len_utf8_bounds}
-use Rattle.std.specs.Char.{is_ascii_digit}
 use Rattle.fancy_lex.proofs.EscapeLaws.{leaves_escape}
 use Rattle.fancy_lex.proofs.LeaveLaws.{Leaves, leaves, faults}
 use Rattle.fancy_lex.proofs.LayoutLaws.{layout_cut, layout_place}
 use Rattle.fancy_lex.proofs.PlaceLaws.{leaves_class}
 use Rattle.fancy_lex.proofs.EscapeSound.{Sound, sound_escape}
 use Rattle.fancy_lex.proofs.ReferencePlaces.{IfGives, ReferenceAt, CallAt}
-use Rattle.fancy_lex.proofs.TakeLaws.{Takes, TakesOrFails, takes, fault_within, takes_bytes}
+use Rattle.fancy_lex.proofs.TakeLaws.{Takes, TakesSome, TakesOrFails, takes, fault_within, takes_bytes}
 use Rattle.fancy_lex.proofs.TextLemmas.{bytes-append, strip_is, strip_word_is}
 use Rattle.fancy_lex.specs.Referred as referred_spec
 use Rattle.fancy_lex.specs.Characters.{bar}
@@ -19,18 +18,18 @@ use Rattle.fancy_lex.specs.Escape.{escape}
 use Rattle.fancy_lex.specs.Escaped as escaped
 use Rattle.fancy_lex.specs.Escaped.{Escape}
 use Rattle.fancy_lex.specs.Fault.{Kind}
-use Rattle.fancy_lex.specs.Layout.{layout, Skipped, rest, rest_of, fault as open_comment}
+use Rattle.fancy_lex.specs.Layout.{layout, Skipped, rest, fault as open_comment}
 use Prim.Native.Char.{code}
-use Rattle.fancy_lex.specs.Number.{number, run, at_digit}
 use Rattle.fancy_lex.specs.Reading.{Reading, gives, fails, choose}
 use Rattle.fancy_lex.specs.Text.{Text, bytes, place_of, strip, strip_word}
 use Rattle.fancy_lex.specs.declared.flags.Flags.{Flags}
+use Rattle.fancy_parts.proofs.CountLaws.{takes_counts}
 use Rattle.fancy_parts.proofs.FlagLaws.{leaves_letters}
 use Rattle.fancy_parts.proofs.HeadLaws.{takes_group_name, takes_named_reference, takes_named_call, takes_condition_target, named_reference_at, named_call_at, condition_target_at}
 use Rattle.fancy_parts.specs.GroupName.{group_name}
 use Rattle.fancy_parts.specs.HeadReference.{named_reference, named_call, begins_target, condition_target}
 use Rattle.fancy_parts.specs.FlagLetters.{Letters, letters, setting, scope as scoped}
-use Rattle.fancy_parts.specs.Quantifier.{counts, braced_counts, counts_from, in_braces, spaced_count, past_layout, count, count_of, exact_or_range, most}
+use Rattle.fancy_parts.specs.Quantifier.{counts}
 use Rattle.fancy_parts.specs.declared.counts.Counts.{Counts}
 use Rattle.fancy_grammar.proofs.OutcomeLemmas.{behind_keeps}
 use Rattle.fancy_grammar.specs.Ahead.{Ahead, nothing, leaf, opens, condition, body, absent_branch, ahead, ahead_of, behind_layout, head_ahead, question_ahead, python_ahead, less_ahead, absent_ahead, conditional_ahead, condition_ahead, flags_ahead, leaf_node, leaf_outcome, leaf_of, is_before_nothing, max_depth, skipped, named_ahead, target_ahead, backref_node, call_node}
@@ -165,118 +164,24 @@ items_join ts = items_one_or_concat (solid ts) ∙ items_solid ts
 
 -- ---- readers
 
--- what a reader leaves is behind a slice
-abbrev Rests : {A : Type 0} → Text → Option (A × Text) → Type 0
-Rests t o = IfSome o (λ p. Slice t p.1)
-
-run_slice : (n : ℕ) (t : Text) → Slice t (run n t).1
-unfolding run
-run_slice n [] = here []
-run_slice n (c ∷ t) = cond_both (is_ascii_digit c) _ _ (λ (r : ℕ × Text). Slice (c ∷ t) r.1) (λ _. on (one c t) (run_slice (n * 10 + (c - 48)) t)) (λ _. here (c ∷ t))
-
-number_slice : (t : Text) → Rests t (number t)
-unfolding number
-number_slice t = cond_both (at_digit t) _ _ (Rests t) (λ _. run_slice 0 t) (λ _. tt)
-
-count_slice : (t : Text) → Rests t (count t)
-unfolding count
-count_slice t = by_cases (number t) (number_slice t)
-  where
-    by_cases : (o : Option (ℕ × Text)) → Rests t o → Rests t (count_of t o)
-    by_cases None h = here t
-    by_cases (Some (n, u)) h = cond_both (nat_lt n (2 ^ 64)) _ _ (Rests t) (λ _. h) (λ _. tt)
-
 -- the counts stand before a slice's end
 abbrev Counted : Text → Option (Counts × Text) → Type 0
 Counted t o = IfSome o (λ p. Slice t p.1)
 
-past : {t u : Text} (o : Option (Counts × Text)) → Slice t u → Counted u o → Counted t o
-past None a h = tt
-past (Some p) a h = on a h
-
-past_slice : (x : Bool) (t : Text) → IfSome (past_layout x t) (λ u. Slice t u)
-past_slice x t = by_layout (layout 0 x t) refl
-  where
-    by_layout : (k : Skipped) → layout 0 x t ≡ k → IfSome (rest_of k) (λ u. Slice t u)
-    by_layout (rest u) e = cut_slice (layout_cut 0 x t u e)
-    by_layout (open_comment p) e = tt
-
-spaced_slice : (x : Bool) (t : Text) → Rests t (spaced_count x t)
-unfolding spaced_count
-spaced_slice x t = by_first (past_layout x t) (past_slice x t)
-  where
-    by_last : {u : Text} (n : Option ℕ) (o : Option Text) → IfSome o (λ v. Slice u v) → Slice t u → Rests t (option_map (λ v. (n, v)) o)
-    by_last n None h a = tt
-    by_last n (Some v) h a = on a h
-
-    by_count : {u : Text} (o : Option (Option ℕ × Text)) → Rests u o → Slice t u →
-        Rests t (option_and_then (λ p. option_map (λ v. (p.0, v)) (past_layout x p.1)) o)
-    by_count None h a = tt
-    by_count (Some (n, v)) h a = by_last n (past_layout x v) (past_slice x v) (on a h)
-
-    by_first : (o : Option Text) → IfSome o (λ u. Slice t u) →
-        Rests t (option_and_then (λ u. option_and_then (λ p. option_map (λ v. (p.0, v)) (past_layout x p.1)) (count u)) o)
-    by_first None h = tt
-    by_first (Some u) h = by_count (count u) (count_slice u) h
-
-from_slice : (x : Bool) (low : ℕ) (t : Text) → Counted t (counts_from x low t)
-unfolding counts_from
-from_slice x low t = by_cases (spaced_count x t) (spaced_slice x t)
-  where
-    closed : (p : Option ℕ × Text) (o : Option Text) → strip (code "}") p.1 ≡ o → Slice t p.1 →
-        Counted t (option_map (λ v. (in_braces low (unwrap_or p.0 most), v)) o)
-    closed p None e h = tt
-    closed p (Some v) e h = on h (strip_slice (code "}") p.1 v e)
-
-    by_cases : (o : Option (Option ℕ × Text)) → Rests t o →
-        Counted t (option_and_then (λ p. option_map (λ v. (in_braces low (unwrap_or p.0 most), v)) (strip (code "}") p.1)) o)
-    by_cases None h = tt
-    by_cases (Some p) h = closed p (strip (code "}") p.1) refl h
-
-braces_slice : (x : Bool) (t : Text) → Counted t (braced_counts x t)
-unfolding braced_counts
-braces_slice x t = by_cases (spaced_count x t) (spaced_slice x t)
-  where
-    exact : (low : Option ℕ) (v : Text) → Slice t v → Counted t (option_map (λ n. (in_braces n n, v)) low)
-    exact None v h = tt
-    exact (Some n) v h = h
-
-    range : (low : ℕ) (u : Text) (o : Option Text) → strip (code ",") u ≡ o → Slice t u → Counted t (option_and_then (counts_from x low) o)
-    range low u None e h = tt
-    range low u (Some v) e h = past (counts_from x low v) (on h (strip_slice (code ",") u v e)) (from_slice x low v)
-
-    closed : (low : Option ℕ) (u : Text) (o : Option Text) → strip (code "}") u ≡ o → Slice t u → Counted t (exact_or_range x low u o)
-    closed low u (Some v) e h = exact low v (on h (strip_slice (code "}") u v e))
-    closed low u None e h = range (unwrap_or low 0) u (strip (code ",") u) refl h
-
-    by_cases : (o : Option (Option ℕ × Text)) → Rests t o →
-        Counted t (option_and_then (λ p. exact_or_range x p.0 p.1 (strip (code "}") p.1)) o)
-    by_cases None h = tt
-    by_cases (Some p) h = closed p.0 p.1 (strip (code "}") p.1) refl h
-
--- behind the first character
-behind_first : (x : Bool) (c : ℕ) (t : Text) → Counted t (counts x (c ∷ t))
-unfolding counts
-behind_first x c t =
-    cond_both (c == code "?") _ _ (Counted t) (λ _. here t) (λ _.
-    cond_both (c == code "*") _ _ (Counted t) (λ _. here t) (λ _.
-    cond_both (c == code "+") _ _ (Counted t) (λ _. here t) (λ _.
-    cond_both (c == code "{") _ _ (Counted t) (λ _. braces_slice x t) (λ _. tt))))
-
 counts_slice : (x : Bool) (t : Text) → Counted t (counts x t)
-unfolding counts
-counts_slice x [] = tt
-counts_slice x (c ∷ t) = past (counts x (c ∷ t)) (one c t) (behind_first x c t)
+counts_slice x t = by_counts (counts x t) (takes_counts x t)
+  where
+    by_counts : (o : Option (Counts × Text)) → TakesSome 1 t o → Counted t o
+    by_counts None h = tt
+    by_counts (Some p) h = taken h
 
 -- the counts take a byte or more
 pub counts_past : (x : Bool) (t : Text) → IfSome (counts x t) (λ p. bytes p.1 + 1 ≤ bytes t)
-unfolding counts
-counts_past x [] = tt
-counts_past x (c ∷ t) = by_counts (counts x (c ∷ t)) (behind_first x c t)
+counts_past x t = by_counts (counts x t) (takes_counts x t)
   where
-    by_counts : (o : Option (Counts × Text)) → Counted t o → IfSome o (λ p. bytes p.1 + 1 ≤ bytes (c ∷ t))
+    by_counts : (o : Option (Counts × Text)) → TakesSome 1 t o → IfSome o (λ p. bytes p.1 + 1 ≤ bytes t)
     by_counts None h = tt
-    by_counts (Some p) h = omega (arith, fits h, one_bytes c t)
+    by_counts (Some p) h = takes_bytes h
 
 -- ---- layout
 

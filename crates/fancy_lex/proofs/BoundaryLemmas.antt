@@ -6,7 +6,7 @@ use Rattle.fancy_lex.specs.declared.error.Error.TheVariants.{ParseError, OutOfMe
 use Rattle.fancy_lex.specs.Boundary.{name}
 use Rattle.fancy_lex.specs.Fault.{invalid_escape}
 use Rattle.fancy_lex.specs.FaultTable.{boundary_head}
-use Rattle.fancy_lex.specs.Reading.{Reading, gives, fails, fault_at, ◌>=>◌, layout_reading, Says, Fails}
+use Rattle.fancy_lex.specs.Reading.{Reading, gives, fails, fault_at, ◌>=>◌, layout_reading, Says, Reports}
 use Rattle.fancy_lex.specs.Characters.{close_brace}
 use Rattle.fancy_lex.specs.Layout.{Skipped, rest, fault, rest_of, layout}
 use Rattle.fancy_lex.specs.Text.{Text, strip}
@@ -69,11 +69,11 @@ same_after (fails e) f g h = refl
 
 -- one step of the name that a fault tells
 module _ (n : ℕ) (x : Bool) (p : ℕ) (out t : Text) where
-  pub name_fault_open : (k : ℕ) (b : Error) → 0 < k → Says b (layout_reading (layout n x t)) → Fails b (name_fault_behind n x p out k t)
+  pub name_fault_open : (k : ℕ) (b : Error) → 0 < k → Says b (layout_reading (layout n x t)) → Reports b (name_fault_behind n x p out k t)
   unfolding name_fault_behind name
   name_fault_open zero b l e = absurd (omega arith)
   name_fault_open (suc k) (ParseError q d) l e = rw e refl
-  name_fault_open (suc k) OutOfMemory l e = tt
+  name_fault_open (suc k) OutOfMemory l e = absurd e
 
   pub name_fault_end : (k : ℕ) (u : Text) → layout_reading (layout n x t) ≡ gives tt u → u ≡ [] → name_fault_behind n x p out k t ≡ fault_at p (invalid_escape (codes "\\b{...}"))
   unfolding name_fault_behind name

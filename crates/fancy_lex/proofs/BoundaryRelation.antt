@@ -11,7 +11,7 @@ use Rattle.fancy_lex.specs.Escaped.{Escape, assertion, escape_of}
 use Rattle.fancy_lex.specs.Fault.{Fault}
 use Rattle.fancy_lex.specs.FaultTable.{comment_not_closed, name_of_no_boundary}
 use Rattle.fancy_lex.specs.Layout.{Skipped, rest, fault, layout, Before}
-use Rattle.fancy_lex.specs.Reading.{Reading, gives, fails, ◌>=>◌, Gives, Derives}
+use Rattle.fancy_lex.specs.Reading.{Reading, gives, fails, ◌>=>◌, Answers, Derives}
 use Rattle.fancy_lex.specs.Text.{Text, strip}
 use Rattle.fancy_lex.proofs.BoundaryLaws.{name_open, name_unclosed, name_close, name_step}
 use Rattle.fancy_lex.proofs.LayoutLaws.{layout_sound, layout_complete, unclosed_sound, unclosed_complete, layout_length}
@@ -168,9 +168,9 @@ boundary_reads n x p negated t = by_layout n x p negated t (layout n x t) refl
 
 -- ---- the clauses of the reader
 
-module _ (n : ℕ) (x : Bool) (p : ℕ) (negated : Bool) (t : Text) (r : Result (Escaped × Bor (List ℕ)) Error) (g : Gives escape_of r (boundary n x p negated t)) where
+module _ (n : ℕ) (x : Bool) (p : ℕ) (negated : Bool) (t : Text) (r : Result (Escaped × Bor (List ℕ)) Error) (g : Answers escape_of r (boundary n x p negated t)) where
   pub boundary_derives : Derives escape_of r (Boundary n x p negated t)
   boundary_derives = derives_answer escape_of r (Boundary n x p negated t) (boundary n x p negated t) (boundary_reads n x p negated t) g
 
-  pub boundary_only : (o : Reading Escape) → Boundary n x p negated t o → Gives escape_of r o
+  pub boundary_only : (o : Reading Escape) → Boundary n x p negated t o → Answers escape_of r o
   boundary_only o h = only_answer escape_of r (boundary n x p negated t) o (boundary_is n x p negated h) g

@@ -5,11 +5,11 @@ use Rattle.fancy_lex.specs.Class.{class_head, items, class, item_text, is_negate
 use Rattle.fancy_lex.specs.Escape.{escape}
 use Rattle.fancy_lex.specs.Escaped.{Escape}
 use Rattle.fancy_lex.specs.Fault.{invalid_class}
-use Rattle.fancy_lex.specs.Reading.{gives, fault_at, Fails}
+use Rattle.fancy_lex.specs.Reading.{gives, fault_at, Reports, Fails}
 use Rattle.fancy_lex.specs.Text.{Text, bytes, place_of}
 use Rattle.fancy_lex.specs.declared.error.Error.{Error}
 use Rattle.fancy_lex.specs.declared.flags.Flags.{Flags}
-use Rattle.fancy_lex.proofs.ReadingLemmas.{fails_first}
+use Rattle.fancy_lex.proofs.ReadingLemmas.{reports_first, report_fails}
 
 pub pred_lt : (a b k : ℕ) → a < b → b < k → a < pred k
 pred_lt a b zero l m = absurd (omega arith)
@@ -49,12 +49,12 @@ module _ (n : ℕ) (f : Flags) where
         let here : escape n f true (place_of n (92 ∷ r)) r ≡ gives v u = ap (λ s. escape n f true (place_of n s) r) (sym (e ∙ ap (λ d. d ∷ r) g)) ∙ q in
         rw (e, g, items, here) refl
 
-    pub items_fault : (k : ℕ) (b : Error) → 0 < k → c ≡ 92 → Fails b (escape n f true (place_of n t) r) → Fails b (items n f k depth seen out t)
+    pub items_fault : (k : ℕ) (b : Error) → 0 < k → c ≡ 92 → Reports b (escape n f true (place_of n t) r) → Fails b (items n f k depth seen out t)
     unfolding items
     items_fault zero b m g q = absurd (omega arith)
     items_fault (suc k) b m g q =
-        let here = subst (λ s. Fails b (escape n f true (place_of n s) r)) (e ∙ ap (λ d. d ∷ r) g) q in
-        rw (e, g, items) (fails_first _ _ b here)
+        let here = subst (λ s. Reports b (escape n f true (place_of n s) r)) (e ∙ ap (λ d. d ∷ r) g) q in
+        rw (e, g, items) (report_fails b _ (reports_first _ _ b here))
 
   pub class_init : (t o out left : Text) → o ≡ [] → ◌≡◌ {A = Text × Text} (class_head o t) (out, left) → class n f t ≡ items n f (suc (bytes t)) 0 false out left
   unfolding class
@@ -79,5 +79,5 @@ module _ (n : ℕ) (f : Flags) (depth : ℕ) (seen : Bool) (out t : Text) (c : �
   pub escape_step : (o : Text) (s : Bool) (p : ℕ) (v : Escape) (u : Text) → c ≡ 92 → p ≡ place_of n t → escape n f true p r ≡ gives v u → o ≡ out ++ item_text seen v → s ≡ (seen || is_negated v) → items n f k depth seen out t ≡ items n f (pred k) depth s o u
   escape_step o s p v u g q h z y = rw (z, y) (items_escape n f depth seen out t c r e k v u some g (ap (λ m. escape n f true m r) (sym q) ∙ h))
 
-  pub fault_step : (p : ℕ) (b : Error) → c ≡ 92 → p ≡ place_of n t → Fails b (escape n f true p r) → Fails b (items n f k depth seen out t)
-  fault_step p b g q h = items_fault n f depth seen out t c r e k b some g (subst (λ m. Fails b (escape n f true m r)) q h)
+  pub fault_step : (p : ℕ) (b : Error) → c ≡ 92 → p ≡ place_of n t → Reports b (escape n f true p r) → Fails b (items n f k depth seen out t)
+  fault_step p b g q h = items_fault n f depth seen out t c r e k b some g (subst (λ m. Reports b (escape n f true m r)) q h)

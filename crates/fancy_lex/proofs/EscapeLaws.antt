@@ -13,9 +13,9 @@ use Rattle.fancy_lex.specs.Layout.{Skipped, rest, fault, layout}
 use Rattle.fancy_lex.specs.Property.{single, braced, cut_at, name_at, read_property}
 use Rattle.fancy_lex.specs.Reading.{Reading, gives, fails, fault_at, ◌>=>◌, choose, layout_reading}
 use Rattle.fancy_lex.specs.Referred.{Reference}
-use Rattle.fancy_lex.specs.Text.{Text, bytes, strip, place_of}
+use Rattle.fancy_lex.specs.Text.{Text, EndsWith as Ends, bytes, strip, place_of}
 use Rattle.fancy_lex.proofs.LayoutLaws.{layout_cut, layout_place}
-use Rattle.fancy_lex.proofs.LeaveLaws.{Ends, ends_whole, ends_past, ends_twice, Leaves, whole, whole_next, leaves_none, leaves_past, leaves_if, leaves_both, leaves_choose, ends_strip, LeavesSome, ends_some, some_if, some_past, some_both, leaves}
+use Rattle.fancy_lex.proofs.LeaveLaws.{ends_whole, ends_past, ends_twice, Leaves, whole, whole_next, leaves_none, leaves_past, leaves_if, leaves_both, leaves_choose, ends_strip, LeavesSome, ends_some, some_if, some_past, some_both, leaves}
 use Rattle.fancy_lex.proofs.ReferenceLaws.{takes_number, takes_numbered_reference, takes_back_reference, takes_subroutine_call}
 use Rattle.fancy_lex.proofs.TakeLaws.{takes_leaves}
 use Rattle.fancy_lex.proofs.TextLemmas.{bytes-append}
@@ -107,7 +107,7 @@ module _ (m n : ℕ) (up : n + 1 ≤ m) where
     unfolding hexes.leaf_of_value
     leaves_coded v t = search (leaves_if, whole, none_at_code)
 
-  leaves_hex : (f : Flags) (width : ℕ) (t : Text) → Leaves m t (hexes.hex n f width t)
+  pub leaves_hex : (f : Flags) (width : ℕ) (t : Text) → Leaves m t (hexes.hex n f width t)
   unfolding hexes.hex
   leaves_hex f width t =
       leaves_both (leaves_layout f.ignore_space t)
@@ -130,7 +130,7 @@ module _ (m n : ℕ) (up : n + 1 ≤ m) where
     unfolding boundaries.named_boundary
     leaves_named negated t = leaves_both (leaves_name (suc (length t)) t) (λ w u. leaves_choose (boundaries.boundary_of_name negated w) (λ a e. whole u) (leaves_none l))
 
-    leaves_boundary : (negated : Bool) (t : Text) → Leaves m t (boundaries.boundary n x p negated t)
+    pub leaves_boundary : (negated : Bool) (t : Text) → Leaves m t (boundaries.boundary n x p negated t)
     unfolding boundaries.boundary
     leaves_boundary negated t = at (layout n x t) refl where
       at : (o : Skipped) → layout n x t ≡ o → Leaves m t (layout_reading o >=> (λ _ u. choose (strip open_brace u) (λ inside. layout_reading (layout n x inside) >=> (λ _ v. if boundaries.at_count v then gives (boundaries.unnamed_boundary negated) t else boundaries.named_boundary n x p negated inside)) (gives (boundaries.unnamed_boundary negated) t)))

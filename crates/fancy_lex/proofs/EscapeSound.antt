@@ -13,11 +13,11 @@ use Rattle.fancy_lex.specs.Layout.{layout}
 use Rattle.fancy_lex.specs.Property.{read_property}
 use Rattle.fancy_lex.specs.Reading.{Reading, gives, fails, ◌>=>◌, choose, layout_reading}
 use Rattle.fancy_lex.specs.Referred.{Reference, Call}
-use Rattle.fancy_lex.specs.Text.{Text, strip, place_of}
+use Rattle.fancy_lex.specs.Text.{Text, EndsWith as Ends, strip, place_of}
 use Rattle.fancy_lex.specs.declared.escape.Assertion.{Assertion}
 use Rattle.fancy_lex.specs.declared.escape.Assertion.TheVariants.{LeftWordBoundary, RightWordBoundary}
 use Rattle.fancy_lex.specs.declared.flags.Flags.{Flags}
-use Rattle.fancy_lex.proofs.LeaveLaws.{Ends, ends_whole, ends_past}
+use Rattle.fancy_lex.proofs.LeaveLaws.{ends_whole, ends_past}
 use Rattle.fancy_lex.proofs.ReferenceLaws.{takes_numbered_reference, takes_back_reference, takes_subroutine_call}
 use Rattle.fancy_lex.proofs.ReferencePlaces.{IfGives, ReferenceAt, CallAt, numbered_reference_at, back_reference_at, subroutine_call_at}
 use Rattle.fancy_lex.proofs.TakeLaws.{Takes, TakesOrFails, takes, takes_less}

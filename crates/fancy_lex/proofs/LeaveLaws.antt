@@ -1,14 +1,12 @@
 -- What a reader leaves: the end of the text; or its fault, and where that stands.
-use Rattle.std.proofs.Common.{◌≡◌, ℕ, ◌≤◌, Bool, true, false, if◌then◌else◌, [], ◌∷◌, ◌++◌, Option, Some, None, refl, ap, sym, ◌∙◌, subst, append_assoc}
+use Rattle.std.proofs.Common.{◌≡◌, ℕ, ◌≤◌, Bool, true, false, if◌then◌else◌, [], ◌∷◌, ◌++◌, Option, Some, None, refl, ap, sym, ◌∙◌, subst, append_assoc, chars, List, Bor, Result, Ok, Err, IfOk, IfErr}
 use Rattle.std.specs.Option.{option_and_then}
-use Rattle.fancy_lex.specs.Fault.{Fault, Kind}
-use Rattle.fancy_lex.specs.Reading.{Reading, gives, fails, fault_at, ◌>=>◌, choose}
-use Rattle.fancy_lex.specs.Text.{Text, strip}
+use Rattle.fancy_lex.specs.Fault.{Fault, Kind, kind_of, StandsWithin}
+use Rattle.fancy_lex.specs.Reading.{Reading, gives, fails, fault_at, ◌>=>◌, choose, Gives}
+use Rattle.fancy_lex.specs.Text.{Text, EndsWith as Ends, strip}
+use Rattle.fancy_lex.specs.declared.error.Error.{Error}
+use Rattle.fancy_lex.specs.declared.error.Error.TheVariants.{ParseError, OutOfMemory}
 use Rattle.fancy_lex.proofs.TextLemmas.{strip_is}
-
--- the text ends with the other
-abbrev pub Ends : Text → Text → Type 0
-Ends t v = (w : Text) × (t ≡ w ++ v)
 
 pub ends_whole : (t : Text) → Ends t t
 ends_whole t = ([], refl)
@@ -71,3 +69,28 @@ some_past t u None e l = tt
 pub some_both : {A B : Type 0} (t : Text) (o : Option (A × Text)) (f : A × Text → Option (B × Text)) → LeavesSome t o → ((p : A × Text) → LeavesSome p.1 (f p)) → LeavesSome t (option_and_then f o)
 some_both t (Some p) f l m = some_past t p.1 (f p) l (m p)
 some_both t None f l m = tt
+
+-- ---- the clauses of a reader
+
+module _ {A B : Type 0} {m : ℕ} {t : Text} {o : Reading B} (f : A → B) (r : Result (A × Bor (List ℕ)) Error) where
+  -- what the code leaves ends the text
+  pub given_cut : Leaves m t o → Gives f r o → IfOk r (λ p. Ends t (chars p.1.now))
+  given_cut l g = by_answer r l g
+    where
+      by_answer : (r : Result (A × Bor (List ℕ)) Error) → {o : Reading B} → Leaves m t o → Gives f r o →
+          IfOk r (λ p. Ends t (chars p.1.now))
+      by_answer (Ok p) (leaves {u} e) g = let same : u ≡ chars p.1.now = cc in subst (Ends t) same e
+      by_answer (Ok p) (faults l) g = absurd cc
+      by_answer (Err e) l g = tt
+
+  -- and its fault stands in the bound
+  pub given_place : Leaves m t o → Gives f r o → IfErr r (λ e. StandsWithin m e)
+  given_place l g = by_answer r l g
+    where
+      by_answer : (r : Result (A × Bor (List ℕ)) Error) → {o : Reading B} → Leaves m t o → Gives f r o →
+          IfErr r (λ e. StandsWithin m e)
+      by_answer (Ok p) l g = tt
+      by_answer (Err OutOfMemory) l g = tt
+      by_answer (Err (ParseError p k)) (leaves e) g = absurd cc
+      by_answer (Err (ParseError p k)) (faults {e} l) g =
+          let same : e ≡ record { place = p; kind = kind_of k } = cc in subst (λ (x : Fault). x.place ≤ m) same l

@@ -3,10 +3,10 @@ use Rattle.std.proofs.Common.{◌≡◌, ℕ, zero, suc, ◌+◌, ◌-◌, Bool,
 use Rattle.fancy_lex.specs.Characters.{backslash, caret, open_bracket, close_bracket}
 use Rattle.fancy_lex.specs.Class.{class, items, item_text, is_negated, class_head, with_mark}
 use Rattle.fancy_lex.specs.Reading.{choose}
-use Rattle.fancy_lex.specs.Text.{Text, bytes, place_of, strip}
+use Rattle.fancy_lex.specs.Text.{Text, EndsWith as Ends, bytes, place_of, strip}
 use Rattle.fancy_lex.specs.declared.flags.Flags.{Flags}
 use Rattle.fancy_lex.proofs.EscapeLaws.{leaves_escape}
-use Rattle.fancy_lex.proofs.LeaveLaws.{Ends, ends_whole, ends_past, ends_twice, ends_strip, Leaves, whole_next, leaves_none, leaves_past, leaves_if, leaves_both}
+use Rattle.fancy_lex.proofs.LeaveLaws.{ends_whole, ends_past, ends_twice, ends_strip, Leaves, whole_next, leaves_none, leaves_past, leaves_if, leaves_both}
 
 -- what stands behind the front of a class ends the text
 ends_mark : (m : ℕ) (p : Text × Text) → Ends p.1 (with_mark m p).1

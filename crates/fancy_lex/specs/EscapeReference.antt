@@ -19,7 +19,7 @@ use Rattle.fancy_lex.specs.Text.{Text, place_of}
 abbrev pub number_reading : Fault → ℕ × Text → Reading ℕ
 number_reading e q = if nat_lt q.0 (2 ^ 64) then gives q.0 q.1 else fails e
 
--- all the digits at the front, which number a group
+-- all the digits at the front, which number a group; a text that begins with none has the same fault
 unfoldable pub group_number : ℕ → Text → Reading ℕ
 group_number n t = choose (number t) (number_reading (number_too_great n t)) (fails (number_too_great n t))
 

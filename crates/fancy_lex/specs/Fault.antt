@@ -1,5 +1,5 @@
 -- Faults: a kind and a place, apart from how the code holds them.
-use Rattle.std.specs.Prelude.{◌≡◌, ℕ, Bool, true, false, List, ◌++◌, codes, string_bytes, encode_utf8_all, chars}
+use Rattle.std.specs.Prelude.{◌≡◌, ◌≤◌, ℕ, Bool, true, false, List, ◌++◌, codes, string_bytes, encode_utf8_all, chars}
 use Rattle.std.specs.Fmt.{decimal}
 use Rattle.fancy_lex.specs.Text.{Text}
 use Rattle.fancy_lex.specs.declared.error.Error.{Error}
@@ -80,6 +80,11 @@ abbrev pub SameError : Error → Error → Type 0
 SameError (ParseError p k) (ParseError q l) = (p ≡ q) × (kind_of k ≡ kind_of l)
 SameError OutOfMemory OutOfMemory = Unit {0}
 SameError _ _ = ⊥
+
+-- memory ran out, or the fault stands at most at the place m
+abbrev pub StandsWithin : ℕ → Error → Type 0
+StandsWithin m (ParseError p k) = p ≤ m
+StandsWithin m OutOfMemory = Unit {0}
 
 -- whether the kind carries a text, whose clone takes memory
 abbrev pub carries_text : Kind → Bool

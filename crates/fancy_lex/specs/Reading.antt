@@ -1,8 +1,8 @@
 -- What a reader comes to that can find a fault.
-use Rattle.std.specs.Prelude.{◌≡◌, ℕ, List, chars, Option, Some, None, Result, MatchResult, ⊤}
+use Rattle.std.specs.Prelude.{◌≡◌, ℕ, true, List, chars, Option, Some, None, Result, MatchResult, ⊤}
 use Rattle.std.specs.Borrow.{Bor}
 use Rattle.fancy_lex.specs.Text.{Text}
-use Rattle.fancy_lex.specs.Fault.{Fault, Kind, kind_of}
+use Rattle.fancy_lex.specs.Fault.{Fault, Kind, kind_of, carries_text}
 use Rattle.fancy_lex.specs.FaultTable.{comment_not_closed}
 use Rattle.fancy_lex.specs.Layout.{Skipped, rest, fault}
 use Rattle.fancy_lex.specs.declared.error.Error.{Error}
@@ -49,6 +49,20 @@ Reads f r o = MatchResult r (λ p. o ≡ gives (f p.0) (chars p.1.now)) (λ e. S
 -- the same of an answer with no value
 abbrev pub ReadsRest : Result (Bor (List ℕ)) Error → Reading (Unit {0}) → Type 0
 ReadsRest r o = MatchResult r (λ t. o ≡ gives tt (chars t.now)) (λ e. Says e o)
+
+-- the reading fails with a fault that carries a text
+abbrev pub CarriesText : {A : Type 0} → Reading A → Type 0
+CarriesText (gives a t) = ⊥
+CarriesText (fails e) = carries_text e.kind ≡ true
+
+-- the error says the reading's fault, or that memory ran out for the text that this fault carries
+abbrev pub Reports : {A : Type 0} → Error → Reading A → Type 0
+Reports OutOfMemory o = CarriesText o
+Reports (ParseError p k) o = o ≡ fault_at p (kind_of k)
+
+-- the code's answer is the reading, with its value seen through f; memory is wanted for the text of a fault alone
+abbrev pub Answers : {A B : Type 0} → (A → B) → Result (A × Bor (List ℕ)) Error → Reading B → Type 0
+Answers f r o = MatchResult r (λ p. o ≡ gives (f p.0) (chars p.1.now)) (λ e. Reports e o)
 
 -- the error says the reading's fault, or that memory ran out
 abbrev pub Fails : {B : Type 0} → Error → Reading B → Type 0

@@ -31,6 +31,10 @@ abbrev pub strip_word : Text → Text → Option Text
 strip_word [] t = Some t
 strip_word (c ∷ w) t = option_and_then (strip_word w) (strip c t)
 
+-- the text ends with the other
+abbrev pub EndsWith : Text → Text → Type 0
+EndsWith t end = (w : Text) × (t ≡ w ++ end)
+
 -- the text begins with the other
 abbrev pub BeginsWith : Text → Text → Type 0
 BeginsWith t front = (w : Text) × (t ≡ front ++ w)

@@ -1,11 +1,11 @@
 //! Classes: what stands behind an opening bracket, and the text that is written for it.
-ghost use Rattle.std.specs.Prelude.{◌≡◌, ℕ, ◌+◌, ◌/◌, ◌%◌, ◌^◌, ◌<◌, ◌≤◌, ◌||◌, [], ◌∷◌, ◌++◌, length, chars, IfOk, OnOk, MatchResult, codes};
+ghost use Rattle.std.specs.Prelude.{◌≡◌, ℕ, ◌+◌, ◌/◌, ◌%◌, ◌^◌, ◌<◌, ◌≤◌, ◌||◌, [], ◌∷◌, ◌++◌, length, chars, IfErr, IfOk, OnOk, MatchResult, codes};
 ghost use Rattle.fancy_lex.specs.Class as spec;
 ghost use Rattle.fancy_lex.specs.Escaped.{escape_of, delegate_text};
 ghost use Rattle.fancy_lex.specs.Property.{is_negated_set};
 ghost use Rattle.fancy_lex.specs.Reading.{Gives, Fails, gives, fault_at};
-ghost use Rattle.fancy_lex.specs.Fault.{Fault};
-ghost use Rattle.fancy_lex.specs.Text.{Text, text_of};
+ghost use Rattle.fancy_lex.specs.Fault.{Fault, StandsWithin};
+ghost use Rattle.fancy_lex.specs.Text.{Text, text_of, BeginsWith, EndsWith};
 ghost use Rattle.fancy_lex.specs.declared.error.Error.TheVariants.{OutOfMemory};
 
 use crate::error::{Error, ParseError};
@@ -73,9 +73,10 @@ fn push_byte(out: &mut String, byte: u8) -> Result<(), AllocError>
     push(out, upper_hex_digit(byte % 16))
 }
 
-/// Adds the delegate's text.
+/// Adds the delegate's text. Where memory runs out, a beginning of it may have been added.
 pub fn push_delegate(out: &mut String, text: DelegateText) -> Result<(), AllocError>
-    ensures { OnOk result (text_of out.new ≡ text_of out.old ++ delegate_text text.entry) }
+    ensures grown { OnOk result (text_of out.new ≡ text_of out.old ++ delegate_text text.entry) }
+    ensures kept { BeginsWith (text_of out.new) (text_of out.old) }
 {
     match text {
         DelegateText::Letter(c) => {
@@ -214,6 +215,8 @@ pub fn class(alloc: Global, text: &str, flags: Flags, end: usize) -> Result<(Str
         MatchResult result (λ _. ⊥) (λ error. Fails error (fault_at {A = Text} e.place e.kind)) }
     ensures follows { (m : ℕ) (s : Text) →
         IfOk result (λ p. spec.class m flags (chars text.now ++ s) ≡ gives (text_of p.0) (chars p.1.now ++ s)) }
+    ensures cut { IfOk result (λ p. EndsWith (chars text.now) (chars p.1.now)) }
+    ensures place { IfErr result (λ e. StandsWithin (end + 1) e) }
     ensures shorter { IfOk result (λ p. length p.1.now < length text.now) }
 {
     read_class(alloc, text, flags, end)

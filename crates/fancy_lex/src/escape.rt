@@ -1,12 +1,13 @@
 //! Escapes: what stands behind a backslash.
-ghost use Rattle.std.specs.Prelude.{◌≡◌, ◌+◌, ◌^◌, ◌<◌, ◌≤◌, [], ◌∷◌, if◌then◌else◌, false, length, chars, IfOk};
+ghost use Rattle.std.specs.Prelude.{◌≡◌, ◌+◌, ◌^◌, ◌<◌, ◌≤◌, [], ◌∷◌, if◌then◌else◌, false, length, chars, IfErr, IfOk};
 ghost use Rattle.fancy_lex.specs.Characters.{backslash};
 ghost use Rattle.fancy_lex.specs.Escape as spec;
 ghost use Rattle.fancy_lex.specs.EscapeReference as references;
 ghost use Rattle.fancy_lex.specs.Escaped as leaf;
 ghost use Rattle.fancy_lex.specs.Escaped.{escape_of, delegate_text};
-ghost use Rattle.fancy_lex.specs.Reading.{Reads, Gives, Fails};
-ghost use Rattle.fancy_lex.specs.Text.{text_of};
+ghost use Rattle.fancy_lex.specs.Reading.{Reads, Answers, Reports};
+ghost use Rattle.fancy_lex.specs.Text.{EndsWith, text_of};
+ghost use Rattle.fancy_lex.specs.Fault.{StandsWithin};
 
 use crate::error::{Error, ParseError};
 use crate::escape::boundary::boundary;
@@ -99,7 +100,7 @@ fn letter_name(alloc: Global, c: char) -> Result<String, AllocError>
 
 /// The fault of a letter that is no escape.
 fn unknown_escape(alloc: Global, c: char, place: usize) -> Error
-    ensures { Fails result (spec.unknown_escape place c) }
+    ensures { Reports result (spec.unknown_escape place c) }
 {
     match letter_name(alloc, c) {
         Ok(name) => Error::ParseError(place, ParseError::InvalidEscape(name)),
@@ -176,7 +177,7 @@ fn call<'a>(
     end: usize,
 ) -> Result<(Escaped<'a>, &'a str), Error>
     requires { length text.now ≤ end }
-    ensures value { Gives escape_of result (spec.call end place letter (chars text.now)) }
+    ensures value { Answers escape_of result (spec.call end place letter (chars text.now)) }
     ensures within { IfOk result (λ p. length p.1.now ≤ length text.now) }
 {
     if next(text).is_none() {
@@ -196,7 +197,7 @@ fn property<'a>(
     inside: bool,
     place: usize,
 ) -> Result<(Escaped<'a>, &'a str), Error>
-    ensures value { Gives escape_of result (spec.property flags inside place letter (chars text.now)) }
+    ensures value { Answers escape_of result (spec.property flags inside place letter (chars text.now)) }
     ensures within { IfOk result (λ p. length p.1.now ≤ length text.now) }
 {
     if next(text).is_none() {
@@ -222,7 +223,7 @@ fn in_class<'a>(
     rest: &'a str,
     place: usize,
 ) -> Result<(Escaped<'a>, &'a str), Error>
-    ensures value { Gives escape_of result (spec.in_class place c (chars rest.now)) }
+    ensures value { Answers escape_of result (spec.in_class place c (chars rest.now)) }
     ensures within { IfOk result (λ p. length p.1.now ≤ length rest.now) }
 {
     match c {
@@ -255,7 +256,7 @@ fn outside<'a>(
 ) -> Result<(Escaped<'a>, &'a str), Error>
     requires bounded { end < 2 ^ 63 }
     requires within { length rest.now ≤ end }
-    ensures value { Gives escape_of result (spec.outside end flags place c (chars rest.now)) }
+    ensures value { Answers escape_of result (spec.outside end flags place c (chars rest.now)) }
     ensures within { IfOk result (λ p. length p.1.now ≤ length rest.now) }
 {
     let crlf = flags.crlf;
@@ -286,15 +287,8 @@ fn outside<'a>(
     Ok((leaf, rest))
 }
 
-/// Reads what stands behind the backslash at `place` in a pattern of `end` bytes, in a class where `inside` says so.
-///
-/// The faults, at the backslash where no other place is named: TrailingBackslash at the end of the text; InvalidEscape
-/// for a letter that is no escape, for a `g` at the end of the text, and for a boundary's braces that are not closed or
-/// hold no name; UnclosedUnicodeName for a property's; InvalidClass for digits in a class; InvalidBackref at the first
-/// of digits whose number no word holds; those of `hex` behind `x`, `u` and `U`; those of `back_reference` behind `k`,
-/// and of `subroutine_call` behind `g`, outside a class; UnclosedOpenParen where a comment in layout is open.
 #[tactic(auto, unfolding(crate::specs::Escape::escape))]
-pub fn escape<'a>(
+fn read_escape<'a>(
     alloc: Global,
     text: &'a str,
     flags: Flags,
@@ -304,7 +298,7 @@ pub fn escape<'a>(
 ) -> Result<(Escaped<'a>, &'a str), Error>
     requires bounded { end < 2 ^ 63 }
     requires within { length text.now ≤ end }
-    ensures value { Gives escape_of result (spec.escape end flags inside place (chars text.now)) }
+    ensures value { Answers escape_of result (spec.escape end flags inside place (chars text.now)) }
     ensures shorter { IfOk result (λ p. length p.1.now < length text.now) }
 {
     let Some((c, rest)) = next(text) else {
@@ -342,4 +336,30 @@ pub fn escape<'a>(
             }
         }
     }
+}
+
+/// Reads what stands behind the backslash at `place` in a pattern of `end` bytes, in a class where `inside` says so.
+///
+/// The faults, at the backslash where no other place is named: TrailingBackslash at the end of the text; InvalidEscape
+/// for a letter that is no escape, for a `g` at the end of the text, and for a boundary's braces that are not closed or
+/// hold no name; UnclosedUnicodeName for a property's; InvalidClass for digits in a class; InvalidBackref at the first
+/// of digits whose number no word holds; those of `hex` behind `x`, `u` and `U`; those of `back_reference` behind `k`,
+/// and of `subroutine_call` behind `g`, outside a class; UnclosedOpenParen where a comment in layout is open.
+#[inline]
+pub fn escape<'a>(
+    alloc: Global,
+    text: &'a str,
+    flags: Flags,
+    inside: bool,
+    place: usize,
+    end: usize,
+) -> Result<(Escaped<'a>, &'a str), Error>
+    requires bounded { end < 2 ^ 63 }
+    requires within { length text.now ≤ end }
+    ensures value { Answers escape_of result (spec.escape end flags inside place (chars text.now)) }
+    ensures cut { IfOk result (λ p. EndsWith (chars text.now) (chars p.1.now)) }
+    ensures place { place ≤ end + 1 → IfErr result (λ e. StandsWithin (end + 1) e) }
+    ensures shorter { IfOk result (λ p. length p.1.now < length text.now) }
+{
+    read_escape(alloc, text, flags, inside, place, end)
 }

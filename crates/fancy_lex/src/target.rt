@@ -1,10 +1,10 @@
 //! What references name, as it is written in the pattern.
-ghost use Rattle.std.specs.Prelude.{◌≡◌, chars, IfOk, IfSome, IsSome, option_map};
+ghost use Rattle.std.specs.Prelude.{◌≡◌, chars, false, IfOk, IsOk, IfSome, IsSome, option_map};
 ghost use Rattle.fancy_lex.specs.Id.{parts};
 ghost use Rattle.fancy_lex.specs.IdReference as id_spec;
 ghost use Rattle.fancy_lex.specs.Reading.{Reads};
 ghost use Rattle.fancy_lex.specs.Referred as spec;
-ghost use Rattle.fancy_lex.specs.Target.{view_target};
+ghost use Rattle.fancy_lex.specs.Target.{view_target, is_name};
 
 use crate::error::{Error, ParseError};
 use crate::id::{IdReference, id_reference};
@@ -24,9 +24,10 @@ pub enum Target<'a> {
 }
 
 impl Target<'_> {
-    /// The same target, in memory of its own.
+    /// The same target, in memory of its own. One that is no name takes none.
     pub fn to_owned(self, alloc: Global) -> Result<CaptureGroupTarget, AllocError>
         ensures same { IfOk result (λ target. view_target target ≡ spec.view_borrowed self.entry) }
+        ensures without_memory { is_name (spec.view_borrowed self.entry) ≡ false → IsOk result }
     {
         match self {
             Target::ByNumber(number) => Ok(CaptureGroupTarget::ByNumber(number)),

@@ -5,9 +5,9 @@ use Rattle.std.specs.Str.{chars as the_chars}
 use Rattle.std.proofs.Common.{zero}
 use Rattle.fancy_lex.proofs.BoundaryLemmas.{rest_from_reading}
 use Rattle.fancy_lex.proofs.LayoutLaws.{layout_cut}
-use Rattle.fancy_lex.proofs.ReadingLemmas.{fails_first}
+use Rattle.fancy_lex.proofs.ReadingLemmas.{reports_first}
 use Rattle.fancy_lex.specs.Layout.{layout}
-use Rattle.fancy_lex.specs.Reading.{Reading, gives, layout_reading, Says, Fails}
+use Rattle.fancy_lex.specs.Reading.{Reading, gives, layout_reading, Says, Reports}
 use Rattle.fancy_lex.specs.Text.{Text, bytes}
 use Rattle.fancy_lex.specs.declared.flags.Flags.{Flags}
 use Rattle.fancy_lex.specs.declared.error.Error.{Error}
@@ -39,15 +39,15 @@ module _ (n : ℕ) (t : Text) (clears : Bool) (f : Flags) (u : Text) where
   abbrev before : Reading (Unit {0})
   before = layout_reading (layout n f.ignore_space u)
 
-  layout_fault : (k : ℕ) (b : Error) → Says b before → Fails b (letters_in n t (suc k) clears f u)
+  layout_fault : (k : ℕ) (b : Error) → Says b before → Reports b (letters_in n t (suc k) clears f u)
   unfolding letters_in
   layout_fault k (ParseError p d) e = rw e refl
-  layout_fault k OutOfMemory e = tt
+  layout_fault k OutOfMemory e = absurd e
 
-  letter_fault : (k : ℕ) (v : Text) (b : Error) → before ≡ gives tt v → Fails b (step n t clears f v) →
-      Fails b (letters_in n t (suc k) clears f u)
+  letter_fault : (k : ℕ) (v : Text) (b : Error) → before ≡ gives tt v → Reports b (step n t clears f v) →
+      Reports b (letters_in n t (suc k) clears f u)
   unfolding letters_in
-  letter_fault k v b e h = rw e (fails_first _ _ b h)
+  letter_fault k v b e h = rw e (reports_first _ _ b h)
 
   letters_end : (k : ℕ) (v : Text) (l : Letters) (w : Text) → before ≡ gives tt v → step n t clears f v ≡ gives (ends l) w →
       letters_in n t (suc k) clears f u ≡ gives l w
@@ -61,18 +61,18 @@ module _ (n : ℕ) (t : Text) (clears : Bool) (f : Flags) (u : Text) where
 
   -- the same where more steps are left than m
   module _ (k m : ℕ) (some : m < k) where
-    pub in_layout_fault : (b : Error) → Says b before → Fails b (letters_in n t k clears f u)
+    pub in_layout_fault : (b : Error) → Says b before → Reports b (letters_in n t k clears f u)
     in_layout_fault b e = by_steps k some
       where
-        by_steps : (k : ℕ) → m < k → Fails b (letters_in n t k clears f u)
+        by_steps : (k : ℕ) → m < k → Reports b (letters_in n t k clears f u)
         by_steps zero h = absurd (omega arith)
         by_steps (suc k) h = layout_fault k b e
 
     module _ (v : Text) (e : before ≡ gives tt v) where
-      pub in_letter_fault : (b : Error) → Fails b (step n t clears f v) → Fails b (letters_in n t k clears f u)
+      pub in_letter_fault : (b : Error) → Reports b (step n t clears f v) → Reports b (letters_in n t k clears f u)
       in_letter_fault b i = by_steps k some
         where
-          by_steps : (k : ℕ) → m < k → Fails b (letters_in n t k clears f u)
+          by_steps : (k : ℕ) → m < k → Reports b (letters_in n t k clears f u)
           by_steps zero h = absurd (omega arith)
           by_steps (suc k) h = letter_fault k v b e i
 

@@ -17,11 +17,11 @@ use Rattle.fancy_parts.specs.HeadReference.{named_reference, call_of, named_call
 
 -- what stands behind one character more takes one more
 module _ (k m : ℕ) (t : Text) where
-  takes_past : {A : Type 0} (u : Text) (o : Option (A × Text)) → Takes m t u → TakesSome k u o → TakesSome (m + k) t o
+  pub takes_past : {A : Type 0} (u : Text) (o : Option (A × Text)) → Takes m t u → TakesSome k u o → TakesSome (m + k) t o
   takes_past u None a h = tt
   takes_past u (Some p) a h = takes_on (omega arith) a h
 
-takes_strip : (c : ℕ) (t u : Text) → strip c t ≡ Some u → Takes 1 t u
+pub takes_strip : (c : ℕ) (t u : Text) → strip c t ≡ Some u → Takes 1 t u
 takes_strip c t u e = record { word = c ∷ []; cut = strip_is c t u e; long = omega arith }
 
 -- `P<`, a name and `>`

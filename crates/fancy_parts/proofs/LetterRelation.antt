@@ -13,7 +13,7 @@ use Rattle.fancy_lex.proofs.TextLemmas.{bytes-append}
 use Rattle.fancy_lex.specs.Characters.{open_paren, hash, ◌∈◌}
 use Rattle.fancy_lex.specs.FaultTable.{comment_not_closed, group_not_closed, no_flag_letter, mode_changed}
 use Rattle.fancy_lex.specs.Layout.{Skipped, rest, fault, layout, Units, none, more as unit_more, IsUnit, is_blank, Before}
-use Rattle.fancy_lex.specs.Reading.{Reading, gives, fails, ◌>=>◌, Gives, Derives}
+use Rattle.fancy_lex.specs.Reading.{Reading, gives, fails, ◌>=>◌, Answers, Derives}
 use Rattle.fancy_lex.specs.Text.{Text, bytes}
 use Rattle.fancy_lex.specs.declared.error.Error.{Error}
 use Rattle.fancy_lex.specs.declared.flags.Flags.{Flags}
@@ -452,7 +452,7 @@ module _ (n : ℕ) (t : Text) where
 
 -- ---- the clauses of the reader
 
-module _ (n : ℕ) (f : Flags) (t : Text) (r : Result (declared.Letters × Bor (List ℕ)) Error) (g : Gives letters_of r (letters n f t)) where
+module _ (n : ℕ) (f : Flags) (t : Text) (r : Result (declared.Letters × Bor (List ℕ)) Error) (g : Answers letters_of r (letters n f t)) where
   at_start : Reached t false t
   at_start = ([], refl, told_start)
 
@@ -461,6 +461,6 @@ module _ (n : ℕ) (f : Flags) (t : Text) (r : Result (declared.Letters × Bor (
   letters_derive =
       derives_answer letters_of r (FlagGroup n f t) (letters n f t) (letters_read n t (suc (bytes t)) false f t at_start (omega arith)) g
 
-  pub letters_only : (o : Reading Letters) → FlagGroup n f t o → Gives letters_of r o
+  pub letters_only : (o : Reading Letters) → FlagGroup n f t o → Answers letters_of r o
   unfolding letters
   letters_only o h = only_answer letters_of r (letters n f t) o (letters_are n t (suc (bytes t)) h at_start (omega arith)) g

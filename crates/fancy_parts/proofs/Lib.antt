@@ -1,3 +1,4 @@
+pub mod CountLaws
 pub mod FlagLaws
 pub mod FlagLemmas
 pub mod HeadLaws

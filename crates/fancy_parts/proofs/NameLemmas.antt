@@ -98,3 +98,23 @@ put_more a (e ∷ es) v w n h s k =
         let other : lookup (λ k. is_eq (string_cmp a k)) (e ∷ es) ≡ lookup (λ k. is_eq (string_cmp a k)) es
         = rw q refl in
         rw (q, t) (ap (λ l. named e ∷ l) (i (sym other ∙ k)))
+
+-- where its numbers stay, so do all
+pub put_same : (a : String Global) (es : Entries) (v w : Vec ℕ Global) → w.items ≡ v.items →
+    lookup (λ k. is_eq (string_cmp a k)) es ≡ Some v →
+    map named (set_value (λ k. is_eq (string_cmp a k)) es w) ≡ map named es
+put_same a [] v w h k = refl
+put_same a (e ∷ es) v w h k = by_test (is_eq (string_cmp a e.0)) refl (put_same a es v w h)
+  where
+    by_test : (b : Bool) → is_eq (string_cmp a e.0) ≡ b →
+        (lookup (λ k. is_eq (string_cmp a k)) es ≡ Some v →
+        map named (set_value (λ k. is_eq (string_cmp a k)) es w) ≡ map named es) →
+        map named (set_value (λ k. is_eq (string_cmp a k)) (e ∷ es) w) ≡ map named (e ∷ es)
+    by_test true t i =
+        let same : lookup (λ k. is_eq (string_cmp a k)) (e ∷ es) ≡ Some e.1 = rw t refl in
+        let it : e.1 ≡ v = cc in
+        rw t (ap (λ ns. (text_of e.0, ns) ∷ map named es) (h ∙ ap (λ (x : Vec ℕ Global). x.items) (sym it)))
+    by_test false t i =
+        let other : lookup (λ k. is_eq (string_cmp a k)) (e ∷ es) ≡ lookup (λ k. is_eq (string_cmp a k)) es
+        = rw t refl in
+        rw t (ap (λ l. named e ∷ l) (i (sym other ∙ k)))

@@ -1,13 +1,13 @@
 -- How the code's groups, roles and meanings stand to the definitions.
-use Rattle.std.specs.Prelude.{ℕ, ◌+◌, Bool, List, [], ◌∷◌, ◌++◌, Option, Some, None, map, unwrap_or, bytes_eq, String}
-use Rattle.std.specs.Prelude.{Vec, if◌then◌else◌}
+use Rattle.std.specs.Prelude.{ℕ, ◌+◌, Bool, List, [], ◌∷◌, ◌++◌, Option, Some, None, length, map, unwrap_or, bytes_eq}
+use Rattle.std.specs.Prelude.{String, Vec, if◌then◌else◌}
 use Rattle.std.specs.Map.{lookup}
 use Rattle.std.specs.Ordering.{match_ordering}
 use Rattle.std.specs.declared.alloc.Global.{Global}
 use Rattle.fancy_lex.specs.Fault.{kind_of}
 use Rattle.fancy_lex.specs.Text.{Text, text_of}
 use Rattle.fancy_parts.specs.Meaning as spec
-use Rattle.fancy_parts.specs.Ranks.{Opening, is_counted, name_cmp}
+use Rattle.fancy_parts.specs.Ranks.{Opening, is_counted, name_cmp, named_groups}
 use Rattle.fancy_parts.specs.declared.ranks.Groups as code
 use Rattle.fancy_parts.specs.declared.ranks.Meaning as meant
 use Rattle.fancy_parts.specs.declared.ranks.Meaning.TheVariants as means
@@ -19,6 +19,15 @@ pub record Groups : Type 0 where
   pub total : ℕ
   pub names : List (Text × List ℕ)
 
+-- the groups that open there, with their numbers, which are their ranks
+abbrev pub numbered : List Opening → Groups
+numbered l = record { total = length l; names = named_groups l }
+
+-- one opening more, behind the others
+abbrev pub behind : List Opening → ℕ → Option Text → List Opening
+behind l place name = l ++ record { place = place; name = name } ∷ []
+
+-- none, as where nothing opens
 abbrev pub no_groups : Groups
 no_groups = record { total = 0; names = [] }
 

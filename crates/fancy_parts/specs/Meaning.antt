@@ -1,7 +1,7 @@
 -- What a reference means, by the groups that have a number.
-use Rattle.std.specs.Prelude.{ℕ, ◌+◌, ◌-◌, ℤ, pos, negsuc, nat_le, List, [], ◌∷◌, length, slice_get, Option, Some, None}
+use Rattle.std.specs.Prelude.{ℕ, ◌+◌, ◌-◌, ℤ, pos, negsuc, nat_le, Bool, false, List, [], ◌∷◌, length, slice_get, Option, Some, None}
 use Rattle.std.specs.Prelude.{if◌then◌else◌}
-use Rattle.fancy_lex.specs.Fault.{Kind, Fault}
+use Rattle.fancy_lex.specs.Fault.{Kind, Fault, carries_text}
 use Rattle.fancy_lex.specs.FaultTable.{name_of_later_group, no_such_group, of_reference}
 use Rattle.fancy_lex.specs.Target.{Target, by_number, by_name, relative}
 use Rattle.fancy_lex.specs.Text.{Text}
@@ -24,6 +24,11 @@ pub data Meaning : Type 0 where
   number : ℕ → Meaning
   unresolved : Meaning
   faulty : Kind → Meaning
+
+-- it is a fault whose kind carries a text, which takes memory
+abbrev pub is_fault_with_text : Meaning → Bool
+is_fault_with_text (faulty k) = carries_text k
+is_fault_with_text _ = false
 
 -- where there is no such group, a call is left as it is, and the others are faults
 abbrev pub no_group : Role → Meaning

@@ -1,5 +1,6 @@
 //! What stands at the head of a piece of the grammar: quantifiers, and the letters of flag groups.
 ghost use Rattle.std.specs.Prelude.{◌≡◌, ℕ, ◌<◌, ◌≤◌, length, chars, IfSome, option_map, Some};
+ghost use Rattle.fancy_lex.specs.Text.{EndsWith};
 ghost use Rattle.fancy_parts.specs.Quantifier as spec;
 
 mod letters;
@@ -85,11 +86,8 @@ fn as_mark(low: usize, high: usize) -> Counts
     }
 }
 
-/// Reads the counts of a quantifier, `?`, `*`, `+` or braces that read whole, and the text behind the mark or the
-/// closing brace. None where no quantifier stands. Inside braces layout is passed over, comments always and blanks
-/// where `ignore_space` says so.
 #[tactic(auto, unfolding(crate::specs::Quantifier::counts))]
-pub fn counts(text: &str, ignore_space: bool) -> Option<(Counts, &str)>
+fn read_counts(text: &str, ignore_space: bool) -> Option<(Counts, &str)>
     ensures value { spec.counts ignore_space (chars text.now) ≡ option_map (λ p. (p.0, chars p.1.now)) result }
     ensures shorter { IfSome result (λ p. length p.1.now < length text.now) }
 {
@@ -101,4 +99,16 @@ pub fn counts(text: &str, ignore_space: bool) -> Option<(Counts, &str)>
         '{' => braced_counts(rest, ignore_space),
         _ => None,
     }
+}
+
+/// Reads the counts of a quantifier, `?`, `*`, `+` or braces that read whole, and the text behind the mark or the
+/// closing brace. None where no quantifier stands. Inside braces layout is passed over, comments always and blanks
+/// where `ignore_space` says so.
+#[inline]
+pub fn counts(text: &str, ignore_space: bool) -> Option<(Counts, &str)>
+    ensures value { spec.counts ignore_space (chars text.now) ≡ option_map (λ p. (p.0, chars p.1.now)) result }
+    ensures cut { IfSome result (λ p. EndsWith (chars text.now) (chars p.1.now)) }
+    ensures shorter { IfSome result (λ p. length p.1.now < length text.now) }
+{
+    read_counts(text, ignore_space)
 }

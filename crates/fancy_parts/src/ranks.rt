@@ -1,11 +1,12 @@
 //! The numbers of capturing groups, and what a reference means by them.
-ghost use Rattle.std.specs.Prelude.{◌≡◌, ◌+◌, ◌<◌, ◌^◌, IfOk, map, option_map};
+ghost use Rattle.std.specs.Prelude.{◌≡◌, ℕ, ◌+◌, ◌<◌, ◌^◌, List, false, IfOk, IsOk, OnErr, is_some, map, option_map};
 ghost use Rattle.fancy_lex.specs.Target.{view_target};
 ghost use Rattle.fancy_lex.specs.Text.{text_of};
 ghost use Rattle.fancy_parts.specs.Groups.{groups_of, no_groups, with_group, with_number, numbers_under, named};
-ghost use Rattle.fancy_parts.specs.Groups.{role_of, meaning_of};
+ghost use Rattle.fancy_parts.specs.Groups.{behind, numbered, role_of, meaning_of};
 ghost use Rattle.fancy_parts.specs.Meaning as spec;
-ghost use Rattle.fancy_parts.specs.Meaning.{at_distance, last_of, means, means_name, only_one};
+ghost use Rattle.fancy_parts.specs.Meaning.{at_distance, is_fault_with_text, last_of, means, means_name, only_one};
+ghost use Rattle.fancy_parts.specs.Ranks.{Opening, numbers};
 
 use fancy_lex::error::ParseError;
 use fancy_lex::name::CaptureGroupTarget;
@@ -54,29 +55,36 @@ impl Groups {
         }
     }
 
-    /// Adds a group, which has the next number.
+    /// Adds a group, which has the next number. The groups behind whose openings it opens, with their numbers, become
+    /// these and it. Where memory runs out, the groups stay as they were; a group without a name takes none.
     pub fn add(&mut self, alloc: Global, name: &Option<String>) -> Result<(), AllocError>
         requires { self.old.total + 1 < 2 ^ 64 }
-        ensures { IfOk result
+        ensures added { IfOk result
             (λ _. groups_of self.new ≡ with_group (groups_of self.old) (option_map text_of name.now)) }
+        ensures numbers { (before : List Opening) (place : ℕ) → groups_of self.old ≡ numbered before →
+            IfOk result (λ _. groups_of self.new ≡ numbered (behind before place (option_map text_of name.now))) }
+        ensures kept { OnErr result (groups_of self.new ≡ groups_of self.old) }
+        ensures without_memory { is_some name.now ≡ false → IsOk result }
     {
-        self.total += 1;
-        match name {
-            Some(name) => add_number(alloc, &mut self.names, name, self.total),
-            None => Ok(()),
+        let number = self.total + 1;
+        if let Some(name) = name {
+            add_number(alloc, &mut self.names, name, number)?;
         }
+        self.total = number;
+        Ok(())
     }
 }
 
-/// Adds the number behind those that the name has.
+/// Adds the number behind those that the name has. Where memory runs out, the names keep the numbers that they had.
 fn add_number(
     alloc: Global,
     names: &mut BTreeMap<String, Vec<usize>>,
     name: &String,
     number: usize,
 ) -> Result<(), AllocError>
-    ensures { IfOk result
+    ensures added { IfOk result
         (λ _. map named names.new.entries ≡ with_number (text_of name.now) number (map named names.old.entries)) }
+    ensures kept { OnErr result (map named names.new.entries ≡ map named names.old.entries) }
 {
     match names.get_mut(name.as_str()) {
         Some(numbers) => numbers.push(number)?,
@@ -89,7 +97,7 @@ fn add_number(
     Ok(())
 }
 
-/// What a target means behind the openings of so many groups.
+/// What a target means behind the openings of so many groups. Memory is wanted for the text of a fault alone.
 pub fn meaning_behind(
     groups: &Groups,
     passed: usize,
@@ -97,9 +105,13 @@ pub fn meaning_behind(
     target: &CaptureGroupTarget,
 ) -> Result<Meaning, AllocError>
     requires { passed < 2 ^ 63 }
-    ensures { IfOk result
+    ensures value { IfOk result
         (λ m. meaning_of m
         ≡ means (numbers_under (groups_of groups.now).names) passed (role_of role) (view_target target.now)) }
+    ensures numbers { (l : List Opening) → groups_of groups.now ≡ numbered l →
+        IfOk result (λ m. meaning_of m ≡ means (λ t. numbers t l) passed (role_of role) (view_target target.now)) }
+    ensures without_memory { let meaning = means (numbers_under (groups_of groups.now).names) passed (role_of role) (view_target target.now) in
+        is_fault_with_text meaning ≡ false → IsOk result }
 {
     match target {
         CaptureGroupTarget::ByNumber(number) => Ok(Meaning::Number(*number)),
@@ -118,7 +130,9 @@ fn by_name(
     name: &String,
     numbers: &[usize],
 ) -> Result<Meaning, AllocError>
-    ensures { IfOk result (λ m. meaning_of m ≡ means_name (role_of role) passed (text_of name.now) numbers.now) }
+    ensures value { IfOk result
+        (λ m. meaning_of m ≡ means_name (role_of role) passed (text_of name.now) numbers.now) }
+    ensures without_memory { is_fault_with_text (means_name (role_of role) passed (text_of name.now) numbers.now) ≡ false → IsOk result }
 {
     match role {
         Role::Call => Ok(only(numbers)),

@@ -1,12 +1,12 @@
 //! Word boundaries behind `\b` and `\B`.
-ghost use Rattle.std.specs.Prelude.{◌≡◌, ℕ, ◌^◌, ◌<◌, ◌≤◌, length, chars, IfSome, IfOk, MatchResult, option_map};
+ghost use Rattle.std.specs.Prelude.{◌≡◌, ℕ, ◌+◌, ◌^◌, ◌<◌, ◌≤◌, [], ◌∷◌, ◌++◌, true, length, chars, IfSome, IfErr, IfOk, MatchResult, option_map};
 ghost use Rattle.fancy_lex.specs.Boundary as spec;
 ghost use Rattle.fancy_lex.specs.Escaped.{Escape, escape_of};
-ghost use Rattle.fancy_lex.specs.Fault.{invalid_escape};
+ghost use Rattle.fancy_lex.specs.Fault.{StandsWithin, invalid_escape};
 ghost use Rattle.fancy_lex.specs.FaultTable.{boundary_head, boundary_not_closed};
-ghost use Rattle.fancy_lex.specs.Reading.{Reading, Gives, Fails, Derives, fails, fault_at};
+ghost use Rattle.fancy_lex.specs.Reading.{Reading, Answers, Reports, Derives, fails, fault_at};
 ghost use Rattle.fancy_lex.specs.BoundaryName as name_spec;
-ghost use Rattle.fancy_lex.specs.Text.{text_of};
+ghost use Rattle.fancy_lex.specs.Text.{EndsWith, text_of};
 
 use crate::error::{Error, ParseError};
 use crate::escape::{Assertion, Escaped};
@@ -79,7 +79,7 @@ fn known_boundary(text: &str, ignore_space: bool, end: usize) -> Option<(Asserti
 
 /// The fault of braces that are not closed.
 fn unclosed_fault(alloc: Global, place: usize) -> Error
-    ensures { Fails {B = Escape} result (fails (boundary_not_closed place)) }
+    ensures { Reports {A = Escape} result (fails (boundary_not_closed place)) }
 {
     match String::from_str(alloc, "\\b{...}") {
         Ok(text) => Error::ParseError(place, ParseError::InvalidEscape(text)),
@@ -94,6 +94,13 @@ fn boundary_head(negated: bool) -> &'static str
     if negated { "\\B{" } else { "\\b{" }
 }
 
+/// Adds the character, where all before it was added. Whether it was.
+fn push_behind(out: &mut String, whole: bool, c: char) -> bool
+    ensures { result ≡ true → (whole ≡ true) × (text_of out.new ≡ text_of out.old ++ c ∷ []) }
+{
+    whole && push(out, c).is_ok()
+}
+
 /// Reads the name and its closing brace: the escape with layout taken out, for the fault that tells it.
 fn bare_escape(
     alloc: Global,
@@ -105,19 +112,24 @@ fn bare_escape(
 ) -> Result<String, Error>
     requires { end < 2 ^ 63 }
     ensures value { let told = name_spec.name_fault end ignore_space place negated (chars text.now) in
-        MatchResult result (λ s. told ≡ fault_at place (invalid_escape (text_of s))) (λ e. Fails e told) }
+        MatchResult result (λ s. told ≡ fault_at place (invalid_escape (text_of s))) (λ e. Reports e told) }
 {
     let mut out = String::new(alloc);
-    append(&mut out, boundary_head(negated))?;
+    // A fault of the pattern comes first, so that where memory runs out the name is read on.
+    let mut whole = append(&mut out, boundary_head(negated)).is_ok();
     let mut left = text;
     loop {
         let name = skip(left, ignore_space, end)?;
         let Some((c, rest)) = next(name) else {
             return Err(unclosed_fault(alloc, place));
         };
-        push(&mut out, c)?;
+        whole = push_behind(&mut out, whole, c);
         if c == '}' {
-            return Ok(out);
+            return if whole {
+                Ok(out)
+            } else {
+                Err(Error::OutOfMemory)
+            };
         }
         left = rest;
     }
@@ -134,7 +146,7 @@ fn named_boundary<'a>(
     end: usize,
 ) -> Result<(Escaped<'a>, &'a str), Error>
     requires { end < 2 ^ 63 }
-    ensures value { Gives escape_of result (spec.named_boundary end ignore_space place negated (chars text.now)) }
+    ensures value { Answers escape_of result (spec.named_boundary end ignore_space place negated (chars text.now)) }
     ensures shorter { IfOk result (λ p. length p.1.now < length text.now) }
 {
     if !negated {
@@ -157,7 +169,7 @@ fn read_boundary<'a>(
     end: usize,
 ) -> Result<(Escaped<'a>, &'a str), Error>
     requires { end < 2 ^ 63 }
-    ensures value { Gives escape_of result (spec.boundary end flags.ignore_space place negated (chars text.now)) }
+    ensures value { Answers escape_of result (spec.boundary end flags.ignore_space place negated (chars text.now)) }
     ensures within { IfOk result (λ p. length p.1.now ≤ length text.now) }
 {
     let rest = skip(text, flags.ignore_space, end)?;
@@ -184,10 +196,12 @@ pub fn boundary<'a>(
     end: usize,
 ) -> Result<(Escaped<'a>, &'a str), Error>
     requires { end < 2 ^ 63 }
-    ensures value { Gives escape_of result (spec.boundary end flags.ignore_space place negated (chars text.now)) }
+    ensures value { Answers escape_of result (spec.boundary end flags.ignore_space place negated (chars text.now)) }
     ensures derives { Derives escape_of result (spec.Boundary end flags.ignore_space place negated (chars text.now)) }
     ensures only { (o : Reading Escape) → spec.Boundary end flags.ignore_space place negated (chars text.now) o →
-        Gives escape_of result o }
+        Answers escape_of result o }
+    ensures cut { IfOk result (λ p. EndsWith (chars text.now) (chars p.1.now)) }
+    ensures place { place ≤ end + 1 → IfErr result (λ e. StandsWithin (end + 1) e) }
     ensures within { IfOk result (λ p. length p.1.now ≤ length text.now) }
 {
     read_boundary(alloc, text, negated, flags, place, end)

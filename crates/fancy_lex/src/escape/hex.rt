@@ -1,10 +1,11 @@
 //! Hex codes behind `\x`, `\u` and `\U`.
-ghost use Rattle.std.specs.Prelude.{◌≡◌, ℕ, ◌+◌, ◌*◌, ◌-◌, ◌^◌, ◌<◌, ◌≤◌, length, chars, IfSome, IfOk, option_map, false};
+ghost use Rattle.std.specs.Prelude.{◌≡◌, ℕ, ◌+◌, ◌*◌, ◌-◌, ◌^◌, ◌<◌, ◌≤◌, length, chars, IfSome, IfErr, IfOk, option_map, false};
 ghost use Rattle.fancy_lex.specs.Characters.{close_brace};
 ghost use Rattle.fancy_lex.specs.Escaped.{escape_of};
+ghost use Rattle.fancy_lex.specs.Fault.{StandsWithin};
 ghost use Rattle.fancy_lex.specs.Hex as spec;
 ghost use Rattle.fancy_lex.specs.Reading.{Reads};
-ghost use Rattle.fancy_lex.specs.Text.{strip, place_of};
+ghost use Rattle.fancy_lex.specs.Text.{EndsWith, strip, place_of};
 
 use crate::error::{Error, ParseError};
 use crate::escape::Escaped;
@@ -138,11 +139,8 @@ fn leaf_of_value<'a>(
     }
 }
 
-/// Reads a hex code behind its letter, in a pattern of `end` bytes: layout, then `width` digits, or one to eight in
-/// braces with layout round them. Its faults are at the place behind the first layout: InvalidHex, and
-/// InvalidCodepointValue where the value is no character; or UnclosedOpenParen where a comment in layout is open.
 #[tactic(auto, unfolding(crate::specs::Hex::hex))]
-pub fn hex<'a>(
+fn read_hex<'a>(
     text: &'a str,
     width: u32,
     flags: Flags,
@@ -158,4 +156,25 @@ pub fn hex<'a>(
     let place = place(rest, end);
     let (value, rest) = value(rest, width, flags.ignore_space, end, place)?;
     leaf_of_value(rest, value, width, flags, place)
+}
+
+/// Reads a hex code behind its letter, in a pattern of `end` bytes: layout, then `width` digits, or one to eight in
+/// braces with layout round them. Its faults are at the place behind the first layout: InvalidHex, and
+/// InvalidCodepointValue where the value is no character; or UnclosedOpenParen where a comment in layout is open.
+#[inline]
+pub fn hex<'a>(
+    text: &'a str,
+    width: u32,
+    flags: Flags,
+    end: usize,
+) -> Result<(Escaped<'a>, &'a str), Error>
+    requires bounded { end < 2 ^ 63 }
+    requires width { width ≤ 8 }
+    requires inside { length text.now ≤ end }
+    ensures value { Reads escape_of result (spec.hex end flags width (chars text.now)) }
+    ensures cut { IfOk result (λ p. EndsWith (chars text.now) (chars p.1.now)) }
+    ensures place { IfErr result (λ e. StandsWithin (end + 1) e) }
+    ensures within { IfOk result (λ p. length p.1.now ≤ length text.now) }
+{
+    read_hex(text, width, flags, end)
 }

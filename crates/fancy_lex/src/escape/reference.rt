@@ -1,9 +1,10 @@
 //! References in escapes: what stands behind `\k`, behind `\g`, or behind a backslash in digits.
-ghost use Rattle.std.specs.Prelude.{◌≡◌, ◌<◌, ◌≤◌, length, chars, IfOk, IfSome, option_map};
+ghost use Rattle.std.specs.Prelude.{◌≡◌, ◌<◌, ◌≤◌, false, length, chars, IfOk, IfSome, option_map};
 ghost use Rattle.fancy_lex.specs.EscapeReference as spec;
 ghost use Rattle.fancy_lex.specs.NumberText.{is_nothing};
 ghost use Rattle.fancy_lex.specs.Number.{at_digit};
-ghost use Rattle.fancy_lex.specs.Reading.{Reads};
+ghost use Rattle.fancy_lex.specs.Reading.{Reads, fails};
+ghost use Rattle.fancy_lex.specs.FaultTable.{number_too_great};
 ghost use Rattle.fancy_lex.specs.Referred.{view_read, view_borrowed, view_reference, view_call};
 
 use crate::delimited::marked_name;
@@ -15,11 +16,13 @@ use crate::target::{Call, Reference, Target, reference_by_name, target_of_name};
 use crate::text::{next, place};
 
 /// Reads all the digits at the front, which number a group, in a pattern of `end` bytes. The fault is InvalidBackref at
-/// the first of them, where no word holds their number.
+/// the text's place, where no digit stands there, or no word holds the number.
 #[tactic(auto, unfolding(crate::specs::EscapeReference::group_number))]
 pub fn group_number(text: &str, end: usize) -> Result<(usize, &str), Error>
     requires { length text.now ≤ end }
     ensures value { Reads (λ n. n) result (spec.group_number end (chars text.now)) }
+    ensures no_digit { at_digit (chars text.now) ≡ false →
+        Reads (λ n. n) result (fails (number_too_great end (chars text.now))) }
     ensures shorter { IfOk result (λ p. length p.1.now < length text.now) }
 {
     match number(text) {
@@ -29,11 +32,13 @@ pub fn group_number(text: &str, end: usize) -> Result<(usize, &str), Error>
 }
 
 /// Reads a back reference in digits, behind its backslash in a pattern of `end` bytes. Its place is that of the first
-/// digit, and so is that of the fault: InvalidBackref where no word holds the number.
+/// digit. The fault is InvalidBackref at the text's place, where no digit stands there, or no word holds the number.
 #[tactic(auto, unfolding(crate::specs::EscapeReference::numbered_reference))]
 pub fn numbered_reference(text: &str, end: usize) -> Result<(Reference<'_>, &str), Error>
     requires { length text.now ≤ end }
     ensures value { Reads view_reference result (spec.numbered_reference end (chars text.now)) }
+    ensures no_digit { at_digit (chars text.now) ≡ false →
+        Reads view_reference result (fails (number_too_great end (chars text.now))) }
     ensures shorter { IfOk result (λ p. length p.1.now < length text.now) }
 {
     let place = place(text, end);

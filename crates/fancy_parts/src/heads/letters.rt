@@ -1,7 +1,8 @@
 //! The letters of a flag group.
-ghost use Rattle.std.specs.Prelude.{◌≡◌, ℕ, ◌<◌, ◌≤◌, ◌^◌, ◌++◌, ◌∷◌, length, chars, codes, ◌||◌, IfOk};
-ghost use Rattle.fancy_lex.specs.Reading.{Reading, Gives, Fails, Derives};
-ghost use Rattle.fancy_lex.specs.Text.{Text, bytes, text_of};
+ghost use Rattle.std.specs.Prelude.{◌≡◌, ℕ, ◌+◌, ◌<◌, ◌≤◌, ◌^◌, ◌++◌, ◌∷◌, length, chars, codes, ◌||◌, IfErr, IfOk};
+ghost use Rattle.fancy_lex.specs.Reading.{Reading, Answers, Reports, Derives};
+ghost use Rattle.fancy_lex.specs.Text.{Text, EndsWith, bytes, text_of};
+ghost use Rattle.fancy_lex.specs.Fault.{StandsWithin};
 ghost use Rattle.fancy_parts.specs.FlagLetters as spec;
 ghost use Rattle.fancy_parts.specs.FlagReads.{letters_of, step_of};
 
@@ -69,7 +70,7 @@ fn flag_text(alloc: Global, letters: &str, rest: &str) -> Result<String, AllocEr
 fn unknown_flag(alloc: Global, letters: &str, rest: &str, end: usize) -> Error
     requires behind { (w : Text) × (chars letters.now ≡ w ++ chars rest.now) }
     requires within { length letters.now ≤ end }
-    ensures { Fails result (spec.unknown_letter end (chars letters.now) (chars rest.now)) }
+    ensures { Reports result (spec.unknown_letter end (chars letters.now) (chars rest.now)) }
 {
     match flag_text(alloc, letters, rest) {
         Ok(text) => Error::ParseError(place(letters, end), ParseError::UnknownFlag(text)),
@@ -112,7 +113,7 @@ fn flag_letter<'a>(
 ) -> Result<(Step, &'a str), Error>
     requires behind { (w : Text) × (chars letters.now ≡ w ++ chars here.now) }
     requires within { length letters.now ≤ end }
-    ensures value { Gives step_of result (spec.step end (chars letters.now) clears flags (chars here.now)) }
+    ensures value { Answers step_of result (spec.step end (chars letters.now) clears flags (chars here.now)) }
     ensures one_on { IfOk result (λ p. (c : ℕ) × (chars here.now ≡ c ∷ chars p.1.now)) }
     ensures shorter { IfOk result (λ p. length p.1.now < length here.now) }
 {
@@ -161,7 +162,7 @@ fn read_letters(
 ) -> Result<(Letters, &str), Error>
     requires within { length text.now ≤ end }
     requires end { end < 2 ^ 63 }
-    ensures value { Gives letters_of result (spec.letters end flags (chars text.now)) }
+    ensures value { Answers letters_of result (spec.letters end flags (chars text.now)) }
     ensures shorter { IfOk result (λ p. length p.1.now < length text.now) }
 {
     let mut clears = false;
@@ -193,10 +194,12 @@ pub fn flag_letters(
 ) -> Result<(Letters, &str), Error>
     requires within { length text.now ≤ end }
     requires end { end < 2 ^ 63 }
-    ensures value { Gives letters_of result (spec.letters end flags (chars text.now)) }
+    ensures value { Answers letters_of result (spec.letters end flags (chars text.now)) }
     ensures derives { Derives letters_of result (spec.FlagGroup end flags (chars text.now)) }
     ensures only { (o : Reading spec.Letters) → spec.FlagGroup end flags (chars text.now) o →
-        Gives letters_of result o }
+        Answers letters_of result o }
+    ensures cut { IfOk result (λ p. EndsWith (chars text.now) (chars p.1.now)) }
+    ensures place { IfErr result (λ e. StandsWithin (end + 1) e) }
     ensures shorter { IfOk result (λ p. length p.1.now < length text.now) }
 {
     read_letters(alloc, text, flags, end)

@@ -3,12 +3,13 @@ use Rattle.std.specs.BTreeMap.{insert_entry}
 use Rattle.std.specs.Map.{lookup, set_value}
 use Rattle.std.specs.Ordering.{is_eq}
 use Rattle.std.specs.String.{string_cmp}
+use Rattle.std.proofs.lemmas.Result.{err_from_is_err_and}
 use Rattle.fancy_parts.specs.Groups.{named, with_number}
-use Rattle.fancy_parts.proofs.NameLemmas.{put_new, put_more}
+use Rattle.fancy_parts.proofs.NameLemmas.{put_new, put_more, put_same}
 use Rattle.fancy_parts.proofs.ranks.add_number.Goals as goal
 
-pub returns-in_ok-push-in-Some : goal.returns-in_ok-push-in-Some
-returns-in_ok-push-in-Some c =
+pub returns-in_ok-push-in-Some-clause-added : goal.returns-in_ok-push-in-Some-clause-added
+returns-in_ok-push-in-Some-clause-added c =
     let a = c.args.name.now in let es = c.args.names.now.entries in
     let h = c.get_mut.follows.holds c.push.new.self in
     let same : lookup (λ k. is_eq (string_cmp a k)) es ≡ Some c.in-Some.numbers.now
@@ -20,8 +21,8 @@ returns-in_ok-push-in-Some c =
     ∙ put_more a es c.in-Some.numbers.now c.push.new.self c.args.number c.in_ok-push-in-Some.ensures.items
     c.get_mut.ensures.ordered same
 
-pub returns-in_ok-insert-in-None : goal.returns-in_ok-insert-in-None
-returns-in_ok-insert-in-None c =
+pub returns-in_ok-insert-in-None-clause-added : goal.returns-in_ok-insert-in-None-clause-added
+returns-in_ok-insert-in-None-clause-added c =
     let a = c.args.name.now in let b = c.in_ok-clone-in-None.field-0 in let es = c.args.names.now.entries in
     let same = c.get_mut.follows.holds-at-none in
     let entries : c.insert.new.self.entries ≡ insert_entry string_cmp es b c.push-in-None.new.self
@@ -33,3 +34,17 @@ returns-in_ok-insert-in-None c =
     = rw (bytes, ← c.as_str.ensures.value) (sym c.in-None.ensures.value) in
     ap (map named) entries ∙ put_new b es c.push-in-None.new.self c.args.number items none
     ∙ ap (λ bs. with_number (chars bs) c.args.number (map named es)) bytes
+
+pub returns-in_err-push-in-Some-clause-kept : goal.returns-in_err-push-in-Some-clause-kept
+returns-in_err-push-in-Some-clause-kept c =
+    let a = c.args.name.now in let es = c.args.names.now.entries in
+    let h = c.get_mut.follows.holds c.push.new.self in
+    let same : lookup (λ k. is_eq (string_cmp a k)) es ≡ Some c.in-Some.numbers.now
+    = rw (← c.as_str.ensures.value) (sym c.in-Some.ensures.value) in
+    let set : (c.get_mut.follows.lender c.push.new.self).entries
+    ≡ set_value (λ k. is_eq (string_cmp a k)) es c.push.new.self =
+    rw (← c.as_str.ensures.value) h.0 in
+    let refused = err_from_is_err_and c.from_residual.result c.from_residual.ensures.1 in
+    rw refused.1
+    (ap (map named) set
+    ∙ put_same a es c.in-Some.numbers.now c.push.new.self c.in_err-push-in-Some.ensures.items same)

@@ -1,0 +1,119 @@
+-- What holds of the counts of a quantifier: they leave the end of the text behind a character or more.
+use Rattle.std.proofs.Common.{◌≡◌, ℕ, ◌^◌, nat_lt, ◌==◌, [], ◌∷◌, List, chars, Bor, Option, Some, None, IfSome, option_map, unwrap_or, refl, subst, arith, Bool}
+use Rattle.std.specs.Prelude.{option_and_then}
+use Rattle.std.proofs.lemmas.Bool.{cond_both}
+use Prim.Native.Char.{code}
+use Rattle.fancy_lex.proofs.LayoutLaws.{layout_cut}
+use Rattle.fancy_lex.proofs.NumberLemmas.{number_sound}
+use Rattle.fancy_lex.proofs.TakeLaws.{Takes, TakesSome, takes_on, takes_one}
+use Rattle.fancy_lex.specs.Layout.{layout, Skipped, rest, rest_of, fault as open_comment}
+use Rattle.fancy_lex.specs.Number.{number}
+use Rattle.fancy_lex.specs.Text.{Text, EndsWith, strip}
+use Rattle.fancy_parts.proofs.HeadLaws.{takes_past, takes_strip}
+use Rattle.fancy_parts.specs.Quantifier.{counts, braced_counts, counts_from, in_braces, spaced_count, past_layout, count, count_of, exact_or_range, most}
+use Rattle.fancy_parts.specs.declared.counts.Counts.{Counts}
+
+takes_none : (t : Text) → Takes 0 t t
+takes_none t = record { word = []; cut = refl; long = omega arith }
+
+takes_number : (t : Text) → TakesSome 0 t (number t)
+takes_number t = by_number (number t) refl
+  where
+    by_number : (o : Option (ℕ × Text)) → number t ≡ o → TakesSome 0 t o
+    by_number None e = tt
+    by_number (Some (n, u)) e =
+        let starts = number_sound t u n e in record { word = starts.w; cut = starts.cut; long = omega arith }
+
+takes_count : (t : Text) → TakesSome 0 t (count t)
+unfolding count
+takes_count t = by_number (number t) (takes_number t)
+  where
+    by_number : (o : Option (ℕ × Text)) → TakesSome 0 t o → TakesSome 0 t (count_of t o)
+    by_number None h = takes_none t
+    by_number (Some (n, u)) h = cond_both (nat_lt n (2 ^ 64)) _ _ (TakesSome 0 t) (λ _. h) (λ _. tt)
+
+takes_layout : (x : Bool) (t : Text) → IfSome (past_layout x t) (λ u. Takes 0 t u)
+takes_layout x t = by_layout (layout 0 x t) refl
+  where
+    by_layout : (k : Skipped) → layout 0 x t ≡ k → IfSome (rest_of k) (λ u. Takes 0 t u)
+    by_layout (rest u) e = let (w, cut) = layout_cut 0 x t u e in record { word = w; cut = cut; long = omega arith }
+    by_layout (open_comment p) e = tt
+
+takes_spaced : (x : Bool) (t : Text) → TakesSome 0 t (spaced_count x t)
+unfolding spaced_count
+takes_spaced x t = by_first (past_layout x t) (takes_layout x t)
+  where
+    by_last : {u : Text} (n : Option ℕ) (o : Option Text) → IfSome o (λ v. Takes 0 u v) → Takes 0 t u →
+        TakesSome 0 t (option_map (λ v. (n, v)) o)
+    by_last n None h a = tt
+    by_last n (Some v) h a = takes_on (omega arith) a h
+
+    by_count : {u : Text} (o : Option (Option ℕ × Text)) → TakesSome 0 u o → Takes 0 t u →
+        TakesSome 0 t (option_and_then (λ p. option_map (λ v. (p.0, v)) (past_layout x p.1)) o)
+    by_count None h a = tt
+    by_count (Some (n, v)) h a = by_last n (past_layout x v) (takes_layout x v) (takes_on (omega arith) a h)
+
+    by_first : (o : Option Text) → IfSome o (λ u. Takes 0 t u) →
+        TakesSome 0 t (option_and_then (λ u. option_and_then (λ p. option_map (λ v. (p.0, v)) (past_layout x p.1)) (count u)) o)
+    by_first None h = tt
+    by_first (Some u) h = by_count (count u) (takes_count u) h
+
+takes_from : (x : Bool) (low : ℕ) (t : Text) → TakesSome 0 t (counts_from x low t)
+unfolding counts_from
+takes_from x low t = by_count (spaced_count x t) (takes_spaced x t)
+  where
+    closed : (p : Option ℕ × Text) (o : Option Text) → strip (code "}") p.1 ≡ o → Takes 0 t p.1 →
+        TakesSome 0 t (option_map (λ v. (in_braces low (unwrap_or p.0 most), v)) o)
+    closed p None e h = tt
+    closed p (Some v) e h = takes_on (omega arith) h (takes_strip (code "}") p.1 v e)
+
+    by_count : (o : Option (Option ℕ × Text)) → TakesSome 0 t o →
+        TakesSome 0 t (option_and_then (λ p. option_map (λ v. (in_braces low (unwrap_or p.0 most), v)) (strip (code "}") p.1)) o)
+    by_count None h = tt
+    by_count (Some p) h = closed p (strip (code "}") p.1) refl h
+
+takes_braces : (x : Bool) (t : Text) → TakesSome 0 t (braced_counts x t)
+unfolding braced_counts
+takes_braces x t = by_count (spaced_count x t) (takes_spaced x t)
+  where
+    exact : (low : Option ℕ) (v : Text) → Takes 0 t v → TakesSome 0 t (option_map (λ n. (in_braces n n, v)) low)
+    exact None v h = tt
+    exact (Some n) v h = h
+
+    range : (low : ℕ) (u : Text) (o : Option Text) → strip (code ",") u ≡ o → Takes 0 t u →
+        TakesSome 0 t (option_and_then (counts_from x low) o)
+    range low u None e h = tt
+    range low u (Some v) e h =
+        takes_past 0 0 t v (counts_from x low v) (takes_on (omega arith) h (takes_strip (code ",") u v e)) (takes_from x low v)
+
+    closed : (low : Option ℕ) (u : Text) (o : Option Text) → strip (code "}") u ≡ o → Takes 0 t u →
+        TakesSome 0 t (exact_or_range x low u o)
+    closed low u (Some v) e h = exact low v (takes_on (omega arith) h (takes_strip (code "}") u v e))
+    closed low u None e h = range (unwrap_or low 0) u (strip (code ",") u) refl h
+
+    by_count : (o : Option (Option ℕ × Text)) → TakesSome 0 t o →
+        TakesSome 0 t (option_and_then (λ p. exact_or_range x p.0 p.1 (strip (code "}") p.1)) o)
+    by_count None h = tt
+    by_count (Some p) h = closed p.0 p.1 (strip (code "}") p.1) refl h
+
+-- behind the first character
+takes_behind : (x : Bool) (c : ℕ) (t : Text) → TakesSome 0 t (counts x (c ∷ t))
+unfolding counts
+takes_behind x c t =
+    cond_both (c == code "?") _ _ (TakesSome 0 t) (λ _. takes_none t) (λ _.
+    cond_both (c == code "*") _ _ (TakesSome 0 t) (λ _. takes_none t) (λ _.
+    cond_both (c == code "+") _ _ (TakesSome 0 t) (λ _. takes_none t) (λ _.
+    cond_both (c == code "{") _ _ (TakesSome 0 t) (λ _. takes_braces x t) (λ _. tt))))
+
+pub takes_counts : (x : Bool) (t : Text) → TakesSome 1 t (counts x t)
+unfolding counts
+takes_counts x [] = tt
+takes_counts x (c ∷ t) = takes_past 0 1 (c ∷ t) t (counts x (c ∷ t)) (takes_one c t) (takes_behind x c t)
+
+-- the clause of the reader
+pub counts_cut : (x : Bool) (t : Text) (r : Option (Counts × Bor (List ℕ))) →
+    counts x t ≡ option_map (λ p. (p.0, chars p.1.now)) r → IfSome r (λ p. EndsWith t (chars p.1.now))
+counts_cut x t None e = tt
+counts_cut x t (Some p) e =
+    let h : TakesSome 1 t (option_map (λ p. (p.0, chars p.1.now)) (Some p)) = subst (TakesSome 1 t) e (takes_counts x t) in
+    (h.word, h.cut)
