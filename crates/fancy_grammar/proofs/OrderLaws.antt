@@ -1,6 +1,7 @@
 -- Where places ascend, the walk's count is the count by places.
-use Rattle.std.proofs.Common.{◌≡◌, ℕ, ◌+◌, ◌<◌, ◌≤◌, ap, Option, Some, Bool, true, false, List, [], ◌∷◌, ◌++◌, length}
+use Rattle.std.proofs.Common.{◌≡◌, ℕ, ◌+◌, ◌<◌, ◌≤◌, Option, Some, Bool, true, false, List, [], ◌∷◌, ◌++◌, length}
 use Rattle.std.proofs.Common.{length-append, append_assoc, refl, sym, ◌∙◌, subst, arith, nat_lt, cond}
+use Rattle.std.specs.List.{AllByRecursion}
 use Rattle.std.proofs.lemmas.List.Sums.{sum_by-cons}
 use Rattle.fancy_parts.specs.Ranks.{Opening}
 use Rattle.fancy_parts.specs.Ranks.{is_counted, counted_in, opened_before}
@@ -44,23 +45,20 @@ openings_fit low high [] a = omega (arith, a)
 openings_fit low high (opening o ∷ l) a = omega (arith, a.0, openings_fit (o.place + 1) high l a.1)
 openings_fit low high (reference r ∷ l) a = omega (arith, a.0, openings_fit (r.place + 1) high l a.1)
 
-fault_here : (m : Meaning) (place high : ℕ) (other : Option Fault) (x : Fault) → place < high →
-    (other ≡ Some x → x.place < high) → fault_or m place other ≡ Some x →
-    x.place < high
-fault_here (number n) place high other x h i e = i e
-fault_here unresolved place high other x h i e = i e
-fault_here (faulty k) place high other x h i e =
-    let same : record { place = place; kind = k } ≡ x = cc in omega (arith, h, ap (λ (y : Fault). y.place) same)
+-- the first fault stands at a reference
+fault_here : (P : ℕ → Type 0) (m : Meaning) (place : ℕ) (other : Option Fault) (x : Fault) → P place →
+    (other ≡ Some x → P x.place) → fault_or m place other ≡ Some x → P x.place
+fault_here P (number n) place other x h i e = i e
+fault_here P unresolved place other x h i e = i e
+fault_here P (faulty k) place other x h i e =
+    let same : record { place = place; kind = k } ≡ x = cc in subst (λ (y : Fault). P y.place) same h
 
--- the first fault stands before the end
-pub fault_place : (g : List Opening) (low high : ℕ) (l : List Item) (x : Fault) → Ascends low high l →
-    first_fault g (references_in l) ≡ Some x → x.place < high
-fault_place g low high [] x a e = absurd cc
-fault_place g low high (opening o ∷ l) x a e = fault_place g (o.place + 1) high l x a.1 e
-fault_place g low high (reference r ∷ l) x a e =
-    fault_here (meaning g r) r.place high (first_fault g (references_in l)) x
-    (omega (arith, bounds (r.place + 1) high l a.1))
-    (fault_place g (r.place + 1) high l x a.1) e
+pub fault_place : (P : ℕ → Type 0) (g : List Opening) (l : List Item) (x : Fault) → AllByRecursion (λ i. P (place_of_item i)) l →
+    first_fault g (references_in l) ≡ Some x → P x.place
+fault_place P g [] x a e = absurd cc
+fault_place P g (opening o ∷ l) x a e = fault_place P g l x a.1 e
+fault_place P g (reference r ∷ l) x a e =
+    fault_here P (meaning g r) r.place (first_fault g (references_in l)) x a.0 (fault_place P g l x a.1) e
 
 -- the openings stand before the place
 abbrev Before : ℕ → List Opening → Type 0

@@ -1,24 +1,29 @@
 -- What one reading of a whole text says of every other.
-use Rattle.std.proofs.Common.{◌≡◌, ℕ, List, Option, Some, None, sym, ap, ◌∙◌, subst, arith, chars, length}
-use Rattle.std.specs.Str.{IsUtf8}
-use Rattle.fancy_lex.proofs.TextLemmas.{bytes_chars}
+use Rattle.std.proofs.Common.{◌≡◌, ℕ, ◌+◌, ◌-◌, inl, inr, List, ◌++◌, Option, Some, None, refl, sym, ap, ap₂, ◌∙◌, subst, chars, length}
+use Rattle.std.specs.Str.{IsUtf8, IsCharBoundary, all_scalars}
+use Rattle.std.proofs.Math.Utf8.{encodes}
+use Rattle.std.proofs.lemmas.Str.{scalars-chars, chars-encodes}
+use Rattle.fancy_lex.proofs.TextLemmas.{bytes_chars, cut_boundary}
 use Rattle.fancy_lex.specs.Fault.{Kind, Fault, kind_of}
-use Rattle.fancy_lex.specs.Text.{Text}
+use Rattle.fancy_lex.specs.Text.{Text, EndsWith, as_told, begins, past_end, bytes}
+use Rattle.fancy_lex.specs.declared.error.ParseError.{ParseError as ErrorKind}
 use Rattle.fancy_lex.specs.declared.error.Error.{Error}
 use Rattle.fancy_lex.specs.declared.error.Error.TheVariants.{ParseError, OutOfMemory}
 use Rattle.fancy_lex.specs.declared.flags.Flags.{Flags}
 use Rattle.fancy_parts.specs.Ranks.{counted}
-use Rattle.fancy_grammar.specs.Answer.{IsTreeOf, IsFaultOf, of_reading, of_resolving, IsOnlyFault, IsWithin}
+use Rattle.fancy_grammar.specs.Answer.{IsTreeOf, IsFaultOf, of_reading, of_resolving, IsOnlyFault, IsPlacedIn}
 use Rattle.fancy_grammar.specs.Grammar.{Derives, Faults, Whole}
 use Rattle.fancy_grammar.specs.Items.{items, openings}
 use Rattle.fancy_grammar.specs.Marks.{Marks, marks}
 use Rattle.fancy_grammar.specs.Fails.{Fails, IsThatFault}
 use Rattle.fancy_grammar.specs.Ordered.{Ascends}
+use Rattle.fancy_grammar.specs.Slices.{MayStand}
+use Rattle.fancy_grammar.proofs.ReadBack.ScalarLemmas.{scalars_behind}
 use Rattle.fancy_grammar.specs.Resolved.{resolved, fault_of}
 use Rattle.fancy_grammar.specs.State.{Outcome, fault}
 use Rattle.fancy_grammar.specs.Tree.{Tree}
 use Rattle.fancy_grammar.proofs.OrderLaws.{fault_place}
-use Rattle.fancy_grammar.proofs.Slices.{place_within, ordered_within}
+use Rattle.fancy_grammar.proofs.Slices.{fault_stands, items_stand, ordered_within}
 use Rattle.fancy_grammar.proofs.Unique.{whole_unique}
 
 pub same_tree : {f : Flags} {text : Text} {r q : Tree} → Derives f text r → Derives f text q → q ≡ r
@@ -78,23 +83,37 @@ only_resolving (ParseError p k) f text r a h =
     other j q (of_resolving b some) = same_first (sym h ∙ sym (ap (fault_of f) (same_tree a b)) ∙ some)
 only_resolving OutOfMemory f text r a h = tt
 
-pub reading_within : (e : Error) (f : Flags) (re : List ℕ) → IsUtf8 re → Fails e (Whole f (chars re)) →
-    IsWithin e (length re)
-reading_within (ParseError p k) f re u a = omega (arith, place_within a, bytes_chars re u)
-reading_within OutOfMemory f re u a = tt
+-- ---- places
+
+-- where the pattern may be cut
+cut_at : (re : List ℕ) (u : Text) → IsUtf8 re → EndsWith (chars re) u → IsCharBoundary re (bytes (chars re) - bytes u)
+cut_at re u valid (w, cut) =
+    let scalars = scalars_behind w u (ap all_scalars (sym cut) ∙ scalars-chars re valid) in
+    let ends : IsUtf8 (encodes u) = (u, (scalars, refl)) in
+    let same : chars (encodes u) ≡ u = chars-encodes u scalars in
+    let left : length (encodes u) ≡ bytes u = sym (bytes_chars (encodes u) ends) ∙ ap bytes same in
+    subst (IsCharBoundary re) (ap₂ (λ a b. a - b) (sym (bytes_chars re valid)) left)
+    (cut_boundary re (encodes u) w valid ends (cut ∙ ap (λ s. w ++ s) (sym same)))
+
+placed : (e : ErrorKind) (re : List ℕ) (p : ℕ) → IsUtf8 re → MayStand (bytes (chars re)) (chars re) p →
+    IsPlacedIn (ParseError p e) re
+placed e re p valid (as_told h) = inl (h ∙ ap (λ n. n + 1) (bytes_chars re valid))
+placed e re p valid (begins u ends h) = inr (subst (IsCharBoundary re) (sym h) (cut_at re u valid ends))
+placed e re p valid (past_end h) = inl (h ∙ ap (λ n. n + 1) (bytes_chars re valid))
+
+pub reading_placed : (e : Error) (f : Flags) (re : List ℕ) → IsUtf8 re → Fails e (Whole f (chars re)) → IsPlacedIn e re
+reading_placed (ParseError p k) f re u a = placed k re p u (fault_stands a)
+reading_placed OutOfMemory f re u a = tt
 
 -- the groups and references of a text that is read stand in text order
 pub text_order : (f : Flags) (re : List ℕ) (r : Tree) → IsUtf8 re → Derives f (chars re) r →
     Ascends 0 (length re) (items r)
 text_order f re r u a = subst (λ n. Ascends 0 n (items r)) (bytes_chars re u) (ordered_within a.1)
 
-pub resolving_within : (e : Error) (f : Flags) (re : List ℕ) (r : Tree) → IsUtf8 re → Derives f (chars re) r →
-    IsThatFault e (fault_of f r) →
-    IsWithin e (length re)
-resolving_within (ParseError p k) f re r u a h =
-    omega (
-      arith,
-      fault_place (counted f (openings r)) 0 (length re) (items r) (record { place = p; kind = kind_of k })
-          (text_order f re r u a) h,
-    )
-resolving_within OutOfMemory f re r u a h = tt
+pub resolving_placed : (e : Error) (f : Flags) (re : List ℕ) (r : Tree) → IsUtf8 re → Derives f (chars re) r →
+    IsThatFault e (fault_of f r) → IsPlacedIn e re
+resolving_placed (ParseError p k) f re r u a h =
+    placed k re p u
+    (fault_place (MayStand (bytes (chars re)) (chars re)) (counted f (openings r)) (items r) (record { place = p; kind = kind_of k })
+    (items_stand a.1) h)
+resolving_placed OutOfMemory f re r u a h = tt

@@ -1,5 +1,6 @@
 -- What is answered for a text: its tree with its marks, or its fault.
-use Rattle.std.specs.Prelude.{◌≡◌, ℕ, ◌+◌, ◌≤◌, Some, None}
+use Rattle.std.specs.Prelude.{◌≡◌, ℕ, ◌+◌, ◌⊎◌, List, length, Some, None}
+use Rattle.std.specs.Str.{IsCharBoundary}
 use Rattle.fancy_lex.specs.Fault.{Kind, kind_of}
 use Rattle.fancy_lex.specs.Text.{Text}
 use Rattle.fancy_lex.specs.declared.error.Error.{Error}
@@ -30,7 +31,7 @@ IsOnlyFault (ParseError p k) f text =
     × ((t : Tree) (m : Marks) → IsTreeOf f text t m → ⊥)
 IsOnlyFault OutOfMemory f text = Unit {0}
 
--- memory ran out, or the fault's place is at most one past the end of n bytes
-abbrev pub IsWithin : Error → ℕ → Type 0
-IsWithin (ParseError p k) n = p ≤ n + 1
-IsWithin OutOfMemory n = Unit {0}
+-- memory ran out, or the fault's place is one past the end of the pattern, or one at which the pattern may be cut
+abbrev pub IsPlacedIn : Error → List ℕ → Type 0
+IsPlacedIn (ParseError p k) pattern = (p ≡ length pattern + 1) ⊎ IsCharBoundary pattern p
+IsPlacedIn OutOfMemory pattern = Unit {0}

@@ -73,12 +73,12 @@ module _ (n : ℕ) where
   sound_choose t None f d h k = k
 
   module _ (f : Flags) where
-    sound_referring : (t : Text) (o : Reading Reference) → TakesOrFails n 1 t o →
+    sound_referring : (t : Text) (o : Reading Reference) → TakesOrFails (place_of n t) 1 t o →
         IfGives (ReferenceAt (place_of n t)) o → Sound n t (referring f o)
     sound_referring t (gives r u) (takes a) e = record { mark = t; ends = ends_whole t; takes = a; place = e }
     sound_referring t (fails z) h e = tt
 
-    sound_calling : (t : Text) (o : Reading Call) → TakesOrFails n 1 t o → IfGives (CallAt (place_of n t)) o →
+    sound_calling : (t : Text) (o : Reading Call) → TakesOrFails (place_of n t) 1 t o → IfGives (CallAt (place_of n t)) o →
         Sound n t (o >=> (λ c u. gives (called c) u))
     sound_calling t (gives c u) (takes a) e = record { mark = t; ends = ends_whole t; takes = a; place = e }
     sound_calling t (fails z) h e = tt
@@ -91,7 +91,7 @@ module _ (n : ℕ) where
 
     sound_named : (t : Text) → Sound n t (referring f (back_reference n t))
     sound_named t =
-        sound_referring t (back_reference n t) (takes_less n 3 t (omega arith) (takes_back_reference n t)) (back_reference_at n t)
+        sound_referring t (back_reference n t) (takes_less (place_of n t) 3 t (omega arith) (takes_back_reference n t)) (back_reference_at n t)
 
     sound_call : (p c : ℕ) (t : Text) → Sound n t (call n p c t)
     unfolding call

@@ -4,7 +4,8 @@ use Rattle.std.proofs.lemmas.Bool.Decides.{nat_tests}
 use Rattle.std.proofs.lemmas.Bool.{cases_eq}
 use Rattle.std.specs.Borrow.{Bor}
 use Rattle.fancy_lex.specs.Characters.{line_feed, hash, open_paren, close_paren, backslash}
-use Rattle.fancy_lex.specs.Text.{Text}
+use Rattle.fancy_lex.specs.Text.{Text, Stands, past_end}
+use Rattle.fancy_lex.proofs.LeaveLaws.{stands_end}
 use Rattle.fancy_lex.specs.Layout.{skipped_of, rest, fault, Inside, nothing, plain, pair, InLine, end_line, on_line, comment_head, IsUnit, Units, none, more, Stops, layout, layout_from, between, comment, escaped, line, is_blank, after_comment_head, Open, at_end, after_backslash, Unclosed, Before}
 use Rattle.fancy_lex.proofs.LayoutLemmas.{between_opened, comment_step, comment_end, escaped_end, escaped_step, escaped_end, line_step, between_line, between_blank, between_other, between_plain, between_end, line_end}
 
@@ -289,9 +290,9 @@ layout_cut n x t v e = let b = layout_sound n x t v e in (b.w, b.cut)
 pub layout_length : (n : ℕ) (x : Bool) (t v : Text) → layout n x t ≡ rest v → length v ≤ length t
 layout_length n x t v e = let (w, cut) = layout_cut n x t v e in omega (arith, simp length-append at (ap length cut))
 
--- the fault stands at most one past the end
-pub layout_place : (n : ℕ) (x : Bool) (t : Text) (p : ℕ) → layout n x t ≡ fault p → p ≤ n + 1
-layout_place n x t p e = place (unclosed_sound n x t p e).inside where
-  place : {r : Text} {q : ℕ} → Open n r q → q ≤ n + 1
-  place (at_end i) = omega arith
-  place (after_backslash i e f j) = omega (arith, f)
+-- the fault stands at the end, or one past it
+pub layout_stands : (n p : ℕ) (x : Bool) (t : Text) (q : ℕ) → layout n x t ≡ fault q → Stands n p t q
+layout_stands n p x t q e = place (unclosed_sound n x t q e).inside where
+  place : {r : Text} {q : ℕ} → Open n r q → Stands n p t q
+  place (at_end i) = stands_end t
+  place (after_backslash i e f j) = past_end f

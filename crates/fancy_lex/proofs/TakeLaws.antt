@@ -1,9 +1,9 @@
 -- What is taken off the front of a text: a word of at least so many characters.
-use Rattle.std.proofs.Common.{◌≡◌, ℕ, Bool, true, false, if◌then◌else◌, ◌+◌, ◌≤◌, [], ◌∷◌, ◌++◌, length, length-append, append_assoc, ap, sym, ◌∙◌, refl, arith, IfSome, Option, Some, None}
+use Rattle.std.proofs.Common.{◌≡◌, ℕ, Bool, true, false, if◌then◌else◌, ◌+◌, ◌≤◌, [], ◌∷◌, ◌++◌, length, length-append, append_assoc, ap, sym, ◌∙◌, refl, subst, arith, IfSome, Option, Some, None}
 use Rattle.std.proofs.lemmas.Str.{len_utf8_bounds}
 use Rattle.fancy_lex.specs.Fault.{Fault}
 use Rattle.fancy_lex.specs.Reading.{Reading, gives, fails, ◌>=>◌}
-use Rattle.fancy_lex.specs.Text.{Text, bytes}
+use Rattle.fancy_lex.specs.Text.{Text, Stands, bytes}
 use Rattle.fancy_lex.proofs.TextLemmas.{bytes-append}
 use Rattle.fancy_lex.proofs.LeaveLaws.{Leaves, leaves, faults}
 
@@ -41,32 +41,32 @@ pub takes_less_some : {A : Type 0} (j k : ℕ) (t : Text) (o : Option (A × Text
 takes_less_some j k t None e h = tt
 takes_less_some j k t (Some p) e h = record { word = h.word; cut = h.cut; long = omega (arith, e, h.long) }
 
--- a reading takes at least k characters, or its fault stands at a place of at most m
-pub data TakesOrFails {A : Type 0} (m k : ℕ) : Text → Reading A → Type 0 where
-  takes : {t u : Text} {a : A} → Takes k t u → TakesOrFails m k t (gives a u)
-  fault_within : {t : Text} {e : Fault} → e.place ≤ m → TakesOrFails m k t (fails e)
+-- a reading takes at least k characters, or its fault stands at the place p
+pub data TakesOrFails {A : Type 0} (p k : ℕ) : Text → Reading A → Type 0 where
+  takes : {t u : Text} {a : A} → Takes k t u → TakesOrFails p k t (gives a u)
+  fails_at : {t : Text} {e : Fault} → e.place ≡ p → TakesOrFails p k t (fails e)
 
-module _ {A : Type 0} (m k : ℕ) (t : Text) where
-  pub takes_if : {x y : Reading A} (b : Bool) → TakesOrFails m k t x → TakesOrFails m k t y →
-      TakesOrFails m k t (if b then x else y)
+module _ {A : Type 0} (p k : ℕ) (t : Text) where
+  pub takes_if : {x y : Reading A} (b : Bool) → TakesOrFails p k t x → TakesOrFails p k t y →
+      TakesOrFails p k t (if b then x else y)
   takes_if true l r = l
   takes_if false l r = r
 
   -- a step that takes nothing more
-  pub takes_as : {B : Type 0} {o : Reading A} (f : A → B) → TakesOrFails m k t o →
-      TakesOrFails m k t (o >=> (λ a u. gives (f a) u))
+  pub takes_as : {B : Type 0} {o : Reading A} (f : A → B) → TakesOrFails p k t o →
+      TakesOrFails p k t (o >=> (λ a u. gives (f a) u))
   takes_as f (takes a) = takes a
-  takes_as f (fault_within l) = fault_within l
+  takes_as f (fails_at l) = fails_at l
 
-  pub takes_less : {j : ℕ} {o : Reading A} → j ≤ k → TakesOrFails m k t o → TakesOrFails m j t o
+  pub takes_less : {j : ℕ} {o : Reading A} → j ≤ k → TakesOrFails p k t o → TakesOrFails p j t o
   takes_less e (takes a) = takes (record { word = a.word; cut = a.cut; long = omega (arith, e, a.long) })
-  takes_less e (fault_within l) = fault_within l
+  takes_less e (fails_at l) = fails_at l
 
   -- the end of the text is left
-  pub takes_leaves : {l : ℕ} {o : Reading A} → m ≤ l → TakesOrFails m k t o → Leaves l t o
-  takes_leaves up (takes a) = leaves (a.word, a.cut)
-  takes_leaves up (fault_within l) = faults (omega (arith, up, l))
+  pub takes_leaves : {n h : ℕ} {o : Reading A} → Stands n h t p → TakesOrFails p k t o → Leaves n h t o
+  takes_leaves stands (takes a) = leaves (a.word, a.cut)
+  takes_leaves {n} {h} stands (fails_at e) = faults (subst (Stands n h t) (sym e) stands)
 
   -- where a value is given, at least k bytes were taken
-  pub takes_or_fails_bytes : {u : Text} {a : A} → TakesOrFails m k t (gives a u) → bytes u + k ≤ bytes t
+  pub takes_or_fails_bytes : {u : Text} {a : A} → TakesOrFails p k t (gives a u) → bytes u + k ≤ bytes t
   takes_or_fails_bytes (takes a) = takes_bytes a

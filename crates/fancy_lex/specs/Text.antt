@@ -38,3 +38,10 @@ EndsWith t end = (w : Text) × (t ≡ w ++ end)
 -- the text begins with the other
 abbrev pub BeginsWith : Text → Text → Type 0
 BeginsWith t front = (w : Text) × (t ≡ front ++ w)
+
+-- in a pattern of n bytes that ends with t, a place where a fault may stand: the one that is told, where an end of t
+-- begins, or one past the end
+pub data Stands (n told : ℕ) (t : Text) (place : ℕ) : Type 0 where
+  as_told : place ≡ told → Stands n told t place
+  begins : (u : Text) → EndsWith t u → place ≡ place_of n u → Stands n told t place
+  past_end : place ≡ n + 1 → Stands n told t place

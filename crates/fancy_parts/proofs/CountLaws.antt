@@ -1,15 +1,17 @@
--- What holds of the counts of a quantifier: they leave the end of the text behind a character or more.
-use Rattle.std.proofs.Common.{◌≡◌, ℕ, ◌^◌, nat_lt, ◌==◌, [], ◌∷◌, List, chars, Bor, Option, Some, None, IfSome, option_map, unwrap_or, refl, subst, arith, Bool}
+-- What holds of the counts of a quantifier: they leave the end of the text behind a character or more, of which the last is an ASCII one.
+use Rattle.std.proofs.Common.{◌≡◌, ℕ, ◌<◌, ◌^◌, nat_lt, ◌==◌, true, [], ◌∷◌, ◌++◌, List, chars, ap, sym, ◌∙◌, append_assoc, length-append, Bor, Option, Some, None, IfSome, option_map, unwrap_or, refl, subst, arith, Bool}
 use Rattle.std.specs.Prelude.{option_and_then}
 use Rattle.std.proofs.lemmas.Bool.{cond_both}
 use Prim.Native.Char.{code}
 use Rattle.fancy_lex.proofs.LayoutLaws.{layout_cut}
 use Rattle.fancy_lex.proofs.NumberLemmas.{number_sound}
 use Rattle.fancy_lex.proofs.TakeLaws.{Takes, TakesSome, takes_on, takes_one}
+use Rattle.fancy_lex.proofs.TextLemmas.{strip_is}
+use Rattle.std.proofs.lemmas.Bool.Decides.{nat_tests}
 use Rattle.fancy_lex.specs.Layout.{layout, Skipped, rest, rest_of, fault as open_comment}
 use Rattle.fancy_lex.specs.Number.{number}
 use Rattle.fancy_lex.specs.Text.{Text, EndsWith, strip}
-use Rattle.fancy_parts.proofs.HeadLaws.{takes_past, takes_strip}
+use Rattle.fancy_parts.proofs.HeadLaws.{takes_strip}
 use Rattle.fancy_parts.specs.Quantifier.{counts, braced_counts, counts_from, in_braces, spaced_count, past_layout, count, count_of, exact_or_range, most}
 use Rattle.fancy_parts.specs.declared.counts.Counts.{Counts}
 
@@ -58,57 +60,98 @@ takes_spaced x t = by_first (past_layout x t) (takes_layout x t)
     by_first None h = tt
     by_first (Some u) h = by_count (count u) (takes_count u) h
 
-takes_from : (x : Bool) (low : ℕ) (t : Text) → TakesSome 0 t (counts_from x low t)
+-- ---- the mark or closing brace
+
+-- the text ends with this one behind an ASCII character
+pub record Closed (t u : Text) : Type 0 where
+  pub mark : ℕ
+  pub ascii : mark < 128
+  pub ends : EndsWith t (mark ∷ u)
+
+abbrev ClosesSome : Text → Option (Counts × Text) → Type 0
+ClosesSome t o = IfSome o (λ p. Closed t p.1)
+
+closed_past : {k : ℕ} {t u v : Text} → Takes k t u → Closed u v → Closed t v
+closed_past {v} a h = record {
+  mark = h.mark;
+  ascii = h.ascii;
+  ends = (a.word ++ h.ends.0, a.cut ∙ ap (λ x. a.word ++ x) h.ends.1 ∙ sym (append_assoc a.word h.ends.0 (h.mark ∷ v)));
+}
+
+closes_past : {t u : Text} (o : Option (Counts × Text)) → Takes 0 t u → ClosesSome u o → ClosesSome t o
+closes_past None a h = tt
+closes_past (Some p) a h = closed_past a h
+
+by_brace : {t : Text} (u v : Text) → Takes 0 t u → strip (code "}") u ≡ Some v → Closed t v
+by_brace u v a e = closed_past a (record { mark = code "}"; ascii = omega arith; ends = ([], strip_is (code "}") u v e) })
+
+closes_from : (x : Bool) (low : ℕ) (t : Text) → ClosesSome t (counts_from x low t)
 unfolding counts_from
-takes_from x low t = by_count (spaced_count x t) (takes_spaced x t)
+closes_from x low t = by_count (spaced_count x t) (takes_spaced x t)
   where
     closed : (p : Option ℕ × Text) (o : Option Text) → strip (code "}") p.1 ≡ o → Takes 0 t p.1 →
-        TakesSome 0 t (option_map (λ v. (in_braces low (unwrap_or p.0 most), v)) o)
+        ClosesSome t (option_map (λ v. (in_braces low (unwrap_or p.0 most), v)) o)
     closed p None e h = tt
-    closed p (Some v) e h = takes_on (omega arith) h (takes_strip (code "}") p.1 v e)
+    closed p (Some v) e h = by_brace p.1 v h e
 
     by_count : (o : Option (Option ℕ × Text)) → TakesSome 0 t o →
-        TakesSome 0 t (option_and_then (λ p. option_map (λ v. (in_braces low (unwrap_or p.0 most), v)) (strip (code "}") p.1)) o)
+        ClosesSome t (option_and_then (λ p. option_map (λ v. (in_braces low (unwrap_or p.0 most), v)) (strip (code "}") p.1)) o)
     by_count None h = tt
     by_count (Some p) h = closed p (strip (code "}") p.1) refl h
 
-takes_braces : (x : Bool) (t : Text) → TakesSome 0 t (braced_counts x t)
+closes_braces : (x : Bool) (t : Text) → ClosesSome t (braced_counts x t)
 unfolding braced_counts
-takes_braces x t = by_count (spaced_count x t) (takes_spaced x t)
+closes_braces x t = by_count (spaced_count x t) (takes_spaced x t)
   where
-    exact : (low : Option ℕ) (v : Text) → Takes 0 t v → TakesSome 0 t (option_map (λ n. (in_braces n n, v)) low)
+    exact : (low : Option ℕ) (v : Text) → Closed t v → ClosesSome t (option_map (λ n. (in_braces n n, v)) low)
     exact None v h = tt
     exact (Some n) v h = h
 
     range : (low : ℕ) (u : Text) (o : Option Text) → strip (code ",") u ≡ o → Takes 0 t u →
-        TakesSome 0 t (option_and_then (counts_from x low) o)
+        ClosesSome t (option_and_then (counts_from x low) o)
     range low u None e h = tt
     range low u (Some v) e h =
-        takes_past 0 0 t v (counts_from x low v) (takes_on (omega arith) h (takes_strip (code ",") u v e)) (takes_from x low v)
+        closes_past (counts_from x low v) (takes_on (omega arith) h (takes_strip (code ",") u v e)) (closes_from x low v)
 
     closed : (low : Option ℕ) (u : Text) (o : Option Text) → strip (code "}") u ≡ o → Takes 0 t u →
-        TakesSome 0 t (exact_or_range x low u o)
-    closed low u (Some v) e h = exact low v (takes_on (omega arith) h (takes_strip (code "}") u v e))
+        ClosesSome t (exact_or_range x low u o)
+    closed low u (Some v) e h = exact low v (by_brace u v h e)
     closed low u None e h = range (unwrap_or low 0) u (strip (code ",") u) refl h
 
     by_count : (o : Option (Option ℕ × Text)) → TakesSome 0 t o →
-        TakesSome 0 t (option_and_then (λ p. exact_or_range x p.0 p.1 (strip (code "}") p.1)) o)
+        ClosesSome t (option_and_then (λ p. exact_or_range x p.0 p.1 (strip (code "}") p.1)) o)
     by_count None h = tt
     by_count (Some p) h = closed p.0 p.1 (strip (code "}") p.1) refl h
 
--- behind the first character
-takes_behind : (x : Bool) (c : ℕ) (t : Text) → TakesSome 0 t (counts x (c ∷ t))
+-- a mark alone
+by_mark : (c m : ℕ) (t : Text) → m < 128 → (c == m) ≡ true → Closed (c ∷ t) t
+by_mark c m t l e = record { mark = c; ascii = grind (arith, nat_tests); ends = ([], refl) }
+
+-- what follows the counts stands behind their mark or closing brace
+pub closes_counts : (x : Bool) (t : Text) → ClosesSome t (counts x t)
 unfolding counts
-takes_behind x c t =
-    cond_both (c == code "?") _ _ (TakesSome 0 t) (λ _. takes_none t) (λ _.
-    cond_both (c == code "*") _ _ (TakesSome 0 t) (λ _. takes_none t) (λ _.
-    cond_both (c == code "+") _ _ (TakesSome 0 t) (λ _. takes_none t) (λ _.
-    cond_both (c == code "{") _ _ (TakesSome 0 t) (λ _. takes_braces x t) (λ _. tt))))
+closes_counts x [] = tt
+closes_counts x (c ∷ t) =
+    let P = ClosesSome (c ∷ t) in
+    cond_both (c == code "?") _ _ P (λ e. by_mark c (code "?") t (omega arith) e) (λ _.
+    cond_both (c == code "*") _ _ P (λ e. by_mark c (code "*") t (omega arith) e) (λ _.
+    cond_both (c == code "+") _ _ P (λ e. by_mark c (code "+") t (omega arith) e) (λ _.
+    cond_both (c == code "{") _ _ P
+    (λ _. closes_past (braced_counts x t) (takes_less_one (takes_one c t)) (closes_braces x t)) (λ _. tt))))
+  where
+    takes_less_one : {t u : Text} → Takes 1 t u → Takes 0 t u
+    takes_less_one a = record { word = a.word; cut = a.cut; long = omega arith }
 
 pub takes_counts : (x : Bool) (t : Text) → TakesSome 1 t (counts x t)
-unfolding counts
-takes_counts x [] = tt
-takes_counts x (c ∷ t) = takes_past 0 1 (c ∷ t) t (counts x (c ∷ t)) (takes_one c t) (takes_behind x c t)
+takes_counts x t = by_counts (counts x t) (closes_counts x t)
+  where
+    by_counts : (o : Option (Counts × Text)) → ClosesSome t o → TakesSome 1 t o
+    by_counts None h = tt
+    by_counts (Some p) h = record {
+      word = h.ends.0 ++ h.mark ∷ [];
+      cut = h.ends.1 ∙ sym (append_assoc h.ends.0 (h.mark ∷ []) p.1);
+      long = omega (arith, length-append h.ends.0 (h.mark ∷ []));
+    }
 
 -- the clause of the reader
 pub counts_cut : (x : Bool) (t : Text) (r : Option (Counts × Bor (List ℕ))) →

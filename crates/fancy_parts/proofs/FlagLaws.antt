@@ -1,41 +1,45 @@
--- The letters of a flag group leave the end of the text, or their fault stands at most one past the end.
-use Rattle.std.proofs.Common.{ℕ, zero, suc, ◌+◌, Bool, false, [], ◌∷◌, Option, Some, None, arith}
+-- The letters of a flag group leave the end of the text, or their fault stands at a cut of the text or one past its end.
+use Rattle.std.proofs.Common.{ℕ, zero, suc, ◌+◌, Bool, false, [], ◌∷◌, Option, Some, None}
 use Rattle.fancy_lex.proofs.EscapeLaws.{leaves_layout}
-use Rattle.fancy_lex.proofs.LeaveLaws.{ends_whole, Leaves, leaves, whole_next, leaves_none, leaves_if, leaves_both}
+use Rattle.fancy_lex.proofs.LeaveLaws.{ends_whole, stands_here, stands_end, Leaves, leaves, whole_next, leaves_none, leaves_told, leaves_retold, leaves_if, leaves_both}
 use Rattle.fancy_lex.specs.FaultTable.{mode_changed}
 use Rattle.fancy_lex.specs.Reading.{Reading, fails}
-use Rattle.fancy_lex.specs.Text.{Text, bytes}
+use Rattle.fancy_lex.specs.Text.{Text, bytes, place_of}
 use Rattle.fancy_lex.specs.declared.flags.Flags.{Flags}
 use Rattle.fancy_parts.specs.FlagLetters.{Letters, Step, ends, goes, step, unknown_letter, goes_on, behind_step, letters_in, letters}
 
+-- where the letters begin is told
 module _ (n : ℕ) (t : Text) where
-  leaves_unknown : (u v : Text) → Leaves (n + 1) v (unknown_letter n t u)
-  leaves_unknown u v = leaves_none (omega arith)
+  abbrev told : ℕ
+  told = place_of n t
 
-  leaves_goes_on : (clears : Bool) (c : ℕ) (u : Text) (o : Option Flags) → Leaves (n + 1) (c ∷ u) (goes_on n t clears u o)
+  leaves_unknown : (u v : Text) → Leaves n told v (unknown_letter n t u)
+  leaves_unknown u v = leaves_told
+
+  leaves_goes_on : (clears : Bool) (c : ℕ) (u : Text) (o : Option Flags) → Leaves n told (c ∷ u) (goes_on n t clears u o)
   leaves_goes_on clears c u (Some f) = whole_next u
   leaves_goes_on clears c u None = leaves_unknown u (c ∷ u)
 
-  leaves_changing : (c : ℕ) (u : Text) → Leaves {A = Step} (n + 1) (c ∷ u) (fails (mode_changed n (c ∷ u)))
-  leaves_changing c u = leaves_none (omega arith)
+  leaves_changing : (c : ℕ) (u : Text) → Leaves {A = Step} n told (c ∷ u) (fails (mode_changed n (c ∷ u)))
+  leaves_changing c u = leaves_none (stands_here (c ∷ u))
 
-  leaves_step : (clears : Bool) (f : Flags) (u : Text) → Leaves (n + 1) u (step n t clears f u)
-  leaves_step clears f [] = leaves_none (omega arith)
+  leaves_step : (clears : Bool) (f : Flags) (u : Text) → Leaves n told u (step n t clears f u)
+  leaves_step clears f [] = leaves_none (stands_end [])
   leaves_step clears f (c ∷ u) =
       search (leaves_if, whole_next, leaves_unknown, leaves_changing, leaves_goes_on) depth 60 fits 3000
 
-  leaves_behind : (more : Bool → Flags → Text → Reading Letters) → ((c : Bool) (f : Flags) (u : Text) → Leaves (n + 1) u (more c f u)) →
-      (s : Step) (u : Text) → Leaves (n + 1) u (behind_step more s u)
+  leaves_behind : (more : Bool → Flags → Text → Reading Letters) → ((c : Bool) (f : Flags) (u : Text) → Leaves n told u (more c f u)) →
+      (s : Step) (u : Text) → Leaves n told u (behind_step more s u)
   leaves_behind more h (ends l) u = leaves (ends_whole u)
   leaves_behind more h (goes c f) u = h c f u
 
-  leaves_letters_in : (k : ℕ) (clears : Bool) (f : Flags) (u : Text) → Leaves (n + 1) u (letters_in n t k clears f u)
+  leaves_letters_in : (k : ℕ) (clears : Bool) (f : Flags) (u : Text) → Leaves n told u (letters_in n t k clears f u)
   unfolding letters_in
-  leaves_letters_in zero clears f u = leaves_none (omega arith)
+  leaves_letters_in zero clears f u = leaves_none (stands_end u)
   leaves_letters_in (suc k) clears f u =
-      leaves_both (leaves_layout (n + 1) n (omega arith) f.ignore_space u)
+      leaves_both (leaves_layout n told f.ignore_space u)
       (λ _ v. leaves_both (leaves_step clears f v) (leaves_behind (letters_in n t k) (leaves_letters_in k)))
 
-pub leaves_letters : (n : ℕ) (f : Flags) (t : Text) → Leaves (n + 1) t (letters n f t)
+pub leaves_letters : (n : ℕ) (f : Flags) (t : Text) → Leaves n (n + 1) t (letters n f t)
 unfolding letters
-leaves_letters n f t = leaves_letters_in n t (suc (bytes t)) false f t
+leaves_letters n f t = leaves_retold (stands_here t) (leaves_letters_in n t (suc (bytes t)) false f t)

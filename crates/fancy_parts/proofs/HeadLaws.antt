@@ -1,5 +1,5 @@
 -- What holds of every name and reference in a head: it leaves the end of the text behind some characters, and its fault
--- stands in the text or at its end.
+-- stands where it begins, or one byte before.
 use Rattle.std.proofs.Common.{◌≡◌, ℕ, ◌+◌, ◌-◌, true, false, ◌==◌, [], ◌∷◌, Option, Some, None, option_map, refl, arith}
 use Rattle.std.specs.Option.{option_and_then}
 use Rattle.std.proofs.lemmas.Bool.{cond_both}
@@ -11,7 +11,7 @@ use Rattle.fancy_lex.specs.Text.{Text, strip, place_of}
 use Rattle.fancy_lex.proofs.TextLemmas.{strip_is}
 use Rattle.fancy_lex.proofs.ReferenceLaws.{takes_name, takes_marked_name, takes_by_name, takes_reference_by_name}
 use Rattle.fancy_lex.proofs.ReferencePlaces.{IfGives, ReferenceAt, CallAt, named_at, call_to_at, reference_by_name_at}
-use Rattle.fancy_lex.proofs.TakeLaws.{Takes, TakesSome, TakesOrFails, takes, fault_within, takes_on, takes_one, takes_less_some}
+use Rattle.fancy_lex.proofs.TakeLaws.{Takes, TakesSome, TakesOrFails, takes, fails_at, takes_on, takes_one, takes_less_some}
 use Rattle.fancy_parts.specs.GroupName.{head_name, group_name}
 use Rattle.fancy_parts.specs.HeadReference.{named_reference, call_of, named_call, condition_name, with_close_paren, condition_target}
 
@@ -58,23 +58,23 @@ takes_condition_name (c ∷ t) =
     (λ _. takes_name close_paren (c ∷ t))
 
 module _ (n : ℕ) where
-  pub takes_group_name : (t : Text) → TakesOrFails n 3 t (group_name n t)
+  pub takes_group_name : (t : Text) → TakesOrFails (place_of n t - 1) 3 t (group_name n t)
   unfolding group_name
   takes_group_name t = at (head_name t) (takes_head_name t) where
-    at : (o : Option (Text × Text)) → TakesSome 3 t o → TakesOrFails n 3 t (name_reading (place_of n t - 1) o)
-    at None h = fault_within (omega arith)
+    at : (o : Option (Text × Text)) → TakesSome 3 t o → TakesOrFails (place_of n t - 1) 3 t (name_reading (place_of n t - 1) o)
+    at None h = fails_at refl
     at (Some p) h = takes h
 
-  pub takes_named_reference : (t : Text) → TakesOrFails n 2 t (named_reference n t)
+  pub takes_named_reference : (t : Text) → TakesOrFails (place_of n t) 2 t (named_reference n t)
   unfolding named_reference
   takes_named_reference t = takes_reference_by_name n 2 t false (name_before close_paren t) (takes_name close_paren t)
 
-  pub takes_named_call : (t : Text) → TakesOrFails n 2 t (named_call n t)
+  pub takes_named_call : (t : Text) → TakesOrFails (place_of n t) 2 t (named_call n t)
   unfolding named_call
   takes_named_call t =
       takes_by_name n 2 t t (call_of (place_of n t)) (name_before close_paren t) (takes_name close_paren t)
 
-  pub takes_condition_target : (t : Text) → TakesOrFails n 2 t (condition_target n t)
+  pub takes_condition_target : (t : Text) → TakesOrFails (place_of n t) 2 t (condition_target n t)
   unfolding condition_target
   takes_condition_target t = takes_reference_by_name n 2 t true (condition_name t) (takes_condition_name t)
 

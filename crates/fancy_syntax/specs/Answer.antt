@@ -3,7 +3,7 @@ use Rattle.std.specs.Prelude.{map}
 use Rattle.fancy_parts.specs.Groups.{named}
 use Rattle.fancy_grammar.specs.Marks.{Marks}
 use Rattle.fancy_syntax.specs.declared.tree.ExprTree.{ExprTree}
-pub use Rattle.fancy_grammar.specs.Answer.{IsTreeOf, IsFaultOf, of_reading, of_resolving, IsOnlyFault, IsWithin}
+pub use Rattle.fancy_grammar.specs.Answer.{IsTreeOf, IsFaultOf, of_reading, of_resolving, IsOnlyFault, IsPlacedIn}
 
 -- what an answer says beside its tree
 abbrev pub marks_of : ExprTree → Marks

@@ -1,7 +1,7 @@
 //! Patterns read whole.
 ghost use Rattle.std.specs.Prelude.{◌≡◌, chars, length, IfOk, IfErr};
 ghost use Rattle.fancy_lex.specs.Flags.{flags_of, unicode_alone};
-ghost use Rattle.fancy_grammar.specs.Answer.{IsTreeOf, IsFaultOf, IsOnlyFault, IsWithin};
+ghost use Rattle.fancy_grammar.specs.Answer.{IsTreeOf, IsFaultOf, IsOnlyFault, IsPlacedIn};
 ghost use Rattle.fancy_syntax.specs.Answer.{marks_of};
 ghost use Rattle.fancy_grammar.specs.Answered.{IsAnsweredWith, HasGroupsOf, IsSmall};
 ghost use Rattle.fancy_grammar.specs.Grammar.{Derives};
@@ -80,7 +80,7 @@ impl Expr {
         ensures groups { IfOk result (λ t. (r : _) → Derives (flags_of flags) (chars re.now) r →
             HasGroupsOf (flags_of flags) r (view t.expr)) }
         ensures fault { IfErr result (λ e. IsOnlyFault e (flags_of flags) (chars re.now)) }
-        ensures place { IfErr result (λ e. IsWithin e (length re.now)) }
+        ensures place { IfErr result (λ e. IsPlacedIn e re.now) }
     {
         let flags = Flags::from_bits(flags);
         let raw = parse(alloc, re, flags)?;
@@ -103,7 +103,7 @@ impl Expr {
         ensures groups { IfOk result (λ t. (r : _) → Derives unicode_alone (chars re.now) r →
             HasGroupsOf unicode_alone r (view t.expr)) }
         ensures fault { IfErr result (λ e. IsOnlyFault e unicode_alone (chars re.now)) }
-        ensures place { IfErr result (λ e. IsWithin e (length re.now)) }
+        ensures place { IfErr result (λ e. IsPlacedIn e re.now) }
     {
         Expr::parse_tree_with_flags(alloc, re, FLAG_UNICODE)
     }

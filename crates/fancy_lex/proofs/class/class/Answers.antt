@@ -1,3 +1,4 @@
+use Rattle.std.proofs.Common.{arith}
 use Rattle.fancy_lex.proofs.ClassLaws.{class_derives, class_only, class_only_fault, class_follows}
 use Rattle.fancy_lex.proofs.LeaveLaws.{given_cut, given_place}
 use Rattle.fancy_lex.proofs.PlaceLaws.{leaves_class}
@@ -8,7 +9,7 @@ pub returns-clause-cut : goal.returns-clause-cut
 returns-clause-cut c = given_cut text_of c.read_class.result (leaves_class c.args.end c.args.flags _) c.read_class.ensures.value
 
 pub returns-clause-place : goal.returns-clause-place
-returns-clause-place c = given_place text_of c.read_class.result (leaves_class c.args.end c.args.flags _) c.read_class.ensures.value
+returns-clause-place c = given_place text_of c.read_class.result (omega arith) (omega arith) (leaves_class c.args.end c.args.flags _) c.read_class.ensures.value
 
 pub returns-clause-derives : goal.returns-clause-derives
 returns-clause-derives c = class_derives _ _ _ _ c.read_class.ensures.value

@@ -1,4 +1,4 @@
-use Rattle.std.proofs.Common.{◌+◌, chars, arith}
+use Rattle.std.proofs.Common.{chars, arith}
 use Rattle.fancy_lex.proofs.EscapeLaws.{leaves_escape}
 use Rattle.fancy_lex.proofs.LeaveLaws.{given_cut, given_place}
 use Rattle.fancy_lex.proofs.ReadingLemmas.{answers_gives}
@@ -9,12 +9,12 @@ pub returns-clause-cut : goal.returns-clause-cut
 returns-clause-cut c =
     let a = c.args in
     given_cut escape_of c.read_escape.result
-    (leaves_escape (a.end + 1 + a.place) a.end (omega arith) a.flags a.inside a.place (omega arith) (chars a.text.now))
+    (leaves_escape a.end a.flags a.inside a.place (chars a.text.now))
     (answers_gives escape_of c.read_escape.result _ c.read_escape.ensures.value)
 
 pub returns-clause-place : goal.returns-clause-place
 returns-clause-place c within =
     let a = c.args in
-    given_place escape_of c.read_escape.result
-    (leaves_escape (a.end + 1) a.end (omega arith) a.flags a.inside a.place within (chars a.text.now))
+    given_place escape_of c.read_escape.result within (omega arith)
+    (leaves_escape a.end a.flags a.inside a.place (chars a.text.now))
     (answers_gives escape_of c.read_escape.result _ c.read_escape.ensures.value)

@@ -1,5 +1,5 @@
 use Rattle.fancy_lex.proofs.BoundaryRelation.{boundary_derives, boundary_only}
-use Rattle.std.proofs.Common.{◌+◌, chars, arith}
+use Rattle.std.proofs.Common.{chars, arith}
 use Rattle.fancy_lex.proofs.EscapeLaws.{leaves_boundary}
 use Rattle.fancy_lex.proofs.LeaveLaws.{given_cut, given_place}
 use Rattle.fancy_lex.proofs.ReadingLemmas.{answers_gives}
@@ -10,14 +10,14 @@ pub returns-clause-cut : goal.returns-clause-cut
 returns-clause-cut c =
     let a = c.args in
     given_cut escape_of c.read_boundary.result
-    (leaves_boundary (a.end + 1 + a.place) a.end (omega arith) a.flags.ignore_space a.place (omega arith) a.negated (chars a.text.now))
+    (leaves_boundary a.end a.place a.flags.ignore_space a.negated (chars a.text.now))
     (answers_gives escape_of c.read_boundary.result _ c.read_boundary.ensures.value)
 
 pub returns-clause-place : goal.returns-clause-place
 returns-clause-place c within =
     let a = c.args in
-    given_place escape_of c.read_boundary.result
-    (leaves_boundary (a.end + 1) a.end (omega arith) a.flags.ignore_space a.place within a.negated (chars a.text.now))
+    given_place escape_of c.read_boundary.result within (omega arith)
+    (leaves_boundary a.end a.place a.flags.ignore_space a.negated (chars a.text.now))
     (answers_gives escape_of c.read_boundary.result _ c.read_boundary.ensures.value)
 
 pub returns-clause-derives : goal.returns-clause-derives

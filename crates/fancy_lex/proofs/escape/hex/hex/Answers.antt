@@ -15,11 +15,11 @@ returns-clause-only c o h = hex_only _ _ _ _ _ c.read_hex.ensures.value o h
 pub returns-clause-cut : goal.returns-clause-cut
 returns-clause-cut c =
     let a = c.args in
-    given_cut escape_of c.read_hex.result (leaves_hex (a.end + 1) a.end (omega arith) a.flags a.width (chars a.text.now))
+    given_cut escape_of c.read_hex.result (leaves_hex a.end (a.end + 1) a.flags a.width (chars a.text.now))
     (answers_gives escape_of c.read_hex.result _ (reads_answers escape_of c.read_hex.result _ c.read_hex.ensures.value))
 
 pub returns-clause-place : goal.returns-clause-place
 returns-clause-place c =
     let a = c.args in
-    given_place escape_of c.read_hex.result (leaves_hex (a.end + 1) a.end (omega arith) a.flags a.width (chars a.text.now))
+    given_place escape_of c.read_hex.result (omega arith) (omega arith) (leaves_hex a.end (a.end + 1) a.flags a.width (chars a.text.now))
     (answers_gives escape_of c.read_hex.result _ (reads_answers escape_of c.read_hex.result _ c.read_hex.ensures.value))

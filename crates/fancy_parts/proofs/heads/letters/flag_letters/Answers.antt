@@ -1,3 +1,4 @@
+use Rattle.std.proofs.Common.{arith}
 use Rattle.fancy_parts.proofs.LetterRelation.{letters_derive, letters_only}
 use Rattle.fancy_lex.proofs.LeaveLaws.{given_cut, given_place}
 use Rattle.fancy_lex.proofs.ReadingLemmas.{answers_gives}
@@ -12,7 +13,7 @@ returns-clause-cut c =
 
 pub returns-clause-place : goal.returns-clause-place
 returns-clause-place c =
-    given_place letters_of c.read_letters.result (leaves_letters c.args.end c.args.flags _)
+    given_place letters_of c.read_letters.result (omega arith) (omega arith) (leaves_letters c.args.end c.args.flags _)
     (answers_gives letters_of c.read_letters.result _ c.read_letters.ensures.value)
 
 pub returns-clause-derives : goal.returns-clause-derives

@@ -13,8 +13,8 @@ use Rattle.fancy_syntax.specs.View.{view}
 use Rattle.fancy_syntax.specs.declared.tree.ExprTree.{ExprTree}
 use Rattle.fancy_grammar.proofs.AnsweredLaws.{answered_with, groups_of_raw}
 use Rattle.fancy_grammar.proofs.BoundLaws.{bounded}
-use Rattle.fancy_grammar.proofs.Verdict.{only_tree, no_fault, only_reading, only_resolving, reading_within}
-use Rattle.fancy_grammar.proofs.Verdict.{resolving_within, text_order}
+use Rattle.fancy_grammar.proofs.Verdict.{only_tree, no_fault, only_reading, only_resolving, reading_placed}
+use Rattle.fancy_grammar.proofs.Verdict.{resolving_placed, text_order}
 use Rattle.fancy_syntax.proofs.expr.Expr.parse_tree_with_flags.Goals as goal
 
 pub returns-in_err-raw-clause-fault : goal.returns-in_err-raw-clause-fault
@@ -27,7 +27,7 @@ returns-in_err-raw-clause-fault c =
 pub returns-in_err-raw-clause-place : goal.returns-in_err-raw-clause-place
 returns-in_err-raw-clause-place c =
     let e = err_from_is_err_and c.from_residual.result c.from_residual.ensures.1 in
-    rw (e.1, e.2) (reading_within c.in_err-raw.field-0.0 _ _ c.utf8.re c.in_err-raw.ensures.reads)
+    rw (e.1, e.2) (reading_placed c.in_err-raw.field-0.0 _ _ c.utf8.re c.in_err-raw.ensures.reads)
 
 pub resolve-requires : goal.resolve-requires
 resolve-requires c =
@@ -80,5 +80,5 @@ returns-clause-fault c =
 pub returns-clause-place : goal.returns-clause-place
 returns-clause-place c =
     IfErr-weaker c.resolve.result _ _
-    (λ e first. resolving_within e c.from_bits-flags.result c.args.re.now (view c.in_ok-raw.raw) c.utf8.re c.in_ok-raw.ensures.reads first)
+    (λ e first. resolving_placed e c.from_bits-flags.result c.args.re.now (view c.in_ok-raw.raw) c.utf8.re c.in_ok-raw.ensures.reads first)
     c.resolve.ensures.fault
