@@ -55,8 +55,8 @@ impl Groups {
         }
     }
 
-    /// Adds a group, which has the next number. The groups behind whose openings it opens, with their numbers, become
-    /// these and it. Where memory runs out, the groups stay as they were; a group without a name takes none.
+    /// Adds a group, which has the next number. Where the groups had their ranks for numbers, they have so with it behind
+    /// them. Where memory runs out, they stay as they were; a group without a name takes none.
     pub fn add(&mut self, alloc: Global, name: &Option<String>) -> Result<(), AllocError>
         requires { self.old.total + 1 < 2 ^ 64 }
         ensures added { IfOk result
