@@ -1,0 +1,91 @@
+//! What the program does with its words.
+use crate::words::{command, flags_chosen, style_chosen, verb_chosen};
+use clap::error::ErrorKind;
+use clap::{ArgMatches, Error};
+use patterns_program::draw::draw_tree;
+use patterns_program::fault::{Fault, give_up};
+use patterns_program::run::{Job, run};
+use patterns_program::sources::Sources;
+use std::alloc::{AllocError, Global};
+use std::io::Write;
+
+/// The status where the words are wrong.
+const MISUSED: u8 = 2;
+
+/// Says what the words were answered with: the help that was asked for on `out`, and else what is wrong on `err`.
+fn explain<O: Write, E: Write>(error: &Error, out: &mut O, err: &mut E) -> Result<u8, Fault> {
+    if error.kind() == ErrorKind::OutOfMemory {
+        return Err(Fault::Memory(AllocError));
+    }
+    if error.use_stderr() {
+        write!(err, "{error}")?;
+        return Ok(MISUSED);
+    }
+    write!(out, "{error}")?;
+    out.flush()?;
+    Ok(0)
+}
+
+/// Says that no flags have this name.
+fn explain_flags<E: Write>(err: &mut E) -> Result<u8, Fault> {
+    writeln!(
+        err,
+        "patterns: --flags takes letters of imsUxuRon, or - for none"
+    )?;
+    Ok(MISUSED)
+}
+
+/// Does what a verb's words ask.
+fn answer_verb<S: Sources, O: Write, E: Write>(
+    alloc: Global,
+    name: &str,
+    matches: &ArgMatches<'_>,
+    sources: &S,
+    out: &mut O,
+    err: &mut E,
+) -> Result<u8, Fault> {
+    let Some(flags) = flags_chosen(matches) else {
+        return explain_flags(err);
+    };
+    if let Some(pattern) = matches.get_str("pattern") {
+        let style = style_chosen(matches);
+        return Ok(draw_tree(alloc, flags, style, pattern, out, err));
+    }
+    let (Some(verb), Some(files)) = (verb_chosen(name, matches), matches.get_strs("files")) else {
+        return Ok(MISUSED);
+    };
+    let job = Job { verb, flags };
+    Ok(run(alloc, job, files, sources, out, err))
+}
+
+/// Does what the words ask, or says what is wrong with them.
+fn try_answer<S: Sources, O: Write, E: Write>(
+    alloc: Global,
+    words: &[String],
+    sources: &S,
+    out: &mut O,
+    err: &mut E,
+) -> Result<u8, Fault> {
+    match command(alloc)?.try_get_matches_from(words) {
+        Ok(matches) => match matches.subcommand() {
+            Some((name, chosen)) => answer_verb(alloc, name, chosen, sources, out, err),
+            None => Ok(MISUSED),
+        },
+        Err(error) => explain(&error, out, err),
+    }
+}
+
+/// Does what the words ask, the program's name among them, and answers the status: that of the run, or 0 where help was
+/// asked for, 2 where the words are wrong, and 3 where memory or a write was wanting.
+pub(crate) fn answer<S: Sources, O: Write, E: Write>(
+    alloc: Global,
+    words: &[String],
+    sources: &S,
+    out: &mut O,
+    err: &mut E,
+) -> u8 {
+    match try_answer(alloc, words, sources, out, err) {
+        Ok(status) => status,
+        Err(fault) => give_up(err, fault),
+    }
+}
