@@ -26,3 +26,8 @@ fn main(rt: HostRuntime) -> ExitCode {
         Err(_) => ExitCode::from(give_up(&mut rt.stderr(), Fault::Memory(AllocError))),
     }
 }
+
+#[cfg(test)]
+mod memory;
+#[cfg(test)]
+mod tests;

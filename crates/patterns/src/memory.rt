@@ -1,0 +1,99 @@
+//! Files, and writers, that lie in memory.
+use patterns_program::sources::Sources;
+use std::alloc::Global;
+use std::io;
+use std::io::{BufRead, Chain, ErrorKind, Read, Write};
+
+/// Nothing to read; or a fault where one would read on.
+#[derive(Clone, Copy)]
+pub(crate) struct End {
+    is_broken: bool,
+}
+
+impl Read for End {
+    fn read(&mut self, _buffer: &mut [u8]) -> io::Result<usize> {
+        if self.is_broken {
+            return Err(io::Error::from(ErrorKind::ConnectionReset));
+        }
+        Ok(0)
+    }
+}
+
+impl BufRead for End {
+    fn fill_buf(&mut self) -> io::Result<&[u8]> {
+        if self.is_broken {
+            return Err(io::Error::from(ErrorKind::ConnectionReset));
+        }
+        Ok(b"")
+    }
+
+    fn consume(&mut self, _amount: usize) {}
+}
+
+/// The names of files, and what they hold.
+static FILES: [(&str, &[u8]); 5] = [
+    ("good", b"a|b\r\n\nc"),
+    ("empty", b""),
+    ("mixed", b"a|b\r\n(\n\n\xFFx\na)b\n"),
+    ("broken", b"(\r\n"),
+    ("spaced", b"a # ("),
+];
+
+/// The files above, of which `broken` cannot be read to its end, and a standard input.
+#[derive(Clone, Copy)]
+pub(crate) struct Memory<'a> {
+    pub(crate) input: &'a [u8],
+}
+
+impl<'a> Sources for Memory<'a> {
+    type File = Chain<&'static [u8], End>;
+
+    type Input = &'a [u8];
+
+    fn open(&self, name: &str) -> io::Result<Chain<&'static [u8], End>> {
+        for (known, bytes) in FILES.iter() {
+            if *known == name {
+                let end = End {
+                    is_broken: name == "broken",
+                };
+                return Ok(bytes.chain(end));
+            }
+        }
+        Err(io::Error::from(ErrorKind::NotFound))
+    }
+
+    fn input(&self) -> io::Result<&'a [u8]> {
+        Ok(self.input)
+    }
+}
+
+/// Takes so many bytes and no more, as a pipe does that is closed then.
+#[derive(Drop)]
+pub(crate) struct Limited {
+    pub(crate) text: Vec<u8>,
+    room: usize,
+}
+
+impl Limited {
+    pub(crate) fn new(alloc: Global, room: usize) -> Limited {
+        Limited {
+            text: Vec::new(alloc),
+            room,
+        }
+    }
+}
+
+impl Write for Limited {
+    fn write(&mut self, bytes: &[u8]) -> io::Result<usize> {
+        let Some(left) = self.room.checked_sub(bytes.len()) else {
+            return Err(io::Error::from(ErrorKind::BrokenPipe));
+        };
+        self.text.extend_from_slice(bytes)?;
+        self.room = left;
+        Ok(bytes.len())
+    }
+
+    fn flush(&mut self) -> io::Result<()> {
+        Ok(())
+    }
+}

@@ -1,0 +1,284 @@
+//! What the program writes, and what it ends with.
+use crate::answer::answer;
+use crate::memory::{Limited, Memory};
+use std::alloc::Global;
+use std::test::Fail;
+
+/// What a run came to: its status, and what was written on the two outputs.
+#[derive(Drop)]
+struct Ending {
+    status: u8,
+    out: Limited,
+    err: Limited,
+}
+
+/// Runs the program on the words, where so many bytes can be written on each output.
+fn run(alloc: Global, words: &[&str], input: &[u8], room: usize) -> Result<Ending, Fail> {
+    let mut owned = Vec::new(alloc);
+    for word in words {
+        owned.push(String::from_str(alloc, word)?)?;
+    }
+    let mut out = Limited::new(alloc, room);
+    let mut err = Limited::new(alloc, room);
+    let status = answer(alloc, &owned, &Memory { input }, &mut out, &mut err);
+    Ok(Ending { status, out, err })
+}
+
+const MIXED: &str = "mixed:2:2: Opening parenthesis without closing parenthesis
+(
+ ^
+mixed:5:2: General parsing error: end of string not reached
+a)b
+ ^
+";
+
+const BROKEN: &str = "broken:1:2: Opening parenthesis without closing parenthesis
+(
+ ^
+";
+
+const WIDE: &str = "-:1:5: Opening parenthesis without closing parenthesis
+\t\u{65E5}(
+\t   ^
+";
+
+const UNNAMED: &str = "PATTERN:2:2: Opening parenthesis without closing parenthesis
+(
+ ^
+";
+
+const LINES: &str = "in a row
+├─ group 1, named \"y\"
+│  └─ repeated exactly 4 times, as often as possible
+│     └─ class \\d
+├─ text \"-\"
+├─ repeated 0 or more times, as seldom as possible
+│  └─ group 2
+│     └─ one of
+│        ├─ text \"a\"
+│        └─ text \"b\"
+└─ back reference to group 1, named \"y\"
+2 groups have a number.
+\"y\" names group 1.
+Back references mean group 1.
+";
+
+const ASCII: &str = "in a row
+|- group 1
+|  `- nothing
+`- conditional
+   |- if: condition on a match of group 1
+   |- then: text \"b\", upper and lower case alike
+   `- else: call of the whole pattern
+1 group has a number.
+Some reference or call is by a number.
+Some group is called.
+The pattern calls itself.
+";
+
+const GROUPS: &str = "-:1: (?<y>a)(b)\\k<y>\\2\\g<1>\\g0
+  group 1, named \"y\"
+  group 2
+  back reference to group 1, named \"y\"
+  back reference to group 2
+  call of group 1, named \"y\"
+  call of the whole pattern
+  the pattern calls itself
+-:2: \\g<-2>
+  no group has a number
+  call of no group, by -2 from here, column 3
+";
+
+const FORMATTED: &str = "ab*
+(?<n>x)\\k<n>
+(
+";
+
+const LEFT: &str = "-:2: left as it is: a back reference has no text
+-:3:2: Opening parenthesis without closing parenthesis
+(
+ ^
+";
+
+const BREAK: &str = "-:1: left as it is: its text holds a line break\n";
+
+const DEEP: &str = "-:1: left as it is: its text nests too deep\n";
+
+const NESTED: &str =
+    "(((((((((((((((((((((((((((((((((((((((((((((((((((((((((((((((a)))))))))))))))))))))))))))))))))))))))))))))))))))))))))))))))\n";
+
+const NO_FLAGS: &str = "patterns: --flags takes letters of imsUxuRon, or - for none\n";
+
+const NO_TEXT: &str = "mixed:4: the line is not UTF-8\n";
+
+const NO_FILES: &str = "patterns: none: entity not found
+patterns: broken: connection reset
+";
+
+/// Words, the standard input, and the status, the output and the error of a run.
+static RUNS: [(&[&str], &[u8], u8, &str, &str); 16] = [
+    (&["patterns", "check", "good", "empty"], b"", 0, "", ""),
+    (&["patterns", "check"], b"", 0, "", ""),
+    (&["patterns", "check", "mixed"], b"", 2, MIXED, NO_TEXT),
+    (
+        &["patterns", "check", "none", "broken"],
+        b"",
+        2,
+        BROKEN,
+        NO_FILES,
+    ),
+    (&["patterns", "check", "-"], b"\t\xE6\x97\xA5(", 1, WIDE, ""),
+    (
+        &["patterns", "check", "--flags", "x", "spaced"],
+        b"",
+        0,
+        "",
+        "",
+    ),
+    (
+        &["patterns", "check", "--flags", "uz", "good"],
+        b"",
+        2,
+        "",
+        NO_FLAGS,
+    ),
+    (
+        &["patterns", "tree", "(?<y>\\d{4})-(a|b)*?\\k<y>"],
+        b"",
+        0,
+        LINES,
+        "",
+    ),
+    (
+        &[
+            "patterns",
+            "tree",
+            "--ascii",
+            "--flags",
+            "u",
+            "()(?(1)(?i:b)|\\g0)",
+        ],
+        b"",
+        0,
+        ASCII,
+        "",
+    ),
+    (&["patterns", "tree", "a\n("], b"", 1, "", UNNAMED),
+    (
+        &["patterns", "groups"],
+        b"(?<y>a)(b)\\k<y>\\2\\g<1>\\g0\n\\g<-2>",
+        0,
+        GROUPS,
+        "",
+    ),
+    (
+        &["patterns", "format"],
+        b"(?:a)b{0,}\n(?<n>x)\\k<n>\n(\n",
+        1,
+        FORMATTED,
+        LEFT,
+    ),
+    (&["patterns", "format"], b"[\\n]\n", 0, "[\\n]\n", BREAK),
+    (
+        &["patterns", "format", "--flags", "ui"],
+        b"(((((((((((((((((((((((((((((((((((((((((((((((((((((((((((((((a)))))))))))))))))))))))))))))))))))))))))))))))))))))))))))))))\n",
+        0,
+        NESTED,
+        DEEP,
+    ),
+    (
+        &["patterns", "format", "--check"],
+        b"ab*\n\\Ka{0,}\n",
+        0,
+        "",
+        "",
+    ),
+    (&["patterns", "format", "--check"], b"ab{0,}\n", 1, "", ""),
+];
+
+fn is_answer(
+    alloc: Global,
+    words: &[&str],
+    input: &[u8],
+    status: u8,
+    out: &str,
+    err: &str,
+) -> Result<bool, Fail> {
+    let run = run(alloc, words, input, usize::MAX)?;
+    Ok(
+        run.status == status
+            && run.out.text.as_slice() == out.as_bytes()
+            && run.err.text.as_slice() == err.as_bytes(),
+    )
+}
+
+#[test]
+fn answers(rt: HostRuntime) -> Result<(), Fail> {
+    for (words, input, status, out, err) in RUNS.iter() {
+        assert!(rt;
+            is_answer(rt.alloc(), words, input, *status, out, err)?,
+            "{words:?}"
+        );
+    }
+    Ok(())
+}
+
+/// Words that are wrong, or ask for help, and the status.
+static USAGES: [(&[&str], u8); 6] = [
+    (&["patterns"], 2),
+    (&["patterns", "chek"], 2),
+    (&["patterns", "check", "--flag"], 2),
+    (&["patterns", "tree"], 2),
+    (&["patterns", "--help"], 0),
+    (&["patterns", "format", "--help"], 0),
+];
+
+/// Whether the run ends so, with a text on the output where that is 0, and else on the error.
+fn is_explained(alloc: Global, words: &[&str], status: u8) -> Result<bool, Fail> {
+    let run = run(alloc, words, b"", usize::MAX)?;
+    let is_help = status == 0;
+    Ok(
+        run.status == status
+            && run.out.text.is_empty() != is_help
+            && run.err.text.is_empty() == is_help,
+    )
+}
+
+#[test]
+fn words_are_explained(rt: HostRuntime) -> Result<(), Fail> {
+    for (words, status) in USAGES.iter() {
+        assert!(rt; is_explained(rt.alloc(), words, *status)?, "{words:?}");
+    }
+    Ok(())
+}
+
+/// Whether a run whose output takes so many bytes says that it cannot write, and has written a beginning.
+fn tells_of_write(alloc: Global, room: usize) -> Result<bool, Fail> {
+    let run = run(alloc, &["patterns", "check", "mixed"], b"", room)?;
+    Ok(run.status == 3 && MIXED.as_bytes().starts_with(&run.out.text))
+}
+
+#[test]
+fn refused_writes(rt: HostRuntime) -> Result<(), Fail> {
+    for room in 0..MIXED.len() {
+        assert!(rt; tells_of_write(rt.alloc(), room)?, "{room} bytes");
+    }
+    Ok(())
+}
+
+/// The status of a check of a line of so many bytes, each of which opens a group where that is asked.
+fn status_of_long(alloc: Global, letter: &str, length: usize) -> Result<u8, Fail> {
+    let line = letter.repeat(alloc, length)?;
+    Ok(run(alloc, &["patterns", "check"], line.as_bytes(), usize::MAX)?.status)
+}
+
+#[test]
+fn long_lines(rt: HostRuntime) -> Result<(), Fail> {
+    for (letter, status) in [("a", 0), ("(", 1)] {
+        assert!(rt;
+            status_of_long(rt.alloc(), letter, 1 << 20)? == status,
+            "{letter}"
+        );
+    }
+    Ok(())
+}
