@@ -1,0 +1,3 @@
+mod NodeLemmas
+mod ReadLemmas
+mod TextLemmas

@@ -1,0 +1,4 @@
+pub mod Answer
+pub mod Buffer
+pub mod Text
+pub mod Node
