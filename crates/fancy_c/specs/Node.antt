@@ -182,3 +182,8 @@ abbrev pub rows : ℕ → ℕ → List Tree → List Node
 rows i o [] = []
 rows i o (t ∷ ts) =
     row (record { end = i + length (listed t); text = o }) t ∷ rows (i + 1) (o + length (carried t)) ts
+
+-- the nodes of several trees
+abbrev pub listed_each : List Tree → List Tree
+listed_each [] = []
+listed_each (t ∷ ts) = listed t ++ listed_each ts

@@ -4,7 +4,10 @@
 
 pub mod answer;
 mod buffer;
+pub mod marks;
 pub mod message;
 pub mod node;
+pub mod nodes;
 pub mod print;
 pub mod read;
+mod rows;
