@@ -28,7 +28,7 @@ item_put d i x rest room =
     let long : i < length d = omega (arith, room) in
     let at : suc i ≡ i + length (x ∷ []) = omega arith in
     let one : set d i x ≡ put_at d i (x ∷ []) =
-      set_split d i x long ∙ ap (λ k. take i d ++ x ∷ drop k d) at ∙ sym (append_assoc (take i d) (x ∷ []) (drop (i + length (x ∷ [])) d)) in
+    set_split d i x long ∙ ap (λ k. take i d ++ x ∷ drop k d) at ∙ sym (append_assoc (take i d) (x ∷ []) (drop (i + length (x ∷ [])) d)) in
     ap (λ e. put_at e (i + 1) rest) one ∙ put_more d i (i + 1) (x ∷ []) rest (omega arith) (omega (arith, room))
 
 -- ---- names
@@ -110,14 +110,14 @@ names_next names₀ names names' bytes₀ bytes bytes' n₀ o₀ n o n' o' all r
       names_room = omega (arith, p.names_room, rows, size, at_n, long_n, names_length o' (o + m) more);
       bytes_room = omega (arith, p.bytes_room, text, at_o, long_o);
       names_is =
-        ap (λ d. put_at d n' (name_rows o' more)) put_n
-        ∙ put_more names n n' here (name_rows o' more) seam (omega (arith, fits_n))
-        ∙ ap (λ q. put_at names n (here ++ name_rows q more)) at_o
-        ∙ ap (λ l. put_at names n (name_rows o l)) (sym is)
-        ∙ p.names_is;
+          ap (λ d. put_at d n' (name_rows o' more)) put_n
+          ∙ put_more names n n' here (name_rows o' more) seam (omega (arith, fits_n))
+          ∙ ap (λ q. put_at names n (here ++ name_rows q more)) at_o
+          ∙ ap (λ l. put_at names n (name_rows o l)) (sym is)
+          ∙ p.names_is;
       bytes_is =
-        ap (λ d. put_at d o' (name_texts more)) put_o
-        ∙ put_more bytes o o' (encode_utf8_all w) (name_texts more) at_o (omega (arith, fits_o))
-        ∙ ap (λ l. put_at bytes o (name_texts l)) (sym is)
-        ∙ p.bytes_is;
+          ap (λ d. put_at d o' (name_texts more)) put_o
+          ∙ put_more bytes o o' (encode_utf8_all w) (name_texts more) at_o (omega (arith, fits_o))
+          ∙ ap (λ l. put_at bytes o (name_texts l)) (sym is)
+          ∙ p.bytes_is;
     }

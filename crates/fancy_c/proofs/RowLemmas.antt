@@ -59,7 +59,7 @@ rows-append i o (x ∷ xs) ys =
     ap (λ l. row (record { end = i + length (listed x); text = o }) x ∷ l)
     (rows-append (i + 1) (o + length (carried x)) xs ys
     ∙ ap (λ l. rows (i + 1) (o + length (carried x)) xs ++ l)
-      (rows_at _ _ _ _ ys (omega arith) (omega (arith, length-append (carried x) (texts xs)))))
+    (rows_at _ _ _ _ ys (omega arith) (omega (arith, length-append (carried x) (texts xs)))))
 
 -- ---- what is written
 
@@ -89,10 +89,10 @@ put_before d i x xs room =
     let flat : put_at d j xs ≡ take j d ++ (xs ++ rest) = append_assoc (take j d) xs rest in
     let long : i < length (take j d ++ (xs ++ rest)) = omega (arith, front, length-append (take j d) (xs ++ rest)) in
     let before : take i (take j d ++ (xs ++ rest)) ≡ take i d =
-      take-append-le i (take j d) (xs ++ rest) (omega (arith, front)) ∙ take-take i j d (omega arith) in
+    take-append-le i (take j d) (xs ++ rest) (omega (arith, front)) ∙ take-take i j d (omega arith) in
     let seam : suc i ≡ length (take j d) = omega (arith, front) in
     let behind : drop (suc i) (take j d ++ (xs ++ rest)) ≡ xs ++ rest =
-      ap (λ k. drop k (take j d ++ (xs ++ rest))) seam ∙ drop-append_seam (take j d) (xs ++ rest) in
+    ap (λ k. drop k (take j d ++ (xs ++ rest))) seam ∙ drop-append_seam (take j d) (xs ++ rest) in
     let end : j + length xs ≡ i + length (x ∷ xs) = omega arith in
     let same : rest ≡ drop (i + length (x ∷ xs)) d = ap (λ k. drop k d) end in
     ap (λ l. set l i x) flat
@@ -174,16 +174,16 @@ putting_next nodes₀ nodes nodes' bytes₀ bytes bytes' n₀ o₀ n o n' o' all
       nodes_end = omega (arith, p.nodes_end, both, at_n);
       bytes_end = omega (arith, p.bytes_end, both_texts, at_o);
       nodes_is =
-        ap (λ d. put_at d n' (rows n' o' left)) put_n
-        ∙ put_more nodes n n' (rows n o xs) (rows n' o' left) (omega (arith, at_n, rows_xs)) (omega (arith, fits_n))
-        ∙ ap (λ l. put_at nodes n (rows n o xs ++ l)) (rows_at n' (n + length xs) o' (o + length (texts xs)) left at_n at_o)
-        ∙ ap (put_at nodes n) (sym (rows-append n o xs left))
-        ∙ p.nodes_is;
+          ap (λ d. put_at d n' (rows n' o' left)) put_n
+          ∙ put_more nodes n n' (rows n o xs) (rows n' o' left) (omega (arith, at_n, rows_xs)) (omega (arith, fits_n))
+          ∙ ap (λ l. put_at nodes n (rows n o xs ++ l)) (rows_at n' (n + length xs) o' (o + length (texts xs)) left at_n at_o)
+          ∙ ap (put_at nodes n) (sym (rows-append n o xs left))
+          ∙ p.nodes_is;
       bytes_is =
-        ap (λ d. put_at d o' (texts left)) put_o
-        ∙ put_more bytes o o' (texts xs) (texts left) at_o (omega (arith, fits_o))
-        ∙ ap (put_at bytes o) (sym (texts-append xs left))
-        ∙ p.bytes_is;
+          ap (λ d. put_at d o' (texts left)) put_o
+          ∙ put_more bytes o o' (texts xs) (texts left) at_o (omega (arith, fits_o))
+          ∙ ap (put_at bytes o) (sym (texts-append xs left))
+          ∙ p.bytes_is;
     }
 
 pub putting_ends : (nodes₀ nodes : List Node) (bytes₀ bytes : List ℕ) (n₀ o₀ n o : ℕ) (all left : List Tree)

@@ -64,7 +64,13 @@ pub(crate) fn count_names(groups: &BTreeMap<String, Vec<usize>>, before: Counts)
 }
 
 /// Writes the rows of a name that stands at a place, from an index on, and answers the index behind them.
-fn put_numbers(names: &mut [Name], first: usize, numbers: &[usize], text: usize, size: usize) -> usize
+fn put_numbers(
+    names: &mut [Name],
+    first: usize,
+    numbers: &[usize],
+    text: usize,
+    size: usize,
+) -> usize
     requires { first + length numbers.now ≤ length names.old }
     ensures behind { result ≡ first + length numbers.now }
     ensures put { names.new ≡ put_at names.old first (numbered text size numbers.now) }

@@ -23,7 +23,10 @@ fn marks_told(tree: &ExprTree) -> TreeMarks
     ensures { result ≡ told (view tree.now.expr) (marks_of tree.now) }
 {
     let nodes = count(&tree.expr, Counts { rows: 0, text: 0 });
-    let before = Counts { rows: 0, text: nodes.text };
+    let before = Counts {
+        rows: 0,
+        text: nodes.text,
+    };
     let names = count_names(&tree.named_groups, before);
     TreeMarks {
         nodes: nodes.rows,
@@ -56,7 +59,10 @@ fn put_all(
         names.old names.new backrefs.old backrefs.new }
 {
     let behind = put_tree(nodes, texts, &tree.expr, Counts { rows: 0, text: 0 });
-    let before = Counts { rows: 0, text: behind.text };
+    let before = Counts {
+        rows: 0,
+        text: behind.text,
+    };
     put_names(names, texts, &tree.named_groups, before);
     put_backrefs(backrefs, &tree.backrefs);
 }
@@ -140,7 +146,7 @@ pub extern "C" fn fancy_nodes(
         × AreWritten t m nodes.old nodes.new texts.old texts.new names.old names.new backrefs.old backrefs.new }
     ensures short { result.answer ≡ SHORT → (t : Tree) × (m : Marks) × IsToldOf marks.new (flags_of flags) pattern.now t m
         × ((length nodes.old < marks.new.nodes) ⊎ ((length texts.old < marks.new.texts)
-            ⊎ ((length names.old < marks.new.names) ⊎ (length backrefs.old < marks.new.backrefs)))) }
+        ⊎ ((length names.old < marks.new.names) ⊎ (length backrefs.old < marks.new.backrefs)))) }
     ensures refused { result.answer ≡ REFUSED → (k : Kind) × (result.kind ≡ number_of_kind k)
         × IsFaultOfBytes (flags_of flags) pattern.now k result.place }
     ensures no_utf8 { result.answer ≡ NO_UTF8 → IsNoUtf8 pattern.now result.place }

@@ -33,6 +33,6 @@ loop-name-preserved c =
     names_next _ c.loop-name.names c.put_numbers-rows.new.names _ c.loop-name.bytes c.put_text-text.new.bytes _ _ at.rows at.text _ _ _ _ (text_of c.in-Some.name.now) c.in-Some.numbers.now.items _
     c.loop-name.invariant (ap (map named) c.in-Some.ensures.steps) at_n at_o
     (c.put_numbers-rows.ensures.put
-      ∙ ap (λ m. put_at c.loop-name.names at.rows (numbered at.text m c.deref.result.now)) size
-      ∙ ap (λ ks. put_at c.loop-name.names at.rows (numbered at.text (length w) ks)) c.deref.ensures.value)
+    ∙ ap (λ m. put_at c.loop-name.names at.rows (numbered at.text m c.deref.result.now)) size
+    ∙ ap (λ ks. put_at c.loop-name.names at.rows (numbered at.text (length w) ks)) c.deref.ensures.value)
     (c.put_text-text.ensures.put ∙ ap (put_at c.loop-name.bytes at.text) (c.as_bytes.ensures.value ∙ sym name))

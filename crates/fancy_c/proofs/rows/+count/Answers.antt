@@ -18,7 +18,7 @@ pub count-behind-requires : goal.count-behind-requires
 count-behind-requires t c =
     let among = sweep_head _ c.args.tree.now c.in-Some.child.now _ _ c.loop-child.invariant.sweep c.in-Some.ensures.steps in
     let less : depth (view c.in-Some.child.now) < depth (view c.args.tree.now) =
-      depth_of_child c.args.tree.now c.in-Some.child.now (ap views (sym c.children_iter-children.ensures.values) ∙ c.children_iter-children.ensures.trees) among in
+    depth_of_child c.args.tree.now c.in-Some.child.now (ap views (sym c.children_iter-children.ensures.values) ∙ c.children_iter-children.ensures.trees) among in
     (omega (arith, less), tt)
 
 pub loop-child-preserved : goal.loop-child-preserved

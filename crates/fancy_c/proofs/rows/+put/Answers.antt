@@ -18,7 +18,7 @@ pub put_children-put_tree-behind-requires : goal.put_children-put_tree-behind-re
 put_children-put_tree-behind-requires t c =
     let among = sweep_head _ c.args.tree.now c.in-Some.child.now _ _ c.loop-child.invariant.sweep c.in-Some.ensures.steps in
     let less : depth (view c.in-Some.child.now) < depth (view c.args.tree.now) =
-      depth_of_child c.args.tree.now c.in-Some.child.now (ap views (sym c.children_iter-children.ensures.values) ∙ c.children_iter-children.ensures.trees) among in
+    depth_of_child c.args.tree.now c.in-Some.child.now (ap views (sym c.children_iter-children.ensures.values) ∙ c.children_iter-children.ensures.trees) among in
     let room = putting_room _ _ (ap (λ es. listed_each (views es)) c.in-Some.ensures.steps) c.loop-child.invariant.putting in
     (omega (arith, less), (room.0, room.1))
 
@@ -52,11 +52,13 @@ pub put_tree-put_children-behind-requires : goal.put_tree-put_children-behind-re
 put_tree-put_children-behind-requires t c =
     let tree = view c.args.tree.now in
     let size = ap length c.carried.ensures in
-    let text = ap length c.put_text.ensures.put ∙ put_length c.args.bytes.now c.args.before.text c.carried.result.now (omega (arith, c.requires.bytes_room, texts_size tree, size)) in
-    (omega arith, (
-      omega (arith, c.requires.nodes_room, listed_length tree),
-      omega (arith, c.requires.bytes_room, texts_size tree, size, text, c.put_text.ensures.behind),
-    ))
+    let text = ap length c.put_text.ensures.put ∙ put_length c.args.bytes.now c.args.before.text c.carried.result.now (omega (arith, c.requires.bytes_room, texts_size tree, size)) in (
+      omega arith,
+      (
+        omega (arith, c.requires.nodes_room, listed_length tree),
+        omega (arith, c.requires.bytes_room, texts_size tree, size, text, c.put_text.ensures.behind),
+      ),
+    )
 
 pub put_tree-returns-clause-behind : goal.put_tree-returns-clause-behind
 put_tree-returns-clause-behind t c = omega (arith, c.put_children-behind.ensures.behind, listed_length (view c.args.tree.now))
@@ -73,7 +75,7 @@ put_tree-returns-clause-nodes t c =
     let at_text = text_place _ _ _ _ c.carried.ensures c.put_text.ensures.behind in
     ap (λ r. set c.put_children-behind.new.nodes n r) c.row.ensures
     ∙ row_put tree c.args.nodes.now c.put_children-behind.new.nodes n c.args.before.text c.put_children-behind.result.rows put.behind c.requires.nodes_room
-      (put.nodes ∙ ap (λ o. put_at c.args.nodes.now (n + 1) (rows (n + 1) o (listed_each (children tree)))) at_text)
+    (put.nodes ∙ ap (λ o. put_at c.args.nodes.now (n + 1) (rows (n + 1) o (listed_each (children tree)))) at_text)
 
 pub put_tree-returns-clause-bytes : goal.put_tree-returns-clause-bytes
 put_tree-returns-clause-bytes t c =
