@@ -1,0 +1,6 @@
+mod MarkLemmas
+mod NodeLemmas
+mod NodesLemmas
+mod ReadLemmas
+mod RowLemmas
+mod TextLemmas

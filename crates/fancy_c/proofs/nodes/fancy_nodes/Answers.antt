@@ -1,0 +1,16 @@
+use Rattle.fancy_syntax.specs.Answer.{marks_of}
+use Rattle.fancy_syntax.specs.View.{view}
+use Rattle.fancy_c.proofs.NodesLemmas.{told_of}
+use Rattle.fancy_c.proofs.nodes.fancy_nodes.Goals as goal
+
+pub returns-in-Ok-clause-read : goal.returns-in-Ok-clause-read
+returns-in-Ok-clause-read c =
+    let t = view c.in-Ok.tree.expr in
+    let m = marks_of c.in-Ok.tree in
+    λ is. (t, m, told_of _ _ t m _ c.in-Ok.ensures.tree c.tell.ensures.marks, c.tell.ensures.read is)
+
+pub returns-in-Ok-clause-short : goal.returns-in-Ok-clause-short
+returns-in-Ok-clause-short c =
+    let t = view c.in-Ok.tree.expr in
+    let m = marks_of c.in-Ok.tree in
+    λ is. (t, m, told_of _ _ t m _ c.in-Ok.ensures.tree c.tell.ensures.marks, c.tell.ensures.short is)

@@ -1,0 +1,81 @@
+-- What a caller in C is told of the bytes of a pattern.
+use Rattle.std.specs.Prelude.{◌≡◌, ℕ, ◌+◌, ◌≤◌, List, length, chars}
+use Rattle.std.specs.Str.{IsUtf8}
+use Rattle.std.specs.Str.Lossy.{utf8_valid_len}
+use Rattle.fancy_lex.specs.Fault.{Kind, kind_of, kind_text, general_parse_error, unclosed_open_paren, invalid_repeat}
+use Rattle.fancy_lex.specs.Fault.{recursion_exceeded, trailing_backslash, invalid_escape, unclosed_unicode_name, invalid_hex}
+use Rattle.fancy_lex.specs.Fault.{invalid_codepoint_value, invalid_class, unknown_flag, changing_unicode_mode_unsupported}
+use Rattle.fancy_lex.specs.Fault.{invalid_backref, target_not_repeatable, invalid_group_name, invalid_group_name_backref}
+use Rattle.fancy_lex.specs.declared.error.Error.TheVariants.{ParseError, OutOfMemory}
+use Rattle.fancy_lex.specs.declared.flags.Flags.{Flags}
+use Rattle.fancy_grammar.specs.Answer.{IsTreeOf, IsFaultOf}
+use Rattle.fancy_grammar.specs.Answered.{IsAnswered, IsSmall}
+use Rattle.fancy_grammar.specs.Marks.{Marks}
+use Rattle.fancy_grammar.specs.Tree.{Tree}
+use Rattle.fancy_c.specs.declared.answer.TheConstants.{NO_UTF8, REFUSED, NO_MEMORY, NO_KIND}
+use Rattle.fancy_c.specs.declared.answer.TheConstants.{GENERAL_PARSE_ERROR, UNCLOSED_OPEN_PAREN, INVALID_REPEAT, RECURSION_EXCEEDED}
+use Rattle.fancy_c.specs.declared.answer.TheConstants.{TRAILING_BACKSLASH, INVALID_ESCAPE, UNCLOSED_UNICODE_NAME, INVALID_HEX}
+use Rattle.fancy_c.specs.declared.answer.TheConstants.{INVALID_CODEPOINT_VALUE, INVALID_CLASS, UNKNOWN_FLAG, CHANGING_UNICODE_MODE_UNSUPPORTED}
+use Rattle.fancy_c.specs.declared.answer.TheConstants.{INVALID_BACKREF, TARGET_NOT_REPEATABLE, INVALID_GROUP_NAME, INVALID_GROUP_NAME_BACKREF}
+use Rattle.fancy_c.specs.declared.answer.Answer.{Answer}
+use Rattle.fancy_c.specs.declared.read.Refusal.{Refusal}
+use Rattle.fancy_c.specs.declared.read.Refusal.TheVariants.{NoUtf8, Fault}
+
+-- the number of a kind
+abbrev pub number_of_kind : Kind → ℕ
+number_of_kind (general_parse_error s) = GENERAL_PARSE_ERROR
+number_of_kind unclosed_open_paren = UNCLOSED_OPEN_PAREN
+number_of_kind invalid_repeat = INVALID_REPEAT
+number_of_kind recursion_exceeded = RECURSION_EXCEEDED
+number_of_kind trailing_backslash = TRAILING_BACKSLASH
+number_of_kind (invalid_escape s) = INVALID_ESCAPE
+number_of_kind unclosed_unicode_name = UNCLOSED_UNICODE_NAME
+number_of_kind invalid_hex = INVALID_HEX
+number_of_kind invalid_codepoint_value = INVALID_CODEPOINT_VALUE
+number_of_kind invalid_class = INVALID_CLASS
+number_of_kind (unknown_flag s) = UNKNOWN_FLAG
+number_of_kind changing_unicode_mode_unsupported = CHANGING_UNICODE_MODE_UNSUPPORTED
+number_of_kind invalid_backref = INVALID_BACKREF
+number_of_kind target_not_repeatable = TARGET_NOT_REPEATABLE
+number_of_kind invalid_group_name = INVALID_GROUP_NAME
+number_of_kind (invalid_group_name_backref s) = INVALID_GROUP_NAME_BACKREF
+
+-- the bytes are the UTF-8 of a pattern that has this tree with these marks, and no other and no fault; of n bytes it has
+-- at most 2 n + 1 nodes and 832 levels
+pub record IsTreeOfBytes (f : Flags) (bytes : List ℕ) (t : Tree) (m : Marks) : Type 0 where
+  pub utf8 : IsUtf8 bytes
+  pub tree : IsTreeOf f (chars bytes) t m
+  pub only : (s : Tree) (l : Marks) → IsTreeOf f (chars bytes) s l → (s ≡ t) × (l ≡ m)
+  pub no_fault : (k : Kind) (p : ℕ) → IsFaultOf f (chars bytes) k p → ⊥
+  pub small : IsSmall t (length bytes)
+  pub nodes : IsAnswered t
+
+-- the bytes are the UTF-8 of a pattern that has this fault, and no other and no tree; its place is at most one past the end
+pub record IsFaultOfBytes (f : Flags) (bytes : List ℕ) (k : Kind) (place : ℕ) : Type 0 where
+  pub utf8 : IsUtf8 bytes
+  pub fault : IsFaultOf f (chars bytes) k place
+  pub only : (j : Kind) (q : ℕ) → IsFaultOf f (chars bytes) j q → (j ≡ k) × (q ≡ place)
+  pub no_tree : (t : Tree) (m : Marks) → IsTreeOf f (chars bytes) t m → ⊥
+  pub within : place ≤ length bytes + 1
+
+-- the bytes are no UTF-8, and the place is the length of the longest front that is
+abbrev pub IsNoUtf8 : List ℕ → ℕ → Type 0
+IsNoUtf8 bytes place = (¬ IsUtf8 bytes) × (place ≡ utf8_valid_len bytes)
+
+-- the refusal is that of the bytes, or memory was refused
+abbrev pub IsRefusalOf : Refusal → Flags → List ℕ → Type 0
+IsRefusalOf (NoUtf8 place) f bytes = IsNoUtf8 bytes place
+IsRefusalOf (Fault (ParseError place kind)) f bytes = IsFaultOfBytes f bytes (kind_of kind) place
+IsRefusalOf (Fault OutOfMemory) f bytes = Unit {0}
+
+-- the answer tells the kind and the place, and how many bytes the kind's words have
+pub record IsTold (a : Answer) (place : ℕ) (k : Kind) : Type 0 where
+  pub kind : a.kind ≡ number_of_kind k
+  pub place_is : a.place ≡ place
+  pub size : a.size ≡ length (kind_text k)
+
+-- what is told of a refusal
+abbrev pub answer_of : Refusal → Answer
+answer_of (NoUtf8 p) = record { answer = NO_UTF8; kind = NO_KIND; place = p; size = 0 }
+answer_of (Fault (ParseError p k)) = record { answer = REFUSED; kind = number_of_kind (kind_of k); place = p; size = 0 }
+answer_of (Fault OutOfMemory) = record { answer = NO_MEMORY; kind = NO_KIND; place = 0; size = 0 }

@@ -1,0 +1,62 @@
+-- What is said of a tree beside it, as a caller in C gets it.
+use Rattle.std.specs.Prelude.{◌≡◌, ℕ, ◌+◌, ◌*◌, ◌≤◌, List, [], ◌∷◌, ◌++◌, length, map, encode_utf8_all}
+use Rattle.std.specs.Option.{unwrap_or, is_some}
+use Rattle.fancy_lex.specs.Text.{Text}
+use Rattle.fancy_lex.specs.declared.flags.Flags.{Flags}
+use Rattle.fancy_parts.specs.Room.{in_word}
+use Rattle.fancy_grammar.specs.Marks.{Marks}
+use Rattle.fancy_grammar.specs.Tree.{Tree}
+use Rattle.fancy_c.specs.Answer.{IsTreeOfBytes}
+use Rattle.fancy_c.specs.Buffer.{Fills}
+use Rattle.fancy_c.specs.Node.{listed, rows, texts}
+use Rattle.fancy_c.specs.declared.marks.Name.{Name}
+use Rattle.fancy_c.specs.declared.node.Node.{Node}
+use Rattle.fancy_c.specs.declared.marks.TreeMarks.{TreeMarks}
+
+-- the rows of a name that stands at the byte o and has n bytes: one for each of its numbers
+abbrev pub numbered : ℕ → ℕ → List ℕ → List Name
+numbered o n ks = map (λ k. record { text = o; size = n; number = k }) ks
+
+-- the names, one behind the other
+abbrev pub name_texts : List (Text × List ℕ) → List ℕ
+name_texts [] = []
+name_texts ((w, ks) ∷ l) = encode_utf8_all w ++ name_texts l
+
+-- their rows, from the byte o on
+abbrev pub name_rows : ℕ → List (Text × List ℕ) → List Name
+name_rows o [] = []
+name_rows o ((w, ks) ∷ l) =
+    numbered o (length (encode_utf8_all w)) ks ++ name_rows (o + length (encode_utf8_all w)) l
+
+-- the bytes of a tree's texts, and the names of its groups behind them
+abbrev pub all_texts : Tree → Marks → List ℕ
+all_texts t m = texts (listed t) ++ name_texts m.named_groups
+
+-- what is told of a tree and its marks; a count past the greatest word is the greatest
+abbrev pub told : Tree → Marks → TreeMarks
+told t m = record {
+  nodes = in_word (length (listed t));
+  texts = in_word (length (all_texts t m));
+  names = in_word (length (name_rows 0 m.named_groups));
+  backrefs = length m.backrefs;
+  groups = m.total_groups;
+  out_of_range = unwrap_or m.out_of_range_backref 0;
+  has_out_of_range = is_some m.out_of_range_backref;
+  numeric = m.numeric_capture_group_references;
+  calls = m.contains_subroutines;
+  self_recursive = m.self_recursive;
+  ignored = m.numbered_groups_ignored;
+}
+
+-- the buffers hold a tree and its marks: the rows of its nodes, the texts, the rows of the names, and the back references
+pub record AreWritten (t : Tree) (m : Marks) (nodes nodes' : List Node) (bytes bytes' : List ℕ) (names names' : List Name) (backrefs backrefs' : List ℕ) : Type 0 where
+  pub nodes_are : Fills nodes nodes' (rows 0 0 (listed t))
+  pub texts_are : Fills bytes bytes' (all_texts t m)
+  pub names_are : Fills names names' (name_rows (length (texts (listed t))) m.named_groups)
+  pub backrefs_are : Fills backrefs backrefs' m.backrefs
+
+-- what is told is said of the tree of the bytes, and its nodes are at most 2 n + 1 where there are n bytes
+pub record IsToldOf (told_marks : TreeMarks) (f : Flags) (bytes : List ℕ) (t : Tree) (m : Marks) : Type 0 where
+  pub tree : IsTreeOfBytes f bytes t m
+  pub is : told_marks ≡ told t m
+  pub few : told_marks.nodes ≤ 2 * length bytes + 1

@@ -1,0 +1,189 @@
+-- The nodes of a tree as an array: a row for each.
+use Rattle.std.specs.Prelude.{ℕ, ◌+◌, ℤ, pos, Bool, true, false, List, [], ◌∷◌, ◌++◌, length, Option, Some, None}
+use Rattle.std.specs.Prelude.{encode_utf8_all}
+use Rattle.fancy_lex.specs.Target.{Target, by_number, by_name, relative}
+use Rattle.fancy_lex.specs.Text.{Text}
+use Rattle.fancy_lex.specs.declared.escape.Assertion.{Assertion}
+use Rattle.fancy_lex.specs.declared.escape.Assertion.TheVariants as is
+use Rattle.fancy_grammar.specs.declared.kinds.BacktrackingControlVerb.{BacktrackingControlVerb}
+use Rattle.fancy_grammar.specs.declared.kinds.BacktrackingControlVerb.TheVariants as verbs
+use Rattle.fancy_grammar.specs.declared.kinds.LookAround.{LookAround}
+use Rattle.fancy_grammar.specs.declared.kinds.LookAround.TheVariants as looks
+use Rattle.fancy_grammar.specs.Tree.{Tree, empty, any, assertion, general_newline, literal, literal_bytes, concat, alt}
+use Rattle.fancy_grammar.specs.Tree.{group, look_around, repeat, delegate, backref, backref_at_level, atomic_group}
+use Rattle.fancy_grammar.specs.Tree.{keep_out, continue_from_previous_match_end, backref_exists, conditional}
+use Rattle.fancy_grammar.specs.Tree.{subroutine_call, verb, absent, define_group, ast_node, Trees, no_trees, more_trees}
+use Rattle.fancy_grammar.specs.Tree.{AbsentTree, repeater, expression, stopper, clear, AstTree, ast_call}
+use Rattle.fancy_c.specs.declared.node.Node.{Node}
+use Rattle.fancy_c.specs.declared.node.Stand.{Stand}
+use Rattle.fancy_c.specs.declared.node.TheConstants as number
+
+-- ---- which one of several
+
+abbrev pub assertion_number : Assertion → ℕ
+assertion_number is.StartText = number.START_TEXT
+assertion_number is.EndText = number.END_TEXT
+assertion_number (is.EndTextIgnoreTrailingNewlines crlf) = number.END_TEXT_IGNORE_TRAILING_NEWLINES
+assertion_number (is.StartLine crlf) = number.START_LINE
+assertion_number (is.StartLineOniguruma crlf) = number.START_LINE_ONIGURUMA
+assertion_number (is.EndLine crlf) = number.END_LINE
+assertion_number is.LeftWordBoundary = number.LEFT_WORD_BOUNDARY
+assertion_number is.LeftWordHalfBoundary = number.LEFT_WORD_HALF_BOUNDARY
+assertion_number is.RightWordBoundary = number.RIGHT_WORD_BOUNDARY
+assertion_number is.RightWordHalfBoundary = number.RIGHT_WORD_HALF_BOUNDARY
+assertion_number is.WordBoundary = number.WORD_BOUNDARY
+assertion_number is.NotWordBoundary = number.NOT_WORD_BOUNDARY
+
+abbrev pub has_crlf : Assertion → Bool
+has_crlf (is.EndTextIgnoreTrailingNewlines crlf) = crlf
+has_crlf (is.StartLine crlf) = crlf
+has_crlf (is.StartLineOniguruma crlf) = crlf
+has_crlf (is.EndLine crlf) = crlf
+has_crlf _ = false
+
+abbrev pub look_around_number : LookAround → ℕ
+look_around_number looks.LookAhead = number.LOOK_AHEAD
+look_around_number looks.LookAheadNeg = number.LOOK_AHEAD_NEG
+look_around_number looks.LookBehind = number.LOOK_BEHIND
+look_around_number looks.LookBehindNeg = number.LOOK_BEHIND_NEG
+
+abbrev pub verb_number : BacktrackingControlVerb → ℕ
+verb_number verbs.Fail = number.FAIL
+verb_number verbs.Accept = number.ACCEPT
+verb_number verbs.Commit = number.COMMIT
+verb_number verbs.Skip = number.SKIP
+verb_number verbs.Prune = number.PRUNE
+
+abbrev pub absent_number : AbsentTree → ℕ
+absent_number (repeater t) = number.REPEATER
+absent_number (expression a e) = number.EXPRESSION
+absent_number (stopper t) = number.STOPPER
+absent_number clear = number.CLEAR
+
+-- ---- what a node carries
+
+-- the name that is called, where it is one
+abbrev pub target_name : Target → List ℕ
+target_name (by_name w) = encode_utf8_all w
+target_name _ = []
+
+abbrev pub called_name : AstTree → List ℕ
+called_name (ast_call t) = target_name t
+called_name _ = []
+
+-- the bytes of a node's text
+abbrev pub carried : Tree → List ℕ
+carried (literal s casei) = encode_utf8_all s
+carried (literal_bytes b) = b
+carried (delegate s casei) = encode_utf8_all s
+carried (ast_node node place) = called_name node
+carried _ = []
+
+-- ---- the row of a node
+
+-- a node of this kind that has no more than its text
+abbrev pub plain : ℕ → Stand → ℕ → Node
+plain k s n = record {
+  kind = k;
+  which = 0;
+  end = s.end;
+  text = s.text;
+  size = n;
+  least = 0;
+  most = 0;
+  number = 0;
+  level = pos 0;
+  place = 0;
+  newline = false;
+  crlf = false;
+  unicode = false;
+  casei = false;
+  greedy = false;
+  has_level = false;
+}
+
+abbrev pub condition : Stand → ℕ → Option ℤ → Node
+condition s n None = record (plain number.BACKREF_EXISTS_CONDITION s 0) { number = n }
+condition s n (Some l) = record (plain number.BACKREF_EXISTS_CONDITION s 0) { number = n; level = l; has_level = true }
+
+abbrev pub with_text : Stand → ℕ → Text → Bool → Node
+with_text s k w casei = record (plain k s (length (encode_utf8_all w))) { casei = casei }
+
+-- of a call that was read and not resolved
+abbrev pub row_of_call : Stand → Target → ℕ → Node
+row_of_call s (by_number n) p = record (plain number.AST_NODE s 0) { which = number.BY_NUMBER; number = n; place = p }
+row_of_call s (by_name w) p = record (with_text s number.AST_NODE w false) { which = number.BY_NAME; place = p }
+row_of_call s (relative z) p = record (plain number.AST_NODE s 0) { which = number.RELATIVE; level = z; place = p }
+
+abbrev pub row_of_read : Stand → AstTree → ℕ → Node
+row_of_read s (ast_call t) p = row_of_call s t p
+row_of_read s _ p = plain number.AST_NODE s 0
+
+abbrev pub row : Stand → Tree → Node
+row s empty = plain number.EMPTY s 0
+row s (any newline crlf) = record (plain number.ANY s 0) { newline = newline; crlf = crlf }
+row s (assertion a) = record (plain number.ASSERTION s 0) { which = assertion_number a; crlf = has_crlf a }
+row s (general_newline u) = record (plain number.GENERAL_NEWLINE s 0) { unicode = u }
+row s (literal w casei) = with_text s number.LITERAL w casei
+row s (literal_bytes b) = plain number.LITERAL_BYTES s (length b)
+row s (concat ts) = plain number.CONCAT s 0
+row s (alt ts) = plain number.ALT s 0
+row s (group t) = plain number.GROUP s 0
+row s (look_around t l) = record (plain number.LOOK_AROUND s 0) { which = look_around_number l }
+row s (repeat t lo hi greedy) = record (plain number.REPEAT s 0) { least = lo; most = hi; greedy = greedy }
+row s (delegate w casei) = with_text s number.DELEGATE w casei
+row s (backref n casei) = record (plain number.BACKREF s 0) { number = n; casei = casei }
+row s (backref_at_level n l casei) =
+    record (plain number.BACKREF_AT_LEVEL s 0) { number = n; level = l; has_level = true; casei = casei }
+row s (atomic_group t) = plain number.ATOMIC_GROUP s 0
+row s keep_out = plain number.KEEP_OUT s 0
+row s continue_from_previous_match_end = plain number.CONTINUE_FROM_PREVIOUS_MATCH_END s 0
+row s (backref_exists n l) = condition s n l
+row s (conditional c t f) = plain number.CONDITIONAL s 0
+row s (subroutine_call n) = record (plain number.SUBROUTINE_CALL s 0) { number = n }
+row s (verb v) = record (plain number.VERB s 0) { which = verb_number v }
+row s (absent a) = record (plain number.ABSENT s 0) { which = absent_number a }
+row s (define_group t) = plain number.DEFINE_GROUP s 0
+row s (ast_node node place) = row_of_read s node place
+
+-- ---- the rows of a tree
+
+-- the nodes in preorder: each before those that stand in it, in text order
+abbrev mutual
+  pub listed : Tree → List Tree
+  listed (concat ts) = concat ts ∷ listed_all ts
+  listed (alt ts) = alt ts ∷ listed_all ts
+  listed (group t) = group t ∷ listed t
+  listed (look_around t l) = look_around t l ∷ listed t
+  listed (repeat t lo hi greedy) = repeat t lo hi greedy ∷ listed t
+  listed (atomic_group t) = atomic_group t ∷ listed t
+  listed (conditional c t f) = conditional c t f ∷ (listed c ++ (listed t ++ listed f))
+  listed (absent a) = absent a ∷ listed_absent a
+  listed (define_group t) = define_group t ∷ listed t
+  listed t = t ∷ []
+
+  pub listed_all : Trees → List Tree
+  listed_all no_trees = []
+  listed_all (more_trees t ts) = listed t ++ listed_all ts
+
+  pub listed_absent : AbsentTree → List Tree
+  listed_absent (repeater t) = listed t
+  listed_absent (expression a e) = listed a ++ listed e
+  listed_absent (stopper t) = listed t
+  listed_absent clear = []
+
+-- their texts, one behind the other
+abbrev pub texts : List Tree → List ℕ
+texts [] = []
+texts (t ∷ ts) = carried t ++ texts ts
+
+-- their rows, from the index i and the byte o on
+abbrev pub rows : ℕ → ℕ → List Tree → List Node
+rows i o [] = []
+rows i o (t ∷ ts) =
+    row (record { end = i + length (listed t); text = o }) t ∷ rows (i + 1) (o + length (carried t)) ts
+
+-- the nodes of several trees
+abbrev pub listed_each : List Tree → List Tree
+listed_each [] = []
+listed_each (t ∷ ts) = listed t ++ listed_each ts

@@ -1,0 +1,118 @@
+//! What is said of a tree beside it, as a caller in C gets it.
+ghost use Rattle.std.specs.Prelude.{◌≡◌, ◌+◌, ◌≤◌, ◌^◌, ℕ, length, map};
+ghost use Rattle.fancy_parts.specs.Groups.{named};
+ghost use Rattle.fancy_parts.specs.Room.{in_word};
+ghost use Rattle.fancy_c.specs.Buffer.{put_at};
+ghost use Rattle.fancy_c.specs.Marks.{numbered, name_rows, name_texts};
+
+use crate::rows::{Counts, put_text};
+use std::collections::{BTreeMap, BTreeSet};
+
+/// How much room a pattern's tree asks for, and what is said of it.
+#[repr(C)]
+#[derive(Clone, Copy)]
+pub struct TreeMarks {
+    /// How many nodes the tree has.
+    pub nodes: usize,
+    /// How many bytes the texts of its nodes have, and the names of its groups behind them.
+    pub texts: usize,
+    /// How many groups have a name, each name with each of its numbers.
+    pub names: usize,
+    /// How many numbers its back references have, up to the number of groups; 0 too.
+    pub backrefs: usize,
+    /// How many groups have a number.
+    pub groups: usize,
+    /// The number of the first back reference to a group that is not there.
+    pub out_of_range: usize,
+    /// Whether there is one.
+    pub has_out_of_range: bool,
+    /// Whether some back reference was written as a backslash and digits, or some call by a number.
+    pub numeric: bool,
+    /// Whether some group is called.
+    pub calls: bool,
+    /// Whether some call is by the number 0: of the whole pattern.
+    pub self_recursive: bool,
+    /// Whether the groups without a name have no number.
+    pub ignored: bool,
+}
+
+/// A name of a group, with its number. A name that several groups have stands once for each.
+#[repr(C)]
+#[derive(Clone, Copy)]
+pub struct Name {
+    /// Where the name begins in the buffer of texts, as a byte offset.
+    pub text: usize,
+    /// How many bytes the name has.
+    pub size: usize,
+    /// The number of the group.
+    pub number: usize,
+}
+
+/// What the counts come to behind the names, each the greatest word where it is more.
+pub(crate) fn count_names(groups: &BTreeMap<String, Vec<usize>>, before: Counts) -> Counts
+    ensures rows { result.rows ≡ in_word (before.rows + length (name_rows 0 (map named groups.now.entries))) }
+    ensures text { result.text ≡ in_word (before.text + length (name_texts (map named groups.now.entries))) }
+{
+    let mut behind = before;
+    for (name, numbers) in groups.iter() {
+        behind = Counts {
+            rows: behind.rows.saturating_add(numbers.len()),
+            text: behind.text.saturating_add(name.len()),
+        };
+    }
+    behind
+}
+
+/// Writes the rows of a name that stands at a place, from an index on, and answers the index behind them.
+fn put_numbers(
+    names: &mut [Name],
+    first: usize,
+    numbers: &[usize],
+    text: usize,
+    size: usize,
+) -> usize
+    requires { first + length numbers.now ≤ length names.old }
+    ensures behind { result ≡ first + length numbers.now }
+    ensures put { names.new ≡ put_at names.old first (numbered text size numbers.now) }
+{
+    for (i, number) in numbers.iter().enumerate() {
+        names[first + i] = Name {
+            text,
+            size,
+            number: *number,
+        };
+    }
+    first + numbers.len()
+}
+
+/// Writes the rows of the names, and the names, behind the counts.
+pub(crate) fn put_names(
+    names: &mut [Name],
+    bytes: &mut [u8],
+    groups: &BTreeMap<String, Vec<usize>>,
+    before: Counts,
+)
+    requires names_room { before.rows + length (name_rows 0 (map named groups.now.entries)) ≤ length names.old }
+    requires bytes_room { before.text + length (name_texts (map named groups.now.entries)) ≤ length bytes.old }
+    ensures names { names.new ≡ put_at names.old before.rows (name_rows before.text (map named groups.now.entries)) }
+    ensures bytes { bytes.new ≡ put_at bytes.old before.text (name_texts (map named groups.now.entries)) }
+{
+    let mut behind = before;
+    for (name, numbers) in groups.iter() {
+        let text = put_text(bytes, behind.text, name.as_bytes());
+        let rows = put_numbers(names, behind.rows, numbers, behind.text, name.len());
+        behind = Counts { rows, text };
+    }
+}
+
+/// Writes the numbers at the front of the buffer, in ascending order.
+pub(crate) fn put_backrefs(buffer: &mut [usize], numbers: &BTreeSet<usize>)
+    requires { length numbers.now.keys ≤ length buffer.old }
+    ensures { buffer.new ≡ put_at buffer.old 0 numbers.now.keys }
+{
+    let mut i = 0;
+    for number in numbers.iter() {
+        buffer[i] = *number;
+        i += 1;
+    }
+}

@@ -1,0 +1,86 @@
+//! The nodes of a tree written into an array.
+ghost use Rattle.std.specs.Prelude.{◌≡◌, ◌+◌, ◌≤◌, length};
+ghost use Rattle.fancy_parts.specs.Room.{in_word};
+ghost use Rattle.fancy_grammar.specs.Tree.{children, depth};
+ghost use Rattle.fancy_syntax.specs.View.{view};
+ghost use Rattle.fancy_c.specs.Buffer.{put_at};
+ghost use Rattle.fancy_c.specs.Node.{listed, listed_each, rows, texts};
+
+use crate::node::{Node, Stand, carried};
+use fancy_syntax::expr::Expr;
+
+/// How many rows, and how many bytes of their texts.
+#[derive(Clone, Copy)]
+pub(crate) struct Counts {
+    pub(crate) rows: usize,
+    pub(crate) text: usize,
+}
+
+/// What the counts before a tree come to behind it, each the greatest word where it is more.
+pub(crate) fn count(tree: &Expr, before: Counts) -> Counts
+    ensures nodes { result.rows ≡ in_word (before.rows + length (listed (view tree.now))) }
+    ensures text { result.text ≡ in_word (before.text + length (texts (listed (view tree.now)))) }
+{
+    let mut behind = Counts {
+        rows: before.rows.saturating_add(1),
+        text: before.text.saturating_add(carried(tree).len()),
+    };
+    let mut children = tree.children_iter();
+    while let Some(child) = children.next() {
+        behind = count(child, behind);
+    }
+    behind
+}
+
+/// Writes a text into the buffer from a place on, and answers the place behind it.
+pub(crate) fn put_text(bytes: &mut [u8], place: usize, text: &[u8]) -> usize
+    requires { place + length text.now ≤ length bytes.old }
+    ensures behind { result ≡ place + length text.now }
+    ensures put { bytes.new ≡ put_at bytes.old place text.now }
+{
+    let behind = place + text.len();
+    bytes[place..behind].copy_from_slice(text);
+    behind
+}
+
+/// Writes the rows of a tree's nodes, and their texts, behind the counts, and answers the counts behind them.
+#[cycle(put)]
+pub(crate) fn put_tree(nodes: &mut [Node], bytes: &mut [u8], tree: &Expr, before: Counts) -> Counts
+    requires nodes_room { before.rows + length (listed (view tree.now)) ≤ length nodes.old }
+    requires bytes_room { before.text + length (texts (listed (view tree.now))) ≤ length bytes.old }
+    ensures behind { result.rows ≡ before.rows + length (listed (view tree.now)) }
+    ensures text_behind { result.text ≡ before.text + length (texts (listed (view tree.now))) }
+    ensures nodes { nodes.new ≡ put_at nodes.old before.rows (rows before.rows before.text (listed (view tree.now))) }
+    ensures bytes { bytes.new ≡ put_at bytes.old before.text (texts (listed (view tree.now))) }
+{
+    let first = Counts {
+        rows: before.rows + 1,
+        text: put_text(bytes, before.text, carried(tree)),
+    };
+    let behind = put_children(nodes, bytes, tree, first);
+    let stand = Stand {
+        end: behind.rows,
+        text: before.text,
+    };
+    nodes[before.rows] = stand.row(tree);
+    behind
+}
+
+/// Writes the rows of what stands in a node in the same way.
+#[cycle(put)]
+fn put_children(nodes: &mut [Node], bytes: &mut [u8], tree: &Expr, before: Counts) -> Counts
+    requires nodes_room { before.rows + length (listed_each (children (view tree.now))) ≤ length nodes.old }
+    requires bytes_room { before.text + length (texts (listed_each (children (view tree.now)))) ≤ length bytes.old }
+    ensures behind { result.rows ≡ before.rows + length (listed_each (children (view tree.now))) }
+    ensures text_behind { result.text ≡ before.text + length (texts (listed_each (children (view tree.now)))) }
+    ensures nodes { nodes.new ≡ put_at nodes.old before.rows
+        (rows before.rows before.text (listed_each (children (view tree.now)))) }
+    ensures bytes { bytes.new ≡ put_at bytes.old before.text (texts (listed_each (children (view tree.now)))) }
+{
+    let mut behind = before;
+    let mut children = tree.children_iter();
+    while let Some(child) = children.next() {
+        behind = put_tree(nodes, bytes, child, behind);
+    }
+    behind
+}
