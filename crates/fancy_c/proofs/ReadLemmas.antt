@@ -5,8 +5,8 @@ use Rattle.fancy_lex.specs.Fault.{Kind}
 use Rattle.fancy_lex.specs.declared.error.Error.{Error}
 use Rattle.fancy_lex.specs.declared.error.Error.TheVariants.{ParseError, OutOfMemory}
 use Rattle.fancy_lex.specs.declared.flags.Flags.{Flags}
-use Rattle.fancy_grammar.specs.Answer.{IsTreeOf, IsFaultOf, IsOnlyFault, IsWithin}
-use Rattle.fancy_grammar.specs.Answered.{IsAnswered, IsSmall}
+use Rattle.fancy_grammar.specs.Answer.{IsTreeOf, IsFaultOf, IsOnlyFault, IsPlacedIn}
+use Rattle.fancy_grammar.specs.Answered.{IsAnsweredWith, IsSmall}
 use Rattle.fancy_grammar.specs.Marks.{Marks}
 use Rattle.fancy_grammar.specs.Tree.{Tree}
 use Rattle.fancy_c.specs.Answer.{IsTreeOfBytes, IsRefusalOf}
@@ -14,14 +14,14 @@ use Rattle.fancy_c.specs.declared.read.Refusal.TheVariants.{Fault}
 
 pub tree_told : (f : Flags) (text bytes : List ℕ) (t : Tree) (m : Marks) → text ≡ bytes → IsUtf8 bytes
     → IsTreeOf f (chars text) t m → ((s : Tree) (l : Marks) → IsTreeOf f (chars text) s l → (s ≡ t) × (l ≡ m))
-    → ((k : Kind) (p : ℕ) → IsFaultOf f (chars text) k p → ⊥) → IsSmall t (length text) → IsAnswered t → IsTreeOfBytes f bytes t m
-tree_told f text bytes t m is utf8 tree only no_fault small nodes = subst (λ b. IsUtf8 b → IsTreeOfBytes f b t m) is here utf8 where
+    → ((k : Kind) (p : ℕ) → IsFaultOf f (chars text) k p → ⊥) → IsSmall t (length text) → IsAnsweredWith t m → IsTreeOfBytes f bytes t m
+tree_told f text bytes t m is utf8 tree only no_fault small answered = subst (λ b. IsUtf8 b → IsTreeOfBytes f b t m) is here utf8 where
   here : IsUtf8 text → IsTreeOfBytes f text t m
-  here u = record { utf8 = u; tree = tree; only = only; no_fault = no_fault; small = small; nodes = nodes }
+  here u = record { utf8 = u; tree = tree; only = only; no_fault = no_fault; small = small; answered = answered }
 
 pub fault_told : (e : Error) (f : Flags) (text bytes : List ℕ) → text ≡ bytes → IsUtf8 bytes → IsOnlyFault e f (chars text)
-    → IsWithin e (length text) → IsRefusalOf (Fault e) f bytes
-fault_told (ParseError p k) f text bytes is utf8 only within = subst (λ b. IsUtf8 b → IsRefusalOf (Fault (ParseError p k)) f b) is here utf8 where
+    → IsPlacedIn e text → IsRefusalOf (Fault e) f bytes
+fault_told (ParseError p k) f text bytes is utf8 only placed = subst (λ b. IsUtf8 b → IsRefusalOf (Fault (ParseError p k)) f b) is here utf8 where
   here : IsUtf8 text → IsRefusalOf (Fault (ParseError p k)) f text
-  here u = record { utf8 = u; fault = only.0; only = only.1; no_tree = only.2; within = within }
-fault_told OutOfMemory f text bytes is utf8 only within = tt
+  here u = record { utf8 = u; fault = only.0; only = only.1; no_tree = only.2; placed = placed }
+fault_told OutOfMemory f text bytes is utf8 only placed = tt

@@ -1,6 +1,6 @@
 -- What a caller in C is told of the bytes of a pattern.
-use Rattle.std.specs.Prelude.{◌≡◌, ℕ, ◌+◌, ◌≤◌, List, length, chars}
-use Rattle.std.specs.Str.{IsUtf8}
+use Rattle.std.specs.Prelude.{◌≡◌, ℕ, ◌+◌, ◌⊎◌, List, length, chars}
+use Rattle.std.specs.Str.{IsUtf8, IsCharBoundary}
 use Rattle.std.specs.Str.Lossy.{utf8_valid_len}
 use Rattle.fancy_lex.specs.Fault.{Kind, kind_of, kind_text, general_parse_error, unclosed_open_paren, invalid_repeat}
 use Rattle.fancy_lex.specs.Fault.{recursion_exceeded, trailing_backslash, invalid_escape, unclosed_unicode_name, invalid_hex}
@@ -9,7 +9,7 @@ use Rattle.fancy_lex.specs.Fault.{invalid_backref, target_not_repeatable, invali
 use Rattle.fancy_lex.specs.declared.error.Error.TheVariants.{ParseError, OutOfMemory}
 use Rattle.fancy_lex.specs.declared.flags.Flags.{Flags}
 use Rattle.fancy_grammar.specs.Answer.{IsTreeOf, IsFaultOf}
-use Rattle.fancy_grammar.specs.Answered.{IsAnswered, IsSmall}
+use Rattle.fancy_grammar.specs.Answered.{IsAnsweredWith, IsSmall}
 use Rattle.fancy_grammar.specs.Marks.{Marks}
 use Rattle.fancy_grammar.specs.Tree.{Tree}
 use Rattle.fancy_c.specs.declared.answer.TheConstants.{NO_UTF8, REFUSED, NO_MEMORY, NO_KIND}
@@ -41,22 +41,23 @@ number_of_kind invalid_group_name = INVALID_GROUP_NAME
 number_of_kind (invalid_group_name_backref s) = INVALID_GROUP_NAME_BACKREF
 
 -- the bytes are the UTF-8 of a pattern that has this tree with these marks, and no other and no fault; of n bytes it has
--- at most 2 n + 1 nodes and 832 levels
+-- at most 2 n + 1 nodes and 832 levels; and the marks are those of its nodes
 pub record IsTreeOfBytes (f : Flags) (bytes : List ℕ) (t : Tree) (m : Marks) : Type 0 where
   pub utf8 : IsUtf8 bytes
   pub tree : IsTreeOf f (chars bytes) t m
   pub only : (s : Tree) (l : Marks) → IsTreeOf f (chars bytes) s l → (s ≡ t) × (l ≡ m)
   pub no_fault : (k : Kind) (p : ℕ) → IsFaultOf f (chars bytes) k p → ⊥
   pub small : IsSmall t (length bytes)
-  pub nodes : IsAnswered t
+  pub answered : IsAnsweredWith t m
 
--- the bytes are the UTF-8 of a pattern that has this fault, and no other and no tree; its place is at most one past the end
+-- the bytes are the UTF-8 of a pattern that has this fault, and no other and no tree; its place is one past the end, or
+-- one at which the pattern may be cut
 pub record IsFaultOfBytes (f : Flags) (bytes : List ℕ) (k : Kind) (place : ℕ) : Type 0 where
   pub utf8 : IsUtf8 bytes
   pub fault : IsFaultOf f (chars bytes) k place
   pub only : (j : Kind) (q : ℕ) → IsFaultOf f (chars bytes) j q → (j ≡ k) × (q ≡ place)
   pub no_tree : (t : Tree) (m : Marks) → IsTreeOf f (chars bytes) t m → ⊥
-  pub within : place ≤ length bytes + 1
+  pub placed : (place ≡ length bytes + 1) ⊎ IsCharBoundary bytes place
 
 -- the bytes are no UTF-8, and the place is the length of the longest front that is
 abbrev pub IsNoUtf8 : List ℕ → ℕ → Type 0

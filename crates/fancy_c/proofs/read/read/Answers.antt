@@ -5,7 +5,7 @@ pub returns-in-Ok-parse_tree_with_flags-clause-tree : goal.returns-in-Ok-parse_t
 returns-in-Ok-parse_tree_with_flags-clause-tree c =
     let text = c.in-Ok.ensures.cases in
     let tree = c.in-Ok-parse_tree_with_flags.ensures in
-    tree_told _ _ _ _ _ text.0 text.1 tree.found tree.only tree.exact tree.bounds tree.nodes
+    tree_told _ _ _ _ _ text.0 text.1 tree.found tree.only tree.exact tree.bounds tree.answered
 
 pub returns-in-Err-parse_tree_with_flags-clause-refusal : goal.returns-in-Err-parse_tree_with_flags-clause-refusal
 returns-in-Err-parse_tree_with_flags-clause-refusal c =
