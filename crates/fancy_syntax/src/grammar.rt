@@ -40,7 +40,10 @@ pub(crate) fn parse(alloc: Global, text: &str, flags: Flags) -> Result<Expr, Err
     let (tree, here) = alternation(alloc, State { flags, rest: text }, end)?;
     match next(here.rest) {
         None => Ok(tree),
-        Some(_) => Err(general(alloc, "end of string not reached", place(here.rest, end))),
+        Some(_) => {
+            drop(tree);
+            Err(general(alloc, "end of string not reached", place(here.rest, end)))
+        }
     }
 }
 

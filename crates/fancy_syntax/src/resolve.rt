@@ -7,8 +7,10 @@ ghost use Rattle.fancy_grammar.specs.Items.{items, openings};
 ghost use Rattle.fancy_grammar.specs.Marks.{marks};
 ghost use Rattle.fancy_grammar.specs.Fails.{IsThatFault};
 ghost use Rattle.fancy_syntax.specs.Answer.{marks_of};
+ghost use Rattle.fancy_syntax.specs.Notes.{known_of, progress_of};
 ghost use Rattle.fancy_grammar.specs.Ordered.{Ascends};
 ghost use Rattle.fancy_grammar.specs.Resolved.{resolved, fault_of};
+ghost use Rattle.fancy_grammar.specs.Walk.{noted, nothing_noted, rebuilt};
 ghost use Rattle.fancy_syntax.specs.View.{view};
 
 mod notes;
@@ -40,8 +42,7 @@ pub(crate) fn resolve(alloc: Global, raw: Expr, pattern: &str, flags: Flags) -> 
         groups,
     };
     let mut expr = raw;
-    let mut progress = Progress::new(alloc);
-    rewrite(&mut expr, &known, &mut progress)?;
+    let progress = walk(alloc, &mut expr, &known)?;
     let Progress {
         backrefs,
         out_of_range,
@@ -67,6 +68,18 @@ pub(crate) fn resolve(alloc: Global, raw: Expr, pattern: &str, flags: Flags) -> 
             numbered_groups_ignored: named,
         }),
     }
+}
+
+/// Resolves the tree in its place, and answers what was noted on the way.
+fn walk(alloc: Global, tree: &mut Expr, known: &Known) -> std::result::Result<Progress, AllocError>
+    requires { length (openings (view tree.old)) < 2 ^ 63 }
+    ensures tree { IfOk result (λ _. view tree.new ≡ rebuilt (known_of known.now) nothing_noted (view tree.old)) }
+    ensures progress { IfOk result
+        (λ p. progress_of p ≡ noted (known_of known.now) nothing_noted (items (view tree.old))) }
+{
+    let mut progress = Progress::new(alloc);
+    rewrite(tree, known, &mut progress)?;
+    Ok(progress)
 }
 
 /// The groups that have a number, and whether only those with a name have one, which the flag may ask for.

@@ -2,7 +2,7 @@
 ghost use Rattle.std.specs.Prelude.{◌≡◌, IfOk};
 ghost use Rattle.fancy_grammar.specs.Grammar as spec;
 ghost use Rattle.fancy_grammar.specs.Join as join;
-ghost use Rattle.fancy_grammar.specs.Tree.{alt, trees_of};
+ghost use Rattle.fancy_grammar.specs.Tree.{alt, trees_of, conditional as conditional_node};
 ghost use Rattle.fancy_syntax.specs.View.{view, view_ast, views};
 
 use crate::expr::{Absent, AstNode, Expr};
@@ -73,19 +73,41 @@ fn choice(branches: Vec<Expr>) -> Expr
 pub(crate) fn conditional(
     alloc: Global,
     condition: Box<Expr>,
+    branches: (Expr, Expr),
+) -> Result<Expr, AllocError>
+    ensures { IfOk result (λ e. view e ≡
+        spec.conditional_of (view condition.value) (view branches.0) (view branches.1)) }
+{
+    if is_empty(&branches.0) && is_empty(&branches.1) {
+        drop(branches);
+        return Ok(Box::into_inner(condition));
+    }
+    let (true_branch, false_branch) = branches;
+    decide(alloc, condition, true_branch, false_branch)
+}
+
+/// The node of a conditional.
+fn decide(
+    alloc: Global,
+    condition: Box<Expr>,
     true_branch: Expr,
     false_branch: Expr,
 ) -> Result<Expr, AllocError>
     ensures { IfOk result (λ e. view e ≡
-        spec.conditional_of (view condition.value) (view true_branch) (view false_branch)) }
+        conditional_node (view condition.value) (view true_branch) (view false_branch)) }
 {
-    if is_empty(&true_branch) && is_empty(&false_branch) {
-        return Ok(Box::into_inner(condition));
-    }
+    let true_branch = match Box::new(alloc, true_branch) {
+        Ok(true_branch) => true_branch,
+        Err(refused) => {
+            drop(false_branch);
+            return Err(AllocError::from(refused));
+        }
+    };
+    let false_branch = Box::new(alloc, false_branch)?;
     Ok(Expr::Conditional {
         condition,
-        true_branch: Box::new(alloc, true_branch)?,
-        false_branch: Box::new(alloc, false_branch)?,
+        true_branch,
+        false_branch,
     })
 }
 
@@ -94,6 +116,7 @@ pub(crate) fn alone(alloc: Global, branch: Expr) -> Result<Expr, AllocError>
     ensures { IfOk result (λ e. view e ≡ spec.alone (view branch)) }
 {
     if is_empty(&branch) {
+        drop(branch);
         return Ok(Expr::Absent(Absent::Clear));
     }
     Ok(Expr::Absent(Absent::Stopper(Box::new(alloc, branch)?)))

@@ -71,11 +71,12 @@ impl<'a> Frame<'a> {
         ensures pieces { OnOk result (trees self.new.pieces ≡ trees self.old.pieces ++ spec.solid (view piece ∷ [])) }
     {
         if is_empty(&piece) {
+            drop(piece);
             return Ok(());
         }
         // The first is put in place here: this saves a call for each branch.
         if matches!(self.pieces, Row::None) {
-            self.pieces = Row::One(piece);
+            drop(mem::replace(&mut self.pieces, Row::One(piece)));
             return Ok(());
         }
         self.pieces.add(alloc, piece)
@@ -141,9 +142,13 @@ impl<'a> Frame<'a> {
         let branch = pieces.concat();
         // Mostly it is the only one: this saves making a row of it.
         if matches!(branches, Row::None) {
+            drop(branches);
             return Ok((opener, branch));
         }
-        branches.add(alloc, branch)?;
+        if let Err(refused) = branches.add(alloc, branch) {
+            drop(branches);
+            return Err(refused);
+        }
         Ok((opener, branches.choice()))
     }
 }

@@ -222,7 +222,7 @@ fn put_under(
     ensures { IfOk result (λ _. view tree.new ≡ spec.quantified flags counts (suffix_of marks) (view tree.old)) }
 {
     let child = Box::new(alloc, mem::replace(tree, Expr::Empty))?;
-    *tree = repeated(child, flags, counts, marks.lazy);
+    drop(mem::replace(tree, repeated(child, flags, counts, marks.lazy)));
     if is_swapped(flags, counts) || marks.possessive {
         make_atomic(alloc, tree)?;
     }
@@ -253,7 +253,8 @@ fn repeated(child: Box<Expr>, flags: Flags, counts: Counts, lazy: bool) -> Expr
 fn make_atomic(alloc: Global, tree: &mut Expr) -> Result<(), AllocError>
     ensures { OnOk result (view tree.new ≡ atomic_group (view tree.old)) }
 {
-    *tree = Expr::AtomicGroup(Box::new(alloc, mem::replace(tree, Expr::Empty))?);
+    let child = Box::new(alloc, mem::replace(tree, Expr::Empty))?;
+    drop(mem::replace(tree, Expr::AtomicGroup(child)));
     Ok(())
 }
 

@@ -28,7 +28,10 @@ impl Several {
     fn pair(alloc: Global, first: &mut Expr, second: Expr) -> Result<Several, AllocError>
         ensures { IfOk result (λ s. views s.trees.items ≡ view first.old ∷ view second ∷ []) }
     {
-        let mut trees = Vec::with_capacity(alloc, 4)?;
+        let Ok(mut trees) = Vec::with_capacity(alloc, 4) else {
+            drop(second);
+            return Err(AllocError);
+        };
         trees.push_reserved(mem::replace(first, Expr::Empty));
         trees.push_reserved(second);
         Ok(Several { trees })
@@ -39,8 +42,7 @@ impl Several {
     fn add(&mut self, tree: Expr) -> Result<(), AllocError>
         ensures { OnOk result (views self.new.trees.items ≡ views self.old.trees.items ++ view tree ∷ []) }
     {
-        self.trees.reserve(1)?;
-        self.trees.push_reserved(tree);
+        self.trees.push(tree)?;
         Ok(())
     }
 }
@@ -62,7 +64,7 @@ impl Row {
             Row::One(first) => Row::Several(Several::pair(alloc, first, tree)?),
             Row::Several(several) => return several.add(tree),
         };
-        *self = row;
+        drop(mem::replace(self, row));
         Ok(())
     }
 

@@ -55,13 +55,12 @@ pub(crate) fn read_step<'a>(
     let before = *here;
     match look_ahead(alloc, here, depth, end)? {
         Ahead::Nothing => piece(alloc, Expr::Empty, here, left, depth, end),
-        Ahead::Leaf(mut atom) => {
-            // As `piece` does, but in its place, and mostly no quantifier follows: this saves two calls for each leaf.
+        Ahead::Leaf(atom) => {
+            // Mostly no quantifier follows: this saves two calls for each leaf.
             if is_unquantified(*here) {
                 return Ok(Step::Piece(atom));
             }
-            quantify(alloc, &mut atom, here, left, depth, end)?;
-            Ok(Step::Piece(atom))
+            piece(alloc, atom, here, left, depth, end)
         }
         Ahead::Group(head) => Ok(Step::Open(Opener::Group {
             head,
@@ -93,8 +92,13 @@ fn piece<'a>(
     ensures within { length here.new.rest.now ≤ length here.old.rest.now }
 {
     let mut piece = atom;
-    quantify(alloc, &mut piece, here, left, depth, end)?;
-    Ok(Step::Piece(piece))
+    match quantify(alloc, &mut piece, here, left, depth, end) {
+        Ok(()) => Ok(Step::Piece(piece)),
+        Err(fault) => {
+            drop(piece);
+            Err(fault)
+        }
+    }
 }
 
 /// Ends what is open, where no branch follows: a piece, or the part that comes next. The piece began under the flags,
@@ -151,7 +155,10 @@ fn end_part(
         (ended_part end (open_of opener.entry) (view inner) (state here.old)) }
     ensures shorter { IfOk result (λ _. length here.new.rest.now < length here.old.rest.now) }
 {
-    read_end(alloc, &opener, here, end)?;
+    if let Err(fault) = read_end(alloc, &opener, here, end) {
+        drop(inner);
+        return Err(fault);
+    }
     Ok(node_of_part(alloc, opener, inner)?)
 }
 
@@ -188,10 +195,7 @@ fn node_of_part(alloc: Global, opener: Opener, inner: Expr) -> Result<Expr, Allo
     match opener {
         Opener::Top | Opener::Condition => Ok(inner),
         Opener::Group { head, place } => node(alloc, head, place, inner),
-        Opener::Body { condition, .. } => {
-            let (true_branch, false_branch) = branches_of(inner);
-            conditional(alloc, condition, true_branch, false_branch)
-        }
+        Opener::Body { condition, .. } => conditional(alloc, condition, branches_of(inner)),
         Opener::First => alone(alloc, inner),
         Opener::Second(absent) => {
             let exp = Box::new(alloc, inner)?;

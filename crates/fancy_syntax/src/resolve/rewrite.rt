@@ -54,7 +54,8 @@ pub(super) fn rewrite(
             // The node is moved alone, and not with its tree; what stands in its place then takes no memory.
             let taken = AstNode::SubroutineCall(CaptureGroupTarget::ByNumber(0));
             let node = mem::replace(node, taken);
-            *tree = resolve_node(node, place, known, progress)?;
+            let resolved = resolve_node(node, place, known, progress)?;
+            drop(mem::replace(tree, resolved));
             Ok(())
         }
         _ => Ok(()),
