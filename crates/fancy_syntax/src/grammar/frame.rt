@@ -71,12 +71,12 @@ impl<'a> Frame<'a> {
         ensures pieces { OnOk result (trees self.new.pieces ≡ trees self.old.pieces ++ spec.solid (view piece ∷ [])) }
     {
         if is_empty(&piece) {
-            drop(piece);
+            mem::forget(piece);
             return Ok(());
         }
-        // The first is put in place here: this saves a call for each branch.
+        // The first is put in place here: this saves a call for each branch. What stood there owns nothing.
         if matches!(self.pieces, Row::None) {
-            drop(mem::replace(&mut self.pieces, Row::One(piece)));
+            mem::forget(mem::replace(&mut self.pieces, Row::One(piece)));
             return Ok(());
         }
         self.pieces.add(alloc, piece)
@@ -142,7 +142,7 @@ impl<'a> Frame<'a> {
         let branch = pieces.concat();
         // Mostly it is the only one: this saves making a row of it.
         if matches!(branches, Row::None) {
-            drop(branches);
+            mem::forget(branches);
             return Ok((opener, branch));
         }
         if let Err(refused) = branches.add(alloc, branch) {

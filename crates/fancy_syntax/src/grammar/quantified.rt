@@ -222,7 +222,8 @@ fn put_under(
     ensures { IfOk result (λ _. view tree.new ≡ spec.quantified flags counts (suffix_of marks) (view tree.old)) }
 {
     let child = Box::new(alloc, mem::replace(tree, Expr::Empty))?;
-    drop(mem::replace(tree, repeated(child, flags, counts, marks.lazy)));
+    // What stood there is Empty, which owns nothing.
+    mem::forget(mem::replace(tree, repeated(child, flags, counts, marks.lazy)));
     if is_swapped(flags, counts) || marks.possessive {
         make_atomic(alloc, tree)?;
     }
@@ -254,7 +255,7 @@ fn make_atomic(alloc: Global, tree: &mut Expr) -> Result<(), AllocError>
     ensures { OnOk result (view tree.new ≡ atomic_group (view tree.old)) }
 {
     let child = Box::new(alloc, mem::replace(tree, Expr::Empty))?;
-    drop(mem::replace(tree, Expr::AtomicGroup(child)));
+    mem::forget(mem::replace(tree, Expr::AtomicGroup(child)));
     Ok(())
 }
 

@@ -42,7 +42,11 @@ impl Several {
     fn add(&mut self, tree: Expr) -> Result<(), AllocError>
         ensures { OnOk result (views self.new.trees.items ≡ views self.old.trees.items ++ view tree ∷ []) }
     {
-        self.trees.push(tree)?;
+        if let Err(refused) = self.trees.reserve(1) {
+            drop(tree);
+            return Err(AllocError::from(refused));
+        }
+        self.trees.push_reserved(tree);
         Ok(())
     }
 }
@@ -64,7 +68,8 @@ impl Row {
             Row::One(first) => Row::Several(Several::pair(alloc, first, tree)?),
             Row::Several(several) => return several.add(tree),
         };
-        drop(mem::replace(self, row));
+        // What stood there owns nothing: its tree was taken.
+        mem::forget(mem::replace(self, row));
         Ok(())
     }
 

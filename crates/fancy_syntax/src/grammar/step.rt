@@ -55,12 +55,16 @@ pub(crate) fn read_step<'a>(
     let before = *here;
     match look_ahead(alloc, here, depth, end)? {
         Ahead::Nothing => piece(alloc, Expr::Empty, here, left, depth, end),
-        Ahead::Leaf(atom) => {
-            // Mostly no quantifier follows: this saves two calls for each leaf.
+        Ahead::Leaf(mut atom) => {
+            // As `piece` does, but in its place, and mostly no quantifier follows: this saves two calls for each leaf.
             if is_unquantified(*here) {
                 return Ok(Step::Piece(atom));
             }
-            piece(alloc, atom, here, left, depth, end)
+            if let Err(fault) = quantify(alloc, &mut atom, here, left, depth, end) {
+                drop(atom);
+                return Err(fault);
+            }
+            Ok(Step::Piece(atom))
         }
         Ahead::Group(head) => Ok(Step::Open(Opener::Group {
             head,

@@ -55,7 +55,7 @@ pub(super) fn rewrite(
             let taken = AstNode::SubroutineCall(CaptureGroupTarget::ByNumber(0));
             let node = mem::replace(node, taken);
             let resolved = resolve_node(node, place, known, progress)?;
-            drop(mem::replace(tree, resolved));
+            mem::forget(mem::replace(tree, resolved));
             Ok(())
         }
         _ => Ok(()),

@@ -1,4 +1,4 @@
-use Rattle.std.proofs.Common.{◌≡◌, Ok, refl}
+use Rattle.std.proofs.Common.{◌≡◌, Ok, Err, refl}
 use Rattle.std.proofs.lemmas.Result.{err_from_is_err_and}
 use Rattle.fancy_grammar.specs.Ahead.{ahead, leaf}
 use Rattle.fancy_grammar.specs.Grammar.{Piece, piece, atom, a_nothing, a_leaf}
@@ -27,10 +27,15 @@ returns-then-is_unquantified-clause-value c =
     steps_piece (state c.args.here.now) (Ok (step.Piece _)) _ c.bytes_left-left.ensures c.in_ok-here.ensures.value
     (atom (rw c.in-Leaf.is at c.in_ok-look_ahead.ensures.value) a_leaf refl) (c.is_unquantified.ensures c.if-is_unquantified.true _ _ _ _)
 
-pub returns-else-is_unquantified-clause-value : goal.returns-else-is_unquantified-clause-value
-returns-else-is_unquantified-clause-value c =
-    steps_piece (state c.args.here.now) _ _ c.bytes_left-left.ensures c.in_ok-here.ensures.value
-    (atom (rw c.in-Leaf.is at c.in_ok-look_ahead.ensures.value) a_leaf refl) c.piece-in-Leaf.ensures.value
+pub returns-in_default-clause-value : goal.returns-in_default-clause-value
+returns-in_default-clause-value c =
+    steps_piece (state c.args.here.now) (Ok (step.Piece _)) _ c.bytes_left-left.ensures c.in_ok-here.ensures.value
+    (atom (rw c.in-Leaf.is at c.in_ok-look_ahead.ensures.value) a_leaf refl) (rw c.in_default.is at c.quantify.ensures.value)
+
+pub returns-in-Err-clause-value : goal.returns-in-Err-clause-value
+returns-in-Err-clause-value c =
+    steps_piece (state c.args.here.now) (Err c.in-Err.fault) (state c.args.here.now) c.bytes_left-left.ensures c.in_ok-here.ensures.value
+    (atom (rw c.in-Leaf.is at c.in_ok-look_ahead.ensures.value) a_leaf refl) (rw c.in-Err.is at c.quantify.ensures.value)
 
 pub returns-in-Nothing-clause-value : goal.returns-in-Nothing-clause-value
 returns-in-Nothing-clause-value c =
