@@ -14,19 +14,13 @@ pub fn whole_number(text: &str) -> Option<usize>
     if next(rest).is_none() { value } else { None }
 }
 
-#[tactic(auto, unfolding(crate::specs::NumberText::number_text))]
-fn read_number_text(text: &str) -> Option<usize>
-    ensures value { spec.number_text (chars text.now) ≡ result }
-{
-    whole_number(after(text, '+').unwrap_or(text))
-}
-
 /// The value of a number text, which is ASCII digits of a number that a word holds, and before them nothing or a plus.
 /// None for any other text.
+#[tactic(auto, unfolding(crate::specs::NumberText::number_text))]
 pub fn number_text(text: &str) -> Option<usize>
     ensures value { spec.number_text (chars text.now) ≡ result }
     ensures derives { IfSome result (λ n. spec.IsNumberText (chars text.now) n) }
     ensures only { (n : ℕ) → spec.IsNumberText (chars text.now) n → result ≡ Some n }
 {
-    read_number_text(text)
+    whole_number(after(text, '+').unwrap_or(text))
 }
