@@ -11,7 +11,7 @@ use Prim.Native.Char.{code}
 use Rattle.fancy_lex.specs.Characters.{◌∈◌}
 use Rattle.fancy_lex.specs.Id.{is_id_char, AllIdChars, IsId, Id, StartsWithId, id}
 use Rattle.fancy_lex.specs.IdReference.{IdReference, id_alone, id_and_amount, amount_alone, IsIdReference, plain, with_amount, bare, IsAmount, signed, small_amount, amount, id_or_none, with_amount_of, with_rest, id_reference, view_reference}
-use Rattle.fancy_lex.specs.declared.id.IdReference as code_reference
+use Rattle.fancy_lex.specs.declared.name.id.IdReference as code_reference
 use Rattle.fancy_lex.specs.NumberText.{WritesNumber, whole_number}
 use Rattle.fancy_lex.specs.Text.{Text}
 use Rattle.fancy_lex.proofs.IdLemmas.{Stops, id_complete, id_none}

@@ -10,8 +10,8 @@ use Rattle.fancy_lex.specs.Id.{IsId, id}
 use Rattle.fancy_lex.specs.Number.{Number}
 use Rattle.fancy_lex.specs.NumberText.{whole_number}
 use Rattle.fancy_lex.specs.Text.{Text}
-use Rattle.fancy_lex.specs.declared.id.IdReference as code_reference
-use Rattle.fancy_lex.specs.declared.id.IdReference.TheVariants as variant
+use Rattle.fancy_lex.specs.declared.name.id.IdReference as code_reference
+use Rattle.fancy_lex.specs.declared.name.id.IdReference.TheVariants as variant
 
 -- what an id reference says: an id, an amount, or both
 pub data IdReference : Type 0 where

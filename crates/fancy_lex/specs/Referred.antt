@@ -8,10 +8,10 @@ use Rattle.fancy_lex.specs.NumberText.{number_text}
 use Rattle.fancy_lex.specs.Reading.{Reading, read_or}
 use Rattle.fancy_lex.specs.Target.{Target, by_number, by_name, relative}
 use Rattle.fancy_lex.specs.Text.{Text}
-use Rattle.fancy_lex.specs.declared.target.Target as declared_target
-use Rattle.fancy_lex.specs.declared.target.Target.TheVariants as code
-use Rattle.fancy_lex.specs.declared.target.Reference as declared_reference
-use Rattle.fancy_lex.specs.declared.target.Call as declared_call
+use Rattle.fancy_lex.specs.declared.name.target.Target as declared_target
+use Rattle.fancy_lex.specs.declared.name.target.Target.TheVariants as code
+use Rattle.fancy_lex.specs.declared.name.target.Reference as declared_reference
+use Rattle.fancy_lex.specs.declared.name.target.Call as declared_call
 
 -- what asks for a group's match: the group, the level of recursion where one is written, and the place
 pub record Reference : Type 0 where

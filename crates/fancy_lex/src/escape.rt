@@ -14,8 +14,8 @@ use crate::escape::boundary::boundary;
 use crate::escape::hex::hex;
 use crate::escape::reference::{back_reference, group_number, numbered_reference, subroutine_call};
 use crate::flags::Flags;
+use crate::name::target::{Call, Reference};
 use crate::property::{Property, read_property};
-use crate::target::{Call, Reference};
 use crate::text::{next, push};
 use std::alloc::{AllocError, Global};
 

@@ -2,14 +2,10 @@
 #![tactic(auto)]
 
 pub mod class;
-pub mod delimited;
 pub mod error;
 pub mod escape;
 pub mod flags;
-pub mod id;
 pub mod layout;
 pub mod name;
-pub mod number_text;
 pub mod property;
-pub mod target;
 pub mod text;

@@ -1,12 +1,16 @@
-//! Numbers, and what a reference names.
-ghost use Rattle.std.specs.Prelude.{◌↔◌, IsTrue, ◌≡◌, ℕ, ◌+◌, ◌*◌, ◌<◌, ◌≤◌, ◌∷◌, length, chars, IfOk, IfSome, OnSome, MatchOption, false, IsOk, IsSome, List};
+//! What a reference names, and how it is written: numbers, ids, and names between marks.
+ghost use Rattle.std.specs.Prelude.{◌↔◌, IsTrue, ◌≡◌, IfOk, false, IsOk};
 ghost use Rattle.std.specs.Str.{bytes_eq};
 ghost use Rattle.std.specs.Cmp.{on_per, on_equiv, partial_equiv_from_equiv};
-ghost use Rattle.fancy_lex.specs.Number as spec;
 ghost use Rattle.fancy_lex.specs.Target.{view_target, is_name, same_target, same_target-equiv};
 ghost use Rattle.fancy_lex.specs.Text.{text_of};
 
-use crate::text::next;
+pub mod delimited;
+pub mod id;
+pub mod number;
+pub mod number_text;
+pub mod target;
+
 use std::alloc::{AllocError, Global};
 
 /// The group that a reference names, before its number is known.
@@ -81,55 +85,4 @@ pub fn is_same_text(a: &String, b: &String) -> bool
     ensures { result ≡ bytes_eq (text_of a.now) (text_of b.now) }
 {
     a == b
-}
-
-/// The value of the digit at the front, and what follows it.
-#[inline]
-fn digit(text: &str) -> Option<(usize, &str)>
-    ensures value { MatchOption result (spec.at_digit (chars text.now) ≡ false)
-        (λ p. (chars text.now ≡ spec.digit_code p.0 ∷ chars p.1.now) × (p.0 < 10)) }
-    ensures shorter { IfSome result (λ p. length p.1.now < length text.now) }
-{
-    let (c, rest) = next(text)?;
-    if c.is_ascii_digit() {
-        Some((c as usize - 48, rest))
-    } else {
-        None
-    }
-}
-
-/// The number with one digit more, where a word holds it.
-#[inline]
-fn with_digit(value: Option<usize>, digit: usize) -> Option<usize>
-    requires { digit < 10 }
-    ensures { (n : ℕ) → spec.IsWord value n → spec.IsWord result (n * 10 + digit) }
-{
-    value?.checked_mul(10)?.checked_add(digit)
-}
-
-#[tactic(auto, using(crate::proofs::NumberLemmas::number_steps))]
-fn read_number(text: &str) -> Option<(Option<usize>, &str)>
-    ensures value { spec.GivesNumber (chars text.now) result }
-    ensures shorter { IfSome result (λ p. length p.1.now < length text.now) }
-{
-    let (first, mut left) = digit(text)?;
-    let mut value = Some(first);
-    while let Some((next, after)) = digit(left) {
-        value = with_digit(value, next);
-        left = after;
-    }
-    Some((value, left))
-}
-
-/// Reads the digits at the front: their value, where a word holds it, and the text after them.
-#[inline]
-pub fn number(text: &str) -> Option<(Option<usize>, &str)>
-    ensures value { spec.GivesNumber (chars text.now) result }
-    ensures derives { IfSome result
-        (λ p. (n : ℕ) × spec.IsWord p.0 n × spec.StartsWithNumber (chars text.now) (chars p.1.now) n) }
-    ensures only { (v : List ℕ) (n : ℕ) → spec.StartsWithNumber (chars text.now) v n →
-        IfSome result (λ p. (chars p.1.now ≡ v) × spec.IsWord p.0 n) × IsSome result }
-    ensures shorter { IfSome result (λ p. length p.1.now < length text.now) }
-{
-    read_number(text)
 }

@@ -6,7 +6,7 @@ use fancy_lex::escape::reference::{back_reference, numbered_reference, subroutin
 use fancy_lex::escape::{Escaped, escape};
 use fancy_lex::flags::Flags;
 use fancy_lex::name::CaptureGroupTarget;
-use fancy_lex::target::{Call, Reference, Target};
+use fancy_lex::name::target::{Call, Reference, Target};
 use fancy_lex::text::after;
 use fancy_parts::heads::names::group_name;
 use fancy_parts::heads::references::{condition_target, named_call, named_reference};

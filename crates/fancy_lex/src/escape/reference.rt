@@ -7,12 +7,12 @@ ghost use Rattle.fancy_lex.specs.Reading.{Reads, fails};
 ghost use Rattle.fancy_lex.specs.FaultTable.{number_too_great};
 ghost use Rattle.fancy_lex.specs.Referred.{view_read, view_borrowed, view_reference, view_call};
 
-use crate::delimited::marked_name;
 use crate::error::{Error, ParseError};
-use crate::id::{IdReference, id_reference};
-use crate::name::number;
-use crate::number_text::number_text;
-use crate::target::{Call, Reference, Target, reference_by_name, target_of_name};
+use crate::name::delimited::marked_name;
+use crate::name::id::{IdReference, id_reference};
+use crate::name::number::number;
+use crate::name::number_text::number_text;
+use crate::name::target::{Call, Reference, Target, reference_by_name, target_of_name};
 use crate::text::{next, place};
 
 /// Reads all the digits at the front, which number a group, in a pattern of `end` bytes. The fault is InvalidBackref at

@@ -5,9 +5,9 @@ ghost use Rattle.fancy_lex.specs.Reading.{Reads};
 ghost use Rattle.fancy_lex.specs.Referred.{view_reference, view_call};
 ghost use Rattle.fancy_parts.specs.HeadReference as spec;
 
-use fancy_lex::delimited::{marked_name, name_before};
+use fancy_lex::name::delimited::{marked_name, name_before};
 use fancy_lex::error::{Error, ParseError};
-use fancy_lex::target::{Call, Reference, reference_by_name, target_of_name};
+use fancy_lex::name::target::{Call, Reference, reference_by_name, target_of_name};
 use fancy_lex::text::{after, next, place};
 
 /// Reads a back reference behind `(?P=` in a pattern of `end` bytes: an id, and the closing parenthesis. Its place is

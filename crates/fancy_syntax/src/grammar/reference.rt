@@ -5,7 +5,7 @@ ghost use Rattle.fancy_grammar.specs.Ahead as spec;
 ghost use Rattle.fancy_syntax.specs.View.{view};
 
 use crate::expr::{AstNode, Expr};
-use fancy_lex::target::{Call, Reference};
+use fancy_lex::name::target::{Call, Reference};
 use std::alloc::{AllocError, Global};
 
 /// The node of a back reference.

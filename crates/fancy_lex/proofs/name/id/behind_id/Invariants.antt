@@ -1,0 +1,16 @@
+use Rattle.std.proofs.Common.{◌≡◌, ◌≤◌, ◌++◌, length, chars}
+use denote.Text.{Utf8}
+use denote.Shadow.{shadow}
+use Rattle.fancy_lex.specs.Id.{AllIdChars}
+use Rattle.fancy_lex.specs.Text.{Text}
+use Rattle.fancy_lex.proofs.name.id.behind_id.Given as goal
+
+abbrev pub invariant-loop-c : goal.invariant-loop-c
+invariant-loop-c l = record {
+  text : shadow (Utf8 l.left);
+  read : (w : Text) × AllIdChars w × (chars l.text ≡ w ++ chars l.left);
+  within : length l.left ≤ length l.text;
+}
+
+abbrev pub decreases-loop-c : goal.decreases-loop-c
+decreases-loop-c l = length l.left

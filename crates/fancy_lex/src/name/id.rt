@@ -1,0 +1,126 @@
+//! Ids: the names that a reference may be written with.
+ghost use Rattle.std.specs.Prelude.{◌≡◌, ℕ, ◌<◌, ◌≤◌, ◌++◌, ◌∷◌, false, length, chars, IfSome, option_map, Some};
+ghost use Rattle.fancy_lex.specs.Id as spec;
+ghost use Rattle.fancy_lex.specs.IdReference as reference;
+ghost use Rattle.fancy_lex.specs.IdReference.{IsIdReference, view_reference};
+ghost use Rattle.fancy_lex.specs.Text.{Text};
+
+use crate::name::number_text::whole_number;
+use crate::text::{front, next};
+use unicode::properties::{GeneralCategory, is_alphabetic};
+
+/// Whether the category is that of a number: a decimal digit, a letter or any other.
+fn is_number_category(category: GeneralCategory) -> bool
+    ensures { result ≡ spec.is_number_category category }
+{
+    matches!(
+        category,
+        GeneralCategory::DecimalNumber
+            | GeneralCategory::LetterNumber
+            | GeneralCategory::OtherNumber
+    )
+}
+
+/// Whether the character may stand in an id: a letter or a number in any script, or `_`.
+#[tactic(auto, unfolding(crate::specs::Id::is_id_char))]
+fn is_id_char(c: char) -> bool
+    ensures { result ≡ spec.is_id_char c }
+{
+    c == '_' || is_alphabetic(c) || is_number_category(GeneralCategory::for_char(c))
+}
+
+/// What stands behind all the id characters at the front.
+fn behind_id(text: &str) -> &str
+    ensures read { (w : Text) × (spec.AllIdChars w) × (chars text.now ≡ w ++ chars result.now) }
+    ensures stops { (c : ℕ) (t : Text) → chars result.now ≡ c ∷ t → spec.is_id_char c ≡ false }
+    ensures within { length result.now ≤ length text.now }
+{
+    let mut left = text;
+    while let Some((c, after)) = next(left) {
+        if !is_id_char(c) {
+            return left;
+        }
+        left = after;
+    }
+    left
+}
+
+/// Reads the id at the front, all the id characters there, and answers it with the text behind it. None where no id
+/// character stands there.
+pub fn id(text: &str) -> Option<(&str, &str)>
+    ensures value { spec.id (chars text.now) ≡ spec.parts result }
+    ensures derives { IfSome result (λ p. spec.StartsWithId (chars text.now) (chars p.0.now) (chars p.1.now)) }
+    ensures only { (w v : Text) → spec.StartsWithId (chars text.now) w v → spec.parts result ≡ Some (w, v) }
+    ensures shorter { IfSome result (λ p. length p.1.now < length text.now) }
+{
+    let left = behind_id(text);
+    if left.len() == text.len() {
+        return None;
+    }
+    Some((front(text, left), left))
+}
+
+/// An id reference: an id, an amount, or both.
+#[derive(Clone, Copy, Debug)]
+pub enum IdReference<'a> {
+    /// An id.
+    Id(&'a str),
+    /// An id, and the number behind a sign.
+    IdAndAmount(&'a str, isize),
+    /// The number behind a sign.
+    Amount(isize),
+}
+
+/// The amount that all of the text writes: a sign, and ASCII digits of a number of at most `isize::MAX`.
+#[tactic(auto, unfolding(crate::specs::IdReference::amount))]
+fn amount(text: &str) -> Option<isize>
+    ensures value { reference.amount (chars text.now) ≡ result }
+{
+    let (sign, digits) = next(text)?;
+    if sign != '+' && sign != '-' {
+        return None;
+    }
+    let amount = isize::try_from(whole_number(digits)?).ok()?;
+    Some(if sign == '-' { -amount } else { amount })
+}
+
+/// The id at the front or none, and what follows it.
+fn id_or_none(text: &str) -> (Option<&str>, &str)
+    ensures { reference.id_or_none (chars text.now) (spec.id (chars text.now)) ≡ reference.option_and_rest result }
+{
+    match id(text) {
+        Some((id, rest)) => (Some(id), rest),
+        None => (None, text),
+    }
+}
+
+#[tactic(auto, unfolding(crate::specs::IdReference::id_reference))]
+fn read_id_reference(text: &str, relative: bool) -> Option<IdReference<'_>>
+    ensures value { reference.id_reference relative (chars text.now) ≡ option_map view_reference result }
+{
+    let (id, rest) = id_or_none(text);
+    if next(rest).is_none() {
+        return Some(IdReference::Id(id?));
+    }
+    if !relative {
+        return None;
+    }
+    let amount = amount(rest)?;
+    match id {
+        Some(id) => Some(IdReference::IdAndAmount(id, amount)),
+        None if amount == 0 => None,
+        None => Some(IdReference::Amount(amount)),
+    }
+}
+
+/// What all of the text says as an id reference: an id, and where `relative` allows it an amount behind it or in its
+/// place, which is a sign and ASCII digits of a number of at most `isize::MAX`; 0 only behind an id. None for any other
+/// text.
+pub fn id_reference(text: &str, relative: bool) -> Option<IdReference<'_>>
+    ensures value { reference.id_reference relative (chars text.now) ≡ option_map view_reference result }
+    ensures derives { IfSome result (λ r. IsIdReference relative (chars text.now) (view_reference r)) }
+    ensures only { (r : reference.IdReference) → IsIdReference relative (chars text.now) r →
+        option_map view_reference result ≡ Some r }
+{
+    read_id_reference(text, relative)
+}

@@ -1,0 +1,26 @@
+//! Number texts: whole texts that write a number.
+ghost use Rattle.std.specs.Prelude.{◌≡◌, ℕ, chars, IfSome, Some};
+ghost use Rattle.fancy_lex.specs.NumberText as spec;
+
+use crate::name::number::number;
+use crate::text::{after, next};
+
+/// The number that all of the text writes in ASCII digits, where a word holds it.
+#[tactic(auto, unfolding(crate::specs::NumberText::whole_number))]
+pub fn whole_number(text: &str) -> Option<usize>
+    ensures value { spec.whole_number (chars text.now) ≡ result }
+{
+    let (value, rest) = number(text)?;
+    if next(rest).is_none() { value } else { None }
+}
+
+/// The value of a number text, which is ASCII digits of a number that a word holds, and before them nothing or a plus.
+/// None for any other text.
+#[tactic(auto, unfolding(crate::specs::NumberText::number_text))]
+pub fn number_text(text: &str) -> Option<usize>
+    ensures value { spec.number_text (chars text.now) ≡ result }
+    ensures derives { IfSome result (λ n. spec.IsNumberText (chars text.now) n) }
+    ensures only { (n : ℕ) → spec.IsNumberText (chars text.now) n → result ≡ Some n }
+{
+    whole_number(after(text, '+').unwrap_or(text))
+}

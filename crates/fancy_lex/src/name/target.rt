@@ -1,0 +1,113 @@
+//! What references name, as it is written in the pattern.
+ghost use Rattle.std.specs.Prelude.{◌≡◌, chars, false, IfOk, IsOk, IfSome, IsSome, option_map};
+ghost use Rattle.fancy_lex.specs.Id.{parts};
+ghost use Rattle.fancy_lex.specs.IdReference as id_spec;
+ghost use Rattle.fancy_lex.specs.Reading.{Reads};
+ghost use Rattle.fancy_lex.specs.Referred as spec;
+ghost use Rattle.fancy_lex.specs.Target.{view_target, is_name};
+
+use crate::error::{Error, ParseError};
+use crate::name::CaptureGroupTarget;
+use crate::name::id::{IdReference, id_reference};
+use crate::name::number_text::number_text;
+use std::alloc::{AllocError, Global};
+
+/// The group that a reference names, whose name is a part of the pattern.
+#[derive(Clone, Copy, Debug)]
+pub enum Target<'a> {
+    /// The group of this number.
+    ByNumber(usize),
+    /// The last group of this name.
+    ByName(&'a str),
+    /// So many groups before or behind the reference.
+    Relative(isize),
+}
+
+impl Target<'_> {
+    /// The same target, in memory of its own. One that is no name takes none.
+    pub fn to_owned(self, alloc: Global) -> Result<CaptureGroupTarget, AllocError>
+        ensures same { IfOk result (λ target. view_target target ≡ spec.view_borrowed self.entry) }
+        ensures without_memory { is_name (spec.view_borrowed self.entry) ≡ false → IsOk result }
+    {
+        match self {
+            Target::ByNumber(number) => Ok(CaptureGroupTarget::ByNumber(number)),
+            Target::ByName(name) => Ok(CaptureGroupTarget::ByName(String::from_str(alloc, name)?)),
+            Target::Relative(amount) => Ok(CaptureGroupTarget::Relative(amount)),
+        }
+    }
+}
+
+/// What asks for a group's match.
+#[derive(Clone, Copy, Debug)]
+pub struct Reference<'a> {
+    pub target: Target<'a>,
+    /// The level of recursion, where one is written.
+    pub level: Option<isize>,
+    /// The byte offset of the reference.
+    pub place: usize,
+}
+
+/// What calls a group.
+#[derive(Clone, Copy, Debug)]
+pub struct Call<'a> {
+    pub target: Target<'a>,
+    /// The byte offset of the call.
+    pub place: usize,
+}
+
+/// The group that a name means: that of the number where it is a number text, or else the one of that name.
+#[tactic(auto, unfolding(crate::specs::Referred::target_of_name))]
+pub fn target_of_name(name: &str) -> Target<'_>
+    ensures { spec.target_of_name (chars name.now) ≡ spec.view_borrowed result }
+{
+    match number_text(name) {
+        Some(number) => Target::ByNumber(number),
+        None => Target::ByName(name),
+    }
+}
+
+/// The reference at the place that an id reference says: an amount alone is relative, and one behind an id is a level.
+#[tactic(auto, unfolding(crate::specs::Referred::reference_of))]
+fn reference_of(written: IdReference<'_>, place: usize) -> Reference<'_>
+    ensures { spec.reference_of place (id_spec.view_reference written.entry) ≡ spec.view_reference result }
+{
+    let (target, level) = match written {
+        IdReference::Id(id) => (target_of_name(id), None),
+        IdReference::IdAndAmount(id, amount) => (target_of_name(id), Some(amount)),
+        IdReference::Amount(amount) => (Target::Relative(amount), None),
+    };
+    Reference {
+        target,
+        level,
+        place,
+    }
+}
+
+/// The reference at the place that all of the text writes, where it is an id reference; `amounts` allows amounts.
+#[tactic(auto, unfolding(crate::specs::Referred::written_reference))]
+fn written_reference(text: &str, amounts: bool, place: usize) -> Option<Reference<'_>>
+    ensures value { spec.written_reference place amounts (chars text.now) ≡ option_map spec.view_reference result }
+{
+    let written = id_reference(text, amounts)?;
+    Some(reference_of(written, place))
+}
+
+/// The reference at the place that the name writes, and the text behind it, where one was found; `amounts` allows
+/// amounts. The fault is InvalidGroupName at the place, where no name was found, or one that is no id reference.
+#[tactic(auto, unfolding(crate::specs::Referred::reference_by_name))]
+pub fn reference_by_name<'a>(
+    name: Option<(&'a str, &'a str)>,
+    amounts: bool,
+    place: usize,
+) -> Result<(Reference<'a>, &'a str), Error>
+    ensures value { Reads spec.view_reference result (spec.reference_by_name place amounts (parts name.entry)) }
+    ensures rest { IfOk result (λ p. IfSome name.entry (λ q. p.1.now ≡ q.1.now) × IsSome name.entry) }
+{
+    let Some((name, rest)) = name else {
+        return Err(Error::ParseError(place, ParseError::InvalidGroupName));
+    };
+    match written_reference(name, amounts, place) {
+        Some(reference) => Ok((reference, rest)),
+        None => Err(Error::ParseError(place, ParseError::InvalidGroupName)),
+    }
+}
