@@ -1,10 +1,10 @@
 -- How the resolver's own values stand to the definitions.
-use Rattle.std.specs.Prelude.{ℕ, ◌||◌, Option, None, chars, option_map}
+use Rattle.std.specs.Prelude.{ℕ, ◌||◌, Bool, Option, None, chars, option_map}
 use Rattle.fancy_lex.specs.Fault.{Fault, kind_of}
 use Rattle.fancy_lex.specs.declared.error.ParseError as declared
 use Rattle.fancy_lex.specs.Target.{view_target}
 use Rattle.fancy_lex.specs.declared.name.CaptureGroupTarget.{CaptureGroupTarget}
-use Rattle.fancy_parts.specs.Groups.{groups_of, meaning_of, role_of}
+use Rattle.fancy_parts.specs.Groups.{Groups, groups_of, meaning_of, role_of}
 use Rattle.fancy_parts.specs.Meaning.{fault_or}
 use Rattle.fancy_parts.specs.declared.ranks.Meaning.{Meaning}
 use Rattle.fancy_parts.specs.declared.ranks.Role.{Role}
@@ -57,3 +57,16 @@ meaning_noted k p place role m =
       out_of_range = walk.or_else p.out_of_range (walk.beyond total number);
       fault = walk.or_else (option_map fault_at p.fault) (fault_or (meaning_of m) place None);
     }
+
+-- the marks that the end of the walk says, given the groups that have a number and whether these are the named ones alone
+abbrev pub marks_found : Bool → Groups → walk.Progress → spec.Marks
+marks_found named groups p = record {
+  backrefs = p.backrefs;
+  named_groups = groups.names;
+  numeric_capture_group_references = p.numeric;
+  contains_subroutines = p.calls;
+  self_recursive = p.self_recursive;
+  total_groups = groups.total;
+  out_of_range_backref = p.out_of_range;
+  numbered_groups_ignored = named;
+}

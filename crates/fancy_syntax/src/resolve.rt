@@ -7,7 +7,7 @@ ghost use Rattle.fancy_grammar.specs.Items.{items, openings};
 ghost use Rattle.fancy_grammar.specs.Marks.{marks};
 ghost use Rattle.fancy_grammar.specs.Fails.{IsThatFault};
 ghost use Rattle.fancy_syntax.specs.Answer.{marks_of};
-ghost use Rattle.fancy_syntax.specs.Notes.{known_of, progress_of};
+ghost use Rattle.fancy_syntax.specs.Notes.{known_of, progress_of, marks_found};
 ghost use Rattle.fancy_grammar.specs.Ordered.{Ascends};
 ghost use Rattle.fancy_grammar.specs.Resolved.{resolved, fault_of};
 ghost use Rattle.fancy_grammar.specs.Walk.{noted, nothing_noted, rebuilt};
@@ -35,14 +35,31 @@ pub(crate) fn resolve(alloc: Global, raw: Expr, pattern: &str, flags: Flags) -> 
     ensures no_fault { IfOk result (λ _. fault_of flags (view raw) ≡ None) }
     ensures fault { IfErr result (λ e. IsThatFault e (fault_of flags (view raw))) }
 {
-    let (named, groups) = find_groups(alloc, &raw, flags.ignore_numbered_groups)?;
+    let Ok((named, groups)) = find_groups(alloc, &raw, flags.ignore_numbered_groups) else {
+        drop(raw);
+        return Err(Error::OutOfMemory);
+    };
     let known = Known {
         pattern,
         named,
         groups,
     };
     let mut expr = raw;
-    let progress = walk(alloc, &mut expr, &known)?;
+    let Ok(progress) = walk(alloc, &mut expr, &known) else {
+        drop(known);
+        drop(expr);
+        return Err(Error::OutOfMemory);
+    };
+    answer(expr, known.named, known.groups, progress)
+}
+
+/// The resolved tree with what is said of its groups and references, or the fault that was found first.
+fn answer(expr: Expr, named: bool, groups: Groups, progress: Progress) -> Result<ExprTree>
+    ensures tree { IfOk result (λ t. t.expr ≡ expr) }
+    ensures marks { IfOk result (λ t. marks_of t ≡ marks_found named (groups_of groups) (progress_of progress)) }
+    ensures no_fault { IfOk result (λ _. (progress_of progress).fault ≡ None) }
+    ensures fault { IfErr result (λ e. IsThatFault e (progress_of progress).fault) }
+{
     let Progress {
         backrefs,
         out_of_range,
@@ -52,11 +69,9 @@ pub(crate) fn resolve(alloc: Global, raw: Expr, pattern: &str, flags: Flags) -> 
         fault,
         ..
     } = progress;
-    let Known { named, groups, .. } = known;
     let Groups { total, names } = groups;
-    match fault {
-        Some((place, kind)) => Err(Error::ParseError(place, kind)),
-        None => Ok(ExprTree {
+    let Some((place, kind)) = fault else {
+        return Ok(ExprTree {
             expr,
             backrefs,
             named_groups: names,
@@ -66,8 +81,12 @@ pub(crate) fn resolve(alloc: Global, raw: Expr, pattern: &str, flags: Flags) -> 
             total_groups: total,
             out_of_range_backref: out_of_range,
             numbered_groups_ignored: named,
-        }),
-    }
+        });
+    };
+    drop(names);
+    drop(backrefs);
+    drop(expr);
+    Err(Error::ParseError(place, kind))
 }
 
 /// Resolves the tree in its place, and answers what was noted on the way.

@@ -226,12 +226,17 @@ impl fmt::Display for Fields<'_> {
     }
 }
 
-/// Writes a line for each node of the tree in preorder, indented by two spaces a level.
-pub(crate) fn write_nodes<O: Write>(out: &mut O, tree: &Expr, level: usize) -> io::Result<()> {
+/// Writes the line of a node, indented by two spaces a level.
+fn write_node<O: Write>(out: &mut O, node: &Expr, level: usize) -> io::Result<()> {
     for _ in 0..level {
         out.write_all(b"  ")?;
     }
-    writeln!(out, "{}{}", node_name(tree), Fields(tree))?;
+    writeln!(out, "{}{}", node_name(node), Fields(node))
+}
+
+/// Writes a line for each node of the tree in preorder, indented by its level.
+pub(crate) fn write_nodes<O: Write>(out: &mut O, tree: &Expr, level: usize) -> io::Result<()> {
+    write_node(out, tree, level)?;
     for child in tree.children_iter() {
         write_nodes(out, child, level.saturating_add(1))?;
     }

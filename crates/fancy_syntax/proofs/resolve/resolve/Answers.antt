@@ -1,12 +1,20 @@
-use Rattle.std.proofs.Common.{arith, chars, length, option_map, ap, sym, ◌∙◌}
+use Rattle.std.proofs.Common.{Result, Ok, Err, IfOk, IfErr, arith, chars, length, ap, sym, subst, ◌∙◌}
 use Rattle.fancy_parts.specs.Groups.{groups_of}
+use Rattle.fancy_grammar.specs.Fails.{IsThatFault}
 use Rattle.fancy_grammar.specs.Items.{items}
-use Rattle.fancy_syntax.specs.Notes.{fault_at}
 use Rattle.fancy_syntax.specs.View.{view}
 use Rattle.fancy_grammar.specs.Walk.{Known, Progress}
 use Rattle.fancy_grammar.proofs.AnswerLaws.{known_suits, marks_noted, law_tree, law_fault, law_marks}
 use Rattle.fancy_grammar.proofs.OrderLaws.{openings_fit}
 use Rattle.fancy_syntax.proofs.resolve.resolve.Goals as goal
+
+on_ok : {X Y : Type 0} {P Q : X → Type 0} (r : Result X Y) → ((x : X) → P x → Q x) → IfOk r P → IfOk r Q
+on_ok (Ok x) f h = f x h
+on_ok (Err e) f h = tt
+
+on_err : {X Y : Type 0} {P Q : Y → Type 0} (r : Result X Y) → ((y : Y) → P y → Q y) → IfErr r P → IfErr r Q
+on_err (Ok x) f h = tt
+on_err (Err e) f h = f e h
 
 pub find_groups-requires : goal.find_groups-requires
 find_groups-requires c =
@@ -16,37 +24,40 @@ pub walk-requires : goal.walk-requires
 walk-requires c =
     omega (arith, openings_fit 0 (length c.args.pattern.now) (items (view c.args.raw)) c.requires)
 
-pub returns-in-Some-clause-fault : goal.returns-in-Some-clause-fault
-returns-in-Some-clause-fault c =
-    let f = c.args.flags in let r = view c.args.raw in let groups = groups_of c.in_ok-named.groups in
-    let k : Known = record { text = chars c.args.pattern.now; named = c.in_ok-named.named; groups = groups } in
-    let found = c.in_ok-named.ensures in
+pub returns-clause-tree : goal.returns-clause-tree
+returns-clause-tree c =
+    let f = c.args.flags in let r = view c.args.raw in let groups = groups_of c.in-Ok.groups in
+    let k : Known = record { text = chars c.args.pattern.now; named = c.in-Ok.named; groups = groups } in
+    let found = rw c.in-Ok.is at c.find_groups.ensures in
     let suits = known_suits f r k (length c.args.pattern.now) found.named found.total found.names c.requires in
-    let walked = c.in_ok-progress.ensures.progress in
-    sym (law_fault f r k suits) ∙ sym (ap (λ (p : Progress). p.fault) walked) ∙ ap (option_map fault_at) c.in-Some.is
+    let walked = rw c.in-Ok-walk.is at c.walk.ensures in
+    on_ok c.answer.result (λ t is. ap view is ∙ walked.tree ∙ law_tree f r k suits) c.answer.ensures.tree
 
-pub returns-in-None-clause-no_fault : goal.returns-in-None-clause-no_fault
-returns-in-None-clause-no_fault c =
-    let f = c.args.flags in let r = view c.args.raw in let groups = groups_of c.in_ok-named.groups in
-    let k : Known = record { text = chars c.args.pattern.now; named = c.in_ok-named.named; groups = groups } in
-    let found = c.in_ok-named.ensures in
+pub returns-clause-marks : goal.returns-clause-marks
+returns-clause-marks c =
+    let f = c.args.flags in let r = view c.args.raw in let groups = groups_of c.in-Ok.groups in
+    let k : Known = record { text = chars c.args.pattern.now; named = c.in-Ok.named; groups = groups } in
+    let found = rw c.in-Ok.is at c.find_groups.ensures in
     let suits = known_suits f r k (length c.args.pattern.now) found.named found.total found.names c.requires in
-    let walked = c.in_ok-progress.ensures.progress in
-    sym (law_fault f r k suits) ∙ sym (ap (λ (p : Progress). p.fault) walked) ∙ ap (option_map fault_at) c.in-None.is
+    let walked = rw c.in-Ok-walk.is at c.walk.ensures in
+    on_ok c.answer.result (λ t are. are ∙ ap (marks_noted k) walked.progress ∙ law_marks f r k suits) c.answer.ensures.marks
 
-pub returns-in-None-clause-tree : goal.returns-in-None-clause-tree
-returns-in-None-clause-tree c =
-    let f = c.args.flags in let r = view c.args.raw in let groups = groups_of c.in_ok-named.groups in
-    let k : Known = record { text = chars c.args.pattern.now; named = c.in_ok-named.named; groups = groups } in
-    let found = c.in_ok-named.ensures in
+pub returns-clause-no_fault : goal.returns-clause-no_fault
+returns-clause-no_fault c =
+    let f = c.args.flags in let r = view c.args.raw in let groups = groups_of c.in-Ok.groups in
+    let k : Known = record { text = chars c.args.pattern.now; named = c.in-Ok.named; groups = groups } in
+    let found = rw c.in-Ok.is at c.find_groups.ensures in
     let suits = known_suits f r k (length c.args.pattern.now) found.named found.total found.names c.requires in
-    c.in_ok-progress.ensures.tree ∙ law_tree f r k suits
+    let walked = rw c.in-Ok-walk.is at c.walk.ensures in
+    on_ok c.answer.result (λ t none. sym (law_fault f r k suits) ∙ sym (ap (λ (p : Progress). p.fault) walked.progress) ∙ none)
+    c.answer.ensures.no_fault
 
-pub returns-in-None-clause-marks : goal.returns-in-None-clause-marks
-returns-in-None-clause-marks c =
-    let f = c.args.flags in let r = view c.args.raw in let groups = groups_of c.in_ok-named.groups in
-    let k : Known = record { text = chars c.args.pattern.now; named = c.in_ok-named.named; groups = groups } in
-    let found = c.in_ok-named.ensures in
+pub returns-clause-fault : goal.returns-clause-fault
+returns-clause-fault c =
+    let f = c.args.flags in let r = view c.args.raw in let groups = groups_of c.in-Ok.groups in
+    let k : Known = record { text = chars c.args.pattern.now; named = c.in-Ok.named; groups = groups } in
+    let found = rw c.in-Ok.is at c.find_groups.ensures in
     let suits = known_suits f r k (length c.args.pattern.now) found.named found.total found.names c.requires in
-    let walked = c.in_ok-progress.ensures.progress in
-    ap (marks_noted k) walked ∙ law_marks f r k suits
+    let walked = rw c.in-Ok-walk.is at c.walk.ensures in
+    on_err c.answer.result (λ e is. subst (IsThatFault e) (ap (λ (p : Progress). p.fault) walked.progress ∙ law_fault f r k suits) is)
+    c.answer.ensures.fault
