@@ -21,7 +21,8 @@ use Rattle.fancy_grammar.specs.Tree.{expression, ast_node, AstTree, ast_conditio
 
 -- ---- what a part comes to behind its last one
 
--- the tree, where the closing parenthesis follows
+-- the tree, where the closing parenthesis follows; the only other character that may stand there is a bar behind the
+-- second branch of an absent expression, since an alternation goes on behind a bar
 abbrev pub closed_at : ℕ → Tree → State → Text → Outcome Tree
 closed_at n r s [] = faulted (group_not_closed n)
 closed_at n r s (c ∷ t) =
@@ -43,7 +44,7 @@ is_condition _ = false
 abbrev pub conditional_of : Tree → Tree → Tree → Tree
 conditional_of c t f = if is_empty t && is_empty f then c else conditional c t f
 
--- the branches of a conditional's body: of an Alt the first, and the choice among the others
+-- the branches of a conditional's body: of an Alt, which has two or more, the first, and the choice among the others
 abbrev pub branches_of : Tree → Tree × Tree
 branches_of (alt (more_trees t ts)) = (t, choice (list_of ts))
 branches_of r = (r, empty)
@@ -72,6 +73,10 @@ behind_atom (leaf o) f q = q
 behind_atom _ f q = restored f q
 
 -- ---- the productions
+
+-- In each of them n is how many bytes the pattern has, and d how many groups are open; s is the state before what is
+-- read, t and v are states behind it, in text order, and u is a text behind it; r, a and c are trees, of which c is a
+-- condition; q is the outcome of a part, and o that of the whole; k and p are the kind and the place of a fault.
 
 mutual
   -- branches with bars between
@@ -104,7 +109,7 @@ mutual
         and_then q (quants n d (bytes s.rest)) ≡ o → Piece n d s o
     layout_fault : {n d p : ℕ} {s : State} → skipped n s ≡ open_comment p → Piece n d s (faulted (comment_not_closed p))
 
-  -- what stands ahead decides which rule of an atom applies
+  -- what stands ahead, k, decides which rule of an atom applies
   pub data Atom : ℕ → ℕ → State → Outcome Tree → Type 0 where
     atom : {n d : ℕ} {s : State} {q o : Outcome Tree} {k : Ahead} → ahead n d s ≡ k → AtomOf k n d s q →
         behind_atom k s.flags q ≡ o → Atom n d s o
@@ -145,7 +150,7 @@ mutual
 abbrev pub start : Flags → Text → State
 start f text = record { flags = f; rest = text }
 
--- the tree, where nothing is left over
+-- the tree, where nothing is left over; what is left can only begin with a closing parenthesis
 abbrev pub ended_at : ℕ → Tree → State → Text → Outcome Tree
 ended_at n r s [] = done r s
 ended_at n r s (c ∷ t) = faulted (close_paren_left_over n s.rest)

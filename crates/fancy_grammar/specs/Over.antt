@@ -59,6 +59,6 @@ abbrev mutual
 abbrev pub is_too_deep : Paren → Bool
 is_too_deep q = q.round + 1 == max_depth
 
--- the place of the first group that is too deep
+-- the place of the first group that is too deep; 0 where none is
 abbrev pub over : Tree → ℕ → ℕ
 over t p = unwrap_or (option_map (λ q. q.place) (find is_too_deep (parens t p 0 0))) 0

@@ -20,7 +20,7 @@ node_of (number n) (ast_call t) place = subroutine_call n
 node_of (number n) (ast_condition t level) place = backref_exists n level
 node_of _ node place = ast_node node place
 
--- the node of a reference behind the openings of c groups, where each name has these numbers
+-- the node of a reference behind the openings of c groups, where each name has these numbers; a group is none, and stays
 abbrev pub resolved_node : (Text → List ℕ) → ℕ → AstTree → ℕ → Tree
 resolved_node numbers_of c (ast_backref t casei level) place =
     node_of (means numbers_of c back_reference t) (ast_backref t casei level) place
