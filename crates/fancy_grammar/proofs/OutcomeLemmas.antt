@@ -6,11 +6,11 @@ use Rattle.fancy_lex.specs.declared.error.Error.{Error}
 use Rattle.fancy_lex.specs.declared.error.Error.TheVariants.{ParseError, OutOfMemory}
 use Rattle.fancy_lex.specs.Characters.{bar}
 use Rattle.fancy_lex.specs.declared.flags.Flags.{Flags}
-use Rattle.fancy_grammar.specs.Ahead.{Ahead, nothing, leaf, opens, condition, body, absent_branch, ends}
+use Rattle.fancy_grammar.specs.Ahead.{Ahead, nothing, leaf, opens, condition, body, absent_branch}
 use Rattle.fancy_grammar.specs.Grammar.{before, restored, behind_atom, Branch, Branches, more, Piece, Pieces, next}
 use Rattle.fancy_grammar.specs.Join.{is_empty, solid}
 use Rattle.fancy_grammar.specs.Fails.{Fails, IsFaultAt}
-use Rattle.fancy_grammar.specs.State.{State, at, Outcome, done, fault, and_then}
+use Rattle.fancy_grammar.specs.State.{ends, State, at, Outcome, done, fault, and_then}
 use Rattle.fancy_grammar.specs.Tree.{Tree}
 
 -- the same tree with other flags

@@ -34,7 +34,8 @@ use Rattle.fancy_parts.specs.FlagLetters.{Letters, letters, setting, scope as sc
 use Rattle.fancy_parts.specs.Quantifier.{counts}
 use Rattle.fancy_parts.specs.declared.counts.Counts.{Counts}
 use Rattle.fancy_grammar.proofs.OutcomeLemmas.{behind_keeps}
-use Rattle.fancy_grammar.specs.Ahead.{Ahead, nothing, leaf, opens, condition, body, absent_branch, ahead, ahead_of, behind_layout, head_ahead, question_ahead, python_ahead, less_ahead, absent_ahead, conditional_ahead, condition_ahead, flags_ahead, leaf_node, leaf_outcome, leaf_of, is_before_nothing, max_depth, skipped, named_ahead, target_ahead, backref_node, call_node}
+use Rattle.fancy_grammar.specs.Ahead.{Ahead, nothing, leaf, opens, condition, body, absent_branch, ahead, ahead_of, behind_layout, head_ahead, question_ahead, python_ahead, less_ahead, absent_ahead, conditional_ahead, condition_ahead, flags_ahead, leaf_node, leaf_outcome, leaf_of, is_before_nothing, named_ahead, target_ahead, backref_node, call_node}
+use Rattle.fancy_grammar.specs.Depth.{max_depth}
 use Rattle.fancy_grammar.specs.Grammar.{Alternation, alternation, Branches, last, more, branch_fault, Branch, branch, Pieces, stop, next, piece_fault, Piece, piece, layout_fault, Atom, atom, AtomOf, a_nothing, a_leaf, a_group, a_condition, condition_fault, a_body, two_branches, one_branch, absent_fault, Inside, inside, Body, the_body, Whole, whole, start, closed, closed_at, ended, ended_at, branches_of, conditional_of, conditional_behind, is_condition, alone}
 use Rattle.fancy_grammar.specs.Head.{Head, capture, scope, look, atomic, define, repeater, node_of}
 use Rattle.fancy_grammar.specs.Join.{join, choice, solid, is_empty, one_or}
@@ -43,7 +44,7 @@ use Rattle.fancy_grammar.specs.Items.{Item, opening, reference, items, items_all
 use Rattle.fancy_grammar.specs.Quantified.{quants, adjacent, max_adjacent, is_unmoved, quant, quant_at, counted, suffix, suffix_at, behind_lazy, may_be_possessive, is_swapped, quantified, is_repeatable, is_dropped}
 use Rattle.fancy_grammar.specs.Ordered.{Ascends, place_of_item}
 use Rattle.fancy_grammar.specs.Slices.{Slice, Span, Within, MayStand, items_of}
-use Rattle.fancy_grammar.specs.State.{State, at, Outcome, done, fault, and_then}
+use Rattle.fancy_grammar.specs.State.{skipped, State, at, Outcome, done, fault, and_then}
 use Rattle.fancy_grammar.specs.Tree.{Tree, Trees, no_trees, more_trees, empty, concat, alt, delegate, absent, expression, trees_of, list_of}
 use Rattle.fancy_grammar.specs.Verb.{verb_at}
 use Rattle.fancy_grammar.specs.declared.kinds.BacktrackingControlVerb.{BacktrackingControlVerb}

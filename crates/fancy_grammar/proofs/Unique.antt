@@ -4,11 +4,11 @@ use Rattle.fancy_lex.specs.Fault.{Kind}
 use Rattle.fancy_lex.specs.Text.{Text, bytes, place_of}
 use Rattle.fancy_lex.specs.declared.flags.Flags.{Flags}
 use Rattle.fancy_lex.specs.Layout.{rest, fault as open_comment}
-use Rattle.fancy_grammar.specs.Ahead.{Ahead, skipped}
+use Rattle.fancy_grammar.specs.Ahead.{Ahead}
 use Rattle.fancy_grammar.specs.Grammar.{Alternation, alternation, Branches, last, more, branch_fault, Branch, branch, Pieces, stop, next, piece_fault, Piece, piece, layout_fault, Atom, atom, AtomOf, a_nothing, a_leaf, a_group, a_condition, condition_fault, a_body, two_branches, one_branch, absent_fault, Inside, inside, Body, the_body, Whole, whole, closed, conditional_behind, alone}
 use Rattle.fancy_grammar.specs.Head.{node_of}
 use Rattle.fancy_grammar.specs.Quantified.{quants}
-use Rattle.fancy_grammar.specs.State.{State, at, Outcome, done, fault, and_then, seen_through}
+use Rattle.fancy_grammar.specs.State.{skipped, State, at, Outcome, done, fault, and_then, seen_through}
 use Rattle.fancy_grammar.specs.Tree.{Tree, absent, expression}
 
 -- ---- what one outcome says of another

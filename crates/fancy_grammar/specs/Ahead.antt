@@ -8,7 +8,7 @@ use Rattle.fancy_lex.specs.Escaped as escaped
 use Rattle.fancy_lex.specs.Escaped.{Escape}
 use Rattle.fancy_lex.specs.Fault.{Fault}
 use Rattle.fancy_lex.specs.FaultTable.{comment_not_closed, group_too_deep, group_not_closed, unknown_verb}
-use Rattle.fancy_lex.specs.Layout.{layout, Skipped, rest, fault as open_comment}
+use Rattle.fancy_lex.specs.Layout.{Skipped, rest, fault as open_comment}
 use Rattle.fancy_lex.specs.Reading.{Reading, gives, fails, choose}
 use Rattle.fancy_lex.specs.Referred.{Reference, Call}
 use Rattle.fancy_lex.specs.Text.{Text, place_of, strip_word}
@@ -19,26 +19,14 @@ use Rattle.fancy_lex.specs.declared.flags.Flags.{Flags}
 use Rattle.fancy_parts.specs.FlagLetters.{Letters, letters, setting, scope as scoped}
 use Rattle.fancy_parts.specs.GroupName.{group_name}
 use Rattle.fancy_parts.specs.HeadReference.{named_reference, named_call, begins_target, condition_target}
+use Rattle.fancy_grammar.specs.Depth.{max_depth}
 use Rattle.fancy_grammar.specs.Head.{Head, capture, scope, look, atomic, define, repeater}
-use Rattle.fancy_grammar.specs.State.{State, at, Outcome, done, faulted}
+use Rattle.fancy_grammar.specs.State.{State, at, skipped, Outcome, done, faulted}
 use Rattle.fancy_grammar.specs.Tree.{Tree, empty, any, assertion, general_newline, literal, literal_bytes, delegate}
 use Rattle.fancy_grammar.specs.Tree.{keep_out, continue_from_previous_match_end, verb, ast_node, ast_backref, ast_call}
 use Rattle.fancy_grammar.specs.Tree.{ast_condition}
 use Rattle.fancy_grammar.specs.Verb.{verb_at}
 use Rattle.fancy_grammar.specs.declared.kinds.LookAround.TheVariants.{LookAhead, LookAheadNeg, LookBehind, LookBehindNeg}
-
--- groups nest less deep than this
-abbrev pub max_depth : ℕ
-max_depth = 64
-
--- the layout at the front of the state's text
-abbrev pub skipped : ℕ → State → Skipped
-skipped n s = layout n s.flags.ignore_space s.rest
-
--- a branch ends here: at the end, a bar or a closing parenthesis
-abbrev pub ends : Text → Bool
-ends [] = true
-ends (c ∷ t) = c ∈ "|)"
 
 -- what stands before an atom decides its rule
 pub data Ahead : Type 0 where

@@ -11,11 +11,11 @@ use Rattle.fancy_lex.specs.FaultTable.{body_wanting}
 use Rattle.fancy_lex.specs.Layout.{rest, fault as open_comment}
 use Rattle.fancy_lex.specs.Text.{Text, bytes, place_of, strip}
 use Rattle.fancy_lex.specs.declared.flags.Flags.{Flags}
-use Rattle.fancy_grammar.specs.Ahead.{Ahead, nothing, leaf, opens, condition, body, absent_branch, ahead, ends, skipped}
+use Rattle.fancy_grammar.specs.Ahead.{Ahead, nothing, leaf, opens, condition, body, absent_branch, ahead}
 use Rattle.fancy_grammar.specs.Head.{Head, node_of}
 use Rattle.fancy_grammar.specs.Join.{join, choice, is_empty}
 use Rattle.fancy_grammar.specs.Quantified.{quants}
-use Rattle.fancy_grammar.specs.State.{State, at, Outcome, done, fault, faulted, and_then, seen_through}
+use Rattle.fancy_grammar.specs.State.{ends, skipped, State, at, Outcome, done, fault, faulted, and_then, seen_through}
 use Rattle.fancy_grammar.specs.Tree.{Tree, more_trees, list_of, empty, alt, conditional, absent, clear, stopper}
 use Rattle.fancy_grammar.specs.Tree.{expression, ast_node, AstTree, ast_condition}
 

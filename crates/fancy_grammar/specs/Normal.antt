@@ -15,23 +15,23 @@ use Rattle.fancy_grammar.specs.Tree.{group, repeat, delegate, define_group}
 
 -- ---- the flags that a printed text is read under
 
--- Unicode or not, and the flags that a printed group sets: under these nothing is layout and no quantifier is swapped
-abbrev pub under : Bool → Bool → Bool → Bool → Bool → Flags
-under unicode casei multi dotnl crlf = record {
-  casei = casei;
-  multi = multi;
-  dotnl = dotnl;
+-- no flag, or UNICODE alone
+abbrev pub bare : Bool → Flags
+bare unicode = record {
+  casei = false;
+  multi = false;
+  dotnl = false;
   swap_greed = false;
   ignore_space = false;
   unicode = unicode;
-  crlf = crlf;
+  crlf = false;
   oniguruma_mode = false;
   ignore_numbered_groups = false;
 }
 
--- no flag, or UNICODE alone
-abbrev pub bare : Bool → Flags
-bare unicode = under unicode false false false false
+-- these, and CASEI where that is asked
+abbrev pub case_flags : Bool → Bool → Flags
+case_flags unicode casei = record (bare unicode) { casei = casei }
 
 -- ---- the text of a Delegate, read again
 
@@ -65,7 +65,7 @@ abbrev mutual
   normal u (any newline crlf) = any newline (not newline && crlf)
   normal u (assertion (StartLineOniguruma crlf)) = assertion (StartLine crlf)
   normal u (literal s casei) = join (map (character casei) s)
-  normal u (delegate s casei) = unwrap_or (class_of (under u casei false false false) s) (delegate s casei)
+  normal u (delegate s casei) = unwrap_or (class_of (case_flags u casei) s) (delegate s casei)
   normal u (concat ts) = join (items u ts)
   normal u (alt ts) = choice (normals u ts)
   normal u (group t) = group (normal u t)

@@ -2,7 +2,7 @@
 use Rattle.std.specs.Prelude.{ℕ, ◌+◌, ◌==◌, Bool, true, false, ◌||◌, nat_lt, List, [], ◌∷◌, ◌++◌, codes, find}
 use Rattle.std.specs.Prelude.{option_map, unwrap_or}
 use Rattle.fancy_lex.specs.Text.{Text, bytes}
-use Rattle.fancy_grammar.specs.Ahead.{max_depth}
+use Rattle.fancy_grammar.specs.Depth.{max_depth}
 use Rattle.fancy_grammar.specs.Printed.{is_long, printed}
 use Rattle.fancy_grammar.specs.Tree.{Tree, Trees, no_trees, more_trees, any, assertion, literal, concat, alt, group}
 use Rattle.fancy_grammar.specs.Tree.{repeat, delegate}

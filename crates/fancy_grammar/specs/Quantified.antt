@@ -9,9 +9,9 @@ use Rattle.fancy_lex.specs.Text.{Text, bytes, strip}
 use Rattle.fancy_lex.specs.declared.flags.Flags.{Flags}
 use Rattle.fancy_parts.specs.Quantifier.{counts}
 use Rattle.fancy_parts.specs.declared.counts.Counts.{Counts}
-use Rattle.fancy_grammar.specs.Ahead.{max_depth, skipped}
+use Rattle.fancy_grammar.specs.Depth.{max_depth}
 use Rattle.fancy_grammar.specs.Join.{is_empty}
-use Rattle.fancy_grammar.specs.State.{State, at, Outcome, done, faulted, and_then, seen_through}
+use Rattle.fancy_grammar.specs.State.{skipped, State, at, Outcome, done, faulted, and_then, seen_through}
 use Rattle.fancy_grammar.specs.Tree.{Tree, empty, assertion, look_around, keep_out, continue_from_previous_match_end}
 use Rattle.fancy_grammar.specs.Tree.{verb, repeat, atomic_group}
 

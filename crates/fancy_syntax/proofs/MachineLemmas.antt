@@ -11,7 +11,6 @@ use Rattle.fancy_lex.specs.declared.error.Error.{Error}
 use Rattle.fancy_lex.specs.declared.flags.Flags.{Flags}
 use Rattle.fancy_lex.specs.declared.error.Error.TheVariants.{ParseError}
 use Rattle.fancy_lex.specs.declared.error.ParseError.TheVariants.{UnclosedOpenParen}
-use Rattle.fancy_grammar.specs.Ahead.{ends, skipped}
 use Rattle.fancy_grammar.specs.Grammar.{Alternation, alternation, Branches, last, branch_fault, Branch, branch, stop, piece_fault, Piece, piece, layout_fault, Atom, atom, inside, the_body, condition_fault, two_branches, one_branch, absent_fault, closed, closed_at, restored, conditional_behind, conditional_of, branches_of}
 use Rattle.fancy_grammar.specs.Grammar as grammar
 use Rattle.fancy_grammar.specs.Join.{solid, one_or, choice}
@@ -21,7 +20,7 @@ use Rattle.fancy_grammar.specs.Head.{node_of}
 use Rattle.fancy_grammar.specs.Quantified.{quants}
 use Rattle.fancy_grammar.specs.Fails.{Fails}
 use Rattle.fancy_syntax.specs.Row.{trees}
-use Rattle.fancy_grammar.specs.State.{State, at, Outcome, done, fault, faulted, and_then, seen_through}
+use Rattle.fancy_grammar.specs.State.{ends, skipped, State, at, Outcome, done, fault, faulted, and_then, seen_through}
 use Rattle.fancy_grammar.specs.Tree.{Tree, concat, absent, expression}
 use Rattle.fancy_syntax.specs.declared.grammar.frame.Frame.{Frame}
 use Rattle.fancy_syntax.specs.declared.grammar.step.Step.{Step}

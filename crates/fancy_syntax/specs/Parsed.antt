@@ -2,7 +2,8 @@
 use Rattle.std.specs.Prelude.{◌≡◌, ℕ, ◌+◌, ◌<◌, List, option_map, chars, length, Result, MatchResult, ⊤}
 use Rattle.std.specs.Borrow.{Bor}
 use Rattle.fancy_lex.specs.declared.error.Error.{Error}
-use Rattle.fancy_grammar.specs.Ahead.{Ahead, nothing, leaf, opens, condition, body, absent_branch, max_depth}
+use Rattle.fancy_grammar.specs.Ahead.{Ahead, nothing, leaf, opens, condition, body, absent_branch}
+use Rattle.fancy_grammar.specs.Depth.{max_depth}
 use Rattle.fancy_lex.specs.Layout.{Skipped, rest, fault as open_comment}
 use Rattle.fancy_lex.specs.declared.error.Error.TheVariants.{ParseError}
 use Rattle.fancy_lex.specs.declared.error.ParseError.TheVariants.{UnclosedOpenParen}

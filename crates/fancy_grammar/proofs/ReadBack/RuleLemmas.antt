@@ -16,8 +16,9 @@ use Rattle.fancy_parts.specs.Quote.{behind_backslash}
 use Rattle.fancy_parts.specs.Ranks.{Opening}
 use Rattle.fancy_parts.specs.declared.counts.Counts.{Counts}
 use Rattle.fancy_parts.proofs.FlagLemmas.{letters_start, in_end, in_go}
-use Rattle.fancy_grammar.specs.Ahead as before_atom
-use Rattle.fancy_grammar.specs.Ahead.{Ahead, leaf, opens, ahead, skipped, max_depth, is_before_nothing, flags_ahead, question_ahead, head_ahead, behind_layout, leaf_of, leaf_node, leaf_outcome}
+use Rattle.fancy_grammar.specs.State as states
+use Rattle.fancy_grammar.specs.Ahead.{Ahead, leaf, opens, ahead, is_before_nothing, flags_ahead, question_ahead, head_ahead, behind_layout, leaf_of, leaf_node, leaf_outcome}
+use Rattle.fancy_grammar.specs.Depth.{max_depth}
 use Rattle.fancy_grammar.specs.Grammar.{Alternation, alternation, Branches, last, more, branch_fault, Branch, branch, Pieces, stop, next, piece_fault, Piece, piece, Atom, atom, a_leaf, a_group, inside, Derives, Faults, whole}
 use Rattle.fancy_grammar.specs.Head.{Head, capture, scope}
 use Rattle.fancy_grammar.specs.Items.{Item, opening, reference, items, items_all}
@@ -26,11 +27,11 @@ use Rattle.fancy_grammar.specs.Grammar.{before}
 use Rattle.fancy_grammar.specs.Quantified as quantified
 use Rattle.fancy_grammar.specs.Quantified.{is_repeatable, is_swapped, may_be_possessive, quant, quant_at, quants, adjacent, max_adjacent, behind_lazy, suffix, suffix_at}
 use Rattle.fancy_grammar.specs.Resolved.{resolved_in, resolved_all}
-use Rattle.fancy_grammar.specs.State.{State, Outcome, done, fault, and_then, seen_through}
+use Rattle.fancy_grammar.specs.State.{skipped, State, Outcome, done, fault, and_then, seen_through}
 use Rattle.fancy_grammar.specs.Tree as tree
 use Rattle.fancy_grammar.specs.Tree.{Tree, empty, any, assertion, literal, concat, alt, repeat, trees_of, ast_node, ast_group, ast_backref, ast_call, ast_condition}
 use Rattle.fancy_grammar.proofs.OutcomeLemmas.{before-nil, solid-append}
-use Rattle.fancy_grammar.specs.Normal.{under}
+use Rattle.fancy_grammar.specs.Normal.{bare, case_flags}
 use Rattle.fancy_grammar.proofs.ReadBack.InFront.{put_as}
 use Rattle.fancy_grammar.proofs.ReadBack.ClearLemmas.{Clear, no_layout, clear_counts, clear_lazy, clear_star, clear_plus, Stops, Ends, behind_none, behind_some}
 use Rattle.fancy_grammar.proofs.ReadBack.CountTexts.{IsQuantifier, lazy}
@@ -44,8 +45,11 @@ pub record Kept (f : Flags) : Type 0 where
   pub not_swapped : f.swap_greed ≡ false
   pub not_oniguruma : f.oniguruma_mode ≡ false
 
-pub kept : (u i m s r : Bool) → Kept (under u i m s r)
-kept u i m s r = record { no_space = refl; not_swapped = refl; not_oniguruma = refl }
+pub kept_bare : (u : Bool) → Kept (bare u)
+kept_bare u = record { no_space = refl; not_swapped = refl; not_oniguruma = refl }
+
+pub kept_case : (u i : Bool) → Kept (case_flags u i)
+kept_case u i = record { no_space = refl; not_swapped = refl; not_oniguruma = refl }
 
 -- ---- trees that hold groups without a name, and no reference
 
@@ -213,7 +217,7 @@ run_chain {n} {d} {f} {s} p q = record {
 }
 
 run_piece : {n d : ℕ} {f : Flags} {s v : Text} (r x : Tree) → Piece n d (st f s) (done r (st f v)) →
-    before_atom.ends s ≡ false → Becomes r x → Run n d f s v (solid (x ∷ []))
+    states.ends s ≡ false → Becomes r x → Run n d f s v (solid (x ∷ []))
 run_piece r x p e b = record {
   trees = r ∷ [];
   pieces = λ q m. next e p m refl;
@@ -240,7 +244,7 @@ quant_none n left f a v k c =
     ∙ ap (quantified.counted n left a (st f v)) (clear_counts f.ignore_space v c)
 
 -- an atom that no quantifier follows
-pub reads_piece : (n d : ℕ) (f : Flags) (s v : Text) (x : Tree) → Kept f → before_atom.ends s ≡ false →
+pub reads_piece : (n d : ℕ) (f : Flags) (s v : Text) (x : Tree) → Kept f → states.ends s ≡ false →
     after_comment_head s ≡ None → Clear v → AtomAs n d f s v x → Run n d f s v (solid (x ∷ []))
 reads_piece n d f s v x k e o c a =
     run_piece a.tree x
@@ -292,7 +296,7 @@ quant_some n left f a q v lo hi greedy k c m r =
 
 -- an atom under a quantifier
 pub reads_repeat : (n d : ℕ) (f : Flags) (s q v : Text) (x : Tree) (lo hi : ℕ) (greedy : Bool) → Kept f →
-    before_atom.ends s ≡ false → after_comment_head s ≡ None → Clear v → IsQuantifier lo hi greedy v q →
+    states.ends s ≡ false → after_comment_head s ≡ None → Clear v → IsQuantifier lo hi greedy v q →
     is_repeatable f x ≡ true → AtomAs n d f s q x → Run n d f s v (repeat x lo hi greedy ∷ [])
 reads_repeat n d f s q v x lo hi greedy k e o c m r a =
     let b = a.becomes in
@@ -464,14 +468,14 @@ two_letters n f g h b c s k m p z o q e r =
 
 -- `(?i:`
 pub reads_caseless : (n d : ℕ) (u : Bool) (s v : Text) (x : Tree) → d + 1 < 64 →
-    WholeAs n (d + 1) (under u true false false false) s (41 ∷ v) x →
-    AtomAs n d (under u false false false false) (40 ∷ 63 ∷ 105 ∷ 58 ∷ s) v x
+    WholeAs n (d + 1) (case_flags u true) s (41 ∷ v) x →
+    AtomAs n d (bare u) (40 ∷ 63 ∷ 105 ∷ 58 ∷ s) v x
 reads_caseless n d u s v x l w =
-    let f = under u false false false false in
-    let g = under u true false false false in
+    let f = bare u in
+    let g = case_flags u true in
     reads_scope n d f g (40 ∷ 63 ∷ 105 ∷ 58 ∷ s) s v x
-    (scope_at n d f g (105 ∷ 58 ∷ s) s (kept u false false false false) l refl refl
-    (one_letter n f g 105 s (kept u false false false false) (kept u true false false false) refl refl)) w
+    (scope_at n d f g (105 ∷ 58 ∷ s) s (kept_bare u) l refl refl
+    (one_letter n f g 105 s (kept_bare u) (kept_case u true) refl refl)) w
 
 -- ---- leaves
 
@@ -535,7 +539,7 @@ module _ (n d : ℕ) (f : Flags) (k : Kind) (p : ℕ) where
       Atom n d (st f (40 ∷ 63 ∷ 58 ∷ s)) (fault k p)
   fails_grouped s h l w = fails_head f scope (40 ∷ 63 ∷ 58 ∷ s) s (grouped_at n d f s h l) w
 
-  pub fails_piece : (s : Text) → Kept f → before_atom.ends s ≡ false → after_comment_head s ≡ None →
+  pub fails_piece : (s : Text) → Kept f → states.ends s ≡ false → after_comment_head s ≡ None →
       Atom n d (st f s) (fault k p) → Pieces n d (st f s) (fault k p)
   fails_piece s h e o a = piece_fault e (piece (skip_here n f s h o) a refl)
 

@@ -2,7 +2,8 @@
 ghost use Rattle.std.specs.Prelude.{◌≡◌, ℕ, ◌+◌, ◌<◌, ◌≤◌, ◌^◌, false, length, chars, IfOk, MatchResult, None};
 ghost use Rattle.fancy_lex.specs.Characters.{bar};
 ghost use Rattle.fancy_lex.specs.Text.{bytes, strip};
-ghost use Rattle.fancy_grammar.specs.Ahead.{ends};
+ghost use Rattle.fancy_grammar.specs.State.{ends};
+ghost use Rattle.fancy_grammar.specs.Depth.{max_depth};
 ghost use Rattle.fancy_grammar.specs.Grammar as spec;
 ghost use Rattle.fancy_syntax.specs.Machine as machine;
 ghost use Rattle.fancy_syntax.specs.Machine.{Opens, OpensBelow, Part, StepsOn, GivesPiece, ended_part, open_of};
@@ -44,7 +45,7 @@ pub(crate) fn read_step<'a>(
 ) -> Result<Step<'a>, Error>
     requires within { length here.old.rest.now ≤ end }
     requires end { end < 2 ^ 63 }
-    requires depth { depth < 64 }
+    requires depth { depth < max_depth }
     requires more { ends (chars here.old.rest.now) ≡ false }
     ensures value { StepsOn result end depth (state here.old) (state here.new) }
     ensures shorter { IfOk result (λ _. length here.new.rest.now < length here.old.rest.now) }
@@ -91,7 +92,7 @@ fn piece<'a>(
 ) -> Result<Step<'a>, Error>
     requires within { length here.old.rest.now ≤ end }
     requires end { end < 2 ^ 63 }
-    requires depth { depth < 64 }
+    requires depth { depth < max_depth }
     ensures value { GivesPiece result (quants end depth left (view atom) (state here.old)) (state here.new) }
     ensures within { length here.new.rest.now ≤ length here.old.rest.now }
 {
@@ -119,7 +120,7 @@ pub(crate) fn close<'a>(
 ) -> Result<Step<'a>, Error>
     requires within { length here.old.rest.now ≤ end }
     requires end { end < 2 ^ 63 }
-    requires depth { depth < 64 }
+    requires depth { depth < max_depth }
     requires last { strip bar (chars here.old.rest.now) ≡ None }
     ensures value { (s t : states.State) → left ≡ bytes s.rest → flags ≡ s.flags →
         Opens end depth s (open_of opener.entry) t → Part (open_of opener.entry) end (depth + 1) t (states.done (view inner) (state here.old)) →
