@@ -16,7 +16,7 @@ use Rattle.fancy_grammar.specs.Ahead.{Ahead, nothing, leaf, ahead, ahead_of, beh
 use Rattle.fancy_grammar.specs.Depth.{max_depth, max_levels}
 use Rattle.fancy_grammar.specs.Answer.{IsTreeOf}
 use Rattle.fancy_grammar.specs.Answered.{IsSmall}
-use Rattle.fancy_grammar.specs.Grammar.{Alternation, alternation, Branches, last, more, branch_fault, Branch, branch, Pieces, stop, next, piece_fault, Piece, piece, layout_fault, Atom, atom, AtomOf, a_nothing, a_leaf, a_group, a_condition, condition_fault, a_body, two_branches, one_branch, absent_fault, Inside, inside, Body, the_body, Whole, whole, start, closed, closed_at, ended, ended_at, branches_of, conditional_of, is_condition, alone}
+use Rattle.fancy_grammar.specs.Grammar.{Alternation, alternation, Branches, last, more, branch_fault, Branch, branch, Pieces, stop, next, piece_fault, Piece, piece, layout_fault, Atom, atom, AtomOf, a_nothing, a_leaf, a_group, a_condition, condition_fault, a_body, two_branches, one_branch, absent_fault, Inside, inside, Body, the_body, Whole, whole, start, closed, closed_at, ended, ended_at, branches_of, conditional_of, is_condition, clear_or_stopper}
 use Rattle.fancy_grammar.specs.Head.{Head, capture, scope, look, atomic, define, repeater, node_of}
 use Rattle.fancy_grammar.specs.Items.{openings}
 use Rattle.fancy_grammar.specs.Join.{join, choice, solid, is_empty, one_or}
@@ -148,8 +148,8 @@ node_over atomic p t = (omega arith, omega arith)
 node_over define p t = (omega arith, omega arith)
 node_over repeater p t = (omega arith, omega arith)
 
-alone_over : (a : Tree) → IsNodeOver a (alone a)
-alone_over a =
+clear_or_stopper_over : (a : Tree) → IsNodeOver a (clear_or_stopper a)
+clear_or_stopper_over a =
     cond_both (is_empty a) _ _ (IsNodeOver a) (λ _. (omega arith, omega arith)) (λ _. (omega arith, omega arith))
 
 -- ---- outcomes
@@ -377,9 +377,9 @@ mutual
       let both = length-append (preorder a) (preorder y) in
       (omega (arith, h.1, first.0, past, i.0, k, both), omega (arith, first.1, i.1))))
   of_fits (one_branch {n} {d} {s} {v} {a} x e f) l h r b =
-      let first = branch_fits x b in let over = alone_over a in
-      subst (Holds (Fits 820 d s)) f (closed_holds (Fits 820 d s) n (alone a) v (λ z k.
-      (omega (arith, weight_most (alone a), over.0, h.1, first.0, k), omega (arith, over.1, first.1))))
+      let first = branch_fits x b in let over = clear_or_stopper_over a in
+      subst (Holds (Fits 820 d s)) f (closed_holds (Fits 820 d s) n (clear_or_stopper a) v (λ z k.
+      (omega (arith, weight_most (clear_or_stopper a), over.0, h.1, first.0, k), omega (arith, over.1, first.1))))
   of_fits (absent_fault x) l h r b = tt
 
   inside_fits : {n d : ℕ} {s : State} {o : Outcome Tree} → Inside n d s o → d + 1 < max_depth → Holds (InsideFits d s) o

@@ -20,7 +20,7 @@ use Rattle.fancy_parts.specs.Quantifier.{counts}
 use Rattle.fancy_parts.specs.declared.counts.Counts.{Counts}
 use Rattle.fancy_grammar.specs.Ahead.{Ahead, leaf, body, ahead, ahead_of, behind_layout, head_ahead, question_ahead, python_ahead, less_ahead, absent_ahead, conditional_ahead, condition_ahead, flags_ahead, named_ahead, target_ahead, backref_node, call_node, leaf_node, leaf_outcome, leaf_of, is_before_nothing}
 use Rattle.fancy_grammar.specs.Depth.{max_depth}
-use Rattle.fancy_grammar.specs.Grammar.{Alternation, alternation, Branches, last, more, branch_fault, Branch, branch, Pieces, stop, next, piece_fault, Piece, piece, layout_fault, Atom, atom, AtomOf, a_nothing, a_leaf, a_group, a_condition, condition_fault, a_body, two_branches, one_branch, absent_fault, Inside, inside, Body, the_body, Whole, whole, closed, closed_at, ended, ended_at, branches_of, conditional_of, conditional_behind, is_condition, alone}
+use Rattle.fancy_grammar.specs.Grammar.{Alternation, alternation, Branches, last, more, branch_fault, Branch, branch, Pieces, stop, next, piece_fault, Piece, piece, layout_fault, Atom, atom, AtomOf, a_nothing, a_leaf, a_group, a_condition, condition_fault, a_body, two_branches, one_branch, absent_fault, Inside, inside, Body, the_body, Whole, whole, closed, closed_at, ended, ended_at, branches_of, conditional_of, conditional_behind, is_condition, clear_or_stopper}
 use Rattle.fancy_grammar.specs.Head.{Head, capture, scope, look, atomic, define, repeater, node_of}
 use Rattle.fancy_grammar.specs.Join.{join, choice, solid, is_empty, one_or}
 use Rattle.fancy_grammar.specs.Preorder.{preorder, preorder_all}
@@ -299,8 +299,8 @@ branches_read (alt (more_trees t ts)) h =
     let each = each_read (more_trees t ts) h.1 in (each.0, choice_read (list_of ts) each.1)
 branches_read r h = (h, (tt, tt))
 
-alone_read : (a : Tree) → IsRead a → IsRead (alone a)
-alone_read a h = cond_both (is_empty a) _ _ IsRead (λ _. (tt, tt)) (λ _. (tt, h))
+clear_or_stopper_read : (a : Tree) → IsRead a → IsRead (clear_or_stopper a)
+clear_or_stopper_read a h = cond_both (is_empty a) _ _ IsRead (λ _. (tt, tt)) (λ _. (tt, h))
 
 behind_body_read : (n left : ℕ) (c r : Tree) (s : State) → IsRead c → IsRead r → Makes IsRead (conditional_behind n c left r s)
 behind_body_read n left c r s h i =
@@ -351,7 +351,7 @@ mutual
       let first = branch_read b in
       then_makes IsRead IsRead q _ (branch_read m) f
       (λ r w x. closed_read n (absent (expression a r)) w (tt, both_read (preorder a) (preorder r) first x))
-  of_read (one_branch {n} {v} {a} b e f) h = subst (Makes IsRead) f (closed_read n (alone a) v (alone_read a (branch_read b)))
+  of_read (one_branch {n} {v} {a} b e f) h = subst (Makes IsRead) f (closed_read n (clear_or_stopper a) v (clear_or_stopper_read a (branch_read b)))
   of_read (absent_fault b) h = tt
 
   inside_read : {n d : ℕ} {s : State} {o : Outcome Tree} → Inside n d s o → Makes IsRead o

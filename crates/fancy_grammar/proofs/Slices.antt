@@ -36,7 +36,7 @@ use Rattle.fancy_parts.specs.declared.counts.Counts.{Counts}
 use Rattle.fancy_grammar.proofs.OutcomeLemmas.{behind_keeps}
 use Rattle.fancy_grammar.specs.Ahead.{Ahead, nothing, leaf, opens, condition, body, absent_branch, ahead, ahead_of, behind_layout, head_ahead, question_ahead, python_ahead, less_ahead, absent_ahead, conditional_ahead, condition_ahead, flags_ahead, leaf_node, leaf_outcome, leaf_of, is_before_nothing, named_ahead, target_ahead, backref_node, call_node}
 use Rattle.fancy_grammar.specs.Depth.{max_depth}
-use Rattle.fancy_grammar.specs.Grammar.{Alternation, alternation, Branches, last, more, branch_fault, Branch, branch, Pieces, stop, next, piece_fault, Piece, piece, layout_fault, Atom, atom, AtomOf, a_nothing, a_leaf, a_group, a_condition, condition_fault, a_body, two_branches, one_branch, absent_fault, Inside, inside, Body, the_body, Whole, whole, start, closed, closed_at, ended, ended_at, branches_of, conditional_of, conditional_behind, is_condition, alone}
+use Rattle.fancy_grammar.specs.Grammar.{Alternation, alternation, Branches, last, more, branch_fault, Branch, branch, Pieces, stop, next, piece_fault, Piece, piece, layout_fault, Atom, atom, AtomOf, a_nothing, a_leaf, a_group, a_condition, condition_fault, a_body, two_branches, one_branch, absent_fault, Inside, inside, Body, the_body, Whole, whole, start, closed, closed_at, ended, ended_at, branches_of, conditional_of, conditional_behind, is_condition, clear_or_stopper}
 use Rattle.fancy_grammar.specs.Head.{Head, capture, scope, look, atomic, define, repeater, node_of}
 use Rattle.fancy_grammar.specs.Join.{join, choice, solid, is_empty, one_or}
 use Rattle.fancy_parts.specs.Meaning.{Reference}
@@ -550,8 +550,8 @@ items_branches : (r : Tree) → items r ≡ items (branches_of r).0 ++ items (br
 items_branches (alt (more_trees t ts)) = ap (λ l. items t ++ l) (ap items_all (sym (trees_back ts)) ∙ sym (items_choice (list_of ts)))
 items_branches r = sym (append-nil (items r))
 
-items_alone : (a : Tree) → items a ≡ items (alone a)
-items_alone a = cond_both (is_empty a) _ _ (λ x. items a ≡ items x) (λ e. no_items a e) (λ _. refl)
+items_clear_or_stopper : (a : Tree) → items a ≡ items (clear_or_stopper a)
+items_clear_or_stopper a = cond_both (is_empty a) _ _ (λ x. items a ≡ items x) (λ e. no_items a e) (λ _. refl)
 
 conditional_slice : (n left : ℕ) (s t : State) (c r : Tree) → Span n (items c ++ items r) s.rest t.rest → Within items n s (conditional_behind n c left r t)
 conditional_slice n left s t c r h =
@@ -614,7 +614,7 @@ mutual
       let k = before h.0 (behind (branch_slice b) (strip_slice bar v.rest u e)) in
       then_slice items items n s (at v u) q _ k.slice (branch_slice m) f (λ r w x. closed_slice n s w (absent (expression a r)) (then k x))
   of_slice (one_branch {n} {s} {v} {a} b e f) h =
-      subst (Within items n s) f (closed_slice n s v (alone a) (listed (items_alone a) (before h.0 (branch_slice b))))
+      subst (Within items n s) f (closed_slice n s v (clear_or_stopper a) (listed (items_clear_or_stopper a) (before h.0 (branch_slice b))))
   of_slice (absent_fault b) h = stands_in h.0 (branch_slice b)
 
   pub inside_slice : {n d : ℕ} {s : State} {o : Outcome Tree} → Inside n d s o → Within items n s o

@@ -57,8 +57,8 @@ conditional_behind n c left r s =
     else closed n (conditional_of c (branches_of r).0 (branches_of r).1) s
 
 -- a branch behind `(?~|`, where no other follows
-abbrev pub alone : Tree → Tree
-alone a = if is_empty a then absent clear else absent (stopper a)
+abbrev pub clear_or_stopper : Tree → Tree
+clear_or_stopper a = if is_empty a then absent clear else absent (stopper a)
 
 -- ---- the flags behind an atom
 
@@ -130,7 +130,7 @@ mutual
         Branch n (d + 1) t (done a v) → strip bar v.rest ≡ Some u → Branch n (d + 1) (at v u) q →
         and_then q (λ e. closed n (absent (expression a e))) ≡ o → AtomOf (absent_branch t) n d s o
     one_branch : {n d : ℕ} {s t v : State} {a : Tree} {o : Outcome Tree} → Branch n (d + 1) t (done a v) →
-        strip bar v.rest ≡ None → closed n (alone a) v ≡ o → AtomOf (absent_branch t) n d s o
+        strip bar v.rest ≡ None → closed n (clear_or_stopper a) v ≡ o → AtomOf (absent_branch t) n d s o
     absent_fault : {n d p : ℕ} {s t : State} {k : Kind} → Branch n (d + 1) t (fault k p) →
         AtomOf (absent_branch t) n d s (fault k p)
 

@@ -12,7 +12,7 @@ use Rattle.fancy_grammar.specs.Ahead.{ahead}
 use Rattle.fancy_grammar.specs.Depth.{max_depth}
 use Rattle.fancy_grammar.specs.Ahead as seen
 use Rattle.fancy_grammar.specs.Grammar.{Alternation, Branches, Branch, Pieces, Piece, Inside, closed, is_condition}
-use Rattle.fancy_grammar.specs.Grammar.{branches_of, conditional_of, alone, before}
+use Rattle.fancy_grammar.specs.Grammar.{branches_of, conditional_of, clear_or_stopper, before}
 use Rattle.fancy_grammar.specs.Head.{Head, node_of}
 use Rattle.fancy_grammar.specs.Join.{solid}
 use Rattle.fancy_syntax.specs.Parsed.{head_of}
@@ -109,7 +109,7 @@ node_of_part top r = r
 node_of_part (group h p) r = node_of h p r
 node_of_part condition r = r
 node_of_part (body c left) r = conditional_of c (branches_of r).0 (branches_of r).1
-node_of_part first r = alone r
+node_of_part first r = clear_or_stopper r
 node_of_part (second a) r = absent (expression a r)
 
 -- whether the atom goes on behind what is open: the body follows a condition
