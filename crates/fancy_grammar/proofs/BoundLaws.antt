@@ -17,13 +17,13 @@ use Rattle.fancy_grammar.specs.Depth.{max_depth, max_levels}
 use Rattle.fancy_grammar.specs.Answer.{IsTreeOf}
 use Rattle.fancy_grammar.specs.Answered.{IsSmall}
 use Rattle.fancy_grammar.specs.Grammar.{Alternation, alternation, Branches, last, more, branch_fault, Branch, branch, Pieces, stop, next, piece_fault, Piece, piece, layout_fault, Atom, atom, AtomOf, a_nothing, a_leaf, a_group, a_condition, condition_fault, a_body, two_branches, one_branch, absent_fault, Inside, inside, Body, the_body, Whole, whole, start, closed, closed_at, ended, ended_at, branches_of, conditional_of, is_condition, clear_or_stopper}
-use Rattle.fancy_grammar.specs.Head.{Head, capture, scope, look, atomic, define, repeater, node_of}
+use Rattle.fancy_grammar.specs.Head.{Head, capture, scope, look, atomic, define, repeater, group_node}
 use Rattle.fancy_grammar.specs.Items.{openings}
 use Rattle.fancy_grammar.specs.Join.{join, choice, solid, is_empty, one_or}
 use Rattle.fancy_grammar.specs.Marks.{Marks}
 use Rattle.fancy_parts.specs.Ranks.{only_named, counted}
 use Rattle.fancy_grammar.specs.Preorder.{preorder, preorder_all}
-use Rattle.fancy_grammar.specs.Quantified.{quants, adjacent, max_adjacent, is_unmoved, quant, quant_at, counted as counted_at, suffix, is_swapped, quantified, is_repeatable, is_dropped}
+use Rattle.fancy_grammar.specs.Quantified.{quants, adjacent, max_adjacent, is_unmoved, quant, quant_at, with_counts as counted_at, suffix, is_swapped, quantified, is_repeatable, is_dropped}
 use Rattle.fancy_grammar.specs.Slices.{Within}
 use Rattle.fancy_grammar.specs.State.{skipped, State, at, Outcome, done, fault}
 use Rattle.fancy_grammar.specs.Tree.{Tree, more_trees, empty, concat, alt, absent, expression, trees_of, list_of, nodes, depth}
@@ -140,7 +140,7 @@ conditional_levels c t f =
 abbrev IsNodeOver : Tree → Tree → Type 0
 IsNodeOver t u = (size u ≤ size t + 1) × (levels u ≤ levels t + 1)
 
-node_over : (h : Head) (p : ℕ) (t : Tree) → IsNodeOver t (node_of h p t)
+node_over : (h : Head) (p : ℕ) (t : Tree) → IsNodeOver t (group_node h p t)
 node_over (capture name) p t = (omega arith, omega arith)
 node_over scope p t = (omega arith, omega arith)
 node_over (look l) p t = (omega arith, omega arith)
@@ -365,7 +365,7 @@ mutual
       let p = place_of n s.rest in
       then_holds (InsideFits d t) (Fits 820 d s) q _ (inside_fits i b) e (λ x v k.
       let over = node_over head p x in
-      (omega (arith, weight_most (node_of head p x), over.0, k.0, h.1), omega (arith, over.1, k.1)))
+      (omega (arith, weight_most (group_node head p x), over.0, k.0, h.1), omega (arith, over.1, k.1)))
   of_fits (a_condition {d} {s} i m) l h r b =
       let c = inside_fits i b in body_fits m s (omega (arith, c.0, h.1)) c.1 b
   of_fits (condition_fault i) l h r b = tt

@@ -34,14 +34,14 @@ use Rattle.fancy_parts.specs.FlagLetters.{Letters, letters, setting, scope as sc
 use Rattle.fancy_parts.specs.Quantifier.{counts}
 use Rattle.fancy_parts.specs.declared.counts.Counts.{Counts}
 use Rattle.fancy_grammar.proofs.OutcomeLemmas.{behind_keeps}
-use Rattle.fancy_grammar.specs.Ahead.{Ahead, nothing, leaf, opens, condition, body, absent_branch, ahead, ahead_of, behind_layout, head_ahead, question_ahead, python_ahead, less_ahead, absent_ahead, conditional_ahead, condition_ahead, flags_ahead, leaf_node, leaf_outcome, leaf_of, is_before_nothing, named_ahead, target_ahead, backref_node, call_node}
+use Rattle.fancy_grammar.specs.Ahead.{Ahead, nothing, leaf, with_head, condition, body, absent_branch, ahead, ahead_of, behind_layout, head_ahead, question_ahead, python_ahead, less_ahead, absent_ahead, conditional_ahead, condition_ahead, flags_ahead, leaf_node, leaf_outcome, leaf_of, is_before_nothing, named_ahead, target_ahead, backref_node, call_node}
 use Rattle.fancy_grammar.specs.Depth.{max_depth}
 use Rattle.fancy_grammar.specs.Grammar.{Alternation, alternation, Branches, last, more, branch_fault, Branch, branch, Pieces, stop, next, piece_fault, Piece, piece, layout_fault, Atom, atom, AtomOf, a_nothing, a_leaf, a_group, a_condition, condition_fault, a_body, two_branches, one_branch, absent_fault, Inside, inside, Body, the_body, Whole, whole, start, closed, closed_at, ended, ended_at, branches_of, conditional_of, conditional_behind, is_condition, clear_or_stopper}
-use Rattle.fancy_grammar.specs.Head.{Head, capture, scope, look, atomic, define, repeater, node_of}
+use Rattle.fancy_grammar.specs.Head.{Head, capture, scope, look, atomic, define, repeater, group_node}
 use Rattle.fancy_grammar.specs.Join.{join, choice, solid, is_empty, one_or}
 use Rattle.fancy_parts.specs.Meaning.{Reference}
 use Rattle.fancy_grammar.specs.Items.{Item, opening, reference, items, items_all}
-use Rattle.fancy_grammar.specs.Quantified.{quants, adjacent, max_adjacent, is_unmoved, quant, quant_at, counted, suffix, suffix_at, behind_lazy, may_be_possessive, is_swapped, quantified, is_repeatable, is_dropped}
+use Rattle.fancy_grammar.specs.Quantified.{quants, adjacent, max_adjacent, is_unmoved, quant, quant_at, with_counts, suffix, suffix_at, behind_lazy, may_be_possessive, is_swapped, quantified, is_repeatable, is_dropped}
 use Rattle.fancy_grammar.specs.Ordered.{Ascends, place_of_item}
 use Rattle.fancy_grammar.specs.Slices.{Slice, Span, Within, MayStand, items_of}
 use Rattle.fancy_grammar.specs.State.{skipped, State, at, Outcome, done, fault, and_then}
@@ -261,7 +261,7 @@ quant_slice n left a s t h = by_layout (skipped n t) (layout_slice n t.flags.ign
     W : Outcome Tree → Type 0
     W = Within items n s
 
-    by_counts : (v : Text) (o : Option (Counts × Text)) → Span n (items a) s.rest v → Counted v o → W (counted n left a (at t v) o)
+    by_counts : (v : Text) (o : Option (Counts × Text)) → Span n (items a) s.rest v → Counted v o → W (with_counts n left a (at t v) o)
     by_counts v None l i = l
     by_counts v (Some (c, u)) l i =
         let past : Slice v u = record { word = i.ends.0 ++ i.mark ∷ []; cut = i.ends.1 ∙ sym (append_assoc i.ends.0 (i.mark ∷ []) u) } in
@@ -313,7 +313,7 @@ leaf_within n s (fault k p) h = h
 abbrev pub AheadSlice : ℕ → State → Ahead → Type 0
 AheadSlice n s nothing = Unit {0}
 AheadSlice n s (leaf o) = LeafSlice n s o
-AheadSlice n s (opens h t) = Past s t.rest
+AheadSlice n s (with_head h t) = Past s t.rest
 AheadSlice n s (condition t) = Past s t.rest
 AheadSlice n s (body c t) = Span n (items c) s.rest t.rest × (bytes t.rest + 2 ≤ bytes s.rest)
 AheadSlice n s (absent_branch t) = Past s t.rest
@@ -524,7 +524,7 @@ closed_slice n s t r h = by_text t.rest refl
 
 -- a capturing group's opening stands before its inside
 node_slice : (n : ℕ) (h : Head) (s t : State) (r : Tree) (v : Text) → Past s t.rest → Span n (items r) t.rest v →
-    Span n (items (node_of h (place_of n s.rest) r)) s.rest v
+    Span n (items (group_node h (place_of n s.rest) r)) s.rest v
 node_slice n (capture name) s t r v a b = opened name a b
 node_slice n scope s t r v a b = before a.0 b
 node_slice n (look l) s t r v a b = before a.0 b

@@ -32,7 +32,7 @@ use Rattle.fancy_grammar.specs.declared.kinds.LookAround.TheVariants.{LookAhead,
 pub data Ahead : Type 0 where
   nothing : Ahead  -- no atom: it is Empty, and takes no character
   leaf : Outcome Tree → Ahead  -- an atom that holds no branches, or its fault
-  opens : Head → State → Ahead  -- a group of one alternation, which begins at the state
+  with_head : Head → State → Ahead  -- a group of one alternation, which begins at the state
   condition : State → Ahead  -- a conditional whose condition is an alternation, which begins at the state
   body : Tree → State → Ahead  -- a conditional whose condition is this tree; its body begins at the state
   absent_branch : State → Ahead  -- `(?~|` of an absent expression, stopper or clear; a branch begins at the state
@@ -97,7 +97,7 @@ is_before_nothing c = c ∈ "+*?|)"
 
 -- a group whose name was read
 abbrev pub named_ahead : State → Reading Text → Ahead
-named_ahead s (gives w u) = opens (capture (Some w)) (at s u)
+named_ahead s (gives w u) = with_head (capture (Some w)) (at s u)
 named_ahead s (fails e) = faulty e
 
 -- a conditional whose target was read
@@ -108,7 +108,7 @@ target_ahead s (fails e) = faulty e
 -- a flag group, whose letters were read
 abbrev pub flags_ahead : Reading Letters → Ahead
 flags_ahead (gives (setting f) u) = leaf (done empty (record { flags = f; rest = u }))
-flags_ahead (gives (scoped f) u) = opens scope (record { flags = f; rest = u })
+flags_ahead (gives (scoped f) u) = with_head scope (record { flags = f; rest = u })
 flags_ahead (fails e) = faulty e
 
 -- a verb, whose name and closing parenthesis stand behind the asterisk at the front
@@ -130,19 +130,19 @@ condition_ahead n s c t =
 abbrev pub conditional_ahead : ℕ → State → Text → Ahead
 conditional_ahead n s [] = faulty (group_not_closed n)
 conditional_ahead n s (c ∷ t) =
-    choose (strip_word (codes "DEFINE)") (c ∷ t)) (λ u. opens define (at s u)) (condition_ahead n s c t)
+    choose (strip_word (codes "DEFINE)") (c ∷ t)) (λ u. with_head define (at s u)) (condition_ahead n s c t)
 
 -- behind `(?~`, where more text is due: a bar, or an alternation
 abbrev pub absent_ahead : ℕ → State → Text → Ahead
 absent_ahead n s [] = faulty (group_not_closed n)
-absent_ahead n s (c ∷ t) = if c == code "|" then absent_branch (at s t) else opens repeater (at s (c ∷ t))
+absent_ahead n s (c ∷ t) = if c == code "|" then absent_branch (at s t) else with_head repeater (at s (c ∷ t))
 
 -- behind `(?<`, which begins at m: look-behind, or a name
 abbrev pub less_ahead : ℕ → State → Text → Text → Ahead
 less_ahead n s m [] = named_ahead s (group_name n m)
 less_ahead n s m (c ∷ t) =
-    if c == code "=" then opens (look LookBehind) (at s t)
-    else if c == code "!" then opens (look LookBehindNeg) (at s t)
+    if c == code "=" then with_head (look LookBehind) (at s t)
+    else if c == code "!" then with_head (look LookBehindNeg) (at s t)
     else named_ahead s (group_name n m)
 
 -- behind `(?P`, which begins at m: a name, a reference, a call, or letters of flags
@@ -158,23 +158,23 @@ python_ahead n s m (c ∷ t) =
 abbrev pub question_ahead : ℕ → State → Text → Ahead
 question_ahead n s [] = flags_ahead (letters n s.flags [])
 question_ahead n s (c ∷ t) =
-    if c == code "=" then opens (look LookAhead) (at s t)
-    else if c == code "!" then opens (look LookAheadNeg) (at s t)
+    if c == code "=" then with_head (look LookAhead) (at s t)
+    else if c == code "!" then with_head (look LookAheadNeg) (at s t)
     else if c == code "<" then less_ahead n s (c ∷ t) t
     else if c == code "'" then named_ahead s (group_name n (c ∷ t))
     else if c == code "P" then python_ahead n s (c ∷ t) t
     else if c == code "~" then absent_ahead n s t
-    else if c == code ">" then opens atomic (at s t)
+    else if c == code ">" then with_head atomic (at s t)
     else if c == code "(" then conditional_ahead n s t
     else flags_ahead (letters n s.flags (c ∷ t))
 
 -- behind the parenthesis and layout: the head of the group, if it has one
 abbrev pub head_ahead : ℕ → State → Text → Ahead
-head_ahead n s [] = opens (capture None) (at s [])
+head_ahead n s [] = with_head (capture None) (at s [])
 head_ahead n s (c ∷ t) =
     if c == code "?" then question_ahead n s t
     else if c == code "*" then verb_ahead n s c t
-    else opens (capture None) (at s (c ∷ t))
+    else with_head (capture None) (at s (c ∷ t))
 
 abbrev pub behind_layout : ℕ → State → Skipped → Ahead
 behind_layout n s (rest u) = head_ahead n s u

@@ -11,8 +11,8 @@ use Rattle.fancy_lex.specs.FaultTable.{body_wanting}
 use Rattle.fancy_lex.specs.Layout.{rest, fault as open_comment}
 use Rattle.fancy_lex.specs.Text.{Text, bytes, place_of, strip}
 use Rattle.fancy_lex.specs.declared.flags.Flags.{Flags}
-use Rattle.fancy_grammar.specs.Ahead.{Ahead, nothing, leaf, opens, condition, body, absent_branch, ahead}
-use Rattle.fancy_grammar.specs.Head.{Head, node_of}
+use Rattle.fancy_grammar.specs.Ahead.{Ahead, nothing, leaf, with_head, condition, body, absent_branch, ahead}
+use Rattle.fancy_grammar.specs.Head.{Head, group_node}
 use Rattle.fancy_grammar.specs.Join.{join, choice, is_empty}
 use Rattle.fancy_grammar.specs.Quantified.{quants}
 use Rattle.fancy_grammar.specs.State.{ends, skipped, State, at, Outcome, done, fault, faulted, and_then, seen_through}
@@ -118,7 +118,7 @@ mutual
     a_nothing : {n d : ℕ} {s : State} → AtomOf nothing n d s (done empty s)
     a_leaf : {n d : ℕ} {s : State} {o : Outcome Tree} → AtomOf (leaf o) n d s o
     a_group : {n d : ℕ} {h : Head} {s t : State} {q o : Outcome Tree} → Inside n d t q →
-        seen_through (node_of h (place_of n s.rest)) q ≡ o → AtomOf (opens h t) n d s o
+        seen_through (group_node h (place_of n s.rest)) q ≡ o → AtomOf (with_head h t) n d s o
     -- a conditional: its condition's parentheses, and its body
     a_condition : {n d : ℕ} {s t v : State} {c : Tree} {o : Outcome Tree} → Inside n d t (done c v) → Body n d c v o →
         AtomOf (condition t) n d s o
@@ -172,5 +172,5 @@ abbrev pub Faults : Flags → Text → Kind → ℕ → Type 0
 Faults f text k p = Whole f text (fault k p)
 
 -- the trees so far, before those that follow
-abbrev pub before : List Tree → Outcome (List Tree) → Outcome (List Tree)
-before l = seen_through (λ m. l ++ m)
+abbrev pub trees_before : List Tree → Outcome (List Tree) → Outcome (List Tree)
+trees_before l = seen_through (λ m. l ++ m)

@@ -72,16 +72,16 @@ abbrev pub suffix : ℕ → State → Counts → Outcome Suffix
 suffix n s c = suffix_at s c (skipped n s)
 
 -- the tree under these counts; where it is not repeatable, the fault stands at the mark or the closing brace
-abbrev pub counted : ℕ → ℕ → Tree → State → Option (Counts × Text) → Outcome Tree
-counted n left a s None = done a s
-counted n left a s (Some (c, t)) =
+abbrev pub with_counts : ℕ → ℕ → Tree → State → Option (Counts × Text) → Outcome Tree
+with_counts n left a s None = done a s
+with_counts n left a s (Some (c, t)) =
     if is_repeatable s.flags a then seen_through (λ m. quantified s.flags c m a) (suffix n (at s t) c)
     else if is_dropped s.flags left a t then seen_through (λ m. a) (suffix n (at s t) c)
     else faulted (not_repeatable n t)
 
 -- behind the layout before a quantifier
 abbrev pub quant_at : ℕ → ℕ → Tree → State → Skipped → Outcome Tree
-quant_at n left a s (rest t) = counted n left a (at s t) (counts s.flags.ignore_space t)
+quant_at n left a s (rest t) = with_counts n left a (at s t) (counts s.flags.ignore_space t)
 quant_at n left a s (open_comment p) = faulted (comment_not_closed p)
 
 -- layout, and the tree under the quantifier that follows it, or the tree itself where none does

@@ -6,7 +6,7 @@ use Rattle.fancy_lex.specs.declared.escape.Assertion.TheVariants.{StartLineOnigu
 use Rattle.fancy_parts.specs.Quote.{behind_backslash, quantifier}
 use Rattle.fancy_grammar.specs.Grammar.{Derives}
 use Rattle.fancy_grammar.specs.Join.{solid, join, choice}
-use Rattle.fancy_grammar.specs.Normal.{character, items_of, case_flags, bare, normal, items, normals}
+use Rattle.fancy_grammar.specs.Normal.{character, pieces_of, case_flags, bare, normal, normal_pieces, normals}
 use Rattle.fancy_grammar.specs.Quantified.{is_repeatable}
 use Rattle.fancy_grammar.specs.Printed.{is_long, printed, repeated, printed_all, printed_branches, grouped}
 use Rattle.fancy_grammar.specs.Tree.{Tree, Trees, no_trees, more_trees, empty, any, assertion, literal, concat, alt, group, repeat, delegate, define_group}
@@ -72,7 +72,7 @@ pub record ReadsBy (u : Bool) (k3 k2 k1 k0 : Text → Text) (m3 m2 m1 m0 : ℕ) 
 abbrev pub Reads : Bool → Tree → Type 0
 Reads u t =
     ReadsBy u (put t 3) (put t 2) (put t 1) (put t 0) (nest t 3) (nest t 2) (nest t 1) (nest t 0) (IsAtom t)
-    (normal u t) (items_of t (normal u t))
+    (normal u t) (pieces_of t (normal u t))
 
 abbrev pub EachReads : Bool → Trees → Type 0
 EachReads u no_trees = Unit {0}
@@ -209,7 +209,7 @@ group_reads u t h r =
     (omega arith) (clear_put t h 0 (41 ∷ v) (clear_close v))
     (r.whole n (d + 1) (41 ∷ v) (omega arith) (ends_close v)))
 
-concat_run : (u : Bool) (ts : Trees) → ArePrintable ts → EachReads u ts → ReadsRun u (puts ts) (nests ts 2) (items u ts)
+concat_run : (u : Bool) (ts : Trees) → ArePrintable ts → EachReads u ts → ReadsRun u (puts ts) (nests ts 2) (normal_pieces u ts)
 concat_run u no_trees h r n d v l c = no_run n d (bare u) v
 concat_run u (more_trees t ts) h r n d v l c =
     run_chain (r.0.run n d (puts ts v) (omega arith) (clear_puts ts h.1 v c))
@@ -217,7 +217,7 @@ concat_run u (more_trees t ts) h r n d v l c =
 
 concat_reads : (u : Bool) (ts : Trees) → ArePrintable ts → EachReads u ts → Reads u (concat ts)
 concat_reads u ts h r =
-    by_branch u (puts ts) (nests ts 2) (Unit {0}) (join (items u ts)) (items u ts) refl (concat_run u ts h r)
+    by_branch u (puts ts) (nests ts 2) (Unit {0}) (join (normal_pieces u ts)) (normal_pieces u ts) refl (concat_run u ts h r)
 
 alt_branches : (u : Bool) (t : Tree) (ts : Trees) → Reads u t → EachReads u ts → (n d : ℕ) (v : Text) →
     d + nest t 1 < 64 → d + nests ts 1 < 64 → Ends v
@@ -241,15 +241,15 @@ alt_whole u (more_trees t ts) r n d v l e =
 alt_reads : (u : Bool) (ts : Trees) → EachReads u ts → Reads u (alt ts)
 alt_reads u ts r = by_whole u (put_branches ts) (nests ts 1) (Unit {0}) (choice (normals u ts)) (alt_whole u ts r)
 
-join_items : (u : Bool) (t : Tree) → join (items_of t (normal u t)) ≡ normal u t
+join_items : (u : Bool) (t : Tree) → join (pieces_of t (normal u t)) ≡ normal u t
 join_items u (literal s false) = refl
 join_items u t = join_one (normal u t)
 
-from_run : (u : Bool) (t : Tree) (p : ℕ) → ReadsRun u (put t p) (nest t p) (items_of t (normal u t)) →
+from_run : (u : Bool) (t : Tree) (p : ℕ) → ReadsRun u (put t p) (nest t p) (pieces_of t (normal u t)) →
     ReadsWhole u (put t p) (nest t p) (normal u t)
 from_run u t p r =
     to_whole u (put t p) (nest t p) (normal u t)
-    (to_branch u (put t p) (nest t p) (items_of t (normal u t)) (normal u t) (join_items u t) r)
+    (to_branch u (put t p) (nest t p) (pieces_of t (normal u t)) (normal u t) (join_items u t) r)
 
 -- what is put in a group of its own where that is asked
 atom_if : (u b : Bool) (k : Text → Text) (m : ℕ) (x : Tree) → (b ≡ false → ReadsAtom u k m x) → ReadsWhole u k m x →

@@ -17,13 +17,13 @@ use Rattle.fancy_parts.specs.Ranks.{Opening}
 use Rattle.fancy_parts.specs.declared.counts.Counts.{Counts}
 use Rattle.fancy_parts.proofs.FlagLemmas.{letters_start, in_end, in_go}
 use Rattle.fancy_grammar.specs.State as states
-use Rattle.fancy_grammar.specs.Ahead.{Ahead, leaf, opens, ahead, is_before_nothing, flags_ahead, question_ahead, head_ahead, behind_layout, leaf_of, leaf_node, leaf_outcome}
+use Rattle.fancy_grammar.specs.Ahead.{Ahead, leaf, with_head, ahead, is_before_nothing, flags_ahead, question_ahead, head_ahead, behind_layout, leaf_of, leaf_node, leaf_outcome}
 use Rattle.fancy_grammar.specs.Depth.{max_depth}
 use Rattle.fancy_grammar.specs.Grammar.{Alternation, alternation, Branches, last, more, branch_fault, Branch, branch, Pieces, stop, next, piece_fault, Piece, piece, Atom, atom, a_leaf, a_group, inside, Derives, Faults, whole}
 use Rattle.fancy_grammar.specs.Head.{Head, capture, scope}
 use Rattle.fancy_grammar.specs.Items.{Item, opening, reference, items, items_all}
 use Rattle.fancy_grammar.specs.Join.{is_empty, solid, one_or, join, choice}
-use Rattle.fancy_grammar.specs.Grammar.{before}
+use Rattle.fancy_grammar.specs.Grammar.{trees_before}
 use Rattle.fancy_grammar.specs.Quantified as quantified
 use Rattle.fancy_grammar.specs.Quantified.{is_repeatable, is_swapped, may_be_possessive, quant, quant_at, quants, adjacent, max_adjacent, behind_lazy, suffix, suffix_at}
 use Rattle.fancy_grammar.specs.Resolved.{resolved_in, resolved_all}
@@ -187,7 +187,7 @@ pub record BranchesAs (n d : ℕ) (f : Flags) (s v : Text) (ys : List Tree) : Ty
 -- the pieces from s to v, whatever pieces follow; without the Empties they are these
 pub record Run (n d : ℕ) (f : Flags) (s v : Text) (ys : List Tree) : Type 0 where
   pub trees : List Tree
-  pub pieces : (q : Outcome (List Tree)) → Pieces n d (st f v) q → Pieces n d (st f s) (before trees q)
+  pub pieces : (q : Outcome (List Tree)) → Pieces n d (st f v) q → Pieces n d (st f s) (trees_before trees q)
   pub are : (g : List Opening) → solid (map (resolved_in false g) trees) ≡ ys
   pub groups : EachHasGroups trees
 
@@ -199,7 +199,7 @@ no_run n d f v = record {
   groups = tt;
 }
 
-before_append : (l m : List Tree) (q : Outcome (List Tree)) → before l (before m q) ≡ before (l ++ m) q
+before_append : (l m : List Tree) (q : Outcome (List Tree)) → trees_before l (trees_before m q) ≡ trees_before (l ++ m) q
 before_append l m (done k s) = ap (λ n. done n s) (sym (append_assoc l m k))
 before_append l m (fault k e) = refl
 
@@ -208,7 +208,7 @@ pub run_chain : {n d : ℕ} {f : Flags} {s t v : Text} {xs ys : List Tree} → R
 run_chain {n} {d} {f} {s} p q = record {
   trees = p.trees ++ q.trees;
   pieces =
-      λ o r. subst (Pieces n d (st f s)) (before_append p.trees q.trees o) (p.pieces (before q.trees o) (q.pieces o r));
+      λ o r. subst (Pieces n d (st f s)) (before_append p.trees q.trees o) (p.pieces (trees_before q.trees o) (q.pieces o r));
   are =
       λ g. ap solid (map-append (resolved_in false g) p.trees q.trees)
       ∙ solid-append (map (resolved_in false g) p.trees) (map (resolved_in false g) q.trees)
@@ -241,7 +241,7 @@ quant_none : (n left : ℕ) (f : Flags) (a : Tree) (v : Text) → Kept f → Cle
 unfolding quant
 quant_none n left f a v k c =
     ap (quant_at n left a (st f v)) (skip_here n f v k c.no_comment)
-    ∙ ap (quantified.counted n left a (st f v)) (clear_counts f.ignore_space v c)
+    ∙ ap (quantified.with_counts n left a (st f v)) (clear_counts f.ignore_space v c)
 
 -- an atom that no quantifier follows
 pub reads_piece : (n d : ℕ) (f : Flags) (s v : Text) (x : Tree) → Kept f → states.ends s ≡ false →
@@ -288,8 +288,8 @@ unfolding quant
 quant_some n left f a q v lo hi greedy k c m r =
     let counted : Counts = record { low = lo; high = hi; braces = m.braces } in
     ap (quant_at n left a (st f q)) (skip_here n f q k m.no_comment)
-    ∙ ap (λ x. quantified.counted n left a (st f q) (counts x q)) k.no_space
-    ∙ ap (quantified.counted n left a (st f q)) m.counts
+    ∙ ap (λ x. quantified.with_counts n left a (st f q) (counts x q)) k.no_space
+    ∙ ap (quantified.with_counts n left a (st f q)) m.counts
     ∙ cond-true _ _ _ r
     ∙ ap (seen_through (λ m. quantified.quantified f counted m a)) (lazy_read n f counted v greedy k c)
     ∙ ap (λ x. done x (st f v)) (quantified_as f a counted (not greedy) greedy k (not-not greedy))
@@ -370,23 +370,23 @@ some_none : {X : Type 0} (w : Text) → Some w ≡ None → X
 some_none w e = absurd cc
 
 -- no head
-head_group : (n : ℕ) (f : Flags) (s t : Text) → Clear t → head_ahead n (st f s) t ≡ opens (capture None) (st f t)
+head_group : (n : ℕ) (f : Flags) (s t : Text) → Clear t → head_ahead n (st f s) t ≡ with_head (capture None) (st f t)
 head_group n f s [] c = refl
 head_group n f s (x ∷ t) c = by_tests (clear_lazy (x ∷ t) c) (clear_star (x ∷ t) c)
   where
     by_cases : (a b : Bool) (p q : Ahead) (w : Text) → (if a then Some w else None) ≡ None →
         (if b then Some w else None) ≡ None →
-        (if a then p else if b then q else opens (capture None) (st f (x ∷ t))) ≡ opens (capture None) (st f (x ∷ t))
+        (if a then p else if b then q else with_head (capture None) (st f (x ∷ t))) ≡ with_head (capture None) (st f (x ∷ t))
     by_cases true b p q w e g = some_none w e
     by_cases false true p q w e g = some_none w g
     by_cases false false p q w e g = refl
 
     by_tests : strip 63 (x ∷ t) ≡ None → strip 42 (x ∷ t) ≡ None →
-        head_ahead n (st f s) (x ∷ t) ≡ opens (capture None) (st f (x ∷ t))
+        head_ahead n (st f s) (x ∷ t) ≡ with_head (capture None) (st f (x ∷ t))
     by_tests a b = by_cases (x == 63) (x == 42) _ _ t a b
 
 group_at : (n d : ℕ) (f : Flags) (s : Text) → Kept f → d + 1 < 64 → Clear s →
-    ahead n d (st f (40 ∷ s)) ≡ opens (capture None) (st f s)
+    ahead n d (st f (40 ∷ s)) ≡ with_head (capture None) (st f s)
 group_at n d f s k l c = head_at n d f s k l c.no_comment ∙ head_group n f (40 ∷ s) s c
 
 -- a capturing group
@@ -401,10 +401,10 @@ reads_group n d f s v x k l c w = record {
 -- a group of flags, whose letters begin with one that begins no other head
 pub scope_at : (n d : ℕ) (f g : Flags) (t u : Text) → Kept f → d + 1 < 64 → after_comment_head (63 ∷ t) ≡ None →
     question_ahead n (st f (40 ∷ 63 ∷ t)) t ≡ flags_ahead (letters.letters n f t) →
-    letters.letters n f t ≡ gives (letters.scope g) u → ahead n d (st f (40 ∷ 63 ∷ t)) ≡ opens scope (st g u)
+    letters.letters n f t ≡ gives (letters.scope g) u → ahead n d (st f (40 ∷ 63 ∷ t)) ≡ with_head scope (st g u)
 scope_at n d f g t u k l o q e = head_at n d f (63 ∷ t) k l o ∙ q ∙ ap flags_ahead e
 
-pub reads_scope : (n d : ℕ) (f g : Flags) (s t v : Text) (x : Tree) → ahead n d (st f s) ≡ opens scope (st g t) →
+pub reads_scope : (n d : ℕ) (f g : Flags) (s t v : Text) (x : Tree) → ahead n d (st f s) ≡ with_head scope (st g t) →
     WholeAs n (d + 1) g t (41 ∷ v) x → AtomAs n d f s v x
 reads_scope n d f g s t v x e w =
     record { tree = w.tree; derives = atom e (a_group (inside w.derives refl) refl) refl; becomes = w.becomes }
@@ -434,7 +434,7 @@ colon n f s k =
     (omega arith)
 
 grouped_at : (n d : ℕ) (f : Flags) (s : Text) → Kept f → d + 1 < 64 →
-    ahead n d (st f (40 ∷ 63 ∷ 58 ∷ s)) ≡ opens scope (st f s)
+    ahead n d (st f (40 ∷ 63 ∷ 58 ∷ s)) ≡ with_head scope (st f s)
 grouped_at n d f s k l = scope_at n d f f (58 ∷ s) s k l refl refl (colon n f s k)
 
 -- `(?:`
@@ -527,7 +527,7 @@ fails_deep n d f t h =
     let deep : nat_le max_depth (d + 1) ≡ true = le-leb 64 (d + 1) h in atom (cond-true _ _ _ deep) a_leaf refl
 
 module _ (n d : ℕ) (f : Flags) (k : Kind) (p : ℕ) where
-  fails_head : (g : Flags) (h : Head) (s t : Text) → ahead n d (st f s) ≡ opens h (st g t) →
+  fails_head : (g : Flags) (h : Head) (s t : Text) → ahead n d (st f s) ≡ with_head h (st g t) →
       Alternation n (d + 1) (st g t) (fault k p) → Atom n d (st f s) (fault k p)
   fails_head g h s t e w = atom e (a_group (inside w refl) refl) refl
 

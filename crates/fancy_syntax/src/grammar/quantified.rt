@@ -161,7 +161,7 @@ fn repeat(
     requires within { length here.old.rest.now < end }
     requires end { end < 2 ^ 63 }
     ensures value { Turns result (view tree.new) (state here.new)
-        (spec.counted end left (view tree.old) (state here.old) (Some (counts, chars here.old.rest.now))) }
+        (spec.with_counts end left (view tree.old) (state here.old) (Some (counts, chars here.old.rest.now))) }
     ensures within { length here.new.rest.now ≤ length here.old.rest.now }
 {
     if is_repeatable(here.flags, tree) {
