@@ -12,10 +12,11 @@ use Rattle.fancy_parts.specs.FlagLetters.{Letters, setting, scope as scoped}
 use Rattle.fancy_parts.specs.HeadReference.{begins_target, condition_target}
 use Rattle.fancy_parts.specs.Quantifier.{counts, as_mark, most}
 use Rattle.fancy_parts.specs.declared.counts.Counts.{Counts}
-use Rattle.fancy_grammar.specs.Ahead.{Ahead, nothing, leaf, opens, condition, body, ahead, ahead_of, head_ahead, question_ahead, python_ahead, less_ahead, absent_ahead, conditional_ahead, condition_ahead, verb_condition, named_ahead, target_ahead, flags_ahead, behind_layout, faulty, leaf_of, is_before_nothing, ends, skipped, max_depth}
+use Rattle.fancy_grammar.specs.Ahead.{Ahead, nothing, leaf, with_head, condition, body, ahead, ahead_of, head_ahead, question_ahead, python_ahead, less_ahead, absent_ahead, conditional_ahead, condition_ahead, verb_condition, named_ahead, target_ahead, flags_ahead, behind_layout, faulty, leaf_of, is_before_nothing}
+use Rattle.fancy_grammar.specs.Depth.{max_depth}
 use Rattle.fancy_grammar.specs.Head.{Head, define}
 use Rattle.fancy_grammar.specs.Quantified.{quant, quants, adjacent, max_adjacent}
-use Rattle.fancy_grammar.specs.State.{State, at, Outcome, done, fault, and_then}
+use Rattle.fancy_grammar.specs.State.{ends, skipped, State, at, Outcome, done, fault, and_then}
 use Rattle.fancy_grammar.specs.Tree.{Tree, empty}
 use Rattle.fancy_grammar.specs.Verb.{verb_at}
 
@@ -28,7 +29,7 @@ IsThere k = k ≡ nothing → ⊥
 leaf_there : (o : Outcome Tree) → IsThere (leaf o)
 leaf_there o e = cc
 
-opens_there : (h : Head) (s : State) → IsThere (opens h s)
+opens_there : (h : Head) (s : State) → IsThere (with_head h s)
 opens_there h s e = cc
 
 flags_there : (o : Reading Letters) → IsThere (flags_ahead o)
@@ -109,13 +110,13 @@ before_nothing n d s c t e = by_tests (c == code "(") (is_before_nothing c) _ (d
 -- ---- the heads of conditionals
 
 pub defines : (n : ℕ) (s : State) (c : ℕ) (t u : Text) → s.rest ≡ c ∷ t → strip_word (codes "DEFINE)") s.rest ≡ Some u →
-    conditional_ahead n s s.rest ≡ opens define (at s u)
-defines n s c t u e h = ap (conditional_ahead n s) e ∙ ap (λ o. choose o (λ v. opens define (at s v)) (condition_ahead n s c t)) (ap (strip_word (codes "DEFINE)")) (sym e) ∙ h)
+    conditional_ahead n s s.rest ≡ with_head define (at s u)
+defines n s c t u e h = ap (conditional_ahead n s) e ∙ ap (λ o. choose o (λ v. with_head define (at s v)) (condition_ahead n s c t)) (ap (strip_word (codes "DEFINE)")) (sym e) ∙ h)
 
 pub target_stands : (n : ℕ) (s : State) (c : ℕ) (t : Text) → s.rest ≡ c ∷ t → strip_word (codes "DEFINE)") s.rest ≡ None → begins_target s.rest ≡ true →
     conditional_ahead n s s.rest ≡ target_ahead s (condition_target n s.rest)
 target_stands n s c t e h i =
-    ap (conditional_ahead n s) e ∙ ap (λ o. choose o (λ v. opens define (at s v)) (condition_ahead n s c t)) (ap (strip_word (codes "DEFINE)")) (sym e) ∙ h)
+    ap (conditional_ahead n s) e ∙ ap (λ o. choose o (λ v. with_head define (at s v)) (condition_ahead n s c t)) (ap (strip_word (codes "DEFINE)")) (sym e) ∙ h)
     ∙ there (begins_target (c ∷ t)) _ (ap begins_target (sym e) ∙ i) ∙ ap (λ u. target_ahead s (condition_target n u)) (sym e)
   where
     there : (b : Bool) (x : Ahead) → b ≡ true → (if b then target_ahead s (condition_target n (c ∷ t)) else x) ≡ target_ahead s (condition_target n (c ∷ t))
@@ -125,7 +126,7 @@ target_stands n s c t e h i =
 pub no_condition_ahead : (n : ℕ) (s : State) (c : ℕ) (t : Text) → s.rest ≡ c ∷ t → strip_word (codes "DEFINE)") s.rest ≡ None → begins_target s.rest ≡ false →
     c ≢ code "*" → conditional_ahead n s s.rest ≡ condition s
 no_condition_ahead n s c t e h i j =
-    ap (conditional_ahead n s) e ∙ ap (λ o. choose o (λ v. opens define (at s v)) (condition_ahead n s c t)) (ap (strip_word (codes "DEFINE)")) (sym e) ∙ h)
+    ap (conditional_ahead n s) e ∙ ap (λ o. choose o (λ v. with_head define (at s v)) (condition_ahead n s c t)) (ap (strip_word (codes "DEFINE)")) (sym e) ∙ h)
     ∙ other (begins_target (c ∷ t)) (c == code "*") (ap begins_target (sym e) ∙ i) (search (tests, rules)) ∙ ap (λ x. condition (at s x)) (sym e)
   where
     other : (b d : Bool) → b ≡ false → d ≡ false → (if b then target_ahead s (condition_target n (c ∷ t)) else if d then verb_condition n s c t else condition (at s (c ∷ t))) ≡ condition (at s (c ∷ t))

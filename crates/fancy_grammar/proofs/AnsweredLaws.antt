@@ -15,7 +15,7 @@ use Rattle.fancy_grammar.specs.Grammar.{Derives}
 use Rattle.fancy_grammar.specs.Items.{openings_in, references_in, openings, references}
 use Rattle.fancy_grammar.specs.Marks.{Marks, marks, is_call, back_number, back_numbers, ascending}
 use Rattle.fancy_grammar.specs.Preorder.{preorder}
-use Rattle.fancy_grammar.specs.Resolved.{resolved_in, resolved_all, node_of}
+use Rattle.fancy_grammar.specs.Resolved.{resolved_in, resolved_all, reference_node}
 use Rattle.fancy_grammar.specs.Tree.{Tree, Trees, no_trees, more_trees, literal, literal_bytes, alt, group, backref, backref_at_level, backref_exists, subroutine_call, ast_node, ast_group, ast_backref, ast_call, ast_condition, list_of}
 use Rattle.fancy_parts.specs.Groups.{numbers_under}
 use Rattle.fancy_parts.proofs.NamedLaws.{under_named}
@@ -28,57 +28,57 @@ use Rattle.fancy_grammar.proofs.ReadLaws.{IsReadNode, IsRead, derived_read}
 
 -- a group is none of these
 backref_no_group : (m : Meaning) (t : Target) (casei : Bool) (level : Option ℤ) (place : ℕ) →
-    is_group (node_of m (ast_backref t casei level) place) ≡ false
+    is_group (reference_node m (ast_backref t casei level) place) ≡ false
 backref_no_group (number n) t casei None place = refl
 backref_no_group (number n) t casei (Some level) place = refl
 backref_no_group unresolved t casei level place = refl
 backref_no_group (faulty k) t casei level place = refl
 
-call_no_group : (m : Meaning) (t : Target) (place : ℕ) → is_group (node_of m (ast_call t) place) ≡ false
+call_no_group : (m : Meaning) (t : Target) (place : ℕ) → is_group (reference_node m (ast_call t) place) ≡ false
 call_no_group (number n) t place = refl
 call_no_group unresolved t place = refl
 call_no_group (faulty k) t place = refl
 
 condition_no_group : (m : Meaning) (t : Target) (level : Option ℤ) (place : ℕ) →
-    is_group (node_of m (ast_condition t level) place) ≡ false
+    is_group (reference_node m (ast_condition t level) place) ≡ false
 condition_no_group (number n) t level place = refl
 condition_no_group unresolved t level place = refl
 condition_no_group (faulty k) t level place = refl
 
 -- a call is one of these, and the others are none
 backref_no_call : (m : Meaning) (t : Target) (casei : Bool) (level : Option ℤ) (place : ℕ) →
-    is_call_node (node_of m (ast_backref t casei level) place) ≡ false
+    is_call_node (reference_node m (ast_backref t casei level) place) ≡ false
 backref_no_call (number n) t casei None place = refl
 backref_no_call (number n) t casei (Some level) place = refl
 backref_no_call unresolved t casei level place = refl
 backref_no_call (faulty k) t casei level place = refl
 
-call_is_call : (m : Meaning) (t : Target) (place : ℕ) → is_call_node (node_of m (ast_call t) place) ≡ true
+call_is_call : (m : Meaning) (t : Target) (place : ℕ) → is_call_node (reference_node m (ast_call t) place) ≡ true
 call_is_call (number n) t place = refl
 call_is_call unresolved t place = refl
 call_is_call (faulty k) t place = refl
 
 condition_no_call : (m : Meaning) (t : Target) (level : Option ℤ) (place : ℕ) →
-    is_call_node (node_of m (ast_condition t level) place) ≡ false
+    is_call_node (reference_node m (ast_condition t level) place) ≡ false
 condition_no_call (number n) t level place = refl
 condition_no_call unresolved t level place = refl
 condition_no_call (faulty k) t level place = refl
 
 -- the groups that they refer to
 backref_refers : (m : Meaning) (t : Target) (casei : Bool) (level : Option ℤ) (place : ℕ) →
-    group_referred (node_of m (ast_backref t casei level) place) ≡ back_number back_reference m
+    group_referred (reference_node m (ast_backref t casei level) place) ≡ back_number back_reference m
 backref_refers (number n) t casei None place = refl
 backref_refers (number n) t casei (Some level) place = refl
 backref_refers unresolved t casei level place = refl
 backref_refers (faulty k) t casei level place = refl
 
-call_refers : (m : Meaning) (t : Target) (place : ℕ) → group_referred (node_of m (ast_call t) place) ≡ back_number call m
+call_refers : (m : Meaning) (t : Target) (place : ℕ) → group_referred (reference_node m (ast_call t) place) ≡ back_number call m
 call_refers (number n) t place = refl
 call_refers unresolved t place = refl
 call_refers (faulty k) t place = refl
 
 condition_refers : (m : Meaning) (t : Target) (level : Option ℤ) (place : ℕ) →
-    group_referred (node_of m (ast_condition t level) place) ≡ back_number condition m
+    group_referred (reference_node m (ast_condition t level) place) ≡ back_number condition m
 condition_refers (number n) t level place = refl
 condition_refers unresolved t level place = refl
 condition_refers (faulty k) t level place = refl
@@ -117,19 +117,19 @@ condition_resolved u c (by_name w) e = condition_or_fault (last_of (u w)) e
 condition_resolved u c (relative z) e = condition_or_fault (at_distance c z) e
 
 backref_answered : (m : Meaning) (t : Target) (casei : Bool) (level : Option ℤ) (place : ℕ) (o : Option Fault) →
-    (m ≡ unresolved → ⊥) → fault_or m place o ≡ None → IsAnsweredNode (node_of m (ast_backref t casei level) place)
+    (m ≡ unresolved → ⊥) → fault_or m place o ≡ None → IsAnsweredNode (reference_node m (ast_backref t casei level) place)
 backref_answered (number n) t casei None place o u e = tt
 backref_answered (number n) t casei (Some level) place o u e = tt
 backref_answered unresolved t casei level place o u e = absurd (u refl)
 backref_answered (faulty k) t casei level place o u e = absurd cc
 
-call_answered : (m : Meaning) (t : Target) (place : ℕ) → IsAnsweredNode (node_of m (ast_call t) place)
+call_answered : (m : Meaning) (t : Target) (place : ℕ) → IsAnsweredNode (reference_node m (ast_call t) place)
 call_answered (number n) t place = tt
 call_answered unresolved t place = refl
 call_answered (faulty k) t place = refl
 
 condition_answered : (m : Meaning) (t : Target) (level : Option ℤ) (place : ℕ) (o : Option Fault) →
-    (m ≡ unresolved → ⊥) → fault_or m place o ≡ None → IsAnsweredNode (node_of m (ast_condition t level) place)
+    (m ≡ unresolved → ⊥) → fault_or m place o ≡ None → IsAnsweredNode (reference_node m (ast_condition t level) place)
 condition_answered (number n) t level place o u e = tt
 condition_answered unresolved t level place o u e = absurd (u refl)
 condition_answered (faulty k) t level place o u e = absurd cc

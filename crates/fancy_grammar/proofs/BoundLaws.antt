@@ -12,19 +12,20 @@ use Rattle.fancy_lex.specs.Text.{Text, bytes, place_of, strip}
 use Rattle.fancy_lex.specs.declared.flags.Flags.{Flags}
 use Rattle.fancy_parts.specs.Quantifier.{counts}
 use Rattle.fancy_parts.specs.declared.counts.Counts.{Counts}
-use Rattle.fancy_grammar.specs.Ahead.{Ahead, nothing, leaf, ahead, ahead_of, behind_layout, is_before_nothing, max_depth, skipped}
+use Rattle.fancy_grammar.specs.Ahead.{Ahead, nothing, leaf, ahead, ahead_of, behind_layout, is_before_nothing}
+use Rattle.fancy_grammar.specs.Depth.{max_depth, max_levels}
 use Rattle.fancy_grammar.specs.Answer.{IsTreeOf}
 use Rattle.fancy_grammar.specs.Answered.{IsSmall}
-use Rattle.fancy_grammar.specs.Grammar.{Alternation, alternation, Branches, last, more, branch_fault, Branch, branch, Pieces, stop, next, piece_fault, Piece, piece, layout_fault, Atom, atom, AtomOf, a_nothing, a_leaf, a_group, a_condition, condition_fault, a_body, two_branches, one_branch, absent_fault, Inside, inside, Body, the_body, Whole, whole, start, closed, closed_at, ended, ended_at, branches_of, conditional_of, is_condition, alone}
-use Rattle.fancy_grammar.specs.Head.{Head, capture, scope, look, atomic, define, repeater, node_of}
+use Rattle.fancy_grammar.specs.Grammar.{Alternation, alternation, Branches, last, more, branch_fault, Branch, branch, Pieces, stop, next, piece_fault, Piece, piece, layout_fault, Atom, atom, AtomOf, a_nothing, a_leaf, a_group, a_condition, condition_fault, a_body, two_branches, one_branch, absent_fault, Inside, inside, Body, the_body, Whole, whole, start, closed, closed_at, ended, ended_at, branches_of, conditional_of, is_condition, clear_or_stopper}
+use Rattle.fancy_grammar.specs.Head.{Head, capture, scope, look, atomic, define, repeater, group_node}
 use Rattle.fancy_grammar.specs.Items.{openings}
 use Rattle.fancy_grammar.specs.Join.{join, choice, solid, is_empty, one_or}
 use Rattle.fancy_grammar.specs.Marks.{Marks}
 use Rattle.fancy_parts.specs.Ranks.{only_named, counted}
 use Rattle.fancy_grammar.specs.Preorder.{preorder, preorder_all}
-use Rattle.fancy_grammar.specs.Quantified.{quants, adjacent, max_adjacent, is_unmoved, quant, quant_at, counted as counted_at, suffix, is_swapped, quantified, is_repeatable, is_dropped}
+use Rattle.fancy_grammar.specs.Quantified.{quants, adjacent, max_adjacent, is_unmoved, quant, quant_at, with_counts as counted_at, suffix, is_swapped, quantified, is_repeatable, is_dropped}
 use Rattle.fancy_grammar.specs.Slices.{Within}
-use Rattle.fancy_grammar.specs.State.{State, at, Outcome, done, fault}
+use Rattle.fancy_grammar.specs.State.{skipped, State, at, Outcome, done, fault}
 use Rattle.fancy_grammar.specs.Tree.{Tree, more_trees, empty, concat, alt, absent, expression, trees_of, list_of, nodes, depth}
 use Rattle.fancy_grammar.specs.Quantified.{Suffix}
 use Rattle.fancy_grammar.proofs.LevelLaws.{size, resolved_size, levels, levels_all, resolved_levels}
@@ -139,7 +140,7 @@ conditional_levels c t f =
 abbrev IsNodeOver : Tree → Tree → Type 0
 IsNodeOver t u = (size u ≤ size t + 1) × (levels u ≤ levels t + 1)
 
-node_over : (h : Head) (p : ℕ) (t : Tree) → IsNodeOver t (node_of h p t)
+node_over : (h : Head) (p : ℕ) (t : Tree) → IsNodeOver t (group_node h p t)
 node_over (capture name) p t = (omega arith, omega arith)
 node_over scope p t = (omega arith, omega arith)
 node_over (look l) p t = (omega arith, omega arith)
@@ -147,8 +148,8 @@ node_over atomic p t = (omega arith, omega arith)
 node_over define p t = (omega arith, omega arith)
 node_over repeater p t = (omega arith, omega arith)
 
-alone_over : (a : Tree) → IsNodeOver a (alone a)
-alone_over a =
+clear_or_stopper_over : (a : Tree) → IsNodeOver a (clear_or_stopper a)
+clear_or_stopper_over a =
     cond_both (is_empty a) _ _ (IsNodeOver a) (λ _. (omega arith, omega arith)) (λ _. (omega arith, omega arith))
 
 -- ---- outcomes
@@ -263,9 +264,9 @@ quants_grow n d left a t =
 abbrev OpensBelow : ℕ → Ahead → Type 0
 OpensBelow d nothing = Unit {0}
 OpensBelow d (leaf o) = Unit {0}
-OpensBelow d _ = d + 1 < 64
+OpensBelow d _ = d + 1 < max_depth
 
-below_at : (d : ℕ) (k : Ahead) → d + 1 < 64 → OpensBelow d k
+below_at : (d : ℕ) (k : Ahead) → d + 1 < max_depth → OpensBelow d k
 below_at d nothing h = tt
 below_at d (leaf o) h = tt
 below_at d _ h = h
@@ -274,7 +275,7 @@ ahead_below : (n d : ℕ) (s : State) → OpensBelow d (ahead n d s)
 unfolding ahead
 ahead_below n d s = by_text s.rest
   where
-    may_open : nat_le max_depth (d + 1) ≡ false → d + 1 < 64
+    may_open : nat_le max_depth (d + 1) ≡ false → d + 1 < max_depth
     may_open e = grind (arith, nat_tests)
 
     by_text : (t : Text) → OpensBelow d (ahead_of n d s t)
@@ -285,7 +286,9 @@ ahead_below n d s = by_text s.rest
         (λ e. below_at d (behind_layout n s (skipped n (at s t))) (may_open e))) (λ _.
         cond_both (is_before_nothing c) _ _ (OpensBelow d) (λ _. tt) (λ _. tt))
 
--- ---- the bounds of each part, which is read from s at depth d and ends at t
+-- ---- the bounds of each part, which is read from s at depth d and ends at t; its levels are max_levels, less 13 for each
+-- depth: of these an Alt takes one and a Concat one, so that a piece has 830, and its quantifiers ten and a group one, so
+-- that an atom has 820, and a group's inside 819
 
 -- of an atom, and of one with its quantifiers: an Empty may take no byte
 abbrev Fits : ℕ → ℕ → State → Tree → State → Type 0
@@ -308,18 +311,18 @@ BranchesFit d s l t =
 abbrev InsideFits : ℕ → State → Tree → State → Type 0
 InsideFits d s r t = (size r + 1 + 2 * bytes t.rest ≤ 2 * bytes s.rest) × (levels r + 13 * d ≤ 819)
 
-leaf_fits : (n d : ℕ) (s : State) (o : Outcome Tree) → d < 64 → LeafSlice n s o → Makes IsReadLeaf o →
+leaf_fits : (n d : ℕ) (s : State) (o : Outcome Tree) → d < max_depth → LeafSlice n s o → Makes IsReadLeaf o →
     Holds (Fits 820 d s) o
 leaf_fits n d s (done a t) l h i = (omega (arith, h.1, weight_most a, ap length i.1), omega (arith, l, i.2))
 leaf_fits n d s (fault k p) l h i = tt
 
 mutual
-  alternation_fits : {n d : ℕ} {s : State} {o : Outcome Tree} → Alternation n d s o → d < 64 → Holds (Fills 832 d s) o
+  alternation_fits : {n d : ℕ} {s : State} {o : Outcome Tree} → Alternation n d s o → d < max_depth → Holds (Fills max_levels d s) o
   alternation_fits (alternation {d} {s} {q} b e) l =
-      then_holds (BranchesFit d s) (Fills 832 d s) q _ (branches_fit b l) e (λ ts v h.
+      then_holds (BranchesFit d s) (Fills max_levels d s) q _ (branches_fit b l) e (λ ts v h.
       (omega (arith, some_choice_size ts h.2, h.0), omega (arith, choice_levels ts, h.1)))
 
-  branches_fit : {n d : ℕ} {s : State} {o : Outcome (List Tree)} → Branches n d s o → d < 64 → Holds (BranchesFit d s) o
+  branches_fit : {n d : ℕ} {s : State} {o : Outcome (List Tree)} → Branches n d s o → d < max_depth → Holds (BranchesFit d s) o
   branches_fit (last b e) l = let h = branch_fits b l in (omega (arith, h.0), omega (arith, h.1), omega arith)
   branches_fit (more {d} {s} {t} {u} {r} {q} b e m f) l =
       let h = branch_fits b l in let past = strip_bytes bar t.rest u e in
@@ -327,12 +330,12 @@ mutual
       (omega (arith, h.0, past, i.0), omega (arith, h.1, i.1), omega arith))
   branches_fit (branch_fault b) l = tt
 
-  branch_fits : {n d : ℕ} {s : State} {o : Outcome Tree} → Branch n d s o → d < 64 → Holds (Fills 831 d s) o
+  branch_fits : {n d : ℕ} {s : State} {o : Outcome Tree} → Branch n d s o → d < max_depth → Holds (Fills 831 d s) o
   branch_fits (branch {d} {s} {q} b e) l =
       then_holds (PiecesFit d s) (Fills 831 d s) q _ (pieces_fit b l) e (λ ts v h.
       (omega (arith, join_size ts, h.0), omega (arith, join_levels ts, h.1)))
 
-  pieces_fit : {n d : ℕ} {s : State} {o : Outcome (List Tree)} → Pieces n d s o → d < 64 → Holds (PiecesFit d s) o
+  pieces_fit : {n d : ℕ} {s : State} {o : Outcome (List Tree)} → Pieces n d s o → d < max_depth → Holds (PiecesFit d s) o
   pieces_fit (stop e) l = (omega arith, omega (arith, l))
   pieces_fit (next {d} {s} {t} {q} e a m f) l =
       let h = piece_fits a l in
@@ -340,7 +343,7 @@ mutual
       (omega (arith, h.0, i.0), omega (arith, h.1, i.1)))
   pieces_fit (piece_fault e a) l = tt
 
-  piece_fits : {n d : ℕ} {s : State} {o : Outcome Tree} → Piece n d s o → d < 64 → Holds (Fits 830 d s) o
+  piece_fits : {n d : ℕ} {s : State} {o : Outcome Tree} → Piece n d s o → d < max_depth → Holds (Fits 830 d s) o
   piece_fits (piece {n} {d} {s} {u} {q} k x e) l =
       let past = fits (skipped_slice n s u k) in
       then_holds (Fits 820 d (at s u)) (Fits 830 d s) q _ (atom_fits x l) e (λ a t h.
@@ -348,13 +351,13 @@ mutual
       (omega (arith, past, h.0, i.0), omega (arith, h.1, i.1))) (quants_grow n d (bytes s.rest) a t))
   piece_fits (layout_fault k) l = tt
 
-  atom_fits : {n d : ℕ} {s : State} {o : Outcome Tree} → Atom n d s o → d < 64 → Holds (Fits 820 d s) o
+  atom_fits : {n d : ℕ} {s : State} {o : Outcome Tree} → Atom n d s o → d < max_depth → Holds (Fits 820 d s) o
   atom_fits (atom {n} {d} {s} {q} {k} e a b) l =
       let h = of_fits a l (subst (AheadSlice n s) e (ahead_slice n d s)) (subst ReadAhead e (ahead_read n d s))
       (subst (OpensBelow d) e (ahead_below n d s)) in
       let P = Holds (Fits 820 d s) in subst P b (behind_keeps P (λ r t f i. i) k s.flags q h)
 
-  of_fits : {k : Ahead} {n d : ℕ} {s : State} {o : Outcome Tree} → AtomOf k n d s o → d < 64 →
+  of_fits : {k : Ahead} {n d : ℕ} {s : State} {o : Outcome Tree} → AtomOf k n d s o → d < max_depth →
       AheadSlice n s k → ReadAhead k → OpensBelow d k → Holds (Fits 820 d s) o
   of_fits a_nothing l h r b = (omega arith, omega (arith, l))
   of_fits (a_leaf {n} {d} {s} {o}) l h r b = leaf_fits n d s o l h r
@@ -362,7 +365,7 @@ mutual
       let p = place_of n s.rest in
       then_holds (InsideFits d t) (Fits 820 d s) q _ (inside_fits i b) e (λ x v k.
       let over = node_over head p x in
-      (omega (arith, weight_most (node_of head p x), over.0, k.0, h.1), omega (arith, over.1, k.1)))
+      (omega (arith, weight_most (group_node head p x), over.0, k.0, h.1), omega (arith, over.1, k.1)))
   of_fits (a_condition {d} {s} i m) l h r b =
       let c = inside_fits i b in body_fits m s (omega (arith, c.0, h.1)) c.1 b
   of_fits (condition_fault i) l h r b = tt
@@ -374,20 +377,20 @@ mutual
       let both = length-append (preorder a) (preorder y) in
       (omega (arith, h.1, first.0, past, i.0, k, both), omega (arith, first.1, i.1))))
   of_fits (one_branch {n} {d} {s} {v} {a} x e f) l h r b =
-      let first = branch_fits x b in let over = alone_over a in
-      subst (Holds (Fits 820 d s)) f (closed_holds (Fits 820 d s) n (alone a) v (λ z k.
-      (omega (arith, weight_most (alone a), over.0, h.1, first.0, k), omega (arith, over.1, first.1))))
+      let first = branch_fits x b in let over = clear_or_stopper_over a in
+      subst (Holds (Fits 820 d s)) f (closed_holds (Fits 820 d s) n (clear_or_stopper a) v (λ z k.
+      (omega (arith, weight_most (clear_or_stopper a), over.0, h.1, first.0, k), omega (arith, over.1, first.1))))
   of_fits (absent_fault x) l h r b = tt
 
-  inside_fits : {n d : ℕ} {s : State} {o : Outcome Tree} → Inside n d s o → d + 1 < 64 → Holds (InsideFits d s) o
+  inside_fits : {n d : ℕ} {s : State} {o : Outcome Tree} → Inside n d s o → d + 1 < max_depth → Holds (InsideFits d s) o
   inside_fits (inside {n} {d} {s} {q} a e) l =
-      then_holds (Fills 832 (d + 1) s) (InsideFits d s) q _ (alternation_fits a l) e (λ t v h.
+      then_holds (Fills max_levels (d + 1) s) (InsideFits d s) q _ (alternation_fits a l) e (λ t v h.
       closed_holds (InsideFits d s) n t v (λ z k. (omega (arith, h.0, k), omega (arith, h.1))))
 
   body_fits : {n d : ℕ} {c : Tree} {t : State} {o : Outcome Tree} → Body n d c t o → (s : State) →
-      size c + 2 + 2 * bytes t.rest ≤ 2 * bytes s.rest → levels c + 13 * d ≤ 819 → d + 1 < 64 → Holds (Fits 820 d s) o
+      size c + 2 + 2 * bytes t.rest ≤ 2 * bytes s.rest → levels c + 13 * d ≤ 819 → d + 1 < max_depth → Holds (Fits 820 d s) o
   body_fits (the_body {n} {d} {c} {s = t} {q} a e) s g h l =
-      then_holds (Fills 832 (d + 1) t) (Fits 820 d s) q _ (alternation_fits a l) e (λ x v i.
+      then_holds (Fills max_levels (d + 1) t) (Fits 820 d s) q _ (alternation_fits a l) e (λ x v i.
       cond_both (bytes v.rest == bytes t.rest && not (is_condition c)) _ _ (Holds (Fits 820 d s)) (λ _. tt) (λ _.
       let parts = branches_of x in let whole = conditional_of c parts.0 parts.1 in let deep = branches_levels x in
       closed_holds (Fits 820 d s) n whole v (λ z k. (
@@ -404,9 +407,9 @@ ended_holds P n r s h = by_text s.rest
     by_text [] = h
     by_text (c ∷ t) = tt
 
-whole_fits : {f : Flags} {text : Text} {o : Outcome Tree} → Whole f text o → Holds (Fills 832 0 (start f text)) o
+whole_fits : {f : Flags} {text : Text} {o : Outcome Tree} → Whole f text o → Holds (Fills max_levels 0 (start f text)) o
 whole_fits (whole {f} {text} {q} a e) =
-    let P = Fills 832 0 (start f text) in
+    let P = Fills max_levels 0 (start f text) in
     then_holds P P q _ (alternation_fits a (omega arith)) e (λ r t h. ended_holds P (bytes text) r t h)
 
 -- an answered tree is small beside its text

@@ -4,18 +4,18 @@ use Rattle.std.specs.Str.{chars}
 use Rattle.fancy_lex.specs.Fault.{general_parse_error}
 use Rattle.fancy_lex.specs.FaultTable.{close_paren_expected, end_expected, body_expected}
 use Rattle.fancy_lex.specs.declared.error.Error.{Error}
-use Rattle.fancy_grammar.specs.Fails.{IsFaultAt}
+use Rattle.fancy_grammar.specs.Fails.{IsErrorAt}
 
 module _ (e : Error) (p : ℕ) where
-  pub says_close_paren : IsFaultAt e (general_parse_error (chars close_paren_expected)) p → IsFaultAt e (general_parse_error close_paren_expected) p
+  pub says_close_paren : IsErrorAt e (general_parse_error (chars close_paren_expected)) p → IsErrorAt e (general_parse_error close_paren_expected) p
   unfolding chars
   says_close_paren h = h
 
-  pub says_end : IsFaultAt e (general_parse_error (chars end_expected)) p →
-      IsFaultAt e (general_parse_error end_expected) p
+  pub says_end : IsErrorAt e (general_parse_error (chars end_expected)) p →
+      IsErrorAt e (general_parse_error end_expected) p
   unfolding chars
   says_end h = h
 
-  pub says_no_body : IsFaultAt e (general_parse_error (chars body_expected)) p → IsFaultAt e (general_parse_error body_expected) p
+  pub says_no_body : IsErrorAt e (general_parse_error (chars body_expected)) p → IsErrorAt e (general_parse_error body_expected) p
   unfolding chars
   says_no_body h = h

@@ -6,7 +6,7 @@ use Rattle.fancy_lex.specs.Target.{Target}
 use Rattle.fancy_parts.specs.Meaning.{Meaning, number, unresolved, faulty, means, back_reference, call, condition}
 use Rattle.fancy_parts.specs.Ranks.{Opening, is_counted, numbers, opened_before}
 use Rattle.fancy_grammar.specs.Preorder.{preorder, preorder_all, preorder_absent}
-use Rattle.fancy_grammar.specs.Resolved.{resolved_in, resolved_all, resolved_absent, node_of}
+use Rattle.fancy_grammar.specs.Resolved.{resolved_in, resolved_all, resolved_absent, reference_node}
 use Rattle.fancy_grammar.specs.Tree.{Tree, Trees, no_trees, more_trees, concat, alt, group, look_around, repeat, atomic_group, conditional, absent, define_group, ast_node, AbsentTree, repeater, expression, stopper, clear, ast_group, ast_backref, ast_call, ast_condition, nodes, nodes_all, nodes_absent, depth, depth_all, depth_absent}
 use Rattle.fancy_grammar.proofs.PreorderLaws.{is_kept, resolved_nodes}
 
@@ -96,19 +96,19 @@ abbrev mutual
   levels_absent clear = 0
 
 backref_level : (m : Meaning) (t : Target) (casei : Bool) (level : Option ℤ) (place : ℕ) →
-    depth (node_of m (ast_backref t casei level) place) ≡ 1
+    depth (reference_node m (ast_backref t casei level) place) ≡ 1
 backref_level (number n) t casei None place = refl
 backref_level (number n) t casei (Some level) place = refl
 backref_level unresolved t casei level place = refl
 backref_level (faulty k) t casei level place = refl
 
-call_level : (m : Meaning) (t : Target) (place : ℕ) → depth (node_of m (ast_call t) place) ≡ 1
+call_level : (m : Meaning) (t : Target) (place : ℕ) → depth (reference_node m (ast_call t) place) ≡ 1
 call_level (number n) t place = refl
 call_level unresolved t place = refl
 call_level (faulty k) t place = refl
 
 condition_level : (m : Meaning) (t : Target) (level : Option ℤ) (place : ℕ) →
-    depth (node_of m (ast_condition t level) place) ≡ 1
+    depth (reference_node m (ast_condition t level) place) ≡ 1
 condition_level (number n) t level place = refl
 condition_level unresolved t level place = refl
 condition_level (faulty k) t level place = refl

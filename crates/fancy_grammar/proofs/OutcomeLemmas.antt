@@ -6,11 +6,11 @@ use Rattle.fancy_lex.specs.declared.error.Error.{Error}
 use Rattle.fancy_lex.specs.declared.error.Error.TheVariants.{ParseError, OutOfMemory}
 use Rattle.fancy_lex.specs.Characters.{bar}
 use Rattle.fancy_lex.specs.declared.flags.Flags.{Flags}
-use Rattle.fancy_grammar.specs.Ahead.{Ahead, nothing, leaf, opens, condition, body, absent_branch, ends}
-use Rattle.fancy_grammar.specs.Grammar.{before, restored, behind_atom, Branch, Branches, more, Piece, Pieces, next}
+use Rattle.fancy_grammar.specs.Ahead.{Ahead, nothing, leaf, with_head, condition, body, absent_branch}
+use Rattle.fancy_grammar.specs.Grammar.{trees_before, restored, behind_atom, Branch, Branches, more, Piece, Pieces, next}
 use Rattle.fancy_grammar.specs.Join.{is_empty, solid}
-use Rattle.fancy_grammar.specs.Fails.{Fails, IsFaultAt}
-use Rattle.fancy_grammar.specs.State.{State, at, Outcome, done, fault, and_then}
+use Rattle.fancy_grammar.specs.Fails.{Fails, IsErrorAt}
+use Rattle.fancy_grammar.specs.State.{ends, State, at, Outcome, done, fault, and_then}
 use Rattle.fancy_grammar.specs.Tree.{Tree}
 
 -- the same tree with other flags
@@ -38,7 +38,7 @@ pub behind_keeps : (P : Outcome Tree → Type 0) →
     (k : Ahead) (f : Flags) (q : Outcome Tree) → P q → P (behind_atom k f q)
 behind_keeps P g nothing f q h = h
 behind_keeps P g (leaf o) f q h = h
-behind_keeps P g (opens a s) f q h = then_keeps P g f q h
+behind_keeps P g (with_head a s) f q h = then_keeps P g f q h
 behind_keeps P g (condition s) f q h = then_keeps P g f q h
 behind_keeps P g (body c s) f q h = then_keeps P g f q h
 behind_keeps P g (absent_branch s) f q h = then_keeps P g f q h
@@ -48,18 +48,18 @@ pub Fails-map : {A B : Type 0} (P : Outcome A → Type 0) (Q : Outcome B → Typ
 Fails-map P Q (ParseError p k) f h = f _ p h
 Fails-map P Q OutOfMemory f h = tt
 
-pub Fails-is : {A : Type 0} (P : Outcome A → Type 0) (e : Error) (k : Kind) (p : ℕ) → IsFaultAt e k p → P (fault k p) → Fails e P
+pub Fails-is : {A : Type 0} (P : Outcome A → Type 0) (e : Error) (k : Kind) (p : ℕ) → IsErrorAt e k p → P (fault k p) → Fails e P
 Fails-is P (ParseError q j) k p h d = rw (h.0, h.1) d
 Fails-is P OutOfMemory k p h d = tt
 
 pub at_done : {A : Type 0} (P : Outcome A → Type 0) {a b : A} {s t : State} → b ≡ a → t ≡ s → P (done a s) → P (done b t)
 at_done P e f h = rw (e, f) h
 
-pub before-nil : (o : Outcome (List Tree)) → before [] o ≡ o
+pub before-nil : (o : Outcome (List Tree)) → trees_before [] o ≡ o
 before-nil (done l s) = refl
 before-nil (fault k p) = refl
 
-pub before-push : (l : List Tree) (r : Tree) (o : Outcome (List Tree)) → before (l ++ r ∷ []) o ≡ before l (before (r ∷ []) o)
+pub before-push : (l : List Tree) (r : Tree) (o : Outcome (List Tree)) → trees_before (l ++ r ∷ []) o ≡ trees_before l (trees_before (r ∷ []) o)
 before-push l r (done m s) = ap (λ n. done n s) (append_assoc l (r ∷ []) m)
 before-push l r (fault k p) = refl
 
@@ -73,9 +73,9 @@ solid-append (r ∷ l) m = by_test (is_empty r) (solid-append l m)
     by_test false h = ap (λ x. r ∷ x) h
 
 pub more_any : {n d : ℕ} {s t : State} {u : Text} {r : Tree} (o : Outcome (List Tree)) → Branch n d s (done r t) → strip bar t.rest ≡ Some u →
-    Branches n d (at t u) o → Branches n d s (before (r ∷ []) o)
+    Branches n d (at t u) o → Branches n d s (trees_before (r ∷ []) o)
 more_any o b e m = more b e m refl
 
 pub next_any : {n d : ℕ} {s t : State} {r : Tree} (o : Outcome (List Tree)) → ends s.rest ≡ false → Piece n d s (done r t) → Pieces n d t o →
-    Pieces n d s (before (r ∷ []) o)
+    Pieces n d s (trees_before (r ∷ []) o)
 next_any o e a m = next e a m refl

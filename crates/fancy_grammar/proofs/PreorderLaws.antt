@@ -8,7 +8,7 @@ use Rattle.fancy_parts.specs.Meaning.{Meaning, number, unresolved, faulty, means
 use Rattle.fancy_parts.specs.Ranks.{Opening, is_counted, numbers, opened_before}
 use Rattle.fancy_grammar.specs.Items.{Item, opening, reference, items, items_all, items_absent}
 use Rattle.fancy_grammar.specs.Preorder.{preorder, preorder_all, preorder_absent}
-use Rattle.fancy_grammar.specs.Resolved.{resolved_in, resolved_all, resolved_absent, group_or_inside, node_of}
+use Rattle.fancy_grammar.specs.Resolved.{resolved_in, resolved_all, resolved_absent, group_or_inside, reference_node}
 use Rattle.fancy_grammar.specs.Tree.{Tree, Trees, no_trees, more_trees, concat, alt, group, look_around, repeat, atomic_group, conditional, absent, define_group, ast_node, AbsentTree, repeater, expression, stopper, clear, ast_group, ast_backref, ast_call, ast_condition}
 
 -- ---- the nodes that resolving keeps
@@ -20,19 +20,19 @@ is_kept named _ = true
 
 -- a reference that is resolved is one node
 one_backref : (m : Meaning) (t : Target) (casei : Bool) (level : Option ℤ) (place : ℕ) →
-    preorder (node_of m (ast_backref t casei level) place) ≡ node_of m (ast_backref t casei level) place ∷ []
+    preorder (reference_node m (ast_backref t casei level) place) ≡ reference_node m (ast_backref t casei level) place ∷ []
 one_backref (number n) t casei None place = refl
 one_backref (number n) t casei (Some level) place = refl
 one_backref unresolved t casei level place = refl
 one_backref (faulty k) t casei level place = refl
 
-one_call : (m : Meaning) (t : Target) (place : ℕ) → preorder (node_of m (ast_call t) place) ≡ node_of m (ast_call t) place ∷ []
+one_call : (m : Meaning) (t : Target) (place : ℕ) → preorder (reference_node m (ast_call t) place) ≡ reference_node m (ast_call t) place ∷ []
 one_call (number n) t place = refl
 one_call unresolved t place = refl
 one_call (faulty k) t place = refl
 
 one_condition : (m : Meaning) (t : Target) (level : Option ℤ) (place : ℕ) →
-    preorder (node_of m (ast_condition t level) place) ≡ node_of m (ast_condition t level) place ∷ []
+    preorder (reference_node m (ast_condition t level) place) ≡ reference_node m (ast_condition t level) place ∷ []
 one_condition (number n) t level place = refl
 one_condition unresolved t level place = refl
 one_condition (faulty k) t level place = refl

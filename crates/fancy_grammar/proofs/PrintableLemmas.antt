@@ -7,7 +7,7 @@ use Rattle.std.proofs.lemmas.List.Folds.{list_all-append}
 use Rattle.fancy_lex.specs.declared.escape.Assertion.{Assertion}
 use Rattle.fancy_lex.specs.declared.escape.Assertion.TheVariants.{EndTextIgnoreTrailingNewlines}
 use Rattle.fancy_grammar.specs.Join.{is_empty, solid, one_or, join}
-use Rattle.fancy_grammar.specs.Normal.{character, items_of, normal, items}
+use Rattle.fancy_grammar.specs.Normal.{character, pieces_of, normal, normal_pieces}
 use Rattle.fancy_grammar.specs.Printable.{printable, all_printable}
 use Rattle.fancy_grammar.specs.Printed.{has_text, all_have_text}
 use Rattle.fancy_grammar.specs.Tree.{Tree, Trees, no_trees, more_trees, empty, any, assertion, literal, concat, alt, group, repeat, delegate, define_group}
@@ -70,13 +70,13 @@ pub one_solid : (b : Bool) (n : Tree) → is_empty n ≡ b → list_all is_empty
 one_solid true n e = refl
 one_solid false n e = rw e refl
 
-items_empty : (t : Tree) → list_all is_empty (items_of t (normal false t)) ≡ is_empty (normal false t)
+items_empty : (t : Tree) → list_all is_empty (pieces_of t (normal false t)) ≡ is_empty (normal false t)
 items_empty (literal s false) = sym (join_empty (map (character false) s))
 items_empty t = one_solid (is_empty (normal false t)) (normal false t) refl
 
-all_items_empty : (ts : Trees) → list_all is_empty (items false ts) ≡ empties ts
+all_items_empty : (ts : Trees) → list_all is_empty (normal_pieces false ts) ≡ empties ts
 all_items_empty no_trees = refl
-all_items_empty (more_trees t ts) = list_all-append is_empty (items_of t (normal false t)) (items false ts) ∙ ap₂ (λ a b. a && b) (items_empty t) (all_items_empty ts)
+all_items_empty (more_trees t ts) = list_all-append is_empty (pieces_of t (normal false t)) (normal_pieces false ts) ∙ ap₂ (λ a b. a && b) (items_empty t) (all_items_empty ts)
 
-pub items_join_empty : (ts : Trees) → is_empty (join (items false ts)) ≡ empties ts
-items_join_empty ts = join_empty (items false ts) ∙ all_items_empty ts
+pub items_join_empty : (ts : Trees) → is_empty (join (normal_pieces false ts)) ≡ empties ts
+items_join_empty ts = join_empty (normal_pieces false ts) ∙ all_items_empty ts

@@ -3,6 +3,7 @@ use Rattle.std.proofs.Common.{◌≡◌, ◌≢◌, ◌<◌, ℕ, zero, suc, ◌
 use Rattle.std.proofs.lemmas.Bool.Decides.{nat_tests}
 use Rattle.fancy_lex.specs.Fault.{Kind, recursion_exceeded}
 use Rattle.fancy_lex.specs.Text.{bytes, place_of}
+use Rattle.fancy_grammar.specs.Depth.{max_depth}
 use Rattle.fancy_grammar.specs.Quantified.{quant, adjacent, may_count, is_unmoved}
 use Rattle.fancy_grammar.specs.State.{State, Outcome, done, fault}
 use Rattle.fancy_grammar.specs.Tree.{Tree}
@@ -34,7 +35,7 @@ unfolding adjacent
 adjacent_counts zero j n d a s e u c i = absurd (true≢false (sym c))
 adjacent_counts (suc k) j n d a s e u c i = let same : k ≡ j = omega arith in rw (e, u, c, same) refl
 
-pub some_may_count : (k d : ℕ) → may_count k d ≡ true → (0 < k) × (d + 1 < 64)
+pub some_may_count : (k d : ℕ) → may_count k d ≡ true → (0 < k) × (d + 1 < max_depth)
 some_may_count zero d e = absurd (true≢false (sym e))
 some_may_count (suc k) d e = (omega arith, grind (arith, nat_tests))
 

@@ -18,13 +18,14 @@ use Rattle.fancy_parts.specs.GroupName.{group_name}
 use Rattle.fancy_parts.specs.HeadReference.{named_reference, named_call, begins_target, condition_target}
 use Rattle.fancy_parts.specs.Quantifier.{counts}
 use Rattle.fancy_parts.specs.declared.counts.Counts.{Counts}
-use Rattle.fancy_grammar.specs.Ahead.{Ahead, leaf, body, ahead, ahead_of, behind_layout, head_ahead, question_ahead, python_ahead, less_ahead, absent_ahead, conditional_ahead, condition_ahead, flags_ahead, named_ahead, target_ahead, backref_node, call_node, leaf_node, leaf_outcome, leaf_of, is_before_nothing, max_depth, skipped}
-use Rattle.fancy_grammar.specs.Grammar.{Alternation, alternation, Branches, last, more, branch_fault, Branch, branch, Pieces, stop, next, piece_fault, Piece, piece, layout_fault, Atom, atom, AtomOf, a_nothing, a_leaf, a_group, a_condition, condition_fault, a_body, two_branches, one_branch, absent_fault, Inside, inside, Body, the_body, Whole, whole, closed, closed_at, ended, ended_at, branches_of, conditional_of, conditional_behind, is_condition, alone}
-use Rattle.fancy_grammar.specs.Head.{Head, capture, scope, look, atomic, define, repeater, node_of}
+use Rattle.fancy_grammar.specs.Ahead.{Ahead, leaf, body, ahead, ahead_of, behind_layout, head_ahead, question_ahead, python_ahead, less_ahead, absent_ahead, conditional_ahead, condition_ahead, flags_ahead, named_ahead, target_ahead, backref_node, call_node, leaf_node, leaf_outcome, leaf_of, is_before_nothing}
+use Rattle.fancy_grammar.specs.Depth.{max_depth}
+use Rattle.fancy_grammar.specs.Grammar.{Alternation, alternation, Branches, last, more, branch_fault, Branch, branch, Pieces, stop, next, piece_fault, Piece, piece, layout_fault, Atom, atom, AtomOf, a_nothing, a_leaf, a_group, a_condition, condition_fault, a_body, two_branches, one_branch, absent_fault, Inside, inside, Body, the_body, Whole, whole, closed, closed_at, ended, ended_at, branches_of, conditional_of, conditional_behind, is_condition, clear_or_stopper}
+use Rattle.fancy_grammar.specs.Head.{Head, capture, scope, look, atomic, define, repeater, group_node}
 use Rattle.fancy_grammar.specs.Join.{join, choice, solid, is_empty, one_or}
 use Rattle.fancy_grammar.specs.Preorder.{preorder, preorder_all}
-use Rattle.fancy_grammar.specs.Quantified.{quants, adjacent, max_adjacent, is_unmoved, quant, quant_at, counted, suffix, is_swapped, quantified, is_repeatable, is_dropped}
-use Rattle.fancy_grammar.specs.State.{State, at, Outcome, done, fault, and_then}
+use Rattle.fancy_grammar.specs.Quantified.{quants, adjacent, max_adjacent, is_unmoved, quant, quant_at, with_counts, suffix, is_swapped, quantified, is_repeatable, is_dropped}
+use Rattle.fancy_grammar.specs.State.{skipped, State, at, Outcome, done, fault, and_then}
 use Rattle.fancy_grammar.specs.Tree.{Tree, Trees, no_trees, more_trees, literal, literal_bytes, concat, alt, group, backref, backref_at_level, backref_exists, subroutine_call, delegate, absent, expression, trees_of, list_of}
 use Rattle.fancy_grammar.specs.Verb.{verb_at}
 use Rattle.fancy_grammar.specs.Quantified.{Suffix}
@@ -116,7 +117,7 @@ quant_read : (n left : ℕ) (a : Tree) (t : State) → IsRead a → Makes IsRead
 unfolding quant
 quant_read n left a t h = by_layout (skipped n t)
   where
-    by_counts : (v : Text) (o : Option (Counts × Text)) → Makes IsRead (counted n left a (at t v) o)
+    by_counts : (v : Text) (o : Option (Counts × Text)) → Makes IsRead (with_counts n left a (at t v) o)
     by_counts v None = h
     by_counts v (Some (c, u)) =
         let marks = suffix n (at t u) c in
@@ -280,7 +281,7 @@ closed_read n r s h = by_text s.rest
     by_text [] = tt
     by_text (c ∷ u) = cond_both (c == code ")") _ _ (Makes IsRead) (λ _. h) (λ _. tt)
 
-node_read : (h : Head) (p : ℕ) (r : Tree) → IsRead r → IsRead (node_of h p r)
+node_read : (h : Head) (p : ℕ) (r : Tree) → IsRead r → IsRead (group_node h p r)
 node_read (capture name) p r i = (tt, i)
 node_read scope p r i = i
 node_read (look l) p r i = (tt, i)
@@ -298,8 +299,8 @@ branches_read (alt (more_trees t ts)) h =
     let each = each_read (more_trees t ts) h.1 in (each.0, choice_read (list_of ts) each.1)
 branches_read r h = (h, (tt, tt))
 
-alone_read : (a : Tree) → IsRead a → IsRead (alone a)
-alone_read a h = cond_both (is_empty a) _ _ IsRead (λ _. (tt, tt)) (λ _. (tt, h))
+clear_or_stopper_read : (a : Tree) → IsRead a → IsRead (clear_or_stopper a)
+clear_or_stopper_read a h = cond_both (is_empty a) _ _ IsRead (λ _. (tt, tt)) (λ _. (tt, h))
 
 behind_body_read : (n left : ℕ) (c r : Tree) (s : State) → IsRead c → IsRead r → Makes IsRead (conditional_behind n c left r s)
 behind_body_read n left c r s h i =
@@ -350,7 +351,7 @@ mutual
       let first = branch_read b in
       then_makes IsRead IsRead q _ (branch_read m) f
       (λ r w x. closed_read n (absent (expression a r)) w (tt, both_read (preorder a) (preorder r) first x))
-  of_read (one_branch {n} {v} {a} b e f) h = subst (Makes IsRead) f (closed_read n (alone a) v (alone_read a (branch_read b)))
+  of_read (one_branch {n} {v} {a} b e f) h = subst (Makes IsRead) f (closed_read n (clear_or_stopper a) v (clear_or_stopper_read a (branch_read b)))
   of_read (absent_fault b) h = tt
 
   inside_read : {n d : ℕ} {s : State} {o : Outcome Tree} → Inside n d s o → Makes IsRead o

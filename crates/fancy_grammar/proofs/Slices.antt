@@ -34,16 +34,17 @@ use Rattle.fancy_parts.specs.FlagLetters.{Letters, letters, setting, scope as sc
 use Rattle.fancy_parts.specs.Quantifier.{counts}
 use Rattle.fancy_parts.specs.declared.counts.Counts.{Counts}
 use Rattle.fancy_grammar.proofs.OutcomeLemmas.{behind_keeps}
-use Rattle.fancy_grammar.specs.Ahead.{Ahead, nothing, leaf, opens, condition, body, absent_branch, ahead, ahead_of, behind_layout, head_ahead, question_ahead, python_ahead, less_ahead, absent_ahead, conditional_ahead, condition_ahead, flags_ahead, leaf_node, leaf_outcome, leaf_of, is_before_nothing, max_depth, skipped, named_ahead, target_ahead, backref_node, call_node}
-use Rattle.fancy_grammar.specs.Grammar.{Alternation, alternation, Branches, last, more, branch_fault, Branch, branch, Pieces, stop, next, piece_fault, Piece, piece, layout_fault, Atom, atom, AtomOf, a_nothing, a_leaf, a_group, a_condition, condition_fault, a_body, two_branches, one_branch, absent_fault, Inside, inside, Body, the_body, Whole, whole, start, closed, closed_at, ended, ended_at, branches_of, conditional_of, conditional_behind, is_condition, alone}
-use Rattle.fancy_grammar.specs.Head.{Head, capture, scope, look, atomic, define, repeater, node_of}
+use Rattle.fancy_grammar.specs.Ahead.{Ahead, nothing, leaf, with_head, condition, body, absent_branch, ahead, ahead_of, behind_layout, head_ahead, question_ahead, python_ahead, less_ahead, absent_ahead, conditional_ahead, condition_ahead, flags_ahead, leaf_node, leaf_outcome, leaf_of, is_before_nothing, named_ahead, target_ahead, backref_node, call_node}
+use Rattle.fancy_grammar.specs.Depth.{max_depth}
+use Rattle.fancy_grammar.specs.Grammar.{Alternation, alternation, Branches, last, more, branch_fault, Branch, branch, Pieces, stop, next, piece_fault, Piece, piece, layout_fault, Atom, atom, AtomOf, a_nothing, a_leaf, a_group, a_condition, condition_fault, a_body, two_branches, one_branch, absent_fault, Inside, inside, Body, the_body, Whole, whole, start, closed, closed_at, ended, ended_at, branches_of, conditional_of, conditional_behind, is_condition, clear_or_stopper}
+use Rattle.fancy_grammar.specs.Head.{Head, capture, scope, look, atomic, define, repeater, group_node}
 use Rattle.fancy_grammar.specs.Join.{join, choice, solid, is_empty, one_or}
 use Rattle.fancy_parts.specs.Meaning.{Reference}
 use Rattle.fancy_grammar.specs.Items.{Item, opening, reference, items, items_all}
-use Rattle.fancy_grammar.specs.Quantified.{quants, adjacent, max_adjacent, is_unmoved, quant, quant_at, counted, suffix, suffix_at, behind_lazy, may_be_possessive, is_swapped, quantified, is_repeatable, is_dropped}
+use Rattle.fancy_grammar.specs.Quantified.{quants, adjacent, max_adjacent, is_unmoved, quant, quant_at, with_counts, suffix, suffix_at, behind_lazy, may_be_possessive, is_swapped, quantified, is_repeatable, is_dropped}
 use Rattle.fancy_grammar.specs.Ordered.{Ascends, place_of_item}
 use Rattle.fancy_grammar.specs.Slices.{Slice, Span, Within, MayStand, items_of}
-use Rattle.fancy_grammar.specs.State.{State, at, Outcome, done, fault, and_then}
+use Rattle.fancy_grammar.specs.State.{skipped, State, at, Outcome, done, fault, and_then}
 use Rattle.fancy_grammar.specs.Tree.{Tree, Trees, no_trees, more_trees, empty, concat, alt, delegate, absent, expression, trees_of, list_of}
 use Rattle.fancy_grammar.specs.Verb.{verb_at}
 use Rattle.fancy_grammar.specs.declared.kinds.BacktrackingControlVerb.{BacktrackingControlVerb}
@@ -260,7 +261,7 @@ quant_slice n left a s t h = by_layout (skipped n t) (layout_slice n t.flags.ign
     W : Outcome Tree → Type 0
     W = Within items n s
 
-    by_counts : (v : Text) (o : Option (Counts × Text)) → Span n (items a) s.rest v → Counted v o → W (counted n left a (at t v) o)
+    by_counts : (v : Text) (o : Option (Counts × Text)) → Span n (items a) s.rest v → Counted v o → W (with_counts n left a (at t v) o)
     by_counts v None l i = l
     by_counts v (Some (c, u)) l i =
         let past : Slice v u = record { word = i.ends.0 ++ i.mark ∷ []; cut = i.ends.1 ∙ sym (append_assoc i.ends.0 (i.mark ∷ []) u) } in
@@ -312,7 +313,7 @@ leaf_within n s (fault k p) h = h
 abbrev pub AheadSlice : ℕ → State → Ahead → Type 0
 AheadSlice n s nothing = Unit {0}
 AheadSlice n s (leaf o) = LeafSlice n s o
-AheadSlice n s (opens h t) = Past s t.rest
+AheadSlice n s (with_head h t) = Past s t.rest
 AheadSlice n s (condition t) = Past s t.rest
 AheadSlice n s (body c t) = Span n (items c) s.rest t.rest × (bytes t.rest + 2 ≤ bytes s.rest)
 AheadSlice n s (absent_branch t) = Past s t.rest
@@ -523,7 +524,7 @@ closed_slice n s t r h = by_text t.rest refl
 
 -- a capturing group's opening stands before its inside
 node_slice : (n : ℕ) (h : Head) (s t : State) (r : Tree) (v : Text) → Past s t.rest → Span n (items r) t.rest v →
-    Span n (items (node_of h (place_of n s.rest) r)) s.rest v
+    Span n (items (group_node h (place_of n s.rest) r)) s.rest v
 node_slice n (capture name) s t r v a b = opened name a b
 node_slice n scope s t r v a b = before a.0 b
 node_slice n (look l) s t r v a b = before a.0 b
@@ -549,8 +550,8 @@ items_branches : (r : Tree) → items r ≡ items (branches_of r).0 ++ items (br
 items_branches (alt (more_trees t ts)) = ap (λ l. items t ++ l) (ap items_all (sym (trees_back ts)) ∙ sym (items_choice (list_of ts)))
 items_branches r = sym (append-nil (items r))
 
-items_alone : (a : Tree) → items a ≡ items (alone a)
-items_alone a = cond_both (is_empty a) _ _ (λ x. items a ≡ items x) (λ e. no_items a e) (λ _. refl)
+items_clear_or_stopper : (a : Tree) → items a ≡ items (clear_or_stopper a)
+items_clear_or_stopper a = cond_both (is_empty a) _ _ (λ x. items a ≡ items x) (λ e. no_items a e) (λ _. refl)
 
 conditional_slice : (n left : ℕ) (s t : State) (c r : Tree) → Span n (items c ++ items r) s.rest t.rest → Within items n s (conditional_behind n c left r t)
 conditional_slice n left s t c r h =
@@ -613,7 +614,7 @@ mutual
       let k = before h.0 (behind (branch_slice b) (strip_slice bar v.rest u e)) in
       then_slice items items n s (at v u) q _ k.slice (branch_slice m) f (λ r w x. closed_slice n s w (absent (expression a r)) (then k x))
   of_slice (one_branch {n} {s} {v} {a} b e f) h =
-      subst (Within items n s) f (closed_slice n s v (alone a) (listed (items_alone a) (before h.0 (branch_slice b))))
+      subst (Within items n s) f (closed_slice n s v (clear_or_stopper a) (listed (items_clear_or_stopper a) (before h.0 (branch_slice b))))
   of_slice (absent_fault b) h = stands_in h.0 (branch_slice b)
 
   pub inside_slice : {n d : ℕ} {s : State} {o : Outcome Tree} → Inside n d s o → Within items n s o

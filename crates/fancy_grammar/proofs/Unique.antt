@@ -4,11 +4,11 @@ use Rattle.fancy_lex.specs.Fault.{Kind}
 use Rattle.fancy_lex.specs.Text.{Text, bytes, place_of}
 use Rattle.fancy_lex.specs.declared.flags.Flags.{Flags}
 use Rattle.fancy_lex.specs.Layout.{rest, fault as open_comment}
-use Rattle.fancy_grammar.specs.Ahead.{Ahead, skipped}
-use Rattle.fancy_grammar.specs.Grammar.{Alternation, alternation, Branches, last, more, branch_fault, Branch, branch, Pieces, stop, next, piece_fault, Piece, piece, layout_fault, Atom, atom, AtomOf, a_nothing, a_leaf, a_group, a_condition, condition_fault, a_body, two_branches, one_branch, absent_fault, Inside, inside, Body, the_body, Whole, whole, closed, conditional_behind, alone}
-use Rattle.fancy_grammar.specs.Head.{node_of}
+use Rattle.fancy_grammar.specs.Ahead.{Ahead}
+use Rattle.fancy_grammar.specs.Grammar.{Alternation, alternation, Branches, last, more, branch_fault, Branch, branch, Pieces, stop, next, piece_fault, Piece, piece, layout_fault, Atom, atom, AtomOf, a_nothing, a_leaf, a_group, a_condition, condition_fault, a_body, two_branches, one_branch, absent_fault, Inside, inside, Body, the_body, Whole, whole, closed, conditional_behind, clear_or_stopper}
+use Rattle.fancy_grammar.specs.Head.{group_node}
 use Rattle.fancy_grammar.specs.Quantified.{quants}
-use Rattle.fancy_grammar.specs.State.{State, at, Outcome, done, fault, and_then, seen_through}
+use Rattle.fancy_grammar.specs.State.{skipped, State, at, Outcome, done, fault, and_then, seen_through}
 use Rattle.fancy_grammar.specs.Tree.{Tree, absent, expression}
 
 -- ---- what one outcome says of another
@@ -100,7 +100,7 @@ mutual
   of_unique a_nothing a_nothing e = cc
   of_unique a_leaf a_leaf e = cc
   of_unique (a_group {n} {h} {q} a f) (a_group b g) e =
-      sym f ∙ ap (λ (x : State). seen_through (node_of h (place_of n x.rest)) q) e ∙ then_same _ refl g (inside_unique a b refl)
+      sym f ∙ ap (λ (x : State). seen_through (group_node h (place_of n x.rest)) q) e ∙ then_same _ refl g (inside_unique a b refl)
   of_unique (a_condition i a) (a_condition j b) e =
       let h = inside_unique i j refl in body_unique a b (value_of h) (state_of h)
   of_unique (a_condition i a) (condition_fault j) e = absurd (done_or_fault (inside_unique i j refl))
@@ -115,7 +115,7 @@ mutual
   of_unique (one_branch a f i) (two_branches b g l j) e = let h = branch_unique a b refl in absurd cc
   of_unique (one_branch {n} {v} a f i) (one_branch {a = c} b g j) e =
       let h = branch_unique a b refl in
-      sym i ∙ ap (λ (x : Tree). closed n (alone x) v) (value_of h) ∙ ap (closed n (alone c)) (state_of h) ∙ j
+      sym i ∙ ap (λ (x : Tree). closed n (clear_or_stopper x) v) (value_of h) ∙ ap (closed n (clear_or_stopper c)) (state_of h) ∙ j
   of_unique (one_branch a f i) (absent_fault b) e = absurd (done_or_fault (branch_unique a b refl))
   of_unique (absent_fault a) (two_branches b g l j) e = absurd (done_or_fault (sym (branch_unique a b refl)))
   of_unique (absent_fault a) (one_branch b g j) e = absurd (done_or_fault (sym (branch_unique a b refl)))

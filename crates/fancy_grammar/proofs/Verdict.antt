@@ -15,7 +15,7 @@ use Rattle.fancy_grammar.specs.Answer.{IsTreeOf, IsFaultOf, of_reading, of_resol
 use Rattle.fancy_grammar.specs.Grammar.{Derives, Faults, Whole}
 use Rattle.fancy_grammar.specs.Items.{items, openings}
 use Rattle.fancy_grammar.specs.Marks.{Marks, marks}
-use Rattle.fancy_grammar.specs.Fails.{Fails, IsThatFault}
+use Rattle.fancy_grammar.specs.Fails.{Fails, IsErrorIn}
 use Rattle.fancy_grammar.specs.Ordered.{Ascends}
 use Rattle.fancy_grammar.specs.Slices.{MayStand}
 use Rattle.fancy_grammar.proofs.ReadBack.ScalarLemmas.{scalars_behind}
@@ -74,7 +74,7 @@ only_reading OutOfMemory f text a = tt
 
 -- the one fault of a text that is read, and cannot be resolved
 pub only_resolving : (e : Error) (f : Flags) (text : Text) (r : Tree) → Derives f text r →
-    IsThatFault e (fault_of f r) → IsOnlyFault e f text
+    IsErrorIn e (fault_of f r) → IsOnlyFault e f text
 only_resolving (ParseError p k) f text r a h =
     (of_resolving a h, λ j q b. other j q b, λ t m b. no_fault f text t m (kind_of k) p b (of_resolving a h))
   where
@@ -111,7 +111,7 @@ pub text_order : (f : Flags) (re : List ℕ) (r : Tree) → IsUtf8 re → Derive
 text_order f re r u a = subst (λ n. Ascends 0 n (items r)) (bytes_chars re u) (ordered_within a.1)
 
 pub resolving_placed : (e : Error) (f : Flags) (re : List ℕ) (r : Tree) → IsUtf8 re → Derives f (chars re) r →
-    IsThatFault e (fault_of f r) → IsPlacedIn e re
+    IsErrorIn e (fault_of f r) → IsPlacedIn e re
 resolving_placed (ParseError p k) f re r u a h =
     placed k re p u
     (fault_place (MayStand (bytes (chars re)) (chars re)) (counted f (openings r)) (items r) (record { place = p; kind = kind_of k })

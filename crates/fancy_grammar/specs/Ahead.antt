@@ -8,7 +8,7 @@ use Rattle.fancy_lex.specs.Escaped as escaped
 use Rattle.fancy_lex.specs.Escaped.{Escape}
 use Rattle.fancy_lex.specs.Fault.{Fault}
 use Rattle.fancy_lex.specs.FaultTable.{comment_not_closed, group_too_deep, group_not_closed, unknown_verb}
-use Rattle.fancy_lex.specs.Layout.{layout, Skipped, rest, fault as open_comment}
+use Rattle.fancy_lex.specs.Layout.{Skipped, rest, fault as open_comment}
 use Rattle.fancy_lex.specs.Reading.{Reading, gives, fails, choose}
 use Rattle.fancy_lex.specs.Referred.{Reference, Call}
 use Rattle.fancy_lex.specs.Text.{Text, place_of, strip_word}
@@ -19,32 +19,20 @@ use Rattle.fancy_lex.specs.declared.flags.Flags.{Flags}
 use Rattle.fancy_parts.specs.FlagLetters.{Letters, letters, setting, scope as scoped}
 use Rattle.fancy_parts.specs.GroupName.{group_name}
 use Rattle.fancy_parts.specs.HeadReference.{named_reference, named_call, begins_target, condition_target}
+use Rattle.fancy_grammar.specs.Depth.{max_depth}
 use Rattle.fancy_grammar.specs.Head.{Head, capture, scope, look, atomic, define, repeater}
-use Rattle.fancy_grammar.specs.State.{State, at, Outcome, done, faulted}
+use Rattle.fancy_grammar.specs.State.{State, at, skipped, Outcome, done, faulted}
 use Rattle.fancy_grammar.specs.Tree.{Tree, empty, any, assertion, general_newline, literal, literal_bytes, delegate}
 use Rattle.fancy_grammar.specs.Tree.{keep_out, continue_from_previous_match_end, verb, ast_node, ast_backref, ast_call}
 use Rattle.fancy_grammar.specs.Tree.{ast_condition}
 use Rattle.fancy_grammar.specs.Verb.{verb_at}
 use Rattle.fancy_grammar.specs.declared.kinds.LookAround.TheVariants.{LookAhead, LookAheadNeg, LookBehind, LookBehindNeg}
 
--- groups nest less deep than this
-abbrev pub max_depth : ℕ
-max_depth = 64
-
--- the layout at the front of the state's text
-abbrev pub skipped : ℕ → State → Skipped
-skipped n s = layout n s.flags.ignore_space s.rest
-
--- a branch ends here: at the end, a bar or a closing parenthesis
-abbrev pub ends : Text → Bool
-ends [] = true
-ends (c ∷ t) = c ∈ "|)"
-
 -- what stands before an atom decides its rule
 pub data Ahead : Type 0 where
   nothing : Ahead  -- no atom: it is Empty, and takes no character
   leaf : Outcome Tree → Ahead  -- an atom that holds no branches, or its fault
-  opens : Head → State → Ahead  -- a group of one alternation, which begins at the state
+  with_head : Head → State → Ahead  -- a group of one alternation, which begins at the state
   condition : State → Ahead  -- a conditional whose condition is an alternation, which begins at the state
   body : Tree → State → Ahead  -- a conditional whose condition is this tree; its body begins at the state
   absent_branch : State → Ahead  -- `(?~|` of an absent expression, stopper or clear; a branch begins at the state
@@ -109,7 +97,7 @@ is_before_nothing c = c ∈ "+*?|)"
 
 -- a group whose name was read
 abbrev pub named_ahead : State → Reading Text → Ahead
-named_ahead s (gives w u) = opens (capture (Some w)) (at s u)
+named_ahead s (gives w u) = with_head (capture (Some w)) (at s u)
 named_ahead s (fails e) = faulty e
 
 -- a conditional whose target was read
@@ -120,7 +108,7 @@ target_ahead s (fails e) = faulty e
 -- a flag group, whose letters were read
 abbrev pub flags_ahead : Reading Letters → Ahead
 flags_ahead (gives (setting f) u) = leaf (done empty (record { flags = f; rest = u }))
-flags_ahead (gives (scoped f) u) = opens scope (record { flags = f; rest = u })
+flags_ahead (gives (scoped f) u) = with_head scope (record { flags = f; rest = u })
 flags_ahead (fails e) = faulty e
 
 -- a verb, whose name and closing parenthesis stand behind the asterisk at the front
@@ -142,19 +130,19 @@ condition_ahead n s c t =
 abbrev pub conditional_ahead : ℕ → State → Text → Ahead
 conditional_ahead n s [] = faulty (group_not_closed n)
 conditional_ahead n s (c ∷ t) =
-    choose (strip_word (codes "DEFINE)") (c ∷ t)) (λ u. opens define (at s u)) (condition_ahead n s c t)
+    choose (strip_word (codes "DEFINE)") (c ∷ t)) (λ u. with_head define (at s u)) (condition_ahead n s c t)
 
 -- behind `(?~`, where more text is due: a bar, or an alternation
 abbrev pub absent_ahead : ℕ → State → Text → Ahead
 absent_ahead n s [] = faulty (group_not_closed n)
-absent_ahead n s (c ∷ t) = if c == code "|" then absent_branch (at s t) else opens repeater (at s (c ∷ t))
+absent_ahead n s (c ∷ t) = if c == code "|" then absent_branch (at s t) else with_head repeater (at s (c ∷ t))
 
 -- behind `(?<`, which begins at m: look-behind, or a name
 abbrev pub less_ahead : ℕ → State → Text → Text → Ahead
 less_ahead n s m [] = named_ahead s (group_name n m)
 less_ahead n s m (c ∷ t) =
-    if c == code "=" then opens (look LookBehind) (at s t)
-    else if c == code "!" then opens (look LookBehindNeg) (at s t)
+    if c == code "=" then with_head (look LookBehind) (at s t)
+    else if c == code "!" then with_head (look LookBehindNeg) (at s t)
     else named_ahead s (group_name n m)
 
 -- behind `(?P`, which begins at m: a name, a reference, a call, or letters of flags
@@ -170,23 +158,23 @@ python_ahead n s m (c ∷ t) =
 abbrev pub question_ahead : ℕ → State → Text → Ahead
 question_ahead n s [] = flags_ahead (letters n s.flags [])
 question_ahead n s (c ∷ t) =
-    if c == code "=" then opens (look LookAhead) (at s t)
-    else if c == code "!" then opens (look LookAheadNeg) (at s t)
+    if c == code "=" then with_head (look LookAhead) (at s t)
+    else if c == code "!" then with_head (look LookAheadNeg) (at s t)
     else if c == code "<" then less_ahead n s (c ∷ t) t
     else if c == code "'" then named_ahead s (group_name n (c ∷ t))
     else if c == code "P" then python_ahead n s (c ∷ t) t
     else if c == code "~" then absent_ahead n s t
-    else if c == code ">" then opens atomic (at s t)
+    else if c == code ">" then with_head atomic (at s t)
     else if c == code "(" then conditional_ahead n s t
     else flags_ahead (letters n s.flags (c ∷ t))
 
 -- behind the parenthesis and layout: the head of the group, if it has one
 abbrev pub head_ahead : ℕ → State → Text → Ahead
-head_ahead n s [] = opens (capture None) (at s [])
+head_ahead n s [] = with_head (capture None) (at s [])
 head_ahead n s (c ∷ t) =
     if c == code "?" then question_ahead n s t
     else if c == code "*" then verb_ahead n s c t
-    else opens (capture None) (at s (c ∷ t))
+    else with_head (capture None) (at s (c ∷ t))
 
 abbrev pub behind_layout : ℕ → State → Skipped → Ahead
 behind_layout n s (rest u) = head_ahead n s u

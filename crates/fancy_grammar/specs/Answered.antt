@@ -5,6 +5,7 @@ use Rattle.std.specs.List.{AllByRecursion, list_any}
 use Rattle.fancy_lex.specs.Text.{Text}
 use Rattle.fancy_lex.specs.declared.flags.Flags.{Flags}
 use Rattle.fancy_parts.specs.Ranks.{Opening, only_named, is_counted, counted}
+use Rattle.fancy_grammar.specs.Depth.{max_levels}
 use Rattle.fancy_grammar.specs.Items.{openings}
 use Rattle.fancy_grammar.specs.Marks.{Marks, ascending}
 use Rattle.fancy_grammar.specs.Preorder.{preorder}
@@ -30,10 +31,9 @@ IsAnsweredNode _ = Unit {0}
 abbrev pub IsAnswered : Tree → Type 0
 IsAnswered t = AllByRecursion IsAnsweredNode (preorder t)
 
--- a tree of n bytes has at most 2 n + 1 nodes, and at most 832 levels: on each of 64 an Alt, a Concat, five
--- quantifiers of two nodes, and a group or leaf
+-- a tree of n bytes has at most 2 n + 1 nodes, and at most so many levels
 abbrev pub IsSmall : Tree → ℕ → Type 0
-IsSmall t n = (nodes t ≤ 2 * n + 1) × (depth t ≤ 832)
+IsSmall t n = (nodes t ≤ 2 * n + 1) × (depth t ≤ max_levels)
 
 abbrev pub is_group : Tree → Bool
 is_group (group t) = true

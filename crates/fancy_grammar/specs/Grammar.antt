@@ -11,17 +11,18 @@ use Rattle.fancy_lex.specs.FaultTable.{body_wanting}
 use Rattle.fancy_lex.specs.Layout.{rest, fault as open_comment}
 use Rattle.fancy_lex.specs.Text.{Text, bytes, place_of, strip}
 use Rattle.fancy_lex.specs.declared.flags.Flags.{Flags}
-use Rattle.fancy_grammar.specs.Ahead.{Ahead, nothing, leaf, opens, condition, body, absent_branch, ahead, ends, skipped}
-use Rattle.fancy_grammar.specs.Head.{Head, node_of}
+use Rattle.fancy_grammar.specs.Ahead.{Ahead, nothing, leaf, with_head, condition, body, absent_branch, ahead}
+use Rattle.fancy_grammar.specs.Head.{Head, group_node}
 use Rattle.fancy_grammar.specs.Join.{join, choice, is_empty}
 use Rattle.fancy_grammar.specs.Quantified.{quants}
-use Rattle.fancy_grammar.specs.State.{State, at, Outcome, done, fault, faulted, and_then, seen_through}
+use Rattle.fancy_grammar.specs.State.{ends, skipped, State, at, Outcome, done, fault, faulted, and_then, seen_through}
 use Rattle.fancy_grammar.specs.Tree.{Tree, more_trees, list_of, empty, alt, conditional, absent, clear, stopper}
 use Rattle.fancy_grammar.specs.Tree.{expression, ast_node, AstTree, ast_condition}
 
 -- ---- what a part comes to behind its last one
 
--- the tree, where the closing parenthesis follows
+-- the tree, where the closing parenthesis follows; the only other character that may stand there is a bar behind the
+-- second branch of an absent expression, since an alternation goes on behind a bar
 abbrev pub closed_at : ℕ → Tree → State → Text → Outcome Tree
 closed_at n r s [] = faulted (group_not_closed n)
 closed_at n r s (c ∷ t) =
@@ -43,7 +44,7 @@ is_condition _ = false
 abbrev pub conditional_of : Tree → Tree → Tree → Tree
 conditional_of c t f = if is_empty t && is_empty f then c else conditional c t f
 
--- the branches of a conditional's body: of an Alt the first, and the choice among the others
+-- the branches of a conditional's body: of an Alt, which has two or more, the first, and the choice among the others
 abbrev pub branches_of : Tree → Tree × Tree
 branches_of (alt (more_trees t ts)) = (t, choice (list_of ts))
 branches_of r = (r, empty)
@@ -56,8 +57,8 @@ conditional_behind n c left r s =
     else closed n (conditional_of c (branches_of r).0 (branches_of r).1) s
 
 -- a branch behind `(?~|`, where no other follows
-abbrev pub alone : Tree → Tree
-alone a = if is_empty a then absent clear else absent (stopper a)
+abbrev pub clear_or_stopper : Tree → Tree
+clear_or_stopper a = if is_empty a then absent clear else absent (stopper a)
 
 -- ---- the flags behind an atom
 
@@ -72,6 +73,10 @@ behind_atom (leaf o) f q = q
 behind_atom _ f q = restored f q
 
 -- ---- the productions
+
+-- In each of them n is how many bytes the pattern has, and d how many groups are open; s is the state before what is
+-- read, t and v are states behind it, in text order, and u is a text behind it; r, a and c are trees, of which c is a
+-- condition; q is the outcome of a part, and o that of the whole; k and p are the kind and the place of a fault.
 
 mutual
   -- branches with bars between
@@ -104,7 +109,7 @@ mutual
         and_then q (quants n d (bytes s.rest)) ≡ o → Piece n d s o
     layout_fault : {n d p : ℕ} {s : State} → skipped n s ≡ open_comment p → Piece n d s (faulted (comment_not_closed p))
 
-  -- what stands ahead decides which rule of an atom applies
+  -- what stands ahead, k, decides which rule of an atom applies
   pub data Atom : ℕ → ℕ → State → Outcome Tree → Type 0 where
     atom : {n d : ℕ} {s : State} {q o : Outcome Tree} {k : Ahead} → ahead n d s ≡ k → AtomOf k n d s q →
         behind_atom k s.flags q ≡ o → Atom n d s o
@@ -113,7 +118,7 @@ mutual
     a_nothing : {n d : ℕ} {s : State} → AtomOf nothing n d s (done empty s)
     a_leaf : {n d : ℕ} {s : State} {o : Outcome Tree} → AtomOf (leaf o) n d s o
     a_group : {n d : ℕ} {h : Head} {s t : State} {q o : Outcome Tree} → Inside n d t q →
-        seen_through (node_of h (place_of n s.rest)) q ≡ o → AtomOf (opens h t) n d s o
+        seen_through (group_node h (place_of n s.rest)) q ≡ o → AtomOf (with_head h t) n d s o
     -- a conditional: its condition's parentheses, and its body
     a_condition : {n d : ℕ} {s t v : State} {c : Tree} {o : Outcome Tree} → Inside n d t (done c v) → Body n d c v o →
         AtomOf (condition t) n d s o
@@ -125,7 +130,7 @@ mutual
         Branch n (d + 1) t (done a v) → strip bar v.rest ≡ Some u → Branch n (d + 1) (at v u) q →
         and_then q (λ e. closed n (absent (expression a e))) ≡ o → AtomOf (absent_branch t) n d s o
     one_branch : {n d : ℕ} {s t v : State} {a : Tree} {o : Outcome Tree} → Branch n (d + 1) t (done a v) →
-        strip bar v.rest ≡ None → closed n (alone a) v ≡ o → AtomOf (absent_branch t) n d s o
+        strip bar v.rest ≡ None → closed n (clear_or_stopper a) v ≡ o → AtomOf (absent_branch t) n d s o
     absent_fault : {n d p : ℕ} {s t : State} {k : Kind} → Branch n (d + 1) t (fault k p) →
         AtomOf (absent_branch t) n d s (fault k p)
 
@@ -145,7 +150,7 @@ mutual
 abbrev pub start : Flags → Text → State
 start f text = record { flags = f; rest = text }
 
--- the tree, where nothing is left over
+-- the tree, where nothing is left over; what is left can only begin with a closing parenthesis
 abbrev pub ended_at : ℕ → Tree → State → Text → Outcome Tree
 ended_at n r s [] = done r s
 ended_at n r s (c ∷ t) = faulted (close_paren_left_over n s.rest)
@@ -167,5 +172,5 @@ abbrev pub Faults : Flags → Text → Kind → ℕ → Type 0
 Faults f text k p = Whole f text (fault k p)
 
 -- the trees so far, before those that follow
-abbrev pub before : List Tree → Outcome (List Tree) → Outcome (List Tree)
-before l = seen_through (λ m. l ++ m)
+abbrev pub trees_before : List Tree → Outcome (List Tree) → Outcome (List Tree)
+trees_before l = seen_through (λ m. l ++ m)

@@ -14,10 +14,10 @@ pub data Head : Type 0 where
   repeater : Head  -- an absent repeater
 
 -- the node round the inside of a group that opens at the place p
-abbrev pub node_of : Head → ℕ → Tree → Tree
-node_of (capture name) p t = ast_node (ast_group name t) p
-node_of scope p t = t
-node_of (look l) p t = look_around t l
-node_of atomic p t = atomic_group t
-node_of define p t = define_group t
-node_of repeater p t = absent (repeater_of t)
+abbrev pub group_node : Head → ℕ → Tree → Tree
+group_node (capture name) p t = ast_node (ast_group name t) p
+group_node scope p t = t
+group_node (look l) p t = look_around t l
+group_node atomic p t = atomic_group t
+group_node define p t = define_group t
+group_node repeater p t = absent (repeater_of t)

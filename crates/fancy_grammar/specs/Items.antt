@@ -61,9 +61,6 @@ references_in (reference r ∷ l) = r ∷ references_in l
 abbrev pub openings : Tree → List Opening
 openings r = openings_in (items r)
 
-abbrev pub openings_all : Trees → List Opening
-openings_all ts = openings_in (items_all ts)
-
 -- the references of a raw tree in text order
 abbrev pub references : Tree → List Reference
 references r = references_in (items r)

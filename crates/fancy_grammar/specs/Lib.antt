@@ -5,6 +5,7 @@ pub mod Tree
 pub mod Same
 pub mod SameLaws
 -- ---- reading: the grammar, and the faults that it comes to
+pub mod Depth
 pub mod State
 pub mod Head
 pub mod Verb

@@ -15,23 +15,23 @@ use Rattle.fancy_grammar.specs.Tree.{group, repeat, delegate, define_group}
 
 -- ---- the flags that a printed text is read under
 
--- Unicode or not, and the flags that a printed group sets: under these nothing is layout and no quantifier is swapped
-abbrev pub under : Bool → Bool → Bool → Bool → Bool → Flags
-under unicode casei multi dotnl crlf = record {
-  casei = casei;
-  multi = multi;
-  dotnl = dotnl;
+-- no flag, or UNICODE alone
+abbrev pub bare : Bool → Flags
+bare unicode = record {
+  casei = false;
+  multi = false;
+  dotnl = false;
   swap_greed = false;
   ignore_space = false;
   unicode = unicode;
-  crlf = crlf;
+  crlf = false;
   oniguruma_mode = false;
   ignore_numbered_groups = false;
 }
 
--- no flag, or UNICODE alone
-abbrev pub bare : Bool → Flags
-bare unicode = under unicode false false false false
+-- these, and CASEI where that is asked
+abbrev pub case_flags : Bool → Bool → Flags
+case_flags unicode casei = record (bare unicode) { casei = casei }
 
 -- ---- the text of a Delegate, read again
 
@@ -55,28 +55,28 @@ class_of f (c ∷ t) = if c ∈ "[\\" then whole_leaf (leaf_of (bytes (c ∷ t))
 abbrev pub character : Bool → ℕ → Tree
 character casei c = literal (c ∷ []) (casei && is_none (behind_backslash c))
 
--- what a tree of this normal form is among the parts of a sequence
-abbrev pub items_of : Tree → Tree → List Tree
-items_of (literal s false) n = map (character false) s
-items_of _ n = solid (n ∷ [])
+-- what a tree of this normal form is among the pieces of a sequence
+abbrev pub pieces_of : Tree → Tree → List Tree
+pieces_of (literal s false) n = map (character false) s
+pieces_of _ n = solid (n ∷ [])
 
 abbrev mutual
   pub normal : Bool → Tree → Tree
   normal u (any newline crlf) = any newline (not newline && crlf)
   normal u (assertion (StartLineOniguruma crlf)) = assertion (StartLine crlf)
   normal u (literal s casei) = join (map (character casei) s)
-  normal u (delegate s casei) = unwrap_or (class_of (under u casei false false false) s) (delegate s casei)
-  normal u (concat ts) = join (items u ts)
+  normal u (delegate s casei) = unwrap_or (class_of (case_flags u casei) s) (delegate s casei)
+  normal u (concat ts) = join (normal_pieces u ts)
   normal u (alt ts) = choice (normals u ts)
   normal u (group t) = group (normal u t)
   normal u (repeat t lo hi greedy) = repeat (normal u t) lo hi greedy
   normal u (define_group t) = empty
   normal u t = t
 
-  -- the parts of a sequence
-  pub items : Bool → Trees → List Tree
-  items u no_trees = []
-  items u (more_trees t ts) = items_of t (normal u t) ++ items u ts
+  -- the pieces of a sequence
+  pub normal_pieces : Bool → Trees → List Tree
+  normal_pieces u no_trees = []
+  normal_pieces u (more_trees t ts) = pieces_of t (normal u t) ++ normal_pieces u ts
 
   pub normals : Bool → Trees → List Tree
   normals u no_trees = []

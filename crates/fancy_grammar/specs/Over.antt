@@ -2,7 +2,7 @@
 use Rattle.std.specs.Prelude.{ℕ, ◌+◌, ◌==◌, Bool, true, false, ◌||◌, nat_lt, List, [], ◌∷◌, ◌++◌, codes, find}
 use Rattle.std.specs.Prelude.{option_map, unwrap_or}
 use Rattle.fancy_lex.specs.Text.{Text, bytes}
-use Rattle.fancy_grammar.specs.Ahead.{max_depth}
+use Rattle.fancy_grammar.specs.Depth.{max_depth}
 use Rattle.fancy_grammar.specs.Printed.{is_long, printed}
 use Rattle.fancy_grammar.specs.Tree.{Tree, Trees, no_trees, more_trees, any, assertion, literal, concat, alt, group}
 use Rattle.fancy_grammar.specs.Tree.{repeat, delegate}
@@ -59,6 +59,6 @@ abbrev mutual
 abbrev pub is_too_deep : Paren → Bool
 is_too_deep q = q.round + 1 == max_depth
 
--- the place of the first group that is too deep
+-- the place of the first group that is too deep; 0 where none is
 abbrev pub over : Tree → ℕ → ℕ
 over t p = unwrap_or (option_map (λ q. q.place) (find is_too_deep (parens t p 0 0))) 0

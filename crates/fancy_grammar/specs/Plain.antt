@@ -2,9 +2,8 @@
 use Rattle.std.specs.Prelude.{◌≡◌, ℕ, Bool, false, ◌&&◌, [], ◌∷◌}
 use Rattle.fancy_lex.specs.Characters.{◌∈◌}
 use Rattle.fancy_lex.specs.Text.{Text}
-use Rattle.fancy_grammar.specs.Ahead.{ends}
 use Rattle.fancy_grammar.specs.Grammar.{Piece}
-use Rattle.fancy_grammar.specs.State.{State, at, done}
+use Rattle.fancy_grammar.specs.State.{ends, State, at, done}
 use Rattle.fancy_grammar.specs.Tree.{literal}
 
 -- with these a group, an escape, a class, a quantifier, another leaf or the end of a branch begins

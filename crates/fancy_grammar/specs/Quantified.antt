@@ -9,9 +9,9 @@ use Rattle.fancy_lex.specs.Text.{Text, bytes, strip}
 use Rattle.fancy_lex.specs.declared.flags.Flags.{Flags}
 use Rattle.fancy_parts.specs.Quantifier.{counts}
 use Rattle.fancy_parts.specs.declared.counts.Counts.{Counts}
-use Rattle.fancy_grammar.specs.Ahead.{max_depth, skipped}
+use Rattle.fancy_grammar.specs.Depth.{max_depth}
 use Rattle.fancy_grammar.specs.Join.{is_empty}
-use Rattle.fancy_grammar.specs.State.{State, at, Outcome, done, faulted, and_then, seen_through}
+use Rattle.fancy_grammar.specs.State.{skipped, State, at, Outcome, done, faulted, and_then, seen_through}
 use Rattle.fancy_grammar.specs.Tree.{Tree, empty, assertion, look_around, keep_out, continue_from_previous_match_end}
 use Rattle.fancy_grammar.specs.Tree.{verb, repeat, atomic_group}
 
@@ -72,16 +72,16 @@ abbrev pub suffix : ℕ → State → Counts → Outcome Suffix
 suffix n s c = suffix_at s c (skipped n s)
 
 -- the tree under these counts; where it is not repeatable, the fault stands at the mark or the closing brace
-abbrev pub counted : ℕ → ℕ → Tree → State → Option (Counts × Text) → Outcome Tree
-counted n left a s None = done a s
-counted n left a s (Some (c, t)) =
+abbrev pub with_counts : ℕ → ℕ → Tree → State → Option (Counts × Text) → Outcome Tree
+with_counts n left a s None = done a s
+with_counts n left a s (Some (c, t)) =
     if is_repeatable s.flags a then seen_through (λ m. quantified s.flags c m a) (suffix n (at s t) c)
     else if is_dropped s.flags left a t then seen_through (λ m. a) (suffix n (at s t) c)
     else faulted (not_repeatable n t)
 
 -- behind the layout before a quantifier
 abbrev pub quant_at : ℕ → ℕ → Tree → State → Skipped → Outcome Tree
-quant_at n left a s (rest t) = counted n left a (at s t) (counts s.flags.ignore_space t)
+quant_at n left a s (rest t) = with_counts n left a (at s t) (counts s.flags.ignore_space t)
 quant_at n left a s (open_comment p) = faulted (comment_not_closed p)
 
 -- layout, and the tree under the quantifier that follows it, or the tree itself where none does

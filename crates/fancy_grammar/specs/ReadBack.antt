@@ -4,7 +4,7 @@ use Rattle.fancy_lex.specs.Fault.{Kind, recursion_exceeded}
 use Rattle.fancy_lex.specs.Flags.{no_flag, unicode_alone}
 use Rattle.fancy_lex.specs.Text.{Text}
 use Rattle.fancy_lex.specs.declared.flags.Flags.{Flags}
-use Rattle.fancy_grammar.specs.Ahead.{max_depth}
+use Rattle.fancy_grammar.specs.Depth.{max_depth}
 use Rattle.fancy_grammar.specs.Answer.{IsTreeOf, IsFaultOf}
 use Rattle.fancy_grammar.specs.Answered.{groups}
 use Rattle.fancy_grammar.specs.Marks.{Marks}

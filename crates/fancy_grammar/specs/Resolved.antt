@@ -12,21 +12,21 @@ use Rattle.fancy_grammar.specs.Tree.{conditional, define_group, absent, AbsentTr
 use Rattle.fancy_grammar.specs.Tree.{ast_node, AstTree, ast_group, ast_backref, ast_call, ast_condition}
 use Rattle.fancy_grammar.specs.Tree.{backref, backref_at_level, subroutine_call, backref_exists}
 
--- the node of a reference that means this; one without a number stays as it is read
-abbrev pub node_of : Meaning → AstTree → ℕ → Tree
-node_of (number n) (ast_backref t casei None) place = backref n casei
-node_of (number n) (ast_backref t casei (Some level)) place = backref_at_level n level casei
-node_of (number n) (ast_call t) place = subroutine_call n
-node_of (number n) (ast_condition t level) place = backref_exists n level
-node_of _ node place = ast_node node place
+-- the node of a reference that means this; one that has no number for its meaning stays as it is read
+abbrev pub reference_node : Meaning → AstTree → ℕ → Tree
+reference_node (number n) (ast_backref t casei None) place = backref n casei
+reference_node (number n) (ast_backref t casei (Some level)) place = backref_at_level n level casei
+reference_node (number n) (ast_call t) place = subroutine_call n
+reference_node (number n) (ast_condition t level) place = backref_exists n level
+reference_node _ node place = ast_node node place
 
--- the node of a reference behind the openings of c groups, where each name has these numbers
+-- the node of a reference behind the openings of c groups, where each name has these numbers; a group is none, and stays
 abbrev pub resolved_node : (Text → List ℕ) → ℕ → AstTree → ℕ → Tree
 resolved_node numbers_of c (ast_backref t casei level) place =
-    node_of (means numbers_of c back_reference t) (ast_backref t casei level) place
-resolved_node numbers_of c (ast_call t) place = node_of (means numbers_of c call t) (ast_call t) place
+    reference_node (means numbers_of c back_reference t) (ast_backref t casei level) place
+resolved_node numbers_of c (ast_call t) place = reference_node (means numbers_of c call t) (ast_call t) place
 resolved_node numbers_of c (ast_condition t level) place =
-    node_of (means numbers_of c condition t) (ast_condition t level) place
+    reference_node (means numbers_of c condition t) (ast_condition t level) place
 resolved_node numbers_of c (ast_group name t) place = ast_node (ast_group name t) place
 
 -- a group that has a number is a Group, and another one is its inside

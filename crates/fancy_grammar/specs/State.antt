@@ -1,6 +1,8 @@
 -- Where a reading stands, and what it comes to.
-use Rattle.std.specs.Prelude.{ℕ}
+use Rattle.std.specs.Prelude.{ℕ, Bool, true, [], ◌∷◌}
+use Rattle.fancy_lex.specs.Characters.{◌∈◌}
 use Rattle.fancy_lex.specs.Fault.{Kind, Fault}
+use Rattle.fancy_lex.specs.Layout.{layout, Skipped}
 use Rattle.fancy_lex.specs.Text.{Text}
 use Rattle.fancy_lex.specs.declared.flags.Flags.{Flags}
 
@@ -12,6 +14,15 @@ pub record State : Type 0 where
 -- the same flags at a later text
 abbrev pub at : State → Text → State
 at s t = record s { rest = t }
+
+-- the layout at the front of the state's text
+abbrev pub skipped : ℕ → State → Skipped
+skipped n s = layout n s.flags.ignore_space s.rest
+
+-- a branch ends here: at the end, a bar or a closing parenthesis
+abbrev pub ends : Text → Bool
+ends [] = true
+ends (c ∷ t) = c ∈ "|)"
 
 -- what is read, with the state after it; or the fault that ends the reading, with its place
 pub data Outcome (A : Type 0) : Type 0 where

@@ -132,12 +132,6 @@ is_list (concat ts) = true
 is_list (alt ts) = true
 is_list _ = false
 
--- the tree with its list of children set to us
-abbrev pub with_children : Tree → Trees → Tree
-with_children (concat ts) us = concat us
-with_children (alt ts) us = alt us
-with_children t _ = t
-
 -- ---- the measures of a tree
 
 abbrev mutual

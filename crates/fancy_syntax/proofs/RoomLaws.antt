@@ -12,8 +12,8 @@ use borrow.Author.Tests.{ltb-true, ltb-false}
 use Rattle.fancy_lex.specs.Characters.{bar}
 use Rattle.fancy_lex.specs.Text.{Text, bytes}
 use Rattle.fancy_parts.proofs.QuoteLemmas.{bytes_high}
-use Rattle.fancy_grammar.specs.Ahead.{Ahead, nothing, leaf, opens, condition, body, absent_branch, ahead, ahead_of, is_before_nothing}
-use Rattle.fancy_syntax.specs.Machine.{parens, Open, Opens, a_group, a_condition, a_body, behind_condition, a_branch, behind_branch}
+use Rattle.fancy_grammar.specs.Ahead.{Ahead, nothing, leaf, with_head, condition, body, absent_branch, ahead, ahead_of, is_before_nothing}
+use Rattle.fancy_syntax.specs.Machine.{parens, OpenPart, Opens, a_group, a_condition, a_body, behind_condition, a_branch, behind_branch}
 use Rattle.fancy_grammar.specs.Slices.{Slice}
 use Rattle.fancy_grammar.specs.State.{State, at}
 use Rattle.fancy_grammar.proofs.Slices.{AheadSlice, ahead_slice, skipped_slice, inside_slice, branch_slice, strip_slice}
@@ -43,7 +43,7 @@ ahead_begins n d s = by_text s.rest
     paren : (c : ℕ) (t : Text) (k : Ahead) → (c == code "(") ≡ true → Begins (c ∷ t) k
     paren c t nothing e = tt
     paren c t (leaf o) e = tt
-    paren c t (opens h v) e = (t, is_paren c t e)
+    paren c t (with_head h v) e = (t, is_paren c t e)
     paren c t (condition v) e = (t, is_paren c t e)
     paren c t (body a v) e = (t, is_paren c t e)
     paren c t (absent_branch v) e = (t, is_paren c t e)
@@ -66,7 +66,7 @@ fewer t u (v, e) a l = by_word a.word a.cut
         let first : parens (code "(" ∷ v) ≡ 1 + parens v = parens-append (code "(" ∷ []) v in
         omega (arith, ap parens e, first, ap parens tail, parens-append w u)
 
-pub opens_parens : {n d : ℕ} {s t : State} {o : Open} → Opens n d s o t → parens t.rest + 1 ≤ parens s.rest
+pub opens_parens : {n d : ℕ} {s t : State} {o : OpenPart} → Opens n d s o t → parens t.rest + 1 ≤ parens s.rest
 opens_parens (a_group {n} {d} {s} {t} {u} l e) =
     let h = subst (AheadSlice n (at s u)) e (ahead_slice n d (at s u)) in
     omega (arith, slice_parens (skipped_slice n s u l), fewer u t.rest (subst (Begins u) e (ahead_begins n d (at s u))) h.0 h.1)

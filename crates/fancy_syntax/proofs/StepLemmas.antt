@@ -3,9 +3,9 @@ use Rattle.std.proofs.Common.{◌≡◌, ℕ, ◌<◌, ◌≤◌, false, Result,
 use Rattle.std.proofs.Math.Nat.{eq-or-lt_of_le}
 use Rattle.fancy_lex.specs.Text.{Text, bytes}
 use Rattle.fancy_lex.specs.declared.error.Error.{Error}
-use Rattle.fancy_grammar.specs.Ahead.{nothing, ahead, ends}
+use Rattle.fancy_grammar.specs.Ahead.{nothing, ahead}
 use Rattle.fancy_grammar.specs.Quantified.{quants}
-use Rattle.fancy_grammar.specs.State.{State, at}
+use Rattle.fancy_grammar.specs.State.{ends, State, at}
 use Rattle.fancy_grammar.specs.Tree.{empty}
 use Rattle.fancy_grammar.proofs.AheadLemmas.{nothing_repeats}
 use Rattle.fancy_syntax.specs.Machine.{GivesPiece}

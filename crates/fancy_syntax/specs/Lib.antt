@@ -10,6 +10,7 @@ pub use Rattle.fancy_grammar.specs.SameLaws
 pub mod Loans
 pub mod Writes
 -- ---- reading: the grammar, what references mean, and what is answered
+pub use Rattle.fancy_grammar.specs.Depth
 pub use Rattle.fancy_grammar.specs.State
 pub use Rattle.fancy_grammar.specs.Head
 pub use Rattle.fancy_grammar.specs.Verb

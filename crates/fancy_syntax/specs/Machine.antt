@@ -8,17 +8,18 @@ use Rattle.fancy_lex.specs.FaultTable.{bar_for_close_paren, body_wanting}
 use Rattle.fancy_lex.specs.Layout.{rest}
 use Rattle.fancy_lex.specs.Text.{Text, bytes, place_of, strip}
 use Rattle.fancy_lex.specs.declared.error.Error.{Error}
-use Rattle.fancy_grammar.specs.Ahead.{ahead, ends, skipped, max_depth}
+use Rattle.fancy_grammar.specs.Ahead.{ahead}
+use Rattle.fancy_grammar.specs.Depth.{max_depth}
 use Rattle.fancy_grammar.specs.Ahead as seen
 use Rattle.fancy_grammar.specs.Grammar.{Alternation, Branches, Branch, Pieces, Piece, Inside, closed, is_condition}
-use Rattle.fancy_grammar.specs.Grammar.{branches_of, conditional_of, alone, before}
-use Rattle.fancy_grammar.specs.Head.{Head, node_of}
+use Rattle.fancy_grammar.specs.Grammar.{branches_of, conditional_of, clear_or_stopper, trees_before}
+use Rattle.fancy_grammar.specs.Head.{Head, group_node}
 use Rattle.fancy_grammar.specs.Join.{solid}
 use Rattle.fancy_syntax.specs.Parsed.{head_of}
 use Rattle.fancy_grammar.specs.Fails.{Fails}
 use Rattle.fancy_syntax.specs.Row.{trees}
 use Rattle.fancy_grammar.specs.Slices.{Slice}
-use Rattle.fancy_grammar.specs.State.{State, at, Outcome, done, faulted}
+use Rattle.fancy_grammar.specs.State.{ends, skipped, State, at, Outcome, done, faulted}
 use Rattle.fancy_grammar.specs.Tree.{Tree, absent, expression}
 use Rattle.fancy_syntax.specs.View.{view}
 use Rattle.fancy_syntax.specs.declared.grammar.frame.Frame.{Frame}
@@ -32,49 +33,49 @@ abbrev pub parens : Text → ℕ
 parens = count_by (λ c. c == code "(")
 
 -- what is open
-pub data Open : Type 0 where
-  top : Open  -- the whole text
-  group : Head → ℕ → Open  -- a group that opens at the place
-  condition : Open  -- the condition of a conditional
-  body : Tree → ℕ → Open  -- the body of a conditional of this condition, which began where so many bytes were left
-  first : Open  -- the branch behind `(?~|`
-  second : Tree → Open  -- the branch behind that one and a bar
+pub data OpenPart : Type 0 where
+  top : OpenPart  -- the whole text
+  group : Head → ℕ → OpenPart  -- a group that opens at the place
+  condition : OpenPart  -- the condition of a conditional
+  body : Tree → ℕ → OpenPart  -- the body of a conditional of this condition, which began where so many bytes were left
+  first : OpenPart  -- the branch behind `(?~|`
+  second : Tree → OpenPart  -- the branch behind that one and a bar
 
-abbrev pub open_of : Opener → Open
-open_of opener.Top = top
-open_of (opener.Group head place) = group (head_of head) place
-open_of opener.Condition = condition
-open_of (opener.Body c left) = body (view c.value) left
-open_of opener.First = first
-open_of (opener.Second a) = second (view a.value)
+abbrev pub part_of : Opener → OpenPart
+part_of opener.Top = top
+part_of (opener.Group head place) = group (head_of head) place
+part_of opener.Condition = condition
+part_of (opener.Body c left) = body (view c.value) left
+part_of opener.First = first
+part_of (opener.Second a) = second (view a.value)
 
 -- whether no bar parts branches there
-abbrev pub holds_one : Open → Bool
+abbrev pub holds_one : OpenPart → Bool
 holds_one first = true
 holds_one (second a) = true
 holds_one _ = false
 
-abbrev pub is_second : Open → Bool
+abbrev pub is_second : OpenPart → Bool
 is_second (second a) = true
 is_second _ = false
 
 -- what is open behind a bar, where the branch before it is the tree
-abbrev pub opened_by_bar : Open → Tree → Open
+abbrev pub opened_by_bar : OpenPart → Tree → OpenPart
 opened_by_bar first a = second a
 opened_by_bar p a = p
 
 -- the branches behind a bar
-abbrev pub branches_at_bar : Open → List Tree → Tree → List Tree
+abbrev pub branches_at_bar : OpenPart → List Tree → Tree → List Tree
 branches_at_bar first l a = l
 branches_at_bar _ l a = l ++ a ∷ []
 
 -- no bar may stand behind the second branch of an absent expression
-abbrev pub IsFaultOfBar : Open → ℕ → Text → Outcome Tree → Type 0
+abbrev pub IsFaultOfBar : OpenPart → ℕ → Text → Outcome Tree → Type 0
 IsFaultOfBar (second a) n t o = o ≡ faulted (bar_for_close_paren n t)
 IsFaultOfBar _ n t o = ⊥
 
 -- what is read of what is open
-abbrev pub Part : Open → ℕ → ℕ → State → Outcome Tree → Type 0
+abbrev pub Part : OpenPart → ℕ → ℕ → State → Outcome Tree → Type 0
 Part first n d s o = Branch n d s o
 Part (second a) n d s o = Branch n d s o
 Part top n d s o = Alternation n d s o
@@ -83,8 +84,8 @@ Part condition n d s o = Alternation n d s o
 Part (body c left) n d s o = Alternation n d s o
 
 -- a piece at s opens this, and what is read of it begins at t
-pub data Opens : ℕ → ℕ → State → Open → State → Type 0 where
-  a_group : {n d : ℕ} {h : Head} {s t : State} {u : Text} → skipped n s ≡ rest u → ahead n d (at s u) ≡ seen.opens h t →
+pub data Opens : ℕ → ℕ → State → OpenPart → State → Type 0 where
+  a_group : {n d : ℕ} {h : Head} {s t : State} {u : Text} → skipped n s ≡ rest u → ahead n d (at s u) ≡ seen.with_head h t →
       Opens n d s (group h (place_of n u)) t
   a_condition : {n d : ℕ} {s t : State} {u : Text} → skipped n s ≡ rest u → ahead n d (at s u) ≡ seen.condition t →
       Opens n d s condition t
@@ -98,26 +99,26 @@ pub data Opens : ℕ → ℕ → State → Open → State → Type 0 where
       Branch n (d + 1) t (done a v) → strip bar v.rest ≡ Some u → Opens n d s (second a) (at v u)
 
 -- the body of a conditional is wanting: it takes no byte, and the condition cannot do without
-abbrev pub lacks_body : Open → State → Bool
+abbrev pub lacks_body : OpenPart → State → Bool
 lacks_body (body c left) s = bytes s.rest == left && not (is_condition c)
 lacks_body _ s = false
 
 -- the tree of what was open, around the tree read inside
-abbrev pub node_of_part : Open → Tree → Tree
+abbrev pub node_of_part : OpenPart → Tree → Tree
 node_of_part top r = r
-node_of_part (group h p) r = node_of h p r
+node_of_part (group h p) r = group_node h p r
 node_of_part condition r = r
 node_of_part (body c left) r = conditional_of c (branches_of r).0 (branches_of r).1
-node_of_part first r = alone r
+node_of_part first r = clear_or_stopper r
 node_of_part (second a) r = absent (expression a r)
 
 -- whether the atom goes on behind what is open: the body follows a condition
-abbrev pub goes_on : Open → Bool
+abbrev pub goes_on : OpenPart → Bool
 goes_on condition = true
 goes_on _ = false
 
 -- what comes out where what is open ends with the tree r at s
-abbrev pub ended_part : ℕ → Open → Tree → State → Outcome Tree
+abbrev pub ended_part : ℕ → OpenPart → Tree → State → Outcome Tree
 ended_part n p r s =
     if lacks_body p s then faulted (body_wanting n s.rest)
     else closed n (node_of_part p r) s
@@ -130,7 +131,7 @@ OpensBelow (step.Open opener) d = d + 1 < max_depth
 -- a step from s reads a piece, or opens a part of one, and ends at t
 abbrev pub Steps : ℕ → ℕ → State → Step → State → Type 0
 Steps n d s (step.Piece piece) t = Piece n d s (done (view piece) t)
-Steps n d s (step.Open opener) t = Opens n d s (open_of opener) t
+Steps n d s (step.Open opener) t = Opens n d s (part_of opener) t
 
 -- a step from s to t, or the fault of a piece there
 abbrev pub StepsOn : Result Step Error → ℕ → ℕ → State → State → Type 0
@@ -146,12 +147,12 @@ abbrev pub GivesPiece : Result Step Error → Outcome Tree → State → Type 0
 GivesPiece r o t = MatchResult r (λ p. IsPiece p t o) (λ e. Fails e (λ q. o ≡ q))
 
 -- what is read of a part that begins at s: branches, and the pieces of the branch that is open at t
-pub record Reading (n d : ℕ) (p : Open) (s : State) (branches pieces : List Tree) (t : State) : Type 0 where
+pub record Reading (n d : ℕ) (p : OpenPart) (s : State) (branches pieces : List Tree) (t : State) : Type 0 where
   pub begin : State
   pub read : List Tree
   pub same : solid read ≡ pieces
-  pub branch : (o : Outcome (List Tree)) → Pieces n d t o → Pieces n d begin (before read o)
-  pub all : (o : Outcome (List Tree)) → Branches n d begin o → Branches n d s (before branches o)
+  pub branch : (o : Outcome (List Tree)) → Pieces n d t o → Pieces n d begin (trees_before read o)
+  pub all : (o : Outcome (List Tree)) → Branches n d begin o → Branches n d s (trees_before branches o)
   pub one : holds_one p ≡ true → (begin ≡ s) × (branches ≡ [])
   pub slice : Slice s.rest t.rest
 
@@ -160,9 +161,9 @@ abbrev pub Began : Frame → State → Type 0
 Began f s = (f.left ≡ bytes s.rest) × (f.flags ≡ s.flags)
 
 -- the open groups of a text that begins at `start`; what is read of the innermost begins at s, at depth d
-pub data Levels (n : ℕ) (start : State) : List Frame → Open → ℕ → State → Type 0 where
+pub data Levels (n : ℕ) (start : State) : List Frame → OpenPart → ℕ → State → Type 0 where
   outermost : Levels n start [] top 0 start
-  inner : {d : ℕ} {s t v : State} {p : Open} {all frames : List Frame} (f : Frame) → all ≡ frames ++ f ∷ [] →
-      Levels n start frames (open_of f.opener) d s →
-      Reading n d (open_of f.opener) s (trees f.branches) (trees f.pieces) t → Began f t →
+  inner : {d : ℕ} {s t v : State} {p : OpenPart} {all frames : List Frame} (f : Frame) → all ≡ frames ++ f ∷ [] →
+      Levels n start frames (part_of f.opener) d s →
+      Reading n d (part_of f.opener) s (trees f.branches) (trees f.pieces) t → Began f t →
       ends t.rest ≡ false → Opens n d t p v → Levels n start all p (d + 1) v

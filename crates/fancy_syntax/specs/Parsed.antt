@@ -2,7 +2,8 @@
 use Rattle.std.specs.Prelude.{◌≡◌, ℕ, ◌+◌, ◌<◌, List, option_map, chars, length, Result, MatchResult, ⊤}
 use Rattle.std.specs.Borrow.{Bor}
 use Rattle.fancy_lex.specs.declared.error.Error.{Error}
-use Rattle.fancy_grammar.specs.Ahead.{Ahead, nothing, leaf, opens, condition, body, absent_branch, max_depth}
+use Rattle.fancy_grammar.specs.Ahead.{Ahead, nothing, leaf, with_head, condition, body, absent_branch}
+use Rattle.fancy_grammar.specs.Depth.{max_depth}
 use Rattle.fancy_lex.specs.Layout.{Skipped, rest, fault as open_comment}
 use Rattle.fancy_lex.specs.declared.error.Error.TheVariants.{ParseError}
 use Rattle.fancy_lex.specs.declared.error.ParseError.TheVariants.{UnclosedOpenParen}
@@ -63,7 +64,7 @@ GivesTree r s o = MatchResult r (λ e. o ≡ done (view e) s) (λ e. Fails e (λ
 abbrev pub view_ahead : declared.Ahead → spec.State → Ahead
 view_ahead Nothing s = nothing
 view_ahead (Leaf atom) s = leaf (done (view atom) s)
-view_ahead (Group h) s = opens (head_of h) s
+view_ahead (Group h) s = with_head (head_of h) s
 view_ahead Condition s = condition s
 view_ahead (Body c) s = body (view c.value) s
 view_ahead AbsentBranch s = absent_branch s

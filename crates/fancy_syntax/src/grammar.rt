@@ -1,6 +1,6 @@
 //! The grammar: a loop over a stack of open groups reads the raw tree of a text.
 ghost use Rattle.std.specs.Prelude.{◌≡◌, ◌∷◌, [], ◌++◌, ◌<◌, ◌≤◌, ◌^◌, length, chars, min, vec_len, vec_capacity, IfOk};
-ghost use Rattle.fancy_grammar.specs.Ahead.{max_depth};
+ghost use Rattle.fancy_grammar.specs.Depth.{max_depth};
 ghost use Rattle.fancy_grammar.specs.Grammar as spec;
 ghost use Rattle.fancy_syntax.specs.Machine.{parens};
 ghost use Rattle.fancy_syntax.specs.Parsed.{state, Reads};

@@ -2,7 +2,7 @@
 ghost use Rattle.std.specs.Prelude.{◌≡◌, ℕ, ◌+◌, ◌<◌, ◌≤◌, Bool, List, [], ◌++◌, true, false, is_some, IfOk, IfSome, IsOk, OnOk, OnErr};
 ghost use Rattle.std.specs.Prelude.{string_bytes, string_len, string_capacity, chars, encode_utf8_all};
 ghost use Rattle.fancy_lex.specs.Text.{bytes};
-ghost use Rattle.fancy_grammar.specs.Ahead.{max_depth};
+ghost use Rattle.fancy_grammar.specs.Depth.{max_depth};
 ghost use Rattle.fancy_grammar.specs.HasDelegate.{has_delegate};
 ghost use Rattle.fancy_grammar.specs.Nest.{nest};
 ghost use Rattle.fancy_grammar.specs.Normal.{normal};

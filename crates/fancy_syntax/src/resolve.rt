@@ -5,7 +5,7 @@ ghost use Rattle.fancy_parts.specs.Groups.{groups_of};
 ghost use Rattle.fancy_parts.specs.Ranks.{counted_in, is_named, named_groups};
 ghost use Rattle.fancy_grammar.specs.Items.{items, openings};
 ghost use Rattle.fancy_grammar.specs.Marks.{marks};
-ghost use Rattle.fancy_grammar.specs.Fails.{IsThatFault};
+ghost use Rattle.fancy_grammar.specs.Fails.{IsErrorIn};
 ghost use Rattle.fancy_syntax.specs.Answer.{marks_of};
 ghost use Rattle.fancy_syntax.specs.Notes.{known_of, progress_of, marks_found};
 ghost use Rattle.fancy_grammar.specs.Ordered.{Ascends};
@@ -33,7 +33,7 @@ pub(crate) fn resolve(alloc: Global, raw: Expr, pattern: &str, flags: Flags) -> 
     ensures tree { IfOk result (λ t. view t.expr ≡ resolved flags (view raw)) }
     ensures marks { IfOk result (λ t. marks_of t ≡ marks flags (chars pattern.now) (view raw)) }
     ensures no_fault { IfOk result (λ _. fault_of flags (view raw) ≡ None) }
-    ensures fault { IfErr result (λ e. IsThatFault e (fault_of flags (view raw))) }
+    ensures fault { IfErr result (λ e. IsErrorIn e (fault_of flags (view raw))) }
 {
     let Ok((named, groups)) = find_groups(alloc, &raw, flags.ignore_numbered_groups) else {
         drop(raw);
@@ -58,7 +58,7 @@ fn answer(expr: Expr, named: bool, groups: Groups, progress: Progress) -> Result
     ensures tree { IfOk result (λ t. t.expr ≡ expr) }
     ensures marks { IfOk result (λ t. marks_of t ≡ marks_found named (groups_of groups) (progress_of progress)) }
     ensures no_fault { IfOk result (λ _. (progress_of progress).fault ≡ None) }
-    ensures fault { IfErr result (λ e. IsThatFault e (progress_of progress).fault) }
+    ensures fault { IfErr result (λ e. IsErrorIn e (progress_of progress).fault) }
 {
     let Progress {
         backrefs,

@@ -19,7 +19,7 @@ use Rattle.fancy_lex.specs.Text.{Text, bytes, place_of, strip}
 use Rattle.fancy_lex.specs.declared.flags.Flags.{Flags}
 use Rattle.fancy_lex.proofs.EscapeFrame.{StaysSome, read_stays, escape_frame}
 use Rattle.fancy_lex.proofs.TextLemmas.{bytes-append}
-use Rattle.fancy_grammar.specs.Normal.{under, bare}
+use Rattle.fancy_grammar.specs.Normal.{case_flags, bare}
 use Rattle.fancy_grammar.proofs.ReadBack.ClearLemmas.{no_truth}
 
 -- ---- the same text under other flags
@@ -47,7 +47,7 @@ numbered_too n p t other = by_number (group_number n t)
     by_number (fails e) = tt
 
 property_too : (u i inside : Bool) (p c : ℕ) (t : Text) →
-    Too (property (bare false) inside p c t) (property (under u i false false false) inside p c t)
+    Too (property (bare false) inside p c t) (property (case_flags u i) inside p c t)
 unfolding property
 property_too u i inside p c [] = tt
 property_too u i inside p c (d ∷ t) = by_property (read_property (c ∈ "P") (d ∷ t)) where
@@ -82,21 +82,21 @@ never true b c = refl
 never false b c = refl
 
 coded_too : (u i : Bool) (w h v : ℕ) (t : Text) →
-    Too (leaf_of_value (bare false) w h v t) (leaf_of_value (under u i false false false) w h v t)
+    Too (leaf_of_value (bare false) w h v t) (leaf_of_value (case_flags u i) w h v t)
 unfolding leaf_of_value
 coded_too false i w h v t = same_too (w == 2 && not false && nat_le 0x80 v && nat_le v 0xFF) (is_scalar v) _ _ _ _ t _ _
 coded_too true i w h v t =
     rw (never (w == 2) (nat_le 0x80 v) (nat_le v 0xFF))
     (both_too (((w == 2) && true) && nat_le 0x80 v && nat_le v 0xFF) (is_scalar v) _ _ _ t _ (byte_scalar v _))
 
-hex_too : (u i : Bool) (n w : ℕ) (t : Text) → Too (hex n (bare false) w t) (hex n (under u i false false false) w t)
+hex_too : (u i : Bool) (n w : ℕ) (t : Text) → Too (hex n (bare false) w t) (hex n (case_flags u i) w t)
 unfolding hex
 hex_too u i n w t =
     too_then (layout_reading (layout n false t)) _ _
     (λ _ v. too_then (value n false (place_of n v) w v) _ _ (λ a r. coded_too u i w (place_of n v) a r))
 
 escape_too : (u i : Bool) (n p : ℕ) (t : Text) →
-    Too (escape n (bare false) true p t) (escape n (under u i false false false) true p t)
+    Too (escape n (bare false) true p t) (escape n (case_flags u i) true p t)
 unfolding escape in_class
 escape_too u i n p [] = tt
 escape_too u i n p (c ∷ t) =
@@ -202,7 +202,7 @@ module _ (u i : Bool) (n : ℕ) where
   abbrev ItemsCarry : ℕ → Type 0
   ItemsCarry k = (depth : ℕ) (seen seen' : Bool) (out out' t : Text)
       → Carries k (items n (bare false) k depth seen out t)
-      (λ j m s. items m (under u i false false false) j depth seen' out' (t ++ s))
+      (λ j m s. items m (case_flags u i) j depth seen' out' (t ++ s))
 
   end_carries : (k depth : ℕ) (seen : Bool) (out : Text) (there : ℕ → ℕ → Text → Reading Text) →
       Carries k (items n (bare false) k depth seen out []) there
@@ -213,41 +213,41 @@ module _ (u i : Bool) (n : ℕ) where
   -- behind an opening bracket
   open_carries : (k : ℕ) → ItemsCarry k → (depth : ℕ) (seen seen' : Bool) (out out' t : Text)
       → Carries k (items n (bare false) k depth seen (class_head out t).0 (class_head out t).1)
-      (λ j m s. items m (under u i false false false) j depth seen' (class_head out' (t ++ s)).0
+      (λ j m s. items m (case_flags u i) j depth seen' (class_head out' (t ++ s)).0
       (class_head out' (t ++ s)).1)
   open_carries k more depth seen seen' out out' t = by_left (class_head out t).1 refl where
     by_left : (v : Text) → (class_head out t).1 ≡ v →
         Carries k (items n (bare false) k depth seen (class_head out t).0 v)
-        (λ j m s. items m (under u i false false false) j depth seen' (class_head out' (t ++ s)).0
+        (λ j m s. items m (case_flags u i) j depth seen' (class_head out' (t ++ s)).0
         (class_head out' (t ++ s)).1)
     by_left [] e = end_carries k depth seen (class_head out t).0 _
     by_left (c ∷ v) e =
         let left = sym (opening_left out out' t) ∙ e in
-        carry_same k _ (λ j m s. items m (under u i false false false) j depth seen' (class_head out' t).0
+        carry_same k _ (λ j m s. items m (case_flags u i) j depth seen' (class_head out' t).0
         ((c ∷ v) ++ s)) _
-        (λ j m s. ap (λ (p : Text × Text). items m (under u i false false false) j depth seen' p.0 p.1)
+        (λ j m s. ap (λ (p : Text × Text). items m (case_flags u i) j depth seen' p.0 p.1)
         (opening_frame out' t s c v left)
-        ∙ ap (λ (r : Text). items m (under u i false false false) j depth seen' (class_head out' t).0 (r ++ s)) left)
+        ∙ ap (λ (r : Text). items m (case_flags u i) j depth seen' (class_head out' t).0 (r ++ s)) left)
         (more depth seen seen' (class_head out t).0 (class_head out' t).0 (c ∷ v))
 
   inner_carries : (k : ℕ) → ItemsCarry k →
       (depth : ℕ) (seen seen' : Bool) (out out' t : Text) (p : ℕ) (q : ℕ → Text → ℕ)
       → Carries k (escape n (bare false) true p t >=>
       (λ e v. items n (bare false) k depth (seen || is_negated e) (out ++ item_text seen e) v))
-      (λ j m s. escape m (under u i false false false) true (q m s) (t ++ s) >=>
-      (λ e v. items m (under u i false false false) j depth (seen' || is_negated e) (out' ++ item_text seen' e) v))
+      (λ j m s. escape m (case_flags u i) true (q m s) (t ++ s) >=>
+      (λ e v. items m (case_flags u i) j depth (seen' || is_negated e) (out' ++ item_text seen' e) v))
   inner_carries k more depth seen seen' out out' t p q =
       by_escape (escape n (bare false) true p t) (escape_too u i n p t) where
-        by_escape : (o : Reading Escape) → Too o (escape n (under u i false false false) true p t)
+        by_escape : (o : Reading Escape) → Too o (escape n (case_flags u i) true p t)
             → Carries k (o >=> (λ e v. items n (bare false) k depth (seen || is_negated e) (out ++ item_text seen e) v))
-            (λ j m s. escape m (under u i false false false) true (q m s) (t ++ s) >=>
-            (λ e v. items m (under u i false false false) j depth (seen' || is_negated e)
+            (λ j m s. escape m (case_flags u i) true (q m s) (t ++ s) >=>
+            (λ e v. items m (case_flags u i) j depth (seen' || is_negated e)
             (out' ++ item_text seen' e) v))
         by_escape (gives e v) (x, h) =
-            carry_same k _ (λ j m s. items m (under u i false false false) j depth (seen' || is_negated x)
+            carry_same k _ (λ j m s. items m (case_flags u i) j depth (seen' || is_negated x)
             (out' ++ item_text seen' x) (v ++ s)) _
-            (λ j m s. ap (λ o. o >=> (λ e v. items m (under u i false false false) j depth (seen' || is_negated e)
-            (out' ++ item_text seen' e) v)) (escape_frame n m (under u i false false false) p (q m s) t v s x h))
+            (λ j m s. ap (λ o. o >=> (λ e v. items m (case_flags u i) j depth (seen' || is_negated e)
+            (out' ++ item_text seen' e) v)) (escape_frame n m (case_flags u i) p (q m s) t v s x h))
             (more depth (seen || is_negated e) (seen' || is_negated x) (out ++ item_text seen e)
             (out' ++ item_text seen' x) v)
         by_escape (fails e) h = tt
@@ -260,14 +260,14 @@ module _ (u i : Bool) (n : ℕ) where
       let more = items_carry k in
       carry_step k _
       (λ j m s.
-      if c == backslash then escape m (under u i false false false) true (place_of m (c ∷ (t ++ s))) (t ++ s) >=>
-      (λ e v. items m (under u i false false false) j depth (seen' || is_negated e) (out' ++ item_text seen' e) v)
-      else if c == open_bracket then items m (under u i false false false) j (depth + 1) seen'
+      if c == backslash then escape m (case_flags u i) true (place_of m (c ∷ (t ++ s))) (t ++ s) >=>
+      (λ e v. items m (case_flags u i) j depth (seen' || is_negated e) (out' ++ item_text seen' e) v)
+      else if c == open_bracket then items m (case_flags u i) j (depth + 1) seen'
       (class_head out' (t ++ s)).0 (class_head out' (t ++ s)).1
       else if c == close_bracket
-      then (if depth == 0 then gives (out' ++ c ∷ []) (t ++ s) else items m (under u i false false false) j
+      then (if depth == 0 then gives (out' ++ c ∷ []) (t ++ s) else items m (case_flags u i) j
       (depth - 1) seen' (out' ++ c ∷ []) (t ++ s))
-      else items m (under u i false false false) j depth seen' (out' ++ c ∷ []) (t ++ s))
+      else items m (case_flags u i) j depth seen' (out' ++ c ∷ []) (t ++ s))
       _ (λ j m s. refl)
       (carry_if k (c == backslash) _ _ _ _
       (inner_carries k more depth seen seen' out out' t _ (λ m s. place_of m (c ∷ (t ++ s))))
@@ -278,17 +278,17 @@ module _ (u i : Bool) (n : ℕ) where
       (more depth seen seen' (out ++ c ∷ []) (out' ++ c ∷ []) t))))
 
   pub class_carries : (t w v : Text) → class n (bare false) t ≡ gives w v →
-      (x : Text) × ((m : ℕ) (s : Text) → class m (under u i false false false) (t ++ s) ≡ gives x (v ++ s))
+      (x : Text) × ((m : ℕ) (s : Text) → class m (case_flags u i) (t ++ s) ≡ gives x (v ++ s))
   unfolding class
   class_carries t w v e =
       from (class n (bare false) t) e
       (open_carries (suc (bytes t)) (items_carry (suc (bytes t))) 0 false false [] [] t) where
         from : (o : Reading Text) → o ≡ gives w v
             → Carries (suc (bytes t)) o
-            (λ j m s. items m (under u i false false false) j 0 false (class_head [] (t ++ s)).0
+            (λ j m s. items m (case_flags u i) j 0 false (class_head [] (t ++ s)).0
             (class_head [] (t ++ s)).1)
             → (x : Text) × ((m : ℕ) (s : Text) →
-            items m (under u i false false false) (suc (bytes (t ++ s))) 0 false (class_head [] (t ++ s)).0
+            items m (case_flags u i) (suc (bytes (t ++ s))) 0 false (class_head [] (t ++ s)).0
             (class_head [] (t ++ s)).1 ≡ gives x (v ++ s))
         from (gives a r) e (x, h) = (
           x,
@@ -366,7 +366,7 @@ call_none n p c [] = tt
 call_none n p c (d ∷ t) =
     none_then (reference.subroutine_call n (d ∷ t)) (λ r u. gives (subroutine_call r) u) (λ r u. tt)
 
-pub outside_none : (u i : Bool) (n p c : ℕ) (t : Text) → NoDelegate (outside n (under u i false false false) p c t)
+pub outside_none : (u i : Bool) (n p c : ℕ) (t : Text) → NoDelegate (outside n (case_flags u i) p c t)
 unfolding outside
 outside_none u i n p c t =
     none_if (c ∈ "A") _ _ tt
@@ -379,7 +379,7 @@ outside_none u i n p c t =
     (none_if (c ∈ "N") _ _ tt
     (none_if (c ∈ "<") _ _ tt
     (none_if (c ∈ ">") _ _ tt
-    (none_if (c ∈ "k") _ _ (referring_none (under u i false false false) (reference.back_reference n t))
+    (none_if (c ∈ "k") _ _ (referring_none (case_flags u i) (reference.back_reference n t))
     (none_if (c ∈ "g") _ _ (call_none n p c t)
     (none_if (c ∈ "b") _ _ (boundary_none n false p false t)
     (none_if (c ∈ "B") _ _ (boundary_none n false p true t) tt)))))))))))))
@@ -388,7 +388,7 @@ outside_none u i n p c t =
 
 module _ (u i : Bool) where
   property_keeps : (p c : ℕ) (t : Text) →
-      Keeps (property (bare false) false p c t) (λ m q s. property (under u i false false false) false q c (t ++ s))
+      Keeps (property (bare false) false p c t) (λ m q s. property (case_flags u i) false q c (t ++ s))
   unfolding property
   property_keeps p c [] = tt
   property_keeps p c (d ∷ t) = by_property (read_property (c ∈ "P") (d ∷ t)) (read_stays (c ∈ "P") d t) where
@@ -407,7 +407,7 @@ module _ (u i : Bool) where
     )
 
   escape_keeps : (n p : ℕ) (t : Text) →
-      Keeps (escape n (bare false) false p t) (λ m q s. escape m (under u i false false false) false q (t ++ s))
+      Keeps (escape n (bare false) false p t) (λ m q s. escape m (case_flags u i) false q (t ++ s))
   unfolding escape numbered
   escape_keeps n p [] = tt
   escape_keeps n p (c ∷ t) =
@@ -433,6 +433,6 @@ module _ (u i : Bool) where
   pub escape_carries : (n p : ℕ) (t w v : Text) (b : Bool) → escape n (bare false) false p t ≡ gives (delegate w b) v
       → (x : Text) × (c : Bool)
       × ((m q : ℕ) (s : Text) →
-      escape m (under u i false false false) false q (t ++ s) ≡ gives (delegate x c) (v ++ s))
+      escape m (case_flags u i) false q (t ++ s) ≡ gives (delegate x c) (v ++ s))
   escape_carries n p t w v b e =
-      subst (λ o. Keeps o (λ m q s. escape m (under u i false false false) false q (t ++ s))) e (escape_keeps n p t)
+      subst (λ o. Keeps o (λ m q s. escape m (case_flags u i) false q (t ++ s))) e (escape_keeps n p t)

@@ -19,7 +19,7 @@ use Rattle.fancy_lex.specs.Reading.{Reading, gives, fails, fault_at, choose, lay
 use Rattle.fancy_lex.specs.EscapeReference.{group_number}
 use Rattle.fancy_lex.specs.declared.flags.Flags.{Flags}
 use Rattle.fancy_lex.specs.Text.{Text, place_of, strip}
-use Rattle.fancy_grammar.specs.Normal.{bare, under}
+use Rattle.fancy_grammar.specs.Normal.{bare, case_flags}
 use Rattle.fancy_grammar.proofs.ReadBack.ClearLemmas.{Each, no_more, also, each_among, not_open, no_layout}
 use Rattle.fancy_grammar.proofs.ReadBack.ScalarLemmas.{scalars_append}
 use Rattle.fancy_grammar.proofs.ReadBack.ClassChunks.{Goes, ClassGoes, pass_close, pass_plain, pass_escape, pass_nested, pass_class, Chunk, Fine, both_chunk}
@@ -428,7 +428,7 @@ numbered_fine n p f t = by_number (group_number n t)
 scalar_is : (v : ℕ) → is_scalar v ≡ true → IsScalar v
 scalar_is v h = grind (arith, nat_tests)
 
-coded_fine : (u i : Bool) (w h v : ℕ) (t : Text) → FineOf (leaf_of_value (under u i false false false) w h v t)
+coded_fine : (u i : Bool) (w h v : ℕ) (t : Text) → FineOf (leaf_of_value (case_flags u i) w h v t)
 unfolding leaf_of_value
 coded_fine u i w h v t =
     fine_if (w == 2 && not u && nat_le 0x80 v && nat_le v 0xFF) (gives (literal_bytes v) t)
@@ -436,7 +436,7 @@ coded_fine u i w h v t =
     (λ e. second_so (w == 2 && not u && nat_le 0x80 v) _ e)
     (fine_if (is_scalar v) (gives (literal v i) t) (fault_at h invalid_codepoint_value) (scalar_is v) tt)
 
-hex_fine : (u i : Bool) (n w : ℕ) (t : Text) → FineOf (hex n (under u i false false false) w t)
+hex_fine : (u i : Bool) (n w : ℕ) (t : Text) → FineOf (hex n (case_flags u i) w t)
 unfolding hex
 hex_fine u i n w t =
     fine_then (layout_reading (layout n false t)) _
@@ -449,7 +449,7 @@ read_fine u i p b None h = tt
 read_fine u i p b (Some q) h = property_chunk u b q.0 h
 
 property_fine : (u i : Bool) (p c : ℕ) (t : Text) → all_scalars t ≡ true →
-    FineOf (property (under u i false false false) true p c t)
+    FineOf (property (case_flags u i) true p c t)
 unfolding property read_property
 property_fine u i p c [] h = tt
 property_fine u i p c (d ∷ t) h = read_fine u i p (c ∈ "P") (name_at (d ∷ t)) (name_ok d t h)
@@ -461,21 +461,21 @@ pub hex_word : Chunk (codes "0-9A-Fa-f")
 hex_word = word_chunk 48 (codes "-9A-Fa-f") refl refl refl refl
 
 pub escape_fine : (u i : Bool) (n p : ℕ) (t : Text) → all_scalars t ≡ true →
-    FineOf (escape n (under u i false false false) true p t)
+    FineOf (escape n (case_flags u i) true p t)
 unfolding escape in_class
 escape_fine u i n p [] k = tt
 escape_fine u i n p (c ∷ t) k =
     let (here, more) = and_parts _ (all_scalars t) k in
-    fine_if (is_ascii_digit c) _ _ (λ _. numbered_fine n p (under u i false false false) (c ∷ t))
+    fine_if (is_ascii_digit c) _ _ (λ _. numbered_fine n p (case_flags u i) (c ∷ t))
     (fine_if (c ∈ "dDsSwW") (gives (delegate (92 ∷ c ∷ []) i) t) _ (λ e. letter_chunk c (set_letter c e))
     (fine_if (c ∈ "h") (gives (delegate (codes "[0-9A-Fa-f]") false) t) _
     (λ _. bracket_chunk (codes "0-9A-Fa-f") hex_word)
     (fine_if (c ∈ "H") (gives (delegate (codes "[^0-9A-Fa-f]") false) t) _
     (λ _. caret_chunk (codes "0-9A-Fa-f") hex_word)
-    (fine_if (c ∈ "x") (hex n (under u i false false false) 2 t) _ (λ _. hex_fine u i n 2 t)
-    (fine_if (c ∈ "u") (hex n (under u i false false false) 4 t) _ (λ _. hex_fine u i n 4 t)
-    (fine_if (c ∈ "U") (hex n (under u i false false false) 8 t) _ (λ _. hex_fine u i n 8 t)
-    (fine_if (c ∈ "pP") (property (under u i false false false) true p c t) _ (λ _. property_fine u i p c t more)
+    (fine_if (c ∈ "x") (hex n (case_flags u i) 2 t) _ (λ _. hex_fine u i n 2 t)
+    (fine_if (c ∈ "u") (hex n (case_flags u i) 4 t) _ (λ _. hex_fine u i n 4 t)
+    (fine_if (c ∈ "U") (hex n (case_flags u i) 8 t) _ (λ _. hex_fine u i n 8 t)
+    (fine_if (c ∈ "pP") (property (case_flags u i) true p c t) _ (λ _. property_fine u i p c t more)
     (fine_if (c ∈ "a") (gives (literal 7 false) t) _ (λ _. refl)
     (fine_if (c ∈ "f") (gives (literal 12 false) t) _ (λ _. refl)
     (fine_if (c ∈ "n") (gives (literal 10 false) t) _ (λ _. refl)

@@ -14,7 +14,7 @@ use Rattle.fancy_lex.specs.declared.flags.Flags.{Flags}
 use Rattle.fancy_lex.proofs.LayoutLemmas.{between_plain}
 use Rattle.fancy_parts.specs.Quantifier.{counts}
 use Rattle.fancy_parts.specs.Quote.{behind_backslash, marks, needs_backslash}
-use Rattle.fancy_grammar.specs.Ahead.{ends}
+use Rattle.fancy_grammar.specs.State.{ends}
 
 pub no_truth : {X : Type 0} → false ≡ true → X
 no_truth h = absurd cc

@@ -17,7 +17,7 @@ use Rattle.fancy_lex.specs.Text.{Text, bytes, place_of}
 use Rattle.fancy_lex.proofs.ClassLaws.{class_complete, class_reads}
 use Rattle.fancy_grammar.specs.Ahead.{leaf_node, leaf_outcome}
 use Rattle.fancy_grammar.specs.Tree.{delegate}
-use Rattle.fancy_grammar.specs.Normal.{bare, under, class_of, whole_leaf, normal}
+use Rattle.fancy_grammar.specs.Normal.{bare, case_flags, class_of, whole_leaf, normal}
 use Rattle.fancy_grammar.specs.Printable.{printable}
 use Rattle.fancy_grammar.proofs.ReadBack.ScalarLemmas.{scalars_append}
 use Rattle.fancy_grammar.proofs.ReadBack.ClassChunks.{ClassGoes, Chunk}
@@ -55,8 +55,8 @@ same_written : (x w v : Text) → gives w v ≡ gives x [] → (w ≡ x) × (v �
 same_written x w v e = (cc, cc)
 
 class_stays : (u i : Bool) (n : ℕ) (t x : Text) → all_scalars t ≡ true →
-    class n (under u i false false false) t ≡ gives x [] → IsWhole x
-class_stays u i n t x k e = by_reading (class_reads n (under u i false false false) t)
+    class n (case_flags u i) t ≡ gives x [] → IsWhole x
+class_stays u i n t x k e = by_reading (class_reads n (case_flags u i) t)
   where
     no_fault : (z : Fault) → ◌≡◌ {A = Reading Text} (fails z) (gives x []) → ⊥
     no_fault z q = cc
@@ -67,11 +67,11 @@ class_stays u i n t x k e = by_reading (class_reads n (under u i false false fal
         (class_whole c.inner c.scalars
         (subst (λ z. ClassGoes (bytes (91 ∷ c.inner)) z []) (append-nil c.inner) (c.goes (bytes (91 ∷ c.inner)) [])))
 
-    by_reading : (o : Outcome) × Class n (under u i false false false) false t o → IsWhole x
+    by_reading : (o : Outcome) × Class n (case_flags u i) false t o → IsWhole x
     by_reading (written w a v, h) =
-        again (subst ClassAgain (same_written x w v (sym (class_complete n (under u i false false false) t _ h) ∙ e)).0
+        again (subst ClassAgain (same_written x w v (sym (class_complete n (case_flags u i) t _ h) ∙ e)).0
         (class_again h k))
-    by_reading (fault z, h) = absurd (no_fault z (sym (class_complete n (under u i false false false) t _ h) ∙ e))
+    by_reading (fault z, h) = absurd (no_fault z (sym (class_complete n (case_flags u i) t _ h) ∙ e))
 
 -- ---- a class escape
 
@@ -157,17 +157,17 @@ read_whole u i p b None h = tt
 read_whole u i p b (Some q) h = property_whole u b q.0 h
 
 outside_property : (u i : Bool) (p c : ℕ) (t : Text) → all_scalars t ≡ true →
-    WholeOf (property (under u i false false false) false p c t)
+    WholeOf (property (case_flags u i) false p c t)
 unfolding property read_property
 outside_property u i p c [] h = tt
 outside_property u i p c (d ∷ t) h = read_whole u i p (c ∈ "P") (name_at (d ∷ t)) (name_ok d t h)
 
 outside_whole : (u i : Bool) (n p : ℕ) (t : Text) → all_scalars t ≡ true →
-    WholeOf (escape n (under u i false false false) false p t)
+    WholeOf (escape n (case_flags u i) false p t)
 unfolding escape numbered
 outside_whole u i n p [] k = tt
 outside_whole u i n p (c ∷ t) k =
-    let f = under u i false false false in
+    let f = case_flags u i in
     whole_if (is_ascii_digit c) (numbered n f false p (c ∷ t)) _
     (λ _. whole_none _ (referring_none f (numbered_reference n (c ∷ t))))
     (whole_if (c ∈ "dDsSwW") (gives (escaped.delegate (92 ∷ c ∷ []) i) t) _ (λ e. letter_whole c e)

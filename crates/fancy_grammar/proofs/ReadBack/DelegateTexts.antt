@@ -10,7 +10,7 @@ use Rattle.fancy_lex.specs.Text.{Text, bytes, place_of}
 use Rattle.fancy_grammar.specs.Ahead.{leaf, leaf_node, leaf_outcome}
 use Rattle.fancy_grammar.specs.State.{State}
 use Rattle.fancy_grammar.specs.Tree.{Tree, delegate}
-use Rattle.fancy_grammar.specs.Normal.{under, bare, whole_of, whole_leaf, class_of, normal}
+use Rattle.fancy_grammar.specs.Normal.{case_flags, bare, whole_of, whole_leaf, class_of, normal}
 use Rattle.fancy_grammar.proofs.ReadBack.CarriedLaws.{class_carries, escape_carries}
 use Rattle.fancy_grammar.proofs.ReadBack.RuleLemmas.{st, AtomAs, reads_leaf, leaf_at}
 use Rattle.fancy_grammar.proofs.ReadBack.ShapeLemmas.{DelegateText}
@@ -39,18 +39,18 @@ unfolding class_of
 bracket_read t h = bracket_whole (st (bare false) (91 ∷ t)) _ h
 
 pub bracket_normal : (u i : Bool) (t x : Text) →
-    class (bytes (91 ∷ t)) (under u i false false false) (t ++ []) ≡ gives x [] →
+    class (bytes (91 ∷ t)) (case_flags u i) (t ++ []) ≡ gives x [] →
     normal u (delegate (91 ∷ t) i) ≡ delegate x i
 unfolding class_of
 bracket_normal u i t x e =
-    ap (λ o. unwrap_or (whole_leaf (leaf_outcome (λ w. delegate w i) (st (under u i false false false) (91 ∷ t)) o))
+    ap (λ o. unwrap_or (whole_leaf (leaf_outcome (λ w. delegate w i) (st (case_flags u i) (91 ∷ t)) o))
     (delegate (91 ∷ t) i))
-    (ap (class (bytes (91 ∷ t)) (under u i false false false)) (sym (append-nil t)) ∙ e)
+    (ap (class (bytes (91 ∷ t)) (case_flags u i)) (sym (append-nil t)) ∙ e)
 
-bracket_atom : (n d : ℕ) (u i : Bool) (t x v : Text) → class n (under u i false false false) (t ++ v) ≡ gives x v →
-    AtomAs n d (under u i false false false) (91 ∷ (t ++ v)) v (delegate x i)
+bracket_atom : (n d : ℕ) (u i : Bool) (t x v : Text) → class n (case_flags u i) (t ++ v) ≡ gives x v →
+    AtomAs n d (case_flags u i) (91 ∷ (t ++ v)) v (delegate x i)
 bracket_atom n d u i t x v e =
-    let g = under u i false false false in
+    let g = case_flags u i in
     reads_leaf n d g (91 ∷ (t ++ v)) v (delegate x i)
     (leaf_at n d g 91 (t ++ v) refl refl ∙ ap (λ o. leaf (leaf_outcome (λ w. delegate w i) (st g (91 ∷ (t ++ v))) o)) e)
     (record { is = λ r. refl; groups = tt })
@@ -61,7 +61,7 @@ bracket_text t h =
     record {
       reads = λ n d u i v.
           let (x, same) = class_carries u i (bytes (91 ∷ t)) t w [] e in
-          subst (AtomAs n d (under u i false false false) (91 ∷ (t ++ v)) v)
+          subst (AtomAs n d (case_flags u i) (91 ∷ (t ++ v)) v)
           (sym (bracket_normal u i t x (same (bytes (91 ∷ t)) []))) (bracket_atom n d u i t x v (same n v));
       begins = λ v. begins_by refl refl refl;
     }
@@ -86,21 +86,21 @@ unfolding class_of
 escape_read t h = escape_whole (st (bare false) (92 ∷ t)) _ h
 
 pub escape_normal : (u i : Bool) (t x : Text) (b : Bool) →
-    escape (bytes (92 ∷ t)) (under u i false false false) false (place_of (bytes (92 ∷ t)) (92 ∷ t)) (t ++ []) ≡ gives
+    escape (bytes (92 ∷ t)) (case_flags u i) false (place_of (bytes (92 ∷ t)) (92 ∷ t)) (t ++ []) ≡ gives
     (escaped.delegate x b) []
     → normal u (delegate (92 ∷ t) i) ≡ delegate x b
 unfolding class_of
 escape_normal u i t x b e =
-    ap (λ o. unwrap_or (whole_leaf (leaf_outcome leaf_node (st (under u i false false false) (92 ∷ t)) o))
+    ap (λ o. unwrap_or (whole_leaf (leaf_outcome leaf_node (st (case_flags u i) (92 ∷ t)) o))
     (delegate (92 ∷ t) i))
-    (ap (escape (bytes (92 ∷ t)) (under u i false false false) false (place_of (bytes (92 ∷ t)) (92 ∷ t)))
+    (ap (escape (bytes (92 ∷ t)) (case_flags u i) false (place_of (bytes (92 ∷ t)) (92 ∷ t)))
     (sym (append-nil t)) ∙ e)
 
 escape_atom : (n d : ℕ) (u i : Bool) (t x v : Text) (b : Bool) →
-    escape n (under u i false false false) false (place_of n (92 ∷ (t ++ v))) (t ++ v) ≡ gives (escaped.delegate x b) v
-    → AtomAs n d (under u i false false false) (92 ∷ (t ++ v)) v (delegate x b)
+    escape n (case_flags u i) false (place_of n (92 ∷ (t ++ v))) (t ++ v) ≡ gives (escaped.delegate x b) v
+    → AtomAs n d (case_flags u i) (92 ∷ (t ++ v)) v (delegate x b)
 escape_atom n d u i t x v b e =
-    let g = under u i false false false in
+    let g = case_flags u i in
     reads_leaf n d g (92 ∷ (t ++ v)) v (delegate x b)
     (leaf_at n d g 92 (t ++ v) refl refl ∙ ap (λ o. leaf (leaf_outcome leaf_node (st g (92 ∷ (t ++ v))) o)) e)
     (record { is = λ r. refl; groups = tt })
@@ -113,7 +113,7 @@ escape_text t h =
     record {
       reads = λ n d u i v.
           let (x, c, same) = escape_carries u i n0 p0 t w [] b e in
-          subst (AtomAs n d (under u i false false false) (92 ∷ (t ++ v)) v)
+          subst (AtomAs n d (case_flags u i) (92 ∷ (t ++ v)) v)
           (sym (escape_normal u i t x c (same n0 p0 [])))
           (escape_atom n d u i t x v c (same n (place_of n (92 ∷ (t ++ v))) v));
       begins = λ v. begins_by refl refl refl;

@@ -6,7 +6,7 @@ use Rattle.fancy_lex.specs.declared.escape.Assertion.TheVariants.{StartLineOnigu
 use Rattle.fancy_parts.specs.Quote.{behind_backslash, quantifier}
 use Rattle.fancy_grammar.specs.Grammar.{Derives}
 use Rattle.fancy_grammar.specs.Join.{solid, join, choice}
-use Rattle.fancy_grammar.specs.Normal.{character, items_of, under, bare, normal, items, normals}
+use Rattle.fancy_grammar.specs.Normal.{character, pieces_of, case_flags, bare, normal, normal_pieces, normals}
 use Rattle.fancy_grammar.specs.Quantified.{is_repeatable}
 use Rattle.fancy_grammar.specs.Printed.{is_long, printed, repeated, printed_all, printed_branches, grouped}
 use Rattle.fancy_grammar.specs.Tree.{Tree, Trees, no_trees, more_trees, empty, any, assertion, literal, concat, alt, group, repeat, delegate, define_group}
@@ -14,7 +14,7 @@ use Rattle.fancy_grammar.specs.Nest.{nest, nests, one_if, is_line}
 use Rattle.fancy_grammar.proofs.ReadBack.InFront.{put, puts, put_branches, put_barred, put_repeated, put_any, put_assertion, put_quotes, open_if, close_if, put_alone}
 use Rattle.fancy_grammar.proofs.ReadBack.ClearLemmas.{Clear, Stops, Ends, clear_close, stops_bar, ends_close, ends_nothing}
 use Rattle.fancy_grammar.proofs.ReadBack.CountTexts.{NoName, clear_name, quantifier_read}
-use Rattle.fancy_grammar.proofs.ReadBack.RuleLemmas.{Becomes, kept, AtomAs, BranchAs, BranchesAs, WholeAs, Run, no_run, run_chain, reads_piece, reads_repeat, reads_branch, reads_last, reads_more, reads_whole, reads_only, reads_group, reads_grouped, reads_caseless, reads_char, reads_text, join_one}
+use Rattle.fancy_grammar.proofs.ReadBack.RuleLemmas.{Becomes, kept_bare, kept_case, AtomAs, BranchAs, BranchesAs, WholeAs, Run, no_run, run_chain, reads_piece, reads_repeat, reads_branch, reads_last, reads_more, reads_whole, reads_only, reads_group, reads_grouped, reads_caseless, reads_char, reads_text, join_one}
 use Rattle.fancy_grammar.proofs.ReadBack.LeafLemmas.{Begins, whole_atom, quotes_run, reads_any, begins_any, reads_assertion, begins_assertion, read_assertion, HasText}
 use Rattle.fancy_grammar.proofs.ReadBack.ShapeLemmas.{DelegateText, Printable, ArePrintable, IsAtom, atom_of, begins_head, begins_group, begins_atom, begins_repeated, clear_put, clear_puts}
 
@@ -37,7 +37,7 @@ Starts k = (v : Text) → Begins (k v)
 atom_run : (u : Bool) (k : Text → Text) (m : ℕ) (x : Tree) → Starts k → ReadsAtom u k m x →
     ReadsRun u k m (solid (x ∷ []))
 atom_run u k m x s a n d v l c =
-    reads_piece n d (bare u) (k v) v x (kept u false false false false) (s v).goes (s v).clear.no_comment c
+    reads_piece n d (bare u) (k v) v x (kept_bare u) (s v).goes (s v).clear.no_comment c
     (a n d v l (clear_name v c))
 
 to_branch : (u : Bool) (k : Text → Text) (m : ℕ) (ys : List Tree) (x : Tree) → join ys ≡ x → ReadsRun u k m ys →
@@ -53,7 +53,7 @@ wrapped k v = open_if true (k (41 ∷ v))
 
 wrap_atom : (u : Bool) (k : Text → Text) (m : ℕ) (x : Tree) → ReadsWhole u k m x → ReadsAtom u (wrapped k) (1 + m) x
 wrap_atom u k m x w n d v l _ =
-    reads_grouped n d (bare u) (k (41 ∷ v)) v x (kept u false false false false) (omega arith)
+    reads_grouped n d (bare u) (k (41 ∷ v)) v x (kept_bare u) (omega arith)
     (w n (d + 1) (41 ∷ v) (omega arith) (ends_close v))
 
 pub wrap_starts : (k : Text → Text) → Starts (wrapped k)
@@ -72,7 +72,7 @@ pub record ReadsBy (u : Bool) (k3 k2 k1 k0 : Text → Text) (m3 m2 m1 m0 : ℕ) 
 abbrev pub Reads : Bool → Tree → Type 0
 Reads u t =
     ReadsBy u (put t 3) (put t 2) (put t 1) (put t 0) (nest t 3) (nest t 2) (nest t 1) (nest t 0) (IsAtom t)
-    (normal u t) (items_of t (normal u t))
+    (normal u t) (pieces_of t (normal u t))
 
 abbrev pub EachReads : Bool → Trees → Type 0
 EachReads u no_trees = Unit {0}
@@ -166,12 +166,12 @@ assertion_reads u a h =
 caseless_reads : (u : Bool) (s : Text) → Reads u (literal s true)
 caseless_reads u s =
     let k = λ (v : Text). 40 ∷ 63 ∷ 105 ∷ 58 ∷ put_quotes s (41 ∷ v) in
-    let f = under u true false false false in
+    let f = case_flags u true in
     let x = join (map (character true) s) in
     by_atom u k 1 (Unit {0}) x (λ v. begins_head 105 _ refl)
     (λ n d v l _. reads_caseless n d u (put_quotes s (41 ∷ v)) v x l
     (reads_only n (d + 1) f (put_quotes s (41 ∷ v)) (41 ∷ v) x
-    (reads_branch x (quotes_run n (d + 1) f s (41 ∷ v) (kept u true false false false) (clear_close v)) refl
+    (reads_branch x (quotes_run n (d + 1) f s (41 ∷ v) (kept_case u true) (clear_close v)) refl
     (ends_close v).stops) (ends_close v)))
 
 literal_atom : (u : Bool) (s : Text) → IsAtom (literal s false) →
@@ -184,7 +184,7 @@ literal_reads : (u : Bool) (s : Text) → Reads u (literal s false)
 literal_reads u s =
     let k = put_quotes s in
     let ys = map (character false) s in
-    let r : ReadsRun u k 0 ys = λ n d v l c. quotes_run n d (bare u) s v (kept u false false false false) c in
+    let r : ReadsRun u k 0 ys = λ n d v l c. quotes_run n d (bare u) s v (kept_bare u) c in
     let b = to_branch u k 0 ys (join ys) refl r in
     record { atom = literal_atom u s; high = r; run = r; branch = b; whole = to_whole u k 0 (join ys) b }
 
@@ -197,7 +197,7 @@ caseless_delegate_reads u s h =
     let x = normal u (delegate s true) in
     by_atom u (λ v. 40 ∷ 63 ∷ 105 ∷ 58 ∷ (s ++ 41 ∷ v)) 1 (Unit {0}) x (λ v. begins_head 105 _ refl)
     (λ n d v l _. reads_caseless n d u (s ++ 41 ∷ v) v x l
-    (whole_atom n (d + 1) (under u true false false false) (s ++ 41 ∷ v) v x (kept u true false false false)
+    (whole_atom n (d + 1) (case_flags u true) (s ++ 41 ∷ v) v x (kept_case u true)
     (h.begins (41 ∷ v)) (h.reads n (d + 1) u true (41 ∷ v))))
 
 group_reads : (u : Bool) (t : Tree) → Printable t → Reads u t → Reads u (group t)
@@ -205,11 +205,11 @@ group_reads u t h r =
     let k = λ (v : Text). 40 ∷ put t 0 (41 ∷ v) in
     by_atom u k (1 + nest t 0) (Unit {0}) (group (normal u t))
     (λ v. begins_group _ (clear_put t h 0 (41 ∷ v) (clear_close v)))
-    (λ n d v l _. reads_group n d (bare u) (put t 0 (41 ∷ v)) v (normal u t) (kept u false false false false)
+    (λ n d v l _. reads_group n d (bare u) (put t 0 (41 ∷ v)) v (normal u t) (kept_bare u)
     (omega arith) (clear_put t h 0 (41 ∷ v) (clear_close v))
     (r.whole n (d + 1) (41 ∷ v) (omega arith) (ends_close v)))
 
-concat_run : (u : Bool) (ts : Trees) → ArePrintable ts → EachReads u ts → ReadsRun u (puts ts) (nests ts 2) (items u ts)
+concat_run : (u : Bool) (ts : Trees) → ArePrintable ts → EachReads u ts → ReadsRun u (puts ts) (nests ts 2) (normal_pieces u ts)
 concat_run u no_trees h r n d v l c = no_run n d (bare u) v
 concat_run u (more_trees t ts) h r n d v l c =
     run_chain (r.0.run n d (puts ts v) (omega arith) (clear_puts ts h.1 v c))
@@ -217,7 +217,7 @@ concat_run u (more_trees t ts) h r n d v l c =
 
 concat_reads : (u : Bool) (ts : Trees) → ArePrintable ts → EachReads u ts → Reads u (concat ts)
 concat_reads u ts h r =
-    by_branch u (puts ts) (nests ts 2) (Unit {0}) (join (items u ts)) (items u ts) refl (concat_run u ts h r)
+    by_branch u (puts ts) (nests ts 2) (Unit {0}) (join (normal_pieces u ts)) (normal_pieces u ts) refl (concat_run u ts h r)
 
 alt_branches : (u : Bool) (t : Tree) (ts : Trees) → Reads u t → EachReads u ts → (n d : ℕ) (v : Text) →
     d + nest t 1 < 64 → d + nests ts 1 < 64 → Ends v
@@ -241,15 +241,15 @@ alt_whole u (more_trees t ts) r n d v l e =
 alt_reads : (u : Bool) (ts : Trees) → EachReads u ts → Reads u (alt ts)
 alt_reads u ts r = by_whole u (put_branches ts) (nests ts 1) (Unit {0}) (choice (normals u ts)) (alt_whole u ts r)
 
-join_items : (u : Bool) (t : Tree) → join (items_of t (normal u t)) ≡ normal u t
+join_items : (u : Bool) (t : Tree) → join (pieces_of t (normal u t)) ≡ normal u t
 join_items u (literal s false) = refl
 join_items u t = join_one (normal u t)
 
-from_run : (u : Bool) (t : Tree) (p : ℕ) → ReadsRun u (put t p) (nest t p) (items_of t (normal u t)) →
+from_run : (u : Bool) (t : Tree) (p : ℕ) → ReadsRun u (put t p) (nest t p) (pieces_of t (normal u t)) →
     ReadsWhole u (put t p) (nest t p) (normal u t)
 from_run u t p r =
     to_whole u (put t p) (nest t p) (normal u t)
-    (to_branch u (put t p) (nest t p) (items_of t (normal u t)) (normal u t) (join_items u t) r)
+    (to_branch u (put t p) (nest t p) (pieces_of t (normal u t)) (normal u t) (join_items u t) r)
 
 -- what is put in a group of its own where that is asked
 atom_if : (u b : Bool) (k : Text → Text) (m : ℕ) (x : Tree) → (b ≡ false → ReadsAtom u k m x) → ReadsWhole u k m x →
@@ -271,7 +271,7 @@ repeat_run u t lo hi greedy h r n d v l c =
     let m = quantifier_read lo hi greedy v h.2 h.3 in
     let b = begins_repeated t (h.1 false) (begins_atom t h.0) q in
     reads_repeat n d (bare u) (put_repeated t q) q v (normal u t) lo hi greedy
-    (kept u false false false false) b.goes b.clear.no_comment c m (h.1 u)
+    (kept_bare u) b.goes b.clear.no_comment c m (h.1 u)
     (repeated_atom u t (h.1 false) r n d q l m.no_name)
 
 repeat_reads : (u : Bool) (t : Tree) (lo hi : ℕ) (greedy : Bool) → Printable (repeat t lo hi greedy) → Reads u t →

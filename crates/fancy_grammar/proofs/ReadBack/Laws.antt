@@ -13,7 +13,7 @@ use Rattle.fancy_lex.specs.declared.error.ParseError.TheVariants.{RecursionExcee
 use Rattle.fancy_lex.specs.declared.flags.Flags.{Flags}
 use Rattle.fancy_parts.specs.Meaning.{first_fault}
 use Rattle.fancy_parts.specs.Ranks.{counted_in, named_groups, numbers, name_cmp}
-use Rattle.fancy_grammar.specs.Ahead.{max_depth}
+use Rattle.fancy_grammar.specs.Depth.{max_depth}
 use Rattle.fancy_grammar.specs.Answer.{IsTreeOf, of_reading}
 use Rattle.fancy_grammar.specs.Answered.{groups}
 use Rattle.fancy_grammar.specs.Grammar.{Derives, Faults}

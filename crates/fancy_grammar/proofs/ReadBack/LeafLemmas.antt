@@ -14,24 +14,24 @@ use Rattle.fancy_lex.specs.declared.flags.Flags.{Flags}
 use Rattle.fancy_parts.specs.FlagLetters as letters
 use Rattle.fancy_parts.specs.FlagLetters.{step}
 use Rattle.fancy_parts.specs.Quote.{behind_backslash}
-use Rattle.fancy_grammar.specs.Ahead as before_atom
+use Rattle.fancy_grammar.specs.State as states
 use Rattle.fancy_grammar.specs.Ahead.{Ahead, leaf, ahead, leaf_node, leaf_outcome}
-use Rattle.fancy_grammar.specs.Normal.{character, under, bare}
+use Rattle.fancy_grammar.specs.Normal.{character, bare}
 use Rattle.fancy_grammar.specs.State.{done}
 use Rattle.fancy_grammar.specs.Tree.{Tree, any, assertion}
 use Rattle.fancy_grammar.specs.Nest.{one_if, is_line}
 use Rattle.fancy_grammar.proofs.ReadBack.InFront.{put_as, put_quotes, put_any, put_line, put_assertion}
 use Rattle.fancy_grammar.proofs.ReadBack.ClearLemmas.{begins_mark, Clear, not_open, clear_close, ends_close, behind_none}
 use Rattle.fancy_grammar.proofs.ReadBack.CountTexts.{NoName}
-use Rattle.fancy_grammar.proofs.ReadBack.RuleLemmas.{Kept, kept, st, AtomAs, WholeAs, Run, no_run, run_chain, reads_piece, reads_branch, reads_only, join_one, reads_scope, scope_at, one_letter, two_letters, spelled, last_letter, more_letters, reads_leaf, leaf_at, reads_char}
+use Rattle.fancy_grammar.proofs.ReadBack.RuleLemmas.{Kept, kept_bare, st, AtomAs, WholeAs, Run, no_run, run_chain, reads_piece, reads_branch, reads_only, join_one, reads_scope, scope_at, one_letter, two_letters, spelled, last_letter, more_letters, reads_leaf, leaf_at, reads_char}
 
 -- the text of an atom, or of what begins with one
 pub record Begins (s : Text) : Type 0 where
   pub clear : Clear s
-  pub goes : before_atom.ends s ≡ false
+  pub goes : states.ends s ≡ false
 
 -- told from the first characters
-pub begins_by : {s : Text} → after_comment_head s ≡ None → begins_mark s ≡ false → before_atom.ends s ≡ false → Begins s
+pub begins_by : {s : Text} → after_comment_head s ≡ None → begins_mark s ≡ false → states.ends s ≡ false → Begins s
 begins_by e m g = record { clear = record { no_comment = e; no_mark = m }; goes = g }
 
 -- an atom alone in a group
@@ -74,6 +74,29 @@ quotes_run n d f (c ∷ cs) v k h =
     run_chain (reads_piece n d f (put_as c (behind_backslash c) s) s (character f.casei c) k b.goes b.clear.no_comment
     (quotes_clear cs v h) (reads_char n d f c s (behind_backslash c) refl)) (quotes_run n d f cs v k h)
 
+-- ---- the flags of a group that is printed for a leaf
+
+-- `(?s:`
+abbrev dotnl_flags : Bool → Flags
+dotnl_flags u = record (bare u) { dotnl = true }
+
+kept_dotnl : (u : Bool) → Kept (dotnl_flags u)
+kept_dotnl u = record { no_space = refl; not_swapped = refl; not_oniguruma = refl }
+
+-- `(?R-s:`
+abbrev crlf_flags : Bool → Flags
+crlf_flags u = record (bare u) { crlf = true }
+
+kept_crlf : (u : Bool) → Kept (crlf_flags u)
+kept_crlf u = record { no_space = refl; not_swapped = refl; not_oniguruma = refl }
+
+-- `(?m:` or `(?Rm:`
+abbrev multi_flags : Bool → Bool → Flags
+multi_flags u crlf = record (bare u) { multi = true; crlf = crlf }
+
+kept_multi : (u crlf : Bool) → Kept (multi_flags u crlf)
+kept_multi u crlf = record { no_space = refl; not_swapped = refl; not_oniguruma = refl }
+
 -- ---- any character
 
 reads_dot : (n d : ℕ) (f : Flags) (v : Text) → AtomAs n d f (46 ∷ v) v (any f.dotnl f.crlf)
@@ -87,15 +110,15 @@ begins_dot : (v : Text) → Begins (46 ∷ v)
 begins_dot v = begins_by refl refl refl
 
 minus_letters : (n : ℕ) (u : Bool) (s : Text) →
-    letters.letters n (bare u) (82 ∷ 45 ∷ 115 ∷ 58 ∷ s) ≡ gives (letters.scope (under u false false false true)) s
+    letters.letters n (bare u) (82 ∷ 45 ∷ 115 ∷ 58 ∷ s) ≡ gives (letters.scope (crlf_flags u)) s
 unfolding bytes
 minus_letters n u s =
     let t = 82 ∷ 45 ∷ 115 ∷ 58 ∷ s in
-    let g = under u false false false true in
+    let g = crlf_flags u in
     let far : (bytes (58 ∷ s) + 1 == bytes t) ≡ false = ne_eqb (bytes (58 ∷ s) + 1) (bytes t) (omega arith) in
-    let k = kept u false false false true in
+    let k = kept_crlf u in
     spelled n 3 (bare u) t (letters.scope g) s
-    (more_letters n t false (bare u) t (kept u false false false false) refl 2 false g (45 ∷ 115 ∷ 58 ∷ s)
+    (more_letters n t false (bare u) t (kept_bare u) refl 2 false g (45 ∷ 115 ∷ 58 ∷ s)
     (letters.scope g) s refl
     (more_letters n t false g (45 ∷ 115 ∷ 58 ∷ s) k refl 1 true g (115 ∷ 58 ∷ s) (letters.scope g) s refl
     (more_letters n t true g (115 ∷ 58 ∷ s) k refl 0 true g (58 ∷ s) (letters.scope g) s refl
@@ -105,20 +128,20 @@ minus_letters n u s =
 pub reads_any : (n d : ℕ) (u a b : Bool) (v : Text) → d + one_if (a || b) < 64 →
     AtomAs n d (bare u) (put_any a b v) v (any a (not a && b))
 reads_any n d u true b v l =
-    let g = under u false false true false in
+    let g = dotnl_flags u in
     reads_scope n d (bare u) g (put_any true b v) (46 ∷ 41 ∷ v) v (any true false)
-    (scope_at n d (bare u) g (115 ∷ 58 ∷ 46 ∷ 41 ∷ v) (46 ∷ 41 ∷ v) (kept u false false false false) l refl refl
-    (one_letter n (bare u) g 115 (46 ∷ 41 ∷ v) (kept u false false false false)
-    (kept u false false true false) refl refl))
-    (whole_atom n (d + 1) g (46 ∷ 41 ∷ v) v (any true false) (kept u false false true false) (begins_dot (41 ∷ v))
+    (scope_at n d (bare u) g (115 ∷ 58 ∷ 46 ∷ 41 ∷ v) (46 ∷ 41 ∷ v) (kept_bare u) l refl refl
+    (one_letter n (bare u) g 115 (46 ∷ 41 ∷ v) (kept_bare u)
+    (kept_dotnl u) refl refl))
+    (whole_atom n (d + 1) g (46 ∷ 41 ∷ v) v (any true false) (kept_dotnl u) (begins_dot (41 ∷ v))
     (reads_dot n (d + 1) g (41 ∷ v)))
 reads_any n d u false true v l =
-    let g = under u false false false true in
+    let g = crlf_flags u in
     reads_scope n d (bare u) g (put_any false true v) (46 ∷ 41 ∷ v) v (any false true)
     (scope_at n d (bare u) g (82 ∷ 45 ∷ 115 ∷ 58 ∷ 46 ∷ 41 ∷ v) (46 ∷ 41 ∷ v)
-    (kept u false false false false) l refl refl
+    (kept_bare u) l refl refl
     (minus_letters n u (46 ∷ 41 ∷ v)))
-    (whole_atom n (d + 1) g (46 ∷ 41 ∷ v) v (any false true) (kept u false false false true) (begins_dot (41 ∷ v))
+    (whole_atom n (d + 1) g (46 ∷ 41 ∷ v) v (any false true) (kept_crlf u) (begins_dot (41 ∷ v))
     (reads_dot n (d + 1) g (41 ∷ v)))
 reads_any n d u false false v l = reads_dot n d (bare u) v
 
@@ -131,22 +154,22 @@ begins_any false false v = begins_dot v
 
 -- an anchor under MULTI in a group of its own
 line_atom : (n d c : ℕ) (u r : Bool) (v : Text) (x : Tree) → d + 1 < 64 → Begins (c ∷ 41 ∷ v) →
-    AtomAs n (d + 1) (under u false true false r) (c ∷ 41 ∷ v) (41 ∷ v) x → AtomAs n d (bare u) (put_line c r v) v x
+    AtomAs n (d + 1) (multi_flags u r) (c ∷ 41 ∷ v) (41 ∷ v) x → AtomAs n d (bare u) (put_line c r v) v x
 unfolding bytes
 line_atom n d c u false v x l b a =
-    let g = under u false true false false in
+    let g = multi_flags u false in
     reads_scope n d (bare u) g (put_line c false v) (c ∷ 41 ∷ v) v x
-    (scope_at n d (bare u) g (109 ∷ 58 ∷ c ∷ 41 ∷ v) (c ∷ 41 ∷ v) (kept u false false false false) l refl refl
-    (one_letter n (bare u) g 109 (c ∷ 41 ∷ v) (kept u false false false false)
-    (kept u false true false false) refl refl))
-    (whole_atom n (d + 1) g (c ∷ 41 ∷ v) v x (kept u false true false false) b a)
+    (scope_at n d (bare u) g (109 ∷ 58 ∷ c ∷ 41 ∷ v) (c ∷ 41 ∷ v) (kept_bare u) l refl refl
+    (one_letter n (bare u) g 109 (c ∷ 41 ∷ v) (kept_bare u)
+    (kept_multi u false) refl refl))
+    (whole_atom n (d + 1) g (c ∷ 41 ∷ v) v x (kept_multi u false) b a)
 line_atom n d c u true v x l b a =
-    let g = under u false true false true in
+    let g = multi_flags u true in
     reads_scope n d (bare u) g (put_line c true v) (c ∷ 41 ∷ v) v x
-    (scope_at n d (bare u) g (82 ∷ 109 ∷ 58 ∷ c ∷ 41 ∷ v) (c ∷ 41 ∷ v) (kept u false false false false) l refl refl
-    (two_letters n (bare u) (under u false false false true) g 82 109 (c ∷ 41 ∷ v) (kept u false false false false)
-    (kept u false false false true) (kept u false true false true) (omega arith) refl refl refl refl))
-    (whole_atom n (d + 1) g (c ∷ 41 ∷ v) v x (kept u false true false true) b a)
+    (scope_at n d (bare u) g (82 ∷ 109 ∷ 58 ∷ c ∷ 41 ∷ v) (c ∷ 41 ∷ v) (kept_bare u) l refl refl
+    (two_letters n (bare u) (crlf_flags u) g 82 109 (c ∷ 41 ∷ v) (kept_bare u)
+    (kept_crlf u) (kept_multi u true) (omega arith) refl refl refl refl))
+    (whole_atom n (d + 1) g (c ∷ 41 ∷ v) v x (kept_multi u true) b a)
 
 -- an anchor, under the flags that it needs
 anchor : (n d : ℕ) (f : Flags) (c : ℕ) (v : Text) (a : Assertion) →
@@ -157,7 +180,7 @@ anchor n d f c v a e = reads_leaf n d f (c ∷ v) v (assertion a) e (record { is
 start_line : (n d : ℕ) (u r : Bool) (v : Text) → d + 1 < 64 →
     AtomAs n d (bare u) (put_line 94 r v) v (assertion (StartLine r))
 start_line n d u r v l =
-    let f = under u false true false r in
+    let f = multi_flags u r in
     line_atom n d 94 u r v (assertion (StartLine r)) l (record {
       clear = record { no_comment = refl; no_mark = refl };
       goes = refl;
@@ -167,7 +190,7 @@ start_line n d u r v l =
 end_line : (n d : ℕ) (u r : Bool) (v : Text) → d + 1 < 64 →
     AtomAs n d (bare u) (put_line 36 r v) v (assertion (EndLine r))
 end_line n d u r v l =
-    let f = under u false true false r in
+    let f = multi_flags u r in
     line_atom n d 36 u r v (assertion (EndLine r)) l (record {
       clear = record { no_comment = refl; no_mark = refl };
       goes = refl;

@@ -8,7 +8,7 @@ use Rattle.fancy_lex.specs.Text.{Text}
 use Rattle.fancy_lex.specs.declared.escape.Assertion.TheVariants.{StartLineOniguruma, EndTextIgnoreTrailingNewlines}
 use Rattle.fancy_parts.specs.Quote.{behind_backslash}
 use Rattle.fancy_grammar.specs.Join.{is_empty, solid, one_or, join, choice}
-use Rattle.fancy_grammar.specs.Normal.{character, items_of, normal, items, normals}
+use Rattle.fancy_grammar.specs.Normal.{character, pieces_of, normal, normal_pieces, normals}
 use Rattle.fancy_grammar.specs.Printable.{is_count, printable, all_printable, takes_quantifier}
 use Rattle.fancy_grammar.specs.Tree.{Tree, Trees, no_trees, more_trees, empty, any, assertion, literal, concat, alt, group, repeat, delegate, define_group, trees_of}
 use Rattle.fancy_grammar.specs.HasDelegate.{has_delegate, any_has_delegate}
@@ -23,7 +23,7 @@ use Rattle.fancy_grammar.proofs.ReadBack.DelegateTexts.{IsDelegate}
 
 record Fixed (u : Bool) (n : Tree) : Type 0 where
   same : normal u n ≡ n
-  single : items_of n n ≡ solid (n ∷ [])
+  single : pieces_of n n ≡ solid (n ∷ [])
 
 abbrev AllFixed : Bool → List Tree → Type 0
 AllFixed u [] = Unit {0}
@@ -41,10 +41,10 @@ append_fixed : (u : Bool) (l m : List Tree) → AllFixed u l → AllFixed u m �
 append_fixed u [] m h k = k
 append_fixed u (x ∷ l) m h k = (h.0, append_fixed u l m h.1 k)
 
-items_same : (u : Bool) (l : List Tree) → AllFixed u l → items u (trees_of l) ≡ solid l
+items_same : (u : Bool) (l : List Tree) → AllFixed u l → normal_pieces u (trees_of l) ≡ solid l
 items_same u [] h = refl
 items_same u (x ∷ l) h =
-    ap₂ (λ a b. a ++ b) (ap (items_of x) h.0.same ∙ h.0.single) (items_same u l h.1) ∙ sym (solid-append (x ∷ []) l)
+    ap₂ (λ a b. a ++ b) (ap (pieces_of x) h.0.same ∙ h.0.single) (items_same u l h.1) ∙ sym (solid-append (x ∷ []) l)
 
 normals_same : (u : Bool) (l : List Tree) → AllFixed u l → normals u (trees_of l) ≡ l
 normals_same u [] h = refl
@@ -75,7 +75,7 @@ and_twice true true = refl
 and_twice true false = refl
 and_twice false k = refl
 
-single_char : (c : ℕ) (m : Bool) → items_of (literal (c ∷ []) m) (literal (c ∷ []) m) ≡ solid (literal (c ∷ []) m ∷ [])
+single_char : (c : ℕ) (m : Bool) → pieces_of (literal (c ∷ []) m) (literal (c ∷ []) m) ≡ solid (literal (c ∷ []) m ∷ [])
 single_char c true = refl
 single_char c false = refl
 
@@ -90,7 +90,7 @@ characters_fixed u b (c ∷ cs) = (
   characters_fixed u b cs,
 )
 
-parts_fixed : (u : Bool) (t n : Tree) → Fixed u n → AllFixed u (items_of t n)
+parts_fixed : (u : Bool) (t n : Tree) → Fixed u n → AllFixed u (pieces_of t n)
 parts_fixed u (literal s false) n h = characters_fixed u false s
 parts_fixed u t n h = solid_fixed u (n ∷ []) (h, tt)
 
@@ -104,7 +104,7 @@ mutual
   fixed v u (assertion (StartLineOniguruma crlf)) h = record { same = refl; single = refl }
   fixed v u (literal s i) h = join_fixed v (map (character i) s) (characters_fixed v i s)
   fixed v u (delegate s i) h = absurd (true≢false h)
-  fixed v u (concat ts) h = join_fixed v (items u ts) (all_items v u ts h)
+  fixed v u (concat ts) h = join_fixed v (normal_pieces u ts) (all_items v u ts h)
   fixed v u (alt ts) h = choice_fixed v (normals u ts) (all_normals v u ts h)
   fixed v u (group t) h = let r = fixed v u t h in record { same = ap group r.same; single = refl }
   fixed v u (repeat t lo hi greedy) h =
@@ -112,11 +112,11 @@ mutual
   fixed v u (define_group t) h = empty_fixed v
   fixed v u _ h = record { same = refl; single = refl }
 
-  all_items : (v u : Bool) (ts : Trees) → any_has_delegate ts ≡ false → AllFixed v (items u ts)
+  all_items : (v u : Bool) (ts : Trees) → any_has_delegate ts ≡ false → AllFixed v (normal_pieces u ts)
   all_items v u no_trees h = tt
   all_items v u (more_trees t ts) h =
       let (a, b) = or_parts (has_delegate t) (any_has_delegate ts) h in
-      append_fixed v (items_of t (normal u t)) (items u ts) (parts_fixed v t (normal u t) (fixed v u t a))
+      append_fixed v (pieces_of t (normal u t)) (normal_pieces u ts) (parts_fixed v t (normal u t) (fixed v u t a))
       (all_items v u ts b)
 
   all_normals : (v u : Bool) (ts : Trees) → any_has_delegate ts ≡ false → AllFixed v (normals u ts)
@@ -198,7 +198,7 @@ characters_kept b (c ∷ cs) h = (
   characters_kept b cs (second_so _ (all_scalars cs) h),
 )
 
-parts_kept : (t n : Tree) → printable t ≡ true → Kept n → AllKept (items_of t n)
+parts_kept : (t n : Tree) → printable t ≡ true → Kept n → AllKept (pieces_of t n)
 parts_kept (literal s false) n p h = characters_kept false s p
 parts_kept t n p h = solid_kept (n ∷ []) (h, tt)
 
@@ -229,18 +229,18 @@ mutual
   kept u (assertion a) h = record { is = refl; stays = refl }
   kept u (literal s i) h = join_kept (map (character i) s) (characters_kept i s h)
   kept u (delegate s i) h = delegate_kept _ (delegate_class _ s (delegate s i) tt) (delegates_stay u i s h)
-  kept u (concat ts) h = join_kept (items u ts) (kept_items u ts h)
+  kept u (concat ts) h = join_kept (normal_pieces u ts) (kept_items u ts h)
   kept u (alt ts) h = choice_kept (normals u ts) (kept_normals u ts h)
   kept u (group t) h = let r = kept u t h in record { is = r.is; stays = refl }
   kept u (repeat t lo hi greedy) h = repeat_kept u t lo hi greedy h (kept u t (first_so (printable t) _ h))
   kept u (define_group t) h = empty_kept
   kept u _ h = no_truth h
 
-  kept_items : (u : Bool) (ts : Trees) → all_printable ts ≡ true → AllKept (items u ts)
+  kept_items : (u : Bool) (ts : Trees) → all_printable ts ≡ true → AllKept (normal_pieces u ts)
   kept_items u no_trees h = tt
   kept_items u (more_trees t ts) h =
       let p = first_so (printable t) _ h in
-      append_kept (items_of t (normal u t)) (items u ts) (parts_kept t (normal u t) p (kept u t p))
+      append_kept (pieces_of t (normal u t)) (normal_pieces u ts) (parts_kept t (normal u t) p (kept u t p))
       (kept_items u ts (second_so (printable t) _ h))
 
   kept_normals : (u : Bool) (ts : Trees) → all_printable ts ≡ true → AllKept (normals u ts)

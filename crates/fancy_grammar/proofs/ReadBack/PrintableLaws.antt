@@ -9,7 +9,7 @@ use Rattle.fancy_lex.specs.Text.{Text}
 use Rattle.fancy_lex.specs.declared.escape.Assertion.TheVariants.{EndTextIgnoreTrailingNewlines, StartLineOniguruma}
 use Rattle.fancy_lex.specs.declared.flags.Flags.{Flags}
 use Rattle.fancy_grammar.specs.Join.{is_empty, solid, one_or, join, choice}
-use Rattle.fancy_grammar.specs.Normal.{character, items_of, bare, class_of, whole_leaf, whole_of, normal, items, normals}
+use Rattle.fancy_grammar.specs.Normal.{character, pieces_of, bare, class_of, whole_leaf, whole_of, normal, normal_pieces, normals}
 use Rattle.fancy_grammar.specs.Printable.{is_count, printable, all_printable, takes_quantifier}
 use Rattle.fancy_grammar.specs.Quantified.{is_repeatable}
 use Rattle.fancy_grammar.specs.State.{Outcome, done, fault}
@@ -90,24 +90,24 @@ mutual
   good_normal u (assertion a) h = λ _. refl
   good_normal u (literal s i) h = good_one (solid (map (character i) s)) (good_solid _ (good_characters i s))
   good_normal u (delegate s i) h = (good_delegate _ (delegate_class _ s (delegate s i) tt)).0
-  good_normal u (concat ts) h = good_one (solid (items u ts)) (good_solid _ (good_items u ts h))
+  good_normal u (concat ts) h = good_one (solid (normal_pieces u ts)) (good_solid _ (good_items u ts h))
   good_normal u (alt ts) h = good_choice (normals u ts) (good_normals u ts h)
   good_normal u (group t) h = λ _. refl
   good_normal u (repeat t lo hi greedy) h = λ _. refl
   good_normal u (define_group t) h = λ _. refl
   good_normal u _ h = absurd h
 
-  good_items : (u : Bool) (ts : Trees) → ArePrintable ts → AllGood (items u ts)
+  good_items : (u : Bool) (ts : Trees) → ArePrintable ts → AllGood (normal_pieces u ts)
   good_items u no_trees h = tt
   good_items u (more_trees t ts) h =
-      good_append (items_of t (normal u t)) (items u ts) (good_parts t (normal u t) (good_normal u t h.0))
+      good_append (pieces_of t (normal u t)) (normal_pieces u ts) (good_parts t (normal u t) (good_normal u t h.0))
       (good_items u ts h.1)
 
   good_normals : (u : Bool) (ts : Trees) → ArePrintable ts → AllGood (normals u ts)
   good_normals u no_trees h = tt
   good_normals u (more_trees t ts) h = (good_normal u t h.0, good_normals u ts h.1)
 
-  good_parts : (t n : Tree) → Good n → AllGood (items_of t n)
+  good_parts : (t n : Tree) → Good n → AllGood (pieces_of t n)
   good_parts (literal s false) n h = good_characters false s
   good_parts t n h = good_solid (n ∷ []) (h, tt)
 
@@ -136,7 +136,7 @@ characters_empty : (i : Bool) (s : Text) → is_empty (join (map (character i) s
 characters_empty i [] = refl
 characters_empty i (c ∷ s) = join_empty (map (character i) (c ∷ s))
 
-parts_empty : (t n : Tree) → is_empty n ≡ blank t → list_all is_empty (items_of t n) ≡ blank t
+parts_empty : (t n : Tree) → is_empty n ≡ blank t → list_all is_empty (pieces_of t n) ≡ blank t
 parts_empty (literal s false) n e = sym (join_empty (map (character false) s)) ∙ characters_empty false s
 parts_empty t n e = one_solid (is_empty n) n refl ∙ e
 
@@ -145,14 +145,14 @@ mutual
   normal_empty u (assertion (StartLineOniguruma crlf)) = refl
   normal_empty u (literal s i) = characters_empty i s
   normal_empty u (delegate s i) = (good_delegate _ (delegate_class _ s (delegate s i) tt)).1
-  normal_empty u (concat ts) = join_empty (items u ts) ∙ items_empty u ts
+  normal_empty u (concat ts) = join_empty (normal_pieces u ts) ∙ items_empty u ts
   normal_empty u (alt ts) = choice_empty u ts
   normal_empty u _ = refl
 
-  items_empty : (u : Bool) (ts : Trees) → list_all is_empty (items u ts) ≡ blanks ts
+  items_empty : (u : Bool) (ts : Trees) → list_all is_empty (normal_pieces u ts) ≡ blanks ts
   items_empty u no_trees = refl
   items_empty u (more_trees t ts) =
-      list_all-append is_empty (items_of t (normal u t)) (items u ts)
+      list_all-append is_empty (pieces_of t (normal u t)) (normal_pieces u ts)
       ∙ ap₂ (λ a b. a && b) (parts_empty t (normal u t) (normal_empty u t)) (items_empty u ts)
 
   choice_empty : (u : Bool) (ts : Trees) → is_empty (choice (normals u ts)) ≡ blank_choice ts

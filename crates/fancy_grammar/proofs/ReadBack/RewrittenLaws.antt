@@ -10,7 +10,7 @@ use Rattle.fancy_lex.specs.Reading.{Reading, gives, choose}
 use Rattle.fancy_lex.specs.Text.{Text, strip}
 use Rattle.fancy_lex.specs.declared.flags.Flags.{Flags}
 use Rattle.fancy_lex.proofs.EscapeLaws.{escape_cut}
-use Rattle.fancy_grammar.specs.Normal.{under}
+use Rattle.fancy_grammar.specs.Normal.{case_flags}
 use Rattle.fancy_grammar.proofs.ReadBack.ScalarLemmas.{scalars_append, scalars_behind}
 use Rattle.fancy_grammar.proofs.ReadBack.ClassChunks.{Goes, ClassGoes, pass_close, pass_plain, pass_nested, pass_class, Chunk, Fine, both_chunk, char_chunk, amp_chunk}
 use Rattle.fancy_grammar.proofs.ReadBack.ChunkLemmas.{open_plain, open_caret, byte_chunk, FineOf, escape_fine}
@@ -188,12 +188,12 @@ mutual
 
 mutual
   pub class_again : {n : ℕ} {u i b a : Bool} {t x v : Text} →
-      Class n (under u i false false false) b t (written x a v) →
+      Class n (case_flags u i) b t (written x a v) →
       all_scalars t ≡ true → ClassAgain x
   class_again {t} (class_items {u} {head} {w} e h) k =
       opened_again t _ w (subst (Opened t) e (class_head_is t)) (items_again h (head_rest t head u e k))
 
-  items_again : {n : ℕ} {u i b a : Bool} {t w v : Text} → Items n (under u i false false false) b t (written w a v) →
+  items_again : {n : ℕ} {u i b a : Bool} {t w v : Text} → Items n (case_flags u i) b t (written w a v) →
       all_scalars t ≡ true → ItemsAgain t w
   items_again close k =
       record {
@@ -206,6 +206,6 @@ mutual
       let (here, more) = and_parts _ (all_scalars t) k in plain_again c t w p here (items_again h more)
   items_again {n} {u} {i} {b} (escaped {t} {u = r} {w} {e} q h) k =
       escaped_again t r w (item_text b e) (item_chunk b e (from_fine _ e r q (escape_fine u i n _ t k)))
-      (items_again h (escape_rest n (under u i false false false) _ t r e q k))
+      (items_again h (escape_rest n (case_flags u i) _ t r e q k))
   items_again (nested {t} {u = r} {x} {w} g h) k =
       nested_again t r w x (class_again g k) (items_again h (class_rest g k))

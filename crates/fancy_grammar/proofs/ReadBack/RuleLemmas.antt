@@ -16,21 +16,22 @@ use Rattle.fancy_parts.specs.Quote.{behind_backslash}
 use Rattle.fancy_parts.specs.Ranks.{Opening}
 use Rattle.fancy_parts.specs.declared.counts.Counts.{Counts}
 use Rattle.fancy_parts.proofs.FlagLemmas.{letters_start, in_end, in_go}
-use Rattle.fancy_grammar.specs.Ahead as before_atom
-use Rattle.fancy_grammar.specs.Ahead.{Ahead, leaf, opens, ahead, skipped, max_depth, is_before_nothing, flags_ahead, question_ahead, head_ahead, behind_layout, leaf_of, leaf_node, leaf_outcome}
+use Rattle.fancy_grammar.specs.State as states
+use Rattle.fancy_grammar.specs.Ahead.{Ahead, leaf, with_head, ahead, is_before_nothing, flags_ahead, question_ahead, head_ahead, behind_layout, leaf_of, leaf_node, leaf_outcome}
+use Rattle.fancy_grammar.specs.Depth.{max_depth}
 use Rattle.fancy_grammar.specs.Grammar.{Alternation, alternation, Branches, last, more, branch_fault, Branch, branch, Pieces, stop, next, piece_fault, Piece, piece, Atom, atom, a_leaf, a_group, inside, Derives, Faults, whole}
 use Rattle.fancy_grammar.specs.Head.{Head, capture, scope}
 use Rattle.fancy_grammar.specs.Items.{Item, opening, reference, items, items_all}
 use Rattle.fancy_grammar.specs.Join.{is_empty, solid, one_or, join, choice}
-use Rattle.fancy_grammar.specs.Grammar.{before}
+use Rattle.fancy_grammar.specs.Grammar.{trees_before}
 use Rattle.fancy_grammar.specs.Quantified as quantified
 use Rattle.fancy_grammar.specs.Quantified.{is_repeatable, is_swapped, may_be_possessive, quant, quant_at, quants, adjacent, max_adjacent, behind_lazy, suffix, suffix_at}
 use Rattle.fancy_grammar.specs.Resolved.{resolved_in, resolved_all}
-use Rattle.fancy_grammar.specs.State.{State, Outcome, done, fault, and_then, seen_through}
+use Rattle.fancy_grammar.specs.State.{skipped, State, Outcome, done, fault, and_then, seen_through}
 use Rattle.fancy_grammar.specs.Tree as tree
 use Rattle.fancy_grammar.specs.Tree.{Tree, empty, any, assertion, literal, concat, alt, repeat, trees_of, ast_node, ast_group, ast_backref, ast_call, ast_condition}
 use Rattle.fancy_grammar.proofs.OutcomeLemmas.{before-nil, solid-append}
-use Rattle.fancy_grammar.specs.Normal.{under}
+use Rattle.fancy_grammar.specs.Normal.{bare, case_flags}
 use Rattle.fancy_grammar.proofs.ReadBack.InFront.{put_as}
 use Rattle.fancy_grammar.proofs.ReadBack.ClearLemmas.{Clear, no_layout, clear_counts, clear_lazy, clear_star, clear_plus, Stops, Ends, behind_none, behind_some}
 use Rattle.fancy_grammar.proofs.ReadBack.CountTexts.{IsQuantifier, lazy}
@@ -44,8 +45,11 @@ pub record Kept (f : Flags) : Type 0 where
   pub not_swapped : f.swap_greed ≡ false
   pub not_oniguruma : f.oniguruma_mode ≡ false
 
-pub kept : (u i m s r : Bool) → Kept (under u i m s r)
-kept u i m s r = record { no_space = refl; not_swapped = refl; not_oniguruma = refl }
+pub kept_bare : (u : Bool) → Kept (bare u)
+kept_bare u = record { no_space = refl; not_swapped = refl; not_oniguruma = refl }
+
+pub kept_case : (u i : Bool) → Kept (case_flags u i)
+kept_case u i = record { no_space = refl; not_swapped = refl; not_oniguruma = refl }
 
 -- ---- trees that hold groups without a name, and no reference
 
@@ -183,7 +187,7 @@ pub record BranchesAs (n d : ℕ) (f : Flags) (s v : Text) (ys : List Tree) : Ty
 -- the pieces from s to v, whatever pieces follow; without the Empties they are these
 pub record Run (n d : ℕ) (f : Flags) (s v : Text) (ys : List Tree) : Type 0 where
   pub trees : List Tree
-  pub pieces : (q : Outcome (List Tree)) → Pieces n d (st f v) q → Pieces n d (st f s) (before trees q)
+  pub pieces : (q : Outcome (List Tree)) → Pieces n d (st f v) q → Pieces n d (st f s) (trees_before trees q)
   pub are : (g : List Opening) → solid (map (resolved_in false g) trees) ≡ ys
   pub groups : EachHasGroups trees
 
@@ -195,7 +199,7 @@ no_run n d f v = record {
   groups = tt;
 }
 
-before_append : (l m : List Tree) (q : Outcome (List Tree)) → before l (before m q) ≡ before (l ++ m) q
+before_append : (l m : List Tree) (q : Outcome (List Tree)) → trees_before l (trees_before m q) ≡ trees_before (l ++ m) q
 before_append l m (done k s) = ap (λ n. done n s) (sym (append_assoc l m k))
 before_append l m (fault k e) = refl
 
@@ -204,7 +208,7 @@ pub run_chain : {n d : ℕ} {f : Flags} {s t v : Text} {xs ys : List Tree} → R
 run_chain {n} {d} {f} {s} p q = record {
   trees = p.trees ++ q.trees;
   pieces =
-      λ o r. subst (Pieces n d (st f s)) (before_append p.trees q.trees o) (p.pieces (before q.trees o) (q.pieces o r));
+      λ o r. subst (Pieces n d (st f s)) (before_append p.trees q.trees o) (p.pieces (trees_before q.trees o) (q.pieces o r));
   are =
       λ g. ap solid (map-append (resolved_in false g) p.trees q.trees)
       ∙ solid-append (map (resolved_in false g) p.trees) (map (resolved_in false g) q.trees)
@@ -213,7 +217,7 @@ run_chain {n} {d} {f} {s} p q = record {
 }
 
 run_piece : {n d : ℕ} {f : Flags} {s v : Text} (r x : Tree) → Piece n d (st f s) (done r (st f v)) →
-    before_atom.ends s ≡ false → Becomes r x → Run n d f s v (solid (x ∷ []))
+    states.ends s ≡ false → Becomes r x → Run n d f s v (solid (x ∷ []))
 run_piece r x p e b = record {
   trees = r ∷ [];
   pieces = λ q m. next e p m refl;
@@ -237,10 +241,10 @@ quant_none : (n left : ℕ) (f : Flags) (a : Tree) (v : Text) → Kept f → Cle
 unfolding quant
 quant_none n left f a v k c =
     ap (quant_at n left a (st f v)) (skip_here n f v k c.no_comment)
-    ∙ ap (quantified.counted n left a (st f v)) (clear_counts f.ignore_space v c)
+    ∙ ap (quantified.with_counts n left a (st f v)) (clear_counts f.ignore_space v c)
 
 -- an atom that no quantifier follows
-pub reads_piece : (n d : ℕ) (f : Flags) (s v : Text) (x : Tree) → Kept f → before_atom.ends s ≡ false →
+pub reads_piece : (n d : ℕ) (f : Flags) (s v : Text) (x : Tree) → Kept f → states.ends s ≡ false →
     after_comment_head s ≡ None → Clear v → AtomAs n d f s v x → Run n d f s v (solid (x ∷ []))
 reads_piece n d f s v x k e o c a =
     run_piece a.tree x
@@ -284,15 +288,15 @@ unfolding quant
 quant_some n left f a q v lo hi greedy k c m r =
     let counted : Counts = record { low = lo; high = hi; braces = m.braces } in
     ap (quant_at n left a (st f q)) (skip_here n f q k m.no_comment)
-    ∙ ap (λ x. quantified.counted n left a (st f q) (counts x q)) k.no_space
-    ∙ ap (quantified.counted n left a (st f q)) m.counts
+    ∙ ap (λ x. quantified.with_counts n left a (st f q) (counts x q)) k.no_space
+    ∙ ap (quantified.with_counts n left a (st f q)) m.counts
     ∙ cond-true _ _ _ r
     ∙ ap (seen_through (λ m. quantified.quantified f counted m a)) (lazy_read n f counted v greedy k c)
     ∙ ap (λ x. done x (st f v)) (quantified_as f a counted (not greedy) greedy k (not-not greedy))
 
 -- an atom under a quantifier
 pub reads_repeat : (n d : ℕ) (f : Flags) (s q v : Text) (x : Tree) (lo hi : ℕ) (greedy : Bool) → Kept f →
-    before_atom.ends s ≡ false → after_comment_head s ≡ None → Clear v → IsQuantifier lo hi greedy v q →
+    states.ends s ≡ false → after_comment_head s ≡ None → Clear v → IsQuantifier lo hi greedy v q →
     is_repeatable f x ≡ true → AtomAs n d f s q x → Run n d f s v (repeat x lo hi greedy ∷ [])
 reads_repeat n d f s q v x lo hi greedy k e o c m r a =
     let b = a.becomes in
@@ -366,23 +370,23 @@ some_none : {X : Type 0} (w : Text) → Some w ≡ None → X
 some_none w e = absurd cc
 
 -- no head
-head_group : (n : ℕ) (f : Flags) (s t : Text) → Clear t → head_ahead n (st f s) t ≡ opens (capture None) (st f t)
+head_group : (n : ℕ) (f : Flags) (s t : Text) → Clear t → head_ahead n (st f s) t ≡ with_head (capture None) (st f t)
 head_group n f s [] c = refl
 head_group n f s (x ∷ t) c = by_tests (clear_lazy (x ∷ t) c) (clear_star (x ∷ t) c)
   where
     by_cases : (a b : Bool) (p q : Ahead) (w : Text) → (if a then Some w else None) ≡ None →
         (if b then Some w else None) ≡ None →
-        (if a then p else if b then q else opens (capture None) (st f (x ∷ t))) ≡ opens (capture None) (st f (x ∷ t))
+        (if a then p else if b then q else with_head (capture None) (st f (x ∷ t))) ≡ with_head (capture None) (st f (x ∷ t))
     by_cases true b p q w e g = some_none w e
     by_cases false true p q w e g = some_none w g
     by_cases false false p q w e g = refl
 
     by_tests : strip 63 (x ∷ t) ≡ None → strip 42 (x ∷ t) ≡ None →
-        head_ahead n (st f s) (x ∷ t) ≡ opens (capture None) (st f (x ∷ t))
+        head_ahead n (st f s) (x ∷ t) ≡ with_head (capture None) (st f (x ∷ t))
     by_tests a b = by_cases (x == 63) (x == 42) _ _ t a b
 
 group_at : (n d : ℕ) (f : Flags) (s : Text) → Kept f → d + 1 < 64 → Clear s →
-    ahead n d (st f (40 ∷ s)) ≡ opens (capture None) (st f s)
+    ahead n d (st f (40 ∷ s)) ≡ with_head (capture None) (st f s)
 group_at n d f s k l c = head_at n d f s k l c.no_comment ∙ head_group n f (40 ∷ s) s c
 
 -- a capturing group
@@ -397,10 +401,10 @@ reads_group n d f s v x k l c w = record {
 -- a group of flags, whose letters begin with one that begins no other head
 pub scope_at : (n d : ℕ) (f g : Flags) (t u : Text) → Kept f → d + 1 < 64 → after_comment_head (63 ∷ t) ≡ None →
     question_ahead n (st f (40 ∷ 63 ∷ t)) t ≡ flags_ahead (letters.letters n f t) →
-    letters.letters n f t ≡ gives (letters.scope g) u → ahead n d (st f (40 ∷ 63 ∷ t)) ≡ opens scope (st g u)
+    letters.letters n f t ≡ gives (letters.scope g) u → ahead n d (st f (40 ∷ 63 ∷ t)) ≡ with_head scope (st g u)
 scope_at n d f g t u k l o q e = head_at n d f (63 ∷ t) k l o ∙ q ∙ ap flags_ahead e
 
-pub reads_scope : (n d : ℕ) (f g : Flags) (s t v : Text) (x : Tree) → ahead n d (st f s) ≡ opens scope (st g t) →
+pub reads_scope : (n d : ℕ) (f g : Flags) (s t v : Text) (x : Tree) → ahead n d (st f s) ≡ with_head scope (st g t) →
     WholeAs n (d + 1) g t (41 ∷ v) x → AtomAs n d f s v x
 reads_scope n d f g s t v x e w =
     record { tree = w.tree; derives = atom e (a_group (inside w.derives refl) refl) refl; becomes = w.becomes }
@@ -430,7 +434,7 @@ colon n f s k =
     (omega arith)
 
 grouped_at : (n d : ℕ) (f : Flags) (s : Text) → Kept f → d + 1 < 64 →
-    ahead n d (st f (40 ∷ 63 ∷ 58 ∷ s)) ≡ opens scope (st f s)
+    ahead n d (st f (40 ∷ 63 ∷ 58 ∷ s)) ≡ with_head scope (st f s)
 grouped_at n d f s k l = scope_at n d f f (58 ∷ s) s k l refl refl (colon n f s k)
 
 -- `(?:`
@@ -464,14 +468,14 @@ two_letters n f g h b c s k m p z o q e r =
 
 -- `(?i:`
 pub reads_caseless : (n d : ℕ) (u : Bool) (s v : Text) (x : Tree) → d + 1 < 64 →
-    WholeAs n (d + 1) (under u true false false false) s (41 ∷ v) x →
-    AtomAs n d (under u false false false false) (40 ∷ 63 ∷ 105 ∷ 58 ∷ s) v x
+    WholeAs n (d + 1) (case_flags u true) s (41 ∷ v) x →
+    AtomAs n d (bare u) (40 ∷ 63 ∷ 105 ∷ 58 ∷ s) v x
 reads_caseless n d u s v x l w =
-    let f = under u false false false false in
-    let g = under u true false false false in
+    let f = bare u in
+    let g = case_flags u true in
     reads_scope n d f g (40 ∷ 63 ∷ 105 ∷ 58 ∷ s) s v x
-    (scope_at n d f g (105 ∷ 58 ∷ s) s (kept u false false false false) l refl refl
-    (one_letter n f g 105 s (kept u false false false false) (kept u true false false false) refl refl)) w
+    (scope_at n d f g (105 ∷ 58 ∷ s) s (kept_bare u) l refl refl
+    (one_letter n f g 105 s (kept_bare u) (kept_case u true) refl refl)) w
 
 -- ---- leaves
 
@@ -523,7 +527,7 @@ fails_deep n d f t h =
     let deep : nat_le max_depth (d + 1) ≡ true = le-leb 64 (d + 1) h in atom (cond-true _ _ _ deep) a_leaf refl
 
 module _ (n d : ℕ) (f : Flags) (k : Kind) (p : ℕ) where
-  fails_head : (g : Flags) (h : Head) (s t : Text) → ahead n d (st f s) ≡ opens h (st g t) →
+  fails_head : (g : Flags) (h : Head) (s t : Text) → ahead n d (st f s) ≡ with_head h (st g t) →
       Alternation n (d + 1) (st g t) (fault k p) → Atom n d (st f s) (fault k p)
   fails_head g h s t e w = atom e (a_group (inside w refl) refl) refl
 
@@ -535,7 +539,7 @@ module _ (n d : ℕ) (f : Flags) (k : Kind) (p : ℕ) where
       Atom n d (st f (40 ∷ 63 ∷ 58 ∷ s)) (fault k p)
   fails_grouped s h l w = fails_head f scope (40 ∷ 63 ∷ 58 ∷ s) s (grouped_at n d f s h l) w
 
-  pub fails_piece : (s : Text) → Kept f → before_atom.ends s ≡ false → after_comment_head s ≡ None →
+  pub fails_piece : (s : Text) → Kept f → states.ends s ≡ false → after_comment_head s ≡ None →
       Atom n d (st f s) (fault k p) → Pieces n d (st f s) (fault k p)
   fails_piece s h e o a = piece_fault e (piece (skip_here n f s h o) a refl)
 

@@ -5,7 +5,7 @@ use Rattle.fancy_parts.specs.Quote.{behind_backslash, quantifier}
 use Rattle.fancy_grammar.specs.Printed.{is_long}
 use Rattle.fancy_grammar.specs.Quantified.{is_repeatable}
 use Rattle.fancy_grammar.specs.Tree.{Tree, Trees, no_trees, more_trees, empty, any, assertion, literal, concat, alt, group, repeat, delegate, define_group}
-use Rattle.fancy_grammar.specs.Normal.{under, bare, normal}
+use Rattle.fancy_grammar.specs.Normal.{case_flags, bare, normal}
 use Rattle.fancy_grammar.proofs.ReadBack.InFront.{put, puts, put_branches, put_barred, put_repeated, open_if, close_if}
 use Rattle.fancy_grammar.proofs.ReadBack.ClearLemmas.{no_truth, Clear, not_asking, clear_lazy, clear_close, stops_bar}
 use Rattle.fancy_grammar.proofs.ReadBack.RuleLemmas.{AtomAs}
@@ -14,7 +14,7 @@ use Rattle.fancy_grammar.proofs.ReadBack.LeafLemmas.{Begins, begins_char, begins
 -- a Delegate's text in front of anything reads as its normal form
 pub record DelegateText (s : Text) : Type 0 where
   pub reads : (n d : ℕ) (u i : Bool) (v : Text) →
-      AtomAs n d (under u i false false false) (s ++ v) v (normal u (delegate s i))
+      AtomAs n d (case_flags u i) (s ++ v) v (normal u (delegate s i))
   pub begins : (v : Text) → Begins (s ++ v)
 
 abbrev mutual

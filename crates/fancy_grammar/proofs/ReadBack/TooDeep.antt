@@ -19,7 +19,7 @@ use Rattle.fancy_grammar.proofs.ReadBack.InFront.{put, puts, put_branches, put_b
 use Rattle.fancy_grammar.proofs.ReadBack.ClearLemmas.{Clear, Ends, clear_close, stops_bar, ends_close, ends_nothing}
 use Rattle.fancy_grammar.proofs.ReadBack.LeafLemmas.{begins_any, begins_assertion, HasText}
 use Rattle.fancy_grammar.proofs.ReadBack.Induction.{Starts, wrapped, wrap_starts, EachReads, reads_each, text_high, nest_high}
-use Rattle.fancy_grammar.proofs.ReadBack.RuleLemmas.{st, kept, fails_deep, fails_group, fails_grouped, fails_piece, fails_first, fails_more, fails_whole, fails_text}
+use Rattle.fancy_grammar.proofs.ReadBack.RuleLemmas.{st, kept_bare, fails_deep, fails_group, fails_grouped, fails_piece, fails_first, fails_more, fails_whole, fails_text}
 use Rattle.fancy_grammar.proofs.ReadBack.ShapeLemmas.{Printable, ArePrintable, begins_head, begins_group, begins_atom, begins_repeated, clear_put, clear_puts}
 
 -- the text that is left at that place
@@ -97,7 +97,7 @@ to_whole u k m o r n d v l h e =
 
 atom_run : (u : Bool) (k : Text → Text) (m : ℕ) (o : ℕ → Text → Text) → Starts k → FailsAtom u k m o → FailsRun u k m o
 atom_run u k m o s a n d v l h _ =
-    fails_piece n d (bare u) recursion_exceeded _ (k v) (kept u false false false false) (s v).goes
+    fails_piece n d (bare u) recursion_exceeded _ (k v) (kept_bare u) (s v).goes
     (s v).clear.no_comment (a n d v l h)
 
 -- never wrapped
@@ -141,7 +141,7 @@ wrap_fails : (u : Bool) (k : Text → Text) (m : ℕ) (o : ℕ → Text → Text
 wrap_fails u k m o w n d v l h =
     let s = k (41 ∷ v) in
     opened u n d (63 ∷ 58 ∷ s) (o (d + 1) (41 ∷ v))
-    (λ b. fails_grouped n d (bare u) recursion_exceeded _ s (kept u false false false false) b
+    (λ b. fails_grouped n d (bare u) recursion_exceeded _ s (kept_bare u) b
     (w n (d + 1) (41 ∷ v) b (omega arith) (ends_close v))) l
 
 -- wrapped from 1 on, from 2 on, from 3 on
@@ -203,7 +203,7 @@ group_fails u t h r =
     by_atom u k (1 + nest t 0) (λ d v. left_open d (k v) (left t 0 (d + 1) (41 ∷ v)))
     (λ v. begins_group (put t 0 (41 ∷ v)) (clear v))
     (λ n d v l m. opened u n d (put t 0 (41 ∷ v)) (left t 0 (d + 1) (41 ∷ v))
-    (λ b. fails_group n d (bare u) recursion_exceeded _ (put t 0 (41 ∷ v)) (kept u false false false false) b (clear v)
+    (λ b. fails_group n d (bare u) recursion_exceeded _ (put t 0 (41 ∷ v)) (kept_bare u) b (clear v)
     (r.whole n (d + 1) (41 ∷ v) b (omega arith) (ends_close v))) l)
 
 concat_fails : (u : Bool) (ts : Trees) → ArePrintable ts → EachReads u ts → EachFails u ts →
@@ -255,7 +255,7 @@ repeat_fails : (u : Bool) (t : Tree) (lo hi : ℕ) (greedy : Bool) → Printable
 repeat_fails u t lo hi greedy h q n d v l m c =
     let w = quantifier lo hi greedy ++ v in
     let b = begins_repeated t (h.1 false) (begins_atom t h.0) w in
-    fails_piece n d (bare u) recursion_exceeded _ (put_repeated t w) (kept u false false false false) b.goes
+    fails_piece n d (bare u) recursion_exceeded _ (put_repeated t w) (kept_bare u) b.goes
     b.clear.no_comment (repeated_fails u t q n d w l m)
 
 mutual

@@ -5,6 +5,8 @@ ghost use Rattle.fancy_lex.specs.Class as classes;
 ghost use Rattle.fancy_lex.specs.Escape as escapes;
 ghost use Rattle.fancy_lex.specs.Escaped.{escape_of};
 ghost use Rattle.fancy_grammar.specs.Ahead as spec;
+ghost use Rattle.fancy_grammar.specs.Depth.{max_depth};
+ghost use Rattle.fancy_grammar.specs.State.{ends, skipped};
 ghost use Rattle.fancy_syntax.specs.Parsed.{state, Gives, GivesTree, Sees, Skips, IsUnmoved, IsBelow, StaysAtNothing, TakesBytes, IsSomething};
 ghost use Rattle.fancy_grammar.specs.Tree.{delegate, literal};
 ghost use Rattle.fancy_syntax.specs.View.{view};
@@ -43,7 +45,7 @@ pub(crate) enum Ahead<'a> {
 
 /// Whether a branch ends here: at the end, a bar or a closing parenthesis.
 pub(crate) fn is_end(text: &str) -> bool
-    ensures { result ≡ spec.ends (chars text.now) }
+    ensures { result ≡ ends (chars text.now) }
 {
     let Some((c, _)) = next(text) else {
         return true;
@@ -55,7 +57,7 @@ pub(crate) fn is_end(text: &str) -> bool
 #[inline]
 pub(crate) fn skip_layout<'a>(here: State<'a>, end: usize) -> Result<&'a str, Error>
     requires { end < 2 ^ 63 }
-    ensures value { Skips result (spec.skipped end (state here.entry)) }
+    ensures value { Skips result (skipped end (state here.entry)) }
     ensures within { IfOk result (λ r. length r.now ≤ length here.entry.rest.now) }
     ensures unmoved { IfOk result (λ r. IsUnmoved here.entry.rest.now r.now) }
 {
@@ -75,7 +77,7 @@ pub(crate) fn look_ahead<'a>(
 ) -> Result<Ahead<'a>, Error>
     requires within { length here.old.rest.now ≤ end }
     requires end { end < 2 ^ 63 }
-    requires depth { depth < 64 }
+    requires depth { depth < max_depth }
     ensures value { Sees result (state here.new) (spec.ahead end depth (state here.old)) }
     ensures stays { IfOk result (λ a. StaysAtNothing a here.old here.new) }
     ensures shorter { IfOk result (λ a. TakesBytes a here.old.rest.now here.new.rest.now) }
@@ -104,13 +106,13 @@ fn open_group<'a>(
 ) -> Result<Ahead<'a>, Error>
     requires within { length here.old.rest.now ≤ end }
     requires end { end < 2 ^ 63 }
-    requires depth { depth < 64 }
+    requires depth { depth < max_depth }
     requires front { chars here.old.rest.now ≡ open_paren ∷ chars rest.now }
     requires shorter { length rest.now < length here.old.rest.now }
     ensures value { Sees result (state here.new) (spec.ahead end depth (state here.old)) }
     ensures within { IfOk result (λ _. length here.new.rest.now < length here.old.rest.now) }
     ensures something { IfOk result (λ a. IsSomething a) }
-    ensures below { IfOk result (λ _. depth + 1 < 64) }
+    ensures below { IfOk result (λ _. depth + 1 < max_depth) }
 {
     if depth >= MAX_DEPTH - 1 {
         let paren = place(here.rest, end);
@@ -232,7 +234,7 @@ fn look_at_group<'a>(alloc: Global, here: &mut State<'a>, end: usize) -> Result<
     requires within { length here.old.rest.now ≤ end }
     requires end { end < 2 ^ 63 }
     ensures value { Sees result (state here.new) (spec.behind_layout end (state here.old)
-        (spec.skipped end (state here.old))) }
+        (skipped end (state here.old))) }
     ensures within { length here.new.rest.now ≤ length here.old.rest.now }
     ensures something { IfOk result (λ a. IsSomething a) }
 {

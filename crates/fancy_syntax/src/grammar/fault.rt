@@ -1,14 +1,14 @@
 //! The fault whose kind carries a message.
 ghost use Rattle.std.specs.Prelude.{chars};
 ghost use Rattle.fancy_lex.specs.Fault as spec;
-ghost use Rattle.fancy_grammar.specs.Fails.{IsFaultAt};
+ghost use Rattle.fancy_grammar.specs.Fails.{IsErrorAt};
 
 use fancy_lex::error::{Error, ParseError};
 use std::alloc::Global;
 
 /// The general fault with this message, or that memory ran out.
 pub(crate) fn general(alloc: Global, message: &str, place: usize) -> Error
-    ensures { IsFaultAt result (spec.general_parse_error (chars message.now)) place }
+    ensures { IsErrorAt result (spec.general_parse_error (chars message.now)) place }
 {
     match String::from_str(alloc, message) {
         Ok(message) => Error::ParseError(place, ParseError::GeneralParseError(message)),

@@ -45,7 +45,7 @@ pub(crate) struct Frame<'a> {
 impl<'a> Frame<'a> {
     ghost use Rattle.std.specs.Prelude.{false, IfErr};
     ghost use Rattle.fancy_lex.specs.Text.{place_of};
-    ghost use Rattle.fancy_syntax.specs.Machine.{open_of, opened_by_bar, branches_at_bar, is_second, IsFaultOfBar};
+    ghost use Rattle.fancy_syntax.specs.Machine.{part_of, opened_by_bar, branches_at_bar, is_second, IsFaultOfBar};
     ghost use Rattle.fancy_grammar.specs.Fails.{Fails};
 
     /// A group in which nothing is read yet, and where these flags hold.
@@ -96,14 +96,14 @@ impl<'a> Frame<'a> {
     ///
     /// Behind the second branch of an absent expression no bar may stand: the general fault, at the bar.
     pub(crate) fn bar(&mut self, alloc: Global, place: usize) -> Result<(), Error>
-        ensures opener { OnOk result (open_of self.new.opener ≡ opened_by_bar (open_of self.old.opener)
+        ensures opener { OnOk result (part_of self.new.opener ≡ opened_by_bar (part_of self.old.opener)
             (spec.one_or concat (trees self.old.pieces))) }
-        ensures branches { OnOk result (trees self.new.branches ≡ branches_at_bar (open_of self.old.opener)
+        ensures branches { OnOk result (trees self.new.branches ≡ branches_at_bar (part_of self.old.opener)
             (trees self.old.branches) (spec.one_or concat (trees self.old.pieces))) }
         ensures pieces { OnOk result (trees self.new.pieces ≡ []) }
-        ensures allowed { IfOk result (λ _. is_second (open_of self.old.opener) ≡ false) }
+        ensures allowed { IfOk result (λ _. is_second (part_of self.old.opener) ≡ false) }
         ensures fault { (n : _) (t : _) → place ≡ place_of n t →
-            IfErr result (λ e. Fails e (IsFaultOfBar (open_of self.old.opener) n t)) }
+            IfErr result (λ e. Fails e (IsFaultOfBar (part_of self.old.opener) n t)) }
     {
         match &self.opener {
             Opener::First => {

@@ -24,7 +24,7 @@ pub(crate) enum Head<'a> {
 
 /// The node round the inside of a group that opens at the place.
 pub(crate) fn node(alloc: Global, head: Head, place: usize, inner: Expr) -> Result<Expr, AllocError>
-    ensures { IfOk result (λ e. view e ≡ spec.node_of (head_of head.entry) place (view inner)) }
+    ensures { IfOk result (λ e. view e ≡ spec.group_node (head_of head.entry) place (view inner)) }
 {
     match head {
         Head::Capture(name) => capture(alloc, name, place, inner),

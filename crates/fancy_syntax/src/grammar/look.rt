@@ -4,12 +4,12 @@ ghost use Rattle.fancy_lex.specs.FaultTable.{unknown_verb};
 ghost use Rattle.fancy_parts.specs.FlagLetters.{letters};
 ghost use Rattle.fancy_parts.specs.GroupName as names;
 ghost use Rattle.fancy_parts.specs.HeadReference as references;
-ghost use Rattle.fancy_grammar.specs.Ahead.{leaf, opens};
+ghost use Rattle.fancy_grammar.specs.Ahead.{leaf, with_head};
 ghost use Rattle.fancy_grammar.specs.Head as head;
 ghost use Rattle.fancy_grammar.specs.State.{at};
 ghost use Rattle.fancy_grammar.specs.Ahead as spec;
 ghost use Rattle.fancy_syntax.specs.Parsed.{state, Sees, IsSomething};
-ghost use Rattle.fancy_grammar.specs.Fails.{IsFault};
+ghost use Rattle.fancy_grammar.specs.Fails.{IsErrorOf};
 ghost use Rattle.fancy_grammar.specs.Verb as verbs;
 
 use crate::expr::{BacktrackingControlVerb, Expr, LookAround};
@@ -67,7 +67,7 @@ pub(crate) fn look_behind_question<'a>(
 fn open_look<'a>(here: &mut State<'a>, inside: &'a str, look: LookAround) -> Ahead<'a>
     requires { length inside.now ≤ length here.old.rest.now }
     ensures value { Sees (Ok result) (state here.new)
-        (opens (head.look look) (at (state here.old) (chars inside.now))) }
+        (with_head (head.look look) (at (state here.old) (chars inside.now))) }
     ensures within { length here.new.rest.now ≤ length here.old.rest.now }
     ensures something { IsSomething result }
 {
@@ -282,7 +282,7 @@ pub(crate) fn look_at_verb<'a>(
     requires within { length here.old.rest.now ≤ end }
     requires shorter { length rest.now ≤ length here.old.rest.now }
     ensures value { MatchResult result (λ v. verbs.verb_at (chars rest.now) ≡ Some (v, chars here.new.rest.now))
-        (λ e. (verbs.verb_at (chars rest.now) ≡ None) × IsFault e (unknown_verb end (chars here.old.rest.now))) }
+        (λ e. (verbs.verb_at (chars rest.now) ≡ None) × IsErrorOf e (unknown_verb end (chars here.old.rest.now))) }
     ensures flags { here.new.flags ≡ here.old.flags }
     ensures within { length here.new.rest.now ≤ length here.old.rest.now }
 {

@@ -1,5 +1,6 @@
 //! A tree under the quantifiers that follow it.
 ghost use Rattle.std.specs.Prelude.{◌≡◌, ◌≤◌, ◌<◌, ◌+◌, ◌^◌, true, false, length, chars, Some, None, if◌then◌else◌, IfOk, OnOk};
+ghost use Rattle.fancy_grammar.specs.Depth.{max_depth};
 ghost use Rattle.fancy_grammar.specs.Join.{is_empty};
 ghost use Rattle.fancy_grammar.specs.Quantified as spec;
 ghost use Rattle.fancy_grammar.specs.Tree.{repeat, atomic_group};
@@ -70,7 +71,7 @@ pub(crate) fn quantify(
 ) -> Result<(), Error>
     requires within { length here.old.rest.now ≤ end }
     requires end { end < 2 ^ 63 }
-    requires depth { depth < 64 }
+    requires depth { depth < max_depth }
     ensures value { Turns result (view tree.new) (state here.new)
         (spec.quants end depth left (view tree.old) (state here.old)) }
     ensures within { length here.new.rest.now ≤ length here.old.rest.now }
@@ -92,7 +93,7 @@ fn quantify_adjacent(
 ) -> Result<(), Error>
     requires within { length here.old.rest.now ≤ end }
     requires end { end < 2 ^ 63 }
-    requires depth { depth < 64 }
+    requires depth { depth < max_depth }
     ensures value { Turns result (view tree.new) (state here.new)
         (spec.adjacent spec.max_adjacent end depth (view tree.old) (state here.old)) }
     ensures within { length here.new.rest.now ≤ length here.old.rest.now }
@@ -116,7 +117,7 @@ fn quantify_adjacent(
 
 /// Whether one adjacent quantifier more may count at the depth.
 fn may_count(more: usize, depth: usize) -> bool
-    requires { depth < 64 }
+    requires { depth < max_depth }
     ensures { result ≡ spec.may_count more depth }
 {
     more > 0 && depth + 1 < MAX_DEPTH
@@ -160,7 +161,7 @@ fn repeat(
     requires within { length here.old.rest.now < end }
     requires end { end < 2 ^ 63 }
     ensures value { Turns result (view tree.new) (state here.new)
-        (spec.counted end left (view tree.old) (state here.old) (Some (counts, chars here.old.rest.now))) }
+        (spec.with_counts end left (view tree.old) (state here.old) (Some (counts, chars here.old.rest.now))) }
     ensures within { length here.new.rest.now ≤ length here.old.rest.now }
 {
     if is_repeatable(here.flags, tree) {

@@ -2,10 +2,11 @@
 ghost use Rattle.std.specs.Prelude.{◌≡◌, ℕ, ◌+◌, ◌<◌, ◌≤◌, ◌^◌, false, length, chars, IfOk, MatchResult, None};
 ghost use Rattle.fancy_lex.specs.Characters.{bar};
 ghost use Rattle.fancy_lex.specs.Text.{bytes, strip};
-ghost use Rattle.fancy_grammar.specs.Ahead.{ends};
+ghost use Rattle.fancy_grammar.specs.State.{ends};
+ghost use Rattle.fancy_grammar.specs.Depth.{max_depth};
 ghost use Rattle.fancy_grammar.specs.Grammar as spec;
 ghost use Rattle.fancy_syntax.specs.Machine as machine;
-ghost use Rattle.fancy_syntax.specs.Machine.{Opens, OpensBelow, Part, StepsOn, GivesPiece, ended_part, open_of};
+ghost use Rattle.fancy_syntax.specs.Machine.{Opens, OpensBelow, Part, StepsOn, GivesPiece, ended_part, part_of};
 ghost use Rattle.fancy_syntax.specs.Parsed.{state, GivesTree};
 ghost use Rattle.fancy_grammar.specs.Quantified.{quants};
 ghost use Rattle.fancy_grammar.specs.Fails.{Fails};
@@ -44,7 +45,7 @@ pub(crate) fn read_step<'a>(
 ) -> Result<Step<'a>, Error>
     requires within { length here.old.rest.now ≤ end }
     requires end { end < 2 ^ 63 }
-    requires depth { depth < 64 }
+    requires depth { depth < max_depth }
     requires more { ends (chars here.old.rest.now) ≡ false }
     ensures value { StepsOn result end depth (state here.old) (state here.new) }
     ensures shorter { IfOk result (λ _. length here.new.rest.now < length here.old.rest.now) }
@@ -91,7 +92,7 @@ fn piece<'a>(
 ) -> Result<Step<'a>, Error>
     requires within { length here.old.rest.now ≤ end }
     requires end { end < 2 ^ 63 }
-    requires depth { depth < 64 }
+    requires depth { depth < max_depth }
     ensures value { GivesPiece result (quants end depth left (view atom) (state here.old)) (state here.new) }
     ensures within { length here.new.rest.now ≤ length here.old.rest.now }
 {
@@ -119,10 +120,10 @@ pub(crate) fn close<'a>(
 ) -> Result<Step<'a>, Error>
     requires within { length here.old.rest.now ≤ end }
     requires end { end < 2 ^ 63 }
-    requires depth { depth < 64 }
+    requires depth { depth < max_depth }
     requires last { strip bar (chars here.old.rest.now) ≡ None }
     ensures value { (s t : states.State) → left ≡ bytes s.rest → flags ≡ s.flags →
-        Opens end depth s (open_of opener.entry) t → Part (open_of opener.entry) end (depth + 1) t (states.done (view inner) (state here.old)) →
+        Opens end depth s (part_of opener.entry) t → Part (part_of opener.entry) end (depth + 1) t (states.done (view inner) (state here.old)) →
         StepsOn result end depth s (state here.new) }
     ensures shorter { IfOk result (λ _. length here.new.rest.now < length here.old.rest.now) }
 {
@@ -139,7 +140,7 @@ pub(crate) fn close<'a>(
 
 /// Whether the atom goes on behind what is open: the body of a conditional follows its condition.
 fn goes_on(opener: &Opener) -> bool
-    ensures { result ≡ machine.goes_on (open_of opener.now) }
+    ensures { result ≡ machine.goes_on (part_of opener.now) }
 {
     matches!(opener, Opener::Condition)
 }
@@ -156,7 +157,7 @@ fn end_part(
 ) -> Result<Expr, Error>
     requires within { length here.old.rest.now ≤ end }
     ensures value { GivesTree result (state here.new)
-        (ended_part end (open_of opener.entry) (view inner) (state here.old)) }
+        (ended_part end (part_of opener.entry) (view inner) (state here.old)) }
     ensures shorter { IfOk result (λ _. length here.new.rest.now < length here.old.rest.now) }
 {
     if let Err(fault) = read_end(alloc, &opener, here, end) {
@@ -170,9 +171,9 @@ fn end_part(
 fn read_end(alloc: Global, opener: &Opener, here: &mut State, end: usize) -> Result<(), Error>
     requires within { length here.old.rest.now ≤ end }
     ensures value { (r : Tree) → MatchResult result
-        (λ _. ended_part end (open_of opener.now) r (state here.old) ≡
-        states.done (machine.node_of_part (open_of opener.now) r) (state here.new))
-        (λ e. Fails e (λ o. ended_part end (open_of opener.now) r (state here.old) ≡ o)) }
+        (λ _. ended_part end (part_of opener.now) r (state here.old) ≡
+        states.done (machine.node_of_part (part_of opener.now) r) (state here.new))
+        (λ e. Fails e (λ o. ended_part end (part_of opener.now) r (state here.old) ≡ o)) }
     ensures shorter { IfOk result (λ _. length here.new.rest.now < length here.old.rest.now) }
 {
     if lacks_body(opener, here.rest) {
@@ -184,7 +185,7 @@ fn read_end(alloc: Global, opener: &Opener, here: &mut State, end: usize) -> Res
 /// Whether what is open is the body of a conditional that takes no byte before the text, and the condition cannot do
 /// without.
 fn lacks_body(opener: &Opener, text: &str) -> bool
-    ensures { (s : states.State) → s.rest ≡ chars text.now → result ≡ machine.lacks_body (open_of opener.now) s }
+    ensures { (s : states.State) → s.rest ≡ chars text.now → result ≡ machine.lacks_body (part_of opener.now) s }
 {
     match opener {
         Opener::Body { condition, left } => bytes_left(text) == *left && !is_condition(condition),
@@ -194,7 +195,7 @@ fn lacks_body(opener: &Opener, text: &str) -> bool
 
 /// The tree of what was open, around the tree read inside.
 fn node_of_part(alloc: Global, opener: Opener, inner: Expr) -> Result<Expr, AllocError>
-    ensures { IfOk result (λ e. view e ≡ machine.node_of_part (open_of opener.entry) (view inner)) }
+    ensures { IfOk result (λ e. view e ≡ machine.node_of_part (part_of opener.entry) (view inner)) }
 {
     match opener {
         Opener::Top | Opener::Condition => Ok(inner),

@@ -2,7 +2,7 @@
 ghost use Rattle.std.specs.Prelude.{◌≡◌, false, IfOk, IsOk};
 ghost use Rattle.fancy_grammar.specs.HasDelegate.{has_delegate, any_has_delegate};
 ghost use Rattle.fancy_grammar.specs.Join.{is_empty, join};
-ghost use Rattle.fancy_grammar.specs.Normal.{normal, items};
+ghost use Rattle.fancy_grammar.specs.Normal.{normal, normal_pieces};
 ghost use Rattle.fancy_grammar.specs.Printable as spec;
 ghost use Rattle.fancy_grammar.specs.Tree as tree;
 ghost use Rattle.fancy_grammar.specs.Tree.{trees_of};
@@ -81,7 +81,7 @@ fn is_empty_in_normal_form(tree: &Expr) -> bool
 
 #[cycle(normal)]
 fn are_empty_in_normal_form(trees: &[Expr]) -> bool
-    ensures { result ≡ is_empty (join (items false (trees_of (views trees.now)))) }
+    ensures { result ≡ is_empty (join (normal_pieces false (trees_of (views trees.now)))) }
 {
     for tree in trees {
         if !is_empty_in_normal_form(tree) {

@@ -1,5 +1,5 @@
 use Rattle.std.proofs.Common.{◌≡◌, min, take, take_all, ap, ◌∙◌, arith, rules}
-use Rattle.fancy_grammar.specs.Ahead.{max_depth}
+use Rattle.fancy_grammar.specs.Depth.{max_depth}
 use Rattle.fancy_syntax.proofs.RoomLaws.{parens_bytes}
 use Rattle.fancy_syntax.proofs.grammar.room.Goals as goal
 

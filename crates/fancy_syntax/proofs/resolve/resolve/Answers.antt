@@ -1,6 +1,6 @@
 use Rattle.std.proofs.Common.{Result, Ok, Err, IfOk, IfErr, arith, chars, length, ap, sym, subst, ◌∙◌}
 use Rattle.fancy_parts.specs.Groups.{groups_of}
-use Rattle.fancy_grammar.specs.Fails.{IsThatFault}
+use Rattle.fancy_grammar.specs.Fails.{IsErrorIn}
 use Rattle.fancy_grammar.specs.Items.{items}
 use Rattle.fancy_syntax.specs.View.{view}
 use Rattle.fancy_grammar.specs.Walk.{Known, Progress}
@@ -59,5 +59,5 @@ returns-clause-fault c =
     let found = rw c.in-Ok.is at c.find_groups.ensures in
     let suits = known_suits f r k (length c.args.pattern.now) found.named found.total found.names c.requires in
     let walked = rw c.in-Ok-walk.is at c.walk.ensures in
-    on_err c.answer.result (λ e is. subst (IsThatFault e) (ap (λ (p : Progress). p.fault) walked.progress ∙ law_fault f r k suits) is)
+    on_err c.answer.result (λ e is. subst (IsErrorIn e) (ap (λ (p : Progress). p.fault) walked.progress ∙ law_fault f r k suits) is)
     c.answer.ensures.fault

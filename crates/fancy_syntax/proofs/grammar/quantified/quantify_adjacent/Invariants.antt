@@ -1,4 +1,5 @@
 use Rattle.std.proofs.Common.{◌≡◌, ◌≤◌, ◌<◌, length}
+use Rattle.fancy_grammar.specs.Depth.{max_depth}
 use Rattle.fancy_grammar.specs.Quantified as spec
 use Rattle.fancy_syntax.specs.Parsed.{state}
 use Rattle.fancy_syntax.specs.View.{view}
@@ -8,7 +9,7 @@ abbrev pub invariant-loop-behind : goal.invariant-loop-behind
 invariant-loop-behind l = record {
   value : spec.adjacent spec.max_adjacent l.fn.end l.fn.depth (view l.fn.tree) (state l.fn.here)
       ≡ spec.adjacent l.more l.fn.end l.depth (view l.tree) (state l.here);
-  deep : l.depth < 64;
+  deep : l.depth < max_depth;
   within : length l.here.rest.now ≤ length l.fn.here.rest.now;
 }
 

@@ -1,7 +1,7 @@
 use Rattle.std.proofs.Common.{◌≡◌, sym, ◌∙◌}
 use Rattle.std.proofs.lemmas.Result.{err_from_is_err_and}
 use Rattle.fancy_grammar.specs.Grammar.{Piece}
-use Rattle.fancy_syntax.specs.Machine.{open_of, ended_part}
+use Rattle.fancy_syntax.specs.Machine.{part_of, ended_part}
 use Rattle.fancy_syntax.specs.Parsed.{state}
 use Rattle.fancy_syntax.specs.View.{view}
 use Rattle.fancy_syntax.proofs.MachineLemmas.{ended_fault, condition_ended, closes}
@@ -12,7 +12,7 @@ pub returns-in_err-atom-clause-value : goal.returns-in_err-atom-clause-value
 returns-in_err-atom-clause-value c =
     λ s t i j o p.
     let e = err_from_is_err_and c.from_residual.result c.from_residual.ensures.1 in
-    rw (e.1, e.2) (Fails-map (λ q. ended_part c.args.end (open_of c.args.opener) (view c.args.inner) (state c.args.here.now) ≡ q) (Piece c.args.end c.args.depth s)
+    rw (e.1, e.2) (Fails-map (λ q. ended_part c.args.end (part_of c.args.opener) (view c.args.inner) (state c.args.here.now) ≡ q) (Piece c.args.end c.args.depth s)
     c.in_err-atom.field-0.0 (λ k q h. ended_fault (view c.args.inner) (state c.args.here.now) o p (λ _ _. c.requires.last) h) c.in_err-atom.ensures.value)
 
 pub returns-then-not-has_body-clause-value : goal.returns-then-not-has_body-clause-value
