@@ -1,26 +1,30 @@
-mod BoundaryLaws
-mod BoundaryLemmas
-pub mod BoundaryRelation
-pub mod ClassLaws
-mod ClassLemmas
-pub mod DelimitedLaws
-pub mod EscapeFrame
-pub mod EscapeLaws
-mod EscapeLemmas
-pub mod EscapeSound
-mod HexLemmas
-pub mod HexRelation
-mod IdLemmas
-pub mod IdReferenceLaws
-pub mod LayoutLaws
-pub mod LayoutLemmas
+-- ---- texts, and what is taken off their front
+pub mod TextLemmas
+pub mod TakeLaws
 pub mod LeaveLaws
+pub mod ReadingLemmas
+-- ---- layout, numbers, names and references
+pub mod LayoutLemmas
+pub mod LayoutLaws
 pub mod NumberLemmas
 pub mod NumberTextLaws
-pub mod PlaceLaws
-mod PropertyLemmas
-pub mod ReadingLemmas
+mod IdLemmas
+pub mod IdReferenceLaws
+pub mod DelimitedLaws
 pub mod ReferenceLaws
 pub mod ReferencePlaces
-pub mod TakeLaws
-pub mod TextLemmas
+-- ---- escapes
+mod HexLemmas
+pub mod HexRelation
+mod BoundaryLemmas
+mod BoundaryLaws
+pub mod BoundaryRelation
+mod PropertyLemmas
+mod EscapeLemmas
+pub mod EscapeLaws
+pub mod EscapeSound
+pub mod EscapeFrame
+-- ---- classes
+mod ClassLemmas
+pub mod ClassLaws
+pub mod PlaceLaws

@@ -1,24 +1,31 @@
-pub mod Bits
-pub mod Boundary
-pub mod BoundaryName
+-- What the readers promise that know no tree.
+
+-- ---- texts and places, flags, faults
 pub mod Characters
-pub mod Class
-pub mod Delimited
-pub mod Escape
-pub mod EscapeReference
-pub mod Escaped
+pub mod Text
+pub mod Flags
 pub mod Fault
 pub mod FaultTable
-pub mod Flags
-pub mod Hex
-pub mod Id
-pub mod IdReference
+pub mod Reading
+-- ---- layout, numbers, names, and what they refer to
 pub mod Layout
 pub mod Number
 pub mod NumberText
-pub mod Property
-pub mod PropertyForm
-pub mod Reading
+pub mod Id
+pub mod IdReference
+pub mod Delimited
 pub mod Referred
+-- ---- escapes and classes
+pub mod Hex
+pub mod BoundaryName
+pub mod Boundary
+pub mod EscapeReference
+pub mod Property
+pub mod Escape
+pub mod Class
+-- How values of the code stand to the definitions.
+
+pub mod Bits
 pub mod Target
-pub mod Text
+pub mod PropertyForm
+pub mod Escaped

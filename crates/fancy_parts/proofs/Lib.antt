@@ -1,9 +1,12 @@
+-- ---- quantifiers, and the heads of groups
 pub mod CountLaws
-pub mod FlagLaws
 pub mod FlagLemmas
-pub mod HeadLaws
 pub mod LetterRelation
+pub mod FlagLaws
+pub mod HeadLaws
+-- ---- the numbers of groups
 mod NameLemmas
 pub mod NamedLaws
+-- ---- what is printed
 pub mod QuoteLemmas
 pub mod RoomLemmas

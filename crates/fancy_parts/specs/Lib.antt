@@ -1,10 +1,17 @@
+-- What the readers and printers promise that know no tree.
+
+-- ---- quantifiers, and the heads of groups
+pub mod Quantifier
 pub mod FlagLetters
-pub mod FlagReads
 pub mod GroupName
 pub mod HeadReference
-pub mod Groups
-pub mod Meaning
-pub mod Quantifier
-pub mod Quote
+-- ---- the numbers of groups, and what references mean by them
 pub mod Ranks
+pub mod Meaning
+-- ---- what is printed
+pub mod Quote
+-- How values of the code stand to the definitions.
+
+pub mod FlagReads
+pub mod Groups
 pub mod Room

@@ -1,14 +1,18 @@
+-- ---- trees: equality, children, descendants, and what is lent of them
 pub mod ApartLemmas
+pub mod SameLemmas
 pub mod ChildrenLemmas
 pub mod Descents
-mod EmptyLemmas
 pub mod LoanLemmas
-mod MachineLemmas
-pub mod PartLemmas
-pub mod PrintLemmas
-mod RoomLaws
-pub mod SameLemmas
-mod StepLemmas
-mod TreeLemmas
-pub mod WalkLemmas
 pub mod WriteLemmas
+-- ---- the loop of the grammar
+mod RoomLaws
+mod StepLemmas
+mod MachineLemmas
+mod TreeLemmas
+-- ---- the resolver
+pub mod PartLemmas
+pub mod WalkLemmas
+-- ---- printing
+pub mod PrintLemmas
+mod EmptyLemmas

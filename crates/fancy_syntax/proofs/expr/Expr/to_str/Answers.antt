@@ -4,7 +4,7 @@ use Rattle.fancy_parts.proofs.RoomLemmas.{room_counted}
 use Rattle.fancy_grammar.specs.Printed.{printed}
 use Rattle.fancy_syntax.specs.View.{view}
 use Rattle.fancy_syntax.proofs.PrintLemmas.{added, bytes_none}
-use Rattle.fancy_grammar.proofs.ReadBack.Laws.{bytes_read_back, same_texts}
+use Rattle.fancy_grammar.proofs.ReadBack.Theorem.{bytes_read_back, same_texts}
 use Rattle.fancy_syntax.proofs.expr.Expr.to_str.Goals as goal
 
 pub put_tree-requires : goal.put_tree-requires
