@@ -1,11 +1,20 @@
 //! Where the trees come from: the reader, or a hand.
 use fancy_syntax::error::Error;
 use fancy_syntax::expr::Expr;
+use fancy_syntax::tree::ExprTree;
 use std::alloc::{AllocError, Global};
 
 /// The tree of the pattern.
 pub fn read(alloc: Global, pattern: &str, flags: u32) -> Result<Expr, Error> {
-    Ok(Expr::parse_tree_with_flags(alloc, pattern, flags)?.expr)
+    let ExprTree {
+        expr,
+        backrefs,
+        named_groups,
+        ..
+    } = Expr::parse_tree_with_flags(alloc, pattern, flags)?;
+    drop(backrefs);
+    drop(named_groups);
+    Ok(expr)
 }
 
 /// A pattern and its flags, or nodes of this kind by hand.
