@@ -21,12 +21,7 @@ fn text_of(alloc: Global, tree: &Expr, precedence: u8) -> Result<Option<String>,
     ensures { IfOk result (λ text. MatchOption text (printable (view tree.now) ≡ false)
         (λ s. IsText (view tree.now) precedence (string_bytes s))) }
 {
-    if !tree.is_printable(alloc)? {
-        return Ok(None);
-    }
-    let mut text = String::new(alloc);
-    tree.to_str(&mut text, precedence)?;
-    Ok(Some(text))
+    tree.print(alloc, precedence)
 }
 
 /// Writes the tree's text at the front of the buffer, where it has one and that fits.
