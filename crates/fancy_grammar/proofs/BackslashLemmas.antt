@@ -3,10 +3,11 @@ use Rattle.std.proofs.Common.{◌≡◌, ℕ, ◌-◌, ◌<◌, ◌≤◌, List,
 use Rattle.std.specs.Str.{IsUtf8}
 use Rattle.std.proofs.lemmas.List.{get_or_past}
 use Rattle.std.proofs.lemmas.Str.{encodes-chars}
+use Prim.Native.Char.{code}
 use Rattle.fancy_grammar.specs.Marks.{is_behind_backslash}
 
 pub behind_place : (bs : List ℕ) (place : ℕ) → IsUtf8 bs → 0 < place →
-    nat_eq (get_or bs (place - 1) 0) 92 ≡ is_behind_backslash (chars bs) place
+    nat_eq (get_or bs (place - 1) 0) (code "\\") ≡ is_behind_backslash (chars bs) place
 behind_place bs place u h = rw (encodes-chars bs u) (grind arith)
 
 pub behind_start : (bs : List ℕ) (place : ℕ) → place ≤ 0 → false ≡ is_behind_backslash (chars bs) place

@@ -20,7 +20,8 @@ reference_node (number n) (ast_call t) place = subroutine_call n
 reference_node (number n) (ast_condition t level) place = backref_exists n level
 reference_node _ node place = ast_node node place
 
--- the node of a reference behind the openings of c groups, where each name has these numbers; a group is none, and stays
+-- the node of a reference behind the openings of c groups, where each name has these numbers; a group is no reference,
+-- and stays
 abbrev pub resolved_node : (Text → List ℕ) → ℕ → AstTree → ℕ → Tree
 resolved_node numbers_of c (ast_backref t casei level) place =
     reference_node (means numbers_of c back_reference t) (ast_backref t casei level) place

@@ -85,8 +85,8 @@ Part (body c left) n d s o = Alternation n d s o
 
 -- a piece at s opens this, and what is read of it begins at t
 pub data Opens : ℕ → ℕ → State → OpenPart → State → Type 0 where
-  a_group : {n d : ℕ} {h : Head} {s t : State} {u : Text} → skipped n s ≡ rest u → ahead n d (at s u) ≡ seen.with_head h t →
-      Opens n d s (group h (place_of n u)) t
+  a_group : {n d : ℕ} {h : Head} {s t : State} {u : Text} → skipped n s ≡ rest u →
+      ahead n d (at s u) ≡ seen.with_head h t → Opens n d s (group h (place_of n u)) t
   a_condition : {n d : ℕ} {s t : State} {u : Text} → skipped n s ≡ rest u → ahead n d (at s u) ≡ seen.condition t →
       Opens n d s condition t
   a_body : {n d : ℕ} {c : Tree} {s t : State} {u : Text} → skipped n s ≡ rest u → ahead n d (at s u) ≡ seen.body c t →

@@ -6,6 +6,7 @@ use Rattle.std.specs.Char.{IsScalar, digit_value, is_ascii_digit, to_ascii_lower
 use Rattle.std.specs.Cmp.{first_so, second_so}
 use Rattle.std.specs.List.{list_all}
 use Rattle.std.specs.Str.{all_scalars, bytes_eq}
+use Prim.Native.Char.{code}
 use Rattle.fancy_lex.specs.Characters.{caret, ◌∈◌}
 use Rattle.fancy_lex.specs.Class.{class_head, is_plain, byte_text, upper_hex_digit}
 use Rattle.fancy_lex.specs.Escape.{escape, numbered, property, in_class, is_itself}
@@ -35,53 +36,53 @@ word_goes [] h m s v g = g
 word_goes (c ∷ w) h m s v g =
     pass_plain m c (w ++ s) v (first_so (is_plain c) _ h) (word_goes w (second_so (is_plain c) _ h) m s v g)
 
-pub word_chunk : (c : ℕ) (w : Text) → all_plain (c ∷ w) ≡ true → (c == 94) ≡ false → (c == 93) ≡ false →
+pub word_chunk : (c : ℕ) (w : Text) → all_plain (c ∷ w) ≡ true → (c == code "^") ≡ false → (c == code "]") ≡ false →
     all_scalars (c ∷ w) ≡ true → Chunk (c ∷ w)
 word_chunk c w h a b k =
     record { goes = word_goes (c ∷ w) h; no_caret = λ s. rw a refl; no_close = λ s. rw b refl; scalars = k }
 
-pub open_plain : (t : Text) → strip 94 t ≡ None → strip 93 t ≡ None →
-    ◌≡◌ {A = Text × Text} (class_head [] t) (91 ∷ [], t)
+pub open_plain : (t : Text) → strip (code "^") t ≡ None → strip (code "]") t ≡ None →
+    ◌≡◌ {A = Text × Text} (class_head [] t) (code "[" ∷ [], t)
 unfolding class_head
 open_plain t a b = rw (a, b) refl
 
-pub open_caret : (t : Text) → strip 93 t ≡ None → ◌≡◌ {A = Text × Text} (class_head [] (94 ∷ t)) (91 ∷ 94 ∷ [], t)
+pub open_caret : (t : Text) → strip (code "]") t ≡ None → ◌≡◌ {A = Text × Text} (class_head [] (code "^" ∷ t)) (code "[" ∷ code "^" ∷ [], t)
 unfolding class_head
 open_caret t b = rw b refl
 
-pub bracket_goes : (w : Text) → Chunk w → (m : ℕ) (s : Text) → ClassGoes m ((w ++ 93 ∷ []) ++ s) s
+pub bracket_goes : (w : Text) → Chunk w → (m : ℕ) (s : Text) → ClassGoes m ((w ++ code "]" ∷ []) ++ s) s
 bracket_goes w c m s =
-    subst (λ z. ClassGoes m z s) (sym (append_assoc w (93 ∷ []) s))
-    (pass_class m (w ++ 93 ∷ s) (91 ∷ []) (w ++ 93 ∷ s) s (open_plain _ (c.no_caret _) (c.no_close _))
-    (c.goes m (93 ∷ s) s (pass_close m s)))
+    subst (λ z. ClassGoes m z s) (sym (append_assoc w (code "]" ∷ []) s))
+    (pass_class m (w ++ code "]" ∷ s) (code "[" ∷ []) (w ++ code "]" ∷ s) s (open_plain _ (c.no_caret _) (c.no_close _))
+    (c.goes m (code "]" ∷ s) s (pass_close m s)))
 
-pub caret_goes : (w : Text) → Chunk w → (m : ℕ) (s : Text) → ClassGoes m (94 ∷ ((w ++ 93 ∷ []) ++ s)) s
+pub caret_goes : (w : Text) → Chunk w → (m : ℕ) (s : Text) → ClassGoes m (code "^" ∷ ((w ++ code "]" ∷ []) ++ s)) s
 caret_goes w c m s =
-    subst (λ z. ClassGoes m (94 ∷ z) s) (sym (append_assoc w (93 ∷ []) s))
-    (pass_class m (94 ∷ (w ++ 93 ∷ s)) (91 ∷ 94 ∷ []) (w ++ 93 ∷ s) s (open_caret _ (c.no_close _))
-    (c.goes m (93 ∷ s) s (pass_close m s)))
+    subst (λ z. ClassGoes m (code "^" ∷ z) s) (sym (append_assoc w (code "]" ∷ []) s))
+    (pass_class m (code "^" ∷ (w ++ code "]" ∷ s)) (code "[" ∷ code "^" ∷ []) (w ++ code "]" ∷ s) s (open_caret _ (c.no_close _))
+    (c.goes m (code "]" ∷ s) s (pass_close m s)))
 
-pub bracket_chunk : (w : Text) → Chunk w → Chunk (91 ∷ (w ++ 93 ∷ []))
+pub bracket_chunk : (w : Text) → Chunk w → Chunk (code "[" ∷ (w ++ code "]" ∷ []))
 bracket_chunk w c = record {
-  goes = λ m s v g. pass_nested m ((w ++ 93 ∷ []) ++ s) s v (bracket_goes w c m s) g;
+  goes = λ m s v g. pass_nested m ((w ++ code "]" ∷ []) ++ s) s v (bracket_goes w c m s) g;
   no_caret = λ s. refl;
   no_close = λ s. refl;
-  scalars = scalars_append w (93 ∷ []) c.scalars refl;
+  scalars = scalars_append w (code "]" ∷ []) c.scalars refl;
 }
 
-pub caret_chunk : (w : Text) → Chunk w → Chunk (91 ∷ 94 ∷ (w ++ 93 ∷ []))
+pub caret_chunk : (w : Text) → Chunk w → Chunk (code "[" ∷ code "^" ∷ (w ++ code "]" ∷ []))
 caret_chunk w c = record {
-  goes = λ m s v g. pass_nested m (94 ∷ ((w ++ 93 ∷ []) ++ s)) s v (caret_goes w c m s) g;
+  goes = λ m s v g. pass_nested m (code "^" ∷ ((w ++ code "]" ∷ []) ++ s)) s v (caret_goes w c m s) g;
   no_caret = λ s. refl;
   no_close = λ s. refl;
-  scalars = scalars_append w (93 ∷ []) c.scalars refl;
+  scalars = scalars_append w (code "]" ∷ []) c.scalars refl;
 }
 
 -- an escape that is read whatever follows it
 escape_chunk : (w : Text) (e : Escape) → all_scalars w ≡ true →
-    ((m p : ℕ) (s : Text) → escape m (bare false) true p (w ++ s) ≡ gives e s) → Chunk (92 ∷ w)
+    ((m p : ℕ) (s : Text) → escape m (bare false) true p (w ++ s) ≡ gives e s) → Chunk (code "\\" ∷ w)
 escape_chunk w e k h = record {
-  goes = λ m s v g. pass_escape m (w ++ s) s v e (h m (place_of m (92 ∷ (w ++ s))) s) g;
+  goes = λ m s v g. pass_escape m (w ++ s) s v e (h m (place_of m (code "\\" ∷ (w ++ s))) s) g;
   no_caret = λ s. refl;
   no_close = λ s. refl;
   scalars = k;
@@ -92,19 +93,19 @@ escape_chunk w e k h = record {
 -- a name in braces: scalar values, and no closing brace
 abbrev pub IsName : Text → Type 0
 IsName [] = Unit {0}
-IsName (c ∷ w) = ((c == 125) ≡ false) × (IsScalar c × IsName w)
+IsName (c ∷ w) = ((c == code "}") ≡ false) × (IsScalar c × IsName w)
 
 abbrev is_name : Text → Bool
-is_name w = list_all (λ c. not (c == 125)) w && all_scalars w
+is_name w = list_all (λ c. not (c == code "}")) w && all_scalars w
 
 -- a name that is written out
 pub name_of : (w : Text) → is_name w ≡ true → IsName w
 name_of [] h = tt
 name_of (c ∷ w) h =
     let (braces, scalars) = and_parts _ (all_scalars (c ∷ w)) h in
-    let (a, more) = and_parts (not (c == 125)) _ braces in
+    let (a, more) = and_parts (not (c == code "}")) _ braces in
     let (b, rest) = and_parts _ (all_scalars w) scalars in
-    (not-true (c == 125) a, (b, name_of w (and_from _ _ more rest)))
+    (not-true (c == code "}") a, (b, name_of w (and_from _ _ more rest)))
 
 pub name_scalars : (w : Text) → IsName w → all_scalars w ≡ true
 name_scalars [] h = refl
@@ -112,23 +113,23 @@ name_scalars (c ∷ w) h = and_from _ _ h.1.0 (name_scalars w h.1.1)
 
 -- the name of a property
 abbrev pub NameOk : PropertyName → Type 0
-NameOk (single c) = ((c == 123) ≡ false) × IsScalar c
+NameOk (single c) = ((c == code "{") ≡ false) × IsScalar c
 NameOk (braced s) = IsName s
 
 abbrev CutOk : Option (Text × Text) → Type 0
 CutOk (Some p) = IsName p.0
 CutOk None = Unit {0}
 
-cut_more : (c : ℕ) (o : Option (Text × Text)) → (c == 125) ≡ false → IsScalar c → CutOk o →
+cut_more : (c : ℕ) (o : Option (Text × Text)) → (c == code "}") ≡ false → IsScalar c → CutOk o →
     CutOk (option_map (λ p. (c ∷ p.0, p.1)) o)
 cut_more c (Some p) e k h = (e, (k, h))
 cut_more c None e k h = tt
 
-cut_ok : (t : Text) → all_scalars t ≡ true → CutOk (cut_at 125 t)
+cut_ok : (t : Text) → all_scalars t ≡ true → CutOk (cut_at (code "}") t)
 cut_ok [] h = tt
 cut_ok (c ∷ t) h =
     let (a, b) = and_parts _ (all_scalars t) h in
-    cond_both (c == 125) _ _ CutOk (λ e. tt) (λ e. cut_more c (cut_at 125 t) e a (cut_ok t b))
+    cond_both (c == code "}") _ _ CutOk (λ e. tt) (λ e. cut_more c (cut_at (code "}") t) e a (cut_ok t b))
 
 abbrev pub NameSome : Option (PropertyName × Text) → Type 0
 NameSome (Some p) = NameOk p.0
@@ -142,9 +143,9 @@ pub name_ok : (c : ℕ) (t : Text) → all_scalars (c ∷ t) ≡ true → NameSo
 unfolding name_at
 name_ok c t h =
     let (a, b) = and_parts _ (all_scalars t) h in
-    cond_both (c == 123) _ _ NameSome (λ e. name_braced (cut_at 125 t) (cut_ok t b)) (λ e. (e, a))
+    cond_both (c == code "{") _ _ NameSome (λ e. name_braced (cut_at (code "}") t) (cut_ok t b)) (λ e. (e, a))
 
-lower_brace : (c : ℕ) → (c == 125) ≡ false → (to_ascii_lowercase c == 125) ≡ false
+lower_brace : (c : ℕ) → (c == code "}") ≡ false → (to_ascii_lowercase c == code "}") ≡ false
 lower_brace c h = grind (arith, nat_tests)
 
 lower_scalar : (c : ℕ) → IsScalar c → IsScalar (to_ascii_lowercase c)
@@ -165,7 +166,7 @@ turn_ok b (c ∷ w) h = by_test (c == caret)
 abbrev cut_found : Text → Text → Option (Text × Text)
 cut_found w s = Some (w, s)
 
-cut_back : (w s : Text) → IsName w → cut_at 125 (w ++ 125 ∷ s) ≡ cut_found w s
+cut_back : (w s : Text) → IsName w → cut_at (code "}") (w ++ code "}" ∷ s) ≡ cut_found w s
 cut_back [] s h = refl
 cut_back (c ∷ w) s h = cond-false _ _ _ h.0 ∙ ap (option_map (λ p. (c ∷ p.0, p.1))) (cut_back w s h.1.1)
 
@@ -174,59 +175,59 @@ prop b name = record { negated = b; name = name }
 
 -- in a class or outside
 module _ (m p : ℕ) (inside : Bool) where
-  pub single_small : (c : ℕ) (s : Text) → (c == 123) ≡ false →
-      escape m (bare false) inside p (112 ∷ c ∷ s) ≡ gives
+  pub single_small : (c : ℕ) (s : Text) → (c == code "{") ≡ false →
+      escape m (bare false) inside p (code "p" ∷ c ∷ s) ≡ gives
       (delegate (property_text false inside (prop false (single c))) false) s
   unfolding escape property read_property name_at
   single_small c s h = rw h refl
 
-  pub single_large : (c : ℕ) (s : Text) → (c == 123) ≡ false →
-      escape m (bare false) inside p (80 ∷ c ∷ s) ≡ gives
+  pub single_large : (c : ℕ) (s : Text) → (c == code "{") ≡ false →
+      escape m (bare false) inside p (code "P" ∷ c ∷ s) ≡ gives
       (delegate (property_text false inside (prop true (single c))) false) s
   unfolding escape property read_property name_at
   single_large c s h = rw h refl
 
   pub braced_small : (w s : Text) → IsName w →
-      escape m (bare false) inside p (112 ∷ 123 ∷ (w ++ 125 ∷ s)) ≡ gives
+      escape m (bare false) inside p (code "p" ∷ code "{" ∷ (w ++ code "}" ∷ s)) ≡ gives
       (delegate (property_text false inside (prop false (braced w))) false) s
   unfolding escape property read_property name_at
   braced_small w s h = rw (cut_back w s h) refl
 
   pub braced_large : (w s : Text) → IsName w →
-      escape m (bare false) inside p (80 ∷ 123 ∷ (w ++ 125 ∷ s)) ≡ gives
+      escape m (bare false) inside p (code "P" ∷ code "{" ∷ (w ++ code "}" ∷ s)) ≡ gives
       (delegate (property_text false inside (prop true (braced w))) false) s
   unfolding escape property read_property name_at
   braced_large w s h = rw (cut_back w s h) refl
 
-single_chunk : (b : Bool) (c : ℕ) → (c == 123) ≡ false → IsScalar c → Chunk (letter b ++ c ∷ [])
-single_chunk false c h k = escape_chunk (112 ∷ c ∷ []) _ (and_from _ true k refl) (λ m p s. single_small m p true c s h)
-single_chunk true c h k = escape_chunk (80 ∷ c ∷ []) _ (and_from _ true k refl) (λ m p s. single_large m p true c s h)
+single_chunk : (b : Bool) (c : ℕ) → (c == code "{") ≡ false → IsScalar c → Chunk (letter b ++ c ∷ [])
+single_chunk false c h k = escape_chunk (code "p" ∷ c ∷ []) _ (and_from _ true k refl) (λ m p s. single_small m p true c s h)
+single_chunk true c h k = escape_chunk (code "P" ∷ c ∷ []) _ (and_from _ true k refl) (λ m p s. single_large m p true c s h)
 
-small_chunk : (w : Text) → IsName w → Chunk (92 ∷ 112 ∷ 123 ∷ (w ++ 125 ∷ []))
+small_chunk : (w : Text) → IsName w → Chunk (code "\\" ∷ code "p" ∷ code "{" ∷ (w ++ code "}" ∷ []))
 small_chunk w h =
-    escape_chunk (112 ∷ 123 ∷ (w ++ 125 ∷ [])) _ (scalars_append w (125 ∷ []) (name_scalars w h) refl)
-    (λ m p s. ap (λ z. escape m (bare false) true p (112 ∷ 123 ∷ z)) (append_assoc w (125 ∷ []) s)
+    escape_chunk (code "p" ∷ code "{" ∷ (w ++ code "}" ∷ [])) _ (scalars_append w (code "}" ∷ []) (name_scalars w h) refl)
+    (λ m p s. ap (λ z. escape m (bare false) true p (code "p" ∷ code "{" ∷ z)) (append_assoc w (code "}" ∷ []) s)
     ∙ braced_small m p true w s h)
 
-large_chunk : (w : Text) → IsName w → Chunk (92 ∷ 80 ∷ 123 ∷ (w ++ 125 ∷ []))
+large_chunk : (w : Text) → IsName w → Chunk (code "\\" ∷ code "P" ∷ code "{" ∷ (w ++ code "}" ∷ []))
 large_chunk w h =
-    escape_chunk (80 ∷ 123 ∷ (w ++ 125 ∷ [])) _ (scalars_append w (125 ∷ []) (name_scalars w h) refl)
-    (λ m p s. ap (λ z. escape m (bare false) true p (80 ∷ 123 ∷ z)) (append_assoc w (125 ∷ []) s)
+    escape_chunk (code "P" ∷ code "{" ∷ (w ++ code "}" ∷ [])) _ (scalars_append w (code "}" ∷ []) (name_scalars w h) refl)
+    (λ m p s. ap (λ z. escape m (bare false) true p (code "P" ∷ code "{" ∷ z)) (append_assoc w (code "}" ∷ []) s)
     ∙ braced_large m p true w s h)
 
 -- closed escapes
-letter_chunks : Each (λ c. Chunk (92 ∷ c ∷ [])) (codes "dDsSwWtnvfr")
+letter_chunks : Each (λ c. Chunk (code "\\" ∷ c ∷ [])) (codes "dDsSwWtnvfr")
 unfolding escape
 letter_chunks =
-    also (escape_chunk (100 ∷ []) _ refl (λ m p s. refl)) (also (escape_chunk (68 ∷ []) _ refl (λ m p s. refl))
-    (also (escape_chunk (115 ∷ []) _ refl (λ m p s. refl)) (also (escape_chunk (83 ∷ []) _ refl (λ m p s. refl))
-    (also (escape_chunk (119 ∷ []) _ refl (λ m p s. refl)) (also (escape_chunk (87 ∷ []) _ refl (λ m p s. refl))
-    (also (escape_chunk (116 ∷ []) _ refl (λ m p s. refl)) (also (escape_chunk (110 ∷ []) _ refl (λ m p s. refl))
-    (also (escape_chunk (118 ∷ []) _ refl (λ m p s. refl)) (also (escape_chunk (102 ∷ []) _ refl (λ m p s. refl))
-    (also (escape_chunk (114 ∷ []) _ refl (λ m p s. refl)) no_more))))))))))
+    also (escape_chunk (code "d" ∷ []) _ refl (λ m p s. refl)) (also (escape_chunk (code "D" ∷ []) _ refl (λ m p s. refl))
+    (also (escape_chunk (code "s" ∷ []) _ refl (λ m p s. refl)) (also (escape_chunk (code "S" ∷ []) _ refl (λ m p s. refl))
+    (also (escape_chunk (code "w" ∷ []) _ refl (λ m p s. refl)) (also (escape_chunk (code "W" ∷ []) _ refl (λ m p s. refl))
+    (also (escape_chunk (code "t" ∷ []) _ refl (λ m p s. refl)) (also (escape_chunk (code "n" ∷ []) _ refl (λ m p s. refl))
+    (also (escape_chunk (code "v" ∷ []) _ refl (λ m p s. refl)) (also (escape_chunk (code "f" ∷ []) _ refl (λ m p s. refl))
+    (also (escape_chunk (code "r" ∷ []) _ refl (λ m p s. refl)) no_more))))))))))
 
-pub letter_chunk : (c : ℕ) → c ∈ "dDsSwWtnvfr" ≡ true → Chunk (92 ∷ c ∷ [])
-letter_chunk c h = each_among (λ c. Chunk (92 ∷ c ∷ [])) (codes "dDsSwWtnvfr") c letter_chunks h
+pub letter_chunk : (c : ℕ) → c ∈ "dDsSwWtnvfr" ≡ true → Chunk (code "\\" ∷ c ∷ [])
+letter_chunk c h = each_among (λ c. Chunk (code "\\" ∷ c ∷ [])) (codes "dDsSwWtnvfr") c letter_chunks h
 
 -- a byte
 hex_value : (d : ℕ) → d < 16 → digit_value (upper_hex_digit d) ≡ d
@@ -235,7 +236,7 @@ hex_value d h = grind (arith, nat_tests)
 hex_scalar : (d : ℕ) → d < 16 → IsScalar (upper_hex_digit d)
 hex_scalar d h = grind (arith, nat_tests)
 
-hex_paren : (d : ℕ) → d < 16 → (upper_hex_digit d == 40) ≡ false
+hex_paren : (d : ℕ) → d < 16 → (upper_hex_digit d == code "(") ≡ false
 hex_paren d h = grind (arith, nat_tests)
 
 small_scalar : (v : ℕ) → v < 256 → is_scalar v ≡ true
@@ -265,7 +266,7 @@ hex_some m a b s h k =
     let (e, q) = coded_some (place_of m t) ((0 * 16 + a) * 16 + b) s (omega arith) in
     (e, rw (no_layout m t (not_open _ _ (hex_paren a h)), digits_read a b s h k) q)
 
-hex_escape : (m p : ℕ) (t : Text) → escape m (bare false) true p (120 ∷ t) ≡ hex m (bare false) 2 t
+hex_escape : (m p : ℕ) (t : Text) → escape m (bare false) true p (code "x" ∷ t) ≡ hex m (bare false) 2 t
 unfolding escape
 hex_escape m p t = refl
 
@@ -277,7 +278,7 @@ byte_chunk v h =
     record {
       goes =
           λ m s r g. let (e, q) = hex_some m (v / 16) (v % 16) s a b in
-          pass_escape m (120 ∷ upper_hex_digit (v / 16) ∷ upper_hex_digit (v % 16) ∷ s) s r e (hex_escape m _ _ ∙ q) g;
+          pass_escape m (code "x" ∷ upper_hex_digit (v / 16) ∷ upper_hex_digit (v % 16) ∷ s) s r e (hex_escape m _ _ ∙ q) g;
       no_caret = λ s. refl;
       no_close = λ s. refl;
       scalars = and_from _ _ (hex_scalar (v / 16) a) (and_from _ true (hex_scalar (v % 16) b) refl);
@@ -290,8 +291,8 @@ abbrev pub FormOf : (Text → Type 0) → Form → Type 0
 FormOf P (set items) = Chunk items
 FormOf P (pair a b) = P a × P b
 
-pub word_class : (c : ℕ) (w : Text) → all_plain (c ∷ w) ≡ true → (c == 94) ≡ false → (c == 93) ≡ false →
-    all_scalars (c ∷ w) ≡ true → Chunk (91 ∷ ((c ∷ w) ++ 93 ∷ []))
+pub word_class : (c : ℕ) (w : Text) → all_plain (c ∷ w) ≡ true → (c == code "^") ≡ false → (c == code "]") ≡ false →
+    all_scalars (c ∷ w) ≡ true → Chunk (code "[" ∷ ((c ∷ w) ++ code "]" ∷ []))
 word_class c w h a b k = bracket_chunk (c ∷ w) (word_chunk c w h a b k)
 
 pub alpha_digit : Chunk (codes "\\p{alpha}\\p{digit}")
@@ -306,7 +307,7 @@ blank_chunk =
 
 pub controls : Chunk (codes "\\x00-\\x1F\\x7F-\\x9F")
 controls =
-    let minus = word_chunk 45 [] refl refl refl refl in
+    let minus = word_chunk (code "-") [] refl refl refl refl in
     both_chunk (codes "\\x00") (codes "-\\x1F\\x7F-\\x9F") (byte_chunk 0 refl)
     (both_chunk (codes "-") (codes "\\x1F\\x7F-\\x9F") minus
     (both_chunk (codes "\\x1F") (codes "\\x7F-\\x9F") (byte_chunk 31 refl)
@@ -322,26 +323,26 @@ space_other =
 pub unprinted : Chunk (codes "\\p{C}\\t\\n\\v\\f\\r")
 unprinted =
     both_chunk (codes "\\p{C}") (codes "\\t\\n\\v\\f\\r") (small_chunk (codes "C") (name_of (codes "C") refl))
-    (both_chunk (codes "\\t") (codes "\\n\\v\\f\\r") (letter_chunk 116 refl)
-    (both_chunk (codes "\\n") (codes "\\v\\f\\r") (letter_chunk 110 refl)
-    (both_chunk (codes "\\v") (codes "\\f\\r") (letter_chunk 118 refl)
-    (both_chunk (codes "\\f") (codes "\\r") (letter_chunk 102 refl) (letter_chunk 114 refl)))))
+    (both_chunk (codes "\\t") (codes "\\n\\v\\f\\r") (letter_chunk (code "t") refl)
+    (both_chunk (codes "\\n") (codes "\\v\\f\\r") (letter_chunk (code "n") refl)
+    (both_chunk (codes "\\v") (codes "\\f\\r") (letter_chunk (code "v") refl)
+    (both_chunk (codes "\\f") (codes "\\r") (letter_chunk (code "f") refl) (letter_chunk (code "r") refl)))))
 
 blank_set : Chunk (codes "\\t ")
-blank_set = both_chunk (codes "\\t") (codes " ") (letter_chunk 116 refl) (word_chunk 32 [] refl refl refl refl)
+blank_set = both_chunk (codes "\\t") (codes " ") (letter_chunk (code "t") refl) (word_chunk 32 [] refl refl refl refl)
 
 word_set : Chunk (codes "_[:alnum:]")
 word_set =
-    both_chunk (codes "_") (codes "[:alnum:]") (word_chunk 95 [] refl refl refl refl)
-    (word_class 58 (codes "alnum:") refl refl refl refl)
+    both_chunk (codes "_") (codes "[:alnum:]") (word_chunk (code "_") [] refl refl refl refl)
+    (word_class (code ":") (codes "alnum:") refl refl refl refl)
 
 -- P holds of the pairs of texts in the table
 pub record Pairs (P : Text → Type 0) : Type 0 where
   pub word : P (codes "\\w") × P (codes "\\W")
   pub graph : P (codes "[^\\p{White_Space}\\p{C}]") × P (codes "[\\p{White_Space}\\p{C}]")
   pub print : P (codes "[^\\p{C}\\t\\n\\v\\f\\r]") × P (codes "[\\p{C}\\t\\n\\v\\f\\r]")
-  pub small : (w : Text) → IsName w → P (92 ∷ 112 ∷ 123 ∷ (w ++ 125 ∷ []))
-  pub large : (w : Text) → IsName w → P (92 ∷ 80 ∷ 123 ∷ (w ++ 125 ∷ []))
+  pub small : (w : Text) → IsName w → P (code "\\" ∷ code "p" ∷ code "{" ∷ (w ++ code "}" ∷ []))
+  pub large : (w : Text) → IsName w → P (code "\\" ∷ code "P" ∷ code "{" ∷ (w ++ code "}" ∷ []))
 
 -- the tests of the table, one by one, for any name
 module _ (P : Text → Type 0) (ps : Pairs P) (name : Text) (h : IsName name) where
@@ -361,21 +362,21 @@ module _ (P : Text → Type 0) (ps : Pairs P) (name : Text) (h : IsName name) wh
       (λ _. (ps.small name h, ps.large name h))))))))
   form_of false =
       cond_both (bytes_eq name (codes "alnum")) _ _ (λ k. FormOf P (form false k name))
-      (λ _. word_class 58 (codes "alnum:") refl refl refl refl)
+      (λ _. word_class (code ":") (codes "alnum:") refl refl refl refl)
       (λ _. cond_both (bytes_eq name (codes "blank")) _ _ (λ k. FormOf P (form false k name)) (λ _. blank_set)
       (λ _. cond_both (bytes_eq name (codes "cntrl")) _ _ (λ k. FormOf P (form false k name))
-      (λ _. word_class 58 (codes "cntrl:") refl refl refl refl)
+      (λ _. word_class (code ":") (codes "cntrl:") refl refl refl refl)
       (λ _. cond_both (bytes_eq name (codes "word")) _ _ (λ k. FormOf P (form false k name)) (λ _. word_set)
       (λ _. cond_both (bytes_eq name (codes "graph")) _ _ (λ k. FormOf P (form false k name))
-      (λ _. word_class 58 (codes "graph:") refl refl refl refl)
+      (λ _. word_class (code ":") (codes "graph:") refl refl refl refl)
       (λ _. cond_both (bytes_eq name (codes "print")) _ _ (λ k. FormOf P (form false k name))
-      (λ _. word_class 58 (codes "print:") refl refl refl refl)
+      (λ _. word_class (code ":") (codes "print:") refl refl refl refl)
       (λ _. cond_both (bytes_eq name (codes "cs")) _ _ (λ k. FormOf P (form false k name)) (λ _. surrogates)
       (λ _. (ps.small name h, ps.large name h))))))))
 
 chunk_pairs : Pairs Chunk
 chunk_pairs = record {
-  word = (letter_chunk 119 refl, letter_chunk 87 refl);
+  word = (letter_chunk (code "w") refl, letter_chunk (code "W") refl);
   graph = (
     caret_chunk (codes "\\p{White_Space}\\p{C}") space_other,
     bracket_chunk (codes "\\p{White_Space}\\p{C}") space_other,
@@ -467,7 +468,7 @@ escape_fine u i n p [] k = tt
 escape_fine u i n p (c ∷ t) k =
     let (here, more) = and_parts _ (all_scalars t) k in
     fine_if (is_ascii_digit c) _ _ (λ _. numbered_fine n p (case_flags u i) (c ∷ t))
-    (fine_if (c ∈ "dDsSwW") (gives (delegate (92 ∷ c ∷ []) i) t) _ (λ e. letter_chunk c (set_letter c e))
+    (fine_if (c ∈ "dDsSwW") (gives (delegate (code "\\" ∷ c ∷ []) i) t) _ (λ e. letter_chunk c (set_letter c e))
     (fine_if (c ∈ "h") (gives (delegate (codes "[0-9A-Fa-f]") false) t) _
     (λ _. bracket_chunk (codes "0-9A-Fa-f") hex_word)
     (fine_if (c ∈ "H") (gives (delegate (codes "[^0-9A-Fa-f]") false) t) _

@@ -3,6 +3,7 @@ use Rattle.std.proofs.Common.{◌≡◌, ℕ, Bool, true, false, ◌||◌, nat_l
 use Rattle.std.proofs.lemmas.Bool.{and_from, cond_both}
 use Rattle.std.specs.Char.{IsScalar}
 use Rattle.std.specs.Str.{all_scalars}
+use Prim.Native.Char.{code}
 use Rattle.fancy_lex.specs.Class.{Class, class_items, Items, close, plain, escaped, nested, written, class_head, item_text, is_negated, is_plain, needs_backslash_in_class, char_text}
 use Rattle.fancy_lex.specs.Escape.{escape}
 use Rattle.fancy_lex.specs.Escaped.{Escape, literal, literal_bytes, delegate}
@@ -20,17 +21,17 @@ Goes m s v = (b : Bool) → (y : Text) × (a : Bool) × Items m (bare false) b s
 abbrev pub ClassGoes : ℕ → Text → Text → Type 0
 ClassGoes m s v = (b : Bool) → (y : Text) × (a : Bool) × Class m (bare false) b s (written y a v)
 
-pub pass_close : (m : ℕ) (v : Text) → Goes m (93 ∷ v) v
+pub pass_close : (m : ℕ) (v : Text) → Goes m (code "]" ∷ v) v
 pass_close m v b = (_, b, close)
 
 pub pass_plain : (m c : ℕ) (s v : Text) → is_plain c ≡ true → Goes m s v → Goes m (c ∷ s) v
 pass_plain m c s v p g b = let (y, a, h) = g b in (c ∷ y, a, plain p h)
 
 pub pass_escape : (m : ℕ) (t s v : Text) (e : Escape) →
-    escape m (bare false) true (place_of m (92 ∷ t)) t ≡ gives e s → Goes m s v → Goes m (92 ∷ t) v
+    escape m (bare false) true (place_of m (code "\\" ∷ t)) t ≡ gives e s → Goes m s v → Goes m (code "\\" ∷ t) v
 pass_escape m t s v e q g b = let (y, a, h) = g (b || is_negated e) in (item_text b e ++ y, a, escaped q h)
 
-pub pass_nested : (m : ℕ) (t s v : Text) → ClassGoes m t s → Goes m s v → Goes m (91 ∷ t) v
+pub pass_nested : (m : ℕ) (t s v : Text) → ClassGoes m t s → Goes m s v → Goes m (code "[" ∷ t) v
 pass_nested m t s v k g b =
     let (x, c, h) = k b in
     let (y, a, i) = g c in
@@ -43,8 +44,8 @@ pass_class m t head r v e g b = let (y, a, h) = g b in (head ++ y, a, class_item
 -- what is written for an item: it goes on, and begins with neither a caret nor a closing bracket
 pub record Chunk (w : Text) : Type 0 where
   pub goes : (m : ℕ) (s v : Text) → Goes m s v → Goes m (w ++ s) v
-  pub no_caret : (s : Text) → strip 94 (w ++ s) ≡ None
-  pub no_close : (s : Text) → strip 93 (w ++ s) ≡ None
+  pub no_caret : (s : Text) → strip (code "^") (w ++ s) ≡ None
+  pub no_close : (s : Text) → strip (code "]") (w ++ s) ≡ None
   pub scalars : all_scalars w ≡ true
 
 -- what an escape in a class stands for
@@ -58,14 +59,14 @@ pub both_chunk : (w x : Text) → Chunk w → Chunk x → Chunk (w ++ x)
 both_chunk w x p q =
     record {
       goes = λ m s v g. subst (λ z. Goes m z v) (sym (append_assoc w x s)) (p.goes m (x ++ s) v (q.goes m s v g));
-      no_caret = λ s. ap (strip 94) (append_assoc w x s) ∙ p.no_caret (x ++ s);
-      no_close = λ s. ap (strip 93) (append_assoc w x s) ∙ p.no_close (x ++ s);
+      no_caret = λ s. ap (strip (code "^")) (append_assoc w x s) ∙ p.no_caret (x ++ s);
+      no_close = λ s. ap (strip (code "]")) (append_assoc w x s) ∙ p.no_close (x ++ s);
       scalars = scalars_append w x p.scalars q.scalars;
     }
 
 pub amp_chunk : Chunk (codes "&&")
 amp_chunk = record {
-  goes = λ m s v g. pass_plain m 38 (38 ∷ s) v refl (pass_plain m 38 s v refl g);
+  goes = λ m s v g. pass_plain m (code "&") (code "&" ∷ s) v refl (pass_plain m (code "&") s v refl g);
   no_caret = λ s. refl;
   no_close = λ s. refl;
   scalars = refl;
@@ -88,11 +89,11 @@ escapes_marks =
     (also (λ m p s. refl) (also (λ m p s. refl) (also (λ m p s. refl) (also (λ m p s. refl)
     (also (λ m p s. refl) (also (λ m p s. refl) no_more)))))))))))))))))
 
-mark_chunk : (c : ℕ) → IsScalar c → needs_backslash_in_class c ≡ true → Chunk (92 ∷ c ∷ [])
+mark_chunk : (c : ℕ) → IsScalar c → needs_backslash_in_class c ≡ true → Chunk (code "\\" ∷ c ∷ [])
 mark_chunk c k h =
     record {
       goes = λ m s v g. pass_escape m (c ∷ s) s v (literal c false)
-          (each_among Escapes class_marks c escapes_marks h m (place_of m (92 ∷ c ∷ s)) s) g;
+          (each_among Escapes class_marks c escapes_marks h m (place_of m (code "\\" ∷ c ∷ s)) s) g;
       no_caret = λ s. refl;
       no_close = λ s. refl;
       scalars = and_from _ true k refl;

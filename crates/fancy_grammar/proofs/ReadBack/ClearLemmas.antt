@@ -4,6 +4,7 @@ use Rattle.std.specs.List.{list_any}
 use Rattle.std.proofs.Math.Bool.{or-false}
 use Rattle.std.proofs.lemmas.Bool.{or_parts, or_cases, cond_both, both_ways}
 use Rattle.std.proofs.lemmas.Option.{same_Some}
+use Prim.Native.Char.{code}
 use Rattle.fancy_lex.specs.Characters.{is_among, ◌∈◌, bar}
 use Rattle.fancy_lex.specs.Escape.{escape}
 use Rattle.fancy_lex.specs.Escaped as escaped
@@ -28,10 +29,10 @@ pub record Clear (s : Text) : Type 0 where
   pub no_comment : after_comment_head s ≡ None
   pub no_mark : begins_mark s ≡ false
 
-pub not_open : (c : ℕ) (s : Text) → (c == 40) ≡ false → after_comment_head (c ∷ s) ≡ None
+pub not_open : (c : ℕ) (s : Text) → (c == code "(") ≡ false → after_comment_head (c ∷ s) ≡ None
 not_open c s e = rw e refl
 
-pub not_asking : (s : Text) → strip 63 s ≡ None → after_comment_head (40 ∷ s) ≡ None
+pub not_asking : (s : Text) → strip (code "?") s ≡ None → after_comment_head (code "(" ∷ s) ≡ None
 not_asking s e = rw e refl
 
 pub no_layout : (n : ℕ) (s : Text) → after_comment_head s ≡ None → layout n false s ≡ rest s
@@ -42,16 +43,16 @@ clear_layout n s h = no_layout n s h.no_comment
 
 -- a character that begins no quantifier
 pub record NoMark (c : ℕ) : Type 0 where
-  pub question : (c == 63) ≡ false
-  pub star : (c == 42) ≡ false
-  pub plus : (c == 43) ≡ false
-  pub brace : (c == 123) ≡ false
+  pub question : (c == code "?") ≡ false
+  pub star : (c == code "*") ≡ false
+  pub plus : (c == code "+") ≡ false
+  pub brace : (c == code "{") ≡ false
 
 pub no_mark_is : (c : ℕ) → c ∈ "?*+{" ≡ false → NoMark c
 no_mark_is c h =
-    let (a, h1) = or_parts (c == 63) _ h in
-    let (b, h2) = or_parts (c == 42) _ h1 in
-    let (d, e) = or_parts (c == 43) _ h2 in
+    let (a, h1) = or_parts (c == code "?") _ h in
+    let (b, h2) = or_parts (c == code "*") _ h1 in
+    let (d, e) = or_parts (c == code "+") _ h2 in
     record { question = a; star = b; plus = d; brace = e }
 
 pub clear_counts : (x : Bool) (s : Text) → Clear s → counts x s ≡ None
@@ -59,19 +60,19 @@ unfolding counts
 clear_counts x [] h = refl
 clear_counts x (c ∷ s) h = let m = no_mark_is c h.no_mark in rw (m.question, m.star, m.plus, m.brace) refl
 
-pub clear_lazy : (s : Text) → Clear s → strip 63 s ≡ None
+pub clear_lazy : (s : Text) → Clear s → strip (code "?") s ≡ None
 clear_lazy [] h = refl
 clear_lazy (c ∷ s) h = rw ((no_mark_is c h.no_mark).question) refl
 
-pub clear_star : (s : Text) → Clear s → strip 42 s ≡ None
+pub clear_star : (s : Text) → Clear s → strip (code "*") s ≡ None
 clear_star [] h = refl
 clear_star (c ∷ s) h = rw ((no_mark_is c h.no_mark).star) refl
 
-pub clear_plus : (s : Text) → Clear s → strip 43 s ≡ None
+pub clear_plus : (s : Text) → Clear s → strip (code "+") s ≡ None
 clear_plus [] h = refl
 clear_plus (c ∷ s) h = rw ((no_mark_is c h.no_mark).plus) refl
 
-pub clear_brace : (s : Text) → Clear s → strip 123 s ≡ None
+pub clear_brace : (s : Text) → Clear s → strip (code "{") s ≡ None
 clear_brace [] h = refl
 clear_brace (c ∷ s) h = rw ((no_mark_is c h.no_mark).brace) refl
 
@@ -85,13 +86,13 @@ pub record Ends (v : Text) : Type 0 where
   pub stops : Stops v
   pub no_bar : strip bar v ≡ None
 
-pub clear_close : (v : Text) → Clear (41 ∷ v)
+pub clear_close : (v : Text) → Clear (code ")" ∷ v)
 clear_close v = record { no_comment = refl; no_mark = refl }
 
-pub stops_bar : (v : Text) → Stops (124 ∷ v)
+pub stops_bar : (v : Text) → Stops (code "|" ∷ v)
 stops_bar v = record { clear = record { no_comment = refl; no_mark = refl }; ends = refl }
 
-pub ends_close : (v : Text) → Ends (41 ∷ v)
+pub ends_close : (v : Text) → Ends (code ")" ∷ v)
 ends_close v = record { stops = record { clear = clear_close v; ends = refl }; no_bar = refl }
 
 pub ends_nothing : Ends []
@@ -136,9 +137,9 @@ each_among P xs c h e = each_at P xs c h (sym (among_any c xs) ∙ e)
 -- a character printed as itself is no mark
 pub behind_none : (c : ℕ) → behind_backslash c ≡ None → NoneOf c marks
 behind_none c =
-    cond_both (c == 10) _ _ (λ y. y ≡ None → NoneOf c marks) (λ t e. absurd cc)
-    (λ _. cond_both (c == 9) _ _ (λ y. y ≡ None → NoneOf c marks) (λ t e. absurd cc)
-    (λ _. cond_both (c == 13) _ _ (λ y. y ≡ None → NoneOf c marks) (λ t e. absurd cc)
+    cond_both (c == code "\n") _ _ (λ y. y ≡ None → NoneOf c marks) (λ t e. absurd cc)
+    (λ _. cond_both (c == code "\t") _ _ (λ y. y ≡ None → NoneOf c marks) (λ t e. absurd cc)
+    (λ _. cond_both (c == code "\r") _ _ (λ y. y ≡ None → NoneOf c marks) (λ t e. absurd cc)
     (λ _. cond_both (needs_backslash c) _ _ (λ y. y ≡ None → NoneOf c marks) (λ t e. absurd cc)
     (λ n e. none_of c marks n))))
 
@@ -154,26 +155,26 @@ escapes_marks =
     (also (λ n f p t. refl) (also (λ n f p t. refl) (also (λ n f p t. refl) (also (λ n f p t. refl)
     (also (λ n f p t. refl) (also (λ n f p t. refl) (also (λ n f p t. refl) no_more))))))))))))))
 
-escapes_n : Escapes 110 10
+escapes_n : Escapes (code "n") (code "\n")
 unfolding escape
 escapes_n n f p t = refl
 
-escapes_t : Escapes 116 9
+escapes_t : Escapes (code "t") (code "\t")
 unfolding escape
 escapes_t n f p t = refl
 
-escapes_r : Escapes 114 13
+escapes_r : Escapes (code "r") (code "\r")
 unfolding escape
 escapes_r n f p t = refl
 
 pub behind_some : (c x : ℕ) → behind_backslash c ≡ Some x → Escapes x c
 behind_some c x =
-    cond_both (c == 10) _ _ (λ y. y ≡ Some x → Escapes x c)
-    (λ t e. from 110 10 e t escapes_n)
-    (λ _. cond_both (c == 9) _ _ (λ y. y ≡ Some x → Escapes x c)
-    (λ t e. from 116 9 e t escapes_t)
-    (λ _. cond_both (c == 13) _ _ (λ y. y ≡ Some x → Escapes x c)
-    (λ t e. from 114 13 e t escapes_r)
+    cond_both (c == code "\n") _ _ (λ y. y ≡ Some x → Escapes x c)
+    (λ t e. from (code "n") (code "\n") e t escapes_n)
+    (λ _. cond_both (c == code "\t") _ _ (λ y. y ≡ Some x → Escapes x c)
+    (λ t e. from (code "t") (code "\t") e t escapes_t)
+    (λ _. cond_both (c == code "\r") _ _ (λ y. y ≡ Some x → Escapes x c)
+    (λ t e. from (code "r") (code "\r") e t escapes_r)
     (λ _. cond_both (needs_backslash c) _ _ (λ y. y ≡ Some x → Escapes x c)
     (λ t e. subst (λ y. Escapes y c) (same_Some c x e) (each_at (λ m. Escapes m m) marks c escapes_marks t))
     (λ _ e. absurd cc))))

@@ -7,6 +7,7 @@ use Rattle.std.proofs.lemmas.Bool.{and_from, cond_both, and_parts}
 use Rattle.std.proofs.lemmas.Fmt.{decimal_is_IsNumeral}
 use Rattle.std.proofs.lemmas.Str.{digit_value_digit}
 use Rattle.std.proofs.lemmas.Str.Parse.{digit_from_value}
+use Prim.Native.Char.{code}
 use Rattle.fancy_lex.specs.Boundary.{boundary, unnamed_boundary, at_count}
 use Rattle.fancy_lex.specs.Layout.{after_comment_head, rest_of}
 use Rattle.fancy_lex.specs.Number.{AllDigits, at_digit, number, value_after}
@@ -53,7 +54,7 @@ number_read n s h d =
 
 no_comment : (ds s : Text) → IsNumeral 10 ds → after_comment_head (ds ++ s) ≡ None
 no_comment [] s h = absurd (omega (arith, h.0))
-no_comment (d ∷ ds) s h = let r = digit_from_value d h.1.0 in not_open d (ds ++ s) (ne_eqb d 40 (omega arith))
+no_comment (d ∷ ds) s h = let r = digit_from_value d h.1.0 in not_open d (ds ++ s) (ne_eqb d (code "(") (omega arith))
 
 skip_same : (s : Text) → after_comment_head s ≡ None → past_layout false s ≡ Some s
 skip_same s e = ap rest_of (no_layout 0 s e)
@@ -85,26 +86,26 @@ count_none s d e = rw (skip_same s e, number_none s d, skip_same s e) refl
 abbrev pub counted : ℕ → ℕ → Bool → Text → Option (Counts × Text)
 counted lo hi b s = Some (record { low = lo; high = hi; braces = b }, s)
 
-braces_one : (n : ℕ) (s : Text) → n < 2 ^ 64 → braced_counts false (decimal n ++ 125 ∷ s) ≡ counted n n true s
+braces_one : (n : ℕ) (s : Text) → n < 2 ^ 64 → braced_counts false (decimal n ++ code "}" ∷ s) ≡ counted n n true s
 unfolding braced_counts
-braces_one n s h = rw (count_read n (125 ∷ s) h refl refl) refl
+braces_one n s h = rw (count_read n (code "}" ∷ s) h refl refl) refl
 
 braces_open : (lo : ℕ) (s : Text) → lo < 2 ^ 64 →
-    braced_counts false (decimal lo ++ 44 ∷ 125 ∷ s) ≡ counted lo most true s
+    braced_counts false (decimal lo ++ code "," ∷ code "}" ∷ s) ≡ counted lo most true s
 unfolding braced_counts counts_from
-braces_open lo s h = rw (count_read lo (44 ∷ 125 ∷ s) h refl refl, count_none (125 ∷ s) refl refl) refl
+braces_open lo s h = rw (count_read lo (code "," ∷ code "}" ∷ s) h refl refl, count_none (code "}" ∷ s) refl refl) refl
 
 braces_both : (lo hi : ℕ) (s : Text) → lo < 2 ^ 64 → hi < 2 ^ 64 →
-    braced_counts false (decimal lo ++ 44 ∷ (decimal hi ++ 125 ∷ s)) ≡ counted lo hi true s
+    braced_counts false (decimal lo ++ code "," ∷ (decimal hi ++ code "}" ∷ s)) ≡ counted lo hi true s
 unfolding braced_counts counts_from
 braces_both lo hi s l h =
-    rw (count_read lo (44 ∷ (decimal hi ++ 125 ∷ s)) l refl refl, count_read hi (125 ∷ s) h refl refl) refl
+    rw (count_read lo (code "," ∷ (decimal hi ++ code "}" ∷ s)) l refl refl, count_read hi (code "}" ∷ s) h refl refl) refl
 
 -- a boundary ends before the text: no name in braces follows it
 abbrev pub NoName : Text → Type 0
 NoName v = (n p : ℕ) (negated : Bool) → boundary n false p negated v ≡ gives (unnamed_boundary negated) v
 
-pub no_brace : (v : Text) → after_comment_head v ≡ None → strip 123 v ≡ None → NoName v
+pub no_brace : (v : Text) → after_comment_head v ≡ None → strip (code "{") v ≡ None → NoName v
 unfolding boundary
 no_brace v e b n p negated = rw (no_layout n v e, b) refl
 
@@ -115,10 +116,10 @@ digit_first : (ds s : Text) → IsNumeral 10 ds → at_count (ds ++ s) ≡ true
 digit_first [] s h = absurd (omega (arith, h.0))
 digit_first (d ∷ ds) s h = rw ((digit_is d h.1.0).0) refl
 
-brace_name : (ds s : Text) → IsNumeral 10 ds → NoName (123 ∷ (ds ++ s))
+brace_name : (ds s : Text) → IsNumeral 10 ds → NoName (code "{" ∷ (ds ++ s))
 unfolding boundary
 brace_name ds s h n p negated =
-    rw (no_layout n (123 ∷ (ds ++ s)) refl, no_layout n (ds ++ s) (no_comment ds s h), digit_first ds s h) refl
+    rw (no_layout n (code "{" ∷ (ds ++ s)) refl, no_layout n (ds ++ s) (no_comment ds s h), digit_first ds s h) refl
 
 -- the mark w in front of s
 pub record IsMark (lo hi : ℕ) (s w : Text) : Type 0 where
@@ -131,22 +132,22 @@ same_counts : (lo hi l h : ℕ) (b : Bool) (s : Text) → l ≡ lo → h ≡ hi 
 same_counts lo hi l h b s e g = ap₂ (λ x y. counted x y b s) (sym e) (sym g)
 
 brace_mark : (lo hi n : ℕ) (w r s : Text) → n < 2 ^ 64 → r ≡ decimal n ++ w →
-    braced_counts false (decimal n ++ (w ++ 125 ∷ s)) ≡ counted lo hi true s →
+    braced_counts false (decimal n ++ (w ++ code "}" ∷ s)) ≡ counted lo hi true s →
     IsMark lo hi s (codes "{" ++ (r ++ codes "}"))
 unfolding counts
 brace_mark lo hi n w r s h q e =
     let numeral = (decimal_is_IsNumeral n h).0 in
-    let same : (r ++ 125 ∷ []) ++ s ≡ decimal n ++ (w ++ 125 ∷ s) =
-    append_assoc r (125 ∷ []) s ∙ ap (λ x. x ++ 125 ∷ s) q ∙ append_assoc (decimal n) w (125 ∷ s) in
+    let same : (r ++ code "}" ∷ []) ++ s ≡ decimal n ++ (w ++ code "}" ∷ s) =
+    append_assoc r (code "}" ∷ []) s ∙ ap (λ x. x ++ code "}" ∷ s) q ∙ append_assoc (decimal n) w (code "}" ∷ s) in
     record {
       braces = true;
       counts = ap (braced_counts false) same ∙ e;
       no_comment = refl;
-      no_name = subst (λ x. NoName (123 ∷ x)) (sym same) (brace_name (decimal n) (w ++ 125 ∷ s) numeral);
+      no_name = subst (λ x. NoName (code "{" ∷ x)) (sym same) (brace_name (decimal n) (w ++ code "}" ∷ s) numeral);
     }
 
 sign_mark : (lo hi l h c : ℕ) (s : Text) → lo ≡ l → hi ≡ h → counts false (c ∷ s) ≡ counted l h false s →
-    after_comment_head (c ∷ s) ≡ None → strip 123 (c ∷ s) ≡ None → IsMark lo hi s (c ∷ [])
+    after_comment_head (c ∷ s) ≡ None → strip (code "{") (c ∷ s) ≡ None → IsMark lo hi s (c ∷ [])
 sign_mark lo hi l h c s a b e o n =
     record {
       braces = false;
@@ -168,19 +169,19 @@ range_mark lo hi s l h =
     (λ e. brace_mark lo hi lo (codes ",") _ s l refl
     (braces_open lo s l ∙ same_counts lo most lo hi true s refl (eqb-true hi most e)))
     (λ _. brace_mark lo hi lo (codes "," ++ decimal hi) _ s l refl
-    (ap (λ x. braced_counts false (decimal lo ++ 44 ∷ x)) refl ∙ braces_both lo hi s l h)))
+    (ap (λ x. braced_counts false (decimal lo ++ code "," ∷ x)) refl ∙ braces_both lo hi s l h)))
 
 mark_read : (lo hi : ℕ) (s : Text) → lo < 2 ^ 64 → hi < 2 ^ 64 → IsMark lo hi s (counts_text lo hi)
 unfolding counts_text mark counts
 mark_read lo hi s l h =
     cond_both ((lo == 0) && (hi == 1)) _ _ (MarkIs lo hi s)
-    (λ e. let (a, b) = and_parts _ _ e in sign_mark lo hi 0 1 63 s (eqb-true lo 0 a) (eqb-true hi 1 b) refl refl refl)
+    (λ e. let (a, b) = and_parts _ _ e in sign_mark lo hi 0 1 (code "?") s (eqb-true lo 0 a) (eqb-true hi 1 b) refl refl refl)
     (λ _. cond_both ((lo == 0) && (hi == most)) _ _ (MarkIs lo hi s)
     (λ e. let (a, b) = and_parts _ _ e in
-    sign_mark lo hi 0 most 42 s (eqb-true lo 0 a) (eqb-true hi most b) refl refl refl)
+    sign_mark lo hi 0 most (code "*") s (eqb-true lo 0 a) (eqb-true hi most b) refl refl refl)
     (λ _. cond_both ((lo == 1) && (hi == most)) _ _ (MarkIs lo hi s)
     (λ e. let (a, b) = and_parts _ _ e in
-    sign_mark lo hi 1 most 43 s (eqb-true lo 1 a) (eqb-true hi most b) refl refl refl)
+    sign_mark lo hi 1 most (code "+") s (eqb-true lo 1 a) (eqb-true hi most b) refl refl refl)
     (λ _. range_mark lo hi s l h)))
 
 -- the lazy mark

@@ -11,6 +11,7 @@ use Rattle.fancy_lex.specs.Escaped.{Escape}
 use Rattle.fancy_lex.specs.Fault.{Fault, unclosed_unicode_name}
 use Rattle.fancy_lex.specs.Hex.{hex}
 use Rattle.std.specs.Char.{IsScalar, is_ascii_digit}
+use Prim.Native.Char.{code}
 use Rattle.fancy_lex.specs.Property.{Property, PropertyName, single, braced, read_property, name_at, property_text, Form, set, pair, form, form_text, look_up, lowercase, turn, letter}
 use Rattle.fancy_lex.specs.Reading.{Reading, gives, fails, fault_at, choose}
 use Rattle.fancy_lex.specs.Text.{Text, bytes, place_of}
@@ -32,22 +33,22 @@ use Rattle.fancy_grammar.proofs.ReadBack.ClearLemmas.{Each, no_more, also, each_
 abbrev IsWhole : Text → Type 0
 IsWhole w = (all_scalars w && is_some (class_of (bare false) w)) ≡ true
 
-class_whole : (t : Text) → all_scalars t ≡ true → ClassGoes (bytes (91 ∷ t)) t [] → IsWhole (91 ∷ t)
+class_whole : (t : Text) → all_scalars t ≡ true → ClassGoes (bytes (code "[" ∷ t)) t [] → IsWhole (code "[" ∷ t)
 unfolding class_of
 class_whole t k g =
     let (y, a, h) = g false in
-    and_from (all_scalars (91 ∷ t)) _ k
-    (ap (λ o. is_some (whole_leaf (leaf_outcome (λ w. delegate w false) (st (bare false) (91 ∷ t)) o)))
-    (class_complete (bytes (91 ∷ t)) (bare false) t _ h))
+    and_from (all_scalars (code "[" ∷ t)) _ k
+    (ap (λ o. is_some (whole_leaf (leaf_outcome (λ w. delegate w false) (st (bare false) (code "[" ∷ t)) o)))
+    (class_complete (bytes (code "[" ∷ t)) (bare false) t _ h))
 
 escape_whole : (t w : Text) (b : Bool) → all_scalars t ≡ true →
-    escape (bytes (92 ∷ t)) (bare false) false (place_of (bytes (92 ∷ t)) (92 ∷ t)) t ≡ gives
+    escape (bytes (code "\\" ∷ t)) (bare false) false (place_of (bytes (code "\\" ∷ t)) (code "\\" ∷ t)) t ≡ gives
     (escaped.delegate w b) [] →
-    IsWhole (92 ∷ t)
+    IsWhole (code "\\" ∷ t)
 unfolding class_of
 escape_whole t w b k e =
-    and_from (all_scalars (92 ∷ t)) _ k
-    (ap (λ o. is_some (whole_leaf (leaf_outcome leaf_node (st (bare false) (92 ∷ t)) o))) e)
+    and_from (all_scalars (code "\\" ∷ t)) _ k
+    (ap (λ o. is_some (whole_leaf (leaf_outcome leaf_node (st (bare false) (code "\\" ∷ t)) o))) e)
 
 -- ---- a class
 
@@ -65,7 +66,7 @@ class_stays u i n t x k e = by_reading (class_reads n (case_flags u i) t)
     again c =
         subst IsWhole (sym c.is)
         (class_whole c.inner c.scalars
-        (subst (λ z. ClassGoes (bytes (91 ∷ c.inner)) z []) (append-nil c.inner) (c.goes (bytes (91 ∷ c.inner)) [])))
+        (subst (λ z. ClassGoes (bytes (code "[" ∷ c.inner)) z []) (append-nil c.inner) (c.goes (bytes (code "[" ∷ c.inner)) [])))
 
     by_reading : (o : Outcome) × Class n (case_flags u i) false t o → IsWhole x
     by_reading (written w a v, h) =
@@ -87,42 +88,42 @@ whole_if : (b : Bool) (p q : Reading Escape) → (b ≡ true → WholeOf p) → 
 whole_if true p q h k = h refl
 whole_if false p q h k = k
 
-bracket_whole : (w : Text) → Chunk w → IsWhole (91 ∷ (w ++ 93 ∷ []))
+bracket_whole : (w : Text) → Chunk w → IsWhole (code "[" ∷ (w ++ code "]" ∷ []))
 bracket_whole w c =
-    class_whole (w ++ 93 ∷ []) (scalars_append w (93 ∷ []) c.scalars refl)
-    (subst (λ z. ClassGoes (bytes (91 ∷ (w ++ 93 ∷ []))) z []) (append-nil (w ++ 93 ∷ []))
-    (bracket_goes w c (bytes (91 ∷ (w ++ 93 ∷ []))) []))
+    class_whole (w ++ code "]" ∷ []) (scalars_append w (code "]" ∷ []) c.scalars refl)
+    (subst (λ z. ClassGoes (bytes (code "[" ∷ (w ++ code "]" ∷ []))) z []) (append-nil (w ++ code "]" ∷ []))
+    (bracket_goes w c (bytes (code "[" ∷ (w ++ code "]" ∷ []))) []))
 
-caret_whole : (w : Text) → Chunk w → IsWhole (91 ∷ 94 ∷ (w ++ 93 ∷ []))
+caret_whole : (w : Text) → Chunk w → IsWhole (code "[" ∷ code "^" ∷ (w ++ code "]" ∷ []))
 caret_whole w c =
-    let m = bytes (91 ∷ 94 ∷ (w ++ 93 ∷ [])) in
-    class_whole (94 ∷ (w ++ 93 ∷ [])) (scalars_append w (93 ∷ []) c.scalars refl)
-    (subst (λ z. ClassGoes m (94 ∷ z) []) (append-nil (w ++ 93 ∷ [])) (caret_goes w c m []))
+    let m = bytes (code "[" ∷ code "^" ∷ (w ++ code "]" ∷ [])) in
+    class_whole (code "^" ∷ (w ++ code "]" ∷ [])) (scalars_append w (code "]" ∷ []) c.scalars refl)
+    (subst (λ z. ClassGoes m (code "^" ∷ z) []) (append-nil (w ++ code "]" ∷ [])) (caret_goes w c m []))
 
-small_whole : (w : Text) → IsName w → IsWhole (92 ∷ 112 ∷ 123 ∷ (w ++ 125 ∷ []))
+small_whole : (w : Text) → IsName w → IsWhole (code "\\" ∷ code "p" ∷ code "{" ∷ (w ++ code "}" ∷ []))
 small_whole w h =
-    escape_whole (112 ∷ 123 ∷ (w ++ 125 ∷ [])) _ _ (scalars_append w (125 ∷ []) (name_scalars w h) refl)
+    escape_whole (code "p" ∷ code "{" ∷ (w ++ code "}" ∷ [])) _ _ (scalars_append w (code "}" ∷ []) (name_scalars w h) refl)
     (braced_small _ _ false w [] h)
 
-large_whole : (w : Text) → IsName w → IsWhole (92 ∷ 80 ∷ 123 ∷ (w ++ 125 ∷ []))
+large_whole : (w : Text) → IsName w → IsWhole (code "\\" ∷ code "P" ∷ code "{" ∷ (w ++ code "}" ∷ []))
 large_whole w h =
-    escape_whole (80 ∷ 123 ∷ (w ++ 125 ∷ [])) _ _ (scalars_append w (125 ∷ []) (name_scalars w h) refl)
+    escape_whole (code "P" ∷ code "{" ∷ (w ++ code "}" ∷ [])) _ _ (scalars_append w (code "}" ∷ []) (name_scalars w h) refl)
     (braced_large _ _ false w [] h)
 
-single_whole : (b : Bool) (c : ℕ) → (c == 123) ≡ false → IsScalar c → IsWhole (letter b ++ c ∷ [])
-single_whole false c h k = escape_whole (112 ∷ c ∷ []) _ _ (and_from _ true k refl) (single_small _ _ false c [] h)
-single_whole true c h k = escape_whole (80 ∷ c ∷ []) _ _ (and_from _ true k refl) (single_large _ _ false c [] h)
+single_whole : (b : Bool) (c : ℕ) → (c == code "{") ≡ false → IsScalar c → IsWhole (letter b ++ c ∷ [])
+single_whole false c h k = escape_whole (code "p" ∷ c ∷ []) _ _ (and_from _ true k refl) (single_small _ _ false c [] h)
+single_whole true c h k = escape_whole (code "P" ∷ c ∷ []) _ _ (and_from _ true k refl) (single_large _ _ false c [] h)
 
-letters_whole : Each (λ c. IsWhole (92 ∷ c ∷ [])) (codes "dDsSwW")
+letters_whole : Each (λ c. IsWhole (code "\\" ∷ c ∷ [])) (codes "dDsSwW")
 unfolding class_of escape
 letters_whole = also refl (also refl (also refl (also refl (also refl (also refl no_more)))))
 
-letter_whole : (c : ℕ) → c ∈ "dDsSwW" ≡ true → IsWhole (92 ∷ c ∷ [])
-letter_whole c h = each_among (λ c. IsWhole (92 ∷ c ∷ [])) (codes "dDsSwW") c letters_whole h
+letter_whole : (c : ℕ) → c ∈ "dDsSwW" ≡ true → IsWhole (code "\\" ∷ c ∷ [])
+letter_whole c h = each_among (λ c. IsWhole (code "\\" ∷ c ∷ [])) (codes "dDsSwW") c letters_whole h
 
 whole_pairs : Pairs IsWhole
 whole_pairs = record {
-  word = (letter_whole 119 refl, letter_whole 87 refl);
+  word = (letter_whole (code "w") refl, letter_whole (code "W") refl);
   graph = (
     caret_whole (codes "\\p{White_Space}\\p{C}") space_other,
     bracket_whole (codes "\\p{White_Space}\\p{C}") space_other,
@@ -170,7 +171,7 @@ outside_whole u i n p (c ∷ t) k =
     let f = case_flags u i in
     whole_if (is_ascii_digit c) (numbered n f false p (c ∷ t)) _
     (λ _. whole_none _ (referring_none f (numbered_reference n (c ∷ t))))
-    (whole_if (c ∈ "dDsSwW") (gives (escaped.delegate (92 ∷ c ∷ []) i) t) _ (λ e. letter_whole c e)
+    (whole_if (c ∈ "dDsSwW") (gives (escaped.delegate (code "\\" ∷ c ∷ []) i) t) _ (λ e. letter_whole c e)
     (whole_if (c ∈ "h") (gives (escaped.delegate (codes "[0-9A-Fa-f]") false) t) _
     (λ _. bracket_whole (codes "0-9A-Fa-f") hex_word)
     (whole_if (c ∈ "H") (gives (escaped.delegate (codes "[^0-9A-Fa-f]") false) t) _
@@ -191,21 +192,21 @@ outside_whole u i n p (c ∷ t) k =
 
 -- ---- a Delegate
 
-bracket_stays : (u i : Bool) (t : Text) → IsWhole (91 ∷ t) → printable (normal u (delegate (91 ∷ t) i)) ≡ true
+bracket_stays : (u i : Bool) (t : Text) → IsWhole (code "[" ∷ t) → printable (normal u (delegate (code "[" ∷ t) i)) ≡ true
 bracket_stays u i t h =
-    let (k, whole) = and_parts (all_scalars (91 ∷ t)) _ h in
+    let (k, whole) = and_parts (all_scalars (code "[" ∷ t)) _ h in
     let (w, e) = bracket_read t whole in
-    let (x, same) = class_carries u i (bytes (91 ∷ t)) t w [] e in
-    let here = same (bytes (91 ∷ t)) [] in
+    let (x, same) = class_carries u i (bytes (code "[" ∷ t)) t w [] e in
+    let here = same (bytes (code "[" ∷ t)) [] in
     ap printable (bracket_normal u i t x here)
-    ∙ class_stays u i (bytes (91 ∷ t)) (t ++ []) x (scalars_append t [] k refl) here
+    ∙ class_stays u i (bytes (code "[" ∷ t)) (t ++ []) x (scalars_append t [] k refl) here
 
-escape_stays : (u i : Bool) (t : Text) → IsWhole (92 ∷ t) → printable (normal u (delegate (92 ∷ t) i)) ≡ true
+escape_stays : (u i : Bool) (t : Text) → IsWhole (code "\\" ∷ t) → printable (normal u (delegate (code "\\" ∷ t) i)) ≡ true
 escape_stays u i t h =
-    let (k, whole) = and_parts (all_scalars (92 ∷ t)) _ h in
+    let (k, whole) = and_parts (all_scalars (code "\\" ∷ t)) _ h in
     let (w, b, e) = escape_read t whole in
-    let n = bytes (92 ∷ t) in
-    let p = place_of n (92 ∷ t) in
+    let n = bytes (code "\\" ∷ t) in
+    let p = place_of n (code "\\" ∷ t) in
     let (x, c, same) = escape_carries u i n p t w [] b e in
     ap printable (escape_normal u i t x c (same n p []))
     ∙ subst WholeOf (same n p []) (outside_whole u i n p (t ++ []) (scalars_append t [] k refl))
@@ -215,16 +216,16 @@ no_class s e h = no_truth (sym e ∙ (and_parts (all_scalars s) _ h).1)
 
 pub delegates_stay : (u i : Bool) (s : Text) → IsWhole s → printable (normal u (delegate s i)) ≡ true
 delegates_stay u i [] h = no_class [] nothing_whole h
-delegates_stay u i (c ∷ t) h = by_bracket (cases_eq c 91)
+delegates_stay u i (c ∷ t) h = by_bracket (cases_eq c (code "["))
   where
-    by_escape : (c ≢ 91) → (c ≡ 92) ⊎ (c ≢ 92) → printable (normal u (delegate (c ∷ t) i)) ≡ true
+    by_escape : (c ≢ code "[") → (c ≡ code "\\") ⊎ (c ≢ code "\\") → printable (normal u (delegate (c ∷ t) i)) ≡ true
     by_escape a (inl e) =
         subst (λ x. printable (normal u (delegate (x ∷ t) i)) ≡ true) (sym e)
         (escape_stays u i t (subst (λ x. IsWhole (x ∷ t)) e h))
-    by_escape a (inr b) = no_class (c ∷ t) (no_other c t (ne_eqb c 91 a) (ne_eqb c 92 b)) h
+    by_escape a (inr b) = no_class (c ∷ t) (no_other c t (ne_eqb c (code "[") a) (ne_eqb c (code "\\") b)) h
 
-    by_bracket : (c ≡ 91) ⊎ (c ≢ 91) → printable (normal u (delegate (c ∷ t) i)) ≡ true
+    by_bracket : (c ≡ code "[") ⊎ (c ≢ code "[") → printable (normal u (delegate (c ∷ t) i)) ≡ true
     by_bracket (inl e) =
         subst (λ x. printable (normal u (delegate (x ∷ t) i)) ≡ true) (sym e)
         (bracket_stays u i t (subst (λ x. IsWhole (x ∷ t)) e h))
-    by_bracket (inr a) = by_escape a (cases_eq c 92)
+    by_bracket (inr a) = by_escape a (cases_eq c (code "\\"))

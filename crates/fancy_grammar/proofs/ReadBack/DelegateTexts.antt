@@ -1,6 +1,7 @@
 -- A Delegate's text in front of anything reads as it does alone.
 use Rattle.std.proofs.Common.{◌≡◌, ◌≢◌, ℕ, Bool, true, false, ◌==◌, [], ◌∷◌, ◌++◌, is_some, unwrap_or, ◌⊎◌, inl, inr, refl, sym, ap, ◌∙◌, subst, append-nil, ne_eqb}
 use Rattle.std.proofs.lemmas.Bool.{cases_eq, cond-false, or_from}
+use Prim.Native.Char.{code}
 use Rattle.fancy_lex.specs.Class.{class}
 use Rattle.fancy_lex.specs.Escape.{escape}
 use Rattle.fancy_lex.specs.Escaped as escaped
@@ -33,36 +34,36 @@ bracket_whole : (s : State) (o : Reading Text) →
 bracket_whole s (gives w v) h = (w, ap (gives w) (whole_is v (delegate w false) h).0)
 bracket_whole s (fails e) h = no_truth h
 
-pub bracket_read : (t : Text) → is_some (class_of (bare false) (91 ∷ t)) ≡ true →
-    (w : Text) × (class (bytes (91 ∷ t)) (bare false) t ≡ gives w [])
+pub bracket_read : (t : Text) → is_some (class_of (bare false) (code "[" ∷ t)) ≡ true →
+    (w : Text) × (class (bytes (code "[" ∷ t)) (bare false) t ≡ gives w [])
 unfolding class_of
-bracket_read t h = bracket_whole (st (bare false) (91 ∷ t)) _ h
+bracket_read t h = bracket_whole (st (bare false) (code "[" ∷ t)) _ h
 
 pub bracket_normal : (u i : Bool) (t x : Text) →
-    class (bytes (91 ∷ t)) (case_flags u i) (t ++ []) ≡ gives x [] →
-    normal u (delegate (91 ∷ t) i) ≡ delegate x i
+    class (bytes (code "[" ∷ t)) (case_flags u i) (t ++ []) ≡ gives x [] →
+    normal u (delegate (code "[" ∷ t) i) ≡ delegate x i
 unfolding class_of
 bracket_normal u i t x e =
-    ap (λ o. unwrap_or (whole_leaf (leaf_outcome (λ w. delegate w i) (st (case_flags u i) (91 ∷ t)) o))
-    (delegate (91 ∷ t) i))
-    (ap (class (bytes (91 ∷ t)) (case_flags u i)) (sym (append-nil t)) ∙ e)
+    ap (λ o. unwrap_or (whole_leaf (leaf_outcome (λ w. delegate w i) (st (case_flags u i) (code "[" ∷ t)) o))
+    (delegate (code "[" ∷ t) i))
+    (ap (class (bytes (code "[" ∷ t)) (case_flags u i)) (sym (append-nil t)) ∙ e)
 
 bracket_atom : (n d : ℕ) (u i : Bool) (t x v : Text) → class n (case_flags u i) (t ++ v) ≡ gives x v →
-    AtomAs n d (case_flags u i) (91 ∷ (t ++ v)) v (delegate x i)
+    AtomAs n d (case_flags u i) (code "[" ∷ (t ++ v)) v (delegate x i)
 bracket_atom n d u i t x v e =
     let g = case_flags u i in
-    reads_leaf n d g (91 ∷ (t ++ v)) v (delegate x i)
-    (leaf_at n d g 91 (t ++ v) refl refl ∙ ap (λ o. leaf (leaf_outcome (λ w. delegate w i) (st g (91 ∷ (t ++ v))) o)) e)
+    reads_leaf n d g (code "[" ∷ (t ++ v)) v (delegate x i)
+    (leaf_at n d g (code "[") (t ++ v) refl refl ∙ ap (λ o. leaf (leaf_outcome (λ w. delegate w i) (st g (code "[" ∷ (t ++ v))) o)) e)
     (record { is = λ r. refl; groups = tt })
 
-bracket_text : (t : Text) → is_some (class_of (bare false) (91 ∷ t)) ≡ true → DelegateText (91 ∷ t)
+bracket_text : (t : Text) → is_some (class_of (bare false) (code "[" ∷ t)) ≡ true → DelegateText (code "[" ∷ t)
 bracket_text t h =
     let (w, e) = bracket_read t h in
     record {
       reads = λ n d u i v.
-          let (x, same) = class_carries u i (bytes (91 ∷ t)) t w [] e in
-          subst (AtomAs n d (case_flags u i) (91 ∷ (t ++ v)) v)
-          (sym (bracket_normal u i t x (same (bytes (91 ∷ t)) []))) (bracket_atom n d u i t x v (same n v));
+          let (x, same) = class_carries u i (bytes (code "[" ∷ t)) t w [] e in
+          subst (AtomAs n d (case_flags u i) (code "[" ∷ (t ++ v)) v)
+          (sym (bracket_normal u i t x (same (bytes (code "[" ∷ t)) []))) (bracket_atom n d u i t x v (same n v));
       begins = λ v. begins_by refl refl refl;
     }
 
@@ -78,51 +79,51 @@ escape_whole : (s : State) (o : Reading Escape) → is_some (whole_leaf (leaf_ou
 escape_whole s (gives e v) h = let (z, d) = whole_is v (leaf_node e) h in escape_delegate s e v z d
 escape_whole s (fails e) h = no_truth h
 
-pub escape_read : (t : Text) → is_some (class_of (bare false) (92 ∷ t)) ≡ true
+pub escape_read : (t : Text) → is_some (class_of (bare false) (code "\\" ∷ t)) ≡ true
     → (w : Text) × (b : Bool)
-    × (escape (bytes (92 ∷ t)) (bare false) false (place_of (bytes (92 ∷ t)) (92 ∷ t)) t ≡ gives
+    × (escape (bytes (code "\\" ∷ t)) (bare false) false (place_of (bytes (code "\\" ∷ t)) (code "\\" ∷ t)) t ≡ gives
     (escaped.delegate w b) [])
 unfolding class_of
-escape_read t h = escape_whole (st (bare false) (92 ∷ t)) _ h
+escape_read t h = escape_whole (st (bare false) (code "\\" ∷ t)) _ h
 
 pub escape_normal : (u i : Bool) (t x : Text) (b : Bool) →
-    escape (bytes (92 ∷ t)) (case_flags u i) false (place_of (bytes (92 ∷ t)) (92 ∷ t)) (t ++ []) ≡ gives
+    escape (bytes (code "\\" ∷ t)) (case_flags u i) false (place_of (bytes (code "\\" ∷ t)) (code "\\" ∷ t)) (t ++ []) ≡ gives
     (escaped.delegate x b) []
-    → normal u (delegate (92 ∷ t) i) ≡ delegate x b
+    → normal u (delegate (code "\\" ∷ t) i) ≡ delegate x b
 unfolding class_of
 escape_normal u i t x b e =
-    ap (λ o. unwrap_or (whole_leaf (leaf_outcome leaf_node (st (case_flags u i) (92 ∷ t)) o))
-    (delegate (92 ∷ t) i))
-    (ap (escape (bytes (92 ∷ t)) (case_flags u i) false (place_of (bytes (92 ∷ t)) (92 ∷ t)))
+    ap (λ o. unwrap_or (whole_leaf (leaf_outcome leaf_node (st (case_flags u i) (code "\\" ∷ t)) o))
+    (delegate (code "\\" ∷ t) i))
+    (ap (escape (bytes (code "\\" ∷ t)) (case_flags u i) false (place_of (bytes (code "\\" ∷ t)) (code "\\" ∷ t)))
     (sym (append-nil t)) ∙ e)
 
 escape_atom : (n d : ℕ) (u i : Bool) (t x v : Text) (b : Bool) →
-    escape n (case_flags u i) false (place_of n (92 ∷ (t ++ v))) (t ++ v) ≡ gives (escaped.delegate x b) v
-    → AtomAs n d (case_flags u i) (92 ∷ (t ++ v)) v (delegate x b)
+    escape n (case_flags u i) false (place_of n (code "\\" ∷ (t ++ v))) (t ++ v) ≡ gives (escaped.delegate x b) v
+    → AtomAs n d (case_flags u i) (code "\\" ∷ (t ++ v)) v (delegate x b)
 escape_atom n d u i t x v b e =
     let g = case_flags u i in
-    reads_leaf n d g (92 ∷ (t ++ v)) v (delegate x b)
-    (leaf_at n d g 92 (t ++ v) refl refl ∙ ap (λ o. leaf (leaf_outcome leaf_node (st g (92 ∷ (t ++ v))) o)) e)
+    reads_leaf n d g (code "\\" ∷ (t ++ v)) v (delegate x b)
+    (leaf_at n d g (code "\\") (t ++ v) refl refl ∙ ap (λ o. leaf (leaf_outcome leaf_node (st g (code "\\" ∷ (t ++ v))) o)) e)
     (record { is = λ r. refl; groups = tt })
 
-escape_text : (t : Text) → is_some (class_of (bare false) (92 ∷ t)) ≡ true → DelegateText (92 ∷ t)
+escape_text : (t : Text) → is_some (class_of (bare false) (code "\\" ∷ t)) ≡ true → DelegateText (code "\\" ∷ t)
 escape_text t h =
     let (w, b, e) = escape_read t h in
-    let n0 = bytes (92 ∷ t) in
-    let p0 = place_of n0 (92 ∷ t) in
+    let n0 = bytes (code "\\" ∷ t) in
+    let p0 = place_of n0 (code "\\" ∷ t) in
     record {
       reads = λ n d u i v.
           let (x, c, same) = escape_carries u i n0 p0 t w [] b e in
-          subst (AtomAs n d (case_flags u i) (92 ∷ (t ++ v)) v)
+          subst (AtomAs n d (case_flags u i) (code "\\" ∷ (t ++ v)) v)
           (sym (escape_normal u i t x c (same n0 p0 [])))
-          (escape_atom n d u i t x v c (same n (place_of n (92 ∷ (t ++ v))) v));
+          (escape_atom n d u i t x v c (same n (place_of n (code "\\" ∷ (t ++ v))) v));
       begins = λ v. begins_by refl refl refl;
     }
 
-pub no_other : (c : ℕ) (t : Text) → (c == 91) ≡ false → (c == 92) ≡ false →
+pub no_other : (c : ℕ) (t : Text) → (c == code "[") ≡ false → (c == code "\\") ≡ false →
     is_some (class_of (bare false) (c ∷ t)) ≡ false
 unfolding class_of
-no_other c t a b = ap is_some (cond-false _ _ _ (or_from (c == 91) (c == 92) a b))
+no_other c t a b = ap is_some (cond-false _ _ _ (or_from (c == code "[") (c == code "\\") a b))
 
 pub nothing_whole : is_some (class_of (bare false) []) ≡ false
 unfolding class_of
@@ -131,15 +132,15 @@ nothing_whole = refl
 -- what is told of the text alone holds in front of any text, and under both settings
 pub delegate_text : (s : Text) → is_some (class_of (bare false) s) ≡ true → DelegateText s
 delegate_text [] h = no_truth (sym nothing_whole ∙ h)
-delegate_text (c ∷ t) h = by_bracket (cases_eq c 91) where
-  by_escape : (c ≢ 91) → (c ≡ 92) ⊎ (c ≢ 92) → DelegateText (c ∷ t)
+delegate_text (c ∷ t) h = by_bracket (cases_eq c (code "[")) where
+  by_escape : (c ≢ code "[") → (c ≡ code "\\") ⊎ (c ≢ code "\\") → DelegateText (c ∷ t)
   by_escape a (inl e) =
       subst (λ x. DelegateText (x ∷ t)) (sym e)
       (escape_text t (subst (λ x. is_some (class_of (bare false) (x ∷ t)) ≡ true) e h))
-  by_escape a (inr b) = no_truth (sym (no_other c t (ne_eqb c 91 a) (ne_eqb c 92 b)) ∙ h)
+  by_escape a (inr b) = no_truth (sym (no_other c t (ne_eqb c (code "[") a) (ne_eqb c (code "\\") b)) ∙ h)
 
-  by_bracket : (c ≡ 91) ⊎ (c ≢ 91) → DelegateText (c ∷ t)
+  by_bracket : (c ≡ code "[") ⊎ (c ≢ code "[") → DelegateText (c ∷ t)
   by_bracket (inl e) =
       subst (λ x. DelegateText (x ∷ t)) (sym e)
       (bracket_text t (subst (λ x. is_some (class_of (bare false) (x ∷ t)) ≡ true) e h))
-  by_bracket (inr a) = by_escape a (cases_eq c 92)
+  by_bracket (inr a) = by_escape a (cases_eq c (code "\\"))

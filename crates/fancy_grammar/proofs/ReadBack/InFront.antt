@@ -1,5 +1,6 @@
 -- What is printed for a tree, in front of a text: as `printed`, with no append to regroup.
 use Rattle.std.proofs.Common.{◌≡◌, ℕ, Bool, true, false, nat_lt, [], ◌∷◌, ◌++◌, Option, Some, None, refl, sym, ap, ◌∙◌, append_assoc, append-nil}
+use Prim.Native.Char.{code}
 use Rattle.fancy_lex.specs.Text.{Text}
 use Rattle.fancy_lex.specs.declared.escape.Assertion.{Assertion}
 use Rattle.fancy_lex.specs.declared.escape.Assertion.TheVariants.{StartText, EndText, EndTextIgnoreTrailingNewlines, StartLine, StartLineOniguruma, EndLine, LeftWordBoundary, LeftWordHalfBoundary, RightWordBoundary, RightWordHalfBoundary, WordBoundary, NotWordBoundary}
@@ -9,46 +10,46 @@ use Rattle.fancy_grammar.specs.Tree.{Tree, Trees, no_trees, more_trees, any, ass
 
 abbrev pub put_as : ℕ → Option ℕ → Text → Text
 put_as c None v = c ∷ v
-put_as c (Some x) v = 92 ∷ x ∷ v
+put_as c (Some x) v = code "\\" ∷ x ∷ v
 
 abbrev pub put_quotes : Text → Text → Text
 put_quotes [] v = v
 put_quotes (c ∷ cs) v = put_as c (behind_backslash c) (put_quotes cs v)
 
 abbrev pub put_any : Bool → Bool → Text → Text
-put_any true crlf v = 40 ∷ 63 ∷ 115 ∷ 58 ∷ 46 ∷ 41 ∷ v
-put_any false true v = 40 ∷ 63 ∷ 82 ∷ 45 ∷ 115 ∷ 58 ∷ 46 ∷ 41 ∷ v
-put_any false false v = 46 ∷ v
+put_any true crlf v = code "(" ∷ code "?" ∷ code "s" ∷ code ":" ∷ code "." ∷ code ")" ∷ v
+put_any false true v = code "(" ∷ code "?" ∷ code "R" ∷ code "-" ∷ code "s" ∷ code ":" ∷ code "." ∷ code ")" ∷ v
+put_any false false v = code "." ∷ v
 
 -- an anchor in a group of its own, with the flags that it needs
 abbrev pub put_line : ℕ → Bool → Text → Text
-put_line c false v = 40 ∷ 63 ∷ 109 ∷ 58 ∷ c ∷ 41 ∷ v
-put_line c true v = 40 ∷ 63 ∷ 82 ∷ 109 ∷ 58 ∷ c ∷ 41 ∷ v
+put_line c false v = code "(" ∷ code "?" ∷ code "m" ∷ code ":" ∷ c ∷ code ")" ∷ v
+put_line c true v = code "(" ∷ code "?" ∷ code "R" ∷ code "m" ∷ code ":" ∷ c ∷ code ")" ∷ v
 
 abbrev pub put_assertion : Assertion → Text → Text
-put_assertion StartText v = 94 ∷ v
-put_assertion EndText v = 36 ∷ v
-put_assertion (StartLine crlf) v = put_line 94 crlf v
-put_assertion (StartLineOniguruma crlf) v = put_line 94 crlf v
-put_assertion (EndLine crlf) v = put_line 36 crlf v
-put_assertion WordBoundary v = 92 ∷ 98 ∷ v
-put_assertion NotWordBoundary v = 92 ∷ 66 ∷ v
-put_assertion LeftWordBoundary v = 92 ∷ 60 ∷ v
-put_assertion RightWordBoundary v = 92 ∷ 62 ∷ v
-put_assertion LeftWordHalfBoundary v = 92 ∷ 98 ∷ 123 ∷ 115 ∷ 116 ∷ 97 ∷ 114 ∷ 116 ∷ 45 ∷ 104 ∷ 97 ∷ 108 ∷ 102 ∷ 125 ∷ v
-put_assertion RightWordHalfBoundary v = 92 ∷ 98 ∷ 123 ∷ 101 ∷ 110 ∷ 100 ∷ 45 ∷ 104 ∷ 97 ∷ 108 ∷ 102 ∷ 125 ∷ v
+put_assertion StartText v = code "^" ∷ v
+put_assertion EndText v = code "$" ∷ v
+put_assertion (StartLine crlf) v = put_line (code "^") crlf v
+put_assertion (StartLineOniguruma crlf) v = put_line (code "^") crlf v
+put_assertion (EndLine crlf) v = put_line (code "$") crlf v
+put_assertion WordBoundary v = code "\\" ∷ code "b" ∷ v
+put_assertion NotWordBoundary v = code "\\" ∷ code "B" ∷ v
+put_assertion LeftWordBoundary v = code "\\" ∷ code "<" ∷ v
+put_assertion RightWordBoundary v = code "\\" ∷ code ">" ∷ v
+put_assertion LeftWordHalfBoundary v = code "\\" ∷ code "b" ∷ code "{" ∷ code "s" ∷ code "t" ∷ code "a" ∷ code "r" ∷ code "t" ∷ code "-" ∷ code "h" ∷ code "a" ∷ code "l" ∷ code "f" ∷ code "}" ∷ v
+put_assertion RightWordHalfBoundary v = code "\\" ∷ code "b" ∷ code "{" ∷ code "e" ∷ code "n" ∷ code "d" ∷ code "-" ∷ code "h" ∷ code "a" ∷ code "l" ∷ code "f" ∷ code "}" ∷ v
 put_assertion (EndTextIgnoreTrailingNewlines crlf) v = v
 
 abbrev pub open_if : Bool → Text → Text
-open_if true v = 40 ∷ 63 ∷ 58 ∷ v
+open_if true v = code "(" ∷ code "?" ∷ code ":" ∷ v
 open_if false v = v
 
 abbrev pub fold_if : Bool → Text → Text
-fold_if true v = 40 ∷ 63 ∷ 105 ∷ 58 ∷ v
+fold_if true v = code "(" ∷ code "?" ∷ code "i" ∷ code ":" ∷ v
 fold_if false v = v
 
 abbrev pub close_if : Bool → Text → Text
-close_if true v = 41 ∷ v
+close_if true v = code ")" ∷ v
 close_if false v = v
 
 abbrev mutual
@@ -59,7 +60,7 @@ abbrev mutual
   put (delegate s casei) p v = fold_if casei (s ++ close_if casei v)
   put (concat ts) p v = open_if (nat_lt 1 p) (puts ts (close_if (nat_lt 1 p) v))
   put (alt ts) p v = open_if (nat_lt 0 p) (put_branches ts (close_if (nat_lt 0 p) v))
-  put (group t) p v = 40 ∷ put t 0 (41 ∷ v)
+  put (group t) p v = code "(" ∷ put t 0 (code ")" ∷ v)
   put (repeat t lo hi greedy) p v =
       open_if (nat_lt 2 p) (open_if (is_long t)
       (put t 3 (close_if (is_long t) (quantifier lo hi greedy ++ close_if (nat_lt 2 p) v))))
@@ -75,7 +76,7 @@ abbrev mutual
 
   pub put_barred : Trees → Text → Text
   put_barred no_trees v = v
-  put_barred (more_trees t ts) v = 124 ∷ put t 1 (put_barred ts v)
+  put_barred (more_trees t ts) v = code "|" ∷ put t 1 (put_barred ts v)
 
 -- what a quantifier is put behind
 abbrev pub put_repeated : Tree → Text → Text
@@ -83,12 +84,12 @@ put_repeated t v = open_if (is_long t) (put t 3 (close_if (is_long t) v))
 
 grouped_put : (b : Bool) (w v : Text) → open_if b (w ++ close_if b v) ≡ grouped b w ++ v
 unfolding grouped
-grouped_put true w v = ap (open_if true) (sym (append_assoc w (41 ∷ []) v))
+grouped_put true w v = ap (open_if true) (sym (append_assoc w (code ")" ∷ []) v))
 grouped_put false w v = refl
 
 caseless_put : (b : Bool) (w v : Text) → fold_if b (w ++ close_if b v) ≡ caseless b w ++ v
 unfolding caseless
-caseless_put true w v = ap (fold_if true) (sym (append_assoc w (41 ∷ []) v))
+caseless_put true w v = ap (fold_if true) (sym (append_assoc w (code ")" ∷ []) v))
 caseless_put false w v = refl
 
 as_put : (c : ℕ) (o : Option ℕ) (v : Text) → put_as c o v ≡ quote_as c o ++ v
@@ -131,7 +132,7 @@ mutual
   put_text (alt ts) p v =
       ap (open_if (nat_lt 0 p)) (branches_text ts (close_if (nat_lt 0 p) v))
       ∙ grouped_put (nat_lt 0 p) (printed_branches ts) v
-  put_text (group t) p v = ap (λ w. 40 ∷ w) (put_text t 0 (41 ∷ v) ∙ sym (append_assoc (printed t 0) (41 ∷ []) v))
+  put_text (group t) p v = ap (λ w. code "(" ∷ w) (put_text t 0 (code ")" ∷ v) ∙ sym (append_assoc (printed t 0) (code ")" ∷ []) v))
   put_text (repeat t lo hi greedy) p v =
       let w = quantifier lo hi greedy ++ close_if (nat_lt 2 p) v in
       ap (open_if (nat_lt 2 p))
@@ -154,7 +155,7 @@ mutual
   barred_text : (ts : Trees) (v : Text) → put_barred ts v ≡ barred ts ++ v
   barred_text no_trees v = refl
   barred_text (more_trees t ts) v =
-      ap (λ w. 124 ∷ w) (ap (put t 1) (barred_text ts v)
+      ap (λ w. code "|" ∷ w) (ap (put t 1) (barred_text ts v)
       ∙ (put_text t 1 (barred ts ++ v) ∙ sym (append_assoc (printed t 1) (barred ts) v)))
 
 -- a text is what is put in front of nothing

@@ -1,8 +1,10 @@
 -- What is printed reads back.
 use Rattle.std.proofs.Common.{◌≡◌, ℕ, zero, suc, ◌+◌, ◌<◌, ◌≤◌, Bool, true, false, not, ◌&&◌, ◌||◌, List, [], ◌∷◌, ◌++◌, map, refl, sym, ap, subst, arith, lt-ltb}
+use Prim.Native.Char.{code}
 use Rattle.fancy_lex.specs.Text.{Text, bytes}
 use Rattle.fancy_lex.specs.declared.escape.Assertion.{Assertion}
 use Rattle.fancy_lex.specs.declared.escape.Assertion.TheVariants.{StartLineOniguruma}
+use Rattle.fancy_grammar.specs.Depth.{max_depth}
 use Rattle.fancy_parts.specs.Quote.{behind_backslash, quantifier}
 use Rattle.fancy_grammar.specs.Grammar.{Derives}
 use Rattle.fancy_grammar.specs.Join.{solid, join, choice}
@@ -20,16 +22,16 @@ use Rattle.fancy_grammar.proofs.ReadBack.ShapeLemmas.{DelegateText, Printable, A
 
 -- what k prints, with m groups nested, reads as the tree x
 abbrev pub ReadsAtom : Bool → (Text → Text) → ℕ → Tree → Type 0
-ReadsAtom u k m x = (n d : ℕ) (v : Text) → d + m < 64 → NoName v → AtomAs n d (bare u) (k v) v x
+ReadsAtom u k m x = (n d : ℕ) (v : Text) → d + m < max_depth → NoName v → AtomAs n d (bare u) (k v) v x
 
 abbrev pub ReadsRun : Bool → (Text → Text) → ℕ → List Tree → Type 0
-ReadsRun u k m ys = (n d : ℕ) (v : Text) → d + m < 64 → Clear v → Run n d (bare u) (k v) v ys
+ReadsRun u k m ys = (n d : ℕ) (v : Text) → d + m < max_depth → Clear v → Run n d (bare u) (k v) v ys
 
 abbrev pub ReadsBranch : Bool → (Text → Text) → ℕ → Tree → Type 0
-ReadsBranch u k m x = (n d : ℕ) (v : Text) → d + m < 64 → Stops v → BranchAs n d (bare u) (k v) v x
+ReadsBranch u k m x = (n d : ℕ) (v : Text) → d + m < max_depth → Stops v → BranchAs n d (bare u) (k v) v x
 
 abbrev pub ReadsWhole : Bool → (Text → Text) → ℕ → Tree → Type 0
-ReadsWhole u k m x = (n d : ℕ) (v : Text) → d + m < 64 → Ends v → WholeAs n d (bare u) (k v) v x
+ReadsWhole u k m x = (n d : ℕ) (v : Text) → d + m < max_depth → Ends v → WholeAs n d (bare u) (k v) v x
 
 abbrev pub Starts : (Text → Text) → Type 0
 Starts k = (v : Text) → Begins (k v)
@@ -49,15 +51,15 @@ to_whole u k m x b n d v l e = reads_only n d (bare u) (k v) v x (b n d v l e.st
 
 -- in a group of its own
 abbrev pub wrapped : (Text → Text) → Text → Text
-wrapped k v = open_if true (k (41 ∷ v))
+wrapped k v = open_if true (k (code ")" ∷ v))
 
 wrap_atom : (u : Bool) (k : Text → Text) (m : ℕ) (x : Tree) → ReadsWhole u k m x → ReadsAtom u (wrapped k) (1 + m) x
 wrap_atom u k m x w n d v l _ =
-    reads_grouped n d (bare u) (k (41 ∷ v)) v x (kept_bare u) (omega arith)
-    (w n (d + 1) (41 ∷ v) (omega arith) (ends_close v))
+    reads_grouped n d (bare u) (k (code ")" ∷ v)) v x (kept_bare u) (omega arith)
+    (w n (d + 1) (code ")" ∷ v) (omega arith) (ends_close v))
 
 pub wrap_starts : (k : Text → Text) → Starts (wrapped k)
-wrap_starts k v = begins_head 58 (k (41 ∷ v)) refl
+wrap_starts k v = begins_head (code ":") (k (code ")" ∷ v)) refl
 
 -- What the texts k3, k2, k1 and k0 of the four precedences read as, with m3 to m0 groups nested:
 -- the tree x as an atom where IsOne, pieces with the trees ys, a branch with the tree x, and a whole alternation.
@@ -165,13 +167,13 @@ assertion_reads u a h =
 
 caseless_reads : (u : Bool) (s : Text) → Reads u (literal s true)
 caseless_reads u s =
-    let k = λ (v : Text). 40 ∷ 63 ∷ 105 ∷ 58 ∷ put_quotes s (41 ∷ v) in
+    let k = λ (v : Text). code "(" ∷ code "?" ∷ code "i" ∷ code ":" ∷ put_quotes s (code ")" ∷ v) in
     let f = case_flags u true in
     let x = join (map (character true) s) in
-    by_atom u k 1 (Unit {0}) x (λ v. begins_head 105 _ refl)
-    (λ n d v l _. reads_caseless n d u (put_quotes s (41 ∷ v)) v x l
-    (reads_only n (d + 1) f (put_quotes s (41 ∷ v)) (41 ∷ v) x
-    (reads_branch x (quotes_run n (d + 1) f s (41 ∷ v) (kept_case u true) (clear_close v)) refl
+    by_atom u k 1 (Unit {0}) x (λ v. begins_head (code "i") _ refl)
+    (λ n d v l _. reads_caseless n d u (put_quotes s (code ")" ∷ v)) v x l
+    (reads_only n (d + 1) f (put_quotes s (code ")" ∷ v)) (code ")" ∷ v) x
+    (reads_branch x (quotes_run n (d + 1) f s (code ")" ∷ v) (kept_case u true) (clear_close v)) refl
     (ends_close v).stops) (ends_close v)))
 
 literal_atom : (u : Bool) (s : Text) → IsAtom (literal s false) →
@@ -195,19 +197,19 @@ delegate_reads u s h =
 caseless_delegate_reads : (u : Bool) (s : Text) → DelegateText s → Reads u (delegate s true)
 caseless_delegate_reads u s h =
     let x = normal u (delegate s true) in
-    by_atom u (λ v. 40 ∷ 63 ∷ 105 ∷ 58 ∷ (s ++ 41 ∷ v)) 1 (Unit {0}) x (λ v. begins_head 105 _ refl)
-    (λ n d v l _. reads_caseless n d u (s ++ 41 ∷ v) v x l
-    (whole_atom n (d + 1) (case_flags u true) (s ++ 41 ∷ v) v x (kept_case u true)
-    (h.begins (41 ∷ v)) (h.reads n (d + 1) u true (41 ∷ v))))
+    by_atom u (λ v. code "(" ∷ code "?" ∷ code "i" ∷ code ":" ∷ (s ++ code ")" ∷ v)) 1 (Unit {0}) x (λ v. begins_head (code "i") _ refl)
+    (λ n d v l _. reads_caseless n d u (s ++ code ")" ∷ v) v x l
+    (whole_atom n (d + 1) (case_flags u true) (s ++ code ")" ∷ v) v x (kept_case u true)
+    (h.begins (code ")" ∷ v)) (h.reads n (d + 1) u true (code ")" ∷ v))))
 
 group_reads : (u : Bool) (t : Tree) → Printable t → Reads u t → Reads u (group t)
 group_reads u t h r =
-    let k = λ (v : Text). 40 ∷ put t 0 (41 ∷ v) in
+    let k = λ (v : Text). code "(" ∷ put t 0 (code ")" ∷ v) in
     by_atom u k (1 + nest t 0) (Unit {0}) (group (normal u t))
-    (λ v. begins_group _ (clear_put t h 0 (41 ∷ v) (clear_close v)))
-    (λ n d v l _. reads_group n d (bare u) (put t 0 (41 ∷ v)) v (normal u t) (kept_bare u)
-    (omega arith) (clear_put t h 0 (41 ∷ v) (clear_close v))
-    (r.whole n (d + 1) (41 ∷ v) (omega arith) (ends_close v)))
+    (λ v. begins_group _ (clear_put t h 0 (code ")" ∷ v) (clear_close v)))
+    (λ n d v l _. reads_group n d (bare u) (put t 0 (code ")" ∷ v)) v (normal u t) (kept_bare u)
+    (omega arith) (clear_put t h 0 (code ")" ∷ v) (clear_close v))
+    (r.whole n (d + 1) (code ")" ∷ v) (omega arith) (ends_close v)))
 
 concat_run : (u : Bool) (ts : Trees) → ArePrintable ts → EachReads u ts → ReadsRun u (puts ts) (nests ts 2) (normal_pieces u ts)
 concat_run u no_trees h r n d v l c = no_run n d (bare u) v
@@ -220,14 +222,14 @@ concat_reads u ts h r =
     by_branch u (puts ts) (nests ts 2) (Unit {0}) (join (normal_pieces u ts)) (normal_pieces u ts) refl (concat_run u ts h r)
 
 alt_branches : (u : Bool) (t : Tree) (ts : Trees) → Reads u t → EachReads u ts → (n d : ℕ) (v : Text) →
-    d + nest t 1 < 64 → d + nests ts 1 < 64 → Ends v
+    d + nest t 1 < max_depth → d + nests ts 1 < max_depth → Ends v
     → BranchesAs n d (bare u) (put t 1 (put_barred ts v)) v (normal u t ∷ normals u ts)
 alt_branches u t no_trees r rs n d v l m e =
     reads_last n d (bare u) (put t 1 v) v (normal u t) (r.branch n d v l e.stops) e
 alt_branches u t (more_trees x xs) r rs n d v l m e =
-    reads_more n d (bare u) (put t 1 (124 ∷ put x 1 (put_barred xs v))) (put x 1 (put_barred xs v)) v (normal u t)
+    reads_more n d (bare u) (put t 1 (code "|" ∷ put x 1 (put_barred xs v))) (put x 1 (put_barred xs v)) v (normal u t)
     (normal u x ∷ normals u xs)
-    (r.branch n d (124 ∷ put x 1 (put_barred xs v)) l (stops_bar _))
+    (r.branch n d (code "|" ∷ put x 1 (put_barred xs v)) l (stops_bar _))
     (alt_branches u x xs rs.0 rs.1 n d v (omega arith) (omega arith) e)
 
 alt_whole : (u : Bool) (ts : Trees) → EachReads u ts →
@@ -322,13 +324,13 @@ ReadsFrom u t s = (r : Tree) × Derives (bare u) s r × Becomes r (normal u t)
 from_whole : (u : Bool) (t : Tree) (s : Text) → WholeAs (bytes s) 0 (bare u) s [] (normal u t) → ReadsFrom u t s
 from_whole u t s w = reads_text (bare u) s (normal u t) w
 
-at_level : (t : Tree) (p : ℕ) (u : Bool) → nest t p < 64 → ReadsWhole u (put t p) (nest t p) (normal u t) →
+at_level : (t : Tree) (p : ℕ) (u : Bool) → nest t p < max_depth → ReadsWhole u (put t p) (nest t p) (normal u t) →
     ReadsFrom u t (printed t p)
 at_level t p u l w =
     subst (ReadsFrom u t) (put_alone t p)
     (from_whole u t (put t p []) (w (bytes (put t p [])) 0 [] (omega arith) ends_nothing))
 
-pub reads_back : (t : Tree) (p : ℕ) (u : Bool) → Printable t → nest t p < 64 → ReadsFrom u t (printed t p)
+pub reads_back : (t : Tree) (p : ℕ) (u : Bool) → Printable t → nest t p < max_depth → ReadsFrom u t (printed t p)
 reads_back t zero u h l = at_level t 0 u l (reads u t h).whole
 reads_back t (suc zero) u h l = at_level t 1 u l (to_whole u (put t 1) (nest t 1) (normal u t) (reads u t h).branch)
 reads_back t (suc (suc zero)) u h l = at_level t 2 u l (from_run u t 2 (reads u t h).run)

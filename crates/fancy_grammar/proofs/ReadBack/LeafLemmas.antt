@@ -1,6 +1,7 @@
 -- Nodes that hold no branches, as they are printed.
 use Rattle.std.proofs.Common.{◌≡◌, ℕ, ◌+◌, ◌<◌, Bool, true, false, not, ◌&&◌, ◌||◌, ◌==◌, [], ◌∷◌, map, Option, Some, None, refl, ap, ◌∙◌, arith, ne_eqb}
 use Rattle.std.proofs.lemmas.Bool.{cond-false}
+use Prim.Native.Char.{code}
 use Rattle.fancy_lex.specs.Boundary.{boundary, named_boundary, name}
 use Rattle.fancy_lex.specs.Escape.{escape, outside}
 use Rattle.fancy_lex.specs.Escaped as escaped
@@ -11,6 +12,7 @@ use Rattle.fancy_lex.specs.Text.{Text, bytes, place_of}
 use Rattle.fancy_lex.specs.declared.escape.Assertion.{Assertion}
 use Rattle.fancy_lex.specs.declared.escape.Assertion.TheVariants.{StartText, EndText, EndTextIgnoreTrailingNewlines, StartLine, StartLineOniguruma, EndLine, LeftWordBoundary, LeftWordHalfBoundary, RightWordBoundary, RightWordHalfBoundary, WordBoundary, NotWordBoundary}
 use Rattle.fancy_lex.specs.declared.flags.Flags.{Flags}
+use Rattle.fancy_grammar.specs.Depth.{max_depth}
 use Rattle.fancy_parts.specs.FlagLetters as letters
 use Rattle.fancy_parts.specs.FlagLetters.{step}
 use Rattle.fancy_parts.specs.Quote.{behind_backslash}
@@ -35,11 +37,11 @@ pub begins_by : {s : Text} → after_comment_head s ≡ None → begins_mark s �
 begins_by e m g = record { clear = record { no_comment = e; no_mark = m }; goes = g }
 
 -- an atom alone in a group
-pub whole_atom : (n d : ℕ) (f : Flags) (s v : Text) (x : Tree) → Kept f → Begins s → AtomAs n d f s (41 ∷ v) x →
-    WholeAs n d f s (41 ∷ v) x
+pub whole_atom : (n d : ℕ) (f : Flags) (s v : Text) (x : Tree) → Kept f → Begins s → AtomAs n d f s (code ")" ∷ v) x →
+    WholeAs n d f s (code ")" ∷ v) x
 whole_atom n d f s v x k b a =
-    reads_only n d f s (41 ∷ v) x
-    (reads_branch x (reads_piece n d f s (41 ∷ v) x k b.goes b.clear.no_comment (clear_close v) a) (join_one x)
+    reads_only n d f s (code ")" ∷ v) x
+    (reads_branch x (reads_piece n d f s (code ")" ∷ v) x k b.goes b.clear.no_comment (clear_close v) a) (join_one x)
     (ends_close v).stops) (ends_close v)
 
 -- ---- characters
@@ -99,50 +101,50 @@ kept_multi u crlf = record { no_space = refl; not_swapped = refl; not_oniguruma 
 
 -- ---- any character
 
-reads_dot : (n d : ℕ) (f : Flags) (v : Text) → AtomAs n d f (46 ∷ v) v (any f.dotnl f.crlf)
+reads_dot : (n d : ℕ) (f : Flags) (v : Text) → AtomAs n d f (code "." ∷ v) v (any f.dotnl f.crlf)
 reads_dot n d f v =
-    reads_leaf n d f (46 ∷ v) v (any f.dotnl f.crlf) (leaf_at n d f 46 v refl refl) (record {
+    reads_leaf n d f (code "." ∷ v) v (any f.dotnl f.crlf) (leaf_at n d f (code ".") v refl refl) (record {
       is = λ g. refl;
       groups = tt;
     })
 
-begins_dot : (v : Text) → Begins (46 ∷ v)
+begins_dot : (v : Text) → Begins (code "." ∷ v)
 begins_dot v = begins_by refl refl refl
 
 minus_letters : (n : ℕ) (u : Bool) (s : Text) →
-    letters.letters n (bare u) (82 ∷ 45 ∷ 115 ∷ 58 ∷ s) ≡ gives (letters.scope (crlf_flags u)) s
+    letters.letters n (bare u) (code "R" ∷ code "-" ∷ code "s" ∷ code ":" ∷ s) ≡ gives (letters.scope (crlf_flags u)) s
 unfolding bytes
 minus_letters n u s =
-    let t = 82 ∷ 45 ∷ 115 ∷ 58 ∷ s in
+    let t = code "R" ∷ code "-" ∷ code "s" ∷ code ":" ∷ s in
     let g = crlf_flags u in
-    let far : (bytes (58 ∷ s) + 1 == bytes t) ≡ false = ne_eqb (bytes (58 ∷ s) + 1) (bytes t) (omega arith) in
+    let far : (bytes (code ":" ∷ s) + 1 == bytes t) ≡ false = ne_eqb (bytes (code ":" ∷ s) + 1) (bytes t) (omega arith) in
     let k = kept_crlf u in
     spelled n 3 (bare u) t (letters.scope g) s
-    (more_letters n t false (bare u) t (kept_bare u) refl 2 false g (45 ∷ 115 ∷ 58 ∷ s)
+    (more_letters n t false (bare u) t (kept_bare u) refl 2 false g (code "-" ∷ code "s" ∷ code ":" ∷ s)
     (letters.scope g) s refl
-    (more_letters n t false g (45 ∷ 115 ∷ 58 ∷ s) k refl 1 true g (115 ∷ 58 ∷ s) (letters.scope g) s refl
-    (more_letters n t true g (115 ∷ 58 ∷ s) k refl 0 true g (58 ∷ s) (letters.scope g) s refl
-    (last_letter n t true g (58 ∷ s) k refl (letters.scope g) s (cond-false _ _ _ far)))))
+    (more_letters n t false g (code "-" ∷ code "s" ∷ code ":" ∷ s) k refl 1 true g (code "s" ∷ code ":" ∷ s) (letters.scope g) s refl
+    (more_letters n t true g (code "s" ∷ code ":" ∷ s) k refl 0 true g (code ":" ∷ s) (letters.scope g) s refl
+    (last_letter n t true g (code ":" ∷ s) k refl (letters.scope g) s (cond-false _ _ _ far)))))
     (omega arith)
 
-pub reads_any : (n d : ℕ) (u a b : Bool) (v : Text) → d + one_if (a || b) < 64 →
+pub reads_any : (n d : ℕ) (u a b : Bool) (v : Text) → d + one_if (a || b) < max_depth →
     AtomAs n d (bare u) (put_any a b v) v (any a (not a && b))
 reads_any n d u true b v l =
     let g = dotnl_flags u in
-    reads_scope n d (bare u) g (put_any true b v) (46 ∷ 41 ∷ v) v (any true false)
-    (scope_at n d (bare u) g (115 ∷ 58 ∷ 46 ∷ 41 ∷ v) (46 ∷ 41 ∷ v) (kept_bare u) l refl refl
-    (one_letter n (bare u) g 115 (46 ∷ 41 ∷ v) (kept_bare u)
+    reads_scope n d (bare u) g (put_any true b v) (code "." ∷ code ")" ∷ v) v (any true false)
+    (scope_at n d (bare u) g (code "s" ∷ code ":" ∷ code "." ∷ code ")" ∷ v) (code "." ∷ code ")" ∷ v) (kept_bare u) l refl refl
+    (one_letter n (bare u) g (code "s") (code "." ∷ code ")" ∷ v) (kept_bare u)
     (kept_dotnl u) refl refl))
-    (whole_atom n (d + 1) g (46 ∷ 41 ∷ v) v (any true false) (kept_dotnl u) (begins_dot (41 ∷ v))
-    (reads_dot n (d + 1) g (41 ∷ v)))
+    (whole_atom n (d + 1) g (code "." ∷ code ")" ∷ v) v (any true false) (kept_dotnl u) (begins_dot (code ")" ∷ v))
+    (reads_dot n (d + 1) g (code ")" ∷ v)))
 reads_any n d u false true v l =
     let g = crlf_flags u in
-    reads_scope n d (bare u) g (put_any false true v) (46 ∷ 41 ∷ v) v (any false true)
-    (scope_at n d (bare u) g (82 ∷ 45 ∷ 115 ∷ 58 ∷ 46 ∷ 41 ∷ v) (46 ∷ 41 ∷ v)
+    reads_scope n d (bare u) g (put_any false true v) (code "." ∷ code ")" ∷ v) v (any false true)
+    (scope_at n d (bare u) g (code "R" ∷ code "-" ∷ code "s" ∷ code ":" ∷ code "." ∷ code ")" ∷ v) (code "." ∷ code ")" ∷ v)
     (kept_bare u) l refl refl
-    (minus_letters n u (46 ∷ 41 ∷ v)))
-    (whole_atom n (d + 1) g (46 ∷ 41 ∷ v) v (any false true) (kept_crlf u) (begins_dot (41 ∷ v))
-    (reads_dot n (d + 1) g (41 ∷ v)))
+    (minus_letters n u (code "." ∷ code ")" ∷ v)))
+    (whole_atom n (d + 1) g (code "." ∷ code ")" ∷ v) v (any false true) (kept_crlf u) (begins_dot (code ")" ∷ v))
+    (reads_dot n (d + 1) g (code ")" ∷ v)))
 reads_any n d u false false v l = reads_dot n d (bare u) v
 
 pub begins_any : (a b : Bool) (v : Text) → Begins (put_any a b v)
@@ -153,23 +155,23 @@ begins_any false false v = begins_dot v
 -- ---- conditions on a place
 
 -- an anchor under MULTI in a group of its own
-line_atom : (n d c : ℕ) (u r : Bool) (v : Text) (x : Tree) → d + 1 < 64 → Begins (c ∷ 41 ∷ v) →
-    AtomAs n (d + 1) (multi_flags u r) (c ∷ 41 ∷ v) (41 ∷ v) x → AtomAs n d (bare u) (put_line c r v) v x
+line_atom : (n d c : ℕ) (u r : Bool) (v : Text) (x : Tree) → d + 1 < max_depth → Begins (c ∷ code ")" ∷ v) →
+    AtomAs n (d + 1) (multi_flags u r) (c ∷ code ")" ∷ v) (code ")" ∷ v) x → AtomAs n d (bare u) (put_line c r v) v x
 unfolding bytes
 line_atom n d c u false v x l b a =
     let g = multi_flags u false in
-    reads_scope n d (bare u) g (put_line c false v) (c ∷ 41 ∷ v) v x
-    (scope_at n d (bare u) g (109 ∷ 58 ∷ c ∷ 41 ∷ v) (c ∷ 41 ∷ v) (kept_bare u) l refl refl
-    (one_letter n (bare u) g 109 (c ∷ 41 ∷ v) (kept_bare u)
+    reads_scope n d (bare u) g (put_line c false v) (c ∷ code ")" ∷ v) v x
+    (scope_at n d (bare u) g (code "m" ∷ code ":" ∷ c ∷ code ")" ∷ v) (c ∷ code ")" ∷ v) (kept_bare u) l refl refl
+    (one_letter n (bare u) g (code "m") (c ∷ code ")" ∷ v) (kept_bare u)
     (kept_multi u false) refl refl))
-    (whole_atom n (d + 1) g (c ∷ 41 ∷ v) v x (kept_multi u false) b a)
+    (whole_atom n (d + 1) g (c ∷ code ")" ∷ v) v x (kept_multi u false) b a)
 line_atom n d c u true v x l b a =
     let g = multi_flags u true in
-    reads_scope n d (bare u) g (put_line c true v) (c ∷ 41 ∷ v) v x
-    (scope_at n d (bare u) g (82 ∷ 109 ∷ 58 ∷ c ∷ 41 ∷ v) (c ∷ 41 ∷ v) (kept_bare u) l refl refl
-    (two_letters n (bare u) (crlf_flags u) g 82 109 (c ∷ 41 ∷ v) (kept_bare u)
+    reads_scope n d (bare u) g (put_line c true v) (c ∷ code ")" ∷ v) v x
+    (scope_at n d (bare u) g (code "R" ∷ code "m" ∷ code ":" ∷ c ∷ code ")" ∷ v) (c ∷ code ")" ∷ v) (kept_bare u) l refl refl
+    (two_letters n (bare u) (crlf_flags u) g (code "R") (code "m") (c ∷ code ")" ∷ v) (kept_bare u)
     (kept_crlf u) (kept_multi u true) (omega arith) refl refl refl refl))
-    (whole_atom n (d + 1) g (c ∷ 41 ∷ v) v x (kept_multi u true) b a)
+    (whole_atom n (d + 1) g (c ∷ code ")" ∷ v) v x (kept_multi u true) b a)
 
 -- an anchor, under the flags that it needs
 anchor : (n d : ℕ) (f : Flags) (c : ℕ) (v : Text) (a : Assertion) →
@@ -177,65 +179,65 @@ anchor : (n d : ℕ) (f : Flags) (c : ℕ) (v : Text) (a : Assertion) →
     AtomAs n d f (c ∷ v) v (assertion a)
 anchor n d f c v a e = reads_leaf n d f (c ∷ v) v (assertion a) e (record { is = λ g. refl; groups = tt })
 
-start_line : (n d : ℕ) (u r : Bool) (v : Text) → d + 1 < 64 →
-    AtomAs n d (bare u) (put_line 94 r v) v (assertion (StartLine r))
+start_line : (n d : ℕ) (u r : Bool) (v : Text) → d + 1 < max_depth →
+    AtomAs n d (bare u) (put_line (code "^") r v) v (assertion (StartLine r))
 start_line n d u r v l =
     let f = multi_flags u r in
-    line_atom n d 94 u r v (assertion (StartLine r)) l (record {
+    line_atom n d (code "^") u r v (assertion (StartLine r)) l (record {
       clear = record { no_comment = refl; no_mark = refl };
       goes = refl;
     })
-    (anchor n (d + 1) f 94 (41 ∷ v) (StartLine r) (leaf_at n (d + 1) f 94 (41 ∷ v) refl refl))
+    (anchor n (d + 1) f (code "^") (code ")" ∷ v) (StartLine r) (leaf_at n (d + 1) f (code "^") (code ")" ∷ v) refl refl))
 
-end_line : (n d : ℕ) (u r : Bool) (v : Text) → d + 1 < 64 →
-    AtomAs n d (bare u) (put_line 36 r v) v (assertion (EndLine r))
+end_line : (n d : ℕ) (u r : Bool) (v : Text) → d + 1 < max_depth →
+    AtomAs n d (bare u) (put_line (code "$") r v) v (assertion (EndLine r))
 end_line n d u r v l =
     let f = multi_flags u r in
-    line_atom n d 36 u r v (assertion (EndLine r)) l (record {
+    line_atom n d (code "$") u r v (assertion (EndLine r)) l (record {
       clear = record { no_comment = refl; no_mark = refl };
       goes = refl;
     })
-    (anchor n (d + 1) f 36 (41 ∷ v) (EndLine r) (leaf_at n (d + 1) f 36 (41 ∷ v) refl refl))
+    (anchor n (d + 1) f (code "$") (code ")" ∷ v) (EndLine r) (leaf_at n (d + 1) f (code "$") (code ")" ∷ v) refl refl))
 
 -- an escape that is a leaf
 reads_assertion_escape : (n d : ℕ) (u : Bool) (t v : Text) (a : Assertion) →
     ((p : ℕ) → escape n (bare u) false p t ≡ gives (escaped.assertion a) v) →
-    AtomAs n d (bare u) (92 ∷ t) v (assertion a)
+    AtomAs n d (bare u) (code "\\" ∷ t) v (assertion a)
 reads_assertion_escape n d u t v a e =
-    reads_leaf n d (bare u) (92 ∷ t) v (assertion a)
-    (leaf_at n d (bare u) 92 t refl refl
-    ∙ ap (λ r. leaf (leaf_outcome leaf_node (st (bare u) (92 ∷ t)) r)) (e (place_of n (92 ∷ t))))
+    reads_leaf n d (bare u) (code "\\" ∷ t) v (assertion a)
+    (leaf_at n d (bare u) (code "\\") t refl refl
+    ∙ ap (λ r. leaf (leaf_outcome leaf_node (st (bare u) (code "\\" ∷ t)) r)) (e (place_of n (code "\\" ∷ t))))
     (record { is = λ g. refl; groups = tt })
 
 half_start : (n p : ℕ) (v : Text) →
-    boundary n false p false (123 ∷ 115 ∷ 116 ∷ 97 ∷ 114 ∷ 116 ∷ 45 ∷ 104 ∷ 97 ∷ 108 ∷ 102 ∷ 125 ∷ v) ≡ gives
+    boundary n false p false (code "{" ∷ code "s" ∷ code "t" ∷ code "a" ∷ code "r" ∷ code "t" ∷ code "-" ∷ code "h" ∷ code "a" ∷ code "l" ∷ code "f" ∷ code "}" ∷ v) ≡ gives
     (escaped.assertion LeftWordHalfBoundary) v
 unfolding boundary named_boundary name layout_from
 half_start n p v = refl
 
 half_end : (n p : ℕ) (v : Text) →
-    boundary n false p false (123 ∷ 101 ∷ 110 ∷ 100 ∷ 45 ∷ 104 ∷ 97 ∷ 108 ∷ 102 ∷ 125 ∷ v) ≡ gives
+    boundary n false p false (code "{" ∷ code "e" ∷ code "n" ∷ code "d" ∷ code "-" ∷ code "h" ∷ code "a" ∷ code "l" ∷ code "f" ∷ code "}" ∷ v) ≡ gives
     (escaped.assertion RightWordHalfBoundary) v
 unfolding boundary named_boundary name layout_from
 half_end n p v = refl
 
 boundary_escape : (n : ℕ) (u : Bool) (p : ℕ) (t : Text) →
-    escape n (bare u) false p (98 ∷ t) ≡ boundary n false p false t
+    escape n (bare u) false p (code "b" ∷ t) ≡ boundary n false p false t
 unfolding escape outside
 boundary_escape n u p t = refl
 
 no_boundary_escape : (n : ℕ) (u : Bool) (p : ℕ) (t : Text) →
-    escape n (bare u) false p (66 ∷ t) ≡ boundary n false p true t
+    escape n (bare u) false p (code "B" ∷ t) ≡ boundary n false p true t
 unfolding escape outside
 no_boundary_escape n u p t = refl
 
 left_escape : (n : ℕ) (u : Bool) (p : ℕ) (t : Text) →
-    escape n (bare u) false p (60 ∷ t) ≡ gives (escaped.assertion LeftWordBoundary) t
+    escape n (bare u) false p (code "<" ∷ t) ≡ gives (escaped.assertion LeftWordBoundary) t
 unfolding escape outside
 left_escape n u p t = refl
 
 right_escape : (n : ℕ) (u : Bool) (p : ℕ) (t : Text) →
-    escape n (bare u) false p (62 ∷ t) ≡ gives (escaped.assertion RightWordBoundary) t
+    escape n (bare u) false p (code ">" ∷ t) ≡ gives (escaped.assertion RightWordBoundary) t
 unfolding escape outside
 right_escape n u p t = refl
 
@@ -248,22 +250,22 @@ abbrev pub HasText : Assertion → Type 0
 HasText (EndTextIgnoreTrailingNewlines crlf) = ⊥
 HasText _ = Unit {0}
 
-pub reads_assertion : (n d : ℕ) (u : Bool) (a : Assertion) (v : Text) → HasText a → d + one_if (is_line a) < 64 →
+pub reads_assertion : (n d : ℕ) (u : Bool) (a : Assertion) (v : Text) → HasText a → d + one_if (is_line a) < max_depth →
     NoName v → AtomAs n d (bare u) (put_assertion a v) v (read_assertion a)
-reads_assertion n d u StartText v h l m = anchor n d (bare u) 94 v StartText (leaf_at n d (bare u) 94 v refl refl)
-reads_assertion n d u EndText v h l m = anchor n d (bare u) 36 v EndText (leaf_at n d (bare u) 36 v refl refl)
+reads_assertion n d u StartText v h l m = anchor n d (bare u) (code "^") v StartText (leaf_at n d (bare u) (code "^") v refl refl)
+reads_assertion n d u EndText v h l m = anchor n d (bare u) (code "$") v EndText (leaf_at n d (bare u) (code "$") v refl refl)
 reads_assertion n d u (EndTextIgnoreTrailingNewlines crlf) v h l m = absurd h
 reads_assertion n d u (StartLine crlf) v h l m = start_line n d u crlf v l
 reads_assertion n d u (StartLineOniguruma crlf) v h l m = start_line n d u crlf v l
 reads_assertion n d u (EndLine crlf) v h l m = end_line n d u crlf v l
 reads_assertion n d u WordBoundary v h l m =
-    reads_assertion_escape n d u (98 ∷ v) v WordBoundary (λ p. boundary_escape n u p v ∙ m n p false)
+    reads_assertion_escape n d u (code "b" ∷ v) v WordBoundary (λ p. boundary_escape n u p v ∙ m n p false)
 reads_assertion n d u NotWordBoundary v h l m =
-    reads_assertion_escape n d u (66 ∷ v) v NotWordBoundary (λ p. no_boundary_escape n u p v ∙ m n p true)
+    reads_assertion_escape n d u (code "B" ∷ v) v NotWordBoundary (λ p. no_boundary_escape n u p v ∙ m n p true)
 reads_assertion n d u LeftWordBoundary v h l m =
-    reads_assertion_escape n d u (60 ∷ v) v LeftWordBoundary (λ p. left_escape n u p v)
+    reads_assertion_escape n d u (code "<" ∷ v) v LeftWordBoundary (λ p. left_escape n u p v)
 reads_assertion n d u RightWordBoundary v h l m =
-    reads_assertion_escape n d u (62 ∷ v) v RightWordBoundary (λ p. right_escape n u p v)
+    reads_assertion_escape n d u (code ">" ∷ v) v RightWordBoundary (λ p. right_escape n u p v)
 reads_assertion n d u LeftWordHalfBoundary v h l m =
     reads_assertion_escape n d u _ v LeftWordHalfBoundary (λ p. boundary_escape n u p _ ∙ half_start n p v)
 reads_assertion n d u RightWordHalfBoundary v h l m =
@@ -275,7 +277,7 @@ begins_line c true v = begins_by refl refl refl
 
 pub begins_assertion : (a : Assertion) (v : Text) → HasText a → Begins (put_assertion a v)
 begins_assertion (EndTextIgnoreTrailingNewlines crlf) v h = absurd h
-begins_assertion (StartLine crlf) v h = begins_line 94 crlf v
-begins_assertion (StartLineOniguruma crlf) v h = begins_line 94 crlf v
-begins_assertion (EndLine crlf) v h = begins_line 36 crlf v
+begins_assertion (StartLine crlf) v h = begins_line (code "^") crlf v
+begins_assertion (StartLineOniguruma crlf) v h = begins_line (code "^") crlf v
+begins_assertion (EndLine crlf) v h = begins_line (code "$") crlf v
 begins_assertion _ v h = begins_by refl refl refl

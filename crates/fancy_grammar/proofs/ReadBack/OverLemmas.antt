@@ -6,7 +6,9 @@ use Rattle.std.proofs.lemmas.List.Folds.{find-append}
 use Rattle.std.specs.Prelude.{find, max}
 use Rattle.std.specs.Option.{option_or}
 use Rattle.std.proofs.Common.{leb-true, leb-false}
+use Prim.Native.Char.{code}
 use Rattle.fancy_lex.specs.Text.{Text, bytes}
+use Rattle.fancy_grammar.specs.Depth.{max_depth}
 use Rattle.fancy_grammar.specs.Printed.{is_long, printed}
 use Rattle.fancy_grammar.specs.Tree.{Tree, Trees, no_trees, more_trees, any, assertion, literal, concat, alt, group, repeat, delegate}
 use Rattle.fancy_grammar.specs.Nest.{one_if, is_line, nest, nests}
@@ -32,17 +34,17 @@ abbrev mutual
 
   pub places : Trees → ℕ → ℕ
   places no_trees d = 0
-  places (more_trees t ts) d = if nat_le 64 (d + nest t 2) then place t 2 d else bytes (printed t 2) + places ts d
+  places (more_trees t ts) d = if nat_le max_depth (d + nest t 2) then place t 2 d else bytes (printed t 2) + places ts d
 
   pub branch_places : Trees → ℕ → ℕ
   branch_places no_trees d = 0
   branch_places (more_trees t ts) d =
-      if nat_le 64 (d + nest t 1) then place t 1 d else bytes (printed t 1) + barred_places ts d
+      if nat_le max_depth (d + nest t 1) then place t 1 d else bytes (printed t 1) + barred_places ts d
 
   pub barred_places : Trees → ℕ → ℕ
   barred_places no_trees d = 0
   barred_places (more_trees t ts) d =
-      1 + (if nat_le 64 (d + nest t 1) then place t 1 d else bytes (printed t 1) + barred_places ts d)
+      1 + (if nat_le max_depth (d + nest t 1) then place t 1 d else bytes (printed t 1) + barred_places ts d)
 
 -- ---- the parentheses, in which so many groups nest, have their first that is too deep there
 
@@ -50,8 +52,8 @@ abbrev first : List Paren → Option Paren
 first l = find is_too_deep l
 
 record Finds (k : Parens) (m : ℕ) (o : ℕ → ℕ) : Type 0 where
-  deep : (start d : ℕ) → d < 64 → 64 ≤ d + m → first (k start d) ≡ Some (record { place = start + o d; round = 63 })
-  shallow : (start d : ℕ) → d + m < 64 → first (k start d) ≡ None
+  deep : (start d : ℕ) → d < max_depth → max_depth ≤ d + m → first (k start d) ≡ Some (record { place = start + o d; round = 63 })
+  shallow : (start d : ℕ) → d + m < max_depth → first (k start d) ≡ None
 
 no_group : Finds no_parens 0 (λ d. 0)
 no_group = record { deep = λ start d l h. absurd (omega arith); shallow = λ start d h. refl }
@@ -61,25 +63,25 @@ at_same : (x y : ℕ) → x ≡ y →
 at_same x y e = ap (λ z. Some (record { place = z; round = 63 })) e
 
 -- a group that is too deep
-at_head : (start d : ℕ) (l : List Paren) → d ≡ 63 →
+at_head : (start d : ℕ) (l : List Paren) → d ≡ code "?" →
     first (record { place = start; round = d } ∷ l) ≡ Some (record { place = start + 0; round = 63 })
 at_head start d l e =
     let same : start ≡ start + 0 = omega arith in
     cond-true _ _ _ (deep d e) ∙ (λ i. Some (record { place = same i; round = e i }))
   where
-    deep : (n : ℕ) → n ≡ 63 → (n + 1 == 64) ≡ true
+    deep : (n : ℕ) → n ≡ code "?" → (n + 1 == max_depth) ≡ true
     deep n h = grind (arith, nat_tests)
 
 -- inside a group
 behind_head : (q : Paren) (l : List Paren) → q.round < 63 → first (q ∷ l) ≡ first l
 behind_head q l h = cond-false _ _ _ (not_deep q.round h)
   where
-    not_deep : (n : ℕ) → n < 63 → (n + 1 == 64) ≡ false
+    not_deep : (n : ℕ) → n < 63 → (n + 1 == max_depth) ≡ false
     not_deep n h = grind (arith, nat_tests)
 
 group_deep : (head : Text) (k : Parens) (m : ℕ) (o : ℕ → ℕ) → Finds k m o → (b : Bool) (start d : ℕ) →
-    nat_le 63 d ≡ b → d < 64 →
-    64 ≤ d + (1 + m) → first (in_group true head k start d) ≡
+    nat_le 63 d ≡ b → d < max_depth →
+    max_depth ≤ d + (1 + m) → first (in_group true head k start d) ≡
     Some (record { place = start + (if b then 0 else bytes head + o (d + 1)); round = 63 })
 group_deep head k m o f true start d e l h =
     at_head start d (k (start + bytes head) (d + 1)) (omega (arith, leb-true 63 d e))
@@ -89,7 +91,7 @@ group_deep head k m o f false start d e l h =
     ∙ f.deep (start + bytes head) (d + 1) (omega arith) (omega arith)
     ∙ at_same _ _ (omega arith)
 
-group_shallow : (head : Text) (k : Parens) (m : ℕ) (o : ℕ → ℕ) → Finds k m o → (start d : ℕ) → d + (1 + m) < 64 →
+group_shallow : (head : Text) (k : Parens) (m : ℕ) (o : ℕ → ℕ) → Finds k m o → (start d : ℕ) → d + (1 + m) < max_depth →
     first (in_group true head k start d) ≡ None
 group_shallow head k m o f start d h =
     behind_head (record { place = start; round = d }) (k (start + bytes head) (d + 1)) (omega arith)
@@ -129,12 +131,12 @@ in_deep a b q e = find-append is_too_deep a b ∙ ap (λ o. option_or o (first b
 
 -- two parts, the second w bytes behind the start of the first
 both_find : (k l : Parens) (m n w : ℕ) (o r : ℕ → ℕ) → Finds k m o → Finds l n r →
-    Finds (λ start d. k start d ++ l (start + w) d) (max m n) (λ d. if nat_le 64 (d + m) then o d else w + r d)
+    Finds (λ start d. k start d ++ l (start + w) d) (max m n) (λ d. if nat_le max_depth (d + m) then o d else w + r d)
 both_find k l m n w o r f g = record {
-  deep = λ start d h i. cond_both (nat_le 64 (d + m)) _ _
+  deep = λ start d h i. cond_both (nat_le max_depth (d + m)) _ _
       (λ x. first (k start d ++ l (start + w) d) ≡ Some (record { place = start + x; round = 63 }))
-      (λ yes. in_deep (k start d) (l (start + w) d) _ (f.deep start d h (leb-true 64 (d + m) yes)))
-      (λ no. let a = leb-false 64 (d + m) no in
+      (λ yes. in_deep (k start d) (l (start + w) d) _ (f.deep start d h (leb-true max_depth (d + m) yes)))
+      (λ no. let a = leb-false max_depth (d + m) no in
       behind_shallow (k start d) (l (start + w) d) (f.shallow start d a) ∙ g.deep (start + w) d h (omega arith)
       ∙ at_same _ _ (omega arith));
   shallow = λ start d h.
@@ -192,7 +194,7 @@ mutual
       (barred_places ts) (parens_find t 1) (barred_find ts))
 
 -- the first that is too deep stands there
-pub over_place : (t : Tree) (p : ℕ) → 64 ≤ nest t p → over t p ≡ place t p 0
+pub over_place : (t : Tree) (p : ℕ) → max_depth ≤ nest t p → over t p ≡ place t p 0
 over_place t p h =
     ap (λ o. unwrap_or (option_map (λ q. q.place) o) 0) ((parens_find t p).deep 0 0 (omega arith) (omega arith))
     ∙ omega arith

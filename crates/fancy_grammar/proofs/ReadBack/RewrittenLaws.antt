@@ -3,6 +3,7 @@ use Rattle.std.proofs.Common.{◌≡◌, ℕ, Bool, true, false, ◌&&◌, ◌==
 use Rattle.std.proofs.lemmas.Bool.{and_from, and_parts}
 use Rattle.std.specs.Char.{IsScalar}
 use Rattle.std.specs.Str.{all_scalars}
+use Prim.Native.Char.{code}
 use Rattle.fancy_lex.specs.Class.{Class, class_items, Items, close, plain, escaped, nested, written, class_head, with_mark, item_text, joint, escape_text, is_plain, is_negated}
 use Rattle.fancy_lex.specs.Escape.{escape}
 use Rattle.fancy_lex.specs.Escaped.{Escape, literal, literal_bytes, delegate}
@@ -37,10 +38,10 @@ same_front k c t w = by_test (c == k) where
 
 -- what the beginning of a class takes
 data Heads (t : Text) : Text → Text → Type 0 where
-  plain_head : strip 94 t ≡ None → strip 93 t ≡ None → Heads t (91 ∷ []) t
-  caret_head : (u : Text) → t ≡ 94 ∷ u → strip 93 u ≡ None → Heads t (91 ∷ 94 ∷ []) u
-  close_head : (u : Text) → t ≡ 93 ∷ u → Heads t (91 ∷ 93 ∷ []) u
-  both_head : (u : Text) → t ≡ 94 ∷ 93 ∷ u → Heads t (91 ∷ 94 ∷ 93 ∷ []) u
+  plain_head : strip (code "^") t ≡ None → strip (code "]") t ≡ None → Heads t (code "[" ∷ []) t
+  caret_head : (u : Text) → t ≡ code "^" ∷ u → strip (code "]") u ≡ None → Heads t (code "[" ∷ code "^" ∷ []) u
+  close_head : (u : Text) → t ≡ code "]" ∷ u → Heads t (code "[" ∷ code "]" ∷ []) u
+  both_head : (u : Text) → t ≡ code "^" ∷ code "]" ∷ u → Heads t (code "[" ∷ code "^" ∷ code "]" ∷ []) u
 
 -- the head and the rest of a class, by the first characters
 data Opened (t : Text) : Text × Text → Type 0 where
@@ -48,47 +49,47 @@ data Opened (t : Text) : Text × Text → Type 0 where
 
 class_head_is : (t : Text) → Opened t (class_head [] t)
 unfolding class_head
-class_head_is [] = opened (91 ∷ []) [] (plain_head refl refl)
-class_head_is (c ∷ t) = by_caret (c == 94) refl where
-  behind_caret : (t : Text) → (c == 94) ≡ true → Opened (c ∷ t) (with_mark 93 (91 ∷ 94 ∷ [], t))
-  behind_caret [] e = opened _ _ (caret_head [] (ap (λ x. x ∷ []) (eqb-true c 94 e)) refl)
-  behind_caret (d ∷ t) e = by_close (d == 93) refl where
-    by_close : (x : Bool) → (d == 93) ≡ x →
-        Opened (c ∷ d ∷ t) (choose {B = Text × Text} (if x then Some t else None) (λ u. (91 ∷ 94 ∷ 93 ∷ [], u))
-        (91 ∷ 94 ∷ [], d ∷ t))
-    by_close true q = opened _ _ (both_head t (ap₂ (λ x y. x ∷ y ∷ t) (eqb-true c 94 e) (eqb-true d 93 q)))
-    by_close false q = opened _ _ (caret_head (d ∷ t) (ap (λ x. x ∷ d ∷ t) (eqb-true c 94 e)) (rw q refl))
+class_head_is [] = opened (code "[" ∷ []) [] (plain_head refl refl)
+class_head_is (c ∷ t) = by_caret (c == code "^") refl where
+  behind_caret : (t : Text) → (c == code "^") ≡ true → Opened (c ∷ t) (with_mark (code "]") (code "[" ∷ code "^" ∷ [], t))
+  behind_caret [] e = opened _ _ (caret_head [] (ap (λ x. x ∷ []) (eqb-true c (code "^") e)) refl)
+  behind_caret (d ∷ t) e = by_close (d == code "]") refl where
+    by_close : (x : Bool) → (d == code "]") ≡ x →
+        Opened (c ∷ d ∷ t) (choose {B = Text × Text} (if x then Some t else None) (λ u. (code "[" ∷ code "^" ∷ code "]" ∷ [], u))
+        (code "[" ∷ code "^" ∷ [], d ∷ t))
+    by_close true q = opened _ _ (both_head t (ap₂ (λ x y. x ∷ y ∷ t) (eqb-true c (code "^") e) (eqb-true d (code "]") q)))
+    by_close false q = opened _ _ (caret_head (d ∷ t) (ap (λ x. x ∷ d ∷ t) (eqb-true c (code "^") e)) (rw q refl))
 
-  no_caret : (x : Bool) → (c == 93) ≡ x → (c == 94) ≡ false →
-      Opened (c ∷ t) (choose {B = Text × Text} (if x then Some t else None) (λ u. (91 ∷ 93 ∷ [], u)) (91 ∷ [], c ∷ t))
-  no_caret true q e = opened _ _ (close_head t (ap (λ x. x ∷ t) (eqb-true c 93 q)))
+  no_caret : (x : Bool) → (c == code "]") ≡ x → (c == code "^") ≡ false →
+      Opened (c ∷ t) (choose {B = Text × Text} (if x then Some t else None) (λ u. (code "[" ∷ code "]" ∷ [], u)) (code "[" ∷ [], c ∷ t))
+  no_caret true q e = opened _ _ (close_head t (ap (λ x. x ∷ t) (eqb-true c (code "]") q)))
   no_caret false q e = opened _ _ (plain_head (rw e refl) (rw q refl))
 
-  by_caret : (x : Bool) → (c == 94) ≡ x →
-      Opened (c ∷ t) (with_mark 93
-      (choose {B = Text × Text} (if x then Some t else None) (λ u. (91 ∷ 94 ∷ [], u)) (91 ∷ [], c ∷ t)))
+  by_caret : (x : Bool) → (c == code "^") ≡ x →
+      Opened (c ∷ t) (with_mark (code "]")
+      (choose {B = Text × Text} (if x then Some t else None) (λ u. (code "[" ∷ code "^" ∷ [], u)) (code "[" ∷ [], c ∷ t)))
   by_caret true e = behind_caret t e
-  by_caret false e = no_caret (c == 93) refl e
+  by_caret false e = no_caret (c == code "]") refl e
 
-open_close : (t : Text) → ◌≡◌ {A = Text × Text} (class_head [] (93 ∷ t)) (91 ∷ 93 ∷ [], t)
+open_close : (t : Text) → ◌≡◌ {A = Text × Text} (class_head [] (code "]" ∷ t)) (code "[" ∷ code "]" ∷ [], t)
 unfolding class_head
 open_close t = refl
 
-open_both : (t : Text) → ◌≡◌ {A = Text × Text} (class_head [] (94 ∷ 93 ∷ t)) (91 ∷ 94 ∷ 93 ∷ [], t)
+open_both : (t : Text) → ◌≡◌ {A = Text × Text} (class_head [] (code "^" ∷ code "]" ∷ t)) (code "[" ∷ code "^" ∷ code "]" ∷ [], t)
 unfolding class_head
 open_both t = refl
 
 -- what is written for items that were read from t
 record ItemsAgain (t w : Text) : Type 0 where
   goes : (m : ℕ) (s : Text) → Goes m (w ++ s) s
-  no_caret : strip 94 t ≡ None → (s : Text) → strip 94 (w ++ s) ≡ None
-  no_close : strip 93 t ≡ None → (s : Text) → strip 93 (w ++ s) ≡ None
+  no_caret : strip (code "^") t ≡ None → (s : Text) → strip (code "^") (w ++ s) ≡ None
+  no_close : strip (code "]") t ≡ None → (s : Text) → strip (code "]") (w ++ s) ≡ None
   scalars : all_scalars w ≡ true
 
 -- what is written for a class: a bracket, and what is a class behind it
 pub record ClassAgain (x : Text) : Type 0 where
   pub inner : Text
-  pub is : x ≡ 91 ∷ inner
+  pub is : x ≡ code "[" ∷ inner
   pub goes : (m : ℕ) (s : Text) → ClassGoes m (inner ++ s) s
   pub scalars : all_scalars inner ≡ true
 
@@ -100,21 +101,21 @@ head_again t head r w (plain_head a b) h = record {
   scalars = h.scalars;
 }
 head_again t head r w (caret_head u e b) h = record {
-  inner = 94 ∷ w;
+  inner = code "^" ∷ w;
   is = refl;
-  goes = λ m s. pass_class m (94 ∷ (w ++ s)) _ (w ++ s) s (open_caret (w ++ s) (h.no_close b s)) (h.goes m s);
+  goes = λ m s. pass_class m (code "^" ∷ (w ++ s)) _ (w ++ s) s (open_caret (w ++ s) (h.no_close b s)) (h.goes m s);
   scalars = h.scalars;
 }
 head_again t head r w (close_head u e) h = record {
-  inner = 93 ∷ w;
+  inner = code "]" ∷ w;
   is = refl;
-  goes = λ m s. pass_class m (93 ∷ (w ++ s)) _ (w ++ s) s (open_close (w ++ s)) (h.goes m s);
+  goes = λ m s. pass_class m (code "]" ∷ (w ++ s)) _ (w ++ s) s (open_close (w ++ s)) (h.goes m s);
   scalars = h.scalars;
 }
 head_again t head r w (both_head u e) h = record {
-  inner = 94 ∷ 93 ∷ w;
+  inner = code "^" ∷ code "]" ∷ w;
   is = refl;
-  goes = λ m s. pass_class m (94 ∷ 93 ∷ (w ++ s)) _ (w ++ s) s (open_both (w ++ s)) (h.goes m s);
+  goes = λ m s. pass_class m (code "^" ∷ code "]" ∷ (w ++ s)) _ (w ++ s) s (open_both (w ++ s)) (h.goes m s);
   scalars = h.scalars;
 }
 
@@ -127,22 +128,22 @@ from_fine o e r q h = subst FineOf q h
 plain_again : (c : ℕ) (t w : Text) → is_plain c ≡ true → IsScalar c → ItemsAgain t w → ItemsAgain (c ∷ t) (c ∷ w)
 plain_again c t w p k h = record {
   goes = λ m s. pass_plain m c (w ++ s) s p (h.goes m s);
-  no_caret = λ e s. same_front 94 c t (w ++ s) e;
-  no_close = λ e s. same_front 93 c t (w ++ s) e;
+  no_caret = λ e s. same_front (code "^") c t (w ++ s) e;
+  no_close = λ e s. same_front (code "]") c t (w ++ s) e;
   scalars = and_from _ _ k h.scalars;
 }
 
-escaped_again : (t r w x : Text) → Chunk x → ItemsAgain r w → ItemsAgain (92 ∷ t) (x ++ w)
+escaped_again : (t r w x : Text) → Chunk x → ItemsAgain r w → ItemsAgain (code "\\" ∷ t) (x ++ w)
 escaped_again t r w x c h = record {
   goes = λ m s. subst (λ z. Goes m z s) (sym (append_assoc x w s)) (c.goes m (w ++ s) s (h.goes m s));
-  no_caret = λ _ s. ap (strip 94) (append_assoc x w s) ∙ c.no_caret (w ++ s);
-  no_close = λ _ s. ap (strip 93) (append_assoc x w s) ∙ c.no_close (w ++ s);
+  no_caret = λ _ s. ap (strip (code "^")) (append_assoc x w s) ∙ c.no_caret (w ++ s);
+  no_close = λ _ s. ap (strip (code "]")) (append_assoc x w s) ∙ c.no_close (w ++ s);
   scalars = scalars_append x w c.scalars h.scalars;
 }
 
-nested_again : (t r w x : Text) → ClassAgain x → ItemsAgain r w → ItemsAgain (91 ∷ t) (x ++ w)
+nested_again : (t r w x : Text) → ClassAgain x → ItemsAgain r w → ItemsAgain (code "[" ∷ t) (x ++ w)
 nested_again t r w x c h =
-    subst (λ z. ItemsAgain (91 ∷ t) (z ++ w)) (sym c.is)
+    subst (λ z. ItemsAgain (code "[" ∷ t) (z ++ w)) (sym c.is)
     (record {
       goes =
           λ m s. pass_nested m ((c.inner ++ w) ++ s) (w ++ s) s
@@ -199,7 +200,7 @@ mutual
       record {
         goes = λ m s. pass_close m s;
         no_caret = λ _ s. refl;
-        no_close = λ e s. same_front 93 93 _ s e;
+        no_close = λ e s. same_front (code "]") (code "]") _ s e;
         scalars = refl;
       }
   items_again (plain {c} {t} {w} p h) k =

@@ -4,6 +4,7 @@ use Rattle.std.proofs.lemmas.Bool.{cond-true, cond-false}
 use Rattle.std.proofs.lemmas.Bool.Decides.{nat_tests}
 use Rattle.std.proofs.Math.Bool.{and-true, and-false, not-not}
 use Rattle.std.proofs.lemmas.List.{map-append}
+use Prim.Native.Char.{code}
 use Rattle.fancy_lex.specs.Fault.{Kind, recursion_exceeded}
 use Rattle.fancy_lex.specs.Layout.{layout, after_comment_head, rest}
 use Rattle.fancy_lex.specs.Reading.{gives, choose, layout_reading}
@@ -279,7 +280,7 @@ lazy_read n f c v true k h =
     ∙ ap (λ o. choose o (behind_lazy (st f v) c true) (behind_lazy (st f v) c false v)) (clear_lazy v h)
     ∙ no_possessive f c false v v h
 lazy_read n f c v false k h =
-    ap (suffix_at (st f (63 ∷ v)) c) (skip_here n f (63 ∷ v) k refl) ∙ no_possessive f c true (63 ∷ v) v h
+    ap (suffix_at (st f (code "?" ∷ v)) c) (skip_here n f (code "?" ∷ v) k refl) ∙ no_possessive f c true (code "?" ∷ v) v h
 
 quant_some : (n left : ℕ) (f : Flags) (a : Tree) (q v : Text) (lo hi : ℕ) (greedy : Bool) → Kept f → Clear v →
     IsQuantifier lo hi greedy v q → is_repeatable f a ≡ true →
@@ -333,7 +334,7 @@ reads_last n d f s v x b e = record {
   groups = (b.becomes.groups, tt);
 }
 
-pub reads_more : (n d : ℕ) (f : Flags) (s t v : Text) (x : Tree) (ys : List Tree) → BranchAs n d f s (124 ∷ t) x →
+pub reads_more : (n d : ℕ) (f : Flags) (s t v : Text) (x : Tree) (ys : List Tree) → BranchAs n d f s (code "|" ∷ t) x →
     BranchesAs n d f t v ys → BranchesAs n d f s v (x ∷ ys)
 reads_more n d f s t v x ys b bs = record {
   trees = b.tree ∷ bs.trees;
@@ -358,13 +359,13 @@ reads_only n d f s v x b e = reads_whole n d f s v (x ∷ []) (reads_last n d f 
 
 -- ---- groups
 
-not_deep : (d : ℕ) → d + 1 < 64 → nat_le max_depth (d + 1) ≡ false
+not_deep : (d : ℕ) → d + 1 < max_depth → nat_le max_depth (d + 1) ≡ false
 not_deep d h = grind (arith, nat_tests)
 
-head_at : (n d : ℕ) (f : Flags) (t : Text) → Kept f → d + 1 < 64 → after_comment_head t ≡ None →
-    ahead n d (st f (40 ∷ t)) ≡ head_ahead n (st f (40 ∷ t)) t
+head_at : (n d : ℕ) (f : Flags) (t : Text) → Kept f → d + 1 < max_depth → after_comment_head t ≡ None →
+    ahead n d (st f (code "(" ∷ t)) ≡ head_ahead n (st f (code "(" ∷ t)) t
 unfolding ahead
-head_at n d f t k l o = cond-false _ _ _ (not_deep d l) ∙ ap (behind_layout n (st f (40 ∷ t))) (skip_here n f t k o)
+head_at n d f t k l o = cond-false _ _ _ (not_deep d l) ∙ ap (behind_layout n (st f (code "(" ∷ t))) (skip_here n f t k o)
 
 some_none : {X : Type 0} (w : Text) → Some w ≡ None → X
 some_none w e = absurd cc
@@ -381,31 +382,31 @@ head_group n f s (x ∷ t) c = by_tests (clear_lazy (x ∷ t) c) (clear_star (x 
     by_cases false true p q w e g = some_none w g
     by_cases false false p q w e g = refl
 
-    by_tests : strip 63 (x ∷ t) ≡ None → strip 42 (x ∷ t) ≡ None →
+    by_tests : strip (code "?") (x ∷ t) ≡ None → strip (code "*") (x ∷ t) ≡ None →
         head_ahead n (st f s) (x ∷ t) ≡ with_head (capture None) (st f (x ∷ t))
-    by_tests a b = by_cases (x == 63) (x == 42) _ _ t a b
+    by_tests a b = by_cases (x == code "?") (x == code "*") _ _ t a b
 
-group_at : (n d : ℕ) (f : Flags) (s : Text) → Kept f → d + 1 < 64 → Clear s →
-    ahead n d (st f (40 ∷ s)) ≡ with_head (capture None) (st f s)
-group_at n d f s k l c = head_at n d f s k l c.no_comment ∙ head_group n f (40 ∷ s) s c
+group_at : (n d : ℕ) (f : Flags) (s : Text) → Kept f → d + 1 < max_depth → Clear s →
+    ahead n d (st f (code "(" ∷ s)) ≡ with_head (capture None) (st f s)
+group_at n d f s k l c = head_at n d f s k l c.no_comment ∙ head_group n f (code "(" ∷ s) s c
 
 -- a capturing group
-pub reads_group : (n d : ℕ) (f : Flags) (s v : Text) (x : Tree) → Kept f → d + 1 < 64 → Clear s →
-    WholeAs n (d + 1) f s (41 ∷ v) x → AtomAs n d f (40 ∷ s) v (tree.group x)
+pub reads_group : (n d : ℕ) (f : Flags) (s v : Text) (x : Tree) → Kept f → d + 1 < max_depth → Clear s →
+    WholeAs n (d + 1) f s (code ")" ∷ v) x → AtomAs n d f (code "(" ∷ s) v (tree.group x)
 reads_group n d f s v x k l c w = record {
-  tree = ast_node (ast_group None w.tree) (place_of n (40 ∷ s));
+  tree = ast_node (ast_group None w.tree) (place_of n (code "(" ∷ s));
   derives = atom (group_at n d f s k l c) (a_group (inside w.derives refl) refl) refl;
   becomes = record { is = λ g. ap tree.group (w.becomes.is g); groups = (refl, w.becomes.groups) };
 }
 
 -- a group of flags, whose letters begin with one that begins no other head
-pub scope_at : (n d : ℕ) (f g : Flags) (t u : Text) → Kept f → d + 1 < 64 → after_comment_head (63 ∷ t) ≡ None →
-    question_ahead n (st f (40 ∷ 63 ∷ t)) t ≡ flags_ahead (letters.letters n f t) →
-    letters.letters n f t ≡ gives (letters.scope g) u → ahead n d (st f (40 ∷ 63 ∷ t)) ≡ with_head scope (st g u)
-scope_at n d f g t u k l o q e = head_at n d f (63 ∷ t) k l o ∙ q ∙ ap flags_ahead e
+pub scope_at : (n d : ℕ) (f g : Flags) (t u : Text) → Kept f → d + 1 < max_depth → after_comment_head (code "?" ∷ t) ≡ None →
+    question_ahead n (st f (code "(" ∷ code "?" ∷ t)) t ≡ flags_ahead (letters.letters n f t) →
+    letters.letters n f t ≡ gives (letters.scope g) u → ahead n d (st f (code "(" ∷ code "?" ∷ t)) ≡ with_head scope (st g u)
+scope_at n d f g t u k l o q e = head_at n d f (code "?" ∷ t) k l o ∙ q ∙ ap flags_ahead e
 
 pub reads_scope : (n d : ℕ) (f g : Flags) (s t v : Text) (x : Tree) → ahead n d (st f s) ≡ with_head scope (st g t) →
-    WholeAs n (d + 1) g t (41 ∷ v) x → AtomAs n d f s v x
+    WholeAs n (d + 1) g t (code ")" ∷ v) x → AtomAs n d f s v x
 reads_scope n d f g s t v x e w =
     record { tree = w.tree; derives = atom e (a_group (inside w.derives refl) refl) refl; becomes = w.becomes }
 
@@ -428,54 +429,54 @@ pub spelled : (n k : ℕ) (f : Flags) (t : Text) (l : Letters) (w : Text) → Sp
     letters.letters n f t ≡ gives l w
 spelled n k f t l w h m = letters_start n f t ∙ h (suc (bytes t)) (omega arith)
 
-colon : (n : ℕ) (f : Flags) (s : Text) → Kept f → letters.letters n f (58 ∷ s) ≡ gives (letters.scope f) s
+colon : (n : ℕ) (f : Flags) (s : Text) → Kept f → letters.letters n f (code ":" ∷ s) ≡ gives (letters.scope f) s
 colon n f s k =
-    spelled n 0 f (58 ∷ s) (letters.scope f) s (last_letter n (58 ∷ s) false f (58 ∷ s) k refl (letters.scope f) s refl)
+    spelled n 0 f (code ":" ∷ s) (letters.scope f) s (last_letter n (code ":" ∷ s) false f (code ":" ∷ s) k refl (letters.scope f) s refl)
     (omega arith)
 
-grouped_at : (n d : ℕ) (f : Flags) (s : Text) → Kept f → d + 1 < 64 →
-    ahead n d (st f (40 ∷ 63 ∷ 58 ∷ s)) ≡ with_head scope (st f s)
-grouped_at n d f s k l = scope_at n d f f (58 ∷ s) s k l refl refl (colon n f s k)
+grouped_at : (n d : ℕ) (f : Flags) (s : Text) → Kept f → d + 1 < max_depth →
+    ahead n d (st f (code "(" ∷ code "?" ∷ code ":" ∷ s)) ≡ with_head scope (st f s)
+grouped_at n d f s k l = scope_at n d f f (code ":" ∷ s) s k l refl refl (colon n f s k)
 
 -- `(?:`
-pub reads_grouped : (n d : ℕ) (f : Flags) (s v : Text) (x : Tree) → Kept f → d + 1 < 64 →
-    WholeAs n (d + 1) f s (41 ∷ v) x → AtomAs n d f (40 ∷ 63 ∷ 58 ∷ s) v x
-reads_grouped n d f s v x k l w = reads_scope n d f f (40 ∷ 63 ∷ 58 ∷ s) s v x (grouped_at n d f s k l) w
+pub reads_grouped : (n d : ℕ) (f : Flags) (s v : Text) (x : Tree) → Kept f → d + 1 < max_depth →
+    WholeAs n (d + 1) f s (code ")" ∷ v) x → AtomAs n d f (code "(" ∷ code "?" ∷ code ":" ∷ s) v x
+reads_grouped n d f s v x k l w = reads_scope n d f f (code "(" ∷ code "?" ∷ code ":" ∷ s) s v x (grouped_at n d f s k l) w
 
 -- one letter and a colon
-pub one_letter : (n : ℕ) (f g : Flags) (c : ℕ) (s : Text) → Kept f → Kept g → after_comment_head (c ∷ 58 ∷ s) ≡ None →
-    step n (c ∷ 58 ∷ s) false f (c ∷ 58 ∷ s) ≡ gives (goes false g) (58 ∷ s) →
-    letters.letters n f (c ∷ 58 ∷ s) ≡ gives (letters.scope g) s
+pub one_letter : (n : ℕ) (f g : Flags) (c : ℕ) (s : Text) → Kept f → Kept g → after_comment_head (c ∷ code ":" ∷ s) ≡ None →
+    step n (c ∷ code ":" ∷ s) false f (c ∷ code ":" ∷ s) ≡ gives (goes false g) (code ":" ∷ s) →
+    letters.letters n f (c ∷ code ":" ∷ s) ≡ gives (letters.scope g) s
 unfolding bytes
 one_letter n f g c s k m o e =
-    let t = c ∷ 58 ∷ s in
+    let t = c ∷ code ":" ∷ s in
     spelled n 1 f t (letters.scope g) s
-    (more_letters n t false f t k o 0 false g (58 ∷ s) (letters.scope g) s e
-    (last_letter n t false g (58 ∷ s) m refl (letters.scope g) s refl)) (omega arith)
+    (more_letters n t false f t k o 0 false g (code ":" ∷ s) (letters.scope g) s e
+    (last_letter n t false g (code ":" ∷ s) m refl (letters.scope g) s refl)) (omega arith)
 
 pub two_letters : (n : ℕ) (f g h : Flags) (b c : ℕ) (s : Text) → Kept f → Kept g → Kept h → 1 ≤ bytes (b ∷ []) →
-    after_comment_head (b ∷ c ∷ 58 ∷ s) ≡ None → after_comment_head (c ∷ 58 ∷ s) ≡ None →
-    step n (b ∷ c ∷ 58 ∷ s) false f (b ∷ c ∷ 58 ∷ s) ≡ gives (goes false g) (c ∷ 58 ∷ s) →
-    step n (b ∷ c ∷ 58 ∷ s) false g (c ∷ 58 ∷ s) ≡ gives (goes false h) (58 ∷ s) →
-    letters.letters n f (b ∷ c ∷ 58 ∷ s) ≡ gives (letters.scope h) s
+    after_comment_head (b ∷ c ∷ code ":" ∷ s) ≡ None → after_comment_head (c ∷ code ":" ∷ s) ≡ None →
+    step n (b ∷ c ∷ code ":" ∷ s) false f (b ∷ c ∷ code ":" ∷ s) ≡ gives (goes false g) (c ∷ code ":" ∷ s) →
+    step n (b ∷ c ∷ code ":" ∷ s) false g (c ∷ code ":" ∷ s) ≡ gives (goes false h) (code ":" ∷ s) →
+    letters.letters n f (b ∷ c ∷ code ":" ∷ s) ≡ gives (letters.scope h) s
 unfolding bytes
 two_letters n f g h b c s k m p z o q e r =
-    let t = b ∷ c ∷ 58 ∷ s in
+    let t = b ∷ c ∷ code ":" ∷ s in
     spelled n 2 f t (letters.scope h) s
-    (more_letters n t false f t k o 1 false g (c ∷ 58 ∷ s) (letters.scope h) s e
-    (more_letters n t false g (c ∷ 58 ∷ s) m q 0 false h (58 ∷ s) (letters.scope h) s r
-    (last_letter n t false h (58 ∷ s) p refl (letters.scope h) s refl))) (omega arith)
+    (more_letters n t false f t k o 1 false g (c ∷ code ":" ∷ s) (letters.scope h) s e
+    (more_letters n t false g (c ∷ code ":" ∷ s) m q 0 false h (code ":" ∷ s) (letters.scope h) s r
+    (last_letter n t false h (code ":" ∷ s) p refl (letters.scope h) s refl))) (omega arith)
 
 -- `(?i:`
-pub reads_caseless : (n d : ℕ) (u : Bool) (s v : Text) (x : Tree) → d + 1 < 64 →
-    WholeAs n (d + 1) (case_flags u true) s (41 ∷ v) x →
-    AtomAs n d (bare u) (40 ∷ 63 ∷ 105 ∷ 58 ∷ s) v x
+pub reads_caseless : (n d : ℕ) (u : Bool) (s v : Text) (x : Tree) → d + 1 < max_depth →
+    WholeAs n (d + 1) (case_flags u true) s (code ")" ∷ v) x →
+    AtomAs n d (bare u) (code "(" ∷ code "?" ∷ code "i" ∷ code ":" ∷ s) v x
 reads_caseless n d u s v x l w =
     let f = bare u in
     let g = case_flags u true in
-    reads_scope n d f g (40 ∷ 63 ∷ 105 ∷ 58 ∷ s) s v x
-    (scope_at n d f g (105 ∷ 58 ∷ s) s (kept_bare u) l refl refl
-    (one_letter n f g 105 s (kept_bare u) (kept_case u true) refl refl)) w
+    reads_scope n d f g (code "(" ∷ code "?" ∷ code "i" ∷ code ":" ∷ s) s v x
+    (scope_at n d f g (code "i" ∷ code ":" ∷ s) s (kept_bare u) l refl refl
+    (one_letter n f g (code "i") s (kept_bare u) (kept_case u true) refl refl)) w
 
 -- ---- leaves
 
@@ -483,7 +484,7 @@ pub reads_leaf : (n d : ℕ) (f : Flags) (s v : Text) (x : Tree) → ahead n d (
     Becomes x x → AtomAs n d f s v x
 reads_leaf n d f s v x e b = record { tree = x; derives = atom e a_leaf refl; becomes = b }
 
-pub leaf_at : (n d : ℕ) (f : Flags) (c : ℕ) (t : Text) → (c == 40) ≡ false → is_before_nothing c ≡ false →
+pub leaf_at : (n d : ℕ) (f : Flags) (c : ℕ) (t : Text) → (c == code "(") ≡ false → is_before_nothing c ≡ false →
     ahead n d (st f (c ∷ t)) ≡ leaf (leaf_of n (st f (c ∷ t)) c t)
 unfolding ahead
 leaf_at n d f c t a b = cond-false _ _ _ a ∙ cond-false _ _ _ b
@@ -511,33 +512,33 @@ reads_char n d f c v None e =
     (plain_leaf n d f c v e ∙ ap (λ b. leaf (done (literal (c ∷ []) b) (st f v))) (sym (and-true f.casei)))
     (record { is = λ g. refl; groups = tt })
 reads_char n d f c v (Some x) e =
-    reads_leaf n d f (92 ∷ x ∷ v) v (literal (c ∷ []) (f.casei && false))
-    (leaf_at n d f 92 (x ∷ v) refl refl
-    ∙ ap (λ r. leaf (leaf_outcome leaf_node (st f (92 ∷ x ∷ v)) r)) (behind_some c x e n f (place_of n (92 ∷ x ∷ v)) v)
+    reads_leaf n d f (code "\\" ∷ x ∷ v) v (literal (c ∷ []) (f.casei && false))
+    (leaf_at n d f (code "\\") (x ∷ v) refl refl
+    ∙ ap (λ r. leaf (leaf_outcome leaf_node (st f (code "\\" ∷ x ∷ v)) r)) (behind_some c x e n f (place_of n (code "\\" ∷ x ∷ v)) v)
     ∙ ap (λ b. leaf (done (literal (c ∷ []) b) (st f v))) (sym (and-false f.casei)))
     (record { is = λ g. refl; groups = tt })
 
 -- ---- faults
 
 -- a group that is too deep
-pub fails_deep : (n d : ℕ) (f : Flags) (t : Text) → 64 ≤ d + 1 →
-    Atom n d (st f (40 ∷ t)) (fault recursion_exceeded (place_of n (40 ∷ t)))
+pub fails_deep : (n d : ℕ) (f : Flags) (t : Text) → max_depth ≤ d + 1 →
+    Atom n d (st f (code "(" ∷ t)) (fault recursion_exceeded (place_of n (code "(" ∷ t)))
 unfolding ahead
 fails_deep n d f t h =
-    let deep : nat_le max_depth (d + 1) ≡ true = le-leb 64 (d + 1) h in atom (cond-true _ _ _ deep) a_leaf refl
+    let deep : nat_le max_depth (d + 1) ≡ true = le-leb max_depth (d + 1) h in atom (cond-true _ _ _ deep) a_leaf refl
 
 module _ (n d : ℕ) (f : Flags) (k : Kind) (p : ℕ) where
   fails_head : (g : Flags) (h : Head) (s t : Text) → ahead n d (st f s) ≡ with_head h (st g t) →
       Alternation n (d + 1) (st g t) (fault k p) → Atom n d (st f s) (fault k p)
   fails_head g h s t e w = atom e (a_group (inside w refl) refl) refl
 
-  pub fails_group : (s : Text) → Kept f → d + 1 < 64 → Clear s → Alternation n (d + 1) (st f s) (fault k p) →
-      Atom n d (st f (40 ∷ s)) (fault k p)
-  fails_group s h l c w = fails_head f (capture None) (40 ∷ s) s (group_at n d f s h l c) w
+  pub fails_group : (s : Text) → Kept f → d + 1 < max_depth → Clear s → Alternation n (d + 1) (st f s) (fault k p) →
+      Atom n d (st f (code "(" ∷ s)) (fault k p)
+  fails_group s h l c w = fails_head f (capture None) (code "(" ∷ s) s (group_at n d f s h l c) w
 
-  pub fails_grouped : (s : Text) → Kept f → d + 1 < 64 → Alternation n (d + 1) (st f s) (fault k p) →
-      Atom n d (st f (40 ∷ 63 ∷ 58 ∷ s)) (fault k p)
-  fails_grouped s h l w = fails_head f scope (40 ∷ 63 ∷ 58 ∷ s) s (grouped_at n d f s h l) w
+  pub fails_grouped : (s : Text) → Kept f → d + 1 < max_depth → Alternation n (d + 1) (st f s) (fault k p) →
+      Atom n d (st f (code "(" ∷ code "?" ∷ code ":" ∷ s)) (fault k p)
+  fails_grouped s h l w = fails_head f scope (code "(" ∷ code "?" ∷ code ":" ∷ s) s (grouped_at n d f s h l) w
 
   pub fails_piece : (s : Text) → Kept f → states.ends s ≡ false → after_comment_head s ≡ None →
       Atom n d (st f s) (fault k p) → Pieces n d (st f s) (fault k p)
@@ -546,7 +547,7 @@ module _ (n d : ℕ) (f : Flags) (k : Kind) (p : ℕ) where
   pub fails_first : (s : Text) → Pieces n d (st f s) (fault k p) → Branches n d (st f s) (fault k p)
   fails_first s q = branch_fault (branch q refl)
 
-  pub fails_more : (s t : Text) (x : Tree) → BranchAs n d f s (124 ∷ t) x → Branches n d (st f t) (fault k p) →
+  pub fails_more : (s t : Text) (x : Tree) → BranchAs n d f s (code "|" ∷ t) x → Branches n d (st f t) (fault k p) →
       Branches n d (st f s) (fault k p)
   fails_more s t x b q = more b.derives refl q refl
 

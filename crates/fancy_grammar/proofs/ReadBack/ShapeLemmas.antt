@@ -1,5 +1,6 @@
 -- What is printable, as a type; and how printed texts begin.
 use Rattle.std.proofs.Common.{◌≡◌, ℕ, ◌^◌, ◌<◌, ◌==◌, Bool, true, false, nat_lt, [], ◌∷◌, ◌++◌, refl, sym}
+use Prim.Native.Char.{code}
 use Rattle.fancy_lex.specs.Text.{Text}
 use Rattle.fancy_parts.specs.Quote.{behind_backslash, quantifier}
 use Rattle.fancy_grammar.specs.Printed.{is_long}
@@ -56,10 +57,10 @@ atom_of (define_group t) n l = no_truth n
 atom_of _ n l = tt
 
 -- a head that opens no comment
-pub begins_head : (x : ℕ) (s : Text) → (x == 35) ≡ false → Begins (40 ∷ 63 ∷ x ∷ s)
+pub begins_head : (x : ℕ) (s : Text) → (x == code "#") ≡ false → Begins (code "(" ∷ code "?" ∷ x ∷ s)
 begins_head x s e = record { clear = record { no_comment = rw e refl; no_mark = refl }; goes = refl }
 
-pub begins_group : (s : Text) → Clear s → Begins (40 ∷ s)
+pub begins_group : (s : Text) → Clear s → Begins (code "(" ∷ s)
 begins_group s c = record { clear = record { no_comment = not_asking s (clear_lazy s c); no_mark = refl }; goes = refl }
 
 -- what a quantifier is put behind begins an atom
@@ -67,12 +68,12 @@ pub begins_repeated : (t : Tree) → is_repeatable (bare false) (normal false t)
     (IsAtom t → (w : Text) → Begins (put t 3 w)) → (v : Text) → Begins (put_repeated t v)
 begins_repeated t n h v = by_length (is_long t) refl where
   by_length : (b : Bool) → is_long t ≡ b → Begins (open_if b (put t 3 (close_if b v)))
-  by_length true e = begins_head 58 _ refl
+  by_length true e = begins_head (code ":") _ refl
   by_length false e = h (atom_of t n e) v
 
 clear_if : (b : Bool) (k : Text → Text) (v : Text) → ((w : Text) → Clear w → Clear (k w)) → Clear v →
     Clear (open_if b (k (close_if b v)))
-clear_if true k v h c = (begins_head 58 _ refl).clear
+clear_if true k v h c = (begins_head (code ":") _ refl).clear
 clear_if false k v h c = h v c
 
 mutual
@@ -80,16 +81,16 @@ mutual
   begins_atom empty h i v = absurd i
   begins_atom (any a b) h i v = begins_any a b v
   begins_atom (assertion a) h i v = begins_assertion a v h
-  begins_atom (literal s true) h i v = begins_head 105 _ refl
+  begins_atom (literal s true) h i v = begins_head (code "i") _ refl
   begins_atom (literal [] false) h i v = absurd i
   begins_atom (literal (c ∷ []) false) h i v = begins_char c v (behind_backslash c) refl
   begins_atom (literal (c ∷ d ∷ cs) false) h i v = absurd i
-  begins_atom (delegate s true) h i v = begins_head 105 _ refl
+  begins_atom (delegate s true) h i v = begins_head (code "i") _ refl
   begins_atom (delegate s false) h i v = h.begins v
-  begins_atom (concat ts) h i v = begins_head 58 _ refl
-  begins_atom (alt ts) h i v = begins_head 58 _ refl
-  begins_atom (group t) h i v = begins_group _ (clear_put t h 0 (41 ∷ v) (clear_close v))
-  begins_atom (repeat t lo hi greedy) h i v = begins_head 58 _ refl
+  begins_atom (concat ts) h i v = begins_head (code ":") _ refl
+  begins_atom (alt ts) h i v = begins_head (code ":") _ refl
+  begins_atom (group t) h i v = begins_group _ (clear_put t h 0 (code ")" ∷ v) (clear_close v))
+  begins_atom (repeat t lo hi greedy) h i v = begins_head (code ":") _ refl
   begins_atom (define_group t) h i v = absurd i
   begins_atom _ h i v = absurd h
 
@@ -98,12 +99,12 @@ mutual
   clear_put (any a b) h p v c = (begins_any a b v).clear
   clear_put (assertion a) h p v c = (begins_assertion a v h).clear
   clear_put (literal s false) h p v c = quotes_clear s v c
-  clear_put (literal s true) h p v c = (begins_head 105 _ refl).clear
-  clear_put (delegate s true) h p v c = (begins_head 105 _ refl).clear
+  clear_put (literal s true) h p v c = (begins_head (code "i") _ refl).clear
+  clear_put (delegate s true) h p v c = (begins_head (code "i") _ refl).clear
   clear_put (delegate s false) h p v c = (h.begins v).clear
   clear_put (concat ts) h p v c = clear_if (nat_lt 1 p) (puts ts) v (λ w e. clear_puts ts h w e) c
   clear_put (alt ts) h p v c = clear_if (nat_lt 0 p) (put_branches ts) v (λ w e. clear_branches ts h w e) c
-  clear_put (group t) h p v c = (begins_group _ (clear_put t h 0 (41 ∷ v) (clear_close v))).clear
+  clear_put (group t) h p v c = (begins_group _ (clear_put t h 0 (code ")" ∷ v) (clear_close v))).clear
   clear_put (repeat t lo hi greedy) h p v c =
       clear_if (nat_lt 2 p) (λ w. put_repeated t (quantifier lo hi greedy ++ w)) v
       (λ w e. (begins_repeated t (h.1 false) (λ i s. begins_atom t h.0 i s) (quantifier lo hi greedy ++ w)).clear) c

@@ -121,12 +121,12 @@ unfolding tree_read
 from_read true x y m k j p e = sym (ap tree_read e)
 from_read false x y m k j p e = absurd cc
 
-read_where : (t : Tree) (p : ℕ) (u : Bool) → nest t p < 64 →
+read_where : (t : Tree) (p : ℕ) (u : Bool) → nest t p < max_depth →
     read_back u t p ≡ read (normal u t) (marks_of_groups (length (groups (normal u t))))
 read_where t p u l = cond-true _ _ _ (lt-ltb (nest t p) max_depth l)
 
 -- what was printed as the same text has the same normal form
-pub same_texts : (t s : Tree) (p q : ℕ) (u : Bool) → printable t ≡ true → printable s ≡ true → nest t p < 64 →
+pub same_texts : (t s : Tree) (p q : ℕ) (u : Bool) → printable t ≡ true → printable s ≡ true → nest t p < max_depth →
     printed t p ≡ printed s q → normal u t ≡ normal u s
 same_texts t s p q u h k l e =
     let here = only_answer t p u h in

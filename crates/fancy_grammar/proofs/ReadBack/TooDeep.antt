@@ -1,12 +1,14 @@
 -- What is printed too deep is refused at the first group that is too deep.
 use Rattle.std.proofs.Common.{◌≡◌, ℕ, zero, suc, ◌+◌, ◌<◌, ◌≤◌, Bool, true, false, nat_lt, nat_le, if◌then◌else◌, [], ◌∷◌, ◌++◌, refl, sym, ap, ◌∙◌, subst, arith, lt-ltb, leb-true, leb-false}
 use Rattle.std.proofs.lemmas.Bool.{cond_both}
+use Prim.Native.Char.{code}
 use Rattle.fancy_lex.specs.Fault.{recursion_exceeded}
 use Rattle.fancy_lex.specs.Text.{Text, bytes, place_of}
 use Rattle.fancy_lex.specs.declared.escape.Assertion.{Assertion}
 use Rattle.fancy_lex.specs.declared.escape.Assertion.TheVariants.{StartLine, StartLineOniguruma, EndLine}
 use Rattle.fancy_parts.specs.Quote.{quantifier}
 use Rattle.fancy_lex.proofs.TextLemmas.{bytes-append}
+use Rattle.fancy_grammar.specs.Depth.{max_depth}
 use Rattle.fancy_grammar.specs.Grammar.{Alternation, Branches, Pieces, Atom, Faults}
 use Rattle.fancy_grammar.specs.Printed.{is_long, printed}
 use Rattle.fancy_grammar.specs.State.{fault}
@@ -27,14 +29,14 @@ abbrev left_open : ℕ → Text → Text → Text
 left_open d here inner = if nat_le 63 d then here else inner
 
 abbrev left_if : Bool → ℕ → (Text → Text) → (ℕ → Text → Text) → Text → Text
-left_if true d k inner v = left_open d (open_if true (k (41 ∷ v))) (inner (d + 1) (41 ∷ v))
+left_if true d k inner v = left_open d (open_if true (k (code ")" ∷ v))) (inner (d + 1) (code ")" ∷ v))
 left_if false d k inner v = inner d v
 
 abbrev mutual
   left : Tree → ℕ → ℕ → Text → Text
   left (concat ts) p d v = left_if (nat_lt 1 p) d (λ w. puts ts w) (λ e w. lefts ts e w) v
   left (alt ts) p d v = left_if (nat_lt 0 p) d (λ w. put_branches ts w) (λ e w. branch_lefts ts e w) v
-  left (group t) p d v = left_open d (40 ∷ put t 0 (41 ∷ v)) (left t 0 (d + 1) (41 ∷ v))
+  left (group t) p d v = left_open d (code "(" ∷ put t 0 (code ")" ∷ v)) (left t 0 (d + 1) (code ")" ∷ v))
   left (repeat t lo hi greedy) p d v =
       left_if (nat_lt 2 p) d (λ w. put_repeated t (quantifier lo hi greedy ++ w))
       (λ e w. left_if (is_long t) e (put t 3) (left t 3) (quantifier lo hi greedy ++ w)) v
@@ -42,12 +44,12 @@ abbrev mutual
 
   lefts : Trees → ℕ → Text → Text
   lefts no_trees d v = v
-  lefts (more_trees t ts) d v = if nat_le 64 (d + nest t 2) then left t 2 d (puts ts v) else lefts ts d v
+  lefts (more_trees t ts) d v = if nat_le max_depth (d + nest t 2) then left t 2 d (puts ts v) else lefts ts d v
 
   branch_lefts : Trees → ℕ → Text → Text
   branch_lefts no_trees d v = v
   branch_lefts (more_trees t ts) d v =
-      if nat_le 64 (d + nest t 1) then left t 1 d (put_barred ts v) else branch_lefts ts d v
+      if nat_le max_depth (d + nest t 1) then left t 1 d (put_barred ts v) else branch_lefts ts d v
 
 abbrev repeated_left : Tree → ℕ → Text → Text
 repeated_left t d v = left_if (is_long t) d (put t 3) (left t 3) v
@@ -66,13 +68,13 @@ abbrev WholeFails : Bool → ℕ → ℕ → Text → Text → Type 0
 WholeFails u n d s at = Alternation n d (st (bare u) s) (fault recursion_exceeded (place_of n at))
 
 abbrev FailsAtom : Bool → (Text → Text) → ℕ → (ℕ → Text → Text) → Type 0
-FailsAtom u k m o = (n d : ℕ) (v : Text) → d < 64 → 64 ≤ d + m → AtomFails u n d (k v) (o d v)
+FailsAtom u k m o = (n d : ℕ) (v : Text) → d < max_depth → max_depth ≤ d + m → AtomFails u n d (k v) (o d v)
 
 abbrev FailsRun : Bool → (Text → Text) → ℕ → (ℕ → Text → Text) → Type 0
-FailsRun u k m o = (n d : ℕ) (v : Text) → d < 64 → 64 ≤ d + m → Clear v → PiecesFail u n d (k v) (o d v)
+FailsRun u k m o = (n d : ℕ) (v : Text) → d < max_depth → max_depth ≤ d + m → Clear v → PiecesFail u n d (k v) (o d v)
 
 abbrev FailsWhole : Bool → (Text → Text) → ℕ → (ℕ → Text → Text) → Type 0
-FailsWhole u k m o = (n d : ℕ) (v : Text) → d < 64 → 64 ≤ d + m → Ends v → WholeFails u n d (k v) (o d v)
+FailsWhole u k m o = (n d : ℕ) (v : Text) → d < max_depth → max_depth ≤ d + m → Ends v → WholeFails u n d (k v) (o d v)
 
 record FailsBy (u : Bool) (k3 k2 k1 k0 : Text → Text) (m3 m2 m1 m0 : ℕ) (o3 o2 o1 o0 : ℕ → Text → Text) : Type 0 where
   atom : FailsAtom u k3 m3 o3
@@ -119,30 +121,30 @@ by_none u k o =
     }
 
 -- one group, that holds none
-by_one : (u : Bool) (k : Text → Text) → ((v : Text) → (t : Text) × (k v ≡ 40 ∷ t)) → Starts k →
+by_one : (u : Bool) (k : Text → Text) → ((v : Text) → (t : Text) × (k v ≡ code "(" ∷ t)) → Starts k →
     FailsBy u k k k k 1 1 1 1 (λ d v. k v) (λ d v. k v) (λ d v. k v) (λ d v. k v)
 by_one u k h s =
     by_atom u k 1 (λ d v. k v) s
     (λ n d v l m. subst (λ w. AtomFails u n d w w) (sym (h v).1) (fails_deep n d (bare u) (h v).0 m))
 
 -- a group with something inside, that opens at here
-opened : (u : Bool) (n d : ℕ) (t inner : Text) → (d + 1 < 64 → AtomFails u n d (40 ∷ t) inner) → d < 64 →
-    AtomFails u n d (40 ∷ t) (left_open d (40 ∷ t) inner)
+opened : (u : Bool) (n d : ℕ) (t inner : Text) → (d + 1 < max_depth → AtomFails u n d (code "(" ∷ t) inner) → d < max_depth →
+    AtomFails u n d (code "(" ∷ t) (left_open d (code "(" ∷ t) inner)
 opened u n d t inner f l =
-    cond_both (nat_le 63 d) (40 ∷ t) inner (λ at. AtomFails u n d (40 ∷ t) at)
+    cond_both (nat_le 63 d) (code "(" ∷ t) inner (λ at. AtomFails u n d (code "(" ∷ t) at)
     (λ yes. let h = leb-true 63 d yes in fails_deep n d (bare u) t (omega arith))
     (λ no. let h = leb-false 63 d no in f (omega arith))
 
 abbrev wrapped_left : (Text → Text) → (ℕ → Text → Text) → ℕ → Text → Text
-wrapped_left k o d v = left_open d (open_if true (k (41 ∷ v))) (o (d + 1) (41 ∷ v))
+wrapped_left k o d v = left_open d (open_if true (k (code ")" ∷ v))) (o (d + 1) (code ")" ∷ v))
 
 wrap_fails : (u : Bool) (k : Text → Text) (m : ℕ) (o : ℕ → Text → Text) → FailsWhole u k m o →
     FailsAtom u (wrapped k) (1 + m) (wrapped_left k o)
 wrap_fails u k m o w n d v l h =
-    let s = k (41 ∷ v) in
-    opened u n d (63 ∷ 58 ∷ s) (o (d + 1) (41 ∷ v))
+    let s = k (code ")" ∷ v) in
+    opened u n d (code "?" ∷ code ":" ∷ s) (o (d + 1) (code ")" ∷ v))
     (λ b. fails_grouped n d (bare u) recursion_exceeded _ s (kept_bare u) b
-    (w n (d + 1) (41 ∷ v) b (omega arith) (ends_close v))) l
+    (w n (d + 1) (code ")" ∷ v) b (omega arith) (ends_close v))) l
 
 -- wrapped from 1 on, from 2 on, from 3 on
 by_whole : (u : Bool) (k : Text → Text) (m : ℕ) (o : ℕ → Text → Text) → FailsWhole u k m o
@@ -185,7 +187,7 @@ any_fails u true b = by_one u (put_any true b) (λ v. (_, refl)) (begins_any tru
 any_fails u false true = by_one u (put_any false true) (λ v. (_, refl)) (begins_any false true)
 any_fails u false false = by_none u (put_any false false) (λ d v. put_any false false v)
 
-line_open : (c : ℕ) (r : Bool) (v : Text) → (t : Text) × (put_line c r v ≡ 40 ∷ t)
+line_open : (c : ℕ) (r : Bool) (v : Text) → (t : Text) × (put_line c r v ≡ code "(" ∷ t)
 line_open c false v = (_, refl)
 line_open c true v = (_, refl)
 
@@ -198,43 +200,43 @@ assertion_fails u a h = by_none u (put_assertion a) (λ d v. put_assertion a v)
 
 group_fails : (u : Bool) (t : Tree) → Printable t → Fails u t → Fails u (group t)
 group_fails u t h r =
-    let k = λ (v : Text). 40 ∷ put t 0 (41 ∷ v) in
-    let clear = λ (v : Text). clear_put t h 0 (41 ∷ v) (clear_close v) in
-    by_atom u k (1 + nest t 0) (λ d v. left_open d (k v) (left t 0 (d + 1) (41 ∷ v)))
-    (λ v. begins_group (put t 0 (41 ∷ v)) (clear v))
-    (λ n d v l m. opened u n d (put t 0 (41 ∷ v)) (left t 0 (d + 1) (41 ∷ v))
-    (λ b. fails_group n d (bare u) recursion_exceeded _ (put t 0 (41 ∷ v)) (kept_bare u) b (clear v)
-    (r.whole n (d + 1) (41 ∷ v) b (omega arith) (ends_close v))) l)
+    let k = λ (v : Text). code "(" ∷ put t 0 (code ")" ∷ v) in
+    let clear = λ (v : Text). clear_put t h 0 (code ")" ∷ v) (clear_close v) in
+    by_atom u k (1 + nest t 0) (λ d v. left_open d (k v) (left t 0 (d + 1) (code ")" ∷ v)))
+    (λ v. begins_group (put t 0 (code ")" ∷ v)) (clear v))
+    (λ n d v l m. opened u n d (put t 0 (code ")" ∷ v)) (left t 0 (d + 1) (code ")" ∷ v))
+    (λ b. fails_group n d (bare u) recursion_exceeded _ (put t 0 (code ")" ∷ v)) (kept_bare u) b (clear v)
+    (r.whole n (d + 1) (code ")" ∷ v) b (omega arith) (ends_close v))) l)
 
 concat_fails : (u : Bool) (ts : Trees) → ArePrintable ts → EachReads u ts → EachFails u ts →
     FailsRun u (puts ts) (nests ts 2) (lefts ts)
 concat_fails u no_trees h r q n d v l m c = absurd (omega arith)
 concat_fails u (more_trees t ts) h r q n d v l m c =
-    cond_both (nat_le 64 (d + nest t 2)) _ _ (λ at. PiecesFail u n d (put t 2 (puts ts v)) at)
-    (λ yes. q.0.run n d (puts ts v) l (leb-true 64 (d + nest t 2) yes) (clear_puts ts h.1 v c))
+    cond_both (nat_le max_depth (d + nest t 2)) _ _ (λ at. PiecesFail u n d (put t 2 (puts ts v)) at)
+    (λ yes. q.0.run n d (puts ts v) l (leb-true max_depth (d + nest t 2) yes) (clear_puts ts h.1 v c))
     (λ no.
-    let b = leb-false 64 (d + nest t 2) no in
+    let b = leb-false max_depth (d + nest t 2) no in
     (r.0.run n d (puts ts v) b (clear_puts ts h.1 v c)).pieces _
     (concat_fails u ts h.1 r.1 q.1 n d v l (omega arith) c))
 
-alt_fails : (u : Bool) (ts : Trees) → EachReads u ts → EachFails u ts → (n d : ℕ) (v : Text) → d < 64 →
-    64 ≤ d + nests ts 1 → Ends v
+alt_fails : (u : Bool) (ts : Trees) → EachReads u ts → EachFails u ts → (n d : ℕ) (v : Text) → d < max_depth →
+    max_depth ≤ d + nests ts 1 → Ends v
     → BranchesFail u n d (put_branches ts v) (branch_lefts ts d v)
 alt_fails u no_trees r q n d v l m e = absurd (omega arith)
 alt_fails u (more_trees t no_trees) r q n d v l m e =
-    cond_both (nat_le 64 (d + nest t 1)) _ _ (λ at. BranchesFail u n d (put t 1 v) at)
+    cond_both (nat_le max_depth (d + nest t 1)) _ _ (λ at. BranchesFail u n d (put t 1 v) at)
     (λ yes. fails_first n d (bare u) recursion_exceeded _ (put t 1 v)
-    (q.0.branch n d v l (leb-true 64 (d + nest t 1) yes) e.stops.clear))
-    (λ no. let b = leb-false 64 (d + nest t 1) no in absurd (omega arith))
+    (q.0.branch n d v l (leb-true max_depth (d + nest t 1) yes) e.stops.clear))
+    (λ no. let b = leb-false max_depth (d + nest t 1) no in absurd (omega arith))
 alt_fails u (more_trees t (more_trees x xs)) r q n d v l m e =
     let rest = put x 1 (put_barred xs v) in
-    cond_both (nat_le 64 (d + nest t 1)) _ _ (λ at. BranchesFail u n d (put t 1 (124 ∷ rest)) at)
-    (λ yes. fails_first n d (bare u) recursion_exceeded _ (put t 1 (124 ∷ rest))
-    (q.0.branch n d (124 ∷ rest) l (leb-true 64 (d + nest t 1) yes) (stops_bar rest).clear))
+    cond_both (nat_le max_depth (d + nest t 1)) _ _ (λ at. BranchesFail u n d (put t 1 (code "|" ∷ rest)) at)
+    (λ yes. fails_first n d (bare u) recursion_exceeded _ (put t 1 (code "|" ∷ rest))
+    (q.0.branch n d (code "|" ∷ rest) l (leb-true max_depth (d + nest t 1) yes) (stops_bar rest).clear))
     (λ no.
-    let b = leb-false 64 (d + nest t 1) no in
-    fails_more n d (bare u) recursion_exceeded _ (put t 1 (124 ∷ rest)) rest _
-    (r.0.branch n d (124 ∷ rest) b (stops_bar rest))
+    let b = leb-false max_depth (d + nest t 1) no in
+    fails_more n d (bare u) recursion_exceeded _ (put t 1 (code "|" ∷ rest)) rest _
+    (r.0.branch n d (code "|" ∷ rest) b (stops_bar rest))
     (alt_fails u (more_trees x xs) r.1 q.1 n d v l (omega arith) e))
 
 -- what is put in a group of its own where that is asked
@@ -264,10 +266,10 @@ mutual
   fails u (any a b) h = any_fails u a b
   fails u (assertion a) h = assertion_fails u a h
   fails u (literal s true) h =
-      by_one u (λ v. 40 ∷ 63 ∷ 105 ∷ 58 ∷ put_quotes s (41 ∷ v)) (λ v. (_, refl)) (λ v. begins_head 105 _ refl)
+      by_one u (λ v. code "(" ∷ code "?" ∷ code "i" ∷ code ":" ∷ put_quotes s (code ")" ∷ v)) (λ v. (_, refl)) (λ v. begins_head 105 _ refl)
   fails u (literal s false) h = by_none u (put_quotes s) (λ d v. put_quotes s v)
   fails u (delegate s true) h =
-      by_one u (λ v. 40 ∷ 63 ∷ 105 ∷ 58 ∷ (s ++ 41 ∷ v)) (λ v. (_, refl)) (λ v. begins_head 105 _ refl)
+      by_one u (λ v. code "(" ∷ code "?" ∷ code "i" ∷ code ":" ∷ (s ++ code ")" ∷ v)) (λ v. (_, refl)) (λ v. begins_head 105 _ refl)
   fails u (delegate s false) h = by_none u (λ v. s ++ v) (λ d v. s ++ v)
   fails u (concat ts) h =
       by_branch u (puts ts) (nests ts 2) (lefts ts) (concat_fails u ts h (reads_each u ts h) (fails_each u ts h))
@@ -295,15 +297,15 @@ open_bytes d w n here inner e = by_test (nat_le 63 d) where
   by_test true = omega arith
   by_test false = omega arith
 
-head_bytes : (k : Text) → bytes (40 ∷ 63 ∷ 58 ∷ k) ≡ 3 + bytes k
+head_bytes : (k : Text) → bytes (code "(" ∷ code "?" ∷ code ":" ∷ k) ≡ 3 + bytes k
 unfolding bytes
 head_bytes k = omega arith
 
-paren_bytes : (k : Text) → bytes (40 ∷ k) ≡ 1 + bytes k
+paren_bytes : (k : Text) → bytes (code "(" ∷ k) ≡ 1 + bytes k
 unfolding bytes
 paren_bytes k = omega arith
 
-bar_bytes : (k : Text) → bytes (124 ∷ k) ≡ 1 + bytes k
+bar_bytes : (k : Text) → bytes (code "|" ∷ k) ≡ 1 + bytes k
 unfolding bytes
 bar_bytes k = omega arith
 
@@ -311,8 +313,8 @@ if_bytes : (b : Bool) (d : ℕ) (k : Text → Text) (m : ℕ → ℕ) (o : ℕ �
     ((e : ℕ) (w : Text) → m e + bytes (o e w) ≡ bytes (k w))
     → at_open_if b d m + bytes (left_if b d k o v) ≡ bytes (open_if b (k (close_if b v)))
 if_bytes true d k m o v h =
-    open_bytes d 3 (m (d + 1)) (open_if true (k (41 ∷ v))) (o (d + 1) (41 ∷ v))
-    (omega (arith, h (d + 1) (41 ∷ v), head_bytes (k (41 ∷ v))))
+    open_bytes d 3 (m (d + 1)) (open_if true (k (code ")" ∷ v))) (o (d + 1) (code ")" ∷ v))
+    (omega (arith, h (d + 1) (code ")" ∷ v), head_bytes (k (code ")" ∷ v))))
 if_bytes false d k m o v h = h d v
 
 cond_bytes : (b : Bool) (m n k : ℕ) (x y : Text) → m + bytes x ≡ k → n + bytes y ≡ k →
@@ -329,8 +331,8 @@ mutual
   left_bytes (alt ts) p d v =
       if_bytes (nat_lt 0 p) d (put_branches ts) (branch_places ts) (branch_lefts ts) v (λ e w. branches_bytes ts e w)
   left_bytes (group t) p d v =
-      open_bytes d 1 (place t 0 (d + 1)) (40 ∷ put t 0 (41 ∷ v)) (left t 0 (d + 1) (41 ∷ v))
-      (omega (arith, left_bytes t 0 (d + 1) (41 ∷ v), paren_bytes (put t 0 (41 ∷ v))))
+      open_bytes d 1 (place t 0 (d + 1)) (code "(" ∷ put t 0 (code ")" ∷ v)) (left t 0 (d + 1) (code ")" ∷ v))
+      (omega (arith, left_bytes t 0 (d + 1) (code ")" ∷ v), paren_bytes (put t 0 (code ")" ∷ v))))
   left_bytes (repeat t lo hi greedy) p d v =
       if_bytes (nat_lt 2 p) d (λ w. put_repeated t (quantifier lo hi greedy ++ w))
       (λ e. at_open_if (is_long t) e (place t 3)) (λ e w. repeated_left t e (quantifier lo hi greedy ++ w)) v
@@ -341,21 +343,21 @@ mutual
   lefts_bytes : (ts : Trees) (d : ℕ) (v : Text) → places ts d + bytes (lefts ts d v) ≡ bytes (puts ts v)
   lefts_bytes no_trees d v = omega arith
   lefts_bytes (more_trees t ts) d v =
-      cond_bytes (nat_le 64 (d + nest t 2)) _ _ _ _ _ (left_bytes t 2 d (puts ts v))
+      cond_bytes (nat_le max_depth (d + nest t 2)) _ _ _ _ _ (left_bytes t 2 d (puts ts v))
       (omega (arith, put_bytes t 2 (puts ts v), lefts_bytes ts d v))
 
   branches_bytes : (ts : Trees) (d : ℕ) (v : Text) →
       branch_places ts d + bytes (branch_lefts ts d v) ≡ bytes (put_branches ts v)
   branches_bytes no_trees d v = omega arith
   branches_bytes (more_trees t ts) d v =
-      cond_bytes (nat_le 64 (d + nest t 1)) _ _ _ _ _ (left_bytes t 1 d (put_barred ts v))
+      cond_bytes (nat_le max_depth (d + nest t 1)) _ _ _ _ _ (left_bytes t 1 d (put_barred ts v))
       (omega (arith, put_bytes t 1 (put_barred ts v), barred_bytes ts d v))
 
   barred_bytes : (ts : Trees) (d : ℕ) (v : Text) →
       barred_places ts d + bytes (branch_lefts ts d v) ≡ bytes (put_barred ts v)
   barred_bytes no_trees d v = omega arith
   barred_bytes (more_trees t ts) d v =
-      let b = nat_le 64 (d + nest t 1) in
+      let b = nat_le max_depth (d + nest t 1) in
       let h : (if b then place t 1 d else bytes (printed t 1) + barred_places ts d) + bytes
       (if b then left t 1 d (put_barred ts v) else branch_lefts ts d v) ≡ bytes (put t 1 (put_barred ts v)) =
       cond_bytes b _ _ _ _ _ (left_bytes t 1 d (put_barred ts v))
@@ -376,7 +378,7 @@ from_whole : (u : Bool) (s : Text) (p : ℕ) → Alternation (bytes s) 0 (st (ba
     DeepFrom u s p
 from_whole u s p w = fails_text (bare u) s recursion_exceeded p w
 
-at_level : (t : Tree) (p : ℕ) (u : Bool) → 64 ≤ nest t p → FailsWhole u (put t p) (nest t p) (left t p) →
+at_level : (t : Tree) (p : ℕ) (u : Bool) → max_depth ≤ nest t p → FailsWhole u (put t p) (nest t p) (left t p) →
     DeepFrom u (printed t p) (place t p 0)
 at_level t p u h w =
     let s = put t p [] in
@@ -384,7 +386,7 @@ at_level t p u h w =
     subst (λ x. DeepFrom u x (place t p 0)) (put_alone t p)
     (subst (DeepFrom u s) here (from_whole u s _ (w (bytes s) 0 [] (omega arith) (omega arith) ends_nothing)))
 
-at_place : (t : Tree) (p : ℕ) (u : Bool) → Printable t → 64 ≤ nest t p → DeepFrom u (printed t p) (place t p 0)
+at_place : (t : Tree) (p : ℕ) (u : Bool) → Printable t → max_depth ≤ nest t p → DeepFrom u (printed t p) (place t p 0)
 at_place t zero u h m = at_level t 0 u m (fails u t h).whole
 at_place t (suc zero) u h m = at_level t 1 u m (to_whole u (put t 1) (nest t 1) (left t 1) (fails u t h).branch)
 at_place t (suc (suc zero)) u h m = at_level t 2 u m (to_whole u (put t 2) (nest t 2) (left t 2) (fails u t h).run)
@@ -395,6 +397,6 @@ at_place t (suc (suc (suc p))) u h m =
     (at_level t 3 u (omega (arith, nest_high t (suc (suc (suc p))) big))
     (to_whole u (put t 3) (nest t 3) (left t 3) (fails u t h).high)))
 
-pub too_deep : (t : Tree) (p : ℕ) (u : Bool) → Printable t → 64 ≤ nest t p →
+pub too_deep : (t : Tree) (p : ℕ) (u : Bool) → Printable t → max_depth ≤ nest t p →
     Faults (bare u) (printed t p) recursion_exceeded (over t p)
 too_deep t p u h m = subst (DeepFrom u (printed t p)) (sym (over_place t p m)) (at_place t p u h m)
