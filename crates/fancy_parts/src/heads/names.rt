@@ -4,8 +4,8 @@ ghost use Rattle.fancy_lex.specs.Id.{parts};
 ghost use Rattle.fancy_lex.specs.Reading.{Reads};
 ghost use Rattle.fancy_parts.specs.GroupName as spec;
 
-use fancy_lex::name::delimited::{marked_name, name_before};
 use fancy_lex::error::{Error, ParseError};
+use fancy_lex::name::delimited::{marked_name, name_before};
 use fancy_lex::text::{after, next, place_before};
 
 /// Reads a name between marks, or behind a `P` between `<` and `>`.

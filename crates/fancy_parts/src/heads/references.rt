@@ -5,8 +5,8 @@ ghost use Rattle.fancy_lex.specs.Reading.{Reads};
 ghost use Rattle.fancy_lex.specs.Referred.{view_reference, view_call};
 ghost use Rattle.fancy_parts.specs.HeadReference as spec;
 
-use fancy_lex::name::delimited::{marked_name, name_before};
 use fancy_lex::error::{Error, ParseError};
+use fancy_lex::name::delimited::{marked_name, name_before};
 use fancy_lex::name::target::{Call, Reference, reference_by_name, target_of_name};
 use fancy_lex::text::{after, next, place};
 
