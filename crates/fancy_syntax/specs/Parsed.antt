@@ -18,8 +18,8 @@ use Rattle.fancy_syntax.specs.declared.expr.Expr.{Expr}
 use Rattle.fancy_syntax.specs.declared.grammar.ahead.Ahead as declared
 use Rattle.fancy_syntax.specs.declared.grammar.ahead.Ahead.TheVariants.{Nothing, Leaf, Group, Condition, Body}
 use Rattle.fancy_syntax.specs.declared.grammar.ahead.Ahead.TheVariants.{AbsentBranch}
-use Rattle.fancy_syntax.specs.declared.grammar.head.Head.{Head}
-use Rattle.fancy_syntax.specs.declared.grammar.head.Head.TheVariants as code
+use Rattle.fancy_syntax.specs.declared.grammar.group.head.Head.{Head}
+use Rattle.fancy_syntax.specs.declared.grammar.group.head.Head.TheVariants as code
 use Rattle.fancy_syntax.specs.declared.grammar.quantified.Suffix.{Suffix}
 use Rattle.fancy_syntax.specs.declared.grammar.state.State.{State}
 

@@ -7,11 +7,11 @@ ghost use Rattle.fancy_syntax.specs.Parsed.{state, Reads};
 ghost use Rattle.fancy_syntax.specs.Reads.{ReadsWhole};
 
 mod ahead;
+mod atom;
 mod conditional;
 mod fault;
 mod frame;
-mod head;
-mod look;
+mod group;
 mod plain;
 mod quantified;
 mod reference;
@@ -20,7 +20,8 @@ mod state;
 mod step;
 
 use crate::expr::Expr;
-use crate::grammar::ahead::{MAX_DEPTH, is_end, literal};
+use crate::grammar::ahead::{MAX_DEPTH, is_end};
+use crate::grammar::atom::literal;
 use crate::grammar::fault::general;
 use crate::grammar::frame::{Frame, Opener};
 use crate::grammar::plain::plain;

@@ -186,6 +186,36 @@ fn node_name(node: &Expr) -> &'static str {
     }
 }
 
+/// Writes the fields of a text, in hexadecimal.
+fn write_text_fields<W: fmt::Write>(
+    f: &mut fmt::Formatter<W>,
+    text: &str,
+    casei: bool,
+) -> fmt::Result {
+    write!(f, " {} casei={casei}", Hex(text.as_bytes()))
+}
+
+/// Writes the fields of a node that names a group; nothing where it names none.
+fn write_reference_fields<W: fmt::Write>(f: &mut fmt::Formatter<W>, node: &Expr) -> fmt::Result {
+    match node {
+        Expr::Backref { group, casei } => write!(f, " {group} casei={casei}"),
+        Expr::BackrefWithRelativeRecursionLevel {
+            group,
+            relative_level,
+            casei,
+        } => { write!(f, " {group} {relative_level} casei={casei}") }
+        Expr::BackrefExistsCondition {
+            group,
+            relative_recursion_level,
+        } => { write!(f, " {group} {}", OrNone(*relative_recursion_level)) }
+        Expr::SubroutineCall(group) => write!(f, " {group}"),
+        Expr::AstNode(AstNode::SubroutineCall(target), place) => {
+            write!(f, " SubroutineCall {} {place}", Target(target))
+        }
+        _ => Ok(()),
+    }
+}
+
 /// A node's fields behind its name, its children left out.
 #[derive(Clone, Copy)]
 struct Fields<'a>(&'a Expr);
@@ -196,32 +226,14 @@ impl fmt::Display for Fields<'_> {
             Expr::Any { newline, crlf } => write!(f, " newline={newline} crlf={crlf}"),
             Expr::Assertion(assertion) => write!(f, " {}", AssertionText(*assertion)),
             Expr::GeneralNewline { unicode } => write!(f, " unicode={unicode}"),
-            Expr::Literal { val, casei } => write!(f, " {} casei={casei}", Hex(val.as_bytes())),
+            Expr::Literal { val, casei } => write_text_fields(f, val, *casei),
             Expr::LiteralBytes { bytes } => write!(f, " {}", Hex(bytes)),
             Expr::LookAround(_, look_around) => write!(f, " {}", look_around_name(*look_around)),
             Expr::Repeat { lo, hi, greedy, .. } => write!(f, " {lo} {hi} greedy={greedy}"),
-            Expr::Delegate { inner, casei } => write!(
-                f,
-                " {} casei={casei}",
-                Hex(inner.as_bytes())
-            ),
-            Expr::Backref { group, casei } => write!(f, " {group} casei={casei}"),
-            Expr::BackrefWithRelativeRecursionLevel {
-                group,
-                relative_level,
-                casei,
-            } => { write!(f, " {group} {relative_level} casei={casei}") }
-            Expr::BackrefExistsCondition {
-                group,
-                relative_recursion_level,
-            } => { write!(f, " {group} {}", OrNone(*relative_recursion_level)) }
-            Expr::SubroutineCall(group) => write!(f, " {group}"),
+            Expr::Delegate { inner, casei } => write_text_fields(f, inner, *casei),
             Expr::BacktrackingControlVerb(verb) => write!(f, " {}", verb_name(*verb)),
             Expr::Absent(absent) => write!(f, " {}", absent_name(absent)),
-            Expr::AstNode(AstNode::SubroutineCall(target), place) => {
-                write!(f, " SubroutineCall {} {place}", Target(target))
-            }
-            _ => Ok(()),
+            node => write_reference_fields(f, node),
         }
     }
 }

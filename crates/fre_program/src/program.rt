@@ -54,11 +54,16 @@ fn answer<O: Write, E: Write>(
     match Expr::parse_tree_with_flags(alloc, pattern, flags) {
         Ok(tree) => accept(alloc, out, &tree),
         Err(Error::OutOfMemory) => Err(Fault::Memory(AllocError)),
-        Err(refusal) => {
-            writeln!(err, "{refusal}")?;
-            Ok(Verdict::Refused)
-        }
+        Err(refusal) => refuse(err, &refusal),
     }
+}
+
+/// Writes why the pattern is refused.
+fn refuse<E: Write>(err: &mut E, refusal: &Error) -> Result<Verdict, Fault>
+    ensures { IfOk result (λ verdict. verdict ≡ Verdict.Refused) }
+{
+    writeln!(err, "{refusal}")?;
+    Ok(Verdict::Refused)
 }
 
 /// Says on `err` how the program is called.

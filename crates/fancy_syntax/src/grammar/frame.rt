@@ -7,7 +7,7 @@ ghost use Rattle.fancy_syntax.specs.View.{view};
 
 use crate::expr::Expr;
 use crate::grammar::fault::general;
-use crate::grammar::head::Head;
+use crate::grammar::group::head::Head;
 use crate::grammar::row::Row;
 use fancy_lex::error::Error;
 use fancy_lex::flags::Flags;

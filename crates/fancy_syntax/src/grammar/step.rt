@@ -15,11 +15,12 @@ ghost use Rattle.fancy_grammar.specs.Tree.{Tree};
 ghost use Rattle.fancy_syntax.specs.View.{view};
 
 use crate::expr::{Absent, Expr};
-use crate::grammar::ahead::{Ahead, look_ahead, skip_layout};
+use crate::grammar::ahead::{Ahead, skip_layout};
+use crate::grammar::atom::read_atom_start;
 use crate::grammar::conditional::{alone, branches_of, conditional, is_condition};
 use crate::grammar::fault::general;
 use crate::grammar::frame::Opener;
-use crate::grammar::head::node;
+use crate::grammar::group::head::node;
 use crate::grammar::plain::is_unquantified;
 use crate::grammar::quantified::quantify;
 use crate::grammar::state::State;
@@ -54,7 +55,7 @@ pub(crate) fn read_step<'a>(
     let left = bytes_left(here.rest);
     here.rest = skip_layout(*here, end)?;
     let before = *here;
-    match look_ahead(alloc, here, depth, end)? {
+    match read_atom_start(alloc, here, depth, end)? {
         Ahead::Nothing => piece(alloc, Expr::Empty, here, left, depth, end),
         Ahead::Leaf(mut atom) => {
             // As `piece` does, but in its place, and mostly no quantifier follows: this saves two calls for each leaf.

@@ -2,7 +2,7 @@ use Rattle.std.proofs.Common.{◌≡◌, Some, None, codes, refl}
 use Rattle.std.specs.Str.{chars}
 use Rattle.fancy_lex.specs.Text.{strip_word}
 use Rattle.fancy_grammar.specs.Verb.{verb_at}
-use Rattle.fancy_syntax.proofs.grammar.look.verb_at.Goals as goal
+use Rattle.fancy_syntax.proofs.grammar.group.verb_at.Goals as goal
 
 pub returns-in-Some-clause-value : goal.returns-in-Some-clause-value
 unfolding verb_at chars

@@ -3,7 +3,7 @@ use Rattle.std.proofs.lemmas.Str.{chars-nil}
 use Rattle.fancy_lex.specs.Text.{Text}
 use Rattle.fancy_grammar.specs.Tree.{literal}
 use Rattle.fancy_syntax.proofs.TreeLemmas.{view_Literal}
-use Rattle.fancy_syntax.proofs.grammar.ahead.literal.Goals as goal
+use Rattle.fancy_syntax.proofs.grammar.atom.literal.Goals as goal
 
 pub returns : goal.returns
 returns c =

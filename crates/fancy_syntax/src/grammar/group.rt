@@ -6,15 +6,17 @@ ghost use Rattle.fancy_parts.specs.GroupName as names;
 ghost use Rattle.fancy_parts.specs.HeadReference as references;
 ghost use Rattle.fancy_grammar.specs.Ahead.{leaf, with_head};
 ghost use Rattle.fancy_grammar.specs.Head as head;
-ghost use Rattle.fancy_grammar.specs.State.{at};
+ghost use Rattle.fancy_grammar.specs.State.{at, skipped};
 ghost use Rattle.fancy_grammar.specs.Ahead as spec;
 ghost use Rattle.fancy_syntax.specs.Parsed.{state, Sees, IsSomething};
 ghost use Rattle.fancy_grammar.specs.Fails.{IsErrorOf};
 ghost use Rattle.fancy_grammar.specs.Verb as verbs;
 
+pub(crate) mod head;
+
 use crate::expr::{BacktrackingControlVerb, Expr, LookAround};
-use crate::grammar::ahead::Ahead;
-use crate::grammar::head::Head;
+use crate::grammar::ahead::{Ahead, skip_layout};
+use crate::grammar::group::head::Head;
 use crate::grammar::reference::{backref, condition, subroutine_call};
 use crate::grammar::state::State;
 use fancy_lex::error::{Error, ParseError};
@@ -26,12 +28,36 @@ use fancy_parts::heads::references::{
 use fancy_parts::heads::{Letters, flag_letters};
 use std::alloc::Global;
 
-/// Reads what stands behind a parenthesis and a question mark.
-pub(crate) fn look_behind_question<'a>(
+/// Reads what stands behind a parenthesis: the head of the group, if it has one.
+pub(crate) fn after_paren<'a>(
     alloc: Global,
     here: &mut State<'a>,
     end: usize,
 ) -> Result<Ahead<'a>, Error>
+    requires within { length here.old.rest.now ≤ end }
+    requires end { end < 2 ^ 63 }
+    ensures value { Sees result (state here.new) (spec.behind_layout end (state here.old)
+        (skipped end (state here.old))) }
+    ensures within { length here.new.rest.now ≤ length here.old.rest.now }
+    ensures something { IfOk result (λ a. IsSomething a) }
+{
+    here.rest = skip_layout(*here, end)?;
+    let Some((c, rest)) = next(here.rest) else {
+        return Ok(Ahead::Group(Head::Capture(None)));
+    };
+    if c == '?' {
+        here.rest = rest;
+        after_question(alloc, here, end)
+    } else if c == '*' {
+        let verb = read_verb(here, rest, end)?;
+        Ok(Ahead::Leaf(Expr::BacktrackingControlVerb(verb)))
+    } else {
+        Ok(Ahead::Group(Head::Capture(None)))
+    }
+}
+
+/// Reads what stands behind a parenthesis and a question mark.
+fn after_question<'a>(alloc: Global, here: &mut State<'a>, end: usize) -> Result<Ahead<'a>, Error>
     requires within { length here.old.rest.now < end }
     requires end { end < 2 ^ 63 }
     ensures value { Sees result (state here.new) (spec.question_ahead end (state here.old) (chars here.old.rest.now)) }
@@ -39,17 +65,17 @@ pub(crate) fn look_behind_question<'a>(
     ensures something { IfOk result (λ a. IsSomething a) }
 {
     let Some((c, rest)) = next(here.rest) else {
-        return look_at_flags(alloc, here, end);
+        return read_flags(alloc, here, end);
     };
     match c {
-        '=' => Ok(open_look(here, rest, LookAround::LookAhead)),
-        '!' => Ok(open_look(here, rest, LookAround::LookAheadNeg)),
-        '<' => look_behind_less(here, rest, end),
-        '\'' => look_at_name(here, end),
-        'P' => look_behind_p(alloc, here, rest, end),
+        '=' => Ok(open_look_around(here, rest, LookAround::LookAhead)),
+        '!' => Ok(open_look_around(here, rest, LookAround::LookAheadNeg)),
+        '<' => after_less(here, rest, end),
+        '\'' => read_name(here, end),
+        'P' => after_p(alloc, here, rest, end),
         '~' => {
             here.rest = rest;
-            look_at_absent(here, end)
+            after_tilde(here, end)
         }
         '>' => {
             here.rest = rest;
@@ -57,14 +83,14 @@ pub(crate) fn look_behind_question<'a>(
         }
         '(' => {
             here.rest = rest;
-            look_at_conditional(alloc, here, end)
+            read_condition(alloc, here, end)
         }
-        _ => look_at_flags(alloc, here, end),
+        _ => read_flags(alloc, here, end),
     }
 }
 
 /// The look-around whose inside begins at the text.
-fn open_look<'a>(here: &mut State<'a>, inside: &'a str, look: LookAround) -> Ahead<'a>
+fn open_look_around<'a>(here: &mut State<'a>, inside: &'a str, look: LookAround) -> Ahead<'a>
     requires { length inside.now ≤ length here.old.rest.now }
     ensures value { Sees (Ok result) (state here.new)
         (with_head (head.look look) (at (state here.old) (chars inside.now))) }
@@ -76,7 +102,7 @@ fn open_look<'a>(here: &mut State<'a>, inside: &'a str, look: LookAround) -> Ahe
 }
 
 /// Reads what stands behind `(?<`: look-behind, or a name.
-fn look_behind_less<'a>(here: &mut State<'a>, rest: &'a str, end: usize) -> Result<Ahead<'a>, Error>
+fn after_less<'a>(here: &mut State<'a>, rest: &'a str, end: usize) -> Result<Ahead<'a>, Error>
     requires within { length here.old.rest.now < end }
     requires shorter { length rest.now ≤ length here.old.rest.now }
     ensures value { Sees result (state here.new)
@@ -85,16 +111,16 @@ fn look_behind_less<'a>(here: &mut State<'a>, rest: &'a str, end: usize) -> Resu
     ensures something { IfOk result (λ a. IsSomething a) }
 {
     if let Some(inside) = after(rest, '=') {
-        return Ok(open_look(here, inside, LookAround::LookBehind));
+        return Ok(open_look_around(here, inside, LookAround::LookBehind));
     }
     if let Some(inside) = after(rest, '!') {
-        return Ok(open_look(here, inside, LookAround::LookBehindNeg));
+        return Ok(open_look_around(here, inside, LookAround::LookBehindNeg));
     }
-    look_at_name(here, end)
+    read_name(here, end)
 }
 
 /// Reads the name of a group, behind the question mark.
-fn look_at_name<'a>(here: &mut State<'a>, end: usize) -> Result<Ahead<'a>, Error>
+fn read_name<'a>(here: &mut State<'a>, end: usize) -> Result<Ahead<'a>, Error>
     requires within { length here.old.rest.now < end }
     ensures value { Sees result (state here.new)
         (spec.named_ahead (state here.old) (names.group_name end (chars here.old.rest.now))) }
@@ -107,7 +133,7 @@ fn look_at_name<'a>(here: &mut State<'a>, end: usize) -> Result<Ahead<'a>, Error
 }
 
 /// Reads what stands behind `(?P`: a name, a reference, a call, or letters of flags, of which none is a `P`.
-fn look_behind_p<'a>(
+fn after_p<'a>(
     alloc: Global,
     here: &mut State<'a>,
     rest: &'a str,
@@ -122,18 +148,18 @@ fn look_behind_p<'a>(
     ensures something { IfOk result (λ a. IsSomething a) }
 {
     let Some((c, behind)) = next(rest) else {
-        return look_at_flags(alloc, here, end);
+        return read_flags(alloc, here, end);
     };
     match c {
-        '<' => look_at_name(here, end),
-        '=' => look_at_reference(alloc, here, behind, end),
-        '>' => look_at_call(alloc, here, behind, end),
-        _ => look_at_flags(alloc, here, end),
+        '<' => read_name(here, end),
+        '=' => read_reference(alloc, here, behind, end),
+        '>' => read_call(alloc, here, behind, end),
+        _ => read_flags(alloc, here, end),
     }
 }
 
 /// Reads a back reference, whose id begins at the text.
-fn look_at_reference<'a>(
+fn read_reference<'a>(
     alloc: Global,
     here: &mut State<'a>,
     id: &'a str,
@@ -152,7 +178,7 @@ fn look_at_reference<'a>(
 }
 
 /// Reads a call, whose name begins at the text.
-fn look_at_call<'a>(
+fn read_call<'a>(
     alloc: Global,
     here: &mut State<'a>,
     name: &'a str,
@@ -171,7 +197,7 @@ fn look_at_call<'a>(
 }
 
 /// Reads the letters of a flag group.
-fn look_at_flags<'a>(alloc: Global, here: &mut State<'a>, end: usize) -> Result<Ahead<'a>, Error>
+fn read_flags<'a>(alloc: Global, here: &mut State<'a>, end: usize) -> Result<Ahead<'a>, Error>
     requires within { length here.old.rest.now ≤ end }
     requires end { end < 2 ^ 63 }
     ensures value { Sees result (state here.new)
@@ -192,7 +218,7 @@ fn look_at_flags<'a>(alloc: Global, here: &mut State<'a>, end: usize) -> Result<
 }
 
 /// Reads what stands behind `(?~`: a bar, or nothing. UnclosedOpenParen at the end of the text.
-fn look_at_absent<'a>(here: &mut State<'a>, end: usize) -> Result<Ahead<'a>, Error>
+fn after_tilde<'a>(here: &mut State<'a>, end: usize) -> Result<Ahead<'a>, Error>
     requires within { length here.old.rest.now ≤ end }
     ensures value { Sees result (state here.new) (spec.absent_ahead end (state here.old) (chars here.old.rest.now)) }
     ensures within { length here.new.rest.now ≤ length here.old.rest.now }
@@ -213,11 +239,7 @@ fn look_at_absent<'a>(here: &mut State<'a>, end: usize) -> Result<Ahead<'a>, Err
 ///
 /// UnclosedOpenParen at the end of the text; TargetNotRepeatable at the asterisk of no verb; the faults of
 /// `condition_target`.
-fn look_at_conditional<'a>(
-    alloc: Global,
-    here: &mut State<'a>,
-    end: usize,
-) -> Result<Ahead<'a>, Error>
+fn read_condition<'a>(alloc: Global, here: &mut State<'a>, end: usize) -> Result<Ahead<'a>, Error>
     requires within { length here.old.rest.now ≤ end }
     ensures value { Sees result (state here.new)
         (spec.conditional_ahead end (state here.old) (chars here.old.rest.now)) }
@@ -232,16 +254,16 @@ fn look_at_conditional<'a>(
         return Ok(Ahead::Group(Head::Define));
     }
     if begins_target(here.rest) {
-        return look_at_target(alloc, here, end);
+        return read_target(alloc, here, end);
     }
     if c == '*' {
-        return look_at_verb_condition(alloc, here, rest, end);
+        return read_verb_condition(alloc, here, rest, end);
     }
     Ok(Ahead::Condition)
 }
 
 /// Reads the verb that is a condition, behind the asterisk at the front, which `rest` follows.
-fn look_at_verb_condition<'a>(
+fn read_verb_condition<'a>(
     alloc: Global,
     here: &mut State<'a>,
     rest: &'a str,
@@ -254,13 +276,13 @@ fn look_at_verb_condition<'a>(
     ensures within { length here.new.rest.now ≤ length here.old.rest.now }
     ensures something { IfOk result (λ a. IsSomething a) }
 {
-    let verb = look_at_verb(here, rest, end)?;
+    let verb = read_verb(here, rest, end)?;
     let verb = Box::new(alloc, Expr::BacktrackingControlVerb(verb))?;
     Ok(Ahead::Body(verb))
 }
 
 /// Reads what a condition asks for.
-fn look_at_target<'a>(alloc: Global, here: &mut State<'a>, end: usize) -> Result<Ahead<'a>, Error>
+fn read_target<'a>(alloc: Global, here: &mut State<'a>, end: usize) -> Result<Ahead<'a>, Error>
     requires within { length here.old.rest.now ≤ end }
     ensures value { Sees result (state here.new)
         (spec.target_ahead (state here.old) (references.condition_target end (chars here.old.rest.now))) }
@@ -274,7 +296,7 @@ fn look_at_target<'a>(alloc: Global, here: &mut State<'a>, end: usize) -> Result
 
 /// Reads the verb behind the asterisk at the front, which `rest` follows. TargetNotRepeatable at the asterisk of no
 /// verb.
-pub(crate) fn look_at_verb<'a>(
+fn read_verb<'a>(
     here: &mut State<'a>,
     rest: &'a str,
     end: usize,

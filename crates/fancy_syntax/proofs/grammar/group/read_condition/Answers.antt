@@ -2,7 +2,7 @@ use Rattle.std.proofs.Common.{sym, subst, ◌∙◌}
 use Rattle.std.specs.Str.{chars}
 use Rattle.fancy_syntax.specs.Parsed.{state, Sees}
 use Rattle.fancy_grammar.proofs.AheadLemmas.{defines, target_stands, no_condition_ahead}
-use Rattle.fancy_syntax.proofs.grammar.look.look_at_conditional.Goals as goal
+use Rattle.fancy_syntax.proofs.grammar.group.read_condition.Goals as goal
 
 pub returns-in-Some-after_word-clause-value : goal.returns-in-Some-after_word-clause-value
 unfolding chars
@@ -14,7 +14,7 @@ unfolding chars
 returns-then-begins_target-clause-value c =
     let stands = target_stands c.args.end (state c.args.here.now) _ _ c.in-Some.ensures.value c.in_default-after_word.ensures.value
     (sym c.begins_target.ensures ∙ c.if-begins_target.true) in
-    subst (Sees c.look_at_target.result (state c.look_at_target.new.here)) (sym stands) c.look_at_target.ensures.value
+    subst (Sees c.read_target.result (state c.read_target.new.here)) (sym stands) c.read_target.ensures.value
 
 pub returns-clause-value : goal.returns-clause-value
 unfolding chars

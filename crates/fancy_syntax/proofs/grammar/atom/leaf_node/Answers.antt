@@ -4,7 +4,7 @@ use Rattle.fancy_lex.specs.Escaped.{escape_of, delegate_text}
 use Rattle.fancy_grammar.specs.Ahead as spec
 use Rattle.fancy_grammar.specs.Tree.{delegate}
 use Rattle.fancy_syntax.proofs.TreeLemmas.{view_Delegate}
-use Rattle.fancy_syntax.proofs.grammar.ahead.leaf_node.Goals as goal
+use Rattle.fancy_syntax.proofs.grammar.atom.leaf_node.Goals as goal
 
 pub returns-in_ok-push_delegate-in-Delegate : goal.returns-in_ok-push_delegate-in-Delegate
 returns-in_ok-push_delegate-in-Delegate c =
