@@ -3,5 +3,5 @@
 
 mod fault;
 pub mod flag_word;
-mod lines;
 pub mod program;
+mod report;

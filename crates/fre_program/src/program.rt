@@ -5,7 +5,7 @@ ghost use Rattle.fre_program.specs.Words.{IsWellFormed, OfWords, HasTree, HasFau
 
 use crate::fault::Fault;
 use crate::flag_word::flags_named;
-use crate::lines::{write_marks, write_nodes, write_text};
+use crate::report::{write_marks, write_nodes, write_text};
 use fancy_syntax::{Error, Expr, ExprTree};
 use std::alloc::{AllocError, Global};
 use std::io::Write;

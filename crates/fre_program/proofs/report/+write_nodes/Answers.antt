@@ -3,7 +3,7 @@ use Rattle.fancy_syntax.specs.Children.{left}
 use Rattle.fancy_syntax.specs.Tree.{depth}
 use Rattle.fancy_syntax.specs.View.{view, views}
 use Rattle.fancy_syntax.proofs.Descents.{sweep_start, sweep_head, sweep_next, depth_of_child}
-use Rattle.fre_program.proofs.lines.+write_nodes.Goals as goal
+use Rattle.fre_program.proofs.report.+write_nodes.Goals as goal
 
 pub loop-child-init : goal.loop-child-init
 loop-child-init g t c =

@@ -2,7 +2,7 @@ use Rattle.fancy_syntax.specs.Children.{left}
 use Rattle.fancy_syntax.specs.Tree.{depth}
 use Rattle.fancy_syntax.specs.View.{view}
 use Rattle.fancy_syntax.proofs.Descents.{Sweep}
-use Rattle.fre_program.proofs.lines.+write_nodes.Given as goal
+use Rattle.fre_program.proofs.report.+write_nodes.Given as goal
 
 abbrev pub decreases-write_nodes : goal.decreases-write_nodes
 decreases-write_nodes g l = depth (view l.tree.now)
