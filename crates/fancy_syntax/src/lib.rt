@@ -29,4 +29,5 @@ pub use fancy_lex::flags::{
     FLAG_IGNORE_SPACE, FLAG_MULTI, FLAG_ONIGURUMA_MODE, FLAG_SWAP_GREED, FLAG_UNICODE,
 };
 pub use fancy_lex::{error, flags};
+pub use print::{BRANCH, OPERAND, PIECE, WHOLE};
 pub use tree::ExprTree;

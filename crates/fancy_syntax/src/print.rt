@@ -25,6 +25,15 @@ use crate::print::printable::is_printable;
 use crate::print::write::put_tree;
 use std::alloc::{AllocError, Global};
 
+/// The precedence of a whole pattern, and of the inside of a group.
+pub const WHOLE: u8 = 0;
+/// The precedence of a branch.
+pub const BRANCH: u8 = 1;
+/// The precedence of a piece in a row of them.
+pub const PIECE: u8 = 2;
+/// The precedence of what a quantifier stands behind.
+pub const OPERAND: u8 = 3;
+
 impl Expr {
     /// Whether the tree is printable: whether each node outside the inside of a DefineGroup has a text, that of each
     /// Delegate is one whole class or class escape, and under each Repeat stands no tree that reads as nothing.
@@ -43,7 +52,7 @@ impl Expr {
     }
 
     /// Appends the tree's text to `buf`; the caller owes a tree that has one, as every printable tree has. Above
-    /// precedence 0 an `Alt`, above 1 a `Concat` and above 2 a `Repeat` stands in a group of its own, and so does a
+    /// precedence 0, `WHOLE`, an `Alt`, above 1, `BRANCH`, a `Concat` and above 2, `PIECE`, a `Repeat` stands in a group of its own, and so does a
     /// `Literal` of several characters with its case kept under a `Repeat`. The buffer grows once, by the text's length
     /// in bytes, where it lacks room for that; where that is refused, the answer is `AllocError` and `buf` holds what
     /// it held. What is appended for a printable tree reads as its normal form, with no flag and with `FLAG_UNICODE`

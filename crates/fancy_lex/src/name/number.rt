@@ -13,7 +13,7 @@ fn digit(text: &str) -> Option<(usize, &str)>
 {
     let (c, rest) = next(text)?;
     if c.is_ascii_digit() {
-        Some((c as usize - 48, rest))
+        Some((c as usize - '0' as usize, rest))
     } else {
         None
     }

@@ -36,7 +36,7 @@ pub(crate) fn is_end(text: &str) -> bool
     let Some((c, _)) = next(text) else {
         return true;
     };
-    c == '|' || c == ')'
+    matches!(c, '|' | ')')
 }
 
 /// Reads the layout at the front: the text behind it.

@@ -11,6 +11,7 @@ ghost use Rattle.fancy_syntax.specs.View.{view, views};
 use crate::expr::Expr;
 use crate::print::fixed::{any_text, assertion_text};
 use crate::print::repeated::is_long;
+use crate::print::{BRANCH, OPERAND, PIECE, WHOLE};
 use fancy_parts::quote::{quantifier_len, quotes_len};
 use fancy_parts::room::{ascii_len, text_len};
 
@@ -53,15 +54,15 @@ pub fn tree_len(tree: &Expr, precedence: u8) -> usize
         Expr::Assertion(assertion) => ascii_len(assertion_text(*assertion)),
         Expr::Literal { val, casei } => caseless_len(*casei, quotes_len(val.as_str())),
         Expr::Delegate { inner, casei } => caseless_len(*casei, text_len(inner.as_str())),
-        Expr::Concat(children) => concat_len(children, precedence > 1),
-        Expr::Alt(children) => alt_len(children, precedence > 0),
+        Expr::Concat(children) => concat_len(children, precedence > BRANCH),
+        Expr::Alt(children) => alt_len(children, precedence > WHOLE),
         Expr::Group(child) => group_len(child),
         Expr::Repeat {
             child,
             lo,
             hi,
             greedy,
-        } => repeat_len(child, *lo, *hi, *greedy, precedence > 2),
+        } => repeat_len(child, *lo, *hi, *greedy, precedence > PIECE),
         _ => 0,
     }
 }
@@ -73,7 +74,7 @@ fn concat_len(trees: &[Expr], is_grouped: bool) -> usize
 {
     let mut len = 0usize;
     for tree in trees {
-        len = len.saturating_add(tree_len(tree, 2));
+        len = len.saturating_add(tree_len(tree, PIECE));
     }
     grouped_len(is_grouped, len)
 }
@@ -85,7 +86,7 @@ fn alt_len(trees: &[Expr], is_grouped: bool) -> usize
 {
     let mut len = 0usize;
     for (i, tree) in trees.iter().enumerate() {
-        len = len.saturating_add(branch_len(i > 0, tree_len(tree, 1)));
+        len = len.saturating_add(branch_len(i > 0, tree_len(tree, BRANCH)));
     }
     grouped_len(is_grouped, len)
 }
@@ -96,7 +97,7 @@ fn alt_len(trees: &[Expr], is_grouped: bool) -> usize
 fn group_len(tree: &Expr) -> usize
     ensures { result ≡ in_word (bytes (codes "(" ++ (printed (view tree.now) 0 ++ codes ")"))) }
 {
-    tree_len(tree, 0).saturating_add(2)
+    tree_len(tree, WHOLE).saturating_add(2)
 }
 
 #[cycle(count)]
@@ -115,5 +116,5 @@ fn repeat_len(child: &Expr, lo: usize, hi: usize, greedy: bool, is_grouped: bool
 fn repeated_len(tree: &Expr) -> usize
     ensures { result ≡ in_word (bytes (repeated (view tree.now))) }
 {
-    grouped_len(is_long(tree), tree_len(tree, 3))
+    grouped_len(is_long(tree), tree_len(tree, OPERAND))
 }

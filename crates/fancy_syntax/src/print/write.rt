@@ -10,6 +10,7 @@ ghost use Rattle.fancy_syntax.specs.View.{view, views};
 use crate::expr::Expr;
 use crate::print::fixed::{any_text, assertion_text};
 use crate::print::repeated::is_long;
+use crate::print::{BRANCH, OPERAND, PIECE, WHOLE};
 use fancy_parts::quote::{put_quantifier, put_quotes};
 use fancy_parts::room::{put, put_ascii, put_text};
 
@@ -85,15 +86,15 @@ pub fn put_tree(buf: &mut String, tree: &Expr, precedence: u8)
         Expr::Assertion(assertion) => put_fixed(buf, assertion_text(*assertion)),
         Expr::Literal { val, casei } => put_literal(buf, val.as_str(), *casei),
         Expr::Delegate { inner, casei } => put_delegate(buf, inner.as_str(), *casei),
-        Expr::Concat(children) => put_concat(buf, children, precedence > 1),
-        Expr::Alt(children) => put_alt(buf, children, precedence > 0),
+        Expr::Concat(children) => put_concat(buf, children, precedence > BRANCH),
+        Expr::Alt(children) => put_alt(buf, children, precedence > WHOLE),
         Expr::Group(child) => put_group(buf, child),
         Expr::Repeat {
             child,
             lo,
             hi,
             greedy,
-        } => put_repeat(buf, child, *lo, *hi, *greedy, precedence > 2),
+        } => put_repeat(buf, child, *lo, *hi, *greedy, precedence > PIECE),
         _ => {}
     }
 }
@@ -117,7 +118,7 @@ fn put_all(buf: &mut String, trees: &[Expr])
     ensures { Appended buf.old buf.new (printed_all (trees_of (views trees.now))) }
 {
     for tree in trees {
-        put_tree(buf, tree, 2);
+        put_tree(buf, tree, PIECE);
     }
 }
 
@@ -141,7 +142,7 @@ fn put_branches(buf: &mut String, trees: &[Expr])
 {
     for (i, tree) in trees.iter().enumerate() {
         put_if(buf, i > 0, "|");
-        put_tree(buf, tree, 1);
+        put_tree(buf, tree, BRANCH);
     }
 }
 
@@ -153,7 +154,7 @@ fn put_group(buf: &mut String, tree: &Expr)
     ensures { Appended buf.old buf.new (codes "(" ++ (printed (view tree.now) 0 ++ codes ")")) }
 {
     put(buf, '(');
-    put_tree(buf, tree, 0);
+    put_tree(buf, tree, WHOLE);
     put(buf, ')');
 }
 
@@ -180,9 +181,9 @@ fn put_repeated(buf: &mut String, tree: &Expr)
 {
     if is_long(tree) {
         put_ascii(buf, "(?:");
-        put_tree(buf, tree, 3);
+        put_tree(buf, tree, OPERAND);
         put(buf, ')');
     } else {
-        put_tree(buf, tree, 3);
+        put_tree(buf, tree, OPERAND);
     }
 }
