@@ -101,14 +101,14 @@ fn survey_absent(
 #[inline(never)]
 fn survey_all(
     alloc: Global,
-    trees: &Vec<Expr>,
+    trees: &[Expr],
     named: bool,
     groups: &mut Groups,
 ) -> Result<(), AllocError>
-    requires { groups.old.total + length (openings_in (items_all (trees_of (views trees.now.items)))) < 2 ^ 63 }
+    requires { groups.old.total + length (openings_in (items_all (trees_of (views trees.now)))) < 2 ^ 63 }
     ensures found { IfOk result
         (λ _. groups_of groups.new
-        ≡ found named (groups_of groups.old) (items_all (trees_of (views trees.now.items)))) }
+        ≡ found named (groups_of groups.old) (items_all (trees_of (views trees.now)))) }
 {
     for tree in trees {
         survey(alloc, tree, named, groups)?;

@@ -43,13 +43,13 @@ survey_absent-survey-requires-in-Expression-2 t c =
 
 pub survey_all-survey-requires : goal.survey_all-survey-requires
 survey_all-survey-requires t c =
-    let es = c.args.trees.now.items in let i = c.loop-tree.tree-index in let l = items (view c.tree-item.result) in
+    let es = c.args.trees.now in let i = c.loop-tree.tree-index in let l = items (view c.tree-item.result) in
     let step : rest es i ≡ l ++ rest es (i + 1) = rest_next es i c.tree-item.result (omega arith) (cc) in
     (search (rules, the_lemmas), omega (arith, count_two (rest es i) l (rest es (i + 1)) step, c.loop-tree.invariant.1))
 
 pub survey_all-loop-tree-preserved : goal.survey_all-loop-tree-preserved
 survey_all-loop-tree-preserved t c =
-    let es = c.args.trees.now.items in let i = c.loop-tree.tree-index in let l = items (view c.tree-item.result) in
+    let es = c.args.trees.now in let i = c.loop-tree.tree-index in let l = items (view c.tree-item.result) in
     let step : rest es i ≡ l ++ rest es (i + 1) = rest_next es i c.tree-item.result (omega arith) (cc) in
     let now = c.in_ok-survey.ensures.found in (
       rw now
