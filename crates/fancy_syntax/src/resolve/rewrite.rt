@@ -1,8 +1,6 @@
 //! The second walk: each capturing group becomes a `Group`, and each reference what it means.
-ghost use Rattle.std.specs.Prelude.{◌≡◌, ◌+◌, ◌<◌, ◌^◌, length, IfOk, option_map};
+ghost use Rattle.std.specs.Prelude.{◌≡◌, ◌+◌, ◌<◌, ◌^◌, length, IfOk};
 ghost use Rattle.fancy_lex.specs.Target.{view_target};
-ghost use Rattle.fancy_lex.specs.Text.{text_of};
-ghost use Rattle.fancy_parts.specs.Ranks.{is_counted};
 ghost use Rattle.fancy_parts.specs.declared.ranks.Role.TheVariants as does;
 ghost use Rattle.fancy_grammar.specs.Items.{items, items_all, items_absent, items_ast, openings_in};
 ghost use Rattle.fancy_syntax.specs.Notes.{known_of, progress_of, noted_one};
@@ -12,6 +10,7 @@ ghost use Rattle.fancy_grammar.specs.Walk.{noted, rebuilt, rebuilt_all, rebuilt_
 
 use crate::expr::{Absent, AstNode, Expr};
 use crate::resolve::notes::{Known, Progress, refer};
+use crate::resolve::survey::is_counted_name;
 use fancy_lex::name::CaptureGroupTarget;
 use fancy_parts::ranks::Role;
 use std::alloc::AllocError;
@@ -60,13 +59,6 @@ pub(super) fn rewrite(
         }
         _ => Ok(()),
     }
-}
-
-/// Whether a group of that name has a number.
-fn is_counted_name(named: bool, name: &Option<String>) -> bool
-    ensures { result ≡ is_counted named (option_map text_of name.now) }
-{
-    !named || name.is_some()
 }
 
 // The functions for nodes that hold trees are not inlined, so that the call for a leaf saves no registers.

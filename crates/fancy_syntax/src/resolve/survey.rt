@@ -1,6 +1,8 @@
 //! The first walk: the groups that have a number, and the numbers of each name.
-ghost use Rattle.std.specs.Prelude.{◌≡◌, ◌+◌, ◌<◌, ◌^◌, length, IfOk};
+ghost use Rattle.std.specs.Prelude.{◌≡◌, ◌+◌, ◌<◌, ◌^◌, length, IfOk, option_map};
+ghost use Rattle.fancy_lex.specs.Text.{text_of};
 ghost use Rattle.fancy_parts.specs.Groups.{groups_of};
+ghost use Rattle.fancy_parts.specs.Ranks.{is_counted};
 ghost use Rattle.fancy_grammar.specs.Items.{items, items_all, items_absent, items_ast, openings_in};
 ghost use Rattle.fancy_grammar.specs.Tree.{trees_of};
 ghost use Rattle.fancy_syntax.specs.View.{view, view_absent, view_ast, views};
@@ -45,6 +47,13 @@ pub(super) fn survey(
     }
 }
 
+/// Whether a group of that name has a number.
+pub(super) fn is_counted_name(named: bool, name: &Option<String>) -> bool
+    ensures { result ≡ is_counted named (option_map text_of name.now) }
+{
+    !named || name.is_some()
+}
+
 // The functions for nodes that hold trees are not inlined, so that the call for a leaf saves no registers.
 
 /// Adds the groups of the node that is read at the place.
@@ -63,7 +72,7 @@ fn survey_node(
 {
     match node {
         AstNode::AstGroup { name, inner } => {
-            if name.is_some() || !named {
+            if is_counted_name(named, name) {
                 groups.add(alloc, name)?;
             }
             survey(alloc, inner, named, groups)
