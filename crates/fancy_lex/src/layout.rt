@@ -56,7 +56,7 @@ fn line(text: &str) -> &str
 fn is_blank(c: char) -> bool
     ensures { result ≡ spec.is_blank c }
 {
-    matches!(c, ' ' | '\r' | '\n' | '\t')
+    c == ' ' || c == '\r' || c == '\n' || c == '\t'
 }
 
 /// What follows the `(?#` at the front.

@@ -36,7 +36,7 @@ pub(crate) fn is_end(text: &str) -> bool
     let Some((c, _)) = next(text) else {
         return true;
     };
-    matches!(c, '|' | ')')
+    c == '|' || c == ')'
 }
 
 /// Reads the layout at the front: the text behind it.

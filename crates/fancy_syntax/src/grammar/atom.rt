@@ -188,7 +188,7 @@ fn end_anchor(flags: Flags) -> Assertion
 fn is_before_nothing(c: char) -> bool
     ensures { result ≡ spec.is_before_nothing c }
 {
-    matches!(c, '+' | '*' | '?' | '|' | ')')
+    c == '+' || c == '*' || c == '?' || c == '|' || c == ')'
 }
 
 /// The character as a literal.

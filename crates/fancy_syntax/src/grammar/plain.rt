@@ -45,10 +45,17 @@ pub(crate) fn is_unquantified(here: State) -> bool
 fn is_special(c: char) -> bool
     ensures { result ≡ spec.is_special c }
 {
-    matches!(
-        c,
-        '(' | ')' | '|' | '.' | '^' | '$' | '\\' | '[' | '*' | '+' | '?'
-    )
+    c == '('
+        || c == ')'
+        || c == '|'
+        || c == '.'
+        || c == '^'
+        || c == '$'
+        || c == '\\'
+        || c == '['
+        || c == '*'
+        || c == '+'
+        || c == '?'
 }
 
 /// Whether a quantifier, or a comment before one, may begin with the character.
@@ -56,7 +63,7 @@ fn is_special(c: char) -> bool
 fn is_suffix(c: char) -> bool
     ensures { result ≡ spec.is_suffix c }
 {
-    matches!(c, '(' | '*' | '+' | '?' | '{')
+    c == '(' || c == '*' || c == '+' || c == '?' || c == '{'
 }
 
 /// Whether a blank or a line comment begins with the character, where these are layout.
