@@ -52,13 +52,13 @@ impl Expr {
     }
 
     /// Appends the tree's text to `buf`; the caller owes a tree that has one, as every printable tree has. Above
-    /// precedence 0, `WHOLE`, an `Alt`, above 1, `BRANCH`, a `Concat` and above 2, `PIECE`, a `Repeat` stands in a group of its own, and so does a
-    /// `Literal` of several characters with its case kept under a `Repeat`. The buffer grows once, by the text's length
-    /// in bytes, where it lacks room for that; where that is refused, the answer is `AllocError` and `buf` holds what
-    /// it held. What is appended for a printable tree reads as its normal form, with no flag and with `FLAG_UNICODE`
-    /// alone; where 64 printed groups nest or more, it is refused as `RecursionExceeded`, at the byte of the first
-    /// opening parenthesis that has 63 groups open round it. So trees that are printed as one text have one normal
-    /// form.
+    /// precedence 0, `WHOLE`, an `Alt`, above 1, `BRANCH`, a `Concat` and above 2, `PIECE`, a `Repeat` stands in a
+    /// group of its own, and so does a `Literal` of several characters with its case kept under a `Repeat`. The buffer
+    /// grows once, by the text's length in bytes, where it lacks room for that; where that is refused, the answer is
+    /// `AllocError` and `buf` holds what it held. What is appended for a printable tree reads as its normal form, with
+    /// no flag and with `FLAG_UNICODE` alone; where 64 printed groups nest or more, it is refused as
+    /// `RecursionExceeded`, at the byte of the first opening parenthesis that has 63 groups open round it. So trees
+    /// that are printed as one text have one normal form.
     ///
     /// ```rust
     /// if tree.is_printable(alloc)? {
