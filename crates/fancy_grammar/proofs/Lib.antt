@@ -15,7 +15,6 @@ pub mod BoundLaws
 pub mod ItemLemmas
 pub mod OrderLaws
 pub mod NamedNumbers
-pub mod BackslashLemmas
 pub mod FoundLaws
 pub mod NoteLaws
 pub mod ResolveLaws

@@ -11,9 +11,10 @@ use Rattle.fancy_parts.specs.Ranks.{numbers, opened_before}
 use Rattle.fancy_grammar.specs.Fits.{Fits}
 use Rattle.fancy_parts.specs.Groups.{numbers_under}
 use Rattle.fancy_grammar.specs.Items.{Item, opening, reference, references_in}
-use Rattle.fancy_grammar.specs.Marks.{back_number, back_numbers, is_numeric, is_call, is_call_of_all}
+use Rattle.fancy_grammar.specs.Marks.{back_number, back_numbers, is_call, is_call_of_all}
 use Rattle.fancy_parts.specs.Meaning.{Reference, Meaning, number, unresolved, faulty, means, meaning, first_fault}
 use Rattle.fancy_parts.specs.Meaning.{fault_or}
+use Rattle.fancy_parts.specs.Written.{is_numeric}
 use Rattle.fancy_grammar.specs.Walk.{Known, Progress, noted, note_item, or_else, beyond, with_backref}
 
 abbrev Numbers : Known → List Opening → Type 0

@@ -2,13 +2,13 @@
 use Rattle.std.proofs.Common.{◌≡◌, if◌then◌else◌, zero, suc, ℕ, Bool, true, false, ◌==◌, [], ◌∷◌, None, refl, sym, subst, ◌∙◌, ap, arith, tests, rules}
 use Rattle.std.proofs.lemmas.Bool.Decides.{nat_tests}
 use Prim.Native.Char.{code}
-use Rattle.fancy_lex.specs.Layout.{layout, layout_from, is_blank, rest}
+use Rattle.fancy_lex.specs.Layout.{layout, layout_from, is_blank, is_layout, rest}
 use Rattle.fancy_lex.specs.Characters.{hash}
 use Rattle.fancy_lex.specs.Text.{Text, bytes}
 use Rattle.fancy_parts.specs.Quantifier.{counts}
 use Rattle.fancy_grammar.specs.Ahead.{ahead, leaf}
 use Rattle.fancy_grammar.specs.Grammar.{piece, atom, a_leaf}
-use Rattle.fancy_grammar.specs.Plain.{is_special, is_suffix, is_layout, IsPlain}
+use Rattle.fancy_grammar.specs.Plain.{is_special, is_suffix, IsPlain}
 use Rattle.fancy_grammar.specs.Quantified.{quant, quants, adjacent, max_adjacent, is_unmoved}
 use Rattle.fancy_grammar.specs.State.{ends, State, at, Outcome, done, and_then}
 use Rattle.fancy_grammar.specs.Tree.{Tree, literal}

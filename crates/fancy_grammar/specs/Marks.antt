@@ -1,16 +1,15 @@
 -- What is said of a tree beside it.
-use Rattle.std.specs.Prelude.{ℕ, ◌-◌, Bool, true, false, ◌&&◌, ◌==◌, nat_le, nat_lt, List, [], length, Option, Some}
-use Rattle.std.specs.Prelude.{None}
-use Rattle.std.specs.Prelude.{encode_utf8_all, slice_index, filter, filter_map, find, fold}
+use Rattle.std.specs.Prelude.{ℕ, Bool, true, false, ◌==◌, nat_le, nat_lt, List, [], length, Option, Some, None}
+use Rattle.std.specs.Prelude.{filter, filter_map, find, fold}
 use Rattle.std.specs.BTreeSet.{insert_key}
 use Rattle.std.specs.List.{list_any}
 use Rattle.std.specs.Ordering.{nat_cmp}
-use Prim.Native.Char.{code}
 use Rattle.fancy_lex.specs.Target.{Target, by_number}
 use Rattle.fancy_lex.specs.Text.{Text}
 use Rattle.fancy_lex.specs.declared.flags.Flags.{Flags}
-use Rattle.fancy_parts.specs.Meaning.{Role, back_reference, call, condition, Reference, Meaning, number, meaning}
+use Rattle.fancy_parts.specs.Meaning.{Role, back_reference, call, Reference, Meaning, number, meaning}
 use Rattle.fancy_parts.specs.Ranks.{Opening, only_named, counted_in, named_groups}
+use Rattle.fancy_parts.specs.Written.{is_numeric}
 use Rattle.fancy_grammar.specs.Items.{openings, references}
 use Rattle.fancy_grammar.specs.Tree.{Tree}
 
@@ -36,20 +35,6 @@ back_numbers groups l = filter_map (λ r. back_number r.role (meaning groups r))
 -- the numbers ascending, each once
 abbrev pub ascending : List ℕ → List ℕ
 ascending l = fold (insert_key nat_cmp) [] l
-
--- whether the text has a backslash right before the place
-abbrev pub is_behind_backslash : Text → ℕ → Bool
-is_behind_backslash text place = nat_lt 0 place && slice_index (encode_utf8_all text) (place - 1) == code "\\"
-
--- whether a reference by number counts as numeric: each call, and a back reference right behind its backslash
-abbrev pub is_numeric_role : Text → ℕ → Role → Bool
-is_numeric_role text place call = true
-is_numeric_role text place back_reference = is_behind_backslash text place
-is_numeric_role text place condition = false
-
-abbrev pub is_numeric : Text → ℕ → Role → Target → Bool
-is_numeric text place role (by_number n) = is_numeric_role text place role
-is_numeric text place role _ = false
 
 abbrev pub is_call : Role → Bool
 is_call call = true

@@ -1,5 +1,5 @@
 -- Characters that are pieces of their own.
-use Rattle.std.specs.Prelude.{◌≡◌, ℕ, Bool, false, ◌&&◌, [], ◌∷◌}
+use Rattle.std.specs.Prelude.{◌≡◌, ℕ, Bool, false, [], ◌∷◌}
 use Rattle.fancy_lex.specs.Characters.{◌∈◌}
 use Rattle.fancy_lex.specs.Text.{Text}
 use Rattle.fancy_grammar.specs.Grammar.{Piece}
@@ -13,10 +13,6 @@ is_special c = c ∈ "()|.^$\\[*+?"
 -- with these a quantifier begins, or a comment before one
 abbrev pub is_suffix : ℕ → Bool
 is_suffix c = c ∈ "(*+?{"
-
--- with these a blank or a line comment begins, where they are layout
-abbrev pub is_layout : Bool → ℕ → Bool
-is_layout x c = x && (c ∈ "# \r\n\t")
 
 -- the character at s is a piece, wherever s stands, and t follows it
 pub record IsPlain (s : State) (c : ℕ) (t : Text) : Type 0 where

@@ -8,8 +8,9 @@ use Rattle.fancy_lex.specs.Text.{Text}
 use Rattle.fancy_parts.specs.Groups.{Groups, with_opening, numbers_under}
 use Rattle.fancy_parts.specs.Meaning.{Role, Reference, Meaning, number, means, fault_or}
 use Rattle.fancy_parts.specs.Ranks.{is_counted}
+use Rattle.fancy_parts.specs.Written.{is_numeric}
 use Rattle.fancy_grammar.specs.Items.{Item, opening, reference, items}
-use Rattle.fancy_grammar.specs.Marks.{back_number, is_numeric, is_call, is_call_of_all}
+use Rattle.fancy_grammar.specs.Marks.{back_number, is_call, is_call_of_all}
 use Rattle.fancy_grammar.specs.Resolved.{resolved_node, group_or_inside}
 use Rattle.fancy_grammar.specs.Tree.{Tree, Trees, no_trees, more_trees, concat, alt, group, look_around, repeat}
 use Rattle.fancy_grammar.specs.Tree.{atomic_group}

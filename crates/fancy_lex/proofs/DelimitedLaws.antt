@@ -3,9 +3,8 @@ use Rattle.std.proofs.Common.{◌≡◌, ◌≢◌, ℕ, Bool, true, false, ◌=
 use Rattle.std.specs.Option.{option_and_then}
 use Rattle.std.proofs.lemmas.Bool.Decides.{nat_tests}
 use Rattle.fancy_lex.specs.Delimited.{Without, StartsWithName, name_before}
-use Rattle.fancy_lex.specs.Id.{filled, parts}
-use Rattle.fancy_lex.specs.Property.{cut_at}
-use Rattle.fancy_lex.specs.Text.{Text}
+use Rattle.fancy_lex.specs.Id.{filled}
+use Rattle.fancy_lex.specs.Text.{Text, parts, cut_at}
 
 -- a part of a text, and the rest; or none
 abbrev Parts : Type 0

@@ -10,10 +10,10 @@ use Rattle.fancy_lex.specs.Escaped.{Escape, delegate, literal, literal_bytes}
 use Rattle.fancy_lex.specs.Fault.{invalid_class, invalid_hex, invalid_codepoint_value, unclosed_unicode_name}
 use Rattle.fancy_lex.specs.Hex.{hex, value, braced_value, digits, fixed_digits, hex_digit, closing_brace, leaf_of_value, is_scalar}
 use Rattle.fancy_lex.specs.Layout.{layout, layout_from, Skipped, rest, fault, State, between, two, one, comment, escaped, line, after_comment_head, is_blank}
-use Rattle.fancy_lex.specs.Property.{Property, PropertyName, read_property, name_at, cut_at, property_text}
+use Rattle.fancy_lex.specs.Property.{Property, PropertyName, read_property, name_at, property_text}
 use Rattle.fancy_lex.specs.Property as property_spec
 use Rattle.fancy_lex.specs.Reading.{Reading, gives, fails, fault_at, choose, layout_reading, ◌>=>◌}
-use Rattle.fancy_lex.specs.Text.{Text, place_of, strip}
+use Rattle.fancy_lex.specs.Text.{Text, place_of, strip, cut_at}
 use Rattle.fancy_lex.specs.declared.flags.Flags.{Flags}
 use Rattle.fancy_lex.proofs.LayoutLemmas.{between_step}
 

@@ -10,10 +10,10 @@ use Rattle.fancy_lex.specs.Escaped.{Escape}
 use Rattle.fancy_lex.specs.Fault.{Kind, invalid_escape}
 use Rattle.fancy_lex.specs.Hex as hexes
 use Rattle.fancy_lex.specs.Layout.{Skipped, rest, fault, layout}
-use Rattle.fancy_lex.specs.Property.{single, braced, cut_at, name_at, read_property}
+use Rattle.fancy_lex.specs.Property.{single, braced, name_at, read_property}
 use Rattle.fancy_lex.specs.Reading.{Reading, gives, fails, fault_at, ◌>=>◌, choose, layout_reading}
 use Rattle.fancy_lex.specs.Referred.{Reference}
-use Rattle.fancy_lex.specs.Text.{Text, EndsWith as Ends, bytes, strip, place_of}
+use Rattle.fancy_lex.specs.Text.{Text, EndsWith as Ends, bytes, strip, place_of, cut_at}
 use Rattle.fancy_lex.proofs.LayoutLaws.{layout_cut, layout_stands}
 use Rattle.fancy_lex.proofs.LeaveLaws.{ends_whole, ends_past, ends_twice, stands_here, stands_past, Leaves, whole, whole_next, leaves_none, leaves_told, leaves_retold, leaves_past, leaves_if, leaves_both, leaves_choose, ends_strip, LeavesSome, ends_some, some_if, some_past, some_both, leaves}
 use Rattle.fancy_lex.proofs.ReferenceLaws.{takes_number, takes_numbered_reference, takes_back_reference, takes_subroutine_call}

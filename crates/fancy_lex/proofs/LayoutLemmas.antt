@@ -3,7 +3,7 @@ use Rattle.std.proofs.Common.{◌≡◌, ◌≢◌, ◌+◌, ℕ, Bool, true, []
 use Rattle.std.proofs.lemmas.Bool.Decides.{nat_tests}
 use Rattle.fancy_lex.specs.Characters.{line_feed, hash, open_paren, close_paren, backslash}
 use Rattle.fancy_lex.specs.Text.{Text}
-use Rattle.fancy_lex.specs.Layout.{rest, fault, layout_from, between, two, comment, escaped, line, is_blank, after_comment_head}
+use Rattle.fancy_lex.specs.Layout.{rest, fault, layout_from, between, two, comment, escaped, line, is_blank, is_layout, after_comment_head}
 
 module _ (n : ℕ) (x : Bool) (t : Text) where
   pub comment_end : t ≡ [] → layout_from n x comment t ≡ fault n
@@ -69,18 +69,12 @@ module _ (n : ℕ) (x : Bool) (t : Text) (c : ℕ) (r : Text) (e : t ≡ c ∷ r
   no_comment_head : is_some (after_comment_head (c ∷ r)) ≡ false
   no_comment_head = grind (arith, nat_tests)
 
-  by_flag : (y : Bool) → (y && (c == hash || is_blank c)) ≡ false →
+  by_flag : (y : Bool) → is_layout y c ≡ false →
       (if y && c == hash then layout_from n x line r else if y && is_blank c then layout_from n x between r else rest t) ≡ rest t
   by_flag y h = grind (arith, nat_tests)
 
-  no_unit : (x && (c == hash || is_blank c)) ≡ false → layout_from n x between t ≡ rest t
-  no_unit h = between_step n x t c r e ∙ rw (e, no_comment_head) (rw e at by_flag x h)
-
-  pub between_flagless : x ≡ false → layout_from n x between t ≡ rest t
-  between_flagless f = no_unit (ap (λ y. y && (c == hash || is_blank c)) f)
-
-  pub between_first : c ≢ hash → is_blank c ≡ false → layout_from n x between t ≡ rest t
-  between_first h b = no_unit (grind (arith, nat_tests))
+  pub between_no_layout : is_layout x c ≡ false → layout_from n x between t ≡ rest t
+  between_no_layout h = between_step n x t c r e ∙ rw (e, no_comment_head) (rw e at by_flag x h)
 
 -- the same inside a comment and a line comment
 module _ (n : ℕ) (x : Bool) (t : Text) (c : ℕ) (r : Text) (e : t ≡ c ∷ r) where

@@ -10,8 +10,8 @@ use Rattle.std.proofs.lemmas.Str.Ascii.{lowercase_ascii}
 use Rattle.std.proofs.lemmas.Slice.Eq.{bytes_eq-Decides}
 use Rattle.std.proofs.lemmas.Str.{encode_ascii, inside_one, encodes_same, encodes-chars, chars_from_encodes, chars-append, chars_past_char, IsUtf8-take, IsUtf8-drop, IsCharBoundary-before_ascii}
 use Rattle.std.proofs.lemmas.Str.Pattern.{IsSplitOnceResult, split_parts, drop_at_char}
-use Rattle.fancy_lex.specs.Property.{cut_at, lowercase}
-use Rattle.fancy_lex.specs.Text.{Text}
+use Rattle.fancy_lex.specs.Property.{lowercase}
+use Rattle.fancy_lex.specs.Text.{Text, cut_at}
 
 -- the text before a mark
 cut_first : (mark : ℕ) (w v : Text) → NonePass (λ d. d == mark) w → cut_at mark (w ++ (mark ∷ v)) ≡ Some (w, v)

@@ -54,12 +54,12 @@ bytes-append (c ∷ t) u = omega (arith, bytes-append t u)
 pub bytes_chars : (bs : List ℕ) → IsUtf8 bs → bytes (chars bs) ≡ length bs
 bytes_chars bs u = length_encodes (chars bs) ∙ ap length (encodes-chars bs u)
 
--- two strings have the same bytes where they have the same characters
-pub same_text : (a b : String Global) → bytes_eq (string_bytes a) (string_bytes b) ≡ bytes_eq (text_of a) (text_of b)
-same_text a b =
-    same_from_decides _ _ (bytes_eq-Decides (string_bytes a) (string_bytes b)) (
-      λ e. sym (encodes-chars _ (IsUtf8-string_bytes a)) ∙ ap encode_utf8_all ((bytes_eq-Decides (text_of a) (text_of b)).0 e) ∙ encodes-chars _ (IsUtf8-string_bytes b),
-      λ e. (bytes_eq-Decides (text_of a) (text_of b)).1 (ap chars e),
+-- two texts have the same bytes where they have the same characters
+pub same_text : (a b : List ℕ) → IsUtf8 a → IsUtf8 b → bytes_eq a b ≡ bytes_eq (chars a) (chars b)
+same_text a b u v =
+    same_from_decides _ _ (bytes_eq-Decides a b) (
+      λ e. sym (encodes-chars a u) ∙ ap encode_utf8_all ((bytes_eq-Decides (chars a) (chars b)).0 e) ∙ encodes-chars b v,
+      λ e. (bytes_eq-Decides (chars a) (chars b)).1 (ap chars e),
     )
 
 -- a text that ends with another's characters ends with its bytes

@@ -3,8 +3,7 @@ use Rattle.std.specs.Prelude.{◌≡◌, ◌≢◌, ℕ, ◌<◌, ◌==◌, if�
 use Rattle.std.specs.Option.{option_and_then}
 use Prim.Native.Char.{code}
 use Rattle.fancy_lex.specs.Id.{filled}
-use Rattle.fancy_lex.specs.Property.{cut_at}
-use Rattle.fancy_lex.specs.Text.{Text}
+use Rattle.fancy_lex.specs.Text.{Text, cut_at}
 
 -- no character is the mark
 abbrev pub Without : ℕ → Text → Type 0

@@ -1,7 +1,6 @@
 -- Ids: the names that a reference may be written with.
 use Rattle.std.specs.Prelude.{◌≡◌, ℕ, ◌<◌, Bool, true, false, ◌||◌, ◌==◌, if◌then◌else◌, List, [], ◌∷◌, ◌++◌, length}
-use Rattle.std.specs.Prelude.{Option, Some, None, option_map, chars}
-use Rattle.std.specs.Borrow.{Bor}
+use Rattle.std.specs.Prelude.{Option, Some, None}
 use Rattle.ucd_category.specs.declared.GeneralCategory.{GeneralCategory}
 use Rattle.ucd_category.specs.declared.GeneralCategory.TheVariants.{DecimalNumber, LetterNumber, OtherNumber}
 use Rattle.unicode.specs.Binary.{is_alphabetic}
@@ -53,7 +52,3 @@ filled (c ∷ w, v) = Some (c ∷ w, v)
 -- the id at the front, if there is one, and what is left
 unfoldable pub id : Text → Option (Text × Text)
 id t = filled (id_run t)
-
--- two parts of a text, as code answers them
-abbrev pub parts : Option (Bor (List ℕ) × Bor (List ℕ)) → Option (Text × Text)
-parts = option_map (λ p. (chars p.0.now, chars p.1.now))

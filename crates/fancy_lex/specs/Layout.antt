@@ -11,6 +11,10 @@ use Rattle.fancy_lex.specs.Text.{Text, strip}
 abbrev pub is_blank : ℕ → Bool
 is_blank c = ((c == code " " || c == code "\r") || c == code "\n") || c == code "\t"
 
+-- with these a blank or a line comment begins, where they are layout
+abbrev pub is_layout : Bool → ℕ → Bool
+is_layout x c = x && (c == hash || is_blank c)
+
 -- the inside of a comment: characters other than `\` and `)`, and pairs of `\` and any character
 pub data Inside : Text → Type 0 where
   nothing : Inside []

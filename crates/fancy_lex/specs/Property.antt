@@ -6,7 +6,7 @@ use Rattle.std.specs.Char.{to_ascii_lowercase}
 use Rattle.std.specs.List.{starts_with}
 use Rattle.std.specs.Str.{bytes_eq}
 use Rattle.fancy_lex.specs.Characters.{caret, open_brace, close_brace}
-use Rattle.fancy_lex.specs.Text.{Text}
+use Rattle.fancy_lex.specs.Text.{Text, cut_at}
 use Rattle.fancy_lex.specs.declared.property.Known.{Known}
 use Rattle.fancy_lex.specs.declared.property.Known.TheVariants.{Alnum, Blank, Cntrl, Word, Graph, Print, Cs, Other}
 use Rattle.fancy_lex.specs.declared.property.Property as code
@@ -31,11 +31,6 @@ view_name (written.Braced s) = braced (chars s.now)
 -- a property in code, with its name as characters
 abbrev pub view_property : code.Property → Property
 view_property p = record { negated = p.negated; name = view_name p.name }
-
--- what stands before the first such character, and what follows it
-abbrev pub cut_at : ℕ → Text → Option (Text × Text)
-cut_at mark [] = None
-cut_at mark (c ∷ t) = if c == mark then Some ([], t) else option_map (λ p. (c ∷ p.0, p.1)) (cut_at mark t)
 
 -- the name behind the letter, and the text left; none where no text is left, or the brace is not closed
 unfoldable pub name_at : Text → Option (PropertyName × Text)

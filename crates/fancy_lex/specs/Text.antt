@@ -1,6 +1,7 @@
 -- Texts as lists of characters, and places in them.
 use Rattle.std.specs.Prelude.{◌≡◌, ℕ, ◌+◌, ◌-◌, List, [], ◌∷◌, ◌++◌, chars, string_bytes, String, Option, Some, None}
-use Rattle.std.specs.Prelude.{option_and_then, if◌then◌else◌, ◌==◌}
+use Rattle.std.specs.Prelude.{option_and_then, option_map, if◌then◌else◌, ◌==◌}
+use Rattle.std.specs.Borrow.{Bor}
 use Rattle.std.specs.Char.{len_utf8}
 use Rattle.std.specs.declared.alloc.Global.{Global}
 
@@ -30,6 +31,15 @@ strip mark (c ∷ t) = if c == mark then Some t else None
 abbrev pub strip_word : Text → Text → Option Text
 strip_word [] t = Some t
 strip_word (c ∷ w) t = option_and_then (strip_word w) (strip c t)
+
+-- what stands before the first such character, and what follows it
+abbrev pub cut_at : ℕ → Text → Option (Text × Text)
+cut_at mark [] = None
+cut_at mark (c ∷ t) = if c == mark then Some ([], t) else option_map (λ p. (c ∷ p.0, p.1)) (cut_at mark t)
+
+-- two parts of a text, as code answers them
+abbrev pub parts : Option (Bor (List ℕ) × Bor (List ℕ)) → Option (Text × Text)
+parts = option_map (λ p. (chars p.0.now, chars p.1.now))
 
 -- the text ends with the other
 abbrev pub EndsWith : Text → Text → Type 0

@@ -59,6 +59,14 @@ fn is_blank(c: char) -> bool
     c == ' ' || c == '\r' || c == '\n' || c == '\t'
 }
 
+/// Whether a blank or a line comment begins with the character, where these are layout.
+#[inline]
+pub fn is_layout(ignore_space: bool, c: char) -> bool
+    ensures { result ≡ spec.is_layout ignore_space c }
+{
+    ignore_space && (c == '#' || is_blank(c))
+}
+
 /// What follows the `(?#` at the front.
 #[inline]
 fn after_comment_head(text: &str) -> Option<&str>
@@ -109,7 +117,7 @@ fn begins_layout(text: &str, ignore_space: bool) -> bool
     let Some((c, _)) = next(text) else {
         return false;
     };
-    c == '(' || ignore_space && (c == '#' || is_blank(c))
+    c == '(' || is_layout(ignore_space, c)
 }
 
 /// Reads the layout at the front, where any begins there.

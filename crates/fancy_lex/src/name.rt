@@ -1,6 +1,5 @@
 //! What a reference names, and how it is written: numbers, ids, and names between marks.
 ghost use Rattle.std.specs.Prelude.{◌↔◌, IsTrue, ◌≡◌, IfOk, false, IsOk};
-ghost use Rattle.std.specs.Str.{bytes_eq};
 ghost use Rattle.std.specs.Cmp.{on_per, on_equiv, partial_equiv_from_equiv};
 ghost use Rattle.fancy_lex.specs.Target.{view_target, is_name, same_target, same_target-equiv};
 ghost use Rattle.fancy_lex.specs.Text.{text_of};
@@ -11,6 +10,7 @@ pub mod number;
 pub mod number_text;
 pub mod target;
 
+use crate::text::is_same_text;
 use std::alloc::{AllocError, Global};
 
 /// The group that a reference names, before its number is known.
@@ -69,7 +69,7 @@ fn is_same_target(a: &CaptureGroupTarget, b: &CaptureGroupTarget) -> bool
             _ => false,
         },
         CaptureGroupTarget::ByName(a) => match b {
-            CaptureGroupTarget::ByName(b) => is_same_text(a, b),
+            CaptureGroupTarget::ByName(b) => is_same_text(a.as_str(), b.as_str()),
             _ => false,
         },
         CaptureGroupTarget::Relative(a) => match b {
@@ -77,12 +77,4 @@ fn is_same_target(a: &CaptureGroupTarget, b: &CaptureGroupTarget) -> bool
             _ => false,
         },
     }
-}
-
-/// Whether two strings hold the same text.
-#[tactic(auto, using(crate::proofs::TextLemmas::same_text))]
-pub fn is_same_text(a: &String, b: &String) -> bool
-    ensures { result ≡ bytes_eq (text_of a.now) (text_of b.now) }
-{
-    a == b
 }

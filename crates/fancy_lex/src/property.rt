@@ -6,7 +6,7 @@ ghost use Rattle.fancy_lex.specs.Property as spec;
 ghost use Rattle.fancy_lex.specs.PropertyForm.{view_form, other_form};
 ghost use Rattle.fancy_lex.specs.Text.{Text, text_of, BeginsWith};
 
-use crate::text::{after, append, next, push};
+use crate::text::{after, append, next, push, split_at};
 use std::alloc::AllocError;
 
 /// The name of a property.
@@ -36,20 +36,12 @@ pub fn read_property(text: &str, negated: bool) -> Option<(Property<'_>, &str)>
 {
     let (c, rest) = next(text)?;
     if c == '{' {
-        let (name, rest) = until_brace(rest)?;
+        let (name, rest) = split_at(rest, '}')?;
         let name = PropertyName::Braced(name);
         return Some((Property { negated, name }, rest));
     }
     let name = PropertyName::Single(c);
     Some((Property { negated, name }, rest))
-}
-
-/// What stands before the first closing brace, and what follows it.
-fn until_brace(text: &str) -> Option<(&str, &str)>
-    ensures value { spec.cut_at close_brace (chars text.now) ≡ option_map (λ p. (chars p.0.now, chars p.1.now)) result }
-    ensures shorter { IfSome result (λ p. length p.1.now < length text.now) }
-{
-    text.split_once('}')
 }
 
 /// The names that are written in a way of their own, and any other.

@@ -1,6 +1,7 @@
 //! Steps over the text, which allocate nothing, and strings that grow.
 ghost use Rattle.std.specs.Prelude.{◌≡◌, ◌+◌, ◌-◌, ◌<◌, ◌≤◌, [], ◌∷◌, ◌++◌, length, chars, MatchOption, IfSome, option_map, is_ok, if◌then◌else◌};
-ghost use Rattle.fancy_lex.specs.Text.{Text, bytes, strip, strip_word, place_of, text_of};
+ghost use Rattle.std.specs.Str.{bytes_eq};
+ghost use Rattle.fancy_lex.specs.Text.{Text, bytes, cut_at, strip, strip_word, place_of, text_of, parts};
 
 use std::alloc::AllocError;
 
@@ -33,12 +34,29 @@ pub fn after_word<'a>(text: &'a str, word: &str) -> Option<&'a str>
     text.strip_prefix(word)
 }
 
-/// How many bytes are left.
+/// The text before the first such mark, an ASCII character, and the text behind it.
+pub fn split_at(text: &str, mark: char) -> Option<(&str, &str)>
+    requires { mark < 128 }
+    ensures value { cut_at mark (chars text.now) ≡ parts result }
+    ensures shorter { IfSome result (λ p. length p.1.now < length text.now) }
+{
+    text.split_once(mark)
+}
+
+/// How many bytes the text has.
 #[inline]
-pub fn bytes_left(text: &str) -> usize
+pub fn byte_len(text: &str) -> usize
     ensures { result ≡ bytes (chars text.now) }
 {
     text.len()
+}
+
+/// Whether two texts are the same.
+#[tactic(auto, using(crate::proofs::TextLemmas::same_text))]
+pub fn is_same_text(a: &str, b: &str) -> bool
+    ensures { result ≡ bytes_eq (chars a.now) (chars b.now) }
+{
+    a == b
 }
 
 /// The place where `text` begins, at the end of a text of `end` bytes.

@@ -7,6 +7,7 @@ pub mod HeadLaws
 -- ---- the numbers of groups
 mod NameLemmas
 pub mod NamedLaws
+mod BackslashLemmas
 -- ---- what is printed
 pub mod QuoteLemmas
 pub mod RoomLemmas

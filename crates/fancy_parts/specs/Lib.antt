@@ -8,6 +8,7 @@ pub mod HeadReference
 -- ---- the numbers of groups, and what references mean by them
 pub mod Ranks
 pub mod Meaning
+pub mod Written
 -- ---- what is printed
 pub mod Quote
 -- How values of the code stand to the definitions.

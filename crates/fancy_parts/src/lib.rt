@@ -6,3 +6,4 @@ pub mod heads;
 pub mod quote;
 pub mod ranks;
 pub mod room;
+pub mod written;

@@ -1,5 +1,5 @@
 //! The numbers of capturing groups, and what a reference means by them.
-ghost use Rattle.std.specs.Prelude.{◌≡◌, ℕ, ◌+◌, ◌<◌, ◌^◌, List, false, IfOk, IsOk, OnErr, is_some, map, option_map};
+ghost use Rattle.std.specs.Prelude.{◌≡◌, ℕ, ◌+◌, ◌<◌, ◌^◌, List, false, nat_le, IfOk, IsOk, OnErr, is_some, map, option_map};
 ghost use Rattle.fancy_lex.specs.Target.{view_target};
 ghost use Rattle.fancy_lex.specs.Text.{text_of};
 ghost use Rattle.fancy_parts.specs.Groups.{groups_of, no_groups, with_group, with_number, numbers_under, named};
@@ -72,6 +72,13 @@ impl Groups {
         }
         self.total = number;
         Ok(())
+    }
+
+    /// Whether the number is that of a group, or 0, which is the whole pattern.
+    pub fn is_in_range(&self, number: usize) -> bool
+        ensures { result ≡ nat_le number (groups_of self.now).total }
+    {
+        number <= self.total
     }
 }
 

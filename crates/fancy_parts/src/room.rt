@@ -13,14 +13,6 @@ pub fn ascii_len(text: &str) -> usize
     text.len()
 }
 
-/// How many bytes a text has.
-#[inline]
-pub fn text_len(text: &str) -> usize
-    ensures { result ≡ bytes (chars text.now) }
-{
-    text.len()
-}
-
 /// Writes a character.
 #[inline]
 pub fn put(buf: &mut String, c: char)

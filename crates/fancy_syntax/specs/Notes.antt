@@ -6,6 +6,7 @@ use Rattle.fancy_lex.specs.Target.{view_target}
 use Rattle.fancy_lex.specs.declared.name.CaptureGroupTarget.{CaptureGroupTarget}
 use Rattle.fancy_parts.specs.Groups.{Groups, groups_of, meaning_of, role_of}
 use Rattle.fancy_parts.specs.Meaning.{fault_or}
+use Rattle.fancy_parts.specs.Written.{is_numeric}
 use Rattle.fancy_parts.specs.declared.ranks.Meaning.{Meaning}
 use Rattle.fancy_parts.specs.declared.ranks.Role.{Role}
 use Rattle.fancy_grammar.specs.Marks as spec
@@ -43,7 +44,7 @@ noted_one k p place role target =
 -- the walk with what the form of a reference says noted
 abbrev pub form_noted : Known → Progress → ℕ → Role → CaptureGroupTarget → walk.Progress
 form_noted k p place role target = record (progress_of p) {
-  numeric = p.numeric || spec.is_numeric (chars k.pattern.now) place (role_of role) (view_target target);
+  numeric = p.numeric || is_numeric (chars k.pattern.now) place (role_of role) (view_target target);
   calls = p.calls || spec.is_call (role_of role);
   self_recursive = p.self_recursive || spec.is_call_of_all (role_of role) (view_target target);
 }

@@ -29,7 +29,7 @@ use crate::grammar::state::State;
 use crate::grammar::step::{Step, close, read_step};
 use fancy_lex::error::Error;
 use fancy_lex::flags::Flags;
-use fancy_lex::text::{after, bytes_left, next, place};
+use fancy_lex::text::{after, byte_len, next, place};
 use std::alloc::Global;
 
 /// Reads a whole text: its raw tree, in which a capturing group is an AstNode with the place of its parenthesis.
@@ -64,7 +64,7 @@ fn alternation<'a>(alloc: Global, start: State<'a>, end: usize) -> Result<(Expr,
             frame.add(alloc, leaf)?;
             here.rest = rest;
         } else if !is_end(here.rest) {
-            frame.left = bytes_left(here.rest);
+            frame.left = byte_len(here.rest);
             frame.flags = here.flags;
             match read_step(alloc, &mut here, stack.len(), end)? {
                 Step::Piece(piece) => frame.add(alloc, piece)?,

@@ -15,11 +15,11 @@ use Rattle.fancy_lex.specs.Fault.{invalid_class, invalid_codepoint_value, unclos
 use Rattle.fancy_lex.specs.Hex as hexes
 use Rattle.fancy_lex.specs.Hex.{hex, value, leaf_of_value, is_scalar, fixed_digits}
 use Rattle.fancy_lex.specs.Layout.{layout}
-use Rattle.fancy_lex.specs.Property.{Property, PropertyName, single, braced, read_property, name_at, cut_at, property_text, Form, set, pair, form, form_text, look_up, lowercase, turn, letter}
+use Rattle.fancy_lex.specs.Property.{Property, PropertyName, single, braced, read_property, name_at, property_text, Form, set, pair, form, form_text, look_up, lowercase, turn, letter}
 use Rattle.fancy_lex.specs.Reading.{Reading, gives, fails, fault_at, choose, layout_reading, ◌>=>◌}
 use Rattle.fancy_lex.specs.EscapeReference.{group_number}
 use Rattle.fancy_lex.specs.declared.flags.Flags.{Flags}
-use Rattle.fancy_lex.specs.Text.{Text, place_of, strip}
+use Rattle.fancy_lex.specs.Text.{Text, place_of, strip, cut_at}
 use Rattle.fancy_grammar.specs.Normal.{bare, case_flags}
 use Rattle.fancy_grammar.proofs.ReadBack.ClearLemmas.{Each, no_more, also, each_among, not_open, no_layout}
 use Rattle.fancy_grammar.proofs.ReadBack.ScalarLemmas.{scalars_append}

@@ -14,12 +14,13 @@ use Rattle.fancy_lex.specs.declared.error.ParseError.TheVariants.{RecursionExcee
 use Rattle.fancy_lex.specs.declared.flags.Flags.{Flags}
 use Rattle.fancy_parts.specs.Meaning.{first_fault}
 use Rattle.fancy_parts.specs.Ranks.{counted_in, named_groups, numbers, name_cmp}
+use Rattle.fancy_parts.specs.Written.{is_numeric}
 use Rattle.fancy_grammar.specs.Depth.{max_depth}
 use Rattle.fancy_grammar.specs.Answer.{IsTreeOf, of_reading}
 use Rattle.fancy_grammar.specs.Answered.{groups}
 use Rattle.fancy_grammar.specs.Grammar.{Derives, Faults}
 use Rattle.fancy_grammar.specs.Items.{Item, opening, reference, items, openings, openings_in, references_in}
-use Rattle.fancy_grammar.specs.Marks.{Marks, marks, ascending, back_numbers, is_numeric, is_call, is_call_of_all}
+use Rattle.fancy_grammar.specs.Marks.{Marks, marks, ascending, back_numbers, is_call, is_call_of_all}
 use Rattle.fancy_grammar.specs.Printed.{printed}
 use Rattle.fancy_grammar.specs.Resolved.{fault_of}
 use Rattle.fancy_grammar.specs.Tree.{Tree, empty}

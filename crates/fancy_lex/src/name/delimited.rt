@@ -1,20 +1,9 @@
 //! Names: what stands before the first closing mark.
 ghost use Rattle.std.specs.Prelude.{◌≡◌, ◌<◌, length, chars, IfSome, Some};
 ghost use Rattle.fancy_lex.specs.Delimited as spec;
-ghost use Rattle.fancy_lex.specs.Id.{parts};
-ghost use Rattle.fancy_lex.specs.Property.{cut_at};
-ghost use Rattle.fancy_lex.specs.Text.{Text};
+ghost use Rattle.fancy_lex.specs.Text.{Text, parts};
 
-use crate::text::next;
-
-/// The text before the first such mark, and the text behind it.
-fn split_at(text: &str, mark: char) -> Option<(&str, &str)>
-    requires { mark < 128 }
-    ensures value { cut_at mark (chars text.now) ≡ parts result }
-    ensures shorter { IfSome result (λ p. length p.1.now < length text.now) }
-{
-    text.split_once(mark)
-}
+use crate::text::{next, split_at};
 
 #[tactic(auto, unfolding(crate::specs::Delimited::name_before))]
 fn read_name(text: &str, mark: char) -> Option<(&str, &str)>

@@ -3,7 +3,7 @@ ghost use Rattle.std.specs.Prelude.{◌≡◌, ℕ, ◌<◌, ◌≤◌, ◌++◌
 ghost use Rattle.fancy_lex.specs.Id as spec;
 ghost use Rattle.fancy_lex.specs.IdReference as reference;
 ghost use Rattle.fancy_lex.specs.IdReference.{IsIdReference, view_reference};
-ghost use Rattle.fancy_lex.specs.Text.{Text};
+ghost use Rattle.fancy_lex.specs.Text.{Text, parts};
 
 use crate::name::number_text::whole_number;
 use crate::text::{front, next};
@@ -48,9 +48,9 @@ fn behind_id(text: &str) -> &str
 /// Reads the id at the front, all the id characters there, and answers it with the text behind it. None where no id
 /// character stands there.
 pub fn id(text: &str) -> Option<(&str, &str)>
-    ensures value { spec.id (chars text.now) ≡ spec.parts result }
+    ensures value { spec.id (chars text.now) ≡ parts result }
     ensures derives { IfSome result (λ p. spec.StartsWithId (chars text.now) (chars p.0.now) (chars p.1.now)) }
-    ensures only { (w v : Text) → spec.StartsWithId (chars text.now) w v → spec.parts result ≡ Some (w, v) }
+    ensures only { (w v : Text) → spec.StartsWithId (chars text.now) w v → parts result ≡ Some (w, v) }
     ensures shorter { IfSome result (λ p. length p.1.now < length text.now) }
 {
     let left = behind_id(text);

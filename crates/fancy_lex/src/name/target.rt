@@ -1,10 +1,10 @@
 //! What references name, as it is written in the pattern.
 ghost use Rattle.std.specs.Prelude.{◌≡◌, chars, false, IfOk, IsOk, IfSome, IsSome, option_map};
-ghost use Rattle.fancy_lex.specs.Id.{parts};
 ghost use Rattle.fancy_lex.specs.IdReference as id_spec;
 ghost use Rattle.fancy_lex.specs.Reading.{Reads};
 ghost use Rattle.fancy_lex.specs.Referred as spec;
 ghost use Rattle.fancy_lex.specs.Target.{view_target, is_name};
+ghost use Rattle.fancy_lex.specs.Text.{parts};
 
 use crate::error::{Error, ParseError};
 use crate::name::CaptureGroupTarget;

@@ -8,7 +8,7 @@ ghost use Rattle.fancy_grammar.specs.Tree.{trees_of};
 ghost use Rattle.fancy_syntax.specs.View.{view, views, view_ast, view_absent};
 
 use super::{Absent, AstNode, Expr};
-use fancy_lex::name::is_same_text;
+use fancy_lex::text::is_same_text;
 
 impl PartialEq for AstNode {
     ghost eq = { λ a b. same_ast (view_ast a) (view_ast b) };
@@ -162,7 +162,7 @@ fn is_same(tree: &Expr, other: &Expr) -> bool
             Expr::Literal {
                 val: other_val,
                 casei: other_casei,
-            } => is_same_text(val, other_val) && *casei == *other_casei,
+            } => is_same_text(val.as_str(), other_val.as_str()) && *casei == *other_casei,
             _ => false,
         },
         Expr::LiteralBytes { bytes } => match other {
@@ -207,7 +207,7 @@ fn is_same(tree: &Expr, other: &Expr) -> bool
             Expr::Delegate {
                 inner: other_inner,
                 casei: other_casei,
-            } => is_same_text(inner, other_inner) && *casei == *other_casei,
+            } => is_same_text(inner.as_str(), other_inner.as_str()) && *casei == *other_casei,
             _ => false,
         },
         Expr::Backref { group, casei } => match other {
@@ -294,7 +294,7 @@ fn is_same_name(name: &Option<String>, other: &Option<String>) -> bool
         None => other.is_none(),
         Some(name) => match other {
             None => false,
-            Some(other) => is_same_text(name, other),
+            Some(other) => is_same_text(name.as_str(), other.as_str()),
         },
     }
 }

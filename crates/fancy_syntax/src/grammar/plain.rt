@@ -8,6 +8,7 @@ ghost use Rattle.fancy_grammar.specs.State.{done};
 ghost use Rattle.fancy_grammar.specs.Tree.{Tree};
 
 use crate::grammar::state::State;
+use fancy_lex::layout::is_layout;
 use fancy_lex::text::next;
 
 /// The character at the front and what follows it, where one look ahead shows that it is a literal with no layout and
@@ -64,12 +65,4 @@ fn is_suffix(c: char) -> bool
     ensures { result ≡ spec.is_suffix c }
 {
     c == '(' || c == '*' || c == '+' || c == '?' || c == '{'
-}
-
-/// Whether a blank or a line comment begins with the character, where these are layout.
-#[inline]
-fn is_layout(ignore_space: bool, c: char) -> bool
-    ensures { result ≡ spec.is_layout ignore_space c }
-{
-    ignore_space && (c == '#' || c == ' ' || c == '\r' || c == '\n' || c == '\t')
 }

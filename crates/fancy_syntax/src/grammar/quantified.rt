@@ -13,7 +13,7 @@ use crate::grammar::frame::is_empty;
 use crate::grammar::state::State;
 use fancy_lex::error::{Error, ParseError};
 use fancy_lex::flags::Flags;
-use fancy_lex::text::{after, bytes_left, place, place_before};
+use fancy_lex::text::{after, byte_len, place, place_before};
 use fancy_parts::counts::Counts;
 use fancy_parts::heads::counts;
 use std::alloc::{AllocError, Global};
@@ -49,7 +49,7 @@ fn is_repeatable(flags: Flags, tree: &Expr) -> bool
 fn is_dropped(flags: Flags, left: usize, tree: &Expr, text: &str) -> bool
     ensures { result ≡ spec.is_dropped flags left (view tree.now) (chars text.now) }
 {
-    flags.oniguruma_mode && is_empty(tree) && left > 0 && bytes_left(text) < left - 1
+    flags.oniguruma_mode && is_empty(tree) && left > 0 && byte_len(text) < left - 1
 }
 
 /// A quantifier is greedy without the lazy mark; swapped, with it.
@@ -101,9 +101,9 @@ fn quantify_adjacent(
     let mut depth = depth;
     let mut more = MAX_ADJACENT;
     loop {
-        let before = bytes_left(here.rest);
+        let before = byte_len(here.rest);
         quantify_once(alloc, tree, here, before, end)?;
-        if bytes_left(here.rest) == before {
+        if byte_len(here.rest) == before {
             return Ok(());
         }
         if !may_count(more, depth) {

@@ -26,7 +26,7 @@ use crate::grammar::quantified::quantify;
 use crate::grammar::state::State;
 use fancy_lex::error::{Error, ParseError};
 use fancy_lex::flags::Flags;
-use fancy_lex::text::{bytes_left, next, place};
+use fancy_lex::text::{byte_len, next, place};
 use std::alloc::{AllocError, Global};
 
 /// What a step reads.
@@ -52,7 +52,7 @@ pub(crate) fn read_step<'a>(
     ensures shorter { IfOk result (λ _. length here.new.rest.now < length here.old.rest.now) }
     ensures below { IfOk result (λ p. OpensBelow p depth) }
 {
-    let left = bytes_left(here.rest);
+    let left = byte_len(here.rest);
     here.rest = skip_layout(*here, end)?;
     let before = *here;
     match read_atom_start(alloc, here, depth, end)? {
@@ -75,7 +75,7 @@ pub(crate) fn read_step<'a>(
         Ahead::Condition => Ok(Step::Open(Opener::Condition)),
         Ahead::Body(condition) => Ok(Step::Open(Opener::Body {
             condition,
-            left: bytes_left(here.rest),
+            left: byte_len(here.rest),
         })),
         Ahead::AbsentBranch => Ok(Step::Open(Opener::First)),
     }
@@ -135,7 +135,7 @@ pub(crate) fn close<'a>(
         return piece(alloc, atom, here, left, depth, end);
     }
     let condition = Box::new(alloc, atom)?;
-    let left = bytes_left(here.rest);
+    let left = byte_len(here.rest);
     Ok(Step::Open(Opener::Body { condition, left }))
 }
 
@@ -189,7 +189,7 @@ fn lacks_body(opener: &Opener, text: &str) -> bool
     ensures { (s : states.State) → s.rest ≡ chars text.now → result ≡ machine.lacks_body (part_of opener.now) s }
 {
     match opener {
-        Opener::Body { condition, left } => bytes_left(text) == *left && !is_condition(condition),
+        Opener::Body { condition, left } => byte_len(text) == *left && !is_condition(condition),
         _ => false,
     }
 }

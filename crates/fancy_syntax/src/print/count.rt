@@ -13,7 +13,8 @@ use crate::print::fixed::{any_text, assertion_text};
 use crate::print::repeated::is_long;
 use crate::print::{BRANCH, OPERAND, PIECE, WHOLE};
 use fancy_parts::quote::{quantifier_len, quotes_len};
-use fancy_parts::room::{ascii_len, text_len};
+use fancy_lex::text::byte_len;
+use fancy_parts::room::ascii_len;
 
 /// With a group's parentheses, where they are asked.
 #[inline]
@@ -53,7 +54,7 @@ pub fn tree_len(tree: &Expr, precedence: u8) -> usize
         Expr::Any { newline, crlf } => ascii_len(any_text(*newline, *crlf)),
         Expr::Assertion(assertion) => ascii_len(assertion_text(*assertion)),
         Expr::Literal { val, casei } => caseless_len(*casei, quotes_len(val.as_str())),
-        Expr::Delegate { inner, casei } => caseless_len(*casei, text_len(inner.as_str())),
+        Expr::Delegate { inner, casei } => caseless_len(*casei, byte_len(inner.as_str())),
         Expr::Concat(children) => concat_len(children, precedence > BRANCH),
         Expr::Alt(children) => alt_len(children, precedence > WHOLE),
         Expr::Group(child) => group_len(child),

@@ -1,6 +1,5 @@
 //! What the second walk knows, and what it notes of each reference.
-ghost use Rattle.std.specs.Prelude.{◌≡◌, ◌<◌, ◌^◌, chars, IfOk};
-ghost use Rattle.fancy_grammar.specs.Marks as spec;
+ghost use Rattle.std.specs.Prelude.{◌≡◌, ◌<◌, ◌^◌, IfOk};
 ghost use Rattle.fancy_parts.specs.Groups.{meaning_of};
 ghost use Rattle.fancy_syntax.specs.Notes.{progress_of, number_meant, noted_one, form_noted, meaning_noted};
 ghost use Rattle.fancy_grammar.specs.Walk.{nothing_noted, number_in};
@@ -8,6 +7,7 @@ ghost use Rattle.fancy_grammar.specs.Walk.{nothing_noted, number_in};
 use fancy_lex::error::ParseError;
 use fancy_lex::name::CaptureGroupTarget;
 use fancy_parts::ranks::{Groups, Meaning, Role, meaning_behind};
+use fancy_parts::written::is_numeric;
 use std::alloc::{AllocError, Global};
 use std::collections::BTreeSet;
 
@@ -88,24 +88,13 @@ fn note_form(
     ensures progress { progress_of progress.new
         ≡ form_noted known.now progress.old place role target.now }
 {
-    match role {
-        Role::Call => progress.calls = true,
-        _ => {}
+    if is_numeric(known.pattern, place, role, target) {
+        progress.numeric = true;
     }
-    if let CaptureGroupTarget::ByNumber(number) = target {
-        match role {
-            Role::Call => {
-                progress.numeric = true;
-                if *number == 0 {
-                    progress.self_recursive = true;
-                }
-            }
-            Role::BackReference => {
-                if is_behind_backslash(known.pattern, place) {
-                    progress.numeric = true;
-                }
-            }
-            Role::Condition => {}
+    if let Role::Call = role {
+        progress.calls = true;
+        if let CaptureGroupTarget::ByNumber(0) = target {
+            progress.self_recursive = true;
         }
     }
 }
@@ -126,7 +115,7 @@ fn note_meaning(
     match meaning {
         Meaning::Number(number) => {
             if let Role::BackReference = role {
-                if number <= known.groups.total {
+                if known.groups.is_in_range(number) {
                     progress.backrefs.insert(number)?;
                 } else if progress.out_of_range.is_none() {
                     progress.out_of_range = Some(number);
@@ -142,19 +131,4 @@ fn note_meaning(
             Ok(None)
         }
     }
-}
-
-/// Whether a backslash stands right before the place.
-fn is_behind_backslash(pattern: &str, place: usize) -> bool
-    ensures { result ≡ spec.is_behind_backslash (chars pattern.now) place }
-{
-    let bytes = pattern.as_bytes();
-    if place == 0 {
-        return false;
-    }
-    let before = place - 1;
-    if before >= bytes.len() {
-        return false;
-    }
-    bytes[before] == b'\\'
 }

@@ -67,12 +67,12 @@ loop-c-preserved-in-Open c =
     let items = c.push_frame.ensures.items in
     let below = rw c.in-Open.is at c.in_ok-piece.ensures.below in
     record {
-      running = running_open c.push_frame.new.stack.items c.new-frame-in-Open.result (running_began c.bytes_left.result c.loop-c.here.flags c.loop-c.invariant.running)
-          (c.bytes_left.ensures, refl) (sym c.if-not-is_end.ensures)
+      running = running_open c.push_frame.new.stack.items c.new-frame-in-Open.result (running_began c.byte_len.result c.loop-c.here.flags c.loop-c.invariant.running)
+          (c.byte_len.ensures, refl) (sym c.if-not-is_end.ensures)
           (subst (λ d. Opens c.args.end d (state c.loop-c.here) (part_of c.in-Open.opener) (state c.read_step.new.here)) n
           (rw c.in-Open.is at c.in_ok-piece.ensures.value)) items (ap part_of f.opener) f.branches f.pieces;
       room = omega (arith, c.loop-c.invariant.room, c.push_frame.ensures.capacity);
-      depth = omega (arith, n, below, ap length items, length_push c.loop-c.stack.items (record c.loop-c.frame { left = c.bytes_left.result; flags = c.loop-c.here.flags }));
+      depth = omega (arith, n, below, ap length items, length_push c.loop-c.stack.items (record c.loop-c.frame { left = c.byte_len.result; flags = c.loop-c.here.flags }));
       within = omega (arith, c.loop-c.invariant.within, c.in_ok-piece.ensures.shorter);
     }
 

@@ -24,5 +24,5 @@ returns-then-not-has_body-clause-value c =
 pub returns-clause-value : goal.returns-clause-value
 returns-clause-value c =
     λ s t i j o p.
-    rw (c.bytes_left-left.ensures, c.in_ok-condition.ensures.ok) (condition_ended (view c.args.inner) (state c.args.here.now) o p
+    rw (c.byte_len-left.ensures, c.in_ok-condition.ensures.ok) (condition_ended (view c.args.inner) (state c.args.here.now) o p
     (sym c.goes_on-has_body.ensures ∙ c.if-not-has_body.false) c.in_ok-atom.ensures.value)

@@ -24,30 +24,30 @@ returns-in_err-read_atom_start-clause-value c =
 
 pub returns-then-is_unquantified-clause-value : goal.returns-then-is_unquantified-clause-value
 returns-then-is_unquantified-clause-value c =
-    steps_piece (state c.args.here.now) (Ok (step.Piece _)) _ c.bytes_left-left.ensures c.in_ok-here.ensures.value
+    steps_piece (state c.args.here.now) (Ok (step.Piece _)) _ c.byte_len-left.ensures c.in_ok-here.ensures.value
     (atom (rw c.in-Leaf.is at c.in_ok-read_atom_start.ensures.value) a_leaf refl) (c.is_unquantified.ensures c.if-is_unquantified.true _ _ _ _)
 
 pub returns-in_default-clause-value : goal.returns-in_default-clause-value
 returns-in_default-clause-value c =
-    steps_piece (state c.args.here.now) (Ok (step.Piece _)) _ c.bytes_left-left.ensures c.in_ok-here.ensures.value
+    steps_piece (state c.args.here.now) (Ok (step.Piece _)) _ c.byte_len-left.ensures c.in_ok-here.ensures.value
     (atom (rw c.in-Leaf.is at c.in_ok-read_atom_start.ensures.value) a_leaf refl) (rw c.in_default.is at c.quantify.ensures.value)
 
 pub returns-in-Err-clause-value : goal.returns-in-Err-clause-value
 returns-in-Err-clause-value c =
-    steps_piece (state c.args.here.now) (Err c.in-Err.fault) (state c.args.here.now) c.bytes_left-left.ensures c.in_ok-here.ensures.value
+    steps_piece (state c.args.here.now) (Err c.in-Err.fault) (state c.args.here.now) c.byte_len-left.ensures c.in_ok-here.ensures.value
     (atom (rw c.in-Leaf.is at c.in_ok-read_atom_start.ensures.value) a_leaf refl) (rw c.in-Err.is at c.quantify.ensures.value)
 
 pub returns-in-Nothing-clause-value : goal.returns-in-Nothing-clause-value
 returns-in-Nothing-clause-value c =
     let stays = rw c.in-Nothing.is at c.in_ok-read_atom_start.ensures.stays in
-    steps_piece (state c.args.here.now) _ _ c.bytes_left-left.ensures c.in_ok-here.ensures.value
+    steps_piece (state c.args.here.now) _ _ c.byte_len-left.ensures c.in_ok-here.ensures.value
     (atom (rw c.in-Nothing.is at c.in_ok-read_atom_start.ensures.value) a_nothing refl) (rw (view_Empty, stays) at c.piece.ensures.value)
 
 pub returns-in-Nothing-clause-shorter : goal.returns-in-Nothing-clause-shorter
 returns-in-Nothing-clause-shorter c =
     let stays = rw c.in-Nothing.is at c.in_ok-read_atom_start.ensures.stays in
     nothing_shorter c.args.end c.args.depth _ _ _ _ (state c.args.here.now) _ _ _ (rw c.in-Nothing.is at c.in_ok-read_atom_start.ensures.value) c.requires.more
-    c.bytes_left-left.ensures (rw (view_Empty, stays) at c.piece.ensures.value) c.in_ok-here.ensures.within c.in_ok-here.ensures.unmoved
+    c.byte_len-left.ensures (rw (view_Empty, stays) at c.piece.ensures.value) c.in_ok-here.ensures.within c.in_ok-here.ensures.unmoved
     (rw stays at c.piece.ensures.within)
 
 pub returns-in-Group-clause-value : goal.returns-in-Group-clause-value
@@ -59,7 +59,7 @@ returns-in-Condition-clause-value c = a_condition c.in_ok-here.ensures.value (rw
 
 pub returns-in-Body-clause-value : goal.returns-in-Body-clause-value
 returns-in-Body-clause-value c =
-    rw c.bytes_left.ensures (a_body c.in_ok-here.ensures.value (rw c.in-Body.is at c.in_ok-read_atom_start.ensures.value))
+    rw c.byte_len.ensures (a_body c.in_ok-here.ensures.value (rw c.in-Body.is at c.in_ok-read_atom_start.ensures.value))
 
 pub returns-in-AbsentBranch-clause-value : goal.returns-in-AbsentBranch-clause-value
 returns-in-AbsentBranch-clause-value c = a_branch c.in_ok-here.ensures.value (rw c.in-AbsentBranch.is at c.in_ok-read_atom_start.ensures.value)

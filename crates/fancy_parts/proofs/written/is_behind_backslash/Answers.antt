@@ -1,6 +1,6 @@
 use Rattle.std.proofs.Common.{arith, ap, length}
-use Rattle.fancy_grammar.proofs.BackslashLemmas.{behind_place, behind_end}
-use Rattle.fancy_syntax.proofs.resolve.notes.is_behind_backslash.Goals as goal
+use Rattle.fancy_parts.proofs.BackslashLemmas.{behind_place, behind_end}
+use Rattle.fancy_parts.proofs.written.is_behind_backslash.Goals as goal
 
 pub returns-then-before-bytes : goal.returns-then-before-bytes
 returns-then-before-bytes c =

@@ -4,7 +4,7 @@ use Rattle.std.specs.Str.{IsUtf8}
 use Rattle.std.proofs.lemmas.List.{get_or_past}
 use Rattle.std.proofs.lemmas.Str.{encodes-chars}
 use Prim.Native.Char.{code}
-use Rattle.fancy_grammar.specs.Marks.{is_behind_backslash}
+use Rattle.fancy_parts.specs.Written.{is_behind_backslash}
 
 pub behind_place : (bs : List ℕ) (place : ℕ) → IsUtf8 bs → 0 < place →
     nat_eq (get_or bs (place - 1) 0) (code "\\") ≡ is_behind_backslash (chars bs) place
