@@ -95,11 +95,11 @@ abbrev pub IsName : Text → Type 0
 IsName [] = Unit {0}
 IsName (c ∷ w) = ((c == code "}") ≡ false) × (IsScalar c × IsName w)
 
-abbrev is_name : Text → Bool
-is_name w = list_all (λ c. not (c == code "}")) w && all_scalars w
+abbrev is_braced_name : Text → Bool
+is_braced_name w = list_all (λ c. not (c == code "}")) w && all_scalars w
 
 -- a name that is written out
-pub name_of : (w : Text) → is_name w ≡ true → IsName w
+pub name_of : (w : Text) → is_braced_name w ≡ true → IsName w
 name_of [] h = tt
 name_of (c ∷ w) h =
     let (braces, scalars) = and_parts _ (all_scalars (c ∷ w)) h in
