@@ -78,9 +78,11 @@ form unicode Blank name = form_by unicode (set (codes "\\p{Zs}\\x09")) (set (cod
 form unicode Cntrl name = form_by unicode (set (codes "\\x00-\\x1F\\x7F-\\x9F")) (set (codes "[:cntrl:]"))
 form unicode Word name = form_by unicode (pair (codes "\\w") (codes "\\W")) (set (codes "_[:alnum:]"))
 form unicode Graph name =
-    form_by unicode (pair (codes "[^\\p{White_Space}\\p{C}]") (codes "[\\p{White_Space}\\p{C}]")) (set (codes "[:graph:]"))
+    form_by unicode (pair (codes "[^\\p{White_Space}\\p{C}]") (codes "[\\p{White_Space}\\p{C}]"))
+    (set (codes "[:graph:]"))
 form unicode Print name =
-    form_by unicode (pair (codes "[^\\p{C}\\t\\n\\v\\f\\r]") (codes "[\\p{C}\\t\\n\\v\\f\\r]")) (set (codes "[:print:]"))
+    form_by unicode (pair (codes "[^\\p{C}\\t\\n\\v\\f\\r]") (codes "[\\p{C}\\t\\n\\v\\f\\r]"))
+    (set (codes "[:print:]"))
 form unicode Cs name = pair (codes "\\P{any}") (codes "\\p{any}")
 form unicode Other name = pair (codes "\\p{" ++ name ++ codes "}") (codes "\\P{" ++ name ++ codes "}")
 
