@@ -1,6 +1,6 @@
 //! What is said of a tree beside it, as a caller in C gets it.
 ghost use Rattle.std.specs.Prelude.{◌≡◌, ◌+◌, ◌≤◌, ◌^◌, ℕ, length, map};
-ghost use Rattle.fancy_parts.specs.Groups.{named};
+ghost use Rattle.fancy_parts.specs.Groups.{entry_of};
 ghost use Rattle.fancy_parts.specs.Room.{in_word};
 ghost use Rattle.fancy_c.specs.Buffer.{put_at};
 ghost use Rattle.fancy_c.specs.Marks.{numbered, name_rows, name_texts};
@@ -50,8 +50,8 @@ pub struct Name {
 
 /// What the counts come to behind the names, each the greatest word where it is more.
 pub(crate) fn count_names(groups: &BTreeMap<String, Vec<usize>>, before: Counts) -> Counts
-    ensures rows { result.rows ≡ in_word (before.rows + length (name_rows 0 (map named groups.now.entries))) }
-    ensures text { result.text ≡ in_word (before.text + length (name_texts (map named groups.now.entries))) }
+    ensures rows { result.rows ≡ in_word (before.rows + length (name_rows 0 (map entry_of groups.now.entries))) }
+    ensures text { result.text ≡ in_word (before.text + length (name_texts (map entry_of groups.now.entries))) }
 {
     let mut behind = before;
     for (name, numbers) in groups.iter() {
@@ -92,10 +92,10 @@ pub(crate) fn put_names(
     groups: &BTreeMap<String, Vec<usize>>,
     before: Counts,
 )
-    requires names_room { before.rows + length (name_rows 0 (map named groups.now.entries)) ≤ length names.old }
-    requires bytes_room { before.text + length (name_texts (map named groups.now.entries)) ≤ length bytes.old }
-    ensures names { names.new ≡ put_at names.old before.rows (name_rows before.text (map named groups.now.entries)) }
-    ensures bytes { bytes.new ≡ put_at bytes.old before.text (name_texts (map named groups.now.entries)) }
+    requires names_room { before.rows + length (name_rows 0 (map entry_of groups.now.entries)) ≤ length names.old }
+    requires bytes_room { before.text + length (name_texts (map entry_of groups.now.entries)) ≤ length bytes.old }
+    ensures names { names.new ≡ put_at names.old before.rows (name_rows before.text (map entry_of groups.now.entries)) }
+    ensures bytes { bytes.new ≡ put_at bytes.old before.text (name_texts (map entry_of groups.now.entries)) }
 {
     let mut behind = before;
     for (name, numbers) in groups.iter() {

@@ -7,7 +7,7 @@ use Rattle.fancy_lex.specs.Fault.{Fault, invalid_group_name_backref}
 use Rattle.fancy_lex.specs.Target.{Target, by_number, by_name, relative}
 use Rattle.fancy_lex.specs.Text.{Text}
 use Rattle.fancy_lex.specs.declared.flags.Flags.{Flags}
-use Rattle.fancy_parts.specs.Meaning.{Meaning, number, unresolved, faulty, means, meaning, back_to, last_of, group_or_none, at_distance, Role, back_reference, call, condition, Reference, fault_or, first_fault}
+use Rattle.fancy_parts.specs.Meaning.{Meaning, number, unresolved, faulty, means, meaning, back_to, last_of, group_or_none, at_distance, Role, back_reference, call, condition, AnyReference, fault_or, first_fault}
 use Rattle.fancy_parts.specs.Ranks.{Opening, is_counted, numbers, opened_before, only_named, counted_in, counted}
 use Rattle.fancy_grammar.specs.Answer.{IsTreeOf}
 use Rattle.fancy_grammar.specs.Answered.{IsAnsweredNode, IsAnswered, IsAnsweredWith, AreNamed, is_group, groups, is_call_node, has_call, group_referred, groups_referred, numbered_in, numbered_groups, HasGroupsOf}
@@ -225,7 +225,7 @@ module _ (named : Bool) (g : List Opening) where
       by_option (Some n) e = rw e refl
       by_option None e = rw e refl
 
-  numbers_step : (x : Tree) (r : Reference) (l : List Tree) (m : List Reference) →
+  numbers_step : (x : Tree) (r : AnyReference) (l : List Tree) (m : List AnyReference) →
       group_referred x ≡ back_number r.role (meaning g r) →
       filter_map group_referred l ≡ back_numbers g m → filter_map group_referred (x ∷ l) ≡ back_numbers g (r ∷ m)
   numbers_step x r l m e h =

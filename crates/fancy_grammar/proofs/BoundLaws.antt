@@ -23,12 +23,12 @@ use Rattle.fancy_grammar.specs.Join.{join, choice, solid, is_empty, one_or}
 use Rattle.fancy_grammar.specs.Marks.{Marks}
 use Rattle.fancy_parts.specs.Ranks.{only_named, counted}
 use Rattle.fancy_grammar.specs.Preorder.{preorder, preorder_all}
-use Rattle.fancy_grammar.specs.Quantified.{quants, adjacent, max_adjacent, is_unmoved, quant, quant_at, with_counts as counted_at, suffix, is_swapped, quantified, is_repeatable, is_dropped}
+use Rattle.fancy_grammar.specs.Quantified.{quants, adjacent, max_adjacent, is_unmoved, quant, quant_at, with_counts, suffix, is_swapped, quantified, is_repeatable, is_dropped}
 use Rattle.fancy_grammar.specs.Slices.{Within}
 use Rattle.fancy_grammar.specs.State.{skipped, State, at, Outcome, done, fault}
-use Rattle.fancy_grammar.specs.Tree.{Tree, more_trees, empty, concat, alt, absent, expression, trees_of, list_of, nodes, depth}
+use Rattle.fancy_grammar.specs.Tree.{Tree, more_trees, empty, concat, alt, absent, expression, trees_of, list_of, nodes, levels}
 use Rattle.fancy_grammar.specs.Quantified.{Suffix}
-use Rattle.fancy_grammar.proofs.LevelLaws.{size, resolved_size, levels, levels_all, resolved_levels}
+use Rattle.fancy_grammar.proofs.LevelLaws.{size, resolved_size, raw_levels, raw_levels_all, resolved_levels}
 use Rattle.fancy_grammar.proofs.OutcomeLemmas.{Holds, then_holds, behind_keeps}
 use Rattle.fancy_grammar.proofs.ReadLaws.{Makes, IsReadLeaf, ReadAhead, ahead_read}
 use Rattle.fancy_grammar.proofs.Slices.{one_bytes, fits, here, bare, skipped_slice, suffix_slice, counts_past, LeafSlice, AheadSlice, ahead_slice, layout_slice, SkippedSlice, trees_back}
@@ -49,7 +49,7 @@ weights (t ∷ ts) = weight t + weights ts
 
 -- the levels of trees side by side
 abbrev widest : List Tree → ℕ
-widest ts = levels_all (trees_of ts)
+widest ts = raw_levels_all (trees_of ts)
 
 weight_most : (t : Tree) → weight t ≤ size t + 1
 weight_most t = cond_both (is_empty t) _ _ (λ m. m ≤ size t + 1) (λ _. omega arith) (λ _. omega arith)
@@ -85,12 +85,12 @@ solid_levels (t ∷ ts) =
     let more = solid_levels ts in
     cond_both (is_empty t) _ _ (λ us. widest us ≤ widest (t ∷ ts)) (λ _. omega (arith, more)) (λ _. omega (arith, more))
 
-one_level : (ts : List Tree) → levels (one_or concat ts) ≤ widest ts + 1
+one_level : (ts : List Tree) → raw_levels (one_or concat ts) ≤ widest ts + 1
 one_level [] = omega arith
 one_level (t ∷ []) = omega arith
 one_level (t ∷ u ∷ ts) = omega arith
 
-join_levels : (ts : List Tree) → levels (join ts) ≤ widest ts + 1
+join_levels : (ts : List Tree) → raw_levels (join ts) ≤ widest ts + 1
 join_levels ts = omega (arith, one_level (solid ts), solid_levels ts)
 
 -- a choice among branches
@@ -104,7 +104,7 @@ some_choice_size [] h = absurd (omega (arith, h))
 some_choice_size (t ∷ []) h = omega arith
 some_choice_size (t ∷ u ∷ ts) h = omega (arith, size_all (t ∷ u ∷ ts))
 
-choice_levels : (ts : List Tree) → levels (choice ts) ≤ widest ts + 1
+choice_levels : (ts : List Tree) → raw_levels (choice ts) ≤ widest ts + 1
 choice_levels [] = omega arith
 choice_levels (t ∷ []) = omega arith
 choice_levels (t ∷ u ∷ ts) = omega arith
@@ -121,9 +121,9 @@ branches_size (alt (more_trees t ts)) =
     )
 branches_size r = omega arith
 
-branches_levels : (r : Tree) → (levels (branches_of r).0 ≤ levels r) × (levels (branches_of r).1 ≤ max 1 (levels r))
+branches_levels : (r : Tree) → (raw_levels (branches_of r).0 ≤ raw_levels r) × (raw_levels (branches_of r).1 ≤ max 1 (raw_levels r))
 branches_levels (alt (more_trees t ts)) =
-    (omega arith, omega (arith, choice_levels (list_of ts), ap levels_all (trees_back ts)))
+    (omega arith, omega (arith, choice_levels (list_of ts), ap raw_levels_all (trees_back ts)))
 branches_levels r = (omega arith, omega arith)
 
 conditional_size : (c t f : Tree) → size (conditional_of c t f) ≤ size c + (size t + size f) + 1
@@ -131,14 +131,14 @@ conditional_size c t f =
     cond_both (is_empty t && is_empty f) _ _ (λ x. size x ≤ size c + (size t + size f) + 1) (λ _. omega arith)
     (λ _. omega (arith, length-append (preorder c) (preorder t ++ preorder f), length-append (preorder t) (preorder f)))
 
-conditional_levels : (c t f : Tree) → levels (conditional_of c t f) ≤ max (levels c) (max (levels t) (levels f)) + 1
+conditional_levels : (c t f : Tree) → raw_levels (conditional_of c t f) ≤ max (raw_levels c) (max (raw_levels t) (raw_levels f)) + 1
 conditional_levels c t f =
-    cond_both (is_empty t && is_empty f) _ _ (λ x. levels x ≤ max (levels c) (max (levels t) (levels f)) + 1)
+    cond_both (is_empty t && is_empty f) _ _ (λ x. raw_levels x ≤ max (raw_levels c) (max (raw_levels t) (raw_levels f)) + 1)
     (λ _. omega arith) (λ _. omega arith)
 
 -- a group, and a branch behind `(?~|`
 abbrev IsNodeOver : Tree → Tree → Type 0
-IsNodeOver t u = (size u ≤ size t + 1) × (levels u ≤ levels t + 1)
+IsNodeOver t u = (size u ≤ size t + 1) × (raw_levels u ≤ raw_levels t + 1)
 
 node_over : (h : Head) (p : ℕ) (t : Tree) → IsNodeOver t (group_node h p t)
 node_over (capture name) p t = (omega arith, omega arith)
@@ -178,12 +178,12 @@ closed_holds P n r s k = by_text s.rest refl
 abbrev Grows : Tree → State → Tree → State → Type 0
 Grows a s b t =
     (weight b + 2 * bytes t.rest ≤ weight a + 2 * bytes s.rest)
-    × (levels b + 2 * bytes t.rest ≤ levels a + 2 * bytes s.rest)
-    × (levels b ≤ levels a + 2)
+    × (raw_levels b + 2 * bytes t.rest ≤ raw_levels a + 2 * bytes s.rest)
+    × (raw_levels b ≤ raw_levels a + 2)
 
 -- so many of them
 abbrev GrowsBy : ℕ → Tree → State → Tree → State → Type 0
-GrowsBy k a s b t = (weight b + 2 * bytes t.rest ≤ weight a + 2 * bytes s.rest) × (levels b ≤ levels a + 2 * k)
+GrowsBy k a s b t = (weight b + 2 * bytes t.rest ≤ weight a + 2 * bytes s.rest) × (raw_levels b ≤ raw_levels a + 2 * k)
 
 repeatable_solid : (f : Flags) (a : Tree) → is_repeatable f a ≡ true → is_empty a ≡ false
 repeatable_solid f empty e = absurd cc
@@ -194,7 +194,7 @@ solid_weight a e = ap (λ b. if b then 0 else size a + 1) e
 
 -- a Repeat, or one in an AtomicGroup
 abbrev IsOver : Tree → Tree → Type 0
-IsOver a b = (weight b ≤ size a + 3) × (levels b ≤ levels a + 2)
+IsOver a b = (weight b ≤ size a + 3) × (raw_levels b ≤ raw_levels a + 2)
 
 quantified_over : (f : Flags) (c : Counts) (m : Suffix) (a : Tree) → IsOver a (quantified f c m a)
 quantified_over f c m a =
@@ -213,7 +213,7 @@ unfolding quant
 quant_grows n left a t = by_layout (skipped n t) (layout_slice n t.flags.ignore_space t.rest)
   where
     by_counts : (v : Text) → bytes v ≤ bytes t.rest → (o : Option (Counts × Text)) →
-        IfSome o (λ p. bytes p.1 + 1 ≤ bytes v) → Holds (Grows a t) (counted_at n left a (at t v) o)
+        IfSome o (λ p. bytes p.1 + 1 ≤ bytes v) → Holds (Grows a t) (with_counts n left a (at t v) o)
     by_counts v l None h = (omega (arith, l), omega (arith, l), omega arith)
     by_counts v l (Some (c, u)) h =
         let marks = suffix_ends n (at t u) c in
@@ -292,7 +292,7 @@ ahead_below n d s = by_text s.rest
 
 -- of an atom, and of one with its quantifiers: an Empty may take no byte
 abbrev Fits : ℕ → ℕ → State → Tree → State → Type 0
-Fits high d s r t = (weight r + 2 * bytes t.rest ≤ 2 * bytes s.rest) × (levels r + 13 * d ≤ high)
+Fits high d s r t = (weight r + 2 * bytes t.rest ≤ 2 * bytes s.rest) × (raw_levels r + 13 * d ≤ high)
 
 -- of pieces
 abbrev PiecesFit : ℕ → State → List Tree → State → Type 0
@@ -300,7 +300,7 @@ PiecesFit d s l t = (weights l + 2 * bytes t.rest ≤ 2 * bytes s.rest) × (wide
 
 -- of a branch, and of an alternation
 abbrev Fills : ℕ → ℕ → State → Tree → State → Type 0
-Fills high d s r t = (size r + 2 * bytes t.rest ≤ 2 * bytes s.rest + 1) × (levels r + 13 * d ≤ high)
+Fills high d s r t = (size r + 2 * bytes t.rest ≤ 2 * bytes s.rest + 1) × (raw_levels r + 13 * d ≤ high)
 
 -- of branches: each may have a node more than twice its bytes, and the bars make up for all but one of them
 abbrev BranchesFit : ℕ → State → List Tree → State → Type 0
@@ -309,7 +309,7 @@ BranchesFit d s l t =
 
 -- of the inside of a group
 abbrev InsideFits : ℕ → State → Tree → State → Type 0
-InsideFits d s r t = (size r + 1 + 2 * bytes t.rest ≤ 2 * bytes s.rest) × (levels r + 13 * d ≤ 819)
+InsideFits d s r t = (size r + 1 + 2 * bytes t.rest ≤ 2 * bytes s.rest) × (raw_levels r + 13 * d ≤ 819)
 
 leaf_fits : (n d : ℕ) (s : State) (o : Outcome Tree) → d < max_depth → LeafSlice n s o → Makes IsReadLeaf o →
     Holds (Fits 820 d s) o
@@ -388,7 +388,7 @@ mutual
       closed_holds (InsideFits d s) n t v (λ z k. (omega (arith, h.0, k), omega (arith, h.1))))
 
   body_fits : {n d : ℕ} {c : Tree} {t : State} {o : Outcome Tree} → Body n d c t o → (s : State) →
-      size c + 2 + 2 * bytes t.rest ≤ 2 * bytes s.rest → levels c + 13 * d ≤ 819 → d + 1 < max_depth → Holds (Fits 820 d s) o
+      size c + 2 + 2 * bytes t.rest ≤ 2 * bytes s.rest → raw_levels c + 13 * d ≤ 819 → d + 1 < max_depth → Holds (Fits 820 d s) o
   body_fits (the_body {n} {d} {c} {s = t} {q} a e) s g h l =
       then_holds (Fills max_levels (d + 1) t) (Fits 820 d s) q _ (alternation_fits a l) e (λ x v i.
       cond_both (bytes v.rest == bytes t.rest && not (is_condition c)) _ _ (Holds (Fits 820 d s)) (λ _. tt) (λ _.
@@ -418,5 +418,5 @@ pub bounded : {f : Flags} {re : List ℕ} {t : Tree} {m : Marks} → IsUtf8 re �
 bounded {f} {re} {t} u (r, a, none, e, d) =
     let small = whole_fits a.1 in let named = only_named f (openings r) in let numbered = counted f (openings r) in (
       omega (arith, ap nodes e, resolved_size named numbered r, small.0, bytes_chars re u),
-      omega (arith, ap depth e, resolved_levels named numbered r, small.1),
+      omega (arith, ap levels e, resolved_levels named numbered r, small.1),
     )

@@ -7,7 +7,7 @@ use Rattle.fancy_parts.specs.Meaning.{Meaning, number, unresolved, faulty, means
 use Rattle.fancy_parts.specs.Ranks.{Opening, is_counted, numbers, opened_before}
 use Rattle.fancy_grammar.specs.Preorder.{preorder, preorder_all, preorder_absent}
 use Rattle.fancy_grammar.specs.Resolved.{resolved_in, resolved_all, resolved_absent, reference_node}
-use Rattle.fancy_grammar.specs.Tree.{Tree, Trees, no_trees, more_trees, concat, alt, group, look_around, repeat, atomic_group, conditional, absent, define_group, ast_node, AbsentTree, repeater, expression, stopper, clear, ast_group, ast_backref, ast_call, ast_condition, nodes, nodes_all, nodes_absent, depth, depth_all, depth_absent}
+use Rattle.fancy_grammar.specs.Tree.{Tree, Trees, no_trees, more_trees, concat, alt, group, look_around, repeat, atomic_group, conditional, absent, define_group, ast_node, AbsentTree, repeater, expression, stopper, clear, ast_group, ast_backref, ast_call, ast_condition, nodes, nodes_all, nodes_absent, levels, levels_all, levels_absent}
 use Rattle.fancy_grammar.proofs.PreorderLaws.{is_kept, resolved_nodes}
 
 -- ---- nodes
@@ -72,43 +72,43 @@ resolved_size named g t =
 
 abbrev mutual
   -- how many levels, those inside capturing groups too
-  pub levels : Tree → ℕ
-  levels (concat ts) = suc (levels_all ts)
-  levels (alt ts) = suc (levels_all ts)
-  levels (group t) = suc (levels t)
-  levels (look_around t l) = suc (levels t)
-  levels (repeat t lo hi greedy) = suc (levels t)
-  levels (atomic_group t) = suc (levels t)
-  levels (conditional c t f) = suc (max (levels c) (max (levels t) (levels f)))
-  levels (absent a) = suc (levels_absent a)
-  levels (define_group t) = suc (levels t)
-  levels (ast_node (ast_group name t) place) = suc (levels t)
-  levels _ = 1
+  pub raw_levels : Tree → ℕ
+  raw_levels (concat ts) = suc (raw_levels_all ts)
+  raw_levels (alt ts) = suc (raw_levels_all ts)
+  raw_levels (group t) = suc (raw_levels t)
+  raw_levels (look_around t l) = suc (raw_levels t)
+  raw_levels (repeat t lo hi greedy) = suc (raw_levels t)
+  raw_levels (atomic_group t) = suc (raw_levels t)
+  raw_levels (conditional c t f) = suc (max (raw_levels c) (max (raw_levels t) (raw_levels f)))
+  raw_levels (absent a) = suc (raw_levels_absent a)
+  raw_levels (define_group t) = suc (raw_levels t)
+  raw_levels (ast_node (ast_group name t) place) = suc (raw_levels t)
+  raw_levels _ = 1
 
-  pub levels_all : Trees → ℕ
-  levels_all no_trees = 0
-  levels_all (more_trees t ts) = max (levels t) (levels_all ts)
+  pub raw_levels_all : Trees → ℕ
+  raw_levels_all no_trees = 0
+  raw_levels_all (more_trees t ts) = max (raw_levels t) (raw_levels_all ts)
 
-  pub levels_absent : AbsentTree → ℕ
-  levels_absent (repeater t) = levels t
-  levels_absent (expression a e) = max (levels a) (levels e)
-  levels_absent (stopper t) = levels t
-  levels_absent clear = 0
+  pub raw_levels_absent : AbsentTree → ℕ
+  raw_levels_absent (repeater t) = raw_levels t
+  raw_levels_absent (expression a e) = max (raw_levels a) (raw_levels e)
+  raw_levels_absent (stopper t) = raw_levels t
+  raw_levels_absent clear = 0
 
 backref_level : (m : Meaning) (t : Target) (casei : Bool) (level : Option ℤ) (place : ℕ) →
-    depth (reference_node m (ast_backref t casei level) place) ≡ 1
+    levels (reference_node m (ast_backref t casei level) place) ≡ 1
 backref_level (number n) t casei None place = refl
 backref_level (number n) t casei (Some level) place = refl
 backref_level unresolved t casei level place = refl
 backref_level (faulty k) t casei level place = refl
 
-call_level : (m : Meaning) (t : Target) (place : ℕ) → depth (reference_node m (ast_call t) place) ≡ 1
+call_level : (m : Meaning) (t : Target) (place : ℕ) → levels (reference_node m (ast_call t) place) ≡ 1
 call_level (number n) t place = refl
 call_level unresolved t place = refl
 call_level (faulty k) t place = refl
 
 condition_level : (m : Meaning) (t : Target) (level : Option ℤ) (place : ℕ) →
-    depth (reference_node m (ast_condition t level) place) ≡ 1
+    levels (reference_node m (ast_condition t level) place) ≡ 1
 condition_level (number n) t level place = refl
 condition_level unresolved t level place = refl
 condition_level (faulty k) t level place = refl
@@ -116,7 +116,7 @@ condition_level (faulty k) t level place = refl
 module _ (named : Bool) (g : List Opening) where
   mutual
     -- the resolved tree has no more levels than the raw one
-    pub resolved_levels : (t : Tree) → depth (resolved_in named g t) ≤ levels t
+    pub resolved_levels : (t : Tree) → levels (resolved_in named g t) ≤ raw_levels t
     resolved_levels (concat ts) = omega (arith, resolved_levels_all ts)
     resolved_levels (alt ts) = omega (arith, resolved_levels_all ts)
     resolved_levels (group t) = omega (arith, resolved_levels t)
@@ -128,7 +128,7 @@ module _ (named : Bool) (g : List Opening) where
     resolved_levels (define_group t) = omega (arith, resolved_levels t)
     resolved_levels (ast_node (ast_group name t) place) =
         let inside = resolved_levels t in
-        cond_both (is_counted named name) _ _ (λ u. depth u ≤ suc (levels t)) (λ _. omega (arith, inside))
+        cond_both (is_counted named name) _ _ (λ u. levels u ≤ suc (raw_levels t)) (λ _. omega (arith, inside))
         (λ _. omega (arith, inside))
     resolved_levels (ast_node (ast_backref t casei level) place) =
         let m = means (λ u. numbers u g) (opened_before g place) back_reference t in
@@ -139,11 +139,11 @@ module _ (named : Bool) (g : List Opening) where
         omega (arith, condition_level (means (λ u. numbers u g) (opened_before g place) condition t) t level place)
     resolved_levels _ = omega arith
 
-    resolved_levels_all : (ts : Trees) → depth_all (resolved_all named g ts) ≤ levels_all ts
+    resolved_levels_all : (ts : Trees) → levels_all (resolved_all named g ts) ≤ raw_levels_all ts
     resolved_levels_all no_trees = omega arith
     resolved_levels_all (more_trees t ts) = omega (arith, resolved_levels t, resolved_levels_all ts)
 
-    resolved_levels_absent : (a : AbsentTree) → depth_absent (resolved_absent named g a) ≤ levels_absent a
+    resolved_levels_absent : (a : AbsentTree) → levels_absent (resolved_absent named g a) ≤ raw_levels_absent a
     resolved_levels_absent (repeater t) = resolved_levels t
     resolved_levels_absent (expression a e) = omega (arith, resolved_levels a, resolved_levels e)
     resolved_levels_absent (stopper t) = resolved_levels t

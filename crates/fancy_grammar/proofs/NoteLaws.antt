@@ -12,7 +12,7 @@ use Rattle.fancy_grammar.specs.Fits.{Fits}
 use Rattle.fancy_parts.specs.Groups.{numbers_under}
 use Rattle.fancy_grammar.specs.Items.{Item, opening, reference, references_in}
 use Rattle.fancy_grammar.specs.Marks.{back_number, back_numbers, is_call, is_call_of_all}
-use Rattle.fancy_parts.specs.Meaning.{Reference, Meaning, number, unresolved, faulty, means, meaning, first_fault}
+use Rattle.fancy_parts.specs.Meaning.{AnyReference, Meaning, number, unresolved, faulty, means, meaning, first_fault}
 use Rattle.fancy_parts.specs.Meaning.{fault_or}
 use Rattle.fancy_parts.specs.Written.{is_numeric}
 use Rattle.fancy_grammar.specs.Walk.{Known, Progress, noted, note_item, or_else, beyond, with_backref}
@@ -21,7 +21,7 @@ abbrev Numbers : Known → List Opening → Type 0
 Numbers k g = numbers_under k.groups.names ≡ (λ u. numbers u g)
 
 -- the walk and the definition mean the same by a reference
-pub same_meaning : (k : Known) (g : List Opening) (s : Progress) (r : Reference) → Numbers k g →
+pub same_meaning : (k : Known) (g : List Opening) (s : Progress) (r : AnyReference) → Numbers k g →
     opened_before g r.place ≡ s.passed →
     means (numbers_under k.groups.names) s.passed r.role r.target ≡ meaning g r
 same_meaning k g s r n h =
@@ -85,7 +85,7 @@ in_range : (total n : ℕ) (l ns : List ℕ) (b : Bool) → nat_le n total ≡ b
 in_range total n l ns true h = rw h refl
 in_range total n l ns false h = rw h refl
 
-inside : (total : ℕ) (l : List ℕ) (g : List Opening) (r : Reference) (rs : List Reference) (o : Option ℕ) →
+inside : (total : ℕ) (l : List ℕ) (g : List Opening) (r : AnyReference) (rs : List AnyReference) (o : Option ℕ) →
     back_number r.role (meaning g r) ≡ o →
     fold (insert_key nat_cmp) (with_backref total l o) (filter (λ n. nat_le n total) (back_numbers g rs))
     ≡ fold (insert_key nat_cmp) l (filter (λ n. nat_le n total) (back_numbers g (r ∷ rs)))
@@ -103,7 +103,7 @@ noted_backrefs k g s (reference r ∷ l) n h =
     ∙ inside k.groups.total s.backrefs g r (references_in l) _
     (ap (back_number r.role) (sym (same_meaning k g s r n h.0)))
 
-outside : (total : ℕ) (g : List Opening) (r : Reference) (rs : List Reference) (o : Option ℕ) →
+outside : (total : ℕ) (g : List Opening) (r : AnyReference) (rs : List AnyReference) (o : Option ℕ) →
     back_number r.role (meaning g r) ≡ o →
     or_else (beyond total o) (find (λ n. nat_lt total n) (back_numbers g rs))
     ≡ find (λ n. nat_lt total n) (back_numbers g (r ∷ rs))

@@ -29,7 +29,7 @@ use Rattle.fancy_grammar.specs.State.{skipped, State, at, Outcome, done, fault, 
 use Rattle.fancy_grammar.specs.Tree.{Tree, Trees, no_trees, more_trees, literal, literal_bytes, concat, alt, group, backref, backref_at_level, backref_exists, subroutine_call, delegate, absent, expression, trees_of, list_of}
 use Rattle.fancy_grammar.specs.Verb.{verb_at}
 use Rattle.fancy_grammar.specs.Quantified.{Suffix}
-use Rattle.fancy_grammar.proofs.LevelLaws.{levels}
+use Rattle.fancy_grammar.proofs.LevelLaws.{raw_levels}
 use Rattle.fancy_grammar.proofs.OutcomeLemmas.{Holds, then_holds, behind_keeps}
 
 -- what holds of a node of a raw tree: it is none that resolving makes, and what holds of an answered one
@@ -150,7 +150,7 @@ quants_read n d left a t h =
 
 -- so is a node that stands alone
 abbrev pub IsReadLeaf : Tree → Type 0
-IsReadLeaf t = IsReadNode t × (preorder t ≡ t ∷ []) × (levels t ≡ 1)
+IsReadLeaf t = IsReadNode t × (preorder t ≡ t ∷ []) × (raw_levels t ≡ 1)
 
 leaf_is_read : (t : Tree) → IsReadLeaf t → IsRead t
 leaf_is_read t h = subst (AllByRecursion IsReadNode) (sym h.1) (h.0, tt)

@@ -39,7 +39,7 @@ use Rattle.fancy_grammar.specs.Depth.{max_depth}
 use Rattle.fancy_grammar.specs.Grammar.{Alternation, alternation, Branches, last, more, branch_fault, Branch, branch, Pieces, stop, next, piece_fault, Piece, piece, layout_fault, Atom, atom, AtomOf, a_nothing, a_leaf, a_group, a_condition, condition_fault, a_body, two_branches, one_branch, absent_fault, Inside, inside, Body, the_body, Whole, whole, start, closed, closed_at, ended, ended_at, branches_of, conditional_of, conditional_behind, is_condition, clear_or_stopper}
 use Rattle.fancy_grammar.specs.Head.{Head, capture, scope, look, atomic, define, repeater, group_node}
 use Rattle.fancy_grammar.specs.Join.{join, choice, solid, is_empty, one_or}
-use Rattle.fancy_parts.specs.Meaning.{Reference}
+use Rattle.fancy_parts.specs.Meaning.{AnyReference}
 use Rattle.fancy_grammar.specs.Items.{Item, opening, reference, items, items_all}
 use Rattle.fancy_grammar.specs.Quantified.{quants, adjacent, max_adjacent, is_unmoved, quant, quant_at, with_counts, suffix, suffix_at, behind_lazy, may_be_possessive, is_swapped, quantified, is_repeatable, is_dropped}
 use Rattle.fancy_grammar.specs.Ordered.{Ascends, place_of_item}
@@ -156,7 +156,7 @@ taken : {k : ℕ} {t u : Text} → Takes k t u → Slice t u
 taken a = record { word = a.word; cut = a.cut }
 
 -- a reference alone, whose place is that of a mark in the slice
-referred : {n : ℕ} {t m u : Text} (r : Reference) → Slice t m → Takes 1 m u → r.place ≡ place_of n m → Span n (reference r ∷ []) t u
+referred : {n : ℕ} {t m u : Text} (r : AnyReference) → Slice t m → Takes 1 m u → r.place ≡ place_of n m → Span n (reference r ∷ []) t u
 referred {n} {t} {m} {u} r a k e =
     let more = takes_bytes k in
     record {

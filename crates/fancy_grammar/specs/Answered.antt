@@ -11,7 +11,7 @@ use Rattle.fancy_grammar.specs.Marks.{Marks, ascending}
 use Rattle.fancy_grammar.specs.Preorder.{preorder}
 use Rattle.fancy_grammar.specs.Resolved.{resolved_in}
 use Rattle.fancy_grammar.specs.Tree.{Tree, literal, literal_bytes, alt, group, backref, backref_at_level}
-use Rattle.fancy_grammar.specs.Tree.{subroutine_call, ast_node, AstTree, ast_group, ast_call, list_of, nodes, depth}
+use Rattle.fancy_grammar.specs.Tree.{subroutine_call, ast_node, AstTree, ast_group, ast_call, list_of, nodes, levels}
 
 -- only a call stays as it was read
 abbrev pub is_call_as_read : AstTree → Bool
@@ -33,7 +33,7 @@ IsAnswered t = AllByRecursion IsAnsweredNode (preorder t)
 
 -- a tree of n bytes has at most 2 n + 1 nodes, and at most so many levels
 abbrev pub IsSmall : Tree → ℕ → Type 0
-IsSmall t n = (nodes t ≤ 2 * n + 1) × (depth t ≤ max_levels)
+IsSmall t n = (nodes t ≤ 2 * n + 1) × (levels t ≤ max_levels)
 
 abbrev pub is_group : Tree → Bool
 is_group (group t) = true

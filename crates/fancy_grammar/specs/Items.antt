@@ -1,6 +1,6 @@
 -- The capturing groups and the references of a raw tree, in text order.
 use Rattle.std.specs.Prelude.{ℕ, List, [], ◌∷◌, ◌++◌}
-use Rattle.fancy_parts.specs.Meaning.{Reference, back_reference, call, condition}
+use Rattle.fancy_parts.specs.Meaning.{AnyReference, back_reference, call, condition}
 use Rattle.fancy_parts.specs.Ranks.{Opening}
 use Rattle.fancy_grammar.specs.Tree.{Tree, Trees, no_trees, more_trees, concat, alt, group, look_around, repeat}
 use Rattle.fancy_grammar.specs.Tree.{atomic_group}
@@ -10,7 +10,7 @@ use Rattle.fancy_grammar.specs.Tree.{ast_node, AstTree, ast_group, ast_backref, 
 -- a capturing group opens, or a reference stands
 pub data Item : Type 0 where
   opening : Opening → Item
-  reference : Reference → Item
+  reference : AnyReference → Item
 
 abbrev mutual
   -- the items in text order
@@ -52,7 +52,7 @@ openings_in (opening o ∷ l) = o ∷ openings_in l
 openings_in (reference r ∷ l) = openings_in l
 
 -- the references among the items
-abbrev pub references_in : List Item → List Reference
+abbrev pub references_in : List Item → List AnyReference
 references_in [] = []
 references_in (opening o ∷ l) = references_in l
 references_in (reference r ∷ l) = r ∷ references_in l
@@ -62,5 +62,5 @@ abbrev pub openings : Tree → List Opening
 openings r = openings_in (items r)
 
 -- the references of a raw tree in text order
-abbrev pub references : Tree → List Reference
+abbrev pub references : Tree → List AnyReference
 references r = references_in (items r)

@@ -7,7 +7,7 @@ use Rattle.std.specs.Ordering.{nat_cmp}
 use Rattle.fancy_lex.specs.Target.{Target, by_number}
 use Rattle.fancy_lex.specs.Text.{Text}
 use Rattle.fancy_lex.specs.declared.flags.Flags.{Flags}
-use Rattle.fancy_parts.specs.Meaning.{Role, back_reference, call, Reference, Meaning, number, meaning}
+use Rattle.fancy_parts.specs.Meaning.{Role, back_reference, call, AnyReference, Meaning, number, meaning}
 use Rattle.fancy_parts.specs.Ranks.{Opening, only_named, counted_in, named_groups}
 use Rattle.fancy_parts.specs.Written.{is_numeric}
 use Rattle.fancy_grammar.specs.Items.{openings, references}
@@ -29,7 +29,7 @@ back_number back_reference (number n) = Some n
 back_number _ _ = None
 
 -- the numbers of the back references, in text order
-abbrev pub back_numbers : List Opening → List Reference → List ℕ
+abbrev pub back_numbers : List Opening → List AnyReference → List ℕ
 back_numbers groups l = filter_map (λ r. back_number r.role (meaning groups r)) l
 
 -- the numbers ascending, each once

@@ -160,24 +160,24 @@ abbrev mutual
 
 abbrev mutual
   -- how many levels
-  pub depth : Tree → ℕ
-  depth (concat ts) = suc (depth_all ts)
-  depth (alt ts) = suc (depth_all ts)
-  depth (group t) = suc (depth t)
-  depth (look_around t l) = suc (depth t)
-  depth (repeat t lo hi greedy) = suc (depth t)
-  depth (atomic_group t) = suc (depth t)
-  depth (conditional c t f) = suc (max (depth c) (max (depth t) (depth f)))
-  depth (absent a) = suc (depth_absent a)
-  depth (define_group t) = suc (depth t)
-  depth _ = 1
+  pub levels : Tree → ℕ
+  levels (concat ts) = suc (levels_all ts)
+  levels (alt ts) = suc (levels_all ts)
+  levels (group t) = suc (levels t)
+  levels (look_around t l) = suc (levels t)
+  levels (repeat t lo hi greedy) = suc (levels t)
+  levels (atomic_group t) = suc (levels t)
+  levels (conditional c t f) = suc (max (levels c) (max (levels t) (levels f)))
+  levels (absent a) = suc (levels_absent a)
+  levels (define_group t) = suc (levels t)
+  levels _ = 1
 
-  pub depth_all : Trees → ℕ
-  depth_all no_trees = 0
-  depth_all (more_trees t ts) = max (depth t) (depth_all ts)
+  pub levels_all : Trees → ℕ
+  levels_all no_trees = 0
+  levels_all (more_trees t ts) = max (levels t) (levels_all ts)
 
-  pub depth_absent : AbsentTree → ℕ
-  depth_absent (repeater t) = depth t
-  depth_absent (expression a e) = max (depth a) (depth e)
-  depth_absent (stopper t) = depth t
-  depth_absent clear = 0
+  pub levels_absent : AbsentTree → ℕ
+  levels_absent (repeater t) = levels t
+  levels_absent (expression a e) = max (levels a) (levels e)
+  levels_absent (stopper t) = levels t
+  levels_absent clear = 0

@@ -6,7 +6,7 @@ use Rattle.fancy_lex.specs.Fault.{Fault}
 use Rattle.fancy_lex.specs.Target.{Target}
 use Rattle.fancy_lex.specs.Text.{Text}
 use Rattle.fancy_parts.specs.Groups.{Groups, with_opening, numbers_under}
-use Rattle.fancy_parts.specs.Meaning.{Role, Reference, Meaning, number, means, fault_or}
+use Rattle.fancy_parts.specs.Meaning.{Role, AnyReference, Meaning, number, means, fault_or}
 use Rattle.fancy_parts.specs.Ranks.{is_counted}
 use Rattle.fancy_parts.specs.Written.{is_numeric}
 use Rattle.fancy_grammar.specs.Items.{Item, opening, reference, items}
@@ -68,7 +68,7 @@ abbrev pub beyond : ℕ → Option ℕ → Option ℕ
 beyond total None = None
 beyond total (Some n) = if nat_le n total then None else Some n
 
-abbrev pub note_meaning : Known → Progress → Reference → Meaning → Progress
+abbrev pub note_meaning : Known → Progress → AnyReference → Meaning → Progress
 note_meaning k s r m = record {
   passed = s.passed;
   backrefs = with_backref k.groups.total s.backrefs (back_number r.role m);

@@ -6,7 +6,7 @@ use Rattle.std.proofs.lemmas.Str.{len_utf8_bounds}
 use Rattle.std.specs.Borrow.{Bor}
 use Rattle.std.specs.declared.alloc.Global.{Global}
 use Rattle.fancy_lex.specs.Characters.{backslash, open_bracket, close_bracket, caret}
-use Rattle.fancy_lex.specs.Class.{class_head, with_mark, items, class, item_text, is_negated, is_plain, Outcome, written, fault, Class, class_items, items_fault, Items, close, plain, escaped, nested, end, plain_fault, escape_fault, escaped_fault, class_fault, nested_fault, StartsWithClass, ClassFaults, IsFault}
+use Rattle.fancy_lex.specs.Class.{class_head, with_mark, items_from, class, item_text, is_negated, is_plain, Outcome, written, fault, Class, class_items, items_fault, Items, close, plain, escaped, nested, end, plain_fault, escape_fault, escaped_fault, class_fault, nested_fault, StartsWithClass, ClassFaults, IsClassError}
 use Rattle.fancy_lex.specs.Escape.{escape}
 use Rattle.fancy_lex.specs.Escaped.{Escape}
 use Rattle.fancy_lex.specs.Fault.{Fault}
@@ -61,16 +61,16 @@ class_head_bytes t =
 
 module _ (n : ℕ) (f : Flags) where
   abbrev ended : ℕ → ℕ → Bool → Text → Text → Reading Text
-  ended j depth a out v = if depth == 0 then gives out v else items n f j (depth - 1) a out v
+  ended j depth a out v = if depth == 0 then gives out v else items_from n f j (depth - 1) a out v
 
-  ended_inside : (j depth : ℕ) (a : Bool) (out v : Text) → ended j (depth + 1) a out v ≡ items n f j depth a out v
+  ended_inside : (j depth : ℕ) (a : Bool) (out v : Text) → ended j (depth + 1) a out v ≡ items_from n f j depth a out v
   ended_inside j depth a out v =
       let test : (depth + 1 == 0) ≡ false = grind (arith, nat_tests) in
       let back : depth + 1 - 1 ≡ depth = omega arith in
       rw (test, back) refl
 
-  items_closing : (k depth : ℕ) (b : Bool) (out v : Text) → 0 < k → items n f k depth b out (close_bracket ∷ v) ≡ ended (pred k) depth b (out ++ close_bracket ∷ []) v
-  unfolding items
+  items_closing : (k depth : ℕ) (b : Bool) (out v : Text) → 0 < k → items_from n f k depth b out (close_bracket ∷ v) ≡ ended (pred k) depth b (out ++ close_bracket ∷ []) v
+  unfolding items_from
   items_closing zero depth b out v m = absurd (omega arith)
   items_closing (suc k) depth b out v m = refl
 
@@ -80,7 +80,7 @@ Runs n f here t depth out (written w a v) = (j : ℕ) × (bytes v < j) × (bytes
 Runs n f here t depth out (fault e) = here ≡ fails e
 
 abbrev at_class : ℕ → Flags → ℕ → ℕ → Bool → Text → Text → Reading Text
-at_class n f k depth b out t = items n f k depth b (class_head out t).0 (class_head out t).1
+at_class n f k depth b out t = items_from n f k depth b (class_head out t).0 (class_head out t).1
 
 -- one step, for which x is written, and what comes of the rest
 after : (n : ℕ) (f : Flags) (here there : Reading Text) (t s : Text) (depth : ℕ) (out x : Text) → here ≡ there → bytes s ≤ bytes t → (w : Text) (a : Bool) (v : Text) → Runs n f there s depth (out ++ x) (written w a v) → Runs n f here t depth out (written (x ++ w) a v)
@@ -90,16 +90,16 @@ after n f here there t s depth out x e l w a v (j, m, less, q) =
 not_special : (c : ℕ) → is_plain c ≡ true → (c ≢ 92) × (c ≢ 91) × (c ≢ 93)
 not_special c p = (grind (arith, nat_tests), grind (arith, nat_tests), grind (arith, nat_tests))
 
-items_fails : (n : ℕ) (f : Flags) (k depth : ℕ) (b : Bool) (out t : Text) (e : Fault) → escape n f true (place_of n (backslash ∷ t)) t ≡ fails e → 0 < k → items n f k depth b out (backslash ∷ t) ≡ fails e
-unfolding items
+items_fails : (n : ℕ) (f : Flags) (k depth : ℕ) (b : Bool) (out t : Text) (e : Fault) → escape n f true (place_of n (backslash ∷ t)) t ≡ fails e → 0 < k → items_from n f k depth b out (backslash ∷ t) ≡ fails e
+unfolding items_from
 items_fails n f zero depth b out t e q m = absurd (omega arith)
 items_fails n f (suc k) depth b out t e q m = rw q refl
 
 module _ (n : ℕ) (f : Flags) (k depth : ℕ) (b : Bool) (out t : Text) where
-  at_head : (head u : Text) → ◌≡◌ {A = Text × Text} (class_head [] t) (head, u) → at_class n f k depth b out t ≡ items n f k depth b (out ++ head) u
-  at_head head u e = ap (λ (p : Text × Text). items n f k depth b p.0 p.1) (class_head_behind out t ∙ ap (behind out) e)
+  at_head : (head u : Text) → ◌≡◌ {A = Text × Text} (class_head [] t) (head, u) → at_class n f k depth b out t ≡ items_from n f k depth b (out ++ head) u
+  at_head head u e = ap (λ (p : Text × Text). items_from n f k depth b p.0 p.1) (class_head_behind out t ∙ ap (behind out) e)
 
-  plain_item : (c : ℕ) → is_plain c ≡ true → 0 < k → items n f k depth b out (c ∷ t) ≡ items n f (pred k) depth b (out ++ c ∷ []) t
+  plain_item : (c : ℕ) → is_plain c ≡ true → 0 < k → items_from n f k depth b out (c ∷ t) ≡ items_from n f (pred k) depth b (out ++ c ∷ []) t
   plain_item c p m = let (x, y, z) = not_special c p in items_plain n f depth b out (c ∷ t) c t refl k m x y z
 
   -- what is left of t is less than the steps
@@ -120,7 +120,7 @@ mutual
   run_class {n} {f} {b} {t} (items_fault {u} {head} e h) k depth out l =
       at_head n f k depth b out t head u e ∙ run_items h k depth (out ++ head) (omega (arith, head_bytes t head u e, l))
 
-  run_items : {n : ℕ} {f : Flags} {b : Bool} {t : Text} {o : Outcome} → Items n f b t o → (k depth : ℕ) (out : Text) → bytes t < k → Runs n f (items n f k depth b out t) t depth out o
+  run_items : {n : ℕ} {f : Flags} {b : Bool} {t : Text} {o : Outcome} → Items n f b t o → (k depth : ℕ) (out : Text) → bytes t < k → Runs n f (items_from n f k depth b out t) t depth out o
   run_items {n} {f} {b} (close {v}) k depth out l =
       (pred k, step_left n f k depth b out v 93 l, bytes_cons 93 v, items_closing n f k depth b out v (positive _ k l))
   run_items {n} {f} {b} (plain {c} {a} {t} {v} {w} p h) k depth out l =
@@ -282,9 +282,9 @@ no_fault x t e q = cc
 same_fault : (e x : Fault) → ◌≡◌ {A = Reading Text} (fails e) (fails x) → e ≡ x
 same_fault e x q = cc
 
-pub class_derives : (n : ℕ) (f : Flags) (t : Text) (r : Result (String Global × Bor (List ℕ)) Error) → Gives text_of r (class n f t) → MatchResult r (λ p. StartsWithClass n f t (chars p.1.now) (text_of p.0)) (λ e. IsFault n f t e)
+pub class_derives : (n : ℕ) (f : Flags) (t : Text) (r : Result (String Global × Bor (List ℕ)) Error) → Gives text_of r (class n f t) → MatchResult r (λ p. StartsWithClass n f t (chars p.1.now) (text_of p.0)) (λ e. IsClassError n f t e)
 class_derives n f t r g = by_reading (class_reads n f t) r g where
-  by_reading : (o : Outcome) × Class n f false t o → (r : Result (String Global × Bor (List ℕ)) Error) → Gives text_of r (class n f t) → MatchResult r (λ p. StartsWithClass n f t (chars p.1.now) (text_of p.0)) (λ e. IsFault n f t e)
+  by_reading : (o : Outcome) × Class n f false t o → (r : Result (String Global × Bor (List ℕ)) Error) → Gives text_of r (class n f t) → MatchResult r (λ p. StartsWithClass n f t (chars p.1.now) (text_of p.0)) (λ e. IsClassError n f t e)
   by_reading (written w a v, h) (Ok p) g =
       let (x, y) = same_gives w (text_of p.0) v (chars p.1.now) (sym (class_complete n f t _ h) ∙ g) in
       (a, subst (λ z. Class n f false t (written (text_of p.0) a z)) y (subst (λ z. Class n f false t (written z a v)) x h))

@@ -3,7 +3,7 @@ use Rattle.std.proofs.Common.{◌≡◌, ◌≢◌, ℕ, Bool, true, false, ◌=
 use Rattle.std.specs.Option.{option_and_then}
 use Rattle.std.proofs.lemmas.Bool.Decides.{nat_tests}
 use Rattle.fancy_lex.specs.Delimited.{Without, StartsWithName, name_before}
-use Rattle.fancy_lex.specs.Id.{filled}
+use Rattle.fancy_lex.specs.Id.{nonempty_front}
 use Rattle.fancy_lex.specs.Text.{Text, parts, cut_at}
 
 -- a part of a text, and the rest; or none
@@ -63,7 +63,7 @@ pub name_sound : (mark : ℕ) (t w v : Text) → ◌≡◌ {A = Parts} (name_bef
     StartsWithName mark t w v
 unfolding name_before
 name_sound mark t w v e = at (cut_at mark t) refl e where
-  at : (o : Parts) → cut_at mark t ≡ o → ◌≡◌ {A = Parts} (option_and_then filled o) (Some (w, v)) →
+  at : (o : Parts) → cut_at mark t ≡ o → ◌≡◌ {A = Parts} (option_and_then nonempty_front o) (Some (w, v)) →
       StartsWithName mark t w v
   at None f e = absurd cc
   at (Some ([], y)) f e = absurd cc

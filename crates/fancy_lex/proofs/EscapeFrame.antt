@@ -4,7 +4,7 @@ use Rattle.std.proofs.lemmas.Bool.{cases_eq}
 use Rattle.std.proofs.lemmas.Bool.Decides.{nat_tests}
 use Rattle.std.specs.Char.{digit_value, is_ascii_digit}
 use Rattle.fancy_lex.specs.Characters.{open_paren, open_brace, close_brace, close_paren, backslash, line_feed, hash, ◌∈◌}
-use Rattle.fancy_lex.specs.Escape.{escape, numbered, property, in_class, is_itself}
+use Rattle.fancy_lex.specs.Escape.{escape, number_escape, property, in_class, is_itself}
 use Rattle.fancy_lex.specs.EscapeReference.{group_number}
 use Rattle.fancy_lex.specs.Escaped.{Escape, delegate, literal, literal_bytes}
 use Rattle.fancy_lex.specs.Fault.{invalid_class, invalid_hex, invalid_codepoint_value, unclosed_unicode_name}
@@ -284,9 +284,9 @@ numbered_on : (p : ℕ) (there : Text → Reading Escape) (o : Reading ℕ) → 
 numbered_on p there (gives k u) = tt
 numbered_on p there (fails e) = tt
 
-numbered_stays : (n : ℕ) (f : Flags) (p : ℕ) (t : Text) (there : Text → Reading Escape) → Stays (numbered n f true p t) there
-unfolding numbered
-numbered_stays n f p t there = numbered_on p there (group_number n t)
+number_escape_stays : (n : ℕ) (f : Flags) (p : ℕ) (t : Text) (there : Text → Reading Escape) → Stays (number_escape n f true p t) there
+unfolding number_escape
+number_escape_stays n f p t there = numbered_on p there (group_number n t)
 
 value_stays : (e : Escape) (t : Text) → Stays (gives e t) (λ s. gives e (t ++ s))
 value_stays e t = λ s. refl
@@ -299,7 +299,7 @@ escape_stays : (n m : ℕ) (f : Flags) (p q : ℕ) (t : Text) → Stays (escape 
 unfolding escape
 escape_stays n m f p q [] = tt
 escape_stays n m f p q (c ∷ t) =
-    stays_if (is_ascii_digit c) _ _ _ _ (numbered_stays n f p (c ∷ t) _)
+    stays_if (is_ascii_digit c) _ _ _ _ (number_escape_stays n f p (c ∷ t) _)
     (stays_if (c ∈ "dDsSwW") _ _ _ _ (value_stays _ t)
     (stays_if (c ∈ "h") _ _ _ _ (value_stays _ t)
     (stays_if (c ∈ "H") _ _ _ _ (value_stays _ t)

@@ -4,7 +4,7 @@ use Rattle.std.specs.Char.{digit_value}
 use Rattle.fancy_lex.specs.declared.flags.Flags.{Flags}
 use Rattle.fancy_lex.specs.Boundary as boundaries
 use Rattle.fancy_lex.specs.Characters.{open_brace, close_brace, ◌∈◌}
-use Rattle.fancy_lex.specs.Escape.{escape, numbered, call, referring, property, outside, in_class}
+use Rattle.fancy_lex.specs.Escape.{escape, number_escape, call, backref_leaf, property, outside, in_class}
 use Rattle.fancy_lex.specs.EscapeReference.{back_reference}
 use Rattle.fancy_lex.specs.Escaped.{Escape}
 use Rattle.fancy_lex.specs.Fault.{Kind, invalid_escape}
@@ -153,17 +153,17 @@ module _ (n : ℕ) (f : Flags) (inside : Bool) (p : ℕ) where
   leaves_property c (d ∷ t) =
       leaves_choose (read_property (c ∈ "P") (d ∷ t)) (λ q e. leaves (ends_some (d ∷ t) _ q (leaves_read (c ∈ "P") (d ∷ t)) e)) none_here
 
-  leaves_referring : {t : Text} {o : Reading Reference} → Leaves n p t o → Leaves n p t (referring f o)
-  leaves_referring h = leaves_both h (λ r u. whole u)
+  leaves_backref_leaf : {t : Text} {o : Reading Reference} → Leaves n p t o → Leaves n p t (backref_leaf f o)
+  leaves_backref_leaf h = leaves_both h (λ r u. whole u)
 
-  leaves_numbered : (t : Text) → Leaves n p t (numbered n f inside p t)
-  unfolding numbered
-  leaves_numbered t =
+  leaves_number_escape : (t : Text) → Leaves n p t (number_escape n f inside p t)
+  unfolding number_escape
+  leaves_number_escape t =
       leaves_if inside (leaves_both (takes_leaves (place_of n t) 1 t (stands_here t) (takes_number n t)) (λ k u. none_here))
-      (leaves_referring (takes_leaves (place_of n t) 1 t (stands_here t) (takes_numbered_reference n t)))
+      (leaves_backref_leaf (takes_leaves (place_of n t) 1 t (stands_here t) (takes_numbered_reference n t)))
 
-  leaves_named_reference : (t : Text) → Leaves n p t (referring f (back_reference n t))
-  leaves_named_reference t = leaves_referring (takes_leaves (place_of n t) 3 t (stands_here t) (takes_back_reference n t))
+  leaves_named_reference : (t : Text) → Leaves n p t (backref_leaf f (back_reference n t))
+  leaves_named_reference t = leaves_backref_leaf (takes_leaves (place_of n t) 3 t (stands_here t) (takes_back_reference n t))
 
   leaves_call : (c : ℕ) (t : Text) → Leaves n p t (call n p c t)
   unfolding call
@@ -203,7 +203,7 @@ module _ (n : ℕ) (f : Flags) (inside : Bool) (p : ℕ) where
   unfolding escape
   leaves_escape [] = none_here
   leaves_escape (c ∷ t) =
-      search (leaves_if, whole_next, leaves_numbered, hex_next, property_next, in_class_next, outside_next) depth 60 fits 3000
+      search (leaves_if, whole_next, leaves_number_escape, hex_next, property_next, in_class_next, outside_next) depth 60 fits 3000
 
 -- what is left is the end of the text
 pub escape_cut : (n : ℕ) (f : Flags) (b : Bool) (p : ℕ) (t u : Text) (e : Escape) → escape n f b p t ≡ gives e u → (w : Text) × (t ≡ w ++ u)

@@ -5,7 +5,7 @@ use Rattle.std.proofs.lemmas.Bool.Decides.{nat_tests}
 use Rattle.std.specs.Char.{is_ascii_digit}
 use Rattle.fancy_lex.specs.Boundary as boundaries
 use Rattle.fancy_lex.specs.Characters.{open_brace, ◌∈◌}
-use Rattle.fancy_lex.specs.Escape.{escape, numbered, call, referring, property, outside, in_class, is_itself}
+use Rattle.fancy_lex.specs.Escape.{escape, number_escape, call, backref_leaf, property, outside, in_class, is_itself}
 use Rattle.fancy_lex.specs.EscapeReference.{group_number, numbered_reference, back_reference, subroutine_call}
 use Rattle.fancy_lex.specs.Escaped.{Escape, literal, literal_bytes, any, assertion, general_newline, keep_out, continue_from_previous_match_end, delegate, backref, subroutine_call as called}
 use Rattle.fancy_lex.specs.Hex as hexes
@@ -73,25 +73,25 @@ module _ (n : ℕ) where
   sound_choose t None f d h k = k
 
   module _ (f : Flags) where
-    sound_referring : (t : Text) (o : Reading Reference) → TakesOrFails (place_of n t) 1 t o →
-        IfGives (ReferenceAt (place_of n t)) o → Sound n t (referring f o)
-    sound_referring t (gives r u) (takes a) e = record { mark = t; ends = ends_whole t; takes = a; place = e }
-    sound_referring t (fails z) h e = tt
+    sound_backref_leaf : (t : Text) (o : Reading Reference) → TakesOrFails (place_of n t) 1 t o →
+        IfGives (ReferenceAt (place_of n t)) o → Sound n t (backref_leaf f o)
+    sound_backref_leaf t (gives r u) (takes a) e = record { mark = t; ends = ends_whole t; takes = a; place = e }
+    sound_backref_leaf t (fails z) h e = tt
 
     sound_calling : (t : Text) (o : Reading Call) → TakesOrFails (place_of n t) 1 t o → IfGives (CallAt (place_of n t)) o →
         Sound n t (o >=> (λ c u. gives (called c) u))
     sound_calling t (gives c u) (takes a) e = record { mark = t; ends = ends_whole t; takes = a; place = e }
     sound_calling t (fails z) h e = tt
 
-    sound_numbered : (inside : Bool) (p : ℕ) (t : Text) → Sound n t (numbered n f inside p t)
-    unfolding numbered
-    sound_numbered inside p t =
+    sound_number_escape : (inside : Bool) (p : ℕ) (t : Text) → Sound n t (number_escape n f inside p t)
+    unfolding number_escape
+    sound_number_escape inside p t =
         cond_both inside _ _ (Sound n t) (λ _. sound_both t (group_number n t) _ (λ k u. tt))
-        (λ _. sound_referring t (numbered_reference n t) (takes_numbered_reference n t) (numbered_reference_at n t))
+        (λ _. sound_backref_leaf t (numbered_reference n t) (takes_numbered_reference n t) (numbered_reference_at n t))
 
-    sound_named : (t : Text) → Sound n t (referring f (back_reference n t))
+    sound_named : (t : Text) → Sound n t (backref_leaf f (back_reference n t))
     sound_named t =
-        sound_referring t (back_reference n t) (takes_less (place_of n t) 3 t (omega arith) (takes_back_reference n t)) (back_reference_at n t)
+        sound_backref_leaf t (back_reference n t) (takes_less (place_of n t) 3 t (omega arith) (takes_back_reference n t)) (back_reference_at n t)
 
     sound_call : (p c : ℕ) (t : Text) → Sound n t (call n p c t)
     unfolding call
@@ -167,7 +167,7 @@ module _ (n : ℕ) where
     sound_escape inside p [] = tt
     sound_escape inside p (c ∷ t) =
         let P = Sound n (c ∷ t) in
-        cond_both (is_ascii_digit c) _ _ P (λ _. sound_numbered inside p (c ∷ t)) (λ _.
+        cond_both (is_ascii_digit c) _ _ P (λ _. sound_number_escape inside p (c ∷ t)) (λ _.
         cond_both (c ∈ "dDsSwW") _ _ P (λ _. tt) (λ _.
         cond_both (c ∈ "h") _ _ P (λ _. tt) (λ _.
         cond_both (c ∈ "H") _ _ P (λ _. tt) (λ _.

@@ -10,7 +10,7 @@ use Rattle.unicode.proofs.DerivedComputing.{ucd_derived}
 use Prim.Native.Char.{code}
 use Rattle.fancy_lex.specs.Characters.{◌∈◌}
 use Rattle.fancy_lex.specs.Id.{is_id_char, AllIdChars, IsId, Id, StartsWithId, id}
-use Rattle.fancy_lex.specs.IdReference.{IdReference, id_alone, id_and_amount, amount_alone, IsIdReference, plain, with_amount, bare, IsAmount, signed, small_amount, amount, id_or_none, with_amount_of, with_rest, id_reference, view_reference}
+use Rattle.fancy_lex.specs.IdReference.{IdReference, id_alone, id_and_amount, amount_alone, IsIdReference, plain, with_amount, bare, IsAmount, with_sign, small_amount, amount, id_or_none, with_amount_of, with_rest, id_reference, view_id_reference}
 use Rattle.fancy_lex.specs.declared.name.id.IdReference as code_reference
 use Rattle.fancy_lex.specs.NumberText.{WritesNumber, whole_number}
 use Rattle.fancy_lex.specs.Text.{Text}
@@ -57,7 +57,7 @@ unfolding amount
 amount_sound [] z e = absurd cc
 amount_sound (c ∷ t) z e = at (c ∈ "+-") refl e where
   small : (n : ℕ) (b : Bool) → (c ∈ "+-") ≡ true → whole_number t ≡ Some n → nat_lt n (2 ^ 63) ≡ b →
-      (if b then Some (signed c n) else None) ≡ Some z → IsAmount (c ∷ t) z
+      (if b then Some (with_sign c n) else None) ≡ Some z → IsAmount (c ∷ t) z
   small n true s f l e = record {
     sign = c;
     digits = t;
@@ -184,6 +184,6 @@ reference_sound relative t r h = at (split t) where
   at s = by_front s.w s.v s.cut s.all s.stops
 
 pub reference_derives : (relative : Bool) (t : Text) (r : Option code_reference.IdReference) →
-    id_reference relative t ≡ option_map view_reference r → IfSome r (λ x. IsIdReference relative t (view_reference x))
+    id_reference relative t ≡ option_map view_id_reference r → IfSome r (λ x. IsIdReference relative t (view_id_reference x))
 reference_derives relative t None e = tt
-reference_derives relative t (Some x) e = reference_sound relative t (view_reference x) e
+reference_derives relative t (Some x) e = reference_sound relative t (view_id_reference x) e

@@ -6,7 +6,7 @@ use Rattle.std.specs.Borrow.{Bor}
 use Rattle.fancy_lex.specs.Characters.{line_feed, hash, open_paren, close_paren, backslash}
 use Rattle.fancy_lex.specs.Text.{Text, Stands, past_end}
 use Rattle.fancy_lex.proofs.LeaveLaws.{stands_end}
-use Rattle.fancy_lex.specs.Layout.{skipped_of, rest, fault, Inside, nothing, plain, pair, InLine, end_line, on_line, comment_head, IsUnit, Units, none, more, Stops, layout, layout_from, between, comment, escaped, line, is_blank, after_comment_head, Open, at_end, after_backslash, Unclosed, Before}
+use Rattle.fancy_lex.specs.Layout.{skipped_of, rest, fault, InComment, nothing, plain, pair, InLine, end_line, on_line, comment_head, IsUnit, Units, none, more, Stops, layout, layout_from, between, comment, escaped, line, is_blank, after_comment_head, Open, at_end, after_backslash, Unclosed, Before}
 use Rattle.fancy_lex.proofs.LayoutLemmas.{between_opened, comment_step, comment_end, escaped_end, escaped_step, escaped_end, line_step, between_line, between_blank, between_other, between_plain, between_end, line_end}
 
 snoc : (i r : Text) (c : ℕ) → (i ++ c ∷ []) ++ r ≡ i ++ c ∷ r
@@ -14,7 +14,7 @@ snoc i r c = append_assoc i (c ∷ []) r
 
 module _ (n : ℕ) (x : Bool) where
   -- what the relation says, the function answers
-  past_inside : {i : Text} → Inside i → (r : Text) → layout_from n x comment (i ++ r) ≡ layout_from n x comment r
+  past_inside : {i : Text} → InComment i → (r : Text) → layout_from n x comment (i ++ r) ≡ layout_from n x comment r
   past_inside nothing r = refl
   past_inside (plain {c} {t} a b h) r =
       let step = comment_step n x _ c (t ++ r) refl in
@@ -34,7 +34,7 @@ module _ (n : ℕ) (x : Bool) where
       let now : layout_from n x line (c ∷ (t ++ r)) ≡ layout_from n x line (t ++ r) = grind (arith, nat_tests) in
       now ∙ past_line h r
 
-  past_comment : {i : Text} → Inside i → (r : Text) → layout_from n x between (comment_head ++ (i ++ close_paren ∷ r)) ≡ layout_from n x between r
+  past_comment : {i : Text} → InComment i → (r : Text) → layout_from n x between (comment_head ++ (i ++ close_paren ∷ r)) ≡ layout_from n x between r
   past_comment {i} h r =
       between_opened n x _ (i ++ close_paren ∷ r) refl ∙ past_inside h (close_paren ∷ r) ∙ comment_step n x _ close_paren r refl
 
@@ -77,7 +77,7 @@ split_line (c ∷ t) =
 
 -- the comment's inside that ends, or one that does not
 abbrev Ends : Text → Type 0
-Ends t = (i : Text) × (r : Text) × Inside i × (t ≡ i ++ close_paren ∷ r)
+Ends t = (i : Text) × (r : Text) × InComment i × (t ≡ i ++ close_paren ∷ r)
 
 ends_plain : (c : ℕ) (t : Text) → c ≢ backslash → c ≢ close_paren → Ends t → Ends (c ∷ t)
 ends_plain c t a b (i, r, h, q) = (c ∷ i, r, plain a b h, ap (λ s. c ∷ s) q)

@@ -4,7 +4,7 @@ use Rattle.std.proofs.lemmas.Bool.Decides.{nat_tests}
 use Rattle.std.specs.Option.{option_and_then}
 use Prim.Native.Char.{code}
 use Rattle.fancy_lex.specs.Number.{Number, StartsWithNumber, number, AllDigits}
-use Rattle.fancy_lex.specs.NumberText.{WritesNumber, IsNumberText, digits, with_plus, alone, whole_number, number_text}
+use Rattle.fancy_lex.specs.NumberText.{WritesNumber, IsNumberText, digits, with_plus, number_alone, whole_number, number_text}
 use Rattle.fancy_lex.specs.Text.{Text, strip}
 use Rattle.fancy_lex.proofs.TextLemmas.{strip_is}
 use Rattle.fancy_lex.proofs.NumberLemmas.{number_complete, number_sound}
@@ -31,7 +31,7 @@ whole_sound w n e = at (number w) refl e where
       subst (WritesNumber w) same (record { number = whole_is w k (number_sound w [] k f); word = word })
   small k false s f e = absurd cc
 
-  at : (o : Option (ℕ × Text)) → number w ≡ o → option_and_then alone o ≡ Some n → WritesNumber w n
+  at : (o : Option (ℕ × Text)) → number w ≡ o → option_and_then number_alone o ≡ Some n → WritesNumber w n
   at None f e = absurd cc
   at (Some (k, [])) f e = small k (nat_lt k (2 ^ 64)) refl f e
   at (Some (k, c ∷ t)) f e = absurd cc

@@ -1,7 +1,7 @@
 -- What holds of every class: it leaves the end of the text, its fault stands at a cut of it or one past its end, and it answers.
 use Rattle.std.proofs.Common.{◌≡◌, ℕ, zero, suc, ◌+◌, ◌-◌, Bool, true, false, ◌||◌, ◌==◌, [], ◌∷◌, ◌++◌, Option, Some, None, refl}
 use Rattle.fancy_lex.specs.Characters.{backslash, caret, open_bracket, close_bracket}
-use Rattle.fancy_lex.specs.Class.{class, items, item_text, is_negated, class_head, with_mark}
+use Rattle.fancy_lex.specs.Class.{class, items_from, item_text, is_negated, class_head, with_mark}
 use Rattle.fancy_lex.specs.Reading.{choose}
 use Rattle.fancy_lex.specs.Text.{Text, EndsWith as Ends, bytes, place_of, strip}
 use Rattle.fancy_lex.specs.declared.flags.Flags.{Flags}
@@ -23,8 +23,8 @@ ends_class_head out t =
 
 -- no place is told but the one past the end
 module _ (n : ℕ) (f : Flags) where
-  leaves_items : (k depth : ℕ) (seen : Bool) (out t : Text) → Leaves n (n + 1) t (items n f k depth seen out t)
-  unfolding items
+  leaves_items : (k depth : ℕ) (seen : Bool) (out t : Text) → Leaves n (n + 1) t (items_from n f k depth seen out t)
+  unfolding items_from
   leaves_items zero depth seen out t = leaves_none (stands_end t)
   leaves_items (suc k) depth seen out [] = leaves_none (stands_end [])
   leaves_items (suc k) depth seen out (c ∷ t) =

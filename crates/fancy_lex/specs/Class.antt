@@ -63,21 +63,21 @@ class_head out t = with_mark close_bracket (with_mark caret (out ++ open_bracket
 module _ (n : ℕ) (f : Flags) where
   -- What is left of a class, `depth` classes inside the first, behind what is written so far. The first number is how
   -- many steps are left, and `seen` says whether a negated set is written already.
-  unfoldable pub items : ℕ → ℕ → Bool → Text → Text → Reading Text
-  items zero depth seen out t = fails (class_not_closed n)
-  items (suc k) depth seen out [] = fails (class_not_closed n)
-  items (suc k) depth seen out (c ∷ t) =
+  unfoldable pub items_from : ℕ → ℕ → Bool → Text → Text → Reading Text
+  items_from zero depth seen out t = fails (class_not_closed n)
+  items_from (suc k) depth seen out [] = fails (class_not_closed n)
+  items_from (suc k) depth seen out (c ∷ t) =
       if c == backslash then
       escape n f true (place_of n (c ∷ t)) t >=> (λ e u.
-      items k depth (seen || is_negated e) (out ++ item_text seen e) u)
-      else if c == open_bracket then items k (depth + 1) seen (class_head out t).0 (class_head out t).1
+      items_from k depth (seen || is_negated e) (out ++ item_text seen e) u)
+      else if c == open_bracket then items_from k (depth + 1) seen (class_head out t).0 (class_head out t).1
       else if c == close_bracket then (
-      if depth == 0 then gives (out ++ c ∷ []) t else items k (depth - 1) seen (out ++ c ∷ []) t)
-      else items k depth seen (out ++ c ∷ []) t
+      if depth == 0 then gives (out ++ c ∷ []) t else items_from k (depth - 1) seen (out ++ c ∷ []) t)
+      else items_from k depth seen (out ++ c ∷ []) t
 
   -- the class behind the bracket
   unfoldable pub class : Text → Reading Text
-  class t = items (suc (bytes t)) 0 false (class_head [] t).0 (class_head [] t).1
+  class t = items_from (suc (bytes t)) 0 false (class_head [] t).0 (class_head [] t).1
 
 -- what a class comes to: what is written, whether a negated set is among it or was before, and what is left; or a fault
 pub data Outcome : Type 0 where
@@ -133,6 +133,6 @@ abbrev pub ClassFaults : ℕ → Flags → Text → Fault → Type 0
 ClassFaults n f t e = Class n f false t (fault e)
 
 -- memory ran out, or the class has this fault
-abbrev pub IsFault : ℕ → Flags → Text → Error → Type 0
-IsFault n f t (ParseError p k) = ClassFaults n f t (record { place = p; kind = kind_of k })
-IsFault n f t OutOfMemory = Unit {0}
+abbrev pub IsClassError : ℕ → Flags → Text → Error → Type 0
+IsClassError n f t (ParseError p k) = ClassFaults n f t (record { place = p; kind = kind_of k })
+IsClassError n f t OutOfMemory = Unit {0}

@@ -2,7 +2,7 @@
 use Rattle.std.specs.Prelude.{◌≡◌, ◌≢◌, ℕ, ◌<◌, ◌==◌, if◌then◌else◌, [], ◌∷◌, ◌++◌, length, Option, None, option_map}
 use Rattle.std.specs.Option.{option_and_then}
 use Prim.Native.Char.{code}
-use Rattle.fancy_lex.specs.Id.{filled}
+use Rattle.fancy_lex.specs.Id.{nonempty_front}
 use Rattle.fancy_lex.specs.Text.{Text, cut_at}
 
 -- no character is the mark
@@ -18,7 +18,7 @@ pub record StartsWithName (mark : ℕ) (t w v : Text) : Type 0 where
 
 -- the name before the closing mark, and what follows the mark
 unfoldable pub name_before : ℕ → Text → Option (Text × Text)
-name_before mark t = option_and_then filled (cut_at mark t)
+name_before mark t = option_and_then nonempty_front (cut_at mark t)
 
 -- the name between `<` and `>` or between two `'`, and what follows the closing mark
 unfoldable pub marked_name : Text → Option (Text × Text)

@@ -22,14 +22,14 @@ abbrev pub unknown_escape : ℕ → ℕ → Reading Escape
 unknown_escape p c = fails (letter_of_no_escape p c)
 
 -- the leaf of a back reference
-abbrev pub referring : Flags → Reading Reference → Reading Escape
-referring f o = o >=> (λ r u. gives (backref r f.casei) u)
+abbrev pub backref_leaf : Flags → Reading Reference → Reading Escape
+backref_leaf f o = o >=> (λ r u. gives (backref r f.casei) u)
 
 -- digits are a back reference, which no class holds; the pattern has n bytes
-unfoldable pub numbered : ℕ → Flags → Bool → ℕ → Text → Reading Escape
-numbered n f inside p t =
+unfoldable pub number_escape : ℕ → Flags → Bool → ℕ → Text → Reading Escape
+number_escape n f inside p t =
     if inside then reference.group_number n t >=> (λ k u. fails (number_in_class p))
-    else referring f (reference.numbered_reference n t)
+    else backref_leaf f (reference.numbered_reference n t)
 
 -- a call behind its letter
 unfoldable pub call : ℕ → ℕ → ℕ → Text → Reading Escape
@@ -57,7 +57,7 @@ outside n f p c t =
     else if c ∈ "N" then gives (any false false) t
     else if c ∈ "<" then gives (if f.oniguruma_mode then literal c false else assertion LeftWordBoundary) t
     else if c ∈ ">" then gives (if f.oniguruma_mode then literal c false else assertion RightWordBoundary) t
-    else if c ∈ "k" then referring f (reference.back_reference n t)
+    else if c ∈ "k" then backref_leaf f (reference.back_reference n t)
     else if c ∈ "g" then call n p c t
     else if c ∈ "b" then boundary n f.ignore_space p false t
     else if c ∈ "B" then boundary n f.ignore_space p true t
@@ -78,7 +78,7 @@ is_itself inside c = not (is_ascii_alphanumeric c) && (inside || not (c ∈ "<>"
 unfoldable pub escape : ℕ → Flags → Bool → ℕ → Text → Reading Escape
 escape n f inside p [] = fails (backslash_at_end p)
 escape n f inside p (c ∷ t) =
-    if is_ascii_digit c then numbered n f inside p (c ∷ t)
+    if is_ascii_digit c then number_escape n f inside p (c ∷ t)
     else if c ∈ "dDsSwW" then gives (delegate (backslash ∷ c ∷ []) f.casei) t
     else if c ∈ "h" then gives (delegate hex_class false) t
     else if c ∈ "H" then gives (delegate negated_hex_class false) t

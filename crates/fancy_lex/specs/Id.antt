@@ -45,10 +45,10 @@ id_run [] = ([], [])
 id_run (c ∷ t) = if is_id_char c then (c ∷ (id_run t).0, (id_run t).1) else ([], c ∷ t)
 
 -- a front that is not empty
-abbrev pub filled : Text × Text → Option (Text × Text)
-filled ([], v) = None
-filled (c ∷ w, v) = Some (c ∷ w, v)
+abbrev pub nonempty_front : Text × Text → Option (Text × Text)
+nonempty_front ([], v) = None
+nonempty_front (c ∷ w, v) = Some (c ∷ w, v)
 
 -- the id at the front, if there is one, and what is left
 unfoldable pub id : Text → Option (Text × Text)
-id t = filled (id_run t)
+id t = nonempty_front (id_run t)

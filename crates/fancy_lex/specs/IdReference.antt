@@ -20,8 +20,8 @@ pub data IdReference : Type 0 where
   amount_alone : ℤ → IdReference
 
 -- the number behind a plus or a minus
-abbrev pub signed : ℕ → ℕ → ℤ
-signed sign n = if sign == code "-" then neg_ℤ (pos n) else pos n
+abbrev pub with_sign : ℕ → ℕ → ℤ
+with_sign sign n = if sign == code "-" then neg_ℤ (pos n) else pos n
 
 -- `w` is a sign and ASCII digits of a number of at most 2^63 - 1, and z is the amount that they write
 pub record IsAmount (w : Text) (z : ℤ) : Type 0 where
@@ -32,7 +32,7 @@ pub record IsAmount (w : Text) (z : ℤ) : Type 0 where
   pub is_sign : (sign ∈ "+-") ≡ true
   pub number : Number digits [] value
   pub small : value < 2 ^ 63
-  pub amount_is : z ≡ signed sign value
+  pub amount_is : z ≡ with_sign sign value
 
 -- `w` is an id reference that says this; the flag allows amounts
 pub data IsIdReference : Bool → Text → IdReference → Type 0 where
@@ -42,10 +42,10 @@ pub data IsIdReference : Bool → Text → IdReference → Type 0 where
   bare : {w : Text} {z : ℤ} → IsAmount w z → z ≢ pos 0 → IsIdReference true w (amount_alone z)
 
 -- an id reference in code, with its id as characters
-abbrev pub view_reference : code_reference.IdReference → IdReference
-view_reference (variant.Id i) = id_alone (chars i.now)
-view_reference (variant.IdAndAmount i z) = id_and_amount (chars i.now) z
-view_reference (variant.Amount z) = amount_alone z
+abbrev pub view_id_reference : code_reference.IdReference → IdReference
+view_id_reference (variant.Id i) = id_alone (chars i.now)
+view_id_reference (variant.IdAndAmount i z) = id_and_amount (chars i.now) z
+view_id_reference (variant.Amount z) = amount_alone z
 
 -- an id and what is left, as code answers them
 abbrev pub option_and_rest : Option (Bor (List ℕ)) × Bor (List ℕ) → Option Text × Text
@@ -53,7 +53,7 @@ option_and_rest p = (option_map (λ s. chars s.now) p.0, chars p.1.now)
 
 -- a sign and a number of at most 2^63 - 1
 abbrev pub small_amount : ℕ → ℕ → Option ℤ
-small_amount sign n = if nat_lt n (2 ^ 63) then Some (signed sign n) else None
+small_amount sign n = if nat_lt n (2 ^ 63) then Some (with_sign sign n) else None
 
 -- the amount that all of the text writes
 unfoldable pub amount : Text → Option ℤ

@@ -16,10 +16,10 @@ abbrev pub is_layout : Bool → ℕ → Bool
 is_layout x c = x && (c == hash || is_blank c)
 
 -- the inside of a comment: characters other than `\` and `)`, and pairs of `\` and any character
-pub data Inside : Text → Type 0 where
-  nothing : Inside []
-  plain : {c : ℕ} {t : Text} → c ≢ backslash → c ≢ close_paren → Inside t → Inside (c ∷ t)
-  pair : {b c : ℕ} {t : Text} → b ≡ backslash → Inside t → Inside (b ∷ c ∷ t)
+pub data InComment : Text → Type 0 where
+  nothing : InComment []
+  plain : {c : ℕ} {t : Text} → c ≢ backslash → c ≢ close_paren → InComment t → InComment (c ∷ t)
+  pair : {b c : ℕ} {t : Text} → b ≡ backslash → InComment t → InComment (b ∷ c ∷ t)
 
 -- no line feed
 pub data InLine : Text → Type 0 where
@@ -32,7 +32,7 @@ comment_head = codes "(?#"
 
 -- `(?#`, a comment's inside, and `)`
 abbrev pub IsComment : Text → Type 0
-IsComment u = (t : Text) × Inside t × (u ≡ comment_head ++ (t ++ (close_paren ∷ [])))
+IsComment u = (t : Text) × InComment t × (u ≡ comment_head ++ (t ++ (close_paren ∷ [])))
 
 -- one blank character
 abbrev pub IsBlank : Text → Type 0
@@ -69,9 +69,9 @@ pub record Before (x : Bool) (t v : Text) : Type 0 where
 
 -- a comment's inside that does not end: all of the text, or all but an unpaired backslash
 pub data Open : ℕ → Text → ℕ → Type 0 where
-  at_end : {n : ℕ} {t : Text} → Inside t → Open n t (end_in_comment n)
+  at_end : {n : ℕ} {t : Text} → InComment t → Open n t (end_in_comment n)
   after_backslash : {n p : ℕ} {t : Text} (i : Text) → t ≡ i ++ (backslash ∷ []) → p ≡ end_behind_backslash n →
-      Inside i → Open n t p
+      InComment i → Open n t p
 
 -- in a text of n bytes that ends with `t`, the layout at `t` holds an unclosed comment, with its fault at p
 pub record Unclosed (n : ℕ) (x : Bool) (t : Text) (p : ℕ) : Type 0 where

@@ -22,12 +22,12 @@ is_nothing [] = true
 is_nothing (c ∷ t) = false
 
 -- a number that a word holds, behind which nothing is left
-abbrev pub alone : ℕ × Text → Option ℕ
-alone p = if is_nothing p.1 && nat_lt p.0 (2 ^ 64) then Some p.0 else None
+abbrev pub number_alone : ℕ × Text → Option ℕ
+number_alone p = if is_nothing p.1 && nat_lt p.0 (2 ^ 64) then Some p.0 else None
 
 -- the number that all of the text writes, where a word holds it
 unfoldable pub whole_number : Text → Option ℕ
-whole_number t = option_and_then alone (number t)
+whole_number t = option_and_then number_alone (number t)
 
 -- the value of a number text; none for any other text
 unfoldable pub number_text : Text → Option ℕ

@@ -63,19 +63,21 @@ look_up name =
     else Other
 
 -- one with UNICODE, and the other without
-abbrev pub by : Bool → Form → Form → Form
-by unicode with without = if unicode then with else without
+abbrev pub form_by : Bool → Form → Form → Form
+form_by unicode with without = if unicode then with else without
 
 -- the table: how each name is written with UNICODE, and without
 abbrev pub form : Bool → Known → Text → Form
-form unicode Alnum name = by unicode (set (codes "\\p{alpha}\\p{digit}")) (set (codes "[:alnum:]"))
-form unicode Blank name = by unicode (set (codes "\\p{Zs}\\x09")) (set (codes "\\t "))
-form unicode Cntrl name = by unicode (set (codes "\\x00-\\x1F\\x7F-\\x9F")) (set (codes "[:cntrl:]"))
-form unicode Word name = by unicode (pair (codes "\\w") (codes "\\W")) (set (codes "_[:alnum:]"))
+form unicode Alnum name = form_by unicode (set (codes "\\p{alpha}\\p{digit}")) (set (codes "[:alnum:]"))
+form unicode Blank name = form_by unicode (set (codes "\\p{Zs}\\x09")) (set (codes "\\t "))
+form unicode Cntrl name = form_by unicode (set (codes "\\x00-\\x1F\\x7F-\\x9F")) (set (codes "[:cntrl:]"))
+form unicode Word name = form_by unicode (pair (codes "\\w") (codes "\\W")) (set (codes "_[:alnum:]"))
 form unicode Graph name =
-    by unicode (pair (codes "[^\\p{White_Space}\\p{C}]") (codes "[\\p{White_Space}\\p{C}]")) (set (codes "[:graph:]"))
+    form_by unicode (pair (codes "[^\\p{White_Space}\\p{C}]") (codes "[\\p{White_Space}\\p{C}]"))
+    (set (codes "[:graph:]"))
 form unicode Print name =
-    by unicode (pair (codes "[^\\p{C}\\t\\n\\v\\f\\r]") (codes "[\\p{C}\\t\\n\\v\\f\\r]")) (set (codes "[:print:]"))
+    form_by unicode (pair (codes "[^\\p{C}\\t\\n\\v\\f\\r]") (codes "[\\p{C}\\t\\n\\v\\f\\r]"))
+    (set (codes "[:print:]"))
 form unicode Cs name = pair (codes "\\P{any}") (codes "\\p{any}")
 form unicode Other name = pair (codes "\\p{" ++ name ++ codes "}") (codes "\\P{" ++ name ++ codes "}")
 

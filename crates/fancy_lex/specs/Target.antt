@@ -24,9 +24,9 @@ view_target (target.ByName s) = by_name (text_of s)
 view_target (target.Relative z) = relative z
 
 -- whether the target is a name, whose clone takes memory
-abbrev pub is_name : Target → Bool
-is_name (by_name s) = true
-is_name _ = false
+abbrev pub is_by_name : Target → Bool
+is_by_name (by_name s) = true
+is_by_name _ = false
 
 -- whether two targets are the same
 abbrev pub same_target : Target → Target → Bool

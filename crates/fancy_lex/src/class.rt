@@ -208,7 +208,7 @@ pub fn class(alloc: Global, text: &str, flags: Flags, end: usize) -> Result<(Str
     ensures value { Gives text_of result (spec.class end flags (chars text.now)) }
     ensures derives { MatchResult result
         (λ p. spec.StartsWithClass end flags (chars text.now) (chars p.1.now) (text_of p.0))
-        (λ e. spec.IsFault end flags (chars text.now) e) }
+        (λ e. spec.IsClassError end flags (chars text.now) e) }
     ensures only { (v out : Text) → spec.StartsWithClass end flags (chars text.now) v out →
         MatchResult result (λ p. (text_of p.0 ≡ out) × (chars p.1.now ≡ v)) (λ e. e ≡ OutOfMemory) }
     ensures only_fault { (e : Fault) → spec.ClassFaults end flags (chars text.now) e →

@@ -149,7 +149,7 @@ fn is_itself(c: char, inside: bool) -> bool
 
 /// Reads digits, which are a back reference. In a class the fault is InvalidClass at `place`, unless no word holds
 /// their number.
-#[tactic(auto, unfolding(crate::specs::Escape::numbered))]
+#[tactic(auto, unfolding(crate::specs::Escape::number_escape))]
 fn numbered(
     text: &str,
     flags: Flags,
@@ -158,7 +158,7 @@ fn numbered(
     end: usize,
 ) -> Result<(Escaped<'_>, &str), Error>
     requires { length text.now ≤ end }
-    ensures value { Reads escape_of result (spec.numbered end flags inside place (chars text.now)) }
+    ensures value { Reads escape_of result (spec.number_escape end flags inside place (chars text.now)) }
     ensures shorter { IfOk result (λ p. length p.1.now < length text.now) }
 {
     if inside {
@@ -173,7 +173,7 @@ fn numbered(
 /// Reads a named back reference, behind its letter.
 fn named(text: &str, flags: Flags, end: usize) -> Result<(Escaped<'_>, &str), Error>
     requires { length text.now ≤ end }
-    ensures value { Reads escape_of result (spec.referring flags (references.back_reference end (chars text.now))) }
+    ensures value { Reads escape_of result (spec.backref_leaf flags (references.back_reference end (chars text.now))) }
     ensures within { IfOk result (λ p. length p.1.now ≤ length text.now) }
 {
     let (reference, rest) = back_reference(text, end)?;

@@ -1,7 +1,7 @@
 //! What a reference names, and how it is written: numbers, ids, and names between marks.
 ghost use Rattle.std.specs.Prelude.{◌↔◌, IsTrue, ◌≡◌, IfOk, false, IsOk};
 ghost use Rattle.std.specs.Cmp.{on_per, on_equiv, partial_equiv_from_equiv};
-ghost use Rattle.fancy_lex.specs.Target.{view_target, is_name, same_target, same_target-equiv};
+ghost use Rattle.fancy_lex.specs.Target.{view_target, is_by_name, same_target, same_target-equiv};
 ghost use Rattle.fancy_lex.specs.Text.{text_of};
 
 pub mod delimited;
@@ -29,7 +29,7 @@ impl CaptureGroupTarget {
     /// An equal target, in memory of its own. `AllocError` where that is refused; one that is no name takes none.
     pub fn clone(&self, alloc: Global) -> Result<Self, AllocError>
         ensures equal { IfOk result (λ target. view_target target ≡ view_target self.now) }
-        ensures without_memory { is_name (view_target self.now) ≡ false → IsOk result }
+        ensures without_memory { is_by_name (view_target self.now) ≡ false → IsOk result }
     {
         match self {
             CaptureGroupTarget::ByNumber(number) => Ok(CaptureGroupTarget::ByNumber(*number)),

@@ -102,7 +102,7 @@ fn look_up(name: &str) -> Known
 /// One with UNICODE, and the other without.
 #[inline]
 fn by<'a>(unicode: bool, with: Form<'a>, without: Form<'a>) -> Form<'a>
-    ensures { view_form result ≡ spec.by unicode (view_form with.entry) (view_form without.entry) }
+    ensures { view_form result ≡ spec.form_by unicode (view_form with.entry) (view_form without.entry) }
 {
     if unicode { with } else { without }
 }

@@ -18,7 +18,7 @@ use Rattle.std.proofs.lemmas.Map.Text.{is_eq-slice_cmp}
 use Rattle.std.proofs.lemmas.Str.{encodes-chars, IsUtf8-string_bytes}
 use Rattle.fancy_lex.proofs.TextLemmas.{same_text}
 use Rattle.fancy_lex.specs.Text.{text_of}
-use Rattle.fancy_parts.specs.Groups.{named, numbers_under, with_number}
+use Rattle.fancy_parts.specs.Groups.{entry_of, numbers_under, with_number}
 use Rattle.fancy_parts.specs.Ranks.{name_cmp}
 
 string_total : IsTotalOrder (string_cmp {Z = Global})
@@ -39,15 +39,15 @@ key_test : (a k : String Global) → is_eq (string_cmp a k) ≡ bytes_eq (text_o
 key_test a k = is_eq-slice_cmp (string_bytes a) (string_bytes k) ∙ same_text a k
 
 pub found : (a : String Global) (es : Entries) →
-    numbers_under (map named es) (text_of a)
+    numbers_under (map entry_of es) (text_of a)
     ≡ unwrap_or (option_map (λ v. v.items) (lookup (λ k. is_eq (string_cmp a k)) es)) []
 found a [] = refl
 found a (e ∷ es) = by_test (is_eq (string_cmp a e.0)) refl (found a es)
   where
     by_test : (b : Bool) → is_eq (string_cmp a e.0) ≡ b →
-        numbers_under (map named es) (text_of a)
+        numbers_under (map entry_of es) (text_of a)
         ≡ unwrap_or (option_map (λ v. v.items) (lookup (λ k. is_eq (string_cmp a k)) es)) [] →
-        numbers_under (map named (e ∷ es)) (text_of a)
+        numbers_under (map entry_of (e ∷ es)) (text_of a)
         ≡ unwrap_or (option_map (λ v. v.items) (lookup (λ k. is_eq (string_cmp a k)) (e ∷ es))) []
     by_test true h i = let t : bytes_eq (text_of a) (text_of e.0) ≡ true = sym (key_test a e.0) ∙ h in rw (h, t) refl
     by_test false h i = let t : bytes_eq (text_of a) (text_of e.0) ≡ false = sym (key_test a e.0) ∙ h in rw (h, t) i
@@ -55,14 +55,14 @@ found a (e ∷ es) = by_test (is_eq (string_cmp a e.0)) refl (found a es)
 -- a name that has no entry gets one at its place
 pub put_new : (a : String Global) (es : Entries) (w : Vec ℕ Global) (n : ℕ) → w.items ≡ n ∷ [] →
     lookup (λ k. is_eq (string_cmp a k)) es ≡ None →
-    map named (insert_entry string_cmp es a w) ≡ with_number (text_of a) n (map named es)
+    map entry_of (insert_entry string_cmp es a w) ≡ with_number (text_of a) n (map entry_of es)
 put_new a [] w n h k = rw h refl
 put_new a (e ∷ es) w n h k = by_order (string_cmp a e.0) refl (put_new a es w n h)
   where
     by_order : (o : Ordering) → string_cmp a e.0 ≡ o →
         (lookup (λ k. is_eq (string_cmp a k)) es ≡ None →
-        map named (insert_entry string_cmp es a w) ≡ with_number (text_of a) n (map named es)) →
-        map named (insert_entry string_cmp (e ∷ es) a w) ≡ with_number (text_of a) n (map named (e ∷ es))
+        map entry_of (insert_entry string_cmp es a w) ≡ with_number (text_of a) n (map entry_of es)) →
+        map entry_of (insert_entry string_cmp (e ∷ es) a w) ≡ with_number (text_of a) n (map entry_of (e ∷ es))
     by_order Less q i =
         let t : name_cmp (text_of a) (text_of e.0) ≡ Less = sym (string_name_cmp a e.0) ∙ q in rw (q, t, h) refl
     by_order Equal q i = let none : lookup (λ k. is_eq (string_cmp a k)) (e ∷ es) ≡ Some e.1 = rw q refl in absurd cc
@@ -70,20 +70,20 @@ put_new a (e ∷ es) w n h k = by_order (string_cmp a e.0) refl (put_new a es w 
         let t : name_cmp (text_of a) (text_of e.0) ≡ Greater = sym (string_name_cmp a e.0) ∙ q in
         let none : lookup (λ k. is_eq (string_cmp a k)) (e ∷ es) ≡ lookup (λ k. is_eq (string_cmp a k)) es
         = rw q refl in
-        rw (q, t) (ap (λ l. named e ∷ l) (i (sym none ∙ k)))
+        rw (q, t) (ap (λ l. entry_of e ∷ l) (i (sym none ∙ k)))
 
 -- a name that has one keeps it, with the number behind the others
 pub put_more : (a : String Global) (es : Entries) (v w : Vec ℕ Global) (n : ℕ) → w.items ≡ v.items ++ (n ∷ []) →
     IsStrictlySortedBy string_cmp (keys_of es) → lookup (λ k. is_eq (string_cmp a k)) es ≡ Some v →
-    map named (set_value (λ k. is_eq (string_cmp a k)) es w) ≡ with_number (text_of a) n (map named es)
+    map entry_of (set_value (λ k. is_eq (string_cmp a k)) es w) ≡ with_number (text_of a) n (map entry_of es)
 put_more a [] v w n h s k = absurd cc
 put_more a (e ∷ es) v w n h s k =
     by_order (string_cmp a e.0) refl (put_more a es v w n h (sorted_tail string_cmp e.0 (keys_of es) s))
   where
     by_order : (o : Ordering) → string_cmp a e.0 ≡ o →
         (lookup (λ k. is_eq (string_cmp a k)) es ≡ Some v →
-        map named (set_value (λ k. is_eq (string_cmp a k)) es w) ≡ with_number (text_of a) n (map named es)) →
-        map named (set_value (λ k. is_eq (string_cmp a k)) (e ∷ es) w) ≡ with_number (text_of a) n (map named (e ∷ es))
+        map entry_of (set_value (λ k. is_eq (string_cmp a k)) es w) ≡ with_number (text_of a) n (map entry_of es)) →
+        map entry_of (set_value (λ k. is_eq (string_cmp a k)) (e ∷ es) w) ≡ with_number (text_of a) n (map entry_of (e ∷ es))
     by_order Less q i =
         let none : lookup (λ k. is_eq (string_cmp a k)) (e ∷ es) ≡ None
         = lookup-none _ (e ∷ es) (none_below_head string_total a e es s q) in absurd cc
@@ -92,29 +92,29 @@ put_more a (e ∷ es) v w n h s k =
         let same : lookup (λ k. is_eq (string_cmp a k)) (e ∷ es) ≡ Some e.1 = rw q refl in
         let it : e.1 ≡ v = cc in
         rw (q, t)
-        (ap (λ ns. (text_of e.0, ns) ∷ map named es) (h ∙ ap (λ (x : Vec ℕ Global). x.items ++ (n ∷ [])) (sym it)))
+        (ap (λ ns. (text_of e.0, ns) ∷ map entry_of es) (h ∙ ap (λ (x : Vec ℕ Global). x.items ++ (n ∷ [])) (sym it)))
     by_order Greater q i =
         let t : name_cmp (text_of a) (text_of e.0) ≡ Greater = sym (string_name_cmp a e.0) ∙ q in
         let other : lookup (λ k. is_eq (string_cmp a k)) (e ∷ es) ≡ lookup (λ k. is_eq (string_cmp a k)) es
         = rw q refl in
-        rw (q, t) (ap (λ l. named e ∷ l) (i (sym other ∙ k)))
+        rw (q, t) (ap (λ l. entry_of e ∷ l) (i (sym other ∙ k)))
 
 -- where its numbers stay, so do all
 pub put_same : (a : String Global) (es : Entries) (v w : Vec ℕ Global) → w.items ≡ v.items →
     lookup (λ k. is_eq (string_cmp a k)) es ≡ Some v →
-    map named (set_value (λ k. is_eq (string_cmp a k)) es w) ≡ map named es
+    map entry_of (set_value (λ k. is_eq (string_cmp a k)) es w) ≡ map entry_of es
 put_same a [] v w h k = refl
 put_same a (e ∷ es) v w h k = by_test (is_eq (string_cmp a e.0)) refl (put_same a es v w h)
   where
     by_test : (b : Bool) → is_eq (string_cmp a e.0) ≡ b →
         (lookup (λ k. is_eq (string_cmp a k)) es ≡ Some v →
-        map named (set_value (λ k. is_eq (string_cmp a k)) es w) ≡ map named es) →
-        map named (set_value (λ k. is_eq (string_cmp a k)) (e ∷ es) w) ≡ map named (e ∷ es)
+        map entry_of (set_value (λ k. is_eq (string_cmp a k)) es w) ≡ map entry_of es) →
+        map entry_of (set_value (λ k. is_eq (string_cmp a k)) (e ∷ es) w) ≡ map entry_of (e ∷ es)
     by_test true t i =
         let same : lookup (λ k. is_eq (string_cmp a k)) (e ∷ es) ≡ Some e.1 = rw t refl in
         let it : e.1 ≡ v = cc in
-        rw t (ap (λ ns. (text_of e.0, ns) ∷ map named es) (h ∙ ap (λ (x : Vec ℕ Global). x.items) (sym it)))
+        rw t (ap (λ ns. (text_of e.0, ns) ∷ map entry_of es) (h ∙ ap (λ (x : Vec ℕ Global). x.items) (sym it)))
     by_test false t i =
         let other : lookup (λ k. is_eq (string_cmp a k)) (e ∷ es) ≡ lookup (λ k. is_eq (string_cmp a k)) es
         = rw t refl in
-        rw t (ap (λ l. named e ∷ l) (i (sym other ∙ k)))
+        rw t (ap (λ l. entry_of e ∷ l) (i (sym other ∙ k)))

@@ -21,7 +21,7 @@ use Rattle.std.proofs.lemmas.Str.{encode_same, length-encode}
 use Rattle.std.proofs.Common.{length-append}
 use Rattle.std.proofs.lemmas.Str.{len_utf8_bounds}
 use Rattle.fancy_lex.specs.Text.{Text}
-use Rattle.fancy_parts.specs.Groups.{Groups, no_groups, numbered as ranked, behind, with_group, with_number, numbers_under}
+use Rattle.fancy_parts.specs.Groups.{Groups, no_groups, groups_in, openings_with, with_group, with_number, numbers_under}
 use Rattle.fancy_parts.specs.Ranks.{Opening, name_cmp, names, numbers, numbers_from, named_groups, is_name}
 
 -- ---- the order of names
@@ -246,18 +246,18 @@ total_all s (o ∷ l) = omega (arith, total_all (with_group s o.name) l)
 pub all_total : (l : List Opening) → (with_all no_groups l).total ≡ length l
 all_total l = omega (arith, total_all no_groups l)
 
-numbered_all : (l : List Opening) → with_all no_groups l ≡ ranked l
-numbered_all l = λ i. record { total = all_total l i; names = all_named l i }
+groups_in_all : (l : List Opening) → with_all no_groups l ≡ groups_in l
+groups_in_all l = λ i. record { total = all_total l i; names = all_named l i }
 
 -- with a group more the groups are numbered as with its opening
-pub numbered_more : (s : Groups) (l : List Opening) (place : ℕ) (name : Option Text) → s ≡ ranked l →
-    with_group s name ≡ ranked (behind l place name)
-numbered_more s l place name e =
+pub groups_in_more : (s : Groups) (l : List Opening) (place : ℕ) (name : Option Text) → s ≡ groups_in l →
+    with_group s name ≡ groups_in (openings_with l place name)
+groups_in_more s l place name e =
     let o : Opening = record { place = place; name = name } in
-    ap (λ g. with_group g name) (e ∙ sym (numbered_all l))
+    ap (λ g. with_group g name) (e ∙ sym (groups_in_all l))
     ∙ sym (fold-append (λ g (x : Opening). with_group g x.name) no_groups l (o ∷ []))
-    ∙ numbered_all (behind l place name)
+    ∙ groups_in_all (openings_with l place name)
 
 -- so a name has its numbers
-pub numbered_under : (s : Groups) (l : List Opening) → s ≡ ranked l → numbers_under s.names ≡ (λ t. numbers t l)
-numbered_under s l e = ap (λ (g : Groups). numbers_under g.names) e ∙ (λ i t. under_named l t i)
+pub groups_in_under : (s : Groups) (l : List Opening) → s ≡ groups_in l → numbers_under s.names ≡ (λ t. numbers t l)
+groups_in_under s l e = ap (λ (g : Groups). numbers_under g.names) e ∙ (λ i t. under_named l t i)

@@ -91,7 +91,7 @@ writing_ends a b whole w = w.ends b (nothing_written b)
 -- a count of all but the rest
 pub record Counting (len : ℕ) (rest whole : Text) : Type 0 where
   pub so_far : ℕ
-  pub counted : len ≡ in_word so_far
+  pub len_is : len ≡ in_word so_far
   pub sum : so_far + bytes rest ≡ bytes whole
 
 pub counting_as : (len : ℕ) (rest other whole : Text) → rest ≡ other → Counting len rest whole
@@ -103,13 +103,13 @@ pub counting_later : (len more next : ℕ) (xs ys whole : Text) → Counting len
 counting_later len more next xs ys whole c w s =
     record {
       so_far = c.so_far + bytes xs;
-      counted = omega (arith, c.counted);
+      len_is = omega (arith, c.len_is);
       sum = omega (arith, c.sum, bytes-append xs ys);
     }
 
 pub counting_ends : (len : ℕ) (whole : Text) → Counting len [] whole → len ≡ in_word (bytes whole)
 unfolding bytes
-counting_ends len whole c = omega (arith, c.counted, c.sum)
+counting_ends len whole c = omega (arith, c.len_is, c.sum)
 
 -- room for a count is room for the text, since no string has room for the greatest word
 pub room_counted : (s : String Global) (t : Text) (len : ℕ) → len ≡ in_word (bytes t)

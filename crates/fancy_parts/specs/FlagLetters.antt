@@ -33,8 +33,8 @@ pub data Step : Type 0 where
   goes : Bool → Flags → Step  -- whether letters clear their flags from there on
 
 -- of the letters `t` what stands before `u`
-abbrev pub before : Text → Text → Text
-before t u = take (length t - length u) t
+abbrev pub letters_before : Text → Text → Text
+letters_before t u = take (length t - length u) t
 
 -- of the letters `t` nothing was read before `u`
 abbrev pub is_first : Text → Text → Bool
@@ -53,7 +53,7 @@ behind_step more (goes clears f) u = more clears f u
 module _ (n : ℕ) (t : Text) where
   -- the fault of the character before `u`
   abbrev pub unknown_letter : Text → Reading Step
-  unknown_letter u = fails (no_flag_letter n t (before t u))
+  unknown_letter u = fails (no_flag_letter n t (letters_before t u))
 
   -- the letters go on under these flags, if the letter before `u` names one
   abbrev pub goes_on : Bool → Text → Option Flags → Reading Step

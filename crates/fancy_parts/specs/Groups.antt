@@ -20,12 +20,12 @@ pub record Groups : Type 0 where
   pub names : List (Text × List ℕ)
 
 -- the groups that open there, with their numbers, which are their ranks
-abbrev pub numbered : List Opening → Groups
-numbered l = record { total = length l; names = named_groups l }
+abbrev pub groups_in : List Opening → Groups
+groups_in l = record { total = length l; names = named_groups l }
 
 -- one opening more, behind the others
-abbrev pub behind : List Opening → ℕ → Option Text → List Opening
-behind l place name = l ++ record { place = place; name = name } ∷ []
+abbrev pub openings_with : List Opening → ℕ → Option Text → List Opening
+openings_with l place name = l ++ record { place = place; name = name } ∷ []
 
 -- none, as where nothing opens
 abbrev pub no_groups : Groups
@@ -54,11 +54,11 @@ abbrev pub numbers_under : List (Text × List ℕ) → Text → List ℕ
 numbers_under es t = unwrap_or (lookup (λ u. bytes_eq t u) es) []
 
 -- a name with the numbers of its groups
-abbrev pub named : String Global × Vec ℕ Global → Text × List ℕ
-named (name, numbers) = (text_of name, numbers.items)
+abbrev pub entry_of : String Global × Vec ℕ Global → Text × List ℕ
+entry_of (name, numbers) = (text_of name, numbers.items)
 
 abbrev pub groups_of : code.Groups → Groups
-groups_of g = record { total = g.total; names = map named g.names.entries }
+groups_of g = record { total = g.total; names = map entry_of g.names.entries }
 
 abbrev pub role_of : role.Role → spec.Role
 role_of does.BackReference = spec.back_reference

@@ -14,7 +14,7 @@ pub data Role : Type 0 where
   condition : Role  -- it asks whether the group has matched
 
 -- a reference: its place, what it does, and what it names
-pub record Reference : Type 0 where
+pub record AnyReference : Type 0 where
   pub place : ℕ
   pub role : Role
   pub target : Target
@@ -72,7 +72,7 @@ means numbers_of c role (by_name name) = means_name role c name (numbers_of name
 means numbers_of c role (relative z) = group_or_none role (at_distance c z)
 
 -- what a reference means among the groups that have a number
-abbrev pub meaning : List Opening → Reference → Meaning
+abbrev pub meaning : List Opening → AnyReference → Meaning
 meaning groups r = means (λ t. numbers t groups) (opened_before groups r.place) r.role r.target
 
 -- the fault of a meaning at the place, or else the other
@@ -81,6 +81,6 @@ fault_or (faulty k) place other = Some (of_reference place k)
 fault_or _ place other = other
 
 -- the first fault of the references
-abbrev pub first_fault : List Opening → List Reference → Option Fault
+abbrev pub first_fault : List Opening → List AnyReference → Option Fault
 first_fault groups [] = None
 first_fault groups (r ∷ l) = fault_or (meaning groups r) r.place (first_fault groups l)

@@ -7,12 +7,12 @@ use Rattle.fancy_lex.specs.Text.{Text}
 use Rattle.fancy_parts.specs.Quantifier.{most}
 
 -- the characters that stand for themselves only behind a backslash
-abbrev pub marks : Text
-marks = codes "\\.+*?()|[]{}^$#"
+abbrev pub marks_with_backslash : Text
+marks_with_backslash = codes "\\.+*?()|[]{}^$#"
 
 -- the character is one of them
 abbrev pub needs_backslash : ℕ → Bool
-needs_backslash c = list_any (λ m. c == m) marks
+needs_backslash c = list_any (λ m. c == m) marks_with_backslash
 
 -- what is written behind a backslash for a character, if it is not written as itself
 abbrev pub behind_backslash : ℕ → Option ℕ

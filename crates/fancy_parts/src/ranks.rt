@@ -2,8 +2,8 @@
 ghost use Rattle.std.specs.Prelude.{◌≡◌, ℕ, ◌+◌, ◌<◌, ◌^◌, List, false, nat_le, IfOk, IsOk, OnErr, is_some, map, option_map};
 ghost use Rattle.fancy_lex.specs.Target.{view_target};
 ghost use Rattle.fancy_lex.specs.Text.{text_of};
-ghost use Rattle.fancy_parts.specs.Groups.{groups_of, no_groups, with_group, with_number, numbers_under, named};
-ghost use Rattle.fancy_parts.specs.Groups.{behind, numbered, role_of, meaning_of};
+ghost use Rattle.fancy_parts.specs.Groups.{groups_of, no_groups, with_group, with_number, numbers_under, entry_of};
+ghost use Rattle.fancy_parts.specs.Groups.{openings_with, groups_in, role_of, meaning_of};
 ghost use Rattle.fancy_parts.specs.Meaning as spec;
 ghost use Rattle.fancy_parts.specs.Meaning.{at_distance, is_fault_with_text, last_of, means, means_name, only_one};
 ghost use Rattle.fancy_parts.specs.Ranks.{Opening, numbers};
@@ -61,8 +61,9 @@ impl Groups {
         requires { self.old.total + 1 < 2 ^ 64 }
         ensures added { IfOk result
             (λ _. groups_of self.new ≡ with_group (groups_of self.old) (option_map text_of name.now)) }
-        ensures numbers { (before : List Opening) (place : ℕ) → groups_of self.old ≡ numbered before →
-            IfOk result (λ _. groups_of self.new ≡ numbered (behind before place (option_map text_of name.now))) }
+        ensures numbers { (before : List Opening) (place : ℕ) → groups_of self.old ≡ groups_in before →
+            IfOk result
+            (λ _. groups_of self.new ≡ groups_in (openings_with before place (option_map text_of name.now))) }
         ensures kept { OnErr result (groups_of self.new ≡ groups_of self.old) }
         ensures without_memory { is_some name.now ≡ false → IsOk result }
     {
@@ -90,8 +91,8 @@ fn add_number(
     number: usize,
 ) -> Result<(), AllocError>
     ensures added { IfOk result
-        (λ _. map named names.new.entries ≡ with_number (text_of name.now) number (map named names.old.entries)) }
-    ensures kept { OnErr result (map named names.new.entries ≡ map named names.old.entries) }
+        (λ _. map entry_of names.new.entries ≡ with_number (text_of name.now) number (map entry_of names.old.entries)) }
+    ensures kept { OnErr result (map entry_of names.new.entries ≡ map entry_of names.old.entries) }
 {
     match names.get_mut(name.as_str()) {
         Some(numbers) => numbers.push(number)?,
@@ -115,7 +116,7 @@ pub fn meaning_behind(
     ensures value { IfOk result
         (λ m. meaning_of m
         ≡ means (numbers_under (groups_of groups.now).names) passed (role_of role) (view_target target.now)) }
-    ensures numbers { (l : List Opening) → groups_of groups.now ≡ numbered l →
+    ensures numbers { (l : List Opening) → groups_of groups.now ≡ groups_in l →
         IfOk result (λ m. meaning_of m ≡ means (λ t. numbers t l) passed (role_of role) (view_target target.now)) }
     ensures without_memory { let meaning = means (numbers_under (groups_of groups.now).names) passed (role_of role) (view_target target.now) in
         is_fault_with_text meaning ≡ false → IsOk result }

@@ -4,48 +4,48 @@ use Rattle.std.specs.List.{IsAmong}
 use Rattle.std.proofs.lemmas.List.{get_or-map, length-map}
 use Rattle.fancy_syntax.specs.Children.{children_of}
 use Rattle.fancy_syntax.specs.Descendants.{IsDescendant, child, deeper}
-use Rattle.fancy_grammar.specs.Tree.{Tree, concat, alt, group, look_around, repeat, atomic_group, conditional, absent, define_group, Trees, no_trees, more_trees, repeater, expression, stopper, list_of, children, depth, depth_all}
+use Rattle.fancy_grammar.specs.Tree.{Tree, concat, alt, group, look_around, repeat, atomic_group, conditional, absent, define_group, Trees, no_trees, more_trees, repeater, expression, stopper, list_of, children, levels, levels_all}
 use Rattle.fancy_syntax.specs.View.{view, views}
 use Rattle.fancy_syntax.specs.declared.expr.Expr.{Expr}
 
 -- ---- a child is less deep
 
-depth_member : (ts : Trees) (i : ℕ) (d : Tree) → i < length (list_of ts) → depth (get_or (list_of ts) i d) ≤ depth_all ts
-depth_member no_trees i d h = absurd (omega arith)
-depth_member (more_trees t ts) zero d h = omega arith
-depth_member (more_trees t ts) (suc i) d h = omega (arith, depth_member ts i d (omega arith))
+levels_member : (ts : Trees) (i : ℕ) (d : Tree) → i < length (list_of ts) → levels (get_or (list_of ts) i d) ≤ levels_all ts
+levels_member no_trees i d h = absurd (omega arith)
+levels_member (more_trees t ts) zero d h = omega arith
+levels_member (more_trees t ts) (suc i) d h = omega (arith, levels_member ts i d (omega arith))
 
-depth_child : (t : Tree) (i : ℕ) (d : Tree) → i < length (children t) → depth (get_or (children t) i d) < depth t
-depth_child (concat ts) i d h = omega (arith, depth_member ts i d h)
-depth_child (alt ts) i d h = omega (arith, depth_member ts i d h)
-depth_child (group t) zero d h = omega arith
-depth_child (group t) (suc i) d h = absurd (omega arith)
-depth_child (look_around t l) zero d h = omega arith
-depth_child (look_around t l) (suc i) d h = absurd (omega arith)
-depth_child (repeat t lo hi greedy) zero d h = omega arith
-depth_child (repeat t lo hi greedy) (suc i) d h = absurd (omega arith)
-depth_child (atomic_group t) zero d h = omega arith
-depth_child (atomic_group t) (suc i) d h = absurd (omega arith)
-depth_child (conditional c t f) zero d h = omega arith
-depth_child (conditional c t f) (suc zero) d h = omega arith
-depth_child (conditional c t f) (suc (suc zero)) d h = omega arith
-depth_child (conditional c t f) (suc (suc (suc i))) d h = absurd (omega arith)
-depth_child (absent (repeater t)) zero d h = omega arith
-depth_child (absent (repeater t)) (suc i) d h = absurd (omega arith)
-depth_child (absent (expression a e)) zero d h = omega arith
-depth_child (absent (expression a e)) (suc zero) d h = omega arith
-depth_child (absent (expression a e)) (suc (suc i)) d h = absurd (omega arith)
-depth_child (absent (stopper t)) zero d h = omega arith
-depth_child (absent (stopper t)) (suc i) d h = absurd (omega arith)
-depth_child (define_group t) zero d h = omega arith
-depth_child (define_group t) (suc i) d h = absurd (omega arith)
-depth_child _ i d h = absurd (omega arith)
+levels_child : (t : Tree) (i : ℕ) (d : Tree) → i < length (children t) → levels (get_or (children t) i d) < levels t
+levels_child (concat ts) i d h = omega (arith, levels_member ts i d h)
+levels_child (alt ts) i d h = omega (arith, levels_member ts i d h)
+levels_child (group t) zero d h = omega arith
+levels_child (group t) (suc i) d h = absurd (omega arith)
+levels_child (look_around t l) zero d h = omega arith
+levels_child (look_around t l) (suc i) d h = absurd (omega arith)
+levels_child (repeat t lo hi greedy) zero d h = omega arith
+levels_child (repeat t lo hi greedy) (suc i) d h = absurd (omega arith)
+levels_child (atomic_group t) zero d h = omega arith
+levels_child (atomic_group t) (suc i) d h = absurd (omega arith)
+levels_child (conditional c t f) zero d h = omega arith
+levels_child (conditional c t f) (suc zero) d h = omega arith
+levels_child (conditional c t f) (suc (suc zero)) d h = omega arith
+levels_child (conditional c t f) (suc (suc (suc i))) d h = absurd (omega arith)
+levels_child (absent (repeater t)) zero d h = omega arith
+levels_child (absent (repeater t)) (suc i) d h = absurd (omega arith)
+levels_child (absent (expression a e)) zero d h = omega arith
+levels_child (absent (expression a e)) (suc zero) d h = omega arith
+levels_child (absent (expression a e)) (suc (suc i)) d h = absurd (omega arith)
+levels_child (absent (stopper t)) zero d h = omega arith
+levels_child (absent (stopper t)) (suc i) d h = absurd (omega arith)
+levels_child (define_group t) zero d h = omega arith
+levels_child (define_group t) (suc i) d h = absurd (omega arith)
+levels_child _ i d h = absurd (omega arith)
 
-pub depth_of_child : (e c : Expr) → views (children_of e) ≡ children (view e) → IsAmong (children_of e) c → depth (view c) < depth (view e)
-depth_of_child e c same (i, (h, is)) =
+pub levels_of_child : (e c : Expr) → views (children_of e) ≡ children (view e) → IsAmong (children_of e) c → levels (view c) < levels (view e)
+levels_of_child e c same (i, (h, is)) =
     let long : i < length (children (view e)) = omega (arith, length-map (children_of e) view, ap length same) in
     let at : get_or (children (view e)) i (view c) ≡ view c = ap (λ ts. get_or ts i (view c)) (sym same) ∙ get_or-map view (children_of e) i c (view c) h ∙ ap view (sym is) in
-    subst (λ t. depth t < depth (view e)) at (depth_child (view e) i (view c) long)
+    subst (λ t. levels t < levels (view e)) at (levels_child (view e) i (view c) long)
 
 -- ---- the children that are left
 

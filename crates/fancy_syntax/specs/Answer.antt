@@ -1,6 +1,6 @@
 -- What is answered for a text, beside its tree.
 use Rattle.std.specs.Prelude.{map}
-use Rattle.fancy_parts.specs.Groups.{named}
+use Rattle.fancy_parts.specs.Groups.{entry_of}
 use Rattle.fancy_grammar.specs.Marks.{Marks}
 use Rattle.fancy_syntax.specs.declared.tree.ExprTree.{ExprTree}
 pub use Rattle.fancy_grammar.specs.Answer.{IsTreeOf, IsFaultOf, of_reading, of_resolving, IsOnlyFault, IsPlacedIn}
@@ -9,7 +9,7 @@ pub use Rattle.fancy_grammar.specs.Answer.{IsTreeOf, IsFaultOf, of_reading, of_r
 abbrev pub marks_of : ExprTree → Marks
 marks_of t = record {
   backrefs = t.backrefs.keys;
-  named_groups = map named t.named_groups.entries;
+  named_groups = map entry_of t.named_groups.entries;
   numeric_capture_group_references = t.numeric_capture_group_references;
   contains_subroutines = t.contains_subroutines;
   self_recursive = t.self_recursive;

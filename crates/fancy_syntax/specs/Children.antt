@@ -38,8 +38,8 @@ abbrev waiting : Option (Bor Expr) → List Expr
 waiting child = option_to_list (option_map (λ c. c.now) child)
 
 -- the children that an iterator has still to give
-abbrev pub left : ExprChildrenIter → List Expr
-left iter.Empty = []
-left (iter.Single child) = waiting child
-left (iter.Vec items) = iter_rest items
-left (iter.Triple first second third) = waiting first ++ waiting second ++ waiting third
+abbrev pub remaining_children : ExprChildrenIter → List Expr
+remaining_children iter.Empty = []
+remaining_children (iter.Single child) = waiting child
+remaining_children (iter.Vec items) = iter_rest items
+remaining_children (iter.Triple first second third) = waiting first ++ waiting second ++ waiting third

@@ -4,8 +4,8 @@ use Rattle.std.proofs.lemmas.Bool.Decides.{nat_tests}
 use Rattle.fancy_lex.specs.Boundary.{boundary, named_boundary, name, boundary_of_name, at_count}
 use Rattle.std.specs.Char.{is_ascii_digit}
 use Rattle.fancy_lex.specs.Characters.{backslash, open_bracket, close_bracket, caret, open_brace, ◌∈◌}
-use Rattle.fancy_lex.specs.Class.{items, class, class_head, with_mark, item_text, is_negated}
-use Rattle.fancy_lex.specs.Escape.{escape, referring, numbered, call, property, outside, in_class, is_itself}
+use Rattle.fancy_lex.specs.Class.{items_from, class, class_head, with_mark, item_text, is_negated}
+use Rattle.fancy_lex.specs.Escape.{escape, backref_leaf, number_escape, call, property, outside, in_class, is_itself}
 use Rattle.fancy_lex.specs.EscapeReference as reference
 use Rattle.fancy_lex.specs.EscapeReference.{group_number}
 use Rattle.fancy_lex.specs.Escaped.{Escape, literal, literal_bytes, delegate, backref, subroutine_call}
@@ -38,9 +38,9 @@ too_then : {A : Type 0} (o : Reading A) (k k' : A → Text → Reading Escape) �
 too_then (gives a u) k k' h = h a u
 too_then (fails e) k k' h = tt
 
-numbered_too : (n p : ℕ) (t : Text) (other : Reading Escape) → Too (numbered n (bare false) true p t) other
-unfolding numbered
-numbered_too n p t other = by_number (group_number n t)
+number_escape_too : (n p : ℕ) (t : Text) (other : Reading Escape) → Too (number_escape n (bare false) true p t) other
+unfolding number_escape
+number_escape_too n p t other = by_number (group_number n t)
   where
     by_number : (o : Reading ℕ) → Too (o >=> (λ k u. fault_at p invalid_class)) other
     by_number (gives k u) = tt
@@ -100,7 +100,7 @@ escape_too : (u i : Bool) (n p : ℕ) (t : Text) →
 unfolding escape in_class
 escape_too u i n p [] = tt
 escape_too u i n p (c ∷ t) =
-    too_if (is_ascii_digit c) _ _ _ _ (numbered_too n p (c ∷ t) _)
+    too_if (is_ascii_digit c) _ _ _ _ (number_escape_too n p (c ∷ t) _)
     (too_if (c ∈ "dDsSwW") _ _ _ _ (_, refl)
     (too_if (c ∈ "h") _ _ _ _ (_, refl)
     (too_if (c ∈ "H") _ _ _ _ (_, refl)
@@ -201,59 +201,59 @@ rest_is a w r v e = cc
 module _ (u i : Bool) (n : ℕ) where
   abbrev ItemsCarry : ℕ → Type 0
   ItemsCarry k = (depth : ℕ) (seen seen' : Bool) (out out' t : Text)
-      → Carries k (items n (bare false) k depth seen out t)
-      (λ j m s. items m (case_flags u i) j depth seen' out' (t ++ s))
+      → Carries k (items_from n (bare false) k depth seen out t)
+      (λ j m s. items_from m (case_flags u i) j depth seen' out' (t ++ s))
 
   end_carries : (k depth : ℕ) (seen : Bool) (out : Text) (there : ℕ → ℕ → Text → Reading Text) →
-      Carries k (items n (bare false) k depth seen out []) there
-  unfolding items
+      Carries k (items_from n (bare false) k depth seen out []) there
+  unfolding items_from
   end_carries zero depth seen out there = tt
   end_carries (suc k) depth seen out there = tt
 
   -- behind an opening bracket
   open_carries : (k : ℕ) → ItemsCarry k → (depth : ℕ) (seen seen' : Bool) (out out' t : Text)
-      → Carries k (items n (bare false) k depth seen (class_head out t).0 (class_head out t).1)
-      (λ j m s. items m (case_flags u i) j depth seen' (class_head out' (t ++ s)).0
+      → Carries k (items_from n (bare false) k depth seen (class_head out t).0 (class_head out t).1)
+      (λ j m s. items_from m (case_flags u i) j depth seen' (class_head out' (t ++ s)).0
       (class_head out' (t ++ s)).1)
   open_carries k more depth seen seen' out out' t = by_left (class_head out t).1 refl where
     by_left : (v : Text) → (class_head out t).1 ≡ v →
-        Carries k (items n (bare false) k depth seen (class_head out t).0 v)
-        (λ j m s. items m (case_flags u i) j depth seen' (class_head out' (t ++ s)).0
+        Carries k (items_from n (bare false) k depth seen (class_head out t).0 v)
+        (λ j m s. items_from m (case_flags u i) j depth seen' (class_head out' (t ++ s)).0
         (class_head out' (t ++ s)).1)
     by_left [] e = end_carries k depth seen (class_head out t).0 _
     by_left (c ∷ v) e =
         let left = sym (opening_left out out' t) ∙ e in
-        carry_same k _ (λ j m s. items m (case_flags u i) j depth seen' (class_head out' t).0
+        carry_same k _ (λ j m s. items_from m (case_flags u i) j depth seen' (class_head out' t).0
         ((c ∷ v) ++ s)) _
-        (λ j m s. ap (λ (p : Text × Text). items m (case_flags u i) j depth seen' p.0 p.1)
+        (λ j m s. ap (λ (p : Text × Text). items_from m (case_flags u i) j depth seen' p.0 p.1)
         (opening_frame out' t s c v left)
-        ∙ ap (λ (r : Text). items m (case_flags u i) j depth seen' (class_head out' t).0 (r ++ s)) left)
+        ∙ ap (λ (r : Text). items_from m (case_flags u i) j depth seen' (class_head out' t).0 (r ++ s)) left)
         (more depth seen seen' (class_head out t).0 (class_head out' t).0 (c ∷ v))
 
   inner_carries : (k : ℕ) → ItemsCarry k →
       (depth : ℕ) (seen seen' : Bool) (out out' t : Text) (p : ℕ) (q : ℕ → Text → ℕ)
       → Carries k (escape n (bare false) true p t >=>
-      (λ e v. items n (bare false) k depth (seen || is_negated e) (out ++ item_text seen e) v))
+      (λ e v. items_from n (bare false) k depth (seen || is_negated e) (out ++ item_text seen e) v))
       (λ j m s. escape m (case_flags u i) true (q m s) (t ++ s) >=>
-      (λ e v. items m (case_flags u i) j depth (seen' || is_negated e) (out' ++ item_text seen' e) v))
+      (λ e v. items_from m (case_flags u i) j depth (seen' || is_negated e) (out' ++ item_text seen' e) v))
   inner_carries k more depth seen seen' out out' t p q =
       by_escape (escape n (bare false) true p t) (escape_too u i n p t) where
         by_escape : (o : Reading Escape) → Too o (escape n (case_flags u i) true p t)
-            → Carries k (o >=> (λ e v. items n (bare false) k depth (seen || is_negated e) (out ++ item_text seen e) v))
+            → Carries k (o >=> (λ e v. items_from n (bare false) k depth (seen || is_negated e) (out ++ item_text seen e) v))
             (λ j m s. escape m (case_flags u i) true (q m s) (t ++ s) >=>
-            (λ e v. items m (case_flags u i) j depth (seen' || is_negated e)
+            (λ e v. items_from m (case_flags u i) j depth (seen' || is_negated e)
             (out' ++ item_text seen' e) v))
         by_escape (gives e v) (x, h) =
-            carry_same k _ (λ j m s. items m (case_flags u i) j depth (seen' || is_negated x)
+            carry_same k _ (λ j m s. items_from m (case_flags u i) j depth (seen' || is_negated x)
             (out' ++ item_text seen' x) (v ++ s)) _
-            (λ j m s. ap (λ o. o >=> (λ e v. items m (case_flags u i) j depth (seen' || is_negated e)
+            (λ j m s. ap (λ o. o >=> (λ e v. items_from m (case_flags u i) j depth (seen' || is_negated e)
             (out' ++ item_text seen' e) v)) (escape_frame n m (case_flags u i) p (q m s) t v s x h))
             (more depth (seen || is_negated e) (seen' || is_negated x) (out ++ item_text seen e)
             (out' ++ item_text seen' x) v)
         by_escape (fails e) h = tt
 
   items_carry : (k : ℕ) → ItemsCarry k
-  unfolding items
+  unfolding items_from
   items_carry zero depth seen seen' out out' t = tt
   items_carry (suc k) depth seen seen' out out' [] = tt
   items_carry (suc k) depth seen seen' out out' (c ∷ t) =
@@ -261,13 +261,13 @@ module _ (u i : Bool) (n : ℕ) where
       carry_step k _
       (λ j m s.
       if c == backslash then escape m (case_flags u i) true (place_of m (c ∷ (t ++ s))) (t ++ s) >=>
-      (λ e v. items m (case_flags u i) j depth (seen' || is_negated e) (out' ++ item_text seen' e) v)
-      else if c == open_bracket then items m (case_flags u i) j (depth + 1) seen'
+      (λ e v. items_from m (case_flags u i) j depth (seen' || is_negated e) (out' ++ item_text seen' e) v)
+      else if c == open_bracket then items_from m (case_flags u i) j (depth + 1) seen'
       (class_head out' (t ++ s)).0 (class_head out' (t ++ s)).1
       else if c == close_bracket
-      then (if depth == 0 then gives (out' ++ c ∷ []) (t ++ s) else items m (case_flags u i) j
+      then (if depth == 0 then gives (out' ++ c ∷ []) (t ++ s) else items_from m (case_flags u i) j
       (depth - 1) seen' (out' ++ c ∷ []) (t ++ s))
-      else items m (case_flags u i) j depth seen' (out' ++ c ∷ []) (t ++ s))
+      else items_from m (case_flags u i) j depth seen' (out' ++ c ∷ []) (t ++ s))
       _ (λ j m s. refl)
       (carry_if k (c == backslash) _ _ _ _
       (inner_carries k more depth seen seen' out out' t _ (λ m s. place_of m (c ∷ (t ++ s))))
@@ -285,10 +285,10 @@ module _ (u i : Bool) (n : ℕ) where
       (open_carries (suc (bytes t)) (items_carry (suc (bytes t))) 0 false false [] [] t) where
         from : (o : Reading Text) → o ≡ gives w v
             → Carries (suc (bytes t)) o
-            (λ j m s. items m (case_flags u i) j 0 false (class_head [] (t ++ s)).0
+            (λ j m s. items_from m (case_flags u i) j 0 false (class_head [] (t ++ s)).0
             (class_head [] (t ++ s)).1)
             → (x : Text) × ((m : ℕ) (s : Text) →
-            items m (case_flags u i) (suc (bytes (t ++ s))) 0 false (class_head [] (t ++ s)).0
+            items_from m (case_flags u i) (suc (bytes (t ++ s))) 0 false (class_head [] (t ++ s)).0
             (class_head [] (t ++ s)).1 ≡ gives x (v ++ s))
         from (gives a r) e (x, h) = (
           x,
@@ -357,8 +357,8 @@ boundary_none n x p negated t =
     (none_then (name n x p (suc _) inside) _
     (λ word r. none_choose (boundary_of_name negated word) _ _ (λ a. tt) tt)))) tt)
 
-pub referring_none : (f : Flags) (o : Reading Reference) → NoDelegate (referring f o)
-referring_none f o = none_then o (λ r u. gives (backref r f.casei) u) (λ r u. tt)
+pub backref_leaf_none : (f : Flags) (o : Reading Reference) → NoDelegate (backref_leaf f o)
+backref_leaf_none f o = none_then o (λ r u. gives (backref r f.casei) u) (λ r u. tt)
 
 call_none : (n p c : ℕ) (t : Text) → NoDelegate (call n p c t)
 unfolding call
@@ -379,7 +379,7 @@ outside_none u i n p c t =
     (none_if (c ∈ "N") _ _ tt
     (none_if (c ∈ "<") _ _ tt
     (none_if (c ∈ ">") _ _ tt
-    (none_if (c ∈ "k") _ _ (referring_none (case_flags u i) (reference.back_reference n t))
+    (none_if (c ∈ "k") _ _ (backref_leaf_none (case_flags u i) (reference.back_reference n t))
     (none_if (c ∈ "g") _ _ (call_none n p c t)
     (none_if (c ∈ "b") _ _ (boundary_none n false p false t)
     (none_if (c ∈ "B") _ _ (boundary_none n false p true t) tt)))))))))))))
@@ -408,11 +408,11 @@ module _ (u i : Bool) where
 
   escape_keeps : (n p : ℕ) (t : Text) →
       Keeps (escape n (bare false) false p t) (λ m q s. escape m (case_flags u i) false q (t ++ s))
-  unfolding escape numbered
+  unfolding escape number_escape
   escape_keeps n p [] = tt
   escape_keeps n p (c ∷ t) =
       keep_if (is_ascii_digit c) _ _ _ _
-      (keep_none _ _ (referring_none (bare false) (reference.numbered_reference n (c ∷ t))))
+      (keep_none _ _ (backref_leaf_none (bare false) (reference.numbered_reference n (c ∷ t))))
       (keep_if (c ∈ "dDsSwW") _ _ _ _ (backslash ∷ c ∷ [], i, λ m q s. refl)
       (keep_if (c ∈ "h") _ _ _ _ (codes "[0-9A-Fa-f]", false, λ m q s. refl)
       (keep_if (c ∈ "H") _ _ _ _ (codes "[^0-9A-Fa-f]", false, λ m q s. refl)

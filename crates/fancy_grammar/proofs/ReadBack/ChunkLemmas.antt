@@ -9,7 +9,7 @@ use Rattle.std.specs.Str.{all_scalars, bytes_eq}
 use Prim.Native.Char.{code}
 use Rattle.fancy_lex.specs.Characters.{caret, ◌∈◌}
 use Rattle.fancy_lex.specs.Class.{class_head, is_plain, byte_text, upper_hex_digit}
-use Rattle.fancy_lex.specs.Escape.{escape, numbered, property, in_class, is_itself}
+use Rattle.fancy_lex.specs.Escape.{escape, number_escape, property, in_class, is_itself}
 use Rattle.fancy_lex.specs.Escaped.{Escape, literal, literal_bytes, delegate}
 use Rattle.fancy_lex.specs.Fault.{invalid_class, invalid_codepoint_value, unclosed_unicode_name}
 use Rattle.fancy_lex.specs.Hex as hexes
@@ -95,11 +95,11 @@ abbrev pub IsName : Text → Type 0
 IsName [] = Unit {0}
 IsName (c ∷ w) = ((c == code "}") ≡ false) × (IsScalar c × IsName w)
 
-abbrev is_name : Text → Bool
-is_name w = list_all (λ c. not (c == code "}")) w && all_scalars w
+abbrev is_braced_name : Text → Bool
+is_braced_name w = list_all (λ c. not (c == code "}")) w && all_scalars w
 
 -- a name that is written out
-pub name_of : (w : Text) → is_name w ≡ true → IsName w
+pub name_of : (w : Text) → is_braced_name w ≡ true → IsName w
 name_of [] h = tt
 name_of (c ∷ w) h =
     let (braces, scalars) = and_parts _ (all_scalars (c ∷ w)) h in
@@ -418,9 +418,9 @@ fine_then : {A : Type 0} (o : Reading A) (k : A → Text → Reading Escape) →
 fine_then (gives a t) k h = h a t
 fine_then (fails e) k h = tt
 
-numbered_fine : (n p : ℕ) (f : Flags) (t : Text) → FineOf (numbered n f true p t)
-unfolding numbered
-numbered_fine n p f t = by_number (group_number n t)
+number_escape_fine : (n p : ℕ) (f : Flags) (t : Text) → FineOf (number_escape n f true p t)
+unfolding number_escape
+number_escape_fine n p f t = by_number (group_number n t)
   where
     by_number : (o : Reading ℕ) → FineOf (o >=> (λ k u. fault_at p invalid_class))
     by_number (gives k u) = tt
@@ -467,7 +467,7 @@ unfolding escape in_class
 escape_fine u i n p [] k = tt
 escape_fine u i n p (c ∷ t) k =
     let (here, more) = and_parts _ (all_scalars t) k in
-    fine_if (is_ascii_digit c) _ _ (λ _. numbered_fine n p (case_flags u i) (c ∷ t))
+    fine_if (is_ascii_digit c) _ _ (λ _. number_escape_fine n p (case_flags u i) (c ∷ t))
     (fine_if (c ∈ "dDsSwW") (gives (delegate (code "\\" ∷ c ∷ []) i) t) _ (λ e. letter_chunk c (set_letter c e))
     (fine_if (c ∈ "h") (gives (delegate (codes "[0-9A-Fa-f]") false) t) _
     (λ _. bracket_chunk (codes "0-9A-Fa-f") hex_word)

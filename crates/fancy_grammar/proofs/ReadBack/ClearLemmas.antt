@@ -14,7 +14,7 @@ use Rattle.fancy_lex.specs.Text.{Text, strip}
 use Rattle.fancy_lex.specs.declared.flags.Flags.{Flags}
 use Rattle.fancy_lex.proofs.LayoutLemmas.{between_plain}
 use Rattle.fancy_parts.specs.Quantifier.{counts}
-use Rattle.fancy_parts.specs.Quote.{behind_backslash, marks, needs_backslash}
+use Rattle.fancy_parts.specs.Quote.{behind_backslash, marks_with_backslash, needs_backslash}
 use Rattle.fancy_grammar.specs.State.{ends}
 
 pub no_truth : {X : Type 0} → false ≡ true → X
@@ -135,19 +135,19 @@ pub each_among : (P : ℕ → Type 0) (xs : List ℕ) (c : ℕ) → Each P xs �
 each_among P xs c h e = each_at P xs c h (sym (among_any c xs) ∙ e)
 
 -- a character printed as itself is no mark
-pub behind_none : (c : ℕ) → behind_backslash c ≡ None → NoneOf c marks
+pub behind_none : (c : ℕ) → behind_backslash c ≡ None → NoneOf c marks_with_backslash
 behind_none c =
-    cond_both (c == code "\n") _ _ (λ y. y ≡ None → NoneOf c marks) (λ t e. absurd cc)
-    (λ _. cond_both (c == code "\t") _ _ (λ y. y ≡ None → NoneOf c marks) (λ t e. absurd cc)
-    (λ _. cond_both (c == code "\r") _ _ (λ y. y ≡ None → NoneOf c marks) (λ t e. absurd cc)
-    (λ _. cond_both (needs_backslash c) _ _ (λ y. y ≡ None → NoneOf c marks) (λ t e. absurd cc)
-    (λ n e. none_of c marks n))))
+    cond_both (c == code "\n") _ _ (λ y. y ≡ None → NoneOf c marks_with_backslash) (λ t e. absurd cc)
+    (λ _. cond_both (c == code "\t") _ _ (λ y. y ≡ None → NoneOf c marks_with_backslash) (λ t e. absurd cc)
+    (λ _. cond_both (c == code "\r") _ _ (λ y. y ≡ None → NoneOf c marks_with_backslash) (λ t e. absurd cc)
+    (λ _. cond_both (needs_backslash c) _ _ (λ y. y ≡ None → NoneOf c marks_with_backslash) (λ t e. absurd cc)
+    (λ n e. none_of c marks_with_backslash n))))
 
 -- what is printed behind a backslash is read as the character
 abbrev pub Escapes : ℕ → ℕ → Type 0
 Escapes x c = (n : ℕ) (f : Flags) (p : ℕ) (t : Text) → escape n f false p (x ∷ t) ≡ gives (escaped.literal c false) t
 
-escapes_marks : Each (λ m. Escapes m m) marks
+escapes_marks : Each (λ m. Escapes m m) marks_with_backslash
 unfolding escape
 escapes_marks =
     also (λ n f p t. refl) (also (λ n f p t. refl) (also (λ n f p t. refl) (also (λ n f p t. refl)
@@ -176,7 +176,7 @@ behind_some c x =
     (λ _. cond_both (c == code "\r") _ _ (λ y. y ≡ Some x → Escapes x c)
     (λ t e. from (code "r") (code "\r") e t escapes_r)
     (λ _. cond_both (needs_backslash c) _ _ (λ y. y ≡ Some x → Escapes x c)
-    (λ t e. subst (λ y. Escapes y c) (same_Some c x e) (each_at (λ m. Escapes m m) marks c escapes_marks t))
+    (λ t e. subst (λ y. Escapes y c) (same_Some c x e) (each_at (λ m. Escapes m m) marks_with_backslash c escapes_marks t))
     (λ _ e. absurd cc))))
   where
     from : (y d : ℕ) → Some y ≡ Some x → (c == d) ≡ true → Escapes y d → Escapes x c

@@ -83,20 +83,20 @@ unfolding spaced_count count
 count_none s d e = rw (skip_same s e, number_none s d, skip_same s e) refl
 
 -- the counts, whether they stand in braces, and what follows them
-abbrev pub counted : ℕ → ℕ → Bool → Text → Option (Counts × Text)
-counted lo hi b s = Some (record { low = lo; high = hi; braces = b }, s)
+abbrev pub counts_and_rest : ℕ → ℕ → Bool → Text → Option (Counts × Text)
+counts_and_rest lo hi b s = Some (record { low = lo; high = hi; braces = b }, s)
 
-braces_one : (n : ℕ) (s : Text) → n < 2 ^ 64 → braced_counts false (decimal n ++ code "}" ∷ s) ≡ counted n n true s
+braces_one : (n : ℕ) (s : Text) → n < 2 ^ 64 → braced_counts false (decimal n ++ code "}" ∷ s) ≡ counts_and_rest n n true s
 unfolding braced_counts
 braces_one n s h = rw (count_read n (code "}" ∷ s) h refl refl) refl
 
 braces_open : (lo : ℕ) (s : Text) → lo < 2 ^ 64 →
-    braced_counts false (decimal lo ++ code "," ∷ code "}" ∷ s) ≡ counted lo most true s
+    braced_counts false (decimal lo ++ code "," ∷ code "}" ∷ s) ≡ counts_and_rest lo most true s
 unfolding braced_counts counts_from
 braces_open lo s h = rw (count_read lo (code "," ∷ code "}" ∷ s) h refl refl, count_none (code "}" ∷ s) refl refl) refl
 
 braces_both : (lo hi : ℕ) (s : Text) → lo < 2 ^ 64 → hi < 2 ^ 64 →
-    braced_counts false (decimal lo ++ code "," ∷ (decimal hi ++ code "}" ∷ s)) ≡ counted lo hi true s
+    braced_counts false (decimal lo ++ code "," ∷ (decimal hi ++ code "}" ∷ s)) ≡ counts_and_rest lo hi true s
 unfolding braced_counts counts_from
 braces_both lo hi s l h =
     rw (count_read lo (code "," ∷ (decimal hi ++ code "}" ∷ s)) l refl refl, count_read hi (code "}" ∷ s) h refl refl) refl
@@ -124,15 +124,15 @@ brace_name ds s h n p negated =
 -- the mark w in front of s
 pub record IsMark (lo hi : ℕ) (s w : Text) : Type 0 where
   pub braces : Bool
-  pub counts : counts false (w ++ s) ≡ counted lo hi braces s
+  pub counts : counts false (w ++ s) ≡ counts_and_rest lo hi braces s
   pub no_comment : after_comment_head (w ++ s) ≡ None
   pub no_name : NoName (w ++ s)
 
-same_counts : (lo hi l h : ℕ) (b : Bool) (s : Text) → l ≡ lo → h ≡ hi → counted lo hi b s ≡ counted l h b s
-same_counts lo hi l h b s e g = ap₂ (λ x y. counted x y b s) (sym e) (sym g)
+same_counts : (lo hi l h : ℕ) (b : Bool) (s : Text) → l ≡ lo → h ≡ hi → counts_and_rest lo hi b s ≡ counts_and_rest l h b s
+same_counts lo hi l h b s e g = ap₂ (λ x y. counts_and_rest x y b s) (sym e) (sym g)
 
 brace_mark : (lo hi n : ℕ) (w r s : Text) → n < 2 ^ 64 → r ≡ decimal n ++ w →
-    braced_counts false (decimal n ++ (w ++ code "}" ∷ s)) ≡ counted lo hi true s →
+    braced_counts false (decimal n ++ (w ++ code "}" ∷ s)) ≡ counts_and_rest lo hi true s →
     IsMark lo hi s (codes "{" ++ (r ++ codes "}"))
 unfolding counts
 brace_mark lo hi n w r s h q e =
@@ -146,7 +146,7 @@ brace_mark lo hi n w r s h q e =
       no_name = subst (λ x. NoName (code "{" ∷ x)) (sym same) (brace_name (decimal n) (w ++ code "}" ∷ s) numeral);
     }
 
-sign_mark : (lo hi l h c : ℕ) (s : Text) → lo ≡ l → hi ≡ h → counts false (c ∷ s) ≡ counted l h false s →
+sign_mark : (lo hi l h c : ℕ) (s : Text) → lo ≡ l → hi ≡ h → counts false (c ∷ s) ≡ counts_and_rest l h false s →
     after_comment_head (c ∷ s) ≡ None → strip (code "{") (c ∷ s) ≡ None → IsMark lo hi s (c ∷ [])
 sign_mark lo hi l h c s a b e o n =
     record {
@@ -193,7 +193,7 @@ lazy false = codes "?"
 pub record IsQuantifier (lo hi : ℕ) (greedy : Bool) (v q : Text) : Type 0 where
   pub no_comment : after_comment_head q ≡ None
   pub braces : Bool
-  pub counts : counts false q ≡ counted lo hi braces (lazy greedy ++ v)
+  pub counts : counts false q ≡ counts_and_rest lo hi braces (lazy greedy ++ v)
   pub no_name : NoName q
 
 lazy_is : (lo hi : ℕ) (greedy : Bool) → quantifier lo hi greedy ≡ counts_text lo hi ++ lazy greedy

@@ -4,7 +4,7 @@ use Rattle.std.proofs.lemmas.Bool.{and_from, and_parts, cases_eq}
 use Rattle.std.specs.Str.{all_scalars}
 use Rattle.fancy_lex.specs.Characters.{◌∈◌}
 use Rattle.fancy_lex.specs.Class.{class, Class, Outcome, written, fault}
-use Rattle.fancy_lex.specs.Escape.{escape, numbered, property, is_itself}
+use Rattle.fancy_lex.specs.Escape.{escape, number_escape, property, is_itself}
 use Rattle.fancy_lex.specs.EscapeReference.{numbered_reference}
 use Rattle.fancy_lex.specs.Escaped as escaped
 use Rattle.fancy_lex.specs.Escaped.{Escape}
@@ -22,7 +22,7 @@ use Rattle.fancy_grammar.specs.Normal.{bare, case_flags, class_of, whole_leaf, n
 use Rattle.fancy_grammar.specs.Printable.{printable}
 use Rattle.fancy_grammar.proofs.ReadBack.ScalarLemmas.{scalars_append}
 use Rattle.fancy_grammar.proofs.ReadBack.ClassChunks.{ClassGoes, Chunk}
-use Rattle.fancy_grammar.proofs.ReadBack.CarriedLaws.{referring_none, class_carries, escape_carries, NoDelegate, hex_none, outside_none}
+use Rattle.fancy_grammar.proofs.ReadBack.CarriedLaws.{backref_leaf_none, class_carries, escape_carries, NoDelegate, hex_none, outside_none}
 use Rattle.fancy_grammar.proofs.ReadBack.DelegateTexts.{bracket_read, bracket_normal, escape_read, escape_normal, no_other, nothing_whole}
 use Rattle.fancy_grammar.proofs.ReadBack.ChunkLemmas.{FormOf, Pairs, form_of, name_scalars, bracket_goes, caret_goes, IsName, NameOk, NameSome, name_ok, prop, single_small, single_large, braced_small, braced_large, hex_word, space_other, unprinted, lowercase_ok, turn_ok}
 use Rattle.fancy_grammar.proofs.ReadBack.RewrittenLaws.{ClassAgain, class_again}
@@ -165,12 +165,12 @@ outside_property u i p c (d ∷ t) h = read_whole u i p (c ∈ "P") (name_at (d 
 
 outside_whole : (u i : Bool) (n p : ℕ) (t : Text) → all_scalars t ≡ true →
     WholeOf (escape n (case_flags u i) false p t)
-unfolding escape numbered
+unfolding escape number_escape
 outside_whole u i n p [] k = tt
 outside_whole u i n p (c ∷ t) k =
     let f = case_flags u i in
-    whole_if (is_ascii_digit c) (numbered n f false p (c ∷ t)) _
-    (λ _. whole_none _ (referring_none f (numbered_reference n (c ∷ t))))
+    whole_if (is_ascii_digit c) (number_escape n f false p (c ∷ t)) _
+    (λ _. whole_none _ (backref_leaf_none f (numbered_reference n (c ∷ t))))
     (whole_if (c ∈ "dDsSwW") (gives (escaped.delegate (code "\\" ∷ c ∷ []) i) t) _ (λ e. letter_whole c e)
     (whole_if (c ∈ "h") (gives (escaped.delegate (codes "[0-9A-Fa-f]") false) t) _
     (λ _. bracket_whole (codes "0-9A-Fa-f") hex_word)

@@ -287,13 +287,13 @@ quant_some : (n left : ℕ) (f : Flags) (a : Tree) (q v : Text) (lo hi : ℕ) (g
     quant n left a (st f q) ≡ done (repeat a lo hi greedy) (st f v)
 unfolding quant
 quant_some n left f a q v lo hi greedy k c m r =
-    let counted : Counts = record { low = lo; high = hi; braces = m.braces } in
+    let read_counts : Counts = record { low = lo; high = hi; braces = m.braces } in
     ap (quant_at n left a (st f q)) (skip_here n f q k m.no_comment)
     ∙ ap (λ x. quantified.with_counts n left a (st f q) (counts x q)) k.no_space
     ∙ ap (quantified.with_counts n left a (st f q)) m.counts
     ∙ cond-true _ _ _ r
-    ∙ ap (seen_through (λ m. quantified.quantified f counted m a)) (lazy_read n f counted v greedy k c)
-    ∙ ap (λ x. done x (st f v)) (quantified_as f a counted (not greedy) greedy k (not-not greedy))
+    ∙ ap (seen_through (λ m. quantified.quantified f read_counts m a)) (lazy_read n f read_counts v greedy k c)
+    ∙ ap (λ x. done x (st f v)) (quantified_as f a read_counts (not greedy) greedy k (not-not greedy))
 
 -- an atom under a quantifier
 pub reads_repeat : (n d : ℕ) (f : Flags) (s q v : Text) (x : Tree) (lo hi : ℕ) (greedy : Bool) → Kept f →

@@ -2,7 +2,7 @@
 ghost use Rattle.std.specs.Prelude.{◌≡◌, ℕ, ◌<◌, ◌≤◌, ◌++◌, ◌∷◌, false, length, chars, IfSome, option_map, Some};
 ghost use Rattle.fancy_lex.specs.Id as spec;
 ghost use Rattle.fancy_lex.specs.IdReference as reference;
-ghost use Rattle.fancy_lex.specs.IdReference.{IsIdReference, view_reference};
+ghost use Rattle.fancy_lex.specs.IdReference.{IsIdReference, view_id_reference};
 ghost use Rattle.fancy_lex.specs.Text.{Text, parts};
 
 use crate::name::number_text::whole_number;
@@ -96,7 +96,7 @@ fn id_or_none(text: &str) -> (Option<&str>, &str)
 
 #[tactic(auto, unfolding(crate::specs::IdReference::id_reference))]
 fn read_id_reference(text: &str, relative: bool) -> Option<IdReference<'_>>
-    ensures value { reference.id_reference relative (chars text.now) ≡ option_map view_reference result }
+    ensures value { reference.id_reference relative (chars text.now) ≡ option_map view_id_reference result }
 {
     let (id, rest) = id_or_none(text);
     if next(rest).is_none() {
@@ -117,10 +117,10 @@ fn read_id_reference(text: &str, relative: bool) -> Option<IdReference<'_>>
 /// place, which is a sign and ASCII digits of a number of at most `isize::MAX`; 0 only behind an id. None for any other
 /// text.
 pub fn id_reference(text: &str, relative: bool) -> Option<IdReference<'_>>
-    ensures value { reference.id_reference relative (chars text.now) ≡ option_map view_reference result }
-    ensures derives { IfSome result (λ r. IsIdReference relative (chars text.now) (view_reference r)) }
+    ensures value { reference.id_reference relative (chars text.now) ≡ option_map view_id_reference result }
+    ensures derives { IfSome result (λ r. IsIdReference relative (chars text.now) (view_id_reference r)) }
     ensures only { (r : reference.IdReference) → IsIdReference relative (chars text.now) r →
-        option_map view_reference result ≡ Some r }
+        option_map view_id_reference result ≡ Some r }
 {
     read_id_reference(text, relative)
 }

@@ -3,7 +3,7 @@ ghost use Rattle.std.specs.Prelude.{◌≡◌, chars, false, IfOk, IsOk, IfSome,
 ghost use Rattle.fancy_lex.specs.IdReference as id_spec;
 ghost use Rattle.fancy_lex.specs.Reading.{Reads};
 ghost use Rattle.fancy_lex.specs.Referred as spec;
-ghost use Rattle.fancy_lex.specs.Target.{view_target, is_name};
+ghost use Rattle.fancy_lex.specs.Target.{view_target, is_by_name};
 ghost use Rattle.fancy_lex.specs.Text.{parts};
 
 use crate::error::{Error, ParseError};
@@ -27,7 +27,7 @@ impl Target<'_> {
     /// The same target, in memory of its own. One that is no name takes none.
     pub fn to_owned(self, alloc: Global) -> Result<CaptureGroupTarget, AllocError>
         ensures same { IfOk result (λ target. view_target target ≡ spec.view_borrowed self.entry) }
-        ensures without_memory { is_name (spec.view_borrowed self.entry) ≡ false → IsOk result }
+        ensures without_memory { is_by_name (spec.view_borrowed self.entry) ≡ false → IsOk result }
     {
         match self {
             Target::ByNumber(number) => Ok(CaptureGroupTarget::ByNumber(number)),
@@ -69,7 +69,7 @@ pub fn target_of_name(name: &str) -> Target<'_>
 /// The reference at the place that an id reference says: an amount alone is relative, and one behind an id is a level.
 #[tactic(auto, unfolding(crate::specs::Referred::reference_of))]
 fn reference_of(written: IdReference<'_>, place: usize) -> Reference<'_>
-    ensures { spec.reference_of place (id_spec.view_reference written.entry) ≡ spec.view_reference result }
+    ensures { spec.reference_of place (id_spec.view_id_reference written.entry) ≡ spec.view_reference result }
 {
     let (target, level) = match written {
         IdReference::Id(id) => (target_of_name(id), None),

@@ -58,7 +58,7 @@ fn with_letter(flags: Flags, on: bool, letter: char) -> Option<Flags>
 /// The text of an unknown flag: `(?` and the letters through the one before `rest`.
 fn flag_text(alloc: Global, letters: &str, rest: &str) -> Result<String, AllocError>
     requires { (w : Text) × (chars letters.now ≡ w ++ chars rest.now) }
-    ensures { IfOk result (λ s. text_of s ≡ codes "(?" ++ spec.before (chars letters.now) (chars rest.now)) }
+    ensures { IfOk result (λ s. text_of s ≡ codes "(?" ++ spec.letters_before (chars letters.now) (chars rest.now)) }
 {
     let read = front(letters, rest);
     let mut text = String::from_str(alloc, "(?")?;

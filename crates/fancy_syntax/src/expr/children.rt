@@ -2,7 +2,7 @@
 ghost use Rattle.std.specs.Prelude.{◌≡◌, []};
 ghost use Rattle.std.specs.Bool.{OnTrue};
 ghost use Rattle.std.specs.Iterator.{YieldsFirstRef, item_count};
-ghost use Rattle.fancy_syntax.specs.Children.{children_of, left};
+ghost use Rattle.fancy_syntax.specs.Children.{children_of, remaining_children};
 ghost use Rattle.fancy_grammar.specs.Tree.{children, is_leaf};
 ghost use Rattle.fancy_syntax.specs.View.{view, views};
 
@@ -42,8 +42,8 @@ impl Expr {
     /// ```
     #[tactic(auto, using(crate::proofs::ChildrenLemmas::children_Concat, crate::proofs::ChildrenLemmas::children_Alt))]
     pub fn children_iter(&self) -> ExprChildrenIter<'_>
-        ensures trees { views (left result) ≡ children (view self.now) }
-        ensures values { left result ≡ children_of self.now }
+        ensures trees { views (remaining_children result) ≡ children (view self.now) }
+        ensures values { remaining_children result ≡ children_of self.now }
     {
         match self {
             Expr::Concat(children) => ExprChildrenIter::Vec(children.iter()),
@@ -97,9 +97,9 @@ pub enum ExprChildrenIter<'a> {
 impl<'a> Iterator for ExprChildrenIter<'a> {
     type Item = &'a Expr;
 
-    ghost next_gives = { YieldsFirstRef left };
+    ghost next_gives = { YieldsFirstRef remaining_children };
 
-    ghost remaining = { item_count left };
+    ghost remaining = { item_count remaining_children };
 
     fn next(&mut self) -> Option<&'a Expr> {
         match self {

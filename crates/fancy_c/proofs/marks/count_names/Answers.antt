@@ -1,5 +1,5 @@
 use Rattle.std.proofs.Common.{◌≡◌, ◌+◌, ap, map, length, arith, ◌∙◌}
-use Rattle.fancy_parts.specs.Groups.{named}
+use Rattle.fancy_parts.specs.Groups.{entry_of}
 use Rattle.fancy_c.proofs.MarkLemmas.{names_count_next}
 use Rattle.fancy_c.proofs.NodeLemmas.{string_text}
 use Rattle.fancy_c.proofs.marks.count_names.Goals as goal
@@ -7,5 +7,5 @@ use Rattle.fancy_c.proofs.marks.count_names.Goals as goal
 pub loop-name-preserved : goal.loop-name-preserved
 loop-name-preserved c =
     let size = ap length (string_text c.in-Some.name.now) in
-    names_count_next _ _ _ _ _ c.loop-name.invariant (ap (map named) c.in-Some.ensures.steps)
+    names_count_next _ _ _ _ _ c.loop-name.invariant (ap (map entry_of) c.in-Some.ensures.steps)
     (omega (arith, c.saturating_add.ensures, c.len.ensures)) (omega (arith, c.saturating_add-in-loop-name.ensures, c.len-in-loop-name.ensures, size))

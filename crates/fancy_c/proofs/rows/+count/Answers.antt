@@ -1,8 +1,8 @@
 use Rattle.std.proofs.Common.{◌≡◌, ◌+◌, ◌<◌, ◌∙◌, ap, sym, length, arith}
 use Rattle.fancy_parts.specs.Room.{in_word}
-use Rattle.fancy_grammar.specs.Tree.{depth}
+use Rattle.fancy_grammar.specs.Tree.{levels}
 use Rattle.fancy_syntax.specs.View.{view, views}
-use Rattle.fancy_syntax.proofs.Descents.{sweep_start, sweep_head, sweep_next, depth_of_child}
+use Rattle.fancy_syntax.proofs.Descents.{sweep_start, sweep_head, sweep_next, levels_of_child}
 use Rattle.fancy_c.specs.Node.{listed_each}
 use Rattle.fancy_c.proofs.RowLemmas.{rows_count_starts, rows_count_next, rows_count_ends}
 use Rattle.fancy_c.proofs.rows.+count.Goals as goal
@@ -17,8 +17,8 @@ loop-child-init t c = record {
 pub count-behind-requires : goal.count-behind-requires
 count-behind-requires t c =
     let among = sweep_head _ c.args.tree.now c.in-Some.child.now _ _ c.loop-child.invariant.sweep c.in-Some.ensures.steps in
-    let less : depth (view c.in-Some.child.now) < depth (view c.args.tree.now) =
-    depth_of_child c.args.tree.now c.in-Some.child.now (ap views (sym c.children_iter-children.ensures.values) ∙ c.children_iter-children.ensures.trees) among in
+    let less : levels (view c.in-Some.child.now) < levels (view c.args.tree.now) =
+    levels_of_child c.args.tree.now c.in-Some.child.now (ap views (sym c.children_iter-children.ensures.values) ∙ c.children_iter-children.ensures.trees) among in
     (omega (arith, less), tt)
 
 pub loop-child-preserved : goal.loop-child-preserved

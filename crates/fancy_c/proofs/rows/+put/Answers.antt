@@ -1,7 +1,7 @@
 use Rattle.std.proofs.Common.{◌≡◌, ℕ, ◌+◌, ◌<◌, ◌∙◌, ap, sym, set, length, arith}
-use Rattle.fancy_grammar.specs.Tree.{depth, children}
+use Rattle.fancy_grammar.specs.Tree.{levels, children}
 use Rattle.fancy_syntax.specs.View.{view, views}
-use Rattle.fancy_syntax.proofs.Descents.{sweep_start, sweep_head, sweep_next, depth_of_child}
+use Rattle.fancy_syntax.proofs.Descents.{sweep_start, sweep_head, sweep_next, levels_of_child}
 use Rattle.fancy_c.specs.Node.{listed_each, rows}
 use Rattle.fancy_c.specs.Buffer.{put_at}
 use Rattle.fancy_c.proofs.RowLemmas.{putting_starts, putting_as, putting_next, putting_ends, putting_room, put_length}
@@ -17,8 +17,8 @@ put_children-loop-child-init t c = record {
 pub put_children-put_tree-behind-requires : goal.put_children-put_tree-behind-requires
 put_children-put_tree-behind-requires t c =
     let among = sweep_head _ c.args.tree.now c.in-Some.child.now _ _ c.loop-child.invariant.sweep c.in-Some.ensures.steps in
-    let less : depth (view c.in-Some.child.now) < depth (view c.args.tree.now) =
-    depth_of_child c.args.tree.now c.in-Some.child.now (ap views (sym c.children_iter-children.ensures.values) ∙ c.children_iter-children.ensures.trees) among in
+    let less : levels (view c.in-Some.child.now) < levels (view c.args.tree.now) =
+    levels_of_child c.args.tree.now c.in-Some.child.now (ap views (sym c.children_iter-children.ensures.values) ∙ c.children_iter-children.ensures.trees) among in
     let room = putting_room _ _ (ap (λ es. listed_each (views es)) c.in-Some.ensures.steps) c.loop-child.invariant.putting in
     (omega (arith, less), (room.0, room.1))
 

@@ -1,6 +1,6 @@
 use Rattle.std.proofs.Common.{◌+◌, ◌*◌, length}
-use Rattle.fancy_grammar.specs.Tree.{depth, children}
-use Rattle.fancy_syntax.specs.Children.{left}
+use Rattle.fancy_grammar.specs.Tree.{levels, children}
+use Rattle.fancy_syntax.specs.Children.{remaining_children}
 use Rattle.fancy_syntax.specs.View.{view, views}
 use Rattle.fancy_syntax.proofs.Descents.{Sweep}
 use Rattle.fancy_c.specs.Node.{listed_each}
@@ -8,16 +8,16 @@ use Rattle.fancy_c.proofs.RowLemmas.{Putting}
 use Rattle.fancy_c.proofs.rows.+put.Given as goal
 
 abbrev pub decreases-put_tree : goal.decreases-put_tree
-decreases-put_tree l = 2 * depth (view l.tree.now) + 1
+decreases-put_tree l = 2 * levels (view l.tree.now) + 1
 
 abbrev pub decreases-put_children : goal.decreases-put_children
-decreases-put_children l = 2 * depth (view l.tree.now)
+decreases-put_children l = 2 * levels (view l.tree.now)
 
 abbrev pub invariant-put_children-loop-child : goal.invariant-put_children-loop-child
 invariant-put_children-loop-child l = record {
-  sweep : Sweep (λ _. Unit {0}) l.tree (left l.children);
-  putting : Putting l.initial.nodes l.nodes l.initial.bytes l.bytes l.fn.before.rows l.fn.before.text l.behind.rows l.behind.text (listed_each (children (view l.tree))) (listed_each (views (left l.children)));
+  sweep : Sweep (λ _. Unit {0}) l.tree (remaining_children l.children);
+  putting : Putting l.initial.nodes l.nodes l.initial.bytes l.bytes l.fn.before.rows l.fn.before.text l.behind.rows l.behind.text (listed_each (children (view l.tree))) (listed_each (views (remaining_children l.children)));
 }
 
 abbrev pub decreases-put_children-loop-child : goal.decreases-put_children-loop-child
-decreases-put_children-loop-child l = length (left l.children)
+decreases-put_children-loop-child l = length (remaining_children l.children)

@@ -4,7 +4,7 @@ use Rattle.std.specs.Map.{lookup, set_value}
 use Rattle.std.specs.Ordering.{is_eq}
 use Rattle.std.specs.String.{string_cmp}
 use Rattle.std.proofs.lemmas.Result.{err_from_is_err_and}
-use Rattle.fancy_parts.specs.Groups.{named, with_number}
+use Rattle.fancy_parts.specs.Groups.{entry_of, with_number}
 use Rattle.fancy_parts.proofs.NameLemmas.{put_new, put_more, put_same}
 use Rattle.fancy_parts.proofs.ranks.add_number.Goals as goal
 
@@ -17,7 +17,7 @@ returns-in_ok-push-in-Some-clause-added c =
     let set : (c.get_mut.follows.lender c.push.new.self).entries
     ≡ set_value (λ k. is_eq (string_cmp a k)) es c.push.new.self =
     rw (← c.as_str.ensures.value) h.0 in
-    ap (map named) set
+    ap (map entry_of) set
     ∙ put_more a es c.in-Some.numbers.now c.push.new.self c.args.number c.in_ok-push-in-Some.ensures.items
     c.get_mut.ensures.ordered same
 
@@ -32,8 +32,8 @@ returns-in_ok-insert-in-None-clause-added c =
     let bytes : string_bytes b ≡ string_bytes a = c.in_ok-clone-in-None.ensures.cases in
     let none : lookup (λ k. is_eq (string_cmp b k)) es ≡ None
     = rw (bytes, ← c.as_str.ensures.value) (sym c.in-None.ensures.value) in
-    ap (map named) entries ∙ put_new b es c.push-in-None.new.self c.args.number items none
-    ∙ ap (λ bs. with_number (chars bs) c.args.number (map named es)) bytes
+    ap (map entry_of) entries ∙ put_new b es c.push-in-None.new.self c.args.number items none
+    ∙ ap (λ bs. with_number (chars bs) c.args.number (map entry_of es)) bytes
 
 pub returns-in_err-push-in-Some-clause-kept : goal.returns-in_err-push-in-Some-clause-kept
 returns-in_err-push-in-Some-clause-kept c =
@@ -46,5 +46,5 @@ returns-in_err-push-in-Some-clause-kept c =
     rw (← c.as_str.ensures.value) h.0 in
     let refused = err_from_is_err_and c.from_residual.result c.from_residual.ensures.1 in
     rw refused.1
-    (ap (map named) set
+    (ap (map entry_of) set
     ∙ put_same a es c.in-Some.numbers.now c.push.new.self c.in_err-push-in-Some.ensures.items same)

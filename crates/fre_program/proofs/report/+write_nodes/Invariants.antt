@@ -1,11 +1,11 @@
-use Rattle.fancy_syntax.specs.Children.{left}
-use Rattle.fancy_syntax.specs.Tree.{depth}
+use Rattle.fancy_syntax.specs.Children.{remaining_children}
+use Rattle.fancy_syntax.specs.Tree.{levels}
 use Rattle.fancy_syntax.specs.View.{view}
 use Rattle.fancy_syntax.proofs.Descents.{Sweep}
 use Rattle.fre_program.proofs.report.+write_nodes.Given as goal
 
 abbrev pub decreases-write_nodes : goal.decreases-write_nodes
-decreases-write_nodes g l = depth (view l.tree.now)
+decreases-write_nodes g l = levels (view l.tree.now)
 
 abbrev pub invariant-loop-child : goal.invariant-loop-child
-invariant-loop-child g l = Sweep (λ _. Unit {0}) l.tree (left l.child-iterator)
+invariant-loop-child g l = Sweep (λ _. Unit {0}) l.tree (remaining_children l.child-iterator)
