@@ -1,5 +1,6 @@
 -- A piece that starts where a branch does not end reads a character.
-use Rattle.std.proofs.Common.{◌≡◌, ◌≢◌, ℕ, ◌+◌, ◌-◌, Bool, true, false, ◌||◌, ◌&&◌, if◌then◌else◌, ◌⊎◌, inl, inr, [], ◌∷◌, ◌==◌, Option, Some, None, nat_le, nat_lt, codes, refl, sym, ◌∙◌, true≢false, tests, rules, ap, arith}
+use Rattle.std.proofs.Common.{◌≡◌, ◌≢◌, ℕ, ◌+◌, ◌-◌, Bool, true, false, ◌||◌, ◌&&◌, if◌then◌else◌, ◌⊎◌, inl, inr, [], ◌∷◌, ◌==◌, Option, Some, None, option_and_then, nat_le, nat_lt, codes, refl, sym, ◌∙◌, true≢false, tests, rules, ap, arith}
+use Rattle.std.proofs.lemmas.Bool.{cond-true, cond-false}
 use Rattle.std.proofs.lemmas.Bool.Decides.{nat_tests}
 use Prim.Native.Char.{code}
 use Rattle.fancy_lex.specs.Fault.{target_not_repeatable}
@@ -7,12 +8,13 @@ use Rattle.fancy_lex.specs.FaultTable.{group_too_deep}
 use Rattle.fancy_lex.specs.Layout.{layout, layout_from, Skipped, rest, fault as open_comment}
 use Rattle.fancy_lex.specs.Reading.{Reading, gives, fails, choose}
 use Rattle.fancy_lex.specs.Referred.{Reference}
-use Rattle.fancy_lex.specs.Text.{Text, bytes, place_of, strip_word}
+use Rattle.fancy_lex.specs.Text.{Text, bytes, place_of, strip, strip_word}
 use Rattle.fancy_parts.specs.FlagLetters.{Letters, setting, scope as scoped}
+use Rattle.fancy_parts.specs.GroupName.{group_name}
 use Rattle.fancy_parts.specs.HeadReference.{begins_target, condition_target}
 use Rattle.fancy_parts.specs.Quantifier.{counts, as_mark, most}
 use Rattle.fancy_parts.specs.declared.counts.Counts.{Counts}
-use Rattle.fancy_grammar.specs.Ahead.{Ahead, nothing, leaf, with_head, condition, body, ahead, ahead_of, head_ahead, question_ahead, python_ahead, less_ahead, absent_ahead, conditional_ahead, condition_ahead, verb_condition, named_ahead, target_ahead, flags_ahead, behind_layout, faulty, leaf_of, is_before_nothing}
+use Rattle.fancy_grammar.specs.Ahead.{Ahead, nothing, leaf, with_head, condition, body, absent_branch, ahead, ahead_of, group_ahead, behind_question, condition_ahead, repeater_ahead, verb_ahead, verb_condition, named_ahead, target_ahead, flags_ahead, behind_layout, faulty, leaf_of, is_before_nothing}
 use Rattle.fancy_grammar.specs.Depth.{max_depth}
 use Rattle.fancy_grammar.specs.Head.{Head, define}
 use Rattle.fancy_grammar.specs.Quantified.{quant, quants, adjacent, max_adjacent}
@@ -59,40 +61,46 @@ condition_there s e = cc
 body_there : (c : Tree) (s : State) → IsThere (body c s)
 body_there c s e = cc
 
-conditional_there : (n : ℕ) (s : State) (t : Text) → IsThere (conditional_ahead n s t)
-conditional_there n s [] = leaf_there _
-conditional_there n s (c ∷ t) =
-    choice_there (strip_word (codes "DEFINE)") (c ∷ t)) _ _ (λ u. opens_there _ _)
-    (either_there (begins_target (c ∷ t)) (target_there s _) (either_there (c == code "*") (choice_there (verb_at t) _ _ (λ p. body_there _ _) (leaf_there _)) (condition_there _)))
+verb_there : (n : ℕ) (s : State) (t : Text) → IsThere (verb_ahead n s t)
+verb_there n s t = choice_there (verb_at t) _ _ (λ p. leaf_there _) (leaf_there _)
 
-absent_there : (n : ℕ) (s : State) (t : Text) → IsThere (absent_ahead n s t)
-absent_there n s [] = leaf_there _
-absent_there n s (c ∷ t) = either_there (c == code "|") (λ e. cc) (opens_there _ _)
+verb_condition_there : (n : ℕ) (s : State) (t : Text) → IsThere (verb_condition n s t)
+verb_condition_there n s t = choice_there (verb_at t) _ _ (λ p. body_there _ _) (leaf_there _)
 
-less_there : (n : ℕ) (s : State) (m t : Text) → IsThere (less_ahead n s m t)
-less_there n s m [] = named_there s _
-less_there n s m (c ∷ t) = either_there (c == code "=") (opens_there _ _) (either_there (c == code "!") (opens_there _ _) (named_there s _))
+condition_ahead_there : (n : ℕ) (s : State) (t : Text) → IsThere (condition_ahead n s t)
+condition_ahead_there n s [] = leaf_there _
+condition_ahead_there n s (c ∷ t) =
+    either_there (begins_target (c ∷ t)) (target_there s _)
+    (either_there (c == code "*") (verb_condition_there n s t) (condition_there _))
 
-python_there : (n : ℕ) (s : State) (m t : Text) → IsThere (python_ahead n s m t)
-python_there n s m [] = flags_there _
-python_there n s m (c ∷ t) =
-    either_there (c == code "<") (named_there s _) (either_there (c == code "=") (leaf_there _) (either_there (c == code ">") (leaf_there _) (flags_there _)))
+repeater_there : (n : ℕ) (s : State) (t : Text) → IsThere (repeater_ahead n s t)
+repeater_there n s [] = leaf_there _
+repeater_there n s (c ∷ t) = opens_there _ _
 
-question_there : (n : ℕ) (s : State) (t : Text) → IsThere (question_ahead n s t)
-question_there n s [] = flags_there _
-question_there n s (c ∷ t) =
-    either_there (c == code "=") (opens_there _ _) (either_there (c == code "!") (opens_there _ _) (either_there (c == code "<") (less_there n s (c ∷ t) t)
-    (either_there (c == code "'") (named_there s _) (either_there (c == code "P") (python_there n s (c ∷ t) t) (either_there (c == code "~") (absent_there n s t)
-    (either_there (c == code ">") (opens_there _ _) (either_there (c == code "(") (conditional_there n s t) (flags_there _))))))))
+question_there : (n : ℕ) (s : State) (t : Text) → IsThere (behind_question n s t)
+question_there n s t =
+    choice_there (strip_word (codes "=") t) _ _ (λ u. opens_there _ _) (
+    choice_there (strip_word (codes "!") t) _ _ (λ u. opens_there _ _) (
+    choice_there (strip_word (codes "<=") t) _ _ (λ u. opens_there _ _) (
+    choice_there (strip_word (codes "<!") t) _ _ (λ u. opens_there _ _) (
+    choice_there (strip_word (codes ">") t) _ _ (λ u. opens_there _ _) (
+    choice_there (strip_word (codes "(DEFINE)") t) _ _ (λ u. opens_there _ _) (
+    choice_there (strip_word (codes "(") t) _ _ (λ u. condition_ahead_there n s u) (
+    choice_there (strip_word (codes "~|") t) _ _ (λ u e. cc) (
+    choice_there (strip_word (codes "~") t) _ _ (λ u. repeater_there n s u) (
+    choice_there (strip_word (codes "<") t) _ _ (λ u. named_there s _) (
+    choice_there (strip_word (codes "'") t) _ _ (λ u. named_there s _) (
+    choice_there (strip_word (codes "P<") t) _ _ (λ u. named_there s _) (
+    choice_there (strip_word (codes "P=") t) _ _ (λ u. leaf_there _) (
+    choice_there (strip_word (codes "P>") t) _ _ (λ u. leaf_there _) (flags_there _))))))))))))))
 
-head_there : (n : ℕ) (s : State) (t : Text) → IsThere (head_ahead n s t)
-head_there n s [] = opens_there _ _
-head_there n s (c ∷ t) =
-    either_there (c == code "?") (question_there n s t)
-    (either_there (c == code "*") (choice_there (verb_at t) _ _ (λ p. leaf_there _) (leaf_there _)) (opens_there _ _))
+group_there : (n : ℕ) (s : State) (t : Text) → IsThere (group_ahead n s t)
+group_there n s t =
+    choice_there (strip_word (codes "?") t) _ _ (λ u. question_there n s u) (
+    choice_there (strip_word (codes "*") t) _ _ (λ u. verb_there n s u) (opens_there _ _))
 
 behind_there : (n : ℕ) (s : State) (k : Skipped) → IsThere (behind_layout n s k)
-behind_there n s (rest u) = head_there n s u
+behind_there n s (rest u) = group_there n s u
 behind_there n s (open_comment p) = leaf_there _
 
 deep_there : (n d c : ℕ) (s : State) (t : Text) →
@@ -107,32 +115,42 @@ before_nothing n d s c t e = by_tests (c == code "(") (is_before_nothing c) _ (d
     by_tests false true x f e = refl
     by_tests false false x f e = absurd (leaf_there _ e)
 
--- ---- the heads of conditionals
+-- ---- rows of the heads, behind the character that they share
 
-pub defines : (n : ℕ) (s : State) (c : ℕ) (t u : Text) → s.rest ≡ c ∷ t → strip_word (codes "DEFINE)") s.rest ≡ Some u →
-    conditional_ahead n s s.rest ≡ with_head define (at s u)
-defines n s c t u e h = ap (conditional_ahead n s) e ∙ ap (λ o. choose o (λ v. with_head define (at s v)) (condition_ahead n s c t)) (ap (strip_word (codes "DEFINE)")) (sym e) ∙ h)
+-- where a mark does not stand there, no more does its word
+lacks_word : (m : ℕ) (t : Text) → strip m t ≡ None → strip_word (m ∷ []) t ≡ None
+lacks_word m t e = ap (option_and_then (strip_word [])) e
 
-pub target_stands : (n : ℕ) (s : State) (c : ℕ) (t : Text) → s.rest ≡ c ∷ t → strip_word (codes "DEFINE)") s.rest ≡ None → begins_target s.rest ≡ true →
-    conditional_ahead n s s.rest ≡ target_ahead s (condition_target n s.rest)
+pub name_stands : (n : ℕ) (s : State) (t : Text) → strip (code "=") t ≡ None → strip (code "!") t ≡ None →
+    behind_question n s (code "<" ∷ t) ≡ named_ahead s (group_name n (code "<" ∷ t))
+name_stands n s t e f = rw (lacks_word (code "=") t e, lacks_word (code "!") t f) refl
+
+pub defines : (n : ℕ) (s : State) (t u : Text) → strip_word (codes "DEFINE)") t ≡ Some u →
+    behind_question n s (code "(" ∷ t) ≡ with_head define (at s u)
+defines n s t u e = ap (λ o. choose o (λ v. with_head define (at s v)) (condition_ahead n s t)) e
+
+condition_stands : (n : ℕ) (s : State) (t : Text) → strip_word (codes "DEFINE)") t ≡ None →
+    behind_question n s (code "(" ∷ t) ≡ condition_ahead n s t
+condition_stands n s t e = ap (λ o. choose o (λ v. with_head define (at s v)) (condition_ahead n s t)) e
+
+pub target_stands : (n : ℕ) (s : State) (c : ℕ) (t : Text) → s.rest ≡ c ∷ t → strip_word (codes "DEFINE)") s.rest ≡ None →
+    begins_target s.rest ≡ true → behind_question n s (code "(" ∷ s.rest) ≡ target_ahead s (condition_target n s.rest)
 target_stands n s c t e h i =
-    ap (conditional_ahead n s) e ∙ ap (λ o. choose o (λ v. with_head define (at s v)) (condition_ahead n s c t)) (ap (strip_word (codes "DEFINE)")) (sym e) ∙ h)
-    ∙ there (begins_target (c ∷ t)) _ (ap begins_target (sym e) ∙ i) ∙ ap (λ u. target_ahead s (condition_target n u)) (sym e)
-  where
-    there : (b : Bool) (x : Ahead) → b ≡ true → (if b then target_ahead s (condition_target n (c ∷ t)) else x) ≡ target_ahead s (condition_target n (c ∷ t))
-    there true x i = refl
-    there false x i = absurd (true≢false (sym i))
+    condition_stands n s s.rest h ∙ ap (condition_ahead n s) e
+    ∙ cond-true (begins_target (c ∷ t)) _ _ (ap begins_target (sym e) ∙ i) ∙ ap (λ u. target_ahead s (condition_target n u)) (sym e)
 
-pub no_condition_ahead : (n : ℕ) (s : State) (c : ℕ) (t : Text) → s.rest ≡ c ∷ t → strip_word (codes "DEFINE)") s.rest ≡ None → begins_target s.rest ≡ false →
-    c ≢ code "*" → conditional_ahead n s s.rest ≡ condition s
+pub verb_stands : (n : ℕ) (s : State) (t : Text) → s.rest ≡ code "*" ∷ t → strip_word (codes "DEFINE)") s.rest ≡ None →
+    begins_target s.rest ≡ false → behind_question n s (code "(" ∷ s.rest) ≡ verb_condition n s t
+verb_stands n s t e h i =
+    condition_stands n s s.rest h ∙ ap (condition_ahead n s) e
+    ∙ cond-false (begins_target (code "*" ∷ t)) _ _ (ap begins_target (sym e) ∙ i)
+
+pub no_condition_ahead : (n : ℕ) (s : State) (c : ℕ) (t : Text) → s.rest ≡ c ∷ t → strip_word (codes "DEFINE)") s.rest ≡ None →
+    begins_target s.rest ≡ false → c ≢ code "*" → behind_question n s (code "(" ∷ s.rest) ≡ condition s
 no_condition_ahead n s c t e h i j =
-    ap (conditional_ahead n s) e ∙ ap (λ o. choose o (λ v. with_head define (at s v)) (condition_ahead n s c t)) (ap (strip_word (codes "DEFINE)")) (sym e) ∙ h)
-    ∙ other (begins_target (c ∷ t)) (c == code "*") (ap begins_target (sym e) ∙ i) (search (tests, rules)) ∙ ap (λ x. condition (at s x)) (sym e)
-  where
-    other : (b d : Bool) → b ≡ false → d ≡ false → (if b then target_ahead s (condition_target n (c ∷ t)) else if d then verb_condition n s c t else condition (at s (c ∷ t))) ≡ condition (at s (c ∷ t))
-    other true d i j = absurd (true≢false i)
-    other false true i j = absurd (true≢false j)
-    other false false i j = refl
+    condition_stands n s s.rest h ∙ ap (condition_ahead n s) e
+    ∙ cond-false (begins_target (c ∷ t)) _ _ (ap begins_target (sym e) ∙ i)
+    ∙ cond-false (c == code "*") _ _ (search (tests, rules)) ∙ ap (λ x. condition (at s x)) (sym e)
 
 -- ---- a mark begins a quantifier, before which no layout stands
 

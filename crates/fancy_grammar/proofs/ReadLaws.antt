@@ -18,7 +18,7 @@ use Rattle.fancy_parts.specs.GroupName.{group_name}
 use Rattle.fancy_parts.specs.HeadReference.{named_reference, named_call, begins_target, condition_target}
 use Rattle.fancy_parts.specs.Quantifier.{counts}
 use Rattle.fancy_parts.specs.declared.counts.Counts.{Counts}
-use Rattle.fancy_grammar.specs.Ahead.{Ahead, leaf, body, ahead, ahead_of, behind_layout, head_ahead, question_ahead, python_ahead, less_ahead, absent_ahead, conditional_ahead, condition_ahead, flags_ahead, named_ahead, target_ahead, backref_node, call_node, leaf_node, leaf_outcome, leaf_of, is_before_nothing}
+use Rattle.fancy_grammar.specs.Ahead.{Ahead, leaf, body, ahead, ahead_of, behind_layout, group_ahead, behind_question, condition_ahead, repeater_ahead, flags_ahead, named_ahead, target_ahead, backref_node, call_node, leaf_node, leaf_outcome, leaf_of, is_before_nothing}
 use Rattle.fancy_grammar.specs.Depth.{max_depth}
 use Rattle.fancy_grammar.specs.Grammar.{Alternation, alternation, Branches, last, more, branch_fault, Branch, branch, Pieces, stop, next, piece_fault, Piece, piece, layout_fault, Atom, atom, AtomOf, a_nothing, a_leaf, a_group, a_condition, condition_fault, a_body, two_branches, one_branch, absent_fault, Inside, inside, Body, the_body, Whole, whole, closed, closed_at, ended, ended_at, branches_of, conditional_of, conditional_behind, is_condition, clear_or_stopper}
 use Rattle.fancy_grammar.specs.Head.{Head, capture, scope, look, atomic, define, repeater, group_node}
@@ -198,53 +198,43 @@ flags_read (gives (setting f) u) = (tt, refl, refl)
 flags_read (gives (scoped f) u) = tt
 flags_read (fails e) = tt
 
-condition_read : (n : ℕ) (s : State) (c : ℕ) (t : Text) → ReadAhead (condition_ahead n s c t)
-condition_read n s c t =
+condition_read : (n : ℕ) (s : State) (t : Text) → ReadAhead (condition_ahead n s t)
+condition_read n s [] = tt
+condition_read n s (c ∷ t) =
     cond_both (begins_target (c ∷ t)) _ _ ReadAhead (λ _. target_read s (condition_target n (c ∷ t))) (λ _.
     cond_both (c == code "*") _ _ ReadAhead (λ _. choose_makes ReadAhead (verb_at t) _ _ (λ p. (tt, refl, refl)) tt) (λ _. tt))
 
-conditional_read : (n : ℕ) (s : State) (t : Text) → ReadAhead (conditional_ahead n s t)
-conditional_read n s [] = tt
-conditional_read n s (c ∷ t) =
-    choose_makes ReadAhead (strip_word (codes "DEFINE)") (c ∷ t)) _ _ (λ u. tt) (condition_read n s c t)
+repeater_read : (n : ℕ) (s : State) (t : Text) → ReadAhead (repeater_ahead n s t)
+repeater_read n s [] = tt
+repeater_read n s (c ∷ t) = tt
 
-absent_read : (n : ℕ) (s : State) (t : Text) → ReadAhead (absent_ahead n s t)
-absent_read n s [] = tt
-absent_read n s (c ∷ t) = cond_both (c == code "|") _ _ ReadAhead (λ _. tt) (λ _. tt)
+question_read : (n : ℕ) (s : State) (t : Text) → ReadAhead (behind_question n s t)
+question_read n s t =
+    let P = ReadAhead in
+    choose_makes P (strip_word (codes "=") t) _ _ (λ u. tt) (
+    choose_makes P (strip_word (codes "!") t) _ _ (λ u. tt) (
+    choose_makes P (strip_word (codes "<=") t) _ _ (λ u. tt) (
+    choose_makes P (strip_word (codes "<!") t) _ _ (λ u. tt) (
+    choose_makes P (strip_word (codes ">") t) _ _ (λ u. tt) (
+    choose_makes P (strip_word (codes "(DEFINE)") t) _ _ (λ u. tt) (
+    choose_makes P (strip_word (codes "(") t) _ _ (λ u. condition_read n s u) (
+    choose_makes P (strip_word (codes "~|") t) _ _ (λ u. tt) (
+    choose_makes P (strip_word (codes "~") t) _ _ (λ u. repeater_read n s u) (
+    choose_makes P (strip_word (codes "<") t) _ _ (λ u. named_read s (group_name n t)) (
+    choose_makes P (strip_word (codes "'") t) _ _ (λ u. named_read s (group_name n t)) (
+    choose_makes P (strip_word (codes "P<") t) _ _ (λ u. named_read s (group_name n t)) (
+    choose_makes P (strip_word (codes "P=") t) _ _ (λ u. backref_read s s.flags.casei (named_reference n u)) (
+    choose_makes P (strip_word (codes "P>") t) _ _ (λ u. call_read s (named_call n u))
+    (flags_read (letters n s.flags t)))))))))))))))
 
-less_read : (n : ℕ) (s : State) (m t : Text) → ReadAhead (less_ahead n s m t)
-less_read n s m [] = named_read s (group_name n m)
-less_read n s m (c ∷ t) =
-    cond_both (c == code "=") _ _ ReadAhead (λ _. tt) (λ _.
-    cond_both (c == code "!") _ _ ReadAhead (λ _. tt) (λ _. named_read s (group_name n m)))
-
-python_read : (n : ℕ) (s : State) (m t : Text) → ReadAhead (python_ahead n s m t)
-python_read n s m [] = flags_read (letters n s.flags m)
-python_read n s m (c ∷ t) =
-    cond_both (c == code "<") _ _ ReadAhead (λ _. named_read s (group_name n m)) (λ _.
-    cond_both (c == code "=") _ _ ReadAhead (λ _. backref_read s s.flags.casei (named_reference n t)) (λ _.
-    cond_both (c == code ">") _ _ ReadAhead (λ _. call_read s (named_call n t)) (λ _. flags_read (letters n s.flags m))))
-
-question_read : (n : ℕ) (s : State) (t : Text) → ReadAhead (question_ahead n s t)
-question_read n s [] = flags_read (letters n s.flags [])
-question_read n s (c ∷ t) =
-    cond_both (c == code "=") _ _ ReadAhead (λ _. tt) (λ _.
-    cond_both (c == code "!") _ _ ReadAhead (λ _. tt) (λ _.
-    cond_both (c == code "<") _ _ ReadAhead (λ _. less_read n s (c ∷ t) t) (λ _.
-    cond_both (c == code "'") _ _ ReadAhead (λ _. named_read s (group_name n (c ∷ t))) (λ _.
-    cond_both (c == code "P") _ _ ReadAhead (λ _. python_read n s (c ∷ t) t) (λ _.
-    cond_both (c == code "~") _ _ ReadAhead (λ _. absent_read n s t) (λ _.
-    cond_both (c == code ">") _ _ ReadAhead (λ _. tt) (λ _.
-    cond_both (c == code "(") _ _ ReadAhead (λ _. conditional_read n s t) (λ _. flags_read (letters n s.flags (c ∷ t))))))))))
-
-head_read : (n : ℕ) (s : State) (t : Text) → ReadAhead (head_ahead n s t)
-head_read n s [] = tt
-head_read n s (c ∷ t) =
-    cond_both (c == code "?") _ _ ReadAhead (λ _. question_read n s t) (λ _.
-    cond_both (c == code "*") _ _ ReadAhead (λ _. choose_makes ReadAhead (verb_at t) _ _ (λ p. (tt, refl, refl)) tt) (λ _. tt))
+group_read : (n : ℕ) (s : State) (t : Text) → ReadAhead (group_ahead n s t)
+group_read n s t =
+    choose_makes ReadAhead (strip_word (codes "?") t) _ _ (λ u. question_read n s u) (
+    choose_makes ReadAhead (strip_word (codes "*") t) _ _
+    (λ u. choose_makes ReadAhead (verb_at u) _ _ (λ p. (tt, refl, refl)) tt) tt)
 
 behind_read : (n : ℕ) (s : State) (k : Skipped) → ReadAhead (behind_layout n s k)
-behind_read n s (rest u) = head_read n s u
+behind_read n s (rest u) = group_read n s u
 behind_read n s (open_comment p) = tt
 
 leaf_read : (n : ℕ) (s : State) (c : ℕ) (t : Text) → Makes IsReadLeaf (leaf_of n s c t)

@@ -34,7 +34,7 @@ use Rattle.fancy_parts.specs.FlagLetters.{Letters, letters, setting, scope as sc
 use Rattle.fancy_parts.specs.Quantifier.{counts}
 use Rattle.fancy_parts.specs.declared.counts.Counts.{Counts}
 use Rattle.fancy_grammar.proofs.OutcomeLemmas.{behind_keeps}
-use Rattle.fancy_grammar.specs.Ahead.{Ahead, nothing, leaf, with_head, condition, body, absent_branch, ahead, ahead_of, behind_layout, head_ahead, question_ahead, python_ahead, less_ahead, absent_ahead, conditional_ahead, condition_ahead, flags_ahead, leaf_node, leaf_outcome, leaf_of, is_before_nothing, named_ahead, target_ahead, backref_node, call_node}
+use Rattle.fancy_grammar.specs.Ahead.{Ahead, nothing, leaf, with_head, condition, body, absent_branch, ahead, ahead_of, behind_layout, group_ahead, behind_question, condition_ahead, repeater_ahead, verb_ahead, flags_ahead, leaf_node, leaf_outcome, leaf_of, is_before_nothing, named_ahead, target_ahead, backref_node, call_node}
 use Rattle.fancy_grammar.specs.Depth.{max_depth}
 use Rattle.fancy_grammar.specs.Grammar.{Alternation, alternation, Branches, last, more, branch_fault, Branch, branch, Pieces, stop, next, piece_fault, Piece, piece, layout_fault, Atom, atom, AtomOf, a_nothing, a_leaf, a_group, a_condition, condition_fault, a_body, two_branches, one_branch, absent_fault, Inside, inside, Body, the_body, Whole, whole, start, closed, closed_at, ended, ended_at, branches_of, conditional_of, conditional_behind, is_condition, clear_or_stopper}
 use Rattle.fancy_grammar.specs.Head.{Head, capture, scope, look, atomic, define, repeater, group_node}
@@ -393,69 +393,71 @@ call_slice : (n : ℕ) (s z : State) (t : Text) (o : Reading referred_spec.Call)
 call_slice n s z t (gives c u) h (takes a) e = (referred _ h.0 (at_least_one a) e, omega (arith, h.1, takes_bytes a))
 call_slice n s z t (fails k) h (fails_at l) e = subst (MayStand n s.rest) (sym l) (stands_at h.0)
 
-condition_ahead_slice : (n : ℕ) (s z : State) (c : ℕ) (t : Text) → Past s (c ∷ t) → AheadSlice n s (condition_ahead n z c t)
-condition_ahead_slice n s z c t h =
+condition_ahead_slice : (n : ℕ) (s z : State) (t : Text) → Past s t → AheadSlice n s (condition_ahead n z t)
+condition_ahead_slice n s z [] h = stands_end s.rest
+condition_ahead_slice n s z (c ∷ t) h =
     cond_both (begins_target (c ∷ t)) _ _ (AheadSlice n s)
     (λ _. target_slice n s z (c ∷ t) (condition_target n (c ∷ t)) h (takes_condition_target n (c ∷ t)) (condition_target_at n (c ∷ t))) (λ _.
     cond_both (c == code "*") _ _ (AheadSlice n s)
-    (λ _. choose_both (AheadSlice n s) (verb_at t) _ _ (λ p e. verb_condition_slice p e) (stands_at h.0)) (λ _. h))
+    (λ e. choose_both (AheadSlice n s) (verb_at t) _ _ (λ p e. verb_condition_slice p e)
+    (subst (λ x. MayStand n s.rest (place_of n (x ∷ t))) (is_asterisk e) (stands_at h.0))) (λ _. h))
   where
+    is_asterisk : (c == code "*") ≡ true → c ≡ code "*"
+    is_asterisk e = grind (arith, nat_tests)
+
     verb_condition_slice : (p : BacktrackingControlVerb × Text) → verb_at t ≡ Some p →
         Span n [] s.rest p.1 × (bytes p.1 + 2 ≤ bytes s.rest)
     verb_condition_slice p e =
         let a = verb_rest t p e in (bare n (on (on h.0 (one c t)) a), omega (arith, h.1, one_bytes c t, fits a))
 
-conditional_ahead_slice : (n : ℕ) (s z : State) (t : Text) → Past s t → AheadSlice n s (conditional_ahead n z t)
-conditional_ahead_slice n s z [] h = stands_end s.rest
-conditional_ahead_slice n s z (c ∷ t) h =
-    choose_both (AheadSlice n s) (strip_word (codes "DEFINE)") (c ∷ t)) _ _ (λ u e. further s h (word_slice (codes "DEFINE)") (c ∷ t) u e)) (condition_ahead_slice n s z c t h)
+repeater_slice : (n : ℕ) (s z : State) (t : Text) → Past s t → AheadSlice n s (repeater_ahead n z t)
+repeater_slice n s z [] h = stands_end s.rest
+repeater_slice n s z (c ∷ t) h = h
 
-absent_ahead_slice : (n : ℕ) (s z : State) (t : Text) → Past s t → AheadSlice n s (absent_ahead n z t)
-absent_ahead_slice n s z [] h = stands_end s.rest
-absent_ahead_slice n s z (c ∷ t) h = cond_both (c == code "|") _ _ (AheadSlice n s) (λ _. further s h (one c t)) (λ _. h)
-
-less_ahead_slice : (n : ℕ) (s z : State) (m t : Text) → BehindMark n s m → Past s t → AheadSlice n s (less_ahead n z m t)
-less_ahead_slice n s z m [] k h = group_name_slice n s z m k
-less_ahead_slice n s z m (c ∷ t) k h =
-    cond_both (c == code "=") _ _ (AheadSlice n s) (λ _. further s h (one c t)) (λ _.
-    cond_both (c == code "!") _ _ (AheadSlice n s) (λ _. further s h (one c t)) (λ _. group_name_slice n s z m k))
-
-python_ahead_slice : (n : ℕ) (s z : State) (m t : Text) → BehindMark n s m → Past s t → AheadSlice n s (python_ahead n z m t)
-python_ahead_slice n s z m [] h k = letters_ahead_slice n s z m h.0
-python_ahead_slice n s z m (c ∷ t) h k =
-    let P = AheadSlice n s in let more = further s k (one c t) in
-    cond_both (c == code "<") _ _ P (λ _. group_name_slice n s z m h) (λ _.
-    cond_both (c == code "=") _ _ P
-    (λ _. backref_slice n s z z.flags.casei t (named_reference n t) more (takes_named_reference n t) (named_reference_at n t)) (λ _.
-    cond_both (c == code ">") _ _ P
-    (λ _. call_slice n s z t (named_call n t) more (takes_named_call n t) (named_call_at n t)) (λ _. letters_ahead_slice n s z m h.0)))
-
-question_slice : (n : ℕ) (s z : State) (t : Text) → BehindMark n s t → AheadSlice n s (question_ahead n z t)
-question_slice n s z [] h = letters_ahead_slice n s z [] h.0
-question_slice n s z (c ∷ t) h =
-    let more = further s h.0 (one c t) in let P = AheadSlice n s in
-    cond_both (c == code "=") _ _ P (λ _. more) (λ _.
-    cond_both (c == code "!") _ _ P (λ _. more) (λ _.
-    cond_both (c == code "<") _ _ P (λ _. less_ahead_slice n s z (c ∷ t) t h more) (λ _.
-    cond_both (c == code "'") _ _ P (λ _. group_name_slice n s z (c ∷ t) h) (λ _.
-    cond_both (c == code "P") _ _ P (λ _. python_ahead_slice n s z (c ∷ t) t h more) (λ _.
-    cond_both (c == code "~") _ _ P (λ _. absent_ahead_slice n s z t more) (λ _.
-    cond_both (c == code ">") _ _ P (λ _. more) (λ _.
-    cond_both (c == code "(") _ _ P (λ _. conditional_ahead_slice n s z t more) (λ _. letters_ahead_slice n s z (c ∷ t) h.0))))))))
-
-head_slice : (n : ℕ) (s z : State) (t : Text) → Past s t → AheadSlice n s (head_ahead n z t)
-head_slice n s z [] h = h
-head_slice n s z (c ∷ t) h =
-    cond_both (c == code "?") _ _ (AheadSlice n s)
-    (λ e. question_slice n s z t (further s h (one c t), stands_before (is_question_mark e) h.0)) (λ _.
-    cond_both (c == code "*") _ _ (AheadSlice n s)
-    (λ _. choose_both (AheadSlice n s) (verb_at t) _ _ (λ p e. leaf_past n s (verb_past s t p (further s h (one c t)) e)) (stands_at h.0)) (λ _. h))
+question_slice : (n : ℕ) (s z : State) (t : Text) → BehindMark n s t → AheadSlice n s (behind_question n z t)
+question_slice n s z t h =
+    let P = AheadSlice n s in
+    choose_both P (strip_word (codes "=") t) _ _ (behind (codes "=")) (
+    choose_both P (strip_word (codes "!") t) _ _ (behind (codes "!")) (
+    choose_both P (strip_word (codes "<=") t) _ _ (behind (codes "<=")) (
+    choose_both P (strip_word (codes "<!") t) _ _ (behind (codes "<!")) (
+    choose_both P (strip_word (codes ">") t) _ _ (behind (codes ">")) (
+    choose_both P (strip_word (codes "(DEFINE)") t) _ _ (behind (codes "(DEFINE)")) (
+    choose_both P (strip_word (codes "(") t) _ _ (λ u e. condition_ahead_slice n s z u (behind (codes "(") u e)) (
+    choose_both P (strip_word (codes "~|") t) _ _ (behind (codes "~|")) (
+    choose_both P (strip_word (codes "~") t) _ _ (λ u e. repeater_slice n s z u (behind (codes "~") u e)) (
+    choose_both P (strip_word (codes "<") t) _ _ (λ u e. group_name_slice n s z t h) (
+    choose_both P (strip_word (codes "'") t) _ _ (λ u e. group_name_slice n s z t h) (
+    choose_both P (strip_word (codes "P<") t) _ _ (λ u e. group_name_slice n s z t h) (
+    choose_both P (strip_word (codes "P=") t) _ _
+    (λ u e. backref_slice n s z z.flags.casei u (named_reference n u) (behind (codes "P=") u e) (takes_named_reference n u) (named_reference_at n u)) (
+    choose_both P (strip_word (codes "P>") t) _ _
+    (λ u e. call_slice n s z u (named_call n u) (behind (codes "P>") u e) (takes_named_call n u) (named_call_at n u))
+    (letters_ahead_slice n s z t h.0))))))))))))))
   where
-    is_question_mark : (c == code "?") ≡ true → c < 128
-    is_question_mark e = grind (arith, nat_tests)
+    behind : (w u : Text) → strip_word w t ≡ Some u → Past s u
+    behind w u e = further s h.0 (word_slice w t u e)
+
+group_slice : (n : ℕ) (s z : State) (t : Text) → Past s t → AheadSlice n s (group_ahead n z t)
+group_slice n s z t h =
+    choose_both (AheadSlice n s) (strip_word (codes "?") t) _ _ marked (
+    choose_both (AheadSlice n s) (strip_word (codes "*") t) _ _ starred h)
+  where
+    behind : (w u : Text) → strip_word w t ≡ Some u → Past s u
+    behind w u e = further s h (word_slice w t u e)
+
+    marked : (u : Text) → strip_word (codes "?") t ≡ Some u → AheadSlice n s (behind_question n z u)
+    marked u e =
+        let cut : Slice s.rest (code "?" ∷ u) = subst (Slice s.rest) (strip_word_is (codes "?") t u e) h.0 in
+        question_slice n s z u (behind (codes "?") u e, stands_before (omega arith) cut)
+
+    starred : (u : Text) → strip_word (codes "*") t ≡ Some u → AheadSlice n s (verb_ahead n z u)
+    starred u e =
+        let cut : Slice s.rest (code "*" ∷ u) = subst (Slice s.rest) (strip_word_is (codes "*") t u e) h.0 in
+        choose_both (AheadSlice n s) (verb_at u) _ _ (λ p i. leaf_past n s (verb_past s u p (behind (codes "*") u e) i)) (stands_at cut)
 
 behind_slice : (n : ℕ) (s z : State) (t : Text) (k : Skipped) → Past s t → SkippedSlice n t k → AheadSlice n s (behind_layout n z k)
-behind_slice n s z t (rest u) h i = head_slice n s z u (further s h i)
+behind_slice n s z t (rest u) h i = group_slice n s z u (further s h i)
 behind_slice n s z t (open_comment p) h i = stands_in h.0 i
 
 -- what an escape stands for, behind a first character

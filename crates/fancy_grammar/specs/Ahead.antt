@@ -111,73 +111,57 @@ flags_ahead (gives (setting f) u) = leaf (done empty (record { flags = f; rest =
 flags_ahead (gives (scoped f) u) = with_head scope (record { flags = f; rest = u })
 flags_ahead (fails e) = faulty e
 
--- a verb, whose name and closing parenthesis stand behind the asterisk at the front
-abbrev pub verb_ahead : ℕ → State → ℕ → Text → Ahead
-verb_ahead n s c t = choose (verb_at t) (λ p. leaf (done (verb p.0) (at s p.1))) (faulty (unknown_verb n (c ∷ t)))
+-- a verb, whose name and closing parenthesis stand behind its asterisk
+abbrev pub verb_ahead : ℕ → State → Text → Ahead
+verb_ahead n s t =
+    choose (verb_at t) (λ p. leaf (done (verb p.0) (at s p.1))) (faulty (unknown_verb n (code "*" ∷ t)))
 
--- a verb as the condition of a conditional
-abbrev pub verb_condition : ℕ → State → ℕ → Text → Ahead
-verb_condition n s c t = choose (verb_at t) (λ p. body (verb p.0) (at s p.1)) (faulty (unknown_verb n (c ∷ t)))
+-- a verb as the condition of a conditional, behind its asterisk
+abbrev pub verb_condition : ℕ → State → Text → Ahead
+verb_condition n s t =
+    choose (verb_at t) (λ p. body (verb p.0) (at s p.1)) (faulty (unknown_verb n (code "*" ∷ t)))
 
--- the condition of a conditional: a target, a verb, or an alternation
-abbrev pub condition_ahead : ℕ → State → ℕ → Text → Ahead
-condition_ahead n s c t =
+-- behind `(?(`, where more text is due: a condition, which is a target, a verb, or an alternation
+abbrev pub condition_ahead : ℕ → State → Text → Ahead
+condition_ahead n s [] = faulty (group_not_closed n)
+condition_ahead n s (c ∷ t) =
     if begins_target (c ∷ t) then target_ahead s (condition_target n (c ∷ t))
-    else if c == code "*" then verb_condition n s c t
+    else if c == code "*" then verb_condition n s t
     else condition (at s (c ∷ t))
 
--- behind `(?(`, where more text is due
-abbrev pub conditional_ahead : ℕ → State → Text → Ahead
-conditional_ahead n s [] = faulty (group_not_closed n)
-conditional_ahead n s (c ∷ t) =
-    choose (strip_word (codes "DEFINE)") (c ∷ t)) (λ u. with_head define (at s u)) (condition_ahead n s c t)
+-- behind `(?~`, where more text is due: an alternation
+abbrev pub repeater_ahead : ℕ → State → Text → Ahead
+repeater_ahead n s [] = faulty (group_not_closed n)
+repeater_ahead n s (c ∷ t) = with_head repeater (at s (c ∷ t))
 
--- behind `(?~`, where more text is due: a bar, or an alternation
-abbrev pub absent_ahead : ℕ → State → Text → Ahead
-absent_ahead n s [] = faulty (group_not_closed n)
-absent_ahead n s (c ∷ t) = if c == code "|" then absent_branch (at s t) else with_head repeater (at s (c ∷ t))
+-- behind the question mark of a group's head: the first row whose word stands there, or else letters of flags
+abbrev pub behind_question : ℕ → State → Text → Ahead
+behind_question n s t =
+    choose (strip_word (codes "=") t) (λ u. with_head (look LookAhead) (at s u)) (
+    choose (strip_word (codes "!") t) (λ u. with_head (look LookAheadNeg) (at s u)) (
+    choose (strip_word (codes "<=") t) (λ u. with_head (look LookBehind) (at s u)) (
+    choose (strip_word (codes "<!") t) (λ u. with_head (look LookBehindNeg) (at s u)) (
+    choose (strip_word (codes ">") t) (λ u. with_head atomic (at s u)) (
+    choose (strip_word (codes "(DEFINE)") t) (λ u. with_head define (at s u)) (
+    choose (strip_word (codes "(") t) (λ u. condition_ahead n s u) (
+    choose (strip_word (codes "~|") t) (λ u. absent_branch (at s u)) (
+    choose (strip_word (codes "~") t) (λ u. repeater_ahead n s u) (
+    choose (strip_word (codes "<") t) (λ u. named_ahead s (group_name n t)) (
+    choose (strip_word (codes "'") t) (λ u. named_ahead s (group_name n t)) (
+    choose (strip_word (codes "P<") t) (λ u. named_ahead s (group_name n t)) (
+    choose (strip_word (codes "P=") t) (λ u. leaf (leaf_outcome (backref_node s.flags.casei) s (named_reference n u))) (
+    choose (strip_word (codes "P>") t) (λ u. leaf (leaf_outcome call_node s (named_call n u)))
+    (flags_ahead (letters n s.flags t)))))))))))))))
 
--- behind `(?<`, which begins at m: look-behind, or a name
-abbrev pub less_ahead : ℕ → State → Text → Text → Ahead
-less_ahead n s m [] = named_ahead s (group_name n m)
-less_ahead n s m (c ∷ t) =
-    if c == code "=" then with_head (look LookBehind) (at s t)
-    else if c == code "!" then with_head (look LookBehindNeg) (at s t)
-    else named_ahead s (group_name n m)
-
--- behind `(?P`, which begins at m: a name, a reference, a call, or letters of flags
-abbrev pub python_ahead : ℕ → State → Text → Text → Ahead
-python_ahead n s m [] = flags_ahead (letters n s.flags m)
-python_ahead n s m (c ∷ t) =
-    if c == code "<" then named_ahead s (group_name n m)
-    else if c == code "=" then leaf (leaf_outcome (backref_node s.flags.casei) s (named_reference n t))
-    else if c == code ">" then leaf (leaf_outcome call_node s (named_call n t))
-    else flags_ahead (letters n s.flags m)
-
--- behind the question mark of a group's head
-abbrev pub question_ahead : ℕ → State → Text → Ahead
-question_ahead n s [] = flags_ahead (letters n s.flags [])
-question_ahead n s (c ∷ t) =
-    if c == code "=" then with_head (look LookAhead) (at s t)
-    else if c == code "!" then with_head (look LookAheadNeg) (at s t)
-    else if c == code "<" then less_ahead n s (c ∷ t) t
-    else if c == code "'" then named_ahead s (group_name n (c ∷ t))
-    else if c == code "P" then python_ahead n s (c ∷ t) t
-    else if c == code "~" then absent_ahead n s t
-    else if c == code ">" then with_head atomic (at s t)
-    else if c == code "(" then conditional_ahead n s t
-    else flags_ahead (letters n s.flags (c ∷ t))
-
--- behind the parenthesis and layout: the head of the group, if it has one
-abbrev pub head_ahead : ℕ → State → Text → Ahead
-head_ahead n s [] = with_head (capture None) (at s [])
-head_ahead n s (c ∷ t) =
-    if c == code "?" then question_ahead n s t
-    else if c == code "*" then verb_ahead n s c t
-    else with_head (capture None) (at s (c ∷ t))
+-- behind the parenthesis and layout: a head, a verb, or a capturing group without a name
+abbrev pub group_ahead : ℕ → State → Text → Ahead
+group_ahead n s t =
+    choose (strip_word (codes "?") t) (λ u. behind_question n s u) (
+    choose (strip_word (codes "*") t) (λ u. verb_ahead n s u)
+    (with_head (capture None) (at s t)))
 
 abbrev pub behind_layout : ℕ → State → Skipped → Ahead
-behind_layout n s (rest u) = head_ahead n s u
+behind_layout n s (rest u) = group_ahead n s u
 behind_layout n s (open_comment p) = faulty (comment_not_closed p)
 
 -- what stands before an atom in a pattern of n bytes, inside d groups

@@ -18,7 +18,7 @@ use Rattle.fancy_parts.specs.Ranks.{Opening}
 use Rattle.fancy_parts.specs.declared.counts.Counts.{Counts}
 use Rattle.fancy_parts.proofs.FlagLemmas.{letters_start, in_end, in_go}
 use Rattle.fancy_grammar.specs.State as states
-use Rattle.fancy_grammar.specs.Ahead.{Ahead, leaf, with_head, ahead, is_before_nothing, flags_ahead, question_ahead, head_ahead, behind_layout, leaf_of, leaf_node, leaf_outcome}
+use Rattle.fancy_grammar.specs.Ahead.{Ahead, leaf, with_head, ahead, is_before_nothing, flags_ahead, behind_question, group_ahead, behind_layout, leaf_of, leaf_node, leaf_outcome}
 use Rattle.fancy_grammar.specs.Depth.{max_depth}
 use Rattle.fancy_grammar.specs.Grammar.{Alternation, alternation, Branches, last, more, branch_fault, Branch, branch, Pieces, stop, next, piece_fault, Piece, piece, Atom, atom, a_leaf, a_group, inside, Derives, Faults, whole}
 use Rattle.fancy_grammar.specs.Head.{Head, capture, scope}
@@ -363,28 +363,13 @@ not_deep : (d : ℕ) → d + 1 < max_depth → nat_le max_depth (d + 1) ≡ fals
 not_deep d h = grind (arith, nat_tests)
 
 head_at : (n d : ℕ) (f : Flags) (t : Text) → Kept f → d + 1 < max_depth → after_comment_head t ≡ None →
-    ahead n d (st f (code "(" ∷ t)) ≡ head_ahead n (st f (code "(" ∷ t)) t
+    ahead n d (st f (code "(" ∷ t)) ≡ group_ahead n (st f (code "(" ∷ t)) t
 unfolding ahead
 head_at n d f t k l o = cond-false _ _ _ (not_deep d l) ∙ ap (behind_layout n (st f (code "(" ∷ t))) (skip_here n f t k o)
 
-some_none : {X : Type 0} (w : Text) → Some w ≡ None → X
-some_none w e = absurd cc
-
 -- no head
-head_group : (n : ℕ) (f : Flags) (s t : Text) → Clear t → head_ahead n (st f s) t ≡ with_head (capture None) (st f t)
-head_group n f s [] c = refl
-head_group n f s (x ∷ t) c = by_tests (clear_lazy (x ∷ t) c) (clear_star (x ∷ t) c)
-  where
-    by_cases : (a b : Bool) (p q : Ahead) (w : Text) → (if a then Some w else None) ≡ None →
-        (if b then Some w else None) ≡ None →
-        (if a then p else if b then q else with_head (capture None) (st f (x ∷ t))) ≡ with_head (capture None) (st f (x ∷ t))
-    by_cases true b p q w e g = some_none w e
-    by_cases false true p q w e g = some_none w g
-    by_cases false false p q w e g = refl
-
-    by_tests : strip (code "?") (x ∷ t) ≡ None → strip (code "*") (x ∷ t) ≡ None →
-        head_ahead n (st f s) (x ∷ t) ≡ with_head (capture None) (st f (x ∷ t))
-    by_tests a b = by_cases (x == code "?") (x == code "*") _ _ t a b
+head_group : (n : ℕ) (f : Flags) (s t : Text) → Clear t → group_ahead n (st f s) t ≡ with_head (capture None) (st f t)
+head_group n f s t c = rw (clear_lazy t c, clear_star t c) refl
 
 group_at : (n d : ℕ) (f : Flags) (s : Text) → Kept f → d + 1 < max_depth → Clear s →
     ahead n d (st f (code "(" ∷ s)) ≡ with_head (capture None) (st f s)
@@ -401,7 +386,7 @@ reads_group n d f s v x k l c w = record {
 
 -- a group of flags, whose letters begin with one that begins no other head
 pub scope_at : (n d : ℕ) (f g : Flags) (t u : Text) → Kept f → d + 1 < max_depth → after_comment_head (code "?" ∷ t) ≡ None →
-    question_ahead n (st f (code "(" ∷ code "?" ∷ t)) t ≡ flags_ahead (letters.letters n f t) →
+    behind_question n (st f (code "(" ∷ code "?" ∷ t)) t ≡ flags_ahead (letters.letters n f t) →
     letters.letters n f t ≡ gives (letters.scope g) u → ahead n d (st f (code "(" ∷ code "?" ∷ t)) ≡ with_head scope (st g u)
 scope_at n d f g t u k l o q e = head_at n d f (code "?" ∷ t) k l o ∙ q ∙ ap flags_ahead e
 
