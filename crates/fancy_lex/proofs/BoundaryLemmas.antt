@@ -1,5 +1,6 @@
 -- One step of a boundary's name.
-use Rattle.std.proofs.Common.{◌≡◌, ◌≢◌, ℕ, zero, suc, pred, ◌<◌, ◌≤◌, Bool, false, ◌==◌, [], ◌∷◌, ◌++◌, length, codes, Option, Some, None, option_map, refl, ap, sym, ◌∙◌, append_assoc, arith}
+use Rattle.std.proofs.Common.{◌≡◌, ◌≢◌, ℕ, zero, suc, pred, ◌<◌, ◌≤◌, Bool, false, ◌==◌, [], ◌∷◌, ◌++◌, length, codes}
+use Rattle.std.proofs.Common.{Option, Some, None, option_map, refl, ap, sym, ◌∙◌, append_assoc, arith}
 use Rattle.std.proofs.lemmas.Bool.Decides.{nat_tests}
 use Rattle.fancy_lex.specs.declared.error.Error.{Error}
 use Rattle.fancy_lex.specs.declared.error.Error.TheVariants.{ParseError, OutOfMemory}
@@ -12,7 +13,8 @@ use Rattle.fancy_lex.specs.Layout.{Skipped, rest, fault, rest_of, layout}
 use Rattle.fancy_lex.specs.Text.{Text, strip}
 use Rattle.fancy_lex.proofs.LayoutLaws.{layout_length}
 use Rattle.fancy_lex.specs.BoundaryName.{after_name, known_boundary, name_fault_behind, name_fault}
-use Rattle.fancy_lex.specs.declared.escape.Assertion.TheVariants.{LeftWordBoundary, RightWordBoundary, LeftWordHalfBoundary, RightWordHalfBoundary}
+use Rattle.fancy_lex.specs.declared.escape.Assertion.TheVariants.{LeftWordBoundary, RightWordBoundary}
+use Rattle.fancy_lex.specs.declared.escape.Assertion.TheVariants.{LeftWordHalfBoundary, RightWordHalfBoundary}
 
 -- no word is spelled where a comment is open
 pub after_name_open : (n : ℕ) (x : Bool) (word t : Text) → rest_of (layout n x t) ≡ None → after_name n x word t ≡ None
@@ -21,15 +23,18 @@ after_name_open n x [] t e = rw e refl
 after_name_open n x (c ∷ w) t e = rw e refl
 
 module _ (n : ℕ) (x : Bool) (word t : Text) where
-  pub after_name_end : (u : Text) → word ≡ [] → rest_of (layout n x t) ≡ Some u → after_name n x word t ≡ strip close_brace u
+  pub after_name_end : (u : Text) → word ≡ [] → rest_of (layout n x t) ≡ Some u →
+      after_name n x word t ≡ strip close_brace u
   unfolding after_name
   after_name_end u z e = rw (z, after_name, e) refl
 
-  pub after_name_step : (c : ℕ) (w u r : Text) → word ≡ c ∷ w → rest_of (layout n x t) ≡ Some u → strip c u ≡ Some r → after_name n x word t ≡ after_name n x w r
+  pub after_name_step : (c : ℕ) (w u r : Text) → word ≡ c ∷ w → rest_of (layout n x t) ≡ Some u → strip c u ≡ Some r →
+      after_name n x word t ≡ after_name n x w r
   unfolding after_name
   after_name_step c w u r z e s = rw (z, after_name, e, s) refl
 
-  pub after_name_other : (c : ℕ) (w u : Text) → word ≡ c ∷ w → rest_of (layout n x t) ≡ Some u → strip c u ≡ None → after_name n x word t ≡ None
+  pub after_name_other : (c : ℕ) (w u : Text) → word ≡ c ∷ w → rest_of (layout n x t) ≡ Some u → strip c u ≡ None →
+      after_name n x word t ≡ None
   unfolding after_name
   after_name_other c w u z e s = rw (z, after_name, e, s) refl
 
@@ -37,19 +42,24 @@ pub ruleset after_name_steps = (after_name_open, after_name_end, after_name_step
 
 -- the names, by the words that are spelled
 module _ (n : ℕ) (x : Bool) (t : Text) where
-  pub name_start : (v : Text) → after_name n x (codes "start") t ≡ Some v → known_boundary n x t ≡ Some (LeftWordBoundary, v)
+  pub name_start : (v : Text) → after_name n x (codes "start") t ≡ Some v →
+      known_boundary n x t ≡ Some (LeftWordBoundary, v)
   unfolding known_boundary
   name_start v a = rw a refl
 
-  pub name_end : (v : Text) → after_name n x (codes "start") t ≡ None → after_name n x (codes "end") t ≡ Some v → known_boundary n x t ≡ Some (RightWordBoundary, v)
+  pub name_end : (v : Text) → after_name n x (codes "start") t ≡ None → after_name n x (codes "end") t ≡ Some v →
+      known_boundary n x t ≡ Some (RightWordBoundary, v)
   unfolding known_boundary
   name_end v a b = rw (a, b) refl
 
-  pub name_start_half : (v : Text) → after_name n x (codes "start") t ≡ None → after_name n x (codes "end") t ≡ None → after_name n x (codes "start-half") t ≡ Some v → known_boundary n x t ≡ Some (LeftWordHalfBoundary, v)
+  pub name_start_half : (v : Text) → after_name n x (codes "start") t ≡ None → after_name n x (codes "end") t ≡ None →
+      after_name n x (codes "start-half") t ≡ Some v → known_boundary n x t ≡ Some (LeftWordHalfBoundary, v)
   unfolding known_boundary
   name_start_half v a b d = rw (a, b, d) refl
 
-  pub name_end_half : (o : Option Text) → after_name n x (codes "start") t ≡ None → after_name n x (codes "end") t ≡ None → after_name n x (codes "start-half") t ≡ None → after_name n x (codes "end-half") t ≡ o → known_boundary n x t ≡ option_map (λ v. (RightWordHalfBoundary, v)) o
+  pub name_end_half : (o : Option Text) → after_name n x (codes "start") t ≡ None →
+      after_name n x (codes "end") t ≡ None → after_name n x (codes "start-half") t ≡ None →
+      after_name n x (codes "end-half") t ≡ o → known_boundary n x t ≡ option_map (λ v. (RightWordHalfBoundary, v)) o
   unfolding known_boundary
   name_end_half o a b d e = rw (a, b, d, e) refl
 
@@ -59,49 +69,59 @@ rest_from_reading (rest v) u e = cc
 rest_from_reading (fault p) u e = cc
 
 -- the name behind one more character
-longer : {B : Type 0} (o : Reading Text) (f : Text → Reading B) (c : ℕ) → (o >=> (λ w v. gives (c ∷ w) v) >=> (λ w v. f w)) ≡ (o >=> (λ w v. f (c ∷ w)))
+longer : {B : Type 0} (o : Reading Text) (f : Text → Reading B) (c : ℕ) →
+    (o >=> (λ w v. gives (c ∷ w) v) >=> (λ w v. f w)) ≡ (o >=> (λ w v. f (c ∷ w)))
 longer (gives w v) f c = refl
 longer (fails e) f c = refl
 
-same_after : {B : Type 0} (o : Reading Text) (f g : Text → Reading B) → ((w : Text) → f w ≡ g w) → (o >=> (λ w v. f w)) ≡ (o >=> (λ w v. g w))
+same_after : {B : Type 0} (o : Reading Text) (f g : Text → Reading B) → ((w : Text) → f w ≡ g w) →
+    (o >=> (λ w v. f w)) ≡ (o >=> (λ w v. g w))
 same_after (gives w v) f g h = h w
 same_after (fails e) f g h = refl
 
 -- one step of the name that a fault tells
 module _ (n : ℕ) (x : Bool) (p : ℕ) (out t : Text) where
-  pub name_fault_open : (k : ℕ) (b : Error) → 0 < k → Says b (layout_reading (layout n x t)) → Reports b (name_fault_behind n x p out k t)
+  pub name_fault_open : (k : ℕ) (b : Error) → 0 < k → Says b (layout_reading (layout n x t)) →
+      Reports b (name_fault_behind n x p out k t)
   unfolding name_fault_behind name
   name_fault_open zero b l e = absurd (omega arith)
   name_fault_open (suc k) (ParseError q d) l e = rw e refl
   name_fault_open (suc k) OutOfMemory l e = absurd e
 
-  pub name_fault_end : (k : ℕ) (u : Text) → layout_reading (layout n x t) ≡ gives tt u → u ≡ [] → name_fault_behind n x p out k t ≡ fault_at p (invalid_escape (codes "\\b{...}"))
+  pub name_fault_end : (k : ℕ) (u : Text) → layout_reading (layout n x t) ≡ gives tt u → u ≡ [] →
+      name_fault_behind n x p out k t ≡ fault_at p (invalid_escape (codes "\\b{...}"))
   unfolding name_fault_behind name
   name_fault_end zero u e z = refl
   name_fault_end (suc k) u e z = rw (e, z) refl
 
   module _ (u : Text) (e : layout_reading (layout n x t) ≡ gives tt u) (c : ℕ) (r : Text) (q : u ≡ c ∷ r) where
-    pub name_fault_close : (k : ℕ) (o : Text) → 0 < k → c ≡ close_brace → o ≡ out ++ c ∷ [] → name_fault_behind n x p out k t ≡ fault_at p (invalid_escape o)
+    pub name_fault_close : (k : ℕ) (o : Text) → 0 < k → c ≡ close_brace → o ≡ out ++ c ∷ [] →
+        name_fault_behind n x p out k t ≡ fault_at p (invalid_escape o)
     unfolding name_fault_behind name
     name_fault_close zero o l h s = absurd (omega arith)
     name_fault_close (suc k) o l h s = rw (e, q, s, h) refl
 
-    pub name_fault_step : (k : ℕ) (o : Text) → 0 < k → c ≢ close_brace → o ≡ out ++ c ∷ [] → name_fault_behind n x p out k t ≡ name_fault_behind n x p o (pred k) r
+    pub name_fault_step : (k : ℕ) (o : Text) → 0 < k → c ≢ close_brace → o ≡ out ++ c ∷ [] →
+        name_fault_behind n x p out k t ≡ name_fault_behind n x p o (pred k) r
     unfolding name_fault_behind name
     name_fault_step zero o l h s = absurd (omega arith)
     name_fault_step (suc k) o l h s =
         let other : (c == close_brace) ≡ false = grind (arith, nat_tests) in
         rw (e, q, other, s)
         (longer (name n x p k r) (λ w. fault_at p (invalid_escape (out ++ (w ++ codes "}")))) c
-        ∙ same_after (name n x p k r) _ _ (λ w. ap (λ s. fault_at p (invalid_escape s)) (sym (append_assoc out (c ∷ []) (w ++ codes "}")))))
+        ∙ same_after (name n x p k r) _ _
+        (λ w. ap (λ s. fault_at p (invalid_escape s)) (sym (append_assoc out (c ∷ []) (w ++ codes "}")))))
 
-pub name_fault_from : (n : ℕ) (x : Bool) (p : ℕ) (negated : Bool) (out t : Text) → out ≡ boundary_head negated → name_fault n x p negated t ≡ name_fault_behind n x p out (suc (length t)) t
+pub name_fault_from : (n : ℕ) (x : Bool) (p : ℕ) (negated : Bool) (out t : Text) → out ≡ boundary_head negated →
+    name_fault n x p negated t ≡ name_fault_behind n x p out (suc (length t)) t
 unfolding name_fault
 name_fault_from n x p negated out t e = ap (λ o. name_fault_behind n x p o (suc (length t)) t) (sym e)
 
 -- a step leaves less of the text
-pub step_length : (n : ℕ) (x : Bool) (t u r : Text) (c k : ℕ) → layout_reading (layout n x t) ≡ gives tt u → u ≡ c ∷ r → length t < k → length r < pred k
-step_length n x t u r c k e q m = let short = layout_length n x t u (rest_from_reading _ u e) in shorter k (ap length q) short m where
-  shorter : (k : ℕ) → length u ≡ suc (length r) → length u ≤ length t → length t < k → length r < pred k
-  shorter zero a b m = absurd (omega arith)
-  shorter (suc k) a b m = omega arith
+pub step_length : (n : ℕ) (x : Bool) (t u r : Text) (c k : ℕ) → layout_reading (layout n x t) ≡ gives tt u → u ≡ c ∷ r →
+    length t < k → length r < pred k
+step_length n x t u r c k e q m = let short = layout_length n x t u (rest_from_reading _ u e) in
+    shorter k (ap length q) short m where
+      shorter : (k : ℕ) → length u ≡ suc (length r) → length u ≤ length t → length t < k → length r < pred k
+      shorter zero a b m = absurd (omega arith)
+      shorter (suc k) a b m = omega arith

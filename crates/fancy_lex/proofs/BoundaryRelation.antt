@@ -1,11 +1,14 @@
 -- A boundary's relation holds of exactly what the function answers.
-use Rattle.std.proofs.Common.{◌≡◌, ◌≢◌, ℕ, zero, suc, ◌<◌, Bool, true, false, ◌==◌, [], ◌∷◌, length, List, Result, Option, Some, None, refl, ap, ◌∙◌, subst, arith}
+use Rattle.std.proofs.Common.{◌≡◌, ◌≢◌, ℕ, zero, suc, ◌<◌, Bool, true, false, ◌==◌, [], ◌∷◌, length, List, Result}
+use Rattle.std.proofs.Common.{Option, Some, None, refl, ap, ◌∙◌, subst, arith}
 use Rattle.std.proofs.lemmas.Bool.Decides.{nat_tests}
 use Rattle.std.specs.Borrow.{Bor}
 use Rattle.fancy_lex.specs.declared.error.Error.{Error}
 use Rattle.fancy_lex.specs.declared.escape.Assertion.{Assertion}
 use Rattle.fancy_lex.specs.declared.escape.Escaped.{Escaped}
-use Rattle.fancy_lex.specs.Boundary.{boundary_of_name, unnamed_boundary, at_count, name, named_boundary, boundary, BracedName, close, character, open_layout, no_end, fault_behind, Braces, Boundary, no_brace, count, known, unknown, name_fault, open_before, open_inside}
+use Rattle.fancy_lex.specs.Boundary.{boundary_of_name, unnamed_boundary, at_count, name, named_boundary, boundary}
+use Rattle.fancy_lex.specs.Boundary.{BracedName, close, character, open_layout, no_end, fault_behind, Braces, Boundary}
+use Rattle.fancy_lex.specs.Boundary.{no_brace, count, known, unknown, name_fault, open_before, open_inside}
 use Rattle.fancy_lex.specs.Characters.{open_brace, close_brace}
 use Rattle.fancy_lex.specs.Escaped.{Escape, assertion, escape_of}
 use Rattle.fancy_lex.specs.Fault.{Fault}
@@ -36,11 +39,13 @@ module _ (n : ℕ) (x : Bool) (p : ℕ) where
   named_more c t u d b (gives w v) h = character d b h
   named_more c t u d b (fails e) h = fault_behind d b h
 
-  module _ (k : ℕ) (more : (u : Text) → length u < k → BracedName n x p u (name n x p k u)) (t : Text) (few : length t < suc k) where
+  module _ (k : ℕ) (more : (u : Text) → length u < k → BracedName n x p u (name n x p k u)) (t : Text)
+      (few : length t < suc k) where
     named_rest : (c : ℕ) (u : Text) → layout n x t ≡ rest (c ∷ u) → (b : Bool) → (c == close_brace) ≡ b →
         BracedName n x p t (name n x p (suc k) t)
     named_rest c u e true h =
-        rw (name_close n x p k t c u e h) (close (subst (λ d. Before x t (d ∷ u)) (brace_is c h) (layout_sound n x t (c ∷ u) e)))
+        rw (name_close n x p k t c u e h)
+        (close (subst (λ d. Before x t (d ∷ u)) (brace_is c h) (layout_sound n x t (c ∷ u) e)))
     named_rest c u e false h =
         let short = layout_length n x t (c ∷ u) e in
         rw (name_step n x p k t c u e h)
@@ -62,13 +67,15 @@ module _ (n : ℕ) (x : Bool) (p : ℕ) where
   name_is (suc k) {t} (character {c} {u} {v} {w} d b h) l =
       let e = layout_complete n x t _ b in
       let short = layout_length n x t (c ∷ u) e in
-      name_step n x p k t c u e (brace_is_not c d) ∙ ap (λ o. o >=> (λ w v. gives (c ∷ w) v)) (name_is k h (omega arith))
+      name_step n x p k t c u e (brace_is_not c d)
+      ∙ ap (λ o. o >=> (λ w v. gives (c ∷ w) v)) (name_is k h (omega arith))
   name_is (suc k) {t} (open_layout {q} b) l = name_open n x p k t q (unclosed_complete n x t q b)
   name_is (suc k) {t} (no_end b) l = name_unclosed n x p k t (layout_complete n x t [] b)
   name_is (suc k) {t} (fault_behind {c} {u} {e} d b h) l =
       let i = layout_complete n x t _ b in
       let short = layout_length n x t (c ∷ u) i in
-      name_step n x p k t c u i (brace_is_not c d) ∙ ap (λ o. o >=> (λ w v. gives (c ∷ w) v)) (name_is k h (omega arith))
+      name_step n x p k t c u i (brace_is_not c d)
+      ∙ ap (λ o. o >=> (λ w v. gives (c ∷ w) v)) (name_is k h (omega arith))
 
 -- ---- the boundary behind its letter
 
@@ -82,7 +89,8 @@ module _ (n : ℕ) (x : Bool) (p : ℕ) (negated : Bool) where
   unfolding boundary
   answer_no_brace t u e s = rw (e, s) refl
 
-  answer_inside : (t u i : Text) (q : ℕ) → layout n x t ≡ rest u → strip open_brace u ≡ Some i → layout n x i ≡ fault q →
+  answer_inside : (t u i : Text) (q : ℕ) → layout n x t ≡ rest u → strip open_brace u ≡ Some i →
+      layout n x i ≡ fault q →
       boundary n x p negated t ≡ fails (comment_not_closed q)
   unfolding boundary
   answer_inside t u i q e s l = rw (e, s, l) refl
@@ -97,7 +105,8 @@ module _ (n : ℕ) (x : Bool) (p : ℕ) (negated : Bool) where
   unfolding boundary
   answer_named t u i v e s l c = rw (e, s, l, c) refl
 
-  answer_known : (i w v : Text) (a : Assertion) → name n x p (suc (length i)) i ≡ gives w v → boundary_of_name negated w ≡ Some a →
+  answer_known : (i w v : Text) (a : Assertion) → name n x p (suc (length i)) i ≡ gives w v →
+      boundary_of_name negated w ≡ Some a →
       named_boundary n x p negated i ≡ gives (assertion a) v
   unfolding named_boundary
   answer_known i w v a e b = rw (e, b) refl
@@ -107,16 +116,19 @@ module _ (n : ℕ) (x : Bool) (p : ℕ) (negated : Bool) where
   unfolding named_boundary
   answer_unknown i w v e b = rw (e, b) refl
 
-  answer_not_read : (i : Text) (f : Fault) → name n x p (suc (length i)) i ≡ fails f → named_boundary n x p negated i ≡ fails f
+  answer_not_read : (i : Text) (f : Fault) → name n x p (suc (length i)) i ≡ fails f →
+      named_boundary n x p negated i ≡ fails f
   unfolding named_boundary
   answer_not_read i f e = rw e refl
 
   -- the relation holds of what the function answers
-  by_name : (t i : Text) → Braces x t i false → (o : Reading Text) → name n x p (suc (length i)) i ≡ o → BracedName n x p i o →
+  by_name : (t i : Text) → Braces x t i false → (o : Reading Text) → name n x p (suc (length i)) i ≡ o →
+      BracedName n x p i o →
       Boundary n x p negated t (named_boundary n x p negated i)
   by_name t i b (fails f) e h = rw (answer_not_read i f e) (name_fault b h)
   by_name t i b (gives w v) e h = by_word (boundary_of_name negated w) refl where
-    by_word : (a : Option Assertion) → boundary_of_name negated w ≡ a → Boundary n x p negated t (named_boundary n x p negated i)
+    by_word : (a : Option Assertion) → boundary_of_name negated w ≡ a →
+        Boundary n x p negated t (named_boundary n x p negated i)
     by_word (Some a) s = rw (answer_known i w v a e s) (known b h s)
     by_word None s = rw (answer_unknown i w v e s) (unknown b h s)
 
@@ -124,7 +136,8 @@ module _ (n : ℕ) (x : Bool) (p : ℕ) (negated : Bool) where
     braced : Before x t (open_brace ∷ i)
     braced = subst (Before x t) (strip_is open_brace u i s) (layout_sound n x t u e)
 
-    by_count : (v : Text) → layout n x i ≡ rest v → (c : Bool) → at_count v ≡ c → Boundary n x p negated t (boundary n x p negated t)
+    by_count : (v : Text) → layout n x i ≡ rest v → (c : Bool) → at_count v ≡ c →
+        Boundary n x p negated t (boundary n x p negated t)
     by_count v l true c = rw (answer_count t u i v e s l c) (count (braced, v, layout_sound n x i v l, c))
     by_count v l false c =
         let h = by_name t i (braced, v, layout_sound n x i v l, c) (name n x p (suc (length i)) i) refl
@@ -150,27 +163,33 @@ module _ (n : ℕ) (x : Bool) (p : ℕ) (negated : Bool) where
 
   is_named : (t i : Text) → Braces x t i false → boundary n x p negated t ≡ named_boundary n x p negated i
   is_named t i (b, v, l, c) =
-      answer_named t (open_brace ∷ i) i v (layout_complete n x t _ b) (strip_same open_brace i) (layout_complete n x i v l) c
+      answer_named t (open_brace ∷ i) i v (layout_complete n x t _ b) (strip_same open_brace i)
+      (layout_complete n x i v l) c
 
   pub boundary_is : {t : Text} {o : Reading Escape} → Boundary n x p negated t o → boundary n x p negated t ≡ o
   boundary_is {t} (no_brace {u} b s) = answer_no_brace t u (layout_complete n x t u b) s
   boundary_is {t} (count {u} (b, v, l, c)) =
-      answer_count t (open_brace ∷ u) u v (layout_complete n x t _ b) (strip_same open_brace u) (layout_complete n x u v l) c
+      answer_count t (open_brace ∷ u) u v (layout_complete n x t _ b) (strip_same open_brace u)
+      (layout_complete n x u v l) c
   boundary_is {t} (known {u} {v} {w} {a} b h s) = is_named t u b ∙ answer_known u w v a (name_answer h) s
   boundary_is {t} (unknown {u} {v} {w} b h s) = is_named t u b ∙ answer_unknown u w v (name_answer h) s
   boundary_is {t} (name_fault {u} {e} b h) = is_named t u b ∙ answer_not_read u e (name_answer h)
   boundary_is {t} (open_before {q} b) = answer_open t q (unclosed_complete n x t q b)
   boundary_is {t} (open_inside {q} {u} b l) =
-      answer_inside t (open_brace ∷ u) u q (layout_complete n x t _ b) (strip_same open_brace u) (unclosed_complete n x u q l)
+      answer_inside t (open_brace ∷ u) u q (layout_complete n x t _ b) (strip_same open_brace u)
+      (unclosed_complete n x u q l)
 
-pub boundary_reads : (n : ℕ) (x : Bool) (p : ℕ) (negated : Bool) (t : Text) → Boundary n x p negated t (boundary n x p negated t)
+pub boundary_reads : (n : ℕ) (x : Bool) (p : ℕ) (negated : Bool) (t : Text) →
+    Boundary n x p negated t (boundary n x p negated t)
 boundary_reads n x p negated t = by_layout n x p negated t (layout n x t) refl
 
 -- ---- the clauses of the reader
 
-module _ (n : ℕ) (x : Bool) (p : ℕ) (negated : Bool) (t : Text) (r : Result (Escaped × Bor (List ℕ)) Error) (g : Answers escape_of r (boundary n x p negated t)) where
+module _ (n : ℕ) (x : Bool) (p : ℕ) (negated : Bool) (t : Text) (r : Result (Escaped × Bor (List ℕ)) Error)
+    (g : Answers escape_of r (boundary n x p negated t)) where
   pub boundary_derives : Derives escape_of r (Boundary n x p negated t)
-  boundary_derives = derives_answer escape_of r (Boundary n x p negated t) (boundary n x p negated t) (boundary_reads n x p negated t) g
+  boundary_derives = derives_answer escape_of r (Boundary n x p negated t) (boundary n x p negated t)
+      (boundary_reads n x p negated t) g
 
   pub boundary_only : (o : Reading Escape) → Boundary n x p negated t o → Answers escape_of r o
   boundary_only o h = only_answer escape_of r (boundary n x p negated t) o (boundary_is n x p negated h) g

@@ -1,12 +1,17 @@
 -- The reading function and the relation are one.
-use Rattle.std.proofs.Common.{◌≡◌, ◌≢◌, Result, Ok, Err, String, MatchResult, IfOk, chars, ℕ, zero, suc, pred, ◌+◌, ◌-◌, ◌<◌, ◌≤◌, Bool, true, false, ◌==◌, ◌||◌, if◌then◌else◌, List, [], ◌∷◌, ◌++◌, Option, Some, None, refl, ap, sym, ◌∙◌, arith, append_assoc, subst, ◌⊎◌, inl, inr}
+use Rattle.std.proofs.Common.{◌≡◌, ◌≢◌, Result, Ok, Err, String, MatchResult, IfOk, chars, ℕ, zero, suc, pred, ◌+◌, ◌-◌}
+use Rattle.std.proofs.Common.{◌<◌, ◌≤◌, Bool, true, false, ◌==◌, ◌||◌, if◌then◌else◌, List, [], ◌∷◌, ◌++◌, Option, Some}
+use Rattle.std.proofs.Common.{None, refl, ap, sym, ◌∙◌, arith, append_assoc, subst, ◌⊎◌, inl, inr}
 use Rattle.std.proofs.lemmas.Bool.{cases_eq}
 use Rattle.std.proofs.lemmas.Bool.Decides.{nat_tests}
 use Rattle.std.proofs.lemmas.Str.{len_utf8_bounds}
 use Rattle.std.specs.Borrow.{Bor}
 use Rattle.std.specs.declared.alloc.Global.{Global}
 use Rattle.fancy_lex.specs.Characters.{backslash, open_bracket, close_bracket, caret}
-use Rattle.fancy_lex.specs.Class.{class_head, with_mark, items_from, class, item_text, is_negated, is_plain, Outcome, written, fault, Class, class_items, items_fault, Items, close, plain, escaped, nested, end, plain_fault, escape_fault, escaped_fault, class_fault, nested_fault, StartsWithClass, ClassFaults, IsClassError}
+use Rattle.fancy_lex.specs.Class.{class_head, with_mark, items_from, class, item_text, is_negated, is_plain, Outcome}
+use Rattle.fancy_lex.specs.Class.{written, fault, Class, class_items, items_fault, Items, close, plain, escaped, nested}
+use Rattle.fancy_lex.specs.Class.{end, plain_fault, escape_fault, escaped_fault, class_fault, nested_fault}
+use Rattle.fancy_lex.specs.Class.{StartsWithClass, ClassFaults, IsClassError}
 use Rattle.fancy_lex.specs.Escape.{escape}
 use Rattle.fancy_lex.specs.Escaped.{Escape}
 use Rattle.fancy_lex.specs.Fault.{Fault}
@@ -28,20 +33,25 @@ bytes_cons c t = omega (arith, len_utf8_bounds c)
 
 strip_bytes : (m : ℕ) (t u : Text) → strip m t ≡ Some u → bytes u < bytes t
 strip_bytes m [] u e = cc
-strip_bytes m (c ∷ t) u e = let same : t ≡ u = grind (arith, nat_tests) in subst (λ s. bytes s < bytes (c ∷ t)) same (bytes_cons c t)
+strip_bytes m (c ∷ t) u e = let same : t ≡ u = grind (arith, nat_tests) in
+    subst (λ s. bytes s < bytes (c ∷ t)) same (bytes_cons c t)
 
 abbrev behind : Text → Text × Text → Text × Text
 behind out p = (out ++ p.0, p.1)
 
-mark_behind : (m : ℕ) (out : Text) (p : Text × Text) → ◌≡◌ {A = Text × Text} (with_mark m (behind out p)) (behind out (with_mark m p))
+mark_behind : (m : ℕ) (out : Text) (p : Text × Text) →
+    ◌≡◌ {A = Text × Text} (with_mark m (behind out p)) (behind out (with_mark m p))
 mark_behind m out p = by_strip (strip m p.1) where
-  by_strip : (o : Option Text) → ◌≡◌ {A = Text × Text} (choose {B = Text × Text} o (λ u. ((out ++ p.0) ++ m ∷ [], u)) (behind out p)) (behind out (choose {B = Text × Text} o (λ u. (p.0 ++ m ∷ [], u)) p))
+  by_strip : (o : Option Text) → ◌≡◌ {A = Text × Text}
+      (choose {B = Text × Text} o (λ u. ((out ++ p.0) ++ m ∷ [], u)) (behind out p))
+      (behind out (choose {B = Text × Text} o (λ u. (p.0 ++ m ∷ [], u)) p))
   by_strip None = refl
   by_strip (Some u) = ap (λ (a : Text). let z : Text × Text = (a, u) in z) (append_assoc out p.0 (m ∷ []))
 
 mark_bytes : (m : ℕ) (p : Text × Text) → bytes (with_mark m p).1 ≤ bytes p.1
 mark_bytes m p = by_strip (strip m p.1) refl where
-  by_strip : (o : Option Text) → strip m p.1 ≡ o → bytes (choose {B = Text × Text} o (λ u. (p.0 ++ m ∷ [], u)) p).1 ≤ bytes p.1
+  by_strip : (o : Option Text) → strip m p.1 ≡ o →
+      bytes (choose {B = Text × Text} o (λ u. (p.0 ++ m ∷ [], u)) p).1 ≤ bytes p.1
   by_strip None e = omega arith
   by_strip (Some u) e = omega (arith, strip_bytes m p.1 u e)
 
@@ -69,37 +79,46 @@ module _ (n : ℕ) (f : Flags) where
       let back : depth + 1 - 1 ≡ depth = omega arith in
       rw (test, back) refl
 
-  items_closing : (k depth : ℕ) (b : Bool) (out v : Text) → 0 < k → items_from n f k depth b out (close_bracket ∷ v) ≡ ended (pred k) depth b (out ++ close_bracket ∷ []) v
+  items_closing : (k depth : ℕ) (b : Bool) (out v : Text) → 0 < k →
+      items_from n f k depth b out (close_bracket ∷ v) ≡ ended (pred k) depth b (out ++ close_bracket ∷ []) v
   unfolding items_from
   items_closing zero depth b out v m = absurd (omega arith)
   items_closing (suc k) depth b out v m = refl
 
 -- what the function does with k steps left, where the relation says o
 abbrev Runs : ℕ → Flags → Reading Text → Text → ℕ → Text → Outcome → Type 0
-Runs n f here t depth out (written w a v) = (j : ℕ) × (bytes v < j) × (bytes v < bytes t) × (here ≡ ended n f j depth a (out ++ w) v)
+Runs n f here t depth out (written w a v) =
+    (j : ℕ) × (bytes v < j) × (bytes v < bytes t) × (here ≡ ended n f j depth a (out ++ w) v)
 Runs n f here t depth out (fault e) = here ≡ fails e
 
 abbrev at_class : ℕ → Flags → ℕ → ℕ → Bool → Text → Text → Reading Text
 at_class n f k depth b out t = items_from n f k depth b (class_head out t).0 (class_head out t).1
 
 -- one step, for which x is written, and what comes of the rest
-after : (n : ℕ) (f : Flags) (here there : Reading Text) (t s : Text) (depth : ℕ) (out x : Text) → here ≡ there → bytes s ≤ bytes t → (w : Text) (a : Bool) (v : Text) → Runs n f there s depth (out ++ x) (written w a v) → Runs n f here t depth out (written (x ++ w) a v)
+after : (n : ℕ) (f : Flags) (here there : Reading Text) (t s : Text) (depth : ℕ) (out x : Text) → here ≡ there →
+    bytes s ≤ bytes t → (w : Text) (a : Bool) (v : Text) → Runs n f there s depth (out ++ x) (written w a v) →
+    Runs n f here t depth out (written (x ++ w) a v)
 after n f here there t s depth out x e l w a v (j, m, less, q) =
     (j, m, omega (arith, l, less), e ∙ q ∙ ap (λ (o : Text). ended n f j depth a o v) (append_assoc out x w))
 
 not_special : (c : ℕ) → is_plain c ≡ true → (c ≢ 92) × (c ≢ 91) × (c ≢ 93)
 not_special c p = (grind (arith, nat_tests), grind (arith, nat_tests), grind (arith, nat_tests))
 
-items_fails : (n : ℕ) (f : Flags) (k depth : ℕ) (b : Bool) (out t : Text) (e : Fault) → escape n f true (place_of n (backslash ∷ t)) t ≡ fails e → 0 < k → items_from n f k depth b out (backslash ∷ t) ≡ fails e
+items_fails : (n : ℕ) (f : Flags) (k depth : ℕ) (b : Bool) (out t : Text) (e : Fault) →
+    escape n f true (place_of n (backslash ∷ t)) t ≡ fails e → 0 < k →
+    items_from n f k depth b out (backslash ∷ t) ≡ fails e
 unfolding items_from
 items_fails n f zero depth b out t e q m = absurd (omega arith)
 items_fails n f (suc k) depth b out t e q m = rw q refl
 
 module _ (n : ℕ) (f : Flags) (k depth : ℕ) (b : Bool) (out t : Text) where
-  at_head : (head u : Text) → ◌≡◌ {A = Text × Text} (class_head [] t) (head, u) → at_class n f k depth b out t ≡ items_from n f k depth b (out ++ head) u
-  at_head head u e = ap (λ (p : Text × Text). items_from n f k depth b p.0 p.1) (class_head_behind out t ∙ ap (behind out) e)
+  at_head : (head u : Text) → ◌≡◌ {A = Text × Text} (class_head [] t) (head, u) →
+      at_class n f k depth b out t ≡ items_from n f k depth b (out ++ head) u
+  at_head head u e = ap (λ (p : Text × Text). items_from n f k depth b p.0 p.1)
+      (class_head_behind out t ∙ ap (behind out) e)
 
-  plain_item : (c : ℕ) → is_plain c ≡ true → 0 < k → items_from n f k depth b out (c ∷ t) ≡ items_from n f (pred k) depth b (out ++ c ∷ []) t
+  plain_item : (c : ℕ) → is_plain c ≡ true → 0 < k →
+      items_from n f k depth b out (c ∷ t) ≡ items_from n f (pred k) depth b (out ++ c ∷ []) t
   plain_item c p m = let (x, y, z) = not_special c p in items_plain n f depth b out (c ∷ t) c t refl k m x y z
 
   -- what is left of t is less than the steps
@@ -113,41 +132,51 @@ positive : (a k : ℕ) → a < k → 0 < k
 positive a k l = omega arith
 
 mutual
-  run_class : {n : ℕ} {f : Flags} {b : Bool} {t : Text} {o : Outcome} → Class n f b t o → (k depth : ℕ) (out : Text) → bytes t < k → Runs n f (at_class n f k depth b out t) t depth out o
+  run_class : {n : ℕ} {f : Flags} {b : Bool} {t : Text} {o : Outcome} → Class n f b t o → (k depth : ℕ) (out : Text) →
+      bytes t < k → Runs n f (at_class n f k depth b out t) t depth out o
   run_class {n} {f} {b} {t} (class_items {a} {u} {v} {head} {w} e h) k depth out l =
       let less = head_bytes t head u e in
-      after n f _ _ t u depth out head (at_head n f k depth b out t head u e) less w a v (run_items h k depth (out ++ head) (omega (arith, less, l)))
+      after n f _ _ t u depth out head (at_head n f k depth b out t head u e) less w a v
+      (run_items h k depth (out ++ head) (omega (arith, less, l)))
   run_class {n} {f} {b} {t} (items_fault {u} {head} e h) k depth out l =
       at_head n f k depth b out t head u e ∙ run_items h k depth (out ++ head) (omega (arith, head_bytes t head u e, l))
 
-  run_items : {n : ℕ} {f : Flags} {b : Bool} {t : Text} {o : Outcome} → Items n f b t o → (k depth : ℕ) (out : Text) → bytes t < k → Runs n f (items_from n f k depth b out t) t depth out o
+  run_items : {n : ℕ} {f : Flags} {b : Bool} {t : Text} {o : Outcome} → Items n f b t o → (k depth : ℕ) (out : Text) →
+      bytes t < k → Runs n f (items_from n f k depth b out t) t depth out o
   run_items {n} {f} {b} (close {v}) k depth out l =
       (pred k, step_left n f k depth b out v 93 l, bytes_cons 93 v, items_closing n f k depth b out v (positive _ k l))
   run_items {n} {f} {b} (plain {c} {a} {t} {v} {w} p h) k depth out l =
-      after n f _ _ (c ∷ t) t depth out (c ∷ []) (plain_item n f k depth b out t c p (positive _ k l)) (omega (arith, bytes_cons c t)) w a v
+      after n f _ _ (c ∷ t) t depth out (c ∷ []) (plain_item n f k depth b out t c p (positive _ k l))
+      (omega (arith, bytes_cons c t)) w a v
       (run_items h (pred k) depth (out ++ c ∷ []) (step_left n f k depth b out t c l))
   run_items {n} {f} {b} (escaped {a} {t} {u} {v} {w} {e} q h) k depth out l =
       let less = escape_within n f true _ t u e q in
-      after n f _ _ (92 ∷ t) u depth out (item_text b e) (items_escape n f depth b out (92 ∷ t) 92 t refl k e u (positive _ k l) refl q)
+      after n f _ _ (92 ∷ t) u depth out (item_text b e)
+      (items_escape n f depth b out (92 ∷ t) 92 t refl k e u (positive _ k l) refl q)
       (omega (arith, less, bytes_cons 92 t)) w a v
       (run_items h (pred k) depth (out ++ item_text b e) (omega (arith, less, step_left n f k depth b out t 92 l)))
   run_items {n} {f} {b} (nested {m} {a} {t} {u} {v} {x} {w} g h) k depth out l =
       let (j, more, less, q) = run_class g (pred k) (depth + 1) out (step_left n f k depth b out t 91 l) in
       after n f _ _ (91 ∷ t) u depth out x
-      (items_open n f depth b out (91 ∷ t) 91 t refl k (positive _ k l) refl ∙ q ∙ ended_inside n f j depth m (out ++ x) u)
+      (items_open n f depth b out (91 ∷ t) 91 t refl k (positive _ k l) refl ∙ q
+      ∙ ended_inside n f j depth m (out ++ x) u)
       (omega (arith, less, bytes_cons 91 t)) w a v (run_items h j depth (out ++ x) more)
   run_items {n} {f} {b} end k depth out l = items_end n f k depth b out [] refl
   run_items {n} {f} {b} (plain_fault {c} {t} {e} p h) k depth out l =
-      plain_item n f k depth b out t c p (positive _ k l) ∙ run_items h (pred k) depth (out ++ c ∷ []) (step_left n f k depth b out t c l)
+      plain_item n f k depth b out t c p (positive _ k l)
+      ∙ run_items h (pred k) depth (out ++ c ∷ []) (step_left n f k depth b out t c l)
   run_items {n} {f} {b} (escape_fault {t} {e} q) k depth out l = items_fails n f k depth b out t e q (positive _ k l)
   run_items {n} {f} {b} (escaped_fault {t} {u} {x} {e} q h) k depth out l =
       items_escape n f depth b out (92 ∷ t) 92 t refl k x u (positive _ k l) refl q
-      ∙ run_items h (pred k) depth (out ++ item_text b x) (omega (arith, escape_within n f true _ t u x q, step_left n f k depth b out t 92 l))
+      ∙ run_items h (pred k) depth (out ++ item_text b x)
+      (omega (arith, escape_within n f true _ t u x q, step_left n f k depth b out t 92 l))
   run_items {n} {f} {b} (class_fault {t} {e} h) k depth out l =
-      items_open n f depth b out (91 ∷ t) 91 t refl k (positive _ k l) refl ∙ run_class h (pred k) (depth + 1) out (step_left n f k depth b out t 91 l)
+      items_open n f depth b out (91 ∷ t) 91 t refl k (positive _ k l) refl
+      ∙ run_class h (pred k) (depth + 1) out (step_left n f k depth b out t 91 l)
   run_items {n} {f} {b} (nested_fault {m} {t} {u} {x} {e} g h) k depth out l =
       let (j, more, less, q) = run_class g (pred k) (depth + 1) out (step_left n f k depth b out t 91 l) in
-      items_open n f depth b out (91 ∷ t) 91 t refl k (positive _ k l) refl ∙ q ∙ ended_inside n f j depth m (out ++ x) u ∙ run_items h j depth (out ++ x) more
+      items_open n f depth b out (91 ∷ t) 91 t refl k (positive _ k l) refl ∙ q
+      ∙ ended_inside n f j depth m (out ++ x) u ∙ run_items h j depth (out ++ x) more
 
 -- the function's answer, as the relation puts it
 abbrev answer : Outcome → Reading Text
@@ -171,8 +200,10 @@ Reads n f b t = (o : Outcome) × Items n f b t o × Less t o
 abbrev ReadsShort : ℕ → Flags → ℕ → Type 0
 ReadsShort n f k = (b : Bool) (t : Text) → bytes t < k → Reads n f b t
 
-class_within : (n : ℕ) (f : Flags) (b : Bool) (t head u : Text) → ◌≡◌ {A = Text × Text} (class_head [] t) (head, u) → Reads n f b u → (o : Outcome) × Class n f b t o × Less t o
-class_within n f b t head u e (written w a v, h, less) = (written (head ++ w) a v, class_items e h, omega (arith, less, head_bytes t head u e))
+class_within : (n : ℕ) (f : Flags) (b : Bool) (t head u : Text) → ◌≡◌ {A = Text × Text} (class_head [] t) (head, u) →
+    Reads n f b u → (o : Outcome) × Class n f b t o × Less t o
+class_within n f b t head u e (written w a v, h, less) =
+    (written (head ++ w) a v, class_items e h, omega (arith, less, head_bytes t head u e))
 class_within n f b t head u e (fault x, h, less) = (fault x, items_fault e h, tt)
 
 module _ (n : ℕ) (f : Flags) (k : ℕ) (reads : ReadsShort n f k) (b : Bool) (t : Text) (l : bytes t < k) where
@@ -180,16 +211,24 @@ module _ (n : ℕ) (f : Flags) (k : ℕ) (reads : ReadsShort n f k) (b : Bool) (
   plain_reads c p (written w a v, h, less) = (written (c ∷ w) a v, plain p h, omega (arith, less, bytes_cons c t))
   plain_reads c p (fault e, h, less) = (fault e, plain_fault p h, tt)
 
-  escaped_reads : (e : Escape) (u : Text) → escape n f true (place_of n (backslash ∷ t)) t ≡ gives e u → Reads n f (b || is_negated e) u → Reads n f b (backslash ∷ t)
-  escaped_reads e u q (written w a v, h, less) = (written (item_text b e ++ w) a v, escaped q h, omega (arith, less, escape_within n f true _ t u e q, bytes_cons 92 t))
+  escaped_reads : (e : Escape) (u : Text) → escape n f true (place_of n (backslash ∷ t)) t ≡ gives e u →
+      Reads n f (b || is_negated e) u → Reads n f b (backslash ∷ t)
+  escaped_reads e u q (written w a v, h, less) = (
+    written (item_text b e ++ w) a v,
+    escaped q h,
+    omega (arith, less, escape_within n f true _ t u e q, bytes_cons 92 t),
+  )
   escaped_reads e u q (fault x, h, less) = (fault x, escaped_fault q h, tt)
 
   escape_reads : (r : Reading Escape) → escape n f true (place_of n (backslash ∷ t)) t ≡ r → Reads n f b (backslash ∷ t)
-  escape_reads (gives e u) q = escaped_reads e u q (reads (b || is_negated e) u (omega (arith, escape_within n f true _ t u e q, l)))
+  escape_reads (gives e u) q = escaped_reads e u q
+      (reads (b || is_negated e) u (omega (arith, escape_within n f true _ t u e q, l)))
   escape_reads (fails e) q = (fault e, escape_fault q, tt)
 
-  behind_class : (x : Text) (m : Bool) (u : Text) → Class n f b t (written x m u) → bytes u < bytes t → Reads n f m u → Reads n f b (open_bracket ∷ t)
-  behind_class x m u g shorter (written w a v, h, less) = (written (x ++ w) a v, nested g h, omega (arith, less, shorter, bytes_cons 91 t))
+  behind_class : (x : Text) (m : Bool) (u : Text) → Class n f b t (written x m u) → bytes u < bytes t → Reads n f m u →
+      Reads n f b (open_bracket ∷ t)
+  behind_class x m u g shorter (written w a v, h, less) =
+      (written (x ++ w) a v, nested g h, omega (arith, less, shorter, bytes_cons 91 t))
   behind_class x m u g shorter (fault e, h, less) = (fault e, nested_fault g h, tt)
 
   class_item : (o : Outcome) × Class n f b t o × Less t o → Reads n f b (open_bracket ∷ t)
@@ -226,12 +265,14 @@ items_read n f (suc k) b (c ∷ t) l = one_more n f k (items_read n f k) b t (om
 pub class_reads : (n : ℕ) (f : Flags) (t : Text) → (o : Outcome) × Class n f false t o
 class_reads n f t =
     let p = class_head [] t in
-    let (o, h, less) = class_within n f false t p.0 p.1 refl (items_read n f (suc (bytes p.1)) false p.1 (omega arith)) in
+    let (o, h, less) = class_within n f false t p.0 p.1 refl
+    (items_read n f (suc (bytes p.1)) false p.1 (omega arith)) in
     (o, h)
 
 -- What follows does not matter: by induction on the derivation.
 
-items_some : {n : ℕ} {f : Flags} {b a : Bool} {t w v : Text} → Items n f b t (written w a v) → (c : ℕ) × (u : Text) × (t ≡ c ∷ u)
+items_some : {n : ℕ} {f : Flags} {b a : Bool} {t w v : Text} → Items n f b t (written w a v) →
+    (c : ℕ) × (u : Text) × (t ≡ c ∷ u)
 items_some {v} close = (close_bracket, v, refl)
 items_some (plain {c} {t} p h) = (c, t, refl)
 items_some (escaped {t} q h) = (backslash, t, refl)
@@ -241,31 +282,39 @@ items_some (nested {t} g h) = (open_bracket, t, refl)
 abbrev before : Text → Text × Text → Text × Text
 before s p = (p.0, p.1 ++ s)
 
-mark_some : (m : ℕ) (out t : Text) (c : ℕ) (u : Text) → (with_mark m (out, t)).1 ≡ c ∷ u → (d : ℕ) × (r : Text) × (t ≡ d ∷ r)
+mark_some : (m : ℕ) (out t : Text) (c : ℕ) (u : Text) → (with_mark m (out, t)).1 ≡ c ∷ u →
+    (d : ℕ) × (r : Text) × (t ≡ d ∷ r)
 mark_some m out [] c u e = absurd cc
 mark_some m out (d ∷ r) c u e = (d, r, refl)
 
-mark_frame : (m : ℕ) (out t s : Text) (d : ℕ) (r : Text) → t ≡ d ∷ r → ◌≡◌ {A = Text × Text} (with_mark m (out, t ++ s)) (before s (with_mark m (out, t)))
+mark_frame : (m : ℕ) (out t s : Text) (d : ℕ) (r : Text) → t ≡ d ∷ r →
+    ◌≡◌ {A = Text × Text} (with_mark m (out, t ++ s)) (before s (with_mark m (out, t)))
 mark_frame m out t s d r e = rw e (by_test (d == m)) where
-  by_test : (x : Bool) → ◌≡◌ {A = Text × Text} (choose {B = Text × Text} (if x then Some (r ++ s) else None) (λ u. (out ++ m ∷ [], u)) (out, d ∷ (r ++ s))) (before s (choose {B = Text × Text} (if x then Some r else None) (λ u. (out ++ m ∷ [], u)) (out, d ∷ r)))
+  by_test : (x : Bool) → ◌≡◌ {A = Text × Text}
+      (choose {B = Text × Text} (if x then Some (r ++ s) else None) (λ u. (out ++ m ∷ [], u)) (out, d ∷ (r ++ s)))
+      (before s (choose {B = Text × Text} (if x then Some r else None) (λ u. (out ++ m ∷ [], u)) (out, d ∷ r)))
   by_test true = refl
   by_test false = refl
 
-class_head_frame : (t s : Text) (c : ℕ) (u : Text) → (class_head [] t).1 ≡ c ∷ u → ◌≡◌ {A = Text × Text} (class_head [] (t ++ s)) (before s (class_head [] t))
+class_head_frame : (t s : Text) (c : ℕ) (u : Text) → (class_head [] t).1 ≡ c ∷ u →
+    ◌≡◌ {A = Text × Text} (class_head [] (t ++ s)) (before s (class_head [] t))
 unfolding class_head
 class_head_frame t s c u e =
     let p = with_mark caret (open_bracket ∷ [], t) in
     let (d, r, q) = mark_some close_bracket p.0 p.1 c u e in
     let (d', r', q') = mark_some caret (open_bracket ∷ []) t d r q in
-    ap (with_mark close_bracket) (mark_frame caret (open_bracket ∷ []) t s d' r' q') ∙ mark_frame close_bracket p.0 p.1 s d r q
+    ap (with_mark close_bracket) (mark_frame caret (open_bracket ∷ []) t s d' r' q')
+    ∙ mark_frame close_bracket p.0 p.1 s d r q
 
 mutual
-  class_frame : {n : ℕ} {f : Flags} {b a : Bool} {t w v : Text} → Class n f b t (written w a v) → (m : ℕ) (s : Text) → Class m f b (t ++ s) (written w a (v ++ s))
+  class_frame : {n : ℕ} {f : Flags} {b a : Bool} {t w v : Text} → Class n f b t (written w a v) → (m : ℕ) (s : Text) →
+      Class m f b (t ++ s) (written w a (v ++ s))
   class_frame {t} (class_items e h) m s =
       let (c, u, q) = items_some h in
       class_items (class_head_frame t s c u (ap (λ (p : Text × Text). p.1) e ∙ q) ∙ ap (before s) e) (items_frame h m s)
 
-  items_frame : {n : ℕ} {f : Flags} {b a : Bool} {t w v : Text} → Items n f b t (written w a v) → (m : ℕ) (s : Text) → Items m f b (t ++ s) (written w a (v ++ s))
+  items_frame : {n : ℕ} {f : Flags} {b a : Bool} {t w v : Text} → Items n f b t (written w a v) → (m : ℕ) (s : Text) →
+      Items m f b (t ++ s) (written w a (v ++ s))
   items_frame close m s = close
   items_frame (plain p h) m s = plain p (items_frame h m s)
   items_frame {n} {f} (escaped {t} {u} {e} q h) m s = escaped (escape_frame n m f _ _ t u s e q) (items_frame h m s)
@@ -282,28 +331,41 @@ no_fault x t e q = cc
 same_fault : (e x : Fault) → ◌≡◌ {A = Reading Text} (fails e) (fails x) → e ≡ x
 same_fault e x q = cc
 
-pub class_derives : (n : ℕ) (f : Flags) (t : Text) (r : Result (String Global × Bor (List ℕ)) Error) → Gives text_of r (class n f t) → MatchResult r (λ p. StartsWithClass n f t (chars p.1.now) (text_of p.0)) (λ e. IsClassError n f t e)
+pub class_derives : (n : ℕ) (f : Flags) (t : Text) (r : Result (String Global × Bor (List ℕ)) Error) →
+    Gives text_of r (class n f t) → MatchResult r (λ p. StartsWithClass n f t (chars p.1.now) (text_of p.0))
+    (λ e. IsClassError n f t e)
 class_derives n f t r g = by_reading (class_reads n f t) r g where
-  by_reading : (o : Outcome) × Class n f false t o → (r : Result (String Global × Bor (List ℕ)) Error) → Gives text_of r (class n f t) → MatchResult r (λ p. StartsWithClass n f t (chars p.1.now) (text_of p.0)) (λ e. IsClassError n f t e)
+  by_reading : (o : Outcome) × Class n f false t o → (r : Result (String Global × Bor (List ℕ)) Error) →
+      Gives text_of r (class n f t) → MatchResult r (λ p. StartsWithClass n f t (chars p.1.now) (text_of p.0))
+      (λ e. IsClassError n f t e)
   by_reading (written w a v, h) (Ok p) g =
-      let (x, y) = same_gives w (text_of p.0) v (chars p.1.now) (sym (class_complete n f t _ h) ∙ g) in
-      (a, subst (λ z. Class n f false t (written (text_of p.0) a z)) y (subst (λ z. Class n f false t (written z a v)) x h))
+      let (x, y) = same_gives w (text_of p.0) v (chars p.1.now) (sym (class_complete n f t _ h) ∙ g) in (
+        a,
+        subst (λ z. Class n f false t (written (text_of p.0) a z)) y
+            (subst (λ z. Class n f false t (written z a v)) x h),
+      )
   by_reading (fault e, h) (Ok p) g = absurd (no_fault _ _ e (sym g ∙ class_complete n f t _ h))
   by_reading (written w a v, h) (Err (ParseError p k)) g = absurd (no_fault w v _ (sym (class_complete n f t _ h) ∙ g))
-  by_reading (fault e, h) (Err (ParseError p k)) g = subst (ClassFaults n f t) (same_fault e _ (sym (class_complete n f t _ h) ∙ g)) h
+  by_reading (fault e, h) (Err (ParseError p k)) g =
+      subst (ClassFaults n f t) (same_fault e _ (sym (class_complete n f t _ h) ∙ g)) h
   by_reading o (Err OutOfMemory) g = tt
 
-pub class_only : (n : ℕ) (f : Flags) (t v out : Text) (r : Result (String Global × Bor (List ℕ)) Error) → Gives text_of r (class n f t) → StartsWithClass n f t v out → MatchResult r (λ p. (text_of p.0 ≡ out) × (chars p.1.now ≡ v)) (λ e. e ≡ OutOfMemory)
+pub class_only : (n : ℕ) (f : Flags) (t v out : Text) (r : Result (String Global × Bor (List ℕ)) Error) →
+    Gives text_of r (class n f t) → StartsWithClass n f t v out →
+    MatchResult r (λ p. (text_of p.0 ≡ out) × (chars p.1.now ≡ v)) (λ e. e ≡ OutOfMemory)
 class_only n f t v out (Ok p) g (a, h) = same_gives _ out _ v (sym g ∙ class_complete n f t _ h)
 class_only n f t v out (Err OutOfMemory) g h = refl
 class_only n f t v out (Err (ParseError p k)) g (a, h) = absurd (no_fault out v _ (sym (class_complete n f t _ h) ∙ g))
 
-pub class_only_fault : (n : ℕ) (f : Flags) (t : Text) (e : Fault) (r : Result (String Global × Bor (List ℕ)) Error) → Gives text_of r (class n f t) → ClassFaults n f t e → MatchResult r (λ _. ⊥) (λ error. Fails error (fault_at {A = Text} e.place e.kind))
+pub class_only_fault : (n : ℕ) (f : Flags) (t : Text) (e : Fault) (r : Result (String Global × Bor (List ℕ)) Error) →
+    Gives text_of r (class n f t) → ClassFaults n f t e →
+    MatchResult r (λ _. ⊥) (λ error. Fails error (fault_at {A = Text} e.place e.kind))
 class_only_fault n f t e (Ok p) g h = no_fault _ _ e (sym g ∙ class_complete n f t _ h)
 class_only_fault n f t e (Err OutOfMemory) g h = tt
 class_only_fault n f t e (Err (ParseError p k)) g h = sym (class_complete n f t _ h) ∙ g
 
-pub class_follows : (n m : ℕ) (f : Flags) (t s : Text) (r : Result (String Global × Bor (List ℕ)) Error) → Gives text_of r (class n f t) → IfOk r (λ p. class m f (t ++ s) ≡ gives (text_of p.0) (chars p.1.now ++ s))
+pub class_follows : (n m : ℕ) (f : Flags) (t s : Text) (r : Result (String Global × Bor (List ℕ)) Error) →
+    Gives text_of r (class n f t) → IfOk r (λ p. class m f (t ++ s) ≡ gives (text_of p.0) (chars p.1.now ++ s))
 class_follows n m f t s (Ok p) g =
     let (a, h) = class_derives n f t (Ok p) g in
     class_complete m f (t ++ s) _ (class_frame h m s)

@@ -1,15 +1,20 @@
 -- In a class an escape reads the same whatever follows it.
-use Rattle.std.proofs.Common.{◌≡◌, ◌≢◌, ℕ, zero, suc, ◌+◌, ◌*◌, Bool, true, false, ◌&&◌, ◌==◌, nat_lt, if◌then◌else◌, is_some, not, nat_le, option_and_then, [], ◌∷◌, ◌++◌, Option, Some, None, option_map, refl, ap, sym, ◌∙◌, arith, subst, ◌⊎◌, inl, inr}
+use Rattle.std.proofs.Common.{◌≡◌, ◌≢◌, ℕ, zero, suc, ◌+◌, ◌*◌, Bool, true, false, ◌&&◌, ◌==◌, nat_lt, if◌then◌else◌}
+use Rattle.std.proofs.Common.{is_some, not, nat_le, option_and_then, [], ◌∷◌, ◌++◌, Option, Some, None, option_map}
+use Rattle.std.proofs.Common.{refl, ap, sym, ◌∙◌, arith, subst, ◌⊎◌, inl, inr}
 use Rattle.std.proofs.lemmas.Bool.{cases_eq}
 use Rattle.std.proofs.lemmas.Bool.Decides.{nat_tests}
 use Rattle.std.specs.Char.{digit_value, is_ascii_digit}
-use Rattle.fancy_lex.specs.Characters.{open_paren, open_brace, close_brace, close_paren, backslash, line_feed, hash, ◌∈◌}
+use Rattle.fancy_lex.specs.Characters.{open_paren, open_brace, close_brace, close_paren, backslash, line_feed, hash}
+use Rattle.fancy_lex.specs.Characters.{◌∈◌}
 use Rattle.fancy_lex.specs.Escape.{escape, number_escape, property, in_class, is_itself}
 use Rattle.fancy_lex.specs.EscapeReference.{group_number}
 use Rattle.fancy_lex.specs.Escaped.{Escape, delegate, literal, literal_bytes}
 use Rattle.fancy_lex.specs.Fault.{invalid_class, invalid_hex, invalid_codepoint_value, unclosed_unicode_name}
-use Rattle.fancy_lex.specs.Hex.{hex, value, braced_value, digits, fixed_digits, hex_digit, closing_brace, leaf_of_value, is_scalar}
-use Rattle.fancy_lex.specs.Layout.{layout, layout_from, Skipped, rest, fault, State, between, two, one, comment, escaped, line, after_comment_head, is_blank}
+use Rattle.fancy_lex.specs.Hex.{hex, value, braced_value, digits, fixed_digits, hex_digit, closing_brace, leaf_of_value}
+use Rattle.fancy_lex.specs.Hex.{is_scalar}
+use Rattle.fancy_lex.specs.Layout.{layout, layout_from, Skipped, rest, fault, State, between, two, one, comment}
+use Rattle.fancy_lex.specs.Layout.{escaped, line, after_comment_head, is_blank}
 use Rattle.fancy_lex.specs.Property.{Property, PropertyName, read_property, name_at, property_text}
 use Rattle.fancy_lex.specs.Property as property_spec
 use Rattle.fancy_lex.specs.Reading.{Reading, gives, fails, fault_at, choose, layout_reading, ◌>=>◌}
@@ -19,12 +24,14 @@ use Rattle.fancy_lex.proofs.LayoutLemmas.{between_step}
 
 -- Layout that a character other than `(` follows is the same whatever follows that.
 
-from_if : (b : Bool) (p q p' q' a z : Skipped) → (p ≡ a → p' ≡ z) → (q ≡ a → q' ≡ z) → (if b then p else q) ≡ a → (if b then p' else q') ≡ z
+from_if : (b : Bool) (p q p' q' a z : Skipped) → (p ≡ a → p' ≡ z) → (q ≡ a → q' ≡ z) → (if b then p else q) ≡ a →
+    (if b then p' else q') ≡ z
 from_if true p q p' q' a z f g e = f e
 from_if false p q p' q' a z f g e = g e
 
 -- with s behind a text, a comment that is open in it stays open
-opened_more : (d : ℕ) (t s : Text) → is_some (after_comment_head (d ∷ t)) ≡ true → is_some (after_comment_head (d ∷ (t ++ s))) ≡ true
+opened_more : (d : ℕ) (t s : Text) → is_some (after_comment_head (d ∷ t)) ≡ true →
+    is_some (after_comment_head (d ∷ (t ++ s))) ≡ true
 opened_more d [] s e = grind (arith, nat_tests)
 opened_more d (a ∷ []) s e = grind (arith, nat_tests)
 opened_more d (a ∷ b ∷ u) s e = grind (arith, nat_tests)
@@ -32,7 +39,8 @@ opened_more d (a ∷ b ∷ u) s e = grind (arith, nat_tests)
 not_opened : (d : ℕ) (t : Text) → d ≢ open_paren → is_some (after_comment_head (d ∷ t)) ≡ false
 not_opened d t h = grind (arith, nat_tests)
 
-at_paren : (n : ℕ) (x : Bool) (d : ℕ) (t : Text) → d ≡ open_paren → is_some (after_comment_head (d ∷ t)) ≡ false → layout_from n x between (d ∷ t) ≡ rest (d ∷ t)
+at_paren : (n : ℕ) (x : Bool) (d : ℕ) (t : Text) → d ≡ open_paren → is_some (after_comment_head (d ∷ t)) ≡ false →
+    layout_from n x between (d ∷ t) ≡ rest (d ∷ t)
 at_paren n x d t h q = let step = between_step n x (d ∷ t) d t refl in grind (arith, nat_tests)
 
 rest_same : (v w : Text) → rest v ≡ rest w → v ≡ w
@@ -49,7 +57,8 @@ step_on n x b d t =
     else if x && is_blank d then layout_from n x between t
     else rest (d ∷ t)
 
-step_is : (n : ℕ) (x b : Bool) (d : ℕ) (t : Text) → is_some (after_comment_head (d ∷ t)) ≡ b → layout_from n x between (d ∷ t) ≡ step_on n x b d t
+step_is : (n : ℕ) (x b : Bool) (d : ℕ) (t : Text) → is_some (after_comment_head (d ∷ t)) ≡ b →
+    layout_from n x between (d ∷ t) ≡ step_on n x b d t
 step_is n x b d t q = between_step n x (d ∷ t) d t refl ∙ ap (λ a. step_on n x a d t) q
 
 module _ (n m : ℕ) (x : Bool) (s : Text) (c : ℕ) (r : Text) (paren : c ≢ open_paren) where
@@ -57,13 +66,16 @@ module _ (n m : ℕ) (x : Bool) (s : Text) (c : ℕ) (r : Text) (paren : c ≢ o
   From st t = layout_from n x st t ≡ rest (c ∷ r) → layout_from m x st (t ++ s) ≡ rest ((c ∷ r) ++ s)
 
   module _ (d : ℕ) (t : Text) (rec : (st : State) → From st t) where
-    from_step : (b : Bool) → is_some (after_comment_head (d ∷ t)) ≡ b → is_some (after_comment_head (d ∷ (t ++ s))) ≡ b → From between (d ∷ t)
+    from_step : (b : Bool) → is_some (after_comment_head (d ∷ t)) ≡ b →
+        is_some (after_comment_head (d ∷ (t ++ s))) ≡ b → From between (d ∷ t)
     from_step b q z e =
         step_is m x b d (t ++ s) z
         ∙ from_if b _ _ _ _ _ _ (rec two) (from_if (x && d == hash) _ _ _ _ _ _ (rec line)
-        (from_if (x && is_blank d) _ _ _ _ _ _ (rec between) (λ q. ap (λ (l : Text). rest (l ++ s)) (rest_same (d ∷ t) (c ∷ r) q)))) (sym (step_is n x b d t q) ∙ e)
+        (from_if (x && is_blank d) _ _ _ _ _ _ (rec between)
+        (λ q. ap (λ (l : Text). rest (l ++ s)) (rest_same (d ∷ t) (c ∷ r) q)))) (sym (step_is n x b d t q) ∙ e)
 
-    from_between : (b : Bool) → is_some (after_comment_head (d ∷ t)) ≡ b → (d ≡ open_paren) ⊎ (d ≢ open_paren) → From between (d ∷ t)
+    from_between : (b : Bool) → is_some (after_comment_head (d ∷ t)) ≡ b → (d ≡ open_paren) ⊎ (d ≢ open_paren) →
+        From between (d ∷ t)
     from_between true q h e = from_step true q (opened_more d t s q) e
     from_between false q (inr h) e = from_step false q (not_opened d (t ++ s) h) e
     from_between false q (inl h) e =
@@ -75,7 +87,8 @@ module _ (n m : ℕ) (x : Bool) (s : Text) (c : ℕ) (r : Text) (paren : c ≢ o
     from_next between e = from_between _ refl (cases_eq d open_paren) e
     from_next two e = rec one e
     from_next one e = rec comment e
-    from_next comment e = from_if (d == close_paren) _ _ _ _ _ _ (rec between) (from_if (d == backslash) _ _ _ _ _ _ (rec escaped) (rec comment)) e
+    from_next comment e = from_if (d == close_paren) _ _ _ _ _ _ (rec between)
+        (from_if (d == backslash) _ _ _ _ _ _ (rec escaped) (rec comment)) e
     from_next escaped e = rec comment e
     from_next line e = from_if (d == line_feed) _ _ _ _ _ _ (rec between) (rec line) e
 
@@ -90,7 +103,8 @@ module _ (n m : ℕ) (x : Bool) (s : Text) (c : ℕ) (r : Text) (paren : c ≢ o
   layout_from_frame (d ∷ t) st e = from_next d t (layout_from_frame t) st e
 
 -- layout stays the same where it ends before another character than `(`
-pub layout_frame : (n m : ℕ) (x : Bool) (t s : Text) (c : ℕ) (r : Text) → c ≢ open_paren → layout n x t ≡ rest (c ∷ r) → layout m x (t ++ s) ≡ rest ((c ∷ r) ++ s)
+pub layout_frame : (n m : ℕ) (x : Bool) (t s : Text) (c : ℕ) (r : Text) → c ≢ open_paren → layout n x t ≡ rest (c ∷ r) →
+    layout m x (t ++ s) ≡ rest ((c ∷ r) ++ s)
 layout_frame n m x t s c r h e = layout_from_frame n m x s c r h t between e
 
 -- A reading whose text may have s behind it, and then has s behind what is left, and nothing else is changed.
@@ -108,23 +122,31 @@ abbrev Firm : {A : Type 0} → Text → Reading A → (Text → Reading A) → T
 Firm t (gives a u) there = Begins t × ((s : Text) → there s ≡ gives a (u ++ s))
 Firm t (fails e) there = Unit {0}
 
-stays_if : {A : Type 0} (b : Bool) (p q : Reading A) (p' q' : Text → Reading A) → Stays p p' → Stays q q' → Stays (if b then p else q) (λ s. if b then p' s else q' s)
+stays_if : {A : Type 0} (b : Bool) (p q : Reading A) (p' q' : Text → Reading A) → Stays p p' → Stays q q' →
+    Stays (if b then p else q) (λ s. if b then p' s else q' s)
 stays_if true p q p' q' h k = h
 stays_if false p q p' q' h k = k
 
-firm_from : {A : Type 0} (c : ℕ) (t : Text) (o : Reading A) (there : Text → Reading A) → c ≢ open_paren → Stays o there → Firm (c ∷ t) o there
+firm_from : {A : Type 0} (c : ℕ) (t : Text) (o : Reading A) (there : Text → Reading A) → c ≢ open_paren →
+    Stays o there → Firm (c ∷ t) o there
 firm_from c t (gives a u) there h same = ((c, t, refl, h), same)
 firm_from c t (fails e) there h k = tt
 
 -- behind layout
-behind_layout : {A : Type 0} (n m : ℕ) (x : Bool) (t : Text) (R : Text → Reading A) (S : Text → Text → Reading A) → ((v : Text) → Firm v (R v) (λ s. S s (v ++ s))) → Stays (layout_reading (layout n x t) >=> (λ _ v. R v)) (λ s. layout_reading (layout m x (t ++ s)) >=> (λ _ v. S s v))
+behind_layout : {A : Type 0} (n m : ℕ) (x : Bool) (t : Text) (R : Text → Reading A) (S : Text → Text → Reading A) →
+    ((v : Text) → Firm v (R v) (λ s. S s (v ++ s))) →
+    Stays (layout_reading (layout n x t) >=> (λ _ v. R v))
+    (λ s. layout_reading (layout m x (t ++ s)) >=> (λ _ v. S s v))
 behind_layout {A = A} n m x t R S firm = by_layout (layout n x t) refl where
-  by_reading : (v : Text) → layout n x t ≡ rest v → (o : Reading A) → Firm v o (λ s. S s (v ++ s)) → Stays o (λ s. layout_reading (layout m x (t ++ s)) >=> (λ _ v. S s v))
+  by_reading : (v : Text) → layout n x t ≡ rest v → (o : Reading A) → Firm v o (λ s. S s (v ++ s)) →
+      Stays o (λ s. layout_reading (layout m x (t ++ s)) >=> (λ _ v. S s v))
   by_reading v e (gives a u) ((c, r, q, h), same) = λ s.
-      ap (λ o. layout_reading o >=> (λ _ v. S s v)) (layout_frame n m x t s c r h (e ∙ ap rest q) ∙ ap (λ (l : Text). rest (l ++ s)) (sym q)) ∙ same s
+      ap (λ o. layout_reading o >=> (λ _ v. S s v))
+      (layout_frame n m x t s c r h (e ∙ ap rest q) ∙ ap (λ (l : Text). rest (l ++ s)) (sym q)) ∙ same s
   by_reading v e (fails z) h = tt
 
-  by_layout : (k : Skipped) → layout n x t ≡ k → Stays (layout_reading k >=> (λ _ v. R v)) (λ s. layout_reading (layout m x (t ++ s)) >=> (λ _ v. S s v))
+  by_layout : (k : Skipped) → layout n x t ≡ k →
+      Stays (layout_reading k >=> (λ _ v. R v)) (λ s. layout_reading (layout m x (t ++ s)) >=> (λ _ v. S s v))
   by_layout (rest v) e = by_reading v e (R v) (firm v)
   by_layout (fault p) e = tt
 
@@ -134,11 +156,15 @@ is_hex : (c : ℕ) → nat_lt (digit_value c) 16 ≡ true → c ≢ open_paren
 is_hex c h = grind (arith, nat_tests)
 
 module _ (n m : ℕ) (x : Bool) (h : ℕ) (h' : Text → ℕ) where
-  closed_firm : (some : Bool) (v : ℕ) (t : Text) → Firm t (closing_brace h some v (strip close_brace t)) (λ s. closing_brace (h' s) some v (strip close_brace (t ++ s)))
+  closed_firm : (some : Bool) (v : ℕ) (t : Text) →
+      Firm t (closing_brace h some v (strip close_brace t))
+      (λ s. closing_brace (h' s) some v (strip close_brace (t ++ s)))
   closed_firm false v t = tt
   closed_firm true v [] = tt
   closed_firm true v (c ∷ t) = by_test (c == close_brace) refl where
-    by_test : (b : Bool) → (c == close_brace) ≡ b → Firm (c ∷ t) (closing_brace h true v (if b then Some t else None)) (λ s. closing_brace (h' s) true v (if b then Some (t ++ s) else None))
+    by_test : (b : Bool) → (c == close_brace) ≡ b →
+        Firm (c ∷ t) (closing_brace h true v (if b then Some t else None))
+        (λ s. closing_brace (h' s) true v (if b then Some (t ++ s) else None))
     by_test true e = let other : c ≢ open_paren = grind (arith, nat_tests) in ((c, t, refl, other), λ s. refl)
     by_test false e = tt
 
@@ -150,41 +176,59 @@ module _ (n m : ℕ) (x : Bool) (h : ℕ) (h' : Text → ℕ) where
   DigitsFirm k some v = (t : Text) → Firm t (digits n x h k some v t) (λ s. digits m x (h' s) k some v (t ++ s))
 
   -- behind a digit come layout and more digits, else the closing brace
-  digits_on : (k : ℕ) (some : Bool) (v d c : ℕ) (t : Text) → ((v : ℕ) → DigitsFirm k true v) → (b : Bool) → (b ≡ true → c ≢ open_paren)
+  digits_on : (k : ℕ) (some : Bool) (v d c : ℕ) (t : Text) → ((v : ℕ) → DigitsFirm k true v) → (b : Bool) →
+      (b ≡ true → c ≢ open_paren)
       → Firm (c ∷ t)
-      (choose (if b then Some (d, t) else None) (λ (p : ℕ × Text). layout_reading (layout n x p.1) >=> (λ _ t. digits n x h k true (v * 16 + p.0) t)) (closing_brace h some v (strip close_brace (c ∷ t))))
-      (λ s. choose (if b then Some (d, t ++ s) else None) (λ (p : ℕ × Text). layout_reading (layout m x p.1) >=> (λ _ t. digits m x (h' s) k true (v * 16 + p.0) t)) (closing_brace (h' s) some v (strip close_brace ((c ∷ t) ++ s))))
+      (choose (if b then Some (d, t) else None)
+      (λ (p : ℕ × Text). layout_reading (layout n x p.1) >=> (λ _ t. digits n x h k true (v * 16 + p.0) t))
+      (closing_brace h some v (strip close_brace (c ∷ t))))
+      (λ s. choose (if b then Some (d, t ++ s) else None)
+      (λ (p : ℕ × Text). layout_reading (layout m x p.1) >=> (λ _ t. digits m x (h' s) k true (v * 16 + p.0) t))
+      (closing_brace (h' s) some v (strip close_brace ((c ∷ t) ++ s))))
   digits_on k some v d c t more false f = closed_firm some v (c ∷ t)
   digits_on k some v d c t more true f =
-      firm_from c t _ _ (f refl) (behind_layout n m x t (digits n x h k true (v * 16 + d)) (λ s u. digits m x (h' s) k true (v * 16 + d) u) (more (v * 16 + d)))
+      firm_from c t _ _ (f refl)
+      (behind_layout n m x t (digits n x h k true (v * 16 + d)) (λ s u. digits m x (h' s) k true (v * 16 + d) u)
+      (more (v * 16 + d)))
 
   digits_firm : (k : ℕ) (some : Bool) (v : ℕ) → DigitsFirm k some v
   unfolding digits hex_digit
   digits_firm zero some v t = closed_firm some v t
   digits_firm (suc k) some v [] = closed_none some v _
-  digits_firm (suc k) some v (c ∷ t) = digits_on k some v (digit_value c) c t (λ v. digits_firm k true v) (nat_lt (digit_value c) 16) (is_hex c)
+  digits_firm (suc k) some v (c ∷ t) = digits_on k some v (digit_value c) c t (λ v. digits_firm k true v)
+      (nat_lt (digit_value c) 16) (is_hex c)
 
   braced_firm : (t : Text) → Firm (open_brace ∷ t) (braced_value n x h t) (λ s. braced_value m x (h' s) (t ++ s))
   unfolding braced_value
   braced_firm t =
       let other : open_brace ≢ open_paren = grind (arith, nat_tests) in
-      firm_from open_brace t _ _ other (behind_layout n m x t (digits n x h 8 false 0) (λ s v. digits m x (h' s) 8 false 0 v) (digits_firm 8 false 0))
+      firm_from open_brace t _ _ other
+      (behind_layout n m x t (digits n x h 8 false 0) (λ s v. digits m x (h' s) 8 false 0 v)
+      (digits_firm 8 false 0))
 
 -- the same of what reads a value or nothing
 abbrev pub StaysSome : {A : Type 0} → Option (A × Text) → (Text → Option (A × Text)) → Type 0
 StaysSome (Some p) there = (s : Text) → there s ≡ Some (p.0, p.1 ++ s)
 StaysSome None there = Unit {0}
 
-some_map : {A B : Type 0} (g : A → B) (o : Option (A × Text)) (there : Text → Option (A × Text)) → StaysSome o there → StaysSome (option_map {T = A × Text} {U = B × Text} (λ p. (g p.0, p.1)) o) (λ s. option_map {T = A × Text} {U = B × Text} (λ p. (g p.0, p.1)) (there s))
-some_map {A} {B} g (Some p) there same = λ s. ap (λ o. option_map {T = A × Text} {U = B × Text} (λ p. (g p.0, p.1)) o) (same s)
+some_map : {A B : Type 0} (g : A → B) (o : Option (A × Text)) (there : Text → Option (A × Text)) → StaysSome o there →
+    StaysSome (option_map {T = A × Text} {U = B × Text} (λ p. (g p.0, p.1)) o)
+    (λ s. option_map {T = A × Text} {U = B × Text} (λ p. (g p.0, p.1)) (there s))
+some_map {A} {B} g (Some p) there same = λ s. ap (λ o. option_map {T = A × Text} {U = B × Text} (λ p. (g p.0, p.1)) o)
+    (same s)
 some_map g None there h = tt
 
-some_if : {A : Type 0} (b : Bool) (p q : Option (A × Text)) (p' q' : Text → Option (A × Text)) → StaysSome p p' → StaysSome q q' → StaysSome (if b then p else q) (λ s. if b then p' s else q' s)
+some_if : {A : Type 0} (b : Bool) (p q : Option (A × Text)) (p' q' : Text → Option (A × Text)) → StaysSome p p' →
+    StaysSome q q' → StaysSome (if b then p else q) (λ s. if b then p' s else q' s)
 some_if true p q p' q' h k = h
 some_if false p q p' q' h k = k
 
-fixed_on : (k v d : ℕ) (t : Text) → ((v : ℕ) → StaysSome (fixed_digits k v t) (λ s. fixed_digits k v (t ++ s))) → (b : Bool)
-    → StaysSome (option_and_then (λ (p : ℕ × Text). fixed_digits k (v * 16 + p.0) p.1) (if b then Some (d, t) else None)) (λ s. option_and_then (λ (p : ℕ × Text). fixed_digits k (v * 16 + p.0) p.1) (if b then Some (d, t ++ s) else None))
+fixed_on : (k v d : ℕ) (t : Text) → ((v : ℕ) → StaysSome (fixed_digits k v t) (λ s. fixed_digits k v (t ++ s))) →
+    (b : Bool)
+    → StaysSome (option_and_then (λ (p : ℕ × Text). fixed_digits k (v * 16 + p.0) p.1)
+    (if b then Some (d, t) else None))
+    (λ s. option_and_then (λ (p : ℕ × Text). fixed_digits k (v * 16 + p.0) p.1)
+    (if b then Some (d, t ++ s) else None))
 fixed_on k v d t more true = more (v * 16 + d)
 fixed_on k v d t more false = tt
 
@@ -210,13 +254,18 @@ module _ (n m : ℕ) (x : Bool) (h : ℕ) (h' : Text → ℕ) where
   unfolding value fixed_digits hex_digit
   value_brace w t = braced_firm n m x h h' t
 
-  value_on : (w c : ℕ) (t : Text) → c ≢ open_brace → (o : Option (ℕ × Text)) → fixed_digits (suc w) 0 (c ∷ t) ≡ o → StaysSome o (λ s. fixed_digits (suc w) 0 (c ∷ (t ++ s)))
-      → Firm (c ∷ t) (choose o (λ p. gives p.0 p.1) (choose (strip open_brace (c ∷ t)) (braced_value n x h) (fault_at h invalid_hex))) (λ s. value m x (h' s) (suc w) (c ∷ (t ++ s)))
+  value_on : (w c : ℕ) (t : Text) → c ≢ open_brace → (o : Option (ℕ × Text)) → fixed_digits (suc w) 0 (c ∷ t) ≡ o →
+      StaysSome o (λ s. fixed_digits (suc w) 0 (c ∷ (t ++ s)))
+      → Firm (c ∷ t)
+      (choose o (λ p. gives p.0 p.1)
+      (choose (strip open_brace (c ∷ t)) (braced_value n x h) (fault_at h invalid_hex)))
+      (λ s. value m x (h' s) (suc w) (c ∷ (t ++ s)))
   unfolding value
   value_on w c t other None e k = let test : (c == open_brace) ≡ false = grind (arith, nat_tests) in rw test tt
   value_on w c t other (Some p) e same = (
     (c, t, refl, λ z. not_both p (sym e ∙ fixed_paren w 0 c t z)),
-    λ s. ap (λ o. choose o (λ (p : ℕ × Text). gives p.0 p.1) (choose (strip open_brace (c ∷ (t ++ s))) (braced_value m x (h' s)) (fault_at (h' s) invalid_hex))) (same s),
+    λ s. ap (λ o. choose o (λ (p : ℕ × Text). gives p.0 p.1)
+        (choose (strip open_brace (c ∷ (t ++ s))) (braced_value m x (h' s)) (fault_at (h' s) invalid_hex))) (same s),
   )
 
   value_other : (w c : ℕ) (t : Text) → c ≢ open_brace → ValueFirm w (c ∷ t)
@@ -234,15 +283,20 @@ module _ (n m : ℕ) (x : Bool) (h : ℕ) (h' : Text → ℕ) where
     by_brace (inl e) = subst (λ d. ValueFirm w (d ∷ t)) (sym e) (value_brace w t)
     by_brace (inr other) = value_other w c t other
 
-coded_on : (h : ℕ) (b c : Bool) (y z : Escape) (t u : Text) (there other : Text → Reading Escape) → Begins t → ((s : Text) → there s ≡ (if b then gives y (u ++ s) else if c then gives z (u ++ s) else other s)) → Firm t (if b then gives y u else if c then gives z u else fault_at h invalid_codepoint_value) there
+coded_on : (h : ℕ) (b c : Bool) (y z : Escape) (t u : Text) (there other : Text → Reading Escape) → Begins t →
+    ((s : Text) → there s ≡ (if b then gives y (u ++ s) else if c then gives z (u ++ s) else other s)) →
+    Firm t (if b then gives y u else if c then gives z u else fault_at h invalid_codepoint_value) there
 coded_on h true c y z t u there other front same = (front, same)
 coded_on h false true y z t u there other front same = (front, same)
 coded_on h false false y z t u there other front same = tt
 
-coded_firm : (f : Flags) (w h : ℕ) (h' : Text → ℕ) (t : Text) (o : Reading ℕ) (there : Text → Reading ℕ) → Firm t o there → Firm t (o >=> leaf_of_value f w h) (λ s. there s >=> leaf_of_value f w (h' s))
+coded_firm : (f : Flags) (w h : ℕ) (h' : Text → ℕ) (t : Text) (o : Reading ℕ) (there : Text → Reading ℕ) →
+    Firm t o there → Firm t (o >=> leaf_of_value f w h) (λ s. there s >=> leaf_of_value f w (h' s))
 unfolding leaf_of_value
 coded_firm f w h h' t (gives a u) there (front, same) =
-    coded_on h (w == 2 && not f.unicode && nat_le 0x80 a && nat_le a 0xFF) (is_scalar a) (literal_bytes a) (literal a f.casei) t u _ (λ s. fault_at (h' s) invalid_codepoint_value) front (λ s. ap (λ o. o >=> leaf_of_value f w (h' s)) (same s))
+    coded_on h (w == 2 && not f.unicode && nat_le 0x80 a && nat_le a 0xFF) (is_scalar a) (literal_bytes a)
+    (literal a f.casei) t u _ (λ s. fault_at (h' s) invalid_codepoint_value) front
+    (λ s. ap (λ o. o >=> leaf_of_value f w (h' s)) (same s))
 coded_firm f w h h' t (fails e) there k = tt
 
 hex_stays : (n m : ℕ) (f : Flags) (w : ℕ) (t : Text) → Stays (hex n f (suc w) t) (λ s. hex m f (suc w) (t ++ s))
@@ -251,7 +305,8 @@ hex_stays n m f w t =
     behind_layout n m f.ignore_space t
     (λ v. value n f.ignore_space (place_of n v) (suc w) v >=> leaf_of_value f (suc w) (place_of n v))
     (λ s v. value m f.ignore_space (place_of m v) (suc w) v >=> leaf_of_value f (suc w) (place_of m v))
-    (λ v. coded_firm f (suc w) (place_of n v) (λ s. place_of m (v ++ s)) v _ _ (value_firm n m f.ignore_space (place_of n v) (λ s. place_of m (v ++ s)) w v))
+    (λ v. coded_firm f (suc w) (place_of n v) (λ s. place_of m (v ++ s)) v _ _
+    (value_firm n m f.ignore_space (place_of n v) (λ s. place_of m (v ++ s)) w v))
 
 -- Properties.
 
@@ -261,17 +316,25 @@ cut_stays mark (c ∷ t) = some_if (c == mark) _ _ _ _ (λ s. refl) (some_map (�
 
 name_stays : (c : ℕ) (t : Text) → StaysSome (name_at (c ∷ t)) (λ s. name_at (c ∷ (t ++ s)))
 unfolding name_at
-name_stays c t = some_if (c == open_brace) _ _ _ _ (some_map property_spec.braced _ _ (cut_stays close_brace t)) (λ s. refl)
+name_stays c t = some_if (c == open_brace) _ _ _ _ (some_map property_spec.braced _ _ (cut_stays close_brace t))
+    (λ s. refl)
 
-pub read_stays : (b : Bool) (c : ℕ) (t : Text) → StaysSome (read_property b (c ∷ t)) (λ s. read_property b (c ∷ (t ++ s)))
+pub read_stays : (b : Bool) (c : ℕ) (t : Text) →
+    StaysSome (read_property b (c ∷ t)) (λ s. read_property b (c ∷ (t ++ s)))
 unfolding read_property
-read_stays b c t = some_map (λ (w : PropertyName). let p : Property = record { negated = b; name = w } in p) _ _ (name_stays c t)
+read_stays b c t = some_map (λ (w : PropertyName). let p : Property = record { negated = b; name = w } in p) _ _
+    (name_stays c t)
 
-property_on : (f : Flags) (p q c d : ℕ) (t : Text) (o : Option (Property × Text)) → StaysSome o (λ s. read_property (c ∈ "P") (d ∷ (t ++ s))) → Stays (choose o (λ q. gives (delegate (property_text f.unicode true q.0) f.casei) q.1) (fault_at p unclosed_unicode_name)) (λ s. property f true q c (d ∷ (t ++ s)))
+property_on : (f : Flags) (p q c d : ℕ) (t : Text) (o : Option (Property × Text)) →
+    StaysSome o (λ s. read_property (c ∈ "P") (d ∷ (t ++ s))) →
+    Stays (choose o (λ q. gives (delegate (property_text f.unicode true q.0) f.casei) q.1)
+    (fault_at p unclosed_unicode_name)) (λ s. property f true q c (d ∷ (t ++ s)))
 unfolding property
 property_on f p q c d t None h = tt
 property_on f p q c d t (Some a) same = λ s.
-    ap (λ (o : Option (Property × Text)). choose o (λ q. gives (delegate (property_text f.unicode true q.0) f.casei) q.1) (fault_at q unclosed_unicode_name)) (same s)
+    ap (λ (o : Option (Property × Text)). choose o
+    (λ q. gives (delegate (property_text f.unicode true q.0) f.casei) q.1) (fault_at q unclosed_unicode_name))
+    (same s)
 
 property_stays : (f : Flags) (p q c : ℕ) (t : Text) → Stays (property f true p c t) (λ s. property f true q c (t ++ s))
 unfolding property
@@ -280,11 +343,13 @@ property_stays f p q c (d ∷ t) = property_on f p q c d t _ (read_stays (c ∈ 
 
 -- The table.
 
-numbered_on : (p : ℕ) (there : Text → Reading Escape) (o : Reading ℕ) → Stays (o >=> (λ k u. fault_at p invalid_class)) there
+numbered_on : (p : ℕ) (there : Text → Reading Escape) (o : Reading ℕ) →
+    Stays (o >=> (λ k u. fault_at p invalid_class)) there
 numbered_on p there (gives k u) = tt
 numbered_on p there (fails e) = tt
 
-number_escape_stays : (n : ℕ) (f : Flags) (p : ℕ) (t : Text) (there : Text → Reading Escape) → Stays (number_escape n f true p t) there
+number_escape_stays : (n : ℕ) (f : Flags) (p : ℕ) (t : Text) (there : Text → Reading Escape) →
+    Stays (number_escape n f true p t) there
 unfolding number_escape
 number_escape_stays n f p t there = numbered_on p there (group_number n t)
 
@@ -293,9 +358,11 @@ value_stays e t = λ s. refl
 
 in_class_stays : (p q c : ℕ) (t : Text) → Stays (in_class p c t) (λ s. in_class q c (t ++ s))
 unfolding in_class
-in_class_stays p q c t = stays_if (c ∈ "b") _ _ _ _ (value_stays _ t) (stays_if (c ∈ "kAzBKGR") _ _ _ _ (value_stays _ t) tt)
+in_class_stays p q c t = stays_if (c ∈ "b") _ _ _ _ (value_stays _ t)
+    (stays_if (c ∈ "kAzBKGR") _ _ _ _ (value_stays _ t) tt)
 
-escape_stays : (n m : ℕ) (f : Flags) (p q : ℕ) (t : Text) → Stays (escape n f true p t) (λ s. escape m f true q (t ++ s))
+escape_stays : (n m : ℕ) (f : Flags) (p q : ℕ) (t : Text) →
+    Stays (escape n f true p t) (λ s. escape m f true q (t ++ s))
 unfolding escape
 escape_stays n m f p q [] = tt
 escape_stays n m f p q (c ∷ t) =
@@ -318,5 +385,7 @@ escape_stays n m f p q (c ∷ t) =
     (in_class_stays p q c t))))))))))))))))
 
 -- what the escape stands for and what is left stay the same
-pub escape_frame : (n m : ℕ) (f : Flags) (p q : ℕ) (t u s : Text) (e : Escape) → escape n f true p t ≡ gives e u → escape m f true q (t ++ s) ≡ gives e (u ++ s)
-escape_frame n m f p q t u s e h = (subst (λ o. Stays o (λ s. escape m f true q (t ++ s))) h (escape_stays n m f p q t)) s
+pub escape_frame : (n m : ℕ) (f : Flags) (p q : ℕ) (t u s : Text) (e : Escape) → escape n f true p t ≡ gives e u →
+    escape m f true q (t ++ s) ≡ gives e (u ++ s)
+escape_frame n m f p q t u s e h = (subst (λ o. Stays o (λ s. escape m f true q (t ++ s))) h (escape_stays n m f p q t))
+    s

@@ -1,5 +1,7 @@
--- What holds of every escape: it leaves the end of the text, and its fault stands at a cut of the text or one past its end.
-use Rattle.std.proofs.Common.{length, codes, ◌≡◌, ℕ, zero, suc, ◌+◌, ◌*◌, ◌≤◌, Bool, true, false, ◌==◌, nat_lt, if◌then◌else◌, [], ◌∷◌, ◌++◌, Option, Some, None, option_map, refl, subst, arith}
+-- What holds of every escape: it leaves the end of the text, and its fault stands at a cut of the text or one past its
+-- end.
+use Rattle.std.proofs.Common.{length, codes, ◌≡◌, ℕ, zero, suc, ◌+◌, ◌*◌, ◌≤◌, Bool, true, false, ◌==◌, nat_lt}
+use Rattle.std.proofs.Common.{if◌then◌else◌, [], ◌∷◌, ◌++◌, Option, Some, None, option_map, refl, subst, arith}
 use Rattle.std.specs.Char.{digit_value}
 use Rattle.fancy_lex.specs.declared.flags.Flags.{Flags}
 use Rattle.fancy_lex.specs.Boundary as boundaries
@@ -15,8 +17,12 @@ use Rattle.fancy_lex.specs.Reading.{Reading, gives, fails, fault_at, ◌>=>◌, 
 use Rattle.fancy_lex.specs.Referred.{Reference}
 use Rattle.fancy_lex.specs.Text.{Text, EndsWith as Ends, bytes, strip, place_of, cut_at}
 use Rattle.fancy_lex.proofs.LayoutLaws.{layout_cut, layout_stands}
-use Rattle.fancy_lex.proofs.LeaveLaws.{ends_whole, ends_past, ends_twice, stands_here, stands_past, Leaves, whole, whole_next, leaves_none, leaves_told, leaves_retold, leaves_past, leaves_if, leaves_both, leaves_choose, ends_strip, LeavesSome, ends_some, some_if, some_past, some_both, leaves}
-use Rattle.fancy_lex.proofs.ReferenceLaws.{takes_number, takes_numbered_reference, takes_back_reference, takes_subroutine_call}
+use Rattle.fancy_lex.proofs.LeaveLaws.{ends_whole, ends_past, ends_twice, stands_here, stands_past, Leaves, whole}
+use Rattle.fancy_lex.proofs.LeaveLaws.{whole_next, leaves_none, leaves_told, leaves_retold, leaves_past, leaves_if}
+use Rattle.fancy_lex.proofs.LeaveLaws.{leaves_both, leaves_choose, ends_strip, LeavesSome, ends_some, some_if}
+use Rattle.fancy_lex.proofs.LeaveLaws.{some_past, some_both, leaves}
+use Rattle.fancy_lex.proofs.ReferenceLaws.{takes_number, takes_numbered_reference, takes_back_reference}
+use Rattle.fancy_lex.proofs.ReferenceLaws.{takes_subroutine_call}
 use Rattle.fancy_lex.proofs.TakeLaws.{takes_leaves}
 use Rattle.fancy_lex.proofs.TextLemmas.{bytes-append}
 
@@ -32,7 +38,8 @@ leaves_fixed zero v t = ends_whole t
 leaves_fixed (suc k) v t = some_both t (hexes.hex_digit t) _ (leaves_digit t) (λ p. leaves_fixed k (v * 16 + p.0) p.1)
 
 -- properties
-some_map : {A B : Type 0} (t : Text) (o : Option (A × Text)) (f : A → B) → LeavesSome t o → LeavesSome t (option_map (λ p. (f p.0, p.1)) o)
+some_map : {A B : Type 0} (t : Text) (o : Option (A × Text)) (f : A → B) → LeavesSome t o →
+    LeavesSome t (option_map (λ p. (f p.0, p.1)) o)
 some_map t (Some p) f l = l
 some_map t None f l = tt
 
@@ -42,7 +49,8 @@ leaves_cut mark (c ∷ t) = at (c == mark) (leaves_cut mark t) where
   past : Ends (c ∷ t) t
   past = ends_past c t t (ends_whole t)
 
-  at : (b : Bool) → LeavesSome t (cut_at mark t) → LeavesSome (c ∷ t) (if b then Some ([], t) else option_map (λ p. (c ∷ p.0, p.1)) (cut_at mark t))
+  at : (b : Bool) → LeavesSome t (cut_at mark t) →
+      LeavesSome (c ∷ t) (if b then Some ([], t) else option_map (λ p. (c ∷ p.0, p.1)) (cut_at mark t))
   at true l = past
   at false l = some_past (c ∷ t) t _ past (some_map t (cut_at mark t) _ l)
 
@@ -53,7 +61,8 @@ leaves_name_at (c ∷ t) = at (c == open_brace) where
   past : Ends (c ∷ t) t
   past = ends_past c t t (ends_whole t)
 
-  at : (b : Bool) → LeavesSome (c ∷ t) (if b then option_map (λ p. (braced p.0, p.1)) (cut_at close_brace t) else Some (single c, t))
+  at : (b : Bool) →
+      LeavesSome (c ∷ t) (if b then option_map (λ p. (braced p.0, p.1)) (cut_at close_brace t) else Some (single c, t))
   at true = some_past (c ∷ t) t _ past (some_map t (cut_at close_brace t) _ (leaves_cut close_brace t))
   at false = past
 
@@ -84,7 +93,8 @@ module _ (n h : ℕ) where
     leaves_digits zero some v t = leaves_closed some v t
     leaves_digits (suc k) some v t =
         leaves_choose (hexes.hex_digit t)
-        (λ p e. leaves_past (ends_some t _ p (leaves_digit t) e) (leaves_both (leaves_layout n h x p.1) (λ _ u. leaves_digits k true (v * 16 + p.0) u)))
+        (λ p e. leaves_past (ends_some t _ p (leaves_digit t) e)
+        (leaves_both (leaves_layout n h x p.1) (λ _ u. leaves_digits k true (v * 16 + p.0) u)))
         (leaves_closed some v t)
 
     leaves_braced : (t : Text) → Leaves n h t (hexes.braced_value n x h t)
@@ -95,7 +105,8 @@ module _ (n h : ℕ) where
     unfolding hexes.value
     leaves_value width t =
         leaves_choose (hexes.fixed_digits width 0 t) (λ p e. leaves (ends_some t _ p (leaves_fixed width 0 t) e))
-        (leaves_choose (strip open_brace t) (λ u e. leaves_past (ends_strip open_brace t u e) (leaves_braced u)) (leaves_told))
+        (leaves_choose (strip open_brace t) (λ u e. leaves_past (ends_strip open_brace t u e) (leaves_braced u))
+        (leaves_told))
 
   module _ (f : Flags) (width : ℕ) where
     none_at_code : {A : Type 0} {k : Kind} {t : Text} → Leaves {A = A} n h t (fault_at h k)
@@ -115,7 +126,9 @@ module _ (n p : ℕ) where
 
   -- word boundaries
   module _ (x : Bool) where
-    leaves_name_behind : (k : ℕ) → ((t : Text) → Leaves n p t (boundaries.name n x p k t)) → (t : Text) → Leaves n p t (boundaries.up_to_brace (fault_at p (invalid_escape (codes "\\b{...}"))) (gives []) (λ c v. boundaries.name n x p k v >=> (λ w v. gives (c ∷ w) v)) t)
+    leaves_name_behind : (k : ℕ) → ((t : Text) → Leaves n p t (boundaries.name n x p k t)) → (t : Text) →
+        Leaves n p t (boundaries.up_to_brace (fault_at p (invalid_escape (codes "\\b{...}"))) (gives [])
+        (λ c v. boundaries.name n x p k v >=> (λ w v. gives (c ∷ w) v)) t)
     leaves_name_behind k more [] = leaves_told
     leaves_name_behind k more (c ∷ t) =
         let past = ends_past c t t (ends_whole t) in
@@ -128,18 +141,31 @@ module _ (n p : ℕ) where
 
     leaves_named : (negated : Bool) (t : Text) → Leaves n p t (boundaries.named_boundary n x p negated t)
     unfolding boundaries.named_boundary
-    leaves_named negated t = leaves_both (leaves_name (suc (length t)) t) (λ w u. leaves_choose (boundaries.boundary_of_name negated w) (λ a e. whole u) (leaves_told))
+    leaves_named negated t = leaves_both (leaves_name (suc (length t)) t)
+        (λ w u. leaves_choose (boundaries.boundary_of_name negated w) (λ a e. whole u) (leaves_told))
 
     pub leaves_boundary : (negated : Bool) (t : Text) → Leaves n p t (boundaries.boundary n x p negated t)
     unfolding boundaries.boundary
     leaves_boundary negated t = at (layout n x t) refl where
-      at : (o : Skipped) → layout n x t ≡ o → Leaves n p t (layout_reading o >=> (λ _ u. choose (strip open_brace u) (λ inside. layout_reading (layout n x inside) >=> (λ _ v. if boundaries.at_count v then gives (boundaries.unnamed_boundary negated) t else boundaries.named_boundary n x p negated inside)) (gives (boundaries.unnamed_boundary negated) t)))
-      at (rest u) e = leaves_choose (strip open_brace u) (λ inside h. braces u inside e h (layout n x inside) refl) (whole t) where
-        braces : (u inside : Text) → layout n x t ≡ rest u → strip open_brace u ≡ Some inside → (o : Skipped) → layout n x inside ≡ o → Leaves n p t (layout_reading o >=> (λ _ v. if boundaries.at_count v then gives (boundaries.unnamed_boundary negated) t else boundaries.named_boundary n x p negated inside))
-        braces u inside e h (rest v) i =
-            leaves_if (boundaries.at_count v) (whole t)
-            (leaves_past (ends_twice t u inside (layout_cut n x t u e) (ends_strip open_brace u inside h)) (leaves_named negated inside))
-        braces u inside e h (fault q) i = leaves_none (stands_past (ends_twice t u inside (layout_cut n x t u e) (ends_strip open_brace u inside h)) (layout_stands n p x inside q i))
+      at : (o : Skipped) → layout n x t ≡ o →
+          Leaves n p t (layout_reading o >=>
+          (λ _ u. choose (strip open_brace u)
+          (λ inside. layout_reading (layout n x inside) >=>
+          (λ _ v. if boundaries.at_count v then gives (boundaries.unnamed_boundary negated) t
+          else boundaries.named_boundary n x p negated inside)) (gives (boundaries.unnamed_boundary negated) t)))
+      at (rest u) e = leaves_choose (strip open_brace u) (λ inside h. braces u inside e h (layout n x inside) refl)
+          (whole t) where
+            braces : (u inside : Text) → layout n x t ≡ rest u → strip open_brace u ≡ Some inside → (o : Skipped) →
+                layout n x inside ≡ o → Leaves n p t
+                (layout_reading o >=> (λ _ v. if boundaries.at_count v then gives (boundaries.unnamed_boundary negated) t
+                else boundaries.named_boundary n x p negated inside))
+            braces u inside e h (rest v) i =
+                leaves_if (boundaries.at_count v) (whole t)
+                (leaves_past (ends_twice t u inside (layout_cut n x t u e) (ends_strip open_brace u inside h))
+                (leaves_named negated inside))
+            braces u inside e h (fault q) i = leaves_none
+                (stands_past (ends_twice t u inside (layout_cut n x t u e) (ends_strip open_brace u inside h))
+                (layout_stands n p x inside q i))
       at (fault q) e = leaves_none (layout_stands n p x t q e)
 
 -- escapes
@@ -151,7 +177,8 @@ module _ (n : ℕ) (f : Flags) (inside : Bool) (p : ℕ) where
   unfolding property
   leaves_property c [] = none_here
   leaves_property c (d ∷ t) =
-      leaves_choose (read_property (c ∈ "P") (d ∷ t)) (λ q e. leaves (ends_some (d ∷ t) _ q (leaves_read (c ∈ "P") (d ∷ t)) e)) none_here
+      leaves_choose (read_property (c ∈ "P") (d ∷ t))
+      (λ q e. leaves (ends_some (d ∷ t) _ q (leaves_read (c ∈ "P") (d ∷ t)) e)) none_here
 
   leaves_backref_leaf : {t : Text} {o : Reading Reference} → Leaves n p t o → Leaves n p t (backref_leaf f o)
   leaves_backref_leaf h = leaves_both h (λ r u. whole u)
@@ -159,23 +186,28 @@ module _ (n : ℕ) (f : Flags) (inside : Bool) (p : ℕ) where
   leaves_number_escape : (t : Text) → Leaves n p t (number_escape n f inside p t)
   unfolding number_escape
   leaves_number_escape t =
-      leaves_if inside (leaves_both (takes_leaves (place_of n t) 1 t (stands_here t) (takes_number n t)) (λ k u. none_here))
+      leaves_if inside (leaves_both (takes_leaves (place_of n t) 1 t (stands_here t) (takes_number n t))
+      (λ k u. none_here))
       (leaves_backref_leaf (takes_leaves (place_of n t) 1 t (stands_here t) (takes_numbered_reference n t)))
 
   leaves_named_reference : (t : Text) → Leaves n p t (backref_leaf f (back_reference n t))
-  leaves_named_reference t = leaves_backref_leaf (takes_leaves (place_of n t) 3 t (stands_here t) (takes_back_reference n t))
+  leaves_named_reference t = leaves_backref_leaf
+      (takes_leaves (place_of n t) 3 t (stands_here t) (takes_back_reference n t))
 
   leaves_call : (c : ℕ) (t : Text) → Leaves n p t (call n p c t)
   unfolding call
   leaves_call c [] = none_here
-  leaves_call c (d ∷ t) = leaves_both (takes_leaves (place_of n (d ∷ t)) 1 (d ∷ t) (stands_here (d ∷ t)) (takes_subroutine_call n (d ∷ t))) (λ r u. whole u)
+  leaves_call c (d ∷ t) =
+      leaves_both (takes_leaves (place_of n (d ∷ t)) 1 (d ∷ t) (stands_here (d ∷ t)) (takes_subroutine_call n (d ∷ t)))
+      (λ r u. whole u)
 
   boundary_here : (negated : Bool) (t : Text) → Leaves n p t (boundaries.boundary n f.ignore_space p negated t)
   boundary_here = leaves_boundary n p f.ignore_space
 
   leaves_outside : (c : ℕ) (t : Text) → Leaves n p t (outside n f p c t)
   unfolding outside
-  leaves_outside c t = search (leaves_if, whole, none_here, boundary_here, leaves_named_reference, leaves_call) depth 60 fits 3000
+  leaves_outside c t = search (leaves_if, whole, none_here, boundary_here, leaves_named_reference, leaves_call) depth 60
+      fits 3000
 
   leaves_in_class : (c : ℕ) (t : Text) → Leaves n p t (in_class p c t)
   unfolding in_class
@@ -203,14 +235,17 @@ module _ (n : ℕ) (f : Flags) (inside : Bool) (p : ℕ) where
   unfolding escape
   leaves_escape [] = none_here
   leaves_escape (c ∷ t) =
-      search (leaves_if, whole_next, leaves_number_escape, hex_next, property_next, in_class_next, outside_next) depth 60 fits 3000
+      search (leaves_if, whole_next, leaves_number_escape, hex_next, property_next, in_class_next, outside_next) depth
+      60 fits 3000
 
 -- what is left is the end of the text
-pub escape_cut : (n : ℕ) (f : Flags) (b : Bool) (p : ℕ) (t u : Text) (e : Escape) → escape n f b p t ≡ gives e u → (w : Text) × (t ≡ w ++ u)
+pub escape_cut : (n : ℕ) (f : Flags) (b : Bool) (p : ℕ) (t u : Text) (e : Escape) → escape n f b p t ≡ gives e u →
+    (w : Text) × (t ≡ w ++ u)
 escape_cut n f b p t u e q = at (escape n f b p t) (leaves_escape n f b p t) q where
   at : (o : Reading Escape) → Leaves n p t o → o ≡ gives e u → Ends t u
   at (gives a v) (leaves h) q = let same : v ≡ u = cc in subst (Ends t) same h
   at (fails g) l q = absurd (cc)
 
-pub escape_within : (n : ℕ) (f : Flags) (b : Bool) (p : ℕ) (t u : Text) (e : Escape) → escape n f b p t ≡ gives e u → bytes u ≤ bytes t
+pub escape_within : (n : ℕ) (f : Flags) (b : Bool) (p : ℕ) (t u : Text) (e : Escape) → escape n f b p t ≡ gives e u →
+    bytes u ≤ bytes t
 escape_within n f b p t u e q = let (w, cut) = escape_cut n f b p t u e q in rw cut (omega (arith, bytes-append w u))

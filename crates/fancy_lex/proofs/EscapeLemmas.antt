@@ -14,13 +14,16 @@ module _ (f : Flags) (inside : Bool) (p c : ℕ) (t : Text) where
   unfolding property
   property_end e = rw e refl
 
-  pub property_unclosed : (d : ℕ) (r : Text) → t ≡ d ∷ r → read_property (c ∈ "P") t ≡ None → property f inside p c t ≡ fault_at p unclosed_unicode_name
+  pub property_unclosed : (d : ℕ) (r : Text) → t ≡ d ∷ r → read_property (c ∈ "P") t ≡ None →
+      property f inside p c t ≡ fault_at p unclosed_unicode_name
   unfolding property
   property_unclosed d r e h =
       let here : read_property (c ∈ "P") (d ∷ r) ≡ None = ap (read_property (c ∈ "P")) (sym e) ∙ h in
       rw (e, property, here) refl
 
-pub property_read : (f : Flags) (inside : Bool) (p c : ℕ) (t : Text) (q : Property) (v : Text) → read_property (c ∈ "P") t ≡ Some (q, v) → property f inside p c t ≡ gives (delegate (property_text f.unicode inside q) f.casei) v
+pub property_read : (f : Flags) (inside : Bool) (p c : ℕ) (t : Text) (q : Property) (v : Text) →
+    read_property (c ∈ "P") t ≡ Some (q, v) →
+    property f inside p c t ≡ gives (delegate (property_text f.unicode inside q) f.casei) v
 unfolding property read_property name_at
 property_read f inside p c [] q v h = absurd (nothing h) where
   nothing : {A : Type 0} {a : A} → ◌≡◌ {A = Option A} None (Some a) → ⊥

@@ -1,5 +1,6 @@
 -- What an escape stands for is sound: a reference or call stands in the escape, and a byte is none of ASCII.
-use Rattle.std.proofs.Common.{◌≡◌, ℕ, ◌≤◌, Bool, true, false, ◌==◌, ◌&&◌, nat_le, if◌then◌else◌, not, [], ◌∷◌, Option, Some, None, arith}
+use Rattle.std.proofs.Common.{◌≡◌, ℕ, ◌≤◌, Bool, true, false, ◌==◌, ◌&&◌, nat_le, if◌then◌else◌, not, [], ◌∷◌, Option}
+use Rattle.std.proofs.Common.{Some, None, arith}
 use Rattle.std.proofs.lemmas.Bool.{cond_both}
 use Rattle.std.proofs.lemmas.Bool.Decides.{nat_tests}
 use Rattle.std.specs.Char.{is_ascii_digit}
@@ -7,7 +8,8 @@ use Rattle.fancy_lex.specs.Boundary as boundaries
 use Rattle.fancy_lex.specs.Characters.{open_brace, ◌∈◌}
 use Rattle.fancy_lex.specs.Escape.{escape, number_escape, call, backref_leaf, property, outside, in_class, is_itself}
 use Rattle.fancy_lex.specs.EscapeReference.{group_number, numbered_reference, back_reference, subroutine_call}
-use Rattle.fancy_lex.specs.Escaped.{Escape, literal, literal_bytes, any, assertion, general_newline, keep_out, continue_from_previous_match_end, delegate, backref, subroutine_call as called}
+use Rattle.fancy_lex.specs.Escaped.{Escape, literal, literal_bytes, any, assertion, general_newline, keep_out}
+use Rattle.fancy_lex.specs.Escaped.{continue_from_previous_match_end, delegate, backref, subroutine_call as called}
 use Rattle.fancy_lex.specs.Hex as hexes
 use Rattle.fancy_lex.specs.Layout.{layout}
 use Rattle.fancy_lex.specs.Property.{read_property}
@@ -19,7 +21,8 @@ use Rattle.fancy_lex.specs.declared.escape.Assertion.TheVariants.{LeftWordBounda
 use Rattle.fancy_lex.specs.declared.flags.Flags.{Flags}
 use Rattle.fancy_lex.proofs.LeaveLaws.{ends_whole, ends_past}
 use Rattle.fancy_lex.proofs.ReferenceLaws.{takes_numbered_reference, takes_back_reference, takes_subroutine_call}
-use Rattle.fancy_lex.proofs.ReferencePlaces.{IfGives, ReferenceAt, CallAt, numbered_reference_at, back_reference_at, subroutine_call_at}
+use Rattle.fancy_lex.proofs.ReferencePlaces.{IfGives, ReferenceAt, CallAt, numbered_reference_at, back_reference_at}
+use Rattle.fancy_lex.proofs.ReferencePlaces.{subroutine_call_at}
 use Rattle.fancy_lex.proofs.TakeLaws.{Takes, TakesOrFails, takes, takes_less}
 
 -- the place p, in a pattern of n bytes, lies behind the beginning of t and before that of u
@@ -29,7 +32,8 @@ pub record Stands (n : ℕ) (t u : Text) (p : ℕ) : Type 0 where
   pub takes : Takes 1 mark u
   pub place : p ≡ place_of n mark
 
--- what an escape of t, behind which u is left, stands for: a byte above the ASCII ones, a reference or call that stands in
+-- what an escape of t, behind which u is left, stands for: a byte above the ASCII ones, a reference or call that stands
+-- in
 -- the escape, or another leaf
 abbrev pub IsSound : ℕ → Text → Text → Escape → Type 0
 IsSound n t u (literal_bytes b) = (0x80 ≤ b) × (b ≤ 0xFF)
@@ -78,7 +82,8 @@ module _ (n : ℕ) where
     sound_backref_leaf t (gives r u) (takes a) e = record { mark = t; ends = ends_whole t; takes = a; place = e }
     sound_backref_leaf t (fails z) h e = tt
 
-    sound_calling : (t : Text) (o : Reading Call) → TakesOrFails (place_of n t) 1 t o → IfGives (CallAt (place_of n t)) o →
+    sound_calling : (t : Text) (o : Reading Call) → TakesOrFails (place_of n t) 1 t o →
+        IfGives (CallAt (place_of n t)) o →
         Sound n t (o >=> (λ c u. gives (called c) u))
     sound_calling t (gives c u) (takes a) e = record { mark = t; ends = ends_whole t; takes = a; place = e }
     sound_calling t (fails z) h e = tt
@@ -91,18 +96,21 @@ module _ (n : ℕ) where
 
     sound_named : (t : Text) → Sound n t (backref_leaf f (back_reference n t))
     sound_named t =
-        sound_backref_leaf t (back_reference n t) (takes_less (place_of n t) 3 t (omega arith) (takes_back_reference n t)) (back_reference_at n t)
+        sound_backref_leaf t (back_reference n t)
+        (takes_less (place_of n t) 3 t (omega arith) (takes_back_reference n t)) (back_reference_at n t)
 
     sound_call : (p c : ℕ) (t : Text) → Sound n t (call n p c t)
     unfolding call
     sound_call p c [] = tt
     sound_call p c (d ∷ t) =
-        sound_calling (d ∷ t) (subroutine_call n (d ∷ t)) (takes_subroutine_call n (d ∷ t)) (subroutine_call_at n (d ∷ t))
+        sound_calling (d ∷ t) (subroutine_call n (d ∷ t)) (takes_subroutine_call n (d ∷ t))
+        (subroutine_call_at n (d ∷ t))
 
     sound_coded : (width h v : ℕ) (t u : Text) → Sound n t (hexes.leaf_of_value f width h v u)
     unfolding hexes.leaf_of_value
     sound_coded width h v t u =
-        cond_both (width == 2 && not f.unicode && nat_le 0x80 v && nat_le v 0xFF) _ _ (Sound n t) (λ e. high (width == 2) (not f.unicode) e)
+        cond_both (width == 2 && not f.unicode && nat_le 0x80 v && nat_le v 0xFF) _ _ (Sound n t)
+        (λ e. high (width == 2) (not f.unicode) e)
         (λ _. cond_both (hexes.is_scalar v) _ _ (Sound n t) (λ _. tt) (λ _. tt))
       where
         high : (a b : Bool) → (a && b && nat_le 0x80 v && nat_le v 0xFF) ≡ true → (0x80 ≤ v) × (v ≤ 0xFF)
@@ -114,7 +122,8 @@ module _ (n : ℕ) where
     unfolding hexes.hex
     sound_hex width t =
         sound_both t (layout_reading (layout n f.ignore_space t)) _
-        (λ _ u. sound_both t (hexes.value n f.ignore_space (place_of n u) width u) _ (λ v w. sound_coded width (place_of n u) v t w))
+        (λ _ u. sound_both t (hexes.value n f.ignore_space (place_of n u) width u) _
+        (λ v w. sound_coded width (place_of n u) v t w))
 
     sound_property : (inside : Bool) (p c : ℕ) (t : Text) → Sound n t (property f inside p c t)
     unfolding property
@@ -159,7 +168,8 @@ module _ (n : ℕ) where
     sound_in_class : (p c : ℕ) (t : Text) → Sound n t (in_class p c t)
     unfolding in_class
     sound_in_class p c t =
-        cond_both (c ∈ "b") _ _ (Sound n t) (λ _. tt) (λ _. cond_both (c ∈ "kAzBKGR") _ _ (Sound n t) (λ _. tt) (λ _. tt))
+        cond_both (c ∈ "b") _ _ (Sound n t) (λ _. tt)
+        (λ _. cond_both (c ∈ "kAzBKGR") _ _ (Sound n t) (λ _. tt) (λ _. tt))
 
     -- of all that an escape stands for
     pub sound_escape : (inside : Bool) (p : ℕ) (t : Text) → Sound n t (escape n f inside p t)
@@ -183,4 +193,5 @@ module _ (n : ℕ) where
         cond_both (c ∈ "v") _ _ P (λ _. tt) (λ _.
         cond_both (c ∈ "e") _ _ P (λ _. tt) (λ _.
         cond_both (is_itself inside c) _ _ P (λ _. tt) (λ _.
-        cond_both inside _ _ P (λ _. sound_past c t _ (sound_in_class p c t)) (λ _. sound_past c t _ (sound_outside p c t))))))))))))))))))
+        cond_both inside _ _ P (λ _. sound_past c t _ (sound_in_class p c t))
+        (λ _. sound_past c t _ (sound_outside p c t))))))))))))))))))

@@ -1,11 +1,13 @@
 -- One step of a run of digits, where a number counts those to come.
-use Rattle.std.proofs.Common.{◌≡◌, add-one, ℕ, suc, ◌+◌, ◌*◌, ◌-◌, ◌<◌, ◌≤◌, ◌^◌, Bool, true, Some, None, refl, arith, nat_lt}
+use Rattle.std.proofs.Common.{◌≡◌, ◌≢◌, add-one, ℕ, suc, ◌+◌, ◌*◌, ◌-◌, ◌<◌, ◌≤◌, ◌^◌, Bool, true, false, Some, None}
+use Rattle.std.proofs.Common.{refl, ap, ◌∙◌, arith, nat_lt}
 use Rattle.std.proofs.Math.Nat.{pow-suc, pow-le-pow_right}
 use Rattle.std.proofs.lemmas.Bool.Decides.{nat_tests}
 use Rattle.fancy_lex.specs.Characters.{close_brace}
+use Rattle.fancy_lex.specs.FaultTable.{code_not_read}
 use Rattle.fancy_lex.specs.Text.{Text, strip}
 use Rattle.fancy_lex.specs.Layout.{layout}
-use Rattle.fancy_lex.specs.Reading.{gives, Says, layout_reading}
+use Rattle.fancy_lex.specs.Reading.{gives, fails, Says, layout_reading}
 use Rattle.fancy_lex.specs.declared.error.Error.{Error}
 use Rattle.fancy_lex.proofs.ReadingLemmas.{says_first}
 use Rattle.fancy_lex.specs.Hex.{fixed_digits, hex_digit, digits, closing_brace}
@@ -14,7 +16,8 @@ use Rattle.fancy_lex.specs.Hex.{fixed_digits, hex_digit, digits, closing_brace}
 one_more : (w i : ℕ) → i < w → w - i ≡ suc (w - (i + 1))
 one_more w i h = omega arith
 
-pub fixed_step : (w i v d : ℕ) (t r : Text) → i < w → hex_digit t ≡ Some (d, r) → fixed_digits (w - i) v t ≡ fixed_digits (w - (i + 1)) (v * 16 + d) r
+pub fixed_step : (w i v d : ℕ) (t r : Text) → i < w → hex_digit t ≡ Some (d, r) →
+    fixed_digits (w - i) v t ≡ fixed_digits (w - (i + 1)) (v * 16 + d) r
 unfolding fixed_digits
 fixed_step w i v d t r h e = rw (one_more w i h, e) refl
 
@@ -27,19 +30,34 @@ unfolding fixed_digits
 fixed_done w i v t h = let none : w - i ≡ 0 = omega arith in rw none refl
 
 module _ (n : ℕ) (x : Bool) (h i v : ℕ) (t : Text) where
-  pub digits_step : (d : ℕ) (r u : Text) → i < 8 → hex_digit t ≡ Some (d, r) → layout_reading (layout n x r) ≡ gives tt u → digits n x h (8 - i) (nat_lt 0 i) v t ≡ digits n x h (8 - (i + 1)) (nat_lt 0 (i + 1)) (v * 16 + d) u
+  pub digits_step : (d : ℕ) (r u : Text) → i < 8 → hex_digit t ≡ Some (d, r) →
+      layout_reading (layout n x r) ≡ gives tt u →
+      digits n x h (8 - i) (nat_lt 0 i) v t ≡ digits n x h (8 - (i + 1)) (nat_lt 0 (i + 1)) (v * 16 + d) u
   unfolding digits
   digits_step d r u l e s =
       let some : nat_lt 0 (i + 1) ≡ true = grind (arith, nat_tests) in
       rw (one_more 8 i l, digits, e, s, some) refl
 
-  pub digits_fault : (d : ℕ) (r : Text) (b : Error) → i < 8 → hex_digit t ≡ Some (d, r) → Says b (layout_reading (layout n x r)) → Says b (digits n x h (8 - i) (nat_lt 0 i) v t)
+  pub digits_fault : (d : ℕ) (r : Text) (b : Error) → i < 8 → hex_digit t ≡ Some (d, r) →
+      Says b (layout_reading (layout n x r)) → Says b (digits n x h (8 - i) (nat_lt 0 i) v t)
   unfolding digits
   digits_fault d r b l e s = rw (one_more 8 i l, digits, e) (says_first _ _ b s)
 
-  pub digits_end : i < 8 → hex_digit t ≡ None → digits n x h (8 - i) (nat_lt 0 i) v t ≡ closing_brace h (nat_lt 0 i) v (strip close_brace t)
+  pub digits_end : i < 8 → hex_digit t ≡ None →
+      digits n x h (8 - i) (nat_lt 0 i) v t ≡ closing_brace h (nat_lt 0 i) v (strip close_brace t)
   unfolding digits
   digits_end l e = rw (one_more 8 i l, digits, e) refl
+
+  pub digits_none : i ≡ 0 → hex_digit t ≡ None → digits n x h (8 - i) (nat_lt 0 i) v t ≡ fails (code_not_read h)
+  digits_none z e =
+      let none : nat_lt 0 i ≡ false = grind (arith, nat_tests) in
+      digits_end (omega arith) e ∙ ap (λ some. closing_brace h some v (strip close_brace t)) none
+
+  pub digits_some : i ≢ 0 → i < 8 → hex_digit t ≡ None →
+      digits n x h (8 - i) (nat_lt 0 i) v t ≡ closing_brace h true v (strip close_brace t)
+  digits_some z l e =
+      let some : nat_lt 0 i ≡ true = grind (arith, nat_tests) in
+      digits_end l e ∙ ap (λ some. closing_brace h some v (strip close_brace t)) some
 
   pub digits_done : 8 ≤ i → digits n x h (8 - i) (nat_lt 0 i) v t ≡ closing_brace h true v (strip close_brace t)
   unfolding digits

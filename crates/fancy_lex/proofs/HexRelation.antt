@@ -1,5 +1,6 @@
 -- A hex code's relation holds of exactly what the function answers.
-use Rattle.std.proofs.Common.{◌≡◌, ℕ, zero, suc, ◌+◌, ◌*◌, ◌-◌, ◌<◌, ◌≤◌, ◌⊎◌, inl, inr, Bool, true, false, nat_lt, ◌∷◌, List, Result, Option, Some, None, Bor, refl, ap, sym, ◌∙◌, subst, arith}
+use Rattle.std.proofs.Common.{◌≡◌, ℕ, zero, suc, ◌+◌, ◌*◌, ◌-◌, ◌<◌, ◌≤◌, ◌⊎◌, inl, inr, Bool, true, false, nat_lt, ◌∷◌}
+use Rattle.std.proofs.Common.{List, Result, Option, Some, None, Bor, refl, ap, sym, ◌∙◌, subst, arith}
 use Rattle.std.proofs.lemmas.Bool.Decides.{nat_tests}
 use Rattle.fancy_lex.specs.declared.error.Error.{Error}
 use Rattle.fancy_lex.specs.declared.escape.Escaped.{Escaped}
@@ -7,7 +8,9 @@ use Rattle.fancy_lex.specs.declared.flags.Flags.{Flags}
 use Rattle.fancy_lex.specs.Characters.{open_brace, close_brace}
 use Rattle.fancy_lex.specs.Escaped.{Escape, escape_of}
 use Rattle.fancy_lex.specs.FaultTable.{code_not_read, comment_not_closed}
-use Rattle.fancy_lex.specs.Hex.{hex_digit, fixed_digits, closing_brace, digits, braced_value, value, leaf_of_value, hex, Digits, no_digit, digit, BracedCode, braced, stuck, open_before, open_behind, Code, fixed, in_braces, neither, HexCode, code, code_fault, open_layout}
+use Rattle.fancy_lex.specs.Hex.{hex_digit, fixed_digits, closing_brace, digits, braced_value, value, leaf_of_value, hex}
+use Rattle.fancy_lex.specs.Hex.{Digits, no_digit, digit, BracedCode, braced, stuck, open_before, open_behind, Code}
+use Rattle.fancy_lex.specs.Hex.{fixed, in_braces, neither, HexCode, code, code_fault, open_layout}
 use Rattle.fancy_lex.specs.Layout.{Skipped, rest, fault, layout, Before}
 use Rattle.fancy_lex.specs.Reading.{Reading, gives, fails, ◌>=>◌, choose, Reads, Derives, layout_reading}
 use Rattle.fancy_lex.specs.Text.{Text, strip, place_of}
@@ -26,7 +29,8 @@ module _ (n : ℕ) (x : Bool) (h : ℕ) where
 
   -- behind some digits, with so many steps left
   module _ (t u : Text) (b : Before x t u) where
-    closed : (k v : ℕ) (w : Text) → Digits x k v u w → k ≤ 8 → (k ≡ 8) ⊎ (hex_digit w ≡ None) → (some : Bool) → nat_lt 0 k ≡ some →
+    closed : (k v : ℕ) (w : Text) → Digits x k v u w → k ≤ 8 → (k ≡ 8) ⊎ (hex_digit w ≡ None) → (some : Bool) →
+        nat_lt 0 k ≡ some →
         (o : Option Text) → strip close_brace w ≡ o → BracedCode n x h t (closing_brace h some v o)
     closed k v w g l m true s (Some z) e =
         braced b (subst (Digits x k v u) (strip_is close_brace w z e) g) (grind (arith, nat_tests)) l
@@ -34,7 +38,9 @@ module _ (n : ℕ) (x : Bool) (h : ℕ) where
     closed k v w g l m false s o e = stuck b g l (record { no_more = m; no_end = inl (grind (arith, nat_tests)) })
 
     -- one step, where it is so for the steps left
-    module _ (m : ℕ) (more : (k v : ℕ) (w : Text) → Digits x k v u w → k + m ≡ 8 → BracedCode n x h t (digits n x h m (nat_lt 0 k) v w)) (k v : ℕ) (w : Text) (g : Digits x k v u w) (l : k + suc m ≡ 8) where
+    module _ (m : ℕ) (more : (k v : ℕ) (w : Text) → Digits x k v u w → k + m ≡ 8 →
+        BracedCode n x h t (digits n x h m (nat_lt 0 k) v w)) (k v : ℕ) (w : Text) (g : Digits x k v u w)
+        (l : k + suc m ≡ 8) where
       by_layout : (d : ℕ) (z : Text) → hex_digit w ≡ Some (d, z) → (s : Skipped) → layout n x z ≡ s →
           BracedCode n x h t (layout_reading s >=> (λ _ y. digits n x h m true (v * 16 + d) y))
       by_layout d z e (fault q) i = open_behind b g (omega arith) e (unclosed_sound n x z q i)
@@ -59,7 +65,8 @@ module _ (n : ℕ) (x : Bool) (h : ℕ) where
   unfolding braced_value
   braced_reads t = by_layout (layout n x t) refl
     where
-      by_layout : (s : Skipped) → layout n x t ≡ s → BracedCode n x h t (layout_reading s >=> (λ _ u. digits n x h 8 false 0 u))
+      by_layout : (s : Skipped) → layout n x t ≡ s →
+          BracedCode n x h t (layout_reading s >=> (λ _ u. digits n x h 8 false 0 u))
       by_layout (fault q) e = open_before (unclosed_sound n x t q e)
       by_layout (rest u) e = reads t u (layout_sound n x t u e) 8 0 0 u no_digit refl
 
@@ -76,20 +83,24 @@ module _ (n : ℕ) (x : Bool) (h : ℕ) where
           (in_braces (subst (λ s. fixed_digits width 0 s ≡ None) is e) (braced_reads u))
 
       by_digits : (o : Option (ℕ × Text)) → fixed_digits width 0 t ≡ o →
-          Code n x h width t (choose o (λ p. gives p.0 p.1) (choose (strip open_brace t) (braced_value n x h) (fails (code_not_read h))))
+          Code n x h width t
+          (choose o (λ p. gives p.0 p.1)
+          (choose (strip open_brace t) (braced_value n x h) (fails (code_not_read h))))
       by_digits (Some (v, u)) e = fixed e
       by_digits None e = by_brace e (strip open_brace t) refl
 
   -- ---- whatever the relation gives is the function's answer
 
   -- so many digits are read on the way
-  reached : {k v : ℕ} {t u : Text} → Digits x k v t u → k ≤ 8 → digits n x h 8 false 0 t ≡ digits n x h (8 - k) (nat_lt 0 k) v u
+  reached : {k v : ℕ} {t u : Text} → Digits x k v t u → k ≤ 8 →
+      digits n x h 8 false 0 t ≡ digits n x h (8 - k) (nat_lt 0 k) v u
   reached no_digit l = refl
   reached {t} {u} (digit {k} {v} {d} {u = y} {w} g e b) l =
       reached g (omega arith)
       ∙ digits_step n x h k v y d w u (omega arith) e (ap layout_reading (layout_complete n x w u b))
 
-  last_of_eight : (k v : ℕ) (w : Text) → k ≡ 8 → digits n x h (8 - k) (nat_lt 0 k) v w ≡ closing_brace h (nat_lt 0 k) v (strip close_brace w)
+  last_of_eight : (k v : ℕ) (w : Text) → k ≡ 8 →
+      digits n x h (8 - k) (nat_lt 0 k) v w ≡ closing_brace h (nat_lt 0 k) v (strip close_brace w)
   last_of_eight k v w e =
       let some : nat_lt 0 k ≡ true = grind (arith, nat_tests) in
       digits_done n x h k v w (omega arith) ∙ ap (λ a. closing_brace h a v (strip close_brace w)) (sym some)
@@ -128,7 +139,8 @@ module _ (n : ℕ) (x : Bool) (h : ℕ) where
   braced_is {t} (open_behind {k} {v} {d} {q} {u} {w} {z} b g l e i) =
       started t u b ∙ reached g (omega arith) ∙ open_digit k v w d z q l e (unclosed_complete n x z q i)
     where
-      open_digit : (k v : ℕ) (w : Text) (d : ℕ) (z : Text) (q : ℕ) → k < 8 → hex_digit w ≡ Some (d, z) → layout n x z ≡ fault q →
+      open_digit : (k v : ℕ) (w : Text) (d : ℕ) (z : Text) (q : ℕ) → k < 8 → hex_digit w ≡ Some (d, z) →
+          layout n x z ≡ fault q →
           digits n x h (8 - k) (nat_lt 0 k) v w ≡ fails (comment_not_closed q)
       open_digit k v w d z q l e i =
           let one : 8 - k ≡ suc (7 - k) = omega arith in rw (one, digits, e, i) refl
@@ -147,12 +159,15 @@ module _ (n : ℕ) (f : Flags) (width : ℕ) where
   hex_reads t = by_layout (layout n f.ignore_space t) refl
     where
       by_code : (u : Text) → Before f.ignore_space t u → (o : Reading ℕ) →
-          Code n f.ignore_space (place_of n u) width u o → HexCode n f width t (o >=> leaf_of_value f width (place_of n u))
+          Code n f.ignore_space (place_of n u) width u o →
+          HexCode n f width t (o >=> leaf_of_value f width (place_of n u))
       by_code u b (gives v w) h = code b h
       by_code u b (fails e) h = code_fault b h
 
       by_layout : (s : Skipped) → layout n f.ignore_space t ≡ s →
-          HexCode n f width t (layout_reading s >=> (λ _ u. value n f.ignore_space (place_of n u) width u >=> leaf_of_value f width (place_of n u)))
+          HexCode n f width t
+          (layout_reading s >=> (λ _ u. value n f.ignore_space (place_of n u) width u >=> leaf_of_value f width
+          (place_of n u)))
       by_layout (fault q) e = open_layout (unclosed_sound n f.ignore_space t q e)
       by_layout (rest u) e =
           by_code u (layout_sound n f.ignore_space t u e) (value n f.ignore_space (place_of n u) width u)
@@ -170,7 +185,8 @@ module _ (n : ℕ) (f : Flags) (width : ℕ) where
 
   module _ (t : Text) (r : Result (Escaped × Bor (List ℕ)) Error) (g : Reads escape_of r (hex n f width t)) where
     pub hex_derives : Derives escape_of r (HexCode n f width t)
-    hex_derives = derives_answer escape_of r (HexCode n f width t) (hex n f width t) (hex_reads t) (reads_answers escape_of r _ g)
+    hex_derives = derives_answer escape_of r (HexCode n f width t) (hex n f width t) (hex_reads t)
+        (reads_answers escape_of r _ g)
 
     pub hex_only : (o : Reading Escape) → HexCode n f width t o → Reads escape_of r o
     hex_only o h = subst (Reads escape_of r) (hex_is h) g

@@ -1,5 +1,6 @@
 -- Runs of id characters, and where they end.
-use Rattle.std.proofs.Common.{◌≡◌, zero-add, ℕ, ◌<◌, true, false, List, [], ◌∷◌, ◌++◌, length, Option, Some, None, ap, sym, ◌∙◌, refl, arith, append_assoc, chars}
+use Rattle.std.proofs.Common.{◌≡◌, zero-add, ℕ, ◌<◌, true, false, List, [], ◌∷◌, ◌++◌, length, Option, Some, None, ap}
+use Rattle.std.proofs.Common.{sym, ◌∙◌, refl, arith, append_assoc, chars}
 use Rattle.std.specs.Str.{IsUtf8}
 use Rattle.std.proofs.lemmas.List.{nil_from_length, append_cancel_right}
 use Rattle.std.proofs.lemmas.Str.{length-le-encodes}

@@ -1,5 +1,6 @@
 -- Ids and id references: the reading functions and the relations are one.
-use Rattle.std.proofs.Common.{◌≡◌, ◌≢◌, ℕ, ◌^◌, ℤ, pos, Bool, true, false, nat_lt, [], ◌∷◌, ◌++◌, append-nil, Option, Some, None, IfSome, option_map, if◌then◌else◌, refl, ap, sym, ◌∙◌, subst, arith, inl, inr}
+use Rattle.std.proofs.Common.{◌≡◌, ◌≢◌, ℕ, ◌^◌, ℤ, pos, Bool, true, false, nat_lt, [], ◌∷◌, ◌++◌, append-nil, Option}
+use Rattle.std.proofs.Common.{Some, None, IfSome, option_map, if◌then◌else◌, refl, ap, sym, ◌∙◌, subst, arith, inl, inr}
 use Rattle.std.specs.Option.{option_and_then}
 use Rattle.std.specs.Ordering.{int_eq}
 use Rattle.std.specs.Cmp.{signed_Decides}
@@ -10,7 +11,9 @@ use Rattle.unicode.proofs.DerivedComputing.{ucd_derived}
 use Prim.Native.Char.{code}
 use Rattle.fancy_lex.specs.Characters.{◌∈◌}
 use Rattle.fancy_lex.specs.Id.{is_id_char, AllIdChars, IsId, Id, StartsWithId, id}
-use Rattle.fancy_lex.specs.IdReference.{IdReference, id_alone, id_and_amount, amount_alone, IsIdReference, plain, with_amount, bare, IsAmount, with_sign, small_amount, amount, id_or_none, with_amount_of, with_rest, id_reference, view_id_reference}
+use Rattle.fancy_lex.specs.IdReference.{IdReference, id_alone, id_and_amount, amount_alone, IsIdReference, plain}
+use Rattle.fancy_lex.specs.IdReference.{with_amount, bare, IsAmount, with_sign, small_amount, amount, id_or_none}
+use Rattle.fancy_lex.specs.IdReference.{with_amount_of, with_rest, id_reference, view_id_reference}
 use Rattle.fancy_lex.specs.declared.name.id.IdReference as code_reference
 use Rattle.fancy_lex.specs.NumberText.{WritesNumber, whole_number}
 use Rattle.fancy_lex.specs.Text.{Text}
@@ -184,6 +187,7 @@ reference_sound relative t r h = at (split t) where
   at s = by_front s.w s.v s.cut s.all s.stops
 
 pub reference_derives : (relative : Bool) (t : Text) (r : Option code_reference.IdReference) →
-    id_reference relative t ≡ option_map view_id_reference r → IfSome r (λ x. IsIdReference relative t (view_id_reference x))
+    id_reference relative t ≡ option_map view_id_reference r →
+    IfSome r (λ x. IsIdReference relative t (view_id_reference x))
 reference_derives relative t None e = tt
 reference_derives relative t (Some x) e = reference_sound relative t (view_id_reference x) e

@@ -1,13 +1,20 @@
 -- The reading function and the relation are one.
-use Rattle.std.proofs.Common.{◌≡◌, ◌≢◌, Result, Ok, Err, MatchResult, chars, ◌+◌, ℕ, zero, suc, Bool, true, false, List, [], ◌∷◌, ◌++◌, length, Some, None, ap, sym, ◌∙◌, refl, arith, ◌⊎◌, inl, inr, append_assoc, append-nil, length-append, ◌<◌, ◌≤◌, Option, subst}
+use Rattle.std.proofs.Common.{◌≡◌, ◌≢◌, Result, Ok, Err, MatchResult, chars, ◌+◌, ℕ, zero, suc, Bool, true, false, List}
+use Rattle.std.proofs.Common.{[], ◌∷◌, ◌++◌, length, Some, None, ap, sym, ◌∙◌, refl, arith, ◌⊎◌, inl, inr, append_assoc}
+use Rattle.std.proofs.Common.{append-nil, length-append, ◌<◌, ◌≤◌, Option, subst}
 use Rattle.std.proofs.lemmas.Bool.Decides.{nat_tests}
 use Rattle.std.proofs.lemmas.Bool.{cases_eq}
 use Rattle.std.specs.Borrow.{Bor}
 use Rattle.fancy_lex.specs.Characters.{line_feed, hash, open_paren, close_paren, backslash}
 use Rattle.fancy_lex.specs.Text.{Text, Stands, past_end}
 use Rattle.fancy_lex.proofs.LeaveLaws.{stands_end}
-use Rattle.fancy_lex.specs.Layout.{skipped_of, rest, fault, InComment, nothing, plain, pair, InLine, end_line, on_line, comment_head, IsUnit, Units, none, more, Stops, layout, layout_from, between, comment, escaped, line, is_blank, after_comment_head, Open, at_end, after_backslash, Unclosed, Before}
-use Rattle.fancy_lex.proofs.LayoutLemmas.{between_opened, comment_step, comment_end, escaped_end, escaped_step, escaped_end, line_step, between_line, between_blank, between_other, between_plain, between_end, line_end}
+use Rattle.fancy_lex.specs.Layout.{skipped_of, rest, fault, InComment, nothing, plain, pair, InLine, end_line, on_line}
+use Rattle.fancy_lex.specs.Layout.{comment_head, IsUnit, Units, none, more, Stops, layout, layout_from, between}
+use Rattle.fancy_lex.specs.Layout.{comment, escaped, line, is_blank, after_comment_head, Open, at_end, after_backslash}
+use Rattle.fancy_lex.specs.Layout.{Unclosed, Before}
+use Rattle.fancy_lex.proofs.LayoutLemmas.{between_opened, comment_step, comment_end, escaped_end, escaped_step}
+use Rattle.fancy_lex.proofs.LayoutLemmas.{escaped_end, line_step, between_line, between_blank, between_other}
+use Rattle.fancy_lex.proofs.LayoutLemmas.{between_plain, between_end, line_end}
 
 snoc : (i r : Text) (c : ℕ) → (i ++ c ∷ []) ++ r ≡ i ++ c ∷ r
 snoc i r c = append_assoc i (c ∷ []) r
@@ -24,7 +31,8 @@ module _ (n : ℕ) (x : Bool) where
   past_inside (pair {b} {c} {t} e h) r =
       let step = comment_step n x _ b (c ∷ (t ++ r)) refl in
       let pass = escaped_step n x _ c (t ++ r) refl in
-      let now : layout_from n x comment (b ∷ c ∷ (t ++ r)) ≡ layout_from n x escaped (c ∷ (t ++ r)) = grind (arith, nat_tests) in
+      let now : layout_from n x comment (b ∷ c ∷ (t ++ r)) ≡ layout_from n x escaped (c ∷ (t ++ r)) =
+      grind (arith, nat_tests) in
       now ∙ pass ∙ past_inside h r
 
   past_line : {i : Text} → InLine i → (r : Text) → layout_from n x line (i ++ r) ≡ layout_from n x line r
@@ -34,9 +42,11 @@ module _ (n : ℕ) (x : Bool) where
       let now : layout_from n x line (c ∷ (t ++ r)) ≡ layout_from n x line (t ++ r) = grind (arith, nat_tests) in
       now ∙ past_line h r
 
-  past_comment : {i : Text} → InComment i → (r : Text) → layout_from n x between (comment_head ++ (i ++ close_paren ∷ r)) ≡ layout_from n x between r
+  past_comment : {i : Text} → InComment i → (r : Text) →
+      layout_from n x between (comment_head ++ (i ++ close_paren ∷ r)) ≡ layout_from n x between r
   past_comment {i} h r =
-      between_opened n x _ (i ++ close_paren ∷ r) refl ∙ past_inside h (close_paren ∷ r) ∙ comment_step n x _ close_paren r refl
+      between_opened n x _ (i ++ close_paren ∷ r) refl ∙ past_inside h (close_paren ∷ r)
+      ∙ comment_step n x _ close_paren r refl
 
   -- a character that opens no comment
   not_open : (c : ℕ) (r : Text) → c ≢ open_paren → after_comment_head (c ∷ r) ≡ None
@@ -45,7 +55,8 @@ module _ (n : ℕ) (x : Bool) where
   at_hash : x ≡ true → (r : Text) → layout_from n x between (hash ∷ r) ≡ layout_from n x line r
   at_hash on r = between_line n x _ hash r refl refl on refl
 
-  at_blank : x ≡ true → (c : ℕ) → is_blank c ≡ true → (r : Text) → layout_from n x between (c ∷ r) ≡ layout_from n x between r
+  at_blank : x ≡ true → (c : ℕ) → is_blank c ≡ true → (r : Text) →
+      layout_from n x between (c ∷ r) ≡ layout_from n x between r
   at_blank on c b r =
       let other : c ≢ hash = grind (arith, nat_tests) in
       let paren : c ≢ open_paren = grind (arith, nat_tests) in
@@ -59,7 +70,8 @@ module _ (n : ℕ) (x : Bool) where
   past_unit u r (inr (on, inr (i, h, inr (e, z)))) =
       rw (e, z) (at_hash on _ ∙ past_line h [] ∙ line_end n x [] refl ∙ sym (between_end n x [] refl))
 
-past_units : (n : ℕ) (x : Bool) {w v : Text} → Units x w v → layout_from n x between (w ++ v) ≡ layout_from n x between v
+past_units : (n : ℕ) (x : Bool) {w v : Text} → Units x w v →
+    layout_from n x between (w ++ v) ≡ layout_from n x between v
 past_units n x none = refl
 past_units n x (more {v} u t e h hs) = rw (e, append_assoc) (past_unit n x u (t ++ v) h ∙ past_units n x hs)
 
@@ -132,7 +144,8 @@ opened_is (c ∷ d ∷ f ∷ r) i e = grind (arith, nat_tests)
 
 opened_cases : (t : Text) → ((i : Text) × (t ≡ comment_head ++ i)) ⊎ (after_comment_head t ≡ None)
 opened_cases t = opened_by t (after_comment_head t) refl where
-  opened_by : (t : Text) (o : Option Text) → after_comment_head t ≡ o → ((i : Text) × (t ≡ comment_head ++ i)) ⊎ (after_comment_head t ≡ None)
+  opened_by : (t : Text) (o : Option Text) → after_comment_head t ≡ o →
+      ((i : Text) × (t ≡ comment_head ++ i)) ⊎ (after_comment_head t ≡ None)
   opened_by t (Some i) e = inl (i, opened_is t i e)
   opened_by t None e = inr e
 
@@ -148,23 +161,28 @@ some_none t i r n e s = let same = ap after_comment_head e in cc
 told_apart : (c : ℕ) → is_blank c ≡ true → is_blank c ≡ false → ⊥
 told_apart c a b = cc
 
-stops_from : (x : Bool) (t : Text) → after_comment_head t ≡ None → (x ≡ true → (c : ℕ) (r : Text) → t ≡ c ∷ r → (c ≢ hash) × (is_blank c ≡ false)) → Stops x t
-stops_from x t n others = record { no_unit = no_unit; no_comment_head = λ i e. some_none t i (comment_head ++ i) n e refl } where
-  no_unit : (u r : Text) → t ≡ u ++ r → IsUnit x u r → ⊥
-  no_unit u r e (inl (i, h, q)) = some_none t _ _ n (e ∙ ap (λ s. s ++ r) q) refl
-  no_unit u r e (inr (on, inl (c, b, q))) = told_apart c b (others on c r (e ∙ ap (λ s. s ++ r) q)).1
-  no_unit u r e (inr (on, inr (i, h, inl q))) = (others on hash _ (e ∙ ap (λ s. s ++ r) q)).0 refl
-  no_unit u r e (inr (on, inr (i, h, inr (q, z)))) = (others on hash _ (e ∙ ap (λ s. s ++ r) q)).0 refl
+stops_from : (x : Bool) (t : Text) → after_comment_head t ≡ None →
+    (x ≡ true → (c : ℕ) (r : Text) → t ≡ c ∷ r → (c ≢ hash) × (is_blank c ≡ false)) → Stops x t
+stops_from x t n others =
+    record { no_unit = no_unit; no_comment_head = λ i e. some_none t i (comment_head ++ i) n e refl } where
+      no_unit : (u r : Text) → t ≡ u ++ r → IsUnit x u r → ⊥
+      no_unit u r e (inl (i, h, q)) = some_none t _ _ n (e ∙ ap (λ s. s ++ r) q) refl
+      no_unit u r e (inr (on, inl (c, b, q))) = told_apart c b (others on c r (e ∙ ap (λ s. s ++ r) q)).1
+      no_unit u r e (inr (on, inr (i, h, inl q))) = (others on hash _ (e ∙ ap (λ s. s ++ r) q)).0 refl
+      no_unit u r e (inr (on, inr (i, h, inr (q, z)))) = (others on hash _ (e ∙ ap (λ s. s ++ r) q)).0 refl
 
 front_extended : (n : ℕ) (t : Text) → after_comment_head t ≡ None → Front n true t
-front_extended n [] e = stop (stops_from true [] e (λ _ c r q. absurd (nil_cons c r q))) (between_end n true [] refl) where
-  nil_cons : (c : ℕ) (r : Text) → [] ≡ c ∷ r → ⊥
-  nil_cons c r q = cc
+front_extended n [] e = stop (stops_from true [] e (λ _ c r q. absurd (nil_cons c r q))) (between_end n true [] refl)
+  where
+    nil_cons : (c : ℕ) (r : Text) → [] ≡ c ∷ r → ⊥
+    nil_cons c r q = cc
 front_extended n (c ∷ t) e =
     elim (cases_eq c hash) [
       | inl h ↦ elim (split_line t) [
-        | inl (i, r, k, q) ↦ unit (hash ∷ (i ++ line_feed ∷ [])) r (at_line i r h q) (inr (refl, inr (i, k, inl refl))) (omega arith)
-        | inr k ↦ unit (hash ∷ t) [] (ap (λ d. d ∷ t) h ∙ sym (append-nil (hash ∷ t))) (inr (refl, inr (t, k, inr (refl, refl)))) (omega arith)
+        | inl (i, r, k, q) ↦ unit (hash ∷ (i ++ line_feed ∷ [])) r (at_line i r h q) (inr (refl, inr (i, k, inl refl)))
+            (omega arith)
+        | inr k ↦ unit (hash ∷ t) [] (ap (λ d. d ∷ t) h ∙ sym (append-nil (hash ∷ t)))
+            (inr (refl, inr (t, k, inr (refl, refl)))) (omega arith)
       ]
       | inr h ↦ blank_or (is_blank c) refl h
     ] where
@@ -175,7 +193,8 @@ front_extended n (c ∷ t) e =
       blank_or true b h = unit (c ∷ []) t refl (inr (refl, inl (c, b, refl))) (omega arith)
       blank_or false b h =
           stop
-          (stops_from true (c ∷ t) e (λ _ d r q. (λ k. h (head_same d r q ∙ k), ap is_blank (sym (head_same d r q)) ∙ b)))
+          (stops_from true (c ∷ t) e
+          (λ _ d r q. (λ k. h (head_same d r q ∙ k), ap is_blank (sym (head_same d r q)) ∙ b)))
           (between_other n true _ c t refl e refl h b) where
             head_same : (d : ℕ) (r : Text) → c ∷ t ≡ d ∷ r → c ≡ d
             head_same d r q = cc
@@ -184,12 +203,14 @@ front : (n : ℕ) (x : Bool) (t : Text) → Front n x t
 front n x t =
     elim (opened_cases t) [
       | inl (i, e) ↦ elim (split_comment n i) [
-        | inl (j, r, h, q) ↦ unit (comment_head ++ (j ++ close_paren ∷ [])) r (at_comment i j r e q) (inl (j, h, refl)) (omega arith)
+        | inl (j, r, h, q) ↦ unit (comment_head ++ (j ++ close_paren ∷ [])) r (at_comment i j r e q) (inl (j, h, refl))
+            (omega arith)
         | inr (p, h) ↦ open_comment i p e h
       ]
       | inr e ↦ by_flag x e
     ] where
-      at_comment : (i j r : Text) → t ≡ comment_head ++ i → i ≡ j ++ close_paren ∷ r → t ≡ (comment_head ++ (j ++ close_paren ∷ [])) ++ r
+      at_comment : (i j r : Text) → t ≡ comment_head ++ i → i ≡ j ++ close_paren ∷ r →
+          t ≡ (comment_head ++ (j ++ close_paren ∷ [])) ++ r
       at_comment i j r e q = rw (e, q, snoc) refl
 
       off : false ≡ true → ⊥
@@ -265,7 +286,8 @@ apart v p e = cc
 pub layout_sound : (n : ℕ) (x : Bool) (t v : Text) → layout_from n x between t ≡ rest v → Before x t v
 layout_sound n x t v e =
     elim (layout_total n x (suc (length t)) t (omega arith)) [
-      | inl (v', b) ↦ let same : v' ≡ v = rest_same v' v (sym (layout_complete n x t v' b) ∙ e) in subst (Before x t) same b
+      | inl (v', b) ↦ let same : v' ≡ v = rest_same v' v (sym (layout_complete n x t v' b) ∙ e) in
+          subst (Before x t) same b
       | inr (p, b) ↦ absurd (apart v p (sym e ∙ unclosed_complete n x t p b))
     ]
 
@@ -276,10 +298,12 @@ pub unclosed_sound : (n : ℕ) (x : Bool) (t : Text) (p : ℕ) → layout_from n
 unclosed_sound n x t p e =
     elim (layout_total n x (suc (length t)) t (omega arith)) [
       | inl (v, b) ↦ absurd (apart v p (sym (layout_complete n x t v b) ∙ e))
-      | inr (q, b) ↦ let same : q ≡ p = faults_same q p (sym (unclosed_complete n x t q b) ∙ e) in subst (Unclosed n x t) same b
+      | inr (q, b) ↦ let same : q ≡ p = faults_same q p (sym (unclosed_complete n x t q b) ∙ e) in
+          subst (Unclosed n x t) same b
     ]
 
-pub derives_from : (n : ℕ) (x : Bool) (t : Text) (r : Result (Bor (List ℕ)) ℕ) → layout_from n x between t ≡ skipped_of r → MatchResult r (λ v. Before x t (chars v.now)) (λ p. Unclosed n x t p)
+pub derives_from : (n : ℕ) (x : Bool) (t : Text) (r : Result (Bor (List ℕ)) ℕ) →
+    layout_from n x between t ≡ skipped_of r → MatchResult r (λ v. Before x t (chars v.now)) (λ p. Unclosed n x t p)
 derives_from n x t (Ok v) e = layout_sound n x t (chars v.now) e
 derives_from n x t (Err p) e = unclosed_sound n x t p e
 

@@ -1,9 +1,11 @@
 -- One step of the layout's definition, where the text is known by an equation.
-use Rattle.std.proofs.Common.{◌≡◌, ◌≢◌, ◌+◌, ℕ, Bool, true, [], ◌∷◌, Some, None, false, arith, ◌==◌, ◌&&◌, ◌||◌, if◌then◌else◌, is_some, ap, refl, ◌∙◌}
+use Rattle.std.proofs.Common.{◌≡◌, ◌≢◌, ◌+◌, ℕ, Bool, true, [], ◌∷◌, Some, None, false, arith, ◌==◌, ◌&&◌, ◌||◌}
+use Rattle.std.proofs.Common.{if◌then◌else◌, is_some, ap, refl, ◌∙◌}
 use Rattle.std.proofs.lemmas.Bool.Decides.{nat_tests}
 use Rattle.fancy_lex.specs.Characters.{line_feed, hash, open_paren, close_paren, backslash}
 use Rattle.fancy_lex.specs.Text.{Text}
-use Rattle.fancy_lex.specs.Layout.{rest, fault, layout_from, between, two, comment, escaped, line, is_blank, is_layout, after_comment_head}
+use Rattle.fancy_lex.specs.Layout.{rest, fault, layout_from, between, two, comment, escaped, line, is_blank, is_layout}
+use Rattle.fancy_lex.specs.Layout.{after_comment_head}
 
 module _ (n : ℕ) (x : Bool) (t : Text) where
   pub comment_end : t ≡ [] → layout_from n x comment t ≡ fault n
@@ -23,7 +25,9 @@ module _ (n : ℕ) (x : Bool) (t : Text) where
   between_end e = rw e refl
 
   module _ (c : ℕ) (r : Text) where
-    pub comment_step : t ≡ c ∷ r → layout_from n x comment t ≡ (if c == close_paren then layout_from n x between r else if c == backslash then layout_from n x escaped r else layout_from n x comment r)
+    pub comment_step : t ≡ c ∷ r → layout_from n x comment
+        t ≡ (if c == close_paren then layout_from n x between r else if c == backslash then layout_from n x escaped r
+        else layout_from n x comment r)
     unfolding layout_from
     comment_step e = ap (layout_from n x comment) e
 
@@ -31,16 +35,20 @@ module _ (n : ℕ) (x : Bool) (t : Text) where
     unfolding layout_from
     escaped_step e = ap (layout_from n x escaped) e
 
-    pub line_step : t ≡ c ∷ r → layout_from n x line t ≡ (if c == line_feed then layout_from n x between r else layout_from n x line r)
+    pub line_step : t ≡ c ∷ r → layout_from n x line
+        t ≡ (if c == line_feed then layout_from n x between r else layout_from n x line r)
     unfolding layout_from
     line_step e = ap (layout_from n x line) e
 
-    pub between_step : t ≡ c ∷ r → layout_from n x between t ≡ (if is_some (after_comment_head t) then layout_from n x two r else if x && c == hash then layout_from n x line r else if x && is_blank c then layout_from n x between r else rest t)
+    pub between_step : t ≡ c ∷ r → layout_from n x between
+        t ≡ (if is_some (after_comment_head t) then layout_from n x two r else if x && c == hash then layout_from n x
+        line r else if x && is_blank c then layout_from n x between r else rest t)
     unfolding layout_from
     between_step e = rw e refl
 
 -- `(?#` opens a comment
-pub between_opened : (n : ℕ) (x : Bool) (t i : Text) → after_comment_head t ≡ Some i → layout_from n x between t ≡ layout_from n x comment i
+pub between_opened : (n : ℕ) (x : Bool) (t i : Text) → after_comment_head t ≡ Some i →
+    layout_from n x between t ≡ layout_from n x comment i
 unfolding layout_from
 between_opened n x [] i e = cc
 between_opened n x (c ∷ []) i e = grind (arith, nat_tests)
@@ -54,7 +62,8 @@ between_plain n [] e = refl
 between_plain n (c ∷ r) e = grind (arith, nat_tests)
 
 -- the cases of a step, by what the code has tested
-module _ (n : ℕ) (x : Bool) (t : Text) (c : ℕ) (r : Text) (e : t ≡ c ∷ r) (none : after_comment_head t ≡ None) (ignore_space : x ≡ true) where
+module _ (n : ℕ) (x : Bool) (t : Text) (c : ℕ) (r : Text) (e : t ≡ c ∷ r) (none : after_comment_head t ≡ None)
+    (ignore_space : x ≡ true) where
   pub between_line : c ≡ hash → layout_from n x between t ≡ layout_from n x line r
   between_line h = let step = between_step n x t c r e in grind (arith, nat_tests)
 
@@ -70,7 +79,8 @@ module _ (n : ℕ) (x : Bool) (t : Text) (c : ℕ) (r : Text) (e : t ≡ c ∷ r
   no_comment_head = grind (arith, nat_tests)
 
   by_flag : (y : Bool) → is_layout y c ≡ false →
-      (if y && c == hash then layout_from n x line r else if y && is_blank c then layout_from n x between r else rest t) ≡ rest t
+      (if y && c == hash then layout_from n x line r else if y && is_blank c then layout_from n x between r else rest t)
+      ≡ rest t
   by_flag y h = grind (arith, nat_tests)
 
   pub between_no_layout : is_layout x c ≡ false → layout_from n x between t ≡ rest t
@@ -93,4 +103,20 @@ module _ (n : ℕ) (x : Bool) (t : Text) (c : ℕ) (r : Text) (e : t ≡ c ∷ r
   pub line_plain : c ≢ line_feed → layout_from n x line t ≡ layout_from n x line r
   line_plain h = let step = line_step n x t c r e in grind (arith, nat_tests)
 
-pub ruleset layout_steps = (comment_end, escaped_end, line_end, between_end, comment_close, comment_escape, comment_plain, escaped_step, line_close, line_plain, between_opened, between_plain, between_line, between_blank, between_other)
+pub ruleset layout_steps = (
+  comment_end,
+  escaped_end,
+  line_end,
+  between_end,
+  comment_close,
+  comment_escape,
+  comment_plain,
+  escaped_step,
+  line_close,
+  line_plain,
+  between_opened,
+  between_plain,
+  between_line,
+  between_blank,
+  between_other,
+)

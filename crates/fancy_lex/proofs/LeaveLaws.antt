@@ -1,5 +1,7 @@
 -- What a reader leaves: the end of the text; or its fault, and where that stands.
-use Rattle.std.proofs.Common.{◌≡◌, ℕ, ◌+◌, ◌≤◌, Bool, true, false, if◌then◌else◌, [], ◌∷◌, ◌++◌, Option, Some, None, refl, ap, sym, ◌∙◌, subst, append_assoc, append-nil, arith, chars, List, Bor, Result, Ok, Err, IfOk, IfErr}
+use Rattle.std.proofs.Common.{◌≡◌, ℕ, ◌+◌, ◌≤◌, Bool, true, false, if◌then◌else◌, [], ◌∷◌, ◌++◌, Option, Some, None}
+use Rattle.std.proofs.Common.{refl, ap, sym, ◌∙◌, subst, append_assoc, append-nil, arith, chars, List, Bor, Result, Ok}
+use Rattle.std.proofs.Common.{Err, IfOk, IfErr}
 use Rattle.std.specs.Option.{option_and_then}
 use Rattle.fancy_lex.specs.Fault.{Fault, Kind, kind_of, StandsWithin}
 use Rattle.fancy_lex.specs.Reading.{Reading, gives, fails, fault_at, ◌>=>◌, choose, Gives}
@@ -69,19 +71,23 @@ pub leaves_past : {A : Type 0} {n p : ℕ} {t u : Text} {o : Reading A} → Ends
 leaves_past e (leaves h) = leaves (ends_twice _ _ _ e h)
 leaves_past e (faults l) = faults (stands_past e l)
 
-pub leaves_retold : {A : Type 0} {n p h : ℕ} {t : Text} {o : Reading A} → Stands n p t h → Leaves n h t o → Leaves n p t o
+pub leaves_retold : {A : Type 0} {n p h : ℕ} {t : Text} {o : Reading A} → Stands n p t h → Leaves n h t o →
+    Leaves n p t o
 leaves_retold told (leaves h) = leaves h
 leaves_retold told (faults l) = faults (stands_retold told l)
 
-pub leaves_if : {A : Type 0} {n p : ℕ} {t : Text} {x y : Reading A} (b : Bool) → Leaves n p t x → Leaves n p t y → Leaves n p t (if b then x else y)
+pub leaves_if : {A : Type 0} {n p : ℕ} {t : Text} {x y : Reading A} (b : Bool) → Leaves n p t x → Leaves n p t y →
+    Leaves n p t (if b then x else y)
 leaves_if true l k = l
 leaves_if false l k = k
 
-pub leaves_both : {A B : Type 0} {n p : ℕ} {t : Text} {o : Reading A} {f : A → Text → Reading B} → Leaves n p t o → ((a : A) (u : Text) → Leaves n p u (f a u)) → Leaves n p t (o >=> f)
+pub leaves_both : {A B : Type 0} {n p : ℕ} {t : Text} {o : Reading A} {f : A → Text → Reading B} → Leaves n p t o →
+    ((a : A) (u : Text) → Leaves n p u (f a u)) → Leaves n p t (o >=> f)
 leaves_both (leaves {u} {a} e) k = leaves_past e (k a u)
 leaves_both (faults l) k = faults l
 
-pub leaves_choose : {A B : Type 0} {n p : ℕ} {t : Text} {f : A → Reading B} {d : Reading B} (o : Option A) → ((a : A) → o ≡ Some a → Leaves n p t (f a)) → Leaves n p t d → Leaves n p t (choose o f d)
+pub leaves_choose : {A B : Type 0} {n p : ℕ} {t : Text} {f : A → Reading B} {d : Reading B} (o : Option A) →
+    ((a : A) → o ≡ Some a → Leaves n p t (f a)) → Leaves n p t d → Leaves n p t (choose o f d)
 leaves_choose (Some a) l k = l a refl
 leaves_choose None l k = k
 
@@ -93,7 +99,8 @@ abbrev pub LeavesSome : {A : Type 0} → Text → Option (A × Text) → Type 0
 LeavesSome t (Some p) = Ends t p.1
 LeavesSome t None = Unit {0}
 
-pub ends_some : {A : Type 0} (t : Text) (o : Option (A × Text)) (p : A × Text) → LeavesSome t o → o ≡ Some p → Ends t p.1
+pub ends_some : {A : Type 0} (t : Text) (o : Option (A × Text)) (p : A × Text) → LeavesSome t o → o ≡ Some p →
+    Ends t p.1
 ends_some t o p l e = subst (LeavesSome t) e l
 
 pub some_if : {A : Type 0} (t : Text) (b : Bool) (p : A × Text) → Ends t p.1 → LeavesSome t (if b then Some p else None)
@@ -104,7 +111,8 @@ pub some_past : {A : Type 0} (t u : Text) (o : Option (A × Text)) → Ends t u 
 some_past t u (Some p) e l = ends_twice t u p.1 e l
 some_past t u None e l = tt
 
-pub some_both : {A B : Type 0} (t : Text) (o : Option (A × Text)) (f : A × Text → Option (B × Text)) → LeavesSome t o → ((p : A × Text) → LeavesSome p.1 (f p)) → LeavesSome t (option_and_then f o)
+pub some_both : {A B : Type 0} (t : Text) (o : Option (A × Text)) (f : A × Text → Option (B × Text)) → LeavesSome t o →
+    ((p : A × Text) → LeavesSome p.1 (f p)) → LeavesSome t (option_and_then f o)
 some_both t (Some p) f l m = some_past t p.1 (f p) l (m p)
 some_both t None f l m = tt
 
@@ -131,4 +139,5 @@ module _ {A B : Type 0} {n place : ℕ} {t : Text} {o : Reading B} (f : A → B)
       by_answer (Err OutOfMemory) l g = tt
       by_answer (Err (ParseError p k)) (leaves e) g = absurd cc
       by_answer (Err (ParseError p k)) (faults {e} l) g =
-          let same : e ≡ record { place = p; kind = kind_of k } = cc in subst (λ (x : Fault). x.place ≤ m) same (stands_within told up l)
+          let same : e ≡ record { place = p; kind = kind_of k } = cc in
+          subst (λ (x : Fault). x.place ≤ m) same (stands_within told up l)

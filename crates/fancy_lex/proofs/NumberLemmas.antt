@@ -1,5 +1,6 @@
 -- One step of a number, and that the reading function and the relation are one.
-use Rattle.std.proofs.Common.{rules, IfSome, IsSome, chars, ◌≡◌, ℕ, ◌+◌, ◌*◌, ◌-◌, ◌<◌, Bool, true, false, List, [], ◌∷◌, ◌++◌, length, Option, Some, None, ap, sym, ◌∙◌, refl, arith, subst}
+use Rattle.std.proofs.Common.{rules, IfSome, IsSome, chars, ◌≡◌, ℕ, ◌+◌, ◌*◌, ◌-◌, ◌<◌, Bool, true, false, List, []}
+use Rattle.std.proofs.Common.{◌∷◌, ◌++◌, length, Option, Some, None, ap, sym, ◌∙◌, refl, arith, subst}
 use Rattle.std.proofs.lemmas.Bool.Decides.{nat_tests}
 use Rattle.std.specs.Borrow.{Bor}
 use Rattle.std.specs.Char.{is_ascii_digit}
@@ -51,7 +52,13 @@ at_front (c ∷ w) v a h = a.0
 pub number_complete : (t v : Text) (k : ℕ) → StartsWithNumber t v k → number t ≡ Some (k, v)
 number_complete t v k b =
     let digits = b.number.digits in
-    rw (b.cut, number_some _ (at_front b.w v digits b.number.some), run_digits 0 b.w v digits, run_stop _ v (at_stop v b.number.stops), b.number.value_is) refl
+    rw (
+      b.cut,
+      number_some _ (at_front b.w v digits b.number.some),
+      run_digits 0 b.w v digits,
+      run_stop _ v (at_stop v b.number.stops),
+      b.number.value_is,
+    ) refl
 
 -- the digits at the front, and the rest
 record Split (t : Text) : Type 0 where
@@ -67,10 +74,19 @@ split [] = record { w = []; v = []; cut = refl; digits = tt; stops = λ c r e. a
   nil_cons c r e = cc
 split (c ∷ t) = by_test (split t) (is_ascii_digit c) refl where
   by_test : Split t → (b : Bool) → is_ascii_digit c ≡ b → Split (c ∷ t)
-  by_test s true e = record { w = c ∷ s.w; v = s.v; cut = ap (λ u. c ∷ u) s.cut; digits = (e, s.digits); stops = s.stops }
-  by_test s false e = record { w = []; v = c ∷ t; cut = refl; digits = tt; stops = λ d r q. ap is_ascii_digit (head_same d r q) ∙ e } where
-    head_same : (d : ℕ) (r : Text) → c ∷ t ≡ d ∷ r → d ≡ c
-    head_same d r q = cc
+  by_test s true e = record {
+    w = c ∷ s.w;
+    v = s.v;
+    cut = ap (λ u. c ∷ u) s.cut;
+    digits = (e, s.digits);
+    stops =
+        s.stops;
+  }
+  by_test s false e =
+      record { w = []; v = c ∷ t; cut = refl; digits = tt; stops = λ d r q. ap is_ascii_digit (head_same d r q) ∙ e }
+    where
+      head_same : (d : ℕ) (r : Text) → c ∷ t ≡ d ∷ r → d ≡ c
+      head_same d r q = cc
 
 same_answer : (k m : ℕ) (v u : Text) → ◌≡◌ {A = Option (ℕ × Text)} (Some (k, v)) (Some (m, u)) → (k ≡ m) × (v ≡ u)
 same_answer k m v u e =
@@ -91,15 +107,23 @@ number_sound t v k e = by_split (split t) where
         absurd (no_answer (k, v) (sym (number_none t (ap at_digit bare ∙ at_stop s.v s.stops)) ∙ e))
     by_front (c ∷ w) s z =
         let some : 0 < length s.w = rw z (omega arith) in
-        let found : StartsWithNumber t s.v (value_after 0 s.w) = record { w = s.w; cut = s.cut; number = record { digits = s.digits; some = some; stops = s.stops; value_is = refl } } in
+        let found : StartsWithNumber t s.v (value_after 0 s.w) =
+        record {
+          w = s.w;
+          cut = s.cut;
+          number =
+              record { digits = s.digits; some = some; stops = s.stops; value_is = refl };
+        } in
         let same = same_answer _ _ _ _ (sym (number_complete t s.v _ found) ∙ e) in
         subst (λ u. StartsWithNumber t u k) same.1 (subst (StartsWithNumber t s.v) same.0 found)
 
-pub number_derives : (t : Text) (r : Option (Option ℕ × Bor (List ℕ))) → GivesNumber t r → IfSome r (λ p. (n : ℕ) × IsWord p.0 n × StartsWithNumber t (chars p.1.now) n)
+pub number_derives : (t : Text) (r : Option (Option ℕ × Bor (List ℕ))) → GivesNumber t r →
+    IfSome r (λ p. (n : ℕ) × IsWord p.0 n × StartsWithNumber t (chars p.1.now) n)
 number_derives t None h = tt
 number_derives t (Some p) (n, e, word) = (n, word, number_sound t (chars p.1.now) n e)
 
-pub number_only : (t v : Text) (n : ℕ) (r : Option (Option ℕ × Bor (List ℕ))) → GivesNumber t r → StartsWithNumber t v n → IfSome r (λ p. (chars p.1.now ≡ v) × IsWord p.0 n) × IsSome r
+pub number_only : (t v : Text) (n : ℕ) (r : Option (Option ℕ × Bor (List ℕ))) → GivesNumber t r →
+    StartsWithNumber t v n → IfSome r (λ p. (chars p.1.now ≡ v) × IsWord p.0 n) × IsSome r
 number_only t v n None h b = absurd (no_answer (n, v) (sym h ∙ number_complete t v n b))
 number_only t v n (Some p) (m, e, word) b =
     let same = same_answer m n (chars p.1.now) v (sym e ∙ number_complete t v n b) in

@@ -1,10 +1,12 @@
 -- Number texts: the reading function and the relation are one.
-use Rattle.std.proofs.Common.{◌≡◌, ℕ, ◌^◌, ◌<◌, Bool, true, false, nat_lt, [], ◌∷◌, append-nil, Option, Some, None, unwrap_or, IfSome, if◌then◌else◌, refl, sym, ◌∙◌, subst, arith}
+use Rattle.std.proofs.Common.{◌≡◌, ℕ, ◌^◌, ◌<◌, Bool, true, false, nat_lt, [], ◌∷◌, append-nil, Option, Some, None}
+use Rattle.std.proofs.Common.{unwrap_or, IfSome, if◌then◌else◌, refl, sym, ◌∙◌, subst, arith}
 use Rattle.std.proofs.lemmas.Bool.Decides.{nat_tests}
 use Rattle.std.specs.Option.{option_and_then}
 use Prim.Native.Char.{code}
 use Rattle.fancy_lex.specs.Number.{Number, StartsWithNumber, number, AllDigits}
-use Rattle.fancy_lex.specs.NumberText.{WritesNumber, IsNumberText, digits, with_plus, number_alone, whole_number, number_text}
+use Rattle.fancy_lex.specs.NumberText.{WritesNumber, IsNumberText, digits, with_plus, number_alone, whole_number}
+use Rattle.fancy_lex.specs.NumberText.{number_text}
 use Rattle.fancy_lex.specs.Text.{Text, strip}
 use Rattle.fancy_lex.proofs.TextLemmas.{strip_is}
 use Rattle.fancy_lex.proofs.NumberLemmas.{number_complete, number_sound}

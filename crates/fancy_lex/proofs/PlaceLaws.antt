@@ -1,12 +1,15 @@
--- What holds of every class: it leaves the end of the text, its fault stands at a cut of it or one past its end, and it answers.
-use Rattle.std.proofs.Common.{◌≡◌, ℕ, zero, suc, ◌+◌, ◌-◌, Bool, true, false, ◌||◌, ◌==◌, [], ◌∷◌, ◌++◌, Option, Some, None, refl}
+-- What holds of every class: it leaves the end of the text, its fault stands at a cut of it or one past its end, and it
+-- answers.
+use Rattle.std.proofs.Common.{◌≡◌, ℕ, zero, suc, ◌+◌, ◌-◌, Bool, true, false, ◌||◌, ◌==◌, [], ◌∷◌, ◌++◌, Option, Some}
+use Rattle.std.proofs.Common.{None, refl}
 use Rattle.fancy_lex.specs.Characters.{backslash, caret, open_bracket, close_bracket}
 use Rattle.fancy_lex.specs.Class.{class, items_from, item_text, is_negated, class_head, with_mark}
 use Rattle.fancy_lex.specs.Reading.{choose}
 use Rattle.fancy_lex.specs.Text.{Text, EndsWith as Ends, bytes, place_of, strip}
 use Rattle.fancy_lex.specs.declared.flags.Flags.{Flags}
 use Rattle.fancy_lex.proofs.EscapeLaws.{leaves_escape}
-use Rattle.fancy_lex.proofs.LeaveLaws.{ends_whole, ends_past, ends_twice, ends_strip, stands_here, stands_end, Leaves, whole_next, leaves_none, leaves_past, leaves_retold, leaves_if, leaves_both}
+use Rattle.fancy_lex.proofs.LeaveLaws.{ends_whole, ends_past, ends_twice, ends_strip, stands_here, stands_end, Leaves}
+use Rattle.fancy_lex.proofs.LeaveLaws.{whole_next, leaves_none, leaves_past, leaves_retold, leaves_if, leaves_both}
 
 -- what stands behind the front of a class ends the text
 ends_mark : (m : ℕ) (p : Text × Text) → Ends p.1 (with_mark m p).1
@@ -30,10 +33,13 @@ module _ (n : ℕ) (f : Flags) where
   leaves_items (suc k) depth seen out (c ∷ t) =
       let past = ends_past c t t (ends_whole t) in
       leaves_if (c == backslash)
-      (leaves_both (leaves_retold (stands_here (c ∷ t)) (leaves_past past (leaves_escape n f true (place_of n (c ∷ t)) t)))
+      (leaves_both (leaves_retold (stands_here (c ∷ t))
+      (leaves_past past (leaves_escape n f true (place_of n (c ∷ t)) t)))
       (λ e u. leaves_items k depth (seen || is_negated e) (out ++ item_text seen e) u))
       (leaves_if (c == open_bracket)
-      (leaves_past past (leaves_past (ends_class_head out t) (leaves_items k (depth + 1) seen (class_head out t).0 (class_head out t).1)))
+      (leaves_past past
+      (leaves_past (ends_class_head out t)
+      (leaves_items k (depth + 1) seen (class_head out t).0 (class_head out t).1)))
       (leaves_if (c == close_bracket)
       (leaves_if (depth == 0) (whole_next t) (leaves_past past (leaves_items k (depth - 1) seen (out ++ c ∷ []) t)))
       (leaves_past past (leaves_items k depth seen (out ++ c ∷ []) t))))
@@ -41,4 +47,5 @@ module _ (n : ℕ) (f : Flags) where
   -- the end of the text is left, or the fault stands at a cut of it or one past its end
   pub leaves_class : (t : Text) → Leaves n (n + 1) t (class n f t)
   unfolding class
-  leaves_class t = leaves_past (ends_class_head [] t) (leaves_items (suc (bytes t)) 0 false (class_head [] t).0 (class_head [] t).1)
+  leaves_class t = leaves_past (ends_class_head [] t)
+      (leaves_items (suc (bytes t)) 0 false (class_head [] t).0 (class_head [] t).1)

@@ -1,5 +1,7 @@
 -- A name in lower case, and the text before a mark.
-use Rattle.std.proofs.Common.{◌≡◌, ◌↔◌, IsTrue, suc, ◌⊎◌, inl, inr, ⊎_elim, append-nil, ℕ, ◌<◌, ◌≤◌, Bool, ◌==◌, List, [], ◌∷◌, ◌++◌, length, take, drop, get_or, map, chars, Option, Some, None, option_map, Bor, refl, ap, sym, ◌∙◌, subst, arith, length-append}
+use Rattle.std.proofs.Common.{◌≡◌, ◌↔◌, IsTrue, suc, ◌⊎◌, inl, inr, ⊎_elim, append-nil, ℕ, ◌<◌, ◌≤◌, Bool, ◌==◌, List}
+use Rattle.std.proofs.Common.{[], ◌∷◌, ◌++◌, length, take, drop, get_or, map, chars, Option, Some, None, option_map}
+use Rattle.std.proofs.Common.{Bor, refl, ap, sym, ◌∙◌, subst, arith, length-append}
 use Rattle.std.specs.Char.{to_ascii_lowercase}
 use Rattle.std.specs.Str.{IsUtf8, IsCharBoundary, NonePass, bytes_eq}
 use Rattle.std.proofs.Math.Utf8.{encode, encodes}
@@ -8,7 +10,8 @@ use Rattle.std.proofs.lemmas.Bool.{cases_lt}
 use Rattle.std.proofs.lemmas.List.{map-append}
 use Rattle.std.proofs.lemmas.Str.Ascii.{lowercase_ascii}
 use Rattle.std.proofs.lemmas.Slice.Eq.{bytes_eq-Decides}
-use Rattle.std.proofs.lemmas.Str.{encode_ascii, inside_one, encodes_same, encodes-chars, chars_from_encodes, chars-append, chars_past_char, IsUtf8-take, IsUtf8-drop, IsCharBoundary-before_ascii}
+use Rattle.std.proofs.lemmas.Str.{encode_ascii, inside_one, encodes_same, encodes-chars, chars_from_encodes}
+use Rattle.std.proofs.lemmas.Str.{chars-append, chars_past_char, IsUtf8-take, IsUtf8-drop, IsCharBoundary-before_ascii}
 use Rattle.std.proofs.lemmas.Str.Pattern.{IsSplitOnceResult, split_parts, drop_at_char}
 use Rattle.fancy_lex.specs.Property.{lowercase}
 use Rattle.fancy_lex.specs.Text.{Text, cut_at}
@@ -22,7 +25,8 @@ cut_none : (mark : ℕ) (t : Text) → NonePass (λ d. d == mark) t → cut_at m
 cut_none mark [] h = refl
 cut_none mark (c ∷ t) h = rw (h.0, cut_none mark t h.1) refl
 
-pub cut_split : (mark : ℕ) (bs : List ℕ) (r : Option (Bor (List ℕ) × Bor (List ℕ))) → IsUtf8 bs → mark < 128 → IsSplitOnceResult mark bs r → cut_at mark (chars bs) ≡ option_map (λ p. (chars p.0.now, chars p.1.now)) r
+pub cut_split : (mark : ℕ) (bs : List ℕ) (r : Option (Bor (List ℕ) × Bor (List ℕ))) → IsUtf8 bs → mark < 128 →
+    IsSplitOnceResult mark bs r → cut_at mark (chars bs) ≡ option_map (λ p. (chars p.0.now, chars p.1.now)) r
 cut_split mark bs None u low (cs, e, none) =
     let same = chars_from_encodes cs bs u e in
     cut_none mark (chars bs) (subst (NonePass (λ d. d == mark)) same none)
@@ -37,10 +41,12 @@ cut_split mark bs (Some x) u low h =
     let rest_utf8 : IsUtf8 (mark ∷ x.1.now) = rw (← rest) (IsUtf8-drop bs i u bound) in
     let split : chars bs ≡ chars x.0.now ++ (mark ∷ chars x.1.now) =
     ap chars cut ∙ chars-append x.0.now (mark ∷ x.1.now) front_utf8
-    ∙ ap (λ t. chars x.0.now ++ t) (chars_past_char (mark ∷ x.1.now) x.1.now mark rest_utf8 (rw (encode_ascii mark low) refl)) in
+    ∙ ap (λ t. chars x.0.now ++ t)
+    (chars_past_char (mark ∷ x.1.now) x.1.now mark rest_utf8 (rw (encode_ascii mark low) refl)) in
     let (cs, e, none) = before in
     let same : cs ≡ chars x.0.now = rw front (chars_from_encodes cs (take i bs) (IsUtf8-take bs i u bound) e) in
-    ap (cut_at mark) split ∙ cut_first mark (chars x.0.now) (chars x.1.now) (subst (NonePass (λ d. d == mark)) same none)
+    ap (cut_at mark) split ∙ cut_first mark (chars x.0.now) (chars x.1.now)
+    (subst (NonePass (λ d. d == mark)) same none)
 
 -- a byte of a character past ASCII stays
 stays : (bs : List ℕ) → ((k : ℕ) → k < length bs → 128 ≤ get_or bs k 0) → map to_ascii_lowercase bs ≡ bs
@@ -58,20 +64,27 @@ lowercase_encode c = by_size (cases_lt c 128) where
       rw (encode_ascii c low, encode_ascii (to_ascii_lowercase c) small) refl
   by_size (inr high) =
       let same : to_ascii_lowercase c ≡ c = grind (arith, nat_tests) in
-      rw same (stays (encode c) (λ k l. ⊎_elim (λ h. absurd (omega (arith, inside_one c [] (encode c) k (sym (append-nil (encode c))) l h))) (λ h. h) (cases_lt (get_or (encode c) k 0) 128)))
+      rw same (stays (encode c)
+      (λ k l. ⊎_elim (λ h. absurd (omega (arith, inside_one c [] (encode c) k (sym (append-nil (encode c))) l h)))
+      (λ h. h) (cases_lt (get_or (encode c) k 0) 128)))
 
 lowercase_encodes : (cs : Text) → map to_ascii_lowercase (encodes cs) ≡ encodes (lowercase cs)
 lowercase_encodes [] = refl
-lowercase_encodes (c ∷ cs) = rw (map-append to_ascii_lowercase (encode c) (encodes cs), lowercase_encode c, lowercase_encodes cs) refl
+lowercase_encodes (c ∷ cs) =
+    rw (map-append to_ascii_lowercase (encode c) (encodes cs), lowercase_encode c, lowercase_encodes cs) refl
 
-pub same_word : (r : Bool) (name word : List ℕ) → IsUtf8 name → IsUtf8 word → lowercase (chars word) ≡ chars word → IsTrue r ↔ (map to_ascii_lowercase name ≡ map to_ascii_lowercase word) → r ≡ bytes_eq (lowercase (chars name)) (chars word)
+pub same_word : (r : Bool) (name word : List ℕ) → IsUtf8 name → IsUtf8 word → lowercase (chars word) ≡ chars word →
+    IsTrue r ↔ (map to_ascii_lowercase name ≡ map to_ascii_lowercase word) →
+    r ≡ bytes_eq (lowercase (chars name)) (chars word)
 same_word r name word u v small test =
-    same_from_decides r _ (λ e. forth (test.0 e), λ e. test.1 (back e)) (bytes_eq-Decides (lowercase (chars name)) (chars word)) where
+    same_from_decides r _ (λ e. forth (test.0 e), λ e. test.1 (back e))
+    (bytes_eq-Decides (lowercase (chars name)) (chars word)) where
       of_name : map to_ascii_lowercase name ≡ encodes (lowercase (chars name))
       of_name = ap (map to_ascii_lowercase) (sym (encodes-chars name u)) ∙ lowercase_encodes (chars name)
 
       of_word : map to_ascii_lowercase word ≡ encodes (chars word)
-      of_word = ap (map to_ascii_lowercase) (sym (encodes-chars word v)) ∙ lowercase_encodes (chars word) ∙ ap encodes small
+      of_word = ap (map to_ascii_lowercase) (sym (encodes-chars word v)) ∙ lowercase_encodes (chars word)
+          ∙ ap encodes small
 
       forth : map to_ascii_lowercase name ≡ map to_ascii_lowercase word → lowercase (chars name) ≡ chars word
       forth e = encodes_same _ _ (sym of_name ∙ e ∙ of_word)

@@ -2,7 +2,8 @@
 use Rattle.std.proofs.Common.{◌≡◌, ℕ, List, Result, Ok, Err, refl, subst}
 use Rattle.std.specs.Borrow.{Bor}
 use Rattle.fancy_lex.specs.Text.{Text}
-use Rattle.fancy_lex.specs.Reading.{Reading, gives, fails, CarriesText, Says, Reads, Reports, Answers, Fails, Gives, Derives, ◌>=>◌}
+use Rattle.fancy_lex.specs.Reading.{Reading, gives, fails, CarriesText, Says, Reads, Reports, Answers, Fails, Gives}
+use Rattle.fancy_lex.specs.Reading.{Derives, ◌>=>◌}
 use Rattle.fancy_lex.specs.declared.error.Error.{Error}
 use Rattle.fancy_lex.specs.declared.error.Error.TheVariants.{ParseError, OutOfMemory}
 
@@ -25,22 +26,26 @@ report_fails (ParseError p k) o e = e
 report_fails OutOfMemory o e = tt
 
 -- the answer of a function for which the relation holds is one that the relation gives
-pub derives_answer : {A B : Type 0} (f : A → B) (r : Result (A × Bor (List ℕ)) Error) (R : Reading B → Type 0) (o : Reading B) →
+pub derives_answer : {A B : Type 0} (f : A → B) (r : Result (A × Bor (List ℕ)) Error) (R : Reading B → Type 0)
+    (o : Reading B) →
     R o → Answers f r o → Derives f r R
 derives_answer f (Ok p) R o h g = subst R g h
 derives_answer f (Err OutOfMemory) R o h g = tt
 derives_answer f (Err (ParseError p k)) R o h g = subst R g h
 
 -- and what is the function's answer is the code's
-pub only_answer : {A B : Type 0} (f : A → B) (r : Result (A × Bor (List ℕ)) Error) (o q : Reading B) → o ≡ q → Answers f r o → Answers f r q
+pub only_answer : {A B : Type 0} (f : A → B) (r : Result (A × Bor (List ℕ)) Error) (o q : Reading B) → o ≡ q →
+    Answers f r o → Answers f r q
 only_answer f r o q e g = subst (Answers f r) e g
 
 -- the code's answer is the reading, however seldom memory runs out
-pub answers_gives : {A B : Type 0} (f : A → B) (r : Result (A × Bor (List ℕ)) Error) (o : Reading B) → Answers f r o → Gives f r o
+pub answers_gives : {A B : Type 0} (f : A → B) (r : Result (A × Bor (List ℕ)) Error) (o : Reading B) → Answers f r o →
+    Gives f r o
 answers_gives f (Ok p) o g = g
 answers_gives f (Err e) o g = report_fails e o g
 
-pub reads_answers : {A B : Type 0} (f : A → B) (r : Result (A × Bor (List ℕ)) Error) (o : Reading B) → Reads f r o → Answers f r o
+pub reads_answers : {A B : Type 0} (f : A → B) (r : Result (A × Bor (List ℕ)) Error) (o : Reading B) → Reads f r o →
+    Answers f r o
 reads_answers f (Ok p) o g = g
 reads_answers f (Err OutOfMemory) o g = absurd g
 reads_answers f (Err (ParseError p k)) o g = g

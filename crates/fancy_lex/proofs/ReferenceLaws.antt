@@ -1,10 +1,13 @@
--- What holds of every name and reference: it leaves the end of the text behind some characters, and its fault stands where
+-- What holds of every name and reference: it leaves the end of the text behind some characters, and its fault stands
+-- where
 -- it begins.
-use Rattle.std.proofs.Common.{Bool, ◌≡◌, ℕ, ◌≤◌, ◌^◌, nat_lt, true, ◌==◌, [], ◌∷◌, ◌++◌, length, length-append, append_assoc, Option, Some, None, option_map, refl, sym, ◌∙◌, arith}
+use Rattle.std.proofs.Common.{Bool, ◌≡◌, ℕ, ◌≤◌, ◌^◌, nat_lt, true, ◌==◌, [], ◌∷◌, ◌++◌, length, length-append}
+use Rattle.std.proofs.Common.{append_assoc, Option, Some, None, option_map, refl, sym, ◌∙◌, arith}
 use Rattle.std.proofs.lemmas.Bool.{cond_both}
 use Prim.Native.Char.{code}
 use Rattle.fancy_lex.specs.Delimited.{name_before, marked_name, of_name}
-use Rattle.fancy_lex.specs.EscapeReference.{number_reading, group_number, numbered_reference, back_reference, written_call, marked_call, numbered_call, subroutine_call}
+use Rattle.fancy_lex.specs.EscapeReference.{number_reading, group_number, numbered_reference, back_reference}
+use Rattle.fancy_lex.specs.EscapeReference.{written_call, marked_call, numbered_call, subroutine_call}
 use Rattle.fancy_lex.specs.FaultTable.{number_too_great}
 use Rattle.fancy_lex.specs.Number.{number, at_digit}
 use Rattle.fancy_lex.specs.Reading.{fails, choose}
@@ -13,7 +16,8 @@ use Rattle.fancy_lex.specs.Target.{by_number}
 use Rattle.fancy_lex.specs.Text.{Text, place_of}
 use Rattle.fancy_lex.proofs.DelimitedLaws.{name_sound}
 use Rattle.fancy_lex.proofs.NumberLemmas.{number_sound}
-use Rattle.fancy_lex.proofs.TakeLaws.{Takes, TakesSome, TakesOrFails, takes, fails_at, takes_on, takes_one, takes_if, takes_as, takes_less}
+use Rattle.fancy_lex.proofs.TakeLaws.{Takes, TakesSome, TakesOrFails, takes, fails_at, takes_on, takes_one, takes_if}
+use Rattle.fancy_lex.proofs.TakeLaws.{takes_as, takes_less}
 
 -- a name and its closing mark
 pub takes_name : (mark : ℕ) (t : Text) → TakesSome 2 t (name_before mark t)
@@ -75,7 +79,8 @@ module _ (n : ℕ) where
     fails_here = fails_at refl
 
     at : (o : Option (ℕ × Text)) → number t ≡ o →
-        TakesOrFails (place_of n t) 1 t (choose o (number_reading (number_too_great n t)) (fails (number_too_great n t)))
+        TakesOrFails (place_of n t) 1 t
+        (choose o (number_reading (number_too_great n t)) (fails (number_too_great n t)))
     at None e = fails_here
     at (Some (k, u)) e =
         let starts = number_sound t u k e in
@@ -85,7 +90,8 @@ module _ (n : ℕ) where
 
   pub takes_numbered_reference : (t : Text) → TakesOrFails (place_of n t) 1 t (numbered_reference n t)
   unfolding numbered_reference
-  takes_numbered_reference t = takes_as (place_of n t) 1 t (λ k. reference_to (place_of n t) (by_number k) None) (takes_number t)
+  takes_numbered_reference t = takes_as (place_of n t) 1 t (λ k. reference_to (place_of n t) (by_number k) None)
+      (takes_number t)
 
   pub takes_back_reference : (t : Text) → TakesOrFails (place_of n t) 3 t (back_reference n t)
   unfolding back_reference
@@ -95,11 +101,13 @@ module _ (n : ℕ) where
   unfolding numbered_call
   takes_numbered_call t = takes_as (place_of n t) 1 t (λ k. call_to (place_of n t) (by_number k)) (takes_number t)
 
-  takes_marked_call : (t : Text) → TakesOrFails (place_of n t) 3 t (name_reading (place_of n t) (marked_call (place_of n t) t))
+  takes_marked_call : (t : Text) → TakesOrFails (place_of n t) 3 t
+      (name_reading (place_of n t) (marked_call (place_of n t) t))
   unfolding marked_call
   takes_marked_call t = takes_by_name 3 t t (written_call (place_of n t)) (marked_name t) (takes_marked_name t)
 
   pub takes_subroutine_call : (t : Text) → TakesOrFails (place_of n t) 1 t (subroutine_call n t)
   unfolding subroutine_call
   takes_subroutine_call t =
-      takes_if (place_of n t) 1 t (at_digit t) (takes_numbered_call t) (takes_less (place_of n t) 3 t (omega arith) (takes_marked_call t))
+      takes_if (place_of n t) 1 t (at_digit t) (takes_numbered_call t)
+      (takes_less (place_of n t) 3 t (omega arith) (takes_marked_call t))

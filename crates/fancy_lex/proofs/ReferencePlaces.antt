@@ -2,11 +2,13 @@
 use Rattle.std.proofs.Common.{◌≡◌, ℕ, Bool, Option, Some, None, option_map, refl}
 use Rattle.std.proofs.lemmas.Bool.{cond_both}
 use Rattle.fancy_lex.specs.Delimited.{marked_name, of_name}
-use Rattle.fancy_lex.specs.EscapeReference.{group_number, numbered_reference, back_reference, call_target, written_call, marked_call, numbered_call, subroutine_call}
+use Rattle.fancy_lex.specs.EscapeReference.{group_number, numbered_reference, back_reference, call_target, written_call}
+use Rattle.fancy_lex.specs.EscapeReference.{marked_call, numbered_call, subroutine_call}
 use Rattle.fancy_lex.specs.IdReference.{IdReference, id_alone, id_and_amount, amount_alone, id_reference}
 use Rattle.fancy_lex.specs.Number.{at_digit}
 use Rattle.fancy_lex.specs.Reading.{Reading, gives, fails, ◌>=>◌}
-use Rattle.fancy_lex.specs.Referred.{Reference, Call, call_to, reference_to, reference_of, written_reference, name_reading, reference_by_name}
+use Rattle.fancy_lex.specs.Referred.{Reference, Call, call_to, reference_to, reference_of, written_reference}
+use Rattle.fancy_lex.specs.Referred.{name_reading, reference_by_name}
 use Rattle.fancy_lex.specs.Target.{Target, by_number}
 use Rattle.fancy_lex.specs.Text.{Text, place_of}
 
@@ -71,7 +73,8 @@ module _ (n : ℕ) (t : Text) where
   pub numbered_reference_at : IfGives (ReferenceAt (place_of n t)) (numbered_reference n t)
   unfolding numbered_reference
   numbered_reference_at =
-      if_gives (ReferenceAt (place_of n t)) (λ k. reference_to (place_of n t) (by_number k) None) (group_number n t) (λ k. refl)
+      if_gives (ReferenceAt (place_of n t)) (λ k. reference_to (place_of n t) (by_number k) None) (group_number n t)
+      (λ k. refl)
 
   pub back_reference_at : IfGives (ReferenceAt (place_of n t)) (back_reference n t)
   unfolding back_reference
@@ -79,9 +82,11 @@ module _ (n : ℕ) (t : Text) where
 
   numbered_call_at : IfGives (CallAt (place_of n t)) (numbered_call n t)
   unfolding numbered_call
-  numbered_call_at = if_gives (CallAt (place_of n t)) (λ k. call_to (place_of n t) (by_number k)) (group_number n t) (λ k. refl)
+  numbered_call_at = if_gives (CallAt (place_of n t)) (λ k. call_to (place_of n t) (by_number k)) (group_number n t)
+      (λ k. refl)
 
   pub subroutine_call_at : IfGives (CallAt (place_of n t)) (subroutine_call n t)
   unfolding subroutine_call
   subroutine_call_at =
-      cond_both (at_digit t) _ _ (IfGives (CallAt (place_of n t))) (λ _. numbered_call_at) (λ _. marked_call_at (place_of n t) t)
+      cond_both (at_digit t) _ _ (IfGives (CallAt (place_of n t))) (λ _. numbered_call_at)
+      (λ _. marked_call_at (place_of n t) t)

@@ -1,5 +1,6 @@
 -- What is taken off the front of a text: a word of at least so many characters.
-use Rattle.std.proofs.Common.{◌≡◌, ℕ, Bool, true, false, if◌then◌else◌, ◌+◌, ◌≤◌, [], ◌∷◌, ◌++◌, length, length-append, append_assoc, ap, sym, ◌∙◌, refl, subst, arith, IfSome, Option, Some, None}
+use Rattle.std.proofs.Common.{◌≡◌, ℕ, Bool, true, false, if◌then◌else◌, ◌+◌, ◌≤◌, [], ◌∷◌, ◌++◌, length, length-append}
+use Rattle.std.proofs.Common.{append_assoc, ap, sym, ◌∙◌, refl, subst, arith, IfSome, Option, Some, None}
 use Rattle.std.proofs.lemmas.Str.{len_utf8_bounds}
 use Rattle.fancy_lex.specs.Fault.{Fault}
 use Rattle.fancy_lex.specs.Reading.{Reading, gives, fails, ◌>=>◌}

@@ -4,7 +4,8 @@ use Rattle.std.specs.Str.{IsCharBoundary}
 use Rattle.std.proofs.Math.Seq.{take-append_seam}
 use Rattle.std.proofs.lemmas.List.{nil_from_length}
 use Rattle.std.proofs.lemmas.Str.{encodes-append, IsCharBoundary-at_seam}
-use Rattle.std.proofs.Common.{◌≡◌, length, length-append, sym, ℕ, Bool, true, false, if◌then◌else◌, List, [], ◌∷◌, ◌++◌, chars, refl, ap, ◌∙◌, rules}
+use Rattle.std.proofs.Common.{◌≡◌, length, length-append, sym, ℕ, Bool, true, false, if◌then◌else◌, List, [], ◌∷◌, ◌++◌}
+use Rattle.std.proofs.Common.{chars, refl, ap, ◌∙◌, rules}
 use Rattle.std.proofs.Math.Utf8.{encode, encodes}
 use Rattle.std.specs.Str.{IsUtf8}
 use Rattle.std.specs.Char.{IsScalar}
@@ -24,14 +25,17 @@ use Rattle.fancy_lex.specs.Text.{Text, bytes, text_of, strip, strip_word}
 
 pub chars_pushed : (bs : List ℕ) (c : ℕ) → IsUtf8 bs → IsScalar c → chars (bs ++ encode c) ≡ chars bs ++ c ∷ []
 chars_pushed bs c u s =
-    let one : chars (encode c) ≡ c ∷ [] = chars_past_char (encode c) [] c (IsUtf8-encode c s) (search rules) ∙ ap (λ t. c ∷ t) chars-nil in
+    let one : chars (encode c) ≡ c ∷ [] = chars_past_char (encode c) [] c (IsUtf8-encode c s) (search rules)
+    ∙ ap (λ t. c ∷ t) chars-nil in
     chars-append bs (encode c) u ∙ ap (λ t. chars bs ++ t) one
 
-pub pushed : (b : Bool) (bs : List ℕ) (c : ℕ) → IsUtf8 bs → IsScalar c → chars (if b then bs ++ encode c else bs) ≡ (if b then chars bs ++ c ∷ [] else chars bs)
+pub pushed : (b : Bool) (bs : List ℕ) (c : ℕ) → IsUtf8 bs → IsScalar c →
+    chars (if b then bs ++ encode c else bs) ≡ (if b then chars bs ++ c ∷ [] else chars bs)
 pushed true bs c u s = chars_pushed bs c u s
 pushed false bs c u s = refl
 
-pub appended : (b : Bool) (bs ts : List ℕ) → IsUtf8 bs → chars (if b then bs ++ ts else bs) ≡ (if b then chars bs ++ chars ts else chars bs)
+pub appended : (b : Bool) (bs ts : List ℕ) → IsUtf8 bs →
+    chars (if b then bs ++ ts else bs) ≡ (if b then chars bs ++ chars ts else chars bs)
 appended true bs ts u = chars-append bs ts u
 appended false bs ts u = refl
 
@@ -58,7 +62,8 @@ bytes_chars bs u = length_encodes (chars bs) ∙ ap length (encodes-chars bs u)
 pub same_text : (a b : List ℕ) → IsUtf8 a → IsUtf8 b → bytes_eq a b ≡ bytes_eq (chars a) (chars b)
 same_text a b u v =
     same_from_decides _ _ (bytes_eq-Decides a b) (
-      λ e. sym (encodes-chars a u) ∙ ap encode_utf8_all ((bytes_eq-Decides (chars a) (chars b)).0 e) ∙ encodes-chars b v,
+      λ e. sym (encodes-chars a u) ∙ ap encode_utf8_all ((bytes_eq-Decides (chars a) (chars b)).0 e)
+          ∙ encodes-chars b v,
       λ e. (bytes_eq-Decides (chars a) (chars b)).1 (ap chars e),
     )
 
@@ -67,26 +72,30 @@ pub cut_bytes : (s r : List ℕ) (w : Text) → IsUtf8 s → IsUtf8 r → chars 
 cut_bytes s r w u v e =
     sym (encodes-chars s u) ∙ ap encodes e ∙ encodes-append w (chars r) ∙ ap (λ b. encodes w ++ b) (encodes-chars r v)
 
-pub cut_lengths : (s r : List ℕ) (w : Text) → IsUtf8 s → IsUtf8 r → chars s ≡ w ++ chars r → length s ≡ length (encodes w) + length r
+pub cut_lengths : (s r : List ℕ) (w : Text) → IsUtf8 s → IsUtf8 r → chars s ≡ w ++ chars r →
+    length s ≡ length (encodes w) + length r
 cut_lengths s r w u v e = ap length (cut_bytes s r w u v e) ∙ length-append (encodes w) r
 
 pub cut_le : (s r : List ℕ) (w : Text) → IsUtf8 s → IsUtf8 r → chars s ≡ w ++ chars r → length r ≤ length s
 cut_le s r w u v e = omega (arith, cut_lengths s r w u v e)
 
 -- where no byte was cut off, the text is the same
-pub cut_nothing : (s r : List ℕ) (w : Text) → IsUtf8 s → IsUtf8 r → chars s ≡ w ++ chars r → length r ≡ length s → chars r ≡ chars s
+pub cut_nothing : (s r : List ℕ) (w : Text) → IsUtf8 s → IsUtf8 r → chars s ≡ w ++ chars r → length r ≡ length s →
+    chars r ≡ chars s
 cut_nothing s r w u v e q =
     let none : encodes w ≡ [] = nil_from_length (encodes w) (omega (arith, cut_lengths s r w u v e)) in
     ap chars (sym (cut_bytes s r w u v e ∙ ap (λ b. b ++ r) none))
 
-pub cut_boundary : (s r : List ℕ) (w : Text) → IsUtf8 s → IsUtf8 r → chars s ≡ w ++ chars r → IsCharBoundary s (length s - length r)
+pub cut_boundary : (s r : List ℕ) (w : Text) → IsUtf8 s → IsUtf8 r → chars s ≡ w ++ chars r →
+    IsCharBoundary s (length s - length r)
 cut_boundary s r w u v e =
     let cut = cut_bytes s r w u v e in
     let long : length s ≡ length (encodes w) + length r = ap length cut ∙ length-append (encodes w) r in
     let at : length (encodes w) ≡ length s - length r = omega arith in
     subst (IsCharBoundary s) at (IsCharBoundary-at_seam s (encodes w) r cut v)
 
-pub front_is : (s r f : List ℕ) (w : Text) → IsUtf8 s → IsUtf8 r → IsUtf8 f → chars s ≡ w ++ chars r → f ≡ take (length s - length r) s → chars s ≡ chars f ++ chars r
+pub front_is : (s r f : List ℕ) (w : Text) → IsUtf8 s → IsUtf8 r → IsUtf8 f → chars s ≡ w ++ chars r →
+    f ≡ take (length s - length r) s → chars s ≡ chars f ++ chars r
 front_is s r f w u v g e q =
     let cut = cut_bytes s r w u v e in
     let long : length s ≡ length (encodes w) + length r = ap length cut ∙ length-append (encodes w) r in
@@ -111,7 +120,8 @@ pub strip_word_is : (w t u : Text) → strip_word w t ≡ Some u → t ≡ w ++ 
 strip_word_is [] t u e = cc
 strip_word_is (c ∷ w) t u e = by_first (λ v. strip_word_is w v u) (strip c t) refl e
   where
-    by_first : ((v : Text) → strip_word w v ≡ Some u → v ≡ w ++ u) → (o : Option Text) → strip c t ≡ o → option_and_then (strip_word w) o ≡ Some u →
+    by_first : ((v : Text) → strip_word w v ≡ Some u → v ≡ w ++ u) → (o : Option Text) → strip c t ≡ o →
+        option_and_then (strip_word w) o ≡ Some u →
         t ≡ c ∷ (w ++ u)
     by_first more None i h = absurd cc
     by_first more (Some v) i h = strip_is c t v i ∙ ap (λ x. c ∷ x) (more v h)
@@ -127,7 +137,8 @@ word_stripped s w u v None lacks = by_answer (strip_word (chars w) (chars s)) re
   where
     spelled : (t : Text) → chars s ≡ chars w ++ t → s ≡ w ++ encodes t
     spelled t e =
-        sym (encodes-chars s u) ∙ ap encodes e ∙ encodes-append (chars w) t ∙ ap (λ b. b ++ encodes t) (encodes-chars w v)
+        sym (encodes-chars s u) ∙ ap encodes e ∙ encodes-append (chars w) t
+        ∙ ap (λ b. b ++ encodes t) (encodes-chars w v)
 
     by_answer : (o : Option Text) → strip_word (chars w) (chars s) ≡ o → o ≡ None
     by_answer None e = refl

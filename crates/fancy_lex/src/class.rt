@@ -68,7 +68,7 @@ fn upper_hex_digit(digit: u8) -> char
 fn push_byte(out: &mut String, byte: u8) -> Result<(), AllocError>
     ensures { OnOk result (text_of out.new ≡ text_of out.old ++ spec.byte_text byte) }
 {
-    append(out, "\\x")?;
+    append(out, r"\x")?;
     push(out, upper_hex_digit(byte / 16))?;
     push(out, upper_hex_digit(byte % 16))
 }

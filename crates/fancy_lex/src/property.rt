@@ -114,27 +114,27 @@ fn form_of(known: Known, name: &str, unicode: bool) -> Form<'_>
     match known {
         Known::Alnum => by(
             unicode,
-            Form::Set("\\p{alpha}\\p{digit}"),
+            Form::Set(r"\p{alpha}\p{digit}"),
             Form::Set("[:alnum:]"),
         ),
-        Known::Blank => by(unicode, Form::Set("\\p{Zs}\\x09"), Form::Set("\\t ")),
+        Known::Blank => by(unicode, Form::Set(r"\p{Zs}\x09"), Form::Set(r"\t ")),
         Known::Cntrl => by(
             unicode,
-            Form::Set("\\x00-\\x1F\\x7F-\\x9F"),
+            Form::Set(r"\x00-\x1F\x7F-\x9F"),
             Form::Set("[:cntrl:]"),
         ),
-        Known::Word => by(unicode, Form::Pair("\\w", "\\W"), Form::Set("_[:alnum:]")),
+        Known::Word => by(unicode, Form::Pair(r"\w", r"\W"), Form::Set("_[:alnum:]")),
         Known::Graph => by(
             unicode,
-            Form::Pair("[^\\p{White_Space}\\p{C}]", "[\\p{White_Space}\\p{C}]"),
+            Form::Pair(r"[^\p{White_Space}\p{C}]", r"[\p{White_Space}\p{C}]"),
             Form::Set("[:graph:]"),
         ),
         Known::Print => by(
             unicode,
-            Form::Pair("[^\\p{C}\\t\\n\\v\\f\\r]", "[\\p{C}\\t\\n\\v\\f\\r]"),
+            Form::Pair(r"[^\p{C}\t\n\v\f\r]", r"[\p{C}\t\n\v\f\r]"),
             Form::Set("[:print:]"),
         ),
-        Known::Cs => Form::Pair("\\P{any}", "\\p{any}"),
+        Known::Cs => Form::Pair(r"\P{any}", r"\p{any}"),
         Known::Other => Form::Name(name),
     }
 }
@@ -224,7 +224,7 @@ fn push_name(out: &mut String, name: &str, negated: bool) -> Result<(), AllocErr
 fn letter(negated: bool) -> &'static str
     ensures { chars result.now ≡ spec.letter negated }
 {
-    if negated { "\\P" } else { "\\p" }
+    if negated { r"\P" } else { r"\p" }
 }
 
 /// Adds the form's text.

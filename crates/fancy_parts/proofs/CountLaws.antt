@@ -1,5 +1,8 @@
--- What holds of the counts of a quantifier: they leave the end of the text behind a character or more, of which the last is an ASCII one.
-use Rattle.std.proofs.Common.{◌≡◌, ℕ, ◌<◌, ◌^◌, nat_lt, ◌==◌, true, [], ◌∷◌, ◌++◌, List, chars, ap, sym, ◌∙◌, append_assoc, length-append, Bor, Option, Some, None, IfSome, option_map, unwrap_or, refl, subst, arith, Bool}
+-- What holds of the counts of a quantifier: they leave the end of the text behind a character or more, of which the
+-- last is an ASCII one.
+use Rattle.std.proofs.Common.{◌≡◌, ℕ, ◌<◌, ◌^◌, nat_lt, ◌==◌, true, [], ◌∷◌, ◌++◌, List, chars, ap, sym, ◌∙◌}
+use Rattle.std.proofs.Common.{append_assoc, length-append, Bor, Option, Some, None, IfSome, option_map, unwrap_or, refl}
+use Rattle.std.proofs.Common.{subst, arith, Bool}
 use Rattle.std.specs.Prelude.{option_and_then}
 use Rattle.std.proofs.lemmas.Bool.{cond_both}
 use Prim.Native.Char.{code}
@@ -12,7 +15,8 @@ use Rattle.fancy_lex.specs.Layout.{layout, Skipped, rest, rest_of, fault as open
 use Rattle.fancy_lex.specs.Number.{number}
 use Rattle.fancy_lex.specs.Text.{Text, EndsWith, strip}
 use Rattle.fancy_parts.proofs.HeadLaws.{takes_strip}
-use Rattle.fancy_parts.specs.Quantifier.{counts, braced_counts, counts_from, in_braces, spaced_count, past_layout, count, count_of, exact_or_range, most}
+use Rattle.fancy_parts.specs.Quantifier.{counts, braced_counts, counts_from, in_braces, spaced_count, past_layout}
+use Rattle.fancy_parts.specs.Quantifier.{count, count_of, exact_or_range, most}
 use Rattle.fancy_parts.specs.declared.counts.Counts.{Counts}
 
 takes_none : (t : Text) → Takes 0 t t
@@ -56,7 +60,8 @@ takes_spaced x t = by_first (past_layout x t) (takes_layout x t)
     by_count (Some (n, v)) h a = by_last n (past_layout x v) (takes_layout x v) (takes_on (omega arith) a h)
 
     by_first : (o : Option Text) → IfSome o (λ u. Takes 0 t u) →
-        TakesSome 0 t (option_and_then (λ u. option_and_then (λ p. option_map (λ v. (p.0, v)) (past_layout x p.1)) (count u)) o)
+        TakesSome 0 t
+        (option_and_then (λ u. option_and_then (λ p. option_map (λ v. (p.0, v)) (past_layout x p.1)) (count u)) o)
     by_first None h = tt
     by_first (Some u) h = by_count (count u) (takes_count u) h
 
@@ -83,7 +88,8 @@ closes_past None a h = tt
 closes_past (Some p) a h = closed_past a h
 
 by_brace : {t : Text} (u v : Text) → Takes 0 t u → strip (code "}") u ≡ Some v → Closed t v
-by_brace u v a e = closed_past a (record { mark = code "}"; ascii = omega arith; ends = ([], strip_is (code "}") u v e) })
+by_brace u v a e =
+    closed_past a (record { mark = code "}"; ascii = omega arith; ends = ([], strip_is (code "}") u v e) })
 
 closes_from : (x : Bool) (low : ℕ) (t : Text) → ClosesSome t (counts_from x low t)
 unfolding counts_from
@@ -95,7 +101,8 @@ closes_from x low t = by_count (spaced_count x t) (takes_spaced x t)
     closed p (Some v) e h = by_brace p.1 v h e
 
     by_count : (o : Option (Option ℕ × Text)) → TakesSome 0 t o →
-        ClosesSome t (option_and_then (λ p. option_map (λ v. (in_braces low (unwrap_or p.0 most), v)) (strip (code "}") p.1)) o)
+        ClosesSome t (option_and_then
+        (λ p. option_map (λ v. (in_braces low (unwrap_or p.0 most), v)) (strip (code "}") p.1)) o)
     by_count None h = tt
     by_count (Some p) h = closed p (strip (code "}") p.1) refl h
 
@@ -111,7 +118,8 @@ closes_braces x t = by_count (spaced_count x t) (takes_spaced x t)
         ClosesSome t (option_and_then (counts_from x low) o)
     range low u None e h = tt
     range low u (Some v) e h =
-        closes_past (counts_from x low v) (takes_on (omega arith) h (takes_strip (code ",") u v e)) (closes_from x low v)
+        closes_past (counts_from x low v) (takes_on (omega arith) h (takes_strip (code ",") u v e))
+        (closes_from x low v)
 
     closed : (low : Option ℕ) (u : Text) (o : Option Text) → strip (code "}") u ≡ o → Takes 0 t u →
         ClosesSome t (exact_or_range x low u o)
@@ -158,5 +166,6 @@ pub counts_cut : (x : Bool) (t : Text) (r : Option (Counts × Bor (List ℕ))) �
     counts x t ≡ option_map (λ p. (p.0, chars p.1.now)) r → IfSome r (λ p. EndsWith t (chars p.1.now))
 counts_cut x t None e = tt
 counts_cut x t (Some p) e =
-    let h : TakesSome 1 t (option_map (λ p. (p.0, chars p.1.now)) (Some p)) = subst (TakesSome 1 t) e (takes_counts x t) in
+    let h : TakesSome 1 t (option_map (λ p. (p.0, chars p.1.now)) (Some p)) =
+    subst (TakesSome 1 t) e (takes_counts x t) in
     (h.word, h.cut)

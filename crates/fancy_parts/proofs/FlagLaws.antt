@@ -1,12 +1,15 @@
--- The letters of a flag group leave the end of the text, or their fault stands at a cut of the text or one past its end.
+-- The letters of a flag group leave the end of the text, or their fault stands at a cut of the text or one past its
+-- end.
 use Rattle.std.proofs.Common.{ℕ, zero, suc, ◌+◌, Bool, false, [], ◌∷◌, Option, Some, None}
 use Rattle.fancy_lex.proofs.EscapeLaws.{leaves_layout}
-use Rattle.fancy_lex.proofs.LeaveLaws.{ends_whole, stands_here, stands_end, Leaves, leaves, whole_next, leaves_none, leaves_told, leaves_retold, leaves_if, leaves_both}
+use Rattle.fancy_lex.proofs.LeaveLaws.{ends_whole, stands_here, stands_end, Leaves, leaves, whole_next, leaves_none}
+use Rattle.fancy_lex.proofs.LeaveLaws.{leaves_told, leaves_retold, leaves_if, leaves_both}
 use Rattle.fancy_lex.specs.FaultTable.{mode_changed}
 use Rattle.fancy_lex.specs.Reading.{Reading, fails}
 use Rattle.fancy_lex.specs.Text.{Text, bytes, place_of}
 use Rattle.fancy_lex.specs.declared.flags.Flags.{Flags}
-use Rattle.fancy_parts.specs.FlagLetters.{Letters, Step, ends, goes, step, unknown_letter, goes_on, behind_step, letters_in, letters}
+use Rattle.fancy_parts.specs.FlagLetters.{Letters, Step, ends, goes, step, unknown_letter, goes_on, behind_step}
+use Rattle.fancy_parts.specs.FlagLetters.{letters_in, letters}
 
 -- where the letters begin is told
 module _ (n : ℕ) (t : Text) where
@@ -16,7 +19,8 @@ module _ (n : ℕ) (t : Text) where
   leaves_unknown : (u v : Text) → Leaves n told v (unknown_letter n t u)
   leaves_unknown u v = leaves_told
 
-  leaves_goes_on : (clears : Bool) (c : ℕ) (u : Text) (o : Option Flags) → Leaves n told (c ∷ u) (goes_on n t clears u o)
+  leaves_goes_on : (clears : Bool) (c : ℕ) (u : Text) (o : Option Flags) →
+      Leaves n told (c ∷ u) (goes_on n t clears u o)
   leaves_goes_on clears c u (Some f) = whole_next u
   leaves_goes_on clears c u None = leaves_unknown u (c ∷ u)
 
@@ -28,7 +32,8 @@ module _ (n : ℕ) (t : Text) where
   leaves_step clears f (c ∷ u) =
       search (leaves_if, whole_next, leaves_unknown, leaves_changing, leaves_goes_on) depth 60 fits 3000
 
-  leaves_behind : (more : Bool → Flags → Text → Reading Letters) → ((c : Bool) (f : Flags) (u : Text) → Leaves n told u (more c f u)) →
+  leaves_behind : (more : Bool → Flags → Text → Reading Letters) →
+      ((c : Bool) (f : Flags) (u : Text) → Leaves n told u (more c f u)) →
       (s : Step) (u : Text) → Leaves n told u (behind_step more s u)
   leaves_behind more h (ends l) u = leaves (ends_whole u)
   leaves_behind more h (goes c f) u = h c f u

@@ -1,5 +1,6 @@
 -- The letters of a flag group, one step after another.
-use Rattle.std.proofs.Common.{◌≡◌, ℕ, suc, ◌-◌, ◌<◌, [], ◌∷◌, ◌++◌, length, length-append, take, chars, Bool, false, refl, sym, ap, ◌∙◌, arith, append_assoc}
+use Rattle.std.proofs.Common.{◌≡◌, ℕ, suc, ◌-◌, ◌<◌, [], ◌∷◌, ◌++◌, length, length-append, take, chars, Bool, false}
+use Rattle.std.proofs.Common.{refl, sym, ap, ◌∙◌, arith, append_assoc}
 use Rattle.std.proofs.Math.Seq.{take-append_seam}
 use Rattle.std.specs.Str.{chars as the_chars}
 use Rattle.std.proofs.Common.{zero}
@@ -47,12 +48,14 @@ module _ (n : ℕ) (t : Text) (clears : Bool) (f : Flags) (u : Text) where
   unfolding letters_in
   letter_fault k v b e h = rw e (reports_first _ _ b h)
 
-  letters_end : (k : ℕ) (v : Text) (l : Letters) (w : Text) → before ≡ gives tt v → step n t clears f v ≡ gives (ends l) w →
+  letters_end : (k : ℕ) (v : Text) (l : Letters) (w : Text) → before ≡ gives tt v →
+      step n t clears f v ≡ gives (ends l) w →
       letters_in n t (suc k) clears f u ≡ gives l w
   unfolding letters_in
   letters_end k v l w e h = rw (e, h) refl
 
-  letters_go : (k : ℕ) (v : Text) (c : Bool) (g : Flags) (w : Text) → before ≡ gives tt v → step n t clears f v ≡ gives (goes c g) w →
+  letters_go : (k : ℕ) (v : Text) (c : Bool) (g : Flags) (w : Text) → before ≡ gives tt v →
+      step n t clears f v ≡ gives (goes c g) w →
       letters_in n t (suc k) clears f u ≡ letters_in n t k c g w
   unfolding letters_in
   letters_go k v c g w e h = rw (e, h) refl
@@ -74,7 +77,8 @@ module _ (n : ℕ) (t : Text) (clears : Bool) (f : Flags) (u : Text) where
           by_steps zero h = absurd (omega arith)
           by_steps (suc k) h = letter_fault k v b e i
 
-      pub in_end : (l : Letters) (w : Text) → step n t clears f v ≡ gives (ends l) w → letters_in n t k clears f u ≡ gives l w
+      pub in_end : (l : Letters) (w : Text) → step n t clears f v ≡ gives (ends l) w →
+          letters_in n t k clears f u ≡ gives l w
       in_end l w i = by_steps k some
         where
           by_steps : (k : ℕ) → m < k → letters_in n t k clears f u ≡ gives l w

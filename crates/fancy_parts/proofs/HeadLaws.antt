@@ -11,13 +11,16 @@ use Rattle.fancy_lex.specs.Text.{Text, strip, place_of}
 use Rattle.fancy_lex.proofs.TextLemmas.{strip_is}
 use Rattle.fancy_lex.proofs.ReferenceLaws.{takes_name, takes_marked_name, takes_by_name, takes_reference_by_name}
 use Rattle.fancy_lex.proofs.ReferencePlaces.{IfGives, ReferenceAt, CallAt, named_at, call_to_at, reference_by_name_at}
-use Rattle.fancy_lex.proofs.TakeLaws.{Takes, TakesSome, TakesOrFails, takes, fails_at, takes_on, takes_one, takes_less_some}
+use Rattle.fancy_lex.proofs.TakeLaws.{Takes, TakesSome, TakesOrFails, takes, fails_at, takes_on, takes_one}
+use Rattle.fancy_lex.proofs.TakeLaws.{takes_less_some}
 use Rattle.fancy_parts.specs.GroupName.{head_name, group_name}
-use Rattle.fancy_parts.specs.HeadReference.{named_reference, call_of, named_call, condition_name, with_close_paren, condition_target}
+use Rattle.fancy_parts.specs.HeadReference.{named_reference, call_of, named_call, condition_name, with_close_paren}
+use Rattle.fancy_parts.specs.HeadReference.{condition_target}
 
 -- what stands behind one character more takes one more
 module _ (k m : ℕ) (t : Text) where
-  pub takes_past : {A : Type 0} (u : Text) (o : Option (A × Text)) → Takes m t u → TakesSome k u o → TakesSome (m + k) t o
+  pub takes_past : {A : Type 0} (u : Text) (o : Option (A × Text)) → Takes m t u → TakesSome k u o →
+      TakesSome (m + k) t o
   takes_past u None a h = tt
   takes_past u (Some p) a h = takes_on (omega arith) a h
 
@@ -61,7 +64,8 @@ module _ (n : ℕ) where
   pub takes_group_name : (t : Text) → TakesOrFails (place_of n t - 1) 3 t (group_name n t)
   unfolding group_name
   takes_group_name t = at (head_name t) (takes_head_name t) where
-    at : (o : Option (Text × Text)) → TakesSome 3 t o → TakesOrFails (place_of n t - 1) 3 t (name_reading (place_of n t - 1) o)
+    at : (o : Option (Text × Text)) → TakesSome 3 t o →
+        TakesOrFails (place_of n t - 1) 3 t (name_reading (place_of n t - 1) o)
     at None h = fails_at refl
     at (Some p) h = takes h
 

@@ -1,5 +1,7 @@
 -- The relation of a flag group's letters holds of exactly what the function answers.
-use Rattle.std.proofs.Common.{◌≡◌, ◌≢◌, ◌⊎◌, inl, inr, ℕ, zero, suc, ◌+◌, ◌<◌, ◌≤◌, ◌==◌, ◌&&◌, ◌||◌, Bool, true, false, not, if◌then◌else◌, List, [], ◌∷◌, ◌++◌, Result, Option, Some, None, refl, ap, sym, ◌∙◌, subst, arith, append_assoc}
+use Rattle.std.proofs.Common.{◌≡◌, ◌≢◌, ◌⊎◌, inl, inr, ℕ, zero, suc, ◌+◌, ◌<◌, ◌≤◌, ◌==◌, ◌&&◌, ◌||◌, Bool, true, false}
+use Rattle.std.proofs.Common.{not, if◌then◌else◌, List, [], ◌∷◌, ◌++◌, Result, Option, Some, None, refl, ap, sym, ◌∙◌}
+use Rattle.std.proofs.Common.{subst, arith, append_assoc}
 use Rattle.std.proofs.lemmas.Bool.{cases_eq}
 use Rattle.std.proofs.lemmas.Bool.Decides.{nat_tests}
 use Rattle.std.proofs.lemmas.List.{append_cancel_right}
@@ -12,12 +14,17 @@ use Rattle.fancy_lex.proofs.ReadingLemmas.{derives_answer, only_answer}
 use Rattle.fancy_lex.proofs.TextLemmas.{bytes-append}
 use Rattle.fancy_lex.specs.Characters.{open_paren, hash, ◌∈◌}
 use Rattle.fancy_lex.specs.FaultTable.{comment_not_closed, group_not_closed, no_flag_letter, mode_changed}
-use Rattle.fancy_lex.specs.Layout.{Skipped, rest, fault, layout, Units, none, more as unit_more, IsUnit, is_blank, Before}
+use Rattle.fancy_lex.specs.Layout.{Skipped, rest, fault, layout, Units, none, more as unit_more, IsUnit, is_blank}
+use Rattle.fancy_lex.specs.Layout.{Before}
 use Rattle.fancy_lex.specs.Reading.{Reading, gives, fails, ◌>=>◌, Answers, Derives}
 use Rattle.fancy_lex.specs.Text.{Text, bytes}
 use Rattle.fancy_lex.specs.declared.error.Error.{Error}
 use Rattle.fancy_lex.specs.declared.flags.Flags.{Flags}
-use Rattle.fancy_parts.specs.FlagLetters.{Letters, setting, scope, with_letter, Step, ends, goes, is_first, is_behind_minus, unknown_letter, goes_on, step, behind_step, letters_in, letters, NoLetter, nothing_closed, nothing_scoped, second_minus, no_flag, Letter, flag, same_mode, minus, parenthesis, colon, no_letter, other_mode, Next, LettersFrom, last, more, letter_fault, text_end, open_layout, FlagGroup}
+use Rattle.fancy_parts.specs.FlagLetters.{Letters, setting, scope, with_letter, Step, ends, goes, is_first}
+use Rattle.fancy_parts.specs.FlagLetters.{is_behind_minus, unknown_letter, goes_on, step, behind_step, letters_in}
+use Rattle.fancy_parts.specs.FlagLetters.{letters, NoLetter, nothing_closed, nothing_scoped, second_minus, no_flag}
+use Rattle.fancy_parts.specs.FlagLetters.{Letter, flag, same_mode, minus, parenthesis, colon, no_letter, other_mode}
+use Rattle.fancy_parts.specs.FlagLetters.{Next, LettersFrom, last, more, letter_fault, text_end, open_layout, FlagGroup}
 use Rattle.fancy_parts.specs.FlagReads.{letters_of}
 use Rattle.fancy_parts.specs.declared.heads.letters.Letters as declared
 use Rattle.fancy_parts.proofs.FlagLemmas.{front_read}
@@ -171,7 +178,8 @@ same_test a b e = grind (arith, nat_tests)
 other_test : (a b : ℕ) → a ≢ b → (a == b) ≡ false
 other_test a b d = grind (arith, nat_tests)
 
-module _ (n : ℕ) (t w : Text) (clears : Bool) (f : Flags) (c : ℕ) (u : Text) (told : Told w clears) (cut : t ≡ w ++ (c ∷ u)) where
+module _ (n : ℕ) (t w : Text) (clears : Bool) (f : Flags) (c : ℕ) (u : Text) (told : Told w clears)
+    (cut : t ≡ w ++ (c ∷ u)) where
   sum : bytes t ≡ bytes w + bytes (c ∷ u)
   sum = ap bytes cut ∙ bytes-append w (c ∷ u)
 
@@ -187,7 +195,8 @@ module _ (n : ℕ) (t w : Text) (clears : Bool) (f : Flags) (c : ℕ) (u : Text)
 
   minus_at : w ≡ one_minus → is_behind_minus t clears (c ∷ u) ≡ true
   minus_at e =
-      let is : (bytes (c ∷ u) + 1 == bytes t) ≡ true = same_test (bytes (c ∷ u) + 1) (bytes t) (omega (arith, sum, ap bytes e, bytes_minus)) in
+      let is : (bytes (c ∷ u) + 1 == bytes t) ≡ true =
+      same_test (bytes (c ∷ u) + 1) (bytes t) (omega (arith, sum, ap bytes e, bytes_minus)) in
       rw (told.is e, is) refl
 
   no_minus : w ≢ one_minus → is_behind_minus t clears (c ∷ u) ≡ false
@@ -218,7 +227,8 @@ module _ (n : ℕ) (t w : Text) (clears : Bool) (f : Flags) (c : ℕ) (u : Text)
       let a : (c == code ")") ≡ false = rw e refl in
       rw (a, is, h) refl
 
-  at_minus : c ≡ code "-" → (b : Bool) → clears ≡ b → step n t clears f (c ∷ u) ≡ (if b then unknown_letter n t u else gives (goes true f) u)
+  at_minus : c ≡ code "-" → (b : Bool) → clears ≡ b →
+      step n t clears f (c ∷ u) ≡ (if b then unknown_letter n t u else gives (goes true f) u)
   at_minus e b h =
       let is : (c == code "-") ≡ true = same_test c (code "-") e in
       let a : (c == code ")") ≡ false = rw e refl in
@@ -290,7 +300,8 @@ module _ (n : ℕ) (t w : Text) (clears : Bool) (f : Flags) (c : ℕ) (u : Text)
         on_minus a true e = rw (at_minus a true e) (bad (second_minus a e))
         on_minus a false e = rw (at_minus a false e) (minus a e)
 
-        on_mode : c ≡ code "u" → (b : Bool) → beq clears f.unicode ≡ b → Letter n t w clears f c u (step n t clears f (c ∷ u))
+        on_mode : c ≡ code "u" → (b : Bool) → beq clears f.unicode ≡ b →
+            Letter n t w clears f c u (step n t clears f (c ∷ u))
         on_mode a true e = rw (at_mode a true e) (other_mode a (equal clears f.unicode e))
         on_mode a false e = rw (at_mode a false e) (same_mode a (opposite clears f.unicode e))
 
@@ -329,10 +340,12 @@ module _ (n : ℕ) (t w : Text) (clears : Bool) (f : Flags) (c : ℕ) (u : Text)
     by (nothing_scoped a e) = at_colon a true (minus_at e)
     by (second_minus a e) = at_minus a true e
     by (no_flag a e) =
-        at_other (grind (arith, nat_tests)) (grind (arith, nat_tests)) (grind (arith, nat_tests)) (grind (arith, nat_tests)) ∙ rw e refl
+        at_other (grind (arith, nat_tests)) (grind (arith, nat_tests)) (grind (arith, nat_tests))
+        (grind (arith, nat_tests)) ∙ rw e refl
 
   -- what is known of `clears` behind it
-  told_behind : {b : Bool} {g : Flags} {r : Text} → Letter n t w clears f c u (gives (goes b g) r) → Told (w ++ c ∷ []) b
+  told_behind : {b : Bool} {g : Flags} {r : Text} → Letter n t w clears f c u (gives (goes b g) r) →
+      Told (w ++ c ∷ []) b
   told_behind (flag e) = told_more clears w c told no_minus_flag where
     no_minus_flag : c ≢ code "-"
     no_minus_flag a = let none : with_letter f (not clears) c ≡ None = rw a refl in let both = sym none ∙ e in cc
@@ -378,7 +391,8 @@ module _ (n : ℕ) (t : Text) where
   shorter w u c v k cut l = omega (arith, ap bytes cut, bytes-append w (c ∷ v), bytes_some c v, l)
 
   -- before the letter that follows the layout
-  module _ (clears : Bool) (f : Flags) (u : Text) (c : ℕ) (v : Text) (at : Reached t clears u) (b : Before f.ignore_space u (c ∷ v)) where
+  module _ (clears : Bool) (f : Flags) (u : Text) (c : ℕ) (v : Text) (at : Reached t clears u)
+      (b : Before f.ignore_space u (c ∷ v)) where
     cut_at : t ≡ (at.0 ++ b.w) ++ (c ∷ v)
     cut_at = at.1 ∙ ap (λ s. at.0 ++ s) b.cut ∙ sym (append_assoc at.0 b.w (c ∷ v))
 
@@ -389,7 +403,8 @@ module _ (n : ℕ) (t : Text) where
     told_as w e = subst (λ s. Told s clears) (append_cancel_right (at.0 ++ b.w) w (c ∷ v) (sym cut_at ∙ e)) told_at
 
   -- and behind it
-  reach_on : {clears b : Bool} {f g : Flags} {u v : Text} → Reached t clears u → Next n t clears f u v (gives (goes b g) v) →
+  reach_on : {clears b : Bool} {f g : Flags} {u v : Text} → Reached t clears u →
+      Next n t clears f u v (gives (goes b g) v) →
       Reached t b v
   reach_on {clears} {b} {f} {g} {u} {v} at x = (
     x.w ++ x.c ∷ [],
@@ -399,10 +414,12 @@ module _ (n : ℕ) (t : Text) where
 
   abbrev ReadShort : ℕ → Type 0
   ReadShort k =
-      (clears : Bool) (f : Flags) (u : Text) → Reached t clears u → bytes u < k → LettersFrom n t clears f u (letters_in n t k clears f u)
+      (clears : Bool) (f : Flags) (u : Text) → Reached t clears u → bytes u < k →
+      LettersFrom n t clears f u (letters_in n t k clears f u)
 
   -- what the function answers, the relation gives
-  module _ (k : ℕ) (reads : ReadShort k) (clears : Bool) (f : Flags) (u : Text) (at : Reached t clears u) (l : bytes u < suc k) where
+  module _ (k : ℕ) (reads : ReadShort k) (clears : Bool) (f : Flags) (u : Text) (at : Reached t clears u)
+      (l : bytes u < suc k) where
     read_behind : (c : ℕ) (v : Text) (b : Before f.ignore_space u (c ∷ v)) (q : Reading Step) →
         Letter n t (at.0 ++ b.w) clears f c v q → LettersFrom n t clears f u (q >=> behind_step (letters_in n t k))
     read_behind c v b q h = by q h where
@@ -412,13 +429,17 @@ module _ (n : ℕ) (t : Text) where
       by : (q : Reading Step) → Letter n t (at.0 ++ b.w) clears f c v q →
           LettersFrom n t clears f u (q >=> behind_step (letters_in n t k))
       by (gives (ends a) r) h =
-          rw (letter_rest h) (last (next (gives (ends a) v) (subst (λ s. Letter n t (at.0 ++ b.w) clears f c v (gives (ends a) s)) (letter_rest h) h)))
+          rw (letter_rest h)
+          (last (next (gives (ends a) v)
+          (subst (λ s. Letter n t (at.0 ++ b.w) clears f c v (gives (ends a) s)) (letter_rest h) h)))
       by (gives (goes d g) r) h =
-          let here = next (gives (goes d g) v) (subst (λ s. Letter n t (at.0 ++ b.w) clears f c v (gives (goes d g) s)) (letter_rest h) h) in
+          let here = next (gives (goes d g) v)
+          (subst (λ s. Letter n t (at.0 ++ b.w) clears f c v (gives (goes d g) s)) (letter_rest h) h) in
           rw (letter_rest h) (more here (reads d g v (reach_on at here) (shorter b.w u c v k b.cut l)))
       by (fails e) h = letter_fault (next (fails e) h)
 
-    read_layout : (s : Skipped) → layout n f.ignore_space u ≡ s → LettersFrom n t clears f u (letters_in n t (suc k) clears f u)
+    read_layout : (s : Skipped) → layout n f.ignore_space u ≡ s →
+        LettersFrom n t clears f u (letters_in n t (suc k) clears f u)
     read_layout (fault q) e = rw (read_open k clears f u q e) (open_layout (unclosed_sound n f.ignore_space u q e))
     read_layout (rest []) e = rw (read_end k clears f u e) (text_end (layout_sound n f.ignore_space u [] e))
     read_layout (rest (c ∷ v)) e =
@@ -431,7 +452,8 @@ module _ (n : ℕ) (t : Text) where
   letters_read (suc k) clears f u at l = read_layout k (letters_read k) clears f u at l (layout n f.ignore_space u) refl
 
   -- whatever the relation gives is the function's answer: by induction on the derivation
-  step_is : {clears : Bool} {f : Flags} {u v : Text} {q : Reading Step} (k : ℕ) → Reached t clears u → (x : Next n t clears f u v q) →
+  step_is : {clears : Bool} {f : Flags} {u v : Text} {q : Reading Step} (k : ℕ) → Reached t clears u →
+      (x : Next n t clears f u v q) →
       letters_in n t (suc k) clears f u ≡ (q >=> behind_step (letters_in n t k))
   step_is {clears} {f} {u} {v} {q} k at x =
       read_step k clears f u (x.c ∷ v) (layout_complete n f.ignore_space u (x.c ∷ v) x.layout)
@@ -466,7 +488,8 @@ module _ (n : ℕ) (f : Flags) (t : Text) where
 
 -- ---- the clauses of the reader
 
-module _ (n : ℕ) (f : Flags) (t : Text) (r : Result (declared.Letters × Bor (List ℕ)) Error) (g : Answers letters_of r (letters n f t)) where
+module _ (n : ℕ) (f : Flags) (t : Text) (r : Result (declared.Letters × Bor (List ℕ)) Error)
+    (g : Answers letters_of r (letters n f t)) where
   pub letters_derive : Derives letters_of r (FlagGroup n f t)
   letters_derive = derives_answer letters_of r (FlagGroup n f t) (letters n f t) (flag_group_reads n f t) g
 

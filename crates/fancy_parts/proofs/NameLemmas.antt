@@ -83,7 +83,8 @@ put_more a (e ∷ es) v w n h s k =
     by_order : (o : Ordering) → string_cmp a e.0 ≡ o →
         (lookup (λ k. is_eq (string_cmp a k)) es ≡ Some v →
         map entry_of (set_value (λ k. is_eq (string_cmp a k)) es w) ≡ with_number (text_of a) n (map entry_of es)) →
-        map entry_of (set_value (λ k. is_eq (string_cmp a k)) (e ∷ es) w) ≡ with_number (text_of a) n (map entry_of (e ∷ es))
+        map entry_of (set_value (λ k. is_eq (string_cmp a k)) (e ∷ es) w) ≡ with_number (text_of a) n
+        (map entry_of (e ∷ es))
     by_order Less q i =
         let none : lookup (λ k. is_eq (string_cmp a k)) (e ∷ es) ≡ None
         = lookup-none _ (e ∷ es) (none_below_head string_total a e es s q) in absurd cc

@@ -21,7 +21,8 @@ use Rattle.std.proofs.lemmas.Str.{encode_same, length-encode}
 use Rattle.std.proofs.Common.{length-append}
 use Rattle.std.proofs.lemmas.Str.{len_utf8_bounds}
 use Rattle.fancy_lex.specs.Text.{Text}
-use Rattle.fancy_parts.specs.Groups.{Groups, no_groups, groups_in, openings_with, with_group, with_number, numbers_under}
+use Rattle.fancy_parts.specs.Groups.{Groups, no_groups, groups_in, openings_with, with_group, with_number}
+use Rattle.fancy_parts.specs.Groups.{numbers_under}
 use Rattle.fancy_parts.specs.Ranks.{Opening, name_cmp, names, numbers, numbers_from, named_groups, is_name}
 
 -- ---- the order of names

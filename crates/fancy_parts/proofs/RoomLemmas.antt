@@ -7,7 +7,8 @@ use Rattle.std.specs.List.{list_all}
 use Rattle.std.specs.Str.{IsUtf8, IsAscii}
 use Rattle.std.specs.Char.{IsScalar, len_utf8}
 use Rattle.std.proofs.Math.Utf8.{encode}
-use Rattle.std.proofs.lemmas.Str.{chars-append, chars-IsAscii, IsUtf8-string_bytes, IsUtf8-encode, IsUtf8-from_ascii, chars_past_char, chars-nil}
+use Rattle.std.proofs.lemmas.Str.{chars-append, chars-IsAscii, IsUtf8-string_bytes, IsUtf8-encode, IsUtf8-from_ascii}
+use Rattle.std.proofs.lemmas.Str.{chars_past_char, chars-nil}
 use Rattle.std.proofs.lemmas.Str.Ascii.{IsAscii-from_all}
 use Rattle.std.proofs.lemmas.List.Sums.{AllPass-from_list_all}
 use borrow.Author.Tests.{ltb-true}
@@ -24,7 +25,8 @@ unfolding bytes
 bytes-nil = refl
 
 pub chars_encode : (c : ℕ) → IsScalar c → chars (encode c) ≡ c ∷ []
-chars_encode c s = chars_past_char (encode c) [] c (IsUtf8-encode c s) (sym (append-nil (encode c))) ∙ ap (λ t. c ∷ t) chars-nil
+chars_encode c s = chars_past_char (encode c) [] c (IsUtf8-encode c s) (sym (append-nil (encode c)))
+    ∙ ap (λ t. c ∷ t) chars-nil
 
 pub bytes_encode : (c : ℕ) → IsScalar c → bytes (c ∷ []) ≡ length (encode c)
 bytes_encode c s = ap bytes (sym (chars_encode c s)) ∙ bytes_chars (encode c) (IsUtf8-encode c s)
@@ -38,8 +40,10 @@ bytes_ascii bs h = ap bytes (sym (chars-IsAscii bs h)) ∙ bytes_chars bs (IsUtf
 -- ---- what is written
 
 -- a push that was not refused
-pub pushed : (ok : Bool) (a b : String Global) (bs : List ℕ) (text : Text) → ok ≡ true → IsUtf8 bs → chars bs ≡ text → string_bytes b ≡ (if ok then string_bytes a ++ bs else string_bytes a)
-    → string_len b ≡ (if ok then string_len a + length bs else string_len a) → string_capacity a ≤ string_capacity b → Appended a b text
+pub pushed : (ok : Bool) (a b : String Global) (bs : List ℕ) (text : Text) → ok ≡ true → IsUtf8 bs → chars bs ≡ text →
+    string_bytes b ≡ (if ok then string_bytes a ++ bs else string_bytes a)
+    → string_len b ≡ (if ok then string_len a + length bs else string_len a) → string_capacity a ≤ string_capacity b →
+    Appended a b text
 pushed true a b bs text ok u t e l k =
     record {
       is = ap chars e ∙ chars-append (string_bytes a) bs (IsUtf8-string_bytes a) ∙ ap (λ cs. text_of a ++ cs) t;
@@ -76,14 +80,17 @@ pub record Writing (a b : String Global) (rest whole : Text) : Type 0 where
 pub writing_starts : (a : String Global) (whole : Text) → HasRoom a whole → Writing a a whole whole
 writing_starts a whole h = record { room = h; ends = λ z p. p }
 
-pub writing_as : (a b : String Global) (rest other whole : Text) → rest ≡ other → Writing a b rest whole → Writing a b other whole
+pub writing_as : (a b : String Global) (rest other whole : Text) → rest ≡ other → Writing a b rest whole →
+    Writing a b other whole
 writing_as a b rest other whole e w = subst (λ t. Writing a b t whole) e w
 
 pub writing_room : (a b : String Global) (xs ys whole : Text) → Writing a b (xs ++ ys) whole → HasRoom b xs
 writing_room a b xs ys whole w = room_front b xs ys w.room
 
-pub writing_later : (a b c : String Global) (xs ys whole : Text) → Writing a b (xs ++ ys) whole → Appended b c xs → Writing a c ys whole
-writing_later a b c xs ys whole w p = record { room = room_behind b c xs ys p w.room; ends = λ z q. w.ends z (then_written b c z xs ys p q) }
+pub writing_later : (a b c : String Global) (xs ys whole : Text) → Writing a b (xs ++ ys) whole → Appended b c xs →
+    Writing a c ys whole
+writing_later a b c xs ys whole w p =
+    record { room = room_behind b c xs ys p w.room; ends = λ z q. w.ends z (then_written b c z xs ys p q) }
 
 pub writing_ends : (a b : String Global) (whole : Text) → Writing a b [] whole → Appended a b whole
 writing_ends a b whole w = w.ends b (nothing_written b)
@@ -121,10 +128,12 @@ room_counted s t len e h = omega (arith, s.bytes.small)
 pub written_as : (a b : String Global) (xs all : Text) → Appended a b xs → xs ≡ all → Appended a b all
 written_as a b xs all p e = subst (λ t. Appended a b t) e p
 
-pub written_two : (a b c : String Global) (xs ys all : Text) → Appended a b xs → Appended b c ys → xs ++ ys ≡ all → Appended a c all
+pub written_two : (a b c : String Global) (xs ys all : Text) → Appended a b xs → Appended b c ys → xs ++ ys ≡ all →
+    Appended a c all
 written_two a b c xs ys all p q e = written_as a c (xs ++ ys) all (then_written a b c xs ys p q) e
 
-pub written_three : (a b c d : String Global) (xs ys zs all : Text) → Appended a b xs → Appended b c ys → Appended c d zs → xs ++ (ys ++ zs) ≡ all → Appended a d all
+pub written_three : (a b c d : String Global) (xs ys zs all : Text) → Appended a b xs → Appended b c ys →
+    Appended c d zs → xs ++ (ys ++ zs) ≡ all → Appended a d all
 written_three a b c d xs ys zs all p q r e = written_two a b d xs (ys ++ zs) all p (then_written b c d ys zs q r) e
 
 pub ruleset room_steps = (bytes-append, bytes-cons, bytes-nil, nothing_written, written_as, written_two, written_three)

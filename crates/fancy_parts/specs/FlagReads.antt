@@ -3,7 +3,7 @@ use Rattle.fancy_parts.specs.FlagLetters as spec
 use Rattle.fancy_parts.specs.declared.heads.letters.Letters as code
 use Rattle.fancy_parts.specs.declared.heads.letters.Letters.TheVariants.{Setting, Scope}
 use Rattle.fancy_parts.specs.declared.heads.letters.Step as code_step
-use Rattle.fancy_parts.specs.declared.heads.letters.Step.TheVariants.{Ends, Goes}
+use Rattle.fancy_parts.specs.declared.heads.letters.Step.TheVariants.{Ends, GoesOn}
 
 -- what the code's letters come to
 abbrev pub letters_of : code.Letters → spec.Letters
@@ -13,4 +13,4 @@ letters_of (Scope f) = spec.scope f
 -- what the code's step stands for
 abbrev pub step_of : code_step.Step → spec.Step
 step_of (Ends l) = spec.ends (letters_of l)
-step_of (Goes clears f) = spec.goes clears f
+step_of (GoesOn clears f) = spec.goes clears f

@@ -1,5 +1,6 @@
 -- What a reference means, by the groups that have a number.
-use Rattle.std.specs.Prelude.{ℕ, ◌+◌, ◌-◌, ℤ, pos, negsuc, nat_le, Bool, false, List, [], ◌∷◌, length, slice_get, Option, Some, None}
+use Rattle.std.specs.Prelude.{ℕ, ◌+◌, ◌-◌, ℤ, pos, negsuc, nat_le, Bool, false, List, [], ◌∷◌, length, slice_get}
+use Rattle.std.specs.Prelude.{Option, Some, None}
 use Rattle.std.specs.Prelude.{if◌then◌else◌}
 use Rattle.fancy_lex.specs.Fault.{Kind, Fault, carries_text}
 use Rattle.fancy_lex.specs.FaultTable.{name_of_later_group, no_such_group, of_reference}

@@ -117,12 +117,12 @@ const USAGE: &str = "usage: fre FLAGS PATTERN\n";
 /// Words, and the status, the output and the error of a run on them.
 static ANSWERS: [(&[&str], u8, &str, &str); 12] = [
     (&["u", "(a|b)c*"], 0, ACCEPTED, ""),
-    (&["u", "(?<n>x)\\k<n>"], 0, NAMED, ""),
+    (&["u", r"(?<n>x)\k<n>"], 0, NAMED, ""),
     (&["u", ""], 0, EMPTY, ""),
     (&["-", "a("], 1, "", REFUSED),
     (&["u", "a)b"], 1, "", LEFT_OVER),
     (
-        &["u", "\\k<-2>\\k<b>"],
+        &["u", r"\k<-2>\k<b>"],
         1,
         "",
         "Parsing error at position 2: Invalid back reference\n",

@@ -33,7 +33,7 @@ static READ: [Row; 3] = [
     (Source::EmptyOrEmpty, Question::ReadsAs("|", 0), true),
     (
         Source::Literal("\u{80}", false),
-        Question::ReadsAs("\\x80", 0),
+        Question::ReadsAs(r"\x80", 0),
         true,
     ),
 ];
@@ -142,7 +142,7 @@ static REPEATED: [Row; 5] = [
     ),
     (
         Source::RepeatedLiteral(".\n", false),
-        Question::HasText(0, "x", "(?:\\.\\n)*"),
+        Question::HasText(0, "x", r"(?:\.\n)*"),
         true,
     ),
     (
@@ -278,9 +278,9 @@ static PRINTABLE: [Row; 10] = [
     ),
     (Source::Reference, Question::Printable, false),
     (Source::Delegate("[a-z&&[^b]]"), Question::Printable, true),
-    (Source::Delegate("\\p{Greek}"), Question::Printable, true),
+    (Source::Delegate(r"\p{Greek}"), Question::Printable, true),
     (Source::Delegate("[a]b"), Question::Printable, false),
-    (Source::Delegate("\\p{Greek"), Question::Printable, false),
+    (Source::Delegate(r"\p{Greek"), Question::Printable, false),
 ];
 
 #[test]

@@ -52,7 +52,7 @@ fn absent(form: &Absent) -> &'static str {
 }
 
 /// A group below a choice, below an atomic group.
-const TOWER: &str = "(?>|(a)|\\K)";
+const TOWER: &str = r"(?>|(a)|\K)";
 
 /// Only proper descendants are asked.
 static BELOW: [Row; 6] = [

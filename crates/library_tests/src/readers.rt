@@ -118,9 +118,9 @@ fn read_reference<'a>(pattern: &'a str, opening: &str) -> Answer<'a> {
     };
     let end = pattern.len();
     Ok(match opening {
-        "\\k" => reference(back_reference(text, end)?),
-        "\\g" => call(subroutine_call(text, end)?),
-        "\\" => reference(numbered_reference(text, end)?),
+        r"\k" => reference(back_reference(text, end)?),
+        r"\g" => call(subroutine_call(text, end)?),
+        r"\" => reference(numbered_reference(text, end)?),
         "(?P=" => reference(named_reference(text, end)?),
         "(?P>" => call(named_call(text, end)?),
         _ => reference(condition_target(text, end)?),

@@ -107,7 +107,7 @@ fn targets_are_as_before_their_clones(rt: HostRuntime) -> Result<(), AllocError>
 /// A pattern whose tree has every mark: two groups of one name, and references to a name, to a number and past the
 /// last.
 fn marked(alloc: Global) -> Result<ExprTree, Error> {
-    Expr::parse_tree(alloc, "(?<n>a)(?<n>b)\\k<n>\\1\\7\\g<n>")
+    Expr::parse_tree(alloc, r"(?<n>a)(?<n>b)\k<n>\1\7\g<n>")
 }
 
 /// Whether the trees are the same, and what is known of them.
@@ -149,10 +149,10 @@ fn a_tree_with_marks_is_as_before_its_clone(rt: HostRuntime) -> Result<(), Error
 
 /// What the kinds of errors say, of which the first four hold a text.
 static SAID: [&str; 16] = [
-    "General parsing error: \\c",
-    "Invalid escape: \\c",
-    "Unknown group flag: \\c",
-    "Invalid group name in back reference: \\c",
+    r"General parsing error: \c",
+    r"Invalid escape: \c",
+    r"Unknown group flag: \c",
+    r"Invalid group name in back reference: \c",
     "Opening parenthesis without closing parenthesis",
     "Invalid repeat syntax",
     "Pattern too deeply nested",
@@ -172,7 +172,7 @@ fn kind(alloc: Global, i: usize) -> Result<ParseError, AllocError> {
     if i > 3 {
         return Ok(plain_kind(i));
     }
-    let text = String::from_str(alloc, "\\c")?;
+    let text = String::from_str(alloc, r"\c")?;
     Ok(kind_with_text(i, text))
 }
 

@@ -143,7 +143,7 @@ static RUNS: [(&[&str], &[u8], u8, &str, &str); 16] = [
         NO_FLAGS,
     ),
     (
-        &["patterns", "tree", "(?<y>\\d{4})-(a|b)*?\\k<y>"],
+        &["patterns", "tree", r"(?<y>\d{4})-(a|b)*?\k<y>"],
         b"",
         0,
         LINES,
@@ -156,7 +156,7 @@ static RUNS: [(&[&str], &[u8], u8, &str, &str); 16] = [
             "--ascii",
             "--flags",
             "u",
-            "()(?(1)(?i:b)|\\g0)",
+            r"()(?(1)(?i:b)|\g0)",
         ],
         b"",
         0,

@@ -26,16 +26,16 @@ enum Text {
 /// What has no text, where the node itself is such.
 fn textless(node: &Expr) -> Option<&'static str> {
     Some(match node {
-        Expr::Assertion(Assertion::EndTextIgnoreTrailingNewlines { .. }) => "\\Z has no text",
-        Expr::GeneralNewline { .. } => "\\R has no text",
+        Expr::Assertion(Assertion::EndTextIgnoreTrailingNewlines { .. }) => r"\Z has no text",
+        Expr::GeneralNewline { .. } => r"\R has no text",
         Expr::LiteralBytes { .. } => "a byte that is no character has no text",
         Expr::LookAround(..) => "a look-around has no text",
         Expr::Backref { .. } | Expr::BackrefWithRelativeRecursionLevel { .. } => {
             "a back reference has no text"
         }
         Expr::AtomicGroup(_) => "an atomic group has no text",
-        Expr::KeepOut => "\\K has no text",
-        Expr::ContinueFromPreviousMatchEnd => "\\G has no text",
+        Expr::KeepOut => r"\K has no text",
+        Expr::ContinueFromPreviousMatchEnd => r"\G has no text",
         Expr::BackrefExistsCondition { .. } | Expr::Conditional { .. } => {
             "a conditional has no text"
         }

@@ -15,7 +15,7 @@ impl fmt::Display for Visible<'_> {
     fn fmt<W: fmt::Write>(&self, f: &mut fmt::Formatter<W>) -> fmt::Result {
         for c in self.0.chars() {
             if c.is_control() {
-                write!(f, "\\u{{{:x}}}", u32::from(c))?;
+                write!(f, r"\u{{{:x}}}", u32::from(c))?;
             } else {
                 f.write_char(c)?;
             }

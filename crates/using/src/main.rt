@@ -96,11 +96,11 @@ fn show_proved(rt: &HostRuntime, pattern: &str) -> Result<()> {
     Ok(())
 }
 
-static PATTERNS: [&str; 4] = ["x(y|z)*", "(?<day>\\d)-\\k<day>", "(a)\\g<day>", "a|b"];
+static PATTERNS: [&str; 4] = ["x(y|z)*", r"(?<day>\d)-\k<day>", r"(a)\g<day>", "a|b"];
 
 fn main(rt: HostRuntime) -> Result<()> {
     show_summary(&rt, "(a|b)c*")?;
-    show_summary(&rt, "(a)\\1")?;
+    show_summary(&rt, r"(a)\1")?;
     for (pattern, flags) in REFUSED.iter() {
         show_fault(&rt, pattern, *flags)?;
     }

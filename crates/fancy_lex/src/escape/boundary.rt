@@ -81,7 +81,7 @@ fn known_boundary(text: &str, ignore_space: bool, end: usize) -> Option<(Asserti
 fn unclosed_fault(alloc: Global, place: usize) -> Error
     ensures { Reports {A = Escape} result (fails (boundary_not_closed place)) }
 {
-    match String::from_str(alloc, "\\b{...}") {
+    match String::from_str(alloc, r"\b{...}") {
         Ok(text) => Error::ParseError(place, ParseError::InvalidEscape(text)),
         Err(refused) => Error::from(refused),
     }
@@ -91,7 +91,7 @@ fn unclosed_fault(alloc: Global, place: usize) -> Error
 fn boundary_head(negated: bool) -> &'static str
     ensures { chars result.now ≡ boundary_head negated }
 {
-    if negated { "\\B{" } else { "\\b{" }
+    if negated { r"\B{" } else { r"\b{" }
 }
 
 /// Adds the character, where all before it was added. Whether it was.

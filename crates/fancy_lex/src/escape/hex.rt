@@ -1,5 +1,5 @@
 //! Hex codes behind `\x`, `\u` and `\U`.
-ghost use Rattle.std.specs.Prelude.{◌≡◌, ℕ, ◌+◌, ◌*◌, ◌-◌, ◌^◌, ◌<◌, ◌≤◌, length, chars, IfSome, IfErr, IfOk, option_map, false};
+ghost use Rattle.std.specs.Prelude.{◌≡◌, ℕ, ◌+◌, ◌*◌, ◌-◌, ◌^◌, ◌<◌, ◌≤◌, length, chars, IfSome, IfErr, IfOk, option_map, false, true};
 ghost use Rattle.fancy_lex.specs.Characters.{close_brace};
 ghost use Rattle.fancy_lex.specs.Escaped.{Escape, escape_of};
 ghost use Rattle.fancy_lex.specs.Fault.{StandsWithin};
@@ -41,15 +41,13 @@ fn fixed_digits(text: &str, width: u32) -> Option<(u32, &str)>
     Some((value, left))
 }
 
-/// Reads the closing brace, where some digit stands before it.
-fn closing_brace(text: &str, some: bool, value: u32, place: usize) -> Result<(u32, &str), Error>
-    ensures value { Reads (λ v. v) result (spec.closing_brace place some value (strip close_brace (chars text.now))) }
+/// Reads the closing brace behind some digits.
+fn closing_brace(text: &str, value: u32, place: usize) -> Result<(u32, &str), Error>
+    ensures value { Reads (λ v. v) result (spec.closing_brace place true value (strip close_brace (chars text.now))) }
     ensures shorter { IfOk result (λ p. length p.1.now < length text.now) }
 {
-    if some {
-        if let Some(rest) = after(text, '}') {
-            return Ok((value, rest));
-        }
+    if let Some(rest) = after(text, '}') {
+        return Ok((value, rest));
     }
     Err(Error::ParseError(place, ParseError::InvalidHex))
 }
@@ -64,12 +62,15 @@ fn digits(text: &str, ignore_space: bool, end: usize, place: usize) -> Result<(u
     let mut value = 0u32;
     for read in 0..8u32 {
         let Some((digit, rest)) = hex_digit(left) else {
-            return closing_brace(left, read > 0, value, place);
+            if read == 0 {
+                return Err(Error::ParseError(place, ParseError::InvalidHex));
+            }
+            return closing_brace(left, value, place);
         };
         value = value * 16 + digit;
         left = skip(rest, ignore_space, end)?;
     }
-    closing_brace(left, true, value, place)
+    closing_brace(left, value, place)
 }
 
 /// Reads what stands behind the opening brace.

@@ -25,7 +25,7 @@ pub enum Letters {
 #[derive(Clone, Copy)]
 enum Step {
     Ends(Letters),
-    Goes(bool, Flags),
+    GoesOn { clears: bool, flags: Flags },
 }
 
 /// The flags with the letter's flag set or cleared; none where the letter names no flag.
@@ -136,7 +136,13 @@ fn flag_letter<'a>(
         if clears {
             return Err(unknown_flag(alloc, letters, rest, end));
         }
-        return Ok((Step::Goes(true, flags), rest));
+        return Ok((
+            Step::GoesOn {
+                clears: true,
+                flags,
+            },
+            rest,
+        ));
     }
     if letter == 'u' {
         if clears == flags.unicode {
@@ -145,10 +151,10 @@ fn flag_letter<'a>(
                 ParseError::ChangingUnicodeModeUnsupported,
             ));
         }
-        return Ok((Step::Goes(clears, flags), rest));
+        return Ok((Step::GoesOn { clears, flags }, rest));
     }
     match with_letter(flags, !clears, letter) {
-        Some(changed) => Ok((Step::Goes(clears, changed), rest)),
+        Some(flags) => Ok((Step::GoesOn { clears, flags }, rest)),
         None => Err(unknown_flag(alloc, letters, rest, end)),
     }
 }
@@ -173,7 +179,10 @@ fn read_letters(
         let (step, rest) = flag_letter(alloc, text, clears, flags, here, end)?;
         match step {
             Step::Ends(letters) => return Ok((letters, rest)),
-            Step::Goes(now_clears, changed) => {
+            Step::GoesOn {
+                clears: now_clears,
+                flags: changed,
+            } => {
                 clears = now_clears;
                 flags = changed;
                 left = rest;

@@ -33,12 +33,12 @@ pub fn assertion_text(assertion: Assertion) -> &'static str
         Assertion::StartLineOniguruma { crlf: true } => "(?Rm:^)",
         Assertion::EndLine { crlf: false } => "(?m:$)",
         Assertion::EndLine { crlf: true } => "(?Rm:$)",
-        Assertion::WordBoundary => "\\b",
-        Assertion::NotWordBoundary => "\\B",
-        Assertion::LeftWordBoundary => "\\<",
-        Assertion::RightWordBoundary => "\\>",
-        Assertion::LeftWordHalfBoundary => "\\b{start-half}",
-        Assertion::RightWordHalfBoundary => "\\b{end-half}",
+        Assertion::WordBoundary => r"\b",
+        Assertion::NotWordBoundary => r"\B",
+        Assertion::LeftWordBoundary => r"\<",
+        Assertion::RightWordBoundary => r"\>",
+        Assertion::LeftWordHalfBoundary => r"\b{start-half}",
+        Assertion::RightWordHalfBoundary => r"\b{end-half}",
         Assertion::EndTextIgnoreTrailingNewlines { .. } => "",
     }
 }

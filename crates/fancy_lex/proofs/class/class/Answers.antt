@@ -6,10 +6,12 @@ use Rattle.fancy_lex.specs.Text.{text_of}
 use Rattle.fancy_lex.proofs.class.class.Goals as goal
 
 pub returns-clause-cut : goal.returns-clause-cut
-returns-clause-cut c = given_cut text_of c.read_class.result (leaves_class c.args.end c.args.flags _) c.read_class.ensures.value
+returns-clause-cut c = given_cut text_of c.read_class.result (leaves_class c.args.end c.args.flags _)
+    c.read_class.ensures.value
 
 pub returns-clause-place : goal.returns-clause-place
-returns-clause-place c = given_place text_of c.read_class.result (omega arith) (omega arith) (leaves_class c.args.end c.args.flags _) c.read_class.ensures.value
+returns-clause-place c = given_place text_of c.read_class.result (omega arith) (omega arith)
+    (leaves_class c.args.end c.args.flags _) c.read_class.ensures.value
 
 pub returns-clause-derives : goal.returns-clause-derives
 returns-clause-derives c = class_derives _ _ _ _ c.read_class.ensures.value

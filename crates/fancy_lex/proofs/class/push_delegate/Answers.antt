@@ -8,4 +8,5 @@ returns-in-HexDigit-clause-grown c = rw c.in-HexDigit.is (on_ok c.append.result 
 
 pub returns-in-NotHexDigit-clause-grown : goal.returns-in-NotHexDigit-clause-grown
 unfolding chars
-returns-in-NotHexDigit-clause-grown c = rw c.in-NotHexDigit.is (on_ok c.append-in-NotHexDigit.result _ _ _ c.append-in-NotHexDigit.ensures)
+returns-in-NotHexDigit-clause-grown c = rw c.in-NotHexDigit.is
+    (on_ok c.append-in-NotHexDigit.result _ _ _ c.append-in-NotHexDigit.ensures)

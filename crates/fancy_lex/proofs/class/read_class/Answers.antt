@@ -3,7 +3,8 @@ use Rattle.std.proofs.lemmas.Result.{err_from_is_err_and}
 use Rattle.std.proofs.lemmas.Str.{chars-nil}
 use Rattle.fancy_lex.specs.Text.{bytes}
 use Rattle.fancy_lex.proofs.TextLemmas.{bytes_chars}
-use Rattle.fancy_lex.proofs.ClassLemmas.{items_end, class_init, pred_lt, open_step, plain_step, close_step, last_step, escape_step, fault_step}
+use Rattle.fancy_lex.proofs.ClassLemmas.{items_end, class_init, pred_lt, open_step, plain_step, close_step, last_step}
+use Rattle.fancy_lex.proofs.ClassLemmas.{escape_step, fault_step}
 use Rattle.fancy_lex.proofs.class.read_class.Goals as goal
 
 pub loop-c-init : goal.loop-c-init
@@ -21,7 +22,8 @@ pub returns-in_err-escaped-clause-value : goal.returns-in_err-escaped-clause-val
 returns-in_err-escaped-clause-value c =
     let p = err_from_is_err_and c.from_residual-in_err-escaped.result c.from_residual-in_err-escaped.ensures.1 in
     let (k, m, same) = c.loop-c.invariant.same in
-    rw (p.1, p.2, same) (fault_step _ _ _ _ _ _ _ _ c.in-Some.ensures.value k (omega arith) _ _ c.if-c-eq92.true c.place.ensures c.in_err-escaped.ensures.value)
+    rw (p.1, p.2, same) (fault_step _ _ _ _ _ _ _ _ c.in-Some.ensures.value k (omega arith) _ _ c.if-c-eq92.true
+    c.place.ensures c.in_err-escaped.ensures.value)
 
 pub loop-c-preserved-then-c-eq92 : goal.loop-c-preserved-then-c-eq92
 loop-c-preserved-then-c-eq92 c =
@@ -31,7 +33,8 @@ loop-c-preserved-then-c-eq92 c =
       same = (
         pred k,
         pred_lt _ _ k (omega (arith, c.in-Some.ensures.shorter, c.in_ok-escaped.ensures.shorter)) m,
-        same ∙ escape_step _ _ _ _ _ _ _ _ c.in-Some.ensures.value k (omega arith) _ _ _ _ _ c.if-c-eq92.true c.place.ensures c.in_ok-escaped.ensures.value c.in_ok-seen.ensures.grown c.in_ok-seen.ensures.seen,
+        same ∙ escape_step _ _ _ _ _ _ _ _ c.in-Some.ensures.value k (omega arith) _ _ _ _ _ c.if-c-eq92.true
+            c.place.ensures c.in_ok-escaped.ensures.value c.in_ok-seen.ensures.grown c.in_ok-seen.ensures.seen,
       );
       within = omega (arith, c.in-Some.ensures.shorter, c.in_ok-escaped.ensures.shorter);
     }
@@ -44,7 +47,8 @@ loop-c-preserved-then-c-eq91 c =
       same = (
         pred k,
         pred_lt _ _ k (omega (arith, c.in-Some.ensures.shorter, c.in_ok-left-2.ensures.within)) m,
-        same ∙ open_step _ _ _ _ _ _ _ _ c.in-Some.ensures.value k (omega arith) _ _ c.if-c-eq91.true c.in_ok-left-2.ensures.value,
+        same ∙ open_step _ _ _ _ _ _ _ _ c.in-Some.ensures.value k (omega arith) _ _ c.if-c-eq91.true
+            c.in_ok-left-2.ensures.value,
       );
       within = omega (arith, c.in-Some.ensures.shorter, c.in_ok-left-2.ensures.within);
     }
@@ -52,7 +56,8 @@ loop-c-preserved-then-c-eq91 c =
 pub returns-then-depth-eq0-clause-value : goal.returns-then-depth-eq0-clause-value
 returns-then-depth-eq0-clause-value c =
     let (k, m, same) = c.loop-c.invariant.same in
-    same ∙ last_step _ _ _ _ _ _ _ _ c.in-Some.ensures.value k (omega arith) _ c.in_ok-push.ensures c.if-c-eq93.true c.if-depth-eq0.true
+    same ∙ last_step _ _ _ _ _ _ _ _ c.in-Some.ensures.value k (omega arith) _ c.in_ok-push.ensures c.if-c-eq93.true
+    c.if-depth-eq0.true
 
 pub loop-c-preserved-then-c-eq93 : goal.loop-c-preserved-then-c-eq93
 loop-c-preserved-then-c-eq93 c =
@@ -62,7 +67,8 @@ loop-c-preserved-then-c-eq93 c =
       same = (
         pred k,
         pred_lt _ _ k (omega (arith, c.in-Some.ensures.shorter)) m,
-        same ∙ close_step _ _ _ _ _ _ _ _ c.in-Some.ensures.value k (omega arith) _ c.in_ok-push.ensures c.if-c-eq93.true c.if-depth-eq0.false,
+        same ∙ close_step _ _ _ _ _ _ _ _ c.in-Some.ensures.value k (omega arith) _ c.in_ok-push.ensures
+            c.if-c-eq93.true c.if-depth-eq0.false,
       );
       within = omega (arith, c.in-Some.ensures.shorter);
     }
@@ -75,7 +81,8 @@ loop-c-preserved c =
       same = (
         pred k,
         pred_lt _ _ k (omega (arith, c.in-Some.ensures.shorter)) m,
-        same ∙ plain_step _ _ _ _ _ _ _ _ c.in-Some.ensures.value k (omega arith) _ c.in_ok-push.ensures c.if-c-eq92.false c.if-c-eq91.false c.if-c-eq93.false,
+        same ∙ plain_step _ _ _ _ _ _ _ _ c.in-Some.ensures.value k (omega arith) _ c.in_ok-push.ensures
+            c.if-c-eq92.false c.if-c-eq91.false c.if-c-eq93.false,
       );
       within = omega (arith, c.in-Some.ensures.shorter);
     }

@@ -7,4 +7,5 @@ use Rattle.fancy_lex.proofs.escape.letter_name.Goals as goal
 pub returns : goal.returns
 returns c =
     c.in_ok-push-2.ensures
-    ∙ ap (λ (t : Text). t ++ c.args.c ∷ []) (c.in_ok-push.ensures ∙ ap (λ (t : Text). t ++ backslash ∷ []) (ap chars c.new-name.ensures.bytes ∙ chars-nil))
+    ∙ ap (λ (t : Text). t ++ c.args.c ∷ [])
+    (c.in_ok-push.ensures ∙ ap (λ (t : Text). t ++ backslash ∷ []) (ap chars c.new-name.ensures.bytes ∙ chars-nil))

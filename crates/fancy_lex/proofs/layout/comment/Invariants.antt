@@ -7,7 +7,8 @@ use Rattle.fancy_lex.proofs.layout.comment.Given as goal
 abbrev pub invariant-loop-c : goal.invariant-loop-c
 invariant-loop-c l = record {
   text : shadow (Utf8 l.left);
-  same : (x : Bool) → spec.layout_from l.end x spec.comment (chars l.text) ≡ spec.layout_from l.end x spec.comment (chars l.left);
+  same : (x : Bool) → spec.layout_from l.end x spec.comment (chars l.text) ≡ spec.layout_from l.end x spec.comment
+      (chars l.left);
   within : length l.left ≤ length l.text;
 }
 

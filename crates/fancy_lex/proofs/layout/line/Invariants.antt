@@ -7,7 +7,8 @@ use Rattle.fancy_lex.proofs.layout.line.Given as goal
 abbrev pub invariant-loop-c : goal.invariant-loop-c
 invariant-loop-c l = record {
   text : shadow (Utf8 l.left);
-  same : (n : ℕ) (x : Bool) → spec.layout_from n x spec.line (chars l.text) ≡ spec.layout_from n x spec.line (chars l.left);
+  same : (n : ℕ) (x : Bool) → spec.layout_from n x spec.line (chars l.text) ≡ spec.layout_from n x spec.line
+      (chars l.left);
   within : length l.left ≤ length l.text;
 }
 

@@ -7,7 +7,8 @@ use Rattle.fancy_lex.proofs.layout.read_units.Given as goal
 abbrev pub invariant-loop-inside : goal.invariant-loop-inside
 invariant-loop-inside l = record {
   text : shadow (Utf8 l.left);
-  same : spec.layout_from l.end l.ignore_space spec.between (chars l.text) ≡ spec.layout_from l.end l.ignore_space spec.between (chars l.left);
+  same : spec.layout_from l.end l.ignore_space spec.between (chars l.text) ≡ spec.layout_from l.end l.ignore_space
+      spec.between (chars l.left);
   within : length l.left ≤ length l.text;
 }
 

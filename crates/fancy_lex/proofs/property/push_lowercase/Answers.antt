@@ -16,6 +16,8 @@ loop-c-preserved c =
         c.in_ok-push.ensures
             ∙ ap (λ (t : Text). t ++ c.to_ascii_lowercase.result ∷ []) written
             ∙ append_assoc _ (lowercase w) _
-            ∙ ap (λ (t : Text). text_of c.args.out.now ++ t) (ap (λ (d : ℕ). lowercase w ++ d ∷ []) c.to_ascii_lowercase.ensures.value ∙ sym (map-append to_ascii_lowercase w (c.in-Some.c ∷ []))),
+            ∙ ap (λ (t : Text). text_of c.args.out.now ++ t)
+            (ap (λ (d : ℕ). lowercase w ++ d ∷ []) c.to_ascii_lowercase.ensures.value
+            ∙ sym (map-append to_ascii_lowercase w (c.in-Some.c ∷ []))),
       );
     }

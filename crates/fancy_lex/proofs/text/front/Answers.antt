@@ -13,4 +13,5 @@ range-requires-clause-end_boundary c =
 pub returns : goal.returns
 returns c =
     let (w, e) = c.requires in
-    front_is c.args.text.now c.args.rest.now c.range.result.now w c.utf8.text c.utf8.rest c.range.utf8 e (grind (arith, c.range.ensures.value))
+    front_is c.args.text.now c.args.rest.now c.range.result.now w c.utf8.text c.utf8.rest c.range.utf8 e
+    (grind (arith, c.range.ensures.value))

@@ -6,5 +6,7 @@ use Rattle.fancy_parts.proofs.quote.put_counts.Goals as goal
 
 pub returns-in-None : goal.returns-in-None
 returns-in-None c =
-    written_three c.args.buf.now c.put-in-None.new.buf c.put_range.new.buf c.put-in-None-2.new.buf (codes "{") (range c.args.lo c.args.hi) (codes "}") _
-    c.put-in-None.ensures c.put_range.ensures c.put-in-None-2.ensures (sym (counts_braced c.args.lo c.args.hi (c.mark.ensures ∙ c.in-None.is)))
+    written_three c.args.buf.now c.put-in-None.new.buf c.put_range.new.buf c.put-in-None-2.new.buf (codes "{")
+    (range c.args.lo c.args.hi) (codes "}") _
+    c.put-in-None.ensures c.put_range.ensures c.put-in-None-2.ensures
+    (sym (counts_braced c.args.lo c.args.hi (c.mark.ensures ∙ c.in-None.is)))

@@ -1,4 +1,5 @@
-use Rattle.std.proofs.Common.{◌≡◌, ℕ, List, [], ap, ◌∙◌, sym, subst, Some, None, IfOk, option_map, unwrap_or, map, string_bytes}
+use Rattle.std.proofs.Common.{◌≡◌, ℕ, List, [], ap, ◌∙◌, sym, subst, Some, None, IfOk, option_map, unwrap_or, map}
+use Rattle.std.proofs.Common.{string_bytes}
 use Rattle.std.specs.Cmp.Lexicographic.{slice_cmp}
 use Rattle.std.specs.Map.{lookup}
 use Rattle.std.specs.Ordering.{is_eq, nat_cmp}
@@ -20,7 +21,8 @@ returns-in-Some c =
     found c.in-ByName.name es ∙ ap (λ o. unwrap_or (option_map (λ v. v.items) o) []) same
     ∙ sym c.as_slice.ensures.value in
     let by_numbers = λ (f : Text → List ℕ).
-    IfOk c.by_name.result (λ m. meaning_of m ≡ means f c.args.passed (role_of c.args.role) (view_target c.args.target.now)) in
+    IfOk c.by_name.result
+    (λ m. meaning_of m ≡ means f c.args.passed (role_of c.args.role) (view_target c.args.target.now)) in
     let value : by_numbers (numbers_under (map entry_of es)) = rw (c.in-ByName.is, numbers) c.by_name.ensures.value in
     record {
       value = value;
@@ -36,8 +38,10 @@ returns-in-None c =
     let numbers : numbers_under (map entry_of es) (text_of c.in-ByName.name) ≡ [] =
     found c.in-ByName.name es ∙ ap (λ o. unwrap_or (option_map (λ v. v.items) o) []) same in
     let by_numbers = λ (f : Text → List ℕ).
-    IfOk c.by_name-in-None.result (λ m. meaning_of m ≡ means f c.args.passed (role_of c.args.role) (view_target c.args.target.now)) in
-    let value : by_numbers (numbers_under (map entry_of es)) = rw (c.in-ByName.is, numbers) c.by_name-in-None.ensures.value in
+    IfOk c.by_name-in-None.result
+    (λ m. meaning_of m ≡ means f c.args.passed (role_of c.args.role) (view_target c.args.target.now)) in
+    let value : by_numbers (numbers_under (map entry_of es)) =
+    rw (c.in-ByName.is, numbers) c.by_name-in-None.ensures.value in
     record {
       value = value;
       numbers = λ l is. subst by_numbers (groups_in_under (groups_of c.args.groups.now) l is) value;

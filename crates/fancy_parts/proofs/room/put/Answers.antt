@@ -10,5 +10,6 @@ unwrap-requires c = c.push.ensures.succeeds (omega (arith, bytes_encode c.args.c
 
 pub returns : goal.returns
 returns c =
-    pushed _ c.args.buf.now c.push.new.self (encode c.args.c) _ (ap is_ok c.unwrap.ensures) (IsUtf8-encode c.args.c (search rules)) (chars_encode c.args.c (search rules))
+    pushed _ c.args.buf.now c.push.new.self (encode c.args.c) _ (ap is_ok c.unwrap.ensures)
+    (IsUtf8-encode c.args.c (search rules)) (chars_encode c.args.c (search rules))
     c.push.ensures.bytes c.push.ensures.len c.push.ensures.capacity

@@ -5,10 +5,12 @@ use Rattle.fancy_parts.proofs.RoomLemmas.{ascii, bytes_ascii, pushed}
 use Rattle.fancy_parts.proofs.room.put_ascii.Goals as goal
 
 pub unwrap-requires : goal.unwrap-requires
-unwrap-requires c = c.push_str.ensures.succeeds (omega (arith, bytes_ascii c.args.text.now (ascii c.args.text.now c.requires.ascii)))
+unwrap-requires c = c.push_str.ensures.succeeds
+    (omega (arith, bytes_ascii c.args.text.now (ascii c.args.text.now c.requires.ascii)))
 
 pub returns : goal.returns
 returns c =
     let plain = ascii c.args.text.now c.requires.ascii in
-    pushed _ c.args.buf.now c.push_str.new.self c.args.text.now _ (ap is_ok c.unwrap.ensures) (IsUtf8-from_ascii _ plain) (chars-IsAscii _ plain)
+    pushed _ c.args.buf.now c.push_str.new.self c.args.text.now _ (ap is_ok c.unwrap.ensures)
+    (IsUtf8-from_ascii _ plain) (chars-IsAscii _ plain)
     c.push_str.ensures.bytes c.push_str.ensures.len c.push_str.ensures.capacity

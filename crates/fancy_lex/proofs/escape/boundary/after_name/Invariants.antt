@@ -8,7 +8,8 @@ abbrev pub invariant-loop-left : goal.invariant-loop-left
 invariant-loop-left l = record {
   text : shadow (Utf8 l.left);
   word : shadow (Utf8 l.word);
-  same : spec.after_name l.end l.ignore_space (chars l.fn.word) (chars l.text) ≡ spec.after_name l.end l.ignore_space (chars l.word) (chars l.left);
+  same : spec.after_name l.end l.ignore_space (chars l.fn.word) (chars l.text) ≡ spec.after_name l.end l.ignore_space
+      (chars l.word) (chars l.left);
   within : length l.left ≤ length l.text;
 }
 

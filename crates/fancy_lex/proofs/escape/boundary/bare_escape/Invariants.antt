@@ -8,7 +8,9 @@ use Rattle.fancy_lex.proofs.escape.boundary.bare_escape.Given as goal
 abbrev pub invariant-loop-out : goal.invariant-loop-out
 invariant-loop-out l = record {
   text : shadow (Utf8 l.left);
-  same : (k : ℕ) × (length (chars l.left) < k) × (o : Text) × (l.whole ≡ true → o ≡ text_of l.out) × (name_fault l.end l.ignore_space l.place l.negated (chars l.text) ≡ name_fault_behind l.end l.ignore_space l.place o k (chars l.left));
+  same : (k : ℕ) × (length (chars l.left) < k) × (o : Text) × (l.whole ≡ true → o ≡ text_of l.out)
+      × (name_fault l.end l.ignore_space l.place l.negated (chars l.text) ≡ name_fault_behind l.end l.ignore_space
+      l.place o k (chars l.left));
 }
 
 abbrev pub decreases-loop-out : goal.decreases-loop-out

@@ -21,5 +21,6 @@ returns-clause-cut c =
 pub returns-clause-place : goal.returns-clause-place
 returns-clause-place c =
     let a = c.args in
-    given_place escape_of c.read_hex.result (omega arith) (omega arith) (leaves_hex a.end (a.end + 1) a.flags a.width (chars a.text.now))
+    given_place escape_of c.read_hex.result (omega arith) (omega arith)
+    (leaves_hex a.end (a.end + 1) a.flags a.width (chars a.text.now))
     (answers_gives escape_of c.read_hex.result _ (reads_answers escape_of c.read_hex.result _ c.read_hex.ensures.value))

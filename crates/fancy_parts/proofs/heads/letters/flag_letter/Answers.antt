@@ -6,8 +6,10 @@ use Rattle.fancy_parts.proofs.heads.letters.flag_letter.Goals as goal
 pub unknown_flag-requires-clause-behind : goal.unknown_flag-requires-clause-behind
 unknown_flag-requires-clause-behind c = behind_next _ _ _ _ c.requires.behind c.in-Some.ensures.value
 
-pub unknown_flag-requires-then-is_behind_minus-clause-behind : goal.unknown_flag-requires-then-is_behind_minus-clause-behind
-unknown_flag-requires-then-is_behind_minus-clause-behind c = behind_next _ _ _ _ c.requires.behind c.in-Some.ensures.value
+pub unknown_flag-requires-then-is_behind_minus-clause-behind :
+    goal.unknown_flag-requires-then-is_behind_minus-clause-behind
+unknown_flag-requires-then-is_behind_minus-clause-behind c =
+    behind_next _ _ _ _ c.requires.behind c.in-Some.ensures.value
 
 pub unknown_flag-requires-then-clears-clause-behind : goal.unknown_flag-requires-then-clears-clause-behind
 unknown_flag-requires-then-clears-clause-behind c = behind_next _ _ _ _ c.requires.behind c.in-Some.ensures.value

@@ -2,13 +2,18 @@ use Rattle.std.proofs.Common.{◌<◌, ◌∙◌, refl, rules, arith, suc, lengt
 use Rattle.std.proofs.lemmas.Result.{err_from_is_err_and}
 use Rattle.fancy_lex.proofs.TextLemmas.{bytes_chars}
 use Rattle.fancy_lex.specs.Text.{bytes}
-use Rattle.fancy_parts.proofs.FlagLemmas.{behind_more, in_layout_fault, in_letter_fault, in_end, in_go, letters_start, behind_next}
+use Rattle.fancy_parts.proofs.FlagLemmas.{behind_more, in_layout_fault, in_letter_fault, in_end, in_go, letters_start}
+use Rattle.fancy_parts.proofs.FlagLemmas.{behind_next}
 use Rattle.fancy_parts.proofs.heads.letters.read_letters.Goals as goal
 
 pub loop-here-init : goal.loop-here-init
 loop-here-init c = record {
   text = c.utf8.text;
-  steps = (suc (bytes (chars c.args.text.now)), omega (arith, bytes_chars c.args.text.now c.utf8.text), letters_start _ _ _);
+  steps = (
+    suc (bytes (chars c.args.text.now)),
+    omega (arith, bytes_chars c.args.text.now c.utf8.text),
+    letters_start _ _ _,
+  );
   behind = ([], refl);
   within = omega arith;
 }
@@ -39,7 +44,8 @@ loop-here-preserved c =
     let (k, h, e) = c.loop-here.invariant.steps in
     let less : length c.in_ok-step.rest.now < length c.loop-here.left.now =
     omega (arith, c.in_ok-step.ensures.shorter, c.in_ok-here.ensures.within) in
-    let (j, i, f) = in_go _ _ _ _ _ k _ h _ c.in_ok-here.ensures.value _ _ _ _ less (rw c.in-Goes.is at c.in_ok-step.ensures.value) in
+    let (j, i, f) = in_go _ _ _ _ _ k _ h _ c.in_ok-here.ensures.value _ _ _ _ less
+    (rw c.in-GoesOn.is at c.in_ok-step.ensures.value) in
     let (x, y) = c.in_ok-step.ensures.one_on in
     let cut = c.in_ok-here.ensures.cut in record {
       text = search rules;

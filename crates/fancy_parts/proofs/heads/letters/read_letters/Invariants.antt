@@ -8,7 +8,8 @@ use Rattle.fancy_parts.proofs.heads.letters.read_letters.Given as goal
 abbrev pub invariant-loop-here : goal.invariant-loop-here
 invariant-loop-here l = record {
   text : shadow (Utf8 l.left);
-  steps : (k : ℕ) × (length l.left < k) × (spec.letters l.end l.fn.flags (chars l.text) ≡ spec.letters_in l.end (chars l.text) k l.clears l.flags (chars l.left));
+  steps : (k : ℕ) × (length l.left < k) × (spec.letters l.end l.fn.flags (chars l.text) ≡ spec.letters_in l.end
+      (chars l.text) k l.clears l.flags (chars l.left));
   behind : (w : Text) × (chars l.text ≡ w ++ chars l.left);
   within : length l.left ≤ length l.text;
 }
