@@ -124,13 +124,16 @@ condition_stands : (n : ℕ) (s : State) (t : Text) → strip_word (codes "DEFIN
     behind_question n s (code "(" ∷ t) ≡ condition_ahead n s t
 condition_stands n s t e = ap (λ o. choose o (λ v. with_head define (at s v)) (condition_ahead n s t)) e
 
-pub target_stands : (n : ℕ) (s : State) (c : ℕ) (t : Text) → s.rest ≡ c ∷ t → strip_word (codes "DEFINE)") s.rest ≡ None →
+pub target_stands : (n : ℕ) (s : State) (c : ℕ) (t : Text) → s.rest ≡ c ∷ t →
+    strip_word (codes "DEFINE)") s.rest ≡ None →
     begins_target s.rest ≡ true → behind_question n s (code "(" ∷ s.rest) ≡ target_ahead s (condition_target n s.rest)
 target_stands n s c t e h i =
     condition_stands n s s.rest h ∙ ap (condition_ahead n s) e
-    ∙ cond-true (begins_target (c ∷ t)) _ _ (ap begins_target (sym e) ∙ i) ∙ ap (λ u. target_ahead s (condition_target n u)) (sym e)
+    ∙ cond-true (begins_target (c ∷ t)) _ _ (ap begins_target (sym e) ∙ i)
+    ∙ ap (λ u. target_ahead s (condition_target n u)) (sym e)
 
-pub no_condition_ahead : (n : ℕ) (s : State) (c : ℕ) (t : Text) → s.rest ≡ c ∷ t → strip_word (codes "DEFINE)") s.rest ≡ None →
+pub no_condition_ahead : (n : ℕ) (s : State) (c : ℕ) (t : Text) → s.rest ≡ c ∷ t →
+    strip_word (codes "DEFINE)") s.rest ≡ None →
     begins_target s.rest ≡ false → c ≢ code "*" → behind_question n s (code "(" ∷ s.rest) ≡ condition s
 no_condition_ahead n s c t e h i j =
     condition_stands n s s.rest h ∙ ap (condition_ahead n s) e
