@@ -1,5 +1,5 @@
 -- A piece that starts where a branch does not end reads a character.
-use Rattle.std.proofs.Common.{◌≡◌, ◌≢◌, ℕ, ◌+◌, ◌-◌, Bool, true, false, ◌||◌, ◌&&◌, if◌then◌else◌, ◌⊎◌, inl, inr, [], ◌∷◌, ◌==◌, Option, Some, None, option_and_then, nat_le, nat_lt, codes, refl, sym, ◌∙◌, true≢false, tests, rules, ap, arith}
+use Rattle.std.proofs.Common.{◌≡◌, ◌≢◌, ℕ, ◌+◌, ◌-◌, Bool, true, false, ◌||◌, ◌&&◌, if◌then◌else◌, ◌⊎◌, inl, inr, [], ◌∷◌, ◌==◌, Option, Some, None, nat_le, nat_lt, codes, refl, sym, ◌∙◌, true≢false, tests, rules, ap, arith}
 use Rattle.std.proofs.lemmas.Bool.{cond-true, cond-false}
 use Rattle.std.proofs.lemmas.Bool.Decides.{nat_tests}
 use Prim.Native.Char.{code}
@@ -8,9 +8,8 @@ use Rattle.fancy_lex.specs.FaultTable.{group_too_deep}
 use Rattle.fancy_lex.specs.Layout.{layout, layout_from, Skipped, rest, fault as open_comment}
 use Rattle.fancy_lex.specs.Reading.{Reading, gives, fails, choose}
 use Rattle.fancy_lex.specs.Referred.{Reference}
-use Rattle.fancy_lex.specs.Text.{Text, bytes, place_of, strip, strip_word}
+use Rattle.fancy_lex.specs.Text.{Text, bytes, place_of, strip_word}
 use Rattle.fancy_parts.specs.FlagLetters.{Letters, setting, scope as scoped}
-use Rattle.fancy_parts.specs.GroupName.{group_name}
 use Rattle.fancy_parts.specs.HeadReference.{begins_target, condition_target}
 use Rattle.fancy_parts.specs.Quantifier.{counts, as_mark, most}
 use Rattle.fancy_parts.specs.declared.counts.Counts.{Counts}
@@ -115,15 +114,7 @@ before_nothing n d s c t e = by_tests (c == code "(") (is_before_nothing c) _ (d
     by_tests false true x f e = refl
     by_tests false false x f e = absurd (leaf_there _ e)
 
--- ---- rows of the heads, behind the character that they share
-
--- where a mark does not stand there, no more does its word
-lacks_word : (m : ℕ) (t : Text) → strip m t ≡ None → strip_word (m ∷ []) t ≡ None
-lacks_word m t e = ap (option_and_then (strip_word [])) e
-
-pub name_stands : (n : ℕ) (s : State) (t : Text) → strip (code "=") t ≡ None → strip (code "!") t ≡ None →
-    behind_question n s (code "<" ∷ t) ≡ named_ahead s (group_name n (code "<" ∷ t))
-name_stands n s t e f = rw (lacks_word (code "=") t e, lacks_word (code "!") t f) refl
+-- ---- the rows of conditionals
 
 pub defines : (n : ℕ) (s : State) (t u : Text) → strip_word (codes "DEFINE)") t ≡ Some u →
     behind_question n s (code "(" ∷ t) ≡ with_head define (at s u)
@@ -133,19 +124,16 @@ condition_stands : (n : ℕ) (s : State) (t : Text) → strip_word (codes "DEFIN
     behind_question n s (code "(" ∷ t) ≡ condition_ahead n s t
 condition_stands n s t e = ap (λ o. choose o (λ v. with_head define (at s v)) (condition_ahead n s t)) e
 
-pub target_stands : (n : ℕ) (s : State) (c : ℕ) (t : Text) → s.rest ≡ c ∷ t → strip_word (codes "DEFINE)") s.rest ≡ None →
+pub target_stands : (n : ℕ) (s : State) (c : ℕ) (t : Text) → s.rest ≡ c ∷ t →
+    strip_word (codes "DEFINE)") s.rest ≡ None →
     begins_target s.rest ≡ true → behind_question n s (code "(" ∷ s.rest) ≡ target_ahead s (condition_target n s.rest)
 target_stands n s c t e h i =
     condition_stands n s s.rest h ∙ ap (condition_ahead n s) e
-    ∙ cond-true (begins_target (c ∷ t)) _ _ (ap begins_target (sym e) ∙ i) ∙ ap (λ u. target_ahead s (condition_target n u)) (sym e)
+    ∙ cond-true (begins_target (c ∷ t)) _ _ (ap begins_target (sym e) ∙ i)
+    ∙ ap (λ u. target_ahead s (condition_target n u)) (sym e)
 
-pub verb_stands : (n : ℕ) (s : State) (t : Text) → s.rest ≡ code "*" ∷ t → strip_word (codes "DEFINE)") s.rest ≡ None →
-    begins_target s.rest ≡ false → behind_question n s (code "(" ∷ s.rest) ≡ verb_condition n s t
-verb_stands n s t e h i =
-    condition_stands n s s.rest h ∙ ap (condition_ahead n s) e
-    ∙ cond-false (begins_target (code "*" ∷ t)) _ _ (ap begins_target (sym e) ∙ i)
-
-pub no_condition_ahead : (n : ℕ) (s : State) (c : ℕ) (t : Text) → s.rest ≡ c ∷ t → strip_word (codes "DEFINE)") s.rest ≡ None →
+pub no_condition_ahead : (n : ℕ) (s : State) (c : ℕ) (t : Text) → s.rest ≡ c ∷ t →
+    strip_word (codes "DEFINE)") s.rest ≡ None →
     begins_target s.rest ≡ false → c ≢ code "*" → behind_question n s (code "(" ∷ s.rest) ≡ condition s
 no_condition_ahead n s c t e h i j =
     condition_stands n s s.rest h ∙ ap (condition_ahead n s) e

@@ -430,7 +430,8 @@ question_slice n s z t h =
     choose_both P (strip_word (codes "'") t) _ _ (λ u e. group_name_slice n s z t h) (
     choose_both P (strip_word (codes "P<") t) _ _ (λ u e. group_name_slice n s z t h) (
     choose_both P (strip_word (codes "P=") t) _ _
-    (λ u e. backref_slice n s z z.flags.casei u (named_reference n u) (behind (codes "P=") u e) (takes_named_reference n u) (named_reference_at n u)) (
+    (λ u e. backref_slice n s z z.flags.casei u (named_reference n u) (behind (codes "P=") u e)
+    (takes_named_reference n u) (named_reference_at n u)) (
     choose_both P (strip_word (codes "P>") t) _ _
     (λ u e. call_slice n s z u (named_call n u) (behind (codes "P>") u e) (takes_named_call n u) (named_call_at n u))
     (letters_ahead_slice n s z t h.0))))))))))))))
@@ -454,7 +455,8 @@ group_slice n s z t h =
     starred : (u : Text) → strip_word (codes "*") t ≡ Some u → AheadSlice n s (verb_ahead n z u)
     starred u e =
         let cut : Slice s.rest (code "*" ∷ u) = subst (Slice s.rest) (strip_word_is (codes "*") t u e) h.0 in
-        choose_both (AheadSlice n s) (verb_at u) _ _ (λ p i. leaf_past n s (verb_past s u p (behind (codes "*") u e) i)) (stands_at cut)
+        choose_both (AheadSlice n s) (verb_at u) _ _
+        (λ p i. leaf_past n s (verb_past s u p (behind (codes "*") u e) i)) (stands_at cut)
 
 behind_slice : (n : ℕ) (s z : State) (t : Text) (k : Skipped) → Past s t → SkippedSlice n t k → AheadSlice n s (behind_layout n z k)
 behind_slice n s z t (rest u) h i = group_slice n s z u (further s h i)

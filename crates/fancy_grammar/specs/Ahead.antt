@@ -149,8 +149,8 @@ behind_question n s t =
     choose (strip_word (codes "<") t) (λ u. named_ahead s (group_name n t)) (
     choose (strip_word (codes "'") t) (λ u. named_ahead s (group_name n t)) (
     choose (strip_word (codes "P<") t) (λ u. named_ahead s (group_name n t)) (
-    choose (strip_word (codes "P=") t) (λ u. leaf (leaf_outcome (backref_node s.flags.casei) s (named_reference n u))) (
-    choose (strip_word (codes "P>") t) (λ u. leaf (leaf_outcome call_node s (named_call n u)))
+    choose (strip_word (codes "P=") t) (λ u. leaf (leaf_outcome (backref_node s.flags.casei) s (named_reference n u)))
+    (choose (strip_word (codes "P>") t) (λ u. leaf (leaf_outcome call_node s (named_call n u)))
     (flags_ahead (letters n s.flags t)))))))))))))))
 
 -- behind the parenthesis and layout: a head, a verb, or a capturing group without a name

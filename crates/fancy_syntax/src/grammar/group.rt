@@ -1,5 +1,5 @@
 //! The heads of groups: what stands behind a parenthesis and a question mark or an asterisk.
-ghost use Rattle.std.specs.Prelude.{◌≡◌, ◌∷◌, ℕ, ◌<◌, ◌≤◌, ◌^◌, length, chars, Some, None, IfOk, IfSome, option_map, MatchResult};
+ghost use Rattle.std.specs.Prelude.{◌≡◌, ◌∷◌, ℕ, ◌<◌, ◌≤◌, ◌^◌, length, chars, codes, ◌++◌, Some, None, IfOk, IfSome, option_map, MatchResult};
 ghost use Rattle.fancy_lex.specs.FaultTable.{unknown_verb};
 ghost use Rattle.fancy_parts.specs.FlagLetters.{letters};
 ghost use Rattle.fancy_parts.specs.GroupName as names;
@@ -60,7 +60,7 @@ pub(crate) fn after_paren<'a>(
 fn after_question<'a>(alloc: Global, here: &mut State<'a>, end: usize) -> Result<Ahead<'a>, Error>
     requires within { length here.old.rest.now < end }
     requires end { end < 2 ^ 63 }
-    ensures value { Sees result (state here.new) (spec.question_ahead end (state here.old) (chars here.old.rest.now)) }
+    ensures value { Sees result (state here.new) (spec.behind_question end (state here.old) (chars here.old.rest.now)) }
     ensures within { length here.new.rest.now ≤ length here.old.rest.now }
     ensures something { IfOk result (λ a. IsSomething a) }
 {
@@ -105,8 +105,8 @@ fn open_look_around<'a>(here: &mut State<'a>, inside: &'a str, look: LookAround)
 fn after_less<'a>(here: &mut State<'a>, rest: &'a str, end: usize) -> Result<Ahead<'a>, Error>
     requires within { length here.old.rest.now < end }
     requires shorter { length rest.now ≤ length here.old.rest.now }
-    ensures value { Sees result (state here.new)
-        (spec.less_ahead end (state here.old) (chars here.old.rest.now) (chars rest.now)) }
+    requires less { chars here.old.rest.now ≡ codes "<" ++ chars rest.now }
+    ensures value { Sees result (state here.new) (spec.behind_question end (state here.old) (chars here.old.rest.now)) }
     ensures within { length here.new.rest.now ≤ length here.old.rest.now }
     ensures something { IfOk result (λ a. IsSomething a) }
 {
@@ -141,9 +141,9 @@ fn after_p<'a>(
 ) -> Result<Ahead<'a>, Error>
     requires within { length here.old.rest.now < end }
     requires shorter { length rest.now ≤ length here.old.rest.now }
+    requires letter { chars here.old.rest.now ≡ codes "P" ++ chars rest.now }
     requires end { end < 2 ^ 63 }
-    ensures value { Sees result (state here.new)
-        (spec.python_ahead end (state here.old) (chars here.old.rest.now) (chars rest.now)) }
+    ensures value { Sees result (state here.new) (spec.behind_question end (state here.old) (chars here.old.rest.now)) }
     ensures within { length here.new.rest.now ≤ length here.old.rest.now }
     ensures something { IfOk result (λ a. IsSomething a) }
 {
@@ -220,7 +220,8 @@ fn read_flags<'a>(alloc: Global, here: &mut State<'a>, end: usize) -> Result<Ahe
 /// Reads what stands behind `(?~`: a bar, or nothing. UnclosedOpenParen at the end of the text.
 fn after_tilde<'a>(here: &mut State<'a>, end: usize) -> Result<Ahead<'a>, Error>
     requires within { length here.old.rest.now ≤ end }
-    ensures value { Sees result (state here.new) (spec.absent_ahead end (state here.old) (chars here.old.rest.now)) }
+    ensures value { Sees result (state here.new)
+        (spec.behind_question end (state here.old) (codes "~" ++ chars here.old.rest.now)) }
     ensures within { length here.new.rest.now ≤ length here.old.rest.now }
     ensures something { IfOk result (λ a. IsSomething a) }
 {
@@ -242,7 +243,7 @@ fn after_tilde<'a>(here: &mut State<'a>, end: usize) -> Result<Ahead<'a>, Error>
 fn read_condition<'a>(alloc: Global, here: &mut State<'a>, end: usize) -> Result<Ahead<'a>, Error>
     requires within { length here.old.rest.now ≤ end }
     ensures value { Sees result (state here.new)
-        (spec.conditional_ahead end (state here.old) (chars here.old.rest.now)) }
+        (spec.behind_question end (state here.old) (codes "(" ++ chars here.old.rest.now)) }
     ensures within { length here.new.rest.now ≤ length here.old.rest.now }
     ensures something { IfOk result (λ a. IsSomething a) }
 {
@@ -271,8 +272,8 @@ fn read_verb_condition<'a>(
 ) -> Result<Ahead<'a>, Error>
     requires within { length here.old.rest.now ≤ end }
     requires shorter { length rest.now ≤ length here.old.rest.now }
-    ensures value { (c : ℕ) → chars here.old.rest.now ≡ c ∷ chars rest.now →
-        Sees result (state here.new) (spec.verb_condition end (state here.old) c (chars rest.now)) }
+    requires asterisk { chars here.old.rest.now ≡ codes "*" ++ chars rest.now }
+    ensures value { Sees result (state here.new) (spec.verb_condition end (state here.old) (chars rest.now)) }
     ensures within { length here.new.rest.now ≤ length here.old.rest.now }
     ensures something { IfOk result (λ a. IsSomething a) }
 {

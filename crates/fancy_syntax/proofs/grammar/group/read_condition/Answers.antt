@@ -7,7 +7,7 @@ use Rattle.fancy_syntax.proofs.grammar.group.read_condition.Goals as goal
 pub returns-in-Some-after_word-clause-value : goal.returns-in-Some-after_word-clause-value
 unfolding chars
 returns-in-Some-after_word-clause-value c =
-    defines c.args.end (state c.args.here.now) _ _ _ c.in-Some.ensures.value c.in-Some-after_word.ensures.value
+    defines c.args.end (state c.args.here.now) (state c.args.here.now).rest _ c.in-Some-after_word.ensures.value
 
 pub returns-then-begins_target-clause-value : goal.returns-then-begins_target-clause-value
 unfolding chars
