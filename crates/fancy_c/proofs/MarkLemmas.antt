@@ -1,5 +1,6 @@
 -- Names and numbers, written one after another.
-use Rattle.std.proofs.Common.{◌≡◌, ℕ, suc, ◌+◌, ◌<◌, ◌≤◌, List, [], ◌∷◌, ◌++◌, length, map, take, drop, set, get_or, refl, sym, ap, subst, ◌∙◌, append_assoc, length-append, arith}
+use Rattle.std.proofs.Common.{◌≡◌, ℕ, suc, ◌+◌, ◌<◌, ◌≤◌, List, [], ◌∷◌, ◌++◌, length, map, take, drop, set, get_or}
+use Rattle.std.proofs.Common.{refl, sym, ap, subst, ◌∙◌, append_assoc, length-append, arith}
 use Rattle.std.specs.Prelude.{encode_utf8_all}
 use Rattle.std.proofs.lemmas.List.{set_split, length-map, get_or-map}
 use Rattle.std.proofs.lemmas.List.Edits.{paste_more}
@@ -13,8 +14,10 @@ use Rattle.fancy_c.proofs.RowLemmas.{put_is, put_more, put_none, put_length}
 
 -- ---- one row of a name more
 
-pub number_put : (names : List Name) (first o n : ℕ) (ks : List ℕ) (i : ℕ) → first + length ks ≤ length names → i < length ks
-    → set (paste names first (numbered o n ks) i) (first + i) (record { text = o; size = n; number = get_or ks i 0 }) ≡ paste names first (numbered o n ks) (i + 1)
+pub number_put : (names : List Name) (first o n : ℕ) (ks : List ℕ) (i : ℕ) → first + length ks ≤ length names →
+    i < length ks
+    → set (paste names first (numbered o n ks) i) (first + i) (record { text = o; size = n; number = get_or ks i 0 })
+    ≡ paste names first (numbered o n ks) (i + 1)
 number_put names first o n ks i room here =
     let row : ℕ → Name = λ j. record { text = o; size = n; number = j } in
     let size = length-map ks row in
@@ -23,12 +26,14 @@ number_put names first o n ks i room here =
 
 -- ---- an item written before the rest
 
-pub item_put : {A : Type 0} (d : List A) (i : ℕ) (x : A) (rest : List A) → i + 1 + length rest ≤ length d → put_at (set d i x) (i + 1) rest ≡ put_at d i (x ∷ rest)
+pub item_put : {A : Type 0} (d : List A) (i : ℕ) (x : A) (rest : List A) → i + 1 + length rest ≤ length d →
+    put_at (set d i x) (i + 1) rest ≡ put_at d i (x ∷ rest)
 item_put d i x rest room =
     let long : i < length d = omega (arith, room) in
     let at : suc i ≡ i + length (x ∷ []) = omega arith in
     let one : set d i x ≡ put_at d i (x ∷ []) =
-    set_split d i x long ∙ ap (λ k. take i d ++ x ∷ drop k d) at ∙ sym (append_assoc (take i d) (x ∷ []) (drop (i + length (x ∷ [])) d)) in
+    set_split d i x long ∙ ap (λ k. take i d ++ x ∷ drop k d) at
+    ∙ sym (append_assoc (take i d) (x ∷ []) (drop (i + length (x ∷ [])) d)) in
     ap (λ e. put_at e (i + 1) rest) one ∙ put_more d i (i + 1) (x ∷ []) rest (omega arith) (omega (arith, room))
 
 -- ---- names
@@ -52,7 +57,8 @@ pub record CountingNames (n₀ o₀ n o : ℕ) (all rest : List (Text × List �
   pub text_fits : in_word o ≡ o
 
 -- a writing that is on its way
-pub record PuttingNames (names₀ names : List Name) (bytes₀ bytes : List ℕ) (n₀ o₀ n o : ℕ) (all rest : List (Text × List ℕ)) : Type 0 where
+pub record PuttingNames (names₀ names : List Name) (bytes₀ bytes : List ℕ) (n₀ o₀ n o : ℕ)
+    (all rest : List (Text × List ℕ)) : Type 0 where
   pub names_room : n + length (name_rows o rest) ≤ length names
   pub bytes_room : o + length (name_texts rest) ≤ length bytes
   pub names_is : put_at names n (name_rows o rest) ≡ put_at names₀ n₀ (name_rows o₀ all)
@@ -63,8 +69,10 @@ pub record PuttingNumbers (buffer₀ buffer : List ℕ) (i : ℕ) (all rest : Li
   pub room : i + length rest ≤ length buffer
   pub is : put_at buffer i rest ≡ put_at buffer₀ 0 all
 
-pub names_count_next : {n₀ o₀ n o : ℕ} {all rest : List (Text × List ℕ)} (n' o' : ℕ) (w : Text) (ks : List ℕ) (more : List (Text × List ℕ))
-    → CountingNames n₀ o₀ n o all rest → rest ≡ (w, ks) ∷ more → n' ≡ in_word (n + length ks) → o' ≡ in_word (o + length (encode_utf8_all w))
+pub names_count_next : {n₀ o₀ n o : ℕ} {all rest : List (Text × List ℕ)} (n' o' : ℕ) (w : Text) (ks : List ℕ)
+    (more : List (Text × List ℕ))
+    → CountingNames n₀ o₀ n o all rest → rest ≡ (w, ks) ∷ more → n' ≡ in_word (n + length ks) →
+    o' ≡ in_word (o + length (encode_utf8_all w))
     → CountingNames n₀ o₀ n' o' all more
 names_count_next n' o' w ks more c is at_n at_o =
     let m = length (encode_utf8_all w) in
@@ -77,12 +85,21 @@ names_count_next n' o' w ks more c is at_n at_o =
       text_fits = omega (arith, at_o);
     }
 
-pub names_start : (names : List Name) (bytes : List ℕ) (n o : ℕ) (all rest : List (Text × List ℕ)) → rest ≡ all → n + length (name_rows 0 all) ≤ length names
+pub names_start : (names : List Name) (bytes : List ℕ) (n o : ℕ) (all rest : List (Text × List ℕ)) → rest ≡ all →
+    n + length (name_rows 0 all) ≤ length names
     → o + length (name_texts all) ≤ length bytes → PuttingNames names names bytes bytes n o n o all rest
-names_start names bytes n o all rest is room more = subst (λ l. PuttingNames names names bytes bytes n o n o all l) (sym is)
-    (record { names_room = omega (arith, room, names_length 0 o all); bytes_room = more; names_is = refl; bytes_is = refl })
+names_start names bytes n o all rest is room more =
+    subst (λ l. PuttingNames names names bytes bytes n o n o all l) (sym is)
+    (record {
+      names_room = omega (arith, room, names_length 0 o all);
+      bytes_room = more;
+      names_is = refl;
+      bytes_is =
+          refl;
+    })
 
-pub name_room : {names₀ names : List Name} {bytes₀ bytes : List ℕ} {n₀ o₀ n o : ℕ} {all rest : List (Text × List ℕ)} (w : Text) (ks : List ℕ) (more : List (Text × List ℕ))
+pub name_room : {names₀ names : List Name} {bytes₀ bytes : List ℕ} {n₀ o₀ n o : ℕ} {all rest : List (Text × List ℕ)}
+    (w : Text) (ks : List ℕ) (more : List (Text × List ℕ))
     → rest ≡ (w, ks) ∷ more → PuttingNames names₀ names bytes₀ bytes n₀ o₀ n o all rest
     → (n + length ks ≤ length names) × (o + length (encode_utf8_all w) ≤ length bytes)
 name_room {o = o} w ks more is p =
@@ -91,8 +108,10 @@ name_room {o = o} w ks more is p =
     let text = ap (λ l. length (name_texts l)) is ∙ length-append (encode_utf8_all w) (name_texts more) in
     (omega (arith, p.names_room, rows, numbered_length o m ks), omega (arith, p.bytes_room, text))
 
-pub names_next : (names₀ names names' : List Name) (bytes₀ bytes bytes' : List ℕ) (n₀ o₀ n o n' o' : ℕ) (all rest : List (Text × List ℕ)) (w : Text) (ks : List ℕ) (more : List (Text × List ℕ))
-    → PuttingNames names₀ names bytes₀ bytes n₀ o₀ n o all rest → rest ≡ (w, ks) ∷ more → n' ≡ n + length ks → o' ≡ o + length (encode_utf8_all w)
+pub names_next : (names₀ names names' : List Name) (bytes₀ bytes bytes' : List ℕ) (n₀ o₀ n o n' o' : ℕ)
+    (all rest : List (Text × List ℕ)) (w : Text) (ks : List ℕ) (more : List (Text × List ℕ))
+    → PuttingNames names₀ names bytes₀ bytes n₀ o₀ n o all rest → rest ≡ (w, ks) ∷ more → n' ≡ n + length ks →
+    o' ≡ o + length (encode_utf8_all w)
     → names' ≡ put_at names n (numbered o (length (encode_utf8_all w)) ks) → bytes' ≡ put_at bytes o (encode_utf8_all w)
     → PuttingNames names₀ names' bytes₀ bytes' n₀ o₀ n' o' all more
 names_next names₀ names names' bytes₀ bytes bytes' n₀ o₀ n o n' o' all rest w ks more p is at_n at_o put_n put_o =

@@ -1,10 +1,13 @@
 -- Rows of a tree, written one after another.
-use Rattle.std.proofs.Common.{◌≡◌, ℕ, zero, suc, ◌+◌, ◌<◌, ◌≤◌, List, [], ◌∷◌, ◌++◌, length, take, drop, set, refl, sym, ap, subst, ◌∙◌, append_assoc, append-nil, length-append, arith}
+use Rattle.std.proofs.Common.{◌≡◌, ℕ, zero, suc, ◌+◌, ◌<◌, ◌≤◌, List, [], ◌∷◌, ◌++◌, length, take, drop, set, refl, sym}
+use Rattle.std.proofs.Common.{ap, subst, ◌∙◌, append_assoc, append-nil, length-append, arith}
 use Rattle.std.proofs.Math.Seq.{drop-append_seam}
 use Rattle.std.proofs.lemmas.List.{set_split, take_all, take-append-le, take-take, length-take-le}
 use Rattle.std.proofs.lemmas.List.Edits.{paste-paste, length-paste, paste_none}
 use Rattle.std.proofs.Math.Seq.{paste}
-use Rattle.fancy_grammar.specs.Tree.{Tree, Trees, no_trees, more_trees, concat, alt, group, look_around, repeat, atomic_group, conditional, absent, define_group, repeater, expression, stopper, clear, list_of, children}
+use Rattle.fancy_grammar.specs.Tree.{Tree, Trees, no_trees, more_trees, concat, alt, group, look_around, repeat}
+use Rattle.fancy_grammar.specs.Tree.{atomic_group, conditional, absent, define_group, repeater, expression, stopper}
+use Rattle.fancy_grammar.specs.Tree.{clear, list_of, children}
 use Rattle.fancy_parts.specs.Room.{in_word}
 use Rattle.fancy_c.specs.Buffer.{put_at}
 use Rattle.fancy_c.specs.Node.{listed, listed_all, listed_each, carried, texts, row, rows}
@@ -41,7 +44,8 @@ listed_is _ = refl
 
 pub texts-append : (xs ys : List Tree) → texts (xs ++ ys) ≡ texts xs ++ texts ys
 texts-append [] ys = refl
-texts-append (x ∷ xs) ys = ap (λ l. carried x ++ l) (texts-append xs ys) ∙ sym (append_assoc (carried x) (texts xs) (texts ys))
+texts-append (x ∷ xs) ys = ap (λ l. carried x ++ l) (texts-append xs ys)
+    ∙ sym (append_assoc (carried x) (texts xs) (texts ys))
 
 pub texts_length : (xs ys : List Tree) → length (texts (xs ++ ys)) ≡ length (texts xs) + length (texts ys)
 texts_length xs ys = ap length (texts-append xs ys) ∙ length-append (texts xs) (texts ys)
@@ -53,7 +57,8 @@ rows_length i o (x ∷ xs) = ap suc (rows_length (i + 1) (o + length (carried x)
 rows_at : (i j o p : ℕ) (xs : List Tree) → i ≡ j → o ≡ p → rows i o xs ≡ rows j p xs
 rows_at i j o p xs e f = ap (λ k. rows k o xs) e ∙ ap (λ q. rows j q xs) f
 
-pub rows-append : (i o : ℕ) (xs ys : List Tree) → rows i o (xs ++ ys) ≡ rows i o xs ++ rows (i + length xs) (o + length (texts xs)) ys
+pub rows-append : (i o : ℕ) (xs ys : List Tree) →
+    rows i o (xs ++ ys) ≡ rows i o xs ++ rows (i + length xs) (o + length (texts xs)) ys
 rows-append i o [] ys = rows_at i (i + 0) o (o + 0) ys (omega arith) (omega arith)
 rows-append i o (x ∷ xs) ys =
     ap (λ l. row (record { end = i + length (listed x); text = o }) x ∷ l)
@@ -66,13 +71,15 @@ rows-append i o (x ∷ xs) ys =
 pub put_is : {A : Type 0} (d : List A) (i : ℕ) (xs : List A) → put_at d i xs ≡ paste d i xs (length xs)
 put_is d i xs = ap (λ l. take i d ++ l ++ drop (i + length xs) d) (sym (take_all (length xs) xs (omega arith)))
 
-pub put_length : {A : Type 0} (d : List A) (i : ℕ) (xs : List A) → i + length xs ≤ length d → length (put_at d i xs) ≡ length d
+pub put_length : {A : Type 0} (d : List A) (i : ℕ) (xs : List A) → i + length xs ≤ length d →
+    length (put_at d i xs) ≡ length d
 put_length d i xs room = ap length (put_is d i xs) ∙ length-paste d i xs (length xs) room (omega arith)
 
 pub put_none : {A : Type 0} (d : List A) (i : ℕ) → put_at d i [] ≡ d
 put_none d i = put_is d i [] ∙ sym (paste_none d i [])
 
-pub put_more : {A : Type 0} (d : List A) (i j : ℕ) (xs ys : List A) → j ≡ i + length xs → i ≤ length d → put_at (put_at d i xs) j ys ≡ put_at d i (xs ++ ys)
+pub put_more : {A : Type 0} (d : List A) (i j : ℕ) (xs ys : List A) → j ≡ i + length xs → i ≤ length d →
+    put_at (put_at d i xs) j ys ≡ put_at d i (xs ++ ys)
 put_more d i j xs ys is room =
     put_is (put_at d i xs) j ys ∙ ap (λ e. paste e j ys (length ys)) (put_is d i xs)
     ∙ ap (λ k. paste (paste d i xs (length xs)) k ys (length ys)) is
@@ -81,7 +88,8 @@ put_more d i j xs ys is room =
     ∙ sym (put_is d i (xs ++ ys))
 
 -- an item before what was put
-pub put_before : {A : Type 0} (d : List A) (i : ℕ) (x : A) (xs : List A) → i + 1 + length xs ≤ length d → set (put_at d (i + 1) xs) i x ≡ put_at d i (x ∷ xs)
+pub put_before : {A : Type 0} (d : List A) (i : ℕ) (x : A) (xs : List A) → i + 1 + length xs ≤ length d →
+    set (put_at d (i + 1) xs) i x ≡ put_at d i (x ∷ xs)
 put_before d i x xs room =
     let j = i + 1 in
     let rest = drop (j + length xs) d in
@@ -117,7 +125,8 @@ texts_size t = ap length (texts_is t) ∙ length-append (carried t) (texts (list
 pub text_place : (w v : List ℕ) (o p : ℕ) → w ≡ v → p ≡ o + length w → p ≡ o + length v
 text_place w v o p is at = at ∙ ap (λ u. o + length u) is
 
-pub row_put : (t : Tree) (nodes nodes' : List Node) (n o b : ℕ) → b ≡ n + 1 + length (listed_each (children t)) → n + length (listed t) ≤ length nodes
+pub row_put : (t : Tree) (nodes nodes' : List Node) (n o b : ℕ) → b ≡ n + 1 + length (listed_each (children t)) →
+    n + length (listed t) ≤ length nodes
     → nodes' ≡ put_at nodes (n + 1) (rows (n + 1) (o + length (carried t)) (listed_each (children t)))
     → set nodes' n (row (record { end = b; text = o }) t) ≡ put_at nodes n (rows n o (listed t))
 row_put t nodes nodes' n o b end room put =
@@ -130,33 +139,50 @@ row_put t nodes nodes' n o b end room put =
     ∙ ap (λ e. put_at nodes n (row (record { end = e; text = o }) t ∷ inside)) end_is
     ∙ ap (λ l. put_at nodes n (rows n o l)) (sym (listed_is t))
 
-pub text_put : (t : Tree) (bytes bytes' bytes'' : List ℕ) (o p : ℕ) → p ≡ o + length (carried t) → o + length (texts (listed t)) ≤ length bytes
-    → bytes' ≡ put_at bytes o (carried t) → bytes'' ≡ put_at bytes' p (texts (listed_each (children t))) → bytes'' ≡ put_at bytes o (texts (listed t))
+pub text_put : (t : Tree) (bytes bytes' bytes'' : List ℕ) (o p : ℕ) → p ≡ o + length (carried t) →
+    o + length (texts (listed t)) ≤ length bytes
+    → bytes' ≡ put_at bytes o (carried t) → bytes'' ≡ put_at bytes' p (texts (listed_each (children t))) →
+    bytes'' ≡ put_at bytes o (texts (listed t))
 text_put t bytes bytes' bytes'' o p is room put puts =
     puts ∙ ap (λ d. put_at d p (texts (listed_each (children t)))) put
     ∙ put_more bytes o p (carried t) (texts (listed_each (children t))) is (omega (arith, room))
     ∙ ap (put_at bytes o) (sym (texts_is t))
 
--- ---- a writing that is on its way: the rows of `all` stand behind n₀ and o₀ when those of `left` are put behind n and o
-pub record Putting (nodes₀ nodes : List Node) (bytes₀ bytes : List ℕ) (n₀ o₀ n o : ℕ) (all left : List Tree) : Type 0 where
-  pub nodes_room : n + length left ≤ length nodes
-  pub bytes_room : o + length (texts left) ≤ length bytes
-  pub nodes_end : n + length left ≡ n₀ + length all
-  pub bytes_end : o + length (texts left) ≡ o₀ + length (texts all)
-  pub nodes_is : put_at nodes n (rows n o left) ≡ put_at nodes₀ n₀ (rows n₀ o₀ all)
-  pub bytes_is : put_at bytes o (texts left) ≡ put_at bytes₀ o₀ (texts all)
+-- ---- a writing that is on its way: the rows of `all` stand behind n₀ and o₀ when those of `left` are put behind n and
+-- o
+pub record Putting (nodes₀ nodes : List Node) (bytes₀ bytes : List ℕ) (n₀ o₀ n o : ℕ) (all left : List Tree) : Type 0
+  where
+    pub nodes_room : n + length left ≤ length nodes
+    pub bytes_room : o + length (texts left) ≤ length bytes
+    pub nodes_end : n + length left ≡ n₀ + length all
+    pub bytes_end : o + length (texts left) ≡ o₀ + length (texts all)
+    pub nodes_is : put_at nodes n (rows n o left) ≡ put_at nodes₀ n₀ (rows n₀ o₀ all)
+    pub bytes_is : put_at bytes o (texts left) ≡ put_at bytes₀ o₀ (texts all)
 
 pub putting_starts : (nodes : List Node) (bytes : List ℕ) (n o : ℕ) (all left : List Tree) → left ≡ all
-    → n + length all ≤ length nodes → o + length (texts all) ≤ length bytes → Putting nodes nodes bytes bytes n o n o all left
-putting_starts nodes bytes n o all left is room more = subst (λ l. Putting nodes nodes bytes bytes n o n o all l) (sym is) here where
-  here : Putting nodes nodes bytes bytes n o n o all all
-  here = record { nodes_room = room; bytes_room = more; nodes_end = refl; bytes_end = refl; nodes_is = refl; bytes_is = refl }
+    → n + length all ≤ length nodes → o + length (texts all) ≤ length bytes →
+    Putting nodes nodes bytes bytes n o n o all left
+putting_starts nodes bytes n o all left is room more =
+    subst (λ l. Putting nodes nodes bytes bytes n o n o all l) (sym is) here where
+      here : Putting nodes nodes bytes bytes n o n o all all
+      here = record {
+        nodes_room = room;
+        bytes_room = more;
+        nodes_end = refl;
+        bytes_end = refl;
+        nodes_is = refl;
+        bytes_is =
+            refl;
+      }
 
-pub putting_as : {nodes₀ nodes : List Node} {bytes₀ bytes : List ℕ} {n₀ o₀ n o : ℕ} {all left : List Tree} (other : List Tree) → left ≡ other
+pub putting_as : {nodes₀ nodes : List Node} {bytes₀ bytes : List ℕ} {n₀ o₀ n o : ℕ} {all left : List Tree}
+    (other : List Tree) → left ≡ other
     → Putting nodes₀ nodes bytes₀ bytes n₀ o₀ n o all left → Putting nodes₀ nodes bytes₀ bytes n₀ o₀ n o all other
-putting_as {nodes₀} {nodes} {bytes₀} {bytes} {n₀} {o₀} {n} {o} {all} {left} other is p = subst (λ l. Putting nodes₀ nodes bytes₀ bytes n₀ o₀ n o all l) is p
+putting_as {nodes₀} {nodes} {bytes₀} {bytes} {n₀} {o₀} {n} {o} {all} {left} other is p =
+    subst (λ l. Putting nodes₀ nodes bytes₀ bytes n₀ o₀ n o all l) is p
 
-pub putting_next : (nodes₀ nodes nodes' : List Node) (bytes₀ bytes bytes' : List ℕ) (n₀ o₀ n o n' o' : ℕ) (all xs left : List Tree)
+pub putting_next : (nodes₀ nodes nodes' : List Node) (bytes₀ bytes bytes' : List ℕ) (n₀ o₀ n o n' o' : ℕ)
+    (all xs left : List Tree)
     → Putting nodes₀ nodes bytes₀ bytes n₀ o₀ n o all (xs ++ left) → n' ≡ n + length xs → o' ≡ o + length (texts xs)
     → nodes' ≡ put_at nodes n (rows n o xs) → bytes' ≡ put_at bytes o (texts xs)
     → Putting nodes₀ nodes' bytes₀ bytes' n₀ o₀ n' o' all left
@@ -176,7 +202,8 @@ putting_next nodes₀ nodes nodes' bytes₀ bytes bytes' n₀ o₀ n o n' o' all
       nodes_is =
           ap (λ d. put_at d n' (rows n' o' left)) put_n
           ∙ put_more nodes n n' (rows n o xs) (rows n' o' left) (omega (arith, at_n, rows_xs)) (omega (arith, fits_n))
-          ∙ ap (λ l. put_at nodes n (rows n o xs ++ l)) (rows_at n' (n + length xs) o' (o + length (texts xs)) left at_n at_o)
+          ∙ ap (λ l. put_at nodes n (rows n o xs ++ l))
+          (rows_at n' (n + length xs) o' (o + length (texts xs)) left at_n at_o)
           ∙ ap (put_at nodes n) (sym (rows-append n o xs left))
           ∙ p.nodes_is;
       bytes_is =
@@ -188,18 +215,24 @@ putting_next nodes₀ nodes nodes' bytes₀ bytes bytes' n₀ o₀ n o n' o' all
 
 pub putting_ends : (nodes₀ nodes : List Node) (bytes₀ bytes : List ℕ) (n₀ o₀ n o : ℕ) (all left : List Tree)
     → Putting nodes₀ nodes bytes₀ bytes n₀ o₀ n o all left → left ≡ []
-    → (n ≡ n₀ + length all) × (o ≡ o₀ + length (texts all)) × (nodes ≡ put_at nodes₀ n₀ (rows n₀ o₀ all)) × (bytes ≡ put_at bytes₀ o₀ (texts all))
-putting_ends nodes₀ nodes bytes₀ bytes n₀ o₀ n o all left p is = here (subst (λ l. Putting nodes₀ nodes bytes₀ bytes n₀ o₀ n o all l) is p) where
-  here : Putting nodes₀ nodes bytes₀ bytes n₀ o₀ n o all [] → (n ≡ n₀ + length all) × (o ≡ o₀ + length (texts all)) × (nodes ≡ put_at nodes₀ n₀ (rows n₀ o₀ all)) × (bytes ≡ put_at bytes₀ o₀ (texts all))
-  here q = (
-    omega (arith, q.nodes_end),
-    omega (arith, q.bytes_end),
-    sym (put_none nodes n) ∙ q.nodes_is,
-    sym (put_none bytes o) ∙ q.bytes_is,
-  )
+    → (n ≡ n₀ + length all) × (o ≡ o₀ + length (texts all)) × (nodes ≡ put_at nodes₀ n₀ (rows n₀ o₀ all))
+    × (bytes ≡ put_at bytes₀ o₀ (texts all))
+putting_ends nodes₀ nodes bytes₀ bytes n₀ o₀ n o all left p is =
+    here (subst (λ l. Putting nodes₀ nodes bytes₀ bytes n₀ o₀ n o all l) is p) where
+      here : Putting nodes₀ nodes bytes₀ bytes n₀ o₀ n o all [] →
+          (n ≡ n₀ + length all) × (o ≡ o₀ + length (texts all)) × (nodes ≡ put_at nodes₀ n₀ (rows n₀ o₀ all))
+          × (bytes ≡ put_at bytes₀ o₀ (texts all))
+      here q = (
+        omega (arith, q.nodes_end),
+        omega (arith, q.bytes_end),
+        sym (put_none nodes n) ∙ q.nodes_is,
+        sym (put_none bytes o) ∙ q.bytes_is,
+      )
 
-pub putting_room : {nodes₀ nodes : List Node} {bytes₀ bytes : List ℕ} {n₀ o₀ n o : ℕ} {all left : List Tree} (xs rest : List Tree) → left ≡ xs ++ rest
-    → Putting nodes₀ nodes bytes₀ bytes n₀ o₀ n o all left → (n + length xs ≤ length nodes) × (o + length (texts xs) ≤ length bytes)
+pub putting_room : {nodes₀ nodes : List Node} {bytes₀ bytes : List ℕ} {n₀ o₀ n o : ℕ} {all left : List Tree}
+    (xs rest : List Tree) → left ≡ xs ++ rest
+    → Putting nodes₀ nodes bytes₀ bytes n₀ o₀ n o all left →
+    (n + length xs ≤ length nodes) × (o + length (texts xs) ≤ length bytes)
 putting_room {n = n} {o = o} xs rest is p =
     let size = ap length is ∙ length-append xs rest in
     let text_size = ap (λ l. length (texts l)) is ∙ texts_length xs rest in
@@ -214,7 +247,8 @@ pub record CountingRows (n₀ o₀ n o : ℕ) (all left : List Tree) : Type 0 wh
   pub nodes_fit : in_word n ≡ n
   pub text_fits : in_word o ≡ o
 
-pub rows_count_starts : (n₀ o₀ n o : ℕ) (t : Tree) (left : List Tree) → left ≡ listed_each (children t) → n ≡ in_word (n₀ + 1) → o ≡ in_word (o₀ + length (carried t))
+pub rows_count_starts : (n₀ o₀ n o : ℕ) (t : Tree) (left : List Tree) → left ≡ listed_each (children t) →
+    n ≡ in_word (n₀ + 1) → o ≡ in_word (o₀ + length (carried t))
     → CountingRows n₀ o₀ n o (listed t) left
 rows_count_starts n₀ o₀ n o t left is at_n at_o = subst (λ l. CountingRows n₀ o₀ n o (listed t) l) (sym is) (record {
   nodes = omega (arith, at_n, listed_length t);
@@ -223,7 +257,8 @@ rows_count_starts n₀ o₀ n o t left is at_n at_o = subst (λ l. CountingRows 
   text_fits = omega (arith, at_o);
 })
 
-pub rows_count_next : {n₀ o₀ n o : ℕ} {all before : List Tree} (n' o' : ℕ) (xs left : List Tree) → CountingRows n₀ o₀ n o all before → before ≡ xs ++ left
+pub rows_count_next : {n₀ o₀ n o : ℕ} {all before : List Tree} (n' o' : ℕ) (xs left : List Tree) →
+    CountingRows n₀ o₀ n o all before → before ≡ xs ++ left
     → n' ≡ in_word (n + length xs) → o' ≡ in_word (o + length (texts xs)) → CountingRows n₀ o₀ n' o' all left
 rows_count_next n' o' xs left c is at_n at_o =
     let size = ap length is ∙ length-append xs left in
@@ -235,7 +270,8 @@ rows_count_next n' o' xs left c is at_n at_o =
       text_fits = omega (arith, at_o);
     }
 
-pub rows_count_ends : {n₀ o₀ n o : ℕ} {all left : List Tree} → CountingRows n₀ o₀ n o all left → left ≡ [] → (n ≡ in_word (n₀ + length all)) × (o ≡ in_word (o₀ + length (texts all)))
+pub rows_count_ends : {n₀ o₀ n o : ℕ} {all left : List Tree} → CountingRows n₀ o₀ n o all left → left ≡ [] →
+    (n ≡ in_word (n₀ + length all)) × (o ≡ in_word (o₀ + length (texts all)))
 rows_count_ends c is =
     let size = ap length is in
     let text_size = ap (λ l. length (texts l)) is in

@@ -3,9 +3,12 @@ use Rattle.std.specs.Prelude.{◌≡◌, ℕ, ◌+◌, ◌⊎◌, List, length, 
 use Rattle.std.specs.Str.{IsUtf8, IsCharBoundary}
 use Rattle.std.specs.Str.Lossy.{utf8_valid_len}
 use Rattle.fancy_lex.specs.Fault.{Kind, kind_of, kind_text, general_parse_error, unclosed_open_paren, invalid_repeat}
-use Rattle.fancy_lex.specs.Fault.{recursion_exceeded, trailing_backslash, invalid_escape, unclosed_unicode_name, invalid_hex}
-use Rattle.fancy_lex.specs.Fault.{invalid_codepoint_value, invalid_class, unknown_flag, changing_unicode_mode_unsupported}
-use Rattle.fancy_lex.specs.Fault.{invalid_backref, target_not_repeatable, invalid_group_name, invalid_group_name_backref}
+use Rattle.fancy_lex.specs.Fault.{recursion_exceeded, trailing_backslash, invalid_escape, unclosed_unicode_name}
+use Rattle.fancy_lex.specs.Fault.{invalid_hex}
+use Rattle.fancy_lex.specs.Fault.{invalid_codepoint_value, invalid_class, unknown_flag}
+use Rattle.fancy_lex.specs.Fault.{changing_unicode_mode_unsupported}
+use Rattle.fancy_lex.specs.Fault.{invalid_backref, target_not_repeatable, invalid_group_name}
+use Rattle.fancy_lex.specs.Fault.{invalid_group_name_backref}
 use Rattle.fancy_lex.specs.declared.error.Error.TheVariants.{ParseError, OutOfMemory}
 use Rattle.fancy_lex.specs.declared.flags.Flags.{Flags}
 use Rattle.fancy_grammar.specs.Answer.{IsTreeOf, IsFaultOf}
@@ -13,10 +16,14 @@ use Rattle.fancy_grammar.specs.Answered.{IsAnsweredWith, IsSmall}
 use Rattle.fancy_grammar.specs.Marks.{Marks}
 use Rattle.fancy_grammar.specs.Tree.{Tree}
 use Rattle.fancy_c.specs.declared.answer.TheConstants.{NO_UTF8, REFUSED, NO_MEMORY, NO_KIND}
-use Rattle.fancy_c.specs.declared.answer.TheConstants.{GENERAL_PARSE_ERROR, UNCLOSED_OPEN_PAREN, INVALID_REPEAT, RECURSION_EXCEEDED}
-use Rattle.fancy_c.specs.declared.answer.TheConstants.{TRAILING_BACKSLASH, INVALID_ESCAPE, UNCLOSED_UNICODE_NAME, INVALID_HEX}
-use Rattle.fancy_c.specs.declared.answer.TheConstants.{INVALID_CODEPOINT_VALUE, INVALID_CLASS, UNKNOWN_FLAG, CHANGING_UNICODE_MODE_UNSUPPORTED}
-use Rattle.fancy_c.specs.declared.answer.TheConstants.{INVALID_BACKREF, TARGET_NOT_REPEATABLE, INVALID_GROUP_NAME, INVALID_GROUP_NAME_BACKREF}
+use Rattle.fancy_c.specs.declared.answer.TheConstants.{GENERAL_PARSE_ERROR, UNCLOSED_OPEN_PAREN, INVALID_REPEAT}
+use Rattle.fancy_c.specs.declared.answer.TheConstants.{RECURSION_EXCEEDED}
+use Rattle.fancy_c.specs.declared.answer.TheConstants.{TRAILING_BACKSLASH, INVALID_ESCAPE, UNCLOSED_UNICODE_NAME}
+use Rattle.fancy_c.specs.declared.answer.TheConstants.{INVALID_HEX}
+use Rattle.fancy_c.specs.declared.answer.TheConstants.{INVALID_CODEPOINT_VALUE, INVALID_CLASS, UNKNOWN_FLAG}
+use Rattle.fancy_c.specs.declared.answer.TheConstants.{CHANGING_UNICODE_MODE_UNSUPPORTED}
+use Rattle.fancy_c.specs.declared.answer.TheConstants.{INVALID_BACKREF, TARGET_NOT_REPEATABLE, INVALID_GROUP_NAME}
+use Rattle.fancy_c.specs.declared.answer.TheConstants.{INVALID_GROUP_NAME_BACKREF}
 use Rattle.fancy_c.specs.declared.answer.Answer.{Answer}
 use Rattle.fancy_c.specs.declared.read.Refusal.{Refusal}
 use Rattle.fancy_c.specs.declared.read.Refusal.TheVariants.{NoUtf8, Fault}
@@ -40,7 +47,8 @@ number_of_kind target_not_repeatable = TARGET_NOT_REPEATABLE
 number_of_kind invalid_group_name = INVALID_GROUP_NAME
 number_of_kind (invalid_group_name_backref s) = INVALID_GROUP_NAME_BACKREF
 
--- the bytes are the UTF-8 of a pattern that has this tree with these marks, and no other and no fault; of n bytes it has
+-- the bytes are the UTF-8 of a pattern that has this tree with these marks, and no other and no fault; of n bytes it
+-- has
 -- at most 2 n + 1 nodes and 832 levels; and the marks are those of its nodes
 pub record IsTreeOfBytes (f : Flags) (bytes : List ℕ) (t : Tree) (m : Marks) : Type 0 where
   pub utf8 : IsUtf8 bytes

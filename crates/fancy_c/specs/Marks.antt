@@ -48,8 +48,10 @@ told t m = record {
   ignored = m.numbered_groups_ignored;
 }
 
--- the buffers hold a tree and its marks: the rows of its nodes, the texts, the rows of the names, and the back references
-pub record AreWritten (t : Tree) (m : Marks) (nodes nodes' : List Node) (bytes bytes' : List ℕ) (names names' : List Name) (backrefs backrefs' : List ℕ) : Type 0 where
+-- the buffers hold a tree and its marks: the rows of its nodes, the texts, the rows of the names, and the back
+-- references
+pub record AreWritten (t : Tree) (m : Marks) (nodes nodes' : List Node) (bytes bytes' : List ℕ)
+    (names names' : List Name) (backrefs backrefs' : List ℕ) : Type 0 where
   pub nodes_are : Fills nodes nodes' (rows 0 0 (listed t))
   pub texts_are : Fills bytes bytes' (all_texts t m)
   pub names_are : Fills names names' (name_rows (length (texts (listed t))) m.named_groups)

@@ -1,5 +1,7 @@
 -- A piece that starts where a branch does not end reads a character.
-use Rattle.std.proofs.Common.{◌≡◌, ◌≢◌, ℕ, ◌+◌, ◌-◌, Bool, true, false, ◌||◌, ◌&&◌, if◌then◌else◌, ◌⊎◌, inl, inr, [], ◌∷◌, ◌==◌, Option, Some, None, nat_le, nat_lt, codes, refl, sym, ◌∙◌, true≢false, tests, rules, ap, arith}
+use Rattle.std.proofs.Common.{◌≡◌, ◌≢◌, ℕ, ◌+◌, ◌-◌, Bool, true, false, ◌||◌, ◌&&◌, if◌then◌else◌, ◌⊎◌, inl, inr, []}
+use Rattle.std.proofs.Common.{◌∷◌, ◌==◌, Option, Some, None, nat_le, nat_lt, codes, refl, sym, ◌∙◌, true≢false, tests}
+use Rattle.std.proofs.Common.{rules, ap, arith}
 use Rattle.std.proofs.lemmas.Bool.{cond-true, cond-false}
 use Rattle.std.proofs.lemmas.Bool.Decides.{nat_tests}
 use Prim.Native.Char.{code}
@@ -13,7 +15,10 @@ use Rattle.fancy_parts.specs.FlagLetters.{Letters, setting, scope as scoped}
 use Rattle.fancy_parts.specs.HeadReference.{begins_target, condition_target}
 use Rattle.fancy_parts.specs.Quantifier.{counts, as_mark, most}
 use Rattle.fancy_parts.specs.declared.counts.Counts.{Counts}
-use Rattle.fancy_grammar.specs.Ahead.{Ahead, nothing, leaf, with_head, condition, body, absent_branch, ahead, ahead_of, group_ahead, behind_question, condition_ahead, repeater_ahead, verb_ahead, verb_condition, named_ahead, target_ahead, flags_ahead, behind_layout, faulty, leaf_of, is_before_nothing}
+use Rattle.fancy_grammar.specs.Ahead.{Ahead, nothing, leaf, with_head, condition, body, absent_branch, ahead, ahead_of}
+use Rattle.fancy_grammar.specs.Ahead.{group_ahead, behind_question, condition_ahead, repeater_ahead, verb_ahead}
+use Rattle.fancy_grammar.specs.Ahead.{verb_condition, named_ahead, target_ahead, flags_ahead, behind_layout, faulty}
+use Rattle.fancy_grammar.specs.Ahead.{leaf_of, is_before_nothing}
 use Rattle.fancy_grammar.specs.Depth.{max_depth}
 use Rattle.fancy_grammar.specs.Head.{Head, define}
 use Rattle.fancy_grammar.specs.Quantified.{quant, quants, adjacent, max_adjacent}
@@ -50,7 +55,8 @@ either_there : (b : Bool) {x y : Ahead} → IsThere x → IsThere y → IsThere 
 either_there true f g = f
 either_there false f g = g
 
-choice_there : {A : Type 0} (o : Option A) (f : A → Ahead) (x : Ahead) → ((a : A) → IsThere (f a)) → IsThere x → IsThere (choose o f x)
+choice_there : {A : Type 0} (o : Option A) (f : A → Ahead) (x : Ahead) → ((a : A) → IsThere (f a)) → IsThere x →
+    IsThere (choose o f x)
 choice_there (Some a) f x g h = g a
 choice_there None f x g h = h
 
@@ -103,13 +109,16 @@ behind_there n s (rest u) = group_there n s u
 behind_there n s (open_comment p) = leaf_there _
 
 deep_there : (n d c : ℕ) (s : State) (t : Text) →
-    IsThere (if nat_le max_depth (d + 1) then faulty (group_too_deep n (c ∷ t)) else behind_layout n s (skipped n (at s t)))
+    IsThere (if nat_le max_depth (d + 1) then faulty (group_too_deep n (c ∷ t)) else behind_layout n s
+    (skipped n (at s t)))
 deep_there n d c s t = either_there (nat_le max_depth (d + 1)) (leaf_there _) (behind_there n s (skipped n (at s t)))
 
-before_nothing : (n d : ℕ) (s : State) (c : ℕ) (t : Text) → ahead_of n d s (c ∷ t) ≡ nothing → is_before_nothing c ≡ true
+before_nothing : (n d : ℕ) (s : State) (c : ℕ) (t : Text) → ahead_of n d s (c ∷ t) ≡ nothing →
+    is_before_nothing c ≡ true
 before_nothing n d s c t e = by_tests (c == code "(") (is_before_nothing c) _ (deep_there n d c s t) e
   where
-    by_tests : (p b : Bool) (x : Ahead) → (x ≡ nothing → ⊥) → (if p then x else if b then nothing else leaf (leaf_of n s c t)) ≡ nothing → b ≡ true
+    by_tests : (p b : Bool) (x : Ahead) → (x ≡ nothing → ⊥) →
+        (if p then x else if b then nothing else leaf (leaf_of n s c t)) ≡ nothing → b ≡ true
     by_tests true b x f e = absurd (f e)
     by_tests false true x f e = refl
     by_tests false false x f e = absurd (leaf_there _ e)
@@ -146,7 +155,8 @@ abbrev IsMark : ℕ → Type 0
 IsMark c = (c ≡ code "+") ⊎ ((c ≡ code "*") ⊎ (c ≡ code "?"))
 
 mark_is : (c : ℕ) (t : Text) → is_before_nothing c ≡ true → ends (c ∷ t) ≡ false → IsMark c
-mark_is c t h k = by_tests (c == code "+") (c == code "*") (c == code "?") (c == code "|") (c == code ")") refl refl refl h k
+mark_is c t h k = by_tests (c == code "+") (c == code "*") (c == code "?") (c == code "|") (c == code ")") refl refl
+    refl h k
   where
     by_tests : (p s q b r : Bool) → (c == code "+") ≡ p → (c == code "*") ≡ s → (c == code "?") ≡ q →
         (p || (s || (q || (b || r)))) ≡ true → (b || r) ≡ false → IsMark c
@@ -164,7 +174,8 @@ no_layout n false c t (inr (inl e)) = rw e refl
 no_layout n true c t (inr (inr e)) = rw e refl
 no_layout n false c t (inr (inr e)) = rw e refl
 
-mark_counts : (x : Bool) (c : ℕ) (t : Text) → IsMark c → (q : Counts) × (◌≡◌ {A = Option (Counts × Text)} (counts x (c ∷ t)) (Some (q, t)))
+mark_counts : (x : Bool) (c : ℕ) (t : Text) → IsMark c →
+    (q : Counts) × (◌≡◌ {A = Option (Counts × Text)} (counts x (c ∷ t)) (Some (q, t)))
 unfolding counts
 mark_counts x c t (inl e) = (as_mark 1 most, rw e refl)
 mark_counts x c t (inr (inl e)) = (as_mark 0 most, rw e refl)

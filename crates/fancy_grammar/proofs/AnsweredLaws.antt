@@ -1,5 +1,6 @@
 -- What is true of every answered tree, by the nodes of the raw tree that it was resolved from.
-use Rattle.std.proofs.Common.{◌≡◌, ℕ, ℤ, suc, ◌≤◌, ◌==◌, Bool, true, false, ◌||◌, if◌then◌else◌, List, [], ◌∷◌, length, Option, Some, None, filter, filter_map, map, nat_le, nat_lt, refl, sym, ap, ◌∙◌, subst}
+use Rattle.std.proofs.Common.{◌≡◌, ℕ, ℤ, suc, ◌≤◌, ◌==◌, Bool, true, false, ◌||◌, if◌then◌else◌, List, [], ◌∷◌, length}
+use Rattle.std.proofs.Common.{Option, Some, None, filter, filter_map, map, nat_le, nat_lt, refl, sym, ap, ◌∙◌, subst}
 use Rattle.std.specs.List.{AllByRecursion, list_any}
 use Rattle.std.proofs.lemmas.List.{length-map}
 use Rattle.std.specs.Prelude.{find, slice_get}
@@ -7,16 +8,22 @@ use Rattle.fancy_lex.specs.Fault.{Fault, invalid_group_name_backref}
 use Rattle.fancy_lex.specs.Target.{Target, by_number, by_name, relative}
 use Rattle.fancy_lex.specs.Text.{Text}
 use Rattle.fancy_lex.specs.declared.flags.Flags.{Flags}
-use Rattle.fancy_parts.specs.Meaning.{Meaning, number, unresolved, faulty, means, meaning, back_to, last_of, group_or_none, at_distance, Role, back_reference, call, condition, AnyReference, fault_or, first_fault}
+use Rattle.fancy_parts.specs.Meaning.{Meaning, number, unresolved, faulty, means, meaning, back_to, last_of}
+use Rattle.fancy_parts.specs.Meaning.{group_or_none, at_distance, Role, back_reference, call, condition, AnyReference}
+use Rattle.fancy_parts.specs.Meaning.{fault_or, first_fault}
 use Rattle.fancy_parts.specs.Ranks.{Opening, is_counted, numbers, opened_before, only_named, counted_in, counted}
 use Rattle.fancy_grammar.specs.Answer.{IsTreeOf}
-use Rattle.fancy_grammar.specs.Answered.{IsAnsweredNode, IsAnswered, IsAnsweredWith, AreNamed, is_group, groups, is_call_node, has_call, group_referred, groups_referred, numbered_in, numbered_groups, HasGroupsOf}
+use Rattle.fancy_grammar.specs.Answered.{IsAnsweredNode, IsAnswered, IsAnsweredWith, AreNamed, is_group, groups}
+use Rattle.fancy_grammar.specs.Answered.{is_call_node, has_call, group_referred, groups_referred, numbered_in}
+use Rattle.fancy_grammar.specs.Answered.{numbered_groups, HasGroupsOf}
 use Rattle.fancy_grammar.specs.Grammar.{Derives}
 use Rattle.fancy_grammar.specs.Items.{openings_in, references_in, openings, references}
 use Rattle.fancy_grammar.specs.Marks.{Marks, marks, is_call, back_number, back_numbers, ascending}
 use Rattle.fancy_grammar.specs.Preorder.{preorder}
 use Rattle.fancy_grammar.specs.Resolved.{resolved_in, resolved_all, reference_node}
-use Rattle.fancy_grammar.specs.Tree.{Tree, Trees, no_trees, more_trees, literal, literal_bytes, alt, group, backref, backref_at_level, backref_exists, subroutine_call, ast_node, ast_group, ast_backref, ast_call, ast_condition, list_of}
+use Rattle.fancy_grammar.specs.Tree.{Tree, Trees, no_trees, more_trees, literal, literal_bytes, alt, group, backref}
+use Rattle.fancy_grammar.specs.Tree.{backref_at_level, backref_exists, subroutine_call, ast_node, ast_group}
+use Rattle.fancy_grammar.specs.Tree.{ast_backref, ast_call, ast_condition, list_of}
 use Rattle.fancy_parts.specs.Groups.{numbers_under}
 use Rattle.fancy_parts.proofs.NamedLaws.{under_named}
 use Rattle.fancy_grammar.proofs.NamedNumbers.{named_ascend, carries, number_carried}
@@ -72,7 +79,8 @@ backref_refers (number n) t casei (Some level) place = refl
 backref_refers unresolved t casei level place = refl
 backref_refers (faulty k) t casei level place = refl
 
-call_refers : (m : Meaning) (t : Target) (place : ℕ) → group_referred (reference_node m (ast_call t) place) ≡ back_number call m
+call_refers : (m : Meaning) (t : Target) (place : ℕ) →
+    group_referred (reference_node m (ast_call t) place) ≡ back_number call m
 call_refers (number n) t place = refl
 call_refers unresolved t place = refl
 call_refers (faulty k) t place = refl
@@ -117,7 +125,8 @@ condition_resolved u c (by_name w) e = condition_or_fault (last_of (u w)) e
 condition_resolved u c (relative z) e = condition_or_fault (at_distance c z) e
 
 backref_answered : (m : Meaning) (t : Target) (casei : Bool) (level : Option ℤ) (place : ℕ) (o : Option Fault) →
-    (m ≡ unresolved → ⊥) → fault_or m place o ≡ None → IsAnsweredNode (reference_node m (ast_backref t casei level) place)
+    (m ≡ unresolved → ⊥) → fault_or m place o ≡ None →
+    IsAnsweredNode (reference_node m (ast_backref t casei level) place)
 backref_answered (number n) t casei None place o u e = tt
 backref_answered (number n) t casei (Some level) place o u e = tt
 backref_answered unresolved t casei level place o u e = absurd (u refl)
@@ -193,18 +202,21 @@ module _ (named : Bool) (g : List Opening) where
   calls_kept (ast_node (ast_group name t) place ∷ l) h = by_name (is_counted named name) refl (calls_kept l h.1)
     where
       by_name : (b : Bool) → is_counted named name ≡ b →
-          list_any is_call_node (kept named g l) ≡ list_any (λ x. is_call x.role) (references_in (filter_map item_of l)) →
+          list_any is_call_node (kept named g l) ≡ list_any (λ x. is_call x.role)
+          (references_in (filter_map item_of l)) →
           list_any is_call_node (kept named g (ast_node (ast_group name t) place ∷ l))
           ≡ list_any (λ x. is_call x.role) (references_in (filter_map item_of l))
       by_name true e more = rw (e, e) more
       by_name false e more = rw e more
   calls_kept (ast_node (ast_backref t casei level) place ∷ l) h =
-      ap (λ b. b || list_any is_call_node (kept named g l)) (backref_no_call (means_here back_reference t place) t casei level place)
+      ap (λ b. b || list_any is_call_node (kept named g l))
+      (backref_no_call (means_here back_reference t place) t casei level place)
       ∙ calls_kept l h.1
   calls_kept (ast_node (ast_call t) place ∷ l) h =
       ap (λ b. b || list_any is_call_node (kept named g l)) (call_is_call (means_here call t place) t place)
   calls_kept (ast_node (ast_condition t level) place ∷ l) h =
-      ap (λ b. b || list_any is_call_node (kept named g l)) (condition_no_call (means_here condition t place) t level place)
+      ap (λ b. b || list_any is_call_node (kept named g l))
+      (condition_no_call (means_here condition t place) t level place)
       ∙ calls_kept l h.1
   calls_kept (group t ∷ l) h = absurd h.0
   calls_kept (backref n casei ∷ l) h = absurd h.0
@@ -218,7 +230,8 @@ module _ (named : Bool) (g : List Opening) where
   in_front (Some n) l = n ∷ l
   in_front None l = l
 
-  filter_map_step : {A : Type 0} (f : A → Option ℕ) (x : A) (l : List A) → filter_map f (x ∷ l) ≡ in_front (f x) (filter_map f l)
+  filter_map_step : {A : Type 0} (f : A → Option ℕ) (x : A) (l : List A) →
+      filter_map f (x ∷ l) ≡ in_front (f x) (filter_map f l)
   filter_map_step f x l = by_option (f x) refl
     where
       by_option : (o : Option ℕ) → f x ≡ o → filter_map f (x ∷ l) ≡ in_front o (filter_map f l)
@@ -247,11 +260,14 @@ module _ (named : Bool) (g : List Opening) where
       by_name false e more = rw e more
   numbers_kept (ast_node (ast_backref t casei level) place ∷ l) h =
       numbers_step (resolved_in named g (ast_node (ast_backref t casei level) place))
-      (record { place = place; role = back_reference; target = t }) (kept named g l) (references_in (filter_map item_of l))
+      (record { place = place; role = back_reference; target = t }) (kept named g l)
+      (references_in (filter_map item_of l))
       (backref_refers (means_here back_reference t place) t casei level place) (numbers_kept l h.1)
   numbers_kept (ast_node (ast_call t) place ∷ l) h =
-      numbers_step (resolved_in named g (ast_node (ast_call t) place)) (record { place = place; role = call; target = t })
-      (kept named g l) (references_in (filter_map item_of l)) (call_refers (means_here call t place) t place) (numbers_kept l h.1)
+      numbers_step (resolved_in named g (ast_node (ast_call t) place))
+      (record { place = place; role = call; target = t })
+      (kept named g l) (references_in (filter_map item_of l)) (call_refers (means_here call t place) t place)
+      (numbers_kept l h.1)
   numbers_kept (ast_node (ast_condition t level) place ∷ l) h =
       numbers_step (resolved_in named g (ast_node (ast_condition t level) place))
       (record { place = place; role = condition; target = t }) (kept named g l) (references_in (filter_map item_of l))
@@ -281,7 +297,8 @@ module _ (named : Bool) (g : List Opening) where
   answered_kept (ast_node (ast_backref t casei level) place ∷ l) h n =
       let m = means_here back_reference t place in
       let behind = first_fault g (references_in (filter_map item_of l)) in (
-        backref_answered m t casei level place behind (back_reference_resolved (λ u. numbers u g) (opened_before g place) t) n,
+        backref_answered m t casei level place behind
+            (back_reference_resolved (λ u. numbers u g) (opened_before g place) t) n,
         answered_kept l h.1 (none_behind m place behind n),
       )
   answered_kept (ast_node (ast_call t) place ∷ l) h n =
@@ -329,7 +346,8 @@ module _ {f : Flags} {text : Text} {t : Tree} {m : Marks} (a : IsTreeOf f text t
   answered : IsAnswered t
   answered =
       let no_fault = ap (λ l. first_fault numbered (references_in l)) (sym (items_of_nodes raw)) ∙ a.2 in
-      subst (AllByRecursion IsAnsweredNode) (sym nodes) (answered_kept named numbered (preorder raw) nodes_read no_fault)
+      subst (AllByRecursion IsAnsweredNode) (sym nodes)
+      (answered_kept named numbered (preorder raw) nodes_read no_fault)
 
   -- the Groups in preorder are the groups that have a number, in the order of their opening parentheses
   groups_in_order : groups t ≡ map (λ q. group (resolved_in named numbered q.1)) (numbered_groups f raw)
@@ -337,7 +355,8 @@ module _ {f : Flags} {text : Text} {t : Tree} {m : Marks} (a : IsTreeOf f text t
 
   openings_in_order : map (λ q. q.0) (numbered_groups f raw) ≡ numbered
   openings_in_order =
-      openings_counted named numbered (preorder raw) ∙ ap (λ l. counted_in named (openings_in l)) (sym (items_of_nodes raw))
+      openings_counted named numbered (preorder raw)
+      ∙ ap (λ l. counted_in named (openings_in l)) (sym (items_of_nodes raw))
 
   -- as many as are said
   pub groups_total : length (groups t) ≡ m.total_groups
@@ -350,7 +369,8 @@ module _ {f : Flags} {text : Text} {t : Tree} {m : Marks} (a : IsTreeOf f text t
   names_marked : AreNamed m.total_groups m.named_groups
   names_marked = subst (λ k. AreNamed k.total_groups k.named_groups) (sym is_marks) (named_ascend numbered)
 
-  pub named_numbers : (w : Text) (k : ℕ) → list_any (λ j. j == suc k) (numbers_under m.named_groups w) ≡ carries w (slice_get numbered k)
+  pub named_numbers : (w : Text) (k : ℕ) →
+      list_any (λ j. j == suc k) (numbers_under m.named_groups w) ≡ carries w (slice_get numbered k)
   named_numbers w k =
       ap (λ q. list_any (λ j. j == suc k) (numbers_under q.named_groups w)) is_marks
       ∙ ap (list_any (λ j. j == suc k)) (under_named numbered w) ∙ number_carried w k numbered
@@ -393,4 +413,5 @@ module _ {f : Flags} {text : Text} {t : Tree} {m : Marks} (a : IsTreeOf f text t
   -- the Groups are those of the one raw tree of the text
   pub groups_of_raw : (r : Tree) → Derives f text r → HasGroupsOf f r t
   groups_of_raw r b =
-      subst (λ q. HasGroupsOf f q t) (sym (same_tree a.1 b)) (record { in_order = openings_in_order; insides = groups_in_order })
+      subst (λ q. HasGroupsOf f q t) (sym (same_tree a.1 b))
+      (record { in_order = openings_in_order; insides = groups_in_order })

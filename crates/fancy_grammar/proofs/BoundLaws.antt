@@ -1,6 +1,8 @@
 -- A tree is small beside its text. Each part of the grammar keeps two bounds, by induction on its derivation: its nodes
 -- by the bytes that it takes, and its levels by the groups that may still open.
-use Rattle.std.proofs.Common.{◌≡◌, ℕ, zero, suc, ◌+◌, ◌*◌, ◌≤◌, ◌<◌, max, Bool, true, false, not, ◌&&◌, ◌==◌, nat_lt, nat_le, if◌then◌else◌, List, [], ◌∷◌, ◌++◌, length, length-append, Option, Some, None, IfSome, refl, ap, subst, arith, chars}
+use Rattle.std.proofs.Common.{◌≡◌, ℕ, zero, suc, ◌+◌, ◌*◌, ◌≤◌, ◌<◌, max, Bool, true, false, not, ◌&&◌, ◌==◌, nat_lt}
+use Rattle.std.proofs.Common.{nat_le, if◌then◌else◌, List, [], ◌∷◌, ◌++◌, length, length-append, Option, Some, None}
+use Rattle.std.proofs.Common.{IfSome, refl, ap, subst, arith, chars}
 use Rattle.std.proofs.lemmas.Bool.{cond_both}
 use Rattle.std.proofs.lemmas.Bool.Decides.{nat_tests}
 use Rattle.std.specs.Str.{IsUtf8}
@@ -16,22 +18,30 @@ use Rattle.fancy_grammar.specs.Ahead.{Ahead, nothing, leaf, ahead, ahead_of, beh
 use Rattle.fancy_grammar.specs.Depth.{max_depth, max_levels}
 use Rattle.fancy_grammar.specs.Answer.{IsTreeOf}
 use Rattle.fancy_grammar.specs.Answered.{IsSmall}
-use Rattle.fancy_grammar.specs.Grammar.{Alternation, alternation, Branches, last, more, branch_fault, Branch, branch, Pieces, stop, next, piece_fault, Piece, piece, layout_fault, Atom, atom, AtomOf, a_nothing, a_leaf, a_group, a_condition, condition_fault, a_body, two_branches, one_branch, absent_fault, Inside, inside, Body, the_body, Whole, whole, start, closed, closed_at, ended, ended_at, branches_of, conditional_of, is_condition, clear_or_stopper}
+use Rattle.fancy_grammar.specs.Grammar.{Alternation, alternation, Branches, last, more, branch_fault, Branch, branch}
+use Rattle.fancy_grammar.specs.Grammar.{Pieces, stop, next, piece_fault, Piece, piece, layout_fault, Atom, atom, AtomOf}
+use Rattle.fancy_grammar.specs.Grammar.{a_nothing, a_leaf, a_group, a_condition, condition_fault, a_body, two_branches}
+use Rattle.fancy_grammar.specs.Grammar.{one_branch, absent_fault, Inside, inside, Body, the_body, Whole, whole, start}
+use Rattle.fancy_grammar.specs.Grammar.{closed, closed_at, ended, ended_at, branches_of, conditional_of, is_condition}
+use Rattle.fancy_grammar.specs.Grammar.{clear_or_stopper}
 use Rattle.fancy_grammar.specs.Head.{Head, capture, scope, look, atomic, define, repeater, group_node}
 use Rattle.fancy_grammar.specs.Items.{openings}
 use Rattle.fancy_grammar.specs.Join.{join, choice, solid, is_empty, one_or}
 use Rattle.fancy_grammar.specs.Marks.{Marks}
 use Rattle.fancy_parts.specs.Ranks.{only_named, counted}
 use Rattle.fancy_grammar.specs.Preorder.{preorder, preorder_all}
-use Rattle.fancy_grammar.specs.Quantified.{quants, adjacent, max_adjacent, is_unmoved, quant, quant_at, with_counts, suffix, is_swapped, quantified, is_repeatable, is_dropped}
+use Rattle.fancy_grammar.specs.Quantified.{quants, adjacent, max_adjacent, is_unmoved, quant, quant_at, with_counts}
+use Rattle.fancy_grammar.specs.Quantified.{suffix, is_swapped, quantified, is_repeatable, is_dropped}
 use Rattle.fancy_grammar.specs.Slices.{Within}
 use Rattle.fancy_grammar.specs.State.{skipped, State, at, Outcome, done, fault}
-use Rattle.fancy_grammar.specs.Tree.{Tree, more_trees, empty, concat, alt, absent, expression, trees_of, list_of, nodes, levels}
+use Rattle.fancy_grammar.specs.Tree.{Tree, more_trees, empty, concat, alt, absent, expression, trees_of, list_of, nodes}
+use Rattle.fancy_grammar.specs.Tree.{levels}
 use Rattle.fancy_grammar.specs.Quantified.{Suffix}
 use Rattle.fancy_grammar.proofs.LevelLaws.{size, resolved_size, raw_levels, raw_levels_all, resolved_levels}
 use Rattle.fancy_grammar.proofs.OutcomeLemmas.{Holds, then_holds, behind_keeps}
 use Rattle.fancy_grammar.proofs.ReadLaws.{Makes, IsReadLeaf, ReadAhead, ahead_read}
-use Rattle.fancy_grammar.proofs.Slices.{one_bytes, fits, here, bare, skipped_slice, suffix_slice, counts_past, LeafSlice, AheadSlice, ahead_slice, layout_slice, SkippedSlice, trees_back}
+use Rattle.fancy_grammar.proofs.Slices.{one_bytes, fits, here, bare, skipped_slice, suffix_slice, counts_past}
+use Rattle.fancy_grammar.proofs.Slices.{LeafSlice, AheadSlice, ahead_slice, layout_slice, SkippedSlice, trees_back}
 
 -- ---- what trees count
 
@@ -121,7 +131,8 @@ branches_size (alt (more_trees t ts)) =
     )
 branches_size r = omega arith
 
-branches_levels : (r : Tree) → (raw_levels (branches_of r).0 ≤ raw_levels r) × (raw_levels (branches_of r).1 ≤ max 1 (raw_levels r))
+branches_levels : (r : Tree) → (raw_levels (branches_of r).0 ≤ raw_levels r)
+    × (raw_levels (branches_of r).1 ≤ max 1 (raw_levels r))
 branches_levels (alt (more_trees t ts)) =
     (omega arith, omega (arith, choice_levels (list_of ts), ap raw_levels_all (trees_back ts)))
 branches_levels r = (omega arith, omega arith)
@@ -131,9 +142,11 @@ conditional_size c t f =
     cond_both (is_empty t && is_empty f) _ _ (λ x. size x ≤ size c + (size t + size f) + 1) (λ _. omega arith)
     (λ _. omega (arith, length-append (preorder c) (preorder t ++ preorder f), length-append (preorder t) (preorder f)))
 
-conditional_levels : (c t f : Tree) → raw_levels (conditional_of c t f) ≤ max (raw_levels c) (max (raw_levels t) (raw_levels f)) + 1
+conditional_levels : (c t f : Tree) → raw_levels (conditional_of c t f) ≤ max (raw_levels c)
+    (max (raw_levels t) (raw_levels f)) + 1
 conditional_levels c t f =
-    cond_both (is_empty t && is_empty f) _ _ (λ x. raw_levels x ≤ max (raw_levels c) (max (raw_levels t) (raw_levels f)) + 1)
+    cond_both (is_empty t && is_empty f) _ _
+    (λ x. raw_levels x ≤ max (raw_levels c) (max (raw_levels t) (raw_levels f)) + 1)
     (λ _. omega arith) (λ _. omega arith)
 
 -- a group, and a branch behind `(?~|`
@@ -286,8 +299,10 @@ ahead_below n d s = by_text s.rest
         (λ e. below_at d (behind_layout n s (skipped n (at s t))) (may_open e))) (λ _.
         cond_both (is_before_nothing c) _ _ (OpensBelow d) (λ _. tt) (λ _. tt))
 
--- ---- the bounds of each part, which is read from s at depth d and ends at t; its levels are max_levels, less 13 for each
--- depth: of these an Alt takes one and a Concat one, so that a piece has 830, and its quantifiers ten and a group one, so
+-- ---- the bounds of each part, which is read from s at depth d and ends at t; its levels are max_levels, less 13 for
+-- each
+-- depth: of these an Alt takes one and a Concat one, so that a piece has 830, and its quantifiers ten and a group one,
+-- so
 -- that an atom has 820, and a group's inside 819
 
 -- of an atom, and of one with its quantifiers: an Empty may take no byte
@@ -317,12 +332,14 @@ leaf_fits n d s (done a t) l h i = (omega (arith, h.1, weight_most a, ap length 
 leaf_fits n d s (fault k p) l h i = tt
 
 mutual
-  alternation_fits : {n d : ℕ} {s : State} {o : Outcome Tree} → Alternation n d s o → d < max_depth → Holds (Fills max_levels d s) o
+  alternation_fits : {n d : ℕ} {s : State} {o : Outcome Tree} → Alternation n d s o → d < max_depth →
+      Holds (Fills max_levels d s) o
   alternation_fits (alternation {d} {s} {q} b e) l =
       then_holds (BranchesFit d s) (Fills max_levels d s) q _ (branches_fit b l) e (λ ts v h.
       (omega (arith, some_choice_size ts h.2, h.0), omega (arith, choice_levels ts, h.1)))
 
-  branches_fit : {n d : ℕ} {s : State} {o : Outcome (List Tree)} → Branches n d s o → d < max_depth → Holds (BranchesFit d s) o
+  branches_fit : {n d : ℕ} {s : State} {o : Outcome (List Tree)} → Branches n d s o → d < max_depth →
+      Holds (BranchesFit d s) o
   branches_fit (last b e) l = let h = branch_fits b l in (omega (arith, h.0), omega (arith, h.1), omega arith)
   branches_fit (more {d} {s} {t} {u} {r} {q} b e m f) l =
       let h = branch_fits b l in let past = strip_bytes bar t.rest u e in
@@ -335,7 +352,8 @@ mutual
       then_holds (PiecesFit d s) (Fills 831 d s) q _ (pieces_fit b l) e (λ ts v h.
       (omega (arith, join_size ts, h.0), omega (arith, join_levels ts, h.1)))
 
-  pieces_fit : {n d : ℕ} {s : State} {o : Outcome (List Tree)} → Pieces n d s o → d < max_depth → Holds (PiecesFit d s) o
+  pieces_fit : {n d : ℕ} {s : State} {o : Outcome (List Tree)} → Pieces n d s o → d < max_depth →
+      Holds (PiecesFit d s) o
   pieces_fit (stop e) l = (omega arith, omega (arith, l))
   pieces_fit (next {d} {s} {t} {q} e a m f) l =
       let h = piece_fits a l in
@@ -388,7 +406,8 @@ mutual
       closed_holds (InsideFits d s) n t v (λ z k. (omega (arith, h.0, k), omega (arith, h.1))))
 
   body_fits : {n d : ℕ} {c : Tree} {t : State} {o : Outcome Tree} → Body n d c t o → (s : State) →
-      size c + 2 + 2 * bytes t.rest ≤ 2 * bytes s.rest → raw_levels c + 13 * d ≤ 819 → d + 1 < max_depth → Holds (Fits 820 d s) o
+      size c + 2 + 2 * bytes t.rest ≤ 2 * bytes s.rest → raw_levels c + 13 * d ≤ 819 → d + 1 < max_depth →
+      Holds (Fits 820 d s) o
   body_fits (the_body {n} {d} {c} {s = t} {q} a e) s g h l =
       then_holds (Fills max_levels (d + 1) t) (Fits 820 d s) q _ (alternation_fits a l) e (λ x v i.
       cond_both (bytes v.rest == bytes t.rest && not (is_condition c)) _ _ (Holds (Fits 820 d s)) (λ _. tt) (λ _.

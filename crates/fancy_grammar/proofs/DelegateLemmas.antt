@@ -1,5 +1,6 @@
 -- A Delegate's text, read as a class or an escape.
-use Rattle.std.proofs.Common.{◌≡◌, ℕ, ◌+◌, Bool, true, false, not, List, [], ◌∷◌, Option, Some, None, MatchOption, is_some, Result, Ok, Err, IfOk, chars, length, refl, sym, ap, ◌∙◌, arith}
+use Rattle.std.proofs.Common.{◌≡◌, ℕ, ◌+◌, Bool, true, false, not, List, [], ◌∷◌, Option, Some, None, MatchOption}
+use Rattle.std.proofs.Common.{is_some, Result, Ok, Err, IfOk, chars, length, refl, sym, ap, ◌∙◌, arith}
 use Rattle.std.specs.Borrow.{Bor}
 use Rattle.std.specs.declared.alloc.AllocError.{AllocError}
 use Rattle.std.specs.Char.{len_utf8}
@@ -33,7 +34,8 @@ one_more : (bs : List ℕ) (n : ℕ) → IsUtf8 bs → n ≡ length bs + 1 → n
 one_more bs n u e = e ∙ rw (bytes_chars bs u) (omega arith)
 
 -- whether something is left behind a Delegate, as the code asks it
-whole_left : (o : Option (ℕ × Bor (List ℕ))) (b : Bool) (r : Tree) (v : Text) → true ≡ is_some (whole_of [] r) → is_some o ≡ not b →
+whole_left : (o : Option (ℕ × Bor (List ℕ))) (b : Bool) (r : Tree) (v : Text) → true ≡ is_some (whole_of [] r) →
+    is_some o ≡ not b →
     MatchOption o (v ≡ []) (λ p. v ≡ p.0 ∷ chars p.1.now) → b ≡ is_some (whole_of v r)
 whole_left None true r v class none is = class ∙ ap (λ w. is_some (whole_of w r)) (sym is)
 whole_left (Some p) false r v class none is = ap (λ w. is_some (whole_of w r)) (sym is)
@@ -48,7 +50,8 @@ other_left r (c ∷ v) other = refl
 module _ (bs : List ℕ) (n : ℕ) (f : Flags) (utf8 : IsUtf8 bs) (whole : n ≡ length bs + 1) (is : f ≡ flags_of 0) where
   -- a class under no flags, as a leaf
   class_leaf : class_of (bare false) (open_bracket ∷ chars bs) ≡
-      whole_leaf (leaf_outcome (λ w. delegate w false) (start (bare false) (open_bracket ∷ chars bs)) (class n f (chars bs)))
+      whole_leaf (leaf_outcome (λ w. delegate w false) (start (bare false) (open_bracket ∷ chars bs))
+      (class n f (chars bs)))
   unfolding class_of bytes
   class_leaf = rw (one_more bs n utf8 whole, is) refl
 
@@ -69,27 +72,34 @@ module _ (bs : List ℕ) (n : ℕ) (f : Flags) (utf8 : IsUtf8 bs) (whole : n ≡
   unfolding class_of bytes
   escape_leaf = rw (one_more bs n utf8 whole, is) (grind arith)
 
-  escape_is : (q : Reading Escape) → escape n f false 0 (chars bs) ≡ q → is_some (class_of (bare false) (backslash ∷ chars bs)) ≡
+  escape_is : (q : Reading Escape) → escape n f false 0 (chars bs) ≡ q →
+      is_some (class_of (bare false) (backslash ∷ chars bs)) ≡
       is_some (whole_leaf (leaf_outcome leaf_node (start (bare false) (backslash ∷ chars bs)) q))
   escape_is q e = ap is_some (escape_leaf ∙
       ap (λ q. whole_leaf (leaf_outcome leaf_node (start (bare false) (backslash ∷ chars bs)) q)) e)
 
-  pub escape_read : (x : Escape) (v : Text) (o : Option (ℕ × Bor (List ℕ))) (a b : Bool) → escape n f false 0 (chars bs) ≡ gives x v →
-      a ≡ is_some (whole_of [] (leaf_node x)) → a ≡ true → is_some o ≡ not b → MatchOption o (v ≡ []) (λ p. v ≡ p.0 ∷ chars p.1.now) →
+  pub escape_read : (x : Escape) (v : Text) (o : Option (ℕ × Bor (List ℕ))) (a b : Bool) →
+      escape n f false 0 (chars bs) ≡ gives x v →
+      a ≡ is_some (whole_of [] (leaf_node x)) → a ≡ true → is_some o ≡ not b →
+      MatchOption o (v ≡ []) (λ p. v ≡ p.0 ∷ chars p.1.now) →
       b ≡ is_some (class_of (bare false) (backslash ∷ chars bs))
-  escape_read x v o a b e class is_class none left = whole_left o b (leaf_node x) v (sym is_class ∙ class) none left ∙ sym (escape_is _ e)
+  escape_read x v o a b e class is_class none left = whole_left o b (leaf_node x) v (sym is_class ∙ class) none left
+      ∙ sym (escape_is _ e)
 
   pub escape_other : (x : Escape) (v : Text) (a : Bool) → escape n f false 0 (chars bs) ≡ gives x v →
       a ≡ is_some (whole_of [] (leaf_node x)) → a ≡ false → a ≡ is_some (class_of (bare false) (backslash ∷ chars bs))
-  escape_other x v a e class is_other = is_other ∙ other_left (leaf_node x) v (sym is_other ∙ class) ∙ sym (escape_is _ e)
+  escape_other x v a e class is_other = is_other ∙ other_left (leaf_node x) v (sym is_other ∙ class)
+      ∙ sym (escape_is _ e)
 
   pub escape_faulty : (e : Fault) → escape n f false 0 (chars bs) ≡ fails e →
       false ≡ is_some (class_of (bare false) (backslash ∷ chars bs))
   escape_faulty e h = sym (escape_is _ h)
 
 -- the answer where a reading failed, unless memory ran out
-pub failed : {A : Type 0} (r : Result Bool AllocError) (error : Error) (o : Reading A) (x : Bool) → IfOk r (λ b. b ≡ false) →
-    IfOk r (λ _. error ≡ OutOfMemory → ⊥) → Fails error o → ((e : Fault) → o ≡ fails e → false ≡ x) → IfOk r (λ b. b ≡ x)
+pub failed : {A : Type 0} (r : Result Bool AllocError) (error : Error) (o : Reading A) (x : Bool) →
+    IfOk r (λ b. b ≡ false) →
+    IfOk r (λ _. error ≡ OutOfMemory → ⊥) → Fails error o → ((e : Fault) → o ≡ fails e → false ≡ x) →
+    IfOk r (λ b. b ≡ x)
 failed (Ok b) (ParseError p k) o x is in_memory f faulty = is ∙ faulty (record { place = p; kind = kind_of k }) f
 failed (Ok b) OutOfMemory o x is in_memory f faulty = absurd (in_memory refl)
 failed (Err m) error o x is in_memory f faulty = tt
@@ -104,7 +114,8 @@ pub none_of_others : (bs r : List ℕ) (c : ℕ) → chars bs ≡ c ∷ chars r 
 unfolding class_of
 none_of_others bs r c is other = rw (is, other) refl
 
-pub one_shorter : (s r : List ℕ) (c : ℕ) → IsUtf8 s → IsUtf8 r → chars s ≡ c ∷ chars r → len_utf8 c ≡ 1 → length s ≡ length r + 1
+pub one_shorter : (s r : List ℕ) (c : ℕ) → IsUtf8 s → IsUtf8 r → chars s ≡ c ∷ chars r → len_utf8 c ≡ 1 →
+    length s ≡ length r + 1
 unfolding bytes
 one_shorter s r c u v is one = sym (bytes_chars s u) ∙ rw (is, one, bytes_chars r v) (omega arith)
 

@@ -7,7 +7,8 @@ use Rattle.fancy_lex.specs.declared.error.Error.{Error}
 use Rattle.fancy_grammar.specs.Fails.{IsErrorAt}
 
 module _ (e : Error) (p : ℕ) where
-  pub says_close_paren : IsErrorAt e (general_parse_error (chars close_paren_expected)) p → IsErrorAt e (general_parse_error close_paren_expected) p
+  pub says_close_paren : IsErrorAt e (general_parse_error (chars close_paren_expected)) p →
+      IsErrorAt e (general_parse_error close_paren_expected) p
   unfolding chars
   says_close_paren h = h
 
@@ -16,6 +17,7 @@ module _ (e : Error) (p : ℕ) where
   unfolding chars
   says_end h = h
 
-  pub says_no_body : IsErrorAt e (general_parse_error (chars body_expected)) p → IsErrorAt e (general_parse_error body_expected) p
+  pub says_no_body : IsErrorAt e (general_parse_error (chars body_expected)) p →
+      IsErrorAt e (general_parse_error body_expected) p
   unfolding chars
   says_no_body h = h

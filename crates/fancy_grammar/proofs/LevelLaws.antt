@@ -1,5 +1,6 @@
 -- Resolving takes nodes away, and adds neither a node nor a level.
-use Rattle.std.proofs.Common.{◌≡◌, ℕ, ℤ, suc, ◌+◌, ◌≤◌, max, Bool, List, [], ◌∷◌, ◌++◌, length, length-append, Option, Some, None, filter, refl, ap, arith}
+use Rattle.std.proofs.Common.{◌≡◌, ℕ, ℤ, suc, ◌+◌, ◌≤◌, max, Bool, List, [], ◌∷◌, ◌++◌, length, length-append, Option}
+use Rattle.std.proofs.Common.{Some, None, filter, refl, ap, arith}
 use Rattle.std.proofs.lemmas.Bool.{cond_both}
 use Rattle.std.proofs.lemmas.List.{length-map}
 use Rattle.fancy_lex.specs.Target.{Target}
@@ -7,7 +8,10 @@ use Rattle.fancy_parts.specs.Meaning.{Meaning, number, unresolved, faulty, means
 use Rattle.fancy_parts.specs.Ranks.{Opening, is_counted, numbers, opened_before}
 use Rattle.fancy_grammar.specs.Preorder.{preorder, preorder_all, preorder_absent}
 use Rattle.fancy_grammar.specs.Resolved.{resolved_in, resolved_all, resolved_absent, reference_node}
-use Rattle.fancy_grammar.specs.Tree.{Tree, Trees, no_trees, more_trees, concat, alt, group, look_around, repeat, atomic_group, conditional, absent, define_group, ast_node, AbsentTree, repeater, expression, stopper, clear, ast_group, ast_backref, ast_call, ast_condition, nodes, nodes_all, nodes_absent, levels, levels_all, levels_absent}
+use Rattle.fancy_grammar.specs.Tree.{Tree, Trees, no_trees, more_trees, concat, alt, group, look_around, repeat}
+use Rattle.fancy_grammar.specs.Tree.{atomic_group, conditional, absent, define_group, ast_node, AbsentTree, repeater}
+use Rattle.fancy_grammar.specs.Tree.{expression, stopper, clear, ast_group, ast_backref, ast_call, ast_condition, nodes}
+use Rattle.fancy_grammar.specs.Tree.{nodes_all, nodes_absent, levels, levels_all, levels_absent}
 use Rattle.fancy_grammar.proofs.PreorderLaws.{is_kept, resolved_nodes}
 
 -- ---- nodes

@@ -1,5 +1,6 @@
 -- The numbers of a name ascend, and they are those of the groups that carry it.
-use Rattle.std.proofs.Common.{◌≡◌, ℕ, zero, suc, ◌+◌, ◌<◌, ◌≤◌, ◌==◌, Bool, true, false, if◌then◌else◌, List, [], ◌∷◌, length, Option, Some, None, map, filter_map, refl, subst, arith}
+use Rattle.std.proofs.Common.{◌≡◌, ℕ, zero, suc, ◌+◌, ◌<◌, ◌≤◌, ◌==◌, Bool, true, false, if◌then◌else◌, List, [], ◌∷◌}
+use Rattle.std.proofs.Common.{length, Option, Some, None, map, filter_map, refl, subst, arith}
 use Rattle.std.proofs.lemmas.Bool.Decides.{nat_tests}
 use Rattle.std.proofs.lemmas.Slice.Eq.{bytes_eq-Decides}
 use Rattle.std.specs.BTreeSet.{insert_key}
@@ -20,14 +21,15 @@ ascend_below j k n (m ∷ l) h (a, b, c) = (omega (arith, h, a), b, c)
 
 ascend_from : (n : ℕ) (w : Text) (l : List Opening) → Ascend n (n + length l) (numbers_from n w l)
 ascend_from n w [] = tt
-ascend_from n w (o ∷ l) = by_test (is_name w o.name) (subst (λ m. Ascend (n + 1) m (numbers_from (n + 1) w l)) same (ascend_from (n + 1) w l)) where
-  same : n + 1 + length l ≡ n + suc (length l)
-  same = omega arith
+ascend_from n w (o ∷ l) = by_test (is_name w o.name)
+    (subst (λ m. Ascend (n + 1) m (numbers_from (n + 1) w l)) same (ascend_from (n + 1) w l)) where
+      same : n + 1 + length l ≡ n + suc (length l)
+      same = omega arith
 
-  by_test : (b : Bool) → Ascend (n + 1) (n + suc (length l)) (numbers_from (n + 1) w l) →
-      Ascend n (n + suc (length l)) (if b then (n + 1) ∷ numbers_from (n + 1) w l else numbers_from (n + 1) w l)
-  by_test true h = (omega arith, omega arith, h)
-  by_test false h = ascend_below n (n + 1) (n + suc (length l)) (numbers_from (n + 1) w l) (omega arith) h
+      by_test : (b : Bool) → Ascend (n + 1) (n + suc (length l)) (numbers_from (n + 1) w l) →
+          Ascend n (n + suc (length l)) (if b then (n + 1) ∷ numbers_from (n + 1) w l else numbers_from (n + 1) w l)
+      by_test true h = (omega arith, omega arith, h)
+      by_test false h = ascend_below n (n + 1) (n + suc (length l)) (numbers_from (n + 1) w l) (omega arith) h
 
 -- ---- a name has some
 
@@ -44,7 +46,8 @@ carried_later o l w h n = by_test (is_name w o.name) where
   by_test true = omega arith
   by_test false = h (n + 1)
 
-all_later : (o : Opening) (l : List Opening) (ws : List Text) → AllByRecursion (Carried l) ws → AllByRecursion (Carried (o ∷ l)) ws
+all_later : (o : Opening) (l : List Opening) (ws : List Text) → AllByRecursion (Carried l) ws →
+    AllByRecursion (Carried (o ∷ l)) ws
 all_later o l [] h = tt
 all_later o l (w ∷ ws) (h, hs) = (carried_later o l w h, all_later o l ws hs)
 
@@ -66,7 +69,8 @@ module _ (P : Text → Type 0) where
     by_order Equal more = (a, hs)
     by_order Greater more = (a, more)
 
-  fold_all : (us ws : List Text) → AllByRecursion P us → AllByRecursion P ws → AllByRecursion P (fold (insert_key name_cmp) us ws)
+  fold_all : (us ws : List Text) → AllByRecursion P us → AllByRecursion P ws →
+      AllByRecursion P (fold (insert_key name_cmp) us ws)
   fold_all us [] h hs = h
   fold_all us (w ∷ ws) h (a, hs) = fold_all (insert_key name_cmp us w) ws (insert_all w us a h) hs
 
@@ -77,7 +81,8 @@ named_ascend l = each (names l) (fold_all (Carried l) [] (filter_map (λ o. o.na
   each [] h = tt
   each (w ∷ ws) (h, hs) = ((h 0, ascend w), each ws hs) where
     ascend : (w : Text) → Ascend 0 (length l) (numbers w l)
-    ascend w = let same : 0 + length l ≡ length l = omega arith in subst (λ m. Ascend 0 m (numbers w l)) same (ascend_from 0 w l)
+    ascend w = let same : 0 + length l ≡ length l = omega arith in
+        subst (λ m. Ascend 0 m (numbers w l)) same (ascend_from 0 w l)
 
 -- ---- and are those of its groups
 
@@ -98,25 +103,29 @@ number_from n zero w (o ∷ l) = by_test (is_name w o.name) where
     by_later true e = let other : (m + 1 == n + 1) ≡ false = grind (arith, nat_tests) in rw (other, e) refl
     by_later false e = e
 
-  by_test : (b : Bool) → list_any (λ j. j == n + 1) (if b then (n + 1) ∷ numbers_from (n + 1) w l else numbers_from (n + 1) w l) ≡ b
+  by_test : (b : Bool) → list_any (λ j. j == n + 1)
+      (if b then (n + 1) ∷ numbers_from (n + 1) w l else numbers_from (n + 1) w l) ≡ b
   by_test true = let here : (n + 1 == n + 1) ≡ true = grind (arith, nat_tests) in rw here refl
   by_test false = none_later (n + 1) l (omega arith)
 number_from n (suc k) w (o ∷ l) = by_test (is_name w o.name) (number_from (n + 1) k w l) where
   by_test : (b : Bool) → list_any (λ j. j == n + 1 + suc k) (numbers_from (n + 1) w l) ≡ carries w (slice_get l k) →
       list_any (λ j. j == n + suc (suc k)) (if b then (n + 1) ∷ numbers_from (n + 1) w l else numbers_from (n + 1) w l)
       ≡ carries w (slice_get l k)
-  by_test b e = by b (subst (λ m. list_any (λ j. j == m) (numbers_from (n + 1) w l) ≡ carries w (slice_get l k)) same e) where
-    same : n + 1 + suc k ≡ n + suc (suc k)
-    same = omega arith
+  by_test b e = by b (subst (λ m. list_any (λ j. j == m) (numbers_from (n + 1) w l) ≡ carries w (slice_get l k)) same e)
+    where
+      same : n + 1 + suc k ≡ n + suc (suc k)
+      same = omega arith
 
-    by : (b : Bool) → list_any (λ j. j == n + suc (suc k)) (numbers_from (n + 1) w l) ≡ carries w (slice_get l k) →
-        list_any (λ j. j == n + suc (suc k)) (if b then (n + 1) ∷ numbers_from (n + 1) w l else numbers_from (n + 1) w l)
-        ≡ carries w (slice_get l k)
-    by true e = let other : (n + 1 == n + suc (suc k)) ≡ false = grind (arith, nat_tests) in rw (other, e) refl
-    by false e = e
+      by : (b : Bool) → list_any (λ j. j == n + suc (suc k)) (numbers_from (n + 1) w l) ≡ carries w (slice_get l k) →
+          list_any (λ j. j == n + suc (suc k))
+          (if b then (n + 1) ∷ numbers_from (n + 1) w l else numbers_from (n + 1) w l)
+          ≡ carries w (slice_get l k)
+      by true e = let other : (n + 1 == n + suc (suc k)) ≡ false = grind (arith, nat_tests) in rw (other, e) refl
+      by false e = e
 
 -- k + 1 is a number of the name where the group behind the first k carries it
-pub number_carried : (w : Text) (k : ℕ) (l : List Opening) → list_any (λ j. j == suc k) (numbers w l) ≡ carries w (slice_get l k)
+pub number_carried : (w : Text) (k : ℕ) (l : List Opening) →
+    list_any (λ j. j == suc k) (numbers w l) ≡ carries w (slice_get l k)
 number_carried w k l =
     let same : 0 + suc k ≡ suc k = omega arith in
     subst (λ m. list_any (λ j. j == m) (numbers w l) ≡ carries w (slice_get l k)) same (number_from 0 k w l)

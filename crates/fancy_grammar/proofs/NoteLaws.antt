@@ -74,7 +74,8 @@ noted_fault k g s (opening o ∷ l) n h = noted_fault k g (note_item k s (openin
 noted_fault k g s (reference r ∷ l) n h =
     noted_fault k g (note_item k s (reference r)) l n h.1 ∙ else_assoc s.fault _ _
     ∙ ap (λ o. or_else s.fault o) (
-    fault_first (means (numbers_under k.groups.names) s.passed r.role r.target) r.place (first_fault g (references_in l))
+    fault_first (means (numbers_under k.groups.names) s.passed r.role r.target) r.place
+    (first_fault g (references_in l))
     ∙ ap (λ m. fault_or m r.place (first_fault g (references_in l))) (same_meaning k g s r n h.0)
     )
 

@@ -53,7 +53,8 @@ fault_here P unresolved place other x h i e = i e
 fault_here P (faulty k) place other x h i e =
     let same : record { place = place; kind = k } ≡ x = cc in subst (λ (y : Fault). P y.place) same h
 
-pub fault_place : (P : ℕ → Type 0) (g : List Opening) (l : List Item) (x : Fault) → AllByRecursion (λ i. P (place_of_item i)) l →
+pub fault_place : (P : ℕ → Type 0) (g : List Opening) (l : List Item) (x : Fault) →
+    AllByRecursion (λ i. P (place_of_item i)) l →
     first_fault g (references_in l) ≡ Some x → P x.place
 fault_place P g [] x a e = absurd cc
 fault_place P g (opening o ∷ l) x a e = fault_place P g l x a.1 e

@@ -1,5 +1,6 @@
 -- How what a part comes to is what the whole comes to.
-use Rattle.std.proofs.Common.{◌≡◌, ℕ, Bool, true, false, if◌then◌else◌, List, [], ◌∷◌, ◌++◌, Some, refl, ap, subst, append_assoc}
+use Rattle.std.proofs.Common.{◌≡◌, ℕ, Bool, true, false, if◌then◌else◌, List, [], ◌∷◌, ◌++◌, Some, refl, ap, subst}
+use Rattle.std.proofs.Common.{append_assoc}
 use Rattle.fancy_lex.specs.Fault.{Kind}
 use Rattle.fancy_lex.specs.Text.{Text, strip}
 use Rattle.fancy_lex.specs.declared.error.Error.{Error}
@@ -7,7 +8,8 @@ use Rattle.fancy_lex.specs.declared.error.Error.TheVariants.{ParseError, OutOfMe
 use Rattle.fancy_lex.specs.Characters.{bar}
 use Rattle.fancy_lex.specs.declared.flags.Flags.{Flags}
 use Rattle.fancy_grammar.specs.Ahead.{Ahead, nothing, leaf, with_head, condition, body, absent_branch}
-use Rattle.fancy_grammar.specs.Grammar.{trees_before, restored, behind_atom, Branch, Branches, more, Piece, Pieces, next}
+use Rattle.fancy_grammar.specs.Grammar.{trees_before, restored, behind_atom, Branch, Branches, more, Piece, Pieces}
+use Rattle.fancy_grammar.specs.Grammar.{next}
 use Rattle.fancy_grammar.specs.Join.{is_empty, solid}
 use Rattle.fancy_grammar.specs.Fails.{Fails, IsErrorAt}
 use Rattle.fancy_grammar.specs.State.{ends, State, at, Outcome, done, fault, and_then}
@@ -48,18 +50,21 @@ pub Fails-map : {A B : Type 0} (P : Outcome A → Type 0) (Q : Outcome B → Typ
 Fails-map P Q (ParseError p k) f h = f _ p h
 Fails-map P Q OutOfMemory f h = tt
 
-pub Fails-is : {A : Type 0} (P : Outcome A → Type 0) (e : Error) (k : Kind) (p : ℕ) → IsErrorAt e k p → P (fault k p) → Fails e P
+pub Fails-is : {A : Type 0} (P : Outcome A → Type 0) (e : Error) (k : Kind) (p : ℕ) → IsErrorAt e k p → P (fault k p) →
+    Fails e P
 Fails-is P (ParseError q j) k p h d = rw (h.0, h.1) d
 Fails-is P OutOfMemory k p h d = tt
 
-pub at_done : {A : Type 0} (P : Outcome A → Type 0) {a b : A} {s t : State} → b ≡ a → t ≡ s → P (done a s) → P (done b t)
+pub at_done : {A : Type 0} (P : Outcome A → Type 0) {a b : A} {s t : State} → b ≡ a → t ≡ s → P (done a s) →
+    P (done b t)
 at_done P e f h = rw (e, f) h
 
 pub before-nil : (o : Outcome (List Tree)) → trees_before [] o ≡ o
 before-nil (done l s) = refl
 before-nil (fault k p) = refl
 
-pub before-push : (l : List Tree) (r : Tree) (o : Outcome (List Tree)) → trees_before (l ++ r ∷ []) o ≡ trees_before l (trees_before (r ∷ []) o)
+pub before-push : (l : List Tree) (r : Tree) (o : Outcome (List Tree)) →
+    trees_before (l ++ r ∷ []) o ≡ trees_before l (trees_before (r ∷ []) o)
 before-push l r (done m s) = ap (λ n. done n s) (append_assoc l (r ∷ []) m)
 before-push l r (fault k p) = refl
 
@@ -72,10 +77,12 @@ solid-append (r ∷ l) m = by_test (is_empty r) (solid-append l m)
     by_test true h = h
     by_test false h = ap (λ x. r ∷ x) h
 
-pub more_any : {n d : ℕ} {s t : State} {u : Text} {r : Tree} (o : Outcome (List Tree)) → Branch n d s (done r t) → strip bar t.rest ≡ Some u →
+pub more_any : {n d : ℕ} {s t : State} {u : Text} {r : Tree} (o : Outcome (List Tree)) → Branch n d s (done r t) →
+    strip bar t.rest ≡ Some u →
     Branches n d (at t u) o → Branches n d s (trees_before (r ∷ []) o)
 more_any o b e m = more b e m refl
 
-pub next_any : {n d : ℕ} {s t : State} {r : Tree} (o : Outcome (List Tree)) → ends s.rest ≡ false → Piece n d s (done r t) → Pieces n d t o →
+pub next_any : {n d : ℕ} {s t : State} {r : Tree} (o : Outcome (List Tree)) → ends s.rest ≡ false →
+    Piece n d s (done r t) → Pieces n d t o →
     Pieces n d s (trees_before (r ∷ []) o)
 next_any o e a m = next e a m refl

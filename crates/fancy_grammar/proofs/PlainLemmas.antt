@@ -1,5 +1,6 @@
 -- A plain character is a piece.
-use Rattle.std.proofs.Common.{◌≡◌, if◌then◌else◌, zero, suc, ℕ, Bool, true, false, ◌==◌, [], ◌∷◌, None, refl, sym, subst, ◌∙◌, ap, arith, tests, rules}
+use Rattle.std.proofs.Common.{◌≡◌, if◌then◌else◌, zero, suc, ℕ, Bool, true, false, ◌==◌, [], ◌∷◌, None, refl, sym}
+use Rattle.std.proofs.Common.{subst, ◌∙◌, ap, arith, tests, rules}
 use Rattle.std.proofs.lemmas.Bool.Decides.{nat_tests}
 use Prim.Native.Char.{code}
 use Rattle.fancy_lex.specs.Layout.{layout, layout_from, is_blank, is_layout, rest}
@@ -29,7 +30,8 @@ not_blank c e = grind (arith, nat_tests)
 not_paren : (c : ℕ) → is_suffix c ≡ false → (c == code "(") ≡ false
 not_paren c e = grind (arith, nat_tests)
 
-no_layout : (n c : ℕ) (x : Bool) (t : Text) → (c == code "(") ≡ false → is_layout x c ≡ false → layout n x (c ∷ t) ≡ rest (c ∷ t)
+no_layout : (n c : ℕ) (x : Bool) (t : Text) → (c == code "(") ≡ false → is_layout x c ≡ false →
+    layout n x (c ∷ t) ≡ rest (c ∷ t)
 unfolding layout_from
 no_layout n c false t e h = rw e refl
 no_layout n c true t e h = rw (e, not_hash c h, not_blank c h) refl
@@ -37,7 +39,8 @@ no_layout n c true t e h = rw (e, not_hash c h, not_blank c h) refl
 no_end : (c : ℕ) (t : Text) → is_special c ≡ false → ends (c ∷ t) ≡ false
 no_end c t e = grind (arith, nat_tests)
 
-is_leaf : (n d c : ℕ) (s : State) (t : Text) → is_special c ≡ false → ahead n d (at s (c ∷ t)) ≡ leaf (done (literal (c ∷ []) s.flags.casei) (at s t))
+is_leaf : (n d c : ℕ) (s : State) (t : Text) → is_special c ≡ false →
+    ahead n d (at s (c ∷ t)) ≡ leaf (done (literal (c ∷ []) s.flags.casei) (at s t))
 unfolding ahead
 is_leaf n d c s t e = grind (arith, nat_tests)
 
@@ -45,9 +48,11 @@ no_counts : (c : ℕ) (x : Bool) (t : Text) → is_suffix c ≡ false → ◌≡
 unfolding counts
 no_counts c x t e = grind (arith, nat_tests)
 
-no_quant : (n left c : ℕ) (a : Tree) (s : State) (t : Text) → is_layout s.flags.ignore_space c ≡ false → is_suffix c ≡ false → quant n left a (at s (c ∷ t)) ≡ done a (at s (c ∷ t))
+no_quant : (n left c : ℕ) (a : Tree) (s : State) (t : Text) → is_layout s.flags.ignore_space c ≡ false →
+    is_suffix c ≡ false → quant n left a (at s (c ∷ t)) ≡ done a (at s (c ∷ t))
 unfolding quant
-no_quant n left c a s t x e = rw (no_layout n c s.flags.ignore_space t (not_paren c e) x, no_counts c s.flags.ignore_space t e) refl
+no_quant n left c a s t x e =
+    rw (no_layout n c s.flags.ignore_space t (not_paren c e) x, no_counts c s.flags.ignore_space t e) refl
 
 no_layout_at_end : (n : ℕ) (x : Bool) → layout n x [] ≡ rest []
 unfolding layout_from
@@ -67,7 +72,8 @@ no_adjacent zero n d a s e = rw (e (bytes s.rest), unmoved s) refl
 no_adjacent (suc k) n d a s e = rw (e (bytes s.rest), unmoved s) refl
 
 -- where one quantifier does not follow, none does
-no_quants : (n d left : ℕ) (a : Tree) (s : State) → ((l : ℕ) → quant n l a s ≡ done a s) → quants n d left a s ≡ done a s
+no_quants : (n d left : ℕ) (a : Tree) (s : State) → ((l : ℕ) → quant n l a s ≡ done a s) →
+    quants n d left a s ≡ done a s
 no_quants n d left a s e =
     ap (λ o. and_then o (λ b z. if z.flags.oniguruma_mode then adjacent max_adjacent n d b z else done b z)) (e left)
     ∙ either s.flags.oniguruma_mode (no_adjacent max_adjacent n d a s e)
@@ -78,16 +84,21 @@ no_quants n d left a s e =
 
 pub unquantified_at_end : (s : State) (n d left : ℕ) (a : Tree) → s.rest ≡ [] → quants n d left a s ≡ done a s
 unquantified_at_end s n d left a e =
-    subst (λ t. quants n d left a (at s t) ≡ done a (at s t)) (sym e) (no_quants n d left a (at s []) (λ l. no_quant_at_end n l a s))
+    subst (λ t. quants n d left a (at s t) ≡ done a (at s t)) (sym e)
+    (no_quants n d left a (at s []) (λ l. no_quant_at_end n l a s))
 
 pub unquantified : (s : State) (c : ℕ) (t : Text) (n d left : ℕ) (a : Tree) → s.rest ≡ c ∷ t →
     is_layout s.flags.ignore_space c ≡ false → is_suffix c ≡ false → quants n d left a s ≡ done a s
 unquantified s c t n d left a e x h =
-    subst (λ u. quants n d left a (at s u) ≡ done a (at s u)) (sym e) (no_quants n d left a (at s (c ∷ t)) (λ l. no_quant n l c a s t x h))
+    subst (λ u. quants n d left a (at s u) ≡ done a (at s u)) (sym e)
+    (no_quants n d left a (at s (c ∷ t)) (λ l. no_quant n l c a s t x h))
 
-pub is_plain : (s : State) (c d : ℕ) (t u : Text) → is_layout s.flags.ignore_space c ≡ false → is_layout s.flags.ignore_space d ≡ false →
+pub is_plain : (s : State) (c d : ℕ) (t u : Text) → is_layout s.flags.ignore_space c ≡ false →
+    is_layout s.flags.ignore_space d ≡ false →
     s.rest ≡ c ∷ t → t ≡ d ∷ u → is_special c ≡ false → is_suffix d ≡ false → IsPlain s c t
 is_plain s c d t u x y e f h k = record {
   more = ap ends e ∙ no_end c t h;
-  piece = λ m b. piece (rw e (no_layout m c s.flags.ignore_space t (not_open c h) x)) (atom (is_leaf m b c s t h) a_leaf refl) (rw f (no_quants m b _ _ (at s (d ∷ u)) (λ l. no_quant m l d _ s u y k)));
+  piece = λ m b. piece (rw e (no_layout m c s.flags.ignore_space t (not_open c h) x))
+      (atom (is_leaf m b c s t h) a_leaf refl)
+      (rw f (no_quants m b _ _ (at s (d ∷ u)) (λ l. no_quant m l d _ s u y k)));
 }

@@ -17,7 +17,9 @@ use Rattle.fancy_lex.specs.Text.{Text}
 use Rattle.fancy_lex.specs.declared.flags.Flags.{Flags}
 use Rattle.fancy_parts.proofs.LetterRelation.{flag_group_reads, flag_group_is}
 use Rattle.fancy_parts.specs.FlagLetters.{FlagGroup}
-use Rattle.fancy_grammar.specs.Premises.{LayoutIsRelated, ClassIsRelated, LettersAreRelated, BoundaryIsRelated, HexIsRelated, NumberIsRelated, NumberTextIsRelated, NameIsRelated, IdReferenceIsRelated}
+use Rattle.fancy_grammar.specs.Premises.{LayoutIsRelated, ClassIsRelated, LettersAreRelated, BoundaryIsRelated}
+use Rattle.fancy_grammar.specs.Premises.{HexIsRelated, NumberIsRelated, NumberTextIsRelated, NameIsRelated}
+use Rattle.fancy_grammar.specs.Premises.{IdReferenceIsRelated}
 
 pub layout_related : LayoutIsRelated
 layout_related n x t = (
@@ -27,7 +29,8 @@ layout_related n x t = (
 
 -- by what the class comes to
 module _ (n : ℕ) (f : Flags) (t : Text) where
-  class_read : (out v : Text) → class n f t ≡ gives out v → (o : Outcome) × Class n f false t o → StartsWithClass n f t v out
+  class_read : (out v : Text) → class n f t ≡ gives out v → (o : Outcome) × Class n f false t o →
+      StartsWithClass n f t v out
   class_read out v e (written w a u, h) =
       let both = sym (class_complete n f t _ h) ∙ e in
       let same : w ≡ out = cc in

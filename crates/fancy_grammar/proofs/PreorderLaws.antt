@@ -1,5 +1,6 @@
 -- Resolving keeps the nodes of a raw tree in their order, and its items are those of its nodes.
-use Rattle.std.proofs.Common.{◌≡◌, ℕ, ℤ, Bool, true, false, if◌then◌else◌, List, [], ◌∷◌, ◌++◌, Option, Some, None, filter, filter_map, map, refl, sym, ap, ◌∙◌}
+use Rattle.std.proofs.Common.{◌≡◌, ℕ, ℤ, Bool, true, false, if◌then◌else◌, List, [], ◌∷◌, ◌++◌, Option, Some, None}
+use Rattle.std.proofs.Common.{filter, filter_map, map, refl, sym, ap, ◌∙◌}
 use Rattle.std.proofs.lemmas.List.{map-append}
 use Rattle.std.proofs.lemmas.List.Elements.{filter-append, filter_map-append}
 use Rattle.fancy_lex.specs.Text.{Text}
@@ -9,7 +10,9 @@ use Rattle.fancy_parts.specs.Ranks.{Opening, is_counted, numbers, opened_before}
 use Rattle.fancy_grammar.specs.Items.{Item, opening, reference, items, items_all, items_absent}
 use Rattle.fancy_grammar.specs.Preorder.{preorder, preorder_all, preorder_absent}
 use Rattle.fancy_grammar.specs.Resolved.{resolved_in, resolved_all, resolved_absent, group_or_inside, reference_node}
-use Rattle.fancy_grammar.specs.Tree.{Tree, Trees, no_trees, more_trees, concat, alt, group, look_around, repeat, atomic_group, conditional, absent, define_group, ast_node, AbsentTree, repeater, expression, stopper, clear, ast_group, ast_backref, ast_call, ast_condition}
+use Rattle.fancy_grammar.specs.Tree.{Tree, Trees, no_trees, more_trees, concat, alt, group, look_around, repeat}
+use Rattle.fancy_grammar.specs.Tree.{atomic_group, conditional, absent, define_group, ast_node, AbsentTree, repeater}
+use Rattle.fancy_grammar.specs.Tree.{expression, stopper, clear, ast_group, ast_backref, ast_call, ast_condition}
 
 -- ---- the nodes that resolving keeps
 
@@ -20,13 +23,15 @@ is_kept named _ = true
 
 -- a reference that is resolved is one node
 one_backref : (m : Meaning) (t : Target) (casei : Bool) (level : Option ℤ) (place : ℕ) →
-    preorder (reference_node m (ast_backref t casei level) place) ≡ reference_node m (ast_backref t casei level) place ∷ []
+    preorder (reference_node m (ast_backref t casei level) place) ≡ reference_node m (ast_backref t casei level)
+    place ∷ []
 one_backref (number n) t casei None place = refl
 one_backref (number n) t casei (Some level) place = refl
 one_backref unresolved t casei level place = refl
 one_backref (faulty k) t casei level place = refl
 
-one_call : (m : Meaning) (t : Target) (place : ℕ) → preorder (reference_node m (ast_call t) place) ≡ reference_node m (ast_call t) place ∷ []
+one_call : (m : Meaning) (t : Target) (place : ℕ) →
+    preorder (reference_node m (ast_call t) place) ≡ reference_node m (ast_call t) place ∷ []
 one_call (number n) t place = refl
 one_call unresolved t place = refl
 one_call (faulty k) t place = refl
@@ -57,10 +62,12 @@ module _ (named : Bool) (g : List Opening) where
       let node = ast_node (ast_group name t) place in
       ap (λ l. group (resolved_in named g t) ∷ l) h
       ∙ ap (λ b. group_or_inside b (resolved_in named g t) ∷ kept (preorder t)) (sym e)
-      ∙ ap (λ b. map (resolved_in named g) (if b then node ∷ filter (is_kept named) (preorder t) else filter (is_kept named) (preorder t))) (sym e)
+      ∙ ap (λ b. map (resolved_in named g)
+      (if b then node ∷ filter (is_kept named) (preorder t) else filter (is_kept named) (preorder t))) (sym e)
   group_kept name t place false e h =
       let node = ast_node (ast_group name t) place in
-      h ∙ ap (λ b. map (resolved_in named g) (if b then node ∷ filter (is_kept named) (preorder t) else filter (is_kept named) (preorder t))) (sym e)
+      h ∙ ap (λ b. map (resolved_in named g)
+      (if b then node ∷ filter (is_kept named) (preorder t) else filter (is_kept named) (preorder t))) (sym e)
 
   mutual
     pub resolved_nodes : (t : Tree) → preorder (resolved_in named g t) ≡ kept (preorder t)
@@ -73,7 +80,8 @@ module _ (named : Bool) (g : List Opening) where
     resolved_nodes (atomic_group t) = ap (λ l. atomic_group (resolved_in named g t) ∷ l) (resolved_nodes t)
     resolved_nodes (conditional c t f) =
         ap (λ l. resolved_in named g (conditional c t f) ∷ l)
-        (two (preorder c) (preorder t ++ preorder f) (resolved_nodes c) (two (preorder t) (preorder f) (resolved_nodes t) (resolved_nodes f)))
+        (two (preorder c) (preorder t ++ preorder f) (resolved_nodes c)
+        (two (preorder t) (preorder f) (resolved_nodes t) (resolved_nodes f)))
     resolved_nodes (absent a) = ap (λ l. absent (resolved_absent named g a) ∷ l) (absent_nodes a)
     resolved_nodes (define_group t) = ap (λ l. define_group (resolved_in named g t) ∷ l) (resolved_nodes t)
     resolved_nodes (ast_node (ast_group name t) place) =
@@ -121,7 +129,8 @@ mutual
   items_of_nodes (repeat t lo hi greedy) = items_of_nodes t
   items_of_nodes (atomic_group t) = items_of_nodes t
   items_of_nodes (conditional c t f) =
-      both_items (preorder c) (preorder t ++ preorder f) (items_of_nodes c) (both_items (preorder t) (preorder f) (items_of_nodes t) (items_of_nodes f))
+      both_items (preorder c) (preorder t ++ preorder f) (items_of_nodes c)
+      (both_items (preorder t) (preorder f) (items_of_nodes t) (items_of_nodes f))
   items_of_nodes (absent a) = absent_items a
   items_of_nodes (define_group t) = items_of_nodes t
   items_of_nodes (ast_node (ast_group name t) place) =

@@ -1,5 +1,6 @@
 -- What a printable tree is, and when a normal form is Empty.
-use Rattle.std.proofs.Common.{◌≡◌, Bool, true, false, ◌&&◌, if◌then◌else◌, List, [], ◌∷◌, map, Result, Ok, Err, IfOk, refl, sym, ap₂, ◌∙◌}
+use Rattle.std.proofs.Common.{◌≡◌, Bool, true, false, ◌&&◌, if◌then◌else◌, List, [], ◌∷◌, map, Result, Ok, Err, IfOk}
+use Rattle.std.proofs.Common.{refl, sym, ap₂, ◌∙◌}
 use Rattle.std.specs.List.{list_all}
 use Rattle.std.specs.declared.alloc.AllocError.{AllocError}
 use Rattle.std.specs.Cmp.{first_so, second_so}
@@ -10,7 +11,8 @@ use Rattle.fancy_grammar.specs.Join.{is_empty, solid, one_or, join}
 use Rattle.fancy_grammar.specs.Normal.{character, pieces_of, normal, normal_pieces}
 use Rattle.fancy_grammar.specs.Printable.{printable, all_printable}
 use Rattle.fancy_grammar.specs.Printed.{has_text, all_have_text}
-use Rattle.fancy_grammar.specs.Tree.{Tree, Trees, no_trees, more_trees, empty, any, assertion, literal, concat, alt, group, repeat, delegate, define_group}
+use Rattle.fancy_grammar.specs.Tree.{Tree, Trees, no_trees, more_trees, empty, any, assertion, literal, concat, alt}
+use Rattle.fancy_grammar.specs.Tree.{group, repeat, delegate, define_group}
 
 no_truth : false ≡ true → ⊥
 no_truth h = cc
@@ -39,7 +41,8 @@ mutual
 
   printable_texts : (ts : Trees) → all_printable ts ≡ true → all_have_text ts ≡ true
   printable_texts no_trees h = refl
-  printable_texts (more_trees t ts) h = both_so (has_text t) (all_have_text ts) (printable_text t (first_so _ _ h)) (printable_texts ts (second_so (printable t) _ h))
+  printable_texts (more_trees t ts) h = both_so (has_text t) (all_have_text ts) (printable_text t (first_so _ _ h))
+      (printable_texts ts (second_so (printable t) _ h))
 
 pub has_text_if : (r : Result Bool AllocError) (t : Tree) → IfOk r (λ b. b ≡ printable t) →
     IfOk r (λ b. b ≡ true → has_text t ≡ true)
@@ -57,7 +60,8 @@ one_front : (t : Tree) (ts : List Tree) → is_empty t ≡ false → is_empty (o
 one_front t [] e = e
 one_front t (u ∷ ts) e = refl
 
-solid_front : (b : Bool) (t : Tree) (ts : List Tree) → is_empty t ≡ b → is_empty (one_or concat (solid ts)) ≡ list_all is_empty ts
+solid_front : (b : Bool) (t : Tree) (ts : List Tree) → is_empty t ≡ b →
+    is_empty (one_or concat (solid ts)) ≡ list_all is_empty ts
     → is_empty (one_or concat (if b then solid ts else t ∷ solid ts)) ≡ (b && list_all is_empty ts)
 solid_front true t ts e rest = rest
 solid_front false t ts e rest = one_front t (solid ts) e
@@ -76,7 +80,8 @@ items_empty t = one_solid (is_empty (normal false t)) (normal false t) refl
 
 all_items_empty : (ts : Trees) → list_all is_empty (normal_pieces false ts) ≡ empties ts
 all_items_empty no_trees = refl
-all_items_empty (more_trees t ts) = list_all-append is_empty (pieces_of t (normal false t)) (normal_pieces false ts) ∙ ap₂ (λ a b. a && b) (items_empty t) (all_items_empty ts)
+all_items_empty (more_trees t ts) = list_all-append is_empty (pieces_of t (normal false t)) (normal_pieces false ts)
+    ∙ ap₂ (λ a b. a && b) (items_empty t) (all_items_empty ts)
 
 pub items_join_empty : (ts : Trees) → is_empty (join (normal_pieces false ts)) ≡ empties ts
 items_join_empty ts = join_empty (normal_pieces false ts) ∙ all_items_empty ts

@@ -1,5 +1,6 @@
 -- What is true of the nodes of every raw tree.
-use Rattle.std.proofs.Common.{◌≡◌, ℕ, zero, suc, ◌+◌, ◌≤◌, Bool, false, ◌==◌, ◌&&◌, not, List, [], ◌∷◌, ◌++◌, length, Option, Some, None, refl, subst, nat_lt, nat_le, sym, codes, arith}
+use Rattle.std.proofs.Common.{◌≡◌, ℕ, zero, suc, ◌+◌, ◌≤◌, Bool, false, ◌==◌, ◌&&◌, not, List, [], ◌∷◌, ◌++◌, length}
+use Rattle.std.proofs.Common.{Option, Some, None, refl, subst, nat_lt, nat_le, sym, codes, arith}
 use Rattle.std.proofs.lemmas.Bool.{cond_both}
 use Rattle.std.specs.List.{AllByRecursion}
 use Prim.Native.Char.{code}
@@ -18,15 +19,25 @@ use Rattle.fancy_parts.specs.GroupName.{group_name}
 use Rattle.fancy_parts.specs.HeadReference.{named_reference, named_call, begins_target, condition_target}
 use Rattle.fancy_parts.specs.Quantifier.{counts}
 use Rattle.fancy_parts.specs.declared.counts.Counts.{Counts}
-use Rattle.fancy_grammar.specs.Ahead.{Ahead, leaf, body, ahead, ahead_of, behind_layout, group_ahead, behind_question, condition_ahead, repeater_ahead, flags_ahead, named_ahead, target_ahead, backref_node, call_node, leaf_node, leaf_outcome, leaf_of, is_before_nothing}
+use Rattle.fancy_grammar.specs.Ahead.{Ahead, leaf, body, ahead, ahead_of, behind_layout, group_ahead, behind_question}
+use Rattle.fancy_grammar.specs.Ahead.{condition_ahead, repeater_ahead, flags_ahead, named_ahead, target_ahead}
+use Rattle.fancy_grammar.specs.Ahead.{backref_node, call_node, leaf_node, leaf_outcome, leaf_of, is_before_nothing}
 use Rattle.fancy_grammar.specs.Depth.{max_depth}
-use Rattle.fancy_grammar.specs.Grammar.{Alternation, alternation, Branches, last, more, branch_fault, Branch, branch, Pieces, stop, next, piece_fault, Piece, piece, layout_fault, Atom, atom, AtomOf, a_nothing, a_leaf, a_group, a_condition, condition_fault, a_body, two_branches, one_branch, absent_fault, Inside, inside, Body, the_body, Whole, whole, closed, closed_at, ended, ended_at, branches_of, conditional_of, conditional_behind, is_condition, clear_or_stopper}
+use Rattle.fancy_grammar.specs.Grammar.{Alternation, alternation, Branches, last, more, branch_fault, Branch, branch}
+use Rattle.fancy_grammar.specs.Grammar.{Pieces, stop, next, piece_fault, Piece, piece, layout_fault, Atom, atom, AtomOf}
+use Rattle.fancy_grammar.specs.Grammar.{a_nothing, a_leaf, a_group, a_condition, condition_fault, a_body, two_branches}
+use Rattle.fancy_grammar.specs.Grammar.{one_branch, absent_fault, Inside, inside, Body, the_body, Whole, whole, closed}
+use Rattle.fancy_grammar.specs.Grammar.{closed_at, ended, ended_at, branches_of, conditional_of, conditional_behind}
+use Rattle.fancy_grammar.specs.Grammar.{is_condition, clear_or_stopper}
 use Rattle.fancy_grammar.specs.Head.{Head, capture, scope, look, atomic, define, repeater, group_node}
 use Rattle.fancy_grammar.specs.Join.{join, choice, solid, is_empty, one_or}
 use Rattle.fancy_grammar.specs.Preorder.{preorder, preorder_all}
-use Rattle.fancy_grammar.specs.Quantified.{quants, adjacent, max_adjacent, is_unmoved, quant, quant_at, with_counts, suffix, is_swapped, quantified, is_repeatable, is_dropped}
+use Rattle.fancy_grammar.specs.Quantified.{quants, adjacent, max_adjacent, is_unmoved, quant, quant_at, with_counts}
+use Rattle.fancy_grammar.specs.Quantified.{suffix, is_swapped, quantified, is_repeatable, is_dropped}
 use Rattle.fancy_grammar.specs.State.{skipped, State, at, Outcome, done, fault, and_then}
-use Rattle.fancy_grammar.specs.Tree.{Tree, Trees, no_trees, more_trees, literal, literal_bytes, concat, alt, group, backref, backref_at_level, backref_exists, subroutine_call, delegate, absent, expression, trees_of, list_of}
+use Rattle.fancy_grammar.specs.Tree.{Tree, Trees, no_trees, more_trees, literal, literal_bytes, concat, alt, group}
+use Rattle.fancy_grammar.specs.Tree.{backref, backref_at_level, backref_exists, subroutine_call, delegate, absent}
+use Rattle.fancy_grammar.specs.Tree.{expression, trees_of, list_of}
 use Rattle.fancy_grammar.specs.Verb.{verb_at}
 use Rattle.fancy_grammar.specs.Quantified.{Suffix}
 use Rattle.fancy_grammar.proofs.LevelLaws.{raw_levels}
@@ -50,7 +61,8 @@ IsRead t = AllByRecursion IsReadNode (preorder t)
 abbrev AreRead : List Tree → Type 0
 AreRead ts = AllByRecursion IsRead ts
 
-both_read : (a b : List Tree) → AllByRecursion IsReadNode a → AllByRecursion IsReadNode b → AllByRecursion IsReadNode (a ++ b)
+both_read : (a b : List Tree) → AllByRecursion IsReadNode a → AllByRecursion IsReadNode b →
+    AllByRecursion IsReadNode (a ++ b)
 both_read [] b h i = i
 both_read (t ∷ a) b h i = (h.0, both_read a b h.1 i)
 
@@ -62,7 +74,8 @@ all_read (t ∷ ts) h = both_read (preorder t) (preorder_all (trees_of ts)) h.0 
 
 each_read : (ts : Trees) → AllByRecursion IsReadNode (preorder_all ts) → AreRead (list_of ts)
 each_read no_trees h = tt
-each_read (more_trees t ts) h = (front (preorder t) (preorder_all ts) h, each_read ts (back (preorder t) (preorder_all ts) h))
+each_read (more_trees t ts) h =
+    (front (preorder t) (preorder_all ts) h, each_read ts (back (preorder t) (preorder_all ts) h))
   where
     front : (a b : List Tree) → AllByRecursion IsReadNode (a ++ b) → AllByRecursion IsReadNode a
     front [] b h = tt
@@ -95,11 +108,13 @@ choice_read (t ∷ u ∷ ts) h = (omega arith, all_read (t ∷ u ∷ ts) h)
 abbrev pub Makes : {A : Type 0} → (A → Type 0) → Outcome A → Type 0
 Makes P o = Holds (λ a s. P a) o
 
-then_makes : {A B : Type 0} (P : A → Type 0) (Q : B → Type 0) (q : Outcome A) {o : Outcome B} (f : A → State → Outcome B) → Makes P q → and_then q f ≡ o →
+then_makes : {A B : Type 0} (P : A → Type 0) (Q : B → Type 0) (q : Outcome A) {o : Outcome B}
+    (f : A → State → Outcome B) → Makes P q → and_then q f ≡ o →
     ((a : A) (s : State) → P a → Makes Q (f a s)) → Makes Q o
 then_makes P Q q f h e g = then_holds (λ a s. P a) (λ a s. Q a) q f h e g
 
-choose_makes : {A B : Type 0} (P : B → Type 0) (o : Option A) (f : A → B) (b : B) → ((a : A) → P (f a)) → P b → P (choose o f b)
+choose_makes : {A B : Type 0} (P : B → Type 0) (o : Option A) (f : A → B) (b : B) → ((a : A) → P (f a)) → P b →
+    P (choose o f b)
 choose_makes P (Some a) f b g h = g a
 choose_makes P None f b g h = h
 
@@ -111,7 +126,8 @@ any_made (fault k p) = tt
 
 quantified_read : (f : Flags) (c : Counts) (m : Suffix) (a : Tree) → IsRead a → IsRead (quantified f c m a)
 quantified_read f c m a h =
-    cond_both (is_swapped f c) _ _ IsRead (λ _. (tt, (tt, h))) (λ _. cond_both m.possessive _ _ IsRead (λ _. (tt, (tt, h))) (λ _. (tt, h)))
+    cond_both (is_swapped f c) _ _ IsRead (λ _. (tt, (tt, h)))
+    (λ _. cond_both m.possessive _ _ IsRead (λ _. (tt, (tt, h))) (λ _. (tt, h)))
 
 quant_read : (n left : ℕ) (a : Tree) (t : State) → IsRead a → Makes IsRead (quant n left a t)
 unfolding quant
@@ -122,7 +138,8 @@ quant_read n left a t h = by_layout (skipped n t)
     by_counts v (Some (c, u)) =
         let marks = suffix n (at t u) c in
         cond_both (is_repeatable t.flags a) _ _ (Makes IsRead)
-        (λ _. then_makes (λ _. Unit {0}) IsRead marks _ (any_made marks) refl (λ m s _. quantified_read t.flags c m a h)) (λ _.
+        (λ _. then_makes (λ _. Unit {0}) IsRead marks _ (any_made marks) refl
+        (λ m s _. quantified_read t.flags c m a h)) (λ _.
         cond_both (is_dropped t.flags left a u) _ _ (Makes IsRead)
         (λ _. then_makes (λ _. Unit {0}) IsRead marks _ (any_made marks) refl (λ m s _. h)) (λ _. tt))
 
@@ -160,7 +177,8 @@ ReadAhead (leaf o) = Makes IsReadLeaf o
 ReadAhead (body c s) = IsReadLeaf c
 ReadAhead _ = Unit {0}
 
-escape_read : (n : ℕ) (s : State) (t : Text) (o : Reading Escape) → Sound n t o → Makes IsReadLeaf (leaf_outcome leaf_node s o)
+escape_read : (n : ℕ) (s : State) (t : Text) (o : Reading Escape) → Sound n t o →
+    Makes IsReadLeaf (leaf_outcome leaf_node s o)
 escape_read n s t (gives (escaped.literal c casei) u) h = (refl, refl, refl)
 escape_read n s t (gives (escaped.literal_bytes b) u) h = ((refl, (h, tt)), refl, refl)
 escape_read n s t (gives (escaped.any newline crlf) u) h = (tt, refl, refl)
@@ -177,7 +195,8 @@ class_read : (s : State) (casei : Bool) (o : Reading Text) → Makes IsReadLeaf 
 class_read s casei (gives w u) = (tt, refl, refl)
 class_read s casei (fails e) = tt
 
-backref_read : (s : State) (casei : Bool) (o : Reading Reference) → Makes IsReadLeaf (leaf_outcome (backref_node casei) s o)
+backref_read : (s : State) (casei : Bool) (o : Reading Reference) →
+    Makes IsReadLeaf (leaf_outcome (backref_node casei) s o)
 backref_read s casei (gives r u) = (tt, refl, refl)
 backref_read s casei (fails e) = tt
 
@@ -202,7 +221,8 @@ condition_read : (n : ℕ) (s : State) (t : Text) → ReadAhead (condition_ahead
 condition_read n s [] = tt
 condition_read n s (c ∷ t) =
     cond_both (begins_target (c ∷ t)) _ _ ReadAhead (λ _. target_read s (condition_target n (c ∷ t))) (λ _.
-    cond_both (c == code "*") _ _ ReadAhead (λ _. choose_makes ReadAhead (verb_at t) _ _ (λ p. (tt, refl, refl)) tt) (λ _. tt))
+    cond_both (c == code "*") _ _ ReadAhead (λ _. choose_makes ReadAhead (verb_at t) _ _ (λ p. (tt, refl, refl)) tt)
+    (λ _. tt))
 
 repeater_read : (n : ℕ) (s : State) (t : Text) → ReadAhead (repeater_ahead n s t)
 repeater_read n s [] = tt
@@ -244,7 +264,8 @@ leaf_read n s c t =
     cond_both (c == code "^") _ _ P (λ _. (tt, refl, refl)) (λ _.
     cond_both (c == code "$") _ _ P (λ _. (tt, refl, refl)) (λ _.
     cond_both (c == code "\\") _ _ P
-    (λ _. escape_read n s t (escape n s.flags false (place_of n (c ∷ t)) t) (sound_escape n s.flags false (place_of n (c ∷ t)) t)) (λ _.
+    (λ _. escape_read n s t (escape n s.flags false (place_of n (c ∷ t)) t)
+    (sound_escape n s.flags false (place_of n (c ∷ t)) t)) (λ _.
     cond_both (c == code "[") _ _ P (λ _. class_read s s.flags.casei (class n s.flags t)) (λ _. (refl, refl, refl))))))
 
 pub ahead_read : (n d : ℕ) (s : State) → ReadAhead (ahead n d s)
@@ -255,7 +276,8 @@ ahead_read n d s = by_text s.rest
     by_text [] = tt
     by_text (c ∷ t) =
         cond_both (c == code "(") _ _ ReadAhead
-        (λ _. cond_both (nat_le max_depth (d + 1)) _ _ ReadAhead (λ _. tt) (λ _. behind_read n s (skipped n (at s t)))) (λ _.
+        (λ _. cond_both (nat_le max_depth (d + 1)) _ _ ReadAhead (λ _. tt) (λ _. behind_read n s (skipped n (at s t))))
+        (λ _.
         cond_both (is_before_nothing c) _ _ ReadAhead (λ _. tt) (λ _. leaf_read n s c t))
 
 leaf_read_whole : (o : Outcome Tree) → Makes IsReadLeaf o → Makes IsRead o
@@ -292,7 +314,8 @@ branches_read r h = (h, (tt, tt))
 clear_or_stopper_read : (a : Tree) → IsRead a → IsRead (clear_or_stopper a)
 clear_or_stopper_read a h = cond_both (is_empty a) _ _ IsRead (λ _. (tt, tt)) (λ _. (tt, h))
 
-behind_body_read : (n left : ℕ) (c r : Tree) (s : State) → IsRead c → IsRead r → Makes IsRead (conditional_behind n c left r s)
+behind_body_read : (n left : ℕ) (c r : Tree) (s : State) → IsRead c → IsRead r →
+    Makes IsRead (conditional_behind n c left r s)
 behind_body_read n left c r s h i =
     let b = branches_of r in let e = branches_read r i in
     cond_both (bytes s.rest == left && not (is_condition c)) _ _ (Makes IsRead) (λ _. tt)
@@ -302,7 +325,8 @@ behind_body_read n left c r s h i =
 
 mutual
   alternation_read : {n d : ℕ} {s : State} {o : Outcome Tree} → Alternation n d s o → Makes IsRead o
-  alternation_read (alternation {q} b e) = then_makes AreRead IsRead q _ (branches_are_read b) e (λ l v h. choice_read l h)
+  alternation_read (alternation {q} b e) =
+      then_makes AreRead IsRead q _ (branches_are_read b) e (λ l v h. choice_read l h)
 
   branches_are_read : {n d : ℕ} {s : State} {o : Outcome (List Tree)} → Branches n d s o → Makes AreRead o
   branches_are_read (last b e) = (branch_read b, tt)
@@ -341,7 +365,8 @@ mutual
       let first = branch_read b in
       then_makes IsRead IsRead q _ (branch_read m) f
       (λ r w x. closed_read n (absent (expression a r)) w (tt, both_read (preorder a) (preorder r) first x))
-  of_read (one_branch {n} {v} {a} b e f) h = subst (Makes IsRead) f (closed_read n (clear_or_stopper a) v (clear_or_stopper_read a (branch_read b)))
+  of_read (one_branch {n} {v} {a} b e f) h =
+      subst (Makes IsRead) f (closed_read n (clear_or_stopper a) v (clear_or_stopper_read a (branch_read b)))
   of_read (absent_fault b) h = tt
 
   inside_read : {n d : ℕ} {s : State} {o : Outcome Tree} → Inside n d s o → Makes IsRead o
@@ -359,7 +384,8 @@ ended_read n r s h = by_text s.rest
     by_text (c ∷ u) = tt
 
 whole_read : {f : Flags} {text : Text} {o : Outcome Tree} → Whole f text o → Makes IsRead o
-whole_read (whole {text} {q} a e) = then_makes IsRead IsRead q _ (alternation_read a) e (λ r t h. ended_read (bytes text) r t h)
+whole_read (whole {text} {q} a e) = then_makes IsRead IsRead q _ (alternation_read a) e
+    (λ r t h. ended_read (bytes text) r t h)
 
 -- each raw tree of a text is so
 pub derived_read : {f : Flags} {text : Text} {r : Tree} {t : State} → Whole f text (done r t) → IsRead r

@@ -5,7 +5,11 @@ use Rattle.fancy_lex.specs.Text.{Text, bytes, place_of}
 use Rattle.fancy_lex.specs.declared.flags.Flags.{Flags}
 use Rattle.fancy_lex.specs.Layout.{rest, fault as open_comment}
 use Rattle.fancy_grammar.specs.Ahead.{Ahead}
-use Rattle.fancy_grammar.specs.Grammar.{Alternation, alternation, Branches, last, more, branch_fault, Branch, branch, Pieces, stop, next, piece_fault, Piece, piece, layout_fault, Atom, atom, AtomOf, a_nothing, a_leaf, a_group, a_condition, condition_fault, a_body, two_branches, one_branch, absent_fault, Inside, inside, Body, the_body, Whole, whole, closed, conditional_behind, clear_or_stopper}
+use Rattle.fancy_grammar.specs.Grammar.{Alternation, alternation, Branches, last, more, branch_fault, Branch, branch}
+use Rattle.fancy_grammar.specs.Grammar.{Pieces, stop, next, piece_fault, Piece, piece, layout_fault, Atom, atom, AtomOf}
+use Rattle.fancy_grammar.specs.Grammar.{a_nothing, a_leaf, a_group, a_condition, condition_fault, a_body, two_branches}
+use Rattle.fancy_grammar.specs.Grammar.{one_branch, absent_fault, Inside, inside, Body, the_body, Whole, whole, closed}
+use Rattle.fancy_grammar.specs.Grammar.{conditional_behind, clear_or_stopper}
 use Rattle.fancy_grammar.specs.Head.{group_node}
 use Rattle.fancy_grammar.specs.Quantified.{quants}
 use Rattle.fancy_grammar.specs.State.{skipped, State, at, Outcome, done, fault, and_then, seen_through}
@@ -22,14 +26,17 @@ state_of e = cc
 done_or_fault : {A : Type 0} {a : A} {s : State} {k : Kind} {p : ℕ} → ◌≡◌ {A = Outcome A} (done a s) (fault k p) → ⊥
 done_or_fault e = cc
 
-same_fault : {A B : Type 0} {k j : Kind} {p q : ℕ} → ◌≡◌ {A = Outcome A} (fault k p) (fault j q) → ◌≡◌ {A = Outcome B} (fault k p) (fault j q)
+same_fault : {A B : Type 0} {k j : Kind} {p q : ℕ} → ◌≡◌ {A = Outcome A} (fault k p) (fault j q) →
+    ◌≡◌ {A = Outcome B} (fault k p) (fault j q)
 same_fault e = cc
 
 -- the same part behind the same outcome
-then_same : {A B : Type 0} (f : A → State → Outcome B) {q r : Outcome A} {o m : Outcome B} → and_then q f ≡ o → and_then r f ≡ m → q ≡ r → o ≡ m
+then_same : {A B : Type 0} (f : A → State → Outcome B) {q r : Outcome A} {o m : Outcome B} → and_then q f ≡ o →
+    and_then r f ≡ m → q ≡ r → o ≡ m
 then_same f e g h = sym e ∙ ap (λ x. and_then x f) h ∙ g
 
-in_front_same : {A : Type 0} {a b : A} {q r o m : Outcome (List A)} → seen_through (λ l. a ∷ l) q ≡ o → seen_through (λ l. b ∷ l) r ≡ m → a ≡ b → q ≡ r → o ≡ m
+in_front_same : {A : Type 0} {a b : A} {q r o m : Outcome (List A)} → seen_through (λ l. a ∷ l) q ≡ o →
+    seen_through (λ l. b ∷ l) r ≡ m → a ≡ b → q ≡ r → o ≡ m
 in_front_same {b} {q} e g i h = sym e ∙ ap (λ x. seen_through (λ l. x ∷ l) q) i ∙ ap (seen_through (λ l. b ∷ l)) h ∙ g
 
 -- ---- layout is a function
@@ -46,7 +53,8 @@ rest_or_fault u p e = cc
 same_layout : (n : ℕ) {s z : State} {u v : Text} → skipped n s ≡ rest u → skipped n z ≡ rest v → s ≡ z → u ≡ v
 same_layout n {u} {v} l m e = rest_same u v (sym l ∙ same_skipped n e ∙ m)
 
-layout_or_fault : (n : ℕ) {s z : State} {u : Text} {p : ℕ} → skipped n s ≡ rest u → skipped n z ≡ open_comment p → s ≡ z → ⊥
+layout_or_fault : (n : ℕ) {s z : State} {u : Text} {p : ℕ} → skipped n s ≡ rest u → skipped n z ≡ open_comment p →
+    s ≡ z → ⊥
 layout_or_fault n {u} {p} l m e = rest_or_fault u p (sym l ∙ same_skipped n e ∙ m)
 
 ap_at : {s z : State} {u v : Text} → s ≡ z → u ≡ v → at s u ≡ at z v
@@ -54,10 +62,12 @@ ap_at e i = cc
 
 -- by induction on both derivations: an earlier part has one outcome, which says which rule reads on
 mutual
-  alternation_unique : {n d : ℕ} {s z : State} {o q : Outcome Tree} → Alternation n d s o → Alternation n d z q → s ≡ z → o ≡ q
+  alternation_unique : {n d : ℕ} {s z : State} {o q : Outcome Tree} → Alternation n d s o → Alternation n d z q →
+      s ≡ z → o ≡ q
   alternation_unique (alternation a f) (alternation b g) e = then_same _ f g (branches_unique a b e)
 
-  branches_unique : {n d : ℕ} {s z : State} {o q : Outcome (List Tree)} → Branches n d s o → Branches n d z q → s ≡ z → o ≡ q
+  branches_unique : {n d : ℕ} {s z : State} {o q : Outcome (List Tree)} → Branches n d s o → Branches n d z q → s ≡ z →
+      o ≡ q
   branches_unique (last a f) (last b g) e = let h = branch_unique a b e in cc
   branches_unique (last a f) (more b g m i) e = let h = branch_unique a b e in absurd cc
   branches_unique (last a f) (branch_fault b) e = absurd (done_or_fault (branch_unique a b e))
@@ -96,11 +106,13 @@ mutual
   atom_unique (atom {n} {d} {k} f a h) (atom {s = z} {q} {k = l} g b m) e =
       let i : l ≡ k = cc in let same = of_unique a (subst (λ (x : Ahead). AtomOf x n d z q) i b) e in cc
 
-  of_unique : {k : Ahead} {n d : ℕ} {s z : State} {o q : Outcome Tree} → AtomOf k n d s o → AtomOf k n d z q → s ≡ z → o ≡ q
+  of_unique : {k : Ahead} {n d : ℕ} {s z : State} {o q : Outcome Tree} → AtomOf k n d s o → AtomOf k n d z q → s ≡ z →
+      o ≡ q
   of_unique a_nothing a_nothing e = cc
   of_unique a_leaf a_leaf e = cc
   of_unique (a_group {n} {h} {q} a f) (a_group b g) e =
-      sym f ∙ ap (λ (x : State). seen_through (group_node h (place_of n x.rest)) q) e ∙ then_same _ refl g (inside_unique a b refl)
+      sym f ∙ ap (λ (x : State). seen_through (group_node h (place_of n x.rest)) q) e
+      ∙ then_same _ refl g (inside_unique a b refl)
   of_unique (a_condition i a) (a_condition j b) e =
       let h = inside_unique i j refl in body_unique a b (value_of h) (state_of h)
   of_unique (a_condition i a) (condition_fault j) e = absurd (done_or_fault (inside_unique i j refl))
@@ -109,13 +121,15 @@ mutual
   of_unique (a_body a) (a_body b) e = body_unique a b refl refl
   of_unique (two_branches {n} {q} a f m i) (two_branches b g l j) e =
       let h = branch_unique a b refl in
-      sym i ∙ ap (λ (x : Tree). and_then q (λ r. closed n (absent (expression x r)))) (value_of h) ∙ then_same _ refl j (branch_unique m l cc)
+      sym i ∙ ap (λ (x : Tree). and_then q (λ r. closed n (absent (expression x r)))) (value_of h)
+      ∙ then_same _ refl j (branch_unique m l cc)
   of_unique (two_branches a f m i) (one_branch b g j) e = let h = branch_unique a b refl in absurd cc
   of_unique (two_branches a f m i) (absent_fault b) e = absurd (done_or_fault (branch_unique a b refl))
   of_unique (one_branch a f i) (two_branches b g l j) e = let h = branch_unique a b refl in absurd cc
   of_unique (one_branch {n} {v} a f i) (one_branch {a = c} b g j) e =
       let h = branch_unique a b refl in
-      sym i ∙ ap (λ (x : Tree). closed n (clear_or_stopper x) v) (value_of h) ∙ ap (closed n (clear_or_stopper c)) (state_of h) ∙ j
+      sym i ∙ ap (λ (x : Tree). closed n (clear_or_stopper x) v) (value_of h)
+      ∙ ap (closed n (clear_or_stopper c)) (state_of h) ∙ j
   of_unique (one_branch a f i) (absent_fault b) e = absurd (done_or_fault (branch_unique a b refl))
   of_unique (absent_fault a) (two_branches b g l j) e = absurd (done_or_fault (sym (branch_unique a b refl)))
   of_unique (absent_fault a) (one_branch b g j) e = absurd (done_or_fault (sym (branch_unique a b refl)))
@@ -124,10 +138,12 @@ mutual
   inside_unique : {n d : ℕ} {s z : State} {o q : Outcome Tree} → Inside n d s o → Inside n d z q → s ≡ z → o ≡ q
   inside_unique (inside a f) (inside b g) e = then_same _ f g (alternation_unique a b e)
 
-  body_unique : {n d : ℕ} {c x : Tree} {s z : State} {o q : Outcome Tree} → Body n d c s o → Body n d x z q → c ≡ x → s ≡ z → o ≡ q
+  body_unique : {n d : ℕ} {c x : Tree} {s z : State} {o q : Outcome Tree} → Body n d c s o → Body n d x z q → c ≡ x →
+      s ≡ z → o ≡ q
   body_unique (the_body {n} {s} {q} a f) (the_body {c = x} b g) i e =
       sym f ∙ ap (λ (y : Tree). and_then q (conditional_behind n y (bytes s.rest))) i
-      ∙ ap (λ (y : State). and_then q (conditional_behind n x (bytes y.rest))) e ∙ then_same _ refl g (alternation_unique a b e)
+      ∙ ap (λ (y : State). and_then q (conditional_behind n x (bytes y.rest))) e
+      ∙ then_same _ refl g (alternation_unique a b e)
 
 pub whole_unique : {f : Flags} {text : Text} {o q : Outcome Tree} → Whole f text o → Whole f text q → o ≡ q
 whole_unique (whole a f) (whole b g) = then_same _ f g (alternation_unique a b refl)

@@ -1,5 +1,6 @@
 -- What one reading of a whole text says of every other.
-use Rattle.std.proofs.Common.{◌≡◌, ℕ, ◌+◌, ◌-◌, inl, inr, List, ◌++◌, Option, Some, None, refl, sym, ap, ap₂, ◌∙◌, subst, chars, length}
+use Rattle.std.proofs.Common.{◌≡◌, ℕ, ◌+◌, ◌-◌, inl, inr, List, ◌++◌, Option, Some, None, refl, sym, ap, ap₂, ◌∙◌}
+use Rattle.std.proofs.Common.{subst, chars, length}
 use Rattle.std.specs.Str.{IsUtf8, IsCharBoundary, all_scalars}
 use Rattle.std.proofs.Math.Utf8.{encodes}
 use Rattle.std.proofs.lemmas.Str.{scalars-chars, chars-encodes}
@@ -114,6 +115,7 @@ pub resolving_placed : (e : Error) (f : Flags) (re : List ℕ) (r : Tree) → Is
     IsErrorIn e (fault_of f r) → IsPlacedIn e re
 resolving_placed (ParseError p k) f re r u a h =
     placed k re p u
-    (fault_place (MayStand (bytes (chars re)) (chars re)) (counted f (openings r)) (items r) (record { place = p; kind = kind_of k })
+    (fault_place (MayStand (bytes (chars re)) (chars re)) (counted f (openings r)) (items r)
+    (record { place = p; kind = kind_of k })
     (items_stand a.1) h)
 resolving_placed OutOfMemory f re r u a h = tt

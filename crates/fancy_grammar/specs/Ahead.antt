@@ -26,7 +26,8 @@ use Rattle.fancy_grammar.specs.Tree.{Tree, empty, any, assertion, general_newlin
 use Rattle.fancy_grammar.specs.Tree.{keep_out, continue_from_previous_match_end, verb, ast_node, ast_backref, ast_call}
 use Rattle.fancy_grammar.specs.Tree.{ast_condition}
 use Rattle.fancy_grammar.specs.Verb.{verb_at}
-use Rattle.fancy_grammar.specs.declared.kinds.LookAround.TheVariants.{LookAhead, LookAheadNeg, LookBehind, LookBehindNeg}
+use Rattle.fancy_grammar.specs.declared.kinds.LookAround.TheVariants.{LookAhead, LookAheadNeg, LookBehind}
+use Rattle.fancy_grammar.specs.declared.kinds.LookAround.TheVariants.{LookBehindNeg}
 
 -- what stands before an atom decides its rule
 pub data Ahead : Type 0 where

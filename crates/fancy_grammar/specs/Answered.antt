@@ -1,5 +1,6 @@
 -- What is true of every tree that is answered, and how its marks speak of it.
-use Rattle.std.specs.Prelude.{◌≡◌, ℕ, ◌+◌, ◌*◌, ◌<◌, ◌≤◌, Bool, true, false, List, [], ◌∷◌, length, filter, filter_map, map}
+use Rattle.std.specs.Prelude.{◌≡◌, ℕ, ◌+◌, ◌*◌, ◌<◌, ◌≤◌, Bool, true, false, List, [], ◌∷◌, length, filter, filter_map}
+use Rattle.std.specs.Prelude.{map}
 use Rattle.std.specs.Prelude.{Option, Some, None, find, nat_le, nat_lt, if◌then◌else◌}
 use Rattle.std.specs.List.{AllByRecursion, list_any}
 use Rattle.fancy_lex.specs.Text.{Text}
@@ -97,7 +98,8 @@ numbered_in named l = filter_map (numbered_group named) l
 abbrev pub numbered_groups : Flags → Tree → List (Opening × Tree)
 numbered_groups f r = numbered_in (only_named f (openings r)) (preorder r)
 
--- their openings are those that have a number, in text order; and the k-th Group of the answered tree t holds the inside
+-- their openings are those that have a number, in text order; and the k-th Group of the answered tree t holds the
+-- inside
 -- of the k-th of them, resolved
 pub record HasGroupsOf (f : Flags) (r t : Tree) : Type 0 where
   pub in_order : map (λ g. g.0) (numbered_groups f r) ≡ counted f (openings r)

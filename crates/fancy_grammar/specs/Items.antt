@@ -4,7 +4,8 @@ use Rattle.fancy_parts.specs.Meaning.{AnyReference, back_reference, call, condit
 use Rattle.fancy_parts.specs.Ranks.{Opening}
 use Rattle.fancy_grammar.specs.Tree.{Tree, Trees, no_trees, more_trees, concat, alt, group, look_around, repeat}
 use Rattle.fancy_grammar.specs.Tree.{atomic_group}
-use Rattle.fancy_grammar.specs.Tree.{conditional, define_group, absent, AbsentTree, repeater, expression, stopper, clear}
+use Rattle.fancy_grammar.specs.Tree.{conditional, define_group, absent, AbsentTree, repeater, expression, stopper}
+use Rattle.fancy_grammar.specs.Tree.{clear}
 use Rattle.fancy_grammar.specs.Tree.{ast_node, AstTree, ast_group, ast_backref, ast_call, ast_condition}
 
 -- a capturing group opens, or a reference stands

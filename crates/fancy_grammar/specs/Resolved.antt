@@ -8,7 +8,8 @@ use Rattle.fancy_parts.specs.Ranks.{Opening, only_named, is_counted, counted_in,
 use Rattle.fancy_grammar.specs.Items.{openings, references}
 use Rattle.fancy_grammar.specs.Tree.{Tree, Trees, no_trees, more_trees, concat, alt, group, look_around, repeat}
 use Rattle.fancy_grammar.specs.Tree.{atomic_group}
-use Rattle.fancy_grammar.specs.Tree.{conditional, define_group, absent, AbsentTree, repeater, expression, stopper, clear}
+use Rattle.fancy_grammar.specs.Tree.{conditional, define_group, absent, AbsentTree, repeater, expression, stopper}
+use Rattle.fancy_grammar.specs.Tree.{clear}
 use Rattle.fancy_grammar.specs.Tree.{ast_node, AstTree, ast_group, ast_backref, ast_call, ast_condition}
 use Rattle.fancy_grammar.specs.Tree.{backref, backref_at_level, subroutine_call, backref_exists}
 

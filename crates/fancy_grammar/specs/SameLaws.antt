@@ -19,7 +19,8 @@ use Rattle.fancy_lex.specs.Text.{Text}
 use Rattle.fancy_grammar.specs.declared.kinds.BacktrackingControlVerb.{BacktrackingControlVerb}
 use Rattle.fancy_grammar.specs.declared.kinds.BacktrackingControlVerb.TheVariants.{Fail, Accept, Commit, Skip, Prune}
 use Rattle.fancy_grammar.specs.declared.kinds.LookAround.{LookAround}
-use Rattle.fancy_grammar.specs.declared.kinds.LookAround.TheVariants.{LookAhead, LookAheadNeg, LookBehind, LookBehindNeg}
+use Rattle.fancy_grammar.specs.declared.kinds.LookAround.TheVariants.{LookAhead, LookAheadNeg, LookBehind}
+use Rattle.fancy_grammar.specs.declared.kinds.LookAround.TheVariants.{LookBehindNeg}
 use Rattle.fancy_grammar.specs.Same.{same, same_all, same_absent, same_ast, same_look, same_assertion, same_verb}
 use Rattle.fancy_grammar.specs.Same.{same_level, same_name}
 use Rattle.fancy_grammar.specs.Tree.{Tree, empty, any, assertion, general_newline, literal, literal_bytes, concat, alt}

@@ -14,7 +14,8 @@ use Rattle.fancy_grammar.specs.Marks.{back_number, is_call, is_call_of_all}
 use Rattle.fancy_grammar.specs.Resolved.{resolved_node, group_or_inside}
 use Rattle.fancy_grammar.specs.Tree.{Tree, Trees, no_trees, more_trees, concat, alt, group, look_around, repeat}
 use Rattle.fancy_grammar.specs.Tree.{atomic_group}
-use Rattle.fancy_grammar.specs.Tree.{conditional, define_group, absent, AbsentTree, repeater, expression, stopper, clear}
+use Rattle.fancy_grammar.specs.Tree.{conditional, define_group, absent, AbsentTree, repeater, expression, stopper}
+use Rattle.fancy_grammar.specs.Tree.{clear}
 use Rattle.fancy_grammar.specs.Tree.{ast_node, ast_group}
 
 -- ---- the first walk finds the groups

@@ -25,7 +25,8 @@ Other (Expr-F.LookAround _ _) y = (a b : _) → y ≡ expr.LookAround a b → �
 Other (Expr-F.Repeat _ _ _ _) y = (a b c d : _) → y ≡ expr.Repeat a b c d → ⊥
 Other (Expr-F.Delegate _ _) y = (a b : _) → y ≡ expr.Delegate a b → ⊥
 Other (Expr-F.Expr::Backref _ _) y = (a b : _) → y ≡ expr.Backref a b → ⊥
-Other (Expr-F.BackrefWithRelativeRecursionLevel _ _ _) y = (a b c : _) → y ≡ expr.BackrefWithRelativeRecursionLevel a b c → ⊥
+Other (Expr-F.BackrefWithRelativeRecursionLevel _ _ _) y = (a b c : _) →
+    y ≡ expr.BackrefWithRelativeRecursionLevel a b c → ⊥
 Other (Expr-F.AtomicGroup _) y = (a : _) → y ≡ expr.AtomicGroup a → ⊥
 Other Expr-F.KeepOut y = y ≡ expr.KeepOut → ⊥
 Other Expr-F.ContinueFromPreviousMatchEnd y = y ≡ expr.ContinueFromPreviousMatchEnd → ⊥
@@ -55,14 +56,20 @@ levels_apart (Expr-F.LookAround _ _) (Expr-F.LookAround a b) h = absurd (h a b (
 levels_apart (Expr-F.Repeat _ _ _ _) (Expr-F.Repeat a b c d) h = absurd (h a b c d (variant.rolls-Repeat a b c d))
 levels_apart (Expr-F.Delegate _ _) (Expr-F.Delegate a b) h = absurd (h a b (variant.rolls-Delegate a b))
 levels_apart (Expr-F.Expr::Backref _ _) (Expr-F.Expr::Backref a b) h = absurd (h a b (variant.rolls-Backref a b))
-levels_apart (Expr-F.BackrefWithRelativeRecursionLevel _ _ _) (Expr-F.BackrefWithRelativeRecursionLevel a b c) h = absurd (h a b c (variant.rolls-BackrefWithRelativeRecursionLevel a b c))
+levels_apart (Expr-F.BackrefWithRelativeRecursionLevel _ _ _) (Expr-F.BackrefWithRelativeRecursionLevel a b c) h =
+    absurd (h a b c (variant.rolls-BackrefWithRelativeRecursionLevel a b c))
 levels_apart (Expr-F.AtomicGroup _) (Expr-F.AtomicGroup a) h = absurd (h a (variant.rolls-AtomicGroup a))
 levels_apart Expr-F.KeepOut Expr-F.KeepOut h = absurd (h variant.rolls-KeepOut)
-levels_apart Expr-F.ContinueFromPreviousMatchEnd Expr-F.ContinueFromPreviousMatchEnd h = absurd (h variant.rolls-ContinueFromPreviousMatchEnd)
-levels_apart (Expr-F.Expr::BackrefExistsCondition _ _) (Expr-F.Expr::BackrefExistsCondition a b) h = absurd (h a b (variant.rolls-BackrefExistsCondition a b))
-levels_apart (Expr-F.Conditional _ _ _) (Expr-F.Conditional a b c) h = absurd (h a b c (variant.rolls-Conditional a b c))
-levels_apart (Expr-F.Expr::SubroutineCall _) (Expr-F.Expr::SubroutineCall a) h = absurd (h a (variant.rolls-SubroutineCall a))
-levels_apart (Expr-F.BacktrackingControlVerb _) (Expr-F.BacktrackingControlVerb a) h = absurd (h a (variant.rolls-BacktrackingControlVerb a))
+levels_apart Expr-F.ContinueFromPreviousMatchEnd Expr-F.ContinueFromPreviousMatchEnd h =
+    absurd (h variant.rolls-ContinueFromPreviousMatchEnd)
+levels_apart (Expr-F.Expr::BackrefExistsCondition _ _) (Expr-F.Expr::BackrefExistsCondition a b) h =
+    absurd (h a b (variant.rolls-BackrefExistsCondition a b))
+levels_apart (Expr-F.Conditional _ _ _) (Expr-F.Conditional a b c) h =
+    absurd (h a b c (variant.rolls-Conditional a b c))
+levels_apart (Expr-F.Expr::SubroutineCall _) (Expr-F.Expr::SubroutineCall a) h =
+    absurd (h a (variant.rolls-SubroutineCall a))
+levels_apart (Expr-F.BacktrackingControlVerb _) (Expr-F.BacktrackingControlVerb a) h =
+    absurd (h a (variant.rolls-BacktrackingControlVerb a))
 levels_apart (Expr-F.Absent _) (Expr-F.Absent a) h = absurd (h a (variant.rolls-Absent a))
 levels_apart (Expr-F.DefineGroup _) (Expr-F.DefineGroup a) h = absurd (h a (variant.rolls-DefineGroup a))
 levels_apart (Expr-F.AstNode _ _) (Expr-F.AstNode a b) h = absurd (h a b (variant.rolls-AstNode a b))

@@ -1,7 +1,8 @@
 -- The children of a node that holds a list, and of a leaf.
 use Rattle.std.proofs.Common.{◌≡◌, true, List, [], ◌∷◌, Global, Vec, rules, ◌∙◌, refl, ap}
 use Rattle.std.proofs.lemmas.Bool.{false≢true}
-use Rattle.fancy_grammar.specs.Tree.{Tree, concat, alt, group, look_around, repeat, atomic_group, conditional, absent, repeater, expression, stopper, define_group, children, is_leaf, list_of, trees_of}
+use Rattle.fancy_grammar.specs.Tree.{Tree, concat, alt, group, look_around, repeat, atomic_group, conditional, absent}
+use Rattle.fancy_grammar.specs.Tree.{repeater, expression, stopper, define_group, children, is_leaf, list_of, trees_of}
 use Rattle.fancy_syntax.specs.View.{view, views}
 use Rattle.fancy_syntax.specs.declared.expr.Expr.{Expr, Concat, Alt, the_lemmas}
 

@@ -1,16 +1,20 @@
 -- A search among the descendants of a value, child by child.
-use Rattle.std.proofs.Common.{◌≡◌, ℕ, zero, suc, ◌<◌, ◌≤◌, ◌⊎◌, inl, inr, ⊎_elim, List, [], ◌∷◌, length, get_or, refl, sym, ap, ◌∙◌, subst, arith}
+use Rattle.std.proofs.Common.{◌≡◌, ℕ, zero, suc, ◌<◌, ◌≤◌, ◌⊎◌, inl, inr, ⊎_elim, List, [], ◌∷◌, length, get_or, refl}
+use Rattle.std.proofs.Common.{sym, ap, ◌∙◌, subst, arith}
 use Rattle.std.specs.List.{IsAmong}
 use Rattle.std.proofs.lemmas.List.{get_or-map, length-map}
 use Rattle.fancy_syntax.specs.Children.{children_of}
 use Rattle.fancy_syntax.specs.Descendants.{IsDescendant, child, deeper}
-use Rattle.fancy_grammar.specs.Tree.{Tree, concat, alt, group, look_around, repeat, atomic_group, conditional, absent, define_group, Trees, no_trees, more_trees, repeater, expression, stopper, list_of, children, levels, levels_all}
+use Rattle.fancy_grammar.specs.Tree.{Tree, concat, alt, group, look_around, repeat, atomic_group, conditional, absent}
+use Rattle.fancy_grammar.specs.Tree.{define_group, Trees, no_trees, more_trees, repeater, expression, stopper, list_of}
+use Rattle.fancy_grammar.specs.Tree.{children, levels, levels_all}
 use Rattle.fancy_syntax.specs.View.{view, views}
 use Rattle.fancy_syntax.specs.declared.expr.Expr.{Expr}
 
 -- ---- a child is less deep
 
-levels_member : (ts : Trees) (i : ℕ) (d : Tree) → i < length (list_of ts) → levels (get_or (list_of ts) i d) ≤ levels_all ts
+levels_member : (ts : Trees) (i : ℕ) (d : Tree) → i < length (list_of ts) →
+    levels (get_or (list_of ts) i d) ≤ levels_all ts
 levels_member no_trees i d h = absurd (omega arith)
 levels_member (more_trees t ts) zero d h = omega arith
 levels_member (more_trees t ts) (suc i) d h = omega (arith, levels_member ts i d (omega arith))
@@ -41,10 +45,12 @@ levels_child (define_group t) zero d h = omega arith
 levels_child (define_group t) (suc i) d h = absurd (omega arith)
 levels_child _ i d h = absurd (omega arith)
 
-pub levels_of_child : (e c : Expr) → views (children_of e) ≡ children (view e) → IsAmong (children_of e) c → levels (view c) < levels (view e)
+pub levels_of_child : (e c : Expr) → views (children_of e) ≡ children (view e) → IsAmong (children_of e) c →
+    levels (view c) < levels (view e)
 levels_of_child e c same (i, (h, is)) =
     let long : i < length (children (view e)) = omega (arith, length-map (children_of e) view, ap length same) in
-    let at : get_or (children (view e)) i (view c) ≡ view c = ap (λ ts. get_or ts i (view c)) (sym same) ∙ get_or-map view (children_of e) i c (view c) h ∙ ap view (sym is) in
+    let at : get_or (children (view e)) i (view c) ≡ view c = ap (λ ts. get_or ts i (view c)) (sym same)
+    ∙ get_or-map view (children_of e) i c (view c) h ∙ ap view (sym is) in
     subst (λ t. levels t < levels (view e)) at (levels_child (view e) i (view c) long)
 
 -- ---- the children that are left
@@ -65,7 +71,8 @@ among_head c cs = (0, (omega arith, refl))
 among_tail : (c d : Expr) (cs : List Expr) → IsAmong cs d → IsAmong (c ∷ cs) d
 among_tail c d cs (i, (h, is)) = (suc i, (omega arith, is))
 
-among_cases : (c d : Expr) (cs : List Expr) (i : ℕ) → i < length (c ∷ cs) → d ≡ get_or (c ∷ cs) i d → (d ≡ c) ⊎ IsAmong cs d
+among_cases : (c d : Expr) (cs : List Expr) (i : ℕ) → i < length (c ∷ cs) → d ≡ get_or (c ∷ cs) i d →
+    (d ≡ c) ⊎ IsAmong cs d
 among_cases c d cs zero h is = inl is
 among_cases c d cs (suc i) h is = inr (i, (omega arith, is))
 
@@ -75,14 +82,18 @@ sweep_start P e left h = record {
   done_or_left = λ c a. inl (subst (λ es. IsAmong es c) (sym h) a);
 }
 
-pub sweep_head : (P : Expr → Type 0) (e c : Expr) (left more : List Expr) → Sweep P e left → left ≡ c ∷ more → IsAmong (children_of e) c
+pub sweep_head : (P : Expr → Type 0) (e c : Expr) (left more : List Expr) → Sweep P e left → left ≡ c ∷ more →
+    IsAmong (children_of e) c
 sweep_head P e c left more s h = s.inside c (subst (λ es. IsAmong es c) (sym h) (among_head c more))
 
-sweep_case : (P : Expr → Type 0) (c d : Expr) (more : List Expr) → HoldsFrom P c → IsAmong (c ∷ more) d ⊎ HoldsFrom P d → IsAmong more d ⊎ HoldsFrom P d
+sweep_case : (P : Expr → Type 0) (c d : Expr) (more : List Expr) → HoldsFrom P c →
+    IsAmong (c ∷ more) d ⊎ HoldsFrom P d → IsAmong more d ⊎ HoldsFrom P d
 sweep_case P c d more k (inr x) = inr x
-sweep_case P c d more k (inl (i, (h, is))) = ⊎_elim (λ e. inr (subst (HoldsFrom P) (sym e) k)) inl (among_cases c d more i h is)
+sweep_case P c d more k (inl (i, (h, is))) =
+    ⊎_elim (λ e. inr (subst (HoldsFrom P) (sym e) k)) inl (among_cases c d more i h is)
 
-pub sweep_next : (P : Expr → Type 0) (e c : Expr) (left more : List Expr) → Sweep P e left → left ≡ c ∷ more → HoldsFrom P c → Sweep P e more
+pub sweep_next : (P : Expr → Type 0) (e c : Expr) (left more : List Expr) → Sweep P e left → left ≡ c ∷ more →
+    HoldsFrom P c → Sweep P e more
 sweep_next P e c left more s h k = record {
   inside = λ d a. s.inside d (subst (λ es. IsAmong es d) (sym h) (among_tail c d more a));
   done_or_left = λ d a. sweep_case P c d more k (subst (λ es. IsAmong es d ⊎ HoldsFrom P d) h (s.done_or_left d a));
@@ -92,6 +103,9 @@ sweep_none : (P : Expr → Type 0) (c : Expr) → IsAmong [] c ⊎ HoldsFrom P c
 sweep_none P c (inl (i, (h, is))) = absurd (omega arith)
 sweep_none P c (inr x) = x
 
-pub sweep_end : (P : Expr → Type 0) (e : Expr) (left : List Expr) → Sweep P e left → left ≡ [] → (d : Expr) → IsDescendant d e → P d
-sweep_end P e left s h d (child a) = (sweep_none P d (subst (λ es. IsAmong es d ⊎ HoldsFrom P d) h (s.done_or_left d a))).here
-sweep_end P e left s h d (deeper {c = c} a b) = (sweep_none P c (subst (λ es. IsAmong es c ⊎ HoldsFrom P c) h (s.done_or_left c a))).below d b
+pub sweep_end : (P : Expr → Type 0) (e : Expr) (left : List Expr) → Sweep P e left → left ≡ [] → (d : Expr) →
+    IsDescendant d e → P d
+sweep_end P e left s h d (child a) =
+    (sweep_none P d (subst (λ es. IsAmong es d ⊎ HoldsFrom P d) h (s.done_or_left d a))).here
+sweep_end P e left s h d (deeper {c = c} a b) =
+    (sweep_none P c (subst (λ es. IsAmong es c ⊎ HoldsFrom P c) h (s.done_or_left c a))).below d b

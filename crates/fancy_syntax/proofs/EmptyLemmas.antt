@@ -1,5 +1,6 @@
 -- When the normal form of a tree of several branches, or of what is left of a list, is Empty.
-use Rattle.std.proofs.Common.{◌≡◌, ℕ, ◌+◌, ◌<◌, ◌≤◌, false, true, ◌&&◌, List, [], ◌∷◌, length, get_or, Vec, Global, refl, ap, ◌∙◌, rules, arith}
+use Rattle.std.proofs.Common.{◌≡◌, ℕ, ◌+◌, ◌<◌, ◌≤◌, false, true, ◌&&◌, List, [], ◌∷◌, length, get_or, Vec, Global}
+use Rattle.std.proofs.Common.{refl, ap, ◌∙◌, rules, arith}
 use Rattle.fancy_grammar.specs.Join.{is_empty, choice}
 use Rattle.fancy_grammar.specs.Normal.{normal, normals}
 use Rattle.fancy_grammar.specs.Tree.{alt, trees_of}
@@ -17,12 +18,15 @@ choice_several [] h = absurd (omega arith)
 choice_several (e ∷ []) h = absurd (omega arith)
 choice_several (e ∷ f ∷ es) h = refl
 
-pub alt_several : (e : Expr) (v : Vec Expr Global) → e ≡ Alt v → 2 ≤ length v.items → is_empty (normal false (view e)) ≡ false
-alt_several e v is h = ap (λ x. is_empty (normal false (view x))) is ∙ ap (λ t. is_empty (normal false t)) (view_alt v) ∙ choice_several v.items h
+pub alt_several : (e : Expr) (v : Vec Expr Global) → e ≡ Alt v → 2 ≤ length v.items →
+    is_empty (normal false (view e)) ≡ false
+alt_several e v is h = ap (λ x. is_empty (normal false (view x))) is ∙ ap (λ t. is_empty (normal false t)) (view_alt v)
+    ∙ choice_several v.items h
 
 -- ---- one tree of a list
 
-pub empties_stop : (es : List Expr) (i : ℕ) (e : Expr) → i < length es → e ≡ get_or es i e → is_empty (normal false (view e)) ≡ false → empties (left es i) ≡ false
+pub empties_stop : (es : List Expr) (i : ℕ) (e : Expr) → i < length es → e ≡ get_or es i e →
+    is_empty (normal false (view e)) ≡ false → empties (left es i) ≡ false
 empties_stop es i e h is one = ap empties (left_step es i e h is) ∙ ap (λ b. b && empties (left es (i + 1))) one
 
 pub empties_end : (es : List Expr) (i : ℕ) → length es ≤ i → empties (left es i) ≡ true

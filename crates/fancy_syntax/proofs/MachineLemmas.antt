@@ -1,5 +1,7 @@
 -- How each step of the loop keeps what stands on the stack.
-use Rattle.std.proofs.Common.{◌≡◌, ◌≢◌, ◌==◌, ◌≤◌, ◌<◌, if◌then◌else◌, tests, rules, ℕ, ◌+◌, Bool, true, false, true≢false, List, [], ◌∷◌, ◌++◌, length, Some, None, Result, Ok, Err, refl, sym, ap, ◌∙◌, subst, append-nil, arith}
+use Rattle.std.proofs.Common.{◌≡◌, ◌≢◌, ◌==◌, ◌≤◌, ◌<◌, if◌then◌else◌, tests, rules, ℕ, ◌+◌, Bool, true, false}
+use Rattle.std.proofs.Common.{true≢false, List, [], ◌∷◌, ◌++◌, length, Some, None, Result, Ok, Err, refl, sym, ap, ◌∙◌}
+use Rattle.std.proofs.Common.{subst, append-nil, arith}
 use Rattle.std.proofs.lemmas.List.{length_push}
 use Prim.Native.Char.{code}
 use Rattle.fancy_lex.specs.Characters.{bar}
@@ -11,10 +13,17 @@ use Rattle.fancy_lex.specs.declared.error.Error.{Error}
 use Rattle.fancy_lex.specs.declared.flags.Flags.{Flags}
 use Rattle.fancy_lex.specs.declared.error.Error.TheVariants.{ParseError}
 use Rattle.fancy_lex.specs.declared.error.ParseError.TheVariants.{UnclosedOpenParen}
-use Rattle.fancy_grammar.specs.Grammar.{Alternation, alternation, Branches, last, branch_fault, Branch, branch, stop, piece_fault, Piece, piece, layout_fault, Atom, atom, inside, the_body, condition_fault, two_branches, one_branch, absent_fault, closed, closed_at, restored, conditional_behind, conditional_of, branches_of}
+use Rattle.fancy_grammar.specs.Grammar.{Alternation, alternation, Branches, last, branch_fault, Branch, branch, stop}
+use Rattle.fancy_grammar.specs.Grammar.{piece_fault, Piece, piece, layout_fault, Atom, atom, inside, the_body}
+use Rattle.fancy_grammar.specs.Grammar.{condition_fault, two_branches, one_branch, absent_fault, closed, closed_at}
+use Rattle.fancy_grammar.specs.Grammar.{restored, conditional_behind, conditional_of, branches_of}
 use Rattle.fancy_grammar.specs.Grammar as grammar
 use Rattle.fancy_grammar.specs.Join.{solid, one_or, choice}
-use Rattle.fancy_syntax.specs.Machine.{parens, OpenPart, top, group, condition, body, first, second, part_of, holds_one, is_second, opened_by_bar, branches_at_bar, IsFaultOfBar, Part, Opens, a_group, a_condition, a_body, behind_condition, a_branch, behind_branch, lacks_body, node_of_part, goes_on, ended_part, Began, StepsOn, GivesPiece, Reading, Levels, outermost, inner}
+use Rattle.fancy_syntax.specs.Machine.{parens, OpenPart, top, group, condition, body, first, second, part_of, holds_one}
+use Rattle.fancy_syntax.specs.Machine.{is_second, opened_by_bar, branches_at_bar, IsFaultOfBar, Part, Opens, a_group}
+use Rattle.fancy_syntax.specs.Machine.{a_condition, a_body, behind_condition, a_branch, behind_branch, lacks_body}
+use Rattle.fancy_syntax.specs.Machine.{node_of_part, goes_on, ended_part, Began, StepsOn, GivesPiece, Reading, Levels}
+use Rattle.fancy_syntax.specs.Machine.{outermost, inner}
 use Rattle.fancy_grammar.specs.Grammar.{trees_before}
 use Rattle.fancy_grammar.specs.Head.{group_node}
 use Rattle.fancy_grammar.specs.Quantified.{quants}
@@ -33,11 +42,13 @@ use Rattle.fancy_grammar.proofs.Slices.{here, on, strip_slice, piece_slice}
 -- ---- a step
 
 -- an atom behind layout is a piece under its quantifiers
-pub piece_of : {n d left : ℕ} {s : State} {u : Text} {q o : Outcome Tree} → left ≡ bytes s.rest → skipped n s ≡ rest u → Atom n d (at s u) q →
+pub piece_of : {n d left : ℕ} {s : State} {u : Text} {q o : Outcome Tree} → left ≡ bytes s.rest → skipped n s ≡ rest u →
+    Atom n d (at s u) q →
     and_then q (quants n d left) ≡ o → Piece n d s o
 piece_of {n} {d} {q} {o} i l a e = piece l a (subst (λ m. and_then q (quants n d m) ≡ o) i e)
 
-pub steps_piece : {n d left : ℕ} (s : State) {t : State} {u : Text} {a : Tree} (r : Result Step Error) (v : State) → left ≡ bytes s.rest →
+pub steps_piece : {n d left : ℕ} (s : State) {t : State} {u : Text} {a : Tree} (r : Result Step Error) (v : State) →
+    left ≡ bytes s.rest →
     skipped n s ≡ rest u → Atom n d (at s u) (done a t) → GivesPiece r (quants n d left a t) v → StepsOn r n d s v
 steps_piece s (Ok (step.Piece tree)) v i l a h = piece_of i l a h
 steps_piece s (Ok (step.Open opener)) v i l a h = absurd h
@@ -45,17 +56,20 @@ steps_piece {n} {d} {left} s {t} {a = tree} (Err e) v i l a h =
     Fails-map (λ o. quants n d left tree t ≡ o) (Piece n d s) e (λ k p g. piece_of i l a g) h
 
 -- a fault of the layout before a piece is the piece's
-pub steps_layout : (n d : ℕ) (s : State) {p : ℕ} (e : Error) → e ≡ ParseError p UnclosedOpenParen → skipped n s ≡ open_comment p → Fails e (Piece n d s)
+pub steps_layout : (n d : ℕ) (s : State) {p : ℕ} (e : Error) → e ≡ ParseError p UnclosedOpenParen →
+    skipped n s ≡ open_comment p → Fails e (Piece n d s)
 steps_layout n d s e i l = rw i (layout_fault l)
 
 -- ---- what is open
 
 -- a fault inside is the piece's
-pub opens_fault : {n d p : ℕ} {s v : State} {k : Kind} {o : OpenPart} → Opens n d s o v → Part o n (d + 1) v (fault k p) → Piece n d s (fault k p)
+pub opens_fault : {n d p : ℕ} {s v : State} {k : Kind} {o : OpenPart} → Opens n d s o v →
+    Part o n (d + 1) v (fault k p) → Piece n d s (fault k p)
 opens_fault (a_group l e) r = piece l (atom e (grammar.a_group (inside r refl) refl) refl) refl
 opens_fault (a_condition l e) r = piece l (atom e (condition_fault (inside r refl)) refl) refl
 opens_fault (a_body l e) r = piece l (atom e (grammar.a_body (the_body r refl)) refl) refl
-opens_fault (behind_condition (a_condition l e) i) r = piece l (atom e (grammar.a_condition i (the_body r refl)) refl) refl
+opens_fault (behind_condition (a_condition l e) i) r =
+    piece l (atom e (grammar.a_condition i (the_body r refl)) refl) refl
 opens_fault (a_branch l e) r = piece l (atom e (absent_fault r) refl) refl
 opens_fault (behind_branch (a_branch l e) b f) r = piece l (atom e (two_branches b f r refl) refl) refl
 
@@ -77,7 +91,8 @@ pub ended_without_body : (n : ℕ) (p : OpenPart) (r : Tree) (s : State) → lac
     ended_part n p r s ≡ faulted (body_wanting n s.rest)
 ended_without_body n p r s e = rw e refl
 
-pub ended_closed : (n : ℕ) (p : OpenPart) (r : Tree) (s : State) → lacks_body p s ≡ false → ended_part n p r s ≡ closed n (node_of_part p r) s
+pub ended_closed : (n : ℕ) (p : OpenPart) (r : Tree) (s : State) → lacks_body p s ≡ false →
+    ended_part n p r s ≡ closed n (node_of_part p r) s
 ended_closed n p r s e = rw e refl
 
 -- a part may be followed by a bar only where it is the second branch of an absent expression, and then by a fault
@@ -85,18 +100,21 @@ abbrev MayEnd : OpenPart → State → Type 0
 MayEnd p s = holds_one p ≡ true → is_second p ≡ false → strip bar s.rest ≡ None
 
 -- a part ends, and with it the atom: the flags from before it hold again
-opens_ended : {n d : ℕ} {s v : State} {p : OpenPart} (r : Tree) (w : State) → Opens n d s p v → Part p n (d + 1) v (done r w) → goes_on p ≡ false →
+opens_ended : {n d : ℕ} {s v : State} {p : OpenPart} (r : Tree) (w : State) → Opens n d s p v →
+    Part p n (d + 1) v (done r w) → goes_on p ≡ false →
     MayEnd p w → (t : Text) × (skipped n s ≡ rest t) × Atom n d (at s t) (restored s.flags (ended_part n p r w))
 opens_ended {n} q w (a_group {h} {u} l e) r g f =
     (u, l, atom e (grammar.a_group (inside r refl) (closed_through n (group_node h (place_of n u)) q w)) refl)
 opens_ended q w (a_condition l e) r g f = absurd (true≢false g)
 opens_ended q w (a_body {u} l e) r g f = (u, l, atom e (grammar.a_body (the_body r refl)) refl)
-opens_ended q w (behind_condition (a_condition {u} l e) i) r g f = (u, l, atom e (grammar.a_condition i (the_body r refl)) refl)
+opens_ended q w (behind_condition (a_condition {u} l e) i) r g f =
+    (u, l, atom e (grammar.a_condition i (the_body r refl)) refl)
 opens_ended q w (a_branch {u} l e) r g f = (u, l, atom e (one_branch r (f refl refl) refl) refl)
 opens_ended q w (behind_branch (a_branch {u} l e) b i) r g f = (u, l, atom e (two_branches b i r refl) refl)
 
 -- where the atom goes on, the body of the conditional comes next
-pub condition_ended : {n d : ℕ} {s v t : State} {p : OpenPart} {c : Tree} (r : Tree) (w : State) → Opens n d s p v → Part p n (d + 1) v (done r w) → goes_on p ≡ true →
+pub condition_ended : {n d : ℕ} {s v t : State} {p : OpenPart} {c : Tree} (r : Tree) (w : State) → Opens n d s p v →
+    Part p n (d + 1) v (done r w) → goes_on p ≡ true →
     ended_part n p r w ≡ done c t → Opens n d s (body c (bytes t.rest)) t
 condition_ended r w (a_condition l e) x g h = behind_condition (a_condition l e) (inside x h)
 condition_ended r w (a_group l e) x g h = absurd (true≢false (sym g))
@@ -106,7 +124,8 @@ condition_ended r w (a_branch l e) x g h = absurd (true≢false (sym g))
 condition_ended r w (behind_branch x y z) a g h = absurd (true≢false (sym g))
 
 -- a fault at the end of a part is the piece's
-pub ended_fault : {n d q : ℕ} {s v : State} {k : Kind} {p : OpenPart} (r : Tree) (w : State) → Opens n d s p v → Part p n (d + 1) v (done r w) →
+pub ended_fault : {n d q : ℕ} {s v : State} {k : Kind} {p : OpenPart} (r : Tree) (w : State) → Opens n d s p v →
+    Part p n (d + 1) v (done r w) →
     MayEnd p w → ended_part n p r w ≡ fault k q → Piece n d s (fault k q)
 ended_fault {n} {d} {q} {s} {k} {p} r w x y f h = by_goes (goes_on p) refl
   where
@@ -125,8 +144,10 @@ ended_fault {n} {d} {q} {s} {k} {p} r w x y f h = by_goes (goes_on p) refl
         let (u, i, a) = opens_ended r w x y g f in piece i (subst (Atom n d (at s u)) (ap (restored s.flags) h) a) refl
 
 -- the atom that ends with a part, under its quantifiers
-pub closes : {n d left : ℕ} {s v t : State} {a : Tree} {p : OpenPart} (r : Tree) (w : State) (q : Result Step Error) (z : State) → Opens n d s p v →
-    Part p n (d + 1) v (done r w) → goes_on p ≡ false → strip bar w.rest ≡ None → ended_part n p r w ≡ done a t → left ≡ bytes s.rest →
+pub closes : {n d left : ℕ} {s v t : State} {a : Tree} {p : OpenPart} (r : Tree) (w : State) (q : Result Step Error)
+    (z : State) → Opens n d s p v →
+    Part p n (d + 1) v (done r w) → goes_on p ≡ false → strip bar w.rest ≡ None → ended_part n p r w ≡ done a t →
+    left ≡ bytes s.rest →
     GivesPiece q (quants n d left a (record t { flags = s.flags })) z → StepsOn q n d s z
 closes {n} {d} {s} r w q z x y g f h i e =
     let (u, l, b) = opens_ended r w x y g (λ _ _. f) in
@@ -145,7 +166,8 @@ reading_new n d p s bs ps e f = record {
   slice = here s.rest;
 }
 
-reading_piece : {n d : ℕ} {p : OpenPart} {s t v : State} {r : Tree} {bs ps : List Tree} (cs qs : List Tree) → Reading n d p s bs ps t → ends t.rest ≡ false →
+reading_piece : {n d : ℕ} {p : OpenPart} {s t v : State} {r : Tree} {bs ps : List Tree} (cs qs : List Tree) →
+    Reading n d p s bs ps t → ends t.rest ≡ false →
     Piece n d t (done r v) → cs ≡ bs → qs ≡ ps ++ solid (r ∷ []) → Reading n d p s cs qs v
 reading_piece {r} cs qs h e a i j = record {
   begin = h.begin;
@@ -162,19 +184,24 @@ abbrev pub joined : List Tree → Tree
 joined = one_or concat
 
 -- the open branch ends at t
-reading_branch : {n d : ℕ} {p : OpenPart} {s t : State} {bs ps : List Tree} (h : Reading n d p s bs ps t) → ends t.rest ≡ true →
+reading_branch : {n d : ℕ} {p : OpenPart} {s t : State} {bs ps : List Tree} (h : Reading n d p s bs ps t) →
+    ends t.rest ≡ true →
     Branch n d h.begin (done (joined ps) t)
 reading_branch {n} {d} {t} h e =
     let b = branch (h.branch (done [] t) (stop e)) refl in
     subst (λ x. Branch n d h.begin (done (one_or concat x) t)) (ap solid (append-nil h.read) ∙ h.same) b
 
 -- the one branch of a part that holds no other
-reading_one : {n d : ℕ} {p : OpenPart} {s t : State} {bs ps : List Tree} → Reading n d p s bs ps t → holds_one p ≡ true → ends t.rest ≡ true →
+reading_one : {n d : ℕ} {p : OpenPart} {s t : State} {bs ps : List Tree} → Reading n d p s bs ps t →
+    holds_one p ≡ true → ends t.rest ≡ true →
     Branch n d s (done (joined ps) t)
-reading_one {n} {d} {t} {ps} h k e = subst (λ (x : State). Branch n d x (done (joined ps) t)) (h.one k).0 (reading_branch h e)
+reading_one {n} {d} {t} {ps} h k e = subst (λ (x : State). Branch n d x (done (joined ps) t)) (h.one k).0
+    (reading_branch h e)
 
-reading_bar : {n d : ℕ} {p : OpenPart} {s t : State} {u : Text} {bs ps : List Tree} (cs qs : List Tree) → Reading n d p s bs ps t → holds_one p ≡ false →
-    ends t.rest ≡ true → strip bar t.rest ≡ Some u → cs ≡ bs ++ joined ps ∷ [] → qs ≡ [] → Reading n d p s cs qs (at t u)
+reading_bar : {n d : ℕ} {p : OpenPart} {s t : State} {u : Text} {bs ps : List Tree} (cs qs : List Tree) →
+    Reading n d p s bs ps t → holds_one p ≡ false →
+    ends t.rest ≡ true → strip bar t.rest ≡ Some u → cs ≡ bs ++ joined ps ∷ [] → qs ≡ [] →
+    Reading n d p s cs qs (at t u)
 reading_bar {n} {d} {s} {t} {u} {bs} {ps} cs qs h k e f i j = record {
   begin = at t u;
   read = [];
@@ -187,12 +214,14 @@ reading_bar {n} {d} {s} {t} {u} {bs} {ps} cs qs h k e f i j = record {
   slice = on h.slice (strip_slice bar t.rest u f);
 }
 
-reading_alternation : {n d : ℕ} {p : OpenPart} {s t : State} {bs ps : List Tree} → Reading n d p s bs ps t → ends t.rest ≡ true → strip bar t.rest ≡ None →
+reading_alternation : {n d : ℕ} {p : OpenPart} {s t : State} {bs ps : List Tree} → Reading n d p s bs ps t →
+    ends t.rest ≡ true → strip bar t.rest ≡ None →
     Alternation n d s (done (choice (bs ++ joined ps ∷ [])) t)
 reading_alternation h e f = alternation (h.all _ (last (reading_branch h e) f)) refl
 
 -- what is open ends at t
-reading_end : {n d : ℕ} {s t : State} {bs ps : List Tree} (p : OpenPart) → Reading n d p s bs ps t → ends t.rest ≡ true → strip bar t.rest ≡ None →
+reading_end : {n d : ℕ} {s t : State} {bs ps : List Tree} (p : OpenPart) → Reading n d p s bs ps t →
+    ends t.rest ≡ true → strip bar t.rest ≡ None →
     Part p n d s (done (choice (bs ++ joined ps ∷ [])) t)
 reading_end top h e f = reading_alternation h e f
 reading_end (group _ _) h e f = reading_alternation h e f
@@ -203,23 +232,30 @@ reading_end {n} {d} {s} {t} {ps} first h e f =
 reading_end {n} {d} {s} {t} {ps} (second a) h e f =
     subst (λ l. Branch n d s (done (choice (l ++ joined ps ∷ [])) t)) (sym (h.one refl).1) (reading_one h refl e)
 
-reading_branch_fault : {n d q : ℕ} {p : OpenPart} {s t : State} {k : Kind} {bs ps : List Tree} (h : Reading n d p s bs ps t) → ends t.rest ≡ false →
+reading_branch_fault : {n d q : ℕ} {p : OpenPart} {s t : State} {k : Kind} {bs ps : List Tree}
+    (h : Reading n d p s bs ps t) → ends t.rest ≡ false →
     Piece n d t (fault k q) → Branch n d h.begin (fault k q)
 reading_branch_fault {q} {k} h e a = branch (h.branch (fault k q) (piece_fault e a)) refl
 
-reading_fault : {n d q : ℕ} {s t : State} {k : Kind} {bs ps : List Tree} (p : OpenPart) → Reading n d p s bs ps t → ends t.rest ≡ false →
+reading_fault : {n d q : ℕ} {s t : State} {k : Kind} {bs ps : List Tree} (p : OpenPart) → Reading n d p s bs ps t →
+    ends t.rest ≡ false →
     Piece n d t (fault k q) → Part p n d s (fault k q)
 reading_fault {q} {k} top h e a = alternation (h.all (fault k q) (branch_fault (reading_branch_fault h e a))) refl
-reading_fault {q} {k} (group _ _) h e a = alternation (h.all (fault k q) (branch_fault (reading_branch_fault h e a))) refl
+reading_fault {q} {k} (group _ _) h e a = alternation (h.all (fault k q) (branch_fault (reading_branch_fault h e a)))
+    refl
 reading_fault {q} {k} condition h e a = alternation (h.all (fault k q) (branch_fault (reading_branch_fault h e a))) refl
-reading_fault {q} {k} (body _ _) h e a = alternation (h.all (fault k q) (branch_fault (reading_branch_fault h e a))) refl
-reading_fault {n} {d} {q} {k} first h e a = subst (λ (x : State). Branch n d x (fault k q)) (h.one refl).0 (reading_branch_fault h e a)
-reading_fault {n} {d} {q} {k} (second b) h e a = subst (λ (x : State). Branch n d x (fault k q)) (h.one refl).0 (reading_branch_fault h e a)
+reading_fault {q} {k} (body _ _) h e a = alternation (h.all (fault k q) (branch_fault (reading_branch_fault h e a)))
+    refl
+reading_fault {n} {d} {q} {k} first h e a =
+    subst (λ (x : State). Branch n d x (fault k q)) (h.one refl).0 (reading_branch_fault h e a)
+reading_fault {n} {d} {q} {k} (second b) h e a =
+    subst (λ (x : State). Branch n d x (fault k q)) (h.one refl).0 (reading_branch_fault h e a)
 
 -- ---- the stack of open groups
 
 -- the fault of what is open is that of the whole
-levels_fault : {n : ℕ} {start : State} {d p : ℕ} {s : State} {k : Kind} {fs : List Frame} {o : OpenPart} → Levels n start fs o d s →
+levels_fault : {n : ℕ} {start : State} {d p : ℕ} {s : State} {k : Kind} {fs : List Frame} {o : OpenPart} →
+    Levels n start fs o d s →
     Part o n d s (fault k p) → Alternation n 0 start (fault k p)
 levels_fault outermost r = r
 levels_fault (inner f e l h i m j) r = levels_fault l (reading_fault (part_of f.opener) h m (opens_fault j r))
@@ -228,7 +264,8 @@ push-not_nil : {A : Type 0} (l : List A) (x : A) → [] ≡ l ++ x ∷ [] → �
 push-not_nil [] x e = cc
 push-not_nil (y ∷ l) x e = cc
 
-levels_none : {n : ℕ} {start : State} {d : ℕ} {s : State} {fs : List Frame} {o : OpenPart} → Levels n start fs o d s → fs ≡ [] → (d ≡ 0) × (s ≡ start) × (o ≡ top)
+levels_none : {n : ℕ} {start : State} {d : ℕ} {s : State} {fs : List Frame} {o : OpenPart} → Levels n start fs o d s →
+    fs ≡ [] → (d ≡ 0) × (s ≡ start) × (o ≡ top)
 levels_none outermost e = (refl, refl, refl)
 levels_none (inner {frames} f i l h a j k) e = absurd (push-not_nil frames f (sym e ∙ i))
 
@@ -252,7 +289,8 @@ record Outer (n : ℕ) (start : State) (gs : List Frame) (g : Frame) (o : OpenPa
   more : ends here.rest ≡ false
   opens : Opens n depth here o s
 
-levels_pop : {n : ℕ} {start : State} (gs : List Frame) (g : Frame) {d : ℕ} {s : State} {fs : List Frame} {o : OpenPart} → Levels n start fs o d s →
+levels_pop : {n : ℕ} {start : State} (gs : List Frame) (g : Frame) {d : ℕ} {s : State} {fs : List Frame}
+    {o : OpenPart} → Levels n start fs o d s →
     fs ≡ gs ++ g ∷ [] → Outer n start gs g o d s
 levels_pop gs g outermost e = absurd (push-not_nil gs g e)
 levels_pop {n} {start} gs g (inner {d} {s} {t} {frames} f i l h a m j) e =
@@ -262,7 +300,8 @@ levels_pop {n} {start} gs g (inner {d} {s} {t} {frames} f i l h a m j) e =
       begin = s;
       here = t;
       deeper = refl;
-      levels = subst (λ (x : Frame). Levels n start gs (part_of x.opener) d s) p.1 (subst (λ x. Levels n start x (part_of f.opener) d s) p.0 l);
+      levels = subst (λ (x : Frame). Levels n start gs (part_of x.opener) d s) p.1
+          (subst (λ x. Levels n start x (part_of f.opener) d s) p.0 l);
       reading = subst (λ (x : Frame). Reading n d (part_of x.opener) s (trees x.branches) (trees x.pieces) t) p.1 h;
       began = subst (λ (x : Frame). Began x t) p.1 a;
       more = m;
@@ -278,7 +317,8 @@ pub record Running (n : ℕ) (start : State) (stack : List Frame) (f : Frame) (t
   pub levels : Levels n start stack (part_of f.opener) depth begin
   pub reading : Reading n depth (part_of f.opener) begin (trees f.branches) (trees f.pieces) t
 
-pub running_start : (n : ℕ) (start : State) (stack : List Frame) (f : Frame) → stack ≡ [] → trees f.branches ≡ [] → trees f.pieces ≡ [] →
+pub running_start : (n : ℕ) (start : State) (stack : List Frame) (f : Frame) → stack ≡ [] → trees f.branches ≡ [] →
+    trees f.pieces ≡ [] →
     part_of f.opener ≡ top → Running n start stack f start
 running_start n start stack f e i j k = record {
   depth = 0;
@@ -289,17 +329,21 @@ running_start n start stack f e i j k = record {
 }
 
 -- what stands on the stack does not change by where the piece began
-pub running_began : {n : ℕ} {start t : State} {stack : List Frame} {f : Frame} (left : ℕ) (flags : Flags) → Running n start stack f t →
+pub running_began : {n : ℕ} {start t : State} {stack : List Frame} {f : Frame} (left : ℕ) (flags : Flags) →
+    Running n start stack f t →
     Running n start stack (record f { left = left; flags = flags }) t
 running_began left flags h =
     record { depth = h.depth; begin = h.begin; is_depth = h.is_depth; levels = h.levels; reading = h.reading }
 
-pub running_fault : {n : ℕ} {start t : State} {stack : List Frame} {f : Frame} {p : ℕ} {k : Kind} (h : Running n start stack f t) → ends t.rest ≡ false →
+pub running_fault : {n : ℕ} {start t : State} {stack : List Frame} {f : Frame} {p : ℕ} {k : Kind}
+    (h : Running n start stack f t) → ends t.rest ≡ false →
     Piece n (length stack) t (fault k p) → Alternation n 0 start (fault k p)
 running_fault {n} {t} {f} {p} {k} h e a =
-    levels_fault h.levels (reading_fault (part_of f.opener) h.reading e (subst (λ d. Piece n d t (fault k p)) (sym h.is_depth) a))
+    levels_fault h.levels
+    (reading_fault (part_of f.opener) h.reading e (subst (λ d. Piece n d t (fault k p)) (sym h.is_depth) a))
 
-pub running_piece : {n : ℕ} {start t v : State} {stack : List Frame} {f : Frame} {r : Tree} (g : Frame) → Running n start stack f t → ends t.rest ≡ false →
+pub running_piece : {n : ℕ} {start t v : State} {stack : List Frame} {f : Frame} {r : Tree} (g : Frame) →
+    Running n start stack f t → ends t.rest ≡ false →
     Piece n (length stack) t (done r v) → part_of g.opener ≡ part_of f.opener → trees g.branches ≡ trees f.branches →
     trees g.pieces ≡ trees f.pieces ++ solid (r ∷ []) → Running n start stack g v
 running_piece {n} {t} {v} {r} g h e a i j k = record {
@@ -311,8 +355,10 @@ running_piece {n} {t} {v} {r} g h e a i j k = record {
 }
 
 -- a part is opened in the piece that began there
-pub running_open : {n : ℕ} {start t v : State} {stack : List Frame} {f : Frame} {o : OpenPart} (all : List Frame) (g : Frame) → Running n start stack f t →
-    Began f t → ends t.rest ≡ false → Opens n (length stack) t o v → all ≡ stack ++ f ∷ [] → part_of g.opener ≡ o → trees g.branches ≡ [] →
+pub running_open : {n : ℕ} {start t v : State} {stack : List Frame} {f : Frame} {o : OpenPart} (all : List Frame)
+    (g : Frame) → Running n start stack f t →
+    Began f t → ends t.rest ≡ false → Opens n (length stack) t o v → all ≡ stack ++ f ∷ [] → part_of g.opener ≡ o →
+    trees g.branches ≡ [] →
     trees g.pieces ≡ [] → Running n start all g v
 running_open {n} {t} {v} {stack} {f} {o} all g h b e a i j k l = record {
   depth = h.depth + 1;
@@ -323,13 +369,17 @@ running_open {n} {t} {v} {stack} {f} {o} all g h b e a i j k l = record {
 }
 
 -- behind a bar the second branch of an absent expression is open
-levels_bar : {n d : ℕ} {start s t : State} {u : Text} {a : Tree} {fs : List Frame} → Levels n start fs first d s → Branch n d s (done a t) →
+levels_bar : {n d : ℕ} {start s t : State} {u : Text} {a : Tree} {fs : List Frame} → Levels n start fs first d s →
+    Branch n d s (done a t) →
     strip bar t.rest ≡ Some u → Levels n start fs (second a) d (at t u)
 levels_bar (inner f i l h m j x) b e = inner f i l h m j (behind_branch x b e)
 
-pub running_bar : {n : ℕ} {start t : State} {u : Text} {stack : List Frame} {f : Frame} (g : Frame) → Running n start stack f t → ends t.rest ≡ true →
-    strip bar t.rest ≡ Some u → is_second (part_of f.opener) ≡ false → part_of g.opener ≡ opened_by_bar (part_of f.opener) (joined (trees f.pieces)) →
-    trees g.branches ≡ branches_at_bar (part_of f.opener) (trees f.branches) (joined (trees f.pieces)) → trees g.pieces ≡ [] → Running n start stack g (at t u)
+pub running_bar : {n : ℕ} {start t : State} {u : Text} {stack : List Frame} {f : Frame} (g : Frame) →
+    Running n start stack f t → ends t.rest ≡ true →
+    strip bar t.rest ≡ Some u → is_second (part_of f.opener) ≡ false →
+    part_of g.opener ≡ opened_by_bar (part_of f.opener) (joined (trees f.pieces)) →
+    trees g.branches ≡ branches_at_bar (part_of f.opener) (trees f.branches) (joined (trees f.pieces)) →
+    trees g.pieces ≡ [] → Running n start stack g (at t u)
 running_bar {n} {start} {t} {u} {stack} {f} g h e b x i j k = by_open (part_of f.opener) h.levels h.reading x i j
   where
     ordinary : {p : OpenPart} → holds_one p ≡ false → Levels n start stack p h.depth h.begin →
@@ -343,9 +393,11 @@ running_bar {n} {start} {t} {u} {stack} {f} g h e b x i j k = by_open (part_of f
       reading = rw i (reading_bar _ _ r z e b j k);
     }
 
-    by_open : (p : OpenPart) → Levels n start stack p h.depth h.begin → Reading n h.depth p h.begin (trees f.branches) (trees f.pieces) t →
+    by_open : (p : OpenPart) → Levels n start stack p h.depth h.begin →
+        Reading n h.depth p h.begin (trees f.branches) (trees f.pieces) t →
         is_second p ≡ false → part_of g.opener ≡ opened_by_bar p (joined (trees f.pieces)) →
-        trees g.branches ≡ branches_at_bar p (trees f.branches) (joined (trees f.pieces)) → Running n start stack g (at t u)
+        trees g.branches ≡ branches_at_bar p (trees f.branches) (joined (trees f.pieces)) →
+        Running n start stack g (at t u)
     by_open top l r x i j = ordinary refl l r i j
     by_open (group _ _) l r x i j = ordinary refl l r i j
     by_open condition l r x i j = ordinary refl l r i j
@@ -372,31 +424,40 @@ closed_other n r t c u e h = ap (closed_at n r t) e ∙ other (c == code ")") (s
 bar_does_not_close : bar ≢ code ")"
 bar_does_not_close e = omega (arith, e)
 
-second_fault : {n d p : ℕ} {start s t : State} {k : Kind} {a r : Tree} {fs : List Frame} → Levels n start fs (second a) d s → Branch n d s (done r t) →
+second_fault : {n d p : ℕ} {start s t : State} {k : Kind} {a r : Tree} {fs : List Frame} →
+    Levels n start fs (second a) d s → Branch n d s (done r t) →
     closed n (absent (expression a r)) t ≡ fault k p → Alternation n 0 start (fault k p)
 second_fault {n} {t} {a} {r} (inner f i l h m j x) b e =
     levels_fault l (reading_fault (part_of f.opener) h j (ended_fault r t x b (λ _ z. absurd (true≢false z)) e))
 
-pub running_bar_fault : {n : ℕ} {start t : State} {u : Text} {stack : List Frame} {f : Frame} (o : Outcome Tree) → Running n start stack f t →
-    ends t.rest ≡ true → strip bar t.rest ≡ Some u → IsFaultOfBar (part_of f.opener) n t.rest o → Alternation n 0 start o
+pub running_bar_fault : {n : ℕ} {start t : State} {u : Text} {stack : List Frame} {f : Frame} (o : Outcome Tree) →
+    Running n start stack f t →
+    ends t.rest ≡ true → strip bar t.rest ≡ Some u → IsFaultOfBar (part_of f.opener) n t.rest o →
+    Alternation n 0 start o
 running_bar_fault {n} {start} {t} {u} {stack} {f} o h e b x = by_open (part_of f.opener) h.levels h.reading x
   where
-    by_open : (p : OpenPart) → Levels n start stack p h.depth h.begin → Reading n h.depth p h.begin (trees f.branches) (trees f.pieces) t →
+    by_open : (p : OpenPart) → Levels n start stack p h.depth h.begin →
+        Reading n h.depth p h.begin (trees f.branches) (trees f.pieces) t →
         IsFaultOfBar p n t.rest o → Alternation n 0 start o
     by_open (second a) l r x =
         subst (Alternation n 0 start) (sym x)
-        (second_fault l (reading_one r refl e) (closed_other n (absent (expression a (joined (trees f.pieces)))) t bar u (strip_is bar t.rest u b) bar_does_not_close))
+        (second_fault l (reading_one r refl e)
+        (closed_other n (absent (expression a (joined (trees f.pieces)))) t bar u (strip_is bar t.rest u b)
+        bar_does_not_close))
     by_open top l r x = absurd x
     by_open (group _ _) l r x = absurd x
     by_open condition l r x = absurd x
     by_open (body _ _) l r x = absurd x
     by_open first l r x = absurd x
 
-pub running_end : {n : ℕ} {start t : State} {stack : List Frame} {f : Frame} (r : Tree) → Running n start stack f t → ends t.rest ≡ true →
-    strip bar t.rest ≡ None → r ≡ choice (trees f.branches ++ joined (trees f.pieces) ∷ []) → stack ≡ [] → Alternation n 0 start (done r t)
+pub running_end : {n : ℕ} {start t : State} {stack : List Frame} {f : Frame} (r : Tree) → Running n start stack f t →
+    ends t.rest ≡ true →
+    strip bar t.rest ≡ None → r ≡ choice (trees f.branches ++ joined (trees f.pieces) ∷ []) → stack ≡ [] →
+    Alternation n 0 start (done r t)
 running_end {n} {start} {t} r h e a i j =
     let m = levels_none h.levels j in
-    rw i (subst (λ s. Alternation n 0 s (done _ t)) m.1 (subst (λ d. Alternation n d h.begin (done _ t)) m.0 (reading_alternation h.reading e a)))
+    rw i (subst (λ s. Alternation n 0 s (done _ t)) m.1
+    (subst (λ d. Alternation n d h.begin (done _ t)) m.0 (reading_alternation h.reading e a)))
 
 opens_not_top : {n d : ℕ} {s v : State} {o : OpenPart} → Opens n d s o v → o ≢ top
 opens_not_top (a_group l e) i = cc
@@ -407,7 +468,8 @@ opens_not_top (a_branch l e) i = cc
 opens_not_top (behind_branch x y z) i = cc
 
 -- what the part that is to be closed stands in
-pub record Closing (n : ℕ) (start : State) (stack : List Frame) (g : Frame) (o : OpenPart) (r : Tree) (t : State) : Type 0 where
+pub record Closing (n : ℕ) (start : State) (stack : List Frame) (g : Frame) (o : OpenPart) (r : Tree) (t : State) : Type
+    0 where
   pub here : State
   pub inside : State
   pub outer : Running n start stack g here
@@ -417,13 +479,16 @@ pub record Closing (n : ℕ) (start : State) (stack : List Frame) (g : Frame) (o
   pub whole : Part o n (length stack + 1) inside (done r t)
   pub not_top : o ≢ top
 
-pub running_closing : {n : ℕ} {start t : State} {all : List Frame} {f : Frame} (stack : List Frame) (g : Frame) (r : Tree) (q : OpenPart) → q ≡ part_of f.opener →
+pub running_closing : {n : ℕ} {start t : State} {all : List Frame} {f : Frame} (stack : List Frame) (g : Frame)
+    (r : Tree) (q : OpenPart) → q ≡ part_of f.opener →
     Running n start all f t → ends t.rest ≡ true → strip bar t.rest ≡ None →
-    r ≡ choice (trees f.branches ++ joined (trees f.pieces) ∷ []) → all ≡ stack ++ g ∷ [] → Closing n start stack g q r t
+    r ≡ choice (trees f.branches ++ joined (trees f.pieces) ∷ []) → all ≡ stack ++ g ∷ [] →
+    Closing n start stack g q r t
 running_closing {n} {t} {f} stack g r q z h e a i j =
     let o = levels_pop stack g h.levels j in
     let m : o.depth ≡ length stack = omega (arith, o.deeper, h.is_depth, ap length j, length_push stack g) in
-    let opens : Opens n (length stack) o.here q h.begin = rw z (subst (λ d. Opens n d o.here (part_of f.opener) h.begin) m o.opens) in
+    let opens : Opens n (length stack) o.here q h.begin =
+    rw z (subst (λ d. Opens n d o.here (part_of f.opener) h.begin) m o.opens) in
     record {
       here = o.here;
       inside = h.begin;
@@ -431,18 +496,21 @@ running_closing {n} {t} {f} stack g r q z h e a i j =
       began = o.began;
       more = o.more;
       opens = opens;
-      whole = rw (z, i) (subst (λ d. Part (part_of f.opener) n d h.begin (done _ t)) (o.deeper ∙ ap (λ d. d + 1) m) (reading_end (part_of f.opener) h.reading e a));
+      whole = rw (z, i) (subst (λ d. Part (part_of f.opener) n d h.begin (done _ t)) (o.deeper ∙ ap (λ d. d + 1) m)
+          (reading_end (part_of f.opener) h.reading e a));
       not_top = opens_not_top opens;
     }
 
 -- ---- the room for the stack
 
 -- each open group took a parenthesis
-levels_parens : {n : ℕ} {start : State} {d : ℕ} {s : State} {fs : List Frame} {o : OpenPart} → Levels n start fs o d s → d + parens s.rest ≤ parens start.rest
+levels_parens : {n : ℕ} {start : State} {d : ℕ} {s : State} {fs : List Frame} {o : OpenPart} → Levels n start fs o d s →
+    d + parens s.rest ≤ parens start.rest
 levels_parens outermost = omega arith
 levels_parens (inner f i l h a m j) = omega (arith, levels_parens l, slice_parens h.slice, opens_parens j)
 
 -- another group is opened only where a parenthesis is left for it
-pub running_room : {n : ℕ} {start t v : State} {stack : List Frame} {f : Frame} {o : OpenPart} → Running n start stack f t →
+pub running_room : {n : ℕ} {start t v : State} {stack : List Frame} {f : Frame} {o : OpenPart} →
+    Running n start stack f t →
     Opens n (length stack) t o v → length stack < parens start.rest
 running_room h j = omega (arith, h.is_depth, levels_parens h.levels, slice_parens h.reading.slice, opens_parens j)

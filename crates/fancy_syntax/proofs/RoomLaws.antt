@@ -1,5 +1,6 @@
 -- How many groups may be open: each begins with a parenthesis of the text.
-use Rattle.std.proofs.Common.{◌≡◌, ◌==◌, if◌then◌else◌, ℕ, ◌+◌, ◌≤◌, ◌<◌, suc, Bool, true, false, List, [], ◌∷◌, ◌++◌, refl, sym, ap, ◌∙◌, subst, arith, chars, nat_lt, length, get_or}
+use Rattle.std.proofs.Common.{◌≡◌, ◌==◌, if◌then◌else◌, ℕ, ◌+◌, ◌≤◌, ◌<◌, suc, Bool, true, false, List, [], ◌∷◌, ◌++◌}
+use Rattle.std.proofs.Common.{refl, sym, ap, ◌∙◌, subst, arith, chars, nat_lt, length, get_or}
 use Rattle.std.specs.Prelude.{⊤}
 use Rattle.std.proofs.lemmas.Bool.{cond_both}
 use Rattle.std.proofs.lemmas.Bool.Decides.{nat_tests}
@@ -12,8 +13,10 @@ use borrow.Author.Tests.{ltb-true, ltb-false}
 use Rattle.fancy_lex.specs.Characters.{bar}
 use Rattle.fancy_lex.specs.Text.{Text, bytes}
 use Rattle.fancy_parts.proofs.QuoteLemmas.{bytes_high}
-use Rattle.fancy_grammar.specs.Ahead.{Ahead, nothing, leaf, with_head, condition, body, absent_branch, ahead, ahead_of, is_before_nothing}
-use Rattle.fancy_syntax.specs.Machine.{parens, OpenPart, Opens, a_group, a_condition, a_body, behind_condition, a_branch, behind_branch}
+use Rattle.fancy_grammar.specs.Ahead.{Ahead, nothing, leaf, with_head, condition, body, absent_branch, ahead, ahead_of}
+use Rattle.fancy_grammar.specs.Ahead.{is_before_nothing}
+use Rattle.fancy_syntax.specs.Machine.{parens, OpenPart, Opens, a_group, a_condition, a_body, behind_condition}
+use Rattle.fancy_syntax.specs.Machine.{a_branch, behind_branch}
 use Rattle.fancy_grammar.specs.Slices.{Slice}
 use Rattle.fancy_grammar.specs.State.{State, at}
 use Rattle.fancy_grammar.proofs.Slices.{AheadSlice, ahead_slice, skipped_slice, inside_slice, branch_slice, strip_slice}
@@ -69,17 +72,29 @@ fewer t u (v, e) a l = by_word a.word a.cut
 pub opens_parens : {n d : ℕ} {s t : State} {o : OpenPart} → Opens n d s o t → parens t.rest + 1 ≤ parens s.rest
 opens_parens (a_group {n} {d} {s} {t} {u} l e) =
     let h = subst (AheadSlice n (at s u)) e (ahead_slice n d (at s u)) in
-    omega (arith, slice_parens (skipped_slice n s u l), fewer u t.rest (subst (Begins u) e (ahead_begins n d (at s u))) h.0 h.1)
+    omega (
+      arith,
+      slice_parens (skipped_slice n s u l),
+      fewer u t.rest (subst (Begins u) e (ahead_begins n d (at s u))) h.0 h.1,
+    )
 opens_parens (a_condition {n} {d} {s} {t} {u} l e) =
     let h = subst (AheadSlice n (at s u)) e (ahead_slice n d (at s u)) in
-    omega (arith, slice_parens (skipped_slice n s u l), fewer u t.rest (subst (Begins u) e (ahead_begins n d (at s u))) h.0 h.1)
+    omega (
+      arith,
+      slice_parens (skipped_slice n s u l),
+      fewer u t.rest (subst (Begins u) e (ahead_begins n d (at s u))) h.0 h.1,
+    )
 opens_parens (a_body {n} {d} {s} {t} {u} l e) =
     let h = subst (AheadSlice n (at s u)) e (ahead_slice n d (at s u)) in
     let less = fewer u t.rest (subst (Begins u) e (ahead_begins n d (at s u))) h.0.slice (omega (arith, h.1)) in
     omega (arith, slice_parens (skipped_slice n s u l), less)
 opens_parens (a_branch {n} {d} {s} {t} {u} l e) =
     let h = subst (AheadSlice n (at s u)) e (ahead_slice n d (at s u)) in
-    omega (arith, slice_parens (skipped_slice n s u l), fewer u t.rest (subst (Begins u) e (ahead_begins n d (at s u))) h.0 h.1)
+    omega (
+      arith,
+      slice_parens (skipped_slice n s u l),
+      fewer u t.rest (subst (Begins u) e (ahead_begins n d (at s u))) h.0 h.1,
+    )
 opens_parens (behind_condition x i) = omega (arith, opens_parens x, slice_parens (inside_slice i).slice)
 opens_parens (behind_branch {v} {u} x b e) =
     omega (arith, opens_parens x, slice_parens (branch_slice b).slice, slice_parens (strip_slice bar v.rest u e))
@@ -102,7 +117,14 @@ encoded_char c false e =
 
 encoded : (t : Text) → parens (encodes t) ≡ parens t
 encoded [] = refl
-encoded (c ∷ t) = omega (arith, parens-append (encode c) (encodes t), encoded_char c (nat_lt c 128) refl, encoded t, parens-append (c ∷ []) t)
+encoded (c ∷ t) =
+    omega (
+      arith,
+      parens-append (encode c) (encodes t),
+      encoded_char c (nat_lt c 128) refl,
+      encoded t,
+      parens-append (c ∷ []) t,
+    )
 
 pub parens_bytes : (bs : List ℕ) → IsUtf8 bs → parens bs ≡ parens (chars bs)
 parens_bytes bs u = rw (encodes-chars bs u) at (encoded (chars bs))

@@ -20,8 +20,10 @@ nothing_stops n d s u (Ok (step.Open opener)) v P e h g = absurd g
 nothing_stops n d s u (Err e) v P f h g = tt
 
 -- behind the layout before a piece, nothing is read only where layout was
-pub nothing_shorter : (n d k l m left : ℕ) (s : State) (u : Text) (r : Result Step Error) (v : State) → ahead n d (at s u) ≡ nothing → ends s.rest ≡ false →
-    left ≡ bytes s.rest → GivesPiece r (quants n d left empty (at s u)) v → l ≤ m → (l ≡ m → u ≡ s.rest) → k ≤ l → IfOk r (λ _. k < m)
+pub nothing_shorter : (n d k l m left : ℕ) (s : State) (u : Text) (r : Result Step Error) (v : State) →
+    ahead n d (at s u) ≡ nothing → ends s.rest ≡ false →
+    left ≡ bytes s.rest → GivesPiece r (quants n d left empty (at s u)) v → l ≤ m → (l ≡ m → u ≡ s.rest) → k ≤ l →
+    IfOk r (λ _. k < m)
 nothing_shorter n d k l m left s u r v e h b g i same within = ⊎_elim stops shorter (eq-or-lt_of_le i)
   where
     below : (r : Result Step Error) → l < m → IfOk r (λ _. k < m)
@@ -34,4 +36,5 @@ nothing_shorter n d k l m left s u r v e h b g i same within = ⊎_elim stops sh
     stops : l ≡ m → IfOk r (λ _. k < m)
     stops j =
         let at_start : left ≡ bytes u = b ∙ ap bytes (sym (same j)) in
-        nothing_stops n d s u r v _ e (ap ends (same j) ∙ h) (subst (λ x. GivesPiece r (quants n d x empty (at s u)) v) at_start g)
+        nothing_stops n d s u r v _ e (ap ends (same j) ∙ h)
+        (subst (λ x. GivesPiece r (quants n d x empty (at s u)) v) at_start g)

@@ -59,7 +59,8 @@ meaning_noted k p place role m =
       fault = walk.or_else (option_map fault_at p.fault) (fault_or (meaning_of m) place None);
     }
 
--- the marks that the end of the walk says, given the groups that have a number and whether these are the named ones alone
+-- the marks that the end of the walk says, given the groups that have a number and whether these are the named ones
+-- alone
 abbrev pub marks_found : Bool → Groups → walk.Progress → spec.Marks
 marks_found named groups p = record {
   backrefs = p.backrefs;

@@ -1,5 +1,6 @@
 -- What a letter adds to the flags that are named.
-use Rattle.std.proofs.Common.{◌≡◌, ℕ, Bool, true, false, ◌||◌, [], ◌∷◌, ◌≢◌, codes, refl, sym, ap, subst, ◌∙◌, inl, inr, ⊎_elim, true≢false}
+use Rattle.std.proofs.Common.{◌≡◌, ℕ, Bool, true, false, ◌||◌, [], ◌∷◌, ◌≢◌, codes, refl, sym, ap, subst, ◌∙◌, inl, inr}
+use Rattle.std.proofs.Common.{⊎_elim, true≢false}
 use Rattle.std.specs.List.{list_all}
 use Rattle.std.specs.Int.Bits.{bit_or}
 use Rattle.std.proofs.Math.Bool.{or-true, or-false}
@@ -10,31 +11,144 @@ use Rattle.fancy_lex.specs.declared.flags.Flags.{Flags}
 use Rattle.fre_program.specs.FlagWord.{named_flags, is_letter, NamesFlags, either}
 
 pub sets_casei : (c bits : ℕ) → c ≡ 105 → flags_of (bit_or bits 1) ≡ either (flags_of bits) (named_flags (c ∷ []))
-sets_casei c bits h = rw (h, and_or_self 1 bits, and_or_apart 2 bits 1 refl, and_or_apart 4 bits 1 refl, and_or_apart 8 bits 1 refl, and_or_apart 16 bits 1 refl, and_or_apart 32 bits 1 refl, and_or_apart 64 bits 1 refl, and_or_apart 128 bits 1 refl, and_or_apart 256 bits 1 refl) (simp (or-true, or-false) refl)
+sets_casei c bits h =
+    rw (
+      h,
+      and_or_self 1 bits,
+      and_or_apart 2 bits 1 refl,
+      and_or_apart 4 bits 1 refl,
+      and_or_apart 8 bits 1 refl,
+      and_or_apart 16 bits 1 refl,
+      and_or_apart 32 bits 1 refl,
+      and_or_apart 64 bits 1 refl,
+      and_or_apart 128 bits 1 refl,
+      and_or_apart 256 bits 1 refl,
+    ) (simp (or-true, or-false) refl)
 
 pub sets_multi : (c bits : ℕ) → c ≡ 109 → flags_of (bit_or bits 2) ≡ either (flags_of bits) (named_flags (c ∷ []))
-sets_multi c bits h = rw (h, and_or_self 2 bits, and_or_apart 1 bits 2 refl, and_or_apart 4 bits 2 refl, and_or_apart 8 bits 2 refl, and_or_apart 16 bits 2 refl, and_or_apart 32 bits 2 refl, and_or_apart 64 bits 2 refl, and_or_apart 128 bits 2 refl, and_or_apart 256 bits 2 refl) (simp (or-true, or-false) refl)
+sets_multi c bits h =
+    rw (
+      h,
+      and_or_self 2 bits,
+      and_or_apart 1 bits 2 refl,
+      and_or_apart 4 bits 2 refl,
+      and_or_apart 8 bits 2 refl,
+      and_or_apart 16 bits 2 refl,
+      and_or_apart 32 bits 2 refl,
+      and_or_apart 64 bits 2 refl,
+      and_or_apart 128 bits 2 refl,
+      and_or_apart 256 bits 2 refl,
+    ) (simp (or-true, or-false) refl)
 
 pub sets_dotnl : (c bits : ℕ) → c ≡ 115 → flags_of (bit_or bits 4) ≡ either (flags_of bits) (named_flags (c ∷ []))
-sets_dotnl c bits h = rw (h, and_or_self 4 bits, and_or_apart 1 bits 4 refl, and_or_apart 2 bits 4 refl, and_or_apart 8 bits 4 refl, and_or_apart 16 bits 4 refl, and_or_apart 32 bits 4 refl, and_or_apart 64 bits 4 refl, and_or_apart 128 bits 4 refl, and_or_apart 256 bits 4 refl) (simp (or-true, or-false) refl)
+sets_dotnl c bits h =
+    rw (
+      h,
+      and_or_self 4 bits,
+      and_or_apart 1 bits 4 refl,
+      and_or_apart 2 bits 4 refl,
+      and_or_apart 8 bits 4 refl,
+      and_or_apart 16 bits 4 refl,
+      and_or_apart 32 bits 4 refl,
+      and_or_apart 64 bits 4 refl,
+      and_or_apart 128 bits 4 refl,
+      and_or_apart 256 bits 4 refl,
+    ) (simp (or-true, or-false) refl)
 
 pub sets_swap_greed : (c bits : ℕ) → c ≡ 85 → flags_of (bit_or bits 8) ≡ either (flags_of bits) (named_flags (c ∷ []))
-sets_swap_greed c bits h = rw (h, and_or_self 8 bits, and_or_apart 1 bits 8 refl, and_or_apart 2 bits 8 refl, and_or_apart 4 bits 8 refl, and_or_apart 16 bits 8 refl, and_or_apart 32 bits 8 refl, and_or_apart 64 bits 8 refl, and_or_apart 128 bits 8 refl, and_or_apart 256 bits 8 refl) (simp (or-true, or-false) refl)
+sets_swap_greed c bits h =
+    rw (
+      h,
+      and_or_self 8 bits,
+      and_or_apart 1 bits 8 refl,
+      and_or_apart 2 bits 8 refl,
+      and_or_apart 4 bits 8 refl,
+      and_or_apart 16 bits 8 refl,
+      and_or_apart 32 bits 8 refl,
+      and_or_apart 64 bits 8 refl,
+      and_or_apart 128 bits 8 refl,
+      and_or_apart 256 bits 8 refl,
+    ) (simp (or-true, or-false) refl)
 
-pub sets_ignore_space : (c bits : ℕ) → c ≡ 120 → flags_of (bit_or bits 16) ≡ either (flags_of bits) (named_flags (c ∷ []))
-sets_ignore_space c bits h = rw (h, and_or_self 16 bits, and_or_apart 1 bits 16 refl, and_or_apart 2 bits 16 refl, and_or_apart 4 bits 16 refl, and_or_apart 8 bits 16 refl, and_or_apart 32 bits 16 refl, and_or_apart 64 bits 16 refl, and_or_apart 128 bits 16 refl, and_or_apart 256 bits 16 refl) (simp (or-true, or-false) refl)
+pub sets_ignore_space : (c bits : ℕ) → c ≡ 120 →
+    flags_of (bit_or bits 16) ≡ either (flags_of bits) (named_flags (c ∷ []))
+sets_ignore_space c bits h =
+    rw (
+      h,
+      and_or_self 16 bits,
+      and_or_apart 1 bits 16 refl,
+      and_or_apart 2 bits 16 refl,
+      and_or_apart 4 bits 16 refl,
+      and_or_apart 8 bits 16 refl,
+      and_or_apart 32 bits 16 refl,
+      and_or_apart 64 bits 16 refl,
+      and_or_apart 128 bits 16 refl,
+      and_or_apart 256 bits 16 refl,
+    ) (simp (or-true, or-false) refl)
 
 pub sets_unicode : (c bits : ℕ) → c ≡ 117 → flags_of (bit_or bits 32) ≡ either (flags_of bits) (named_flags (c ∷ []))
-sets_unicode c bits h = rw (h, and_or_self 32 bits, and_or_apart 1 bits 32 refl, and_or_apart 2 bits 32 refl, and_or_apart 4 bits 32 refl, and_or_apart 8 bits 32 refl, and_or_apart 16 bits 32 refl, and_or_apart 64 bits 32 refl, and_or_apart 128 bits 32 refl, and_or_apart 256 bits 32 refl) (simp (or-true, or-false) refl)
+sets_unicode c bits h =
+    rw (
+      h,
+      and_or_self 32 bits,
+      and_or_apart 1 bits 32 refl,
+      and_or_apart 2 bits 32 refl,
+      and_or_apart 4 bits 32 refl,
+      and_or_apart 8 bits 32 refl,
+      and_or_apart 16 bits 32 refl,
+      and_or_apart 64 bits 32 refl,
+      and_or_apart 128 bits 32 refl,
+      and_or_apart 256 bits 32 refl,
+    ) (simp (or-true, or-false) refl)
 
 pub sets_crlf : (c bits : ℕ) → c ≡ 82 → flags_of (bit_or bits 64) ≡ either (flags_of bits) (named_flags (c ∷ []))
-sets_crlf c bits h = rw (h, and_or_self 64 bits, and_or_apart 1 bits 64 refl, and_or_apart 2 bits 64 refl, and_or_apart 4 bits 64 refl, and_or_apart 8 bits 64 refl, and_or_apart 16 bits 64 refl, and_or_apart 32 bits 64 refl, and_or_apart 128 bits 64 refl, and_or_apart 256 bits 64 refl) (simp (or-true, or-false) refl)
+sets_crlf c bits h =
+    rw (
+      h,
+      and_or_self 64 bits,
+      and_or_apart 1 bits 64 refl,
+      and_or_apart 2 bits 64 refl,
+      and_or_apart 4 bits 64 refl,
+      and_or_apart 8 bits 64 refl,
+      and_or_apart 16 bits 64 refl,
+      and_or_apart 32 bits 64 refl,
+      and_or_apart 128 bits 64 refl,
+      and_or_apart 256 bits 64 refl,
+    ) (simp (or-true, or-false) refl)
 
-pub sets_oniguruma_mode : (c bits : ℕ) → c ≡ 111 → flags_of (bit_or bits 128) ≡ either (flags_of bits) (named_flags (c ∷ []))
-sets_oniguruma_mode c bits h = rw (h, and_or_self 128 bits, and_or_apart 1 bits 128 refl, and_or_apart 2 bits 128 refl, and_or_apart 4 bits 128 refl, and_or_apart 8 bits 128 refl, and_or_apart 16 bits 128 refl, and_or_apart 32 bits 128 refl, and_or_apart 64 bits 128 refl, and_or_apart 256 bits 128 refl) (simp (or-true, or-false) refl)
+pub sets_oniguruma_mode : (c bits : ℕ) → c ≡ 111 →
+    flags_of (bit_or bits 128) ≡ either (flags_of bits) (named_flags (c ∷ []))
+sets_oniguruma_mode c bits h =
+    rw (
+      h,
+      and_or_self 128 bits,
+      and_or_apart 1 bits 128 refl,
+      and_or_apart 2 bits 128 refl,
+      and_or_apart 4 bits 128 refl,
+      and_or_apart 8 bits 128 refl,
+      and_or_apart 16 bits 128 refl,
+      and_or_apart 32 bits 128 refl,
+      and_or_apart 64 bits 128 refl,
+      and_or_apart 256 bits 128 refl,
+    )
+    (simp (or-true, or-false) refl)
 
-pub sets_ignore_numbered_groups : (c bits : ℕ) → c ≡ 110 → flags_of (bit_or bits 256) ≡ either (flags_of bits) (named_flags (c ∷ []))
-sets_ignore_numbered_groups c bits h = rw (h, and_or_self 256 bits, and_or_apart 1 bits 256 refl, and_or_apart 2 bits 256 refl, and_or_apart 4 bits 256 refl, and_or_apart 8 bits 256 refl, and_or_apart 16 bits 256 refl, and_or_apart 32 bits 256 refl, and_or_apart 64 bits 256 refl, and_or_apart 128 bits 256 refl) (simp (or-true, or-false) refl)
+pub sets_ignore_numbered_groups : (c bits : ℕ) → c ≡ 110 →
+    flags_of (bit_or bits 256) ≡ either (flags_of bits) (named_flags (c ∷ []))
+sets_ignore_numbered_groups c bits h =
+    rw (
+      h,
+      and_or_self 256 bits,
+      and_or_apart 1 bits 256 refl,
+      and_or_apart 2 bits 256 refl,
+      and_or_apart 4 bits 256 refl,
+      and_or_apart 8 bits 256 refl,
+      and_or_apart 16 bits 256 refl,
+      and_or_apart 32 bits 256 refl,
+      and_or_apart 64 bits 256 refl,
+      and_or_apart 128 bits 256 refl,
+    )
+    (simp (or-true, or-false) refl)
 
 or_assoc : (a b c : Bool) → ((a || b) || c) ≡ (a || (b || c))
 or_assoc true b c = refl
@@ -57,11 +171,16 @@ pub record ReadsLetters (word rest : Text) (bits : ℕ) : Type 0 where
 pub letters_start : (word : Text) → ReadsLetters word word 0
 letters_start word = record { checked = refl; named = refl }
 
-pub letters_next : (word rest t : Text) (c bits flag : ℕ) → ReadsLetters word rest bits → rest ≡ c ∷ t → is_letter c ≡ true
-    → ((b : ℕ) → flags_of (bit_or b flag) ≡ either (flags_of b) (named_flags (c ∷ []))) → ReadsLetters word t (bit_or bits flag)
+pub letters_next : (word rest t : Text) (c bits flag : ℕ) → ReadsLetters word rest bits → rest ≡ c ∷ t →
+    is_letter c ≡ true
+    → ((b : ℕ) → flags_of (bit_or b flag) ≡ either (flags_of b) (named_flags (c ∷ []))) →
+    ReadsLetters word t (bit_or bits flag)
 letters_next word rest t c bits flag r is letter adds = record {
   checked = r.checked ∙ ap (list_all is_letter) is ∙ rw letter refl;
-  named = r.named ∙ ap (λ u. either (flags_of bits) (named_flags u)) is ∙ ap (either (flags_of bits)) (sym (named_first c t)) ∙ sym (either_assoc (flags_of bits) (named_flags (c ∷ [])) (named_flags t)) ∙ ap (λ f. either f (named_flags t)) (sym (adds bits));
+  named = r.named ∙ ap (λ u. either (flags_of bits) (named_flags u)) is
+      ∙ ap (either (flags_of bits)) (sym (named_first c t))
+      ∙ sym (either_assoc (flags_of bits) (named_flags (c ∷ [])) (named_flags t))
+      ∙ ap (λ f. either f (named_flags t)) (sym (adds bits));
 }
 
 pub letters_end : (word rest : Text) (bits : ℕ) → ReadsLetters word rest bits → rest ≡ []
@@ -71,7 +190,8 @@ letters_end word rest bits r is = (
   sym (r.named ∙ ap (λ u. either (flags_of bits) (named_flags u)) is ∙ either_none _),
 )
 
-pub letters_fail : (word rest t : Text) (c bits : ℕ) → ReadsLetters word rest bits → rest ≡ c ∷ t → is_letter c ≡ false → list_all is_letter word ≡ false
+pub letters_fail : (word rest t : Text) (c bits : ℕ) → ReadsLetters word rest bits → rest ≡ c ∷ t →
+    is_letter c ≡ false → list_all is_letter word ≡ false
 letters_fail word rest t c bits r is letter = r.checked ∙ ap (list_all is_letter) is ∙ rw letter refl
 
 pub names_none : (w : Text) → w ≡ [] → NamesFlags w → ⊥
@@ -84,4 +204,5 @@ pub names_letters : (w t : Text) (c : ℕ) → w ≡ c ∷ t → list_all is_let
 names_letters w t c is all = subst NamesFlags (sym is) (inr (ap (list_all is_letter) (sym is) ∙ all))
 
 pub names_other : (w t : Text) (c : ℕ) → w ≡ c ∷ t → w ≢ codes "-" → list_all is_letter w ≡ false → NamesFlags w → ⊥
-names_other w t c is not_dash none h = ⊎_elim (λ e. not_dash (is ∙ e)) (λ e. true≢false (sym e ∙ ap (list_all is_letter) (sym is) ∙ none)) (subst NamesFlags is h)
+names_other w t c is not_dash none h = ⊎_elim (λ e. not_dash (is ∙ e))
+    (λ e. true≢false (sym e ∙ ap (list_all is_letter) (sym is) ∙ none)) (subst NamesFlags is h)

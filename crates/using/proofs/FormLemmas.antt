@@ -1,5 +1,6 @@
 -- What follows of a pattern from what the library promises.
-use Rattle.std.proofs.Common.{◌≡◌, ℕ, chars, string_bytes, String, length, Option, Some, None, is_some, IfSome, MatchOption, ap, sym, ◌∙◌}
+use Rattle.std.proofs.Common.{◌≡◌, ℕ, chars, string_bytes, String, length, Option, Some, None, is_some, IfSome}
+use Rattle.std.proofs.Common.{MatchOption, ap, sym, ◌∙◌}
 use Rattle.std.specs.declared.alloc.Global.{Global}
 use Rattle.fancy_lex.specs.Text.{Text}
 use Rattle.fancy_lex.specs.declared.flags.Flags.{Flags}

@@ -1,5 +1,6 @@
 -- A class, and an escape for one, read the same whatever follows them, and under other flags to the same end.
-use Rattle.std.proofs.Common.{◌≡◌, ℕ, zero, suc, ◌+◌, ◌-◌, ◌≤◌, Bool, true, false, not, ◌&&◌, ◌||◌, ◌==◌, nat_le, if◌then◌else◌, [], ◌∷◌, ◌++◌, codes, Option, Some, None, refl, sym, ap, ◌∙◌, subst, arith}
+use Rattle.std.proofs.Common.{◌≡◌, ℕ, zero, suc, ◌+◌, ◌-◌, ◌≤◌, Bool, true, false, not, ◌&&◌, ◌||◌, ◌==◌, nat_le}
+use Rattle.std.proofs.Common.{if◌then◌else◌, [], ◌∷◌, ◌++◌, codes, Option, Some, None, refl, sym, ap, ◌∙◌, subst, arith}
 use Rattle.std.proofs.lemmas.Bool.Decides.{nat_tests}
 use Rattle.fancy_lex.specs.Boundary.{boundary, named_boundary, name, boundary_of_name, at_count}
 use Rattle.std.specs.Char.{is_ascii_digit}
@@ -239,7 +240,8 @@ module _ (u i : Bool) (n : ℕ) where
   inner_carries k more depth seen seen' out out' t p q =
       by_escape (escape n (bare false) true p t) (escape_too u i n p t) where
         by_escape : (o : Reading Escape) → Too o (escape n (case_flags u i) true p t)
-            → Carries k (o >=> (λ e v. items_from n (bare false) k depth (seen || is_negated e) (out ++ item_text seen e) v))
+            → Carries k (o >=>
+            (λ e v. items_from n (bare false) k depth (seen || is_negated e) (out ++ item_text seen e) v))
             (λ j m s. escape m (case_flags u i) true (q m s) (t ++ s) >=>
             (λ e v. items_from m (case_flags u i) j depth (seen' || is_negated e)
             (out' ++ item_text seen' e) v))

@@ -1,5 +1,7 @@
 -- Each thing that is written for an escape in a class is read again there.
-use Rattle.std.proofs.Common.{◌≡◌, ℕ, ◌+◌, ◌*◌, ◌/◌, ◌%◌, ◌<◌, Bool, true, false, not, ◌&&◌, ◌==◌, nat_le, if◌then◌else◌, [], ◌∷◌, ◌++◌, codes, Option, Some, None, option_map, refl, sym, ap, ◌∙◌, subst, arith, append_assoc, lt-ltb}
+use Rattle.std.proofs.Common.{◌≡◌, ℕ, ◌+◌, ◌*◌, ◌/◌, ◌%◌, ◌<◌, Bool, true, false, not, ◌&&◌, ◌==◌, nat_le}
+use Rattle.std.proofs.Common.{if◌then◌else◌, [], ◌∷◌, ◌++◌, codes, Option, Some, None, option_map, refl, sym, ap, ◌∙◌}
+use Rattle.std.proofs.Common.{subst, arith, append_assoc, lt-ltb}
 use Rattle.std.proofs.lemmas.Bool.{not-true, cond-false, cond_both, and_from, and_parts}
 use Rattle.std.proofs.lemmas.Bool.Decides.{nat_tests}
 use Rattle.std.specs.Char.{IsScalar, digit_value, is_ascii_digit, to_ascii_lowercase}
@@ -15,7 +17,8 @@ use Rattle.fancy_lex.specs.Fault.{invalid_class, invalid_codepoint_value, unclos
 use Rattle.fancy_lex.specs.Hex as hexes
 use Rattle.fancy_lex.specs.Hex.{hex, value, leaf_of_value, is_scalar, fixed_digits}
 use Rattle.fancy_lex.specs.Layout.{layout}
-use Rattle.fancy_lex.specs.Property.{Property, PropertyName, single, braced, read_property, name_at, property_text, Form, set, pair, form, form_text, look_up, lowercase, turn, letter}
+use Rattle.fancy_lex.specs.Property.{Property, PropertyName, single, braced, read_property, name_at, property_text}
+use Rattle.fancy_lex.specs.Property.{Form, set, pair, form, form_text, look_up, lowercase, turn, letter}
 use Rattle.fancy_lex.specs.Reading.{Reading, gives, fails, fault_at, choose, layout_reading, ◌>=>◌}
 use Rattle.fancy_lex.specs.EscapeReference.{group_number}
 use Rattle.fancy_lex.specs.declared.flags.Flags.{Flags}
@@ -23,7 +26,8 @@ use Rattle.fancy_lex.specs.Text.{Text, place_of, strip, cut_at}
 use Rattle.fancy_grammar.specs.Normal.{bare, case_flags}
 use Rattle.fancy_grammar.proofs.ReadBack.ClearLemmas.{Each, no_more, also, each_among, not_open, no_layout}
 use Rattle.fancy_grammar.proofs.ReadBack.ScalarLemmas.{scalars_append}
-use Rattle.fancy_grammar.proofs.ReadBack.ClassChunks.{Goes, ClassGoes, pass_close, pass_plain, pass_escape, pass_nested, pass_class, Chunk, Fine, both_chunk}
+use Rattle.fancy_grammar.proofs.ReadBack.ClassChunks.{Goes, ClassGoes, pass_close, pass_plain, pass_escape, pass_nested}
+use Rattle.fancy_grammar.proofs.ReadBack.ClassChunks.{pass_class, Chunk, Fine, both_chunk}
 
 -- ---- plain words, and classes in classes
 
@@ -46,7 +50,8 @@ pub open_plain : (t : Text) → strip (code "^") t ≡ None → strip (code "]")
 unfolding class_head
 open_plain t a b = rw (a, b) refl
 
-pub open_caret : (t : Text) → strip (code "]") t ≡ None → ◌≡◌ {A = Text × Text} (class_head [] (code "^" ∷ t)) (code "[" ∷ code "^" ∷ [], t)
+pub open_caret : (t : Text) → strip (code "]") t ≡ None →
+    ◌≡◌ {A = Text × Text} (class_head [] (code "^" ∷ t)) (code "[" ∷ code "^" ∷ [], t)
 unfolding class_head
 open_caret t b = rw b refl
 
@@ -59,7 +64,8 @@ bracket_goes w c m s =
 pub caret_goes : (w : Text) → Chunk w → (m : ℕ) (s : Text) → ClassGoes m (code "^" ∷ ((w ++ code "]" ∷ []) ++ s)) s
 caret_goes w c m s =
     subst (λ z. ClassGoes m (code "^" ∷ z) s) (sym (append_assoc w (code "]" ∷ []) s))
-    (pass_class m (code "^" ∷ (w ++ code "]" ∷ s)) (code "[" ∷ code "^" ∷ []) (w ++ code "]" ∷ s) s (open_caret _ (c.no_close _))
+    (pass_class m (code "^" ∷ (w ++ code "]" ∷ s)) (code "[" ∷ code "^" ∷ []) (w ++ code "]" ∷ s) s
+    (open_caret _ (c.no_close _))
     (c.goes m (code "]" ∷ s) s (pass_close m s)))
 
 pub bracket_chunk : (w : Text) → Chunk w → Chunk (code "[" ∷ (w ++ code "]" ∷ []))
@@ -200,18 +206,22 @@ module _ (m p : ℕ) (inside : Bool) where
   braced_large w s h = rw (cut_back w s h) refl
 
 single_chunk : (b : Bool) (c : ℕ) → (c == code "{") ≡ false → IsScalar c → Chunk (letter b ++ c ∷ [])
-single_chunk false c h k = escape_chunk (code "p" ∷ c ∷ []) _ (and_from _ true k refl) (λ m p s. single_small m p true c s h)
-single_chunk true c h k = escape_chunk (code "P" ∷ c ∷ []) _ (and_from _ true k refl) (λ m p s. single_large m p true c s h)
+single_chunk false c h k = escape_chunk (code "p" ∷ c ∷ []) _ (and_from _ true k refl)
+    (λ m p s. single_small m p true c s h)
+single_chunk true c h k = escape_chunk (code "P" ∷ c ∷ []) _ (and_from _ true k refl)
+    (λ m p s. single_large m p true c s h)
 
 small_chunk : (w : Text) → IsName w → Chunk (code "\\" ∷ code "p" ∷ code "{" ∷ (w ++ code "}" ∷ []))
 small_chunk w h =
-    escape_chunk (code "p" ∷ code "{" ∷ (w ++ code "}" ∷ [])) _ (scalars_append w (code "}" ∷ []) (name_scalars w h) refl)
+    escape_chunk (code "p" ∷ code "{" ∷ (w ++ code "}" ∷ [])) _
+    (scalars_append w (code "}" ∷ []) (name_scalars w h) refl)
     (λ m p s. ap (λ z. escape m (bare false) true p (code "p" ∷ code "{" ∷ z)) (append_assoc w (code "}" ∷ []) s)
     ∙ braced_small m p true w s h)
 
 large_chunk : (w : Text) → IsName w → Chunk (code "\\" ∷ code "P" ∷ code "{" ∷ (w ++ code "}" ∷ []))
 large_chunk w h =
-    escape_chunk (code "P" ∷ code "{" ∷ (w ++ code "}" ∷ [])) _ (scalars_append w (code "}" ∷ []) (name_scalars w h) refl)
+    escape_chunk (code "P" ∷ code "{" ∷ (w ++ code "}" ∷ [])) _
+    (scalars_append w (code "}" ∷ []) (name_scalars w h) refl)
     (λ m p s. ap (λ z. escape m (bare false) true p (code "P" ∷ code "{" ∷ z)) (append_assoc w (code "}" ∷ []) s)
     ∙ braced_large m p true w s h)
 
@@ -219,11 +229,16 @@ large_chunk w h =
 letter_chunks : Each (λ c. Chunk (code "\\" ∷ c ∷ [])) (codes "dDsSwWtnvfr")
 unfolding escape
 letter_chunks =
-    also (escape_chunk (code "d" ∷ []) _ refl (λ m p s. refl)) (also (escape_chunk (code "D" ∷ []) _ refl (λ m p s. refl))
-    (also (escape_chunk (code "s" ∷ []) _ refl (λ m p s. refl)) (also (escape_chunk (code "S" ∷ []) _ refl (λ m p s. refl))
-    (also (escape_chunk (code "w" ∷ []) _ refl (λ m p s. refl)) (also (escape_chunk (code "W" ∷ []) _ refl (λ m p s. refl))
-    (also (escape_chunk (code "t" ∷ []) _ refl (λ m p s. refl)) (also (escape_chunk (code "n" ∷ []) _ refl (λ m p s. refl))
-    (also (escape_chunk (code "v" ∷ []) _ refl (λ m p s. refl)) (also (escape_chunk (code "f" ∷ []) _ refl (λ m p s. refl))
+    also (escape_chunk (code "d" ∷ []) _ refl (λ m p s. refl))
+    (also (escape_chunk (code "D" ∷ []) _ refl (λ m p s. refl))
+    (also (escape_chunk (code "s" ∷ []) _ refl (λ m p s. refl))
+    (also (escape_chunk (code "S" ∷ []) _ refl (λ m p s. refl))
+    (also (escape_chunk (code "w" ∷ []) _ refl (λ m p s. refl))
+    (also (escape_chunk (code "W" ∷ []) _ refl (λ m p s. refl))
+    (also (escape_chunk (code "t" ∷ []) _ refl (λ m p s. refl))
+    (also (escape_chunk (code "n" ∷ []) _ refl (λ m p s. refl))
+    (also (escape_chunk (code "v" ∷ []) _ refl (λ m p s. refl))
+    (also (escape_chunk (code "f" ∷ []) _ refl (λ m p s. refl))
     (also (escape_chunk (code "r" ∷ []) _ refl (λ m p s. refl)) no_more))))))))))
 
 pub letter_chunk : (c : ℕ) → c ∈ "dDsSwWtnvfr" ≡ true → Chunk (code "\\" ∷ c ∷ [])
@@ -278,7 +293,8 @@ byte_chunk v h =
     record {
       goes =
           λ m s r g. let (e, q) = hex_some m (v / 16) (v % 16) s a b in
-          pass_escape m (code "x" ∷ upper_hex_digit (v / 16) ∷ upper_hex_digit (v % 16) ∷ s) s r e (hex_escape m _ _ ∙ q) g;
+          pass_escape m (code "x" ∷ upper_hex_digit (v / 16) ∷ upper_hex_digit (v % 16) ∷ s) s r e
+          (hex_escape m _ _ ∙ q) g;
       no_caret = λ s. refl;
       no_close = λ s. refl;
       scalars = and_from _ _ (hex_scalar (v / 16) a) (and_from _ true (hex_scalar (v % 16) b) refl);

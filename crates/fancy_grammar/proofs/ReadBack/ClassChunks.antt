@@ -1,10 +1,12 @@
 -- What a class is rewritten to is a class again, item by item.
-use Rattle.std.proofs.Common.{◌≡◌, ℕ, Bool, true, false, ◌||◌, nat_le, [], ◌∷◌, ◌++◌, codes, None, refl, sym, ap, ◌∙◌, subst, append_assoc}
+use Rattle.std.proofs.Common.{◌≡◌, ℕ, Bool, true, false, ◌||◌, nat_le, [], ◌∷◌, ◌++◌, codes, None, refl, sym, ap, ◌∙◌}
+use Rattle.std.proofs.Common.{subst, append_assoc}
 use Rattle.std.proofs.lemmas.Bool.{and_from, cond_both}
 use Rattle.std.specs.Char.{IsScalar}
 use Rattle.std.specs.Str.{all_scalars}
 use Prim.Native.Char.{code}
-use Rattle.fancy_lex.specs.Class.{Class, class_items, Items, close, plain, escaped, nested, written, class_head, item_text, is_negated, is_plain, needs_backslash_in_class, char_text}
+use Rattle.fancy_lex.specs.Class.{Class, class_items, Items, close, plain, escaped, nested, written, class_head}
+use Rattle.fancy_lex.specs.Class.{item_text, is_negated, is_plain, needs_backslash_in_class, char_text}
 use Rattle.fancy_lex.specs.Escape.{escape}
 use Rattle.fancy_lex.specs.Escaped.{Escape, literal, literal_bytes, delegate}
 use Rattle.fancy_lex.specs.Reading.{gives}

@@ -1,5 +1,6 @@
 -- What may follow a piece: no comment, and no quantifier.
-use Rattle.std.proofs.Common.{◌≡◌, ℕ, Bool, true, false, ◌==◌, ⊎_elim, List, [], ◌∷◌, Some, None, refl, sym, subst, eqb-true, ap, ◌∙◌, ◌||◌}
+use Rattle.std.proofs.Common.{◌≡◌, ℕ, Bool, true, false, ◌==◌, ⊎_elim, List, [], ◌∷◌, Some, None, refl, sym, subst}
+use Rattle.std.proofs.Common.{eqb-true, ap, ◌∙◌, ◌||◌}
 use Rattle.std.specs.List.{list_any}
 use Rattle.std.proofs.Math.Bool.{or-false}
 use Rattle.std.proofs.lemmas.Bool.{or_parts, or_cases, cond_both, both_ways}
@@ -176,7 +177,8 @@ behind_some c x =
     (λ _. cond_both (c == code "\r") _ _ (λ y. y ≡ Some x → Escapes x c)
     (λ t e. from (code "r") (code "\r") e t escapes_r)
     (λ _. cond_both (needs_backslash c) _ _ (λ y. y ≡ Some x → Escapes x c)
-    (λ t e. subst (λ y. Escapes y c) (same_Some c x e) (each_at (λ m. Escapes m m) marks_with_backslash c escapes_marks t))
+    (λ t e. subst (λ y. Escapes y c) (same_Some c x e)
+    (each_at (λ m. Escapes m m) marks_with_backslash c escapes_marks t))
     (λ _ e. absurd cc))))
   where
     from : (y d : ℕ) → Some y ≡ Some x → (c == d) ≡ true → Escapes y d → Escapes x c

@@ -1,5 +1,7 @@
 -- Counts that were printed are read back.
-use Rattle.std.proofs.Common.{◌≡◌, ℕ, ◌+◌, ◌*◌, ◌-◌, ◌^◌, ◌<◌, Bool, true, false, ◌&&◌, ◌==◌, [], ◌∷◌, ◌++◌, Option, Some, None, codes, decimal, refl, sym, ap, ap₂, ◌∙◌, arith, append_assoc, append-nil, eqb-true, ne_eqb, le-leb, lt-ltb, subst}
+use Rattle.std.proofs.Common.{◌≡◌, ℕ, ◌+◌, ◌*◌, ◌-◌, ◌^◌, ◌<◌, Bool, true, false, ◌&&◌, ◌==◌, [], ◌∷◌, ◌++◌, Option}
+use Rattle.std.proofs.Common.{Some, None, codes, decimal, refl, sym, ap, ap₂, ◌∙◌, arith, append_assoc, append-nil}
+use Rattle.std.proofs.Common.{eqb-true, ne_eqb, le-leb, lt-ltb, subst}
 use Rattle.std.specs.Char.{digit_value, is_ascii_digit}
 use Rattle.std.specs.Str.Parse.{IsNumeral, digits_value_after}
 use Rattle.std.specs.Str.Parse as parse
@@ -86,7 +88,8 @@ count_none s d e = rw (skip_same s e, number_none s d, skip_same s e) refl
 abbrev pub counts_and_rest : ℕ → ℕ → Bool → Text → Option (Counts × Text)
 counts_and_rest lo hi b s = Some (record { low = lo; high = hi; braces = b }, s)
 
-braces_one : (n : ℕ) (s : Text) → n < 2 ^ 64 → braced_counts false (decimal n ++ code "}" ∷ s) ≡ counts_and_rest n n true s
+braces_one : (n : ℕ) (s : Text) → n < 2 ^ 64 →
+    braced_counts false (decimal n ++ code "}" ∷ s) ≡ counts_and_rest n n true s
 unfolding braced_counts
 braces_one n s h = rw (count_read n (code "}" ∷ s) h refl refl) refl
 
@@ -99,7 +102,8 @@ braces_both : (lo hi : ℕ) (s : Text) → lo < 2 ^ 64 → hi < 2 ^ 64 →
     braced_counts false (decimal lo ++ code "," ∷ (decimal hi ++ code "}" ∷ s)) ≡ counts_and_rest lo hi true s
 unfolding braced_counts counts_from
 braces_both lo hi s l h =
-    rw (count_read lo (code "," ∷ (decimal hi ++ code "}" ∷ s)) l refl refl, count_read hi (code "}" ∷ s) h refl refl) refl
+    rw (count_read lo (code "," ∷ (decimal hi ++ code "}" ∷ s)) l refl refl, count_read hi (code "}" ∷ s) h refl refl)
+    refl
 
 -- a boundary ends before the text: no name in braces follows it
 abbrev pub NoName : Text → Type 0
@@ -128,7 +132,8 @@ pub record IsMark (lo hi : ℕ) (s w : Text) : Type 0 where
   pub no_comment : after_comment_head (w ++ s) ≡ None
   pub no_name : NoName (w ++ s)
 
-same_counts : (lo hi l h : ℕ) (b : Bool) (s : Text) → l ≡ lo → h ≡ hi → counts_and_rest lo hi b s ≡ counts_and_rest l h b s
+same_counts : (lo hi l h : ℕ) (b : Bool) (s : Text) → l ≡ lo → h ≡ hi →
+    counts_and_rest lo hi b s ≡ counts_and_rest l h b s
 same_counts lo hi l h b s e g = ap₂ (λ x y. counts_and_rest x y b s) (sym e) (sym g)
 
 brace_mark : (lo hi n : ℕ) (w r s : Text) → n < 2 ^ 64 → r ≡ decimal n ++ w →
@@ -175,7 +180,8 @@ mark_read : (lo hi : ℕ) (s : Text) → lo < 2 ^ 64 → hi < 2 ^ 64 → IsMark 
 unfolding counts_text mark counts
 mark_read lo hi s l h =
     cond_both ((lo == 0) && (hi == 1)) _ _ (MarkIs lo hi s)
-    (λ e. let (a, b) = and_parts _ _ e in sign_mark lo hi 0 1 (code "?") s (eqb-true lo 0 a) (eqb-true hi 1 b) refl refl refl)
+    (λ e. let (a, b) = and_parts _ _ e in sign_mark lo hi 0 1 (code "?") s (eqb-true lo 0 a) (eqb-true hi 1 b) refl refl
+    refl)
     (λ _. cond_both ((lo == 0) && (hi == most)) _ _ (MarkIs lo hi s)
     (λ e. let (a, b) = and_parts _ _ e in
     sign_mark lo hi 0 most (code "*") s (eqb-true lo 0 a) (eqb-true hi most b) refl refl refl)

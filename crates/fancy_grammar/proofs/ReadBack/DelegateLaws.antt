@@ -1,5 +1,7 @@
 -- What a printable Delegate's text is read as is printable again.
-use Rattle.std.proofs.Common.{◌≡◌, ◌≢◌, ℕ, Bool, true, false, ◌==◌, ◌&&◌, if◌then◌else◌, [], ◌∷◌, ◌++◌, codes, Option, Some, None, is_some, option_map, ◌⊎◌, inl, inr, refl, sym, ap, ◌∙◌, subst, append-nil, ne_eqb}
+use Rattle.std.proofs.Common.{◌≡◌, ◌≢◌, ℕ, Bool, true, false, ◌==◌, ◌&&◌, if◌then◌else◌, [], ◌∷◌, ◌++◌, codes, Option}
+use Rattle.std.proofs.Common.{Some, None, is_some, option_map, ◌⊎◌, inl, inr, refl, sym, ap, ◌∙◌, subst, append-nil}
+use Rattle.std.proofs.Common.{ne_eqb}
 use Rattle.std.proofs.lemmas.Bool.{and_from, and_parts, cases_eq}
 use Rattle.std.specs.Str.{all_scalars}
 use Rattle.fancy_lex.specs.Characters.{◌∈◌}
@@ -12,7 +14,8 @@ use Rattle.fancy_lex.specs.Fault.{Fault, unclosed_unicode_name}
 use Rattle.fancy_lex.specs.Hex.{hex}
 use Rattle.std.specs.Char.{IsScalar, is_ascii_digit}
 use Prim.Native.Char.{code}
-use Rattle.fancy_lex.specs.Property.{Property, PropertyName, single, braced, read_property, name_at, property_text, Form, set, pair, form, form_text, look_up, lowercase, turn, letter}
+use Rattle.fancy_lex.specs.Property.{Property, PropertyName, single, braced, read_property, name_at, property_text}
+use Rattle.fancy_lex.specs.Property.{Form, set, pair, form, form_text, look_up, lowercase, turn, letter}
 use Rattle.fancy_lex.specs.Reading.{Reading, gives, fails, fault_at, choose}
 use Rattle.fancy_lex.specs.Text.{Text, bytes, place_of}
 use Rattle.fancy_lex.proofs.ClassLaws.{class_complete, class_reads}
@@ -22,9 +25,14 @@ use Rattle.fancy_grammar.specs.Normal.{bare, case_flags, class_of, whole_leaf, n
 use Rattle.fancy_grammar.specs.Printable.{printable}
 use Rattle.fancy_grammar.proofs.ReadBack.ScalarLemmas.{scalars_append}
 use Rattle.fancy_grammar.proofs.ReadBack.ClassChunks.{ClassGoes, Chunk}
-use Rattle.fancy_grammar.proofs.ReadBack.CarriedLaws.{backref_leaf_none, class_carries, escape_carries, NoDelegate, hex_none, outside_none}
-use Rattle.fancy_grammar.proofs.ReadBack.DelegateTexts.{bracket_read, bracket_normal, escape_read, escape_normal, no_other, nothing_whole}
-use Rattle.fancy_grammar.proofs.ReadBack.ChunkLemmas.{FormOf, Pairs, form_of, name_scalars, bracket_goes, caret_goes, IsName, NameOk, NameSome, name_ok, prop, single_small, single_large, braced_small, braced_large, hex_word, space_other, unprinted, lowercase_ok, turn_ok}
+use Rattle.fancy_grammar.proofs.ReadBack.CarriedLaws.{backref_leaf_none, class_carries, escape_carries, NoDelegate}
+use Rattle.fancy_grammar.proofs.ReadBack.CarriedLaws.{hex_none, outside_none}
+use Rattle.fancy_grammar.proofs.ReadBack.DelegateTexts.{bracket_read, bracket_normal, escape_read, escape_normal}
+use Rattle.fancy_grammar.proofs.ReadBack.DelegateTexts.{no_other, nothing_whole}
+use Rattle.fancy_grammar.proofs.ReadBack.ChunkLemmas.{FormOf, Pairs, form_of, name_scalars, bracket_goes, caret_goes}
+use Rattle.fancy_grammar.proofs.ReadBack.ChunkLemmas.{IsName, NameOk, NameSome, name_ok, prop, single_small}
+use Rattle.fancy_grammar.proofs.ReadBack.ChunkLemmas.{single_large, braced_small, braced_large, hex_word, space_other}
+use Rattle.fancy_grammar.proofs.ReadBack.ChunkLemmas.{unprinted, lowercase_ok, turn_ok}
 use Rattle.fancy_grammar.proofs.ReadBack.RewrittenLaws.{ClassAgain, class_again}
 use Rattle.fancy_grammar.proofs.ReadBack.RuleLemmas.{st}
 use Rattle.fancy_grammar.proofs.ReadBack.ClearLemmas.{Each, no_more, also, each_among, no_truth}
@@ -66,7 +74,8 @@ class_stays u i n t x k e = by_reading (class_reads n (case_flags u i) t)
     again c =
         subst IsWhole (sym c.is)
         (class_whole c.inner c.scalars
-        (subst (λ z. ClassGoes (bytes (code "[" ∷ c.inner)) z []) (append-nil c.inner) (c.goes (bytes (code "[" ∷ c.inner)) [])))
+        (subst (λ z. ClassGoes (bytes (code "[" ∷ c.inner)) z []) (append-nil c.inner)
+        (c.goes (bytes (code "[" ∷ c.inner)) [])))
 
     by_reading : (o : Outcome) × Class n (case_flags u i) false t o → IsWhole x
     by_reading (written w a v, h) =
@@ -102,12 +111,14 @@ caret_whole w c =
 
 small_whole : (w : Text) → IsName w → IsWhole (code "\\" ∷ code "p" ∷ code "{" ∷ (w ++ code "}" ∷ []))
 small_whole w h =
-    escape_whole (code "p" ∷ code "{" ∷ (w ++ code "}" ∷ [])) _ _ (scalars_append w (code "}" ∷ []) (name_scalars w h) refl)
+    escape_whole (code "p" ∷ code "{" ∷ (w ++ code "}" ∷ [])) _ _
+    (scalars_append w (code "}" ∷ []) (name_scalars w h) refl)
     (braced_small _ _ false w [] h)
 
 large_whole : (w : Text) → IsName w → IsWhole (code "\\" ∷ code "P" ∷ code "{" ∷ (w ++ code "}" ∷ []))
 large_whole w h =
-    escape_whole (code "P" ∷ code "{" ∷ (w ++ code "}" ∷ [])) _ _ (scalars_append w (code "}" ∷ []) (name_scalars w h) refl)
+    escape_whole (code "P" ∷ code "{" ∷ (w ++ code "}" ∷ [])) _ _
+    (scalars_append w (code "}" ∷ []) (name_scalars w h) refl)
     (braced_large _ _ false w [] h)
 
 single_whole : (b : Bool) (c : ℕ) → (c == code "{") ≡ false → IsScalar c → IsWhole (letter b ++ c ∷ [])
@@ -192,7 +203,8 @@ outside_whole u i n p (c ∷ t) k =
 
 -- ---- a Delegate
 
-bracket_stays : (u i : Bool) (t : Text) → IsWhole (code "[" ∷ t) → printable (normal u (delegate (code "[" ∷ t) i)) ≡ true
+bracket_stays : (u i : Bool) (t : Text) → IsWhole (code "[" ∷ t) →
+    printable (normal u (delegate (code "[" ∷ t) i)) ≡ true
 bracket_stays u i t h =
     let (k, whole) = and_parts (all_scalars (code "[" ∷ t)) _ h in
     let (w, e) = bracket_read t whole in
@@ -201,7 +213,8 @@ bracket_stays u i t h =
     ap printable (bracket_normal u i t x here)
     ∙ class_stays u i (bytes (code "[" ∷ t)) (t ++ []) x (scalars_append t [] k refl) here
 
-escape_stays : (u i : Bool) (t : Text) → IsWhole (code "\\" ∷ t) → printable (normal u (delegate (code "\\" ∷ t) i)) ≡ true
+escape_stays : (u i : Bool) (t : Text) → IsWhole (code "\\" ∷ t) →
+    printable (normal u (delegate (code "\\" ∷ t) i)) ≡ true
 escape_stays u i t h =
     let (k, whole) = and_parts (all_scalars (code "\\" ∷ t)) _ h in
     let (w, b, e) = escape_read t whole in

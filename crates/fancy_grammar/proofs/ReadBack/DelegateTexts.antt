@@ -1,5 +1,6 @@
 -- A Delegate's text in front of anything reads as it does alone.
-use Rattle.std.proofs.Common.{◌≡◌, ◌≢◌, ℕ, Bool, true, false, ◌==◌, [], ◌∷◌, ◌++◌, is_some, unwrap_or, ◌⊎◌, inl, inr, refl, sym, ap, ◌∙◌, subst, append-nil, ne_eqb}
+use Rattle.std.proofs.Common.{◌≡◌, ◌≢◌, ℕ, Bool, true, false, ◌==◌, [], ◌∷◌, ◌++◌, is_some, unwrap_or, ◌⊎◌, inl, inr}
+use Rattle.std.proofs.Common.{refl, sym, ap, ◌∙◌, subst, append-nil, ne_eqb}
 use Rattle.std.proofs.lemmas.Bool.{cases_eq, cond-false, or_from}
 use Prim.Native.Char.{code}
 use Rattle.fancy_lex.specs.Class.{class}
@@ -53,7 +54,8 @@ bracket_atom : (n d : ℕ) (u i : Bool) (t x v : Text) → class n (case_flags u
 bracket_atom n d u i t x v e =
     let g = case_flags u i in
     reads_leaf n d g (code "[" ∷ (t ++ v)) v (delegate x i)
-    (leaf_at n d g (code "[") (t ++ v) refl refl ∙ ap (λ o. leaf (leaf_outcome (λ w. delegate w i) (st g (code "[" ∷ (t ++ v))) o)) e)
+    (leaf_at n d g (code "[") (t ++ v) refl refl
+    ∙ ap (λ o. leaf (leaf_outcome (λ w. delegate w i) (st g (code "[" ∷ (t ++ v))) o)) e)
     (record { is = λ r. refl; groups = tt })
 
 bracket_text : (t : Text) → is_some (class_of (bare false) (code "[" ∷ t)) ≡ true → DelegateText (code "[" ∷ t)
@@ -87,7 +89,8 @@ unfolding class_of
 escape_read t h = escape_whole (st (bare false) (code "\\" ∷ t)) _ h
 
 pub escape_normal : (u i : Bool) (t x : Text) (b : Bool) →
-    escape (bytes (code "\\" ∷ t)) (case_flags u i) false (place_of (bytes (code "\\" ∷ t)) (code "\\" ∷ t)) (t ++ []) ≡ gives
+    escape (bytes (code "\\" ∷ t)) (case_flags u i) false (place_of (bytes (code "\\" ∷ t)) (code "\\" ∷ t))
+    (t ++ []) ≡ gives
     (escaped.delegate x b) []
     → normal u (delegate (code "\\" ∷ t) i) ≡ delegate x b
 unfolding class_of
@@ -103,7 +106,8 @@ escape_atom : (n d : ℕ) (u i : Bool) (t x v : Text) (b : Bool) →
 escape_atom n d u i t x v b e =
     let g = case_flags u i in
     reads_leaf n d g (code "\\" ∷ (t ++ v)) v (delegate x b)
-    (leaf_at n d g (code "\\") (t ++ v) refl refl ∙ ap (λ o. leaf (leaf_outcome leaf_node (st g (code "\\" ∷ (t ++ v))) o)) e)
+    (leaf_at n d g (code "\\") (t ++ v) refl refl
+    ∙ ap (λ o. leaf (leaf_outcome leaf_node (st g (code "\\" ∷ (t ++ v))) o)) e)
     (record { is = λ r. refl; groups = tt })
 
 escape_text : (t : Text) → is_some (class_of (bare false) (code "\\" ∷ t)) ≡ true → DelegateText (code "\\" ∷ t)

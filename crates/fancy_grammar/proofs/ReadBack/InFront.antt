@@ -1,12 +1,19 @@
 -- What is printed for a tree, in front of a text: as `printed`, with no append to regroup.
-use Rattle.std.proofs.Common.{◌≡◌, ℕ, Bool, true, false, nat_lt, [], ◌∷◌, ◌++◌, Option, Some, None, refl, sym, ap, ◌∙◌, append_assoc, append-nil}
+use Rattle.std.proofs.Common.{◌≡◌, ℕ, Bool, true, false, nat_lt, [], ◌∷◌, ◌++◌, Option, Some, None, refl, sym, ap, ◌∙◌}
+use Rattle.std.proofs.Common.{append_assoc, append-nil}
 use Prim.Native.Char.{code}
 use Rattle.fancy_lex.specs.Text.{Text}
 use Rattle.fancy_lex.specs.declared.escape.Assertion.{Assertion}
-use Rattle.fancy_lex.specs.declared.escape.Assertion.TheVariants.{StartText, EndText, EndTextIgnoreTrailingNewlines, StartLine, StartLineOniguruma, EndLine, LeftWordBoundary, LeftWordHalfBoundary, RightWordBoundary, RightWordHalfBoundary, WordBoundary, NotWordBoundary}
+use Rattle.fancy_lex.specs.declared.escape.Assertion.TheVariants.{StartText, EndText, EndTextIgnoreTrailingNewlines}
+use Rattle.fancy_lex.specs.declared.escape.Assertion.TheVariants.{StartLine, StartLineOniguruma, EndLine}
+use Rattle.fancy_lex.specs.declared.escape.Assertion.TheVariants.{LeftWordBoundary, LeftWordHalfBoundary}
+use Rattle.fancy_lex.specs.declared.escape.Assertion.TheVariants.{RightWordBoundary, RightWordHalfBoundary}
+use Rattle.fancy_lex.specs.declared.escape.Assertion.TheVariants.{WordBoundary, NotWordBoundary}
 use Rattle.fancy_parts.specs.Quote.{behind_backslash, quote_as, quote, quotes, quantifier}
-use Rattle.fancy_grammar.specs.Printed.{any_text, assertion_text, grouped, caseless, is_long, printed, repeated, printed_all, printed_branches, barred}
-use Rattle.fancy_grammar.specs.Tree.{Tree, Trees, no_trees, more_trees, any, assertion, literal, concat, alt, group, repeat, delegate}
+use Rattle.fancy_grammar.specs.Printed.{any_text, assertion_text, grouped, caseless, is_long, printed, repeated}
+use Rattle.fancy_grammar.specs.Printed.{printed_all, printed_branches, barred}
+use Rattle.fancy_grammar.specs.Tree.{Tree, Trees, no_trees, more_trees, any, assertion, literal, concat, alt, group}
+use Rattle.fancy_grammar.specs.Tree.{repeat, delegate}
 
 abbrev pub put_as : ℕ → Option ℕ → Text → Text
 put_as c None v = c ∷ v
@@ -36,8 +43,10 @@ put_assertion WordBoundary v = code "\\" ∷ code "b" ∷ v
 put_assertion NotWordBoundary v = code "\\" ∷ code "B" ∷ v
 put_assertion LeftWordBoundary v = code "\\" ∷ code "<" ∷ v
 put_assertion RightWordBoundary v = code "\\" ∷ code ">" ∷ v
-put_assertion LeftWordHalfBoundary v = code "\\" ∷ code "b" ∷ code "{" ∷ code "s" ∷ code "t" ∷ code "a" ∷ code "r" ∷ code "t" ∷ code "-" ∷ code "h" ∷ code "a" ∷ code "l" ∷ code "f" ∷ code "}" ∷ v
-put_assertion RightWordHalfBoundary v = code "\\" ∷ code "b" ∷ code "{" ∷ code "e" ∷ code "n" ∷ code "d" ∷ code "-" ∷ code "h" ∷ code "a" ∷ code "l" ∷ code "f" ∷ code "}" ∷ v
+put_assertion LeftWordHalfBoundary v = code "\\" ∷ code "b" ∷ code "{" ∷ code "s" ∷ code "t" ∷ code "a" ∷ code
+    "r" ∷ code "t" ∷ code "-" ∷ code "h" ∷ code "a" ∷ code "l" ∷ code "f" ∷ code "}" ∷ v
+put_assertion RightWordHalfBoundary v = code "\\" ∷ code "b" ∷ code "{" ∷ code "e" ∷ code "n" ∷ code "d" ∷ code
+    "-" ∷ code "h" ∷ code "a" ∷ code "l" ∷ code "f" ∷ code "}" ∷ v
 put_assertion (EndTextIgnoreTrailingNewlines crlf) v = v
 
 abbrev pub open_if : Bool → Text → Text
@@ -132,7 +141,8 @@ mutual
   put_text (alt ts) p v =
       ap (open_if (nat_lt 0 p)) (branches_text ts (close_if (nat_lt 0 p) v))
       ∙ grouped_put (nat_lt 0 p) (printed_branches ts) v
-  put_text (group t) p v = ap (λ w. code "(" ∷ w) (put_text t 0 (code ")" ∷ v) ∙ sym (append_assoc (printed t 0) (code ")" ∷ []) v))
+  put_text (group t) p v = ap (λ w. code "(" ∷ w)
+      (put_text t 0 (code ")" ∷ v) ∙ sym (append_assoc (printed t 0) (code ")" ∷ []) v))
   put_text (repeat t lo hi greedy) p v =
       let w = quantifier lo hi greedy ++ close_if (nat_lt 2 p) v in
       ap (open_if (nat_lt 2 p))

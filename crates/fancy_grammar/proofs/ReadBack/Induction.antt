@@ -1,5 +1,6 @@
 -- What is printed reads back.
-use Rattle.std.proofs.Common.{◌≡◌, ℕ, zero, suc, ◌+◌, ◌<◌, ◌≤◌, Bool, true, false, not, ◌&&◌, ◌||◌, List, [], ◌∷◌, ◌++◌, map, refl, sym, ap, subst, arith, lt-ltb}
+use Rattle.std.proofs.Common.{◌≡◌, ℕ, zero, suc, ◌+◌, ◌<◌, ◌≤◌, Bool, true, false, not, ◌&&◌, ◌||◌, List, [], ◌∷◌, ◌++◌}
+use Rattle.std.proofs.Common.{map, refl, sym, ap, subst, arith, lt-ltb}
 use Prim.Native.Char.{code}
 use Rattle.fancy_lex.specs.Text.{Text, bytes}
 use Rattle.fancy_lex.specs.declared.escape.Assertion.{Assertion}
@@ -11,14 +12,24 @@ use Rattle.fancy_grammar.specs.Join.{solid, join, choice}
 use Rattle.fancy_grammar.specs.Normal.{character, pieces_of, case_flags, bare, normal, normal_pieces, normals}
 use Rattle.fancy_grammar.specs.Quantified.{is_repeatable}
 use Rattle.fancy_grammar.specs.Printed.{is_long, printed, repeated, printed_all, printed_branches, grouped}
-use Rattle.fancy_grammar.specs.Tree.{Tree, Trees, no_trees, more_trees, empty, any, assertion, literal, concat, alt, group, repeat, delegate, define_group}
+use Rattle.fancy_grammar.specs.Tree.{Tree, Trees, no_trees, more_trees, empty, any, assertion, literal, concat, alt}
+use Rattle.fancy_grammar.specs.Tree.{group, repeat, delegate, define_group}
 use Rattle.fancy_grammar.specs.Nest.{nest, nests, one_if, is_line}
-use Rattle.fancy_grammar.proofs.ReadBack.InFront.{put, puts, put_branches, put_barred, put_repeated, put_any, put_assertion, put_quotes, open_if, close_if, put_alone}
-use Rattle.fancy_grammar.proofs.ReadBack.ClearLemmas.{Clear, Stops, Ends, clear_close, stops_bar, ends_close, ends_nothing}
+use Rattle.fancy_grammar.proofs.ReadBack.InFront.{put, puts, put_branches, put_barred, put_repeated, put_any}
+use Rattle.fancy_grammar.proofs.ReadBack.InFront.{put_assertion, put_quotes, open_if, close_if, put_alone}
+use Rattle.fancy_grammar.proofs.ReadBack.ClearLemmas.{Clear, Stops, Ends, clear_close, stops_bar, ends_close}
+use Rattle.fancy_grammar.proofs.ReadBack.ClearLemmas.{ends_nothing}
 use Rattle.fancy_grammar.proofs.ReadBack.CountTexts.{NoName, clear_name, quantifier_read}
-use Rattle.fancy_grammar.proofs.ReadBack.RuleLemmas.{Becomes, kept_bare, kept_case, AtomAs, BranchAs, BranchesAs, WholeAs, Run, no_run, run_chain, reads_piece, reads_repeat, reads_branch, reads_last, reads_more, reads_whole, reads_only, reads_group, reads_grouped, reads_caseless, reads_char, reads_text, join_one}
-use Rattle.fancy_grammar.proofs.ReadBack.LeafLemmas.{Begins, whole_atom, quotes_run, reads_any, begins_any, reads_assertion, begins_assertion, read_assertion, HasText}
-use Rattle.fancy_grammar.proofs.ReadBack.ShapeLemmas.{DelegateText, Printable, ArePrintable, IsAtom, atom_of, begins_head, begins_group, begins_atom, begins_repeated, clear_put, clear_puts}
+use Rattle.fancy_grammar.proofs.ReadBack.RuleLemmas.{Becomes, kept_bare, kept_case, AtomAs, BranchAs, BranchesAs}
+use Rattle.fancy_grammar.proofs.ReadBack.RuleLemmas.{WholeAs, Run, no_run, run_chain, reads_piece, reads_repeat}
+use Rattle.fancy_grammar.proofs.ReadBack.RuleLemmas.{reads_branch, reads_last, reads_more, reads_whole, reads_only}
+use Rattle.fancy_grammar.proofs.ReadBack.RuleLemmas.{reads_group, reads_grouped, reads_caseless, reads_char, reads_text}
+use Rattle.fancy_grammar.proofs.ReadBack.RuleLemmas.{join_one}
+use Rattle.fancy_grammar.proofs.ReadBack.LeafLemmas.{Begins, whole_atom, quotes_run, reads_any, begins_any}
+use Rattle.fancy_grammar.proofs.ReadBack.LeafLemmas.{reads_assertion, begins_assertion, read_assertion, HasText}
+use Rattle.fancy_grammar.proofs.ReadBack.ShapeLemmas.{DelegateText, Printable, ArePrintable, IsAtom, atom_of}
+use Rattle.fancy_grammar.proofs.ReadBack.ShapeLemmas.{begins_head, begins_group, begins_atom, begins_repeated}
+use Rattle.fancy_grammar.proofs.ReadBack.ShapeLemmas.{clear_put, clear_puts}
 
 -- what k prints, with m groups nested, reads as the tree x
 abbrev pub ReadsAtom : Bool → (Text → Text) → ℕ → Tree → Type 0
@@ -197,7 +208,8 @@ delegate_reads u s h =
 caseless_delegate_reads : (u : Bool) (s : Text) → DelegateText s → Reads u (delegate s true)
 caseless_delegate_reads u s h =
     let x = normal u (delegate s true) in
-    by_atom u (λ v. code "(" ∷ code "?" ∷ code "i" ∷ code ":" ∷ (s ++ code ")" ∷ v)) 1 (Unit {0}) x (λ v. begins_head (code "i") _ refl)
+    by_atom u (λ v. code "(" ∷ code "?" ∷ code "i" ∷ code ":" ∷ (s ++ code ")" ∷ v)) 1 (Unit {0}) x
+    (λ v. begins_head (code "i") _ refl)
     (λ n d v l _. reads_caseless n d u (s ++ code ")" ∷ v) v x l
     (whole_atom n (d + 1) (case_flags u true) (s ++ code ")" ∷ v) v x (kept_case u true)
     (h.begins (code ")" ∷ v)) (h.reads n (d + 1) u true (code ")" ∷ v))))
@@ -211,7 +223,8 @@ group_reads u t h r =
     (omega arith) (clear_put t h 0 (code ")" ∷ v) (clear_close v))
     (r.whole n (d + 1) (code ")" ∷ v) (omega arith) (ends_close v)))
 
-concat_run : (u : Bool) (ts : Trees) → ArePrintable ts → EachReads u ts → ReadsRun u (puts ts) (nests ts 2) (normal_pieces u ts)
+concat_run : (u : Bool) (ts : Trees) → ArePrintable ts → EachReads u ts →
+    ReadsRun u (puts ts) (nests ts 2) (normal_pieces u ts)
 concat_run u no_trees h r n d v l c = no_run n d (bare u) v
 concat_run u (more_trees t ts) h r n d v l c =
     run_chain (r.0.run n d (puts ts v) (omega arith) (clear_puts ts h.1 v c))
@@ -219,7 +232,8 @@ concat_run u (more_trees t ts) h r n d v l c =
 
 concat_reads : (u : Bool) (ts : Trees) → ArePrintable ts → EachReads u ts → Reads u (concat ts)
 concat_reads u ts h r =
-    by_branch u (puts ts) (nests ts 2) (Unit {0}) (join (normal_pieces u ts)) (normal_pieces u ts) refl (concat_run u ts h r)
+    by_branch u (puts ts) (nests ts 2) (Unit {0}) (join (normal_pieces u ts)) (normal_pieces u ts) refl
+    (concat_run u ts h r)
 
 alt_branches : (u : Bool) (t : Tree) (ts : Trees) → Reads u t → EachReads u ts → (n d : ℕ) (v : Text) →
     d + nest t 1 < max_depth → d + nests ts 1 < max_depth → Ends v

@@ -1,5 +1,6 @@
 -- Nodes that hold no branches, as they are printed.
-use Rattle.std.proofs.Common.{◌≡◌, ℕ, ◌+◌, ◌<◌, Bool, true, false, not, ◌&&◌, ◌||◌, ◌==◌, [], ◌∷◌, map, Option, Some, None, refl, ap, ◌∙◌, arith, ne_eqb}
+use Rattle.std.proofs.Common.{◌≡◌, ℕ, ◌+◌, ◌<◌, Bool, true, false, not, ◌&&◌, ◌||◌, ◌==◌, [], ◌∷◌, map, Option, Some}
+use Rattle.std.proofs.Common.{None, refl, ap, ◌∙◌, arith, ne_eqb}
 use Rattle.std.proofs.lemmas.Bool.{cond-false}
 use Prim.Native.Char.{code}
 use Rattle.fancy_lex.specs.Boundary.{boundary, named_boundary, name}
@@ -10,7 +11,11 @@ use Rattle.fancy_lex.specs.Layout.{after_comment_head, layout_from}
 use Rattle.fancy_lex.specs.Reading.{gives}
 use Rattle.fancy_lex.specs.Text.{Text, bytes, place_of}
 use Rattle.fancy_lex.specs.declared.escape.Assertion.{Assertion}
-use Rattle.fancy_lex.specs.declared.escape.Assertion.TheVariants.{StartText, EndText, EndTextIgnoreTrailingNewlines, StartLine, StartLineOniguruma, EndLine, LeftWordBoundary, LeftWordHalfBoundary, RightWordBoundary, RightWordHalfBoundary, WordBoundary, NotWordBoundary}
+use Rattle.fancy_lex.specs.declared.escape.Assertion.TheVariants.{StartText, EndText, EndTextIgnoreTrailingNewlines}
+use Rattle.fancy_lex.specs.declared.escape.Assertion.TheVariants.{StartLine, StartLineOniguruma, EndLine}
+use Rattle.fancy_lex.specs.declared.escape.Assertion.TheVariants.{LeftWordBoundary, LeftWordHalfBoundary}
+use Rattle.fancy_lex.specs.declared.escape.Assertion.TheVariants.{RightWordBoundary, RightWordHalfBoundary}
+use Rattle.fancy_lex.specs.declared.escape.Assertion.TheVariants.{WordBoundary, NotWordBoundary}
 use Rattle.fancy_lex.specs.declared.flags.Flags.{Flags}
 use Rattle.fancy_grammar.specs.Depth.{max_depth}
 use Rattle.fancy_parts.specs.FlagLetters as letters
@@ -23,9 +28,13 @@ use Rattle.fancy_grammar.specs.State.{done}
 use Rattle.fancy_grammar.specs.Tree.{Tree, any, assertion}
 use Rattle.fancy_grammar.specs.Nest.{one_if, is_line}
 use Rattle.fancy_grammar.proofs.ReadBack.InFront.{put_as, put_quotes, put_any, put_line, put_assertion}
-use Rattle.fancy_grammar.proofs.ReadBack.ClearLemmas.{begins_mark, Clear, not_open, clear_close, ends_close, behind_none}
+use Rattle.fancy_grammar.proofs.ReadBack.ClearLemmas.{begins_mark, Clear, not_open, clear_close, ends_close}
+use Rattle.fancy_grammar.proofs.ReadBack.ClearLemmas.{behind_none}
 use Rattle.fancy_grammar.proofs.ReadBack.CountTexts.{NoName}
-use Rattle.fancy_grammar.proofs.ReadBack.RuleLemmas.{Kept, kept_bare, st, AtomAs, WholeAs, Run, no_run, run_chain, reads_piece, reads_branch, reads_only, join_one, reads_scope, scope_at, one_letter, two_letters, spelled, last_letter, more_letters, reads_leaf, leaf_at, reads_char}
+use Rattle.fancy_grammar.proofs.ReadBack.RuleLemmas.{Kept, kept_bare, st, AtomAs, WholeAs, Run, no_run, run_chain}
+use Rattle.fancy_grammar.proofs.ReadBack.RuleLemmas.{reads_piece, reads_branch, reads_only, join_one, reads_scope}
+use Rattle.fancy_grammar.proofs.ReadBack.RuleLemmas.{scope_at, one_letter, two_letters, spelled, last_letter}
+use Rattle.fancy_grammar.proofs.ReadBack.RuleLemmas.{more_letters, reads_leaf, leaf_at, reads_char}
 
 -- the text of an atom, or of what begins with one
 pub record Begins (s : Text) : Type 0 where
@@ -117,12 +126,14 @@ unfolding bytes
 minus_letters n u s =
     let t = code "R" ∷ code "-" ∷ code "s" ∷ code ":" ∷ s in
     let g = crlf_flags u in
-    let far : (bytes (code ":" ∷ s) + 1 == bytes t) ≡ false = ne_eqb (bytes (code ":" ∷ s) + 1) (bytes t) (omega arith) in
+    let far : (bytes (code ":" ∷ s) + 1 == bytes t) ≡ false =
+    ne_eqb (bytes (code ":" ∷ s) + 1) (bytes t) (omega arith) in
     let k = kept_crlf u in
     spelled n 3 (bare u) t (letters.scope g) s
     (more_letters n t false (bare u) t (kept_bare u) refl 2 false g (code "-" ∷ code "s" ∷ code ":" ∷ s)
     (letters.scope g) s refl
-    (more_letters n t false g (code "-" ∷ code "s" ∷ code ":" ∷ s) k refl 1 true g (code "s" ∷ code ":" ∷ s) (letters.scope g) s refl
+    (more_letters n t false g (code "-" ∷ code "s" ∷ code ":" ∷ s) k refl 1 true g (code "s" ∷ code ":" ∷ s)
+    (letters.scope g) s refl
     (more_letters n t true g (code "s" ∷ code ":" ∷ s) k refl 0 true g (code ":" ∷ s) (letters.scope g) s refl
     (last_letter n t true g (code ":" ∷ s) k refl (letters.scope g) s (cond-false _ _ _ far)))))
     (omega arith)
@@ -132,7 +143,8 @@ pub reads_any : (n d : ℕ) (u a b : Bool) (v : Text) → d + one_if (a || b) < 
 reads_any n d u true b v l =
     let g = dotnl_flags u in
     reads_scope n d (bare u) g (put_any true b v) (code "." ∷ code ")" ∷ v) v (any true false)
-    (scope_at n d (bare u) g (code "s" ∷ code ":" ∷ code "." ∷ code ")" ∷ v) (code "." ∷ code ")" ∷ v) (kept_bare u) l refl refl
+    (scope_at n d (bare u) g (code "s" ∷ code ":" ∷ code "." ∷ code ")" ∷ v) (code "." ∷ code ")" ∷ v) (kept_bare u) l
+    refl refl
     (one_letter n (bare u) g (code "s") (code "." ∷ code ")" ∷ v) (kept_bare u)
     (kept_dotnl u) refl refl))
     (whole_atom n (d + 1) g (code "." ∷ code ")" ∷ v) v (any true false) (kept_dotnl u) (begins_dot (code ")" ∷ v))
@@ -140,7 +152,8 @@ reads_any n d u true b v l =
 reads_any n d u false true v l =
     let g = crlf_flags u in
     reads_scope n d (bare u) g (put_any false true v) (code "." ∷ code ")" ∷ v) v (any false true)
-    (scope_at n d (bare u) g (code "R" ∷ code "-" ∷ code "s" ∷ code ":" ∷ code "." ∷ code ")" ∷ v) (code "." ∷ code ")" ∷ v)
+    (scope_at n d (bare u) g (code "R" ∷ code "-" ∷ code "s" ∷ code ":" ∷ code "." ∷ code ")" ∷ v)
+    (code "." ∷ code ")" ∷ v)
     (kept_bare u) l refl refl
     (minus_letters n u (code "." ∷ code ")" ∷ v)))
     (whole_atom n (d + 1) g (code "." ∷ code ")" ∷ v) v (any false true) (kept_crlf u) (begins_dot (code ")" ∷ v))
@@ -168,7 +181,8 @@ line_atom n d c u false v x l b a =
 line_atom n d c u true v x l b a =
     let g = multi_flags u true in
     reads_scope n d (bare u) g (put_line c true v) (c ∷ code ")" ∷ v) v x
-    (scope_at n d (bare u) g (code "R" ∷ code "m" ∷ code ":" ∷ c ∷ code ")" ∷ v) (c ∷ code ")" ∷ v) (kept_bare u) l refl refl
+    (scope_at n d (bare u) g (code "R" ∷ code "m" ∷ code ":" ∷ c ∷ code ")" ∷ v) (c ∷ code ")" ∷ v) (kept_bare u) l refl
+    refl
     (two_letters n (bare u) (crlf_flags u) g (code "R") (code "m") (c ∷ code ")" ∷ v) (kept_bare u)
     (kept_crlf u) (kept_multi u true) (omega arith) refl refl refl refl))
     (whole_atom n (d + 1) g (c ∷ code ")" ∷ v) v x (kept_multi u true) b a)
@@ -187,7 +201,8 @@ start_line n d u r v l =
       clear = record { no_comment = refl; no_mark = refl };
       goes = refl;
     })
-    (anchor n (d + 1) f (code "^") (code ")" ∷ v) (StartLine r) (leaf_at n (d + 1) f (code "^") (code ")" ∷ v) refl refl))
+    (anchor n (d + 1) f (code "^") (code ")" ∷ v) (StartLine r)
+    (leaf_at n (d + 1) f (code "^") (code ")" ∷ v) refl refl))
 
 end_line : (n d : ℕ) (u r : Bool) (v : Text) → d + 1 < max_depth →
     AtomAs n d (bare u) (put_line (code "$") r v) v (assertion (EndLine r))
@@ -210,13 +225,15 @@ reads_assertion_escape n d u t v a e =
     (record { is = λ g. refl; groups = tt })
 
 half_start : (n p : ℕ) (v : Text) →
-    boundary n false p false (code "{" ∷ code "s" ∷ code "t" ∷ code "a" ∷ code "r" ∷ code "t" ∷ code "-" ∷ code "h" ∷ code "a" ∷ code "l" ∷ code "f" ∷ code "}" ∷ v) ≡ gives
+    boundary n false p false (code "{" ∷ code "s" ∷ code "t" ∷ code "a" ∷ code "r" ∷ code "t" ∷ code "-" ∷ code
+    "h" ∷ code "a" ∷ code "l" ∷ code "f" ∷ code "}" ∷ v) ≡ gives
     (escaped.assertion LeftWordHalfBoundary) v
 unfolding boundary named_boundary name layout_from
 half_start n p v = refl
 
 half_end : (n p : ℕ) (v : Text) →
-    boundary n false p false (code "{" ∷ code "e" ∷ code "n" ∷ code "d" ∷ code "-" ∷ code "h" ∷ code "a" ∷ code "l" ∷ code "f" ∷ code "}" ∷ v) ≡ gives
+    boundary n false p false (code "{" ∷ code "e" ∷ code "n" ∷ code "d" ∷ code "-" ∷ code "h" ∷ code "a" ∷ code
+    "l" ∷ code "f" ∷ code "}" ∷ v) ≡ gives
     (escaped.assertion RightWordHalfBoundary) v
 unfolding boundary named_boundary name layout_from
 half_end n p v = refl
@@ -252,8 +269,10 @@ HasText _ = Unit {0}
 
 pub reads_assertion : (n d : ℕ) (u : Bool) (a : Assertion) (v : Text) → HasText a → d + one_if (is_line a) < max_depth →
     NoName v → AtomAs n d (bare u) (put_assertion a v) v (read_assertion a)
-reads_assertion n d u StartText v h l m = anchor n d (bare u) (code "^") v StartText (leaf_at n d (bare u) (code "^") v refl refl)
-reads_assertion n d u EndText v h l m = anchor n d (bare u) (code "$") v EndText (leaf_at n d (bare u) (code "$") v refl refl)
+reads_assertion n d u StartText v h l m = anchor n d (bare u) (code "^") v StartText
+    (leaf_at n d (bare u) (code "^") v refl refl)
+reads_assertion n d u EndText v h l m = anchor n d (bare u) (code "$") v EndText
+    (leaf_at n d (bare u) (code "$") v refl refl)
 reads_assertion n d u (EndTextIgnoreTrailingNewlines crlf) v h l m = absurd h
 reads_assertion n d u (StartLine crlf) v h l m = start_line n d u crlf v l
 reads_assertion n d u (StartLineOniguruma crlf) v h l m = start_line n d u crlf v l

@@ -1,5 +1,6 @@
 -- The place of the first group that is too deep, by the nesting of each part.
-use Rattle.std.proofs.Common.{◌≡◌, ℕ, ◌+◌, ◌<◌, ◌≤◌, Bool, true, false, ◌||◌, nat_lt, nat_le, ◌==◌, if◌then◌else◌, List, [], ◌∷◌, ◌++◌, codes, Option, Some, None, option_map, unwrap_or, refl, ap, ◌∙◌, arith}
+use Rattle.std.proofs.Common.{◌≡◌, ℕ, ◌+◌, ◌<◌, ◌≤◌, Bool, true, false, ◌||◌, nat_lt, nat_le, ◌==◌, if◌then◌else◌, List}
+use Rattle.std.proofs.Common.{[], ◌∷◌, ◌++◌, codes, Option, Some, None, option_map, unwrap_or, refl, ap, ◌∙◌, arith}
 use Rattle.std.proofs.lemmas.Bool.{cond_both, cond-true, cond-false}
 use Rattle.std.proofs.lemmas.Bool.Decides.{nat_tests}
 use Rattle.std.proofs.lemmas.List.Folds.{find-append}
@@ -10,9 +11,11 @@ use Prim.Native.Char.{code}
 use Rattle.fancy_lex.specs.Text.{Text, bytes}
 use Rattle.fancy_grammar.specs.Depth.{max_depth}
 use Rattle.fancy_grammar.specs.Printed.{is_long, printed}
-use Rattle.fancy_grammar.specs.Tree.{Tree, Trees, no_trees, more_trees, any, assertion, literal, concat, alt, group, repeat, delegate}
+use Rattle.fancy_grammar.specs.Tree.{Tree, Trees, no_trees, more_trees, any, assertion, literal, concat, alt, group}
+use Rattle.fancy_grammar.specs.Tree.{repeat, delegate}
 use Rattle.fancy_grammar.specs.Nest.{one_if, is_line, nest, nests}
-use Rattle.fancy_grammar.specs.Over.{Paren, Parens, no_parens, in_group, parens, parens_all, parens_branches, parens_barred, is_too_deep, over}
+use Rattle.fancy_grammar.specs.Over.{Paren, Parens, no_parens, in_group, parens, parens_all, parens_branches}
+use Rattle.fancy_grammar.specs.Over.{parens_barred, is_too_deep, over}
 
 -- of a group whose head has so many bytes, where d groups are open round it
 abbrev pub at_open : ℕ → ℕ → ℕ → ℕ
@@ -34,7 +37,8 @@ abbrev mutual
 
   pub places : Trees → ℕ → ℕ
   places no_trees d = 0
-  places (more_trees t ts) d = if nat_le max_depth (d + nest t 2) then place t 2 d else bytes (printed t 2) + places ts d
+  places (more_trees t ts) d = if nat_le max_depth (d + nest t 2) then place t 2 d else bytes (printed t 2) + places ts
+      d
 
   pub branch_places : Trees → ℕ → ℕ
   branch_places no_trees d = 0
@@ -52,7 +56,8 @@ abbrev first : List Paren → Option Paren
 first l = find is_too_deep l
 
 record Finds (k : Parens) (m : ℕ) (o : ℕ → ℕ) : Type 0 where
-  deep : (start d : ℕ) → d < max_depth → max_depth ≤ d + m → first (k start d) ≡ Some (record { place = start + o d; round = 63 })
+  deep : (start d : ℕ) → d < max_depth → max_depth ≤ d + m →
+      first (k start d) ≡ Some (record { place = start + o d; round = 63 })
   shallow : (start d : ℕ) → d + m < max_depth → first (k start d) ≡ None
 
 no_group : Finds no_parens 0 (λ d. 0)

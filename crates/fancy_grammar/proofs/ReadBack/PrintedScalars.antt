@@ -1,5 +1,6 @@
 -- What is printed for a printable tree is of scalar values, so its bytes spell it.
-use Rattle.std.proofs.Common.{◌≡◌, ℕ, ◌^◌, ◌<◌, Bool, true, false, ◌&&◌, ◌==◌, nat_lt, [], ◌∷◌, ◌++◌, Option, codes, decimal, chars, refl, arith}
+use Rattle.std.proofs.Common.{◌≡◌, ℕ, ◌^◌, ◌<◌, Bool, true, false, ◌&&◌, ◌==◌, nat_lt, [], ◌∷◌, ◌++◌, Option, codes}
+use Rattle.std.proofs.Common.{decimal, chars, refl, arith}
 use Rattle.std.specs.Prelude.{encode_utf8_all}
 use Rattle.std.proofs.lemmas.Bool.{and_from, and_parts, cond_both}
 use Rattle.std.proofs.lemmas.Bool.Decides.{nat_tests}
@@ -13,10 +14,13 @@ use Rattle.fancy_lex.specs.Text.{Text}
 use Rattle.fancy_lex.specs.declared.escape.Assertion.{Assertion}
 use Rattle.fancy_lex.specs.declared.escape.Assertion.TheVariants.{StartLine, StartLineOniguruma, EndLine}
 use Rattle.fancy_parts.specs.Quantifier.{most}
-use Rattle.fancy_parts.specs.Quote.{needs_backslash, quote_as, quote, quotes, range, mark, counts_as, counts_text, quantifier}
+use Rattle.fancy_parts.specs.Quote.{needs_backslash, quote_as, quote, quotes, range, mark, counts_as, counts_text}
+use Rattle.fancy_parts.specs.Quote.{quantifier}
 use Rattle.fancy_grammar.specs.Printable.{is_count, printable, all_printable, takes_quantifier}
-use Rattle.fancy_grammar.specs.Printed.{any_text, assertion_text, grouped, caseless, is_long, printed, repeated, printed_all, printed_branches, barred}
-use Rattle.fancy_grammar.specs.Tree.{Tree, Trees, no_trees, more_trees, any, assertion, literal, concat, alt, group, repeat, delegate}
+use Rattle.fancy_grammar.specs.Printed.{any_text, assertion_text, grouped, caseless, is_long, printed, repeated}
+use Rattle.fancy_grammar.specs.Printed.{printed_all, printed_branches, barred}
+use Rattle.fancy_grammar.specs.Tree.{Tree, Trees, no_trees, more_trees, any, assertion, literal, concat, alt, group}
+use Rattle.fancy_grammar.specs.Tree.{repeat, delegate}
 use Rattle.fancy_grammar.proofs.ReadBack.CountTexts.{all_digits}
 use Rattle.fancy_grammar.proofs.ReadBack.PrintableLaws.{count_below}
 use Rattle.fancy_grammar.proofs.ReadBack.ScalarLemmas.{scalars_append}

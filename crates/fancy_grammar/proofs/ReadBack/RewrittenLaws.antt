@@ -1,10 +1,12 @@
 -- A rewritten class is one whole class again, and so is what a class escape is rewritten to.
-use Rattle.std.proofs.Common.{◌≡◌, ℕ, Bool, true, false, ◌&&◌, ◌==◌, if◌then◌else◌, [], ◌∷◌, ◌++◌, codes, Some, None, refl, sym, ap, ap₂, ◌∙◌, subst, append_assoc, eqb-true}
+use Rattle.std.proofs.Common.{◌≡◌, ℕ, Bool, true, false, ◌&&◌, ◌==◌, if◌then◌else◌, [], ◌∷◌, ◌++◌, codes, Some, None}
+use Rattle.std.proofs.Common.{refl, sym, ap, ap₂, ◌∙◌, subst, append_assoc, eqb-true}
 use Rattle.std.proofs.lemmas.Bool.{and_from, and_parts}
 use Rattle.std.specs.Char.{IsScalar}
 use Rattle.std.specs.Str.{all_scalars}
 use Prim.Native.Char.{code}
-use Rattle.fancy_lex.specs.Class.{Class, class_items, Items, close, plain, escaped, nested, written, class_head, with_mark, item_text, joint, escape_text, is_plain, is_negated}
+use Rattle.fancy_lex.specs.Class.{Class, class_items, Items, close, plain, escaped, nested, written, class_head}
+use Rattle.fancy_lex.specs.Class.{with_mark, item_text, joint, escape_text, is_plain, is_negated}
 use Rattle.fancy_lex.specs.Escape.{escape}
 use Rattle.fancy_lex.specs.Escaped.{Escape, literal, literal_bytes, delegate}
 use Rattle.fancy_lex.specs.Reading.{Reading, gives, choose}
@@ -13,7 +15,8 @@ use Rattle.fancy_lex.specs.declared.flags.Flags.{Flags}
 use Rattle.fancy_lex.proofs.EscapeLaws.{escape_cut}
 use Rattle.fancy_grammar.specs.Normal.{case_flags}
 use Rattle.fancy_grammar.proofs.ReadBack.ScalarLemmas.{scalars_append, scalars_behind}
-use Rattle.fancy_grammar.proofs.ReadBack.ClassChunks.{Goes, ClassGoes, pass_close, pass_plain, pass_nested, pass_class, Chunk, Fine, both_chunk, char_chunk, amp_chunk}
+use Rattle.fancy_grammar.proofs.ReadBack.ClassChunks.{Goes, ClassGoes, pass_close, pass_plain, pass_nested, pass_class}
+use Rattle.fancy_grammar.proofs.ReadBack.ClassChunks.{Chunk, Fine, both_chunk, char_chunk, amp_chunk}
 use Rattle.fancy_grammar.proofs.ReadBack.ChunkLemmas.{open_plain, open_caret, byte_chunk, FineOf, escape_fine}
 
 -- what is written for an item
@@ -51,23 +54,28 @@ class_head_is : (t : Text) → Opened t (class_head [] t)
 unfolding class_head
 class_head_is [] = opened (code "[" ∷ []) [] (plain_head refl refl)
 class_head_is (c ∷ t) = by_caret (c == code "^") refl where
-  behind_caret : (t : Text) → (c == code "^") ≡ true → Opened (c ∷ t) (with_mark (code "]") (code "[" ∷ code "^" ∷ [], t))
+  behind_caret : (t : Text) → (c == code "^") ≡ true →
+      Opened (c ∷ t) (with_mark (code "]") (code "[" ∷ code "^" ∷ [], t))
   behind_caret [] e = opened _ _ (caret_head [] (ap (λ x. x ∷ []) (eqb-true c (code "^") e)) refl)
   behind_caret (d ∷ t) e = by_close (d == code "]") refl where
     by_close : (x : Bool) → (d == code "]") ≡ x →
-        Opened (c ∷ d ∷ t) (choose {B = Text × Text} (if x then Some t else None) (λ u. (code "[" ∷ code "^" ∷ code "]" ∷ [], u))
+        Opened (c ∷ d ∷ t)
+        (choose {B = Text × Text} (if x then Some t else None) (λ u. (code "[" ∷ code "^" ∷ code "]" ∷ [], u))
         (code "[" ∷ code "^" ∷ [], d ∷ t))
-    by_close true q = opened _ _ (both_head t (ap₂ (λ x y. x ∷ y ∷ t) (eqb-true c (code "^") e) (eqb-true d (code "]") q)))
+    by_close true q =
+        opened _ _ (both_head t (ap₂ (λ x y. x ∷ y ∷ t) (eqb-true c (code "^") e) (eqb-true d (code "]") q)))
     by_close false q = opened _ _ (caret_head (d ∷ t) (ap (λ x. x ∷ d ∷ t) (eqb-true c (code "^") e)) (rw q refl))
 
   no_caret : (x : Bool) → (c == code "]") ≡ x → (c == code "^") ≡ false →
-      Opened (c ∷ t) (choose {B = Text × Text} (if x then Some t else None) (λ u. (code "[" ∷ code "]" ∷ [], u)) (code "[" ∷ [], c ∷ t))
+      Opened (c ∷ t) (choose {B = Text × Text} (if x then Some t else None) (λ u. (code "[" ∷ code "]" ∷ [], u))
+      (code "[" ∷ [], c ∷ t))
   no_caret true q e = opened _ _ (close_head t (ap (λ x. x ∷ t) (eqb-true c (code "]") q)))
   no_caret false q e = opened _ _ (plain_head (rw e refl) (rw q refl))
 
   by_caret : (x : Bool) → (c == code "^") ≡ x →
       Opened (c ∷ t) (with_mark (code "]")
-      (choose {B = Text × Text} (if x then Some t else None) (λ u. (code "[" ∷ code "^" ∷ [], u)) (code "[" ∷ [], c ∷ t)))
+      (choose {B = Text × Text} (if x then Some t else None) (λ u. (code "[" ∷ code "^" ∷ [], u))
+      (code "[" ∷ [], c ∷ t)))
   by_caret true e = behind_caret t e
   by_caret false e = no_caret (c == code "]") refl e
 
@@ -75,7 +83,8 @@ open_close : (t : Text) → ◌≡◌ {A = Text × Text} (class_head [] (code "]
 unfolding class_head
 open_close t = refl
 
-open_both : (t : Text) → ◌≡◌ {A = Text × Text} (class_head [] (code "^" ∷ code "]" ∷ t)) (code "[" ∷ code "^" ∷ code "]" ∷ [], t)
+open_both : (t : Text) → ◌≡◌ {A = Text × Text} (class_head [] (code "^" ∷ code "]" ∷ t))
+    (code "[" ∷ code "^" ∷ code "]" ∷ [], t)
 unfolding class_head
 open_both t = refl
 

@@ -1,5 +1,7 @@
 -- What the grammar's rules read, under flags with which no blank is layout. Nothing else speaks of the rules.
-use Rattle.std.proofs.Common.{◌≡◌, ℕ, ◌+◌, ◌<◌, ◌≤◌, suc, Bool, true, false, not, ◌&&◌, ◌==◌, nat_le, nat_lt, List, [], ◌∷◌, ◌++◌, map, Option, Some, None, is_none, refl, sym, ap, ap₂, ◌∙◌, subst, arith, append_assoc, append-nil, le-leb, if◌then◌else◌}
+use Rattle.std.proofs.Common.{◌≡◌, ℕ, ◌+◌, ◌<◌, ◌≤◌, suc, Bool, true, false, not, ◌&&◌, ◌==◌, nat_le, nat_lt, List, []}
+use Rattle.std.proofs.Common.{◌∷◌, ◌++◌, map, Option, Some, None, is_none, refl, sym, ap, ap₂, ◌∙◌, subst, arith}
+use Rattle.std.proofs.Common.{append_assoc, append-nil, le-leb, if◌then◌else◌}
 use Rattle.std.proofs.lemmas.Bool.{cond-true, cond-false}
 use Rattle.std.proofs.lemmas.Bool.Decides.{nat_tests}
 use Rattle.std.proofs.Math.Bool.{and-true, and-false, not-not}
@@ -18,23 +20,29 @@ use Rattle.fancy_parts.specs.Ranks.{Opening}
 use Rattle.fancy_parts.specs.declared.counts.Counts.{Counts}
 use Rattle.fancy_parts.proofs.FlagLemmas.{letters_start, in_end, in_go}
 use Rattle.fancy_grammar.specs.State as states
-use Rattle.fancy_grammar.specs.Ahead.{Ahead, leaf, with_head, ahead, is_before_nothing, flags_ahead, behind_question, group_ahead, behind_layout, leaf_of, leaf_node, leaf_outcome}
+use Rattle.fancy_grammar.specs.Ahead.{Ahead, leaf, with_head, ahead, is_before_nothing, flags_ahead, behind_question}
+use Rattle.fancy_grammar.specs.Ahead.{group_ahead, behind_layout, leaf_of, leaf_node, leaf_outcome}
 use Rattle.fancy_grammar.specs.Depth.{max_depth}
-use Rattle.fancy_grammar.specs.Grammar.{Alternation, alternation, Branches, last, more, branch_fault, Branch, branch, Pieces, stop, next, piece_fault, Piece, piece, Atom, atom, a_leaf, a_group, inside, Derives, Faults, whole}
+use Rattle.fancy_grammar.specs.Grammar.{Alternation, alternation, Branches, last, more, branch_fault, Branch, branch}
+use Rattle.fancy_grammar.specs.Grammar.{Pieces, stop, next, piece_fault, Piece, piece, Atom, atom, a_leaf, a_group}
+use Rattle.fancy_grammar.specs.Grammar.{inside, Derives, Faults, whole}
 use Rattle.fancy_grammar.specs.Head.{Head, capture, scope}
 use Rattle.fancy_grammar.specs.Items.{Item, opening, reference, items, items_all}
 use Rattle.fancy_grammar.specs.Join.{is_empty, solid, one_or, join, choice}
 use Rattle.fancy_grammar.specs.Grammar.{trees_before}
 use Rattle.fancy_grammar.specs.Quantified as quantified
-use Rattle.fancy_grammar.specs.Quantified.{is_repeatable, is_swapped, may_be_possessive, quant, quant_at, quants, adjacent, max_adjacent, behind_lazy, suffix, suffix_at}
+use Rattle.fancy_grammar.specs.Quantified.{is_repeatable, is_swapped, may_be_possessive, quant, quant_at, quants}
+use Rattle.fancy_grammar.specs.Quantified.{adjacent, max_adjacent, behind_lazy, suffix, suffix_at}
 use Rattle.fancy_grammar.specs.Resolved.{resolved_in, resolved_all}
 use Rattle.fancy_grammar.specs.State.{skipped, State, Outcome, done, fault, and_then, seen_through}
 use Rattle.fancy_grammar.specs.Tree as tree
-use Rattle.fancy_grammar.specs.Tree.{Tree, empty, any, assertion, literal, concat, alt, repeat, trees_of, ast_node, ast_group, ast_backref, ast_call, ast_condition}
+use Rattle.fancy_grammar.specs.Tree.{Tree, empty, any, assertion, literal, concat, alt, repeat, trees_of, ast_node}
+use Rattle.fancy_grammar.specs.Tree.{ast_group, ast_backref, ast_call, ast_condition}
 use Rattle.fancy_grammar.proofs.OutcomeLemmas.{before-nil, solid-append}
 use Rattle.fancy_grammar.specs.Normal.{bare, case_flags}
 use Rattle.fancy_grammar.proofs.ReadBack.InFront.{put_as}
-use Rattle.fancy_grammar.proofs.ReadBack.ClearLemmas.{Clear, no_layout, clear_counts, clear_lazy, clear_star, clear_plus, Stops, Ends, behind_none, behind_some}
+use Rattle.fancy_grammar.proofs.ReadBack.ClearLemmas.{Clear, no_layout, clear_counts, clear_lazy, clear_star}
+use Rattle.fancy_grammar.proofs.ReadBack.ClearLemmas.{clear_plus, Stops, Ends, behind_none, behind_some}
 use Rattle.fancy_grammar.proofs.ReadBack.CountTexts.{IsQuantifier, lazy}
 
 abbrev pub st : Flags → Text → State
@@ -200,7 +208,8 @@ no_run n d f v = record {
   groups = tt;
 }
 
-before_append : (l m : List Tree) (q : Outcome (List Tree)) → trees_before l (trees_before m q) ≡ trees_before (l ++ m) q
+before_append : (l m : List Tree) (q : Outcome (List Tree)) →
+    trees_before l (trees_before m q) ≡ trees_before (l ++ m) q
 before_append l m (done k s) = ap (λ n. done n s) (sym (append_assoc l m k))
 before_append l m (fault k e) = refl
 
@@ -209,7 +218,8 @@ pub run_chain : {n d : ℕ} {f : Flags} {s t v : Text} {xs ys : List Tree} → R
 run_chain {n} {d} {f} {s} p q = record {
   trees = p.trees ++ q.trees;
   pieces =
-      λ o r. subst (Pieces n d (st f s)) (before_append p.trees q.trees o) (p.pieces (trees_before q.trees o) (q.pieces o r));
+      λ o r. subst (Pieces n d (st f s)) (before_append p.trees q.trees o)
+      (p.pieces (trees_before q.trees o) (q.pieces o r));
   are =
       λ g. ap solid (map-append (resolved_in false g) p.trees q.trees)
       ∙ solid-append (map (resolved_in false g) p.trees) (map (resolved_in false g) q.trees)
@@ -280,7 +290,8 @@ lazy_read n f c v true k h =
     ∙ ap (λ o. choose o (behind_lazy (st f v) c true) (behind_lazy (st f v) c false v)) (clear_lazy v h)
     ∙ no_possessive f c false v v h
 lazy_read n f c v false k h =
-    ap (suffix_at (st f (code "?" ∷ v)) c) (skip_here n f (code "?" ∷ v) k refl) ∙ no_possessive f c true (code "?" ∷ v) v h
+    ap (suffix_at (st f (code "?" ∷ v)) c) (skip_here n f (code "?" ∷ v) k refl)
+    ∙ no_possessive f c true (code "?" ∷ v) v h
 
 quant_some : (n left : ℕ) (f : Flags) (a : Tree) (q v : Text) (lo hi : ℕ) (greedy : Bool) → Kept f → Clear v →
     IsQuantifier lo hi greedy v q → is_repeatable f a ≡ true →
@@ -365,7 +376,8 @@ not_deep d h = grind (arith, nat_tests)
 head_at : (n d : ℕ) (f : Flags) (t : Text) → Kept f → d + 1 < max_depth → after_comment_head t ≡ None →
     ahead n d (st f (code "(" ∷ t)) ≡ group_ahead n (st f (code "(" ∷ t)) t
 unfolding ahead
-head_at n d f t k l o = cond-false _ _ _ (not_deep d l) ∙ ap (behind_layout n (st f (code "(" ∷ t))) (skip_here n f t k o)
+head_at n d f t k l o = cond-false _ _ _ (not_deep d l)
+    ∙ ap (behind_layout n (st f (code "(" ∷ t))) (skip_here n f t k o)
 
 -- no head
 head_group : (n : ℕ) (f : Flags) (s t : Text) → Clear t → group_ahead n (st f s) t ≡ with_head (capture None) (st f t)
@@ -385,9 +397,11 @@ reads_group n d f s v x k l c w = record {
 }
 
 -- a group of flags, whose letters begin with one that begins no other head
-pub scope_at : (n d : ℕ) (f g : Flags) (t u : Text) → Kept f → d + 1 < max_depth → after_comment_head (code "?" ∷ t) ≡ None →
+pub scope_at : (n d : ℕ) (f g : Flags) (t u : Text) → Kept f → d + 1 < max_depth →
+    after_comment_head (code "?" ∷ t) ≡ None →
     behind_question n (st f (code "(" ∷ code "?" ∷ t)) t ≡ flags_ahead (letters.letters n f t) →
-    letters.letters n f t ≡ gives (letters.scope g) u → ahead n d (st f (code "(" ∷ code "?" ∷ t)) ≡ with_head scope (st g u)
+    letters.letters n f t ≡ gives (letters.scope g) u →
+    ahead n d (st f (code "(" ∷ code "?" ∷ t)) ≡ with_head scope (st g u)
 scope_at n d f g t u k l o q e = head_at n d f (code "?" ∷ t) k l o ∙ q ∙ ap flags_ahead e
 
 pub reads_scope : (n d : ℕ) (f g : Flags) (s t v : Text) (x : Tree) → ahead n d (st f s) ≡ with_head scope (st g t) →
@@ -416,7 +430,8 @@ spelled n k f t l w h m = letters_start n f t ∙ h (suc (bytes t)) (omega arith
 
 colon : (n : ℕ) (f : Flags) (s : Text) → Kept f → letters.letters n f (code ":" ∷ s) ≡ gives (letters.scope f) s
 colon n f s k =
-    spelled n 0 f (code ":" ∷ s) (letters.scope f) s (last_letter n (code ":" ∷ s) false f (code ":" ∷ s) k refl (letters.scope f) s refl)
+    spelled n 0 f (code ":" ∷ s) (letters.scope f) s
+    (last_letter n (code ":" ∷ s) false f (code ":" ∷ s) k refl (letters.scope f) s refl)
     (omega arith)
 
 grouped_at : (n d : ℕ) (f : Flags) (s : Text) → Kept f → d + 1 < max_depth →
@@ -426,10 +441,12 @@ grouped_at n d f s k l = scope_at n d f f (code ":" ∷ s) s k l refl refl (colo
 -- `(?:`
 pub reads_grouped : (n d : ℕ) (f : Flags) (s v : Text) (x : Tree) → Kept f → d + 1 < max_depth →
     WholeAs n (d + 1) f s (code ")" ∷ v) x → AtomAs n d f (code "(" ∷ code "?" ∷ code ":" ∷ s) v x
-reads_grouped n d f s v x k l w = reads_scope n d f f (code "(" ∷ code "?" ∷ code ":" ∷ s) s v x (grouped_at n d f s k l) w
+reads_grouped n d f s v x k l w = reads_scope n d f f (code "(" ∷ code "?" ∷ code ":" ∷ s) s v x
+    (grouped_at n d f s k l) w
 
 -- one letter and a colon
-pub one_letter : (n : ℕ) (f g : Flags) (c : ℕ) (s : Text) → Kept f → Kept g → after_comment_head (c ∷ code ":" ∷ s) ≡ None →
+pub one_letter : (n : ℕ) (f g : Flags) (c : ℕ) (s : Text) → Kept f → Kept g →
+    after_comment_head (c ∷ code ":" ∷ s) ≡ None →
     step n (c ∷ code ":" ∷ s) false f (c ∷ code ":" ∷ s) ≡ gives (goes false g) (code ":" ∷ s) →
     letters.letters n f (c ∷ code ":" ∷ s) ≡ gives (letters.scope g) s
 unfolding bytes
@@ -499,7 +516,8 @@ reads_char n d f c v None e =
 reads_char n d f c v (Some x) e =
     reads_leaf n d f (code "\\" ∷ x ∷ v) v (literal (c ∷ []) (f.casei && false))
     (leaf_at n d f (code "\\") (x ∷ v) refl refl
-    ∙ ap (λ r. leaf (leaf_outcome leaf_node (st f (code "\\" ∷ x ∷ v)) r)) (behind_some c x e n f (place_of n (code "\\" ∷ x ∷ v)) v)
+    ∙ ap (λ r. leaf (leaf_outcome leaf_node (st f (code "\\" ∷ x ∷ v)) r))
+    (behind_some c x e n f (place_of n (code "\\" ∷ x ∷ v)) v)
     ∙ ap (λ b. leaf (done (literal (c ∷ []) b) (st f v))) (sym (and-false f.casei)))
     (record { is = λ g. refl; groups = tt })
 

@@ -5,12 +5,14 @@ use Rattle.fancy_lex.specs.Text.{Text}
 use Rattle.fancy_parts.specs.Quote.{behind_backslash, quantifier}
 use Rattle.fancy_grammar.specs.Printed.{is_long}
 use Rattle.fancy_grammar.specs.Quantified.{is_repeatable}
-use Rattle.fancy_grammar.specs.Tree.{Tree, Trees, no_trees, more_trees, empty, any, assertion, literal, concat, alt, group, repeat, delegate, define_group}
+use Rattle.fancy_grammar.specs.Tree.{Tree, Trees, no_trees, more_trees, empty, any, assertion, literal, concat, alt}
+use Rattle.fancy_grammar.specs.Tree.{group, repeat, delegate, define_group}
 use Rattle.fancy_grammar.specs.Normal.{case_flags, bare, normal}
 use Rattle.fancy_grammar.proofs.ReadBack.InFront.{put, puts, put_branches, put_barred, put_repeated, open_if, close_if}
 use Rattle.fancy_grammar.proofs.ReadBack.ClearLemmas.{no_truth, Clear, not_asking, clear_lazy, clear_close, stops_bar}
 use Rattle.fancy_grammar.proofs.ReadBack.RuleLemmas.{AtomAs}
-use Rattle.fancy_grammar.proofs.ReadBack.LeafLemmas.{Begins, begins_char, begins_any, begins_assertion, quotes_clear, HasText}
+use Rattle.fancy_grammar.proofs.ReadBack.LeafLemmas.{Begins, begins_char, begins_any, begins_assertion, quotes_clear}
+use Rattle.fancy_grammar.proofs.ReadBack.LeafLemmas.{HasText}
 
 -- a Delegate's text in front of anything reads as its normal form
 pub record DelegateText (s : Text) : Type 0 where

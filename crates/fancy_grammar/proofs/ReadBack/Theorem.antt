@@ -1,6 +1,8 @@
--- What is printed for a printable tree reads as its normal form, or is refused where it nests too deep: the text has no other
+-- What is printed for a printable tree reads as its normal form, or is refused where it nests too deep: the text has no
+-- other
 -- answer.
-use Rattle.std.proofs.Common.{◌≡◌, ℕ, ◌<◌, Bool, true, false, if◌then◌else◌, nat_lt, nat_le, List, [], ◌∷◌, length, filter, filter_map, map, None, refl, sym, ap, ap₂, ◌∙◌, subst}
+use Rattle.std.proofs.Common.{◌≡◌, ℕ, ◌<◌, Bool, true, false, if◌then◌else◌, nat_lt, nat_le, List, [], ◌∷◌, length}
+use Rattle.std.proofs.Common.{filter, filter_map, map, None, refl, sym, ap, ap₂, ◌∙◌, subst}
 use Rattle.std.specs.Prelude.{find, fold, chars, encode_utf8_all}
 use Rattle.std.specs.BTreeSet.{insert_key}
 use Rattle.std.specs.List.{list_any}
@@ -30,7 +32,8 @@ use Rattle.fancy_grammar.specs.Nest.{nest}
 use Rattle.fancy_grammar.specs.Normal.{bare, normal}
 use Rattle.fancy_grammar.specs.Over.{over}
 use Rattle.fancy_grammar.specs.Printable.{printable}
-use Rattle.fancy_grammar.specs.ReadBack.{marks_of_groups, Answer, read, refused, IsAnswerOf, IsOnlyAnswer, read_back, IsReadBack}
+use Rattle.fancy_grammar.specs.ReadBack.{marks_of_groups, Answer, read, refused, IsAnswerOf, IsOnlyAnswer, read_back}
+use Rattle.fancy_grammar.specs.ReadBack.{IsReadBack}
 use Rattle.fancy_grammar.proofs.ReadBack.PrintableLaws.{told}
 use Rattle.fancy_grammar.proofs.ReadBack.PrintedScalars.{printed_spelled}
 use Rattle.fancy_grammar.proofs.ReadBack.Induction.{reads_back}

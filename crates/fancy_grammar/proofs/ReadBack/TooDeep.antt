@@ -1,5 +1,6 @@
 -- What is printed too deep is refused at the first group that is too deep.
-use Rattle.std.proofs.Common.{◌≡◌, ℕ, zero, suc, ◌+◌, ◌<◌, ◌≤◌, Bool, true, false, nat_lt, nat_le, if◌then◌else◌, [], ◌∷◌, ◌++◌, refl, sym, ap, ◌∙◌, subst, arith, lt-ltb, leb-true, leb-false}
+use Rattle.std.proofs.Common.{◌≡◌, ℕ, zero, suc, ◌+◌, ◌<◌, ◌≤◌, Bool, true, false, nat_lt, nat_le, if◌then◌else◌, []}
+use Rattle.std.proofs.Common.{◌∷◌, ◌++◌, refl, sym, ap, ◌∙◌, subst, arith, lt-ltb, leb-true, leb-false}
 use Rattle.std.proofs.lemmas.Bool.{cond_both}
 use Prim.Native.Char.{code}
 use Rattle.fancy_lex.specs.Fault.{recursion_exceeded}
@@ -12,17 +13,24 @@ use Rattle.fancy_grammar.specs.Depth.{max_depth}
 use Rattle.fancy_grammar.specs.Grammar.{Alternation, Branches, Pieces, Atom, Faults}
 use Rattle.fancy_grammar.specs.Printed.{is_long, printed}
 use Rattle.fancy_grammar.specs.State.{fault}
-use Rattle.fancy_grammar.specs.Tree.{Tree, Trees, no_trees, more_trees, empty, any, assertion, literal, concat, alt, group, repeat, delegate, define_group}
+use Rattle.fancy_grammar.specs.Tree.{Tree, Trees, no_trees, more_trees, empty, any, assertion, literal, concat, alt}
+use Rattle.fancy_grammar.specs.Tree.{group, repeat, delegate, define_group}
 use Rattle.fancy_grammar.specs.Nest.{one_if, nest, nests}
 use Rattle.fancy_grammar.specs.Normal.{bare}
 use Rattle.fancy_grammar.specs.Over.{over}
-use Rattle.fancy_grammar.proofs.ReadBack.OverLemmas.{over_place, at_open, at_open_if, place, places, branch_places, barred_places}
-use Rattle.fancy_grammar.proofs.ReadBack.InFront.{put, puts, put_branches, put_barred, put_repeated, put_any, put_assertion, put_line, put_quotes, open_if, close_if, put_alone, put_text}
+use Rattle.fancy_grammar.proofs.ReadBack.OverLemmas.{over_place, at_open, at_open_if, place, places, branch_places}
+use Rattle.fancy_grammar.proofs.ReadBack.OverLemmas.{barred_places}
+use Rattle.fancy_grammar.proofs.ReadBack.InFront.{put, puts, put_branches, put_barred, put_repeated, put_any}
+use Rattle.fancy_grammar.proofs.ReadBack.InFront.{put_assertion, put_line, put_quotes, open_if, close_if, put_alone}
+use Rattle.fancy_grammar.proofs.ReadBack.InFront.{put_text}
 use Rattle.fancy_grammar.proofs.ReadBack.ClearLemmas.{Clear, Ends, clear_close, stops_bar, ends_close, ends_nothing}
 use Rattle.fancy_grammar.proofs.ReadBack.LeafLemmas.{begins_any, begins_assertion, HasText}
-use Rattle.fancy_grammar.proofs.ReadBack.Induction.{Starts, wrapped, wrap_starts, EachReads, reads_each, text_high, nest_high}
-use Rattle.fancy_grammar.proofs.ReadBack.RuleLemmas.{st, kept_bare, fails_deep, fails_group, fails_grouped, fails_piece, fails_first, fails_more, fails_whole, fails_text}
-use Rattle.fancy_grammar.proofs.ReadBack.ShapeLemmas.{Printable, ArePrintable, begins_head, begins_group, begins_atom, begins_repeated, clear_put, clear_puts}
+use Rattle.fancy_grammar.proofs.ReadBack.Induction.{Starts, wrapped, wrap_starts, EachReads, reads_each, text_high}
+use Rattle.fancy_grammar.proofs.ReadBack.Induction.{nest_high}
+use Rattle.fancy_grammar.proofs.ReadBack.RuleLemmas.{st, kept_bare, fails_deep, fails_group, fails_grouped, fails_piece}
+use Rattle.fancy_grammar.proofs.ReadBack.RuleLemmas.{fails_first, fails_more, fails_whole, fails_text}
+use Rattle.fancy_grammar.proofs.ReadBack.ShapeLemmas.{Printable, ArePrintable, begins_head, begins_group, begins_atom}
+use Rattle.fancy_grammar.proofs.ReadBack.ShapeLemmas.{begins_repeated, clear_put, clear_puts}
 
 -- the text that is left at that place
 abbrev left_open : ℕ → Text → Text → Text
@@ -128,7 +136,8 @@ by_one u k h s =
     (λ n d v l m. subst (λ w. AtomFails u n d w w) (sym (h v).1) (fails_deep n d (bare u) (h v).0 m))
 
 -- a group with something inside, that opens at here
-opened : (u : Bool) (n d : ℕ) (t inner : Text) → (d + 1 < max_depth → AtomFails u n d (code "(" ∷ t) inner) → d < max_depth →
+opened : (u : Bool) (n d : ℕ) (t inner : Text) → (d + 1 < max_depth → AtomFails u n d (code "(" ∷ t) inner) →
+    d < max_depth →
     AtomFails u n d (code "(" ∷ t) (left_open d (code "(" ∷ t) inner)
 opened u n d t inner f l =
     cond_both (nat_le 63 d) (code "(" ∷ t) inner (λ at. AtomFails u n d (code "(" ∷ t) at)
@@ -266,10 +275,12 @@ mutual
   fails u (any a b) h = any_fails u a b
   fails u (assertion a) h = assertion_fails u a h
   fails u (literal s true) h =
-      by_one u (λ v. code "(" ∷ code "?" ∷ code "i" ∷ code ":" ∷ put_quotes s (code ")" ∷ v)) (λ v. (_, refl)) (λ v. begins_head 105 _ refl)
+      by_one u (λ v. code "(" ∷ code "?" ∷ code "i" ∷ code ":" ∷ put_quotes s (code ")" ∷ v)) (λ v. (_, refl))
+      (λ v. begins_head 105 _ refl)
   fails u (literal s false) h = by_none u (put_quotes s) (λ d v. put_quotes s v)
   fails u (delegate s true) h =
-      by_one u (λ v. code "(" ∷ code "?" ∷ code "i" ∷ code ":" ∷ (s ++ code ")" ∷ v)) (λ v. (_, refl)) (λ v. begins_head 105 _ refl)
+      by_one u (λ v. code "(" ∷ code "?" ∷ code "i" ∷ code ":" ∷ (s ++ code ")" ∷ v)) (λ v. (_, refl))
+      (λ v. begins_head 105 _ refl)
   fails u (delegate s false) h = by_none u (λ v. s ++ v) (λ d v. s ++ v)
   fails u (concat ts) h =
       by_branch u (puts ts) (nests ts 2) (lefts ts) (concat_fails u ts h (reads_each u ts h) (fails_each u ts h))

@@ -12,8 +12,8 @@ use crate::expr::Expr;
 use crate::print::fixed::{any_text, assertion_text};
 use crate::print::repeated::is_long;
 use crate::print::{BRANCH, OPERAND, PIECE, WHOLE};
-use fancy_parts::quote::{quantifier_len, quotes_len};
 use fancy_lex::text::byte_len;
+use fancy_parts::quote::{quantifier_len, quotes_len};
 use fancy_parts::room::ascii_len;
 
 /// With a group's parentheses, where they are asked.

@@ -8,4 +8,5 @@ pub loop-name-preserved : goal.loop-name-preserved
 loop-name-preserved c =
     let size = ap length (string_text c.in-Some.name.now) in
     names_count_next _ _ _ _ _ c.loop-name.invariant (ap (map entry_of) c.in-Some.ensures.steps)
-    (omega (arith, c.saturating_add.ensures, c.len.ensures)) (omega (arith, c.saturating_add-in-loop-name.ensures, c.len-in-loop-name.ensures, size))
+    (omega (arith, c.saturating_add.ensures, c.len.ensures))
+    (omega (arith, c.saturating_add-in-loop-name.ensures, c.len-in-loop-name.ensures, size))

@@ -10,7 +10,9 @@ use Rattle.fancy_c.proofs.marks.put_names.Goals as goal
 
 pub loop-name-init : goal.loop-name-init
 loop-name-init c =
-    names_start _ _ _ _ _ _ (ap (map entry_of) (c.into_iter-name-iterator.ensures.into_iter_gives ∙ c.iter-name-items.ensures.rest)) c.requires.names_room c.requires.bytes_room
+    names_start _ _ _ _ _ _
+    (ap (map entry_of) (c.into_iter-name-iterator.ensures.into_iter_gives ∙ c.iter-name-items.ensures.rest))
+    c.requires.names_room c.requires.bytes_room
 
 pub put_text-text-requires : goal.put_text-text-requires
 put_text-text-requires c =
@@ -26,11 +28,15 @@ pub loop-name-preserved : goal.loop-name-preserved
 loop-name-preserved c =
     let name = string_text c.in-Some.name.now in
     let at = c.loop-name.behind in
-    let size : c.len.result ≡ length (encode_utf8_all (text_of c.in-Some.name.now)) = omega (arith, c.len.ensures, ap length name) in
+    let size : c.len.result ≡ length (encode_utf8_all (text_of c.in-Some.name.now)) =
+    omega (arith, c.len.ensures, ap length name) in
     let w = encode_utf8_all (text_of c.in-Some.name.now) in
-    let at_n : c.put_numbers-rows.result ≡ at.rows + length c.in-Some.numbers.now.items = omega (arith, c.put_numbers-rows.ensures.behind, ap length c.deref.ensures.value) in
-    let at_o : c.put_text-text.result ≡ at.text + length w = omega (arith, c.put_text-text.ensures.behind, ap length c.as_bytes.ensures.value, ap length name) in
-    names_next _ c.loop-name.names c.put_numbers-rows.new.names _ c.loop-name.bytes c.put_text-text.new.bytes _ _ at.rows at.text _ _ _ _ (text_of c.in-Some.name.now) c.in-Some.numbers.now.items _
+    let at_n : c.put_numbers-rows.result ≡ at.rows + length c.in-Some.numbers.now.items =
+    omega (arith, c.put_numbers-rows.ensures.behind, ap length c.deref.ensures.value) in
+    let at_o : c.put_text-text.result ≡ at.text + length w =
+    omega (arith, c.put_text-text.ensures.behind, ap length c.as_bytes.ensures.value, ap length name) in
+    names_next _ c.loop-name.names c.put_numbers-rows.new.names _ c.loop-name.bytes c.put_text-text.new.bytes _ _
+    at.rows at.text _ _ _ _ (text_of c.in-Some.name.now) c.in-Some.numbers.now.items _
     c.loop-name.invariant (ap (map entry_of) c.in-Some.ensures.steps) at_n at_o
     (c.put_numbers-rows.ensures.put
     ∙ ap (λ m. put_at c.loop-name.names at.rows (numbered at.text m c.deref.result.now)) size

@@ -18,8 +18,10 @@ returns c =
     let rows = rows_length 0 0 (listed t) in
     record {
       nodes_are = filled _ _ _ (omega (arith, c.requires.nodes_room, rows)) put.nodes;
-      texts_are = filled _ _ _ c.requires.texts_room (texts_put _ _ _ _ _ _ put.text_behind put.bytes c.put_names.ensures.bytes);
-      names_are = filled _ _ _ (omega (arith, c.requires.names_room, names_length (length (texts (listed t))) 0 m.named_groups))
+      texts_are = filled _ _ _ c.requires.texts_room
+          (texts_put _ _ _ _ _ _ put.text_behind put.bytes c.put_names.ensures.bytes);
+      names_are = filled _ _ _
+          (omega (arith, c.requires.names_room, names_length (length (texts (listed t))) 0 m.named_groups))
           (c.put_names.ensures.names ∙ ap (λ o. put_at c.args.names.now 0 (name_rows o m.named_groups)) at);
       backrefs_are = filled _ _ _ c.requires.backrefs_room c.put_backrefs.ensures;
     }

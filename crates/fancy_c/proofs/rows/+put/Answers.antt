@@ -11,37 +11,51 @@ use Rattle.fancy_c.proofs.rows.+put.Goals as goal
 pub put_children-loop-child-init : goal.put_children-loop-child-init
 put_children-loop-child-init t c = record {
   sweep = sweep_start _ c.args.tree.now _ c.children_iter-children.ensures.values;
-  putting = putting_starts _ _ _ _ _ _ (ap listed_each c.children_iter-children.ensures.trees) c.requires.nodes_room c.requires.bytes_room;
+  putting = putting_starts _ _ _ _ _ _ (ap listed_each c.children_iter-children.ensures.trees) c.requires.nodes_room
+      c.requires.bytes_room;
 }
 
 pub put_children-put_tree-behind-requires : goal.put_children-put_tree-behind-requires
 put_children-put_tree-behind-requires t c =
-    let among = sweep_head _ c.args.tree.now c.in-Some.child.now _ _ c.loop-child.invariant.sweep c.in-Some.ensures.steps in
+    let among = sweep_head _ c.args.tree.now c.in-Some.child.now _ _ c.loop-child.invariant.sweep
+    c.in-Some.ensures.steps in
     let less : levels (view c.in-Some.child.now) < levels (view c.args.tree.now) =
-    levels_of_child c.args.tree.now c.in-Some.child.now (ap views (sym c.children_iter-children.ensures.values) ∙ c.children_iter-children.ensures.trees) among in
-    let room = putting_room _ _ (ap (λ es. listed_each (views es)) c.in-Some.ensures.steps) c.loop-child.invariant.putting in
+    levels_of_child c.args.tree.now c.in-Some.child.now
+    (ap views (sym c.children_iter-children.ensures.values) ∙ c.children_iter-children.ensures.trees) among in
+    let room = putting_room _ _ (ap (λ es. listed_each (views es)) c.in-Some.ensures.steps)
+    c.loop-child.invariant.putting in
     (omega (arith, less), (room.0, room.1))
 
 pub put_children-loop-child-preserved : goal.put_children-loop-child-preserved
 put_children-loop-child-preserved t c =
     let put = c.put_tree-behind.ensures in
     record {
-      sweep = sweep_next _ c.args.tree.now c.in-Some.child.now _ _ c.loop-child.invariant.sweep c.in-Some.ensures.steps (record { here = tt; below = λ d b. tt });
-      putting = putting_next _ _ _ _ _ _ _ _ _ _ _ _ _ _ _ (putting_as _ (ap (λ es. listed_each (views es)) c.in-Some.ensures.steps) c.loop-child.invariant.putting)
+      sweep = sweep_next _ c.args.tree.now c.in-Some.child.now _ _ c.loop-child.invariant.sweep c.in-Some.ensures.steps
+          (record { here = tt; below = λ d b. tt });
+      putting = putting_next _ _ _ _ _ _ _ _ _ _ _ _ _ _ _
+          (putting_as _ (ap (λ es. listed_each (views es)) c.in-Some.ensures.steps) c.loop-child.invariant.putting)
           put.behind put.text_behind put.nodes put.bytes;
     }
 
 pub put_children-returns-clause-behind : goal.put_children-returns-clause-behind
-put_children-returns-clause-behind t c = (putting_ends _ _ _ _ _ _ _ _ _ _ c.loop-child.invariant.putting (ap (λ es. listed_each (views es)) c.in_default.ensures.steps.0)).0
+put_children-returns-clause-behind t c =
+    (putting_ends _ _ _ _ _ _ _ _ _ _ c.loop-child.invariant.putting
+    (ap (λ es. listed_each (views es)) c.in_default.ensures.steps.0)).0
 
 pub put_children-returns-clause-text_behind : goal.put_children-returns-clause-text_behind
-put_children-returns-clause-text_behind t c = (putting_ends _ _ _ _ _ _ _ _ _ _ c.loop-child.invariant.putting (ap (λ es. listed_each (views es)) c.in_default.ensures.steps.0)).1
+put_children-returns-clause-text_behind t c =
+    (putting_ends _ _ _ _ _ _ _ _ _ _ c.loop-child.invariant.putting
+    (ap (λ es. listed_each (views es)) c.in_default.ensures.steps.0)).1
 
 pub put_children-returns-clause-nodes : goal.put_children-returns-clause-nodes
-put_children-returns-clause-nodes t c = (putting_ends _ _ _ _ _ _ _ _ _ _ c.loop-child.invariant.putting (ap (λ es. listed_each (views es)) c.in_default.ensures.steps.0)).2
+put_children-returns-clause-nodes t c =
+    (putting_ends _ _ _ _ _ _ _ _ _ _ c.loop-child.invariant.putting
+    (ap (λ es. listed_each (views es)) c.in_default.ensures.steps.0)).2
 
 pub put_children-returns-clause-bytes : goal.put_children-returns-clause-bytes
-put_children-returns-clause-bytes t c = (putting_ends _ _ _ _ _ _ _ _ _ _ c.loop-child.invariant.putting (ap (λ es. listed_each (views es)) c.in_default.ensures.steps.0)).3
+put_children-returns-clause-bytes t c =
+    (putting_ends _ _ _ _ _ _ _ _ _ _ c.loop-child.invariant.putting
+    (ap (λ es. listed_each (views es)) c.in_default.ensures.steps.0)).3
 
 pub put_tree-put_text-requires : goal.put_tree-put_text-requires
 put_tree-put_text-requires t c =
@@ -52,7 +66,9 @@ pub put_tree-put_children-behind-requires : goal.put_tree-put_children-behind-re
 put_tree-put_children-behind-requires t c =
     let tree = view c.args.tree.now in
     let size = ap length c.carried.ensures in
-    let text = ap length c.put_text.ensures.put ∙ put_length c.args.bytes.now c.args.before.text c.carried.result.now (omega (arith, c.requires.bytes_room, texts_size tree, size)) in (
+    let text = ap length c.put_text.ensures.put
+    ∙ put_length c.args.bytes.now c.args.before.text c.carried.result.now
+    (omega (arith, c.requires.bytes_room, texts_size tree, size)) in (
       omega arith,
       (
         omega (arith, c.requires.nodes_room, listed_length tree),
@@ -61,11 +77,18 @@ put_tree-put_children-behind-requires t c =
     )
 
 pub put_tree-returns-clause-behind : goal.put_tree-returns-clause-behind
-put_tree-returns-clause-behind t c = omega (arith, c.put_children-behind.ensures.behind, listed_length (view c.args.tree.now))
+put_tree-returns-clause-behind t c =
+    omega (arith, c.put_children-behind.ensures.behind, listed_length (view c.args.tree.now))
 
 pub put_tree-returns-clause-text_behind : goal.put_tree-returns-clause-text_behind
 put_tree-returns-clause-text_behind t c =
-    omega (arith, c.put_children-behind.ensures.text_behind, c.put_text.ensures.behind, texts_size (view c.args.tree.now), ap length c.carried.ensures)
+    omega (
+      arith,
+      c.put_children-behind.ensures.text_behind,
+      c.put_text.ensures.behind,
+      texts_size (view c.args.tree.now),
+      ap length c.carried.ensures,
+    )
 
 pub put_tree-returns-clause-nodes : goal.put_tree-returns-clause-nodes
 put_tree-returns-clause-nodes t c =
@@ -74,11 +97,14 @@ put_tree-returns-clause-nodes t c =
     let put = c.put_children-behind.ensures in
     let at_text = text_place _ _ _ _ c.carried.ensures c.put_text.ensures.behind in
     ap (λ r. set c.put_children-behind.new.nodes n r) c.row.ensures
-    ∙ row_put tree c.args.nodes.now c.put_children-behind.new.nodes n c.args.before.text c.put_children-behind.result.rows put.behind c.requires.nodes_room
+    ∙ row_put tree c.args.nodes.now c.put_children-behind.new.nodes n c.args.before.text
+    c.put_children-behind.result.rows put.behind c.requires.nodes_room
     (put.nodes ∙ ap (λ o. put_at c.args.nodes.now (n + 1) (rows (n + 1) o (listed_each (children tree)))) at_text)
 
 pub put_tree-returns-clause-bytes : goal.put_tree-returns-clause-bytes
 put_tree-returns-clause-bytes t c =
     let at_text = text_place _ _ _ _ c.carried.ensures c.put_text.ensures.behind in
-    text_put (view c.args.tree.now) c.args.bytes.now c.put_text.new.bytes c.put_children-behind.new.bytes c.args.before.text c.put_text.result at_text c.requires.bytes_room
-    (c.put_text.ensures.put ∙ ap (put_at c.args.bytes.now c.args.before.text) c.carried.ensures) c.put_children-behind.ensures.bytes
+    text_put (view c.args.tree.now) c.args.bytes.now c.put_text.new.bytes c.put_children-behind.new.bytes
+    c.args.before.text c.put_text.result at_text c.requires.bytes_room
+    (c.put_text.ensures.put ∙ ap (put_at c.args.bytes.now c.args.before.text) c.carried.ensures)
+    c.put_children-behind.ensures.bytes

@@ -1,4 +1,6 @@
-use Rattle.fancy_grammar.proofs.PremiseLaws.{layout_related, class_related, letters_related, boundary_related, hex_related, number_related, number_text_related, name_related, id_reference_related}
+use Rattle.fancy_grammar.proofs.PremiseLaws.{layout_related, class_related, letters_related, boundary_related}
+use Rattle.fancy_grammar.proofs.PremiseLaws.{hex_related, number_related, number_text_related, name_related}
+use Rattle.fancy_grammar.proofs.PremiseLaws.{id_reference_related}
 use Rattle.fancy_grammar.proofs.premises.premises.Goals as goal
 
 pub returns : goal.returns

@@ -6,7 +6,9 @@ use Rattle.fancy_syntax.specs.Machine.{Opens, IsFaultOfBar, part_of}
 use Rattle.fancy_syntax.specs.Parsed.{state}
 use Rattle.fancy_grammar.specs.State.{done, fault}
 use Rattle.fancy_syntax.specs.View.{view}
-use Rattle.fancy_syntax.proofs.MachineLemmas.{running_start, running_began, running_fault, running_piece, running_open, running_bar, running_bar_fault, running_end, running_closing, running_room}
+use Rattle.fancy_syntax.proofs.MachineLemmas.{running_start, running_began, running_fault, running_piece, running_open}
+use Rattle.fancy_syntax.proofs.MachineLemmas.{running_bar, running_bar_fault, running_end, running_closing}
+use Rattle.fancy_syntax.proofs.MachineLemmas.{running_room}
 use Rattle.fancy_grammar.proofs.OutcomeLemmas.{Fails-map}
 use Rattle.fancy_syntax.proofs.grammar.alternation.Goals as goal
 
@@ -14,7 +16,8 @@ pub loop-c-init : goal.loop-c-init
 loop-c-init c =
     let f = c.new-frame.ensures in
     record {
-      running = running_start c.args.end (state c.args.start) _ _ c.in_ok-stack.ensures.items f.branches f.pieces (ap part_of f.opener);
+      running = running_start c.args.end (state c.args.start) _ _ c.in_ok-stack.ensures.items f.branches f.pieces
+          (ap part_of f.opener);
       room = omega (arith, c.room.ensures, c.in_ok-stack.ensures.capacity);
       depth = rw c.in_ok-stack.ensures.items (omega arith);
       within = omega arith;
@@ -26,7 +29,8 @@ loop-c-preserved-in-Some c =
     let plain = c.in-Some.ensures.plain in
     let leaf = c.in_ok-leaf.ensures in
     record {
-      running = running_piece c.add.new.self c.loop-c.invariant.running plain.more (plain.piece _ _) (ap part_of f.opener) f.branches (rw leaf at f.pieces);
+      running = running_piece c.add.new.self c.loop-c.invariant.running plain.more (plain.piece _ _)
+          (ap part_of f.opener) f.branches (rw leaf at f.pieces);
       room = c.loop-c.invariant.room;
       depth = c.loop-c.invariant.depth;
       within = omega (arith, c.loop-c.invariant.within, c.in-Some.ensures.shorter);
@@ -36,7 +40,9 @@ pub returns-in_err-piece-clause-value : goal.returns-in_err-piece-clause-value
 returns-in_err-piece-clause-value c =
     let n : c.len.result ≡ length c.loop-c.stack.items = omega (arith, c.len.ensures, c.loop-c.stack.ok.0) in
     let e = err_from_is_err_and c.from_residual-in_err-piece.result c.from_residual-in_err-piece.ensures.1 in
-    rw (e.1, e.2) (Fails-map (Piece c.args.end c.len.result (state c.loop-c.here)) (Alternation c.args.end 0 (state c.args.start)) c.in_err-piece.field-0.0
+    rw (e.1, e.2)
+    (Fails-map (Piece c.args.end c.len.result (state c.loop-c.here)) (Alternation c.args.end 0 (state c.args.start))
+    c.in_err-piece.field-0.0
     (λ k p h. running_fault c.loop-c.invariant.running (sym c.if-not-is_end.ensures)
     (subst (λ d. Piece c.args.end d (state c.loop-c.here) (fault k p)) n h)) c.in_err-piece.ensures.value)
 
@@ -46,7 +52,8 @@ loop-c-preserved-in-Continue-branch-6 c =
     let f = c.in_ok-add-in-Piece.ensures in
     record {
       running = running_piece c.add-in-Piece.new.self c.loop-c.invariant.running (sym c.if-not-is_end.ensures)
-          (subst (λ d. Piece c.args.end d (state c.loop-c.here) (done (view c.in-Piece.piece) (state c.read_step.new.here))) n
+          (subst (λ d. Piece c.args.end d (state c.loop-c.here)
+          (done (view c.in-Piece.piece) (state c.read_step.new.here))) n
           (rw c.in-Piece.is at c.in_ok-piece.ensures.value)) (ap part_of f.opener) f.branches f.pieces;
       room = c.loop-c.invariant.room;
       depth = c.loop-c.invariant.depth;
@@ -56,9 +63,16 @@ loop-c-preserved-in-Continue-branch-6 c =
 pub push_frame-requires : goal.push_frame-requires
 push_frame-requires c =
     let n : c.len.result ≡ length c.loop-c.stack.items = omega (arith, c.len.ensures, c.loop-c.stack.ok.0) in
-    let opens = subst (λ d. Opens c.args.end d (state c.loop-c.here) (part_of c.in-Open.opener) (state c.read_step.new.here)) n
+    let opens = subst (λ d. Opens c.args.end d (state c.loop-c.here) (part_of c.in-Open.opener)
+    (state c.read_step.new.here)) n
     (rw c.in-Open.is at c.in_ok-piece.ensures.value) in
-    omega (arith, c.loop-c.stack.ok.0, c.loop-c.invariant.depth, c.loop-c.invariant.room, running_room c.loop-c.invariant.running opens)
+    omega (
+      arith,
+      c.loop-c.stack.ok.0,
+      c.loop-c.invariant.depth,
+      c.loop-c.invariant.room,
+      running_room c.loop-c.invariant.running opens,
+    )
 
 pub loop-c-preserved-in-Open : goal.loop-c-preserved-in-Open
 loop-c-preserved-in-Open c =
@@ -67,12 +81,21 @@ loop-c-preserved-in-Open c =
     let items = c.push_frame.ensures.items in
     let below = rw c.in-Open.is at c.in_ok-piece.ensures.below in
     record {
-      running = running_open c.push_frame.new.stack.items c.new-frame-in-Open.result (running_began c.byte_len.result c.loop-c.here.flags c.loop-c.invariant.running)
+      running = running_open c.push_frame.new.stack.items c.new-frame-in-Open.result
+          (running_began c.byte_len.result c.loop-c.here.flags c.loop-c.invariant.running)
           (c.byte_len.ensures, refl) (sym c.if-not-is_end.ensures)
-          (subst (λ d. Opens c.args.end d (state c.loop-c.here) (part_of c.in-Open.opener) (state c.read_step.new.here)) n
+          (subst (λ d. Opens c.args.end d (state c.loop-c.here) (part_of c.in-Open.opener) (state c.read_step.new.here))
+          n
           (rw c.in-Open.is at c.in_ok-piece.ensures.value)) items (ap part_of f.opener) f.branches f.pieces;
       room = omega (arith, c.loop-c.invariant.room, c.push_frame.ensures.capacity);
-      depth = omega (arith, n, below, ap length items, length_push c.loop-c.stack.items (record c.loop-c.frame { left = c.byte_len.result; flags = c.loop-c.here.flags }));
+      depth = omega (
+        arith,
+        n,
+        below,
+        ap length items,
+        length_push c.loop-c.stack.items
+            (record c.loop-c.frame { left = c.byte_len.result; flags = c.loop-c.here.flags }),
+      );
       within = omega (arith, c.loop-c.invariant.within, c.in_ok-piece.ensures.shorter);
     }
 
@@ -80,15 +103,18 @@ pub returns-in_err-bar-clause-value : goal.returns-in_err-bar-clause-value
 returns-in_err-bar-clause-value c =
     let e = err_from_is_err_and c.from_residual-in_err-bar.result c.from_residual-in_err-bar.ensures.1 in
     let rest = (state c.loop-c.here).rest in
-    rw (e.1, e.2) (Fails-map (IsFaultOfBar (part_of c.loop-c.frame.opener) c.args.end rest) (Alternation c.args.end 0 (state c.args.start)) c.in_err-bar.field-0.0
-    (λ k p h. running_bar_fault _ c.loop-c.invariant.running (sym c.if-not-is_end.ensures) c.in-Some-after.ensures.value h)
+    rw (e.1, e.2) (Fails-map (IsFaultOfBar (part_of c.loop-c.frame.opener) c.args.end rest)
+    (Alternation c.args.end 0 (state c.args.start)) c.in_err-bar.field-0.0
+    (λ k p h. running_bar_fault _ c.loop-c.invariant.running (sym c.if-not-is_end.ensures) c.in-Some-after.ensures.value
+    h)
     (c.in_err-bar.ensures.fault c.args.end rest c.place.ensures))
 
 pub loop-c-preserved-in-Some-after : goal.loop-c-preserved-in-Some-after
 loop-c-preserved-in-Some-after c =
     let f = c.in_ok-bar.ensures in
     record {
-      running = running_bar c.bar.new.self c.loop-c.invariant.running (sym c.if-not-is_end.ensures) c.in-Some-after.ensures.value f.allowed f.opener f.branches f.pieces;
+      running = running_bar c.bar.new.self c.loop-c.invariant.running (sym c.if-not-is_end.ensures)
+          c.in-Some-after.ensures.value f.allowed f.opener f.branches f.pieces;
       room = c.loop-c.invariant.room;
       depth = c.loop-c.invariant.depth;
       within = omega (arith, c.loop-c.invariant.within, c.in-Some-after.ensures.shorter);
@@ -96,45 +122,64 @@ loop-c-preserved-in-Some-after c =
 
 pub returns-in_default-pop-clause-value : goal.returns-in_default-pop-clause-value
 returns-in_default-pop-clause-value c =
-    let none : c.loop-c.stack.items ≡ [] = nil_from_length _ (omega (arith, c.loop-c.stack.ok.0, c.in_default-pop.ensures.cases.0)) in
-    running_end (view c.in_ok-opener.inner) c.loop-c.invariant.running (sym c.if-not-is_end.ensures) c.in_default-after.ensures.value
+    let none : c.loop-c.stack.items ≡ [] =
+    nil_from_length _ (omega (arith, c.loop-c.stack.ok.0, c.in_default-pop.ensures.cases.0)) in
+    running_end (view c.in_ok-opener.inner) c.loop-c.invariant.running (sym c.if-not-is_end.ensures)
+    c.in_default-after.ensures.value
     c.in_ok-opener.ensures.tree none
 
 pub returns-in_err-piece-2-clause-value : goal.returns-in_err-piece-2-clause-value
 returns-in_err-piece-2-clause-value c =
-    let w = running_closing c.pop.new.self.items c.in-Some-pop.outer (view c.in_ok-opener.inner) (part_of c.in_ok-opener.opener) (ap part_of c.in_ok-opener.ensures.opener)
-    c.loop-c.invariant.running (sym c.if-not-is_end.ensures) c.in_default-after.ensures.value c.in_ok-opener.ensures.tree c.in-Some-pop.ensures.items in
-    let n : c.len-in_default-after.result ≡ length c.pop.new.self.items = omega (arith, c.len-in_default-after.ensures, c.pop.new.self.ok.0) in
+    let w = running_closing c.pop.new.self.items c.in-Some-pop.outer (view c.in_ok-opener.inner)
+    (part_of c.in_ok-opener.opener) (ap part_of c.in_ok-opener.ensures.opener)
+    c.loop-c.invariant.running (sym c.if-not-is_end.ensures) c.in_default-after.ensures.value
+    c.in_ok-opener.ensures.tree c.in-Some-pop.ensures.items in
+    let n : c.len-in_default-after.result ≡ length c.pop.new.self.items =
+    omega (arith, c.len-in_default-after.ensures, c.pop.new.self.ok.0) in
     let e = err_from_is_err_and c.from_residual-in_err-piece-2.result c.from_residual-in_err-piece-2.ensures.1 in
-    rw (e.1, e.2) (Fails-map (Piece c.args.end c.len-in_default-after.result w.here) (Alternation c.args.end 0 (state c.args.start)) c.in_err-piece-2.field-0.0
+    rw (e.1, e.2) (Fails-map (Piece c.args.end c.len-in_default-after.result w.here)
+    (Alternation c.args.end 0 (state c.args.start)) c.in_err-piece-2.field-0.0
     (λ k p h. running_fault w.outer w.more (subst (λ d. Piece c.args.end d w.here (fault k p)) n h))
     (c.in_err-piece-2.ensures.value w.here w.inside w.began.0 w.began.1 (rw n w.opens) (rw n w.whole)))
 
 pub loop-c-preserved-in-Continue-branch-11 : goal.loop-c-preserved-in-Continue-branch-11
 loop-c-preserved-in-Continue-branch-11 c =
     let popped = c.in-Some-pop.ensures.items in
-    let w = running_closing c.pop.new.self.items c.in-Some-pop.outer (view c.in_ok-opener.inner) (part_of c.in_ok-opener.opener) (ap part_of c.in_ok-opener.ensures.opener)
-    c.loop-c.invariant.running (sym c.if-not-is_end.ensures) c.in_default-after.ensures.value c.in_ok-opener.ensures.tree popped in
-    let n : c.len-in_default-after.result ≡ length c.pop.new.self.items = omega (arith, c.len-in_default-after.ensures, c.pop.new.self.ok.0) in
+    let w = running_closing c.pop.new.self.items c.in-Some-pop.outer (view c.in_ok-opener.inner)
+    (part_of c.in_ok-opener.opener) (ap part_of c.in_ok-opener.ensures.opener)
+    c.loop-c.invariant.running (sym c.if-not-is_end.ensures) c.in_default-after.ensures.value
+    c.in_ok-opener.ensures.tree popped in
+    let n : c.len-in_default-after.result ≡ length c.pop.new.self.items =
+    omega (arith, c.len-in_default-after.ensures, c.pop.new.self.ok.0) in
     let steps = c.in_ok-piece-2.ensures.value w.here w.inside w.began.0 w.began.1 (rw n w.opens) (rw n w.whole) in
     let f = c.in_ok-add-in-Piece-2.ensures in
     record {
       running = running_piece c.add-in-Piece-2.new.self w.outer w.more
-          (subst (λ d. Piece c.args.end d w.here (done (view c.in-Piece-2.piece) (state c.close.new.here))) n (rw c.in-Piece-2.is at steps))
+          (subst (λ d. Piece c.args.end d w.here (done (view c.in-Piece-2.piece) (state c.close.new.here))) n
+          (rw c.in-Piece-2.is at steps))
           (ap part_of f.opener) f.branches f.pieces;
       room = omega (arith, c.loop-c.invariant.room, c.in-Some-pop.ensures.capacity);
-      depth = omega (arith, c.loop-c.invariant.depth, ap length popped, length_push c.pop.new.self.items c.in-Some-pop.outer);
+      depth = omega (
+        arith,
+        c.loop-c.invariant.depth,
+        ap length popped,
+        length_push c.pop.new.self.items c.in-Some-pop.outer,
+      );
       within = omega (arith, c.loop-c.invariant.within, c.in_ok-piece-2.ensures.shorter);
     }
 
 pub push_frame-requires-in-Open-2 : goal.push_frame-requires-in-Open-2
 push_frame-requires-in-Open-2 c =
     let popped = c.in-Some-pop.ensures.items in
-    let w = running_closing c.pop.new.self.items c.in-Some-pop.outer (view c.in_ok-opener.inner) (part_of c.in_ok-opener.opener) (ap part_of c.in_ok-opener.ensures.opener)
-    c.loop-c.invariant.running (sym c.if-not-is_end.ensures) c.in_default-after.ensures.value c.in_ok-opener.ensures.tree popped in
-    let n : c.len-in_default-after.result ≡ length c.pop.new.self.items = omega (arith, c.len-in_default-after.ensures, c.pop.new.self.ok.0) in
+    let w = running_closing c.pop.new.self.items c.in-Some-pop.outer (view c.in_ok-opener.inner)
+    (part_of c.in_ok-opener.opener) (ap part_of c.in_ok-opener.ensures.opener)
+    c.loop-c.invariant.running (sym c.if-not-is_end.ensures) c.in_default-after.ensures.value
+    c.in_ok-opener.ensures.tree popped in
+    let n : c.len-in_default-after.result ≡ length c.pop.new.self.items =
+    omega (arith, c.len-in_default-after.ensures, c.pop.new.self.ok.0) in
     let steps = c.in_ok-piece-2.ensures.value w.here w.inside w.began.0 w.began.1 (rw n w.opens) (rw n w.whole) in
-    let opens = subst (λ d. Opens c.args.end d w.here (part_of c.in-Open-2.opener) (state c.close.new.here)) n (rw c.in-Open-2.is at steps) in
+    let opens = subst (λ d. Opens c.args.end d w.here (part_of c.in-Open-2.opener) (state c.close.new.here)) n
+    (rw c.in-Open-2.is at steps) in
     omega (
       arith,
       c.pop.new.self.ok.0,
@@ -149,17 +194,32 @@ push_frame-requires-in-Open-2 c =
 pub loop-c-preserved : goal.loop-c-preserved
 loop-c-preserved c =
     let popped = c.in-Some-pop.ensures.items in
-    let w = running_closing c.pop.new.self.items c.in-Some-pop.outer (view c.in_ok-opener.inner) (part_of c.in_ok-opener.opener) (ap part_of c.in_ok-opener.ensures.opener)
-    c.loop-c.invariant.running (sym c.if-not-is_end.ensures) c.in_default-after.ensures.value c.in_ok-opener.ensures.tree popped in
-    let n : c.len-in_default-after.result ≡ length c.pop.new.self.items = omega (arith, c.len-in_default-after.ensures, c.pop.new.self.ok.0) in
+    let w = running_closing c.pop.new.self.items c.in-Some-pop.outer (view c.in_ok-opener.inner)
+    (part_of c.in_ok-opener.opener) (ap part_of c.in_ok-opener.ensures.opener)
+    c.loop-c.invariant.running (sym c.if-not-is_end.ensures) c.in_default-after.ensures.value
+    c.in_ok-opener.ensures.tree popped in
+    let n : c.len-in_default-after.result ≡ length c.pop.new.self.items =
+    omega (arith, c.len-in_default-after.ensures, c.pop.new.self.ok.0) in
     let steps = c.in_ok-piece-2.ensures.value w.here w.inside w.began.0 w.began.1 (rw n w.opens) (rw n w.whole) in
     let f = c.new-frame-in-Open-2.ensures in
     let pushed = c.push_frame-in-Open-2.ensures.items in
     record {
       running = running_open c.push_frame-in-Open-2.new.stack.items c.new-frame-in-Open-2.result w.outer w.began w.more
-          (subst (λ d. Opens c.args.end d w.here (part_of c.in-Open-2.opener) (state c.close.new.here)) n (rw c.in-Open-2.is at steps))
+          (subst (λ d. Opens c.args.end d w.here (part_of c.in-Open-2.opener) (state c.close.new.here)) n
+          (rw c.in-Open-2.is at steps))
           pushed (ap part_of f.opener) f.branches f.pieces;
-      room = omega (arith, c.loop-c.invariant.room, c.in-Some-pop.ensures.capacity, c.push_frame-in-Open-2.ensures.capacity);
-      depth = omega (arith, c.loop-c.invariant.depth, ap length popped, ap length pushed, length_push c.pop.new.self.items c.in-Some-pop.outer);
+      room = omega (
+        arith,
+        c.loop-c.invariant.room,
+        c.in-Some-pop.ensures.capacity,
+        c.push_frame-in-Open-2.ensures.capacity,
+      );
+      depth = omega (
+        arith,
+        c.loop-c.invariant.depth,
+        ap length popped,
+        ap length pushed,
+        length_push c.pop.new.self.items c.in-Some-pop.outer,
+      );
       within = omega (arith, c.loop-c.invariant.within, c.in_ok-piece-2.ensures.shorter);
     }

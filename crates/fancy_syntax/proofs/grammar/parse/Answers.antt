@@ -15,9 +15,11 @@ returns-in_err-tree c =
     let n = bytes_chars c.args.text.now c.utf8.text in
     let e = err_from_is_err_and c.from_residual.result c.from_residual.ensures.1 in
     record {
-      reads = rw (e.1, e.2) (Fails-map (Alternation _ 0 (start c.args.flags (chars c.args.text.now))) (Whole c.args.flags (chars c.args.text.now)) c.in_err-tree.field-0.0
+      reads = rw (e.1, e.2) (Fails-map (Alternation _ 0 (start c.args.flags (chars c.args.text.now)))
+          (Whole c.args.flags (chars c.args.text.now)) c.in_err-tree.field-0.0
           (λ k p h. whole
-          (subst (λ (m : ℕ). Alternation m 0 (start c.args.flags (chars c.args.text.now)) (fault k p)) (sym n) h) refl) c.in_err-tree.ensures.value);
+          (subst (λ (m : ℕ). Alternation m 0 (start c.args.flags (chars c.args.text.now)) (fault k p)) (sym n) h) refl)
+          c.in_err-tree.ensures.value);
     }
 
 pub returns-in-None : goal.returns-in-None
@@ -28,7 +30,8 @@ returns-in-None c =
       reads = (
         here,
         whole
-            (subst (λ (m : ℕ). Alternation m 0 (start c.args.flags (chars c.args.text.now)) (done (view c.in_ok-tree.tree) here)) (sym n) c.in_ok-tree.ensures.value)
+            (subst (λ (m : ℕ). Alternation m 0 (start c.args.flags (chars c.args.text.now))
+            (done (view c.in_ok-tree.tree) here)) (sym n) c.in_ok-tree.ensures.value)
             (ap (ended_at _ (view c.in_ok-tree.tree) here) c.in-None.ensures.value),
       );
     }
@@ -39,8 +42,10 @@ returns-in-Some c =
     let f = says_end c.general.result c.place.result c.general.ensures in
     let here = state c.in_ok-tree.here in
     record {
-      reads = Fails-is (Whole c.args.flags (chars c.args.text.now)) c.general.result _ _ (rw (c.place.ensures, ← n) at f)
+      reads = Fails-is (Whole c.args.flags (chars c.args.text.now)) c.general.result _ _
+          (rw (c.place.ensures, ← n) at f)
           (whole
-          (subst (λ (m : ℕ). Alternation m 0 (start c.args.flags (chars c.args.text.now)) (done (view c.in_ok-tree.tree) here)) (sym n) c.in_ok-tree.ensures.value)
+          (subst (λ (m : ℕ). Alternation m 0 (start c.args.flags (chars c.args.text.now))
+          (done (view c.in_ok-tree.tree) here)) (sym n) c.in_ok-tree.ensures.value)
           (ap (ended_at _ (view c.in_ok-tree.tree) here) c.in-Some.ensures.value));
     }

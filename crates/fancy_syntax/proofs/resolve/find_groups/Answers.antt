@@ -12,7 +12,8 @@ pub returns-then-groups-eq0-clause-named : goal.returns-then-groups-eq0-clause-n
 returns-then-groups-eq0-clause-named c =
     let l = openings (view c.args.tree.now) in
     let total =
-    start_total c.args.ignore (groups_of c.new-groups.result) (groups_of c.survey.new.groups) (items (view c.args.tree.now))
+    start_total c.args.ignore (groups_of c.new-groups.result) (groups_of c.survey.new.groups)
+    (items (view c.args.tree.now))
     c.new-groups.ensures c.in_ok-survey.ensures.found in
     let zero : length (counted_in true l) ≡ 0
     = ap (λ b. length (counted_in b l)) (sym c.if-ignore.true) ∙ sym total ∙ c.if-groups-eq0.true in
@@ -32,7 +33,8 @@ pub returns-clause-named : goal.returns-clause-named
 returns-clause-named c =
     let l = openings (view c.args.tree.now) in
     let total =
-    start_total c.args.ignore (groups_of c.new-groups.result) (groups_of c.survey.new.groups) (items (view c.args.tree.now))
+    start_total c.args.ignore (groups_of c.new-groups.result) (groups_of c.survey.new.groups)
+    (items (view c.args.tree.now))
     c.new-groups.ensures c.in_ok-survey.ensures.found in
     elim c.if-ignore.branch [
       | then-ignore+else-groups-eq0 w ↦

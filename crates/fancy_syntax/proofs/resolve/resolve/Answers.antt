@@ -40,7 +40,8 @@ returns-clause-marks c =
     let found = rw c.in-Ok.is at c.find_groups.ensures in
     let suits = known_suits f r k (length c.args.pattern.now) found.named found.total found.names c.requires in
     let walked = rw c.in-Ok-walk.is at c.walk.ensures in
-    on_ok c.answer.result (λ t are. are ∙ ap (marks_noted k) walked.progress ∙ law_marks f r k suits) c.answer.ensures.marks
+    on_ok c.answer.result (λ t are. are ∙ ap (marks_noted k) walked.progress ∙ law_marks f r k suits)
+    c.answer.ensures.marks
 
 pub returns-clause-no_fault : goal.returns-clause-no_fault
 returns-clause-no_fault c =
@@ -49,7 +50,8 @@ returns-clause-no_fault c =
     let found = rw c.in-Ok.is at c.find_groups.ensures in
     let suits = known_suits f r k (length c.args.pattern.now) found.named found.total found.names c.requires in
     let walked = rw c.in-Ok-walk.is at c.walk.ensures in
-    on_ok c.answer.result (λ t none. sym (law_fault f r k suits) ∙ sym (ap (λ (p : Progress). p.fault) walked.progress) ∙ none)
+    on_ok c.answer.result (λ t none. sym (law_fault f r k suits) ∙ sym (ap (λ (p : Progress). p.fault) walked.progress)
+    ∙ none)
     c.answer.ensures.no_fault
 
 pub returns-clause-fault : goal.returns-clause-fault
@@ -59,5 +61,6 @@ returns-clause-fault c =
     let found = rw c.in-Ok.is at c.find_groups.ensures in
     let suits = known_suits f r k (length c.args.pattern.now) found.named found.total found.names c.requires in
     let walked = rw c.in-Ok-walk.is at c.walk.ensures in
-    on_err c.answer.result (λ e is. subst (IsErrorIn e) (ap (λ (p : Progress). p.fault) walked.progress ∙ law_fault f r k suits) is)
+    on_err c.answer.result
+    (λ e is. subst (IsErrorIn e) (ap (λ (p : Progress). p.fault) walked.progress ∙ law_fault f r k suits) is)
     c.answer.ensures.fault

@@ -1,4 +1,5 @@
-use Rattle.fre_program.proofs.FlagLemmas.{sets_casei, sets_multi, sets_dotnl, sets_swap_greed, sets_ignore_space, sets_unicode, sets_crlf, sets_oniguruma_mode, sets_ignore_numbered_groups}
+use Rattle.fre_program.proofs.FlagLemmas.{sets_casei, sets_multi, sets_dotnl, sets_swap_greed, sets_ignore_space}
+use Rattle.fre_program.proofs.FlagLemmas.{sets_unicode, sets_crlf, sets_oniguruma_mode, sets_ignore_numbered_groups}
 use Rattle.fre_program.proofs.flag_word.flag_of.Goals as goal
 
 pub returns-in-i-clause-flag : goal.returns-in-i-clause-flag

@@ -7,14 +7,19 @@ use Rattle.patterns_program.proofs.printing.+first_textless.Goals as goal
 
 pub loop-child-init : goal.loop-child-init
 loop-child-init t c =
-    sweep_start _ c.args.tree.now _ (ap remaining_children c.into_iter-child-iterator.ensures.into_iter_gives ∙ c.children_iter-child-items.ensures.values)
+    sweep_start _ c.args.tree.now _ (ap remaining_children c.into_iter-child-iterator.ensures.into_iter_gives
+    ∙ c.children_iter-child-items.ensures.values)
 
 pub first_textless-requires : goal.first_textless-requires
 first_textless-requires t c =
-    let among = sweep_head _ c.args.tree.now c.in-Some-child.child.now _ _ c.loop-child.invariant c.in-Some-child.ensures.steps in
-    let less : levels (view c.in-Some-child.child.now) < levels (view c.args.tree.now) = levels_of_child c.args.tree.now c.in-Some-child.child.now (ap views (sym c.children_iter-child-items.ensures.values) ∙ c.children_iter-child-items.ensures.trees) among in
+    let among = sweep_head _ c.args.tree.now c.in-Some-child.child.now _ _ c.loop-child.invariant
+    c.in-Some-child.ensures.steps in
+    let less : levels (view c.in-Some-child.child.now) < levels (view c.args.tree.now) =
+    levels_of_child c.args.tree.now c.in-Some-child.child.now
+    (ap views (sym c.children_iter-child-items.ensures.values) ∙ c.children_iter-child-items.ensures.trees) among in
     (omega (arith, less), search rules)
 
 pub loop-child-preserved : goal.loop-child-preserved
 loop-child-preserved t c =
-    sweep_next _ c.args.tree.now c.in-Some-child.child.now _ _ c.loop-child.invariant c.in-Some-child.ensures.steps (record { here = tt; below = λ d b. tt })
+    sweep_next _ c.args.tree.now c.in-Some-child.child.now _ _ c.loop-child.invariant c.in-Some-child.ensures.steps
+    (record { here = tt; below = λ d b. tt })

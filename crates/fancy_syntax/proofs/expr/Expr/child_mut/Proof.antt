@@ -1,4 +1,5 @@
--- `child_mut` hands itself on to `lend_child`, at the same lifetime. The borrow checker proves no loan at the lender's own type,
+-- `child_mut` hands itself on to `lend_child`, at the same lifetime. The borrow checker proves no loan at the lender's
+-- own type,
 -- and `lend_child` is proved for any two types: so only the call is walked here.
 use mathlib.Core.Path.{refl}
 use mathlib.Core.List.{[], ◌∷◌}
@@ -8,7 +9,8 @@ use base.Fraction.{full_share}
 use base.Fml.{Lft, ftrue, flft}
 use base.Logic.{ent, sep, emp, id⊢}
 use types.Logic.{sem}
-use types.Kit.{‵, raw, ◌⊛◌, some, later, ◌$◌, ◌∵◌, !, qed, move, keep, drop, use0, use1, use2, split, join, pick, await, suffices, group, done}
+use types.Kit.{‵, raw, ◌⊛◌, some, later, ◌$◌, ◌∵◌, !, qed, move, keep, drop, use0, use1, use2, split, join, pick, await}
+use types.Kit.{suffices, group, done}
 use types.Run.{enter, addr, stop, no_more, and_then, returns}
 use types.ByLocal.{alloc_all, pass_all, free_all, look_at, get, through, sets, lands_as}
 use contract.Monad.{fact, fact_i}
@@ -60,7 +62,8 @@ Out κ = option.the_row (MutRef (named 0) κ R)
 Out-laws : (κ : Lft) → Laws (Out κ)
 Out-laws κ =
     let a : NamedLft = record { mir = named 0; lft = κ } in
-    option-laws (MutRef (named 0) κ R) (of_field (mut_ref_field a R tt) (mut_ref_laws a R tt) refl (mut_ref_shared a R tt (row_shared R the_row_laws)))
+    option-laws (MutRef (named 0) κ R)
+    (of_field (mut_ref_field a R tt) (mut_ref_laws a R tt) refl (mut_ref_shared a R tt (row_shared R the_row_laws)))
 
 abbrev stayed : Stays f.ended.signature.params f.ended.kept
 stayed = (stay_dropped _ no, (stay_dropped _ yes, tt))
@@ -68,12 +71,18 @@ stayed = (stay_dropped _ no, (stay_dropped _ yes, tt))
 pub child_mut_spec : {M : Type 1} → statement M
 child_mut_spec {M} 𝓤 𝓛 𝓜 𝓡 wired =
     let c = f.clauses 𝓛 𝓜.mem 𝓡.returns in
-    proved 𝓛 f.ended stayed c 𝓜 𝓡 (Goes-spent_ref 𝓛 1 (0 ∷ []) tt (plain (λ _. R)), (Goes-dropped 𝓛 1 (plain (λ _. usize)) yes (λ κs x w. refl), tt))
+    proved 𝓛 f.ended stayed c 𝓜 𝓡 (
+      Goes-spent_ref 𝓛 1 (0 ∷ []) tt (plain (λ _. R)),
+      (Goes-dropped 𝓛 1 (plain (λ _. usize)) yes (λ κs x w. refl), tt),
+    )
     f.Key.name code.function (code.unfolded 𝓤 𝓛.H 𝓜 𝓡 wired)
-    (λ κs. (mut_vals, (uint_vals w64, tt))) (λ κs. (mut_Tells (named 0) κs.0 R, (uint_Tells w64, tt))) (λ κs qs bounds a _ are.
-    let κ = κs.0 in let q = qs.0 in let vss : Valss (types_at f.signature.params κs) = (mut_vals a.0, (uint_vals w64 a.1.0, tt)) in
+    (λ κs. (mut_vals, (uint_vals w64, tt))) (λ κs. (mut_Tells (named 0) κs.0 R, (uint_Tells w64, tt)))
+    (λ κs qs bounds a _ are.
+    let κ = κs.0 in let q = qs.0 in let vss : Valss (types_at f.signature.params κs) =
+    (mut_vals a.0, (uint_vals w64 a.1.0, tt)) in
     let G = triple_of 𝓛 (g.signature A A) (g.spec A A impl.ghosts impl.dict 𝓛 𝓜.mem 𝓡.returns) in
-    let z : G.Ghost = (((κ, ([], ([], tt))), (q, (full_share, (full_share, tt))), (⊑_static κ, (⊑_static κ, tt)), a, vss), tt) in
+    let z : G.Ghost =
+    (((κ, ([], ([], tt))), (q, (full_share, (full_share, tt))), (⊑_static κ, (⊑_static κ, tt)), a, vss), tt) in
     let Owns = owns (types_at f.signature.params κs) a vss in
     let goes : ent 𝓤 (sep 𝓤 (sem 𝓛 (flft κ q)) (sem 𝓛 Owns)) (G.pre z) =
     qed 𝓛 (‵ (flft κ q) ∷ ‵ Owns ∷ []) ∵
@@ -88,10 +97,16 @@ child_mut_spec {M} 𝓤 𝓛 𝓜 𝓡 wired =
     sets ! (addr ! (through ! refl (stop !))) refl (tt, tt) $
     use2 𝓛 (raw (G.pre z)) goes $
     calls_at ! (framed 𝓤 𝓛.H 𝓜 (tables 𝓤 𝓛.H 𝓜 𝓡 𝓡.env)) G
-    (met 𝓤 𝓛 𝓜 𝓡 (code.calls-fancy_syntax::expr::parent::lend_child 𝓡.env wired) A A A-laws A-laws impl.ghosts impl.dict (passed 𝓡.env (code.calls-fancy_syntax::expr::child_mut::ExprParent::has_list 𝓡.env wired) (code.calls-fancy_syntax::expr::child_mut::ExprParent::list_mut 𝓡.env wired) (code.calls-fancy_syntax::expr::child_mut::ExprParent::box_mut 𝓡.env wired) M 𝓤 𝓛 𝓜 𝓡)) z
+    (met 𝓤 𝓛 𝓜 𝓡 (code.calls-fancy_syntax::expr::parent::lend_child 𝓡.env wired) A A A-laws A-laws impl.ghosts impl.dict
+    (passed 𝓡.env (code.calls-fancy_syntax::expr::child_mut::ExprParent::has_list 𝓡.env wired)
+    (code.calls-fancy_syntax::expr::child_mut::ExprParent::list_mut 𝓡.env wired)
+    (code.calls-fancy_syntax::expr::child_mut::ExprParent::box_mut 𝓡.env wired) M 𝓤 𝓛 𝓜 𝓡)) z
     (and_then ! (get ! refl) (and_then ! (get ! refl) (no_more !))) (λ v.
-    use1 𝓛 (later (some (λ (r : Option (MutBor R.Denot)). ((‵ (flft κ q) ⊛ ‵ (flft [] full_share) ⊛ ‵ (flft [] full_share) ⊛ ‵ ftrue) ⊛ ‵ ((Out κ).own_val r (v ∷ []))) ⊛
-    some (λ (ws : Lasts f.ended κs a). ‵ (lasts f.ended κs a ws) ⊛ raw ((c κs a).ensures tt r (at_exit f.ended κs a ws)))))) (id⊢ 𝓤 _) $
+    use1 𝓛 (later
+    (some (λ (r : Option (MutBor R.Denot)).
+    ((‵ (flft κ q) ⊛ ‵ (flft [] full_share) ⊛ ‵ (flft [] full_share) ⊛ ‵ ftrue) ⊛ ‵ ((Out κ).own_val r (v ∷ []))) ⊛
+    some (λ (ws : Lasts f.ended κs a). ‵ (lasts f.ended κs a ws) ⊛ raw
+    ((c κs a).ensures tt r (at_exit f.ended κs a ws)))))) (id⊢ 𝓤 _) $
     await ! tt $ pick ! (λ r. split ! $ split ! $ split ! $ move ! (2 ∷ []) $
     -- [the result; the token; the tokens of `'static`; the clauses]
     peeks ! (Out κ) (Is (Out κ)) (shows 𝓛 (Out κ)) r (v ∷ []) (λ is.
@@ -100,4 +115,5 @@ child_mut_spec {M} 𝓤 𝓛 𝓜 𝓡 wired =
     move ! (3 ∷ []) $ pick ! (λ ws. split ! $ drop ! $ move ! (3 ∷ []) $ drop ! $
     -- [the clauses; the result; the token]
     suffices ! _ (ends_at 𝓛 f.ended stayed c ((κs, qs, bounds, a, vss), tt) v r ws (tt, (tt, tt))) $
-    nothing ! $ nothing ! $ join ! $ nothing ! $ join ! $ move ! (0 ∷ 2 ∷ []) $ nothing ! $ move ! (4 ∷ 0 ∷ []) $ join ! $ group ! 3 $ done !))))))
+    nothing ! $ nothing ! $ join ! $ nothing ! $ join ! $ move ! (0 ∷ 2 ∷ []) $ nothing ! $ move ! (4 ∷ 0 ∷ []) $ join !
+    $ group ! 3 $ done !))))))

@@ -74,11 +74,14 @@ pub returns-clause-fault : goal.returns-clause-fault
 returns-clause-fault c =
     let text = chars c.args.re.now in
     let only : IfErr c.resolve.result (λ e. IsOnlyFault e c.from_bits-flags.result text) =
-    IfErr-weaker c.resolve.result _ _ (λ e first. only_resolving e _ text (view c.in_ok-raw.raw) c.in_ok-raw.ensures.reads first) c.resolve.ensures.fault in
+    IfErr-weaker c.resolve.result _ _
+    (λ e first. only_resolving e _ text (view c.in_ok-raw.raw) c.in_ok-raw.ensures.reads first)
+    c.resolve.ensures.fault in
     subst (λ f. IfErr c.resolve.result (λ e. IsOnlyFault e f text)) c.from_bits-flags.ensures only
 
 pub returns-clause-place : goal.returns-clause-place
 returns-clause-place c =
     IfErr-weaker c.resolve.result _ _
-    (λ e first. resolving_placed e c.from_bits-flags.result c.args.re.now (view c.in_ok-raw.raw) c.utf8.re c.in_ok-raw.ensures.reads first)
+    (λ e first. resolving_placed e c.from_bits-flags.result c.args.re.now (view c.in_ok-raw.raw) c.utf8.re
+    c.in_ok-raw.ensures.reads first)
     c.resolve.ensures.fault

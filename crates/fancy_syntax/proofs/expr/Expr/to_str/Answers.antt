@@ -17,7 +17,8 @@ returns-in_err-reserve-clause-nothing_to_print c h =
 
 pub returns-clause-appended : goal.returns-clause-appended
 returns-clause-appended c =
-    added c.reserve.new.self c.put_tree.new.buf _ c.put_tree.ensures ∙ ap (λ bs. bs ++ encode_utf8_all (printed (view c.args.self.now) c.args.precedence)) c.reserve.ensures.bytes
+    added c.reserve.new.self c.put_tree.new.buf _ c.put_tree.ensures
+    ∙ ap (λ bs. bs ++ encode_utf8_all (printed (view c.args.self.now) c.args.precedence)) c.reserve.ensures.bytes
 
 pub returns-clause-reads_back : goal.returns-clause-reads_back
 returns-clause-reads_back c h =

@@ -8,16 +8,23 @@ use Rattle.fancy_syntax.proofs.expr.descendants.+any_below.Goals as goal
 
 pub holds-requires : goal.holds-requires
 holds-requires g t c =
-    c.requires c.in-Some.child (child (sweep_head _ c.args.tree.now c.in-Some.child.now _ _ c.loop-child.invariant c.in-Some.ensures.steps))
+    c.requires c.in-Some.child
+    (child (sweep_head _ c.args.tree.now c.in-Some.child.now _ _ c.loop-child.invariant c.in-Some.ensures.steps))
 
 pub returns-then-holds-clause-found : goal.returns-then-holds-clause-found
 returns-then-holds-clause-found g t c =
-    λ _. (c.in-Some.child.now, (child (sweep_head _ c.args.tree.now c.in-Some.child.now _ _ c.loop-child.invariant c.in-Some.ensures.steps)), subst (FnReturnsAt g.F.Fn c.args.predicate.now c.in-Some.child.now) c.if-holds.true c.holds.ensures)
+    λ _. (
+      c.in-Some.child.now,
+      (child (sweep_head _ c.args.tree.now c.in-Some.child.now _ _ c.loop-child.invariant c.in-Some.ensures.steps)),
+      subst (FnReturnsAt g.F.Fn c.args.predicate.now c.in-Some.child.now) c.if-holds.true c.holds.ensures,
+    )
 
 pub any_below-requires : goal.any_below-requires
 any_below-requires g t c κs within =
     let among = sweep_head _ c.args.tree.now c.in-Some.child.now _ _ c.loop-child.invariant c.in-Some.ensures.steps in
-    let less : levels (view c.in-Some.child.now) < levels (view c.args.tree.now) = levels_of_child c.args.tree.now c.in-Some.child.now (ap views (sym c.children_iter-children.ensures.values) ∙ c.children_iter-children.ensures.trees) among in
+    let less : levels (view c.in-Some.child.now) < levels (view c.args.tree.now) =
+    levels_of_child c.args.tree.now c.in-Some.child.now
+    (ap views (sym c.children_iter-children.ensures.values) ∙ c.children_iter-children.ensures.trees) among in
     (omega (arith, less), (search rules, λ x b. c.requires x (deeper among b)))
 
 pub returns-then-any_below-clause-found : goal.returns-then-any_below-clause-found
@@ -28,7 +35,12 @@ returns-then-any_below-clause-found g t c =
 
 pub loop-child-preserved : goal.loop-child-preserved
 loop-child-preserved g t c =
-    sweep_next _ c.args.tree.now c.in-Some.child.now _ _ c.loop-child.invariant c.in-Some.ensures.steps (record { here = subst (FnReturnsAt g.F.Fn c.args.predicate.now c.in-Some.child.now) c.if-holds.false c.holds.ensures; below = c.if-any_below.ensures.none refl })
+    sweep_next _ c.args.tree.now c.in-Some.child.now _ _ c.loop-child.invariant c.in-Some.ensures.steps
+    (record {
+      here = subst (FnReturnsAt g.F.Fn c.args.predicate.now c.in-Some.child.now) c.if-holds.false
+          c.holds.ensures;
+      below = c.if-any_below.ensures.none refl;
+    })
 
 pub returns-clause-none : goal.returns-clause-none
 returns-clause-none g t c = λ _. sweep_end _ c.args.tree.now _ c.loop-child.invariant c.in_default.ensures.steps.0

@@ -9,12 +9,14 @@ pub returns-in-Some : goal.returns-in-Some
 returns-in-Some g c = (
   (
     refl,
-    (λ w. on_some c.get_mut.result ((rw c.in-Some.is at (c.list_mut.follows.holds (with_item c.in-Some.list.now c.args.i w))).0 c.args.i w refl)),
+    (λ w. on_some c.get_mut.result
+        ((rw c.in-Some.is at (c.list_mut.follows.holds (with_item c.in-Some.list.now c.args.i w))).0 c.args.i w refl)),
     (rw c.in-Some.is at (c.list_mut.follows.holds c.in-Some.list.now)).1 refl,
   ),
   record {
     writes_back = tt;
-    value = seen_item g.P.Parent.see c.in-Some.list.now.items c.args.i c.get_mut.result c.get_mut.ensures.item ∙ same_Some _ _ (rw c.in-Some.is at (c.list_mut.ensures.value c.args.i));
+    value = seen_item g.P.Parent.see c.in-Some.list.now.items c.args.i c.get_mut.result c.get_mut.ensures.item
+        ∙ same_Some _ _ (rw c.in-Some.is at (c.list_mut.ensures.value c.args.i));
   },
 )
 

@@ -9,5 +9,7 @@ use Rattle.fancy_syntax.proofs.grammar.atom.leaf_node.Goals as goal
 pub returns-in_ok-push_delegate-in-Delegate : goal.returns-in_ok-push_delegate-in-Delegate
 returns-in_ok-push_delegate-in-Delegate c =
     let start = ap chars c.new-inner.ensures.bytes ∙ chars-nil in
-    let inner = c.in_ok-push_delegate-in-Delegate.ensures.grown ∙ ap (λ t. t ++ delegate_text c.in-Delegate.text) start in
-    view_Delegate _ _ ∙ ap (λ t. delegate t c.in-Delegate.casei) inner ∙ ap (λ e. spec.leaf_node (escape_of e)) (sym c.in-Delegate.is)
+    let inner = c.in_ok-push_delegate-in-Delegate.ensures.grown
+    ∙ ap (λ t. t ++ delegate_text c.in-Delegate.text) start in
+    view_Delegate _ _ ∙ ap (λ t. delegate t c.in-Delegate.casei) inner
+    ∙ ap (λ e. spec.leaf_node (escape_of e)) (sym c.in-Delegate.is)

@@ -10,10 +10,12 @@ list_back : (l : List Tree) → list_of (trees_of l) ≡ l
 list_back [] = refl
 list_back (t ∷ l) = ap (λ x. t ∷ x) (list_back l)
 
-others_of : (l m : List Expr) → 0 < length l → m ≡ remove l 0 → join.choice (views m) ≡ (spec.branches_of (alt (trees_of (views l)))).1
+others_of : (l m : List Expr) → 0 < length l → m ≡ remove l 0 →
+    join.choice (views m) ≡ (spec.branches_of (alt (trees_of (views l)))).1
 others_of [] m h e = absurd (omega arith)
 others_of (t ∷ l) m h e = ap (λ x. join.choice (views x)) e ∙ ap join.choice (sym (list_back (views l)))
 
 pub returns-clause-others : goal.returns-clause-others
 returns-clause-others c =
-    c.choice.ensures ∙ others_of c.args.branches.items c.remove-first.new.self.items (omega (arith, c.args.branches.ok.0, c.remove-first.ensures.len)) c.remove-first.ensures.items
+    c.choice.ensures ∙ others_of c.args.branches.items c.remove-first.new.self.items
+    (omega (arith, c.args.branches.ok.0, c.remove-first.ensures.len)) c.remove-first.ensures.items

@@ -9,4 +9,5 @@ returns-in_default c _ n d left a = unquantified_at_end (state c.args.here) n d 
 pub returns-then-not-is_suffix : goal.returns-then-not-is_suffix
 returns-then-not-is_suffix c e n d left a =
     let no_layout : c.is_layout.result ≡ false = search rules in
-    unquantified (state c.args.here) _ _ n d left a c.in-Some.ensures.value (sym c.is_layout.ensures ∙ no_layout) (sym c.if-not-is_suffix.ensures)
+    unquantified (state c.args.here) _ _ n d left a c.in-Some.ensures.value (sym c.is_layout.ensures ∙ no_layout)
+    (sym c.if-not-is_suffix.ensures)

@@ -12,17 +12,22 @@ pub returns-in_err-atom-clause-value : goal.returns-in_err-atom-clause-value
 returns-in_err-atom-clause-value c =
     λ s t i j o p.
     let e = err_from_is_err_and c.from_residual.result c.from_residual.ensures.1 in
-    rw (e.1, e.2) (Fails-map (λ q. ended_part c.args.end (part_of c.args.opener) (view c.args.inner) (state c.args.here.now) ≡ q) (Piece c.args.end c.args.depth s)
-    c.in_err-atom.field-0.0 (λ k q h. ended_fault (view c.args.inner) (state c.args.here.now) o p (λ _ _. c.requires.last) h) c.in_err-atom.ensures.value)
+    rw (e.1, e.2)
+    (Fails-map (λ q. ended_part c.args.end (part_of c.args.opener) (view c.args.inner) (state c.args.here.now) ≡ q)
+    (Piece c.args.end c.args.depth s)
+    c.in_err-atom.field-0.0 (λ k q h. ended_fault (view c.args.inner) (state c.args.here.now) o p
+    (λ _ _. c.requires.last) h) c.in_err-atom.ensures.value)
 
 pub returns-then-not-has_body-clause-value : goal.returns-then-not-has_body-clause-value
 returns-then-not-has_body-clause-value c =
     λ s t i j o p.
-    closes (view c.args.inner) (state c.args.here.now) c.piece.result _ o p (sym c.goes_on-has_body.ensures ∙ c.if-not-has_body.true) c.requires.last
+    closes (view c.args.inner) (state c.args.here.now) c.piece.result _ o p
+    (sym c.goes_on-has_body.ensures ∙ c.if-not-has_body.true) c.requires.last
     c.in_ok-atom.ensures.value i (rw j at c.piece.ensures.value)
 
 pub returns-clause-value : goal.returns-clause-value
 returns-clause-value c =
     λ s t i j o p.
-    rw (c.byte_len-left.ensures, c.in_ok-condition.ensures.ok) (condition_ended (view c.args.inner) (state c.args.here.now) o p
+    rw (c.byte_len-left.ensures, c.in_ok-condition.ensures.ok)
+    (condition_ended (view c.args.inner) (state c.args.here.now) o p
     (sym c.goes_on-has_body.ensures ∙ c.if-not-has_body.false) c.in_ok-atom.ensures.value)

@@ -10,4 +10,5 @@ pub returns-then-c-ne41-clause-value : goal.returns-then-c-ne41-clause-value
 returns-then-c-ne41-clause-value c =
     λ r. Fails-is (λ o. closed c.args.end r (state c.args.here.now) ≡ o) c.general.result _ _
     (says_close_paren c.general.result c.place-bar.result c.general.ensures)
-    (rw c.place-bar.ensures (closed_other c.args.end r (state c.args.here.now) _ _ c.in-Some.ensures.value c.if-c-ne41.true))
+    (rw c.place-bar.ensures (closed_other c.args.end r (state c.args.here.now) _ _ c.in-Some.ensures.value
+    c.if-c-ne41.true))

@@ -18,36 +18,47 @@ returns-in_err-here-clause-value c =
 
 pub returns-in_err-read_atom_start-clause-value : goal.returns-in_err-read_atom_start-clause-value
 returns-in_err-read_atom_start-clause-value c =
-    let e = err_from_is_err_and c.from_residual-in_err-read_atom_start.result c.from_residual-in_err-read_atom_start.ensures.1 in
-    rw (e.1, e.2) (Fails-map (λ o. ahead c.args.end c.args.depth _ ≡ leaf o) (Piece c.args.end c.args.depth (state c.args.here.now))
-    c.in_err-read_atom_start.field-0.0 (λ k p h. piece c.in_ok-here.ensures.value (atom h a_leaf refl) refl) c.in_err-read_atom_start.ensures.value)
+    let e = err_from_is_err_and c.from_residual-in_err-read_atom_start.result
+    c.from_residual-in_err-read_atom_start.ensures.1 in
+    rw (e.1, e.2)
+    (Fails-map (λ o. ahead c.args.end c.args.depth _ ≡ leaf o)
+    (Piece c.args.end c.args.depth (state c.args.here.now))
+    c.in_err-read_atom_start.field-0.0 (λ k p h. piece c.in_ok-here.ensures.value (atom h a_leaf refl) refl)
+    c.in_err-read_atom_start.ensures.value)
 
 pub returns-then-is_unquantified-clause-value : goal.returns-then-is_unquantified-clause-value
 returns-then-is_unquantified-clause-value c =
     steps_piece (state c.args.here.now) (Ok (step.Piece _)) _ c.byte_len-left.ensures c.in_ok-here.ensures.value
-    (atom (rw c.in-Leaf.is at c.in_ok-read_atom_start.ensures.value) a_leaf refl) (c.is_unquantified.ensures c.if-is_unquantified.true _ _ _ _)
+    (atom (rw c.in-Leaf.is at c.in_ok-read_atom_start.ensures.value) a_leaf refl)
+    (c.is_unquantified.ensures c.if-is_unquantified.true _ _ _ _)
 
 pub returns-in_default-clause-value : goal.returns-in_default-clause-value
 returns-in_default-clause-value c =
     steps_piece (state c.args.here.now) (Ok (step.Piece _)) _ c.byte_len-left.ensures c.in_ok-here.ensures.value
-    (atom (rw c.in-Leaf.is at c.in_ok-read_atom_start.ensures.value) a_leaf refl) (rw c.in_default.is at c.quantify.ensures.value)
+    (atom (rw c.in-Leaf.is at c.in_ok-read_atom_start.ensures.value) a_leaf refl)
+    (rw c.in_default.is at c.quantify.ensures.value)
 
 pub returns-in-Err-clause-value : goal.returns-in-Err-clause-value
 returns-in-Err-clause-value c =
-    steps_piece (state c.args.here.now) (Err c.in-Err.fault) (state c.args.here.now) c.byte_len-left.ensures c.in_ok-here.ensures.value
-    (atom (rw c.in-Leaf.is at c.in_ok-read_atom_start.ensures.value) a_leaf refl) (rw c.in-Err.is at c.quantify.ensures.value)
+    steps_piece (state c.args.here.now) (Err c.in-Err.fault) (state c.args.here.now) c.byte_len-left.ensures
+    c.in_ok-here.ensures.value
+    (atom (rw c.in-Leaf.is at c.in_ok-read_atom_start.ensures.value) a_leaf refl)
+    (rw c.in-Err.is at c.quantify.ensures.value)
 
 pub returns-in-Nothing-clause-value : goal.returns-in-Nothing-clause-value
 returns-in-Nothing-clause-value c =
     let stays = rw c.in-Nothing.is at c.in_ok-read_atom_start.ensures.stays in
     steps_piece (state c.args.here.now) _ _ c.byte_len-left.ensures c.in_ok-here.ensures.value
-    (atom (rw c.in-Nothing.is at c.in_ok-read_atom_start.ensures.value) a_nothing refl) (rw (view_Empty, stays) at c.piece.ensures.value)
+    (atom (rw c.in-Nothing.is at c.in_ok-read_atom_start.ensures.value) a_nothing refl)
+    (rw (view_Empty, stays) at c.piece.ensures.value)
 
 pub returns-in-Nothing-clause-shorter : goal.returns-in-Nothing-clause-shorter
 returns-in-Nothing-clause-shorter c =
     let stays = rw c.in-Nothing.is at c.in_ok-read_atom_start.ensures.stays in
-    nothing_shorter c.args.end c.args.depth _ _ _ _ (state c.args.here.now) _ _ _ (rw c.in-Nothing.is at c.in_ok-read_atom_start.ensures.value) c.requires.more
-    c.byte_len-left.ensures (rw (view_Empty, stays) at c.piece.ensures.value) c.in_ok-here.ensures.within c.in_ok-here.ensures.unmoved
+    nothing_shorter c.args.end c.args.depth _ _ _ _ (state c.args.here.now) _ _ _
+    (rw c.in-Nothing.is at c.in_ok-read_atom_start.ensures.value) c.requires.more
+    c.byte_len-left.ensures (rw (view_Empty, stays) at c.piece.ensures.value) c.in_ok-here.ensures.within
+    c.in_ok-here.ensures.unmoved
     (rw stays at c.piece.ensures.within)
 
 pub returns-in-Group-clause-value : goal.returns-in-Group-clause-value
@@ -55,11 +66,13 @@ returns-in-Group-clause-value c =
     rw c.place.ensures (a_group c.in_ok-here.ensures.value (rw c.in-Group.is at c.in_ok-read_atom_start.ensures.value))
 
 pub returns-in-Condition-clause-value : goal.returns-in-Condition-clause-value
-returns-in-Condition-clause-value c = a_condition c.in_ok-here.ensures.value (rw c.in-Condition.is at c.in_ok-read_atom_start.ensures.value)
+returns-in-Condition-clause-value c = a_condition c.in_ok-here.ensures.value
+    (rw c.in-Condition.is at c.in_ok-read_atom_start.ensures.value)
 
 pub returns-in-Body-clause-value : goal.returns-in-Body-clause-value
 returns-in-Body-clause-value c =
     rw c.byte_len.ensures (a_body c.in_ok-here.ensures.value (rw c.in-Body.is at c.in_ok-read_atom_start.ensures.value))
 
 pub returns-in-AbsentBranch-clause-value : goal.returns-in-AbsentBranch-clause-value
-returns-in-AbsentBranch-clause-value c = a_branch c.in_ok-here.ensures.value (rw c.in-AbsentBranch.is at c.in_ok-read_atom_start.ensures.value)
+returns-in-AbsentBranch-clause-value c = a_branch c.in_ok-here.ensures.value
+    (rw c.in-AbsentBranch.is at c.in_ok-read_atom_start.ensures.value)

@@ -28,7 +28,8 @@ is_printable-returns-in-Delegate-clause-exact t c =
 
 pub is_printable-returns-in-Delegate-clause-without_memory : goal.is_printable-returns-in-Delegate-clause-without_memory
 is_printable-returns-in-Delegate-clause-without_memory t c none =
-    let seen : view c.args.tree.now ≡ delegate (text_of c.in-Delegate.inner) c.in-Delegate.casei = search (rules, the_lemmas) in
+    let seen : view c.args.tree.now ≡ delegate (text_of c.in-Delegate.inner) c.in-Delegate.casei =
+    search (rules, the_lemmas) in
     absurd (true≢false (sym (ap has_delegate seen) ∙ none))
 
 pub are_printable-loop-tree-preserved : goal.are_printable-loop-tree-preserved
@@ -37,7 +38,8 @@ are_printable-loop-tree-preserved t c =
     let step = left_step trees i c.tree-item.result c.loop-tree-test.true c.tree-item.is in
     let first = sym c.in_ok-is_printable.ensures.exact ∙ c.if-not-branch.false in
     record {
-      same = c.loop-tree.invariant.same ∙ ap all_printable step ∙ ap (λ b. b && all_printable (left trees (i + 1))) first;
+      same = c.loop-tree.invariant.same ∙ ap all_printable step
+          ∙ ap (λ b. b && all_printable (left trees (i + 1))) first;
       without_delegate = λ none.
           (or_parts _ _ (sym (ap any_has_delegate step) ∙ c.loop-tree.invariant.without_delegate none)).1;
     }

@@ -30,7 +30,8 @@ pub rewrite-rewrite_child-requires-in-Conditional-3 : goal.rewrite-rewrite_child
 rewrite-rewrite_child-requires-in-Conditional-3 t c =
     let is = c.in-Conditional in
     let parts = three_lent is.is is.condition-is is.true_branch-is is.false_branch-is in
-    let first = c.in_ok-rewrite_child-in-Conditional.ensures in let second = c.in_ok-rewrite_child-in-Conditional-2.ensures in
+    let first = c.in_ok-rewrite_child-in-Conditional.ensures in let second =
+    c.in_ok-rewrite_child-in-Conditional-2.ensures in
     let room = third_noted (known_of c.args.known.now) _ _ _ parts first.progress second.progress in
     (search (rules, the_lemmas), omega arith)
 
@@ -75,7 +76,8 @@ rewrite_all-loop-i-preserved t c =
         λ j d h. let apart : j ≢ i = omega arith in rw get_or-set_other (c.loop-i.invariant.0.1 j d (omega arith)),
       ),
       rw now_is.progress
-          (sym (noted_append k s (items (view e)) (rest es (i + 1))) ∙ ap (noted k s) (sym step) ∙ c.loop-i.invariant.1),
+          (sym (noted_append k s (items (view e)) (rest es (i + 1))) ∙ ap (noted k s) (sym step)
+          ∙ c.loop-i.invariant.1),
       let passed = noted_le k s (progress_of c.rewrite.new.progress) (items (view e)) now_is.progress in
           omega (arith, count_two (rest es i) (items (view e)) (rest es (i + 1)) step, passed, c.loop-i.invariant.2),
       front_rebuilt k s es now all i e c.rewrite.new.tree lengths below tree now_is.tree c.loop-i.invariant.3

@@ -5,7 +5,8 @@ use Rattle.fancy_parts.specs.Groups.{entry_of}
 use Rattle.fancy_syntax.proofs.tree.ExprTree.clone.Goals as goal
 
 named_same : (es fs : List (String Global × Vec ℕ Global)) →
-    AllZip (λ p q. (string_bytes q.0 ≡ string_bytes p.0) × (AllZip (λ x y. y ≡ x) p.1.items q.1.items × (vec_len q.1 ≡ vec_len p.1))) es fs →
+    AllZip (λ p q. (string_bytes q.0 ≡ string_bytes p.0)
+    × (AllZip (λ x y. y ≡ x) p.1.items q.1.items × (vec_len q.1 ≡ vec_len p.1))) es fs →
     map entry_of fs ≡ map entry_of es
 named_same [] [] h = refl
 named_same (e ∷ es) (f ∷ fs) ((name, (numbers, long)), more) =
@@ -17,5 +18,6 @@ named_same _ _ h = absurd h
 pub returns-clause-marks : goal.returns-clause-marks
 returns-clause-marks c =
     let numbers = each_same _ _ c.in_ok-clone.ensures.cases in
-    let names = named_same c.args.self.now.named_groups.entries c.in_ok-clone-2.field-0.entries c.in_ok-clone-2.ensures.cases in
+    let names = named_same c.args.self.now.named_groups.entries c.in_ok-clone-2.field-0.entries
+    c.in_ok-clone-2.ensures.cases in
     cc
