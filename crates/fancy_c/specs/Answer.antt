@@ -48,8 +48,7 @@ number_of_kind invalid_group_name = INVALID_GROUP_NAME
 number_of_kind (invalid_group_name_backref s) = INVALID_GROUP_NAME_BACKREF
 
 -- the bytes are the UTF-8 of a pattern that has this tree with these marks, and no other and no fault; of n bytes it
--- has
--- at most 2 n + 1 nodes and 832 levels; and the marks are those of its nodes
+-- has at most 2 n + 1 nodes and 832 levels; and the marks are those of its nodes
 pub record IsTreeOfBytes (f : Flags) (bytes : List ℕ) (t : Tree) (m : Marks) : Type 0 where
   pub utf8 : IsUtf8 bytes
   pub tree : IsTreeOf f (chars bytes) t m

@@ -15,7 +15,7 @@ use Rattle.fancy_parts.specs.FlagLetters.{Letters, setting, scope as scoped}
 use Rattle.fancy_parts.specs.HeadReference.{begins_target, condition_target}
 use Rattle.fancy_parts.specs.Quantifier.{counts, as_mark, most}
 use Rattle.fancy_parts.specs.declared.counts.Counts.{Counts}
-use Rattle.fancy_grammar.specs.Ahead.{Ahead, nothing, leaf, with_head, condition, body, absent_branch, ahead, ahead_of}
+use Rattle.fancy_grammar.specs.Ahead.{Ahead, nothing, leaf, with_head, condition, body, ahead, ahead_of}
 use Rattle.fancy_grammar.specs.Ahead.{group_ahead, behind_question, condition_ahead, repeater_ahead, verb_ahead}
 use Rattle.fancy_grammar.specs.Ahead.{verb_condition, named_ahead, target_ahead, flags_ahead, behind_layout, faulty}
 use Rattle.fancy_grammar.specs.Ahead.{leaf_of, is_before_nothing}

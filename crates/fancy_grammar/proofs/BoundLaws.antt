@@ -300,10 +300,8 @@ ahead_below n d s = by_text s.rest
         cond_both (is_before_nothing c) _ _ (OpensBelow d) (λ _. tt) (λ _. tt))
 
 -- ---- the bounds of each part, which is read from s at depth d and ends at t; its levels are max_levels, less 13 for
--- each
--- depth: of these an Alt takes one and a Concat one, so that a piece has 830, and its quantifiers ten and a group one,
--- so
--- that an atom has 820, and a group's inside 819
+-- each depth: of these an Alt takes one and a Concat one, so that a piece has 830, and its quantifiers ten and a group
+-- one, so that an atom has 820, and a group's inside 819
 
 -- of an atom, and of one with its quantifiers: an Empty may take no byte
 abbrev Fits : ℕ → ℕ → State → Tree → State → Type 0

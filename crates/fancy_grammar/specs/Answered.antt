@@ -99,8 +99,7 @@ abbrev pub numbered_groups : Flags → Tree → List (Opening × Tree)
 numbered_groups f r = numbered_in (only_named f (openings r)) (preorder r)
 
 -- their openings are those that have a number, in text order; and the k-th Group of the answered tree t holds the
--- inside
--- of the k-th of them, resolved
+-- inside of the k-th of them, resolved
 pub record HasGroupsOf (f : Flags) (r t : Tree) : Type 0 where
   pub in_order : map (λ g. g.0) (numbered_groups f r) ≡ counted f (openings r)
   pub insides : groups t ≡

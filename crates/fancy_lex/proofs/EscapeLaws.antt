@@ -157,7 +157,8 @@ module _ (n p : ℕ) where
           (whole t) where
             braces : (u inside : Text) → layout n x t ≡ rest u → strip open_brace u ≡ Some inside → (o : Skipped) →
                 layout n x inside ≡ o → Leaves n p t
-                (layout_reading o >=> (λ _ v. if boundaries.at_count v then gives (boundaries.unnamed_boundary negated) t
+                (layout_reading o >=>
+                (λ _ v. if boundaries.at_count v then gives (boundaries.unnamed_boundary negated) t
                 else boundaries.named_boundary n x p negated inside))
             braces u inside e h (rest v) i =
                 leaves_if (boundaries.at_count v) (whole t)

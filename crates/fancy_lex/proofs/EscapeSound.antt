@@ -33,8 +33,7 @@ pub record Stands (n : ℕ) (t u : Text) (p : ℕ) : Type 0 where
   pub place : p ≡ place_of n mark
 
 -- what an escape of t, behind which u is left, stands for: a byte above the ASCII ones, a reference or call that stands
--- in
--- the escape, or another leaf
+-- in the escape, or another leaf
 abbrev pub IsSound : ℕ → Text → Text → Escape → Type 0
 IsSound n t u (literal_bytes b) = (0x80 ≤ b) × (b ≤ 0xFF)
 IsSound n t u (backref r casei) = Stands n t u r.place

@@ -1,6 +1,5 @@
 -- What holds of every name and reference: it leaves the end of the text behind some characters, and its fault stands
--- where
--- it begins.
+-- where it begins.
 use Rattle.std.proofs.Common.{Bool, ◌≡◌, ℕ, ◌≤◌, ◌^◌, nat_lt, true, ◌==◌, [], ◌∷◌, ◌++◌, length, length-append}
 use Rattle.std.proofs.Common.{append_assoc, Option, Some, None, option_map, refl, sym, ◌∙◌, arith}
 use Rattle.std.proofs.lemmas.Bool.{cond_both}

@@ -10,18 +10,17 @@ use Rattle.std.proofs.Math.Utf8.{encode, encodes}
 use Rattle.std.specs.Str.{IsUtf8}
 use Rattle.std.specs.Char.{IsScalar}
 use Rattle.std.proofs.lemmas.Str.{chars-append, chars_past_char, chars-nil, IsUtf8-encode, length-encode, encodes-chars}
-use Rattle.std.proofs.Common.{String, Global, string_bytes, Result, Ok, Err, OnOk, is_ok}
+use Rattle.std.proofs.Common.{Result, Ok, Err, OnOk, is_ok}
 use Rattle.std.specs.Prelude.{encode_utf8_all}
 use Rattle.std.specs.Str.{bytes_eq}
 use Rattle.std.proofs.lemmas.Bool.Decides.{same_from_decides}
-use Rattle.std.proofs.lemmas.Str.{IsUtf8-string_bytes}
 use Rattle.std.proofs.lemmas.Slice.Eq.{bytes_eq-Decides}
 use Rattle.std.proofs.Common.{Option, Some, None, MatchOption}
 use Rattle.std.proofs.lemmas.Bool.Decides.{nat_tests}
 use Rattle.std.specs.Borrow.{Bor}
 use Rattle.std.specs.Prelude.{option_map, option_and_then}
 use Rattle.std.specs.Str.Pattern.{FindsTextPrefix, StripsPrefix}
-use Rattle.fancy_lex.specs.Text.{Text, bytes, text_of, strip, strip_word}
+use Rattle.fancy_lex.specs.Text.{Text, bytes, strip, strip_word}
 
 pub chars_pushed : (bs : List ℕ) (c : ℕ) → IsUtf8 bs → IsScalar c → chars (bs ++ encode c) ≡ chars bs ++ c ∷ []
 chars_pushed bs c u s =

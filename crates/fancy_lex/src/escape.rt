@@ -150,7 +150,7 @@ fn is_itself(c: char, inside: bool) -> bool
 /// Reads digits, which are a back reference. In a class the fault is InvalidClass at `place`, unless no word holds
 /// their number.
 #[tactic(auto, unfolding(crate::specs::Escape::number_escape))]
-fn numbered(
+fn number_escape(
     text: &str,
     flags: Flags,
     inside: bool,
@@ -319,7 +319,7 @@ fn read_escape<'a>(
         return Err(Error::ParseError(place, ParseError::TrailingBackslash));
     };
     match c {
-        '0'..='9' => numbered(text, flags, inside, place, end),
+        '0'..='9' => number_escape(text, flags, inside, place, end),
         'd' | 'D' | 's' | 'S' | 'w' | 'W' => Ok((
             Escaped::Delegate {
                 inner: DelegateText::Letter(c),

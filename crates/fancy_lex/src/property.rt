@@ -101,7 +101,7 @@ fn look_up(name: &str) -> Known
 
 /// One with UNICODE, and the other without.
 #[inline]
-fn by<'a>(unicode: bool, with: Form<'a>, without: Form<'a>) -> Form<'a>
+fn form_by<'a>(unicode: bool, with: Form<'a>, without: Form<'a>) -> Form<'a>
     ensures { view_form result ≡ spec.form_by unicode (view_form with.entry) (view_form without.entry) }
 {
     if unicode { with } else { without }
@@ -112,24 +112,24 @@ fn form_of(known: Known, name: &str, unicode: bool) -> Form<'_>
     ensures { view_form result ≡ spec.form unicode known (spec.lowercase (chars name.now)) }
 {
     match known {
-        Known::Alnum => by(
+        Known::Alnum => form_by(
             unicode,
             Form::Set(r"\p{alpha}\p{digit}"),
             Form::Set("[:alnum:]"),
         ),
-        Known::Blank => by(unicode, Form::Set(r"\p{Zs}\x09"), Form::Set(r"\t ")),
-        Known::Cntrl => by(
+        Known::Blank => form_by(unicode, Form::Set(r"\p{Zs}\x09"), Form::Set(r"\t ")),
+        Known::Cntrl => form_by(
             unicode,
             Form::Set(r"\x00-\x1F\x7F-\x9F"),
             Form::Set("[:cntrl:]"),
         ),
-        Known::Word => by(unicode, Form::Pair(r"\w", r"\W"), Form::Set("_[:alnum:]")),
-        Known::Graph => by(
+        Known::Word => form_by(unicode, Form::Pair(r"\w", r"\W"), Form::Set("_[:alnum:]")),
+        Known::Graph => form_by(
             unicode,
             Form::Pair(r"[^\p{White_Space}\p{C}]", r"[\p{White_Space}\p{C}]"),
             Form::Set("[:graph:]"),
         ),
-        Known::Print => by(
+        Known::Print => form_by(
             unicode,
             Form::Pair(r"[^\p{C}\t\n\v\f\r]", r"[\p{C}\t\n\v\f\r]"),
             Form::Set("[:print:]"),

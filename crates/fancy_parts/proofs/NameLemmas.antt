@@ -36,7 +36,9 @@ string_name_cmp a b =
 
 -- the test of a key by its bytes is the test of its characters
 key_test : (a k : String Global) → is_eq (string_cmp a k) ≡ bytes_eq (text_of a) (text_of k)
-key_test a k = is_eq-slice_cmp (string_bytes a) (string_bytes k) ∙ same_text a k
+key_test a k =
+    is_eq-slice_cmp (string_bytes a) (string_bytes k)
+    ∙ same_text (string_bytes a) (string_bytes k) (IsUtf8-string_bytes a) (IsUtf8-string_bytes k)
 
 pub found : (a : String Global) (es : Entries) →
     numbers_under (map entry_of es) (text_of a)

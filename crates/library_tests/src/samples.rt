@@ -1,6 +1,6 @@
 //! Trees with a number each: first leaves and trees that no pattern reads as, by hand; then one of each kind of parent,
 //! as it is read, whose children are the letters a, b and c in the order of the text, or no letters.
-use crate::trees::read;
+use crate::trees::{delegate, literal, read};
 use fancy_lex::escape::Assertion;
 use fancy_lex::name::CaptureGroupTarget;
 use fancy_syntax::error::Error;
@@ -132,22 +132,11 @@ fn ast_group(alloc: Global, name: Option<String>) -> Result<Expr, AllocError> {
 
 fn with_text(alloc: Global, i: usize) -> Result<Expr, AllocError> {
     match i {
-        17 => Ok(literal(String::from_str(alloc, "n\u{E9}")?)),
-        18 => Ok(delegate(String::from_str(alloc, "[a-z]")?)),
+        17 => literal(alloc, "n\u{E9}", true),
+        18 => delegate(alloc, "[a-z]"),
         19 => Ok(reference(String::from_str(alloc, "name")?)),
         20 => Ok(call(String::from_str(alloc, "name")?)),
         _ => ast_group(alloc, Some(String::from_str(alloc, "name")?)),
-    }
-}
-
-fn literal(val: String) -> Expr {
-    Expr::Literal { val, casei: true }
-}
-
-fn delegate(inner: String) -> Expr {
-    Expr::Delegate {
-        inner,
-        casei: false,
     }
 }
 

@@ -52,14 +52,14 @@ fn by_hand(alloc: Global, source: &Source) -> Result<Expr, AllocError> {
     }
 }
 
-fn literal(alloc: Global, val: &str, casei: bool) -> Result<Expr, AllocError> {
+pub fn literal(alloc: Global, val: &str, casei: bool) -> Result<Expr, AllocError> {
     Ok(Expr::Literal {
         val: String::from_str(alloc, val)?,
         casei,
     })
 }
 
-fn delegate(alloc: Global, text: &str) -> Result<Expr, AllocError> {
+pub fn delegate(alloc: Global, text: &str) -> Result<Expr, AllocError> {
     Ok(Expr::Delegate {
         inner: String::from_str(alloc, text)?,
         casei: false,

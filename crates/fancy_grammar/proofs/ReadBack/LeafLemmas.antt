@@ -22,7 +22,7 @@ use Rattle.fancy_parts.specs.FlagLetters as letters
 use Rattle.fancy_parts.specs.FlagLetters.{step}
 use Rattle.fancy_parts.specs.Quote.{behind_backslash}
 use Rattle.fancy_grammar.specs.State as states
-use Rattle.fancy_grammar.specs.Ahead.{Ahead, leaf, ahead, leaf_node, leaf_outcome}
+use Rattle.fancy_grammar.specs.Ahead.{leaf, ahead, leaf_node, leaf_outcome}
 use Rattle.fancy_grammar.specs.Normal.{character, bare}
 use Rattle.fancy_grammar.specs.State.{done}
 use Rattle.fancy_grammar.specs.Tree.{Tree, any, assertion}

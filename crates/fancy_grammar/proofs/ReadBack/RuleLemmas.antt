@@ -10,7 +10,7 @@ use Prim.Native.Char.{code}
 use Rattle.fancy_lex.specs.Fault.{Kind, recursion_exceeded}
 use Rattle.fancy_lex.specs.Layout.{layout, after_comment_head, rest}
 use Rattle.fancy_lex.specs.Reading.{gives, choose, layout_reading}
-use Rattle.fancy_lex.specs.Text.{Text, bytes, strip, place_of}
+use Rattle.fancy_lex.specs.Text.{Text, bytes, place_of}
 use Rattle.fancy_lex.specs.declared.flags.Flags.{Flags}
 use Rattle.fancy_parts.specs.FlagLetters as letters
 use Rattle.fancy_parts.specs.FlagLetters.{Letters, Step, letters_in, step, ends, goes}
@@ -20,7 +20,7 @@ use Rattle.fancy_parts.specs.Ranks.{Opening}
 use Rattle.fancy_parts.specs.declared.counts.Counts.{Counts}
 use Rattle.fancy_parts.proofs.FlagLemmas.{letters_start, in_end, in_go}
 use Rattle.fancy_grammar.specs.State as states
-use Rattle.fancy_grammar.specs.Ahead.{Ahead, leaf, with_head, ahead, is_before_nothing, flags_ahead, behind_question}
+use Rattle.fancy_grammar.specs.Ahead.{leaf, with_head, ahead, is_before_nothing, flags_ahead, behind_question}
 use Rattle.fancy_grammar.specs.Ahead.{group_ahead, behind_layout, leaf_of, leaf_node, leaf_outcome}
 use Rattle.fancy_grammar.specs.Depth.{max_depth}
 use Rattle.fancy_grammar.specs.Grammar.{Alternation, alternation, Branches, last, more, branch_fault, Branch, branch}

@@ -1,6 +1,5 @@
 -- What is printed for a printable tree reads as its normal form, or is refused where it nests too deep: the text has no
--- other
--- answer.
+-- other answer.
 use Rattle.std.proofs.Common.{◌≡◌, ℕ, ◌<◌, Bool, true, false, if◌then◌else◌, nat_lt, nat_le, List, [], ◌∷◌, length}
 use Rattle.std.proofs.Common.{filter, filter_map, map, None, refl, sym, ap, ap₂, ◌∙◌, subst}
 use Rattle.std.specs.Prelude.{find, fold, chars, encode_utf8_all}
