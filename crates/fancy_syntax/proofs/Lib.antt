@@ -6,7 +6,7 @@ pub mod Descents
 pub mod LoanLemmas
 pub mod WriteLemmas
 -- ---- the loop of the grammar
-mod RoomLaws
+mod TreesLemmas
 mod StepLemmas
 mod MachineLemmas
 mod TreeLemmas

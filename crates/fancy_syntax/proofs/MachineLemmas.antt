@@ -1,8 +1,8 @@
 -- How each step of the loop keeps what stands on the stack.
-use Rattle.std.proofs.Common.{◌≡◌, ◌≢◌, ◌==◌, ◌≤◌, ◌<◌, if◌then◌else◌, tests, rules, ℕ, ◌+◌, Bool, true, false}
+use Rattle.std.proofs.Common.{◌≡◌, ◌≢◌, ◌==◌, if◌then◌else◌, tests, rules, ℕ, ◌+◌, Bool, true, false}
 use Rattle.std.proofs.Common.{true≢false, List, [], ◌∷◌, ◌++◌, length, Some, None, Result, Ok, Err, refl, sym, ap, ◌∙◌}
 use Rattle.std.proofs.Common.{subst, append-nil, arith}
-use Rattle.std.proofs.lemmas.List.{length_push}
+use Rattle.std.proofs.lemmas.List.{length_push, append_assoc}
 use Prim.Native.Char.{code}
 use Rattle.fancy_lex.specs.Characters.{bar}
 use Rattle.fancy_lex.specs.Fault.{Kind}
@@ -19,16 +19,15 @@ use Rattle.fancy_grammar.specs.Grammar.{condition_fault, two_branches, one_branc
 use Rattle.fancy_grammar.specs.Grammar.{restored, conditional_behind, conditional_of, branches_of}
 use Rattle.fancy_grammar.specs.Grammar as grammar
 use Rattle.fancy_grammar.specs.Join.{solid, one_or, choice}
-use Rattle.fancy_syntax.specs.Machine.{parens, OpenPart, top, group, condition, body, first, second, part_of, holds_one}
+use Rattle.fancy_syntax.specs.Machine.{OpenPart, top, group, condition, body, first, second, part_of, holds_one}
 use Rattle.fancy_syntax.specs.Machine.{is_second, opened_by_bar, branches_at_bar, IsFaultOfBar, Part, Opens, a_group}
 use Rattle.fancy_syntax.specs.Machine.{a_condition, a_body, behind_condition, a_branch, behind_branch, lacks_body}
 use Rattle.fancy_syntax.specs.Machine.{node_of_part, goes_on, ended_part, Began, StepsOn, GivesPiece, Reading, Levels}
-use Rattle.fancy_syntax.specs.Machine.{outermost, inner}
+use Rattle.fancy_syntax.specs.Machine.{outermost, inner, Holds}
 use Rattle.fancy_grammar.specs.Grammar.{trees_before}
 use Rattle.fancy_grammar.specs.Head.{group_node}
 use Rattle.fancy_grammar.specs.Quantified.{quants}
 use Rattle.fancy_grammar.specs.Fails.{Fails}
-use Rattle.fancy_syntax.specs.Row.{trees}
 use Rattle.fancy_grammar.specs.State.{ends, skipped, State, at, Outcome, done, fault, faulted, and_then, seen_through}
 use Rattle.fancy_grammar.specs.Tree.{Tree, concat, absent, expression}
 use Rattle.fancy_syntax.specs.declared.grammar.frame.Frame.{Frame}
@@ -36,8 +35,6 @@ use Rattle.fancy_syntax.specs.declared.grammar.step.Step.{Step}
 use Rattle.fancy_syntax.specs.declared.grammar.step.Step.TheVariants as step
 use Rattle.fancy_lex.proofs.TextLemmas.{strip_is}
 use Rattle.fancy_grammar.proofs.OutcomeLemmas.{Fails-map, before-nil, before-push, more_any, next_any, solid-append}
-use Rattle.fancy_syntax.proofs.RoomLaws.{slice_parens, opens_parens}
-use Rattle.fancy_grammar.proofs.Slices.{here, on, strip_slice, piece_slice}
 
 -- ---- a step
 
@@ -163,7 +160,6 @@ reading_new n d p s bs ps e f = record {
   branch = λ o b. rw before-nil b;
   all = λ o b. rw (e, before-nil) b;
   one = λ _. (refl, e);
-  slice = here s.rest;
 }
 
 reading_piece : {n d : ℕ} {p : OpenPart} {s t v : State} {r : Tree} {bs ps : List Tree} (cs qs : List Tree) →
@@ -176,7 +172,6 @@ reading_piece {r} cs qs h e a i j = record {
   branch = λ o p. rw before-push (h.branch _ (next_any o e a p));
   all = λ o b. rw i (h.all o b);
   one = λ k. ((h.one k).0, i ∙ (h.one k).1);
-  slice = on h.slice (piece_slice a).slice;
 }
 
 -- the tree of the branch that is open
@@ -211,7 +206,6 @@ reading_bar {n} {d} {s} {t} {u} {bs} {ps} cs qs h k e f i j = record {
       subst (λ l. Branches n d s (trees_before l o)) (sym i)
       (subst (Branches n d s) (sym (before-push bs (joined ps) o)) (h.all _ (more_any o (reading_branch h e) f b)));
   one = λ l. absurd (true≢false (sym l ∙ k));
-  slice = on h.slice (strip_slice bar t.rest u f);
 }
 
 reading_alternation : {n d : ℕ} {p : OpenPart} {s t : State} {bs ps : List Tree} → Reading n d p s bs ps t →
@@ -254,20 +248,21 @@ reading_fault {n} {d} {q} {k} (second b) h e a =
 -- ---- the stack of open groups
 
 -- the fault of what is open is that of the whole
-levels_fault : {n : ℕ} {start : State} {d p : ℕ} {s : State} {k : Kind} {fs : List Frame} {o : OpenPart} →
-    Levels n start fs o d s →
+levels_fault : {n : ℕ} {start : State} {d p : ℕ} {s : State} {k : Kind} {fs : List Frame} {ts : List Tree}
+    {o : OpenPart} → Levels n start fs ts o d s →
     Part o n d s (fault k p) → Alternation n 0 start (fault k p)
 levels_fault outermost r = r
-levels_fault (inner f e l h i m j) r = levels_fault l (reading_fault (part_of f.opener) h m (opens_fault j r))
+levels_fault (inner f e x l h i m j) r = levels_fault l (reading_fault (part_of f.opener) h m (opens_fault j r))
 
 push-not_nil : {A : Type 0} (l : List A) (x : A) → [] ≡ l ++ x ∷ [] → ⊥
 push-not_nil [] x e = cc
 push-not_nil (y ∷ l) x e = cc
 
-levels_none : {n : ℕ} {start : State} {d : ℕ} {s : State} {fs : List Frame} {o : OpenPart} → Levels n start fs o d s →
+levels_none : {n : ℕ} {start : State} {d : ℕ} {s : State} {fs : List Frame} {ts : List Tree} {o : OpenPart} →
+    Levels n start fs ts o d s →
     fs ≡ [] → (d ≡ 0) × (s ≡ start) × (o ≡ top)
 levels_none outermost e = (refl, refl, refl)
-levels_none (inner {frames} f i l h a j k) e = absurd (push-not_nil frames f (sym e ∙ i))
+levels_none (inner {frames} f i x l h a j k) e = absurd (push-not_nil frames f (sym e ∙ i))
 
 push-same : {A : Type 0} (l m : List A) (x y : A) → l ++ x ∷ [] ≡ m ++ y ∷ [] → (l ≡ m) × (x ≡ y)
 push-same [] [] x y e = (refl, cc)
@@ -277,127 +272,174 @@ push-same (a ∷ []) [] x y e = absurd cc
 push-same (a ∷ c ∷ l) [] x y e = absurd cc
 push-same (a ∷ l) (b ∷ m) x y e = let t : l ++ x ∷ [] ≡ m ++ y ∷ [] = cc in let h = push-same l m x y t in (cc, h.1)
 
--- the group on top of the stack, in which the innermost part was opened
-record Outer (n : ℕ) (start : State) (gs : List Frame) (g : Frame) (o : OpenPart) (d : ℕ) (s : State) : Type 0 where
+-- the group on top of the stack, in which the innermost part was opened, and the trees that stand to its end
+record Outer (n : ℕ) (start : State) (gs : List Frame) (g : Frame) (ts : List Tree) (o : OpenPart) (d : ℕ)
+    (s : State) : Type 0 where
   depth : ℕ
   begin : State
   here : State
+  below : List Tree
+  branches : List Tree
+  pieces : List Tree
   deeper : d ≡ depth + 1
-  levels : Levels n start gs (part_of g.opener) depth begin
-  reading : Reading n depth (part_of g.opener) begin (trees g.branches) (trees g.pieces) here
+  holds : Holds g ts below branches pieces
+  levels : Levels n start gs below (part_of g.opener) depth begin
+  reading : Reading n depth (part_of g.opener) begin branches pieces here
   began : Began g here
   more : ends here.rest ≡ false
   opens : Opens n depth here o s
 
 levels_pop : {n : ℕ} {start : State} (gs : List Frame) (g : Frame) {d : ℕ} {s : State} {fs : List Frame}
-    {o : OpenPart} → Levels n start fs o d s →
-    fs ≡ gs ++ g ∷ [] → Outer n start gs g o d s
+    {ts : List Tree} {o : OpenPart} → Levels n start fs ts o d s →
+    fs ≡ gs ++ g ∷ [] → Outer n start gs g ts o d s
 levels_pop gs g outermost e = absurd (push-not_nil gs g e)
-levels_pop {n} {start} gs g (inner {d} {s} {t} {frames} f i l h a m j) e =
+levels_pop {n} {start} gs g {ts} (inner {d} {s} {t} {frames} {below} {branches} {pieces} f i x l h a m j) e =
     let p = push-same frames gs f g (sym i ∙ e) in
     record {
       depth = d;
       begin = s;
       here = t;
+      below = below;
+      branches = branches;
+      pieces = pieces;
       deeper = refl;
-      levels = subst (λ (x : Frame). Levels n start gs (part_of x.opener) d s) p.1
-          (subst (λ x. Levels n start x (part_of f.opener) d s) p.0 l);
-      reading = subst (λ (x : Frame). Reading n d (part_of x.opener) s (trees x.branches) (trees x.pieces) t) p.1 h;
-      began = subst (λ (x : Frame). Began x t) p.1 a;
+      holds = subst (λ (y : Frame). Holds y ts below branches pieces) p.1 x;
+      levels = subst (λ (y : Frame). Levels n start gs below (part_of y.opener) d s) p.1
+          (subst (λ y. Levels n start y below (part_of f.opener) d s) p.0 l);
+      reading = subst (λ (y : Frame). Reading n d (part_of y.opener) s branches pieces t) p.1 h;
+      began = subst (λ (y : Frame). Began y t) p.1 a;
       more = m;
       opens = j;
     }
 
--- ---- the loop's state: the stack, the innermost part and where it stands
+-- ---- the loop's state: the stack, the innermost part, the trees and where it stands
 
-pub record Running (n : ℕ) (start : State) (stack : List Frame) (f : Frame) (t : State) : Type 0 where
-  pub depth : ℕ
-  pub begin : State
-  pub is_depth : depth ≡ length stack
-  pub levels : Levels n start stack (part_of f.opener) depth begin
-  pub reading : Reading n depth (part_of f.opener) begin (trees f.branches) (trees f.pieces) t
+pub record Running (n : ℕ) (start : State) (stack : List Frame) (f : Frame) (trees : List Tree) (t : State) : Type 0
+  where
+    pub depth : ℕ
+    pub begin : State
+    pub below : List Tree
+    pub branches : List Tree
+    pub pieces : List Tree
+    pub is_depth : depth ≡ length stack
+    pub holds : Holds f trees below branches pieces
+    pub levels : Levels n start stack below (part_of f.opener) depth begin
+    pub reading : Reading n depth (part_of f.opener) begin branches pieces t
 
-pub running_start : (n : ℕ) (start : State) (stack : List Frame) (f : Frame) → stack ≡ [] → trees f.branches ≡ [] →
-    trees f.pieces ≡ [] →
-    part_of f.opener ≡ top → Running n start stack f start
-running_start n start stack f e i j k = record {
+-- a group in which nothing is read yet stands above all trees
+holds_new : (g : Frame) (trees : List Tree) → g.branches ≡ length trees → g.pieces ≡ length trees →
+    Holds g trees trees [] []
+holds_new g trees i j =
+    let n = append-nil trees in (sym (append-nil (trees ++ []) ∙ n), i, j ∙ ap length (sym n))
+
+pub running_start : (n : ℕ) (start : State) (stack : List Frame) (f : Frame) (trees : List Tree) → stack ≡ [] →
+    trees ≡ [] → f.branches ≡ 0 → f.pieces ≡ 0 → part_of f.opener ≡ top → Running n start stack f trees start
+running_start n start stack f trees e x i j k = record {
   depth = 0;
   begin = start;
+  below = [];
+  branches = [];
+  pieces = [];
   is_depth = rw e;
+  holds = (x, i, j);
   levels = rw (e, k) outermost;
-  reading = reading_new n 0 _ start _ _ i j;
+  reading = reading_new n 0 _ start _ _ refl refl;
 }
 
 -- what stands on the stack does not change by where the piece began
-pub running_began : {n : ℕ} {start t : State} {stack : List Frame} {f : Frame} (left : ℕ) (flags : Flags) →
-    Running n start stack f t →
-    Running n start stack (record f { left = left; flags = flags }) t
-running_began left flags h =
-    record { depth = h.depth; begin = h.begin; is_depth = h.is_depth; levels = h.levels; reading = h.reading }
+pub running_began : {n : ℕ} {start t : State} {stack : List Frame} {f : Frame} {trees : List Tree} (left : ℕ)
+    (flags : Flags) → Running n start stack f trees t →
+    Running n start stack (record f { left = left; flags = flags }) trees t
+running_began left flags h = record {
+  depth = h.depth;
+  begin = h.begin;
+  below = h.below;
+  branches = h.branches;
+  pieces = h.pieces;
+  is_depth = h.is_depth;
+  holds = h.holds;
+  levels = h.levels;
+  reading = h.reading;
+}
 
-pub running_fault : {n : ℕ} {start t : State} {stack : List Frame} {f : Frame} {p : ℕ} {k : Kind}
-    (h : Running n start stack f t) → ends t.rest ≡ false →
+pub running_fault : {n : ℕ} {start t : State} {stack : List Frame} {f : Frame} {trees : List Tree} {p : ℕ} {k : Kind}
+    (h : Running n start stack f trees t) → ends t.rest ≡ false →
     Piece n (length stack) t (fault k p) → Alternation n 0 start (fault k p)
 running_fault {n} {t} {f} {p} {k} h e a =
     levels_fault h.levels
     (reading_fault (part_of f.opener) h.reading e (subst (λ d. Piece n d t (fault k p)) (sym h.is_depth) a))
 
-pub running_piece : {n : ℕ} {start t v : State} {stack : List Frame} {f : Frame} {r : Tree} (g : Frame) →
-    Running n start stack f t → ends t.rest ≡ false →
-    Piece n (length stack) t (done r v) → part_of g.opener ≡ part_of f.opener → trees g.branches ≡ trees f.branches →
-    trees g.pieces ≡ trees f.pieces ++ solid (r ∷ []) → Running n start stack g v
-running_piece {n} {t} {v} {r} g h e a i j k = record {
+pub running_piece : {n : ℕ} {start t v : State} {stack : List Frame} {f : Frame} {trees : List Tree} {r : Tree}
+    (all : List Tree) → Running n start stack f trees t → ends t.rest ≡ false →
+    Piece n (length stack) t (done r v) → all ≡ trees ++ solid (r ∷ []) → Running n start stack f all v
+running_piece {n} {t} {v} {r} all h e a i = record {
   depth = h.depth;
   begin = h.begin;
+  below = h.below;
+  branches = h.branches;
+  pieces = h.pieces ++ solid (r ∷ []);
   is_depth = h.is_depth;
-  levels = rw i h.levels;
-  reading = rw i (reading_piece _ _ h.reading e (subst (λ d. Piece n d t (done r v)) (sym h.is_depth) a) j k);
+  holds = (
+    i ∙ ap (λ l. l ++ solid (r ∷ [])) h.holds.0 ∙ append_assoc (h.below ++ h.branches) h.pieces (solid (r ∷ [])),
+    h.holds.1,
+    h.holds.2,
+  );
+  levels = h.levels;
+  reading = reading_piece _ _ h.reading e (subst (λ d. Piece n d t (done r v)) (sym h.is_depth) a) refl refl;
 }
 
 -- a part is opened in the piece that began there
-pub running_open : {n : ℕ} {start t v : State} {stack : List Frame} {f : Frame} {o : OpenPart} (all : List Frame)
-    (g : Frame) → Running n start stack f t →
+pub running_open : {n : ℕ} {start t v : State} {stack : List Frame} {f : Frame} {trees : List Tree} {o : OpenPart}
+    (all : List Frame) (g : Frame) → Running n start stack f trees t →
     Began f t → ends t.rest ≡ false → Opens n (length stack) t o v → all ≡ stack ++ f ∷ [] → part_of g.opener ≡ o →
-    trees g.branches ≡ [] →
-    trees g.pieces ≡ [] → Running n start all g v
-running_open {n} {t} {v} {stack} {f} {o} all g h b e a i j k l = record {
+    g.branches ≡ length trees → g.pieces ≡ length trees → Running n start all g trees v
+running_open {n} {t} {v} {stack} {f} {trees} {o} all g h b e a i j k l = record {
   depth = h.depth + 1;
   begin = v;
+  below = trees;
+  branches = [];
+  pieces = [];
   is_depth = omega (arith, h.is_depth, ap length i, length_push stack f);
-  levels = rw j (inner f i h.levels h.reading b e (subst (λ d. Opens n d t o v) (sym h.is_depth) a));
-  reading = reading_new n _ _ v _ _ k l;
+  holds = holds_new g trees k l;
+  levels = rw j
+      (inner f i h.holds h.levels h.reading b e (subst (λ d. Opens n d t o v) (sym h.is_depth) a));
+  reading = reading_new n _ _ v _ _ refl refl;
 }
 
 -- behind a bar the second branch of an absent expression is open
-levels_bar : {n d : ℕ} {start s t : State} {u : Text} {a : Tree} {fs : List Frame} → Levels n start fs first d s →
-    Branch n d s (done a t) →
-    strip bar t.rest ≡ Some u → Levels n start fs (second a) d (at t u)
-levels_bar (inner f i l h m j x) b e = inner f i l h m j (behind_branch x b e)
+levels_bar : {n d : ℕ} {start s t : State} {u : Text} {a : Tree} {fs : List Frame} {ts : List Tree} →
+    Levels n start fs ts first d s → Branch n d s (done a t) →
+    strip bar t.rest ≡ Some u → Levels n start fs ts (second a) d (at t u)
+levels_bar (inner f i l h m j x y) b e = inner f i l h m j x (behind_branch y b e)
 
-pub running_bar : {n : ℕ} {start t : State} {u : Text} {stack : List Frame} {f : Frame} (g : Frame) →
-    Running n start stack f t → ends t.rest ≡ true →
+pub running_bar : {n : ℕ} {start t : State} {u : Text} {stack : List Frame} {f : Frame} {trees : List Tree}
+    (all : List Tree) (g : Frame) (h : Running n start stack f trees t) → ends t.rest ≡ true →
     strip bar t.rest ≡ Some u → is_second (part_of f.opener) ≡ false →
-    part_of g.opener ≡ opened_by_bar (part_of f.opener) (joined (trees f.pieces)) →
-    trees g.branches ≡ branches_at_bar (part_of f.opener) (trees f.branches) (joined (trees f.pieces)) →
-    trees g.pieces ≡ [] → Running n start stack g (at t u)
-running_bar {n} {start} {t} {u} {stack} {f} g h e b x i j k = by_open (part_of f.opener) h.levels h.reading x i j
+    part_of g.opener ≡ opened_by_bar (part_of f.opener) (joined h.pieces) →
+    Holds g all h.below (branches_at_bar (part_of f.opener) h.branches (joined h.pieces)) [] →
+    Running n start stack g all (at t u)
+running_bar {n} {start} {t} {u} {stack} {f} all g h e b x i j = by_open (part_of f.opener) h.levels h.reading x i j
   where
-    ordinary : {p : OpenPart} → holds_one p ≡ false → Levels n start stack p h.depth h.begin →
-        Reading n h.depth p h.begin (trees f.branches) (trees f.pieces) t → part_of g.opener ≡ p →
-        trees g.branches ≡ trees f.branches ++ joined (trees f.pieces) ∷ [] → Running n start stack g (at t u)
+    ordinary : {p : OpenPart} → holds_one p ≡ false → Levels n start stack h.below p h.depth h.begin →
+        Reading n h.depth p h.begin h.branches h.pieces t → part_of g.opener ≡ p →
+        Holds g all h.below (h.branches ++ joined h.pieces ∷ []) [] → Running n start stack g all (at t u)
     ordinary z l r i j = record {
       depth = h.depth;
       begin = h.begin;
+      below = h.below;
+      branches = h.branches ++ joined h.pieces ∷ [];
+      pieces = [];
       is_depth = h.is_depth;
+      holds = j;
       levels = rw i l;
-      reading = rw i (reading_bar _ _ r z e b j k);
+      reading = rw i (reading_bar _ _ r z e b refl refl);
     }
 
-    by_open : (p : OpenPart) → Levels n start stack p h.depth h.begin →
-        Reading n h.depth p h.begin (trees f.branches) (trees f.pieces) t →
-        is_second p ≡ false → part_of g.opener ≡ opened_by_bar p (joined (trees f.pieces)) →
-        trees g.branches ≡ branches_at_bar p (trees f.branches) (joined (trees f.pieces)) →
-        Running n start stack g (at t u)
+    by_open : (p : OpenPart) → Levels n start stack h.below p h.depth h.begin →
+        Reading n h.depth p h.begin h.branches h.pieces t →
+        is_second p ≡ false → part_of g.opener ≡ opened_by_bar p (joined h.pieces) →
+        Holds g all h.below (branches_at_bar p h.branches (joined h.pieces)) [] →
+        Running n start stack g all (at t u)
     by_open top l r x i j = ordinary refl l r i j
     by_open (group _ _) l r x i j = ordinary refl l r i j
     by_open condition l r x i j = ordinary refl l r i j
@@ -405,9 +447,13 @@ running_bar {n} {start} {t} {u} {stack} {f} g h e b x i j k = by_open (part_of f
     by_open first l r x i j = record {
       depth = h.depth;
       begin = at t u;
+      below = h.below;
+      branches = h.branches;
+      pieces = [];
       is_depth = h.is_depth;
+      holds = j;
       levels = rw i (levels_bar l (reading_one r refl e) b);
-      reading = rw i (reading_new n _ _ _ _ _ (j ∙ (r.one refl).1) k);
+      reading = rw i (reading_new n _ _ _ _ _ (r.one refl).1 refl);
     }
     by_open (second a) l r x i j = absurd (true≢false x)
 
@@ -424,25 +470,25 @@ closed_other n r t c u e h = ap (closed_at n r t) e ∙ other (c == code ")") (s
 bar_does_not_close : bar ≢ code ")"
 bar_does_not_close e = omega (arith, e)
 
-second_fault : {n d p : ℕ} {start s t : State} {k : Kind} {a r : Tree} {fs : List Frame} →
-    Levels n start fs (second a) d s → Branch n d s (done r t) →
+second_fault : {n d p : ℕ} {start s t : State} {k : Kind} {a r : Tree} {fs : List Frame} {ts : List Tree} →
+    Levels n start fs ts (second a) d s → Branch n d s (done r t) →
     closed n (absent (expression a r)) t ≡ fault k p → Alternation n 0 start (fault k p)
-second_fault {n} {t} {a} {r} (inner f i l h m j x) b e =
+second_fault {n} {t} {a} {r} (inner f i y l h m j x) b e =
     levels_fault l (reading_fault (part_of f.opener) h j (ended_fault r t x b (λ _ z. absurd (true≢false z)) e))
 
-pub running_bar_fault : {n : ℕ} {start t : State} {u : Text} {stack : List Frame} {f : Frame} (o : Outcome Tree) →
-    Running n start stack f t →
+pub running_bar_fault : {n : ℕ} {start t : State} {u : Text} {stack : List Frame} {f : Frame} {trees : List Tree}
+    (o : Outcome Tree) → Running n start stack f trees t →
     ends t.rest ≡ true → strip bar t.rest ≡ Some u → IsFaultOfBar (part_of f.opener) n t.rest o →
     Alternation n 0 start o
 running_bar_fault {n} {start} {t} {u} {stack} {f} o h e b x = by_open (part_of f.opener) h.levels h.reading x
   where
-    by_open : (p : OpenPart) → Levels n start stack p h.depth h.begin →
-        Reading n h.depth p h.begin (trees f.branches) (trees f.pieces) t →
+    by_open : (p : OpenPart) → Levels n start stack h.below p h.depth h.begin →
+        Reading n h.depth p h.begin h.branches h.pieces t →
         IsFaultOfBar p n t.rest o → Alternation n 0 start o
     by_open (second a) l r x =
         subst (Alternation n 0 start) (sym x)
         (second_fault l (reading_one r refl e)
-        (closed_other n (absent (expression a (joined (trees f.pieces)))) t bar u (strip_is bar t.rest u b)
+        (closed_other n (absent (expression a (joined h.pieces))) t bar u (strip_is bar t.rest u b)
         bar_does_not_close))
     by_open top l r x = absurd x
     by_open (group _ _) l r x = absurd x
@@ -450,14 +496,14 @@ running_bar_fault {n} {start} {t} {u} {stack} {f} o h e b x = by_open (part_of f
     by_open (body _ _) l r x = absurd x
     by_open first l r x = absurd x
 
-pub running_end : {n : ℕ} {start t : State} {stack : List Frame} {f : Frame} (r : Tree) → Running n start stack f t →
-    ends t.rest ≡ true →
-    strip bar t.rest ≡ None → r ≡ choice (trees f.branches ++ joined (trees f.pieces) ∷ []) → stack ≡ [] →
-    Alternation n 0 start (done r t)
+pub running_end : {n : ℕ} {start t : State} {stack : List Frame} {f : Frame} {trees : List Tree} (r : Tree)
+    (h : Running n start stack f trees t) → ends t.rest ≡ true → strip bar t.rest ≡ None →
+    r ≡ choice (h.branches ++ joined h.pieces ∷ []) → stack ≡ [] → Alternation n 0 start (done r t)
 running_end {n} {start} {t} r h e a i j =
     let m = levels_none h.levels j in
-    rw i (subst (λ s. Alternation n 0 s (done _ t)) m.1
-    (subst (λ d. Alternation n d h.begin (done _ t)) m.0 (reading_alternation h.reading e a)))
+    let whole = choice (h.branches ++ joined h.pieces ∷ []) in
+    rw i (subst (λ s. Alternation n 0 s (done whole t)) m.1
+    (subst (λ d. Alternation n d h.begin (done whole t)) m.0 (reading_alternation h.reading e a)))
 
 opens_not_top : {n d : ℕ} {s v : State} {o : OpenPart} → Opens n d s o v → o ≢ top
 opens_not_top (a_group l e) i = cc
@@ -468,23 +514,23 @@ opens_not_top (a_branch l e) i = cc
 opens_not_top (behind_branch x y z) i = cc
 
 -- what the part that is to be closed stands in
-pub record Closing (n : ℕ) (start : State) (stack : List Frame) (g : Frame) (o : OpenPart) (r : Tree) (t : State) : Type
-    0 where
+pub record Closing (n : ℕ) (start : State) (stack : List Frame) (g : Frame) (trees : List Tree) (o : OpenPart)
+    (r : Tree) (t : State) : Type 0 where
   pub here : State
   pub inside : State
-  pub outer : Running n start stack g here
+  pub outer : Running n start stack g trees here
   pub began : Began g here
   pub more : ends here.rest ≡ false
   pub opens : Opens n (length stack) here o inside
   pub whole : Part o n (length stack + 1) inside (done r t)
   pub not_top : o ≢ top
 
-pub running_closing : {n : ℕ} {start t : State} {all : List Frame} {f : Frame} (stack : List Frame) (g : Frame)
-    (r : Tree) (q : OpenPart) → q ≡ part_of f.opener →
-    Running n start all f t → ends t.rest ≡ true → strip bar t.rest ≡ None →
-    r ≡ choice (trees f.branches ++ joined (trees f.pieces) ∷ []) → all ≡ stack ++ g ∷ [] →
-    Closing n start stack g q r t
-running_closing {n} {t} {f} stack g r q z h e a i j =
+pub running_closing : {n : ℕ} {start t : State} {all : List Frame} {f : Frame} {trees : List Tree}
+    (stack : List Frame) (g : Frame) (below : List Tree) (r : Tree) (q : OpenPart) → q ≡ part_of f.opener →
+    (h : Running n start all f trees t) → ends t.rest ≡ true → strip bar t.rest ≡ None →
+    r ≡ choice (h.branches ++ joined h.pieces ∷ []) → below ≡ h.below → all ≡ stack ++ g ∷ [] →
+    Closing n start stack g below q r t
+running_closing {n} {t} {f} stack g below r q z h e a i k j =
     let o = levels_pop stack g h.levels j in
     let m : o.depth ≡ length stack = omega (arith, o.deeper, h.is_depth, ap length j, length_push stack g) in
     let opens : Opens n (length stack) o.here q h.begin =
@@ -492,25 +538,22 @@ running_closing {n} {t} {f} stack g r q z h e a i j =
     record {
       here = o.here;
       inside = h.begin;
-      outer = record { depth = o.depth; begin = o.begin; is_depth = m; levels = o.levels; reading = o.reading };
+      outer = record {
+        depth = o.depth;
+        begin = o.begin;
+        below = o.below;
+        branches = o.branches;
+        pieces = o.pieces;
+        is_depth = m;
+        holds = rw k o.holds;
+        levels = o.levels;
+        reading = o.reading;
+      };
       began = o.began;
       more = o.more;
       opens = opens;
-      whole = rw (z, i) (subst (λ d. Part (part_of f.opener) n d h.begin (done _ t)) (o.deeper ∙ ap (λ d. d + 1) m)
+      whole = rw (z, i) (subst (λ d. Part (part_of f.opener) n d h.begin
+          (done (choice (h.branches ++ joined h.pieces ∷ [])) t)) (o.deeper ∙ ap (λ d. d + 1) m)
           (reading_end (part_of f.opener) h.reading e a));
       not_top = opens_not_top opens;
     }
-
--- ---- the room for the stack
-
--- each open group took a parenthesis
-levels_parens : {n : ℕ} {start : State} {d : ℕ} {s : State} {fs : List Frame} {o : OpenPart} → Levels n start fs o d s →
-    d + parens s.rest ≤ parens start.rest
-levels_parens outermost = omega arith
-levels_parens (inner f i l h a m j) = omega (arith, levels_parens l, slice_parens h.slice, opens_parens j)
-
--- another group is opened only where a parenthesis is left for it
-pub running_room : {n : ℕ} {start t v : State} {stack : List Frame} {f : Frame} {o : OpenPart} →
-    Running n start stack f t →
-    Opens n (length stack) t o v → length stack < parens start.rest
-running_room h j = omega (arith, h.is_depth, levels_parens h.levels, slice_parens h.reading.slice, opens_parens j)

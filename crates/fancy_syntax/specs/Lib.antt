@@ -37,7 +37,6 @@ pub use Rattle.fancy_grammar.specs.ReadBack
 -- ---- the parser's loop
 pub mod Reads
 pub mod Parsed
-pub mod Row
 pub mod Machine
 -- ---- the resolver's walks
 pub mod Notes

@@ -1,8 +1,6 @@
 -- The groups that are open, as the parser's stack holds them.
-use Rattle.std.specs.Prelude.{◌≡◌, ℕ, ◌+◌, ◌<◌, ◌==◌, ◌&&◌, not, if◌then◌else◌, Bool, true, false, List, [], ◌∷◌, ◌++◌}
+use Rattle.std.specs.Prelude.{◌≡◌, ℕ, ◌+◌, ◌<◌, ◌==◌, ◌&&◌, not, if◌then◌else◌, Bool, true, false, List, [], ◌∷◌, ◌++◌, length}
 use Rattle.std.specs.Prelude.{Some, Result, MatchResult, ⊤}
-use Prim.Native.Char.{code}
-use Rattle.std.specs.List.{count_by}
 use Rattle.fancy_lex.specs.Characters.{bar}
 use Rattle.fancy_lex.specs.FaultTable.{bar_for_close_paren, body_wanting}
 use Rattle.fancy_lex.specs.Layout.{rest}
@@ -17,8 +15,6 @@ use Rattle.fancy_grammar.specs.Head.{Head, group_node}
 use Rattle.fancy_grammar.specs.Join.{solid}
 use Rattle.fancy_syntax.specs.Parsed.{head_of}
 use Rattle.fancy_grammar.specs.Fails.{Fails}
-use Rattle.fancy_syntax.specs.Row.{trees}
-use Rattle.fancy_grammar.specs.Slices.{Slice}
 use Rattle.fancy_grammar.specs.State.{ends, skipped, State, at, Outcome, done, faulted}
 use Rattle.fancy_grammar.specs.Tree.{Tree, absent, expression}
 use Rattle.fancy_syntax.specs.View.{view}
@@ -27,10 +23,6 @@ use Rattle.fancy_syntax.specs.declared.grammar.frame.Opener.{Opener}
 use Rattle.fancy_syntax.specs.declared.grammar.frame.Opener.TheVariants as opener
 use Rattle.fancy_syntax.specs.declared.grammar.step.Step.{Step}
 use Rattle.fancy_syntax.specs.declared.grammar.step.Step.TheVariants as step
-
--- how many groups the text could open: its opening parentheses
-abbrev pub parens : Text → ℕ
-parens = count_by (λ c. c == code "(")
 
 -- what is open
 pub data OpenPart : Type 0 where
@@ -154,16 +146,21 @@ pub record Reading (n d : ℕ) (p : OpenPart) (s : State) (branches pieces : Lis
   pub branch : (o : Outcome (List Tree)) → Pieces n d t o → Pieces n d begin (trees_before read o)
   pub all : (o : Outcome (List Tree)) → Branches n d begin o → Branches n d s (trees_before branches o)
   pub one : holds_one p ≡ true → (begin ≡ s) × (branches ≡ [])
-  pub slice : Slice s.rest t.rest
 
 -- the piece in which the parts above the frame were opened began at the state
 abbrev pub Began : Frame → State → Type 0
 Began f s = (f.left ≡ bytes s.rest) × (f.flags ≡ s.flags)
 
--- the open groups of a text that begins at `start`; what is read of the innermost begins at s, at depth d
-pub data Levels (n : ℕ) (start : State) : List Frame → OpenPart → ℕ → State → Type 0 where
-  outermost : Levels n start [] top 0 start
-  inner : {d : ℕ} {s t v : State} {p : OpenPart} {all frames : List Frame} (f : Frame) → all ≡ frames ++ f ∷ [] →
-      Levels n start frames (part_of f.opener) d s →
-      Reading n d (part_of f.opener) s (trees f.branches) (trees f.pieces) t → Began f t →
-      ends t.rest ≡ false → Opens n d t p v → Levels n start all p (d + 1) v
+-- where the group's own trees stand among all: above those of the groups around it, its pieces above its branches
+abbrev pub Holds : Frame → (trees below branches pieces : List Tree) → Type 0
+Holds f trees below branches pieces =
+    (trees ≡ below ++ branches ++ pieces) × (f.branches ≡ length below) × (f.pieces ≡ length (below ++ branches))
+
+-- the open groups of a text that begins at `start`, and the trees that they hold; what is read of the innermost begins
+-- at s, at depth d, and its own trees are not among these
+pub data Levels (n : ℕ) (start : State) : List Frame → List Tree → OpenPart → ℕ → State → Type 0 where
+  outermost : Levels n start [] [] top 0 start
+  inner : {d : ℕ} {s t v : State} {p : OpenPart} {all frames : List Frame} {trees below branches pieces : List Tree}
+      (f : Frame) → all ≡ frames ++ f ∷ [] → Holds f trees below branches pieces →
+      Levels n start frames below (part_of f.opener) d s → Reading n d (part_of f.opener) s branches pieces t →
+      Began f t → ends t.rest ≡ false → Opens n d t p v → Levels n start all trees p (d + 1) v

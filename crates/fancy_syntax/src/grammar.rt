@@ -1,8 +1,6 @@
 //! The grammar: a loop over a stack of open groups reads the raw tree of a text.
-ghost use Rattle.std.specs.Prelude.{◌≡◌, ◌∷◌, [], ◌++◌, ◌<◌, ◌≤◌, ◌^◌, length, chars, min, vec_len, vec_capacity, IfOk};
-ghost use Rattle.fancy_grammar.specs.Depth.{max_depth};
+ghost use Rattle.std.specs.Prelude.{◌≡◌, ◌∷◌, [], ◌++◌, ◌<◌, ◌≤◌, ◌^◌, length, chars, IfOk, OnOk};
 ghost use Rattle.fancy_grammar.specs.Grammar as spec;
-ghost use Rattle.fancy_syntax.specs.Machine.{parens};
 ghost use Rattle.fancy_syntax.specs.Parsed.{state, Reads};
 ghost use Rattle.fancy_syntax.specs.Reads.{ReadsWhole};
 
@@ -15,22 +13,23 @@ mod group;
 mod plain;
 mod quantified;
 mod reference;
-mod row;
 mod state;
 mod step;
+mod trees;
 
 use crate::expr::Expr;
-use crate::grammar::ahead::{MAX_DEPTH, is_end};
+use crate::grammar::ahead::is_end;
 use crate::grammar::atom::literal;
 use crate::grammar::fault::general;
 use crate::grammar::frame::{Frame, Opener};
 use crate::grammar::plain::plain;
 use crate::grammar::state::State;
 use crate::grammar::step::{Step, close, read_step};
+use crate::grammar::trees::add;
 use fancy_lex::error::Error;
 use fancy_lex::flags::Flags;
 use fancy_lex::text::{after, byte_len, next, place};
-use std::alloc::Global;
+use std::alloc::{AllocError, Global};
 
 /// Reads a whole text: its raw tree, in which a capturing group is an AstNode with the place of its parenthesis.
 /// Else the fault of the text, or OutOfMemory.
@@ -55,29 +54,30 @@ fn alternation<'a>(alloc: Global, start: State<'a>, end: usize) -> Result<(Expr,
     ensures value { Reads result (spec.Alternation end 0 (state start.entry)) }
     ensures within { IfOk result (λ p. length p.1.rest.now ≤ length start.entry.rest.now) }
 {
-    let mut stack = Vec::with_capacity(alloc, room(start.rest))?;
-    let mut frame = Frame::new(Opener::Top, start.flags);
+    let mut stack = Vec::new(alloc);
+    let mut trees = Vec::with_capacity(alloc, TREES)?;
+    let mut frame = Frame::new(Opener::Top, 0, start.flags);
     let mut here = start;
     loop {
         if let Some((c, rest)) = plain(here) {
             let leaf = literal(alloc, c, here.flags.casei)?;
-            frame.add(alloc, leaf)?;
+            add(&mut trees, leaf)?;
             here.rest = rest;
         } else if !is_end(here.rest) {
             frame.left = byte_len(here.rest);
             frame.flags = here.flags;
             match read_step(alloc, &mut here, stack.len(), end)? {
-                Step::Piece(piece) => frame.add(alloc, piece)?,
+                Step::Piece(piece) => add(&mut trees, piece)?,
                 Step::Open(opener) => {
-                    push_frame(&mut stack, frame);
-                    frame = Frame::new(opener, here.flags);
+                    push_frame(&mut stack, frame)?;
+                    frame = Frame::new(opener, trees.len(), here.flags);
                 }
             }
         } else if let Some(rest) = after(here.rest, '|') {
-            frame.bar(alloc, place(here.rest, end))?;
+            frame.bar(alloc, &mut trees, place(here.rest, end))?;
             here.rest = rest;
         } else {
-            let (opener, inner) = frame.finish(alloc)?;
+            let (opener, inner) = frame.finish(&mut trees)?;
             let Some(outer) = stack.pop() else {
                 return Ok((inner, here));
             };
@@ -92,37 +92,30 @@ fn alternation<'a>(alloc: Global, start: State<'a>, end: usize) -> Result<(Expr,
                 stack.len(),
                 end,
             )? {
-                Step::Piece(piece) => frame.add(alloc, piece)?,
+                Step::Piece(piece) => add(&mut trees, piece)?,
                 Step::Open(opener) => {
-                    push_frame(&mut stack, frame);
-                    frame = Frame::new(opener, here.flags);
+                    push_frame(&mut stack, frame)?;
+                    frame = Frame::new(opener, trees.len(), here.flags);
                 }
             }
         }
     }
 }
 
-/// How many groups may be open at once in the text: at most its opening parentheses, and at most `MAX_DEPTH`.
+/// How many trees have room at first: some more than most patterns hold side by side.
 ///
-/// A request for all the frames is so large that malloc puts its free blocks together at each, and then hands out the
-/// small blocks of a tree slowly: this saves a twentieth of what reading a short text costs.
-fn room(text: &str) -> usize
-    ensures { result ≡ min (parens (chars text.now)) max_depth }
-{
-    let mut parens = 0;
-    for byte in text.as_bytes() {
-        if *byte == b'(' {
-            parens += 1;
-        }
-    }
-    parens.min(MAX_DEPTH)
-}
+/// Where it is above 1,024 bytes, malloc puts its free blocks together at each request, and then hands out the small
+/// blocks of a tree slowly.
+const TREES: usize = 12;
 
-/// Puts a frame on the stack, in the room that was reserved for it.
-fn push_frame<'a>(stack: &mut Vec<Frame<'a>>, frame: Frame<'a>)
-    requires { vec_len stack.old < vec_capacity stack.old }
-    ensures items { stack.new.items ≡ stack.old.items ++ frame.entry ∷ [] }
-    ensures capacity { vec_capacity stack.old ≤ vec_capacity stack.new }
+/// Puts a frame on the stack.
+fn push_frame<'a>(stack: &mut Vec<Frame<'a>>, frame: Frame<'a>) -> Result<(), AllocError>
+    ensures { OnOk result (stack.new.items ≡ stack.old.items ++ frame.entry ∷ []) }
 {
+    if let Err(refused) = stack.reserve(1) {
+        drop(frame);
+        return Err(AllocError::from(refused));
+    }
     stack.push_reserved(frame);
+    Ok(())
 }

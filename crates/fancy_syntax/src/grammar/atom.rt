@@ -19,7 +19,7 @@ use fancy_lex::class::{class, push_delegate};
 use fancy_lex::error::{Error, ParseError};
 use fancy_lex::escape::{Assertion, Escaped, escape};
 use fancy_lex::flags::Flags;
-use fancy_lex::text::{next, place, push};
+use fancy_lex::text::{next, place};
 use std::alloc::{AllocError, Global};
 
 /// Reads what stands before an atom, through a leaf, or up to where the first part of a group begins.
@@ -196,7 +196,7 @@ fn is_before_nothing(c: char) -> bool
 pub(crate) fn literal(alloc: Global, c: char, casei: bool) -> Result<Expr, AllocError>
     ensures { IfOk result (λ e. view e ≡ literal (c ∷ []) casei) }
 {
-    let mut val = String::with_capacity(alloc, c.len_utf8())?;
-    push(&mut val, c)?;
+    let mut bytes = [0; 4];
+    let val = String::from_str(alloc, c.encode_utf8(&mut bytes))?;
     Ok(Expr::Literal { val, casei })
 }

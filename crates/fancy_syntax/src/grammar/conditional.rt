@@ -6,7 +6,7 @@ ghost use Rattle.fancy_grammar.specs.Tree.{alt, trees_of, conditional as conditi
 ghost use Rattle.fancy_syntax.specs.View.{view, view_ast, views};
 
 use crate::expr::{Absent, AstNode, Expr};
-use crate::grammar::frame::is_empty;
+use crate::grammar::trees::is_empty;
 use std::alloc::{AllocError, Global};
 
 /// Whether the tree is a condition on a group.

@@ -9,8 +9,8 @@ ghost use Rattle.fancy_syntax.specs.View.{view};
 
 use crate::expr::Expr;
 use crate::grammar::ahead::{MAX_DEPTH, skip_layout};
-use crate::grammar::frame::is_empty;
 use crate::grammar::state::State;
+use crate::grammar::trees::is_empty;
 use fancy_lex::error::{Error, ParseError};
 use fancy_lex::flags::Flags;
 use fancy_lex::text::{after, byte_len, place, place_before};

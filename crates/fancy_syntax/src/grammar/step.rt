@@ -132,6 +132,10 @@ pub(crate) fn close<'a>(
     let atom = end_part(alloc, opener, inner, here, end)?;
     if !has_body {
         here.flags = flags;
+        // Mostly no quantifier follows: this saves a call for each group.
+        if is_unquantified(*here) {
+            return Ok(Step::Piece(atom));
+        }
         return piece(alloc, atom, here, left, depth, end);
     }
     let condition = Box::new(alloc, atom)?;

@@ -1,9 +1,12 @@
-use Rattle.std.proofs.Common.{◌≡◌, sym, ◌∙◌}
+use Rattle.std.proofs.Common.{◌≡◌, Ok, sym, ap, ◌∙◌}
 use Rattle.std.proofs.lemmas.Result.{err_from_is_err_and}
+use Rattle.fancy_lex.specs.declared.flags.Flags.{Flags}
 use Rattle.fancy_grammar.specs.Grammar.{Piece}
+use Rattle.fancy_grammar.specs.Quantified.{quants}
 use Rattle.fancy_syntax.specs.Machine.{part_of, ended_part}
 use Rattle.fancy_syntax.specs.Parsed.{state}
 use Rattle.fancy_syntax.specs.View.{view}
+use Rattle.fancy_syntax.specs.declared.grammar.step.Step.TheVariants as step
 use Rattle.fancy_syntax.proofs.MachineLemmas.{ended_fault, condition_ended, closes}
 use Rattle.fancy_grammar.proofs.OutcomeLemmas.{Fails-map}
 use Rattle.fancy_syntax.proofs.grammar.step.close.Goals as goal
@@ -17,6 +20,16 @@ returns-in_err-atom-clause-value c =
     (Piece c.args.end c.args.depth s)
     c.in_err-atom.field-0.0 (λ k q h. ended_fault (view c.args.inner) (state c.args.here.now) o p
     (λ _ _. c.requires.last) h) c.in_err-atom.ensures.value)
+
+pub returns-then-is_unquantified-clause-value : goal.returns-then-is_unquantified-clause-value
+returns-then-is_unquantified-clause-value c =
+    λ s t i j o p.
+    closes (view c.args.inner) (state c.args.here.now) (Ok (step.Piece _)) _ o p
+    (sym c.goes_on-has_body.ensures ∙ c.if-not-has_body.true) c.requires.last
+    c.in_ok-atom.ensures.value i
+    (ap (λ (f : Flags). quants c.args.end c.args.depth c.args.left (view c.in_ok-atom.atom)
+    (record (state c.end_part.new.here) { flags = f })) (sym j)
+    ∙ c.is_unquantified.ensures c.if-is_unquantified.true _ _ _ _)
 
 pub returns-then-not-has_body-clause-value : goal.returns-then-not-has_body-clause-value
 returns-then-not-has_body-clause-value c =

@@ -1,0 +1,81 @@
+-- The trees of the open groups, one above the other.
+use Rattle.std.proofs.Common.{◌≡◌, ◌≢◌, ◌≤◌, ℕ, ◌+◌, List, [], ◌∷◌, ◌++◌, length, take, drop, arith, refl, sym, ap, ◌∙◌}
+use Rattle.std.proofs.lemmas.List.{append_assoc, length-append, length-map, length-drop, drop-map}
+use Rattle.std.proofs.Math.Seq.{take-append_seam, drop-append_seam}
+use Rattle.fancy_grammar.specs.Join.{one_or, choice}
+use Rattle.fancy_grammar.specs.Tree.{Tree, Trees, concat, alt, trees_of}
+use Rattle.fancy_syntax.specs.Machine.{Holds}
+use Rattle.fancy_syntax.specs.View.{view, views}
+use Rattle.fancy_syntax.specs.declared.expr.Expr.{Expr}
+use Rattle.fancy_syntax.specs.declared.grammar.frame.Frame.{Frame}
+
+-- above the height of a group's pieces stand these, and below its branches and what is around it
+pub holds_pieces : (f : Frame) {trees : List Tree} (below branches : List Tree) (pieces : List Tree) →
+    Holds f trees below branches pieces →
+    (drop f.pieces trees ≡ pieces) × (take f.pieces trees ≡ below ++ branches)
+holds_pieces f below branches pieces h =
+    rw (h.0, h.2) (drop-append_seam (below ++ branches) pieces, take-append_seam (below ++ branches) pieces)
+
+-- the heights of a group are within all trees
+pub holds_below : (f : Frame) {trees : List Tree} (below branches pieces : List Tree) →
+    Holds f trees below branches pieces → (f.branches ≤ f.pieces) × (f.pieces ≤ length trees)
+holds_below f below branches pieces h = (
+  omega (arith, h.1, h.2, length-append below branches),
+  omega (arith, ap length h.0, h.2, length-append (below ++ branches) pieces),
+)
+
+pub views_length : (es : List Expr) → length (views es) ≡ length es
+views_length es = length-map es view
+
+-- two trees or more are a node
+several : (node : Trees → Tree) (ts : List Tree) → 2 ≤ length ts → one_or node ts ≡ node (trees_of ts)
+several node [] h = absurd (omega (arith, h))
+several node (t ∷ []) h = absurd (omega (arith, h))
+several node (t ∷ u ∷ ts) h = refl
+
+-- the node of what was split off
+pub split_node : (node : Trees → Tree) (height : ℕ) (es ws : List Expr) → ws ≡ drop height es →
+    height + 2 ≤ length es → one_or node (drop height (views es)) ≡ node (trees_of (views ws))
+split_node node height es ws e h =
+    let n : 2 ≤ length (views ws) = omega (arith, h, views_length ws, ap length e, length-drop height es) in
+    rw (drop-map view height es, ← e) (several node (views ws) n)
+
+-- what stands where the last branch was put behind the others
+branches_put : (f : Frame) {trees : List Tree} (below branches pieces all : List Tree) (x : Tree) →
+    Holds f trees below branches pieces → x ≡ one_or concat (drop f.pieces trees) →
+    all ≡ take f.pieces trees ++ x ∷ [] → all ≡ below ++ (branches ++ one_or concat pieces ∷ [])
+branches_put f below branches pieces all x h e i =
+    let p = holds_pieces f below branches pieces h in
+    i ∙ ap (λ l. l ++ x ∷ []) p.1 ∙ append_assoc below branches (x ∷ [])
+    ∙ ap (λ y. below ++ (branches ++ y ∷ [])) (e ∙ ap (one_or concat) p.0)
+
+-- the branches of a group, the last put behind the others, are taken: a choice among them
+pub branches_taken : (f : Frame) {trees : List Tree} (below branches pieces : List Tree) (x : Tree)
+    (es ws : List Expr) → Holds f trees below branches pieces → x ≡ one_or concat (drop f.pieces trees) →
+    views es ≡ take f.pieces trees ++ x ∷ [] → f.branches ≢ f.pieces → ws ≡ drop f.branches es →
+    alt (trees_of (views ws)) ≡ choice (branches ++ one_or concat pieces ∷ [])
+branches_taken f below branches pieces x es ws h e i d w =
+    let put = branches_put f below branches pieces (views es) x h e i in
+    let all = branches ++ one_or concat pieces ∷ [] in
+    let n : f.branches + 2 ≤ length es =
+    omega (
+      arith,
+      d,
+      h.1,
+      h.2,
+      length-append below branches,
+      ap length put,
+      length-append below all,
+      length-append branches (one_or concat pieces ∷ []),
+      views_length es,
+    ) in
+    let cut : drop f.branches (views es) ≡ all = rw (put, h.1) (drop-append_seam below all) in
+    sym (split_node alt f.branches es ws w n) ∙ ap (one_or alt) cut
+
+-- and below them stands what is around the group
+pub branches_below : (f : Frame) {trees : List Tree} (below branches pieces : List Tree) (x : Tree)
+    (es : List Expr) → Holds f trees below branches pieces → x ≡ one_or concat (drop f.pieces trees) →
+    views es ≡ take f.pieces trees ++ x ∷ [] → take f.branches (views es) ≡ below
+branches_below f below branches pieces x es h e i =
+    rw (branches_put f below branches pieces (views es) x h e i, h.1)
+    (take-append_seam below (branches ++ one_or concat pieces ∷ []))

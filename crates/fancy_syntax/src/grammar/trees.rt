@@ -1,0 +1,56 @@
+//! The trees that are read and stand in no other yet: those of all open groups, one above the other.
+ghost use Rattle.std.specs.Prelude.{◌≡◌, ◌≤◌, [], ◌∷◌, ◌++◌, take, drop, vec_len, IfOk, OnOk};
+ghost use Rattle.fancy_grammar.specs.Join as spec;
+ghost use Rattle.fancy_grammar.specs.Join.{solid, one_or};
+ghost use Rattle.fancy_grammar.specs.Tree.{concat};
+ghost use Rattle.fancy_syntax.specs.View.{view, views};
+
+use crate::expr::Expr;
+use std::alloc::AllocError;
+use std::mem;
+
+/// Adds a piece; an Empty one is left out.
+#[inline]
+pub(crate) fn add(trees: &mut Vec<Expr>, piece: Expr) -> Result<(), AllocError>
+    ensures { OnOk result (views trees.new.items ≡ views trees.old.items ++ solid (view piece ∷ [])) }
+{
+    if is_empty(&piece) {
+        // It owns nothing.
+        mem::forget(piece);
+        return Ok(());
+    }
+    push(trees, piece)
+}
+
+/// Adds a tree.
+#[inline]
+pub(crate) fn push(trees: &mut Vec<Expr>, tree: Expr) -> Result<(), AllocError>
+    ensures { OnOk result (views trees.new.items ≡ views trees.old.items ++ view tree ∷ []) }
+{
+    if let Err(refused) = trees.reserve(1) {
+        drop(tree);
+        return Err(AllocError::from(refused));
+    }
+    trees.push_reserved(tree);
+    Ok(())
+}
+
+/// Takes the trees that stand above so many others, the pieces of a branch: its tree.
+pub(crate) fn take_branch(trees: &mut Vec<Expr>, height: usize) -> Result<Expr, AllocError>
+    requires { height ≤ vec_len trees.old }
+    ensures tree { IfOk result (λ e. view e ≡ one_or concat (drop height (views trees.old.items))) }
+    ensures below { OnOk result (views trees.new.items ≡ take height (views trees.old.items)) }
+{
+    match trees.len() - height {
+        0 => Ok(Expr::Empty),
+        1 => Ok(trees.take_last()),
+        _ => Ok(Expr::Concat(trees.split_off(height)?)),
+    }
+}
+
+/// Whether the tree is Empty.
+pub(crate) fn is_empty(tree: &Expr) -> bool
+    ensures { result ≡ spec.is_empty (view tree.now) }
+{
+    matches!(tree, Expr::Empty)
+}
