@@ -13,6 +13,7 @@ mod TreeLemmas
 -- ---- the resolver
 pub mod PartLemmas
 pub mod WalkLemmas
+pub mod NoItems
 -- ---- printing
 pub mod PrintLemmas
 mod EmptyLemmas

@@ -1,13 +1,15 @@
 -- The items of the nodes that have several children.
-use Rattle.std.proofs.Common.{◌≡◌, ◌+◌, ◌≤◌, ◌++◌, List, Bool, arith, length, ap, sym, ◌∙◌, rules, Box, Global}
+use Rattle.std.proofs.Common.{◌≡◌, ◌+◌, ◌≤◌, ◌++◌, ◌||◌, List, Bool, arith, length, ap, sym, ◌∙◌, rules, Box, Global}
 use Rattle.fancy_parts.specs.Groups.{Groups}
 use Rattle.fancy_grammar.specs.Items.{Item, items, items_absent, openings_in}
 use Rattle.fancy_grammar.specs.Tree.{conditional, expression}
+use Rattle.fancy_syntax.specs.Notes.{has_items}
 use Rattle.fancy_syntax.specs.View.{view, view_absent}
 use Rattle.fancy_grammar.specs.Walk.{Known, Progress, found, noted}
 use Rattle.fancy_syntax.specs.declared.expr.Absent.{Absent, Expression}
 use Rattle.fancy_syntax.specs.declared.expr.Expr.{Expr, Conditional, the_lemmas}
 use Rattle.fancy_grammar.proofs.ItemLemmas.{length_openings}
+use Rattle.fancy_syntax.proofs.NoItems.{met_append}
 use Rattle.fancy_syntax.proofs.WalkLemmas.{found_le, noted_le}
 
 -- the items are those of two trees, or of three
@@ -93,3 +95,19 @@ pub third_noted : {l : List Item} {x y z : Expr} (k : Known) (r s t : Progress) 
     t ≡ noted k s (items (view y)) →
     t.passed + length (openings_in (items (view z))) ≤ r.passed + length (openings_in l)
 third_noted {x} {y} k r s t p e f = omega (arith, three_noted k r s p e, noted_le k s t (items (view y)) f)
+
+-- a walk meets an item where one of the parts has one
+
+pub two_met : {l : List Item} {x y : Expr} (r s : Bool) → Two l x y → s ≡ (r || has_items (items (view x))) →
+    (r || has_items l) ≡ (s || has_items (items (view y)))
+two_met {x} {y} r s p e =
+    ap (λ m. r || has_items m) p.is ∙ met_append r (items (view x)) (items (view y))
+    ∙ ap (λ b. b || has_items (items (view y))) (sym e)
+
+pub three_met : {l : List Item} {x y z : Expr} (r s t : Bool) → Three l x y z →
+    s ≡ (r || has_items (items (view x))) → t ≡ (s || has_items (items (view y))) →
+    (r || has_items l) ≡ (t || has_items (items (view z)))
+three_met {x} {y} {z} r s t p e f =
+    ap (λ m. r || has_items m) p.is ∙ met_append r (items (view x)) (items (view y) ++ items (view z))
+    ∙ ap (λ b. b || has_items (items (view y) ++ items (view z))) (sym e)
+    ∙ met_append s (items (view y)) (items (view z)) ∙ ap (λ b. b || has_items (items (view z))) (sym f)

@@ -1,5 +1,5 @@
 -- How the resolver's own values stand to the definitions.
-use Rattle.std.specs.Prelude.{ℕ, ◌||◌, Bool, Option, None, chars, option_map}
+use Rattle.std.specs.Prelude.{ℕ, ◌||◌, Bool, true, false, List, [], ◌∷◌, Option, None, chars, option_map}
 use Rattle.fancy_lex.specs.Fault.{Fault, kind_of}
 use Rattle.fancy_lex.specs.declared.error.ParseError as declared
 use Rattle.fancy_lex.specs.Target.{view_target}
@@ -9,10 +9,16 @@ use Rattle.fancy_parts.specs.Meaning.{fault_or}
 use Rattle.fancy_parts.specs.Written.{is_numeric}
 use Rattle.fancy_parts.specs.declared.ranks.Meaning.{Meaning}
 use Rattle.fancy_parts.specs.declared.ranks.Role.{Role}
+use Rattle.fancy_grammar.specs.Items.{Item}
 use Rattle.fancy_grammar.specs.Marks as spec
 use Rattle.fancy_grammar.specs.Walk as walk
 use Rattle.fancy_syntax.specs.declared.resolve.notes.Known.{Known}
 use Rattle.fancy_syntax.specs.declared.resolve.notes.Progress.{Progress}
+
+-- whether a capturing group or a reference is there
+abbrev pub has_items : List Item → Bool
+has_items [] = false
+has_items (i ∷ l) = true
 
 abbrev pub known_of : Known → walk.Known
 known_of k = record { text = chars k.pattern.now; named = k.named; groups = groups_of k.groups }

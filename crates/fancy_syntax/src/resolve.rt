@@ -7,7 +7,7 @@ ghost use Rattle.fancy_grammar.specs.Items.{items, openings};
 ghost use Rattle.fancy_grammar.specs.Marks.{marks};
 ghost use Rattle.fancy_grammar.specs.Fails.{IsErrorIn};
 ghost use Rattle.fancy_syntax.specs.Answer.{marks_of};
-ghost use Rattle.fancy_syntax.specs.Notes.{known_of, progress_of, marks_found};
+ghost use Rattle.fancy_syntax.specs.Notes.{known_of, progress_of, marks_found, has_items};
 ghost use Rattle.fancy_grammar.specs.Ordered.{Ascends};
 ghost use Rattle.fancy_grammar.specs.Resolved.{resolved, fault_of};
 ghost use Rattle.fancy_grammar.specs.Walk.{noted, nothing_noted, rebuilt};
@@ -20,7 +20,7 @@ mod survey;
 use crate::expr::Expr;
 use crate::resolve::notes::{Known, Progress};
 use crate::resolve::rewrite::rewrite;
-use crate::resolve::survey::survey;
+use crate::resolve::survey::{Found, survey};
 use crate::tree::ExprTree;
 use fancy_lex::error::{Error, Result};
 use fancy_lex::flags::Flags;
@@ -35,17 +35,18 @@ pub(crate) fn resolve(alloc: Global, raw: Expr, pattern: &str, flags: Flags) -> 
     ensures no_fault { IfOk result (λ _. fault_of flags (view raw) ≡ None) }
     ensures fault { IfErr result (λ e. IsErrorIn e (fault_of flags (view raw))) }
 {
-    let Ok((named, groups)) = find_groups(alloc, &raw, flags.ignore_numbered_groups) else {
+    let Ok((named, found)) = find_groups(alloc, &raw, flags.ignore_numbered_groups) else {
         drop(raw);
         return Err(Error::OutOfMemory);
     };
+    let Found { groups, met } = found;
     let known = Known {
         pattern,
         named,
         groups,
     };
     let mut expr = raw;
-    let Ok(progress) = walk(alloc, &mut expr, &known) else {
+    let Ok(progress) = walk(alloc, &mut expr, &known, met) else {
         drop(known);
         drop(expr);
         return Err(Error::OutOfMemory);
@@ -89,15 +90,23 @@ fn answer(expr: Expr, named: bool, groups: Groups, progress: Progress) -> Result
     Err(Error::ParseError(place, kind))
 }
 
-/// Resolves the tree in its place, and answers what was noted on the way.
-fn walk(alloc: Global, tree: &mut Expr, known: &Known) -> std::result::Result<Progress, AllocError>
-    requires { length (openings (view tree.old)) < 2 ^ 63 }
+/// Resolves the tree in its place, and answers what was noted on the way. A tree where nothing was met is not walked.
+fn walk(
+    alloc: Global,
+    tree: &mut Expr,
+    known: &Known,
+    met: bool,
+) -> std::result::Result<Progress, AllocError>
+    requires room { length (openings (view tree.old)) < 2 ^ 63 }
+    requires met { met ≡ has_items (items (view tree.old)) }
     ensures tree { IfOk result (λ _. view tree.new ≡ rebuilt (known_of known.now) nothing_noted (view tree.old)) }
     ensures progress { IfOk result
         (λ p. progress_of p ≡ noted (known_of known.now) nothing_noted (items (view tree.old))) }
 {
     let mut progress = Progress::new(alloc);
-    rewrite(tree, known, &mut progress)?;
+    if met {
+        rewrite(tree, known, &mut progress)?;
+    }
     Ok(progress)
 }
 
@@ -106,21 +115,26 @@ fn find_groups(
     alloc: Global,
     tree: &Expr,
     ignore: bool,
-) -> std::result::Result<(bool, Groups), AllocError>
+) -> std::result::Result<(bool, Found), AllocError>
     requires { length (openings (view tree.now)) < 2 ^ 63 }
     ensures named { IfOk result (λ p. p.0 ≡ (ignore && list_any is_named (openings (view tree.now)))) }
-    ensures total { IfOk result (λ p. p.1.total ≡ length (counted_in p.0 (openings (view tree.now)))) }
+    ensures total { IfOk result (λ p. p.1.groups.total ≡ length (counted_in p.0 (openings (view tree.now)))) }
     ensures names { IfOk result
-        (λ p. (groups_of p.1).names ≡ named_groups (counted_in p.0 (openings (view tree.now)))) }
+        (λ p. (groups_of p.1.groups).names ≡ named_groups (counted_in p.0 (openings (view tree.now)))) }
+    ensures met { IfOk result (λ p. p.1.met ≡ has_items (items (view tree.now))) }
 {
-    let mut groups = Groups::new(alloc);
-    survey(alloc, tree, ignore, &mut groups)?;
+    let mut found = Found::new(alloc);
+    survey(alloc, tree, ignore, &mut found)?;
+    // Without a group, none has a name.
+    if !found.met {
+        return Ok((false, found));
+    }
     if ignore {
-        if groups.total == 0 {
-            let mut unnamed = Groups::new(alloc);
+        if found.groups.total == 0 {
+            let mut unnamed = Found::new(alloc);
             survey(alloc, tree, false, &mut unnamed)?;
             return Ok((false, unnamed));
         }
     }
-    Ok((ignore, groups))
+    Ok((ignore, found))
 }

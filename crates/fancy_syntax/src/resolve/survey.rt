@@ -1,16 +1,39 @@
-//! The first walk: the groups that have a number, and the numbers of each name.
-ghost use Rattle.std.specs.Prelude.{◌≡◌, ◌+◌, ◌<◌, ◌^◌, length, IfOk, option_map};
+//! The first walk: the groups that have a number, the numbers of each name, and whether there is anything to resolve.
+ghost use Rattle.std.specs.Prelude.{◌≡◌, ◌+◌, ◌<◌, ◌^◌, ◌||◌, false, length, IfOk, option_map};
 ghost use Rattle.fancy_lex.specs.Text.{text_of};
-ghost use Rattle.fancy_parts.specs.Groups.{groups_of};
+ghost use Rattle.fancy_parts.specs.Groups.{groups_of, no_groups};
 ghost use Rattle.fancy_parts.specs.Ranks.{is_counted};
 ghost use Rattle.fancy_grammar.specs.Items.{items, items_all, items_absent, items_ast, openings_in};
 ghost use Rattle.fancy_grammar.specs.Tree.{trees_of};
+ghost use Rattle.fancy_syntax.specs.Notes.{has_items};
 ghost use Rattle.fancy_syntax.specs.View.{view, view_absent, view_ast, views};
-ghost use Rattle.fancy_grammar.specs.Walk.{found};
+ghost use Rattle.fancy_grammar.specs.Walk as spec;
 
 use crate::expr::{Absent, AstNode, Expr};
 use fancy_parts::ranks::Groups;
 use std::alloc::{AllocError, Global};
+
+/// What the first walk has found.
+#[derive(Debug, Drop)]
+pub(super) struct Found {
+    /// The groups that have a number.
+    pub groups: Groups,
+    /// A capturing group or a reference was met, for the second walk to resolve.
+    pub met: bool,
+}
+
+impl Found {
+    /// No groups, and nothing met.
+    pub fn new(alloc: Global) -> Found
+        ensures groups { groups_of result.groups ≡ no_groups }
+        ensures met { result.met ≡ false }
+    {
+        Found {
+            groups: Groups::new(alloc),
+            met: false,
+        }
+    }
+}
 
 /// Adds the groups of the tree, in text order; with `named` those alone that have a name.
 #[cycle(survey)]
@@ -18,31 +41,32 @@ pub(super) fn survey(
     alloc: Global,
     tree: &Expr,
     named: bool,
-    groups: &mut Groups,
+    found: &mut Found,
 ) -> Result<(), AllocError>
-    requires { groups.old.total + length (openings_in (items (view tree.now))) < 2 ^ 63 }
+    requires { found.old.groups.total + length (openings_in (items (view tree.now))) < 2 ^ 63 }
     ensures found { IfOk result
-        (λ _. groups_of groups.new ≡ found named (groups_of groups.old) (items (view tree.now))) }
+        (λ _. groups_of found.new.groups ≡ spec.found named (groups_of found.old.groups) (items (view tree.now))) }
+    ensures met { IfOk result (λ _. found.new.met ≡ (found.old.met || has_items (items (view tree.now)))) }
 {
     match tree {
-        Expr::Concat(parts) => survey_all(alloc, parts, named, groups),
-        Expr::Alt(branches) => survey_all(alloc, branches, named, groups),
-        Expr::Group(child) => survey(alloc, child, named, groups),
-        Expr::LookAround(child, _) => survey(alloc, child, named, groups),
-        Expr::Repeat { child, .. } => survey(alloc, child, named, groups),
-        Expr::AtomicGroup(child) => survey(alloc, child, named, groups),
+        Expr::Concat(parts) => survey_all(alloc, parts, named, found),
+        Expr::Alt(branches) => survey_all(alloc, branches, named, found),
+        Expr::Group(child) => survey(alloc, child, named, found),
+        Expr::LookAround(child, _) => survey(alloc, child, named, found),
+        Expr::Repeat { child, .. } => survey(alloc, child, named, found),
+        Expr::AtomicGroup(child) => survey(alloc, child, named, found),
         Expr::Conditional {
             condition,
             true_branch,
             false_branch,
         } => {
-            survey(alloc, condition, named, groups)?;
-            survey(alloc, true_branch, named, groups)?;
-            survey(alloc, false_branch, named, groups)
+            survey(alloc, condition, named, found)?;
+            survey(alloc, true_branch, named, found)?;
+            survey(alloc, false_branch, named, found)
         }
-        Expr::Absent(absent) => survey_absent(alloc, absent, named, groups),
-        Expr::DefineGroup { definitions } => survey(alloc, definitions, named, groups),
-        Expr::AstNode(node, place) => survey_node(alloc, node, *place, named, groups),
+        Expr::Absent(absent) => survey_absent(alloc, absent, named, found),
+        Expr::DefineGroup { definitions } => survey(alloc, definitions, named, found),
+        Expr::AstNode(node, place) => survey_node(alloc, node, *place, named, found),
         _ => Ok(()),
     }
 }
@@ -64,18 +88,22 @@ fn survey_node(
     node: &AstNode,
     place: usize,
     named: bool,
-    groups: &mut Groups,
+    found: &mut Found,
 ) -> Result<(), AllocError>
-    requires { groups.old.total + length (openings_in (items_ast (view_ast node.now) place)) < 2 ^ 63 }
+    requires { found.old.groups.total + length (openings_in (items_ast (view_ast node.now) place)) < 2 ^ 63 }
     ensures found { IfOk result
-        (λ _. groups_of groups.new ≡ found named (groups_of groups.old) (items_ast (view_ast node.now) place)) }
+        (λ _. groups_of found.new.groups
+        ≡ spec.found named (groups_of found.old.groups) (items_ast (view_ast node.now) place)) }
+    ensures met { IfOk result
+        (λ _. found.new.met ≡ (found.old.met || has_items (items_ast (view_ast node.now) place))) }
 {
+    found.met = true;
     match node {
         AstNode::AstGroup { name, inner } => {
             if is_counted_name(named, name) {
-                groups.add(alloc, name)?;
+                found.groups.add(alloc, name)?;
             }
-            survey(alloc, inner, named, groups)
+            survey(alloc, inner, named, found)
         }
         _ => Ok(()),
     }
@@ -88,19 +116,22 @@ fn survey_absent(
     alloc: Global,
     absent: &Absent,
     named: bool,
-    groups: &mut Groups,
+    found: &mut Found,
 ) -> Result<(), AllocError>
-    requires { groups.old.total + length (openings_in (items_absent (view_absent absent.now))) < 2 ^ 63 }
+    requires { found.old.groups.total + length (openings_in (items_absent (view_absent absent.now))) < 2 ^ 63 }
     ensures found { IfOk result
-        (λ _. groups_of groups.new ≡ found named (groups_of groups.old) (items_absent (view_absent absent.now))) }
+        (λ _. groups_of found.new.groups
+        ≡ spec.found named (groups_of found.old.groups) (items_absent (view_absent absent.now))) }
+    ensures met { IfOk result
+        (λ _. found.new.met ≡ (found.old.met || has_items (items_absent (view_absent absent.now)))) }
 {
     match absent {
-        Absent::Repeater(child) => survey(alloc, child, named, groups),
+        Absent::Repeater(child) => survey(alloc, child, named, found),
         Absent::Expression { absent, exp } => {
-            survey(alloc, absent, named, groups)?;
-            survey(alloc, exp, named, groups)
+            survey(alloc, absent, named, found)?;
+            survey(alloc, exp, named, found)
         }
-        Absent::Stopper(child) => survey(alloc, child, named, groups),
+        Absent::Stopper(child) => survey(alloc, child, named, found),
         Absent::Clear => Ok(()),
     }
 }
@@ -112,15 +143,17 @@ fn survey_all(
     alloc: Global,
     trees: &[Expr],
     named: bool,
-    groups: &mut Groups,
+    found: &mut Found,
 ) -> Result<(), AllocError>
-    requires { groups.old.total + length (openings_in (items_all (trees_of (views trees.now)))) < 2 ^ 63 }
+    requires { found.old.groups.total + length (openings_in (items_all (trees_of (views trees.now)))) < 2 ^ 63 }
     ensures found { IfOk result
-        (λ _. groups_of groups.new
-        ≡ found named (groups_of groups.old) (items_all (trees_of (views trees.now)))) }
+        (λ _. groups_of found.new.groups
+        ≡ spec.found named (groups_of found.old.groups) (items_all (trees_of (views trees.now)))) }
+    ensures met { IfOk result
+        (λ _. found.new.met ≡ (found.old.met || has_items (items_all (trees_of (views trees.now))))) }
 {
     for tree in trees {
-        survey(alloc, tree, named, groups)?;
+        survey(alloc, tree, named, found)?;
     }
     Ok(())
 }

@@ -20,13 +20,13 @@ pub find_groups-requires : goal.find_groups-requires
 find_groups-requires c =
     omega (arith, openings_fit 0 (length c.args.pattern.now) (items (view c.args.raw)) c.requires)
 
-pub walk-requires : goal.walk-requires
-walk-requires c =
+pub walk-requires-clause-room : goal.walk-requires-clause-room
+walk-requires-clause-room c =
     omega (arith, openings_fit 0 (length c.args.pattern.now) (items (view c.args.raw)) c.requires)
 
 pub returns-clause-tree : goal.returns-clause-tree
 returns-clause-tree c =
-    let f = c.args.flags in let r = view c.args.raw in let groups = groups_of c.in-Ok.groups in
+    let f = c.args.flags in let r = view c.args.raw in let groups = groups_of c.in-Ok.found.groups in
     let k : Known = record { text = chars c.args.pattern.now; named = c.in-Ok.named; groups = groups } in
     let found = rw c.in-Ok.is at c.find_groups.ensures in
     let suits = known_suits f r k (length c.args.pattern.now) found.named found.total found.names c.requires in
@@ -35,7 +35,7 @@ returns-clause-tree c =
 
 pub returns-clause-marks : goal.returns-clause-marks
 returns-clause-marks c =
-    let f = c.args.flags in let r = view c.args.raw in let groups = groups_of c.in-Ok.groups in
+    let f = c.args.flags in let r = view c.args.raw in let groups = groups_of c.in-Ok.found.groups in
     let k : Known = record { text = chars c.args.pattern.now; named = c.in-Ok.named; groups = groups } in
     let found = rw c.in-Ok.is at c.find_groups.ensures in
     let suits = known_suits f r k (length c.args.pattern.now) found.named found.total found.names c.requires in
@@ -45,7 +45,7 @@ returns-clause-marks c =
 
 pub returns-clause-no_fault : goal.returns-clause-no_fault
 returns-clause-no_fault c =
-    let f = c.args.flags in let r = view c.args.raw in let groups = groups_of c.in-Ok.groups in
+    let f = c.args.flags in let r = view c.args.raw in let groups = groups_of c.in-Ok.found.groups in
     let k : Known = record { text = chars c.args.pattern.now; named = c.in-Ok.named; groups = groups } in
     let found = rw c.in-Ok.is at c.find_groups.ensures in
     let suits = known_suits f r k (length c.args.pattern.now) found.named found.total found.names c.requires in
@@ -56,7 +56,7 @@ returns-clause-no_fault c =
 
 pub returns-clause-fault : goal.returns-clause-fault
 returns-clause-fault c =
-    let f = c.args.flags in let r = view c.args.raw in let groups = groups_of c.in-Ok.groups in
+    let f = c.args.flags in let r = view c.args.raw in let groups = groups_of c.in-Ok.found.groups in
     let k : Known = record { text = chars c.args.pattern.now; named = c.in-Ok.named; groups = groups } in
     let found = rw c.in-Ok.is at c.find_groups.ensures in
     let suits = known_suits f r k (length c.args.pattern.now) found.named found.total found.names c.requires in

@@ -1,11 +1,13 @@
-use Rattle.std.proofs.Common.{arith, rules, ◌≡◌, ◌+◌, ◌++◌, ap, sym, ◌∙◌, refl}
+use Rattle.std.proofs.Common.{arith, rules, ◌≡◌, ◌+◌, ◌++◌, ◌||◌, ap, sym, ◌∙◌, refl}
 use Rattle.fancy_parts.specs.Groups.{groups_of}
 use Rattle.fancy_grammar.specs.Items.{items}
 use Rattle.fancy_syntax.specs.View.{view}
 use Rattle.fancy_grammar.specs.Walk.{found}
 use Rattle.fancy_syntax.specs.declared.expr.Expr.{the_lemmas}
 use Rattle.fancy_syntax.proofs.PartLemmas.{two_parts, three_parts, two_count, three_count, two_found, three_found}
-use Rattle.fancy_syntax.proofs.PartLemmas.{third_found}
+use Rattle.fancy_syntax.proofs.PartLemmas.{third_found, two_met, three_met}
+use Rattle.fancy_syntax.specs.Notes.{has_items}
+use Rattle.fancy_syntax.proofs.NoItems.{met_append}
 use Rattle.fancy_syntax.proofs.WalkLemmas.{found_append, found_le, count_two, rest, rest_next}
 use Rattle.fancy_syntax.proofs.resolve.survey.+survey.Goals as goal
 
@@ -29,6 +31,20 @@ survey-survey-requires-in-Conditional-3 t c =
     let room = third_found c.args.named _ _ _ parts before.found behind.found in
     (search (rules, the_lemmas), omega arith)
 
+pub survey-returns-in_ok-survey-in-Conditional-2-clause-met :
+    goal.survey-returns-in_ok-survey-in-Conditional-2-clause-met
+survey-returns-in_ok-survey-in-Conditional-2-clause-met t c =
+    let first = c.deref-in-Conditional.ensures in let second = c.deref-in-Conditional-2.ensures in
+    let parts = three_parts c.in-Conditional.is first second c.deref-in-Conditional-3.ensures in
+    let before = c.in_ok-survey-in-Conditional.ensures in let behind = c.in_ok-survey-in-Conditional-2.ensures in
+    rw (three_met _ _ _ parts before.met behind.met) c.survey-in-Conditional-3.ensures.met
+
+pub survey_absent-returns-in_ok-survey-in-Expression-clause-met :
+    goal.survey_absent-returns-in_ok-survey-in-Expression-clause-met
+survey_absent-returns-in_ok-survey-in-Expression-clause-met t c =
+    let parts = two_parts c.in-Expression.is c.deref-in-Expression.ensures c.deref-in-Expression-2.ensures in
+    rw (two_met _ _ parts c.in_ok-survey-in-Expression.ensures.met) c.survey-in-Expression-2.ensures.met
+
 pub survey_absent-survey-requires-in-Expression : goal.survey_absent-survey-requires-in-Expression
 survey_absent-survey-requires-in-Expression t c =
     let parts = two_parts c.in-Expression.is c.deref-in-Expression.ensures refl in
@@ -51,10 +67,13 @@ pub survey_all-loop-tree-preserved : goal.survey_all-loop-tree-preserved
 survey_all-loop-tree-preserved t c =
     let es = c.args.trees.now in let i = c.loop-tree.tree-index in let l = items (view c.tree-item.result) in
     let step : rest es i ≡ l ++ rest es (i + 1) = rest_next es i c.tree-item.result (omega arith) (cc) in
-    let now = c.in_ok-survey.ensures.found in (
-      rw now
-          (sym (found_append c.args.named (groups_of c.loop-tree.groups) l (rest es (i + 1)))
-          ∙ ap (found c.args.named (groups_of c.loop-tree.groups)) (sym step) ∙ c.loop-tree.invariant.0),
-      let total = found_le c.args.named (groups_of c.loop-tree.groups) (groups_of c.survey.new.groups) l now in
+    let before = c.loop-tree.found in let now = c.in_ok-survey.ensures in (
+      rw now.found
+          (sym (found_append c.args.named (groups_of before.groups) l (rest es (i + 1)))
+          ∙ ap (found c.args.named (groups_of before.groups)) (sym step) ∙ c.loop-tree.invariant.0),
+      let total = found_le c.args.named (groups_of before.groups) (groups_of c.survey.new.found.groups) l now.found in
           omega (arith, count_two (rest es i) l (rest es (i + 1)) step, total, c.loop-tree.invariant.1),
+      rw now.met
+          (sym (met_append before.met l (rest es (i + 1))) ∙ ap (λ m. before.met || has_items m) (sym step)
+          ∙ c.loop-tree.invariant.2),
     )

@@ -1,0 +1,19 @@
+use Rattle.std.proofs.Common.{sym, ap, ◌∙◌}
+use Rattle.fancy_grammar.specs.Items.{items}
+use Rattle.fancy_grammar.specs.Walk.{nothing_noted, rebuilt}
+use Rattle.fancy_syntax.specs.Notes.{known_of}
+use Rattle.fancy_syntax.specs.View.{view}
+use Rattle.fancy_syntax.proofs.NoItems.{no_items, rebuilt_same}
+use Rattle.fancy_syntax.proofs.resolve.walk.Goals as goal
+use Rattle.fancy_syntax.proofs.resolve.walk.Goals.{then-met+in_ok-rewrite, else-met}
+
+pub returns-clause-tree : goal.returns-clause-tree
+returns-clause-tree c =
+    let t = view c.args.tree.now in let k = known_of c.args.known.now in
+    elim c.if-met.branch [
+      | then-met+in_ok-rewrite w ↦
+          ap view w.tree-is ∙ w.in_ok-rewrite.ensures.tree ∙ ap (λ s. rebuilt k s t) c.new-progress.ensures
+      | else-met w ↦
+          let none = no_items (items t) (sym c.requires.met ∙ w.if-met.false) in
+          ap view w.tree-is ∙ sym (rebuilt_same k nothing_noted t none)
+    ]
