@@ -57,16 +57,12 @@ pub(crate) fn read_step<'a>(
     let before = *here;
     match read_atom_start(alloc, here, depth, end)? {
         Ahead::Nothing => piece(alloc, Expr::Empty, here, left, depth, end),
-        Ahead::Leaf(mut atom) => {
-            // As `piece` does, but in its place, and mostly no quantifier follows: this saves two calls for each leaf.
+        Ahead::Leaf(atom) => {
+            // Mostly no quantifier follows: this saves a call for each leaf.
             if is_unquantified(*here) {
                 return Ok(Step::Piece(atom));
             }
-            if let Err(fault) = quantify(alloc, &mut atom, here, left, depth, end) {
-                drop(atom);
-                return Err(fault);
-            }
-            Ok(Step::Piece(atom))
+            piece(alloc, atom, here, left, depth, end)
         }
         Ahead::Group(head) => Ok(Step::Open(Opener::Group {
             head,
@@ -82,7 +78,7 @@ pub(crate) fn read_step<'a>(
 }
 
 /// Reads the quantifiers of an atom.
-#[inline]
+#[inline(never)]
 fn piece<'a>(
     alloc: Global,
     atom: Expr,

@@ -32,18 +32,10 @@ returns-then-is_unquantified-clause-value c =
     (atom (rw c.in-Leaf.is at c.in_ok-read_atom_start.ensures.value) a_leaf refl)
     (c.is_unquantified.ensures c.if-is_unquantified.true _ _ _ _)
 
-pub returns-in_default-clause-value : goal.returns-in_default-clause-value
-returns-in_default-clause-value c =
-    steps_piece (state c.args.here.now) (Ok (step.Piece _)) _ c.byte_len-left.ensures c.in_ok-here.ensures.value
-    (atom (rw c.in-Leaf.is at c.in_ok-read_atom_start.ensures.value) a_leaf refl)
-    (rw c.in_default.is at c.quantify.ensures.value)
-
-pub returns-in-Err-clause-value : goal.returns-in-Err-clause-value
-returns-in-Err-clause-value c =
-    steps_piece (state c.args.here.now) (Err c.in-Err.fault) (state c.args.here.now) c.byte_len-left.ensures
-    c.in_ok-here.ensures.value
-    (atom (rw c.in-Leaf.is at c.in_ok-read_atom_start.ensures.value) a_leaf refl)
-    (rw c.in-Err.is at c.quantify.ensures.value)
+pub returns-else-is_unquantified-clause-value : goal.returns-else-is_unquantified-clause-value
+returns-else-is_unquantified-clause-value c =
+    steps_piece (state c.args.here.now) _ _ c.byte_len-left.ensures c.in_ok-here.ensures.value
+    (atom (rw c.in-Leaf.is at c.in_ok-read_atom_start.ensures.value) a_leaf refl) c.piece-in-Leaf.ensures.value
 
 pub returns-in-Nothing-clause-value : goal.returns-in-Nothing-clause-value
 returns-in-Nothing-clause-value c =
