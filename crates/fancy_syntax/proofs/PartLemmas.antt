@@ -1,6 +1,8 @@
 -- The items of the nodes that have several children.
 use Rattle.std.proofs.Common.{◌≡◌, ◌+◌, ◌≤◌, ◌++◌, ◌||◌, List, Bool, arith, length, ap, sym, ◌∙◌, rules, Box, Global}
+use Rattle.fancy_lex.specs.declared.error.Error.{Error}
 use Rattle.fancy_parts.specs.Groups.{Groups}
+use Rattle.fancy_grammar.specs.Fails.{IsErrorIn}
 use Rattle.fancy_grammar.specs.Items.{Item, items, items_absent, openings_in}
 use Rattle.fancy_grammar.specs.Tree.{conditional, expression}
 use Rattle.fancy_syntax.specs.Notes.{has_items}
@@ -10,7 +12,7 @@ use Rattle.fancy_syntax.specs.declared.expr.Absent.{Absent, Expression}
 use Rattle.fancy_syntax.specs.declared.expr.Expr.{Expr, Conditional, the_lemmas}
 use Rattle.fancy_grammar.proofs.ItemLemmas.{length_openings}
 use Rattle.fancy_syntax.proofs.NoItems.{met_append}
-use Rattle.fancy_syntax.proofs.WalkLemmas.{found_le, noted_le}
+use Rattle.fancy_syntax.proofs.WalkLemmas.{found_le, noted_le, noted_append, error_kept}
 
 -- the items are those of two trees, or of three
 pub record Two (l : List Item) (x y : Expr) : Type 0 where
@@ -95,6 +97,17 @@ pub third_noted : {l : List Item} {x y z : Expr} (k : Known) (r s t : Progress) 
     t ≡ noted k s (items (view y)) →
     t.passed + length (openings_in (items (view z))) ≤ r.passed + length (openings_in l)
 third_noted {x} {y} k r s t p e f = omega (arith, three_noted k r s p e, noted_le k s t (items (view y)) f)
+
+-- the error of a walk over one of the parts is that of the walk over all
+
+pub three_error : {l : List Item} {x y z : Expr} (k : Known) (r : Progress) (e : Error) → Three l x y z →
+    IsErrorIn e (noted k r (items (view x))).fault → IsErrorIn e (noted k r l).fault
+three_error {x} k r e p h = rw p.is (error_kept k r e (items (view x)) _ h)
+
+pub third_error : {l : List Item} {x y z : Expr} (k : Known) (r s : Progress) (e : Error) → Three l x y z →
+    s ≡ noted k r (items (view x)) → IsErrorIn e (noted k s (items (view y))).fault → IsErrorIn e (noted k r l).fault
+third_error {x} {y} {z} k r s e p f h =
+    rw (p.is, noted_append k r (items (view x)) _, ← f) (error_kept k s e (items (view y)) (items (view z)) h)
 
 -- a walk meets an item where one of the parts has one
 

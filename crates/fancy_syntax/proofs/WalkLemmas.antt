@@ -1,13 +1,17 @@
 -- Walks over parts, one behind another.
 use Rattle.std.proofs.Common.{◌≡◌, ℕ, ◌+◌, ◌<◌, ◌≤◌, List, ◌++◌, Bool, true, false, length, refl, ap}
-use Rattle.std.proofs.Common.{◌∙◌, [], ◌∷◌, drop, drop-cons, get_or, add-one, take, set, sym, arith, zero, suc}
+use Rattle.std.proofs.Common.{◌∙◌, [], ◌∷◌, drop, drop-cons, get_or, add-one, take, set, sym, arith, zero, suc, Some}
 use Rattle.std.proofs.lemmas.Grind.{take-set_at}
 use Rattle.std.proofs.lemmas.List.{take_all}
 use Rattle.std.proofs.lemmas.List.{drop_all}
 use Rattle.std.proofs.lemmas.List.Sums.{fold-append}
+use Rattle.fancy_lex.specs.Fault.{Fault}
+use Rattle.fancy_lex.specs.declared.error.Error.{Error}
+use Rattle.fancy_lex.specs.declared.error.Error.TheVariants.{ParseError, OutOfMemory}
 use Rattle.fancy_parts.specs.Groups.{Groups, with_opening}
 use Rattle.fancy_parts.specs.Ranks.{Opening, is_counted}
 use Rattle.fancy_grammar.proofs.ItemLemmas.{length_openings}
+use Rattle.fancy_grammar.specs.Fails.{IsErrorIn}
 use Rattle.fancy_grammar.specs.Items.{Item, opening, reference, items, items_all, openings_in}
 use Rattle.fancy_grammar.specs.Tree.{Tree, trees_of, more_trees}
 use Rattle.fancy_syntax.specs.View.{view, views}
@@ -20,6 +24,18 @@ found_append named s a b = fold-append (find_item named) s a b
 
 pub noted_append : (k : Known) (s : Progress) (a b : List Item) → noted k s (a ++ b) ≡ noted k (noted k s a) b
 noted_append k s a b = fold-append (note_item k) s a b
+
+-- the first fault stays the first
+fault_kept : (k : Known) (s : Progress) (f : Fault) (l : List Item) → s.fault ≡ Some f → (noted k s l).fault ≡ Some f
+fault_kept k s f [] h = h
+fault_kept k s f (opening o ∷ l) h = fault_kept k (note_item k s (opening o)) f l h
+fault_kept k s f (reference r ∷ l) h = fault_kept k (note_item k s (reference r)) f l (rw h refl)
+
+pub error_kept : (k : Known) (s : Progress) (e : Error) (a b : List Item) → IsErrorIn e (noted k s a).fault →
+    IsErrorIn e (noted k s (a ++ b)).fault
+error_kept k s (ParseError place kind) a b h =
+    ap (λ (q : Progress). q.fault) (noted_append k s a b) ∙ fault_kept k (noted k s a) _ b h
+error_kept k s OutOfMemory a b h = tt
 
 -- a walk passes at most as many groups as there are openings
 

@@ -1,7 +1,5 @@
 -- How the resolver's own values stand to the definitions.
-use Rattle.std.specs.Prelude.{ℕ, ◌||◌, Bool, true, false, List, [], ◌∷◌, Option, None, chars, option_map}
-use Rattle.fancy_lex.specs.Fault.{Fault, kind_of}
-use Rattle.fancy_lex.specs.declared.error.ParseError as declared
+use Rattle.std.specs.Prelude.{ℕ, ◌||◌, Bool, true, false, List, [], ◌∷◌, Option, None, chars}
 use Rattle.fancy_lex.specs.Target.{view_target}
 use Rattle.fancy_lex.specs.declared.name.CaptureGroupTarget.{CaptureGroupTarget}
 use Rattle.fancy_parts.specs.Groups.{Groups, groups_of, meaning_of, role_of}
@@ -23,9 +21,7 @@ has_items (i ∷ l) = true
 abbrev pub known_of : Known → walk.Known
 known_of k = record { text = chars k.pattern.now; named = k.named; groups = groups_of k.groups }
 
-abbrev pub fault_at : ℕ × declared.ParseError → Fault
-fault_at (place, kind) = record { place = place; kind = kind_of kind }
-
+-- no fault is noted: the walk stops at the first
 abbrev pub progress_of : Progress → walk.Progress
 progress_of p = record {
   passed = p.passed;
@@ -34,7 +30,7 @@ progress_of p = record {
   numeric = p.numeric;
   calls = p.calls;
   self_recursive = p.self_recursive;
-  fault = option_map fault_at p.fault;
+  fault = None;
 }
 
 -- the number that a reference means to the walk, where it means one
@@ -62,7 +58,7 @@ meaning_noted k p place role m =
     record (progress_of p) {
       backrefs = walk.with_backref total p.backrefs.keys number;
       out_of_range = walk.or_else p.out_of_range (walk.beyond total number);
-      fault = walk.or_else (option_map fault_at p.fault) (fault_or (meaning_of m) place None);
+      fault = fault_or (meaning_of m) place None;
     }
 
 -- the marks that the end of the walk says, given the groups that have a number and whether these are the named ones

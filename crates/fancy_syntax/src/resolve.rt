@@ -46,20 +46,21 @@ pub(crate) fn resolve(alloc: Global, raw: Expr, pattern: &str, flags: Flags) -> 
         groups,
     };
     let mut expr = raw;
-    let Ok(progress) = walk(alloc, &mut expr, &known, met) else {
-        drop(known);
-        drop(expr);
-        return Err(Error::OutOfMemory);
+    let progress = match walk(alloc, &mut expr, &known, met) {
+        Ok(progress) => progress,
+        Err(error) => {
+            drop(known);
+            drop(expr);
+            return Err(error);
+        }
     };
-    answer(expr, known.named, known.groups, progress)
+    Ok(answer(expr, known.named, known.groups, progress))
 }
 
-/// The resolved tree with what is said of its groups and references, or the fault that was found first.
-fn answer(expr: Expr, named: bool, groups: Groups, progress: Progress) -> Result<ExprTree>
-    ensures tree { IfOk result (λ t. t.expr ≡ expr) }
-    ensures marks { IfOk result (λ t. marks_of t ≡ marks_found named (groups_of groups) (progress_of progress)) }
-    ensures no_fault { IfOk result (λ _. (progress_of progress).fault ≡ None) }
-    ensures fault { IfErr result (λ e. IsErrorIn e (progress_of progress).fault) }
+/// The resolved tree with what is said of its groups and references.
+fn answer(expr: Expr, named: bool, groups: Groups, progress: Progress) -> ExprTree
+    ensures tree { result.expr ≡ expr }
+    ensures marks { marks_of result ≡ marks_found named (groups_of groups) (progress_of progress) }
 {
     let Progress {
         backrefs,
@@ -67,41 +68,32 @@ fn answer(expr: Expr, named: bool, groups: Groups, progress: Progress) -> Result
         numeric,
         calls,
         self_recursive,
-        fault,
         ..
     } = progress;
     let Groups { total, names } = groups;
-    let Some((place, kind)) = fault else {
-        return Ok(ExprTree {
-            expr,
-            backrefs,
-            named_groups: names,
-            numeric_capture_group_references: numeric,
-            contains_subroutines: calls,
-            self_recursive,
-            total_groups: total,
-            out_of_range_backref: out_of_range,
-            numbered_groups_ignored: named,
-        });
-    };
-    drop(names);
-    drop(backrefs);
-    drop(expr);
-    Err(Error::ParseError(place, kind))
+    ExprTree {
+        expr,
+        backrefs,
+        named_groups: names,
+        numeric_capture_group_references: numeric,
+        contains_subroutines: calls,
+        self_recursive,
+        total_groups: total,
+        out_of_range_backref: out_of_range,
+        numbered_groups_ignored: named,
+    }
 }
 
-/// Resolves the tree in its place, and answers what was noted on the way. A tree where nothing was met is not walked.
-fn walk(
-    alloc: Global,
-    tree: &mut Expr,
-    known: &Known,
-    met: bool,
-) -> std::result::Result<Progress, AllocError>
+/// Resolves the tree in its place, and answers what was noted on the way, or the first fault. A tree where nothing was
+/// met is not walked.
+fn walk(alloc: Global, tree: &mut Expr, known: &Known, met: bool) -> Result<Progress>
     requires room { length (openings (view tree.old)) < 2 ^ 63 }
     requires met { met ≡ has_items (items (view tree.old)) }
     ensures tree { IfOk result (λ _. view tree.new ≡ rebuilt (known_of known.now) nothing_noted (view tree.old)) }
     ensures progress { IfOk result
         (λ p. progress_of p ≡ noted (known_of known.now) nothing_noted (items (view tree.old))) }
+    ensures fault { IfErr result
+        (λ e. IsErrorIn e (noted (known_of known.now) nothing_noted (items (view tree.old))).fault) }
 {
     let mut progress = Progress::new(alloc);
     if met {

@@ -1,14 +1,15 @@
 //! What the second walk knows, and what it notes of each reference.
-ghost use Rattle.std.specs.Prelude.{◌≡◌, ◌<◌, ◌^◌, IfOk};
+ghost use Rattle.std.specs.Prelude.{◌≡◌, ◌<◌, ◌^◌, IfOk, IfErr};
 ghost use Rattle.fancy_parts.specs.Groups.{meaning_of};
+ghost use Rattle.fancy_grammar.specs.Fails.{IsErrorIn};
 ghost use Rattle.fancy_syntax.specs.Notes.{progress_of, number_meant, noted_one, form_noted, meaning_noted};
 ghost use Rattle.fancy_grammar.specs.Walk.{nothing_noted, number_in};
 
-use fancy_lex::error::ParseError;
+use fancy_lex::error::{Error, Result};
 use fancy_lex::name::CaptureGroupTarget;
 use fancy_parts::ranks::{Groups, Meaning, Role, meaning_behind};
 use fancy_parts::written::is_numeric;
-use std::alloc::{AllocError, Global};
+use std::alloc::Global;
 use std::collections::BTreeSet;
 
 /// What is known when references are resolved.
@@ -37,8 +38,6 @@ pub(super) struct Progress {
     pub calls: bool,
     /// Some call by the number 0 is written.
     pub self_recursive: bool,
-    /// The first fault, with its place.
-    pub fault: Option<(usize, ParseError)>,
 }
 
 impl Progress {
@@ -53,23 +52,23 @@ impl Progress {
             numeric: false,
             calls: false,
             self_recursive: false,
-            fault: None,
         }
     }
 }
 
-/// Notes the reference, and answers the number that it means.
+/// Notes the reference, and answers the number that it means, or its fault.
 pub(super) fn refer(
     known: &Known,
     progress: &mut Progress,
     place: usize,
     role: Role,
     target: &CaptureGroupTarget,
-) -> Result<Option<usize>, AllocError>
+) -> Result<Option<usize>>
     requires { progress.old.passed < 2 ^ 63 }
     ensures number { IfOk result (λ n. n ≡ number_meant known.now progress.old role target.now) }
     ensures progress { IfOk result
         (λ _. progress_of progress.new ≡ noted_one known.now progress.old place role target.now) }
+    ensures fault { IfErr result (λ e. IsErrorIn e (noted_one known.now progress.old place role target.now).fault) }
     ensures passed { progress.new.passed ≡ progress.old.passed }
 {
     let meaning = meaning_behind(&known.groups, progress.passed, role, target)?;
@@ -99,17 +98,18 @@ fn note_form(
     }
 }
 
-/// Notes the number that the reference means, or its fault, and answers the number.
+/// Notes the number that the reference means, and answers it, or the fault.
 fn note_meaning(
     known: &Known,
     progress: &mut Progress,
     place: usize,
     role: Role,
     meaning: Meaning,
-) -> Result<Option<usize>, AllocError>
+) -> Result<Option<usize>>
     ensures number { IfOk result (λ n. n ≡ number_in (meaning_of meaning)) }
     ensures progress { IfOk result
         (λ _. progress_of progress.new ≡ meaning_noted known.now progress.old place role meaning) }
+    ensures fault { IfErr result (λ e. IsErrorIn e (meaning_noted known.now progress.old place role meaning).fault) }
     ensures passed { progress.new.passed ≡ progress.old.passed }
 {
     match meaning {
@@ -124,11 +124,6 @@ fn note_meaning(
             Ok(Some(number))
         }
         Meaning::Unresolved => Ok(None),
-        Meaning::Faulty(kind) => {
-            if progress.fault.is_none() {
-                progress.fault = Some((place, kind));
-            }
-            Ok(None)
-        }
+        Meaning::Faulty(kind) => Err(Error::ParseError(place, kind)),
     }
 }

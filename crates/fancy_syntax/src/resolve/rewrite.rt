@@ -1,7 +1,9 @@
-//! The second walk: each capturing group becomes a `Group`, and each reference what it means.
-ghost use Rattle.std.specs.Prelude.{◌≡◌, ◌+◌, ◌<◌, ◌^◌, length, IfOk};
+//! The second walk: each capturing group becomes a `Group`, and each reference what it means. It stops at the first
+//! fault.
+ghost use Rattle.std.specs.Prelude.{◌≡◌, ◌+◌, ◌<◌, ◌^◌, length, IfOk, IfErr};
 ghost use Rattle.fancy_lex.specs.Target.{view_target};
 ghost use Rattle.fancy_parts.specs.declared.ranks.Role.TheVariants as does;
+ghost use Rattle.fancy_grammar.specs.Fails.{IsErrorIn};
 ghost use Rattle.fancy_grammar.specs.Items.{items, items_all, items_absent, items_ast, openings_in};
 ghost use Rattle.fancy_syntax.specs.Notes.{known_of, progress_of, noted_one};
 ghost use Rattle.fancy_grammar.specs.Tree.{trees_of, ast_node, ast_backref, ast_call, ast_condition};
@@ -11,24 +13,23 @@ ghost use Rattle.fancy_grammar.specs.Walk.{noted, rebuilt, rebuilt_all, rebuilt_
 use crate::expr::{Absent, AstNode, Expr};
 use crate::resolve::notes::{Known, Progress, refer};
 use crate::resolve::survey::is_counted_name;
+use fancy_lex::error::Result;
 use fancy_lex::name::CaptureGroupTarget;
 use fancy_parts::ranks::Role;
-use std::alloc::AllocError;
 use std::mem;
 
-/// Resolves the tree in its place.
+/// Resolves the tree in its place, or answers the first fault of its references.
 #[cycle(rewrite)]
-pub(super) fn rewrite(
-    tree: &mut Expr,
-    known: &Known,
-    progress: &mut Progress,
-) -> Result<(), AllocError>
+pub(super) fn rewrite(tree: &mut Expr, known: &Known, progress: &mut Progress) -> Result<()>
     requires { progress.old.passed + length (openings_in (items (view tree.old))) < 2 ^ 63 }
     ensures tree { IfOk result
         (λ _. view tree.new ≡ rebuilt (known_of known.now) (progress_of progress.old) (view tree.old)) }
     ensures progress { IfOk result
         (λ _. progress_of progress.new
         ≡ noted (known_of known.now) (progress_of progress.old) (items (view tree.old))) }
+    ensures fault { IfErr result
+        (λ e. IsErrorIn e
+        (noted (known_of known.now) (progress_of progress.old) (items (view tree.old))).fault) }
 {
     match tree {
         Expr::Concat(parts) => rewrite_all(parts, known, progress),
@@ -66,18 +67,16 @@ pub(super) fn rewrite(
 /// The node that is read at the place, resolved: a capturing group, or a reference.
 #[cycle(rewrite)]
 #[inline(never)]
-fn resolve_node(
-    node: AstNode,
-    place: usize,
-    known: &Known,
-    progress: &mut Progress,
-) -> Result<Expr, AllocError>
+fn resolve_node(node: AstNode, place: usize, known: &Known, progress: &mut Progress) -> Result<Expr>
     requires { progress.old.passed + length (openings_in (items_ast (view_ast node) place)) < 2 ^ 63 }
     ensures tree { IfOk result
         (λ e. view e ≡ rebuilt (known_of known.now) (progress_of progress.old) (ast_node (view_ast node) place)) }
     ensures progress { IfOk result
         (λ _. progress_of progress.new
         ≡ noted (known_of known.now) (progress_of progress.old) (items_ast (view_ast node) place)) }
+    ensures fault { IfErr result
+        (λ e. IsErrorIn e
+        (noted (known_of known.now) (progress_of progress.old) (items_ast (view_ast node) place)).fault) }
 {
     match node {
         AstNode::AstGroup { name, mut inner } => {
@@ -118,12 +117,14 @@ fn resolve_backref(
     place: usize,
     known: &Known,
     progress: &mut Progress,
-) -> Result<Expr, AllocError>
+) -> Result<Expr>
     requires { progress.old.passed < 2 ^ 63 }
     ensures tree { IfOk result (λ e. view e ≡ rebuilt (known_of known.now) (progress_of progress.old)
         (ast_node (ast_backref (view_target target) casei relative_recursion_level) place)) }
     ensures progress { IfOk result
         (λ _. progress_of progress.new ≡ noted_one known.now progress.old place does.BackReference target) }
+    ensures fault { IfErr result
+        (λ e. IsErrorIn e (noted_one known.now progress.old place does.BackReference target).fault) }
 {
     match refer(known, progress, place, Role::BackReference, &target)? {
         Some(group) => match relative_recursion_level {
@@ -151,12 +152,14 @@ fn resolve_call(
     place: usize,
     known: &Known,
     progress: &mut Progress,
-) -> Result<Expr, AllocError>
+) -> Result<Expr>
     requires { progress.old.passed < 2 ^ 63 }
     ensures tree { IfOk result (λ e. view e ≡ rebuilt (known_of known.now) (progress_of progress.old)
         (ast_node (ast_call (view_target target)) place)) }
     ensures progress { IfOk result
         (λ _. progress_of progress.new ≡ noted_one known.now progress.old place does.Call target) }
+    ensures fault { IfErr result
+        (λ e. IsErrorIn e (noted_one known.now progress.old place does.Call target).fault) }
 {
     match refer(known, progress, place, Role::Call, &target)? {
         Some(group) => Ok(Expr::SubroutineCall(group)),
@@ -171,12 +174,14 @@ fn resolve_condition(
     place: usize,
     known: &Known,
     progress: &mut Progress,
-) -> Result<Expr, AllocError>
+) -> Result<Expr>
     requires { progress.old.passed < 2 ^ 63 }
     ensures tree { IfOk result (λ e. view e ≡ rebuilt (known_of known.now) (progress_of progress.old)
         (ast_node (ast_condition (view_target target) relative_recursion_level) place)) }
     ensures progress { IfOk result
         (λ _. progress_of progress.new ≡ noted_one known.now progress.old place does.Condition target) }
+    ensures fault { IfErr result
+        (λ e. IsErrorIn e (noted_one known.now progress.old place does.Condition target).fault) }
 {
     match refer(known, progress, place, Role::Condition, &target)? {
         Some(group) => Ok(Expr::BackrefExistsCondition {
@@ -196,11 +201,7 @@ fn resolve_condition(
 /// Resolves the trees in the node.
 #[cycle(rewrite)]
 #[inline(never)]
-fn rewrite_absent(
-    absent: &mut Absent,
-    known: &Known,
-    progress: &mut Progress,
-) -> Result<(), AllocError>
+fn rewrite_absent(absent: &mut Absent, known: &Known, progress: &mut Progress) -> Result<()>
     requires { progress.old.passed + length (openings_in (items_absent (view_absent absent.old))) < 2 ^ 63 }
     ensures tree { IfOk result
         (λ _. view_absent absent.new
@@ -208,6 +209,9 @@ fn rewrite_absent(
     ensures progress { IfOk result
         (λ _. progress_of progress.new
         ≡ noted (known_of known.now) (progress_of progress.old) (items_absent (view_absent absent.old))) }
+    ensures fault { IfErr result
+        (λ e. IsErrorIn e
+        (noted (known_of known.now) (progress_of progress.old) (items_absent (view_absent absent.old))).fault) }
 {
     match absent {
         Absent::Repeater(child) => rewrite_child(child, known, progress),
@@ -223,17 +227,16 @@ fn rewrite_absent(
 /// Resolves the tree in its box.
 #[cycle(rewrite)]
 #[inline(never)]
-fn rewrite_child(
-    child: &mut Box<Expr>,
-    known: &Known,
-    progress: &mut Progress,
-) -> Result<(), AllocError>
+fn rewrite_child(child: &mut Box<Expr>, known: &Known, progress: &mut Progress) -> Result<()>
     requires { progress.old.passed + length (openings_in (items (view child.old.value))) < 2 ^ 63 }
     ensures tree { IfOk result
         (λ _. view child.new.value ≡ rebuilt (known_of known.now) (progress_of progress.old) (view child.old.value)) }
     ensures progress { IfOk result
         (λ _. progress_of progress.new
         ≡ noted (known_of known.now) (progress_of progress.old) (items (view child.old.value))) }
+    ensures fault { IfErr result
+        (λ e. IsErrorIn e
+        (noted (known_of known.now) (progress_of progress.old) (items (view child.old.value))).fault) }
 {
     rewrite(&mut **child, known, progress)
 }
@@ -241,11 +244,7 @@ fn rewrite_child(
 /// Resolves the trees in their places, from the first on.
 #[cycle(rewrite)]
 #[inline(never)]
-fn rewrite_all(
-    trees: &mut Vec<Expr>,
-    known: &Known,
-    progress: &mut Progress,
-) -> Result<(), AllocError>
+fn rewrite_all(trees: &mut Vec<Expr>, known: &Known, progress: &mut Progress) -> Result<()>
     requires { progress.old.passed + length (openings_in (items_all (trees_of (views trees.old.items)))) < 2 ^ 63 }
     ensures tree { IfOk result
         (λ _. trees_of (views trees.new.items)
@@ -253,6 +252,9 @@ fn rewrite_all(
     ensures progress { IfOk result
         (λ _. progress_of progress.new
         ≡ noted (known_of known.now) (progress_of progress.old) (items_all (trees_of (views trees.old.items)))) }
+    ensures fault { IfErr result
+        (λ e. IsErrorIn e
+        (noted (known_of known.now) (progress_of progress.old) (items_all (trees_of (views trees.old.items)))).fault) }
 {
     for i in 0..trees.len() {
         rewrite(&mut trees[i], known, progress)?;

@@ -1,4 +1,4 @@
-use Rattle.std.proofs.Common.{Result, Ok, Err, IfOk, IfErr, arith, chars, length, ap, sym, subst, ◌∙◌}
+use Rattle.std.proofs.Common.{arith, chars, length, ap, sym, subst, ◌∙◌}
 use Rattle.fancy_parts.specs.Groups.{groups_of}
 use Rattle.fancy_grammar.specs.Fails.{IsErrorIn}
 use Rattle.fancy_grammar.specs.Items.{items}
@@ -7,14 +7,6 @@ use Rattle.fancy_grammar.specs.Walk.{Known, Progress}
 use Rattle.fancy_grammar.proofs.AnswerLaws.{known_suits, marks_noted, law_tree, law_fault, law_marks}
 use Rattle.fancy_grammar.proofs.OrderLaws.{openings_fit}
 use Rattle.fancy_syntax.proofs.resolve.resolve.Goals as goal
-
-on_ok : {X Y : Type 0} {P Q : X → Type 0} (r : Result X Y) → ((x : X) → P x → Q x) → IfOk r P → IfOk r Q
-on_ok (Ok x) f h = f x h
-on_ok (Err e) f h = tt
-
-on_err : {X Y : Type 0} {P Q : Y → Type 0} (r : Result X Y) → ((y : Y) → P y → Q y) → IfErr r P → IfErr r Q
-on_err (Ok x) f h = tt
-on_err (Err e) f h = f e h
 
 pub find_groups-requires : goal.find_groups-requires
 find_groups-requires c =
@@ -31,7 +23,7 @@ returns-clause-tree c =
     let found = rw c.in-Ok.is at c.find_groups.ensures in
     let suits = known_suits f r k (length c.args.pattern.now) found.named found.total found.names c.requires in
     let walked = rw c.in-Ok-walk.is at c.walk.ensures in
-    on_ok c.answer.result (λ t is. ap view is ∙ walked.tree ∙ law_tree f r k suits) c.answer.ensures.tree
+    ap view c.answer.ensures.tree ∙ walked.tree ∙ law_tree f r k suits
 
 pub returns-clause-marks : goal.returns-clause-marks
 returns-clause-marks c =
@@ -40,8 +32,7 @@ returns-clause-marks c =
     let found = rw c.in-Ok.is at c.find_groups.ensures in
     let suits = known_suits f r k (length c.args.pattern.now) found.named found.total found.names c.requires in
     let walked = rw c.in-Ok-walk.is at c.walk.ensures in
-    on_ok c.answer.result (λ t are. are ∙ ap (marks_noted k) walked.progress ∙ law_marks f r k suits)
-    c.answer.ensures.marks
+    c.answer.ensures.marks ∙ ap (marks_noted k) walked.progress ∙ law_marks f r k suits
 
 pub returns-clause-no_fault : goal.returns-clause-no_fault
 returns-clause-no_fault c =
@@ -50,17 +41,13 @@ returns-clause-no_fault c =
     let found = rw c.in-Ok.is at c.find_groups.ensures in
     let suits = known_suits f r k (length c.args.pattern.now) found.named found.total found.names c.requires in
     let walked = rw c.in-Ok-walk.is at c.walk.ensures in
-    on_ok c.answer.result (λ t none. sym (law_fault f r k suits) ∙ sym (ap (λ (p : Progress). p.fault) walked.progress)
-    ∙ none)
-    c.answer.ensures.no_fault
+    sym (law_fault f r k suits) ∙ sym (ap (λ (p : Progress). p.fault) walked.progress)
 
-pub returns-clause-fault : goal.returns-clause-fault
-returns-clause-fault c =
+pub returns-in-Err-clause-fault : goal.returns-in-Err-clause-fault
+returns-in-Err-clause-fault c =
     let f = c.args.flags in let r = view c.args.raw in let groups = groups_of c.in-Ok.found.groups in
     let k : Known = record { text = chars c.args.pattern.now; named = c.in-Ok.named; groups = groups } in
     let found = rw c.in-Ok.is at c.find_groups.ensures in
     let suits = known_suits f r k (length c.args.pattern.now) found.named found.total found.names c.requires in
-    let walked = rw c.in-Ok-walk.is at c.walk.ensures in
-    on_err c.answer.result
-    (λ e is. subst (IsErrorIn e) (ap (λ (p : Progress). p.fault) walked.progress ∙ law_fault f r k suits) is)
-    c.answer.ensures.fault
+    let walked = rw c.in-Err.is at c.walk.ensures in
+    subst (IsErrorIn c.in-Err.error) (law_fault f r k suits) walked.fault

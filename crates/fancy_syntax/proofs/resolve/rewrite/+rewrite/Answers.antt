@@ -6,8 +6,8 @@ use Rattle.fancy_syntax.specs.View.{view, views}
 use Rattle.fancy_grammar.specs.Walk.{noted}
 use Rattle.fancy_syntax.specs.declared.expr.Expr.{Expr, the_lemmas}
 use Rattle.fancy_syntax.proofs.PartLemmas.{two_parts, three_lent, two_count, three_count, two_noted, three_noted}
-use Rattle.fancy_syntax.proofs.PartLemmas.{third_noted}
-use Rattle.fancy_syntax.proofs.WalkLemmas.{noted_append, noted_le, count_two, rest, rest_next, rebuilt_list}
+use Rattle.fancy_syntax.proofs.PartLemmas.{third_noted, three_error, third_error}
+use Rattle.fancy_syntax.proofs.WalkLemmas.{noted_append, noted_le, error_kept, count_two, rest, rest_next, rebuilt_list}
 use Rattle.fancy_syntax.proofs.WalkLemmas.{front_rebuilt, rest_rebuilt, all_rebuilt}
 use Rattle.fancy_syntax.proofs.resolve.rewrite.+rewrite.Goals as goal
 
@@ -90,3 +90,43 @@ rewrite_all-returns-clause-tree t c =
     all_rebuilt (known_of c.args.known.now)
     (progress_of c.args.progress.now) c.args.trees.now.items c.loop-i.trees.items c.loop-i.i c.loop-i.invariant.0.0
     (omega arith) c.loop-i.invariant.3
+
+-- the walk stops at the first fault, which is that of the walk over all the parts
+
+pub rewrite-returns-in_err-rewrite_child-in-Conditional-clause-fault :
+    goal.rewrite-returns-in_err-rewrite_child-in-Conditional-clause-fault
+rewrite-returns-in_err-rewrite_child-in-Conditional-clause-fault t c =
+    let is = c.in-Conditional in
+    let parts = three_lent is.is is.condition-is is.true_branch-is is.false_branch-is in
+    let fault = c.in_err-rewrite_child-in-Conditional.ensures.fault in
+    let kept = three_error (known_of c.args.known.now) (progress_of c.args.progress.now) _ parts fault in
+    search rules
+
+pub rewrite-returns-in_err-rewrite_child-in-Conditional-2-clause-fault :
+    goal.rewrite-returns-in_err-rewrite_child-in-Conditional-2-clause-fault
+rewrite-returns-in_err-rewrite_child-in-Conditional-2-clause-fault t c =
+    let is = c.in-Conditional in
+    let parts = three_lent is.is is.condition-is is.true_branch-is is.false_branch-is in
+    let first = c.in_ok-rewrite_child-in-Conditional.ensures in
+    let fault = c.in_err-rewrite_child-in-Conditional-2.ensures.fault in
+    let kept = third_error (known_of c.args.known.now) _ _ _ parts first.progress fault in
+    search rules
+
+pub rewrite_absent-returns-in_err-rewrite_child-in-Expression-clause-fault :
+    goal.rewrite_absent-returns-in_err-rewrite_child-in-Expression-clause-fault
+rewrite_absent-returns-in_err-rewrite_child-in-Expression-clause-fault t c =
+    let is = c.in-Expression in let s = progress_of c.args.progress.now in
+    let kept = error_kept (known_of c.args.known.now) s _ (items (view is.absent.value)) (items (view is.exp.value))
+    c.in_err-rewrite_child-in-Expression.ensures.fault in
+    search (rules, the_lemmas)
+
+pub rewrite_all-returns-in_err-rewrite-clause-fault : goal.rewrite_all-returns-in_err-rewrite-clause-fault
+rewrite_all-returns-in_err-rewrite-clause-fault t c =
+    let k = known_of c.args.known.now in let s = progress_of c.loop-i.progress in
+    let es = c.args.trees.now.items in let i = c.loop-i.i in let e = c.index_mut.result.now in
+    let same = c.loop-i.invariant.0.1 i e (omega arith) in
+    let tree : e ≡ get_or es i e = cc in
+    let step : rest es i ≡ items (view e) ++ rest es (i + 1) = rest_next es i e (omega arith) tree in
+    let kept = error_kept k s _ (items (view e)) (rest es (i + 1)) c.in_err-rewrite.ensures.fault in
+    let all = rw (← step, c.loop-i.invariant.1) at kept in
+    search rules
