@@ -2,7 +2,7 @@
 use Rattle.std.proofs.Common.{◌≡◌, ◌≢◌, ℕ, Bool, true, false, ◌==◌, ◌&&◌, if◌then◌else◌, [], ◌∷◌, ◌++◌, codes, Option}
 use Rattle.std.proofs.Common.{Some, None, is_some, option_map, ◌⊎◌, inl, inr, refl, sym, ap, ◌∙◌, subst, append-nil}
 use Rattle.std.proofs.Common.{ne_eqb}
-use Rattle.std.proofs.lemmas.Bool.{and_from, and_parts, cases_eq}
+use Rattle.std.proofs.lemmas.Bool.{and_from, and_parts, cases_eq, false≢true}
 use Rattle.std.specs.Str.{all_scalars}
 use Rattle.fancy_lex.specs.Characters.{◌∈◌}
 use Rattle.fancy_lex.specs.Class.{class, Class, Outcome, written, fault}
@@ -35,7 +35,7 @@ use Rattle.fancy_grammar.proofs.ReadBack.ChunkLemmas.{single_large, braced_small
 use Rattle.fancy_grammar.proofs.ReadBack.ChunkLemmas.{unprinted, lowercase_ok, turn_ok}
 use Rattle.fancy_grammar.proofs.ReadBack.RewrittenLaws.{ClassAgain, class_again}
 use Rattle.fancy_grammar.proofs.ReadBack.RuleLemmas.{st}
-use Rattle.fancy_grammar.proofs.ReadBack.ClearLemmas.{Each, no_more, also, each_among, no_truth}
+use Rattle.fancy_grammar.proofs.ReadBack.ClearLemmas.{Each, no_more, also, each_among}
 
 -- the text is one whole class or class escape
 abbrev IsWhole : Text → Type 0
@@ -224,8 +224,8 @@ escape_stays u i t h =
     ap printable (escape_normal u i t x c (same n p []))
     ∙ subst WholeOf (same n p []) (outside_whole u i n p (t ++ []) (scalars_append t [] k refl))
 
-no_class : {X : Type 0} (s : Text) → is_some (class_of (bare false) s) ≡ false → IsWhole s → X
-no_class s e h = no_truth (sym e ∙ (and_parts (all_scalars s) _ h).1)
+no_class : {X : Type 0} (s : Text) → false ≡ is_some (class_of (bare false) s) → IsWhole s → X
+no_class s e h = absurd (false≢true (e ∙ (and_parts (all_scalars s) _ h).1))
 
 pub delegates_stay : (u i : Bool) (s : Text) → IsWhole s → printable (normal u (delegate s i)) ≡ true
 delegates_stay u i [] h = no_class [] nothing_whole h

@@ -1,6 +1,7 @@
 -- What is told printable is printable: above all, a quantifier may stand behind a normal form that is not Empty.
 use Rattle.std.proofs.Common.{◌≡◌, ℕ, ◌^◌, ◌<◌, Bool, true, false, not, ◌&&◌, if◌then◌else◌, List, [], ◌∷◌, ◌++◌, map}
 use Rattle.std.proofs.Common.{None, unwrap_or, refl, sym, ap, ap₂, ◌∙◌, arith}
+use Rattle.std.proofs.lemmas.Bool.{false≢true}
 use Rattle.std.specs.Cmp.{first_so, second_so}
 use Rattle.std.specs.List.{list_all}
 use Rattle.std.specs.Str.{all_scalars}
@@ -20,7 +21,6 @@ use Rattle.fancy_grammar.specs.Tree.{group, repeat, delegate, define_group}
 use Rattle.fancy_grammar.proofs.PrintableLemmas.{join_empty, one_solid}
 use Rattle.fancy_grammar.proofs.ReadBack.ShapeLemmas.{Printable, ArePrintable}
 use Rattle.fancy_grammar.proofs.ReadBack.DelegateTexts.{IsDelegate, delegate_text}
-use Rattle.fancy_grammar.proofs.ReadBack.ClearLemmas.{no_truth}
 
 pub count_below : (n : ℕ) → is_count n ≡ true → n < 2 ^ 64
 count_below n h = grind (arith, nat_tests)
@@ -71,15 +71,10 @@ delegate_leaf : (o : Outcome Tree) (d : Tree) → IsDelegate d → IsDelegate (u
 delegate_leaf (done t s) d h = delegate_whole s.rest t d h
 delegate_leaf (fault k p) d h = h
 
-delegate_if : (b : Bool) (o : Outcome Tree) (d : Tree) → IsDelegate d →
-    IsDelegate (unwrap_or (if b then whole_leaf o else None) d)
-delegate_if true o d h = delegate_leaf o d h
-delegate_if false o d h = h
-
 pub delegate_class : (f : Flags) (s : Text) (d : Tree) → IsDelegate d → IsDelegate (unwrap_or (class_of f s) d)
 unfolding class_of
 delegate_class f [] d h = h
-delegate_class f (c ∷ t) d h = delegate_if _ _ d h
+delegate_class f (c ∷ t) d h = delegate_leaf _ d h
 
 good_delegate : (t : Tree) → IsDelegate t → Good t × (is_empty t ≡ false)
 good_delegate (delegate w i) h = (λ _. refl, refl)
@@ -171,7 +166,7 @@ mutual
   pub told : (t : Tree) → printable t ≡ true → Printable t
   told empty h = tt
   told (any a b) h = tt
-  told (assertion (EndTextIgnoreTrailingNewlines crlf)) h = no_truth h
+  told (assertion (EndTextIgnoreTrailingNewlines crlf)) h = absurd (false≢true h)
   told (assertion a) h = tt
   told (literal s i) h = tt
   told (delegate s i) h = delegate_text s (second_so (all_scalars s) _ h)
@@ -188,7 +183,7 @@ mutual
         count_below hi (second_so (is_count lo) _ counts),
       )
   told (define_group t) h = tt
-  told _ h = no_truth h
+  told _ h = absurd (false≢true h)
 
   all_told : (ts : Trees) → all_printable ts ≡ true → ArePrintable ts
   all_told no_trees h = tt
