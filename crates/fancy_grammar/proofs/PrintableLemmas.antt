@@ -1,6 +1,7 @@
 -- What a printable tree is, and when a normal form is Empty.
 use Rattle.std.proofs.Common.{◌≡◌, Bool, true, false, ◌&&◌, if◌then◌else◌, List, [], ◌∷◌, map, Result, Ok, Err, IfOk}
 use Rattle.std.proofs.Common.{refl, sym, ap₂, ◌∙◌}
+use Rattle.std.proofs.lemmas.Bool.{false≢true}
 use Rattle.std.specs.List.{list_all}
 use Rattle.std.specs.declared.alloc.AllocError.{AllocError}
 use Rattle.std.specs.Cmp.{first_so, second_so}
@@ -13,9 +14,6 @@ use Rattle.fancy_grammar.specs.Printable.{printable, all_printable}
 use Rattle.fancy_grammar.specs.Printed.{has_text, all_have_text}
 use Rattle.fancy_grammar.specs.Tree.{Tree, Trees, no_trees, more_trees, empty, any, assertion, literal, concat, alt}
 use Rattle.fancy_grammar.specs.Tree.{group, repeat, delegate, define_group}
-
-no_truth : false ≡ true → ⊥
-no_truth h = cc
 
 both_so : (a b : Bool) → a ≡ true → b ≡ true → (a && b) ≡ true
 both_so a b p q = rw p q
@@ -37,7 +35,7 @@ mutual
   printable_text (group t) h = printable_text t h
   printable_text (repeat t lo hi greedy) h = printable_text t (first_so (printable t) _ h)
   printable_text (define_group t) h = refl
-  printable_text _ h = absurd (no_truth h)
+  printable_text _ h = absurd (false≢true h)
 
   printable_texts : (ts : Trees) → all_printable ts ≡ true → all_have_text ts ≡ true
   printable_texts no_trees h = refl

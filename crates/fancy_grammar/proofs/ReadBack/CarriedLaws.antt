@@ -1,6 +1,7 @@
 -- A class, and an escape for one, read the same whatever follows them, and under other flags to the same end.
 use Rattle.std.proofs.Common.{◌≡◌, ℕ, zero, suc, ◌+◌, ◌-◌, ◌≤◌, Bool, true, false, not, ◌&&◌, ◌||◌, ◌==◌, nat_le}
 use Rattle.std.proofs.Common.{if◌then◌else◌, [], ◌∷◌, ◌++◌, codes, Option, Some, None, refl, sym, ap, ◌∙◌, subst, arith}
+use Rattle.std.proofs.lemmas.Bool.{false≢true}
 use Rattle.std.proofs.lemmas.Bool.Decides.{nat_tests}
 use Rattle.fancy_lex.specs.Boundary.{boundary, named_boundary, name, boundary_of_name, at_count}
 use Rattle.std.specs.Char.{is_ascii_digit}
@@ -21,7 +22,6 @@ use Rattle.fancy_lex.specs.declared.flags.Flags.{Flags}
 use Rattle.fancy_lex.proofs.EscapeFrame.{StaysSome, read_stays, escape_frame}
 use Rattle.fancy_lex.proofs.TextLemmas.{bytes-append}
 use Rattle.fancy_grammar.specs.Normal.{case_flags, bare}
-use Rattle.fancy_grammar.proofs.ReadBack.ClearLemmas.{no_truth}
 
 -- ---- the same text under other flags
 
@@ -67,7 +67,7 @@ byte_scalar v true h = grind (arith, nat_tests)
 both_too : (b s : Bool) (x y z : Escape) (t : Text) (e : Fault) → (b ≡ true → s ≡ true) →
     Too (if b then gives x t else if s then gives y t else fails e) (if s then gives z t else fails e)
 both_too true true x y z t e h = (z, refl)
-both_too true false x y z t e h = no_truth (h refl)
+both_too true false x y z t e h = absurd (false≢true (h refl))
 both_too false true x y z t e h = (z, refl)
 both_too false false x y z t e h = tt
 

@@ -18,9 +18,6 @@ use Rattle.fancy_parts.specs.Quantifier.{counts}
 use Rattle.fancy_parts.specs.Quote.{behind_backslash, marks_with_backslash, needs_backslash}
 use Rattle.fancy_grammar.specs.State.{ends}
 
-pub no_truth : {X : Type 0} → false ≡ true → X
-no_truth h = absurd cc
-
 -- a quantifier's mark or brace stands in front
 abbrev pub begins_mark : Text → Bool
 begins_mark [] = false

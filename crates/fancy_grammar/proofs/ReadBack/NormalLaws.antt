@@ -3,7 +3,7 @@ use Rattle.std.proofs.Common.{◌≡◌, ℕ, Bool, true, false, true≢false, n
 use Rattle.std.proofs.Common.{is_none, Result, Ok, Err, IfOk, refl, sym, ap, ap₂, ◌∙◌}
 use Rattle.std.specs.declared.alloc.AllocError.{AllocError}
 use Rattle.std.specs.Cmp.{first_so, second_so}
-use Rattle.std.proofs.lemmas.Bool.{and_from, or_parts}
+use Rattle.std.proofs.lemmas.Bool.{and_from, or_parts, false≢true}
 use Rattle.std.specs.Str.{all_scalars}
 use Rattle.fancy_lex.specs.Text.{Text}
 use Rattle.fancy_lex.specs.declared.escape.Assertion.TheVariants.{StartLineOniguruma, EndTextIgnoreTrailingNewlines}
@@ -18,7 +18,6 @@ use Rattle.fancy_grammar.proofs.ReadBack.DelegateLaws.{delegates_stay}
 use Rattle.fancy_grammar.proofs.OutcomeLemmas.{solid-append}
 use Rattle.fancy_grammar.proofs.ReadBack.RuleLemmas.{solid_solid}
 use Rattle.fancy_grammar.proofs.ReadBack.PrintableLaws.{blank, blanks, normal_empty, delegate_class}
-use Rattle.fancy_grammar.proofs.ReadBack.ClearLemmas.{no_truth}
 use Rattle.fancy_grammar.proofs.ReadBack.DelegateTexts.{IsDelegate}
 
 -- ---- a normal form is its own
@@ -226,7 +225,7 @@ mutual
   kept : (u : Bool) (t : Tree) → printable t ≡ true → Kept (normal u t)
   kept u empty h = empty_kept
   kept u (any a b) h = record { is = refl; stays = refl }
-  kept u (assertion (EndTextIgnoreTrailingNewlines crlf)) h = no_truth h
+  kept u (assertion (EndTextIgnoreTrailingNewlines crlf)) h = absurd (false≢true h)
   kept u (assertion (StartLineOniguruma crlf)) h = record { is = refl; stays = refl }
   kept u (assertion a) h = record { is = refl; stays = refl }
   kept u (literal s i) h = join_kept (map (character i) s) (characters_kept i s h)
@@ -236,7 +235,7 @@ mutual
   kept u (group t) h = let r = kept u t h in record { is = r.is; stays = refl }
   kept u (repeat t lo hi greedy) h = repeat_kept u t lo hi greedy h (kept u t (first_so (printable t) _ h))
   kept u (define_group t) h = empty_kept
-  kept u _ h = no_truth h
+  kept u _ h = absurd (false≢true h)
 
   kept_items : (u : Bool) (ts : Trees) → all_printable ts ≡ true → AllKept (normal_pieces u ts)
   kept_items u no_trees h = tt
