@@ -1,6 +1,6 @@
 -- What is told printable is printable: above all, a quantifier may stand behind a normal form that is not Empty.
 use Rattle.std.proofs.Common.{◌≡◌, ℕ, ◌^◌, ◌<◌, Bool, true, false, not, ◌&&◌, if◌then◌else◌, List, [], ◌∷◌, ◌++◌, map}
-use Rattle.std.proofs.Common.{None, unwrap_or, refl, sym, ap, ap₂, ◌∙◌, arith}
+use Rattle.std.proofs.Common.{unwrap_or, refl, sym, ap, ap₂, ◌∙◌, arith}
 use Rattle.std.proofs.lemmas.Bool.{false≢true}
 use Rattle.std.specs.Cmp.{first_so, second_so}
 use Rattle.std.specs.List.{list_all}
@@ -18,7 +18,7 @@ use Rattle.fancy_grammar.specs.Quantified.{is_repeatable}
 use Rattle.fancy_grammar.specs.State.{Outcome, done, fault}
 use Rattle.fancy_grammar.specs.Tree.{Tree, Trees, no_trees, more_trees, empty, any, assertion, literal, concat, alt}
 use Rattle.fancy_grammar.specs.Tree.{group, repeat, delegate, define_group}
-use Rattle.fancy_grammar.proofs.PrintableLemmas.{join_empty, one_solid}
+use Rattle.fancy_grammar.proofs.PrintableLemmas.{join_empty, pieces_empty}
 use Rattle.fancy_grammar.proofs.ReadBack.ShapeLemmas.{Printable, ArePrintable}
 use Rattle.fancy_grammar.proofs.ReadBack.DelegateTexts.{IsDelegate, delegate_text}
 
@@ -134,10 +134,6 @@ characters_empty : (i : Bool) (s : Text) → is_empty (join (map (character i) s
 characters_empty i [] = refl
 characters_empty i (c ∷ s) = join_empty (map (character i) (c ∷ s))
 
-parts_empty : (t n : Tree) → is_empty n ≡ blank t → list_all is_empty (pieces_of t n) ≡ blank t
-parts_empty (literal s false) n e = sym (join_empty (map (character false) s)) ∙ characters_empty false s
-parts_empty t n e = one_solid (is_empty n) n refl ∙ e
-
 mutual
   pub normal_empty : (u : Bool) (t : Tree) → is_empty (normal u t) ≡ blank t
   normal_empty u (assertion (StartLineOniguruma crlf)) = refl
@@ -151,7 +147,7 @@ mutual
   items_empty u no_trees = refl
   items_empty u (more_trees t ts) =
       list_all-append is_empty (pieces_of t (normal u t)) (normal_pieces u ts)
-      ∙ ap₂ (λ a b. a && b) (parts_empty t (normal u t) (normal_empty u t)) (items_empty u ts)
+      ∙ ap₂ (λ a b. a && b) (pieces_empty u t ∙ normal_empty u t) (items_empty u ts)
 
   choice_empty : (u : Bool) (ts : Trees) → is_empty (choice (normals u ts)) ≡ blank_choice ts
   choice_empty u no_trees = refl
