@@ -13,9 +13,9 @@ use Rattle.fancy_lex.specs.Reading.{gives, choose, layout_reading}
 use Rattle.fancy_lex.specs.Text.{Text, bytes, place_of}
 use Rattle.fancy_lex.specs.declared.flags.Flags.{Flags}
 use Rattle.fancy_parts.specs.FlagLetters as letters
-use Rattle.fancy_parts.specs.FlagLetters.{Letters, Step, letters_in, step, ends, goes}
+use Rattle.fancy_parts.specs.FlagLetters.{Letters, letters_in, step, ends, goes}
 use Rattle.fancy_parts.specs.Quantifier.{counts}
-use Rattle.fancy_parts.specs.Quote.{behind_backslash}
+use Rattle.fancy_parts.specs.Quote.{behind_backslash, needs_backslash}
 use Rattle.fancy_parts.specs.Ranks.{Opening}
 use Rattle.fancy_parts.specs.declared.counts.Counts.{Counts}
 use Rattle.fancy_parts.proofs.FlagLemmas.{letters_start, in_end, in_go}
@@ -31,18 +31,18 @@ use Rattle.fancy_grammar.specs.Items.{Item, opening, reference, items, items_all
 use Rattle.fancy_grammar.specs.Join.{is_empty, solid, one_or, join, choice}
 use Rattle.fancy_grammar.specs.Grammar.{trees_before}
 use Rattle.fancy_grammar.specs.Quantified as quantified
-use Rattle.fancy_grammar.specs.Quantified.{is_repeatable, is_swapped, may_be_possessive, quant, quant_at, quants}
+use Rattle.fancy_grammar.specs.Quantified.{is_repeatable, may_be_possessive, quant, quant_at, quants}
 use Rattle.fancy_grammar.specs.Quantified.{adjacent, max_adjacent, behind_lazy, suffix, suffix_at}
 use Rattle.fancy_grammar.specs.Resolved.{resolved_in, resolved_all}
 use Rattle.fancy_grammar.specs.State.{skipped, State, Outcome, done, fault, and_then, seen_through}
 use Rattle.fancy_grammar.specs.Tree as tree
-use Rattle.fancy_grammar.specs.Tree.{Tree, empty, any, assertion, literal, concat, alt, repeat, trees_of, ast_node}
+use Rattle.fancy_grammar.specs.Tree.{Tree, empty, literal, concat, alt, repeat, trees_of, ast_node}
 use Rattle.fancy_grammar.specs.Tree.{ast_group, ast_backref, ast_call, ast_condition}
 use Rattle.fancy_grammar.proofs.OutcomeLemmas.{before-nil, solid-append}
 use Rattle.fancy_grammar.specs.Normal.{bare, case_flags}
 use Rattle.fancy_grammar.proofs.ReadBack.InFront.{put_as}
 use Rattle.fancy_grammar.proofs.ReadBack.ClearLemmas.{Clear, no_layout, clear_counts, clear_lazy, clear_star}
-use Rattle.fancy_grammar.proofs.ReadBack.ClearLemmas.{clear_plus, Stops, Ends, behind_none, behind_some}
+use Rattle.fancy_grammar.proofs.ReadBack.ClearLemmas.{clear_plus, Stops, Ends, apart, behind_none, behind_some}
 use Rattle.fancy_grammar.proofs.ReadBack.CountTexts.{IsQuantifier, lazy}
 
 abbrev pub st : Flags → Text → State
@@ -494,17 +494,22 @@ leaf_at n d f c t a b = cond-false _ _ _ a ∙ cond-false _ _ _ b
 plain_leaf : (n d : ℕ) (f : Flags) (c : ℕ) (v : Text) → behind_backslash c ≡ None →
     ahead n d (st f (c ∷ v)) ≡ leaf (done (literal (c ∷ []) f.casei) (st f v))
 plain_leaf n d f c v e =
-    let (slash, a) = behind_none c e in
-    let (dot, b) = a in
-    let (plus, h) = b in
-    let (star, i) = h in
-    let (ask, j) = i in
-    let (paren, k) = j in
-    let (close, l) = k in
-    let (bar_, m) = l in
-    let (bracket, o) = m in
-    leaf_at n d f c v paren (rw (plus, star, ask, bar_, close) refl)
-    ∙ rw (dot, o.1.1.1.0, o.1.1.1.1.0, slash, bracket) refl
+    let is_not = apart needs_backslash c (behind_none c e) in
+    leaf_at n d f c v (is_not (code "(") refl)
+    (rw (
+      is_not (code "+") refl,
+      is_not (code "*") refl,
+      is_not (code "?") refl,
+      is_not (code "|") refl,
+      is_not (code ")") refl,
+    ) refl)
+    ∙ rw (
+      is_not (code ".") refl,
+      is_not (code "^") refl,
+      is_not (code "$") refl,
+      is_not (code "\\") refl,
+      is_not (code "[") refl,
+    ) refl
 
 -- a character, as it is printed
 pub reads_char : (n d : ℕ) (f : Flags) (c : ℕ) (v : Text) (o : Option ℕ) → behind_backslash c ≡ o →
