@@ -5,7 +5,7 @@ use Rattle.std.proofs.Common.{ne_eqb}
 use Rattle.std.proofs.lemmas.Bool.{and_from, and_parts, cases_eq, false≢true}
 use Rattle.std.specs.Str.{all_scalars}
 use Rattle.fancy_lex.specs.Characters.{◌∈◌}
-use Rattle.fancy_lex.specs.Class.{class, Class, Outcome, written, fault}
+use Rattle.fancy_lex.specs.Class.{class, OuterClass}
 use Rattle.fancy_lex.specs.Escape.{escape, number_escape, property, is_itself}
 use Rattle.fancy_lex.specs.EscapeReference.{numbered_reference}
 use Rattle.fancy_lex.specs.Escaped as escaped
@@ -60,28 +60,16 @@ escape_whole t w b k e =
 
 -- ---- a class
 
-same_written : (x w v : Text) → gives w v ≡ gives x [] → (w ≡ x) × (v ≡ [])
-same_written x w v e = (cc, cc)
-
 class_stays : (u i : Bool) (n : ℕ) (t x : Text) → all_scalars t ≡ true →
     class n (case_flags u i) t ≡ gives x [] → IsWhole x
-class_stays u i n t x k e = by_reading (class_reads n (case_flags u i) t)
-  where
-    no_fault : (z : Fault) → ◌≡◌ {A = Reading Text} (fails z) (gives x []) → ⊥
-    no_fault z q = cc
-
-    again : ClassAgain x → IsWhole x
-    again c =
-        subst IsWhole (sym c.is)
-        (class_whole c.inner c.scalars
-        (subst (λ z. ClassGoes (bytes (code "[" ∷ c.inner)) z []) (append-nil c.inner)
-        (c.goes (bytes (code "[" ∷ c.inner)) [])))
-
-    by_reading : (o : Outcome) × Class n (case_flags u i) false t o → IsWhole x
-    by_reading (written w a v, h) =
-        again (subst ClassAgain (same_written x w v (sym (class_complete n (case_flags u i) t _ h) ∙ e)).0
-        (class_again h k))
-    by_reading (fault z, h) = absurd (no_fault z (sym (class_complete n (case_flags u i) t _ h) ∙ e))
+class_stays u i n t x k e =
+    let f = case_flags u i in
+    let (a, h) = subst (OuterClass n f t) e (class_reads n f t) in
+    let c = class_again h k in
+    subst IsWhole (sym c.is)
+    (class_whole c.inner c.scalars
+    (subst (λ z. ClassGoes (bytes (code "[" ∷ c.inner)) z []) (append-nil c.inner)
+    (c.goes (bytes (code "[" ∷ c.inner)) [])))
 
 -- ---- a class escape
 
