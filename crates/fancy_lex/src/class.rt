@@ -1,5 +1,5 @@
 //! Classes: what stands behind an opening bracket, and the text that is written for it.
-ghost use Rattle.std.specs.Prelude.{◌≡◌, ℕ, ◌+◌, ◌/◌, ◌%◌, ◌^◌, ◌<◌, ◌≤◌, ◌||◌, [], ◌∷◌, ◌++◌, length, chars, IfErr, IfOk, OnOk, codes};
+ghost use Rattle.std.specs.Prelude.{◌≡◌, ℕ, ◌+◌, ◌/◌, ◌%◌, ◌^◌, ◌<◌, ◌≤◌, ◌||◌, [], ◌++◌, length, chars, IfErr, IfOk, OnOk};
 ghost use Rattle.fancy_lex.specs.Class as spec;
 ghost use Rattle.fancy_lex.specs.Escaped.{escape_of, delegate_text};
 ghost use Rattle.fancy_lex.specs.Property.{is_negated_set};
@@ -171,26 +171,26 @@ fn read_class(alloc: Global, text: &str, flags: Flags, end: usize) -> Result<(St
     ensures shorter { IfOk result (λ p. length p.1.now < length text.now) }
 {
     let mut out = String::new(alloc);
-    let mut left = push_head(&mut out, text)?;
+    let mut rest = push_head(&mut out, text)?;
     let mut depth = 0usize;
     let mut seen = false;
-    while let Some((c, rest)) = next(left) {
+    while let Some((c, behind)) = next(rest) {
         if c == '\\' {
-            let (escaped, after) = escape(alloc, rest, flags, true, place(left, end), end)?;
+            let (escaped, after) = escape(alloc, behind, flags, true, place(rest, end), end)?;
             seen = push_item(&mut out, escaped, seen)?;
-            left = after;
+            rest = after;
             continue;
         }
         if c == '[' {
-            left = push_head(&mut out, rest)?;
+            rest = push_head(&mut out, behind)?;
             depth += 1;
             continue;
         }
         push(&mut out, c)?;
-        left = rest;
+        rest = behind;
         if c == ']' {
             if depth == 0 {
-                return Ok((out, left));
+                return Ok((out, rest));
             }
             depth -= 1;
         }

@@ -10,13 +10,13 @@ use Rattle.fancy_lex.specs.Escape.{escape, number_escape, property, is_itself}
 use Rattle.fancy_lex.specs.EscapeReference.{numbered_reference}
 use Rattle.fancy_lex.specs.Escaped as escaped
 use Rattle.fancy_lex.specs.Escaped.{Escape}
-use Rattle.fancy_lex.specs.Fault.{Fault, unclosed_unicode_name}
+use Rattle.fancy_lex.specs.Fault.{unclosed_unicode_name}
 use Rattle.fancy_lex.specs.Hex.{hex}
 use Rattle.std.specs.Char.{IsScalar, is_ascii_digit}
 use Prim.Native.Char.{code}
 use Rattle.fancy_lex.specs.Property.{Property, PropertyName, single, braced, read_property, name_at, property_text}
 use Rattle.fancy_lex.specs.Property.{Form, set, pair, form, form_text, look_up, lowercase, turn, letter}
-use Rattle.fancy_lex.specs.Reading.{Reading, gives, fails, fault_at, choose}
+use Rattle.fancy_lex.specs.Reading.{Reading, gives, fault_at, choose}
 use Rattle.fancy_lex.specs.Text.{Text, bytes, place_of}
 use Rattle.fancy_lex.proofs.ClassLaws.{class_complete, class_reads}
 use Rattle.fancy_grammar.specs.Ahead.{leaf_node, leaf_outcome}
@@ -33,7 +33,7 @@ use Rattle.fancy_grammar.proofs.ReadBack.ChunkLemmas.{FormOf, Pairs, form_of, na
 use Rattle.fancy_grammar.proofs.ReadBack.ChunkLemmas.{IsName, NameOk, NameSome, name_ok, prop, single_small}
 use Rattle.fancy_grammar.proofs.ReadBack.ChunkLemmas.{single_large, braced_small, braced_large, hex_word, space_other}
 use Rattle.fancy_grammar.proofs.ReadBack.ChunkLemmas.{unprinted, lowercase_ok, turn_ok}
-use Rattle.fancy_grammar.proofs.ReadBack.RewrittenLaws.{ClassAgain, class_again}
+use Rattle.fancy_grammar.proofs.ReadBack.RewrittenLaws.{class_again}
 use Rattle.fancy_grammar.proofs.ReadBack.RuleLemmas.{st}
 use Rattle.fancy_grammar.proofs.ReadBack.ClearLemmas.{Each, no_more, also, each_among}
 
