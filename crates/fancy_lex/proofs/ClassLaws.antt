@@ -287,7 +287,7 @@ items_some (escaped {t} q h) = (backslash, t, refl)
 items_some (nested {t} g h) = (open_bracket, t, refl)
 
 -- with s behind what is left
-abbrev before : Text → Text × Text → Text × Text
+abbrev pub before : Text → Text × Text → Text × Text
 before s p = (p.0, p.1 ++ s)
 
 mark_some : (m : ℕ) (out t : Text) (c : ℕ) (u : Text) → (with_mark m (out, t)).1 ≡ c ∷ u →
@@ -304,14 +304,14 @@ mark_frame m out t s d r e = rw e (by_test (d == m)) where
   by_test true = refl
   by_test false = refl
 
-class_head_frame : (t s : Text) (c : ℕ) (u : Text) → (class_head [] t).1 ≡ c ∷ u →
-    ◌≡◌ {A = Text × Text} (class_head [] (t ++ s)) (before s (class_head [] t))
+pub class_head_frame : (out t s : Text) (c : ℕ) (u : Text) → (class_head out t).1 ≡ c ∷ u →
+    ◌≡◌ {A = Text × Text} (class_head out (t ++ s)) (before s (class_head out t))
 unfolding class_head
-class_head_frame t s c u e =
-    let p = with_mark caret (open_bracket ∷ [], t) in
+class_head_frame out t s c u e =
+    let p = with_mark caret (out ++ open_bracket ∷ [], t) in
     let (d, r, q) = mark_some close_bracket p.0 p.1 c u e in
-    let (d', r', q') = mark_some caret (open_bracket ∷ []) t d r q in
-    ap (with_mark close_bracket) (mark_frame caret (open_bracket ∷ []) t s d' r' q')
+    let (d', r', q') = mark_some caret (out ++ open_bracket ∷ []) t d r q in
+    ap (with_mark close_bracket) (mark_frame caret (out ++ open_bracket ∷ []) t s d' r' q')
     ∙ mark_frame close_bracket p.0 p.1 s d r q
 
 mutual
@@ -319,7 +319,8 @@ mutual
       Class m f b (t ++ s) (written w a (v ++ s))
   class_frame {t} (class_items e h) m s =
       let (c, u, q) = items_some h in
-      class_items (class_head_frame t s c u (ap (λ (p : Text × Text). p.1) e ∙ q) ∙ ap (before s) e) (items_frame h m s)
+      class_items (class_head_frame [] t s c u (ap (λ (p : Text × Text). p.1) e ∙ q) ∙ ap (before s) e)
+      (items_frame h m s)
 
   items_frame : {n : ℕ} {f : Flags} {b a : Bool} {t w v : Text} → Items n f b t (written w a v) → (m : ℕ) (s : Text) →
       Items m f b (t ++ s) (written w a (v ++ s))
