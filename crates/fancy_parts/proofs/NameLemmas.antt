@@ -1,6 +1,6 @@
 -- The numbers of names, in a map and in a list of entries.
-use Rattle.std.proofs.Common.{◌≡◌, ℕ, List, [], ◌∷◌, ◌++◌, Bool, true, false, Some, None, refl, sym, ap, ◌∙◌, map, chars}
-use Rattle.std.proofs.Common.{String, Global, Vec, string_bytes, bytes_eq, option_map, unwrap_or}
+use Rattle.std.proofs.Common.{◌≡◌, ℕ, List, [], ◌∷◌, ◌++◌, Bool, true, false, Some, None, refl, sym, ap, ◌∙◌, map}
+use Rattle.std.proofs.Common.{chars, String, Global, Vec, string_bytes, bytes_eq, option_map, unwrap_or}
 use Rattle.std.specs.BTreeMap.{insert_entry}
 use Rattle.std.specs.Cmp.Lexicographic.{slice_cmp, nat_list_cmp_total}
 use Rattle.std.specs.List.Sorted.{IsStrictlySortedBy}
@@ -32,6 +32,9 @@ key_name_cmp a k h =
     let x : encode_utf8_all (chars a) ≡ a = encodes-chars _ h in
     let y : encode_utf8_all (text_of k) ≡ string_bytes k = encodes-chars _ (IsUtf8-string_bytes k) in
     λ i. slice_cmp nat_cmp (sym x i) (sym y i)
+
+string_name_cmp : (a k : String Global) → string_cmp a k ≡ name_cmp (text_of a) (text_of k)
+string_name_cmp a k = key_name_cmp (string_bytes a) k (IsUtf8-string_bytes a)
 
 -- the test of a key by its bytes is the test of its characters
 key_test : (a : List ℕ) (k : String Global) → IsUtf8 a → is_eq (key_cmp a k) ≡ bytes_eq (chars a) (text_of k)
@@ -72,10 +75,10 @@ put_new a (e ∷ es) w n h k = by_order (string_cmp a e.0) refl (put_new a es w 
         map entry_of (insert_entry string_cmp es a w) ≡ with_number (text_of a) n (map entry_of es)) →
         map entry_of (insert_entry string_cmp (e ∷ es) a w) ≡ with_number (text_of a) n (map entry_of (e ∷ es))
     by_order Less q i =
-        let t : name_cmp (text_of a) (text_of e.0) ≡ Less = sym (key_name_cmp (string_bytes a) e.0 (IsUtf8-string_bytes a)) ∙ q in rw (q, t, h) refl
+        let t : name_cmp (text_of a) (text_of e.0) ≡ Less = sym (string_name_cmp a e.0) ∙ q in rw (q, t, h) refl
     by_order Equal q i = let none : lookup (λ k. is_eq (string_cmp a k)) (e ∷ es) ≡ Some e.1 = rw q refl in absurd cc
     by_order Greater q i =
-        let t : name_cmp (text_of a) (text_of e.0) ≡ Greater = sym (key_name_cmp (string_bytes a) e.0 (IsUtf8-string_bytes a)) ∙ q in
+        let t : name_cmp (text_of a) (text_of e.0) ≡ Greater = sym (string_name_cmp a e.0) ∙ q in
         let none : lookup (λ k. is_eq (string_cmp a k)) (e ∷ es) ≡ lookup (λ k. is_eq (string_cmp a k)) es
         = rw q refl in
         rw (q, t) (ap (λ l. entry_of e ∷ l) (i (sym none ∙ k)))
