@@ -6,6 +6,7 @@ use Rattle.std.proofs.lemmas.Bool.{cond-true, cond-false}
 use Rattle.std.proofs.lemmas.Bool.Decides.{nat_tests}
 use Rattle.std.proofs.Math.Bool.{and-true, and-false, not-not}
 use Rattle.std.proofs.lemmas.List.{map-append}
+use Rattle.std.specs.List.{AllByRecursion}
 use Prim.Native.Char.{code}
 use Rattle.fancy_lex.specs.Fault.{Kind, recursion_exceeded}
 use Rattle.fancy_lex.specs.Layout.{layout, after_comment_head, rest}
@@ -38,7 +39,7 @@ use Rattle.fancy_grammar.specs.State.{skipped, State, Outcome, done, fault, and_
 use Rattle.fancy_grammar.specs.Tree as tree
 use Rattle.fancy_grammar.specs.Tree.{Tree, empty, literal, concat, alt, repeat, trees_of, ast_node}
 use Rattle.fancy_grammar.specs.Tree.{ast_group, ast_backref, ast_call, ast_condition}
-use Rattle.fancy_grammar.proofs.OutcomeLemmas.{before-nil, solid-append}
+use Rattle.fancy_grammar.proofs.OutcomeLemmas.{before-nil, solid-append, each_append, each_solid}
 use Rattle.fancy_grammar.specs.Normal.{bare, case_flags}
 use Rattle.fancy_grammar.proofs.ReadBack.InFront.{put_as}
 use Rattle.fancy_grammar.proofs.ReadBack.ClearLemmas.{Clear, no_layout, clear_counts, clear_lazy, clear_star}
@@ -72,13 +73,11 @@ groups_append [] m h k = k
 groups_append (opening o ∷ l) m h k = (h.0, groups_append l m h.1 k)
 groups_append (reference r ∷ l) m h k = absurd h
 
-abbrev pub EachHasGroups : List Tree → Type 0
-EachHasGroups [] = Unit {0}
-EachHasGroups (t ∷ l) = OnlyGroups (items t) × EachHasGroups l
+abbrev pub HasGroups : Tree → Type 0
+HasGroups t = OnlyGroups (items t)
 
-each_append : (l m : List Tree) → EachHasGroups l → EachHasGroups m → EachHasGroups (l ++ m)
-each_append [] m h k = k
-each_append (t ∷ l) m h k = (h.0, each_append l m h.1 k)
+abbrev pub EachHasGroups : List Tree → Type 0
+EachHasGroups l = AllByRecursion HasGroups l
 
 all_groups : (l : List Tree) → EachHasGroups l → OnlyGroups (items_all (trees_of l))
 all_groups [] h = tt
@@ -93,15 +92,6 @@ choice_groups : (l : List Tree) → EachHasGroups l → OnlyGroups (items (choic
 choice_groups [] h = tt
 choice_groups (t ∷ []) h = h.0
 choice_groups (t ∷ u ∷ l) h = all_groups (t ∷ u ∷ l) h
-
-if_groups : (b : Bool) (t : Tree) (l : List Tree) → OnlyGroups (items t) → EachHasGroups l →
-    EachHasGroups (if b then l else t ∷ l)
-if_groups true t l h k = k
-if_groups false t l h k = (h, k)
-
-solid_groups : (l : List Tree) → EachHasGroups l → EachHasGroups (solid l)
-solid_groups [] h = tt
-solid_groups (t ∷ l) h = if_groups (is_empty t) t (solid l) h.0 (solid_groups l h.1)
 
 -- a raw tree of that kind that resolves to x
 pub record Becomes (r x : Tree) : Type 0 where
@@ -224,7 +214,7 @@ run_chain {n} {d} {f} {s} p q = record {
       λ g. ap solid (map-append (resolved_in false g) p.trees q.trees)
       ∙ solid-append (map (resolved_in false g) p.trees) (map (resolved_in false g) q.trees)
       ∙ ap₂ (λ a b. a ++ b) (p.are g) (q.are g);
-  groups = each_append p.trees q.trees p.groups q.groups;
+  groups = each_append HasGroups p.trees q.trees p.groups q.groups;
 }
 
 run_piece : {n d : ℕ} {f : Flags} {s v : Text} (r x : Tree) → Piece n d (st f s) (done r (st f v)) →
@@ -332,7 +322,7 @@ reads_branch {n} {d} {f} {s} {v} x r e h = record {
         ∙ ap (one_or concat) (sym (solid_solid (map (resolved_in false g) r.trees))) ∙ ap join (r.are g) ∙ e;
     groups =
         subst (λ l. OnlyGroups (items (join l))) (sym (append-nil r.trees))
-        (concat_groups (solid r.trees) (solid_groups r.trees r.groups));
+        (concat_groups (solid r.trees) (each_solid HasGroups r.trees r.groups));
   };
 }
 
