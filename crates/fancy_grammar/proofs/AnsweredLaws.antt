@@ -27,69 +27,12 @@ use Rattle.fancy_grammar.specs.Tree.{ast_backref, ast_call, ast_condition, list_
 use Rattle.fancy_parts.specs.Groups.{numbers_under}
 use Rattle.fancy_parts.proofs.NamedLaws.{under_named}
 use Rattle.fancy_grammar.proofs.NamedNumbers.{named_ascend, carries, number_carried}
-use Rattle.fancy_grammar.proofs.PreorderLaws.{kept, resolved_nodes, item_of, items_of_nodes}
+use Rattle.fancy_grammar.proofs.PreorderLaws.{of_backref, of_call, of_condition, kept}
+use Rattle.fancy_grammar.proofs.PreorderLaws.{resolved_nodes, item_of, items_of_nodes}
 use Rattle.fancy_grammar.proofs.Verdict.{same_tree}
 use Rattle.fancy_grammar.proofs.ReadLaws.{IsReadNode, IsRead, derived_read}
 
 -- ---- what a reference comes to
-
--- a group is none of these
-backref_no_group : (m : Meaning) (t : Target) (casei : Bool) (level : Option ℤ) (place : ℕ) →
-    is_group (reference_node m (ast_backref t casei level) place) ≡ false
-backref_no_group (number n) t casei None place = refl
-backref_no_group (number n) t casei (Some level) place = refl
-backref_no_group unresolved t casei level place = refl
-backref_no_group (faulty k) t casei level place = refl
-
-call_no_group : (m : Meaning) (t : Target) (place : ℕ) → is_group (reference_node m (ast_call t) place) ≡ false
-call_no_group (number n) t place = refl
-call_no_group unresolved t place = refl
-call_no_group (faulty k) t place = refl
-
-condition_no_group : (m : Meaning) (t : Target) (level : Option ℤ) (place : ℕ) →
-    is_group (reference_node m (ast_condition t level) place) ≡ false
-condition_no_group (number n) t level place = refl
-condition_no_group unresolved t level place = refl
-condition_no_group (faulty k) t level place = refl
-
--- a call is one of these, and the others are none
-backref_no_call : (m : Meaning) (t : Target) (casei : Bool) (level : Option ℤ) (place : ℕ) →
-    is_call_node (reference_node m (ast_backref t casei level) place) ≡ false
-backref_no_call (number n) t casei None place = refl
-backref_no_call (number n) t casei (Some level) place = refl
-backref_no_call unresolved t casei level place = refl
-backref_no_call (faulty k) t casei level place = refl
-
-call_is_call : (m : Meaning) (t : Target) (place : ℕ) → is_call_node (reference_node m (ast_call t) place) ≡ true
-call_is_call (number n) t place = refl
-call_is_call unresolved t place = refl
-call_is_call (faulty k) t place = refl
-
-condition_no_call : (m : Meaning) (t : Target) (level : Option ℤ) (place : ℕ) →
-    is_call_node (reference_node m (ast_condition t level) place) ≡ false
-condition_no_call (number n) t level place = refl
-condition_no_call unresolved t level place = refl
-condition_no_call (faulty k) t level place = refl
-
--- the groups that they refer to
-backref_refers : (m : Meaning) (t : Target) (casei : Bool) (level : Option ℤ) (place : ℕ) →
-    group_referred (reference_node m (ast_backref t casei level) place) ≡ back_number back_reference m
-backref_refers (number n) t casei None place = refl
-backref_refers (number n) t casei (Some level) place = refl
-backref_refers unresolved t casei level place = refl
-backref_refers (faulty k) t casei level place = refl
-
-call_refers : (m : Meaning) (t : Target) (place : ℕ) →
-    group_referred (reference_node m (ast_call t) place) ≡ back_number call m
-call_refers (number n) t place = refl
-call_refers unresolved t place = refl
-call_refers (faulty k) t place = refl
-
-condition_refers : (m : Meaning) (t : Target) (level : Option ℤ) (place : ℕ) →
-    group_referred (reference_node m (ast_condition t level) place) ≡ back_number condition m
-condition_refers (number n) t level place = refl
-condition_refers unresolved t level place = refl
-condition_refers (faulty k) t level place = refl
 
 -- where there is no fault, one behind has none
 none_behind : (m : Meaning) (p : ℕ) (o : Option Fault) → fault_or m p o ≡ None → o ≡ None
@@ -183,11 +126,11 @@ module _ (named : Bool) (g : List Opening) where
       by_name true e more = rw (e, e) (ap (λ l. group (resolved_in named g t) ∷ l) more)
       by_name false e more = rw e more
   groups_kept (ast_node (ast_backref t casei level) place ∷ l) h =
-      if_false _ _ _ (backref_no_group (means_here back_reference t place) t casei level place) ∙ groups_kept l h.1
+      if_false _ _ _ (of_backref (means_here back_reference t place) t casei level place).no_group ∙ groups_kept l h.1
   groups_kept (ast_node (ast_call t) place ∷ l) h =
-      if_false _ _ _ (call_no_group (means_here call t place) t place) ∙ groups_kept l h.1
+      if_false _ _ _ (of_call (means_here call t place) t place).no_group ∙ groups_kept l h.1
   groups_kept (ast_node (ast_condition t level) place ∷ l) h =
-      if_false _ _ _ (condition_no_group (means_here condition t place) t level place) ∙ groups_kept l h.1
+      if_false _ _ _ (of_condition (means_here condition t place) t level place).no_group ∙ groups_kept l h.1
   groups_kept (group t ∷ l) h = absurd h.0
   groups_kept (backref n casei ∷ l) h = absurd h.0
   groups_kept (backref_at_level n level casei ∷ l) h = absurd h.0
@@ -210,13 +153,13 @@ module _ (named : Bool) (g : List Opening) where
       by_name false e more = rw e more
   calls_kept (ast_node (ast_backref t casei level) place ∷ l) h =
       ap (λ b. b || list_any is_call_node (kept named g l))
-      (backref_no_call (means_here back_reference t place) t casei level place)
+      (of_backref (means_here back_reference t place) t casei level place).calls
       ∙ calls_kept l h.1
   calls_kept (ast_node (ast_call t) place ∷ l) h =
-      ap (λ b. b || list_any is_call_node (kept named g l)) (call_is_call (means_here call t place) t place)
+      ap (λ b. b || list_any is_call_node (kept named g l)) (of_call (means_here call t place) t place).calls
   calls_kept (ast_node (ast_condition t level) place ∷ l) h =
       ap (λ b. b || list_any is_call_node (kept named g l))
-      (condition_no_call (means_here condition t place) t level place)
+      (of_condition (means_here condition t place) t level place).calls
       ∙ calls_kept l h.1
   calls_kept (group t ∷ l) h = absurd h.0
   calls_kept (backref n casei ∷ l) h = absurd h.0
@@ -262,16 +205,16 @@ module _ (named : Bool) (g : List Opening) where
       numbers_step (resolved_in named g (ast_node (ast_backref t casei level) place))
       (record { place = place; role = back_reference; target = t }) (kept named g l)
       (references_in (filter_map item_of l))
-      (backref_refers (means_here back_reference t place) t casei level place) (numbers_kept l h.1)
+      (of_backref (means_here back_reference t place) t casei level place).refers (numbers_kept l h.1)
   numbers_kept (ast_node (ast_call t) place ∷ l) h =
       numbers_step (resolved_in named g (ast_node (ast_call t) place))
       (record { place = place; role = call; target = t })
-      (kept named g l) (references_in (filter_map item_of l)) (call_refers (means_here call t place) t place)
+      (kept named g l) (references_in (filter_map item_of l)) (of_call (means_here call t place) t place).refers
       (numbers_kept l h.1)
   numbers_kept (ast_node (ast_condition t level) place ∷ l) h =
       numbers_step (resolved_in named g (ast_node (ast_condition t level) place))
       (record { place = place; role = condition; target = t }) (kept named g l) (references_in (filter_map item_of l))
-      (condition_refers (means_here condition t place) t level place) (numbers_kept l h.1)
+      (of_condition (means_here condition t place) t level place).refers (numbers_kept l h.1)
   numbers_kept (group t ∷ l) h = absurd h.0
   numbers_kept (backref n casei ∷ l) h = absurd h.0
   numbers_kept (backref_at_level n level casei ∷ l) h = absurd h.0

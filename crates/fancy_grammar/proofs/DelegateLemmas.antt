@@ -1,6 +1,7 @@
 -- A Delegate's text, read as a class or an escape.
 use Rattle.std.proofs.Common.{◌≡◌, ℕ, ◌+◌, Bool, true, false, not, List, [], ◌∷◌, Option, Some, None, MatchOption}
 use Rattle.std.proofs.Common.{is_some, Result, Ok, Err, IfOk, chars, length, refl, sym, ap, ◌∙◌, arith}
+use Rattle.std.proofs.lemmas.Bool.{or_parts, false≢true}
 use Rattle.std.specs.Borrow.{Bor}
 use Rattle.std.specs.declared.alloc.AllocError.{AllocError}
 use Rattle.std.specs.Char.{len_utf8}
@@ -24,10 +25,8 @@ use Rattle.fancy_grammar.specs.Normal.{bare, class_of, whole_of, whole_leaf, nor
 use Rattle.fancy_grammar.specs.Join.{is_empty}
 use Rattle.fancy_grammar.specs.Printable.{printable}
 use Rattle.fancy_grammar.specs.Tree.{Tree, empty, assertion, literal, concat, alt, delegate, define_group}
+use Rattle.fancy_grammar.proofs.ReadBack.DelegateTexts.{other_left, no_other}
 use Rattle.fancy_grammar.proofs.ReadBack.PrintableLaws.{normal_empty}
-
-falsity : false ≡ true → ⊥
-falsity h = cc
 
 -- a text behind a character of one byte
 one_more : (bs : List ℕ) (n : ℕ) → IsUtf8 bs → n ≡ length bs + 1 → n ≡ 1 + bytes (chars bs)
@@ -39,13 +38,8 @@ whole_left : (o : Option (ℕ × Bor (List ℕ))) (b : Bool) (r : Tree) (v : Tex
     MatchOption o (v ≡ []) (λ p. v ≡ p.0 ∷ chars p.1.now) → b ≡ is_some (whole_of v r)
 whole_left None true r v class none is = class ∙ ap (λ w. is_some (whole_of w r)) (sym is)
 whole_left (Some p) false r v class none is = ap (λ w. is_some (whole_of w r)) (sym is)
-whole_left None false r v class none is = absurd (falsity none)
-whole_left (Some p) true r v class none is = absurd (falsity (sym none))
-
--- what is no Delegate is none, whatever is left
-other_left : (r : Tree) (v : Text) → false ≡ is_some (whole_of [] r) → false ≡ is_some (whole_of v r)
-other_left r [] other = other
-other_left r (c ∷ v) other = refl
+whole_left None false r v class none is = absurd (false≢true none)
+whole_left (Some p) true r v class none is = absurd (false≢true (sym none))
 
 module _ (bs : List ℕ) (n : ℕ) (f : Flags) (utf8 : IsUtf8 bs) (whole : n ≡ length bs + 1) (is : f ≡ flags_of 0) where
   -- a class under no flags, as a leaf
@@ -111,8 +105,9 @@ none_of_nothing bs is = rw is refl
 
 pub none_of_others : (bs r : List ℕ) (c : ℕ) → chars bs ≡ c ∷ chars r → c ∈ "[\\" ≡ false →
     false ≡ is_some (class_of (bare false) (chars bs))
-unfolding class_of
-none_of_others bs r c is other = rw (is, other) refl
+none_of_others bs r c is other =
+    let (a, b) = or_parts _ _ other in
+    no_other c (chars r) a b ∙ sym (ap (λ t. is_some (class_of (bare false) t)) is)
 
 pub one_shorter : (s r : List ℕ) (c : ℕ) → IsUtf8 s → IsUtf8 r → chars s ≡ c ∷ chars r → len_utf8 c ≡ 1 →
     length s ≡ length r + 1
@@ -137,11 +132,11 @@ may_be_blank (define_group t) = true
 may_be_blank _ = false
 
 pub solid_variant : (t : Tree) → may_be_blank t ≡ false → false ≡ is_empty (normal false t)
-solid_variant empty h = absurd (falsity (sym h))
-solid_variant (literal s casei) h = absurd (falsity (sym h))
-solid_variant (concat ts) h = absurd (falsity (sym h))
-solid_variant (alt ts) h = absurd (falsity (sym h))
-solid_variant (define_group t) h = absurd (falsity (sym h))
+solid_variant empty h = absurd (false≢true (sym h))
+solid_variant (literal s casei) h = absurd (false≢true (sym h))
+solid_variant (concat ts) h = absurd (false≢true (sym h))
+solid_variant (alt ts) h = absurd (false≢true (sym h))
+solid_variant (define_group t) h = absurd (false≢true (sym h))
 solid_variant (delegate s casei) h = sym (normal_empty false (delegate s casei))
 solid_variant (assertion (StartLineOniguruma crlf)) h = refl
 solid_variant (assertion a) h = refl

@@ -1,6 +1,7 @@
 -- How what a part comes to is what the whole comes to.
 use Rattle.std.proofs.Common.{◌≡◌, ℕ, Bool, true, false, if◌then◌else◌, List, [], ◌∷◌, ◌++◌, Some, refl, ap, subst}
 use Rattle.std.proofs.Common.{append_assoc}
+use Rattle.std.specs.List.{AllByRecursion}
 use Rattle.fancy_lex.specs.Fault.{Kind}
 use Rattle.fancy_lex.specs.Text.{Text, strip}
 use Rattle.fancy_lex.specs.declared.error.Error.{Error}
@@ -76,6 +77,21 @@ solid-append (r ∷ l) m = by_test (is_empty r) (solid-append l m)
         (if b then solid (l ++ m) else r ∷ solid (l ++ m)) ≡ (if b then solid l else r ∷ solid l) ++ solid m
     by_test true h = h
     by_test false h = ap (λ x. r ∷ x) h
+
+-- what holds of each of some trees holds of each in both lists, and of each that is not Empty
+module _ (P : Tree → Type 0) where
+  pub each_append : (l m : List Tree) → AllByRecursion P l → AllByRecursion P m → AllByRecursion P (l ++ m)
+  each_append [] m h k = k
+  each_append (t ∷ l) m h k = (h.0, each_append l m h.1 k)
+
+  each_if : (b : Bool) (t : Tree) (l : List Tree) → P t → AllByRecursion P l →
+      AllByRecursion P (if b then l else t ∷ l)
+  each_if true t l h k = k
+  each_if false t l h k = (h, k)
+
+  pub each_solid : (l : List Tree) → AllByRecursion P l → AllByRecursion P (solid l)
+  each_solid [] h = tt
+  each_solid (t ∷ l) h = each_if (is_empty t) t (solid l) h.0 (each_solid l h.1)
 
 pub more_any : {n d : ℕ} {s t : State} {u : Text} {r : Tree} (o : Outcome (List Tree)) → Branch n d s (done r t) →
     strip bar t.rest ≡ Some u →

@@ -1,7 +1,7 @@
 -- The functions that the grammar's premises speak of are the relations.
-use Rattle.std.proofs.Common.{◌≡◌, ℕ, false, sym, ◌∙◌, subst}
+use Rattle.std.proofs.Common.{subst}
 use Rattle.fancy_lex.proofs.BoundaryRelation.{boundary_reads, boundary_is}
-use Rattle.fancy_lex.proofs.ClassLaws.{class_complete, class_reads}
+use Rattle.fancy_lex.proofs.ClassLaws.{class_is, class_reads}
 use Rattle.fancy_lex.proofs.DelimitedLaws.{name_sound, name_complete}
 use Rattle.fancy_lex.proofs.HexRelation.{hex_reads, hex_is}
 use Rattle.fancy_lex.proofs.IdReferenceLaws.{reference_sound, reference_complete}
@@ -9,12 +9,8 @@ use Rattle.fancy_lex.proofs.LayoutLaws.{layout_sound, layout_complete, unclosed_
 use Rattle.fancy_lex.proofs.NumberLemmas.{number_sound, number_complete}
 use Rattle.fancy_lex.proofs.NumberTextLaws.{text_sound, text_complete}
 use Rattle.fancy_lex.specs.Boundary.{Boundary}
-use Rattle.fancy_lex.specs.Class.{class, Class, Outcome, written, fault, StartsWithClass, ClassFaults}
-use Rattle.fancy_lex.specs.Fault.{Fault}
+use Rattle.fancy_lex.specs.Class.{OuterClass}
 use Rattle.fancy_lex.specs.Hex.{HexCode}
-use Rattle.fancy_lex.specs.Reading.{gives, fails}
-use Rattle.fancy_lex.specs.Text.{Text}
-use Rattle.fancy_lex.specs.declared.flags.Flags.{Flags}
 use Rattle.fancy_parts.proofs.LetterRelation.{flag_group_reads, flag_group_is}
 use Rattle.fancy_parts.specs.FlagLetters.{FlagGroup}
 use Rattle.fancy_grammar.specs.Premises.{LayoutIsRelated, ClassIsRelated, LettersAreRelated, BoundaryIsRelated}
@@ -27,29 +23,8 @@ layout_related n x t = (
   λ p. (unclosed_sound n x t p, unclosed_complete n x t p),
 )
 
--- by what the class comes to
-module _ (n : ℕ) (f : Flags) (t : Text) where
-  class_read : (out v : Text) → class n f t ≡ gives out v → (o : Outcome) × Class n f false t o →
-      StartsWithClass n f t v out
-  class_read out v e (written w a u, h) =
-      let both = sym (class_complete n f t _ h) ∙ e in
-      let same : w ≡ out = cc in
-      let left : u ≡ v = cc in
-      (a, subst (λ z. Class n f false t (written out a z)) left (subst (λ z. Class n f false t (written z a u)) same h))
-  class_read out v e (fault x, h) = let both = sym (class_complete n f t _ h) ∙ e in absurd cc
-
-  class_fault : (e : Fault) → class n f t ≡ fails e → (o : Outcome) × Class n f false t o → ClassFaults n f t e
-  class_fault e i (written w a u, h) = let both = sym (class_complete n f t _ h) ∙ i in absurd cc
-  class_fault e i (fault x, h) =
-      let both = sym (class_complete n f t _ h) ∙ i in
-      let same : x ≡ e = cc in
-      subst (ClassFaults n f t) same h
-
 pub class_related : ClassIsRelated
-class_related n f t = (
-  λ out v. (λ e. class_read n f t out v e (class_reads n f t), λ h. class_complete n f t _ h.1),
-  λ e. (λ i. class_fault n f t e i (class_reads n f t), λ h. class_complete n f t _ h),
-)
+class_related n f t o = (λ e. subst (OuterClass n f t) e (class_reads n f t), λ h. class_is n f t o h)
 
 pub letters_related : LettersAreRelated
 letters_related n f t o = (λ e. subst (FlagGroup n f t) e (flag_group_reads n f t), λ h. flag_group_is n f t h)

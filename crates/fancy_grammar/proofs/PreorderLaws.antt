@@ -5,9 +5,11 @@ use Rattle.std.proofs.lemmas.List.{map-append}
 use Rattle.std.proofs.lemmas.List.Elements.{filter-append, filter_map-append}
 use Rattle.fancy_lex.specs.Text.{Text}
 use Rattle.fancy_lex.specs.Target.{Target}
-use Rattle.fancy_parts.specs.Meaning.{Meaning, number, unresolved, faulty, means, back_reference, call, condition}
+use Rattle.fancy_parts.specs.Meaning.{Meaning, number, unresolved, faulty, means, Role, back_reference, call, condition}
 use Rattle.fancy_parts.specs.Ranks.{Opening, is_counted, numbers, opened_before}
+use Rattle.fancy_grammar.specs.Answered.{is_group, is_call_node, group_referred}
 use Rattle.fancy_grammar.specs.Items.{Item, opening, reference, items, items_all, items_absent}
+use Rattle.fancy_grammar.specs.Marks.{is_call, back_number}
 use Rattle.fancy_grammar.specs.Preorder.{preorder, preorder_all, preorder_absent}
 use Rattle.fancy_grammar.specs.Resolved.{resolved_in, resolved_all, resolved_absent, group_or_inside, reference_node}
 use Rattle.fancy_grammar.specs.Tree.{Tree, Trees, no_trees, more_trees, concat, alt, group, look_around, repeat}
@@ -21,26 +23,31 @@ abbrev pub is_kept : Bool → Tree → Bool
 is_kept named (ast_node (ast_group name t) place) = is_counted named name
 is_kept named _ = true
 
--- a reference that is resolved is one node
-one_backref : (m : Meaning) (t : Target) (casei : Bool) (level : Option ℤ) (place : ℕ) →
-    preorder (reference_node m (ast_backref t casei level) place) ≡ reference_node m (ast_backref t casei level)
-    place ∷ []
-one_backref (number n) t casei None place = refl
-one_backref (number n) t casei (Some level) place = refl
-one_backref unresolved t casei level place = refl
-one_backref (faulty k) t casei level place = refl
+-- the node of a reference stands alone, is no group, is a call where the reference is one, and refers to a group where
+-- that is a back reference
+pub record IsNodeOf (role : Role) (m : Meaning) (node : Tree) : Type 0 where
+  pub alone : preorder node ≡ node ∷ []
+  pub no_group : is_group node ≡ false
+  pub calls : is_call_node node ≡ is_call role
+  pub refers : group_referred node ≡ back_number role m
 
-one_call : (m : Meaning) (t : Target) (place : ℕ) →
-    preorder (reference_node m (ast_call t) place) ≡ reference_node m (ast_call t) place ∷ []
-one_call (number n) t place = refl
-one_call unresolved t place = refl
-one_call (faulty k) t place = refl
+pub of_backref : (m : Meaning) (t : Target) (casei : Bool) (level : Option ℤ) (place : ℕ) →
+    IsNodeOf back_reference m (reference_node m (ast_backref t casei level) place)
+of_backref (number n) t casei None place = record { alone = refl; no_group = refl; calls = refl; refers = refl }
+of_backref (number n) t casei (Some level) place = record { alone = refl; no_group = refl; calls = refl; refers = refl }
+of_backref unresolved t casei level place = record { alone = refl; no_group = refl; calls = refl; refers = refl }
+of_backref (faulty k) t casei level place = record { alone = refl; no_group = refl; calls = refl; refers = refl }
 
-one_condition : (m : Meaning) (t : Target) (level : Option ℤ) (place : ℕ) →
-    preorder (reference_node m (ast_condition t level) place) ≡ reference_node m (ast_condition t level) place ∷ []
-one_condition (number n) t level place = refl
-one_condition unresolved t level place = refl
-one_condition (faulty k) t level place = refl
+pub of_call : (m : Meaning) (t : Target) (place : ℕ) → IsNodeOf call m (reference_node m (ast_call t) place)
+of_call (number n) t place = record { alone = refl; no_group = refl; calls = refl; refers = refl }
+of_call unresolved t place = record { alone = refl; no_group = refl; calls = refl; refers = refl }
+of_call (faulty k) t place = record { alone = refl; no_group = refl; calls = refl; refers = refl }
+
+pub of_condition : (m : Meaning) (t : Target) (level : Option ℤ) (place : ℕ) →
+    IsNodeOf condition m (reference_node m (ast_condition t level) place)
+of_condition (number n) t level place = record { alone = refl; no_group = refl; calls = refl; refers = refl }
+of_condition unresolved t level place = record { alone = refl; no_group = refl; calls = refl; refers = refl }
+of_condition (faulty k) t level place = record { alone = refl; no_group = refl; calls = refl; refers = refl }
 
 module _ (named : Bool) (g : List Opening) where
   -- what is left of nodes, resolved
@@ -87,11 +94,11 @@ module _ (named : Bool) (g : List Opening) where
     resolved_nodes (ast_node (ast_group name t) place) =
         group_kept name t place (is_counted named name) refl (resolved_nodes t)
     resolved_nodes (ast_node (ast_backref t casei level) place) =
-        one_backref (means (λ u. numbers u g) (opened_before g place) back_reference t) t casei level place
+        (of_backref (means (λ u. numbers u g) (opened_before g place) back_reference t) t casei level place).alone
     resolved_nodes (ast_node (ast_call t) place) =
-        one_call (means (λ u. numbers u g) (opened_before g place) call t) t place
+        (of_call (means (λ u. numbers u g) (opened_before g place) call t) t place).alone
     resolved_nodes (ast_node (ast_condition t level) place) =
-        one_condition (means (λ u. numbers u g) (opened_before g place) condition t) t level place
+        (of_condition (means (λ u. numbers u g) (opened_before g place) condition t) t level place).alone
     resolved_nodes _ = refl
 
     all_nodes : (ts : Trees) → preorder_all (resolved_all named g ts) ≡ kept (preorder_all ts)

@@ -1,6 +1,7 @@
 -- What a printable tree is, and when a normal form is Empty.
 use Rattle.std.proofs.Common.{◌≡◌, Bool, true, false, ◌&&◌, if◌then◌else◌, List, [], ◌∷◌, map, Result, Ok, Err, IfOk}
 use Rattle.std.proofs.Common.{refl, sym, ap₂, ◌∙◌}
+use Rattle.std.proofs.lemmas.Bool.{false≢true}
 use Rattle.std.specs.List.{list_all}
 use Rattle.std.specs.declared.alloc.AllocError.{AllocError}
 use Rattle.std.specs.Cmp.{first_so, second_so}
@@ -13,9 +14,6 @@ use Rattle.fancy_grammar.specs.Printable.{printable, all_printable}
 use Rattle.fancy_grammar.specs.Printed.{has_text, all_have_text}
 use Rattle.fancy_grammar.specs.Tree.{Tree, Trees, no_trees, more_trees, empty, any, assertion, literal, concat, alt}
 use Rattle.fancy_grammar.specs.Tree.{group, repeat, delegate, define_group}
-
-no_truth : false ≡ true → ⊥
-no_truth h = cc
 
 both_so : (a b : Bool) → a ≡ true → b ≡ true → (a && b) ≡ true
 both_so a b p q = rw p q
@@ -37,7 +35,7 @@ mutual
   printable_text (group t) h = printable_text t h
   printable_text (repeat t lo hi greedy) h = printable_text t (first_so (printable t) _ h)
   printable_text (define_group t) h = refl
-  printable_text _ h = absurd (no_truth h)
+  printable_text _ h = absurd (false≢true h)
 
   printable_texts : (ts : Trees) → all_printable ts ≡ true → all_have_text ts ≡ true
   printable_texts no_trees h = refl
@@ -70,18 +68,19 @@ pub join_empty : (ts : List Tree) → is_empty (join ts) ≡ list_all is_empty t
 join_empty [] = refl
 join_empty (t ∷ ts) = solid_front (is_empty t) t ts refl (join_empty ts)
 
-pub one_solid : (b : Bool) (n : Tree) → is_empty n ≡ b → list_all is_empty (if b then [] else n ∷ []) ≡ b
+one_solid : (b : Bool) (n : Tree) → is_empty n ≡ b → list_all is_empty (if b then [] else n ∷ []) ≡ b
 one_solid true n e = refl
 one_solid false n e = rw e refl
 
-items_empty : (t : Tree) → list_all is_empty (pieces_of t (normal false t)) ≡ is_empty (normal false t)
-items_empty (literal s false) = sym (join_empty (map (character false) s))
-items_empty t = one_solid (is_empty (normal false t)) (normal false t) refl
+-- what a tree is among the pieces of a sequence is all Empty where the tree is
+pub pieces_empty : (u : Bool) (t : Tree) → list_all is_empty (pieces_of t (normal u t)) ≡ is_empty (normal u t)
+pieces_empty u (literal s false) = sym (join_empty (map (character false) s))
+pieces_empty u t = one_solid (is_empty (normal u t)) (normal u t) refl
 
 all_items_empty : (ts : Trees) → list_all is_empty (normal_pieces false ts) ≡ empties ts
 all_items_empty no_trees = refl
 all_items_empty (more_trees t ts) = list_all-append is_empty (pieces_of t (normal false t)) (normal_pieces false ts)
-    ∙ ap₂ (λ a b. a && b) (items_empty t) (all_items_empty ts)
+    ∙ ap₂ (λ a b. a && b) (pieces_empty false t) (all_items_empty ts)
 
 pub items_join_empty : (ts : Trees) → is_empty (join (normal_pieces false ts)) ≡ empties ts
 items_join_empty ts = join_empty (normal_pieces false ts) ∙ all_items_empty ts

@@ -1,7 +1,6 @@
 -- The normal form of a tree, under a Unicode setting: what its printed text is read as.
-use Rattle.std.specs.Prelude.{ℕ, Bool, false, not, ◌&&◌, if◌then◌else◌, List, [], ◌∷◌, ◌++◌, map, is_none, Option, Some}
+use Rattle.std.specs.Prelude.{ℕ, Bool, false, not, ◌&&◌, List, [], ◌∷◌, ◌++◌, map, is_none, Option, Some}
 use Rattle.std.specs.Prelude.{None, unwrap_or}
-use Rattle.fancy_lex.specs.Characters.{◌∈◌}
 use Rattle.fancy_lex.specs.Text.{Text, bytes}
 use Rattle.fancy_lex.specs.declared.escape.Assertion.TheVariants.{StartLine, StartLineOniguruma}
 use Rattle.fancy_lex.specs.declared.flags.Flags.{Flags}
@@ -44,10 +43,10 @@ abbrev pub whole_leaf : Outcome Tree → Option Tree
 whole_leaf (done r s) = whole_of s.rest r
 whole_leaf (fault k p) = None
 
--- the Delegate that the text alone is read as, where it is one whole class or one whole class escape
+-- the Delegate that the text alone is read as, which is one whole class or one whole class escape
 unfoldable pub class_of : Flags → Text → Option Tree
 class_of f [] = None
-class_of f (c ∷ t) = if c ∈ "[\\" then whole_leaf (leaf_of (bytes (c ∷ t)) (start f (c ∷ t)) c t) else None
+class_of f (c ∷ t) = whole_leaf (leaf_of (bytes (c ∷ t)) (start f (c ∷ t)) c t)
 
 -- ---- the normal form
 

@@ -2,16 +2,15 @@
 -- Each is proved, as a clause of `premises`.
 use Rattle.std.specs.Prelude.{◌≡◌, ◌↔◌, ℕ, Bool, Some}
 use Rattle.fancy_lex.specs.Boundary.{boundary, Boundary}
-use Rattle.fancy_lex.specs.Class.{class, StartsWithClass, ClassFaults}
+use Rattle.fancy_lex.specs.Class.{class, OuterClass}
 use Rattle.fancy_lex.specs.Delimited.{name_before, StartsWithName}
 use Rattle.fancy_lex.specs.Escaped.{Escape}
-use Rattle.fancy_lex.specs.Fault.{Fault}
 use Rattle.fancy_lex.specs.Hex.{hex, HexCode}
 use Rattle.fancy_lex.specs.IdReference.{IdReference, id_reference, IsIdReference}
 use Rattle.fancy_lex.specs.Layout.{layout, rest, fault as open_comment, Before, Unclosed}
 use Rattle.fancy_lex.specs.Number.{number, StartsWithNumber}
 use Rattle.fancy_lex.specs.NumberText.{number_text, IsNumberText}
-use Rattle.fancy_lex.specs.Reading.{Reading, gives, fails}
+use Rattle.fancy_lex.specs.Reading.{Reading}
 use Rattle.fancy_lex.specs.Text.{Text}
 use Rattle.fancy_lex.specs.declared.flags.Flags.{Flags}
 use Rattle.fancy_parts.specs.FlagLetters.{Letters, letters, FlagGroup}
@@ -23,12 +22,9 @@ LayoutIsRelated =
     ((v : Text) → (layout n x t ≡ rest v) ↔ Before x t v)
     × ((p : ℕ) → (layout n x t ≡ open_comment p) ↔ Unclosed n x t p)
 
--- a class behind its bracket, with what is written for it; or its fault
+-- a class behind its bracket
 abbrev pub ClassIsRelated : Type 0
-ClassIsRelated =
-    (n : ℕ) (f : Flags) (t : Text) →
-    ((out v : Text) → (class n f t ≡ gives out v) ↔ StartsWithClass n f t v out)
-    × ((e : Fault) → (class n f t ≡ fails e) ↔ ClassFaults n f t e)
+ClassIsRelated = (n : ℕ) (f : Flags) (t : Text) (o : Reading Text) → (class n f t ≡ o) ↔ OuterClass n f t o
 
 -- the letters of a flag group
 abbrev pub LettersAreRelated : Type 0

@@ -1,6 +1,7 @@
 -- A boundary's name, and the words that are spelled.
 use Rattle.std.proofs.Common.{◌≡◌, ℕ, zero, suc, ◌<◌, Bool, true, false, not, ◌&&◌, ◌==◌, [], ◌∷◌, length, codes}
 use Rattle.std.proofs.Common.{Option, Some, None, refl, ap, sym, ◌∙◌, arith}
+use Rattle.std.proofs.lemmas.Bool.{false≢true}
 use Rattle.std.specs.Str.{bytes_eq}
 use Rattle.std.proofs.lemmas.Slice.Eq.{bytes_eq-Decides}
 use Rattle.fancy_lex.specs.declared.escape.Assertion.{Assertion}
@@ -24,14 +25,11 @@ abbrev pub no_brace : Text → Bool
 no_brace [] = true
 no_brace (c ∷ w) = not (c == close_brace) && no_brace w
 
-told_apart : false ≡ true → ⊥
-told_apart e = cc
-
 -- the tests of two words, from those of their characters
 plain_head : (c : ℕ) (w : Text) → no_brace (c ∷ w) ≡ true → ((c == close_brace) ≡ false) × (no_brace w ≡ true)
 plain_head c w b = by (c == close_brace) refl b where
   by : (h : Bool) → (c == close_brace) ≡ h → (not h && no_brace w) ≡ true → (h ≡ false) × (no_brace w ≡ true)
-  by true e b = absurd (told_apart b)
+  by true e b = absurd (false≢true b)
   by false e b = (refl, b)
 
 -- one step of a name

@@ -1,5 +1,5 @@
 -- The reading function and the relation are one.
-use Rattle.std.proofs.Common.{◌≡◌, ◌≢◌, Result, Ok, Err, String, MatchResult, IfOk, chars, ℕ, zero, suc, pred, ◌+◌, ◌-◌}
+use Rattle.std.proofs.Common.{◌≡◌, ◌≢◌, Result, Ok, Err, String, IfOk, chars, ℕ, zero, suc, pred, ◌+◌, ◌-◌}
 use Rattle.std.proofs.Common.{◌<◌, ◌≤◌, Bool, true, false, ◌==◌, ◌||◌, if◌then◌else◌, List, [], ◌∷◌, ◌++◌, Option, Some}
 use Rattle.std.proofs.Common.{None, refl, ap, sym, ◌∙◌, arith, append_assoc, subst, ◌⊎◌, inl, inr}
 use Rattle.std.proofs.lemmas.Bool.{cases_eq}
@@ -11,19 +11,19 @@ use Rattle.fancy_lex.specs.Characters.{backslash, open_bracket, close_bracket, c
 use Rattle.fancy_lex.specs.Class.{class_head, with_mark, items_from, class, item_text, is_negated, is_plain, Outcome}
 use Rattle.fancy_lex.specs.Class.{written, fault, Class, class_items, items_fault, Items, close, plain, escaped, nested}
 use Rattle.fancy_lex.specs.Class.{end, plain_fault, escape_fault, escaped_fault, class_fault, nested_fault}
-use Rattle.fancy_lex.specs.Class.{StartsWithClass, ClassFaults, IsClassError}
+use Rattle.fancy_lex.specs.Class.{OuterClass}
 use Rattle.fancy_lex.specs.Escape.{escape}
 use Rattle.fancy_lex.specs.Escaped.{Escape}
 use Rattle.fancy_lex.specs.Fault.{Fault}
 use Rattle.fancy_lex.specs.FaultTable.{class_not_closed}
-use Rattle.fancy_lex.specs.Reading.{Reading, gives, fails, fault_at, choose, Gives, Fails}
+use Rattle.fancy_lex.specs.Reading.{Reading, gives, fails, choose, Gives, Derives}
 use Rattle.fancy_lex.specs.Text.{Text, bytes, place_of, strip, text_of}
 use Rattle.fancy_lex.specs.declared.error.Error.{Error}
-use Rattle.fancy_lex.specs.declared.error.Error.TheVariants.{ParseError, OutOfMemory}
 use Rattle.fancy_lex.specs.declared.flags.Flags.{Flags}
 use Rattle.fancy_lex.proofs.ClassLemmas.{items_end, items_plain, items_open, items_escape, pred_lt}
 use Rattle.fancy_lex.proofs.EscapeFrame.{escape_frame}
 use Rattle.fancy_lex.proofs.EscapeLaws.{escape_within}
+use Rattle.fancy_lex.proofs.ReadingLemmas.{derives_given}
 
 bytes_cons : (c : ℕ) (t : Text) → bytes t < bytes (c ∷ t)
 unfolding bytes
@@ -188,6 +188,10 @@ unfolding class
 class_complete n f t (written w a v) h = let (j, m, less, q) = run_class h (suc (bytes t)) 0 [] (omega arith) in q
 class_complete n f t (fault e) h = run_class h (suc (bytes t)) 0 [] (omega arith)
 
+pub class_is : (n : ℕ) (f : Flags) (t : Text) (o : Reading Text) → OuterClass n f t o → class n f t ≡ o
+class_is n f t (gives out v) (a, h) = class_complete n f t _ h
+class_is n f t (fails e) h = class_complete n f t _ h
+
 -- Every text reads, or has a fault.
 
 abbrev Less : Text → Outcome → Type 0
@@ -262,12 +266,16 @@ items_read n f zero b t l = absurd (omega arith)
 items_read n f (suc k) b [] l = (fault (class_not_closed n), end, tt)
 items_read n f (suc k) b (c ∷ t) l = one_more n f k (items_read n f k) b t (omega (arith, l, bytes_cons c t)) c
 
-pub class_reads : (n : ℕ) (f : Flags) (t : Text) → (o : Outcome) × Class n f false t o
+outer : (n : ℕ) (f : Flags) (t : Text) (o : Outcome) → Class n f false t o → OuterClass n f t (answer o)
+outer n f t (written w a v) h = (a, h)
+outer n f t (fault e) h = h
+
+pub class_reads : (n : ℕ) (f : Flags) (t : Text) → OuterClass n f t (class n f t)
 class_reads n f t =
     let p = class_head [] t in
     let (o, h, less) = class_within n f false t p.0 p.1 refl
     (items_read n f (suc (bytes p.1)) false p.1 (omega arith)) in
-    (o, h)
+    subst (OuterClass n f t) (sym (class_complete n f t o h)) (outer n f t o h)
 
 -- What follows does not matter: by induction on the derivation.
 
@@ -279,7 +287,7 @@ items_some (escaped {t} q h) = (backslash, t, refl)
 items_some (nested {t} g h) = (open_bracket, t, refl)
 
 -- with s behind what is left
-abbrev before : Text → Text × Text → Text × Text
+abbrev pub before : Text → Text × Text → Text × Text
 before s p = (p.0, p.1 ++ s)
 
 mark_some : (m : ℕ) (out t : Text) (c : ℕ) (u : Text) → (with_mark m (out, t)).1 ≡ c ∷ u →
@@ -296,14 +304,14 @@ mark_frame m out t s d r e = rw e (by_test (d == m)) where
   by_test true = refl
   by_test false = refl
 
-class_head_frame : (t s : Text) (c : ℕ) (u : Text) → (class_head [] t).1 ≡ c ∷ u →
-    ◌≡◌ {A = Text × Text} (class_head [] (t ++ s)) (before s (class_head [] t))
+pub class_head_frame : (out t s : Text) (c : ℕ) (u : Text) → (class_head out t).1 ≡ c ∷ u →
+    ◌≡◌ {A = Text × Text} (class_head out (t ++ s)) (before s (class_head out t))
 unfolding class_head
-class_head_frame t s c u e =
-    let p = with_mark caret (open_bracket ∷ [], t) in
+class_head_frame out t s c u e =
+    let p = with_mark caret (out ++ open_bracket ∷ [], t) in
     let (d, r, q) = mark_some close_bracket p.0 p.1 c u e in
-    let (d', r', q') = mark_some caret (open_bracket ∷ []) t d r q in
-    ap (with_mark close_bracket) (mark_frame caret (open_bracket ∷ []) t s d' r' q')
+    let (d', r', q') = mark_some caret (out ++ open_bracket ∷ []) t d r q in
+    ap (with_mark close_bracket) (mark_frame caret (out ++ open_bracket ∷ []) t s d' r' q')
     ∙ mark_frame close_bracket p.0 p.1 s d r q
 
 mutual
@@ -311,7 +319,8 @@ mutual
       Class m f b (t ++ s) (written w a (v ++ s))
   class_frame {t} (class_items e h) m s =
       let (c, u, q) = items_some h in
-      class_items (class_head_frame t s c u (ap (λ (p : Text × Text). p.1) e ∙ q) ∙ ap (before s) e) (items_frame h m s)
+      class_items (class_head_frame [] t s c u (ap (λ (p : Text × Text). p.1) e ∙ q) ∙ ap (before s) e)
+      (items_frame h m s)
 
   items_frame : {n : ℕ} {f : Flags} {b a : Bool} {t w v : Text} → Items n f b t (written w a v) → (m : ℕ) (s : Text) →
       Items m f b (t ++ s) (written w a (v ++ s))
@@ -322,51 +331,17 @@ mutual
 
 -- The clauses of the reader.
 
-same_gives : (x y t u : Text) → gives x t ≡ gives y u → (x ≡ y) × (t ≡ u)
-same_gives x y t u e = (cc, cc)
+module _ (n : ℕ) (f : Flags) (t : Text) (r : Result (String Global × Bor (List ℕ)) Error)
+    (g : Gives text_of r (class n f t)) where
+  pub class_derives : Derives text_of r (OuterClass n f t)
+  class_derives = derives_given text_of r (OuterClass n f t) (class n f t) (class_reads n f t) g
 
-no_fault : (x t : Text) (e : Fault) → gives x t ≡ fails e → ⊥
-no_fault x t e q = cc
-
-same_fault : (e x : Fault) → ◌≡◌ {A = Reading Text} (fails e) (fails x) → e ≡ x
-same_fault e x q = cc
-
-pub class_derives : (n : ℕ) (f : Flags) (t : Text) (r : Result (String Global × Bor (List ℕ)) Error) →
-    Gives text_of r (class n f t) → MatchResult r (λ p. StartsWithClass n f t (chars p.1.now) (text_of p.0))
-    (λ e. IsClassError n f t e)
-class_derives n f t r g = by_reading (class_reads n f t) r g where
-  by_reading : (o : Outcome) × Class n f false t o → (r : Result (String Global × Bor (List ℕ)) Error) →
-      Gives text_of r (class n f t) → MatchResult r (λ p. StartsWithClass n f t (chars p.1.now) (text_of p.0))
-      (λ e. IsClassError n f t e)
-  by_reading (written w a v, h) (Ok p) g =
-      let (x, y) = same_gives w (text_of p.0) v (chars p.1.now) (sym (class_complete n f t _ h) ∙ g) in (
-        a,
-        subst (λ z. Class n f false t (written (text_of p.0) a z)) y
-            (subst (λ z. Class n f false t (written z a v)) x h),
-      )
-  by_reading (fault e, h) (Ok p) g = absurd (no_fault _ _ e (sym g ∙ class_complete n f t _ h))
-  by_reading (written w a v, h) (Err (ParseError p k)) g = absurd (no_fault w v _ (sym (class_complete n f t _ h) ∙ g))
-  by_reading (fault e, h) (Err (ParseError p k)) g =
-      subst (ClassFaults n f t) (same_fault e _ (sym (class_complete n f t _ h) ∙ g)) h
-  by_reading o (Err OutOfMemory) g = tt
-
-pub class_only : (n : ℕ) (f : Flags) (t v out : Text) (r : Result (String Global × Bor (List ℕ)) Error) →
-    Gives text_of r (class n f t) → StartsWithClass n f t v out →
-    MatchResult r (λ p. (text_of p.0 ≡ out) × (chars p.1.now ≡ v)) (λ e. e ≡ OutOfMemory)
-class_only n f t v out (Ok p) g (a, h) = same_gives _ out _ v (sym g ∙ class_complete n f t _ h)
-class_only n f t v out (Err OutOfMemory) g h = refl
-class_only n f t v out (Err (ParseError p k)) g (a, h) = absurd (no_fault out v _ (sym (class_complete n f t _ h) ∙ g))
-
-pub class_only_fault : (n : ℕ) (f : Flags) (t : Text) (e : Fault) (r : Result (String Global × Bor (List ℕ)) Error) →
-    Gives text_of r (class n f t) → ClassFaults n f t e →
-    MatchResult r (λ _. ⊥) (λ error. Fails error (fault_at {A = Text} e.place e.kind))
-class_only_fault n f t e (Ok p) g h = no_fault _ _ e (sym g ∙ class_complete n f t _ h)
-class_only_fault n f t e (Err OutOfMemory) g h = tt
-class_only_fault n f t e (Err (ParseError p k)) g h = sym (class_complete n f t _ h) ∙ g
+  pub class_only : (o : Reading Text) → OuterClass n f t o → Gives text_of r o
+  class_only o h = subst (Gives text_of r) (class_is n f t o h) g
 
 pub class_follows : (n m : ℕ) (f : Flags) (t s : Text) (r : Result (String Global × Bor (List ℕ)) Error) →
     Gives text_of r (class n f t) → IfOk r (λ p. class m f (t ++ s) ≡ gives (text_of p.0) (chars p.1.now ++ s))
 class_follows n m f t s (Ok p) g =
-    let (a, h) = class_derives n f t (Ok p) g in
+    let (a, h) = subst (OuterClass n f t) g (class_reads n f t) in
     class_complete m f (t ++ s) _ (class_frame h m s)
 class_follows n m f t s (Err e) g = tt

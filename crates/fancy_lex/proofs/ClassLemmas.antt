@@ -67,10 +67,10 @@ module _ (n : ℕ) (f : Flags) where
         let here = subst (λ s. Reports b (escape n f true (place_of n s) r)) (e ∙ ap (λ d. d ∷ r) g) q in
         rw (e, g, items_from) (report_fails b _ (reports_first _ _ b here))
 
-  pub class_init : (t o out left : Text) → o ≡ [] → ◌≡◌ {A = Text × Text} (class_head o t) (out, left) →
-      class n f t ≡ items_from n f (suc (bytes t)) 0 false out left
+  pub class_init : (t o out rest : Text) → o ≡ [] → ◌≡◌ {A = Text × Text} (class_head o t) (out, rest) →
+      class n f t ≡ items_from n f (suc (bytes t)) 0 false out rest
   unfolding class
-  class_init t o out left z e = ap (λ (p : Text × Text). items_from n f (suc (bytes t)) 0 false p.0 p.1)
+  class_init t o out rest z e = ap (λ (p : Text × Text). items_from n f (suc (bytes t)) 0 false p.0 p.1)
       (ap (λ u. class_head u t) (sym z) ∙ e)
 
 -- the same, where the code holds the parts

@@ -16,8 +16,8 @@ pub all_snoc : (w : Text) (c : ℕ) → AllIdChars w → is_id_char c ≡ true �
 all_snoc [] c a h = (h, tt)
 all_snoc (d ∷ w) c a h = (a.0, all_snoc w c a.1 h)
 
-pub read_step : (t w left r : Text) (c : ℕ) → t ≡ w ++ left → left ≡ c ∷ r → t ≡ (w ++ c ∷ []) ++ r
-read_step t w left r c cut e = cut ∙ ap (λ u. w ++ u) e ∙ sym (append_assoc w (c ∷ []) r)
+pub read_step : (t w rest r : Text) (c : ℕ) → t ≡ w ++ rest → rest ≡ c ∷ r → t ≡ (w ++ c ∷ []) ++ r
+read_step t w rest r c cut e = cut ∙ ap (λ u. w ++ u) e ∙ sym (append_assoc w (c ∷ []) r)
 
 pub run_all : (w v : Text) → AllIdChars w → Stops v → ◌≡◌ {A = Text × Text} (id_run (w ++ v)) (w, v)
 unfolding id_run
@@ -37,7 +37,7 @@ id_none t s = rw (run_all [] t tt s) refl
 
 -- what a reader of id characters has read
 abbrev Read : Text → Text → Type 0
-Read t left = (w : Text) × AllIdChars w × (t ≡ w ++ left)
+Read t rest = (w : Text) × AllIdChars w × (t ≡ w ++ rest)
 
 module _ (s r : List ℕ) (u : IsUtf8 s) (v : IsUtf8 r) where
   nothing_read : (w : Text) → chars s ≡ w ++ chars r → length r ≡ length s → w ≡ []

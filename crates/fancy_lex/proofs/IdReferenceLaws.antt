@@ -4,7 +4,7 @@ use Rattle.std.proofs.Common.{Some, None, IfSome, option_map, if◌then◌else�
 use Rattle.std.specs.Option.{option_and_then}
 use Rattle.std.specs.Ordering.{int_eq}
 use Rattle.std.specs.Cmp.{signed_Decides}
-use Rattle.std.proofs.lemmas.Bool.{cases_eq}
+use Rattle.std.proofs.lemmas.Bool.{cases_eq, false≢true}
 use Rattle.std.proofs.lemmas.Bool.Decides.{nat_tests}
 use Rattle.unicode.proofs.CategoryComputing.{ucd_category}
 use Rattle.unicode.proofs.DerivedComputing.{ucd_derived}
@@ -135,11 +135,8 @@ module _ (relative : Bool) (t : Text) (r : IdReference) where
     zero z true i a h = absurd cc
     zero z false i a h =
         let same : amount_alone z ≡ r = cc in
-        let other : z ≢ pos 0 = λ q. absurd (never (sym i ∙ (signed_Decides z (pos 0)).1 q)) in
+        let other : z ≢ pos 0 = λ q. absurd (false≢true (sym i ∙ (signed_Decides z (pos 0)).1 q)) in
         subst (IsIdReference true t) same (bare (subst (λ u. IsAmount u z) (sym e) (amount_sound (c ∷ v) z a)) other)
-      where
-        never : false ≡ true → ⊥
-        never q = cc
 
     some : (o : Option ℤ) → amount (c ∷ v) ≡ o → option_and_then (with_amount_of None) o ≡ Some r →
         IsIdReference true t r

@@ -3,7 +3,7 @@ use Rattle.std.proofs.Common.{◌≡◌, ◌≢◌, Result, Ok, Err, MatchResult
 use Rattle.std.proofs.Common.{[], ◌∷◌, ◌++◌, length, Some, None, ap, sym, ◌∙◌, refl, arith, ◌⊎◌, inl, inr, append_assoc}
 use Rattle.std.proofs.Common.{append-nil, length-append, ◌<◌, ◌≤◌, Option, subst}
 use Rattle.std.proofs.lemmas.Bool.Decides.{nat_tests}
-use Rattle.std.proofs.lemmas.Bool.{cases_eq}
+use Rattle.std.proofs.lemmas.Bool.{cases_eq, false≢true}
 use Rattle.std.specs.Borrow.{Bor}
 use Rattle.fancy_lex.specs.Characters.{line_feed, hash, open_paren, close_paren, backslash}
 use Rattle.fancy_lex.specs.Text.{Text, Stands, past_end}
@@ -213,12 +213,9 @@ front n x t =
           t ≡ (comment_head ++ (j ++ close_paren ∷ [])) ++ r
       at_comment i j r e q = rw (e, q, snoc) refl
 
-      off : false ≡ true → ⊥
-      off e = cc
-
       by_flag : (x : Bool) → after_comment_head t ≡ None → Front n x t
       by_flag true e = front_extended n t e
-      by_flag false e = stop (stops_from false t e (λ h c r q. absurd (off h))) (between_plain n t e)
+      by_flag false e = stop (stops_from false t e (λ h c r q. absurd (false≢true h))) (between_plain n t e)
 
 stop_rest : (n : ℕ) (x : Bool) (v : Text) → Stops x v → layout_from n x between v ≡ rest v
 stop_rest n x v s =

@@ -25,15 +25,7 @@ pub report_fails : {A : Type 0} (b : Error) (o : Reading A) → Reports b o → 
 report_fails (ParseError p k) o e = e
 report_fails OutOfMemory o e = tt
 
--- the answer of a function for which the relation holds is one that the relation gives
-pub derives_answer : {A B : Type 0} (f : A → B) (r : Result (A × Bor (List ℕ)) Error) (R : Reading B → Type 0)
-    (o : Reading B) →
-    R o → Answers f r o → Derives f r R
-derives_answer f (Ok p) R o h g = subst R g h
-derives_answer f (Err OutOfMemory) R o h g = tt
-derives_answer f (Err (ParseError p k)) R o h g = subst R g h
-
--- and what is the function's answer is the code's
+-- what is the function's answer is the code's
 pub only_answer : {A B : Type 0} (f : A → B) (r : Result (A × Bor (List ℕ)) Error) (o q : Reading B) → o ≡ q →
     Answers f r o → Answers f r q
 only_answer f r o q e g = subst (Answers f r) e g
@@ -43,6 +35,17 @@ pub answers_gives : {A B : Type 0} (f : A → B) (r : Result (A × Bor (List ℕ
     Gives f r o
 answers_gives f (Ok p) o g = g
 answers_gives f (Err e) o g = report_fails e o g
+
+-- the answer of a function for which the relation holds is one that the relation gives
+pub derives_given : {A B : Type 0} (f : A → B) (r : Result (A × Bor (List ℕ)) Error) (R : Reading B → Type 0)
+    (o : Reading B) → R o → Gives f r o → Derives f r R
+derives_given f (Ok p) R o h g = subst R g h
+derives_given f (Err OutOfMemory) R o h g = tt
+derives_given f (Err (ParseError p k)) R o h g = subst R g h
+
+pub derives_answer : {A B : Type 0} (f : A → B) (r : Result (A × Bor (List ℕ)) Error) (R : Reading B → Type 0)
+    (o : Reading B) → R o → Answers f r o → Derives f r R
+derives_answer f r R o h g = derives_given f r R o h (answers_gives f r o g)
 
 pub reads_answers : {A B : Type 0} (f : A → B) (r : Result (A × Bor (List ℕ)) Error) (o : Reading B) → Reads f r o →
     Answers f r o

@@ -5,13 +5,11 @@ use Prim.Native.Char.{code}
 use Rattle.fancy_lex.specs.Characters.{backslash, caret, open_bracket, close_bracket, ◌∈◌}
 use Rattle.fancy_lex.specs.Escape.{escape}
 use Rattle.fancy_lex.specs.Escaped.{Escape, literal, literal_bytes, delegate}
-use Rattle.fancy_lex.specs.Fault.{Fault, kind_of}
+use Rattle.fancy_lex.specs.Fault.{Fault}
 use Rattle.fancy_lex.specs.FaultTable.{class_not_closed}
 use Rattle.fancy_lex.specs.Property.{is_negated_set}
 use Rattle.fancy_lex.specs.Reading.{Reading, gives, fails, choose, ◌>=>◌}
 use Rattle.fancy_lex.specs.Text.{Text, bytes, place_of, strip}
-use Rattle.fancy_lex.specs.declared.error.Error.{Error}
-use Rattle.fancy_lex.specs.declared.error.Error.TheVariants.{ParseError, OutOfMemory}
 use Rattle.fancy_lex.specs.declared.flags.Flags.{Flags}
 
 -- the characters that stand behind a backslash in a class
@@ -124,15 +122,7 @@ mutual
     nested_fault : {n : ℕ} {f : Flags} {b m : Bool} {t u x : Text} {e : Fault} → Class n f b t (written x m u) →
         Items n f m u (fault e) → Items n f b (open_bracket ∷ t) (fault e)
 
--- the text begins, behind the bracket, with a class for which `out` is written, and which `v` follows
-abbrev pub StartsWithClass : ℕ → Flags → Text → Text → Text → Type 0
-StartsWithClass n f t v out = (a : Bool) × Class n f false t (written out a v)
-
--- the class behind the bracket cannot be read, for this fault
-abbrev pub ClassFaults : ℕ → Flags → Text → Fault → Type 0
-ClassFaults n f t e = Class n f false t (fault e)
-
--- memory ran out, or the class has this fault
-abbrev pub IsClassError : ℕ → Flags → Text → Error → Type 0
-IsClassError n f t (ParseError p k) = ClassFaults n f t (record { place = p; kind = kind_of k })
-IsClassError n f t OutOfMemory = Unit {0}
+-- the outermost class behind its bracket, before which no negated set was written
+abbrev pub OuterClass : ℕ → Flags → Text → Reading Text → Type 0
+OuterClass n f t (gives out v) = (a : Bool) × Class n f false t (written out a v)
+OuterClass n f t (fails e) = Class n f false t (fault e)

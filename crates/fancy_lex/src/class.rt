@@ -1,12 +1,11 @@
 //! Classes: what stands behind an opening bracket, and the text that is written for it.
-ghost use Rattle.std.specs.Prelude.{◌≡◌, ℕ, ◌+◌, ◌/◌, ◌%◌, ◌^◌, ◌<◌, ◌≤◌, ◌||◌, [], ◌∷◌, ◌++◌, length, chars, IfErr, IfOk, OnOk, MatchResult, codes};
+ghost use Rattle.std.specs.Prelude.{◌≡◌, ℕ, ◌+◌, ◌/◌, ◌%◌, ◌^◌, ◌<◌, ◌≤◌, ◌||◌, [], ◌++◌, length, chars, IfErr, IfOk, OnOk};
 ghost use Rattle.fancy_lex.specs.Class as spec;
 ghost use Rattle.fancy_lex.specs.Escaped.{escape_of, delegate_text};
 ghost use Rattle.fancy_lex.specs.Property.{is_negated_set};
-ghost use Rattle.fancy_lex.specs.Reading.{Gives, Fails, gives, fault_at};
-ghost use Rattle.fancy_lex.specs.Fault.{Fault, StandsWithin};
+ghost use Rattle.fancy_lex.specs.Reading.{Reading, Derives, Gives, gives};
+ghost use Rattle.fancy_lex.specs.Fault.{StandsWithin};
 ghost use Rattle.fancy_lex.specs.Text.{Text, text_of, BeginsWith, EndsWith};
-ghost use Rattle.fancy_lex.specs.declared.error.Error.TheVariants.{OutOfMemory};
 
 use crate::error::{Error, ParseError};
 use crate::escape::{DelegateText, Escaped, escape};
@@ -172,26 +171,26 @@ fn read_class(alloc: Global, text: &str, flags: Flags, end: usize) -> Result<(St
     ensures shorter { IfOk result (λ p. length p.1.now < length text.now) }
 {
     let mut out = String::new(alloc);
-    let mut left = push_head(&mut out, text)?;
+    let mut rest = push_head(&mut out, text)?;
     let mut depth = 0usize;
     let mut seen = false;
-    while let Some((c, rest)) = next(left) {
+    while let Some((c, behind)) = next(rest) {
         if c == '\\' {
-            let (escaped, after) = escape(alloc, rest, flags, true, place(left, end), end)?;
+            let (escaped, after) = escape(alloc, behind, flags, true, place(rest, end), end)?;
             seen = push_item(&mut out, escaped, seen)?;
-            left = after;
+            rest = after;
             continue;
         }
         if c == '[' {
-            left = push_head(&mut out, rest)?;
+            rest = push_head(&mut out, behind)?;
             depth += 1;
             continue;
         }
         push(&mut out, c)?;
-        left = rest;
+        rest = behind;
         if c == ']' {
             if depth == 0 {
-                return Ok((out, left));
+                return Ok((out, rest));
             }
             depth -= 1;
         }
@@ -206,13 +205,8 @@ pub fn class(alloc: Global, text: &str, flags: Flags, end: usize) -> Result<(Str
     requires bounded { end < 2 ^ 63 }
     requires inside { length text.now ≤ end }
     ensures value { Gives text_of result (spec.class end flags (chars text.now)) }
-    ensures derives { MatchResult result
-        (λ p. spec.StartsWithClass end flags (chars text.now) (chars p.1.now) (text_of p.0))
-        (λ e. spec.IsClassError end flags (chars text.now) e) }
-    ensures only { (v out : Text) → spec.StartsWithClass end flags (chars text.now) v out →
-        MatchResult result (λ p. (text_of p.0 ≡ out) × (chars p.1.now ≡ v)) (λ e. e ≡ OutOfMemory) }
-    ensures only_fault { (e : Fault) → spec.ClassFaults end flags (chars text.now) e →
-        MatchResult result (λ _. ⊥) (λ error. Fails error (fault_at {A = Text} e.place e.kind)) }
+    ensures derives { Derives text_of result (spec.OuterClass end flags (chars text.now)) }
+    ensures only { (o : Reading Text) → spec.OuterClass end flags (chars text.now) o → Gives text_of result o }
     ensures follows { (m : ℕ) (s : Text) →
         IfOk result (λ p. spec.class m flags (chars text.now ++ s) ≡ gives (text_of p.0) (chars p.1.now ++ s)) }
     ensures cut { IfOk result (λ p. EndsWith (chars text.now) (chars p.1.now)) }

@@ -19,17 +19,17 @@ fn comment(text: &str, end: usize) -> Result<&str, usize>
     ensures shorter { IfOk result (λ r. length r.now < length text.now) }
     ensures place { IfErr result (λ p. p ≤ end + 1) }
 {
-    let mut left = text;
-    while let Some((c, after)) = next(left) {
+    let mut rest = text;
+    while let Some((c, after)) = next(rest) {
         if c == ')' {
             return Ok(after);
         }
-        left = after;
+        rest = after;
         if c == '\\' {
-            let Some((_, pair)) = next(left) else {
+            let Some((_, pair)) = next(rest) else {
                 return Err(end + 1);
             };
-            left = pair;
+            rest = pair;
         }
     }
     Err(end)
@@ -42,14 +42,14 @@ fn line(text: &str) -> &str
         spec.layout_from n x spec.line (chars text.now) ≡ spec.layout_from n x spec.between (chars result.now) }
     ensures within { length result.now ≤ length text.now }
 {
-    let mut left = text;
-    while let Some((c, after)) = next(left) {
+    let mut rest = text;
+    while let Some((c, after)) = next(rest) {
         if c == '\n' {
             return after;
         }
-        left = after;
+        rest = after;
     }
-    left
+    rest
 }
 
 /// Whether the character is layout under IGNORE_SPACE.
@@ -87,24 +87,24 @@ fn read_units(text: &str, ignore_space: bool, end: usize) -> Result<&str, usize>
     ensures within { IfOk result (λ r. length r.now ≤ length text.now) }
     ensures place { IfErr result (λ p. p ≤ end + 1) }
 {
-    let mut left = text;
+    let mut rest = text;
     loop {
-        if let Some(inside) = after_comment_head(left) {
-            left = comment(inside, end)?;
+        if let Some(inside) = after_comment_head(rest) {
+            rest = comment(inside, end)?;
             continue;
         }
         if !ignore_space {
-            return Ok(left);
+            return Ok(rest);
         }
-        let Some((c, after)) = next(left) else {
-            return Ok(left);
+        let Some((c, after)) = next(rest) else {
+            return Ok(rest);
         };
         if c == '#' {
-            left = line(after);
+            rest = line(after);
         } else if is_blank(c) {
-            left = after;
+            rest = after;
         } else {
-            return Ok(left);
+            return Ok(rest);
         }
     }
 }

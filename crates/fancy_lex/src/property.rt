@@ -183,10 +183,10 @@ fn push_lowercase(out: &mut String, name: &str) -> Result<(), AllocError>
     ensures grown { OnOk result (text_of out.new ≡ text_of out.old ++ spec.lowercase (chars name.now)) }
     ensures kept { BeginsWith (text_of out.new) (text_of out.old) }
 {
-    let mut left = name;
-    while let Some((c, rest)) = next(left) {
+    let mut rest = name;
+    while let Some((c, behind)) = next(rest) {
         push(out, c.to_ascii_lowercase())?;
-        left = rest;
+        rest = behind;
     }
     Ok(())
 }

@@ -2,7 +2,7 @@
 use Rattle.std.proofs.Common.{◌≡◌, ◌≢◌, ◌⊎◌, inl, inr, ℕ, zero, suc, ◌+◌, ◌<◌, ◌≤◌, ◌==◌, ◌&&◌, ◌||◌, Bool, true, false}
 use Rattle.std.proofs.Common.{not, if◌then◌else◌, List, [], ◌∷◌, ◌++◌, Result, Option, Some, None, refl, ap, sym, ◌∙◌}
 use Rattle.std.proofs.Common.{subst, arith, append_assoc}
-use Rattle.std.proofs.lemmas.Bool.{cases_eq}
+use Rattle.std.proofs.lemmas.Bool.{cases_eq, false≢true}
 use Rattle.std.proofs.lemmas.Bool.Decides.{nat_tests}
 use Rattle.std.proofs.lemmas.List.{append_cancel_right}
 use Rattle.std.proofs.lemmas.Str.{len_utf8_bounds}
@@ -67,12 +67,10 @@ record Told (w : Text) (clears : Bool) : Type 0 where
   pub some : clears ≡ true → w ≢ []
 
 told_start : Told [] false
-told_start = record { is = λ e. absurd (no e); one = λ e. absurd (off e); some = λ e. absurd (off e) } where
-  no : [] ≡ one_minus → ⊥
-  no e = cc
-
-  off : false ≡ true → ⊥
-  off e = cc
+told_start = record { is = λ e. absurd (no e); one = λ e. absurd (false≢true e); some = λ e. absurd (false≢true e) }
+  where
+    no : [] ≡ one_minus → ⊥
+    no e = cc
 
 nil_of_bytes : (w : Text) → bytes w ≡ 0 → w ≡ []
 nil_of_bytes [] e = refl

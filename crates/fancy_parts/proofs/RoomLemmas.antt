@@ -2,6 +2,7 @@
 use Rattle.std.proofs.Common.{◌≡◌, ℕ, ◌+◌, ◌≤◌, Bool, true, false, nat_lt, if◌then◌else◌, List, [], ◌∷◌, ◌++◌, length}
 use Rattle.std.proofs.Common.{String, Global, string_bytes, chars, refl, sym, ap, ◌∙◌, append_assoc, append-nil}
 use Rattle.std.proofs.Common.{arith, subst}
+use Rattle.std.proofs.lemmas.Bool.{false≢true}
 use Rattle.std.specs.String.{string_len, string_capacity}
 use Rattle.std.specs.List.{list_all}
 use Rattle.std.specs.Str.{IsUtf8, IsAscii}
@@ -50,9 +51,7 @@ pushed true a b bs text ok u t e l k =
       len = l ∙ ap (λ n. string_len a + n) (sym (bytes_chars bs u) ∙ ap bytes t);
       capacity = k;
     }
-pushed false a b bs text ok u t e l k = absurd (no_truth ok) where
-  no_truth : false ≡ true → ⊥
-  no_truth h = cc
+pushed false a b bs text ok u t e l k = absurd (false≢true ok)
 
 pub nothing_written : (a : String Global) → Appended a a []
 unfolding bytes

@@ -84,14 +84,14 @@ pub fn put_quotes(buf: &mut String, text: &str)
 fn after_run(text: &str) -> &str
     ensures { AreAsTheyStand (chars text.now) (chars result.now) }
 {
-    let mut left = text;
-    while let Some((c, rest)) = next(left) {
+    let mut rest = text;
+    while let Some((c, behind)) = next(rest) {
         if behind_backslash(c).is_some() {
-            return left;
+            return rest;
         }
-        left = rest;
+        rest = behind;
     }
-    left
+    rest
 }
 
 /// Writes a text, the characters that are printed as themselves in runs.
@@ -100,15 +100,15 @@ fn put_runs(buf: &mut String, text: &str)
     requires { HasRoom buf.old (spec.quotes (chars text.now)) }
     ensures { Appended buf.old buf.new (spec.quotes (chars text.now)) }
 {
-    let mut left = text;
+    let mut rest = text;
     loop {
-        let marked = after_run(left);
-        put_text(buf, front(left, marked));
-        let Some((c, rest)) = next(marked) else {
+        let marked = after_run(rest);
+        put_text(buf, front(rest, marked));
+        let Some((c, behind)) = next(marked) else {
             return;
         };
         put_quote(buf, c);
-        left = rest;
+        rest = behind;
     }
 }
 

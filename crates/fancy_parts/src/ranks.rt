@@ -1,5 +1,5 @@
 //! The numbers of capturing groups, and what a reference means by them.
-ghost use Rattle.std.specs.Prelude.{◌≡◌, ℕ, ◌+◌, ◌<◌, ◌^◌, List, false, nat_le, IfOk, IsOk, OnErr, is_some, map, option_map};
+ghost use Rattle.std.specs.Prelude.{◌≡◌, ℕ, ◌+◌, ◌<◌, ◌^◌, List, false, nat_le, IfOk, IsOk, OnErr, chars, is_some, map, option_map};
 ghost use Rattle.fancy_lex.specs.Target.{view_target};
 ghost use Rattle.fancy_lex.specs.Text.{text_of};
 ghost use Rattle.fancy_parts.specs.Groups.{groups_of, no_groups, with_group, with_number, numbers_under, entry_of};
@@ -69,7 +69,7 @@ impl Groups {
     {
         let number = self.total + 1;
         if let Some(name) = name {
-            add_number(alloc, &mut self.names, name, number)?;
+            add_number(alloc, &mut self.names, name.as_str(), number)?;
         }
         self.total = number;
         Ok(())
@@ -87,19 +87,19 @@ impl Groups {
 fn add_number(
     alloc: Global,
     names: &mut BTreeMap<String, Vec<usize>>,
-    name: &String,
+    name: &str,
     number: usize,
 ) -> Result<(), AllocError>
     ensures added { IfOk result
-        (λ _. map entry_of names.new.entries ≡ with_number (text_of name.now) number (map entry_of names.old.entries)) }
+        (λ _. map entry_of names.new.entries ≡ with_number (chars name.now) number (map entry_of names.old.entries)) }
     ensures kept { OnErr result (map entry_of names.new.entries ≡ map entry_of names.old.entries) }
 {
-    match names.get_mut(name.as_str()) {
+    match names.get_mut(name) {
         Some(numbers) => numbers.push(number)?,
         None => {
             let mut numbers = Vec::new(alloc);
             numbers.push(number)?;
-            names.insert(name.clone()?, numbers)?;
+            names.insert(String::from_str(alloc, name)?, numbers)?;
         }
     }
     Ok(())

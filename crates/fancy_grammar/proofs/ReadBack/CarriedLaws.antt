@@ -1,6 +1,7 @@
 -- A class, and an escape for one, read the same whatever follows them, and under other flags to the same end.
 use Rattle.std.proofs.Common.{◌≡◌, ℕ, zero, suc, ◌+◌, ◌-◌, ◌≤◌, Bool, true, false, not, ◌&&◌, ◌||◌, ◌==◌, nat_le}
 use Rattle.std.proofs.Common.{if◌then◌else◌, [], ◌∷◌, ◌++◌, codes, Option, Some, None, refl, sym, ap, ◌∙◌, subst, arith}
+use Rattle.std.proofs.lemmas.Bool.{false≢true}
 use Rattle.std.proofs.lemmas.Bool.Decides.{nat_tests}
 use Rattle.fancy_lex.specs.Boundary.{boundary, named_boundary, name, boundary_of_name, at_count}
 use Rattle.std.specs.Char.{is_ascii_digit}
@@ -18,10 +19,10 @@ use Rattle.fancy_lex.specs.Reading.{Reading, gives, fails, fault_at, choose, lay
 use Rattle.fancy_lex.specs.Referred.{Reference}
 use Rattle.fancy_lex.specs.Text.{Text, bytes, place_of, strip}
 use Rattle.fancy_lex.specs.declared.flags.Flags.{Flags}
+use Rattle.fancy_lex.proofs.ClassLaws.{class_head_frame}
 use Rattle.fancy_lex.proofs.EscapeFrame.{StaysSome, read_stays, escape_frame}
 use Rattle.fancy_lex.proofs.TextLemmas.{bytes-append}
 use Rattle.fancy_grammar.specs.Normal.{case_flags, bare}
-use Rattle.fancy_grammar.proofs.ReadBack.ClearLemmas.{no_truth}
 
 -- ---- the same text under other flags
 
@@ -67,7 +68,7 @@ byte_scalar v true h = grind (arith, nat_tests)
 both_too : (b s : Bool) (x y z : Escape) (t : Text) (e : Fault) → (b ≡ true → s ≡ true) →
     Too (if b then gives x t else if s then gives y t else fails e) (if s then gives z t else fails e)
 both_too true true x y z t e h = (z, refl)
-both_too true false x y z t e h = no_truth (h refl)
+both_too true false x y z t e h = absurd (false≢true (h refl))
 both_too false true x y z t e h = (z, refl)
 both_too false false x y z t e h = tt
 
@@ -147,25 +148,6 @@ carry_step k (gives w v) there here e (x, h) = (x, late) where
   late (suc j) m s l = e j m s ∙ h j m s (omega arith)
 carry_step k (fails z) there here e h = tt
 
--- with s behind what is left
-abbrev behind : Text → Text × Text → Text × Text
-behind s p = (p.0, p.1 ++ s)
-
-mark_some : (m : ℕ) (out t : Text) (c : ℕ) (u : Text) → (with_mark m (out, t)).1 ≡ c ∷ u →
-    (d : ℕ) × (r : Text) × (t ≡ d ∷ r)
-mark_some m out [] c u e = absurd cc
-mark_some m out (d ∷ r) c u e = (d, r, refl)
-
-mark_frame : (m : ℕ) (out t s : Text) (d : ℕ) (r : Text) → t ≡ d ∷ r →
-    ◌≡◌ {A = Text × Text} (with_mark m (out, t ++ s)) (behind s (with_mark m (out, t)))
-mark_frame m out t s d r e = rw e (by_test (d == m)) where
-  by_test : (x : Bool) →
-      ◌≡◌ {A = Text × Text} (choose {B = Text × Text} (if x then Some (r ++ s) else None) (λ u. (out ++ m ∷ [], u))
-      (out, d ∷ (r ++ s))) (behind s
-      (choose {B = Text × Text} (if x then Some r else None) (λ u. (out ++ m ∷ [], u)) (out, d ∷ r)))
-  by_test true = refl
-  by_test false = refl
-
 -- what is left hangs not on what is written
 mark_left : (m : ℕ) (out out' t : Text) → (with_mark m (out, t)).1 ≡ (with_mark m (out', t)).1
 mark_left m out out' [] = refl
@@ -185,16 +167,6 @@ opening_left out out' t =
     mark_left close_bracket p.0 q.0 p.1
     ∙ ap (λ r. (with_mark close_bracket (q.0, r)).1)
     (mark_left caret (out ++ open_bracket ∷ []) (out' ++ open_bracket ∷ []) t)
-
-opening_frame : (out t s : Text) (c : ℕ) (u : Text) → (class_head out t).1 ≡ c ∷ u →
-    ◌≡◌ {A = Text × Text} (class_head out (t ++ s)) (behind s (class_head out t))
-unfolding class_head
-opening_frame out t s c u e =
-    let p = with_mark caret (out ++ open_bracket ∷ [], t) in
-    let (d, r, q) = mark_some close_bracket p.0 p.1 c u e in
-    let (d', r', q') = mark_some caret (out ++ open_bracket ∷ []) t d r q in
-    ap (with_mark close_bracket) (mark_frame caret (out ++ open_bracket ∷ []) t s d' r' q')
-    ∙ mark_frame close_bracket p.0 p.1 s d r q
 
 rest_is : (a w r v : Text) → gives a r ≡ gives w v → r ≡ v
 rest_is a w r v e = cc
@@ -227,7 +199,7 @@ module _ (u i : Bool) (n : ℕ) where
         carry_same k _ (λ j m s. items_from m (case_flags u i) j depth seen' (class_head out' t).0
         ((c ∷ v) ++ s)) _
         (λ j m s. ap (λ (p : Text × Text). items_from m (case_flags u i) j depth seen' p.0 p.1)
-        (opening_frame out' t s c v left)
+        (class_head_frame out' t s c v left)
         ∙ ap (λ (r : Text). items_from m (case_flags u i) j depth seen' (class_head out' t).0 (r ++ s)) left)
         (more depth seen seen' (class_head out t).0 (class_head out' t).0 (c ∷ v))
 

@@ -12,7 +12,7 @@ use Rattle.fancy_lex.specs.Escaped.{Escape, literal, literal_bytes, delegate}
 use Rattle.fancy_lex.specs.Reading.{gives}
 use Rattle.fancy_lex.specs.Text.{Text, place_of, strip}
 use Rattle.fancy_grammar.specs.Normal.{bare}
-use Rattle.fancy_grammar.proofs.ReadBack.ClearLemmas.{Each, no_more, also, none_among, each_among}
+use Rattle.fancy_grammar.proofs.ReadBack.ClearLemmas.{apart, Each, no_more, also, each_among}
 use Rattle.fancy_grammar.proofs.ReadBack.ScalarLemmas.{scalars_append}
 
 -- from s on, a class's items are read to v, whatever was seen before
@@ -103,16 +103,12 @@ mark_chunk c k h =
 
 plain_chunk : (c : ℕ) → IsScalar c → needs_backslash_in_class c ≡ false → Chunk (c ∷ [])
 plain_chunk c i h =
-    let n = none_among c class_marks h in
-    let slash = n.0 in
-    let k = n.1.1.1.1.1.1.1.1 in
-    let bracket = k.0 in
-    let close_ = k.1.0 in
-    let caret_ = k.1.1.1.1.0 in
+    let is_not = apart needs_backslash_in_class c h in
     record {
-      goes = λ m s v g. pass_plain m c s v (rw (slash, bracket, close_) refl) g;
-      no_caret = λ s. rw caret_ refl;
-      no_close = λ s. rw close_ refl;
+      goes = λ m s v g.
+          pass_plain m c s v (rw (is_not (code "\\") refl, is_not (code "[") refl, is_not (code "]") refl) refl) g;
+      no_caret = λ s. rw (is_not (code "^") refl) refl;
+      no_close = λ s. rw (is_not (code "]") refl) refl;
       scalars = and_from _ true i refl;
     }
 

@@ -1,9 +1,9 @@
 -- What may follow a piece: no comment, and no quantifier.
-use Rattle.std.proofs.Common.{◌≡◌, ℕ, Bool, true, false, ◌==◌, ⊎_elim, List, [], ◌∷◌, Some, None, refl, sym, subst}
-use Rattle.std.proofs.Common.{eqb-true, ap, ◌∙◌, ◌||◌}
+use Rattle.std.proofs.Common.{◌≡◌, ℕ, Bool, true, false, ◌==◌, ⊎_elim, List, [], ◌∷◌, Option, Some, None, refl, sym}
+use Rattle.std.proofs.Common.{subst, eqb-true, ap, ◌∙◌, ◌||◌}
 use Rattle.std.specs.List.{list_any}
 use Rattle.std.proofs.Math.Bool.{or-false}
-use Rattle.std.proofs.lemmas.Bool.{or_parts, or_cases, cond_both, both_ways}
+use Rattle.std.proofs.lemmas.Bool.{or_parts, or_cases, cond_both, both_ways, false≢true, false_from_ne_true}
 use Rattle.std.proofs.lemmas.Option.{same_Some}
 use Prim.Native.Char.{code}
 use Rattle.fancy_lex.specs.Characters.{is_among, ◌∈◌, bar}
@@ -17,9 +17,6 @@ use Rattle.fancy_lex.proofs.LayoutLemmas.{between_plain}
 use Rattle.fancy_parts.specs.Quantifier.{counts}
 use Rattle.fancy_parts.specs.Quote.{behind_backslash, marks_with_backslash, needs_backslash}
 use Rattle.fancy_grammar.specs.State.{ends}
-
-pub no_truth : {X : Type 0} → false ≡ true → X
-no_truth h = absurd cc
 
 -- a quantifier's mark or brace stands in front
 abbrev pub begins_mark : Text → Bool
@@ -104,16 +101,12 @@ ends_nothing = record {
 
 -- ---- the characters that are quoted
 
--- none of the characters
-abbrev pub NoneOf : ℕ → List ℕ → Type 0
-NoneOf c [] = Unit {0}
-NoneOf c (x ∷ xs) = ((c == x) ≡ false) × NoneOf c xs
+-- a character that fails a test is none that passes it
+pub apart : (test : ℕ → Bool) (c : ℕ) → test c ≡ false → (mark : ℕ) → test mark ≡ true → (c == mark) ≡ false
+apart test c fails mark passes =
+    false_from_ne_true (c == mark) (λ same. false≢true (sym fails ∙ ap test (eqb-true c mark same) ∙ passes))
 
-none_of : (c : ℕ) (xs : List ℕ) → list_any (λ m. c == m) xs ≡ false → NoneOf c xs
-none_of c [] h = tt
-none_of c (x ∷ xs) h = let (a, b) = or_parts (c == x) _ h in (a, none_of c xs b)
-
--- it is so of each character
+-- it is so of each of the characters
 pub data Each (P : ℕ → Type 0) : List ℕ → Type 0 where
   no_more : Each P []
   also : {x : ℕ} {xs : List ℕ} → P x → Each P xs → Each P (x ∷ xs)
@@ -129,20 +122,17 @@ among_any c [] = refl
 among_any c (x ∷ []) = sym (or-false (c == x))
 among_any c (x ∷ y ∷ xs) = ap (λ b. c == x || b) (among_any c (y ∷ xs))
 
-pub none_among : (c : ℕ) (xs : List ℕ) → is_among c xs ≡ false → NoneOf c xs
-none_among c xs h = none_of c xs (sym (among_any c xs) ∙ h)
-
 pub each_among : (P : ℕ → Type 0) (xs : List ℕ) (c : ℕ) → Each P xs → is_among c xs ≡ true → P c
 each_among P xs c h e = each_at P xs c h (sym (among_any c xs) ∙ e)
 
 -- a character printed as itself is no mark
-pub behind_none : (c : ℕ) → behind_backslash c ≡ None → NoneOf c marks_with_backslash
+pub behind_none : (c : ℕ) → behind_backslash c ≡ None → needs_backslash c ≡ false
 behind_none c =
-    cond_both (c == code "\n") _ _ (λ y. y ≡ None → NoneOf c marks_with_backslash) (λ t e. absurd cc)
-    (λ _. cond_both (c == code "\t") _ _ (λ y. y ≡ None → NoneOf c marks_with_backslash) (λ t e. absurd cc)
-    (λ _. cond_both (c == code "\r") _ _ (λ y. y ≡ None → NoneOf c marks_with_backslash) (λ t e. absurd cc)
-    (λ _. cond_both (needs_backslash c) _ _ (λ y. y ≡ None → NoneOf c marks_with_backslash) (λ t e. absurd cc)
-    (λ n e. none_of c marks_with_backslash n))))
+    let IsPlain : Option ℕ → Type 0 = λ o. o ≡ None → needs_backslash c ≡ false in
+    cond_both (c == code "\n") _ _ IsPlain (λ t e. absurd cc)
+    (λ _. cond_both (c == code "\t") _ _ IsPlain (λ t e. absurd cc)
+    (λ _. cond_both (c == code "\r") _ _ IsPlain (λ t e. absurd cc)
+    (λ _. cond_both (needs_backslash c) _ _ IsPlain (λ t e. absurd cc) (λ n e. n))))
 
 -- what is printed behind a backslash is read as the character
 abbrev pub Escapes : ℕ → ℕ → Type 0

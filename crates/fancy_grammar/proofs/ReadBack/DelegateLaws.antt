@@ -2,21 +2,21 @@
 use Rattle.std.proofs.Common.{◌≡◌, ◌≢◌, ℕ, Bool, true, false, ◌==◌, ◌&&◌, if◌then◌else◌, [], ◌∷◌, ◌++◌, codes, Option}
 use Rattle.std.proofs.Common.{Some, None, is_some, option_map, ◌⊎◌, inl, inr, refl, sym, ap, ◌∙◌, subst, append-nil}
 use Rattle.std.proofs.Common.{ne_eqb}
-use Rattle.std.proofs.lemmas.Bool.{and_from, and_parts, cases_eq}
+use Rattle.std.proofs.lemmas.Bool.{and_from, and_parts, cases_eq, false≢true}
 use Rattle.std.specs.Str.{all_scalars}
 use Rattle.fancy_lex.specs.Characters.{◌∈◌}
-use Rattle.fancy_lex.specs.Class.{class, Class, Outcome, written, fault}
+use Rattle.fancy_lex.specs.Class.{class, OuterClass}
 use Rattle.fancy_lex.specs.Escape.{escape, number_escape, property, is_itself}
 use Rattle.fancy_lex.specs.EscapeReference.{numbered_reference}
 use Rattle.fancy_lex.specs.Escaped as escaped
 use Rattle.fancy_lex.specs.Escaped.{Escape}
-use Rattle.fancy_lex.specs.Fault.{Fault, unclosed_unicode_name}
+use Rattle.fancy_lex.specs.Fault.{unclosed_unicode_name}
 use Rattle.fancy_lex.specs.Hex.{hex}
 use Rattle.std.specs.Char.{IsScalar, is_ascii_digit}
 use Prim.Native.Char.{code}
 use Rattle.fancy_lex.specs.Property.{Property, PropertyName, single, braced, read_property, name_at, property_text}
 use Rattle.fancy_lex.specs.Property.{Form, set, pair, form, form_text, look_up, lowercase, turn, letter}
-use Rattle.fancy_lex.specs.Reading.{Reading, gives, fails, fault_at, choose}
+use Rattle.fancy_lex.specs.Reading.{Reading, gives, fault_at, choose}
 use Rattle.fancy_lex.specs.Text.{Text, bytes, place_of}
 use Rattle.fancy_lex.proofs.ClassLaws.{class_complete, class_reads}
 use Rattle.fancy_grammar.specs.Ahead.{leaf_node, leaf_outcome}
@@ -33,9 +33,9 @@ use Rattle.fancy_grammar.proofs.ReadBack.ChunkLemmas.{FormOf, Pairs, form_of, na
 use Rattle.fancy_grammar.proofs.ReadBack.ChunkLemmas.{IsName, NameOk, NameSome, name_ok, prop, single_small}
 use Rattle.fancy_grammar.proofs.ReadBack.ChunkLemmas.{single_large, braced_small, braced_large, hex_word, space_other}
 use Rattle.fancy_grammar.proofs.ReadBack.ChunkLemmas.{unprinted, lowercase_ok, turn_ok}
-use Rattle.fancy_grammar.proofs.ReadBack.RewrittenLaws.{ClassAgain, class_again}
+use Rattle.fancy_grammar.proofs.ReadBack.RewrittenLaws.{class_again}
 use Rattle.fancy_grammar.proofs.ReadBack.RuleLemmas.{st}
-use Rattle.fancy_grammar.proofs.ReadBack.ClearLemmas.{Each, no_more, also, each_among, no_truth}
+use Rattle.fancy_grammar.proofs.ReadBack.ClearLemmas.{Each, no_more, also, each_among}
 
 -- the text is one whole class or class escape
 abbrev IsWhole : Text → Type 0
@@ -60,28 +60,16 @@ escape_whole t w b k e =
 
 -- ---- a class
 
-same_written : (x w v : Text) → gives w v ≡ gives x [] → (w ≡ x) × (v ≡ [])
-same_written x w v e = (cc, cc)
-
 class_stays : (u i : Bool) (n : ℕ) (t x : Text) → all_scalars t ≡ true →
     class n (case_flags u i) t ≡ gives x [] → IsWhole x
-class_stays u i n t x k e = by_reading (class_reads n (case_flags u i) t)
-  where
-    no_fault : (z : Fault) → ◌≡◌ {A = Reading Text} (fails z) (gives x []) → ⊥
-    no_fault z q = cc
-
-    again : ClassAgain x → IsWhole x
-    again c =
-        subst IsWhole (sym c.is)
-        (class_whole c.inner c.scalars
-        (subst (λ z. ClassGoes (bytes (code "[" ∷ c.inner)) z []) (append-nil c.inner)
-        (c.goes (bytes (code "[" ∷ c.inner)) [])))
-
-    by_reading : (o : Outcome) × Class n (case_flags u i) false t o → IsWhole x
-    by_reading (written w a v, h) =
-        again (subst ClassAgain (same_written x w v (sym (class_complete n (case_flags u i) t _ h) ∙ e)).0
-        (class_again h k))
-    by_reading (fault z, h) = absurd (no_fault z (sym (class_complete n (case_flags u i) t _ h) ∙ e))
+class_stays u i n t x k e =
+    let f = case_flags u i in
+    let (a, h) = subst (OuterClass n f t) e (class_reads n f t) in
+    let c = class_again h k in
+    subst IsWhole (sym c.is)
+    (class_whole c.inner c.scalars
+    (subst (λ z. ClassGoes (bytes (code "[" ∷ c.inner)) z []) (append-nil c.inner)
+    (c.goes (bytes (code "[" ∷ c.inner)) [])))
 
 -- ---- a class escape
 
@@ -224,8 +212,8 @@ escape_stays u i t h =
     ap printable (escape_normal u i t x c (same n p []))
     ∙ subst WholeOf (same n p []) (outside_whole u i n p (t ++ []) (scalars_append t [] k refl))
 
-no_class : {X : Type 0} (s : Text) → is_some (class_of (bare false) s) ≡ false → IsWhole s → X
-no_class s e h = no_truth (sym e ∙ (and_parts (all_scalars s) _ h).1)
+no_class : {X : Type 0} (s : Text) → false ≡ is_some (class_of (bare false) s) → IsWhole s → X
+no_class s e h = absurd (false≢true (e ∙ (and_parts (all_scalars s) _ h).1))
 
 pub delegates_stay : (u i : Bool) (s : Text) → IsWhole s → printable (normal u (delegate s i)) ≡ true
 delegates_stay u i [] h = no_class [] nothing_whole h

@@ -1,7 +1,7 @@
 -- A Delegate's text in front of anything reads as it does alone.
 use Rattle.std.proofs.Common.{◌≡◌, ◌≢◌, ℕ, Bool, true, false, ◌==◌, [], ◌∷◌, ◌++◌, is_some, unwrap_or, ◌⊎◌, inl, inr}
 use Rattle.std.proofs.Common.{refl, sym, ap, ◌∙◌, subst, append-nil, ne_eqb}
-use Rattle.std.proofs.lemmas.Bool.{cases_eq, cond-false, or_from}
+use Rattle.std.proofs.lemmas.Bool.{cases_eq, cond_both, false≢true}
 use Prim.Native.Char.{code}
 use Rattle.fancy_lex.specs.Class.{class}
 use Rattle.fancy_lex.specs.Escape.{escape}
@@ -10,13 +10,12 @@ use Rattle.fancy_lex.specs.Escaped.{Escape}
 use Rattle.fancy_lex.specs.Reading.{Reading, gives, fails}
 use Rattle.fancy_lex.specs.Text.{Text, bytes, place_of}
 use Rattle.fancy_grammar.specs.Ahead.{leaf, leaf_node, leaf_outcome}
-use Rattle.fancy_grammar.specs.State.{State}
+use Rattle.fancy_grammar.specs.State.{State, Outcome}
 use Rattle.fancy_grammar.specs.Tree.{Tree, delegate}
 use Rattle.fancy_grammar.specs.Normal.{case_flags, bare, whole_of, whole_leaf, class_of, normal}
 use Rattle.fancy_grammar.proofs.ReadBack.CarriedLaws.{class_carries, escape_carries}
 use Rattle.fancy_grammar.proofs.ReadBack.RuleLemmas.{st, AtomAs, reads_leaf, leaf_at}
 use Rattle.fancy_grammar.proofs.ReadBack.ShapeLemmas.{DelegateText}
-use Rattle.fancy_grammar.proofs.ReadBack.ClearLemmas.{no_truth}
 use Rattle.fancy_grammar.proofs.ReadBack.LeafLemmas.{begins_by}
 
 abbrev pub IsDelegate : Tree → Type 0
@@ -25,15 +24,15 @@ IsDelegate _ = ⊥
 
 whole_is : (s : Text) (t : Tree) → is_some (whole_of s t) ≡ true → (s ≡ []) × IsDelegate t
 whole_is [] (delegate w i) h = (refl, tt)
-whole_is [] _ h = no_truth h
-whole_is (c ∷ s) t h = no_truth h
+whole_is [] _ h = absurd (false≢true h)
+whole_is (c ∷ s) t h = absurd (false≢true h)
 
 -- ---- a class
 
 bracket_whole : (s : State) (o : Reading Text) →
     is_some (whole_leaf (leaf_outcome (λ w. delegate w false) s o)) ≡ true → (w : Text) × (o ≡ gives w [])
 bracket_whole s (gives w v) h = (w, ap (gives w) (whole_is v (delegate w false) h).0)
-bracket_whole s (fails e) h = no_truth h
+bracket_whole s (fails e) h = absurd (false≢true h)
 
 pub bracket_read : (t : Text) → is_some (class_of (bare false) (code "[" ∷ t)) ≡ true →
     (w : Text) × (class (bytes (code "[" ∷ t)) (bare false) t ≡ gives w [])
@@ -79,7 +78,7 @@ escape_delegate s _ v z h = absurd h
 escape_whole : (s : State) (o : Reading Escape) → is_some (whole_leaf (leaf_outcome leaf_node s o)) ≡ true →
     (w : Text) × (b : Bool) × (o ≡ gives (escaped.delegate w b) [])
 escape_whole s (gives e v) h = let (z, d) = whole_is v (leaf_node e) h in escape_delegate s e v z d
-escape_whole s (fails e) h = no_truth h
+escape_whole s (fails e) h = absurd (false≢true h)
 
 pub escape_read : (t : Text) → is_some (class_of (bare false) (code "\\" ∷ t)) ≡ true
     → (w : Text) × (b : Bool)
@@ -124,24 +123,34 @@ escape_text t h =
       begins = λ v. begins_by refl refl refl;
     }
 
-pub no_other : (c : ℕ) (t : Text) → (c == code "[") ≡ false → (c == code "\\") ≡ false →
-    is_some (class_of (bare false) (c ∷ t)) ≡ false
-unfolding class_of
-no_other c t a b = ap is_some (cond-false _ _ _ (or_from (c == code "[") (c == code "\\") a b))
+-- what is no Delegate is none, whatever is left
+pub other_left : (r : Tree) (v : Text) → false ≡ is_some (whole_of [] r) → false ≡ is_some (whole_of v r)
+other_left r [] other = other
+other_left r (c ∷ v) other = refl
 
-pub nothing_whole : is_some (class_of (bare false) []) ≡ false
+-- what begins with another character is no Delegate
+pub no_other : (c : ℕ) (t : Text) → (c == code "[") ≡ false → (c == code "\\") ≡ false →
+    false ≡ is_some (class_of (bare false) (c ∷ t))
+unfolding class_of
+no_other c t a b =
+    let NoDelegate : Outcome Tree → Type 0 = λ o. false ≡ is_some (whole_leaf o) in
+    cond_both (c == code ".") _ _ NoDelegate (λ _. other_left _ t refl) (λ _.
+    cond_both (c == code "^") _ _ NoDelegate (λ _. other_left _ t refl) (λ _.
+    cond_both (c == code "$") _ _ NoDelegate (λ _. other_left _ t refl) (λ _. rw (b, a) (other_left _ t refl))))
+
+pub nothing_whole : false ≡ is_some (class_of (bare false) [])
 unfolding class_of
 nothing_whole = refl
 
 -- what is told of the text alone holds in front of any text, and under both settings
 pub delegate_text : (s : Text) → is_some (class_of (bare false) s) ≡ true → DelegateText s
-delegate_text [] h = no_truth (sym nothing_whole ∙ h)
+delegate_text [] h = absurd (false≢true (nothing_whole ∙ h))
 delegate_text (c ∷ t) h = by_bracket (cases_eq c (code "[")) where
   by_escape : (c ≢ code "[") → (c ≡ code "\\") ⊎ (c ≢ code "\\") → DelegateText (c ∷ t)
   by_escape a (inl e) =
       subst (λ x. DelegateText (x ∷ t)) (sym e)
       (escape_text t (subst (λ x. is_some (class_of (bare false) (x ∷ t)) ≡ true) e h))
-  by_escape a (inr b) = no_truth (sym (no_other c t (ne_eqb c (code "[") a) (ne_eqb c (code "\\") b)) ∙ h)
+  by_escape a (inr b) = absurd (false≢true (no_other c t (ne_eqb c (code "[") a) (ne_eqb c (code "\\") b) ∙ h))
 
   by_bracket : (c ≡ code "[") ⊎ (c ≢ code "[") → DelegateText (c ∷ t)
   by_bracket (inl e) =

@@ -6,7 +6,6 @@ use Prim.Native.Char.{code}
 use Rattle.fancy_lex.specs.Boundary.{boundary, named_boundary, name}
 use Rattle.fancy_lex.specs.Escape.{escape, outside}
 use Rattle.fancy_lex.specs.Escaped as escaped
-use Rattle.fancy_lex.specs.Escaped.{Escape}
 use Rattle.fancy_lex.specs.Layout.{after_comment_head, layout_from}
 use Rattle.fancy_lex.specs.Reading.{gives}
 use Rattle.fancy_lex.specs.Text.{Text, bytes, place_of}
@@ -19,8 +18,7 @@ use Rattle.fancy_lex.specs.declared.escape.Assertion.TheVariants.{WordBoundary, 
 use Rattle.fancy_lex.specs.declared.flags.Flags.{Flags}
 use Rattle.fancy_grammar.specs.Depth.{max_depth}
 use Rattle.fancy_parts.specs.FlagLetters as letters
-use Rattle.fancy_parts.specs.FlagLetters.{step}
-use Rattle.fancy_parts.specs.Quote.{behind_backslash}
+use Rattle.fancy_parts.specs.Quote.{behind_backslash, needs_backslash}
 use Rattle.fancy_grammar.specs.State as states
 use Rattle.fancy_grammar.specs.Ahead.{leaf, ahead, leaf_node, leaf_outcome}
 use Rattle.fancy_grammar.specs.Normal.{character, bare}
@@ -29,7 +27,7 @@ use Rattle.fancy_grammar.specs.Tree.{Tree, any, assertion}
 use Rattle.fancy_grammar.specs.Nest.{one_if, is_line}
 use Rattle.fancy_grammar.proofs.ReadBack.InFront.{put_as, put_quotes, put_any, put_line, put_assertion}
 use Rattle.fancy_grammar.proofs.ReadBack.ClearLemmas.{begins_mark, Clear, not_open, clear_close, ends_close}
-use Rattle.fancy_grammar.proofs.ReadBack.ClearLemmas.{behind_none}
+use Rattle.fancy_grammar.proofs.ReadBack.ClearLemmas.{apart, behind_none}
 use Rattle.fancy_grammar.proofs.ReadBack.CountTexts.{NoName}
 use Rattle.fancy_grammar.proofs.ReadBack.RuleLemmas.{Kept, kept_bare, st, AtomAs, WholeAs, Run, no_run, run_chain}
 use Rattle.fancy_grammar.proofs.ReadBack.RuleLemmas.{reads_piece, reads_branch, reads_only, join_one, reads_scope}
@@ -57,17 +55,14 @@ whole_atom n d f s v x k b a =
 
 pub begins_char : (c : ℕ) (v : Text) (o : Option ℕ) → behind_backslash c ≡ o → Begins (put_as c o v)
 begins_char c v None e =
-    let (slash, a) = behind_none c e in
-    let (dot, b) = a in
-    let (plus, h) = b in
-    let (star, i) = h in
-    let (ask, j) = i in
-    let (paren, k) = j in
-    let (close, l) = k in
-    let (bar_, m) = l in
+    let is_not = apart needs_backslash c (behind_none c e) in
     record {
-      clear = record { no_comment = not_open c v paren; no_mark = rw (ask, star, plus, m.1.1.0) refl };
-      goes = rw (bar_, close) refl;
+      clear = record {
+        no_comment = not_open c v (is_not (code "(") refl);
+        no_mark =
+            rw (is_not (code "?") refl, is_not (code "*") refl, is_not (code "+") refl, is_not (code "{") refl) refl;
+      };
+      goes = rw (is_not (code "|") refl, is_not (code ")") refl) refl;
     }
 begins_char c v (Some x) e = begins_by refl refl refl
 

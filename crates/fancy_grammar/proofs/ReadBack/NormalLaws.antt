@@ -3,7 +3,8 @@ use Rattle.std.proofs.Common.{◌≡◌, ℕ, Bool, true, false, true≢false, n
 use Rattle.std.proofs.Common.{is_none, Result, Ok, Err, IfOk, refl, sym, ap, ap₂, ◌∙◌}
 use Rattle.std.specs.declared.alloc.AllocError.{AllocError}
 use Rattle.std.specs.Cmp.{first_so, second_so}
-use Rattle.std.proofs.lemmas.Bool.{and_from, or_parts}
+use Rattle.std.proofs.lemmas.Bool.{and_from, or_parts, false≢true}
+use Rattle.std.specs.List.{AllByRecursion}
 use Rattle.std.specs.Str.{all_scalars}
 use Rattle.fancy_lex.specs.Text.{Text}
 use Rattle.fancy_lex.specs.declared.escape.Assertion.TheVariants.{StartLineOniguruma, EndTextIgnoreTrailingNewlines}
@@ -15,10 +16,9 @@ use Rattle.fancy_grammar.specs.Tree.{Tree, Trees, no_trees, more_trees, empty, a
 use Rattle.fancy_grammar.specs.Tree.{group, repeat, delegate, define_group, trees_of}
 use Rattle.fancy_grammar.specs.HasDelegate.{has_delegate, any_has_delegate}
 use Rattle.fancy_grammar.proofs.ReadBack.DelegateLaws.{delegates_stay}
-use Rattle.fancy_grammar.proofs.OutcomeLemmas.{solid-append}
+use Rattle.fancy_grammar.proofs.OutcomeLemmas.{solid-append, each_append, each_solid}
 use Rattle.fancy_grammar.proofs.ReadBack.RuleLemmas.{solid_solid}
 use Rattle.fancy_grammar.proofs.ReadBack.PrintableLaws.{blank, blanks, normal_empty, delegate_class}
-use Rattle.fancy_grammar.proofs.ReadBack.ClearLemmas.{no_truth}
 use Rattle.fancy_grammar.proofs.ReadBack.DelegateTexts.{IsDelegate}
 
 -- ---- a normal form is its own
@@ -28,20 +28,7 @@ record Fixed (u : Bool) (n : Tree) : Type 0 where
   single : pieces_of n n ≡ solid (n ∷ [])
 
 abbrev AllFixed : Bool → List Tree → Type 0
-AllFixed u [] = Unit {0}
-AllFixed u (x ∷ l) = Fixed u x × AllFixed u l
-
-cond_fixed : (u b : Bool) (x : Tree) (l : List Tree) → Fixed u x → AllFixed u l → AllFixed u (if b then l else x ∷ l)
-cond_fixed u true x l h k = k
-cond_fixed u false x l h k = (h, k)
-
-solid_fixed : (u : Bool) (l : List Tree) → AllFixed u l → AllFixed u (solid l)
-solid_fixed u [] h = tt
-solid_fixed u (x ∷ l) h = cond_fixed u (is_empty x) x (solid l) h.0 (solid_fixed u l h.1)
-
-append_fixed : (u : Bool) (l m : List Tree) → AllFixed u l → AllFixed u m → AllFixed u (l ++ m)
-append_fixed u [] m h k = k
-append_fixed u (x ∷ l) m h k = (h.0, append_fixed u l m h.1 k)
+AllFixed u l = AllByRecursion (Fixed u) l
 
 items_same : (u : Bool) (l : List Tree) → AllFixed u l → normal_pieces u (trees_of l) ≡ solid l
 items_same u [] h = refl
@@ -65,7 +52,7 @@ one_fixed u (x ∷ y ∷ l) h e =
     }
 
 join_fixed : (u : Bool) (l : List Tree) → AllFixed u l → Fixed u (join l)
-join_fixed u l h = one_fixed u (solid l) (solid_fixed u l h) (solid_solid l)
+join_fixed u l h = one_fixed u (solid l) (each_solid (Fixed u) l h) (solid_solid l)
 
 choice_fixed : (u : Bool) (l : List Tree) → AllFixed u l → Fixed u (choice l)
 choice_fixed u [] h = empty_fixed u
@@ -94,7 +81,7 @@ characters_fixed u b (c ∷ cs) = (
 
 parts_fixed : (u : Bool) (t n : Tree) → Fixed u n → AllFixed u (pieces_of t n)
 parts_fixed u (literal s false) n h = characters_fixed u false s
-parts_fixed u t n h = solid_fixed u (n ∷ []) (h, tt)
+parts_fixed u t n h = each_solid (Fixed u) (n ∷ []) (h, tt)
 
 any_fixed : (u a b : Bool) → Fixed u (any a (not a && b))
 any_fixed u true b = record { same = refl; single = refl }
@@ -118,7 +105,8 @@ mutual
   all_items v u no_trees h = tt
   all_items v u (more_trees t ts) h =
       let (a, b) = or_parts (has_delegate t) (any_has_delegate ts) h in
-      append_fixed v (pieces_of t (normal u t)) (normal_pieces u ts) (parts_fixed v t (normal u t) (fixed v u t a))
+      each_append (Fixed v) (pieces_of t (normal u t)) (normal_pieces u ts)
+      (parts_fixed v t (normal u t) (fixed v u t a))
       (all_items v u ts b)
 
   all_normals : (v u : Bool) (ts : Trees) → any_has_delegate ts ≡ false → AllFixed v (normals u ts)
@@ -136,20 +124,11 @@ record Kept (n : Tree) : Type 0 where
   stays : blank n ≡ is_empty n
 
 abbrev AllKept : List Tree → Type 0
-AllKept [] = Unit {0}
-AllKept (x ∷ l) = Kept x × AllKept l
+AllKept l = AllByRecursion Kept l
 
 abbrev AllSolid : List Tree → Type 0
 AllSolid [] = Unit {0}
 AllSolid (x ∷ l) = (is_empty x ≡ false) × AllSolid l
-
-cond_kept : (b : Bool) (x : Tree) (l : List Tree) → Kept x → AllKept l → AllKept (if b then l else x ∷ l)
-cond_kept true x l h k = k
-cond_kept false x l h k = (h, k)
-
-solid_kept : (l : List Tree) → AllKept l → AllKept (solid l)
-solid_kept [] h = tt
-solid_kept (x ∷ l) h = cond_kept (is_empty x) x (solid l) h.0 (solid_kept l h.1)
 
 cond_solid : (b : Bool) (x : Tree) (l : List Tree) → is_empty x ≡ b → AllSolid l → AllSolid (if b then l else x ∷ l)
 cond_solid true x l e h = h
@@ -158,10 +137,6 @@ cond_solid false x l e h = (e, h)
 all_solid : (l : List Tree) → AllSolid (solid l)
 all_solid [] = tt
 all_solid (x ∷ l) = cond_solid (is_empty x) x (solid l) refl (all_solid l)
-
-append_kept : (l m : List Tree) → AllKept l → AllKept m → AllKept (l ++ m)
-append_kept [] m h k = k
-append_kept (x ∷ l) m h k = (h.0, append_kept l m h.1 k)
 
 all_are : (l : List Tree) → AllKept l → all_printable (trees_of l) ≡ true
 all_are [] h = refl
@@ -183,7 +158,7 @@ one_kept (x ∷ y ∷ l) h s =
     }
 
 join_kept : (l : List Tree) → AllKept l → Kept (join l)
-join_kept l h = one_kept (solid l) (solid_kept l h) (all_solid l)
+join_kept l h = one_kept (solid l) (each_solid Kept l h) (all_solid l)
 
 choice_kept : (l : List Tree) → AllKept l → Kept (choice l)
 choice_kept [] h = empty_kept
@@ -202,7 +177,7 @@ characters_kept b (c ∷ cs) h = (
 
 parts_kept : (t n : Tree) → printable t ≡ true → Kept n → AllKept (pieces_of t n)
 parts_kept (literal s false) n p h = characters_kept false s p
-parts_kept t n p h = solid_kept (n ∷ []) (h, tt)
+parts_kept t n p h = each_solid Kept (n ∷ []) (h, tt)
 
 delegate_kept : (t : Tree) → IsDelegate t → printable t ≡ true → Kept t
 delegate_kept (delegate w i) d h = record { is = h; stays = refl }
@@ -226,7 +201,7 @@ mutual
   kept : (u : Bool) (t : Tree) → printable t ≡ true → Kept (normal u t)
   kept u empty h = empty_kept
   kept u (any a b) h = record { is = refl; stays = refl }
-  kept u (assertion (EndTextIgnoreTrailingNewlines crlf)) h = no_truth h
+  kept u (assertion (EndTextIgnoreTrailingNewlines crlf)) h = absurd (false≢true h)
   kept u (assertion (StartLineOniguruma crlf)) h = record { is = refl; stays = refl }
   kept u (assertion a) h = record { is = refl; stays = refl }
   kept u (literal s i) h = join_kept (map (character i) s) (characters_kept i s h)
@@ -236,13 +211,13 @@ mutual
   kept u (group t) h = let r = kept u t h in record { is = r.is; stays = refl }
   kept u (repeat t lo hi greedy) h = repeat_kept u t lo hi greedy h (kept u t (first_so (printable t) _ h))
   kept u (define_group t) h = empty_kept
-  kept u _ h = no_truth h
+  kept u _ h = absurd (false≢true h)
 
   kept_items : (u : Bool) (ts : Trees) → all_printable ts ≡ true → AllKept (normal_pieces u ts)
   kept_items u no_trees h = tt
   kept_items u (more_trees t ts) h =
       let p = first_so (printable t) _ h in
-      append_kept (pieces_of t (normal u t)) (normal_pieces u ts) (parts_kept t (normal u t) p (kept u t p))
+      each_append Kept (pieces_of t (normal u t)) (normal_pieces u ts) (parts_kept t (normal u t) p (kept u t p))
       (kept_items u ts (second_so (printable t) _ h))
 
   kept_normals : (u : Bool) (ts : Trees) → all_printable ts ≡ true → AllKept (normals u ts)

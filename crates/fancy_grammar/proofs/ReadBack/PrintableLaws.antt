@@ -1,8 +1,9 @@
 -- What is told printable is printable: above all, a quantifier may stand behind a normal form that is not Empty.
-use Rattle.std.proofs.Common.{◌≡◌, ℕ, ◌^◌, ◌<◌, Bool, true, false, not, ◌&&◌, if◌then◌else◌, List, [], ◌∷◌, ◌++◌, map}
-use Rattle.std.proofs.Common.{None, unwrap_or, refl, sym, ap, ap₂, ◌∙◌, arith}
+use Rattle.std.proofs.Common.{◌≡◌, ℕ, ◌^◌, ◌<◌, Bool, true, false, not, ◌&&◌, List, [], ◌∷◌, map}
+use Rattle.std.proofs.Common.{unwrap_or, refl, sym, ap, ap₂, ◌∙◌, arith}
+use Rattle.std.proofs.lemmas.Bool.{false≢true}
 use Rattle.std.specs.Cmp.{first_so, second_so}
-use Rattle.std.specs.List.{list_all}
+use Rattle.std.specs.List.{AllByRecursion, list_all}
 use Rattle.std.specs.Str.{all_scalars}
 use Rattle.std.proofs.lemmas.Bool.Decides.{nat_tests}
 use Rattle.std.proofs.lemmas.List.Folds.{list_all-append}
@@ -17,10 +18,10 @@ use Rattle.fancy_grammar.specs.Quantified.{is_repeatable}
 use Rattle.fancy_grammar.specs.State.{Outcome, done, fault}
 use Rattle.fancy_grammar.specs.Tree.{Tree, Trees, no_trees, more_trees, empty, any, assertion, literal, concat, alt}
 use Rattle.fancy_grammar.specs.Tree.{group, repeat, delegate, define_group}
-use Rattle.fancy_grammar.proofs.PrintableLemmas.{join_empty, one_solid}
+use Rattle.fancy_grammar.proofs.OutcomeLemmas.{each_append, each_solid}
+use Rattle.fancy_grammar.proofs.PrintableLemmas.{join_empty, pieces_empty}
 use Rattle.fancy_grammar.proofs.ReadBack.ShapeLemmas.{Printable, ArePrintable}
 use Rattle.fancy_grammar.proofs.ReadBack.DelegateTexts.{IsDelegate, delegate_text}
-use Rattle.fancy_grammar.proofs.ReadBack.ClearLemmas.{no_truth}
 
 pub count_below : (n : ℕ) → is_count n ≡ true → n < 2 ^ 64
 count_below n h = grind (arith, nat_tests)
@@ -31,20 +32,7 @@ abbrev Good : Tree → Type 0
 Good t = (u : Bool) → is_repeatable (bare u) t ≡ not (is_empty t)
 
 abbrev AllGood : List Tree → Type 0
-AllGood [] = Unit {0}
-AllGood (t ∷ l) = Good t × AllGood l
-
-good_append : (l m : List Tree) → AllGood l → AllGood m → AllGood (l ++ m)
-good_append [] m h k = k
-good_append (t ∷ l) m h k = (h.0, good_append l m h.1 k)
-
-good_cond : (b : Bool) (t : Tree) (l : List Tree) → Good t → AllGood l → AllGood (if b then l else t ∷ l)
-good_cond true t l h k = k
-good_cond false t l h k = (h, k)
-
-good_solid : (l : List Tree) → AllGood l → AllGood (solid l)
-good_solid [] h = tt
-good_solid (t ∷ l) h = good_cond (is_empty t) t (solid l) h.0 (good_solid l h.1)
+AllGood l = AllByRecursion Good l
 
 good_one : (l : List Tree) → AllGood l → Good (one_or concat l)
 good_one [] h = λ _. refl
@@ -71,15 +59,10 @@ delegate_leaf : (o : Outcome Tree) (d : Tree) → IsDelegate d → IsDelegate (u
 delegate_leaf (done t s) d h = delegate_whole s.rest t d h
 delegate_leaf (fault k p) d h = h
 
-delegate_if : (b : Bool) (o : Outcome Tree) (d : Tree) → IsDelegate d →
-    IsDelegate (unwrap_or (if b then whole_leaf o else None) d)
-delegate_if true o d h = delegate_leaf o d h
-delegate_if false o d h = h
-
 pub delegate_class : (f : Flags) (s : Text) (d : Tree) → IsDelegate d → IsDelegate (unwrap_or (class_of f s) d)
 unfolding class_of
 delegate_class f [] d h = h
-delegate_class f (c ∷ t) d h = delegate_if _ _ d h
+delegate_class f (c ∷ t) d h = delegate_leaf _ d h
 
 good_delegate : (t : Tree) → IsDelegate t → Good t × (is_empty t ≡ false)
 good_delegate (delegate w i) h = (λ _. refl, refl)
@@ -91,9 +74,9 @@ mutual
   good_normal u (any a b) h = λ _. refl
   good_normal u (assertion (StartLineOniguruma crlf)) h = λ _. refl
   good_normal u (assertion a) h = λ _. refl
-  good_normal u (literal s i) h = good_one (solid (map (character i) s)) (good_solid _ (good_characters i s))
+  good_normal u (literal s i) h = good_one (solid (map (character i) s)) (each_solid Good _ (good_characters i s))
   good_normal u (delegate s i) h = (good_delegate _ (delegate_class _ s (delegate s i) tt)).0
-  good_normal u (concat ts) h = good_one (solid (normal_pieces u ts)) (good_solid _ (good_items u ts h))
+  good_normal u (concat ts) h = good_one (solid (normal_pieces u ts)) (each_solid Good _ (good_items u ts h))
   good_normal u (alt ts) h = good_choice (normals u ts) (good_normals u ts h)
   good_normal u (group t) h = λ _. refl
   good_normal u (repeat t lo hi greedy) h = λ _. refl
@@ -103,7 +86,7 @@ mutual
   good_items : (u : Bool) (ts : Trees) → ArePrintable ts → AllGood (normal_pieces u ts)
   good_items u no_trees h = tt
   good_items u (more_trees t ts) h =
-      good_append (pieces_of t (normal u t)) (normal_pieces u ts) (good_parts t (normal u t) (good_normal u t h.0))
+      each_append Good (pieces_of t (normal u t)) (normal_pieces u ts) (good_parts t (normal u t) (good_normal u t h.0))
       (good_items u ts h.1)
 
   good_normals : (u : Bool) (ts : Trees) → ArePrintable ts → AllGood (normals u ts)
@@ -112,7 +95,7 @@ mutual
 
   good_parts : (t n : Tree) → Good n → AllGood (pieces_of t n)
   good_parts (literal s false) n h = good_characters false s
-  good_parts t n h = good_solid (n ∷ []) (h, tt)
+  good_parts t n h = each_solid Good (n ∷ []) (h, tt)
 
 -- ---- whether a normal form is Empty hangs on no setting
 
@@ -139,10 +122,6 @@ characters_empty : (i : Bool) (s : Text) → is_empty (join (map (character i) s
 characters_empty i [] = refl
 characters_empty i (c ∷ s) = join_empty (map (character i) (c ∷ s))
 
-parts_empty : (t n : Tree) → is_empty n ≡ blank t → list_all is_empty (pieces_of t n) ≡ blank t
-parts_empty (literal s false) n e = sym (join_empty (map (character false) s)) ∙ characters_empty false s
-parts_empty t n e = one_solid (is_empty n) n refl ∙ e
-
 mutual
   pub normal_empty : (u : Bool) (t : Tree) → is_empty (normal u t) ≡ blank t
   normal_empty u (assertion (StartLineOniguruma crlf)) = refl
@@ -156,7 +135,7 @@ mutual
   items_empty u no_trees = refl
   items_empty u (more_trees t ts) =
       list_all-append is_empty (pieces_of t (normal u t)) (normal_pieces u ts)
-      ∙ ap₂ (λ a b. a && b) (parts_empty t (normal u t) (normal_empty u t)) (items_empty u ts)
+      ∙ ap₂ (λ a b. a && b) (pieces_empty u t ∙ normal_empty u t) (items_empty u ts)
 
   choice_empty : (u : Bool) (ts : Trees) → is_empty (choice (normals u ts)) ≡ blank_choice ts
   choice_empty u no_trees = refl
@@ -171,7 +150,7 @@ mutual
   pub told : (t : Tree) → printable t ≡ true → Printable t
   told empty h = tt
   told (any a b) h = tt
-  told (assertion (EndTextIgnoreTrailingNewlines crlf)) h = no_truth h
+  told (assertion (EndTextIgnoreTrailingNewlines crlf)) h = absurd (false≢true h)
   told (assertion a) h = tt
   told (literal s i) h = tt
   told (delegate s i) h = delegate_text s (second_so (all_scalars s) _ h)
@@ -188,7 +167,7 @@ mutual
         count_below hi (second_so (is_count lo) _ counts),
       )
   told (define_group t) h = tt
-  told _ h = no_truth h
+  told _ h = absurd (false≢true h)
 
   all_told : (ts : Trees) → all_printable ts ≡ true → ArePrintable ts
   all_told no_trees h = tt

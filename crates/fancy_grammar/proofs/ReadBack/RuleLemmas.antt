@@ -6,6 +6,7 @@ use Rattle.std.proofs.lemmas.Bool.{cond-true, cond-false}
 use Rattle.std.proofs.lemmas.Bool.Decides.{nat_tests}
 use Rattle.std.proofs.Math.Bool.{and-true, and-false, not-not}
 use Rattle.std.proofs.lemmas.List.{map-append}
+use Rattle.std.specs.List.{AllByRecursion}
 use Prim.Native.Char.{code}
 use Rattle.fancy_lex.specs.Fault.{Kind, recursion_exceeded}
 use Rattle.fancy_lex.specs.Layout.{layout, after_comment_head, rest}
@@ -13,9 +14,9 @@ use Rattle.fancy_lex.specs.Reading.{gives, choose, layout_reading}
 use Rattle.fancy_lex.specs.Text.{Text, bytes, place_of}
 use Rattle.fancy_lex.specs.declared.flags.Flags.{Flags}
 use Rattle.fancy_parts.specs.FlagLetters as letters
-use Rattle.fancy_parts.specs.FlagLetters.{Letters, Step, letters_in, step, ends, goes}
+use Rattle.fancy_parts.specs.FlagLetters.{Letters, letters_in, step, ends, goes}
 use Rattle.fancy_parts.specs.Quantifier.{counts}
-use Rattle.fancy_parts.specs.Quote.{behind_backslash}
+use Rattle.fancy_parts.specs.Quote.{behind_backslash, needs_backslash}
 use Rattle.fancy_parts.specs.Ranks.{Opening}
 use Rattle.fancy_parts.specs.declared.counts.Counts.{Counts}
 use Rattle.fancy_parts.proofs.FlagLemmas.{letters_start, in_end, in_go}
@@ -31,18 +32,18 @@ use Rattle.fancy_grammar.specs.Items.{Item, opening, reference, items, items_all
 use Rattle.fancy_grammar.specs.Join.{is_empty, solid, one_or, join, choice}
 use Rattle.fancy_grammar.specs.Grammar.{trees_before}
 use Rattle.fancy_grammar.specs.Quantified as quantified
-use Rattle.fancy_grammar.specs.Quantified.{is_repeatable, is_swapped, may_be_possessive, quant, quant_at, quants}
+use Rattle.fancy_grammar.specs.Quantified.{is_repeatable, may_be_possessive, quant, quant_at, quants}
 use Rattle.fancy_grammar.specs.Quantified.{adjacent, max_adjacent, behind_lazy, suffix, suffix_at}
 use Rattle.fancy_grammar.specs.Resolved.{resolved_in, resolved_all}
 use Rattle.fancy_grammar.specs.State.{skipped, State, Outcome, done, fault, and_then, seen_through}
 use Rattle.fancy_grammar.specs.Tree as tree
-use Rattle.fancy_grammar.specs.Tree.{Tree, empty, any, assertion, literal, concat, alt, repeat, trees_of, ast_node}
+use Rattle.fancy_grammar.specs.Tree.{Tree, empty, literal, concat, alt, repeat, trees_of, ast_node}
 use Rattle.fancy_grammar.specs.Tree.{ast_group, ast_backref, ast_call, ast_condition}
-use Rattle.fancy_grammar.proofs.OutcomeLemmas.{before-nil, solid-append}
+use Rattle.fancy_grammar.proofs.OutcomeLemmas.{before-nil, solid-append, each_append, each_solid}
 use Rattle.fancy_grammar.specs.Normal.{bare, case_flags}
 use Rattle.fancy_grammar.proofs.ReadBack.InFront.{put_as}
 use Rattle.fancy_grammar.proofs.ReadBack.ClearLemmas.{Clear, no_layout, clear_counts, clear_lazy, clear_star}
-use Rattle.fancy_grammar.proofs.ReadBack.ClearLemmas.{clear_plus, Stops, Ends, behind_none, behind_some}
+use Rattle.fancy_grammar.proofs.ReadBack.ClearLemmas.{clear_plus, Stops, Ends, apart, behind_none, behind_some}
 use Rattle.fancy_grammar.proofs.ReadBack.CountTexts.{IsQuantifier, lazy}
 
 abbrev pub st : Flags → Text → State
@@ -72,13 +73,11 @@ groups_append [] m h k = k
 groups_append (opening o ∷ l) m h k = (h.0, groups_append l m h.1 k)
 groups_append (reference r ∷ l) m h k = absurd h
 
-abbrev pub EachHasGroups : List Tree → Type 0
-EachHasGroups [] = Unit {0}
-EachHasGroups (t ∷ l) = OnlyGroups (items t) × EachHasGroups l
+abbrev pub HasGroups : Tree → Type 0
+HasGroups t = OnlyGroups (items t)
 
-each_append : (l m : List Tree) → EachHasGroups l → EachHasGroups m → EachHasGroups (l ++ m)
-each_append [] m h k = k
-each_append (t ∷ l) m h k = (h.0, each_append l m h.1 k)
+abbrev pub EachHasGroups : List Tree → Type 0
+EachHasGroups l = AllByRecursion HasGroups l
 
 all_groups : (l : List Tree) → EachHasGroups l → OnlyGroups (items_all (trees_of l))
 all_groups [] h = tt
@@ -93,15 +92,6 @@ choice_groups : (l : List Tree) → EachHasGroups l → OnlyGroups (items (choic
 choice_groups [] h = tt
 choice_groups (t ∷ []) h = h.0
 choice_groups (t ∷ u ∷ l) h = all_groups (t ∷ u ∷ l) h
-
-if_groups : (b : Bool) (t : Tree) (l : List Tree) → OnlyGroups (items t) → EachHasGroups l →
-    EachHasGroups (if b then l else t ∷ l)
-if_groups true t l h k = k
-if_groups false t l h k = (h, k)
-
-solid_groups : (l : List Tree) → EachHasGroups l → EachHasGroups (solid l)
-solid_groups [] h = tt
-solid_groups (t ∷ l) h = if_groups (is_empty t) t (solid l) h.0 (solid_groups l h.1)
 
 -- a raw tree of that kind that resolves to x
 pub record Becomes (r x : Tree) : Type 0 where
@@ -224,7 +214,7 @@ run_chain {n} {d} {f} {s} p q = record {
       λ g. ap solid (map-append (resolved_in false g) p.trees q.trees)
       ∙ solid-append (map (resolved_in false g) p.trees) (map (resolved_in false g) q.trees)
       ∙ ap₂ (λ a b. a ++ b) (p.are g) (q.are g);
-  groups = each_append p.trees q.trees p.groups q.groups;
+  groups = each_append HasGroups p.trees q.trees p.groups q.groups;
 }
 
 run_piece : {n d : ℕ} {f : Flags} {s v : Text} (r x : Tree) → Piece n d (st f s) (done r (st f v)) →
@@ -332,7 +322,7 @@ reads_branch {n} {d} {f} {s} {v} x r e h = record {
         ∙ ap (one_or concat) (sym (solid_solid (map (resolved_in false g) r.trees))) ∙ ap join (r.are g) ∙ e;
     groups =
         subst (λ l. OnlyGroups (items (join l))) (sym (append-nil r.trees))
-        (concat_groups (solid r.trees) (solid_groups r.trees r.groups));
+        (concat_groups (solid r.trees) (each_solid HasGroups r.trees r.groups));
   };
 }
 
@@ -494,17 +484,22 @@ leaf_at n d f c t a b = cond-false _ _ _ a ∙ cond-false _ _ _ b
 plain_leaf : (n d : ℕ) (f : Flags) (c : ℕ) (v : Text) → behind_backslash c ≡ None →
     ahead n d (st f (c ∷ v)) ≡ leaf (done (literal (c ∷ []) f.casei) (st f v))
 plain_leaf n d f c v e =
-    let (slash, a) = behind_none c e in
-    let (dot, b) = a in
-    let (plus, h) = b in
-    let (star, i) = h in
-    let (ask, j) = i in
-    let (paren, k) = j in
-    let (close, l) = k in
-    let (bar_, m) = l in
-    let (bracket, o) = m in
-    leaf_at n d f c v paren (rw (plus, star, ask, bar_, close) refl)
-    ∙ rw (dot, o.1.1.1.0, o.1.1.1.1.0, slash, bracket) refl
+    let is_not = apart needs_backslash c (behind_none c e) in
+    leaf_at n d f c v (is_not (code "(") refl)
+    (rw (
+      is_not (code "+") refl,
+      is_not (code "*") refl,
+      is_not (code "?") refl,
+      is_not (code "|") refl,
+      is_not (code ")") refl,
+    ) refl)
+    ∙ rw (
+      is_not (code ".") refl,
+      is_not (code "^") refl,
+      is_not (code "$") refl,
+      is_not (code "\\") refl,
+      is_not (code "[") refl,
+    ) refl
 
 -- a character, as it is printed
 pub reads_char : (n d : ℕ) (f : Flags) (c : ℕ) (v : Text) (o : Option ℕ) → behind_backslash c ≡ o →

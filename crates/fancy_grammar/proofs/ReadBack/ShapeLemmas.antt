@@ -1,5 +1,6 @@
 -- What is printable, as a type; and how printed texts begin.
 use Rattle.std.proofs.Common.{◌≡◌, ℕ, ◌^◌, ◌<◌, ◌==◌, Bool, true, false, nat_lt, [], ◌∷◌, ◌++◌, refl, sym}
+use Rattle.std.proofs.lemmas.Bool.{false≢true}
 use Prim.Native.Char.{code}
 use Rattle.fancy_lex.specs.Text.{Text}
 use Rattle.fancy_parts.specs.Quote.{behind_backslash, quantifier}
@@ -9,7 +10,7 @@ use Rattle.fancy_grammar.specs.Tree.{Tree, Trees, no_trees, more_trees, empty, a
 use Rattle.fancy_grammar.specs.Tree.{group, repeat, delegate, define_group}
 use Rattle.fancy_grammar.specs.Normal.{case_flags, bare, normal}
 use Rattle.fancy_grammar.proofs.ReadBack.InFront.{put, puts, put_branches, put_barred, put_repeated, open_if, close_if}
-use Rattle.fancy_grammar.proofs.ReadBack.ClearLemmas.{no_truth, Clear, not_asking, clear_lazy, clear_close, stops_bar}
+use Rattle.fancy_grammar.proofs.ReadBack.ClearLemmas.{Clear, not_asking, clear_lazy, clear_close, stops_bar}
 use Rattle.fancy_grammar.proofs.ReadBack.RuleLemmas.{AtomAs}
 use Rattle.fancy_grammar.proofs.ReadBack.LeafLemmas.{Begins, begins_char, begins_any, begins_assertion, quotes_clear}
 use Rattle.fancy_grammar.proofs.ReadBack.LeafLemmas.{HasText}
@@ -51,11 +52,11 @@ IsAtom _ = Unit {0}
 
 pub atom_of : (t : Tree) → is_repeatable (bare false) (normal false t) ≡ true → is_long t ≡ false → IsAtom t
 atom_of (literal s true) n l = tt
-atom_of (literal [] false) n l = no_truth n
+atom_of (literal [] false) n l = absurd (false≢true n)
 atom_of (literal (c ∷ []) false) n l = tt
-atom_of (literal (c ∷ d ∷ cs) false) n l = no_truth (sym l)
-atom_of empty n l = no_truth n
-atom_of (define_group t) n l = no_truth n
+atom_of (literal (c ∷ d ∷ cs) false) n l = absurd (false≢true (sym l))
+atom_of empty n l = absurd (false≢true n)
+atom_of (define_group t) n l = absurd (false≢true n)
 atom_of _ n l = tt
 
 -- a head that opens no comment

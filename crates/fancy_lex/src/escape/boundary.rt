@@ -44,14 +44,14 @@ fn after_name<'a>(text: &'a str, word: &str, ignore_space: bool, end: usize) -> 
         option_map (λ r. chars r.now) result }
     ensures shorter { IfSome result (λ r. length r.now < length text.now) }
 {
-    let mut left = text;
+    let mut rest = text;
     let mut word = word;
     loop {
-        left = past_layout(left, ignore_space, end)?;
+        rest = past_layout(rest, ignore_space, end)?;
         let Some((c, more)) = next(word) else {
-            return after(left, '}');
+            return after(rest, '}');
         };
-        left = after(left, c)?;
+        rest = after(rest, c)?;
         word = more;
     }
 }
@@ -117,10 +117,10 @@ fn bare_escape(
     let mut out = String::new(alloc);
     // A fault of the pattern comes first, so that where memory runs out the name is read on.
     let mut whole = append(&mut out, boundary_head(negated)).is_ok();
-    let mut left = text;
+    let mut rest = text;
     loop {
-        let name = skip(left, ignore_space, end)?;
-        let Some((c, rest)) = next(name) else {
+        let name = skip(rest, ignore_space, end)?;
+        let Some((c, behind)) = next(name) else {
             return Err(unclosed_fault(alloc, place));
         };
         whole = push_behind(&mut out, whole, c);
@@ -131,7 +131,7 @@ fn bare_escape(
                 Err(Error::OutOfMemory)
             };
         }
-        left = rest;
+        rest = behind;
     }
 }
 

@@ -31,14 +31,14 @@ fn fixed_digits(text: &str, width: u32) -> Option<(u32, &str)>
     ensures value { spec.fixed_digits width 0 (chars text.now) ≡ option_map (λ p. (p.0, chars p.1.now)) result }
     ensures within { IfSome result (λ p. length p.1.now ≤ length text.now) }
 {
-    let mut left = text;
+    let mut rest = text;
     let mut value = 0u32;
     for _read in 0..width {
-        let (digit, rest) = hex_digit(left)?;
+        let (digit, behind) = hex_digit(rest)?;
         value = value * 16 + digit;
-        left = rest;
+        rest = behind;
     }
-    Some((value, left))
+    Some((value, rest))
 }
 
 /// Reads the closing brace behind some digits.
@@ -58,19 +58,19 @@ fn digits(text: &str, ignore_space: bool, end: usize, place: usize) -> Result<(u
     ensures value { Reads (λ v. v) result (spec.digits end ignore_space place 8 false 0 (chars text.now)) }
     ensures shorter { IfOk result (λ p. length p.1.now < length text.now) }
 {
-    let mut left = text;
+    let mut rest = text;
     let mut value = 0u32;
     for read in 0..8u32 {
-        let Some((digit, rest)) = hex_digit(left) else {
+        let Some((digit, behind)) = hex_digit(rest) else {
             if read == 0 {
                 return Err(Error::ParseError(place, ParseError::InvalidHex));
             }
-            return closing_brace(left, value, place);
+            return closing_brace(rest, value, place);
         };
         value = value * 16 + digit;
-        left = skip(rest, ignore_space, end)?;
+        rest = skip(behind, ignore_space, end)?;
     }
-    closing_brace(left, value, place)
+    closing_brace(rest, value, place)
 }
 
 /// Reads what stands behind the opening brace.

@@ -35,14 +35,14 @@ fn behind_id(text: &str) -> &str
     ensures stops { (c : ℕ) (t : Text) → chars result.now ≡ c ∷ t → spec.is_id_char c ≡ false }
     ensures within { length result.now ≤ length text.now }
 {
-    let mut left = text;
-    while let Some((c, after)) = next(left) {
+    let mut rest = text;
+    while let Some((c, after)) = next(rest) {
         if !is_id_char(c) {
-            return left;
+            return rest;
         }
-        left = after;
+        rest = after;
     }
-    left
+    rest
 }
 
 /// Reads the id at the front, all the id characters there, and answers it with the text behind it. None where no id
@@ -53,11 +53,11 @@ pub fn id(text: &str) -> Option<(&str, &str)>
     ensures only { (w v : Text) → spec.StartsWithId (chars text.now) w v → parts result ≡ Some (w, v) }
     ensures shorter { IfSome result (λ p. length p.1.now < length text.now) }
 {
-    let left = behind_id(text);
-    if left.len() == text.len() {
+    let rest = behind_id(text);
+    if rest.len() == text.len() {
         return None;
     }
-    Some((front(text, left), left))
+    Some((front(text, rest), rest))
 }
 
 /// An id reference: an id, an amount, or both.

@@ -33,13 +33,13 @@ fn read_number(text: &str) -> Option<(Option<usize>, &str)>
     ensures value { spec.GivesNumber (chars text.now) result }
     ensures shorter { IfSome result (λ p. length p.1.now < length text.now) }
 {
-    let (first, mut left) = digit(text)?;
+    let (first, mut rest) = digit(text)?;
     let mut value = Some(first);
-    while let Some((next, after)) = digit(left) {
+    while let Some((next, after)) = digit(rest) {
         value = with_digit(value, next);
-        left = after;
+        rest = after;
     }
-    Some((value, left))
+    Some((value, rest))
 }
 
 /// Reads the digits at the front: their value, where a word holds it, and the text after them.

@@ -173,19 +173,19 @@ fn read_letters(
 {
     let mut clears = false;
     let mut flags = flags;
-    let mut left = text;
+    let mut rest = text;
     loop {
-        let here = skip(left, flags.ignore_space, end)?;
-        let (step, rest) = flag_letter(alloc, text, clears, flags, here, end)?;
+        let here = skip(rest, flags.ignore_space, end)?;
+        let (step, behind) = flag_letter(alloc, text, clears, flags, here, end)?;
         match step {
-            Step::Ends(letters) => return Ok((letters, rest)),
+            Step::Ends(letters) => return Ok((letters, behind)),
             Step::GoesOn {
                 clears: now_clears,
                 flags: changed,
             } => {
                 clears = now_clears;
                 flags = changed;
-                left = rest;
+                rest = behind;
             }
         }
     }

@@ -1,5 +1,5 @@
 use Rattle.std.proofs.Common.{arith}
-use Rattle.fancy_lex.proofs.ClassLaws.{class_derives, class_only, class_only_fault, class_follows}
+use Rattle.fancy_lex.proofs.ClassLaws.{class_derives, class_only, class_follows}
 use Rattle.fancy_lex.proofs.LeaveLaws.{given_cut, given_place}
 use Rattle.fancy_lex.proofs.PlaceLaws.{leaves_class}
 use Rattle.fancy_lex.specs.Text.{text_of}
@@ -17,10 +17,7 @@ pub returns-clause-derives : goal.returns-clause-derives
 returns-clause-derives c = class_derives _ _ _ _ c.read_class.ensures.value
 
 pub returns-clause-only : goal.returns-clause-only
-returns-clause-only c v out h = class_only _ _ _ v out _ c.read_class.ensures.value h
-
-pub returns-clause-only_fault : goal.returns-clause-only_fault
-returns-clause-only_fault c e h = class_only_fault _ _ _ e _ c.read_class.ensures.value h
+returns-clause-only c o h = class_only _ _ _ _ c.read_class.ensures.value o h
 
 pub returns-clause-follows : goal.returns-clause-follows
 returns-clause-follows c m s = class_follows _ m _ _ s _ c.read_class.ensures.value

@@ -12,10 +12,10 @@ loop-c-init c = record {
   text = search rules;
   same = (
     suc (bytes (chars c.args.text.now)),
-    omega (arith, bytes_chars c.args.text.now c.utf8.text, c.in_ok-left.ensures.within),
-    class_init _ _ _ _ _ _ (ap chars c.new-out.ensures.bytes ∙ chars-nil) c.in_ok-left.ensures.value,
+    omega (arith, bytes_chars c.args.text.now c.utf8.text, c.in_ok-rest.ensures.within),
+    class_init _ _ _ _ _ _ (ap chars c.new-out.ensures.bytes ∙ chars-nil) c.in_ok-rest.ensures.value,
   );
-  within = omega (arith, c.in_ok-left.ensures.within);
+  within = omega (arith, c.in_ok-rest.ensures.within);
 }
 
 pub returns-in_err-escaped-clause-value : goal.returns-in_err-escaped-clause-value
@@ -46,11 +46,11 @@ loop-c-preserved-then-c-eq91 c =
       text = search rules;
       same = (
         pred k,
-        pred_lt _ _ k (omega (arith, c.in-Some.ensures.shorter, c.in_ok-left-2.ensures.within)) m,
+        pred_lt _ _ k (omega (arith, c.in-Some.ensures.shorter, c.in_ok-rest-2.ensures.within)) m,
         same ∙ open_step _ _ _ _ _ _ _ _ c.in-Some.ensures.value k (omega arith) _ _ c.if-c-eq91.true
-            c.in_ok-left-2.ensures.value,
+            c.in_ok-rest-2.ensures.value,
       );
-      within = omega (arith, c.in-Some.ensures.shorter, c.in_ok-left-2.ensures.within);
+      within = omega (arith, c.in-Some.ensures.shorter, c.in_ok-rest-2.ensures.within);
     }
 
 pub returns-then-depth-eq0-clause-value : goal.returns-then-depth-eq0-clause-value

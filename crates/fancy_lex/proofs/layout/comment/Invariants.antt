@@ -6,11 +6,11 @@ use Rattle.fancy_lex.proofs.layout.comment.Given as goal
 
 abbrev pub invariant-loop-c : goal.invariant-loop-c
 invariant-loop-c l = record {
-  text : shadow (Utf8 l.left);
+  text : shadow (Utf8 l.rest);
   same : (x : Bool) → spec.layout_from l.end x spec.comment (chars l.text) ≡ spec.layout_from l.end x spec.comment
-      (chars l.left);
-  within : length l.left ≤ length l.text;
+      (chars l.rest);
+  within : length l.rest ≤ length l.text;
 }
 
 abbrev pub decreases-loop-c : goal.decreases-loop-c
-decreases-loop-c l = length l.left
+decreases-loop-c l = length l.rest

@@ -6,11 +6,11 @@ use Rattle.fancy_lex.proofs.layout.read_units.Given as goal
 
 abbrev pub invariant-loop-inside : goal.invariant-loop-inside
 invariant-loop-inside l = record {
-  text : shadow (Utf8 l.left);
+  text : shadow (Utf8 l.rest);
   same : spec.layout_from l.end l.ignore_space spec.between (chars l.text) ≡ spec.layout_from l.end l.ignore_space
-      spec.between (chars l.left);
-  within : length l.left ≤ length l.text;
+      spec.between (chars l.rest);
+  within : length l.rest ≤ length l.text;
 }
 
 abbrev pub decreases-loop-inside : goal.decreases-loop-inside
-decreases-loop-inside l = length l.left
+decreases-loop-inside l = length l.rest

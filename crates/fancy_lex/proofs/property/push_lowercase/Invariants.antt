@@ -7,9 +7,9 @@ use Rattle.fancy_lex.proofs.property.push_lowercase.Given as goal
 
 abbrev pub invariant-loop-c : goal.invariant-loop-c
 invariant-loop-c l = record {
-  text : shadow (Utf8 l.left);
-  written : (w : Text) × (chars l.name ≡ w ++ chars l.left) × (text_of l.out ≡ text_of l.initial.out ++ lowercase w);
+  text : shadow (Utf8 l.rest);
+  written : (w : Text) × (chars l.name ≡ w ++ chars l.rest) × (text_of l.out ≡ text_of l.initial.out ++ lowercase w);
 }
 
 abbrev pub decreases-loop-c : goal.decreases-loop-c
-decreases-loop-c l = length l.left
+decreases-loop-c l = length l.rest

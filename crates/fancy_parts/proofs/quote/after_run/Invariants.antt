@@ -6,9 +6,9 @@ use Rattle.fancy_parts.proofs.quote.after_run.Given as goal
 
 abbrev pub invariant-loop-c : goal.invariant-loop-c
 invariant-loop-c l = record {
-  text : shadow (Utf8 l.left);
-  run : AreAsTheyStand (chars l.text) (chars l.left);
+  text : shadow (Utf8 l.rest);
+  run : AreAsTheyStand (chars l.text) (chars l.rest);
 }
 
 abbrev pub decreases-loop-c : goal.decreases-loop-c
-decreases-loop-c l = length l.left
+decreases-loop-c l = length l.rest

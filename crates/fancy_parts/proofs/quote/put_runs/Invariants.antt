@@ -7,9 +7,9 @@ use Rattle.fancy_parts.proofs.quote.put_runs.Given as goal
 
 abbrev pub invariant-loop-c : goal.invariant-loop-c
 invariant-loop-c l = record {
-  text : shadow (Utf8 l.left);
-  writing : Writing l.initial.buf l.buf (quotes (chars l.left)) (quotes (chars l.text));
+  text : shadow (Utf8 l.rest);
+  writing : Writing l.initial.buf l.buf (quotes (chars l.rest)) (quotes (chars l.text));
 }
 
 abbrev pub decreases-loop-c : goal.decreases-loop-c
-decreases-loop-c l = length l.left
+decreases-loop-c l = length l.rest

@@ -3,6 +3,7 @@ use Rattle.std.proofs.Common.{string_bytes}
 use Rattle.std.specs.Cmp.Lexicographic.{slice_cmp}
 use Rattle.std.specs.Map.{lookup}
 use Rattle.std.specs.Ordering.{is_eq, nat_cmp}
+use Rattle.std.proofs.lemmas.Str.{IsUtf8-string_bytes}
 use Rattle.fancy_lex.specs.Target.{view_target}
 use Rattle.fancy_lex.specs.Text.{Text, text_of}
 use Rattle.fancy_parts.specs.Groups.{groups_of, meaning_of, entry_of, numbers_under, role_of}
@@ -18,7 +19,8 @@ returns-in-Some c =
     ≡ Some c.in-Some.numbers.now =
     rw (← c.as_str.ensures.value) (sym c.in-Some.ensures.value) in
     let numbers : numbers_under (map entry_of es) (text_of c.in-ByName.name) ≡ c.as_slice.result.now =
-    found c.in-ByName.name es ∙ ap (λ o. unwrap_or (option_map (λ v. v.items) o) []) same
+    found (string_bytes c.in-ByName.name) es (IsUtf8-string_bytes c.in-ByName.name)
+    ∙ ap (λ o. unwrap_or (option_map (λ v. v.items) o) []) same
     ∙ sym c.as_slice.ensures.value in
     let by_numbers = λ (f : Text → List ℕ).
     IfOk c.by_name.result
@@ -36,7 +38,8 @@ returns-in-None c =
     let same : lookup (λ k. is_eq (slice_cmp nat_cmp (string_bytes c.in-ByName.name) (string_bytes k))) es ≡ None =
     rw (← c.as_str.ensures.value) (sym c.in-None.ensures.value) in
     let numbers : numbers_under (map entry_of es) (text_of c.in-ByName.name) ≡ [] =
-    found c.in-ByName.name es ∙ ap (λ o. unwrap_or (option_map (λ v. v.items) o) []) same in
+    found (string_bytes c.in-ByName.name) es (IsUtf8-string_bytes c.in-ByName.name)
+    ∙ ap (λ o. unwrap_or (option_map (λ v. v.items) o) []) same in
     let by_numbers = λ (f : Text → List ℕ).
     IfOk c.by_name-in-None.result
     (λ m. meaning_of m ≡ means f c.args.passed (role_of c.args.role) (view_target c.args.target.now)) in

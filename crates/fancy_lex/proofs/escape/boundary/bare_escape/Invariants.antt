@@ -7,11 +7,11 @@ use Rattle.fancy_lex.proofs.escape.boundary.bare_escape.Given as goal
 
 abbrev pub invariant-loop-out : goal.invariant-loop-out
 invariant-loop-out l = record {
-  text : shadow (Utf8 l.left);
-  same : (k : ℕ) × (length (chars l.left) < k) × (o : Text) × (l.whole ≡ true → o ≡ text_of l.out)
+  text : shadow (Utf8 l.rest);
+  same : (k : ℕ) × (length (chars l.rest) < k) × (o : Text) × (l.whole ≡ true → o ≡ text_of l.out)
       × (name_fault l.end l.ignore_space l.place l.negated (chars l.text) ≡ name_fault_behind l.end l.ignore_space
-      l.place o k (chars l.left));
+      l.place o k (chars l.rest));
 }
 
 abbrev pub decreases-loop-out : goal.decreases-loop-out
-decreases-loop-out l = length l.left
+decreases-loop-out l = length l.rest

@@ -32,11 +32,11 @@ overflow_add-value c =
           c.in-Some.ensures.small c.loop-read-test.true,
     )
 
-pub returns-in_err-left-clause-value : goal.returns-in_err-left-clause-value
-returns-in_err-left-clause-value c =
+pub returns-in_err-rest-clause-value : goal.returns-in_err-rest-clause-value
+returns-in_err-rest-clause-value c =
     let p = err_from_is_err_and c.from_residual.result c.from_residual.ensures.1 in
     rw (p.1, p.2, c.loop-read.invariant.same)
-    (digits_fault _ _ _ _ _ _ _ _ _ c.loop-read-test.true c.in-Some.ensures.value c.in_err-left.ensures.value)
+    (digits_fault _ _ _ _ _ _ _ _ _ c.loop-read-test.true c.in-Some.ensures.value c.in_err-rest.ensures.value)
 
 pub loop-read-preserved : goal.loop-read-preserved
 loop-read-preserved c = record {
@@ -44,8 +44,8 @@ loop-read-preserved c = record {
   small = push_small c.loop-read.value c.in-Some.digit c.loop-read.read c.loop-read.invariant.small
       c.in-Some.ensures.small c.loop-read-test.true;
   same = c.loop-read.invariant.same ∙ digits_step _ _ _ _ _ _ _ _ _ c.loop-read-test.true c.in-Some.ensures.value
-      c.in_ok-left.ensures.value;
-  within = omega (arith, c.in-Some.ensures.shorter, c.in_ok-left.ensures.within);
+      c.in_ok-rest.ensures.value;
+  within = omega (arith, c.in-Some.ensures.shorter, c.in_ok-rest.ensures.within);
 }
 
 pub returns-clause-value : goal.returns-clause-value

@@ -6,9 +6,9 @@ use Rattle.fancy_lex.proofs.escape.hex.digits.Given as goal
 
 abbrev pub invariant-loop-read : goal.invariant-loop-read
 invariant-loop-read l = record {
-  text : shadow (Utf8 l.left);
+  text : shadow (Utf8 l.rest);
   small : l.value < 16 ^ l.read;
   same : spec.digits l.end l.ignore_space l.place 8 false 0 (chars l.text) ≡ spec.digits l.end l.ignore_space l.place
-      (8 - l.read) (nat_lt 0 l.read) l.value (chars l.left);
-  within : length l.left ≤ length l.text;
+      (8 - l.read) (nat_lt 0 l.read) l.value (chars l.rest);
+  within : length l.rest ≤ length l.text;
 }

@@ -7,10 +7,10 @@ use Rattle.fancy_lex.proofs.name.id.behind_id.Given as goal
 
 abbrev pub invariant-loop-c : goal.invariant-loop-c
 invariant-loop-c l = record {
-  text : shadow (Utf8 l.left);
-  read : (w : Text) × AllIdChars w × (chars l.text ≡ w ++ chars l.left);
-  within : length l.left ≤ length l.text;
+  text : shadow (Utf8 l.rest);
+  read : (w : Text) × AllIdChars w × (chars l.text ≡ w ++ chars l.rest);
+  within : length l.rest ≤ length l.text;
 }
 
 abbrev pub decreases-loop-c : goal.decreases-loop-c
-decreases-loop-c l = length l.left
+decreases-loop-c l = length l.rest

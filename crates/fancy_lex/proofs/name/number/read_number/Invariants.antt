@@ -6,10 +6,10 @@ use Rattle.fancy_lex.proofs.name.number.read_number.Given as goal
 
 abbrev pub invariant-loop-next : goal.invariant-loop-next
 invariant-loop-next l = record {
-  text : shadow (Utf8 l.left);
-  number : (n : ℕ) × spec.IsWord l.value n × (spec.run 0 (chars l.text) ≡ spec.run n (chars l.left));
-  within : length l.left < length l.text;
+  text : shadow (Utf8 l.rest);
+  number : (n : ℕ) × spec.IsWord l.value n × (spec.run 0 (chars l.text) ≡ spec.run n (chars l.rest));
+  within : length l.rest < length l.text;
 }
 
 abbrev pub decreases-loop-next : goal.decreases-loop-next
-decreases-loop-next l = length l.left
+decreases-loop-next l = length l.rest

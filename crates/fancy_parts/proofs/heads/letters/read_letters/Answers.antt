@@ -42,7 +42,7 @@ returns-in-Ends-clause-value c =
 pub loop-here-preserved : goal.loop-here-preserved
 loop-here-preserved c =
     let (k, h, e) = c.loop-here.invariant.steps in
-    let less : length c.in_ok-step.rest.now < length c.loop-here.left.now =
+    let less : length c.in_ok-step.behind.now < length c.loop-here.rest.now =
     omega (arith, c.in_ok-step.ensures.shorter, c.in_ok-here.ensures.within) in
     let (j, i, f) = in_go _ _ _ _ _ k _ h _ c.in_ok-here.ensures.value _ _ _ _ less
     (rw c.in-GoesOn.is at c.in_ok-step.ensures.value) in

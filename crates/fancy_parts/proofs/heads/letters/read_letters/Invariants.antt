@@ -7,12 +7,12 @@ use Rattle.fancy_parts.proofs.heads.letters.read_letters.Given as goal
 
 abbrev pub invariant-loop-here : goal.invariant-loop-here
 invariant-loop-here l = record {
-  text : shadow (Utf8 l.left);
-  steps : (k : ℕ) × (length l.left < k) × (spec.letters l.end l.fn.flags (chars l.text) ≡ spec.letters_in l.end
-      (chars l.text) k l.clears l.flags (chars l.left));
-  behind : (w : Text) × (chars l.text ≡ w ++ chars l.left);
-  within : length l.left ≤ length l.text;
+  text : shadow (Utf8 l.rest);
+  steps : (k : ℕ) × (length l.rest < k) × (spec.letters l.end l.fn.flags (chars l.text) ≡ spec.letters_in l.end
+      (chars l.text) k l.clears l.flags (chars l.rest));
+  behind : (w : Text) × (chars l.text ≡ w ++ chars l.rest);
+  within : length l.rest ≤ length l.text;
 }
 
 abbrev pub decreases-loop-here : goal.decreases-loop-here
-decreases-loop-here l = length l.left
+decreases-loop-here l = length l.rest
