@@ -12,7 +12,7 @@ use Rattle.fancy_lex.specs.Escape.{escape}
 use Rattle.fancy_lex.specs.Escaped.{Escape}
 use Rattle.fancy_lex.specs.Fault.{Fault, kind_of}
 use Rattle.fancy_lex.specs.Flags.{flags_of}
-use Rattle.fancy_lex.specs.Reading.{Reading, gives, fails, Fails}
+use Rattle.fancy_lex.specs.Reading.{Reading, gives, fails, IsErrorOrNoMemory}
 use Rattle.fancy_lex.specs.Text.{Text, bytes}
 use Rattle.fancy_lex.specs.declared.error.Error.{Error}
 use Rattle.fancy_lex.specs.declared.error.Error.TheVariants.{ParseError, OutOfMemory}
@@ -92,7 +92,7 @@ module _ (bs : List ℕ) (n : ℕ) (f : Flags) (utf8 : IsUtf8 bs) (whole : n ≡
 -- the answer where a reading failed, unless memory ran out
 pub failed : {A : Type 0} (r : Result Bool AllocError) (error : Error) (o : Reading A) (x : Bool) →
     IfOk r (λ b. b ≡ false) →
-    IfOk r (λ _. error ≡ OutOfMemory → ⊥) → Fails error o → ((e : Fault) → o ≡ fails e → false ≡ x) →
+    IfOk r (λ _. error ≡ OutOfMemory → ⊥) → IsErrorOrNoMemory error o → ((e : Fault) → o ≡ fails e → false ≡ x) →
     IfOk r (λ b. b ≡ x)
 failed (Ok b) (ParseError p k) o x is in_memory f faulty = is ∙ faulty (record { place = p; kind = kind_of k }) f
 failed (Ok b) OutOfMemory o x is in_memory f faulty = absurd (in_memory refl)

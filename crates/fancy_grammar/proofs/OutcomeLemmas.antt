@@ -12,7 +12,7 @@ use Rattle.fancy_grammar.specs.Ahead.{Ahead, nothing, leaf, with_head, condition
 use Rattle.fancy_grammar.specs.Grammar.{trees_before, restored, behind_atom, Branch, Branches, more, Piece, Pieces}
 use Rattle.fancy_grammar.specs.Grammar.{next}
 use Rattle.fancy_grammar.specs.Join.{is_empty, solid}
-use Rattle.fancy_grammar.specs.Fails.{Fails, IsErrorAt}
+use Rattle.fancy_grammar.specs.Errors.{IsErrorAmong, IsErrorAt}
 use Rattle.fancy_grammar.specs.State.{ends, State, at, Outcome, done, fault, and_then}
 use Rattle.fancy_grammar.specs.Tree.{Tree}
 
@@ -46,15 +46,16 @@ behind_keeps P g (condition s) f q h = then_keeps P g f q h
 behind_keeps P g (body c s) f q h = then_keeps P g f q h
 behind_keeps P g (absent_branch s) f q h = then_keeps P g f q h
 
-pub Fails-map : {A B : Type 0} (P : Outcome A → Type 0) (Q : Outcome B → Type 0) (e : Error) →
-    ((k : Kind) (p : ℕ) → P (fault k p) → Q (fault k p)) → Fails e P → Fails e Q
-Fails-map P Q (ParseError p k) f h = f _ p h
-Fails-map P Q OutOfMemory f h = tt
+pub IsErrorAmong-map : {A B : Type 0} (P : Outcome A → Type 0) (Q : Outcome B → Type 0) (e : Error) →
+    ((k : Kind) (p : ℕ) → P (fault k p) → Q (fault k p)) → IsErrorAmong e P → IsErrorAmong e Q
+IsErrorAmong-map P Q (ParseError p k) f h = f _ p h
+IsErrorAmong-map P Q OutOfMemory f h = tt
 
-pub Fails-is : {A : Type 0} (P : Outcome A → Type 0) (e : Error) (k : Kind) (p : ℕ) → IsErrorAt e k p → P (fault k p) →
-    Fails e P
-Fails-is P (ParseError q j) k p h d = rw (h.0, h.1) d
-Fails-is P OutOfMemory k p h d = tt
+pub IsErrorAmong-is : {A : Type 0} (P : Outcome A → Type 0) (e : Error) (k : Kind) (p : ℕ) → IsErrorAt e k p →
+    P (fault k p) →
+    IsErrorAmong e P
+IsErrorAmong-is P (ParseError q j) k p h d = rw (h.0, h.1) d
+IsErrorAmong-is P OutOfMemory k p h d = tt
 
 pub at_done : {A : Type 0} (P : Outcome A → Type 0) {a b : A} {s t : State} → b ≡ a → t ≡ s → P (done a s) →
     P (done b t)

@@ -16,7 +16,7 @@ use Rattle.fancy_grammar.specs.Answer.{IsTreeOf, IsFaultOf, of_reading, of_resol
 use Rattle.fancy_grammar.specs.Grammar.{Derives, Faults, Whole}
 use Rattle.fancy_grammar.specs.Items.{items, openings}
 use Rattle.fancy_grammar.specs.Marks.{Marks, marks}
-use Rattle.fancy_grammar.specs.Fails.{Fails, IsErrorIn}
+use Rattle.fancy_grammar.specs.Errors.{IsErrorAmong, IsErrorIn}
 use Rattle.fancy_grammar.specs.Ordered.{Ascends}
 use Rattle.fancy_grammar.specs.Slices.{MayStand}
 use Rattle.fancy_grammar.proofs.ReadBack.ScalarLemmas.{scalars_behind}
@@ -64,7 +64,7 @@ no_fault f text t m k p (r, a, none, e, d) (of_resolving b some) =
     absurd cc
 
 -- the one fault of a text that cannot be read
-pub only_reading : (e : Error) (f : Flags) (text : Text) → Fails e (Whole f text) → IsOnlyFault e f text
+pub only_reading : (e : Error) (f : Flags) (text : Text) → IsErrorAmong e (Whole f text) → IsOnlyFault e f text
 only_reading (ParseError p k) f text a =
     (of_reading a, λ j q b. other j q b, λ t m b. no_fault f text t m (kind_of k) p b (of_reading a))
   where
@@ -102,7 +102,8 @@ placed e re p valid (as_told h) = inl (h ∙ ap (λ n. n + 1) (bytes_chars re va
 placed e re p valid (begins u ends h) = inr (subst (IsCharBoundary re) (sym h) (cut_at re u valid ends))
 placed e re p valid (past_end h) = inl (h ∙ ap (λ n. n + 1) (bytes_chars re valid))
 
-pub reading_placed : (e : Error) (f : Flags) (re : List ℕ) → IsUtf8 re → Fails e (Whole f (chars re)) → IsPlacedIn e re
+pub reading_placed : (e : Error) (f : Flags) (re : List ℕ) → IsUtf8 re → IsErrorAmong e (Whole f (chars re)) →
+    IsPlacedIn e re
 reading_placed (ParseError p k) f re u a = placed k re p u (fault_stands a)
 reading_placed OutOfMemory f re u a = tt
 

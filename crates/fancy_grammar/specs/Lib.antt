@@ -14,7 +14,7 @@ pub mod Join
 pub mod Quantified
 pub mod Grammar
 pub mod Premises
-pub mod Fails
+pub mod Errors
 -- ---- what references mean, and what is answered
 pub mod Items
 pub mod Resolved

@@ -16,7 +16,7 @@ use Rattle.fancy_lex.specs.Escape.{escape}
 use Rattle.fancy_lex.specs.Escaped.{Escape}
 use Rattle.fancy_lex.specs.Fault.{Fault}
 use Rattle.fancy_lex.specs.FaultTable.{class_not_closed}
-use Rattle.fancy_lex.specs.Reading.{Reading, gives, fails, choose, Gives, Derives}
+use Rattle.fancy_lex.specs.Reading.{Reading, gives, fails, choose, IsReadingOrNoMemory, Derives}
 use Rattle.fancy_lex.specs.Text.{Text, bytes, place_of, strip, text_of}
 use Rattle.fancy_lex.specs.declared.error.Error.{Error}
 use Rattle.fancy_lex.specs.declared.flags.Flags.{Flags}
@@ -332,15 +332,16 @@ mutual
 -- The clauses of the reader.
 
 module _ (n : ℕ) (f : Flags) (t : Text) (r : Result (String Global × Bor (List ℕ)) Error)
-    (g : Gives text_of r (class n f t)) where
+    (g : IsReadingOrNoMemory text_of r (class n f t)) where
   pub class_derives : Derives text_of r (OuterClass n f t)
   class_derives = derives_given text_of r (OuterClass n f t) (class n f t) (class_reads n f t) g
 
-  pub class_only : (o : Reading Text) → OuterClass n f t o → Gives text_of r o
-  class_only o h = subst (Gives text_of r) (class_is n f t o h) g
+  pub class_only : (o : Reading Text) → OuterClass n f t o → IsReadingOrNoMemory text_of r o
+  class_only o h = subst (IsReadingOrNoMemory text_of r) (class_is n f t o h) g
 
 pub class_follows : (n m : ℕ) (f : Flags) (t s : Text) (r : Result (String Global × Bor (List ℕ)) Error) →
-    Gives text_of r (class n f t) → IfOk r (λ p. class m f (t ++ s) ≡ gives (text_of p.0) (chars p.1.now ++ s))
+    IsReadingOrNoMemory text_of r (class n f t) →
+    IfOk r (λ p. class m f (t ++ s) ≡ gives (text_of p.0) (chars p.1.now ++ s))
 class_follows n m f t s (Ok p) g =
     let (a, h) = subst (OuterClass n f t) g (class_reads n f t) in
     class_complete m f (t ++ s) _ (class_frame h m s)

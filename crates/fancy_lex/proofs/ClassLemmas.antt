@@ -6,7 +6,7 @@ use Rattle.fancy_lex.specs.Class.{class_head, items_from, class, item_text, is_n
 use Rattle.fancy_lex.specs.Escape.{escape}
 use Rattle.fancy_lex.specs.Escaped.{Escape}
 use Rattle.fancy_lex.specs.Fault.{invalid_class}
-use Rattle.fancy_lex.specs.Reading.{gives, fault_at, Reports, Fails}
+use Rattle.fancy_lex.specs.Reading.{gives, fault_at, Reports, IsErrorOrNoMemory}
 use Rattle.fancy_lex.specs.Text.{Text, bytes, place_of}
 use Rattle.fancy_lex.specs.declared.error.Error.{Error}
 use Rattle.fancy_lex.specs.declared.flags.Flags.{Flags}
@@ -60,7 +60,7 @@ module _ (n : ℕ) (f : Flags) where
         rw (e, g, items_from, here) refl
 
     pub items_fault : (k : ℕ) (b : Error) → 0 < k → c ≡ 92 → Reports b (escape n f true (place_of n t) r) →
-        Fails b (items_from n f k depth seen out t)
+        IsErrorOrNoMemory b (items_from n f k depth seen out t)
     unfolding items_from
     items_fault zero b m g q = absurd (omega arith)
     items_fault (suc k) b m g q =
@@ -101,6 +101,6 @@ module _ (n : ℕ) (f : Flags) (depth : ℕ) (seen : Bool) (out t : Text) (c : �
       rw (z, y) (items_escape n f depth seen out t c r e k v u some g (ap (λ m. escape n f true m r) (sym q) ∙ h))
 
   pub fault_step : (p : ℕ) (b : Error) → c ≡ 92 → p ≡ place_of n t → Reports b (escape n f true p r) →
-      Fails b (items_from n f k depth seen out t)
+      IsErrorOrNoMemory b (items_from n f k depth seen out t)
   fault_step p b g q h = items_fault n f depth seen out t c r e k b some g
       (subst (λ m. Reports b (escape n f true m r)) q h)

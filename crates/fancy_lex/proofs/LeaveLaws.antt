@@ -4,7 +4,7 @@ use Rattle.std.proofs.Common.{refl, ap, sym, ◌∙◌, subst, append_assoc, app
 use Rattle.std.proofs.Common.{Err, IfOk, IfErr}
 use Rattle.std.specs.Option.{option_and_then}
 use Rattle.fancy_lex.specs.Fault.{Fault, Kind, kind_of, StandsWithin}
-use Rattle.fancy_lex.specs.Reading.{Reading, gives, fails, fault_at, ◌>=>◌, choose, Gives}
+use Rattle.fancy_lex.specs.Reading.{Reading, gives, fails, fault_at, ◌>=>◌, choose, IsReadingOrNoMemory}
 use Rattle.fancy_lex.specs.Text.{Text, EndsWith as Ends, Stands, as_told, begins, past_end, bytes, place_of, strip}
 use Rattle.fancy_lex.specs.declared.error.Error.{Error}
 use Rattle.fancy_lex.specs.declared.error.Error.TheVariants.{ParseError, OutOfMemory}
@@ -120,20 +120,23 @@ some_both t None f l m = tt
 
 module _ {A B : Type 0} {n place : ℕ} {t : Text} {o : Reading B} (f : A → B) (r : Result (A × Bor (List ℕ)) Error) where
   -- what the code leaves ends the text
-  pub given_cut : Leaves n place t o → Gives f r o → IfOk r (λ p. Ends t (chars p.1.now))
+  pub given_cut : Leaves n place t o → IsReadingOrNoMemory f r o → IfOk r (λ p. Ends t (chars p.1.now))
   given_cut l g = by_answer r l g
     where
-      by_answer : (r : Result (A × Bor (List ℕ)) Error) → {o : Reading B} → Leaves n place t o → Gives f r o →
+      by_answer : (r : Result (A × Bor (List ℕ)) Error) → {o : Reading B} → Leaves n place t o →
+          IsReadingOrNoMemory f r o →
           IfOk r (λ p. Ends t (chars p.1.now))
       by_answer (Ok p) (leaves {u} e) g = let same : u ≡ chars p.1.now = cc in subst (Ends t) same e
       by_answer (Ok p) (faults l) g = absurd cc
       by_answer (Err e) l g = tt
 
   -- and its fault stands in the bound
-  pub given_place : {m : ℕ} → place ≤ m → n + 1 ≤ m → Leaves n place t o → Gives f r o → IfErr r (λ e. StandsWithin m e)
+  pub given_place : {m : ℕ} → place ≤ m → n + 1 ≤ m → Leaves n place t o → IsReadingOrNoMemory f r o →
+      IfErr r (λ e. StandsWithin m e)
   given_place {m} told up l g = by_answer r l g
     where
-      by_answer : (r : Result (A × Bor (List ℕ)) Error) → {o : Reading B} → Leaves n place t o → Gives f r o →
+      by_answer : (r : Result (A × Bor (List ℕ)) Error) → {o : Reading B} → Leaves n place t o →
+          IsReadingOrNoMemory f r o →
           IfErr r (λ e. StandsWithin m e)
       by_answer (Ok p) l g = tt
       by_answer (Err OutOfMemory) l g = tt

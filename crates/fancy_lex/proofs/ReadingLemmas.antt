@@ -2,7 +2,8 @@
 use Rattle.std.proofs.Common.{◌≡◌, ℕ, List, Result, Ok, Err, refl, subst}
 use Rattle.std.specs.Borrow.{Bor}
 use Rattle.fancy_lex.specs.Text.{Text}
-use Rattle.fancy_lex.specs.Reading.{Reading, gives, fails, CarriesText, Says, Reads, Reports, Answers, Fails, Gives}
+use Rattle.fancy_lex.specs.Reading.{Reading, gives, fails, CarriesText, Says, Reads, Reports, Answers}
+use Rattle.fancy_lex.specs.Reading.{IsErrorOrNoMemory, IsReadingOrNoMemory}
 use Rattle.fancy_lex.specs.Reading.{Derives, ◌>=>◌}
 use Rattle.fancy_lex.specs.declared.error.Error.{Error}
 use Rattle.fancy_lex.specs.declared.error.Error.TheVariants.{ParseError, OutOfMemory}
@@ -21,7 +22,7 @@ module _ {A B : Type 0} (o : Reading A) (f : A → Text → Reading B) where
     carried (fails d) h = h
 
 -- where memory may run out at any time
-pub report_fails : {A : Type 0} (b : Error) (o : Reading A) → Reports b o → Fails b o
+pub report_fails : {A : Type 0} (b : Error) (o : Reading A) → Reports b o → IsErrorOrNoMemory b o
 report_fails (ParseError p k) o e = e
 report_fails OutOfMemory o e = tt
 
@@ -32,13 +33,13 @@ only_answer f r o q e g = subst (Answers f r) e g
 
 -- the code's answer is the reading, however seldom memory runs out
 pub answers_gives : {A B : Type 0} (f : A → B) (r : Result (A × Bor (List ℕ)) Error) (o : Reading B) → Answers f r o →
-    Gives f r o
+    IsReadingOrNoMemory f r o
 answers_gives f (Ok p) o g = g
 answers_gives f (Err e) o g = report_fails e o g
 
 -- the answer of a function for which the relation holds is one that the relation gives
 pub derives_given : {A B : Type 0} (f : A → B) (r : Result (A × Bor (List ℕ)) Error) (R : Reading B → Type 0)
-    (o : Reading B) → R o → Gives f r o → Derives f r R
+    (o : Reading B) → R o → IsReadingOrNoMemory f r o → Derives f r R
 derives_given f (Ok p) R o h g = subst R g h
 derives_given f (Err OutOfMemory) R o h g = tt
 derives_given f (Err (ParseError p k)) R o h g = subst R g h

@@ -65,13 +65,13 @@ abbrev pub Answers : {A B : Type 0} → (A → B) → Result (A × Bor (List ℕ
 Answers f r o = MatchResult r (λ p. o ≡ gives (f p.0) (chars p.1.now)) (λ e. Reports e o)
 
 -- the error says the reading's fault, or that memory ran out
-abbrev pub Fails : {B : Type 0} → Error → Reading B → Type 0
-Fails OutOfMemory o = ⊤
-Fails (ParseError p k) o = o ≡ fault_at p (kind_of k)
+abbrev pub IsErrorOrNoMemory : {B : Type 0} → Error → Reading B → Type 0
+IsErrorOrNoMemory OutOfMemory o = ⊤
+IsErrorOrNoMemory (ParseError p k) o = o ≡ fault_at p (kind_of k)
 
 -- the code's answer is the reading, with its value seen through f, unless memory ran out
-abbrev pub Gives : {A B : Type 0} → (A → B) → Result (A × Bor (List ℕ)) Error → Reading B → Type 0
-Gives f r o = MatchResult r (λ p. o ≡ gives (f p.0) (chars p.1.now)) (λ e. Fails e o)
+abbrev pub IsReadingOrNoMemory : {A B : Type 0} → (A → B) → Result (A × Bor (List ℕ)) Error → Reading B → Type 0
+IsReadingOrNoMemory f r o = MatchResult r (λ p. o ≡ gives (f p.0) (chars p.1.now)) (λ e. IsErrorOrNoMemory e o)
 
 -- the relation gives the error's fault, or memory ran out
 abbrev pub DerivesFault : {B : Type 0} → Error → (Reading B → Type 0) → Type 0

@@ -3,7 +3,7 @@ ghost use Rattle.std.specs.Prelude.{◌≡◌, ℕ, ◌+◌, ◌/◌, ◌%◌, �
 ghost use Rattle.fancy_lex.specs.Class as spec;
 ghost use Rattle.fancy_lex.specs.Escaped.{escape_of, delegate_text};
 ghost use Rattle.fancy_lex.specs.Property.{is_negated_set};
-ghost use Rattle.fancy_lex.specs.Reading.{Reading, Derives, Gives, gives};
+ghost use Rattle.fancy_lex.specs.Reading.{Reading, Derives, IsReadingOrNoMemory, gives};
 ghost use Rattle.fancy_lex.specs.Fault.{StandsWithin};
 ghost use Rattle.fancy_lex.specs.Text.{Text, text_of, BeginsWith, EndsWith};
 
@@ -167,7 +167,7 @@ fn push_head<'a>(out: &mut String, text: &'a str) -> Result<&'a str, AllocError>
 fn read_class(alloc: Global, text: &str, flags: Flags, end: usize) -> Result<(String, &str), Error>
     requires bounded { end < 2 ^ 63 }
     requires inside { length text.now ≤ end }
-    ensures value { Gives text_of result (spec.class end flags (chars text.now)) }
+    ensures value { IsReadingOrNoMemory text_of result (spec.class end flags (chars text.now)) }
     ensures shorter { IfOk result (λ p. length p.1.now < length text.now) }
 {
     let mut out = String::new(alloc);
@@ -204,9 +204,10 @@ fn read_class(alloc: Global, text: &str, flags: Flags, end: usize) -> Result<(St
 pub fn class(alloc: Global, text: &str, flags: Flags, end: usize) -> Result<(String, &str), Error>
     requires bounded { end < 2 ^ 63 }
     requires inside { length text.now ≤ end }
-    ensures value { Gives text_of result (spec.class end flags (chars text.now)) }
+    ensures value { IsReadingOrNoMemory text_of result (spec.class end flags (chars text.now)) }
     ensures derives { Derives text_of result (spec.OuterClass end flags (chars text.now)) }
-    ensures only { (o : Reading Text) → spec.OuterClass end flags (chars text.now) o → Gives text_of result o }
+    ensures only { (o : Reading Text) → spec.OuterClass end flags (chars text.now) o →
+        IsReadingOrNoMemory text_of result o }
     ensures follows { (m : ℕ) (s : Text) →
         IfOk result (λ p. spec.class m flags (chars text.now ++ s) ≡ gives (text_of p.0) (chars p.1.now ++ s)) }
     ensures cut { IfOk result (λ p. EndsWith (chars text.now) (chars p.1.now)) }

@@ -113,6 +113,7 @@ fn letter_name(alloc: Global, c: char) -> Result<String, AllocError>
 }
 
 /// The fault of a letter that is no escape.
+#[cold]
 fn unknown_escape(alloc: Global, c: char, place: usize) -> Error
     ensures { Reports result (spec.unknown_escape place c) }
 {
@@ -259,6 +260,7 @@ fn word_boundary(c: char, boundary: Assertion, flags: Flags) -> Escaped<'static>
 }
 
 /// Reads an escape that is one outside a class only, behind its letter.
+#[inline(always)]
 #[tactic(auto, unfolding(crate::specs::Escape::outside))]
 fn outside<'a>(
     alloc: Global,

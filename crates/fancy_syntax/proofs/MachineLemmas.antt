@@ -27,14 +27,15 @@ use Rattle.fancy_syntax.specs.Machine.{outermost, inner, Holds}
 use Rattle.fancy_grammar.specs.Grammar.{trees_before}
 use Rattle.fancy_grammar.specs.Head.{group_node}
 use Rattle.fancy_grammar.specs.Quantified.{quants}
-use Rattle.fancy_grammar.specs.Fails.{Fails}
+use Rattle.fancy_grammar.specs.Errors.{IsErrorAmong}
 use Rattle.fancy_grammar.specs.State.{ends, skipped, State, at, Outcome, done, fault, faulted, and_then, seen_through}
 use Rattle.fancy_grammar.specs.Tree.{Tree, concat, absent, expression}
 use Rattle.fancy_syntax.specs.declared.grammar.frame.Frame.{Frame}
 use Rattle.fancy_syntax.specs.declared.grammar.step.Step.{Step}
 use Rattle.fancy_syntax.specs.declared.grammar.step.Step.TheVariants as step
 use Rattle.fancy_lex.proofs.TextLemmas.{strip_is}
-use Rattle.fancy_grammar.proofs.OutcomeLemmas.{Fails-map, before-nil, before-push, more_any, next_any, solid-append}
+use Rattle.fancy_grammar.proofs.OutcomeLemmas.{IsErrorAmong-map, before-nil, before-push, more_any, next_any}
+use Rattle.fancy_grammar.proofs.OutcomeLemmas.{solid-append}
 
 -- ---- a step
 
@@ -50,11 +51,11 @@ pub steps_piece : {n d left : ℕ} (s : State) {t : State} {u : Text} {a : Tree}
 steps_piece s (Ok (step.Piece tree)) v i l a h = piece_of i l a h
 steps_piece s (Ok (step.Open opener)) v i l a h = absurd h
 steps_piece {n} {d} {left} s {t} {a = tree} (Err e) v i l a h =
-    Fails-map (λ o. quants n d left tree t ≡ o) (Piece n d s) e (λ k p g. piece_of i l a g) h
+    IsErrorAmong-map (λ o. quants n d left tree t ≡ o) (Piece n d s) e (λ k p g. piece_of i l a g) h
 
 -- a fault of the layout before a piece is the piece's
 pub steps_layout : (n d : ℕ) (s : State) {p : ℕ} (e : Error) → e ≡ ParseError p UnclosedOpenParen →
-    skipped n s ≡ open_comment p → Fails e (Piece n d s)
+    skipped n s ≡ open_comment p → IsErrorAmong e (Piece n d s)
 steps_layout n d s e i l = rw i (layout_fault l)
 
 -- ---- what is open

@@ -2,7 +2,7 @@
 use Rattle.std.proofs.Common.{◌≡◌, ◌+◌, ◌≤◌, ◌++◌, ◌||◌, List, Bool, arith, length, ap, sym, ◌∙◌, rules, Box, Global}
 use Rattle.fancy_lex.specs.declared.error.Error.{Error}
 use Rattle.fancy_parts.specs.Groups.{Groups}
-use Rattle.fancy_grammar.specs.Fails.{IsErrorIn}
+use Rattle.fancy_grammar.specs.Errors.{IsErrorIn}
 use Rattle.fancy_grammar.specs.Items.{Item, items, items_absent, openings_in}
 use Rattle.fancy_grammar.specs.Tree.{conditional, expression}
 use Rattle.fancy_syntax.specs.Notes.{has_items}

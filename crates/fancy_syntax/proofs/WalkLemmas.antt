@@ -11,7 +11,7 @@ use Rattle.fancy_lex.specs.declared.error.Error.TheVariants.{ParseError, OutOfMe
 use Rattle.fancy_parts.specs.Groups.{Groups, with_opening}
 use Rattle.fancy_parts.specs.Ranks.{Opening, is_counted}
 use Rattle.fancy_grammar.proofs.ItemLemmas.{length_openings}
-use Rattle.fancy_grammar.specs.Fails.{IsErrorIn}
+use Rattle.fancy_grammar.specs.Errors.{IsErrorIn}
 use Rattle.fancy_grammar.specs.Items.{Item, opening, reference, items, items_all, openings_in}
 use Rattle.fancy_grammar.specs.Tree.{Tree, trees_of, more_trees}
 use Rattle.fancy_syntax.specs.View.{view, views}

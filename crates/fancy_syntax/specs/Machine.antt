@@ -1,6 +1,6 @@
 -- The groups that are open, as the parser's stack holds them.
-use Rattle.std.specs.Prelude.{◌≡◌, ℕ, ◌+◌, ◌<◌, ◌==◌, ◌&&◌, not, if◌then◌else◌, Bool, true, false, List, [], ◌∷◌, ◌++◌, length}
-use Rattle.std.specs.Prelude.{Some, Result, MatchResult, ⊤}
+use Rattle.std.specs.Prelude.{◌≡◌, ℕ, ◌+◌, ◌<◌, ◌==◌, ◌&&◌, not, if◌then◌else◌, Bool, true, false, List, []}
+use Rattle.std.specs.Prelude.{◌∷◌, ◌++◌, length, Some, Result, MatchResult, ⊤}
 use Rattle.fancy_lex.specs.Characters.{bar}
 use Rattle.fancy_lex.specs.FaultTable.{bar_for_close_paren, body_wanting}
 use Rattle.fancy_lex.specs.Layout.{rest}
@@ -14,7 +14,7 @@ use Rattle.fancy_grammar.specs.Grammar.{branches_of, conditional_of, clear_or_st
 use Rattle.fancy_grammar.specs.Head.{Head, group_node}
 use Rattle.fancy_grammar.specs.Join.{solid}
 use Rattle.fancy_syntax.specs.Parsed.{head_of}
-use Rattle.fancy_grammar.specs.Fails.{Fails}
+use Rattle.fancy_grammar.specs.Errors.{IsErrorAmong}
 use Rattle.fancy_grammar.specs.State.{ends, skipped, State, at, Outcome, done, faulted}
 use Rattle.fancy_grammar.specs.Tree.{Tree, absent, expression}
 use Rattle.fancy_syntax.specs.View.{view}
@@ -127,7 +127,7 @@ Steps n d s (step.Open opener) t = Opens n d s (part_of opener) t
 
 -- a step from s to t, or the fault of a piece there
 abbrev pub StepsOn : Result Step Error → ℕ → ℕ → State → State → Type 0
-StepsOn r n d s t = MatchResult r (λ p. Steps n d s p t) (λ e. Fails e (Piece n d s))
+StepsOn r n d s t = MatchResult r (λ p. Steps n d s p t) (λ e. IsErrorAmong e (Piece n d s))
 
 -- the step reads a piece, to this outcome
 abbrev pub IsPiece : Step → State → Outcome Tree → Type 0
@@ -136,7 +136,7 @@ IsPiece (step.Open opener) t o = ⊥
 
 -- a step that reads a piece, up to t, or a fault, is the outcome
 abbrev pub GivesPiece : Result Step Error → Outcome Tree → State → Type 0
-GivesPiece r o t = MatchResult r (λ p. IsPiece p t o) (λ e. Fails e (λ q. o ≡ q))
+GivesPiece r o t = MatchResult r (λ p. IsPiece p t o) (λ e. IsErrorAmong e (λ q. o ≡ q))
 
 -- what is read of a part that begins at s: branches, and the pieces of the branch that is open at t
 pub record Reading (n d : ℕ) (p : OpenPart) (s : State) (branches pieces : List Tree) (t : State) : Type 0 where

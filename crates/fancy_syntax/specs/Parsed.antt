@@ -8,7 +8,7 @@ use Rattle.fancy_lex.specs.Layout.{Skipped, rest, fault as open_comment}
 use Rattle.fancy_lex.specs.declared.error.Error.TheVariants.{ParseError}
 use Rattle.fancy_lex.specs.declared.error.ParseError.TheVariants.{UnclosedOpenParen}
 use Rattle.fancy_grammar.specs.Head as head
-use Rattle.fancy_grammar.specs.Fails.{Fails}
+use Rattle.fancy_grammar.specs.Errors.{IsErrorAmong}
 use Rattle.fancy_grammar.specs.Quantified as quantified
 use Rattle.fancy_grammar.specs.State as spec
 use Rattle.fancy_grammar.specs.State.{Outcome, done}
@@ -37,16 +37,16 @@ head_of code.Define = head.define
 head_of code.Repeater = head.repeater
 
 -- a tree and the state behind it, or the fault, is an outcome
-abbrev pub Reads : Result (Expr × State) Error → (Outcome Tree → Type 0) → Type 0
-Reads r P = MatchResult r (λ found. P (done (view found.0) (state found.1))) (λ e. Fails e P)
+abbrev pub IsTreeRead : Result (Expr × State) Error → (Outcome Tree → Type 0) → Type 0
+IsTreeRead r P = MatchResult r (λ found. P (done (view found.0) (state found.1))) (λ e. IsErrorAmong e P)
 
 -- the tree and the state come to these, or a fault is found: the outcome
 abbrev pub Turns : Result (Unit {0}) Error → Tree → spec.State → Outcome Tree → Type 0
-Turns r t s o = MatchResult r (λ _. o ≡ done t s) (λ e. Fails e (λ q. o ≡ q))
+Turns r t s o = MatchResult r (λ _. o ≡ done t s) (λ e. IsErrorAmong e (λ q. o ≡ q))
 
 -- a value is read, up to the state, or a fault is found: the outcome
-abbrev pub Gives : {A : Type 0} → Result A Error → spec.State → Outcome A → Type 0
-Gives r s o = MatchResult r (λ a. o ≡ done a s) (λ e. Fails e (λ q. o ≡ q))
+abbrev pub IsValueRead : {A : Type 0} → Result A Error → spec.State → Outcome A → Type 0
+IsValueRead r s o = MatchResult r (λ a. o ≡ done a s) (λ e. IsErrorAmong e (λ q. o ≡ q))
 
 -- the marks behind the counts of a quantifier
 abbrev pub suffix_of : Suffix → quantified.Suffix
@@ -54,11 +54,11 @@ suffix_of m = record { lazy = m.lazy; possessive = m.possessive }
 
 -- such marks are read, up to the state, or a fault is found: the outcome
 abbrev pub GivesSuffix : Result Suffix Error → spec.State → Outcome quantified.Suffix → Type 0
-GivesSuffix r s o = MatchResult r (λ m. o ≡ done (suffix_of m) s) (λ e. Fails e (λ q. o ≡ q))
+GivesSuffix r s o = MatchResult r (λ m. o ≡ done (suffix_of m) s) (λ e. IsErrorAmong e (λ q. o ≡ q))
 
 -- the tree of an expression is read, up to the state, or a fault is found: the outcome
 abbrev pub GivesTree : Result Expr Error → spec.State → Outcome Tree → Type 0
-GivesTree r s o = MatchResult r (λ e. o ≡ done (view e) s) (λ e. Fails e (λ q. o ≡ q))
+GivesTree r s o = MatchResult r (λ e. o ≡ done (view e) s) (λ e. IsErrorAmong e (λ q. o ≡ q))
 
 -- what stands ahead, where the parser comes to the state
 abbrev pub view_ahead : declared.Ahead → spec.State → Ahead
@@ -71,7 +71,7 @@ view_ahead AbsentBranch s = absent_branch s
 
 -- what the parser sees ahead is what stands there
 abbrev pub Sees : Result declared.Ahead Error → spec.State → Ahead → Type 0
-Sees r s k = MatchResult r (λ a. k ≡ view_ahead a s) (λ e. Fails e (λ o. k ≡ leaf o))
+Sees r s k = MatchResult r (λ a. k ≡ view_ahead a s) (λ e. IsErrorAmong e (λ o. k ≡ leaf o))
 
 -- where nothing is seen, the state is the same
 abbrev pub StaysAtNothing : declared.Ahead → State → State → Type 0

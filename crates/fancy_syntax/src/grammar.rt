@@ -1,7 +1,7 @@
 //! The grammar: a loop over a stack of open groups reads the raw tree of a text.
 ghost use Rattle.std.specs.Prelude.{◌≡◌, ◌∷◌, [], ◌++◌, ◌<◌, ◌≤◌, ◌^◌, length, chars, IfOk, OnOk};
 ghost use Rattle.fancy_grammar.specs.Grammar as spec;
-ghost use Rattle.fancy_syntax.specs.Parsed.{state, Reads};
+ghost use Rattle.fancy_syntax.specs.Parsed.{state, IsTreeRead};
 ghost use Rattle.fancy_syntax.specs.Reads.{ReadsWhole};
 
 mod ahead;
@@ -51,7 +51,7 @@ pub(crate) fn parse(alloc: Global, text: &str, flags: Flags) -> Result<Expr, Err
 fn alternation<'a>(alloc: Global, start: State<'a>, end: usize) -> Result<(Expr, State<'a>), Error>
     requires within { length start.rest.now ≤ end }
     requires end { end < 2 ^ 63 }
-    ensures value { Reads result (spec.Alternation end 0 (state start.entry)) }
+    ensures value { IsTreeRead result (spec.Alternation end 0 (state start.entry)) }
     ensures within { IfOk result (λ p. length p.1.rest.now ≤ length start.entry.rest.now) }
 {
     let mut stack = Vec::new(alloc);

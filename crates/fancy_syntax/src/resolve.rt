@@ -5,7 +5,7 @@ ghost use Rattle.fancy_parts.specs.Groups.{groups_of};
 ghost use Rattle.fancy_parts.specs.Ranks.{counted_in, is_named, named_groups};
 ghost use Rattle.fancy_grammar.specs.Items.{items, openings};
 ghost use Rattle.fancy_grammar.specs.Marks.{marks};
-ghost use Rattle.fancy_grammar.specs.Fails.{IsErrorIn};
+ghost use Rattle.fancy_grammar.specs.Errors.{IsErrorIn};
 ghost use Rattle.fancy_syntax.specs.Answer.{marks_of};
 ghost use Rattle.fancy_syntax.specs.Notes.{known_of, progress_of, marks_found, has_items};
 ghost use Rattle.fancy_grammar.specs.Ordered.{Ascends};

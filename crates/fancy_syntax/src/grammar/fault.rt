@@ -1,7 +1,7 @@
 //! The fault whose kind carries a message.
 ghost use Rattle.std.specs.Prelude.{chars};
 ghost use Rattle.fancy_lex.specs.Fault as spec;
-ghost use Rattle.fancy_grammar.specs.Fails.{IsErrorAt};
+ghost use Rattle.fancy_grammar.specs.Errors.{IsErrorAt};
 
 use fancy_lex::error::{Error, ParseError};
 use std::alloc::Global;

@@ -47,7 +47,7 @@ impl<'a> Frame<'a> {
     ghost use Rattle.std.specs.Prelude.{false, IfErr};
     ghost use Rattle.fancy_lex.specs.Text.{place_of};
     ghost use Rattle.fancy_syntax.specs.Machine.{part_of, opened_by_bar, branches_at_bar, is_second, IsFaultOfBar};
-    ghost use Rattle.fancy_grammar.specs.Fails.{Fails};
+    ghost use Rattle.fancy_grammar.specs.Errors.{IsErrorAmong};
 
     /// A group in which nothing is read yet, above so many trees, and where these flags hold.
     pub(crate) fn new(opener: Opener<'a>, height: usize, flags: Flags) -> Frame<'a>
@@ -83,7 +83,7 @@ impl<'a> Frame<'a> {
             (branches_at_bar (part_of self.old.opener) branches (one_or concat pieces)) []) }
         ensures allowed { IfOk result (λ _. is_second (part_of self.old.opener) ≡ false) }
         ensures fault { (n : _) (t : _) → place ≡ place_of n t →
-            IfErr result (λ e. Fails e (IsFaultOfBar (part_of self.old.opener) n t)) }
+            IfErr result (λ e. IsErrorAmong e (IsFaultOfBar (part_of self.old.opener) n t)) }
     {
         match &self.opener {
             Opener::First => {

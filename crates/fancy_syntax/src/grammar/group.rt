@@ -9,7 +9,7 @@ ghost use Rattle.fancy_grammar.specs.Head as head;
 ghost use Rattle.fancy_grammar.specs.State.{at, skipped};
 ghost use Rattle.fancy_grammar.specs.Ahead as spec;
 ghost use Rattle.fancy_syntax.specs.Parsed.{state, Sees, IsSomething};
-ghost use Rattle.fancy_grammar.specs.Fails.{IsErrorOf};
+ghost use Rattle.fancy_grammar.specs.Errors.{IsErrorOf};
 ghost use Rattle.fancy_grammar.specs.Verb as verbs;
 
 pub(crate) mod head;

@@ -9,7 +9,7 @@ ghost use Rattle.fancy_syntax.specs.Machine as machine;
 ghost use Rattle.fancy_syntax.specs.Machine.{Opens, OpensBelow, Part, StepsOn, GivesPiece, ended_part, part_of};
 ghost use Rattle.fancy_syntax.specs.Parsed.{state, GivesTree};
 ghost use Rattle.fancy_grammar.specs.Quantified.{quants};
-ghost use Rattle.fancy_grammar.specs.Fails.{Fails};
+ghost use Rattle.fancy_grammar.specs.Errors.{IsErrorAmong};
 ghost use Rattle.fancy_grammar.specs.State as states;
 ghost use Rattle.fancy_grammar.specs.Tree.{Tree};
 ghost use Rattle.fancy_syntax.specs.View.{view};
@@ -174,7 +174,7 @@ fn read_end(alloc: Global, opener: &Opener, here: &mut State, end: usize) -> Res
     ensures value { (r : Tree) → MatchResult result
         (λ _. ended_part end (part_of opener.now) r (state here.old) ≡
         states.done (machine.node_of_part (part_of opener.now) r) (state here.new))
-        (λ e. Fails e (λ o. ended_part end (part_of opener.now) r (state here.old) ≡ o)) }
+        (λ e. IsErrorAmong e (λ o. ended_part end (part_of opener.now) r (state here.old) ≡ o)) }
     ensures shorter { IfOk result (λ _. length here.new.rest.now < length here.old.rest.now) }
 {
     if lacks_body(opener, here.rest) {
@@ -219,7 +219,7 @@ const NO_BODY: &str =
 pub(crate) fn close_paren(alloc: Global, here: &mut State, end: usize) -> Result<(), Error>
     requires within { length here.old.rest.now ≤ end }
     ensures value { (r : Tree) → MatchResult result (λ _. spec.closed end r (state here.old) ≡
-        states.done r (state here.new)) (λ e. Fails e (λ o. spec.closed end r (state here.old) ≡ o)) }
+        states.done r (state here.new)) (λ e. IsErrorAmong e (λ o. spec.closed end r (state here.old) ≡ o)) }
     ensures shorter { IfOk result (λ _. length here.new.rest.now < length here.old.rest.now) }
 {
     let Some((c, rest)) = next(here.rest) else {

@@ -1,7 +1,7 @@
 //! What the second walk knows, and what it notes of each reference.
 ghost use Rattle.std.specs.Prelude.{◌≡◌, ◌<◌, ◌^◌, IfOk, IfErr};
 ghost use Rattle.fancy_parts.specs.Groups.{meaning_of};
-ghost use Rattle.fancy_grammar.specs.Fails.{IsErrorIn};
+ghost use Rattle.fancy_grammar.specs.Errors.{IsErrorIn};
 ghost use Rattle.fancy_syntax.specs.Notes.{progress_of, number_meant, noted_one, form_noted, meaning_noted};
 ghost use Rattle.fancy_grammar.specs.Walk.{nothing_noted, number_in};
 

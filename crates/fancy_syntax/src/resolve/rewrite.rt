@@ -3,7 +3,7 @@
 ghost use Rattle.std.specs.Prelude.{◌≡◌, ◌+◌, ◌<◌, ◌^◌, length, IfOk, IfErr};
 ghost use Rattle.fancy_lex.specs.Target.{view_target};
 ghost use Rattle.fancy_parts.specs.declared.ranks.Role.TheVariants as does;
-ghost use Rattle.fancy_grammar.specs.Fails.{IsErrorIn};
+ghost use Rattle.fancy_grammar.specs.Errors.{IsErrorIn};
 ghost use Rattle.fancy_grammar.specs.Items.{items, items_all, items_absent, items_ast, openings_in};
 ghost use Rattle.fancy_syntax.specs.Notes.{known_of, progress_of, noted_one};
 ghost use Rattle.fancy_grammar.specs.Tree.{trees_of, ast_node, ast_backref, ast_call, ast_condition};

@@ -9,7 +9,7 @@ use Rattle.fancy_syntax.specs.View.{view, views}
 use Rattle.fancy_syntax.proofs.MachineLemmas.{running_start, running_began, running_fault, running_piece, running_open}
 use Rattle.fancy_syntax.proofs.MachineLemmas.{running_bar, running_bar_fault, running_end, running_closing}
 use Rattle.fancy_syntax.proofs.TreesLemmas.{holds_below, views_length}
-use Rattle.fancy_grammar.proofs.OutcomeLemmas.{Fails-map}
+use Rattle.fancy_grammar.proofs.OutcomeLemmas.{IsErrorAmong-map}
 use Rattle.fancy_syntax.proofs.grammar.alternation.Goals as goal
 
 pub loop-c-init : goal.loop-c-init
@@ -37,7 +37,8 @@ returns-in_err-piece-clause-value c =
     let n : c.len.result ≡ length c.loop-c.stack.items = omega (arith, c.len.ensures, c.loop-c.stack.ok.0) in
     let e = err_from_is_err_and c.from_residual-in_err-piece.result c.from_residual-in_err-piece.ensures.1 in
     rw (e.1, e.2)
-    (Fails-map (Piece c.args.end c.len.result (state c.loop-c.here)) (Alternation c.args.end 0 (state c.args.start))
+    (IsErrorAmong-map (Piece c.args.end c.len.result (state c.loop-c.here))
+    (Alternation c.args.end 0 (state c.args.start))
     c.in_err-piece.field-0.0
     (λ k p h. running_fault c.loop-c.invariant.running (sym c.if-not-is_end.ensures)
     (subst (λ d. Piece c.args.end d (state c.loop-c.here) (fault k p)) n h)) c.in_err-piece.ensures.value)
@@ -93,7 +94,7 @@ pub returns-in_err-bar-clause-value : goal.returns-in_err-bar-clause-value
 returns-in_err-bar-clause-value c =
     let e = err_from_is_err_and c.from_residual-in_err-bar.result c.from_residual-in_err-bar.ensures.1 in
     let rest = (state c.loop-c.here).rest in
-    rw (e.1, e.2) (Fails-map (IsFaultOfBar (part_of c.loop-c.frame.opener) c.args.end rest)
+    rw (e.1, e.2) (IsErrorAmong-map (IsFaultOfBar (part_of c.loop-c.frame.opener) c.args.end rest)
     (Alternation c.args.end 0 (state c.args.start)) c.in_err-bar.field-0.0
     (λ k p h. running_bar_fault _ c.loop-c.invariant.running (sym c.if-not-is_end.ensures) c.in-Some-after.ensures.value
     h)
@@ -139,7 +140,7 @@ returns-in_err-piece-2-clause-value c =
     let n : c.len-in_default-after.result ≡ length c.pop.new.self.items =
     omega (arith, c.len-in_default-after.ensures, c.pop.new.self.ok.0) in
     let e = err_from_is_err_and c.from_residual-in_err-piece-2.result c.from_residual-in_err-piece-2.ensures.1 in
-    rw (e.1, e.2) (Fails-map (Piece c.args.end c.len-in_default-after.result w.here)
+    rw (e.1, e.2) (IsErrorAmong-map (Piece c.args.end c.len-in_default-after.result w.here)
     (Alternation c.args.end 0 (state c.args.start)) c.in_err-piece-2.field-0.0
     (λ k p h. running_fault w.outer w.more (subst (λ d. Piece c.args.end d w.here (fault k p)) n h))
     (c.in_err-piece-2.ensures.value w.here w.inside w.began.0 w.began.1 (rw n w.opens) (rw n w.whole)))

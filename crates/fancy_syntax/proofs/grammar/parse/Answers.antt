@@ -7,7 +7,7 @@ use Rattle.fancy_syntax.specs.Parsed.{state}
 use Rattle.fancy_grammar.specs.State.{done, fault}
 use Rattle.fancy_syntax.specs.View.{view}
 use Rattle.fancy_grammar.proofs.FaultLemmas.{says_end}
-use Rattle.fancy_grammar.proofs.OutcomeLemmas.{Fails-map, Fails-is}
+use Rattle.fancy_grammar.proofs.OutcomeLemmas.{IsErrorAmong-map, IsErrorAmong-is}
 use Rattle.fancy_syntax.proofs.grammar.parse.Goals as goal
 
 pub returns-in_err-tree : goal.returns-in_err-tree
@@ -15,7 +15,7 @@ returns-in_err-tree c =
     let n = bytes_chars c.args.text.now c.utf8.text in
     let e = err_from_is_err_and c.from_residual.result c.from_residual.ensures.1 in
     record {
-      reads = rw (e.1, e.2) (Fails-map (Alternation _ 0 (start c.args.flags (chars c.args.text.now)))
+      reads = rw (e.1, e.2) (IsErrorAmong-map (Alternation _ 0 (start c.args.flags (chars c.args.text.now)))
           (Whole c.args.flags (chars c.args.text.now)) c.in_err-tree.field-0.0
           (λ k p h. whole
           (subst (λ (m : ℕ). Alternation m 0 (start c.args.flags (chars c.args.text.now)) (fault k p)) (sym n) h) refl)
@@ -42,7 +42,7 @@ returns-in-Some c =
     let f = says_end c.general.result c.place.result c.general.ensures in
     let here = state c.in_ok-tree.here in
     record {
-      reads = Fails-is (Whole c.args.flags (chars c.args.text.now)) c.general.result _ _
+      reads = IsErrorAmong-is (Whole c.args.flags (chars c.args.text.now)) c.general.result _ _
           (rw (c.place.ensures, ← n) at f)
           (whole
           (subst (λ (m : ℕ). Alternation m 0 (start c.args.flags (chars c.args.text.now))

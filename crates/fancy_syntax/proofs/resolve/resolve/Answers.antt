@@ -1,6 +1,6 @@
 use Rattle.std.proofs.Common.{arith, chars, length, ap, sym, subst, ◌∙◌}
 use Rattle.fancy_parts.specs.Groups.{groups_of}
-use Rattle.fancy_grammar.specs.Fails.{IsErrorIn}
+use Rattle.fancy_grammar.specs.Errors.{IsErrorIn}
 use Rattle.fancy_grammar.specs.Items.{items}
 use Rattle.fancy_syntax.specs.View.{view}
 use Rattle.fancy_grammar.specs.Walk.{Known, Progress}

@@ -4,7 +4,7 @@ use Rattle.fancy_syntax.specs.Parsed.{state}
 use Rattle.fancy_grammar.specs.Quantified.{quant, adjacent, max_adjacent}
 use Rattle.fancy_grammar.specs.State.{done, fault}
 use Rattle.fancy_syntax.specs.View.{view}
-use Rattle.fancy_grammar.proofs.OutcomeLemmas.{Fails-map}
+use Rattle.fancy_grammar.proofs.OutcomeLemmas.{IsErrorAmong-map}
 use Rattle.fancy_grammar.proofs.QuantLemmas.{adjacent_fault, adjacent_ends, adjacent_stops, adjacent_counts}
 use Rattle.fancy_grammar.proofs.QuantLemmas.{some_may_count, unmoved_is, moved_is, from_start}
 use Rattle.fancy_syntax.proofs.grammar.quantified.quantify_adjacent.Goals as goal
@@ -13,7 +13,7 @@ pub returns-in_err-quantify_once-clause-value : goal.returns-in_err-quantify_onc
 returns-in_err-quantify_once-clause-value c =
     let e = err_from_is_err_and c.from_residual.result c.from_residual.ensures.1 in
     rw (e.1, e.2)
-    (Fails-map (λ o. quant c.args.end c.byte_len-before.result (view c.loop-behind.tree)
+    (IsErrorAmong-map (λ o. quant c.args.end c.byte_len-before.result (view c.loop-behind.tree)
     (state c.loop-behind.here) ≡ o)
     (λ o. adjacent max_adjacent c.args.end c.args.depth (view c.args.tree.now) (state c.args.here.now) ≡ o)
     c.in_err-quantify_once.field-0.0

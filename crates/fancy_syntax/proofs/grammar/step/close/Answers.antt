@@ -8,7 +8,7 @@ use Rattle.fancy_syntax.specs.Parsed.{state}
 use Rattle.fancy_syntax.specs.View.{view}
 use Rattle.fancy_syntax.specs.declared.grammar.step.Step.TheVariants as step
 use Rattle.fancy_syntax.proofs.MachineLemmas.{ended_fault, condition_ended, closes}
-use Rattle.fancy_grammar.proofs.OutcomeLemmas.{Fails-map}
+use Rattle.fancy_grammar.proofs.OutcomeLemmas.{IsErrorAmong-map}
 use Rattle.fancy_syntax.proofs.grammar.step.close.Goals as goal
 
 pub returns-in_err-atom-clause-value : goal.returns-in_err-atom-clause-value
@@ -16,7 +16,8 @@ returns-in_err-atom-clause-value c =
     λ s t i j o p.
     let e = err_from_is_err_and c.from_residual.result c.from_residual.ensures.1 in
     rw (e.1, e.2)
-    (Fails-map (λ q. ended_part c.args.end (part_of c.args.opener) (view c.args.inner) (state c.args.here.now) ≡ q)
+    (IsErrorAmong-map
+    (λ q. ended_part c.args.end (part_of c.args.opener) (view c.args.inner) (state c.args.here.now) ≡ q)
     (Piece c.args.end c.args.depth s)
     c.in_err-atom.field-0.0 (λ k q h. ended_fault (view c.args.inner) (state c.args.here.now) o p
     (λ _ _. c.requires.last) h) c.in_err-atom.ensures.value)

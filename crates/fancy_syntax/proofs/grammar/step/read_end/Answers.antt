@@ -1,17 +1,17 @@
 use Rattle.std.proofs.Common.{◌≡◌, refl, sym, ◌∙◌, subst}
 use Rattle.std.specs.Prelude.{MatchResult}
-use Rattle.fancy_grammar.specs.Fails.{Fails}
+use Rattle.fancy_grammar.specs.Errors.{IsErrorAmong}
 use Rattle.fancy_grammar.specs.State.{done}
 use Rattle.fancy_syntax.specs.Machine.{part_of, ended_part, node_of_part}
 use Rattle.fancy_syntax.specs.Parsed.{state}
 use Rattle.fancy_grammar.proofs.FaultLemmas.{says_no_body}
 use Rattle.fancy_syntax.proofs.MachineLemmas.{ended_without_body, ended_closed}
-use Rattle.fancy_grammar.proofs.OutcomeLemmas.{Fails-is}
+use Rattle.fancy_grammar.proofs.OutcomeLemmas.{IsErrorAmong-is}
 use Rattle.fancy_syntax.proofs.grammar.step.read_end.Goals as goal
 
 pub returns-then-lacks_body-clause-value : goal.returns-then-lacks_body-clause-value
 returns-then-lacks_body-clause-value c =
-    λ r. Fails-is (λ q. ended_part c.args.end (part_of c.args.opener.now) r (state c.args.here.now) ≡ q)
+    λ r. IsErrorAmong-is (λ q. ended_part c.args.end (part_of c.args.opener.now) r (state c.args.here.now) ≡ q)
     c.general.result _ _
     (says_no_body c.general.result c.place.result c.general.ensures)
     (rw c.place.ensures
@@ -21,6 +21,6 @@ pub returns-clause-value : goal.returns-clause-value
 returns-clause-value c =
     λ r. let node = node_of_part (part_of c.args.opener.now) r in
     subst (λ o. MatchResult c.close_paren.result (λ _. o ≡ done node (state c.close_paren.new.here))
-    (λ e. Fails e (λ q. o ≡ q)))
+    (λ e. IsErrorAmong e (λ q. o ≡ q)))
     (sym (ended_closed _ _ _ _ (sym (c.lacks_body.ensures (state c.args.here.now) refl) ∙ c.if-lacks_body.false)))
     (c.close_paren.ensures.value node)

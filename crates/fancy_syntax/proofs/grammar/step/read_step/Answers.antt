@@ -7,7 +7,7 @@ use Rattle.fancy_syntax.specs.Parsed.{state}
 use Rattle.fancy_syntax.specs.declared.grammar.step.Step.TheVariants as step
 use Rattle.fancy_syntax.proofs.StepLemmas.{nothing_shorter}
 use Rattle.fancy_syntax.proofs.MachineLemmas.{steps_piece, steps_layout}
-use Rattle.fancy_grammar.proofs.OutcomeLemmas.{Fails-map}
+use Rattle.fancy_grammar.proofs.OutcomeLemmas.{IsErrorAmong-map}
 use Rattle.fancy_syntax.proofs.TreeLemmas.{view_Empty}
 use Rattle.fancy_syntax.proofs.grammar.step.read_step.Goals as goal
 
@@ -21,7 +21,7 @@ returns-in_err-read_atom_start-clause-value c =
     let e = err_from_is_err_and c.from_residual-in_err-read_atom_start.result
     c.from_residual-in_err-read_atom_start.ensures.1 in
     rw (e.1, e.2)
-    (Fails-map (λ o. ahead c.args.end c.args.depth _ ≡ leaf o)
+    (IsErrorAmong-map (λ o. ahead c.args.end c.args.depth _ ≡ leaf o)
     (Piece c.args.end c.args.depth (state c.args.here.now))
     c.in_err-read_atom_start.field-0.0 (λ k p h. piece c.in_ok-here.ensures.value (atom h a_leaf refl) refl)
     c.in_err-read_atom_start.ensures.value)

@@ -4,11 +4,11 @@ use Rattle.fancy_lex.specs.FaultTable.{close_paren_expected}
 use Rattle.fancy_syntax.specs.Machine.{IsFaultOfBar, part_of}
 use Rattle.fancy_grammar.specs.State.{fault}
 use Rattle.fancy_grammar.proofs.FaultLemmas.{says_close_paren}
-use Rattle.fancy_grammar.proofs.OutcomeLemmas.{Fails-is}
+use Rattle.fancy_grammar.proofs.OutcomeLemmas.{IsErrorAmong-is}
 use Rattle.fancy_syntax.proofs.grammar.frame.Frame.bar.Goals as goal
 
 pub returns-in-Second-clause-fault : goal.returns-in-Second-clause-fault
 returns-in-Second-clause-fault c n t h =
-    Fails-is (IsFaultOfBar (part_of c.args.self.now.opener) n t) c.general.result _ _
+    IsErrorAmong-is (IsFaultOfBar (part_of c.args.self.now.opener) n t) c.general.result _ _
     (says_close_paren c.general.result c.args.place c.general.ensures)
     (rw c.in-Second.is (ap (fault (general_parse_error close_paren_expected)) h))

@@ -15,9 +15,9 @@ abbrev pub IsErrorOf : Error → Fault → Type 0
 IsErrorOf e f = IsErrorAt e f.kind f.place
 
 -- memory ran out, or the fault is an outcome
-abbrev pub Fails : {A : Type 0} → Error → (Outcome A → Type 0) → Type 0
-Fails (ParseError p k) P = P (fault (kind_of k) p)
-Fails OutOfMemory P = Unit {0}
+abbrev pub IsErrorAmong : {A : Type 0} → Error → (Outcome A → Type 0) → Type 0
+IsErrorAmong (ParseError p k) P = P (fault (kind_of k) p)
+IsErrorAmong OutOfMemory P = Unit {0}
 
 -- memory ran out, or it is that fault
 abbrev pub IsErrorIn : Error → Option Fault → Type 0
