@@ -1,5 +1,5 @@
 //! What is said of a tree beside it, as a caller in C gets it.
-ghost use Rattle.std.specs.Prelude.{◌≡◌, ◌+◌, ◌≤◌, ◌^◌, ℕ, length, map};
+ghost use Rattle.std.specs.Prelude.{◌≡◌, ◌+◌, ◌≤◌, length, map};
 ghost use Rattle.fancy_parts.specs.Groups.{entry_of};
 ghost use Rattle.fancy_parts.specs.Room.{in_word};
 ghost use Rattle.fancy_c.specs.Buffer.{put_at};

@@ -1,5 +1,5 @@
 //! Classes: what stands behind an opening bracket, and the text that is written for it.
-ghost use Rattle.std.specs.Prelude.{◌≡◌, ℕ, ◌+◌, ◌/◌, ◌%◌, ◌^◌, ◌<◌, ◌≤◌, ◌||◌, [], ◌++◌, length, chars, IfErr, IfOk, OnOk};
+ghost use Rattle.std.specs.Prelude.{◌≡◌, ℕ, ◌+◌, ◌/◌, ◌%◌, ◌^◌, ◌<◌, ◌≤◌, ◌||◌, ◌++◌, length, chars, IfErr, IfOk, OnOk};
 ghost use Rattle.fancy_lex.specs.Class as spec;
 ghost use Rattle.fancy_lex.specs.Escaped.{escape_of, delegate_text};
 ghost use Rattle.fancy_lex.specs.Property.{is_negated_set};

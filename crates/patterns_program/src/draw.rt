@@ -1,5 +1,5 @@
 //! The verb `tree`: a pattern's tree with branches, and what is known of it.
-ghost use Rattle.std.specs.Prelude.{◌≡◌, ◌≤◌, chars, Ok};
+ghost use Rattle.std.specs.Prelude.{◌≡◌, chars, Ok};
 ghost use Rattle.fancy_lex.specs.Flags.{flags_of};
 ghost use Rattle.fre_program.specs.Words.{HasTree, HasFault};
 

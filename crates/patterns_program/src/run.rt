@@ -1,5 +1,5 @@
 //! A run over files of patterns.
-ghost use Rattle.std.specs.Prelude.{◌≡◌, ◌≤◌};
+ghost use Rattle.std.specs.Prelude.{◌≤◌};
 
 use crate::check::check;
 use crate::fault::{Fault, give_up};

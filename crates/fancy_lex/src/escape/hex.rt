@@ -1,11 +1,11 @@
 //! Hex codes behind `\x`, `\u` and `\U`.
-ghost use Rattle.std.specs.Prelude.{◌≡◌, ℕ, ◌+◌, ◌*◌, ◌-◌, ◌^◌, ◌<◌, ◌≤◌, length, chars, IfSome, IfErr, IfOk, option_map, false, true};
+ghost use Rattle.std.specs.Prelude.{◌≡◌, ◌+◌, ◌*◌, ◌-◌, ◌^◌, ◌<◌, ◌≤◌, length, chars, IfSome, IfErr, IfOk, option_map, false, true};
 ghost use Rattle.fancy_lex.specs.Characters.{close_brace};
 ghost use Rattle.fancy_lex.specs.Escaped.{Escape, escape_of};
 ghost use Rattle.fancy_lex.specs.Fault.{StandsWithin};
 ghost use Rattle.fancy_lex.specs.Hex as spec;
 ghost use Rattle.fancy_lex.specs.Reading.{Derives, Reading, Reads};
-ghost use Rattle.fancy_lex.specs.Text.{EndsWith, strip, place_of};
+ghost use Rattle.fancy_lex.specs.Text.{EndsWith, strip};
 
 use crate::error::{Error, ParseError};
 use crate::escape::Escaped;

@@ -1,7 +1,6 @@
 //! References in escapes: what stands behind `\k`, behind `\g`, or behind a backslash in digits.
 ghost use Rattle.std.specs.Prelude.{◌≡◌, ◌<◌, ◌≤◌, false, length, chars, IfOk, IfSome, option_map};
 ghost use Rattle.fancy_lex.specs.EscapeReference as spec;
-ghost use Rattle.fancy_lex.specs.NumberText.{is_nothing};
 ghost use Rattle.fancy_lex.specs.Number.{at_digit};
 ghost use Rattle.fancy_lex.specs.Reading.{Reads, fails};
 ghost use Rattle.fancy_lex.specs.FaultTable.{number_too_great};

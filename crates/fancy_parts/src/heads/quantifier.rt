@@ -1,5 +1,5 @@
 //! Quantifiers: the counts of a repeat, and what they are written with.
-ghost use Rattle.std.specs.Prelude.{◌≡◌, ℕ, ◌<◌, ◌≤◌, length, chars, IfSome, option_map, Some};
+ghost use Rattle.std.specs.Prelude.{◌≡◌, ◌<◌, ◌≤◌, length, chars, IfSome, option_map, Some};
 ghost use Rattle.fancy_lex.specs.Text.{EndsWith};
 ghost use Rattle.fancy_parts.specs.Quantifier as spec;
 

@@ -1,5 +1,5 @@
 //! References in heads of groups: `(?P=id)`, `(?P>name)`, and what a condition asks for.
-ghost use Rattle.std.specs.Prelude.{◌≡◌, ◌<◌, ◌≤◌, length, chars, IfOk, IfSome, option_map};
+ghost use Rattle.std.specs.Prelude.{◌≡◌, ◌<◌, ◌≤◌, length, chars, IfOk, IfSome};
 ghost use Rattle.fancy_lex.specs.Reading.{Reads};
 ghost use Rattle.fancy_lex.specs.Referred.{view_reference, view_call};
 ghost use Rattle.fancy_lex.specs.Text.{parts};

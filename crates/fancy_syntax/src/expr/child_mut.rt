@@ -1,5 +1,5 @@
 //! A child lent for writing.
-ghost use Rattle.std.specs.Prelude.{◌≡◌, ◌<◌, Some, length, option_map, slice_get};
+ghost use Rattle.std.specs.Prelude.{◌≡◌, ◌<◌, Some, option_map, slice_get};
 ghost use Rattle.std.specs.Borrow.{sem};
 ghost use Rattle.fancy_grammar.specs.Tree.{Tree, children, is_list, with_child as tree_with_child};
 ghost use Rattle.fancy_syntax.specs.View.{view};

@@ -1,6 +1,6 @@
 //! Values that hold children of a type, each in a `Box` or all in one `Vec`. The function at the end is proved for any
 //! two types, and so for a type whose children are of that type again.
-ghost use Rattle.std.specs.Prelude.{◌≡◌, ℕ, Bool, false, true, Option, Some, option_map, is_some, IsTrue, slice_get};
+ghost use Rattle.std.specs.Prelude.{◌≡◌, ℕ, Bool, false, true, Option, Some, option_map, slice_get};
 ghost use Rattle.std.specs.Borrow.{sem};
 ghost use Rattle.fancy_syntax.specs.Loans.{LendsChildAt, LendsBoxAt, LendsListAt};
 

@@ -150,7 +150,8 @@ fn leaf_node(alloc: Global, leaf: Escaped) -> Result<Expr, AllocError>
         Escaped::KeepOut => Ok(Expr::KeepOut),
         Escaped::ContinueFromPreviousMatchEnd => Ok(Expr::ContinueFromPreviousMatchEnd),
         Escaped::Delegate { inner: text, casei } => {
-            let mut inner = String::new(alloc);
+            // Most are a backslash and a letter.
+            let mut inner = String::with_capacity(alloc, 2)?;
             push_delegate(&mut inner, text)?;
             Ok(Expr::Delegate { inner, casei })
         }

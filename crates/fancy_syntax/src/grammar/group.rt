@@ -1,5 +1,5 @@
 //! The heads of groups: what stands behind a parenthesis and a question mark or an asterisk.
-ghost use Rattle.std.specs.Prelude.{◌≡◌, ◌∷◌, ℕ, ◌<◌, ◌≤◌, ◌^◌, length, chars, codes, ◌++◌, Some, None, IfOk, IfSome, option_map, MatchResult};
+ghost use Rattle.std.specs.Prelude.{◌≡◌, ◌<◌, ◌≤◌, ◌^◌, length, chars, codes, ◌++◌, Some, None, IfOk, IfSome, option_map, MatchResult};
 ghost use Rattle.fancy_lex.specs.FaultTable.{unknown_verb};
 ghost use Rattle.fancy_parts.specs.FlagLetters.{letters};
 ghost use Rattle.fancy_parts.specs.GroupName as names;

@@ -1,5 +1,5 @@
 //! A tree under the quantifiers that follow it.
-ghost use Rattle.std.specs.Prelude.{◌≡◌, ◌≤◌, ◌<◌, ◌+◌, ◌^◌, true, false, length, chars, Some, None, if◌then◌else◌, IfOk, OnOk};
+ghost use Rattle.std.specs.Prelude.{◌≡◌, ◌≤◌, ◌<◌, ◌+◌, ◌^◌, true, false, length, chars, Some, if◌then◌else◌, IfOk, OnOk};
 ghost use Rattle.fancy_grammar.specs.Depth.{max_depth};
 ghost use Rattle.fancy_grammar.specs.Join.{is_empty};
 ghost use Rattle.fancy_grammar.specs.Quantified as spec;

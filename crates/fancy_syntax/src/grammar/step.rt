@@ -1,5 +1,5 @@
 //! The steps of the loop that read a piece, or come to the next part of a group.
-ghost use Rattle.std.specs.Prelude.{◌≡◌, ℕ, ◌+◌, ◌<◌, ◌≤◌, ◌^◌, false, length, chars, IfOk, MatchResult, None};
+ghost use Rattle.std.specs.Prelude.{◌≡◌, ◌+◌, ◌<◌, ◌≤◌, ◌^◌, false, length, chars, IfOk, MatchResult, None};
 ghost use Rattle.fancy_lex.specs.Characters.{bar};
 ghost use Rattle.fancy_lex.specs.Text.{bytes, strip};
 ghost use Rattle.fancy_grammar.specs.State.{ends};

@@ -8,7 +8,7 @@ use Rattle.fancy_syntax.proofs.grammar.atom.leaf_node.Goals as goal
 
 pub returns-in_ok-push_delegate-in-Delegate : goal.returns-in_ok-push_delegate-in-Delegate
 returns-in_ok-push_delegate-in-Delegate c =
-    let start = ap chars c.new-inner.ensures.bytes ∙ chars-nil in
+    let start = ap chars c.in_ok-inner-in-Delegate.ensures.bytes ∙ chars-nil in
     let inner = c.in_ok-push_delegate-in-Delegate.ensures.grown
     ∙ ap (λ t. t ++ delegate_text c.in-Delegate.text) start in
     view_Delegate _ _ ∙ ap (λ t. delegate t c.in-Delegate.casei) inner

@@ -1,4 +1,4 @@
-use Rattle.std.proofs.Common.{◌≡◌, Ok, Err, refl}
+use Rattle.std.proofs.Common.{◌≡◌, Ok, refl}
 use Rattle.std.proofs.lemmas.Result.{err_from_is_err_and}
 use Rattle.fancy_grammar.specs.Ahead.{ahead, leaf}
 use Rattle.fancy_grammar.specs.Grammar.{Piece, piece, atom, a_nothing, a_leaf}
