@@ -12,7 +12,7 @@ ghost use Rattle.fancy_grammar.specs.Walk.{noted, rebuilt, rebuilt_all, rebuilt_
 
 use crate::expr::{Absent, AstNode, Expr};
 use crate::resolve::notes::{Known, Progress, refer};
-use crate::resolve::survey::is_counted_name;
+use crate::resolve::survey::{is_counted_name, may_hold_items};
 use fancy_lex::error::Result;
 use fancy_lex::name::CaptureGroupTarget;
 use fancy_parts::ranks::Role;
@@ -257,7 +257,9 @@ fn rewrite_all(trees: &mut Vec<Expr>, known: &Known, progress: &mut Progress) ->
         (noted (known_of known.now) (progress_of progress.old) (items_all (trees_of (views trees.old.items)))).fault) }
 {
     for i in 0..trees.len() {
-        rewrite(&mut trees[i], known, progress)?;
+        if may_hold_items(&trees[i]) {
+            rewrite(&mut trees[i], known, progress)?;
+        }
     }
     Ok(())
 }

@@ -1,5 +1,5 @@
 //! The first walk: the groups that have a number, the numbers of each name, and whether there is anything to resolve.
-ghost use Rattle.std.specs.Prelude.{◌≡◌, ◌+◌, ◌<◌, ◌^◌, ◌||◌, false, length, IfOk, option_map};
+ghost use Rattle.std.specs.Prelude.{◌≡◌, ◌+◌, ◌<◌, ◌^◌, ◌||◌, [], false, length, IfOk, option_map};
 ghost use Rattle.fancy_lex.specs.Text.{text_of};
 ghost use Rattle.fancy_parts.specs.Groups.{groups_of, no_groups};
 ghost use Rattle.fancy_parts.specs.Ranks.{is_counted};
@@ -78,6 +78,26 @@ pub(super) fn is_counted_name(named: bool, name: &Option<String>) -> bool
     !named || name.is_some()
 }
 
+/// Whether a capturing group or a reference can stand in the tree: most trees are leaves, which need no walk.
+#[inline(always)]
+pub(super) fn may_hold_items(tree: &Expr) -> bool
+    ensures { result ≡ false → items (view tree.now) ≡ [] }
+{
+    matches!(
+        tree,
+        Expr::Concat(_)
+            | Expr::Alt(_)
+            | Expr::Group(_)
+            | Expr::LookAround(..)
+            | Expr::Repeat { .. }
+            | Expr::AtomicGroup(_)
+            | Expr::Conditional { .. }
+            | Expr::Absent(_)
+            | Expr::DefineGroup { .. }
+            | Expr::AstNode(..)
+    )
+}
+
 // The functions for nodes that hold trees are not inlined, so that the call for a leaf saves no registers.
 
 /// Adds the groups of the node that is read at the place.
@@ -153,7 +173,9 @@ fn survey_all(
         (λ _. found.new.met ≡ (found.old.met || has_items (items_all (trees_of (views trees.now))))) }
 {
     for tree in trees {
-        survey(alloc, tree, named, found)?;
+        if may_hold_items(tree) {
+            survey(alloc, tree, named, found)?;
+        }
     }
     Ok(())
 }

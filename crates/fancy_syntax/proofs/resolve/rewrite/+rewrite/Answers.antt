@@ -1,15 +1,19 @@
 use Rattle.std.proofs.Common.{arith, rules, ◌≡◌, ◌+◌, ◌++◌, get_or, length, sym, ap, ◌∙◌, ◌<◌, ◌≢◌, length-set}
-use Rattle.std.proofs.Common.{get_or-set_other, refl}
-use Rattle.fancy_grammar.specs.Items.{items}
+use Rattle.std.proofs.Common.{get_or-set_other, refl, set, take, []}
+use Rattle.std.proofs.lemmas.List.{set-get_or}
+use Rattle.fancy_grammar.specs.Items.{items, openings_in}
 use Rattle.fancy_syntax.specs.Notes.{known_of, progress_of}
 use Rattle.fancy_syntax.specs.View.{view, views}
 use Rattle.fancy_grammar.specs.Walk.{noted}
 use Rattle.fancy_syntax.specs.declared.expr.Expr.{Expr, the_lemmas}
+use Rattle.fancy_syntax.proofs.NoItems.{rebuilt_same}
 use Rattle.fancy_syntax.proofs.PartLemmas.{two_parts, three_lent, two_count, three_count, two_noted, three_noted}
 use Rattle.fancy_syntax.proofs.PartLemmas.{third_noted, three_error, third_error}
 use Rattle.fancy_syntax.proofs.WalkLemmas.{noted_append, noted_le, error_kept, count_two, rest, rest_next, rebuilt_list}
 use Rattle.fancy_syntax.proofs.WalkLemmas.{front_rebuilt, rest_rebuilt, all_rebuilt}
 use Rattle.fancy_syntax.proofs.resolve.rewrite.+rewrite.Goals as goal
+use Rattle.fancy_syntax.proofs.resolve.rewrite.+rewrite.Goals.{rewrite_all-then-may_hold_items+in_ok-rewrite}
+use Rattle.fancy_syntax.proofs.resolve.rewrite.+rewrite.Goals.{rewrite_all-else-may_hold_items}
 
 pub rewrite-rewrite_child-requires-in-Conditional : goal.rewrite-rewrite_child-requires-in-Conditional
 rewrite-rewrite_child-requires-in-Conditional t c =
@@ -58,32 +62,60 @@ rewrite_all-rewrite-requires t c =
           (arith, count_two (rest es i) (items (view e)) (rest es (i + 1)) step, c.loop-i.invariant.2),
     )
 
+-- a tree that can hold no item is passed over: it stays, and so does what is noted
 pub rewrite_all-loop-i-preserved : goal.rewrite_all-loop-i-preserved
 rewrite_all-loop-i-preserved t c =
-    let es = c.args.trees.now.items in let i = c.loop-i.i in let e = c.index_mut.result.now in
-    let now = c.loop-i.trees.items in
+    let es = c.args.trees.now.items in let i = c.loop-i.i in let now = c.loop-i.trees.items in
     let k = known_of c.args.known.now in
     let all = rebuilt_list k (progress_of c.args.progress.now) (views es) in
     let s = progress_of c.loop-i.progress in
-    let same = c.loop-i.invariant.0.1 i e (omega arith) in
-    let tree : e ≡ get_or es i e = cc in
     let lengths = c.loop-i.invariant.0.0 in
     let below : i < length es = omega arith in
-    let step : rest es i ≡ items (view e) ++ rest es (i + 1) = rest_next es i e below tree in
-    let now_is = c.in_ok-rewrite.ensures in (
-      (
-        omega (arith, length-set {A = Expr}),
-        λ j d h. let apart : j ≢ i = omega arith in rw get_or-set_other (c.loop-i.invariant.0.1 j d (omega arith)),
-      ),
-      rw now_is.progress
-          (sym (noted_append k s (items (view e)) (rest es (i + 1))) ∙ ap (noted k s) (sym step)
-          ∙ c.loop-i.invariant.1),
-      let passed = noted_le k s (progress_of c.rewrite.new.progress) (items (view e)) now_is.progress in
-          omega (arith, count_two (rest es i) (items (view e)) (rest es (i + 1)) step, passed, c.loop-i.invariant.2),
-      front_rebuilt k s es now all i e c.rewrite.new.tree lengths below tree now_is.tree c.loop-i.invariant.3
-          c.loop-i.invariant.4,
-      rest_rebuilt k s (progress_of c.rewrite.new.progress) es all i e below tree now_is.progress c.loop-i.invariant.4,
-    )
+    elim c.if-may_hold_items.branch [
+      | rewrite_all-then-may_hold_items+in_ok-rewrite w ↦
+          let e = w.index_mut.result.now in
+          let same = c.loop-i.invariant.0.1 i e (omega arith) in
+          let tree : e ≡ get_or es i e = cc in
+          let step : rest es i ≡ items (view e) ++ rest es (i + 1) = rest_next es i e below tree in
+          let now_is = w.in_ok-rewrite.ensures in
+          rw (w.trees-is, w.progress-is) (
+            (
+              omega (arith, length-set {A = Expr}),
+              λ j d h.
+                  let apart : j ≢ i = omega arith in rw get_or-set_other (c.loop-i.invariant.0.1 j d (omega arith)),
+            ),
+            rw now_is.progress
+                (sym (noted_append k s (items (view e)) (rest es (i + 1))) ∙ ap (noted k s) (sym step)
+                ∙ c.loop-i.invariant.1),
+            let passed = noted_le k s (progress_of w.rewrite.new.progress) (items (view e)) now_is.progress in
+                omega (
+                  arith,
+                  count_two (rest es i) (items (view e)) (rest es (i + 1)) step,
+                  passed,
+                  c.loop-i.invariant.2,
+                ),
+            front_rebuilt k s es now all i e w.rewrite.new.tree lengths below tree now_is.tree c.loop-i.invariant.3
+                c.loop-i.invariant.4,
+            rest_rebuilt k s (progress_of w.rewrite.new.progress) es all i e below tree now_is.progress
+                c.loop-i.invariant.4,
+          )
+      | rewrite_all-else-may_hold_items w ↦
+          let e = c.index.result.now in
+          let same = c.loop-i.invariant.0.1 i e (omega arith) in
+          let tree : e ≡ get_or es i e = cc in
+          let none : items (view e) ≡ [] = c.may_hold_items.ensures w.if-may_hold_items.false in
+          let step : rest es i ≡ rest es (i + 1) = rest_next es i e below tree ∙ ap (λ l. l ++ rest es (i + 1)) none in
+          let put : set now i e ≡ now = ap (set now i) c.index.ensures ∙ set-get_or now i e in
+          rw (w.trees-is, w.progress-is) (
+            (lengths, λ j d h. c.loop-i.invariant.0.1 j d (omega arith)),
+            ap (noted k s) (sym step) ∙ c.loop-i.invariant.1,
+            omega (arith, ap (λ l. length (openings_in l)) step, c.loop-i.invariant.2),
+            ap (λ l. views (take (i + 1) l)) (sym put)
+                ∙ front_rebuilt k s es now all i e e lengths below tree (sym (rebuilt_same k s (view e) none))
+                c.loop-i.invariant.3 c.loop-i.invariant.4,
+            rest_rebuilt k s s es all i e below tree (ap (noted k s) (sym none)) c.loop-i.invariant.4,
+          )
+    ]
 
 pub rewrite_all-returns-clause-tree : goal.rewrite_all-returns-clause-tree
 rewrite_all-returns-clause-tree t c =

@@ -10,6 +10,8 @@ use Rattle.fancy_syntax.specs.Notes.{has_items}
 use Rattle.fancy_syntax.proofs.NoItems.{met_append}
 use Rattle.fancy_syntax.proofs.WalkLemmas.{found_append, found_le, count_two, rest, rest_next}
 use Rattle.fancy_syntax.proofs.resolve.survey.+survey.Goals as goal
+use Rattle.fancy_syntax.proofs.resolve.survey.+survey.Goals.{survey_all-then-may_hold_items+in_ok-survey}
+use Rattle.fancy_syntax.proofs.resolve.survey.+survey.Goals.{survey_all-else-may_hold_items}
 
 pub survey-survey-requires-in-Conditional : goal.survey-survey-requires-in-Conditional
 survey-survey-requires-in-Conditional t c =
@@ -63,17 +65,29 @@ survey_all-survey-requires t c =
     let step : rest es i ≡ l ++ rest es (i + 1) = rest_next es i c.tree-item.result (omega arith) (cc) in
     (search (rules, the_lemmas), omega (arith, count_two (rest es i) l (rest es (i + 1)) step, c.loop-tree.invariant.1))
 
+-- a tree that can hold no item is passed over: the walk over its items, of which there are none, stays where it was
 pub survey_all-loop-tree-preserved : goal.survey_all-loop-tree-preserved
 survey_all-loop-tree-preserved t c =
     let es = c.args.trees.now in let i = c.loop-tree.tree-index in let l = items (view c.tree-item.result) in
     let step : rest es i ≡ l ++ rest es (i + 1) = rest_next es i c.tree-item.result (omega arith) (cc) in
-    let before = c.loop-tree.found in let now = c.in_ok-survey.ensures in (
-      rw now.found
+    let before = c.loop-tree.found in let now = c.if-may_hold_items.found in
+    let walked : groups_of now.groups ≡ found c.args.named (groups_of before.groups) l
+    = elim c.if-may_hold_items.branch [
+      | survey_all-then-may_hold_items+in_ok-survey w ↦ rw w.found-is w.in_ok-survey.ensures.found
+      | survey_all-else-may_hold_items w ↦ rw (w.found-is, c.may_hold_items.ensures w.if-may_hold_items.false) refl
+    ] in
+    let met : now.met ≡ (before.met || has_items l)
+    = elim c.if-may_hold_items.branch [
+      | survey_all-then-may_hold_items+in_ok-survey w ↦ rw w.found-is w.in_ok-survey.ensures.met
+      | survey_all-else-may_hold_items w ↦
+          rw (w.found-is, c.may_hold_items.ensures w.if-may_hold_items.false) (search rules)
+    ] in (
+      rw walked
           (sym (found_append c.args.named (groups_of before.groups) l (rest es (i + 1)))
           ∙ ap (found c.args.named (groups_of before.groups)) (sym step) ∙ c.loop-tree.invariant.0),
-      let total = found_le c.args.named (groups_of before.groups) (groups_of c.survey.new.found.groups) l now.found in
+      let total = found_le c.args.named (groups_of before.groups) (groups_of now.groups) l walked in
           omega (arith, count_two (rest es i) l (rest es (i + 1)) step, total, c.loop-tree.invariant.1),
-      rw now.met
+      rw met
           (sym (met_append before.met l (rest es (i + 1))) ∙ ap (λ m. before.met || has_items m) (sym step)
           ∙ c.loop-tree.invariant.2),
     )
