@@ -150,8 +150,8 @@ fn leaf_node(alloc: Global, leaf: Escaped) -> Result<Expr, AllocError>
         Escaped::KeepOut => Ok(Expr::KeepOut),
         Escaped::ContinueFromPreviousMatchEnd => Ok(Expr::ContinueFromPreviousMatchEnd),
         Escaped::Delegate { inner: text, casei } => {
-            // Most are a backslash and a letter.
-            let mut inner = String::with_capacity(alloc, 2)?;
+            // This is room for all but long names of properties.
+            let mut inner = String::with_capacity(alloc, 16)?;
             push_delegate(&mut inner, text)?;
             Ok(Expr::Delegate { inner, casei })
         }
