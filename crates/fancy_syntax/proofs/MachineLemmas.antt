@@ -1,7 +1,7 @@
 -- How each step of the loop keeps what stands on the stack.
 use Rattle.std.proofs.Common.{◌≡◌, ◌≢◌, ◌==◌, if◌then◌else◌, tests, rules, ℕ, ◌+◌, Bool, true, false}
 use Rattle.std.proofs.Common.{true≢false, List, [], ◌∷◌, ◌++◌, length, Some, None, Result, Ok, Err, refl, sym, ap, ◌∙◌}
-use Rattle.std.proofs.Common.{subst, append-nil, arith}
+use Rattle.std.proofs.Common.{subst, append-nil, arith, ◌<◌}
 use Rattle.std.proofs.lemmas.List.{length_push, append_assoc}
 use Prim.Native.Char.{code}
 use Rattle.fancy_lex.specs.Characters.{bar}
@@ -23,7 +23,8 @@ use Rattle.fancy_syntax.specs.Machine.{OpenPart, top, group, condition, body, fi
 use Rattle.fancy_syntax.specs.Machine.{is_second, opened_by_bar, branches_at_bar, IsFaultOfBar, Part, Opens, a_group}
 use Rattle.fancy_syntax.specs.Machine.{a_condition, a_body, behind_condition, a_branch, behind_branch, lacks_body}
 use Rattle.fancy_syntax.specs.Machine.{node_of_part, goes_on, ended_part, Began, StepsOn, GivesPiece, Reading, Levels}
-use Rattle.fancy_syntax.specs.Machine.{outermost, inner, Holds}
+use Rattle.fancy_syntax.specs.Machine.{outermost, inner, Holds, Steps, OpensBelow, Takes}
+use Rattle.fancy_grammar.specs.Depth.{max_depth}
 use Rattle.fancy_grammar.specs.Grammar.{trees_before}
 use Rattle.fancy_grammar.specs.Head.{group_node}
 use Rattle.fancy_grammar.specs.Quantified.{quants}
@@ -390,7 +391,7 @@ running_piece {n} {t} {v} {r} all h e a i = record {
 }
 
 -- a part is opened in the piece that began there
-pub running_open : {n : ℕ} {start t v : State} {stack : List Frame} {f : Frame} {trees : List Tree} {o : OpenPart}
+running_open : {n : ℕ} {start t v : State} {stack : List Frame} {f : Frame} {trees : List Tree} {o : OpenPart}
     (all : List Frame) (g : Frame) → Running n start stack f trees t →
     Began f t → ends t.rest ≡ false → Opens n (length stack) t o v → all ≡ stack ++ f ∷ [] → part_of g.opener ≡ o →
     g.branches ≡ length trees → g.pieces ≡ length trees → Running n start all g trees v
@@ -406,6 +407,27 @@ running_open {n} {t} {v} {stack} {f} {trees} {o} all g h b e a i j k l = record 
       (inner f i h.holds h.levels h.reading b e (subst (λ d. Opens n d t o v) (sym h.is_depth) a));
   reading = reading_new n _ _ v _ _ refl refl;
 }
+
+-- a step is taken
+pub running_step : {n : ℕ} {start t v : State} {stack all : List Frame} {f g : Frame} {trees ts : List Tree}
+    (made : Step) → Running n start stack f trees t → Began f t → ends t.rest ≡ false →
+    Steps n (length stack) t made v → Takes made stack f trees all g ts → Running n start all g ts v
+running_step {ts} (step.Piece tree) h b e a i = rw (i.0, i.1) (running_piece ts h e a i.2)
+running_step {all} {g} (step.Open opener) h b e a i =
+    rw i.1 (running_open all g h b e a i.0 (ap part_of i.2) i.3 i.4)
+
+-- no more groups are open behind it than may be
+pub step_below : (made : Step) (stack all : List Frame) (f g : Frame) (trees ts : List Tree) →
+    OpensBelow made (length stack) → length stack < max_depth → Takes made stack f trees all g ts →
+    length all < max_depth
+step_below (step.Piece tree) stack all f g trees ts b d i = rw i.0 d
+step_below (step.Open opener) stack all f g trees ts b d i =
+    omega (arith, b, ap length i.0, length_push stack f)
+
+-- where a group was closed, one may be opened
+pub opens_below : (d : ℕ) (made : Step) → d + 1 < max_depth → OpensBelow made d
+opens_below d (step.Piece tree) h = tt
+opens_below d (step.Open opener) h = h
 
 -- behind a bar the second branch of an absent expression is open
 levels_bar : {n d : ℕ} {start s t : State} {u : Text} {a : Tree} {fs : List Frame} {ts : List Tree} →

@@ -125,6 +125,13 @@ abbrev pub Steps : ℕ → ℕ → State → Step → State → Type 0
 Steps n d s (step.Piece piece) t = Piece n d s (done (view piece) t)
 Steps n d s (step.Open opener) t = Opens n d s (part_of opener) t
 
+-- the stack, the innermost group and all trees behind a step: a tree more, or a group more in which nothing is read
+abbrev pub Takes : Step → List Frame → Frame → List Tree → List Frame → Frame → List Tree → Type 0
+Takes (step.Piece piece) fs f ts gs g us = (gs ≡ fs) × (g ≡ f) × (us ≡ ts ++ solid (view piece ∷ []))
+Takes (step.Open opener) fs f ts gs g us =
+    (gs ≡ fs ++ f ∷ []) × (us ≡ ts) ×
+    (g.opener ≡ opener) × (g.branches ≡ length ts) × (g.pieces ≡ length ts)
+
 -- a step from s to t, or the fault of a piece there
 abbrev pub StepsOn : Result Step Error → ℕ → ℕ → State → State → Type 0
 StepsOn r n d s t = MatchResult r (λ p. Steps n d s p t) (λ e. IsErrorAmong e (Piece n d s))

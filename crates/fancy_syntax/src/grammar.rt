@@ -1,8 +1,10 @@
 //! The grammar: a loop over a stack of open groups reads the raw tree of a text.
 ghost use Rattle.std.specs.Prelude.{◌≡◌, ◌∷◌, [], ◌++◌, ◌<◌, ◌≤◌, ◌^◌, length, chars, IfOk, OnOk};
 ghost use Rattle.fancy_grammar.specs.Grammar as spec;
+ghost use Rattle.fancy_syntax.specs.Machine.{Takes};
 ghost use Rattle.fancy_syntax.specs.Parsed.{state, IsTreeRead};
 ghost use Rattle.fancy_syntax.specs.Reads.{ReadsWhole};
+ghost use Rattle.fancy_syntax.specs.View.{views};
 
 mod ahead;
 mod atom;
@@ -30,6 +32,7 @@ use fancy_lex::error::Error;
 use fancy_lex::flags::Flags;
 use fancy_lex::text::{after, byte_len, next, place};
 use std::alloc::{AllocError, Global};
+use std::mem;
 
 /// Reads a whole text: its raw tree, in which a capturing group is an AstNode with the place of its parenthesis.
 /// Else the fault of the text, or OutOfMemory.
@@ -66,13 +69,8 @@ fn alternation<'a>(alloc: Global, start: State<'a>, end: usize) -> Result<(Expr,
         } else if !is_end(here.rest) {
             frame.left = byte_len(here.rest);
             frame.flags = here.flags;
-            match read_step(alloc, &mut here, stack.len(), end)? {
-                Step::Piece(piece) => add(&mut trees, piece)?,
-                Step::Open(opener) => {
-                    push_frame(&mut stack, frame)?;
-                    frame = Frame::new(opener, trees.len(), here.flags);
-                }
-            }
+            let step = read_step(alloc, &mut here, stack.len(), end)?;
+            take_step(step, &mut stack, &mut frame, &mut trees, here.flags)?;
         } else if let Some(rest) = after(here.rest, '|') {
             frame.bar(alloc, &mut trees, place(here.rest, end))?;
             here.rest = rest;
@@ -82,7 +80,7 @@ fn alternation<'a>(alloc: Global, start: State<'a>, end: usize) -> Result<(Expr,
                 return Ok((inner, here));
             };
             frame = outer;
-            match close(
+            let step = close(
                 alloc,
                 opener,
                 inner,
@@ -91,13 +89,8 @@ fn alternation<'a>(alloc: Global, start: State<'a>, end: usize) -> Result<(Expr,
                 frame.flags,
                 stack.len(),
                 end,
-            )? {
-                Step::Piece(piece) => add(&mut trees, piece)?,
-                Step::Open(opener) => {
-                    push_frame(&mut stack, frame)?;
-                    frame = Frame::new(opener, trees.len(), here.flags);
-                }
-            }
+            )?;
+            take_step(step, &mut stack, &mut frame, &mut trees, here.flags)?;
         }
     }
 }
@@ -107,6 +100,27 @@ fn alternation<'a>(alloc: Global, start: State<'a>, end: usize) -> Result<(Expr,
 /// Where it is above 1,024 bytes, malloc puts its free blocks together at each request, and then hands out the small
 /// blocks of a tree slowly.
 const TREES: usize = 12;
+
+/// Takes what a step read: a piece, which stands behind the others of the frame, or a group, which opens above it.
+#[inline(always)]
+fn take_step<'a>(
+    step: Step<'a>,
+    stack: &mut Vec<Frame<'a>>,
+    frame: &mut Frame<'a>,
+    trees: &mut Vec<Expr>,
+    flags: Flags,
+) -> Result<(), AllocError>
+    ensures { OnOk result (Takes step.entry stack.old.items frame.old (views trees.old.items)
+        stack.new.items frame.new (views trees.new.items)) }
+{
+    match step {
+        Step::Piece(piece) => add(trees, piece),
+        Step::Open(opener) => {
+            let inner = Frame::new(opener, trees.len(), flags);
+            push_frame(stack, mem::replace(frame, inner))
+        }
+    }
+}
 
 /// Puts a frame on the stack.
 fn push_frame<'a>(stack: &mut Vec<Frame<'a>>, frame: Frame<'a>) -> Result<(), AllocError>

@@ -1,13 +1,15 @@
-use Rattle.std.proofs.Common.{◌≡◌, ◌∙◌, ap, sym, length, [], arith, refl, subst}
+use Rattle.std.proofs.Common.{◌≡◌, ◌+◌, ◌<◌, ap, sym, length, [], arith, refl, subst}
 use Rattle.std.proofs.lemmas.List.{nil_from_length, length_push}
 use Rattle.std.proofs.lemmas.Result.{err_from_is_err_and}
+use Rattle.fancy_grammar.specs.Depth.{max_depth}
 use Rattle.fancy_grammar.specs.Grammar.{Alternation, Piece}
-use Rattle.fancy_syntax.specs.Machine.{Opens, IsFaultOfBar, part_of}
+use Rattle.fancy_syntax.specs.Machine.{IsFaultOfBar, OpensBelow, Steps, part_of}
 use Rattle.fancy_syntax.specs.Parsed.{state}
-use Rattle.fancy_grammar.specs.State.{done, fault}
+use Rattle.fancy_grammar.specs.State.{fault}
 use Rattle.fancy_syntax.specs.View.{view, views}
-use Rattle.fancy_syntax.proofs.MachineLemmas.{running_start, running_began, running_fault, running_piece, running_open}
+use Rattle.fancy_syntax.proofs.MachineLemmas.{running_start, running_began, running_fault, running_piece, running_step}
 use Rattle.fancy_syntax.proofs.MachineLemmas.{running_bar, running_bar_fault, running_end, running_closing}
+use Rattle.fancy_syntax.proofs.MachineLemmas.{step_below, opens_below}
 use Rattle.fancy_syntax.proofs.TreesLemmas.{holds_below, views_length}
 use Rattle.fancy_grammar.proofs.OutcomeLemmas.{IsErrorAmong-map}
 use Rattle.fancy_syntax.proofs.grammar.alternation.Goals as goal
@@ -32,56 +34,31 @@ loop-c-preserved-in-Some c =
       within = omega (arith, c.loop-c.invariant.within, c.in-Some.ensures.shorter);
     }
 
-pub returns-in_err-piece-clause-value : goal.returns-in_err-piece-clause-value
-returns-in_err-piece-clause-value c =
+pub returns-in_err-step-clause-value : goal.returns-in_err-step-clause-value
+returns-in_err-step-clause-value c =
     let n : c.len.result ≡ length c.loop-c.stack.items = omega (arith, c.len.ensures, c.loop-c.stack.ok.0) in
-    let e = err_from_is_err_and c.from_residual-in_err-piece.result c.from_residual-in_err-piece.ensures.1 in
+    let e = err_from_is_err_and c.from_residual-in_err-step.result c.from_residual-in_err-step.ensures.1 in
     rw (e.1, e.2)
     (IsErrorAmong-map (Piece c.args.end c.len.result (state c.loop-c.here))
     (Alternation c.args.end 0 (state c.args.start))
-    c.in_err-piece.field-0.0
+    c.in_err-step.field-0.0
     (λ k p h. running_fault c.loop-c.invariant.running (sym c.if-not-is_end.ensures)
-    (subst (λ d. Piece c.args.end d (state c.loop-c.here) (fault k p)) n h)) c.in_err-piece.ensures.value)
+    (subst (λ d. Piece c.args.end d (state c.loop-c.here) (fault k p)) n h)) c.in_err-step.ensures.value)
 
-pub loop-c-preserved-in-Continue-branch-6 : goal.loop-c-preserved-in-Continue-branch-6
-loop-c-preserved-in-Continue-branch-6 c =
+pub loop-c-preserved-in-Continue-branch-5 : goal.loop-c-preserved-in-Continue-branch-5
+loop-c-preserved-in-Continue-branch-5 c =
     let n : c.len.result ≡ length c.loop-c.stack.items = omega (arith, c.len.ensures, c.loop-c.stack.ok.0) in
+    let made = c.in_ok-step.step in
+    let steps = subst (λ d. Steps c.args.end d (state c.loop-c.here) made (state c.read_step.new.here)) n
+    c.in_ok-step.ensures.value in
+    let below = subst (OpensBelow made) n c.in_ok-step.ensures.below in
+    let taken = c.in_ok-take_step.ensures in
     record {
-      running = running_piece _
+      running = running_step made
           (running_began c.byte_len.result c.loop-c.here.flags c.loop-c.invariant.running)
-          (sym c.if-not-is_end.ensures)
-          (subst (λ d. Piece c.args.end d (state c.loop-c.here)
-          (done (view c.in-Piece.piece) (state c.read_step.new.here))) n
-          (rw c.in-Piece.is at c.in_ok-piece.ensures.value)) c.in_ok-add-in-Piece.ensures;
-      depth = c.loop-c.invariant.depth;
-      within = omega (arith, c.loop-c.invariant.within, c.in_ok-piece.ensures.shorter);
-    }
-
-pub loop-c-preserved-in-Open : goal.loop-c-preserved-in-Open
-loop-c-preserved-in-Open c =
-    let n : c.len.result ≡ length c.loop-c.stack.items = omega (arith, c.len.ensures, c.loop-c.stack.ok.0) in
-    let f = c.new-frame-in-Open.ensures in
-    let items = c.in_ok-push_frame-in-Open.ensures in
-    let below = rw c.in-Open.is at c.in_ok-piece.ensures.below in
-    let height : c.len-in-Open.result ≡ length (views c.loop-c.trees.items) =
-    omega (arith, c.len-in-Open.ensures, c.loop-c.trees.ok.0, views_length c.loop-c.trees.items) in
-    record {
-      running = running_open c.push_frame.new.stack.items c.new-frame-in-Open.result
-          (running_began c.byte_len.result c.loop-c.here.flags c.loop-c.invariant.running)
-          (c.byte_len.ensures, refl) (sym c.if-not-is_end.ensures)
-          (subst (λ d. Opens c.args.end d (state c.loop-c.here) (part_of c.in-Open.opener) (state c.read_step.new.here))
-          n
-          (rw c.in-Open.is at c.in_ok-piece.ensures.value)) items (ap part_of f.opener) (f.branches ∙ height)
-          (f.pieces ∙ height);
-      depth = omega (
-        arith,
-        n,
-        below,
-        ap length items,
-        length_push c.loop-c.stack.items
-            (record c.loop-c.frame { left = c.byte_len.result; flags = c.loop-c.here.flags }),
-      );
-      within = omega (arith, c.loop-c.invariant.within, c.in_ok-piece.ensures.shorter);
+          (c.byte_len.ensures, refl) (sym c.if-not-is_end.ensures) steps taken;
+      depth = step_below made _ _ _ _ _ _ below c.loop-c.invariant.depth taken;
+      within = omega (arith, c.loop-c.invariant.within, c.in_ok-step.ensures.shorter);
     }
 
 pub bar-requires : goal.bar-requires
@@ -128,8 +105,8 @@ returns-in_default-pop-clause-value c =
     running_end (view c.in_ok-opener.inner) h (sym c.if-not-is_end.ensures) c.in_default-after.ensures.value
     (c.in_ok-opener.ensures.tree h.below h.branches h.pieces h.holds) none
 
-pub returns-in_err-piece-2-clause-value : goal.returns-in_err-piece-2-clause-value
-returns-in_err-piece-2-clause-value c =
+pub returns-in_err-step-2-clause-value : goal.returns-in_err-step-2-clause-value
+returns-in_err-step-2-clause-value c =
     let h = c.loop-c.invariant.running in
     let f = c.in_ok-opener.ensures in
     let w = running_closing c.pop.new.self.items c.in-Some-pop.outer (views c.finish.new.trees.items)
@@ -139,38 +116,11 @@ returns-in_err-piece-2-clause-value c =
     c.in-Some-pop.ensures.items in
     let n : c.len-in_default-after.result ≡ length c.pop.new.self.items =
     omega (arith, c.len-in_default-after.ensures, c.pop.new.self.ok.0) in
-    let e = err_from_is_err_and c.from_residual-in_err-piece-2.result c.from_residual-in_err-piece-2.ensures.1 in
+    let e = err_from_is_err_and c.from_residual-in_err-step-2.result c.from_residual-in_err-step-2.ensures.1 in
     rw (e.1, e.2) (IsErrorAmong-map (Piece c.args.end c.len-in_default-after.result w.here)
-    (Alternation c.args.end 0 (state c.args.start)) c.in_err-piece-2.field-0.0
+    (Alternation c.args.end 0 (state c.args.start)) c.in_err-step-2.field-0.0
     (λ k p h. running_fault w.outer w.more (subst (λ d. Piece c.args.end d w.here (fault k p)) n h))
-    (c.in_err-piece-2.ensures.value w.here w.inside w.began.0 w.began.1 (rw n w.opens) (rw n w.whole)))
-
-pub loop-c-preserved-in-Continue-branch-12 : goal.loop-c-preserved-in-Continue-branch-12
-loop-c-preserved-in-Continue-branch-12 c =
-    let popped = c.in-Some-pop.ensures.items in
-    let h = c.loop-c.invariant.running in
-    let f = c.in_ok-opener.ensures in
-    let w = running_closing c.pop.new.self.items c.in-Some-pop.outer (views c.finish.new.trees.items)
-    (view c.in_ok-opener.inner) (part_of c.in_ok-opener.opener) (ap part_of f.opener)
-    h (sym c.if-not-is_end.ensures) c.in_default-after.ensures.value
-    (f.tree h.below h.branches h.pieces h.holds) (f.below h.below h.branches h.pieces h.holds)
-    popped in
-    let n : c.len-in_default-after.result ≡ length c.pop.new.self.items =
-    omega (arith, c.len-in_default-after.ensures, c.pop.new.self.ok.0) in
-    let steps = c.in_ok-piece-2.ensures.value w.here w.inside w.began.0 w.began.1 (rw n w.opens) (rw n w.whole) in
-    record {
-      running = running_piece _ w.outer w.more
-          (subst (λ d. Piece c.args.end d w.here (done (view c.in-Piece-2.piece) (state c.close.new.here))) n
-          (rw c.in-Piece-2.is at steps))
-          c.in_ok-add-in-Piece-2.ensures;
-      depth = omega (
-        arith,
-        c.loop-c.invariant.depth,
-        ap length popped,
-        length_push c.pop.new.self.items c.in-Some-pop.outer,
-      );
-      within = omega (arith, c.loop-c.invariant.within, c.in_ok-piece-2.ensures.shorter);
-    }
+    (c.in_err-step-2.ensures.value w.here w.inside w.began.0 w.began.1 (rw n w.opens) (rw n w.whole)))
 
 pub loop-c-preserved : goal.loop-c-preserved
 loop-c-preserved c =
@@ -184,22 +134,18 @@ loop-c-preserved c =
     popped in
     let n : c.len-in_default-after.result ≡ length c.pop.new.self.items =
     omega (arith, c.len-in_default-after.ensures, c.pop.new.self.ok.0) in
-    let steps = c.in_ok-piece-2.ensures.value w.here w.inside w.began.0 w.began.1 (rw n w.opens) (rw n w.whole) in
-    let g = c.new-frame-in-Open-2.ensures in
-    let pushed = c.in_ok-push_frame-in-Open-2.ensures in
-    let height : c.len-in-Open-2.result ≡ length (views c.finish.new.trees.items) =
-    omega (arith, c.len-in-Open-2.ensures, c.finish.new.trees.ok.0, views_length c.finish.new.trees.items) in
+    let made = c.in_ok-step-2.step in
+    let steps = subst (λ d. Steps c.args.end d w.here made (state c.close.new.here)) n
+    (c.in_ok-step-2.ensures.value w.here w.inside w.began.0 w.began.1 (rw n w.opens) (rw n w.whole)) in
+    let taken = c.in_ok-take_step-2.ensures in
+    let room : length c.pop.new.self.items + 1 < max_depth = omega (
+      arith,
+      c.loop-c.invariant.depth,
+      ap length popped,
+      length_push c.pop.new.self.items c.in-Some-pop.outer,
+    ) in
     record {
-      running = running_open c.push_frame-in-Open-2.new.stack.items c.new-frame-in-Open-2.result w.outer w.began w.more
-          (subst (λ d. Opens c.args.end d w.here (part_of c.in-Open-2.opener) (state c.close.new.here)) n
-          (rw c.in-Open-2.is at steps))
-          pushed (ap part_of g.opener) (g.branches ∙ height) (g.pieces ∙ height);
-      depth = omega (
-        arith,
-        c.loop-c.invariant.depth,
-        ap length popped,
-        ap length pushed,
-        length_push c.pop.new.self.items c.in-Some-pop.outer,
-      );
-      within = omega (arith, c.loop-c.invariant.within, c.in_ok-piece-2.ensures.shorter);
+      running = running_step made w.outer w.began w.more steps taken;
+      depth = step_below made _ _ _ _ _ _ (opens_below _ made room) (omega (arith, room)) taken;
+      within = omega (arith, c.loop-c.invariant.within, c.in_ok-step-2.ensures.shorter);
     }
