@@ -248,6 +248,16 @@ fn in_class<'a>(
     }
 }
 
+/// Any character, a line break too where `newline` says so; CR LF counts as one then.
+fn any(newline: bool) -> Escaped<'static>
+    ensures { escape_of result ≡ leaf.any newline newline }
+{
+    Escaped::Any {
+        newline,
+        crlf: newline,
+    }
+}
+
 /// The boundary, or in Oniguruma mode its mark as it stands.
 fn word_boundary(c: char, boundary: Assertion, flags: Flags) -> Escaped<'static>
     ensures { escape_of result ≡ (if flags.oniguruma_mode then leaf.literal c false else leaf.assertion boundary) }
@@ -259,51 +269,9 @@ fn word_boundary(c: char, boundary: Assertion, flags: Flags) -> Escaped<'static>
     }
 }
 
-/// Reads an escape that is one outside a class only, behind its letter.
-#[inline(always)]
-#[tactic(auto, unfolding(crate::specs::Escape::outside))]
-fn outside<'a>(
-    alloc: Global,
-    c: char,
-    rest: &'a str,
-    flags: Flags,
-    place: usize,
-    end: usize,
-) -> Result<(Escaped<'a>, &'a str), Error>
-    requires bounded { end < 2 ^ 63 }
-    requires within { length rest.now ≤ end }
-    ensures value { Answers escape_of result (spec.outside end flags place c (chars rest.now)) }
-    ensures within { IfOk result (λ p. length p.1.now ≤ length rest.now) }
-{
-    let crlf = flags.crlf;
-    let unicode = flags.unicode;
-    let leaf = match c {
-        'A' => Escaped::Assertion(Assertion::StartText),
-        'z' => Escaped::Assertion(Assertion::EndText),
-        'Z' => Escaped::Assertion(Assertion::EndTextIgnoreTrailingNewlines { crlf }),
-        'K' => Escaped::KeepOut,
-        'G' => Escaped::ContinueFromPreviousMatchEnd,
-        'R' => Escaped::GeneralNewline { unicode },
-        'O' => Escaped::Any {
-            newline: true,
-            crlf: true,
-        },
-        'N' => Escaped::Any {
-            newline: false,
-            crlf: false,
-        },
-        '<' => word_boundary(c, Assertion::LeftWordBoundary, flags),
-        '>' => word_boundary(c, Assertion::RightWordBoundary, flags),
-        'k' => return named(rest, flags, end),
-        'g' => return call(alloc, rest, c, place, end),
-        'b' => return boundary(alloc, rest, false, flags, place, end),
-        'B' => return boundary(alloc, rest, true, flags, place, end),
-        _ => return Err(unknown_escape(alloc, c, place)),
-    };
-    Ok((leaf, rest))
-}
-
-#[tactic(auto, unfolding(crate::specs::Escape::escape))]
+/// Reads what stands behind a backslash.
+#[inline(never)]
+#[tactic(auto, unfolding(crate::specs::Escape::escape, crate::specs::Escape::outside))]
 fn read_escape<'a>(
     alloc: Global,
     text: &'a str,
@@ -320,6 +288,11 @@ fn read_escape<'a>(
     let Some((c, rest)) = next(text) else {
         return Err(Error::ParseError(place, ParseError::TrailingBackslash));
     };
+    if is_itself(c, inside) {
+        return Ok((literal(c), rest));
+    }
+    let crlf = flags.crlf;
+    let unicode = flags.unicode;
     match c {
         '0'..='9' => number_escape(text, flags, inside, place, end),
         'd' | 'D' | 's' | 'S' | 'w' | 'W' => Ok((
@@ -342,15 +315,25 @@ fn read_escape<'a>(
         't' => Ok((literal('\t'), rest)),
         'v' => Ok((literal('\x0B'), rest)),
         'e' => Ok((literal('\x1B'), rest)),
-        _ => {
-            if is_itself(c, inside) {
-                Ok((literal(c), rest))
-            } else if inside {
-                in_class(alloc, c, rest, place)
-            } else {
-                outside(alloc, c, rest, flags, place, end)
-            }
-        }
+        _ if inside => in_class(alloc, c, rest, place),
+        'A' => Ok((Escaped::Assertion(Assertion::StartText), rest)),
+        'z' => Ok((Escaped::Assertion(Assertion::EndText), rest)),
+        'Z' => Ok((
+            Escaped::Assertion(Assertion::EndTextIgnoreTrailingNewlines { crlf }),
+            rest,
+        )),
+        'K' => Ok((Escaped::KeepOut, rest)),
+        'G' => Ok((Escaped::ContinueFromPreviousMatchEnd, rest)),
+        'R' => Ok((Escaped::GeneralNewline { unicode }, rest)),
+        'O' => Ok((any(true), rest)),
+        'N' => Ok((any(false), rest)),
+        '<' => Ok((word_boundary(c, Assertion::LeftWordBoundary, flags), rest)),
+        '>' => Ok((word_boundary(c, Assertion::RightWordBoundary, flags), rest)),
+        'b' => boundary(alloc, rest, false, flags, place, end),
+        'B' => boundary(alloc, rest, true, flags, place, end),
+        'k' => named(rest, flags, end),
+        'g' => call(alloc, rest, c, place, end),
+        _ => Err(unknown_escape(alloc, c, place)),
     }
 }
 
