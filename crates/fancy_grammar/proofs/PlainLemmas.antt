@@ -1,13 +1,16 @@
--- A plain character is a piece.
+-- A plain character is a piece, and so is an escape of one character.
 use Rattle.std.proofs.Common.{◌≡◌, if◌then◌else◌, zero, suc, ℕ, Bool, true, false, ◌==◌, [], ◌∷◌, None, refl, sym}
 use Rattle.std.proofs.Common.{subst, ◌∙◌, ap, arith, tests, rules}
 use Rattle.std.proofs.lemmas.Bool.Decides.{nat_tests}
 use Prim.Native.Char.{code}
 use Rattle.fancy_lex.specs.Layout.{layout, layout_from, is_blank, is_layout, rest}
-use Rattle.fancy_lex.specs.Characters.{hash}
-use Rattle.fancy_lex.specs.Text.{Text, bytes}
+use Rattle.fancy_lex.specs.Characters.{hash, backslash}
+use Rattle.fancy_lex.specs.Escape.{escape}
+use Rattle.fancy_lex.specs.Escaped.{Escape}
+use Rattle.fancy_lex.specs.Reading.{gives}
+use Rattle.fancy_lex.specs.Text.{Text, bytes, place_of}
 use Rattle.fancy_parts.specs.Quantifier.{counts}
-use Rattle.fancy_grammar.specs.Ahead.{ahead, leaf}
+use Rattle.fancy_grammar.specs.Ahead.{ahead, leaf, leaf_node, leaf_outcome}
 use Rattle.fancy_grammar.specs.Grammar.{piece, atom, a_leaf}
 use Rattle.fancy_grammar.specs.Plain.{is_special, is_suffix, IsPlain}
 use Rattle.fancy_grammar.specs.Quantified.{quant, quants, adjacent, max_adjacent, is_unmoved}
@@ -95,10 +98,31 @@ unquantified s c t n d left a e x h =
 
 pub is_plain : (s : State) (c d : ℕ) (t u : Text) → is_layout s.flags.ignore_space c ≡ false →
     is_layout s.flags.ignore_space d ≡ false →
-    s.rest ≡ c ∷ t → t ≡ d ∷ u → is_special c ≡ false → is_suffix d ≡ false → IsPlain s c t
+    s.rest ≡ c ∷ t → t ≡ d ∷ u → is_special c ≡ false → is_suffix d ≡ false →
+    IsPlain s (literal (c ∷ []) s.flags.casei) t
 is_plain s c d t u x y e f h k = record {
   more = ap ends e ∙ no_end c t h;
   piece = λ m b. piece (rw e (no_layout m c s.flags.ignore_space t (not_open c h) x))
       (atom (is_leaf m b c s t h) a_leaf refl)
       (rw f (no_quants m b _ _ (at s (d ∷ u)) (λ l. no_quant m l d _ s u y k)));
+}
+
+backslash_no_layout : (x : Bool) → is_layout x backslash ≡ false
+backslash_no_layout true = refl
+backslash_no_layout false = refl
+
+is_escape : (n d : ℕ) (s : State) (t u : Text) (e : Escape) →
+    ((m q : ℕ) → escape m s.flags false q t ≡ gives e u) →
+    ahead n d (at s (backslash ∷ t)) ≡ leaf (done (leaf_node e) (at s u))
+unfolding ahead
+is_escape n d s t u e h = ap (λ o. leaf (leaf_outcome leaf_node s o)) (h n (place_of n (backslash ∷ t)))
+
+pub is_plain_escape : (s : State) (t u : Text) (e : Escape) → s.rest ≡ backslash ∷ t →
+    ((m q : ℕ) → escape m s.flags false q t ≡ gives e u) →
+    ((n d left : ℕ) (a : Tree) → quants n d left a (at s u) ≡ done a (at s u)) → IsPlain s (leaf_node e) u
+is_plain_escape s t u e i h q = record {
+  more = ap ends i;
+  piece = λ m b. piece (rw i (no_layout m backslash s.flags.ignore_space t refl
+      (backslash_no_layout s.flags.ignore_space)))
+      (atom (is_escape m b s t u e h) a_leaf refl) (q m b _ _);
 }

@@ -1,10 +1,10 @@
--- Characters that are pieces of their own.
-use Rattle.std.specs.Prelude.{◌≡◌, ℕ, Bool, false, [], ◌∷◌}
+-- Characters and escapes that are pieces of their own.
+use Rattle.std.specs.Prelude.{◌≡◌, ℕ, Bool, false}
 use Rattle.fancy_lex.specs.Characters.{◌∈◌}
 use Rattle.fancy_lex.specs.Text.{Text}
 use Rattle.fancy_grammar.specs.Grammar.{Piece}
 use Rattle.fancy_grammar.specs.State.{ends, State, at, done}
-use Rattle.fancy_grammar.specs.Tree.{literal}
+use Rattle.fancy_grammar.specs.Tree.{Tree}
 
 -- with these a group, an escape, a class, a quantifier, another leaf or the end of a branch begins
 abbrev pub is_special : ℕ → Bool
@@ -14,7 +14,7 @@ is_special c = c ∈ "()|.^$\\[*+?"
 abbrev pub is_suffix : ℕ → Bool
 is_suffix c = c ∈ "(*+?{"
 
--- the character at s is a piece, wherever s stands, and t follows it
-pub record IsPlain (s : State) (c : ℕ) (t : Text) : Type 0 where
+-- the leaf r stands at s and is a piece, wherever s stands, and t follows it
+pub record IsPlain (s : State) (r : Tree) (t : Text) : Type 0 where
   pub more : ends s.rest ≡ false
-  pub piece : (n d : ℕ) → Piece n d s (done (literal (c ∷ []) s.flags.casei) (at s t))
+  pub piece : (n d : ℕ) → Piece n d s (done r (at s t))

@@ -21,6 +21,7 @@ mod BoundaryLaws
 pub mod BoundaryRelation
 mod PropertyLemmas
 mod EscapeLemmas
+mod LoneLemmas
 pub mod EscapeLaws
 pub mod EscapeSound
 pub mod EscapeFrame

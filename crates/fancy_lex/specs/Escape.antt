@@ -74,6 +74,14 @@ in_class p c t =
 abbrev pub is_itself : Bool → ℕ → Bool
 is_itself inside c = not (is_ascii_alphanumeric c) && (inside || not (c ∈ "<>"))
 
+-- letters that are all of their escape, in a class and outside
+abbrev pub is_lone_anywhere : ℕ → Bool
+is_lone_anywhere c = c ∈ "dDsSwWhHafnrtve"
+
+-- more than the character belongs to its escape
+abbrev pub reads_on : Bool → ℕ → Bool
+reads_on inside c = is_ascii_digit c || (c ∈ "xuUpP" || (not inside && c ∈ "kgbB"))
+
 -- what stands behind the backslash of a pattern of n bytes, in a class or outside
 unfoldable pub escape : ℕ → Flags → Bool → ℕ → Text → Reading Escape
 escape n f inside p [] = fails (backslash_at_end p)

@@ -1,16 +1,16 @@
 //! Escapes: what stands behind a backslash.
-ghost use Rattle.std.specs.Prelude.{◌≡◌, ◌+◌, ◌^◌, ◌<◌, ◌≤◌, [], ◌∷◌, if◌then◌else◌, false, length, chars, IfErr, IfOk};
+ghost use Rattle.std.specs.Prelude.{◌≡◌, ℕ, Bool, true, ◌+◌, ◌^◌, ◌<◌, ◌≤◌, [], ◌∷◌, if◌then◌else◌, false, length, chars, IfErr, IfOk, IfSome, None};
 ghost use Rattle.fancy_lex.specs.Characters.{backslash};
 ghost use Rattle.fancy_lex.specs.Escape as spec;
 ghost use Rattle.fancy_lex.specs.EscapeReference as references;
 ghost use Rattle.fancy_lex.specs.Escaped as leaf;
 ghost use Rattle.fancy_lex.specs.Escaped.{escape_of, delegate_text};
-ghost use Rattle.fancy_lex.specs.Reading.{Reads, Answers, Reports};
-ghost use Rattle.fancy_lex.specs.Text.{EndsWith, text_of};
+ghost use Rattle.fancy_lex.specs.Reading.{Reads, Answers, Reports, gives, choose};
+ghost use Rattle.fancy_lex.specs.Text.{Text, EndsWith, text_of};
 ghost use Rattle.fancy_lex.specs.Fault.{StandsWithin};
 
 use crate::error::{Error, ParseError};
-use crate::escape::boundary::boundary;
+use crate::escape::boundary::{bare_boundary, boundary};
 use crate::escape::hex::hex;
 use crate::escape::reference::{back_reference, group_number, numbered_reference, subroutine_call};
 use crate::flags::Flags;
@@ -230,24 +230,6 @@ fn property<'a>(
     Ok((Escaped::Delegate { inner, casei }, rest))
 }
 
-/// Reads an escape that is one in a class only, behind its letter.
-#[tactic(auto, unfolding(crate::specs::Escape::in_class))]
-fn in_class<'a>(
-    alloc: Global,
-    c: char,
-    rest: &'a str,
-    place: usize,
-) -> Result<(Escaped<'a>, &'a str), Error>
-    ensures value { Answers escape_of result (spec.in_class place c (chars rest.now)) }
-    ensures within { IfOk result (λ p. length p.1.now ≤ length rest.now) }
-{
-    match c {
-        'b' => Ok((literal('\x08'), rest)),
-        'k' | 'A' | 'z' | 'B' | 'K' | 'G' | 'R' => Ok((literal(c), rest)),
-        _ => Err(unknown_escape(alloc, c, place)),
-    }
-}
-
 /// Any character, a line break too where `newline` says so; CR LF counts as one then.
 fn any(newline: bool) -> Escaped<'static>
     ensures { escape_of result ≡ leaf.any newline newline }
@@ -266,6 +248,91 @@ fn word_boundary(c: char, boundary: Assertion, flags: Flags) -> Escaped<'static>
         literal(c)
     } else {
         Escaped::Assertion(boundary)
+    }
+}
+
+/// What the letter stands for behind a backslash, in a class and outside, where it is all of the escape.
+#[inline(always)]
+#[tactic(auto, unfolding(crate::specs::Escape::escape))]
+fn lone_anywhere(c: char, flags: Flags) -> Option<Escaped<'static>>
+    ensures lone { IfSome result (λ e. (n : ℕ) (inside : Bool) (p : ℕ) (t : Text) →
+        spec.escape n flags inside p (c ∷ t) ≡ gives (escape_of e) t) }
+    ensures other { result ≡ None → spec.is_lone_anywhere c ≡ false }
+{
+    match c {
+        'd' | 'D' | 's' | 'S' | 'w' | 'W' => Some(Escaped::Delegate {
+            inner: DelegateText::Letter(c),
+            casei: flags.casei,
+        }),
+        'h' => Some(delegate(DelegateText::HexDigit)),
+        'H' => Some(delegate(DelegateText::NotHexDigit)),
+        'a' => Some(literal('\x07')),
+        'f' => Some(literal('\x0C')),
+        'n' => Some(literal('\n')),
+        'r' => Some(literal('\r')),
+        't' => Some(literal('\t')),
+        'v' => Some(literal('\x0B')),
+        'e' => Some(literal('\x1B')),
+        _ => None,
+    }
+}
+
+/// What the letter stands for behind a backslash in a class, where it is all of an escape that is one there only.
+#[tactic(auto, unfolding(crate::specs::Escape::in_class))]
+fn lone_in_class(c: char) -> Option<Escaped<'static>>
+    ensures lone { (p : ℕ) (t : Text) → spec.in_class p c t ≡
+        choose result (λ e. gives (escape_of e) t) (spec.unknown_escape p c) }
+    ensures whole { spec.reads_on true c ≡ true → result ≡ None }
+{
+    match c {
+        'b' => Some(literal('\x08')),
+        'k' | 'A' | 'z' | 'B' | 'K' | 'G' | 'R' => Some(literal(c)),
+        _ => None,
+    }
+}
+
+/// What the character stands for behind a backslash outside a class, where it is all of an escape that is one there
+/// only.
+#[inline(always)]
+#[tactic(auto, unfolding(crate::specs::Escape::outside))]
+fn lone_outside(c: char, flags: Flags) -> Option<Escaped<'static>>
+    ensures lone { (n p : ℕ) (t : Text) → spec.reads_on false c ≡ false → spec.outside n flags p c t ≡
+        choose result (λ e. gives (escape_of e) t) (spec.unknown_escape p c) }
+    ensures whole { spec.reads_on false c ≡ true → result ≡ None }
+{
+    let crlf = flags.crlf;
+    let unicode = flags.unicode;
+    match c {
+        'A' => Some(Escaped::Assertion(Assertion::StartText)),
+        'z' => Some(Escaped::Assertion(Assertion::EndText)),
+        'Z' => Some(Escaped::Assertion(Assertion::EndTextIgnoreTrailingNewlines { crlf })),
+        'K' => Some(Escaped::KeepOut),
+        'G' => Some(Escaped::ContinueFromPreviousMatchEnd),
+        'R' => Some(Escaped::GeneralNewline { unicode }),
+        'O' => Some(any(true)),
+        'N' => Some(any(false)),
+        '<' => Some(word_boundary(c, Assertion::LeftWordBoundary, flags)),
+        '>' => Some(word_boundary(c, Assertion::RightWordBoundary, flags)),
+        _ => None,
+    }
+}
+
+/// What the character stands for behind a backslash, where it is all of the escape. None where more belongs to it, and
+/// for a letter that is no escape.
+#[inline(always)]
+fn lone_escape(c: char, flags: Flags, inside: bool) -> Option<Escaped<'static>>
+    ensures lone { IfSome result (λ e. (n p : ℕ) (t : Text) →
+        spec.escape n flags inside p (c ∷ t) ≡ gives (escape_of e) t) }
+    ensures unknown { result ≡ None → spec.reads_on inside c ≡ false → (n p : ℕ) (t : Text) →
+        spec.escape n flags inside p (c ∷ t) ≡ spec.unknown_escape p c }
+{
+    if is_itself(c, inside) {
+        return Some(literal(c));
+    }
+    match lone_anywhere(c, flags) {
+        Some(leaf) => Some(leaf),
+        None if inside => lone_in_class(c),
+        None => lone_outside(c, flags),
     }
 }
 
@@ -288,53 +355,38 @@ fn read_escape<'a>(
     let Some((c, rest)) = next(text) else {
         return Err(Error::ParseError(place, ParseError::TrailingBackslash));
     };
-    if is_itself(c, inside) {
-        return Ok((literal(c), rest));
-    }
-    let crlf = flags.crlf;
-    let unicode = flags.unicode;
     match c {
         '0'..='9' => number_escape(text, flags, inside, place, end),
-        'd' | 'D' | 's' | 'S' | 'w' | 'W' => Ok((
-            Escaped::Delegate {
-                inner: DelegateText::Letter(c),
-                casei: flags.casei,
-            },
-            rest,
-        )),
-        'h' => Ok((delegate(DelegateText::HexDigit), rest)),
-        'H' => Ok((delegate(DelegateText::NotHexDigit), rest)),
         'x' => hex(rest, 2, flags, end),
         'u' => hex(rest, 4, flags, end),
         'U' => hex(rest, 8, flags, end),
         'p' | 'P' => property(alloc, rest, c, flags, inside, place),
-        'a' => Ok((literal('\x07'), rest)),
-        'f' => Ok((literal('\x0C'), rest)),
-        'n' => Ok((literal('\n'), rest)),
-        'r' => Ok((literal('\r'), rest)),
-        't' => Ok((literal('\t'), rest)),
-        'v' => Ok((literal('\x0B'), rest)),
-        'e' => Ok((literal('\x1B'), rest)),
-        _ if inside => in_class(alloc, c, rest, place),
-        'A' => Ok((Escaped::Assertion(Assertion::StartText), rest)),
-        'z' => Ok((Escaped::Assertion(Assertion::EndText), rest)),
-        'Z' => Ok((
-            Escaped::Assertion(Assertion::EndTextIgnoreTrailingNewlines { crlf }),
-            rest,
-        )),
-        'K' => Ok((Escaped::KeepOut, rest)),
-        'G' => Ok((Escaped::ContinueFromPreviousMatchEnd, rest)),
-        'R' => Ok((Escaped::GeneralNewline { unicode }, rest)),
-        'O' => Ok((any(true), rest)),
-        'N' => Ok((any(false), rest)),
-        '<' => Ok((word_boundary(c, Assertion::LeftWordBoundary, flags), rest)),
-        '>' => Ok((word_boundary(c, Assertion::RightWordBoundary, flags), rest)),
-        'b' => boundary(alloc, rest, false, flags, place, end),
-        'B' => boundary(alloc, rest, true, flags, place, end),
-        'k' => named(rest, flags, end),
-        'g' => call(alloc, rest, c, place, end),
-        _ => Err(unknown_escape(alloc, c, place)),
+        'b' | 'B' if !inside => boundary(alloc, rest, c == 'B', flags, place, end),
+        'k' if !inside => named(rest, flags, end),
+        'g' if !inside => call(alloc, rest, c, place, end),
+        _ => match lone_escape(c, flags, inside) {
+            Some(leaf) => Ok((leaf, rest)),
+            None => Err(unknown_escape(alloc, c, place)),
+        },
     }
+}
+
+/// The escape at the front, behind a backslash outside a class, where one look ahead shows that it is a character alone,
+/// and what follows it.
+#[inline(always)]
+#[tactic(auto, unfolding(crate::specs::Escape::escape, crate::specs::Escape::outside))]
+pub fn short_escape(text: &str, flags: Flags) -> Option<(Escaped<'static>, &str)>
+    ensures value { IfSome result (λ p. (n q : ℕ) →
+        spec.escape n flags false q (chars text.now) ≡ gives (escape_of p.0) (chars p.1.now)) }
+    ensures shorter { IfSome result (λ p. length p.1.now < length text.now) }
+{
+    let (c, rest) = next(text)?;
+    let leaf = match c {
+        'b' => bare_boundary(rest, false, flags.ignore_space)?,
+        'B' => bare_boundary(rest, true, flags.ignore_space)?,
+        _ => lone_escape(c, flags, false)?,
+    };
+    Some((leaf, rest))
 }
 
 /// Reads what stands behind the backslash at `place` in a pattern of `end` bytes, in a class where `inside` says so.

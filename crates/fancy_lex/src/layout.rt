@@ -111,7 +111,7 @@ fn read_units(text: &str, ignore_space: bool, end: usize) -> Result<&str, usize>
 
 /// Whether layout may begin here, as its first character shows.
 #[inline]
-fn begins_layout(text: &str, ignore_space: bool) -> bool
+pub(crate) fn begins_layout(text: &str, ignore_space: bool) -> bool
     ensures { result ≡ false → (n : ℕ) → spec.layout n ignore_space (chars text.now) ≡ rest (chars text.now) }
 {
     let Some((c, _)) = next(text) else {

@@ -21,10 +21,10 @@ mod trees;
 
 use crate::expr::Expr;
 use crate::grammar::ahead::is_end;
-use crate::grammar::atom::literal;
+use crate::grammar::atom::{leaf_node, literal};
 use crate::grammar::fault::general;
 use crate::grammar::frame::{Frame, Opener};
-use crate::grammar::plain::plain;
+use crate::grammar::plain::{plain, plain_escape};
 use crate::grammar::state::State;
 use crate::grammar::step::{Step, close, read_step};
 use crate::grammar::trees::add;
@@ -64,6 +64,10 @@ fn alternation<'a>(alloc: Global, start: State<'a>, end: usize) -> Result<(Expr,
     loop {
         if let Some((c, rest)) = plain(here) {
             let leaf = literal(alloc, c, here.flags.casei)?;
+            add(&mut trees, leaf)?;
+            here.rest = rest;
+        } else if let Some((escaped, rest)) = plain_escape(here) {
+            let leaf = leaf_node(alloc, escaped)?;
             add(&mut trees, leaf)?;
             here.rest = rest;
         } else if !is_end(here.rest) {

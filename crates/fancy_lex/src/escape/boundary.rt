@@ -1,17 +1,17 @@
 //! Word boundaries behind `\b` and `\B`.
-ghost use Rattle.std.specs.Prelude.{◌≡◌, ◌+◌, ◌^◌, ◌<◌, ◌≤◌, [], ◌∷◌, ◌++◌, true, length, chars, IfSome, IfErr, IfOk, MatchResult, option_map};
+ghost use Rattle.std.specs.Prelude.{◌≡◌, ℕ, ◌+◌, ◌^◌, ◌<◌, ◌≤◌, [], ◌∷◌, ◌++◌, true, length, chars, IfSome, IfErr, IfOk, MatchResult, option_map};
 ghost use Rattle.fancy_lex.specs.Boundary as spec;
 ghost use Rattle.fancy_lex.specs.Escaped.{Escape, escape_of};
 ghost use Rattle.fancy_lex.specs.Fault.{StandsWithin, invalid_escape};
 ghost use Rattle.fancy_lex.specs.FaultTable.{boundary_head, boundary_not_closed};
-ghost use Rattle.fancy_lex.specs.Reading.{Reading, Answers, Reports, Derives, fails, fault_at};
+ghost use Rattle.fancy_lex.specs.Reading.{Reading, Answers, Reports, Derives, gives, fails, fault_at};
 ghost use Rattle.fancy_lex.specs.BoundaryName as name_spec;
 ghost use Rattle.fancy_lex.specs.Text.{EndsWith, text_of};
 
 use crate::error::{Error, ParseError};
 use crate::escape::{Assertion, Escaped};
 use crate::flags::Flags;
-use crate::layout::{past_layout, skip};
+use crate::layout::{begins_layout, past_layout, skip};
 use crate::text::{after, append, next, push};
 use std::alloc::Global;
 
@@ -23,6 +23,25 @@ fn unnamed_boundary(negated: bool) -> Escaped<'static>
         Escaped::Assertion(Assertion::NotWordBoundary)
     } else {
         Escaped::Assertion(Assertion::WordBoundary)
+    }
+}
+
+/// The boundary that has no name, where the next character shows that no braces belong to it.
+#[inline]
+pub(crate) fn bare_boundary(
+    text: &str,
+    negated: bool,
+    ignore_space: bool,
+) -> Option<Escaped<'static>>
+    ensures { IfSome result (λ e. (n p : ℕ) →
+        spec.boundary n ignore_space p negated (chars text.now) ≡ gives (escape_of e) (chars text.now)) }
+{
+    if begins_layout(text, ignore_space) {
+        return None;
+    }
+    match after(text, '{') {
+        Some(_) => None,
+        None => Some(unnamed_boundary(negated)),
     }
 }
 

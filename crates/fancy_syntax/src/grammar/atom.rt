@@ -136,7 +136,8 @@ fn class_leaf(alloc: Global, here: &mut State, end: usize) -> Result<Expr, Error
 }
 
 /// The node of an escape's leaf.
-fn leaf_node(alloc: Global, leaf: Escaped) -> Result<Expr, AllocError>
+#[inline(always)]
+pub(crate) fn leaf_node(alloc: Global, leaf: Escaped) -> Result<Expr, AllocError>
     ensures { IfOk result (λ e. view e ≡ spec.leaf_node (escape_of leaf.entry)) }
 {
     match leaf {

@@ -1,21 +1,25 @@
-//! Plain characters, which most pieces are.
-ghost use Rattle.std.specs.Prelude.{◌≡◌, ◌<◌, ℕ, true, length, chars, IfSome};
+//! Plain characters and escapes of one character, which most pieces are.
+ghost use Rattle.std.specs.Prelude.{◌≡◌, ◌<◌, ℕ, true, [], ◌∷◌, length, chars, IfSome};
+ghost use Rattle.fancy_lex.specs.Escaped.{escape_of};
+ghost use Rattle.fancy_grammar.specs.Ahead.{leaf_node};
 ghost use Rattle.fancy_syntax.specs.Parsed.{state};
 ghost use Rattle.fancy_grammar.specs.Plain as spec;
 ghost use Rattle.fancy_grammar.specs.Plain.{IsPlain};
 ghost use Rattle.fancy_grammar.specs.Quantified.{quants};
 ghost use Rattle.fancy_grammar.specs.State.{done};
-ghost use Rattle.fancy_grammar.specs.Tree.{Tree};
+ghost use Rattle.fancy_grammar.specs.Tree.{Tree, literal};
 
 use crate::grammar::state::State;
+use fancy_lex::escape::{Escaped, short_escape};
 use fancy_lex::layout::is_layout;
-use fancy_lex::text::next;
+use fancy_lex::text::{after, next};
 
 /// The character at the front and what follows it, where one look ahead shows that it is a literal with no layout and
 /// no quantifier.
 #[inline]
 pub(crate) fn plain<'a>(here: State<'a>) -> Option<(char, &'a str)>
-    ensures plain { IfSome result (λ p. IsPlain (state here.entry) p.0 (chars p.1.now)) }
+    ensures plain { IfSome result (λ p. IsPlain (state here.entry)
+        (literal (p.0 ∷ []) here.entry.flags.casei) (chars p.1.now)) }
     ensures shorter { IfSome result (λ p. length p.1.now < length here.entry.rest.now) }
 {
     let (c, rest) = next(here.rest)?;
@@ -27,6 +31,25 @@ pub(crate) fn plain<'a>(here: State<'a>) -> Option<(char, &'a str)>
         return None;
     }
     Some((c, rest))
+}
+
+/// What the escape at the front stands for and what follows it, where one look ahead shows that it is a character alone,
+/// with no layout and no quantifier.
+#[inline(always)]
+pub(crate) fn plain_escape<'a>(here: State<'a>) -> Option<(Escaped<'static>, &'a str)>
+    ensures plain { IfSome result (λ p. IsPlain (state here.entry) (leaf_node (escape_of p.0)) (chars p.1.now)) }
+    ensures shorter { IfSome result (λ p. length p.1.now < length here.entry.rest.now) }
+{
+    let text = after(here.rest, '\\')?;
+    let (leaf, rest) = short_escape(text, here.flags)?;
+    let behind = State {
+        flags: here.flags,
+        rest,
+    };
+    if !is_unquantified(behind) {
+        return None;
+    }
+    Some((leaf, rest))
 }
 
 /// Whether one look ahead shows that no quantifier follows, and no layout before one.

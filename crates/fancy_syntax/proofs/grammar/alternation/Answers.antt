@@ -34,6 +34,16 @@ loop-c-preserved-in-Some c =
       within = omega (arith, c.loop-c.invariant.within, c.in-Some.ensures.shorter);
     }
 
+pub loop-c-preserved-in-Some-plain_escape : goal.loop-c-preserved-in-Some-plain_escape
+loop-c-preserved-in-Some-plain_escape c =
+    let plain = c.in-Some-plain_escape.ensures.plain in
+    record {
+      running = running_piece _ c.loop-c.invariant.running plain.more (plain.piece _ _)
+          (rw c.in_ok-leaf-2.ensures at c.in_ok-add-2.ensures);
+      depth = c.loop-c.invariant.depth;
+      within = omega (arith, c.loop-c.invariant.within, c.in-Some-plain_escape.ensures.shorter);
+    }
+
 pub returns-in_err-step-clause-value : goal.returns-in_err-step-clause-value
 returns-in_err-step-clause-value c =
     let n : c.len.result ≡ length c.loop-c.stack.items = omega (arith, c.len.ensures, c.loop-c.stack.ok.0) in
@@ -45,8 +55,8 @@ returns-in_err-step-clause-value c =
     (λ k p h. running_fault c.loop-c.invariant.running (sym c.if-not-is_end.ensures)
     (subst (λ d. Piece c.args.end d (state c.loop-c.here) (fault k p)) n h)) c.in_err-step.ensures.value)
 
-pub loop-c-preserved-in-Continue-branch-5 : goal.loop-c-preserved-in-Continue-branch-5
-loop-c-preserved-in-Continue-branch-5 c =
+pub loop-c-preserved-in-Continue-branch-7 : goal.loop-c-preserved-in-Continue-branch-7
+loop-c-preserved-in-Continue-branch-7 c =
     let n : c.len.result ≡ length c.loop-c.stack.items = omega (arith, c.len.ensures, c.loop-c.stack.ok.0) in
     let made = c.in_ok-step.step in
     let steps = subst (λ d. Steps c.args.end d (state c.loop-c.here) made (state c.read_step.new.here)) n
