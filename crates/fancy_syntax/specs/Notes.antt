@@ -1,12 +1,15 @@
 -- How the resolver's own values stand to the definitions.
-use Rattle.std.specs.Prelude.{ℕ, ◌||◌, Bool, true, false, List, [], ◌∷◌, Option, None, chars}
+use Rattle.std.specs.Prelude.{◌≡◌, ℕ, ◌||◌, Bool, true, false, List, [], ◌∷◌, Option, None, chars}
+use Rattle.std.specs.Prelude.{Result, MatchResult}
 use Rattle.fancy_lex.specs.Target.{view_target}
+use Rattle.fancy_lex.specs.declared.error.Error.{Error}
 use Rattle.fancy_lex.specs.declared.name.CaptureGroupTarget.{CaptureGroupTarget}
 use Rattle.fancy_parts.specs.Groups.{Groups, groups_of, meaning_of, role_of}
 use Rattle.fancy_parts.specs.Meaning.{fault_or}
 use Rattle.fancy_parts.specs.Written.{is_numeric}
 use Rattle.fancy_parts.specs.declared.ranks.Meaning.{Meaning}
 use Rattle.fancy_parts.specs.declared.ranks.Role.{Role}
+use Rattle.fancy_grammar.specs.Errors.{IsErrorIn}
 use Rattle.fancy_grammar.specs.Items.{Item}
 use Rattle.fancy_grammar.specs.Marks as spec
 use Rattle.fancy_grammar.specs.Walk as walk
@@ -32,6 +35,13 @@ progress_of p = record {
   self_recursive = p.self_recursive;
   fault = None;
 }
+
+-- the walk goes over the items to their end, and then P holds of the answer; or it stops at their first fault
+abbrev pub Walks : {A : Type 0} → Result A Error → walk.Known → walk.Progress → List Item → walk.Progress →
+    (A → Type 0) → Type 0
+Walks r k before l after P =
+    let end = walk.noted k before l in
+    MatchResult r (λ a. P a × (after ≡ end)) (λ e. IsErrorIn e end.fault)
 
 -- the number that a reference means to the walk, where it means one
 abbrev pub number_meant : Known → Progress → Role → CaptureGroupTarget → Option ℕ

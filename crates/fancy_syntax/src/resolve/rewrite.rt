@@ -5,10 +5,10 @@ ghost use Rattle.fancy_lex.specs.Target.{view_target};
 ghost use Rattle.fancy_parts.specs.declared.ranks.Role.TheVariants as does;
 ghost use Rattle.fancy_grammar.specs.Errors.{IsErrorIn};
 ghost use Rattle.fancy_grammar.specs.Items.{items, items_all, items_absent, items_ast, openings_in};
-ghost use Rattle.fancy_syntax.specs.Notes.{known_of, progress_of, noted_one};
+ghost use Rattle.fancy_syntax.specs.Notes.{Walks, known_of, progress_of, noted_one};
 ghost use Rattle.fancy_grammar.specs.Tree.{trees_of, ast_node, ast_backref, ast_call, ast_condition};
 ghost use Rattle.fancy_syntax.specs.View.{view, view_absent, view_ast, views};
-ghost use Rattle.fancy_grammar.specs.Walk.{noted, rebuilt, rebuilt_all, rebuilt_absent};
+ghost use Rattle.fancy_grammar.specs.Walk.{rebuilt, rebuilt_all, rebuilt_absent};
 
 use crate::expr::{Absent, AstNode, Expr};
 use crate::resolve::notes::{Known, Progress, refer};
@@ -22,14 +22,9 @@ use std::mem;
 #[cycle(rewrite)]
 pub(super) fn rewrite(tree: &mut Expr, known: &Known, progress: &mut Progress) -> Result<()>
     requires { progress.old.passed + length (openings_in (items (view tree.old))) < 2 ^ 63 }
-    ensures tree { IfOk result
+    ensures { Walks result (known_of known.now) (progress_of progress.old) (items (view tree.old))
+        (progress_of progress.new)
         (λ _. view tree.new ≡ rebuilt (known_of known.now) (progress_of progress.old) (view tree.old)) }
-    ensures progress { IfOk result
-        (λ _. progress_of progress.new
-        ≡ noted (known_of known.now) (progress_of progress.old) (items (view tree.old))) }
-    ensures fault { IfErr result
-        (λ e. IsErrorIn e
-        (noted (known_of known.now) (progress_of progress.old) (items (view tree.old))).fault) }
 {
     match tree {
         Expr::Concat(parts) => rewrite_all(parts, known, progress),
@@ -69,14 +64,9 @@ pub(super) fn rewrite(tree: &mut Expr, known: &Known, progress: &mut Progress) -
 #[inline(never)]
 fn resolve_node(node: AstNode, place: usize, known: &Known, progress: &mut Progress) -> Result<Expr>
     requires { progress.old.passed + length (openings_in (items_ast (view_ast node) place)) < 2 ^ 63 }
-    ensures tree { IfOk result
+    ensures { Walks result (known_of known.now) (progress_of progress.old) (items_ast (view_ast node) place)
+        (progress_of progress.new)
         (λ e. view e ≡ rebuilt (known_of known.now) (progress_of progress.old) (ast_node (view_ast node) place)) }
-    ensures progress { IfOk result
-        (λ _. progress_of progress.new
-        ≡ noted (known_of known.now) (progress_of progress.old) (items_ast (view_ast node) place)) }
-    ensures fault { IfErr result
-        (λ e. IsErrorIn e
-        (noted (known_of known.now) (progress_of progress.old) (items_ast (view_ast node) place)).fault) }
 {
     match node {
         AstNode::AstGroup { name, mut inner } => {
@@ -203,15 +193,10 @@ fn resolve_condition(
 #[inline(never)]
 fn rewrite_absent(absent: &mut Absent, known: &Known, progress: &mut Progress) -> Result<()>
     requires { progress.old.passed + length (openings_in (items_absent (view_absent absent.old))) < 2 ^ 63 }
-    ensures tree { IfOk result
+    ensures { Walks result (known_of known.now) (progress_of progress.old) (items_absent (view_absent absent.old))
+        (progress_of progress.new)
         (λ _. view_absent absent.new
         ≡ rebuilt_absent (known_of known.now) (progress_of progress.old) (view_absent absent.old)) }
-    ensures progress { IfOk result
-        (λ _. progress_of progress.new
-        ≡ noted (known_of known.now) (progress_of progress.old) (items_absent (view_absent absent.old))) }
-    ensures fault { IfErr result
-        (λ e. IsErrorIn e
-        (noted (known_of known.now) (progress_of progress.old) (items_absent (view_absent absent.old))).fault) }
 {
     match absent {
         Absent::Repeater(child) => rewrite_child(child, known, progress),
@@ -229,14 +214,9 @@ fn rewrite_absent(absent: &mut Absent, known: &Known, progress: &mut Progress) -
 #[inline(never)]
 fn rewrite_child(child: &mut Box<Expr>, known: &Known, progress: &mut Progress) -> Result<()>
     requires { progress.old.passed + length (openings_in (items (view child.old.value))) < 2 ^ 63 }
-    ensures tree { IfOk result
+    ensures { Walks result (known_of known.now) (progress_of progress.old) (items (view child.old.value))
+        (progress_of progress.new)
         (λ _. view child.new.value ≡ rebuilt (known_of known.now) (progress_of progress.old) (view child.old.value)) }
-    ensures progress { IfOk result
-        (λ _. progress_of progress.new
-        ≡ noted (known_of known.now) (progress_of progress.old) (items (view child.old.value))) }
-    ensures fault { IfErr result
-        (λ e. IsErrorIn e
-        (noted (known_of known.now) (progress_of progress.old) (items (view child.old.value))).fault) }
 {
     rewrite(&mut **child, known, progress)
 }
@@ -246,15 +226,10 @@ fn rewrite_child(child: &mut Box<Expr>, known: &Known, progress: &mut Progress) 
 #[inline(never)]
 fn rewrite_all(trees: &mut Vec<Expr>, known: &Known, progress: &mut Progress) -> Result<()>
     requires { progress.old.passed + length (openings_in (items_all (trees_of (views trees.old.items)))) < 2 ^ 63 }
-    ensures tree { IfOk result
+    ensures { Walks result (known_of known.now) (progress_of progress.old) (items_all (trees_of (views trees.old.items)))
+        (progress_of progress.new)
         (λ _. trees_of (views trees.new.items)
         ≡ rebuilt_all (known_of known.now) (progress_of progress.old) (trees_of (views trees.old.items))) }
-    ensures progress { IfOk result
-        (λ _. progress_of progress.new
-        ≡ noted (known_of known.now) (progress_of progress.old) (items_all (trees_of (views trees.old.items)))) }
-    ensures fault { IfErr result
-        (λ e. IsErrorIn e
-        (noted (known_of known.now) (progress_of progress.old) (items_all (trees_of (views trees.old.items)))).fault) }
 {
     for i in 0..trees.len() {
         if may_hold_items(&trees[i]) {

@@ -12,7 +12,7 @@ returns-clause-tree c =
     let t = view c.args.tree.now in let k = known_of c.args.known.now in
     elim c.if-met.branch [
       | then-met+in_ok-rewrite w ↦
-          ap view w.tree-is ∙ w.in_ok-rewrite.ensures.tree ∙ ap (λ s. rebuilt k s t) c.new-progress.ensures
+          ap view w.tree-is ∙ w.in_ok-rewrite.ensures.0 ∙ ap (λ s. rebuilt k s t) c.new-progress.ensures
       | else-met w ↦
           let none = no_items (items t) (sym c.requires.met ∙ w.if-met.false) in
           ap view w.tree-is ∙ sym (rebuilt_same k nothing_noted t none)

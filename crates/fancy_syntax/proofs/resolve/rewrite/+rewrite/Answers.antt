@@ -9,7 +9,8 @@ use Rattle.fancy_syntax.specs.declared.expr.Expr.{Expr, the_lemmas}
 use Rattle.fancy_syntax.proofs.NoItems.{rebuilt_same}
 use Rattle.fancy_syntax.proofs.PartLemmas.{two_parts, three_lent, two_count, three_count, two_noted, three_noted}
 use Rattle.fancy_syntax.proofs.PartLemmas.{third_noted, three_error, third_error}
-use Rattle.fancy_syntax.proofs.WalkLemmas.{noted_append, noted_le, error_kept, count_two, rest, rest_next, rebuilt_list}
+use Rattle.fancy_syntax.proofs.WalkLemmas.{noted_append, noted_le, error_kept, count_two, rest, rest_next, rest_none}
+use Rattle.fancy_syntax.proofs.WalkLemmas.{rebuilt_list}
 use Rattle.fancy_syntax.proofs.WalkLemmas.{front_rebuilt, rest_rebuilt, all_rebuilt}
 use Rattle.fancy_syntax.proofs.resolve.rewrite.+rewrite.Goals as goal
 use Rattle.fancy_syntax.proofs.resolve.rewrite.+rewrite.Goals.{rewrite_all-then-may_hold_items+in_ok-rewrite}
@@ -27,7 +28,7 @@ rewrite-rewrite_child-requires-in-Conditional-2 t c =
     let is = c.in-Conditional in
     let parts = three_lent is.is is.condition-is is.true_branch-is is.false_branch-is in
     let first = c.in_ok-rewrite_child-in-Conditional.ensures in
-    let room = three_noted (known_of c.args.known.now) _ _ parts first.progress in
+    let room = three_noted (known_of c.args.known.now) _ _ parts first.1 in
     (search (rules, the_lemmas), omega arith)
 
 pub rewrite-rewrite_child-requires-in-Conditional-3 : goal.rewrite-rewrite_child-requires-in-Conditional-3
@@ -36,7 +37,7 @@ rewrite-rewrite_child-requires-in-Conditional-3 t c =
     let parts = three_lent is.is is.condition-is is.true_branch-is is.false_branch-is in
     let first = c.in_ok-rewrite_child-in-Conditional.ensures in let second =
     c.in_ok-rewrite_child-in-Conditional-2.ensures in
-    let room = third_noted (known_of c.args.known.now) _ _ _ parts first.progress second.progress in
+    let room = third_noted (known_of c.args.known.now) _ _ _ parts first.1 second.1 in
     (search (rules, the_lemmas), omega arith)
 
 pub rewrite_absent-rewrite_child-requires-in-Expression : goal.rewrite_absent-rewrite_child-requires-in-Expression
@@ -48,7 +49,7 @@ rewrite_absent-rewrite_child-requires-in-Expression t c =
 pub rewrite_absent-rewrite_child-requires-in-Expression-2 : goal.rewrite_absent-rewrite_child-requires-in-Expression-2
 rewrite_absent-rewrite_child-requires-in-Expression-2 t c =
     let parts = two_parts c.in-Expression.is refl refl in
-    let room = two_noted (known_of c.args.known.now) _ _ parts c.in_ok-rewrite_child-in-Expression.ensures.progress in
+    let room = two_noted (known_of c.args.known.now) _ _ parts c.in_ok-rewrite_child-in-Expression.ensures.1 in
     (search (rules, the_lemmas), omega arith)
 
 pub rewrite_all-rewrite-requires : goal.rewrite_all-rewrite-requires
@@ -84,19 +85,19 @@ rewrite_all-loop-i-preserved t c =
               λ j d h.
                   let apart : j ≢ i = omega arith in rw get_or-set_other (c.loop-i.invariant.0.1 j d (omega arith)),
             ),
-            rw now_is.progress
+            rw now_is.1
                 (sym (noted_append k s (items (view e)) (rest es (i + 1))) ∙ ap (noted k s) (sym step)
                 ∙ c.loop-i.invariant.1),
-            let passed = noted_le k s (progress_of w.rewrite.new.progress) (items (view e)) now_is.progress in
+            let passed = noted_le k s (progress_of w.rewrite.new.progress) (items (view e)) now_is.1 in
                 omega (
                   arith,
                   count_two (rest es i) (items (view e)) (rest es (i + 1)) step,
                   passed,
                   c.loop-i.invariant.2,
                 ),
-            front_rebuilt k s es now all i e w.rewrite.new.tree lengths below tree now_is.tree c.loop-i.invariant.3
+            front_rebuilt k s es now all i e w.rewrite.new.tree lengths below tree now_is.0 c.loop-i.invariant.3
                 c.loop-i.invariant.4,
-            rest_rebuilt k s (progress_of w.rewrite.new.progress) es all i e below tree now_is.progress
+            rest_rebuilt k s (progress_of w.rewrite.new.progress) es all i e below tree now_is.1
                 c.loop-i.invariant.4,
           )
       | rewrite_all-else-may_hold_items w ↦
@@ -117,48 +118,51 @@ rewrite_all-loop-i-preserved t c =
           )
     ]
 
-pub rewrite_all-returns-clause-tree : goal.rewrite_all-returns-clause-tree
-rewrite_all-returns-clause-tree t c =
-    all_rebuilt (known_of c.args.known.now)
-    (progress_of c.args.progress.now) c.args.trees.now.items c.loop-i.trees.items c.loop-i.i c.loop-i.invariant.0.0
-    (omega arith) c.loop-i.invariant.3
+pub rewrite_all-returns : goal.rewrite_all-returns
+rewrite_all-returns t c =
+    let k = known_of c.args.known.now in let s = progress_of c.args.progress.now in
+    let p = progress_of c.loop-i.progress in
+    let es = c.args.trees.now.items in let i = c.loop-i.i in (
+      all_rebuilt k s es c.loop-i.trees.items i c.loop-i.invariant.0.0 (omega arith) c.loop-i.invariant.3,
+      ap (noted k p) (sym (rest_none es i (omega arith))) ∙ c.loop-i.invariant.1,
+    )
 
 -- the walk stops at the first fault, which is that of the walk over all the parts
 
-pub rewrite-returns-in_err-rewrite_child-in-Conditional-clause-fault :
-    goal.rewrite-returns-in_err-rewrite_child-in-Conditional-clause-fault
-rewrite-returns-in_err-rewrite_child-in-Conditional-clause-fault t c =
+pub rewrite-returns-in_err-rewrite_child-in-Conditional :
+    goal.rewrite-returns-in_err-rewrite_child-in-Conditional
+rewrite-returns-in_err-rewrite_child-in-Conditional t c =
     let is = c.in-Conditional in
     let parts = three_lent is.is is.condition-is is.true_branch-is is.false_branch-is in
-    let fault = c.in_err-rewrite_child-in-Conditional.ensures.fault in
+    let fault = c.in_err-rewrite_child-in-Conditional.ensures in
     let kept = three_error (known_of c.args.known.now) (progress_of c.args.progress.now) _ parts fault in
     search rules
 
-pub rewrite-returns-in_err-rewrite_child-in-Conditional-2-clause-fault :
-    goal.rewrite-returns-in_err-rewrite_child-in-Conditional-2-clause-fault
-rewrite-returns-in_err-rewrite_child-in-Conditional-2-clause-fault t c =
+pub rewrite-returns-in_err-rewrite_child-in-Conditional-2 :
+    goal.rewrite-returns-in_err-rewrite_child-in-Conditional-2
+rewrite-returns-in_err-rewrite_child-in-Conditional-2 t c =
     let is = c.in-Conditional in
     let parts = three_lent is.is is.condition-is is.true_branch-is is.false_branch-is in
     let first = c.in_ok-rewrite_child-in-Conditional.ensures in
-    let fault = c.in_err-rewrite_child-in-Conditional-2.ensures.fault in
-    let kept = third_error (known_of c.args.known.now) _ _ _ parts first.progress fault in
+    let fault = c.in_err-rewrite_child-in-Conditional-2.ensures in
+    let kept = third_error (known_of c.args.known.now) _ _ _ parts first.1 fault in
     search rules
 
-pub rewrite_absent-returns-in_err-rewrite_child-in-Expression-clause-fault :
-    goal.rewrite_absent-returns-in_err-rewrite_child-in-Expression-clause-fault
-rewrite_absent-returns-in_err-rewrite_child-in-Expression-clause-fault t c =
+pub rewrite_absent-returns-in_err-rewrite_child-in-Expression :
+    goal.rewrite_absent-returns-in_err-rewrite_child-in-Expression
+rewrite_absent-returns-in_err-rewrite_child-in-Expression t c =
     let is = c.in-Expression in let s = progress_of c.args.progress.now in
     let kept = error_kept (known_of c.args.known.now) s _ (items (view is.absent.value)) (items (view is.exp.value))
-    c.in_err-rewrite_child-in-Expression.ensures.fault in
+    c.in_err-rewrite_child-in-Expression.ensures in
     search (rules, the_lemmas)
 
-pub rewrite_all-returns-in_err-rewrite-clause-fault : goal.rewrite_all-returns-in_err-rewrite-clause-fault
-rewrite_all-returns-in_err-rewrite-clause-fault t c =
+pub rewrite_all-returns-in_err-rewrite : goal.rewrite_all-returns-in_err-rewrite
+rewrite_all-returns-in_err-rewrite t c =
     let k = known_of c.args.known.now in let s = progress_of c.loop-i.progress in
     let es = c.args.trees.now.items in let i = c.loop-i.i in let e = c.index_mut.result.now in
     let same = c.loop-i.invariant.0.1 i e (omega arith) in
     let tree : e ≡ get_or es i e = cc in
     let step : rest es i ≡ items (view e) ++ rest es (i + 1) = rest_next es i e (omega arith) tree in
-    let kept = error_kept k s _ (items (view e)) (rest es (i + 1)) c.in_err-rewrite.ensures.fault in
+    let kept = error_kept k s _ (items (view e)) (rest es (i + 1)) c.in_err-rewrite.ensures in
     let all = rw (← step, c.loop-i.invariant.1) at kept in
     search rules
