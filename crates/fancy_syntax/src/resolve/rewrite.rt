@@ -226,8 +226,8 @@ fn rewrite_child(child: &mut Box<Expr>, known: &Known, progress: &mut Progress) 
 #[inline(never)]
 fn rewrite_all(trees: &mut Vec<Expr>, known: &Known, progress: &mut Progress) -> Result<()>
     requires { progress.old.passed + length (openings_in (items_all (trees_of (views trees.old.items)))) < 2 ^ 63 }
-    ensures { Walks result (known_of known.now) (progress_of progress.old) (items_all (trees_of (views trees.old.items)))
-        (progress_of progress.new)
+    ensures { Walks result (known_of known.now) (progress_of progress.old)
+        (items_all (trees_of (views trees.old.items))) (progress_of progress.new)
         (λ _. trees_of (views trees.new.items)
         ≡ rebuilt_all (known_of known.now) (progress_of progress.old) (trees_of (views trees.old.items))) }
 {
