@@ -1,6 +1,8 @@
-mod MarkLemmas
-mod NodeLemmas
-mod NodesLemmas
+-- ---- what is read, and the texts of its nodes
 mod ReadLemmas
-mod RowLemmas
 mod TextLemmas
+mod NodeLemmas
+-- ---- a tree and its marks in the buffers
+mod RowLemmas
+mod MarkLemmas
+mod NodesLemmas

@@ -8,7 +8,7 @@ use Rattle.std.proofs.Math.Seq.{paste}
 use Rattle.fancy_lex.specs.Text.{Text}
 use Rattle.fancy_parts.specs.Room.{in_word}
 use Rattle.fancy_c.specs.Buffer.{put_at}
-use Rattle.fancy_c.specs.Marks.{numbered, name_rows, name_texts}
+use Rattle.fancy_c.specs.Marks.{rows_of_name, name_rows, name_texts}
 use Rattle.fancy_c.specs.declared.marks.Name.{Name}
 use Rattle.fancy_c.proofs.RowLemmas.{put_is, put_more, put_none, put_length}
 
@@ -16,13 +16,14 @@ use Rattle.fancy_c.proofs.RowLemmas.{put_is, put_more, put_none, put_length}
 
 pub number_put : (names : List Name) (first o n : ℕ) (ks : List ℕ) (i : ℕ) → first + length ks ≤ length names →
     i < length ks
-    → set (paste names first (numbered o n ks) i) (first + i) (record { text = o; size = n; number = get_or ks i 0 })
-    ≡ paste names first (numbered o n ks) (i + 1)
+    → set (paste names first (rows_of_name o n ks) i) (first + i)
+    (record { text = o; size = n; number = get_or ks i 0 })
+    ≡ paste names first (rows_of_name o n ks) (i + 1)
 number_put names first o n ks i room here =
     let row : ℕ → Name = λ j. record { text = o; size = n; number = j } in
     let size = length-map ks row in
-    ap (λ r. set (paste names first (numbered o n ks) i) (first + i) r) (sym (get_or-map row ks i 0 (row 0) here))
-    ∙ paste_more names first (numbered o n ks) i (row 0) (omega arith) (omega (arith, size))
+    ap (λ r. set (paste names first (rows_of_name o n ks) i) (first + i) r) (sym (get_or-map row ks i 0 (row 0) here))
+    ∙ paste_more names first (rows_of_name o n ks) i (row 0) (omega arith) (omega (arith, size))
 
 -- ---- an item written before the rest
 
@@ -38,16 +39,16 @@ item_put d i x rest room =
 
 -- ---- names
 
-pub numbered_length : (o n : ℕ) (ks : List ℕ) → length (numbered o n ks) ≡ length ks
-numbered_length o n ks = let row : ℕ → Name = λ k. record { text = o; size = n; number = k } in length-map ks row
+pub rows_of_name_length : (o n : ℕ) (ks : List ℕ) → length (rows_of_name o n ks) ≡ length ks
+rows_of_name_length o n ks = let row : ℕ → Name = λ k. record { text = o; size = n; number = k } in length-map ks row
 
 pub names_length : (o p : ℕ) (l : List (Text × List ℕ)) → length (name_rows o l) ≡ length (name_rows p l)
 names_length o p [] = refl
 names_length o p ((w, ks) ∷ l) =
     let n = length (encode_utf8_all w) in
-    let left = length-append (numbered o n ks) (name_rows (o + n) l) in
-    let right = length-append (numbered p n ks) (name_rows (p + n) l) in
-    omega (arith, left, right, numbered_length o n ks, numbered_length p n ks, names_length (o + n) (p + n) l)
+    let left = length-append (rows_of_name o n ks) (name_rows (o + n) l) in
+    let right = length-append (rows_of_name p n ks) (name_rows (p + n) l) in
+    omega (arith, left, right, rows_of_name_length o n ks, rows_of_name_length p n ks, names_length (o + n) (p + n) l)
 
 -- a count that comes to that of all behind the first, with that of the rest behind it
 pub record CountingNames (n₀ o₀ n o : ℕ) (all rest : List (Text × List ℕ)) : Type 0 where
@@ -76,10 +77,10 @@ pub names_count_next : {n₀ o₀ n o : ℕ} {all rest : List (Text × List ℕ)
     → CountingNames n₀ o₀ n' o' all more
 names_count_next n' o' w ks more c is at_n at_o =
     let m = length (encode_utf8_all w) in
-    let rows = ap (λ l. length (name_rows 0 l)) is ∙ length-append (numbered 0 m ks) (name_rows (0 + m) more) in
+    let rows = ap (λ l. length (name_rows 0 l)) is ∙ length-append (rows_of_name 0 m ks) (name_rows (0 + m) more) in
     let text = ap (λ l. length (name_texts l)) is ∙ length-append (encode_utf8_all w) (name_texts more) in
     record {
-      rows = omega (arith, c.rows, at_n, rows, numbered_length 0 m ks, names_length (0 + m) 0 more);
+      rows = omega (arith, c.rows, at_n, rows, rows_of_name_length 0 m ks, names_length (0 + m) 0 more);
       text = omega (arith, c.text, at_o, text);
       rows_fit = omega (arith, at_n);
       text_fits = omega (arith, at_o);
@@ -104,20 +105,21 @@ pub name_room : {names₀ names : List Name} {bytes₀ bytes : List ℕ} {n₀ o
     → (n + length ks ≤ length names) × (o + length (encode_utf8_all w) ≤ length bytes)
 name_room {o = o} w ks more is p =
     let m = length (encode_utf8_all w) in
-    let rows = ap (λ l. length (name_rows o l)) is ∙ length-append (numbered o m ks) (name_rows (o + m) more) in
+    let rows = ap (λ l. length (name_rows o l)) is ∙ length-append (rows_of_name o m ks) (name_rows (o + m) more) in
     let text = ap (λ l. length (name_texts l)) is ∙ length-append (encode_utf8_all w) (name_texts more) in
-    (omega (arith, p.names_room, rows, numbered_length o m ks), omega (arith, p.bytes_room, text))
+    (omega (arith, p.names_room, rows, rows_of_name_length o m ks), omega (arith, p.bytes_room, text))
 
 pub names_next : (names₀ names names' : List Name) (bytes₀ bytes bytes' : List ℕ) (n₀ o₀ n o n' o' : ℕ)
     (all rest : List (Text × List ℕ)) (w : Text) (ks : List ℕ) (more : List (Text × List ℕ))
     → PuttingNames names₀ names bytes₀ bytes n₀ o₀ n o all rest → rest ≡ (w, ks) ∷ more → n' ≡ n + length ks →
     o' ≡ o + length (encode_utf8_all w)
-    → names' ≡ put_at names n (numbered o (length (encode_utf8_all w)) ks) → bytes' ≡ put_at bytes o (encode_utf8_all w)
+    → names' ≡ put_at names n (rows_of_name o (length (encode_utf8_all w)) ks)
+    → bytes' ≡ put_at bytes o (encode_utf8_all w)
     → PuttingNames names₀ names' bytes₀ bytes' n₀ o₀ n' o' all more
 names_next names₀ names names' bytes₀ bytes bytes' n₀ o₀ n o n' o' all rest w ks more p is at_n at_o put_n put_o =
     let m = length (encode_utf8_all w) in
-    let here = numbered o m ks in
-    let size = numbered_length o m ks in
+    let here = rows_of_name o m ks in
+    let size = rows_of_name_length o m ks in
     let rows = ap (λ l. length (name_rows o l)) is ∙ length-append here (name_rows (o + m) more) in
     let text = ap (λ l. length (name_texts l)) is ∙ length-append (encode_utf8_all w) (name_texts more) in
     let fits_n : n + length here ≤ length names = omega (arith, p.names_room, rows) in

@@ -14,8 +14,8 @@ use Rattle.fancy_c.specs.declared.node.Node.{Node}
 use Rattle.fancy_c.specs.declared.marks.TreeMarks.{TreeMarks}
 
 -- the rows of a name that stands at the byte o and has n bytes: one for each of its numbers
-abbrev pub numbered : ℕ → ℕ → List ℕ → List Name
-numbered o n ks = map (λ k. record { text = o; size = n; number = k }) ks
+abbrev pub rows_of_name : ℕ → ℕ → List ℕ → List Name
+rows_of_name o n ks = map (λ k. record { text = o; size = n; number = k }) ks
 
 -- the names, one behind the other
 abbrev pub name_texts : List (Text × List ℕ) → List ℕ
@@ -26,7 +26,7 @@ name_texts ((w, ks) ∷ l) = encode_utf8_all w ++ name_texts l
 abbrev pub name_rows : ℕ → List (Text × List ℕ) → List Name
 name_rows o [] = []
 name_rows o ((w, ks) ∷ l) =
-    numbered o (length (encode_utf8_all w)) ks ++ name_rows (o + length (encode_utf8_all w)) l
+    rows_of_name o (length (encode_utf8_all w)) ks ++ name_rows (o + length (encode_utf8_all w)) l
 
 -- the bytes of a tree's texts, and the names of its groups behind them
 abbrev pub all_texts : Tree → Marks → List ℕ

@@ -148,7 +148,8 @@ row s (ast_node node place) = row_of_read s node place
 
 -- ---- the rows of a tree
 
--- the nodes in preorder: each before those that stand in it, in text order
+-- The nodes of an answered tree in preorder: each before those that stand in it, in text order. No such tree holds a
+-- group that is not resolved, so that one has no case here, as it has in `preorder`.
 abbrev mutual
   pub listed : Tree → List Tree
   listed (concat ts) = concat ts ∷ listed_all ts

@@ -1,5 +1,5 @@
-//! Patterns for callers in C: each function that C calls reads a pattern anew, keeps nothing, and writes into buffers that
-//! are lent to it.
+//! Patterns for callers in C: each function that C calls reads a pattern anew, keeps nothing, and writes into buffers
+//! that are lent to it.
 #![tactic(auto)]
 
 pub mod answer;

@@ -3,7 +3,7 @@ ghost use Rattle.std.specs.Prelude.{◌≡◌, ◌+◌, ◌≤◌, length, map};
 ghost use Rattle.fancy_parts.specs.Groups.{entry_of};
 ghost use Rattle.fancy_parts.specs.Room.{in_word};
 ghost use Rattle.fancy_c.specs.Buffer.{put_at};
-ghost use Rattle.fancy_c.specs.Marks.{numbered, name_rows, name_texts};
+ghost use Rattle.fancy_c.specs.Marks.{rows_of_name, name_rows, name_texts};
 
 use crate::rows::{Counts, put_text};
 use std::collections::{BTreeMap, BTreeSet};
@@ -73,7 +73,7 @@ fn put_numbers(
 ) -> usize
     requires { first + length numbers.now ≤ length names.old }
     ensures behind { result ≡ first + length numbers.now }
-    ensures put { names.new ≡ put_at names.old first (numbered text size numbers.now) }
+    ensures put { names.new ≡ put_at names.old first (rows_of_name text size numbers.now) }
 {
     for (i, number) in numbers.iter().enumerate() {
         names[first + i] = Name {

@@ -20,7 +20,8 @@ fn words(alloc: Global, kind: &ParseError) -> Result<String, AllocError>
     format!(in alloc; "{kind}")
 }
 
-/// Writes the words of the fault at the front of the buffer, where they fit: the answer is then `REFUSED`, and else `SHORT`.
+/// Writes the words of the fault at the front of the buffer, where they fit: the answer is then `REFUSED`, and else
+/// `SHORT`.
 fn tell(alloc: Global, place: usize, kind: &ParseError, buffer: &mut [u8]) -> Answer
     ensures told { result.answer ≢ NO_MEMORY → IsTold result place (kind_of kind.now) }
     ensures refused { result.answer ≡ REFUSED → Fills buffer.old buffer.new (kind_text (kind_of kind.now)) }
@@ -50,9 +51,9 @@ fn tell(alloc: Global, place: usize, kind: &ParseError, buffer: &mut [u8]) -> An
     }
 }
 
-/// Reads a pattern as `fancy_read` does, and where it is refused writes the words of its fault at the front of `buffer`,
-/// without its place. The answer is that of `fancy_read`, with the size of the words in bytes, but `SHORT` where they do
-/// not fit. Where it is another than `REFUSED`, nothing is written.
+/// Reads a pattern as `fancy_read` does, and where it is refused writes the words of its fault at the front of
+/// `buffer`, without its place. The answer is that of `fancy_read`, with the size of the words in bytes, but `SHORT`
+/// where they do not fit. Where it is another than `REFUSED`, nothing is written.
 #[unsafe(no_mangle)]
 pub extern "C" fn fancy_message(
     alloc: Global,

@@ -157,6 +157,7 @@ pub(crate) struct Stand {
     pub(crate) text: usize,
 }
 
+/// The number of the assertion.
 fn assertion_number(assertion: Assertion) -> u32
     ensures { result ≡ spec.assertion_number assertion }
 {
@@ -176,6 +177,7 @@ fn assertion_number(assertion: Assertion) -> u32
     }
 }
 
+/// Whether the assertion takes CR LF for one line break; no where it does not ask for line breaks.
 fn has_crlf(assertion: Assertion) -> bool
     ensures { result ≡ spec.has_crlf assertion }
 {
@@ -188,6 +190,7 @@ fn has_crlf(assertion: Assertion) -> bool
     }
 }
 
+/// The number of what a look-around asks for.
 fn look_around_number(look_around: LookAround) -> u32
     ensures { result ≡ spec.look_around_number look_around }
 {
@@ -199,6 +202,7 @@ fn look_around_number(look_around: LookAround) -> u32
     }
 }
 
+/// The number of the verb.
 fn verb_number(verb: BacktrackingControlVerb) -> u32
     ensures { result ≡ spec.verb_number verb }
 {
@@ -211,6 +215,7 @@ fn verb_number(verb: BacktrackingControlVerb) -> u32
     }
 }
 
+/// The number of the absent form.
 fn absent_number(absent: &Absent) -> u32
     ensures { result ≡ spec.absent_number (view_absent absent.now) }
 {

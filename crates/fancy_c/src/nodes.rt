@@ -125,12 +125,12 @@ fn tell(
     }
 }
 
-/// Reads a pattern as `fancy_read` does, and tells in `marks` how much room its tree asks for and what is said of it. Where
-/// all of it fits, the answer is `READ`, and at the front of each buffer stand: the tree's nodes in preorder; the texts of
-/// the nodes, and the names of the groups behind them; for each name in byte order its numbers, ascending; and the numbers
-/// of the back references, ascending. Where something does not fit, the answer is `SHORT`, and none of them is written. A
-/// pattern of n bytes has at most 2 n + 1 nodes. For a pattern without a tree the answer is that of `fancy_read`, and
-/// nothing is written.
+/// Reads a pattern as `fancy_read` does, and tells in `marks` how much room its tree asks for and what is said of it.
+/// Where all of it fits, the answer is `READ`, and at the front of each buffer stand: the tree's nodes in preorder; the
+/// texts of the nodes, and the names of the groups behind them; for each name in byte order its numbers, ascending; and
+/// the numbers of the back references, ascending. Where something does not fit, the answer is `SHORT`, and none of them
+/// is written. A pattern of n bytes has at most 2 n + 1 nodes. For a pattern without a tree the answer is that of
+/// `fancy_read`, and nothing is written.
 #[unsafe(no_mangle)]
 pub extern "C" fn fancy_nodes(
     alloc: Global,
@@ -144,7 +144,8 @@ pub extern "C" fn fancy_nodes(
 ) -> Answer
     ensures read { result.answer ≡ READ → (t : Tree) × (m : Marks) × IsToldOf marks.new (flags_of flags) pattern.now t m
         × AreWritten t m nodes.old nodes.new texts.old texts.new names.old names.new backrefs.old backrefs.new }
-    ensures short { result.answer ≡ SHORT → (t : Tree) × (m : Marks) × IsToldOf marks.new (flags_of flags) pattern.now t m
+    ensures short { result.answer ≡ SHORT →
+        (t : Tree) × (m : Marks) × IsToldOf marks.new (flags_of flags) pattern.now t m
         × ((length nodes.old < marks.new.nodes) ⊎ ((length texts.old < marks.new.texts)
         ⊎ ((length names.old < marks.new.names) ⊎ (length backrefs.old < marks.new.backrefs)))) }
     ensures refused { result.answer ≡ REFUSED → (k : Kind) × (result.kind ≡ number_of_kind k)

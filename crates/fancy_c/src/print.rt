@@ -28,7 +28,8 @@ fn text_of(alloc: Global, tree: &Expr, precedence: u8) -> Result<Option<String>,
 fn print(alloc: Global, tree: &Expr, precedence: u8, buffer: &mut [u8]) -> Answer
     ensures read { result.answer ≡ READ → (w : List ℕ) × IsText (view tree.now) precedence w × (result.size ≡ length w)
         × Fills buffer.old buffer.new w }
-    ensures short { result.answer ≡ SHORT → (w : List ℕ) × IsText (view tree.now) precedence w × (result.size ≡ length w)
+    ensures short { result.answer ≡ SHORT →
+        (w : List ℕ) × IsText (view tree.now) precedence w × (result.size ≡ length w)
         × (length buffer.old < length w) }
     ensures not_printable { result.answer ≡ NOT_PRINTABLE → printable (view tree.now) ≡ false }
     ensures kept { result.answer ≢ READ → buffer.new ≡ buffer.old }
@@ -64,9 +65,9 @@ fn print(alloc: Global, tree: &Expr, precedence: u8, buffer: &mut [u8]) -> Answe
     }
 }
 
-/// Reads a pattern as `fancy_read` does, and writes its text at a precedence at the front of `buffer`. The answer is `READ`,
-/// with the size of the text in bytes, but `SHORT` where it does not fit, and `NOT_PRINTABLE` where the tree is not
-/// printable; for a pattern without a tree it is that of `fancy_read`. Where it is another than `READ`, nothing is
+/// Reads a pattern as `fancy_read` does, and writes its text at a precedence at the front of `buffer`. The answer is
+/// `READ`, with the size of the text in bytes, but `SHORT` where it does not fit, and `NOT_PRINTABLE` where the tree is
+/// not printable; for a pattern without a tree it is that of `fancy_read`. Where it is another than `READ`, nothing is
 /// written. Above precedence 0 an `Alt`, above 1 a `Concat` and above 2 a `Repeat` stands in a group of its own.
 #[unsafe(no_mangle)]
 pub extern "C" fn fancy_print(

@@ -66,9 +66,9 @@ pub(crate) fn read(alloc: Global, pattern: &[u8], flags: u32) -> Result<ExprTree
     }
 }
 
-/// Reads the bytes at `pattern` as a pattern, under the flags whose bits are set. The answer is `READ`; `REFUSED`, with the
-/// kind and the place of the pattern's only fault; `NO_UTF8`, with the length of the longest front that is UTF-8; or
-/// `NO_MEMORY`. The size is 0.
+/// Reads the bytes at `pattern` as a pattern, under the flags whose bits are set. The answer is `READ`; `REFUSED`, with
+/// the kind and the place of the pattern's only fault; `NO_UTF8`, with the length of the longest front that is UTF-8;
+/// or `NO_MEMORY`. The size is 0.
 #[unsafe(no_mangle)]
 pub extern "C" fn fancy_read(alloc: Global, pattern: &[u8], flags: u32) -> Answer
     ensures read { result.answer ≡ READ → (t : Tree) × (m : Marks) × IsTreeOfBytes (flags_of flags) pattern.now t m }

@@ -7,7 +7,7 @@ use Rattle.std.proofs.lemmas.Bool.Decides.{nat_tests}
 use Prim.Native.Char.{code}
 use Rattle.fancy_lex.specs.Fault.{target_not_repeatable}
 use Rattle.fancy_lex.specs.FaultTable.{group_too_deep}
-use Rattle.fancy_lex.specs.Layout.{layout, layout_from, Skipped, rest, fault as open_comment}
+use Rattle.fancy_lex.specs.LayoutSteps.{layout, layout_from, Skipped, rest, fault as open_comment}
 use Rattle.fancy_lex.specs.Reading.{Reading, gives, fails, choose}
 use Rattle.fancy_lex.specs.Referred.{Reference}
 use Rattle.fancy_lex.specs.Text.{Text, bytes, place_of, strip_word}
@@ -17,7 +17,8 @@ use Rattle.fancy_parts.specs.Quantifier.{counts, as_mark, most}
 use Rattle.fancy_parts.specs.declared.counts.Counts.{Counts}
 use Rattle.fancy_grammar.specs.Ahead.{Ahead, nothing, leaf, with_head, condition, body, ahead, ahead_of}
 use Rattle.fancy_grammar.specs.Ahead.{group_ahead, behind_question, condition_ahead, repeater_ahead, verb_ahead}
-use Rattle.fancy_grammar.specs.Ahead.{verb_condition, named_ahead, target_ahead, flags_ahead, behind_layout, faulty}
+use Rattle.fancy_grammar.specs.Ahead.{verb_condition, named_ahead, target_ahead, flags_ahead, behind_layout}
+use Rattle.fancy_grammar.specs.Ahead.{fault_ahead}
 use Rattle.fancy_grammar.specs.Ahead.{leaf_of, is_before_nothing}
 use Rattle.fancy_grammar.specs.Depth.{max_depth}
 use Rattle.fancy_grammar.specs.Head.{Head, define}
@@ -109,7 +110,7 @@ behind_there n s (rest u) = group_there n s u
 behind_there n s (open_comment p) = leaf_there _
 
 deep_there : (n d c : ℕ) (s : State) (t : Text) →
-    IsThere (if nat_le max_depth (d + 1) then faulty (group_too_deep n (c ∷ t)) else behind_layout n s
+    IsThere (if nat_le max_depth (d + 1) then fault_ahead (group_too_deep n (c ∷ t)) else behind_layout n s
     (skipped n (at s t)))
 deep_there n d c s t = either_there (nat_le max_depth (d + 1)) (leaf_there _) (behind_there n s (skipped n (at s t)))
 

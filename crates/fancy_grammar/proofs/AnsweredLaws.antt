@@ -16,7 +16,7 @@ use Rattle.fancy_grammar.specs.Answer.{IsTreeOf}
 use Rattle.fancy_grammar.specs.Answered.{IsAnsweredNode, IsAnswered, IsAnsweredWith, AreNamed, is_group, groups}
 use Rattle.fancy_grammar.specs.Answered.{is_call_node, has_call, group_referred, groups_referred, numbered_in}
 use Rattle.fancy_grammar.specs.Answered.{numbered_groups, HasGroupsOf}
-use Rattle.fancy_grammar.specs.Grammar.{Derives}
+use Rattle.fancy_grammar.specs.Grammar.{DerivesTree}
 use Rattle.fancy_grammar.specs.Items.{openings_in, references_in, openings, references}
 use Rattle.fancy_grammar.specs.Marks.{Marks, marks, is_call, back_number, back_numbers, ascending}
 use Rattle.fancy_grammar.specs.Preorder.{preorder}
@@ -354,7 +354,7 @@ module _ {f : Flags} {text : Text} {t : Tree} {m : Marks} (a : IsTreeOf f text t
   }
 
   -- the Groups are those of the one raw tree of the text
-  pub groups_of_raw : (r : Tree) → Derives f text r → HasGroupsOf f r t
+  pub groups_of_raw : (r : Tree) → DerivesTree f text r → HasGroupsOf f r t
   groups_of_raw r b =
       subst (λ q. HasGroupsOf f q t) (sym (same_tree a.1 b))
       (record { in_order = openings_in_order; insides = groups_in_order })

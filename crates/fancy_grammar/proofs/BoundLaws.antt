@@ -9,7 +9,7 @@ use Rattle.std.specs.Str.{IsUtf8}
 use Prim.Native.Char.{code}
 use Rattle.fancy_lex.proofs.TextLemmas.{bytes_chars, strip_is}
 use Rattle.fancy_lex.specs.Characters.{bar}
-use Rattle.fancy_lex.specs.Layout.{Skipped, rest, fault as open_comment}
+use Rattle.fancy_lex.specs.LayoutSteps.{Skipped, rest, fault as open_comment}
 use Rattle.fancy_lex.specs.Text.{Text, bytes, place_of, strip}
 use Rattle.fancy_lex.specs.declared.flags.Flags.{Flags}
 use Rattle.fancy_parts.specs.Quantifier.{counts}

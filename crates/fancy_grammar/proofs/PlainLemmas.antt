@@ -3,7 +3,8 @@ use Rattle.std.proofs.Common.{◌≡◌, if◌then◌else◌, zero, suc, ℕ, Bo
 use Rattle.std.proofs.Common.{subst, ◌∙◌, ap, arith, tests, rules}
 use Rattle.std.proofs.lemmas.Bool.Decides.{nat_tests}
 use Prim.Native.Char.{code}
-use Rattle.fancy_lex.specs.Layout.{layout, layout_from, is_blank, is_layout, rest}
+use Rattle.fancy_lex.specs.Layout.{is_blank}
+use Rattle.fancy_lex.specs.LayoutSteps.{layout, layout_from, is_layout, rest}
 use Rattle.fancy_lex.specs.Characters.{hash, backslash}
 use Rattle.fancy_lex.specs.Escape.{escape}
 use Rattle.fancy_lex.specs.Escaped.{Escape}

@@ -9,12 +9,13 @@ use Rattle.fancy_lex.specs.Class.{class}
 use Rattle.fancy_lex.specs.Escape.{escape}
 use Rattle.fancy_lex.specs.Escaped as escaped
 use Rattle.fancy_lex.specs.Escaped.{Escape}
-use Rattle.fancy_lex.specs.Layout.{Skipped, rest, fault as open_comment}
+use Rattle.fancy_lex.specs.LayoutSteps.{Skipped, rest, fault as open_comment}
 use Rattle.fancy_lex.specs.Reading.{Reading, gives, fails, choose}
 use Rattle.fancy_lex.specs.Referred.{Reference, Call}
 use Rattle.fancy_lex.specs.Text.{Text, bytes, place_of, strip_word}
 use Rattle.fancy_lex.specs.declared.flags.Flags.{Flags}
-use Rattle.fancy_parts.specs.FlagLetters.{Letters, letters, setting, scope as scoped}
+use Rattle.fancy_parts.specs.FlagLetters.{Letters, setting, scope as scoped}
+use Rattle.fancy_parts.specs.LetterSteps.{letters}
 use Rattle.fancy_parts.specs.GroupName.{group_name}
 use Rattle.fancy_parts.specs.HeadReference.{named_reference, named_call, begins_target, condition_target}
 use Rattle.fancy_parts.specs.Quantifier.{counts}

@@ -21,7 +21,7 @@ use Rattle.fancy_lex.specs.Escape.{escape}
 use Rattle.fancy_lex.specs.Escaped as escaped
 use Rattle.fancy_lex.specs.Escaped.{Escape}
 use Rattle.fancy_lex.specs.Fault.{Kind}
-use Rattle.fancy_lex.specs.Layout.{layout, Skipped, rest, fault as open_comment}
+use Rattle.fancy_lex.specs.LayoutSteps.{layout, Skipped, rest, fault as open_comment}
 use Prim.Native.Char.{code}
 use Rattle.fancy_lex.specs.Reading.{Reading, gives, fails, choose}
 use Rattle.fancy_lex.specs.Text.{Text, EndsWith, begins, bytes, place_of, strip, strip_word}
@@ -32,7 +32,8 @@ use Rattle.fancy_parts.proofs.HeadLaws.{takes_group_name, takes_named_reference,
 use Rattle.fancy_parts.proofs.HeadLaws.{takes_condition_target, named_reference_at, named_call_at, condition_target_at}
 use Rattle.fancy_parts.specs.GroupName.{group_name}
 use Rattle.fancy_parts.specs.HeadReference.{named_reference, named_call, begins_target, condition_target}
-use Rattle.fancy_parts.specs.FlagLetters.{Letters, letters, setting, scope as scoped}
+use Rattle.fancy_parts.specs.FlagLetters.{Letters, setting, scope as scoped}
+use Rattle.fancy_parts.specs.LetterSteps.{letters}
 use Rattle.fancy_parts.specs.Quantifier.{counts}
 use Rattle.fancy_parts.specs.declared.counts.Counts.{Counts}
 use Rattle.fancy_grammar.proofs.OutcomeLemmas.{behind_keeps}

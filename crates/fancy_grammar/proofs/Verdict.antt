@@ -13,7 +13,7 @@ use Rattle.fancy_lex.specs.declared.error.Error.TheVariants.{ParseError, OutOfMe
 use Rattle.fancy_lex.specs.declared.flags.Flags.{Flags}
 use Rattle.fancy_parts.specs.Ranks.{counted}
 use Rattle.fancy_grammar.specs.Answer.{IsTreeOf, IsFaultOf, of_reading, of_resolving, IsOnlyFault, IsPlacedIn}
-use Rattle.fancy_grammar.specs.Grammar.{Derives, Faults, Whole}
+use Rattle.fancy_grammar.specs.Grammar.{DerivesTree, Faults, Whole}
 use Rattle.fancy_grammar.specs.Items.{items, openings}
 use Rattle.fancy_grammar.specs.Marks.{Marks, marks}
 use Rattle.fancy_grammar.specs.Errors.{IsErrorAmong, IsErrorIn}
@@ -27,13 +27,13 @@ use Rattle.fancy_grammar.proofs.OrderLaws.{fault_place}
 use Rattle.fancy_grammar.proofs.Slices.{fault_stands, items_stand, ordered_within}
 use Rattle.fancy_grammar.proofs.Unique.{whole_unique}
 
-pub same_tree : {f : Flags} {text : Text} {r q : Tree} → Derives f text r → Derives f text q → q ≡ r
+pub same_tree : {f : Flags} {text : Text} {r q : Tree} → DerivesTree f text r → DerivesTree f text q → q ≡ r
 same_tree a b = let e = whole_unique a.1 b.1 in cc
 
 same_fault : {A : Type 0} {k j : Kind} {p q : ℕ} → ◌≡◌ {A = Outcome A} (fault k p) (fault j q) → (j ≡ k) × (q ≡ p)
 same_fault e = (cc, cc)
 
-apart : {f : Flags} {text : Text} {r : Tree} {k : Kind} {p : ℕ} → Derives f text r → Faults f text k p → ⊥
+apart : {f : Flags} {text : Text} {r : Tree} {k : Kind} {p : ℕ} → DerivesTree f text r → Faults f text k p → ⊥
 apart a b = let e = whole_unique a.1 b in cc
 
 kind_in : Kind → Option Fault → Kind
@@ -74,7 +74,7 @@ only_reading (ParseError p k) f text a =
 only_reading OutOfMemory f text a = tt
 
 -- the one fault of a text that is read, and cannot be resolved
-pub only_resolving : (e : Error) (f : Flags) (text : Text) (r : Tree) → Derives f text r →
+pub only_resolving : (e : Error) (f : Flags) (text : Text) (r : Tree) → DerivesTree f text r →
     IsErrorIn e (fault_of f r) → IsOnlyFault e f text
 only_resolving (ParseError p k) f text r a h =
     (of_resolving a h, λ j q b. other j q b, λ t m b. no_fault f text t m (kind_of k) p b (of_resolving a h))
@@ -108,11 +108,11 @@ reading_placed (ParseError p k) f re u a = placed k re p u (fault_stands a)
 reading_placed OutOfMemory f re u a = tt
 
 -- the groups and references of a text that is read stand in text order
-pub text_order : (f : Flags) (re : List ℕ) (r : Tree) → IsUtf8 re → Derives f (chars re) r →
+pub text_order : (f : Flags) (re : List ℕ) (r : Tree) → IsUtf8 re → DerivesTree f (chars re) r →
     Ascends 0 (length re) (items r)
 text_order f re r u a = subst (λ n. Ascends 0 n (items r)) (bytes_chars re u) (ordered_within a.1)
 
-pub resolving_placed : (e : Error) (f : Flags) (re : List ℕ) (r : Tree) → IsUtf8 re → Derives f (chars re) r →
+pub resolving_placed : (e : Error) (f : Flags) (re : List ℕ) (r : Tree) → IsUtf8 re → DerivesTree f (chars re) r →
     IsErrorIn e (fault_of f r) → IsPlacedIn e re
 resolving_placed (ParseError p k) f re r u a h =
     placed k re p u

@@ -8,7 +8,7 @@ use Rattle.fancy_lex.specs.Escaped as escaped
 use Rattle.fancy_lex.specs.Escaped.{Escape}
 use Rattle.fancy_lex.specs.Fault.{Fault}
 use Rattle.fancy_lex.specs.FaultTable.{comment_not_closed, group_too_deep, group_not_closed, unknown_verb}
-use Rattle.fancy_lex.specs.Layout.{Skipped, rest, fault as open_comment}
+use Rattle.fancy_lex.specs.LayoutSteps.{Skipped, rest, fault as open_comment}
 use Rattle.fancy_lex.specs.Reading.{Reading, gives, fails, choose}
 use Rattle.fancy_lex.specs.Referred.{Reference, Call}
 use Rattle.fancy_lex.specs.Text.{Text, place_of, strip_word}
@@ -16,7 +16,8 @@ use Rattle.fancy_lex.specs.declared.escape.Assertion.{Assertion}
 use Rattle.fancy_lex.specs.declared.escape.Assertion.TheVariants.{StartText, EndText, StartLine, StartLineOniguruma}
 use Rattle.fancy_lex.specs.declared.escape.Assertion.TheVariants.{EndLine}
 use Rattle.fancy_lex.specs.declared.flags.Flags.{Flags}
-use Rattle.fancy_parts.specs.FlagLetters.{Letters, letters, setting, scope as scoped}
+use Rattle.fancy_parts.specs.FlagLetters.{Letters, setting, scope as scoped}
+use Rattle.fancy_parts.specs.LetterSteps.{letters}
 use Rattle.fancy_parts.specs.GroupName.{group_name}
 use Rattle.fancy_parts.specs.HeadReference.{named_reference, named_call, begins_target, condition_target}
 use Rattle.fancy_grammar.specs.Depth.{max_depth}
@@ -39,8 +40,8 @@ pub data Ahead : Type 0 where
   absent_branch : State → Ahead  -- `(?~|` of an absent expression, stopper or clear; a branch begins at the state
 
 -- a group with this fault
-abbrev pub faulty : Fault → Ahead
-faulty e = leaf (faulted e)
+abbrev pub fault_ahead : Fault → Ahead
+fault_ahead e = leaf (faulted e)
 
 -- the start of each line; in Oniguruma mode it has a variant of its own
 abbrev pub start_of_line : Flags → Assertion
@@ -99,32 +100,32 @@ is_before_nothing c = c ∈ "+*?|)"
 -- a group whose name was read
 abbrev pub named_ahead : State → Reading Text → Ahead
 named_ahead s (gives w u) = with_head (capture (Some w)) (at s u)
-named_ahead s (fails e) = faulty e
+named_ahead s (fails e) = fault_ahead e
 
 -- a conditional whose target was read
 abbrev pub target_ahead : State → Reading Reference → Ahead
 target_ahead s (gives r u) = body (condition_node r) (at s u)
-target_ahead s (fails e) = faulty e
+target_ahead s (fails e) = fault_ahead e
 
 -- a flag group, whose letters were read
 abbrev pub flags_ahead : Reading Letters → Ahead
 flags_ahead (gives (setting f) u) = leaf (done empty (record { flags = f; rest = u }))
 flags_ahead (gives (scoped f) u) = with_head scope (record { flags = f; rest = u })
-flags_ahead (fails e) = faulty e
+flags_ahead (fails e) = fault_ahead e
 
 -- a verb, whose name and closing parenthesis stand behind its asterisk
 abbrev pub verb_ahead : ℕ → State → Text → Ahead
 verb_ahead n s t =
-    choose (verb_at t) (λ p. leaf (done (verb p.0) (at s p.1))) (faulty (unknown_verb n (code "*" ∷ t)))
+    choose (verb_at t) (λ p. leaf (done (verb p.0) (at s p.1))) (fault_ahead (unknown_verb n (code "*" ∷ t)))
 
 -- a verb as the condition of a conditional, behind its asterisk
 abbrev pub verb_condition : ℕ → State → Text → Ahead
 verb_condition n s t =
-    choose (verb_at t) (λ p. body (verb p.0) (at s p.1)) (faulty (unknown_verb n (code "*" ∷ t)))
+    choose (verb_at t) (λ p. body (verb p.0) (at s p.1)) (fault_ahead (unknown_verb n (code "*" ∷ t)))
 
 -- behind `(?(`, where more text is due: a condition, which is a target, a verb, or an alternation
 abbrev pub condition_ahead : ℕ → State → Text → Ahead
-condition_ahead n s [] = faulty (group_not_closed n)
+condition_ahead n s [] = fault_ahead (group_not_closed n)
 condition_ahead n s (c ∷ t) =
     if begins_target (c ∷ t) then target_ahead s (condition_target n (c ∷ t))
     else if c == code "*" then verb_condition n s t
@@ -132,7 +133,7 @@ condition_ahead n s (c ∷ t) =
 
 -- behind `(?~`, where more text is due: an alternation
 abbrev pub repeater_ahead : ℕ → State → Text → Ahead
-repeater_ahead n s [] = faulty (group_not_closed n)
+repeater_ahead n s [] = fault_ahead (group_not_closed n)
 repeater_ahead n s (c ∷ t) = with_head repeater (at s (c ∷ t))
 
 -- behind the question mark of a group's head: the first row whose word stands there, or else letters of flags
@@ -163,14 +164,14 @@ group_ahead n s t =
 
 abbrev pub behind_layout : ℕ → State → Skipped → Ahead
 behind_layout n s (rest u) = group_ahead n s u
-behind_layout n s (open_comment p) = faulty (comment_not_closed p)
+behind_layout n s (open_comment p) = fault_ahead (comment_not_closed p)
 
 -- what stands before an atom in a pattern of n bytes, inside d groups
 abbrev pub ahead_of : ℕ → ℕ → State → Text → Ahead
 ahead_of n d s [] = nothing
 ahead_of n d s (c ∷ t) =
     if c == code "(" then (
-    if nat_le max_depth (d + 1) then faulty (group_too_deep n (c ∷ t)) else behind_layout n s (skipped n (at s t)))
+    if nat_le max_depth (d + 1) then fault_ahead (group_too_deep n (c ∷ t)) else behind_layout n s (skipped n (at s t)))
     else if is_before_nothing c then nothing
     else leaf (leaf_of n s c t)
 

@@ -6,7 +6,7 @@ use Rattle.fancy_lex.specs.Text.{Text}
 use Rattle.fancy_lex.specs.declared.error.Error.{Error}
 use Rattle.fancy_lex.specs.declared.error.Error.TheVariants.{ParseError, OutOfMemory}
 use Rattle.fancy_lex.specs.declared.flags.Flags.{Flags}
-use Rattle.fancy_grammar.specs.Grammar.{Derives, Faults}
+use Rattle.fancy_grammar.specs.Grammar.{DerivesTree, Faults}
 use Rattle.fancy_grammar.specs.Marks.{Marks, marks}
 use Rattle.fancy_grammar.specs.Resolved.{resolved, fault_of}
 use Rattle.fancy_grammar.specs.Tree.{Tree}
@@ -15,12 +15,12 @@ use Rattle.fancy_grammar.specs.Tree.{Tree}
 -- the marks m
 abbrev pub IsTreeOf : Flags → Text → Tree → Marks → Type 0
 IsTreeOf f text t m =
-    (r : Tree) × Derives f text r × (fault_of f r ≡ None) × (t ≡ resolved f r) × (m ≡ marks f text r)
+    (r : Tree) × DerivesTree f text r × (fault_of f r ≡ None) × (t ≡ resolved f r) × (m ≡ marks f text r)
 
 -- the fault of the text: that of reading it, or, where the text derives, the first fault of its references
 pub data IsFaultOf : Flags → Text → Kind → ℕ → Type 0 where
   of_reading : {f : Flags} {text : Text} {k : Kind} {p : ℕ} → Faults f text k p → IsFaultOf f text k p
-  of_resolving : {f : Flags} {text : Text} {k : Kind} {p : ℕ} {r : Tree} → Derives f text r →
+  of_resolving : {f : Flags} {text : Text} {k : Kind} {p : ℕ} {r : Tree} → DerivesTree f text r →
       fault_of f r ≡ Some (record { place = p; kind = k }) → IsFaultOf f text k p
 
 -- memory ran out, or the text has this fault and no other, and no tree

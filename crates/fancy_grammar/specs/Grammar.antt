@@ -9,7 +9,7 @@ use Rattle.fancy_lex.specs.Characters.{bar}
 use Rattle.fancy_lex.specs.Fault.{Kind}
 use Rattle.fancy_lex.specs.FaultTable.{comment_not_closed, group_not_closed, bar_for_close_paren, close_paren_left_over}
 use Rattle.fancy_lex.specs.FaultTable.{body_wanting}
-use Rattle.fancy_lex.specs.Layout.{rest, fault as open_comment}
+use Rattle.fancy_lex.specs.LayoutSteps.{rest, fault as open_comment}
 use Rattle.fancy_lex.specs.Text.{Text, bytes, place_of, strip}
 use Rattle.fancy_lex.specs.declared.flags.Flags.{Flags}
 use Rattle.fancy_grammar.specs.Ahead.{Ahead, nothing, leaf, with_head, condition, body, absent_branch, ahead}
@@ -165,8 +165,8 @@ pub data Whole : Flags → Text → Outcome Tree → Type 0 where
       and_then q (ended (bytes text)) ≡ o → Whole f text o
 
 -- the grammar derives all of the text, with this raw tree
-abbrev pub Derives : Flags → Text → Tree → Type 0
-Derives f text r = (t : State) × Whole f text (done r t)
+abbrev pub DerivesTree : Flags → Text → Tree → Type 0
+DerivesTree f text r = (t : State) × Whole f text (done r t)
 
 -- the reading of the text ends with this fault, at this place
 abbrev pub Faults : Flags → Text → Kind → ℕ → Type 0

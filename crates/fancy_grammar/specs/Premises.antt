@@ -1,19 +1,22 @@
 -- What the grammar's premises say by functions, said by the relations: what stands in the text, and what that comes to.
 -- Each is proved, as a clause of `premises`.
 use Rattle.std.specs.Prelude.{◌≡◌, ◌↔◌, ℕ, Bool, Some}
-use Rattle.fancy_lex.specs.Boundary.{boundary, Boundary}
+use Rattle.fancy_lex.specs.Boundary.{Boundary}
+use Rattle.fancy_lex.specs.BoundarySteps.{boundary}
 use Rattle.fancy_lex.specs.Class.{class, OuterClass}
 use Rattle.fancy_lex.specs.Delimited.{name_before, StartsWithName}
 use Rattle.fancy_lex.specs.Escaped.{Escape}
 use Rattle.fancy_lex.specs.Hex.{hex, HexCode}
 use Rattle.fancy_lex.specs.IdReference.{IdReference, id_reference, IsIdReference}
-use Rattle.fancy_lex.specs.Layout.{layout, rest, fault as open_comment, Before, Unclosed}
+use Rattle.fancy_lex.specs.Layout.{Before, Unclosed}
+use Rattle.fancy_lex.specs.LayoutSteps.{layout, rest, fault as open_comment}
 use Rattle.fancy_lex.specs.Number.{number, StartsWithNumber}
 use Rattle.fancy_lex.specs.NumberText.{number_text, IsNumberText}
 use Rattle.fancy_lex.specs.Reading.{Reading}
 use Rattle.fancy_lex.specs.Text.{Text}
 use Rattle.fancy_lex.specs.declared.flags.Flags.{Flags}
-use Rattle.fancy_parts.specs.FlagLetters.{Letters, letters, FlagGroup}
+use Rattle.fancy_parts.specs.FlagLetters.{Letters, FlagGroup}
+use Rattle.fancy_parts.specs.LetterSteps.{letters}
 
 -- layout: what stands before the rest of the text, or an open comment
 abbrev pub LayoutIsRelated : Type 0

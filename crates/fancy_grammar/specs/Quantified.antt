@@ -3,7 +3,7 @@ use Rattle.std.specs.Prelude.{ℕ, zero, suc, ◌+◌, ◌==◌, Bool, true, fal
 use Rattle.std.specs.Prelude.{if◌then◌else◌}
 use Prim.Native.Char.{code}
 use Rattle.fancy_lex.specs.FaultTable.{comment_not_closed, not_repeatable, quantifier_too_deep}
-use Rattle.fancy_lex.specs.Layout.{Skipped, rest, fault as open_comment}
+use Rattle.fancy_lex.specs.LayoutSteps.{Skipped, rest, fault as open_comment}
 use Rattle.fancy_lex.specs.Reading.{choose}
 use Rattle.fancy_lex.specs.Text.{Text, bytes, strip}
 use Rattle.fancy_lex.specs.declared.flags.Flags.{Flags}

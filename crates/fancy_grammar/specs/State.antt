@@ -2,7 +2,7 @@
 use Rattle.std.specs.Prelude.{ℕ, Bool, true, [], ◌∷◌}
 use Rattle.fancy_lex.specs.Characters.{◌∈◌}
 use Rattle.fancy_lex.specs.Fault.{Kind, Fault}
-use Rattle.fancy_lex.specs.Layout.{layout, Skipped}
+use Rattle.fancy_lex.specs.LayoutSteps.{layout, Skipped}
 use Rattle.fancy_lex.specs.Text.{Text}
 use Rattle.fancy_lex.specs.declared.flags.Flags.{Flags}
 

@@ -20,10 +20,12 @@ use Rattle.fancy_grammar.specs.Tree.{ast_node, ast_group}
 
 -- ---- the first walk finds the groups
 
+-- a group is added where it has a number; a reference adds nothing
 abbrev pub find_item : Bool → Groups → Item → Groups
 find_item named s (opening o) = with_opening named s o
 find_item named s (reference r) = s
 
+-- the groups behind these items
 abbrev pub found : Bool → Groups → List Item → Groups
 found named s l = fold (find_item named) s l
 
@@ -57,20 +59,24 @@ nothing_noted = record {
   fault = None;
 }
 
+-- the first, or where there is none the other
 abbrev pub or_else : {A : Type 0} → Option A → Option A → Option A
 or_else None other = other
 or_else (Some a) other = Some a
 
+-- with the number of a back reference, where a group has it
 abbrev pub with_backref : ℕ → List ℕ → Option ℕ → List ℕ
 with_backref total l None = l
 with_backref total l (Some n) = if nat_le n total then insert_key nat_cmp l n else l
 
+-- the number of a back reference that no group has
 abbrev pub beyond : ℕ → Option ℕ → Option ℕ
 beyond total None = None
 beyond total (Some n) = if nat_le n total then None else Some n
 
-abbrev pub note_meaning : Known → Progress → AnyReference → Meaning → Progress
-note_meaning k s r m = record {
+-- what is noted of a reference with this meaning: its number, how it is written, whether it calls, and its fault
+abbrev pub note_reference_with : Known → Progress → AnyReference → Meaning → Progress
+note_reference_with k s r m = record {
   passed = s.passed;
   backrefs = with_backref k.groups.total s.backrefs (back_number r.role m);
   out_of_range = or_else s.out_of_range (beyond k.groups.total (back_number r.role m));
@@ -89,14 +95,17 @@ abbrev pub number_in : Meaning → Option ℕ
 number_in (number n) = Some n
 number_in _ = None
 
+-- what is noted of a reference
 abbrev pub note_reference : Known → Progress → ℕ → Role → Target → Progress
 note_reference k s place role target =
-    note_meaning k s (record { place = place; role = role; target = target }) (means_here k s role target)
+    note_reference_with k s (record { place = place; role = role; target = target }) (means_here k s role target)
 
+-- what is noted of an item: a group with a number is passed
 abbrev pub note_item : Known → Progress → Item → Progress
 note_item k s (opening o) = record s { passed = if is_counted k.named o.name then s.passed + 1 else s.passed }
 note_item k s (reference r) = note_reference k s r.place r.role r.target
 
+-- what is noted of the items, one after another
 abbrev pub noted : Known → Progress → List Item → Progress
 noted k s l = fold (note_item k) s l
 

@@ -3,8 +3,8 @@ ghost use Rattle.fancy_grammar.specs.Premises.{LayoutIsRelated, ClassIsRelated, 
 ghost use Rattle.fancy_grammar.specs.Premises.{HexIsRelated, NumberIsRelated, NumberTextIsRelated, NameIsRelated};
 ghost use Rattle.fancy_grammar.specs.Premises.{IdReferenceIsRelated};
 
-/// Does nothing: its clauses are laws. Each function by which a premise of the grammar reads a part of the text comes to
-/// what the relation of that part gives, and to nothing else.
+/// Does nothing: its clauses are laws. Each function by which a premise of the grammar reads a part of the text comes
+/// to what the relation of that part gives, and to nothing else.
 pub fn premises()
     ensures layout { LayoutIsRelated }
     ensures class { ClassIsRelated }

@@ -7,17 +7,19 @@ use Rattle.std.proofs.lemmas.Slice.Eq.{bytes_eq-Decides}
 use Rattle.fancy_lex.specs.declared.escape.Assertion.{Assertion}
 use Rattle.fancy_lex.specs.declared.escape.Assertion.TheVariants.{LeftWordBoundary, RightWordBoundary}
 use Rattle.fancy_lex.specs.declared.escape.Assertion.TheVariants.{LeftWordHalfBoundary, RightWordHalfBoundary}
-use Rattle.fancy_lex.specs.Boundary.{name, boundary_of_name, named_boundary}
+use Rattle.fancy_lex.specs.Boundary.{boundary_of_name}
+use Rattle.fancy_lex.specs.BoundarySteps.{name, named_boundary}
 use Rattle.fancy_lex.specs.BoundaryName.{after_name, known_boundary, name_fault, name_fault_behind}
 use Rattle.fancy_lex.specs.Characters.{close_brace}
 use Rattle.fancy_lex.specs.Escaped.{assertion}
 use Rattle.fancy_lex.specs.Fault.{unclosed_open_paren, invalid_escape}
-use Rattle.fancy_lex.specs.Layout.{Skipped, rest, fault, rest_of, layout}
+use Rattle.fancy_lex.specs.LayoutSteps.{Skipped, rest, fault, layout}
 use Rattle.fancy_lex.specs.Reading.{Reading, gives, fails, ◌>=>◌, fault_at}
 use Rattle.fancy_lex.specs.Text.{Text, strip}
 use Rattle.fancy_lex.proofs.BoundaryLemmas.{after_name_open, after_name_end, after_name_step, after_name_other}
 use Rattle.fancy_lex.proofs.BoundaryLemmas.{name_start, name_end, name_start_half, name_end_half}
 use Rattle.fancy_lex.proofs.LayoutLaws.{layout_length}
+use Rattle.fancy_lex.proofs.LayoutLemmas.{past_layout_is}
 use Rattle.fancy_lex.proofs.TextLemmas.{strip_is, strip_same}
 
 -- no closing brace stands in the word
@@ -54,62 +56,63 @@ module _ (n : ℕ) (x : Bool) (p k : ℕ) (t : Text) where
 
 -- a spelled word is the name: one step, where it is so for the steps left
 module _ (n : ℕ) (x : Bool) (p k : ℕ) (v : Text)
-    (more : (w r : Text) → no_brace w ≡ true → length r < k → after_name n x w r ≡ Some v → name n x p k r ≡ gives w v)
+    (more : (w r : Text) → no_brace w ≡ true → length r < k → after_name x w r ≡ Some v → name n x p k r ≡ gives w v)
     (t : Text) (few : length t < suc k) where
-  gives_rest : (u : Text) → layout n x t ≡ rest u → (w : Text) → no_brace w ≡ true → after_name n x w t ≡ Some v →
+  gives_rest : (u : Text) → layout n x t ≡ rest u → (w : Text) → no_brace w ≡ true → after_name x w t ≡ Some v →
       name n x p (suc k) t ≡ gives w v
   gives_rest u q [] b e =
-      let here = strip_is close_brace u v (sym (after_name_end n x [] t u refl (ap rest_of q)) ∙ e) in
+      let here = strip_is close_brace u v (sym (after_name_end x [] t u refl (past_layout_is n x t _ q)) ∙ e) in
       name_close n x p k t close_brace v (q ∙ ap rest here) refl
   gives_rest u q (c ∷ w) b e = by (strip c u) refl where
     heads : ((c == close_brace) ≡ false) × (no_brace w ≡ true)
     heads = plain_head c w b
 
     by : (o : Option Text) → strip c u ≡ o → name n x p (suc k) t ≡ gives (c ∷ w) v
-    by None h = let none = sym (after_name_other n x (c ∷ w) t c w u refl (ap rest_of q) h) ∙ e in absurd (cc)
+    by None h = let none = sym (after_name_other x (c ∷ w) t c w u refl (past_layout_is n x t _ q) h) ∙ e in absurd (cc)
     by (Some r) h =
         let here : u ≡ c ∷ r = strip_is c u r h in
-        let after : after_name n x w r ≡ Some v = sym (after_name_step n x (c ∷ w) t c w u r refl (ap rest_of q) h)
-        ∙ e in
+        let after : after_name x w r ≡ Some v =
+        sym (after_name_step x (c ∷ w) t c w u r refl (past_layout_is n x t _ q) h) ∙ e in
         let short = layout_length n x t u q in
         let fewer : length r < k = omega (arith, ap length here) in
         let name_is : name n x p k r ≡ gives w v = more w r heads.1 fewer after in
         name_step n x p k t c r (q ∙ ap rest here) heads.0 ∙ rw name_is refl
 
-  gives_at : (o : Skipped) → layout n x t ≡ o → (w : Text) → no_brace w ≡ true → after_name n x w t ≡ Some v →
+  gives_at : (o : Skipped) → layout n x t ≡ o → (w : Text) → no_brace w ≡ true → after_name x w t ≡ Some v →
       name n x p (suc k) t ≡ gives w v
   gives_at (rest u) q w b e = gives_rest u q w b e
-  gives_at (fault m) q w b e = let none = sym (after_name_open n x w t (ap rest_of q)) ∙ e in absurd (cc)
+  gives_at (fault m) q w b e = let none = sym (after_name_open x w t (past_layout_is n x t _ q)) ∙ e in absurd (cc)
 
 -- a spelled word is the name
 pub after_name_gives : (n : ℕ) (x : Bool) (p k : ℕ) (v w t : Text) → no_brace w ≡ true → length t < k →
-    after_name n x w t ≡ Some v → name n x p k t ≡ gives w v
+    after_name x w t ≡ Some v → name n x p k t ≡ gives w v
 after_name_gives n x p zero v w t b l e = absurd (omega arith)
 after_name_gives n x p (suc k) v w t b l e =
     gives_at n x p k v (after_name_gives n x p k v) t l (layout n x t) refl w b e
 
 -- and the name is spelled: one step
-module _ (n : ℕ) (x : Bool) (p k : ℕ) (more : (w r v : Text) → name n x p k r ≡ gives w v → after_name n x w r ≡ Some v)
+module _ (n : ℕ) (x : Bool) (p k : ℕ) (more : (w r v : Text) → name n x p k r ≡ gives w v → after_name x w r ≡ Some v)
     (t w v : Text) (e : name n x p (suc k) t ≡ gives w v) where
   spells_step : (c : ℕ) (r : Text) → layout n x t ≡ rest (c ∷ r) → (c == close_brace) ≡ false → (o : Reading Text) →
-      name n x p k r ≡ o → after_name n x w t ≡ Some v
+      name n x p k r ≡ o → after_name x w t ≡ Some v
   spells_step c r q h (gives w' v') i =
       let step : gives (c ∷ w') v' ≡ gives w v = rw i at (sym (name_step n x p k t c r q h)) ∙ e in
       let word : w ≡ c ∷ w' = cc in
       let left : v' ≡ v = cc in
-      after_name_step n x w t c w' (c ∷ r) r word (ap rest_of q) (strip_same c r) ∙ more w' r v' i ∙ ap Some left
+      after_name_step x w t c w' (c ∷ r) r word (past_layout_is n x t _ q) (strip_same c r) ∙ more w' r v' i
+      ∙ ap Some left
   spells_step c r q h (fails f) i = let step = rw i at (sym (name_step n x p k t c r q h)) ∙ e in absurd (cc)
 
   spells_rest : (c : ℕ) (r : Text) → layout n x t ≡ rest (c ∷ r) → (b : Bool) → (c == close_brace) ≡ b →
-      after_name n x w t ≡ Some v
+      after_name x w t ≡ Some v
   spells_rest c r q true h =
       let step : gives [] r ≡ gives w v = sym (name_close n x p k t c r q h) ∙ e in
       let word : w ≡ [] = cc in
       let left : r ≡ v = cc in
-      after_name_end n x w t (c ∷ r) word (ap rest_of q) ∙ rw h refl ∙ ap Some left
+      after_name_end x w t (c ∷ r) word (past_layout_is n x t _ q) ∙ rw h refl ∙ ap Some left
   spells_rest c r q false h = spells_step c r q h (name n x p k r) refl
 
-  spells_at : (o : Skipped) → layout n x t ≡ o → after_name n x w t ≡ Some v
+  spells_at : (o : Skipped) → layout n x t ≡ o → after_name x w t ≡ Some v
   spells_at (fault m) q = let step = sym (name_open n x p k t m q) ∙ e in absurd (cc)
   spells_at (rest []) q = let step = sym (name_unclosed n x p k t q) ∙ e in absurd (cc)
   spells_at (rest (c ∷ r)) q = spells_rest c r q (c == close_brace) refl
@@ -119,21 +122,21 @@ unfolding name
 name_out n x p t = refl
 
 pub gives_after_name : (n : ℕ) (x : Bool) (p k : ℕ) (w t v : Text) → name n x p k t ≡ gives w v →
-    after_name n x w t ≡ Some v
+    after_name x w t ≡ Some v
 gives_after_name n x p zero w t v e = let out = sym (name_out n x p t) ∙ e in absurd (cc)
 gives_after_name n x p (suc k) w t v e = spells_at n x p k (gives_after_name n x p k) t w v e (layout n x t) refl
 
 module _ (n : ℕ) (x : Bool) (p : ℕ) (t v : Text) where
   braced_word : (w : Text) → no_brace w ≡ true → (a : Assertion) → boundary_of_name false w ≡ Some a →
-      after_name n x w t ≡ Some v → named_boundary n x p false t ≡ gives (assertion a) v
+      after_name x w t ≡ Some v → named_boundary n x p false t ≡ gives (assertion a) v
   unfolding named_boundary
   braced_word w b a q e =
       let name_is : name n x p (suc (length t)) t ≡ gives w v =
       after_name_gives n x p (suc (length t)) v w t b (omega arith) e in
       rw (name_is, q) refl
 
-  braced_as : (a b : Assertion) (r : Text) → known_boundary n x t ≡ Some (b, r) →
-      named_boundary n x p false t ≡ gives (assertion b) r → known_boundary n x t ≡ Some (a, v) →
+  braced_as : (a b : Assertion) (r : Text) → known_boundary x t ≡ Some (b, r) →
+      named_boundary n x p false t ≡ gives (assertion b) r → known_boundary x t ≡ Some (a, v) →
       named_boundary n x p false t ≡ gives (assertion a) v
   braced_as a b r s h e =
       let both = sym s ∙ e in
@@ -141,46 +144,46 @@ module _ (n : ℕ) (x : Bool) (p : ℕ) (t v : Text) where
       h ∙ ap (λ (q : Assertion × Text). gives (assertion q.0) q.1) pair
 
 -- which of the words is spelled
-data Word (n : ℕ) (x : Bool) (t : Text) : Type 0 where
+data Word (x : Bool) (t : Text) : Type 0 where
   word : (w v : Text) (a : Assertion) → no_brace w ≡ true → boundary_of_name false w ≡ Some a →
-      after_name n x w t ≡ Some v → known_boundary n x t ≡ Some (a, v) → Word n x t
-  no_word : after_name n x (codes "start") t ≡ None → after_name n x (codes "end") t ≡ None →
-      after_name n x (codes "start-half") t ≡ None → after_name n x (codes "end-half") t ≡ None →
-      known_boundary n x t ≡ None → Word n x t
+      after_name x w t ≡ Some v → known_boundary x t ≡ Some (a, v) → Word x t
+  no_word : after_name x (codes "start") t ≡ None → after_name x (codes "end") t ≡ None →
+      after_name x (codes "start-half") t ≡ None → after_name x (codes "end-half") t ≡ None →
+      known_boundary x t ≡ None → Word x t
 
-which_word : (n : ℕ) (x : Bool) (t : Text) → Word n x t
-which_word n x t = first (after_name n x (codes "start") t) refl where
-  fourth : after_name n x (codes "start") t ≡ None → after_name n x (codes "end") t ≡ None →
-      after_name n x (codes "start-half") t ≡ None → (o : Option Text) → after_name n x (codes "end-half") t ≡ o →
-      Word n x t
+which_word : (x : Bool) (t : Text) → Word x t
+which_word x t = first (after_name x (codes "start") t) refl where
+  fourth : after_name x (codes "start") t ≡ None → after_name x (codes "end") t ≡ None →
+      after_name x (codes "start-half") t ≡ None → (o : Option Text) → after_name x (codes "end-half") t ≡ o →
+      Word x t
   fourth a b d (Some v) h = word (codes "end-half") v RightWordHalfBoundary refl refl h
-      (name_end_half n x t (Some v) a b d h)
-  fourth a b d None h = no_word a b d h (name_end_half n x t None a b d h)
+      (name_end_half x t (Some v) a b d h)
+  fourth a b d None h = no_word a b d h (name_end_half x t None a b d h)
 
-  third : after_name n x (codes "start") t ≡ None → after_name n x (codes "end") t ≡ None → (o : Option Text) →
-      after_name n x (codes "start-half") t ≡ o → Word n x t
-  third a b (Some v) h = word (codes "start-half") v LeftWordHalfBoundary refl refl h (name_start_half n x t v a b h)
-  third a b None h = fourth a b h (after_name n x (codes "end-half") t) refl
+  third : after_name x (codes "start") t ≡ None → after_name x (codes "end") t ≡ None → (o : Option Text) →
+      after_name x (codes "start-half") t ≡ o → Word x t
+  third a b (Some v) h = word (codes "start-half") v LeftWordHalfBoundary refl refl h (name_start_half x t v a b h)
+  third a b None h = fourth a b h (after_name x (codes "end-half") t) refl
 
-  second : after_name n x (codes "start") t ≡ None → (o : Option Text) → after_name n x (codes "end") t ≡ o → Word n x t
-  second a (Some v) h = word (codes "end") v RightWordBoundary refl refl h (name_end n x t v a h)
-  second a None h = third a h (after_name n x (codes "start-half") t) refl
+  second : after_name x (codes "start") t ≡ None → (o : Option Text) → after_name x (codes "end") t ≡ o → Word x t
+  second a (Some v) h = word (codes "end") v RightWordBoundary refl refl h (name_end x t v a h)
+  second a None h = third a h (after_name x (codes "start-half") t) refl
 
-  first : (o : Option Text) → after_name n x (codes "start") t ≡ o → Word n x t
-  first (Some v) h = word (codes "start") v LeftWordBoundary refl refl h (name_start n x t v h)
-  first None h = second h (after_name n x (codes "end") t) refl
+  first : (o : Option Text) → after_name x (codes "start") t ≡ o → Word x t
+  first (Some v) h = word (codes "start") v LeftWordBoundary refl refl h (name_start x t v h)
+  first None h = second h (after_name x (codes "end") t) refl
 
-pub braced_named : (n : ℕ) (x : Bool) (p : ℕ) (t v : Text) (a : Assertion) → known_boundary n x t ≡ Some (a, v) →
+pub braced_named : (n : ℕ) (x : Bool) (p : ℕ) (t v : Text) (a : Assertion) → known_boundary x t ≡ Some (a, v) →
     named_boundary n x p false t ≡ gives (assertion a) v
 braced_named n x p t v a e =
-    elim (which_word n x t) [
+    elim (which_word x t) [
       | word w r b m q h s ↦ braced_as n x p t v a b r s (braced_word n x p t r w m b q h) e
       | no_word _ _ _ _ s ↦ let none = sym s ∙ e in absurd (cc)
     ]
 
 -- no name is a word that is not spelled
 not_word : (n : ℕ) (x : Bool) (p k : ℕ) (t w v known : Text) → name n x p k t ≡ gives w v →
-    after_name n x known t ≡ None → bytes_eq w known ≡ false
+    after_name x known t ≡ None → bytes_eq w known ≡ false
 not_word n x p k t w v known e h = by (bytes_eq w known) refl where
   by : (b : Bool) → bytes_eq w known ≡ b → bytes_eq w known ≡ false
   by false q = q
@@ -190,22 +193,22 @@ not_word n x p k t w v known e h = by (bytes_eq w known) refl where
       absurd (cc)
 
 -- so it is refused
-module _ (n : ℕ) (x : Bool) (p : ℕ) (t : Text) (a : after_name n x (codes "start") t ≡ None)
-    (b : after_name n x (codes "end") t ≡ None) (d : after_name n x (codes "start-half") t ≡ None)
-    (e : after_name n x (codes "end-half") t ≡ None) where
+module _ (n : ℕ) (x : Bool) (p : ℕ) (t : Text) (a : after_name x (codes "start") t ≡ None)
+    (b : after_name x (codes "end") t ≡ None) (d : after_name x (codes "start-half") t ≡ None)
+    (e : after_name x (codes "end-half") t ≡ None) where
   name_unknown : (o : Reading Text) → name n x p (suc (length t)) t ≡ o →
       named_boundary n x p false t ≡ name_fault n x p false t
   unfolding named_boundary name_fault name_fault_behind
   name_unknown (gives w v) h =
-      let no : (known : Text) → after_name n x known t ≡ None → bytes_eq w known ≡ false =
+      let no : (known : Text) → after_name x known t ≡ None → bytes_eq w known ≡ false =
       λ known none. not_word n x p (suc (length t)) t w v known h none in
       rw (h, no (codes "start") a, no (codes "end") b, no (codes "start-half") d, no (codes "end-half") e) refl
   name_unknown (fails f) h = rw h refl
 
-pub braced_unknown : (n : ℕ) (x : Bool) (p : ℕ) (t : Text) → known_boundary n x t ≡ None →
+pub braced_unknown : (n : ℕ) (x : Bool) (p : ℕ) (t : Text) → known_boundary x t ≡ None →
     named_boundary n x p false t ≡ name_fault n x p false t
 braced_unknown n x p t e =
-    elim (which_word n x t) [
+    elim (which_word x t) [
       | word w r b m q h s ↦ let none = sym s ∙ e in absurd (cc)
       | no_word a b d f s ↦ name_unknown n x p t a b d f (name n x p (suc (length t)) t) refl
     ]

@@ -4,12 +4,12 @@ use Rattle.std.proofs.Common.{Option, Some, None, option_map, refl, ap, sym, ◌
 use Rattle.std.proofs.lemmas.Bool.Decides.{nat_tests}
 use Rattle.fancy_lex.specs.declared.error.Error.{Error}
 use Rattle.fancy_lex.specs.declared.error.Error.TheVariants.{ParseError, OutOfMemory}
-use Rattle.fancy_lex.specs.Boundary.{name}
+use Rattle.fancy_lex.specs.BoundarySteps.{name}
 use Rattle.fancy_lex.specs.Fault.{invalid_escape}
 use Rattle.fancy_lex.specs.FaultTable.{boundary_head}
 use Rattle.fancy_lex.specs.Reading.{Reading, gives, fails, fault_at, ◌>=>◌, layout_reading, Says, Reports}
 use Rattle.fancy_lex.specs.Characters.{close_brace}
-use Rattle.fancy_lex.specs.Layout.{Skipped, rest, fault, rest_of, layout}
+use Rattle.fancy_lex.specs.LayoutSteps.{Skipped, rest, fault, layout, past_layout}
 use Rattle.fancy_lex.specs.Text.{Text, strip}
 use Rattle.fancy_lex.proofs.LayoutLaws.{layout_length}
 use Rattle.fancy_lex.specs.BoundaryName.{after_name, known_boundary, name_fault_behind, name_fault}
@@ -17,49 +17,48 @@ use Rattle.fancy_lex.specs.declared.escape.Assertion.TheVariants.{LeftWordBounda
 use Rattle.fancy_lex.specs.declared.escape.Assertion.TheVariants.{LeftWordHalfBoundary, RightWordHalfBoundary}
 
 -- no word is spelled where a comment is open
-pub after_name_open : (n : ℕ) (x : Bool) (word t : Text) → rest_of (layout n x t) ≡ None → after_name n x word t ≡ None
+pub after_name_open : (x : Bool) (word t : Text) → past_layout x t ≡ None → after_name x word t ≡ None
 unfolding after_name
-after_name_open n x [] t e = rw e refl
-after_name_open n x (c ∷ w) t e = rw e refl
+after_name_open x [] t e = rw e refl
+after_name_open x (c ∷ w) t e = rw e refl
 
-module _ (n : ℕ) (x : Bool) (word t : Text) where
-  pub after_name_end : (u : Text) → word ≡ [] → rest_of (layout n x t) ≡ Some u →
-      after_name n x word t ≡ strip close_brace u
+module _ (x : Bool) (word t : Text) where
+  pub after_name_end : (u : Text) → word ≡ [] → past_layout x t ≡ Some u → after_name x word t ≡ strip close_brace u
   unfolding after_name
   after_name_end u z e = rw (z, after_name, e) refl
 
-  pub after_name_step : (c : ℕ) (w u r : Text) → word ≡ c ∷ w → rest_of (layout n x t) ≡ Some u → strip c u ≡ Some r →
-      after_name n x word t ≡ after_name n x w r
+  pub after_name_step : (c : ℕ) (w u r : Text) → word ≡ c ∷ w → past_layout x t ≡ Some u → strip c u ≡ Some r →
+      after_name x word t ≡ after_name x w r
   unfolding after_name
   after_name_step c w u r z e s = rw (z, after_name, e, s) refl
 
-  pub after_name_other : (c : ℕ) (w u : Text) → word ≡ c ∷ w → rest_of (layout n x t) ≡ Some u → strip c u ≡ None →
-      after_name n x word t ≡ None
+  pub after_name_other : (c : ℕ) (w u : Text) → word ≡ c ∷ w → past_layout x t ≡ Some u → strip c u ≡ None →
+      after_name x word t ≡ None
   unfolding after_name
   after_name_other c w u z e s = rw (z, after_name, e, s) refl
 
 pub ruleset after_name_steps = (after_name_open, after_name_end, after_name_step, after_name_other)
 
 -- the names, by the words that are spelled
-module _ (n : ℕ) (x : Bool) (t : Text) where
-  pub name_start : (v : Text) → after_name n x (codes "start") t ≡ Some v →
-      known_boundary n x t ≡ Some (LeftWordBoundary, v)
+module _ (x : Bool) (t : Text) where
+  pub name_start : (v : Text) → after_name x (codes "start") t ≡ Some v →
+      known_boundary x t ≡ Some (LeftWordBoundary, v)
   unfolding known_boundary
   name_start v a = rw a refl
 
-  pub name_end : (v : Text) → after_name n x (codes "start") t ≡ None → after_name n x (codes "end") t ≡ Some v →
-      known_boundary n x t ≡ Some (RightWordBoundary, v)
+  pub name_end : (v : Text) → after_name x (codes "start") t ≡ None → after_name x (codes "end") t ≡ Some v →
+      known_boundary x t ≡ Some (RightWordBoundary, v)
   unfolding known_boundary
   name_end v a b = rw (a, b) refl
 
-  pub name_start_half : (v : Text) → after_name n x (codes "start") t ≡ None → after_name n x (codes "end") t ≡ None →
-      after_name n x (codes "start-half") t ≡ Some v → known_boundary n x t ≡ Some (LeftWordHalfBoundary, v)
+  pub name_start_half : (v : Text) → after_name x (codes "start") t ≡ None → after_name x (codes "end") t ≡ None →
+      after_name x (codes "start-half") t ≡ Some v → known_boundary x t ≡ Some (LeftWordHalfBoundary, v)
   unfolding known_boundary
   name_start_half v a b d = rw (a, b, d) refl
 
-  pub name_end_half : (o : Option Text) → after_name n x (codes "start") t ≡ None →
-      after_name n x (codes "end") t ≡ None → after_name n x (codes "start-half") t ≡ None →
-      after_name n x (codes "end-half") t ≡ o → known_boundary n x t ≡ option_map (λ v. (RightWordHalfBoundary, v)) o
+  pub name_end_half : (o : Option Text) → after_name x (codes "start") t ≡ None →
+      after_name x (codes "end") t ≡ None → after_name x (codes "start-half") t ≡ None →
+      after_name x (codes "end-half") t ≡ o → known_boundary x t ≡ option_map (λ v. (RightWordHalfBoundary, v)) o
   unfolding known_boundary
   name_end_half o a b d e = rw (a, b, d, e) refl
 

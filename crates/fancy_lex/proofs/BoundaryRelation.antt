@@ -6,14 +6,16 @@ use Rattle.std.specs.Borrow.{Bor}
 use Rattle.fancy_lex.specs.declared.error.Error.{Error}
 use Rattle.fancy_lex.specs.declared.escape.Assertion.{Assertion}
 use Rattle.fancy_lex.specs.declared.escape.Escaped.{Escaped}
-use Rattle.fancy_lex.specs.Boundary.{boundary_of_name, unnamed_boundary, at_count, name, named_boundary, boundary}
+use Rattle.fancy_lex.specs.Boundary.{boundary_of_name, unnamed_boundary, at_count}
+use Rattle.fancy_lex.specs.BoundarySteps.{name, named_boundary, boundary}
 use Rattle.fancy_lex.specs.Boundary.{BracedName, close, character, open_layout, no_end, fault_behind, Braces, Boundary}
 use Rattle.fancy_lex.specs.Boundary.{no_brace, count, known, unknown, name_fault, open_before, open_inside}
 use Rattle.fancy_lex.specs.Characters.{open_brace, close_brace}
 use Rattle.fancy_lex.specs.Escaped.{Escape, assertion, escape_of}
 use Rattle.fancy_lex.specs.Fault.{Fault}
 use Rattle.fancy_lex.specs.FaultTable.{comment_not_closed, name_of_no_boundary}
-use Rattle.fancy_lex.specs.Layout.{Skipped, rest, fault, layout, Before}
+use Rattle.fancy_lex.specs.Layout.{Before}
+use Rattle.fancy_lex.specs.LayoutSteps.{Skipped, rest, fault, layout}
 use Rattle.fancy_lex.specs.Reading.{Reading, gives, fails, ◌>=>◌, Answers, Derives}
 use Rattle.fancy_lex.specs.Text.{Text, strip}
 use Rattle.fancy_lex.proofs.BoundaryLaws.{name_open, name_unclosed, name_close, name_step}

@@ -8,7 +8,7 @@ use Rattle.std.proofs.lemmas.Str.{len_utf8_bounds}
 use Rattle.std.specs.Borrow.{Bor}
 use Rattle.std.specs.declared.alloc.Global.{Global}
 use Rattle.fancy_lex.specs.Characters.{backslash, open_bracket, close_bracket, caret}
-use Rattle.fancy_lex.specs.Class.{class_head, with_mark, items_from, class, item_text, is_negated, is_plain, Outcome}
+use Rattle.fancy_lex.specs.Class.{class_head, with_mark, items_from, class, item_text, is_negated, is_plain, Written}
 use Rattle.fancy_lex.specs.Class.{written, fault, Class, class_items, items_fault, Items, close, plain, escaped, nested}
 use Rattle.fancy_lex.specs.Class.{end, plain_fault, escape_fault, escaped_fault, class_fault, nested_fault}
 use Rattle.fancy_lex.specs.Class.{OuterClass}
@@ -86,7 +86,7 @@ module _ (n : ℕ) (f : Flags) where
   items_closing (suc k) depth b out v m = refl
 
 -- what the function does with k steps left, where the relation says o
-abbrev Runs : ℕ → Flags → Reading Text → Text → ℕ → Text → Outcome → Type 0
+abbrev Runs : ℕ → Flags → Reading Text → Text → ℕ → Text → Written → Type 0
 Runs n f here t depth out (written w a v) =
     (j : ℕ) × (bytes v < j) × (bytes v < bytes t) × (here ≡ ended n f j depth a (out ++ w) v)
 Runs n f here t depth out (fault e) = here ≡ fails e
@@ -132,7 +132,7 @@ positive : (a k : ℕ) → a < k → 0 < k
 positive a k l = omega arith
 
 mutual
-  run_class : {n : ℕ} {f : Flags} {b : Bool} {t : Text} {o : Outcome} → Class n f b t o → (k depth : ℕ) (out : Text) →
+  run_class : {n : ℕ} {f : Flags} {b : Bool} {t : Text} {o : Written} → Class n f b t o → (k depth : ℕ) (out : Text) →
       bytes t < k → Runs n f (at_class n f k depth b out t) t depth out o
   run_class {n} {f} {b} {t} (class_items {a} {u} {v} {head} {w} e h) k depth out l =
       let less = head_bytes t head u e in
@@ -141,7 +141,7 @@ mutual
   run_class {n} {f} {b} {t} (items_fault {u} {head} e h) k depth out l =
       at_head n f k depth b out t head u e ∙ run_items h k depth (out ++ head) (omega (arith, head_bytes t head u e, l))
 
-  run_items : {n : ℕ} {f : Flags} {b : Bool} {t : Text} {o : Outcome} → Items n f b t o → (k depth : ℕ) (out : Text) →
+  run_items : {n : ℕ} {f : Flags} {b : Bool} {t : Text} {o : Written} → Items n f b t o → (k depth : ℕ) (out : Text) →
       bytes t < k → Runs n f (items_from n f k depth b out t) t depth out o
   run_items {n} {f} {b} (close {v}) k depth out l =
       (pred k, step_left n f k depth b out v 93 l, bytes_cons 93 v, items_closing n f k depth b out v (positive _ k l))
@@ -179,11 +179,11 @@ mutual
       ∙ ended_inside n f j depth m (out ++ x) u ∙ run_items h j depth (out ++ x) more
 
 -- the function's answer, as the relation puts it
-abbrev answer : Outcome → Reading Text
+abbrev answer : Written → Reading Text
 answer (written w a v) = gives w v
 answer (fault e) = fails e
 
-pub class_complete : (n : ℕ) (f : Flags) (t : Text) (o : Outcome) → Class n f false t o → class n f t ≡ answer o
+pub class_complete : (n : ℕ) (f : Flags) (t : Text) (o : Written) → Class n f false t o → class n f t ≡ answer o
 unfolding class
 class_complete n f t (written w a v) h = let (j, m, less, q) = run_class h (suc (bytes t)) 0 [] (omega arith) in q
 class_complete n f t (fault e) h = run_class h (suc (bytes t)) 0 [] (omega arith)
@@ -194,29 +194,29 @@ class_is n f t (fails e) h = class_complete n f t _ h
 
 -- Every text reads, or has a fault.
 
-abbrev Less : Text → Outcome → Type 0
+abbrev Less : Text → Written → Type 0
 Less t (written w a v) = bytes v < bytes t
 Less t (fault e) = Unit {0}
 
-abbrev Reads : ℕ → Flags → Bool → Text → Type 0
-Reads n f b t = (o : Outcome) × Items n f b t o × Less t o
+abbrev ReadsClass : ℕ → Flags → Bool → Text → Type 0
+ReadsClass n f b t = (o : Written) × Items n f b t o × Less t o
 
 abbrev ReadsShort : ℕ → Flags → ℕ → Type 0
-ReadsShort n f k = (b : Bool) (t : Text) → bytes t < k → Reads n f b t
+ReadsShort n f k = (b : Bool) (t : Text) → bytes t < k → ReadsClass n f b t
 
 class_within : (n : ℕ) (f : Flags) (b : Bool) (t head u : Text) → ◌≡◌ {A = Text × Text} (class_head [] t) (head, u) →
-    Reads n f b u → (o : Outcome) × Class n f b t o × Less t o
+    ReadsClass n f b u → (o : Written) × Class n f b t o × Less t o
 class_within n f b t head u e (written w a v, h, less) =
     (written (head ++ w) a v, class_items e h, omega (arith, less, head_bytes t head u e))
 class_within n f b t head u e (fault x, h, less) = (fault x, items_fault e h, tt)
 
 module _ (n : ℕ) (f : Flags) (k : ℕ) (reads : ReadsShort n f k) (b : Bool) (t : Text) (l : bytes t < k) where
-  plain_reads : (c : ℕ) → is_plain c ≡ true → Reads n f b t → Reads n f b (c ∷ t)
+  plain_reads : (c : ℕ) → is_plain c ≡ true → ReadsClass n f b t → ReadsClass n f b (c ∷ t)
   plain_reads c p (written w a v, h, less) = (written (c ∷ w) a v, plain p h, omega (arith, less, bytes_cons c t))
   plain_reads c p (fault e, h, less) = (fault e, plain_fault p h, tt)
 
   escaped_reads : (e : Escape) (u : Text) → escape n f true (place_of n (backslash ∷ t)) t ≡ gives e u →
-      Reads n f (b || is_negated e) u → Reads n f b (backslash ∷ t)
+      ReadsClass n f (b || is_negated e) u → ReadsClass n f b (backslash ∷ t)
   escaped_reads e u q (written w a v, h, less) = (
     written (item_text b e ++ w) a v,
     escaped q h,
@@ -224,40 +224,42 @@ module _ (n : ℕ) (f : Flags) (k : ℕ) (reads : ReadsShort n f k) (b : Bool) (
   )
   escaped_reads e u q (fault x, h, less) = (fault x, escaped_fault q h, tt)
 
-  escape_reads : (r : Reading Escape) → escape n f true (place_of n (backslash ∷ t)) t ≡ r → Reads n f b (backslash ∷ t)
+  escape_reads : (r : Reading Escape) → escape n f true (place_of n (backslash ∷ t)) t ≡ r →
+      ReadsClass n f b (backslash ∷ t)
   escape_reads (gives e u) q = escaped_reads e u q
       (reads (b || is_negated e) u (omega (arith, escape_within n f true _ t u e q, l)))
   escape_reads (fails e) q = (fault e, escape_fault q, tt)
 
-  behind_class : (x : Text) (m : Bool) (u : Text) → Class n f b t (written x m u) → bytes u < bytes t → Reads n f m u →
-      Reads n f b (open_bracket ∷ t)
+  behind_class : (x : Text) (m : Bool) (u : Text) → Class n f b t (written x m u) → bytes u < bytes t →
+      ReadsClass n f m u →
+      ReadsClass n f b (open_bracket ∷ t)
   behind_class x m u g shorter (written w a v, h, less) =
       (written (x ++ w) a v, nested g h, omega (arith, less, shorter, bytes_cons 91 t))
   behind_class x m u g shorter (fault e, h, less) = (fault e, nested_fault g h, tt)
 
-  class_item : (o : Outcome) × Class n f b t o × Less t o → Reads n f b (open_bracket ∷ t)
+  class_item : (o : Written) × Class n f b t o × Less t o → ReadsClass n f b (open_bracket ∷ t)
   class_item (written x m u, g, less) = behind_class x m u g less (reads m u (omega (arith, less, l)))
   class_item (fault e, g, less) = (fault e, class_fault g, tt)
 
-  nested_reads : Reads n f b (open_bracket ∷ t)
+  nested_reads : ReadsClass n f b (open_bracket ∷ t)
   nested_reads =
       let p = class_head [] t in
       class_item (class_within n f b t p.0 p.1 refl (reads b p.1 (omega (arith, class_head_bytes t, l))))
 
-  one_more : (c : ℕ) → Reads n f b (c ∷ t)
+  one_more : (c : ℕ) → ReadsClass n f b (c ∷ t)
   one_more c = by_backslash (cases_eq c 92) where
     plain_left : (c ≢ 92) → (c ≢ 91) → (c ≢ 93) → is_plain c ≡ true
     plain_left x y z = grind (arith, nat_tests)
 
-    by_close : (c ≢ 92) → (c ≢ 91) → (c ≡ 93) ⊎ (c ≢ 93) → Reads n f b (c ∷ t)
+    by_close : (c ≢ 92) → (c ≢ 91) → (c ≡ 93) ⊎ (c ≢ 93) → ReadsClass n f b (c ∷ t)
     by_close x y (inl e) = rw e (written (close_bracket ∷ []) b t, close, bytes_cons 93 t)
     by_close x y (inr z) = plain_reads c (plain_left x y z) (reads b t l)
 
-    by_open : (c ≢ 92) → (c ≡ 91) ⊎ (c ≢ 91) → Reads n f b (c ∷ t)
+    by_open : (c ≢ 92) → (c ≡ 91) ⊎ (c ≢ 91) → ReadsClass n f b (c ∷ t)
     by_open x (inl e) = rw e nested_reads
     by_open x (inr y) = by_close x y (cases_eq c 93)
 
-    by_backslash : (c ≡ 92) ⊎ (c ≢ 92) → Reads n f b (c ∷ t)
+    by_backslash : (c ≡ 92) ⊎ (c ≢ 92) → ReadsClass n f b (c ∷ t)
     by_backslash (inl e) = rw e (escape_reads _ refl)
     by_backslash (inr x) = by_open x (cases_eq c 91)
 
@@ -266,7 +268,7 @@ items_read n f zero b t l = absurd (omega arith)
 items_read n f (suc k) b [] l = (fault (class_not_closed n), end, tt)
 items_read n f (suc k) b (c ∷ t) l = one_more n f k (items_read n f k) b t (omega (arith, l, bytes_cons c t)) c
 
-outer : (n : ℕ) (f : Flags) (t : Text) (o : Outcome) → Class n f false t o → OuterClass n f t (answer o)
+outer : (n : ℕ) (f : Flags) (t : Text) (o : Written) → Class n f false t o → OuterClass n f t (answer o)
 outer n f t (written w a v) h = (a, h)
 outer n f t (fault e) h = h
 

@@ -13,8 +13,9 @@ use Rattle.fancy_lex.specs.Escaped.{Escape, delegate, literal, literal_bytes}
 use Rattle.fancy_lex.specs.Fault.{invalid_class, invalid_hex, invalid_codepoint_value, unclosed_unicode_name}
 use Rattle.fancy_lex.specs.Hex.{hex, value, braced_value, digits, fixed_digits, hex_digit, closing_brace, leaf_of_value}
 use Rattle.fancy_lex.specs.Hex.{is_scalar}
-use Rattle.fancy_lex.specs.Layout.{layout, layout_from, Skipped, rest, fault, State, between, two, one, comment}
-use Rattle.fancy_lex.specs.Layout.{escaped, line, after_comment_head, is_blank}
+use Rattle.fancy_lex.specs.Layout.{is_blank}
+use Rattle.fancy_lex.specs.LayoutSteps.{layout, layout_from, Skipped, rest, fault, Phase, between, two, one, comment}
+use Rattle.fancy_lex.specs.LayoutSteps.{escaped, line, after_comment_head}
 use Rattle.fancy_lex.specs.Property.{Property, PropertyName, read_property, name_at, property_text}
 use Rattle.fancy_lex.specs.Property as property_spec
 use Rattle.fancy_lex.specs.Reading.{Reading, gives, fails, fault_at, choose, layout_reading, ◌>=>◌}
@@ -62,10 +63,10 @@ step_is : (n : ℕ) (x b : Bool) (d : ℕ) (t : Text) → is_some (after_comment
 step_is n x b d t q = between_step n x (d ∷ t) d t refl ∙ ap (λ a. step_on n x a d t) q
 
 module _ (n m : ℕ) (x : Bool) (s : Text) (c : ℕ) (r : Text) (paren : c ≢ open_paren) where
-  abbrev From : State → Text → Type 0
+  abbrev From : Phase → Text → Type 0
   From st t = layout_from n x st t ≡ rest (c ∷ r) → layout_from m x st (t ++ s) ≡ rest ((c ∷ r) ++ s)
 
-  module _ (d : ℕ) (t : Text) (rec : (st : State) → From st t) where
+  module _ (d : ℕ) (t : Text) (rec : (st : Phase) → From st t) where
     from_step : (b : Bool) → is_some (after_comment_head (d ∷ t)) ≡ b →
         is_some (after_comment_head (d ∷ (t ++ s))) ≡ b → From between (d ∷ t)
     from_step b q z e =
@@ -82,7 +83,7 @@ module _ (n m : ℕ) (x : Bool) (s : Text) (c : ℕ) (r : Text) (paren : c ≢ o
         let stop = at_paren n x d t h q in
         absurd (paren (sym (first_same d c t r (rest_same _ _ (sym stop ∙ e))) ∙ h))
 
-    from_next : (st : State) → From st (d ∷ t)
+    from_next : (st : Phase) → From st (d ∷ t)
     unfolding layout_from
     from_next between e = from_between _ refl (cases_eq d open_paren) e
     from_next two e = rec one e
@@ -92,7 +93,7 @@ module _ (n m : ℕ) (x : Bool) (s : Text) (c : ℕ) (r : Text) (paren : c ≢ o
     from_next escaped e = rec comment e
     from_next line e = from_if (d == line_feed) _ _ _ _ _ _ (rec between) (rec line) e
 
-  layout_from_frame : (t : Text) (st : State) → From st t
+  layout_from_frame : (t : Text) (st : Phase) → From st t
   unfolding layout_from
   layout_from_frame [] between e = absurd cc
   layout_from_frame [] two e = absurd cc

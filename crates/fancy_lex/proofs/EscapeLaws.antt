@@ -5,13 +5,14 @@ use Rattle.std.proofs.Common.{if◌then◌else◌, [], ◌∷◌, ◌++◌, Opti
 use Rattle.std.specs.Char.{digit_value}
 use Rattle.fancy_lex.specs.declared.flags.Flags.{Flags}
 use Rattle.fancy_lex.specs.Boundary as boundaries
+use Rattle.fancy_lex.specs.BoundarySteps as boundary_steps
 use Rattle.fancy_lex.specs.Characters.{open_brace, close_brace, ◌∈◌}
 use Rattle.fancy_lex.specs.Escape.{escape, number_escape, call, backref_leaf, property, outside, in_class}
 use Rattle.fancy_lex.specs.EscapeReference.{back_reference}
 use Rattle.fancy_lex.specs.Escaped.{Escape}
 use Rattle.fancy_lex.specs.Fault.{Kind, invalid_escape}
 use Rattle.fancy_lex.specs.Hex as hexes
-use Rattle.fancy_lex.specs.Layout.{Skipped, rest, fault, layout}
+use Rattle.fancy_lex.specs.LayoutSteps.{Skipped, rest, fault, layout}
 use Rattle.fancy_lex.specs.Property.{single, braced, name_at, read_property}
 use Rattle.fancy_lex.specs.Reading.{Reading, gives, fails, fault_at, ◌>=>◌, choose, layout_reading}
 use Rattle.fancy_lex.specs.Referred.{Reference}
@@ -126,40 +127,40 @@ module _ (n p : ℕ) where
 
   -- word boundaries
   module _ (x : Bool) where
-    leaves_name_behind : (k : ℕ) → ((t : Text) → Leaves n p t (boundaries.name n x p k t)) → (t : Text) →
-        Leaves n p t (boundaries.up_to_brace (fault_at p (invalid_escape (codes "\\b{...}"))) (gives [])
-        (λ c v. boundaries.name n x p k v >=> (λ w v. gives (c ∷ w) v)) t)
+    leaves_name_behind : (k : ℕ) → ((t : Text) → Leaves n p t (boundary_steps.name n x p k t)) → (t : Text) →
+        Leaves n p t (boundary_steps.up_to_brace (fault_at p (invalid_escape (codes "\\b{...}"))) (gives [])
+        (λ c v. boundary_steps.name n x p k v >=> (λ w v. gives (c ∷ w) v)) t)
     leaves_name_behind k more [] = leaves_told
     leaves_name_behind k more (c ∷ t) =
         let past = ends_past c t t (ends_whole t) in
         leaves_if (c == close_brace) (leaves past) (leaves_past past (leaves_both (more t) (λ w v. whole v)))
 
-    leaves_name : (k : ℕ) (t : Text) → Leaves n p t (boundaries.name n x p k t)
-    unfolding boundaries.name
+    leaves_name : (k : ℕ) (t : Text) → Leaves n p t (boundary_steps.name n x p k t)
+    unfolding boundary_steps.name
     leaves_name zero t = leaves_told
     leaves_name (suc k) t = leaves_both (leaves_layout n p x t) (λ _ u. leaves_name_behind k (leaves_name k) u)
 
-    leaves_named : (negated : Bool) (t : Text) → Leaves n p t (boundaries.named_boundary n x p negated t)
-    unfolding boundaries.named_boundary
+    leaves_named : (negated : Bool) (t : Text) → Leaves n p t (boundary_steps.named_boundary n x p negated t)
+    unfolding boundary_steps.named_boundary
     leaves_named negated t = leaves_both (leaves_name (suc (length t)) t)
         (λ w u. leaves_choose (boundaries.boundary_of_name negated w) (λ a e. whole u) (leaves_told))
 
-    pub leaves_boundary : (negated : Bool) (t : Text) → Leaves n p t (boundaries.boundary n x p negated t)
-    unfolding boundaries.boundary
+    pub leaves_boundary : (negated : Bool) (t : Text) → Leaves n p t (boundary_steps.boundary n x p negated t)
+    unfolding boundary_steps.boundary
     leaves_boundary negated t = at (layout n x t) refl where
       at : (o : Skipped) → layout n x t ≡ o →
           Leaves n p t (layout_reading o >=>
           (λ _ u. choose (strip open_brace u)
           (λ inside. layout_reading (layout n x inside) >=>
           (λ _ v. if boundaries.at_count v then gives (boundaries.unnamed_boundary negated) t
-          else boundaries.named_boundary n x p negated inside)) (gives (boundaries.unnamed_boundary negated) t)))
+          else boundary_steps.named_boundary n x p negated inside)) (gives (boundaries.unnamed_boundary negated) t)))
       at (rest u) e = leaves_choose (strip open_brace u) (λ inside h. braces u inside e h (layout n x inside) refl)
           (whole t) where
             braces : (u inside : Text) → layout n x t ≡ rest u → strip open_brace u ≡ Some inside → (o : Skipped) →
                 layout n x inside ≡ o → Leaves n p t
                 (layout_reading o >=>
                 (λ _ v. if boundaries.at_count v then gives (boundaries.unnamed_boundary negated) t
-                else boundaries.named_boundary n x p negated inside))
+                else boundary_steps.named_boundary n x p negated inside))
             braces u inside e h (rest v) i =
                 leaves_if (boundaries.at_count v) (whole t)
                 (leaves_past (ends_twice t u inside (layout_cut n x t u e) (ends_strip open_brace u inside h))
@@ -202,7 +203,7 @@ module _ (n : ℕ) (f : Flags) (inside : Bool) (p : ℕ) where
       leaves_both (takes_leaves (place_of n (d ∷ t)) 1 (d ∷ t) (stands_here (d ∷ t)) (takes_subroutine_call n (d ∷ t)))
       (λ r u. whole u)
 
-  boundary_here : (negated : Bool) (t : Text) → Leaves n p t (boundaries.boundary n f.ignore_space p negated t)
+  boundary_here : (negated : Bool) (t : Text) → Leaves n p t (boundary_steps.boundary n f.ignore_space p negated t)
   boundary_here = leaves_boundary n p f.ignore_space
 
   leaves_outside : (c : ℕ) (t : Text) → Leaves n p t (outside n f p c t)

@@ -5,13 +5,14 @@ use Rattle.std.proofs.lemmas.Bool.{cond_both}
 use Rattle.std.proofs.lemmas.Bool.Decides.{nat_tests}
 use Rattle.std.specs.Char.{is_ascii_digit}
 use Rattle.fancy_lex.specs.Boundary as boundaries
+use Rattle.fancy_lex.specs.BoundarySteps as boundary_steps
 use Rattle.fancy_lex.specs.Characters.{open_brace, ◌∈◌}
 use Rattle.fancy_lex.specs.Escape.{escape, number_escape, call, backref_leaf, property, outside, in_class, is_itself}
 use Rattle.fancy_lex.specs.EscapeReference.{group_number, numbered_reference, back_reference, subroutine_call}
 use Rattle.fancy_lex.specs.Escaped.{Escape, literal, literal_bytes, any, assertion, general_newline, keep_out}
 use Rattle.fancy_lex.specs.Escaped.{continue_from_previous_match_end, delegate, backref, subroutine_call as called}
 use Rattle.fancy_lex.specs.Hex as hexes
-use Rattle.fancy_lex.specs.Layout.{layout}
+use Rattle.fancy_lex.specs.LayoutSteps.{layout}
 use Rattle.fancy_lex.specs.Property.{read_property}
 use Rattle.fancy_lex.specs.Reading.{Reading, gives, fails, ◌>=>◌, choose, layout_reading}
 use Rattle.fancy_lex.specs.Referred.{Reference, Call}
@@ -129,17 +130,18 @@ module _ (n : ℕ) where
     sound_property inside p c [] = tt
     sound_property inside p c (d ∷ t) = sound_choose (d ∷ t) (read_property (c ∈ "P") (d ∷ t)) _ _ (λ q. tt) tt
 
-    sound_boundary : (p : ℕ) (negated : Bool) (t : Text) → Sound n t (boundaries.boundary n f.ignore_space p negated t)
-    unfolding boundaries.boundary boundaries.named_boundary
+    sound_boundary : (p : ℕ) (negated : Bool) (t : Text) →
+        Sound n t (boundary_steps.boundary n f.ignore_space p negated t)
+    unfolding boundary_steps.boundary boundary_steps.named_boundary
     sound_boundary p negated t =
         sound_both t (layout_reading (layout n f.ignore_space t)) _
         (λ _ u. sound_choose t (strip open_brace u) _ _
         (λ v. sound_both t (layout_reading (layout n f.ignore_space v)) _
         (λ _ w. cond_both (boundaries.at_count w) _ _ (Sound n t) (λ _. tt) (λ _. braces v))) tt)
       where
-        braces : (v : Text) → Sound n t (boundaries.named_boundary n f.ignore_space p negated v)
+        braces : (v : Text) → Sound n t (boundary_steps.named_boundary n f.ignore_space p negated v)
         braces v =
-            sound_both t (boundaries.name n f.ignore_space p _ v) _
+            sound_both t (boundary_steps.name n f.ignore_space p _ v) _
             (λ w u. sound_choose t (boundaries.boundary_of_name negated w) _ _ (λ a. tt) tt)
 
     sound_outside : (p c : ℕ) (t : Text) → Sound n t (outside n f p c t)

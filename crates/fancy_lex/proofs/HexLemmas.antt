@@ -6,7 +6,7 @@ use Rattle.std.proofs.lemmas.Bool.Decides.{nat_tests}
 use Rattle.fancy_lex.specs.Characters.{close_brace}
 use Rattle.fancy_lex.specs.FaultTable.{code_not_read}
 use Rattle.fancy_lex.specs.Text.{Text, strip}
-use Rattle.fancy_lex.specs.Layout.{layout}
+use Rattle.fancy_lex.specs.LayoutSteps.{layout}
 use Rattle.fancy_lex.specs.Reading.{gives, fails, Says, layout_reading}
 use Rattle.fancy_lex.specs.declared.error.Error.{Error}
 use Rattle.fancy_lex.proofs.ReadingLemmas.{says_first}

@@ -11,7 +11,8 @@ use Rattle.fancy_lex.specs.FaultTable.{code_not_read, comment_not_closed}
 use Rattle.fancy_lex.specs.Hex.{hex_digit, fixed_digits, closing_brace, digits, braced_value, value, leaf_of_value, hex}
 use Rattle.fancy_lex.specs.Hex.{Digits, no_digit, digit, BracedCode, braced, stuck, open_before, open_behind, Code}
 use Rattle.fancy_lex.specs.Hex.{fixed, in_braces, neither, HexCode, code, code_fault, open_layout}
-use Rattle.fancy_lex.specs.Layout.{Skipped, rest, fault, layout, Before}
+use Rattle.fancy_lex.specs.Layout.{Before}
+use Rattle.fancy_lex.specs.LayoutSteps.{Skipped, rest, fault, layout}
 use Rattle.fancy_lex.specs.Reading.{Reading, gives, fails, ◌>=>◌, choose, Reads, Derives, layout_reading}
 use Rattle.fancy_lex.specs.Text.{Text, strip, place_of}
 use Rattle.fancy_lex.proofs.HexLemmas.{digits_step, digits_end, digits_done}

@@ -8,9 +8,12 @@ use Rattle.std.specs.Borrow.{Bor}
 use Rattle.fancy_lex.specs.Characters.{line_feed, hash, open_paren, close_paren, backslash}
 use Rattle.fancy_lex.specs.Text.{Text, Stands, past_end}
 use Rattle.fancy_lex.proofs.LeaveLaws.{stands_end}
-use Rattle.fancy_lex.specs.Layout.{skipped_of, rest, fault, InComment, nothing, plain, pair, InLine, end_line, on_line}
-use Rattle.fancy_lex.specs.Layout.{comment_head, IsUnit, Units, none, more, Stops, layout, layout_from, between}
-use Rattle.fancy_lex.specs.Layout.{comment, escaped, line, is_blank, after_comment_head, Open, at_end, after_backslash}
+use Rattle.fancy_lex.specs.Layout.{InComment, nothing, plain, pair, InLine, end_line, on_line}
+use Rattle.fancy_lex.specs.LayoutView.{skipped_of}
+use Rattle.fancy_lex.specs.Layout.{comment_head, IsUnit, Units, none, more, Stops}
+use Rattle.fancy_lex.specs.Layout.{is_blank, Open, at_end, after_backslash}
+use Rattle.fancy_lex.specs.LayoutSteps.{rest, fault, layout, layout_from, between, comment, escaped, line}
+use Rattle.fancy_lex.specs.LayoutSteps.{after_comment_head}
 use Rattle.fancy_lex.specs.Layout.{Unclosed, Before}
 use Rattle.fancy_lex.proofs.LayoutLemmas.{between_opened, comment_step, comment_end, escaped_end, escaped_step}
 use Rattle.fancy_lex.proofs.LayoutLemmas.{escaped_end, line_step, between_line, between_blank, between_other}

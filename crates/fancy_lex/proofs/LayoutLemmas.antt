@@ -1,11 +1,12 @@
 -- One step of the layout's definition, where the text is known by an equation.
-use Rattle.std.proofs.Common.{◌≡◌, ◌≢◌, ◌+◌, ℕ, Bool, true, [], ◌∷◌, Some, None, false, arith, ◌==◌, ◌&&◌}
+use Rattle.std.proofs.Common.{◌≡◌, ◌≢◌, ◌+◌, ℕ, Bool, true, [], ◌∷◌, Option, Some, None, false, arith, ◌==◌, ◌&&◌}
 use Rattle.std.proofs.Common.{if◌then◌else◌, is_some, ap, refl, ◌∙◌}
 use Rattle.std.proofs.lemmas.Bool.Decides.{nat_tests}
 use Rattle.fancy_lex.specs.Characters.{line_feed, hash, open_paren, close_paren, backslash}
 use Rattle.fancy_lex.specs.Text.{Text}
-use Rattle.fancy_lex.specs.Layout.{rest, fault, layout_from, between, two, comment, escaped, line, is_blank, is_layout}
-use Rattle.fancy_lex.specs.Layout.{after_comment_head}
+use Rattle.fancy_lex.specs.Layout.{is_blank}
+use Rattle.fancy_lex.specs.LayoutSteps.{rest, fault, Skipped, rest_of, layout, past_layout, layout_from, Phase, between}
+use Rattle.fancy_lex.specs.LayoutSteps.{two, one, comment, escaped, line, is_layout, after_comment_head}
 
 module _ (n : ℕ) (x : Bool) (t : Text) where
   pub comment_end : t ≡ [] → layout_from n x comment t ≡ fault n
@@ -54,6 +55,39 @@ between_opened n x [] i e = cc
 between_opened n x (c ∷ []) i e = grind (arith, nat_tests)
 between_opened n x (c ∷ d ∷ []) i e = grind (arith, nat_tests)
 between_opened n x (c ∷ d ∷ f ∷ r) i e = grind (arith, nat_tests)
+
+-- ---- what is left does not hang on where the pattern ends
+
+-- whatever is asked of it that no fault's place changes
+module _ (n m : ℕ) (x : Bool) (r : Skipped → Option Text) (any_place : (p q : ℕ) → r (fault p) ≡ r (fault q)) where
+  by_test : (b : Bool) (p q p' q' : Skipped) → r p ≡ r p' → r q ≡ r q' →
+      r (if b then p else q) ≡ r (if b then p' else q')
+  by_test true p q p' q' g h = g
+  by_test false p q p' q' g h = h
+
+  same_at : (t : Text) (s : Phase) → r (layout_from n x s t) ≡ r (layout_from m x s t)
+  unfolding layout_from
+  same_at [] between = refl
+  same_at [] two = refl
+  same_at [] one = refl
+  same_at [] comment = any_place _ _
+  same_at [] escaped = any_place _ _
+  same_at [] line = refl
+  same_at (c ∷ t) between =
+      by_test (is_some (after_comment_head (c ∷ t))) _ _ _ _ (same_at t two)
+      (by_test (x && c == hash) _ _ _ _ (same_at t line) (by_test (x && is_blank c) _ _ _ _ (same_at t between) refl))
+  same_at (c ∷ t) two = same_at t one
+  same_at (c ∷ t) one = same_at t comment
+  same_at (c ∷ t) comment =
+      by_test (c == close_paren) _ _ _ _ (same_at t between)
+      (by_test (c == backslash) _ _ _ _ (same_at t escaped) (same_at t comment))
+  same_at (c ∷ t) escaped = same_at t comment
+  same_at (c ∷ t) line = by_test (c == line_feed) _ _ _ _ (same_at t between) (same_at t line)
+
+pub past_layout_is : (n : ℕ) (x : Bool) (t : Text) (o : Skipped) → layout n x t ≡ o → past_layout x t ≡ rest_of o
+past_layout_is n x t o e = same_at 0 n x rest_of (λ p q. refl) t between ∙ ap rest_of e
+
+-- ---- what code has tested
 
 -- nothing that the flag lets pass
 pub between_plain : (n : ℕ) (t : Text) → after_comment_head t ≡ None → layout_from n false between t ≡ rest t

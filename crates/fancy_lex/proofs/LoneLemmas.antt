@@ -32,7 +32,8 @@ by_place n f inside p c t digit on other =
     let tab : (c ∈ "t") ≡ false = grind (arith, nat_tests) in
     let vertical : (c ∈ "v") ≡ false = grind (arith, nat_tests) in
     let escaping : (c ∈ "e") ≡ false = grind (arith, nat_tests) in
-    rw (digit, set, hex, no_hex, two, four, eight, property, bell, form_feed, line_feed, return, tab, vertical, escaping) refl
+    rw (digit, set, hex, no_hex, two, four, eight, property, bell, form_feed, line_feed, return, tab, vertical)
+    (rw escaping refl)
 
 -- a character that stands for itself
 pub lone_itself : (n : ℕ) (f : Flags) (inside : Bool) (p c : ℕ) (t : Text) → is_itself inside c ≡ true →

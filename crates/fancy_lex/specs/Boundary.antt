@@ -1,6 +1,6 @@
 -- Word boundaries behind `\b` and `\B`.
-use Rattle.std.specs.Prelude.{◌≡◌, ◌≢◌, ℕ, zero, suc, Bool, true, false, ◌||◌, ◌==◌, if◌then◌else◌, [], ◌∷◌, length}
-use Rattle.std.specs.Prelude.{codes, Option, Some, None}
+use Rattle.std.specs.Prelude.{◌≡◌, ◌≢◌, ℕ, Bool, true, false, ◌||◌, ◌==◌, if◌then◌else◌, [], ◌∷◌, codes, Option, Some}
+use Rattle.std.specs.Prelude.{None}
 use Rattle.std.specs.Str.{bytes_eq}
 use Rattle.std.specs.Char.{is_ascii_digit}
 use Rattle.fancy_lex.specs.declared.escape.Assertion.{Assertion}
@@ -11,8 +11,8 @@ use Rattle.fancy_lex.specs.Characters.{open_brace, close_brace, comma}
 use Rattle.fancy_lex.specs.Escaped.{Escape, assertion}
 use Rattle.fancy_lex.specs.Fault.{Fault}
 use Rattle.fancy_lex.specs.FaultTable.{comment_not_closed, boundary_not_closed, name_of_no_boundary}
-use Rattle.fancy_lex.specs.Layout.{layout, Before, Unclosed}
-use Rattle.fancy_lex.specs.Reading.{Reading, gives, fails, ◌>=>◌, choose, layout_reading}
+use Rattle.fancy_lex.specs.Layout.{Before, Unclosed}
+use Rattle.fancy_lex.specs.Reading.{Reading, gives, fails}
 use Rattle.fancy_lex.specs.Text.{Text, strip}
 
 -- the names of `\b`; `\B`, which is negated, has none
@@ -33,42 +33,6 @@ unnamed_boundary negated = assertion (if negated then NotWordBoundary else WordB
 abbrev pub at_count : Text → Bool
 at_count [] = false
 at_count (c ∷ t) = is_ascii_digit c || c == comma
-
--- a closing brace and what follows it, or a step more, or the end
-abbrev pub up_to_brace : {A : Type 0} → A → (Text → A) → (ℕ → Text → A) → Text → A
-up_to_brace end closed more [] = end
-up_to_brace end closed more (c ∷ t) = if c == close_brace then closed t else more c t
-
--- the backslash stands at the place p of a pattern of n bytes, and x says that blanks are layout
-module _ (n : ℕ) (x : Bool) (p : ℕ) where
-  -- the name up to the first closing brace outside layout, with layout taken out; k steps are left
-  unfoldable pub name : ℕ → Text → Reading Text
-  name zero t = fails (boundary_not_closed p)
-  name (suc k) t =
-      layout_reading (layout n x t) >=> (λ _ u.
-      up_to_brace
-      (fails (boundary_not_closed p))
-      (gives [])
-      (λ c v. name k v >=> (λ w v. gives (c ∷ w) v))
-      u)
-
-  -- behind the opening brace
-  unfoldable pub named_boundary : Bool → Text → Reading Escape
-  named_boundary negated t =
-      name (suc (length t)) t >=> (λ w v.
-      choose (boundary_of_name negated w) (λ a. gives (assertion a) v)
-      (fails (name_of_no_boundary p negated w)))
-
-  -- behind the letter: where no braces belong to the boundary, it ends right there
-  unfoldable pub boundary : Bool → Text → Reading Escape
-  boundary negated t =
-      layout_reading (layout n x t) >=> (λ _ u.
-      choose (strip open_brace u)
-      (λ inside. layout_reading (layout n x inside) >=> (λ _ v.
-      if at_count v then gives (unnamed_boundary negated) t else named_boundary negated inside))
-      (gives (unnamed_boundary negated) t))
-
--- ---- the same as relations: what stands there, and what it comes to
 
 -- the name behind the opening brace: up to the first closing one outside layout, with layout taken out
 pub data BracedName (n : ℕ) (x : Bool) (p : ℕ) : Text → Reading Text → Type 0 where

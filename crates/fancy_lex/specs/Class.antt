@@ -78,9 +78,9 @@ module _ (n : ℕ) (f : Flags) where
   class t = items_from (suc (bytes t)) 0 false (class_head [] t).0 (class_head [] t).1
 
 -- what a class comes to: what is written, whether a negated set is among it or was before, and what is left; or a fault
-pub data Outcome : Type 0 where
-  written : Text → Bool → Text → Outcome
-  fault : Fault → Outcome
+pub data Written : Type 0 where
+  written : Text → Bool → Text → Written
+  fault : Fault → Written
 
 -- a plain character
 abbrev pub is_plain : ℕ → Bool
@@ -88,7 +88,7 @@ is_plain c = not (c ∈ "\\[]")
 
 mutual
   -- a class behind its bracket; the flag says whether a negated set was written before it
-  pub data Class : ℕ → Flags → Bool → Text → Outcome → Type 0 where
+  pub data Class : ℕ → Flags → Bool → Text → Written → Type 0 where
     class_items : {n : ℕ} {f : Flags} {b a : Bool} {t u v head w : Text} →
         ◌≡◌ {A = Text × Text} (class_head [] t) (head, u) →
         Items n f b u (written w a v) → Class n f b t (written (head ++ w) a v)
@@ -97,7 +97,7 @@ mutual
         Items n f b u (fault e) → Class n f b t (fault e)
 
   -- items through the closing bracket
-  pub data Items : ℕ → Flags → Bool → Text → Outcome → Type 0 where
+  pub data Items : ℕ → Flags → Bool → Text → Written → Type 0 where
     close : {n : ℕ} {f : Flags} {b : Bool} {v : Text} →
         Items n f b (close_bracket ∷ v) (written (close_bracket ∷ []) b v)
     plain : {n c : ℕ} {f : Flags} {b a : Bool} {t v w : Text} → is_plain c ≡ true →

@@ -8,7 +8,8 @@ use Rattle.fancy_lex.specs.Characters.{open_brace, close_brace}
 use Rattle.fancy_lex.specs.Escaped.{Escape, literal, literal_bytes}
 use Rattle.fancy_lex.specs.Fault.{Fault}
 use Rattle.fancy_lex.specs.FaultTable.{code_not_read, code_of_no_character, comment_not_closed}
-use Rattle.fancy_lex.specs.Layout.{layout, Before, Unclosed}
+use Rattle.fancy_lex.specs.Layout.{Before, Unclosed}
+use Rattle.fancy_lex.specs.LayoutSteps.{layout}
 use Rattle.fancy_lex.specs.Reading.{Reading, gives, fails, ◌>=>◌, choose, layout_reading}
 use Rattle.fancy_lex.specs.Text.{Text, strip, place_of}
 

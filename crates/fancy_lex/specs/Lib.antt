@@ -9,6 +9,7 @@ pub mod FaultTable
 pub mod Reading
 -- ---- layout, numbers, names, and what they refer to
 pub mod Layout
+pub mod LayoutSteps
 pub mod Number
 pub mod NumberText
 pub mod Id
@@ -17,8 +18,9 @@ pub mod Delimited
 pub mod Referred
 -- ---- escapes and classes
 pub mod Hex
-pub mod BoundaryName
 pub mod Boundary
+pub mod BoundarySteps
+pub mod BoundaryName
 pub mod EscapeReference
 pub mod Property
 pub mod Escape
@@ -26,6 +28,7 @@ pub mod Class
 -- How values of the code stand to the definitions.
 
 pub mod Bits
+pub mod LayoutView
 pub mod Target
 pub mod PropertyForm
 pub mod Escaped

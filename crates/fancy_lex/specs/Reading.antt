@@ -4,7 +4,7 @@ use Rattle.std.specs.Borrow.{Bor}
 use Rattle.fancy_lex.specs.Text.{Text}
 use Rattle.fancy_lex.specs.Fault.{Fault, Kind, kind_of, carries_text}
 use Rattle.fancy_lex.specs.FaultTable.{comment_not_closed}
-use Rattle.fancy_lex.specs.Layout.{Skipped, rest, fault}
+use Rattle.fancy_lex.specs.LayoutSteps.{Skipped, rest, fault}
 use Rattle.fancy_lex.specs.declared.error.Error.{Error}
 use Rattle.fancy_lex.specs.declared.error.Error.TheVariants.{ParseError, OutOfMemory}
 

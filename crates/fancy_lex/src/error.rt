@@ -58,9 +58,9 @@ pub enum ParseError {
     /// A back reference or a condition names no group, as `\k<b>` at 2, or counts back to before the whole pattern, as
     /// `\k<-2>` at 2; or the number of a back reference or a call is above `usize::MAX`, at its first digit.
     InvalidBackref,
-    /// A quantifier stands on nothing, as `+` at 0, or on what cannot be repeated, as `(?=a)+` at 5: a look-around, `\K`,
-    /// `\G`, a verb, and with `FLAG_ONIGURUMA_MODE` an assertion. The place is that of its mark or its closing brace.
-    /// Or no verb has this name, as `(*X)` at 1, the asterisk.
+    /// A quantifier stands on nothing, as `+` at 0, or on what cannot be repeated, as `(?=a)+` at 5: a look-around,
+    /// `\K`, `\G`, a verb, and with `FLAG_ONIGURUMA_MODE` an assertion. The place is that of its mark or its closing
+    /// brace. Or no verb has this name, as `(*X)` at 1, the asterisk.
     TargetNotRepeatable,
     /// The name of a group or in a reference is empty, is not closed, or is not one that may stand there: `(?<>a)` at
     /// 1, the `?`, and `\k<n` at 2, where the reference has its place.

@@ -371,8 +371,8 @@ fn read_escape<'a>(
     }
 }
 
-/// The escape at the front, behind a backslash outside a class, where one look ahead shows that it is a character alone,
-/// and what follows it.
+/// The escape at the front, behind a backslash outside a class, where one look ahead shows that it is a character
+/// alone, and what follows it.
 #[inline(always)]
 #[tactic(auto, unfolding(crate::specs::Escape::escape, crate::specs::Escape::outside))]
 pub fn short_escape(text: &str, flags: Flags) -> Option<(Escaped<'static>, &str)>

@@ -1,8 +1,10 @@
 //! Layout: the comments and blanks between the parts of a pattern.
 ghost use Rattle.std.specs.Prelude.{◌≡◌, ℕ, ◌+◌, ◌<◌, ◌≤◌, ◌^◌, Bool, length, chars, MatchResult, IfOk, IfErr, IfSome, option_map, false};
 ghost use Rattle.fancy_lex.specs.Text.{Text, EndsWith};
-ghost use Rattle.fancy_lex.specs.Layout as spec;
-ghost use Rattle.fancy_lex.specs.Layout.{rest, fault, rest_of, skipped_of};
+ghost use Rattle.fancy_lex.specs.Layout as relation;
+ghost use Rattle.fancy_lex.specs.LayoutSteps as spec;
+ghost use Rattle.fancy_lex.specs.LayoutSteps.{rest, fault};
+ghost use Rattle.fancy_lex.specs.LayoutView.{skipped_of};
 ghost use Rattle.fancy_lex.specs.Reading.{layout_reading, ReadsRest};
 
 use crate::error::{Error, ParseError};
@@ -54,7 +56,7 @@ fn line(text: &str) -> &str
 
 /// Whether the character is layout under IGNORE_SPACE.
 fn is_blank(c: char) -> bool
-    ensures { result ≡ spec.is_blank c }
+    ensures { result ≡ relation.is_blank c }
 {
     c == ' ' || c == '\r' || c == '\n' || c == '\t'
 }
@@ -143,10 +145,10 @@ pub fn layout(text: &str, ignore_space: bool, end: usize) -> Result<&str, usize>
     requires { end < 2 ^ 63 }
     ensures value { spec.layout end ignore_space (chars text.now) ≡ skipped_of result }
     ensures derives { MatchResult result
-        (λ r. spec.Before ignore_space (chars text.now) (chars r.now))
-        (λ p. spec.Unclosed end ignore_space (chars text.now) p) }
-    ensures only { (v : Text) → spec.Before ignore_space (chars text.now) v → skipped_of result ≡ rest v }
-    ensures only_fault { (p : ℕ) → spec.Unclosed end ignore_space (chars text.now) p → skipped_of result ≡ fault p }
+        (λ r. relation.Before ignore_space (chars text.now) (chars r.now))
+        (λ p. relation.Unclosed end ignore_space (chars text.now) p) }
+    ensures only { (v : Text) → relation.Before ignore_space (chars text.now) v → skipped_of result ≡ rest v }
+    ensures only_fault { (p : ℕ) → relation.Unclosed end ignore_space (chars text.now) p → skipped_of result ≡ fault p }
     ensures within { IfOk result (λ r. length r.now ≤ length text.now) }
     ensures place { IfErr result (λ p. p ≤ end + 1) }
 {
@@ -155,12 +157,12 @@ pub fn layout(text: &str, ignore_space: bool, end: usize) -> Result<&str, usize>
 
 /// What follows the layout at the front, if no comment in it is open.
 #[inline]
-pub fn past_layout(text: &str, ignore_space: bool, end: usize) -> Option<&str>
-    requires { end < 2 ^ 63 }
-    ensures value { rest_of (spec.layout end ignore_space (chars text.now)) ≡ option_map (λ r. chars r.now) result }
+pub fn past_layout(text: &str, ignore_space: bool) -> Option<&str>
+    ensures value { spec.past_layout ignore_space (chars text.now) ≡ option_map (λ r. chars r.now) result }
     ensures within { IfSome result (λ r. length r.now ≤ length text.now) }
 {
-    layout(text, ignore_space, end).ok()
+    // The place of a fault is not told, so the pattern may end anywhere.
+    layout(text, ignore_space, 0).ok()
 }
 
 /// The layout at the front, as `layout` reads it, with the fault as an error: UnclosedOpenParen at its place.

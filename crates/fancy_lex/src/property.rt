@@ -28,7 +28,7 @@ pub struct Property<'a> {
 /// Reads what stands behind the letter of `\p` or `\P`: one character, or a name in braces. None where no text is
 /// left, or the brace is not closed.
 #[tactic(auto, unfolding(crate::specs::Property::read_property, crate::specs::Property::name_at))]
-pub fn read_property(text: &str, negated: bool) -> Option<(Property<'_>, &str)>
+pub(crate) fn read_property(text: &str, negated: bool) -> Option<(Property<'_>, &str)>
     ensures value { spec.read_property negated (chars text.now) ≡
         option_map (λ p. (spec.view_property p.0, chars p.1.now)) result }
     ensures shorter { IfSome result (λ p. length p.1.now < length text.now) }
@@ -164,7 +164,7 @@ fn is_negated_form(known: Known, negated: bool, unicode: bool) -> bool
 
 /// Whether what is written for the property is a negated set that names properties or other classes.
 #[tactic(auto, unfolding(crate::specs::Property::property_text))]
-pub fn is_negated(property: Property, unicode: bool) -> bool
+pub(crate) fn is_negated(property: Property, unicode: bool) -> bool
     ensures { (inside : Bool) →
         result ≡ spec.is_negated_set (spec.property_text unicode inside (spec.view_property property.entry)) }
 {
@@ -242,7 +242,7 @@ fn push_form(out: &mut String, form: Form, negated: bool, inside: bool) -> Resul
 /// Adds the text that is written for the property, in a class or outside. Where memory runs out, a beginning of it
 /// may have been added.
 #[tactic(auto, unfolding(crate::specs::Property::property_text))]
-pub fn push_property(
+pub(crate) fn push_property(
     out: &mut String,
     property: Property,
     unicode: bool,

@@ -11,11 +11,11 @@ use Rattle.fancy_lex.proofs.NumberLemmas.{number_sound}
 use Rattle.fancy_lex.proofs.TakeLaws.{Takes, TakesSome, takes_on, takes_one}
 use Rattle.fancy_lex.proofs.TextLemmas.{strip_is}
 use Rattle.std.proofs.lemmas.Bool.Decides.{nat_tests}
-use Rattle.fancy_lex.specs.Layout.{layout, Skipped, rest, rest_of, fault as open_comment}
+use Rattle.fancy_lex.specs.LayoutSteps.{layout, Skipped, rest, rest_of, past_layout, fault as open_comment}
 use Rattle.fancy_lex.specs.Number.{number}
 use Rattle.fancy_lex.specs.Text.{Text, EndsWith, strip}
 use Rattle.fancy_parts.proofs.HeadLaws.{takes_strip}
-use Rattle.fancy_parts.specs.Quantifier.{counts, braced_counts, counts_from, in_braces, spaced_count, past_layout}
+use Rattle.fancy_parts.specs.Quantifier.{counts, braced_counts, counts_from, in_braces, spaced_count}
 use Rattle.fancy_parts.specs.Quantifier.{count, count_of, exact_or_range, most}
 use Rattle.fancy_parts.specs.declared.counts.Counts.{Counts}
 

@@ -8,8 +8,8 @@ use Rattle.fancy_lex.specs.FaultTable.{mode_changed}
 use Rattle.fancy_lex.specs.Reading.{Reading, fails}
 use Rattle.fancy_lex.specs.Text.{Text, bytes, place_of}
 use Rattle.fancy_lex.specs.declared.flags.Flags.{Flags}
-use Rattle.fancy_parts.specs.FlagLetters.{Letters, Step, ends, goes, step, unknown_letter, goes_on, behind_step}
-use Rattle.fancy_parts.specs.FlagLetters.{letters_in, letters}
+use Rattle.fancy_parts.specs.FlagLetters.{Letters, Step, ends, goes}
+use Rattle.fancy_parts.specs.LetterSteps.{step, unknown_letter, flag_or_fault, behind_step, letters_in, letters}
 
 -- where the letters begin is told
 module _ (n : ℕ) (t : Text) where
@@ -19,10 +19,10 @@ module _ (n : ℕ) (t : Text) where
   leaves_unknown : (u v : Text) → Leaves n told v (unknown_letter n t u)
   leaves_unknown u v = leaves_told
 
-  leaves_goes_on : (clears : Bool) (c : ℕ) (u : Text) (o : Option Flags) →
-      Leaves n told (c ∷ u) (goes_on n t clears u o)
-  leaves_goes_on clears c u (Some f) = whole_next u
-  leaves_goes_on clears c u None = leaves_unknown u (c ∷ u)
+  leaves_flag_or_fault : (clears : Bool) (c : ℕ) (u : Text) (o : Option Flags) →
+      Leaves n told (c ∷ u) (flag_or_fault n t clears u o)
+  leaves_flag_or_fault clears c u (Some f) = whole_next u
+  leaves_flag_or_fault clears c u None = leaves_unknown u (c ∷ u)
 
   leaves_changing : (c : ℕ) (u : Text) → Leaves {A = Step} n told (c ∷ u) (fails (mode_changed n (c ∷ u)))
   leaves_changing c u = leaves_none (stands_here (c ∷ u))
@@ -30,7 +30,7 @@ module _ (n : ℕ) (t : Text) where
   leaves_step : (clears : Bool) (f : Flags) (u : Text) → Leaves n told u (step n t clears f u)
   leaves_step clears f [] = leaves_none (stands_end [])
   leaves_step clears f (c ∷ u) =
-      search (leaves_if, whole_next, leaves_unknown, leaves_changing, leaves_goes_on) depth 60 fits 3000
+      search (leaves_if, whole_next, leaves_unknown, leaves_changing, leaves_flag_or_fault) depth 60 fits 3000
 
   leaves_behind : (more : Bool → Flags → Text → Reading Letters) →
       ((c : Bool) (f : Flags) (u : Text) → Leaves n told u (more c f u)) →

@@ -5,13 +5,15 @@ use Rattle.std.proofs.Math.Seq.{take-append_seam}
 use Rattle.std.specs.Str.{chars as the_chars}
 use Rattle.std.proofs.Common.{zero}
 use Rattle.fancy_lex.proofs.ReadingLemmas.{reports_first}
-use Rattle.fancy_lex.specs.Layout.{layout}
+use Prim.Native.Char.{code}
+use Rattle.fancy_lex.specs.LayoutSteps.{layout}
 use Rattle.fancy_lex.specs.Reading.{Reading, gives, layout_reading, Says, Reports}
 use Rattle.fancy_lex.specs.Text.{Text, bytes}
 use Rattle.fancy_lex.specs.declared.flags.Flags.{Flags}
 use Rattle.fancy_lex.specs.declared.error.Error.{Error}
 use Rattle.fancy_lex.specs.declared.error.Error.TheVariants.{ParseError, OutOfMemory}
-use Rattle.fancy_parts.specs.FlagLetters.{Letters, ends, goes, step, letters_in, letters}
+use Rattle.fancy_parts.specs.FlagLetters.{Letters, ends, goes}
+use Rattle.fancy_parts.specs.LetterSteps.{step, letters_in, letters}
 
 -- what was read of a text is its front
 pub front_read : (t w u : Text) → t ≡ w ++ u → take (length t - length u) t ≡ w
@@ -27,7 +29,7 @@ behind_next t h c u (w, e) f = (w ++ c ∷ [], e ∙ ap (λ x. w ++ x) f ∙ sym
 pub behind_more : (t h v u : Text) → (w : Text) × (t ≡ w ++ h) → h ≡ v ++ u → (w : Text) × (t ≡ w ++ u)
 behind_more t h v u (w, e) f = (w ++ v, e ∙ ap (λ x. w ++ x) f ∙ sym (append_assoc w v u))
 
-pub two_marks : chars (40 ∷ 63 ∷ []) ≡ 40 ∷ 63 ∷ []
+pub two_marks : chars (code "(" ∷ code "?" ∷ []) ≡ code "(" ∷ code "?" ∷ []
 unfolding the_chars
 two_marks = refl
 

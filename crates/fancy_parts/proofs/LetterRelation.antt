@@ -14,15 +14,17 @@ use Rattle.fancy_lex.proofs.ReadingLemmas.{derives_answer, only_answer}
 use Rattle.fancy_lex.proofs.TextLemmas.{bytes-append}
 use Rattle.fancy_lex.specs.Characters.{open_paren, hash, ◌∈◌}
 use Rattle.fancy_lex.specs.FaultTable.{comment_not_closed, group_not_closed, no_flag_letter, mode_changed}
-use Rattle.fancy_lex.specs.Layout.{Skipped, rest, fault, layout, Units, none, more as unit_more, IsUnit, is_blank}
+use Rattle.fancy_lex.specs.Layout.{Units, none, more as unit_more, IsUnit, is_blank}
+use Rattle.fancy_lex.specs.LayoutSteps.{Skipped, rest, fault, layout}
 use Rattle.fancy_lex.specs.Layout.{Before}
 use Rattle.fancy_lex.specs.Reading.{Reading, gives, fails, ◌>=>◌, Answers, Derives}
 use Rattle.fancy_lex.specs.Text.{Text, bytes}
 use Rattle.fancy_lex.specs.declared.error.Error.{Error}
 use Rattle.fancy_lex.specs.declared.flags.Flags.{Flags}
-use Rattle.fancy_parts.specs.FlagLetters.{Letters, setting, scope, with_letter, Step, ends, goes, is_first}
-use Rattle.fancy_parts.specs.FlagLetters.{is_behind_minus, unknown_letter, goes_on, step, behind_step, letters_in}
-use Rattle.fancy_parts.specs.FlagLetters.{letters, NoLetter, nothing_closed, nothing_scoped, second_minus, no_flag}
+use Rattle.fancy_parts.specs.FlagLetters.{Letters, setting, scope, with_letter, Step, ends, goes}
+use Rattle.fancy_parts.specs.FlagLetters.{NoLetter, nothing_closed, nothing_scoped, second_minus, no_flag}
+use Rattle.fancy_parts.specs.LetterSteps.{is_first, is_behind_minus, unknown_letter, flag_or_fault, step, behind_step}
+use Rattle.fancy_parts.specs.LetterSteps.{letters_in, letters}
 use Rattle.fancy_parts.specs.FlagLetters.{Letter, flag, same_mode, minus, parenthesis, colon, no_letter, other_mode}
 use Rattle.fancy_parts.specs.FlagLetters.{Next, LettersFrom, last, more, letter_fault, text_end, open_layout, FlagGroup}
 use Rattle.fancy_parts.specs.FlagReads.{letters_of}
@@ -243,7 +245,7 @@ module _ (n : ℕ) (t w : Text) (clears : Bool) (f : Flags) (c : ℕ) (u : Text)
       rw (a, d, g, is, h) refl
 
   at_other : c ≢ code ")" → c ≢ code ":" → c ≢ code "-" → c ≢ code "u" →
-      step n t clears f (c ∷ u) ≡ goes_on n t clears u (with_letter f (not clears) c)
+      step n t clears f (c ∷ u) ≡ flag_or_fault n t clears u (with_letter f (not clears) c)
   at_other a b d e =
       let a : (c == code ")") ≡ false = other_test c (code ")") a in
       let b : (c == code ":") ≡ false = other_test c (code ":") b in

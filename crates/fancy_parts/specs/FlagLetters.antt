@@ -1,14 +1,13 @@
 -- The letters behind the `(?` of a flag group.
-use Rattle.std.specs.Prelude.{◌≡◌, ◌≢◌, ◌⊎◌, ℕ, zero, suc, ◌+◌, ◌-◌, ◌==◌, ◌&&◌, ◌||◌, Bool, true, false, not, [], ◌∷◌}
-use Rattle.std.specs.Prelude.{◌++◌, codes, length, take, Option, Some, None, if◌then◌else◌}
-use Rattle.std.proofs.Math.Bool.{beq}
+use Rattle.std.specs.Prelude.{◌≡◌, ◌≢◌, ◌⊎◌, ℕ, ◌==◌, Bool, true, false, not, [], ◌∷◌, ◌++◌, codes, Option, Some, None}
+use Rattle.std.specs.Prelude.{if◌then◌else◌}
 use Prim.Native.Char.{code}
 use Rattle.fancy_lex.specs.Characters.{◌∈◌}
 use Rattle.fancy_lex.specs.Fault.{Fault}
 use Rattle.fancy_lex.specs.FaultTable.{comment_not_closed, group_not_closed, no_flag_letter, mode_changed}
-use Rattle.fancy_lex.specs.Layout.{layout, Before, Unclosed}
-use Rattle.fancy_lex.specs.Reading.{Reading, gives, fails, ◌>=>◌, layout_reading}
-use Rattle.fancy_lex.specs.Text.{Text, bytes}
+use Rattle.fancy_lex.specs.Layout.{Before, Unclosed}
+use Rattle.fancy_lex.specs.Reading.{Reading, gives, fails}
+use Rattle.fancy_lex.specs.Text.{Text}
 use Rattle.fancy_lex.specs.declared.flags.Flags.{Flags}
 
 -- what the letters come to
@@ -27,66 +26,10 @@ with_letter f on c =
     else if c == code "x" then Some (record f { ignore_space = on })
     else None
 
--- one letter read: the letters end there, or go on under these flags
+-- one letter read: the letters end there, or go on under these flags, and set or clear theirs
 pub data Step : Type 0 where
   ends : Letters → Step
-  goes : Bool → Flags → Step  -- whether letters clear their flags from there on
-
--- of the letters `t` what stands before `u`
-abbrev pub letters_before : Text → Text → Text
-letters_before t u = take (length t - length u) t
-
--- of the letters `t` nothing was read before `u`
-abbrev pub is_first : Text → Text → Bool
-is_first t u = bytes u == bytes t
-
--- of the letters `t` a minus sign alone was read before `u`
-abbrev pub is_behind_minus : Text → Bool → Text → Bool
-is_behind_minus t clears u = clears && bytes u + 1 == bytes t
-
--- behind one letter: the end, or more letters
-abbrev pub behind_step : (Bool → Flags → Text → Reading Letters) → Step → Text → Reading Letters
-behind_step more (ends l) u = gives l u
-behind_step more (goes clears f) u = more clears f u
-
--- the letters `t` of a pattern of n bytes
-module _ (n : ℕ) (t : Text) where
-  -- the fault of the character before `u`
-  abbrev pub unknown_letter : Text → Reading Step
-  unknown_letter u = fails (no_flag_letter n t (letters_before t u))
-
-  -- the letters go on under these flags, if the letter before `u` names one
-  abbrev pub goes_on : Bool → Text → Option Flags → Reading Step
-  goes_on clears u (Some f) = gives (goes clears f) u
-  goes_on clears u None = unknown_letter u
-
-  -- the letter at the front of the text
-  abbrev pub step : Bool → Flags → Text → Reading Step
-  step clears f [] = fails (group_not_closed n)
-  step clears f (c ∷ u) =
-      if c == code ")" then (
-      if is_first t (c ∷ u) || is_behind_minus t clears (c ∷ u) then unknown_letter u else gives (ends (setting f)) u)
-      else if c == code ":" then (
-      if is_behind_minus t clears (c ∷ u) then unknown_letter u else gives (ends (scope f)) u)
-      else if c == code "-" then (
-      if clears then unknown_letter u else gives (goes true f) u)
-      -- the Unicode mode may be said again, and not changed
-      else if c == code "u" then (
-      if beq clears f.unicode then fails (mode_changed n (c ∷ u))
-      else gives (goes clears f) u)
-      else goes_on clears u (with_letter f (not clears) c)
-
-  -- at most k letters, each with layout before it
-  unfoldable pub letters_in : ℕ → Bool → Flags → Text → Reading Letters
-  letters_in zero clears f u = fails (group_not_closed n)
-  letters_in (suc k) clears f u =
-      layout_reading (layout n f.ignore_space u) >=> (λ _ v. step clears f v >=> behind_step (letters_in k))
-
--- the letters of a flag group, whose text begins behind the `(?`
-unfoldable pub letters : ℕ → Flags → Text → Reading Letters
-letters n f t = letters_in n t (suc (bytes t)) false f t
-
--- ---- the same as a relation: what stands there, and what it comes to
+  goes : (clears : Bool) → Flags → Step
 
 -- the character is no letter of flags, where `w` was read before it, and `clears` says whether a minus was
 pub data NoLetter (w : Text) (clears : Bool) (f : Flags) (c : ℕ) : Type 0 where

@@ -3,6 +3,7 @@
 -- ---- quantifiers, and the heads of groups
 pub mod Quantifier
 pub mod FlagLetters
+pub mod LetterSteps
 pub mod GroupName
 pub mod HeadReference
 -- ---- the numbers of groups, and what references mean by them

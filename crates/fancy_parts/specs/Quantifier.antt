@@ -3,7 +3,7 @@ use Rattle.std.specs.Prelude.{ℕ, ◌-◌, ◌^◌, ◌==◌, Bool, true, false
 use Rattle.std.specs.Prelude.{option_map, option_and_then, unwrap_or}
 use Prim.Native.Char.{code}
 use Rattle.fancy_lex.specs.Text.{Text, strip}
-use Rattle.fancy_lex.specs.Layout.{layout, rest_of}
+use Rattle.fancy_lex.specs.LayoutSteps.{past_layout}
 use Rattle.fancy_lex.specs.Number.{number}
 use Rattle.fancy_parts.specs.declared.counts.Counts.{Counts}
 
@@ -15,10 +15,6 @@ most = 2 ^ 64 - 1
 infixl 10 ◌>>=◌
 abbrev pub ◌>>=◌ : {A B : Type 0} → Option A → (A → Option B) → Option B
 o >>= f = option_and_then f o
-
--- what follows the layout, where every comment in it is closed
-abbrev pub past_layout : Bool → Text → Option Text
-past_layout x t = rest_of (layout 0 x t)
 
 -- a number as a count: none where no digit stands; one above the greatest is refused
 abbrev pub count_of : Text → Option (ℕ × Text) → Option (Option ℕ × Text)

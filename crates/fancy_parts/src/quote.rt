@@ -10,7 +10,7 @@ use crate::room::{put, put_text};
 use fancy_lex::text::{front, next};
 
 /// What is written behind a backslash for a character, if it is not written as itself.
-pub fn behind_backslash(c: char) -> Option<char>
+pub(crate) fn behind_backslash(c: char) -> Option<char>
     ensures { spec.behind_backslash c ≡ result }
 {
     // Most characters are told from the marks by these tests.
@@ -114,7 +114,7 @@ fn put_runs(buf: &mut String, text: &str)
 
 /// How many digits a number has.
 #[tactic(auto, using(crate::proofs::QuoteLemmas::number_steps))]
-pub fn number_len(n: usize) -> usize
+pub(crate) fn number_len(n: usize) -> usize
     ensures value { result ≡ bytes (decimal n) }
     ensures within { result ≤ 20 }
 {
@@ -132,7 +132,7 @@ fn digit(n: usize) -> char
 
 /// Writes a number in decimal digits.
 #[tactic(auto, using(crate::proofs::RoomLemmas::room_steps, crate::proofs::QuoteLemmas::number_steps))]
-pub fn put_number(buf: &mut String, n: usize)
+pub(crate) fn put_number(buf: &mut String, n: usize)
     requires { HasRoom buf.old (decimal n) }
     ensures { Appended buf.old buf.new (decimal n) }
 {
@@ -169,6 +169,7 @@ fn mark(lo: usize, hi: usize) -> Option<char>
     }
 }
 
+/// The bytes of the counts of a quantifier: a mark, or a range in braces.
 #[tactic(auto, using(crate::proofs::RoomLemmas::room_steps, crate::proofs::QuoteLemmas::counts_steps))]
 fn counts_len(lo: usize, hi: usize) -> usize
     ensures value { result ≡ bytes (spec.counts_text lo hi) }
@@ -180,6 +181,7 @@ fn counts_len(lo: usize, hi: usize) -> usize
     }
 }
 
+/// The bytes of what stands in the braces of a range.
 #[tactic(auto, using(crate::proofs::RoomLemmas::room_steps, crate::proofs::QuoteLemmas::range_steps))]
 fn range_len(lo: usize, hi: usize) -> usize
     ensures value { result ≡ bytes (spec.range lo hi) }
@@ -206,6 +208,7 @@ pub fn put_quantifier(buf: &mut String, lo: usize, hi: usize, greedy: bool)
     }
 }
 
+/// Writes the counts of a quantifier: a mark, or a range in braces.
 #[tactic(auto, using(crate::proofs::RoomLemmas::room_steps, crate::proofs::QuoteLemmas::counts_steps))]
 fn put_counts(buf: &mut String, lo: usize, hi: usize)
     requires { HasRoom buf.old (spec.counts_text lo hi) }
@@ -221,6 +224,7 @@ fn put_counts(buf: &mut String, lo: usize, hi: usize)
     }
 }
 
+/// Writes what stands in the braces of a range.
 #[tactic(auto, using(crate::proofs::RoomLemmas::room_steps, crate::proofs::QuoteLemmas::range_steps))]
 fn put_range(buf: &mut String, lo: usize, hi: usize)
     requires { HasRoom buf.old (spec.range lo hi) }

@@ -55,8 +55,8 @@ impl Groups {
         }
     }
 
-    /// Adds a group, which has the next number. Where the groups had their ranks for numbers, they have so with it behind
-    /// them. Where memory runs out, they stay as they were; a group without a name takes none.
+    /// Adds a group, which has the next number. Where the groups had their ranks for numbers, they have so with it
+    /// behind them. Where memory runs out, they stay as they were; a group without a name takes none.
     pub fn add(&mut self, alloc: Global, name: &Option<String>) -> Result<(), AllocError>
         requires { self.old.total + 1 < 2 ^ 64 }
         ensures added { IfOk result
@@ -118,7 +118,9 @@ pub fn meaning_behind(
         ≡ means (numbers_under (groups_of groups.now).names) passed (role_of role) (view_target target.now)) }
     ensures numbers { (l : List Opening) → groups_of groups.now ≡ groups_in l →
         IfOk result (λ m. meaning_of m ≡ means (λ t. numbers t l) passed (role_of role) (view_target target.now)) }
-    ensures without_memory { let meaning = means (numbers_under (groups_of groups.now).names) passed (role_of role) (view_target target.now) in
+    ensures without_memory {
+        let numbers = numbers_under (groups_of groups.now).names in
+        let meaning = means numbers passed (role_of role) (view_target target.now) in
         is_fault_with_text meaning ≡ false → IsOk result }
 {
     match target {
@@ -140,7 +142,8 @@ fn by_name(
 ) -> Result<Meaning, AllocError>
     ensures value { IfOk result
         (λ m. meaning_of m ≡ means_name (role_of role) passed (text_of name.now) numbers.now) }
-    ensures without_memory { is_fault_with_text (means_name (role_of role) passed (text_of name.now) numbers.now) ≡ false → IsOk result }
+    ensures without_memory {
+        is_fault_with_text (means_name (role_of role) passed (text_of name.now) numbers.now) ≡ false → IsOk result }
 {
     match role {
         Role::Call => Ok(only(numbers)),

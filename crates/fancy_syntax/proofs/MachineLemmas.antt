@@ -7,7 +7,7 @@ use Prim.Native.Char.{code}
 use Rattle.fancy_lex.specs.Characters.{bar}
 use Rattle.fancy_lex.specs.Fault.{Kind}
 use Rattle.fancy_lex.specs.FaultTable.{bar_for_close_paren, body_wanting}
-use Rattle.fancy_lex.specs.Layout.{rest, fault as open_comment}
+use Rattle.fancy_lex.specs.LayoutSteps.{rest, fault as open_comment}
 use Rattle.fancy_lex.specs.Text.{Text, bytes, place_of, strip}
 use Rattle.fancy_lex.specs.declared.error.Error.{Error}
 use Rattle.fancy_lex.specs.declared.flags.Flags.{Flags}
@@ -22,7 +22,7 @@ use Rattle.fancy_grammar.specs.Join.{solid, one_or, choice}
 use Rattle.fancy_syntax.specs.Machine.{OpenPart, top, group, condition, body, first, second, part_of, holds_one}
 use Rattle.fancy_syntax.specs.Machine.{is_second, opened_by_bar, branches_at_bar, IsFaultOfBar, Part, Opens, a_group}
 use Rattle.fancy_syntax.specs.Machine.{a_condition, a_body, behind_condition, a_branch, behind_branch, lacks_body}
-use Rattle.fancy_syntax.specs.Machine.{node_of_part, goes_on, ended_part, Began, StepsOn, GivesPiece, Reading, Levels}
+use Rattle.fancy_syntax.specs.Machine.{node_of_part, goes_on, ended_part, Began, StepsOn, GivesPiece, ReadSoFar, Levels}
 use Rattle.fancy_syntax.specs.Machine.{outermost, inner, Holds, Steps, OpensBelow, Takes}
 use Rattle.fancy_grammar.specs.Depth.{max_depth}
 use Rattle.fancy_grammar.specs.Grammar.{trees_before}
@@ -154,7 +154,7 @@ closes {n} {d} {s} r w q z x y g f h i e =
 
 -- ---- what is read of the innermost part
 
-reading_new : (n d : ℕ) (p : OpenPart) (s : State) (bs ps : List Tree) → bs ≡ [] → ps ≡ [] → Reading n d p s bs ps s
+reading_new : (n d : ℕ) (p : OpenPart) (s : State) (bs ps : List Tree) → bs ≡ [] → ps ≡ [] → ReadSoFar n d p s bs ps s
 reading_new n d p s bs ps e f = record {
   begin = s;
   read = [];
@@ -165,8 +165,8 @@ reading_new n d p s bs ps e f = record {
 }
 
 reading_piece : {n d : ℕ} {p : OpenPart} {s t v : State} {r : Tree} {bs ps : List Tree} (cs qs : List Tree) →
-    Reading n d p s bs ps t → ends t.rest ≡ false →
-    Piece n d t (done r v) → cs ≡ bs → qs ≡ ps ++ solid (r ∷ []) → Reading n d p s cs qs v
+    ReadSoFar n d p s bs ps t → ends t.rest ≡ false →
+    Piece n d t (done r v) → cs ≡ bs → qs ≡ ps ++ solid (r ∷ []) → ReadSoFar n d p s cs qs v
 reading_piece {r} cs qs h e a i j = record {
   begin = h.begin;
   read = h.read ++ r ∷ [];
@@ -181,7 +181,7 @@ abbrev pub joined : List Tree → Tree
 joined = one_or concat
 
 -- the open branch ends at t
-reading_branch : {n d : ℕ} {p : OpenPart} {s t : State} {bs ps : List Tree} (h : Reading n d p s bs ps t) →
+reading_branch : {n d : ℕ} {p : OpenPart} {s t : State} {bs ps : List Tree} (h : ReadSoFar n d p s bs ps t) →
     ends t.rest ≡ true →
     Branch n d h.begin (done (joined ps) t)
 reading_branch {n} {d} {t} h e =
@@ -189,16 +189,16 @@ reading_branch {n} {d} {t} h e =
     subst (λ x. Branch n d h.begin (done (one_or concat x) t)) (ap solid (append-nil h.read) ∙ h.same) b
 
 -- the one branch of a part that holds no other
-reading_one : {n d : ℕ} {p : OpenPart} {s t : State} {bs ps : List Tree} → Reading n d p s bs ps t →
+reading_one : {n d : ℕ} {p : OpenPart} {s t : State} {bs ps : List Tree} → ReadSoFar n d p s bs ps t →
     holds_one p ≡ true → ends t.rest ≡ true →
     Branch n d s (done (joined ps) t)
 reading_one {n} {d} {t} {ps} h k e = subst (λ (x : State). Branch n d x (done (joined ps) t)) (h.one k).0
     (reading_branch h e)
 
 reading_bar : {n d : ℕ} {p : OpenPart} {s t : State} {u : Text} {bs ps : List Tree} (cs qs : List Tree) →
-    Reading n d p s bs ps t → holds_one p ≡ false →
+    ReadSoFar n d p s bs ps t → holds_one p ≡ false →
     ends t.rest ≡ true → strip bar t.rest ≡ Some u → cs ≡ bs ++ joined ps ∷ [] → qs ≡ [] →
-    Reading n d p s cs qs (at t u)
+    ReadSoFar n d p s cs qs (at t u)
 reading_bar {n} {d} {s} {t} {u} {bs} {ps} cs qs h k e f i j = record {
   begin = at t u;
   read = [];
@@ -210,13 +210,13 @@ reading_bar {n} {d} {s} {t} {u} {bs} {ps} cs qs h k e f i j = record {
   one = λ l. absurd (true≢false (sym l ∙ k));
 }
 
-reading_alternation : {n d : ℕ} {p : OpenPart} {s t : State} {bs ps : List Tree} → Reading n d p s bs ps t →
+reading_alternation : {n d : ℕ} {p : OpenPart} {s t : State} {bs ps : List Tree} → ReadSoFar n d p s bs ps t →
     ends t.rest ≡ true → strip bar t.rest ≡ None →
     Alternation n d s (done (choice (bs ++ joined ps ∷ [])) t)
 reading_alternation h e f = alternation (h.all _ (last (reading_branch h e) f)) refl
 
 -- what is open ends at t
-reading_end : {n d : ℕ} {s t : State} {bs ps : List Tree} (p : OpenPart) → Reading n d p s bs ps t →
+reading_end : {n d : ℕ} {s t : State} {bs ps : List Tree} (p : OpenPart) → ReadSoFar n d p s bs ps t →
     ends t.rest ≡ true → strip bar t.rest ≡ None →
     Part p n d s (done (choice (bs ++ joined ps ∷ [])) t)
 reading_end top h e f = reading_alternation h e f
@@ -229,11 +229,11 @@ reading_end {n} {d} {s} {t} {ps} (second a) h e f =
     subst (λ l. Branch n d s (done (choice (l ++ joined ps ∷ [])) t)) (sym (h.one refl).1) (reading_one h refl e)
 
 reading_branch_fault : {n d q : ℕ} {p : OpenPart} {s t : State} {k : Kind} {bs ps : List Tree}
-    (h : Reading n d p s bs ps t) → ends t.rest ≡ false →
+    (h : ReadSoFar n d p s bs ps t) → ends t.rest ≡ false →
     Piece n d t (fault k q) → Branch n d h.begin (fault k q)
 reading_branch_fault {q} {k} h e a = branch (h.branch (fault k q) (piece_fault e a)) refl
 
-reading_fault : {n d q : ℕ} {s t : State} {k : Kind} {bs ps : List Tree} (p : OpenPart) → Reading n d p s bs ps t →
+reading_fault : {n d q : ℕ} {s t : State} {k : Kind} {bs ps : List Tree} (p : OpenPart) → ReadSoFar n d p s bs ps t →
     ends t.rest ≡ false →
     Piece n d t (fault k q) → Part p n d s (fault k q)
 reading_fault {q} {k} top h e a = alternation (h.all (fault k q) (branch_fault (reading_branch_fault h e a))) refl
@@ -286,7 +286,7 @@ record Outer (n : ℕ) (start : State) (gs : List Frame) (g : Frame) (ts : List 
   deeper : d ≡ depth + 1
   holds : Holds g ts below branches pieces
   levels : Levels n start gs below (part_of g.opener) depth begin
-  reading : Reading n depth (part_of g.opener) begin branches pieces here
+  reading : ReadSoFar n depth (part_of g.opener) begin branches pieces here
   began : Began g here
   more : ends here.rest ≡ false
   opens : Opens n depth here o s
@@ -308,7 +308,7 @@ levels_pop {n} {start} gs g {ts} (inner {d} {s} {t} {frames} {below} {branches} 
       holds = subst (λ (y : Frame). Holds y ts below branches pieces) p.1 x;
       levels = subst (λ (y : Frame). Levels n start gs below (part_of y.opener) d s) p.1
           (subst (λ y. Levels n start y below (part_of f.opener) d s) p.0 l);
-      reading = subst (λ (y : Frame). Reading n d (part_of y.opener) s branches pieces t) p.1 h;
+      reading = subst (λ (y : Frame). ReadSoFar n d (part_of y.opener) s branches pieces t) p.1 h;
       began = subst (λ (y : Frame). Began y t) p.1 a;
       more = m;
       opens = j;
@@ -326,7 +326,7 @@ pub record Running (n : ℕ) (start : State) (stack : List Frame) (f : Frame) (t
     pub is_depth : depth ≡ length stack
     pub holds : Holds f trees below branches pieces
     pub levels : Levels n start stack below (part_of f.opener) depth begin
-    pub reading : Reading n depth (part_of f.opener) begin branches pieces t
+    pub reading : ReadSoFar n depth (part_of f.opener) begin branches pieces t
 
 -- a group in which nothing is read yet stands above all trees
 holds_new : (g : Frame) (trees : List Tree) → g.branches ≡ length trees → g.pieces ≡ length trees →
@@ -444,7 +444,7 @@ pub running_bar : {n : ℕ} {start t : State} {u : Text} {stack : List Frame} {f
 running_bar {n} {start} {t} {u} {stack} {f} all g h e b x i j = by_open (part_of f.opener) h.levels h.reading x i j
   where
     ordinary : {p : OpenPart} → holds_one p ≡ false → Levels n start stack h.below p h.depth h.begin →
-        Reading n h.depth p h.begin h.branches h.pieces t → part_of g.opener ≡ p →
+        ReadSoFar n h.depth p h.begin h.branches h.pieces t → part_of g.opener ≡ p →
         Holds g all h.below (h.branches ++ joined h.pieces ∷ []) [] → Running n start stack g all (at t u)
     ordinary z l r i j = record {
       depth = h.depth;
@@ -459,7 +459,7 @@ running_bar {n} {start} {t} {u} {stack} {f} all g h e b x i j = by_open (part_of
     }
 
     by_open : (p : OpenPart) → Levels n start stack h.below p h.depth h.begin →
-        Reading n h.depth p h.begin h.branches h.pieces t →
+        ReadSoFar n h.depth p h.begin h.branches h.pieces t →
         is_second p ≡ false → part_of g.opener ≡ opened_by_bar p (joined h.pieces) →
         Holds g all h.below (branches_at_bar p h.branches (joined h.pieces)) [] →
         Running n start stack g all (at t u)
@@ -506,7 +506,7 @@ pub running_bar_fault : {n : ℕ} {start t : State} {u : Text} {stack : List Fra
 running_bar_fault {n} {start} {t} {u} {stack} {f} o h e b x = by_open (part_of f.opener) h.levels h.reading x
   where
     by_open : (p : OpenPart) → Levels n start stack h.below p h.depth h.begin →
-        Reading n h.depth p h.begin h.branches h.pieces t →
+        ReadSoFar n h.depth p h.begin h.branches h.pieces t →
         IsFaultOfBar p n t.rest o → Alternation n 0 start o
     by_open (second a) l r x =
         subst (Alternation n 0 start) (sym x)

@@ -3,7 +3,7 @@ use Rattle.std.specs.Prelude.{◌≡◌, ℕ, ◌+◌, ◌<◌, ◌==◌, ◌&&�
 use Rattle.std.specs.Prelude.{◌∷◌, ◌++◌, length, Some, Result, MatchResult, ⊤}
 use Rattle.fancy_lex.specs.Characters.{bar}
 use Rattle.fancy_lex.specs.FaultTable.{bar_for_close_paren, body_wanting}
-use Rattle.fancy_lex.specs.Layout.{rest}
+use Rattle.fancy_lex.specs.LayoutSteps.{rest}
 use Rattle.fancy_lex.specs.Text.{Text, bytes, place_of, strip}
 use Rattle.fancy_lex.specs.declared.error.Error.{Error}
 use Rattle.fancy_grammar.specs.Ahead.{ahead}
@@ -146,7 +146,7 @@ abbrev pub GivesPiece : Result Step Error → Outcome Tree → State → Type 0
 GivesPiece r o t = MatchResult r (λ p. IsPiece p t o) (λ e. IsErrorAmong e (λ q. o ≡ q))
 
 -- what is read of a part that begins at s: branches, and the pieces of the branch that is open at t
-pub record Reading (n d : ℕ) (p : OpenPart) (s : State) (branches pieces : List Tree) (t : State) : Type 0 where
+pub record ReadSoFar (n d : ℕ) (p : OpenPart) (s : State) (branches pieces : List Tree) (t : State) : Type 0 where
   pub begin : State
   pub read : List Tree
   pub same : solid read ≡ pieces
@@ -169,5 +169,5 @@ pub data Levels (n : ℕ) (start : State) : List Frame → List Tree → OpenPar
   outermost : Levels n start [] [] top 0 start
   inner : {d : ℕ} {s t v : State} {p : OpenPart} {all frames : List Frame} {trees below branches pieces : List Tree}
       (f : Frame) → all ≡ frames ++ f ∷ [] → Holds f trees below branches pieces →
-      Levels n start frames below (part_of f.opener) d s → Reading n d (part_of f.opener) s branches pieces t →
+      Levels n start frames below (part_of f.opener) d s → ReadSoFar n d (part_of f.opener) s branches pieces t →
       Began f t → ends t.rest ≡ false → Opens n d t p v → Levels n start all trees p (d + 1) v

@@ -4,7 +4,7 @@ use Rattle.std.specs.Borrow.{Bor}
 use Rattle.fancy_lex.specs.declared.error.Error.{Error}
 use Rattle.fancy_grammar.specs.Ahead.{Ahead, nothing, leaf, with_head, condition, body, absent_branch}
 use Rattle.fancy_grammar.specs.Depth.{max_depth}
-use Rattle.fancy_lex.specs.Layout.{Skipped, rest, fault as open_comment}
+use Rattle.fancy_lex.specs.LayoutSteps.{Skipped, rest, fault as open_comment}
 use Rattle.fancy_lex.specs.declared.error.Error.TheVariants.{ParseError}
 use Rattle.fancy_lex.specs.declared.error.ParseError.TheVariants.{UnclosedOpenParen}
 use Rattle.fancy_grammar.specs.Head as head
@@ -43,10 +43,6 @@ IsTreeRead r P = MatchResult r (λ found. P (done (view found.0) (state found.1)
 -- the tree and the state come to these, or a fault is found: the outcome
 abbrev pub Turns : Result (Unit {0}) Error → Tree → spec.State → Outcome Tree → Type 0
 Turns r t s o = MatchResult r (λ _. o ≡ done t s) (λ e. IsErrorAmong e (λ q. o ≡ q))
-
--- a value is read, up to the state, or a fault is found: the outcome
-abbrev pub IsValueRead : {A : Type 0} → Result A Error → spec.State → Outcome A → Type 0
-IsValueRead r s o = MatchResult r (λ a. o ≡ done a s) (λ e. IsErrorAmong e (λ q. o ≡ q))
 
 -- the marks behind the counts of a quantifier
 abbrev pub suffix_of : Suffix → quantified.Suffix

@@ -4,10 +4,10 @@ use Rattle.fancy_lex.specs.Text.{Text}
 use Rattle.fancy_lex.specs.declared.error.Error.{Error}
 use Rattle.fancy_lex.specs.declared.flags.Flags.{Flags}
 use Rattle.fancy_grammar.specs.Errors.{IsErrorAmong}
-use Rattle.fancy_grammar.specs.Grammar.{Derives, Whole}
+use Rattle.fancy_grammar.specs.Grammar.{DerivesTree, Whole}
 use Rattle.fancy_syntax.specs.View.{view}
 use Rattle.fancy_syntax.specs.declared.expr.Expr.{Expr}
 
 -- the raw tree of a whole text, or its fault
 abbrev pub ReadsWhole : Result Expr Error → Flags → Text → Type 0
-ReadsWhole r f text = MatchResult r (λ e. Derives f text (view e)) (λ e. IsErrorAmong e (Whole f text))
+ReadsWhole r f text = MatchResult r (λ e. DerivesTree f text (view e)) (λ e. IsErrorAmong e (Whole f text))

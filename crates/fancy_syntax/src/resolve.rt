@@ -117,16 +117,14 @@ fn find_groups(
 {
     let mut found = Found::new(alloc);
     survey(alloc, tree, ignore, &mut found)?;
-    // Without a group, none has a name.
+    // Nothing was met, so no group has a name.
     if !found.met {
         return Ok((false, found));
     }
-    if ignore {
-        if found.groups.total == 0 {
-            let mut unnamed = Found::new(alloc);
-            survey(alloc, tree, false, &mut unnamed)?;
-            return Ok((false, unnamed));
-        }
+    if ignore && found.groups.total == 0 {
+        let mut unnamed = Found::new(alloc);
+        survey(alloc, tree, false, &mut unnamed)?;
+        return Ok((false, unnamed));
     }
     Ok((ignore, found))
 }

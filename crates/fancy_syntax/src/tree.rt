@@ -4,7 +4,7 @@ ghost use Rattle.fancy_lex.specs.Flags.{flags_of, unicode_alone};
 ghost use Rattle.fancy_grammar.specs.Answer.{IsTreeOf, IsFaultOf, IsOnlyFault, IsPlacedIn};
 ghost use Rattle.fancy_syntax.specs.Answer.{marks_of};
 ghost use Rattle.fancy_grammar.specs.Answered.{IsAnsweredWith, HasGroupsOf, IsSmall};
-ghost use Rattle.fancy_grammar.specs.Grammar.{Derives};
+ghost use Rattle.fancy_grammar.specs.Grammar.{DerivesTree};
 ghost use Rattle.fancy_syntax.specs.View.{view};
 
 use crate::expr::Expr;
@@ -77,7 +77,7 @@ impl Expr {
         ensures exact { IfOk result (λ t. (k : _) (p : _) → IsFaultOf (flags_of flags) (chars re.now) k p → ⊥) }
         ensures bounds { IfOk result (λ t. IsSmall (view t.expr) (length re.now)) }
         ensures answered { IfOk result (λ t. IsAnsweredWith (view t.expr) (marks_of t)) }
-        ensures groups { IfOk result (λ t. (r : _) → Derives (flags_of flags) (chars re.now) r →
+        ensures groups { IfOk result (λ t. (r : _) → DerivesTree (flags_of flags) (chars re.now) r →
             HasGroupsOf (flags_of flags) r (view t.expr)) }
         ensures fault { IfErr result (λ e. IsOnlyFault e (flags_of flags) (chars re.now)) }
         ensures place { IfErr result (λ e. IsPlacedIn e re.now) }
@@ -100,7 +100,7 @@ impl Expr {
         ensures exact { IfOk result (λ t. (k : _) (p : _) → IsFaultOf unicode_alone (chars re.now) k p → ⊥) }
         ensures bounds { IfOk result (λ t. IsSmall (view t.expr) (length re.now)) }
         ensures answered { IfOk result (λ t. IsAnsweredWith (view t.expr) (marks_of t)) }
-        ensures groups { IfOk result (λ t. (r : _) → Derives unicode_alone (chars re.now) r →
+        ensures groups { IfOk result (λ t. (r : _) → DerivesTree unicode_alone (chars re.now) r →
             HasGroupsOf unicode_alone r (view t.expr)) }
         ensures fault { IfErr result (λ e. IsOnlyFault e unicode_alone (chars re.now)) }
         ensures place { IfErr result (λ e. IsPlacedIn e re.now) }

@@ -1,6 +1,7 @@
 -- What a letter adds to the flags that are named.
 use Rattle.std.proofs.Common.{◌≡◌, ℕ, Bool, true, false, ◌||◌, [], ◌∷◌, ◌≢◌, codes, refl, sym, ap, subst, ◌∙◌, inl, inr}
 use Rattle.std.proofs.Common.{⊎_elim, true≢false}
+use Prim.Native.Char.{code}
 use Rattle.std.specs.List.{list_all}
 use Rattle.std.specs.Int.Bits.{bit_or}
 use Rattle.std.proofs.Math.Bool.{or-true, or-false}
@@ -10,7 +11,7 @@ use Rattle.fancy_lex.specs.Text.{Text}
 use Rattle.fancy_lex.specs.declared.flags.Flags.{Flags}
 use Rattle.fre_program.specs.FlagWord.{named_flags, is_letter, NamesFlags, either}
 
-pub sets_casei : (c bits : ℕ) → c ≡ 105 → flags_of (bit_or bits 1) ≡ either (flags_of bits) (named_flags (c ∷ []))
+pub sets_casei : (c bits : ℕ) → c ≡ code "i" → flags_of (bit_or bits 1) ≡ either (flags_of bits) (named_flags (c ∷ []))
 sets_casei c bits h =
     rw (
       h,
@@ -25,7 +26,7 @@ sets_casei c bits h =
       and_or_apart 256 bits 1 refl,
     ) (simp (or-true, or-false) refl)
 
-pub sets_multi : (c bits : ℕ) → c ≡ 109 → flags_of (bit_or bits 2) ≡ either (flags_of bits) (named_flags (c ∷ []))
+pub sets_multi : (c bits : ℕ) → c ≡ code "m" → flags_of (bit_or bits 2) ≡ either (flags_of bits) (named_flags (c ∷ []))
 sets_multi c bits h =
     rw (
       h,
@@ -40,7 +41,7 @@ sets_multi c bits h =
       and_or_apart 256 bits 2 refl,
     ) (simp (or-true, or-false) refl)
 
-pub sets_dotnl : (c bits : ℕ) → c ≡ 115 → flags_of (bit_or bits 4) ≡ either (flags_of bits) (named_flags (c ∷ []))
+pub sets_dotnl : (c bits : ℕ) → c ≡ code "s" → flags_of (bit_or bits 4) ≡ either (flags_of bits) (named_flags (c ∷ []))
 sets_dotnl c bits h =
     rw (
       h,
@@ -55,7 +56,8 @@ sets_dotnl c bits h =
       and_or_apart 256 bits 4 refl,
     ) (simp (or-true, or-false) refl)
 
-pub sets_swap_greed : (c bits : ℕ) → c ≡ 85 → flags_of (bit_or bits 8) ≡ either (flags_of bits) (named_flags (c ∷ []))
+pub sets_swap_greed : (c bits : ℕ) → c ≡ code "U" →
+    flags_of (bit_or bits 8) ≡ either (flags_of bits) (named_flags (c ∷ []))
 sets_swap_greed c bits h =
     rw (
       h,
@@ -70,7 +72,7 @@ sets_swap_greed c bits h =
       and_or_apart 256 bits 8 refl,
     ) (simp (or-true, or-false) refl)
 
-pub sets_ignore_space : (c bits : ℕ) → c ≡ 120 →
+pub sets_ignore_space : (c bits : ℕ) → c ≡ code "x" →
     flags_of (bit_or bits 16) ≡ either (flags_of bits) (named_flags (c ∷ []))
 sets_ignore_space c bits h =
     rw (
@@ -86,7 +88,8 @@ sets_ignore_space c bits h =
       and_or_apart 256 bits 16 refl,
     ) (simp (or-true, or-false) refl)
 
-pub sets_unicode : (c bits : ℕ) → c ≡ 117 → flags_of (bit_or bits 32) ≡ either (flags_of bits) (named_flags (c ∷ []))
+pub sets_unicode : (c bits : ℕ) → c ≡ code "u" →
+    flags_of (bit_or bits 32) ≡ either (flags_of bits) (named_flags (c ∷ []))
 sets_unicode c bits h =
     rw (
       h,
@@ -101,7 +104,7 @@ sets_unicode c bits h =
       and_or_apart 256 bits 32 refl,
     ) (simp (or-true, or-false) refl)
 
-pub sets_crlf : (c bits : ℕ) → c ≡ 82 → flags_of (bit_or bits 64) ≡ either (flags_of bits) (named_flags (c ∷ []))
+pub sets_crlf : (c bits : ℕ) → c ≡ code "R" → flags_of (bit_or bits 64) ≡ either (flags_of bits) (named_flags (c ∷ []))
 sets_crlf c bits h =
     rw (
       h,
@@ -116,7 +119,7 @@ sets_crlf c bits h =
       and_or_apart 256 bits 64 refl,
     ) (simp (or-true, or-false) refl)
 
-pub sets_oniguruma_mode : (c bits : ℕ) → c ≡ 111 →
+pub sets_oniguruma_mode : (c bits : ℕ) → c ≡ code "o" →
     flags_of (bit_or bits 128) ≡ either (flags_of bits) (named_flags (c ∷ []))
 sets_oniguruma_mode c bits h =
     rw (
@@ -133,7 +136,7 @@ sets_oniguruma_mode c bits h =
     )
     (simp (or-true, or-false) refl)
 
-pub sets_ignore_numbered_groups : (c bits : ℕ) → c ≡ 110 →
+pub sets_ignore_numbered_groups : (c bits : ℕ) → c ≡ code "n" →
     flags_of (bit_or bits 256) ≡ either (flags_of bits) (named_flags (c ∷ []))
 sets_ignore_numbered_groups c bits h =
     rw (

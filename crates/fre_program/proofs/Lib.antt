@@ -1,2 +1,3 @@
+-- ---- the words that the program is called with
 mod FlagLemmas
 mod WordLemmas

@@ -35,7 +35,7 @@ fn accept<O: Write>(alloc: Global, out: &mut O, tree: &ExprTree) -> Result<Verdi
     let text = tree.expr.print(alloc, 0)?;
     write_nodes(out, &tree.expr, 0)?;
     write_marks(out, tree)?;
-    write_text(out, &text)?;
+    write_text(out, text.as_deref())?;
     out.flush()?;
     Ok(Verdict::Accepted)
 }

@@ -275,7 +275,7 @@ pub(crate) fn write_marks<O: Write>(out: &mut O, tree: &ExprTree) -> io::Result<
 }
 
 /// Writes the line of the tree's text, or of its want of one.
-pub(crate) fn write_text<O: Write>(out: &mut O, text: &Option<String>) -> io::Result<()> {
+pub(crate) fn write_text<O: Write>(out: &mut O, text: Option<&str>) -> io::Result<()> {
     match text {
         Some(text) => writeln!(out, "text {}", Hex(text.as_bytes())),
         None => writeln!(out, "text none"),

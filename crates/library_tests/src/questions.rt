@@ -7,7 +7,8 @@ use fancy_syntax::expr::Expr;
 use std::alloc::Global;
 
 /// Whether it is printable, one group nests in its text, its text at the precedence is put behind the first text and is
-/// the second, the text reads as it and it has so many groups, its node is this one, or there is such a node below its own.
+/// the second, the text reads as it and it has so many groups, its node is this one, or there is such a node below its
+/// own.
 #[derive(Clone, Copy)]
 pub enum Question {
     Printable,

@@ -14,8 +14,8 @@ fn is_letter_at(val: &str, place: usize) -> bool {
     }
 }
 
-/// How many children come: first the written ones, so many, and then none that is written, nor is another letter than its
-/// place says.
+/// How many children come: first the written ones, so many, and then none that is written, nor is another letter than
+/// its place says.
 fn counted(tree: &Expr, written: usize) -> Option<usize> {
     let mut count = 0usize;
     for child in tree.children_iter() {

@@ -40,7 +40,8 @@ pub(crate) struct Cut<'a> {
 }
 
 impl Cut<'_> {
-    /// Cuts at a byte offset: before the character that it falls into, and behind the last one where it is past the end.
+    /// Cuts at a byte offset: before the character that it falls into, and behind the last one where it is past the
+    /// end.
     pub(crate) fn at(pattern: &str, place: usize) -> Cut<'_> {
         let (front, behind) = pattern.split_at(pattern.floor_char_boundary(place));
         Cut {

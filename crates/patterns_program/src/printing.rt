@@ -112,8 +112,8 @@ fn write_text<O: Write, E: Write>(
     Ok(())
 }
 
-/// Writes the pattern as it prints, a line of `out`. One that has no text is written as it was, with why on `err`, and so
-/// is one that is refused, with where and why.
+/// Writes the pattern as it prints, a line of `out`. One that has no text is written as it was, with why on `err`, and
+/// so is one that is refused, with where and why.
 pub(crate) fn format_pattern<O: Write, E: Write>(
     alloc: Global,
     flags: u32,

@@ -146,8 +146,8 @@ fn answer_files<S: Sources, O: Write, E: Write>(
 
 /// Does the job on each pattern of the files, a pattern a line, and answers the status of the run: 0 where each is as
 /// the verb asks; 1 where one is not; 2 where a file, or a line of one, could not be read, which is said on `err`, and
-/// the others were; 3 where memory or a write was wanting, which is tried on `err`, and then `out` may hold a beginning.
-/// A line ends with LF or CR LF. The file `-` is the standard input.
+/// the others were; 3 where memory or a write was wanting, which is tried on `err`, and then `out` may hold a
+/// beginning. A line ends with LF or CR LF. The file `-` is the standard input.
 pub fn run<S: Sources, O: Write, E: Write>(
     alloc: Global,
     job: Job,

@@ -16,7 +16,7 @@ use Rattle.fancy_lex.specs.Escaped.{Escape, literal, literal_bytes, delegate}
 use Rattle.fancy_lex.specs.Fault.{invalid_class, invalid_codepoint_value, unclosed_unicode_name}
 use Rattle.fancy_lex.specs.Hex as hexes
 use Rattle.fancy_lex.specs.Hex.{hex, value, leaf_of_value, is_scalar, fixed_digits}
-use Rattle.fancy_lex.specs.Layout.{layout}
+use Rattle.fancy_lex.specs.LayoutSteps.{layout}
 use Rattle.fancy_lex.specs.Property.{Property, PropertyName, single, braced, read_property, name_at, property_text}
 use Rattle.fancy_lex.specs.Property.{Form, set, pair, form, form_text, look_up, lowercase, turn, letter}
 use Rattle.fancy_lex.specs.Reading.{Reading, gives, fails, fault_at, choose, layout_reading, ◌>=>◌}

@@ -10,13 +10,14 @@ use Rattle.std.proofs.lemmas.Fmt.{decimal_is_IsNumeral}
 use Rattle.std.proofs.lemmas.Str.{digit_value_digit}
 use Rattle.std.proofs.lemmas.Str.Parse.{digit_from_value}
 use Prim.Native.Char.{code}
-use Rattle.fancy_lex.specs.Boundary.{boundary, unnamed_boundary, at_count}
-use Rattle.fancy_lex.specs.Layout.{after_comment_head, rest_of}
+use Rattle.fancy_lex.specs.Boundary.{unnamed_boundary, at_count}
+use Rattle.fancy_lex.specs.BoundarySteps.{boundary}
+use Rattle.fancy_lex.specs.LayoutSteps.{after_comment_head, rest_of, past_layout}
 use Rattle.fancy_lex.specs.Number.{AllDigits, at_digit, number, value_after}
 use Rattle.fancy_lex.specs.Reading.{gives}
 use Rattle.fancy_lex.specs.Text.{Text, strip}
 use Rattle.fancy_lex.proofs.NumberLemmas.{number_complete, number_none}
-use Rattle.fancy_parts.specs.Quantifier.{most, past_layout, count, spaced_count, counts_from, braced_counts, counts}
+use Rattle.fancy_parts.specs.Quantifier.{most, count, spaced_count, counts_from, braced_counts, counts}
 use Rattle.fancy_parts.specs.declared.counts.Counts.{Counts}
 use Rattle.fancy_parts.specs.Quote.{range, mark, counts_as, counts_text, quantifier}
 use Rattle.fancy_grammar.proofs.ReadBack.ClearLemmas.{Clear, not_open, no_layout, clear_brace}

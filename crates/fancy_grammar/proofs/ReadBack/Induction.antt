@@ -7,7 +7,7 @@ use Rattle.fancy_lex.specs.declared.escape.Assertion.{Assertion}
 use Rattle.fancy_lex.specs.declared.escape.Assertion.TheVariants.{StartLineOniguruma}
 use Rattle.fancy_grammar.specs.Depth.{max_depth}
 use Rattle.fancy_parts.specs.Quote.{behind_backslash, quantifier}
-use Rattle.fancy_grammar.specs.Grammar.{Derives}
+use Rattle.fancy_grammar.specs.Grammar.{DerivesTree}
 use Rattle.fancy_grammar.specs.Join.{solid, join, choice}
 use Rattle.fancy_grammar.specs.Normal.{character, pieces_of, case_flags, bare, normal, normal_pieces, normals}
 use Rattle.fancy_grammar.specs.Quantified.{is_repeatable}
@@ -82,14 +82,14 @@ pub record ReadsBy (u : Bool) (k3 k2 k1 k0 : Text → Text) (m3 m2 m1 m0 : ℕ) 
   pub branch : ReadsBranch u k1 m1 x
   pub whole : ReadsWhole u k0 m0 x
 
-abbrev pub Reads : Bool → Tree → Type 0
-Reads u t =
+abbrev pub ReadsTree : Bool → Tree → Type 0
+ReadsTree u t =
     ReadsBy u (put t 3) (put t 2) (put t 1) (put t 0) (nest t 3) (nest t 2) (nest t 1) (nest t 0) (IsAtom t)
     (normal u t) (pieces_of t (normal u t))
 
 abbrev pub EachReads : Bool → Trees → Type 0
 EachReads u no_trees = Unit {0}
-EachReads u (more_trees t ts) = Reads u t × EachReads u ts
+EachReads u (more_trees t ts) = ReadsTree u t × EachReads u ts
 
 -- never wrapped
 by_atom : (u : Bool) (k : Text → Text) (m : ℕ) (IsOne : Type 0) (x : Tree) → Starts k → ReadsAtom u k m x →
@@ -147,19 +147,19 @@ by_run u k m i x r =
 
 -- ---- each kind of tree
 
-empty_reads : (u : Bool) → Reads u empty
+empty_reads : (u : Bool) → ReadsTree u empty
 empty_reads u =
     let k = λ (v : Text). v in
     let r : ReadsRun u k 0 [] = λ n d v l c. no_run n d (bare u) v in
     let b = to_branch u k 0 [] empty refl r in
     record { atom = λ i. absurd i; high = r; run = r; branch = b; whole = to_whole u k 0 empty b }
 
-define_reads : (u : Bool) (t : Tree) → Reads u (define_group t)
+define_reads : (u : Bool) (t : Tree) → ReadsTree u (define_group t)
 define_reads u t =
     let r = empty_reads u in
     record { atom = λ i. absurd i; high = r.high; run = r.run; branch = r.branch; whole = r.whole }
 
-any_reads : (u a b : Bool) → Reads u (any a b)
+any_reads : (u a b : Bool) → ReadsTree u (any a b)
 any_reads u a b =
     by_atom u (put_any a b) (one_if (a || b)) (Unit {0}) (any a (not a && b)) (begins_any a b)
     (λ n d v l _. reads_any n d u a b v l)
@@ -168,7 +168,7 @@ assertion_is : (u : Bool) (a : Assertion) → read_assertion a ≡ normal u (ass
 assertion_is u (StartLineOniguruma crlf) = refl
 assertion_is u _ = refl
 
-assertion_reads : (u : Bool) (a : Assertion) → HasText a → Reads u (assertion a)
+assertion_reads : (u : Bool) (a : Assertion) → HasText a → ReadsTree u (assertion a)
 assertion_reads u a h =
     let k = put_assertion a in
     let m = one_if (is_line a) in
@@ -176,7 +176,7 @@ assertion_reads u a h =
     (by_atom u k m (Unit {0}) (read_assertion a) (λ v. begins_assertion a v h)
     (λ n d v l e. reads_assertion n d u a v h l e))
 
-caseless_reads : (u : Bool) (s : Text) → Reads u (literal s true)
+caseless_reads : (u : Bool) (s : Text) → ReadsTree u (literal s true)
 caseless_reads u s =
     let k = λ (v : Text). code "(" ∷ code "?" ∷ code "i" ∷ code ":" ∷ put_quotes s (code ")" ∷ v) in
     let f = case_flags u true in
@@ -193,7 +193,7 @@ literal_atom u [] i n d v l _ = absurd i
 literal_atom u (c ∷ []) i n d v l _ = reads_char n d (bare u) c v (behind_backslash c) refl
 literal_atom u (c ∷ e ∷ cs) i n d v l _ = absurd i
 
-literal_reads : (u : Bool) (s : Text) → Reads u (literal s false)
+literal_reads : (u : Bool) (s : Text) → ReadsTree u (literal s false)
 literal_reads u s =
     let k = put_quotes s in
     let ys = map (character false) s in
@@ -201,11 +201,11 @@ literal_reads u s =
     let b = to_branch u k 0 ys (join ys) refl r in
     record { atom = literal_atom u s; high = r; run = r; branch = b; whole = to_whole u k 0 (join ys) b }
 
-delegate_reads : (u : Bool) (s : Text) → DelegateText s → Reads u (delegate s false)
+delegate_reads : (u : Bool) (s : Text) → DelegateText s → ReadsTree u (delegate s false)
 delegate_reads u s h =
     by_atom u (λ v. s ++ v) 0 (Unit {0}) (normal u (delegate s false)) h.begins (λ n d v l _. h.reads n d u false v)
 
-caseless_delegate_reads : (u : Bool) (s : Text) → DelegateText s → Reads u (delegate s true)
+caseless_delegate_reads : (u : Bool) (s : Text) → DelegateText s → ReadsTree u (delegate s true)
 caseless_delegate_reads u s h =
     let x = normal u (delegate s true) in
     by_atom u (λ v. code "(" ∷ code "?" ∷ code "i" ∷ code ":" ∷ (s ++ code ")" ∷ v)) 1 (Unit {0}) x
@@ -214,7 +214,7 @@ caseless_delegate_reads u s h =
     (whole_atom n (d + 1) (case_flags u true) (s ++ code ")" ∷ v) v x (kept_case u true)
     (h.begins (code ")" ∷ v)) (h.reads n (d + 1) u true (code ")" ∷ v))))
 
-group_reads : (u : Bool) (t : Tree) → Printable t → Reads u t → Reads u (group t)
+group_reads : (u : Bool) (t : Tree) → Printable t → ReadsTree u t → ReadsTree u (group t)
 group_reads u t h r =
     let k = λ (v : Text). code "(" ∷ put t 0 (code ")" ∷ v) in
     by_atom u k (1 + nest t 0) (Unit {0}) (group (normal u t))
@@ -230,12 +230,12 @@ concat_run u (more_trees t ts) h r n d v l c =
     run_chain (r.0.run n d (puts ts v) (omega arith) (clear_puts ts h.1 v c))
     (concat_run u ts h.1 r.1 n d v (omega arith) c)
 
-concat_reads : (u : Bool) (ts : Trees) → ArePrintable ts → EachReads u ts → Reads u (concat ts)
+concat_reads : (u : Bool) (ts : Trees) → ArePrintable ts → EachReads u ts → ReadsTree u (concat ts)
 concat_reads u ts h r =
     by_branch u (puts ts) (nests ts 2) (Unit {0}) (join (normal_pieces u ts)) (normal_pieces u ts) refl
     (concat_run u ts h r)
 
-alt_branches : (u : Bool) (t : Tree) (ts : Trees) → Reads u t → EachReads u ts → (n d : ℕ) (v : Text) →
+alt_branches : (u : Bool) (t : Tree) (ts : Trees) → ReadsTree u t → EachReads u ts → (n d : ℕ) (v : Text) →
     d + nest t 1 < max_depth → d + nests ts 1 < max_depth → Ends v
     → BranchesAs n d (bare u) (put t 1 (put_barred ts v)) v (normal u t ∷ normals u ts)
 alt_branches u t no_trees r rs n d v l m e =
@@ -254,7 +254,7 @@ alt_whole u (more_trees t ts) r n d v l e =
     reads_whole n d (bare u) (put t 1 (put_barred ts v)) v (normal u t ∷ normals u ts)
     (alt_branches u t ts r.0 r.1 n d v (omega arith) (omega arith) e)
 
-alt_reads : (u : Bool) (ts : Trees) → EachReads u ts → Reads u (alt ts)
+alt_reads : (u : Bool) (ts : Trees) → EachReads u ts → ReadsTree u (alt ts)
 alt_reads u ts r = by_whole u (put_branches ts) (nests ts 1) (Unit {0}) (choice (normals u ts)) (alt_whole u ts r)
 
 join_items : (u : Bool) (t : Tree) → join (pieces_of t (normal u t)) ≡ normal u t
@@ -274,12 +274,12 @@ atom_if u true k m x a w = wrap_atom u k m x w
 atom_if u false k m x a w = λ n d v l c. a refl n d v (omega arith) c
 
 -- what a quantifier is put behind is one atom
-repeated_atom : (u : Bool) (t : Tree) → is_repeatable (bare false) (normal false t) ≡ true → Reads u t →
+repeated_atom : (u : Bool) (t : Tree) → is_repeatable (bare false) (normal false t) ≡ true → ReadsTree u t →
     ReadsAtom u (put_repeated t) (one_if (is_long t) + nest t 3) (normal u t)
 repeated_atom u t n r =
     atom_if u (is_long t) (put t 3) (nest t 3) (normal u t) (λ e. r.atom (atom_of t n e)) (from_run u t 3 r.high)
 
-repeat_run : (u : Bool) (t : Tree) (lo hi : ℕ) (greedy : Bool) → Printable (repeat t lo hi greedy) → Reads u t
+repeat_run : (u : Bool) (t : Tree) (lo hi : ℕ) (greedy : Bool) → Printable (repeat t lo hi greedy) → ReadsTree u t
     → ReadsRun u (λ v. put_repeated t (quantifier lo hi greedy ++ v)) (one_if (is_long t) + nest t 3)
     (repeat (normal u t) lo hi greedy ∷ [])
 repeat_run u t lo hi greedy h r n d v l c =
@@ -290,14 +290,14 @@ repeat_run u t lo hi greedy h r n d v l c =
     (kept_bare u) b.goes b.clear.no_comment c m (h.1 u)
     (repeated_atom u t (h.1 false) r n d q l m.no_name)
 
-repeat_reads : (u : Bool) (t : Tree) (lo hi : ℕ) (greedy : Bool) → Printable (repeat t lo hi greedy) → Reads u t →
-    Reads u (repeat t lo hi greedy)
+repeat_reads : (u : Bool) (t : Tree) (lo hi : ℕ) (greedy : Bool) → Printable (repeat t lo hi greedy) → ReadsTree u t →
+    ReadsTree u (repeat t lo hi greedy)
 repeat_reads u t lo hi greedy h r =
     by_run u (λ v. put_repeated t (quantifier lo hi greedy ++ v)) (one_if (is_long t) + nest t 3) (Unit {0})
     (repeat (normal u t) lo hi greedy) (repeat_run u t lo hi greedy h r)
 
 mutual
-  pub reads : (u : Bool) (t : Tree) → Printable t → Reads u t
+  pub reads : (u : Bool) (t : Tree) → Printable t → ReadsTree u t
   reads u empty h = empty_reads u
   reads u (any a b) h = any_reads u a b
   reads u (assertion a) h = assertion_reads u a h
@@ -333,7 +333,7 @@ nest_high (repeat t lo hi greedy) p h =
 nest_high t p h = refl
 
 abbrev ReadsFrom : Bool → Tree → Text → Type 0
-ReadsFrom u t s = (r : Tree) × Derives (bare u) s r × Becomes r (normal u t)
+ReadsFrom u t s = (r : Tree) × DerivesTree (bare u) s r × Becomes r (normal u t)
 
 from_whole : (u : Bool) (t : Tree) (s : Text) → WholeAs (bytes s) 0 (bare u) s [] (normal u t) → ReadsFrom u t s
 from_whole u t s w = reads_text (bare u) s (normal u t) w

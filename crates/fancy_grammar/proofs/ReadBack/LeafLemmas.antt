@@ -3,10 +3,10 @@ use Rattle.std.proofs.Common.{◌≡◌, ℕ, ◌+◌, ◌<◌, Bool, true, fals
 use Rattle.std.proofs.Common.{None, refl, ap, ◌∙◌, arith, ne_eqb}
 use Rattle.std.proofs.lemmas.Bool.{cond-false}
 use Prim.Native.Char.{code}
-use Rattle.fancy_lex.specs.Boundary.{boundary, named_boundary, name}
+use Rattle.fancy_lex.specs.BoundarySteps.{boundary, named_boundary, name}
 use Rattle.fancy_lex.specs.Escape.{escape, outside}
 use Rattle.fancy_lex.specs.Escaped as escaped
-use Rattle.fancy_lex.specs.Layout.{after_comment_head, layout_from}
+use Rattle.fancy_lex.specs.LayoutSteps.{after_comment_head, layout_from}
 use Rattle.fancy_lex.specs.Reading.{gives}
 use Rattle.fancy_lex.specs.Text.{Text, bytes, place_of}
 use Rattle.fancy_lex.specs.declared.escape.Assertion.{Assertion}
@@ -17,7 +17,8 @@ use Rattle.fancy_lex.specs.declared.escape.Assertion.TheVariants.{RightWordBound
 use Rattle.fancy_lex.specs.declared.escape.Assertion.TheVariants.{WordBoundary, NotWordBoundary}
 use Rattle.fancy_lex.specs.declared.flags.Flags.{Flags}
 use Rattle.fancy_grammar.specs.Depth.{max_depth}
-use Rattle.fancy_parts.specs.FlagLetters as letters
+use Rattle.fancy_parts.specs.FlagLetters.{scope as scoped}
+use Rattle.fancy_parts.specs.LetterSteps.{letters}
 use Rattle.fancy_parts.specs.Quote.{behind_backslash, needs_backslash}
 use Rattle.fancy_grammar.specs.State as states
 use Rattle.fancy_grammar.specs.Ahead.{leaf, ahead, leaf_node, leaf_outcome}
@@ -116,7 +117,7 @@ begins_dot : (v : Text) → Begins (code "." ∷ v)
 begins_dot v = begins_by refl refl refl
 
 minus_letters : (n : ℕ) (u : Bool) (s : Text) →
-    letters.letters n (bare u) (code "R" ∷ code "-" ∷ code "s" ∷ code ":" ∷ s) ≡ gives (letters.scope (crlf_flags u)) s
+    letters n (bare u) (code "R" ∷ code "-" ∷ code "s" ∷ code ":" ∷ s) ≡ gives (scoped (crlf_flags u)) s
 unfolding bytes
 minus_letters n u s =
     let t = code "R" ∷ code "-" ∷ code "s" ∷ code ":" ∷ s in
@@ -124,13 +125,13 @@ minus_letters n u s =
     let far : (bytes (code ":" ∷ s) + 1 == bytes t) ≡ false =
     ne_eqb (bytes (code ":" ∷ s) + 1) (bytes t) (omega arith) in
     let k = kept_crlf u in
-    spelled n 3 (bare u) t (letters.scope g) s
+    spelled n 3 (bare u) t (scoped g) s
     (more_letters n t false (bare u) t (kept_bare u) refl 2 false g (code "-" ∷ code "s" ∷ code ":" ∷ s)
-    (letters.scope g) s refl
+    (scoped g) s refl
     (more_letters n t false g (code "-" ∷ code "s" ∷ code ":" ∷ s) k refl 1 true g (code "s" ∷ code ":" ∷ s)
-    (letters.scope g) s refl
-    (more_letters n t true g (code "s" ∷ code ":" ∷ s) k refl 0 true g (code ":" ∷ s) (letters.scope g) s refl
-    (last_letter n t true g (code ":" ∷ s) k refl (letters.scope g) s (cond-false _ _ _ far)))))
+    (scoped g) s refl
+    (more_letters n t true g (code "s" ∷ code ":" ∷ s) k refl 0 true g (code ":" ∷ s) (scoped g) s refl
+    (last_letter n t true g (code ":" ∷ s) k refl (scoped g) s (cond-false _ _ _ far)))))
     (omega arith)
 
 pub reads_any : (n d : ℕ) (u a b : Bool) (v : Text) → d + one_if (a || b) < max_depth →

@@ -9,12 +9,12 @@ use Rattle.std.proofs.lemmas.List.{map-append}
 use Rattle.std.specs.List.{AllByRecursion}
 use Prim.Native.Char.{code}
 use Rattle.fancy_lex.specs.Fault.{Kind, recursion_exceeded}
-use Rattle.fancy_lex.specs.Layout.{layout, after_comment_head, rest}
+use Rattle.fancy_lex.specs.LayoutSteps.{layout, after_comment_head, rest}
 use Rattle.fancy_lex.specs.Reading.{gives, choose, layout_reading}
 use Rattle.fancy_lex.specs.Text.{Text, bytes, place_of}
 use Rattle.fancy_lex.specs.declared.flags.Flags.{Flags}
-use Rattle.fancy_parts.specs.FlagLetters as letters
-use Rattle.fancy_parts.specs.FlagLetters.{Letters, letters_in, step, ends, goes}
+use Rattle.fancy_parts.specs.FlagLetters.{Letters, scope as scoped, ends, goes}
+use Rattle.fancy_parts.specs.LetterSteps.{letters, letters_in, step}
 use Rattle.fancy_parts.specs.Quantifier.{counts}
 use Rattle.fancy_parts.specs.Quote.{behind_backslash, needs_backslash}
 use Rattle.fancy_parts.specs.Ranks.{Opening}
@@ -26,7 +26,7 @@ use Rattle.fancy_grammar.specs.Ahead.{group_ahead, behind_layout, leaf_of, leaf_
 use Rattle.fancy_grammar.specs.Depth.{max_depth}
 use Rattle.fancy_grammar.specs.Grammar.{Alternation, alternation, Branches, last, more, branch_fault, Branch, branch}
 use Rattle.fancy_grammar.specs.Grammar.{Pieces, stop, next, piece_fault, Piece, piece, Atom, atom, a_leaf, a_group}
-use Rattle.fancy_grammar.specs.Grammar.{inside, Derives, Faults, whole}
+use Rattle.fancy_grammar.specs.Grammar.{inside, DerivesTree, Faults, whole}
 use Rattle.fancy_grammar.specs.Head.{Head, capture, scope}
 use Rattle.fancy_grammar.specs.Items.{Item, opening, reference, items, items_all}
 use Rattle.fancy_grammar.specs.Join.{is_empty, solid, one_or, join, choice}
@@ -389,8 +389,8 @@ reads_group n d f s v x k l c w = record {
 -- a group of flags, whose letters begin with one that begins no other head
 pub scope_at : (n d : ℕ) (f g : Flags) (t u : Text) → Kept f → d + 1 < max_depth →
     after_comment_head (code "?" ∷ t) ≡ None →
-    behind_question n (st f (code "(" ∷ code "?" ∷ t)) t ≡ flags_ahead (letters.letters n f t) →
-    letters.letters n f t ≡ gives (letters.scope g) u →
+    behind_question n (st f (code "(" ∷ code "?" ∷ t)) t ≡ flags_ahead (letters n f t) →
+    letters n f t ≡ gives (scoped g) u →
     ahead n d (st f (code "(" ∷ code "?" ∷ t)) ≡ with_head scope (st g u)
 scope_at n d f g t u k l o q e = head_at n d f (code "?" ∷ t) k l o ∙ q ∙ ap flags_ahead e
 
@@ -415,13 +415,13 @@ module _ (n : ℕ) (t : Text) (c : Bool) (f : Flags) (u : Text) (h : Kept f) (o 
       same ∙ r i q
 
 pub spelled : (n k : ℕ) (f : Flags) (t : Text) (l : Letters) (w : Text) → Spelled n t k false f t l w → k ≤ bytes t →
-    letters.letters n f t ≡ gives l w
+    letters n f t ≡ gives l w
 spelled n k f t l w h m = letters_start n f t ∙ h (suc (bytes t)) (omega arith)
 
-colon : (n : ℕ) (f : Flags) (s : Text) → Kept f → letters.letters n f (code ":" ∷ s) ≡ gives (letters.scope f) s
+colon : (n : ℕ) (f : Flags) (s : Text) → Kept f → letters n f (code ":" ∷ s) ≡ gives (scoped f) s
 colon n f s k =
-    spelled n 0 f (code ":" ∷ s) (letters.scope f) s
-    (last_letter n (code ":" ∷ s) false f (code ":" ∷ s) k refl (letters.scope f) s refl)
+    spelled n 0 f (code ":" ∷ s) (scoped f) s
+    (last_letter n (code ":" ∷ s) false f (code ":" ∷ s) k refl (scoped f) s refl)
     (omega arith)
 
 grouped_at : (n d : ℕ) (f : Flags) (s : Text) → Kept f → d + 1 < max_depth →
@@ -438,26 +438,26 @@ reads_grouped n d f s v x k l w = reads_scope n d f f (code "(" ∷ code "?" ∷
 pub one_letter : (n : ℕ) (f g : Flags) (c : ℕ) (s : Text) → Kept f → Kept g →
     after_comment_head (c ∷ code ":" ∷ s) ≡ None →
     step n (c ∷ code ":" ∷ s) false f (c ∷ code ":" ∷ s) ≡ gives (goes false g) (code ":" ∷ s) →
-    letters.letters n f (c ∷ code ":" ∷ s) ≡ gives (letters.scope g) s
+    letters n f (c ∷ code ":" ∷ s) ≡ gives (scoped g) s
 unfolding bytes
 one_letter n f g c s k m o e =
     let t = c ∷ code ":" ∷ s in
-    spelled n 1 f t (letters.scope g) s
-    (more_letters n t false f t k o 0 false g (code ":" ∷ s) (letters.scope g) s e
-    (last_letter n t false g (code ":" ∷ s) m refl (letters.scope g) s refl)) (omega arith)
+    spelled n 1 f t (scoped g) s
+    (more_letters n t false f t k o 0 false g (code ":" ∷ s) (scoped g) s e
+    (last_letter n t false g (code ":" ∷ s) m refl (scoped g) s refl)) (omega arith)
 
 pub two_letters : (n : ℕ) (f g h : Flags) (b c : ℕ) (s : Text) → Kept f → Kept g → Kept h → 1 ≤ bytes (b ∷ []) →
     after_comment_head (b ∷ c ∷ code ":" ∷ s) ≡ None → after_comment_head (c ∷ code ":" ∷ s) ≡ None →
     step n (b ∷ c ∷ code ":" ∷ s) false f (b ∷ c ∷ code ":" ∷ s) ≡ gives (goes false g) (c ∷ code ":" ∷ s) →
     step n (b ∷ c ∷ code ":" ∷ s) false g (c ∷ code ":" ∷ s) ≡ gives (goes false h) (code ":" ∷ s) →
-    letters.letters n f (b ∷ c ∷ code ":" ∷ s) ≡ gives (letters.scope h) s
+    letters n f (b ∷ c ∷ code ":" ∷ s) ≡ gives (scoped h) s
 unfolding bytes
 two_letters n f g h b c s k m p z o q e r =
     let t = b ∷ c ∷ code ":" ∷ s in
-    spelled n 2 f t (letters.scope h) s
-    (more_letters n t false f t k o 1 false g (c ∷ code ":" ∷ s) (letters.scope h) s e
-    (more_letters n t false g (c ∷ code ":" ∷ s) m q 0 false h (code ":" ∷ s) (letters.scope h) s r
-    (last_letter n t false h (code ":" ∷ s) p refl (letters.scope h) s refl))) (omega arith)
+    spelled n 2 f t (scoped h) s
+    (more_letters n t false f t k o 1 false g (c ∷ code ":" ∷ s) (scoped h) s e
+    (more_letters n t false g (c ∷ code ":" ∷ s) m q 0 false h (code ":" ∷ s) (scoped h) s r
+    (last_letter n t false h (code ":" ∷ s) p refl (scoped h) s refl))) (omega arith)
 
 -- `(?i:`
 pub reads_caseless : (n d : ℕ) (u : Bool) (s v : Text) (x : Tree) → d + 1 < max_depth →
@@ -555,7 +555,7 @@ module _ (n d : ℕ) (f : Flags) (k : Kind) (p : ℕ) where
 -- ---- a whole text
 
 pub reads_text : (f : Flags) (s : Text) (x : Tree) → WholeAs (bytes s) 0 f s [] x →
-    (r : Tree) × Derives f s r × Becomes r x
+    (r : Tree) × DerivesTree f s r × Becomes r x
 reads_text f s x w = (w.tree, (_, whole w.derives refl), w.becomes)
 
 pub fails_text : (f : Flags) (s : Text) (k : Kind) (p : ℕ) → Alternation (bytes s) 0 (st f s) (fault k p) →

@@ -19,7 +19,7 @@ use Rattle.fancy_parts.specs.Written.{is_numeric}
 use Rattle.fancy_grammar.specs.Depth.{max_depth}
 use Rattle.fancy_grammar.specs.Answer.{IsTreeOf, of_reading}
 use Rattle.fancy_grammar.specs.Answered.{groups}
-use Rattle.fancy_grammar.specs.Grammar.{Derives, Faults}
+use Rattle.fancy_grammar.specs.Grammar.{DerivesTree, Faults}
 use Rattle.fancy_grammar.specs.Items.{Item, opening, reference, items, openings, openings_in, references_in}
 use Rattle.fancy_grammar.specs.Marks.{Marks, marks, ascending, back_numbers, is_call, is_call_of_all}
 use Rattle.fancy_grammar.specs.Printed.{printed}
@@ -72,7 +72,7 @@ marks_are u text r h =
 -- ---- the answer
 
 -- a text that derives a tree with groups alone
-tree_of : (u : Bool) (text : Text) (r x : Tree) → Derives (bare u) text r → Becomes r x →
+tree_of : (u : Bool) (text : Text) (r x : Tree) → DerivesTree (bare u) text r → Becomes r x →
     IsTreeOf (bare u) text x (marks_of_groups (length (groups x)))
 tree_of u text r x d b =
     let numbered = counted_in false (openings r) in

@@ -276,11 +276,11 @@ mutual
   fails u (assertion a) h = assertion_fails u a h
   fails u (literal s true) h =
       by_one u (λ v. code "(" ∷ code "?" ∷ code "i" ∷ code ":" ∷ put_quotes s (code ")" ∷ v)) (λ v. (_, refl))
-      (λ v. begins_head 105 _ refl)
+      (λ v. begins_head (code "i") _ refl)
   fails u (literal s false) h = by_none u (put_quotes s) (λ d v. put_quotes s v)
   fails u (delegate s true) h =
       by_one u (λ v. code "(" ∷ code "?" ∷ code "i" ∷ code ":" ∷ (s ++ code ")" ∷ v)) (λ v. (_, refl))
-      (λ v. begins_head 105 _ refl)
+      (λ v. begins_head (code "i") _ refl)
   fails u (delegate s false) h = by_none u (λ v. s ++ v) (λ d v. s ++ v)
   fails u (concat ts) h =
       by_branch u (puts ts) (nests ts 2) (lefts ts) (concat_fails u ts h (reads_each u ts h) (fails_each u ts h))

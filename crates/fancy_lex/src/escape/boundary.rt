@@ -1,6 +1,7 @@
 //! Word boundaries behind `\b` and `\B`.
 ghost use Rattle.std.specs.Prelude.{◌≡◌, ℕ, ◌+◌, ◌^◌, ◌<◌, ◌≤◌, [], ◌∷◌, ◌++◌, true, length, chars, IfSome, IfErr, IfOk, MatchResult, option_map};
 ghost use Rattle.fancy_lex.specs.Boundary as spec;
+ghost use Rattle.fancy_lex.specs.BoundarySteps as steps;
 ghost use Rattle.fancy_lex.specs.Escaped.{Escape, escape_of};
 ghost use Rattle.fancy_lex.specs.Fault.{StandsWithin, invalid_escape};
 ghost use Rattle.fancy_lex.specs.FaultTable.{boundary_head, boundary_not_closed};
@@ -34,7 +35,7 @@ pub(crate) fn bare_boundary(
     ignore_space: bool,
 ) -> Option<Escaped<'static>>
     ensures { IfSome result (λ e. (n p : ℕ) →
-        spec.boundary n ignore_space p negated (chars text.now) ≡ gives (escape_of e) (chars text.now)) }
+        steps.boundary n ignore_space p negated (chars text.now) ≡ gives (escape_of e) (chars text.now)) }
 {
     if begins_layout(text, ignore_space) {
         return None;
@@ -57,16 +58,15 @@ fn at_count(text: &str) -> bool
 
 /// What follows the word and a closing brace, if they stand at the front with layout before each character.
 #[tactic(auto, using(crate::proofs::BoundaryLemmas::after_name_steps))]
-fn after_name<'a>(text: &'a str, word: &str, ignore_space: bool, end: usize) -> Option<&'a str>
-    requires { end < 2 ^ 63 }
-    ensures value { name_spec.after_name end ignore_space (chars word.now) (chars text.now) ≡
+fn after_name<'a>(text: &'a str, word: &str, ignore_space: bool) -> Option<&'a str>
+    ensures value { name_spec.after_name ignore_space (chars word.now) (chars text.now) ≡
         option_map (λ r. chars r.now) result }
     ensures shorter { IfSome result (λ r. length r.now < length text.now) }
 {
     let mut rest = text;
     let mut word = word;
     loop {
-        rest = past_layout(rest, ignore_space, end)?;
+        rest = past_layout(rest, ignore_space)?;
         let Some((c, more)) = next(word) else {
             return after(rest, '}');
         };
@@ -77,22 +77,21 @@ fn after_name<'a>(text: &'a str, word: &str, ignore_space: bool, end: usize) -> 
 
 /// The boundary whose name and closing brace stand at the front, and what follows them.
 #[tactic(auto, unfolding(crate::specs::BoundaryName::known_boundary))]
-fn known_boundary(text: &str, ignore_space: bool, end: usize) -> Option<(Assertion, &str)>
-    requires { end < 2 ^ 63 }
-    ensures value { name_spec.known_boundary end ignore_space (chars text.now) ≡
+fn known_boundary(text: &str, ignore_space: bool) -> Option<(Assertion, &str)>
+    ensures value { name_spec.known_boundary ignore_space (chars text.now) ≡
         option_map (λ p. (p.0, chars p.1.now)) result }
     ensures shorter { IfSome result (λ p. length p.1.now < length text.now) }
 {
-    if let Some(rest) = after_name(text, "start", ignore_space, end) {
+    if let Some(rest) = after_name(text, "start", ignore_space) {
         return Some((Assertion::LeftWordBoundary, rest));
     }
-    if let Some(rest) = after_name(text, "end", ignore_space, end) {
+    if let Some(rest) = after_name(text, "end", ignore_space) {
         return Some((Assertion::RightWordBoundary, rest));
     }
-    if let Some(rest) = after_name(text, "start-half", ignore_space, end) {
+    if let Some(rest) = after_name(text, "start-half", ignore_space) {
         return Some((Assertion::LeftWordHalfBoundary, rest));
     }
-    let rest = after_name(text, "end-half", ignore_space, end)?;
+    let rest = after_name(text, "end-half", ignore_space)?;
     Some((Assertion::RightWordHalfBoundary, rest))
 }
 
@@ -165,11 +164,11 @@ fn named_boundary<'a>(
     end: usize,
 ) -> Result<(Escaped<'a>, &'a str), Error>
     requires { end < 2 ^ 63 }
-    ensures value { Answers escape_of result (spec.named_boundary end ignore_space place negated (chars text.now)) }
+    ensures value { Answers escape_of result (steps.named_boundary end ignore_space place negated (chars text.now)) }
     ensures shorter { IfOk result (λ p. length p.1.now < length text.now) }
 {
     if !negated {
-        if let Some((assertion, rest)) = known_boundary(text, ignore_space, end) {
+        if let Some((assertion, rest)) = known_boundary(text, ignore_space) {
             return Ok((Escaped::Assertion(assertion), rest));
         }
     }
@@ -178,7 +177,7 @@ fn named_boundary<'a>(
 }
 
 /// Reads a word boundary behind its letter, with the braces that belong to it.
-#[tactic(auto, unfolding(crate::specs::Boundary::boundary))]
+#[tactic(auto, unfolding(crate::specs::BoundarySteps::boundary))]
 fn read_boundary<'a>(
     alloc: Global,
     text: &'a str,
@@ -188,7 +187,7 @@ fn read_boundary<'a>(
     end: usize,
 ) -> Result<(Escaped<'a>, &'a str), Error>
     requires { end < 2 ^ 63 }
-    ensures value { Answers escape_of result (spec.boundary end flags.ignore_space place negated (chars text.now)) }
+    ensures value { Answers escape_of result (steps.boundary end flags.ignore_space place negated (chars text.now)) }
     ensures within { IfOk result (λ p. length p.1.now ≤ length text.now) }
 {
     let rest = skip(text, flags.ignore_space, end)?;
@@ -215,7 +214,7 @@ pub fn boundary<'a>(
     end: usize,
 ) -> Result<(Escaped<'a>, &'a str), Error>
     requires { end < 2 ^ 63 }
-    ensures value { Answers escape_of result (spec.boundary end flags.ignore_space place negated (chars text.now)) }
+    ensures value { Answers escape_of result (steps.boundary end flags.ignore_space place negated (chars text.now)) }
     ensures derives { Derives escape_of result (spec.Boundary end flags.ignore_space place negated (chars text.now)) }
     ensures only { (o : Reading Escape) → spec.Boundary end flags.ignore_space place negated (chars text.now) o →
         Answers escape_of result o }

@@ -140,6 +140,7 @@ fn leaf_of_value<'a>(
     }
 }
 
+/// Reads a code in hexadecimal, by digits or in braces.
 #[tactic(auto, unfolding(crate::specs::Hex::hex))]
 fn read_hex<'a>(
     text: &'a str,

@@ -17,7 +17,7 @@ use crate::text::{next, place};
 /// Reads all the digits at the front, which number a group, in a pattern of `end` bytes. The fault is InvalidBackref at
 /// the text's place, where no digit stands there, or no word holds the number.
 #[tactic(auto, unfolding(crate::specs::EscapeReference::group_number))]
-pub fn group_number(text: &str, end: usize) -> Result<(usize, &str), Error>
+pub(crate) fn group_number(text: &str, end: usize) -> Result<(usize, &str), Error>
     requires { length text.now ≤ end }
     ensures value { Reads (λ n. n) result (spec.group_number end (chars text.now)) }
     ensures no_digit { at_digit (chars text.now) ≡ false →

@@ -5,6 +5,7 @@ ghost use Rattle.fancy_lex.specs.Text.{Text, parts};
 
 use crate::text::{next, split_at};
 
+/// Reads a name up to the mark that closes it.
 #[tactic(auto, unfolding(crate::specs::Delimited::name_before))]
 fn read_name(text: &str, mark: char) -> Option<(&str, &str)>
     requires { mark < 128 }

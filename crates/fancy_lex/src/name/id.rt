@@ -94,6 +94,7 @@ fn id_or_none(text: &str) -> (Option<&str>, &str)
     }
 }
 
+/// Reads all of the text as an id reference.
 #[tactic(auto, unfolding(crate::specs::IdReference::id_reference))]
 fn read_id_reference(text: &str, relative: bool) -> Option<IdReference<'_>>
     ensures value { reference.id_reference relative (chars text.now) ≡ option_map view_id_reference result }

@@ -28,6 +28,7 @@ fn with_digit(value: Option<usize>, digit: usize) -> Option<usize>
     value?.checked_mul(10)?.checked_add(digit)
 }
 
+/// Reads the digits at the front.
 #[tactic(auto, using(crate::proofs::NumberLemmas::number_steps))]
 fn read_number(text: &str) -> Option<(Option<usize>, &str)>
     ensures value { spec.GivesNumber (chars text.now) result }

@@ -7,7 +7,7 @@ use crate::text::{after, next};
 
 /// The number that all of the text writes in ASCII digits, where a word holds it.
 #[tactic(auto, unfolding(crate::specs::NumberText::whole_number))]
-pub fn whole_number(text: &str) -> Option<usize>
+pub(crate) fn whole_number(text: &str) -> Option<usize>
     ensures value { spec.whole_number (chars text.now) ≡ result }
 {
     let (value, rest) = number(text)?;

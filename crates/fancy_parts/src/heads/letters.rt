@@ -4,6 +4,7 @@ ghost use Rattle.fancy_lex.specs.Reading.{Reading, Answers, Reports, Derives};
 ghost use Rattle.fancy_lex.specs.Text.{Text, EndsWith, bytes, text_of};
 ghost use Rattle.fancy_lex.specs.Fault.{StandsWithin};
 ghost use Rattle.fancy_parts.specs.FlagLetters as spec;
+ghost use Rattle.fancy_parts.specs.LetterSteps as steps;
 ghost use Rattle.fancy_parts.specs.FlagReads.{letters_of, step_of};
 
 use fancy_lex::error::{Error, ParseError};
@@ -58,7 +59,7 @@ fn with_letter(flags: Flags, on: bool, letter: char) -> Option<Flags>
 /// The text of an unknown flag: `(?` and the letters through the one before `rest`.
 fn flag_text(alloc: Global, letters: &str, rest: &str) -> Result<String, AllocError>
     requires { (w : Text) × (chars letters.now ≡ w ++ chars rest.now) }
-    ensures { IfOk result (λ s. text_of s ≡ codes "(?" ++ spec.letters_before (chars letters.now) (chars rest.now)) }
+    ensures { IfOk result (λ s. text_of s ≡ codes "(?" ++ steps.letters_before (chars letters.now) (chars rest.now)) }
 {
     let read = front(letters, rest);
     let mut text = String::from_str(alloc, "(?")?;
@@ -70,7 +71,7 @@ fn flag_text(alloc: Global, letters: &str, rest: &str) -> Result<String, AllocEr
 fn unknown_flag(alloc: Global, letters: &str, rest: &str, end: usize) -> Error
     requires behind { (w : Text) × (chars letters.now ≡ w ++ chars rest.now) }
     requires within { length letters.now ≤ end }
-    ensures { Reports result (spec.unknown_letter end (chars letters.now) (chars rest.now)) }
+    ensures { Reports result (steps.unknown_letter end (chars letters.now) (chars rest.now)) }
 {
     match flag_text(alloc, letters, rest) {
         Ok(text) => Error::ParseError(place(letters, end), ParseError::UnknownFlag(text)),
@@ -81,7 +82,7 @@ fn unknown_flag(alloc: Global, letters: &str, rest: &str, end: usize) -> Error
 /// Whether nothing was read of the letters before `here`.
 #[tactic(auto, using(fancy_lex::proofs::TextLemmas::bytes_chars))]
 fn is_first(letters: &str, here: &str) -> bool
-    ensures { result ≡ spec.is_first (chars letters.now) (chars here.now) }
+    ensures { result ≡ steps.is_first (chars letters.now) (chars here.now) }
 {
     here.len() == letters.len()
 }
@@ -89,15 +90,15 @@ fn is_first(letters: &str, here: &str) -> bool
 /// Whether a minus sign alone was read of the letters before `here`.
 #[tactic(auto, using(fancy_lex::proofs::TextLemmas::bytes_chars))]
 fn is_behind_minus(letters: &str, clears: bool, here: &str) -> bool
-    ensures { result ≡ spec.is_behind_minus (chars letters.now) clears (chars here.now) }
+    ensures { result ≡ steps.is_behind_minus (chars letters.now) clears (chars here.now) }
 {
     clears && here.len() + 1 == letters.len()
 }
 
 /// Whether a parenthesis at `here` closes no letter at all.
 fn closes_nothing(letters: &str, clears: bool, here: &str) -> bool
-    ensures { let first = spec.is_first (chars letters.now) (chars here.now) in
-        result ≡ (first || spec.is_behind_minus (chars letters.now) clears (chars here.now)) }
+    ensures { let first = steps.is_first (chars letters.now) (chars here.now) in
+        result ≡ (first || steps.is_behind_minus (chars letters.now) clears (chars here.now)) }
 {
     is_first(letters, here) || is_behind_minus(letters, clears, here)
 }
@@ -113,7 +114,7 @@ fn flag_letter<'a>(
 ) -> Result<(Step, &'a str), Error>
     requires behind { (w : Text) × (chars letters.now ≡ w ++ chars here.now) }
     requires within { length letters.now ≤ end }
-    ensures value { Answers step_of result (spec.step end (chars letters.now) clears flags (chars here.now)) }
+    ensures value { Answers step_of result (steps.step end (chars letters.now) clears flags (chars here.now)) }
     ensures one_on { IfOk result (λ p. (c : ℕ) × (chars here.now ≡ c ∷ chars p.1.now)) }
     ensures shorter { IfOk result (λ p. length p.1.now < length here.now) }
 {
@@ -168,7 +169,7 @@ fn read_letters(
 ) -> Result<(Letters, &str), Error>
     requires within { length text.now ≤ end }
     requires end { end < 2 ^ 63 }
-    ensures value { Answers letters_of result (spec.letters end flags (chars text.now)) }
+    ensures value { Answers letters_of result (steps.letters end flags (chars text.now)) }
     ensures shorter { IfOk result (λ p. length p.1.now < length text.now) }
 {
     let mut clears = false;
@@ -203,7 +204,7 @@ pub fn flag_letters(
 ) -> Result<(Letters, &str), Error>
     requires within { length text.now ≤ end }
     requires end { end < 2 ^ 63 }
-    ensures value { Answers letters_of result (spec.letters end flags (chars text.now)) }
+    ensures value { Answers letters_of result (steps.letters end flags (chars text.now)) }
     ensures derives { Derives letters_of result (spec.FlagGroup end flags (chars text.now)) }
     ensures only { (o : Reading spec.Letters) → spec.FlagGroup end flags (chars text.now) o →
         Answers letters_of result o }

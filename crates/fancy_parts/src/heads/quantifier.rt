@@ -27,9 +27,9 @@ fn spaced_count(text: &str, ignore_space: bool) -> Option<(Option<usize>, &str)>
     ensures value { spec.spaced_count ignore_space (chars text.now) ≡ option_map (λ p. (p.0, chars p.1.now)) result }
     ensures within { IfSome result (λ p. length p.1.now ≤ length text.now) }
 {
-    let start = past_layout(text, ignore_space, 0)?;
+    let start = past_layout(text, ignore_space)?;
     let (n, rest) = count(start)?;
-    let rest = past_layout(rest, ignore_space, 0)?;
+    let rest = past_layout(rest, ignore_space)?;
     Some((n, rest))
 }
 
@@ -81,6 +81,7 @@ fn as_mark(low: usize, high: usize) -> Counts
     }
 }
 
+/// Reads a quantifier: a mark, or counts in braces.
 #[tactic(auto, unfolding(crate::specs::Quantifier::counts))]
 fn read_counts(text: &str, ignore_space: bool) -> Option<(Counts, &str)>
     ensures value { spec.counts ignore_space (chars text.now) ≡ option_map (λ p. (p.0, chars p.1.now)) result }

@@ -149,6 +149,7 @@ impl Expr {
     }
 }
 
+/// A clone of the tree, in a box of its own.
 #[cycle(clone)]
 fn clone_box(alloc: Global, tree: &Expr) -> Result<Box<Expr>, AllocError>
     ensures { IfOk result (λ child. view child.value ≡ view tree.now) }
@@ -156,6 +157,7 @@ fn clone_box(alloc: Global, tree: &Expr) -> Result<Box<Expr>, AllocError>
     Ok(Box::new(alloc, tree.clone(alloc)?)?)
 }
 
+/// Clones of the trees, in a list of their own.
 #[cycle(clone)]
 fn clone_all(alloc: Global, trees: &[Expr]) -> Result<Vec<Expr>, AllocError>
     ensures { IfOk result (λ all. views all.items ≡ views trees.now) }

@@ -22,6 +22,7 @@ impl Expr {
     }
 }
 
+/// Whether the predicate holds of a node below the root.
 #[cycle(any_below)]
 fn any_below<F: Fn(&Expr) -> bool>(tree: &Expr, predicate: &F) -> bool
     requires { (d : _) → IsDescendant d.now tree.now → F.pre predicate.now d }
@@ -40,7 +41,7 @@ fn any_below<F: Fn(&Expr) -> bool>(tree: &Expr, predicate: &F) -> bool
     false
 }
 
-// apart from the recursion, so that what the predicate answers is known there
+/// What the predicate answers of the node: apart from the recursion, so that it is known there.
 fn holds<F: Fn(&Expr) -> bool>(tree: &Expr, predicate: &F) -> bool
     requires { F.pre predicate.now tree }
     ensures { FnReturnsAt F.Fn predicate.now tree.now result }

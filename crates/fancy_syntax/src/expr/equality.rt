@@ -61,6 +61,7 @@ impl Eq for Expr {
     ghost laws = { on_equiv view same-equiv };
 }
 
+/// Whether the nodes are the same.
 #[cycle(same)]
 fn is_same_node(node: &AstNode, other: &AstNode) -> bool
     ensures { result ≡ same_ast (view_ast node.now) (view_ast other.now) }
@@ -111,6 +112,7 @@ fn is_same_node(node: &AstNode, other: &AstNode) -> bool
     }
 }
 
+/// Whether the absent forms are the same.
 #[cycle(same)]
 fn is_same_absent(absent: &Absent, other: &Absent) -> bool
     ensures { result ≡ same_absent (view_absent absent.now) (view_absent other.now) }
@@ -135,6 +137,7 @@ fn is_same_absent(absent: &Absent, other: &Absent) -> bool
     }
 }
 
+/// Whether the trees are the same.
 #[cycle(same)]
 fn is_same(tree: &Expr, other: &Expr) -> bool
     ensures { result ≡ same (view tree.now) (view other.now) }
@@ -287,6 +290,7 @@ fn is_same(tree: &Expr, other: &Expr) -> bool
     }
 }
 
+/// Whether both have the same name, or both none.
 fn is_same_name(name: &Option<String>, other: &Option<String>) -> bool
     ensures { result ≡ same_name (option_map text_of name.now) (option_map text_of other.now) }
 {
@@ -299,6 +303,7 @@ fn is_same_name(name: &Option<String>, other: &Option<String>) -> bool
     }
 }
 
+/// Whether the trees in the boxes are the same.
 #[cycle(same)]
 fn is_same_child(child: &Box<Expr>, other: &Box<Expr>) -> bool
     ensures { result ≡ same (view child.now.value) (view other.now.value) }
@@ -306,6 +311,7 @@ fn is_same_child(child: &Box<Expr>, other: &Box<Expr>) -> bool
     is_same(child, other)
 }
 
+/// Whether the lists hold the same trees, one by one.
 #[cycle(same)]
 fn is_same_list(trees: &[Expr], others: &[Expr]) -> bool
     ensures { result ≡ same_all (trees_of (views trees.now)) (trees_of (views others.now)) }

@@ -5,7 +5,7 @@ ghost use Rattle.std.specs.Borrow.{sem};
 ghost use Rattle.fancy_syntax.specs.Loans.{LendsChildAt, LendsBoxAt, LendsListAt};
 
 /// A value with children, which it holds in one of two ways.
-pub trait Parent {
+pub(super) trait Parent {
     type Child;
 
     // what is said of a value and of a child
@@ -42,7 +42,7 @@ pub trait Parent {
 }
 
 /// The child i, if there is one, to be read and written.
-pub fn lend_child<P: Parent>(parent: &mut P, i: usize) -> Option<&mut P::Child>
+pub(super) fn lend_child<P: Parent>(parent: &mut P, i: usize) -> Option<&mut P::Child>
     ensures* writes_back { sem 𝓛
         (LendsChildAt P.row P.Child.row P.Seen P.show P.see P.with_child parent.entry i result) }
     ensures value { option_map (λ child. P.see child.now) result ≡ P.child_at (P.show parent.old) i }

@@ -112,7 +112,7 @@ fn decide(
 }
 
 /// A branch behind `(?~|` that no other follows: a stopper, or where it is Empty a clear.
-pub(crate) fn alone(alloc: Global, branch: Expr) -> Result<Expr, AllocError>
+pub(crate) fn clear_or_stopper(alloc: Global, branch: Expr) -> Result<Expr, AllocError>
     ensures { IfOk result (λ e. view e ≡ spec.clear_or_stopper (view branch)) }
 {
     if is_empty(&branch) {

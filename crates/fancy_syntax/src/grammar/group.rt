@@ -1,7 +1,7 @@
 //! The heads of groups: what stands behind a parenthesis and a question mark or an asterisk.
 ghost use Rattle.std.specs.Prelude.{◌≡◌, ◌<◌, ◌≤◌, ◌^◌, length, chars, codes, ◌++◌, Some, None, IfOk, IfSome, option_map, MatchResult};
 ghost use Rattle.fancy_lex.specs.FaultTable.{unknown_verb};
-ghost use Rattle.fancy_parts.specs.FlagLetters.{letters};
+ghost use Rattle.fancy_parts.specs.LetterSteps.{letters};
 ghost use Rattle.fancy_parts.specs.GroupName as names;
 ghost use Rattle.fancy_parts.specs.HeadReference as references;
 ghost use Rattle.fancy_grammar.specs.Ahead.{leaf, with_head};

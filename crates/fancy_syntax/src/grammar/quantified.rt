@@ -165,8 +165,8 @@ fn repeat(
     ensures within { length here.new.rest.now ≤ length here.old.rest.now }
 {
     if is_repeatable(here.flags, tree) {
-        let marks = read_suffix(here, counts, end)?;
-        put_under(alloc, tree, here.flags, counts, marks)?;
+        let suffix = read_suffix(here, counts, end)?;
+        put_under(alloc, tree, here.flags, counts, suffix)?;
         return Ok(());
     }
     if is_dropped(here.flags, left, tree, here.rest) {
@@ -218,14 +218,14 @@ fn put_under(
     tree: &mut Expr,
     flags: Flags,
     counts: Counts,
-    marks: Suffix,
+    suffix: Suffix,
 ) -> Result<(), AllocError>
-    ensures { IfOk result (λ _. view tree.new ≡ spec.quantified flags counts (suffix_of marks) (view tree.old)) }
+    ensures { IfOk result (λ _. view tree.new ≡ spec.quantified flags counts (suffix_of suffix) (view tree.old)) }
 {
     let child = Box::new(alloc, mem::replace(tree, Expr::Empty))?;
     // What stood there is Empty, which owns nothing.
-    mem::forget(mem::replace(tree, repeated(child, flags, counts, marks.lazy)));
-    if is_swapped(flags, counts) || marks.possessive {
+    mem::forget(mem::replace(tree, repeated(child, flags, counts, suffix.lazy)));
+    if is_swapped(flags, counts) || suffix.possessive {
         make_atomic(alloc, tree)?;
     }
     Ok(())

@@ -17,7 +17,7 @@ ghost use Rattle.fancy_syntax.specs.View.{view};
 use crate::expr::{Absent, Expr};
 use crate::grammar::ahead::{Ahead, skip_layout};
 use crate::grammar::atom::read_atom_start;
-use crate::grammar::conditional::{alone, branches_of, conditional, is_condition};
+use crate::grammar::conditional::{branches_of, clear_or_stopper, conditional, is_condition};
 use crate::grammar::fault::general;
 use crate::grammar::frame::Opener;
 use crate::grammar::group::head::node;
@@ -120,7 +120,8 @@ pub(crate) fn close<'a>(
     requires depth { depth < max_depth }
     requires last { strip bar (chars here.old.rest.now) ≡ None }
     ensures value { (s t : states.State) → left ≡ bytes s.rest → flags ≡ s.flags →
-        Opens end depth s (part_of opener.entry) t → Part (part_of opener.entry) end (depth + 1) t (states.done (view inner) (state here.old)) →
+        Opens end depth s (part_of opener.entry) t →
+        Part (part_of opener.entry) end (depth + 1) t (states.done (view inner) (state here.old)) →
         StepsOn result end depth s (state here.new) }
     ensures shorter { IfOk result (λ _. length here.new.rest.now < length here.old.rest.now) }
 {
@@ -202,7 +203,7 @@ fn node_of_part(alloc: Global, opener: Opener, inner: Expr) -> Result<Expr, Allo
         Opener::Top | Opener::Condition => Ok(inner),
         Opener::Group { head, place } => node(alloc, head, place, inner),
         Opener::Body { condition, .. } => conditional(alloc, condition, branches_of(inner)),
-        Opener::First => alone(alloc, inner),
+        Opener::First => clear_or_stopper(alloc, inner),
         Opener::Second(absent) => {
             let exp = Box::new(alloc, inner)?;
             Ok(Expr::Absent(Absent::Expression { absent, exp }))

@@ -46,7 +46,7 @@ fn branch_len(asked: bool, len: usize) -> usize
 
 /// The length of a tree's text.
 #[cycle(count)]
-pub fn tree_len(tree: &Expr, precedence: u8) -> usize
+pub(super) fn tree_len(tree: &Expr, precedence: u8) -> usize
     ensures { result ≡ in_word (bytes (printed (view tree.now) precedence)) }
 {
     match tree {
@@ -67,6 +67,7 @@ pub fn tree_len(tree: &Expr, precedence: u8) -> usize
     }
 }
 
+/// The bytes of a Concat, with the group round it where it needs one.
 #[cycle(count)]
 #[inline(never)]
 fn concat_len(trees: &[Expr], is_grouped: bool) -> usize
@@ -79,6 +80,7 @@ fn concat_len(trees: &[Expr], is_grouped: bool) -> usize
     grouped_len(is_grouped, len)
 }
 
+/// The bytes of an Alt, with the group round it where it needs one.
 #[cycle(count)]
 #[inline(never)]
 fn alt_len(trees: &[Expr], is_grouped: bool) -> usize
@@ -91,6 +93,7 @@ fn alt_len(trees: &[Expr], is_grouped: bool) -> usize
     grouped_len(is_grouped, len)
 }
 
+/// The bytes of a tree in the parentheses of a capturing group.
 #[cycle(count)]
 #[inline(never)]
 #[tactic(auto, using(crate::proofs::PrintLemmas::count_steps))]
@@ -100,6 +103,7 @@ fn group_len(tree: &Expr) -> usize
     tree_len(tree, WHOLE).saturating_add(2)
 }
 
+/// The bytes of a Repeat, with the group round it where it needs one.
 #[cycle(count)]
 #[inline(never)]
 #[tactic(auto, using(crate::proofs::PrintLemmas::count_steps))]

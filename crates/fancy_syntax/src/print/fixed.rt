@@ -6,7 +6,7 @@ ghost use Rattle.fancy_grammar.specs.Printed as spec;
 use fancy_lex::escape::Assertion;
 
 /// The text of a node for any character.
-pub fn any_text(newline: bool, crlf: bool) -> &'static str
+pub(super) fn any_text(newline: bool, crlf: bool) -> &'static str
     ensures text { spec.any_text newline crlf ≡ result.now }
     ensures ascii { list_all (λ b. nat_lt b 128) result.now ≡ true }
 {
@@ -20,7 +20,7 @@ pub fn any_text(newline: bool, crlf: bool) -> &'static str
 }
 
 /// The text of an assertion; nothing for the one that has none.
-pub fn assertion_text(assertion: Assertion) -> &'static str
+pub(super) fn assertion_text(assertion: Assertion) -> &'static str
     ensures text { spec.assertion_text assertion ≡ result.now }
     ensures ascii { list_all (λ b. nat_lt b 128) result.now ≡ true }
 {

@@ -39,6 +39,7 @@ pub(crate) fn is_printable(alloc: Global, tree: &Expr) -> Result<bool, AllocErro
     }
 }
 
+/// Whether each tree is printable.
 #[cycle(printable)]
 fn are_printable(alloc: Global, trees: &[Expr]) -> Result<bool, AllocError>
     ensures exact { IfOk result (λ b. b ≡ spec.all_printable (trees_of (views trees.now))) }
@@ -79,6 +80,7 @@ fn is_empty_in_normal_form(tree: &Expr) -> bool
     }
 }
 
+/// Whether the trees, in a row, are Empty in their normal form.
 #[cycle(normal)]
 fn are_empty_in_normal_form(trees: &[Expr]) -> bool
     ensures { result ≡ is_empty (join (normal_pieces false (trees_of (views trees.now)))) }

@@ -9,7 +9,7 @@ use fancy_lex::text::next;
 
 /// Whether a quantifier would take the last character of the tree's text alone.
 #[inline]
-pub fn is_long(tree: &Expr) -> bool
+pub(super) fn is_long(tree: &Expr) -> bool
     ensures { result ≡ spec.is_long (view tree.now) }
 {
     match tree {

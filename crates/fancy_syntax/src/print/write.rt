@@ -39,6 +39,7 @@ fn put_fixed(buf: &mut String, text: &str)
     put_ascii(buf, text);
 }
 
+/// Writes a Literal.
 #[inline]
 #[tactic(auto, unfolding(fancy_grammar::specs::Printed::caseless))]
 fn put_literal(buf: &mut String, val: &str, casei: bool)
@@ -52,6 +53,7 @@ fn put_literal(buf: &mut String, val: &str, casei: bool)
     }
 }
 
+/// Writes a Literal that ignores case, in a group of flags.
 #[inline(never)]
 #[tactic(auto, using(crate::proofs::PrintLemmas::write_steps))]
 fn put_caseless_literal(buf: &mut String, val: &str)
@@ -63,6 +65,7 @@ fn put_caseless_literal(buf: &mut String, val: &str)
     put(buf, ')');
 }
 
+/// Writes a Delegate, in a group of flags where it ignores case.
 #[inline(never)]
 #[tactic(auto, using(crate::proofs::PrintLemmas::write_steps))]
 fn put_delegate(buf: &mut String, inner: &str, casei: bool)
@@ -77,7 +80,7 @@ fn put_delegate(buf: &mut String, inner: &str, casei: bool)
 /// Writes a tree's text.
 #[cycle(write)]
 #[tactic(auto, using(crate::proofs::PrintLemmas::write_steps))]
-pub fn put_tree(buf: &mut String, tree: &Expr, precedence: u8)
+pub(super) fn put_tree(buf: &mut String, tree: &Expr, precedence: u8)
     requires { HasRoom buf.old (printed (view tree.now) precedence) }
     ensures { Appended buf.old buf.new (printed (view tree.now) precedence) }
 {
@@ -99,6 +102,7 @@ pub fn put_tree(buf: &mut String, tree: &Expr, precedence: u8)
     }
 }
 
+/// Writes a Concat, with the group round it where it needs one.
 #[cycle(write)]
 #[inline(never)]
 #[tactic(auto, using(crate::proofs::PrintLemmas::write_steps))]
@@ -111,6 +115,7 @@ fn put_concat(buf: &mut String, trees: &[Expr], is_grouped: bool)
     put_if(buf, is_grouped, ")");
 }
 
+/// Writes the pieces of a Concat.
 #[cycle(write)]
 #[tactic(auto, using(crate::proofs::PrintLemmas::write_steps))]
 fn put_all(buf: &mut String, trees: &[Expr])
@@ -122,6 +127,7 @@ fn put_all(buf: &mut String, trees: &[Expr])
     }
 }
 
+/// Writes an Alt, with the group round it where it needs one.
 #[cycle(write)]
 #[inline(never)]
 #[tactic(auto, using(crate::proofs::PrintLemmas::write_steps))]
@@ -134,6 +140,7 @@ fn put_alt(buf: &mut String, trees: &[Expr], is_grouped: bool)
     put_if(buf, is_grouped, ")");
 }
 
+/// Writes the branches of an Alt, with a bar between two.
 #[cycle(write)]
 #[tactic(auto, using(crate::proofs::PrintLemmas::write_steps))]
 fn put_branches(buf: &mut String, trees: &[Expr])
@@ -146,6 +153,7 @@ fn put_branches(buf: &mut String, trees: &[Expr])
     }
 }
 
+/// Writes a tree in the parentheses of a capturing group.
 #[cycle(write)]
 #[inline(never)]
 #[tactic(auto, using(crate::proofs::PrintLemmas::write_steps))]
@@ -158,6 +166,7 @@ fn put_group(buf: &mut String, tree: &Expr)
     put(buf, ')');
 }
 
+/// Writes a Repeat, with the group round it where it needs one.
 #[cycle(write)]
 #[inline(never)]
 #[tactic(auto, using(crate::proofs::PrintLemmas::write_steps))]

@@ -16,33 +16,33 @@ use std::collections::BTreeSet;
 #[derive(Debug, Drop)]
 pub(super) struct Known<'a> {
     /// The pattern.
-    pub pattern: &'a str,
+    pub(super) pattern: &'a str,
     /// Groups without a name have no number.
-    pub named: bool,
+    pub(super) named: bool,
     /// The groups that have a number.
-    pub groups: Groups,
+    pub(super) groups: Groups,
 }
 
 /// How far the second walk has come, and what it noted.
 #[derive(Debug, Drop)]
 pub(super) struct Progress {
     /// How many groups with a number opened.
-    pub passed: usize,
+    pub(super) passed: usize,
     /// The numbers of back references, up to the number of groups.
-    pub backrefs: BTreeSet<usize>,
+    pub(super) backrefs: BTreeSet<usize>,
     /// The first of the other numbers.
-    pub out_of_range: Option<usize>,
+    pub(super) out_of_range: Option<usize>,
     /// Some reference is written as a number.
-    pub numeric: bool,
+    pub(super) numeric: bool,
     /// Some call is written.
-    pub calls: bool,
+    pub(super) calls: bool,
     /// Some call by the number 0 is written.
-    pub self_recursive: bool,
+    pub(super) self_recursive: bool,
 }
 
 impl Progress {
     /// Nothing passed, and nothing noted.
-    pub fn new(alloc: Global) -> Progress
+    pub(super) fn new(alloc: Global) -> Progress
         ensures { progress_of result ≡ nothing_noted }
     {
         Progress {

@@ -17,14 +17,14 @@ use std::alloc::{AllocError, Global};
 #[derive(Debug, Drop)]
 pub(super) struct Found {
     /// The groups that have a number.
-    pub groups: Groups,
+    pub(super) groups: Groups,
     /// A capturing group or a reference was met, for the second walk to resolve.
-    pub met: bool,
+    pub(super) met: bool,
 }
 
 impl Found {
     /// No groups, and nothing met.
-    pub fn new(alloc: Global) -> Found
+    pub(super) fn new(alloc: Global) -> Found
         ensures groups { groups_of result.groups ≡ no_groups }
         ensures met { result.met ≡ false }
     {

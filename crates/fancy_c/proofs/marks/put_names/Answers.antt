@@ -3,7 +3,7 @@ use Rattle.std.specs.Prelude.{encode_utf8_all}
 use Rattle.fancy_lex.specs.Text.{text_of}
 use Rattle.fancy_parts.specs.Groups.{entry_of}
 use Rattle.fancy_c.specs.Buffer.{put_at}
-use Rattle.fancy_c.specs.Marks.{numbered}
+use Rattle.fancy_c.specs.Marks.{rows_of_name}
 use Rattle.fancy_c.proofs.MarkLemmas.{names_start, name_room, names_next}
 use Rattle.fancy_c.proofs.NodeLemmas.{string_text}
 use Rattle.fancy_c.proofs.marks.put_names.Goals as goal
@@ -39,6 +39,6 @@ loop-name-preserved c =
     at.rows at.text _ _ _ _ (text_of c.in-Some.name.now) c.in-Some.numbers.now.items _
     c.loop-name.invariant (ap (map entry_of) c.in-Some.ensures.steps) at_n at_o
     (c.put_numbers-rows.ensures.put
-    ∙ ap (λ m. put_at c.loop-name.names at.rows (numbered at.text m c.deref.result.now)) size
-    ∙ ap (λ ks. put_at c.loop-name.names at.rows (numbered at.text (length w) ks)) c.deref.ensures.value)
+    ∙ ap (λ m. put_at c.loop-name.names at.rows (rows_of_name at.text m c.deref.result.now)) size
+    ∙ ap (λ ks. put_at c.loop-name.names at.rows (rows_of_name at.text (length w) ks)) c.deref.ensures.value)
     (c.put_text-text.ensures.put ∙ ap (put_at c.loop-name.bytes at.text) (c.as_bytes.ensures.value ∙ sym name))

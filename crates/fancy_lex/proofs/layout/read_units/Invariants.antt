@@ -1,7 +1,7 @@
 use Rattle.std.proofs.Common.{◌≡◌, ◌≤◌, length, chars}
 use denote.Text.{Utf8}
 use denote.Shadow.{shadow}
-use Rattle.fancy_lex.specs.Layout as spec
+use Rattle.fancy_lex.specs.LayoutSteps as spec
 use Rattle.fancy_lex.proofs.layout.read_units.Given as goal
 
 abbrev pub invariant-loop-inside : goal.invariant-loop-inside

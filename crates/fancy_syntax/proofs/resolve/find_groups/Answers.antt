@@ -8,7 +8,8 @@ use Rattle.fancy_syntax.specs.View.{view}
 use Rattle.fancy_grammar.proofs.FoundLaws.{start_total, start_names, any_named, some_counted, none_counted, not_asked}
 use Rattle.fancy_syntax.proofs.NoItems.{no_items}
 use Rattle.fancy_syntax.proofs.resolve.find_groups.Goals as goal
-use Rattle.fancy_syntax.proofs.resolve.find_groups.Goals.{then-ignore+else-found-eq0, else-ignore, Then-not-found}
+use Rattle.fancy_syntax.proofs.resolve.find_groups.Goals.{else-ignore-via-then-ignore+else-found-eq0, else-ignore-via-else-ignore}
+use Rattle.fancy_syntax.proofs.resolve.find_groups.Goals.{Then-not-found}
 
 -- where nothing is met, no group opens
 
@@ -68,13 +69,13 @@ returns-clause-named c =
     start_total c.args.ignore (groups_of c.new-found.result.groups) (groups_of c.survey.new.found.groups)
     (items (view c.args.tree.now))
     c.new-found.ensures.groups c.in_ok-survey.ensures.found in
-    elim c.if-ignore.branch [
-      | then-ignore+else-found-eq0 w ↦
+    elim c.else-ignore.branch [
+      | else-ignore-via-then-ignore+else-found-eq0 w ↦
           let same : c.survey.new.found.groups.total ≡ length (counted_in true l)
           = total ∙ ap (λ b. length (counted_in b l)) w.if-ignore.true in
           some_counted c.args.ignore (list_any is_named l) c.survey.new.found.groups.total w.if-ignore.true
           (any_named l ∙ ap (nat_lt 0) (sym same)) w.if-found-eq0.false
-      | else-ignore w ↦ not_asked c.args.ignore (list_any is_named l) w.if-ignore.false
+      | else-ignore-via-else-ignore w ↦ not_asked c.args.ignore (list_any is_named l) w.if-ignore.false
     ]
 
 pub returns-clause-total : goal.returns-clause-total

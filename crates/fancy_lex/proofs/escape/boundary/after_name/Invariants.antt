@@ -8,7 +8,7 @@ abbrev pub invariant-loop-rest : goal.invariant-loop-rest
 invariant-loop-rest l = record {
   text : shadow (Utf8 l.rest);
   word : shadow (Utf8 l.word);
-  same : spec.after_name l.end l.ignore_space (chars l.fn.word) (chars l.text) ≡ spec.after_name l.end l.ignore_space
+  same : spec.after_name l.ignore_space (chars l.fn.word) (chars l.text) ≡ spec.after_name l.ignore_space
       (chars l.word) (chars l.rest);
   within : length l.rest ≤ length l.text;
 }

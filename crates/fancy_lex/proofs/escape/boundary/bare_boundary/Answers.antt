@@ -1,5 +1,5 @@
 use Rattle.std.proofs.Common.{◌≡◌, None, chars, ap, sym, rules}
-use Rattle.fancy_lex.specs.Boundary.{boundary}
+use Rattle.fancy_lex.specs.BoundarySteps.{boundary}
 use Rattle.fancy_lex.specs.Characters.{open_brace}
 use Rattle.fancy_lex.specs.Reading.{gives}
 use Rattle.fancy_lex.specs.Text.{strip}

@@ -2,7 +2,7 @@ use Rattle.std.proofs.Common.{◌≡◌, ◌≤◌, ◌<◌, ◌++◌, length, c
 use denote.Text.{Utf8}
 use denote.Shadow.{shadow}
 use Rattle.fancy_lex.specs.Text.{Text}
-use Rattle.fancy_parts.specs.FlagLetters as spec
+use Rattle.fancy_parts.specs.LetterSteps as spec
 use Rattle.fancy_parts.proofs.heads.letters.read_letters.Given as goal
 
 abbrev pub invariant-loop-here : goal.invariant-loop-here

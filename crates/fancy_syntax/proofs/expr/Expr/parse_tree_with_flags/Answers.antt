@@ -4,7 +4,7 @@ use Rattle.fancy_lex.specs.Text.{Text}
 use Rattle.fancy_lex.specs.declared.error.Error.{Error}
 use Rattle.fancy_lex.specs.declared.flags.Flags.{Flags}
 use Rattle.fancy_grammar.specs.Answer.{IsTreeOf, IsOnlyFault}
-use Rattle.fancy_grammar.specs.Grammar.{Derives}
+use Rattle.fancy_grammar.specs.Grammar.{DerivesTree}
 use Rattle.fancy_grammar.specs.Marks.{marks}
 use Rattle.fancy_grammar.specs.Resolved.{resolved, fault_of}
 use Rattle.fancy_grammar.specs.Tree.{Tree}
@@ -36,7 +36,7 @@ resolve-requires c =
 -- ---- what is resolved
 
 -- the tree of the text, where its raw tree is this one
-tree_of : {f : Flags} {text : Text} {r : Tree} (o : Result ExprTree Error) → Derives f text r →
+tree_of : {f : Flags} {text : Text} {r : Tree} (o : Result ExprTree Error) → DerivesTree f text r →
     IfOk o (λ t. view t.expr ≡ resolved f r) → IfOk o (λ t. marks_of t ≡ marks f text r) →
     IfOk o (λ _. fault_of f r ≡ None) → IfOk o (λ t. IsTreeOf f text (view t.expr) (marks_of t))
 tree_of {r} (Ok t) reads tree said none = (r, reads, none, tree, said)

@@ -1,0 +1,43 @@
+-- Word boundaries as they are read, one character of a name after another.
+use Rattle.std.specs.Prelude.{ℕ, zero, suc, Bool, ◌==◌, if◌then◌else◌, [], ◌∷◌, length}
+use Rattle.fancy_lex.specs.Boundary.{boundary_of_name, unnamed_boundary, at_count}
+use Rattle.fancy_lex.specs.Characters.{open_brace, close_brace}
+use Rattle.fancy_lex.specs.Escaped.{Escape, assertion}
+use Rattle.fancy_lex.specs.FaultTable.{boundary_not_closed, name_of_no_boundary}
+use Rattle.fancy_lex.specs.LayoutSteps.{layout}
+use Rattle.fancy_lex.specs.Reading.{Reading, gives, fails, ◌>=>◌, choose, layout_reading}
+use Rattle.fancy_lex.specs.Text.{Text, strip}
+
+-- a closing brace and what follows it, or a step more, or the end
+abbrev pub up_to_brace : {A : Type 0} → A → (Text → A) → (ℕ → Text → A) → Text → A
+up_to_brace end closed more [] = end
+up_to_brace end closed more (c ∷ t) = if c == close_brace then closed t else more c t
+
+-- the backslash stands at the place p of a pattern of n bytes, and x says that blanks are layout
+module _ (n : ℕ) (x : Bool) (p : ℕ) where
+  -- the name up to the first closing brace outside layout, with layout taken out; k steps are left
+  unfoldable pub name : ℕ → Text → Reading Text
+  name zero t = fails (boundary_not_closed p)
+  name (suc k) t =
+      layout_reading (layout n x t) >=> (λ _ u.
+      up_to_brace
+      (fails (boundary_not_closed p))
+      (gives [])
+      (λ c v. name k v >=> (λ w v. gives (c ∷ w) v))
+      u)
+
+  -- behind the opening brace
+  unfoldable pub named_boundary : Bool → Text → Reading Escape
+  named_boundary negated t =
+      name (suc (length t)) t >=> (λ w v.
+      choose (boundary_of_name negated w) (λ a. gives (assertion a) v)
+      (fails (name_of_no_boundary p negated w)))
+
+  -- behind the letter: where no braces belong to the boundary, it ends right there
+  unfoldable pub boundary : Bool → Text → Reading Escape
+  boundary negated t =
+      layout_reading (layout n x t) >=> (λ _ u.
+      choose (strip open_brace u)
+      (λ inside. layout_reading (layout n x inside) >=> (λ _ v.
+      if at_count v then gives (unnamed_boundary negated) t else named_boundary negated inside))
+      (gives (unnamed_boundary negated) t))
