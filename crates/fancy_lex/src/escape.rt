@@ -11,11 +11,11 @@ ghost use Rattle.fancy_lex.specs.Fault.{StandsWithin};
 
 use crate::error::{Error, ParseError};
 use crate::escape::boundary::{bare_boundary, boundary};
-use crate::escape::hex::hex;
+use crate::escape::hex::{hex, short_hex};
 use crate::escape::reference::{back_reference, group_number, numbered_reference, subroutine_call};
 use crate::flags::Flags;
 use crate::name::target::{Call, Reference};
-use crate::property::{Property, read_property};
+use crate::property::{Property, PropertyName, read_property};
 use crate::text::{next, push};
 use std::alloc::{AllocError, Global};
 
@@ -230,6 +230,31 @@ fn property<'a>(
     Ok((Escaped::Delegate { inner, casei }, rest))
 }
 
+/// The property whose name is the character at the front.
+#[inline]
+#[tactic(auto, unfolding(crate::specs::Escape::property, crate::specs::Property::read_property, crate::specs::Property::name_at))]
+fn short_property(text: &str, letter: char, flags: Flags) -> Option<(Escaped<'static>, &str)>
+    ensures value { IfSome result (λ p. (q : ℕ) →
+        spec.property flags false q letter (chars text.now) ≡ gives (escape_of p.0) (chars p.1.now)) }
+    ensures shorter { IfSome result (λ p. length p.1.now < length text.now) }
+{
+    let (c, rest) = next(text)?;
+    if c == '{' {
+        return None;
+    }
+    let property = Property {
+        negated: letter == 'P',
+        name: PropertyName::Single(c),
+    };
+    let inner = DelegateText::Property {
+        property,
+        unicode: flags.unicode,
+        inside: false,
+    };
+    let casei = flags.casei;
+    Some((Escaped::Delegate { inner, casei }, rest))
+}
+
 /// Any character, a line break too where `newline` says so; CR LF counts as one then.
 fn any(newline: bool) -> Escaped<'static>
     ensures { escape_of result ≡ leaf.any newline newline }
@@ -371,8 +396,8 @@ fn read_escape<'a>(
     }
 }
 
-/// The escape at the front, behind a backslash outside a class, where one look ahead shows that it is a character
-/// alone, and what follows it.
+/// The escape at the front, behind a backslash outside a class, where a look ahead reads all of it, and what follows
+/// it: a character alone, a code of so many digits with no layout before them, or a property of one character.
 #[inline(always)]
 #[tactic(auto, unfolding(crate::specs::Escape::escape, crate::specs::Escape::outside))]
 pub fn short_escape(text: &str, flags: Flags) -> Option<(Escaped<'static>, &str)>
@@ -384,6 +409,10 @@ pub fn short_escape(text: &str, flags: Flags) -> Option<(Escaped<'static>, &str)
     let leaf = match c {
         'b' => bare_boundary(rest, false, flags.ignore_space)?,
         'B' => bare_boundary(rest, true, flags.ignore_space)?,
+        'x' => return short_hex(rest, 2, flags),
+        'u' => return short_hex(rest, 4, flags),
+        'U' => return short_hex(rest, 8, flags),
+        'p' | 'P' => return short_property(rest, c, flags),
         _ => lone_escape(c, flags, false)?,
     };
     Some((leaf, rest))

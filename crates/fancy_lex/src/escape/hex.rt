@@ -1,16 +1,17 @@
 //! Hex codes behind `\x`, `\u` and `\U`.
-ghost use Rattle.std.specs.Prelude.{◌≡◌, ◌+◌, ◌*◌, ◌-◌, ◌^◌, ◌<◌, ◌≤◌, length, chars, IfSome, IfErr, IfOk, option_map, false, true};
+ghost use Rattle.std.specs.Prelude.{◌≡◌, ℕ, ◌+◌, ◌*◌, ◌-◌, ◌^◌, ◌<◌, ◌≤◌, length, chars, IfSome, IfErr, IfOk, option_map, false, true};
 ghost use Rattle.fancy_lex.specs.Characters.{close_brace};
 ghost use Rattle.fancy_lex.specs.Escaped.{Escape, escape_of};
 ghost use Rattle.fancy_lex.specs.Fault.{StandsWithin};
+ghost use Rattle.fancy_lex.specs.FaultTable.{code_of_no_character};
 ghost use Rattle.fancy_lex.specs.Hex as spec;
-ghost use Rattle.fancy_lex.specs.Reading.{Derives, Reading, Reads};
-ghost use Rattle.fancy_lex.specs.Text.{EndsWith, strip};
+ghost use Rattle.fancy_lex.specs.Reading.{Derives, Reading, Reads, choose, fails, gives};
+ghost use Rattle.fancy_lex.specs.Text.{EndsWith, Text, strip};
 
 use crate::error::{Error, ParseError};
 use crate::escape::Escaped;
 use crate::flags::Flags;
-use crate::layout::skip;
+use crate::layout::{begins_layout, skip};
 use crate::text::{after, next, place};
 
 /// The value of the digit at the front.
@@ -112,32 +113,20 @@ fn value(
     }
 }
 
-/// What a value stands for: behind `\x`, where UNICODE is off, a byte from 80 to FF; else a character. The fault of a
-/// value that is no scalar value is at `place`.
+/// What a value stands for: behind `\x`, where UNICODE is off, a byte from 80 to FF; else a character. None for a value
+/// that is no scalar value.
+#[inline]
 #[tactic(auto, unfolding(crate::specs::Hex::leaf_of_value))]
-fn leaf_of_value<'a>(
-    rest: &'a str,
-    value: u32,
-    width: u32,
-    flags: Flags,
-    place: usize,
-) -> Result<(Escaped<'a>, &'a str), Error>
-    ensures value { Reads escape_of result (spec.leaf_of_value flags width place value (chars rest.now)) }
-    ensures within { IfOk result (λ p. length p.1.now ≤ length rest.now) }
+fn leaf_of_value(value: u32, width: u32, flags: Flags) -> Option<Escaped<'static>>
+    ensures { (h : ℕ) (t : Text) → spec.leaf_of_value flags width h value t ≡
+        choose result (λ e. gives (escape_of e) t) (fails (code_of_no_character h)) }
 {
     if width == 2 && !flags.unicode && value >= 0x80 && value <= 0xFF {
-        return Ok((Escaped::LiteralBytes { byte: value as u8 }, rest));
+        return Some(Escaped::LiteralBytes { byte: value as u8 });
     }
-    match char::from_u32(value) {
-        Some(val) => Ok((
-            Escaped::Literal {
-                val,
-                casei: flags.casei,
-            },
-            rest,
-        )),
-        None => Err(Error::ParseError(place, ParseError::InvalidCodepointValue)),
-    }
+    let val = char::from_u32(value)?;
+    let casei = flags.casei;
+    Some(Escaped::Literal { val, casei })
 }
 
 /// Reads a code in hexadecimal, by digits or in braces.
@@ -157,7 +146,27 @@ fn read_hex<'a>(
     let rest = skip(text, flags.ignore_space, end)?;
     let place = place(rest, end);
     let (value, rest) = value(rest, width, flags.ignore_space, end, place)?;
-    leaf_of_value(rest, value, width, flags, place)
+    match leaf_of_value(value, width, flags) {
+        Some(leaf) => Ok((leaf, rest)),
+        None => Err(Error::ParseError(place, ParseError::InvalidCodepointValue)),
+    }
+}
+
+/// The code at the front that has so many digits, with no layout before them, and stands for something.
+#[inline(always)]
+#[tactic(auto, unfolding(crate::specs::Hex::hex, crate::specs::Hex::value))]
+pub(crate) fn short_hex(text: &str, width: u32, flags: Flags) -> Option<(Escaped<'static>, &str)>
+    requires { width ≤ 8 }
+    ensures value { IfSome result (λ p. (n : ℕ) →
+        spec.hex n flags width (chars text.now) ≡ gives (escape_of p.0) (chars p.1.now)) }
+    ensures within { IfSome result (λ p. length p.1.now ≤ length text.now) }
+{
+    if begins_layout(text, flags.ignore_space) {
+        return None;
+    }
+    let (value, rest) = fixed_digits(text, width)?;
+    let leaf = leaf_of_value(value, width, flags)?;
+    Some((leaf, rest))
 }
 
 /// Reads a hex code behind its letter, in a pattern of `end` bytes: layout, then `width` digits, or one to eight in
