@@ -5,7 +5,8 @@ use Rattle.std.specs.Option.{option_and_then}
 use Rattle.std.proofs.lemmas.Bool.Decides.{nat_tests}
 use Rattle.fancy_lex.specs.Delimited.{Without, StartsWithName, name_before}
 use Rattle.fancy_lex.specs.Id.{nonempty_front}
-use Rattle.fancy_lex.specs.Text.{Text, parts, cut_at}
+use Rattle.fancy_lex.specs.Text.{Text, cut_at}
+use Rattle.fancy_lex.specs.Views.{parts}
 
 -- a part of a text, and the rest; or none
 abbrev Parts : Type 0

@@ -9,7 +9,7 @@ use Rattle.fancy_lex.specs.Characters.{line_feed, hash, open_paren, close_paren,
 use Rattle.fancy_lex.specs.Text.{Text, Stands, past_end}
 use Rattle.fancy_lex.proofs.LeaveLaws.{stands_end}
 use Rattle.fancy_lex.specs.Layout.{InComment, nothing, plain, pair, InLine, end_line, on_line}
-use Rattle.fancy_lex.specs.LayoutView.{skipped_of}
+use Rattle.fancy_lex.specs.Views.{skipped_of}
 use Rattle.fancy_lex.specs.Layout.{comment_head, IsUnit, Units, none, more, Stops}
 use Rattle.fancy_lex.specs.Layout.{is_blank, Open, at_end, after_backslash}
 use Rattle.fancy_lex.specs.LayoutSteps.{rest, fault, layout, layout_from, between, comment, escaped, line}

@@ -5,7 +5,8 @@ use Rattle.std.proofs.lemmas.Bool.Decides.{nat_tests}
 use Rattle.std.specs.Borrow.{Bor}
 use Rattle.std.specs.Char.{is_ascii_digit}
 use Rattle.fancy_lex.specs.Text.{Text}
-use Rattle.fancy_lex.specs.Number.{AllDigits, value_after, run, at_digit, number, StartsWithNumber, GivesNumber, IsWord}
+use Rattle.fancy_lex.specs.Number.{AllDigits, value_after, run, at_digit, number, StartsWithNumber, IsWord}
+use Rattle.fancy_lex.specs.Views.{GivesNumber}
 
 pub digit_is : (d : ℕ) → d < 10 → is_ascii_digit (d + 48) ≡ true
 digit_is d h = grind (arith, nat_tests)

@@ -47,10 +47,6 @@ view_id_reference (variant.Id i) = id_alone (chars i.now)
 view_id_reference (variant.IdAndAmount i z) = id_and_amount (chars i.now) z
 view_id_reference (variant.Amount z) = amount_alone z
 
--- an id and what is left, as code answers them
-abbrev pub option_and_rest : Option (Bor (List ℕ)) × Bor (List ℕ) → Option Text × Text
-option_and_rest p = (option_map (λ s. chars s.now) p.0, chars p.1.now)
-
 -- a sign and a number of at most 2^63 - 1
 abbrev pub small_amount : ℕ → ℕ → Option ℤ
 small_amount sign n = if nat_lt n (2 ^ 63) then Some (with_sign sign n) else None

@@ -28,7 +28,7 @@ pub mod Class
 -- How values of the code stand to the definitions.
 
 pub mod Bits
-pub mod LayoutView
+pub mod Views
 pub mod Target
 pub mod PropertyForm
 pub mod Escaped

@@ -45,10 +45,6 @@ at_digit (c ∷ t) = is_ascii_digit c
 unfoldable pub number : Text → Option (ℕ × Text)
 number t = if at_digit t then Some (run 0 t) else None
 
--- what a reader of a number answers at the text t
-abbrev pub GivesNumber : Text → Option (Option ℕ × Bor (List ℕ)) → Type 0
-GivesNumber t r = MatchOption r (number t ≡ None) (λ p. (n : ℕ) × (number t ≡ Some (n, chars p.1.now)) × IsWord p.0 n)
-
 -- the text begins with a number of this value, which `v` follows
 pub record StartsWithNumber (t v : Text) (value : ℕ) : Type 0 where
   pub w : Text

@@ -102,10 +102,6 @@ lowercase = map to_ascii_lowercase
 abbrev pub braced_text : Bool → Bool → Bool × Text → Text
 braced_text unicode inside p = form_text inside p.0 (form unicode (look_up (lowercase p.1)) (lowercase p.1))
 
--- a pair in code, with the name as characters
-abbrev pub view_turn : Bool × Bor (List ℕ) → Bool × Text
-view_turn p = (p.0, chars p.1.now)
-
 -- `\p`, or `\P` for a negated property
 abbrev pub letter : Bool → Text
 letter negated = if negated then codes "\\P" else codes "\\p"

@@ -46,10 +46,6 @@ view_reference r = reference_to r.place (view_borrowed r.target) r.level
 abbrev pub view_call : declared_call.Call → Call
 view_call c = call_to c.place (view_borrowed c.target)
 
--- what code answers beside the rest of a text, seen through f
-abbrev pub view_read : {A B : Type 0} → (A → B) → A × Bor (List ℕ) → B × Text
-view_read f p = (f p.0, chars p.1.now)
-
 -- the group of the number, or else of the name
 abbrev pub number_or_name : Text → Option ℕ → Target
 number_or_name w (Some n) = by_number n

@@ -37,10 +37,6 @@ abbrev pub cut_at : ℕ → Text → Option (Text × Text)
 cut_at mark [] = None
 cut_at mark (c ∷ t) = if c == mark then Some ([], t) else option_map (λ p. (c ∷ p.0, p.1)) (cut_at mark t)
 
--- two parts of a text, as code answers them
-abbrev pub parts : Option (Bor (List ℕ) × Bor (List ℕ)) → Option (Text × Text)
-parts = option_map (λ p. (chars p.0.now, chars p.1.now))
-
 -- the text ends with the other
 abbrev pub EndsWith : Text → Text → Type 0
 EndsWith t end = (w : Text) × (t ≡ w ++ end)

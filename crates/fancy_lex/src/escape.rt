@@ -231,7 +231,7 @@ fn property<'a>(
 }
 
 /// The property whose name is the character at the front.
-#[inline]
+#[inline(always)]
 #[tactic(auto, unfolding(crate::specs::Escape::property, crate::specs::Property::read_property, crate::specs::Property::name_at))]
 fn short_property(text: &str, letter: char, flags: Flags) -> Option<(Escaped<'static>, &str)>
     ensures value { IfSome result (λ p. (q : ℕ) →
@@ -413,6 +413,8 @@ pub fn short_escape(text: &str, flags: Flags) -> Option<(Escaped<'static>, &str)
         'u' => return short_hex(rest, 4, flags),
         'U' => return short_hex(rest, 8, flags),
         'p' | 'P' => return short_property(rest, c, flags),
+        // A reference, which is known by what follows: so much is said at once.
+        '0'..='9' | 'g' | 'k' => return None,
         _ => lone_escape(c, flags, false)?,
     };
     Some((leaf, rest))

@@ -4,7 +4,7 @@ ghost use Rattle.fancy_lex.specs.Text.{Text, EndsWith};
 ghost use Rattle.fancy_lex.specs.Layout as relation;
 ghost use Rattle.fancy_lex.specs.LayoutSteps as spec;
 ghost use Rattle.fancy_lex.specs.LayoutSteps.{rest, fault};
-ghost use Rattle.fancy_lex.specs.LayoutView.{skipped_of};
+ghost use Rattle.fancy_lex.specs.Views.{skipped_of};
 ghost use Rattle.fancy_lex.specs.Reading.{layout_reading, ReadsRest};
 
 use crate::error::{Error, ParseError};

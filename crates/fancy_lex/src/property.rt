@@ -4,6 +4,7 @@ ghost use Rattle.std.specs.Str.{bytes_eq};
 ghost use Rattle.fancy_lex.specs.Property as spec;
 ghost use Rattle.fancy_lex.specs.PropertyForm.{view_form, other_form};
 ghost use Rattle.fancy_lex.specs.Text.{Text, text_of, BeginsWith};
+ghost use Rattle.fancy_lex.specs.Views.{view_read};
 
 use crate::text::{after, append, next, push, split_at};
 use std::alloc::AllocError;
@@ -140,7 +141,7 @@ fn form_of(known: Known, name: &str, unicode: bool) -> Form<'_>
 
 /// The name without a caret in front, and whether it is negated then.
 fn turn(negated: bool, name: &str) -> (bool, &str)
-    ensures { spec.view_turn result ≡ spec.turn negated (chars name.now) }
+    ensures { view_read (λ b. b) result ≡ spec.turn negated (chars name.now) }
 {
     match after(name, '^') {
         Some(rest) => (!negated, rest),

@@ -57,19 +57,19 @@ impl Groups {
 
     /// Adds a group, which has the next number. Where the groups had their ranks for numbers, they have so with it
     /// behind them. Where memory runs out, they stay as they were; a group without a name takes none.
-    pub fn add(&mut self, alloc: Global, name: &Option<String>) -> Result<(), AllocError>
+    pub fn add(&mut self, alloc: Global, name: Option<&str>) -> Result<(), AllocError>
         requires { self.old.total + 1 < 2 ^ 64 }
         ensures added { IfOk result
-            (λ _. groups_of self.new ≡ with_group (groups_of self.old) (option_map text_of name.now)) }
+            (λ _. groups_of self.new ≡ with_group (groups_of self.old) (option_map (λ t. chars t.now) name.entry)) }
         ensures numbers { (before : List Opening) (place : ℕ) → groups_of self.old ≡ groups_in before →
             IfOk result
-            (λ _. groups_of self.new ≡ groups_in (openings_with before place (option_map text_of name.now))) }
+            (λ _. groups_of self.new ≡ groups_in (openings_with before place (option_map (λ t. chars t.now) name.entry))) }
         ensures kept { OnErr result (groups_of self.new ≡ groups_of self.old) }
-        ensures without_memory { is_some name.now ≡ false → IsOk result }
+        ensures without_memory { is_some name.entry ≡ false → IsOk result }
     {
         let number = self.total + 1;
         if let Some(name) = name {
-            add_number(alloc, &mut self.names, name.as_str(), number)?;
+            add_number(alloc, &mut self.names, name, number)?;
         }
         self.total = number;
         Ok(())

@@ -1,5 +1,5 @@
 -- How the resolver's own values stand to the definitions.
-use Rattle.std.specs.Prelude.{◌≡◌, ℕ, ◌||◌, Bool, true, false, List, [], ◌∷◌, Option, None, chars}
+use Rattle.std.specs.Prelude.{◌≡◌, ℕ, ◌||◌, Bool, true, false, List, [], ◌∷◌, Option, Some, None, chars}
 use Rattle.std.specs.Prelude.{Result, MatchResult}
 use Rattle.fancy_lex.specs.Target.{view_target}
 use Rattle.fancy_lex.specs.declared.error.Error.{Error}
@@ -13,6 +13,9 @@ use Rattle.fancy_grammar.specs.Errors.{IsErrorIn}
 use Rattle.fancy_grammar.specs.Items.{Item}
 use Rattle.fancy_grammar.specs.Marks as spec
 use Rattle.fancy_grammar.specs.Walk as walk
+use Rattle.fancy_grammar.specs.Tree.{Tree, AstTree, ast_group}
+use Rattle.fancy_syntax.specs.View.{view}
+use Rattle.fancy_syntax.specs.declared.expr.Expr.{Expr}
 use Rattle.fancy_syntax.specs.declared.resolve.notes.Known.{Known}
 use Rattle.fancy_syntax.specs.declared.resolve.notes.Progress.{Progress}
 
@@ -42,6 +45,16 @@ abbrev pub Walks : {A : Type 0} → Result A Error → walk.Known → walk.Progr
 Walks r k before l after P =
     let end = walk.noted k before l in
     MatchResult r (λ a. P a × (after ≡ end)) (λ e. IsErrorIn e end.fault)
+
+-- a node that is read is a reference, and no group
+abbrev pub is_reference : AstTree → Bool
+is_reference (ast_group name t) = false
+is_reference _ = true
+
+-- the tree, or where there is none what stands there
+abbrev pub resolved_or : Tree → Option Expr → Tree
+resolved_or t None = t
+resolved_or t (Some e) = view e
 
 -- the number that a reference means to the walk, where it means one
 abbrev pub number_meant : Known → Progress → Role → CaptureGroupTarget → Option ℕ

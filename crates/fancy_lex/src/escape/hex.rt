@@ -115,7 +115,7 @@ fn value(
 
 /// What a value stands for: behind `\x`, where UNICODE is off, a byte from 80 to FF; else a character. None for a value
 /// that is no scalar value.
-#[inline]
+#[inline(always)]
 #[tactic(auto, unfolding(crate::specs::Hex::leaf_of_value))]
 fn leaf_of_value(value: u32, width: u32, flags: Flags) -> Option<Escaped<'static>>
     ensures { (h : ℕ) (t : Text) → spec.leaf_of_value flags width h value t ≡

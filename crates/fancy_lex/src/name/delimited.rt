@@ -1,7 +1,8 @@
 //! Names: what stands before the first closing mark.
 ghost use Rattle.std.specs.Prelude.{◌≡◌, ◌<◌, length, chars, IfSome, Some};
 ghost use Rattle.fancy_lex.specs.Delimited as spec;
-ghost use Rattle.fancy_lex.specs.Text.{Text, parts};
+ghost use Rattle.fancy_lex.specs.Text.{Text};
+ghost use Rattle.fancy_lex.specs.Views.{parts};
 
 use crate::text::{next, split_at};
 

@@ -3,7 +3,8 @@ ghost use Rattle.std.specs.Prelude.{◌≡◌, ℕ, ◌<◌, ◌≤◌, ◌++◌
 ghost use Rattle.fancy_lex.specs.Id as spec;
 ghost use Rattle.fancy_lex.specs.IdReference as reference;
 ghost use Rattle.fancy_lex.specs.IdReference.{IsIdReference, view_id_reference};
-ghost use Rattle.fancy_lex.specs.Text.{Text, parts};
+ghost use Rattle.fancy_lex.specs.Text.{Text};
+ghost use Rattle.fancy_lex.specs.Views.{option_and_rest, parts};
 
 use crate::name::number_text::whole_number;
 use crate::text::{front, next};
@@ -86,7 +87,7 @@ fn amount(text: &str) -> Option<isize>
 
 /// The id at the front or none, and what follows it.
 fn id_or_none(text: &str) -> (Option<&str>, &str)
-    ensures { reference.id_or_none (chars text.now) (spec.id (chars text.now)) ≡ reference.option_and_rest result }
+    ensures { reference.id_or_none (chars text.now) (spec.id (chars text.now)) ≡ option_and_rest result }
 {
     match id(text) {
         Some((id, rest)) => (Some(id), rest),

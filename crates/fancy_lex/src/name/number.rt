@@ -1,6 +1,7 @@
 //! Numbers: the digits at the front of a text.
 ghost use Rattle.std.specs.Prelude.{◌≡◌, ℕ, ◌+◌, ◌*◌, ◌<◌, ◌∷◌, length, chars, IfSome, MatchOption, false, IsSome, List};
 ghost use Rattle.fancy_lex.specs.Number as spec;
+ghost use Rattle.fancy_lex.specs.Views.{GivesNumber};
 
 use crate::text::next;
 
@@ -31,7 +32,7 @@ fn with_digit(value: Option<usize>, digit: usize) -> Option<usize>
 /// Reads the digits at the front.
 #[tactic(auto, using(crate::proofs::NumberLemmas::number_steps))]
 fn read_number(text: &str) -> Option<(Option<usize>, &str)>
-    ensures value { spec.GivesNumber (chars text.now) result }
+    ensures value { GivesNumber (chars text.now) result }
     ensures shorter { IfSome result (λ p. length p.1.now < length text.now) }
 {
     let (first, mut rest) = digit(text)?;
@@ -46,7 +47,7 @@ fn read_number(text: &str) -> Option<(Option<usize>, &str)>
 /// Reads the digits at the front: their value, where a word holds it, and the text after them.
 #[inline]
 pub fn number(text: &str) -> Option<(Option<usize>, &str)>
-    ensures value { spec.GivesNumber (chars text.now) result }
+    ensures value { GivesNumber (chars text.now) result }
     ensures derives { IfSome result
         (λ p. (n : ℕ) × spec.IsWord p.0 n × spec.StartsWithNumber (chars text.now) (chars p.1.now) n) }
     ensures only { (v : List ℕ) (n : ℕ) → spec.StartsWithNumber (chars text.now) v n →

@@ -4,7 +4,7 @@ ghost use Rattle.fancy_lex.specs.IdReference as id_spec;
 ghost use Rattle.fancy_lex.specs.Reading.{Reads};
 ghost use Rattle.fancy_lex.specs.Referred as spec;
 ghost use Rattle.fancy_lex.specs.Target.{view_target, is_by_name};
-ghost use Rattle.fancy_lex.specs.Text.{parts};
+ghost use Rattle.fancy_lex.specs.Views.{parts};
 
 use crate::error::{Error, ParseError};
 use crate::name::CaptureGroupTarget;

@@ -1,7 +1,7 @@
 //! The name of a group, in its head.
 ghost use Rattle.std.specs.Prelude.{◌≡◌, ◌<◌, length, chars, IfOk, IfSome};
 ghost use Rattle.fancy_lex.specs.Reading.{Reads};
-ghost use Rattle.fancy_lex.specs.Text.{parts};
+ghost use Rattle.fancy_lex.specs.Views.{parts};
 ghost use Rattle.fancy_parts.specs.GroupName as spec;
 
 use fancy_lex::error::{Error, ParseError};

@@ -2,7 +2,7 @@
 ghost use Rattle.std.specs.Prelude.{◌≡◌, ◌<◌, ◌≤◌, length, chars, IfOk, IfSome};
 ghost use Rattle.fancy_lex.specs.Reading.{Reads};
 ghost use Rattle.fancy_lex.specs.Referred.{view_reference, view_call};
-ghost use Rattle.fancy_lex.specs.Text.{parts};
+ghost use Rattle.fancy_lex.specs.Views.{parts};
 ghost use Rattle.fancy_parts.specs.HeadReference as spec;
 
 use fancy_lex::error::{Error, ParseError};

@@ -1,7 +1,6 @@
 //! Equality of trees: the same variant and the same fields.
-ghost use Rattle.std.specs.Prelude.{◌≡◌, ◌↔◌, IsTrue, option_map};
+ghost use Rattle.std.specs.Prelude.{chars, ◌≡◌, ◌↔◌, IsTrue, option_map};
 ghost use Rattle.std.specs.Cmp.{on_per, on_equiv, partial_equiv_from_equiv};
-ghost use Rattle.fancy_lex.specs.Text.{text_of};
 ghost use Rattle.fancy_grammar.specs.Same.{same, same_all, same_absent, same_ast, same_name};
 ghost use Rattle.fancy_grammar.specs.SameLaws.{same-equiv, same_absent-equiv, same_ast-equiv};
 ghost use Rattle.fancy_grammar.specs.Tree.{trees_of};
@@ -71,7 +70,8 @@ fn is_same_node(node: &AstNode, other: &AstNode) -> bool
             AstNode::AstGroup {
                 name: other_name,
                 inner: other_inner,
-            } => is_same_name(name, other_name) && is_same_child(inner, other_inner),
+            } => is_same_name(name.as_deref(), other_name.as_deref())
+                && is_same_child(inner, other_inner),
             AstNode::Backref { .. }
             | AstNode::SubroutineCall(_)
             | AstNode::BackrefExistsCondition { .. } => false,
@@ -291,14 +291,14 @@ fn is_same(tree: &Expr, other: &Expr) -> bool
 }
 
 /// Whether both have the same name, or both none.
-fn is_same_name(name: &Option<String>, other: &Option<String>) -> bool
-    ensures { result ≡ same_name (option_map text_of name.now) (option_map text_of other.now) }
+fn is_same_name(name: Option<&str>, other: Option<&str>) -> bool
+    ensures { result ≡ same_name (option_map (λ t. chars t.now) name.entry) (option_map (λ t. chars t.now) other.entry) }
 {
     match name {
         None => other.is_none(),
         Some(name) => match other {
             None => false,
-            Some(other) => is_same_text(name.as_str(), other.as_str()),
+            Some(other) => is_same_text(name, other),
         },
     }
 }

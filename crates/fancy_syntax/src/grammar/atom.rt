@@ -17,7 +17,7 @@ use crate::grammar::reference::{backref, subroutine_call};
 use crate::grammar::state::State;
 use fancy_lex::class::{class, push_delegate};
 use fancy_lex::error::{Error, ParseError};
-use fancy_lex::escape::{Assertion, Escaped, escape, short_escape};
+use fancy_lex::escape::{Assertion, Escaped, escape};
 use fancy_lex::flags::Flags;
 use fancy_lex::text::{next, place};
 use std::alloc::{AllocError, Global};
@@ -116,10 +116,6 @@ fn escape_leaf(alloc: Global, here: &mut State, backslash: usize, end: usize) ->
         (escapes.escape end here.old.flags false backslash (chars here.old.rest.now))) }
     ensures within { IfOk result (λ _. length here.new.rest.now ≤ length here.old.rest.now) }
 {
-    if let Some((escaped, rest)) = short_escape(here.rest, here.flags) {
-        here.rest = rest;
-        return Ok(leaf_node(alloc, escaped)?);
-    }
     let (escaped, rest) = escape(alloc, here.rest, here.flags, false, backslash, end)?;
     here.rest = rest;
     Ok(leaf_node(alloc, escaped)?)

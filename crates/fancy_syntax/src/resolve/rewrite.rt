@@ -1,12 +1,10 @@
 //! The second walk: each capturing group becomes a `Group`, and each reference what it means. It stops at the first
 //! fault.
-ghost use Rattle.std.specs.Prelude.{◌≡◌, ◌+◌, ◌<◌, ◌^◌, length, IfOk, IfErr};
+ghost use Rattle.std.specs.Prelude.{◌≡◌, ◌+◌, ◌<◌, ◌^◌, length, true, false};
 ghost use Rattle.fancy_lex.specs.Target.{view_target};
-ghost use Rattle.fancy_parts.specs.declared.ranks.Role.TheVariants as does;
-ghost use Rattle.fancy_grammar.specs.Errors.{IsErrorIn};
 ghost use Rattle.fancy_grammar.specs.Items.{items, items_all, items_absent, items_ast, openings_in};
-ghost use Rattle.fancy_syntax.specs.Notes.{Walks, known_of, progress_of, noted_one};
-ghost use Rattle.fancy_grammar.specs.Tree.{trees_of, ast_node, ast_backref, ast_call, ast_condition};
+ghost use Rattle.fancy_syntax.specs.Notes.{Walks, is_reference, known_of, progress_of, resolved_or};
+ghost use Rattle.fancy_grammar.specs.Tree.{trees_of, ast_node, ast_backref};
 ghost use Rattle.fancy_syntax.specs.View.{view, view_absent, view_ast, views};
 ghost use Rattle.fancy_grammar.specs.Walk.{rebuilt, rebuilt_all, rebuilt_absent};
 
@@ -45,12 +43,15 @@ pub(super) fn rewrite(tree: &mut Expr, known: &Known, progress: &mut Progress) -
         }
         Expr::Absent(absent) => rewrite_absent(absent, known, progress),
         Expr::AstNode(node, place) => {
-            let place = *place;
-            // The node is moved alone, and not with its tree; what stands in its place then takes no memory.
-            let taken = AstNode::SubroutineCall(CaptureGroupTarget::ByNumber(0));
-            let node = mem::replace(node, taken);
-            let resolved = resolve_node(node, place, known, progress)?;
-            mem::forget(mem::replace(tree, resolved));
+            if let AstNode::AstGroup { .. } = node {
+                // The node is moved alone, and not with its tree; what stands in its place then takes no memory.
+                let taken = AstNode::SubroutineCall(CaptureGroupTarget::ByNumber(0));
+                let node = mem::replace(node, taken);
+                let resolved = resolve_group(node, *place, known, progress)?;
+                mem::forget(mem::replace(tree, resolved));
+            } else if let Some(resolved) = resolve_reference(node, *place, known, progress)? {
+                drop(mem::replace(tree, resolved));
+            }
             Ok(())
         }
         _ => Ok(()),
@@ -59,133 +60,105 @@ pub(super) fn rewrite(tree: &mut Expr, known: &Known, progress: &mut Progress) -
 
 // The functions for nodes that hold trees are not inlined, so that the call for a leaf saves no registers.
 
-/// The node that is read at the place, resolved: a capturing group, or a reference.
+/// The capturing group that is read at the place, resolved.
 #[cycle(rewrite)]
 #[inline(never)]
-fn resolve_node(node: AstNode, place: usize, known: &Known, progress: &mut Progress) -> Result<Expr>
-    requires { progress.old.passed + length (openings_in (items_ast (view_ast node) place)) < 2 ^ 63 }
+fn resolve_group(node: AstNode, place: usize, known: &Known, progress: &mut Progress) -> Result<Expr>
+    requires passed { progress.old.passed + length (openings_in (items_ast (view_ast node) place)) < 2 ^ 63 }
+    requires group { is_reference (view_ast node) ≡ false }
     ensures { Walks result (known_of known.now) (progress_of progress.old) (items_ast (view_ast node) place)
         (progress_of progress.new)
         (λ e. view e ≡ rebuilt (known_of known.now) (progress_of progress.old) (ast_node (view_ast node) place)) }
 {
+    let AstNode::AstGroup { name, mut inner } = node else {
+        unreachable!();
+    };
+    if is_counted_name(known.named, name.as_deref()) {
+        progress.passed += 1;
+        rewrite_child(&mut inner, known, progress)?;
+        Ok(Expr::Group(inner))
+    } else {
+        rewrite_child(&mut inner, known, progress)?;
+        Ok(mem::replace(&mut *inner, Expr::Empty))
+    }
+}
+
+/// What the reference that is read at the place is resolved to; none where it stays.
+#[inline(never)]
+fn resolve_reference(
+    node: &AstNode,
+    place: usize,
+    known: &Known,
+    progress: &mut Progress,
+) -> Result<Option<Expr>>
+    requires passed { progress.old.passed < 2 ^ 63 }
+    requires reference { is_reference (view_ast node.now) ≡ true }
+    ensures { Walks result (known_of known.now) (progress_of progress.old) (items_ast (view_ast node.now) place)
+        (progress_of progress.new)
+        (λ o. resolved_or (ast_node (view_ast node.now) place) o
+        ≡ rebuilt (known_of known.now) (progress_of progress.old) (ast_node (view_ast node.now) place)) }
+{
     match node {
-        AstNode::AstGroup { name, mut inner } => {
-            if is_counted_name(known.named, &name) {
-                progress.passed += 1;
-                rewrite_child(&mut inner, known, progress)?;
-                Ok(Expr::Group(inner))
-            } else {
-                rewrite_child(&mut inner, known, progress)?;
-                Ok(mem::replace(&mut *inner, Expr::Empty))
-            }
-        }
+        AstNode::AstGroup { .. } => unreachable!(),
         AstNode::Backref {
             target,
             casei,
             relative_recursion_level,
         } => resolve_backref(
             target,
-            casei,
-            relative_recursion_level,
+            *casei,
+            *relative_recursion_level,
             place,
             known,
             progress,
         ),
-        AstNode::SubroutineCall(target) => resolve_call(target, place, known, progress),
+        AstNode::SubroutineCall(target) => {
+            let Some(group) = refer(known, progress, place, Role::Call, target)? else {
+                return Ok(None);
+            };
+            Ok(Some(Expr::SubroutineCall(group)))
+        }
         AstNode::BackrefExistsCondition {
             target,
             relative_recursion_level,
-        } => resolve_condition(target, relative_recursion_level, place, known, progress),
+        } => {
+            let Some(group) = refer(known, progress, place, Role::Condition, target)? else {
+                return Ok(None);
+            };
+            Ok(Some(Expr::BackrefExistsCondition {
+                group,
+                relative_recursion_level: *relative_recursion_level,
+            }))
+        }
     }
 }
 
-/// The reference back that is read at the place, resolved.
+/// What the back reference that is read at the place is resolved to; none where it stays.
 fn resolve_backref(
-    target: CaptureGroupTarget,
+    target: &CaptureGroupTarget,
     casei: bool,
     relative_recursion_level: Option<isize>,
     place: usize,
     known: &Known,
     progress: &mut Progress,
-) -> Result<Expr>
+) -> Result<Option<Expr>>
     requires { progress.old.passed < 2 ^ 63 }
-    ensures tree { IfOk result (λ e. view e ≡ rebuilt (known_of known.now) (progress_of progress.old)
-        (ast_node (ast_backref (view_target target) casei relative_recursion_level) place)) }
-    ensures progress { IfOk result
-        (λ _. progress_of progress.new ≡ noted_one known.now progress.old place does.BackReference target) }
-    ensures fault { IfErr result
-        (λ e. IsErrorIn e (noted_one known.now progress.old place does.BackReference target).fault) }
+    ensures { let node = ast_backref (view_target target.now) casei relative_recursion_level in
+        Walks result (known_of known.now) (progress_of progress.old) (items_ast node place) (progress_of progress.new)
+        (λ o. resolved_or (ast_node node place) o
+        ≡ rebuilt (known_of known.now) (progress_of progress.old) (ast_node node place)) }
 {
-    match refer(known, progress, place, Role::BackReference, &target)? {
-        Some(group) => match relative_recursion_level {
-            Some(relative_level) => Ok(Expr::BackrefWithRelativeRecursionLevel {
-                group,
-                relative_level,
-                casei,
-            }),
-            None => Ok(Expr::Backref { group, casei }),
-        },
-        None => Ok(Expr::AstNode(
-            AstNode::Backref {
-                target,
-                casei,
-                relative_recursion_level,
-            },
-            place,
-        )),
-    }
-}
-
-/// The call that is read at the place, resolved.
-fn resolve_call(
-    target: CaptureGroupTarget,
-    place: usize,
-    known: &Known,
-    progress: &mut Progress,
-) -> Result<Expr>
-    requires { progress.old.passed < 2 ^ 63 }
-    ensures tree { IfOk result (λ e. view e ≡ rebuilt (known_of known.now) (progress_of progress.old)
-        (ast_node (ast_call (view_target target)) place)) }
-    ensures progress { IfOk result
-        (λ _. progress_of progress.new ≡ noted_one known.now progress.old place does.Call target) }
-    ensures fault { IfErr result
-        (λ e. IsErrorIn e (noted_one known.now progress.old place does.Call target).fault) }
-{
-    match refer(known, progress, place, Role::Call, &target)? {
-        Some(group) => Ok(Expr::SubroutineCall(group)),
-        None => Ok(Expr::AstNode(AstNode::SubroutineCall(target), place)),
-    }
-}
-
-/// The condition that is read at the place, resolved.
-fn resolve_condition(
-    target: CaptureGroupTarget,
-    relative_recursion_level: Option<isize>,
-    place: usize,
-    known: &Known,
-    progress: &mut Progress,
-) -> Result<Expr>
-    requires { progress.old.passed < 2 ^ 63 }
-    ensures tree { IfOk result (λ e. view e ≡ rebuilt (known_of known.now) (progress_of progress.old)
-        (ast_node (ast_condition (view_target target) relative_recursion_level) place)) }
-    ensures progress { IfOk result
-        (λ _. progress_of progress.new ≡ noted_one known.now progress.old place does.Condition target) }
-    ensures fault { IfErr result
-        (λ e. IsErrorIn e (noted_one known.now progress.old place does.Condition target).fault) }
-{
-    match refer(known, progress, place, Role::Condition, &target)? {
-        Some(group) => Ok(Expr::BackrefExistsCondition {
+    let Some(group) = refer(known, progress, place, Role::BackReference, target)? else {
+        return Ok(None);
+    };
+    Ok(Some(match relative_recursion_level {
+        Some(relative_level) => Expr::BackrefWithRelativeRecursionLevel {
             group,
-            relative_recursion_level,
-        }),
-        None => Ok(Expr::AstNode(
-            AstNode::BackrefExistsCondition {
-                target,
-                relative_recursion_level,
-            },
-            place,
-        )),
-    }
+            relative_level,
+            casei,
+        },
+        None => Expr::Backref { group, casei },
+    }))
 }
 
 /// Resolves the trees in the node.

@@ -1,6 +1,5 @@
 //! The first walk: the groups that have a number, the numbers of each name, and whether there is anything to resolve.
-ghost use Rattle.std.specs.Prelude.{◌≡◌, ◌+◌, ◌<◌, ◌^◌, ◌||◌, [], false, length, IfOk, option_map};
-ghost use Rattle.fancy_lex.specs.Text.{text_of};
+ghost use Rattle.std.specs.Prelude.{chars, ◌≡◌, ◌+◌, ◌<◌, ◌^◌, ◌||◌, [], false, length, IfOk, option_map};
 ghost use Rattle.fancy_parts.specs.Groups.{groups_of, no_groups};
 ghost use Rattle.fancy_parts.specs.Ranks.{is_counted};
 ghost use Rattle.fancy_grammar.specs.Items.{items, items_all, items_absent, items_ast, openings_in};
@@ -72,8 +71,8 @@ pub(super) fn survey(
 }
 
 /// Whether a group of that name has a number.
-pub(super) fn is_counted_name(named: bool, name: &Option<String>) -> bool
-    ensures { result ≡ is_counted named (option_map text_of name.now) }
+pub(super) fn is_counted_name(named: bool, name: Option<&str>) -> bool
+    ensures { result ≡ is_counted named (option_map (λ t. chars t.now) name.entry) }
 {
     !named || name.is_some()
 }
@@ -120,6 +119,7 @@ fn survey_node(
     found.met = true;
     match node {
         AstNode::AstGroup { name, inner } => {
+            let name = name.as_deref();
             if is_counted_name(named, name) {
                 found.groups.add(alloc, name)?;
             }

@@ -1,5 +1,4 @@
-use Rattle.std.proofs.Common.{◌≡◌, ◌+◌, ◌∙◌, option_map, rules}
-use Rattle.fancy_lex.specs.Text.{text_of}
+use Rattle.std.proofs.Common.{◌≡◌, ◌+◌, ◌∙◌, option_map, chars, rules}
 use Rattle.fancy_parts.specs.Groups.{groups_of, with_group}
 use Rattle.fancy_parts.proofs.NamedLaws.{groups_in_more}
 use Rattle.fancy_parts.proofs.ranks.Groups.add.Goals as goal
@@ -7,6 +6,6 @@ use Rattle.fancy_parts.proofs.ranks.Groups.add.Goals as goal
 pub returns-clause-numbers : goal.returns-clause-numbers
 returns-clause-numbers c before place is =
     let added : groups_of (record { total = c.args.self.now.total + 1; names = c.match-name.self.names })
-    ≡ with_group (groups_of c.args.self.now) (option_map text_of c.args.name.now)
+    ≡ with_group (groups_of c.args.self.now) (option_map (λ t. chars t.now) c.args.name)
     = search rules in
-    added ∙ groups_in_more (groups_of c.args.self.now) before place (option_map text_of c.args.name.now) is
+    added ∙ groups_in_more (groups_of c.args.self.now) before place (option_map (λ t. chars t.now) c.args.name) is

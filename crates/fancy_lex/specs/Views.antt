@@ -1,0 +1,27 @@
+-- What readers answer in code, seen as the definitions answer it.
+use Rattle.std.specs.Prelude.{◌≡◌, ℕ, List, Option, Some, None, option_map, MatchOption, Result, Ok, Err, chars}
+use Rattle.std.specs.Borrow.{Bor}
+use Rattle.fancy_lex.specs.LayoutSteps.{Skipped, rest, fault}
+use Rattle.fancy_lex.specs.Number.{number, IsWord}
+use Rattle.fancy_lex.specs.Text.{Text}
+
+-- the text behind layout, or the place of the fault
+abbrev pub skipped_of : Result (Bor (List ℕ)) ℕ → Skipped
+skipped_of (Ok r) = rest (chars r.now)
+skipped_of (Err p) = fault p
+
+-- two parts of a text
+abbrev pub parts : Option (Bor (List ℕ) × Bor (List ℕ)) → Option (Text × Text)
+parts = option_map (λ p. (chars p.0.now, chars p.1.now))
+
+-- a part that may be missing, and what is left
+abbrev pub option_and_rest : Option (Bor (List ℕ)) × Bor (List ℕ) → Option Text × Text
+option_and_rest p = (option_map (λ s. chars s.now) p.0, chars p.1.now)
+
+-- a value seen through f, and what is left
+abbrev pub view_read : {A B : Type 0} → (A → B) → A × Bor (List ℕ) → B × Text
+view_read f p = (f p.0, chars p.1.now)
+
+-- the number at the front of the text t, where a word holds it, and what is left
+abbrev pub GivesNumber : Text → Option (Option ℕ × Bor (List ℕ)) → Type 0
+GivesNumber t r = MatchOption r (number t ≡ None) (λ p. (n : ℕ) × (number t ≡ Some (n, chars p.1.now)) × IsWord p.0 n)
