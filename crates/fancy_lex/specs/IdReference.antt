@@ -1,7 +1,6 @@
 -- Id references: an id, an amount, or both.
-use Rattle.std.specs.Prelude.{◌≡◌, ◌≢◌, ℕ, ◌^◌, ◌<◌, ℤ, pos, neg_ℤ, Bool, true, ◌==◌, nat_lt, if◌then◌else◌, List, []}
+use Rattle.std.specs.Prelude.{◌≡◌, ◌≢◌, ℕ, ◌^◌, ◌<◌, ℤ, pos, neg_ℤ, Bool, true, ◌==◌, nat_lt, if◌then◌else◌, []}
 use Rattle.std.specs.Prelude.{◌∷◌, ◌++◌, chars, Option, Some, None, option_map}
-use Rattle.std.specs.Borrow.{Bor}
 use Rattle.std.specs.Option.{option_and_then}
 use Rattle.std.specs.Ordering.{int_eq}
 use Prim.Native.Char.{code}

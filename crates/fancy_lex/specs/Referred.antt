@@ -1,6 +1,5 @@
 -- References: what a name or an id reference names, and where it stands.
-use Rattle.std.specs.Prelude.{ℕ, ℤ, Bool, List, Option, Some, None, option_map, chars}
-use Rattle.std.specs.Borrow.{Bor}
+use Rattle.std.specs.Prelude.{ℕ, ℤ, Bool, Option, Some, None, option_map, chars}
 use Rattle.fancy_lex.specs.Delimited.{of_name}
 use Rattle.fancy_lex.specs.FaultTable.{reference_not_read}
 use Rattle.fancy_lex.specs.IdReference.{IdReference, id_alone, id_and_amount, amount_alone, id_reference}

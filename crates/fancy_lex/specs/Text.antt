@@ -1,7 +1,6 @@
 -- Texts as lists of characters, and places in them.
 use Rattle.std.specs.Prelude.{◌≡◌, ℕ, ◌+◌, ◌-◌, List, [], ◌∷◌, ◌++◌, chars, string_bytes, String, Option, Some, None}
 use Rattle.std.specs.Prelude.{option_and_then, option_map, if◌then◌else◌, ◌==◌}
-use Rattle.std.specs.Borrow.{Bor}
 use Rattle.std.specs.Char.{len_utf8}
 use Rattle.std.specs.declared.alloc.Global.{Global}
 

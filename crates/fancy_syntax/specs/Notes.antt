@@ -13,7 +13,7 @@ use Rattle.fancy_grammar.specs.Errors.{IsErrorIn}
 use Rattle.fancy_grammar.specs.Items.{Item}
 use Rattle.fancy_grammar.specs.Marks as spec
 use Rattle.fancy_grammar.specs.Walk as walk
-use Rattle.fancy_grammar.specs.Tree.{Tree, AstTree, ast_group}
+use Rattle.fancy_grammar.specs.Tree.{Tree, ast_node, AstTree, ast_group}
 use Rattle.fancy_syntax.specs.View.{view}
 use Rattle.fancy_syntax.specs.declared.expr.Expr.{Expr}
 use Rattle.fancy_syntax.specs.declared.resolve.notes.Known.{Known}
@@ -45,6 +45,11 @@ abbrev pub Walks : {A : Type 0} → Result A Error → walk.Known → walk.Progr
 Walks r k before l after P =
     let end = walk.noted k before l in
     MatchResult r (λ a. P a × (after ≡ end)) (λ e. IsErrorIn e end.fault)
+
+-- the tree is a node as it is read: a capturing group, or a reference
+abbrev pub is_node_read : Tree → Bool
+is_node_read (ast_node node place) = true
+is_node_read _ = false
 
 -- a node that is read is a reference, and no group
 abbrev pub is_reference : AstTree → Bool

@@ -3,7 +3,7 @@
 ghost use Rattle.std.specs.Prelude.{◌≡◌, ◌+◌, ◌<◌, ◌^◌, length, true, false};
 ghost use Rattle.fancy_lex.specs.Target.{view_target};
 ghost use Rattle.fancy_grammar.specs.Items.{items, items_all, items_absent, items_ast, openings_in};
-ghost use Rattle.fancy_syntax.specs.Notes.{Walks, is_reference, known_of, progress_of, resolved_or};
+ghost use Rattle.fancy_syntax.specs.Notes.{Walks, is_node_read, is_reference, known_of, progress_of, resolved_or};
 ghost use Rattle.fancy_grammar.specs.Tree.{trees_of, ast_node, ast_backref};
 ghost use Rattle.fancy_syntax.specs.View.{view, view_absent, view_ast, views};
 ghost use Rattle.fancy_grammar.specs.Walk.{rebuilt, rebuilt_all, rebuilt_absent};
@@ -42,23 +42,37 @@ pub(super) fn rewrite(tree: &mut Expr, known: &Known, progress: &mut Progress) -
             rewrite_child(false_branch, known, progress)
         }
         Expr::Absent(absent) => rewrite_absent(absent, known, progress),
-        Expr::AstNode(node, place) => {
-            if let AstNode::AstGroup { .. } = node {
-                // The node is moved alone, and not with its tree; what stands in its place then takes no memory.
-                let taken = AstNode::SubroutineCall(CaptureGroupTarget::ByNumber(0));
-                let node = mem::replace(node, taken);
-                let resolved = resolve_group(node, *place, known, progress)?;
-                mem::forget(mem::replace(tree, resolved));
-            } else if let Some(resolved) = resolve_reference(node, *place, known, progress)? {
-                drop(mem::replace(tree, resolved));
-            }
-            Ok(())
-        }
+        Expr::AstNode(..) => rewrite_node(tree, known, progress),
         _ => Ok(()),
     }
 }
 
 // The functions for nodes that hold trees are not inlined, so that the call for a leaf saves no registers.
+
+/// Puts what the node is resolved to in its place.
+#[cycle(rewrite)]
+#[inline(never)]
+fn rewrite_node(tree: &mut Expr, known: &Known, progress: &mut Progress) -> Result<()>
+    requires passed { progress.old.passed + length (openings_in (items (view tree.old))) < 2 ^ 63 }
+    requires node { is_node_read (view tree.old) ≡ true }
+    ensures { Walks result (known_of known.now) (progress_of progress.old) (items (view tree.old))
+        (progress_of progress.new)
+        (λ _. view tree.new ≡ rebuilt (known_of known.now) (progress_of progress.old) (view tree.old)) }
+{
+    let Expr::AstNode(node, place) = tree else {
+        unreachable!();
+    };
+    if let AstNode::AstGroup { .. } = node {
+        // The node is moved alone, and not with its tree; what stands in its place then takes no memory.
+        let taken = AstNode::SubroutineCall(CaptureGroupTarget::ByNumber(0));
+        let node = mem::replace(node, taken);
+        let resolved = resolve_group(node, *place, known, progress)?;
+        mem::forget(mem::replace(tree, resolved));
+    } else if let Some(resolved) = resolve_reference(node, *place, known, progress)? {
+        drop(mem::replace(tree, resolved));
+    }
+    Ok(())
+}
 
 /// The capturing group that is read at the place, resolved.
 #[cycle(rewrite)]
@@ -84,7 +98,6 @@ fn resolve_group(node: AstNode, place: usize, known: &Known, progress: &mut Prog
 }
 
 /// What the reference that is read at the place is resolved to; none where it stays.
-#[inline(never)]
 fn resolve_reference(
     node: &AstNode,
     place: usize,
