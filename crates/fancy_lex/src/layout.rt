@@ -4,7 +4,7 @@ ghost use Rattle.fancy_lex.specs.Text.{Text, EndsWith};
 ghost use Rattle.fancy_lex.specs.Layout as relation;
 ghost use Rattle.fancy_lex.specs.LayoutSteps as spec;
 ghost use Rattle.fancy_lex.specs.LayoutSteps.{rest, fault};
-ghost use Rattle.fancy_lex.specs.Views.{skipped_of};
+ghost use Rattle.fancy_lex.specs.Views.{Skips, skipped_of};
 ghost use Rattle.fancy_lex.specs.Reading.{layout_reading, ReadsRest};
 
 use crate::error::{Error, ParseError};
@@ -170,6 +170,7 @@ pub fn past_layout(text: &str, ignore_space: bool) -> Option<&str>
 pub fn skip(text: &str, ignore_space: bool, end: usize) -> Result<&str, Error>
     requires { end < 2 ^ 63 }
     ensures value { ReadsRest result (layout_reading (spec.layout end ignore_space (chars text.now))) }
+    ensures skips { Skips result (spec.layout end ignore_space (chars text.now)) }
     ensures cut { IfOk result (λ r. EndsWith (chars text.now) (chars r.now)) }
     ensures within { IfOk result (λ r. length r.now ≤ length text.now) }
 {

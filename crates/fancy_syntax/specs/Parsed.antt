@@ -4,9 +4,6 @@ use Rattle.std.specs.Borrow.{Bor}
 use Rattle.fancy_lex.specs.declared.error.Error.{Error}
 use Rattle.fancy_grammar.specs.Ahead.{Ahead, nothing, leaf, with_head, condition, body, absent_branch}
 use Rattle.fancy_grammar.specs.Depth.{max_depth}
-use Rattle.fancy_lex.specs.LayoutSteps.{Skipped, rest, fault as open_comment}
-use Rattle.fancy_lex.specs.declared.error.Error.TheVariants.{ParseError}
-use Rattle.fancy_lex.specs.declared.error.ParseError.TheVariants.{UnclosedOpenParen}
 use Rattle.fancy_grammar.specs.Head as head
 use Rattle.fancy_grammar.specs.Errors.{IsErrorAmong}
 use Rattle.fancy_grammar.specs.Quantified as quantified
@@ -89,12 +86,6 @@ abbrev pub IsBelow : declared.Ahead → ℕ → Type 0
 IsBelow Nothing d = ⊤
 IsBelow (Leaf atom) d = ⊤
 IsBelow _ d = d + 1 < max_depth
-
--- the text behind the layout, or the fault of an open comment in it
-abbrev pub Skips : Result (Bor (List ℕ)) Error → Skipped → Type 0
-Skips r s =
-    MatchResult r (λ t. s ≡ rest (chars t.now))
-    (λ e. (p : ℕ) × (e ≡ ParseError p UnclosedOpenParen) × (s ≡ open_comment p))
 
 -- where no byte was taken, the text is the same
 abbrev pub IsUnmoved : List ℕ → List ℕ → Type 0

@@ -1,13 +1,14 @@
 //! What stands before an atom.
 ghost use Rattle.std.specs.Prelude.{◌≡◌, ◌<◌, ◌≤◌, ◌^◌, length, chars, IfOk};
 ghost use Rattle.fancy_grammar.specs.State.{ends, skipped};
-ghost use Rattle.fancy_syntax.specs.Parsed.{state, Skips, IsUnmoved};
+ghost use Rattle.fancy_lex.specs.Views.{Skips};
+ghost use Rattle.fancy_syntax.specs.Parsed.{state, IsUnmoved};
 
 use crate::expr::Expr;
 use crate::grammar::group::head::Head;
 use crate::grammar::state::State;
-use fancy_lex::error::{Error, ParseError};
-use fancy_lex::layout::layout;
+use fancy_lex::error::Error;
+use fancy_lex::layout::skip;
 use fancy_lex::text::next;
 
 /// Groups nest less deep than this.
@@ -47,8 +48,5 @@ pub(crate) fn skip_layout<'a>(here: State<'a>, end: usize) -> Result<&'a str, Er
     ensures within { IfOk result (λ r. length r.now ≤ length here.entry.rest.now) }
     ensures unmoved { IfOk result (λ r. IsUnmoved here.entry.rest.now r.now) }
 {
-    match layout(here.rest, here.flags.ignore_space, end) {
-        Ok(rest) => Ok(rest),
-        Err(place) => Err(Error::ParseError(place, ParseError::UnclosedOpenParen)),
-    }
+    skip(here.rest, here.flags.ignore_space, end)
 }
