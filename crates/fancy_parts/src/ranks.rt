@@ -118,8 +118,7 @@ pub fn meaning_behind(
         ≡ means (numbers_under (groups_of groups.now).names) passed (role_of role) (view_target target.now)) }
     ensures numbers { (l : List Opening) → groups_of groups.now ≡ groups_in l →
         IfOk result (λ m. meaning_of m ≡ means (λ t. numbers t l) passed (role_of role) (view_target target.now)) }
-    ensures without_memory {
-        let numbers = numbers_under (groups_of groups.now).names in
+    ensures without_memory { let numbers = numbers_under (groups_of groups.now).names in
         let meaning = means numbers passed (role_of role) (view_target target.now) in
         is_fault_with_text meaning ≡ false → IsOk result }
 {
@@ -142,8 +141,7 @@ fn by_name(
 ) -> Result<Meaning, AllocError>
     ensures value { IfOk result
         (λ m. meaning_of m ≡ means_name (role_of role) passed (text_of name.now) numbers.now) }
-    ensures without_memory {
-        is_fault_with_text (means_name (role_of role) passed (text_of name.now) numbers.now) ≡ false → IsOk result }
+    ensures without_memory { is_fault_with_text (means_name (role_of role) passed (text_of name.now) numbers.now) ≡ false → IsOk result }
 {
     match role {
         Role::Call => Ok(only(numbers)),

@@ -77,7 +77,12 @@ fn rewrite_node(tree: &mut Expr, known: &Known, progress: &mut Progress) -> Resu
 /// The capturing group that is read at the place, resolved.
 #[cycle(rewrite)]
 #[inline(never)]
-fn resolve_group(node: AstNode, place: usize, known: &Known, progress: &mut Progress) -> Result<Expr>
+fn resolve_group(
+    node: AstNode,
+    place: usize,
+    known: &Known,
+    progress: &mut Progress,
+) -> Result<Expr>
     requires passed { progress.old.passed + length (openings_in (items_ast (view_ast node) place)) < 2 ^ 63 }
     requires group { is_reference (view_ast node) ≡ false }
     ensures { Walks result (known_of known.now) (progress_of progress.old) (items_ast (view_ast node) place)
