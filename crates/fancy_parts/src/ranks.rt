@@ -141,7 +141,8 @@ fn by_name(
 ) -> Result<Meaning, AllocError>
     ensures value { IfOk result
         (λ m. meaning_of m ≡ means_name (role_of role) passed (text_of name.now) numbers.now) }
-    ensures without_memory { is_fault_with_text (means_name (role_of role) passed (text_of name.now) numbers.now) ≡ false → IsOk result }
+    ensures without_memory { let meaning = means_name (role_of role) passed (text_of name.now) numbers.now in
+        is_fault_with_text meaning ≡ false → IsOk result }
 {
     match role {
         Role::Call => Ok(only(numbers)),
