@@ -62,8 +62,8 @@ impl Groups {
         ensures added { IfOk result
             (λ _. groups_of self.new ≡ with_group (groups_of self.old) (option_map (λ t. chars t.now) name.entry)) }
         ensures numbers { (before : List Opening) (place : ℕ) → groups_of self.old ≡ groups_in before →
-            IfOk result
-            (λ _. groups_of self.new ≡ groups_in (openings_with before place (option_map (λ t. chars t.now) name.entry))) }
+            IfOk result (λ _. groups_of self.new
+            ≡ groups_in (openings_with before place (option_map (λ t. chars t.now) name.entry))) }
         ensures kept { OnErr result (groups_of self.new ≡ groups_of self.old) }
         ensures without_memory { is_some name.entry ≡ false → IsOk result }
     {

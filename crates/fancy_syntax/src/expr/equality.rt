@@ -292,7 +292,7 @@ fn is_same(tree: &Expr, other: &Expr) -> bool
 
 /// Whether both have the same name, or both none.
 fn is_same_name(name: Option<&str>, other: Option<&str>) -> bool
-    ensures { result ≡ same_name (option_map (λ t. chars t.now) name.entry) (option_map (λ t. chars t.now) other.entry) }
+    ensures { let text = option_map (λ t. chars t.now) in result ≡ same_name (text name.entry) (text other.entry) }
 {
     match name {
         None => other.is_none(),
