@@ -4,12 +4,12 @@ use Rattle.std.proofs.Common.{Option, Some, None, filter, filter_map, map, nat_l
 use Rattle.std.specs.List.{AllByRecursion, list_any}
 use Rattle.std.proofs.lemmas.List.{length-map}
 use Rattle.std.specs.Prelude.{find, slice_get}
-use Rattle.fancy_lex.specs.Fault.{Fault, invalid_group_name_backref}
+use Rattle.fancy_lex.specs.Fault.{Fault, Kind, invalid_group_name_backref}
 use Rattle.fancy_lex.specs.Target.{Target, by_number, by_name, relative}
 use Rattle.fancy_lex.specs.Text.{Text}
 use Rattle.fancy_lex.specs.declared.flags.Flags.{Flags}
 use Rattle.fancy_parts.specs.Meaning.{Meaning, number, unresolved, faulty, means, meaning, back_to, last_of}
-use Rattle.fancy_parts.specs.Meaning.{group_or_none, at_distance, Role, back_reference, call, condition, AnyReference}
+use Rattle.fancy_parts.specs.Meaning.{group_or_none, no_group, at_distance, Role, back_reference, call, condition, AnyReference}
 use Rattle.fancy_parts.specs.Meaning.{fault_or, first_fault}
 use Rattle.fancy_parts.specs.Ranks.{Opening, is_counted, numbers, opened_before, only_named, counted_in, counted}
 use Rattle.fancy_grammar.specs.Answer.{IsTreeOf}
@@ -49,23 +49,20 @@ back_to_resolved c name (Some n) e = by_test (nat_le n c) e
     by_test true e = cc
     by_test false e = cc
 
-group_or_fault : (o : Option ℕ) → group_or_none back_reference o ≡ unresolved → ⊥
-group_or_fault None e = cc
-group_or_fault (Some n) e = cc
-
-condition_or_fault : (o : Option ℕ) → group_or_none condition o ≡ unresolved → ⊥
-condition_or_fault None e = cc
-condition_or_fault (Some n) e = cc
+group_or_fault : (role : Role) (k : Kind) (o : Option ℕ) → no_group role ≡ faulty k →
+    group_or_none role o ≡ unresolved → ⊥
+group_or_fault role k None h e = cc
+group_or_fault role k (Some n) h e = cc
 
 back_reference_resolved : (u : Text → List ℕ) (c : ℕ) (t : Target) → means u c back_reference t ≡ unresolved → ⊥
 back_reference_resolved u c (by_number n) e = cc
 back_reference_resolved u c (by_name w) e = back_to_resolved c w (last_of (u w)) e
-back_reference_resolved u c (relative z) e = group_or_fault (at_distance c z) e
+back_reference_resolved u c (relative z) e = group_or_fault back_reference _ (at_distance c z) refl e
 
 condition_resolved : (u : Text → List ℕ) (c : ℕ) (t : Target) → means u c condition t ≡ unresolved → ⊥
 condition_resolved u c (by_number n) e = cc
-condition_resolved u c (by_name w) e = condition_or_fault (last_of (u w)) e
-condition_resolved u c (relative z) e = condition_or_fault (at_distance c z) e
+condition_resolved u c (by_name w) e = group_or_fault condition _ (last_of (u w)) refl e
+condition_resolved u c (relative z) e = group_or_fault condition _ (at_distance c z) refl e
 
 backref_answered : (m : Meaning) (t : Target) (casei : Bool) (level : Option ℤ) (place : ℕ) (o : Option Fault) →
     (m ≡ unresolved → ⊥) → fault_or m place o ≡ None →

@@ -6,23 +6,25 @@ pub mod QuantLemmas
 pub mod FaultLemmas
 pub mod PremiseLaws
 pub mod Unique
-pub mod Verdict
+-- ---- items, nodes in preorder, and levels
+pub mod ItemLemmas
+pub mod PreorderLaws
+pub mod LevelLaws
 -- ---- what is true of every raw tree
 pub mod Slices
 pub mod ReadLaws
 pub mod BoundLaws
--- ---- resolving, and what is true of every answer
-pub mod ItemLemmas
+-- ---- resolving
 pub mod OrderLaws
 pub mod NamedNumbers
 pub mod FoundLaws
 pub mod NoteLaws
 pub mod ResolveLaws
 pub mod AnswerLaws
-pub mod LevelLaws
-pub mod PreorderLaws
-pub mod AnsweredLaws
 -- ---- printing, and what a printed text reads as
 pub mod PrintableLemmas
-pub mod DelegateLemmas
 pub mod ReadBack
+pub mod DelegateLemmas
+-- ---- the one answer of a text, and what is true of it
+pub mod Verdict
+pub mod AnsweredLaws

@@ -5,6 +5,10 @@ use Rattle.std.specs.Prelude.{ℕ, ◌*◌}
 abbrev pub max_depth : ℕ
 max_depth = 64
 
+-- how many groups can be open: where so many are, another is refused
+abbrev pub most_open : ℕ
+most_open = 63
+
 -- the most levels of a tree that is read: 13 at each depth, which are an Alt, a Concat, five quantifiers of two nodes,
 -- and a group or leaf
 abbrev pub max_levels : ℕ

@@ -77,7 +77,8 @@ behind_atom _ f q = restored f q
 
 -- In each of them n is how many bytes the pattern has, and d how many groups are open; s is the state where it begins,
 -- t and v are later states, in text order, and u is a later text; r, a and c are trees, of which c is a condition; q is
--- the outcome of a part, and o that of the whole; k and p are the kind and the place of a fault.
+-- the outcome of a part, and o that of the whole; k and p are the kind and the place of a fault, and in `Atom` k is what
+-- stands ahead.
 
 mutual
   -- branches with bars between

@@ -1,6 +1,7 @@
 -- The normal form of a tree, under a Unicode setting: what its printed text is read as.
 use Rattle.std.specs.Prelude.{ℕ, Bool, false, not, ◌&&◌, List, [], ◌∷◌, ◌++◌, map, is_none, Option, Some}
 use Rattle.std.specs.Prelude.{None, unwrap_or}
+use Rattle.fancy_lex.specs.Flags.{no_flag}
 use Rattle.fancy_lex.specs.Text.{Text, bytes}
 use Rattle.fancy_lex.specs.declared.escape.Assertion.TheVariants.{StartLine, StartLineOniguruma}
 use Rattle.fancy_lex.specs.declared.flags.Flags.{Flags}
@@ -16,17 +17,7 @@ use Rattle.fancy_grammar.specs.Tree.{group, repeat, delegate, define_group}
 
 -- no flag, or UNICODE alone
 abbrev pub bare : Bool → Flags
-bare unicode = record {
-  casei = false;
-  multi = false;
-  dotnl = false;
-  swap_greed = false;
-  ignore_space = false;
-  unicode = unicode;
-  crlf = false;
-  oniguruma_mode = false;
-  ignore_numbered_groups = false;
-}
+bare unicode = record no_flag { unicode = unicode }
 
 -- these, and CASEI where that is asked
 abbrev pub case_flags : Bool → Bool → Flags

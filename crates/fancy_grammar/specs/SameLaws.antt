@@ -6,7 +6,8 @@ use Rattle.std.specs.Cmp.{second_so}
 use Rattle.std.specs.Cmp.Lexicographic.{bytes_decides}
 use Rattle.std.specs.Ordering.{int_eq}
 use Rattle.std.specs.Str.{bytes_eq}
-use mathlib.Core.Bool.{true≢false, beq}
+use mathlib.Core.Bool.{beq}
+use Rattle.std.proofs.lemmas.Bool.{false≢true}
 use mathlib.Core.Path.{ap, sym, subst}
 use Rattle.fancy_lex.specs.declared.escape.Assertion.{Assertion}
 use Rattle.fancy_lex.specs.declared.escape.Assertion.TheVariants.{StartText, EndText, EndTextIgnoreTrailingNewlines}
@@ -29,9 +30,6 @@ use Rattle.fancy_grammar.specs.Tree.{keep_out, continue_from_previous_match_end,
 use Rattle.fancy_grammar.specs.Tree.{subroutine_call, verb, absent, define_group, ast_node, Trees, no_trees, more_trees}
 use Rattle.fancy_grammar.specs.Tree.{AbsentTree, repeater, expression, stopper, clear, AstTree, ast_group, ast_backref}
 use Rattle.fancy_grammar.specs.Tree.{ast_call, ast_condition}
-
-false≢true : false ≡ true → ⊥
-false≢true h = true≢false (sym h)
 
 both : (x y : Bool) → x ≡ true → y ≡ true → (x && y) ≡ true
 both true y h k = k

@@ -1,7 +1,7 @@
 -- ---- trees: equality, children, descendants, and what is lent of them
 pub mod ApartLemmas
-pub mod SameLemmas
 pub mod ChildrenLemmas
+pub mod SameLemmas
 pub mod Descents
 pub mod LoanLemmas
 pub mod WriteLemmas
@@ -11,9 +11,9 @@ mod StepLemmas
 mod MachineLemmas
 mod TreeLemmas
 -- ---- the resolver
-pub mod PartLemmas
 pub mod WalkLemmas
 pub mod NoItems
+pub mod PartLemmas
 -- ---- printing
 pub mod PrintLemmas
 mod EmptyLemmas

@@ -22,8 +22,8 @@ use Rattle.fancy_grammar.specs.Join.{solid, one_or, choice}
 use Rattle.fancy_syntax.specs.Machine.{OpenPart, top, group, condition, body, first, second, part_of, holds_one}
 use Rattle.fancy_syntax.specs.Machine.{is_second, opened_by_bar, branches_at_bar, IsFaultOfBar, Part, Opens, a_group}
 use Rattle.fancy_syntax.specs.Machine.{a_condition, a_body, behind_condition, a_branch, behind_branch, lacks_body}
-use Rattle.fancy_syntax.specs.Machine.{node_of_part, goes_on, ended_part, Began, StepsOn, GivesPiece, ReadSoFar, Levels}
-use Rattle.fancy_syntax.specs.Machine.{outermost, inner, Holds, Steps, OpensBelow, Takes}
+use Rattle.fancy_syntax.specs.Machine.{node_of_part, goes_on, ended_part, Began, StepsOn, GivesPiece, ReadSoFar, OpenGroups}
+use Rattle.fancy_syntax.specs.Machine.{outermost, inner, HoldsTrees, Steps, OpensBelow, Takes}
 use Rattle.fancy_grammar.specs.Depth.{max_depth}
 use Rattle.fancy_grammar.specs.Grammar.{trees_before}
 use Rattle.fancy_grammar.specs.Head.{group_node}
@@ -251,7 +251,7 @@ reading_fault {n} {d} {q} {k} (second b) h e a =
 
 -- the fault of what is open is that of the whole
 levels_fault : {n : ℕ} {start : State} {d p : ℕ} {s : State} {k : Kind} {fs : List Frame} {ts : List Tree}
-    {o : OpenPart} → Levels n start fs ts o d s →
+    {o : OpenPart} → OpenGroups n start fs ts o d s →
     Part o n d s (fault k p) → Alternation n 0 start (fault k p)
 levels_fault outermost r = r
 levels_fault (inner f e x l h i m j) r = levels_fault l (reading_fault (part_of f.opener) h m (opens_fault j r))
@@ -261,7 +261,7 @@ push-not_nil [] x e = cc
 push-not_nil (y ∷ l) x e = cc
 
 levels_none : {n : ℕ} {start : State} {d : ℕ} {s : State} {fs : List Frame} {ts : List Tree} {o : OpenPart} →
-    Levels n start fs ts o d s →
+    OpenGroups n start fs ts o d s →
     fs ≡ [] → (d ≡ 0) × (s ≡ start) × (o ≡ top)
 levels_none outermost e = (refl, refl, refl)
 levels_none (inner {frames} f i x l h a j k) e = absurd (push-not_nil frames f (sym e ∙ i))
@@ -284,15 +284,15 @@ record Outer (n : ℕ) (start : State) (gs : List Frame) (g : Frame) (ts : List 
   branches : List Tree
   pieces : List Tree
   deeper : d ≡ depth + 1
-  holds : Holds g ts below branches pieces
-  levels : Levels n start gs below (part_of g.opener) depth begin
+  holds : HoldsTrees g ts below branches pieces
+  levels : OpenGroups n start gs below (part_of g.opener) depth begin
   reading : ReadSoFar n depth (part_of g.opener) begin branches pieces here
   began : Began g here
   more : ends here.rest ≡ false
   opens : Opens n depth here o s
 
 levels_pop : {n : ℕ} {start : State} (gs : List Frame) (g : Frame) {d : ℕ} {s : State} {fs : List Frame}
-    {ts : List Tree} {o : OpenPart} → Levels n start fs ts o d s →
+    {ts : List Tree} {o : OpenPart} → OpenGroups n start fs ts o d s →
     fs ≡ gs ++ g ∷ [] → Outer n start gs g ts o d s
 levels_pop gs g outermost e = absurd (push-not_nil gs g e)
 levels_pop {n} {start} gs g {ts} (inner {d} {s} {t} {frames} {below} {branches} {pieces} f i x l h a m j) e =
@@ -305,9 +305,9 @@ levels_pop {n} {start} gs g {ts} (inner {d} {s} {t} {frames} {below} {branches} 
       branches = branches;
       pieces = pieces;
       deeper = refl;
-      holds = subst (λ (y : Frame). Holds y ts below branches pieces) p.1 x;
-      levels = subst (λ (y : Frame). Levels n start gs below (part_of y.opener) d s) p.1
-          (subst (λ y. Levels n start y below (part_of f.opener) d s) p.0 l);
+      holds = subst (λ (y : Frame). HoldsTrees y ts below branches pieces) p.1 x;
+      levels = subst (λ (y : Frame). OpenGroups n start gs below (part_of y.opener) d s) p.1
+          (subst (λ y. OpenGroups n start y below (part_of f.opener) d s) p.0 l);
       reading = subst (λ (y : Frame). ReadSoFar n d (part_of y.opener) s branches pieces t) p.1 h;
       began = subst (λ (y : Frame). Began y t) p.1 a;
       more = m;
@@ -324,13 +324,13 @@ pub record Running (n : ℕ) (start : State) (stack : List Frame) (f : Frame) (t
     pub branches : List Tree
     pub pieces : List Tree
     pub is_depth : depth ≡ length stack
-    pub holds : Holds f trees below branches pieces
-    pub levels : Levels n start stack below (part_of f.opener) depth begin
+    pub holds : HoldsTrees f trees below branches pieces
+    pub levels : OpenGroups n start stack below (part_of f.opener) depth begin
     pub reading : ReadSoFar n depth (part_of f.opener) begin branches pieces t
 
 -- a group in which nothing is read yet stands above all trees
 holds_new : (g : Frame) (trees : List Tree) → g.branches ≡ length trees → g.pieces ≡ length trees →
-    Holds g trees trees [] []
+    HoldsTrees g trees trees [] []
 holds_new g trees i j =
     let n = append-nil trees in (sym (append-nil (trees ++ []) ∙ n), i, j ∙ ap length (sym n))
 
@@ -431,21 +431,21 @@ opens_below d (step.Open opener) h = h
 
 -- behind a bar the second branch of an absent expression is open
 levels_bar : {n d : ℕ} {start s t : State} {u : Text} {a : Tree} {fs : List Frame} {ts : List Tree} →
-    Levels n start fs ts first d s → Branch n d s (done a t) →
-    strip bar t.rest ≡ Some u → Levels n start fs ts (second a) d (at t u)
+    OpenGroups n start fs ts first d s → Branch n d s (done a t) →
+    strip bar t.rest ≡ Some u → OpenGroups n start fs ts (second a) d (at t u)
 levels_bar (inner f i l h m j x y) b e = inner f i l h m j x (behind_branch y b e)
 
 pub running_bar : {n : ℕ} {start t : State} {u : Text} {stack : List Frame} {f : Frame} {trees : List Tree}
     (all : List Tree) (g : Frame) (h : Running n start stack f trees t) → ends t.rest ≡ true →
     strip bar t.rest ≡ Some u → is_second (part_of f.opener) ≡ false →
     part_of g.opener ≡ opened_by_bar (part_of f.opener) (joined h.pieces) →
-    Holds g all h.below (branches_at_bar (part_of f.opener) h.branches (joined h.pieces)) [] →
+    HoldsTrees g all h.below (branches_at_bar (part_of f.opener) h.branches (joined h.pieces)) [] →
     Running n start stack g all (at t u)
 running_bar {n} {start} {t} {u} {stack} {f} all g h e b x i j = by_open (part_of f.opener) h.levels h.reading x i j
   where
-    ordinary : {p : OpenPart} → holds_one p ≡ false → Levels n start stack h.below p h.depth h.begin →
+    ordinary : {p : OpenPart} → holds_one p ≡ false → OpenGroups n start stack h.below p h.depth h.begin →
         ReadSoFar n h.depth p h.begin h.branches h.pieces t → part_of g.opener ≡ p →
-        Holds g all h.below (h.branches ++ joined h.pieces ∷ []) [] → Running n start stack g all (at t u)
+        HoldsTrees g all h.below (h.branches ++ joined h.pieces ∷ []) [] → Running n start stack g all (at t u)
     ordinary z l r i j = record {
       depth = h.depth;
       begin = h.begin;
@@ -458,10 +458,10 @@ running_bar {n} {start} {t} {u} {stack} {f} all g h e b x i j = by_open (part_of
       reading = rw i (reading_bar _ _ r z e b refl refl);
     }
 
-    by_open : (p : OpenPart) → Levels n start stack h.below p h.depth h.begin →
+    by_open : (p : OpenPart) → OpenGroups n start stack h.below p h.depth h.begin →
         ReadSoFar n h.depth p h.begin h.branches h.pieces t →
         is_second p ≡ false → part_of g.opener ≡ opened_by_bar p (joined h.pieces) →
-        Holds g all h.below (branches_at_bar p h.branches (joined h.pieces)) [] →
+        HoldsTrees g all h.below (branches_at_bar p h.branches (joined h.pieces)) [] →
         Running n start stack g all (at t u)
     by_open top l r x i j = ordinary refl l r i j
     by_open (group _ _) l r x i j = ordinary refl l r i j
@@ -494,7 +494,7 @@ bar_does_not_close : bar ≢ code ")"
 bar_does_not_close e = omega (arith, e)
 
 second_fault : {n d p : ℕ} {start s t : State} {k : Kind} {a r : Tree} {fs : List Frame} {ts : List Tree} →
-    Levels n start fs ts (second a) d s → Branch n d s (done r t) →
+    OpenGroups n start fs ts (second a) d s → Branch n d s (done r t) →
     closed n (absent (expression a r)) t ≡ fault k p → Alternation n 0 start (fault k p)
 second_fault {n} {t} {a} {r} (inner f i y l h m j x) b e =
     levels_fault l (reading_fault (part_of f.opener) h j (ended_fault r t x b (λ _ z. absurd (true≢false z)) e))
@@ -505,7 +505,7 @@ pub running_bar_fault : {n : ℕ} {start t : State} {u : Text} {stack : List Fra
     Alternation n 0 start o
 running_bar_fault {n} {start} {t} {u} {stack} {f} o h e b x = by_open (part_of f.opener) h.levels h.reading x
   where
-    by_open : (p : OpenPart) → Levels n start stack h.below p h.depth h.begin →
+    by_open : (p : OpenPart) → OpenGroups n start stack h.below p h.depth h.begin →
         ReadSoFar n h.depth p h.begin h.branches h.pieces t →
         IsFaultOfBar p n t.rest o → Alternation n 0 start o
     by_open (second a) l r x =

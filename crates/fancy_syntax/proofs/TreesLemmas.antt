@@ -4,21 +4,21 @@ use Rattle.std.proofs.lemmas.List.{append_assoc, length-append, length-map, leng
 use Rattle.std.proofs.Math.Seq.{take-append_seam, drop-append_seam}
 use Rattle.fancy_grammar.specs.Join.{one_or, choice}
 use Rattle.fancy_grammar.specs.Tree.{Tree, Trees, concat, alt, trees_of}
-use Rattle.fancy_syntax.specs.Machine.{Holds}
+use Rattle.fancy_syntax.specs.Machine.{HoldsTrees}
 use Rattle.fancy_syntax.specs.View.{view, views}
 use Rattle.fancy_syntax.specs.declared.expr.Expr.{Expr}
 use Rattle.fancy_syntax.specs.declared.grammar.frame.Frame.{Frame}
 
 -- above the height of a group's pieces stand these, and below its branches and what is around it
 pub holds_pieces : (f : Frame) {trees : List Tree} (below branches : List Tree) (pieces : List Tree) →
-    Holds f trees below branches pieces →
+    HoldsTrees f trees below branches pieces →
     (drop f.pieces trees ≡ pieces) × (take f.pieces trees ≡ below ++ branches)
 holds_pieces f below branches pieces h =
     rw (h.0, h.2) (drop-append_seam (below ++ branches) pieces, take-append_seam (below ++ branches) pieces)
 
 -- the heights of a group are within all trees
 pub holds_below : (f : Frame) {trees : List Tree} (below branches pieces : List Tree) →
-    Holds f trees below branches pieces → (f.branches ≤ f.pieces) × (f.pieces ≤ length trees)
+    HoldsTrees f trees below branches pieces → (f.branches ≤ f.pieces) × (f.pieces ≤ length trees)
 holds_below f below branches pieces h = (
   omega (arith, h.1, h.2, length-append below branches),
   omega (arith, ap length h.0, h.2, length-append (below ++ branches) pieces),
@@ -42,7 +42,7 @@ split_node node height es ws e h =
 
 -- what stands where the last branch was put behind the others
 branches_put : (f : Frame) {trees : List Tree} (below branches pieces all : List Tree) (x : Tree) →
-    Holds f trees below branches pieces → x ≡ one_or concat (drop f.pieces trees) →
+    HoldsTrees f trees below branches pieces → x ≡ one_or concat (drop f.pieces trees) →
     all ≡ take f.pieces trees ++ x ∷ [] → all ≡ below ++ (branches ++ one_or concat pieces ∷ [])
 branches_put f below branches pieces all x h e i =
     let p = holds_pieces f below branches pieces h in
@@ -51,7 +51,7 @@ branches_put f below branches pieces all x h e i =
 
 -- the branches of a group, the last put behind the others, are taken: a choice among them
 pub branches_taken : (f : Frame) {trees : List Tree} (below branches pieces : List Tree) (x : Tree)
-    (es ws : List Expr) → Holds f trees below branches pieces → x ≡ one_or concat (drop f.pieces trees) →
+    (es ws : List Expr) → HoldsTrees f trees below branches pieces → x ≡ one_or concat (drop f.pieces trees) →
     views es ≡ take f.pieces trees ++ x ∷ [] → f.branches ≢ f.pieces → ws ≡ drop f.branches es →
     alt (trees_of (views ws)) ≡ choice (branches ++ one_or concat pieces ∷ [])
 branches_taken f below branches pieces x es ws h e i d w =
@@ -74,7 +74,7 @@ branches_taken f below branches pieces x es ws h e i d w =
 
 -- and below them stands what is around the group
 pub branches_below : (f : Frame) {trees : List Tree} (below branches pieces : List Tree) (x : Tree)
-    (es : List Expr) → Holds f trees below branches pieces → x ≡ one_or concat (drop f.pieces trees) →
+    (es : List Expr) → HoldsTrees f trees below branches pieces → x ≡ one_or concat (drop f.pieces trees) →
     views es ≡ take f.pieces trees ++ x ∷ [] → take f.branches (views es) ≡ below
 branches_below f below branches pieces x es h e i =
     rw (branches_put f below branches pieces (views es) x h e i, h.1)

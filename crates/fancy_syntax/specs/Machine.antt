@@ -159,15 +159,15 @@ abbrev pub Began : Frame → State → Type 0
 Began f s = (f.left ≡ bytes s.rest) × (f.flags ≡ s.flags)
 
 -- where the group's own trees stand among all: above those of the groups around it, its pieces above its branches
-abbrev pub Holds : Frame → (trees below branches pieces : List Tree) → Type 0
-Holds f trees below branches pieces =
+abbrev pub HoldsTrees : Frame → (trees below branches pieces : List Tree) → Type 0
+HoldsTrees f trees below branches pieces =
     (trees ≡ below ++ branches ++ pieces) × (f.branches ≡ length below) × (f.pieces ≡ length (below ++ branches))
 
 -- the open groups of a text that begins at `start`, and the trees that they hold; what is read of the innermost begins
 -- at s, at depth d, and its own trees are not among these
-pub data Levels (n : ℕ) (start : State) : List Frame → List Tree → OpenPart → ℕ → State → Type 0 where
-  outermost : Levels n start [] [] top 0 start
+pub data OpenGroups (n : ℕ) (start : State) : List Frame → List Tree → OpenPart → ℕ → State → Type 0 where
+  outermost : OpenGroups n start [] [] top 0 start
   inner : {d : ℕ} {s t v : State} {p : OpenPart} {all frames : List Frame} {trees below branches pieces : List Tree}
-      (f : Frame) → all ≡ frames ++ f ∷ [] → Holds f trees below branches pieces →
-      Levels n start frames below (part_of f.opener) d s → ReadSoFar n d (part_of f.opener) s branches pieces t →
-      Began f t → ends t.rest ≡ false → Opens n d t p v → Levels n start all trees p (d + 1) v
+      (f : Frame) → all ≡ frames ++ f ∷ [] → HoldsTrees f trees below branches pieces →
+      OpenGroups n start frames below (part_of f.opener) d s → ReadSoFar n d (part_of f.opener) s branches pieces t →
+      Began f t → ends t.rest ≡ false → Opens n d t p v → OpenGroups n start all trees p (d + 1) v

@@ -20,12 +20,11 @@ mod step;
 mod trees;
 
 use crate::expr::Expr;
-use crate::grammar::ahead::is_end;
 use crate::grammar::atom::{leaf_node, literal};
 use crate::grammar::fault::general;
 use crate::grammar::frame::{Frame, Opener};
 use crate::grammar::plain::{plain, plain_escape};
-use crate::grammar::state::State;
+use crate::grammar::state::{State, is_end};
 use crate::grammar::step::{Step, close, read_step};
 use crate::grammar::trees::add;
 use fancy_lex::error::Error;

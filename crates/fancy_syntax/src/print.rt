@@ -62,7 +62,7 @@ impl Expr {
     ///
     /// ```rust
     /// if tree.is_printable(alloc)? {
-    ///     tree.to_str(&mut text, 0)?;
+    ///     tree.to_str(&mut text, WHOLE)?;
     /// }
     /// ```
     pub fn to_str(&self, buf: &mut String, precedence: u8) -> Result<(), AllocError>
@@ -87,12 +87,12 @@ impl Expr {
     }
 
     /// The text that `to_str` appends for the tree at the precedence, or none where the tree is not printable, as
-    /// `is_printable` says. `AllocError` where memory was refused, and no other error. With precedence 0 the text is a
+    /// `is_printable` says. `AllocError` where memory was refused, and no other error. With `WHOLE` the text is a
     /// pattern of its own; the higher ones are for a text that goes into another.
     ///
     /// ```rust
     /// let tree = Expr::parse_tree(alloc, "(?:a|b)c")?;
-    /// match tree.expr.print(alloc, 0)? {
+    /// match tree.expr.print(alloc, WHOLE)? {
     ///     Some(text) => println!(rt; "{text}")?,
     ///     None => println!(rt; "it has no text that is read back")?,
     /// }

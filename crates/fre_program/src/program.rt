@@ -6,7 +6,7 @@ ghost use Rattle.fre_program.specs.Words.{IsWellFormed, OfWords, HasTree, HasFau
 use crate::fault::Fault;
 use crate::flag_word::flags_named;
 use crate::report::{write_marks, write_nodes, write_text};
-use fancy_syntax::{Error, Expr, ExprTree};
+use fancy_syntax::{Error, Expr, ExprTree, WHOLE};
 use std::alloc::{AllocError, Global};
 use std::io::Write;
 
@@ -32,7 +32,7 @@ fn named_by(words: &[String]) -> Option<(u32, &str)>
 fn accept<O: Write>(alloc: Global, out: &mut O, tree: &ExprTree) -> Result<Verdict, Fault>
     ensures { IfOk result (λ verdict. verdict ≡ Verdict.Accepted) }
 {
-    let text = tree.expr.print(alloc, 0)?;
+    let text = tree.expr.print(alloc, WHOLE)?;
     write_nodes(out, &tree.expr, 0)?;
     write_marks(out, tree)?;
     write_text(out, text.as_deref())?;

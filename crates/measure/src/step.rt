@@ -1,7 +1,7 @@
 //! How far a pattern is taken.
 use crate::sample::Sample;
 use anyhow::{Context, Result, bail};
-use fancy_syntax::{Error, Expr};
+use fancy_syntax::{Error, Expr, WHOLE};
 use fre_program::flag_word::flags_named;
 use std::alloc::{AllocError, Global};
 
@@ -49,7 +49,7 @@ impl Step {
     fn amount_of_tree(self, alloc: Global, tree: &Expr) -> Result<usize, AllocError> {
         match self {
             Step::Ask => Ok(usize::from(tree.is_printable(alloc)?)),
-            Step::Print => Ok(tree.print(alloc, 0)?.map_or(0, |text| text.len())),
+            Step::Print => Ok(tree.print(alloc, WHOLE)?.map_or(0, |text| text.len())),
             Step::Decode | Step::Read => Ok(1),
         }
     }

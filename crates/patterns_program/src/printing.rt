@@ -11,6 +11,7 @@ use crate::reading::read;
 use fancy_lex::escape::Assertion;
 use fancy_syntax::error::Error;
 use fancy_syntax::expr::Expr;
+use fancy_syntax::print::WHOLE;
 use std::alloc::{AllocError, Global};
 use std::io::Write;
 
@@ -84,7 +85,7 @@ fn hindrance(alloc: Global, text: &str) -> Result<Option<&'static str>, Fault> {
 
 /// What the tree's pattern is written as.
 fn text_of(alloc: Global, tree: &Expr) -> Result<Text, Fault> {
-    let Some(text) = tree.print(alloc, 0)? else {
+    let Some(text) = tree.print(alloc, WHOLE)? else {
         return Ok(Text::Kept(first_textless(tree).unwrap_or("a repeat of nothing has no text")));
     };
     Ok(match hindrance(alloc, text.as_str())? {

@@ -5,7 +5,7 @@ ghost use Rattle.fancy_syntax.specs.Answer.{IsTreeOf};
 ghost use Rattle.fancy_syntax.specs.Answered.{groups};
 ghost use Rattle.using.specs.Forms.{IsFormOf, HasNoForm};
 
-use fancy_syntax::{Error, Expr, FLAG_UNICODE};
+use fancy_syntax::{Error, Expr, FLAG_UNICODE, WHOLE};
 use std::alloc::Global;
 
 /// The text that the pattern prints as; none where its tree is not printable.
@@ -14,7 +14,7 @@ pub fn formatted(alloc: Global, pattern: &str) -> Result<Option<String>, Error>
         (λ s. IsFormOf (flags_of FLAG_UNICODE) (chars pattern.now) (chars (string_bytes s)))) }
 {
     let tree = Expr::parse_tree_with_flags(alloc, pattern, FLAG_UNICODE)?;
-    Ok(tree.expr.print(alloc, 0)?)
+    Ok(tree.expr.print(alloc, WHOLE)?)
 }
 
 /// How many capturing groups the pattern has.

@@ -475,7 +475,7 @@ set_letter : (c : ℕ) → c ∈ "dDsSwW" ≡ true → c ∈ "dDsSwWtnvfr" ≡ t
 set_letter c h = grind (arith, nat_tests)
 
 pub hex_word : Chunk (codes "0-9A-Fa-f")
-hex_word = word_chunk 48 (codes "-9A-Fa-f") refl refl refl refl
+hex_word = word_chunk (code "0") (codes "-9A-Fa-f") refl refl refl refl
 
 pub escape_fine : (u i : Bool) (n p : ℕ) (t : Text) → all_scalars t ≡ true →
     FineOf (escape n (case_flags u i) true p t)

@@ -22,11 +22,11 @@ use Rattle.fancy_parts.specs.declared.counts.Counts.{Counts}
 use Rattle.fancy_parts.specs.Quote.{range, mark, counts_as, counts_text, quantifier}
 use Rattle.fancy_grammar.proofs.ReadBack.ClearLemmas.{Clear, not_open, no_layout, clear_brace}
 
-digit_is : (c : ℕ) → digit_value c < 10 → (is_ascii_digit c ≡ true) × (c - 48 ≡ digit_value c)
+digit_is : (c : ℕ) → digit_value c < 10 → (is_ascii_digit c ≡ true) × (c - code "0" ≡ digit_value c)
 digit_is c h =
     let r = digit_from_value c h in
     let v = digit_value_digit c r in
-    (and_from _ _ (le-leb 48 c (omega arith)) (le-leb c 57 (omega arith)), omega arith)
+    (and_from _ _ (le-leb (code "0") c (omega arith)) (le-leb c (code "9") (omega arith)), omega arith)
 
 pub all_digits : (ds : Text) → parse.AllDigits 10 ds → AllDigits ds
 all_digits [] h = tt

@@ -9,7 +9,7 @@ use Rattle.std.specs.Option.{option_or}
 use Rattle.std.proofs.Common.{leb-true, leb-false}
 use Prim.Native.Char.{code}
 use Rattle.fancy_lex.specs.Text.{Text, bytes}
-use Rattle.fancy_grammar.specs.Depth.{max_depth}
+use Rattle.fancy_grammar.specs.Depth.{max_depth, most_open}
 use Rattle.fancy_grammar.specs.Printed.{is_long, printed}
 use Rattle.fancy_grammar.specs.Tree.{Tree, Trees, no_trees, more_trees, any, assertion, literal, concat, alt, group}
 use Rattle.fancy_grammar.specs.Tree.{repeat, delegate}
@@ -19,14 +19,14 @@ use Rattle.fancy_grammar.specs.Over.{parens_barred, is_too_deep, over}
 
 -- of a group whose head has so many bytes, where d groups are open round it
 abbrev pub at_open : ℕ → ℕ → ℕ → ℕ
-at_open d width inner = if nat_le 63 d then 0 else width + inner
+at_open d width inner = if nat_le most_open d then 0 else width + inner
 
 -- the same of a group that is there where that is asked
 abbrev pub at_open_if : Bool → ℕ → (ℕ → ℕ) → ℕ
 at_open_if true d inner = at_open d 3 (inner (d + 1))
 at_open_if false d inner = inner d
 
--- the place in the text at p of the first group that opens where 63 are open, d of them round the tree
+-- the place in the text at p of the first group that opens where as many are open as can be, d of them round the tree
 abbrev mutual
   pub place : Tree → ℕ → ℕ → ℕ
   place (concat ts) p d = at_open_if (nat_lt 1 p) d (λ e. places ts e)
@@ -57,19 +57,19 @@ first l = find is_too_deep l
 
 record Finds (k : Parens) (m : ℕ) (o : ℕ → ℕ) : Type 0 where
   deep : (start d : ℕ) → d < max_depth → max_depth ≤ d + m →
-      first (k start d) ≡ Some (record { place = start + o d; round = 63 })
+      first (k start d) ≡ Some (record { place = start + o d; round = most_open })
   shallow : (start d : ℕ) → d + m < max_depth → first (k start d) ≡ None
 
 no_group : Finds no_parens 0 (λ d. 0)
 no_group = record { deep = λ start d l h. absurd (omega arith); shallow = λ start d h. refl }
 
 at_same : (x y : ℕ) → x ≡ y →
-    ◌≡◌ {A = Option Paren} (Some (record { place = x; round = 63 })) (Some (record { place = y; round = 63 }))
-at_same x y e = ap (λ z. Some (record { place = z; round = 63 })) e
+    ◌≡◌ {A = Option Paren} (Some (record { place = x; round = most_open })) (Some (record { place = y; round = most_open }))
+at_same x y e = ap (λ z. Some (record { place = z; round = most_open })) e
 
 -- a group that is too deep
 at_head : (start d : ℕ) (l : List Paren) → d ≡ code "?" →
-    first (record { place = start; round = d } ∷ l) ≡ Some (record { place = start + 0; round = 63 })
+    first (record { place = start; round = d } ∷ l) ≡ Some (record { place = start + 0; round = most_open })
 at_head start d l e =
     let same : start ≡ start + 0 = omega arith in
     cond-true _ _ _ (deep d e) ∙ (λ i. Some (record { place = same i; round = e i }))
@@ -78,20 +78,20 @@ at_head start d l e =
     deep n h = grind (arith, nat_tests)
 
 -- inside a group
-behind_head : (q : Paren) (l : List Paren) → q.round < 63 → first (q ∷ l) ≡ first l
+behind_head : (q : Paren) (l : List Paren) → q.round < most_open → first (q ∷ l) ≡ first l
 behind_head q l h = cond-false _ _ _ (not_deep q.round h)
   where
-    not_deep : (n : ℕ) → n < 63 → (n + 1 == max_depth) ≡ false
+    not_deep : (n : ℕ) → n < most_open → (n + 1 == max_depth) ≡ false
     not_deep n h = grind (arith, nat_tests)
 
 group_deep : (head : Text) (k : Parens) (m : ℕ) (o : ℕ → ℕ) → Finds k m o → (b : Bool) (start d : ℕ) →
-    nat_le 63 d ≡ b → d < max_depth →
+    nat_le most_open d ≡ b → d < max_depth →
     max_depth ≤ d + (1 + m) → first (in_group true head k start d) ≡
-    Some (record { place = start + (if b then 0 else bytes head + o (d + 1)); round = 63 })
+    Some (record { place = start + (if b then 0 else bytes head + o (d + 1)); round = most_open })
 group_deep head k m o f true start d e l h =
-    at_head start d (k (start + bytes head) (d + 1)) (omega (arith, leb-true 63 d e))
+    at_head start d (k (start + bytes head) (d + 1)) (omega (arith, leb-true most_open d e))
 group_deep head k m o f false start d e l h =
-    let more = leb-false 63 d e in
+    let more = leb-false most_open d e in
     behind_head (record { place = start; round = d }) (k (start + bytes head) (d + 1)) more
     ∙ f.deep (start + bytes head) (d + 1) (omega arith) (omega arith)
     ∙ at_same _ _ (omega arith)
@@ -105,7 +105,7 @@ group_shallow head k m o f start d h =
 group_finds : (head : Text) (k : Parens) (m : ℕ) (o : ℕ → ℕ) → Finds k m o →
     Finds (in_group true head k) (1 + m) (λ d. at_open d (bytes head) (o (d + 1)))
 group_finds head k m o f = record {
-  deep = λ start d l h. group_deep head k m o f (nat_le 63 d) start d refl l h;
+  deep = λ start d l h. group_deep head k m o f (nat_le most_open d) start d refl l h;
   shallow = λ start d h. group_shallow head k m o f start d h;
 }
 
@@ -139,7 +139,7 @@ both_find : (k l : Parens) (m n w : ℕ) (o r : ℕ → ℕ) → Finds k m o →
     Finds (λ start d. k start d ++ l (start + w) d) (max m n) (λ d. if nat_le max_depth (d + m) then o d else w + r d)
 both_find k l m n w o r f g = record {
   deep = λ start d h i. cond_both (nat_le max_depth (d + m)) _ _
-      (λ x. first (k start d ++ l (start + w) d) ≡ Some (record { place = start + x; round = 63 }))
+      (λ x. first (k start d ++ l (start + w) d) ≡ Some (record { place = start + x; round = most_open }))
       (λ yes. in_deep (k start d) (l (start + w) d) _ (f.deep start d h (leb-true max_depth (d + m) yes)))
       (λ no. let a = leb-false max_depth (d + m) no in
       behind_shallow (k start d) (l (start + w) d) (f.shallow start d a) ∙ g.deep (start + w) d h (omega arith)

@@ -9,7 +9,7 @@ use Rattle.fancy_lex.specs.declared.escape.Assertion.{Assertion}
 use Rattle.fancy_lex.specs.declared.escape.Assertion.TheVariants.{StartLine, StartLineOniguruma, EndLine}
 use Rattle.fancy_parts.specs.Quote.{quantifier}
 use Rattle.fancy_lex.proofs.TextLemmas.{bytes-append}
-use Rattle.fancy_grammar.specs.Depth.{max_depth}
+use Rattle.fancy_grammar.specs.Depth.{max_depth, most_open}
 use Rattle.fancy_grammar.specs.Grammar.{Alternation, Branches, Pieces, Atom, Faults}
 use Rattle.fancy_grammar.specs.Printed.{is_long, printed}
 use Rattle.fancy_grammar.specs.State.{fault}
@@ -34,7 +34,7 @@ use Rattle.fancy_grammar.proofs.ReadBack.ShapeLemmas.{begins_repeated, clear_put
 
 -- the text that is left at that place
 abbrev left_open : ℕ → Text → Text → Text
-left_open d here inner = if nat_le 63 d then here else inner
+left_open d here inner = if nat_le most_open d then here else inner
 
 abbrev left_if : Bool → ℕ → (Text → Text) → (ℕ → Text → Text) → Text → Text
 left_if true d k inner v = left_open d (open_if true (k (code ")" ∷ v))) (inner (d + 1) (code ")" ∷ v))
@@ -140,9 +140,9 @@ opened : (u : Bool) (n d : ℕ) (t inner : Text) → (d + 1 < max_depth → Atom
     d < max_depth →
     AtomFails u n d (code "(" ∷ t) (left_open d (code "(" ∷ t) inner)
 opened u n d t inner f l =
-    cond_both (nat_le 63 d) (code "(" ∷ t) inner (λ at. AtomFails u n d (code "(" ∷ t) at)
-    (λ yes. let h = leb-true 63 d yes in fails_deep n d (bare u) t (omega arith))
-    (λ no. let h = leb-false 63 d no in f (omega arith))
+    cond_both (nat_le most_open d) (code "(" ∷ t) inner (λ at. AtomFails u n d (code "(" ∷ t) at)
+    (λ yes. let h = leb-true most_open d yes in fails_deep n d (bare u) t (omega arith))
+    (λ no. let h = leb-false most_open d no in f (omega arith))
 
 abbrev wrapped_left : (Text → Text) → (ℕ → Text → Text) → ℕ → Text → Text
 wrapped_left k o d v = left_open d (open_if true (k (code ")" ∷ v))) (o (d + 1) (code ")" ∷ v))
@@ -201,10 +201,10 @@ line_open c false v = (_, refl)
 line_open c true v = (_, refl)
 
 assertion_fails : (u : Bool) (a : Assertion) → HasText a → Fails u (assertion a)
-assertion_fails u (StartLine r) h = by_one u (put_line 94 r) (line_open 94 r) (λ v. begins_assertion (StartLine r) v tt)
+assertion_fails u (StartLine r) h = by_one u (put_line (code "^") r) (line_open (code "^") r) (λ v. begins_assertion (StartLine r) v tt)
 assertion_fails u (StartLineOniguruma r) h =
-    by_one u (put_line 94 r) (line_open 94 r) (λ v. begins_assertion (StartLine r) v tt)
-assertion_fails u (EndLine r) h = by_one u (put_line 36 r) (line_open 36 r) (λ v. begins_assertion (EndLine r) v tt)
+    by_one u (put_line (code "^") r) (line_open (code "^") r) (λ v. begins_assertion (StartLine r) v tt)
+assertion_fails u (EndLine r) h = by_one u (put_line (code "$") r) (line_open (code "$") r) (λ v. begins_assertion (EndLine r) v tt)
 assertion_fails u a h = by_none u (put_assertion a) (λ d v. put_assertion a v)
 
 group_fails : (u : Bool) (t : Tree) → Printable t → Fails u t → Fails u (group t)
@@ -303,7 +303,7 @@ mutual
 
 open_bytes : (d w n : ℕ) (here inner : Text) → w + n + bytes inner ≡ bytes here →
     at_open d w n + bytes (left_open d here inner) ≡ bytes here
-open_bytes d w n here inner e = by_test (nat_le 63 d) where
+open_bytes d w n here inner e = by_test (nat_le most_open d) where
   by_test : (b : Bool) → (if b then 0 else w + n) + bytes (if b then here else inner) ≡ bytes here
   by_test true = omega arith
   by_test false = omega arith

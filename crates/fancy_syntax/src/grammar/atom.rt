@@ -11,10 +11,10 @@ ghost use Rattle.fancy_syntax.specs.Parsed.{state, GivesTree, Sees, IsBelow, Sta
 ghost use Rattle.fancy_syntax.specs.View.{view};
 
 use crate::expr::Expr;
-use crate::grammar::ahead::{Ahead, MAX_DEPTH};
+use crate::grammar::ahead::Ahead;
 use crate::grammar::group::after_paren;
 use crate::grammar::reference::{backref, subroutine_call};
-use crate::grammar::state::State;
+use crate::grammar::state::{MAX_DEPTH, State};
 use fancy_lex::class::{class, push_delegate};
 use fancy_lex::error::{Error, ParseError};
 use fancy_lex::escape::{Assertion, Escaped, escape};

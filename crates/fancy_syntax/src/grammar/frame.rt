@@ -2,7 +2,7 @@
 ghost use Rattle.std.specs.Prelude.{◌≡◌, ◌≤◌, List, [], ◌∷◌, ◌++◌, vec_len, IfOk, OnOk};
 ghost use Rattle.fancy_grammar.specs.Join.{one_or, choice};
 ghost use Rattle.fancy_grammar.specs.Tree.{Tree, concat};
-ghost use Rattle.fancy_syntax.specs.Machine.{Holds};
+ghost use Rattle.fancy_syntax.specs.Machine.{HoldsTrees};
 ghost use Rattle.fancy_syntax.specs.View.{view, views};
 
 use crate::expr::Expr;
@@ -75,11 +75,11 @@ impl<'a> Frame<'a> {
     ) -> Result<(), Error>
         requires { self.old.pieces ≤ vec_len trees.old }
         ensures opener { (below branches pieces : List Tree) →
-            Holds self.old (views trees.old.items) below branches pieces →
+            HoldsTrees self.old (views trees.old.items) below branches pieces →
             OnOk result (part_of self.new.opener ≡ opened_by_bar (part_of self.old.opener) (one_or concat pieces)) }
         ensures trees { (below branches pieces : List Tree) →
-            Holds self.old (views trees.old.items) below branches pieces →
-            OnOk result (Holds self.new (views trees.new.items) below
+            HoldsTrees self.old (views trees.old.items) below branches pieces →
+            OnOk result (HoldsTrees self.new (views trees.new.items) below
             (branches_at_bar (part_of self.old.opener) branches (one_or concat pieces)) []) }
         ensures allowed { IfOk result (λ _. is_second (part_of self.old.opener) ≡ false) }
         ensures fault { (n : _) (t : _) → place ≡ place_of n t →
@@ -101,8 +101,8 @@ impl<'a> Frame<'a> {
         requires { self.old.pieces ≤ vec_len trees.old }
         ensures opener { self.new.opener ≡ self.old.opener }
         ensures trees { (below branches pieces : List Tree) →
-            Holds self.old (views trees.old.items) below branches pieces →
-            OnOk result (Holds self.new (views trees.new.items) below (branches ++ one_or concat pieces ∷ []) []) }
+            HoldsTrees self.old (views trees.old.items) below branches pieces →
+            OnOk result (HoldsTrees self.new (views trees.new.items) below (branches ++ one_or concat pieces ∷ []) []) }
     {
         let branch = take_branch(trees, self.pieces)?;
         push(trees, branch)?;
@@ -116,10 +116,10 @@ impl<'a> Frame<'a> {
         requires pieces { self.pieces ≤ vec_len trees.old }
         ensures opener { IfOk result (λ p. p.0 ≡ self.entry.opener) }
         ensures tree { (below branches pieces : List Tree) →
-            Holds self.entry (views trees.old.items) below branches pieces →
+            HoldsTrees self.entry (views trees.old.items) below branches pieces →
             IfOk result (λ p. view p.1 ≡ choice (branches ++ one_or concat pieces ∷ [])) }
         ensures below { (below branches pieces : List Tree) →
-            Holds self.entry (views trees.old.items) below branches pieces →
+            HoldsTrees self.entry (views trees.old.items) below branches pieces →
             OnOk result (views trees.new.items ≡ below) }
     {
         let Frame {

@@ -15,10 +15,10 @@ ghost use Rattle.fancy_grammar.specs.Verb as verbs;
 pub(crate) mod head;
 
 use crate::expr::{BacktrackingControlVerb, Expr, LookAround};
-use crate::grammar::ahead::{Ahead, skip_layout};
+use crate::grammar::ahead::Ahead;
 use crate::grammar::group::head::Head;
 use crate::grammar::reference::{backref, condition, subroutine_call};
-use crate::grammar::state::State;
+use crate::grammar::state::{State, skip_layout};
 use fancy_lex::error::{Error, ParseError};
 use fancy_lex::text::{after, after_word, next, place};
 use fancy_parts::heads::names::group_name;

@@ -8,8 +8,7 @@ ghost use Rattle.fancy_syntax.specs.Parsed.{state, suffix_of, Turns, GivesSuffix
 ghost use Rattle.fancy_syntax.specs.View.{view};
 
 use crate::expr::Expr;
-use crate::grammar::ahead::{MAX_DEPTH, skip_layout};
-use crate::grammar::state::State;
+use crate::grammar::state::{MAX_DEPTH, State, skip_layout};
 use crate::grammar::trees::is_empty;
 use fancy_lex::error::{Error, ParseError};
 use fancy_lex::flags::Flags;

@@ -15,7 +15,7 @@ ghost use Rattle.fancy_grammar.specs.Tree.{Tree};
 ghost use Rattle.fancy_syntax.specs.View.{view};
 
 use crate::expr::{Absent, Expr};
-use crate::grammar::ahead::{Ahead, skip_layout};
+use crate::grammar::ahead::Ahead;
 use crate::grammar::atom::read_atom_start;
 use crate::grammar::conditional::{branches_of, clear_or_stopper, conditional, is_condition};
 use crate::grammar::fault::general;
@@ -23,7 +23,7 @@ use crate::grammar::frame::Opener;
 use crate::grammar::group::head::node;
 use crate::grammar::plain::is_unquantified;
 use crate::grammar::quantified::quantify;
-use crate::grammar::state::State;
+use crate::grammar::state::{State, skip_layout};
 use fancy_lex::error::{Error, ParseError};
 use fancy_lex::flags::Flags;
 use fancy_lex::text::{byte_len, next, place};

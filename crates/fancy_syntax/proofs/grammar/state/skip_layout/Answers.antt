@@ -4,7 +4,7 @@ use Rattle.fancy_lex.specs.Text.{EndsWith}
 use Rattle.fancy_lex.specs.declared.error.Error.{Error}
 use Rattle.fancy_lex.proofs.TextLemmas.{cut_nothing}
 use Rattle.fancy_syntax.specs.Parsed.{IsUnmoved}
-use Rattle.fancy_syntax.proofs.grammar.ahead.skip_layout.Goals as goal
+use Rattle.fancy_syntax.proofs.grammar.state.skip_layout.Goals as goal
 
 unmoved : (t : List ℕ) (r : Result (Bor (List ℕ)) Error) → IsUtf8 t → IfOk r (λ u. IsUtf8 u.now) →
     IfOk r (λ u. EndsWith (chars t) (chars u.now)) → IfOk r (λ u. IsUnmoved t u.now)
