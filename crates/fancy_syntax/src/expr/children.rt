@@ -35,8 +35,7 @@ impl Expr {
     /// absent expression what must not stand and what has to. What an `AstNode` holds is no child. It takes no memory.
     ///
     /// ```rust
-    /// let mut children = tree.children_iter();
-    /// while let Some(child) = children.next() {
+    /// for child in tree.children_iter() {
     ///     visit(child);
     /// }
     /// ```
