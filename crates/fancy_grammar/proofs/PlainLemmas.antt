@@ -97,15 +97,15 @@ unquantified s c t n d left a e x h =
     subst (λ u. quants n d left a (at s u) ≡ done a (at s u)) (sym e)
     (no_quants n d left a (at s (c ∷ t)) (λ l. no_quant n l c a s t x h))
 
-pub is_plain : (s : State) (c d : ℕ) (t u : Text) → is_layout s.flags.ignore_space c ≡ false →
+pub is_plain : (n : ℕ) (s : State) (c d : ℕ) (t u : Text) → is_layout s.flags.ignore_space c ≡ false →
     is_layout s.flags.ignore_space d ≡ false →
     s.rest ≡ c ∷ t → t ≡ d ∷ u → is_special c ≡ false → is_suffix d ≡ false →
-    IsPlain s (literal (c ∷ []) s.flags.casei) t
-is_plain s c d t u x y e f h k = record {
+    IsPlain n s (literal (c ∷ []) s.flags.casei) t
+is_plain n s c d t u x y e f h k = record {
   more = ap ends e ∙ no_end c t h;
-  piece = λ m b. piece (rw e (no_layout m c s.flags.ignore_space t (not_open c h) x))
-      (atom (is_leaf m b c s t h) a_leaf refl)
-      (rw f (no_quants m b _ _ (at s (d ∷ u)) (λ l. no_quant m l d _ s u y k)));
+  piece = λ b. piece (rw e (no_layout n c s.flags.ignore_space t (not_open c h) x))
+      (atom (is_leaf n b c s t h) a_leaf refl)
+      (rw f (no_quants n b _ _ (at s (d ∷ u)) (λ l. no_quant n l d _ s u y k)));
 }
 
 backslash_no_layout : (x : Bool) → is_layout x backslash ≡ false
@@ -113,17 +113,17 @@ backslash_no_layout true = refl
 backslash_no_layout false = refl
 
 is_escape : (n d : ℕ) (s : State) (t u : Text) (e : Escape) →
-    ((m q : ℕ) → escape m s.flags false q t ≡ gives e u) →
+    ((q : ℕ) → escape n s.flags false q t ≡ gives e u) →
     ahead n d (at s (backslash ∷ t)) ≡ leaf (done (leaf_node e) (at s u))
 unfolding ahead
-is_escape n d s t u e h = ap (λ o. leaf (leaf_outcome leaf_node s o)) (h n (place_of n (backslash ∷ t)))
+is_escape n d s t u e h = ap (λ o. leaf (leaf_outcome leaf_node s o)) (h (place_of n (backslash ∷ t)))
 
-pub is_plain_escape : (s : State) (t u : Text) (e : Escape) → s.rest ≡ backslash ∷ t →
-    ((m q : ℕ) → escape m s.flags false q t ≡ gives e u) →
-    ((n d left : ℕ) (a : Tree) → quants n d left a (at s u) ≡ done a (at s u)) → IsPlain s (leaf_node e) u
-is_plain_escape s t u e i h q = record {
+pub is_plain_escape : (n : ℕ) (s : State) (t u : Text) (e : Escape) → s.rest ≡ backslash ∷ t →
+    ((q : ℕ) → escape n s.flags false q t ≡ gives e u) →
+    ((n d left : ℕ) (a : Tree) → quants n d left a (at s u) ≡ done a (at s u)) → IsPlain n s (leaf_node e) u
+is_plain_escape n s t u e i h q = record {
   more = ap ends i;
-  piece = λ m b. piece (rw i (no_layout m backslash s.flags.ignore_space t refl
+  piece = λ b. piece (rw i (no_layout n backslash s.flags.ignore_space t refl
       (backslash_no_layout s.flags.ignore_space)))
-      (atom (is_escape m b s t u e h) a_leaf refl) (q m b _ _);
+      (atom (is_escape n b s t u e h) a_leaf refl) (q n b _ _);
 }

@@ -2,11 +2,15 @@
 use Rattle.std.proofs.Common.{◌≡◌, ℕ, Bool, [], ◌∷◌, Option, Some, None, refl, ap, sym, ◌∙◌}
 use Rattle.fancy_lex.specs.declared.flags.Flags.{Flags}
 use Rattle.fancy_lex.specs.Characters.{◌∈◌}
-use Rattle.fancy_lex.specs.Escape.{property, unknown_escape}
+use Rattle.fancy_lex.specs.Delimited.{marked_name}
+use Rattle.fancy_lex.specs.Escape.{call, property, unknown_escape}
+use Rattle.fancy_lex.specs.EscapeReference.{marked_call, subroutine_call}
+use Rattle.fancy_lex.specs.Escaped as leaf
 use Rattle.fancy_lex.specs.Escaped.{delegate}
 use Rattle.fancy_lex.specs.Fault.{unclosed_unicode_name}
 use Rattle.fancy_lex.specs.Property.{Property, read_property, name_at, property_text}
 use Rattle.fancy_lex.specs.Reading.{gives, fault_at}
+use Rattle.fancy_lex.specs.Referred.{Call}
 use Rattle.fancy_lex.specs.Text.{Text}
 
 module _ (f : Flags) (inside : Bool) (p c : ℕ) (t : Text) where
@@ -29,5 +33,12 @@ property_read f inside p c [] q v h = absurd (nothing h) where
   nothing : {A : Type 0} {a : A} → ◌≡◌ {A = Option A} None (Some a) → ⊥
   nothing h = cc
 property_read f inside p c (d ∷ r) q v h = rw h refl
+
+-- a call behind its letter
+pub call_is : (n p c : ℕ) (t : Text) (k : Call) (v : Text) → subroutine_call n t ≡ gives k v →
+    call n p c t ≡ gives (leaf.subroutine_call k) v
+unfolding call subroutine_call marked_call marked_name
+call_is n p c [] k v e = absurd cc
+call_is n p c (d ∷ t) k v e = rw e refl
 
 pub ruleset property_steps = (property_end, property_unclosed, property_read)

@@ -9,6 +9,7 @@ pub mod LayoutLaws
 pub mod NumberLemmas
 pub mod NumberTextLaws
 mod IdLemmas
+mod AsciiLemmas
 pub mod IdReferenceLaws
 pub mod DelimitedLaws
 pub mod ReferenceLaws

@@ -36,6 +36,11 @@ pub number_some : (t : Text) → at_digit t ≡ true → number t ≡ Some (run 
 unfolding number
 number_some t e = rw e refl
 
+pub number_of_one_digit : (t : Text) (d : ℕ) (r : Text) → t ≡ (d + 48) ∷ r → d < 10 → at_digit r ≡ false →
+    number t ≡ Some (d, r)
+number_of_one_digit t d r e h stop =
+    number_some t (at_digit_is t d r e h) ∙ ap Some (run_first t d r e h ∙ run_stop d r stop)
+
 run_digits : (n : ℕ) (w v : Text) → AllDigits w → run n (w ++ v) ≡ run (value_after n w) v
 unfolding run
 run_digits n [] v h = refl

@@ -166,12 +166,24 @@ fn number_escape(
         group_number(text, end)?;
         return Err(Error::ParseError(place, ParseError::InvalidClass));
     }
+    numbered(text, flags, end)
+}
+
+/// Reads a back reference in digits.
+#[inline(always)]
+fn numbered(text: &str, flags: Flags, end: usize) -> Result<(Escaped<'_>, &str), Error>
+    requires { length text.now ≤ end }
+    ensures value { Reads escape_of result
+        (spec.backref_leaf flags (references.numbered_reference end (chars text.now))) }
+    ensures shorter { IfOk result (λ p. length p.1.now < length text.now) }
+{
     let (reference, rest) = numbered_reference(text, end)?;
     let casei = flags.casei;
     Ok((Escaped::Backref { reference, casei }, rest))
 }
 
 /// Reads a named back reference, behind its letter.
+#[inline(always)]
 fn named(text: &str, flags: Flags, end: usize) -> Result<(Escaped<'_>, &str), Error>
     requires { length text.now ≤ end }
     ensures value { Reads escape_of result (spec.backref_leaf flags (references.back_reference end (chars text.now))) }
@@ -396,13 +408,28 @@ fn read_escape<'a>(
     }
 }
 
-/// The escape at the front, behind a backslash outside a class, where a look ahead reads all of it, and what follows
-/// it: a character alone, a code of so many digits with no layout before them, or a property of one character.
+/// The call at the front, behind its letter, where it reads.
 #[inline(always)]
-#[tactic(auto, unfolding(crate::specs::Escape::escape, crate::specs::Escape::outside))]
-pub fn short_escape(text: &str, flags: Flags) -> Option<(Escaped<'static>, &str)>
-    ensures value { IfSome result (λ p. (n q : ℕ) →
-        spec.escape n flags false q (chars text.now) ≡ gives (escape_of p.0) (chars p.1.now)) }
+#[tactic(auto, using(crate::proofs::EscapeLemmas::call_is))]
+fn short_call(text: &str, end: usize) -> Option<(Escaped<'_>, &str)>
+    requires { length text.now ≤ end }
+    ensures value { IfSome result (λ p. (q c : ℕ) →
+        spec.call end q c (chars text.now) ≡ gives (escape_of p.0) (chars p.1.now)) }
+    ensures shorter { IfSome result (λ p. length p.1.now < length text.now) }
+{
+    let (call, rest) = subroutine_call(text, end).ok()?;
+    Some((Escaped::SubroutineCall(call), rest))
+}
+
+/// The escape at the front, behind a backslash outside a class in a pattern of `end` bytes, where a look ahead reads
+/// all of it, and what follows it: a character alone, a code of so many digits with no layout before them, a property
+/// of one character, a reference or a call.
+#[inline(always)]
+#[tactic(auto, unfolding(crate::specs::Escape::escape, crate::specs::Escape::outside, crate::specs::Escape::number_escape))]
+pub fn short_escape(text: &str, flags: Flags, end: usize) -> Option<(Escaped<'_>, &str)>
+    requires { length text.now ≤ end }
+    ensures value { IfSome result (λ p. (q : ℕ) →
+        spec.escape end flags false q (chars text.now) ≡ gives (escape_of p.0) (chars p.1.now)) }
     ensures shorter { IfSome result (λ p. length p.1.now < length text.now) }
 {
     let (c, rest) = next(text)?;
@@ -413,8 +440,9 @@ pub fn short_escape(text: &str, flags: Flags) -> Option<(Escaped<'static>, &str)
         'u' => return short_hex(rest, 4, flags),
         'U' => return short_hex(rest, 8, flags),
         'p' | 'P' => return short_property(rest, c, flags),
-        // A reference, which is known by what follows: so much is said at once.
-        '0'..='9' | 'g' | 'k' => return None,
+        '0'..='9' => return numbered(text, flags, end).ok(),
+        'k' => return named(rest, flags, end).ok(),
+        'g' => return short_call(rest, end),
         _ => lone_escape(c, flags, false)?,
     };
     Some((leaf, rest))

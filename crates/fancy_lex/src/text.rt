@@ -7,7 +7,7 @@ ghost use Rattle.fancy_lex.specs.Views.{parts};
 use std::alloc::AllocError;
 
 /// The first character, and what follows it.
-#[inline]
+#[inline(always)]
 pub fn next(text: &str) -> Option<(char, &str)>
     ensures value { MatchOption result (chars text.now ≡ []) (λ p. chars text.now ≡ p.0 ∷ chars p.1.now) }
     ensures shorter { MatchOption result (length text.now ≡ 0) (λ p. length p.1.now < length text.now) }

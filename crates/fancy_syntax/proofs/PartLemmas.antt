@@ -1,11 +1,10 @@
 -- The items of the nodes that have several children.
-use Rattle.std.proofs.Common.{◌≡◌, ◌+◌, ◌≤◌, ◌++◌, ◌||◌, List, Bool, arith, length, ap, sym, ◌∙◌, rules, Box, Global}
+use Rattle.std.proofs.Common.{◌≡◌, ◌+◌, ◌≤◌, ◌++◌, ◌||◌, List, Bool, arith, length, ap, sym, ◌∙◌, rules, Option, Box, Global}
 use Rattle.fancy_lex.specs.declared.error.Error.{Error}
 use Rattle.fancy_parts.specs.Groups.{Groups}
-use Rattle.fancy_grammar.specs.Errors.{IsErrorIn}
 use Rattle.fancy_grammar.specs.Items.{Item, items, items_absent, openings_in}
 use Rattle.fancy_grammar.specs.Tree.{conditional, expression}
-use Rattle.fancy_syntax.specs.Notes.{has_items}
+use Rattle.fancy_syntax.specs.Notes.{has_items, IsErrorNoted}
 use Rattle.fancy_syntax.specs.View.{view, view_absent}
 use Rattle.fancy_grammar.specs.Walk.{Known, Progress, found, noted}
 use Rattle.fancy_syntax.specs.declared.expr.Absent.{Absent, Expression}
@@ -100,12 +99,12 @@ third_noted {x} {y} k r s t p e f = omega (arith, three_noted k r s p e, noted_l
 
 -- the error of a walk over one of the parts is that of the walk over all
 
-pub three_error : {l : List Item} {x y z : Expr} (k : Known) (r : Progress) (e : Error) → Three l x y z →
-    IsErrorIn e (noted k r (items (view x))).fault → IsErrorIn e (noted k r l).fault
+pub three_error : {l : List Item} {x y z : Expr} (k : Known) (r : Progress) (e : Option Error) → Three l x y z →
+    IsErrorNoted e (noted k r (items (view x))).fault → IsErrorNoted e (noted k r l).fault
 three_error {x} k r e p h = rw p.is (error_kept k r e (items (view x)) _ h)
 
-pub third_error : {l : List Item} {x y z : Expr} (k : Known) (r s : Progress) (e : Error) → Three l x y z →
-    s ≡ noted k r (items (view x)) → IsErrorIn e (noted k s (items (view y))).fault → IsErrorIn e (noted k r l).fault
+pub third_error : {l : List Item} {x y z : Expr} (k : Known) (r s : Progress) (e : Option Error) → Three l x y z →
+    s ≡ noted k r (items (view x)) → IsErrorNoted e (noted k s (items (view y))).fault → IsErrorNoted e (noted k r l).fault
 third_error {x} {y} {z} k r s e p f h =
     rw (p.is, noted_append k r (items (view x)) _, ← f) (error_kept k s e (items (view y)) (items (view z)) h)
 

@@ -1,6 +1,6 @@
 -- Walks over parts, one behind another.
 use Rattle.std.proofs.Common.{◌≡◌, ℕ, ◌+◌, ◌<◌, ◌≤◌, List, ◌++◌, Bool, true, false, length, refl, ap}
-use Rattle.std.proofs.Common.{◌∙◌, [], ◌∷◌, drop, drop-cons, get_or, add-one, take, set, sym, arith, zero, suc, Some}
+use Rattle.std.proofs.Common.{◌∙◌, [], ◌∷◌, drop, drop-cons, get_or, add-one, take, set, sym, arith, zero, suc, Option, Some, None}
 use Rattle.std.proofs.lemmas.Grind.{take-set_at}
 use Rattle.std.proofs.lemmas.List.{take_all}
 use Rattle.std.proofs.lemmas.List.{drop_all}
@@ -11,9 +11,9 @@ use Rattle.fancy_lex.specs.declared.error.Error.TheVariants.{ParseError, OutOfMe
 use Rattle.fancy_parts.specs.Groups.{Groups, with_opening}
 use Rattle.fancy_parts.specs.Ranks.{Opening, is_counted}
 use Rattle.fancy_grammar.proofs.ItemLemmas.{length_openings}
-use Rattle.fancy_grammar.specs.Errors.{IsErrorIn}
 use Rattle.fancy_grammar.specs.Items.{Item, opening, reference, items, items_all, openings_in}
 use Rattle.fancy_grammar.specs.Tree.{Tree, trees_of, more_trees}
+use Rattle.fancy_syntax.specs.Notes.{IsErrorNoted}
 use Rattle.fancy_syntax.specs.View.{view, views}
 use Rattle.fancy_syntax.specs.declared.expr.Expr.{Expr}
 use Rattle.fancy_grammar.specs.Walk.{found, find_item, Known, Progress, noted, note_item, rebuilt, rebuilt_all}
@@ -31,11 +31,12 @@ fault_kept k s f [] h = h
 fault_kept k s f (opening o ∷ l) h = fault_kept k (note_item k s (opening o)) f l h
 fault_kept k s f (reference r ∷ l) h = fault_kept k (note_item k s (reference r)) f l (rw h refl)
 
-pub error_kept : (k : Known) (s : Progress) (e : Error) (a b : List Item) → IsErrorIn e (noted k s a).fault →
-    IsErrorIn e (noted k s (a ++ b)).fault
-error_kept k s (ParseError place kind) a b h =
+pub error_kept : (k : Known) (s : Progress) (e : Option Error) (a b : List Item) →
+    IsErrorNoted e (noted k s a).fault → IsErrorNoted e (noted k s (a ++ b)).fault
+error_kept k s None a b h = h
+error_kept k s (Some (ParseError place kind)) a b h =
     ap (λ (q : Progress). q.fault) (noted_append k s a b) ∙ fault_kept k (noted k s a) _ b h
-error_kept k s OutOfMemory a b h = tt
+error_kept k s (Some OutOfMemory) a b h = tt
 
 -- a walk passes at most as many groups as there are openings
 

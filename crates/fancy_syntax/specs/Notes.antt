@@ -1,6 +1,7 @@
 -- How the resolver's own values stand to the definitions.
 use Rattle.std.specs.Prelude.{◌≡◌, ℕ, ◌||◌, Bool, true, false, List, [], ◌∷◌, Option, Some, None, chars}
 use Rattle.std.specs.Prelude.{Result, MatchResult}
+use Rattle.fancy_lex.specs.Fault.{Fault}
 use Rattle.fancy_lex.specs.Target.{view_target}
 use Rattle.fancy_lex.specs.declared.error.Error.{Error}
 use Rattle.fancy_lex.specs.declared.name.CaptureGroupTarget.{CaptureGroupTarget}
@@ -18,6 +19,7 @@ use Rattle.fancy_syntax.specs.View.{view}
 use Rattle.fancy_syntax.specs.declared.expr.Expr.{Expr}
 use Rattle.fancy_syntax.specs.declared.resolve.notes.Known.{Known}
 use Rattle.fancy_syntax.specs.declared.resolve.notes.Progress.{Progress}
+use Rattle.fancy_syntax.specs.declared.resolve.notes.Stopped.{Stopped}
 
 -- whether a capturing group or a reference is there
 abbrev pub has_items : List Item → Bool
@@ -39,12 +41,17 @@ progress_of p = record {
   fault = None;
 }
 
+-- the error that a walk noted where it stopped is this fault, or that memory ran out
+abbrev pub IsErrorNoted : Option Error → Option Fault → Type 0
+IsErrorNoted None o = ⊥
+IsErrorNoted (Some e) o = IsErrorIn e o
+
 -- the walk goes over the items to their end, and then P holds of the answer; or it stops at their first fault
-abbrev pub Walks : {A : Type 0} → Result A Error → walk.Known → walk.Progress → List Item → walk.Progress →
+abbrev pub Walks : {A : Type 0} → Result A Stopped → walk.Known → walk.Progress → List Item → Progress →
     (A → Type 0) → Type 0
 Walks r k before l after P =
     let end = walk.noted k before l in
-    MatchResult r (λ a. P a × (after ≡ end)) (λ e. IsErrorIn e end.fault)
+    MatchResult r (λ a. P a × (progress_of after ≡ end)) (λ _. IsErrorNoted after.error end.fault)
 
 -- the tree is a node as it is read: a capturing group, or a reference
 abbrev pub is_node_read : Tree → Bool

@@ -65,7 +65,7 @@ fn alternation<'a>(alloc: Global, start: State<'a>, end: usize) -> Result<(Expr,
             let leaf = literal(alloc, c, here.flags.casei)?;
             add(&mut trees, leaf)?;
             here.rest = rest;
-        } else if let Some((escaped, rest)) = plain_escape(here) {
+        } else if let Some((escaped, rest)) = plain_escape(here, end) {
             let leaf = leaf_node(alloc, escaped)?;
             add(&mut trees, leaf)?;
             here.rest = rest;

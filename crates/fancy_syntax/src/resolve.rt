@@ -97,7 +97,9 @@ fn walk(alloc: Global, tree: &mut Expr, known: &Known, met: bool) -> Result<Prog
 {
     let mut progress = Progress::new(alloc);
     if met {
-        rewrite(tree, known, &mut progress)?;
+        let Ok(()) = rewrite(tree, known, &mut progress) else {
+            return Err(progress.into_error());
+        };
     }
     Ok(progress)
 }

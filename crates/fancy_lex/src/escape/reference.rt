@@ -17,6 +17,7 @@ use crate::text::{next, place};
 
 /// Reads all the digits at the front, which number a group, in a pattern of `end` bytes. The fault is InvalidBackref at
 /// the text's place, where no digit stands there, or no word holds the number.
+#[inline(always)]
 #[tactic(auto, unfolding(crate::specs::EscapeReference::group_number))]
 pub(crate) fn group_number(text: &str, end: usize) -> Result<(usize, &str), Error>
     requires { length text.now ≤ end }
@@ -33,6 +34,7 @@ pub(crate) fn group_number(text: &str, end: usize) -> Result<(usize, &str), Erro
 
 /// Reads a back reference in digits, behind its backslash in a pattern of `end` bytes. Its place is that of the first
 /// digit. The fault is InvalidBackref at the text's place, where no digit stands there, or no word holds the number.
+#[inline(always)]
 #[tactic(auto, unfolding(crate::specs::EscapeReference::numbered_reference))]
 pub fn numbered_reference(text: &str, end: usize) -> Result<(Reference<'_>, &str), Error>
     requires { length text.now ≤ end }
@@ -53,6 +55,7 @@ pub fn numbered_reference(text: &str, end: usize) -> Result<(Reference<'_>, &str
 
 /// Reads a back reference behind `\k`, in a pattern of `end` bytes: an id reference between `<` and `>` or between two
 /// `'`. Its place is that of the opening mark, and so is that of the fault: InvalidGroupName where it does not read.
+#[inline(always)]
 #[tactic(auto, unfolding(crate::specs::EscapeReference::back_reference))]
 pub fn back_reference(text: &str, end: usize) -> Result<(Reference<'_>, &str), Error>
     requires { length text.now ≤ end }
@@ -91,6 +94,7 @@ fn call_target(name: &str) -> Option<Target<'_>>
 }
 
 /// Reads a call in digits.
+#[inline(always)]
 #[tactic(auto, unfolding(crate::specs::EscapeReference::numbered_call))]
 fn numbered_call(text: &str, end: usize) -> Result<(Call<'_>, &str), Error>
     requires { length text.now ≤ end }
@@ -104,6 +108,7 @@ fn numbered_call(text: &str, end: usize) -> Result<(Call<'_>, &str), Error>
 }
 
 /// The call by this name at the place; none where the name is relative and no id reference.
+#[inline(always)]
 #[tactic(auto, unfolding(crate::specs::EscapeReference::written_call))]
 fn written_call(name: &str, place: usize) -> Option<Call<'_>>
     ensures value { spec.written_call place (chars name.now) ≡ option_map view_call result }
@@ -113,6 +118,7 @@ fn written_call(name: &str, place: usize) -> Option<Call<'_>>
 }
 
 /// Reads a call between marks.
+#[inline(always)]
 #[tactic(auto, unfolding(crate::specs::EscapeReference::marked_call))]
 fn marked_call(text: &str, place: usize) -> Option<(Call<'_>, &str)>
     ensures value { spec.marked_call place (chars text.now) ≡ option_map (view_read view_call) result }
@@ -136,6 +142,7 @@ fn is_at_digit(text: &str) -> bool
 /// between two `'`. Its place is that of the first digit or of the opening mark, and so is that of the fault:
 /// InvalidBackref for digits whose number no word holds; InvalidGroupName where no name reads, or where one that is
 /// relative is no id reference.
+#[inline(always)]
 #[tactic(auto, unfolding(crate::specs::EscapeReference::subroutine_call))]
 pub fn subroutine_call(text: &str, end: usize) -> Result<(Call<'_>, &str), Error>
     requires { length text.now ≤ end }

@@ -1,12 +1,12 @@
 //! Numbers: the digits at the front of a text.
-ghost use Rattle.std.specs.Prelude.{◌≡◌, ℕ, ◌+◌, ◌*◌, ◌<◌, ◌∷◌, length, chars, IfSome, MatchOption, false, IsSome, List};
+ghost use Rattle.std.specs.Prelude.{◌≡◌, ℕ, ◌+◌, ◌*◌, ◌<◌, ◌∷◌, length, chars, IfSome, MatchOption, false, IsSome, List, Some};
 ghost use Rattle.fancy_lex.specs.Number as spec;
 ghost use Rattle.fancy_lex.specs.Views.{GivesNumber};
 
 use crate::text::next;
 
 /// The value of the digit at the front, and what follows it.
-#[inline]
+#[inline(always)]
 fn digit(text: &str) -> Option<(usize, &str)>
     ensures value { MatchOption result (spec.at_digit (chars text.now) ≡ false)
         (λ p. (chars text.now ≡ spec.digit_code p.0 ∷ chars p.1.now) × (p.0 < 10)) }
@@ -29,9 +29,22 @@ fn with_digit(value: Option<usize>, digit: usize) -> Option<usize>
     value?.checked_mul(10)?.checked_add(digit)
 }
 
+/// The number at the front where it is one digit, which most numbers are, and what follows it.
+#[inline(always)]
+fn short_number(text: &str) -> Option<(usize, &str)>
+    ensures value { IfSome result (λ p. spec.number (chars text.now) ≡ Some (p.0, chars p.1.now)) }
+    ensures shorter { IfSome result (λ p. length p.1.now < length text.now) }
+{
+    let (value, rest) = digit(text)?;
+    match digit(rest) {
+        Some(_) => None,
+        None => Some((value, rest)),
+    }
+}
+
 /// Reads the digits at the front.
 #[tactic(auto, using(crate::proofs::NumberLemmas::number_steps))]
-fn read_number(text: &str) -> Option<(Option<usize>, &str)>
+fn read_digits(text: &str) -> Option<(Option<usize>, &str)>
     ensures value { GivesNumber (chars text.now) result }
     ensures shorter { IfSome result (λ p. length p.1.now < length text.now) }
 {
@@ -44,8 +57,20 @@ fn read_number(text: &str) -> Option<(Option<usize>, &str)>
     Some((value, rest))
 }
 
+/// Reads the number at the front.
+#[inline(always)]
+fn read_number(text: &str) -> Option<(Option<usize>, &str)>
+    ensures value { GivesNumber (chars text.now) result }
+    ensures shorter { IfSome result (λ p. length p.1.now < length text.now) }
+{
+    match short_number(text) {
+        Some((value, rest)) => Some((Some(value), rest)),
+        None => read_digits(text),
+    }
+}
+
 /// Reads the digits at the front: their value, where a word holds it, and the text after them.
-#[inline]
+#[inline(always)]
 pub fn number(text: &str) -> Option<(Option<usize>, &str)>
     ensures value { GivesNumber (chars text.now) result }
     ensures derives { IfSome result

@@ -6,6 +6,7 @@ use crate::name::number::number;
 use crate::text::{after, next};
 
 /// The number that all of the text writes in ASCII digits, where a word holds it.
+#[inline(always)]
 #[tactic(auto, unfolding(crate::specs::NumberText::whole_number))]
 pub(crate) fn whole_number(text: &str) -> Option<usize>
     ensures value { spec.whole_number (chars text.now) ≡ result }
@@ -16,6 +17,7 @@ pub(crate) fn whole_number(text: &str) -> Option<usize>
 
 /// The value of a number text, which is ASCII digits of a number that a word holds, and before them nothing or a plus.
 /// None for any other text.
+#[inline(always)]
 #[tactic(auto, unfolding(crate::specs::NumberText::number_text))]
 pub fn number_text(text: &str) -> Option<usize>
     ensures value { spec.number_text (chars text.now) ≡ result }

@@ -56,6 +56,7 @@ pub struct Call<'a> {
 }
 
 /// The group that a name means: that of the number where it is a number text, or else the one of that name.
+#[inline(always)]
 #[tactic(auto, unfolding(crate::specs::Referred::target_of_name))]
 pub fn target_of_name(name: &str) -> Target<'_>
     ensures { spec.target_of_name (chars name.now) ≡ spec.view_borrowed result }
@@ -67,6 +68,7 @@ pub fn target_of_name(name: &str) -> Target<'_>
 }
 
 /// The reference at the place that an id reference says: an amount alone is relative, and one behind an id is a level.
+#[inline(always)]
 #[tactic(auto, unfolding(crate::specs::Referred::reference_of))]
 fn reference_of(written: IdReference<'_>, place: usize) -> Reference<'_>
     ensures { spec.reference_of place (id_spec.view_id_reference written.entry) ≡ spec.view_reference result }
@@ -84,6 +86,7 @@ fn reference_of(written: IdReference<'_>, place: usize) -> Reference<'_>
 }
 
 /// The reference at the place that all of the text writes, where it is an id reference; `amounts` allows amounts.
+#[inline(always)]
 #[tactic(auto, unfolding(crate::specs::Referred::written_reference))]
 fn written_reference(text: &str, amounts: bool, place: usize) -> Option<Reference<'_>>
     ensures value { spec.written_reference place amounts (chars text.now) ≡ option_map spec.view_reference result }
@@ -94,6 +97,7 @@ fn written_reference(text: &str, amounts: bool, place: usize) -> Option<Referenc
 
 /// The reference at the place that the name writes, and the text behind it, where one was found; `amounts` allows
 /// amounts. The fault is InvalidGroupName at the place, where no name was found, or one that is no id reference.
+#[inline(always)]
 #[tactic(auto, unfolding(crate::specs::Referred::reference_by_name))]
 pub fn reference_by_name<'a>(
     name: Option<(&'a str, &'a str)>,

@@ -1,16 +1,18 @@
 //! What the second walk knows, and what it notes of each reference.
-ghost use Rattle.std.specs.Prelude.{◌≡◌, ◌<◌, ◌^◌, IfOk, IfErr};
+ghost use Rattle.std.specs.Prelude.{◌≡◌, ◌<◌, ◌^◌, IfOk, IfErr, Option, Some};
+ghost use Rattle.fancy_lex.specs.Fault.{Fault};
 ghost use Rattle.fancy_parts.specs.Groups.{meaning_of};
 ghost use Rattle.fancy_grammar.specs.Errors.{IsErrorIn};
-ghost use Rattle.fancy_syntax.specs.Notes.{progress_of, number_meant, noted_one, form_noted, meaning_noted};
+ghost use Rattle.fancy_syntax.specs.Notes.{IsErrorNoted, progress_of, number_meant, noted_one, form_noted, meaning_noted};
 ghost use Rattle.fancy_grammar.specs.Walk.{nothing_noted, number_in};
 
-use fancy_lex::error::{Error, Result};
+use fancy_lex::error::Error;
 use fancy_lex::name::CaptureGroupTarget;
 use fancy_parts::ranks::{Groups, Meaning, Role, meaning_behind};
 use fancy_parts::written::is_numeric;
 use std::alloc::Global;
 use std::collections::BTreeSet;
+use std::mem;
 
 /// What is known when references are resolved.
 #[derive(Debug, Drop)]
@@ -38,7 +40,13 @@ pub(super) struct Progress {
     pub(super) calls: bool,
     /// Some call by the number 0 is written.
     pub(super) self_recursive: bool,
+    /// The fault at which the walk stopped, or that memory ran out.
+    pub(super) error: Option<Error>,
 }
+
+/// The walk stopped: its `Progress` says why. An error by itself is seven words, which each call would hand on.
+#[derive(Debug, Drop)]
+pub(super) struct Stopped;
 
 impl Progress {
     /// Nothing passed, and nothing noted.
@@ -52,26 +60,48 @@ impl Progress {
             numeric: false,
             calls: false,
             self_recursive: false,
+            error: None,
         }
+    }
+
+    /// Notes why the walk stops.
+    #[cold]
+    fn stop(&mut self, error: Error) -> Stopped
+        ensures error { self.new.error ≡ Some error }
+        ensures passed { self.new.passed ≡ self.old.passed }
+    {
+        drop(mem::replace(&mut self.error, Some(error)));
+        Stopped
+    }
+
+    /// Why the walk stopped.
+    pub(super) fn into_error(self) -> Error
+        ensures { (o : Option Fault) → IsErrorNoted self.error o → IsErrorIn result o }
+    {
+        self.error.unwrap_or(Error::OutOfMemory)
     }
 }
 
 /// Notes the reference, and answers the number that it means, or its fault.
+#[inline(always)]
 pub(super) fn refer(
     known: &Known,
     progress: &mut Progress,
     place: usize,
     role: Role,
     target: &CaptureGroupTarget,
-) -> Result<Option<usize>>
+) -> Result<Option<usize>, Stopped>
     requires { progress.old.passed < 2 ^ 63 }
     ensures number { IfOk result (λ n. n ≡ number_meant known.now progress.old role target.now) }
     ensures progress { IfOk result
         (λ _. progress_of progress.new ≡ noted_one known.now progress.old place role target.now) }
-    ensures fault { IfErr result (λ e. IsErrorIn e (noted_one known.now progress.old place role target.now).fault) }
+    ensures fault { IfErr result
+        (λ _. IsErrorNoted progress.new.error (noted_one known.now progress.old place role target.now).fault) }
     ensures passed { progress.new.passed ≡ progress.old.passed }
 {
-    let meaning = meaning_behind(&known.groups, progress.passed, role, target)?;
+    let Ok(meaning) = meaning_behind(&known.groups, progress.passed, role, target) else {
+        return Err(progress.stop(Error::OutOfMemory));
+    };
     note_form(known, progress, place, role, target);
     note_meaning(known, progress, place, role, meaning)
 }
@@ -105,18 +135,21 @@ fn note_meaning(
     place: usize,
     role: Role,
     meaning: Meaning,
-) -> Result<Option<usize>>
+) -> Result<Option<usize>, Stopped>
     ensures number { IfOk result (λ n. n ≡ number_in (meaning_of meaning)) }
     ensures progress { IfOk result
         (λ _. progress_of progress.new ≡ meaning_noted known.now progress.old place role meaning) }
-    ensures fault { IfErr result (λ e. IsErrorIn e (meaning_noted known.now progress.old place role meaning).fault) }
+    ensures fault { IfErr result
+        (λ _. IsErrorNoted progress.new.error (meaning_noted known.now progress.old place role meaning).fault) }
     ensures passed { progress.new.passed ≡ progress.old.passed }
 {
     match meaning {
         Meaning::Number(number) => {
             if let Role::BackReference = role {
                 if known.groups.is_in_range(number) {
-                    progress.backrefs.insert(number)?;
+                    let Ok(_) = progress.backrefs.insert(number) else {
+                        return Err(progress.stop(Error::OutOfMemory));
+                    };
                 } else if progress.out_of_range.is_none() {
                     progress.out_of_range = Some(number);
                 }
@@ -124,6 +157,6 @@ fn note_meaning(
             Ok(Some(number))
         }
         Meaning::Unresolved => Ok(None),
-        Meaning::Faulty(kind) => Err(Error::ParseError(place, kind)),
+        Meaning::Faulty(kind) => Err(progress.stop(Error::ParseError(place, kind))),
     }
 }

@@ -9,19 +9,19 @@ ghost use Rattle.fancy_syntax.specs.View.{view, view_absent, view_ast, views};
 ghost use Rattle.fancy_grammar.specs.Walk.{rebuilt, rebuilt_all, rebuilt_absent};
 
 use crate::expr::{Absent, AstNode, Expr};
-use crate::resolve::notes::{Known, Progress, refer};
+use crate::resolve::notes::{Known, Progress, Stopped, refer};
 use crate::resolve::survey::{is_counted_name, may_hold_items};
-use fancy_lex::error::Result;
 use fancy_lex::name::CaptureGroupTarget;
 use fancy_parts::ranks::Role;
 use std::mem;
 
 /// Resolves the tree in its place, or answers the first fault of its references.
 #[cycle(rewrite)]
-pub(super) fn rewrite(tree: &mut Expr, known: &Known, progress: &mut Progress) -> Result<()>
+#[inline(always)]
+pub(super) fn rewrite(tree: &mut Expr, known: &Known, progress: &mut Progress) -> Result<(), Stopped>
     requires { progress.old.passed + length (openings_in (items (view tree.old))) < 2 ^ 63 }
     ensures { Walks result (known_of known.now) (progress_of progress.old) (items (view tree.old))
-        (progress_of progress.new)
+        progress.new
         (λ _. view tree.new ≡ rebuilt (known_of known.now) (progress_of progress.old) (view tree.old)) }
 {
     match tree {
@@ -52,11 +52,11 @@ pub(super) fn rewrite(tree: &mut Expr, known: &Known, progress: &mut Progress) -
 /// Puts what the node is resolved to in its place.
 #[cycle(rewrite)]
 #[inline(never)]
-fn rewrite_node(tree: &mut Expr, known: &Known, progress: &mut Progress) -> Result<()>
+fn rewrite_node(tree: &mut Expr, known: &Known, progress: &mut Progress) -> Result<(), Stopped>
     requires passed { progress.old.passed + length (openings_in (items (view tree.old))) < 2 ^ 63 }
     requires node { is_node_read (view tree.old) ≡ true }
     ensures { Walks result (known_of known.now) (progress_of progress.old) (items (view tree.old))
-        (progress_of progress.new)
+        progress.new
         (λ _. view tree.new ≡ rebuilt (known_of known.now) (progress_of progress.old) (view tree.old)) }
 {
     let Expr::AstNode(node, place) = tree else {
@@ -69,9 +69,24 @@ fn rewrite_node(tree: &mut Expr, known: &Known, progress: &mut Progress) -> Resu
         let resolved = resolve_group(node, *place, known, progress)?;
         mem::forget(mem::replace(tree, resolved));
     } else if let Some(resolved) = resolve_reference(node, *place, known, progress)? {
-        drop(mem::replace(tree, resolved));
+        // The name goes alone, and not with its tree; what stands in its place then takes no memory.
+        drop(take_target(node));
+        mem::forget(mem::replace(tree, resolved));
     }
     Ok(())
+}
+
+/// Takes what the reference names out of it.
+fn take_target(reference: &mut AstNode) -> CaptureGroupTarget
+    requires { is_reference (view_ast reference.old) ≡ true }
+{
+    let target = match reference {
+        AstNode::AstGroup { .. } => unreachable!(),
+        AstNode::Backref { target, .. } => target,
+        AstNode::SubroutineCall(target) => target,
+        AstNode::BackrefExistsCondition { target, .. } => target,
+    };
+    mem::replace(target, CaptureGroupTarget::ByNumber(0))
 }
 
 /// The capturing group that is read at the place, resolved.
@@ -82,11 +97,11 @@ fn resolve_group(
     place: usize,
     known: &Known,
     progress: &mut Progress,
-) -> Result<Expr>
+) -> Result<Expr, Stopped>
     requires passed { progress.old.passed + length (openings_in (items_ast (view_ast node) place)) < 2 ^ 63 }
     requires group { is_reference (view_ast node) ≡ false }
     ensures { Walks result (known_of known.now) (progress_of progress.old) (items_ast (view_ast node) place)
-        (progress_of progress.new)
+        progress.new
         (λ e. view e ≡ rebuilt (known_of known.now) (progress_of progress.old) (ast_node (view_ast node) place)) }
 {
     let AstNode::AstGroup { name, mut inner } = node else {
@@ -108,11 +123,11 @@ fn resolve_reference(
     place: usize,
     known: &Known,
     progress: &mut Progress,
-) -> Result<Option<Expr>>
+) -> Result<Option<Expr>, Stopped>
     requires passed { progress.old.passed < 2 ^ 63 }
     requires reference { is_reference (view_ast node.now) ≡ true }
     ensures { Walks result (known_of known.now) (progress_of progress.old) (items_ast (view_ast node.now) place)
-        (progress_of progress.new)
+        progress.new
         (λ o. resolved_or (ast_node (view_ast node.now) place) o
         ≡ rebuilt (known_of known.now) (progress_of progress.old) (ast_node (view_ast node.now) place)) }
 {
@@ -159,10 +174,10 @@ fn resolve_backref(
     place: usize,
     known: &Known,
     progress: &mut Progress,
-) -> Result<Option<Expr>>
+) -> Result<Option<Expr>, Stopped>
     requires { progress.old.passed < 2 ^ 63 }
     ensures { let node = ast_backref (view_target target.now) casei relative_recursion_level in
-        Walks result (known_of known.now) (progress_of progress.old) (items_ast node place) (progress_of progress.new)
+        Walks result (known_of known.now) (progress_of progress.old) (items_ast node place) progress.new
         (λ o. resolved_or (ast_node node place) o
         ≡ rebuilt (known_of known.now) (progress_of progress.old) (ast_node node place)) }
 {
@@ -182,10 +197,10 @@ fn resolve_backref(
 /// Resolves the trees in the node.
 #[cycle(rewrite)]
 #[inline(never)]
-fn rewrite_absent(absent: &mut Absent, known: &Known, progress: &mut Progress) -> Result<()>
+fn rewrite_absent(absent: &mut Absent, known: &Known, progress: &mut Progress) -> Result<(), Stopped>
     requires { progress.old.passed + length (openings_in (items_absent (view_absent absent.old))) < 2 ^ 63 }
     ensures { Walks result (known_of known.now) (progress_of progress.old) (items_absent (view_absent absent.old))
-        (progress_of progress.new)
+        progress.new
         (λ _. view_absent absent.new
         ≡ rebuilt_absent (known_of known.now) (progress_of progress.old) (view_absent absent.old)) }
 {
@@ -203,10 +218,10 @@ fn rewrite_absent(absent: &mut Absent, known: &Known, progress: &mut Progress) -
 /// Resolves the tree in its box.
 #[cycle(rewrite)]
 #[inline(never)]
-fn rewrite_child(child: &mut Box<Expr>, known: &Known, progress: &mut Progress) -> Result<()>
+fn rewrite_child(child: &mut Box<Expr>, known: &Known, progress: &mut Progress) -> Result<(), Stopped>
     requires { progress.old.passed + length (openings_in (items (view child.old.value))) < 2 ^ 63 }
     ensures { Walks result (known_of known.now) (progress_of progress.old) (items (view child.old.value))
-        (progress_of progress.new)
+        progress.new
         (λ _. view child.new.value ≡ rebuilt (known_of known.now) (progress_of progress.old) (view child.old.value)) }
 {
     rewrite(&mut **child, known, progress)
@@ -215,10 +230,10 @@ fn rewrite_child(child: &mut Box<Expr>, known: &Known, progress: &mut Progress) 
 /// Resolves the trees in their places, from the first on.
 #[cycle(rewrite)]
 #[inline(never)]
-fn rewrite_all(trees: &mut Vec<Expr>, known: &Known, progress: &mut Progress) -> Result<()>
+fn rewrite_all(trees: &mut Vec<Expr>, known: &Known, progress: &mut Progress) -> Result<(), Stopped>
     requires { progress.old.passed + length (openings_in (items_all (trees_of (views trees.old.items)))) < 2 ^ 63 }
     ensures { Walks result (known_of known.now) (progress_of progress.old)
-        (items_all (trees_of (views trees.old.items))) (progress_of progress.new)
+        (items_all (trees_of (views trees.old.items))) progress.new
         (λ _. trees_of (views trees.new.items)
         ≡ rebuilt_all (known_of known.now) (progress_of progress.old) (trees_of (views trees.old.items))) }
 {

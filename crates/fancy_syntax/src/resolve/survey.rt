@@ -36,6 +36,7 @@ impl Found {
 
 /// Adds the groups of the tree, in text order; with `named` those alone that have a name.
 #[cycle(survey)]
+#[inline(always)]
 pub(super) fn survey(
     alloc: Global,
     tree: &Expr,

@@ -26,9 +26,9 @@ loop-c-init c =
 
 pub loop-c-preserved-in-Some : goal.loop-c-preserved-in-Some
 loop-c-preserved-in-Some c =
-    let plain = c.in-Some.ensures.plain in
+    let plain = c.in-Some.ensures.plain c.args.end in
     record {
-      running = running_piece _ c.loop-c.invariant.running plain.more (plain.piece _ _)
+      running = running_piece _ c.loop-c.invariant.running plain.more (plain.piece _)
           (rw c.in_ok-leaf.ensures at c.in_ok-add.ensures);
       depth = c.loop-c.invariant.depth;
       within = omega (arith, c.loop-c.invariant.within, c.in-Some.ensures.shorter);
@@ -38,7 +38,7 @@ pub loop-c-preserved-in-Some-plain_escape : goal.loop-c-preserved-in-Some-plain_
 loop-c-preserved-in-Some-plain_escape c =
     let plain = c.in-Some-plain_escape.ensures.plain in
     record {
-      running = running_piece _ c.loop-c.invariant.running plain.more (plain.piece _ _)
+      running = running_piece _ c.loop-c.invariant.running plain.more (plain.piece _)
           (rw c.in_ok-leaf-2.ensures at c.in_ok-add-2.ensures);
       depth = c.loop-c.invariant.depth;
       within = omega (arith, c.loop-c.invariant.within, c.in-Some-plain_escape.ensures.shorter);

@@ -5,14 +5,15 @@ use Rattle.fancy_syntax.specs.Notes.{known_of}
 use Rattle.fancy_syntax.specs.View.{view}
 use Rattle.fancy_syntax.proofs.NoItems.{no_items, rebuilt_same}
 use Rattle.fancy_syntax.proofs.resolve.walk.Goals as goal
-use Rattle.fancy_syntax.proofs.resolve.walk.Goals.{then-met+in_ok-rewrite, else-met}
+use Rattle.fancy_syntax.proofs.resolve.walk.Goals.{then-met+in-Ok, else-met}
 
 pub returns-clause-tree : goal.returns-clause-tree
 returns-clause-tree c =
     let t = view c.args.tree.now in let k = known_of c.args.known.now in
     elim c.if-met.branch [
-      | then-met+in_ok-rewrite w ↦
-          ap view w.tree-is ∙ w.in_ok-rewrite.ensures.0 ∙ ap (λ s. rebuilt k s t) c.new-progress.ensures
+      | then-met+in-Ok w ↦
+          let walked = rw w.in-Ok.is at w.rewrite.ensures in
+          ap view w.tree-is ∙ walked.0 ∙ ap (λ s. rebuilt k s t) c.new-progress.ensures
       | else-met w ↦
           let none = no_items (items t) (sym c.requires.met ∙ w.if-met.false) in
           ap view w.tree-is ∙ sym (rebuilt_same k nothing_noted t none)
