@@ -7,7 +7,7 @@ use Rattle.fancy_lex.specs.Boundary.{boundary_of_name, at_count}
 use Rattle.fancy_lex.specs.BoundarySteps.{boundary, named_boundary, name}
 use Rattle.std.specs.Char.{is_ascii_digit}
 use Rattle.fancy_lex.specs.Characters.{backslash, open_bracket, close_bracket, caret, open_brace, ◌∈◌}
-use Rattle.fancy_lex.specs.Class.{items_from, class, class_head, with_mark, item_text, is_negated}
+use Rattle.fancy_lex.specs.Class.{class_from, class, class_head, with_mark, escape_in_class, is_negated}
 use Rattle.fancy_lex.specs.Escape.{escape, backref_leaf, number_escape, call, property, outside, in_class, is_itself}
 use Rattle.fancy_lex.specs.EscapeReference as reference
 use Rattle.fancy_lex.specs.EscapeReference.{group_number}
@@ -175,60 +175,60 @@ rest_is a w r v e = cc
 module _ (u i : Bool) (n : ℕ) where
   abbrev ItemsCarry : ℕ → Type 0
   ItemsCarry k = (depth : ℕ) (seen seen' : Bool) (out out' t : Text)
-      → Carries k (items_from n (bare false) k depth seen out t)
-      (λ j m s. items_from m (case_flags u i) j depth seen' out' (t ++ s))
+      → Carries k (class_from n (bare false) k depth seen out t)
+      (λ j m s. class_from m (case_flags u i) j depth seen' out' (t ++ s))
 
   end_carries : (k depth : ℕ) (seen : Bool) (out : Text) (there : ℕ → ℕ → Text → Reading Text) →
-      Carries k (items_from n (bare false) k depth seen out []) there
-  unfolding items_from
+      Carries k (class_from n (bare false) k depth seen out []) there
+  unfolding class_from
   end_carries zero depth seen out there = tt
   end_carries (suc k) depth seen out there = tt
 
   -- behind an opening bracket
   open_carries : (k : ℕ) → ItemsCarry k → (depth : ℕ) (seen seen' : Bool) (out out' t : Text)
-      → Carries k (items_from n (bare false) k depth seen (class_head out t).0 (class_head out t).1)
-      (λ j m s. items_from m (case_flags u i) j depth seen' (class_head out' (t ++ s)).0
+      → Carries k (class_from n (bare false) k depth seen (class_head out t).0 (class_head out t).1)
+      (λ j m s. class_from m (case_flags u i) j depth seen' (class_head out' (t ++ s)).0
       (class_head out' (t ++ s)).1)
   open_carries k more depth seen seen' out out' t = by_left (class_head out t).1 refl where
     by_left : (v : Text) → (class_head out t).1 ≡ v →
-        Carries k (items_from n (bare false) k depth seen (class_head out t).0 v)
-        (λ j m s. items_from m (case_flags u i) j depth seen' (class_head out' (t ++ s)).0
+        Carries k (class_from n (bare false) k depth seen (class_head out t).0 v)
+        (λ j m s. class_from m (case_flags u i) j depth seen' (class_head out' (t ++ s)).0
         (class_head out' (t ++ s)).1)
     by_left [] e = end_carries k depth seen (class_head out t).0 _
     by_left (c ∷ v) e =
         let left = sym (opening_left out out' t) ∙ e in
-        carry_same k _ (λ j m s. items_from m (case_flags u i) j depth seen' (class_head out' t).0
+        carry_same k _ (λ j m s. class_from m (case_flags u i) j depth seen' (class_head out' t).0
         ((c ∷ v) ++ s)) _
-        (λ j m s. ap (λ (p : Text × Text). items_from m (case_flags u i) j depth seen' p.0 p.1)
+        (λ j m s. ap (λ (p : Text × Text). class_from m (case_flags u i) j depth seen' p.0 p.1)
         (class_head_frame out' t s c v left)
-        ∙ ap (λ (r : Text). items_from m (case_flags u i) j depth seen' (class_head out' t).0 (r ++ s)) left)
+        ∙ ap (λ (r : Text). class_from m (case_flags u i) j depth seen' (class_head out' t).0 (r ++ s)) left)
         (more depth seen seen' (class_head out t).0 (class_head out' t).0 (c ∷ v))
 
   inner_carries : (k : ℕ) → ItemsCarry k →
       (depth : ℕ) (seen seen' : Bool) (out out' t : Text) (p : ℕ) (q : ℕ → Text → ℕ)
       → Carries k (escape n (bare false) true p t >=>
-      (λ e v. items_from n (bare false) k depth (seen || is_negated e) (out ++ item_text seen e) v))
+      (λ e v. class_from n (bare false) k depth (seen || is_negated e) (out ++ escape_in_class seen e) v))
       (λ j m s. escape m (case_flags u i) true (q m s) (t ++ s) >=>
-      (λ e v. items_from m (case_flags u i) j depth (seen' || is_negated e) (out' ++ item_text seen' e) v))
+      (λ e v. class_from m (case_flags u i) j depth (seen' || is_negated e) (out' ++ escape_in_class seen' e) v))
   inner_carries k more depth seen seen' out out' t p q =
       by_escape (escape n (bare false) true p t) (escape_too u i n p t) where
         by_escape : (o : Reading Escape) → Too o (escape n (case_flags u i) true p t)
             → Carries k (o >=>
-            (λ e v. items_from n (bare false) k depth (seen || is_negated e) (out ++ item_text seen e) v))
+            (λ e v. class_from n (bare false) k depth (seen || is_negated e) (out ++ escape_in_class seen e) v))
             (λ j m s. escape m (case_flags u i) true (q m s) (t ++ s) >=>
-            (λ e v. items_from m (case_flags u i) j depth (seen' || is_negated e)
-            (out' ++ item_text seen' e) v))
+            (λ e v. class_from m (case_flags u i) j depth (seen' || is_negated e)
+            (out' ++ escape_in_class seen' e) v))
         by_escape (gives e v) (x, h) =
-            carry_same k _ (λ j m s. items_from m (case_flags u i) j depth (seen' || is_negated x)
-            (out' ++ item_text seen' x) (v ++ s)) _
-            (λ j m s. ap (λ o. o >=> (λ e v. items_from m (case_flags u i) j depth (seen' || is_negated e)
-            (out' ++ item_text seen' e) v)) (escape_frame n m (case_flags u i) p (q m s) t v s x h))
-            (more depth (seen || is_negated e) (seen' || is_negated x) (out ++ item_text seen e)
-            (out' ++ item_text seen' x) v)
+            carry_same k _ (λ j m s. class_from m (case_flags u i) j depth (seen' || is_negated x)
+            (out' ++ escape_in_class seen' x) (v ++ s)) _
+            (λ j m s. ap (λ o. o >=> (λ e v. class_from m (case_flags u i) j depth (seen' || is_negated e)
+            (out' ++ escape_in_class seen' e) v)) (escape_frame n m (case_flags u i) p (q m s) t v s x h))
+            (more depth (seen || is_negated e) (seen' || is_negated x) (out ++ escape_in_class seen e)
+            (out' ++ escape_in_class seen' x) v)
         by_escape (fails e) h = tt
 
   items_carry : (k : ℕ) → ItemsCarry k
-  unfolding items_from
+  unfolding class_from
   items_carry zero depth seen seen' out out' t = tt
   items_carry (suc k) depth seen seen' out out' [] = tt
   items_carry (suc k) depth seen seen' out out' (c ∷ t) =
@@ -236,13 +236,13 @@ module _ (u i : Bool) (n : ℕ) where
       carry_step k _
       (λ j m s.
       if c == backslash then escape m (case_flags u i) true (place_of m (c ∷ (t ++ s))) (t ++ s) >=>
-      (λ e v. items_from m (case_flags u i) j depth (seen' || is_negated e) (out' ++ item_text seen' e) v)
-      else if c == open_bracket then items_from m (case_flags u i) j (depth + 1) seen'
+      (λ e v. class_from m (case_flags u i) j depth (seen' || is_negated e) (out' ++ escape_in_class seen' e) v)
+      else if c == open_bracket then class_from m (case_flags u i) j (depth + 1) seen'
       (class_head out' (t ++ s)).0 (class_head out' (t ++ s)).1
       else if c == close_bracket
-      then (if depth == 0 then gives (out' ++ c ∷ []) (t ++ s) else items_from m (case_flags u i) j
+      then (if depth == 0 then gives (out' ++ c ∷ []) (t ++ s) else class_from m (case_flags u i) j
       (depth - 1) seen' (out' ++ c ∷ []) (t ++ s))
-      else items_from m (case_flags u i) j depth seen' (out' ++ c ∷ []) (t ++ s))
+      else class_from m (case_flags u i) j depth seen' (out' ++ c ∷ []) (t ++ s))
       _ (λ j m s. refl)
       (carry_if k (c == backslash) _ _ _ _
       (inner_carries k more depth seen seen' out out' t _ (λ m s. place_of m (c ∷ (t ++ s))))
@@ -260,10 +260,10 @@ module _ (u i : Bool) (n : ℕ) where
       (open_carries (suc (bytes t)) (items_carry (suc (bytes t))) 0 false false [] [] t) where
         from : (o : Reading Text) → o ≡ gives w v
             → Carries (suc (bytes t)) o
-            (λ j m s. items_from m (case_flags u i) j 0 false (class_head [] (t ++ s)).0
+            (λ j m s. class_from m (case_flags u i) j 0 false (class_head [] (t ++ s)).0
             (class_head [] (t ++ s)).1)
             → (x : Text) × ((m : ℕ) (s : Text) →
-            items_from m (case_flags u i) (suc (bytes (t ++ s))) 0 false (class_head [] (t ++ s)).0
+            class_from m (case_flags u i) (suc (bytes (t ++ s))) 0 false (class_head [] (t ++ s)).0
             (class_head [] (t ++ s)).1 ≡ gives x (v ++ s))
         from (gives a r) e (x, h) = (
           x,

@@ -10,7 +10,7 @@ use Rattle.std.specs.List.{list_all}
 use Rattle.std.specs.Str.{all_scalars, bytes_eq}
 use Prim.Native.Char.{code}
 use Rattle.fancy_lex.specs.Characters.{caret, ◌∈◌}
-use Rattle.fancy_lex.specs.Class.{class_head, is_plain, byte_text, upper_hex_digit}
+use Rattle.fancy_lex.specs.Class.{class_head, is_plain_in_class, byte_text, upper_hex_digit}
 use Rattle.fancy_lex.specs.Escape.{escape, number_escape, property, in_class, is_itself}
 use Rattle.fancy_lex.specs.Escaped.{Escape, literal, literal_bytes, delegate}
 use Rattle.fancy_lex.specs.Fault.{invalid_class, invalid_codepoint_value, unclosed_unicode_name}
@@ -33,12 +33,13 @@ use Rattle.fancy_grammar.proofs.ReadBack.ClassChunks.{pass_class, Chunk, Fine, b
 
 abbrev pub all_plain : Text → Bool
 all_plain [] = true
-all_plain (c ∷ w) = is_plain c && all_plain w
+all_plain (c ∷ w) = is_plain_in_class c && all_plain w
 
 word_goes : (w : Text) → all_plain w ≡ true → (m : ℕ) (s v : Text) → Goes m s v → Goes m (w ++ s) v
 word_goes [] h m s v g = g
 word_goes (c ∷ w) h m s v g =
-    pass_plain m c (w ++ s) v (first_so (is_plain c) _ h) (word_goes w (second_so (is_plain c) _ h) m s v g)
+    pass_plain m c (w ++ s) v (first_so (is_plain_in_class c) _ h)
+    (word_goes w (second_so (is_plain_in_class c) _ h) m s v g)
 
 pub word_chunk : (c : ℕ) (w : Text) → all_plain (c ∷ w) ≡ true → (c == code "^") ≡ false → (c == code "]") ≡ false →
     all_scalars (c ∷ w) ≡ true → Chunk (c ∷ w)
