@@ -9,7 +9,7 @@ use Rattle.fancy_parts.specs.Ranks.{Opening, only_named, counted_in, numbers, na
 use Rattle.fancy_grammar.specs.Fits.{Fits}
 use Rattle.fancy_grammar.specs.Items.{items, openings, references}
 use Rattle.fancy_grammar.specs.Marks.{Marks, marks, ascending, back_numbers}
-use Rattle.fancy_grammar.specs.Ordered.{Ascends}
+use Rattle.fancy_grammar.specs.Ordered.{AscendingPlaces}
 use Rattle.fancy_grammar.specs.Resolved.{resolved, resolved_in, fault_of}
 use Rattle.fancy_grammar.specs.Tree.{Tree}
 use Rattle.fancy_grammar.specs.Walk.{Known, Progress, nothing_noted, noted, rebuilt}
@@ -24,11 +24,11 @@ pub record Suits (f : Flags) (r : Tree) (k : Known) : Type 0 where
   pub total : k.groups.total ≡ length (counted_in k.named (openings r))
   pub names : k.groups.names ≡ named_groups (counted_in k.named (openings r))
   pub end : ℕ
-  pub ordered : Ascends 0 end (items r)
+  pub ordered : AscendingPlaces 0 end (items r)
 
 pub known_suits : (f : Flags) (r : Tree) (k : Known) (end : ℕ) → k.named ≡ only_named f (openings r) →
     k.groups.total ≡ length (counted_in k.named (openings r)) →
-    k.groups.names ≡ named_groups (counted_in k.named (openings r)) → Ascends 0 end (items r) → Suits f r k
+    k.groups.names ≡ named_groups (counted_in k.named (openings r)) → AscendingPlaces 0 end (items r) → Suits f r k
 known_suits f r k end a b c d = record { named = a; total = b; names = c; end = end; ordered = d }
 
 fits : (f : Flags) (r : Tree) (k : Known) → Suits f r k →

@@ -7,7 +7,7 @@ use Rattle.std.specs.List.{list_any}
 use Rattle.std.specs.Ordering.{nat_cmp}
 use Rattle.fancy_lex.specs.Fault.{Fault}
 use Rattle.fancy_parts.specs.Ranks.{Opening}
-use Rattle.fancy_parts.specs.Ranks.{numbers, opened_before}
+use Rattle.fancy_parts.specs.Ranks.{numbers, openings_before}
 use Rattle.fancy_grammar.specs.Fits.{Fits}
 use Rattle.fancy_parts.specs.Groups.{numbers_under}
 use Rattle.fancy_grammar.specs.Items.{Item, opening, reference, references_in}
@@ -22,7 +22,7 @@ Numbers k g = numbers_under k.groups.names ≡ (λ u. numbers u g)
 
 -- the walk and the definition mean the same by a reference
 pub same_meaning : (k : Known) (g : List Opening) (s : Progress) (r : AnyReference) → Numbers k g →
-    opened_before g r.place ≡ s.passed →
+    openings_before g r.place ≡ s.passed →
     means (numbers_under k.groups.names) s.passed r.role r.target ≡ meaning g r
 same_meaning k g s r n h =
     ap (λ f. means f s.passed r.role r.target) n ∙ ap (λ c. means (λ u. numbers u g) c r.role r.target) (sym h)

@@ -4,12 +4,12 @@ use Rattle.std.proofs.Common.{length-append, append_assoc, refl, sym, ◌∙◌,
 use Rattle.std.specs.List.{AllByRecursion}
 use Rattle.std.proofs.lemmas.List.Sums.{sum_by-cons}
 use Rattle.fancy_parts.specs.Ranks.{Opening}
-use Rattle.fancy_parts.specs.Ranks.{is_counted, counted_in, opened_before}
+use Rattle.fancy_parts.specs.Ranks.{is_counted, counted_in, openings_before}
 use Rattle.fancy_grammar.specs.Fits.{Fits}
 use Rattle.fancy_lex.specs.Fault.{Fault}
 use Rattle.fancy_parts.specs.Meaning.{Meaning, number, unresolved, faulty, meaning, fault_or, first_fault}
 use Rattle.fancy_grammar.specs.Items.{Item, opening, reference, openings_in, references_in}
-use Rattle.fancy_grammar.specs.Ordered.{Ascends, place_of_item}
+use Rattle.fancy_grammar.specs.Ordered.{AscendingPlaces, place_of_item}
 use Rattle.fancy_grammar.specs.Walk.{Known, Progress, note_item}
 
 -- the items stand behind the place
@@ -22,12 +22,12 @@ abbrev Ascend : List Item → Type 0
 Ascend [] = Unit {0}
 Ascend (i ∷ l) = Behind (place_of_item i) l × Ascend l
 
-behind_from : (p low high : ℕ) (l : List Item) → p < low → Ascends low high l → Behind p l
+behind_from : (p low high : ℕ) (l : List Item) → p < low → AscendingPlaces low high l → Behind p l
 behind_from p low high [] h a = tt
 behind_from p low high (i ∷ l) h a =
     (omega (arith, h, a.0), behind_from p (place_of_item i + 1) high l (omega (arith, h, a.0)) a.1)
 
-ascend : (low high : ℕ) (l : List Item) → Ascends low high l → Ascend l
+ascend : (low high : ℕ) (l : List Item) → AscendingPlaces low high l → Ascend l
 ascend low high [] a = tt
 ascend low high (i ∷ l) a = (
   behind_from (place_of_item i) (place_of_item i + 1) high l (omega arith) a.1,
@@ -35,12 +35,12 @@ ascend low high (i ∷ l) a = (
       (place_of_item i + 1) high l a.1,
 )
 
-pub bounds : (low high : ℕ) (l : List Item) → Ascends low high l → low ≤ high
+pub bounds : (low high : ℕ) (l : List Item) → AscendingPlaces low high l → low ≤ high
 bounds low high [] a = a
 bounds low high (i ∷ l) a = omega (arith, a.0, bounds (place_of_item i + 1) high l a.1)
 
 -- each has a place of its own
-pub openings_fit : (low high : ℕ) (l : List Item) → Ascends low high l → low + length (openings_in l) ≤ high
+pub openings_fit : (low high : ℕ) (l : List Item) → AscendingPlaces low high l → low + length (openings_in l) ≤ high
 openings_fit low high [] a = omega (arith, a)
 openings_fit low high (opening o ∷ l) a = omega (arith, a.0, openings_fit (o.place + 1) high l a.1)
 openings_fit low high (reference r ∷ l) a = omega (arith, a.0, openings_fit (r.place + 1) high l a.1)
@@ -74,19 +74,20 @@ AllBefore g (i ∷ l) = Before (place_of_item i) g × AllBefore g l
 weight : (m n : ℕ) → m < n → ◌≡◌ {A = ℕ} (cond (nat_lt m n) 1 0) 1
 weight m n h = grind arith
 
-counted_before : (p : ℕ) (a b : List Opening) → Before p a → opened_before b p ≡ 0 → opened_before (a ++ b) p ≡ length a
+counted_before : (p : ℕ) (a b : List Opening) → Before p a → openings_before b p ≡ 0 →
+    openings_before (a ++ b) p ≡ length a
 counted_before p [] b h e = e
 counted_before p (o ∷ a) b h e =
     let f = λ (x : Opening). cond (nat_lt x.place p) 1 0 in
     let before : o.place < p = h.0 in
     let one : ◌≡◌ {A = ℕ} (cond (nat_lt o.place p) 1 0) 1 = weight o.place p before in
-    let more : opened_before (a ++ b) p ≡ length a = counted_before p a b h.1 e in
-    let split : opened_before (o ∷ (a ++ b)) p ≡ cond {A = ℕ} (nat_lt o.place p) 1 0 + opened_before (a ++ b) p
+    let more : openings_before (a ++ b) p ≡ length a = counted_before p a b h.1 e in
+    let split : openings_before (o ∷ (a ++ b)) p ≡ cond {A = ℕ} (nat_lt o.place p) 1 0 + openings_before (a ++ b) p
     = sum_by-cons f o (a ++ b) in
     omega arith
 
 none_before : (named : Bool) (p : ℕ) (l : List Item) → Behind p l →
-    opened_before (counted_in named (openings_in l)) p ≡ 0
+    openings_before (counted_in named (openings_in l)) p ≡ 0
 none_before named p [] h = refl
 none_before named p (opening o ∷ l) h = grind (arith, h.0, none_before named p l h.1)
 none_before named p (reference r ∷ l) h = none_before named p l h.1
@@ -141,6 +142,6 @@ all_before_none [] = tt
 all_before_none (i ∷ l) = (tt, all_before_none l)
 
 -- a walk over ordered items from the start
-pub ordered_fits : (k : Known) (s : Progress) (low high : ℕ) (l : List Item) → s.passed ≡ 0 → Ascends low high l →
-    Fits k (counted_in k.named (openings_in l)) s l
+pub ordered_fits : (k : Known) (s : Progress) (low high : ℕ) (l : List Item) → s.passed ≡ 0 →
+    AscendingPlaces low high l → Fits k (counted_in k.named (openings_in l)) s l
 ordered_fits k s low high l p a = fits_from k [] s l p (all_before_none l) (ascend low high l a)

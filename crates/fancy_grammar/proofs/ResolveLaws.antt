@@ -5,7 +5,7 @@ use Rattle.fancy_grammar.specs.Tree.{Tree, Trees, no_trees, more_trees, concat, 
 use Rattle.fancy_grammar.specs.Tree.{atomic_group, conditional, absent, define_group, ast_node, AbsentTree, repeater}
 use Rattle.fancy_grammar.specs.Tree.{expression, stopper, clear, AstTree, ast_group, ast_backref, ast_call}
 use Rattle.fancy_grammar.specs.Tree.{ast_condition}
-use Rattle.fancy_parts.specs.Ranks.{is_counted, numbers, opened_before}
+use Rattle.fancy_parts.specs.Ranks.{is_counted, numbers, openings_before}
 use Rattle.fancy_grammar.specs.Fits.{Fits}
 use Rattle.fancy_parts.specs.Groups.{numbers_under}
 use Rattle.fancy_grammar.specs.Items.{Item, opening, items, items_all, items_absent}
@@ -26,9 +26,9 @@ abbrev Numbers : Known → List Opening → Type 0
 Numbers k g = numbers_under k.groups.names ≡ (λ u. numbers u g)
 
 at_reference : (k : Known) (g : List Opening) (s : Progress) (node : AstTree) (place : ℕ) → Numbers k g →
-    opened_before g place ≡ s.passed →
+    openings_before g place ≡ s.passed →
     resolved_node (numbers_under k.groups.names) s.passed node place
-    ≡ resolved_node (λ u. numbers u g) (opened_before g place) node place
+    ≡ resolved_node (λ u. numbers u g) (openings_before g place) node place
 at_reference k g s node place n h =
     ap (λ f. resolved_node f s.passed node place) n ∙ ap (λ c. resolved_node (λ u. numbers u g) c node place) (sym h)
 

@@ -17,7 +17,7 @@ use Rattle.fancy_grammar.specs.Grammar.{DerivesTree, Faults, Whole}
 use Rattle.fancy_grammar.specs.Items.{items, openings}
 use Rattle.fancy_grammar.specs.Marks.{Marks, marks}
 use Rattle.fancy_grammar.specs.Errors.{IsErrorAmong, IsErrorIn}
-use Rattle.fancy_grammar.specs.Ordered.{Ascends}
+use Rattle.fancy_grammar.specs.Ordered.{AscendingPlaces}
 use Rattle.fancy_grammar.specs.Slices.{MayStand}
 use Rattle.fancy_grammar.proofs.ReadBack.ScalarLemmas.{scalars_behind}
 use Rattle.fancy_grammar.specs.Resolved.{resolved, fault_of}
@@ -109,8 +109,8 @@ reading_placed OutOfMemory f re u a = tt
 
 -- the groups and references of a text that is read stand in text order
 pub text_order : (f : Flags) (re : List ℕ) (r : Tree) → IsUtf8 re → DerivesTree f (chars re) r →
-    Ascends 0 (length re) (items r)
-text_order f re r u a = subst (λ n. Ascends 0 n (items r)) (bytes_chars re u) (ordered_within a.1)
+    AscendingPlaces 0 (length re) (items r)
+text_order f re r u a = subst (λ n. AscendingPlaces 0 n (items r)) (bytes_chars re u) (ordered_within a.1)
 
 pub resolving_placed : (e : Error) (f : Flags) (re : List ℕ) (r : Tree) → IsUtf8 re → DerivesTree f (chars re) r →
     IsErrorIn e (fault_of f r) → IsPlacedIn e re

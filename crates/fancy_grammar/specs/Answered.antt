@@ -45,13 +45,13 @@ abbrev pub groups : Tree → List Tree
 groups t = filter is_group (preorder t)
 
 -- the numbers ascend, from above k up to n
-abbrev pub Ascend : ℕ → ℕ → List ℕ → Type 0
-Ascend k n [] = Unit {0}
-Ascend k n (m ∷ l) = (k < m) × (m ≤ n) × Ascend m n l
+abbrev pub AscendingNumbers : ℕ → ℕ → List ℕ → Type 0
+AscendingNumbers k n [] = Unit {0}
+AscendingNumbers k n (m ∷ l) = (k < m) × (m ≤ n) × AscendingNumbers m n l
 
 -- each name has numbers, and they ascend from 1 up to the total
 abbrev pub AreNamed : ℕ → List (Text × List ℕ) → Type 0
-AreNamed total l = AllByRecursion (λ e. (0 < length e.1) × Ascend 0 total e.1) l
+AreNamed total l = AllByRecursion (λ e. (0 < length e.1) × AscendingNumbers 0 total e.1) l
 
 -- whether the node is a call, resolved or not
 abbrev pub is_call_node : Tree → Bool

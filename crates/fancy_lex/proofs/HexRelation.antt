@@ -9,7 +9,8 @@ use Rattle.fancy_lex.specs.Characters.{open_brace, close_brace}
 use Rattle.fancy_lex.specs.Escaped.{Escape, escape_of}
 use Rattle.fancy_lex.specs.FaultTable.{code_not_read, comment_not_closed}
 use Rattle.fancy_lex.specs.Hex.{hex_digit, fixed_digits, closing_brace, digits, braced_value, value, leaf_of_value, hex}
-use Rattle.fancy_lex.specs.Hex.{Digits, no_digit, digit, BracedCode, braced, stuck, open_before, open_behind, Code}
+use Rattle.fancy_lex.specs.Hex.{Digits, no_digit, digit, BracedCode, braced, stuck, comment_open_before}
+use Rattle.fancy_lex.specs.Hex.{comment_open_behind, Code}
 use Rattle.fancy_lex.specs.Hex.{fixed, in_braces, neither, HexCode, code, code_fault, open_layout}
 use Rattle.fancy_lex.specs.Layout.{Before}
 use Rattle.fancy_lex.specs.LayoutSteps.{Skipped, rest, fault, layout}
@@ -44,7 +45,7 @@ module _ (n : ℕ) (x : Bool) (h : ℕ) where
         (l : k + suc m ≡ 8) where
       by_layout : (d : ℕ) (z : Text) → hex_digit w ≡ Some (d, z) → (s : Skipped) → layout n x z ≡ s →
           BracedCode n x h t (layout_reading s >=> (λ _ y. digits n x h m true (v * 16 + d) y))
-      by_layout d z e (fault q) i = open_behind b g (omega arith) e (unclosed_sound n x z q i)
+      by_layout d z e (fault q) i = comment_open_behind b g (omega arith) e (unclosed_sound n x z q i)
       by_layout d z e (rest y) i =
           let some : nat_lt 0 (k + 1) ≡ true = grind (arith, nat_tests) in
           subst (λ a. BracedCode n x h t (digits n x h m a (v * 16 + d) y)) some
@@ -68,7 +69,7 @@ module _ (n : ℕ) (x : Bool) (h : ℕ) where
     where
       by_layout : (s : Skipped) → layout n x t ≡ s →
           BracedCode n x h t (layout_reading s >=> (λ _ u. digits n x h 8 false 0 u))
-      by_layout (fault q) e = open_before (unclosed_sound n x t q e)
+      by_layout (fault q) e = comment_open_before (unclosed_sound n x t q e)
       by_layout (rest u) e = reads t u (layout_sound n x t u e) 8 0 0 u no_digit refl
 
   code_reads : (width : ℕ) (t : Text) → Code n x h width t (value n x h width t)
@@ -136,8 +137,8 @@ module _ (n : ℕ) (x : Bool) (h : ℕ) where
       started t u b ∙ reached g l ∙ last k v (close_brace ∷ w) l (inr (brace_no_digit w)) ∙ rw more refl
   braced_is {t} (stuck {k} {v} {u} {w} b g l s) =
       started t u b ∙ reached g l ∙ last k v w l s.no_more ∙ not_closed k v w s.no_end
-  braced_is {t} (open_before {q} b) = rw (unclosed_complete n x t q b) refl
-  braced_is {t} (open_behind {k} {v} {d} {q} {u} {w} {z} b g l e i) =
+  braced_is {t} (comment_open_before {q} b) = rw (unclosed_complete n x t q b) refl
+  braced_is {t} (comment_open_behind {k} {v} {d} {q} {u} {w} {z} b g l e i) =
       started t u b ∙ reached g (omega arith) ∙ open_digit k v w d z q l e (unclosed_complete n x z q i)
     where
       open_digit : (k v : ℕ) (w : Text) (d : ℕ) (z : Text) (q : ℕ) → k < 8 → hex_digit w ≡ Some (d, z) →

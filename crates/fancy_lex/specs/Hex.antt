@@ -84,9 +84,9 @@ pub data BracedCode (n : ℕ) (x : Bool) (h : ℕ) : Text → Reading ℕ → Ty
       BracedCode n x h t (gives v w)
   stuck : {k v : ℕ} {t u w : Text} → Before x t u → Digits x k v u w → k ≤ 8 → Stuck k w →
       BracedCode n x h t (fails (code_not_read h))
-  open_before : {q : ℕ} {t : Text} → Unclosed n x t q → BracedCode n x h t (fails (comment_not_closed q))
-  open_behind : {k v d q : ℕ} {t u w z : Text} → Before x t u → Digits x k v u w → k < 8 → hex_digit w ≡ Some (d, z) →
-      Unclosed n x z q → BracedCode n x h t (fails (comment_not_closed q))
+  comment_open_before : {q : ℕ} {t : Text} → Unclosed n x t q → BracedCode n x h t (fails (comment_not_closed q))
+  comment_open_behind : {k v d q : ℕ} {t u w z : Text} → Before x t u → Digits x k v u w → k < 8 →
+      hex_digit w ≡ Some (d, z) → Unclosed n x z q → BracedCode n x h t (fails (comment_not_closed q))
 
 -- a code that begins there: so many digits, or else one in braces
 pub data Code (n : ℕ) (x : Bool) (h width : ℕ) : Text → Reading ℕ → Type 0 where

@@ -35,8 +35,8 @@ abbrev pub counted : Flags → List Opening → List Opening
 counted f l = counted_in (only_named f l) l
 
 -- how many of the groups open before the place
-abbrev pub opened_before : List Opening → ℕ → ℕ
-opened_before groups place = count_by (λ o. nat_lt o.place place) groups
+abbrev pub openings_before : List Opening → ℕ → ℕ
+openings_before groups place = count_by (λ o. nat_lt o.place place) groups
 
 -- whether the name is this one
 abbrev pub is_name : Text → Option Text → Bool

@@ -8,7 +8,7 @@ ghost use Rattle.fancy_grammar.specs.Marks.{marks};
 ghost use Rattle.fancy_grammar.specs.Errors.{IsErrorIn};
 ghost use Rattle.fancy_syntax.specs.Answer.{marks_of};
 ghost use Rattle.fancy_syntax.specs.Notes.{known_of, progress_of, marks_found, has_items};
-ghost use Rattle.fancy_grammar.specs.Ordered.{Ascends};
+ghost use Rattle.fancy_grammar.specs.Ordered.{AscendingPlaces};
 ghost use Rattle.fancy_grammar.specs.Resolved.{resolved, fault_of};
 ghost use Rattle.fancy_grammar.specs.Walk.{noted, nothing_noted, rebuilt};
 ghost use Rattle.fancy_syntax.specs.View.{view};
@@ -29,7 +29,7 @@ use std::alloc::{AllocError, Global};
 
 /// The raw tree of the pattern resolved in its place, with its marks, or the first fault of its references.
 pub(crate) fn resolve(alloc: Global, raw: Expr, pattern: &str, flags: Flags) -> Result<ExprTree>
-    requires { Ascends 0 (length pattern.now) (items (view raw)) }
+    requires { AscendingPlaces 0 (length pattern.now) (items (view raw)) }
     ensures tree { IfOk result (λ t. view t.expr ≡ resolved flags (view raw)) }
     ensures marks { IfOk result (λ t. marks_of t ≡ marks flags (chars pattern.now) (view raw)) }
     ensures no_fault { IfOk result (λ _. fault_of flags (view raw) ≡ None) }

@@ -14,7 +14,7 @@ use Rattle.fancy_grammar.specs.Quantified.{is_repeatable}
 use Rattle.fancy_grammar.specs.Printed.{is_long, printed, repeated, printed_all, printed_branches, grouped}
 use Rattle.fancy_grammar.specs.Tree.{Tree, Trees, no_trees, more_trees, empty, any, assertion, literal, concat, alt}
 use Rattle.fancy_grammar.specs.Tree.{group, repeat, delegate, define_group}
-use Rattle.fancy_grammar.specs.Nest.{nest, nests, one_if, is_line}
+use Rattle.fancy_grammar.specs.Nest.{nest, nests, one_if, is_at_line}
 use Rattle.fancy_grammar.proofs.ReadBack.InFront.{put, puts, put_branches, put_barred, put_repeated, put_any}
 use Rattle.fancy_grammar.proofs.ReadBack.InFront.{put_assertion, put_quotes, open_if, close_if, put_alone}
 use Rattle.fancy_grammar.proofs.ReadBack.ClearLemmas.{Clear, Stops, Ends, clear_close, stops_bar, ends_close}
@@ -171,7 +171,7 @@ assertion_is u _ = refl
 assertion_reads : (u : Bool) (a : Assertion) → HasText a → ReadsTree u (assertion a)
 assertion_reads u a h =
     let k = put_assertion a in
-    let m = one_if (is_line a) in
+    let m = one_if (is_at_line a) in
     subst (λ x. ReadsBy u k k k k m m m m (Unit {0}) x (solid (x ∷ []))) (assertion_is u a)
     (by_atom u k m (Unit {0}) (read_assertion a) (λ v. begins_assertion a v h)
     (λ n d v l e. reads_assertion n d u a v h l e))

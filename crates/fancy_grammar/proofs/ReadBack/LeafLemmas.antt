@@ -25,7 +25,7 @@ use Rattle.fancy_grammar.specs.Ahead.{leaf, ahead, leaf_node, leaf_outcome}
 use Rattle.fancy_grammar.specs.Normal.{character, bare}
 use Rattle.fancy_grammar.specs.State.{done}
 use Rattle.fancy_grammar.specs.Tree.{Tree, any, assertion}
-use Rattle.fancy_grammar.specs.Nest.{one_if, is_line}
+use Rattle.fancy_grammar.specs.Nest.{one_if, is_at_line}
 use Rattle.fancy_grammar.proofs.ReadBack.InFront.{put_as, put_quotes, put_any, put_line, put_assertion}
 use Rattle.fancy_grammar.proofs.ReadBack.ClearLemmas.{begins_mark, Clear, not_open, clear_close, ends_close}
 use Rattle.fancy_grammar.proofs.ReadBack.ClearLemmas.{apart, behind_none}
@@ -263,8 +263,8 @@ abbrev pub HasText : Assertion → Type 0
 HasText (EndTextIgnoreTrailingNewlines crlf) = ⊥
 HasText _ = Unit {0}
 
-pub reads_assertion : (n d : ℕ) (u : Bool) (a : Assertion) (v : Text) → HasText a → d + one_if (is_line a) < max_depth →
-    NoName v → AtomAs n d (bare u) (put_assertion a v) v (read_assertion a)
+pub reads_assertion : (n d : ℕ) (u : Bool) (a : Assertion) (v : Text) → HasText a →
+    d + one_if (is_at_line a) < max_depth → NoName v → AtomAs n d (bare u) (put_assertion a v) v (read_assertion a)
 reads_assertion n d u StartText v h l m = anchor n d (bare u) (code "^") v StartText
     (leaf_at n d (bare u) (code "^") v refl refl)
 reads_assertion n d u EndText v h l m = anchor n d (bare u) (code "$") v EndText
