@@ -38,7 +38,7 @@ pub data IsIdReference : Bool → Text → IdReference → Type 0 where
   plain : {relative : Bool} {w : Text} → IsId w → IsIdReference relative w (id_alone w)
   with_amount : {w : Text} {z : ℤ} (i a : Text) → w ≡ i ++ a → IsId i → IsAmount a z →
       IsIdReference true w (id_and_amount i z)
-  bare : {w : Text} {z : ℤ} → IsAmount w z → z ≢ pos 0 → IsIdReference true w (amount_alone z)
+  without_id : {w : Text} {z : ℤ} → IsAmount w z → z ≢ pos 0 → IsIdReference true w (amount_alone z)
 
 -- an id reference in code, with its id as characters
 abbrev pub view_id_reference : code_reference.IdReference → IdReference

@@ -110,12 +110,13 @@ unfoldable pub property_text : Bool → Bool → Property → Text
 property_text unicode inside p =
     elim p.name [ single c ↦ letter p.negated ++ c ∷ [] | braced s ↦ braced_text unicode inside (turn p.negated s) ]
 
--- whether the text holds the other
-abbrev pub holds : Text → Text → Bool
-holds [] w = starts_with nat_eq [] w
-holds (c ∷ t) w = starts_with nat_eq (c ∷ t) w || holds t w
+-- whether the other text stands somewhere in the first
+abbrev pub contains_text : Text → Text → Bool
+contains_text [] w = starts_with nat_eq [] w
+contains_text (c ∷ t) w = starts_with nat_eq (c ∷ t) w || contains_text t w
 
 -- whether the text is a negated set that names properties or other classes
 abbrev pub is_negated_set : Text → Bool
 is_negated_set t =
-    starts_with nat_eq t (codes "[^") && (holds t (codes "\\p{") || holds t (codes "\\P{") || holds t (codes "[:"))
+    starts_with nat_eq t (codes "[^")
+    && (contains_text t (codes "\\p{") || contains_text t (codes "\\P{") || contains_text t (codes "[:"))

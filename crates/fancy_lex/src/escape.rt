@@ -172,7 +172,7 @@ fn number_escape(
 }
 
 /// Reads a named back reference, behind its letter.
-fn named(text: &str, flags: Flags, end: usize) -> Result<(Escaped<'_>, &str), Error>
+fn backref_escape(text: &str, flags: Flags, end: usize) -> Result<(Escaped<'_>, &str), Error>
     requires { length text.now ≤ end }
     ensures value { Reads escape_of result (spec.backref_leaf flags (references.back_reference end (chars text.now))) }
     ensures within { IfOk result (λ p. length p.1.now ≤ length text.now) }
@@ -183,8 +183,8 @@ fn named(text: &str, flags: Flags, end: usize) -> Result<(Escaped<'_>, &str), Er
 }
 
 /// Reads a call behind its letter. InvalidEscape at `place` where the text ends.
-#[tactic(auto, unfolding(crate::specs::Escape::call))]
-fn call<'a>(
+#[tactic(auto, unfolding(crate::specs::Escape::call_escape))]
+fn call_escape<'a>(
     alloc: Global,
     text: &'a str,
     letter: char,
@@ -192,7 +192,7 @@ fn call<'a>(
     end: usize,
 ) -> Result<(Escaped<'a>, &'a str), Error>
     requires { length text.now ≤ end }
-    ensures value { Answers escape_of result (spec.call end place letter (chars text.now)) }
+    ensures value { Answers escape_of result (spec.call_escape end place letter (chars text.now)) }
     ensures within { IfOk result (λ p. length p.1.now ≤ length text.now) }
 {
     if next(text).is_none() {
@@ -387,8 +387,8 @@ fn read_escape<'a>(
         'U' => hex(rest, 8, flags, end),
         'p' | 'P' => property(alloc, rest, c, flags, inside, place),
         'b' | 'B' if !inside => boundary(alloc, rest, c == 'B', flags, place, end),
-        'k' if !inside => named(rest, flags, end),
-        'g' if !inside => call(alloc, rest, c, place, end),
+        'k' if !inside => backref_escape(rest, flags, end),
+        'g' if !inside => call_escape(alloc, rest, c, place, end),
         _ => match lone_escape(c, flags, inside) {
             Some(leaf) => Ok((leaf, rest)),
             None => Err(unknown_escape(alloc, c, place)),
@@ -413,7 +413,7 @@ pub fn short_escape(text: &str, flags: Flags) -> Option<(Escaped<'static>, &str)
         'u' => return short_hex(rest, 4, flags),
         'U' => return short_hex(rest, 8, flags),
         'p' | 'P' => return short_property(rest, c, flags),
-        // A reference, which is known by what follows: so much is said at once.
+        // A reference, which no table has: so much is said at once.
         '0'..='9' | 'g' | 'k' => return None,
         _ => lone_escape(c, flags, false)?,
     };

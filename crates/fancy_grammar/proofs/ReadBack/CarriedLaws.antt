@@ -8,7 +8,8 @@ use Rattle.fancy_lex.specs.BoundarySteps.{boundary, named_boundary, name}
 use Rattle.std.specs.Char.{is_ascii_digit}
 use Rattle.fancy_lex.specs.Characters.{backslash, open_bracket, close_bracket, caret, open_brace, ◌∈◌}
 use Rattle.fancy_lex.specs.Class.{class_from, class, class_head, with_mark, escape_in_class, is_negated}
-use Rattle.fancy_lex.specs.Escape.{escape, backref_leaf, number_escape, call, property, outside, in_class, is_itself}
+use Rattle.fancy_lex.specs.Escape.{escape, backref_leaf, number_escape, call_escape, property, outside, in_class}
+use Rattle.fancy_lex.specs.Escape.{is_itself}
 use Rattle.fancy_lex.specs.EscapeReference as reference
 use Rattle.fancy_lex.specs.EscapeReference.{group_number}
 use Rattle.fancy_lex.specs.Escaped.{Escape, literal, literal_bytes, delegate, backref, subroutine_call}
@@ -335,8 +336,8 @@ boundary_none n x p negated t =
 pub backref_leaf_none : (f : Flags) (o : Reading Reference) → NoDelegate (backref_leaf f o)
 backref_leaf_none f o = none_then o (λ r u. gives (backref r f.casei) u) (λ r u. tt)
 
-call_none : (n p c : ℕ) (t : Text) → NoDelegate (call n p c t)
-unfolding call
+call_none : (n p c : ℕ) (t : Text) → NoDelegate (call_escape n p c t)
+unfolding call_escape
 call_none n p c [] = tt
 call_none n p c (d ∷ t) =
     none_then (reference.subroutine_call n (d ∷ t)) (λ r u. gives (subroutine_call r) u) (λ r u. tt)

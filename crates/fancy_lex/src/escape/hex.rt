@@ -54,9 +54,14 @@ fn closing_brace(text: &str, value: u32, place: usize) -> Result<(u32, &str), Er
 }
 
 /// Reads up to eight digits, each with layout behind it, and the closing brace.
-fn digits(text: &str, ignore_space: bool, end: usize, place: usize) -> Result<(u32, &str), Error>
+fn hex_digits(
+    text: &str,
+    ignore_space: bool,
+    end: usize,
+    place: usize,
+) -> Result<(u32, &str), Error>
     requires { end < 2 ^ 63 }
-    ensures value { Reads (λ v. v) result (spec.digits end ignore_space place 8 false 0 (chars text.now)) }
+    ensures value { Reads (λ v. v) result (spec.hex_digits end ignore_space place 8 false 0 (chars text.now)) }
     ensures shorter { IfOk result (λ p. length p.1.now < length text.now) }
 {
     let mut rest = text;
@@ -87,7 +92,7 @@ fn braced_value(
     ensures shorter { IfOk result (λ p. length p.1.now < length text.now) }
 {
     let rest = skip(text, ignore_space, end)?;
-    digits(rest, ignore_space, end, place)
+    hex_digits(rest, ignore_space, end, place)
 }
 
 /// Reads a code of so many digits, or one in braces; its fault is at `place`.
