@@ -24,7 +24,7 @@ use Rattle.fancy_lex.specs.declared.flags.Flags.{Flags}
 use Rattle.fancy_lex.proofs.ClassLaws.{class_head_frame}
 use Rattle.fancy_lex.proofs.EscapeFrame.{StaysSome, read_stays, escape_frame}
 use Rattle.fancy_lex.proofs.TextLemmas.{bytes-append}
-use Rattle.fancy_grammar.specs.Normal.{case_flags, bare}
+use Rattle.fancy_grammar.specs.Normal.{case_flags, unicode_flags}
 
 -- ---- the same text under other flags
 
@@ -42,7 +42,8 @@ too_then : {A : Type 0} (o : Reading A) (k k' : A → Text → Reading Escape) �
 too_then (gives a u) k k' h = h a u
 too_then (fails e) k k' h = tt
 
-number_escape_too : (n p : ℕ) (t : Text) (other : Reading Escape) → Too (number_escape n (bare false) true p t) other
+number_escape_too : (n p : ℕ) (t : Text) (other : Reading Escape) →
+    Too (number_escape n (unicode_flags false) true p t) other
 unfolding number_escape
 number_escape_too n p t other = by_number (group_number n t)
   where
@@ -51,7 +52,7 @@ number_escape_too n p t other = by_number (group_number n t)
     by_number (fails e) = tt
 
 property_too : (u i inside : Bool) (p c : ℕ) (t : Text) →
-    Too (property (bare false) inside p c t) (property (case_flags u i) inside p c t)
+    Too (property (unicode_flags false) inside p c t) (property (case_flags u i) inside p c t)
 unfolding property
 property_too u i inside p c [] = tt
 property_too u i inside p c (d ∷ t) = by_property (read_property (c ∈ "P") (d ∷ t)) where
@@ -86,21 +87,21 @@ never true b c = refl
 never false b c = refl
 
 coded_too : (u i : Bool) (w h v : ℕ) (t : Text) →
-    Too (leaf_of_value (bare false) w h v t) (leaf_of_value (case_flags u i) w h v t)
+    Too (leaf_of_value (unicode_flags false) w h v t) (leaf_of_value (case_flags u i) w h v t)
 unfolding leaf_of_value
 coded_too false i w h v t = same_too (w == 2 && not false && nat_le 0x80 v && nat_le v 0xFF) (is_scalar v) _ _ _ _ t _ _
 coded_too true i w h v t =
     rw (never (w == 2) (nat_le 0x80 v) (nat_le v 0xFF))
     (both_too (((w == 2) && true) && nat_le 0x80 v && nat_le v 0xFF) (is_scalar v) _ _ _ t _ (byte_scalar v _))
 
-hex_too : (u i : Bool) (n w : ℕ) (t : Text) → Too (hex n (bare false) w t) (hex n (case_flags u i) w t)
+hex_too : (u i : Bool) (n w : ℕ) (t : Text) → Too (hex n (unicode_flags false) w t) (hex n (case_flags u i) w t)
 unfolding hex
 hex_too u i n w t =
     too_then (layout_reading (layout n false t)) _ _
     (λ _ v. too_then (value n false (place_of n v) w v) _ _ (λ a r. coded_too u i w (place_of n v) a r))
 
 escape_too : (u i : Bool) (n p : ℕ) (t : Text) →
-    Too (escape n (bare false) true p t) (escape n (case_flags u i) true p t)
+    Too (escape n (unicode_flags false) true p t) (escape n (case_flags u i) true p t)
 unfolding escape in_class
 escape_too u i n p [] = tt
 escape_too u i n p (c ∷ t) =
@@ -176,23 +177,23 @@ rest_is a w r v e = cc
 module _ (u i : Bool) (n : ℕ) where
   abbrev ItemsCarry : ℕ → Type 0
   ItemsCarry k = (depth : ℕ) (seen seen' : Bool) (out out' t : Text)
-      → Carries k (class_from n (bare false) k depth seen out t)
+      → Carries k (class_from n (unicode_flags false) k depth seen out t)
       (λ j m s. class_from m (case_flags u i) j depth seen' out' (t ++ s))
 
   end_carries : (k depth : ℕ) (seen : Bool) (out : Text) (there : ℕ → ℕ → Text → Reading Text) →
-      Carries k (class_from n (bare false) k depth seen out []) there
+      Carries k (class_from n (unicode_flags false) k depth seen out []) there
   unfolding class_from
   end_carries zero depth seen out there = tt
   end_carries (suc k) depth seen out there = tt
 
   -- behind an opening bracket
   open_carries : (k : ℕ) → ItemsCarry k → (depth : ℕ) (seen seen' : Bool) (out out' t : Text)
-      → Carries k (class_from n (bare false) k depth seen (class_head out t).0 (class_head out t).1)
+      → Carries k (class_from n (unicode_flags false) k depth seen (class_head out t).0 (class_head out t).1)
       (λ j m s. class_from m (case_flags u i) j depth seen' (class_head out' (t ++ s)).0
       (class_head out' (t ++ s)).1)
   open_carries k more depth seen seen' out out' t = by_left (class_head out t).1 refl where
     by_left : (v : Text) → (class_head out t).1 ≡ v →
-        Carries k (class_from n (bare false) k depth seen (class_head out t).0 v)
+        Carries k (class_from n (unicode_flags false) k depth seen (class_head out t).0 v)
         (λ j m s. class_from m (case_flags u i) j depth seen' (class_head out' (t ++ s)).0
         (class_head out' (t ++ s)).1)
     by_left [] e = end_carries k depth seen (class_head out t).0 _
@@ -207,15 +208,16 @@ module _ (u i : Bool) (n : ℕ) where
 
   inner_carries : (k : ℕ) → ItemsCarry k →
       (depth : ℕ) (seen seen' : Bool) (out out' t : Text) (p : ℕ) (q : ℕ → Text → ℕ)
-      → Carries k (escape n (bare false) true p t >=>
-      (λ e v. class_from n (bare false) k depth (seen || is_negated e) (out ++ escape_in_class seen e) v))
+      → Carries k (escape n (unicode_flags false) true p t >=>
+      (λ e v. class_from n (unicode_flags false) k depth (seen || is_negated e) (out ++ escape_in_class seen e) v))
       (λ j m s. escape m (case_flags u i) true (q m s) (t ++ s) >=>
       (λ e v. class_from m (case_flags u i) j depth (seen' || is_negated e) (out' ++ escape_in_class seen' e) v))
   inner_carries k more depth seen seen' out out' t p q =
-      by_escape (escape n (bare false) true p t) (escape_too u i n p t) where
+      by_escape (escape n (unicode_flags false) true p t) (escape_too u i n p t) where
         by_escape : (o : Reading Escape) → Too o (escape n (case_flags u i) true p t)
             → Carries k (o >=>
-            (λ e v. class_from n (bare false) k depth (seen || is_negated e) (out ++ escape_in_class seen e) v))
+            (λ e v. class_from n (unicode_flags false) k depth (seen || is_negated e)
+            (out ++ escape_in_class seen e) v))
             (λ j m s. escape m (case_flags u i) true (q m s) (t ++ s) >=>
             (λ e v. class_from m (case_flags u i) j depth (seen' || is_negated e)
             (out' ++ escape_in_class seen' e) v))
@@ -253,11 +255,11 @@ module _ (u i : Bool) (n : ℕ) where
       (more (depth - 1) seen seen' (out ++ c ∷ []) (out' ++ c ∷ []) t))
       (more depth seen seen' (out ++ c ∷ []) (out' ++ c ∷ []) t))))
 
-  pub class_carries : (t w v : Text) → class n (bare false) t ≡ gives w v →
+  pub class_carries : (t w v : Text) → class n (unicode_flags false) t ≡ gives w v →
       (x : Text) × ((m : ℕ) (s : Text) → class m (case_flags u i) (t ++ s) ≡ gives x (v ++ s))
   unfolding class
   class_carries t w v e =
-      from (class n (bare false) t) e
+      from (class n (unicode_flags false) t) e
       (open_carries (suc (bytes t)) (items_carry (suc (bytes t))) 0 false false [] [] t) where
         from : (o : Reading Text) → o ≡ gives w v
             → Carries (suc (bytes t)) o
@@ -364,7 +366,7 @@ outside_none u i n p c t =
 
 module _ (u i : Bool) where
   property_keeps : (p c : ℕ) (t : Text) →
-      Keeps (property (bare false) false p c t) (λ m q s. property (case_flags u i) false q c (t ++ s))
+      Keeps (property (unicode_flags false) false p c t) (λ m q s. property (case_flags u i) false q c (t ++ s))
   unfolding property
   property_keeps p c [] = tt
   property_keeps p c (d ∷ t) = by_property (read_property (c ∈ "P") (d ∷ t)) (read_stays (c ∈ "P") d t) where
@@ -383,18 +385,18 @@ module _ (u i : Bool) where
     )
 
   escape_keeps : (n p : ℕ) (t : Text) →
-      Keeps (escape n (bare false) false p t) (λ m q s. escape m (case_flags u i) false q (t ++ s))
+      Keeps (escape n (unicode_flags false) false p t) (λ m q s. escape m (case_flags u i) false q (t ++ s))
   unfolding escape number_escape
   escape_keeps n p [] = tt
   escape_keeps n p (c ∷ t) =
       keep_if (is_ascii_digit c) _ _ _ _
-      (keep_none _ _ (backref_leaf_none (bare false) (reference.numbered_reference n (c ∷ t))))
+      (keep_none _ _ (backref_leaf_none (unicode_flags false) (reference.numbered_reference n (c ∷ t))))
       (keep_if (c ∈ "dDsSwW") _ _ _ _ (backslash ∷ c ∷ [], i, λ m q s. refl)
       (keep_if (c ∈ "h") _ _ _ _ (codes "[0-9A-Fa-f]", false, λ m q s. refl)
       (keep_if (c ∈ "H") _ _ _ _ (codes "[^0-9A-Fa-f]", false, λ m q s. refl)
-      (keep_if (c ∈ "x") _ _ _ _ (keep_none _ _ (hex_none n (bare false) 2 t))
-      (keep_if (c ∈ "u") _ _ _ _ (keep_none _ _ (hex_none n (bare false) 4 t))
-      (keep_if (c ∈ "U") _ _ _ _ (keep_none _ _ (hex_none n (bare false) 8 t))
+      (keep_if (c ∈ "x") _ _ _ _ (keep_none _ _ (hex_none n (unicode_flags false) 2 t))
+      (keep_if (c ∈ "u") _ _ _ _ (keep_none _ _ (hex_none n (unicode_flags false) 4 t))
+      (keep_if (c ∈ "U") _ _ _ _ (keep_none _ _ (hex_none n (unicode_flags false) 8 t))
       (keep_if (c ∈ "pP") _ _ _ _ (property_keeps p c t)
       (keep_if (c ∈ "a") _ _ _ _ tt
       (keep_if (c ∈ "f") _ _ _ _ tt
@@ -406,7 +408,8 @@ module _ (u i : Bool) where
       (keep_if (is_itself false c) _ _ _ _ tt
       (keep_none _ _ (outside_none false false n p c t)))))))))))))))))
 
-  pub escape_carries : (n p : ℕ) (t w v : Text) (b : Bool) → escape n (bare false) false p t ≡ gives (delegate w b) v
+  pub escape_carries : (n p : ℕ) (t w v : Text) (b : Bool) →
+      escape n (unicode_flags false) false p t ≡ gives (delegate w b) v
       → (x : Text) × (c : Bool)
       × ((m q : ℕ) (s : Text) →
       escape m (case_flags u i) false q (t ++ s) ≡ gives (delegate x c) (v ++ s))

@@ -40,7 +40,7 @@ use Rattle.fancy_grammar.specs.Tree as tree
 use Rattle.fancy_grammar.specs.Tree.{Tree, empty, literal, concat, alt, repeat, trees_of, ast_node}
 use Rattle.fancy_grammar.specs.Tree.{ast_group, ast_backref, ast_call, ast_condition}
 use Rattle.fancy_grammar.proofs.OutcomeLemmas.{before-nil, solid-append, each_append, each_solid}
-use Rattle.fancy_grammar.specs.Normal.{bare, case_flags}
+use Rattle.fancy_grammar.specs.Normal.{unicode_flags, case_flags}
 use Rattle.fancy_grammar.proofs.ReadBack.InFront.{put_as}
 use Rattle.fancy_grammar.proofs.ReadBack.ClearLemmas.{Clear, no_layout, clear_counts, clear_lazy, clear_star}
 use Rattle.fancy_grammar.proofs.ReadBack.ClearLemmas.{clear_plus, Stops, Ends, apart, behind_none, behind_some}
@@ -55,8 +55,8 @@ pub record Kept (f : Flags) : Type 0 where
   pub not_swapped : f.swap_greed ≡ false
   pub not_oniguruma : f.oniguruma_mode ≡ false
 
-pub kept_bare : (u : Bool) → Kept (bare u)
-kept_bare u = record { no_space = refl; not_swapped = refl; not_oniguruma = refl }
+pub kept_unicode : (u : Bool) → Kept (unicode_flags u)
+kept_unicode u = record { no_space = refl; not_swapped = refl; not_oniguruma = refl }
 
 pub kept_case : (u i : Bool) → Kept (case_flags u i)
 kept_case u i = record { no_space = refl; not_swapped = refl; not_oniguruma = refl }
@@ -462,13 +462,13 @@ two_letters n f g h b c s k m p z o q e r =
 -- `(?i:`
 pub reads_caseless : (n d : ℕ) (u : Bool) (s v : Text) (x : Tree) → d + 1 < max_depth →
     WholeAs n (d + 1) (case_flags u true) s (code ")" ∷ v) x →
-    AtomAs n d (bare u) (code "(" ∷ code "?" ∷ code "i" ∷ code ":" ∷ s) v x
+    AtomAs n d (unicode_flags u) (code "(" ∷ code "?" ∷ code "i" ∷ code ":" ∷ s) v x
 reads_caseless n d u s v x l w =
-    let f = bare u in
+    let f = unicode_flags u in
     let g = case_flags u true in
     reads_scope n d f g (code "(" ∷ code "?" ∷ code "i" ∷ code ":" ∷ s) s v x
-    (scope_at n d f g (code "i" ∷ code ":" ∷ s) s (kept_bare u) l refl refl
-    (one_letter n f g (code "i") s (kept_bare u) (kept_case u true) refl refl)) w
+    (scope_at n d f g (code "i" ∷ code ":" ∷ s) s (kept_unicode u) l refl refl
+    (one_letter n f g (code "i") s (kept_unicode u) (kept_case u true) refl refl)) w
 
 -- ---- leaves
 
