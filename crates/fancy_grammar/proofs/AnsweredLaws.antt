@@ -11,7 +11,8 @@ use Rattle.fancy_lex.specs.declared.flags.Flags.{Flags}
 use Rattle.fancy_parts.specs.Meaning.{Meaning, number, unresolved, faulty, means, meaning, back_to, last_of}
 use Rattle.fancy_parts.specs.Meaning.{group_or_none, no_group, at_distance, Role, back_reference, call, condition, AnyReference}
 use Rattle.fancy_parts.specs.Meaning.{fault_or, first_fault}
-use Rattle.fancy_parts.specs.Ranks.{Opening, is_counted, numbers, openings_before, only_named, counted_in, counted}
+use Rattle.fancy_parts.specs.Ranks.{Opening, is_counted, numbers, openings_before, only_named, numbered_openings_in}
+use Rattle.fancy_parts.specs.Ranks.{numbered_openings}
 use Rattle.fancy_grammar.specs.Answer.{IsTreeOf}
 use Rattle.fancy_grammar.specs.Answered.{IsAnsweredNode, IsAnswered, IsAnsweredWith, AreNamed, is_group, groups}
 use Rattle.fancy_grammar.specs.Answered.{is_call_node, has_call, group_referred, groups_referred, numbered_in}
@@ -92,14 +93,14 @@ module _ (named : Bool) (g : List Opening) where
 
   -- their openings are those that have a number
   openings_counted : (l : List Tree) →
-      map (λ q. q.0) (numbered_in named l) ≡ counted_in named (openings_in (filter_map item_of l))
+      map (λ q. q.0) (numbered_in named l) ≡ numbered_openings_in named (openings_in (filter_map item_of l))
   openings_counted [] = refl
   openings_counted (ast_node (ast_group name t) place ∷ l) = by_name (is_counted named name) refl (openings_counted l)
     where
       by_name : (b : Bool) → is_counted named name ≡ b →
-          map (λ q. q.0) (numbered_in named l) ≡ counted_in named (openings_in (filter_map item_of l)) →
+          map (λ q. q.0) (numbered_in named l) ≡ numbered_openings_in named (openings_in (filter_map item_of l)) →
           map (λ q. q.0) (numbered_in named (ast_node (ast_group name t) place ∷ l))
-          ≡ counted_in named (openings_in (filter_map item_of (ast_node (ast_group name t) place ∷ l)))
+          ≡ numbered_openings_in named (openings_in (filter_map item_of (ast_node (ast_group name t) place ∷ l)))
       by_name true e more = rw e (ap (λ l. record { place = place; name = name } ∷ l) more)
       by_name false e more = rw e more
   openings_counted (ast_node (ast_backref t casei level) place ∷ l) = openings_counted l
@@ -271,7 +272,7 @@ module _ {f : Flags} {text : Text} {t : Tree} {m : Marks} (a : IsTreeOf f text t
   named = only_named f (openings raw)
 
   abbrev numbered : List Opening
-  numbered = counted f (openings raw)
+  numbered = numbered_openings f (openings raw)
 
   nodes : preorder t ≡ kept named numbered (preorder raw)
   nodes = ap preorder a.3 ∙ resolved_nodes named numbered raw
@@ -296,7 +297,7 @@ module _ {f : Flags} {text : Text} {t : Tree} {m : Marks} (a : IsTreeOf f text t
   openings_in_order : map (λ q. q.0) (numbered_groups f raw) ≡ numbered
   openings_in_order =
       openings_counted named numbered (preorder raw)
-      ∙ ap (λ l. counted_in named (openings_in l)) (sym (items_of_nodes raw))
+      ∙ ap (λ l. numbered_openings_in named (openings_in l)) (sym (items_of_nodes raw))
 
   -- as many as are said
   pub groups_total : length (groups t) ≡ m.total_groups

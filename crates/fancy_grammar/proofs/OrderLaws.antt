@@ -4,7 +4,7 @@ use Rattle.std.proofs.Common.{length-append, append_assoc, refl, sym, ◌∙◌,
 use Rattle.std.specs.List.{AllByRecursion}
 use Rattle.std.proofs.lemmas.List.Sums.{sum_by-cons}
 use Rattle.fancy_parts.specs.Ranks.{Opening}
-use Rattle.fancy_parts.specs.Ranks.{is_counted, counted_in, openings_before}
+use Rattle.fancy_parts.specs.Ranks.{is_counted, numbered_openings_in, openings_before}
 use Rattle.fancy_grammar.specs.Fits.{Fits}
 use Rattle.fancy_lex.specs.Fault.{Fault}
 use Rattle.fancy_parts.specs.Meaning.{Meaning, number, unresolved, faulty, meaning, fault_or, first_fault}
@@ -87,7 +87,7 @@ counted_before p (o ∷ a) b h e =
     omega arith
 
 none_before : (named : Bool) (p : ℕ) (l : List Item) → Behind p l →
-    openings_before (counted_in named (openings_in l)) p ≡ 0
+    openings_before (numbered_openings_in named (openings_in l)) p ≡ 0
 none_before named p [] h = refl
 none_before named p (opening o ∷ l) h = grind (arith, h.0, none_before named p l h.1)
 none_before named p (reference r ∷ l) h = none_before named p l h.1
@@ -106,29 +106,31 @@ behind_opening : (k : Known) (g : List Opening) (s : Progress) (o : Opening) (l 
     is_counted k.named o.name ≡ b → s.passed ≡ length g → AllBefore g (opening o ∷ l) →
     Behind o.place l →
     ((g2 : List Opening) (s2 : Progress) → s2.passed ≡ length g2 → AllBefore g2 l →
-    Fits k (g2 ++ counted_in k.named (openings_in l)) s2 l) →
-    Fits k (g ++ counted_in k.named (openings_in (opening o ∷ l))) (note_item k s (opening o)) l
+    Fits k (g2 ++ numbered_openings_in k.named (openings_in l)) s2 l) →
+    Fits k (g ++ numbered_openings_in k.named (openings_in (opening o ∷ l))) (note_item k s (opening o)) l
 behind_opening k g s o l true e p h a more =
     let passed : (note_item k s (opening o)).passed ≡ length (g ++ (o ∷ []))
     = rw e (omega (arith, length-append g (o ∷ []))) in
     let inner = more (g ++ (o ∷ [])) (note_item k s (opening o)) passed (all_before_more g o l h.1 a) in
-    let same : g ++ counted_in k.named (openings_in (opening o ∷ l))
-    ≡ (g ++ (o ∷ [])) ++ counted_in k.named (openings_in l)
-    = rw e (sym (append_assoc g (o ∷ []) (counted_in k.named (openings_in l)))) in
+    let same : g ++ numbered_openings_in k.named (openings_in (opening o ∷ l))
+    ≡ (g ++ (o ∷ [])) ++ numbered_openings_in k.named (openings_in l)
+    = rw e (sym (append_assoc g (o ∷ []) (numbered_openings_in k.named (openings_in l)))) in
     subst (λ m. Fits k m (note_item k s (opening o)) l) (sym same) inner
 behind_opening k g s o l false e p h a more =
     let passed : (note_item k s (opening o)).passed ≡ length g = rw e p in
     let inner = more g (note_item k s (opening o)) passed h.1 in
-    let same : g ++ counted_in k.named (openings_in (opening o ∷ l)) ≡ g ++ counted_in k.named (openings_in l)
+    let same : g ++ numbered_openings_in k.named (openings_in (opening o ∷ l))
+    ≡ g ++ numbered_openings_in k.named (openings_in l)
     = rw e refl in
     subst (λ m. Fits k m (note_item k s (opening o)) l) (sym same) inner
 
 fits_from : (k : Known) (g : List Opening) (s : Progress) (l : List Item) → s.passed ≡ length g → AllBefore g l →
     Ascend l →
-    Fits k (g ++ counted_in k.named (openings_in l)) s l
+    Fits k (g ++ numbered_openings_in k.named (openings_in l)) s l
 fits_from k g s [] p h a = tt
 fits_from k g s (reference r ∷ l) p h a = (
-  counted_before r.place g (counted_in k.named (openings_in l)) h.0 (none_before k.named r.place l a.0) ∙ sym p,
+  counted_before r.place g (numbered_openings_in k.named (openings_in l)) h.0 (none_before k.named r.place l a.0)
+  ∙ sym p,
   fits_from k g (note_item k s (reference r)) l p h.1 a.1,
 )
 fits_from k g s (opening o ∷ l) p h a = (
@@ -143,5 +145,5 @@ all_before_none (i ∷ l) = (tt, all_before_none l)
 
 -- a walk over ordered items from the start
 pub ordered_fits : (k : Known) (s : Progress) (low high : ℕ) (l : List Item) → s.passed ≡ 0 →
-    AscendingPlaces low high l → Fits k (counted_in k.named (openings_in l)) s l
+    AscendingPlaces low high l → Fits k (numbered_openings_in k.named (openings_in l)) s l
 ordered_fits k s low high l p a = fits_from k [] s l p (all_before_none l) (ascend low high l a)

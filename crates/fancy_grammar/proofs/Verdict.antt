@@ -11,7 +11,7 @@ use Rattle.fancy_lex.specs.declared.error.ParseError.{ParseError as ErrorKind}
 use Rattle.fancy_lex.specs.declared.error.Error.{Error}
 use Rattle.fancy_lex.specs.declared.error.Error.TheVariants.{ParseError, OutOfMemory}
 use Rattle.fancy_lex.specs.declared.flags.Flags.{Flags}
-use Rattle.fancy_parts.specs.Ranks.{counted}
+use Rattle.fancy_parts.specs.Ranks.{numbered_openings}
 use Rattle.fancy_grammar.specs.Answer.{IsTreeOf, IsFaultOf, of_reading, of_resolving, IsOnlyFault, IsPlacedIn}
 use Rattle.fancy_grammar.specs.Grammar.{DerivesTree, Faults, Whole}
 use Rattle.fancy_grammar.specs.Items.{items, openings}
@@ -116,7 +116,7 @@ pub resolving_placed : (e : Error) (f : Flags) (re : List ℕ) (r : Tree) → Is
     IsErrorIn e (fault_of f r) → IsPlacedIn e re
 resolving_placed (ParseError p k) f re r u a h =
     placed k re p u
-    (fault_place (MayStand (bytes (chars re)) (chars re)) (counted f (openings r)) (items r)
+    (fault_place (MayStand (bytes (chars re)) (chars re)) (numbered_openings f (openings r)) (items r)
     (record { place = p; kind = kind_of k })
     (items_stand a.1) h)
 resolving_placed OutOfMemory f re r u a h = tt

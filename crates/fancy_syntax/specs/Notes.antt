@@ -43,7 +43,7 @@ progress_of p = record {
 abbrev pub Walks : {A : Type 0} → Result A Error → walk.Known → walk.Progress → List Item → walk.Progress →
     (A → Type 0) → Type 0
 Walks r k before l after P =
-    let end = walk.noted k before l in
+    let end = walk.progress_after k before l in
     MatchResult r (λ a. P a × (after ≡ end)) (λ e. IsErrorIn e end.fault)
 
 -- the tree is a node as it is read: a capturing group, or a reference
@@ -85,7 +85,7 @@ meaning_noted k p place role m =
     let total = (groups_of k.groups).total in let number = spec.back_number (role_of role) (meaning_of m) in
     record (progress_of p) {
       backrefs = walk.with_backref total p.backrefs.keys number;
-      out_of_range = walk.or_else p.out_of_range (walk.beyond total number);
+      out_of_range = walk.or_else p.out_of_range (walk.number_above total number);
       fault = fault_or (meaning_of m) place None;
     }
 

@@ -12,7 +12,7 @@ use Rattle.fancy_grammar.specs.Join.{solid, join, choice}
 use Rattle.fancy_grammar.specs.Normal.{normal_character, pieces_of, case_flags, unicode_flags, normal, normal_pieces}
 use Rattle.fancy_grammar.specs.Normal.{normals}
 use Rattle.fancy_grammar.specs.Quantified.{is_repeatable}
-use Rattle.fancy_grammar.specs.Printed.{is_long, printed, repeated, printed_all, printed_branches, grouped}
+use Rattle.fancy_grammar.specs.Printed.{is_long, printed, operand_text, printed_all, printed_branches, grouped}
 use Rattle.fancy_grammar.specs.Tree.{Tree, Trees, no_trees, more_trees, empty, any, assertion, literal, concat, alt}
 use Rattle.fancy_grammar.specs.Tree.{group, repeat, delegate, define_group}
 use Rattle.fancy_grammar.specs.Nest.{nest, nests, one_if, is_at_line}
@@ -323,7 +323,7 @@ pub text_high : (t : Tree) (p : ℕ) → 3 ≤ p → printed t p ≡ printed t 3
 text_high (concat ts) p h = ap (λ b. grouped b (printed_all ts)) (lt-ltb 1 p (omega arith))
 text_high (alt ts) p h = ap (λ b. grouped b (printed_branches ts)) (lt-ltb 0 p (omega arith))
 text_high (repeat t lo hi greedy) p h =
-    ap (λ b. grouped b (repeated t ++ quantifier lo hi greedy)) (lt-ltb 2 p (omega arith))
+    ap (λ b. grouped b (operand_text t ++ quantifier lo hi greedy)) (lt-ltb 2 p (omega arith))
 text_high t p h = refl
 
 pub nest_high : (t : Tree) (p : ℕ) → 3 ≤ p → nest t p ≡ nest t 3

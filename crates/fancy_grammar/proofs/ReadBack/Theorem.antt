@@ -14,7 +14,7 @@ use Rattle.fancy_lex.specs.declared.error.Error.TheVariants.{ParseError}
 use Rattle.fancy_lex.specs.declared.error.ParseError.TheVariants.{RecursionExceeded}
 use Rattle.fancy_lex.specs.declared.flags.Flags.{Flags}
 use Rattle.fancy_parts.specs.Meaning.{first_fault}
-use Rattle.fancy_parts.specs.Ranks.{counted_in, named_groups, numbers, name_cmp}
+use Rattle.fancy_parts.specs.Ranks.{numbered_openings_in, named_groups, numbers, name_cmp}
 use Rattle.fancy_parts.specs.Written.{is_numeric}
 use Rattle.fancy_grammar.specs.Depth.{max_depth}
 use Rattle.fancy_grammar.specs.Answer.{IsTreeOf, of_reading}
@@ -46,16 +46,16 @@ no_references [] h = refl
 no_references (opening o ∷ l) h = no_references l h.1
 no_references (reference r ∷ l) h = absurd h
 
-no_names : (l : List Item) → OnlyGroups l → filter_map (λ o. o.name) (counted_in false (openings_in l)) ≡ []
+no_names : (l : List Item) → OnlyGroups l → filter_map (λ o. o.name) (numbered_openings_in false (openings_in l)) ≡ []
 no_names [] h = refl
 no_names (opening o ∷ l) h = rw h.0 (no_names l h.1)
 no_names (reference r ∷ l) h = absurd h
 
 marks_are : (u : Bool) (text : Text) (r : Tree) → OnlyGroups (items r) →
-    marks (unicode_flags u) text r ≡ marks_of_groups (length (counted_in false (openings r)))
+    marks (unicode_flags u) text r ≡ marks_of_groups (length (numbered_openings_in false (openings r)))
 marks_are u text r h =
     let none = no_references (items r) h in
-    let numbered = counted_in false (openings r) in
+    let numbered = numbered_openings_in false (openings r) in
     let unnamed : named_groups numbered ≡ [] =
     ap (λ l. map (λ t. (t, numbers t numbered)) (fold (insert_key name_cmp) [] l)) (no_names (items r) h) in
     λ i. record {
@@ -75,7 +75,7 @@ marks_are u text r h =
 tree_of : (u : Bool) (text : Text) (r x : Tree) → DerivesTree (unicode_flags u) text r → Becomes r x →
     IsTreeOf (unicode_flags u) text x (marks_of_groups (length (groups x)))
 tree_of u text r x d b =
-    let numbered = counted_in false (openings r) in
+    let numbered = numbered_openings_in false (openings r) in
     let none : fault_of (unicode_flags u) r ≡ None = ap (first_fault numbered) (no_references (items r) b.groups) in
     let found : IsTreeOf (unicode_flags u) text x (marks_of_groups (length numbered)) =
     (r, d, none, sym (b.is numbered), sym (marks_are u text r b.groups)) in
