@@ -130,7 +130,7 @@ fits_from : (k : Known) (g : List Opening) (s : Progress) (l : List Item) → s.
 fits_from k g s [] p h a = tt
 fits_from k g s (reference r ∷ l) p h a = (
   counted_before r.place g (numbered_openings_in k.named (openings_in l)) h.0 (none_before k.named r.place l a.0)
-  ∙ sym p,
+      ∙ sym p,
   fits_from k g (note_item k s (reference r)) l p h.1 a.1,
 )
 fits_from k g s (opening o ∷ l) p h a = (

@@ -6,8 +6,8 @@ use Rattle.std.specs.List.{starts_with}
 use Rattle.std.specs.Str.{bytes_eq}
 use Rattle.fancy_lex.specs.Characters.{caret, open_brace, close_brace}
 use Rattle.fancy_lex.specs.Text.{Text, cut_at}
-use Rattle.fancy_lex.specs.declared.property.Known.{Known}
-use Rattle.fancy_lex.specs.declared.property.Known.TheVariants.{Alnum, Blank, Cntrl, Word, Graph, Print, Cs, Other}
+use Rattle.fancy_lex.specs.declared.property.KnownName.{KnownName}
+use Rattle.fancy_lex.specs.declared.property.KnownName.TheVariants.{Alnum, Blank, Cntrl, Word, Graph, Print, Cs, Other}
 use Rattle.fancy_lex.specs.declared.property.Property as code
 use Rattle.fancy_lex.specs.declared.property.PropertyName as code_name
 use Rattle.fancy_lex.specs.declared.property.PropertyName.TheVariants as written
@@ -50,7 +50,7 @@ pub data Form : Type 0 where
   pair : Text → Text → Form
 
 -- which name of the table this is
-abbrev pub look_up : Text → Known
+abbrev pub look_up : Text → KnownName
 look_up name =
     if bytes_eq name (codes "alnum") then Alnum
     else if bytes_eq name (codes "blank") then Blank
@@ -66,7 +66,7 @@ abbrev pub form_by : Bool → Form → Form → Form
 form_by unicode with without = if unicode then with else without
 
 -- the table: how each name is written with UNICODE, and without
-abbrev pub form : Bool → Known → Text → Form
+abbrev pub form : Bool → KnownName → Text → Form
 form unicode Alnum name = form_by unicode (set (codes "\\p{alpha}\\p{digit}")) (set (codes "[:alnum:]"))
 form unicode Blank name = form_by unicode (set (codes "\\p{Zs}\\x09")) (set (codes "\\t "))
 form unicode Cntrl name = form_by unicode (set (codes "\\x00-\\x1F\\x7F-\\x9F")) (set (codes "[:cntrl:]"))

@@ -43,7 +43,8 @@ module _ (n : ℕ) (t : Text) where
   step clears f [] = fails (group_not_closed n)
   step clears f (c ∷ u) =
       if c == code ")" then (
-      if is_first t (c ∷ u) || is_behind_minus t clears (c ∷ u) then unknown_letter u else gives (flags_end (setting f)) u)
+      if is_first t (c ∷ u) || is_behind_minus t clears (c ∷ u) then unknown_letter u
+      else gives (flags_end (setting f)) u)
       else if c == code ":" then (
       if is_behind_minus t clears (c ∷ u) then unknown_letter u else gives (flags_end (scope f)) u)
       else if c == code "-" then (

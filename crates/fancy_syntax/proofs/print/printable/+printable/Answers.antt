@@ -23,7 +23,7 @@ is_printable-returns-in-Delegate-clause-exact t c =
     let inner = c.in-Delegate.inner in
     let seen : view c.args.tree.now ≡ delegate (text_of inner) c.in-Delegate.casei = search (rules, the_lemmas) in
     let whole : IfOk c.is_whole.result (λ b. b ≡ is_some (class_of (unicode_flags false) (text_of inner))) =
-        search rules in
+    search rules in
     delegate_told c.is_whole.result (text_of inner) c.in-Delegate.casei _
     (scalars-chars (string_bytes inner) (IsUtf8-string_bytes inner)) whole seen
 
