@@ -10,7 +10,8 @@ use Rattle.fancy_lex.specs.Characters.{open_bracket, backslash, ◌∈◌}
 use Rattle.fancy_lex.specs.Class.{class}
 use Rattle.fancy_lex.specs.Escape.{escape}
 use Rattle.fancy_lex.specs.Escaped.{Escape}
-use Rattle.fancy_lex.specs.Fault.{Fault, kind_of}
+use Rattle.fancy_lex.specs.Fault.{Fault}
+use Rattle.fancy_lex.specs.ErrorViews.{kind_of}
 use Rattle.fancy_lex.specs.Flags.{flags_of}
 use Rattle.fancy_lex.specs.Reading.{Reading, gives, fails, IsErrorOrNoMemory}
 use Rattle.fancy_lex.specs.Text.{Text, bytes}

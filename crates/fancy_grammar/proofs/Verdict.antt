@@ -5,7 +5,8 @@ use Rattle.std.specs.Str.{IsUtf8, IsCharBoundary, all_scalars}
 use Rattle.std.proofs.Math.Utf8.{encodes}
 use Rattle.std.proofs.lemmas.Str.{scalars-chars, chars-encodes}
 use Rattle.fancy_lex.proofs.TextLemmas.{bytes_chars, cut_boundary}
-use Rattle.fancy_lex.specs.Fault.{Kind, Fault, kind_of}
+use Rattle.fancy_lex.specs.Fault.{Kind, Fault}
+use Rattle.fancy_lex.specs.ErrorViews.{kind_of}
 use Rattle.fancy_lex.specs.Text.{Text, EndsWith, as_told, begins, past_end, bytes}
 use Rattle.fancy_lex.specs.declared.error.ParseError.{ParseError as ErrorKind}
 use Rattle.fancy_lex.specs.declared.error.Error.{Error}

@@ -12,7 +12,8 @@ use Rattle.fancy_lex.specs.Boundary.{BracedName, close, character, open_layout, 
 use Rattle.fancy_lex.specs.Boundary.{no_brace, count, known, unknown, name_fault, comment_open_before}
 use Rattle.fancy_lex.specs.Boundary.{comment_open_inside}
 use Rattle.fancy_lex.specs.Characters.{open_brace, close_brace}
-use Rattle.fancy_lex.specs.Escaped.{Escape, assertion, escape_of}
+use Rattle.fancy_lex.specs.Escaped.{Escape, assertion}
+use Rattle.fancy_lex.specs.EscapeViews.{escape_of}
 use Rattle.fancy_lex.specs.Fault.{Fault}
 use Rattle.fancy_lex.specs.FaultTable.{comment_not_closed, name_of_no_boundary}
 use Rattle.fancy_lex.specs.Layout.{Before}

@@ -6,7 +6,8 @@ use Rattle.fancy_lex.specs.declared.error.Error.{Error}
 use Rattle.fancy_lex.specs.declared.escape.Escaped.{Escaped}
 use Rattle.fancy_lex.specs.declared.flags.Flags.{Flags}
 use Rattle.fancy_lex.specs.Characters.{open_brace, close_brace}
-use Rattle.fancy_lex.specs.Escaped.{Escape, escape_of}
+use Rattle.fancy_lex.specs.Escaped.{Escape}
+use Rattle.fancy_lex.specs.EscapeViews.{escape_of}
 use Rattle.fancy_lex.specs.FaultTable.{code_not_read, comment_not_closed}
 use Rattle.fancy_lex.specs.Hex.{hex_digit, fixed_digits, closing_brace, hex_digits, braced_value, value, leaf_of_value}
 use Rattle.fancy_lex.specs.Hex.{hex}

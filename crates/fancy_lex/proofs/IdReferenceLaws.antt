@@ -13,7 +13,8 @@ use Rattle.fancy_lex.specs.Characters.{◌∈◌}
 use Rattle.fancy_lex.specs.Id.{is_id_char, AllIdChars, IsId, Id, StartsWithId, id}
 use Rattle.fancy_lex.specs.IdReference.{IdReference, id_alone, id_and_amount, amount_alone, IsIdReference, plain}
 use Rattle.fancy_lex.specs.IdReference.{with_amount, without_id, IsAmount, with_sign, small_amount, amount, id_or_none}
-use Rattle.fancy_lex.specs.IdReference.{with_amount_of, with_rest, id_reference, view_id_reference}
+use Rattle.fancy_lex.specs.IdReference.{with_amount_of, with_rest, id_reference}
+use Rattle.fancy_lex.specs.NameViews.{view_id_reference}
 use Rattle.fancy_lex.specs.declared.name.id.IdReference as code_reference
 use Rattle.fancy_lex.specs.NumberText.{WritesNumber, whole_number}
 use Rattle.fancy_lex.specs.Text.{Text}

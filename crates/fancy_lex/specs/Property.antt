@@ -1,6 +1,6 @@
 -- Properties: what stands behind `\p` or `\P`, and the text that is written for it.
 use Rattle.std.specs.Prelude.{ℕ, Bool, true, false, not, ◌==◌, ◌&&◌, ◌||◌, nat_eq, if◌then◌else◌, [], ◌∷◌, ◌++◌}
-use Rattle.std.specs.Prelude.{chars, codes, map, Option, Some, None, option_map}
+use Rattle.std.specs.Prelude.{codes, map, Option, Some, None, option_map}
 use Rattle.std.specs.Char.{to_ascii_lowercase}
 use Rattle.std.specs.List.{starts_with}
 use Rattle.std.specs.Str.{bytes_eq}
@@ -8,9 +8,6 @@ use Rattle.fancy_lex.specs.Characters.{caret, open_brace, close_brace}
 use Rattle.fancy_lex.specs.Text.{Text, cut_at}
 use Rattle.fancy_lex.specs.declared.property.KnownName.{KnownName}
 use Rattle.fancy_lex.specs.declared.property.KnownName.TheVariants.{Alnum, Blank, Cntrl, Word, Graph, Print, Cs, Other}
-use Rattle.fancy_lex.specs.declared.property.Property as code
-use Rattle.fancy_lex.specs.declared.property.PropertyName as code_name
-use Rattle.fancy_lex.specs.declared.property.PropertyName.TheVariants as written
 
 -- a property's name: one character, or what stands in braces
 pub data PropertyName : Type 0 where
@@ -21,15 +18,6 @@ pub data PropertyName : Type 0 where
 pub record Property : Type 0 where
   pub negated : Bool
   pub name : PropertyName
-
--- a name in code, as characters
-abbrev pub view_name : code_name.PropertyName → PropertyName
-view_name (written.Single c) = single c
-view_name (written.Braced s) = braced (chars s.now)
-
--- a property in code, with its name as characters
-abbrev pub view_property : code.Property → Property
-view_property p = record { negated = p.negated; name = view_name p.name }
 
 -- the name behind the letter, and the text left; none where no text is left, or the brace is not closed
 unfoldable pub name_at : Text → Option (PropertyName × Text)

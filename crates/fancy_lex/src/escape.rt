@@ -4,10 +4,10 @@ ghost use Rattle.fancy_lex.specs.Characters.{backslash};
 ghost use Rattle.fancy_lex.specs.Escape as spec;
 ghost use Rattle.fancy_lex.specs.EscapeReference as references;
 ghost use Rattle.fancy_lex.specs.Escaped as leaf;
-ghost use Rattle.fancy_lex.specs.Escaped.{escape_of, delegate_text};
+ghost use Rattle.fancy_lex.specs.EscapeViews.{escape_of, delegate_text};
 ghost use Rattle.fancy_lex.specs.Reading.{Reads, Answers, Reports, gives, choose};
 ghost use Rattle.fancy_lex.specs.Text.{Text, EndsWith, text_of};
-ghost use Rattle.fancy_lex.specs.Fault.{StandsWithin};
+ghost use Rattle.fancy_lex.specs.ErrorViews.{StandsWithin};
 
 use crate::error::{Error, ParseError};
 use crate::escape::boundary::{bare_boundary, boundary};

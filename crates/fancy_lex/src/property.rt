@@ -2,7 +2,7 @@
 ghost use Rattle.std.specs.Prelude.{◌≡◌, Bool, true, false, ◌<◌, ◌++◌, length, chars, IfSome, OnOk, Some, None, option_map, if◌then◌else◌};
 ghost use Rattle.std.specs.Str.{bytes_eq};
 ghost use Rattle.fancy_lex.specs.Property as spec;
-ghost use Rattle.fancy_lex.specs.PropertyForm.{view_form, other_form};
+ghost use Rattle.fancy_lex.specs.PropertyViews.{view_property, view_form, other_form};
 ghost use Rattle.fancy_lex.specs.Text.{Text, text_of, BeginsWith};
 ghost use Rattle.fancy_lex.specs.Views.{view_read};
 
@@ -31,7 +31,7 @@ pub struct Property<'a> {
 #[tactic(auto, unfolding(crate::specs::Property::read_property, crate::specs::Property::name_at))]
 pub(crate) fn read_property(text: &str, negated: bool) -> Option<(Property<'_>, &str)>
     ensures value { spec.read_property negated (chars text.now) ≡
-        option_map (λ p. (spec.view_property p.0, chars p.1.now)) result }
+        option_map (λ p. (view_property p.0, chars p.1.now)) result }
     ensures shorter { IfSome result (λ p. length p.1.now < length text.now) }
 {
     let (c, rest) = next(text)?;
@@ -167,7 +167,7 @@ fn is_negated_form(known: KnownName, negated: bool, unicode: bool) -> bool
 #[tactic(auto, unfolding(crate::specs::Property::property_text))]
 pub(crate) fn is_negated(property: Property, unicode: bool) -> bool
     ensures { (inside : Bool) →
-        result ≡ spec.is_negated_set (spec.property_text unicode inside (spec.view_property property.entry)) }
+        result ≡ spec.is_negated_set (spec.property_text unicode inside (view_property property.entry)) }
 {
     match property.name {
         PropertyName::Single(_) => false,
@@ -249,7 +249,7 @@ pub(crate) fn push_property(
     unicode: bool,
     inside: bool,
 ) -> Result<(), AllocError>
-    ensures grown { let text = spec.property_text unicode inside (spec.view_property property.entry) in
+    ensures grown { let text = spec.property_text unicode inside (view_property property.entry) in
         OnOk result (text_of out.new ≡ text_of out.old ++ text) }
     ensures kept { BeginsWith (text_of out.new) (text_of out.old) }
 {

@@ -1,8 +1,9 @@
 //! Hex codes behind `\x`, `\u` and `\U`.
 ghost use Rattle.std.specs.Prelude.{◌≡◌, ℕ, ◌+◌, ◌*◌, ◌-◌, ◌^◌, ◌<◌, ◌≤◌, length, chars, IfSome, IfErr, IfOk, option_map, false, true};
 ghost use Rattle.fancy_lex.specs.Characters.{close_brace};
-ghost use Rattle.fancy_lex.specs.Escaped.{Escape, escape_of};
-ghost use Rattle.fancy_lex.specs.Fault.{StandsWithin};
+ghost use Rattle.fancy_lex.specs.Escaped.{Escape};
+ghost use Rattle.fancy_lex.specs.EscapeViews.{escape_of};
+ghost use Rattle.fancy_lex.specs.ErrorViews.{StandsWithin};
 ghost use Rattle.fancy_lex.specs.FaultTable.{code_of_no_character};
 ghost use Rattle.fancy_lex.specs.Hex as spec;
 ghost use Rattle.fancy_lex.specs.Reading.{Derives, Reading, Reads, choose, fails, gives};

@@ -2,7 +2,7 @@
 ghost use Rattle.std.specs.Prelude.{◌≡◌, ℕ, ◌+◌, ◌<◌, ◌≤◌, ◌^◌, ◌++◌, ◌∷◌, length, chars, codes, ◌||◌, IfErr, IfOk};
 ghost use Rattle.fancy_lex.specs.Reading.{Reading, Answers, Reports, Derives};
 ghost use Rattle.fancy_lex.specs.Text.{Text, EndsWith, bytes, text_of};
-ghost use Rattle.fancy_lex.specs.Fault.{StandsWithin};
+ghost use Rattle.fancy_lex.specs.ErrorViews.{StandsWithin};
 ghost use Rattle.fancy_parts.specs.FlagLetters as spec;
 ghost use Rattle.fancy_parts.specs.LetterSteps as steps;
 ghost use Rattle.fancy_parts.specs.FlagReads.{letters_of, step_of};

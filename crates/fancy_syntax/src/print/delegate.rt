@@ -2,7 +2,7 @@
 ghost use Rattle.std.specs.Prelude.{◌≡◌, ◌∷◌, ◌+◌, ◌<◌, ◌^◌, [], chars, is_some, length, false, IfOk};
 ghost use Rattle.fancy_lex.specs.Characters.{open_bracket, backslash};
 ghost use Rattle.fancy_lex.specs.declared.error.Error.TheVariants.{OutOfMemory};
-ghost use Rattle.fancy_lex.specs.Escaped.{escape_of};
+ghost use Rattle.fancy_lex.specs.EscapeViews.{escape_of};
 ghost use Rattle.fancy_grammar.specs.Ahead.{leaf_node};
 ghost use Rattle.fancy_grammar.specs.Normal.{unicode_flags, class_of, whole_of};
 
