@@ -103,7 +103,7 @@ after : (n : ℕ) (f : Flags) (here there : Reading Text) (t s : Text) (depth : 
 after n f here there t s depth out x e l w a v (j, m, less, q) =
     (j, m, omega (arith, l, less), e ∙ q ∙ ap (λ (o : Text). ended n f j depth a o v) (append_assoc out x w))
 
-not_special : (c : ℕ) → is_plain_in_class c ≡ true → (c ≢ 92) × (c ≢ 91) × (c ≢ 93)
+not_special : (c : ℕ) → is_plain_in_class c ≡ true → (c ≢ backslash) × (c ≢ open_bracket) × (c ≢ close_bracket)
 not_special c p = (grind (arith, nat_tests), grind (arith, nat_tests), grind (arith, nat_tests))
 
 items_fails : (n : ℕ) (f : Flags) (k depth : ℕ) (b : Bool) (out t : Text) (e : Fault) →
@@ -145,40 +145,44 @@ mutual
 
   run_items : {n : ℕ} {f : Flags} {b : Bool} {t : Text} {o : Written} → ClassItems n f b t o →
       (k depth : ℕ) (out : Text) → bytes t < k → Runs n f (class_from n f k depth b out t) t depth out o
-  run_items {n} {f} {b} (close {v}) k depth out l =
-      (pred k, step_left n f k depth b out v 93 l, bytes_cons 93 v, items_closing n f k depth b out v (positive _ k l))
+  run_items {n} {f} {b} (close {v}) k depth out l = (
+    pred k,
+    step_left n f k depth b out v close_bracket l,
+    bytes_cons close_bracket v,
+    items_closing n f k depth b out v (positive _ k l),
+  )
   run_items {n} {f} {b} (plain {c} {a} {t} {v} {w} p h) k depth out l =
       after n f _ _ (c ∷ t) t depth out (c ∷ []) (plain_item n f k depth b out t c p (positive _ k l))
       (omega (arith, bytes_cons c t)) w a v
       (run_items h (pred k) depth (out ++ c ∷ []) (step_left n f k depth b out t c l))
   run_items {n} {f} {b} (escaped {a} {t} {u} {v} {w} {e} q h) k depth out l =
       let less = escape_within n f true _ t u e q in
-      after n f _ _ (92 ∷ t) u depth out (escape_in_class b e)
-      (items_escape n f depth b out (92 ∷ t) 92 t refl k e u (positive _ k l) refl q)
-      (omega (arith, less, bytes_cons 92 t)) w a v
+      after n f _ _ (backslash ∷ t) u depth out (escape_in_class b e)
+      (items_escape n f depth b out (backslash ∷ t) backslash t refl k e u (positive _ k l) refl q)
+      (omega (arith, less, bytes_cons backslash t)) w a v
       (run_items h (pred k) depth (out ++ escape_in_class b e)
-      (omega (arith, less, step_left n f k depth b out t 92 l)))
+      (omega (arith, less, step_left n f k depth b out t backslash l)))
   run_items {n} {f} {b} (nested {m} {a} {t} {u} {v} {x} {w} g h) k depth out l =
-      let (j, more, less, q) = run_class g (pred k) (depth + 1) out (step_left n f k depth b out t 91 l) in
-      after n f _ _ (91 ∷ t) u depth out x
-      (items_open n f depth b out (91 ∷ t) 91 t refl k (positive _ k l) refl ∙ q
+      let (j, more, less, q) = run_class g (pred k) (depth + 1) out (step_left n f k depth b out t open_bracket l) in
+      after n f _ _ (open_bracket ∷ t) u depth out x
+      (items_open n f depth b out (open_bracket ∷ t) open_bracket t refl k (positive _ k l) refl ∙ q
       ∙ ended_inside n f j depth m (out ++ x) u)
-      (omega (arith, less, bytes_cons 91 t)) w a v (run_items h j depth (out ++ x) more)
+      (omega (arith, less, bytes_cons open_bracket t)) w a v (run_items h j depth (out ++ x) more)
   run_items {n} {f} {b} end k depth out l = items_end n f k depth b out [] refl
   run_items {n} {f} {b} (plain_fault {c} {t} {e} p h) k depth out l =
       plain_item n f k depth b out t c p (positive _ k l)
       ∙ run_items h (pred k) depth (out ++ c ∷ []) (step_left n f k depth b out t c l)
   run_items {n} {f} {b} (escape_fault {t} {e} q) k depth out l = items_fails n f k depth b out t e q (positive _ k l)
   run_items {n} {f} {b} (escaped_fault {t} {u} {x} {e} q h) k depth out l =
-      items_escape n f depth b out (92 ∷ t) 92 t refl k x u (positive _ k l) refl q
+      items_escape n f depth b out (backslash ∷ t) backslash t refl k x u (positive _ k l) refl q
       ∙ run_items h (pred k) depth (out ++ escape_in_class b x)
-      (omega (arith, escape_within n f true _ t u x q, step_left n f k depth b out t 92 l))
+      (omega (arith, escape_within n f true _ t u x q, step_left n f k depth b out t backslash l))
   run_items {n} {f} {b} (class_fault {t} {e} h) k depth out l =
-      items_open n f depth b out (91 ∷ t) 91 t refl k (positive _ k l) refl
-      ∙ run_class h (pred k) (depth + 1) out (step_left n f k depth b out t 91 l)
+      items_open n f depth b out (open_bracket ∷ t) open_bracket t refl k (positive _ k l) refl
+      ∙ run_class h (pred k) (depth + 1) out (step_left n f k depth b out t open_bracket l)
   run_items {n} {f} {b} (nested_fault {m} {t} {u} {x} {e} g h) k depth out l =
-      let (j, more, less, q) = run_class g (pred k) (depth + 1) out (step_left n f k depth b out t 91 l) in
-      items_open n f depth b out (91 ∷ t) 91 t refl k (positive _ k l) refl ∙ q
+      let (j, more, less, q) = run_class g (pred k) (depth + 1) out (step_left n f k depth b out t open_bracket l) in
+      items_open n f depth b out (open_bracket ∷ t) open_bracket t refl k (positive _ k l) refl ∙ q
       ∙ ended_inside n f j depth m (out ++ x) u ∙ run_items h j depth (out ++ x) more
 
 -- the function's answer, as the relation puts it
@@ -223,7 +227,7 @@ module _ (n : ℕ) (f : Flags) (k : ℕ) (reads : ReadsShort n f k) (b : Bool) (
   escaped_reads e u q (written w a v, h, less) = (
     written (escape_in_class b e ++ w) a v,
     escaped q h,
-    omega (arith, less, escape_within n f true _ t u e q, bytes_cons 92 t),
+    omega (arith, less, escape_within n f true _ t u e q, bytes_cons backslash t),
   )
   escaped_reads e u q (fault x, h, less) = (fault x, escaped_fault q h, tt)
 
@@ -237,7 +241,7 @@ module _ (n : ℕ) (f : Flags) (k : ℕ) (reads : ReadsShort n f k) (b : Bool) (
       ReadsClass n f m u →
       ReadsClass n f b (open_bracket ∷ t)
   behind_class x m u g shorter (written w a v, h, less) =
-      (written (x ++ w) a v, nested g h, omega (arith, less, shorter, bytes_cons 91 t))
+      (written (x ++ w) a v, nested g h, omega (arith, less, shorter, bytes_cons open_bracket t))
   behind_class x m u g shorter (fault e, h, less) = (fault e, nested_fault g h, tt)
 
   class_item : (o : Written) × Class n f b t o × Less t o → ReadsClass n f b (open_bracket ∷ t)
@@ -250,21 +254,22 @@ module _ (n : ℕ) (f : Flags) (k : ℕ) (reads : ReadsShort n f k) (b : Bool) (
       class_item (class_within n f b t p.0 p.1 refl (reads b p.1 (omega (arith, class_head_bytes t, l))))
 
   one_more : (c : ℕ) → ReadsClass n f b (c ∷ t)
-  one_more c = by_backslash (cases_eq c 92) where
-    plain_left : (c ≢ 92) → (c ≢ 91) → (c ≢ 93) → is_plain_in_class c ≡ true
+  one_more c = by_backslash (cases_eq c backslash) where
+    plain_left : (c ≢ backslash) → (c ≢ open_bracket) → (c ≢ close_bracket) → is_plain_in_class c ≡ true
     plain_left x y z = grind (arith, nat_tests)
 
-    by_close : (c ≢ 92) → (c ≢ 91) → (c ≡ 93) ⊎ (c ≢ 93) → ReadsClass n f b (c ∷ t)
-    by_close x y (inl e) = rw e (written (close_bracket ∷ []) b t, close, bytes_cons 93 t)
+    by_close : (c ≢ backslash) → (c ≢ open_bracket) → (c ≡ close_bracket) ⊎ (c ≢ close_bracket) →
+        ReadsClass n f b (c ∷ t)
+    by_close x y (inl e) = rw e (written (close_bracket ∷ []) b t, close, bytes_cons close_bracket t)
     by_close x y (inr z) = plain_reads c (plain_left x y z) (reads b t l)
 
-    by_open : (c ≢ 92) → (c ≡ 91) ⊎ (c ≢ 91) → ReadsClass n f b (c ∷ t)
+    by_open : (c ≢ backslash) → (c ≡ open_bracket) ⊎ (c ≢ open_bracket) → ReadsClass n f b (c ∷ t)
     by_open x (inl e) = rw e nested_reads
-    by_open x (inr y) = by_close x y (cases_eq c 93)
+    by_open x (inr y) = by_close x y (cases_eq c close_bracket)
 
-    by_backslash : (c ≡ 92) ⊎ (c ≢ 92) → ReadsClass n f b (c ∷ t)
+    by_backslash : (c ≡ backslash) ⊎ (c ≢ backslash) → ReadsClass n f b (c ∷ t)
     by_backslash (inl e) = rw e (escape_reads _ refl)
-    by_backslash (inr x) = by_open x (cases_eq c 91)
+    by_backslash (inr x) = by_open x (cases_eq c open_bracket)
 
 items_read : (n : ℕ) (f : Flags) (k : ℕ) → ReadsShort n f k
 items_read n f zero b t l = absurd (omega arith)

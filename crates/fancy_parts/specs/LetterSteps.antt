@@ -55,8 +55,7 @@ module _ (n : ℕ) (t : Text) where
       else gives (flags_go_on clears f) u)
       else flag_or_fault clears u (with_letter f (not clears) c)
 
-  -- at most k letters, each with layout before it; each takes a byte or more, so that the steps of `letters` never run
-  -- out
+  -- at most k letters, each with layout before it; each takes a byte or more, so that `letters` never runs out of steps
   unfoldable pub letters_in : ℕ → Bool → Flags → Text → Reading Letters
   letters_in zero clears f u = fails (group_not_closed n)
   letters_in (suc k) clears f u =
