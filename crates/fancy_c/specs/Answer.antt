@@ -2,7 +2,8 @@
 use Rattle.std.specs.Prelude.{◌≡◌, ℕ, ◌+◌, ◌⊎◌, List, length, chars}
 use Rattle.std.specs.Str.{IsUtf8, IsCharBoundary}
 use Rattle.std.specs.Str.Lossy.{utf8_valid_len}
-use Rattle.fancy_lex.specs.Fault.{Kind, kind_of, kind_text, general_parse_error, unclosed_open_paren, invalid_repeat}
+use Rattle.fancy_lex.specs.Fault.{Kind, kind_text, general_parse_error, unclosed_open_paren, invalid_repeat}
+use Rattle.fancy_lex.specs.ErrorViews.{kind_of}
 use Rattle.fancy_lex.specs.Fault.{recursion_exceeded, trailing_backslash, invalid_escape, unclosed_unicode_name}
 use Rattle.fancy_lex.specs.Fault.{invalid_hex}
 use Rattle.fancy_lex.specs.Fault.{invalid_codepoint_value, invalid_class, unknown_flag}

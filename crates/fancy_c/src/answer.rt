@@ -1,6 +1,6 @@
 //! What a caller in C is answered. The numbers never change.
 ghost use Rattle.std.specs.Prelude.{◌≡◌};
-ghost use Rattle.fancy_lex.specs.Fault.{kind_of};
+ghost use Rattle.fancy_lex.specs.ErrorViews.{kind_of};
 ghost use Rattle.fancy_c.specs.Answer.{number_of_kind};
 
 use fancy_lex::error::ParseError;

@@ -1,6 +1,7 @@
 //! The words of a fault.
 ghost use Rattle.std.specs.Prelude.{◌≡◌, ◌≢◌, ◌<◌, ◌≤◌, IfOk, length, string_bytes};
-ghost use Rattle.fancy_lex.specs.Fault.{Kind, kind_of, kind_text};
+ghost use Rattle.fancy_lex.specs.Fault.{Kind, kind_text};
+ghost use Rattle.fancy_lex.specs.ErrorViews.{kind_of};
 ghost use Rattle.fancy_lex.specs.Flags.{flags_of};
 ghost use Rattle.fancy_grammar.specs.Marks.{Marks};
 ghost use Rattle.fancy_grammar.specs.Tree.{Tree};

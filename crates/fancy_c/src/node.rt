@@ -1,6 +1,6 @@
 //! A node of a tree, as a caller in C gets it. The numbers never change.
 ghost use Rattle.std.specs.Prelude.{◌≡◌, chars};
-ghost use Rattle.fancy_lex.specs.Target.{view_target};
+ghost use Rattle.fancy_lex.specs.NameViews.{view_target};
 ghost use Rattle.fancy_syntax.specs.View.{view, view_absent, view_ast};
 ghost use Rattle.fancy_c.specs.Node as spec;
 

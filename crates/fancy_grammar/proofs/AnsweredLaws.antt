@@ -11,7 +11,8 @@ use Rattle.fancy_lex.specs.declared.flags.Flags.{Flags}
 use Rattle.fancy_parts.specs.Meaning.{Meaning, number, unresolved, faulty, means, meaning, back_to, last_of}
 use Rattle.fancy_parts.specs.Meaning.{group_or_none, no_group, at_distance, Role, back_reference, call, condition, AnyReference}
 use Rattle.fancy_parts.specs.Meaning.{fault_or, first_fault}
-use Rattle.fancy_parts.specs.Ranks.{Opening, is_counted, numbers, opened_before, only_named, counted_in, counted}
+use Rattle.fancy_parts.specs.Ranks.{Opening, is_counted, numbers, openings_before, only_named, numbered_openings_in}
+use Rattle.fancy_parts.specs.Ranks.{numbered_openings}
 use Rattle.fancy_grammar.specs.Answer.{IsTreeOf}
 use Rattle.fancy_grammar.specs.Answered.{IsAnsweredNode, IsAnswered, IsAnsweredWith, AreNamed, is_group, groups}
 use Rattle.fancy_grammar.specs.Answered.{is_call_node, has_call, group_referred, groups_referred, numbered_in}
@@ -88,18 +89,18 @@ condition_answered (faulty k) t level place o u e = absurd cc
 module _ (named : Bool) (g : List Opening) where
   -- what a reference at the place means
   abbrev means_here : Role → Target → ℕ → Meaning
-  means_here role t place = means (λ u. numbers u g) (opened_before g place) role t
+  means_here role t place = means (λ u. numbers u g) (openings_before g place) role t
 
   -- their openings are those that have a number
   openings_counted : (l : List Tree) →
-      map (λ q. q.0) (numbered_in named l) ≡ counted_in named (openings_in (filter_map item_of l))
+      map (λ q. q.0) (numbered_in named l) ≡ numbered_openings_in named (openings_in (filter_map item_of l))
   openings_counted [] = refl
   openings_counted (ast_node (ast_group name t) place ∷ l) = by_name (is_counted named name) refl (openings_counted l)
     where
       by_name : (b : Bool) → is_counted named name ≡ b →
-          map (λ q. q.0) (numbered_in named l) ≡ counted_in named (openings_in (filter_map item_of l)) →
+          map (λ q. q.0) (numbered_in named l) ≡ numbered_openings_in named (openings_in (filter_map item_of l)) →
           map (λ q. q.0) (numbered_in named (ast_node (ast_group name t) place ∷ l))
-          ≡ counted_in named (openings_in (filter_map item_of (ast_node (ast_group name t) place ∷ l)))
+          ≡ numbered_openings_in named (openings_in (filter_map item_of (ast_node (ast_group name t) place ∷ l)))
       by_name true e more = rw e (ap (λ l. record { place = place; name = name } ∷ l) more)
       by_name false e more = rw e more
   openings_counted (ast_node (ast_backref t casei level) place ∷ l) = openings_counted l
@@ -238,7 +239,7 @@ module _ (named : Bool) (g : List Opening) where
       let m = means_here back_reference t place in
       let behind = first_fault g (references_in (filter_map item_of l)) in (
         backref_answered m t casei level place behind
-            (back_reference_resolved (λ u. numbers u g) (opened_before g place) t) n,
+            (back_reference_resolved (λ u. numbers u g) (openings_before g place) t) n,
         answered_kept l h.1 (none_behind m place behind n),
       )
   answered_kept (ast_node (ast_call t) place ∷ l) h n =
@@ -248,7 +249,7 @@ module _ (named : Bool) (g : List Opening) where
   answered_kept (ast_node (ast_condition t level) place ∷ l) h n =
       let m = means_here condition t place in
       let behind = first_fault g (references_in (filter_map item_of l)) in (
-        condition_answered m t level place behind (condition_resolved (λ u. numbers u g) (opened_before g place) t) n,
+        condition_answered m t level place behind (condition_resolved (λ u. numbers u g) (openings_before g place) t) n,
         answered_kept l h.1 (none_behind m place behind n),
       )
   answered_kept (literal w casei ∷ l) h n = (h.0, answered_kept l h.1 n)
@@ -271,7 +272,7 @@ module _ {f : Flags} {text : Text} {t : Tree} {m : Marks} (a : IsTreeOf f text t
   named = only_named f (openings raw)
 
   abbrev numbered : List Opening
-  numbered = counted f (openings raw)
+  numbered = numbered_openings f (openings raw)
 
   nodes : preorder t ≡ kept named numbered (preorder raw)
   nodes = ap preorder a.3 ∙ resolved_nodes named numbered raw
@@ -296,7 +297,7 @@ module _ {f : Flags} {text : Text} {t : Tree} {m : Marks} (a : IsTreeOf f text t
   openings_in_order : map (λ q. q.0) (numbered_groups f raw) ≡ numbered
   openings_in_order =
       openings_counted named numbered (preorder raw)
-      ∙ ap (λ l. counted_in named (openings_in l)) (sym (items_of_nodes raw))
+      ∙ ap (λ l. numbered_openings_in named (openings_in l)) (sym (items_of_nodes raw))
 
   -- as many as are said
   pub groups_total : length (groups t) ≡ m.total_groups

@@ -28,7 +28,7 @@ use Rattle.fancy_grammar.specs.Head.{Head, capture, scope, look, atomic, define,
 use Rattle.fancy_grammar.specs.Items.{openings}
 use Rattle.fancy_grammar.specs.Join.{join, choice, solid, is_empty, one_or}
 use Rattle.fancy_grammar.specs.Marks.{Marks}
-use Rattle.fancy_parts.specs.Ranks.{only_named, counted}
+use Rattle.fancy_parts.specs.Ranks.{only_named, numbered_openings}
 use Rattle.fancy_grammar.specs.Preorder.{preorder, preorder_all}
 use Rattle.fancy_grammar.specs.Quantified.{quants, adjacent, max_adjacent, is_unmoved, quant, quant_at, with_counts}
 use Rattle.fancy_grammar.specs.Quantified.{suffix, is_swapped, quantified, is_repeatable, is_dropped}
@@ -433,7 +433,8 @@ whole_fits (whole {f} {text} {q} a e) =
 pub bounded : {f : Flags} {re : List ℕ} {t : Tree} {m : Marks} → IsUtf8 re → IsTreeOf f (chars re) t m →
     IsSmall t (length re)
 bounded {f} {re} {t} u (r, a, none, e, d) =
-    let small = whole_fits a.1 in let named = only_named f (openings r) in let numbered = counted f (openings r) in (
+    let small = whole_fits a.1 in let named = only_named f (openings r) in
+    let numbered = numbered_openings f (openings r) in (
       omega (arith, ap nodes e, resolved_size named numbered r, small.0, bytes_chars re u),
       omega (arith, ap levels e, resolved_levels named numbered r, small.1),
     )

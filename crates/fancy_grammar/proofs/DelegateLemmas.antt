@@ -10,7 +10,8 @@ use Rattle.fancy_lex.specs.Characters.{open_bracket, backslash, ◌∈◌}
 use Rattle.fancy_lex.specs.Class.{class}
 use Rattle.fancy_lex.specs.Escape.{escape}
 use Rattle.fancy_lex.specs.Escaped.{Escape}
-use Rattle.fancy_lex.specs.Fault.{Fault, kind_of}
+use Rattle.fancy_lex.specs.Fault.{Fault}
+use Rattle.fancy_lex.specs.ErrorViews.{kind_of}
 use Rattle.fancy_lex.specs.Flags.{flags_of}
 use Rattle.fancy_lex.specs.Reading.{Reading, gives, fails, IsErrorOrNoMemory}
 use Rattle.fancy_lex.specs.Text.{Text, bytes}
@@ -21,7 +22,7 @@ use Rattle.fancy_lex.specs.declared.flags.Flags.{Flags}
 use Rattle.fancy_lex.proofs.TextLemmas.{bytes_chars}
 use Rattle.fancy_grammar.specs.Ahead.{leaf_node, leaf_outcome}
 use Rattle.fancy_grammar.specs.Grammar.{start}
-use Rattle.fancy_grammar.specs.Normal.{bare, class_of, whole_of, whole_leaf, normal}
+use Rattle.fancy_grammar.specs.Normal.{unicode_flags, class_of, whole_of, whole_leaf, normal}
 use Rattle.fancy_grammar.specs.Join.{is_empty}
 use Rattle.fancy_grammar.specs.Printable.{printable}
 use Rattle.fancy_grammar.specs.Tree.{Tree, empty, assertion, literal, concat, alt, delegate, define_group}
@@ -43,50 +44,54 @@ whole_left (Some p) true r v class none is = absurd (false≢true (sym none))
 
 module _ (bs : List ℕ) (n : ℕ) (f : Flags) (utf8 : IsUtf8 bs) (whole : n ≡ length bs + 1) (is : f ≡ flags_of 0) where
   -- a class under no flags, as a leaf
-  class_leaf : class_of (bare false) (open_bracket ∷ chars bs) ≡
-      whole_leaf (leaf_outcome (λ w. delegate w false) (start (bare false) (open_bracket ∷ chars bs))
+  class_leaf : class_of (unicode_flags false) (open_bracket ∷ chars bs) ≡
+      whole_leaf (leaf_outcome (λ w. delegate w false) (start (unicode_flags false) (open_bracket ∷ chars bs))
       (class n f (chars bs)))
   unfolding class_of bytes
   class_leaf = rw (one_more bs n utf8 whole, is) refl
 
   pub class_read : (w v : Text) (o : Option (ℕ × Bor (List ℕ))) (b : Bool) → class n f (chars bs) ≡ gives w v →
       is_some o ≡ not b → MatchOption o (v ≡ []) (λ p. v ≡ p.0 ∷ chars p.1.now) →
-      b ≡ is_some (class_of (bare false) (open_bracket ∷ chars bs))
+      b ≡ is_some (class_of (unicode_flags false) (open_bracket ∷ chars bs))
   class_read w v o b e none left = whole_left o b (delegate w false) v refl none left ∙ sym (ap is_some (class_leaf ∙
-      ap (λ q. whole_leaf (leaf_outcome (λ w. delegate w false) (start (bare false) (open_bracket ∷ chars bs)) q)) e))
+      ap (λ q. whole_leaf (leaf_outcome (λ w. delegate w false)
+      (start (unicode_flags false) (open_bracket ∷ chars bs)) q)) e))
 
   pub class_faulty : (e : Fault) → class n f (chars bs) ≡ fails e →
-      false ≡ is_some (class_of (bare false) (open_bracket ∷ chars bs))
+      false ≡ is_some (class_of (unicode_flags false) (open_bracket ∷ chars bs))
   class_faulty e h = sym (ap is_some (class_leaf ∙
-      ap (λ q. whole_leaf (leaf_outcome (λ w. delegate w false) (start (bare false) (open_bracket ∷ chars bs)) q)) h))
+      ap (λ q. whole_leaf (leaf_outcome (λ w. delegate w false)
+      (start (unicode_flags false) (open_bracket ∷ chars bs)) q)) h))
 
   -- an escape under no flags, as a leaf
-  escape_leaf : class_of (bare false) (backslash ∷ chars bs) ≡
-      whole_leaf (leaf_outcome leaf_node (start (bare false) (backslash ∷ chars bs)) (escape n f false 0 (chars bs)))
+  escape_leaf : class_of (unicode_flags false) (backslash ∷ chars bs) ≡
+      whole_leaf (leaf_outcome leaf_node (start (unicode_flags false) (backslash ∷ chars bs))
+      (escape n f false 0 (chars bs)))
   unfolding class_of bytes
   escape_leaf = rw (one_more bs n utf8 whole, is) (grind arith)
 
   escape_is : (q : Reading Escape) → escape n f false 0 (chars bs) ≡ q →
-      is_some (class_of (bare false) (backslash ∷ chars bs)) ≡
-      is_some (whole_leaf (leaf_outcome leaf_node (start (bare false) (backslash ∷ chars bs)) q))
+      is_some (class_of (unicode_flags false) (backslash ∷ chars bs)) ≡
+      is_some (whole_leaf (leaf_outcome leaf_node (start (unicode_flags false) (backslash ∷ chars bs)) q))
   escape_is q e = ap is_some (escape_leaf ∙
-      ap (λ q. whole_leaf (leaf_outcome leaf_node (start (bare false) (backslash ∷ chars bs)) q)) e)
+      ap (λ q. whole_leaf (leaf_outcome leaf_node (start (unicode_flags false) (backslash ∷ chars bs)) q)) e)
 
   pub escape_read : (x : Escape) (v : Text) (o : Option (ℕ × Bor (List ℕ))) (a b : Bool) →
       escape n f false 0 (chars bs) ≡ gives x v →
       a ≡ is_some (whole_of [] (leaf_node x)) → a ≡ true → is_some o ≡ not b →
       MatchOption o (v ≡ []) (λ p. v ≡ p.0 ∷ chars p.1.now) →
-      b ≡ is_some (class_of (bare false) (backslash ∷ chars bs))
+      b ≡ is_some (class_of (unicode_flags false) (backslash ∷ chars bs))
   escape_read x v o a b e class is_class none left = whole_left o b (leaf_node x) v (sym is_class ∙ class) none left
       ∙ sym (escape_is _ e)
 
   pub escape_other : (x : Escape) (v : Text) (a : Bool) → escape n f false 0 (chars bs) ≡ gives x v →
-      a ≡ is_some (whole_of [] (leaf_node x)) → a ≡ false → a ≡ is_some (class_of (bare false) (backslash ∷ chars bs))
+      a ≡ is_some (whole_of [] (leaf_node x)) → a ≡ false →
+      a ≡ is_some (class_of (unicode_flags false) (backslash ∷ chars bs))
   escape_other x v a e class is_other = is_other ∙ other_left (leaf_node x) v (sym is_other ∙ class)
       ∙ sym (escape_is _ e)
 
   pub escape_faulty : (e : Fault) → escape n f false 0 (chars bs) ≡ fails e →
-      false ≡ is_some (class_of (bare false) (backslash ∷ chars bs))
+      false ≡ is_some (class_of (unicode_flags false) (backslash ∷ chars bs))
   escape_faulty e h = sym (escape_is _ h)
 
 -- the answer where a reading failed, unless memory ran out
@@ -99,15 +104,15 @@ failed (Ok b) OutOfMemory o x is in_memory f faulty = absurd (in_memory refl)
 failed (Err m) error o x is in_memory f faulty = tt
 
 -- a text that begins with neither mark is no class
-pub none_of_nothing : (bs : List ℕ) → chars bs ≡ [] → false ≡ is_some (class_of (bare false) (chars bs))
+pub none_of_nothing : (bs : List ℕ) → chars bs ≡ [] → false ≡ is_some (class_of (unicode_flags false) (chars bs))
 unfolding class_of
 none_of_nothing bs is = rw is refl
 
 pub none_of_others : (bs r : List ℕ) (c : ℕ) → chars bs ≡ c ∷ chars r → c ∈ "[\\" ≡ false →
-    false ≡ is_some (class_of (bare false) (chars bs))
+    false ≡ is_some (class_of (unicode_flags false) (chars bs))
 none_of_others bs r c is other =
     let (a, b) = or_parts _ _ other in
-    no_other c (chars r) a b ∙ sym (ap (λ t. is_some (class_of (bare false) t)) is)
+    no_other c (chars r) a b ∙ sym (ap (λ t. is_some (class_of (unicode_flags false) t)) is)
 
 pub one_shorter : (s r : List ℕ) (c : ℕ) → IsUtf8 s → IsUtf8 r → chars s ≡ c ∷ chars r → len_utf8 c ≡ 1 →
     length s ≡ length r + 1
@@ -118,7 +123,7 @@ one_shorter s r c u v is one = sym (bytes_chars s u) ∙ rw (is, one, bytes_char
 
 -- the printable Delegates, as the code tells them
 pub delegate_told : (r : Result Bool AllocError) (s : Text) (casei : Bool) (e : Tree) → all_scalars s ≡ true →
-    IfOk r (λ b. b ≡ is_some (class_of (bare false) s)) → e ≡ delegate s casei → IfOk r (λ b. b ≡ printable e)
+    IfOk r (λ b. b ≡ is_some (class_of (unicode_flags false) s)) → e ≡ delegate s casei → IfOk r (λ b. b ≡ printable e)
 delegate_told (Ok b) s casei e scalars is seen = is ∙ rw (seen, scalars) refl
 delegate_told (Err m) s casei e scalars is seen = tt
 

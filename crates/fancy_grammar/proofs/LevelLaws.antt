@@ -5,7 +5,7 @@ use Rattle.std.proofs.lemmas.Bool.{cond_both}
 use Rattle.std.proofs.lemmas.List.{length-map}
 use Rattle.fancy_lex.specs.Target.{Target}
 use Rattle.fancy_parts.specs.Meaning.{Meaning, number, unresolved, faulty, means, back_reference, call, condition}
-use Rattle.fancy_parts.specs.Ranks.{Opening, is_counted, numbers, opened_before}
+use Rattle.fancy_parts.specs.Ranks.{Opening, is_counted, numbers, openings_before}
 use Rattle.fancy_grammar.specs.Preorder.{preorder, preorder_all, preorder_absent}
 use Rattle.fancy_grammar.specs.Resolved.{resolved_in, resolved_all, resolved_absent, reference_node}
 use Rattle.fancy_grammar.specs.Tree.{Tree, Trees, no_trees, more_trees, concat, alt, group, look_around, repeat}
@@ -135,12 +135,12 @@ module _ (named : Bool) (g : List Opening) where
         cond_both (is_counted named name) _ _ (λ u. levels u ≤ suc (raw_levels t)) (λ _. omega (arith, inside))
         (λ _. omega (arith, inside))
     resolved_levels (ast_node (ast_backref t casei level) place) =
-        let m = means (λ u. numbers u g) (opened_before g place) back_reference t in
+        let m = means (λ u. numbers u g) (openings_before g place) back_reference t in
         omega (arith, backref_level m t casei level place)
     resolved_levels (ast_node (ast_call t) place) =
-        omega (arith, call_level (means (λ u. numbers u g) (opened_before g place) call t) t place)
+        omega (arith, call_level (means (λ u. numbers u g) (openings_before g place) call t) t place)
     resolved_levels (ast_node (ast_condition t level) place) =
-        omega (arith, condition_level (means (λ u. numbers u g) (opened_before g place) condition t) t level place)
+        omega (arith, condition_level (means (λ u. numbers u g) (openings_before g place) condition t) t level place)
     resolved_levels _ = omega arith
 
     resolved_levels_all : (ts : Trees) → levels_all (resolved_all named g ts) ≤ raw_levels_all ts

@@ -11,23 +11,24 @@ use Rattle.std.specs.declared.cmp.Ordering.{Ordering}
 use Rattle.std.specs.declared.cmp.Ordering.TheVariants.{Less, Equal, Greater}
 use Rattle.fancy_lex.specs.Text.{Text}
 use Rattle.fancy_parts.specs.Ranks.{Opening, is_name, numbers_from, numbers, name_cmp, names, named_groups}
-use Rattle.fancy_grammar.specs.Answered.{Ascend, AreNamed}
+use Rattle.fancy_grammar.specs.Answered.{AscendingNumbers, AreNamed}
 
 -- ---- they ascend
 
-ascend_below : (j k n : ℕ) (l : List ℕ) → j ≤ k → Ascend k n l → Ascend j n l
+ascend_below : (j k n : ℕ) (l : List ℕ) → j ≤ k → AscendingNumbers k n l → AscendingNumbers j n l
 ascend_below j k n [] h a = tt
 ascend_below j k n (m ∷ l) h (a, b, c) = (omega (arith, h, a), b, c)
 
-ascend_from : (n : ℕ) (w : Text) (l : List Opening) → Ascend n (n + length l) (numbers_from n w l)
+ascend_from : (n : ℕ) (w : Text) (l : List Opening) → AscendingNumbers n (n + length l) (numbers_from n w l)
 ascend_from n w [] = tt
 ascend_from n w (o ∷ l) = by_test (is_name w o.name)
-    (subst (λ m. Ascend (n + 1) m (numbers_from (n + 1) w l)) same (ascend_from (n + 1) w l)) where
+    (subst (λ m. AscendingNumbers (n + 1) m (numbers_from (n + 1) w l)) same (ascend_from (n + 1) w l)) where
       same : n + 1 + length l ≡ n + suc (length l)
       same = omega arith
 
-      by_test : (b : Bool) → Ascend (n + 1) (n + suc (length l)) (numbers_from (n + 1) w l) →
-          Ascend n (n + suc (length l)) (if b then (n + 1) ∷ numbers_from (n + 1) w l else numbers_from (n + 1) w l)
+      by_test : (b : Bool) → AscendingNumbers (n + 1) (n + suc (length l)) (numbers_from (n + 1) w l) →
+          AscendingNumbers n (n + suc (length l))
+          (if b then (n + 1) ∷ numbers_from (n + 1) w l else numbers_from (n + 1) w l)
       by_test true h = (omega arith, omega arith, h)
       by_test false h = ascend_below n (n + 1) (n + suc (length l)) (numbers_from (n + 1) w l) (omega arith) h
 
@@ -80,9 +81,9 @@ named_ascend l = each (names l) (fold_all (Carried l) [] (filter_map (λ o. o.na
   each : (ws : List Text) → AllByRecursion (Carried l) ws → AreNamed (length l) (map (λ w. (w, numbers w l)) ws)
   each [] h = tt
   each (w ∷ ws) (h, hs) = ((h 0, ascend w), each ws hs) where
-    ascend : (w : Text) → Ascend 0 (length l) (numbers w l)
+    ascend : (w : Text) → AscendingNumbers 0 (length l) (numbers w l)
     ascend w = let same : 0 + length l ≡ length l = omega arith in
-        subst (λ m. Ascend 0 m (numbers w l)) same (ascend_from 0 w l)
+        subst (λ m. AscendingNumbers 0 m (numbers w l)) same (ascend_from 0 w l)
 
 -- ---- and are those of its groups
 

@@ -4,12 +4,12 @@ use Rattle.std.proofs.Common.{length-append, append_assoc, refl, sym, ◌∙◌,
 use Rattle.std.specs.List.{AllByRecursion}
 use Rattle.std.proofs.lemmas.List.Sums.{sum_by-cons}
 use Rattle.fancy_parts.specs.Ranks.{Opening}
-use Rattle.fancy_parts.specs.Ranks.{is_counted, counted_in, opened_before}
+use Rattle.fancy_parts.specs.Ranks.{is_counted, numbered_openings_in, openings_before}
 use Rattle.fancy_grammar.specs.Fits.{Fits}
 use Rattle.fancy_lex.specs.Fault.{Fault}
 use Rattle.fancy_parts.specs.Meaning.{Meaning, number, unresolved, faulty, meaning, fault_or, first_fault}
 use Rattle.fancy_grammar.specs.Items.{Item, opening, reference, openings_in, references_in}
-use Rattle.fancy_grammar.specs.Ordered.{Ascends, place_of_item}
+use Rattle.fancy_grammar.specs.Ordered.{AscendingPlaces, place_of_item}
 use Rattle.fancy_grammar.specs.Walk.{Known, Progress, note_item}
 
 -- the items stand behind the place
@@ -22,12 +22,12 @@ abbrev Ascend : List Item → Type 0
 Ascend [] = Unit {0}
 Ascend (i ∷ l) = Behind (place_of_item i) l × Ascend l
 
-behind_from : (p low high : ℕ) (l : List Item) → p < low → Ascends low high l → Behind p l
+behind_from : (p low high : ℕ) (l : List Item) → p < low → AscendingPlaces low high l → Behind p l
 behind_from p low high [] h a = tt
 behind_from p low high (i ∷ l) h a =
     (omega (arith, h, a.0), behind_from p (place_of_item i + 1) high l (omega (arith, h, a.0)) a.1)
 
-ascend : (low high : ℕ) (l : List Item) → Ascends low high l → Ascend l
+ascend : (low high : ℕ) (l : List Item) → AscendingPlaces low high l → Ascend l
 ascend low high [] a = tt
 ascend low high (i ∷ l) a = (
   behind_from (place_of_item i) (place_of_item i + 1) high l (omega arith) a.1,
@@ -35,12 +35,12 @@ ascend low high (i ∷ l) a = (
       (place_of_item i + 1) high l a.1,
 )
 
-pub bounds : (low high : ℕ) (l : List Item) → Ascends low high l → low ≤ high
+pub bounds : (low high : ℕ) (l : List Item) → AscendingPlaces low high l → low ≤ high
 bounds low high [] a = a
 bounds low high (i ∷ l) a = omega (arith, a.0, bounds (place_of_item i + 1) high l a.1)
 
 -- each has a place of its own
-pub openings_fit : (low high : ℕ) (l : List Item) → Ascends low high l → low + length (openings_in l) ≤ high
+pub openings_fit : (low high : ℕ) (l : List Item) → AscendingPlaces low high l → low + length (openings_in l) ≤ high
 openings_fit low high [] a = omega (arith, a)
 openings_fit low high (opening o ∷ l) a = omega (arith, a.0, openings_fit (o.place + 1) high l a.1)
 openings_fit low high (reference r ∷ l) a = omega (arith, a.0, openings_fit (r.place + 1) high l a.1)
@@ -74,19 +74,20 @@ AllBefore g (i ∷ l) = Before (place_of_item i) g × AllBefore g l
 weight : (m n : ℕ) → m < n → ◌≡◌ {A = ℕ} (cond (nat_lt m n) 1 0) 1
 weight m n h = grind arith
 
-counted_before : (p : ℕ) (a b : List Opening) → Before p a → opened_before b p ≡ 0 → opened_before (a ++ b) p ≡ length a
+counted_before : (p : ℕ) (a b : List Opening) → Before p a → openings_before b p ≡ 0 →
+    openings_before (a ++ b) p ≡ length a
 counted_before p [] b h e = e
 counted_before p (o ∷ a) b h e =
     let f = λ (x : Opening). cond (nat_lt x.place p) 1 0 in
     let before : o.place < p = h.0 in
     let one : ◌≡◌ {A = ℕ} (cond (nat_lt o.place p) 1 0) 1 = weight o.place p before in
-    let more : opened_before (a ++ b) p ≡ length a = counted_before p a b h.1 e in
-    let split : opened_before (o ∷ (a ++ b)) p ≡ cond {A = ℕ} (nat_lt o.place p) 1 0 + opened_before (a ++ b) p
+    let more : openings_before (a ++ b) p ≡ length a = counted_before p a b h.1 e in
+    let split : openings_before (o ∷ (a ++ b)) p ≡ cond {A = ℕ} (nat_lt o.place p) 1 0 + openings_before (a ++ b) p
     = sum_by-cons f o (a ++ b) in
     omega arith
 
 none_before : (named : Bool) (p : ℕ) (l : List Item) → Behind p l →
-    opened_before (counted_in named (openings_in l)) p ≡ 0
+    openings_before (numbered_openings_in named (openings_in l)) p ≡ 0
 none_before named p [] h = refl
 none_before named p (opening o ∷ l) h = grind (arith, h.0, none_before named p l h.1)
 none_before named p (reference r ∷ l) h = none_before named p l h.1
@@ -105,29 +106,31 @@ behind_opening : (k : Known) (g : List Opening) (s : Progress) (o : Opening) (l 
     is_counted k.named o.name ≡ b → s.passed ≡ length g → AllBefore g (opening o ∷ l) →
     Behind o.place l →
     ((g2 : List Opening) (s2 : Progress) → s2.passed ≡ length g2 → AllBefore g2 l →
-    Fits k (g2 ++ counted_in k.named (openings_in l)) s2 l) →
-    Fits k (g ++ counted_in k.named (openings_in (opening o ∷ l))) (note_item k s (opening o)) l
+    Fits k (g2 ++ numbered_openings_in k.named (openings_in l)) s2 l) →
+    Fits k (g ++ numbered_openings_in k.named (openings_in (opening o ∷ l))) (note_item k s (opening o)) l
 behind_opening k g s o l true e p h a more =
     let passed : (note_item k s (opening o)).passed ≡ length (g ++ (o ∷ []))
     = rw e (omega (arith, length-append g (o ∷ []))) in
     let inner = more (g ++ (o ∷ [])) (note_item k s (opening o)) passed (all_before_more g o l h.1 a) in
-    let same : g ++ counted_in k.named (openings_in (opening o ∷ l))
-    ≡ (g ++ (o ∷ [])) ++ counted_in k.named (openings_in l)
-    = rw e (sym (append_assoc g (o ∷ []) (counted_in k.named (openings_in l)))) in
+    let same : g ++ numbered_openings_in k.named (openings_in (opening o ∷ l))
+    ≡ (g ++ (o ∷ [])) ++ numbered_openings_in k.named (openings_in l)
+    = rw e (sym (append_assoc g (o ∷ []) (numbered_openings_in k.named (openings_in l)))) in
     subst (λ m. Fits k m (note_item k s (opening o)) l) (sym same) inner
 behind_opening k g s o l false e p h a more =
     let passed : (note_item k s (opening o)).passed ≡ length g = rw e p in
     let inner = more g (note_item k s (opening o)) passed h.1 in
-    let same : g ++ counted_in k.named (openings_in (opening o ∷ l)) ≡ g ++ counted_in k.named (openings_in l)
+    let same : g ++ numbered_openings_in k.named (openings_in (opening o ∷ l))
+    ≡ g ++ numbered_openings_in k.named (openings_in l)
     = rw e refl in
     subst (λ m. Fits k m (note_item k s (opening o)) l) (sym same) inner
 
 fits_from : (k : Known) (g : List Opening) (s : Progress) (l : List Item) → s.passed ≡ length g → AllBefore g l →
     Ascend l →
-    Fits k (g ++ counted_in k.named (openings_in l)) s l
+    Fits k (g ++ numbered_openings_in k.named (openings_in l)) s l
 fits_from k g s [] p h a = tt
 fits_from k g s (reference r ∷ l) p h a = (
-  counted_before r.place g (counted_in k.named (openings_in l)) h.0 (none_before k.named r.place l a.0) ∙ sym p,
+  counted_before r.place g (numbered_openings_in k.named (openings_in l)) h.0 (none_before k.named r.place l a.0)
+      ∙ sym p,
   fits_from k g (note_item k s (reference r)) l p h.1 a.1,
 )
 fits_from k g s (opening o ∷ l) p h a = (
@@ -141,6 +144,6 @@ all_before_none [] = tt
 all_before_none (i ∷ l) = (tt, all_before_none l)
 
 -- a walk over ordered items from the start
-pub ordered_fits : (k : Known) (s : Progress) (low high : ℕ) (l : List Item) → s.passed ≡ 0 → Ascends low high l →
-    Fits k (counted_in k.named (openings_in l)) s l
+pub ordered_fits : (k : Known) (s : Progress) (low high : ℕ) (l : List Item) → s.passed ≡ 0 →
+    AscendingPlaces low high l → Fits k (numbered_openings_in k.named (openings_in l)) s l
 ordered_fits k s low high l p a = fits_from k [] s l p (all_before_none l) (ascend low high l a)

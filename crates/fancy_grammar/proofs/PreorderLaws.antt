@@ -6,7 +6,7 @@ use Rattle.std.proofs.lemmas.List.Elements.{filter-append, filter_map-append}
 use Rattle.fancy_lex.specs.Text.{Text}
 use Rattle.fancy_lex.specs.Target.{Target}
 use Rattle.fancy_parts.specs.Meaning.{Meaning, number, unresolved, faulty, means, Role, back_reference, call, condition}
-use Rattle.fancy_parts.specs.Ranks.{Opening, is_counted, numbers, opened_before}
+use Rattle.fancy_parts.specs.Ranks.{Opening, is_counted, numbers, openings_before}
 use Rattle.fancy_grammar.specs.Answered.{is_group, is_call_node, group_referred}
 use Rattle.fancy_grammar.specs.Items.{Item, opening, reference, items, items_all, items_absent}
 use Rattle.fancy_grammar.specs.Marks.{is_call, back_number}
@@ -94,11 +94,11 @@ module _ (named : Bool) (g : List Opening) where
     resolved_nodes (ast_node (ast_group name t) place) =
         group_kept name t place (is_counted named name) refl (resolved_nodes t)
     resolved_nodes (ast_node (ast_backref t casei level) place) =
-        (of_backref (means (λ u. numbers u g) (opened_before g place) back_reference t) t casei level place).alone
+        (of_backref (means (λ u. numbers u g) (openings_before g place) back_reference t) t casei level place).alone
     resolved_nodes (ast_node (ast_call t) place) =
-        (of_call (means (λ u. numbers u g) (opened_before g place) call t) t place).alone
+        (of_call (means (λ u. numbers u g) (openings_before g place) call t) t place).alone
     resolved_nodes (ast_node (ast_condition t level) place) =
-        (of_condition (means (λ u. numbers u g) (opened_before g place) condition t) t level place).alone
+        (of_condition (means (λ u. numbers u g) (openings_before g place) condition t) t level place).alone
     resolved_nodes _ = refl
 
     all_nodes : (ts : Trees) → preorder_all (resolved_all named g ts) ≡ kept (preorder_all ts)

@@ -9,7 +9,7 @@ use Rattle.std.proofs.lemmas.List.Folds.{list_all-append}
 use Rattle.fancy_lex.specs.declared.escape.Assertion.{Assertion}
 use Rattle.fancy_lex.specs.declared.escape.Assertion.TheVariants.{EndTextIgnoreTrailingNewlines}
 use Rattle.fancy_grammar.specs.Join.{is_empty, solid, one_or, join}
-use Rattle.fancy_grammar.specs.Normal.{character, pieces_of, normal, normal_pieces}
+use Rattle.fancy_grammar.specs.Normal.{normal_character, pieces_of, normal, normal_pieces}
 use Rattle.fancy_grammar.specs.Printable.{printable, all_printable}
 use Rattle.fancy_grammar.specs.Printed.{has_text, all_have_text}
 use Rattle.fancy_grammar.specs.Tree.{Tree, Trees, no_trees, more_trees, empty, any, assertion, literal, concat, alt}
@@ -74,7 +74,7 @@ one_solid false n e = rw e refl
 
 -- what a tree is among the pieces of a sequence is all Empty where the tree is
 pub pieces_empty : (u : Bool) (t : Tree) → list_all is_empty (pieces_of t (normal u t)) ≡ is_empty (normal u t)
-pieces_empty u (literal s false) = sym (join_empty (map (character false) s))
+pieces_empty u (literal s false) = sym (join_empty (map (normal_character false) s))
 pieces_empty u t = one_solid (is_empty (normal u t)) (normal u t) refl
 
 all_items_empty : (ts : Trees) → list_all is_empty (normal_pieces false ts) ≡ empties ts

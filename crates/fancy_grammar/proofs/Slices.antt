@@ -55,7 +55,7 @@ use Rattle.fancy_grammar.specs.Items.{Item, opening, reference, items, items_all
 use Rattle.fancy_grammar.specs.Quantified.{quants, adjacent, max_adjacent, is_unmoved, quant, quant_at, with_counts}
 use Rattle.fancy_grammar.specs.Quantified.{suffix, suffix_at, behind_lazy, may_be_possessive, is_swapped, quantified}
 use Rattle.fancy_grammar.specs.Quantified.{is_repeatable, is_dropped}
-use Rattle.fancy_grammar.specs.Ordered.{Ascends, place_of_item}
+use Rattle.fancy_grammar.specs.Ordered.{AscendingPlaces, place_of_item}
 use Rattle.fancy_grammar.specs.Slices.{Slice, Span, Within, MayStand, items_of}
 use Rattle.fancy_grammar.specs.State.{skipped, State, at, Outcome, done, fault, and_then}
 use Rattle.fancy_grammar.specs.Tree.{Tree, Trees, no_trees, more_trees, empty, concat, alt, delegate, absent}
@@ -110,15 +110,15 @@ stands_before {c} {u} l a = begins (c ∷ u) (to_ends a) (omega (arith, len_utf8
 
 -- ---- items in a slice
 
-raised : (a b high : ℕ) (l : List Item) → a ≤ b → Ascends b high l → Ascends a high l
+raised : (a b high : ℕ) (l : List Item) → a ≤ b → AscendingPlaces b high l → AscendingPlaces a high l
 raised a b high [] h i = omega (arith, h, i)
 raised a b high (x ∷ l) h i = (omega (arith, h, i.0), i.1)
 
-lowered : (low a b : ℕ) (l : List Item) → a ≤ b → Ascends low a l → Ascends low b l
+lowered : (low a b : ℕ) (l : List Item) → a ≤ b → AscendingPlaces low a l → AscendingPlaces low b l
 lowered low a b [] h i = omega (arith, h, i)
 lowered low a b (x ∷ l) h i = (i.0, lowered (place_of_item x + 1) a b l h i.1)
 
-joined : (a b c : ℕ) (l m : List Item) → Ascends a b l → Ascends b c m → Ascends a c (l ++ m)
+joined : (a b c : ℕ) (l m : List Item) → AscendingPlaces a b l → AscendingPlaces b c m → AscendingPlaces a c (l ++ m)
 joined a b c [] m h i = raised a b c m h i
 joined a b c (x ∷ l) m h i = (h.0, joined (place_of_item x + 1) b c l m h.1 i)
 
@@ -154,7 +154,7 @@ listed : {n : ℕ} {l m : List Item} {t u : Text} → l ≡ m → Span n l t u �
 listed {n} {t} {u} e h = subst (λ x. Span n x t u) e h
 
 -- from the front, and before the end
-ascends_whole : (n high : ℕ) (l : List Item) → high ≤ n → Ascends (n - n) high l → Ascends 0 n l
+ascends_whole : (n high : ℕ) (l : List Item) → high ≤ n → AscendingPlaces (n - n) high l → AscendingPlaces 0 n l
 ascends_whole n high [] h i = omega (arith, h, i)
 ascends_whole n high (x ∷ l) h i = (omega arith, lowered (place_of_item x + 1) high n l h i.1)
 
@@ -710,6 +710,6 @@ items_stand a = (whole_slice a).stand
 
 -- the groups and references of a text stand in text order, before its end
 pub ordered_within : {f : Flags} {text : Text} {r : Tree} {t : State} → Whole f text (done r t) →
-    Ascends 0 (bytes text) (items r)
+    AscendingPlaces 0 (bytes text) (items r)
 ordered_within {text} {r} {t} a = ascends_whole (bytes text) (place_of (bytes text) t.rest) (items r) (omega arith)
     ((whole_slice a).ascends (omega arith))

@@ -5,19 +5,20 @@ use Rattle.std.specs.Str.{IsUtf8, IsCharBoundary, all_scalars}
 use Rattle.std.proofs.Math.Utf8.{encodes}
 use Rattle.std.proofs.lemmas.Str.{scalars-chars, chars-encodes}
 use Rattle.fancy_lex.proofs.TextLemmas.{bytes_chars, cut_boundary}
-use Rattle.fancy_lex.specs.Fault.{Kind, Fault, kind_of}
+use Rattle.fancy_lex.specs.Fault.{Kind, Fault}
+use Rattle.fancy_lex.specs.ErrorViews.{kind_of}
 use Rattle.fancy_lex.specs.Text.{Text, EndsWith, as_told, begins, past_end, bytes}
 use Rattle.fancy_lex.specs.declared.error.ParseError.{ParseError as ErrorKind}
 use Rattle.fancy_lex.specs.declared.error.Error.{Error}
 use Rattle.fancy_lex.specs.declared.error.Error.TheVariants.{ParseError, OutOfMemory}
 use Rattle.fancy_lex.specs.declared.flags.Flags.{Flags}
-use Rattle.fancy_parts.specs.Ranks.{counted}
+use Rattle.fancy_parts.specs.Ranks.{numbered_openings}
 use Rattle.fancy_grammar.specs.Answer.{IsTreeOf, IsFaultOf, of_reading, of_resolving, IsOnlyFault, IsPlacedIn}
 use Rattle.fancy_grammar.specs.Grammar.{DerivesTree, Faults, Whole}
 use Rattle.fancy_grammar.specs.Items.{items, openings}
 use Rattle.fancy_grammar.specs.Marks.{Marks, marks}
 use Rattle.fancy_grammar.specs.Errors.{IsErrorAmong, IsErrorIn}
-use Rattle.fancy_grammar.specs.Ordered.{Ascends}
+use Rattle.fancy_grammar.specs.Ordered.{AscendingPlaces}
 use Rattle.fancy_grammar.specs.Slices.{MayStand}
 use Rattle.fancy_grammar.proofs.ReadBack.ScalarLemmas.{scalars_behind}
 use Rattle.fancy_grammar.specs.Resolved.{resolved, fault_of}
@@ -109,14 +110,14 @@ reading_placed OutOfMemory f re u a = tt
 
 -- the groups and references of a text that is read stand in text order
 pub text_order : (f : Flags) (re : List ℕ) (r : Tree) → IsUtf8 re → DerivesTree f (chars re) r →
-    Ascends 0 (length re) (items r)
-text_order f re r u a = subst (λ n. Ascends 0 n (items r)) (bytes_chars re u) (ordered_within a.1)
+    AscendingPlaces 0 (length re) (items r)
+text_order f re r u a = subst (λ n. AscendingPlaces 0 n (items r)) (bytes_chars re u) (ordered_within a.1)
 
 pub resolving_placed : (e : Error) (f : Flags) (re : List ℕ) (r : Tree) → IsUtf8 re → DerivesTree f (chars re) r →
     IsErrorIn e (fault_of f r) → IsPlacedIn e re
 resolving_placed (ParseError p k) f re r u a h =
     placed k re p u
-    (fault_place (MayStand (bytes (chars re)) (chars re)) (counted f (openings r)) (items r)
+    (fault_place (MayStand (bytes (chars re)) (chars re)) (numbered_openings f (openings r)) (items r)
     (record { place = p; kind = kind_of k })
     (items_stand a.1) h)
 resolving_placed OutOfMemory f re r u a h = tt

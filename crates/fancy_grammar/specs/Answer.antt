@@ -1,7 +1,8 @@
 -- What is answered for a text: its tree with its marks, or its fault.
 use Rattle.std.specs.Prelude.{◌≡◌, ℕ, ◌+◌, ◌⊎◌, List, length, Some, None}
 use Rattle.std.specs.Str.{IsCharBoundary}
-use Rattle.fancy_lex.specs.Fault.{Kind, kind_of}
+use Rattle.fancy_lex.specs.Fault.{Kind}
+use Rattle.fancy_lex.specs.ErrorViews.{kind_of}
 use Rattle.fancy_lex.specs.Text.{Text}
 use Rattle.fancy_lex.specs.declared.error.Error.{Error}
 use Rattle.fancy_lex.specs.declared.error.Error.TheVariants.{ParseError, OutOfMemory}

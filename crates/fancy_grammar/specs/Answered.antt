@@ -5,7 +5,7 @@ use Rattle.std.specs.Prelude.{Option, Some, None, find, nat_le, nat_lt, if◌the
 use Rattle.std.specs.List.{AllByRecursion, list_any}
 use Rattle.fancy_lex.specs.Text.{Text}
 use Rattle.fancy_lex.specs.declared.flags.Flags.{Flags}
-use Rattle.fancy_parts.specs.Ranks.{Opening, only_named, is_counted, counted}
+use Rattle.fancy_parts.specs.Ranks.{Opening, only_named, is_counted, numbered_openings}
 use Rattle.fancy_grammar.specs.Depth.{max_levels}
 use Rattle.fancy_grammar.specs.Items.{openings}
 use Rattle.fancy_grammar.specs.Marks.{Marks, ascending}
@@ -45,13 +45,13 @@ abbrev pub groups : Tree → List Tree
 groups t = filter is_group (preorder t)
 
 -- the numbers ascend, from above k up to n
-abbrev pub Ascend : ℕ → ℕ → List ℕ → Type 0
-Ascend k n [] = Unit {0}
-Ascend k n (m ∷ l) = (k < m) × (m ≤ n) × Ascend m n l
+abbrev pub AscendingNumbers : ℕ → ℕ → List ℕ → Type 0
+AscendingNumbers k n [] = Unit {0}
+AscendingNumbers k n (m ∷ l) = (k < m) × (m ≤ n) × AscendingNumbers m n l
 
 -- each name has numbers, and they ascend from 1 up to the total
 abbrev pub AreNamed : ℕ → List (Text × List ℕ) → Type 0
-AreNamed total l = AllByRecursion (λ e. (0 < length e.1) × Ascend 0 total e.1) l
+AreNamed total l = AllByRecursion (λ e. (0 < length e.1) × AscendingNumbers 0 total e.1) l
 
 -- whether the node is a call, resolved or not
 abbrev pub is_call_node : Tree → Bool
@@ -101,6 +101,7 @@ numbered_groups f r = numbered_in (only_named f (openings r)) (preorder r)
 -- their openings are those that have a number, in text order; and the k-th Group of the answered tree t holds the
 -- inside of the k-th of them, resolved
 pub record HasGroupsOf (f : Flags) (r t : Tree) : Type 0 where
-  pub in_order : map (λ g. g.0) (numbered_groups f r) ≡ counted f (openings r)
+  pub in_order : map (λ g. g.0) (numbered_groups f r) ≡ numbered_openings f (openings r)
   pub insides : groups t ≡
-      map (λ g. group (resolved_in (only_named f (openings r)) (counted f (openings r)) g.1)) (numbered_groups f r)
+      map (λ g. group (resolved_in (only_named f (openings r)) (numbered_openings f (openings r)) g.1))
+      (numbered_groups f r)

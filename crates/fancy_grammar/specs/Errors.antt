@@ -1,6 +1,7 @@
 -- How an error stands to a fault and to an outcome.
 use Rattle.std.specs.Prelude.{◌≡◌, ℕ, Option, Some}
-use Rattle.fancy_lex.specs.Fault.{Kind, Fault, kind_of}
+use Rattle.fancy_lex.specs.Fault.{Kind, Fault}
+use Rattle.fancy_lex.specs.ErrorViews.{kind_of}
 use Rattle.fancy_lex.specs.declared.error.Error.{Error}
 use Rattle.fancy_lex.specs.declared.error.Error.TheVariants.{ParseError, OutOfMemory}
 use Rattle.fancy_grammar.specs.State.{Outcome, fault}

@@ -8,7 +8,7 @@ use Rattle.fancy_lex.specs.Target.{Target, by_number}
 use Rattle.fancy_lex.specs.Text.{Text}
 use Rattle.fancy_lex.specs.declared.flags.Flags.{Flags}
 use Rattle.fancy_parts.specs.Meaning.{Role, back_reference, call, AnyReference, Meaning, number, meaning}
-use Rattle.fancy_parts.specs.Ranks.{Opening, only_named, counted_in, named_groups}
+use Rattle.fancy_parts.specs.Ranks.{Opening, only_named, numbered_openings_in, named_groups}
 use Rattle.fancy_parts.specs.Written.{is_numeric}
 use Rattle.fancy_grammar.specs.Items.{openings, references}
 use Rattle.fancy_grammar.specs.Tree.{Tree}
@@ -49,7 +49,7 @@ is_call_of_all _ _ = false
 abbrev pub marks : Flags → Text → Tree → Marks
 marks f text r =
     let named = only_named f (openings r) in
-    let groups = counted_in named (openings r) in
+    let groups = numbered_openings_in named (openings r) in
     let total = length groups in
     record {
       backrefs = ascending (filter (λ n. nat_le n total) (back_numbers groups (references r)));

@@ -12,17 +12,17 @@ one_if true = 1
 one_if false = 0
 
 -- the start or the end of each line, which is printed with its flags in a group
-abbrev pub is_line : Assertion → Bool
-is_line (StartLine crlf) = true
-is_line (StartLineOniguruma crlf) = true
-is_line (EndLine crlf) = true
-is_line _ = false
+abbrev pub is_at_line : Assertion → Bool
+is_at_line (StartLine crlf) = true
+is_at_line (StartLineOniguruma crlf) = true
+is_at_line (EndLine crlf) = true
+is_at_line _ = false
 
 abbrev mutual
   -- in the tree's text at a precedence
   pub nest : Tree → ℕ → ℕ
   nest (any newline crlf) p = one_if (newline || crlf)
-  nest (assertion a) p = one_if (is_line a)
+  nest (assertion a) p = one_if (is_at_line a)
   nest (literal s casei) p = one_if casei
   nest (delegate s casei) p = one_if casei
   nest (concat ts) p = one_if (nat_lt 1 p) + nests ts 2

@@ -16,12 +16,12 @@ use Rattle.fancy_grammar.specs.Tree.{group, repeat, delegate, define_group}
 -- ---- the flags that a printed text is read under
 
 -- no flag, or UNICODE alone
-abbrev pub bare : Bool → Flags
-bare unicode = record no_flag { unicode = unicode }
+abbrev pub unicode_flags : Bool → Flags
+unicode_flags unicode = record no_flag { unicode = unicode }
 
 -- these, and CASEI where that is asked
 abbrev pub case_flags : Bool → Bool → Flags
-case_flags unicode casei = record (bare unicode) { casei = casei }
+case_flags unicode casei = record (unicode_flags unicode) { casei = casei }
 
 -- ---- the text of a Delegate, read again
 
@@ -42,19 +42,19 @@ class_of f (c ∷ t) = whole_leaf (leaf_of (bytes (c ∷ t)) (start f (c ∷ t))
 -- ---- the normal form
 
 -- one character, which keeps its case flag only where it is printed without a backslash
-abbrev pub character : Bool → ℕ → Tree
-character casei c = literal (c ∷ []) (casei && is_none (behind_backslash c))
+abbrev pub normal_character : Bool → ℕ → Tree
+normal_character casei c = literal (c ∷ []) (casei && is_none (behind_backslash c))
 
 -- what a tree of this normal form is among the pieces of a sequence
 abbrev pub pieces_of : Tree → Tree → List Tree
-pieces_of (literal s false) n = map (character false) s
+pieces_of (literal s false) n = map (normal_character false) s
 pieces_of _ n = solid (n ∷ [])
 
 abbrev mutual
   pub normal : Bool → Tree → Tree
   normal u (any newline crlf) = any newline (not newline && crlf)
   normal u (assertion (StartLineOniguruma crlf)) = assertion (StartLine crlf)
-  normal u (literal s casei) = join (map (character casei) s)
+  normal u (literal s casei) = join (map (normal_character casei) s)
   normal u (delegate s casei) = unwrap_or (class_of (case_flags u casei) s) (delegate s casei)
   normal u (concat ts) = join (normal_pieces u ts)
   normal u (alt ts) = choice (normals u ts)

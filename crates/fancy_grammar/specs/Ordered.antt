@@ -7,6 +7,6 @@ place_of_item (opening o) = o.place
 place_of_item (reference r) = r.place
 
 -- the items stand one behind another, no two at one place: from the place low on, and before the place high
-abbrev pub Ascends : ℕ → ℕ → List Item → Type 0
-Ascends low high [] = low ≤ high
-Ascends low high (i ∷ l) = (low ≤ place_of_item i) × Ascends (place_of_item i + 1) high l
+abbrev pub AscendingPlaces : ℕ → ℕ → List Item → Type 0
+AscendingPlaces low high [] = low ≤ high
+AscendingPlaces low high (i ∷ l) = (low ≤ place_of_item i) × AscendingPlaces (place_of_item i + 1) high l

@@ -6,7 +6,7 @@ use Rattle.fancy_grammar.specs.Depth.{max_depth}
 use Rattle.fancy_grammar.specs.Printed.{is_long, printed}
 use Rattle.fancy_grammar.specs.Tree.{Tree, Trees, no_trees, more_trees, any, assertion, literal, concat, alt, group}
 use Rattle.fancy_grammar.specs.Tree.{repeat, delegate}
-use Rattle.fancy_grammar.specs.Nest.{is_line}
+use Rattle.fancy_grammar.specs.Nest.{is_at_line}
 
 -- the opening parenthesis of a printed group: its place in bytes, and how many groups are open round it
 pub record Paren : Type 0 where
@@ -30,7 +30,7 @@ abbrev mutual
   -- those of the tree's text at a precedence, in text order
   pub parens : Tree → ℕ → Parens
   parens (any newline crlf) p = in_group (newline || crlf) [] no_parens
-  parens (assertion a) p = in_group (is_line a) [] no_parens
+  parens (assertion a) p = in_group (is_at_line a) [] no_parens
   parens (literal s casei) p = in_group casei [] no_parens
   parens (delegate s casei) p = in_group casei [] no_parens
   parens (concat ts) p = in_group (nat_lt 1 p) (codes "(?:") (parens_all ts)

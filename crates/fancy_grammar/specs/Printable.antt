@@ -4,7 +4,7 @@ use Rattle.std.specs.Str.{all_scalars}
 use Rattle.fancy_lex.specs.declared.escape.Assertion.TheVariants.{EndTextIgnoreTrailingNewlines}
 use Rattle.fancy_parts.specs.Quantifier.{most}
 use Rattle.fancy_grammar.specs.Join.{is_empty}
-use Rattle.fancy_grammar.specs.Normal.{bare, class_of, normal}
+use Rattle.fancy_grammar.specs.Normal.{unicode_flags, class_of, normal}
 use Rattle.fancy_grammar.specs.Tree.{Tree, Trees, no_trees, more_trees, empty, any, assertion, literal, concat, alt}
 use Rattle.fancy_grammar.specs.Tree.{group, repeat, delegate, define_group}
 
@@ -25,7 +25,7 @@ abbrev mutual
   printable (assertion (EndTextIgnoreTrailingNewlines crlf)) = false
   printable (assertion a) = true
   printable (literal s casei) = all_scalars s
-  printable (delegate s casei) = all_scalars s && is_some (class_of (bare false) s)
+  printable (delegate s casei) = all_scalars s && is_some (class_of (unicode_flags false) s)
   printable (concat ts) = all_printable ts
   printable (alt ts) = all_printable ts
   printable (group t) = printable t

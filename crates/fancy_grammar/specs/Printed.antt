@@ -81,8 +81,8 @@ abbrev mutual
   barred (more_trees t ts) = codes "|" ++ (printed t 1 ++ barred ts)
 
 -- what a quantifier is put behind
-abbrev pub repeated : Tree → Text
-repeated t = grouped (is_long t) (printed t 3)
+abbrev pub operand_text : Tree → Text
+operand_text t = grouped (is_long t) (printed t 3)
 
 abbrev mutual
   -- every node has a text; what a DefineGroup holds is not looked at

@@ -4,7 +4,8 @@ use Rattle.fancy_lex.specs.Fault.{Fault}
 use Rattle.fancy_lex.specs.Text.{Text}
 use Rattle.fancy_lex.specs.declared.flags.Flags.{Flags}
 use Rattle.fancy_parts.specs.Meaning.{Meaning, number, means, back_reference, call, condition, first_fault}
-use Rattle.fancy_parts.specs.Ranks.{Opening, only_named, is_counted, counted_in, counted, opened_before, numbers}
+use Rattle.fancy_parts.specs.Ranks.{Opening, only_named, is_counted, numbered_openings_in, numbered_openings}
+use Rattle.fancy_parts.specs.Ranks.{openings_before, numbers}
 use Rattle.fancy_grammar.specs.Items.{openings, references}
 use Rattle.fancy_grammar.specs.Tree.{Tree, Trees, no_trees, more_trees, concat, alt, group, look_around, repeat}
 use Rattle.fancy_grammar.specs.Tree.{atomic_group}
@@ -51,7 +52,7 @@ abbrev mutual
   resolved_in named groups (ast_node (ast_group name t) place) =
       group_or_inside (is_counted named name) (resolved_in named groups t)
   resolved_in named groups (ast_node node place) =
-      resolved_node (λ u. numbers u groups) (opened_before groups place) node place
+      resolved_node (λ u. numbers u groups) (openings_before groups place) node place
   resolved_in named groups t = t
 
   pub resolved_all : Bool → List Opening → Trees → Trees
@@ -66,8 +67,8 @@ abbrev mutual
 
 -- the raw tree resolved, under the flags that are handed in
 abbrev pub resolved : Flags → Tree → Tree
-resolved f r = let named = only_named f (openings r) in resolved_in named (counted_in named (openings r)) r
+resolved f r = let named = only_named f (openings r) in resolved_in named (numbered_openings_in named (openings r)) r
 
 -- the first fault of the references of the raw tree
 abbrev pub fault_of : Flags → Tree → Option Fault
-fault_of f r = first_fault (counted f (openings r)) (references r)
+fault_of f r = first_fault (numbered_openings f (openings r)) (references r)

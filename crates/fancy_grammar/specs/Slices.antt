@@ -3,7 +3,7 @@ use Rattle.std.specs.Prelude.{◌≡◌, ℕ, ◌+◌, ◌≤◌, List, ◌++◌
 use Rattle.std.specs.List.{AllByRecursion}
 use Rattle.fancy_lex.specs.Text.{Text, Stands, bytes, place_of}
 use Rattle.fancy_grammar.specs.Items.{Item, items_all}
-use Rattle.fancy_grammar.specs.Ordered.{Ascends, place_of_item}
+use Rattle.fancy_grammar.specs.Ordered.{AscendingPlaces, place_of_item}
 use Rattle.fancy_grammar.specs.State.{State, Outcome, done, fault}
 use Rattle.fancy_grammar.specs.Tree.{Tree, trees_of}
 
@@ -19,7 +19,7 @@ MayStand n t p = Stands n (n + 1) t p
 -- in a text of n bytes a slice lies between the beginnings of t and u, and the items stand in it one behind another
 pub record Span (n : ℕ) (l : List Item) (t u : Text) : Type 0 where
   pub slice : Slice t u
-  pub ascends : bytes t ≤ n → Ascends (place_of n t) (place_of n u) l
+  pub ascends : bytes t ≤ n → AscendingPlaces (place_of n t) (place_of n u) l
   pub stand : AllByRecursion (λ i. MayStand n t (place_of_item i)) l
 
 -- what was read has its items in its slice, or the fault stands at an end of the text or one past it

@@ -26,8 +26,8 @@ find_item named s (opening o) = with_opening named s o
 find_item named s (reference r) = s
 
 -- the groups behind these items
-abbrev pub found : Bool → Groups → List Item → Groups
-found named s l = fold (find_item named) s l
+abbrev pub groups_after : Bool → Groups → List Item → Groups
+groups_after named s l = fold (find_item named) s l
 
 -- ---- the second walk resolves the references, and notes the marks and the first fault
 
@@ -70,16 +70,16 @@ with_backref total l None = l
 with_backref total l (Some n) = if nat_le n total then insert_key nat_cmp l n else l
 
 -- the number of a back reference that no group has
-abbrev pub beyond : ℕ → Option ℕ → Option ℕ
-beyond total None = None
-beyond total (Some n) = if nat_le n total then None else Some n
+abbrev pub number_above : ℕ → Option ℕ → Option ℕ
+number_above total None = None
+number_above total (Some n) = if nat_le n total then None else Some n
 
 -- what is noted of a reference with this meaning: its number, how it is written, whether it calls, and its fault
 abbrev pub note_reference_with : Known → Progress → AnyReference → Meaning → Progress
 note_reference_with k s r m = record {
   passed = s.passed;
   backrefs = with_backref k.groups.total s.backrefs (back_number r.role m);
-  out_of_range = or_else s.out_of_range (beyond k.groups.total (back_number r.role m));
+  out_of_range = or_else s.out_of_range (number_above k.groups.total (back_number r.role m));
   numeric = s.numeric || is_numeric k.text r.place r.role r.target;
   calls = s.calls || is_call r.role;
   self_recursive = s.self_recursive || is_call_of_all r.role r.target;
@@ -106,8 +106,8 @@ note_item k s (opening o) = record s { passed = if is_counted k.named o.name the
 note_item k s (reference r) = note_reference k s r.place r.role r.target
 
 -- what is noted of the items, one after another
-abbrev pub noted : Known → Progress → List Item → Progress
-noted k s l = fold (note_item k) s l
+abbrev pub progress_after : Known → Progress → List Item → Progress
+progress_after k s l = fold (note_item k) s l
 
 abbrev mutual
   -- the tree resolved from there on
@@ -119,8 +119,8 @@ abbrev mutual
   rebuilt k s (repeat t lo hi greedy) = repeat (rebuilt k s t) lo hi greedy
   rebuilt k s (atomic_group t) = atomic_group (rebuilt k s t)
   rebuilt k s (conditional c t f) =
-      conditional (rebuilt k s c) (rebuilt k (noted k s (items c)) t)
-      (rebuilt k (noted k (noted k s (items c)) (items t)) f)
+      conditional (rebuilt k s c) (rebuilt k (progress_after k s (items c)) t)
+      (rebuilt k (progress_after k (progress_after k s (items c)) (items t)) f)
   rebuilt k s (absent a) = absent (rebuilt_absent k s a)
   rebuilt k s (define_group t) = define_group (rebuilt k s t)
   rebuilt k s (ast_node (ast_group name t) place) =
@@ -131,10 +131,10 @@ abbrev mutual
 
   pub rebuilt_all : Known → Progress → Trees → Trees
   rebuilt_all k s no_trees = no_trees
-  rebuilt_all k s (more_trees t ts) = more_trees (rebuilt k s t) (rebuilt_all k (noted k s (items t)) ts)
+  rebuilt_all k s (more_trees t ts) = more_trees (rebuilt k s t) (rebuilt_all k (progress_after k s (items t)) ts)
 
   pub rebuilt_absent : Known → Progress → AbsentTree → AbsentTree
   rebuilt_absent k s (repeater t) = repeater (rebuilt k s t)
-  rebuilt_absent k s (expression a e) = expression (rebuilt k s a) (rebuilt k (noted k s (items a)) e)
+  rebuilt_absent k s (expression a e) = expression (rebuilt k s a) (rebuilt k (progress_after k s (items a)) e)
   rebuilt_absent k s (stopper t) = stopper (rebuilt k s t)
   rebuilt_absent k s clear = clear

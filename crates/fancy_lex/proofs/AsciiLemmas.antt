@@ -24,9 +24,11 @@ one_of first (suc n) c all low high =
     and_left : (a b : Bool) → (a && b) ≡ true → a ≡ true
     and_left true b h = refl
     and_left false b h = absurd cc
+
     and_right : (a b : Bool) → (a && b) ≡ true → b ≡ true
     and_right true b h = h
     and_right false b h = absurd cc
+
     cases : (b : Bool) → nat_le (n + first) c ≡ b → (are_id_chars first n ≡ true → c < n + first → is_id_char c ≡ true) →
         is_id_char (n + first) ≡ true → are_id_chars first n ≡ true → is_id_char c ≡ true
     cases true e below here rest =

@@ -9,9 +9,11 @@ use Rattle.fancy_lex.specs.declared.escape.Escaped.{Escaped}
 use Rattle.fancy_lex.specs.Boundary.{boundary_of_name, unnamed_boundary, at_count}
 use Rattle.fancy_lex.specs.BoundarySteps.{name, named_boundary, boundary}
 use Rattle.fancy_lex.specs.Boundary.{BracedName, close, character, open_layout, no_end, fault_behind, Braces, Boundary}
-use Rattle.fancy_lex.specs.Boundary.{no_brace, count, known, unknown, name_fault, open_before, open_inside}
+use Rattle.fancy_lex.specs.Boundary.{no_brace, count, known, unknown, name_fault, comment_open_before}
+use Rattle.fancy_lex.specs.Boundary.{comment_open_inside}
 use Rattle.fancy_lex.specs.Characters.{open_brace, close_brace}
-use Rattle.fancy_lex.specs.Escaped.{Escape, assertion, escape_of}
+use Rattle.fancy_lex.specs.Escaped.{Escape, assertion}
+use Rattle.fancy_lex.specs.EscapeViews.{escape_of}
 use Rattle.fancy_lex.specs.Fault.{Fault}
 use Rattle.fancy_lex.specs.FaultTable.{comment_not_closed, name_of_no_boundary}
 use Rattle.fancy_lex.specs.Layout.{Before}
@@ -147,7 +149,7 @@ module _ (n : ℕ) (x : Bool) (p : ℕ) (negated : Bool) where
         rw (answer_named t u i v e s l c) h
 
     by_inside : (l : Skipped) → layout n x i ≡ l → Boundary n x p negated t (boundary n x p negated t)
-    by_inside (fault q) l = rw (answer_inside t u i q e s l) (open_inside braced (unclosed_sound n x i q l))
+    by_inside (fault q) l = rw (answer_inside t u i q e s l) (comment_open_inside braced (unclosed_sound n x i q l))
     by_inside (rest v) l = by_count v l (at_count v) refl
 
   by_brace : (t u : Text) → layout n x t ≡ rest u → (o : Option Text) → strip open_brace u ≡ o →
@@ -156,7 +158,7 @@ module _ (n : ℕ) (x : Bool) (p : ℕ) (negated : Bool) where
   by_brace t u e (Some i) s = by_inside t u i e s (layout n x i) refl
 
   by_layout : (t : Text) (l : Skipped) → layout n x t ≡ l → Boundary n x p negated t (boundary n x p negated t)
-  by_layout t (fault q) e = rw (answer_open t q e) (open_before (unclosed_sound n x t q e))
+  by_layout t (fault q) e = rw (answer_open t q e) (comment_open_before (unclosed_sound n x t q e))
   by_layout t (rest u) e = by_brace t u e (strip open_brace u) refl
 
   -- whatever the relation gives is the function's answer
@@ -176,8 +178,8 @@ module _ (n : ℕ) (x : Bool) (p : ℕ) (negated : Bool) where
   boundary_is {t} (known {u} {v} {w} {a} b h s) = is_named t u b ∙ answer_known u w v a (name_answer h) s
   boundary_is {t} (unknown {u} {v} {w} b h s) = is_named t u b ∙ answer_unknown u w v (name_answer h) s
   boundary_is {t} (name_fault {u} {e} b h) = is_named t u b ∙ answer_not_read u e (name_answer h)
-  boundary_is {t} (open_before {q} b) = answer_open t q (unclosed_complete n x t q b)
-  boundary_is {t} (open_inside {q} {u} b l) =
+  boundary_is {t} (comment_open_before {q} b) = answer_open t q (unclosed_complete n x t q b)
+  boundary_is {t} (comment_open_inside {q} {u} b l) =
       answer_inside t (open_brace ∷ u) u q (layout_complete n x t _ b) (strip_same open_brace u)
       (unclosed_complete n x u q l)
 

@@ -8,8 +8,10 @@ use Rattle.std.proofs.lemmas.Str.{len_utf8_bounds}
 use Rattle.std.specs.Borrow.{Bor}
 use Rattle.std.specs.declared.alloc.Global.{Global}
 use Rattle.fancy_lex.specs.Characters.{backslash, open_bracket, close_bracket, caret}
-use Rattle.fancy_lex.specs.Class.{class_head, with_mark, items_from, class, item_text, is_negated, is_plain, Written}
-use Rattle.fancy_lex.specs.Class.{written, fault, Class, class_items, items_fault, Items, close, plain, escaped, nested}
+use Rattle.fancy_lex.specs.Class.{class_head, with_mark, class_from, class, escape_in_class, is_negated}
+use Rattle.fancy_lex.specs.Class.{is_plain_in_class, Written}
+use Rattle.fancy_lex.specs.Class.{written, fault, Class, class_items, class_items_fault, ClassItems, close, plain}
+use Rattle.fancy_lex.specs.Class.{escaped, nested}
 use Rattle.fancy_lex.specs.Class.{end, plain_fault, escape_fault, escaped_fault, class_fault, nested_fault}
 use Rattle.fancy_lex.specs.Class.{OuterClass}
 use Rattle.fancy_lex.specs.Escape.{escape}
@@ -71,17 +73,17 @@ class_head_bytes t =
 
 module _ (n : ℕ) (f : Flags) where
   abbrev ended : ℕ → ℕ → Bool → Text → Text → Reading Text
-  ended j depth a out v = if depth == 0 then gives out v else items_from n f j (depth - 1) a out v
+  ended j depth a out v = if depth == 0 then gives out v else class_from n f j (depth - 1) a out v
 
-  ended_inside : (j depth : ℕ) (a : Bool) (out v : Text) → ended j (depth + 1) a out v ≡ items_from n f j depth a out v
+  ended_inside : (j depth : ℕ) (a : Bool) (out v : Text) → ended j (depth + 1) a out v ≡ class_from n f j depth a out v
   ended_inside j depth a out v =
       let test : (depth + 1 == 0) ≡ false = grind (arith, nat_tests) in
       let back : depth + 1 - 1 ≡ depth = omega arith in
       rw (test, back) refl
 
   items_closing : (k depth : ℕ) (b : Bool) (out v : Text) → 0 < k →
-      items_from n f k depth b out (close_bracket ∷ v) ≡ ended (pred k) depth b (out ++ close_bracket ∷ []) v
-  unfolding items_from
+      class_from n f k depth b out (close_bracket ∷ v) ≡ ended (pred k) depth b (out ++ close_bracket ∷ []) v
+  unfolding class_from
   items_closing zero depth b out v m = absurd (omega arith)
   items_closing (suc k) depth b out v m = refl
 
@@ -92,7 +94,7 @@ Runs n f here t depth out (written w a v) =
 Runs n f here t depth out (fault e) = here ≡ fails e
 
 abbrev at_class : ℕ → Flags → ℕ → ℕ → Bool → Text → Text → Reading Text
-at_class n f k depth b out t = items_from n f k depth b (class_head out t).0 (class_head out t).1
+at_class n f k depth b out t = class_from n f k depth b (class_head out t).0 (class_head out t).1
 
 -- one step, for which x is written, and what comes of the rest
 after : (n : ℕ) (f : Flags) (here there : Reading Text) (t s : Text) (depth : ℕ) (out x : Text) → here ≡ there →
@@ -101,24 +103,24 @@ after : (n : ℕ) (f : Flags) (here there : Reading Text) (t s : Text) (depth : 
 after n f here there t s depth out x e l w a v (j, m, less, q) =
     (j, m, omega (arith, l, less), e ∙ q ∙ ap (λ (o : Text). ended n f j depth a o v) (append_assoc out x w))
 
-not_special : (c : ℕ) → is_plain c ≡ true → (c ≢ 92) × (c ≢ 91) × (c ≢ 93)
+not_special : (c : ℕ) → is_plain_in_class c ≡ true → (c ≢ backslash) × (c ≢ open_bracket) × (c ≢ close_bracket)
 not_special c p = (grind (arith, nat_tests), grind (arith, nat_tests), grind (arith, nat_tests))
 
 items_fails : (n : ℕ) (f : Flags) (k depth : ℕ) (b : Bool) (out t : Text) (e : Fault) →
     escape n f true (place_of n (backslash ∷ t)) t ≡ fails e → 0 < k →
-    items_from n f k depth b out (backslash ∷ t) ≡ fails e
-unfolding items_from
+    class_from n f k depth b out (backslash ∷ t) ≡ fails e
+unfolding class_from
 items_fails n f zero depth b out t e q m = absurd (omega arith)
 items_fails n f (suc k) depth b out t e q m = rw q refl
 
 module _ (n : ℕ) (f : Flags) (k depth : ℕ) (b : Bool) (out t : Text) where
   at_head : (head u : Text) → ◌≡◌ {A = Text × Text} (class_head [] t) (head, u) →
-      at_class n f k depth b out t ≡ items_from n f k depth b (out ++ head) u
-  at_head head u e = ap (λ (p : Text × Text). items_from n f k depth b p.0 p.1)
+      at_class n f k depth b out t ≡ class_from n f k depth b (out ++ head) u
+  at_head head u e = ap (λ (p : Text × Text). class_from n f k depth b p.0 p.1)
       (class_head_behind out t ∙ ap (behind out) e)
 
-  plain_item : (c : ℕ) → is_plain c ≡ true → 0 < k →
-      items_from n f k depth b out (c ∷ t) ≡ items_from n f (pred k) depth b (out ++ c ∷ []) t
+  plain_item : (c : ℕ) → is_plain_in_class c ≡ true → 0 < k →
+      class_from n f k depth b out (c ∷ t) ≡ class_from n f (pred k) depth b (out ++ c ∷ []) t
   plain_item c p m = let (x, y, z) = not_special c p in items_plain n f depth b out (c ∷ t) c t refl k m x y z
 
   -- what is left of t is less than the steps
@@ -138,44 +140,49 @@ mutual
       let less = head_bytes t head u e in
       after n f _ _ t u depth out head (at_head n f k depth b out t head u e) less w a v
       (run_items h k depth (out ++ head) (omega (arith, less, l)))
-  run_class {n} {f} {b} {t} (items_fault {u} {head} e h) k depth out l =
+  run_class {n} {f} {b} {t} (class_items_fault {u} {head} e h) k depth out l =
       at_head n f k depth b out t head u e ∙ run_items h k depth (out ++ head) (omega (arith, head_bytes t head u e, l))
 
-  run_items : {n : ℕ} {f : Flags} {b : Bool} {t : Text} {o : Written} → Items n f b t o → (k depth : ℕ) (out : Text) →
-      bytes t < k → Runs n f (items_from n f k depth b out t) t depth out o
-  run_items {n} {f} {b} (close {v}) k depth out l =
-      (pred k, step_left n f k depth b out v 93 l, bytes_cons 93 v, items_closing n f k depth b out v (positive _ k l))
+  run_items : {n : ℕ} {f : Flags} {b : Bool} {t : Text} {o : Written} → ClassItems n f b t o →
+      (k depth : ℕ) (out : Text) → bytes t < k → Runs n f (class_from n f k depth b out t) t depth out o
+  run_items {n} {f} {b} (close {v}) k depth out l = (
+    pred k,
+    step_left n f k depth b out v close_bracket l,
+    bytes_cons close_bracket v,
+    items_closing n f k depth b out v (positive _ k l),
+  )
   run_items {n} {f} {b} (plain {c} {a} {t} {v} {w} p h) k depth out l =
       after n f _ _ (c ∷ t) t depth out (c ∷ []) (plain_item n f k depth b out t c p (positive _ k l))
       (omega (arith, bytes_cons c t)) w a v
       (run_items h (pred k) depth (out ++ c ∷ []) (step_left n f k depth b out t c l))
   run_items {n} {f} {b} (escaped {a} {t} {u} {v} {w} {e} q h) k depth out l =
       let less = escape_within n f true _ t u e q in
-      after n f _ _ (92 ∷ t) u depth out (item_text b e)
-      (items_escape n f depth b out (92 ∷ t) 92 t refl k e u (positive _ k l) refl q)
-      (omega (arith, less, bytes_cons 92 t)) w a v
-      (run_items h (pred k) depth (out ++ item_text b e) (omega (arith, less, step_left n f k depth b out t 92 l)))
+      after n f _ _ (backslash ∷ t) u depth out (escape_in_class b e)
+      (items_escape n f depth b out (backslash ∷ t) backslash t refl k e u (positive _ k l) refl q)
+      (omega (arith, less, bytes_cons backslash t)) w a v
+      (run_items h (pred k) depth (out ++ escape_in_class b e)
+      (omega (arith, less, step_left n f k depth b out t backslash l)))
   run_items {n} {f} {b} (nested {m} {a} {t} {u} {v} {x} {w} g h) k depth out l =
-      let (j, more, less, q) = run_class g (pred k) (depth + 1) out (step_left n f k depth b out t 91 l) in
-      after n f _ _ (91 ∷ t) u depth out x
-      (items_open n f depth b out (91 ∷ t) 91 t refl k (positive _ k l) refl ∙ q
+      let (j, more, less, q) = run_class g (pred k) (depth + 1) out (step_left n f k depth b out t open_bracket l) in
+      after n f _ _ (open_bracket ∷ t) u depth out x
+      (items_open n f depth b out (open_bracket ∷ t) open_bracket t refl k (positive _ k l) refl ∙ q
       ∙ ended_inside n f j depth m (out ++ x) u)
-      (omega (arith, less, bytes_cons 91 t)) w a v (run_items h j depth (out ++ x) more)
+      (omega (arith, less, bytes_cons open_bracket t)) w a v (run_items h j depth (out ++ x) more)
   run_items {n} {f} {b} end k depth out l = items_end n f k depth b out [] refl
   run_items {n} {f} {b} (plain_fault {c} {t} {e} p h) k depth out l =
       plain_item n f k depth b out t c p (positive _ k l)
       ∙ run_items h (pred k) depth (out ++ c ∷ []) (step_left n f k depth b out t c l)
   run_items {n} {f} {b} (escape_fault {t} {e} q) k depth out l = items_fails n f k depth b out t e q (positive _ k l)
   run_items {n} {f} {b} (escaped_fault {t} {u} {x} {e} q h) k depth out l =
-      items_escape n f depth b out (92 ∷ t) 92 t refl k x u (positive _ k l) refl q
-      ∙ run_items h (pred k) depth (out ++ item_text b x)
-      (omega (arith, escape_within n f true _ t u x q, step_left n f k depth b out t 92 l))
+      items_escape n f depth b out (backslash ∷ t) backslash t refl k x u (positive _ k l) refl q
+      ∙ run_items h (pred k) depth (out ++ escape_in_class b x)
+      (omega (arith, escape_within n f true _ t u x q, step_left n f k depth b out t backslash l))
   run_items {n} {f} {b} (class_fault {t} {e} h) k depth out l =
-      items_open n f depth b out (91 ∷ t) 91 t refl k (positive _ k l) refl
-      ∙ run_class h (pred k) (depth + 1) out (step_left n f k depth b out t 91 l)
+      items_open n f depth b out (open_bracket ∷ t) open_bracket t refl k (positive _ k l) refl
+      ∙ run_class h (pred k) (depth + 1) out (step_left n f k depth b out t open_bracket l)
   run_items {n} {f} {b} (nested_fault {m} {t} {u} {x} {e} g h) k depth out l =
-      let (j, more, less, q) = run_class g (pred k) (depth + 1) out (step_left n f k depth b out t 91 l) in
-      items_open n f depth b out (91 ∷ t) 91 t refl k (positive _ k l) refl ∙ q
+      let (j, more, less, q) = run_class g (pred k) (depth + 1) out (step_left n f k depth b out t open_bracket l) in
+      items_open n f depth b out (open_bracket ∷ t) open_bracket t refl k (positive _ k l) refl ∙ q
       ∙ ended_inside n f j depth m (out ++ x) u ∙ run_items h j depth (out ++ x) more
 
 -- the function's answer, as the relation puts it
@@ -199,7 +206,7 @@ Less t (written w a v) = bytes v < bytes t
 Less t (fault e) = Unit {0}
 
 abbrev ReadsClass : ℕ → Flags → Bool → Text → Type 0
-ReadsClass n f b t = (o : Written) × Items n f b t o × Less t o
+ReadsClass n f b t = (o : Written) × ClassItems n f b t o × Less t o
 
 abbrev ReadsShort : ℕ → Flags → ℕ → Type 0
 ReadsShort n f k = (b : Bool) (t : Text) → bytes t < k → ReadsClass n f b t
@@ -208,19 +215,19 @@ class_within : (n : ℕ) (f : Flags) (b : Bool) (t head u : Text) → ◌≡◌ 
     ReadsClass n f b u → (o : Written) × Class n f b t o × Less t o
 class_within n f b t head u e (written w a v, h, less) =
     (written (head ++ w) a v, class_items e h, omega (arith, less, head_bytes t head u e))
-class_within n f b t head u e (fault x, h, less) = (fault x, items_fault e h, tt)
+class_within n f b t head u e (fault x, h, less) = (fault x, class_items_fault e h, tt)
 
 module _ (n : ℕ) (f : Flags) (k : ℕ) (reads : ReadsShort n f k) (b : Bool) (t : Text) (l : bytes t < k) where
-  plain_reads : (c : ℕ) → is_plain c ≡ true → ReadsClass n f b t → ReadsClass n f b (c ∷ t)
+  plain_reads : (c : ℕ) → is_plain_in_class c ≡ true → ReadsClass n f b t → ReadsClass n f b (c ∷ t)
   plain_reads c p (written w a v, h, less) = (written (c ∷ w) a v, plain p h, omega (arith, less, bytes_cons c t))
   plain_reads c p (fault e, h, less) = (fault e, plain_fault p h, tt)
 
   escaped_reads : (e : Escape) (u : Text) → escape n f true (place_of n (backslash ∷ t)) t ≡ gives e u →
       ReadsClass n f (b || is_negated e) u → ReadsClass n f b (backslash ∷ t)
   escaped_reads e u q (written w a v, h, less) = (
-    written (item_text b e ++ w) a v,
+    written (escape_in_class b e ++ w) a v,
     escaped q h,
-    omega (arith, less, escape_within n f true _ t u e q, bytes_cons 92 t),
+    omega (arith, less, escape_within n f true _ t u e q, bytes_cons backslash t),
   )
   escaped_reads e u q (fault x, h, less) = (fault x, escaped_fault q h, tt)
 
@@ -234,7 +241,7 @@ module _ (n : ℕ) (f : Flags) (k : ℕ) (reads : ReadsShort n f k) (b : Bool) (
       ReadsClass n f m u →
       ReadsClass n f b (open_bracket ∷ t)
   behind_class x m u g shorter (written w a v, h, less) =
-      (written (x ++ w) a v, nested g h, omega (arith, less, shorter, bytes_cons 91 t))
+      (written (x ++ w) a v, nested g h, omega (arith, less, shorter, bytes_cons open_bracket t))
   behind_class x m u g shorter (fault e, h, less) = (fault e, nested_fault g h, tt)
 
   class_item : (o : Written) × Class n f b t o × Less t o → ReadsClass n f b (open_bracket ∷ t)
@@ -247,21 +254,22 @@ module _ (n : ℕ) (f : Flags) (k : ℕ) (reads : ReadsShort n f k) (b : Bool) (
       class_item (class_within n f b t p.0 p.1 refl (reads b p.1 (omega (arith, class_head_bytes t, l))))
 
   one_more : (c : ℕ) → ReadsClass n f b (c ∷ t)
-  one_more c = by_backslash (cases_eq c 92) where
-    plain_left : (c ≢ 92) → (c ≢ 91) → (c ≢ 93) → is_plain c ≡ true
+  one_more c = by_backslash (cases_eq c backslash) where
+    plain_left : (c ≢ backslash) → (c ≢ open_bracket) → (c ≢ close_bracket) → is_plain_in_class c ≡ true
     plain_left x y z = grind (arith, nat_tests)
 
-    by_close : (c ≢ 92) → (c ≢ 91) → (c ≡ 93) ⊎ (c ≢ 93) → ReadsClass n f b (c ∷ t)
-    by_close x y (inl e) = rw e (written (close_bracket ∷ []) b t, close, bytes_cons 93 t)
+    by_close : (c ≢ backslash) → (c ≢ open_bracket) → (c ≡ close_bracket) ⊎ (c ≢ close_bracket) →
+        ReadsClass n f b (c ∷ t)
+    by_close x y (inl e) = rw e (written (close_bracket ∷ []) b t, close, bytes_cons close_bracket t)
     by_close x y (inr z) = plain_reads c (plain_left x y z) (reads b t l)
 
-    by_open : (c ≢ 92) → (c ≡ 91) ⊎ (c ≢ 91) → ReadsClass n f b (c ∷ t)
+    by_open : (c ≢ backslash) → (c ≡ open_bracket) ⊎ (c ≢ open_bracket) → ReadsClass n f b (c ∷ t)
     by_open x (inl e) = rw e nested_reads
-    by_open x (inr y) = by_close x y (cases_eq c 93)
+    by_open x (inr y) = by_close x y (cases_eq c close_bracket)
 
-    by_backslash : (c ≡ 92) ⊎ (c ≢ 92) → ReadsClass n f b (c ∷ t)
+    by_backslash : (c ≡ backslash) ⊎ (c ≢ backslash) → ReadsClass n f b (c ∷ t)
     by_backslash (inl e) = rw e (escape_reads _ refl)
-    by_backslash (inr x) = by_open x (cases_eq c 91)
+    by_backslash (inr x) = by_open x (cases_eq c open_bracket)
 
 items_read : (n : ℕ) (f : Flags) (k : ℕ) → ReadsShort n f k
 items_read n f zero b t l = absurd (omega arith)
@@ -281,7 +289,7 @@ class_reads n f t =
 
 -- What follows does not matter: by induction on the derivation.
 
-items_some : {n : ℕ} {f : Flags} {b a : Bool} {t w v : Text} → Items n f b t (written w a v) →
+items_some : {n : ℕ} {f : Flags} {b a : Bool} {t w v : Text} → ClassItems n f b t (written w a v) →
     (c : ℕ) × (u : Text) × (t ≡ c ∷ u)
 items_some {v} close = (close_bracket, v, refl)
 items_some (plain {c} {t} p h) = (c, t, refl)
@@ -324,8 +332,8 @@ mutual
       class_items (class_head_frame [] t s c u (ap (λ (p : Text × Text). p.1) e ∙ q) ∙ ap (before s) e)
       (items_frame h m s)
 
-  items_frame : {n : ℕ} {f : Flags} {b a : Bool} {t w v : Text} → Items n f b t (written w a v) → (m : ℕ) (s : Text) →
-      Items m f b (t ++ s) (written w a (v ++ s))
+  items_frame : {n : ℕ} {f : Flags} {b a : Bool} {t w v : Text} → ClassItems n f b t (written w a v) →
+      (m : ℕ) (s : Text) → ClassItems m f b (t ++ s) (written w a (v ++ s))
   items_frame close m s = close
   items_frame (plain p h) m s = plain p (items_frame h m s)
   items_frame {n} {f} (escaped {t} {u} {e} q h) m s = escaped (escape_frame n m f _ _ t u s e q) (items_frame h m s)

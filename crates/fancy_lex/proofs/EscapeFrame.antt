@@ -11,7 +11,8 @@ use Rattle.fancy_lex.specs.Escape.{escape, number_escape, property, in_class, is
 use Rattle.fancy_lex.specs.EscapeReference.{group_number}
 use Rattle.fancy_lex.specs.Escaped.{Escape, delegate, literal, literal_bytes}
 use Rattle.fancy_lex.specs.Fault.{invalid_class, invalid_hex, invalid_codepoint_value, unclosed_unicode_name}
-use Rattle.fancy_lex.specs.Hex.{hex, value, braced_value, digits, fixed_digits, hex_digit, closing_brace, leaf_of_value}
+use Rattle.fancy_lex.specs.Hex.{hex, value, braced_value, hex_digits, fixed_digits, hex_digit, closing_brace}
+use Rattle.fancy_lex.specs.Hex.{leaf_of_value}
 use Rattle.fancy_lex.specs.Hex.{is_scalar}
 use Rattle.fancy_lex.specs.Layout.{is_blank}
 use Rattle.fancy_lex.specs.LayoutSteps.{layout, layout_from, Skipped, rest, fault, Phase, between, two, one, comment}
@@ -174,26 +175,26 @@ module _ (n m : ℕ) (x : Bool) (h : ℕ) (h' : Text → ℕ) where
   closed_none false v there = tt
 
   abbrev DigitsFirm : ℕ → Bool → ℕ → Type 0
-  DigitsFirm k some v = (t : Text) → Firm t (digits n x h k some v t) (λ s. digits m x (h' s) k some v (t ++ s))
+  DigitsFirm k some v = (t : Text) → Firm t (hex_digits n x h k some v t) (λ s. hex_digits m x (h' s) k some v (t ++ s))
 
   -- behind a digit come layout and more digits, else the closing brace
   digits_on : (k : ℕ) (some : Bool) (v d c : ℕ) (t : Text) → ((v : ℕ) → DigitsFirm k true v) → (b : Bool) →
       (b ≡ true → c ≢ open_paren)
       → Firm (c ∷ t)
       (choose (if b then Some (d, t) else None)
-      (λ (p : ℕ × Text). layout_reading (layout n x p.1) >=> (λ _ t. digits n x h k true (v * 16 + p.0) t))
+      (λ (p : ℕ × Text). layout_reading (layout n x p.1) >=> (λ _ t. hex_digits n x h k true (v * 16 + p.0) t))
       (closing_brace h some v (strip close_brace (c ∷ t))))
       (λ s. choose (if b then Some (d, t ++ s) else None)
-      (λ (p : ℕ × Text). layout_reading (layout m x p.1) >=> (λ _ t. digits m x (h' s) k true (v * 16 + p.0) t))
+      (λ (p : ℕ × Text). layout_reading (layout m x p.1) >=> (λ _ t. hex_digits m x (h' s) k true (v * 16 + p.0) t))
       (closing_brace (h' s) some v (strip close_brace ((c ∷ t) ++ s))))
   digits_on k some v d c t more false f = closed_firm some v (c ∷ t)
   digits_on k some v d c t more true f =
       firm_from c t _ _ (f refl)
-      (behind_layout n m x t (digits n x h k true (v * 16 + d)) (λ s u. digits m x (h' s) k true (v * 16 + d) u)
+      (behind_layout n m x t (hex_digits n x h k true (v * 16 + d)) (λ s u. hex_digits m x (h' s) k true (v * 16 + d) u)
       (more (v * 16 + d)))
 
   digits_firm : (k : ℕ) (some : Bool) (v : ℕ) → DigitsFirm k some v
-  unfolding digits hex_digit
+  unfolding hex_digits hex_digit
   digits_firm zero some v t = closed_firm some v t
   digits_firm (suc k) some v [] = closed_none some v _
   digits_firm (suc k) some v (c ∷ t) = digits_on k some v (digit_value c) c t (λ v. digits_firm k true v)
@@ -204,7 +205,7 @@ module _ (n m : ℕ) (x : Bool) (h : ℕ) (h' : Text → ℕ) where
   braced_firm t =
       let other : open_brace ≢ open_paren = grind (arith, nat_tests) in
       firm_from open_brace t _ _ other
-      (behind_layout n m x t (digits n x h 8 false 0) (λ s v. digits m x (h' s) 8 false 0 v)
+      (behind_layout n m x t (hex_digits n x h 8 false 0) (λ s v. hex_digits m x (h' s) 8 false 0 v)
       (digits_firm 8 false 0))
 
 -- the same of what reads a value or nothing

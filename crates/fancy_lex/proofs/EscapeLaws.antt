@@ -7,7 +7,7 @@ use Rattle.fancy_lex.specs.declared.flags.Flags.{Flags}
 use Rattle.fancy_lex.specs.Boundary as boundaries
 use Rattle.fancy_lex.specs.BoundarySteps as boundary_steps
 use Rattle.fancy_lex.specs.Characters.{open_brace, close_brace, ◌∈◌}
-use Rattle.fancy_lex.specs.Escape.{escape, number_escape, call, backref_leaf, property, outside, in_class}
+use Rattle.fancy_lex.specs.Escape.{escape, number_escape, call_escape, backref_leaf, property, outside, in_class}
 use Rattle.fancy_lex.specs.EscapeReference.{back_reference}
 use Rattle.fancy_lex.specs.Escaped.{Escape}
 use Rattle.fancy_lex.specs.Fault.{Kind, invalid_escape}
@@ -89,8 +89,8 @@ module _ (n h : ℕ) where
       at true None e = leaves_told
       at false o e = leaves_told
 
-    leaves_digits : (k : ℕ) (some : Bool) (v : ℕ) (t : Text) → Leaves n h t (hexes.digits n x h k some v t)
-    unfolding hexes.digits
+    leaves_digits : (k : ℕ) (some : Bool) (v : ℕ) (t : Text) → Leaves n h t (hexes.hex_digits n x h k some v t)
+    unfolding hexes.hex_digits
     leaves_digits zero some v t = leaves_closed some v t
     leaves_digits (suc k) some v t =
         leaves_choose (hexes.hex_digit t)
@@ -196,8 +196,8 @@ module _ (n : ℕ) (f : Flags) (inside : Bool) (p : ℕ) where
   leaves_named_reference t = leaves_backref_leaf
       (takes_leaves (place_of n t) 3 t (stands_here t) (takes_back_reference n t))
 
-  leaves_call : (c : ℕ) (t : Text) → Leaves n p t (call n p c t)
-  unfolding call
+  leaves_call : (c : ℕ) (t : Text) → Leaves n p t (call_escape n p c t)
+  unfolding call_escape
   leaves_call c [] = none_here
   leaves_call c (d ∷ t) =
       leaves_both (takes_leaves (place_of n (d ∷ t)) 1 (d ∷ t) (stands_here (d ∷ t)) (takes_subroutine_call n (d ∷ t)))

@@ -3,7 +3,7 @@ use Rattle.std.proofs.Common.{◌≡◌, ℕ, Bool, [], ◌∷◌, Option, Some,
 use Rattle.fancy_lex.specs.declared.flags.Flags.{Flags}
 use Rattle.fancy_lex.specs.Characters.{◌∈◌}
 use Rattle.fancy_lex.specs.Delimited.{marked_name}
-use Rattle.fancy_lex.specs.Escape.{call, property, unknown_escape}
+use Rattle.fancy_lex.specs.Escape.{call_escape, property, unknown_escape}
 use Rattle.fancy_lex.specs.EscapeReference.{marked_call, subroutine_call}
 use Rattle.fancy_lex.specs.Escaped as leaf
 use Rattle.fancy_lex.specs.Escaped.{delegate}
@@ -36,8 +36,8 @@ property_read f inside p c (d ∷ r) q v h = rw h refl
 
 -- a call behind its letter
 pub call_is : (n p c : ℕ) (t : Text) (k : Call) (v : Text) → subroutine_call n t ≡ gives k v →
-    call n p c t ≡ gives (leaf.subroutine_call k) v
-unfolding call subroutine_call marked_call marked_name
+    call_escape n p c t ≡ gives (leaf.subroutine_call k) v
+unfolding call_escape subroutine_call marked_call marked_name
 call_is n p c [] k v e = absurd cc
 call_is n p c (d ∷ t) k v e = rw e refl
 

@@ -7,7 +7,8 @@ use Rattle.std.specs.Char.{is_ascii_digit}
 use Rattle.fancy_lex.specs.Boundary as boundaries
 use Rattle.fancy_lex.specs.BoundarySteps as boundary_steps
 use Rattle.fancy_lex.specs.Characters.{open_brace, ◌∈◌}
-use Rattle.fancy_lex.specs.Escape.{escape, number_escape, call, backref_leaf, property, outside, in_class, is_itself}
+use Rattle.fancy_lex.specs.Escape.{escape, number_escape, call_escape, backref_leaf, property, outside, in_class}
+use Rattle.fancy_lex.specs.Escape.{is_itself}
 use Rattle.fancy_lex.specs.EscapeReference.{group_number, numbered_reference, back_reference, subroutine_call}
 use Rattle.fancy_lex.specs.Escaped.{Escape, literal, literal_bytes, any, assertion, general_newline, keep_out}
 use Rattle.fancy_lex.specs.Escaped.{continue_from_previous_match_end, delegate, backref, subroutine_call as called}
@@ -99,8 +100,8 @@ module _ (n : ℕ) where
         sound_backref_leaf t (back_reference n t)
         (takes_less (place_of n t) 3 t (omega arith) (takes_back_reference n t)) (back_reference_at n t)
 
-    sound_call : (p c : ℕ) (t : Text) → Sound n t (call n p c t)
-    unfolding call
+    sound_call : (p c : ℕ) (t : Text) → Sound n t (call_escape n p c t)
+    unfolding call_escape
     sound_call p c [] = tt
     sound_call p c (d ∷ t) =
         sound_calling (d ∷ t) (subroutine_call n (d ∷ t)) (takes_subroutine_call n (d ∷ t))

@@ -6,11 +6,14 @@ use Rattle.fancy_lex.specs.declared.error.Error.{Error}
 use Rattle.fancy_lex.specs.declared.escape.Escaped.{Escaped}
 use Rattle.fancy_lex.specs.declared.flags.Flags.{Flags}
 use Rattle.fancy_lex.specs.Characters.{open_brace, close_brace}
-use Rattle.fancy_lex.specs.Escaped.{Escape, escape_of}
+use Rattle.fancy_lex.specs.Escaped.{Escape}
+use Rattle.fancy_lex.specs.EscapeViews.{escape_of}
 use Rattle.fancy_lex.specs.FaultTable.{code_not_read, comment_not_closed}
-use Rattle.fancy_lex.specs.Hex.{hex_digit, fixed_digits, closing_brace, digits, braced_value, value, leaf_of_value, hex}
-use Rattle.fancy_lex.specs.Hex.{Digits, no_digit, digit, BracedCode, braced, stuck, open_before, open_behind, Code}
-use Rattle.fancy_lex.specs.Hex.{fixed, in_braces, neither, HexCode, code, code_fault, open_layout}
+use Rattle.fancy_lex.specs.Hex.{hex_digit, fixed_digits, closing_brace, hex_digits, braced_value, value, leaf_of_value}
+use Rattle.fancy_lex.specs.Hex.{hex}
+use Rattle.fancy_lex.specs.Hex.{Digits, no_digit, digit, BracedCode, braced, stuck, comment_open_before}
+use Rattle.fancy_lex.specs.Hex.{comment_open_behind, Code}
+use Rattle.fancy_lex.specs.Hex.{fixed, code_in_braces, neither, HexCode, code, code_fault, open_layout}
 use Rattle.fancy_lex.specs.Layout.{Before}
 use Rattle.fancy_lex.specs.LayoutSteps.{Skipped, rest, fault, layout}
 use Rattle.fancy_lex.specs.Reading.{Reading, gives, fails, ◌>=>◌, choose, Reads, Derives, layout_reading}
@@ -40,25 +43,26 @@ module _ (n : ℕ) (x : Bool) (h : ℕ) where
 
     -- one step, where it is so for the steps left
     module _ (m : ℕ) (more : (k v : ℕ) (w : Text) → Digits x k v u w → k + m ≡ 8 →
-        BracedCode n x h t (digits n x h m (nat_lt 0 k) v w)) (k v : ℕ) (w : Text) (g : Digits x k v u w)
+        BracedCode n x h t (hex_digits n x h m (nat_lt 0 k) v w)) (k v : ℕ) (w : Text) (g : Digits x k v u w)
         (l : k + suc m ≡ 8) where
       by_layout : (d : ℕ) (z : Text) → hex_digit w ≡ Some (d, z) → (s : Skipped) → layout n x z ≡ s →
-          BracedCode n x h t (layout_reading s >=> (λ _ y. digits n x h m true (v * 16 + d) y))
-      by_layout d z e (fault q) i = open_behind b g (omega arith) e (unclosed_sound n x z q i)
+          BracedCode n x h t (layout_reading s >=> (λ _ y. hex_digits n x h m true (v * 16 + d) y))
+      by_layout d z e (fault q) i = comment_open_behind b g (omega arith) e (unclosed_sound n x z q i)
       by_layout d z e (rest y) i =
           let some : nat_lt 0 (k + 1) ≡ true = grind (arith, nat_tests) in
-          subst (λ a. BracedCode n x h t (digits n x h m a (v * 16 + d) y)) some
+          subst (λ a. BracedCode n x h t (hex_digits n x h m a (v * 16 + d) y)) some
           (more (k + 1) (v * 16 + d) y (digit g e (layout_sound n x z y i)) (omega arith))
 
       by_digit : (o : Option (ℕ × Text)) → hex_digit w ≡ o →
           BracedCode n x h t
-          (choose o (λ p. layout_reading (layout n x p.1) >=> (λ _ y. digits n x h m true (v * 16 + p.0) y))
+          (choose o (λ p. layout_reading (layout n x p.1) >=> (λ _ y. hex_digits n x h m true (v * 16 + p.0) y))
           (closing_brace h (nat_lt 0 k) v (strip close_brace w)))
       by_digit None e = closed k v w g (omega arith) (inr e) (nat_lt 0 k) refl (strip close_brace w) refl
       by_digit (Some (d, z)) e = by_layout d z e (layout n x z) refl
 
-    reads : (m k v : ℕ) (w : Text) → Digits x k v u w → k + m ≡ 8 → BracedCode n x h t (digits n x h m (nat_lt 0 k) v w)
-    unfolding digits
+    reads : (m k v : ℕ) (w : Text) → Digits x k v u w → k + m ≡ 8 →
+        BracedCode n x h t (hex_digits n x h m (nat_lt 0 k) v w)
+    unfolding hex_digits
     reads zero k v w g l = closed k v w g (omega arith) (inl (omega arith)) (nat_lt 0 k) refl (strip close_brace w) refl
     reads (suc m) k v w g l = by_digit m (reads m) k v w g l (hex_digit w) refl
 
@@ -67,8 +71,8 @@ module _ (n : ℕ) (x : Bool) (h : ℕ) where
   braced_reads t = by_layout (layout n x t) refl
     where
       by_layout : (s : Skipped) → layout n x t ≡ s →
-          BracedCode n x h t (layout_reading s >=> (λ _ u. digits n x h 8 false 0 u))
-      by_layout (fault q) e = open_before (unclosed_sound n x t q e)
+          BracedCode n x h t (layout_reading s >=> (λ _ u. hex_digits n x h 8 false 0 u))
+      by_layout (fault q) e = comment_open_before (unclosed_sound n x t q e)
       by_layout (rest u) e = reads t u (layout_sound n x t u e) 8 0 0 u no_digit refl
 
   code_reads : (width : ℕ) (t : Text) → Code n x h width t (value n x h width t)
@@ -81,7 +85,7 @@ module _ (n : ℕ) (x : Bool) (h : ℕ) where
       by_brace e (Some u) i =
           let is = strip_is open_brace t u i in
           subst (λ s. Code n x h width s (braced_value n x h u)) (sym is)
-          (in_braces (subst (λ s. fixed_digits width 0 s ≡ None) is e) (braced_reads u))
+          (code_in_braces (subst (λ s. fixed_digits width 0 s ≡ None) is e) (braced_reads u))
 
       by_digits : (o : Option (ℕ × Text)) → fixed_digits width 0 t ≡ o →
           Code n x h width t
@@ -94,29 +98,29 @@ module _ (n : ℕ) (x : Bool) (h : ℕ) where
 
   -- so many digits are read on the way
   reached : {k v : ℕ} {t u : Text} → Digits x k v t u → k ≤ 8 →
-      digits n x h 8 false 0 t ≡ digits n x h (8 - k) (nat_lt 0 k) v u
+      hex_digits n x h 8 false 0 t ≡ hex_digits n x h (8 - k) (nat_lt 0 k) v u
   reached no_digit l = refl
   reached {t} {u} (digit {k} {v} {d} {u = y} {w} g e b) l =
       reached g (omega arith)
       ∙ digits_step n x h k v y d w u (omega arith) e (ap layout_reading (layout_complete n x w u b))
 
   last_of_eight : (k v : ℕ) (w : Text) → k ≡ 8 →
-      digits n x h (8 - k) (nat_lt 0 k) v w ≡ closing_brace h (nat_lt 0 k) v (strip close_brace w)
+      hex_digits n x h (8 - k) (nat_lt 0 k) v w ≡ closing_brace h (nat_lt 0 k) v (strip close_brace w)
   last_of_eight k v w e =
       let some : nat_lt 0 k ≡ true = grind (arith, nat_tests) in
       digits_done n x h k v w (omega arith) ∙ ap (λ a. closing_brace h a v (strip close_brace w)) (sym some)
 
   last : (k v : ℕ) (w : Text) → k ≤ 8 → (k ≡ 8) ⊎ (hex_digit w ≡ None) →
-      digits n x h (8 - k) (nat_lt 0 k) v w ≡ closing_brace h (nat_lt 0 k) v (strip close_brace w)
+      hex_digits n x h (8 - k) (nat_lt 0 k) v w ≡ closing_brace h (nat_lt 0 k) v (strip close_brace w)
   last k v w l (inl e) = last_of_eight k v w e
   last k v w l (inr e) = by_place (nat_lt k 8) refl
     where
       by_place : (a : Bool) → nat_lt k 8 ≡ a →
-          digits n x h (8 - k) (nat_lt 0 k) v w ≡ closing_brace h (nat_lt 0 k) v (strip close_brace w)
+          hex_digits n x h (8 - k) (nat_lt 0 k) v w ≡ closing_brace h (nat_lt 0 k) v (strip close_brace w)
       by_place true i = digits_end n x h k v w (grind (arith, nat_tests)) e
       by_place false i = last_of_eight k v w (grind (arith, nat_tests))
 
-  started : (t u : Text) → Before x t u → braced_value n x h t ≡ digits n x h 8 false 0 u
+  started : (t u : Text) → Before x t u → braced_value n x h t ≡ hex_digits n x h 8 false 0 u
   unfolding braced_value
   started t u b = rw (layout_complete n x t u b) refl
 
@@ -130,26 +134,26 @@ module _ (n : ℕ) (x : Bool) (h : ℕ) where
       by_some false = refl
 
   braced_is : {t : Text} {o : Reading ℕ} → BracedCode n x h t o → braced_value n x h t ≡ o
-  unfolding braced_value digits
+  unfolding braced_value hex_digits
   braced_is {t} (braced {k} {v} {u} {w} b g some l) =
       let more : nat_lt 0 k ≡ true = grind (arith, nat_tests) in
       started t u b ∙ reached g l ∙ last k v (close_brace ∷ w) l (inr (brace_no_digit w)) ∙ rw more refl
   braced_is {t} (stuck {k} {v} {u} {w} b g l s) =
       started t u b ∙ reached g l ∙ last k v w l s.no_more ∙ not_closed k v w s.no_end
-  braced_is {t} (open_before {q} b) = rw (unclosed_complete n x t q b) refl
-  braced_is {t} (open_behind {k} {v} {d} {q} {u} {w} {z} b g l e i) =
+  braced_is {t} (comment_open_before {q} b) = rw (unclosed_complete n x t q b) refl
+  braced_is {t} (comment_open_behind {k} {v} {d} {q} {u} {w} {z} b g l e i) =
       started t u b ∙ reached g (omega arith) ∙ open_digit k v w d z q l e (unclosed_complete n x z q i)
     where
       open_digit : (k v : ℕ) (w : Text) (d : ℕ) (z : Text) (q : ℕ) → k < 8 → hex_digit w ≡ Some (d, z) →
           layout n x z ≡ fault q →
-          digits n x h (8 - k) (nat_lt 0 k) v w ≡ fails (comment_not_closed q)
+          hex_digits n x h (8 - k) (nat_lt 0 k) v w ≡ fails (comment_not_closed q)
       open_digit k v w d z q l e i =
-          let one : 8 - k ≡ suc (7 - k) = omega arith in rw (one, digits, e, i) refl
+          let one : 8 - k ≡ suc (7 - k) = omega arith in rw (one, hex_digits, e, i) refl
 
   code_is : {width : ℕ} {t : Text} {o : Reading ℕ} → Code n x h width t o → value n x h width t ≡ o
   unfolding value
   code_is (fixed e) = rw e refl
-  code_is (in_braces {t} e b) = rw e (braced_is b)
+  code_is (code_in_braces {t} e b) = rw e (braced_is b)
   code_is (neither e i) = rw (e, i) refl
 
 -- ---- behind the letter

@@ -12,8 +12,9 @@ use Prim.Native.Char.{code}
 use Rattle.fancy_lex.specs.Characters.{◌∈◌}
 use Rattle.fancy_lex.specs.Id.{is_id_char, AllIdChars, IsId, Id, StartsWithId, id}
 use Rattle.fancy_lex.specs.IdReference.{IdReference, id_alone, id_and_amount, amount_alone, IsIdReference, plain}
-use Rattle.fancy_lex.specs.IdReference.{with_amount, bare, IsAmount, with_sign, small_amount, amount, id_or_none}
-use Rattle.fancy_lex.specs.IdReference.{with_amount_of, with_rest, id_reference, view_id_reference}
+use Rattle.fancy_lex.specs.IdReference.{with_amount, without_id, IsAmount, with_sign, small_amount, amount, id_or_none}
+use Rattle.fancy_lex.specs.IdReference.{with_amount_of, with_rest, id_reference}
+use Rattle.fancy_lex.specs.NameViews.{view_id_reference}
 use Rattle.fancy_lex.specs.declared.name.id.IdReference as code_reference
 use Rattle.fancy_lex.specs.NumberText.{WritesNumber, whole_number}
 use Rattle.fancy_lex.specs.Text.{Text}
@@ -101,7 +102,7 @@ reference_complete relative t r (plain i) =
 reference_complete relative t r (with_amount {z} i a e h m) =
     let starts : StartsWithId t i a = record { cut = e; id = record { id = h; stops = no_id_at a z m } } in
     rw (id_complete t i a starts, some_amount (Some i) a z m) refl
-reference_complete relative t r (bare {z} m nonzero) =
+reference_complete relative t r (without_id {z} m nonzero) =
     let other : int_eq z (pos 0) ≡ false = not_zero z nonzero in
     rw (id_none t (no_id_at t z m), some_amount None t z m, other) refl
 
@@ -136,7 +137,8 @@ module _ (relative : Bool) (t : Text) (r : IdReference) where
     zero z false i a h =
         let same : amount_alone z ≡ r = cc in
         let other : z ≢ pos 0 = λ q. absurd (false≢true (sym i ∙ (signed_Decides z (pos 0)).1 q)) in
-        subst (IsIdReference true t) same (bare (subst (λ u. IsAmount u z) (sym e) (amount_sound (c ∷ v) z a)) other)
+        subst (IsIdReference true t) same
+        (without_id (subst (λ u. IsAmount u z) (sym e) (amount_sound (c ∷ v) z a)) other)
 
     some : (o : Option ℤ) → amount (c ∷ v) ≡ o → option_and_then (with_amount_of None) o ≡ Some r →
         IsIdReference true t r

@@ -11,7 +11,7 @@ use Rattle.fancy_lex.proofs.LeaveLaws.{stands_end}
 use Rattle.fancy_lex.specs.Layout.{InComment, nothing, plain, pair, InLine, end_line, on_line}
 use Rattle.fancy_lex.specs.Views.{skipped_of}
 use Rattle.fancy_lex.specs.Layout.{comment_head, IsUnit, Units, none, more, Stops}
-use Rattle.fancy_lex.specs.Layout.{is_blank, Open, at_end, after_backslash}
+use Rattle.fancy_lex.specs.Layout.{is_blank, OpenComment, at_end, after_backslash}
 use Rattle.fancy_lex.specs.LayoutSteps.{rest, fault, layout, layout_from, between, comment, escaped, line}
 use Rattle.fancy_lex.specs.LayoutSteps.{after_comment_head}
 use Rattle.fancy_lex.specs.Layout.{Unclosed, Before}
@@ -100,15 +100,16 @@ ends_plain c t a b (i, r, h, q) = (c ∷ i, r, plain a b h, ap (λ s. c ∷ s) q
 ends_pair : (b c : ℕ) (t : Text) → b ≡ backslash → Ends t → Ends (b ∷ c ∷ t)
 ends_pair b c t e (i, r, h, q) = (b ∷ c ∷ i, r, pair e h, ap (λ s. b ∷ c ∷ s) q)
 
-open_plain : (n c : ℕ) (t : Text) (p : ℕ) → c ≢ backslash → c ≢ close_paren → Open n t p → Open n (c ∷ t) p
+open_plain : (n c : ℕ) (t : Text) (p : ℕ) → c ≢ backslash → c ≢ close_paren → OpenComment n t p →
+    OpenComment n (c ∷ t) p
 open_plain n c t p a b (at_end h) = at_end (plain a b h)
 open_plain n c t p a b (after_backslash i e q h) = after_backslash (c ∷ i) (ap (λ s. c ∷ s) e) q (plain a b h)
 
-open_pair : (n b c : ℕ) (t : Text) (p : ℕ) → b ≡ backslash → Open n t p → Open n (b ∷ c ∷ t) p
+open_pair : (n b c : ℕ) (t : Text) (p : ℕ) → b ≡ backslash → OpenComment n t p → OpenComment n (b ∷ c ∷ t) p
 open_pair n b c t p d (at_end h) = at_end (pair d h)
 open_pair n b c t p d (after_backslash i e q h) = after_backslash (b ∷ c ∷ i) (ap (λ s. b ∷ c ∷ s) e) q (pair d h)
 
-split_comment : (n : ℕ) (t : Text) → Ends t ⊎ ((p : ℕ) × Open n t p)
+split_comment : (n : ℕ) (t : Text) → Ends t ⊎ ((p : ℕ) × OpenComment n t p)
 split_comment n [] = inr (n, at_end nothing)
 split_comment n (c ∷ []) =
     elim (cases_eq c close_paren) [
@@ -133,7 +134,7 @@ split_comment n (c ∷ d ∷ t) =
       ]
     ]
 
-open_fault : (n : ℕ) (x : Bool) (t : Text) (p : ℕ) → Open n t p → layout_from n x comment t ≡ fault p
+open_fault : (n : ℕ) (x : Bool) (t : Text) (p : ℕ) → OpenComment n t p → layout_from n x comment t ≡ fault p
 open_fault n x t p (at_end h) = rw (← append-nil t) (past_inside n x h [] ∙ comment_end n x [] refl)
 open_fault n x t p (after_backslash i e q h) =
     rw (e, q) (past_inside n x h (backslash ∷ []) ∙ comment_step n x _ backslash [] refl ∙ escaped_end n x [] refl)
@@ -156,7 +157,7 @@ opened_cases t = opened_by t (after_comment_head t) refl where
 data Front (n : ℕ) (x : Bool) (t : Text) : Type 0 where
   stop : Stops x t → layout_from n x between t ≡ rest t → Front n x t
   unit : (u r : Text) → t ≡ u ++ r → IsUnit x u r → 0 < length u → Front n x t
-  open_comment : (r : Text) (p : ℕ) → t ≡ comment_head ++ r → Open n r p → Front n x t
+  open_comment : (r : Text) (p : ℕ) → t ≡ comment_head ++ r → OpenComment n r p → Front n x t
 
 some_none : (t i r : Text) → after_comment_head t ≡ None → t ≡ r → after_comment_head r ≡ Some i → ⊥
 some_none t i r n e s = let same = ap after_comment_head e in cc
@@ -317,6 +318,6 @@ layout_length n x t v e = let (w, cut) = layout_cut n x t v e in omega (arith, s
 -- the fault stands at the end, or one past it
 pub layout_stands : (n p : ℕ) (x : Bool) (t : Text) (q : ℕ) → layout n x t ≡ fault q → Stands n p t q
 layout_stands n p x t q e = place (unclosed_sound n x t q e).inside where
-  place : {r : Text} {q : ℕ} → Open n r q → Stands n p t q
+  place : {r : Text} {q : ℕ} → OpenComment n r q → Stands n p t q
   place (at_end i) = stands_end t
   place (after_backslash i e f j) = past_end f

@@ -3,7 +3,8 @@ use Rattle.std.proofs.Common.{◌≡◌, ℕ, ◌+◌, ◌≤◌, Bool, true, fa
 use Rattle.std.proofs.Common.{refl, ap, sym, ◌∙◌, subst, append_assoc, append-nil, arith, chars, List, Bor, Result, Ok}
 use Rattle.std.proofs.Common.{Err, IfOk, IfErr}
 use Rattle.std.specs.Option.{option_and_then}
-use Rattle.fancy_lex.specs.Fault.{Fault, Kind, kind_of, StandsWithin}
+use Rattle.fancy_lex.specs.Fault.{Fault, Kind}
+use Rattle.fancy_lex.specs.ErrorViews.{kind_of, StandsWithin}
 use Rattle.fancy_lex.specs.Reading.{Reading, gives, fails, fault_at, ◌>=>◌, choose, IsReadingOrNoMemory}
 use Rattle.fancy_lex.specs.Text.{Text, EndsWith as Ends, Stands, as_told, begins, past_end, bytes, place_of, strip}
 use Rattle.fancy_lex.specs.declared.error.Error.{Error}

@@ -1,7 +1,7 @@
 -- ---- texts, and what is taken off their front
 pub mod TextLemmas
-pub mod TakeLaws
 pub mod LeaveLaws
+pub mod TakeLaws
 pub mod ReadingLemmas
 -- ---- layout, numbers, names and references
 pub mod LayoutLemmas

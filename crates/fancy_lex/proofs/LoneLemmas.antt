@@ -5,7 +5,8 @@ use Rattle.std.specs.Char.{is_ascii_digit, is_ascii_alphanumeric}
 use Rattle.std.proofs.lemmas.Bool.Decides.{nat_tests}
 use Rattle.fancy_lex.specs.Characters.{◌∈◌}
 use Rattle.fancy_lex.specs.Escape.{escape, in_class, outside, is_itself, is_lone_anywhere, reads_on, unknown_escape}
-use Rattle.fancy_lex.specs.Escaped.{escape_of, literal}
+use Rattle.fancy_lex.specs.Escaped.{literal}
+use Rattle.fancy_lex.specs.EscapeViews.{escape_of}
 use Rattle.fancy_lex.specs.Reading.{gives, choose}
 use Rattle.fancy_lex.specs.Text.{Text}
 use Rattle.fancy_lex.specs.declared.escape.Escaped.{Escaped}

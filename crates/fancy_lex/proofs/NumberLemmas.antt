@@ -4,20 +4,21 @@ use Rattle.std.proofs.Common.{◌∷◌, ◌++◌, length, Option, Some, None, a
 use Rattle.std.proofs.lemmas.Bool.Decides.{nat_tests}
 use Rattle.std.specs.Borrow.{Bor}
 use Rattle.std.specs.Char.{is_ascii_digit}
+use Prim.Native.Char.{code}
 use Rattle.fancy_lex.specs.Text.{Text}
-use Rattle.fancy_lex.specs.Number.{AllDigits, value_after, run, at_digit, number, StartsWithNumber, IsWord}
+use Rattle.fancy_lex.specs.Number.{digit_code, AllDigits, value_after, run, at_digit, number, StartsWithNumber, IsWord}
 use Rattle.fancy_lex.specs.Views.{GivesNumber}
 
-pub digit_is : (d : ℕ) → d < 10 → is_ascii_digit (d + 48) ≡ true
+pub digit_is : (d : ℕ) → d < 10 → is_ascii_digit (digit_code d) ≡ true
 digit_is d h = grind (arith, nat_tests)
 
-pub run_step : (n : ℕ) (t : Text) (d : ℕ) (r : Text) → t ≡ (d + 48) ∷ r → d < 10 → run n t ≡ run (n * 10 + d) r
+pub run_step : (n : ℕ) (t : Text) (d : ℕ) (r : Text) → t ≡ digit_code d ∷ r → d < 10 → run n t ≡ run (n * 10 + d) r
 unfolding run
 run_step n t d r e h =
-    let back : d + 48 - 48 ≡ d = omega arith in
+    let back : digit_code d - code "0" ≡ d = omega arith in
     rw (e, run, digit_is d h, back) refl
 
-pub run_first : (t : Text) (d : ℕ) (r : Text) → t ≡ (d + 48) ∷ r → d < 10 → run 0 t ≡ run d r
+pub run_first : (t : Text) (d : ℕ) (r : Text) → t ≡ digit_code d ∷ r → d < 10 → run 0 t ≡ run d r
 run_first t d r e h = let same : 0 * 10 + d ≡ d = omega arith in run_step 0 t d r e h ∙ ap (λ n. run n r) same
 
 pub run_stop : (n : ℕ) (t : Text) → at_digit t ≡ false → run n t ≡ (n, t)
@@ -25,7 +26,7 @@ unfolding run
 run_stop n [] e = refl
 run_stop n (c ∷ r) e = rw e refl
 
-pub at_digit_is : (t : Text) (d : ℕ) (r : Text) → t ≡ (d + 48) ∷ r → d < 10 → at_digit t ≡ true
+pub at_digit_is : (t : Text) (d : ℕ) (r : Text) → t ≡ digit_code d ∷ r → d < 10 → at_digit t ≡ true
 at_digit_is t d r e h = rw e (digit_is d h)
 
 pub number_none : (t : Text) → at_digit t ≡ false → number t ≡ None
@@ -44,7 +45,7 @@ number_of_one_digit t d r e h stop =
 run_digits : (n : ℕ) (w v : Text) → AllDigits w → run n (w ++ v) ≡ run (value_after n w) v
 unfolding run
 run_digits n [] v h = refl
-run_digits n (c ∷ w) v (d, h) = rw d (run_digits (n * 10 + (c - 48)) w v h)
+run_digits n (c ∷ w) v (d, h) = rw d (run_digits (n * 10 + (c - code "0")) w v h)
 
 at_stop : (v : Text) → ((c : ℕ) (t : Text) → v ≡ c ∷ t → is_ascii_digit c ≡ false) → at_digit v ≡ false
 at_stop [] h = refl

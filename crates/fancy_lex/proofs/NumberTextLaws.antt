@@ -5,7 +5,7 @@ use Rattle.std.proofs.lemmas.Bool.Decides.{nat_tests}
 use Rattle.std.specs.Option.{option_and_then}
 use Prim.Native.Char.{code}
 use Rattle.fancy_lex.specs.Number.{Number, StartsWithNumber, number, AllDigits}
-use Rattle.fancy_lex.specs.NumberText.{WritesNumber, IsNumberText, digits, with_plus, number_alone, whole_number}
+use Rattle.fancy_lex.specs.NumberText.{WritesNumber, IsNumberText, digits_alone, with_plus, number_alone, whole_number}
 use Rattle.fancy_lex.specs.NumberText.{number_text}
 use Rattle.fancy_lex.specs.Text.{Text, strip}
 use Rattle.fancy_lex.proofs.TextLemmas.{strip_is}
@@ -49,7 +49,7 @@ plus_off d = refl
 -- whatever the relation gives is the function's answer
 pub text_complete : (t : Text) (n : ℕ) → IsNumberText t n → number_text t ≡ Some n
 unfolding number_text
-text_complete t n (digits h) = rw (no_plus t h.number.digits) (whole_complete t n h)
+text_complete t n (digits_alone h) = rw (no_plus t h.number.digits) (whole_complete t n h)
 text_complete t n (with_plus d e h) = rw e (whole_complete d n h)
 
 -- so the function's answer is the relation's
@@ -57,7 +57,7 @@ pub text_sound : (t : Text) (n : ℕ) → number_text t ≡ Some n → IsNumberT
 unfolding number_text
 text_sound t n e = at (strip (code "+") t) refl e where
   at : (o : Option Text) → strip (code "+") t ≡ o → whole_number (unwrap_or o t) ≡ Some n → IsNumberText t n
-  at None s e = digits (whole_sound t n e)
+  at None s e = digits_alone (whole_sound t n e)
   at (Some d) s e = with_plus d (strip_is (code "+") t d s) (whole_sound d n e)
 
 pub text_derives : (t : Text) (r : Option ℕ) → number_text t ≡ r → IfSome r (IsNumberText t)

@@ -3,7 +3,7 @@
 use Rattle.std.proofs.Common.{◌≡◌, ℕ, zero, suc, ◌+◌, ◌-◌, Bool, true, false, ◌||◌, ◌==◌, [], ◌∷◌, ◌++◌, Option, Some}
 use Rattle.std.proofs.Common.{None, refl}
 use Rattle.fancy_lex.specs.Characters.{backslash, caret, open_bracket, close_bracket}
-use Rattle.fancy_lex.specs.Class.{class, items_from, item_text, is_negated, class_head, with_mark}
+use Rattle.fancy_lex.specs.Class.{class, class_from, escape_in_class, is_negated, class_head, with_mark}
 use Rattle.fancy_lex.specs.Reading.{choose}
 use Rattle.fancy_lex.specs.Text.{Text, EndsWith as Ends, bytes, place_of, strip}
 use Rattle.fancy_lex.specs.declared.flags.Flags.{Flags}
@@ -26,8 +26,8 @@ ends_class_head out t =
 
 -- no place is told but the one past the end
 module _ (n : ℕ) (f : Flags) where
-  leaves_items : (k depth : ℕ) (seen : Bool) (out t : Text) → Leaves n (n + 1) t (items_from n f k depth seen out t)
-  unfolding items_from
+  leaves_items : (k depth : ℕ) (seen : Bool) (out t : Text) → Leaves n (n + 1) t (class_from n f k depth seen out t)
+  unfolding class_from
   leaves_items zero depth seen out t = leaves_none (stands_end t)
   leaves_items (suc k) depth seen out [] = leaves_none (stands_end [])
   leaves_items (suc k) depth seen out (c ∷ t) =
@@ -35,7 +35,7 @@ module _ (n : ℕ) (f : Flags) where
       leaves_if (c == backslash)
       (leaves_both (leaves_retold (stands_here (c ∷ t))
       (leaves_past past (leaves_escape n f true (place_of n (c ∷ t)) t)))
-      (λ e u. leaves_items k depth (seen || is_negated e) (out ++ item_text seen e) u))
+      (λ e u. leaves_items k depth (seen || is_negated e) (out ++ escape_in_class seen e) u))
       (leaves_if (c == open_bracket)
       (leaves_past past
       (leaves_past (ends_class_head out t)

@@ -59,6 +59,6 @@ pub data Boundary (n : ℕ) (x : Bool) (p : ℕ) (negated : Bool) : Text → Rea
       Boundary n x p negated t (fails (name_of_no_boundary p negated w))
   name_fault : {t u : Text} {e : Fault} → Braces x t u false → BracedName n x p u (fails e) →
       Boundary n x p negated t (fails e)
-  open_before : {q : ℕ} {t : Text} → Unclosed n x t q → Boundary n x p negated t (fails (comment_not_closed q))
-  open_inside : {q : ℕ} {t u : Text} → Before x t (open_brace ∷ u) → Unclosed n x u q →
+  comment_open_before : {q : ℕ} {t : Text} → Unclosed n x t q → Boundary n x p negated t (fails (comment_not_closed q))
+  comment_open_inside : {q : ℕ} {t u : Text} → Before x t (open_brace ∷ u) → Unclosed n x u q →
       Boundary n x p negated t (fails (comment_not_closed q))

@@ -15,7 +15,8 @@ up_to_brace end closed more (c ∷ t) = if c == close_brace then closed t else m
 
 -- the backslash stands at the place p of a pattern of n bytes, and x says that blanks are layout
 module _ (n : ℕ) (x : Bool) (p : ℕ) where
-  -- the name up to the first closing brace outside layout, with layout taken out; k steps are left
+  -- the name up to the first closing brace outside layout, with layout taken out; k steps are left, each of which takes
+  -- a character, so that they never run out
   unfoldable pub name : ℕ → Text → Reading Text
   name zero t = fails (boundary_not_closed p)
   name (suc k) t =

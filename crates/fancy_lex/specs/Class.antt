@@ -45,8 +45,8 @@ abbrev pub joint : Bool → Text
 joint needed = if needed then codes "&&" else []
 
 -- the text of an escape where `seen` says whether a negated set is written already
-abbrev pub item_text : Bool → Escape → Text
-item_text seen e = joint (seen && is_negated e) ++ escape_text e
+abbrev pub escape_in_class : Bool → Escape → Text
+escape_in_class seen e = joint (seen && is_negated e) ++ escape_text e
 
 -- the mark is written too, where it stands at the front
 abbrev pub with_mark : ℕ → Text × Text → Text × Text
@@ -59,68 +59,70 @@ class_head out t = with_mark close_bracket (with_mark caret (out ++ open_bracket
 
 -- a class in a pattern of n bytes, under these flags
 module _ (n : ℕ) (f : Flags) where
-  -- What is left of a class, `depth` classes inside the first, behind what is written so far. The first number is how
-  -- many steps are left, and `seen` says whether a negated set is written already.
-  unfoldable pub items_from : ℕ → ℕ → Bool → Text → Text → Reading Text
-  items_from zero depth seen out t = fails (class_not_closed n)
-  items_from (suc k) depth seen out [] = fails (class_not_closed n)
-  items_from (suc k) depth seen out (c ∷ t) =
+  -- What is left of a class that stands in so many outer ones, behind what is written so far. The first number is how
+  -- many steps are left: each takes a byte or more, so that they never run out. `seen` says whether a negated set is
+  -- written already.
+  unfoldable pub class_from : ℕ → ℕ → Bool → Text → Text → Reading Text
+  class_from zero outer seen out t = fails (class_not_closed n)
+  class_from (suc k) outer seen out [] = fails (class_not_closed n)
+  class_from (suc k) outer seen out (c ∷ t) =
       if c == backslash then
       escape n f true (place_of n (c ∷ t)) t >=> (λ e u.
-      items_from k depth (seen || is_negated e) (out ++ item_text seen e) u)
-      else if c == open_bracket then items_from k (depth + 1) seen (class_head out t).0 (class_head out t).1
+      class_from k outer (seen || is_negated e) (out ++ escape_in_class seen e) u)
+      else if c == open_bracket then class_from k (outer + 1) seen (class_head out t).0 (class_head out t).1
       else if c == close_bracket then (
-      if depth == 0 then gives (out ++ c ∷ []) t else items_from k (depth - 1) seen (out ++ c ∷ []) t)
-      else items_from k depth seen (out ++ c ∷ []) t
+      if outer == 0 then gives (out ++ c ∷ []) t else class_from k (outer - 1) seen (out ++ c ∷ []) t)
+      else class_from k outer seen (out ++ c ∷ []) t
 
   -- the class behind the bracket
   unfoldable pub class : Text → Reading Text
-  class t = items_from (suc (bytes t)) 0 false (class_head [] t).0 (class_head [] t).1
+  class t = class_from (suc (bytes t)) 0 false (class_head [] t).0 (class_head [] t).1
 
 -- what a class comes to: what is written, whether a negated set is among it or was before, and what is left; or a fault
 pub data Written : Type 0 where
   written : Text → Bool → Text → Written
   fault : Fault → Written
 
--- a plain character
-abbrev pub is_plain : ℕ → Bool
-is_plain c = not (c ∈ "\\[]")
+-- a character that stands for itself there
+abbrev pub is_plain_in_class : ℕ → Bool
+is_plain_in_class c = not (c ∈ "\\[]")
 
 mutual
   -- a class behind its bracket; the flag says whether a negated set was written before it
   pub data Class : ℕ → Flags → Bool → Text → Written → Type 0 where
     class_items : {n : ℕ} {f : Flags} {b a : Bool} {t u v head w : Text} →
         ◌≡◌ {A = Text × Text} (class_head [] t) (head, u) →
-        Items n f b u (written w a v) → Class n f b t (written (head ++ w) a v)
-    items_fault : {n : ℕ} {f : Flags} {b : Bool} {t u head : Text} {e : Fault} →
+        ClassItems n f b u (written w a v) → Class n f b t (written (head ++ w) a v)
+    class_items_fault : {n : ℕ} {f : Flags} {b : Bool} {t u head : Text} {e : Fault} →
         ◌≡◌ {A = Text × Text} (class_head [] t) (head, u) →
-        Items n f b u (fault e) → Class n f b t (fault e)
+        ClassItems n f b u (fault e) → Class n f b t (fault e)
 
-  -- items through the closing bracket
-  pub data Items : ℕ → Flags → Bool → Text → Written → Type 0 where
+  -- the items of a class through its closing bracket
+  pub data ClassItems : ℕ → Flags → Bool → Text → Written → Type 0 where
     close : {n : ℕ} {f : Flags} {b : Bool} {v : Text} →
-        Items n f b (close_bracket ∷ v) (written (close_bracket ∷ []) b v)
-    plain : {n c : ℕ} {f : Flags} {b a : Bool} {t v w : Text} → is_plain c ≡ true →
-        Items n f b t (written w a v) → Items n f b (c ∷ t) (written (c ∷ w) a v)
+        ClassItems n f b (close_bracket ∷ v) (written (close_bracket ∷ []) b v)
+    plain : {n c : ℕ} {f : Flags} {b a : Bool} {t v w : Text} → is_plain_in_class c ≡ true →
+        ClassItems n f b t (written w a v) → ClassItems n f b (c ∷ t) (written (c ∷ w) a v)
     escaped : {n : ℕ} {f : Flags} {b a : Bool} {t u v w : Text} {e : Escape} →
         escape n f true (place_of n (backslash ∷ t)) t ≡ gives e u →
-        Items n f (b || is_negated e) u (written w a v) → Items n f b (backslash ∷ t) (written (item_text b e ++ w) a v)
+        ClassItems n f (b || is_negated e) u (written w a v) →
+        ClassItems n f b (backslash ∷ t) (written (escape_in_class b e ++ w) a v)
     nested : {n : ℕ} {f : Flags} {b m a : Bool} {t u v x w : Text} → Class n f b t (written x m u) →
-        Items n f m u (written w a v) → Items n f b (open_bracket ∷ t) (written (x ++ w) a v)
+        ClassItems n f m u (written w a v) → ClassItems n f b (open_bracket ∷ t) (written (x ++ w) a v)
     -- the end of the text
-    end : {n : ℕ} {f : Flags} {b : Bool} → Items n f b [] (fault (class_not_closed n))
-    plain_fault : {n c : ℕ} {f : Flags} {b : Bool} {t : Text} {e : Fault} → is_plain c ≡ true →
-        Items n f b t (fault e) → Items n f b (c ∷ t) (fault e)
+    end : {n : ℕ} {f : Flags} {b : Bool} → ClassItems n f b [] (fault (class_not_closed n))
+    plain_fault : {n c : ℕ} {f : Flags} {b : Bool} {t : Text} {e : Fault} → is_plain_in_class c ≡ true →
+        ClassItems n f b t (fault e) → ClassItems n f b (c ∷ t) (fault e)
     escape_fault : {n : ℕ} {f : Flags} {b : Bool} {t : Text} {e : Fault} →
         escape n f true (place_of n (backslash ∷ t)) t ≡ fails e →
-        Items n f b (backslash ∷ t) (fault e)
+        ClassItems n f b (backslash ∷ t) (fault e)
     escaped_fault : {n : ℕ} {f : Flags} {b : Bool} {t u : Text} {x : Escape} {e : Fault} →
         escape n f true (place_of n (backslash ∷ t)) t ≡ gives x u →
-        Items n f (b || is_negated x) u (fault e) → Items n f b (backslash ∷ t) (fault e)
+        ClassItems n f (b || is_negated x) u (fault e) → ClassItems n f b (backslash ∷ t) (fault e)
     class_fault : {n : ℕ} {f : Flags} {b : Bool} {t : Text} {e : Fault} →
-        Class n f b t (fault e) → Items n f b (open_bracket ∷ t) (fault e)
+        Class n f b t (fault e) → ClassItems n f b (open_bracket ∷ t) (fault e)
     nested_fault : {n : ℕ} {f : Flags} {b m : Bool} {t u x : Text} {e : Fault} → Class n f b t (written x m u) →
-        Items n f m u (fault e) → Items n f b (open_bracket ∷ t) (fault e)
+        ClassItems n f m u (fault e) → ClassItems n f b (open_bracket ∷ t) (fault e)
 
 -- the outermost class behind its bracket, before which no negated set was written
 abbrev pub OuterClass : ℕ → Flags → Text → Reading Text → Type 0

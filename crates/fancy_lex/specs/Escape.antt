@@ -32,9 +32,9 @@ number_escape n f inside p t =
     else backref_leaf f (reference.numbered_reference n t)
 
 -- a call behind its letter
-unfoldable pub call : ℕ → ℕ → ℕ → Text → Reading Escape
-call n p c [] = unknown_escape p c
-call n p c (d ∷ t) = reference.subroutine_call n (d ∷ t) >=> (λ r u. gives (subroutine_call r) u)
+unfoldable pub call_escape : ℕ → ℕ → ℕ → Text → Reading Escape
+call_escape n p c [] = unknown_escape p c
+call_escape n p c (d ∷ t) = reference.subroutine_call n (d ∷ t) >=> (λ r u. gives (subroutine_call r) u)
 
 -- a property behind its letter
 unfoldable pub property : Flags → Bool → ℕ → ℕ → Text → Reading Escape
@@ -58,7 +58,7 @@ outside n f p c t =
     else if c ∈ "<" then gives (if f.oniguruma_mode then literal c false else assertion LeftWordBoundary) t
     else if c ∈ ">" then gives (if f.oniguruma_mode then literal c false else assertion RightWordBoundary) t
     else if c ∈ "k" then backref_leaf f (reference.back_reference n t)
-    else if c ∈ "g" then call n p c t
+    else if c ∈ "g" then call_escape n p c t
     else if c ∈ "b" then boundary n f.ignore_space p false t
     else if c ∈ "B" then boundary n f.ignore_space p true t
     else unknown_escape p c

@@ -1,14 +1,8 @@
 -- What an escape stands for.
-use Rattle.std.specs.Prelude.{ℕ, Bool, [], ◌∷◌, codes}
-use Rattle.fancy_lex.specs.Characters.{backslash}
-use Rattle.fancy_lex.specs.Property.{property_text, view_property}
-use Rattle.fancy_lex.specs.Referred.{Reference, Call, view_reference, view_call}
+use Rattle.std.specs.Prelude.{ℕ, Bool, codes}
+use Rattle.fancy_lex.specs.Referred.{Reference, Call}
 use Rattle.fancy_lex.specs.Text.{Text}
 use Rattle.fancy_lex.specs.declared.escape.Assertion.{Assertion}
-use Rattle.fancy_lex.specs.declared.escape.DelegateText as declared_text
-use Rattle.fancy_lex.specs.declared.escape.DelegateText.TheVariants as text
-use Rattle.fancy_lex.specs.declared.escape.Escaped as declared
-use Rattle.fancy_lex.specs.declared.escape.Escaped.TheVariants as code
 
 -- a leaf of the tree, with texts as lists of characters; the last flag of a literal, a delegate and a reference is
 -- `casei`
@@ -31,23 +25,3 @@ hex_class = codes "[0-9A-Fa-f]"
 -- what is written for `\H`
 abbrev pub negated_hex_class : Text
 negated_hex_class = codes "[^0-9A-Fa-f]"
-
--- the characters of a delegate's text
-abbrev pub delegate_text : declared_text.DelegateText → Text
-delegate_text (text.Letter c) = backslash ∷ c ∷ []
-delegate_text text.HexDigit = hex_class
-delegate_text text.NotHexDigit = negated_hex_class
-delegate_text (text.Property property unicode inside) = property_text unicode inside (view_property property)
-
--- what the code's value stands for
-abbrev pub escape_of : declared.Escaped → Escape
-escape_of (code.Literal val casei) = literal val casei
-escape_of (code.LiteralBytes byte) = literal_bytes byte
-escape_of (code.Any newline crlf) = any newline crlf
-escape_of (code.Assertion a) = assertion a
-escape_of (code.GeneralNewline unicode) = general_newline unicode
-escape_of code.KeepOut = keep_out
-escape_of code.ContinueFromPreviousMatchEnd = continue_from_previous_match_end
-escape_of (code.Delegate inner casei) = delegate (delegate_text inner) casei
-escape_of (code.Backref reference casei) = backref (view_reference reference) casei
-escape_of (code.SubroutineCall call) = subroutine_call (view_call call)

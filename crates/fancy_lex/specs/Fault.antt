@@ -1,11 +1,6 @@
 -- Faults: a kind and a place, apart from how the code holds them.
-use Rattle.std.specs.Prelude.{◌≡◌, ◌≤◌, ℕ, Bool, true, false, List, ◌++◌, codes, string_bytes, encode_utf8_all, chars}
-use Rattle.std.specs.Fmt.{decimal}
+use Rattle.std.specs.Prelude.{ℕ, Bool, true, false, List, ◌++◌, codes, encode_utf8_all}
 use Rattle.fancy_lex.specs.Text.{Text}
-use Rattle.fancy_lex.specs.declared.error.Error.{Error}
-use Rattle.fancy_lex.specs.declared.error.Error.TheVariants.{ParseError, OutOfMemory}
-use Rattle.fancy_lex.specs.declared.error.ParseError as declared
-use Rattle.fancy_lex.specs.declared.error.ParseError.TheVariants as code
 
 -- the kinds, with their texts as lists of characters
 pub data Kind : Type 0 where
@@ -31,25 +26,6 @@ pub record Fault : Type 0 where
   pub place : ℕ
   pub kind : Kind
 
--- the kind that the code's value stands for
-abbrev pub kind_of : declared.ParseError → Kind
-kind_of (code.GeneralParseError s) = general_parse_error (chars (string_bytes s))
-kind_of code.UnclosedOpenParen = unclosed_open_paren
-kind_of code.InvalidRepeat = invalid_repeat
-kind_of code.RecursionExceeded = recursion_exceeded
-kind_of code.TrailingBackslash = trailing_backslash
-kind_of (code.InvalidEscape s) = invalid_escape (chars (string_bytes s))
-kind_of code.UnclosedUnicodeName = unclosed_unicode_name
-kind_of code.InvalidHex = invalid_hex
-kind_of code.InvalidCodepointValue = invalid_codepoint_value
-kind_of code.InvalidClass = invalid_class
-kind_of (code.UnknownFlag s) = unknown_flag (chars (string_bytes s))
-kind_of code.ChangingUnicodeModeUnsupported = changing_unicode_mode_unsupported
-kind_of code.InvalidBackref = invalid_backref
-kind_of code.TargetNotRepeatable = target_not_repeatable
-kind_of code.InvalidGroupName = invalid_group_name
-kind_of (code.InvalidGroupNameBackref s) = invalid_group_name_backref (chars (string_bytes s))
-
 -- the bytes that a kind prints
 abbrev pub kind_text : Kind → List ℕ
 kind_text (general_parse_error s) = codes "General parsing error: " ++ encode_utf8_all s
@@ -69,23 +45,6 @@ kind_text target_not_repeatable = codes "Target of repeat operator is invalid"
 kind_text invalid_group_name = codes "Could not parse group name"
 kind_text (invalid_group_name_backref s) = codes "Invalid group name in back reference: " ++ encode_utf8_all s
 
--- the bytes that an error prints
-abbrev pub error_text : Error → List ℕ
-error_text (ParseError place kind) =
-    codes "Parsing error at position " ++ (decimal place ++ (codes ": " ++ kind_text (kind_of kind)))
-error_text OutOfMemory = codes "out of memory"
-
--- the same kind at the same place, or both that memory ran out
-abbrev pub SameError : Error → Error → Type 0
-SameError (ParseError p k) (ParseError q l) = (p ≡ q) × (kind_of k ≡ kind_of l)
-SameError OutOfMemory OutOfMemory = Unit {0}
-SameError _ _ = ⊥
-
--- memory ran out, or the fault stands at most at the place m
-abbrev pub StandsWithin : ℕ → Error → Type 0
-StandsWithin m (ParseError p k) = p ≤ m
-StandsWithin m OutOfMemory = Unit {0}
-
 -- whether the kind carries a text, whose clone takes memory
 abbrev pub carries_text : Kind → Bool
 carries_text (general_parse_error s) = true
@@ -93,7 +52,3 @@ carries_text (invalid_escape s) = true
 carries_text (unknown_flag s) = true
 carries_text (invalid_group_name_backref s) = true
 carries_text _ = false
-
-abbrev pub error_carries_text : Error → Bool
-error_carries_text (ParseError place kind) = carries_text (kind_of kind)
-error_carries_text OutOfMemory = false

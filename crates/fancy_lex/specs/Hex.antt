@@ -35,16 +35,16 @@ is_scalar v = nat_lt v 0xD800 || (nat_lt 0xDFFF v && nat_lt v 0x110000)
 -- the code begins at the place h of a pattern of n bytes, and x says that blanks are layout
 module _ (n : ℕ) (x : Bool) (h : ℕ) where
   -- up to k digits with layout behind each, behind those of the value v, and the closing brace
-  unfoldable pub digits : ℕ → Bool → ℕ → Text → Reading ℕ
-  digits zero some v t = closing_brace h some v (strip close_brace t)
-  digits (suc k) some v t =
+  unfoldable pub hex_digits : ℕ → Bool → ℕ → Text → Reading ℕ
+  hex_digits zero some v t = closing_brace h some v (strip close_brace t)
+  hex_digits (suc k) some v t =
       choose (hex_digit t)
-      (λ p. layout_reading (layout n x p.1) >=> (λ _ t. digits k true (v * 16 + p.0) t))
+      (λ p. layout_reading (layout n x p.1) >=> (λ _ t. hex_digits k true (v * 16 + p.0) t))
       (closing_brace h some v (strip close_brace t))
 
   -- one to eight digits with layout before, between and behind them
   unfoldable pub braced_value : Text → Reading ℕ
-  braced_value t = layout_reading (layout n x t) >=> (λ _ t. digits 8 false 0 t)
+  braced_value t = layout_reading (layout n x t) >=> (λ _ t. hex_digits 8 false 0 t)
 
   -- the value of a code of so many digits, or of one in braces
   unfoldable pub value : ℕ → Text → Reading ℕ
@@ -84,14 +84,14 @@ pub data BracedCode (n : ℕ) (x : Bool) (h : ℕ) : Text → Reading ℕ → Ty
       BracedCode n x h t (gives v w)
   stuck : {k v : ℕ} {t u w : Text} → Before x t u → Digits x k v u w → k ≤ 8 → Stuck k w →
       BracedCode n x h t (fails (code_not_read h))
-  open_before : {q : ℕ} {t : Text} → Unclosed n x t q → BracedCode n x h t (fails (comment_not_closed q))
-  open_behind : {k v d q : ℕ} {t u w z : Text} → Before x t u → Digits x k v u w → k < 8 → hex_digit w ≡ Some (d, z) →
-      Unclosed n x z q → BracedCode n x h t (fails (comment_not_closed q))
+  comment_open_before : {q : ℕ} {t : Text} → Unclosed n x t q → BracedCode n x h t (fails (comment_not_closed q))
+  comment_open_behind : {k v d q : ℕ} {t u w z : Text} → Before x t u → Digits x k v u w → k < 8 →
+      hex_digit w ≡ Some (d, z) → Unclosed n x z q → BracedCode n x h t (fails (comment_not_closed q))
 
 -- a code that begins there: so many digits, or else one in braces
 pub data Code (n : ℕ) (x : Bool) (h width : ℕ) : Text → Reading ℕ → Type 0 where
   fixed : {v : ℕ} {t u : Text} → fixed_digits width 0 t ≡ Some (v, u) → Code n x h width t (gives v u)
-  in_braces : {t : Text} {o : Reading ℕ} → fixed_digits width 0 (open_brace ∷ t) ≡ None → BracedCode n x h t o →
+  code_in_braces : {t : Text} {o : Reading ℕ} → fixed_digits width 0 (open_brace ∷ t) ≡ None → BracedCode n x h t o →
       Code n x h width (open_brace ∷ t) o
   neither : {t : Text} → fixed_digits width 0 t ≡ None → strip open_brace t ≡ None →
       Code n x h width t (fails (code_not_read h))

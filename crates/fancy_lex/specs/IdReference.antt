@@ -1,6 +1,6 @@
 -- Id references: an id, an amount, or both.
 use Rattle.std.specs.Prelude.{◌≡◌, ◌≢◌, ℕ, ◌^◌, ◌<◌, ℤ, pos, neg_ℤ, Bool, true, ◌==◌, nat_lt, if◌then◌else◌, []}
-use Rattle.std.specs.Prelude.{◌∷◌, ◌++◌, chars, Option, Some, None, option_map}
+use Rattle.std.specs.Prelude.{◌∷◌, ◌++◌, Option, Some, None, option_map}
 use Rattle.std.specs.Option.{option_and_then}
 use Rattle.std.specs.Ordering.{int_eq}
 use Prim.Native.Char.{code}
@@ -9,8 +9,6 @@ use Rattle.fancy_lex.specs.Id.{IsId, id}
 use Rattle.fancy_lex.specs.Number.{Number}
 use Rattle.fancy_lex.specs.NumberText.{whole_number}
 use Rattle.fancy_lex.specs.Text.{Text}
-use Rattle.fancy_lex.specs.declared.name.id.IdReference as code_reference
-use Rattle.fancy_lex.specs.declared.name.id.IdReference.TheVariants as variant
 
 -- what an id reference says: an id, an amount, or both
 pub data IdReference : Type 0 where
@@ -38,13 +36,7 @@ pub data IsIdReference : Bool → Text → IdReference → Type 0 where
   plain : {relative : Bool} {w : Text} → IsId w → IsIdReference relative w (id_alone w)
   with_amount : {w : Text} {z : ℤ} (i a : Text) → w ≡ i ++ a → IsId i → IsAmount a z →
       IsIdReference true w (id_and_amount i z)
-  bare : {w : Text} {z : ℤ} → IsAmount w z → z ≢ pos 0 → IsIdReference true w (amount_alone z)
-
--- an id reference in code, with its id as characters
-abbrev pub view_id_reference : code_reference.IdReference → IdReference
-view_id_reference (variant.Id i) = id_alone (chars i.now)
-view_id_reference (variant.IdAndAmount i z) = id_and_amount (chars i.now) z
-view_id_reference (variant.Amount z) = amount_alone z
+  without_id : {w : Text} {z : ℤ} → IsAmount w z → z ≢ pos 0 → IsIdReference true w (amount_alone z)
 
 -- a sign and a number of at most 2^63 - 1
 abbrev pub small_amount : ℕ → ℕ → Option ℤ

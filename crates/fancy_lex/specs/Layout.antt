@@ -33,12 +33,12 @@ abbrev pub IsBlank : Text → Type 0
 IsBlank u = (c : ℕ) × (is_blank c ≡ true) × (u ≡ c ∷ [])
 
 -- `#` through the next line feed, or through the end of the text, where nothing follows
-abbrev pub IsLine : Text → Text → Type 0
-IsLine u v = (t : Text) × InLine t × ((u ≡ hash ∷ (t ++ (line_feed ∷ []))) ⊎ ((u ≡ hash ∷ t) × (v ≡ [])))
+abbrev pub IsLineComment : Text → Text → Type 0
+IsLineComment u v = (t : Text) × InLine t × ((u ≡ hash ∷ (t ++ (line_feed ∷ []))) ⊎ ((u ≡ hash ∷ t) × (v ≡ [])))
 
 -- `u` is a unit of layout where `v` follows; the flag says that blanks and line comments are layout
 abbrev pub IsUnit : Bool → Text → Text → Type 0
-IsUnit x u v = IsComment u ⊎ (x ≡ true) × (IsBlank u ⊎ IsLine u v)
+IsUnit x u v = IsComment u ⊎ (x ≡ true) × (IsBlank u ⊎ IsLineComment u v)
 
 -- `w` is a concatenation of units where `v` follows
 pub data Units : Bool → Text → Text → Type 0 where
@@ -62,10 +62,10 @@ pub record Before (x : Bool) (t v : Text) : Type 0 where
   pub layout : Layout x w v
 
 -- a comment's inside that does not end: all of the text, or all but an unpaired backslash
-pub data Open : ℕ → Text → ℕ → Type 0 where
-  at_end : {n : ℕ} {t : Text} → InComment t → Open n t (end_in_comment n)
+pub data OpenComment : ℕ → Text → ℕ → Type 0 where
+  at_end : {n : ℕ} {t : Text} → InComment t → OpenComment n t (end_in_comment n)
   after_backslash : {n p : ℕ} {t : Text} (i : Text) → t ≡ i ++ (backslash ∷ []) → p ≡ end_behind_backslash n →
-      InComment i → Open n t p
+      InComment i → OpenComment n t p
 
 -- in a text of n bytes that ends with `t`, the layout at `t` holds an unclosed comment, with its fault at p
 pub record Unclosed (n : ℕ) (x : Bool) (t : Text) (p : ℕ) : Type 0 where
@@ -73,4 +73,4 @@ pub record Unclosed (n : ℕ) (x : Bool) (t : Text) (p : ℕ) : Type 0 where
   pub r : Text
   pub cut : t ≡ w ++ (comment_head ++ r)
   pub units : Units x w (comment_head ++ r)
-  pub inside : Open n r p
+  pub inside : OpenComment n r p

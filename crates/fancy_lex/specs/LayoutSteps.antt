@@ -33,7 +33,8 @@ is_layout x c = x && (c == hash || is_blank c)
 abbrev pub after_comment_head : Text → Option Text
 after_comment_head t = option_and_then (strip hash) (option_and_then (strip question_mark) (strip open_paren t))
 
--- what is left behind the rest of the layout, or the place of an unclosed comment's fault in a text of n bytes
+-- what is left behind the rest of the layout, or the place of an unclosed comment's fault in a text of n bytes; no text
+-- ends inside `(?#`, since all of that was seen before the first of it was taken
 unfoldable pub layout_from : ℕ → Bool → Phase → Text → Skipped
 layout_from n x between [] = rest []
 layout_from n x between (c ∷ t) =

@@ -15,8 +15,10 @@ pub mod NumberText
 pub mod Id
 pub mod IdReference
 pub mod Delimited
+pub mod Target
 pub mod Referred
 -- ---- escapes and classes
+pub mod Escaped
 pub mod Hex
 pub mod Boundary
 pub mod BoundarySteps
@@ -29,6 +31,7 @@ pub mod Class
 
 pub mod Bits
 pub mod Views
-pub mod Target
-pub mod PropertyForm
-pub mod Escaped
+pub mod ErrorViews
+pub mod NameViews
+pub mod PropertyViews
+pub mod EscapeViews

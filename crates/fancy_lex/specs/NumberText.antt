@@ -13,7 +13,7 @@ pub record WritesNumber (w : Text) (value : ℕ) : Type 0 where
 
 -- `w` is a number text of this value: the digits of a number that a word holds, and before them nothing or `+`
 pub data IsNumberText : Text → ℕ → Type 0 where
-  digits : {w : Text} {n : ℕ} → WritesNumber w n → IsNumberText w n
+  digits_alone : {w : Text} {n : ℕ} → WritesNumber w n → IsNumberText w n
   with_plus : {w : Text} {n : ℕ} (d : Text) → w ≡ code "+" ∷ d → WritesNumber d n → IsNumberText w n
 
 -- no text is left

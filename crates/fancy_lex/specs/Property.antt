@@ -1,16 +1,13 @@
 -- Properties: what stands behind `\p` or `\P`, and the text that is written for it.
 use Rattle.std.specs.Prelude.{ℕ, Bool, true, false, not, ◌==◌, ◌&&◌, ◌||◌, nat_eq, if◌then◌else◌, [], ◌∷◌, ◌++◌}
-use Rattle.std.specs.Prelude.{chars, codes, map, Option, Some, None, option_map}
+use Rattle.std.specs.Prelude.{codes, map, Option, Some, None, option_map}
 use Rattle.std.specs.Char.{to_ascii_lowercase}
 use Rattle.std.specs.List.{starts_with}
 use Rattle.std.specs.Str.{bytes_eq}
 use Rattle.fancy_lex.specs.Characters.{caret, open_brace, close_brace}
 use Rattle.fancy_lex.specs.Text.{Text, cut_at}
-use Rattle.fancy_lex.specs.declared.property.Known.{Known}
-use Rattle.fancy_lex.specs.declared.property.Known.TheVariants.{Alnum, Blank, Cntrl, Word, Graph, Print, Cs, Other}
-use Rattle.fancy_lex.specs.declared.property.Property as code
-use Rattle.fancy_lex.specs.declared.property.PropertyName as code_name
-use Rattle.fancy_lex.specs.declared.property.PropertyName.TheVariants as written
+use Rattle.fancy_lex.specs.declared.property.KnownName.{KnownName}
+use Rattle.fancy_lex.specs.declared.property.KnownName.TheVariants.{Alnum, Blank, Cntrl, Word, Graph, Print, Cs, Other}
 
 -- a property's name: one character, or what stands in braces
 pub data PropertyName : Type 0 where
@@ -21,15 +18,6 @@ pub data PropertyName : Type 0 where
 pub record Property : Type 0 where
   pub negated : Bool
   pub name : PropertyName
-
--- a name in code, as characters
-abbrev pub view_name : code_name.PropertyName → PropertyName
-view_name (written.Single c) = single c
-view_name (written.Braced s) = braced (chars s.now)
-
--- a property in code, with its name as characters
-abbrev pub view_property : code.Property → Property
-view_property p = record { negated = p.negated; name = view_name p.name }
 
 -- the name behind the letter, and the text left; none where no text is left, or the brace is not closed
 unfoldable pub name_at : Text → Option (PropertyName × Text)
@@ -50,7 +38,7 @@ pub data Form : Type 0 where
   pair : Text → Text → Form
 
 -- which name of the table this is
-abbrev pub look_up : Text → Known
+abbrev pub look_up : Text → KnownName
 look_up name =
     if bytes_eq name (codes "alnum") then Alnum
     else if bytes_eq name (codes "blank") then Blank
@@ -66,7 +54,7 @@ abbrev pub form_by : Bool → Form → Form → Form
 form_by unicode with without = if unicode then with else without
 
 -- the table: how each name is written with UNICODE, and without
-abbrev pub form : Bool → Known → Text → Form
+abbrev pub form : Bool → KnownName → Text → Form
 form unicode Alnum name = form_by unicode (set (codes "\\p{alpha}\\p{digit}")) (set (codes "[:alnum:]"))
 form unicode Blank name = form_by unicode (set (codes "\\p{Zs}\\x09")) (set (codes "\\t "))
 form unicode Cntrl name = form_by unicode (set (codes "\\x00-\\x1F\\x7F-\\x9F")) (set (codes "[:cntrl:]"))
@@ -110,12 +98,13 @@ unfoldable pub property_text : Bool → Bool → Property → Text
 property_text unicode inside p =
     elim p.name [ single c ↦ letter p.negated ++ c ∷ [] | braced s ↦ braced_text unicode inside (turn p.negated s) ]
 
--- whether the text holds the other
-abbrev pub holds : Text → Text → Bool
-holds [] w = starts_with nat_eq [] w
-holds (c ∷ t) w = starts_with nat_eq (c ∷ t) w || holds t w
+-- whether the other text stands somewhere in the first
+abbrev pub contains_text : Text → Text → Bool
+contains_text [] w = starts_with nat_eq [] w
+contains_text (c ∷ t) w = starts_with nat_eq (c ∷ t) w || contains_text t w
 
 -- whether the text is a negated set that names properties or other classes
 abbrev pub is_negated_set : Text → Bool
 is_negated_set t =
-    starts_with nat_eq t (codes "[^") && (holds t (codes "\\p{") || holds t (codes "\\P{") || holds t (codes "[:"))
+    starts_with nat_eq t (codes "[^")
+    && (contains_text t (codes "\\p{") || contains_text t (codes "\\P{") || contains_text t (codes "[:"))

@@ -2,7 +2,8 @@
 use Rattle.std.specs.Prelude.{◌≡◌, ℕ, true, List, chars, Option, Some, None, Result, MatchResult, ⊤}
 use Rattle.std.specs.Borrow.{Bor}
 use Rattle.fancy_lex.specs.Text.{Text}
-use Rattle.fancy_lex.specs.Fault.{Fault, Kind, kind_of, carries_text}
+use Rattle.fancy_lex.specs.Fault.{Fault, Kind, carries_text}
+use Rattle.fancy_lex.specs.ErrorViews.{kind_of}
 use Rattle.fancy_lex.specs.FaultTable.{comment_not_closed}
 use Rattle.fancy_lex.specs.LayoutSteps.{Skipped, rest, fault}
 use Rattle.fancy_lex.specs.declared.error.Error.{Error}

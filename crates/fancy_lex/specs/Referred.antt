@@ -1,5 +1,5 @@
 -- References: what a name or an id reference names, and where it stands.
-use Rattle.std.specs.Prelude.{ℕ, ℤ, Bool, Option, Some, None, option_map, chars}
+use Rattle.std.specs.Prelude.{ℕ, ℤ, Bool, Option, Some, None, option_map}
 use Rattle.fancy_lex.specs.Delimited.{of_name}
 use Rattle.fancy_lex.specs.FaultTable.{reference_not_read}
 use Rattle.fancy_lex.specs.IdReference.{IdReference, id_alone, id_and_amount, amount_alone, id_reference}
@@ -7,10 +7,6 @@ use Rattle.fancy_lex.specs.NumberText.{number_text}
 use Rattle.fancy_lex.specs.Reading.{Reading, read_or}
 use Rattle.fancy_lex.specs.Target.{Target, by_number, by_name, relative}
 use Rattle.fancy_lex.specs.Text.{Text}
-use Rattle.fancy_lex.specs.declared.name.target.Target as declared_target
-use Rattle.fancy_lex.specs.declared.name.target.Target.TheVariants as code
-use Rattle.fancy_lex.specs.declared.name.target.Reference as declared_reference
-use Rattle.fancy_lex.specs.declared.name.target.Call as declared_call
 
 -- what asks for a group's match: the group, the level of recursion where one is written, and the place
 pub record Reference : Type 0 where
@@ -30,20 +26,6 @@ reference_to p g l = record { target = g; level = l; place = p }
 -- the call at the place p of this group
 abbrev pub call_to : ℕ → Target → Call
 call_to p g = record { target = g; place = p }
-
--- a target in code, with its name as characters
-abbrev pub view_borrowed : declared_target.Target → Target
-view_borrowed (code.ByNumber n) = by_number n
-view_borrowed (code.ByName s) = by_name (chars s.now)
-view_borrowed (code.Relative z) = relative z
-
--- a reference in code
-abbrev pub view_reference : declared_reference.Reference → Reference
-view_reference r = reference_to r.place (view_borrowed r.target) r.level
-
--- a call in code
-abbrev pub view_call : declared_call.Call → Call
-view_call c = call_to c.place (view_borrowed c.target)
 
 -- the group of the number, or else of the name
 abbrev pub number_or_name : Text → Option ℕ → Target

@@ -5,23 +5,15 @@ use Rattle.std.specs.Bool.{Decides}
 use Rattle.std.specs.Str.{bytes_eq}
 use Rattle.std.specs.Cmp.{IsEquivalence, decided, unsigned_Decides, signed_Decides}
 use Rattle.std.specs.Cmp.Lexicographic.{bytes_decides}
-use mathlib.Core.Bool.{true≢false}
-use mathlib.Core.Path.{sym, subst}
-use Rattle.fancy_lex.specs.Text.{Text, text_of}
-use Rattle.fancy_lex.specs.declared.name.CaptureGroupTarget.{CaptureGroupTarget}
-use Rattle.fancy_lex.specs.declared.name.CaptureGroupTarget.TheVariants as target
+use mathlib.Core.Bool.{false≢true}
+use mathlib.Core.Path.{subst}
+use Rattle.fancy_lex.specs.Text.{Text}
 
 -- a group by its number, by its name, or so many groups away
 pub data Target : Type 0 where
   by_number : ℕ → Target
   by_name : Text → Target
   relative : ℤ → Target
-
--- the target that the code's value stands for
-abbrev pub view_target : CaptureGroupTarget → Target
-view_target (target.ByNumber n) = by_number n
-view_target (target.ByName s) = by_name (text_of s)
-view_target (target.Relative z) = relative z
 
 -- whether the target is a name, whose clone takes memory
 abbrev pub is_by_name : Target → Bool
@@ -34,9 +26,6 @@ same_target (by_number m) (by_number n) = nat_eq m n
 same_target (by_name s) (by_name t) = bytes_eq s t
 same_target (relative y) (relative z) = int_eq y z
 same_target _ _ = false
-
-false≢true : false ≡ true → ⊥
-false≢true h = true≢false (sym h)
 
 pub same_target-true : (s t : Target) → same_target s t ≡ true → s ≡ t
 same_target-true (by_number m) (by_number n) h = λ i. by_number ((unsigned_Decides m n).0 h i)

@@ -1,10 +1,10 @@
 //! Classes: what stands behind an opening bracket, and the text that is written for it.
 ghost use Rattle.std.specs.Prelude.{◌≡◌, ℕ, ◌+◌, ◌/◌, ◌%◌, ◌^◌, ◌<◌, ◌≤◌, ◌||◌, ◌++◌, length, chars, IfErr, IfOk, OnOk};
 ghost use Rattle.fancy_lex.specs.Class as spec;
-ghost use Rattle.fancy_lex.specs.Escaped.{escape_of, delegate_text};
+ghost use Rattle.fancy_lex.specs.EscapeViews.{escape_of, delegate_text};
 ghost use Rattle.fancy_lex.specs.Property.{is_negated_set};
 ghost use Rattle.fancy_lex.specs.Reading.{Reading, Derives, IsReadingOrNoMemory, gives};
-ghost use Rattle.fancy_lex.specs.Fault.{StandsWithin};
+ghost use Rattle.fancy_lex.specs.ErrorViews.{StandsWithin};
 ghost use Rattle.fancy_lex.specs.Text.{Text, text_of, BeginsWith, EndsWith};
 
 use crate::error::{Error, ParseError};
@@ -115,8 +115,9 @@ fn push_joint(out: &mut String, needed: bool) -> Result<(), AllocError>
 
 /// Adds what is written for an escape in a class, where `seen` says whether a negated set was added before. Gives
 /// whether one was added by then.
-fn push_item(out: &mut String, escaped: Escaped, seen: bool) -> Result<bool, AllocError>
-    ensures grown { OnOk result (text_of out.new ≡ text_of out.old ++ spec.item_text seen (escape_of escaped.entry)) }
+fn push_escape(out: &mut String, escaped: Escaped, seen: bool) -> Result<bool, AllocError>
+    ensures grown { OnOk result
+        (text_of out.new ≡ text_of out.old ++ spec.escape_in_class seen (escape_of escaped.entry)) }
     ensures seen { IfOk result (λ now. now ≡ (seen || spec.is_negated (escape_of escaped.entry))) }
 {
     match escaped {
@@ -172,27 +173,27 @@ fn read_class(alloc: Global, text: &str, flags: Flags, end: usize) -> Result<(St
 {
     let mut out = String::new(alloc);
     let mut rest = push_head(&mut out, text)?;
-    let mut depth = 0usize;
+    let mut outer = 0usize;
     let mut seen = false;
     while let Some((c, behind)) = next(rest) {
         if c == '\\' {
             let (escaped, after) = escape(alloc, behind, flags, true, place(rest, end), end)?;
-            seen = push_item(&mut out, escaped, seen)?;
+            seen = push_escape(&mut out, escaped, seen)?;
             rest = after;
             continue;
         }
         if c == '[' {
             rest = push_head(&mut out, behind)?;
-            depth += 1;
+            outer += 1;
             continue;
         }
         push(&mut out, c)?;
         rest = behind;
         if c == ']' {
-            if depth == 0 {
+            if outer == 0 {
                 return Ok((out, rest));
             }
-            depth -= 1;
+            outer -= 1;
         }
     }
     Err(Error::ParseError(end, ParseError::InvalidClass))

@@ -1,6 +1,7 @@
 //! Why a pattern is refused.
 ghost use Rattle.std.specs.Prelude.{◌≡◌, ◌++◌, false, IfOk, IsOk, Some};
-ghost use Rattle.fancy_lex.specs.Fault.{kind_of, kind_text, error_text, SameError, carries_text, error_carries_text};
+ghost use Rattle.fancy_lex.specs.Fault.{kind_text, carries_text};
+ghost use Rattle.fancy_lex.specs.ErrorViews.{kind_of, error_text, SameError, error_carries_text};
 
 use std::alloc::{AllocError, AllocFailed, Global};
 use std::fmt;

@@ -4,10 +4,10 @@ ghost use Rattle.fancy_lex.specs.Characters.{backslash};
 ghost use Rattle.fancy_lex.specs.Escape as spec;
 ghost use Rattle.fancy_lex.specs.EscapeReference as references;
 ghost use Rattle.fancy_lex.specs.Escaped as leaf;
-ghost use Rattle.fancy_lex.specs.Escaped.{escape_of, delegate_text};
+ghost use Rattle.fancy_lex.specs.EscapeViews.{escape_of, delegate_text};
 ghost use Rattle.fancy_lex.specs.Reading.{Reads, Answers, Reports, gives, choose};
 ghost use Rattle.fancy_lex.specs.Text.{Text, EndsWith, text_of};
-ghost use Rattle.fancy_lex.specs.Fault.{StandsWithin};
+ghost use Rattle.fancy_lex.specs.ErrorViews.{StandsWithin};
 
 use crate::error::{Error, ParseError};
 use crate::escape::boundary::{bare_boundary, boundary};
@@ -166,12 +166,12 @@ fn number_escape(
         group_number(text, end)?;
         return Err(Error::ParseError(place, ParseError::InvalidClass));
     }
-    numbered(text, flags, end)
+    numbered_backref(text, flags, end)
 }
 
 /// Reads a back reference in digits.
 #[inline(always)]
-fn numbered(text: &str, flags: Flags, end: usize) -> Result<(Escaped<'_>, &str), Error>
+fn numbered_backref(text: &str, flags: Flags, end: usize) -> Result<(Escaped<'_>, &str), Error>
     requires { length text.now ≤ end }
     ensures value { Reads escape_of result
         (spec.backref_leaf flags (references.numbered_reference end (chars text.now))) }
@@ -184,7 +184,7 @@ fn numbered(text: &str, flags: Flags, end: usize) -> Result<(Escaped<'_>, &str),
 
 /// Reads a named back reference, behind its letter.
 #[inline(always)]
-fn named(text: &str, flags: Flags, end: usize) -> Result<(Escaped<'_>, &str), Error>
+fn backref_escape(text: &str, flags: Flags, end: usize) -> Result<(Escaped<'_>, &str), Error>
     requires { length text.now ≤ end }
     ensures value { Reads escape_of result (spec.backref_leaf flags (references.back_reference end (chars text.now))) }
     ensures within { IfOk result (λ p. length p.1.now ≤ length text.now) }
@@ -195,8 +195,8 @@ fn named(text: &str, flags: Flags, end: usize) -> Result<(Escaped<'_>, &str), Er
 }
 
 /// Reads a call behind its letter. InvalidEscape at `place` where the text ends.
-#[tactic(auto, unfolding(crate::specs::Escape::call))]
-fn call<'a>(
+#[tactic(auto, unfolding(crate::specs::Escape::call_escape))]
+fn call_escape<'a>(
     alloc: Global,
     text: &'a str,
     letter: char,
@@ -204,7 +204,7 @@ fn call<'a>(
     end: usize,
 ) -> Result<(Escaped<'a>, &'a str), Error>
     requires { length text.now ≤ end }
-    ensures value { Answers escape_of result (spec.call end place letter (chars text.now)) }
+    ensures value { Answers escape_of result (spec.call_escape end place letter (chars text.now)) }
     ensures within { IfOk result (λ p. length p.1.now ≤ length text.now) }
 {
     if next(text).is_none() {
@@ -399,8 +399,8 @@ fn read_escape<'a>(
         'U' => hex(rest, 8, flags, end),
         'p' | 'P' => property(alloc, rest, c, flags, inside, place),
         'b' | 'B' if !inside => boundary(alloc, rest, c == 'B', flags, place, end),
-        'k' if !inside => named(rest, flags, end),
-        'g' if !inside => call(alloc, rest, c, place, end),
+        'k' if !inside => backref_escape(rest, flags, end),
+        'g' if !inside => call_escape(alloc, rest, c, place, end),
         _ => match lone_escape(c, flags, inside) {
             Some(leaf) => Ok((leaf, rest)),
             None => Err(unknown_escape(alloc, c, place)),
@@ -414,7 +414,7 @@ fn read_escape<'a>(
 fn short_call(text: &str, end: usize) -> Option<(Escaped<'_>, &str)>
     requires { length text.now ≤ end }
     ensures value { IfSome result (λ p. (q c : ℕ) →
-        spec.call end q c (chars text.now) ≡ gives (escape_of p.0) (chars p.1.now)) }
+        spec.call_escape end q c (chars text.now) ≡ gives (escape_of p.0) (chars p.1.now)) }
     ensures shorter { IfSome result (λ p. length p.1.now < length text.now) }
 {
     let (call, rest) = subroutine_call(text, end).ok()?;
@@ -440,8 +440,8 @@ pub fn short_escape(text: &str, flags: Flags, end: usize) -> Option<(Escaped<'_>
         'u' => return short_hex(rest, 4, flags),
         'U' => return short_hex(rest, 8, flags),
         'p' | 'P' => return short_property(rest, c, flags),
-        '0'..='9' => return numbered(text, flags, end).ok(),
-        'k' => return named(rest, flags, end).ok(),
+        '0'..='9' => return numbered_backref(text, flags, end).ok(),
+        'k' => return backref_escape(rest, flags, end).ok(),
         'g' => return short_call(rest, end),
         _ => lone_escape(c, flags, false)?,
     };

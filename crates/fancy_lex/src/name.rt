@@ -1,7 +1,8 @@
 //! What a reference names, and how it is written: numbers, ids, and names between marks.
 ghost use Rattle.std.specs.Prelude.{◌↔◌, IsTrue, ◌≡◌, IfOk, false, IsOk};
 ghost use Rattle.std.specs.Cmp.{on_per, on_equiv, partial_equiv_from_equiv};
-ghost use Rattle.fancy_lex.specs.Target.{view_target, is_by_name, same_target, same_target-equiv};
+ghost use Rattle.fancy_lex.specs.Target.{is_by_name, same_target, same_target-equiv};
+ghost use Rattle.fancy_lex.specs.NameViews.{view_target};
 
 pub mod delimited;
 pub mod id;

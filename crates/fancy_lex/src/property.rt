@@ -2,7 +2,7 @@
 ghost use Rattle.std.specs.Prelude.{◌≡◌, Bool, true, false, ◌<◌, ◌++◌, length, chars, IfSome, OnOk, Some, None, option_map, if◌then◌else◌};
 ghost use Rattle.std.specs.Str.{bytes_eq};
 ghost use Rattle.fancy_lex.specs.Property as spec;
-ghost use Rattle.fancy_lex.specs.PropertyForm.{view_form, other_form};
+ghost use Rattle.fancy_lex.specs.PropertyViews.{view_property, view_form, other_form};
 ghost use Rattle.fancy_lex.specs.Text.{Text, text_of, BeginsWith};
 ghost use Rattle.fancy_lex.specs.Views.{view_read};
 
@@ -31,7 +31,7 @@ pub struct Property<'a> {
 #[tactic(auto, unfolding(crate::specs::Property::read_property, crate::specs::Property::name_at))]
 pub(crate) fn read_property(text: &str, negated: bool) -> Option<(Property<'_>, &str)>
     ensures value { spec.read_property negated (chars text.now) ≡
-        option_map (λ p. (spec.view_property p.0, chars p.1.now)) result }
+        option_map (λ p. (view_property p.0, chars p.1.now)) result }
     ensures shorter { IfSome result (λ p. length p.1.now < length text.now) }
 {
     let (c, rest) = next(text)?;
@@ -46,7 +46,7 @@ pub(crate) fn read_property(text: &str, negated: bool) -> Option<(Property<'_>, 
 
 /// The names that are written in a way of their own, and any other.
 #[derive(Clone, Copy)]
-enum Known {
+enum KnownName {
     Alnum,
     Blank,
     Cntrl,
@@ -77,25 +77,25 @@ fn is_word(name: &str, word: &str) -> bool
 }
 
 /// Which of the known names this is, in letters of either case.
-fn look_up(name: &str) -> Known
+fn look_up(name: &str) -> KnownName
     ensures { result ≡ spec.look_up (spec.lowercase (chars name.now)) }
 {
     if is_word(name, "alnum") {
-        Known::Alnum
+        KnownName::Alnum
     } else if is_word(name, "blank") {
-        Known::Blank
+        KnownName::Blank
     } else if is_word(name, "cntrl") {
-        Known::Cntrl
+        KnownName::Cntrl
     } else if is_word(name, "word") {
-        Known::Word
+        KnownName::Word
     } else if is_word(name, "graph") {
-        Known::Graph
+        KnownName::Graph
     } else if is_word(name, "print") {
-        Known::Print
+        KnownName::Print
     } else if is_word(name, "cs") {
-        Known::Cs
+        KnownName::Cs
     } else {
-        Known::Other
+        KnownName::Other
     }
 }
 
@@ -108,34 +108,34 @@ fn form_by<'a>(unicode: bool, with: Form<'a>, without: Form<'a>) -> Form<'a>
 }
 
 /// How the known name is written.
-fn form_of(known: Known, name: &str, unicode: bool) -> Form<'_>
+fn form_of(known: KnownName, name: &str, unicode: bool) -> Form<'_>
     ensures { view_form result ≡ spec.form unicode known (spec.lowercase (chars name.now)) }
 {
     match known {
-        Known::Alnum => form_by(
+        KnownName::Alnum => form_by(
             unicode,
             Form::Set(r"\p{alpha}\p{digit}"),
             Form::Set("[:alnum:]"),
         ),
-        Known::Blank => form_by(unicode, Form::Set(r"\p{Zs}\x09"), Form::Set(r"\t ")),
-        Known::Cntrl => form_by(
+        KnownName::Blank => form_by(unicode, Form::Set(r"\p{Zs}\x09"), Form::Set(r"\t ")),
+        KnownName::Cntrl => form_by(
             unicode,
             Form::Set(r"\x00-\x1F\x7F-\x9F"),
             Form::Set("[:cntrl:]"),
         ),
-        Known::Word => form_by(unicode, Form::Pair(r"\w", r"\W"), Form::Set("_[:alnum:]")),
-        Known::Graph => form_by(
+        KnownName::Word => form_by(unicode, Form::Pair(r"\w", r"\W"), Form::Set("_[:alnum:]")),
+        KnownName::Graph => form_by(
             unicode,
             Form::Pair(r"[^\p{White_Space}\p{C}]", r"[\p{White_Space}\p{C}]"),
             Form::Set("[:graph:]"),
         ),
-        Known::Print => form_by(
+        KnownName::Print => form_by(
             unicode,
             Form::Pair(r"[^\p{C}\t\n\v\f\r]", r"[\p{C}\t\n\v\f\r]"),
             Form::Set("[:print:]"),
         ),
-        Known::Cs => Form::Pair(r"\P{any}", r"\p{any}"),
-        Known::Other => Form::Name(name),
+        KnownName::Cs => Form::Pair(r"\P{any}", r"\p{any}"),
+        KnownName::Other => Form::Name(name),
     }
 }
 
@@ -150,16 +150,16 @@ fn turn(negated: bool, name: &str) -> (bool, &str)
 }
 
 /// Whether what is written is a negated set that names properties or other classes.
-fn is_negated_form(known: Known, negated: bool, unicode: bool) -> bool
+fn is_negated_form(known: KnownName, negated: bool, unicode: bool) -> bool
     ensures { (inside : Bool) (name : Text) →
         result ≡ spec.is_negated_set (spec.form_text inside negated (spec.form unicode known name)) }
 {
     match known {
-        Known::Alnum => negated,
-        Known::Blank => negated && unicode,
-        Known::Cntrl | Known::Word => negated && !unicode,
-        Known::Graph | Known::Print => negated != unicode,
-        Known::Cs | Known::Other => false,
+        KnownName::Alnum => negated,
+        KnownName::Blank => negated && unicode,
+        KnownName::Cntrl | KnownName::Word => negated && !unicode,
+        KnownName::Graph | KnownName::Print => negated != unicode,
+        KnownName::Cs | KnownName::Other => false,
     }
 }
 
@@ -167,7 +167,7 @@ fn is_negated_form(known: Known, negated: bool, unicode: bool) -> bool
 #[tactic(auto, unfolding(crate::specs::Property::property_text))]
 pub(crate) fn is_negated(property: Property, unicode: bool) -> bool
     ensures { (inside : Bool) →
-        result ≡ spec.is_negated_set (spec.property_text unicode inside (spec.view_property property.entry)) }
+        result ≡ spec.is_negated_set (spec.property_text unicode inside (view_property property.entry)) }
 {
     match property.name {
         PropertyName::Single(_) => false,
@@ -249,7 +249,7 @@ pub(crate) fn push_property(
     unicode: bool,
     inside: bool,
 ) -> Result<(), AllocError>
-    ensures grown { let text = spec.property_text unicode inside (spec.view_property property.entry) in
+    ensures grown { let text = spec.property_text unicode inside (view_property property.entry) in
         OnOk result (text_of out.new ≡ text_of out.old ++ text) }
     ensures kept { BeginsWith (text_of out.new) (text_of out.old) }
 {

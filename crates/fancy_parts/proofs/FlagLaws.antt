@@ -8,7 +8,7 @@ use Rattle.fancy_lex.specs.FaultTable.{mode_changed}
 use Rattle.fancy_lex.specs.Reading.{Reading, fails}
 use Rattle.fancy_lex.specs.Text.{Text, bytes, place_of}
 use Rattle.fancy_lex.specs.declared.flags.Flags.{Flags}
-use Rattle.fancy_parts.specs.FlagLetters.{Letters, Step, ends, goes}
+use Rattle.fancy_parts.specs.FlagLetters.{Letters, LetterStep, flags_end, flags_go_on}
 use Rattle.fancy_parts.specs.LetterSteps.{step, unknown_letter, flag_or_fault, behind_step, letters_in, letters}
 
 -- where the letters begin is told
@@ -24,7 +24,7 @@ module _ (n : ℕ) (t : Text) where
   leaves_flag_or_fault clears c u (Some f) = whole_next u
   leaves_flag_or_fault clears c u None = leaves_unknown u (c ∷ u)
 
-  leaves_changing : (c : ℕ) (u : Text) → Leaves {A = Step} n told (c ∷ u) (fails (mode_changed n (c ∷ u)))
+  leaves_changing : (c : ℕ) (u : Text) → Leaves {A = LetterStep} n told (c ∷ u) (fails (mode_changed n (c ∷ u)))
   leaves_changing c u = leaves_none (stands_here (c ∷ u))
 
   leaves_step : (clears : Bool) (f : Flags) (u : Text) → Leaves n told u (step n t clears f u)
@@ -34,9 +34,9 @@ module _ (n : ℕ) (t : Text) where
 
   leaves_behind : (more : Bool → Flags → Text → Reading Letters) →
       ((c : Bool) (f : Flags) (u : Text) → Leaves n told u (more c f u)) →
-      (s : Step) (u : Text) → Leaves n told u (behind_step more s u)
-  leaves_behind more h (ends l) u = leaves (ends_whole u)
-  leaves_behind more h (goes c f) u = h c f u
+      (s : LetterStep) (u : Text) → Leaves n told u (behind_step more s u)
+  leaves_behind more h (flags_end l) u = leaves (ends_whole u)
+  leaves_behind more h (flags_go_on c f) u = h c f u
 
   leaves_letters_in : (k : ℕ) (clears : Bool) (f : Flags) (u : Text) → Leaves n told u (letters_in n t k clears f u)
   unfolding letters_in

@@ -12,7 +12,7 @@ use Rattle.fancy_lex.specs.Text.{Text, bytes}
 use Rattle.fancy_lex.specs.declared.flags.Flags.{Flags}
 use Rattle.fancy_lex.specs.declared.error.Error.{Error}
 use Rattle.fancy_lex.specs.declared.error.Error.TheVariants.{ParseError, OutOfMemory}
-use Rattle.fancy_parts.specs.FlagLetters.{Letters, ends, goes}
+use Rattle.fancy_parts.specs.FlagLetters.{Letters, flags_end, flags_go_on}
 use Rattle.fancy_parts.specs.LetterSteps.{step, letters_in, letters}
 
 -- what was read of a text is its front
@@ -51,13 +51,13 @@ module _ (n : ℕ) (t : Text) (clears : Bool) (f : Flags) (u : Text) where
   letter_fault k v b e h = rw e (reports_first _ _ b h)
 
   letters_end : (k : ℕ) (v : Text) (l : Letters) (w : Text) → before ≡ gives tt v →
-      step n t clears f v ≡ gives (ends l) w →
+      step n t clears f v ≡ gives (flags_end l) w →
       letters_in n t (suc k) clears f u ≡ gives l w
   unfolding letters_in
   letters_end k v l w e h = rw (e, h) refl
 
   letters_go : (k : ℕ) (v : Text) (c : Bool) (g : Flags) (w : Text) → before ≡ gives tt v →
-      step n t clears f v ≡ gives (goes c g) w →
+      step n t clears f v ≡ gives (flags_go_on c g) w →
       letters_in n t (suc k) clears f u ≡ letters_in n t k c g w
   unfolding letters_in
   letters_go k v c g w e h = rw (e, h) refl
@@ -79,7 +79,7 @@ module _ (n : ℕ) (t : Text) (clears : Bool) (f : Flags) (u : Text) where
           by_steps zero h = absurd (omega arith)
           by_steps (suc k) h = letter_fault k v b e i
 
-      pub in_end : (l : Letters) (w : Text) → step n t clears f v ≡ gives (ends l) w →
+      pub in_end : (l : Letters) (w : Text) → step n t clears f v ≡ gives (flags_end l) w →
           letters_in n t k clears f u ≡ gives l w
       in_end l w i = by_steps k some
         where
@@ -87,7 +87,7 @@ module _ (n : ℕ) (t : Text) (clears : Bool) (f : Flags) (u : Text) where
           by_steps zero h = absurd (omega arith)
           by_steps (suc k) h = letters_end k v l w e i
 
-      pub in_go : (q : ℕ) (c : Bool) (g : Flags) (w : Text) → q < m → step n t clears f v ≡ gives (goes c g) w →
+      pub in_go : (q : ℕ) (c : Bool) (g : Flags) (w : Text) → q < m → step n t clears f v ≡ gives (flags_go_on c g) w →
           (j : ℕ) × (q < j) × (letters_in n t k clears f u ≡ letters_in n t j c g w)
       in_go q c g w l i = by_steps k some
         where

@@ -21,8 +21,8 @@ use Rattle.fancy_lex.specs.Reading.{Reading, gives, fails, ◌>=>◌, Answers, D
 use Rattle.fancy_lex.specs.Text.{Text, bytes}
 use Rattle.fancy_lex.specs.declared.error.Error.{Error}
 use Rattle.fancy_lex.specs.declared.flags.Flags.{Flags}
-use Rattle.fancy_parts.specs.FlagLetters.{Letters, setting, scope, with_letter, Step, ends, goes}
-use Rattle.fancy_parts.specs.FlagLetters.{NoLetter, nothing_closed, nothing_scoped, second_minus, no_flag}
+use Rattle.fancy_parts.specs.FlagLetters.{Letters, setting, scope, with_letter, LetterStep, flags_end, flags_go_on}
+use Rattle.fancy_parts.specs.FlagLetters.{NoLetter, nothing_closed, nothing_scoped, second_minus, names_no_flag}
 use Rattle.fancy_parts.specs.LetterSteps.{is_first, is_behind_minus, unknown_letter, flag_or_fault, step, behind_step}
 use Rattle.fancy_parts.specs.LetterSteps.{letters_in, letters}
 use Rattle.fancy_parts.specs.FlagLetters.{Letter, flag, same_mode, minus, parenthesis, colon, no_letter, other_mode}
@@ -217,18 +217,18 @@ module _ (n : ℕ) (t w : Text) (clears : Bool) (f : Flags) (c : ℕ) (u : Text)
 
   -- the step, by its character
   at_parenthesis : c ≡ code ")" → (b : Bool) → (is_first t (c ∷ u) || is_behind_minus t clears (c ∷ u)) ≡ b →
-      step n t clears f (c ∷ u) ≡ (if b then unknown_letter n t u else gives (ends (setting f)) u)
+      step n t clears f (c ∷ u) ≡ (if b then unknown_letter n t u else gives (flags_end (setting f)) u)
   at_parenthesis e b h = let is : (c == code ")") ≡ true = same_test c (code ")") e in rw (is, h) refl
 
   at_colon : c ≡ code ":" → (b : Bool) → is_behind_minus t clears (c ∷ u) ≡ b →
-      step n t clears f (c ∷ u) ≡ (if b then unknown_letter n t u else gives (ends (scope f)) u)
+      step n t clears f (c ∷ u) ≡ (if b then unknown_letter n t u else gives (flags_end (scope f)) u)
   at_colon e b h =
       let is : (c == code ":") ≡ true = same_test c (code ":") e in
       let a : (c == code ")") ≡ false = rw e refl in
       rw (a, is, h) refl
 
   at_minus : c ≡ code "-" → (b : Bool) → clears ≡ b →
-      step n t clears f (c ∷ u) ≡ (if b then unknown_letter n t u else gives (goes true f) u)
+      step n t clears f (c ∷ u) ≡ (if b then unknown_letter n t u else gives (flags_go_on true f) u)
   at_minus e b h =
       let is : (c == code "-") ≡ true = same_test c (code "-") e in
       let a : (c == code ")") ≡ false = rw e refl in
@@ -236,7 +236,7 @@ module _ (n : ℕ) (t w : Text) (clears : Bool) (f : Flags) (c : ℕ) (u : Text)
       rw (a, d, is, h) refl
 
   at_mode : c ≡ code "u" → (b : Bool) → beq clears f.unicode ≡ b →
-      step n t clears f (c ∷ u) ≡ (if b then fails (mode_changed n (c ∷ u)) else gives (goes clears f) u)
+      step n t clears f (c ∷ u) ≡ (if b then fails (mode_changed n (c ∷ u)) else gives (flags_go_on clears f) u)
   at_mode e b h =
       let is : (c == code "u") ≡ true = same_test c (code "u") e in
       let a : (c == code ")") ≡ false = rw e refl in
@@ -309,11 +309,11 @@ module _ (n : ℕ) (t w : Text) (clears : Bool) (f : Flags) (c : ℕ) (u : Text)
             with_letter f (not clears) c ≡ o → Letter n t w clears f c u (step n t clears f (c ∷ u))
         on_other a b d e None h =
             let among : (c ∈ ")-:u") ≡ false = grind (arith, nat_tests) in
-            rw (at_other a b d e, h) (bad (no_flag among h))
+            rw (at_other a b d e, h) (bad (names_no_flag among h))
         on_other a b d e (Some g) h = rw (at_other a b d e, h) (flag h)
 
   -- and of nothing else
-  letter_is : {q : Reading Step} → Letter n t w clears f c u q → step n t clears f (c ∷ u) ≡ q
+  letter_is : {q : Reading LetterStep} → Letter n t w clears f c u q → step n t clears f (c ∷ u) ≡ q
   letter_is (flag {g} e) =
       at_other (not_at (code ")") (λ a. none_at (code ")") refl a)) (not_at (code ":") (λ a. none_at (code ":") refl a))
       (not_at (code "-") (λ a. none_at (code "-") refl a)) (not_at (code "u") (λ a. none_at (code "u") refl a))
@@ -339,12 +339,12 @@ module _ (n : ℕ) (t w : Text) (clears : Bool) (f : Flags) (c : ℕ) (u : Text)
     by (nothing_closed a e) = at_parenthesis a true (closes_bad e)
     by (nothing_scoped a e) = at_colon a true (minus_at e)
     by (second_minus a e) = at_minus a true e
-    by (no_flag a e) =
+    by (names_no_flag a e) =
         at_other (grind (arith, nat_tests)) (grind (arith, nat_tests)) (grind (arith, nat_tests))
         (grind (arith, nat_tests)) ∙ rw e refl
 
   -- what is known of `clears` behind it
-  told_behind : {b : Bool} {g : Flags} {r : Text} → Letter n t w clears f c u (gives (goes b g) r) →
+  told_behind : {b : Bool} {g : Flags} {r : Text} → Letter n t w clears f c u (gives (flags_go_on b g) r) →
       Told (w ++ c ∷ []) b
   told_behind (flag e) = told_more clears w c told no_minus_flag where
     no_minus_flag : c ≢ code "-"
@@ -357,7 +357,7 @@ module _ (n : ℕ) (t w : Text) (clears : Bool) (f : Flags) (c : ℕ) (u : Text)
 -- ---- the letters, one after another
 
 -- a letter leaves what follows it
-letter_rest : {n : ℕ} {t w : Text} {clears : Bool} {f : Flags} {c : ℕ} {u r : Text} {s : Step} →
+letter_rest : {n : ℕ} {t w : Text} {clears : Bool} {f : Flags} {c : ℕ} {u r : Text} {s : LetterStep} →
     Letter n t w clears f c u (gives s r) → r ≡ u
 letter_rest (flag e) = refl
 letter_rest (same_mode a e) = refl
@@ -404,7 +404,7 @@ module _ (n : ℕ) (t : Text) where
 
   -- and behind it
   reach_on : {clears b : Bool} {f g : Flags} {u v : Text} → Reached t clears u →
-      Next n t clears f u v (gives (goes b g) v) →
+      Next n t clears f u v (gives (flags_go_on b g) v) →
       Reached t b v
   reach_on {clears} {b} {f} {g} {u} {v} at x = (
     x.w ++ x.c ∷ [],
@@ -420,21 +420,21 @@ module _ (n : ℕ) (t : Text) where
   -- what the function answers, the relation gives
   module _ (k : ℕ) (reads : ReadShort k) (clears : Bool) (f : Flags) (u : Text) (at : Reached t clears u)
       (l : bytes u < suc k) where
-    read_behind : (c : ℕ) (v : Text) (b : Before f.ignore_space u (c ∷ v)) (q : Reading Step) →
+    read_behind : (c : ℕ) (v : Text) (b : Before f.ignore_space u (c ∷ v)) (q : Reading LetterStep) →
         Letter n t (at.0 ++ b.w) clears f c v q → LettersFrom n t clears f u (q >=> behind_step (letters_in n t k))
     read_behind c v b q h = by q h where
-      next : (q : Reading Step) → Letter n t (at.0 ++ b.w) clears f c v q → Next n t clears f u v q
+      next : (q : Reading LetterStep) → Letter n t (at.0 ++ b.w) clears f c v q → Next n t clears f u v q
       next q h = record { c = c; w = at.0 ++ b.w; layout = b; read = cut_at clears f u c v at b; letter = h }
 
-      by : (q : Reading Step) → Letter n t (at.0 ++ b.w) clears f c v q →
+      by : (q : Reading LetterStep) → Letter n t (at.0 ++ b.w) clears f c v q →
           LettersFrom n t clears f u (q >=> behind_step (letters_in n t k))
-      by (gives (ends a) r) h =
+      by (gives (flags_end a) r) h =
           rw (letter_rest h)
-          (last (next (gives (ends a) v)
-          (subst (λ s. Letter n t (at.0 ++ b.w) clears f c v (gives (ends a) s)) (letter_rest h) h)))
-      by (gives (goes d g) r) h =
-          let here = next (gives (goes d g) v)
-          (subst (λ s. Letter n t (at.0 ++ b.w) clears f c v (gives (goes d g) s)) (letter_rest h) h) in
+          (last (next (gives (flags_end a) v)
+          (subst (λ s. Letter n t (at.0 ++ b.w) clears f c v (gives (flags_end a) s)) (letter_rest h) h)))
+      by (gives (flags_go_on d g) r) h =
+          let here = next (gives (flags_go_on d g) v)
+          (subst (λ s. Letter n t (at.0 ++ b.w) clears f c v (gives (flags_go_on d g) s)) (letter_rest h) h) in
           rw (letter_rest h) (more here (reads d g v (reach_on at here) (shorter b.w u c v k b.cut l)))
       by (fails e) h = letter_fault (next (fails e) h)
 
@@ -452,7 +452,7 @@ module _ (n : ℕ) (t : Text) where
   letters_read (suc k) clears f u at l = read_layout k (letters_read k) clears f u at l (layout n f.ignore_space u) refl
 
   -- whatever the relation gives is the function's answer: by induction on the derivation
-  step_is : {clears : Bool} {f : Flags} {u v : Text} {q : Reading Step} (k : ℕ) → Reached t clears u →
+  step_is : {clears : Bool} {f : Flags} {u v : Text} {q : Reading LetterStep} (k : ℕ) → Reached t clears u →
       (x : Next n t clears f u v q) →
       letters_in n t (suc k) clears f u ≡ (q >=> behind_step (letters_in n t k))
   step_is {clears} {f} {u} {v} {q} k at x =

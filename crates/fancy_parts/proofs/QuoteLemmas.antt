@@ -31,12 +31,12 @@ unfolding bytes
 one_byte c h = omega (arith, len_utf8_ascii c h)
 
 pub number_one : (n : ℕ) → n < 10 → bytes (decimal n) ≡ 1
-number_one n h = ap bytes (decimal_digit n h) ∙ one_byte (48 + n) (omega arith)
+number_one n h = ap bytes (decimal_digit n h) ∙ one_byte (code "0" + n) (omega arith)
 
 pub number_more : (n : ℕ) → 10 ≤ n → n < 2 ^ 64 → bytes (decimal n) ≡ bytes (decimal (n / 10)) + 1
 number_more n h k =
-    ap bytes (decimal_step n h k) ∙ bytes-append (decimal (n / 10)) ((48 + n % 10) ∷ [])
-    ∙ ap (λ m. bytes (decimal (n / 10)) + m) (one_byte (48 + n % 10) (omega arith))
+    ap bytes (decimal_step n h k) ∙ bytes-append (decimal (n / 10)) ((code "0" + n % 10) ∷ [])
+    ∙ ap (λ m. bytes (decimal (n / 10)) + m) (one_byte (code "0" + n % 10) (omega arith))
 
 pub number_within : (n : ℕ) → n < 2 ^ 64 → bytes (decimal n) ≤ 20
 number_within n h = rw (bytes_ascii (decimal n) (IsAscii-decimal n h)) (search (rules, length-decimal-le))
@@ -48,13 +48,13 @@ number_front n h k = omega (arith, number_within n k, number_more n h k)
 pub one_digit : (a b : String Global) (n c : ℕ) → n < 10 → c ≡ digit_code n → Appended a b (c ∷ []) →
     Appended a b (decimal n)
 one_digit a b n c h e p =
-    let is : c ≡ 48 + n = omega (arith, e) in
+    let is : c ≡ code "0" + n = omega (arith, e) in
     written_as a b (c ∷ []) (decimal n) p (ap (λ d. d ∷ []) is ∙ sym (decimal_digit n h))
 
 pub last_digit : (a b z : String Global) (n c : ℕ) → 10 ≤ n → n < 2 ^ 64 → c ≡ digit_code (n % 10) →
     Appended a b (decimal (n / 10)) → Appended b z (c ∷ []) → Appended a z (decimal n)
 last_digit a b z n c h k e p q =
-    let is : c ≡ 48 + n % 10 = omega (arith, e) in
+    let is : c ≡ code "0" + n % 10 = omega (arith, e) in
     written_two a b z (decimal (n / 10)) (c ∷ []) (decimal n) p q
     (ap (λ d. decimal (n / 10) ++ d ∷ []) is ∙ sym (decimal_step n h k))
 
@@ -77,7 +77,7 @@ pub range_both_len : (lo hi : ℕ) → lo ≢ hi → hi ≢ most →
 range_both_len lo hi d e =
     ap bytes (range_both lo hi d e) ∙ bytes-append (decimal lo) (codes "," ++ decimal hi)
     ∙ ap (λ n. bytes (decimal lo) + n)
-    (bytes-append (codes ",") (decimal hi) ∙ ap (λ n. n + bytes (decimal hi)) (one_byte 44 (omega arith)))
+    (bytes-append (codes ",") (decimal hi) ∙ ap (λ n. n + bytes (decimal hi)) (one_byte (code ",") (omega arith)))
 
 pub ruleset range_steps = (one_byte, range_both_len, range_one, range_open, range_both)
 
@@ -92,9 +92,9 @@ counts_braced lo hi e = ap (counts_as lo hi) e
 pub counts_braced_len : (lo hi : ℕ) → mark lo hi ≡ None → bytes (counts_text lo hi) ≡ 1 + (bytes (range lo hi) + 1)
 counts_braced_len lo hi e =
     ap bytes (counts_braced lo hi e) ∙ bytes-append (codes "{") (range lo hi ++ codes "}")
-    ∙ ap (λ n. n + bytes (range lo hi ++ codes "}")) (one_byte 123 (omega arith))
+    ∙ ap (λ n. n + bytes (range lo hi ++ codes "}")) (one_byte (code "{") (omega arith))
     ∙ ap (λ n. 1 + n) (bytes-append (range lo hi) (codes "}")
-    ∙ ap (λ n. bytes (range lo hi) + n) (one_byte 125 (omega arith)))
+    ∙ ap (λ n. bytes (range lo hi) + n) (one_byte (code "}") (omega arith)))
 
 pub ruleset counts_steps = (one_byte, counts_braced_len, counts_marked, counts_braced)
 

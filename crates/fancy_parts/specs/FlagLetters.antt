@@ -27,31 +27,31 @@ with_letter f on c =
     else None
 
 -- one letter read: the letters end there, or go on under these flags, and set or clear theirs
-pub data Step : Type 0 where
-  ends : Letters → Step
-  goes : (clears : Bool) → Flags → Step
+pub data LetterStep : Type 0 where
+  flags_end : Letters → LetterStep
+  flags_go_on : (clears : Bool) → Flags → LetterStep
 
 -- the character is no letter of flags, where `w` was read before it, and `clears` says whether a minus was
 pub data NoLetter (w : Text) (clears : Bool) (f : Flags) (c : ℕ) : Type 0 where
   nothing_closed : c ≡ code ")" → (w ≡ []) ⊎ (w ≡ codes "-") → NoLetter w clears f c
   nothing_scoped : c ≡ code ":" → w ≡ codes "-" → NoLetter w clears f c
   second_minus : c ≡ code "-" → clears ≡ true → NoLetter w clears f c
-  no_flag : (c ∈ ")-:u") ≡ false → with_letter f (not clears) c ≡ None → NoLetter w clears f c
+  names_no_flag : (c ∈ ")-:u") ≡ false → with_letter f (not clears) c ≡ None → NoLetter w clears f c
 
 -- the letters `t` of a pattern of n bytes
 module _ (n : ℕ) (t : Text) where
   -- one letter, mark or fault, before `u`
-  pub data Letter (w : Text) (clears : Bool) (f : Flags) (c : ℕ) (u : Text) : Reading Step → Type 0 where
-    flag : {g : Flags} → with_letter f (not clears) c ≡ Some g → Letter w clears f c u (gives (goes clears g) u)
-    same_mode : c ≡ code "u" → f.unicode ≡ not clears → Letter w clears f c u (gives (goes clears f) u)
-    minus : c ≡ code "-" → clears ≡ false → Letter w clears f c u (gives (goes true f) u)
-    parenthesis : c ≡ code ")" → w ≢ [] → w ≢ codes "-" → Letter w clears f c u (gives (ends (setting f)) u)
-    colon : c ≡ code ":" → w ≢ codes "-" → Letter w clears f c u (gives (ends (scope f)) u)
+  pub data Letter (w : Text) (clears : Bool) (f : Flags) (c : ℕ) (u : Text) : Reading LetterStep → Type 0 where
+    flag : {g : Flags} → with_letter f (not clears) c ≡ Some g → Letter w clears f c u (gives (flags_go_on clears g) u)
+    same_mode : c ≡ code "u" → f.unicode ≡ not clears → Letter w clears f c u (gives (flags_go_on clears f) u)
+    minus : c ≡ code "-" → clears ≡ false → Letter w clears f c u (gives (flags_go_on true f) u)
+    parenthesis : c ≡ code ")" → w ≢ [] → w ≢ codes "-" → Letter w clears f c u (gives (flags_end (setting f)) u)
+    colon : c ≡ code ":" → w ≢ codes "-" → Letter w clears f c u (gives (flags_end (scope f)) u)
     no_letter : NoLetter w clears f c → Letter w clears f c u (fails (no_flag_letter n t (w ++ c ∷ [])))
     other_mode : c ≡ code "u" → f.unicode ≡ clears → Letter w clears f c u (fails (mode_changed n (c ∷ u)))
 
   -- layout, and behind it one letter, mark or fault, before `v`; `w` is what was read of the letters before it
-  pub record Next (clears : Bool) (f : Flags) (u v : Text) (q : Reading Step) : Type 0 where
+  pub record Next (clears : Bool) (f : Flags) (u v : Text) (q : Reading LetterStep) : Type 0 where
     pub c : ℕ
     pub w : Text
     pub layout : Before f.ignore_space u (c ∷ v)
@@ -60,10 +60,10 @@ module _ (n : ℕ) (t : Text) where
 
   -- what is left of the letters under these flags, where `clears` says whether a minus was read
   pub data LettersFrom : Bool → Flags → Text → Reading Letters → Type 0 where
-    last : {clears : Bool} {f : Flags} {u v : Text} {l : Letters} → Next clears f u v (gives (ends l) v) →
+    last : {clears : Bool} {f : Flags} {u v : Text} {l : Letters} → Next clears f u v (gives (flags_end l) v) →
         LettersFrom clears f u (gives l v)
-    more : {clears b : Bool} {f g : Flags} {u v : Text} {o : Reading Letters} → Next clears f u v (gives (goes b g) v) →
-        LettersFrom b g v o → LettersFrom clears f u o
+    more : {clears b : Bool} {f g : Flags} {u v : Text} {o : Reading Letters} →
+        Next clears f u v (gives (flags_go_on b g) v) → LettersFrom b g v o → LettersFrom clears f u o
     letter_fault : {clears : Bool} {f : Flags} {u v : Text} {e : Fault} → Next clears f u v (fails e) →
         LettersFrom clears f u (fails e)
     text_end : {clears : Bool} {f : Flags} {u : Text} → Before f.ignore_space u [] →

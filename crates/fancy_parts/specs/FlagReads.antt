@@ -2,8 +2,8 @@
 use Rattle.fancy_parts.specs.FlagLetters as spec
 use Rattle.fancy_parts.specs.declared.heads.letters.Letters as code
 use Rattle.fancy_parts.specs.declared.heads.letters.Letters.TheVariants.{Setting, Scope}
-use Rattle.fancy_parts.specs.declared.heads.letters.Step as code_step
-use Rattle.fancy_parts.specs.declared.heads.letters.Step.TheVariants.{Ends, GoesOn}
+use Rattle.fancy_parts.specs.declared.heads.letters.LetterStep as code_step
+use Rattle.fancy_parts.specs.declared.heads.letters.LetterStep.TheVariants.{Ends, GoesOn}
 
 -- what the code's letters come to
 abbrev pub letters_of : code.Letters → spec.Letters
@@ -11,6 +11,6 @@ letters_of (Setting f) = spec.setting f
 letters_of (Scope f) = spec.scope f
 
 -- what the code's step stands for
-abbrev pub step_of : code_step.Step → spec.Step
-step_of (Ends l) = spec.ends (letters_of l)
-step_of (GoesOn clears f) = spec.goes clears f
+abbrev pub step_of : code_step.LetterStep → spec.LetterStep
+step_of (Ends l) = spec.flags_end (letters_of l)
+step_of (GoesOn clears f) = spec.flags_go_on clears f

@@ -4,7 +4,7 @@ use Rattle.std.specs.Prelude.{String, Vec, if◌then◌else◌}
 use Rattle.std.specs.Map.{lookup}
 use Rattle.std.specs.Ordering.{match_ordering}
 use Rattle.std.specs.declared.alloc.Global.{Global}
-use Rattle.fancy_lex.specs.Fault.{kind_of}
+use Rattle.fancy_lex.specs.ErrorViews.{kind_of}
 use Rattle.fancy_lex.specs.Text.{Text, text_of}
 use Rattle.fancy_parts.specs.Meaning as spec
 use Rattle.fancy_parts.specs.Ranks.{Opening, is_counted, name_cmp, named_groups}

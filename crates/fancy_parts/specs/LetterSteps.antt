@@ -8,7 +8,7 @@ use Rattle.fancy_lex.specs.LayoutSteps.{layout}
 use Rattle.fancy_lex.specs.Reading.{Reading, gives, fails, ◌>=>◌, layout_reading}
 use Rattle.fancy_lex.specs.Text.{Text, bytes}
 use Rattle.fancy_lex.specs.declared.flags.Flags.{Flags}
-use Rattle.fancy_parts.specs.FlagLetters.{Letters, setting, scope, with_letter, Step, ends, goes}
+use Rattle.fancy_parts.specs.FlagLetters.{Letters, setting, scope, with_letter, LetterStep, flags_end, flags_go_on}
 
 -- of the letters `t` what stands before `u`
 abbrev pub letters_before : Text → Text → Text
@@ -23,38 +23,39 @@ abbrev pub is_behind_minus : Text → Bool → Text → Bool
 is_behind_minus t clears u = clears && bytes u + 1 == bytes t
 
 -- behind one letter: the end, or more letters
-abbrev pub behind_step : (Bool → Flags → Text → Reading Letters) → Step → Text → Reading Letters
-behind_step more (ends l) u = gives l u
-behind_step more (goes clears f) u = more clears f u
+abbrev pub behind_step : (Bool → Flags → Text → Reading Letters) → LetterStep → Text → Reading Letters
+behind_step more (flags_end l) u = gives l u
+behind_step more (flags_go_on clears f) u = more clears f u
 
 -- the letters `t` of a pattern of n bytes
 module _ (n : ℕ) (t : Text) where
   -- the fault of the character before `u`
-  abbrev pub unknown_letter : Text → Reading Step
+  abbrev pub unknown_letter : Text → Reading LetterStep
   unknown_letter u = fails (no_flag_letter n t (letters_before t u))
 
   -- the letters go on under these flags, if the letter before `u` names one
-  abbrev pub flag_or_fault : Bool → Text → Option Flags → Reading Step
-  flag_or_fault clears u (Some f) = gives (goes clears f) u
+  abbrev pub flag_or_fault : Bool → Text → Option Flags → Reading LetterStep
+  flag_or_fault clears u (Some f) = gives (flags_go_on clears f) u
   flag_or_fault clears u None = unknown_letter u
 
   -- the letter at the front of the text
-  abbrev pub step : Bool → Flags → Text → Reading Step
+  abbrev pub step : Bool → Flags → Text → Reading LetterStep
   step clears f [] = fails (group_not_closed n)
   step clears f (c ∷ u) =
       if c == code ")" then (
-      if is_first t (c ∷ u) || is_behind_minus t clears (c ∷ u) then unknown_letter u else gives (ends (setting f)) u)
+      if is_first t (c ∷ u) || is_behind_minus t clears (c ∷ u) then unknown_letter u
+      else gives (flags_end (setting f)) u)
       else if c == code ":" then (
-      if is_behind_minus t clears (c ∷ u) then unknown_letter u else gives (ends (scope f)) u)
+      if is_behind_minus t clears (c ∷ u) then unknown_letter u else gives (flags_end (scope f)) u)
       else if c == code "-" then (
-      if clears then unknown_letter u else gives (goes true f) u)
+      if clears then unknown_letter u else gives (flags_go_on true f) u)
       -- the Unicode mode may be said again, and not changed
       else if c == code "u" then (
       if beq clears f.unicode then fails (mode_changed n (c ∷ u))
-      else gives (goes clears f) u)
+      else gives (flags_go_on clears f) u)
       else flag_or_fault clears u (with_letter f (not clears) c)
 
-  -- at most k letters, each with layout before it
+  -- at most k letters, each with layout before it; each takes a byte or more, so that `letters` never runs out of steps
   unfoldable pub letters_in : ℕ → Bool → Flags → Text → Reading Letters
   letters_in zero clears f u = fails (group_not_closed n)
   letters_in (suc k) clears f u =

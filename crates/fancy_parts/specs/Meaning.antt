@@ -6,7 +6,7 @@ use Rattle.fancy_lex.specs.Fault.{Kind, Fault, carries_text}
 use Rattle.fancy_lex.specs.FaultTable.{name_of_later_group, no_such_group, of_reference}
 use Rattle.fancy_lex.specs.Target.{Target, by_number, by_name, relative}
 use Rattle.fancy_lex.specs.Text.{Text}
-use Rattle.fancy_parts.specs.Ranks.{Opening, opened_before, numbers}
+use Rattle.fancy_parts.specs.Ranks.{Opening, openings_before, numbers}
 
 -- what a reference does with the group that it means
 pub data Role : Type 0 where
@@ -74,7 +74,7 @@ means numbers_of c role (relative z) = group_or_none role (at_distance c z)
 
 -- what a reference means among the groups that have a number
 abbrev pub meaning : List Opening → AnyReference → Meaning
-meaning groups r = means (λ t. numbers t groups) (opened_before groups r.place) r.role r.target
+meaning groups r = means (λ t. numbers t groups) (openings_before groups r.place) r.role r.target
 
 -- the fault of a meaning at the place, or else the other
 abbrev pub fault_or : Meaning → ℕ → Option Fault → Option Fault

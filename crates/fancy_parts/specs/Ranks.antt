@@ -27,16 +27,16 @@ abbrev pub is_counted : Bool → Option Text → Bool
 is_counted named name = not named || is_some name
 
 -- the groups that have a number, in order of their numbers
-abbrev pub counted_in : Bool → List Opening → List Opening
-counted_in named l = filter (λ o. is_counted named o.name) l
+abbrev pub numbered_openings_in : Bool → List Opening → List Opening
+numbered_openings_in named l = filter (λ o. is_counted named o.name) l
 
 -- the groups that have a number under the flags
-abbrev pub counted : Flags → List Opening → List Opening
-counted f l = counted_in (only_named f l) l
+abbrev pub numbered_openings : Flags → List Opening → List Opening
+numbered_openings f l = numbered_openings_in (only_named f l) l
 
 -- how many of the groups open before the place
-abbrev pub opened_before : List Opening → ℕ → ℕ
-opened_before groups place = count_by (λ o. nat_lt o.place place) groups
+abbrev pub openings_before : List Opening → ℕ → ℕ
+openings_before groups place = count_by (λ o. nat_lt o.place place) groups
 
 -- whether the name is this one
 abbrev pub is_name : Text → Option Text → Bool

@@ -1,6 +1,6 @@
 //! The numbers of capturing groups, and what a reference means by them.
 ghost use Rattle.std.specs.Prelude.{◌≡◌, ℕ, ◌+◌, ◌<◌, ◌^◌, List, false, nat_le, IfOk, IsOk, OnErr, chars, is_some, map, option_map};
-ghost use Rattle.fancy_lex.specs.Target.{view_target};
+ghost use Rattle.fancy_lex.specs.NameViews.{view_target};
 ghost use Rattle.fancy_lex.specs.Text.{text_of};
 ghost use Rattle.fancy_parts.specs.Groups.{groups_of, no_groups, with_group, with_number, numbers_under, entry_of};
 ghost use Rattle.fancy_parts.specs.Groups.{openings_with, groups_in, role_of, meaning_of};

@@ -1,6 +1,6 @@
 //! How a reference is written: as a number, or not.
 ghost use Rattle.std.specs.Prelude.{◌≡◌, chars};
-ghost use Rattle.fancy_lex.specs.Target.{view_target};
+ghost use Rattle.fancy_lex.specs.NameViews.{view_target};
 ghost use Rattle.fancy_parts.specs.Groups.{role_of};
 ghost use Rattle.fancy_parts.specs.Written as spec;
 

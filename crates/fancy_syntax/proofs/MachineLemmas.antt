@@ -20,10 +20,12 @@ use Rattle.fancy_grammar.specs.Grammar.{restored, conditional_behind, conditiona
 use Rattle.fancy_grammar.specs.Grammar as grammar
 use Rattle.fancy_grammar.specs.Join.{solid, one_or, choice}
 use Rattle.fancy_syntax.specs.Machine.{OpenPart, top, group, condition, body, first, second, part_of, holds_one}
-use Rattle.fancy_syntax.specs.Machine.{is_second, opened_by_bar, branches_at_bar, IsFaultOfBar, Part, Opens, a_group}
+use Rattle.fancy_syntax.specs.Machine.{is_second, opened_by_bar, branches_at_bar, IsFaultOfBar, Part, OpensPart}
+use Rattle.fancy_syntax.specs.Machine.{a_group}
 use Rattle.fancy_syntax.specs.Machine.{a_condition, a_body, behind_condition, a_branch, behind_branch, lacks_body}
-use Rattle.fancy_syntax.specs.Machine.{node_of_part, goes_on, ended_part, Began, StepsOn, GivesPiece, ReadSoFar, OpenGroups}
-use Rattle.fancy_syntax.specs.Machine.{outermost, inner, HoldsTrees, Steps, OpensBelow, Takes}
+use Rattle.fancy_syntax.specs.Machine.{node_of_part, goes_on, ended_part, Began, GivesStep, GivesPiece, ReadSoFar}
+use Rattle.fancy_syntax.specs.Machine.{OpenGroups}
+use Rattle.fancy_syntax.specs.Machine.{outermost, inner, HoldsTrees, IsStep, OpensBelow, Takes}
 use Rattle.fancy_grammar.specs.Depth.{max_depth}
 use Rattle.fancy_grammar.specs.Grammar.{trees_before}
 use Rattle.fancy_grammar.specs.Head.{group_node}
@@ -48,7 +50,7 @@ piece_of {n} {d} {q} {o} i l a e = piece l a (subst (λ m. and_then q (quants n 
 
 pub steps_piece : {n d left : ℕ} (s : State) {t : State} {u : Text} {a : Tree} (r : Result Step Error) (v : State) →
     left ≡ bytes s.rest →
-    skipped n s ≡ rest u → Atom n d (at s u) (done a t) → GivesPiece r (quants n d left a t) v → StepsOn r n d s v
+    skipped n s ≡ rest u → Atom n d (at s u) (done a t) → GivesPiece r (quants n d left a t) v → GivesStep r n d s v
 steps_piece s (Ok (step.Piece tree)) v i l a h = piece_of i l a h
 steps_piece s (Ok (step.Open opener)) v i l a h = absurd h
 steps_piece {n} {d} {left} s {t} {a = tree} (Err e) v i l a h =
@@ -62,7 +64,7 @@ steps_layout n d s e i l = rw i (layout_fault l)
 -- ---- what is open
 
 -- a fault inside is the piece's
-pub opens_fault : {n d p : ℕ} {s v : State} {k : Kind} {o : OpenPart} → Opens n d s o v →
+pub opens_fault : {n d p : ℕ} {s v : State} {k : Kind} {o : OpenPart} → OpensPart n d s o v →
     Part o n (d + 1) v (fault k p) → Piece n d s (fault k p)
 opens_fault (a_group l e) r = piece l (atom e (grammar.a_group (inside r refl) refl) refl) refl
 opens_fault (a_condition l e) r = piece l (atom e (condition_fault (inside r refl)) refl) refl
@@ -99,7 +101,7 @@ abbrev MayEnd : OpenPart → State → Type 0
 MayEnd p s = holds_one p ≡ true → is_second p ≡ false → strip bar s.rest ≡ None
 
 -- a part ends, and with it the atom: the flags from before it hold again
-opens_ended : {n d : ℕ} {s v : State} {p : OpenPart} (r : Tree) (w : State) → Opens n d s p v →
+opens_ended : {n d : ℕ} {s v : State} {p : OpenPart} (r : Tree) (w : State) → OpensPart n d s p v →
     Part p n (d + 1) v (done r w) → goes_on p ≡ false →
     MayEnd p w → (t : Text) × (skipped n s ≡ rest t) × Atom n d (at s t) (restored s.flags (ended_part n p r w))
 opens_ended {n} q w (a_group {h} {u} l e) r g f =
@@ -112,9 +114,9 @@ opens_ended q w (a_branch {u} l e) r g f = (u, l, atom e (one_branch r (f refl r
 opens_ended q w (behind_branch (a_branch {u} l e) b i) r g f = (u, l, atom e (two_branches b i r refl) refl)
 
 -- where the atom goes on, the body of the conditional comes next
-pub condition_ended : {n d : ℕ} {s v t : State} {p : OpenPart} {c : Tree} (r : Tree) (w : State) → Opens n d s p v →
+pub condition_ended : {n d : ℕ} {s v t : State} {p : OpenPart} {c : Tree} (r : Tree) (w : State) → OpensPart n d s p v →
     Part p n (d + 1) v (done r w) → goes_on p ≡ true →
-    ended_part n p r w ≡ done c t → Opens n d s (body c (bytes t.rest)) t
+    ended_part n p r w ≡ done c t → OpensPart n d s (body c (bytes t.rest)) t
 condition_ended r w (a_condition l e) x g h = behind_condition (a_condition l e) (inside x h)
 condition_ended r w (a_group l e) x g h = absurd (true≢false (sym g))
 condition_ended r w (a_body l e) x g h = absurd (true≢false (sym g))
@@ -123,12 +125,12 @@ condition_ended r w (a_branch l e) x g h = absurd (true≢false (sym g))
 condition_ended r w (behind_branch x y z) a g h = absurd (true≢false (sym g))
 
 -- a fault at the end of a part is the piece's
-pub ended_fault : {n d q : ℕ} {s v : State} {k : Kind} {p : OpenPart} (r : Tree) (w : State) → Opens n d s p v →
+pub ended_fault : {n d q : ℕ} {s v : State} {k : Kind} {p : OpenPart} (r : Tree) (w : State) → OpensPart n d s p v →
     Part p n (d + 1) v (done r w) →
     MayEnd p w → ended_part n p r w ≡ fault k q → Piece n d s (fault k q)
 ended_fault {n} {d} {q} {s} {k} {p} r w x y f h = by_goes (goes_on p) refl
   where
-    of_condition : {v : State} {p : OpenPart} → Opens n d s p v → Part p n (d + 1) v (done r w) → goes_on p ≡ true →
+    of_condition : {v : State} {p : OpenPart} → OpensPart n d s p v → Part p n (d + 1) v (done r w) → goes_on p ≡ true →
         ended_part n p r w ≡ fault k q → Piece n d s (fault k q)
     of_condition (a_condition l e) x g h = piece l (atom e (condition_fault (inside x h)) refl) refl
     of_condition (a_group l e) x g h = absurd (true≢false (sym g))
@@ -144,10 +146,10 @@ ended_fault {n} {d} {q} {s} {k} {p} r w x y f h = by_goes (goes_on p) refl
 
 -- the atom that ends with a part, under its quantifiers
 pub closes : {n d left : ℕ} {s v t : State} {a : Tree} {p : OpenPart} (r : Tree) (w : State) (q : Result Step Error)
-    (z : State) → Opens n d s p v →
+    (z : State) → OpensPart n d s p v →
     Part p n (d + 1) v (done r w) → goes_on p ≡ false → strip bar w.rest ≡ None → ended_part n p r w ≡ done a t →
     left ≡ bytes s.rest →
-    GivesPiece q (quants n d left a (record t { flags = s.flags })) z → StepsOn q n d s z
+    GivesPiece q (quants n d left a (record t { flags = s.flags })) z → GivesStep q n d s z
 closes {n} {d} {s} r w q z x y g f h i e =
     let (u, l, b) = opens_ended r w x y g (λ _ _. f) in
     steps_piece s q z i l (subst (Atom n d (at s u)) (ap (restored s.flags) h) b) e
@@ -289,7 +291,7 @@ record Outer (n : ℕ) (start : State) (gs : List Frame) (g : Frame) (ts : List 
   reading : ReadSoFar n depth (part_of g.opener) begin branches pieces here
   began : Began g here
   more : ends here.rest ≡ false
-  opens : Opens n depth here o s
+  opens : OpensPart n depth here o s
 
 levels_pop : {n : ℕ} {start : State} (gs : List Frame) (g : Frame) {d : ℕ} {s : State} {fs : List Frame}
     {ts : List Tree} {o : OpenPart} → OpenGroups n start fs ts o d s →
@@ -393,7 +395,7 @@ running_piece {n} {t} {v} {r} all h e a i = record {
 -- a part is opened in the piece that began there
 running_open : {n : ℕ} {start t v : State} {stack : List Frame} {f : Frame} {trees : List Tree} {o : OpenPart}
     (all : List Frame) (g : Frame) → Running n start stack f trees t →
-    Began f t → ends t.rest ≡ false → Opens n (length stack) t o v → all ≡ stack ++ f ∷ [] → part_of g.opener ≡ o →
+    Began f t → ends t.rest ≡ false → OpensPart n (length stack) t o v → all ≡ stack ++ f ∷ [] → part_of g.opener ≡ o →
     g.branches ≡ length trees → g.pieces ≡ length trees → Running n start all g trees v
 running_open {n} {t} {v} {stack} {f} {trees} {o} all g h b e a i j k l = record {
   depth = h.depth + 1;
@@ -404,14 +406,14 @@ running_open {n} {t} {v} {stack} {f} {trees} {o} all g h b e a i j k l = record 
   is_depth = omega (arith, h.is_depth, ap length i, length_push stack f);
   holds = holds_new g trees k l;
   levels = rw j
-      (inner f i h.holds h.levels h.reading b e (subst (λ d. Opens n d t o v) (sym h.is_depth) a));
+      (inner f i h.holds h.levels h.reading b e (subst (λ d. OpensPart n d t o v) (sym h.is_depth) a));
   reading = reading_new n _ _ v _ _ refl refl;
 }
 
 -- a step is taken
 pub running_step : {n : ℕ} {start t v : State} {stack all : List Frame} {f g : Frame} {trees ts : List Tree}
     (made : Step) → Running n start stack f trees t → Began f t → ends t.rest ≡ false →
-    Steps n (length stack) t made v → Takes made stack f trees all g ts → Running n start all g ts v
+    IsStep n (length stack) t made v → Takes made stack f trees all g ts → Running n start all g ts v
 running_step {ts} (step.Piece tree) h b e a i = rw (i.0, i.1) (running_piece ts h e a i.2)
 running_step {all} {g} (step.Open opener) h b e a i =
     rw i.1 (running_open all g h b e a i.0 (ap part_of i.2) i.3 i.4)
@@ -528,7 +530,7 @@ running_end {n} {start} {t} r h e a i j =
     rw i (subst (λ s. Alternation n 0 s (done whole t)) m.1
     (subst (λ d. Alternation n d h.begin (done whole t)) m.0 (reading_alternation h.reading e a)))
 
-opens_not_top : {n d : ℕ} {s v : State} {o : OpenPart} → Opens n d s o v → o ≢ top
+opens_not_top : {n d : ℕ} {s v : State} {o : OpenPart} → OpensPart n d s o v → o ≢ top
 opens_not_top (a_group l e) i = cc
 opens_not_top (a_condition l e) i = cc
 opens_not_top (a_body l e) i = cc
@@ -544,7 +546,7 @@ pub record Closing (n : ℕ) (start : State) (stack : List Frame) (g : Frame) (t
   pub outer : Running n start stack g trees here
   pub began : Began g here
   pub more : ends here.rest ≡ false
-  pub opens : Opens n (length stack) here o inside
+  pub opens : OpensPart n (length stack) here o inside
   pub whole : Part o n (length stack + 1) inside (done r t)
   pub not_top : o ≢ top
 
@@ -556,8 +558,8 @@ pub running_closing : {n : ℕ} {start t : State} {all : List Frame} {f : Frame}
 running_closing {n} {t} {f} stack g below r q z h e a i k j =
     let o = levels_pop stack g h.levels j in
     let m : o.depth ≡ length stack = omega (arith, o.deeper, h.is_depth, ap length j, length_push stack g) in
-    let opens : Opens n (length stack) o.here q h.begin =
-    rw z (subst (λ d. Opens n d o.here (part_of f.opener) h.begin) m o.opens) in
+    let opens : OpensPart n (length stack) o.here q h.begin =
+    rw z (subst (λ d. OpensPart n d o.here (part_of f.opener) h.begin) m o.opens) in
     record {
       here = o.here;
       inside = h.begin;

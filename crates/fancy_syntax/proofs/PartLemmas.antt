@@ -6,7 +6,7 @@ use Rattle.fancy_grammar.specs.Items.{Item, items, items_absent, openings_in}
 use Rattle.fancy_grammar.specs.Tree.{conditional, expression}
 use Rattle.fancy_syntax.specs.Notes.{has_items, IsErrorNoted}
 use Rattle.fancy_syntax.specs.View.{view, view_absent}
-use Rattle.fancy_grammar.specs.Walk.{Known, Progress, found, noted}
+use Rattle.fancy_grammar.specs.Walk.{Known, Progress, groups_after, progress_after}
 use Rattle.fancy_syntax.specs.declared.expr.Absent.{Absent, Expression}
 use Rattle.fancy_syntax.specs.declared.expr.Expr.{Expr, Conditional, the_lemmas}
 use Rattle.fancy_grammar.proofs.ItemLemmas.{length_openings}
@@ -65,46 +65,48 @@ three_count {x} {y} {z} p =
 -- a walk over the first part, and one over the second, pass at most as many groups as there are openings
 
 pub two_found : {l : List Item} {x y : Expr} (named : Bool) (r s : Groups) → Two l x y →
-    s ≡ found named r (items (view x)) →
+    s ≡ groups_after named r (items (view x)) →
     s.total + length (openings_in (items (view y))) ≤ r.total + length (openings_in l)
 two_found {x} named r s p e = omega (arith, two_count p, found_le named r s (items (view x)) e)
 
 pub three_found : {l : List Item} {x y z : Expr} (named : Bool) (r s : Groups) → Three l x y z →
-    s ≡ found named r (items (view x)) →
+    s ≡ groups_after named r (items (view x)) →
     s.total + (length (openings_in (items (view y))) + length (openings_in (items (view z)))) ≤ r.total + length
     (openings_in l)
 three_found {x} named r s p e = omega (arith, three_count p, found_le named r s (items (view x)) e)
 
 pub third_found : {l : List Item} {x y z : Expr} (named : Bool) (r s t : Groups) → Three l x y z →
-    s ≡ found named r (items (view x)) →
-    t ≡ found named s (items (view y)) →
+    s ≡ groups_after named r (items (view x)) →
+    t ≡ groups_after named s (items (view y)) →
     t.total + length (openings_in (items (view z))) ≤ r.total + length (openings_in l)
 third_found {x} {y} named r s t p e f = omega (arith, three_found named r s p e, found_le named s t (items (view y)) f)
 
-pub two_noted : {l : List Item} {x y : Expr} (k : Known) (r s : Progress) → Two l x y → s ≡ noted k r (items (view x)) →
+pub two_noted : {l : List Item} {x y : Expr} (k : Known) (r s : Progress) → Two l x y →
+    s ≡ progress_after k r (items (view x)) →
     s.passed + length (openings_in (items (view y))) ≤ r.passed + length (openings_in l)
 two_noted {x} k r s p e = omega (arith, two_count p, noted_le k r s (items (view x)) e)
 
 pub three_noted : {l : List Item} {x y z : Expr} (k : Known) (r s : Progress) → Three l x y z →
-    s ≡ noted k r (items (view x)) →
+    s ≡ progress_after k r (items (view x)) →
     s.passed + (length (openings_in (items (view y))) + length (openings_in (items (view z)))) ≤ r.passed + length
     (openings_in l)
 three_noted {x} k r s p e = omega (arith, three_count p, noted_le k r s (items (view x)) e)
 
 pub third_noted : {l : List Item} {x y z : Expr} (k : Known) (r s t : Progress) → Three l x y z →
-    s ≡ noted k r (items (view x)) →
-    t ≡ noted k s (items (view y)) →
+    s ≡ progress_after k r (items (view x)) →
+    t ≡ progress_after k s (items (view y)) →
     t.passed + length (openings_in (items (view z))) ≤ r.passed + length (openings_in l)
 third_noted {x} {y} k r s t p e f = omega (arith, three_noted k r s p e, noted_le k s t (items (view y)) f)
 
 -- the error of a walk over one of the parts is that of the walk over all
 
 pub three_error : {l : List Item} {x y z : Expr} (k : Known) (r : Progress) (e : Option Error) → Three l x y z →
-    IsErrorNoted e (noted k r (items (view x))).fault → IsErrorNoted e (noted k r l).fault
+    IsErrorNoted e (progress_after k r (items (view x))).fault → IsErrorNoted e (progress_after k r l).fault
 three_error {x} k r e p h = rw p.is (error_kept k r e (items (view x)) _ h)
 
 pub third_error : {l : List Item} {x y z : Expr} (k : Known) (r s : Progress) (e : Option Error) → Three l x y z →
-    s ≡ noted k r (items (view x)) → IsErrorNoted e (noted k s (items (view y))).fault → IsErrorNoted e (noted k r l).fault
+    s ≡ progress_after k r (items (view x)) → IsErrorNoted e (progress_after k s (items (view y))).fault →
+    IsErrorNoted e (progress_after k r l).fault
 third_error {x} {y} {z} k r s e p f h =
     rw (p.is, noted_append k r (items (view x)) _, ← f) (error_kept k s e (items (view y)) (items (view z)) h)
 

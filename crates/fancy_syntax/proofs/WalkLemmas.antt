@@ -16,26 +16,29 @@ use Rattle.fancy_grammar.specs.Tree.{Tree, trees_of, more_trees}
 use Rattle.fancy_syntax.specs.Notes.{IsErrorNoted}
 use Rattle.fancy_syntax.specs.View.{view, views}
 use Rattle.fancy_syntax.specs.declared.expr.Expr.{Expr}
-use Rattle.fancy_grammar.specs.Walk.{found, find_item, Known, Progress, noted, note_item, rebuilt, rebuilt_all}
+use Rattle.fancy_grammar.specs.Walk.{groups_after, find_item, Known, Progress, progress_after, note_item, rebuilt}
+use Rattle.fancy_grammar.specs.Walk.{rebuilt_all}
 
 pub found_append : (named : Bool) (s : Groups) (a b : List Item) →
-    found named s (a ++ b) ≡ found named (found named s a) b
+    groups_after named s (a ++ b) ≡ groups_after named (groups_after named s a) b
 found_append named s a b = fold-append (find_item named) s a b
 
-pub noted_append : (k : Known) (s : Progress) (a b : List Item) → noted k s (a ++ b) ≡ noted k (noted k s a) b
+pub noted_append : (k : Known) (s : Progress) (a b : List Item) →
+    progress_after k s (a ++ b) ≡ progress_after k (progress_after k s a) b
 noted_append k s a b = fold-append (note_item k) s a b
 
 -- the first fault stays the first
-fault_kept : (k : Known) (s : Progress) (f : Fault) (l : List Item) → s.fault ≡ Some f → (noted k s l).fault ≡ Some f
+fault_kept : (k : Known) (s : Progress) (f : Fault) (l : List Item) → s.fault ≡ Some f →
+    (progress_after k s l).fault ≡ Some f
 fault_kept k s f [] h = h
 fault_kept k s f (opening o ∷ l) h = fault_kept k (note_item k s (opening o)) f l h
 fault_kept k s f (reference r ∷ l) h = fault_kept k (note_item k s (reference r)) f l (rw h refl)
 
 pub error_kept : (k : Known) (s : Progress) (e : Option Error) (a b : List Item) →
-    IsErrorNoted e (noted k s a).fault → IsErrorNoted e (noted k s (a ++ b)).fault
+    IsErrorNoted e (progress_after k s a).fault → IsErrorNoted e (progress_after k s (a ++ b)).fault
 error_kept k s None a b h = h
 error_kept k s (Some (ParseError place kind)) a b h =
-    ap (λ (q : Progress). q.fault) (noted_append k s a b) ∙ fault_kept k (noted k s a) _ b h
+    ap (λ (q : Progress). q.fault) (noted_append k s a b) ∙ fault_kept k (progress_after k s a) _ b h
 error_kept k s (Some OutOfMemory) a b h = tt
 
 -- a walk passes at most as many groups as there are openings
@@ -45,13 +48,14 @@ opening_total : (named : Bool) (s : Groups) (o : Opening) (b : Bool) → is_coun
 opening_total named s o true e = rw e (omega arith)
 opening_total named s o false e = rw e (omega arith)
 
-total_le : (named : Bool) (s : Groups) (l : List Item) → (found named s l).total ≤ s.total + length (openings_in l)
+total_le : (named : Bool) (s : Groups) (l : List Item) →
+    (groups_after named s l).total ≤ s.total + length (openings_in l)
 total_le named s [] = omega arith
 total_le named s (opening o ∷ l) =
     omega (arith, total_le named (with_opening named s o) l, opening_total named s o (is_counted named o.name) refl)
 total_le named s (reference r ∷ l) = total_le named s l
 
-pub found_le : (named : Bool) (s f : Groups) (l : List Item) → f ≡ found named s l →
+pub found_le : (named : Bool) (s f : Groups) (l : List Item) → f ≡ groups_after named s l →
     f.total ≤ s.total + length (openings_in l)
 found_le named s f l e = omega (arith, total_le named s l, ap (λ (g : Groups). g.total) e)
 
@@ -60,13 +64,14 @@ opening_passed : (k : Known) (s : Progress) (o : Opening) (b : Bool) → is_coun
 opening_passed k s o true e = rw e (omega arith)
 opening_passed k s o false e = rw e (omega arith)
 
-passed_le : (k : Known) (s : Progress) (l : List Item) → (noted k s l).passed ≤ s.passed + length (openings_in l)
+passed_le : (k : Known) (s : Progress) (l : List Item) →
+    (progress_after k s l).passed ≤ s.passed + length (openings_in l)
 passed_le k s [] = omega arith
 passed_le k s (opening o ∷ l) =
     omega (arith, passed_le k (note_item k s (opening o)) l, opening_passed k s o (is_counted k.named o.name) refl)
 passed_le k s (reference r ∷ l) = passed_le k (note_item k s (reference r)) l
 
-pub noted_le : (k : Known) (s p : Progress) (l : List Item) → p ≡ noted k s l →
+pub noted_le : (k : Known) (s p : Progress) (l : List Item) → p ≡ progress_after k s l →
     p.passed ≤ s.passed + length (openings_in l)
 noted_le k s p l e = omega (arith, passed_le k s l, ap (λ (q : Progress). q.passed) e)
 
@@ -88,12 +93,13 @@ count_two l x y h = ap (λ m. length (openings_in m)) h ∙ length_openings x y
 -- the trees rebuilt one after another
 abbrev pub rebuilt_list : Known → Progress → List Tree → List Tree
 rebuilt_list k s [] = []
-rebuilt_list k s (t ∷ ts) = rebuilt k s t ∷ rebuilt_list k (noted k s (items t)) ts
+rebuilt_list k s (t ∷ ts) = rebuilt k s t ∷ rebuilt_list k (progress_after k s (items t)) ts
 
 pub rebuilt_trees : (k : Known) (s : Progress) (ts : List Tree) →
     rebuilt_all k s (trees_of ts) ≡ trees_of (rebuilt_list k s ts)
 rebuilt_trees k s [] = refl
-rebuilt_trees k s (t ∷ ts) = ap (λ us. more_trees (rebuilt k s t) us) (rebuilt_trees k (noted k s (items t)) ts)
+rebuilt_trees k s (t ∷ ts) = ap (λ us. more_trees (rebuilt k s t) us)
+    (rebuilt_trees k (progress_after k s (items t)) ts)
 
 -- a list whose end from i on is known
 front_next : (l r : List Tree) (i : ℕ) (x : Tree) → drop i l ≡ x ∷ r → take (suc i) l ≡ take i l ++ (x ∷ [])
@@ -120,7 +126,8 @@ pub front_rebuilt : (k : Known) (s : Progress) (es now : List Expr) (all : List 
     views (take (i + 1) (set now i e2)) ≡ take (i + 1) all
 front_rebuilt k s es now all i e e2 n h g v f d =
     let es_cut : drop i es ≡ e ∷ drop (i + 1) es = rw (drop-cons es i e, ← g, add-one) refl in
-    let cut : drop i all ≡ rebuilt k s (view e) ∷ rebuilt_list k (noted k s (items (view e))) (views (drop (i + 1) es))
+    let cut : drop i all ≡ rebuilt k s (view e) ∷ rebuilt_list k (progress_after k s (items (view e)))
+    (views (drop (i + 1) es))
     = sym d ∙ ap (λ l. rebuilt_list k s (views l)) es_cut in
     let taken : take (i + 1) (set now i e2) ≡ take i now ++ (e2 ∷ [])
     = take-set_at now i (i + 1) e2 refl (omega arith) in
@@ -130,18 +137,19 @@ front_rebuilt k s es now all i e e2 n h g v f d =
 
 pub rest_rebuilt : (k : Known) (s s2 : Progress) (es : List Expr) (all : List Tree) (i : ℕ) (e : Expr) → i < length es →
     e ≡ get_or es i e →
-    s2 ≡ noted k s (items (view e)) → rebuilt_list k s (views (drop i es)) ≡ drop i all →
+    s2 ≡ progress_after k s (items (view e)) → rebuilt_list k s (views (drop i es)) ≡ drop i all →
     rebuilt_list k s2 (views (drop (i + 1) es)) ≡ drop (i + 1) all
 rest_rebuilt k s s2 es all i e h g n d =
     let es_cut : drop i es ≡ e ∷ drop (i + 1) es = rw (drop-cons es i e, ← g, add-one) refl in
-    let cut : drop i all ≡ rebuilt k s (view e) ∷ rebuilt_list k (noted k s (items (view e))) (views (drop (i + 1) es))
+    let cut : drop i all ≡ rebuilt k s (view e) ∷ rebuilt_list k (progress_after k s (items (view e)))
+    (views (drop (i + 1) es))
     = sym d ∙ ap (λ l. rebuilt_list k s (views l)) es_cut in
     ap (λ p. rebuilt_list k p (views (drop (i + 1) es))) n ∙ sym (drop_next all _ i _ cut)
     ∙ ap (λ j. drop j all) (sym (add-one i))
 
 rebuilt_length : (k : Known) (s : Progress) (ts : List Tree) → length (rebuilt_list k s ts) ≡ length ts
 rebuilt_length k s [] = refl
-rebuilt_length k s (t ∷ ts) = ap suc (rebuilt_length k (noted k s (items t)) ts)
+rebuilt_length k s (t ∷ ts) = ap suc (rebuilt_length k (progress_after k s (items t)) ts)
 
 views_length : (es : List Expr) → length (views es) ≡ length es
 views_length [] = refl

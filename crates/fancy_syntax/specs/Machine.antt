@@ -76,19 +76,19 @@ Part condition n d s o = Alternation n d s o
 Part (body c left) n d s o = Alternation n d s o
 
 -- a piece at s opens this, and what is read of it begins at t
-pub data Opens : ℕ → ℕ → State → OpenPart → State → Type 0 where
+pub data OpensPart : ℕ → ℕ → State → OpenPart → State → Type 0 where
   a_group : {n d : ℕ} {h : Head} {s t : State} {u : Text} → skipped n s ≡ rest u →
-      ahead n d (at s u) ≡ seen.with_head h t → Opens n d s (group h (place_of n u)) t
+      ahead n d (at s u) ≡ seen.with_head h t → OpensPart n d s (group h (place_of n u)) t
   a_condition : {n d : ℕ} {s t : State} {u : Text} → skipped n s ≡ rest u → ahead n d (at s u) ≡ seen.condition t →
-      Opens n d s condition t
+      OpensPart n d s condition t
   a_body : {n d : ℕ} {c : Tree} {s t : State} {u : Text} → skipped n s ≡ rest u → ahead n d (at s u) ≡ seen.body c t →
-      Opens n d s (body c (bytes t.rest)) t
-  behind_condition : {n d : ℕ} {c : Tree} {s t v : State} → Opens n d s condition t → Inside n d t (done c v) →
-      Opens n d s (body c (bytes v.rest)) v
+      OpensPart n d s (body c (bytes t.rest)) t
+  behind_condition : {n d : ℕ} {c : Tree} {s t v : State} → OpensPart n d s condition t → Inside n d t (done c v) →
+      OpensPart n d s (body c (bytes v.rest)) v
   a_branch : {n d : ℕ} {s t : State} {u : Text} → skipped n s ≡ rest u → ahead n d (at s u) ≡ seen.absent_branch t →
-      Opens n d s first t
-  behind_branch : {n d : ℕ} {a : Tree} {s t v : State} {u : Text} → Opens n d s first t →
-      Branch n (d + 1) t (done a v) → strip bar v.rest ≡ Some u → Opens n d s (second a) (at v u)
+      OpensPart n d s first t
+  behind_branch : {n d : ℕ} {a : Tree} {s t v : State} {u : Text} → OpensPart n d s first t →
+      Branch n (d + 1) t (done a v) → strip bar v.rest ≡ Some u → OpensPart n d s (second a) (at v u)
 
 -- the body of a conditional is wanting: it takes no byte, and the condition cannot do without
 abbrev pub lacks_body : OpenPart → State → Bool
@@ -121,9 +121,9 @@ OpensBelow (step.Piece piece) d = ⊤
 OpensBelow (step.Open opener) d = d + 1 < max_depth
 
 -- a step from s reads a piece, or opens a part of one, and ends at t
-abbrev pub Steps : ℕ → ℕ → State → Step → State → Type 0
-Steps n d s (step.Piece piece) t = Piece n d s (done (view piece) t)
-Steps n d s (step.Open opener) t = Opens n d s (part_of opener) t
+abbrev pub IsStep : ℕ → ℕ → State → Step → State → Type 0
+IsStep n d s (step.Piece piece) t = Piece n d s (done (view piece) t)
+IsStep n d s (step.Open opener) t = OpensPart n d s (part_of opener) t
 
 -- the stack, the innermost group and all trees behind a step: a tree more, or a group more in which nothing is read
 abbrev pub Takes : Step → List Frame → Frame → List Tree → List Frame → Frame → List Tree → Type 0
@@ -133,8 +133,8 @@ Takes (step.Open opener) fs f ts gs g us =
     (g.opener ≡ opener) × (g.branches ≡ length ts) × (g.pieces ≡ length ts)
 
 -- a step from s to t, or the fault of a piece there
-abbrev pub StepsOn : Result Step Error → ℕ → ℕ → State → State → Type 0
-StepsOn r n d s t = MatchResult r (λ p. Steps n d s p t) (λ e. IsErrorAmong e (Piece n d s))
+abbrev pub GivesStep : Result Step Error → ℕ → ℕ → State → State → Type 0
+GivesStep r n d s t = MatchResult r (λ p. IsStep n d s p t) (λ e. IsErrorAmong e (Piece n d s))
 
 -- the step reads a piece, to this outcome
 abbrev pub IsPiece : Step → State → Outcome Tree → Type 0
@@ -170,4 +170,4 @@ pub data OpenGroups (n : ℕ) (start : State) : List Frame → List Tree → Ope
   inner : {d : ℕ} {s t v : State} {p : OpenPart} {all frames : List Frame} {trees below branches pieces : List Tree}
       (f : Frame) → all ≡ frames ++ f ∷ [] → HoldsTrees f trees below branches pieces →
       OpenGroups n start frames below (part_of f.opener) d s → ReadSoFar n d (part_of f.opener) s branches pieces t →
-      Began f t → ends t.rest ≡ false → Opens n d t p v → OpenGroups n start all trees p (d + 1) v
+      Began f t → ends t.rest ≡ false → OpensPart n d t p v → OpenGroups n start all trees p (d + 1) v

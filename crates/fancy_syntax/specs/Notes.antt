@@ -2,7 +2,7 @@
 use Rattle.std.specs.Prelude.{◌≡◌, ℕ, ◌||◌, Bool, true, false, List, [], ◌∷◌, Option, Some, None, chars}
 use Rattle.std.specs.Prelude.{Result, MatchResult}
 use Rattle.fancy_lex.specs.Fault.{Fault}
-use Rattle.fancy_lex.specs.Target.{view_target}
+use Rattle.fancy_lex.specs.NameViews.{view_target}
 use Rattle.fancy_lex.specs.declared.error.Error.{Error}
 use Rattle.fancy_lex.specs.declared.name.CaptureGroupTarget.{CaptureGroupTarget}
 use Rattle.fancy_parts.specs.Groups.{Groups, groups_of, meaning_of, role_of}
@@ -50,7 +50,7 @@ IsErrorNoted (Some e) o = IsErrorIn e o
 abbrev pub Walks : {A : Type 0} → Result A Stopped → walk.Known → walk.Progress → List Item → Progress →
     (A → Type 0) → Type 0
 Walks r k before l after P =
-    let end = walk.noted k before l in
+    let end = walk.progress_after k before l in
     MatchResult r (λ a. P a × (progress_of after ≡ end)) (λ _. IsErrorNoted after.error end.fault)
 
 -- the tree is a node as it is read: a capturing group, or a reference
@@ -92,7 +92,7 @@ meaning_noted k p place role m =
     let total = (groups_of k.groups).total in let number = spec.back_number (role_of role) (meaning_of m) in
     record (progress_of p) {
       backrefs = walk.with_backref total p.backrefs.keys number;
-      out_of_range = walk.or_else p.out_of_range (walk.beyond total number);
+      out_of_range = walk.or_else p.out_of_range (walk.number_above total number);
       fault = fault_or (meaning_of m) place None;
     }
 

@@ -1,6 +1,6 @@
 -- The tree that an `Expr` stands for.
 use Rattle.std.specs.Prelude.{List, map, option_map}
-use Rattle.fancy_lex.specs.Target.{view_target}
+use Rattle.fancy_lex.specs.NameViews.{view_target}
 use Rattle.fancy_lex.specs.Text.{text_of}
 use Rattle.fancy_grammar.specs.Tree.{Tree, empty, any, assertion, general_newline, literal, literal_bytes, concat, alt}
 use Rattle.fancy_grammar.specs.Tree.{group, look_around, repeat, delegate, backref, backref_at_level, atomic_group}

@@ -2,15 +2,15 @@
 ghost use Rattle.std.specs.Prelude.{◌≡◌, ◌<◌, ◌^◌, ◌&&◌, chars, length, IfOk, IfErr, None};
 ghost use Rattle.std.specs.List.{list_any};
 ghost use Rattle.fancy_parts.specs.Groups.{groups_of};
-ghost use Rattle.fancy_parts.specs.Ranks.{counted_in, is_named, named_groups};
+ghost use Rattle.fancy_parts.specs.Ranks.{numbered_openings_in, is_named, named_groups};
 ghost use Rattle.fancy_grammar.specs.Items.{items, openings};
 ghost use Rattle.fancy_grammar.specs.Marks.{marks};
 ghost use Rattle.fancy_grammar.specs.Errors.{IsErrorIn};
 ghost use Rattle.fancy_syntax.specs.Answer.{marks_of};
 ghost use Rattle.fancy_syntax.specs.Notes.{known_of, progress_of, marks_found, has_items};
-ghost use Rattle.fancy_grammar.specs.Ordered.{Ascends};
+ghost use Rattle.fancy_grammar.specs.Ordered.{AscendingPlaces};
 ghost use Rattle.fancy_grammar.specs.Resolved.{resolved, fault_of};
-ghost use Rattle.fancy_grammar.specs.Walk.{noted, nothing_noted, rebuilt};
+ghost use Rattle.fancy_grammar.specs.Walk.{progress_after, nothing_noted, rebuilt};
 ghost use Rattle.fancy_syntax.specs.View.{view};
 
 mod notes;
@@ -29,7 +29,7 @@ use std::alloc::{AllocError, Global};
 
 /// The raw tree of the pattern resolved in its place, with its marks, or the first fault of its references.
 pub(crate) fn resolve(alloc: Global, raw: Expr, pattern: &str, flags: Flags) -> Result<ExprTree>
-    requires { Ascends 0 (length pattern.now) (items (view raw)) }
+    requires { AscendingPlaces 0 (length pattern.now) (items (view raw)) }
     ensures tree { IfOk result (λ t. view t.expr ≡ resolved flags (view raw)) }
     ensures marks { IfOk result (λ t. marks_of t ≡ marks flags (chars pattern.now) (view raw)) }
     ensures no_fault { IfOk result (λ _. fault_of flags (view raw) ≡ None) }
@@ -91,9 +91,9 @@ fn walk(alloc: Global, tree: &mut Expr, known: &Known, met: bool) -> Result<Prog
     requires met { met ≡ has_items (items (view tree.old)) }
     ensures tree { IfOk result (λ _. view tree.new ≡ rebuilt (known_of known.now) nothing_noted (view tree.old)) }
     ensures progress { IfOk result
-        (λ p. progress_of p ≡ noted (known_of known.now) nothing_noted (items (view tree.old))) }
+        (λ p. progress_of p ≡ progress_after (known_of known.now) nothing_noted (items (view tree.old))) }
     ensures fault { IfErr result
-        (λ e. IsErrorIn e (noted (known_of known.now) nothing_noted (items (view tree.old))).fault) }
+        (λ e. IsErrorIn e (progress_after (known_of known.now) nothing_noted (items (view tree.old))).fault) }
 {
     let mut progress = Progress::new(alloc);
     if met {
@@ -112,9 +112,9 @@ fn find_groups(
 ) -> std::result::Result<(bool, Found), AllocError>
     requires { length (openings (view tree.now)) < 2 ^ 63 }
     ensures named { IfOk result (λ p. p.0 ≡ (ignore && list_any is_named (openings (view tree.now)))) }
-    ensures total { IfOk result (λ p. p.1.groups.total ≡ length (counted_in p.0 (openings (view tree.now)))) }
+    ensures total { IfOk result (λ p. p.1.groups.total ≡ length (numbered_openings_in p.0 (openings (view tree.now)))) }
     ensures names { IfOk result
-        (λ p. (groups_of p.1.groups).names ≡ named_groups (counted_in p.0 (openings (view tree.now)))) }
+        (λ p. (groups_of p.1.groups).names ≡ named_groups (numbered_openings_in p.0 (openings (view tree.now)))) }
     ensures met { IfOk result (λ p. p.1.met ≡ has_items (items (view tree.now))) }
 {
     let mut found = Found::new(alloc);

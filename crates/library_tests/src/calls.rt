@@ -22,7 +22,12 @@ fn is_plain(tree: &ExprTree, groups: usize) -> bool {
 }
 
 /// Whether the text reads as the tree with Unicode alone, and has so many groups.
-pub fn reads_as(alloc: Global, text: &str, tree: &Expr, groups: usize) -> Result<bool, Error> {
+pub(crate) fn reads_as(
+    alloc: Global,
+    text: &str,
+    tree: &Expr,
+    groups: usize,
+) -> Result<bool, Error> {
     let again = Expr::parse_tree(alloc, text)?;
     Ok(again.expr == *tree && is_plain(&again, groups))
 }
@@ -53,7 +58,7 @@ fn put(alloc: Global, tree: &Expr, precedence: u8, text: &mut String) -> Result<
 }
 
 /// Whether the tree's text is put behind `start`. Where memory is refused for it, `start` is what stands there.
-pub fn is_put_behind(
+pub(crate) fn is_put_behind(
     alloc: Global,
     tree: &Expr,
     precedence: u8,
@@ -211,7 +216,7 @@ fn groups_inside(alloc: Global, tree: &Expr, outer: usize) -> Result<Option<usiz
 }
 
 /// Whether the tree's text, in which one group nests, is read inside 62 groups and not inside 63.
-pub fn nests_once(alloc: Global, tree: &Expr) -> Result<bool, Error> {
+pub(crate) fn nests_once(alloc: Global, tree: &Expr) -> Result<bool, Error> {
     Ok(groups_inside(alloc, tree, 62)? == Some(62) && groups_inside(alloc, tree, 63)?.is_none())
 }
 

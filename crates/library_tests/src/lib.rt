@@ -6,6 +6,8 @@
 #[cfg(test)]
 mod calls;
 #[cfg(test)]
+mod children_and_clones;
+#[cfg(test)]
 mod classes;
 #[cfg(test)]
 mod escapes;
@@ -21,7 +23,5 @@ mod references;
 mod refused;
 #[cfg(test)]
 mod samples;
-#[cfg(test)]
-mod tests;
 #[cfg(test)]
 mod trees;

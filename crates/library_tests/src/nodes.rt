@@ -5,7 +5,7 @@ use fancy_syntax::error::Error;
 use fancy_syntax::expr::{Absent, BacktrackingControlVerb as Verb, Expr, LookAround};
 use fancy_syntax::flags::FLAG_UNICODE;
 
-pub fn node(tree: &Expr) -> &'static str {
+pub(crate) fn node(tree: &Expr) -> &'static str {
     match tree {
         Expr::Literal { .. } => "literal",
         Expr::KeepOut => "keep-out",
@@ -88,7 +88,7 @@ static BELOW: [Row; 6] = [
     ),
 ];
 
-pub fn has_below(tree: &Expr, name: &str) -> bool {
+pub(crate) fn has_below(tree: &Expr, name: &str) -> bool {
     tree.has_descendant(|below| node(below) == name)
 }
 

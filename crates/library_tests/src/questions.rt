@@ -10,7 +10,7 @@ use std::alloc::Global;
 /// the second, the text reads as it and it has so many groups, its node is this one, or there is such a node below its
 /// own.
 #[derive(Clone, Copy)]
-pub enum Question {
+pub(crate) enum Question {
     Printable,
     NestsOnce,
     HasText(u8, &'static str, &'static str),
@@ -20,7 +20,7 @@ pub enum Question {
 }
 
 /// Where a tree comes from, a question of it, and the answer.
-pub type Row = (Source, Question, bool);
+pub(crate) type Row = (Source, Question, bool);
 
 fn answer(alloc: Global, tree: &Expr, question: &Question) -> Result<bool, Error> {
     match question {
@@ -45,7 +45,7 @@ fn ask(alloc: Global, source: &Source, question: &Question) -> Result<bool, Erro
 }
 
 /// The number of the first row whose answer is another.
-pub fn first_wrong(alloc: Global, rows: &[Row]) -> Result<Option<usize>, Error> {
+pub(crate) fn first_wrong(alloc: Global, rows: &[Row]) -> Result<Option<usize>, Error> {
     for (i, (source, question, wanted)) in rows.iter().enumerate() {
         if ask(alloc, source, question)? != *wanted {
             return Ok(Some(i));

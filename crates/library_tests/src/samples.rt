@@ -40,10 +40,10 @@ const SMALL_LEAVES: usize = 14;
 const BY_HAND: usize = 22;
 
 /// How many trees there are.
-pub const TREES: usize = 44;
+pub(crate) const TREES: usize = 44;
 
 /// Tree i.
-pub fn tree(alloc: Global, i: usize) -> Result<Expr, Error> {
+pub(crate) fn tree(alloc: Global, i: usize) -> Result<Expr, Error> {
     match PATTERNS.get(i.wrapping_sub(BY_HAND)) {
         Some((pattern, _, _)) => read(alloc, pattern, FLAG_UNICODE),
         None if i < SMALL_LEAVES => Ok(small_leaf(i)),
@@ -52,13 +52,13 @@ pub fn tree(alloc: Global, i: usize) -> Result<Expr, Error> {
 }
 
 /// What the node of tree i is, where it was read.
-pub fn name(i: usize) -> Option<&'static str> {
+pub(crate) fn name(i: usize) -> Option<&'static str> {
     let (_, name, _) = PATTERNS.get(i.wrapping_sub(BY_HAND))?;
     Some(name)
 }
 
 /// How many children tree i has; none where it is a leaf.
-pub fn children(i: usize) -> Option<usize> {
+pub(crate) fn children(i: usize) -> Option<usize> {
     match PATTERNS.get(i.wrapping_sub(BY_HAND)) {
         Some((_, _, 0)) => None,
         Some((_, _, count)) => Some(*count),

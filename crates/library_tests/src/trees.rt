@@ -5,7 +5,7 @@ use fancy_syntax::tree::ExprTree;
 use std::alloc::{AllocError, Global};
 
 /// The tree of the pattern.
-pub fn read(alloc: Global, pattern: &str, flags: u32) -> Result<Expr, Error> {
+pub(crate) fn read(alloc: Global, pattern: &str, flags: u32) -> Result<Expr, Error> {
     let ExprTree {
         expr,
         backrefs,
@@ -19,7 +19,7 @@ pub fn read(alloc: Global, pattern: &str, flags: u32) -> Result<Expr, Error> {
 
 /// A pattern and its flags, or nodes of this kind by hand.
 #[derive(Clone, Copy)]
-pub enum Source {
+pub(crate) enum Source {
     Pattern(&'static str, u32),
     Literal(&'static str, bool),
     RepeatedLiteral(&'static str, bool),
@@ -30,7 +30,7 @@ pub enum Source {
     Reference,
 }
 
-pub fn tree_of(alloc: Global, source: &Source) -> Result<Expr, Error> {
+pub(crate) fn tree_of(alloc: Global, source: &Source) -> Result<Expr, Error> {
     match source {
         Source::Pattern(pattern, flags) => read(alloc, pattern, *flags),
         _ => Ok(by_hand(alloc, source)?),
@@ -52,14 +52,14 @@ fn by_hand(alloc: Global, source: &Source) -> Result<Expr, AllocError> {
     }
 }
 
-pub fn literal(alloc: Global, val: &str, casei: bool) -> Result<Expr, AllocError> {
+pub(crate) fn literal(alloc: Global, val: &str, casei: bool) -> Result<Expr, AllocError> {
     Ok(Expr::Literal {
         val: String::from_str(alloc, val)?,
         casei,
     })
 }
 
-pub fn delegate(alloc: Global, text: &str) -> Result<Expr, AllocError> {
+pub(crate) fn delegate(alloc: Global, text: &str) -> Result<Expr, AllocError> {
     Ok(Expr::Delegate {
         inner: String::from_str(alloc, text)?,
         casei: false,

@@ -4,22 +4,24 @@
 
 mod answer;
 mod sample;
-mod step;
+mod stage;
 
 use answer::write_answer;
 use anyhow::{Context, Result, bail};
 use sample::Sample;
+use stage::Stage;
 use std::alloc::Global;
 use std::io::{BufWriter, Write};
 use std::{env, fs};
-use step::Step;
 
-/// The sum of what the step makes of each pattern.
-fn sum_of_amounts(alloc: Global, lines: &str, step: Step) -> Result<usize> {
+/// The sum of what the stage makes of each pattern.
+fn sum_of_amounts(alloc: Global, lines: &str, stage: Stage) -> Result<usize> {
     let mut sum = 0usize;
     for line in lines.lines() {
         let sample = Sample::read(alloc, line).context(format_args!("{line}"))?;
-        let amount = step.amount(alloc, &sample).context(format_args!("{line}"))?;
+        let amount = stage
+            .amount(alloc, &sample)
+            .context(format_args!("{line}"))?;
         sum = sum.saturating_add(amount);
     }
     Ok(sum)
@@ -45,7 +47,7 @@ fn main(rt: HostRuntime) -> Result<()> {
         let mut out = BufWriter::new(rt.alloc(), rt.stdout())?;
         return write_answers(rt.alloc(), lines.as_str(), &mut out);
     }
-    let step = Step::named(mode.as_str()).context("no such mode")?;
-    println!(rt; "{}", sum_of_amounts(rt.alloc(), lines.as_str(), step)?)?;
+    let stage = Stage::named(mode.as_str()).context("no such mode")?;
+    println!(rt; "{}", sum_of_amounts(rt.alloc(), lines.as_str(), stage)?)?;
     Ok(())
 }

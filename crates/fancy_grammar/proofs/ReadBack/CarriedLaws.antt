@@ -7,8 +7,9 @@ use Rattle.fancy_lex.specs.Boundary.{boundary_of_name, at_count}
 use Rattle.fancy_lex.specs.BoundarySteps.{boundary, named_boundary, name}
 use Rattle.std.specs.Char.{is_ascii_digit}
 use Rattle.fancy_lex.specs.Characters.{backslash, open_bracket, close_bracket, caret, open_brace, ◌∈◌}
-use Rattle.fancy_lex.specs.Class.{items_from, class, class_head, with_mark, item_text, is_negated}
-use Rattle.fancy_lex.specs.Escape.{escape, backref_leaf, number_escape, call, property, outside, in_class, is_itself}
+use Rattle.fancy_lex.specs.Class.{class_from, class, class_head, with_mark, escape_in_class, is_negated}
+use Rattle.fancy_lex.specs.Escape.{escape, backref_leaf, number_escape, call_escape, property, outside, in_class}
+use Rattle.fancy_lex.specs.Escape.{is_itself}
 use Rattle.fancy_lex.specs.EscapeReference as reference
 use Rattle.fancy_lex.specs.EscapeReference.{group_number}
 use Rattle.fancy_lex.specs.Escaped.{Escape, literal, literal_bytes, delegate, backref, subroutine_call}
@@ -23,7 +24,7 @@ use Rattle.fancy_lex.specs.declared.flags.Flags.{Flags}
 use Rattle.fancy_lex.proofs.ClassLaws.{class_head_frame}
 use Rattle.fancy_lex.proofs.EscapeFrame.{StaysSome, read_stays, escape_frame}
 use Rattle.fancy_lex.proofs.TextLemmas.{bytes-append}
-use Rattle.fancy_grammar.specs.Normal.{case_flags, bare}
+use Rattle.fancy_grammar.specs.Normal.{case_flags, unicode_flags}
 
 -- ---- the same text under other flags
 
@@ -41,7 +42,8 @@ too_then : {A : Type 0} (o : Reading A) (k k' : A → Text → Reading Escape) �
 too_then (gives a u) k k' h = h a u
 too_then (fails e) k k' h = tt
 
-number_escape_too : (n p : ℕ) (t : Text) (other : Reading Escape) → Too (number_escape n (bare false) true p t) other
+number_escape_too : (n p : ℕ) (t : Text) (other : Reading Escape) →
+    Too (number_escape n (unicode_flags false) true p t) other
 unfolding number_escape
 number_escape_too n p t other = by_number (group_number n t)
   where
@@ -50,7 +52,7 @@ number_escape_too n p t other = by_number (group_number n t)
     by_number (fails e) = tt
 
 property_too : (u i inside : Bool) (p c : ℕ) (t : Text) →
-    Too (property (bare false) inside p c t) (property (case_flags u i) inside p c t)
+    Too (property (unicode_flags false) inside p c t) (property (case_flags u i) inside p c t)
 unfolding property
 property_too u i inside p c [] = tt
 property_too u i inside p c (d ∷ t) = by_property (read_property (c ∈ "P") (d ∷ t)) where
@@ -85,21 +87,21 @@ never true b c = refl
 never false b c = refl
 
 coded_too : (u i : Bool) (w h v : ℕ) (t : Text) →
-    Too (leaf_of_value (bare false) w h v t) (leaf_of_value (case_flags u i) w h v t)
+    Too (leaf_of_value (unicode_flags false) w h v t) (leaf_of_value (case_flags u i) w h v t)
 unfolding leaf_of_value
 coded_too false i w h v t = same_too (w == 2 && not false && nat_le 0x80 v && nat_le v 0xFF) (is_scalar v) _ _ _ _ t _ _
 coded_too true i w h v t =
     rw (never (w == 2) (nat_le 0x80 v) (nat_le v 0xFF))
     (both_too (((w == 2) && true) && nat_le 0x80 v && nat_le v 0xFF) (is_scalar v) _ _ _ t _ (byte_scalar v _))
 
-hex_too : (u i : Bool) (n w : ℕ) (t : Text) → Too (hex n (bare false) w t) (hex n (case_flags u i) w t)
+hex_too : (u i : Bool) (n w : ℕ) (t : Text) → Too (hex n (unicode_flags false) w t) (hex n (case_flags u i) w t)
 unfolding hex
 hex_too u i n w t =
     too_then (layout_reading (layout n false t)) _ _
     (λ _ v. too_then (value n false (place_of n v) w v) _ _ (λ a r. coded_too u i w (place_of n v) a r))
 
 escape_too : (u i : Bool) (n p : ℕ) (t : Text) →
-    Too (escape n (bare false) true p t) (escape n (case_flags u i) true p t)
+    Too (escape n (unicode_flags false) true p t) (escape n (case_flags u i) true p t)
 unfolding escape in_class
 escape_too u i n p [] = tt
 escape_too u i n p (c ∷ t) =
@@ -175,60 +177,61 @@ rest_is a w r v e = cc
 module _ (u i : Bool) (n : ℕ) where
   abbrev ItemsCarry : ℕ → Type 0
   ItemsCarry k = (depth : ℕ) (seen seen' : Bool) (out out' t : Text)
-      → Carries k (items_from n (bare false) k depth seen out t)
-      (λ j m s. items_from m (case_flags u i) j depth seen' out' (t ++ s))
+      → Carries k (class_from n (unicode_flags false) k depth seen out t)
+      (λ j m s. class_from m (case_flags u i) j depth seen' out' (t ++ s))
 
   end_carries : (k depth : ℕ) (seen : Bool) (out : Text) (there : ℕ → ℕ → Text → Reading Text) →
-      Carries k (items_from n (bare false) k depth seen out []) there
-  unfolding items_from
+      Carries k (class_from n (unicode_flags false) k depth seen out []) there
+  unfolding class_from
   end_carries zero depth seen out there = tt
   end_carries (suc k) depth seen out there = tt
 
   -- behind an opening bracket
   open_carries : (k : ℕ) → ItemsCarry k → (depth : ℕ) (seen seen' : Bool) (out out' t : Text)
-      → Carries k (items_from n (bare false) k depth seen (class_head out t).0 (class_head out t).1)
-      (λ j m s. items_from m (case_flags u i) j depth seen' (class_head out' (t ++ s)).0
+      → Carries k (class_from n (unicode_flags false) k depth seen (class_head out t).0 (class_head out t).1)
+      (λ j m s. class_from m (case_flags u i) j depth seen' (class_head out' (t ++ s)).0
       (class_head out' (t ++ s)).1)
   open_carries k more depth seen seen' out out' t = by_left (class_head out t).1 refl where
     by_left : (v : Text) → (class_head out t).1 ≡ v →
-        Carries k (items_from n (bare false) k depth seen (class_head out t).0 v)
-        (λ j m s. items_from m (case_flags u i) j depth seen' (class_head out' (t ++ s)).0
+        Carries k (class_from n (unicode_flags false) k depth seen (class_head out t).0 v)
+        (λ j m s. class_from m (case_flags u i) j depth seen' (class_head out' (t ++ s)).0
         (class_head out' (t ++ s)).1)
     by_left [] e = end_carries k depth seen (class_head out t).0 _
     by_left (c ∷ v) e =
         let left = sym (opening_left out out' t) ∙ e in
-        carry_same k _ (λ j m s. items_from m (case_flags u i) j depth seen' (class_head out' t).0
+        carry_same k _ (λ j m s. class_from m (case_flags u i) j depth seen' (class_head out' t).0
         ((c ∷ v) ++ s)) _
-        (λ j m s. ap (λ (p : Text × Text). items_from m (case_flags u i) j depth seen' p.0 p.1)
+        (λ j m s. ap (λ (p : Text × Text). class_from m (case_flags u i) j depth seen' p.0 p.1)
         (class_head_frame out' t s c v left)
-        ∙ ap (λ (r : Text). items_from m (case_flags u i) j depth seen' (class_head out' t).0 (r ++ s)) left)
+        ∙ ap (λ (r : Text). class_from m (case_flags u i) j depth seen' (class_head out' t).0 (r ++ s)) left)
         (more depth seen seen' (class_head out t).0 (class_head out' t).0 (c ∷ v))
 
   inner_carries : (k : ℕ) → ItemsCarry k →
       (depth : ℕ) (seen seen' : Bool) (out out' t : Text) (p : ℕ) (q : ℕ → Text → ℕ)
-      → Carries k (escape n (bare false) true p t >=>
-      (λ e v. items_from n (bare false) k depth (seen || is_negated e) (out ++ item_text seen e) v))
+      → Carries k (escape n (unicode_flags false) true p t >=>
+      (λ e v. class_from n (unicode_flags false) k depth (seen || is_negated e) (out ++ escape_in_class seen e) v))
       (λ j m s. escape m (case_flags u i) true (q m s) (t ++ s) >=>
-      (λ e v. items_from m (case_flags u i) j depth (seen' || is_negated e) (out' ++ item_text seen' e) v))
+      (λ e v. class_from m (case_flags u i) j depth (seen' || is_negated e) (out' ++ escape_in_class seen' e) v))
   inner_carries k more depth seen seen' out out' t p q =
-      by_escape (escape n (bare false) true p t) (escape_too u i n p t) where
+      by_escape (escape n (unicode_flags false) true p t) (escape_too u i n p t) where
         by_escape : (o : Reading Escape) → Too o (escape n (case_flags u i) true p t)
             → Carries k (o >=>
-            (λ e v. items_from n (bare false) k depth (seen || is_negated e) (out ++ item_text seen e) v))
+            (λ e v. class_from n (unicode_flags false) k depth (seen || is_negated e)
+            (out ++ escape_in_class seen e) v))
             (λ j m s. escape m (case_flags u i) true (q m s) (t ++ s) >=>
-            (λ e v. items_from m (case_flags u i) j depth (seen' || is_negated e)
-            (out' ++ item_text seen' e) v))
+            (λ e v. class_from m (case_flags u i) j depth (seen' || is_negated e)
+            (out' ++ escape_in_class seen' e) v))
         by_escape (gives e v) (x, h) =
-            carry_same k _ (λ j m s. items_from m (case_flags u i) j depth (seen' || is_negated x)
-            (out' ++ item_text seen' x) (v ++ s)) _
-            (λ j m s. ap (λ o. o >=> (λ e v. items_from m (case_flags u i) j depth (seen' || is_negated e)
-            (out' ++ item_text seen' e) v)) (escape_frame n m (case_flags u i) p (q m s) t v s x h))
-            (more depth (seen || is_negated e) (seen' || is_negated x) (out ++ item_text seen e)
-            (out' ++ item_text seen' x) v)
+            carry_same k _ (λ j m s. class_from m (case_flags u i) j depth (seen' || is_negated x)
+            (out' ++ escape_in_class seen' x) (v ++ s)) _
+            (λ j m s. ap (λ o. o >=> (λ e v. class_from m (case_flags u i) j depth (seen' || is_negated e)
+            (out' ++ escape_in_class seen' e) v)) (escape_frame n m (case_flags u i) p (q m s) t v s x h))
+            (more depth (seen || is_negated e) (seen' || is_negated x) (out ++ escape_in_class seen e)
+            (out' ++ escape_in_class seen' x) v)
         by_escape (fails e) h = tt
 
   items_carry : (k : ℕ) → ItemsCarry k
-  unfolding items_from
+  unfolding class_from
   items_carry zero depth seen seen' out out' t = tt
   items_carry (suc k) depth seen seen' out out' [] = tt
   items_carry (suc k) depth seen seen' out out' (c ∷ t) =
@@ -236,13 +239,13 @@ module _ (u i : Bool) (n : ℕ) where
       carry_step k _
       (λ j m s.
       if c == backslash then escape m (case_flags u i) true (place_of m (c ∷ (t ++ s))) (t ++ s) >=>
-      (λ e v. items_from m (case_flags u i) j depth (seen' || is_negated e) (out' ++ item_text seen' e) v)
-      else if c == open_bracket then items_from m (case_flags u i) j (depth + 1) seen'
+      (λ e v. class_from m (case_flags u i) j depth (seen' || is_negated e) (out' ++ escape_in_class seen' e) v)
+      else if c == open_bracket then class_from m (case_flags u i) j (depth + 1) seen'
       (class_head out' (t ++ s)).0 (class_head out' (t ++ s)).1
       else if c == close_bracket
-      then (if depth == 0 then gives (out' ++ c ∷ []) (t ++ s) else items_from m (case_flags u i) j
+      then (if depth == 0 then gives (out' ++ c ∷ []) (t ++ s) else class_from m (case_flags u i) j
       (depth - 1) seen' (out' ++ c ∷ []) (t ++ s))
-      else items_from m (case_flags u i) j depth seen' (out' ++ c ∷ []) (t ++ s))
+      else class_from m (case_flags u i) j depth seen' (out' ++ c ∷ []) (t ++ s))
       _ (λ j m s. refl)
       (carry_if k (c == backslash) _ _ _ _
       (inner_carries k more depth seen seen' out out' t _ (λ m s. place_of m (c ∷ (t ++ s))))
@@ -252,18 +255,18 @@ module _ (u i : Bool) (n : ℕ) where
       (more (depth - 1) seen seen' (out ++ c ∷ []) (out' ++ c ∷ []) t))
       (more depth seen seen' (out ++ c ∷ []) (out' ++ c ∷ []) t))))
 
-  pub class_carries : (t w v : Text) → class n (bare false) t ≡ gives w v →
+  pub class_carries : (t w v : Text) → class n (unicode_flags false) t ≡ gives w v →
       (x : Text) × ((m : ℕ) (s : Text) → class m (case_flags u i) (t ++ s) ≡ gives x (v ++ s))
   unfolding class
   class_carries t w v e =
-      from (class n (bare false) t) e
+      from (class n (unicode_flags false) t) e
       (open_carries (suc (bytes t)) (items_carry (suc (bytes t))) 0 false false [] [] t) where
         from : (o : Reading Text) → o ≡ gives w v
             → Carries (suc (bytes t)) o
-            (λ j m s. items_from m (case_flags u i) j 0 false (class_head [] (t ++ s)).0
+            (λ j m s. class_from m (case_flags u i) j 0 false (class_head [] (t ++ s)).0
             (class_head [] (t ++ s)).1)
             → (x : Text) × ((m : ℕ) (s : Text) →
-            items_from m (case_flags u i) (suc (bytes (t ++ s))) 0 false (class_head [] (t ++ s)).0
+            class_from m (case_flags u i) (suc (bytes (t ++ s))) 0 false (class_head [] (t ++ s)).0
             (class_head [] (t ++ s)).1 ≡ gives x (v ++ s))
         from (gives a r) e (x, h) = (
           x,
@@ -335,8 +338,8 @@ boundary_none n x p negated t =
 pub backref_leaf_none : (f : Flags) (o : Reading Reference) → NoDelegate (backref_leaf f o)
 backref_leaf_none f o = none_then o (λ r u. gives (backref r f.casei) u) (λ r u. tt)
 
-call_none : (n p c : ℕ) (t : Text) → NoDelegate (call n p c t)
-unfolding call
+call_none : (n p c : ℕ) (t : Text) → NoDelegate (call_escape n p c t)
+unfolding call_escape
 call_none n p c [] = tt
 call_none n p c (d ∷ t) =
     none_then (reference.subroutine_call n (d ∷ t)) (λ r u. gives (subroutine_call r) u) (λ r u. tt)
@@ -363,7 +366,7 @@ outside_none u i n p c t =
 
 module _ (u i : Bool) where
   property_keeps : (p c : ℕ) (t : Text) →
-      Keeps (property (bare false) false p c t) (λ m q s. property (case_flags u i) false q c (t ++ s))
+      Keeps (property (unicode_flags false) false p c t) (λ m q s. property (case_flags u i) false q c (t ++ s))
   unfolding property
   property_keeps p c [] = tt
   property_keeps p c (d ∷ t) = by_property (read_property (c ∈ "P") (d ∷ t)) (read_stays (c ∈ "P") d t) where
@@ -382,18 +385,18 @@ module _ (u i : Bool) where
     )
 
   escape_keeps : (n p : ℕ) (t : Text) →
-      Keeps (escape n (bare false) false p t) (λ m q s. escape m (case_flags u i) false q (t ++ s))
+      Keeps (escape n (unicode_flags false) false p t) (λ m q s. escape m (case_flags u i) false q (t ++ s))
   unfolding escape number_escape
   escape_keeps n p [] = tt
   escape_keeps n p (c ∷ t) =
       keep_if (is_ascii_digit c) _ _ _ _
-      (keep_none _ _ (backref_leaf_none (bare false) (reference.numbered_reference n (c ∷ t))))
+      (keep_none _ _ (backref_leaf_none (unicode_flags false) (reference.numbered_reference n (c ∷ t))))
       (keep_if (c ∈ "dDsSwW") _ _ _ _ (backslash ∷ c ∷ [], i, λ m q s. refl)
       (keep_if (c ∈ "h") _ _ _ _ (codes "[0-9A-Fa-f]", false, λ m q s. refl)
       (keep_if (c ∈ "H") _ _ _ _ (codes "[^0-9A-Fa-f]", false, λ m q s. refl)
-      (keep_if (c ∈ "x") _ _ _ _ (keep_none _ _ (hex_none n (bare false) 2 t))
-      (keep_if (c ∈ "u") _ _ _ _ (keep_none _ _ (hex_none n (bare false) 4 t))
-      (keep_if (c ∈ "U") _ _ _ _ (keep_none _ _ (hex_none n (bare false) 8 t))
+      (keep_if (c ∈ "x") _ _ _ _ (keep_none _ _ (hex_none n (unicode_flags false) 2 t))
+      (keep_if (c ∈ "u") _ _ _ _ (keep_none _ _ (hex_none n (unicode_flags false) 4 t))
+      (keep_if (c ∈ "U") _ _ _ _ (keep_none _ _ (hex_none n (unicode_flags false) 8 t))
       (keep_if (c ∈ "pP") _ _ _ _ (property_keeps p c t)
       (keep_if (c ∈ "a") _ _ _ _ tt
       (keep_if (c ∈ "f") _ _ _ _ tt
@@ -405,7 +408,8 @@ module _ (u i : Bool) where
       (keep_if (is_itself false c) _ _ _ _ tt
       (keep_none _ _ (outside_none false false n p c t)))))))))))))))))
 
-  pub escape_carries : (n p : ℕ) (t w v : Text) (b : Bool) → escape n (bare false) false p t ≡ gives (delegate w b) v
+  pub escape_carries : (n p : ℕ) (t w v : Text) (b : Bool) →
+      escape n (unicode_flags false) false p t ≡ gives (delegate w b) v
       → (x : Text) × (c : Bool)
       × ((m q : ℕ) (s : Text) →
       escape m (case_flags u i) false q (t ++ s) ≡ gives (delegate x c) (v ++ s))

@@ -10,7 +10,7 @@ use Rattle.std.specs.List.{list_all}
 use Rattle.std.specs.Str.{all_scalars, bytes_eq}
 use Prim.Native.Char.{code}
 use Rattle.fancy_lex.specs.Characters.{caret, ◌∈◌}
-use Rattle.fancy_lex.specs.Class.{class_head, is_plain, byte_text, upper_hex_digit}
+use Rattle.fancy_lex.specs.Class.{class_head, is_plain_in_class, byte_text, upper_hex_digit}
 use Rattle.fancy_lex.specs.Escape.{escape, number_escape, property, in_class, is_itself}
 use Rattle.fancy_lex.specs.Escaped.{Escape, literal, literal_bytes, delegate}
 use Rattle.fancy_lex.specs.Fault.{invalid_class, invalid_codepoint_value, unclosed_unicode_name}
@@ -23,7 +23,7 @@ use Rattle.fancy_lex.specs.Reading.{Reading, gives, fails, fault_at, choose, lay
 use Rattle.fancy_lex.specs.EscapeReference.{group_number}
 use Rattle.fancy_lex.specs.declared.flags.Flags.{Flags}
 use Rattle.fancy_lex.specs.Text.{Text, place_of, strip, cut_at}
-use Rattle.fancy_grammar.specs.Normal.{bare, case_flags}
+use Rattle.fancy_grammar.specs.Normal.{unicode_flags, case_flags}
 use Rattle.fancy_grammar.proofs.ReadBack.ClearLemmas.{Each, no_more, also, each_among, not_open, no_layout}
 use Rattle.fancy_grammar.proofs.ReadBack.ScalarLemmas.{scalars_append}
 use Rattle.fancy_grammar.proofs.ReadBack.ClassChunks.{Goes, ClassGoes, pass_close, pass_plain, pass_escape, pass_nested}
@@ -33,12 +33,13 @@ use Rattle.fancy_grammar.proofs.ReadBack.ClassChunks.{pass_class, Chunk, Fine, b
 
 abbrev pub all_plain : Text → Bool
 all_plain [] = true
-all_plain (c ∷ w) = is_plain c && all_plain w
+all_plain (c ∷ w) = is_plain_in_class c && all_plain w
 
 word_goes : (w : Text) → all_plain w ≡ true → (m : ℕ) (s v : Text) → Goes m s v → Goes m (w ++ s) v
 word_goes [] h m s v g = g
 word_goes (c ∷ w) h m s v g =
-    pass_plain m c (w ++ s) v (first_so (is_plain c) _ h) (word_goes w (second_so (is_plain c) _ h) m s v g)
+    pass_plain m c (w ++ s) v (first_so (is_plain_in_class c) _ h)
+    (word_goes w (second_so (is_plain_in_class c) _ h) m s v g)
 
 pub word_chunk : (c : ℕ) (w : Text) → all_plain (c ∷ w) ≡ true → (c == code "^") ≡ false → (c == code "]") ≡ false →
     all_scalars (c ∷ w) ≡ true → Chunk (c ∷ w)
@@ -86,7 +87,7 @@ caret_chunk w c = record {
 
 -- an escape that is read whatever follows it
 escape_chunk : (w : Text) (e : Escape) → all_scalars w ≡ true →
-    ((m p : ℕ) (s : Text) → escape m (bare false) true p (w ++ s) ≡ gives e s) → Chunk (code "\\" ∷ w)
+    ((m p : ℕ) (s : Text) → escape m (unicode_flags false) true p (w ++ s) ≡ gives e s) → Chunk (code "\\" ∷ w)
 escape_chunk w e k h = record {
   goes = λ m s v g. pass_escape m (w ++ s) s v e (h m (place_of m (code "\\" ∷ (w ++ s))) s) g;
   no_caret = λ s. refl;
@@ -182,25 +183,25 @@ prop b name = record { negated = b; name = name }
 -- in a class or outside
 module _ (m p : ℕ) (inside : Bool) where
   pub single_small : (c : ℕ) (s : Text) → (c == code "{") ≡ false →
-      escape m (bare false) inside p (code "p" ∷ c ∷ s) ≡ gives
+      escape m (unicode_flags false) inside p (code "p" ∷ c ∷ s) ≡ gives
       (delegate (property_text false inside (prop false (single c))) false) s
   unfolding escape property read_property name_at
   single_small c s h = rw h refl
 
   pub single_large : (c : ℕ) (s : Text) → (c == code "{") ≡ false →
-      escape m (bare false) inside p (code "P" ∷ c ∷ s) ≡ gives
+      escape m (unicode_flags false) inside p (code "P" ∷ c ∷ s) ≡ gives
       (delegate (property_text false inside (prop true (single c))) false) s
   unfolding escape property read_property name_at
   single_large c s h = rw h refl
 
   pub braced_small : (w s : Text) → IsName w →
-      escape m (bare false) inside p (code "p" ∷ code "{" ∷ (w ++ code "}" ∷ s)) ≡ gives
+      escape m (unicode_flags false) inside p (code "p" ∷ code "{" ∷ (w ++ code "}" ∷ s)) ≡ gives
       (delegate (property_text false inside (prop false (braced w))) false) s
   unfolding escape property read_property name_at
   braced_small w s h = rw (cut_back w s h) refl
 
   pub braced_large : (w s : Text) → IsName w →
-      escape m (bare false) inside p (code "P" ∷ code "{" ∷ (w ++ code "}" ∷ s)) ≡ gives
+      escape m (unicode_flags false) inside p (code "P" ∷ code "{" ∷ (w ++ code "}" ∷ s)) ≡ gives
       (delegate (property_text false inside (prop true (braced w))) false) s
   unfolding escape property read_property name_at
   braced_large w s h = rw (cut_back w s h) refl
@@ -215,14 +216,16 @@ small_chunk : (w : Text) → IsName w → Chunk (code "\\" ∷ code "p" ∷ code
 small_chunk w h =
     escape_chunk (code "p" ∷ code "{" ∷ (w ++ code "}" ∷ [])) _
     (scalars_append w (code "}" ∷ []) (name_scalars w h) refl)
-    (λ m p s. ap (λ z. escape m (bare false) true p (code "p" ∷ code "{" ∷ z)) (append_assoc w (code "}" ∷ []) s)
+    (λ m p s. ap (λ z. escape m (unicode_flags false) true p (code "p" ∷ code "{" ∷ z))
+    (append_assoc w (code "}" ∷ []) s)
     ∙ braced_small m p true w s h)
 
 large_chunk : (w : Text) → IsName w → Chunk (code "\\" ∷ code "P" ∷ code "{" ∷ (w ++ code "}" ∷ []))
 large_chunk w h =
     escape_chunk (code "P" ∷ code "{" ∷ (w ++ code "}" ∷ [])) _
     (scalars_append w (code "}" ∷ []) (name_scalars w h) refl)
-    (λ m p s. ap (λ z. escape m (bare false) true p (code "P" ∷ code "{" ∷ z)) (append_assoc w (code "}" ∷ []) s)
+    (λ m p s. ap (λ z. escape m (unicode_flags false) true p (code "P" ∷ code "{" ∷ z))
+    (append_assoc w (code "}" ∷ []) s)
     ∙ braced_large m p true w s h)
 
 -- closed escapes
@@ -257,7 +260,7 @@ hex_paren d h = grind (arith, nat_tests)
 small_scalar : (v : ℕ) → v < 256 → is_scalar v ≡ true
 small_scalar v h = grind (arith, nat_tests)
 
-coded_some : (h v : ℕ) (s : Text) → v < 256 → (e : Escape) × (leaf_of_value (bare false) 2 h v s ≡ gives e s)
+coded_some : (h v : ℕ) (s : Text) → v < 256 → (e : Escape) × (leaf_of_value (unicode_flags false) 2 h v s ≡ gives e s)
 unfolding leaf_of_value
 coded_some h v s l =
     by_tests (2 == 2 && not false && nat_le 0x80 v && nat_le v 0xFF) (is_scalar v) (small_scalar v l) where
@@ -274,14 +277,15 @@ unfolding fixed_digits hexes.hex_digit
 digits_read a b s h k = rw (hex_value a h, lt-ltb a 16 h, hex_value b k, lt-ltb b 16 k) refl
 
 hex_some : (m : ℕ) (a b : ℕ) (s : Text) → a < 16 → b < 16 →
-    (e : Escape) × (hex m (bare false) 2 (upper_hex_digit a ∷ upper_hex_digit b ∷ s) ≡ gives e s)
+    (e : Escape) × (hex m (unicode_flags false) 2 (upper_hex_digit a ∷ upper_hex_digit b ∷ s) ≡ gives e s)
 unfolding hex value
 hex_some m a b s h k =
     let t = upper_hex_digit a ∷ upper_hex_digit b ∷ s in
     let (e, q) = coded_some (place_of m t) ((0 * 16 + a) * 16 + b) s (omega arith) in
     (e, rw (no_layout m t (not_open _ _ (hex_paren a h)), digits_read a b s h k) q)
 
-hex_escape : (m p : ℕ) (t : Text) → escape m (bare false) true p (code "x" ∷ t) ≡ hex m (bare false) 2 t
+hex_escape : (m p : ℕ) (t : Text) →
+    escape m (unicode_flags false) true p (code "x" ∷ t) ≡ hex m (unicode_flags false) 2 t
 unfolding escape
 hex_escape m p t = refl
 

@@ -5,33 +5,34 @@ use Rattle.std.proofs.lemmas.Bool.{and_from, cond_both}
 use Rattle.std.specs.Char.{IsScalar}
 use Rattle.std.specs.Str.{all_scalars}
 use Prim.Native.Char.{code}
-use Rattle.fancy_lex.specs.Class.{Class, class_items, Items, close, plain, escaped, nested, written, class_head}
-use Rattle.fancy_lex.specs.Class.{item_text, is_negated, is_plain, needs_backslash_in_class, char_text}
+use Rattle.fancy_lex.specs.Class.{Class, class_items, ClassItems, close, plain, escaped, nested, written, class_head}
+use Rattle.fancy_lex.specs.Class.{escape_in_class, is_negated, is_plain_in_class, needs_backslash_in_class, char_text}
 use Rattle.fancy_lex.specs.Escape.{escape}
 use Rattle.fancy_lex.specs.Escaped.{Escape, literal, literal_bytes, delegate}
 use Rattle.fancy_lex.specs.Reading.{gives}
 use Rattle.fancy_lex.specs.Text.{Text, place_of, strip}
-use Rattle.fancy_grammar.specs.Normal.{bare}
+use Rattle.fancy_grammar.specs.Normal.{unicode_flags}
 use Rattle.fancy_grammar.proofs.ReadBack.ClearLemmas.{apart, Each, no_more, also, each_among}
 use Rattle.fancy_grammar.proofs.ReadBack.ScalarLemmas.{scalars_append}
 
 -- from s on, a class's items are read to v, whatever was seen before
 abbrev pub Goes : ℕ → Text → Text → Type 0
-Goes m s v = (b : Bool) → (y : Text) × (a : Bool) × Items m (bare false) b s (written y a v)
+Goes m s v = (b : Bool) → (y : Text) × (a : Bool) × ClassItems m (unicode_flags false) b s (written y a v)
 
 -- the same of a class behind its bracket
 abbrev pub ClassGoes : ℕ → Text → Text → Type 0
-ClassGoes m s v = (b : Bool) → (y : Text) × (a : Bool) × Class m (bare false) b s (written y a v)
+ClassGoes m s v = (b : Bool) → (y : Text) × (a : Bool) × Class m (unicode_flags false) b s (written y a v)
 
 pub pass_close : (m : ℕ) (v : Text) → Goes m (code "]" ∷ v) v
 pass_close m v b = (_, b, close)
 
-pub pass_plain : (m c : ℕ) (s v : Text) → is_plain c ≡ true → Goes m s v → Goes m (c ∷ s) v
+pub pass_plain : (m c : ℕ) (s v : Text) → is_plain_in_class c ≡ true → Goes m s v → Goes m (c ∷ s) v
 pass_plain m c s v p g b = let (y, a, h) = g b in (c ∷ y, a, plain p h)
 
 pub pass_escape : (m : ℕ) (t s v : Text) (e : Escape) →
-    escape m (bare false) true (place_of m (code "\\" ∷ t)) t ≡ gives e s → Goes m s v → Goes m (code "\\" ∷ t) v
-pass_escape m t s v e q g b = let (y, a, h) = g (b || is_negated e) in (item_text b e ++ y, a, escaped q h)
+    escape m (unicode_flags false) true (place_of m (code "\\" ∷ t)) t ≡ gives e s → Goes m s v →
+    Goes m (code "\\" ∷ t) v
+pass_escape m t s v e q g b = let (y, a, h) = g (b || is_negated e) in (escape_in_class b e ++ y, a, escaped q h)
 
 pub pass_nested : (m : ℕ) (t s v : Text) → ClassGoes m t s → Goes m s v → Goes m (code "[" ∷ t) v
 pass_nested m t s v k g b =
@@ -80,7 +81,7 @@ abbrev class_marks : Text
 class_marks = codes "\\.+*?()|[]{}^$#&-~"
 
 abbrev Escapes : ℕ → Type 0
-Escapes c = (m p : ℕ) (s : Text) → escape m (bare false) true p (c ∷ s) ≡ gives (literal c false) s
+Escapes c = (m p : ℕ) (s : Text) → escape m (unicode_flags false) true p (c ∷ s) ≡ gives (literal c false) s
 
 escapes_marks : Each Escapes class_marks
 unfolding escape

@@ -21,7 +21,7 @@ use Rattle.fancy_lex.specs.Text.{Text, bytes, place_of}
 use Rattle.fancy_lex.proofs.ClassLaws.{class_complete, class_reads}
 use Rattle.fancy_grammar.specs.Ahead.{leaf_node, leaf_outcome}
 use Rattle.fancy_grammar.specs.Tree.{delegate}
-use Rattle.fancy_grammar.specs.Normal.{bare, case_flags, class_of, whole_leaf, normal}
+use Rattle.fancy_grammar.specs.Normal.{unicode_flags, case_flags, class_of, whole_leaf, normal}
 use Rattle.fancy_grammar.specs.Printable.{printable}
 use Rattle.fancy_grammar.proofs.ReadBack.ScalarLemmas.{scalars_append}
 use Rattle.fancy_grammar.proofs.ReadBack.ClassChunks.{ClassGoes, Chunk}
@@ -39,24 +39,24 @@ use Rattle.fancy_grammar.proofs.ReadBack.ClearLemmas.{Each, no_more, also, each_
 
 -- the text is one whole class or class escape
 abbrev IsWhole : Text → Type 0
-IsWhole w = (all_scalars w && is_some (class_of (bare false) w)) ≡ true
+IsWhole w = (all_scalars w && is_some (class_of (unicode_flags false) w)) ≡ true
 
 class_whole : (t : Text) → all_scalars t ≡ true → ClassGoes (bytes (code "[" ∷ t)) t [] → IsWhole (code "[" ∷ t)
 unfolding class_of
 class_whole t k g =
     let (y, a, h) = g false in
     and_from (all_scalars (code "[" ∷ t)) _ k
-    (ap (λ o. is_some (whole_leaf (leaf_outcome (λ w. delegate w false) (st (bare false) (code "[" ∷ t)) o)))
-    (class_complete (bytes (code "[" ∷ t)) (bare false) t _ h))
+    (ap (λ o. is_some (whole_leaf (leaf_outcome (λ w. delegate w false) (st (unicode_flags false) (code "[" ∷ t)) o)))
+    (class_complete (bytes (code "[" ∷ t)) (unicode_flags false) t _ h))
 
 escape_whole : (t w : Text) (b : Bool) → all_scalars t ≡ true →
-    escape (bytes (code "\\" ∷ t)) (bare false) false (place_of (bytes (code "\\" ∷ t)) (code "\\" ∷ t)) t ≡ gives
-    (escaped.delegate w b) [] →
+    escape (bytes (code "\\" ∷ t)) (unicode_flags false) false (place_of (bytes (code "\\" ∷ t)) (code "\\" ∷ t)) t
+    ≡ gives (escaped.delegate w b) [] →
     IsWhole (code "\\" ∷ t)
 unfolding class_of
 escape_whole t w b k e =
     and_from (all_scalars (code "\\" ∷ t)) _ k
-    (ap (λ o. is_some (whole_leaf (leaf_outcome leaf_node (st (bare false) (code "\\" ∷ t)) o))) e)
+    (ap (λ o. is_some (whole_leaf (leaf_outcome leaf_node (st (unicode_flags false) (code "\\" ∷ t)) o))) e)
 
 -- ---- a class
 
@@ -212,7 +212,7 @@ escape_stays u i t h =
     ap printable (escape_normal u i t x c (same n p []))
     ∙ subst WholeOf (same n p []) (outside_whole u i n p (t ++ []) (scalars_append t [] k refl))
 
-no_class : {X : Type 0} (s : Text) → false ≡ is_some (class_of (bare false) s) → IsWhole s → X
+no_class : {X : Type 0} (s : Text) → false ≡ is_some (class_of (unicode_flags false) s) → IsWhole s → X
 no_class s e h = absurd (false≢true (e ∙ (and_parts (all_scalars s) _ h).1))
 
 pub delegates_stay : (u i : Bool) (s : Text) → IsWhole s → printable (normal u (delegate s i)) ≡ true

@@ -12,7 +12,7 @@ use Rattle.fancy_lex.specs.Text.{Text, bytes, place_of}
 use Rattle.fancy_grammar.specs.Ahead.{leaf, leaf_node, leaf_outcome}
 use Rattle.fancy_grammar.specs.State.{State, Outcome}
 use Rattle.fancy_grammar.specs.Tree.{Tree, delegate}
-use Rattle.fancy_grammar.specs.Normal.{case_flags, bare, whole_of, whole_leaf, class_of, normal}
+use Rattle.fancy_grammar.specs.Normal.{case_flags, unicode_flags, whole_of, whole_leaf, class_of, normal}
 use Rattle.fancy_grammar.proofs.ReadBack.CarriedLaws.{class_carries, escape_carries}
 use Rattle.fancy_grammar.proofs.ReadBack.RuleLemmas.{st, AtomAs, reads_leaf, leaf_at}
 use Rattle.fancy_grammar.proofs.ReadBack.ShapeLemmas.{DelegateText}
@@ -34,10 +34,10 @@ bracket_whole : (s : State) (o : Reading Text) →
 bracket_whole s (gives w v) h = (w, ap (gives w) (whole_is v (delegate w false) h).0)
 bracket_whole s (fails e) h = absurd (false≢true h)
 
-pub bracket_read : (t : Text) → is_some (class_of (bare false) (code "[" ∷ t)) ≡ true →
-    (w : Text) × (class (bytes (code "[" ∷ t)) (bare false) t ≡ gives w [])
+pub bracket_read : (t : Text) → is_some (class_of (unicode_flags false) (code "[" ∷ t)) ≡ true →
+    (w : Text) × (class (bytes (code "[" ∷ t)) (unicode_flags false) t ≡ gives w [])
 unfolding class_of
-bracket_read t h = bracket_whole (st (bare false) (code "[" ∷ t)) _ h
+bracket_read t h = bracket_whole (st (unicode_flags false) (code "[" ∷ t)) _ h
 
 pub bracket_normal : (u i : Bool) (t x : Text) →
     class (bytes (code "[" ∷ t)) (case_flags u i) (t ++ []) ≡ gives x [] →
@@ -57,7 +57,7 @@ bracket_atom n d u i t x v e =
     ∙ ap (λ o. leaf (leaf_outcome (λ w. delegate w i) (st g (code "[" ∷ (t ++ v))) o)) e)
     (record { is = λ r. refl; groups = tt })
 
-bracket_text : (t : Text) → is_some (class_of (bare false) (code "[" ∷ t)) ≡ true → DelegateText (code "[" ∷ t)
+bracket_text : (t : Text) → is_some (class_of (unicode_flags false) (code "[" ∷ t)) ≡ true → DelegateText (code "[" ∷ t)
 bracket_text t h =
     let (w, e) = bracket_read t h in
     record {
@@ -80,12 +80,12 @@ escape_whole : (s : State) (o : Reading Escape) → is_some (whole_leaf (leaf_ou
 escape_whole s (gives e v) h = let (z, d) = whole_is v (leaf_node e) h in escape_delegate s e v z d
 escape_whole s (fails e) h = absurd (false≢true h)
 
-pub escape_read : (t : Text) → is_some (class_of (bare false) (code "\\" ∷ t)) ≡ true
+pub escape_read : (t : Text) → is_some (class_of (unicode_flags false) (code "\\" ∷ t)) ≡ true
     → (w : Text) × (b : Bool)
-    × (escape (bytes (code "\\" ∷ t)) (bare false) false (place_of (bytes (code "\\" ∷ t)) (code "\\" ∷ t)) t ≡ gives
-    (escaped.delegate w b) [])
+    × (escape (bytes (code "\\" ∷ t)) (unicode_flags false) false (place_of (bytes (code "\\" ∷ t)) (code "\\" ∷ t)) t
+    ≡ gives (escaped.delegate w b) [])
 unfolding class_of
-escape_read t h = escape_whole (st (bare false) (code "\\" ∷ t)) _ h
+escape_read t h = escape_whole (st (unicode_flags false) (code "\\" ∷ t)) _ h
 
 pub escape_normal : (u i : Bool) (t x : Text) (b : Bool) →
     escape (bytes (code "\\" ∷ t)) (case_flags u i) false (place_of (bytes (code "\\" ∷ t)) (code "\\" ∷ t))
@@ -109,7 +109,8 @@ escape_atom n d u i t x v b e =
     ∙ ap (λ o. leaf (leaf_outcome leaf_node (st g (code "\\" ∷ (t ++ v))) o)) e)
     (record { is = λ r. refl; groups = tt })
 
-escape_text : (t : Text) → is_some (class_of (bare false) (code "\\" ∷ t)) ≡ true → DelegateText (code "\\" ∷ t)
+escape_text : (t : Text) → is_some (class_of (unicode_flags false) (code "\\" ∷ t)) ≡ true →
+    DelegateText (code "\\" ∷ t)
 escape_text t h =
     let (w, b, e) = escape_read t h in
     let n0 = bytes (code "\\" ∷ t) in
@@ -130,7 +131,7 @@ other_left r (c ∷ v) other = refl
 
 -- what begins with another character is no Delegate
 pub no_other : (c : ℕ) (t : Text) → (c == code "[") ≡ false → (c == code "\\") ≡ false →
-    false ≡ is_some (class_of (bare false) (c ∷ t))
+    false ≡ is_some (class_of (unicode_flags false) (c ∷ t))
 unfolding class_of
 no_other c t a b =
     let NoDelegate : Outcome Tree → Type 0 = λ o. false ≡ is_some (whole_leaf o) in
@@ -138,22 +139,22 @@ no_other c t a b =
     cond_both (c == code "^") _ _ NoDelegate (λ _. other_left _ t refl) (λ _.
     cond_both (c == code "$") _ _ NoDelegate (λ _. other_left _ t refl) (λ _. rw (b, a) (other_left _ t refl))))
 
-pub nothing_whole : false ≡ is_some (class_of (bare false) [])
+pub nothing_whole : false ≡ is_some (class_of (unicode_flags false) [])
 unfolding class_of
 nothing_whole = refl
 
 -- what is told of the text alone holds in front of any text, and under both settings
-pub delegate_text : (s : Text) → is_some (class_of (bare false) s) ≡ true → DelegateText s
+pub delegate_text : (s : Text) → is_some (class_of (unicode_flags false) s) ≡ true → DelegateText s
 delegate_text [] h = absurd (false≢true (nothing_whole ∙ h))
 delegate_text (c ∷ t) h = by_bracket (cases_eq c (code "[")) where
   by_escape : (c ≢ code "[") → (c ≡ code "\\") ⊎ (c ≢ code "\\") → DelegateText (c ∷ t)
   by_escape a (inl e) =
       subst (λ x. DelegateText (x ∷ t)) (sym e)
-      (escape_text t (subst (λ x. is_some (class_of (bare false) (x ∷ t)) ≡ true) e h))
+      (escape_text t (subst (λ x. is_some (class_of (unicode_flags false) (x ∷ t)) ≡ true) e h))
   by_escape a (inr b) = absurd (false≢true (no_other c t (ne_eqb c (code "[") a) (ne_eqb c (code "\\") b) ∙ h))
 
   by_bracket : (c ≡ code "[") ⊎ (c ≢ code "[") → DelegateText (c ∷ t)
   by_bracket (inl e) =
       subst (λ x. DelegateText (x ∷ t)) (sym e)
-      (bracket_text t (subst (λ x. is_some (class_of (bare false) (x ∷ t)) ≡ true) e h))
+      (bracket_text t (subst (λ x. is_some (class_of (unicode_flags false) (x ∷ t)) ≡ true) e h))
   by_bracket (inr a) = by_escape a (cases_eq c (code "\\"))

@@ -10,7 +10,7 @@ use Rattle.fancy_lex.specs.declared.escape.Assertion.TheVariants.{LeftWordBounda
 use Rattle.fancy_lex.specs.declared.escape.Assertion.TheVariants.{RightWordBoundary, RightWordHalfBoundary}
 use Rattle.fancy_lex.specs.declared.escape.Assertion.TheVariants.{WordBoundary, NotWordBoundary}
 use Rattle.fancy_parts.specs.Quote.{behind_backslash, quote_as, quote, quotes, quantifier}
-use Rattle.fancy_grammar.specs.Printed.{any_text, assertion_text, grouped, caseless, is_long, printed, repeated}
+use Rattle.fancy_grammar.specs.Printed.{any_text, assertion_text, grouped, caseless, is_long, printed, operand_text}
 use Rattle.fancy_grammar.specs.Printed.{printed_all, printed_branches, barred}
 use Rattle.fancy_grammar.specs.Tree.{Tree, Trees, no_trees, more_trees, any, assertion, literal, concat, alt, group}
 use Rattle.fancy_grammar.specs.Tree.{repeat, delegate}
@@ -147,8 +147,8 @@ mutual
       let w = quantifier lo hi greedy ++ close_if (nat_lt 2 p) v in
       ap (open_if (nat_lt 2 p))
       (ap (open_if (is_long t)) (put_text t 3 (close_if (is_long t) w)) ∙ grouped_put (is_long t) (printed t 3) w
-      ∙ sym (append_assoc (repeated t) (quantifier lo hi greedy) (close_if (nat_lt 2 p) v)))
-      ∙ grouped_put (nat_lt 2 p) (repeated t ++ quantifier lo hi greedy) v
+      ∙ sym (append_assoc (operand_text t) (quantifier lo hi greedy) (close_if (nat_lt 2 p) v)))
+      ∙ grouped_put (nat_lt 2 p) (operand_text t ++ quantifier lo hi greedy) v
   put_text _ p v = refl
 
   puts_text : (ts : Trees) (v : Text) → puts ts v ≡ printed_all ts ++ v

@@ -9,18 +9,19 @@ use Rattle.fancy_grammar.specs.Depth.{max_depth}
 use Rattle.fancy_parts.specs.Quote.{behind_backslash, quantifier}
 use Rattle.fancy_grammar.specs.Grammar.{DerivesTree}
 use Rattle.fancy_grammar.specs.Join.{solid, join, choice}
-use Rattle.fancy_grammar.specs.Normal.{character, pieces_of, case_flags, bare, normal, normal_pieces, normals}
+use Rattle.fancy_grammar.specs.Normal.{normal_character, pieces_of, case_flags, unicode_flags, normal, normal_pieces}
+use Rattle.fancy_grammar.specs.Normal.{normals}
 use Rattle.fancy_grammar.specs.Quantified.{is_repeatable}
-use Rattle.fancy_grammar.specs.Printed.{is_long, printed, repeated, printed_all, printed_branches, grouped}
+use Rattle.fancy_grammar.specs.Printed.{is_long, printed, operand_text, printed_all, printed_branches, grouped}
 use Rattle.fancy_grammar.specs.Tree.{Tree, Trees, no_trees, more_trees, empty, any, assertion, literal, concat, alt}
 use Rattle.fancy_grammar.specs.Tree.{group, repeat, delegate, define_group}
-use Rattle.fancy_grammar.specs.Nest.{nest, nests, one_if, is_line}
+use Rattle.fancy_grammar.specs.Nest.{nest, nests, one_if, is_at_line}
 use Rattle.fancy_grammar.proofs.ReadBack.InFront.{put, puts, put_branches, put_barred, put_repeated, put_any}
 use Rattle.fancy_grammar.proofs.ReadBack.InFront.{put_assertion, put_quotes, open_if, close_if, put_alone}
 use Rattle.fancy_grammar.proofs.ReadBack.ClearLemmas.{Clear, Stops, Ends, clear_close, stops_bar, ends_close}
 use Rattle.fancy_grammar.proofs.ReadBack.ClearLemmas.{ends_nothing}
 use Rattle.fancy_grammar.proofs.ReadBack.CountTexts.{NoName, clear_name, quantifier_read}
-use Rattle.fancy_grammar.proofs.ReadBack.RuleLemmas.{Becomes, kept_bare, kept_case, AtomAs, BranchAs, BranchesAs}
+use Rattle.fancy_grammar.proofs.ReadBack.RuleLemmas.{Becomes, kept_unicode, kept_case, AtomAs, BranchAs, BranchesAs}
 use Rattle.fancy_grammar.proofs.ReadBack.RuleLemmas.{WholeAs, Run, no_run, run_chain, reads_piece, reads_repeat}
 use Rattle.fancy_grammar.proofs.ReadBack.RuleLemmas.{reads_branch, reads_last, reads_more, reads_whole, reads_only}
 use Rattle.fancy_grammar.proofs.ReadBack.RuleLemmas.{reads_group, reads_grouped, reads_caseless, reads_char, reads_text}
@@ -33,16 +34,16 @@ use Rattle.fancy_grammar.proofs.ReadBack.ShapeLemmas.{clear_put, clear_puts}
 
 -- what k prints, with m groups nested, reads as the tree x
 abbrev pub ReadsAtom : Bool → (Text → Text) → ℕ → Tree → Type 0
-ReadsAtom u k m x = (n d : ℕ) (v : Text) → d + m < max_depth → NoName v → AtomAs n d (bare u) (k v) v x
+ReadsAtom u k m x = (n d : ℕ) (v : Text) → d + m < max_depth → NoName v → AtomAs n d (unicode_flags u) (k v) v x
 
 abbrev pub ReadsRun : Bool → (Text → Text) → ℕ → List Tree → Type 0
-ReadsRun u k m ys = (n d : ℕ) (v : Text) → d + m < max_depth → Clear v → Run n d (bare u) (k v) v ys
+ReadsRun u k m ys = (n d : ℕ) (v : Text) → d + m < max_depth → Clear v → Run n d (unicode_flags u) (k v) v ys
 
 abbrev pub ReadsBranch : Bool → (Text → Text) → ℕ → Tree → Type 0
-ReadsBranch u k m x = (n d : ℕ) (v : Text) → d + m < max_depth → Stops v → BranchAs n d (bare u) (k v) v x
+ReadsBranch u k m x = (n d : ℕ) (v : Text) → d + m < max_depth → Stops v → BranchAs n d (unicode_flags u) (k v) v x
 
 abbrev pub ReadsWhole : Bool → (Text → Text) → ℕ → Tree → Type 0
-ReadsWhole u k m x = (n d : ℕ) (v : Text) → d + m < max_depth → Ends v → WholeAs n d (bare u) (k v) v x
+ReadsWhole u k m x = (n d : ℕ) (v : Text) → d + m < max_depth → Ends v → WholeAs n d (unicode_flags u) (k v) v x
 
 abbrev pub Starts : (Text → Text) → Type 0
 Starts k = (v : Text) → Begins (k v)
@@ -50,7 +51,7 @@ Starts k = (v : Text) → Begins (k v)
 atom_run : (u : Bool) (k : Text → Text) (m : ℕ) (x : Tree) → Starts k → ReadsAtom u k m x →
     ReadsRun u k m (solid (x ∷ []))
 atom_run u k m x s a n d v l c =
-    reads_piece n d (bare u) (k v) v x (kept_bare u) (s v).goes (s v).clear.no_comment c
+    reads_piece n d (unicode_flags u) (k v) v x (kept_unicode u) (s v).goes (s v).clear.no_comment c
     (a n d v l (clear_name v c))
 
 to_branch : (u : Bool) (k : Text → Text) (m : ℕ) (ys : List Tree) (x : Tree) → join ys ≡ x → ReadsRun u k m ys →
@@ -58,7 +59,7 @@ to_branch : (u : Bool) (k : Text → Text) (m : ℕ) (ys : List Tree) (x : Tree)
 to_branch u k m ys x e r n d v l h = reads_branch x (r n d v l h.clear) e h
 
 to_whole : (u : Bool) (k : Text → Text) (m : ℕ) (x : Tree) → ReadsBranch u k m x → ReadsWhole u k m x
-to_whole u k m x b n d v l e = reads_only n d (bare u) (k v) v x (b n d v l e.stops) e
+to_whole u k m x b n d v l e = reads_only n d (unicode_flags u) (k v) v x (b n d v l e.stops) e
 
 -- in a group of its own
 abbrev pub wrapped : (Text → Text) → Text → Text
@@ -66,7 +67,7 @@ wrapped k v = open_if true (k (code ")" ∷ v))
 
 wrap_atom : (u : Bool) (k : Text → Text) (m : ℕ) (x : Tree) → ReadsWhole u k m x → ReadsAtom u (wrapped k) (1 + m) x
 wrap_atom u k m x w n d v l _ =
-    reads_grouped n d (bare u) (k (code ")" ∷ v)) v x (kept_bare u) (omega arith)
+    reads_grouped n d (unicode_flags u) (k (code ")" ∷ v)) v x (kept_unicode u) (omega arith)
     (w n (d + 1) (code ")" ∷ v) (omega arith) (ends_close v))
 
 pub wrap_starts : (k : Text → Text) → Starts (wrapped k)
@@ -150,7 +151,7 @@ by_run u k m i x r =
 empty_reads : (u : Bool) → ReadsTree u empty
 empty_reads u =
     let k = λ (v : Text). v in
-    let r : ReadsRun u k 0 [] = λ n d v l c. no_run n d (bare u) v in
+    let r : ReadsRun u k 0 [] = λ n d v l c. no_run n d (unicode_flags u) v in
     let b = to_branch u k 0 [] empty refl r in
     record { atom = λ i. absurd i; high = r; run = r; branch = b; whole = to_whole u k 0 empty b }
 
@@ -171,7 +172,7 @@ assertion_is u _ = refl
 assertion_reads : (u : Bool) (a : Assertion) → HasText a → ReadsTree u (assertion a)
 assertion_reads u a h =
     let k = put_assertion a in
-    let m = one_if (is_line a) in
+    let m = one_if (is_at_line a) in
     subst (λ x. ReadsBy u k k k k m m m m (Unit {0}) x (solid (x ∷ []))) (assertion_is u a)
     (by_atom u k m (Unit {0}) (read_assertion a) (λ v. begins_assertion a v h)
     (λ n d v l e. reads_assertion n d u a v h l e))
@@ -180,7 +181,7 @@ caseless_reads : (u : Bool) (s : Text) → ReadsTree u (literal s true)
 caseless_reads u s =
     let k = λ (v : Text). code "(" ∷ code "?" ∷ code "i" ∷ code ":" ∷ put_quotes s (code ")" ∷ v) in
     let f = case_flags u true in
-    let x = join (map (character true) s) in
+    let x = join (map (normal_character true) s) in
     by_atom u k 1 (Unit {0}) x (λ v. begins_head (code "i") _ refl)
     (λ n d v l _. reads_caseless n d u (put_quotes s (code ")" ∷ v)) v x l
     (reads_only n (d + 1) f (put_quotes s (code ")" ∷ v)) (code ")" ∷ v) x
@@ -188,16 +189,16 @@ caseless_reads u s =
     (ends_close v).stops) (ends_close v)))
 
 literal_atom : (u : Bool) (s : Text) → IsAtom (literal s false) →
-    ReadsAtom u (put_quotes s) 0 (join (map (character false) s))
+    ReadsAtom u (put_quotes s) 0 (join (map (normal_character false) s))
 literal_atom u [] i n d v l _ = absurd i
-literal_atom u (c ∷ []) i n d v l _ = reads_char n d (bare u) c v (behind_backslash c) refl
+literal_atom u (c ∷ []) i n d v l _ = reads_char n d (unicode_flags u) c v (behind_backslash c) refl
 literal_atom u (c ∷ e ∷ cs) i n d v l _ = absurd i
 
 literal_reads : (u : Bool) (s : Text) → ReadsTree u (literal s false)
 literal_reads u s =
     let k = put_quotes s in
-    let ys = map (character false) s in
-    let r : ReadsRun u k 0 ys = λ n d v l c. quotes_run n d (bare u) s v (kept_bare u) c in
+    let ys = map (normal_character false) s in
+    let r : ReadsRun u k 0 ys = λ n d v l c. quotes_run n d (unicode_flags u) s v (kept_unicode u) c in
     let b = to_branch u k 0 ys (join ys) refl r in
     record { atom = literal_atom u s; high = r; run = r; branch = b; whole = to_whole u k 0 (join ys) b }
 
@@ -219,13 +220,13 @@ group_reads u t h r =
     let k = λ (v : Text). code "(" ∷ put t 0 (code ")" ∷ v) in
     by_atom u k (1 + nest t 0) (Unit {0}) (group (normal u t))
     (λ v. begins_group _ (clear_put t h 0 (code ")" ∷ v) (clear_close v)))
-    (λ n d v l _. reads_group n d (bare u) (put t 0 (code ")" ∷ v)) v (normal u t) (kept_bare u)
+    (λ n d v l _. reads_group n d (unicode_flags u) (put t 0 (code ")" ∷ v)) v (normal u t) (kept_unicode u)
     (omega arith) (clear_put t h 0 (code ")" ∷ v) (clear_close v))
     (r.whole n (d + 1) (code ")" ∷ v) (omega arith) (ends_close v)))
 
 concat_run : (u : Bool) (ts : Trees) → ArePrintable ts → EachReads u ts →
     ReadsRun u (puts ts) (nests ts 2) (normal_pieces u ts)
-concat_run u no_trees h r n d v l c = no_run n d (bare u) v
+concat_run u no_trees h r n d v l c = no_run n d (unicode_flags u) v
 concat_run u (more_trees t ts) h r n d v l c =
     run_chain (r.0.run n d (puts ts v) (omega arith) (clear_puts ts h.1 v c))
     (concat_run u ts h.1 r.1 n d v (omega arith) c)
@@ -237,21 +238,21 @@ concat_reads u ts h r =
 
 alt_branches : (u : Bool) (t : Tree) (ts : Trees) → ReadsTree u t → EachReads u ts → (n d : ℕ) (v : Text) →
     d + nest t 1 < max_depth → d + nests ts 1 < max_depth → Ends v
-    → BranchesAs n d (bare u) (put t 1 (put_barred ts v)) v (normal u t ∷ normals u ts)
+    → BranchesAs n d (unicode_flags u) (put t 1 (put_barred ts v)) v (normal u t ∷ normals u ts)
 alt_branches u t no_trees r rs n d v l m e =
-    reads_last n d (bare u) (put t 1 v) v (normal u t) (r.branch n d v l e.stops) e
+    reads_last n d (unicode_flags u) (put t 1 v) v (normal u t) (r.branch n d v l e.stops) e
 alt_branches u t (more_trees x xs) r rs n d v l m e =
-    reads_more n d (bare u) (put t 1 (code "|" ∷ put x 1 (put_barred xs v))) (put x 1 (put_barred xs v)) v (normal u t)
-    (normal u x ∷ normals u xs)
+    reads_more n d (unicode_flags u) (put t 1 (code "|" ∷ put x 1 (put_barred xs v))) (put x 1 (put_barred xs v)) v
+    (normal u t) (normal u x ∷ normals u xs)
     (r.branch n d (code "|" ∷ put x 1 (put_barred xs v)) l (stops_bar _))
     (alt_branches u x xs rs.0 rs.1 n d v (omega arith) (omega arith) e)
 
 alt_whole : (u : Bool) (ts : Trees) → EachReads u ts →
     ReadsWhole u (put_branches ts) (nests ts 1) (choice (normals u ts))
 alt_whole u no_trees r n d v l e =
-    reads_only n d (bare u) v v empty (reads_branch empty (no_run n d (bare u) v) refl e.stops) e
+    reads_only n d (unicode_flags u) v v empty (reads_branch empty (no_run n d (unicode_flags u) v) refl e.stops) e
 alt_whole u (more_trees t ts) r n d v l e =
-    reads_whole n d (bare u) (put t 1 (put_barred ts v)) v (normal u t ∷ normals u ts)
+    reads_whole n d (unicode_flags u) (put t 1 (put_barred ts v)) v (normal u t ∷ normals u ts)
     (alt_branches u t ts r.0 r.1 n d v (omega arith) (omega arith) e)
 
 alt_reads : (u : Bool) (ts : Trees) → EachReads u ts → ReadsTree u (alt ts)
@@ -274,7 +275,7 @@ atom_if u true k m x a w = wrap_atom u k m x w
 atom_if u false k m x a w = λ n d v l c. a refl n d v (omega arith) c
 
 -- what a quantifier is put behind is one atom
-repeated_atom : (u : Bool) (t : Tree) → is_repeatable (bare false) (normal false t) ≡ true → ReadsTree u t →
+repeated_atom : (u : Bool) (t : Tree) → is_repeatable (unicode_flags false) (normal false t) ≡ true → ReadsTree u t →
     ReadsAtom u (put_repeated t) (one_if (is_long t) + nest t 3) (normal u t)
 repeated_atom u t n r =
     atom_if u (is_long t) (put t 3) (nest t 3) (normal u t) (λ e. r.atom (atom_of t n e)) (from_run u t 3 r.high)
@@ -286,8 +287,8 @@ repeat_run u t lo hi greedy h r n d v l c =
     let q = quantifier lo hi greedy ++ v in
     let m = quantifier_read lo hi greedy v h.2 h.3 in
     let b = begins_repeated t (h.1 false) (begins_atom t h.0) q in
-    reads_repeat n d (bare u) (put_repeated t q) q v (normal u t) lo hi greedy
-    (kept_bare u) b.goes b.clear.no_comment c m (h.1 u)
+    reads_repeat n d (unicode_flags u) (put_repeated t q) q v (normal u t) lo hi greedy
+    (kept_unicode u) b.goes b.clear.no_comment c m (h.1 u)
     (repeated_atom u t (h.1 false) r n d q l m.no_name)
 
 repeat_reads : (u : Bool) (t : Tree) (lo hi : ℕ) (greedy : Bool) → Printable (repeat t lo hi greedy) → ReadsTree u t →
@@ -322,7 +323,7 @@ pub text_high : (t : Tree) (p : ℕ) → 3 ≤ p → printed t p ≡ printed t 3
 text_high (concat ts) p h = ap (λ b. grouped b (printed_all ts)) (lt-ltb 1 p (omega arith))
 text_high (alt ts) p h = ap (λ b. grouped b (printed_branches ts)) (lt-ltb 0 p (omega arith))
 text_high (repeat t lo hi greedy) p h =
-    ap (λ b. grouped b (repeated t ++ quantifier lo hi greedy)) (lt-ltb 2 p (omega arith))
+    ap (λ b. grouped b (operand_text t ++ quantifier lo hi greedy)) (lt-ltb 2 p (omega arith))
 text_high t p h = refl
 
 pub nest_high : (t : Tree) (p : ℕ) → 3 ≤ p → nest t p ≡ nest t 3
@@ -333,10 +334,11 @@ nest_high (repeat t lo hi greedy) p h =
 nest_high t p h = refl
 
 abbrev ReadsFrom : Bool → Tree → Text → Type 0
-ReadsFrom u t s = (r : Tree) × DerivesTree (bare u) s r × Becomes r (normal u t)
+ReadsFrom u t s = (r : Tree) × DerivesTree (unicode_flags u) s r × Becomes r (normal u t)
 
-from_whole : (u : Bool) (t : Tree) (s : Text) → WholeAs (bytes s) 0 (bare u) s [] (normal u t) → ReadsFrom u t s
-from_whole u t s w = reads_text (bare u) s (normal u t) w
+from_whole : (u : Bool) (t : Tree) (s : Text) → WholeAs (bytes s) 0 (unicode_flags u) s [] (normal u t) →
+    ReadsFrom u t s
+from_whole u t s w = reads_text (unicode_flags u) s (normal u t) w
 
 at_level : (t : Tree) (p : ℕ) (u : Bool) → nest t p < max_depth → ReadsWhole u (put t p) (nest t p) (normal u t) →
     ReadsFrom u t (printed t p)

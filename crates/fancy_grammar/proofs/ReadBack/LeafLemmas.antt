@@ -22,15 +22,15 @@ use Rattle.fancy_parts.specs.LetterSteps.{letters}
 use Rattle.fancy_parts.specs.Quote.{behind_backslash, needs_backslash}
 use Rattle.fancy_grammar.specs.State as states
 use Rattle.fancy_grammar.specs.Ahead.{leaf, ahead, leaf_node, leaf_outcome}
-use Rattle.fancy_grammar.specs.Normal.{character, bare}
+use Rattle.fancy_grammar.specs.Normal.{normal_character, unicode_flags}
 use Rattle.fancy_grammar.specs.State.{done}
 use Rattle.fancy_grammar.specs.Tree.{Tree, any, assertion}
-use Rattle.fancy_grammar.specs.Nest.{one_if, is_line}
+use Rattle.fancy_grammar.specs.Nest.{one_if, is_at_line}
 use Rattle.fancy_grammar.proofs.ReadBack.InFront.{put_as, put_quotes, put_any, put_line, put_assertion}
 use Rattle.fancy_grammar.proofs.ReadBack.ClearLemmas.{begins_mark, Clear, not_open, clear_close, ends_close}
 use Rattle.fancy_grammar.proofs.ReadBack.ClearLemmas.{apart, behind_none}
 use Rattle.fancy_grammar.proofs.ReadBack.CountTexts.{NoName}
-use Rattle.fancy_grammar.proofs.ReadBack.RuleLemmas.{Kept, kept_bare, st, AtomAs, WholeAs, Run, no_run, run_chain}
+use Rattle.fancy_grammar.proofs.ReadBack.RuleLemmas.{Kept, kept_unicode, st, AtomAs, WholeAs, Run, no_run, run_chain}
 use Rattle.fancy_grammar.proofs.ReadBack.RuleLemmas.{reads_piece, reads_branch, reads_only, join_one, reads_scope}
 use Rattle.fancy_grammar.proofs.ReadBack.RuleLemmas.{scope_at, one_letter, two_letters, spelled, last_letter}
 use Rattle.fancy_grammar.proofs.ReadBack.RuleLemmas.{more_letters, reads_leaf, leaf_at, reads_char}
@@ -73,33 +73,34 @@ quotes_clear (c ∷ cs) v h = (begins_char c (put_quotes cs v) (behind_backslash
 
 -- characters where nothing follows that takes the last
 pub quotes_run : (n d : ℕ) (f : Flags) (cs v : Text) → Kept f → Clear v →
-    Run n d f (put_quotes cs v) v (map (character f.casei) cs)
+    Run n d f (put_quotes cs v) v (map (normal_character f.casei) cs)
 quotes_run n d f [] v k h = no_run n d f v
 quotes_run n d f (c ∷ cs) v k h =
     let s = put_quotes cs v in
     let b = begins_char c s (behind_backslash c) refl in
-    run_chain (reads_piece n d f (put_as c (behind_backslash c) s) s (character f.casei c) k b.goes b.clear.no_comment
+    run_chain (reads_piece n d f (put_as c (behind_backslash c) s) s (normal_character f.casei c) k b.goes
+    b.clear.no_comment
     (quotes_clear cs v h) (reads_char n d f c s (behind_backslash c) refl)) (quotes_run n d f cs v k h)
 
 -- ---- the flags of a group that is printed for a leaf
 
 -- `(?s:`
 abbrev dotnl_flags : Bool → Flags
-dotnl_flags u = record (bare u) { dotnl = true }
+dotnl_flags u = record (unicode_flags u) { dotnl = true }
 
 kept_dotnl : (u : Bool) → Kept (dotnl_flags u)
 kept_dotnl u = record { no_space = refl; not_swapped = refl; not_oniguruma = refl }
 
 -- `(?R-s:`
 abbrev crlf_flags : Bool → Flags
-crlf_flags u = record (bare u) { crlf = true }
+crlf_flags u = record (unicode_flags u) { crlf = true }
 
 kept_crlf : (u : Bool) → Kept (crlf_flags u)
 kept_crlf u = record { no_space = refl; not_swapped = refl; not_oniguruma = refl }
 
 -- `(?m:` or `(?Rm:`
 abbrev multi_flags : Bool → Bool → Flags
-multi_flags u crlf = record (bare u) { multi = true; crlf = crlf }
+multi_flags u crlf = record (unicode_flags u) { multi = true; crlf = crlf }
 
 kept_multi : (u crlf : Bool) → Kept (multi_flags u crlf)
 kept_multi u crlf = record { no_space = refl; not_swapped = refl; not_oniguruma = refl }
@@ -117,7 +118,7 @@ begins_dot : (v : Text) → Begins (code "." ∷ v)
 begins_dot v = begins_by refl refl refl
 
 minus_letters : (n : ℕ) (u : Bool) (s : Text) →
-    letters n (bare u) (code "R" ∷ code "-" ∷ code "s" ∷ code ":" ∷ s) ≡ gives (scoped (crlf_flags u)) s
+    letters n (unicode_flags u) (code "R" ∷ code "-" ∷ code "s" ∷ code ":" ∷ s) ≡ gives (scoped (crlf_flags u)) s
 unfolding bytes
 minus_letters n u s =
     let t = code "R" ∷ code "-" ∷ code "s" ∷ code ":" ∷ s in
@@ -125,8 +126,8 @@ minus_letters n u s =
     let far : (bytes (code ":" ∷ s) + 1 == bytes t) ≡ false =
     ne_eqb (bytes (code ":" ∷ s) + 1) (bytes t) (omega arith) in
     let k = kept_crlf u in
-    spelled n 3 (bare u) t (scoped g) s
-    (more_letters n t false (bare u) t (kept_bare u) refl 2 false g (code "-" ∷ code "s" ∷ code ":" ∷ s)
+    spelled n 3 (unicode_flags u) t (scoped g) s
+    (more_letters n t false (unicode_flags u) t (kept_unicode u) refl 2 false g (code "-" ∷ code "s" ∷ code ":" ∷ s)
     (scoped g) s refl
     (more_letters n t false g (code "-" ∷ code "s" ∷ code ":" ∷ s) k refl 1 true g (code "s" ∷ code ":" ∷ s)
     (scoped g) s refl
@@ -135,26 +136,26 @@ minus_letters n u s =
     (omega arith)
 
 pub reads_any : (n d : ℕ) (u a b : Bool) (v : Text) → d + one_if (a || b) < max_depth →
-    AtomAs n d (bare u) (put_any a b v) v (any a (not a && b))
+    AtomAs n d (unicode_flags u) (put_any a b v) v (any a (not a && b))
 reads_any n d u true b v l =
     let g = dotnl_flags u in
-    reads_scope n d (bare u) g (put_any true b v) (code "." ∷ code ")" ∷ v) v (any true false)
-    (scope_at n d (bare u) g (code "s" ∷ code ":" ∷ code "." ∷ code ")" ∷ v) (code "." ∷ code ")" ∷ v) (kept_bare u) l
-    refl refl
-    (one_letter n (bare u) g (code "s") (code "." ∷ code ")" ∷ v) (kept_bare u)
+    reads_scope n d (unicode_flags u) g (put_any true b v) (code "." ∷ code ")" ∷ v) v (any true false)
+    (scope_at n d (unicode_flags u) g (code "s" ∷ code ":" ∷ code "." ∷ code ")" ∷ v) (code "." ∷ code ")" ∷ v)
+    (kept_unicode u) l refl refl
+    (one_letter n (unicode_flags u) g (code "s") (code "." ∷ code ")" ∷ v) (kept_unicode u)
     (kept_dotnl u) refl refl))
     (whole_atom n (d + 1) g (code "." ∷ code ")" ∷ v) v (any true false) (kept_dotnl u) (begins_dot (code ")" ∷ v))
     (reads_dot n (d + 1) g (code ")" ∷ v)))
 reads_any n d u false true v l =
     let g = crlf_flags u in
-    reads_scope n d (bare u) g (put_any false true v) (code "." ∷ code ")" ∷ v) v (any false true)
-    (scope_at n d (bare u) g (code "R" ∷ code "-" ∷ code "s" ∷ code ":" ∷ code "." ∷ code ")" ∷ v)
+    reads_scope n d (unicode_flags u) g (put_any false true v) (code "." ∷ code ")" ∷ v) v (any false true)
+    (scope_at n d (unicode_flags u) g (code "R" ∷ code "-" ∷ code "s" ∷ code ":" ∷ code "." ∷ code ")" ∷ v)
     (code "." ∷ code ")" ∷ v)
-    (kept_bare u) l refl refl
+    (kept_unicode u) l refl refl
     (minus_letters n u (code "." ∷ code ")" ∷ v)))
     (whole_atom n (d + 1) g (code "." ∷ code ")" ∷ v) v (any false true) (kept_crlf u) (begins_dot (code ")" ∷ v))
     (reads_dot n (d + 1) g (code ")" ∷ v)))
-reads_any n d u false false v l = reads_dot n d (bare u) v
+reads_any n d u false false v l = reads_dot n d (unicode_flags u) v
 
 pub begins_any : (a b : Bool) (v : Text) → Begins (put_any a b v)
 begins_any true b v = begins_by refl refl refl
@@ -165,21 +166,23 @@ begins_any false false v = begins_dot v
 
 -- an anchor under MULTI in a group of its own
 line_atom : (n d c : ℕ) (u r : Bool) (v : Text) (x : Tree) → d + 1 < max_depth → Begins (c ∷ code ")" ∷ v) →
-    AtomAs n (d + 1) (multi_flags u r) (c ∷ code ")" ∷ v) (code ")" ∷ v) x → AtomAs n d (bare u) (put_line c r v) v x
+    AtomAs n (d + 1) (multi_flags u r) (c ∷ code ")" ∷ v) (code ")" ∷ v) x →
+    AtomAs n d (unicode_flags u) (put_line c r v) v x
 unfolding bytes
 line_atom n d c u false v x l b a =
     let g = multi_flags u false in
-    reads_scope n d (bare u) g (put_line c false v) (c ∷ code ")" ∷ v) v x
-    (scope_at n d (bare u) g (code "m" ∷ code ":" ∷ c ∷ code ")" ∷ v) (c ∷ code ")" ∷ v) (kept_bare u) l refl refl
-    (one_letter n (bare u) g (code "m") (c ∷ code ")" ∷ v) (kept_bare u)
+    reads_scope n d (unicode_flags u) g (put_line c false v) (c ∷ code ")" ∷ v) v x
+    (scope_at n d (unicode_flags u) g (code "m" ∷ code ":" ∷ c ∷ code ")" ∷ v) (c ∷ code ")" ∷ v)
+    (kept_unicode u) l refl refl
+    (one_letter n (unicode_flags u) g (code "m") (c ∷ code ")" ∷ v) (kept_unicode u)
     (kept_multi u false) refl refl))
     (whole_atom n (d + 1) g (c ∷ code ")" ∷ v) v x (kept_multi u false) b a)
 line_atom n d c u true v x l b a =
     let g = multi_flags u true in
-    reads_scope n d (bare u) g (put_line c true v) (c ∷ code ")" ∷ v) v x
-    (scope_at n d (bare u) g (code "R" ∷ code "m" ∷ code ":" ∷ c ∷ code ")" ∷ v) (c ∷ code ")" ∷ v) (kept_bare u) l refl
-    refl
-    (two_letters n (bare u) (crlf_flags u) g (code "R") (code "m") (c ∷ code ")" ∷ v) (kept_bare u)
+    reads_scope n d (unicode_flags u) g (put_line c true v) (c ∷ code ")" ∷ v) v x
+    (scope_at n d (unicode_flags u) g (code "R" ∷ code "m" ∷ code ":" ∷ c ∷ code ")" ∷ v) (c ∷ code ")" ∷ v)
+    (kept_unicode u) l refl refl
+    (two_letters n (unicode_flags u) (crlf_flags u) g (code "R") (code "m") (c ∷ code ")" ∷ v) (kept_unicode u)
     (kept_crlf u) (kept_multi u true) (omega arith) refl refl refl refl))
     (whole_atom n (d + 1) g (c ∷ code ")" ∷ v) v x (kept_multi u true) b a)
 
@@ -190,7 +193,7 @@ anchor : (n d : ℕ) (f : Flags) (c : ℕ) (v : Text) (a : Assertion) →
 anchor n d f c v a e = reads_leaf n d f (c ∷ v) v (assertion a) e (record { is = λ g. refl; groups = tt })
 
 start_line : (n d : ℕ) (u r : Bool) (v : Text) → d + 1 < max_depth →
-    AtomAs n d (bare u) (put_line (code "^") r v) v (assertion (StartLine r))
+    AtomAs n d (unicode_flags u) (put_line (code "^") r v) v (assertion (StartLine r))
 start_line n d u r v l =
     let f = multi_flags u r in
     line_atom n d (code "^") u r v (assertion (StartLine r)) l (record {
@@ -201,7 +204,7 @@ start_line n d u r v l =
     (leaf_at n (d + 1) f (code "^") (code ")" ∷ v) refl refl))
 
 end_line : (n d : ℕ) (u r : Bool) (v : Text) → d + 1 < max_depth →
-    AtomAs n d (bare u) (put_line (code "$") r v) v (assertion (EndLine r))
+    AtomAs n d (unicode_flags u) (put_line (code "$") r v) v (assertion (EndLine r))
 end_line n d u r v l =
     let f = multi_flags u r in
     line_atom n d (code "$") u r v (assertion (EndLine r)) l (record {
@@ -212,12 +215,12 @@ end_line n d u r v l =
 
 -- an escape that is a leaf
 reads_assertion_escape : (n d : ℕ) (u : Bool) (t v : Text) (a : Assertion) →
-    ((p : ℕ) → escape n (bare u) false p t ≡ gives (escaped.assertion a) v) →
-    AtomAs n d (bare u) (code "\\" ∷ t) v (assertion a)
+    ((p : ℕ) → escape n (unicode_flags u) false p t ≡ gives (escaped.assertion a) v) →
+    AtomAs n d (unicode_flags u) (code "\\" ∷ t) v (assertion a)
 reads_assertion_escape n d u t v a e =
-    reads_leaf n d (bare u) (code "\\" ∷ t) v (assertion a)
-    (leaf_at n d (bare u) (code "\\") t refl refl
-    ∙ ap (λ r. leaf (leaf_outcome leaf_node (st (bare u) (code "\\" ∷ t)) r)) (e (place_of n (code "\\" ∷ t))))
+    reads_leaf n d (unicode_flags u) (code "\\" ∷ t) v (assertion a)
+    (leaf_at n d (unicode_flags u) (code "\\") t refl refl
+    ∙ ap (λ r. leaf (leaf_outcome leaf_node (st (unicode_flags u) (code "\\" ∷ t)) r)) (e (place_of n (code "\\" ∷ t))))
     (record { is = λ g. refl; groups = tt })
 
 half_start : (n p : ℕ) (v : Text) →
@@ -235,22 +238,22 @@ unfolding boundary named_boundary name layout_from
 half_end n p v = refl
 
 boundary_escape : (n : ℕ) (u : Bool) (p : ℕ) (t : Text) →
-    escape n (bare u) false p (code "b" ∷ t) ≡ boundary n false p false t
+    escape n (unicode_flags u) false p (code "b" ∷ t) ≡ boundary n false p false t
 unfolding escape outside
 boundary_escape n u p t = refl
 
 no_boundary_escape : (n : ℕ) (u : Bool) (p : ℕ) (t : Text) →
-    escape n (bare u) false p (code "B" ∷ t) ≡ boundary n false p true t
+    escape n (unicode_flags u) false p (code "B" ∷ t) ≡ boundary n false p true t
 unfolding escape outside
 no_boundary_escape n u p t = refl
 
 left_escape : (n : ℕ) (u : Bool) (p : ℕ) (t : Text) →
-    escape n (bare u) false p (code "<" ∷ t) ≡ gives (escaped.assertion LeftWordBoundary) t
+    escape n (unicode_flags u) false p (code "<" ∷ t) ≡ gives (escaped.assertion LeftWordBoundary) t
 unfolding escape outside
 left_escape n u p t = refl
 
 right_escape : (n : ℕ) (u : Bool) (p : ℕ) (t : Text) →
-    escape n (bare u) false p (code ">" ∷ t) ≡ gives (escaped.assertion RightWordBoundary) t
+    escape n (unicode_flags u) false p (code ">" ∷ t) ≡ gives (escaped.assertion RightWordBoundary) t
 unfolding escape outside
 right_escape n u p t = refl
 
@@ -263,12 +266,13 @@ abbrev pub HasText : Assertion → Type 0
 HasText (EndTextIgnoreTrailingNewlines crlf) = ⊥
 HasText _ = Unit {0}
 
-pub reads_assertion : (n d : ℕ) (u : Bool) (a : Assertion) (v : Text) → HasText a → d + one_if (is_line a) < max_depth →
-    NoName v → AtomAs n d (bare u) (put_assertion a v) v (read_assertion a)
-reads_assertion n d u StartText v h l m = anchor n d (bare u) (code "^") v StartText
-    (leaf_at n d (bare u) (code "^") v refl refl)
-reads_assertion n d u EndText v h l m = anchor n d (bare u) (code "$") v EndText
-    (leaf_at n d (bare u) (code "$") v refl refl)
+pub reads_assertion : (n d : ℕ) (u : Bool) (a : Assertion) (v : Text) → HasText a →
+    d + one_if (is_at_line a) < max_depth → NoName v →
+    AtomAs n d (unicode_flags u) (put_assertion a v) v (read_assertion a)
+reads_assertion n d u StartText v h l m = anchor n d (unicode_flags u) (code "^") v StartText
+    (leaf_at n d (unicode_flags u) (code "^") v refl refl)
+reads_assertion n d u EndText v h l m = anchor n d (unicode_flags u) (code "$") v EndText
+    (leaf_at n d (unicode_flags u) (code "$") v refl refl)
 reads_assertion n d u (EndTextIgnoreTrailingNewlines crlf) v h l m = absurd h
 reads_assertion n d u (StartLine crlf) v h l m = start_line n d u crlf v l
 reads_assertion n d u (StartLineOniguruma crlf) v h l m = start_line n d u crlf v l

@@ -10,7 +10,7 @@ use Rattle.fancy_lex.specs.Text.{Text}
 use Rattle.fancy_lex.specs.declared.escape.Assertion.TheVariants.{StartLineOniguruma, EndTextIgnoreTrailingNewlines}
 use Rattle.fancy_parts.specs.Quote.{behind_backslash}
 use Rattle.fancy_grammar.specs.Join.{is_empty, solid, one_or, join, choice}
-use Rattle.fancy_grammar.specs.Normal.{character, pieces_of, normal, normal_pieces, normals}
+use Rattle.fancy_grammar.specs.Normal.{normal_character, pieces_of, normal, normal_pieces, normals}
 use Rattle.fancy_grammar.specs.Printable.{is_count, printable, all_printable, takes_quantifier}
 use Rattle.fancy_grammar.specs.Tree.{Tree, Trees, no_trees, more_trees, empty, any, assertion, literal, concat, alt}
 use Rattle.fancy_grammar.specs.Tree.{group, repeat, delegate, define_group, trees_of}
@@ -68,7 +68,7 @@ single_char : (c : ℕ) (m : Bool) → pieces_of (literal (c ∷ []) m) (literal
 single_char c true = refl
 single_char c false = refl
 
-characters_fixed : (u b : Bool) (cs : Text) → AllFixed u (map (character b) cs)
+characters_fixed : (u b : Bool) (cs : Text) → AllFixed u (map (normal_character b) cs)
 characters_fixed u b [] = tt
 characters_fixed u b (c ∷ cs) = (
   record {
@@ -91,7 +91,7 @@ mutual
   fixed : (v u : Bool) (t : Tree) → has_delegate t ≡ false → Fixed v (normal u t)
   fixed v u (any a b) h = any_fixed v a b
   fixed v u (assertion (StartLineOniguruma crlf)) h = record { same = refl; single = refl }
-  fixed v u (literal s i) h = join_fixed v (map (character i) s) (characters_fixed v i s)
+  fixed v u (literal s i) h = join_fixed v (map (normal_character i) s) (characters_fixed v i s)
   fixed v u (delegate s i) h = absurd (true≢false h)
   fixed v u (concat ts) h = join_fixed v (normal_pieces u ts) (all_items v u ts h)
   fixed v u (alt ts) h = choice_fixed v (normals u ts) (all_normals v u ts h)
@@ -165,7 +165,7 @@ choice_kept [] h = empty_kept
 choice_kept (x ∷ []) h = h.0
 choice_kept (x ∷ y ∷ l) h = record { is = all_are (x ∷ y ∷ l) h; stays = refl }
 
-characters_kept : (b : Bool) (cs : Text) → all_scalars cs ≡ true → AllKept (map (character b) cs)
+characters_kept : (b : Bool) (cs : Text) → all_scalars cs ≡ true → AllKept (map (normal_character b) cs)
 characters_kept b [] h = tt
 characters_kept b (c ∷ cs) h = (
   record {
@@ -204,7 +204,7 @@ mutual
   kept u (assertion (EndTextIgnoreTrailingNewlines crlf)) h = absurd (false≢true h)
   kept u (assertion (StartLineOniguruma crlf)) h = record { is = refl; stays = refl }
   kept u (assertion a) h = record { is = refl; stays = refl }
-  kept u (literal s i) h = join_kept (map (character i) s) (characters_kept i s h)
+  kept u (literal s i) h = join_kept (map (normal_character i) s) (characters_kept i s h)
   kept u (delegate s i) h = delegate_kept _ (delegate_class _ s (delegate s i) tt) (delegates_stay u i s h)
   kept u (concat ts) h = join_kept (normal_pieces u ts) (kept_items u ts h)
   kept u (alt ts) h = choice_kept (normals u ts) (kept_normals u ts h)

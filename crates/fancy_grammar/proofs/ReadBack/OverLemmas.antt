@@ -13,7 +13,7 @@ use Rattle.fancy_grammar.specs.Depth.{max_depth, most_open}
 use Rattle.fancy_grammar.specs.Printed.{is_long, printed}
 use Rattle.fancy_grammar.specs.Tree.{Tree, Trees, no_trees, more_trees, any, assertion, literal, concat, alt, group}
 use Rattle.fancy_grammar.specs.Tree.{repeat, delegate}
-use Rattle.fancy_grammar.specs.Nest.{one_if, is_line, nest, nests}
+use Rattle.fancy_grammar.specs.Nest.{one_if, is_at_line, nest, nests}
 use Rattle.fancy_grammar.specs.Over.{Paren, Parens, no_parens, in_group, parens, parens_all, parens_branches}
 use Rattle.fancy_grammar.specs.Over.{parens_barred, is_too_deep, over}
 
@@ -168,7 +168,7 @@ one_group t f = group_finds (codes "(") (parens t 0) (nest t 0) (place t 0) f
 mutual
   parens_find : (t : Tree) (p : ℕ) → Finds (parens t p) (nest t p) (place t p)
   parens_find (any newline crlf) p = leaf_finds (newline || crlf)
-  parens_find (assertion a) p = leaf_finds (is_line a)
+  parens_find (assertion a) p = leaf_finds (is_at_line a)
   parens_find (literal s casei) p = leaf_finds casei
   parens_find (delegate s casei) p = leaf_finds casei
   parens_find (concat ts) p = if_finds (nat_lt 1 p) (parens_all ts) (nests ts 2) (places ts) (all_find ts)

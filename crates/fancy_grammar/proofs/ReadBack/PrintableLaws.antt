@@ -11,7 +11,8 @@ use Rattle.fancy_lex.specs.Text.{Text}
 use Rattle.fancy_lex.specs.declared.escape.Assertion.TheVariants.{EndTextIgnoreTrailingNewlines, StartLineOniguruma}
 use Rattle.fancy_lex.specs.declared.flags.Flags.{Flags}
 use Rattle.fancy_grammar.specs.Join.{is_empty, solid, one_or, join, choice}
-use Rattle.fancy_grammar.specs.Normal.{character, pieces_of, bare, class_of, whole_leaf, whole_of, normal}
+use Rattle.fancy_grammar.specs.Normal.{normal_character, pieces_of, unicode_flags, class_of, whole_leaf, whole_of}
+use Rattle.fancy_grammar.specs.Normal.{normal}
 use Rattle.fancy_grammar.specs.Normal.{normal_pieces, normals}
 use Rattle.fancy_grammar.specs.Printable.{is_count, printable, all_printable, takes_quantifier}
 use Rattle.fancy_grammar.specs.Quantified.{is_repeatable}
@@ -29,7 +30,7 @@ count_below n h = grind (arith, nat_tests)
 -- ---- a normal form is Empty, or a quantifier may stand behind it
 
 abbrev Good : Tree → Type 0
-Good t = (u : Bool) → is_repeatable (bare u) t ≡ not (is_empty t)
+Good t = (u : Bool) → is_repeatable (unicode_flags u) t ≡ not (is_empty t)
 
 abbrev AllGood : List Tree → Type 0
 AllGood l = AllByRecursion Good l
@@ -44,7 +45,7 @@ good_choice [] h = λ _. refl
 good_choice (t ∷ []) h = h.0
 good_choice (t ∷ u ∷ l) h = λ _. refl
 
-good_characters : (i : Bool) (s : Text) → AllGood (map (character i) s)
+good_characters : (i : Bool) (s : Text) → AllGood (map (normal_character i) s)
 good_characters i [] = tt
 good_characters i (c ∷ s) = (λ _. refl, good_characters i s)
 
@@ -74,7 +75,8 @@ mutual
   good_normal u (any a b) h = λ _. refl
   good_normal u (assertion (StartLineOniguruma crlf)) h = λ _. refl
   good_normal u (assertion a) h = λ _. refl
-  good_normal u (literal s i) h = good_one (solid (map (character i) s)) (each_solid Good _ (good_characters i s))
+  good_normal u (literal s i) h = good_one (solid (map (normal_character i) s))
+      (each_solid Good _ (good_characters i s))
   good_normal u (delegate s i) h = (good_delegate _ (delegate_class _ s (delegate s i) tt)).0
   good_normal u (concat ts) h = good_one (solid (normal_pieces u ts)) (each_solid Good _ (good_items u ts h))
   good_normal u (alt ts) h = good_choice (normals u ts) (good_normals u ts h)
@@ -118,9 +120,9 @@ abbrev mutual
   blank_choice (more_trees t no_trees) = blank t
   blank_choice (more_trees t (more_trees u ts)) = false
 
-characters_empty : (i : Bool) (s : Text) → is_empty (join (map (character i) s)) ≡ blank (literal s i)
+characters_empty : (i : Bool) (s : Text) → is_empty (join (map (normal_character i) s)) ≡ blank (literal s i)
 characters_empty i [] = refl
-characters_empty i (c ∷ s) = join_empty (map (character i) (c ∷ s))
+characters_empty i (c ∷ s) = join_empty (map (normal_character i) (c ∷ s))
 
 mutual
   pub normal_empty : (u : Bool) (t : Tree) → is_empty (normal u t) ≡ blank t
@@ -143,7 +145,7 @@ mutual
   choice_empty u (more_trees t (more_trees v ts)) = refl
 
 takes : (t : Tree) → Printable t → not (is_empty (normal false t)) ≡ true → (u : Bool) →
-    is_repeatable (bare u) (normal u t) ≡ true
+    is_repeatable (unicode_flags u) (normal u t) ≡ true
 takes t h e u = good_normal u t h u ∙ ap not (normal_empty u t ∙ sym (normal_empty false t)) ∙ e
 
 mutual

@@ -17,7 +17,7 @@ use Rattle.fancy_parts.specs.Quantifier.{most}
 use Rattle.fancy_parts.specs.Quote.{needs_backslash, quote_as, quote, quotes, range, mark, counts_as, counts_text}
 use Rattle.fancy_parts.specs.Quote.{quantifier}
 use Rattle.fancy_grammar.specs.Printable.{is_count, printable, all_printable, takes_quantifier}
-use Rattle.fancy_grammar.specs.Printed.{any_text, assertion_text, grouped, caseless, is_long, printed, repeated}
+use Rattle.fancy_grammar.specs.Printed.{any_text, assertion_text, grouped, caseless, is_long, printed, operand_text}
 use Rattle.fancy_grammar.specs.Printed.{printed_all, printed_branches, barred}
 use Rattle.fancy_grammar.specs.Tree.{Tree, Trees, no_trees, more_trees, any, assertion, literal, concat, alt, group}
 use Rattle.fancy_grammar.specs.Tree.{repeat, delegate}
@@ -101,7 +101,7 @@ repeat_scalars : (t : Tree) (lo hi : ℕ) (greedy : Bool) (p : ℕ) → (is_coun
 repeat_scalars t lo hi greedy p counts h =
     let (l, k) = and_parts (is_count lo) (is_count hi) counts in
     grouped_scalars (nat_lt 2 p) _
-    (scalars_append (repeated t) (quantifier lo hi greedy) (grouped_scalars (is_long t) (printed t 3) h)
+    (scalars_append (operand_text t) (quantifier lo hi greedy) (grouped_scalars (is_long t) (printed t 3) h)
     (quantifier_scalars lo hi greedy (count_below lo l) (count_below hi k)))
 
 mutual

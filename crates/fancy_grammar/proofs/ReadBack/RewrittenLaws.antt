@@ -5,8 +5,8 @@ use Rattle.std.proofs.lemmas.Bool.{and_from, and_parts}
 use Rattle.std.specs.Char.{IsScalar}
 use Rattle.std.specs.Str.{all_scalars}
 use Prim.Native.Char.{code}
-use Rattle.fancy_lex.specs.Class.{Class, class_items, Items, close, plain, escaped, nested, written, class_head}
-use Rattle.fancy_lex.specs.Class.{with_mark, item_text, joint, escape_text, is_plain, is_negated}
+use Rattle.fancy_lex.specs.Class.{Class, class_items, ClassItems, close, plain, escaped, nested, written, class_head}
+use Rattle.fancy_lex.specs.Class.{with_mark, escape_in_class, joint, escape_text, is_plain_in_class, is_negated}
 use Rattle.fancy_lex.specs.Escape.{escape}
 use Rattle.fancy_lex.specs.Escaped.{Escape, literal, literal_bytes, delegate}
 use Rattle.fancy_lex.specs.Reading.{Reading, gives, choose}
@@ -26,7 +26,7 @@ text_chunk (literal_bytes v) h = byte_chunk v h
 text_chunk (delegate w b) h = h
 text_chunk _ h = absurd h
 
-item_chunk : (b : Bool) (e : Escape) → Fine e → Chunk (item_text b e)
+item_chunk : (b : Bool) (e : Escape) → Fine e → Chunk (escape_in_class b e)
 item_chunk b e h = by_joint (b && is_negated e) where
   by_joint : (x : Bool) → Chunk (joint x ++ escape_text e)
   by_joint true = both_chunk (codes "&&") (escape_text e) amp_chunk (text_chunk e h)
@@ -134,7 +134,8 @@ opened_again t p w (opened head r h) k = head_again t head r w h k
 from_fine : (o : Reading Escape) (e : Escape) (r : Text) → o ≡ gives e r → FineOf o → Fine e
 from_fine o e r q h = subst FineOf q h
 
-plain_again : (c : ℕ) (t w : Text) → is_plain c ≡ true → IsScalar c → ItemsAgain t w → ItemsAgain (c ∷ t) (c ∷ w)
+plain_again : (c : ℕ) (t w : Text) → is_plain_in_class c ≡ true → IsScalar c → ItemsAgain t w →
+    ItemsAgain (c ∷ t) (c ∷ w)
 plain_again c t w p k h = record {
   goes = λ m s. pass_plain m c (w ++ s) s p (h.goes m s);
   no_caret = λ e s. same_front (code "^") c t (w ++ s) e;
@@ -187,8 +188,8 @@ mutual
       all_scalars v ≡ true
   class_rest {t} (class_items {u} {head} e h) k = items_rest h (head_rest t head u e k)
 
-  items_rest : {n : ℕ} {f : Flags} {b a : Bool} {t w v : Text} → Items n f b t (written w a v) → all_scalars t ≡ true →
-      all_scalars v ≡ true
+  items_rest : {n : ℕ} {f : Flags} {b a : Bool} {t w v : Text} → ClassItems n f b t (written w a v) →
+      all_scalars t ≡ true → all_scalars v ≡ true
   items_rest close k = k
   items_rest (plain {c} {t} p h) k = items_rest h (and_parts _ (all_scalars t) k).1
   items_rest {n} {f} (escaped {t} {u} {e} q h) k = items_rest h (escape_rest n f _ t u e q k)
@@ -203,7 +204,7 @@ mutual
   class_again {t} (class_items {u} {head} {w} e h) k =
       opened_again t _ w (subst (Opened t) e (class_head_is t)) (items_again h (head_rest t head u e k))
 
-  items_again : {n : ℕ} {u i b a : Bool} {t w v : Text} → Items n (case_flags u i) b t (written w a v) →
+  items_again : {n : ℕ} {u i b a : Bool} {t w v : Text} → ClassItems n (case_flags u i) b t (written w a v) →
       all_scalars t ≡ true → ItemsAgain t w
   items_again close k =
       record {
@@ -215,7 +216,7 @@ mutual
   items_again (plain {c} {t} {w} p h) k =
       let (here, more) = and_parts _ (all_scalars t) k in plain_again c t w p here (items_again h more)
   items_again {n} {u} {i} {b} (escaped {t} {u = r} {w} {e} q h) k =
-      escaped_again t r w (item_text b e) (item_chunk b e (from_fine _ e r q (escape_fine u i n _ t k)))
+      escaped_again t r w (escape_in_class b e) (item_chunk b e (from_fine _ e r q (escape_fine u i n _ t k)))
       (items_again h (escape_rest n (case_flags u i) _ t r e q k))
   items_again (nested {t} {u = r} {x} {w} g h) k =
       nested_again t r w x (class_again g k) (items_again h (class_rest g k))

@@ -13,7 +13,7 @@ use Rattle.fancy_lex.specs.LayoutSteps.{layout, after_comment_head, rest}
 use Rattle.fancy_lex.specs.Reading.{gives, choose, layout_reading}
 use Rattle.fancy_lex.specs.Text.{Text, bytes, place_of}
 use Rattle.fancy_lex.specs.declared.flags.Flags.{Flags}
-use Rattle.fancy_parts.specs.FlagLetters.{Letters, scope as scoped, ends, goes}
+use Rattle.fancy_parts.specs.FlagLetters.{Letters, scope as scoped, flags_end, flags_go_on}
 use Rattle.fancy_parts.specs.LetterSteps.{letters, letters_in, step}
 use Rattle.fancy_parts.specs.Quantifier.{counts}
 use Rattle.fancy_parts.specs.Quote.{behind_backslash, needs_backslash}
@@ -40,7 +40,7 @@ use Rattle.fancy_grammar.specs.Tree as tree
 use Rattle.fancy_grammar.specs.Tree.{Tree, empty, literal, concat, alt, repeat, trees_of, ast_node}
 use Rattle.fancy_grammar.specs.Tree.{ast_group, ast_backref, ast_call, ast_condition}
 use Rattle.fancy_grammar.proofs.OutcomeLemmas.{before-nil, solid-append, each_append, each_solid}
-use Rattle.fancy_grammar.specs.Normal.{bare, case_flags}
+use Rattle.fancy_grammar.specs.Normal.{unicode_flags, case_flags}
 use Rattle.fancy_grammar.proofs.ReadBack.InFront.{put_as}
 use Rattle.fancy_grammar.proofs.ReadBack.ClearLemmas.{Clear, no_layout, clear_counts, clear_lazy, clear_star}
 use Rattle.fancy_grammar.proofs.ReadBack.ClearLemmas.{clear_plus, Stops, Ends, apart, behind_none, behind_some}
@@ -55,8 +55,8 @@ pub record Kept (f : Flags) : Type 0 where
   pub not_swapped : f.swap_greed ≡ false
   pub not_oniguruma : f.oniguruma_mode ≡ false
 
-pub kept_bare : (u : Bool) → Kept (bare u)
-kept_bare u = record { no_space = refl; not_swapped = refl; not_oniguruma = refl }
+pub kept_unicode : (u : Bool) → Kept (unicode_flags u)
+kept_unicode u = record { no_space = refl; not_swapped = refl; not_oniguruma = refl }
 
 pub kept_case : (u i : Bool) → Kept (case_flags u i)
 kept_case u i = record { no_space = refl; not_swapped = refl; not_oniguruma = refl }
@@ -404,11 +404,11 @@ abbrev pub Spelled : ℕ → Text → ℕ → Bool → Flags → Text → Letter
 Spelled n t k c f u l w = (j : ℕ) → k < j → letters_in n t j c f u ≡ gives l w
 
 module _ (n : ℕ) (t : Text) (c : Bool) (f : Flags) (u : Text) (h : Kept f) (o : after_comment_head u ≡ None) where
-  pub last_letter : (l : Letters) (w : Text) → step n t c f u ≡ gives (ends l) w → Spelled n t 0 c f u l w
+  pub last_letter : (l : Letters) (w : Text) → step n t c f u ≡ gives (flags_end l) w → Spelled n t 0 c f u l w
   last_letter l w e j m = in_end n t c f u j 0 m u (ap layout_reading (skip_here n f u h o)) l w e
 
   pub more_letters : (k : ℕ) (b : Bool) (g : Flags) (v : Text) (l : Letters) (w : Text) →
-      step n t c f u ≡ gives (goes b g) v → Spelled n t k b g v l w → Spelled n t (k + 1) c f u l w
+      step n t c f u ≡ gives (flags_go_on b g) v → Spelled n t k b g v l w → Spelled n t (k + 1) c f u l w
   more_letters k b g v l w e r j m =
       let (i, q, same) =
       in_go n t c f u j (k + 1) m u (ap layout_reading (skip_here n f u h o)) k b g v (omega arith) e in
@@ -437,7 +437,7 @@ reads_grouped n d f s v x k l w = reads_scope n d f f (code "(" ∷ code "?" ∷
 -- one letter and a colon
 pub one_letter : (n : ℕ) (f g : Flags) (c : ℕ) (s : Text) → Kept f → Kept g →
     after_comment_head (c ∷ code ":" ∷ s) ≡ None →
-    step n (c ∷ code ":" ∷ s) false f (c ∷ code ":" ∷ s) ≡ gives (goes false g) (code ":" ∷ s) →
+    step n (c ∷ code ":" ∷ s) false f (c ∷ code ":" ∷ s) ≡ gives (flags_go_on false g) (code ":" ∷ s) →
     letters n f (c ∷ code ":" ∷ s) ≡ gives (scoped g) s
 unfolding bytes
 one_letter n f g c s k m o e =
@@ -448,8 +448,8 @@ one_letter n f g c s k m o e =
 
 pub two_letters : (n : ℕ) (f g h : Flags) (b c : ℕ) (s : Text) → Kept f → Kept g → Kept h → 1 ≤ bytes (b ∷ []) →
     after_comment_head (b ∷ c ∷ code ":" ∷ s) ≡ None → after_comment_head (c ∷ code ":" ∷ s) ≡ None →
-    step n (b ∷ c ∷ code ":" ∷ s) false f (b ∷ c ∷ code ":" ∷ s) ≡ gives (goes false g) (c ∷ code ":" ∷ s) →
-    step n (b ∷ c ∷ code ":" ∷ s) false g (c ∷ code ":" ∷ s) ≡ gives (goes false h) (code ":" ∷ s) →
+    step n (b ∷ c ∷ code ":" ∷ s) false f (b ∷ c ∷ code ":" ∷ s) ≡ gives (flags_go_on false g) (c ∷ code ":" ∷ s) →
+    step n (b ∷ c ∷ code ":" ∷ s) false g (c ∷ code ":" ∷ s) ≡ gives (flags_go_on false h) (code ":" ∷ s) →
     letters n f (b ∷ c ∷ code ":" ∷ s) ≡ gives (scoped h) s
 unfolding bytes
 two_letters n f g h b c s k m p z o q e r =
@@ -462,13 +462,13 @@ two_letters n f g h b c s k m p z o q e r =
 -- `(?i:`
 pub reads_caseless : (n d : ℕ) (u : Bool) (s v : Text) (x : Tree) → d + 1 < max_depth →
     WholeAs n (d + 1) (case_flags u true) s (code ")" ∷ v) x →
-    AtomAs n d (bare u) (code "(" ∷ code "?" ∷ code "i" ∷ code ":" ∷ s) v x
+    AtomAs n d (unicode_flags u) (code "(" ∷ code "?" ∷ code "i" ∷ code ":" ∷ s) v x
 reads_caseless n d u s v x l w =
-    let f = bare u in
+    let f = unicode_flags u in
     let g = case_flags u true in
     reads_scope n d f g (code "(" ∷ code "?" ∷ code "i" ∷ code ":" ∷ s) s v x
-    (scope_at n d f g (code "i" ∷ code ":" ∷ s) s (kept_bare u) l refl refl
-    (one_letter n f g (code "i") s (kept_bare u) (kept_case u true) refl refl)) w
+    (scope_at n d f g (code "i" ∷ code ":" ∷ s) s (kept_unicode u) l refl refl
+    (one_letter n f g (code "i") s (kept_unicode u) (kept_case u true) refl refl)) w
 
 -- ---- leaves
 

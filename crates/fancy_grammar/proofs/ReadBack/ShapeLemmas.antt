@@ -8,7 +8,7 @@ use Rattle.fancy_grammar.specs.Printed.{is_long}
 use Rattle.fancy_grammar.specs.Quantified.{is_repeatable}
 use Rattle.fancy_grammar.specs.Tree.{Tree, Trees, no_trees, more_trees, empty, any, assertion, literal, concat, alt}
 use Rattle.fancy_grammar.specs.Tree.{group, repeat, delegate, define_group}
-use Rattle.fancy_grammar.specs.Normal.{case_flags, bare, normal}
+use Rattle.fancy_grammar.specs.Normal.{case_flags, unicode_flags, normal}
 use Rattle.fancy_grammar.proofs.ReadBack.InFront.{put, puts, put_branches, put_barred, put_repeated, open_if, close_if}
 use Rattle.fancy_grammar.proofs.ReadBack.ClearLemmas.{Clear, not_asking, clear_lazy, clear_close, stops_bar}
 use Rattle.fancy_grammar.proofs.ReadBack.RuleLemmas.{AtomAs}
@@ -32,7 +32,7 @@ abbrev mutual
   Printable (alt ts) = ArePrintable ts
   Printable (group t) = Printable t
   Printable (repeat t lo hi greedy) =
-      Printable t × ((u : Bool) → is_repeatable (bare u) (normal u t) ≡ true) × (lo < 2 ^ 64) × (hi < 2 ^ 64)
+      Printable t × ((u : Bool) → is_repeatable (unicode_flags u) (normal u t) ≡ true) × (lo < 2 ^ 64) × (hi < 2 ^ 64)
   Printable (define_group t) = Unit {0}
   Printable _ = ⊥
 
@@ -50,7 +50,7 @@ IsAtom empty = ⊥
 IsAtom (define_group t) = ⊥
 IsAtom _ = Unit {0}
 
-pub atom_of : (t : Tree) → is_repeatable (bare false) (normal false t) ≡ true → is_long t ≡ false → IsAtom t
+pub atom_of : (t : Tree) → is_repeatable (unicode_flags false) (normal false t) ≡ true → is_long t ≡ false → IsAtom t
 atom_of (literal s true) n l = tt
 atom_of (literal [] false) n l = absurd (false≢true n)
 atom_of (literal (c ∷ []) false) n l = tt
@@ -67,7 +67,7 @@ pub begins_group : (s : Text) → Clear s → Begins (code "(" ∷ s)
 begins_group s c = record { clear = record { no_comment = not_asking s (clear_lazy s c); no_mark = refl }; goes = refl }
 
 -- what a quantifier is put behind begins an atom
-pub begins_repeated : (t : Tree) → is_repeatable (bare false) (normal false t) ≡ true →
+pub begins_repeated : (t : Tree) → is_repeatable (unicode_flags false) (normal false t) ≡ true →
     (IsAtom t → (w : Text) → Begins (put t 3 w)) → (v : Text) → Begins (put_repeated t v)
 begins_repeated t n h v = by_length (is_long t) refl where
   by_length : (b : Bool) → is_long t ≡ b → Begins (open_if b (put t 3 (close_if b v)))

@@ -14,7 +14,7 @@ use Rattle.fancy_lex.specs.declared.error.Error.TheVariants.{ParseError}
 use Rattle.fancy_lex.specs.declared.error.ParseError.TheVariants.{RecursionExceeded}
 use Rattle.fancy_lex.specs.declared.flags.Flags.{Flags}
 use Rattle.fancy_parts.specs.Meaning.{first_fault}
-use Rattle.fancy_parts.specs.Ranks.{counted_in, named_groups, numbers, name_cmp}
+use Rattle.fancy_parts.specs.Ranks.{numbered_openings_in, named_groups, numbers, name_cmp}
 use Rattle.fancy_parts.specs.Written.{is_numeric}
 use Rattle.fancy_grammar.specs.Depth.{max_depth}
 use Rattle.fancy_grammar.specs.Answer.{IsTreeOf, of_reading}
@@ -28,7 +28,7 @@ use Rattle.fancy_grammar.specs.Tree.{Tree, empty}
 use Rattle.fancy_grammar.proofs.AnsweredLaws.{groups_total}
 use Rattle.fancy_grammar.proofs.Verdict.{only_tree, no_fault, only_reading}
 use Rattle.fancy_grammar.specs.Nest.{nest}
-use Rattle.fancy_grammar.specs.Normal.{bare, normal}
+use Rattle.fancy_grammar.specs.Normal.{unicode_flags, normal}
 use Rattle.fancy_grammar.specs.Over.{over}
 use Rattle.fancy_grammar.specs.Printable.{printable}
 use Rattle.fancy_grammar.specs.ReadBack.{marks_of_groups, Answer, read, refused, IsAnswerOf, IsOnlyAnswer, read_back}
@@ -46,16 +46,16 @@ no_references [] h = refl
 no_references (opening o ∷ l) h = no_references l h.1
 no_references (reference r ∷ l) h = absurd h
 
-no_names : (l : List Item) → OnlyGroups l → filter_map (λ o. o.name) (counted_in false (openings_in l)) ≡ []
+no_names : (l : List Item) → OnlyGroups l → filter_map (λ o. o.name) (numbered_openings_in false (openings_in l)) ≡ []
 no_names [] h = refl
 no_names (opening o ∷ l) h = rw h.0 (no_names l h.1)
 no_names (reference r ∷ l) h = absurd h
 
 marks_are : (u : Bool) (text : Text) (r : Tree) → OnlyGroups (items r) →
-    marks (bare u) text r ≡ marks_of_groups (length (counted_in false (openings r)))
+    marks (unicode_flags u) text r ≡ marks_of_groups (length (numbered_openings_in false (openings r)))
 marks_are u text r h =
     let none = no_references (items r) h in
-    let numbered = counted_in false (openings r) in
+    let numbered = numbered_openings_in false (openings r) in
     let unnamed : named_groups numbered ≡ [] =
     ap (λ l. map (λ t. (t, numbers t numbered)) (fold (insert_key name_cmp) [] l)) (no_names (items r) h) in
     λ i. record {
@@ -72,14 +72,14 @@ marks_are u text r h =
 -- ---- the answer
 
 -- a text that derives a tree with groups alone
-tree_of : (u : Bool) (text : Text) (r x : Tree) → DerivesTree (bare u) text r → Becomes r x →
-    IsTreeOf (bare u) text x (marks_of_groups (length (groups x)))
+tree_of : (u : Bool) (text : Text) (r x : Tree) → DerivesTree (unicode_flags u) text r → Becomes r x →
+    IsTreeOf (unicode_flags u) text x (marks_of_groups (length (groups x)))
 tree_of u text r x d b =
-    let numbered = counted_in false (openings r) in
-    let none : fault_of (bare u) r ≡ None = ap (first_fault numbered) (no_references (items r) b.groups) in
-    let found : IsTreeOf (bare u) text x (marks_of_groups (length numbered)) =
+    let numbered = numbered_openings_in false (openings r) in
+    let none : fault_of (unicode_flags u) r ≡ None = ap (first_fault numbered) (no_references (items r) b.groups) in
+    let found : IsTreeOf (unicode_flags u) text x (marks_of_groups (length numbered)) =
     (r, d, none, sym (b.is numbered), sym (marks_are u text r b.groups)) in
-    subst (λ n. IsTreeOf (bare u) text x (marks_of_groups n)) (sym (groups_total found)) found
+    subst (λ n. IsTreeOf (unicode_flags u) text x (marks_of_groups n)) (sym (groups_total found)) found
 
 only_read : (f : Flags) (text : Text) (t : Tree) (m : Marks) → IsTreeOf f text t m → IsOnlyAnswer f text (read t m)
 only_read f text t m a = record { is = a; only = λ b h. other b h }
@@ -97,12 +97,13 @@ only_refused f text p a = record { is = of_reading a; only = λ b h. other b h }
     other (refused k q) h =
         let (e, d) = (only_reading (ParseError p RecursionExceeded) f text a).1 k q h in ap₂ refused e d
 
-only_answer : (t : Tree) (p : ℕ) (u : Bool) → printable t ≡ true → IsOnlyAnswer (bare u) (printed t p) (read_back u t p)
+only_answer : (t : Tree) (p : ℕ) (u : Bool) → printable t ≡ true →
+    IsOnlyAnswer (unicode_flags u) (printed t p) (read_back u t p)
 only_answer t p u h =
-    cond_both (nat_lt (nest t p) max_depth) _ _ (IsOnlyAnswer (bare u) (printed t p))
+    cond_both (nat_lt (nest t p) max_depth) _ _ (IsOnlyAnswer (unicode_flags u) (printed t p))
     (λ yes. let (r, d, b) = reads_back t p u (told t h) (ltb-true (nest t p) max_depth yes) in
-    only_read (bare u) (printed t p) (normal u t) _ (tree_of u (printed t p) r (normal u t) d b))
-    (λ no. only_refused (bare u) (printed t p) (over t p)
+    only_read (unicode_flags u) (printed t p) (normal u t) _ (tree_of u (printed t p) r (normal u t) d b))
+    (λ no. only_refused (unicode_flags u) (printed t p) (over t p)
     (too_deep t p u (told t h) (ltb-false (nest t p) max_depth no)))
 
 pub read_back_only : (t : Tree) (p : ℕ) → printable t ≡ true → IsReadBack t p (printed t p)
@@ -135,6 +136,6 @@ same_texts t s p q u h k l e =
     let here = only_answer t p u h in
     let there = only_answer s q u k in
     let same : read_back u s q ≡ read_back u t p =
-    here.only (read_back u s q) (subst (λ w. IsAnswerOf (bare u) w (read_back u s q)) (sym e) there.is) in
+    here.only (read_back u s q) (subst (λ w. IsAnswerOf (unicode_flags u) w (read_back u s q)) (sym e) there.is) in
     from_read (nat_lt (nest s q) max_depth) (normal u s) (normal u t) _ _ recursion_exceeded (over s q)
     (same ∙ read_where t p u l)

@@ -16,7 +16,7 @@ use Rattle.fancy_grammar.specs.State.{fault}
 use Rattle.fancy_grammar.specs.Tree.{Tree, Trees, no_trees, more_trees, empty, any, assertion, literal, concat, alt}
 use Rattle.fancy_grammar.specs.Tree.{group, repeat, delegate, define_group}
 use Rattle.fancy_grammar.specs.Nest.{one_if, nest, nests}
-use Rattle.fancy_grammar.specs.Normal.{bare}
+use Rattle.fancy_grammar.specs.Normal.{unicode_flags}
 use Rattle.fancy_grammar.specs.Over.{over}
 use Rattle.fancy_grammar.proofs.ReadBack.OverLemmas.{over_place, at_open, at_open_if, place, places, branch_places}
 use Rattle.fancy_grammar.proofs.ReadBack.OverLemmas.{barred_places}
@@ -27,7 +27,8 @@ use Rattle.fancy_grammar.proofs.ReadBack.ClearLemmas.{Clear, Ends, clear_close, 
 use Rattle.fancy_grammar.proofs.ReadBack.LeafLemmas.{begins_any, begins_assertion, HasText}
 use Rattle.fancy_grammar.proofs.ReadBack.Induction.{Starts, wrapped, wrap_starts, EachReads, reads_each, text_high}
 use Rattle.fancy_grammar.proofs.ReadBack.Induction.{nest_high}
-use Rattle.fancy_grammar.proofs.ReadBack.RuleLemmas.{st, kept_bare, fails_deep, fails_group, fails_grouped, fails_piece}
+use Rattle.fancy_grammar.proofs.ReadBack.RuleLemmas.{st, kept_unicode, fails_deep, fails_group, fails_grouped}
+use Rattle.fancy_grammar.proofs.ReadBack.RuleLemmas.{fails_piece}
 use Rattle.fancy_grammar.proofs.ReadBack.RuleLemmas.{fails_first, fails_more, fails_whole, fails_text}
 use Rattle.fancy_grammar.proofs.ReadBack.ShapeLemmas.{Printable, ArePrintable, begins_head, begins_group, begins_atom}
 use Rattle.fancy_grammar.proofs.ReadBack.ShapeLemmas.{begins_repeated, clear_put, clear_puts}
@@ -64,16 +65,16 @@ repeated_left t d v = left_if (is_long t) d (put t 3) (left t 3) v
 
 -- What k prints in front of v, with m groups nested, fails where o leaves.
 abbrev AtomFails : Bool → ℕ → ℕ → Text → Text → Type 0
-AtomFails u n d s at = Atom n d (st (bare u) s) (fault recursion_exceeded (place_of n at))
+AtomFails u n d s at = Atom n d (st (unicode_flags u) s) (fault recursion_exceeded (place_of n at))
 
 abbrev PiecesFail : Bool → ℕ → ℕ → Text → Text → Type 0
-PiecesFail u n d s at = Pieces n d (st (bare u) s) (fault recursion_exceeded (place_of n at))
+PiecesFail u n d s at = Pieces n d (st (unicode_flags u) s) (fault recursion_exceeded (place_of n at))
 
 abbrev BranchesFail : Bool → ℕ → ℕ → Text → Text → Type 0
-BranchesFail u n d s at = Branches n d (st (bare u) s) (fault recursion_exceeded (place_of n at))
+BranchesFail u n d s at = Branches n d (st (unicode_flags u) s) (fault recursion_exceeded (place_of n at))
 
 abbrev WholeFails : Bool → ℕ → ℕ → Text → Text → Type 0
-WholeFails u n d s at = Alternation n d (st (bare u) s) (fault recursion_exceeded (place_of n at))
+WholeFails u n d s at = Alternation n d (st (unicode_flags u) s) (fault recursion_exceeded (place_of n at))
 
 abbrev FailsAtom : Bool → (Text → Text) → ℕ → (ℕ → Text → Text) → Type 0
 FailsAtom u k m o = (n d : ℕ) (v : Text) → d < max_depth → max_depth ≤ d + m → AtomFails u n d (k v) (o d v)
@@ -102,12 +103,12 @@ EachFails u (more_trees t ts) = Fails u t × EachFails u ts
 
 to_whole : (u : Bool) (k : Text → Text) (m : ℕ) (o : ℕ → Text → Text) → FailsRun u k m o → FailsWhole u k m o
 to_whole u k m o r n d v l h e =
-    fails_whole n d (bare u) recursion_exceeded _ (k v)
-    (fails_first n d (bare u) recursion_exceeded _ (k v) (r n d v l h e.stops.clear))
+    fails_whole n d (unicode_flags u) recursion_exceeded _ (k v)
+    (fails_first n d (unicode_flags u) recursion_exceeded _ (k v) (r n d v l h e.stops.clear))
 
 atom_run : (u : Bool) (k : Text → Text) (m : ℕ) (o : ℕ → Text → Text) → Starts k → FailsAtom u k m o → FailsRun u k m o
 atom_run u k m o s a n d v l h _ =
-    fails_piece n d (bare u) recursion_exceeded _ (k v) (kept_bare u) (s v).goes
+    fails_piece n d (unicode_flags u) recursion_exceeded _ (k v) (kept_unicode u) (s v).goes
     (s v).clear.no_comment (a n d v l h)
 
 -- never wrapped
@@ -133,7 +134,7 @@ by_one : (u : Bool) (k : Text → Text) → ((v : Text) → (t : Text) × (k v �
     FailsBy u k k k k 1 1 1 1 (λ d v. k v) (λ d v. k v) (λ d v. k v) (λ d v. k v)
 by_one u k h s =
     by_atom u k 1 (λ d v. k v) s
-    (λ n d v l m. subst (λ w. AtomFails u n d w w) (sym (h v).1) (fails_deep n d (bare u) (h v).0 m))
+    (λ n d v l m. subst (λ w. AtomFails u n d w w) (sym (h v).1) (fails_deep n d (unicode_flags u) (h v).0 m))
 
 -- a group with something inside, that opens at here
 opened : (u : Bool) (n d : ℕ) (t inner : Text) → (d + 1 < max_depth → AtomFails u n d (code "(" ∷ t) inner) →
@@ -141,7 +142,7 @@ opened : (u : Bool) (n d : ℕ) (t inner : Text) → (d + 1 < max_depth → Atom
     AtomFails u n d (code "(" ∷ t) (left_open d (code "(" ∷ t) inner)
 opened u n d t inner f l =
     cond_both (nat_le most_open d) (code "(" ∷ t) inner (λ at. AtomFails u n d (code "(" ∷ t) at)
-    (λ yes. let h = leb-true most_open d yes in fails_deep n d (bare u) t (omega arith))
+    (λ yes. let h = leb-true most_open d yes in fails_deep n d (unicode_flags u) t (omega arith))
     (λ no. let h = leb-false most_open d no in f (omega arith))
 
 abbrev wrapped_left : (Text → Text) → (ℕ → Text → Text) → ℕ → Text → Text
@@ -152,7 +153,7 @@ wrap_fails : (u : Bool) (k : Text → Text) (m : ℕ) (o : ℕ → Text → Text
 wrap_fails u k m o w n d v l h =
     let s = k (code ")" ∷ v) in
     opened u n d (code "?" ∷ code ":" ∷ s) (o (d + 1) (code ")" ∷ v))
-    (λ b. fails_grouped n d (bare u) recursion_exceeded _ s (kept_bare u) b
+    (λ b. fails_grouped n d (unicode_flags u) recursion_exceeded _ s (kept_unicode u) b
     (w n (d + 1) (code ")" ∷ v) b (omega arith) (ends_close v))) l
 
 -- wrapped from 1 on, from 2 on, from 3 on
@@ -214,7 +215,7 @@ group_fails u t h r =
     by_atom u k (1 + nest t 0) (λ d v. left_open d (k v) (left t 0 (d + 1) (code ")" ∷ v)))
     (λ v. begins_group (put t 0 (code ")" ∷ v)) (clear v))
     (λ n d v l m. opened u n d (put t 0 (code ")" ∷ v)) (left t 0 (d + 1) (code ")" ∷ v))
-    (λ b. fails_group n d (bare u) recursion_exceeded _ (put t 0 (code ")" ∷ v)) (kept_bare u) b (clear v)
+    (λ b. fails_group n d (unicode_flags u) recursion_exceeded _ (put t 0 (code ")" ∷ v)) (kept_unicode u) b (clear v)
     (r.whole n (d + 1) (code ")" ∷ v) b (omega arith) (ends_close v))) l)
 
 concat_fails : (u : Bool) (ts : Trees) → ArePrintable ts → EachReads u ts → EachFails u ts →
@@ -234,17 +235,17 @@ alt_fails : (u : Bool) (ts : Trees) → EachReads u ts → EachFails u ts → (n
 alt_fails u no_trees r q n d v l m e = absurd (omega arith)
 alt_fails u (more_trees t no_trees) r q n d v l m e =
     cond_both (nat_le max_depth (d + nest t 1)) _ _ (λ at. BranchesFail u n d (put t 1 v) at)
-    (λ yes. fails_first n d (bare u) recursion_exceeded _ (put t 1 v)
+    (λ yes. fails_first n d (unicode_flags u) recursion_exceeded _ (put t 1 v)
     (q.0.branch n d v l (leb-true max_depth (d + nest t 1) yes) e.stops.clear))
     (λ no. let b = leb-false max_depth (d + nest t 1) no in absurd (omega arith))
 alt_fails u (more_trees t (more_trees x xs)) r q n d v l m e =
     let rest = put x 1 (put_barred xs v) in
     cond_both (nat_le max_depth (d + nest t 1)) _ _ (λ at. BranchesFail u n d (put t 1 (code "|" ∷ rest)) at)
-    (λ yes. fails_first n d (bare u) recursion_exceeded _ (put t 1 (code "|" ∷ rest))
+    (λ yes. fails_first n d (unicode_flags u) recursion_exceeded _ (put t 1 (code "|" ∷ rest))
     (q.0.branch n d (code "|" ∷ rest) l (leb-true max_depth (d + nest t 1) yes) (stops_bar rest).clear))
     (λ no.
     let b = leb-false max_depth (d + nest t 1) no in
-    fails_more n d (bare u) recursion_exceeded _ (put t 1 (code "|" ∷ rest)) rest _
+    fails_more n d (unicode_flags u) recursion_exceeded _ (put t 1 (code "|" ∷ rest)) rest _
     (r.0.branch n d (code "|" ∷ rest) b (stops_bar rest))
     (alt_fails u (more_trees x xs) r.1 q.1 n d v l (omega arith) e))
 
@@ -266,7 +267,7 @@ repeat_fails : (u : Bool) (t : Tree) (lo hi : ℕ) (greedy : Bool) → Printable
 repeat_fails u t lo hi greedy h q n d v l m c =
     let w = quantifier lo hi greedy ++ v in
     let b = begins_repeated t (h.1 false) (begins_atom t h.0) w in
-    fails_piece n d (bare u) recursion_exceeded _ (put_repeated t w) (kept_bare u) b.goes
+    fails_piece n d (unicode_flags u) recursion_exceeded _ (put_repeated t w) (kept_unicode u) b.goes
     b.clear.no_comment (repeated_fails u t q n d w l m)
 
 mutual
@@ -286,7 +287,7 @@ mutual
       by_branch u (puts ts) (nests ts 2) (lefts ts) (concat_fails u ts h (reads_each u ts h) (fails_each u ts h))
   fails u (alt ts) h =
       by_whole u (put_branches ts) (nests ts 1) (branch_lefts ts)
-      (λ n d v l m e. fails_whole n d (bare u) recursion_exceeded _ (put_branches ts v)
+      (λ n d v l m e. fails_whole n d (unicode_flags u) recursion_exceeded _ (put_branches ts v)
       (alt_fails u ts (reads_each u ts h) (fails_each u ts h) n d v l m e))
   fails u (group t) h = group_fails u t h (fails u t h)
   fails u (repeat t lo hi greedy) h =
@@ -383,11 +384,11 @@ place_high (repeat t lo hi greedy) p h =
 place_high t p h = refl
 
 abbrev DeepFrom : Bool → Text → ℕ → Type 0
-DeepFrom u s p = Faults (bare u) s recursion_exceeded p
+DeepFrom u s p = Faults (unicode_flags u) s recursion_exceeded p
 
-from_whole : (u : Bool) (s : Text) (p : ℕ) → Alternation (bytes s) 0 (st (bare u) s) (fault recursion_exceeded p) →
-    DeepFrom u s p
-from_whole u s p w = fails_text (bare u) s recursion_exceeded p w
+from_whole : (u : Bool) (s : Text) (p : ℕ) →
+    Alternation (bytes s) 0 (st (unicode_flags u) s) (fault recursion_exceeded p) → DeepFrom u s p
+from_whole u s p w = fails_text (unicode_flags u) s recursion_exceeded p w
 
 at_level : (t : Tree) (p : ℕ) (u : Bool) → max_depth ≤ nest t p → FailsWhole u (put t p) (nest t p) (left t p) →
     DeepFrom u (printed t p) (place t p 0)
@@ -409,5 +410,5 @@ at_place t (suc (suc (suc p))) u h m =
     (to_whole u (put t 3) (nest t 3) (left t 3) (fails u t h).high)))
 
 pub too_deep : (t : Tree) (p : ℕ) (u : Bool) → Printable t → max_depth ≤ nest t p →
-    Faults (bare u) (printed t p) recursion_exceeded (over t p)
+    Faults (unicode_flags u) (printed t p) recursion_exceeded (over t p)
 too_deep t p u h m = subst (DeepFrom u (printed t p)) (sym (over_place t p m)) (at_place t p u h m)

@@ -2,8 +2,10 @@
 ghost use Rattle.std.specs.Prelude.{◌≡◌, ℕ, ◌+◌, ◌^◌, ◌<◌, ◌≤◌, [], ◌∷◌, ◌++◌, true, length, chars, IfSome, IfErr, IfOk, MatchResult, option_map};
 ghost use Rattle.fancy_lex.specs.Boundary as spec;
 ghost use Rattle.fancy_lex.specs.BoundarySteps as steps;
-ghost use Rattle.fancy_lex.specs.Escaped.{Escape, escape_of};
-ghost use Rattle.fancy_lex.specs.Fault.{StandsWithin, invalid_escape};
+ghost use Rattle.fancy_lex.specs.Escaped.{Escape};
+ghost use Rattle.fancy_lex.specs.EscapeViews.{escape_of};
+ghost use Rattle.fancy_lex.specs.Fault.{invalid_escape};
+ghost use Rattle.fancy_lex.specs.ErrorViews.{StandsWithin};
 ghost use Rattle.fancy_lex.specs.FaultTable.{boundary_head, boundary_not_closed};
 ghost use Rattle.fancy_lex.specs.Reading.{Reading, Answers, Reports, Derives, gives, fails, fault_at};
 ghost use Rattle.fancy_lex.specs.BoundaryName as name_spec;

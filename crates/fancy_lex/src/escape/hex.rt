@@ -1,8 +1,9 @@
 //! Hex codes behind `\x`, `\u` and `\U`.
 ghost use Rattle.std.specs.Prelude.{◌≡◌, ℕ, ◌+◌, ◌*◌, ◌-◌, ◌^◌, ◌<◌, ◌≤◌, length, chars, IfSome, IfErr, IfOk, option_map, false, true};
 ghost use Rattle.fancy_lex.specs.Characters.{close_brace};
-ghost use Rattle.fancy_lex.specs.Escaped.{Escape, escape_of};
-ghost use Rattle.fancy_lex.specs.Fault.{StandsWithin};
+ghost use Rattle.fancy_lex.specs.Escaped.{Escape};
+ghost use Rattle.fancy_lex.specs.EscapeViews.{escape_of};
+ghost use Rattle.fancy_lex.specs.ErrorViews.{StandsWithin};
 ghost use Rattle.fancy_lex.specs.FaultTable.{code_of_no_character};
 ghost use Rattle.fancy_lex.specs.Hex as spec;
 ghost use Rattle.fancy_lex.specs.Reading.{Derives, Reading, Reads, choose, fails, gives};
@@ -54,9 +55,14 @@ fn closing_brace(text: &str, value: u32, place: usize) -> Result<(u32, &str), Er
 }
 
 /// Reads up to eight digits, each with layout behind it, and the closing brace.
-fn digits(text: &str, ignore_space: bool, end: usize, place: usize) -> Result<(u32, &str), Error>
+fn hex_digits(
+    text: &str,
+    ignore_space: bool,
+    end: usize,
+    place: usize,
+) -> Result<(u32, &str), Error>
     requires { end < 2 ^ 63 }
-    ensures value { Reads (λ v. v) result (spec.digits end ignore_space place 8 false 0 (chars text.now)) }
+    ensures value { Reads (λ v. v) result (spec.hex_digits end ignore_space place 8 false 0 (chars text.now)) }
     ensures shorter { IfOk result (λ p. length p.1.now < length text.now) }
 {
     let mut rest = text;
@@ -87,7 +93,7 @@ fn braced_value(
     ensures shorter { IfOk result (λ p. length p.1.now < length text.now) }
 {
     let rest = skip(text, ignore_space, end)?;
-    digits(rest, ignore_space, end, place)
+    hex_digits(rest, ignore_space, end, place)
 }
 
 /// Reads a code of so many digits, or one in braces; its fault is at `place`.

@@ -4,7 +4,7 @@ ghost use Rattle.fancy_lex.specs.EscapeReference as spec;
 ghost use Rattle.fancy_lex.specs.Number.{at_digit};
 ghost use Rattle.fancy_lex.specs.Reading.{Reads, fails};
 ghost use Rattle.fancy_lex.specs.FaultTable.{number_too_great};
-ghost use Rattle.fancy_lex.specs.Referred.{view_borrowed, view_reference, view_call};
+ghost use Rattle.fancy_lex.specs.NameViews.{view_borrowed, view_reference, view_call};
 ghost use Rattle.fancy_lex.specs.Views.{view_read};
 
 use crate::error::{Error, ParseError};

@@ -2,7 +2,8 @@
 ghost use Rattle.std.specs.Prelude.{◌≡◌, ℕ, ◌<◌, ◌≤◌, ◌++◌, ◌∷◌, false, length, chars, IfSome, option_map, Some};
 ghost use Rattle.fancy_lex.specs.Id as spec;
 ghost use Rattle.fancy_lex.specs.IdReference as reference;
-ghost use Rattle.fancy_lex.specs.IdReference.{IsIdReference, view_id_reference};
+ghost use Rattle.fancy_lex.specs.IdReference.{IsIdReference};
+ghost use Rattle.fancy_lex.specs.NameViews.{view_id_reference};
 ghost use Rattle.fancy_lex.specs.Text.{Text};
 ghost use Rattle.fancy_lex.specs.Views.{option_and_rest, parts};
 

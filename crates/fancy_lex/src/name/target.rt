@@ -1,9 +1,9 @@
 //! What references name, as it is written in the pattern.
 ghost use Rattle.std.specs.Prelude.{◌≡◌, chars, false, IfOk, IsOk, IfSome, IsSome, option_map};
-ghost use Rattle.fancy_lex.specs.IdReference as id_spec;
+ghost use Rattle.fancy_lex.specs.NameViews.{view_borrowed, view_id_reference, view_reference, view_target};
 ghost use Rattle.fancy_lex.specs.Reading.{Reads};
 ghost use Rattle.fancy_lex.specs.Referred as spec;
-ghost use Rattle.fancy_lex.specs.Target.{view_target, is_by_name};
+ghost use Rattle.fancy_lex.specs.Target.{is_by_name};
 ghost use Rattle.fancy_lex.specs.Views.{parts};
 
 use crate::error::{Error, ParseError};
@@ -26,8 +26,8 @@ pub enum Target<'a> {
 impl Target<'_> {
     /// The same target, in memory of its own. One that is no name takes none.
     pub fn to_owned(self, alloc: Global) -> Result<CaptureGroupTarget, AllocError>
-        ensures same { IfOk result (λ target. view_target target ≡ spec.view_borrowed self.entry) }
-        ensures without_memory { is_by_name (spec.view_borrowed self.entry) ≡ false → IsOk result }
+        ensures same { IfOk result (λ target. view_target target ≡ view_borrowed self.entry) }
+        ensures without_memory { is_by_name (view_borrowed self.entry) ≡ false → IsOk result }
     {
         match self {
             Target::ByNumber(number) => Ok(CaptureGroupTarget::ByNumber(number)),
@@ -59,7 +59,7 @@ pub struct Call<'a> {
 #[inline(always)]
 #[tactic(auto, unfolding(crate::specs::Referred::target_of_name))]
 pub fn target_of_name(name: &str) -> Target<'_>
-    ensures { spec.target_of_name (chars name.now) ≡ spec.view_borrowed result }
+    ensures { spec.target_of_name (chars name.now) ≡ view_borrowed result }
 {
     match number_text(name) {
         Some(number) => Target::ByNumber(number),
@@ -71,7 +71,7 @@ pub fn target_of_name(name: &str) -> Target<'_>
 #[inline(always)]
 #[tactic(auto, unfolding(crate::specs::Referred::reference_of))]
 fn reference_of(written: IdReference<'_>, place: usize) -> Reference<'_>
-    ensures { spec.reference_of place (id_spec.view_id_reference written.entry) ≡ spec.view_reference result }
+    ensures { spec.reference_of place (view_id_reference written.entry) ≡ view_reference result }
 {
     let (target, level) = match written {
         IdReference::Id(id) => (target_of_name(id), None),
@@ -89,7 +89,7 @@ fn reference_of(written: IdReference<'_>, place: usize) -> Reference<'_>
 #[inline(always)]
 #[tactic(auto, unfolding(crate::specs::Referred::written_reference))]
 fn written_reference(text: &str, amounts: bool, place: usize) -> Option<Reference<'_>>
-    ensures value { spec.written_reference place amounts (chars text.now) ≡ option_map spec.view_reference result }
+    ensures value { spec.written_reference place amounts (chars text.now) ≡ option_map view_reference result }
 {
     let written = id_reference(text, amounts)?;
     Some(reference_of(written, place))
@@ -104,7 +104,7 @@ pub fn reference_by_name<'a>(
     amounts: bool,
     place: usize,
 ) -> Result<(Reference<'a>, &'a str), Error>
-    ensures value { Reads spec.view_reference result (spec.reference_by_name place amounts (parts name.entry)) }
+    ensures value { Reads view_reference result (spec.reference_by_name place amounts (parts name.entry)) }
     ensures rest { IfOk result (λ p. IfSome name.entry (λ q. p.1.now ≡ q.1.now) × IsSome name.entry) }
 {
     let Some((name, rest)) = name else {

@@ -2,7 +2,7 @@
 ghost use Rattle.std.specs.Prelude.{◌≡◌, ℕ, ◌+◌, ◌<◌, ◌≤◌, ◌^◌, ◌++◌, ◌∷◌, length, chars, codes, ◌||◌, IfErr, IfOk};
 ghost use Rattle.fancy_lex.specs.Reading.{Reading, Answers, Reports, Derives};
 ghost use Rattle.fancy_lex.specs.Text.{Text, EndsWith, bytes, text_of};
-ghost use Rattle.fancy_lex.specs.Fault.{StandsWithin};
+ghost use Rattle.fancy_lex.specs.ErrorViews.{StandsWithin};
 ghost use Rattle.fancy_parts.specs.FlagLetters as spec;
 ghost use Rattle.fancy_parts.specs.LetterSteps as steps;
 ghost use Rattle.fancy_parts.specs.FlagReads.{letters_of, step_of};
@@ -24,7 +24,7 @@ pub enum Letters {
 
 /// One letter: the letters end there, or go on, and then clear their flags or set them.
 #[derive(Clone, Copy)]
-enum Step {
+enum LetterStep {
     Ends(Letters),
     GoesOn { clears: bool, flags: Flags },
 }
@@ -111,7 +111,7 @@ fn flag_letter<'a>(
     flags: Flags,
     here: &'a str,
     end: usize,
-) -> Result<(Step, &'a str), Error>
+) -> Result<(LetterStep, &'a str), Error>
     requires behind { (w : Text) × (chars letters.now ≡ w ++ chars here.now) }
     requires within { length letters.now ≤ end }
     ensures value { Answers step_of result (steps.step end (chars letters.now) clears flags (chars here.now)) }
@@ -125,20 +125,20 @@ fn flag_letter<'a>(
         if closes_nothing(letters, clears, here) {
             return Err(unknown_flag(alloc, letters, rest, end));
         }
-        return Ok((Step::Ends(Letters::Setting(flags)), rest));
+        return Ok((LetterStep::Ends(Letters::Setting(flags)), rest));
     }
     if letter == ':' {
         if is_behind_minus(letters, clears, here) {
             return Err(unknown_flag(alloc, letters, rest, end));
         }
-        return Ok((Step::Ends(Letters::Scope(flags)), rest));
+        return Ok((LetterStep::Ends(Letters::Scope(flags)), rest));
     }
     if letter == '-' {
         if clears {
             return Err(unknown_flag(alloc, letters, rest, end));
         }
         return Ok((
-            Step::GoesOn {
+            LetterStep::GoesOn {
                 clears: true,
                 flags,
             },
@@ -152,10 +152,10 @@ fn flag_letter<'a>(
                 ParseError::ChangingUnicodeModeUnsupported,
             ));
         }
-        return Ok((Step::GoesOn { clears, flags }, rest));
+        return Ok((LetterStep::GoesOn { clears, flags }, rest));
     }
     match with_letter(flags, !clears, letter) {
-        Some(flags) => Ok((Step::GoesOn { clears, flags }, rest)),
+        Some(flags) => Ok((LetterStep::GoesOn { clears, flags }, rest)),
         None => Err(unknown_flag(alloc, letters, rest, end)),
     }
 }
@@ -179,8 +179,8 @@ fn read_letters(
         let here = skip(rest, flags.ignore_space, end)?;
         let (step, behind) = flag_letter(alloc, text, clears, flags, here, end)?;
         match step {
-            Step::Ends(letters) => return Ok((letters, behind)),
-            Step::GoesOn {
+            LetterStep::Ends(letters) => return Ok((letters, behind)),
+            LetterStep::GoesOn {
                 clears: now_clears,
                 flags: changed,
             } => {

@@ -1,7 +1,7 @@
 //! References in heads of groups: `(?P=id)`, `(?P>name)`, and what a condition asks for.
 ghost use Rattle.std.specs.Prelude.{◌≡◌, ◌<◌, ◌≤◌, length, chars, IfOk, IfSome};
 ghost use Rattle.fancy_lex.specs.Reading.{Reads};
-ghost use Rattle.fancy_lex.specs.Referred.{view_reference, view_call};
+ghost use Rattle.fancy_lex.specs.NameViews.{view_reference, view_call};
 ghost use Rattle.fancy_lex.specs.Views.{parts};
 ghost use Rattle.fancy_parts.specs.HeadReference as spec;
 

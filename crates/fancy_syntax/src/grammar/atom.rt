@@ -3,7 +3,7 @@ ghost use Rattle.std.specs.Prelude.{◌≡◌, false, ◌+◌, ◌<◌, ◌≤�
 ghost use Rattle.fancy_lex.specs.Characters.{open_paren};
 ghost use Rattle.fancy_lex.specs.Class as classes;
 ghost use Rattle.fancy_lex.specs.Escape as escapes;
-ghost use Rattle.fancy_lex.specs.Escaped.{escape_of};
+ghost use Rattle.fancy_lex.specs.EscapeViews.{escape_of};
 ghost use Rattle.fancy_grammar.specs.Ahead as spec;
 ghost use Rattle.fancy_grammar.specs.Depth.{max_depth};
 ghost use Rattle.fancy_grammar.specs.Tree.{delegate, literal};

@@ -1,6 +1,6 @@
 //! Plain characters and escapes of one character, which most pieces are.
 ghost use Rattle.std.specs.Prelude.{◌≡◌, ◌<◌, ◌≤◌, ℕ, true, [], ◌∷◌, length, chars, IfSome};
-ghost use Rattle.fancy_lex.specs.Escaped.{escape_of};
+ghost use Rattle.fancy_lex.specs.EscapeViews.{escape_of};
 ghost use Rattle.fancy_grammar.specs.Ahead.{leaf_node};
 ghost use Rattle.fancy_syntax.specs.Parsed.{state};
 ghost use Rattle.fancy_grammar.specs.Plain as spec;
@@ -36,10 +36,7 @@ pub(crate) fn plain<'a>(here: State<'a>) -> Option<(char, &'a str)>
 /// What the escape at the front stands for and what follows it, in a pattern of `end` bytes, where a look ahead reads
 /// all of it, with no layout and no quantifier behind it.
 #[inline(always)]
-pub(crate) fn plain_escape<'a>(
-    here: State<'a>,
-    end: usize,
-) -> Option<(Escaped<'a>, &'a str)>
+pub(crate) fn plain_escape<'a>(here: State<'a>, end: usize) -> Option<(Escaped<'a>, &'a str)>
     requires { length here.rest.now ≤ end }
     ensures plain { IfSome result (λ p. IsPlain end (state here.entry) (leaf_node (escape_of p.0)) (chars p.1.now)) }
     ensures shorter { IfSome result (λ p. length p.1.now < length here.entry.rest.now) }

@@ -1,6 +1,6 @@
 //! The nodes of references, whose groups are not known yet.
 ghost use Rattle.std.specs.Prelude.{◌≡◌, IfOk};
-ghost use Rattle.fancy_lex.specs.Referred.{view_reference, view_call};
+ghost use Rattle.fancy_lex.specs.NameViews.{view_reference, view_call};
 ghost use Rattle.fancy_grammar.specs.Ahead as spec;
 ghost use Rattle.fancy_syntax.specs.View.{view};
 

@@ -6,7 +6,7 @@ ghost use Rattle.fancy_grammar.specs.State.{ends};
 ghost use Rattle.fancy_grammar.specs.Depth.{max_depth};
 ghost use Rattle.fancy_grammar.specs.Grammar as spec;
 ghost use Rattle.fancy_syntax.specs.Machine as machine;
-ghost use Rattle.fancy_syntax.specs.Machine.{Opens, OpensBelow, Part, StepsOn, GivesPiece, ended_part, part_of};
+ghost use Rattle.fancy_syntax.specs.Machine.{OpensPart, OpensBelow, Part, GivesStep, GivesPiece, ended_part, part_of};
 ghost use Rattle.fancy_syntax.specs.Parsed.{state, GivesTree};
 ghost use Rattle.fancy_grammar.specs.Quantified.{quants};
 ghost use Rattle.fancy_grammar.specs.Errors.{IsErrorAmong};
@@ -48,7 +48,7 @@ pub(crate) fn read_step<'a>(
     requires end { end < 2 ^ 63 }
     requires depth { depth < max_depth }
     requires more { ends (chars here.old.rest.now) ≡ false }
-    ensures value { StepsOn result end depth (state here.old) (state here.new) }
+    ensures value { GivesStep result end depth (state here.old) (state here.new) }
     ensures shorter { IfOk result (λ _. length here.new.rest.now < length here.old.rest.now) }
     ensures below { IfOk result (λ p. OpensBelow p depth) }
 {
@@ -120,9 +120,9 @@ pub(crate) fn close<'a>(
     requires depth { depth < max_depth }
     requires last { strip bar (chars here.old.rest.now) ≡ None }
     ensures value { (s t : states.State) → left ≡ bytes s.rest → flags ≡ s.flags →
-        Opens end depth s (part_of opener.entry) t →
+        OpensPart end depth s (part_of opener.entry) t →
         Part (part_of opener.entry) end (depth + 1) t (states.done (view inner) (state here.old)) →
-        StepsOn result end depth s (state here.new) }
+        GivesStep result end depth s (state here.new) }
     ensures shorter { IfOk result (λ _. length here.new.rest.now < length here.old.rest.now) }
 {
     let has_body = goes_on(&opener);

@@ -3,7 +3,7 @@ ghost use Rattle.std.specs.Prelude.{◌≡◌, ◌++◌, codes, if◌then◌else
 ghost use Rattle.fancy_lex.specs.Text.{Text, bytes};
 ghost use Rattle.fancy_parts.specs.Quote.{quantifier};
 ghost use Rattle.fancy_parts.specs.Room.{in_word};
-ghost use Rattle.fancy_grammar.specs.Printed.{printed, repeated, printed_all, printed_branches, grouped, caseless};
+ghost use Rattle.fancy_grammar.specs.Printed.{printed, operand_text, printed_all, printed_branches, grouped, caseless};
 ghost use Rattle.fancy_grammar.specs.Tree.{trees_of};
 ghost use Rattle.fancy_syntax.specs.View.{view, views};
 
@@ -108,7 +108,7 @@ fn group_len(tree: &Expr) -> usize
 #[inline(never)]
 #[tactic(auto, using(crate::proofs::PrintLemmas::count_steps))]
 fn repeat_len(child: &Expr, lo: usize, hi: usize, greedy: bool, is_grouped: bool) -> usize
-    ensures { result ≡ in_word (bytes (grouped is_grouped (repeated (view child.now) ++ quantifier lo hi greedy))) }
+    ensures { result ≡ in_word (bytes (grouped is_grouped (operand_text (view child.now) ++ quantifier lo hi greedy))) }
 {
     let len = repeated_len(child).saturating_add(quantifier_len(lo, hi, greedy));
     grouped_len(is_grouped, len)
@@ -118,7 +118,7 @@ fn repeat_len(child: &Expr, lo: usize, hi: usize, greedy: bool, is_grouped: bool
 #[cycle(count)]
 #[inline]
 fn repeated_len(tree: &Expr) -> usize
-    ensures { result ≡ in_word (bytes (repeated (view tree.now))) }
+    ensures { result ≡ in_word (bytes (operand_text (view tree.now))) }
 {
     grouped_len(is_long(tree), tree_len(tree, OPERAND))
 }

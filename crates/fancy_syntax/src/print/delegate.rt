@@ -2,9 +2,9 @@
 ghost use Rattle.std.specs.Prelude.{◌≡◌, ◌∷◌, ◌+◌, ◌<◌, ◌^◌, [], chars, is_some, length, false, IfOk};
 ghost use Rattle.fancy_lex.specs.Characters.{open_bracket, backslash};
 ghost use Rattle.fancy_lex.specs.declared.error.Error.TheVariants.{OutOfMemory};
-ghost use Rattle.fancy_lex.specs.Escaped.{escape_of};
+ghost use Rattle.fancy_lex.specs.EscapeViews.{escape_of};
 ghost use Rattle.fancy_grammar.specs.Ahead.{leaf_node};
-ghost use Rattle.fancy_grammar.specs.Normal.{bare, class_of, whole_of};
+ghost use Rattle.fancy_grammar.specs.Normal.{unicode_flags, class_of, whole_of};
 
 use fancy_lex::class::class;
 use fancy_lex::error::Error;
@@ -15,7 +15,7 @@ use std::alloc::{AllocError, Global};
 
 /// Whether the text alone, read under no flags, is one whole class or one whole class escape.
 pub(crate) fn is_whole(alloc: Global, text: &str) -> Result<bool, AllocError>
-    ensures { IfOk result (λ b. b ≡ is_some (class_of (bare false) (chars text.now))) }
+    ensures { IfOk result (λ b. b ≡ is_some (class_of (unicode_flags false) (chars text.now))) }
 {
     let Some((c, rest)) = next(text) else {
         return Ok(false);
@@ -31,7 +31,7 @@ pub(crate) fn is_whole(alloc: Global, text: &str) -> Result<bool, AllocError>
 fn is_whole_class(alloc: Global, text: &str, end: usize) -> Result<bool, AllocError>
     requires bounded { end < 2 ^ 63 }
     requires whole { end ≡ length text.now + 1 }
-    ensures { IfOk result (λ b. b ≡ is_some (class_of (bare false) (open_bracket ∷ chars text.now))) }
+    ensures { IfOk result (λ b. b ≡ is_some (class_of (unicode_flags false) (open_bracket ∷ chars text.now))) }
 {
     match class(alloc, text, Flags::from_bits(0), end) {
         Ok((_, rest)) => Ok(next(rest).is_none()),
@@ -43,7 +43,7 @@ fn is_whole_class(alloc: Global, text: &str, end: usize) -> Result<bool, AllocEr
 fn is_whole_escape(alloc: Global, text: &str, end: usize) -> Result<bool, AllocError>
     requires bounded { end < 2 ^ 63 }
     requires whole { end ≡ length text.now + 1 }
-    ensures { IfOk result (λ b. b ≡ is_some (class_of (bare false) (backslash ∷ chars text.now))) }
+    ensures { IfOk result (λ b. b ≡ is_some (class_of (unicode_flags false) (backslash ∷ chars text.now))) }
 {
     match escape(alloc, text, Flags::from_bits(0), false, 0, end) {
         Ok((leaf, rest)) => Ok(is_class(leaf) && next(rest).is_none()),

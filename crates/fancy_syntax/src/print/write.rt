@@ -3,7 +3,7 @@ ghost use Rattle.std.specs.Prelude.{◌≡◌, ◌++◌, codes, if◌then◌else
 ghost use Rattle.std.specs.List.{list_all};
 ghost use Rattle.fancy_parts.specs.Quote.{quotes, quantifier};
 ghost use Rattle.fancy_parts.specs.Room.{HasRoom, Appended};
-ghost use Rattle.fancy_grammar.specs.Printed.{printed, repeated, printed_all, printed_branches, grouped, caseless};
+ghost use Rattle.fancy_grammar.specs.Printed.{printed, operand_text, printed_all, printed_branches, grouped, caseless};
 ghost use Rattle.fancy_grammar.specs.Tree.{trees_of};
 ghost use Rattle.fancy_syntax.specs.View.{view, views};
 
@@ -171,8 +171,8 @@ fn put_group(buf: &mut String, tree: &Expr)
 #[inline(never)]
 #[tactic(auto, using(crate::proofs::PrintLemmas::write_steps))]
 fn put_repeat(buf: &mut String, child: &Expr, lo: usize, hi: usize, greedy: bool, is_grouped: bool)
-    requires { HasRoom buf.old (grouped is_grouped (repeated (view child.now) ++ quantifier lo hi greedy)) }
-    ensures { Appended buf.old buf.new (grouped is_grouped (repeated (view child.now) ++ quantifier lo hi greedy)) }
+    requires { HasRoom buf.old (grouped is_grouped (operand_text (view child.now) ++ quantifier lo hi greedy)) }
+    ensures { Appended buf.old buf.new (grouped is_grouped (operand_text (view child.now) ++ quantifier lo hi greedy)) }
 {
     put_if(buf, is_grouped, "(?:");
     put_repeated(buf, child);
@@ -185,8 +185,8 @@ fn put_repeat(buf: &mut String, child: &Expr, lo: usize, hi: usize, greedy: bool
 #[inline]
 #[tactic(auto, using(crate::proofs::PrintLemmas::write_steps))]
 fn put_repeated(buf: &mut String, tree: &Expr)
-    requires { HasRoom buf.old (repeated (view tree.now)) }
-    ensures { Appended buf.old buf.new (repeated (view tree.now)) }
+    requires { HasRoom buf.old (operand_text (view tree.now)) }
+    ensures { Appended buf.old buf.new (operand_text (view tree.now)) }
 {
     if is_long(tree) {
         put_ascii(buf, "(?:");

@@ -1,7 +1,7 @@
 //! The second walk: each capturing group becomes a `Group`, and each reference what it means. It stops at the first
 //! fault.
 ghost use Rattle.std.specs.Prelude.{◌≡◌, ◌+◌, ◌<◌, ◌^◌, length, true, false};
-ghost use Rattle.fancy_lex.specs.Target.{view_target};
+ghost use Rattle.fancy_lex.specs.NameViews.{view_target};
 ghost use Rattle.fancy_grammar.specs.Items.{items, items_all, items_absent, items_ast, openings_in};
 ghost use Rattle.fancy_syntax.specs.Notes.{Walks, is_node_read, is_reference, known_of, progress_of, resolved_or};
 ghost use Rattle.fancy_grammar.specs.Tree.{trees_of, ast_node, ast_backref};
@@ -18,7 +18,11 @@ use std::mem;
 /// Resolves the tree in its place, or answers the first fault of its references.
 #[cycle(rewrite)]
 #[inline(always)]
-pub(super) fn rewrite(tree: &mut Expr, known: &Known, progress: &mut Progress) -> Result<(), Stopped>
+pub(super) fn rewrite(
+    tree: &mut Expr,
+    known: &Known,
+    progress: &mut Progress,
+) -> Result<(), Stopped>
     requires { progress.old.passed + length (openings_in (items (view tree.old))) < 2 ^ 63 }
     ensures { Walks result (known_of known.now) (progress_of progress.old) (items (view tree.old))
         progress.new
@@ -197,7 +201,11 @@ fn resolve_backref(
 /// Resolves the trees in the node.
 #[cycle(rewrite)]
 #[inline(never)]
-fn rewrite_absent(absent: &mut Absent, known: &Known, progress: &mut Progress) -> Result<(), Stopped>
+fn rewrite_absent(
+    absent: &mut Absent,
+    known: &Known,
+    progress: &mut Progress,
+) -> Result<(), Stopped>
     requires { progress.old.passed + length (openings_in (items_absent (view_absent absent.old))) < 2 ^ 63 }
     ensures { Walks result (known_of known.now) (progress_of progress.old) (items_absent (view_absent absent.old))
         progress.new
@@ -218,7 +226,11 @@ fn rewrite_absent(absent: &mut Absent, known: &Known, progress: &mut Progress) -
 /// Resolves the tree in its box.
 #[cycle(rewrite)]
 #[inline(never)]
-fn rewrite_child(child: &mut Box<Expr>, known: &Known, progress: &mut Progress) -> Result<(), Stopped>
+fn rewrite_child(
+    child: &mut Box<Expr>,
+    known: &Known,
+    progress: &mut Progress,
+) -> Result<(), Stopped>
     requires { progress.old.passed + length (openings_in (items (view child.old.value))) < 2 ^ 63 }
     ensures { Walks result (known_of known.now) (progress_of progress.old) (items (view child.old.value))
         progress.new

@@ -45,7 +45,8 @@ pub(super) fn survey(
 ) -> Result<(), AllocError>
     requires { found.old.groups.total + length (openings_in (items (view tree.now))) < 2 ^ 63 }
     ensures found { IfOk result
-        (λ _. groups_of found.new.groups ≡ spec.found named (groups_of found.old.groups) (items (view tree.now))) }
+        (λ _. groups_of found.new.groups
+        ≡ spec.groups_after named (groups_of found.old.groups) (items (view tree.now))) }
     ensures met { IfOk result (λ _. found.new.met ≡ (found.old.met || has_items (items (view tree.now)))) }
 {
     match tree {
@@ -113,7 +114,7 @@ fn survey_node(
     requires { found.old.groups.total + length (openings_in (items_ast (view_ast node.now) place)) < 2 ^ 63 }
     ensures found { IfOk result
         (λ _. groups_of found.new.groups
-        ≡ spec.found named (groups_of found.old.groups) (items_ast (view_ast node.now) place)) }
+        ≡ spec.groups_after named (groups_of found.old.groups) (items_ast (view_ast node.now) place)) }
     ensures met { IfOk result
         (λ _. found.new.met ≡ (found.old.met || has_items (items_ast (view_ast node.now) place))) }
 {
@@ -142,7 +143,7 @@ fn survey_absent(
     requires { found.old.groups.total + length (openings_in (items_absent (view_absent absent.now))) < 2 ^ 63 }
     ensures found { IfOk result
         (λ _. groups_of found.new.groups
-        ≡ spec.found named (groups_of found.old.groups) (items_absent (view_absent absent.now))) }
+        ≡ spec.groups_after named (groups_of found.old.groups) (items_absent (view_absent absent.now))) }
     ensures met { IfOk result
         (λ _. found.new.met ≡ (found.old.met || has_items (items_absent (view_absent absent.now)))) }
 {
@@ -169,7 +170,7 @@ fn survey_all(
     requires { found.old.groups.total + length (openings_in (items_all (trees_of (views trees.now)))) < 2 ^ 63 }
     ensures found { IfOk result
         (λ _. groups_of found.new.groups
-        ≡ spec.found named (groups_of found.old.groups) (items_all (trees_of (views trees.now)))) }
+        ≡ spec.groups_after named (groups_of found.old.groups) (items_all (trees_of (views trees.now)))) }
     ensures met { IfOk result
         (λ _. found.new.met ≡ (found.old.met || has_items (items_all (trees_of (views trees.now))))) }
 {

@@ -1,5 +1,5 @@
 use Rattle.std.proofs.Common.{◌≡◌, sym, ap, ◌∙◌}
-use Rattle.fancy_lex.specs.Target.{view_target}
+use Rattle.fancy_lex.specs.NameViews.{view_target}
 use Rattle.fancy_c.specs.Node as spec
 use Rattle.fancy_c.proofs.NodeLemmas.{string_text}
 use Rattle.fancy_c.proofs.node.target_name.Goals as goal

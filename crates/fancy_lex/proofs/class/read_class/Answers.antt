@@ -53,11 +53,11 @@ loop-c-preserved-then-c-eq91 c =
       within = omega (arith, c.in-Some.ensures.shorter, c.in_ok-rest-2.ensures.within);
     }
 
-pub returns-then-depth-eq0-clause-value : goal.returns-then-depth-eq0-clause-value
-returns-then-depth-eq0-clause-value c =
+pub returns-then-outer-eq0-clause-value : goal.returns-then-outer-eq0-clause-value
+returns-then-outer-eq0-clause-value c =
     let (k, m, same) = c.loop-c.invariant.same in
     same ∙ last_step _ _ _ _ _ _ _ _ c.in-Some.ensures.value k (omega arith) _ c.in_ok-push.ensures c.if-c-eq93.true
-    c.if-depth-eq0.true
+    c.if-outer-eq0.true
 
 pub loop-c-preserved-then-c-eq93 : goal.loop-c-preserved-then-c-eq93
 loop-c-preserved-then-c-eq93 c =
@@ -68,7 +68,7 @@ loop-c-preserved-then-c-eq93 c =
         pred k,
         pred_lt _ _ k (omega (arith, c.in-Some.ensures.shorter)) m,
         same ∙ close_step _ _ _ _ _ _ _ _ c.in-Some.ensures.value k (omega arith) _ c.in_ok-push.ensures
-            c.if-c-eq93.true c.if-depth-eq0.false,
+            c.if-c-eq93.true c.if-outer-eq0.false,
       );
       within = omega (arith, c.in-Some.ensures.shorter);
     }

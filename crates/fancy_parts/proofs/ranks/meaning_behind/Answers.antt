@@ -4,7 +4,7 @@ use Rattle.std.specs.Cmp.Lexicographic.{slice_cmp}
 use Rattle.std.specs.Map.{lookup}
 use Rattle.std.specs.Ordering.{is_eq, nat_cmp}
 use Rattle.std.proofs.lemmas.Str.{IsUtf8-string_bytes}
-use Rattle.fancy_lex.specs.Target.{view_target}
+use Rattle.fancy_lex.specs.NameViews.{view_target}
 use Rattle.fancy_lex.specs.Text.{Text, text_of}
 use Rattle.fancy_parts.specs.Groups.{groups_of, meaning_of, entry_of, numbers_under, role_of}
 use Rattle.fancy_parts.specs.Meaning.{means}

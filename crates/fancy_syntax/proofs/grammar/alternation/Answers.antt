@@ -3,7 +3,7 @@ use Rattle.std.proofs.lemmas.List.{nil_from_length, length_push}
 use Rattle.std.proofs.lemmas.Result.{err_from_is_err_and}
 use Rattle.fancy_grammar.specs.Depth.{max_depth}
 use Rattle.fancy_grammar.specs.Grammar.{Alternation, Piece}
-use Rattle.fancy_syntax.specs.Machine.{IsFaultOfBar, OpensBelow, Steps, part_of}
+use Rattle.fancy_syntax.specs.Machine.{IsFaultOfBar, OpensBelow, IsStep, part_of}
 use Rattle.fancy_syntax.specs.Parsed.{state}
 use Rattle.fancy_grammar.specs.State.{fault}
 use Rattle.fancy_syntax.specs.View.{view, views}
@@ -59,7 +59,7 @@ pub loop-c-preserved-in-Continue-branch-7 : goal.loop-c-preserved-in-Continue-br
 loop-c-preserved-in-Continue-branch-7 c =
     let n : c.len.result ≡ length c.loop-c.stack.items = omega (arith, c.len.ensures, c.loop-c.stack.ok.0) in
     let made = c.in_ok-step.step in
-    let steps = subst (λ d. Steps c.args.end d (state c.loop-c.here) made (state c.read_step.new.here)) n
+    let steps = subst (λ d. IsStep c.args.end d (state c.loop-c.here) made (state c.read_step.new.here)) n
     c.in_ok-step.ensures.value in
     let below = subst (OpensBelow made) n c.in_ok-step.ensures.below in
     let taken = c.in_ok-take_step.ensures in
@@ -145,7 +145,7 @@ loop-c-preserved c =
     let n : c.len-in_default-after.result ≡ length c.pop.new.self.items =
     omega (arith, c.len-in_default-after.ensures, c.pop.new.self.ok.0) in
     let made = c.in_ok-step-2.step in
-    let steps = subst (λ d. Steps c.args.end d w.here made (state c.close.new.here)) n
+    let steps = subst (λ d. IsStep c.args.end d w.here made (state c.close.new.here)) n
     (c.in_ok-step-2.ensures.value w.here w.inside w.began.0 w.began.1 (rw n w.opens) (rw n w.whole)) in
     let taken = c.in_ok-take_step-2.ensures in
     let room : length c.pop.new.self.items + 1 < max_depth = omega (

@@ -1,7 +1,7 @@
 use Rattle.std.proofs.Common.{◌≡◌, Bool, true, false, ◌&&◌, ◌||◌, List, [], length, refl, ap, ◌∙◌, sym, nat_lt}
 use Rattle.std.specs.List.{list_any}
 use Rattle.fancy_parts.specs.Groups.{groups_of}
-use Rattle.fancy_parts.specs.Ranks.{counted_in, is_named, named_groups}
+use Rattle.fancy_parts.specs.Ranks.{numbered_openings_in, is_named, named_groups}
 use Rattle.fancy_grammar.specs.Items.{Item, items, openings, openings_in}
 use Rattle.fancy_syntax.specs.Notes.{has_items}
 use Rattle.fancy_syntax.specs.View.{view}
@@ -17,7 +17,7 @@ unmet_named : (ignore : Bool) (l : List Item) → l ≡ [] → false ≡ (ignore
 unmet_named ignore l h = rw h (none_counted ignore false 0 refl refl)
 
 unmet_counted : (named : Bool) (l : List Item) → l ≡ [] →
-    counted_in named (openings_in l) ≡ counted_in false (openings_in l)
+    numbered_openings_in named (openings_in l) ≡ numbered_openings_in false (openings_in l)
 unmet_counted named l h = rw h refl
 
 unmet : (c : Then-not-found) → items (view c.args.tree.now) ≡ []
@@ -48,9 +48,9 @@ returns-then-found-eq0-clause-named c =
     start_total c.args.ignore (groups_of c.new-found.result.groups) (groups_of c.survey.new.found.groups)
     (items (view c.args.tree.now))
     c.new-found.ensures.groups c.in_ok-survey.ensures.found in
-    let zero : length (counted_in true l) ≡ 0
-    = ap (λ b. length (counted_in b l)) (sym c.if-ignore.true) ∙ sym total ∙ c.if-found-eq0.true in
-    none_counted c.args.ignore (list_any is_named l) (length (counted_in true l)) (any_named l) zero
+    let zero : length (numbered_openings_in true l) ≡ 0
+    = ap (λ b. length (numbered_openings_in b l)) (sym c.if-ignore.true) ∙ sym total ∙ c.if-found-eq0.true in
+    none_counted c.args.ignore (list_any is_named l) (length (numbered_openings_in true l)) (any_named l) zero
 
 pub returns-then-found-eq0-clause-total : goal.returns-then-found-eq0-clause-total
 returns-then-found-eq0-clause-total c =
@@ -71,8 +71,8 @@ returns-clause-named c =
     c.new-found.ensures.groups c.in_ok-survey.ensures.found in
     elim c.else-ignore.branch [
       | else-ignore-via-then-ignore+else-found-eq0 w ↦
-          let same : c.survey.new.found.groups.total ≡ length (counted_in true l)
-          = total ∙ ap (λ b. length (counted_in b l)) w.if-ignore.true in
+          let same : c.survey.new.found.groups.total ≡ length (numbered_openings_in true l)
+          = total ∙ ap (λ b. length (numbered_openings_in b l)) w.if-ignore.true in
           some_counted c.args.ignore (list_any is_named l) c.survey.new.found.groups.total w.if-ignore.true
           (any_named l ∙ ap (nat_lt 0) (sym same)) w.if-found-eq0.false
       | else-ignore-via-else-ignore w ↦ not_asked c.args.ignore (list_any is_named l) w.if-ignore.false

@@ -3,7 +3,7 @@ use Rattle.std.proofs.Common.{chars, arith}
 use Rattle.fancy_lex.proofs.EscapeLaws.{leaves_boundary}
 use Rattle.fancy_lex.proofs.LeaveLaws.{given_cut, given_place}
 use Rattle.fancy_lex.proofs.ReadingLemmas.{answers_gives}
-use Rattle.fancy_lex.specs.Escaped.{escape_of}
+use Rattle.fancy_lex.specs.EscapeViews.{escape_of}
 use Rattle.fancy_lex.proofs.escape.boundary.boundary.Goals as goal
 
 pub returns-clause-cut : goal.returns-clause-cut

@@ -2,7 +2,7 @@ use Rattle.std.proofs.Common.{◌+◌, chars, arith}
 use Rattle.fancy_lex.proofs.EscapeLaws.{leaves_hex}
 use Rattle.fancy_lex.proofs.LeaveLaws.{given_cut, given_place}
 use Rattle.fancy_lex.proofs.ReadingLemmas.{reads_answers, answers_gives}
-use Rattle.fancy_lex.specs.Escaped.{escape_of}
+use Rattle.fancy_lex.specs.EscapeViews.{escape_of}
 use Rattle.fancy_lex.proofs.HexRelation.{hex_derives, hex_only}
 use Rattle.fancy_lex.proofs.escape.hex.hex.Goals as goal
 

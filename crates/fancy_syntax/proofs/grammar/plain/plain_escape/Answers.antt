@@ -1,5 +1,5 @@
 use Rattle.std.proofs.Common.{chars}
-use Rattle.fancy_lex.specs.Escaped.{escape_of}
+use Rattle.fancy_lex.specs.EscapeViews.{escape_of}
 use Rattle.fancy_lex.proofs.TextLemmas.{strip_is}
 use Rattle.fancy_grammar.proofs.PlainLemmas.{is_plain_escape}
 use Rattle.fancy_syntax.specs.Parsed.{state}

@@ -3,7 +3,7 @@ use Rattle.std.proofs.lemmas.Bool.{or_parts}
 use Rattle.std.proofs.lemmas.Str.{scalars-chars, IsUtf8-string_bytes}
 use Rattle.fancy_lex.specs.Text.{text_of}
 use Rattle.fancy_grammar.specs.HasDelegate.{has_delegate, any_has_delegate}
-use Rattle.fancy_grammar.specs.Normal.{bare, class_of}
+use Rattle.fancy_grammar.specs.Normal.{unicode_flags, class_of}
 use Rattle.fancy_grammar.specs.Printable.{printable, all_printable}
 use Rattle.fancy_grammar.specs.Tree.{literal, delegate}
 use Rattle.fancy_syntax.specs.View.{view}
@@ -22,7 +22,8 @@ pub is_printable-returns-in-Delegate-clause-exact : goal.is_printable-returns-in
 is_printable-returns-in-Delegate-clause-exact t c =
     let inner = c.in-Delegate.inner in
     let seen : view c.args.tree.now ≡ delegate (text_of inner) c.in-Delegate.casei = search (rules, the_lemmas) in
-    let whole : IfOk c.is_whole.result (λ b. b ≡ is_some (class_of (bare false) (text_of inner))) = search rules in
+    let whole : IfOk c.is_whole.result (λ b. b ≡ is_some (class_of (unicode_flags false) (text_of inner))) =
+    search rules in
     delegate_told c.is_whole.result (text_of inner) c.in-Delegate.casei _
     (scalars-chars (string_bytes inner) (IsUtf8-string_bytes inner)) whole seen
 

@@ -4,7 +4,7 @@ use Rattle.std.proofs.lemmas.List.{set-get_or}
 use Rattle.fancy_grammar.specs.Items.{items, openings_in}
 use Rattle.fancy_syntax.specs.Notes.{known_of, progress_of}
 use Rattle.fancy_syntax.specs.View.{view, views}
-use Rattle.fancy_grammar.specs.Walk.{noted}
+use Rattle.fancy_grammar.specs.Walk.{progress_after}
 use Rattle.fancy_syntax.specs.declared.expr.Expr.{Expr, the_lemmas}
 use Rattle.fancy_syntax.proofs.NoItems.{rebuilt_same}
 use Rattle.fancy_syntax.proofs.PartLemmas.{two_parts, three_lent, two_count, three_count, two_noted, three_noted}
@@ -86,7 +86,7 @@ rewrite_all-loop-i-preserved t c =
                   let apart : j ≢ i = omega arith in rw get_or-set_other (c.loop-i.invariant.0.1 j d (omega arith)),
             ),
             rw now_is.1
-                (sym (noted_append k s (items (view e)) (rest es (i + 1))) ∙ ap (noted k s) (sym step)
+                (sym (noted_append k s (items (view e)) (rest es (i + 1))) ∙ ap (progress_after k s) (sym step)
                 ∙ c.loop-i.invariant.1),
             let passed = noted_le k s (progress_of w.rewrite.new.progress) (items (view e)) now_is.1 in
                 omega (
@@ -109,12 +109,12 @@ rewrite_all-loop-i-preserved t c =
           let put : set now i e ≡ now = ap (set now i) c.index.ensures ∙ set-get_or now i e in
           rw (w.trees-is, w.progress-is) (
             (lengths, λ j d h. c.loop-i.invariant.0.1 j d (omega arith)),
-            ap (noted k s) (sym step) ∙ c.loop-i.invariant.1,
+            ap (progress_after k s) (sym step) ∙ c.loop-i.invariant.1,
             omega (arith, ap (λ l. length (openings_in l)) step, c.loop-i.invariant.2),
             ap (λ l. views (take (i + 1) l)) (sym put)
                 ∙ front_rebuilt k s es now all i e e lengths below tree (sym (rebuilt_same k s (view e) none))
                 c.loop-i.invariant.3 c.loop-i.invariant.4,
-            rest_rebuilt k s s es all i e below tree (ap (noted k s) (sym none)) c.loop-i.invariant.4,
+            rest_rebuilt k s s es all i e below tree (ap (progress_after k s) (sym none)) c.loop-i.invariant.4,
           )
     ]
 
@@ -124,7 +124,7 @@ rewrite_all-returns t c =
     let p = progress_of c.loop-i.progress in
     let es = c.args.trees.now.items in let i = c.loop-i.i in (
       all_rebuilt k s es c.loop-i.trees.items i c.loop-i.invariant.0.0 (omega arith) c.loop-i.invariant.3,
-      ap (noted k p) (sym (rest_none es i (omega arith))) ∙ c.loop-i.invariant.1,
+      ap (progress_after k p) (sym (rest_none es i (omega arith))) ∙ c.loop-i.invariant.1,
     )
 
 -- the walk stops at the first fault, which is that of the walk over all the parts

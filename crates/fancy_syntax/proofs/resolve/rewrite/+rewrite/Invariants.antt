@@ -2,7 +2,7 @@ use Rattle.std.proofs.Common.{◌≡◌, ◌+◌, ◌≤◌, length, take, drop}
 use Rattle.fancy_grammar.specs.Items.{openings_in}
 use Rattle.fancy_syntax.specs.Notes.{known_of, progress_of}
 use Rattle.fancy_syntax.specs.View.{views}
-use Rattle.fancy_grammar.specs.Walk.{noted}
+use Rattle.fancy_grammar.specs.Walk.{progress_after}
 use Rattle.fancy_syntax.proofs.WalkLemmas.{rest, rebuilt_list}
 use Rattle.fancy_syntax.proofs.resolve.rewrite.+rewrite.Given as goal
 
@@ -10,8 +10,8 @@ abbrev pub invariant-rewrite_all-loop-i : goal.invariant-rewrite_all-loop-i
 invariant-rewrite_all-loop-i l =
     let before = l.fn.trees.items in
     goal.unvisited-rewrite_all-loop-i l
-    × (noted (known_of l.known) (progress_of l.progress) (rest before l.i)
-    ≡ noted (known_of l.known) (progress_of l.fn.progress) (rest before 0))
+    × (progress_after (known_of l.known) (progress_of l.progress) (rest before l.i)
+    ≡ progress_after (known_of l.known) (progress_of l.fn.progress) (rest before 0))
     × (l.progress.passed + length (openings_in (rest before l.i)) ≤ l.fn.progress.passed + length
     (openings_in (rest before 0)))
     × (views (take l.i l.trees.items)

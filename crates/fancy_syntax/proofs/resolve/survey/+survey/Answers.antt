@@ -2,7 +2,7 @@ use Rattle.std.proofs.Common.{arith, rules, ◌≡◌, ◌+◌, ◌++◌, ◌||�
 use Rattle.fancy_parts.specs.Groups.{groups_of}
 use Rattle.fancy_grammar.specs.Items.{items}
 use Rattle.fancy_syntax.specs.View.{view}
-use Rattle.fancy_grammar.specs.Walk.{found}
+use Rattle.fancy_grammar.specs.Walk.{groups_after}
 use Rattle.fancy_syntax.specs.declared.expr.Expr.{the_lemmas}
 use Rattle.fancy_syntax.proofs.PartLemmas.{two_parts, three_parts, two_count, three_count, two_found, three_found}
 use Rattle.fancy_syntax.proofs.PartLemmas.{third_found, two_met, three_met}
@@ -71,7 +71,7 @@ survey_all-loop-tree-preserved t c =
     let es = c.args.trees.now in let i = c.loop-tree.tree-index in let l = items (view c.tree-item.result) in
     let step : rest es i ≡ l ++ rest es (i + 1) = rest_next es i c.tree-item.result (omega arith) (cc) in
     let before = c.loop-tree.found in let now = c.if-may_hold_items.found in
-    let walked : groups_of now.groups ≡ found c.args.named (groups_of before.groups) l
+    let walked : groups_of now.groups ≡ groups_after c.args.named (groups_of before.groups) l
     = elim c.if-may_hold_items.branch [
       | survey_all-then-may_hold_items+in_ok-survey w ↦ rw w.found-is w.in_ok-survey.ensures.found
       | survey_all-else-may_hold_items w ↦ rw (w.found-is, c.may_hold_items.ensures w.if-may_hold_items.false) refl
@@ -84,7 +84,7 @@ survey_all-loop-tree-preserved t c =
     ] in (
       rw walked
           (sym (found_append c.args.named (groups_of before.groups) l (rest es (i + 1)))
-          ∙ ap (found c.args.named (groups_of before.groups)) (sym step) ∙ c.loop-tree.invariant.0),
+          ∙ ap (groups_after c.args.named (groups_of before.groups)) (sym step) ∙ c.loop-tree.invariant.0),
       let total = found_le c.args.named (groups_of before.groups) (groups_of now.groups) l walked in
           omega (arith, count_two (rest es i) l (rest es (i + 1)) step, total, c.loop-tree.invariant.1),
       rw met

@@ -9,6 +9,7 @@ use Rattle.fancy_syntax.proofs.resolve.survey.+survey.Given as goal
 abbrev pub invariant-survey_all-loop-tree : goal.invariant-survey_all-loop-tree
 invariant-survey_all-loop-tree l =
     let left = rest l.trees l.tree-index in let all = rest l.trees 0 in
-    (spec.found l.named (groups_of l.found.groups) left ≡ spec.found l.named (groups_of l.fn.found.groups) all)
+    (spec.groups_after l.named (groups_of l.found.groups) left ≡ spec.groups_after l.named
+    (groups_of l.fn.found.groups) all)
     × (l.found.groups.total + length (openings_in left) ≤ l.fn.found.groups.total + length (openings_in all))
     × ((l.found.met || has_items left) ≡ (l.fn.found.met || has_items all))

@@ -5,9 +5,9 @@ use fancy_syntax::{Error, Expr, WHOLE};
 use fre_program::flag_word::flags_named;
 use std::alloc::{AllocError, Global};
 
-/// What is done to a pattern last. Each step does those before it too.
+/// What is done to a pattern last. Each stage does those before it too.
 #[derive(Clone, Copy)]
-pub(crate) enum Step {
+pub(crate) enum Stage {
     /// The line is decoded.
     Decode,
     /// The pattern is read.
@@ -18,14 +18,14 @@ pub(crate) enum Step {
     Print,
 }
 
-impl Step {
-    /// The last step of a mode.
-    pub(crate) fn named(mode: &str) -> Option<Step> {
+impl Stage {
+    /// The last stage of a mode.
+    pub(crate) fn named(mode: &str) -> Option<Stage> {
         Some(match mode {
-            "none" => Step::Decode,
-            "parse" => Step::Read,
-            "printable" => Step::Ask,
-            "text" => Step::Print,
+            "none" => Stage::Decode,
+            "parse" => Stage::Read,
+            "printable" => Stage::Ask,
+            "text" => Stage::Print,
             _ => return None,
         })
     }
@@ -35,7 +35,7 @@ impl Step {
     pub(crate) fn amount(self, alloc: Global, sample: &Sample) -> Result<usize> {
         let [word, pattern] = &sample.words;
         let flags = flags_named(word.as_str()).context("no flags")?;
-        if let Step::Decode = self {
+        if let Stage::Decode = self {
             return Ok(pattern.len());
         }
         match Expr::parse_tree_with_flags(alloc, pattern.as_str(), flags) {
@@ -48,9 +48,9 @@ impl Step {
     /// The same of a pattern that was read as this tree.
     fn amount_of_tree(self, alloc: Global, tree: &Expr) -> Result<usize, AllocError> {
         match self {
-            Step::Ask => Ok(usize::from(tree.is_printable(alloc)?)),
-            Step::Print => Ok(tree.print(alloc, WHOLE)?.map_or(0, |text| text.len())),
-            Step::Decode | Step::Read => Ok(1),
+            Stage::Ask => Ok(usize::from(tree.is_printable(alloc)?)),
+            Stage::Print => Ok(tree.print(alloc, WHOLE)?.map_or(0, |text| text.len())),
+            Stage::Decode | Stage::Read => Ok(1),
         }
     }
 }

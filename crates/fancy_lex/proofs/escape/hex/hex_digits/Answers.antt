@@ -2,7 +2,7 @@ use Rattle.std.proofs.Common.{◌∙◌, arith, rules}
 use Rattle.std.proofs.lemmas.Result.{err_from_is_err_and}
 use Rattle.fancy_lex.proofs.HexLemmas.{digits_step, digits_fault, digits_none, digits_some, digits_done, push_small}
 use Rattle.fancy_lex.proofs.HexLemmas.{push_fits}
-use Rattle.fancy_lex.proofs.escape.hex.digits.Goals as goal
+use Rattle.fancy_lex.proofs.escape.hex.hex_digits.Goals as goal
 
 pub returns-then-read-eq0-clause-value : goal.returns-then-read-eq0-clause-value
 returns-then-read-eq0-clause-value c =

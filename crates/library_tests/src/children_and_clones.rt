@@ -1,4 +1,4 @@
-//! The calls on trees, on each of the trees with a number.
+//! The children, the clone and the equality of each of the trees with a number.
 use crate::nodes::node;
 use crate::samples::{TREES, children, name, tree};
 use fancy_syntax::error::Error;

@@ -1,0 +1,53 @@
+-- Errors, as the code holds them: what they stand for, and what they print.
+use Rattle.std.specs.Prelude.{◌≡◌, ◌≤◌, ℕ, Bool, false, List, ◌++◌, codes, string_bytes, chars}
+use Rattle.std.specs.Fmt.{decimal}
+use Rattle.fancy_lex.specs.Fault.{Kind, general_parse_error, unclosed_open_paren, invalid_repeat, recursion_exceeded}
+use Rattle.fancy_lex.specs.Fault.{trailing_backslash, invalid_escape, unclosed_unicode_name, invalid_hex}
+use Rattle.fancy_lex.specs.Fault.{invalid_codepoint_value, invalid_class, unknown_flag}
+use Rattle.fancy_lex.specs.Fault.{changing_unicode_mode_unsupported, invalid_backref, target_not_repeatable}
+use Rattle.fancy_lex.specs.Fault.{invalid_group_name, invalid_group_name_backref, kind_text, carries_text}
+use Rattle.fancy_lex.specs.declared.error.Error.{Error}
+use Rattle.fancy_lex.specs.declared.error.Error.TheVariants.{ParseError, OutOfMemory}
+use Rattle.fancy_lex.specs.declared.error.ParseError as declared
+use Rattle.fancy_lex.specs.declared.error.ParseError.TheVariants as code
+
+-- the kind that the code's value stands for
+abbrev pub kind_of : declared.ParseError → Kind
+kind_of (code.GeneralParseError s) = general_parse_error (chars (string_bytes s))
+kind_of code.UnclosedOpenParen = unclosed_open_paren
+kind_of code.InvalidRepeat = invalid_repeat
+kind_of code.RecursionExceeded = recursion_exceeded
+kind_of code.TrailingBackslash = trailing_backslash
+kind_of (code.InvalidEscape s) = invalid_escape (chars (string_bytes s))
+kind_of code.UnclosedUnicodeName = unclosed_unicode_name
+kind_of code.InvalidHex = invalid_hex
+kind_of code.InvalidCodepointValue = invalid_codepoint_value
+kind_of code.InvalidClass = invalid_class
+kind_of (code.UnknownFlag s) = unknown_flag (chars (string_bytes s))
+kind_of code.ChangingUnicodeModeUnsupported = changing_unicode_mode_unsupported
+kind_of code.InvalidBackref = invalid_backref
+kind_of code.TargetNotRepeatable = target_not_repeatable
+kind_of code.InvalidGroupName = invalid_group_name
+kind_of (code.InvalidGroupNameBackref s) = invalid_group_name_backref (chars (string_bytes s))
+
+-- the bytes that an error prints
+abbrev pub error_text : Error → List ℕ
+error_text (ParseError place kind) =
+    codes "Parsing error at position " ++ (decimal place ++ (codes ": " ++ kind_text (kind_of kind)))
+error_text OutOfMemory = codes "out of memory"
+
+-- the same kind at the same place, or both that memory ran out
+abbrev pub SameError : Error → Error → Type 0
+SameError (ParseError p k) (ParseError q l) = (p ≡ q) × (kind_of k ≡ kind_of l)
+SameError OutOfMemory OutOfMemory = Unit {0}
+SameError _ _ = ⊥
+
+-- memory ran out, or the fault stands at most at the place m
+abbrev pub StandsWithin : ℕ → Error → Type 0
+StandsWithin m (ParseError p k) = p ≤ m
+StandsWithin m OutOfMemory = Unit {0}
+
+-- whether its kind carries a text, whose clone takes memory
+abbrev pub error_carries_text : Error → Bool
+error_carries_text (ParseError place kind) = carries_text (kind_of kind)
+error_carries_text OutOfMemory = false
