@@ -10,6 +10,7 @@ pub mod NumberLemmas
 pub mod NumberTextLaws
 mod IdLemmas
 mod AsciiLemmas
+mod NumberIds
 pub mod IdReferenceLaws
 pub mod DelimitedLaws
 pub mod ReferenceLaws

@@ -18,7 +18,7 @@ pub fn next(text: &str) -> Option<(char, &str)>
 }
 
 /// What follows the character, if the text begins with it.
-#[inline]
+#[inline(always)]
 pub fn after(text: &str, mark: char) -> Option<&str>
     ensures value { strip mark (chars text.now) ≡ option_map (λ r. chars r.now) result }
     ensures shorter { IfSome result (λ r. length r.now < length text.now) }

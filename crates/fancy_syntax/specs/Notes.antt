@@ -58,6 +58,11 @@ abbrev pub is_node_read : Tree → Bool
 is_node_read (ast_node node place) = true
 is_node_read _ = false
 
+-- the tree is a capturing group as it is read
+abbrev pub is_group_read : Tree → Bool
+is_group_read (ast_node (ast_group name t) place) = true
+is_group_read _ = false
+
 -- a node that is read is a reference, and no group
 abbrev pub is_reference : AstTree → Bool
 is_reference (ast_group name t) = false

@@ -29,19 +29,6 @@ fn with_digit(value: Option<usize>, digit: usize) -> Option<usize>
     value?.checked_mul(10)?.checked_add(digit)
 }
 
-/// The number at the front where it is one digit, which most numbers are, and what follows it.
-#[inline(always)]
-fn short_number(text: &str) -> Option<(usize, &str)>
-    ensures value { IfSome result (λ p. spec.number (chars text.now) ≡ Some (p.0, chars p.1.now)) }
-    ensures shorter { IfSome result (λ p. length p.1.now < length text.now) }
-{
-    let (value, rest) = digit(text)?;
-    match digit(rest) {
-        Some(_) => None,
-        None => Some((value, rest)),
-    }
-}
-
 /// Reads the digits at the front.
 #[tactic(auto, using(crate::proofs::NumberLemmas::number_steps))]
 fn read_digits(text: &str) -> Option<(Option<usize>, &str)>
@@ -57,15 +44,19 @@ fn read_digits(text: &str) -> Option<(Option<usize>, &str)>
     Some((value, rest))
 }
 
-/// Reads the number at the front.
+/// Reads the number at the front. Most have one digit.
 #[inline(always)]
+#[tactic(auto, using(crate::proofs::NumberLemmas::number_none))]
 fn read_number(text: &str) -> Option<(Option<usize>, &str)>
     ensures value { GivesNumber (chars text.now) result }
     ensures shorter { IfSome result (λ p. length p.1.now < length text.now) }
 {
-    match short_number(text) {
-        Some((value, rest)) => Some((Some(value), rest)),
-        None => read_digits(text),
+    let Some((first, rest)) = digit(text) else {
+        return None;
+    };
+    match digit(rest) {
+        Some(_) => read_digits(text),
+        None => Some((Some(first), rest)),
     }
 }
 

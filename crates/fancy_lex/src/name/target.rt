@@ -9,7 +9,7 @@ ghost use Rattle.fancy_lex.specs.Views.{parts};
 use crate::error::{Error, ParseError};
 use crate::name::CaptureGroupTarget;
 use crate::name::id::{IdReference, id_reference};
-use crate::name::number_text::number_text;
+use crate::name::number_text::{number_text, whole_number};
 use std::alloc::{AllocError, Global};
 
 /// The group that a reference names, whose name is a part of the pattern.
@@ -87,10 +87,18 @@ fn reference_of(written: IdReference<'_>, place: usize) -> Reference<'_>
 
 /// The reference at the place that all of the text writes, where it is an id reference; `amounts` allows amounts.
 #[inline(always)]
-#[tactic(auto, unfolding(crate::specs::Referred::written_reference))]
+#[tactic(auto, unfolding(crate::specs::Referred::written_reference), using(crate::proofs::NumberIds::number_written))]
 fn written_reference(text: &str, amounts: bool, place: usize) -> Option<Reference<'_>>
     ensures value { spec.written_reference place amounts (chars text.now) ≡ option_map view_reference result }
 {
+    // A number alone is an id too.
+    if let Some(number) = whole_number(text) {
+        return Some(Reference {
+            target: Target::ByNumber(number),
+            level: None,
+            place,
+        });
+    }
     let written = id_reference(text, amounts)?;
     Some(reference_of(written, place))
 }

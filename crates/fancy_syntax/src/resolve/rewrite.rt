@@ -3,7 +3,7 @@
 ghost use Rattle.std.specs.Prelude.{◌≡◌, ◌+◌, ◌<◌, ◌^◌, length, true, false};
 ghost use Rattle.fancy_lex.specs.NameViews.{view_target};
 ghost use Rattle.fancy_grammar.specs.Items.{items, items_all, items_absent, items_ast, openings_in};
-ghost use Rattle.fancy_syntax.specs.Notes.{Walks, is_node_read, is_reference, known_of, progress_of, resolved_or};
+ghost use Rattle.fancy_syntax.specs.Notes.{Walks, is_group_read, is_node_read, is_reference, known_of, progress_of, resolved_or};
 ghost use Rattle.fancy_grammar.specs.Tree.{trees_of, ast_node, ast_backref};
 ghost use Rattle.fancy_syntax.specs.View.{view, view_absent, view_ast, views};
 ghost use Rattle.fancy_grammar.specs.Walk.{rebuilt, rebuilt_all, rebuilt_absent};
@@ -67,16 +67,33 @@ fn rewrite_node(tree: &mut Expr, known: &Known, progress: &mut Progress) -> Resu
         unreachable!();
     };
     if let AstNode::AstGroup { .. } = node {
-        // The node is moved alone, and not with its tree; what stands in its place then takes no memory.
-        let taken = AstNode::SubroutineCall(CaptureGroupTarget::ByNumber(0));
-        let node = mem::replace(node, taken);
-        let resolved = resolve_group(node, *place, known, progress)?;
-        mem::forget(mem::replace(tree, resolved));
-    } else if let Some(resolved) = resolve_reference(node, *place, known, progress)? {
+        return rewrite_group(tree, known, progress);
+    }
+    if let Some(resolved) = resolve_reference(node, *place, known, progress)? {
         // The name goes alone, and not with its tree; what stands in its place then takes no memory.
         drop(take_target(node));
         mem::forget(mem::replace(tree, resolved));
     }
+    Ok(())
+}
+
+/// Puts what the capturing group is resolved to in its place.
+#[cycle(rewrite)]
+#[inline(never)]
+fn rewrite_group(tree: &mut Expr, known: &Known, progress: &mut Progress) -> Result<(), Stopped>
+    requires passed { progress.old.passed + length (openings_in (items (view tree.old))) < 2 ^ 63 }
+    requires group { is_group_read (view tree.old) ≡ true }
+    ensures { Walks result (known_of known.now) (progress_of progress.old) (items (view tree.old)) progress.new
+        (λ _. view tree.new ≡ rebuilt (known_of known.now) (progress_of progress.old) (view tree.old)) }
+{
+    let Expr::AstNode(node, place) = tree else {
+        unreachable!();
+    };
+    // The node is moved alone, and not with its tree; what stands in its place then takes no memory.
+    let taken = AstNode::SubroutineCall(CaptureGroupTarget::ByNumber(0));
+    let node = mem::replace(node, taken);
+    let resolved = resolve_group(node, *place, known, progress)?;
+    mem::forget(mem::replace(tree, resolved));
     Ok(())
 }
 
