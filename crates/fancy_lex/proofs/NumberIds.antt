@@ -1,25 +1,26 @@
 -- A number alone is an id, and what an id reference writes with it is the group of that number.
-use Rattle.std.proofs.Common.{◌≡◌, ◌≢◌, ℕ, ◌^◌, ◌<◌, ◌++◌, Bool, true, false, ◌&&◌, nat_lt, [], ◌∷◌, length, Option, Some, None}
-use Rattle.std.proofs.Common.{◌==◌, if◌then◌else◌, option_and_then, unwrap_or, refl, sym, ap, ◌∙◌, append-nil, arith}
+use Rattle.std.proofs.Common.{◌≡◌, ℕ, ◌^◌, ◌<◌, ◌++◌, Bool, true, false, nat_lt, [], ◌∷◌, length, Option, Some, None}
+use Rattle.std.proofs.Common.{◌==◌, if◌then◌else◌, option_and_then, refl, sym, ap, ◌∙◌, append-nil, arith}
 use Rattle.std.proofs.lemmas.Bool.Decides.{nat_tests}
 use Prim.Native.Char.{code}
-use Rattle.std.specs.Char.{is_ascii_digit, is_ascii_alphanumeric}
-use Rattle.fancy_lex.specs.Id.{AllIdChars, StartsWithId, is_id_char, id}
-use Rattle.fancy_lex.specs.IdReference.{id_alone, id_reference}
+use Rattle.std.specs.Char.{is_ascii_digit}
+use Rattle.fancy_lex.specs.Id.{AllIdChars, is_id_char, id}
+use Rattle.fancy_lex.specs.IdReference.{id_reference}
 use Rattle.fancy_lex.specs.Number.{AllDigits, StartsWithNumber, number}
-use Rattle.fancy_lex.specs.NumberText.{number_alone, is_nothing, whole_number, number_text}
+use Rattle.fancy_lex.specs.NumberText.{number_alone, whole_number, number_text}
 use Rattle.fancy_lex.specs.Referred.{reference_of, reference_to, target_of_name, written_reference}
 use Rattle.fancy_lex.specs.Target.{by_number}
 use Rattle.fancy_lex.specs.Text.{Text, strip}
-use Rattle.fancy_lex.proofs.AsciiLemmas.{ascii_is_id_char}
+use Rattle.fancy_lex.proofs.AsciiLemmas.{alphanumeric_told}
 use Rattle.fancy_lex.proofs.IdLemmas.{id_complete}
 use Rattle.fancy_lex.proofs.NumberLemmas.{number_sound}
 
+id_of_digit : (c : ℕ) → is_ascii_digit c ≡ true → is_id_char c ≡ true
+id_of_digit c h = alphanumeric_told c (rw h refl)
+
 ids_of_digits : (w : Text) → AllDigits w → AllIdChars w
 ids_of_digits [] h = tt
-ids_of_digits (c ∷ w) h = (ascii_is_id_char c (alphanumeric c h.0), ids_of_digits w h.1) where
-  alphanumeric : (c : ℕ) → is_ascii_digit c ≡ true → is_ascii_alphanumeric c ≡ true
-  alphanumeric c h = rw h refl
+ids_of_digits (c ∷ w) h = (id_of_digit c h.0, ids_of_digits w h.1)
 
 -- a number behind which nothing is left
 alone : (p : ℕ × Text) (n : ℕ) → number_alone p ≡ Some n → (p.0 ≡ n) × (p.1 ≡ [])

@@ -24,15 +24,18 @@ fn is_number_category(category: GeneralCategory) -> bool
 }
 
 /// Whether the character may stand in an id: a letter or a number in any script, or `_`.
-#[tactic(auto, unfolding(crate::specs::Id::is_id_char), using(crate::proofs::AsciiLemmas::ascii_is_id_char))]
+#[tactic(auto, unfolding(crate::specs::Id::is_id_char), using(crate::proofs::AsciiLemmas::ascii_told))]
 fn is_id_char(c: char) -> bool
     ensures { result ≡ spec.is_id_char c }
 {
-    // Most stand in no table.
+    // Most are ASCII, which no table is needed for.
     if c.is_ascii_alphanumeric() {
         return true;
     }
-    c == '_' || is_alphabetic(c) || is_number_category(GeneralCategory::for_char(c))
+    if c.is_ascii() {
+        return c == '_';
+    }
+    is_alphabetic(c) || is_number_category(GeneralCategory::for_char(c))
 }
 
 /// What stands behind all the id characters at the front.

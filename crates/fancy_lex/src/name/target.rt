@@ -56,7 +56,7 @@ pub struct Call<'a> {
 }
 
 /// The group that a name means: that of the number where it is a number text, or else the one of that name.
-#[inline(always)]
+#[inline(never)]
 #[tactic(auto, unfolding(crate::specs::Referred::target_of_name))]
 pub fn target_of_name(name: &str) -> Target<'_>
     ensures { spec.target_of_name (chars name.now) ≡ view_borrowed result }
@@ -91,7 +91,7 @@ fn reference_of(written: IdReference<'_>, place: usize) -> Reference<'_>
 fn written_reference(text: &str, amounts: bool, place: usize) -> Option<Reference<'_>>
     ensures value { spec.written_reference place amounts (chars text.now) ≡ option_map view_reference result }
 {
-    // A number alone is an id too.
+    // A number is an id too, and is told sooner.
     if let Some(number) = whole_number(text) {
         return Some(Reference {
             target: Target::ByNumber(number),
