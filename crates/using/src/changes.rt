@@ -2,7 +2,7 @@
 use fancy_syntax::Expr;
 
 /// Puts a tree in the place of the child i, and answers whether there is such a child.
-pub(crate) fn replace_child(tree: &mut Expr, i: usize, new: Expr) -> bool {
+pub fn replace_child(tree: &mut Expr, i: usize, new: Expr) -> bool {
     match tree.child_mut(i) {
         Some(child) => {
             *child = new;

@@ -3,7 +3,7 @@ use fancy_syntax::{Error, Expr, FLAG_ONIGURUMA_MODE, FLAG_UNICODE, ParseError};
 use std::alloc::Global;
 
 /// A pattern or more for each kind, with the flags that it is read under; and two whose places are no columns.
-pub(crate) static REFUSED: [(&str, u32); 19] = [
+pub static REFUSED: [(&str, u32); 19] = [
     ("a)", FLAG_UNICODE),
     ("(?(a))", FLAG_UNICODE),
     ("(?~|a|b|c)", FLAG_UNICODE),
@@ -26,7 +26,7 @@ pub(crate) static REFUSED: [(&str, u32); 19] = [
 ];
 
 /// Where the pattern is refused, and why; none where it has a tree.
-pub(crate) fn fault(
+pub fn fault(
     alloc: Global,
     pattern: &str,
     flags: u32,

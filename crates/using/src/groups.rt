@@ -2,12 +2,12 @@
 use fancy_syntax::{Expr, ExprTree};
 
 /// The group that a reference by the name means: the last one of that name.
-pub(crate) fn group_named(tree: &ExprTree, name: &str) -> Option<usize> {
+pub fn group_named(tree: &ExprTree, name: &str) -> Option<usize> {
     tree.named_groups.get(name)?.last().copied()
 }
 
 /// Whether a call stays as it was read, because it means no group.
-pub(crate) fn calls_nothing(tree: &Expr) -> bool {
+pub fn calls_nothing(tree: &Expr) -> bool {
     is_unresolved(tree) || tree.has_descendant(is_unresolved)
 }
 

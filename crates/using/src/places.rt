@@ -2,7 +2,7 @@
 use std::alloc::{AllocError, Global};
 
 /// The column of a place, in characters from 1. At the end, and one byte past it, it is that after the last character.
-pub(crate) fn column(pattern: &str, place: usize) -> usize {
+pub fn column(pattern: &str, place: usize) -> usize {
     let before = pattern
         .char_indices()
         .take_while(|(start, _)| *start < place);
@@ -10,7 +10,7 @@ pub(crate) fn column(pattern: &str, place: usize) -> usize {
 }
 
 /// The pattern, and below it a mark under the place.
-pub(crate) fn pointed(alloc: Global, pattern: &str, place: usize) -> Result<String, AllocError> {
+pub fn pointed(alloc: Global, pattern: &str, place: usize) -> Result<String, AllocError> {
     let column = column(pattern, place);
     format!(in alloc; "{pattern}\n{:>column$}", '^')
 }

@@ -9,7 +9,7 @@ use fancy_syntax::{Error, Expr, FLAG_UNICODE, WHOLE};
 use std::alloc::Global;
 
 /// The text that the pattern prints as; none where its tree is not printable.
-pub(crate) fn formatted(alloc: Global, pattern: &str) -> Result<Option<String>, Error>
+pub fn formatted(alloc: Global, pattern: &str) -> Result<Option<String>, Error>
     ensures form { IfOk result (λ text. MatchOption text (HasNoForm (flags_of FLAG_UNICODE) (chars pattern.now))
         (λ s. IsFormOf (flags_of FLAG_UNICODE) (chars pattern.now) (chars (string_bytes s)))) }
 {
@@ -18,7 +18,7 @@ pub(crate) fn formatted(alloc: Global, pattern: &str) -> Result<Option<String>, 
 }
 
 /// How many capturing groups the pattern has.
-pub(crate) fn group_count(alloc: Global, pattern: &str) -> Result<usize, Error>
+pub fn group_count(alloc: Global, pattern: &str) -> Result<usize, Error>
     ensures count { IfOk result (λ n. (t : _) (m : _) → IsTreeOf (flags_of FLAG_UNICODE) (chars pattern.now) t m →
         length (groups t) ≡ n) }
 {

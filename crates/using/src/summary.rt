@@ -3,7 +3,7 @@ use fancy_syntax::{Error, Expr, WHOLE};
 use std::alloc::Global;
 
 /// How many groups the pattern has, and its text as it prints; no text where its tree is not printable.
-pub(crate) fn summary(alloc: Global, pattern: &str) -> Result<(usize, Option<String>), Error> {
+pub fn summary(alloc: Global, pattern: &str) -> Result<(usize, Option<String>), Error> {
     let tree = Expr::parse_tree(alloc, pattern)?;
     let text = tree.expr.print(alloc, WHOLE)?;
     Ok((tree.total_groups, text))

@@ -3,7 +3,7 @@ use fancy_syntax::Expr;
 use std::alloc::AllocError;
 
 /// Adds the text of each literal, in the order of the pattern.
-pub(crate) fn push_literals(tree: &Expr, text: &mut String) -> Result<(), AllocError> {
+pub fn push_literals(tree: &Expr, text: &mut String) -> Result<(), AllocError> {
     if let Expr::Literal { val, .. } = tree {
         text.push_str(val.as_str())?;
     }
@@ -14,6 +14,6 @@ pub(crate) fn push_literals(tree: &Expr, text: &mut String) -> Result<(), AllocE
 }
 
 /// Whether something below the top of the tree may be repeated without a bound.
-pub(crate) fn repeats_without_bound(tree: &Expr) -> bool {
+pub fn repeats_without_bound(tree: &Expr) -> bool {
     tree.has_descendant(|below| matches!(below, Expr::Repeat { hi: usize::MAX, .. }))
 }
