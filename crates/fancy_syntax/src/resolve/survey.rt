@@ -1,6 +1,6 @@
 //! The first walk: the groups that have a number, the numbers of each name, and whether there is anything to resolve.
-ghost use Rattle.std.specs.Prelude.{chars, ◌≡◌, ◌+◌, ◌<◌, ◌^◌, ◌||◌, [], false, length, IfOk, option_map};
-ghost use Rattle.fancy_parts.specs.Groups.{groups_of, no_groups};
+ghost use Rattle.std.specs.Prelude.{chars, ◌≡◌, ◌+◌, ◌<◌, ◌^◌, ◌||◌, [], false, if◌then◌else◌, length, IfOk, option_map};
+ghost use Rattle.fancy_parts.specs.Groups.{groups_of, no_groups, with_group};
 ghost use Rattle.fancy_parts.specs.Ranks.{is_counted};
 ghost use Rattle.fancy_grammar.specs.Items.{items, items_all, items_absent, items_ast, openings_in};
 ghost use Rattle.fancy_grammar.specs.Tree.{trees_of};
@@ -101,9 +101,9 @@ pub(super) fn may_hold_items(tree: &Expr) -> bool
 
 // The functions for nodes that hold trees are not inlined, so that the call for a leaf saves no registers.
 
-/// Adds the groups of the node that is read at the place.
+/// Adds the groups of the node that is read at the place. A reference has none, and is met without a call.
 #[cycle(survey)]
-#[inline(never)]
+#[inline(always)]
 fn survey_node(
     alloc: Global,
     node: &AstNode,
@@ -120,15 +120,38 @@ fn survey_node(
 {
     found.met = true;
     match node {
-        AstNode::AstGroup { name, inner } => {
-            let name = name.as_deref();
-            if is_counted_name(named, name) {
-                found.groups.add(alloc, name)?;
-            }
-            survey(alloc, inner, named, found)
-        }
+        AstNode::AstGroup { name, inner } => survey_group(
+            alloc,
+            name.as_deref(),
+            inner,
+            named,
+            found,
+        ),
         _ => Ok(()),
     }
+}
+
+/// Adds the group of that name, where it has a number, and then those in it.
+#[cycle(survey)]
+#[inline(never)]
+fn survey_group(
+    alloc: Global,
+    name: Option<&str>,
+    inner: &Expr,
+    named: bool,
+    found: &mut Found,
+) -> Result<(), AllocError>
+    requires { found.old.groups.total + 1 + length (openings_in (items (view inner.now))) < 2 ^ 63 }
+    ensures found { let name = option_map (λ t. chars t.now) name.entry in
+        let before = groups_of found.old.groups in
+        let opened = if is_counted named name then with_group before name else before in
+        IfOk result (λ _. groups_of found.new.groups ≡ spec.groups_after named opened (items (view inner.now))) }
+    ensures met { IfOk result (λ _. found.new.met ≡ (found.old.met || has_items (items (view inner.now)))) }
+{
+    if is_counted_name(named, name) {
+        found.groups.add(alloc, name)?;
+    }
+    survey(alloc, inner, named, found)
 }
 
 /// Adds the groups of the node.
