@@ -99,8 +99,6 @@ pub(super) fn may_hold_items(tree: &Expr) -> bool
     )
 }
 
-// The functions for nodes that hold trees are not inlined, so that the call for a leaf saves no registers.
-
 /// Adds the groups of the node that is read at the place. A reference has none, and is met without a call.
 #[cycle(survey)]
 #[inline(always)]
@@ -130,6 +128,8 @@ fn survey_node(
         _ => Ok(()),
     }
 }
+
+// The functions for nodes that hold trees are not inlined, so that the call for a leaf saves no registers.
 
 /// Adds the group of that name, where it has a number, and then those in it.
 #[cycle(survey)]
