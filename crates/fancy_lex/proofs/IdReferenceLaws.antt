@@ -22,7 +22,7 @@ use Rattle.fancy_lex.proofs.IdLemmas.{Stops, id_complete, id_none}
 use Rattle.fancy_lex.proofs.NumberTextLaws.{whole_complete, whole_sound}
 
 -- no sign is an id character
-plus_no_id : is_id_char (code "+") ≡ false
+pub plus_no_id : is_id_char (code "+") ≡ false
 unfolding is_id_char ucd_category ucd_derived
 plus_no_id = refl
 

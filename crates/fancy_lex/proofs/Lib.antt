@@ -10,8 +10,8 @@ pub mod NumberLemmas
 pub mod NumberTextLaws
 mod IdLemmas
 mod AsciiLemmas
-mod NumberIds
 pub mod IdReferenceLaws
+mod NumberIds
 pub mod DelimitedLaws
 pub mod ReferenceLaws
 pub mod ReferencePlaces

@@ -1,18 +1,20 @@
--- A number alone is an id, and what an id reference writes with it is the group of that number.
-use Rattle.std.proofs.Common.{◌≡◌, ℕ, ◌^◌, ◌<◌, ◌++◌, Bool, true, false, nat_lt, [], ◌∷◌, length, Option, Some, None}
-use Rattle.std.proofs.Common.{◌==◌, if◌then◌else◌, option_and_then, refl, sym, ap, ◌∙◌, append-nil, arith}
+-- A number alone is an id, and what an id reference writes with it is the group of that number; with any other id alone
+-- it is the group of that name.
+use Rattle.std.proofs.Common.{◌≡◌, ℕ, ◌^◌, Bool, true, false, nat_lt, [], ◌∷◌, Option, Some, None, ◌==◌, if◌then◌else◌}
+use Rattle.std.proofs.Common.{option_and_then, refl, sym, ap, ◌∙◌, subst, append-nil, arith}
+use Rattle.std.proofs.lemmas.Bool.{false≢true}
 use Rattle.std.proofs.lemmas.Bool.Decides.{nat_tests}
 use Prim.Native.Char.{code}
 use Rattle.std.specs.Char.{is_ascii_digit}
-use Rattle.fancy_lex.specs.Id.{AllIdChars, is_id_char, id}
-use Rattle.fancy_lex.specs.IdReference.{id_reference}
+use Rattle.fancy_lex.specs.Id.{AllIdChars, IsId, is_id_char}
+use Rattle.fancy_lex.specs.IdReference.{IdReference, id_alone, IsIdReference, plain, with_amount, without_id, id_reference}
 use Rattle.fancy_lex.specs.Number.{AllDigits, StartsWithNumber, number}
 use Rattle.fancy_lex.specs.NumberText.{number_alone, whole_number, number_text}
 use Rattle.fancy_lex.specs.Referred.{reference_of, reference_to, target_of_name, written_reference}
-use Rattle.fancy_lex.specs.Target.{by_number}
+use Rattle.fancy_lex.specs.Target.{by_number, by_name}
 use Rattle.fancy_lex.specs.Text.{Text, strip}
 use Rattle.fancy_lex.proofs.AsciiLemmas.{alphanumeric_told}
-use Rattle.fancy_lex.proofs.IdLemmas.{id_complete}
+use Rattle.fancy_lex.proofs.IdReferenceLaws.{plus_no_id, reference_complete, reference_sound}
 use Rattle.fancy_lex.proofs.NumberLemmas.{number_sound}
 
 id_of_digit : (c : ℕ) → is_ascii_digit c ≡ true → is_id_char c ≡ true
@@ -39,30 +41,44 @@ whole_is t n h = by (number t) refl h where
       let is = alone p n h in
       number_sound t [] n (e ∙ (λ i. Some (is.0 i, is.1 i)))
 
-id_of_number : (t : Text) (n : ℕ) → StartsWithNumber t [] n → ◌≡◌ {A = Option (Text × Text)} (id t) (Some (t, []))
+id_of_number : (t : Text) (n : ℕ) → StartsWithNumber t [] n → IsId t
 id_of_number t n b =
     let same : b.w ≡ t = sym (append-nil b.w) ∙ sym b.cut in
-    id_complete t b.w [] (record {
-      cut = b.cut;
-      id = record {
-        id = record { chars = ids_of_digits b.w b.number.digits; some = b.number.some };
-        stops = λ c u e. absurd (nothing c u e);
-      };
-    }) ∙ ap (λ w. Some (w, [])) same
-  where
-    nothing : (c : ℕ) (u : Text) → [] ≡ c ∷ u → ⊥
-    nothing c u e = cc
+    subst IsId same (record { chars = ids_of_digits b.w b.number.digits; some = b.number.some })
 
-no_plus : (t : Text) (n : ℕ) → StartsWithNumber t [] n → strip (code "+") t ≡ None
-no_plus t n b = rw b.cut (front b.w b.number.digits b.number.some) where
-  front : (w : Text) → AllDigits w → 0 < length w → strip (code "+") (w ++ []) ≡ None
-  front [] h s = absurd (omega (arith, s))
-  front (c ∷ w) h s = rw (no_digit c h.0) refl where
-    no_digit : (c : ℕ) → is_ascii_digit c ≡ true → (c == code "+") ≡ false
-    no_digit c h = grind (arith, nat_tests)
+no_plus : (t : Text) → IsId t → strip (code "+") t ≡ None
+no_plus [] i = absurd (omega (arith, i.some))
+no_plus (c ∷ t) i = at (c == code "+") refl where
+  at : (b : Bool) → (c == code "+") ≡ b → (if b then Some t else None) ≡ None
+  at true e =
+      let same : c ≡ code "+" = grind (arith, nat_tests) in
+      absurd (false≢true (sym plus_no_id ∙ sym (ap is_id_char same) ∙ i.chars.0))
+  at false e = refl
 
+-- a number alone is the group of that number
 pub number_written : (p : ℕ) (amounts : Bool) (t : Text) (n : ℕ) → whole_number t ≡ Some n →
     written_reference p amounts t ≡ Some (reference_to p (by_number n) None)
-unfolding written_reference id_reference target_of_name number_text reference_of
+unfolding written_reference target_of_name number_text reference_of
 number_written p amounts t n h =
-    let b = whole_is t n h in rw (id_of_number t n b, no_plus t n b, h) refl
+    let i = id_of_number t n (whole_is t n h) in
+    rw (reference_complete amounts t (id_alone t) (plain i), no_plus t i, h) refl
+
+alone_is : (relative : Bool) (t w : Text) (r : IdReference) → IsIdReference relative t r → r ≡ id_alone w →
+    (t ≡ w) × IsId t
+alone_is relative t w r (plain i) e = (cc, i)
+alone_is relative t w r (with_amount i a q s m) e = absurd cc
+alone_is relative t w r (without_id m z) e = absurd cc
+
+no_number_text : (t : Text) → IsId t → whole_number t ≡ None → number_text t ≡ None
+unfolding number_text
+no_number_text t i h = rw (no_plus t i, h) refl
+
+-- an id alone that is no number is the group of that name
+pub name_written : (p : ℕ) (amounts : Bool) (t w : Text) → whole_number t ≡ None →
+    id_reference amounts t ≡ Some (id_alone w) →
+    written_reference p amounts t ≡ Some (reference_to p (by_name w) None)
+unfolding written_reference target_of_name reference_of
+name_written p amounts t w h r =
+    let is = alone_is amounts t w (id_alone w) (reference_sound amounts t (id_alone w) r) refl in
+    let none : number_text w ≡ None = subst (λ u. number_text u ≡ None) is.0 (no_number_text t is.1 h) in
+    rw (r, none) refl

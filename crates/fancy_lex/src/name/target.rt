@@ -1,6 +1,6 @@
 //! What references name, as it is written in the pattern.
 ghost use Rattle.std.specs.Prelude.{◌≡◌, chars, false, IfOk, IsOk, IfSome, IsSome, option_map};
-ghost use Rattle.fancy_lex.specs.NameViews.{view_borrowed, view_id_reference, view_reference, view_target};
+ghost use Rattle.fancy_lex.specs.NameViews.{view_borrowed, view_reference, view_target};
 ghost use Rattle.fancy_lex.specs.Reading.{Reads};
 ghost use Rattle.fancy_lex.specs.Referred as spec;
 ghost use Rattle.fancy_lex.specs.Target.{is_by_name};
@@ -67,17 +67,11 @@ pub fn target_of_name(name: &str) -> Target<'_>
     }
 }
 
-/// The reference at the place that an id reference says: an amount alone is relative, and one behind an id is a level.
+/// The reference at the place to this group, at this level.
 #[inline(always)]
-#[tactic(auto, unfolding(crate::specs::Referred::reference_of))]
-fn reference_of(written: IdReference<'_>, place: usize) -> Reference<'_>
-    ensures { spec.reference_of place (view_id_reference written.entry) ≡ view_reference result }
+fn reference_to(place: usize, target: Target<'_>, level: Option<isize>) -> Reference<'_>
+    ensures { view_reference result ≡ spec.reference_to place (view_borrowed target.entry) level }
 {
-    let (target, level) = match written {
-        IdReference::Id(id) => (target_of_name(id), None),
-        IdReference::IdAndAmount(id, amount) => (target_of_name(id), Some(amount)),
-        IdReference::Amount(amount) => (Target::Relative(amount), None),
-    };
     Reference {
         target,
         level,
@@ -85,22 +79,26 @@ fn reference_of(written: IdReference<'_>, place: usize) -> Reference<'_>
     }
 }
 
-/// The reference at the place that all of the text writes, where it is an id reference; `amounts` allows amounts.
+/// The reference at the place that all of the text writes, where it is an id reference; `amounts` allows amounts. An
+/// amount alone is relative, and one behind an id is a level.
 #[inline(always)]
-#[tactic(auto, unfolding(crate::specs::Referred::written_reference), using(crate::proofs::NumberIds::number_written))]
+#[tactic(auto, unfolding(crate::specs::Referred::written_reference, crate::specs::Referred::reference_of))]
 fn written_reference(text: &str, amounts: bool, place: usize) -> Option<Reference<'_>>
     ensures value { spec.written_reference place amounts (chars text.now) ≡ option_map view_reference result }
 {
     // A number is an id too, and is told sooner.
     if let Some(number) = whole_number(text) {
-        return Some(Reference {
-            target: Target::ByNumber(number),
-            level: None,
-            place,
-        });
+        return Some(reference_to(place, Target::ByNumber(number), None));
     }
-    let written = id_reference(text, amounts)?;
-    Some(reference_of(written, place))
+    match id_reference(text, amounts)? {
+        IdReference::Id(name) => Some(reference_to(place, Target::ByName(name), None)),
+        IdReference::IdAndAmount(id, amount) => Some(reference_to(
+            place,
+            target_of_name(id),
+            Some(amount),
+        )),
+        IdReference::Amount(amount) => Some(reference_to(place, Target::Relative(amount), None)),
+    }
 }
 
 /// The reference at the place that the name writes, and the text behind it, where one was found; `amounts` allows
