@@ -56,7 +56,7 @@ amount_complete w z h =
     let small : nat_lt h.value (2 ^ 63) ≡ true = grind (arith, nat_tests, h.small) in
     rw (h.cut, h.is_sign, whole_complete h.digits h.value word, small, h.amount_is) refl
 
-amount_sound : (w : Text) (z : ℤ) → amount w ≡ Some z → IsAmount w z
+pub amount_sound : (w : Text) (z : ℤ) → amount w ≡ Some z → IsAmount w z
 unfolding amount
 amount_sound [] z e = absurd cc
 amount_sound (c ∷ t) z e = at (c ∈ "+-") refl e where

@@ -1,5 +1,5 @@
 -- One step of a number, and that the reading function and the relation are one.
-use Rattle.std.proofs.Common.{rules, IfSome, IsSome, chars, ◌≡◌, ℕ, ◌+◌, ◌*◌, ◌-◌, ◌<◌, Bool, true, false, List, []}
+use Rattle.std.proofs.Common.{rules, IfSome, IsSome, chars, ◌≡◌, ℕ, ◌+◌, ◌*◌, ◌-◌, ◌^◌, ◌<◌, ◌≤◌, if◌then◌else◌, Bool, true, false, List, []}
 use Rattle.std.proofs.Common.{◌∷◌, ◌++◌, length, Option, Some, None, ap, sym, ◌∙◌, refl, arith, subst}
 use Rattle.std.proofs.lemmas.Bool.Decides.{nat_tests}
 use Rattle.std.specs.Borrow.{Bor}
@@ -29,6 +29,43 @@ run_stop n (c ∷ r) e = rw e refl
 pub at_digit_is : (t : Text) (d : ℕ) (r : Text) → t ≡ digit_code d ∷ r → d < 10 → at_digit t ≡ true
 at_digit_is t d r e h = rw e (digit_is d h)
 
+-- what is left is the same, whatever was read before
+run_behind : (n m : ℕ) (t : Text) → (run n t).1 ≡ (run m t).1
+unfolding run
+run_behind n m [] = refl
+run_behind n m (c ∷ t) =
+    let d = c - code "0" in
+    at _ _ (is_ascii_digit c) (run_behind (n * 10 + d) (m * 10 + d) t)
+  where
+    at : (a b : ℕ × Text) (is : Bool) → a.1 ≡ b.1 → (if is then a else (n, c ∷ t)).1 ≡ (if is then b else (m, c ∷ t)).1
+    at a b true h = h
+    at a b false h = refl
+
+pub behind_step : (t : Text) (d : ℕ) (r : Text) → t ≡ digit_code d ∷ r → d < 10 → (run 0 t).1 ≡ (run 0 r).1
+behind_step t d r e h = ap (λ (p : ℕ × Text). p.1) (run_first t d r e h) ∙ run_behind d 0 r
+
+-- digits make no number smaller
+run_grows : (n : ℕ) (t : Text) → n ≤ (run n t).0
+unfolding run
+run_grows n [] = omega arith
+run_grows n (c ∷ t) =
+    let more = run_grows (n * 10 + (c - code "0")) t in
+    at _ (is_ascii_digit c) (omega (arith, more))
+  where
+    at : (a : ℕ × Text) (is : Bool) → n ≤ a.0 → n ≤ (if is then a else (n, c ∷ t)).0
+    at a true h = h
+    at a false h = omega arith
+
+-- a number that no word holds stays so with more digits
+pub run_beyond : (n : ℕ) (t : Text) (d : ℕ) (r v : Text) → t ≡ digit_code d ∷ r → d < 10 → 2 ^ 64 ≤ n * 10 + d →
+    (run 0 r).1 ≡ v → (m : ℕ) × (run n t ≡ (m, v)) × (2 ^ 64 ≤ m)
+run_beyond n t d r v e h beyond left =
+    let more = run_grows (n * 10 + d) r in (
+      (run (n * 10 + d) r).0,
+      run_step n t d r e h ∙ ap (λ u. ((run (n * 10 + d) r).0, u)) (run_behind _ 0 r ∙ left),
+      omega (arith, beyond, more),
+    )
+
 pub number_none : (t : Text) → at_digit t ≡ false → number t ≡ None
 unfolding number
 number_none t e = rw e refl
@@ -41,6 +78,11 @@ pub number_of_one_digit : (t : Text) (d : ℕ) (r : Text) → t ≡ (d + 48) ∷
     number t ≡ Some (d, r)
 number_of_one_digit t d r e h stop =
     number_some t (at_digit_is t d r e h) ∙ ap Some (run_first t d r e h ∙ run_stop d r stop)
+
+pub number_of_more_digits : (t : Text) (d : ℕ) (r : Text) (e : ℕ) (s : Text) → t ≡ digit_code d ∷ r → d < 10 →
+    r ≡ digit_code e ∷ s → e < 10 → number t ≡ Some (run (d * 10 + e) s)
+number_of_more_digits t d r e s p h q k =
+    number_some t (at_digit_is t d r p h) ∙ ap Some (run_first t d r p h ∙ run_step d r e s q k)
 
 run_digits : (n : ℕ) (w v : Text) → AllDigits w → run n (w ++ v) ≡ run (value_after n w) v
 unfolding run

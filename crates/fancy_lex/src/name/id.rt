@@ -82,7 +82,7 @@ pub enum IdReference<'a> {
 
 /// The amount that all of the text writes: a sign, and ASCII digits of a number of at most `isize::MAX`.
 #[tactic(auto, unfolding(crate::specs::IdReference::amount))]
-fn amount(text: &str) -> Option<isize>
+pub(crate) fn amount(text: &str) -> Option<isize>
     ensures value { reference.amount (chars text.now) ≡ result }
 {
     let (sign, digits) = next(text)?;

@@ -1,5 +1,5 @@
 //! Numbers: the digits at the front of a text.
-ghost use Rattle.std.specs.Prelude.{◌≡◌, ℕ, ◌+◌, ◌*◌, ◌<◌, ◌∷◌, length, chars, IfSome, MatchOption, false, IsSome, List, Some};
+ghost use Rattle.std.specs.Prelude.{◌≡◌, ℕ, ◌+◌, ◌*◌, ◌<◌, ◌≤◌, ◌∷◌, length, chars, IfSome, MatchOption, false, IsSome, List, Some};
 ghost use Rattle.fancy_lex.specs.Number as spec;
 ghost use Rattle.fancy_lex.specs.Views.{GivesNumber};
 
@@ -21,27 +21,47 @@ fn digit(text: &str) -> Option<(usize, &str)>
 }
 
 /// The number with one digit more, where a word holds it.
-#[inline]
-fn with_digit(value: Option<usize>, digit: usize) -> Option<usize>
+#[inline(always)]
+fn with_digit(number: usize, digit: usize) -> Option<usize>
     requires { digit < 10 }
-    ensures { (n : ℕ) → spec.IsWord value n → spec.IsWord result (n * 10 + digit) }
+    ensures { spec.IsWord result (number * 10 + digit) }
 {
-    value?.checked_mul(10)?.checked_add(digit)
+    // Most are small, and one test tells that there is room.
+    if number < 1 << 60 {
+        return Some(number * 10 + digit);
+    }
+    number.checked_mul(10)?.checked_add(digit)
 }
 
-/// Reads the digits at the front.
+/// What stands behind all the digits at the front.
 #[tactic(auto, using(crate::proofs::NumberLemmas::number_steps))]
-fn read_digits(text: &str) -> Option<(Option<usize>, &str)>
-    ensures value { GivesNumber (chars text.now) result }
-    ensures shorter { IfSome result (λ p. length p.1.now < length text.now) }
+fn behind_digits(text: &str) -> &str
+    ensures value { (spec.run 0 (chars text.now)).1 ≡ chars result.now }
+    ensures within { length result.now ≤ length text.now }
 {
-    let (first, mut rest) = digit(text)?;
-    let mut value = Some(first);
-    while let Some((next, after)) = digit(rest) {
-        value = with_digit(value, next);
+    let mut rest = text;
+    while let Some((_, after)) = digit(rest) {
         rest = after;
     }
-    Some((value, rest))
+    rest
+}
+
+/// The number that the digits at the front write behind those of `number`, where a word holds it, and the text after them.
+#[tactic(auto, using(crate::proofs::NumberLemmas::number_steps))]
+fn more_digits(number: usize, text: &str) -> (Option<usize>, &str)
+    ensures value { (n : ℕ) × (spec.run number (chars text.now) ≡ (n, chars result.1.now)) × spec.IsWord result.0 n }
+    ensures within { length result.1.now ≤ length text.now }
+{
+    let mut value = number;
+    let mut rest = text;
+    while let Some((next, after)) = digit(rest) {
+        let Some(more) = with_digit(value, next) else {
+            return (None, behind_digits(after));
+        };
+        value = more;
+        rest = after;
+    }
+    (Some(value), rest)
 }
 
 /// Reads the number at the front. Most have one digit.
@@ -51,13 +71,11 @@ fn read_number(text: &str) -> Option<(Option<usize>, &str)>
     ensures value { GivesNumber (chars text.now) result }
     ensures shorter { IfSome result (λ p. length p.1.now < length text.now) }
 {
-    let Some((first, rest)) = digit(text) else {
-        return None;
+    let (first, rest) = digit(text)?;
+    let Some((second, behind)) = digit(rest) else {
+        return Some((Some(first), rest));
     };
-    match digit(rest) {
-        Some(_) => read_digits(text),
-        None => Some((Some(first), rest)),
-    }
+    Some(more_digits(first * 10 + second, behind))
 }
 
 /// Reads the digits at the front: their value, where a word holds it, and the text after them.

@@ -1,5 +1,6 @@
 //! What references name, as it is written in the pattern.
-ghost use Rattle.std.specs.Prelude.{◌≡◌, chars, false, IfOk, IsOk, IfSome, IsSome, option_map};
+ghost use Rattle.std.specs.Prelude.{◌≡◌, chars, false, IfOk, IsOk, IfSome, IsSome, MatchOption, Some, None, option_map};
+ghost use Rattle.fancy_lex.specs.NumberText.{whole_number};
 ghost use Rattle.fancy_lex.specs.NameViews.{view_borrowed, view_reference, view_target};
 ghost use Rattle.fancy_lex.specs.Reading.{Reads};
 ghost use Rattle.fancy_lex.specs.Referred as spec;
@@ -8,8 +9,10 @@ ghost use Rattle.fancy_lex.specs.Views.{parts};
 
 use crate::error::{Error, ParseError};
 use crate::name::CaptureGroupTarget;
-use crate::name::id::{IdReference, id_reference};
-use crate::name::number_text::{number_text, whole_number};
+use crate::name::id::{IdReference, amount, id_reference};
+use crate::name::number::number;
+use crate::name::number_text::number_text;
+use crate::text::next;
 use std::alloc::{AllocError, Global};
 
 /// The group that a reference names, whose name is a part of the pattern.
@@ -79,6 +82,25 @@ fn reference_to(place: usize, target: Target<'_>, level: Option<isize>) -> Refer
     }
 }
 
+/// The reference at the place that all of the text writes by a number, alone or with a level behind it; `amounts` allows
+/// the level. None where no number stands at the front, where no word holds it, and where what follows it is no level.
+#[inline(always)]
+#[tactic(auto, unfolding(crate::specs::NumberText::whole_number), using(crate::proofs::NumberIds::numbers_written))]
+fn reference_by_number(text: &str, amounts: bool, place: usize) -> Option<Reference<'_>>
+    ensures value { MatchOption result (whole_number (chars text.now) ≡ None)
+        (λ r. spec.written_reference place amounts (chars text.now) ≡ Some (view_reference r)) }
+{
+    let (value, rest) = number(text)?;
+    let target = Target::ByNumber(value?);
+    if next(rest).is_none() {
+        return Some(reference_to(place, target, None));
+    }
+    if !amounts {
+        return None;
+    }
+    Some(reference_to(place, target, Some(amount(rest)?)))
+}
+
 /// The reference at the place that all of the text writes, where it is an id reference; `amounts` allows amounts. An
 /// amount alone is relative, and one behind an id is a level.
 #[inline(always)]
@@ -87,8 +109,8 @@ fn written_reference(text: &str, amounts: bool, place: usize) -> Option<Referenc
     ensures value { spec.written_reference place amounts (chars text.now) ≡ option_map view_reference result }
 {
     // A number is an id too, and is told sooner.
-    if let Some(number) = whole_number(text) {
-        return Some(reference_to(place, Target::ByNumber(number), None));
+    if let Some(reference) = reference_by_number(text, amounts, place) {
+        return Some(reference);
     }
     match id_reference(text, amounts)? {
         IdReference::Id(name) => Some(reference_to(place, Target::ByName(name), None)),
