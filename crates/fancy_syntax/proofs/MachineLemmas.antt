@@ -24,7 +24,7 @@ use Rattle.fancy_syntax.specs.Machine.{is_second, opened_by_bar, branches_at_bar
 use Rattle.fancy_syntax.specs.Machine.{a_group}
 use Rattle.fancy_syntax.specs.Machine.{a_condition, a_body, behind_condition, a_branch, behind_branch, lacks_body}
 use Rattle.fancy_syntax.specs.Machine.{node_of_part, goes_on, ended_part, Began, GivesStep, GivesPiece, ReadSoFar}
-use Rattle.fancy_syntax.specs.Machine.{OpenGroups}
+use Rattle.fancy_syntax.specs.Machine.{OpenGroups, Running}
 use Rattle.fancy_syntax.specs.Machine.{outermost, inner, HoldsTrees, IsStep, OpensBelow, Takes}
 use Rattle.fancy_grammar.specs.Depth.{max_depth}
 use Rattle.fancy_grammar.specs.Grammar.{trees_before}
@@ -317,18 +317,6 @@ levels_pop {n} {start} gs g {ts} (inner {d} {s} {t} {frames} {below} {branches} 
     }
 
 -- ---- the loop's state: the stack, the innermost part, the trees and where it stands
-
-pub record Running (n : ℕ) (start : State) (stack : List Frame) (f : Frame) (trees : List Tree) (t : State) : Type 0
-  where
-    pub depth : ℕ
-    pub begin : State
-    pub below : List Tree
-    pub branches : List Tree
-    pub pieces : List Tree
-    pub is_depth : depth ≡ length stack
-    pub holds : HoldsTrees f trees below branches pieces
-    pub levels : OpenGroups n start stack below (part_of f.opener) depth begin
-    pub reading : ReadSoFar n depth (part_of f.opener) begin branches pieces t
 
 -- a group in which nothing is read yet stands above all trees
 holds_new : (g : Frame) (trees : List Tree) → g.branches ≡ length trees → g.pieces ≡ length trees →

@@ -13,14 +13,15 @@ use Rattle.fancy_grammar.specs.Grammar.{Alternation, Branches, Branch, Pieces, P
 use Rattle.fancy_grammar.specs.Grammar.{branches_of, conditional_of, clear_or_stopper, trees_before}
 use Rattle.fancy_grammar.specs.Head.{Head, group_node}
 use Rattle.fancy_grammar.specs.Join.{solid}
-use Rattle.fancy_syntax.specs.Parsed.{head_of}
+use Rattle.fancy_syntax.specs.Parsed.{head_of, state}
 use Rattle.fancy_grammar.specs.Errors.{IsErrorAmong}
 use Rattle.fancy_grammar.specs.State.{ends, skipped, State, at, Outcome, done, faulted}
 use Rattle.fancy_grammar.specs.Tree.{Tree, absent, expression}
-use Rattle.fancy_syntax.specs.View.{view}
+use Rattle.fancy_syntax.specs.View.{view, views}
 use Rattle.fancy_syntax.specs.declared.grammar.frame.Frame.{Frame}
 use Rattle.fancy_syntax.specs.declared.grammar.frame.Opener.{Opener}
 use Rattle.fancy_syntax.specs.declared.grammar.frame.Opener.TheVariants as opener
+use Rattle.fancy_syntax.specs.declared.grammar.reading.Reading.{Reading}
 use Rattle.fancy_syntax.specs.declared.grammar.step.Step.{Step}
 use Rattle.fancy_syntax.specs.declared.grammar.step.Step.TheVariants as step
 
@@ -171,3 +172,21 @@ pub data OpenGroups (n : ℕ) (start : State) : List Frame → List Tree → Ope
       (f : Frame) → all ≡ frames ++ f ∷ [] → HoldsTrees f trees below branches pieces →
       OpenGroups n start frames below (part_of f.opener) d s → ReadSoFar n d (part_of f.opener) s branches pieces t →
       Began f t → ends t.rest ≡ false → OpensPart n d t p v → OpenGroups n start all trees p (d + 1) v
+
+-- what is open is read of a text that begins at `start`, up to t: the frames, the trees that they hold, and the frame
+-- on top of them
+pub record Running (n : ℕ) (start : State) (stack : List Frame) (f : Frame) (trees : List Tree) (t : State) : Type 0
+  where
+    pub depth : ℕ
+    pub begin : State
+    pub below : List Tree
+    pub branches : List Tree
+    pub pieces : List Tree
+    pub is_depth : depth ≡ length stack
+    pub holds : HoldsTrees f trees below branches pieces
+    pub levels : OpenGroups n start stack below (part_of f.opener) depth begin
+    pub reading : ReadSoFar n depth (part_of f.opener) begin branches pieces t
+
+-- the same of what the loop holds
+abbrev pub IsReading : ℕ → State → Reading → Type 0
+IsReading n start r = Running n start r.stack.items r.frame (views r.trees.items) (state r.here)

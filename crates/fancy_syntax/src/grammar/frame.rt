@@ -110,30 +110,23 @@ impl<'a> Frame<'a> {
         Ok(())
     }
 
-    /// Ends the group: what opened it, and the tree of its inside.
-    pub(crate) fn finish(self, trees: &mut Vec<Expr>) -> Result<(Opener<'a>, Expr), AllocError>
-        requires branches { self.branches ≤ self.pieces }
-        requires pieces { self.pieces ≤ vec_len trees.old }
-        ensures opener { IfOk result (λ p. p.0 ≡ self.entry.opener) }
+    /// Ends the group: the tree of its inside.
+    pub(crate) fn finish(&self, trees: &mut Vec<Expr>) -> Result<Expr, AllocError>
+        requires branches { self.now.branches ≤ self.now.pieces }
+        requires pieces { self.now.pieces ≤ vec_len trees.old }
         ensures tree { (below branches pieces : List Tree) →
-            HoldsTrees self.entry (views trees.old.items) below branches pieces →
-            IfOk result (λ p. view p.1 ≡ choice (branches ++ one_or concat pieces ∷ [])) }
+            HoldsTrees self.now (views trees.old.items) below branches pieces →
+            IfOk result (λ e. view e ≡ choice (branches ++ one_or concat pieces ∷ [])) }
         ensures below { (below branches pieces : List Tree) →
-            HoldsTrees self.entry (views trees.old.items) below branches pieces →
+            HoldsTrees self.now (views trees.old.items) below branches pieces →
             OnOk result (views trees.new.items ≡ below) }
     {
-        let Frame {
-            opener,
-            branches,
-            pieces,
-            ..
-        } = self;
-        let branch = take_branch(trees, pieces)?;
+        let branch = take_branch(trees, self.pieces)?;
         // Mostly it is the only one.
-        if branches == pieces {
-            return Ok((opener, branch));
+        if self.branches == self.pieces {
+            return Ok(branch);
         }
         push(trees, branch)?;
-        Ok((opener, Expr::Alt(trees.split_off(branches)?)))
+        Ok(Expr::Alt(trees.split_off(self.branches)?))
     }
 }

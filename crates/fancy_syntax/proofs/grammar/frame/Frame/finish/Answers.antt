@@ -9,12 +9,12 @@ pub returns-clause-tree : goal.returns-clause-tree
 returns-clause-tree c below branches pieces h =
     let put = c.in_ok-push.ensures ∙ ap (λ l. l ++ view c.in_ok-branch.branch ∷ []) c.in_ok-branch.ensures.below in
     view_Alt _
-    ∙ branches_taken c.args.self below branches pieces (view c.in_ok-branch.branch) c.push.new.trees.items _ h
-    c.in_ok-branch.ensures.tree put c.if-branches-pieces.false c.in_ok-split_off.ensures.tail
+    ∙ branches_taken c.args.self.now below branches pieces (view c.in_ok-branch.branch) c.push.new.trees.items _ h
+    c.in_ok-branch.ensures.tree put c.if-self.false c.in_ok-split_off.ensures.tail
 
 pub returns-clause-below : goal.returns-clause-below
 returns-clause-below c below branches pieces h =
     let put = c.in_ok-push.ensures ∙ ap (λ l. l ++ view c.in_ok-branch.branch ∷ []) c.in_ok-branch.ensures.below in
-    ap views c.in_ok-split_off.ensures.items ∙ sym (take-map view c.args.self.branches c.push.new.trees.items)
-    ∙ branches_below c.args.self below branches pieces (view c.in_ok-branch.branch) c.push.new.trees.items h
+    ap views c.in_ok-split_off.ensures.items ∙ sym (take-map view c.args.self.now.branches c.push.new.trees.items)
+    ∙ branches_below c.args.self.now below branches pieces (view c.in_ok-branch.branch) c.push.new.trees.items h
     c.in_ok-branch.ensures.tree put

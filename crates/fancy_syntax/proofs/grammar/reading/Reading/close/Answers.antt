@@ -1,0 +1,51 @@
+use Rattle.std.proofs.Common.{◌≡◌, [], length, ap, arith, subst}
+use Rattle.std.proofs.lemmas.List.{nil_from_length}
+use Rattle.std.proofs.lemmas.Result.{err_from_is_err_and}
+use Rattle.fancy_grammar.specs.Grammar.{Alternation, Piece}
+use Rattle.fancy_grammar.specs.State.{fault}
+use Rattle.fancy_syntax.specs.Machine.{IsStep, part_of}
+use Rattle.fancy_syntax.specs.Parsed.{state}
+use Rattle.fancy_syntax.specs.View.{view, views}
+use Rattle.fancy_syntax.specs.declared.grammar.frame.Frame.{Frame}
+use Rattle.fancy_syntax.proofs.MachineLemmas.{running_fault, running_step, running_end, running_closing}
+use Rattle.fancy_grammar.proofs.OutcomeLemmas.{IsErrorAmong-map}
+use Rattle.fancy_syntax.proofs.grammar.reading.Reading.close.Goals as goal
+
+pub returns-in_default-clause-reading : goal.returns-in_default-clause-reading
+returns-in_default-clause-reading c start h =
+    let none : c.args.self.now.stack.items ≡ [] =
+    nil_from_length _ (omega (arith, c.args.self.now.stack.ok.0, c.in_default.ensures.cases.0)) in
+    running_end (view c.in_ok-inner.inner) h c.requires.last c.requires.no_bar
+    (c.in_ok-inner.ensures.tree h.below h.branches h.pieces h.holds) none
+
+pub returns-in_err-step-clause-reading : goal.returns-in_err-step-clause-reading
+returns-in_err-step-clause-reading c start h =
+    let f = c.in_ok-inner.ensures in
+    let g = c.replace-opener.ensures in
+    let w = running_closing c.pop.new.self.items c.replace-opener.new.dest (views c.finish.new.trees.items)
+    (view c.in_ok-inner.inner) (part_of c.replace-opener.result.opener) (ap (λ (f : Frame). part_of f.opener) g.value)
+    h c.requires.last c.requires.no_bar
+    (f.tree h.below h.branches h.pieces h.holds) (f.below h.below h.branches h.pieces h.holds)
+    (rw g.after c.in-Some.ensures.items) in
+    let n : c.len.result ≡ length c.pop.new.self.items = omega (arith, c.len.ensures, c.pop.new.self.ok.0) in
+    let e = err_from_is_err_and c.from_residual-in_err-step.result c.from_residual-in_err-step.ensures.1 in
+    rw (e.1, e.2) (IsErrorAmong-map (Piece c.args.end c.len.result w.here)
+    (Alternation c.args.end 0 start) c.in_err-step.field-0.0
+    (λ k p a. running_fault w.outer w.more (subst (λ d. Piece c.args.end d w.here (fault k p)) n a))
+    (c.in_err-step.ensures.value w.here w.inside w.began.0 w.began.1 (rw n w.opens) (rw n w.whole)))
+
+pub returns-clause-reading : goal.returns-clause-reading
+returns-clause-reading c start h =
+    let f = c.in_ok-inner.ensures in
+    let g = c.replace-opener.ensures in
+    let w = running_closing c.pop.new.self.items c.replace-opener.new.dest (views c.finish.new.trees.items)
+    (view c.in_ok-inner.inner) (part_of c.replace-opener.result.opener) (ap (λ (f : Frame). part_of f.opener) g.value)
+    h c.requires.last c.requires.no_bar
+    (f.tree h.below h.branches h.pieces h.holds) (f.below h.below h.branches h.pieces h.holds)
+    (rw g.after c.in-Some.ensures.items) in
+    let n : c.len.result ≡ length c.pop.new.self.items = omega (arith, c.len.ensures, c.pop.new.self.ok.0) in
+    let made = c.in_ok-step.step in
+    let steps = subst (λ d. IsStep c.args.end d w.here made (state c.close.new.here)) n
+    (c.in_ok-step.ensures.value w.here w.inside w.began.0 w.began.1 (rw n w.opens) (rw n w.whole)) in
+    let taken = c.in_ok-take.ensures in
+    rw taken.here (running_step made w.outer w.began w.more steps taken.taken)

@@ -1,0 +1,12 @@
+use Rattle.std.proofs.Common.{ap}
+use Rattle.fancy_syntax.specs.Machine.{part_of}
+use Rattle.fancy_syntax.specs.Parsed.{state}
+use Rattle.fancy_syntax.specs.View.{views}
+use Rattle.fancy_syntax.proofs.MachineLemmas.{running_start}
+use Rattle.fancy_syntax.proofs.grammar.reading.Reading.new.Goals as goal
+
+pub returns-clause-reading : goal.returns-clause-reading
+returns-clause-reading c n =
+    let f = c.new.ensures in
+    running_start n (state c.args.start) _ _ _ c.new-2.ensures.items (ap views c.in_ok-with_capacity.ensures.items)
+    f.branches f.pieces (ap part_of f.opener)

@@ -1,0 +1,190 @@
+//! Where the loop stands that reads the raw tree of a text.
+ghost use Rattle.std.specs.Prelude.{◌≡◌, ◌∷◌, [], ◌++◌, ◌<◌, ◌≤◌, ◌^◌, ℕ, true, false, length, chars, vec_len};
+ghost use Rattle.std.specs.Prelude.{Some, None, IfOk, OnOk, MatchOption, MatchResult};
+ghost use Rattle.fancy_lex.specs.Characters.{bar};
+ghost use Rattle.fancy_lex.specs.Text.{strip};
+ghost use Rattle.fancy_grammar.specs.Depth.{max_depth};
+ghost use Rattle.fancy_grammar.specs.Errors.{IsErrorAmong};
+ghost use Rattle.fancy_grammar.specs.Grammar.{Alternation};
+ghost use Rattle.fancy_grammar.specs.State.{done, ends};
+ghost use Rattle.fancy_grammar.specs.State as states;
+ghost use Rattle.fancy_syntax.specs.Machine.{Takes, IsReading};
+ghost use Rattle.fancy_syntax.specs.Parsed.{state};
+ghost use Rattle.fancy_syntax.specs.View.{view, views};
+
+use crate::expr::Expr;
+use crate::grammar::atom::{leaf_node, literal};
+use crate::grammar::frame::{Frame, Opener};
+use crate::grammar::plain::{plain, plain_escape};
+use crate::grammar::state::State;
+use crate::grammar::step::{Step, close, read_step};
+use crate::grammar::trees::add;
+use fancy_lex::error::Error;
+use fancy_lex::text::{byte_len, place};
+use std::alloc::{AllocError, Global};
+use std::mem;
+
+/// What is read so far of a text.
+#[derive(Drop)]
+pub(crate) struct Reading<'a> {
+    /// Where it stands.
+    pub(crate) here: State<'a>,
+    /// The innermost group that is open.
+    pub(crate) frame: Frame<'a>,
+    /// The groups around it, the innermost last.
+    pub(crate) stack: Vec<Frame<'a>>,
+    /// The trees that stand in no other yet: those of all open groups, one above the other.
+    pub(crate) trees: Vec<Expr>,
+}
+
+/// How many trees have room at first: some more than most patterns hold side by side.
+///
+/// Where it is above 1,024 bytes, malloc puts its free blocks together at each request, and then hands out the small
+/// blocks of a tree slowly.
+const TREES: usize = 12;
+
+impl<'a> Reading<'a> {
+    /// Nothing is read yet.
+    pub(crate) fn new(alloc: Global, start: State<'a>) -> Result<Reading<'a>, AllocError>
+        ensures here { IfOk result (λ r. r.here ≡ start.entry) }
+        ensures depth { IfOk result (λ r. length r.stack.items < max_depth) }
+        ensures reading { (n : ℕ) → IfOk result (λ r. IsReading n (state start.entry) r) }
+    {
+        Ok(Reading {
+            here: start,
+            frame: Frame::new(Opener::Top, 0, start.flags),
+            stack: Vec::new(alloc),
+            trees: Vec::with_capacity(alloc, TREES)?,
+        })
+    }
+
+    /// Reads the leaf at the front, where a look ahead reads all of it: whether it does.
+    #[inline(always)]
+    pub(crate) fn add_leaf(&mut self, alloc: Global, end: usize) -> Result<bool, AllocError>
+        requires within { length self.old.here.rest.now ≤ end }
+        ensures reading { (start : states.State) → IsReading end start self.old →
+            OnOk result (IsReading end start self.new) }
+        ensures stack { self.new.stack ≡ self.old.stack }
+        ensures within { length self.new.here.rest.now ≤ length self.old.here.rest.now }
+        ensures shorter { IfOk result (λ found. found ≡ true →
+            length self.new.here.rest.now < length self.old.here.rest.now) }
+    {
+        if let Some((c, rest)) = plain(self.here) {
+            let leaf = literal(alloc, c, self.here.flags.casei)?;
+            add(&mut self.trees, leaf)?;
+            self.here.rest = rest;
+            return Ok(true);
+        }
+        let Some((escaped, rest)) = plain_escape(self.here, end) else {
+            return Ok(false);
+        };
+        let leaf = leaf_node(alloc, escaped)?;
+        add(&mut self.trees, leaf)?;
+        self.here.rest = rest;
+        Ok(true)
+    }
+
+    /// Reads a piece, or the opening of a group. A fault is the text's.
+    #[inline(always)]
+    pub(crate) fn step(&mut self, alloc: Global, end: usize) -> Result<(), Error>
+        requires within { length self.old.here.rest.now ≤ end }
+        requires end { end < 2 ^ 63 }
+        requires depth { length self.old.stack.items < max_depth }
+        requires more { ends (chars self.old.here.rest.now) ≡ false }
+        ensures reading { (start : states.State) → IsReading end start self.old →
+            MatchResult result (λ _. IsReading end start self.new) (λ e. IsErrorAmong e (Alternation end 0 start)) }
+        ensures depth { OnOk result (length self.new.stack.items < max_depth) }
+        ensures shorter { OnOk result (length self.new.here.rest.now < length self.old.here.rest.now) }
+    {
+        self.frame.left = byte_len(self.here.rest);
+        self.frame.flags = self.here.flags;
+        let step = read_step(alloc, &mut self.here, self.stack.len(), end)?;
+        Ok(self.take(step)?)
+    }
+
+    /// Ends the open branch at the bar that stands here, before `rest`. A fault is the text's.
+    #[inline(always)]
+    pub(crate) fn bar(&mut self, alloc: Global, rest: &'a str, end: usize) -> Result<(), Error>
+        requires within { length self.old.here.rest.now ≤ end }
+        requires pieces { self.old.frame.pieces ≤ vec_len self.old.trees }
+        requires last { ends (chars self.old.here.rest.now) ≡ true }
+        requires bar { strip bar (chars self.old.here.rest.now) ≡ Some (chars rest.now) }
+        ensures reading { (start : states.State) → IsReading end start self.old →
+            MatchResult result (λ _. IsReading end start self.new) (λ e. IsErrorAmong e (Alternation end 0 start)) }
+        ensures stack { self.new.stack ≡ self.old.stack }
+        ensures rest { OnOk result (self.new.here.rest ≡ rest.entry) }
+    {
+        let place = place(self.here.rest, end);
+        self.frame.bar(alloc, &mut self.trees, place)?;
+        self.here.rest = rest;
+        Ok(())
+    }
+
+    /// Ends the innermost group where neither a piece nor a bar follows: the tree of the text, where no group is
+    /// around it. A fault is the text's.
+    #[inline(always)]
+    pub(crate) fn close(&mut self, alloc: Global, end: usize) -> Result<Option<Expr>, Error>
+        requires within { length self.old.here.rest.now ≤ end }
+        requires end { end < 2 ^ 63 }
+        requires depth { length self.old.stack.items < max_depth }
+        requires branches { self.old.frame.branches ≤ self.old.frame.pieces }
+        requires pieces { self.old.frame.pieces ≤ vec_len self.old.trees }
+        requires last { ends (chars self.old.here.rest.now) ≡ true }
+        requires no_bar { strip bar (chars self.old.here.rest.now) ≡ None }
+        ensures reading { (start : states.State) → IsReading end start self.old →
+            MatchResult result (λ found. MatchOption found (IsReading end start self.new)
+            (λ tree. Alternation end 0 start (done (view tree) (state self.new.here))))
+            (λ e. IsErrorAmong e (Alternation end 0 start)) }
+        ensures depth { OnOk result (length self.new.stack.items < max_depth) }
+        ensures shorter { IfOk result (λ found. MatchOption found
+            (length self.new.here.rest.now < length self.old.here.rest.now)
+            (λ _. self.new.here ≡ self.old.here)) }
+    {
+        let inner = self.frame.finish(&mut self.trees)?;
+        let Some(outer) = self.stack.pop() else {
+            return Ok(Some(inner));
+        };
+        let Frame { opener, .. } = mem::replace(&mut self.frame, outer);
+        let step = close(
+            alloc,
+            opener,
+            inner,
+            &mut self.here,
+            self.frame.left,
+            self.frame.flags,
+            self.stack.len(),
+            end,
+        )?;
+        self.take(step)?;
+        Ok(None)
+    }
+
+    /// Takes what a step read: a piece, which stands behind the others of the group, or a group, which opens in it.
+    #[inline(always)]
+    fn take(&mut self, step: Step<'a>) -> Result<(), AllocError>
+        ensures taken { OnOk result (Takes step.entry
+            self.old.stack.items self.old.frame (views self.old.trees.items)
+            self.new.stack.items self.new.frame (views self.new.trees.items)) }
+        ensures here { self.new.here ≡ self.old.here }
+    {
+        match step {
+            Step::Piece(piece) => add(&mut self.trees, piece),
+            Step::Open(opener) => {
+                let inner = Frame::new(opener, self.trees.len(), self.here.flags);
+                push_frame(&mut self.stack, mem::replace(&mut self.frame, inner))
+            }
+        }
+    }
+}
+
+/// Puts a frame on the stack.
+fn push_frame<'a>(stack: &mut Vec<Frame<'a>>, frame: Frame<'a>) -> Result<(), AllocError>
+    ensures { OnOk result (stack.new.items ≡ stack.old.items ++ frame.entry ∷ []) }
+{
+    if let Err(refused) = stack.reserve(1) {
+        drop(frame);
+        return Err(AllocError::from(refused));
+    }
+    stack.push_reserved(frame);
+    Ok(())
+}
