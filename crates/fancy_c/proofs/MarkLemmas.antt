@@ -1,5 +1,5 @@
 -- Names and numbers, written one after another.
-use Rattle.std.proofs.Common.{◌≡◌, ℕ, suc, ◌+◌, ◌<◌, ◌≤◌, List, [], ◌∷◌, ◌++◌, length, map, take, drop, set, get_or}
+use Rattle.std.proofs.Common.{◌≡◌, ℕ, suc, ◌+◌, ◌<◌, ◌≤◌, List, [], ◌∷◌, ◌++◌, length, take, drop, set, get_or}
 use Rattle.std.proofs.Common.{refl, sym, ap, subst, ◌∙◌, append_assoc, length-append, arith}
 use Rattle.std.specs.Prelude.{encode_utf8_all}
 use Rattle.std.proofs.lemmas.List.{set_split, length-map, get_or-map}
@@ -10,7 +10,7 @@ use Rattle.fancy_parts.specs.Room.{in_word}
 use Rattle.fancy_c.specs.Buffer.{put_at}
 use Rattle.fancy_c.specs.Marks.{rows_of_name, name_rows, name_texts}
 use Rattle.fancy_c.specs.declared.marks.Name.{Name}
-use Rattle.fancy_c.proofs.RowLemmas.{put_is, put_more, put_none, put_length}
+use Rattle.fancy_c.proofs.RowLemmas.{put_more, put_length}
 
 -- ---- one row of a name more
 

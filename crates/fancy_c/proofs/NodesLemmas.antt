@@ -1,5 +1,5 @@
 -- A tree and its marks in the buffers.
-use Rattle.std.proofs.Common.{◌≡◌, ℕ, ◌+◌, ◌*◌, ◌≤◌, List, [], ◌∷◌, ◌++◌, length, take, drop, refl, sym, ap, ◌∙◌}
+use Rattle.std.proofs.Common.{◌≡◌, ℕ, ◌+◌, ◌≤◌, List, ◌++◌, length, drop, refl, ap, ◌∙◌}
 use Rattle.std.proofs.Common.{length-append, zero-add, arith}
 use Rattle.fancy_lex.specs.declared.flags.Flags.{Flags}
 use Rattle.fancy_grammar.specs.Marks.{Marks}

@@ -1,4 +1,4 @@
-use Rattle.std.proofs.Common.{◌≡◌, ◌+◌, ap, map, length, arith, ◌∙◌}
+use Rattle.std.proofs.Common.{ap, map, length, arith}
 use Rattle.fancy_parts.specs.Groups.{entry_of}
 use Rattle.fancy_c.proofs.MarkLemmas.{names_count_next}
 use Rattle.fancy_c.proofs.NodeLemmas.{string_text}

@@ -1,4 +1,4 @@
-use Rattle.std.proofs.Common.{◌≡◌, sym, ap, ◌∙◌}
+use Rattle.std.proofs.Common.{sym, ap, ◌∙◌}
 use Rattle.fancy_lex.specs.NameViews.{view_target}
 use Rattle.fancy_c.specs.Node as spec
 use Rattle.fancy_c.proofs.NodeLemmas.{string_text}

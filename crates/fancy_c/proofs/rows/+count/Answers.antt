@@ -1,4 +1,4 @@
-use Rattle.std.proofs.Common.{◌≡◌, ◌+◌, ◌<◌, ◌∙◌, ap, sym, length, arith}
+use Rattle.std.proofs.Common.{◌+◌, ◌<◌, ◌∙◌, ap, sym, length, arith}
 use Rattle.fancy_parts.specs.Room.{in_word}
 use Rattle.fancy_grammar.specs.Tree.{levels}
 use Rattle.fancy_syntax.specs.View.{view, views}
