@@ -10,7 +10,7 @@ use Rattle.fancy_lex.specs.FaultTable.{group_too_deep}
 use Rattle.fancy_lex.specs.LayoutSteps.{layout, layout_from, Skipped, rest, fault as open_comment}
 use Rattle.fancy_lex.specs.Reading.{Reading, gives, fails, choose}
 use Rattle.fancy_lex.specs.Referred.{Reference}
-use Rattle.fancy_lex.specs.Text.{Text, bytes, place_of, strip_word}
+use Rattle.fancy_lex.specs.Text.{Text, bytes, reach_of, strip_word}
 use Rattle.fancy_parts.specs.FlagLetters.{Letters, setting, scope as scoped}
 use Rattle.fancy_parts.specs.HeadReference.{begins_target, condition_target}
 use Rattle.fancy_parts.specs.Quantifier.{counts, as_mark, most}
@@ -67,86 +67,86 @@ condition_there s e = cc
 body_there : (c : Tree) (s : State) → IsThere (body c s)
 body_there c s e = cc
 
-verb_there : (n : ℕ) (s : State) (t : Text) → IsThere (verb_ahead n s t)
-verb_there n s t = choice_there (verb_at t) _ _ (λ p. leaf_there _) (leaf_there _)
+verb_there : (s : State) (t : Text) → IsThere (verb_ahead s t)
+verb_there s t = choice_there (verb_at t) _ _ (λ p. leaf_there _) (leaf_there _)
 
-verb_condition_there : (n : ℕ) (s : State) (t : Text) → IsThere (verb_condition n s t)
-verb_condition_there n s t = choice_there (verb_at t) _ _ (λ p. body_there _ _) (leaf_there _)
+verb_condition_there : (s : State) (t : Text) → IsThere (verb_condition s t)
+verb_condition_there s t = choice_there (verb_at t) _ _ (λ p. body_there _ _) (leaf_there _)
 
-condition_ahead_there : (n : ℕ) (s : State) (t : Text) → IsThere (condition_ahead n s t)
-condition_ahead_there n s [] = leaf_there _
-condition_ahead_there n s (c ∷ t) =
+condition_ahead_there : (s : State) (t : Text) → IsThere (condition_ahead s t)
+condition_ahead_there s [] = leaf_there _
+condition_ahead_there s (c ∷ t) =
     either_there (begins_target (c ∷ t)) (target_there s _)
-    (either_there (c == code "*") (verb_condition_there n s t) (condition_there _))
+    (either_there (c == code "*") (verb_condition_there s t) (condition_there _))
 
-repeater_there : (n : ℕ) (s : State) (t : Text) → IsThere (repeater_ahead n s t)
-repeater_there n s [] = leaf_there _
-repeater_there n s (c ∷ t) = opens_there _ _
+repeater_there : (s : State) (t : Text) → IsThere (repeater_ahead s t)
+repeater_there s [] = leaf_there _
+repeater_there s (c ∷ t) = opens_there _ _
 
-question_there : (n : ℕ) (s : State) (t : Text) → IsThere (behind_question n s t)
-question_there n s t =
+question_there : (s : State) (t : Text) → IsThere (behind_question s t)
+question_there s t =
     choice_there (strip_word (codes "=") t) _ _ (λ u. opens_there _ _) (
     choice_there (strip_word (codes "!") t) _ _ (λ u. opens_there _ _) (
     choice_there (strip_word (codes "<=") t) _ _ (λ u. opens_there _ _) (
     choice_there (strip_word (codes "<!") t) _ _ (λ u. opens_there _ _) (
     choice_there (strip_word (codes ">") t) _ _ (λ u. opens_there _ _) (
     choice_there (strip_word (codes "(DEFINE)") t) _ _ (λ u. opens_there _ _) (
-    choice_there (strip_word (codes "(") t) _ _ (λ u. condition_ahead_there n s u) (
+    choice_there (strip_word (codes "(") t) _ _ (λ u. condition_ahead_there s u) (
     choice_there (strip_word (codes "~|") t) _ _ (λ u e. cc) (
-    choice_there (strip_word (codes "~") t) _ _ (λ u. repeater_there n s u) (
+    choice_there (strip_word (codes "~") t) _ _ (λ u. repeater_there s u) (
     choice_there (strip_word (codes "<") t) _ _ (λ u. named_there s _) (
     choice_there (strip_word (codes "'") t) _ _ (λ u. named_there s _) (
     choice_there (strip_word (codes "P<") t) _ _ (λ u. named_there s _) (
     choice_there (strip_word (codes "P=") t) _ _ (λ u. leaf_there _) (
     choice_there (strip_word (codes "P>") t) _ _ (λ u. leaf_there _) (flags_there _))))))))))))))
 
-group_there : (n : ℕ) (s : State) (t : Text) → IsThere (group_ahead n s t)
-group_there n s t =
-    choice_there (strip_word (codes "?") t) _ _ (λ u. question_there n s u) (
-    choice_there (strip_word (codes "*") t) _ _ (λ u. verb_there n s u) (opens_there _ _))
+group_there : (s : State) (t : Text) → IsThere (group_ahead s t)
+group_there s t =
+    choice_there (strip_word (codes "?") t) _ _ (λ u. question_there s u) (
+    choice_there (strip_word (codes "*") t) _ _ (λ u. verb_there s u) (opens_there _ _))
 
-behind_there : (n : ℕ) (s : State) (k : Skipped) → IsThere (behind_layout n s k)
-behind_there n s (rest u) = group_there n s u
-behind_there n s (open_comment p) = leaf_there _
+behind_there : (s : State) (k : Skipped) → IsThere (behind_layout s k)
+behind_there s (rest u) = group_there s u
+behind_there s (open_comment p) = leaf_there _
 
-deep_there : (n d c : ℕ) (s : State) (t : Text) →
-    IsThere (if nat_le max_depth (d + 1) then fault_ahead (group_too_deep n (c ∷ t)) else behind_layout n s
-    (skipped n (at s t)))
-deep_there n d c s t = either_there (nat_le max_depth (d + 1)) (leaf_there _) (behind_there n s (skipped n (at s t)))
+deep_there : (d c : ℕ) (s : State) (t : Text) →
+    IsThere (if nat_le max_depth (d + 1) then fault_ahead (group_too_deep (c ∷ t)) else behind_layout s
+    (skipped (at s t)))
+deep_there d c s t = either_there (nat_le max_depth (d + 1)) (leaf_there _) (behind_there s (skipped (at s t)))
 
-before_nothing : (n d : ℕ) (s : State) (c : ℕ) (t : Text) → ahead_of n d s (c ∷ t) ≡ nothing →
+before_nothing : (d : ℕ) (s : State) (c : ℕ) (t : Text) → ahead_of d s (c ∷ t) ≡ nothing →
     is_before_nothing c ≡ true
-before_nothing n d s c t e = by_tests (c == code "(") (is_before_nothing c) _ (deep_there n d c s t) e
+before_nothing d s c t e = by_tests (c == code "(") (is_before_nothing c) _ (deep_there d c s t) e
   where
     by_tests : (p b : Bool) (x : Ahead) → (x ≡ nothing → ⊥) →
-        (if p then x else if b then nothing else leaf (leaf_of n s c t)) ≡ nothing → b ≡ true
+        (if p then x else if b then nothing else leaf (leaf_of s c t)) ≡ nothing → b ≡ true
     by_tests true b x f e = absurd (f e)
     by_tests false true x f e = refl
     by_tests false false x f e = absurd (leaf_there _ e)
 
 -- ---- the rows of conditionals
 
-pub defines : (n : ℕ) (s : State) (t u : Text) → strip_word (codes "DEFINE)") t ≡ Some u →
-    behind_question n s (code "(" ∷ t) ≡ with_head define (at s u)
-defines n s t u e = ap (λ o. choose o (λ v. with_head define (at s v)) (condition_ahead n s t)) e
+pub defines : (s : State) (t u : Text) → strip_word (codes "DEFINE)") t ≡ Some u →
+    behind_question s (code "(" ∷ t) ≡ with_head define (at s u)
+defines s t u e = ap (λ o. choose o (λ v. with_head define (at s v)) (condition_ahead s t)) e
 
-condition_stands : (n : ℕ) (s : State) (t : Text) → strip_word (codes "DEFINE)") t ≡ None →
-    behind_question n s (code "(" ∷ t) ≡ condition_ahead n s t
-condition_stands n s t e = ap (λ o. choose o (λ v. with_head define (at s v)) (condition_ahead n s t)) e
+condition_stands : (s : State) (t : Text) → strip_word (codes "DEFINE)") t ≡ None →
+    behind_question s (code "(" ∷ t) ≡ condition_ahead s t
+condition_stands s t e = ap (λ o. choose o (λ v. with_head define (at s v)) (condition_ahead s t)) e
 
-pub target_stands : (n : ℕ) (s : State) (c : ℕ) (t : Text) → s.rest ≡ c ∷ t →
+pub target_stands : (s : State) (c : ℕ) (t : Text) → s.rest ≡ c ∷ t →
     strip_word (codes "DEFINE)") s.rest ≡ None →
-    begins_target s.rest ≡ true → behind_question n s (code "(" ∷ s.rest) ≡ target_ahead s (condition_target n s.rest)
-target_stands n s c t e h i =
-    condition_stands n s s.rest h ∙ ap (condition_ahead n s) e
+    begins_target s.rest ≡ true → behind_question s (code "(" ∷ s.rest) ≡ target_ahead s (condition_target s.rest)
+target_stands s c t e h i =
+    condition_stands s s.rest h ∙ ap (condition_ahead s) e
     ∙ cond-true (begins_target (c ∷ t)) _ _ (ap begins_target (sym e) ∙ i)
-    ∙ ap (λ u. target_ahead s (condition_target n u)) (sym e)
+    ∙ ap (λ u. target_ahead s (condition_target u)) (sym e)
 
-pub no_condition_ahead : (n : ℕ) (s : State) (c : ℕ) (t : Text) → s.rest ≡ c ∷ t →
+pub no_condition_ahead : (s : State) (c : ℕ) (t : Text) → s.rest ≡ c ∷ t →
     strip_word (codes "DEFINE)") s.rest ≡ None →
-    begins_target s.rest ≡ false → c ≢ code "*" → behind_question n s (code "(" ∷ s.rest) ≡ condition s
-no_condition_ahead n s c t e h i j =
-    condition_stands n s s.rest h ∙ ap (condition_ahead n s) e
+    begins_target s.rest ≡ false → c ≢ code "*" → behind_question s (code "(" ∷ s.rest) ≡ condition s
+no_condition_ahead s c t e h i j =
+    condition_stands s s.rest h ∙ ap (condition_ahead s) e
     ∙ cond-false (begins_target (c ∷ t)) _ _ (ap begins_target (sym e) ∙ i)
     ∙ cond-false (c == code "*") _ _ (search (tests, rules)) ∙ ap (λ x. condition (at s x)) (sym e)
 
@@ -166,14 +166,14 @@ mark_is c t h k = by_tests (c == code "+") (c == code "*") (c == code "?") (c ==
     by_tests false false true b r e f g h k = inr (inr (search (tests, rules)))
     by_tests false false false b r e f g h k = absurd (true≢false (sym h ∙ k))
 
-no_layout : (n : ℕ) (x : Bool) (c : ℕ) (t : Text) → IsMark c → layout n x (c ∷ t) ≡ rest (c ∷ t)
+no_layout : (x : Bool) (c : ℕ) (t : Text) → IsMark c → layout x (c ∷ t) ≡ rest (c ∷ t)
 unfolding layout_from
-no_layout n true c t (inl e) = rw e refl
-no_layout n false c t (inl e) = rw e refl
-no_layout n true c t (inr (inl e)) = rw e refl
-no_layout n false c t (inr (inl e)) = rw e refl
-no_layout n true c t (inr (inr e)) = rw e refl
-no_layout n false c t (inr (inr e)) = rw e refl
+no_layout true c t (inl e) = rw e refl
+no_layout false c t (inl e) = rw e refl
+no_layout true c t (inr (inl e)) = rw e refl
+no_layout false c t (inr (inl e)) = rw e refl
+no_layout true c t (inr (inr e)) = rw e refl
+no_layout false c t (inr (inr e)) = rw e refl
 
 mark_counts : (x : Bool) (c : ℕ) (t : Text) → IsMark c →
     (q : Counts) × (◌≡◌ {A = Option (Counts × Text)} (counts x (c ∷ t)) (Some (q, t)))
@@ -194,18 +194,18 @@ and_false true c e = e
 and_false false c e = refl
 
 -- Empty under a mark with which the piece begins is a fault
-mark_fault : (n : ℕ) (s : State) (c : ℕ) (t : Text) → IsMark c →
-    quant n (bytes (c ∷ t)) empty (at s (c ∷ t)) ≡ fault target_not_repeatable (place_of n t - 1)
+mark_fault : (s : State) (c : ℕ) (t : Text) → IsMark c →
+    quant (bytes (c ∷ t)) empty (at s (c ∷ t)) ≡ fault target_not_repeatable (reach_of t + 1)
 unfolding quant
-mark_fault n s c t m =
+mark_fault s c t m =
     let (q, e) = mark_counts s.flags.ignore_space c t m in
     let kept = and_false s.flags.oniguruma_mode _ (mark_bytes c t m) in
-    rw (no_layout n s.flags.ignore_space c t m, e, kept) refl
+    rw (no_layout s.flags.ignore_space c t m, e, kept) refl
 
-pub nothing_repeats : (n d : ℕ) (s : State) (u : Text) → ahead n d (at s u) ≡ nothing → ends u ≡ false →
-    (p : ℕ) × (quants n d (bytes u) empty (at s u) ≡ fault target_not_repeatable p)
+pub nothing_repeats : (d : ℕ) (s : State) (u : Text) → ahead d (at s u) ≡ nothing → ends u ≡ false →
+    (p : ℕ) × (quants d (bytes u) empty (at s u) ≡ fault target_not_repeatable p)
 unfolding ahead
-nothing_repeats n d s [] e h = absurd (true≢false h)
-nothing_repeats n d s (c ∷ t) e h =
-    let f = mark_fault n s c t (mark_is c t (before_nothing n d (at s (c ∷ t)) c t e) h) in
-    (_, ap (λ o. and_then o (λ b z. if z.flags.oniguruma_mode then adjacent max_adjacent n d b z else done b z)) f)
+nothing_repeats d s [] e h = absurd (true≢false h)
+nothing_repeats d s (c ∷ t) e h =
+    let f = mark_fault s c t (mark_is c t (before_nothing d (at s (c ∷ t)) c t e) h) in
+    (_, ap (λ o. and_then o (λ b z. if z.flags.oniguruma_mode then adjacent max_adjacent d b z else done b z)) f)

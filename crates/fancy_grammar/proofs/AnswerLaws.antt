@@ -1,6 +1,7 @@
 -- What the second walk comes to from the start, over a raw tree in text order.
 use Rattle.std.proofs.Common.{◌≡◌, ℕ, List, nat_le, nat_lt, length, refl, ap, ◌∙◌}
 use Rattle.std.specs.Prelude.{find, filter}
+use Rattle.fancy_lex.specs.Text.{bytes}
 use Rattle.fancy_lex.specs.declared.flags.Flags.{Flags}
 use Rattle.fancy_parts.proofs.NamedLaws.{under_named}
 use Rattle.fancy_parts.specs.Groups.{numbers_under}
@@ -9,7 +10,7 @@ use Rattle.fancy_parts.specs.Ranks.{Opening, only_named, numbered_openings_in, n
 use Rattle.fancy_grammar.specs.Fits.{Fits}
 use Rattle.fancy_grammar.specs.Items.{items, openings, references}
 use Rattle.fancy_grammar.specs.Marks.{Marks, marks, ascending, back_numbers}
-use Rattle.fancy_grammar.specs.Ordered.{AscendingPlaces}
+use Rattle.fancy_grammar.specs.Ordered.{DescendingReaches}
 use Rattle.fancy_grammar.specs.Resolved.{resolved, resolved_in, fault_of}
 use Rattle.fancy_grammar.specs.Tree.{Tree}
 use Rattle.fancy_grammar.specs.Walk.{Known, Progress, nothing_noted, progress_after, rebuilt}
@@ -24,28 +25,28 @@ pub record Suits (f : Flags) (r : Tree) (k : Known) : Type 0 where
   pub total : k.groups.total ≡ length (numbered_openings_in k.named (openings r))
   pub names : k.groups.names ≡ named_groups (numbered_openings_in k.named (openings r))
   pub end : ℕ
-  pub ordered : AscendingPlaces 0 end (items r)
+  pub ordered : DescendingReaches end 2 (items r)
 
 pub known_suits : (f : Flags) (r : Tree) (k : Known) (end : ℕ) → k.named ≡ only_named f (openings r) →
     k.groups.total ≡ length (numbered_openings_in k.named (openings r)) →
-    k.groups.names ≡ named_groups (numbered_openings_in k.named (openings r)) → AscendingPlaces 0 end (items r) →
+    k.groups.names ≡ named_groups (numbered_openings_in k.named (openings r)) → DescendingReaches end 2 (items r) →
     Suits f r k
 known_suits f r k end a b c d = record { named = a; total = b; names = c; end = end; ordered = d }
 
 fits : (f : Flags) (r : Tree) (k : Known) → Suits f r k →
     Fits k (numbered_openings_in k.named (openings r)) nothing_noted (items r)
-fits f r k h = ordered_fits k nothing_noted 0 h.end (items r) refl h.ordered
+fits f r k h = ordered_fits k nothing_noted h.end 2 (items r) refl h.ordered
 
 -- the numbers of each name that are known are those of the groups
 known_numbers : (f : Flags) (r : Tree) (k : Known) → Suits f r k →
     numbers_under k.groups.names ≡ (λ u. numbers u (numbered_openings_in k.named (openings r)))
 known_numbers f r k h = ap numbers_under h.names ∙ (λ i u. under_named (numbered_openings_in k.named (openings r)) u i)
 
-pub law_tree : (f : Flags) (r : Tree) (k : Known) → Suits f r k → rebuilt k nothing_noted r ≡ resolved f r
+pub law_tree : (f : Flags) (r : Tree) (k : Known) → Suits f r k → rebuilt k nothing_noted r ≡ resolved f (bytes k.text) r
 law_tree f r k h =
     rebuilt_resolved k (numbered_openings_in k.named (openings r)) nothing_noted r (known_numbers f r k h)
     (fits f r k h)
-    ∙ ap (λ x. resolved_in x (numbered_openings_in x (openings r)) r) h.named
+    ∙ ap (λ x. resolved_in (bytes k.text) x (numbered_openings_in x (openings r)) r) h.named
 
 pub law_fault : (f : Flags) (r : Tree) (k : Known) → Suits f r k →
     (progress_after k nothing_noted (items r)).fault ≡ fault_of f r

@@ -6,7 +6,7 @@ use Rattle.std.proofs.lemmas.List.{length-map}
 use Rattle.std.specs.Prelude.{find, slice_get}
 use Rattle.fancy_lex.specs.Fault.{Fault, Kind, invalid_group_name_backref}
 use Rattle.fancy_lex.specs.Target.{Target, by_number, by_name, relative}
-use Rattle.fancy_lex.specs.Text.{Text}
+use Rattle.fancy_lex.specs.Text.{Text, bytes}
 use Rattle.fancy_lex.specs.declared.flags.Flags.{Flags}
 use Rattle.fancy_parts.specs.Meaning.{Meaning, number, unresolved, faulty, means, meaning, back_to, last_of}
 use Rattle.fancy_parts.specs.Meaning.{group_or_none, no_group, at_distance, Role, back_reference, call, condition, AnyReference}
@@ -65,28 +65,28 @@ condition_resolved u c (by_number n) e = cc
 condition_resolved u c (by_name w) e = group_or_fault condition _ (last_of (u w)) refl e
 condition_resolved u c (relative z) e = group_or_fault condition _ (at_distance c z) refl e
 
-backref_answered : (m : Meaning) (t : Target) (casei : Bool) (level : Option ℤ) (place : ℕ) (o : Option Fault) →
+backref_answered : (z : ℕ) (m : Meaning) (t : Target) (casei : Bool) (level : Option ℤ) (place : ℕ) (o : Option Fault) →
     (m ≡ unresolved → ⊥) → fault_or m place o ≡ None →
-    IsAnsweredNode (reference_node m (ast_backref t casei level) place)
-backref_answered (number n) t casei None place o u e = tt
-backref_answered (number n) t casei (Some level) place o u e = tt
-backref_answered unresolved t casei level place o u e = absurd (u refl)
-backref_answered (faulty k) t casei level place o u e = absurd cc
+    IsAnsweredNode (reference_node z m (ast_backref t casei level) place)
+backref_answered z (number n) t casei None place o u e = tt
+backref_answered z (number n) t casei (Some level) place o u e = tt
+backref_answered z unresolved t casei level place o u e = absurd (u refl)
+backref_answered z (faulty k) t casei level place o u e = absurd cc
 
-call_answered : (m : Meaning) (t : Target) (place : ℕ) → IsAnsweredNode (reference_node m (ast_call t) place)
-call_answered (number n) t place = tt
-call_answered unresolved t place = refl
-call_answered (faulty k) t place = refl
+call_answered : (z : ℕ) (m : Meaning) (t : Target) (place : ℕ) → IsAnsweredNode (reference_node z m (ast_call t) place)
+call_answered z (number n) t place = tt
+call_answered z unresolved t place = refl
+call_answered z (faulty k) t place = refl
 
-condition_answered : (m : Meaning) (t : Target) (level : Option ℤ) (place : ℕ) (o : Option Fault) →
-    (m ≡ unresolved → ⊥) → fault_or m place o ≡ None → IsAnsweredNode (reference_node m (ast_condition t level) place)
-condition_answered (number n) t level place o u e = tt
-condition_answered unresolved t level place o u e = absurd (u refl)
-condition_answered (faulty k) t level place o u e = absurd cc
+condition_answered : (z : ℕ) (m : Meaning) (t : Target) (level : Option ℤ) (place : ℕ) (o : Option Fault) →
+    (m ≡ unresolved → ⊥) → fault_or m place o ≡ None → IsAnsweredNode (reference_node z m (ast_condition t level) place)
+condition_answered z (number n) t level place o u e = tt
+condition_answered z unresolved t level place o u e = absurd (u refl)
+condition_answered z (faulty k) t level place o u e = absurd cc
 
 -- ---- the nodes that resolving keeps
 
-module _ (named : Bool) (g : List Opening) where
+module _ (z : ℕ) (named : Bool) (g : List Opening) where
   -- what a reference at the place means
   abbrev means_here : Role → Target → ℕ → Meaning
   means_here role t place = means (λ u. numbers u g) (openings_before g place) role t
@@ -101,7 +101,7 @@ module _ (named : Bool) (g : List Opening) where
           map (λ q. q.0) (numbered_in named l) ≡ numbered_openings_in named (openings_in (filter_map item_of l)) →
           map (λ q. q.0) (numbered_in named (ast_node (ast_group name t) place ∷ l))
           ≡ numbered_openings_in named (openings_in (filter_map item_of (ast_node (ast_group name t) place ∷ l)))
-      by_name true e more = rw e (ap (λ l. record { place = place; name = name } ∷ l) more)
+      by_name true e more = rw e (ap (λ l. record { reach = place; name = name } ∷ l) more)
       by_name false e more = rw e more
   openings_counted (ast_node (ast_backref t casei level) place ∷ l) = openings_counted l
   openings_counted (ast_node (ast_call t) place ∷ l) = openings_counted l
@@ -113,22 +113,22 @@ module _ (named : Bool) (g : List Opening) where
 
   -- the Groups are these with their insides resolved
   groups_kept : (l : List Tree) → AllByRecursion IsReadNode l →
-      filter is_group (kept named g l) ≡ map (λ q. group (resolved_in named g q.1)) (numbered_in named l)
+      filter is_group (kept z named g l) ≡ map (λ q. group (resolved_in z named g q.1)) (numbered_in named l)
   groups_kept [] h = refl
   groups_kept (ast_node (ast_group name t) place ∷ l) h = by_name (is_counted named name) refl (groups_kept l h.1)
     where
       by_name : (b : Bool) → is_counted named name ≡ b →
-          filter is_group (kept named g l) ≡ map (λ q. group (resolved_in named g q.1)) (numbered_in named l) →
-          filter is_group (kept named g (ast_node (ast_group name t) place ∷ l))
-          ≡ map (λ q. group (resolved_in named g q.1)) (numbered_in named (ast_node (ast_group name t) place ∷ l))
-      by_name true e more = rw (e, e) (ap (λ l. group (resolved_in named g t) ∷ l) more)
+          filter is_group (kept z named g l) ≡ map (λ q. group (resolved_in z named g q.1)) (numbered_in named l) →
+          filter is_group (kept z named g (ast_node (ast_group name t) place ∷ l))
+          ≡ map (λ q. group (resolved_in z named g q.1)) (numbered_in named (ast_node (ast_group name t) place ∷ l))
+      by_name true e more = rw (e, e) (ap (λ l. group (resolved_in z named g t) ∷ l) more)
       by_name false e more = rw e more
   groups_kept (ast_node (ast_backref t casei level) place ∷ l) h =
-      if_false _ _ _ (of_backref (means_here back_reference t place) t casei level place).no_group ∙ groups_kept l h.1
+      if_false _ _ _ (of_backref z (means_here back_reference t place) t casei level place).no_group ∙ groups_kept l h.1
   groups_kept (ast_node (ast_call t) place ∷ l) h =
-      if_false _ _ _ (of_call (means_here call t place) t place).no_group ∙ groups_kept l h.1
+      if_false _ _ _ (of_call z (means_here call t place) t place).no_group ∙ groups_kept l h.1
   groups_kept (ast_node (ast_condition t level) place ∷ l) h =
-      if_false _ _ _ (of_condition (means_here condition t place) t level place).no_group ∙ groups_kept l h.1
+      if_false _ _ _ (of_condition z (means_here condition t place) t level place).no_group ∙ groups_kept l h.1
   groups_kept (group t ∷ l) h = absurd h.0
   groups_kept (backref n casei ∷ l) h = absurd h.0
   groups_kept (backref_at_level n level casei ∷ l) h = absurd h.0
@@ -138,26 +138,26 @@ module _ (named : Bool) (g : List Opening) where
 
   -- calls stay calls
   calls_kept : (l : List Tree) → AllByRecursion IsReadNode l →
-      list_any is_call_node (kept named g l) ≡ list_any (λ x. is_call x.role) (references_in (filter_map item_of l))
+      list_any is_call_node (kept z named g l) ≡ list_any (λ x. is_call x.role) (references_in (filter_map item_of l))
   calls_kept [] h = refl
   calls_kept (ast_node (ast_group name t) place ∷ l) h = by_name (is_counted named name) refl (calls_kept l h.1)
     where
       by_name : (b : Bool) → is_counted named name ≡ b →
-          list_any is_call_node (kept named g l) ≡ list_any (λ x. is_call x.role)
+          list_any is_call_node (kept z named g l) ≡ list_any (λ x. is_call x.role)
           (references_in (filter_map item_of l)) →
-          list_any is_call_node (kept named g (ast_node (ast_group name t) place ∷ l))
+          list_any is_call_node (kept z named g (ast_node (ast_group name t) place ∷ l))
           ≡ list_any (λ x. is_call x.role) (references_in (filter_map item_of l))
       by_name true e more = rw (e, e) more
       by_name false e more = rw e more
   calls_kept (ast_node (ast_backref t casei level) place ∷ l) h =
-      ap (λ b. b || list_any is_call_node (kept named g l))
-      (of_backref (means_here back_reference t place) t casei level place).calls
+      ap (λ b. b || list_any is_call_node (kept z named g l))
+      (of_backref z (means_here back_reference t place) t casei level place).calls
       ∙ calls_kept l h.1
   calls_kept (ast_node (ast_call t) place ∷ l) h =
-      ap (λ b. b || list_any is_call_node (kept named g l)) (of_call (means_here call t place) t place).calls
+      ap (λ b. b || list_any is_call_node (kept z named g l)) (of_call z (means_here call t place) t place).calls
   calls_kept (ast_node (ast_condition t level) place ∷ l) h =
-      ap (λ b. b || list_any is_call_node (kept named g l))
-      (of_condition (means_here condition t place) t level place).calls
+      ap (λ b. b || list_any is_call_node (kept z named g l))
+      (of_condition z (means_here condition t place) t level place).calls
       ∙ calls_kept l h.1
   calls_kept (group t ∷ l) h = absurd h.0
   calls_kept (backref n casei ∷ l) h = absurd h.0
@@ -189,30 +189,30 @@ module _ (named : Bool) (g : List Opening) where
 
   -- the numbers of back references
   numbers_kept : (l : List Tree) → AllByRecursion IsReadNode l →
-      filter_map group_referred (kept named g l) ≡ back_numbers g (references_in (filter_map item_of l))
+      filter_map group_referred (kept z named g l) ≡ back_numbers g (references_in (filter_map item_of l))
   numbers_kept [] h = refl
   numbers_kept (ast_node (ast_group name t) place ∷ l) h = by_name (is_counted named name) refl (numbers_kept l h.1)
     where
       by_name : (b : Bool) → is_counted named name ≡ b →
-          filter_map group_referred (kept named g l) ≡ back_numbers g (references_in (filter_map item_of l)) →
-          filter_map group_referred (kept named g (ast_node (ast_group name t) place ∷ l))
+          filter_map group_referred (kept z named g l) ≡ back_numbers g (references_in (filter_map item_of l)) →
+          filter_map group_referred (kept z named g (ast_node (ast_group name t) place ∷ l))
           ≡ back_numbers g (references_in (filter_map item_of l))
       by_name true e more = rw (e, e) more
       by_name false e more = rw e more
   numbers_kept (ast_node (ast_backref t casei level) place ∷ l) h =
-      numbers_step (resolved_in named g (ast_node (ast_backref t casei level) place))
-      (record { place = place; role = back_reference; target = t }) (kept named g l)
+      numbers_step (resolved_in z named g (ast_node (ast_backref t casei level) place))
+      (record { reach = place; role = back_reference; target = t }) (kept z named g l)
       (references_in (filter_map item_of l))
-      (of_backref (means_here back_reference t place) t casei level place).refers (numbers_kept l h.1)
+      (of_backref z (means_here back_reference t place) t casei level place).refers (numbers_kept l h.1)
   numbers_kept (ast_node (ast_call t) place ∷ l) h =
-      numbers_step (resolved_in named g (ast_node (ast_call t) place))
-      (record { place = place; role = call; target = t })
-      (kept named g l) (references_in (filter_map item_of l)) (of_call (means_here call t place) t place).refers
+      numbers_step (resolved_in z named g (ast_node (ast_call t) place))
+      (record { reach = place; role = call; target = t })
+      (kept z named g l) (references_in (filter_map item_of l)) (of_call z (means_here call t place) t place).refers
       (numbers_kept l h.1)
   numbers_kept (ast_node (ast_condition t level) place ∷ l) h =
-      numbers_step (resolved_in named g (ast_node (ast_condition t level) place))
-      (record { place = place; role = condition; target = t }) (kept named g l) (references_in (filter_map item_of l))
-      (of_condition (means_here condition t place) t level place).refers (numbers_kept l h.1)
+      numbers_step (resolved_in z named g (ast_node (ast_condition t level) place))
+      (record { reach = place; role = condition; target = t }) (kept z named g l) (references_in (filter_map item_of l))
+      (of_condition z (means_here condition t place) t level place).refers (numbers_kept l h.1)
   numbers_kept (group t ∷ l) h = absurd h.0
   numbers_kept (backref n casei ∷ l) h = absurd h.0
   numbers_kept (backref_at_level n level casei ∷ l) h = absurd h.0
@@ -220,36 +220,36 @@ module _ (named : Bool) (g : List Opening) where
   numbers_kept (subroutine_call n ∷ l) h = absurd h.0
   numbers_kept (_ ∷ l) h = numbers_kept l h.1
 
-  list_length : (ts : Trees) → length (list_of (resolved_all named g ts)) ≡ length (list_of ts)
+  list_length : (ts : Trees) → length (list_of (resolved_all z named g ts)) ≡ length (list_of ts)
   list_length no_trees = refl
   list_length (more_trees t ts) = ap suc (list_length ts)
 
   -- where no reference has a fault, each node is one of an answered tree
   answered_kept : (l : List Tree) → AllByRecursion IsReadNode l →
-      first_fault g (references_in (filter_map item_of l)) ≡ None → AllByRecursion IsAnsweredNode (kept named g l)
+      first_fault g (references_in (filter_map item_of l)) ≡ None → AllByRecursion IsAnsweredNode (kept z named g l)
   answered_kept [] h n = tt
   answered_kept (ast_node (ast_group name t) place ∷ l) h n =
       by_name (is_counted named name) refl (answered_kept l h.1 n)
     where
-      by_name : (b : Bool) → is_counted named name ≡ b → AllByRecursion IsAnsweredNode (kept named g l) →
-          AllByRecursion IsAnsweredNode (kept named g (ast_node (ast_group name t) place ∷ l))
+      by_name : (b : Bool) → is_counted named name ≡ b → AllByRecursion IsAnsweredNode (kept z named g l) →
+          AllByRecursion IsAnsweredNode (kept z named g (ast_node (ast_group name t) place ∷ l))
       by_name true e more = rw (e, e) (tt, more)
       by_name false e more = rw e more
   answered_kept (ast_node (ast_backref t casei level) place ∷ l) h n =
       let m = means_here back_reference t place in
       let behind = first_fault g (references_in (filter_map item_of l)) in (
-        backref_answered m t casei level place behind
+        backref_answered z m t casei level place behind
             (back_reference_resolved (λ u. numbers u g) (openings_before g place) t) n,
         answered_kept l h.1 (none_behind m place behind n),
       )
   answered_kept (ast_node (ast_call t) place ∷ l) h n =
       let m = means_here call t place in
       let behind = first_fault g (references_in (filter_map item_of l)) in
-      (call_answered m t place, answered_kept l h.1 (none_behind m place behind n))
+      (call_answered z m t place, answered_kept l h.1 (none_behind m place behind n))
   answered_kept (ast_node (ast_condition t level) place ∷ l) h n =
       let m = means_here condition t place in
       let behind = first_fault g (references_in (filter_map item_of l)) in (
-        condition_answered m t level place behind (condition_resolved (λ u. numbers u g) (openings_before g place) t) n,
+        condition_answered z m t level place behind (condition_resolved (λ u. numbers u g) (openings_before g place) t) n,
         answered_kept l h.1 (none_behind m place behind n),
       )
   answered_kept (literal w casei ∷ l) h n = (h.0, answered_kept l h.1 n)
@@ -274,8 +274,8 @@ module _ {f : Flags} {text : Text} {t : Tree} {m : Marks} (a : IsTreeOf f text t
   abbrev numbered : List Opening
   numbered = numbered_openings f (openings raw)
 
-  nodes : preorder t ≡ kept named numbered (preorder raw)
-  nodes = ap preorder a.3 ∙ resolved_nodes named numbered raw
+  nodes : preorder t ≡ kept (bytes text) named numbered (preorder raw)
+  nodes = ap preorder a.3 ∙ resolved_nodes (bytes text) named numbered raw
 
   nodes_read : IsRead raw
   nodes_read = derived_read a.1.1
@@ -288,22 +288,22 @@ module _ {f : Flags} {text : Text} {t : Tree} {m : Marks} (a : IsTreeOf f text t
   answered =
       let no_fault = ap (λ l. first_fault numbered (references_in l)) (sym (items_of_nodes raw)) ∙ a.2 in
       subst (AllByRecursion IsAnsweredNode) (sym nodes)
-      (answered_kept named numbered (preorder raw) nodes_read no_fault)
+      (answered_kept (bytes text) named numbered (preorder raw) nodes_read no_fault)
 
   -- the Groups in preorder are the groups that have a number, in the order of their opening parentheses
-  groups_in_order : groups t ≡ map (λ q. group (resolved_in named numbered q.1)) (numbered_groups f raw)
-  groups_in_order = ap (filter is_group) nodes ∙ groups_kept named numbered (preorder raw) nodes_read
+  groups_in_order : groups t ≡ map (λ q. group (resolved_in (bytes text) named numbered q.1)) (numbered_groups f raw)
+  groups_in_order = ap (filter is_group) nodes ∙ groups_kept (bytes text) named numbered (preorder raw) nodes_read
 
   openings_in_order : map (λ q. q.0) (numbered_groups f raw) ≡ numbered
   openings_in_order =
-      openings_counted named numbered (preorder raw)
+      openings_counted (bytes text) named numbered (preorder raw)
       ∙ ap (λ l. numbered_openings_in named (openings_in l)) (sym (items_of_nodes raw))
 
   -- as many as are said
   pub groups_total : length (groups t) ≡ m.total_groups
   groups_total =
       let groups_of = numbered_groups f raw in
-      ap length groups_in_order ∙ length-map groups_of (λ q. group (resolved_in named numbered q.1))
+      ap length groups_in_order ∙ length-map groups_of (λ q. group (resolved_in (bytes text) named numbered q.1))
       ∙ sym (length-map groups_of (λ q. q.0)) ∙ ap length openings_in_order ∙ ap (λ k. k.total_groups) (sym is_marks)
 
   -- of each name they are the numbers, and of the groups that carry it
@@ -319,13 +319,13 @@ module _ {f : Flags} {text : Text} {t : Tree} {m : Marks} (a : IsTreeOf f text t
   -- a call is said where one stands
   calls_marked : has_call t ≡ m.contains_subroutines
   calls_marked =
-      ap (list_any is_call_node) nodes ∙ calls_kept named numbered (preorder raw) nodes_read
+      ap (list_any is_call_node) nodes ∙ calls_kept (bytes text) named numbered (preorder raw) nodes_read
       ∙ ap (λ l. list_any (λ x. is_call x.role) (references_in l)) (sym (items_of_nodes raw))
       ∙ ap (λ k. k.contains_subroutines) (sym is_marks)
 
   numbers_referred : groups_referred t ≡ back_numbers numbered (references raw)
   numbers_referred =
-      ap (filter_map group_referred) nodes ∙ numbers_kept named numbered (preorder raw) nodes_read
+      ap (filter_map group_referred) nodes ∙ numbers_kept (bytes text) named numbered (preorder raw) nodes_read
       ∙ ap (λ l. back_numbers numbered (references_in l)) (sym (items_of_nodes raw))
 
   -- the numbers up to the total, each once, are said
@@ -352,7 +352,7 @@ module _ {f : Flags} {text : Text} {t : Tree} {m : Marks} (a : IsTreeOf f text t
   }
 
   -- the Groups are those of the one raw tree of the text
-  pub groups_of_raw : (r : Tree) → DerivesTree f text r → HasGroupsOf f r t
+  pub groups_of_raw : (r : Tree) → DerivesTree f text r → HasGroupsOf f (bytes text) r t
   groups_of_raw r b =
-      subst (λ q. HasGroupsOf f q t) (sym (same_tree a.1 b))
+      subst (λ q. HasGroupsOf f (bytes text) q t) (sym (same_tree a.1 b))
       (record { in_order = openings_in_order; insides = groups_in_order })

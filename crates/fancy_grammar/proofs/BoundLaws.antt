@@ -10,7 +10,7 @@ use Prim.Native.Char.{code}
 use Rattle.fancy_lex.proofs.TextLemmas.{bytes_chars, strip_is}
 use Rattle.fancy_lex.specs.Characters.{bar}
 use Rattle.fancy_lex.specs.LayoutSteps.{Skipped, rest, fault as open_comment}
-use Rattle.fancy_lex.specs.Text.{Text, bytes, place_of, strip}
+use Rattle.fancy_lex.specs.Text.{Text, bytes, reach_of, strip}
 use Rattle.fancy_lex.specs.declared.flags.Flags.{Flags}
 use Rattle.fancy_parts.specs.Quantifier.{counts}
 use Rattle.fancy_parts.specs.declared.counts.Counts.{Counts}
@@ -176,11 +176,11 @@ strip_bytes : (c : ℕ) (t u : Text) → strip c t ≡ Some u → bytes u + 1 �
 strip_bytes c t u e = omega (arith, ap bytes (strip_is c t u e), one_bytes c u)
 
 -- behind a closing parenthesis
-closed_holds : (P : Tree → State → Type 0) (n : ℕ) (r : Tree) (s : State) →
-    ((u : State) → bytes u.rest + 1 ≤ bytes s.rest → P r u) → Holds P (closed n r s)
-closed_holds P n r s k = by_text s.rest refl
+closed_holds : (P : Tree → State → Type 0) (r : Tree) (s : State) →
+    ((u : State) → bytes u.rest + 1 ≤ bytes s.rest → P r u) → Holds P (closed r s)
+closed_holds P r s k = by_text s.rest refl
   where
-    by_text : (t : Text) → s.rest ≡ t → Holds P (closed_at n r s t)
+    by_text : (t : Text) → s.rest ≡ t → Holds P (closed_at r s t)
     by_text [] e = tt
     by_text (c ∷ t) e =
         cond_both (c == code ")") _ _ (Holds P) (λ _. k (at s t) (omega (arith, ap bytes e, one_bytes c t))) (λ _. tt)
@@ -214,22 +214,22 @@ quantified_over f c m a =
     cond_both (is_swapped f c) _ _ (IsOver a) (λ _. (omega arith, omega arith)) (λ _.
     cond_both m.possessive _ _ (IsOver a) (λ _. (omega arith, omega arith)) (λ _. (omega arith, omega arith)))
 
-suffix_ends : (n : ℕ) (w : State) (c : Counts) → Holds (λ m v. bytes v.rest ≤ bytes w.rest) (suffix n w c)
-suffix_ends n w c = by_cases (suffix n w c) (suffix_slice n [] w w c (bare n (here w.rest)))
+suffix_ends : (w : State) (c : Counts) → Holds (λ m v. bytes v.rest ≤ bytes w.rest) (suffix w c)
+suffix_ends w c = by_cases (suffix w c) (suffix_slice [] w w c (bare (here w.rest)))
   where
-    by_cases : (o : Outcome Suffix) → Within (λ m. []) n w o → Holds (λ m v. bytes v.rest ≤ bytes w.rest) o
+    by_cases : (o : Outcome Suffix) → Within (λ m. []) w o → Holds (λ m v. bytes v.rest ≤ bytes w.rest) o
     by_cases (done m v) h = fits h.slice
     by_cases (fault k p) h = tt
 
-quant_grows : (n left : ℕ) (a : Tree) (t : State) → Holds (Grows a t) (quant n left a t)
+quant_grows : (left : ℕ) (a : Tree) (t : State) → Holds (Grows a t) (quant left a t)
 unfolding quant
-quant_grows n left a t = by_layout (skipped n t) (layout_slice n t.flags.ignore_space t.rest)
+quant_grows left a t = by_layout (skipped t) (layout_slice t.flags.ignore_space t.rest)
   where
     by_counts : (v : Text) → bytes v ≤ bytes t.rest → (o : Option (Counts × Text)) →
-        IfSome o (λ p. bytes p.1 + 1 ≤ bytes v) → Holds (Grows a t) (with_counts n left a (at t v) o)
+        IfSome o (λ p. bytes p.1 + 1 ≤ bytes v) → Holds (Grows a t) (with_counts left a (at t v) o)
     by_counts v l None h = (omega (arith, l), omega (arith, l), omega arith)
     by_counts v l (Some (c, u)) h =
-        let marks = suffix_ends n (at t u) c in
+        let marks = suffix_ends (at t u) c in
         cond_both (is_repeatable t.flags a) _ _ (Holds (Grows a t))
         (λ e. then_holds (λ m w. bytes w.rest ≤ bytes u) (Grows a t) _ _ marks refl (λ m w i.
         let over = quantified_over t.flags c m a in let is = solid_weight a (repeatable_solid t.flags a e) in
@@ -238,7 +238,7 @@ quant_grows n left a t = by_layout (skipped n t) (layout_slice n t.flags.ignore_
         (λ _. then_holds (λ m w. bytes w.rest ≤ bytes u) (Grows a t) _ _ marks refl (λ m w i.
         (omega (arith, l, h, i), omega (arith, l, h, i), omega arith))) (λ _. tt))
 
-    by_layout : (j : Skipped) → SkippedSlice n t.rest j → Holds (Grows a t) (quant_at n left a t j)
+    by_layout : (j : Skipped) → SkippedSlice t.rest j → Holds (Grows a t) (quant_at left a t j)
     by_layout (rest v) i = by_counts v (fits i) (counts t.flags.ignore_space v) (counts_past t.flags.ignore_space v)
     by_layout (open_comment p) i = tt
 
@@ -246,29 +246,29 @@ unmoved_bytes : (s t : State) → is_unmoved s t ≡ true → bytes t.rest ≡ b
 unmoved_bytes s t e = grind (arith, nat_tests)
 
 -- a reading that takes no byte adds no level
-adjacent_grows : (k n d : ℕ) (a : Tree) (t : State) → Holds (GrowsBy k a t) (adjacent k n d a t)
+adjacent_grows : (k d : ℕ) (a : Tree) (t : State) → Holds (GrowsBy k a t) (adjacent k d a t)
 unfolding adjacent
-adjacent_grows zero n d a t =
-    let Q = GrowsBy zero a t in let once = quant_grows n (bytes t.rest) a t in
-    then_holds (Grows a t) Q (quant n (bytes t.rest) a t) _ once refl (λ b v h.
+adjacent_grows zero d a t =
+    let Q = GrowsBy zero a t in let once = quant_grows (bytes t.rest) a t in
+    then_holds (Grows a t) Q (quant (bytes t.rest) a t) _ once refl (λ b v h.
     cond_both (is_unmoved t v) _ _ (Holds Q) (λ e. (h.0, omega (arith, h.1, unmoved_bytes t v e))) (λ _. tt))
-adjacent_grows (suc k) n d a t =
-    let Q = GrowsBy (suc k) a t in let once = quant_grows n (bytes t.rest) a t in
-    let more = adjacent_grows k n (d + 1) in
-    then_holds (Grows a t) Q (quant n (bytes t.rest) a t) _ once refl (λ b v h.
+adjacent_grows (suc k) d a t =
+    let Q = GrowsBy (suc k) a t in let once = quant_grows (bytes t.rest) a t in
+    let more = adjacent_grows k (d + 1) in
+    then_holds (Grows a t) Q (quant (bytes t.rest) a t) _ once refl (λ b v h.
     cond_both (is_unmoved t v) _ _ (Holds Q) (λ e. (h.0, omega (arith, h.1, unmoved_bytes t v e))) (λ _.
     cond_both (nat_lt (d + 1) max_depth) _ _ (Holds Q)
-    (λ _. holds_too (GrowsBy k b v) Q (adjacent k n (d + 1) b v) (λ x w i.
+    (λ _. holds_too (GrowsBy k b v) Q (adjacent k (d + 1) b v) (λ x w i.
     (omega (arith, h.0, i.0), omega (arith, h.2, i.1))) (more b v)) (λ _. tt)))
 
 -- one, and four adjacent to it
-quants_grow : (n d left : ℕ) (a : Tree) (t : State) → Holds (GrowsBy 5 a t) (quants n d left a t)
-quants_grow n d left a t =
+quants_grow : (d left : ℕ) (a : Tree) (t : State) → Holds (GrowsBy 5 a t) (quants d left a t)
+quants_grow d left a t =
     let Q = GrowsBy 5 a t in
-    then_holds (Grows a t) Q (quant n left a t) _ (quant_grows n left a t) refl (λ b v h.
+    then_holds (Grows a t) Q (quant left a t) _ (quant_grows left a t) refl (λ b v h.
     cond_both v.flags.oniguruma_mode _ _ (Holds Q)
-    (λ _. holds_too (GrowsBy max_adjacent b v) Q (adjacent max_adjacent n d b v) (λ x w i.
-    (omega (arith, h.0, i.0), omega (arith, h.2, i.1))) (adjacent_grows max_adjacent n d b v))
+    (λ _. holds_too (GrowsBy max_adjacent b v) Q (adjacent max_adjacent d b v) (λ x w i.
+    (omega (arith, h.0, i.0), omega (arith, h.2, i.1))) (adjacent_grows max_adjacent d b v))
     (λ _. (h.0, omega (arith, h.2))))
 
 -- ---- what stands ahead
@@ -284,19 +284,19 @@ below_at d nothing h = tt
 below_at d (leaf o) h = tt
 below_at d _ h = h
 
-ahead_below : (n d : ℕ) (s : State) → OpensBelow d (ahead n d s)
+ahead_below : (d : ℕ) (s : State) → OpensBelow d (ahead d s)
 unfolding ahead
-ahead_below n d s = by_text s.rest
+ahead_below d s = by_text s.rest
   where
     may_open : nat_le max_depth (d + 1) ≡ false → d + 1 < max_depth
     may_open e = grind (arith, nat_tests)
 
-    by_text : (t : Text) → OpensBelow d (ahead_of n d s t)
+    by_text : (t : Text) → OpensBelow d (ahead_of d s t)
     by_text [] = tt
     by_text (c ∷ t) =
         cond_both (c == code "(") _ _ (OpensBelow d)
         (λ _. cond_both (nat_le max_depth (d + 1)) _ _ (OpensBelow d) (λ _. tt)
-        (λ e. below_at d (behind_layout n s (skipped n (at s t))) (may_open e))) (λ _.
+        (λ e. below_at d (behind_layout s (skipped (at s t))) (may_open e))) (λ _.
         cond_both (is_before_nothing c) _ _ (OpensBelow d) (λ _. tt) (λ _. tt))
 
 -- ---- the bounds of each part, which is read from s at depth d and ends at t; its levels are max_levels, less 13 for
@@ -324,19 +324,19 @@ BranchesFit d s l t =
 abbrev InsideFits : ℕ → State → Tree → State → Type 0
 InsideFits d s r t = (size r + 1 + 2 * bytes t.rest ≤ 2 * bytes s.rest) × (raw_levels r + 13 * d ≤ 819)
 
-leaf_fits : (n d : ℕ) (s : State) (o : Outcome Tree) → d < max_depth → LeafSlice n s o → Makes IsReadLeaf o →
+leaf_fits : (d : ℕ) (s : State) (o : Outcome Tree) → d < max_depth → LeafSlice s o → Makes IsReadLeaf o →
     Holds (Fits 820 d s) o
-leaf_fits n d s (done a t) l h i = (omega (arith, h.1, weight_most a, ap length i.1), omega (arith, l, i.2))
-leaf_fits n d s (fault k p) l h i = tt
+leaf_fits d s (done a t) l h i = (omega (arith, h.1, weight_most a, ap length i.1), omega (arith, l, i.2))
+leaf_fits d s (fault k p) l h i = tt
 
 mutual
-  alternation_fits : {n d : ℕ} {s : State} {o : Outcome Tree} → Alternation n d s o → d < max_depth →
+  alternation_fits : {d : ℕ} {s : State} {o : Outcome Tree} → Alternation d s o → d < max_depth →
       Holds (Fills max_levels d s) o
   alternation_fits (alternation {d} {s} {q} b e) l =
       then_holds (BranchesFit d s) (Fills max_levels d s) q _ (branches_fit b l) e (λ ts v h.
       (omega (arith, some_choice_size ts h.2, h.0), omega (arith, choice_levels ts, h.1)))
 
-  branches_fit : {n d : ℕ} {s : State} {o : Outcome (List Tree)} → Branches n d s o → d < max_depth →
+  branches_fit : {d : ℕ} {s : State} {o : Outcome (List Tree)} → Branches d s o → d < max_depth →
       Holds (BranchesFit d s) o
   branches_fit (last b e) l = let h = branch_fits b l in (omega (arith, h.0), omega (arith, h.1), omega arith)
   branches_fit (more {d} {s} {t} {u} {r} {q} b e m f) l =
@@ -345,12 +345,12 @@ mutual
       (omega (arith, h.0, past, i.0), omega (arith, h.1, i.1), omega arith))
   branches_fit (branch_fault b) l = tt
 
-  branch_fits : {n d : ℕ} {s : State} {o : Outcome Tree} → Branch n d s o → d < max_depth → Holds (Fills 831 d s) o
+  branch_fits : {d : ℕ} {s : State} {o : Outcome Tree} → Branch d s o → d < max_depth → Holds (Fills 831 d s) o
   branch_fits (branch {d} {s} {q} b e) l =
       then_holds (PiecesFit d s) (Fills 831 d s) q _ (pieces_fit b l) e (λ ts v h.
       (omega (arith, join_size ts, h.0), omega (arith, join_levels ts, h.1)))
 
-  pieces_fit : {n d : ℕ} {s : State} {o : Outcome (List Tree)} → Pieces n d s o → d < max_depth →
+  pieces_fit : {d : ℕ} {s : State} {o : Outcome (List Tree)} → Pieces d s o → d < max_depth →
       Holds (PiecesFit d s) o
   pieces_fit (stop e) l = (omega arith, omega (arith, l))
   pieces_fit (next {d} {s} {t} {q} e a m f) l =
@@ -359,26 +359,26 @@ mutual
       (omega (arith, h.0, i.0), omega (arith, h.1, i.1)))
   pieces_fit (piece_fault e a) l = tt
 
-  piece_fits : {n d : ℕ} {s : State} {o : Outcome Tree} → Piece n d s o → d < max_depth → Holds (Fits 830 d s) o
-  piece_fits (piece {n} {d} {s} {u} {q} k x e) l =
-      let past = fits (skipped_slice n s u k) in
+  piece_fits : {d : ℕ} {s : State} {o : Outcome Tree} → Piece d s o → d < max_depth → Holds (Fits 830 d s) o
+  piece_fits (piece {d} {s} {u} {q} k x e) l =
+      let past = fits (skipped_slice s u k) in
       then_holds (Fits 820 d (at s u)) (Fits 830 d s) q _ (atom_fits x l) e (λ a t h.
-      holds_too (GrowsBy 5 a t) (Fits 830 d s) (quants n d (bytes s.rest) a t) (λ b v i.
-      (omega (arith, past, h.0, i.0), omega (arith, h.1, i.1))) (quants_grow n d (bytes s.rest) a t))
+      holds_too (GrowsBy 5 a t) (Fits 830 d s) (quants d (bytes s.rest) a t) (λ b v i.
+      (omega (arith, past, h.0, i.0), omega (arith, h.1, i.1))) (quants_grow d (bytes s.rest) a t))
   piece_fits (layout_fault k) l = tt
 
-  atom_fits : {n d : ℕ} {s : State} {o : Outcome Tree} → Atom n d s o → d < max_depth → Holds (Fits 820 d s) o
-  atom_fits (atom {n} {d} {s} {q} {k} e a b) l =
-      let h = of_fits a l (subst (AheadSlice n s) e (ahead_slice n d s)) (subst ReadAhead e (ahead_read n d s))
-      (subst (OpensBelow d) e (ahead_below n d s)) in
+  atom_fits : {d : ℕ} {s : State} {o : Outcome Tree} → Atom d s o → d < max_depth → Holds (Fits 820 d s) o
+  atom_fits (atom {d} {s} {q} {k} e a b) l =
+      let h = of_fits a l (subst (AheadSlice s) e (ahead_slice d s)) (subst ReadAhead e (ahead_read d s))
+      (subst (OpensBelow d) e (ahead_below d s)) in
       let P = Holds (Fits 820 d s) in subst P b (behind_keeps P (λ r t f i. i) k s.flags q h)
 
-  of_fits : {k : Ahead} {n d : ℕ} {s : State} {o : Outcome Tree} → AtomOf k n d s o → d < max_depth →
-      AheadSlice n s k → ReadAhead k → OpensBelow d k → Holds (Fits 820 d s) o
+  of_fits : {k : Ahead} {d : ℕ} {s : State} {o : Outcome Tree} → AtomOf k d s o → d < max_depth →
+      AheadSlice s k → ReadAhead k → OpensBelow d k → Holds (Fits 820 d s) o
   of_fits a_nothing l h r b = (omega arith, omega (arith, l))
-  of_fits (a_leaf {n} {d} {s} {o}) l h r b = leaf_fits n d s o l h r
-  of_fits (a_group {n} {d} {h = head} {s} {t} {q} i e) l h r b =
-      let p = place_of n s.rest in
+  of_fits (a_leaf {d} {s} {o}) l h r b = leaf_fits d s o l h r
+  of_fits (a_group {d} {h = head} {s} {t} {q} i e) l h r b =
+      let p = reach_of s.rest in
       then_holds (InsideFits d t) (Fits 820 d s) q _ (inside_fits i b) e (λ x v k.
       let over = node_over head p x in
       (omega (arith, weight_most (group_node head p x), over.0, k.0, h.1), omega (arith, over.1, k.1)))
@@ -386,48 +386,48 @@ mutual
       let c = inside_fits i b in body_fits m s (omega (arith, c.0, h.1)) c.1 b
   of_fits (condition_fault i) l h r b = tt
   of_fits (a_body {s} m) l h r b = body_fits m s (omega (arith, h.1, ap length r.1)) (omega (arith, b, r.2)) b
-  of_fits (two_branches {n} {d} {s} {v} {u} {a} {q} x e m f) l h r b =
+  of_fits (two_branches {d} {s} {v} {u} {a} {q} x e m f) l h r b =
       let first = branch_fits x b in let past = strip_bytes bar v.rest u e in
       then_holds (Fills 831 (d + 1) (at v u)) (Fits 820 d s) q _ (branch_fits m b) f (λ y w i.
-      closed_holds (Fits 820 d s) n (absent (expression a y)) w (λ z k.
+      closed_holds (Fits 820 d s) (absent (expression a y)) w (λ z k.
       let both = length-append (preorder a) (preorder y) in
       (omega (arith, h.1, first.0, past, i.0, k, both), omega (arith, first.1, i.1))))
-  of_fits (one_branch {n} {d} {s} {v} {a} x e f) l h r b =
+  of_fits (one_branch {d} {s} {v} {a} x e f) l h r b =
       let first = branch_fits x b in let over = clear_or_stopper_over a in
-      subst (Holds (Fits 820 d s)) f (closed_holds (Fits 820 d s) n (clear_or_stopper a) v (λ z k.
+      subst (Holds (Fits 820 d s)) f (closed_holds (Fits 820 d s) (clear_or_stopper a) v (λ z k.
       (omega (arith, weight_most (clear_or_stopper a), over.0, h.1, first.0, k), omega (arith, over.1, first.1))))
   of_fits (absent_fault x) l h r b = tt
 
-  inside_fits : {n d : ℕ} {s : State} {o : Outcome Tree} → Inside n d s o → d + 1 < max_depth → Holds (InsideFits d s) o
-  inside_fits (inside {n} {d} {s} {q} a e) l =
+  inside_fits : {d : ℕ} {s : State} {o : Outcome Tree} → Inside d s o → d + 1 < max_depth → Holds (InsideFits d s) o
+  inside_fits (inside {d} {s} {q} a e) l =
       then_holds (Fills max_levels (d + 1) s) (InsideFits d s) q _ (alternation_fits a l) e (λ t v h.
-      closed_holds (InsideFits d s) n t v (λ z k. (omega (arith, h.0, k), omega (arith, h.1))))
+      closed_holds (InsideFits d s) t v (λ z k. (omega (arith, h.0, k), omega (arith, h.1))))
 
-  body_fits : {n d : ℕ} {c : Tree} {t : State} {o : Outcome Tree} → Body n d c t o → (s : State) →
+  body_fits : {d : ℕ} {c : Tree} {t : State} {o : Outcome Tree} → Body d c t o → (s : State) →
       size c + 2 + 2 * bytes t.rest ≤ 2 * bytes s.rest → raw_levels c + 13 * d ≤ 819 → d + 1 < max_depth →
       Holds (Fits 820 d s) o
-  body_fits (the_body {n} {d} {c} {s = t} {q} a e) s g h l =
+  body_fits (the_body {d} {c} {s = t} {q} a e) s g h l =
       then_holds (Fills max_levels (d + 1) t) (Fits 820 d s) q _ (alternation_fits a l) e (λ x v i.
       cond_both (bytes v.rest == bytes t.rest && not (is_condition c)) _ _ (Holds (Fits 820 d s)) (λ _. tt) (λ _.
       let parts = branches_of x in let whole = conditional_of c parts.0 parts.1 in let deep = branches_levels x in
-      closed_holds (Fits 820 d s) n whole v (λ z k. (
+      closed_holds (Fits 820 d s) whole v (λ z k. (
         omega (arith, weight_most whole, conditional_size c parts.0 parts.1, branches_size x, g, i.0, k),
         omega (arith, conditional_levels c parts.0 parts.1, deep.0, deep.1, h, i.1, l),
       ))))
 
 -- ---- a whole text
 
-ended_holds : (P : Tree → State → Type 0) (n : ℕ) (r : Tree) (s : State) → P r s → Holds P (ended n r s)
-ended_holds P n r s h = by_text s.rest
+ended_holds : (P : Tree → State → Type 0) (r : Tree) (s : State) → P r s → Holds P (ended r s)
+ended_holds P r s h = by_text s.rest
   where
-    by_text : (t : Text) → Holds P (ended_at n r s t)
+    by_text : (t : Text) → Holds P (ended_at r s t)
     by_text [] = h
     by_text (c ∷ t) = tt
 
 whole_fits : {f : Flags} {text : Text} {o : Outcome Tree} → Whole f text o → Holds (Fills max_levels 0 (start f text)) o
 whole_fits (whole {f} {text} {q} a e) =
     let P = Fills max_levels 0 (start f text) in
-    then_holds P P q _ (alternation_fits a (omega arith)) e (λ r t h. ended_holds P (bytes text) r t h)
+    then_holds P P q _ (alternation_fits a (omega arith)) e (λ r t h. ended_holds P r t h)
 
 -- an answered tree is small beside its text
 pub bounded : {f : Flags} {re : List ℕ} {t : Tree} {m : Marks} → IsUtf8 re → IsTreeOf f (chars re) t m →
@@ -435,6 +435,6 @@ pub bounded : {f : Flags} {re : List ℕ} {t : Tree} {m : Marks} → IsUtf8 re �
 bounded {f} {re} {t} u (r, a, none, e, d) =
     let small = whole_fits a.1 in let named = only_named f (openings r) in
     let numbered = numbered_openings f (openings r) in (
-      omega (arith, ap nodes e, resolved_size named numbered r, small.0, bytes_chars re u),
-      omega (arith, ap levels e, resolved_levels named numbered r, small.1),
+      omega (arith, ap nodes e, resolved_size (bytes (chars re)) named numbered r, small.0, bytes_chars re u),
+      omega (arith, ap levels e, resolved_levels (bytes (chars re)) named numbered r, small.1),
     )

@@ -15,8 +15,8 @@ use Rattle.fancy_lex.specs.ErrorViews.{kind_of}
 use Rattle.fancy_lex.specs.Flags.{flags_of}
 use Rattle.fancy_lex.specs.Reading.{Reading, gives, fails, IsErrorOrNoMemory}
 use Rattle.fancy_lex.specs.Text.{Text, bytes}
-use Rattle.fancy_lex.specs.declared.error.Error.{Error}
-use Rattle.fancy_lex.specs.declared.error.Error.TheVariants.{ParseError, OutOfMemory}
+use Rattle.fancy_lex.specs.declared.error.Failure.{Failure}
+use Rattle.fancy_lex.specs.declared.error.Failure.TheVariants.{At, OutOfMemory}
 use Rattle.fancy_lex.specs.declared.escape.Assertion.TheVariants.{StartLineOniguruma}
 use Rattle.fancy_lex.specs.declared.flags.Flags.{Flags}
 use Rattle.fancy_lex.proofs.TextLemmas.{bytes_chars}
@@ -29,9 +29,9 @@ use Rattle.fancy_grammar.specs.Tree.{Tree, empty, assertion, literal, concat, al
 use Rattle.fancy_grammar.proofs.ReadBack.DelegateTexts.{other_left, no_other}
 use Rattle.fancy_grammar.proofs.ReadBack.PrintableLaws.{normal_empty}
 
--- a text behind a character of one byte
-one_more : (bs : List ℕ) (n : ℕ) → IsUtf8 bs → n ≡ length bs + 1 → n ≡ 1 + bytes (chars bs)
-one_more bs n u e = e ∙ rw (bytes_chars bs u) (omega arith)
+-- the reach before a text of a character of one byte
+one_more : (bs : List ℕ) (p : ℕ) → IsUtf8 bs → p ≡ length bs + 2 → p ≡ 1 + bytes (chars bs) + 1
+one_more bs p u e = e ∙ rw (bytes_chars bs u) (omega arith)
 
 -- whether something is left behind a Delegate, as the code asks it
 whole_left : (o : Option (ℕ × Bor (List ℕ))) (b : Bool) (r : Tree) (v : Text) → true ≡ is_some (whole_of [] r) →
@@ -42,22 +42,22 @@ whole_left (Some p) false r v class none is = ap (λ w. is_some (whole_of w r)) 
 whole_left None false r v class none is = absurd (false≢true none)
 whole_left (Some p) true r v class none is = absurd (false≢true (sym none))
 
-module _ (bs : List ℕ) (n : ℕ) (f : Flags) (utf8 : IsUtf8 bs) (whole : n ≡ length bs + 1) (is : f ≡ flags_of 0) where
+module _ (bs : List ℕ) (p : ℕ) (f : Flags) (utf8 : IsUtf8 bs) (whole : p ≡ length bs + 2) (is : f ≡ flags_of 0) where
   -- a class under no flags, as a leaf
   class_leaf : class_of (unicode_flags false) (open_bracket ∷ chars bs) ≡
       whole_leaf (leaf_outcome (λ w. delegate w false) (start (unicode_flags false) (open_bracket ∷ chars bs))
-      (class n f (chars bs)))
+      (class f (chars bs)))
   unfolding class_of bytes
-  class_leaf = rw (one_more bs n utf8 whole, is) refl
+  class_leaf = rw is refl
 
-  pub class_read : (w v : Text) (o : Option (ℕ × Bor (List ℕ))) (b : Bool) → class n f (chars bs) ≡ gives w v →
+  pub class_read : (w v : Text) (o : Option (ℕ × Bor (List ℕ))) (b : Bool) → class f (chars bs) ≡ gives w v →
       is_some o ≡ not b → MatchOption o (v ≡ []) (λ p. v ≡ p.0 ∷ chars p.1.now) →
       b ≡ is_some (class_of (unicode_flags false) (open_bracket ∷ chars bs))
   class_read w v o b e none left = whole_left o b (delegate w false) v refl none left ∙ sym (ap is_some (class_leaf ∙
       ap (λ q. whole_leaf (leaf_outcome (λ w. delegate w false)
       (start (unicode_flags false) (open_bracket ∷ chars bs)) q)) e))
 
-  pub class_faulty : (e : Fault) → class n f (chars bs) ≡ fails e →
+  pub class_faulty : (e : Fault) → class f (chars bs) ≡ fails e →
       false ≡ is_some (class_of (unicode_flags false) (open_bracket ∷ chars bs))
   class_faulty e h = sym (ap is_some (class_leaf ∙
       ap (λ q. whole_leaf (leaf_outcome (λ w. delegate w false)
@@ -66,40 +66,40 @@ module _ (bs : List ℕ) (n : ℕ) (f : Flags) (utf8 : IsUtf8 bs) (whole : n ≡
   -- an escape under no flags, as a leaf
   escape_leaf : class_of (unicode_flags false) (backslash ∷ chars bs) ≡
       whole_leaf (leaf_outcome leaf_node (start (unicode_flags false) (backslash ∷ chars bs))
-      (escape n f false 0 (chars bs)))
+      (escape f false p (chars bs)))
   unfolding class_of bytes
-  escape_leaf = rw (one_more bs n utf8 whole, is) (grind arith)
+  escape_leaf = rw (one_more bs p utf8 whole, is) (grind arith)
 
-  escape_is : (q : Reading Escape) → escape n f false 0 (chars bs) ≡ q →
+  escape_is : (q : Reading Escape) → escape f false p (chars bs) ≡ q →
       is_some (class_of (unicode_flags false) (backslash ∷ chars bs)) ≡
       is_some (whole_leaf (leaf_outcome leaf_node (start (unicode_flags false) (backslash ∷ chars bs)) q))
   escape_is q e = ap is_some (escape_leaf ∙
       ap (λ q. whole_leaf (leaf_outcome leaf_node (start (unicode_flags false) (backslash ∷ chars bs)) q)) e)
 
   pub escape_read : (x : Escape) (v : Text) (o : Option (ℕ × Bor (List ℕ))) (a b : Bool) →
-      escape n f false 0 (chars bs) ≡ gives x v →
+      escape f false p (chars bs) ≡ gives x v →
       a ≡ is_some (whole_of [] (leaf_node x)) → a ≡ true → is_some o ≡ not b →
       MatchOption o (v ≡ []) (λ p. v ≡ p.0 ∷ chars p.1.now) →
       b ≡ is_some (class_of (unicode_flags false) (backslash ∷ chars bs))
   escape_read x v o a b e class is_class none left = whole_left o b (leaf_node x) v (sym is_class ∙ class) none left
       ∙ sym (escape_is _ e)
 
-  pub escape_other : (x : Escape) (v : Text) (a : Bool) → escape n f false 0 (chars bs) ≡ gives x v →
+  pub escape_other : (x : Escape) (v : Text) (a : Bool) → escape f false p (chars bs) ≡ gives x v →
       a ≡ is_some (whole_of [] (leaf_node x)) → a ≡ false →
       a ≡ is_some (class_of (unicode_flags false) (backslash ∷ chars bs))
   escape_other x v a e class is_other = is_other ∙ other_left (leaf_node x) v (sym is_other ∙ class)
       ∙ sym (escape_is _ e)
 
-  pub escape_faulty : (e : Fault) → escape n f false 0 (chars bs) ≡ fails e →
+  pub escape_faulty : (e : Fault) → escape f false p (chars bs) ≡ fails e →
       false ≡ is_some (class_of (unicode_flags false) (backslash ∷ chars bs))
   escape_faulty e h = sym (escape_is _ h)
 
 -- the answer where a reading failed, unless memory ran out
-pub failed : {A : Type 0} (r : Result Bool AllocError) (error : Error) (o : Reading A) (x : Bool) →
+pub failed : {A : Type 0} (r : Result Bool AllocError) (error : Failure) (o : Reading A) (x : Bool) →
     IfOk r (λ b. b ≡ false) →
     IfOk r (λ _. error ≡ OutOfMemory → ⊥) → IsErrorOrNoMemory error o → ((e : Fault) → o ≡ fails e → false ≡ x) →
     IfOk r (λ b. b ≡ x)
-failed (Ok b) (ParseError p k) o x is in_memory f faulty = is ∙ faulty (record { place = p; kind = kind_of k }) f
+failed (Ok b) (At p k) o x is in_memory f faulty = is ∙ faulty (record { reach = p; kind = kind_of k }) f
 failed (Ok b) OutOfMemory o x is in_memory f faulty = absurd (in_memory refl)
 failed (Err m) error o x is in_memory f faulty = tt
 

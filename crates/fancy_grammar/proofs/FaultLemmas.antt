@@ -3,10 +3,10 @@ use Rattle.std.proofs.Common.{ℕ}
 use Rattle.std.specs.Str.{chars}
 use Rattle.fancy_lex.specs.Fault.{general_parse_error}
 use Rattle.fancy_lex.specs.FaultTable.{close_paren_expected, end_expected, body_expected}
-use Rattle.fancy_lex.specs.declared.error.Error.{Error}
+use Rattle.fancy_lex.specs.declared.error.Failure.{Failure}
 use Rattle.fancy_grammar.specs.Errors.{IsErrorAt}
 
-module _ (e : Error) (p : ℕ) where
+module _ (e : Failure) (p : ℕ) where
   pub says_close_paren : IsErrorAt e (general_parse_error (chars close_paren_expected)) p →
       IsErrorAt e (general_parse_error close_paren_expected) p
   unfolding chars

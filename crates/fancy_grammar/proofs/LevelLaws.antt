@@ -62,13 +62,13 @@ filter_length p (t ∷ l) =
     cond_both (p t) _ _ (λ m. length m ≤ length (t ∷ l)) (λ _. omega (arith, more)) (λ _. omega (arith, more))
 
 -- the resolved tree has no more nodes than the raw one
-pub resolved_size : (named : Bool) (g : List Opening) (t : Tree) → nodes (resolved_in named g t) ≤ size t
-resolved_size named g t =
+pub resolved_size : (z : ℕ) (named : Bool) (g : List Opening) (t : Tree) → nodes (resolved_in z named g t) ≤ size t
+resolved_size z named g t =
     omega (
       arith,
-      nodes_preorder (resolved_in named g t),
-      ap length (resolved_nodes named g t),
-      length-map (filter (is_kept named) (preorder t)) (resolved_in named g),
+      nodes_preorder (resolved_in z named g t),
+      ap length (resolved_nodes z named g t),
+      length-map (filter (is_kept named) (preorder t)) (resolved_in z named g),
       filter_length (is_kept named) (preorder t),
     )
 
@@ -99,28 +99,28 @@ abbrev mutual
   raw_levels_absent (stopper t) = raw_levels t
   raw_levels_absent clear = 0
 
-backref_level : (m : Meaning) (t : Target) (casei : Bool) (level : Option ℤ) (place : ℕ) →
-    levels (reference_node m (ast_backref t casei level) place) ≡ 1
-backref_level (number n) t casei None place = refl
-backref_level (number n) t casei (Some level) place = refl
-backref_level unresolved t casei level place = refl
-backref_level (faulty k) t casei level place = refl
+backref_level : (z : ℕ) (m : Meaning) (t : Target) (casei : Bool) (level : Option ℤ) (place : ℕ) →
+    levels (reference_node z m (ast_backref t casei level) place) ≡ 1
+backref_level z (number n) t casei None place = refl
+backref_level z (number n) t casei (Some level) place = refl
+backref_level z unresolved t casei level place = refl
+backref_level z (faulty k) t casei level place = refl
 
-call_level : (m : Meaning) (t : Target) (place : ℕ) → levels (reference_node m (ast_call t) place) ≡ 1
-call_level (number n) t place = refl
-call_level unresolved t place = refl
-call_level (faulty k) t place = refl
+call_level : (z : ℕ) (m : Meaning) (t : Target) (place : ℕ) → levels (reference_node z m (ast_call t) place) ≡ 1
+call_level z (number n) t place = refl
+call_level z unresolved t place = refl
+call_level z (faulty k) t place = refl
 
-condition_level : (m : Meaning) (t : Target) (level : Option ℤ) (place : ℕ) →
-    levels (reference_node m (ast_condition t level) place) ≡ 1
-condition_level (number n) t level place = refl
-condition_level unresolved t level place = refl
-condition_level (faulty k) t level place = refl
+condition_level : (z : ℕ) (m : Meaning) (t : Target) (level : Option ℤ) (place : ℕ) →
+    levels (reference_node z m (ast_condition t level) place) ≡ 1
+condition_level z (number n) t level place = refl
+condition_level z unresolved t level place = refl
+condition_level z (faulty k) t level place = refl
 
-module _ (named : Bool) (g : List Opening) where
+module _ (z : ℕ) (named : Bool) (g : List Opening) where
   mutual
     -- the resolved tree has no more levels than the raw one
-    pub resolved_levels : (t : Tree) → levels (resolved_in named g t) ≤ raw_levels t
+    pub resolved_levels : (t : Tree) → levels (resolved_in z named g t) ≤ raw_levels t
     resolved_levels (concat ts) = omega (arith, resolved_levels_all ts)
     resolved_levels (alt ts) = omega (arith, resolved_levels_all ts)
     resolved_levels (group t) = omega (arith, resolved_levels t)
@@ -136,18 +136,18 @@ module _ (named : Bool) (g : List Opening) where
         (λ _. omega (arith, inside))
     resolved_levels (ast_node (ast_backref t casei level) place) =
         let m = means (λ u. numbers u g) (openings_before g place) back_reference t in
-        omega (arith, backref_level m t casei level place)
+        omega (arith, backref_level z m t casei level place)
     resolved_levels (ast_node (ast_call t) place) =
-        omega (arith, call_level (means (λ u. numbers u g) (openings_before g place) call t) t place)
+        omega (arith, call_level z (means (λ u. numbers u g) (openings_before g place) call t) t place)
     resolved_levels (ast_node (ast_condition t level) place) =
-        omega (arith, condition_level (means (λ u. numbers u g) (openings_before g place) condition t) t level place)
+        omega (arith, condition_level z (means (λ u. numbers u g) (openings_before g place) condition t) t level place)
     resolved_levels _ = omega arith
 
-    resolved_levels_all : (ts : Trees) → levels_all (resolved_all named g ts) ≤ raw_levels_all ts
+    resolved_levels_all : (ts : Trees) → levels_all (resolved_all z named g ts) ≤ raw_levels_all ts
     resolved_levels_all no_trees = omega arith
     resolved_levels_all (more_trees t ts) = omega (arith, resolved_levels t, resolved_levels_all ts)
 
-    resolved_levels_absent : (a : AbsentTree) → levels_absent (resolved_absent named g a) ≤ raw_levels_absent a
+    resolved_levels_absent : (a : AbsentTree) → levels_absent (resolved_absent z named g a) ≤ raw_levels_absent a
     resolved_levels_absent (repeater t) = resolved_levels t
     resolved_levels_absent (expression a e) = omega (arith, resolved_levels a, resolved_levels e)
     resolved_levels_absent (stopper t) = resolved_levels t

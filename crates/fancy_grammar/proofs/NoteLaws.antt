@@ -6,6 +6,7 @@ use Rattle.std.specs.BTreeSet.{insert_key}
 use Rattle.std.specs.List.{list_any}
 use Rattle.std.specs.Ordering.{nat_cmp}
 use Rattle.fancy_lex.specs.Fault.{Fault}
+use Rattle.fancy_lex.specs.Text.{bytes, place_at}
 use Rattle.fancy_parts.specs.Ranks.{Opening}
 use Rattle.fancy_parts.specs.Ranks.{numbers, openings_before}
 use Rattle.fancy_grammar.specs.Fits.{Fits}
@@ -22,7 +23,7 @@ Numbers k g = numbers_under k.groups.names ≡ (λ u. numbers u g)
 
 -- the walk and the definition mean the same by a reference
 pub same_meaning : (k : Known) (g : List Opening) (s : Progress) (r : AnyReference) → Numbers k g →
-    openings_before g r.place ≡ s.passed →
+    openings_before g r.reach ≡ s.passed →
     means (numbers_under k.groups.names) s.passed r.role r.target ≡ meaning g r
 same_meaning k g s r n h =
     ap (λ f. means f s.passed r.role r.target) n ∙ ap (λ c. means (λ u. numbers u g) c r.role r.target) (sym h)
@@ -50,7 +51,7 @@ fault_first (faulty k) p o = refl
 
 pub noted_numeric : (k : Known) (s : Progress) (l : List Item) →
     (progress_after k s l).numeric
-    ≡ (s.numeric || list_any (λ x. is_numeric k.text x.place x.role x.target) (references_in l))
+    ≡ (s.numeric || list_any (λ x. is_numeric k.text (place_at (bytes k.text) x.reach) x.role x.target) (references_in l))
 noted_numeric k s [] = sym (or_false s.numeric)
 noted_numeric k s (opening o ∷ l) = noted_numeric k (note_item k s (opening o)) l
 noted_numeric k s (reference r ∷ l) = noted_numeric k (note_item k s (reference r)) l ∙ or_assoc s.numeric _ _
@@ -75,9 +76,9 @@ noted_fault k g s (opening o ∷ l) n h = noted_fault k g (note_item k s (openin
 noted_fault k g s (reference r ∷ l) n h =
     noted_fault k g (note_item k s (reference r)) l n h.1 ∙ else_assoc s.fault _ _
     ∙ ap (λ o. or_else s.fault o) (
-    fault_first (means (numbers_under k.groups.names) s.passed r.role r.target) r.place
+    fault_first (means (numbers_under k.groups.names) s.passed r.role r.target) r.reach
     (first_fault g (references_in l))
-    ∙ ap (λ m. fault_or m r.place (first_fault g (references_in l))) (same_meaning k g s r n h.0)
+    ∙ ap (λ m. fault_or m r.reach (first_fault g (references_in l))) (same_meaning k g s r n h.0)
     )
 
 -- the numbers that are in range, and the first that is not

@@ -1,4 +1,4 @@
--- Where places ascend, the walk's count is the count by places.
+-- Where reaches descend, the walk's count is the count by reaches.
 use Rattle.std.proofs.Common.{◌≡◌, ℕ, ◌+◌, ◌<◌, ◌≤◌, Option, Some, Bool, true, false, List, [], ◌∷◌, ◌++◌, length}
 use Rattle.std.proofs.Common.{length-append, append_assoc, refl, sym, ◌∙◌, subst, arith, nat_lt, cond}
 use Rattle.std.specs.List.{AllByRecursion}
@@ -9,67 +9,66 @@ use Rattle.fancy_grammar.specs.Fits.{Fits}
 use Rattle.fancy_lex.specs.Fault.{Fault}
 use Rattle.fancy_parts.specs.Meaning.{Meaning, number, unresolved, faulty, meaning, fault_or, first_fault}
 use Rattle.fancy_grammar.specs.Items.{Item, opening, reference, openings_in, references_in}
-use Rattle.fancy_grammar.specs.Ordered.{AscendingPlaces, place_of_item}
+use Rattle.fancy_grammar.specs.Ordered.{DescendingReaches, reach_of_item}
 use Rattle.fancy_grammar.specs.Walk.{Known, Progress, note_item}
 
--- the items stand behind the place
+-- the items stand behind the reach of this reach
 abbrev Behind : ℕ → List Item → Type 0
 Behind p [] = Unit {0}
-Behind p (i ∷ l) = (p < place_of_item i) × Behind p l
+Behind p (i ∷ l) = (reach_of_item i < p) × Behind p l
 
 -- each item stands before those that follow it
 abbrev Ascend : List Item → Type 0
 Ascend [] = Unit {0}
-Ascend (i ∷ l) = Behind (place_of_item i) l × Ascend l
+Ascend (i ∷ l) = Behind (reach_of_item i) l × Ascend l
 
-behind_from : (p low high : ℕ) (l : List Item) → p < low → AscendingPlaces low high l → Behind p l
-behind_from p low high [] h a = tt
-behind_from p low high (i ∷ l) h a =
-    (omega (arith, h, a.0), behind_from p (place_of_item i + 1) high l (omega (arith, h, a.0)) a.1)
+behind_from : (p high low : ℕ) (l : List Item) → high ≤ p → DescendingReaches high low l → Behind p l
+behind_from p high low [] h a = tt
+behind_from p high low (i ∷ l) h a =
+    (omega (arith, h, a.0), behind_from p (reach_of_item i) low l (omega (arith, h, a.0)) a.1)
 
-ascend : (low high : ℕ) (l : List Item) → AscendingPlaces low high l → Ascend l
-ascend low high [] a = tt
-ascend low high (i ∷ l) a = (
-  behind_from (place_of_item i) (place_of_item i + 1) high l (omega arith) a.1,
-  ascend
-      (place_of_item i + 1) high l a.1,
+ascend : (high low : ℕ) (l : List Item) → DescendingReaches high low l → Ascend l
+ascend high low [] a = tt
+ascend high low (i ∷ l) a = (
+  behind_from (reach_of_item i) (reach_of_item i) low l (omega arith) a.1,
+  ascend (reach_of_item i) low l a.1,
 )
 
-pub bounds : (low high : ℕ) (l : List Item) → AscendingPlaces low high l → low ≤ high
-bounds low high [] a = a
-bounds low high (i ∷ l) a = omega (arith, a.0, bounds (place_of_item i + 1) high l a.1)
+pub bounds : (high low : ℕ) (l : List Item) → DescendingReaches high low l → low ≤ high
+bounds high low [] a = a
+bounds high low (i ∷ l) a = omega (arith, a.0, bounds (reach_of_item i) low l a.1)
 
--- each has a place of its own
-pub openings_fit : (low high : ℕ) (l : List Item) → AscendingPlaces low high l → low + length (openings_in l) ≤ high
-openings_fit low high [] a = omega (arith, a)
-openings_fit low high (opening o ∷ l) a = omega (arith, a.0, openings_fit (o.place + 1) high l a.1)
-openings_fit low high (reference r ∷ l) a = omega (arith, a.0, openings_fit (r.place + 1) high l a.1)
+-- each has a reach of its own
+pub openings_fit : (high low : ℕ) (l : List Item) → DescendingReaches high low l → low + length (openings_in l) ≤ high
+openings_fit high low [] a = omega (arith, a)
+openings_fit high low (opening o ∷ l) a = omega (arith, a.0, openings_fit o.reach low l a.1)
+openings_fit high low (reference r ∷ l) a = omega (arith, a.0, openings_fit r.reach low l a.1)
 
 -- the first fault stands at a reference
-fault_here : (P : ℕ → Type 0) (m : Meaning) (place : ℕ) (other : Option Fault) (x : Fault) → P place →
-    (other ≡ Some x → P x.place) → fault_or m place other ≡ Some x → P x.place
-fault_here P (number n) place other x h i e = i e
-fault_here P unresolved place other x h i e = i e
-fault_here P (faulty k) place other x h i e =
-    let same : record { place = place; kind = k } ≡ x = cc in subst (λ (y : Fault). P y.place) same h
+fault_here : (P : ℕ → Type 0) (m : Meaning) (reach : ℕ) (other : Option Fault) (x : Fault) → P reach →
+    (other ≡ Some x → P x.reach) → fault_or m reach other ≡ Some x → P x.reach
+fault_here P (number n) reach other x h i e = i e
+fault_here P unresolved reach other x h i e = i e
+fault_here P (faulty k) reach other x h i e =
+    let same : record { reach = reach; kind = k } ≡ x = cc in subst (λ (y : Fault). P y.reach) same h
 
 pub fault_place : (P : ℕ → Type 0) (g : List Opening) (l : List Item) (x : Fault) →
-    AllByRecursion (λ i. P (place_of_item i)) l →
-    first_fault g (references_in l) ≡ Some x → P x.place
+    AllByRecursion (λ i. P (reach_of_item i)) l →
+    first_fault g (references_in l) ≡ Some x → P x.reach
 fault_place P g [] x a e = absurd cc
 fault_place P g (opening o ∷ l) x a e = fault_place P g l x a.1 e
 fault_place P g (reference r ∷ l) x a e =
-    fault_here P (meaning g r) r.place (first_fault g (references_in l)) x a.0 (fault_place P g l x a.1) e
+    fault_here P (meaning g r) r.reach (first_fault g (references_in l)) x a.0 (fault_place P g l x a.1) e
 
--- the openings stand before the place
+-- the openings stand before the place of this reach
 abbrev Before : ℕ → List Opening → Type 0
 Before p [] = Unit {0}
-Before p (o ∷ l) = (o.place < p) × Before p l
+Before p (o ∷ l) = (p < o.reach) × Before p l
 
 -- the openings stand before each of the items
 abbrev AllBefore : List Opening → List Item → Type 0
 AllBefore g [] = Unit {0}
-AllBefore g (i ∷ l) = Before (place_of_item i) g × AllBefore g l
+AllBefore g (i ∷ l) = Before (reach_of_item i) g × AllBefore g l
 
 weight : (m n : ℕ) → m < n → ◌≡◌ {A = ℕ} (cond (nat_lt m n) 1 0) 1
 weight m n h = grind arith
@@ -78,11 +77,11 @@ counted_before : (p : ℕ) (a b : List Opening) → Before p a → openings_befo
     openings_before (a ++ b) p ≡ length a
 counted_before p [] b h e = e
 counted_before p (o ∷ a) b h e =
-    let f = λ (x : Opening). cond (nat_lt x.place p) 1 0 in
-    let before : o.place < p = h.0 in
-    let one : ◌≡◌ {A = ℕ} (cond (nat_lt o.place p) 1 0) 1 = weight o.place p before in
+    let f = λ (x : Opening). cond (nat_lt p x.reach) 1 0 in
+    let before : p < o.reach = h.0 in
+    let one : ◌≡◌ {A = ℕ} (cond (nat_lt p o.reach) 1 0) 1 = weight p o.reach before in
     let more : openings_before (a ++ b) p ≡ length a = counted_before p a b h.1 e in
-    let split : openings_before (o ∷ (a ++ b)) p ≡ cond {A = ℕ} (nat_lt o.place p) 1 0 + openings_before (a ++ b) p
+    let split : openings_before (o ∷ (a ++ b)) p ≡ cond {A = ℕ} (nat_lt p o.reach) 1 0 + openings_before (a ++ b) p
     = sum_by-cons f o (a ++ b) in
     omega arith
 
@@ -92,19 +91,19 @@ none_before named p [] h = refl
 none_before named p (opening o ∷ l) h = grind (arith, h.0, none_before named p l h.1)
 none_before named p (reference r ∷ l) h = none_before named p l h.1
 
-before_more : (p : ℕ) (g : List Opening) (o : Opening) → Before p g → o.place < p → Before p (g ++ (o ∷ []))
+before_more : (p : ℕ) (g : List Opening) (o : Opening) → Before p g → p < o.reach → Before p (g ++ (o ∷ []))
 before_more p [] o h k = (k, tt)
 before_more p (x ∷ g) o h k = (h.0, before_more p g o h.1 k)
 
-all_before_more : (g : List Opening) (o : Opening) (l : List Item) → AllBefore g l → Behind o.place l →
+all_before_more : (g : List Opening) (o : Opening) (l : List Item) → AllBefore g l → Behind o.reach l →
     AllBefore (g ++ (o ∷ [])) l
 all_before_more g o [] h k = tt
-all_before_more g o (i ∷ l) h k = (before_more (place_of_item i) g o h.0 k.0, all_before_more g o l h.1 k.1)
+all_before_more g o (i ∷ l) h k = (before_more (reach_of_item i) g o h.0 k.0, all_before_more g o l h.1 k.1)
 
 -- the walk behind an opening, by what holds of any walk over the items that follow it
 behind_opening : (k : Known) (g : List Opening) (s : Progress) (o : Opening) (l : List Item) (b : Bool) →
     is_counted k.named o.name ≡ b → s.passed ≡ length g → AllBefore g (opening o ∷ l) →
-    Behind o.place l →
+    Behind o.reach l →
     ((g2 : List Opening) (s2 : Progress) → s2.passed ≡ length g2 → AllBefore g2 l →
     Fits k (g2 ++ numbered_openings_in k.named (openings_in l)) s2 l) →
     Fits k (g ++ numbered_openings_in k.named (openings_in (opening o ∷ l))) (note_item k s (opening o)) l
@@ -129,7 +128,7 @@ fits_from : (k : Known) (g : List Opening) (s : Progress) (l : List Item) → s.
     Fits k (g ++ numbered_openings_in k.named (openings_in l)) s l
 fits_from k g s [] p h a = tt
 fits_from k g s (reference r ∷ l) p h a = (
-  counted_before r.place g (numbered_openings_in k.named (openings_in l)) h.0 (none_before k.named r.place l a.0)
+  counted_before r.reach g (numbered_openings_in k.named (openings_in l)) h.0 (none_before k.named r.reach l a.0)
       ∙ sym p,
   fits_from k g (note_item k s (reference r)) l p h.1 a.1,
 )
@@ -144,6 +143,6 @@ all_before_none [] = tt
 all_before_none (i ∷ l) = (tt, all_before_none l)
 
 -- a walk over ordered items from the start
-pub ordered_fits : (k : Known) (s : Progress) (low high : ℕ) (l : List Item) → s.passed ≡ 0 →
-    AscendingPlaces low high l → Fits k (numbered_openings_in k.named (openings_in l)) s l
-ordered_fits k s low high l p a = fits_from k [] s l p (all_before_none l) (ascend low high l a)
+pub ordered_fits : (k : Known) (s : Progress) (high low : ℕ) (l : List Item) → s.passed ≡ 0 →
+    DescendingReaches high low l → Fits k (numbered_openings_in k.named (openings_in l)) s l
+ordered_fits k s high low l p a = fits_from k [] s l p (all_before_none l) (ascend high low l a)

@@ -4,8 +4,8 @@ use Rattle.std.proofs.Common.{append_assoc}
 use Rattle.std.specs.List.{AllByRecursion}
 use Rattle.fancy_lex.specs.Fault.{Kind}
 use Rattle.fancy_lex.specs.Text.{Text, strip}
-use Rattle.fancy_lex.specs.declared.error.Error.{Error}
-use Rattle.fancy_lex.specs.declared.error.Error.TheVariants.{ParseError, OutOfMemory}
+use Rattle.fancy_lex.specs.declared.error.Failure.{Failure}
+use Rattle.fancy_lex.specs.declared.error.Failure.TheVariants.{At, OutOfMemory}
 use Rattle.fancy_lex.specs.Characters.{bar}
 use Rattle.fancy_lex.specs.declared.flags.Flags.{Flags}
 use Rattle.fancy_grammar.specs.Ahead.{Ahead, nothing, leaf, with_head, condition, body, absent_branch}
@@ -46,15 +46,15 @@ behind_keeps P g (condition s) f q h = then_keeps P g f q h
 behind_keeps P g (body c s) f q h = then_keeps P g f q h
 behind_keeps P g (absent_branch s) f q h = then_keeps P g f q h
 
-pub IsErrorAmong-map : {A B : Type 0} (P : Outcome A → Type 0) (Q : Outcome B → Type 0) (e : Error) →
+pub IsErrorAmong-map : {A B : Type 0} (P : Outcome A → Type 0) (Q : Outcome B → Type 0) (e : Failure) →
     ((k : Kind) (p : ℕ) → P (fault k p) → Q (fault k p)) → IsErrorAmong e P → IsErrorAmong e Q
-IsErrorAmong-map P Q (ParseError p k) f h = f _ p h
+IsErrorAmong-map P Q (At p k) f h = f _ p h
 IsErrorAmong-map P Q OutOfMemory f h = tt
 
-pub IsErrorAmong-is : {A : Type 0} (P : Outcome A → Type 0) (e : Error) (k : Kind) (p : ℕ) → IsErrorAt e k p →
+pub IsErrorAmong-is : {A : Type 0} (P : Outcome A → Type 0) (e : Failure) (k : Kind) (p : ℕ) → IsErrorAt e k p →
     P (fault k p) →
     IsErrorAmong e P
-IsErrorAmong-is P (ParseError q j) k p h d = rw (h.0, h.1) d
+IsErrorAmong-is P (At q j) k p h d = rw (h.0, h.1) d
 IsErrorAmong-is P OutOfMemory k p h d = tt
 
 pub at_done : {A : Type 0} (P : Outcome A → Type 0) {a b : A} {s t : State} → b ≡ a → t ≡ s → P (done a s) →
@@ -94,12 +94,12 @@ module _ (P : Tree → Type 0) where
   each_solid [] h = tt
   each_solid (t ∷ l) h = each_if (is_empty t) t (solid l) h.0 (each_solid l h.1)
 
-pub more_any : {n d : ℕ} {s t : State} {u : Text} {r : Tree} (o : Outcome (List Tree)) → Branch n d s (done r t) →
+pub more_any : {d : ℕ} {s t : State} {u : Text} {r : Tree} (o : Outcome (List Tree)) → Branch d s (done r t) →
     strip bar t.rest ≡ Some u →
-    Branches n d (at t u) o → Branches n d s (trees_before (r ∷ []) o)
+    Branches d (at t u) o → Branches d s (trees_before (r ∷ []) o)
 more_any o b e m = more b e m refl
 
-pub next_any : {n d : ℕ} {s t : State} {r : Tree} (o : Outcome (List Tree)) → ends s.rest ≡ false →
-    Piece n d s (done r t) → Pieces n d t o →
-    Pieces n d s (trees_before (r ∷ []) o)
+pub next_any : {d : ℕ} {s t : State} {r : Tree} (o : Outcome (List Tree)) → ends s.rest ≡ false →
+    Piece d s (done r t) → Pieces d t o →
+    Pieces d s (trees_before (r ∷ []) o)
 next_any o e a m = next e a m refl

@@ -9,7 +9,7 @@ use Rattle.fancy_lex.specs.Characters.{hash, backslash}
 use Rattle.fancy_lex.specs.Escape.{escape}
 use Rattle.fancy_lex.specs.Escaped.{Escape}
 use Rattle.fancy_lex.specs.Reading.{gives}
-use Rattle.fancy_lex.specs.Text.{Text, bytes, place_of}
+use Rattle.fancy_lex.specs.Text.{Text, bytes, reach_of}
 use Rattle.fancy_parts.specs.Quantifier.{counts}
 use Rattle.fancy_grammar.specs.Ahead.{ahead, leaf, leaf_node, leaf_outcome}
 use Rattle.fancy_grammar.specs.Grammar.{piece, atom, a_leaf}
@@ -34,96 +34,96 @@ not_blank c e = grind (arith, nat_tests)
 not_paren : (c : ℕ) → is_suffix c ≡ false → (c == code "(") ≡ false
 not_paren c e = grind (arith, nat_tests)
 
-no_layout : (n c : ℕ) (x : Bool) (t : Text) → (c == code "(") ≡ false → is_layout x c ≡ false →
-    layout n x (c ∷ t) ≡ rest (c ∷ t)
+no_layout : (c : ℕ) (x : Bool) (t : Text) → (c == code "(") ≡ false → is_layout x c ≡ false →
+    layout x (c ∷ t) ≡ rest (c ∷ t)
 unfolding layout_from
-no_layout n c false t e h = rw e refl
-no_layout n c true t e h = rw (e, not_hash c h, not_blank c h) refl
+no_layout c false t e h = rw e refl
+no_layout c true t e h = rw (e, not_hash c h, not_blank c h) refl
 
 no_end : (c : ℕ) (t : Text) → is_special c ≡ false → ends (c ∷ t) ≡ false
 no_end c t e = grind (arith, nat_tests)
 
-is_leaf : (n d c : ℕ) (s : State) (t : Text) → is_special c ≡ false →
-    ahead n d (at s (c ∷ t)) ≡ leaf (done (literal (c ∷ []) s.flags.casei) (at s t))
+is_leaf : (d c : ℕ) (s : State) (t : Text) → is_special c ≡ false →
+    ahead d (at s (c ∷ t)) ≡ leaf (done (literal (c ∷ []) s.flags.casei) (at s t))
 unfolding ahead
-is_leaf n d c s t e = grind (arith, nat_tests)
+is_leaf d c s t e = grind (arith, nat_tests)
 
 no_counts : (c : ℕ) (x : Bool) (t : Text) → is_suffix c ≡ false → ◌≡◌ {A = _} (counts x (c ∷ t)) None
 unfolding counts
 no_counts c x t e = grind (arith, nat_tests)
 
-no_quant : (n left c : ℕ) (a : Tree) (s : State) (t : Text) → is_layout s.flags.ignore_space c ≡ false →
-    is_suffix c ≡ false → quant n left a (at s (c ∷ t)) ≡ done a (at s (c ∷ t))
+no_quant : (left c : ℕ) (a : Tree) (s : State) (t : Text) → is_layout s.flags.ignore_space c ≡ false →
+    is_suffix c ≡ false → quant left a (at s (c ∷ t)) ≡ done a (at s (c ∷ t))
 unfolding quant
-no_quant n left c a s t x e =
-    rw (no_layout n c s.flags.ignore_space t (not_paren c e) x, no_counts c s.flags.ignore_space t e) refl
+no_quant left c a s t x e =
+    rw (no_layout c s.flags.ignore_space t (not_paren c e) x, no_counts c s.flags.ignore_space t e) refl
 
-no_layout_at_end : (n : ℕ) (x : Bool) → layout n x [] ≡ rest []
+no_layout_at_end : (x : Bool) → layout x [] ≡ rest []
 unfolding layout_from
-no_layout_at_end n x = refl
+no_layout_at_end x = refl
 
 no_counts_at_end : (x : Bool) → ◌≡◌ {A = _} (counts x []) None
 unfolding counts
 no_counts_at_end x = refl
 
-no_quant_at_end : (n left : ℕ) (a : Tree) (s : State) → quant n left a (at s []) ≡ done a (at s [])
+no_quant_at_end : (left : ℕ) (a : Tree) (s : State) → quant left a (at s []) ≡ done a (at s [])
 unfolding quant
-no_quant_at_end n left a s = rw (no_layout_at_end n s.flags.ignore_space, no_counts_at_end s.flags.ignore_space) refl
+no_quant_at_end left a s = rw (no_layout_at_end s.flags.ignore_space, no_counts_at_end s.flags.ignore_space) refl
 
-no_adjacent : (k n d : ℕ) (a : Tree) (s : State) → ((l : ℕ) → quant n l a s ≡ done a s) → adjacent k n d a s ≡ done a s
+no_adjacent : (k d : ℕ) (a : Tree) (s : State) → ((l : ℕ) → quant l a s ≡ done a s) → adjacent k d a s ≡ done a s
 unfolding adjacent
-no_adjacent zero n d a s e = rw (e (bytes s.rest), unmoved s) refl
-no_adjacent (suc k) n d a s e = rw (e (bytes s.rest), unmoved s) refl
+no_adjacent zero d a s e = rw (e (bytes s.rest), unmoved s) refl
+no_adjacent (suc k) d a s e = rw (e (bytes s.rest), unmoved s) refl
 
 -- where one quantifier does not follow, none does
-no_quants : (n d left : ℕ) (a : Tree) (s : State) → ((l : ℕ) → quant n l a s ≡ done a s) →
-    quants n d left a s ≡ done a s
-no_quants n d left a s e =
-    ap (λ o. and_then o (λ b z. if z.flags.oniguruma_mode then adjacent max_adjacent n d b z else done b z)) (e left)
-    ∙ either s.flags.oniguruma_mode (no_adjacent max_adjacent n d a s e)
+no_quants : (d left : ℕ) (a : Tree) (s : State) → ((l : ℕ) → quant l a s ≡ done a s) →
+    quants d left a s ≡ done a s
+no_quants d left a s e =
+    ap (λ o. and_then o (λ b z. if z.flags.oniguruma_mode then adjacent max_adjacent d b z else done b z)) (e left)
+    ∙ either s.flags.oniguruma_mode (no_adjacent max_adjacent d a s e)
   where
     either : (b : Bool) {o q : Outcome Tree} → o ≡ q → (if b then o else q) ≡ q
     either true h = h
     either false h = refl
 
-pub unquantified_at_end : (s : State) (n d left : ℕ) (a : Tree) → s.rest ≡ [] → quants n d left a s ≡ done a s
-unquantified_at_end s n d left a e =
-    subst (λ t. quants n d left a (at s t) ≡ done a (at s t)) (sym e)
-    (no_quants n d left a (at s []) (λ l. no_quant_at_end n l a s))
+pub unquantified_at_end : (s : State) (d left : ℕ) (a : Tree) → s.rest ≡ [] → quants d left a s ≡ done a s
+unquantified_at_end s d left a e =
+    subst (λ t. quants d left a (at s t) ≡ done a (at s t)) (sym e)
+    (no_quants d left a (at s []) (λ l. no_quant_at_end l a s))
 
-pub unquantified : (s : State) (c : ℕ) (t : Text) (n d left : ℕ) (a : Tree) → s.rest ≡ c ∷ t →
-    is_layout s.flags.ignore_space c ≡ false → is_suffix c ≡ false → quants n d left a s ≡ done a s
-unquantified s c t n d left a e x h =
-    subst (λ u. quants n d left a (at s u) ≡ done a (at s u)) (sym e)
-    (no_quants n d left a (at s (c ∷ t)) (λ l. no_quant n l c a s t x h))
+pub unquantified : (s : State) (c : ℕ) (t : Text) (d left : ℕ) (a : Tree) → s.rest ≡ c ∷ t →
+    is_layout s.flags.ignore_space c ≡ false → is_suffix c ≡ false → quants d left a s ≡ done a s
+unquantified s c t d left a e x h =
+    subst (λ u. quants d left a (at s u) ≡ done a (at s u)) (sym e)
+    (no_quants d left a (at s (c ∷ t)) (λ l. no_quant l c a s t x h))
 
-pub is_plain : (n : ℕ) (s : State) (c d : ℕ) (t u : Text) → is_layout s.flags.ignore_space c ≡ false →
+pub is_plain : (s : State) (c d : ℕ) (t u : Text) → is_layout s.flags.ignore_space c ≡ false →
     is_layout s.flags.ignore_space d ≡ false →
     s.rest ≡ c ∷ t → t ≡ d ∷ u → is_special c ≡ false → is_suffix d ≡ false →
-    IsPlain n s (literal (c ∷ []) s.flags.casei) t
-is_plain n s c d t u x y e f h k = record {
+    IsPlain s (literal (c ∷ []) s.flags.casei) t
+is_plain s c d t u x y e f h k = record {
   more = ap ends e ∙ no_end c t h;
-  piece = λ b. piece (rw e (no_layout n c s.flags.ignore_space t (not_open c h) x))
-      (atom (is_leaf n b c s t h) a_leaf refl)
-      (rw f (no_quants n b _ _ (at s (d ∷ u)) (λ l. no_quant n l d _ s u y k)));
+  piece = λ b. piece (rw e (no_layout c s.flags.ignore_space t (not_open c h) x))
+      (atom (is_leaf b c s t h) a_leaf refl)
+      (rw f (no_quants b _ _ (at s (d ∷ u)) (λ l. no_quant l d _ s u y k)));
 }
 
 backslash_no_layout : (x : Bool) → is_layout x backslash ≡ false
 backslash_no_layout true = refl
 backslash_no_layout false = refl
 
-is_escape : (n d : ℕ) (s : State) (t u : Text) (e : Escape) →
-    ((q : ℕ) → escape n s.flags false q t ≡ gives e u) →
-    ahead n d (at s (backslash ∷ t)) ≡ leaf (done (leaf_node e) (at s u))
+is_escape : (d : ℕ) (s : State) (t u : Text) (e : Escape) →
+    ((q : ℕ) → escape s.flags false q t ≡ gives e u) →
+    ahead d (at s (backslash ∷ t)) ≡ leaf (done (leaf_node e) (at s u))
 unfolding ahead
-is_escape n d s t u e h = ap (λ o. leaf (leaf_outcome leaf_node s o)) (h (place_of n (backslash ∷ t)))
+is_escape d s t u e h = ap (λ o. leaf (leaf_outcome leaf_node s o)) (h (reach_of (backslash ∷ t)))
 
-pub is_plain_escape : (n : ℕ) (s : State) (t u : Text) (e : Escape) → s.rest ≡ backslash ∷ t →
-    ((q : ℕ) → escape n s.flags false q t ≡ gives e u) →
-    ((n d left : ℕ) (a : Tree) → quants n d left a (at s u) ≡ done a (at s u)) → IsPlain n s (leaf_node e) u
-is_plain_escape n s t u e i h q = record {
+pub is_plain_escape : (s : State) (t u : Text) (e : Escape) → s.rest ≡ backslash ∷ t →
+    ((q : ℕ) → escape s.flags false q t ≡ gives e u) →
+    ((d left : ℕ) (a : Tree) → quants d left a (at s u) ≡ done a (at s u)) → IsPlain s (leaf_node e) u
+is_plain_escape s t u e i h q = record {
   more = ap ends i;
-  piece = λ b. piece (rw i (no_layout n backslash s.flags.ignore_space t refl
+  piece = λ b. piece (rw i (no_layout backslash s.flags.ignore_space t refl
       (backslash_no_layout s.flags.ignore_space)))
-      (atom (is_escape n b s t u e h) a_leaf refl) (q n b _ _);
+      (atom (is_escape b s t u e h) a_leaf refl) (q b _ _);
 }

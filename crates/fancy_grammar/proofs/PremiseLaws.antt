@@ -18,23 +18,23 @@ use Rattle.fancy_grammar.specs.Premises.{HexIsRelated, NumberIsRelated, NumberTe
 use Rattle.fancy_grammar.specs.Premises.{IdReferenceIsRelated}
 
 pub layout_related : LayoutIsRelated
-layout_related n x t = (
-  λ v. (layout_sound n x t v, layout_complete n x t v),
-  λ p. (unclosed_sound n x t p, unclosed_complete n x t p),
+layout_related x t = (
+  λ v. (layout_sound x t v, layout_complete x t v),
+  λ p. (unclosed_sound x t p, unclosed_complete x t p),
 )
 
 pub class_related : ClassIsRelated
-class_related n f t o = (λ e. subst (OuterClass n f t) e (class_reads n f t), λ h. class_is n f t o h)
+class_related f t o = (λ e. subst (OuterClass f t) e (class_reads f t), λ h. class_is f t o h)
 
 pub letters_related : LettersAreRelated
-letters_related n f t o = (λ e. subst (FlagGroup n f t) e (flag_group_reads n f t), λ h. flag_group_is n f t h)
+letters_related f t o = (λ e. subst (FlagGroup f t) e (flag_group_reads f t), λ h. flag_group_is f t h)
 
 pub boundary_related : BoundaryIsRelated
-boundary_related n x p negated t o =
-    (λ e. subst (Boundary n x p negated t) e (boundary_reads n x p negated t), λ h. boundary_is n x p negated h)
+boundary_related x p negated t o =
+    (λ e. subst (Boundary x p negated t) e (boundary_reads x p negated t), λ h. boundary_is x p negated h)
 
 pub hex_related : HexIsRelated
-hex_related n f width t o = (λ e. subst (HexCode n f width t) e (hex_reads n f width t), λ h. hex_is n f width h)
+hex_related f width t o = (λ e. subst (HexCode f width t) e (hex_reads f width t), λ h. hex_is f width h)
 
 pub number_related : NumberIsRelated
 number_related t v k = (number_sound t v k, number_complete t v k)

@@ -31,81 +31,81 @@ pub record IsNodeOf (role : Role) (m : Meaning) (node : Tree) : Type 0 where
   pub calls : is_call_node node ≡ is_call role
   pub refers : group_referred node ≡ back_number role m
 
-pub of_backref : (m : Meaning) (t : Target) (casei : Bool) (level : Option ℤ) (place : ℕ) →
-    IsNodeOf back_reference m (reference_node m (ast_backref t casei level) place)
-of_backref (number n) t casei None place = record { alone = refl; no_group = refl; calls = refl; refers = refl }
-of_backref (number n) t casei (Some level) place = record { alone = refl; no_group = refl; calls = refl; refers = refl }
-of_backref unresolved t casei level place = record { alone = refl; no_group = refl; calls = refl; refers = refl }
-of_backref (faulty k) t casei level place = record { alone = refl; no_group = refl; calls = refl; refers = refl }
+pub of_backref : (z : ℕ) (m : Meaning) (t : Target) (casei : Bool) (level : Option ℤ) (place : ℕ) →
+    IsNodeOf back_reference m (reference_node z m (ast_backref t casei level) place)
+of_backref z (number n) t casei None place = record { alone = refl; no_group = refl; calls = refl; refers = refl }
+of_backref z (number n) t casei (Some level) place = record { alone = refl; no_group = refl; calls = refl; refers = refl }
+of_backref z unresolved t casei level place = record { alone = refl; no_group = refl; calls = refl; refers = refl }
+of_backref z (faulty k) t casei level place = record { alone = refl; no_group = refl; calls = refl; refers = refl }
 
-pub of_call : (m : Meaning) (t : Target) (place : ℕ) → IsNodeOf call m (reference_node m (ast_call t) place)
-of_call (number n) t place = record { alone = refl; no_group = refl; calls = refl; refers = refl }
-of_call unresolved t place = record { alone = refl; no_group = refl; calls = refl; refers = refl }
-of_call (faulty k) t place = record { alone = refl; no_group = refl; calls = refl; refers = refl }
+pub of_call : (z : ℕ) (m : Meaning) (t : Target) (place : ℕ) → IsNodeOf call m (reference_node z m (ast_call t) place)
+of_call z (number n) t place = record { alone = refl; no_group = refl; calls = refl; refers = refl }
+of_call z unresolved t place = record { alone = refl; no_group = refl; calls = refl; refers = refl }
+of_call z (faulty k) t place = record { alone = refl; no_group = refl; calls = refl; refers = refl }
 
-pub of_condition : (m : Meaning) (t : Target) (level : Option ℤ) (place : ℕ) →
-    IsNodeOf condition m (reference_node m (ast_condition t level) place)
-of_condition (number n) t level place = record { alone = refl; no_group = refl; calls = refl; refers = refl }
-of_condition unresolved t level place = record { alone = refl; no_group = refl; calls = refl; refers = refl }
-of_condition (faulty k) t level place = record { alone = refl; no_group = refl; calls = refl; refers = refl }
+pub of_condition : (z : ℕ) (m : Meaning) (t : Target) (level : Option ℤ) (place : ℕ) →
+    IsNodeOf condition m (reference_node z m (ast_condition t level) place)
+of_condition z (number n) t level place = record { alone = refl; no_group = refl; calls = refl; refers = refl }
+of_condition z unresolved t level place = record { alone = refl; no_group = refl; calls = refl; refers = refl }
+of_condition z (faulty k) t level place = record { alone = refl; no_group = refl; calls = refl; refers = refl }
 
-module _ (named : Bool) (g : List Opening) where
+module _ (z : ℕ) (named : Bool) (g : List Opening) where
   -- what is left of nodes, resolved
   abbrev pub kept : List Tree → List Tree
-  kept l = map (resolved_in named g) (filter (is_kept named) l)
+  kept l = map (resolved_in z named g) (filter (is_kept named) l)
 
   kept_append : (a b : List Tree) → kept (a ++ b) ≡ kept a ++ kept b
   kept_append a b =
-      ap (map (resolved_in named g)) (filter-append (is_kept named) a b)
-      ∙ map-append (resolved_in named g) (filter (is_kept named) a) (filter (is_kept named) b)
+      ap (map (resolved_in z named g)) (filter-append (is_kept named) a b)
+      ∙ map-append (resolved_in z named g) (filter (is_kept named) a) (filter (is_kept named) b)
 
   two : {a b : List Tree} (c d : List Tree) → a ≡ kept c → b ≡ kept d → a ++ b ≡ kept (c ++ d)
   two c d e h = (λ i. e i ++ h i) ∙ sym (kept_append c d)
 
   group_kept : (name : Option Text) (t : Tree) (place : ℕ) (b : Bool) → is_counted named name ≡ b →
-      preorder (resolved_in named g t) ≡ kept (preorder t) →
-      preorder (group_or_inside b (resolved_in named g t)) ≡ kept (ast_node (ast_group name t) place ∷ preorder t)
+      preorder (resolved_in z named g t) ≡ kept (preorder t) →
+      preorder (group_or_inside b (resolved_in z named g t)) ≡ kept (ast_node (ast_group name t) place ∷ preorder t)
   group_kept name t place true e h =
       let node = ast_node (ast_group name t) place in
-      ap (λ l. group (resolved_in named g t) ∷ l) h
-      ∙ ap (λ b. group_or_inside b (resolved_in named g t) ∷ kept (preorder t)) (sym e)
-      ∙ ap (λ b. map (resolved_in named g)
+      ap (λ l. group (resolved_in z named g t) ∷ l) h
+      ∙ ap (λ b. group_or_inside b (resolved_in z named g t) ∷ kept (preorder t)) (sym e)
+      ∙ ap (λ b. map (resolved_in z named g)
       (if b then node ∷ filter (is_kept named) (preorder t) else filter (is_kept named) (preorder t))) (sym e)
   group_kept name t place false e h =
       let node = ast_node (ast_group name t) place in
-      h ∙ ap (λ b. map (resolved_in named g)
+      h ∙ ap (λ b. map (resolved_in z named g)
       (if b then node ∷ filter (is_kept named) (preorder t) else filter (is_kept named) (preorder t))) (sym e)
 
   mutual
-    pub resolved_nodes : (t : Tree) → preorder (resolved_in named g t) ≡ kept (preorder t)
-    resolved_nodes (concat ts) = ap (λ l. concat (resolved_all named g ts) ∷ l) (all_nodes ts)
-    resolved_nodes (alt ts) = ap (λ l. alt (resolved_all named g ts) ∷ l) (all_nodes ts)
-    resolved_nodes (group t) = ap (λ l. group (resolved_in named g t) ∷ l) (resolved_nodes t)
-    resolved_nodes (look_around t k) = ap (λ l. look_around (resolved_in named g t) k ∷ l) (resolved_nodes t)
+    pub resolved_nodes : (t : Tree) → preorder (resolved_in z named g t) ≡ kept (preorder t)
+    resolved_nodes (concat ts) = ap (λ l. concat (resolved_all z named g ts) ∷ l) (all_nodes ts)
+    resolved_nodes (alt ts) = ap (λ l. alt (resolved_all z named g ts) ∷ l) (all_nodes ts)
+    resolved_nodes (group t) = ap (λ l. group (resolved_in z named g t) ∷ l) (resolved_nodes t)
+    resolved_nodes (look_around t k) = ap (λ l. look_around (resolved_in z named g t) k ∷ l) (resolved_nodes t)
     resolved_nodes (repeat t lo hi greedy) =
-        ap (λ l. repeat (resolved_in named g t) lo hi greedy ∷ l) (resolved_nodes t)
-    resolved_nodes (atomic_group t) = ap (λ l. atomic_group (resolved_in named g t) ∷ l) (resolved_nodes t)
+        ap (λ l. repeat (resolved_in z named g t) lo hi greedy ∷ l) (resolved_nodes t)
+    resolved_nodes (atomic_group t) = ap (λ l. atomic_group (resolved_in z named g t) ∷ l) (resolved_nodes t)
     resolved_nodes (conditional c t f) =
-        ap (λ l. resolved_in named g (conditional c t f) ∷ l)
+        ap (λ l. resolved_in z named g (conditional c t f) ∷ l)
         (two (preorder c) (preorder t ++ preorder f) (resolved_nodes c)
         (two (preorder t) (preorder f) (resolved_nodes t) (resolved_nodes f)))
-    resolved_nodes (absent a) = ap (λ l. absent (resolved_absent named g a) ∷ l) (absent_nodes a)
-    resolved_nodes (define_group t) = ap (λ l. define_group (resolved_in named g t) ∷ l) (resolved_nodes t)
+    resolved_nodes (absent a) = ap (λ l. absent (resolved_absent z named g a) ∷ l) (absent_nodes a)
+    resolved_nodes (define_group t) = ap (λ l. define_group (resolved_in z named g t) ∷ l) (resolved_nodes t)
     resolved_nodes (ast_node (ast_group name t) place) =
         group_kept name t place (is_counted named name) refl (resolved_nodes t)
     resolved_nodes (ast_node (ast_backref t casei level) place) =
-        (of_backref (means (λ u. numbers u g) (openings_before g place) back_reference t) t casei level place).alone
+        (of_backref z (means (λ u. numbers u g) (openings_before g place) back_reference t) t casei level place).alone
     resolved_nodes (ast_node (ast_call t) place) =
-        (of_call (means (λ u. numbers u g) (openings_before g place) call t) t place).alone
+        (of_call z (means (λ u. numbers u g) (openings_before g place) call t) t place).alone
     resolved_nodes (ast_node (ast_condition t level) place) =
-        (of_condition (means (λ u. numbers u g) (openings_before g place) condition t) t level place).alone
+        (of_condition z (means (λ u. numbers u g) (openings_before g place) condition t) t level place).alone
     resolved_nodes _ = refl
 
-    all_nodes : (ts : Trees) → preorder_all (resolved_all named g ts) ≡ kept (preorder_all ts)
+    all_nodes : (ts : Trees) → preorder_all (resolved_all z named g ts) ≡ kept (preorder_all ts)
     all_nodes no_trees = refl
     all_nodes (more_trees t ts) = two (preorder t) (preorder_all ts) (resolved_nodes t) (all_nodes ts)
 
-    absent_nodes : (a : AbsentTree) → preorder_absent (resolved_absent named g a) ≡ kept (preorder_absent a)
+    absent_nodes : (a : AbsentTree) → preorder_absent (resolved_absent z named g a) ≡ kept (preorder_absent a)
     absent_nodes (repeater t) = resolved_nodes t
     absent_nodes (expression a e) = two (preorder a) (preorder e) (resolved_nodes a) (resolved_nodes e)
     absent_nodes (stopper t) = resolved_nodes t
@@ -115,12 +115,12 @@ module _ (named : Bool) (g : List Opening) where
 
 -- what a node opens or refers to
 abbrev pub item_of : Tree → Option Item
-item_of (ast_node (ast_group name t) place) = Some (opening (record { place = place; name = name }))
+item_of (ast_node (ast_group name t) place) = Some (opening (record { reach = place; name = name }))
 item_of (ast_node (ast_backref target casei level) place) =
-    Some (reference (record { place = place; role = back_reference; target = target }))
-item_of (ast_node (ast_call target) place) = Some (reference (record { place = place; role = call; target = target }))
+    Some (reference (record { reach = place; role = back_reference; target = target }))
+item_of (ast_node (ast_call target) place) = Some (reference (record { reach = place; role = call; target = target }))
 item_of (ast_node (ast_condition target level) place) =
-    Some (reference (record { place = place; role = condition; target = target }))
+    Some (reference (record { reach = place; role = condition; target = target }))
 item_of _ = None
 
 both_items : {a b : List Item} (c d : List Tree) → a ≡ filter_map item_of c → b ≡ filter_map item_of d →
@@ -141,7 +141,7 @@ mutual
   items_of_nodes (absent a) = absent_items a
   items_of_nodes (define_group t) = items_of_nodes t
   items_of_nodes (ast_node (ast_group name t) place) =
-      ap (λ l. opening (record { place = place; name = name }) ∷ l) (items_of_nodes t)
+      ap (λ l. opening (record { reach = place; name = name }) ∷ l) (items_of_nodes t)
   items_of_nodes (ast_node (ast_backref target casei level) place) = refl
   items_of_nodes (ast_node (ast_call target) place) = refl
   items_of_nodes (ast_node (ast_condition target level) place) = refl

@@ -3,42 +3,42 @@ use Rattle.std.proofs.Common.{◌≡◌, ◌≢◌, ◌<◌, ℕ, zero, suc, ◌
 use Rattle.std.proofs.Common.{tests, rules}
 use Rattle.std.proofs.lemmas.Bool.Decides.{nat_tests}
 use Rattle.fancy_lex.specs.Fault.{Kind, recursion_exceeded}
-use Rattle.fancy_lex.specs.Text.{bytes, place_of}
+use Rattle.fancy_lex.specs.Text.{bytes, reach_of}
 use Rattle.fancy_grammar.specs.Depth.{max_depth}
 use Rattle.fancy_grammar.specs.Quantified.{quant, adjacent, may_count, is_unmoved}
 use Rattle.fancy_grammar.specs.State.{State, Outcome, done, fault}
 use Rattle.fancy_grammar.specs.Tree.{Tree}
 
 -- a fault
-pub adjacent_fault : (k n d : ℕ) (a : Tree) (s : State) {j : Kind} {p : ℕ} → quant n (bytes s.rest) a s ≡ fault j p →
-    adjacent k n d a s ≡ fault j p
+pub adjacent_fault : (k d : ℕ) (a : Tree) (s : State) {j : Kind} {p : ℕ} → quant (bytes s.rest) a s ≡ fault j p →
+    adjacent k d a s ≡ fault j p
 unfolding adjacent
-adjacent_fault zero n d a s e = rw e refl
-adjacent_fault (suc k) n d a s e = rw e refl
+adjacent_fault zero d a s e = rw e refl
+adjacent_fault (suc k) d a s e = rw e refl
 
 -- no byte more
-pub adjacent_ends : (k n d : ℕ) (a : Tree) (s : State) {b : Tree} {t : State} → quant n (bytes s.rest) a s ≡ done b t →
+pub adjacent_ends : (k d : ℕ) (a : Tree) (s : State) {b : Tree} {t : State} → quant (bytes s.rest) a s ≡ done b t →
     is_unmoved s t ≡ true →
-    adjacent k n d a s ≡ done b t
+    adjacent k d a s ≡ done b t
 unfolding adjacent
-adjacent_ends zero n d a s e u = rw (e, u) refl
-adjacent_ends (suc k) n d a s e u = rw (e, u) refl
+adjacent_ends zero d a s e u = rw (e, u) refl
+adjacent_ends (suc k) d a s e u = rw (e, u) refl
 
 -- one too many
-pub adjacent_stops : (k n d : ℕ) (a : Tree) (s : State) {b : Tree} {t : State} → quant n (bytes s.rest) a s ≡ done b t →
+pub adjacent_stops : (k d : ℕ) (a : Tree) (s : State) {b : Tree} {t : State} → quant (bytes s.rest) a s ≡ done b t →
     is_unmoved s t ≡ false →
-    may_count k d ≡ false → adjacent k n d a s ≡ fault recursion_exceeded (place_of n t.rest)
+    may_count k d ≡ false → adjacent k d a s ≡ fault recursion_exceeded (reach_of t.rest)
 unfolding adjacent
-adjacent_stops zero n d a s e u c = rw (e, u) refl
-adjacent_stops (suc k) n d a s e u c = rw (e, u, c) refl
+adjacent_stops zero d a s e u c = rw (e, u) refl
+adjacent_stops (suc k) d a s e u c = rw (e, u, c) refl
 
 -- one more
-pub adjacent_counts : (k j n d : ℕ) (a : Tree) (s : State) {b : Tree} {t : State} →
-    quant n (bytes s.rest) a s ≡ done b t → is_unmoved s t ≡ false →
-    may_count k d ≡ true → k ≡ j + 1 → adjacent k n d a s ≡ adjacent j n (d + 1) b t
+pub adjacent_counts : (k j d : ℕ) (a : Tree) (s : State) {b : Tree} {t : State} →
+    quant (bytes s.rest) a s ≡ done b t → is_unmoved s t ≡ false →
+    may_count k d ≡ true → k ≡ j + 1 → adjacent k d a s ≡ adjacent j (d + 1) b t
 unfolding adjacent
-adjacent_counts zero j n d a s e u c i = absurd (true≢false (sym c))
-adjacent_counts (suc k) j n d a s e u c i = let same : k ≡ j = omega arith in rw (e, u, c, same) refl
+adjacent_counts zero j d a s e u c i = absurd (true≢false (sym c))
+adjacent_counts (suc k) j d a s e u c i = let same : k ≡ j = omega arith in rw (e, u, c, same) refl
 
 pub some_may_count : (k d : ℕ) → may_count k d ≡ true → (0 < k) × (d + 1 < max_depth)
 some_may_count zero d e = absurd (true≢false (sym e))
@@ -51,6 +51,6 @@ pub moved_is : (m l k j : ℕ) → m ≡ k → l ≡ j → k ≢ j → (m == l) 
 moved_is m l k j e i h = search (tests, rules)
 
 -- the same reading, where the number of bytes left is known otherwise
-pub from_start : (n left : ℕ) (a : Tree) (s : State) (o : Outcome Tree) → left ≡ bytes s.rest → quant n left a s ≡ o →
-    quant n (bytes s.rest) a s ≡ o
-from_start n left a s o i e = subst (λ m. quant n m a s ≡ o) i e
+pub from_start : (left : ℕ) (a : Tree) (s : State) (o : Outcome Tree) → left ≡ bytes s.rest → quant left a s ≡ o →
+    quant (bytes s.rest) a s ≡ o
+from_start left a s o i e = subst (λ m. quant m a s ≡ o) i e

@@ -12,7 +12,7 @@ use Rattle.fancy_lex.specs.Escaped.{Escape}
 use Rattle.fancy_lex.specs.LayoutSteps.{Skipped, rest, fault as open_comment}
 use Rattle.fancy_lex.specs.Reading.{Reading, gives, fails, choose}
 use Rattle.fancy_lex.specs.Referred.{Reference, Call}
-use Rattle.fancy_lex.specs.Text.{Text, bytes, place_of, strip_word}
+use Rattle.fancy_lex.specs.Text.{Text, bytes, reach_of, strip_word}
 use Rattle.fancy_lex.specs.declared.flags.Flags.{Flags}
 use Rattle.fancy_parts.specs.FlagLetters.{Letters, setting, scope as scoped}
 use Rattle.fancy_parts.specs.LetterSteps.{letters}
@@ -130,39 +130,39 @@ quantified_read f c m a h =
     cond_both (is_swapped f c) _ _ IsRead (λ _. (tt, (tt, h)))
     (λ _. cond_both m.possessive _ _ IsRead (λ _. (tt, (tt, h))) (λ _. (tt, h)))
 
-quant_read : (n left : ℕ) (a : Tree) (t : State) → IsRead a → Makes IsRead (quant n left a t)
+quant_read : (left : ℕ) (a : Tree) (t : State) → IsRead a → Makes IsRead (quant left a t)
 unfolding quant
-quant_read n left a t h = by_layout (skipped n t)
+quant_read left a t h = by_layout (skipped t)
   where
-    by_counts : (v : Text) (o : Option (Counts × Text)) → Makes IsRead (with_counts n left a (at t v) o)
+    by_counts : (v : Text) (o : Option (Counts × Text)) → Makes IsRead (with_counts left a (at t v) o)
     by_counts v None = h
     by_counts v (Some (c, u)) =
-        let marks = suffix n (at t u) c in
+        let marks = suffix (at t u) c in
         cond_both (is_repeatable t.flags a) _ _ (Makes IsRead)
         (λ _. then_makes (λ _. Unit {0}) IsRead marks _ (any_made marks) refl
         (λ m s _. quantified_read t.flags c m a h)) (λ _.
         cond_both (is_dropped t.flags left a u) _ _ (Makes IsRead)
         (λ _. then_makes (λ _. Unit {0}) IsRead marks _ (any_made marks) refl (λ m s _. h)) (λ _. tt))
 
-    by_layout : (j : Skipped) → Makes IsRead (quant_at n left a t j)
+    by_layout : (j : Skipped) → Makes IsRead (quant_at left a t j)
     by_layout (rest v) = by_counts v (counts t.flags.ignore_space v)
     by_layout (open_comment p) = tt
 
-adjacent_read : (k n d : ℕ) (a : Tree) (t : State) → IsRead a → Makes IsRead (adjacent k n d a t)
+adjacent_read : (k d : ℕ) (a : Tree) (t : State) → IsRead a → Makes IsRead (adjacent k d a t)
 unfolding adjacent
-adjacent_read zero n d a t h =
-    then_makes IsRead IsRead (quant n (bytes t.rest) a t) _ (quant_read n (bytes t.rest) a t h) refl
+adjacent_read zero d a t h =
+    then_makes IsRead IsRead (quant (bytes t.rest) a t) _ (quant_read (bytes t.rest) a t h) refl
     (λ b v i. cond_both (is_unmoved t v) _ _ (Makes IsRead) (λ _. i) (λ _. tt))
-adjacent_read (suc k) n d a t h =
-    let more = adjacent_read k n (d + 1) in
-    then_makes IsRead IsRead (quant n (bytes t.rest) a t) _ (quant_read n (bytes t.rest) a t h) refl
+adjacent_read (suc k) d a t h =
+    let more = adjacent_read k (d + 1) in
+    then_makes IsRead IsRead (quant (bytes t.rest) a t) _ (quant_read (bytes t.rest) a t h) refl
     (λ b v i. cond_both (is_unmoved t v) _ _ (Makes IsRead) (λ _. i)
     (λ _. cond_both (nat_lt (d + 1) max_depth) _ _ (Makes IsRead) (λ _. more b v i) (λ _. tt)))
 
-quants_read : (n d left : ℕ) (a : Tree) (t : State) → IsRead a → Makes IsRead (quants n d left a t)
-quants_read n d left a t h =
-    then_makes IsRead IsRead (quant n left a t) _ (quant_read n left a t h) refl
-    (λ b v i. cond_both v.flags.oniguruma_mode _ _ (Makes IsRead) (λ _. adjacent_read max_adjacent n d b v i) (λ _. i))
+quants_read : (d left : ℕ) (a : Tree) (t : State) → IsRead a → Makes IsRead (quants d left a t)
+quants_read d left a t h =
+    then_makes IsRead IsRead (quant left a t) _ (quant_read left a t h) refl
+    (λ b v i. cond_both v.flags.oniguruma_mode _ _ (Makes IsRead) (λ _. adjacent_read max_adjacent d b v i) (λ _. i))
 
 -- ---- what stands ahead
 
@@ -178,19 +178,19 @@ ReadAhead (leaf o) = Makes IsReadLeaf o
 ReadAhead (body c s) = IsReadLeaf c
 ReadAhead _ = Unit {0}
 
-escape_read : (n : ℕ) (s : State) (t : Text) (o : Reading Escape) → Sound n t o →
+escape_read : (s : State) (t : Text) (o : Reading Escape) → Sound t o →
     Makes IsReadLeaf (leaf_outcome leaf_node s o)
-escape_read n s t (gives (escaped.literal c casei) u) h = (refl, refl, refl)
-escape_read n s t (gives (escaped.literal_bytes b) u) h = ((refl, (h, tt)), refl, refl)
-escape_read n s t (gives (escaped.any newline crlf) u) h = (tt, refl, refl)
-escape_read n s t (gives (escaped.assertion a) u) h = (tt, refl, refl)
-escape_read n s t (gives (escaped.general_newline unicode) u) h = (tt, refl, refl)
-escape_read n s t (gives escaped.keep_out u) h = (tt, refl, refl)
-escape_read n s t (gives escaped.continue_from_previous_match_end u) h = (tt, refl, refl)
-escape_read n s t (gives (escaped.delegate w casei) u) h = (tt, refl, refl)
-escape_read n s t (gives (escaped.backref r casei) u) h = (tt, refl, refl)
-escape_read n s t (gives (escaped.subroutine_call c) u) h = (tt, refl, refl)
-escape_read n s t (fails e) h = tt
+escape_read s t (gives (escaped.literal c casei) u) h = (refl, refl, refl)
+escape_read s t (gives (escaped.literal_bytes b) u) h = ((refl, (h, tt)), refl, refl)
+escape_read s t (gives (escaped.any newline crlf) u) h = (tt, refl, refl)
+escape_read s t (gives (escaped.assertion a) u) h = (tt, refl, refl)
+escape_read s t (gives (escaped.general_newline unicode) u) h = (tt, refl, refl)
+escape_read s t (gives escaped.keep_out u) h = (tt, refl, refl)
+escape_read s t (gives escaped.continue_from_previous_match_end u) h = (tt, refl, refl)
+escape_read s t (gives (escaped.delegate w casei) u) h = (tt, refl, refl)
+escape_read s t (gives (escaped.backref r casei) u) h = (tt, refl, refl)
+escape_read s t (gives (escaped.subroutine_call c) u) h = (tt, refl, refl)
+escape_read s t (fails e) h = tt
 
 class_read : (s : State) (casei : Bool) (o : Reading Text) → Makes IsReadLeaf (leaf_outcome (λ w. delegate w casei) s o)
 class_read s casei (gives w u) = (tt, refl, refl)
@@ -218,19 +218,19 @@ flags_read (gives (setting f) u) = (tt, refl, refl)
 flags_read (gives (scoped f) u) = tt
 flags_read (fails e) = tt
 
-condition_read : (n : ℕ) (s : State) (t : Text) → ReadAhead (condition_ahead n s t)
-condition_read n s [] = tt
-condition_read n s (c ∷ t) =
-    cond_both (begins_target (c ∷ t)) _ _ ReadAhead (λ _. target_read s (condition_target n (c ∷ t))) (λ _.
+condition_read : (s : State) (t : Text) → ReadAhead (condition_ahead s t)
+condition_read s [] = tt
+condition_read s (c ∷ t) =
+    cond_both (begins_target (c ∷ t)) _ _ ReadAhead (λ _. target_read s (condition_target (c ∷ t))) (λ _.
     cond_both (c == code "*") _ _ ReadAhead (λ _. choose_makes ReadAhead (verb_at t) _ _ (λ p. (tt, refl, refl)) tt)
     (λ _. tt))
 
-repeater_read : (n : ℕ) (s : State) (t : Text) → ReadAhead (repeater_ahead n s t)
-repeater_read n s [] = tt
-repeater_read n s (c ∷ t) = tt
+repeater_read : (s : State) (t : Text) → ReadAhead (repeater_ahead s t)
+repeater_read s [] = tt
+repeater_read s (c ∷ t) = tt
 
-question_read : (n : ℕ) (s : State) (t : Text) → ReadAhead (behind_question n s t)
-question_read n s t =
+question_read : (s : State) (t : Text) → ReadAhead (behind_question s t)
+question_read s t =
     let P = ReadAhead in
     choose_makes P (strip_word (codes "=") t) _ _ (λ u. tt) (
     choose_makes P (strip_word (codes "!") t) _ _ (λ u. tt) (
@@ -238,48 +238,48 @@ question_read n s t =
     choose_makes P (strip_word (codes "<!") t) _ _ (λ u. tt) (
     choose_makes P (strip_word (codes ">") t) _ _ (λ u. tt) (
     choose_makes P (strip_word (codes "(DEFINE)") t) _ _ (λ u. tt) (
-    choose_makes P (strip_word (codes "(") t) _ _ (λ u. condition_read n s u) (
+    choose_makes P (strip_word (codes "(") t) _ _ (λ u. condition_read s u) (
     choose_makes P (strip_word (codes "~|") t) _ _ (λ u. tt) (
-    choose_makes P (strip_word (codes "~") t) _ _ (λ u. repeater_read n s u) (
-    choose_makes P (strip_word (codes "<") t) _ _ (λ u. named_read s (group_name n t)) (
-    choose_makes P (strip_word (codes "'") t) _ _ (λ u. named_read s (group_name n t)) (
-    choose_makes P (strip_word (codes "P<") t) _ _ (λ u. named_read s (group_name n t)) (
-    choose_makes P (strip_word (codes "P=") t) _ _ (λ u. backref_read s s.flags.casei (named_reference n u)) (
-    choose_makes P (strip_word (codes "P>") t) _ _ (λ u. call_read s (named_call n u))
-    (flags_read (letters n s.flags t)))))))))))))))
+    choose_makes P (strip_word (codes "~") t) _ _ (λ u. repeater_read s u) (
+    choose_makes P (strip_word (codes "<") t) _ _ (λ u. named_read s (group_name t)) (
+    choose_makes P (strip_word (codes "'") t) _ _ (λ u. named_read s (group_name t)) (
+    choose_makes P (strip_word (codes "P<") t) _ _ (λ u. named_read s (group_name t)) (
+    choose_makes P (strip_word (codes "P=") t) _ _ (λ u. backref_read s s.flags.casei (named_reference u)) (
+    choose_makes P (strip_word (codes "P>") t) _ _ (λ u. call_read s (named_call u))
+    (flags_read (letters s.flags t)))))))))))))))
 
-group_read : (n : ℕ) (s : State) (t : Text) → ReadAhead (group_ahead n s t)
-group_read n s t =
-    choose_makes ReadAhead (strip_word (codes "?") t) _ _ (λ u. question_read n s u) (
+group_read : (s : State) (t : Text) → ReadAhead (group_ahead s t)
+group_read s t =
+    choose_makes ReadAhead (strip_word (codes "?") t) _ _ (λ u. question_read s u) (
     choose_makes ReadAhead (strip_word (codes "*") t) _ _
     (λ u. choose_makes ReadAhead (verb_at u) _ _ (λ p. (tt, refl, refl)) tt) tt)
 
-behind_read : (n : ℕ) (s : State) (k : Skipped) → ReadAhead (behind_layout n s k)
-behind_read n s (rest u) = group_read n s u
-behind_read n s (open_comment p) = tt
+behind_read : (s : State) (k : Skipped) → ReadAhead (behind_layout s k)
+behind_read s (rest u) = group_read s u
+behind_read s (open_comment p) = tt
 
-leaf_read : (n : ℕ) (s : State) (c : ℕ) (t : Text) → Makes IsReadLeaf (leaf_of n s c t)
-leaf_read n s c t =
+leaf_read : (s : State) (c : ℕ) (t : Text) → Makes IsReadLeaf (leaf_of s c t)
+leaf_read s c t =
     let P = Makes IsReadLeaf in
     cond_both (c == code ".") _ _ P (λ _. (tt, refl, refl)) (λ _.
     cond_both (c == code "^") _ _ P (λ _. (tt, refl, refl)) (λ _.
     cond_both (c == code "$") _ _ P (λ _. (tt, refl, refl)) (λ _.
     cond_both (c == code "\\") _ _ P
-    (λ _. escape_read n s t (escape n s.flags false (place_of n (c ∷ t)) t)
-    (sound_escape n s.flags false (place_of n (c ∷ t)) t)) (λ _.
-    cond_both (c == code "[") _ _ P (λ _. class_read s s.flags.casei (class n s.flags t)) (λ _. (refl, refl, refl))))))
+    (λ _. escape_read s t (escape s.flags false (reach_of (c ∷ t)) t)
+    (sound_escape s.flags false (reach_of (c ∷ t)) t)) (λ _.
+    cond_both (c == code "[") _ _ P (λ _. class_read s s.flags.casei (class s.flags t)) (λ _. (refl, refl, refl))))))
 
-pub ahead_read : (n d : ℕ) (s : State) → ReadAhead (ahead n d s)
+pub ahead_read : (d : ℕ) (s : State) → ReadAhead (ahead d s)
 unfolding ahead
-ahead_read n d s = by_text s.rest
+ahead_read d s = by_text s.rest
   where
-    by_text : (t : Text) → ReadAhead (ahead_of n d s t)
+    by_text : (t : Text) → ReadAhead (ahead_of d s t)
     by_text [] = tt
     by_text (c ∷ t) =
         cond_both (c == code "(") _ _ ReadAhead
-        (λ _. cond_both (nat_le max_depth (d + 1)) _ _ ReadAhead (λ _. tt) (λ _. behind_read n s (skipped n (at s t))))
+        (λ _. cond_both (nat_le max_depth (d + 1)) _ _ ReadAhead (λ _. tt) (λ _. behind_read s (skipped (at s t))))
         (λ _.
-        cond_both (is_before_nothing c) _ _ ReadAhead (λ _. tt) (λ _. leaf_read n s c t))
+        cond_both (is_before_nothing c) _ _ ReadAhead (λ _. tt) (λ _. leaf_read s c t))
 
 leaf_read_whole : (o : Outcome Tree) → Makes IsReadLeaf o → Makes IsRead o
 leaf_read_whole (done a s) h = leaf_is_read a h
@@ -287,10 +287,10 @@ leaf_read_whole (fault k p) h = tt
 
 -- ---- what a part comes to behind its last one
 
-closed_read : (n : ℕ) (r : Tree) (s : State) → IsRead r → Makes IsRead (closed n r s)
-closed_read n r s h = by_text s.rest
+closed_read : (r : Tree) (s : State) → IsRead r → Makes IsRead (closed r s)
+closed_read r s h = by_text s.rest
   where
-    by_text : (u : Text) → Makes IsRead (closed_at n r s u)
+    by_text : (u : Text) → Makes IsRead (closed_at r s u)
     by_text [] = tt
     by_text (c ∷ u) = cond_both (c == code ")") _ _ (Makes IsRead) (λ _. h) (λ _. tt)
 
@@ -315,78 +315,78 @@ branches_read r h = (h, (tt, tt))
 clear_or_stopper_read : (a : Tree) → IsRead a → IsRead (clear_or_stopper a)
 clear_or_stopper_read a h = cond_both (is_empty a) _ _ IsRead (λ _. (tt, tt)) (λ _. (tt, h))
 
-behind_body_read : (n left : ℕ) (c r : Tree) (s : State) → IsRead c → IsRead r →
-    Makes IsRead (conditional_behind n c left r s)
-behind_body_read n left c r s h i =
+behind_body_read : (left : ℕ) (c r : Tree) (s : State) → IsRead c → IsRead r →
+    Makes IsRead (conditional_behind c left r s)
+behind_body_read left c r s h i =
     let b = branches_of r in let e = branches_read r i in
     cond_both (bytes s.rest == left && not (is_condition c)) _ _ (Makes IsRead) (λ _. tt)
-    (λ _. closed_read n (conditional_of c b.0 b.1) s (conditional_of_read c b.0 b.1 h e.0 e.1))
+    (λ _. closed_read (conditional_of c b.0 b.1) s (conditional_of_read c b.0 b.1 h e.0 e.1))
 
 -- ---- the grammar
 
 mutual
-  alternation_read : {n d : ℕ} {s : State} {o : Outcome Tree} → Alternation n d s o → Makes IsRead o
+  alternation_read : {d : ℕ} {s : State} {o : Outcome Tree} → Alternation d s o → Makes IsRead o
   alternation_read (alternation {q} b e) =
       then_makes AreRead IsRead q _ (branches_are_read b) e (λ l v h. choice_read l h)
 
-  branches_are_read : {n d : ℕ} {s : State} {o : Outcome (List Tree)} → Branches n d s o → Makes AreRead o
+  branches_are_read : {d : ℕ} {s : State} {o : Outcome (List Tree)} → Branches d s o → Makes AreRead o
   branches_are_read (last b e) = (branch_read b, tt)
   branches_are_read (more {q} b e m f) =
       let h = branch_read b in then_makes AreRead AreRead q _ (branches_are_read m) f (λ l v i. (h, i))
   branches_are_read (branch_fault b) = tt
 
-  branch_read : {n d : ℕ} {s : State} {o : Outcome Tree} → Branch n d s o → Makes IsRead o
+  branch_read : {d : ℕ} {s : State} {o : Outcome Tree} → Branch d s o → Makes IsRead o
   branch_read (branch {q} b e) = then_makes AreRead IsRead q _ (pieces_read b) e (λ l v h. join_read l h)
 
-  pieces_read : {n d : ℕ} {s : State} {o : Outcome (List Tree)} → Pieces n d s o → Makes AreRead o
+  pieces_read : {d : ℕ} {s : State} {o : Outcome (List Tree)} → Pieces d s o → Makes AreRead o
   pieces_read (stop e) = tt
   pieces_read (next {q} e a m f) =
       let h = piece_read a in then_makes AreRead AreRead q _ (pieces_read m) f (λ l v i. (h, i))
   pieces_read (piece_fault e a) = tt
 
-  piece_read : {n d : ℕ} {s : State} {o : Outcome Tree} → Piece n d s o → Makes IsRead o
-  piece_read (piece {n} {d} {s} {q} l x e) =
-      then_makes IsRead IsRead q _ (atom_read x) e (λ a t i. quants_read n d (bytes s.rest) a t i)
+  piece_read : {d : ℕ} {s : State} {o : Outcome Tree} → Piece d s o → Makes IsRead o
+  piece_read (piece {d} {s} {q} l x e) =
+      then_makes IsRead IsRead q _ (atom_read x) e (λ a t i. quants_read d (bytes s.rest) a t i)
   piece_read (layout_fault l) = tt
 
-  atom_read : {n d : ℕ} {s : State} {o : Outcome Tree} → Atom n d s o → Makes IsRead o
-  atom_read (atom {n} {d} {s} {q} {k} e a b) =
-      let h = of_read a (subst ReadAhead e (ahead_read n d s)) in
+  atom_read : {d : ℕ} {s : State} {o : Outcome Tree} → Atom d s o → Makes IsRead o
+  atom_read (atom {d} {s} {q} {k} e a b) =
+      let h = of_read a (subst ReadAhead e (ahead_read d s)) in
       subst (Makes IsRead) b (behind_keeps (Makes IsRead) (λ r t f i. i) k s.flags q h)
 
-  of_read : {k : Ahead} {n d : ℕ} {s : State} {o : Outcome Tree} → AtomOf k n d s o → ReadAhead k → Makes IsRead o
+  of_read : {k : Ahead} {d : ℕ} {s : State} {o : Outcome Tree} → AtomOf k d s o → ReadAhead k → Makes IsRead o
   of_read a_nothing h = (tt, tt)
   of_read (a_leaf {o}) h = leaf_read_whole o h
-  of_read (a_group {n} {h = head} {s} {q} i e) h =
-      then_makes IsRead IsRead q _ (inside_read i) e (λ r v a. node_read head (place_of n s.rest) r a)
+  of_read (a_group {h = head} {s} {q} i e) h =
+      then_makes IsRead IsRead q _ (inside_read i) e (λ r v a. node_read head (reach_of s.rest) r a)
   of_read (a_condition i b) h = body_read b (inside_read i)
   of_read (condition_fault i) h = tt
   of_read (a_body {c} b) h = body_read b (leaf_is_read c h)
-  of_read (two_branches {n} {a} {q} b e m f) h =
+  of_read (two_branches {a} {q} b e m f) h =
       let first = branch_read b in
       then_makes IsRead IsRead q _ (branch_read m) f
-      (λ r w x. closed_read n (absent (expression a r)) w (tt, both_read (preorder a) (preorder r) first x))
-  of_read (one_branch {n} {v} {a} b e f) h =
-      subst (Makes IsRead) f (closed_read n (clear_or_stopper a) v (clear_or_stopper_read a (branch_read b)))
+      (λ r w x. closed_read (absent (expression a r)) w (tt, both_read (preorder a) (preorder r) first x))
+  of_read (one_branch {v} {a} b e f) h =
+      subst (Makes IsRead) f (closed_read (clear_or_stopper a) v (clear_or_stopper_read a (branch_read b)))
   of_read (absent_fault b) h = tt
 
-  inside_read : {n d : ℕ} {s : State} {o : Outcome Tree} → Inside n d s o → Makes IsRead o
-  inside_read (inside {n} {q} r e) = then_makes IsRead IsRead q _ (alternation_read r) e (λ t v h. closed_read n t v h)
+  inside_read : {d : ℕ} {s : State} {o : Outcome Tree} → Inside d s o → Makes IsRead o
+  inside_read (inside {q} r e) = then_makes IsRead IsRead q _ (alternation_read r) e (λ t v h. closed_read t v h)
 
-  body_read : {n d : ℕ} {c : Tree} {t : State} {o : Outcome Tree} → Body n d c t o → IsRead c → Makes IsRead o
-  body_read (the_body {n} {c} {s = t} {q} r e) h =
-      then_makes IsRead IsRead q _ (alternation_read r) e (λ a v i. behind_body_read n (bytes t.rest) c a v h i)
+  body_read : {d : ℕ} {c : Tree} {t : State} {o : Outcome Tree} → Body d c t o → IsRead c → Makes IsRead o
+  body_read (the_body {c} {s = t} {q} r e) h =
+      then_makes IsRead IsRead q _ (alternation_read r) e (λ a v i. behind_body_read (bytes t.rest) c a v h i)
 
-ended_read : (n : ℕ) (r : Tree) (s : State) → IsRead r → Makes IsRead (ended n r s)
-ended_read n r s h = by_text s.rest
+ended_read : (r : Tree) (s : State) → IsRead r → Makes IsRead (ended r s)
+ended_read r s h = by_text s.rest
   where
-    by_text : (u : Text) → Makes IsRead (ended_at n r s u)
+    by_text : (u : Text) → Makes IsRead (ended_at r s u)
     by_text [] = h
     by_text (c ∷ u) = tt
 
 whole_read : {f : Flags} {text : Text} {o : Outcome Tree} → Whole f text o → Makes IsRead o
-whole_read (whole {text} {q} a e) = then_makes IsRead IsRead q _ (alternation_read a) e
-    (λ r t h. ended_read (bytes text) r t h)
+whole_read (whole {q} a e) = then_makes IsRead IsRead q _ (alternation_read a) e
+    (λ r t h. ended_read r t h)
 
 -- each raw tree of a text is so
 pub derived_read : {f : Flags} {text : Text} {r : Tree} {t : State} → Whole f text (done r t) → IsRead r

@@ -1,5 +1,6 @@
 -- A tree rebuilt along the walk is the resolved tree.
 use Rattle.std.proofs.Common.{◌≡◌, ℕ, List, [], ◌∷◌, ◌++◌, refl, sym, ap, ◌∙◌}
+use Rattle.fancy_lex.specs.Text.{bytes}
 use Rattle.fancy_parts.specs.Ranks.{Opening}
 use Rattle.fancy_grammar.specs.Tree.{Tree, Trees, no_trees, more_trees, concat, alt, group, look_around, repeat}
 use Rattle.fancy_grammar.specs.Tree.{atomic_group, conditional, absent, define_group, ast_node, AbsentTree, repeater}
@@ -27,14 +28,14 @@ Numbers k g = numbers_under k.groups.names ≡ (λ u. numbers u g)
 
 at_reference : (k : Known) (g : List Opening) (s : Progress) (node : AstTree) (place : ℕ) → Numbers k g →
     openings_before g place ≡ s.passed →
-    resolved_node (numbers_under k.groups.names) s.passed node place
-    ≡ resolved_node (λ u. numbers u g) (openings_before g place) node place
+    resolved_node (bytes k.text) (numbers_under k.groups.names) s.passed node place
+    ≡ resolved_node (bytes k.text) (λ u. numbers u g) (openings_before g place) node place
 at_reference k g s node place n h =
-    ap (λ f. resolved_node f s.passed node place) n ∙ ap (λ c. resolved_node (λ u. numbers u g) c node place) (sym h)
+    ap (λ f. resolved_node (bytes k.text) f s.passed node place) n ∙ ap (λ c. resolved_node (bytes k.text) (λ u. numbers u g) c node place) (sym h)
 
 mutual
   pub rebuilt_resolved : (k : Known) (g : List Opening) (s : Progress) (t : Tree) → Numbers k g → Fits k g s (items t) →
-      rebuilt k s t ≡ resolved_in k.named g t
+      rebuilt k s t ≡ resolved_in (bytes k.text) k.named g t
   rebuilt_resolved k g s (concat ts) n h = ap concat (all_resolved k g s ts n h)
   rebuilt_resolved k g s (alt ts) n h = ap alt (all_resolved k g s ts n h)
   rebuilt_resolved k g s (group t) n h = ap group (rebuilt_resolved k g s t n h)
@@ -52,7 +53,7 @@ mutual
   rebuilt_resolved k g s (define_group t) n h = ap define_group (rebuilt_resolved k g s t n h)
   rebuilt_resolved k g s (ast_node (ast_group name t) place) n h =
       ap (group_or_inside (is_counted k.named name))
-      (rebuilt_resolved k g (note_item k s (opening (record { place = place; name = name }))) t n h.1)
+      (rebuilt_resolved k g (note_item k s (opening (record { reach = place; name = name }))) t n h.1)
   rebuilt_resolved k g s (ast_node (ast_backref target casei level) place) n h = at_reference k g s
       (ast_backref target casei level) place n h.0
   rebuilt_resolved k g s (ast_node (ast_call target) place) n h = at_reference k g s (ast_call target) place n h.0
@@ -61,7 +62,7 @@ mutual
   rebuilt_resolved k g s _ n h = refl
 
   pub all_resolved : (k : Known) (g : List Opening) (s : Progress) (ts : Trees) → Numbers k g →
-      Fits k g s (items_all ts) → rebuilt_all k s ts ≡ resolved_all k.named g ts
+      Fits k g s (items_all ts) → rebuilt_all k s ts ≡ resolved_all (bytes k.text) k.named g ts
   all_resolved k g s no_trees n h = refl
   all_resolved k g s (more_trees t ts) n h =
       let e1 = rebuilt_resolved k g s t n (fits_front k g s (items t) (items_all ts) h) in
@@ -69,7 +70,7 @@ mutual
       (λ i. more_trees (e1 i) (e2 i))
 
   pub absent_resolved : (k : Known) (g : List Opening) (s : Progress) (a : AbsentTree) → Numbers k g →
-      Fits k g s (items_absent a) → rebuilt_absent k s a ≡ resolved_absent k.named g a
+      Fits k g s (items_absent a) → rebuilt_absent k s a ≡ resolved_absent (bytes k.text) k.named g a
   absent_resolved k g s (repeater t) n h = ap repeater (rebuilt_resolved k g s t n h)
   absent_resolved k g s (expression a e) n h =
       let e1 = rebuilt_resolved k g s a n (fits_front k g s (items a) (items e) h) in

@@ -1,7 +1,7 @@
 -- From a start there is at most one outcome.
 use Rattle.std.proofs.Common.{◌≡◌, ℕ, refl, sym, subst, ap, ◌∙◌, List, ◌∷◌}
 use Rattle.fancy_lex.specs.Fault.{Kind}
-use Rattle.fancy_lex.specs.Text.{Text, bytes, place_of}
+use Rattle.fancy_lex.specs.Text.{Text, bytes, reach_of}
 use Rattle.fancy_lex.specs.declared.flags.Flags.{Flags}
 use Rattle.fancy_lex.specs.LayoutSteps.{rest, fault as open_comment}
 use Rattle.fancy_grammar.specs.Ahead.{Ahead}
@@ -41,8 +41,8 @@ in_front_same {b} {q} e g i h = sym e ∙ ap (λ x. seen_through (λ l. x ∷ l)
 
 -- ---- layout is a function
 
-same_skipped : (n : ℕ) {s z : State} → s ≡ z → skipped n s ≡ skipped n z
-same_skipped n e = ap (skipped n) e
+same_skipped : {s z : State} → s ≡ z → skipped s ≡ skipped z
+same_skipped e = ap (skipped) e
 
 rest_same : (u v : Text) → rest u ≡ rest v → u ≡ v
 rest_same u v e = cc
@@ -50,23 +50,23 @@ rest_same u v e = cc
 rest_or_fault : (u : Text) (p : ℕ) → rest u ≡ open_comment p → ⊥
 rest_or_fault u p e = cc
 
-same_layout : (n : ℕ) {s z : State} {u v : Text} → skipped n s ≡ rest u → skipped n z ≡ rest v → s ≡ z → u ≡ v
-same_layout n {u} {v} l m e = rest_same u v (sym l ∙ same_skipped n e ∙ m)
+same_layout : {s z : State} {u v : Text} → skipped s ≡ rest u → skipped z ≡ rest v → s ≡ z → u ≡ v
+same_layout {u} {v} l m e = rest_same u v (sym l ∙ same_skipped e ∙ m)
 
-layout_or_fault : (n : ℕ) {s z : State} {u : Text} {p : ℕ} → skipped n s ≡ rest u → skipped n z ≡ open_comment p →
+layout_or_fault : {s z : State} {u : Text} {p : ℕ} → skipped s ≡ rest u → skipped z ≡ open_comment p →
     s ≡ z → ⊥
-layout_or_fault n {u} {p} l m e = rest_or_fault u p (sym l ∙ same_skipped n e ∙ m)
+layout_or_fault {u} {p} l m e = rest_or_fault u p (sym l ∙ same_skipped e ∙ m)
 
 ap_at : {s z : State} {u v : Text} → s ≡ z → u ≡ v → at s u ≡ at z v
 ap_at e i = cc
 
 -- by induction on both derivations: an earlier part has one outcome, which says which rule reads on
 mutual
-  alternation_unique : {n d : ℕ} {s z : State} {o q : Outcome Tree} → Alternation n d s o → Alternation n d z q →
+  alternation_unique : {d : ℕ} {s z : State} {o q : Outcome Tree} → Alternation d s o → Alternation d z q →
       s ≡ z → o ≡ q
   alternation_unique (alternation a f) (alternation b g) e = then_same _ f g (branches_unique a b e)
 
-  branches_unique : {n d : ℕ} {s z : State} {o q : Outcome (List Tree)} → Branches n d s o → Branches n d z q → s ≡ z →
+  branches_unique : {d : ℕ} {s z : State} {o q : Outcome (List Tree)} → Branches d s o → Branches d z q → s ≡ z →
       o ≡ q
   branches_unique (last a f) (last b g) e = let h = branch_unique a b e in cc
   branches_unique (last a f) (more b g m i) e = let h = branch_unique a b e in absurd cc
@@ -79,10 +79,10 @@ mutual
   branches_unique (branch_fault a) (more b g m i) e = absurd (done_or_fault (sym (branch_unique a b e)))
   branches_unique (branch_fault a) (branch_fault b) e = same_fault (branch_unique a b e)
 
-  branch_unique : {n d : ℕ} {s z : State} {o q : Outcome Tree} → Branch n d s o → Branch n d z q → s ≡ z → o ≡ q
+  branch_unique : {d : ℕ} {s z : State} {o q : Outcome Tree} → Branch d s o → Branch d z q → s ≡ z → o ≡ q
   branch_unique (branch a f) (branch b g) e = then_same _ f g (pieces_unique a b e)
 
-  pieces_unique : {n d : ℕ} {s z : State} {o q : Outcome (List Tree)} → Pieces n d s o → Pieces n d z q → s ≡ z → o ≡ q
+  pieces_unique : {d : ℕ} {s z : State} {o q : Outcome (List Tree)} → Pieces d s o → Pieces d z q → s ≡ z → o ≡ q
   pieces_unique (stop f) (stop g) e = cc
   pieces_unique (stop f) (next g b m i) e = absurd cc
   pieces_unique (stop f) (piece_fault g b) e = absurd cc
@@ -94,24 +94,24 @@ mutual
   pieces_unique (piece_fault f a) (next g b m i) e = absurd (done_or_fault (sym (piece_unique a b e)))
   pieces_unique (piece_fault f a) (piece_fault g b) e = same_fault (piece_unique a b e)
 
-  piece_unique : {n d : ℕ} {s z : State} {o q : Outcome Tree} → Piece n d s o → Piece n d z q → s ≡ z → o ≡ q
-  piece_unique (piece {n} {d} {s} {q} l a f) (piece m b g) e =
-      let h = atom_unique a b (ap_at e (same_layout n l m e)) in
-      sym f ∙ ap (λ (x : State). and_then q (quants n d (bytes x.rest))) e ∙ then_same _ refl g h
-  piece_unique (piece {n} l a f) (layout_fault m) e = absurd (layout_or_fault n l m e)
-  piece_unique (layout_fault {n} l) (piece m b g) e = absurd (layout_or_fault n m l (sym e))
-  piece_unique (layout_fault {n} l) (layout_fault m) e = let h = same_skipped n e in cc
+  piece_unique : {d : ℕ} {s z : State} {o q : Outcome Tree} → Piece d s o → Piece d z q → s ≡ z → o ≡ q
+  piece_unique (piece {d} {s} {q} l a f) (piece m b g) e =
+      let h = atom_unique a b (ap_at e (same_layout l m e)) in
+      sym f ∙ ap (λ (x : State). and_then q (quants d (bytes x.rest))) e ∙ then_same _ refl g h
+  piece_unique (piece l a f) (layout_fault m) e = absurd (layout_or_fault l m e)
+  piece_unique (layout_fault l) (piece m b g) e = absurd (layout_or_fault m l (sym e))
+  piece_unique (layout_fault l) (layout_fault m) e = let h = same_skipped e in cc
 
-  atom_unique : {n d : ℕ} {s z : State} {o q : Outcome Tree} → Atom n d s o → Atom n d z q → s ≡ z → o ≡ q
-  atom_unique (atom {n} {d} {k} f a h) (atom {s = z} {q} {k = l} g b m) e =
-      let i : l ≡ k = cc in let same = of_unique a (subst (λ (x : Ahead). AtomOf x n d z q) i b) e in cc
+  atom_unique : {d : ℕ} {s z : State} {o q : Outcome Tree} → Atom d s o → Atom d z q → s ≡ z → o ≡ q
+  atom_unique (atom {d} {k} f a h) (atom {s = z} {q} {k = l} g b m) e =
+      let i : l ≡ k = cc in let same = of_unique a (subst (λ (x : Ahead). AtomOf x d z q) i b) e in cc
 
-  of_unique : {k : Ahead} {n d : ℕ} {s z : State} {o q : Outcome Tree} → AtomOf k n d s o → AtomOf k n d z q → s ≡ z →
+  of_unique : {k : Ahead} {d : ℕ} {s z : State} {o q : Outcome Tree} → AtomOf k d s o → AtomOf k d z q → s ≡ z →
       o ≡ q
   of_unique a_nothing a_nothing e = cc
   of_unique a_leaf a_leaf e = cc
-  of_unique (a_group {n} {h} {q} a f) (a_group b g) e =
-      sym f ∙ ap (λ (x : State). seen_through (group_node h (place_of n x.rest)) q) e
+  of_unique (a_group {h} {q} a f) (a_group b g) e =
+      sym f ∙ ap (λ (x : State). seen_through (group_node h (reach_of x.rest)) q) e
       ∙ then_same _ refl g (inside_unique a b refl)
   of_unique (a_condition i a) (a_condition j b) e =
       let h = inside_unique i j refl in body_unique a b (value_of h) (state_of h)
@@ -119,30 +119,30 @@ mutual
   of_unique (condition_fault i) (a_condition j b) e = absurd (done_or_fault (sym (inside_unique i j refl)))
   of_unique (condition_fault i) (condition_fault j) e = inside_unique i j refl
   of_unique (a_body a) (a_body b) e = body_unique a b refl refl
-  of_unique (two_branches {n} {q} a f m i) (two_branches b g l j) e =
+  of_unique (two_branches {q} a f m i) (two_branches b g l j) e =
       let h = branch_unique a b refl in
-      sym i ∙ ap (λ (x : Tree). and_then q (λ r. closed n (absent (expression x r)))) (value_of h)
+      sym i ∙ ap (λ (x : Tree). and_then q (λ r. closed (absent (expression x r)))) (value_of h)
       ∙ then_same _ refl j (branch_unique m l cc)
   of_unique (two_branches a f m i) (one_branch b g j) e = let h = branch_unique a b refl in absurd cc
   of_unique (two_branches a f m i) (absent_fault b) e = absurd (done_or_fault (branch_unique a b refl))
   of_unique (one_branch a f i) (two_branches b g l j) e = let h = branch_unique a b refl in absurd cc
-  of_unique (one_branch {n} {v} a f i) (one_branch {a = c} b g j) e =
+  of_unique (one_branch {v} a f i) (one_branch {a = c} b g j) e =
       let h = branch_unique a b refl in
-      sym i ∙ ap (λ (x : Tree). closed n (clear_or_stopper x) v) (value_of h)
-      ∙ ap (closed n (clear_or_stopper c)) (state_of h) ∙ j
+      sym i ∙ ap (λ (x : Tree). closed (clear_or_stopper x) v) (value_of h)
+      ∙ ap (closed (clear_or_stopper c)) (state_of h) ∙ j
   of_unique (one_branch a f i) (absent_fault b) e = absurd (done_or_fault (branch_unique a b refl))
   of_unique (absent_fault a) (two_branches b g l j) e = absurd (done_or_fault (sym (branch_unique a b refl)))
   of_unique (absent_fault a) (one_branch b g j) e = absurd (done_or_fault (sym (branch_unique a b refl)))
   of_unique (absent_fault a) (absent_fault b) e = branch_unique a b refl
 
-  inside_unique : {n d : ℕ} {s z : State} {o q : Outcome Tree} → Inside n d s o → Inside n d z q → s ≡ z → o ≡ q
+  inside_unique : {d : ℕ} {s z : State} {o q : Outcome Tree} → Inside d s o → Inside d z q → s ≡ z → o ≡ q
   inside_unique (inside a f) (inside b g) e = then_same _ f g (alternation_unique a b e)
 
-  body_unique : {n d : ℕ} {c x : Tree} {s z : State} {o q : Outcome Tree} → Body n d c s o → Body n d x z q → c ≡ x →
+  body_unique : {d : ℕ} {c x : Tree} {s z : State} {o q : Outcome Tree} → Body d c s o → Body d x z q → c ≡ x →
       s ≡ z → o ≡ q
-  body_unique (the_body {n} {s} {q} a f) (the_body {c = x} b g) i e =
-      sym f ∙ ap (λ (y : Tree). and_then q (conditional_behind n y (bytes s.rest))) i
-      ∙ ap (λ (y : State). and_then q (conditional_behind n x (bytes y.rest))) e
+  body_unique (the_body {s} {q} a f) (the_body {c = x} b g) i e =
+      sym f ∙ ap (λ (y : Tree). and_then q (conditional_behind y (bytes s.rest))) i
+      ∙ ap (λ (y : State). and_then q (conditional_behind x (bytes y.rest))) e
       ∙ then_same _ refl g (alternation_unique a b e)
 
 pub whole_unique : {f : Flags} {text : Text} {o q : Outcome Tree} → Whole f text o → Whole f text q → o ≡ q

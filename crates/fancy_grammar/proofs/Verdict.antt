@@ -1,16 +1,17 @@
 -- What one reading of a whole text says of every other.
 use Rattle.std.proofs.Common.{◌≡◌, ℕ, ◌+◌, ◌-◌, inl, inr, List, ◌++◌, Option, Some, None, refl, sym, ap, ap₂, ◌∙◌}
-use Rattle.std.proofs.Common.{subst, chars, length}
+use Rattle.std.proofs.Common.{subst, chars, length, arith}
 use Rattle.std.specs.Str.{IsUtf8, IsCharBoundary, all_scalars}
 use Rattle.std.proofs.Math.Utf8.{encodes}
 use Rattle.std.proofs.lemmas.Str.{scalars-chars, chars-encodes}
 use Rattle.fancy_lex.proofs.TextLemmas.{bytes_chars, cut_boundary}
 use Rattle.fancy_lex.specs.Fault.{Kind, Fault}
-use Rattle.fancy_lex.specs.ErrorViews.{kind_of}
-use Rattle.fancy_lex.specs.Text.{Text, EndsWith, as_told, begins, past_end, bytes}
+use Rattle.fancy_lex.specs.ErrorViews.{kind_of, error_in}
+use Rattle.fancy_lex.specs.Text.{Text, EndsWith, as_told, begins, past_end, bytes, place_at}
 use Rattle.fancy_lex.specs.declared.error.ParseError.{ParseError as ErrorKind}
-use Rattle.fancy_lex.specs.declared.error.Error.{Error}
-use Rattle.fancy_lex.specs.declared.error.Error.TheVariants.{ParseError, OutOfMemory}
+use Rattle.fancy_lex.specs.declared.error.Error.TheVariants.{ParseError}
+use Rattle.fancy_lex.specs.declared.error.Failure.{Failure}
+use Rattle.fancy_lex.specs.declared.error.Failure.TheVariants.{At, OutOfMemory}
 use Rattle.fancy_lex.specs.declared.flags.Flags.{Flags}
 use Rattle.fancy_parts.specs.Ranks.{numbered_openings}
 use Rattle.fancy_grammar.specs.Answer.{IsTreeOf, IsFaultOf, of_reading, of_resolving, IsOnlyFault, IsPlacedIn}
@@ -18,7 +19,7 @@ use Rattle.fancy_grammar.specs.Grammar.{DerivesTree, Faults, Whole}
 use Rattle.fancy_grammar.specs.Items.{items, openings}
 use Rattle.fancy_grammar.specs.Marks.{Marks, marks}
 use Rattle.fancy_grammar.specs.Errors.{IsErrorAmong, IsErrorIn}
-use Rattle.fancy_grammar.specs.Ordered.{AscendingPlaces}
+use Rattle.fancy_grammar.specs.Ordered.{DescendingReaches}
 use Rattle.fancy_grammar.specs.Slices.{MayStand}
 use Rattle.fancy_grammar.proofs.ReadBack.ScalarLemmas.{scalars_behind}
 use Rattle.fancy_grammar.specs.Resolved.{resolved, fault_of}
@@ -35,7 +36,7 @@ same_fault : {A : Type 0} {k j : Kind} {p q : ℕ} → ◌≡◌ {A = Outcome A}
 same_fault e = (cc, cc)
 
 apart : {f : Flags} {text : Text} {r : Tree} {k : Kind} {p : ℕ} → DerivesTree f text r → Faults f text k p → ⊥
-apart a b = let e = whole_unique a.1 b in cc
+apart a (q, b, i) = let e = whole_unique a.1 b in cc
 
 kind_in : Kind → Option Fault → Kind
 kind_in k None = k
@@ -43,10 +44,10 @@ kind_in k (Some x) = x.kind
 
 place_in : Option Fault → ℕ
 place_in None = 0
-place_in (Some x) = x.place
+place_in (Some x) = x.reach
 
 same_first : {k j : Kind} {p q : ℕ} →
-    ◌≡◌ {A = Option Fault} (Some (record { place = p; kind = k })) (Some (record { place = q; kind = j })) →
+    ◌≡◌ {A = Option Fault} (Some (record { reach = p; kind = k })) (Some (record { reach = q; kind = j })) →
     (j ≡ k) × (q ≡ p)
 unfolding kind_in place_in
 same_first {k} e = (sym (ap (kind_in k) e), sym (ap place_in e))
@@ -54,35 +55,42 @@ same_first {k} e = (sym (ap (kind_in k) e), sym (ap place_in e))
 pub only_tree : (f : Flags) (text : Text) (t u : Tree) (m k : Marks) → IsTreeOf f text t m → IsTreeOf f text u k →
     (u ≡ t) × (k ≡ m)
 only_tree f text t u m k (r, a, none, e, d) (q, b, none2, e2, d2) =
-    let same = same_tree a b in (e2 ∙ ap (resolved f) same ∙ sym e, d2 ∙ ap (marks f text) same ∙ sym d)
+    let same = same_tree a b in (e2 ∙ ap (resolved f (bytes text)) same ∙ sym e, d2 ∙ ap (marks f text) same ∙ sym d)
 
 pub no_fault : (f : Flags) (text : Text) (t : Tree) (m : Marks) (k : Kind) (p : ℕ) → IsTreeOf f text t m →
     IsFaultOf f text k p → ⊥
 no_fault f text t m k p (r, a, none, e, d) (of_reading b) = apart a b
-no_fault f text t m k p (r, a, none, e, d) (of_resolving b some) =
+no_fault f text t m k p (r, a, none, e, d) (of_resolving {q} b some) =
     let same = ap (fault_of f) (same_tree a b) in
-    let both : ◌≡◌ {A = Option Fault} None (Some (record { place = p; kind = k })) = sym none ∙ sym same ∙ some in
+    let both : ◌≡◌ {A = Option Fault} None (Some (record { reach = q; kind = k })) = sym none ∙ sym same ∙ some in
     absurd cc
 
 -- the one fault of a text that cannot be read
-pub only_reading : (e : Error) (f : Flags) (text : Text) → IsErrorAmong e (Whole f text) → IsOnlyFault e f text
-only_reading (ParseError p k) f text a =
-    (of_reading a, λ j q b. other j q b, λ t m b. no_fault f text t m (kind_of k) p b (of_reading a))
+pub only_reading : (e : Failure) (f : Flags) (text : Text) → IsErrorAmong e (Whole f text) →
+    IsOnlyFault (error_in (bytes text) e) f text
+only_reading (At p k) f text a =
+    (of_reading here, λ j q b. other j q b, λ t m b. no_fault f text t m (kind_of k) _ b (of_reading here))
   where
-    other : (j : Kind) (q : ℕ) → IsFaultOf f text j q → (j ≡ kind_of k) × (q ≡ p)
-    other j q (of_reading b) = same_fault (whole_unique a b)
-    other j q (of_resolving b some) = absurd (apart b a)
+    here : Faults f text (kind_of k) (place_at (bytes text) p)
+    here = (p, a, refl)
+
+    other : (j : Kind) (q : ℕ) → IsFaultOf f text j q → (j ≡ kind_of k) × (q ≡ place_at (bytes text) p)
+    other j q (of_reading (r, b, i)) =
+        let same = same_fault (whole_unique a b) in (same.0, i ∙ ap (place_at (bytes text)) same.1)
+    other j q (of_resolving b some) = absurd (apart b here)
 only_reading OutOfMemory f text a = tt
 
 -- the one fault of a text that is read, and cannot be resolved
-pub only_resolving : (e : Error) (f : Flags) (text : Text) (r : Tree) → DerivesTree f text r →
-    IsErrorIn e (fault_of f r) → IsOnlyFault e f text
-only_resolving (ParseError p k) f text r a h =
-    (of_resolving a h, λ j q b. other j q b, λ t m b. no_fault f text t m (kind_of k) p b (of_resolving a h))
+pub only_resolving : (e : Failure) (f : Flags) (text : Text) (r : Tree) → DerivesTree f text r →
+    IsErrorIn e (fault_of f r) → IsOnlyFault (error_in (bytes text) e) f text
+only_resolving (At p k) f text r a h =
+    (of_resolving a h, λ j q b. other j q b, λ t m b. no_fault f text t m (kind_of k) _ b (of_resolving a h))
   where
-    other : (j : Kind) (q : ℕ) → IsFaultOf f text j q → (j ≡ kind_of k) × (q ≡ p)
+    other : (j : Kind) (q : ℕ) → IsFaultOf f text j q → (j ≡ kind_of k) × (q ≡ place_at (bytes text) p)
     other j q (of_reading b) = absurd (apart a b)
-    other j q (of_resolving b some) = same_first (sym h ∙ sym (ap (fault_of f) (same_tree a b)) ∙ some)
+    other j q (of_resolving b some) =
+        let same = same_first (sym h ∙ sym (ap (fault_of f) (same_tree a b)) ∙ some) in
+        (same.0, ap (place_at (bytes text)) same.1)
 only_resolving OutOfMemory f text r a h = tt
 
 -- ---- places
@@ -97,27 +105,32 @@ cut_at re u valid (w, cut) =
     subst (IsCharBoundary re) (ap₂ (λ a b. a - b) (sym (bytes_chars re valid)) left)
     (cut_boundary re (encodes u) w valid ends (cut ∙ ap (λ s. w ++ s) (sym same)))
 
-placed : (e : ErrorKind) (re : List ℕ) (p : ℕ) → IsUtf8 re → MayStand (bytes (chars re)) (chars re) p →
-    IsPlacedIn (ParseError p e) re
-placed e re p valid (as_told h) = inl (h ∙ ap (λ n. n + 1) (bytes_chars re valid))
-placed e re p valid (begins u ends h) = inr (subst (IsCharBoundary re) (sym h) (cut_at re u valid ends))
-placed e re p valid (past_end h) = inl (h ∙ ap (λ n. n + 1) (bytes_chars re valid))
+past_end_is : (re : List ℕ) (q : ℕ) → IsUtf8 re → q ≡ 0 → place_at (bytes (chars re)) q ≡ length re + 1
+past_end_is re q valid h = omega (arith, bytes_chars re valid)
 
-pub reading_placed : (e : Error) (f : Flags) (re : List ℕ) → IsUtf8 re → IsErrorAmong e (Whole f (chars re)) →
-    IsPlacedIn e re
-reading_placed (ParseError p k) f re u a = placed k re p u (fault_stands a)
+placed : (e : ErrorKind) (re : List ℕ) (q : ℕ) → IsUtf8 re → MayStand (chars re) q →
+    IsPlacedIn (ParseError (place_at (bytes (chars re)) q) e) re
+placed e re q valid (as_told h) = inl (past_end_is re q valid h)
+placed e re q valid (begins u ends h) =
+    let at : bytes (chars re) - bytes u ≡ place_at (bytes (chars re)) q = omega arith in
+    inr (subst (IsCharBoundary re) at (cut_at re u valid ends))
+placed e re q valid (past_end h) = inl (past_end_is re q valid h)
+
+pub reading_placed : (e : Failure) (f : Flags) (re : List ℕ) → IsUtf8 re → IsErrorAmong e (Whole f (chars re)) →
+    IsPlacedIn (error_in (bytes (chars re)) e) re
+reading_placed (At p k) f re u a = placed k re p u (fault_stands a)
 reading_placed OutOfMemory f re u a = tt
 
 -- the groups and references of a text that is read stand in text order
 pub text_order : (f : Flags) (re : List ℕ) (r : Tree) → IsUtf8 re → DerivesTree f (chars re) r →
-    AscendingPlaces 0 (length re) (items r)
-text_order f re r u a = subst (λ n. AscendingPlaces 0 n (items r)) (bytes_chars re u) (ordered_within a.1)
+    DescendingReaches (length re + 2) 2 (items r)
+text_order f re r u a = subst (λ n. DescendingReaches (n + 2) 2 (items r)) (bytes_chars re u) (ordered_within a.1)
 
-pub resolving_placed : (e : Error) (f : Flags) (re : List ℕ) (r : Tree) → IsUtf8 re → DerivesTree f (chars re) r →
-    IsErrorIn e (fault_of f r) → IsPlacedIn e re
-resolving_placed (ParseError p k) f re r u a h =
+pub resolving_placed : (e : Failure) (f : Flags) (re : List ℕ) (r : Tree) → IsUtf8 re → DerivesTree f (chars re) r →
+    IsErrorIn e (fault_of f r) → IsPlacedIn (error_in (bytes (chars re)) e) re
+resolving_placed (At p k) f re r u a h =
     placed k re p u
-    (fault_place (MayStand (bytes (chars re)) (chars re)) (numbered_openings f (openings r)) (items r)
-    (record { place = p; kind = kind_of k })
+    (fault_place (MayStand (chars re)) (numbered_openings f (openings r)) (items r)
+    (record { reach = p; kind = kind_of k })
     (items_stand a.1) h)
 resolving_placed OutOfMemory f re r u a h = tt

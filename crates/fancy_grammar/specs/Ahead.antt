@@ -11,7 +11,7 @@ use Rattle.fancy_lex.specs.FaultTable.{comment_not_closed, group_too_deep, group
 use Rattle.fancy_lex.specs.LayoutSteps.{Skipped, rest, fault as open_comment}
 use Rattle.fancy_lex.specs.Reading.{Reading, gives, fails, choose}
 use Rattle.fancy_lex.specs.Referred.{Reference, Call}
-use Rattle.fancy_lex.specs.Text.{Text, place_of, strip_word}
+use Rattle.fancy_lex.specs.Text.{Text, reach_of, strip_word}
 use Rattle.fancy_lex.specs.declared.escape.Assertion.{Assertion}
 use Rattle.fancy_lex.specs.declared.escape.Assertion.TheVariants.{StartText, EndText, StartLine, StartLineOniguruma}
 use Rattle.fancy_lex.specs.declared.escape.Assertion.TheVariants.{EndLine}
@@ -57,13 +57,13 @@ end_anchor f = if f.multi then EndLine f.crlf else EndText
 
 -- the nodes of references, before they are resolved
 abbrev pub backref_node : Bool → Reference → Tree
-backref_node casei r = ast_node (ast_backref r.target casei r.level) r.place
+backref_node casei r = ast_node (ast_backref r.target casei r.level) r.reach
 
 abbrev pub call_node : Call → Tree
-call_node c = ast_node (ast_call c.target) c.place
+call_node c = ast_node (ast_call c.target) c.reach
 
 abbrev pub condition_node : Reference → Tree
-condition_node r = ast_node (ast_condition r.target r.level) r.place
+condition_node r = ast_node (ast_condition r.target r.level) r.reach
 
 -- the node of an escape's leaf
 abbrev pub leaf_node : Escape → Tree
@@ -84,13 +84,13 @@ leaf_outcome node s (gives a t) = done (node a) (at s t)
 leaf_outcome node s (fails e) = faulted e
 
 -- an atom of one character, an escape or a class
-abbrev pub leaf_of : ℕ → State → ℕ → Text → Outcome Tree
-leaf_of n s c t =
+abbrev pub leaf_of : State → ℕ → Text → Outcome Tree
+leaf_of s c t =
     if c == code "." then done (any s.flags.dotnl s.flags.crlf) (at s t)
     else if c == code "^" then done (assertion (start_anchor s.flags)) (at s t)
     else if c == code "$" then done (assertion (end_anchor s.flags)) (at s t)
-    else if c == code "\\" then leaf_outcome leaf_node s (escape n s.flags false (place_of n (c ∷ t)) t)
-    else if c == code "[" then leaf_outcome (λ w. delegate w s.flags.casei) s (class n s.flags t)
+    else if c == code "\\" then leaf_outcome leaf_node s (escape s.flags false (reach_of (c ∷ t)) t)
+    else if c == code "[" then leaf_outcome (λ w. delegate w s.flags.casei) s (class s.flags t)
     else done (literal (c ∷ []) s.flags.casei) (at s t)
 
 -- before these the atom is Empty; the end is another such place
@@ -114,66 +114,66 @@ flags_ahead (gives (scoped f) u) = with_head scope (record { flags = f; rest = u
 flags_ahead (fails e) = fault_ahead e
 
 -- a verb, whose name and closing parenthesis stand behind its asterisk
-abbrev pub verb_ahead : ℕ → State → Text → Ahead
-verb_ahead n s t =
-    choose (verb_at t) (λ p. leaf (done (verb p.0) (at s p.1))) (fault_ahead (unknown_verb n (code "*" ∷ t)))
+abbrev pub verb_ahead : State → Text → Ahead
+verb_ahead s t =
+    choose (verb_at t) (λ p. leaf (done (verb p.0) (at s p.1))) (fault_ahead (unknown_verb (code "*" ∷ t)))
 
 -- a verb as the condition of a conditional, behind its asterisk
-abbrev pub verb_condition : ℕ → State → Text → Ahead
-verb_condition n s t =
-    choose (verb_at t) (λ p. body (verb p.0) (at s p.1)) (fault_ahead (unknown_verb n (code "*" ∷ t)))
+abbrev pub verb_condition : State → Text → Ahead
+verb_condition s t =
+    choose (verb_at t) (λ p. body (verb p.0) (at s p.1)) (fault_ahead (unknown_verb (code "*" ∷ t)))
 
 -- behind `(?(`, where more text is due: a condition, which is a target, a verb, or an alternation
-abbrev pub condition_ahead : ℕ → State → Text → Ahead
-condition_ahead n s [] = fault_ahead (group_not_closed n)
-condition_ahead n s (c ∷ t) =
-    if begins_target (c ∷ t) then target_ahead s (condition_target n (c ∷ t))
-    else if c == code "*" then verb_condition n s t
+abbrev pub condition_ahead : State → Text → Ahead
+condition_ahead s [] = fault_ahead group_not_closed
+condition_ahead s (c ∷ t) =
+    if begins_target (c ∷ t) then target_ahead s (condition_target (c ∷ t))
+    else if c == code "*" then verb_condition s t
     else condition (at s (c ∷ t))
 
 -- behind `(?~`, where more text is due: an alternation
-abbrev pub repeater_ahead : ℕ → State → Text → Ahead
-repeater_ahead n s [] = fault_ahead (group_not_closed n)
-repeater_ahead n s (c ∷ t) = with_head repeater (at s (c ∷ t))
+abbrev pub repeater_ahead : State → Text → Ahead
+repeater_ahead s [] = fault_ahead group_not_closed
+repeater_ahead s (c ∷ t) = with_head repeater (at s (c ∷ t))
 
 -- behind the question mark of a group's head: the first row whose word stands there, or else letters of flags
-abbrev pub behind_question : ℕ → State → Text → Ahead
-behind_question n s t =
+abbrev pub behind_question : State → Text → Ahead
+behind_question s t =
     choose (strip_word (codes "=") t) (λ u. with_head (look LookAhead) (at s u)) (
     choose (strip_word (codes "!") t) (λ u. with_head (look LookAheadNeg) (at s u)) (
     choose (strip_word (codes "<=") t) (λ u. with_head (look LookBehind) (at s u)) (
     choose (strip_word (codes "<!") t) (λ u. with_head (look LookBehindNeg) (at s u)) (
     choose (strip_word (codes ">") t) (λ u. with_head atomic (at s u)) (
     choose (strip_word (codes "(DEFINE)") t) (λ u. with_head define (at s u)) (
-    choose (strip_word (codes "(") t) (λ u. condition_ahead n s u) (
+    choose (strip_word (codes "(") t) (λ u. condition_ahead s u) (
     choose (strip_word (codes "~|") t) (λ u. absent_branch (at s u)) (
-    choose (strip_word (codes "~") t) (λ u. repeater_ahead n s u) (
-    choose (strip_word (codes "<") t) (λ u. named_ahead s (group_name n t)) (
-    choose (strip_word (codes "'") t) (λ u. named_ahead s (group_name n t)) (
-    choose (strip_word (codes "P<") t) (λ u. named_ahead s (group_name n t)) (
-    choose (strip_word (codes "P=") t) (λ u. leaf (leaf_outcome (backref_node s.flags.casei) s (named_reference n u)))
-    (choose (strip_word (codes "P>") t) (λ u. leaf (leaf_outcome call_node s (named_call n u)))
-    (flags_ahead (letters n s.flags t)))))))))))))))
+    choose (strip_word (codes "~") t) (λ u. repeater_ahead s u) (
+    choose (strip_word (codes "<") t) (λ u. named_ahead s (group_name t)) (
+    choose (strip_word (codes "'") t) (λ u. named_ahead s (group_name t)) (
+    choose (strip_word (codes "P<") t) (λ u. named_ahead s (group_name t)) (
+    choose (strip_word (codes "P=") t) (λ u. leaf (leaf_outcome (backref_node s.flags.casei) s (named_reference u)))
+    (choose (strip_word (codes "P>") t) (λ u. leaf (leaf_outcome call_node s (named_call u)))
+    (flags_ahead (letters s.flags t)))))))))))))))
 
 -- behind the parenthesis and layout: a head, a verb, or a capturing group without a name
-abbrev pub group_ahead : ℕ → State → Text → Ahead
-group_ahead n s t =
-    choose (strip_word (codes "?") t) (λ u. behind_question n s u) (
-    choose (strip_word (codes "*") t) (λ u. verb_ahead n s u)
+abbrev pub group_ahead : State → Text → Ahead
+group_ahead s t =
+    choose (strip_word (codes "?") t) (λ u. behind_question s u) (
+    choose (strip_word (codes "*") t) (λ u. verb_ahead s u)
     (with_head (capture None) (at s t)))
 
-abbrev pub behind_layout : ℕ → State → Skipped → Ahead
-behind_layout n s (rest u) = group_ahead n s u
-behind_layout n s (open_comment p) = fault_ahead (comment_not_closed p)
+abbrev pub behind_layout : State → Skipped → Ahead
+behind_layout s (rest u) = group_ahead s u
+behind_layout s (open_comment p) = fault_ahead (comment_not_closed p)
 
--- what stands before an atom in a pattern of n bytes, inside d groups
-abbrev pub ahead_of : ℕ → ℕ → State → Text → Ahead
-ahead_of n d s [] = nothing
-ahead_of n d s (c ∷ t) =
+-- what stands before an atom, inside d groups
+abbrev pub ahead_of : ℕ → State → Text → Ahead
+ahead_of d s [] = nothing
+ahead_of d s (c ∷ t) =
     if c == code "(" then (
-    if nat_le max_depth (d + 1) then fault_ahead (group_too_deep n (c ∷ t)) else behind_layout n s (skipped n (at s t)))
+    if nat_le max_depth (d + 1) then fault_ahead (group_too_deep (c ∷ t)) else behind_layout s (skipped (at s t)))
     else if is_before_nothing c then nothing
-    else leaf (leaf_of n s c t)
+    else leaf (leaf_of s c t)
 
-unfoldable pub ahead : ℕ → ℕ → State → Ahead
-ahead n d s = ahead_of n d s s.rest
+unfoldable pub ahead : ℕ → State → Ahead
+ahead d s = ahead_of d s s.rest

@@ -3,7 +3,7 @@ use Rattle.std.specs.Prelude.{◌≡◌, ℕ, ◌+◌, ◌⊎◌, List, length, 
 use Rattle.std.specs.Str.{IsCharBoundary}
 use Rattle.fancy_lex.specs.Fault.{Kind}
 use Rattle.fancy_lex.specs.ErrorViews.{kind_of}
-use Rattle.fancy_lex.specs.Text.{Text}
+use Rattle.fancy_lex.specs.Text.{Text, bytes, place_at}
 use Rattle.fancy_lex.specs.declared.error.Error.{Error}
 use Rattle.fancy_lex.specs.declared.error.Error.TheVariants.{ParseError, OutOfMemory}
 use Rattle.fancy_lex.specs.declared.flags.Flags.{Flags}
@@ -16,13 +16,13 @@ use Rattle.fancy_grammar.specs.Tree.{Tree}
 -- the marks m
 abbrev pub IsTreeOf : Flags → Text → Tree → Marks → Type 0
 IsTreeOf f text t m =
-    (r : Tree) × DerivesTree f text r × (fault_of f r ≡ None) × (t ≡ resolved f r) × (m ≡ marks f text r)
+    (r : Tree) × DerivesTree f text r × (fault_of f r ≡ None) × (t ≡ resolved f (bytes text) r) × (m ≡ marks f text r)
 
 -- the fault of the text: that of reading it, or, where the text derives, the first fault of its references
 pub data IsFaultOf : Flags → Text → Kind → ℕ → Type 0 where
   of_reading : {f : Flags} {text : Text} {k : Kind} {p : ℕ} → Faults f text k p → IsFaultOf f text k p
-  of_resolving : {f : Flags} {text : Text} {k : Kind} {p : ℕ} {r : Tree} → DerivesTree f text r →
-      fault_of f r ≡ Some (record { place = p; kind = k }) → IsFaultOf f text k p
+  of_resolving : {f : Flags} {text : Text} {k : Kind} {q : ℕ} {r : Tree} → DerivesTree f text r →
+      fault_of f r ≡ Some (record { reach = q; kind = k }) → IsFaultOf f text k (place_at (bytes text) q)
 
 -- memory ran out, or the text has this fault and no other, and no tree
 abbrev pub IsOnlyFault : Error → Flags → Text → Type 0

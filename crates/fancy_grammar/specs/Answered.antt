@@ -25,7 +25,7 @@ abbrev pub IsAnsweredNode : Tree → Type 0
 IsAnsweredNode (literal w casei) = length w ≡ 1
 IsAnsweredNode (literal_bytes w) = (length w ≡ 1) × AllByRecursion (λ b. (0x80 ≤ b) × (b ≤ 0xFF)) w
 IsAnsweredNode (alt ts) = 2 ≤ length (list_of ts)
-IsAnsweredNode (ast_node node place) = is_call_as_read node ≡ true
+IsAnsweredNode (ast_node node reach) = is_call_as_read node ≡ true
 IsAnsweredNode _ = Unit {0}
 
 -- this is true of each node
@@ -56,7 +56,7 @@ AreNamed total l = AllByRecursion (λ e. (0 < length e.1) × AscendingNumbers 0 
 -- whether the node is a call, resolved or not
 abbrev pub is_call_node : Tree → Bool
 is_call_node (subroutine_call n) = true
-is_call_node (ast_node node place) = is_call_as_read node
+is_call_node (ast_node node reach) = is_call_as_read node
 is_call_node _ = false
 
 -- whether some node is a call
@@ -86,8 +86,8 @@ pub record IsAnsweredWith (t : Tree) (m : Marks) : Type 0 where
 
 -- a node's opening and inside, where it is a capturing group that has a number
 abbrev pub numbered_group : Bool → Tree → Option (Opening × Tree)
-numbered_group named (ast_node (ast_group name t) place) =
-    if is_counted named name then Some (record { place = place; name = name }, t) else None
+numbered_group named (ast_node (ast_group name t) reach) =
+    if is_counted named name then Some (record { reach = reach; name = name }, t) else None
 numbered_group _ _ = None
 
 -- of all that have a number
@@ -100,8 +100,8 @@ numbered_groups f r = numbered_in (only_named f (openings r)) (preorder r)
 
 -- their openings are those that have a number, in text order; and the k-th Group of the answered tree t holds the
 -- inside of the k-th of them, resolved
-pub record HasGroupsOf (f : Flags) (r t : Tree) : Type 0 where
+pub record HasGroupsOf (f : Flags) (n : ℕ) (r t : Tree) : Type 0 where
   pub in_order : map (λ g. g.0) (numbered_groups f r) ≡ numbered_openings f (openings r)
   pub insides : groups t ≡
-      map (λ g. group (resolved_in (only_named f (openings r)) (numbered_openings f (openings r)) g.1))
+      map (λ g. group (resolved_in n (only_named f (openings r)) (numbered_openings f (openings r)) g.1))
       (numbered_groups f r)

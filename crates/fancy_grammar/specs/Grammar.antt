@@ -1,4 +1,4 @@
--- The grammar: what each production reads from a state, in a pattern of n bytes and at a depth of open groups.
+-- The grammar: what each production reads from a state, at a depth of open groups.
 -- A part that comes first has a rule for its fault; where a part is the last, its outcome decides the whole.
 -- Layout, classes, the letters of flag groups, boundaries, hex codes, numbers, names and id references stand in the
 -- premises as functions; that these are the relations in the same files is said in `Premises`.
@@ -10,7 +10,7 @@ use Rattle.fancy_lex.specs.Fault.{Kind}
 use Rattle.fancy_lex.specs.FaultTable.{comment_not_closed, group_not_closed, bar_for_close_paren, close_paren_left_over}
 use Rattle.fancy_lex.specs.FaultTable.{body_wanting}
 use Rattle.fancy_lex.specs.LayoutSteps.{rest, fault as open_comment}
-use Rattle.fancy_lex.specs.Text.{Text, bytes, place_of, strip}
+use Rattle.fancy_lex.specs.Text.{Text, bytes, place_at, reach_of, strip}
 use Rattle.fancy_lex.specs.declared.flags.Flags.{Flags}
 use Rattle.fancy_grammar.specs.Ahead.{Ahead, nothing, leaf, with_head, condition, body, absent_branch, ahead}
 use Rattle.fancy_grammar.specs.Head.{Head, group_node}
@@ -24,13 +24,13 @@ use Rattle.fancy_grammar.specs.Tree.{expression, ast_node, AstTree, ast_conditio
 
 -- the tree, where the closing parenthesis follows; the only other character that may stand there is a bar behind the
 -- second branch of an absent expression, since an alternation goes on behind a bar
-abbrev pub closed_at : ℕ → Tree → State → Text → Outcome Tree
-closed_at n r s [] = faulted (group_not_closed n)
-closed_at n r s (c ∷ t) =
-    if c == code ")" then done r (at s t) else faulted (bar_for_close_paren n s.rest)
+abbrev pub closed_at : Tree → State → Text → Outcome Tree
+closed_at r s [] = faulted group_not_closed
+closed_at r s (c ∷ t) =
+    if c == code ")" then done r (at s t) else faulted (bar_for_close_paren s.rest)
 
-abbrev pub closed : ℕ → Tree → State → Outcome Tree
-closed n r s = closed_at n r s s.rest
+abbrev pub closed : Tree → State → Outcome Tree
+closed r s = closed_at r s s.rest
 
 -- whether the tree is a condition on a group, before it is resolved
 abbrev pub is_condition_node : AstTree → Bool
@@ -52,10 +52,10 @@ branches_of r = (r, empty)
 
 -- the conditional of the condition c, whose body began where so many bytes were left;
 -- a condition on a group alone may do without a body
-abbrev pub conditional_behind : ℕ → Tree → ℕ → Tree → State → Outcome Tree
-conditional_behind n c left r s =
-    if bytes s.rest == left && not (is_condition c) then faulted (body_wanting n s.rest)
-    else closed n (conditional_of c (branches_of r).0 (branches_of r).1) s
+abbrev pub conditional_behind : Tree → ℕ → Tree → State → Outcome Tree
+conditional_behind c left r s =
+    if bytes s.rest == left && not (is_condition c) then faulted (body_wanting s.rest)
+    else closed (conditional_of c (branches_of r).0 (branches_of r).1) s
 
 -- a branch behind `(?~|`, where no other follows
 abbrev pub clear_or_stopper : Tree → Tree
@@ -75,76 +75,76 @@ behind_atom _ f q = restored f q
 
 -- ---- the productions
 
--- In each of them n is how many bytes the pattern has, and d how many groups are open; s is the state where it begins,
+-- In each of them d is how many groups are open; s is the state where it begins,
 -- t and v are later states, in text order, and u is a later text; r, a and c are trees, of which c is a condition; q is
--- the outcome of a part, and o that of the whole; k and p are the kind and the place of a fault, and in `Atom` k is what
+-- the outcome of a part, and o that of the whole; k and p are the kind and the reach of a fault, and in `Atom` k is what
 -- stands ahead.
 
 mutual
   -- branches with bars between
-  pub data Alternation : ℕ → ℕ → State → Outcome Tree → Type 0 where
-    alternation : {n d : ℕ} {s : State} {q : Outcome (List Tree)} {o : Outcome Tree} → Branches n d s q →
-        seen_through choice q ≡ o → Alternation n d s o
+  pub data Alternation : ℕ → State → Outcome Tree → Type 0 where
+    alternation : {d : ℕ} {s : State} {q : Outcome (List Tree)} {o : Outcome Tree} → Branches d s q →
+        seen_through choice q ≡ o → Alternation d s o
 
-  pub data Branches : ℕ → ℕ → State → Outcome (List Tree) → Type 0 where
-    last : {n d : ℕ} {s t : State} {r : Tree} → Branch n d s (done r t) → strip bar t.rest ≡ None →
-        Branches n d s (done (r ∷ []) t)
-    more : {n d : ℕ} {s t : State} {u : Text} {r : Tree} {q o : Outcome (List Tree)} → Branch n d s (done r t) →
-        strip bar t.rest ≡ Some u → Branches n d (at t u) q → seen_through (λ l. r ∷ l) q ≡ o → Branches n d s o
-    branch_fault : {n d p : ℕ} {s : State} {k : Kind} → Branch n d s (fault k p) → Branches n d s (fault k p)
+  pub data Branches : ℕ → State → Outcome (List Tree) → Type 0 where
+    last : {d : ℕ} {s t : State} {r : Tree} → Branch d s (done r t) → strip bar t.rest ≡ None →
+        Branches d s (done (r ∷ []) t)
+    more : {d : ℕ} {s t : State} {u : Text} {r : Tree} {q o : Outcome (List Tree)} → Branch d s (done r t) →
+        strip bar t.rest ≡ Some u → Branches d (at t u) q → seen_through (λ l. r ∷ l) q ≡ o → Branches d s o
+    branch_fault : {d p : ℕ} {s : State} {k : Kind} → Branch d s (fault k p) → Branches d s (fault k p)
 
   -- pieces up to where a branch ends
-  pub data Branch : ℕ → ℕ → State → Outcome Tree → Type 0 where
-    branch : {n d : ℕ} {s : State} {q : Outcome (List Tree)} {o : Outcome Tree} → Pieces n d s q →
-        seen_through join q ≡ o → Branch n d s o
+  pub data Branch : ℕ → State → Outcome Tree → Type 0 where
+    branch : {d : ℕ} {s : State} {q : Outcome (List Tree)} {o : Outcome Tree} → Pieces d s q →
+        seen_through join q ≡ o → Branch d s o
 
-  pub data Pieces : ℕ → ℕ → State → Outcome (List Tree) → Type 0 where
-    stop : {n d : ℕ} {s : State} → ends s.rest ≡ true → Pieces n d s (done [] s)
-    next : {n d : ℕ} {s t : State} {r : Tree} {q o : Outcome (List Tree)} → ends s.rest ≡ false →
-        Piece n d s (done r t) → Pieces n d t q → seen_through (λ l. r ∷ l) q ≡ o → Pieces n d s o
-    piece_fault : {n d p : ℕ} {s : State} {k : Kind} → ends s.rest ≡ false → Piece n d s (fault k p) →
-        Pieces n d s (fault k p)
+  pub data Pieces : ℕ → State → Outcome (List Tree) → Type 0 where
+    stop : {d : ℕ} {s : State} → ends s.rest ≡ true → Pieces d s (done [] s)
+    next : {d : ℕ} {s t : State} {r : Tree} {q o : Outcome (List Tree)} → ends s.rest ≡ false →
+        Piece d s (done r t) → Pieces d t q → seen_through (λ l. r ∷ l) q ≡ o → Pieces d s o
+    piece_fault : {d p : ℕ} {s : State} {k : Kind} → ends s.rest ≡ false → Piece d s (fault k p) →
+        Pieces d s (fault k p)
 
   -- layout, and an atom under the quantifiers that follow it
-  pub data Piece : ℕ → ℕ → State → Outcome Tree → Type 0 where
-    piece : {n d : ℕ} {s : State} {u : Text} {q o : Outcome Tree} → skipped n s ≡ rest u → Atom n d (at s u) q →
-        and_then q (quants n d (bytes s.rest)) ≡ o → Piece n d s o
-    layout_fault : {n d p : ℕ} {s : State} → skipped n s ≡ open_comment p → Piece n d s (faulted (comment_not_closed p))
+  pub data Piece : ℕ → State → Outcome Tree → Type 0 where
+    piece : {d : ℕ} {s : State} {u : Text} {q o : Outcome Tree} → skipped s ≡ rest u → Atom d (at s u) q →
+        and_then q (quants d (bytes s.rest)) ≡ o → Piece d s o
+    layout_fault : {d p : ℕ} {s : State} → skipped s ≡ open_comment p → Piece d s (faulted (comment_not_closed p))
 
   -- what stands ahead, k, decides which rule of an atom applies
-  pub data Atom : ℕ → ℕ → State → Outcome Tree → Type 0 where
-    atom : {n d : ℕ} {s : State} {q o : Outcome Tree} {k : Ahead} → ahead n d s ≡ k → AtomOf k n d s q →
-        behind_atom k s.flags q ≡ o → Atom n d s o
+  pub data Atom : ℕ → State → Outcome Tree → Type 0 where
+    atom : {d : ℕ} {s : State} {q o : Outcome Tree} {k : Ahead} → ahead d s ≡ k → AtomOf k d s q →
+        behind_atom k s.flags q ≡ o → Atom d s o
 
-  pub data AtomOf : Ahead → ℕ → ℕ → State → Outcome Tree → Type 0 where
-    a_nothing : {n d : ℕ} {s : State} → AtomOf nothing n d s (done empty s)
-    a_leaf : {n d : ℕ} {s : State} {o : Outcome Tree} → AtomOf (leaf o) n d s o
-    a_group : {n d : ℕ} {h : Head} {s t : State} {q o : Outcome Tree} → Inside n d t q →
-        seen_through (group_node h (place_of n s.rest)) q ≡ o → AtomOf (with_head h t) n d s o
+  pub data AtomOf : Ahead → ℕ → State → Outcome Tree → Type 0 where
+    a_nothing : {d : ℕ} {s : State} → AtomOf nothing d s (done empty s)
+    a_leaf : {d : ℕ} {s : State} {o : Outcome Tree} → AtomOf (leaf o) d s o
+    a_group : {d : ℕ} {h : Head} {s t : State} {q o : Outcome Tree} → Inside d t q →
+        seen_through (group_node h (reach_of s.rest)) q ≡ o → AtomOf (with_head h t) d s o
     -- a conditional: its condition's parentheses, and its body
-    a_condition : {n d : ℕ} {s t v : State} {c : Tree} {o : Outcome Tree} → Inside n d t (done c v) → Body n d c v o →
-        AtomOf (condition t) n d s o
-    condition_fault : {n d p : ℕ} {s t : State} {k : Kind} → Inside n d t (fault k p) →
-        AtomOf (condition t) n d s (fault k p)
-    a_body : {n d : ℕ} {c : Tree} {s t : State} {o : Outcome Tree} → Body n d c t o → AtomOf (body c t) n d s o
+    a_condition : {d : ℕ} {s t v : State} {c : Tree} {o : Outcome Tree} → Inside d t (done c v) → Body d c v o →
+        AtomOf (condition t) d s o
+    condition_fault : {d p : ℕ} {s t : State} {k : Kind} → Inside d t (fault k p) →
+        AtomOf (condition t) d s (fault k p)
+    a_body : {d : ℕ} {c : Tree} {s t : State} {o : Outcome Tree} → Body d c t o → AtomOf (body c t) d s o
     -- an absent expression's two branches; a stopper's or a clear's one
-    two_branches : {n d : ℕ} {s t v : State} {u : Text} {a : Tree} {q o : Outcome Tree} →
-        Branch n (d + 1) t (done a v) → strip bar v.rest ≡ Some u → Branch n (d + 1) (at v u) q →
-        and_then q (λ e. closed n (absent (expression a e))) ≡ o → AtomOf (absent_branch t) n d s o
-    one_branch : {n d : ℕ} {s t v : State} {a : Tree} {o : Outcome Tree} → Branch n (d + 1) t (done a v) →
-        strip bar v.rest ≡ None → closed n (clear_or_stopper a) v ≡ o → AtomOf (absent_branch t) n d s o
-    absent_fault : {n d p : ℕ} {s t : State} {k : Kind} → Branch n (d + 1) t (fault k p) →
-        AtomOf (absent_branch t) n d s (fault k p)
+    two_branches : {d : ℕ} {s t v : State} {u : Text} {a : Tree} {q o : Outcome Tree} →
+        Branch (d + 1) t (done a v) → strip bar v.rest ≡ Some u → Branch (d + 1) (at v u) q →
+        and_then q (λ e. closed (absent (expression a e))) ≡ o → AtomOf (absent_branch t) d s o
+    one_branch : {d : ℕ} {s t v : State} {a : Tree} {o : Outcome Tree} → Branch (d + 1) t (done a v) →
+        strip bar v.rest ≡ None → closed (clear_or_stopper a) v ≡ o → AtomOf (absent_branch t) d s o
+    absent_fault : {d p : ℕ} {s t : State} {k : Kind} → Branch (d + 1) t (fault k p) →
+        AtomOf (absent_branch t) d s (fault k p)
 
   -- the inside of a group, one level deeper, through its closing parenthesis
-  pub data Inside : ℕ → ℕ → State → Outcome Tree → Type 0 where
-    inside : {n d : ℕ} {s : State} {q o : Outcome Tree} → Alternation n (d + 1) s q → and_then q (closed n) ≡ o →
-        Inside n d s o
+  pub data Inside : ℕ → State → Outcome Tree → Type 0 where
+    inside : {d : ℕ} {s : State} {q o : Outcome Tree} → Alternation (d + 1) s q → and_then q closed ≡ o →
+        Inside d s o
 
   -- the body of a conditional whose condition is the tree, through its closing parenthesis
-  pub data Body : ℕ → ℕ → Tree → State → Outcome Tree → Type 0 where
-    the_body : {n d : ℕ} {c : Tree} {s : State} {q o : Outcome Tree} → Alternation n (d + 1) s q →
-        and_then q (conditional_behind n c (bytes s.rest)) ≡ o → Body n d c s o
+  pub data Body : ℕ → Tree → State → Outcome Tree → Type 0 where
+    the_body : {d : ℕ} {c : Tree} {s : State} {q o : Outcome Tree} → Alternation (d + 1) s q →
+        and_then q (conditional_behind c (bytes s.rest)) ≡ o → Body d c s o
 
 -- ---- a whole text
 
@@ -153,17 +153,17 @@ abbrev pub start : Flags → Text → State
 start f text = record { flags = f; rest = text }
 
 -- the tree, where nothing is left over; what is left can only begin with a closing parenthesis
-abbrev pub ended_at : ℕ → Tree → State → Text → Outcome Tree
-ended_at n r s [] = done r s
-ended_at n r s (c ∷ t) = faulted (close_paren_left_over n s.rest)
+abbrev pub ended_at : Tree → State → Text → Outcome Tree
+ended_at r s [] = done r s
+ended_at r s (c ∷ t) = faulted (close_paren_left_over s.rest)
 
-abbrev pub ended : ℕ → Tree → State → Outcome Tree
-ended n r s = ended_at n r s s.rest
+abbrev pub ended : Tree → State → Outcome Tree
+ended r s = ended_at r s s.rest
 
 -- a whole text under the flags handed in
 pub data Whole : Flags → Text → Outcome Tree → Type 0 where
-  whole : {f : Flags} {text : Text} {q o : Outcome Tree} → Alternation (bytes text) 0 (start f text) q →
-      and_then q (ended (bytes text)) ≡ o → Whole f text o
+  whole : {f : Flags} {text : Text} {q o : Outcome Tree} → Alternation 0 (start f text) q →
+      and_then q ended ≡ o → Whole f text o
 
 -- the grammar derives all of the text, with this raw tree
 abbrev pub DerivesTree : Flags → Text → Tree → Type 0
@@ -171,7 +171,7 @@ DerivesTree f text r = (t : State) × Whole f text (done r t)
 
 -- the reading of the text ends with this fault, at this place
 abbrev pub Faults : Flags → Text → Kind → ℕ → Type 0
-Faults f text k p = Whole f text (fault k p)
+Faults f text k p = (q : ℕ) × Whole f text (fault k q) × (p ≡ place_at (bytes text) q)
 
 -- the trees so far, before those that follow
 abbrev pub trees_before : List Tree → Outcome (List Tree) → Outcome (List Tree)

@@ -13,7 +13,7 @@ pub data Head : Type 0 where
   define : Head
   repeater : Head  -- an absent repeater
 
--- the node round the inside of a group that opens at the place p
+-- the node round the inside of a group that opens at the reach p
 abbrev pub group_node : Head → ℕ → Tree → Tree
 group_node (capture name) p t = ast_node (ast_group name t) p
 group_node scope p t = t

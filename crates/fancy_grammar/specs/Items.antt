@@ -25,7 +25,7 @@ abbrev mutual
   items (conditional c t f) = items c ++ (items t ++ items f)
   items (absent a) = items_absent a
   items (define_group t) = items t
-  items (ast_node node place) = items_ast node place
+  items (ast_node node reach) = items_ast node reach
   items _ = []
 
   pub items_all : Trees → List Item
@@ -39,12 +39,12 @@ abbrev mutual
   items_absent clear = []
 
   pub items_ast : AstTree → ℕ → List Item
-  items_ast (ast_group name t) place = opening (record { place = place; name = name }) ∷ items t
-  items_ast (ast_backref target casei level) place =
-      reference (record { place = place; role = back_reference; target = target }) ∷ []
-  items_ast (ast_call target) place = reference (record { place = place; role = call; target = target }) ∷ []
-  items_ast (ast_condition target level) place = reference
-      (record { place = place; role = condition; target = target }) ∷ []
+  items_ast (ast_group name t) reach = opening (record { reach = reach; name = name }) ∷ items t
+  items_ast (ast_backref target casei level) reach =
+      reference (record { reach = reach; role = back_reference; target = target }) ∷ []
+  items_ast (ast_call target) reach = reference (record { reach = reach; role = call; target = target }) ∷ []
+  items_ast (ast_condition target level) reach = reference
+      (record { reach = reach; role = condition; target = target }) ∷ []
 
 -- the openings among the items
 abbrev pub openings_in : List Item → List Opening

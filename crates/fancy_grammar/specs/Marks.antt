@@ -5,7 +5,7 @@ use Rattle.std.specs.BTreeSet.{insert_key}
 use Rattle.std.specs.List.{list_any}
 use Rattle.std.specs.Ordering.{nat_cmp}
 use Rattle.fancy_lex.specs.Target.{Target, by_number}
-use Rattle.fancy_lex.specs.Text.{Text}
+use Rattle.fancy_lex.specs.Text.{Text, bytes, place_at}
 use Rattle.fancy_lex.specs.declared.flags.Flags.{Flags}
 use Rattle.fancy_parts.specs.Meaning.{Role, back_reference, call, AnyReference, Meaning, number, meaning}
 use Rattle.fancy_parts.specs.Ranks.{Opening, only_named, numbered_openings_in, named_groups}
@@ -54,7 +54,7 @@ marks f text r =
     record {
       backrefs = ascending (filter (λ n. nat_le n total) (back_numbers groups (references r)));
       named_groups = named_groups groups;
-      numeric_capture_group_references = list_any (λ x. is_numeric text x.place x.role x.target) (references r);
+      numeric_capture_group_references = list_any (λ x. is_numeric text (place_at (bytes text) x.reach) x.role x.target) (references r);
       contains_subroutines = list_any (λ x. is_call x.role) (references r);
       self_recursive = list_any (λ x. is_call_of_all x.role x.target) (references r);
       total_groups = total;

@@ -37,7 +37,7 @@ whole_leaf (fault k p) = None
 -- the Delegate that the text alone is read as, which is one whole class or one whole class escape
 unfoldable pub class_of : Flags → Text → Option Tree
 class_of f [] = None
-class_of f (c ∷ t) = whole_leaf (leaf_of (bytes (c ∷ t)) (start f (c ∷ t)) c t)
+class_of f (c ∷ t) = whole_leaf (leaf_of (start f (c ∷ t)) c t)
 
 -- ---- the normal form
 

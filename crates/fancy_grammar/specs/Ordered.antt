@@ -1,12 +1,12 @@
 -- Items in text order.
-use Rattle.std.specs.Prelude.{ℕ, ◌+◌, ◌≤◌, List, [], ◌∷◌}
+use Rattle.std.specs.Prelude.{ℕ, ◌<◌, ◌≤◌, List, [], ◌∷◌}
 use Rattle.fancy_grammar.specs.Items.{Item, opening, reference}
 
-abbrev pub place_of_item : Item → ℕ
-place_of_item (opening o) = o.place
-place_of_item (reference r) = r.place
+abbrev pub reach_of_item : Item → ℕ
+reach_of_item (opening o) = o.reach
+reach_of_item (reference r) = r.reach
 
--- the items stand one behind another, no two at one place: from the place low on, and before the place high
-abbrev pub AscendingPlaces : ℕ → ℕ → List Item → Type 0
-AscendingPlaces low high [] = low ≤ high
-AscendingPlaces low high (i ∷ l) = (low ≤ place_of_item i) × AscendingPlaces (place_of_item i + 1) high l
+-- the items stand one behind another, no two at one place: below the reach high, and from the reach low on
+abbrev pub DescendingReaches : ℕ → ℕ → List Item → Type 0
+DescendingReaches high low [] = low ≤ high
+DescendingReaches high low (i ∷ l) = (reach_of_item i < high) × DescendingReaches (reach_of_item i) low l

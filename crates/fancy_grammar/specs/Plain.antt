@@ -14,7 +14,7 @@ is_special c = c ∈ "()|.^$\\[*+?"
 abbrev pub is_suffix : ℕ → Bool
 is_suffix c = c ∈ "(*+?{"
 
--- the leaf r stands at s in a pattern of n bytes and is a piece at any depth, and t follows it
-pub record IsPlain (n : ℕ) (s : State) (r : Tree) (t : Text) : Type 0 where
+-- the leaf r stands at s and is a piece at any depth, and t follows it
+pub record IsPlain (s : State) (r : Tree) (t : Text) : Type 0 where
   pub more : ends s.rest ≡ false
-  pub piece : (d : ℕ) → Piece n d s (done r (at s t))
+  pub piece : (d : ℕ) → Piece d s (done r (at s t))

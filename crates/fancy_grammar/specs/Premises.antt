@@ -21,28 +21,28 @@ use Rattle.fancy_parts.specs.LetterSteps.{letters}
 -- layout: what stands before the rest of the text, or an open comment
 abbrev pub LayoutIsRelated : Type 0
 LayoutIsRelated =
-    (n : ℕ) (x : Bool) (t : Text) →
-    ((v : Text) → (layout n x t ≡ rest v) ↔ Before x t v)
-    × ((p : ℕ) → (layout n x t ≡ open_comment p) ↔ Unclosed n x t p)
+    (x : Bool) (t : Text) →
+    ((v : Text) → (layout x t ≡ rest v) ↔ Before x t v)
+    × ((p : ℕ) → (layout x t ≡ open_comment p) ↔ Unclosed x t p)
 
 -- a class behind its bracket
 abbrev pub ClassIsRelated : Type 0
-ClassIsRelated = (n : ℕ) (f : Flags) (t : Text) (o : Reading Text) → (class n f t ≡ o) ↔ OuterClass n f t o
+ClassIsRelated = (f : Flags) (t : Text) (o : Reading Text) → (class f t ≡ o) ↔ OuterClass f t o
 
 -- the letters of a flag group
 abbrev pub LettersAreRelated : Type 0
-LettersAreRelated = (n : ℕ) (f : Flags) (t : Text) (o : Reading Letters) → (letters n f t ≡ o) ↔ FlagGroup n f t o
+LettersAreRelated = (f : Flags) (t : Text) (o : Reading Letters) → (letters f t ≡ o) ↔ FlagGroup f t o
 
 -- a boundary behind its letter
 abbrev pub BoundaryIsRelated : Type 0
 BoundaryIsRelated =
-    (n : ℕ) (x : Bool) (p : ℕ) (negated : Bool) (t : Text) (o : Reading Escape) →
-    (boundary n x p negated t ≡ o) ↔ Boundary n x p negated t o
+    (x : Bool) (p : ℕ) (negated : Bool) (t : Text) (o : Reading Escape) →
+    (boundary x p negated t ≡ o) ↔ Boundary x p negated t o
 
 -- a hex code behind its letter
 abbrev pub HexIsRelated : Type 0
 HexIsRelated =
-    (n : ℕ) (f : Flags) (width : ℕ) (t : Text) (o : Reading Escape) → (hex n f width t ≡ o) ↔ HexCode n f width t o
+    (f : Flags) (width : ℕ) (t : Text) (o : Reading Escape) → (hex f width t ≡ o) ↔ HexCode f width t o
 
 -- a number at the front
 abbrev pub NumberIsRelated : Type 0

@@ -68,25 +68,25 @@ suffix_at s c (rest t) = choose (strip (code "?") t) (behind_lazy s c true) (beh
 suffix_at s c (open_comment p) = faulted (comment_not_closed p)
 
 -- the marks behind the counts
-abbrev pub suffix : ℕ → State → Counts → Outcome Suffix
-suffix n s c = suffix_at s c (skipped n s)
+abbrev pub suffix : State → Counts → Outcome Suffix
+suffix s c = suffix_at s c (skipped s)
 
 -- the tree under these counts; where it is not repeatable, the fault stands at the mark or the closing brace
-abbrev pub with_counts : ℕ → ℕ → Tree → State → Option (Counts × Text) → Outcome Tree
-with_counts n left a s None = done a s
-with_counts n left a s (Some (c, t)) =
-    if is_repeatable s.flags a then seen_through (λ m. quantified s.flags c m a) (suffix n (at s t) c)
-    else if is_dropped s.flags left a t then seen_through (λ m. a) (suffix n (at s t) c)
-    else faulted (not_repeatable n t)
+abbrev pub with_counts : ℕ → Tree → State → Option (Counts × Text) → Outcome Tree
+with_counts left a s None = done a s
+with_counts left a s (Some (c, t)) =
+    if is_repeatable s.flags a then seen_through (λ m. quantified s.flags c m a) (suffix (at s t) c)
+    else if is_dropped s.flags left a t then seen_through (λ m. a) (suffix (at s t) c)
+    else faulted (not_repeatable t)
 
 -- behind the layout before a quantifier
-abbrev pub quant_at : ℕ → ℕ → Tree → State → Skipped → Outcome Tree
-quant_at n left a s (rest t) = with_counts n left a (at s t) (counts s.flags.ignore_space t)
-quant_at n left a s (open_comment p) = faulted (comment_not_closed p)
+abbrev pub quant_at : ℕ → Tree → State → Skipped → Outcome Tree
+quant_at left a s (rest t) = with_counts left a (at s t) (counts s.flags.ignore_space t)
+quant_at left a s (open_comment p) = faulted (comment_not_closed p)
 
 -- layout, and the tree under the quantifier that follows it, or the tree itself where none does
-unfoldable pub quant : ℕ → ℕ → Tree → State → Outcome Tree
-quant n left a s = quant_at n left a s (skipped n s)
+unfoldable pub quant : ℕ → Tree → State → Outcome Tree
+quant left a s = quant_at left a s (skipped s)
 
 -- no byte was taken between the states
 abbrev pub is_unmoved : State → State → Bool
@@ -98,16 +98,16 @@ may_count zero d = false
 may_count (suc k) d = nat_lt (d + 1) max_depth
 
 -- adjacent quantifiers at depth d: each that takes a byte counts, and is one level deeper; k may count
-unfoldable pub adjacent : ℕ → ℕ → ℕ → Tree → State → Outcome Tree
-adjacent zero n d a s =
-    and_then (quant n (bytes s.rest) a s) (λ b t.
+unfoldable pub adjacent : ℕ → ℕ → Tree → State → Outcome Tree
+adjacent zero d a s =
+    and_then (quant (bytes s.rest) a s) (λ b t.
     if is_unmoved s t then done b t
-    else faulted (quantifier_too_deep n t.rest))
-adjacent (suc k) n d a s =
-    and_then (quant n (bytes s.rest) a s) (λ b t.
+    else faulted (quantifier_too_deep t.rest))
+adjacent (suc k) d a s =
+    and_then (quant (bytes s.rest) a s) (λ b t.
     if is_unmoved s t then done b t
-    else if nat_lt (d + 1) max_depth then adjacent k n (d + 1) b t
-    else faulted (quantifier_too_deep n t.rest))
+    else if nat_lt (d + 1) max_depth then adjacent k (d + 1) b t
+    else faulted (quantifier_too_deep t.rest))
 
 -- how many adjacent quantifiers may follow the first
 abbrev pub max_adjacent : ℕ
@@ -115,6 +115,6 @@ max_adjacent = 4
 
 -- the quantifiers of an atom at depth d, before which so many bytes were left: one, and in Oniguruma mode those
 -- adjacent to it
-abbrev pub quants : ℕ → ℕ → ℕ → Tree → State → Outcome Tree
-quants n d left a s =
-    and_then (quant n left a s) (λ b t. if t.flags.oniguruma_mode then adjacent max_adjacent n d b t else done b t)
+abbrev pub quants : ℕ → ℕ → Tree → State → Outcome Tree
+quants d left a s =
+    and_then (quant left a s) (λ b t. if t.flags.oniguruma_mode then adjacent max_adjacent d b t else done b t)

@@ -16,22 +16,22 @@ abbrev pub at : State → Text → State
 at s t = record s { rest = t }
 
 -- the layout at the front of the state's text
-abbrev pub skipped : ℕ → State → Skipped
-skipped n s = layout n s.flags.ignore_space s.rest
+abbrev pub skipped : State → Skipped
+skipped s = layout s.flags.ignore_space s.rest
 
 -- a branch ends here: at the end, a bar or a closing parenthesis
 abbrev pub ends : Text → Bool
 ends [] = true
 ends (c ∷ t) = c ∈ "|)"
 
--- what is read, with the state after it; or the fault that ends the reading, with its place
+-- what is read, with the state after it; or the fault that ends the reading, with its reach
 pub data Outcome (A : Type 0) : Type 0 where
   done : A → State → Outcome A
   fault : Kind → ℕ → Outcome A
 
 -- this fault, as an outcome
 abbrev pub faulted : {A : Type 0} → Fault → Outcome A
-faulted e = fault e.kind e.place
+faulted e = fault e.kind e.reach
 
 -- one part behind another: a fault of the first is that of both
 abbrev pub and_then : {A B : Type 0} → Outcome A → (A → State → Outcome B) → Outcome B

@@ -4,7 +4,7 @@ use Rattle.std.specs.BTreeSet.{insert_key}
 use Rattle.std.specs.Ordering.{nat_cmp}
 use Rattle.fancy_lex.specs.Fault.{Fault}
 use Rattle.fancy_lex.specs.Target.{Target}
-use Rattle.fancy_lex.specs.Text.{Text}
+use Rattle.fancy_lex.specs.Text.{Text, bytes, place_at}
 use Rattle.fancy_parts.specs.Groups.{Groups, with_opening, numbers_under}
 use Rattle.fancy_parts.specs.Meaning.{Role, AnyReference, Meaning, number, means, fault_or}
 use Rattle.fancy_parts.specs.Ranks.{is_counted}
@@ -80,10 +80,10 @@ note_reference_with k s r m = record {
   passed = s.passed;
   backrefs = with_backref k.groups.total s.backrefs (back_number r.role m);
   out_of_range = or_else s.out_of_range (number_above k.groups.total (back_number r.role m));
-  numeric = s.numeric || is_numeric k.text r.place r.role r.target;
+  numeric = s.numeric || is_numeric k.text (place_at (bytes k.text) r.reach) r.role r.target;
   calls = s.calls || is_call r.role;
   self_recursive = s.self_recursive || is_call_of_all r.role r.target;
-  fault = or_else s.fault (fault_or m r.place None);
+  fault = or_else s.fault (fault_or m r.reach None);
 }
 
 -- what a target means to the walk, by the groups that it has passed
@@ -97,13 +97,13 @@ number_in _ = None
 
 -- what is noted of a reference
 abbrev pub note_reference : Known → Progress → ℕ → Role → Target → Progress
-note_reference k s place role target =
-    note_reference_with k s (record { place = place; role = role; target = target }) (means_here k s role target)
+note_reference k s reach role target =
+    note_reference_with k s (record { reach = reach; role = role; target = target }) (means_here k s role target)
 
 -- what is noted of an item: a group with a number is passed
 abbrev pub note_item : Known → Progress → Item → Progress
 note_item k s (opening o) = record s { passed = if is_counted k.named o.name then s.passed + 1 else s.passed }
-note_item k s (reference r) = note_reference k s r.place r.role r.target
+note_item k s (reference r) = note_reference k s r.reach r.role r.target
 
 -- what is noted of the items, one after another
 abbrev pub progress_after : Known → Progress → List Item → Progress
@@ -123,10 +123,10 @@ abbrev mutual
       (rebuilt k (progress_after k (progress_after k s (items c)) (items t)) f)
   rebuilt k s (absent a) = absent (rebuilt_absent k s a)
   rebuilt k s (define_group t) = define_group (rebuilt k s t)
-  rebuilt k s (ast_node (ast_group name t) place) =
-      let inside = note_item k s (opening (record { place = place; name = name })) in
+  rebuilt k s (ast_node (ast_group name t) reach) =
+      let inside = note_item k s (opening (record { reach = reach; name = name })) in
       group_or_inside (is_counted k.named name) (rebuilt k inside t)
-  rebuilt k s (ast_node node place) = resolved_node (numbers_under k.groups.names) s.passed node place
+  rebuilt k s (ast_node node reach) = resolved_node (bytes k.text) (numbers_under k.groups.names) s.passed node reach
   rebuilt k s t = t
 
   pub rebuilt_all : Known → Progress → Trees → Trees

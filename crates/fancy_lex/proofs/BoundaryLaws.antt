@@ -13,13 +13,12 @@ use Rattle.fancy_lex.specs.BoundaryName.{after_name, known_boundary, name_fault,
 use Rattle.fancy_lex.specs.Characters.{close_brace}
 use Rattle.fancy_lex.specs.Escaped.{assertion}
 use Rattle.fancy_lex.specs.Fault.{unclosed_open_paren, invalid_escape}
-use Rattle.fancy_lex.specs.LayoutSteps.{Skipped, rest, fault, layout}
+use Rattle.fancy_lex.specs.LayoutSteps.{Skipped, rest, fault, rest_of, layout}
 use Rattle.fancy_lex.specs.Reading.{Reading, gives, fails, ◌>=>◌, fault_at}
 use Rattle.fancy_lex.specs.Text.{Text, strip}
 use Rattle.fancy_lex.proofs.BoundaryLemmas.{after_name_open, after_name_end, after_name_step, after_name_other}
 use Rattle.fancy_lex.proofs.BoundaryLemmas.{name_start, name_end, name_start_half, name_end_half}
 use Rattle.fancy_lex.proofs.LayoutLaws.{layout_length}
-use Rattle.fancy_lex.proofs.LayoutLemmas.{past_layout_is}
 use Rattle.fancy_lex.proofs.TextLemmas.{strip_is, strip_same}
 
 -- no closing brace stands in the word
@@ -35,109 +34,109 @@ plain_head c w b = by (c == close_brace) refl b where
   by false e b = (refl, b)
 
 -- one step of a name
-module _ (n : ℕ) (x : Bool) (p k : ℕ) (t : Text) where
-  pub name_open : (q : ℕ) → layout n x t ≡ fault q → name n x p (suc k) t ≡ fault_at q unclosed_open_paren
+module _ (x : Bool) (p k : ℕ) (t : Text) where
+  pub name_open : (q : ℕ) → layout x t ≡ fault q → name x p (suc k) t ≡ fault_at q unclosed_open_paren
   unfolding name
   name_open q e = rw e refl
 
-  pub name_unclosed : layout n x t ≡ rest [] → name n x p (suc k) t ≡ fault_at p (invalid_escape (codes "\\b{...}"))
+  pub name_unclosed : layout x t ≡ rest [] → name x p (suc k) t ≡ fault_at p (invalid_escape (codes "\\b{...}"))
   unfolding name
   name_unclosed e = rw e refl
 
-  pub name_close : (c : ℕ) (r : Text) → layout n x t ≡ rest (c ∷ r) → (c == close_brace) ≡ true →
-      name n x p (suc k) t ≡ gives [] r
+  pub name_close : (c : ℕ) (r : Text) → layout x t ≡ rest (c ∷ r) → (c == close_brace) ≡ true →
+      name x p (suc k) t ≡ gives [] r
   unfolding name
   name_close c r e h = rw (e, h) refl
 
-  pub name_step : (c : ℕ) (r : Text) → layout n x t ≡ rest (c ∷ r) → (c == close_brace) ≡ false →
-      name n x p (suc k) t ≡ (name n x p k r >=> (λ w v. gives (c ∷ w) v))
+  pub name_step : (c : ℕ) (r : Text) → layout x t ≡ rest (c ∷ r) → (c == close_brace) ≡ false →
+      name x p (suc k) t ≡ (name x p k r >=> (λ w v. gives (c ∷ w) v))
   unfolding name
   name_step c r e h = rw (e, h) refl
 
 -- a spelled word is the name: one step, where it is so for the steps left
-module _ (n : ℕ) (x : Bool) (p k : ℕ) (v : Text)
-    (more : (w r : Text) → no_brace w ≡ true → length r < k → after_name x w r ≡ Some v → name n x p k r ≡ gives w v)
+module _ (x : Bool) (p k : ℕ) (v : Text)
+    (more : (w r : Text) → no_brace w ≡ true → length r < k → after_name x w r ≡ Some v → name x p k r ≡ gives w v)
     (t : Text) (few : length t < suc k) where
-  gives_rest : (u : Text) → layout n x t ≡ rest u → (w : Text) → no_brace w ≡ true → after_name x w t ≡ Some v →
-      name n x p (suc k) t ≡ gives w v
+  gives_rest : (u : Text) → layout x t ≡ rest u → (w : Text) → no_brace w ≡ true → after_name x w t ≡ Some v →
+      name x p (suc k) t ≡ gives w v
   gives_rest u q [] b e =
-      let here = strip_is close_brace u v (sym (after_name_end x [] t u refl (past_layout_is n x t _ q)) ∙ e) in
-      name_close n x p k t close_brace v (q ∙ ap rest here) refl
+      let here = strip_is close_brace u v (sym (after_name_end x [] t u refl (ap rest_of q)) ∙ e) in
+      name_close x p k t close_brace v (q ∙ ap rest here) refl
   gives_rest u q (c ∷ w) b e = by (strip c u) refl where
     heads : ((c == close_brace) ≡ false) × (no_brace w ≡ true)
     heads = plain_head c w b
 
-    by : (o : Option Text) → strip c u ≡ o → name n x p (suc k) t ≡ gives (c ∷ w) v
-    by None h = let none = sym (after_name_other x (c ∷ w) t c w u refl (past_layout_is n x t _ q) h) ∙ e in absurd (cc)
+    by : (o : Option Text) → strip c u ≡ o → name x p (suc k) t ≡ gives (c ∷ w) v
+    by None h = let none = sym (after_name_other x (c ∷ w) t c w u refl (ap rest_of q) h) ∙ e in absurd (cc)
     by (Some r) h =
         let here : u ≡ c ∷ r = strip_is c u r h in
         let after : after_name x w r ≡ Some v =
-        sym (after_name_step x (c ∷ w) t c w u r refl (past_layout_is n x t _ q) h) ∙ e in
-        let short = layout_length n x t u q in
+        sym (after_name_step x (c ∷ w) t c w u r refl (ap rest_of q) h) ∙ e in
+        let short = layout_length x t u q in
         let fewer : length r < k = omega (arith, ap length here) in
-        let name_is : name n x p k r ≡ gives w v = more w r heads.1 fewer after in
-        name_step n x p k t c r (q ∙ ap rest here) heads.0 ∙ rw name_is refl
+        let name_is : name x p k r ≡ gives w v = more w r heads.1 fewer after in
+        name_step x p k t c r (q ∙ ap rest here) heads.0 ∙ rw name_is refl
 
-  gives_at : (o : Skipped) → layout n x t ≡ o → (w : Text) → no_brace w ≡ true → after_name x w t ≡ Some v →
-      name n x p (suc k) t ≡ gives w v
+  gives_at : (o : Skipped) → layout x t ≡ o → (w : Text) → no_brace w ≡ true → after_name x w t ≡ Some v →
+      name x p (suc k) t ≡ gives w v
   gives_at (rest u) q w b e = gives_rest u q w b e
-  gives_at (fault m) q w b e = let none = sym (after_name_open x w t (past_layout_is n x t _ q)) ∙ e in absurd (cc)
+  gives_at (fault m) q w b e = let none = sym (after_name_open x w t (ap rest_of q)) ∙ e in absurd (cc)
 
 -- a spelled word is the name
-pub after_name_gives : (n : ℕ) (x : Bool) (p k : ℕ) (v w t : Text) → no_brace w ≡ true → length t < k →
-    after_name x w t ≡ Some v → name n x p k t ≡ gives w v
-after_name_gives n x p zero v w t b l e = absurd (omega arith)
-after_name_gives n x p (suc k) v w t b l e =
-    gives_at n x p k v (after_name_gives n x p k v) t l (layout n x t) refl w b e
+pub after_name_gives : (x : Bool) (p k : ℕ) (v w t : Text) → no_brace w ≡ true → length t < k →
+    after_name x w t ≡ Some v → name x p k t ≡ gives w v
+after_name_gives x p zero v w t b l e = absurd (omega arith)
+after_name_gives x p (suc k) v w t b l e =
+    gives_at x p k v (after_name_gives x p k v) t l (layout x t) refl w b e
 
 -- and the name is spelled: one step
-module _ (n : ℕ) (x : Bool) (p k : ℕ) (more : (w r v : Text) → name n x p k r ≡ gives w v → after_name x w r ≡ Some v)
-    (t w v : Text) (e : name n x p (suc k) t ≡ gives w v) where
-  spells_step : (c : ℕ) (r : Text) → layout n x t ≡ rest (c ∷ r) → (c == close_brace) ≡ false → (o : Reading Text) →
-      name n x p k r ≡ o → after_name x w t ≡ Some v
+module _ (x : Bool) (p k : ℕ) (more : (w r v : Text) → name x p k r ≡ gives w v → after_name x w r ≡ Some v)
+    (t w v : Text) (e : name x p (suc k) t ≡ gives w v) where
+  spells_step : (c : ℕ) (r : Text) → layout x t ≡ rest (c ∷ r) → (c == close_brace) ≡ false → (o : Reading Text) →
+      name x p k r ≡ o → after_name x w t ≡ Some v
   spells_step c r q h (gives w' v') i =
-      let step : gives (c ∷ w') v' ≡ gives w v = rw i at (sym (name_step n x p k t c r q h)) ∙ e in
+      let step : gives (c ∷ w') v' ≡ gives w v = rw i at (sym (name_step x p k t c r q h)) ∙ e in
       let word : w ≡ c ∷ w' = cc in
       let left : v' ≡ v = cc in
-      after_name_step x w t c w' (c ∷ r) r word (past_layout_is n x t _ q) (strip_same c r) ∙ more w' r v' i
+      after_name_step x w t c w' (c ∷ r) r word (ap rest_of q) (strip_same c r) ∙ more w' r v' i
       ∙ ap Some left
-  spells_step c r q h (fails f) i = let step = rw i at (sym (name_step n x p k t c r q h)) ∙ e in absurd (cc)
+  spells_step c r q h (fails f) i = let step = rw i at (sym (name_step x p k t c r q h)) ∙ e in absurd (cc)
 
-  spells_rest : (c : ℕ) (r : Text) → layout n x t ≡ rest (c ∷ r) → (b : Bool) → (c == close_brace) ≡ b →
+  spells_rest : (c : ℕ) (r : Text) → layout x t ≡ rest (c ∷ r) → (b : Bool) → (c == close_brace) ≡ b →
       after_name x w t ≡ Some v
   spells_rest c r q true h =
-      let step : gives [] r ≡ gives w v = sym (name_close n x p k t c r q h) ∙ e in
+      let step : gives [] r ≡ gives w v = sym (name_close x p k t c r q h) ∙ e in
       let word : w ≡ [] = cc in
       let left : r ≡ v = cc in
-      after_name_end x w t (c ∷ r) word (past_layout_is n x t _ q) ∙ rw h refl ∙ ap Some left
-  spells_rest c r q false h = spells_step c r q h (name n x p k r) refl
+      after_name_end x w t (c ∷ r) word (ap rest_of q) ∙ rw h refl ∙ ap Some left
+  spells_rest c r q false h = spells_step c r q h (name x p k r) refl
 
-  spells_at : (o : Skipped) → layout n x t ≡ o → after_name x w t ≡ Some v
-  spells_at (fault m) q = let step = sym (name_open n x p k t m q) ∙ e in absurd (cc)
-  spells_at (rest []) q = let step = sym (name_unclosed n x p k t q) ∙ e in absurd (cc)
+  spells_at : (o : Skipped) → layout x t ≡ o → after_name x w t ≡ Some v
+  spells_at (fault m) q = let step = sym (name_open x p k t m q) ∙ e in absurd (cc)
+  spells_at (rest []) q = let step = sym (name_unclosed x p k t q) ∙ e in absurd (cc)
   spells_at (rest (c ∷ r)) q = spells_rest c r q (c == close_brace) refl
 
-name_out : (n : ℕ) (x : Bool) (p : ℕ) (t : Text) → name n x p zero t ≡ fault_at p (invalid_escape (codes "\\b{...}"))
+name_out : (x : Bool) (p : ℕ) (t : Text) → name x p zero t ≡ fault_at p (invalid_escape (codes "\\b{...}"))
 unfolding name
-name_out n x p t = refl
+name_out x p t = refl
 
-pub gives_after_name : (n : ℕ) (x : Bool) (p k : ℕ) (w t v : Text) → name n x p k t ≡ gives w v →
+pub gives_after_name : (x : Bool) (p k : ℕ) (w t v : Text) → name x p k t ≡ gives w v →
     after_name x w t ≡ Some v
-gives_after_name n x p zero w t v e = let out = sym (name_out n x p t) ∙ e in absurd (cc)
-gives_after_name n x p (suc k) w t v e = spells_at n x p k (gives_after_name n x p k) t w v e (layout n x t) refl
+gives_after_name x p zero w t v e = let out = sym (name_out x p t) ∙ e in absurd (cc)
+gives_after_name x p (suc k) w t v e = spells_at x p k (gives_after_name x p k) t w v e (layout x t) refl
 
-module _ (n : ℕ) (x : Bool) (p : ℕ) (t v : Text) where
+module _ (x : Bool) (p : ℕ) (t v : Text) where
   braced_word : (w : Text) → no_brace w ≡ true → (a : Assertion) → boundary_of_name false w ≡ Some a →
-      after_name x w t ≡ Some v → named_boundary n x p false t ≡ gives (assertion a) v
+      after_name x w t ≡ Some v → named_boundary x p false t ≡ gives (assertion a) v
   unfolding named_boundary
   braced_word w b a q e =
-      let name_is : name n x p (suc (length t)) t ≡ gives w v =
-      after_name_gives n x p (suc (length t)) v w t b (omega arith) e in
+      let name_is : name x p (suc (length t)) t ≡ gives w v =
+      after_name_gives x p (suc (length t)) v w t b (omega arith) e in
       rw (name_is, q) refl
 
   braced_as : (a b : Assertion) (r : Text) → known_boundary x t ≡ Some (b, r) →
-      named_boundary n x p false t ≡ gives (assertion b) r → known_boundary x t ≡ Some (a, v) →
-      named_boundary n x p false t ≡ gives (assertion a) v
+      named_boundary x p false t ≡ gives (assertion b) r → known_boundary x t ≡ Some (a, v) →
+      named_boundary x p false t ≡ gives (assertion a) v
   braced_as a b r s h e =
       let both = sym s ∙ e in
       let pair : ◌≡◌ {A = Assertion × Text} (b, r) (a, v) = cc in
@@ -173,48 +172,48 @@ which_word x t = first (after_name x (codes "start") t) refl where
   first (Some v) h = word (codes "start") v LeftWordBoundary refl refl h (name_start x t v h)
   first None h = second h (after_name x (codes "end") t) refl
 
-pub braced_named : (n : ℕ) (x : Bool) (p : ℕ) (t v : Text) (a : Assertion) → known_boundary x t ≡ Some (a, v) →
-    named_boundary n x p false t ≡ gives (assertion a) v
-braced_named n x p t v a e =
+pub braced_named : (x : Bool) (p : ℕ) (t v : Text) (a : Assertion) → known_boundary x t ≡ Some (a, v) →
+    named_boundary x p false t ≡ gives (assertion a) v
+braced_named x p t v a e =
     elim (which_word x t) [
-      | word w r b m q h s ↦ braced_as n x p t v a b r s (braced_word n x p t r w m b q h) e
+      | word w r b m q h s ↦ braced_as x p t v a b r s (braced_word x p t r w m b q h) e
       | no_word _ _ _ _ s ↦ let none = sym s ∙ e in absurd (cc)
     ]
 
 -- no name is a word that is not spelled
-not_word : (n : ℕ) (x : Bool) (p k : ℕ) (t w v known : Text) → name n x p k t ≡ gives w v →
+not_word : (x : Bool) (p k : ℕ) (t w v known : Text) → name x p k t ≡ gives w v →
     after_name x known t ≡ None → bytes_eq w known ≡ false
-not_word n x p k t w v known e h = by (bytes_eq w known) refl where
+not_word x p k t w v known e h = by (bytes_eq w known) refl where
   by : (b : Bool) → bytes_eq w known ≡ b → bytes_eq w known ≡ false
   by false q = q
   by true q =
       let same : w ≡ known = (bytes_eq-Decides w known).0 q in
-      let some = sym h ∙ gives_after_name n x p k known t v (e ∙ ap (λ u. gives u v) same) in
+      let some = sym h ∙ gives_after_name x p k known t v (e ∙ ap (λ u. gives u v) same) in
       absurd (cc)
 
 -- so it is refused
-module _ (n : ℕ) (x : Bool) (p : ℕ) (t : Text) (a : after_name x (codes "start") t ≡ None)
+module _ (x : Bool) (p : ℕ) (t : Text) (a : after_name x (codes "start") t ≡ None)
     (b : after_name x (codes "end") t ≡ None) (d : after_name x (codes "start-half") t ≡ None)
     (e : after_name x (codes "end-half") t ≡ None) where
-  name_unknown : (o : Reading Text) → name n x p (suc (length t)) t ≡ o →
-      named_boundary n x p false t ≡ name_fault n x p false t
+  name_unknown : (o : Reading Text) → name x p (suc (length t)) t ≡ o →
+      named_boundary x p false t ≡ name_fault x p false t
   unfolding named_boundary name_fault name_fault_behind
   name_unknown (gives w v) h =
       let no : (known : Text) → after_name x known t ≡ None → bytes_eq w known ≡ false =
-      λ known none. not_word n x p (suc (length t)) t w v known h none in
+      λ known none. not_word x p (suc (length t)) t w v known h none in
       rw (h, no (codes "start") a, no (codes "end") b, no (codes "start-half") d, no (codes "end-half") e) refl
   name_unknown (fails f) h = rw h refl
 
-pub braced_unknown : (n : ℕ) (x : Bool) (p : ℕ) (t : Text) → known_boundary x t ≡ None →
-    named_boundary n x p false t ≡ name_fault n x p false t
-braced_unknown n x p t e =
+pub braced_unknown : (x : Bool) (p : ℕ) (t : Text) → known_boundary x t ≡ None →
+    named_boundary x p false t ≡ name_fault x p false t
+braced_unknown x p t e =
     elim (which_word x t) [
       | word w r b m q h s ↦ let none = sym s ∙ e in absurd (cc)
-      | no_word a b d f s ↦ name_unknown n x p t a b d f (name n x p (suc (length t)) t) refl
+      | no_word a b d f s ↦ name_unknown x p t a b d f (name x p (suc (length t)) t) refl
     ]
 
-pub braced_negated : (n : ℕ) (x : Bool) (p : ℕ) (t : Text) → named_boundary n x p true t ≡ name_fault n x p true t
+pub braced_negated : (x : Bool) (p : ℕ) (t : Text) → named_boundary x p true t ≡ name_fault x p true t
 unfolding named_boundary name_fault name_fault_behind
-braced_negated n x p t = refl
+braced_negated x p t = refl
 
 pub ruleset braced_steps = (braced_named, braced_unknown, braced_negated)

@@ -2,8 +2,8 @@
 use Rattle.std.proofs.Common.{◌≡◌, ◌≢◌, ℕ, zero, suc, pred, ◌<◌, ◌≤◌, Bool, false, ◌==◌, [], ◌∷◌, ◌++◌, length, codes}
 use Rattle.std.proofs.Common.{Option, Some, None, option_map, refl, ap, sym, ◌∙◌, append_assoc, arith}
 use Rattle.std.proofs.lemmas.Bool.Decides.{nat_tests}
-use Rattle.fancy_lex.specs.declared.error.Error.{Error}
-use Rattle.fancy_lex.specs.declared.error.Error.TheVariants.{ParseError, OutOfMemory}
+use Rattle.fancy_lex.specs.declared.error.Failure.{Failure}
+use Rattle.fancy_lex.specs.declared.error.Failure.TheVariants.{At, OutOfMemory}
 use Rattle.fancy_lex.specs.BoundarySteps.{name}
 use Rattle.fancy_lex.specs.Fault.{invalid_escape}
 use Rattle.fancy_lex.specs.FaultTable.{boundary_head}
@@ -79,47 +79,47 @@ same_after (gives w v) f g h = h w
 same_after (fails e) f g h = refl
 
 -- one step of the name that a fault tells
-module _ (n : ℕ) (x : Bool) (p : ℕ) (out t : Text) where
-  pub name_fault_open : (k : ℕ) (b : Error) → 0 < k → Says b (layout_reading (layout n x t)) →
-      Reports b (name_fault_behind n x p out k t)
+module _ (x : Bool) (p : ℕ) (out t : Text) where
+  pub name_fault_open : (k : ℕ) (b : Failure) → 0 < k → Says b (layout_reading (layout x t)) →
+      Reports b (name_fault_behind x p out k t)
   unfolding name_fault_behind name
   name_fault_open zero b l e = absurd (omega arith)
-  name_fault_open (suc k) (ParseError q d) l e = rw e refl
+  name_fault_open (suc k) (At q d) l e = rw e refl
   name_fault_open (suc k) OutOfMemory l e = absurd e
 
-  pub name_fault_end : (k : ℕ) (u : Text) → layout_reading (layout n x t) ≡ gives tt u → u ≡ [] →
-      name_fault_behind n x p out k t ≡ fault_at p (invalid_escape (codes "\\b{...}"))
+  pub name_fault_end : (k : ℕ) (u : Text) → layout_reading (layout x t) ≡ gives tt u → u ≡ [] →
+      name_fault_behind x p out k t ≡ fault_at p (invalid_escape (codes "\\b{...}"))
   unfolding name_fault_behind name
   name_fault_end zero u e z = refl
   name_fault_end (suc k) u e z = rw (e, z) refl
 
-  module _ (u : Text) (e : layout_reading (layout n x t) ≡ gives tt u) (c : ℕ) (r : Text) (q : u ≡ c ∷ r) where
+  module _ (u : Text) (e : layout_reading (layout x t) ≡ gives tt u) (c : ℕ) (r : Text) (q : u ≡ c ∷ r) where
     pub name_fault_close : (k : ℕ) (o : Text) → 0 < k → c ≡ close_brace → o ≡ out ++ c ∷ [] →
-        name_fault_behind n x p out k t ≡ fault_at p (invalid_escape o)
+        name_fault_behind x p out k t ≡ fault_at p (invalid_escape o)
     unfolding name_fault_behind name
     name_fault_close zero o l h s = absurd (omega arith)
     name_fault_close (suc k) o l h s = rw (e, q, s, h) refl
 
     pub name_fault_step : (k : ℕ) (o : Text) → 0 < k → c ≢ close_brace → o ≡ out ++ c ∷ [] →
-        name_fault_behind n x p out k t ≡ name_fault_behind n x p o (pred k) r
+        name_fault_behind x p out k t ≡ name_fault_behind x p o (pred k) r
     unfolding name_fault_behind name
     name_fault_step zero o l h s = absurd (omega arith)
     name_fault_step (suc k) o l h s =
         let other : (c == close_brace) ≡ false = grind (arith, nat_tests) in
         rw (e, q, other, s)
-        (longer (name n x p k r) (λ w. fault_at p (invalid_escape (out ++ (w ++ codes "}")))) c
-        ∙ same_after (name n x p k r) _ _
+        (longer (name x p k r) (λ w. fault_at p (invalid_escape (out ++ (w ++ codes "}")))) c
+        ∙ same_after (name x p k r) _ _
         (λ w. ap (λ s. fault_at p (invalid_escape s)) (sym (append_assoc out (c ∷ []) (w ++ codes "}")))))
 
-pub name_fault_from : (n : ℕ) (x : Bool) (p : ℕ) (negated : Bool) (out t : Text) → out ≡ boundary_head negated →
-    name_fault n x p negated t ≡ name_fault_behind n x p out (suc (length t)) t
+pub name_fault_from : (x : Bool) (p : ℕ) (negated : Bool) (out t : Text) → out ≡ boundary_head negated →
+    name_fault x p negated t ≡ name_fault_behind x p out (suc (length t)) t
 unfolding name_fault
-name_fault_from n x p negated out t e = ap (λ o. name_fault_behind n x p o (suc (length t)) t) (sym e)
+name_fault_from x p negated out t e = ap (λ o. name_fault_behind x p o (suc (length t)) t) (sym e)
 
 -- a step leaves less of the text
-pub step_length : (n : ℕ) (x : Bool) (t u r : Text) (c k : ℕ) → layout_reading (layout n x t) ≡ gives tt u → u ≡ c ∷ r →
+pub step_length : (x : Bool) (t u r : Text) (c k : ℕ) → layout_reading (layout x t) ≡ gives tt u → u ≡ c ∷ r →
     length t < k → length r < pred k
-step_length n x t u r c k e q m = let short = layout_length n x t u (rest_from_reading _ u e) in
+step_length x t u r c k e q m = let short = layout_length x t u (rest_from_reading _ u e) in
     shorter k (ap length q) short m where
       shorter : (k : ℕ) → length u ≡ suc (length r) → length u ≤ length t → length t < k → length r < pred k
       shorter zero a b m = absurd (omega arith)

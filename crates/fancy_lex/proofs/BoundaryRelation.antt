@@ -3,7 +3,7 @@ use Rattle.std.proofs.Common.{◌≡◌, ◌≢◌, ℕ, zero, suc, ◌<◌, Boo
 use Rattle.std.proofs.Common.{Option, Some, None, refl, ap, ◌∙◌, subst, arith}
 use Rattle.std.proofs.lemmas.Bool.Decides.{nat_tests}
 use Rattle.std.specs.Borrow.{Bor}
-use Rattle.fancy_lex.specs.declared.error.Error.{Error}
+use Rattle.fancy_lex.specs.declared.error.Failure.{Failure}
 use Rattle.fancy_lex.specs.declared.escape.Assertion.{Assertion}
 use Rattle.fancy_lex.specs.declared.escape.Escaped.{Escaped}
 use Rattle.fancy_lex.specs.Boundary.{boundary_of_name, unnamed_boundary, at_count}
@@ -36,164 +36,164 @@ brace_is_not c e = grind (arith, nat_tests)
 
 -- ---- the name in braces
 
-module _ (n : ℕ) (x : Bool) (p : ℕ) where
+module _ (x : Bool) (p : ℕ) where
   -- what the function answers, with more steps left than characters
-  named_more : (c : ℕ) (t u : Text) → c ≢ close_brace → Before x t (c ∷ u) → (o : Reading Text) → BracedName n x p u o →
-      BracedName n x p t (o >=> (λ w v. gives (c ∷ w) v))
+  named_more : (c : ℕ) (t u : Text) → c ≢ close_brace → Before x t (c ∷ u) → (o : Reading Text) → BracedName x p u o →
+      BracedName x p t (o >=> (λ w v. gives (c ∷ w) v))
   named_more c t u d b (gives w v) h = character d b h
   named_more c t u d b (fails e) h = fault_behind d b h
 
-  module _ (k : ℕ) (more : (u : Text) → length u < k → BracedName n x p u (name n x p k u)) (t : Text)
+  module _ (k : ℕ) (more : (u : Text) → length u < k → BracedName x p u (name x p k u)) (t : Text)
       (few : length t < suc k) where
-    named_rest : (c : ℕ) (u : Text) → layout n x t ≡ rest (c ∷ u) → (b : Bool) → (c == close_brace) ≡ b →
-        BracedName n x p t (name n x p (suc k) t)
+    named_rest : (c : ℕ) (u : Text) → layout x t ≡ rest (c ∷ u) → (b : Bool) → (c == close_brace) ≡ b →
+        BracedName x p t (name x p (suc k) t)
     named_rest c u e true h =
-        rw (name_close n x p k t c u e h)
-        (close (subst (λ d. Before x t (d ∷ u)) (brace_is c h) (layout_sound n x t (c ∷ u) e)))
+        rw (name_close x p k t c u e h)
+        (close (subst (λ d. Before x t (d ∷ u)) (brace_is c h) (layout_sound x t (c ∷ u) e)))
     named_rest c u e false h =
-        let short = layout_length n x t (c ∷ u) e in
-        rw (name_step n x p k t c u e h)
-        (named_more c t u (no_brace_is c h) (layout_sound n x t (c ∷ u) e) (name n x p k u) (more u (omega arith)))
+        let short = layout_length x t (c ∷ u) e in
+        rw (name_step x p k t c u e h)
+        (named_more c t u (no_brace_is c h) (layout_sound x t (c ∷ u) e) (name x p k u) (more u (omega arith)))
 
-    named_at : (s : Skipped) → layout n x t ≡ s → BracedName n x p t (name n x p (suc k) t)
-    named_at (fault q) e = rw (name_open n x p k t q e) (open_layout (unclosed_sound n x t q e))
-    named_at (rest []) e = rw (name_unclosed n x p k t e) (no_end (layout_sound n x t [] e))
+    named_at : (s : Skipped) → layout x t ≡ s → BracedName x p t (name x p (suc k) t)
+    named_at (fault q) e = rw (name_open x p k t q e) (open_layout (unclosed_sound x t q e))
+    named_at (rest []) e = rw (name_unclosed x p k t e) (no_end (layout_sound x t [] e))
     named_at (rest (c ∷ u)) e = named_rest c u e (c == close_brace) refl
 
-  named : (k : ℕ) (t : Text) → length t < k → BracedName n x p t (name n x p k t)
+  named : (k : ℕ) (t : Text) → length t < k → BracedName x p t (name x p k t)
   named zero t l = absurd (omega arith)
-  named (suc k) t l = named_at k (named k) t l (layout n x t) refl
+  named (suc k) t l = named_at k (named k) t l (layout x t) refl
 
   -- whatever the relation gives is the function's answer: by induction on the derivation
-  name_is : (k : ℕ) {t : Text} {o : Reading Text} → BracedName n x p t o → length t < k → name n x p k t ≡ o
+  name_is : (k : ℕ) {t : Text} {o : Reading Text} → BracedName x p t o → length t < k → name x p k t ≡ o
   name_is zero h l = absurd (omega arith)
-  name_is (suc k) {t} (close {v} b) l = name_close n x p k t close_brace v (layout_complete n x t _ b) refl
+  name_is (suc k) {t} (close {v} b) l = name_close x p k t close_brace v (layout_complete x t _ b) refl
   name_is (suc k) {t} (character {c} {u} {v} {w} d b h) l =
-      let e = layout_complete n x t _ b in
-      let short = layout_length n x t (c ∷ u) e in
-      name_step n x p k t c u e (brace_is_not c d)
+      let e = layout_complete x t _ b in
+      let short = layout_length x t (c ∷ u) e in
+      name_step x p k t c u e (brace_is_not c d)
       ∙ ap (λ o. o >=> (λ w v. gives (c ∷ w) v)) (name_is k h (omega arith))
-  name_is (suc k) {t} (open_layout {q} b) l = name_open n x p k t q (unclosed_complete n x t q b)
-  name_is (suc k) {t} (no_end b) l = name_unclosed n x p k t (layout_complete n x t [] b)
+  name_is (suc k) {t} (open_layout {q} b) l = name_open x p k t q (unclosed_complete x t q b)
+  name_is (suc k) {t} (no_end b) l = name_unclosed x p k t (layout_complete x t [] b)
   name_is (suc k) {t} (fault_behind {c} {u} {e} d b h) l =
-      let i = layout_complete n x t _ b in
-      let short = layout_length n x t (c ∷ u) i in
-      name_step n x p k t c u i (brace_is_not c d)
+      let i = layout_complete x t _ b in
+      let short = layout_length x t (c ∷ u) i in
+      name_step x p k t c u i (brace_is_not c d)
       ∙ ap (λ o. o >=> (λ w v. gives (c ∷ w) v)) (name_is k h (omega arith))
 
 -- ---- the boundary behind its letter
 
-module _ (n : ℕ) (x : Bool) (p : ℕ) (negated : Bool) where
-  answer_open : (t : Text) (q : ℕ) → layout n x t ≡ fault q → boundary n x p negated t ≡ fails (comment_not_closed q)
+module _ (x : Bool) (p : ℕ) (negated : Bool) where
+  answer_open : (t : Text) (q : ℕ) → layout x t ≡ fault q → boundary x p negated t ≡ fails (comment_not_closed q)
   unfolding boundary
   answer_open t q e = rw e refl
 
-  answer_no_brace : (t u : Text) → layout n x t ≡ rest u → strip open_brace u ≡ None →
-      boundary n x p negated t ≡ gives (unnamed_boundary negated) t
+  answer_no_brace : (t u : Text) → layout x t ≡ rest u → strip open_brace u ≡ None →
+      boundary x p negated t ≡ gives (unnamed_boundary negated) t
   unfolding boundary
   answer_no_brace t u e s = rw (e, s) refl
 
-  answer_inside : (t u i : Text) (q : ℕ) → layout n x t ≡ rest u → strip open_brace u ≡ Some i →
-      layout n x i ≡ fault q →
-      boundary n x p negated t ≡ fails (comment_not_closed q)
+  answer_inside : (t u i : Text) (q : ℕ) → layout x t ≡ rest u → strip open_brace u ≡ Some i →
+      layout x i ≡ fault q →
+      boundary x p negated t ≡ fails (comment_not_closed q)
   unfolding boundary
   answer_inside t u i q e s l = rw (e, s, l) refl
 
-  answer_count : (t u i v : Text) → layout n x t ≡ rest u → strip open_brace u ≡ Some i → layout n x i ≡ rest v →
-      at_count v ≡ true → boundary n x p negated t ≡ gives (unnamed_boundary negated) t
+  answer_count : (t u i v : Text) → layout x t ≡ rest u → strip open_brace u ≡ Some i → layout x i ≡ rest v →
+      at_count v ≡ true → boundary x p negated t ≡ gives (unnamed_boundary negated) t
   unfolding boundary
   answer_count t u i v e s l c = rw (e, s, l, c) refl
 
-  answer_named : (t u i v : Text) → layout n x t ≡ rest u → strip open_brace u ≡ Some i → layout n x i ≡ rest v →
-      at_count v ≡ false → boundary n x p negated t ≡ named_boundary n x p negated i
+  answer_named : (t u i v : Text) → layout x t ≡ rest u → strip open_brace u ≡ Some i → layout x i ≡ rest v →
+      at_count v ≡ false → boundary x p negated t ≡ named_boundary x p negated i
   unfolding boundary
   answer_named t u i v e s l c = rw (e, s, l, c) refl
 
-  answer_known : (i w v : Text) (a : Assertion) → name n x p (suc (length i)) i ≡ gives w v →
+  answer_known : (i w v : Text) (a : Assertion) → name x p (suc (length i)) i ≡ gives w v →
       boundary_of_name negated w ≡ Some a →
-      named_boundary n x p negated i ≡ gives (assertion a) v
+      named_boundary x p negated i ≡ gives (assertion a) v
   unfolding named_boundary
   answer_known i w v a e b = rw (e, b) refl
 
-  answer_unknown : (i w v : Text) → name n x p (suc (length i)) i ≡ gives w v → boundary_of_name negated w ≡ None →
-      named_boundary n x p negated i ≡ fails (name_of_no_boundary p negated w)
+  answer_unknown : (i w v : Text) → name x p (suc (length i)) i ≡ gives w v → boundary_of_name negated w ≡ None →
+      named_boundary x p negated i ≡ fails (name_of_no_boundary p negated w)
   unfolding named_boundary
   answer_unknown i w v e b = rw (e, b) refl
 
-  answer_not_read : (i : Text) (f : Fault) → name n x p (suc (length i)) i ≡ fails f →
-      named_boundary n x p negated i ≡ fails f
+  answer_not_read : (i : Text) (f : Fault) → name x p (suc (length i)) i ≡ fails f →
+      named_boundary x p negated i ≡ fails f
   unfolding named_boundary
   answer_not_read i f e = rw e refl
 
   -- the relation holds of what the function answers
-  by_name : (t i : Text) → Braces x t i false → (o : Reading Text) → name n x p (suc (length i)) i ≡ o →
-      BracedName n x p i o →
-      Boundary n x p negated t (named_boundary n x p negated i)
+  by_name : (t i : Text) → Braces x t i false → (o : Reading Text) → name x p (suc (length i)) i ≡ o →
+      BracedName x p i o →
+      Boundary x p negated t (named_boundary x p negated i)
   by_name t i b (fails f) e h = rw (answer_not_read i f e) (name_fault b h)
   by_name t i b (gives w v) e h = by_word (boundary_of_name negated w) refl where
     by_word : (a : Option Assertion) → boundary_of_name negated w ≡ a →
-        Boundary n x p negated t (named_boundary n x p negated i)
+        Boundary x p negated t (named_boundary x p negated i)
     by_word (Some a) s = rw (answer_known i w v a e s) (known b h s)
     by_word None s = rw (answer_unknown i w v e s) (unknown b h s)
 
-  module _ (t u i : Text) (e : layout n x t ≡ rest u) (s : strip open_brace u ≡ Some i) where
+  module _ (t u i : Text) (e : layout x t ≡ rest u) (s : strip open_brace u ≡ Some i) where
     braced : Before x t (open_brace ∷ i)
-    braced = subst (Before x t) (strip_is open_brace u i s) (layout_sound n x t u e)
+    braced = subst (Before x t) (strip_is open_brace u i s) (layout_sound x t u e)
 
-    by_count : (v : Text) → layout n x i ≡ rest v → (c : Bool) → at_count v ≡ c →
-        Boundary n x p negated t (boundary n x p negated t)
-    by_count v l true c = rw (answer_count t u i v e s l c) (count (braced, v, layout_sound n x i v l, c))
+    by_count : (v : Text) → layout x i ≡ rest v → (c : Bool) → at_count v ≡ c →
+        Boundary x p negated t (boundary x p negated t)
+    by_count v l true c = rw (answer_count t u i v e s l c) (count (braced, v, layout_sound x i v l, c))
     by_count v l false c =
-        let h = by_name t i (braced, v, layout_sound n x i v l, c) (name n x p (suc (length i)) i) refl
-        (named n x p (suc (length i)) i (omega arith)) in
+        let h = by_name t i (braced, v, layout_sound x i v l, c) (name x p (suc (length i)) i) refl
+        (named x p (suc (length i)) i (omega arith)) in
         rw (answer_named t u i v e s l c) h
 
-    by_inside : (l : Skipped) → layout n x i ≡ l → Boundary n x p negated t (boundary n x p negated t)
-    by_inside (fault q) l = rw (answer_inside t u i q e s l) (comment_open_inside braced (unclosed_sound n x i q l))
+    by_inside : (l : Skipped) → layout x i ≡ l → Boundary x p negated t (boundary x p negated t)
+    by_inside (fault q) l = rw (answer_inside t u i q e s l) (comment_open_inside braced (unclosed_sound x i q l))
     by_inside (rest v) l = by_count v l (at_count v) refl
 
-  by_brace : (t u : Text) → layout n x t ≡ rest u → (o : Option Text) → strip open_brace u ≡ o →
-      Boundary n x p negated t (boundary n x p negated t)
-  by_brace t u e None s = rw (answer_no_brace t u e s) (no_brace (layout_sound n x t u e) s)
-  by_brace t u e (Some i) s = by_inside t u i e s (layout n x i) refl
+  by_brace : (t u : Text) → layout x t ≡ rest u → (o : Option Text) → strip open_brace u ≡ o →
+      Boundary x p negated t (boundary x p negated t)
+  by_brace t u e None s = rw (answer_no_brace t u e s) (no_brace (layout_sound x t u e) s)
+  by_brace t u e (Some i) s = by_inside t u i e s (layout x i) refl
 
-  by_layout : (t : Text) (l : Skipped) → layout n x t ≡ l → Boundary n x p negated t (boundary n x p negated t)
-  by_layout t (fault q) e = rw (answer_open t q e) (comment_open_before (unclosed_sound n x t q e))
+  by_layout : (t : Text) (l : Skipped) → layout x t ≡ l → Boundary x p negated t (boundary x p negated t)
+  by_layout t (fault q) e = rw (answer_open t q e) (comment_open_before (unclosed_sound x t q e))
   by_layout t (rest u) e = by_brace t u e (strip open_brace u) refl
 
   -- whatever the relation gives is the function's answer
-  name_answer : {i : Text} {o : Reading Text} → BracedName n x p i o → name n x p (suc (length i)) i ≡ o
-  name_answer {i} h = name_is n x p (suc (length i)) h (omega arith)
+  name_answer : {i : Text} {o : Reading Text} → BracedName x p i o → name x p (suc (length i)) i ≡ o
+  name_answer {i} h = name_is x p (suc (length i)) h (omega arith)
 
-  is_named : (t i : Text) → Braces x t i false → boundary n x p negated t ≡ named_boundary n x p negated i
+  is_named : (t i : Text) → Braces x t i false → boundary x p negated t ≡ named_boundary x p negated i
   is_named t i (b, v, l, c) =
-      answer_named t (open_brace ∷ i) i v (layout_complete n x t _ b) (strip_same open_brace i)
-      (layout_complete n x i v l) c
+      answer_named t (open_brace ∷ i) i v (layout_complete x t _ b) (strip_same open_brace i)
+      (layout_complete x i v l) c
 
-  pub boundary_is : {t : Text} {o : Reading Escape} → Boundary n x p negated t o → boundary n x p negated t ≡ o
-  boundary_is {t} (no_brace {u} b s) = answer_no_brace t u (layout_complete n x t u b) s
+  pub boundary_is : {t : Text} {o : Reading Escape} → Boundary x p negated t o → boundary x p negated t ≡ o
+  boundary_is {t} (no_brace {u} b s) = answer_no_brace t u (layout_complete x t u b) s
   boundary_is {t} (count {u} (b, v, l, c)) =
-      answer_count t (open_brace ∷ u) u v (layout_complete n x t _ b) (strip_same open_brace u)
-      (layout_complete n x u v l) c
+      answer_count t (open_brace ∷ u) u v (layout_complete x t _ b) (strip_same open_brace u)
+      (layout_complete x u v l) c
   boundary_is {t} (known {u} {v} {w} {a} b h s) = is_named t u b ∙ answer_known u w v a (name_answer h) s
   boundary_is {t} (unknown {u} {v} {w} b h s) = is_named t u b ∙ answer_unknown u w v (name_answer h) s
   boundary_is {t} (name_fault {u} {e} b h) = is_named t u b ∙ answer_not_read u e (name_answer h)
-  boundary_is {t} (comment_open_before {q} b) = answer_open t q (unclosed_complete n x t q b)
+  boundary_is {t} (comment_open_before {q} b) = answer_open t q (unclosed_complete x t q b)
   boundary_is {t} (comment_open_inside {q} {u} b l) =
-      answer_inside t (open_brace ∷ u) u q (layout_complete n x t _ b) (strip_same open_brace u)
-      (unclosed_complete n x u q l)
+      answer_inside t (open_brace ∷ u) u q (layout_complete x t _ b) (strip_same open_brace u)
+      (unclosed_complete x u q l)
 
-pub boundary_reads : (n : ℕ) (x : Bool) (p : ℕ) (negated : Bool) (t : Text) →
-    Boundary n x p negated t (boundary n x p negated t)
-boundary_reads n x p negated t = by_layout n x p negated t (layout n x t) refl
+pub boundary_reads : (x : Bool) (p : ℕ) (negated : Bool) (t : Text) →
+    Boundary x p negated t (boundary x p negated t)
+boundary_reads x p negated t = by_layout x p negated t (layout x t) refl
 
 -- ---- the clauses of the reader
 
-module _ (n : ℕ) (x : Bool) (p : ℕ) (negated : Bool) (t : Text) (r : Result (Escaped × Bor (List ℕ)) Error)
-    (g : Answers escape_of r (boundary n x p negated t)) where
-  pub boundary_derives : Derives escape_of r (Boundary n x p negated t)
-  boundary_derives = derives_answer escape_of r (Boundary n x p negated t) (boundary n x p negated t)
-      (boundary_reads n x p negated t) g
+module _ (x : Bool) (p : ℕ) (negated : Bool) (t : Text) (r : Result (Escaped × Bor (List ℕ)) Failure)
+    (g : Answers escape_of r (boundary x p negated t)) where
+  pub boundary_derives : Derives escape_of r (Boundary x p negated t)
+  boundary_derives = derives_answer escape_of r (Boundary x p negated t) (boundary x p negated t)
+      (boundary_reads x p negated t) g
 
-  pub boundary_only : (o : Reading Escape) → Boundary n x p negated t o → Answers escape_of r o
-  boundary_only o h = only_answer escape_of r (boundary n x p negated t) o (boundary_is n x p negated h) g
+  pub boundary_only : (o : Reading Escape) → Boundary x p negated t o → Answers escape_of r o
+  boundary_only o h = only_answer escape_of r (boundary x p negated t) o (boundary_is x p negated h) g

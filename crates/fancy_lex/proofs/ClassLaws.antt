@@ -19,8 +19,8 @@ use Rattle.fancy_lex.specs.Escaped.{Escape}
 use Rattle.fancy_lex.specs.Fault.{Fault}
 use Rattle.fancy_lex.specs.FaultTable.{class_not_closed}
 use Rattle.fancy_lex.specs.Reading.{Reading, gives, fails, choose, IsReadingOrNoMemory, Derives}
-use Rattle.fancy_lex.specs.Text.{Text, bytes, place_of, strip, text_of}
-use Rattle.fancy_lex.specs.declared.error.Error.{Error}
+use Rattle.fancy_lex.specs.Text.{Text, bytes, reach_of, strip, text_of}
+use Rattle.fancy_lex.specs.declared.error.Failure.{Failure}
 use Rattle.fancy_lex.specs.declared.flags.Flags.{Flags}
 use Rattle.fancy_lex.proofs.ClassLemmas.{items_end, items_plain, items_open, items_escape, pred_lt}
 use Rattle.fancy_lex.proofs.EscapeFrame.{escape_frame}
@@ -71,57 +71,57 @@ class_head_bytes t =
 
 -- What the relation says, the function answers: by induction on the derivation.
 
-module _ (n : ℕ) (f : Flags) where
+module _ (f : Flags) where
   abbrev ended : ℕ → ℕ → Bool → Text → Text → Reading Text
-  ended j depth a out v = if depth == 0 then gives out v else class_from n f j (depth - 1) a out v
+  ended j depth a out v = if depth == 0 then gives out v else class_from f j (depth - 1) a out v
 
-  ended_inside : (j depth : ℕ) (a : Bool) (out v : Text) → ended j (depth + 1) a out v ≡ class_from n f j depth a out v
+  ended_inside : (j depth : ℕ) (a : Bool) (out v : Text) → ended j (depth + 1) a out v ≡ class_from f j depth a out v
   ended_inside j depth a out v =
       let test : (depth + 1 == 0) ≡ false = grind (arith, nat_tests) in
       let back : depth + 1 - 1 ≡ depth = omega arith in
       rw (test, back) refl
 
   items_closing : (k depth : ℕ) (b : Bool) (out v : Text) → 0 < k →
-      class_from n f k depth b out (close_bracket ∷ v) ≡ ended (pred k) depth b (out ++ close_bracket ∷ []) v
+      class_from f k depth b out (close_bracket ∷ v) ≡ ended (pred k) depth b (out ++ close_bracket ∷ []) v
   unfolding class_from
   items_closing zero depth b out v m = absurd (omega arith)
   items_closing (suc k) depth b out v m = refl
 
 -- what the function does with k steps left, where the relation says o
-abbrev Runs : ℕ → Flags → Reading Text → Text → ℕ → Text → Written → Type 0
-Runs n f here t depth out (written w a v) =
-    (j : ℕ) × (bytes v < j) × (bytes v < bytes t) × (here ≡ ended n f j depth a (out ++ w) v)
-Runs n f here t depth out (fault e) = here ≡ fails e
+abbrev Runs : Flags → Reading Text → Text → ℕ → Text → Written → Type 0
+Runs f here t depth out (written w a v) =
+    (j : ℕ) × (bytes v < j) × (bytes v < bytes t) × (here ≡ ended f j depth a (out ++ w) v)
+Runs f here t depth out (fault e) = here ≡ fails e
 
-abbrev at_class : ℕ → Flags → ℕ → ℕ → Bool → Text → Text → Reading Text
-at_class n f k depth b out t = class_from n f k depth b (class_head out t).0 (class_head out t).1
+abbrev at_class : Flags → ℕ → ℕ → Bool → Text → Text → Reading Text
+at_class f k depth b out t = class_from f k depth b (class_head out t).0 (class_head out t).1
 
 -- one step, for which x is written, and what comes of the rest
-after : (n : ℕ) (f : Flags) (here there : Reading Text) (t s : Text) (depth : ℕ) (out x : Text) → here ≡ there →
-    bytes s ≤ bytes t → (w : Text) (a : Bool) (v : Text) → Runs n f there s depth (out ++ x) (written w a v) →
-    Runs n f here t depth out (written (x ++ w) a v)
-after n f here there t s depth out x e l w a v (j, m, less, q) =
-    (j, m, omega (arith, l, less), e ∙ q ∙ ap (λ (o : Text). ended n f j depth a o v) (append_assoc out x w))
+after : (f : Flags) (here there : Reading Text) (t s : Text) (depth : ℕ) (out x : Text) → here ≡ there →
+    bytes s ≤ bytes t → (w : Text) (a : Bool) (v : Text) → Runs f there s depth (out ++ x) (written w a v) →
+    Runs f here t depth out (written (x ++ w) a v)
+after f here there t s depth out x e l w a v (j, m, less, q) =
+    (j, m, omega (arith, l, less), e ∙ q ∙ ap (λ (o : Text). ended f j depth a o v) (append_assoc out x w))
 
 not_special : (c : ℕ) → is_plain_in_class c ≡ true → (c ≢ backslash) × (c ≢ open_bracket) × (c ≢ close_bracket)
 not_special c p = (grind (arith, nat_tests), grind (arith, nat_tests), grind (arith, nat_tests))
 
-items_fails : (n : ℕ) (f : Flags) (k depth : ℕ) (b : Bool) (out t : Text) (e : Fault) →
-    escape n f true (place_of n (backslash ∷ t)) t ≡ fails e → 0 < k →
-    class_from n f k depth b out (backslash ∷ t) ≡ fails e
+items_fails : (f : Flags) (k depth : ℕ) (b : Bool) (out t : Text) (e : Fault) →
+    escape f true (reach_of (backslash ∷ t)) t ≡ fails e → 0 < k →
+    class_from f k depth b out (backslash ∷ t) ≡ fails e
 unfolding class_from
-items_fails n f zero depth b out t e q m = absurd (omega arith)
-items_fails n f (suc k) depth b out t e q m = rw q refl
+items_fails f zero depth b out t e q m = absurd (omega arith)
+items_fails f (suc k) depth b out t e q m = rw q refl
 
-module _ (n : ℕ) (f : Flags) (k depth : ℕ) (b : Bool) (out t : Text) where
+module _ (f : Flags) (k depth : ℕ) (b : Bool) (out t : Text) where
   at_head : (head u : Text) → ◌≡◌ {A = Text × Text} (class_head [] t) (head, u) →
-      at_class n f k depth b out t ≡ class_from n f k depth b (out ++ head) u
-  at_head head u e = ap (λ (p : Text × Text). class_from n f k depth b p.0 p.1)
+      at_class f k depth b out t ≡ class_from f k depth b (out ++ head) u
+  at_head head u e = ap (λ (p : Text × Text). class_from f k depth b p.0 p.1)
       (class_head_behind out t ∙ ap (behind out) e)
 
   plain_item : (c : ℕ) → is_plain_in_class c ≡ true → 0 < k →
-      class_from n f k depth b out (c ∷ t) ≡ class_from n f (pred k) depth b (out ++ c ∷ []) t
-  plain_item c p m = let (x, y, z) = not_special c p in items_plain n f depth b out (c ∷ t) c t refl k m x y z
+      class_from f k depth b out (c ∷ t) ≡ class_from f (pred k) depth b (out ++ c ∷ []) t
+  plain_item c p m = let (x, y, z) = not_special c p in items_plain f depth b out (c ∷ t) c t refl k m x y z
 
   -- what is left of t is less than the steps
   step_left : (c : ℕ) → bytes (c ∷ t) < k → bytes t < pred k
@@ -134,70 +134,70 @@ positive : (a k : ℕ) → a < k → 0 < k
 positive a k l = omega arith
 
 mutual
-  run_class : {n : ℕ} {f : Flags} {b : Bool} {t : Text} {o : Written} → Class n f b t o → (k depth : ℕ) (out : Text) →
-      bytes t < k → Runs n f (at_class n f k depth b out t) t depth out o
-  run_class {n} {f} {b} {t} (class_items {a} {u} {v} {head} {w} e h) k depth out l =
+  run_class : {f : Flags} {b : Bool} {t : Text} {o : Written} → Class f b t o → (k depth : ℕ) (out : Text) →
+      bytes t < k → Runs f (at_class f k depth b out t) t depth out o
+  run_class {f} {b} {t} (class_items {a} {u} {v} {head} {w} e h) k depth out l =
       let less = head_bytes t head u e in
-      after n f _ _ t u depth out head (at_head n f k depth b out t head u e) less w a v
+      after f _ _ t u depth out head (at_head f k depth b out t head u e) less w a v
       (run_items h k depth (out ++ head) (omega (arith, less, l)))
-  run_class {n} {f} {b} {t} (class_items_fault {u} {head} e h) k depth out l =
-      at_head n f k depth b out t head u e ∙ run_items h k depth (out ++ head) (omega (arith, head_bytes t head u e, l))
+  run_class {f} {b} {t} (class_items_fault {u} {head} e h) k depth out l =
+      at_head f k depth b out t head u e ∙ run_items h k depth (out ++ head) (omega (arith, head_bytes t head u e, l))
 
-  run_items : {n : ℕ} {f : Flags} {b : Bool} {t : Text} {o : Written} → ClassItems n f b t o →
-      (k depth : ℕ) (out : Text) → bytes t < k → Runs n f (class_from n f k depth b out t) t depth out o
-  run_items {n} {f} {b} (close {v}) k depth out l = (
+  run_items : {f : Flags} {b : Bool} {t : Text} {o : Written} → ClassItems f b t o →
+      (k depth : ℕ) (out : Text) → bytes t < k → Runs f (class_from f k depth b out t) t depth out o
+  run_items {f} {b} (close {v}) k depth out l = (
     pred k,
-    step_left n f k depth b out v close_bracket l,
+    step_left f k depth b out v close_bracket l,
     bytes_cons close_bracket v,
-    items_closing n f k depth b out v (positive _ k l),
+    items_closing f k depth b out v (positive _ k l),
   )
-  run_items {n} {f} {b} (plain {c} {a} {t} {v} {w} p h) k depth out l =
-      after n f _ _ (c ∷ t) t depth out (c ∷ []) (plain_item n f k depth b out t c p (positive _ k l))
+  run_items {f} {b} (plain {c} {a} {t} {v} {w} p h) k depth out l =
+      after f _ _ (c ∷ t) t depth out (c ∷ []) (plain_item f k depth b out t c p (positive _ k l))
       (omega (arith, bytes_cons c t)) w a v
-      (run_items h (pred k) depth (out ++ c ∷ []) (step_left n f k depth b out t c l))
-  run_items {n} {f} {b} (escaped {a} {t} {u} {v} {w} {e} q h) k depth out l =
-      let less = escape_within n f true _ t u e q in
-      after n f _ _ (backslash ∷ t) u depth out (escape_in_class b e)
-      (items_escape n f depth b out (backslash ∷ t) backslash t refl k e u (positive _ k l) refl q)
+      (run_items h (pred k) depth (out ++ c ∷ []) (step_left f k depth b out t c l))
+  run_items {f} {b} (escaped {a} {t} {u} {v} {w} {e} q h) k depth out l =
+      let less = escape_within f true _ t u e q in
+      after f _ _ (backslash ∷ t) u depth out (escape_in_class b e)
+      (items_escape f depth b out (backslash ∷ t) backslash t refl k e u (positive _ k l) refl q)
       (omega (arith, less, bytes_cons backslash t)) w a v
       (run_items h (pred k) depth (out ++ escape_in_class b e)
-      (omega (arith, less, step_left n f k depth b out t backslash l)))
-  run_items {n} {f} {b} (nested {m} {a} {t} {u} {v} {x} {w} g h) k depth out l =
-      let (j, more, less, q) = run_class g (pred k) (depth + 1) out (step_left n f k depth b out t open_bracket l) in
-      after n f _ _ (open_bracket ∷ t) u depth out x
-      (items_open n f depth b out (open_bracket ∷ t) open_bracket t refl k (positive _ k l) refl ∙ q
-      ∙ ended_inside n f j depth m (out ++ x) u)
+      (omega (arith, less, step_left f k depth b out t backslash l)))
+  run_items {f} {b} (nested {m} {a} {t} {u} {v} {x} {w} g h) k depth out l =
+      let (j, more, less, q) = run_class g (pred k) (depth + 1) out (step_left f k depth b out t open_bracket l) in
+      after f _ _ (open_bracket ∷ t) u depth out x
+      (items_open f depth b out (open_bracket ∷ t) open_bracket t refl k (positive _ k l) refl ∙ q
+      ∙ ended_inside f j depth m (out ++ x) u)
       (omega (arith, less, bytes_cons open_bracket t)) w a v (run_items h j depth (out ++ x) more)
-  run_items {n} {f} {b} end k depth out l = items_end n f k depth b out [] refl
-  run_items {n} {f} {b} (plain_fault {c} {t} {e} p h) k depth out l =
-      plain_item n f k depth b out t c p (positive _ k l)
-      ∙ run_items h (pred k) depth (out ++ c ∷ []) (step_left n f k depth b out t c l)
-  run_items {n} {f} {b} (escape_fault {t} {e} q) k depth out l = items_fails n f k depth b out t e q (positive _ k l)
-  run_items {n} {f} {b} (escaped_fault {t} {u} {x} {e} q h) k depth out l =
-      items_escape n f depth b out (backslash ∷ t) backslash t refl k x u (positive _ k l) refl q
+  run_items {f} {b} end k depth out l = items_end f k depth b out [] refl
+  run_items {f} {b} (plain_fault {c} {t} {e} p h) k depth out l =
+      plain_item f k depth b out t c p (positive _ k l)
+      ∙ run_items h (pred k) depth (out ++ c ∷ []) (step_left f k depth b out t c l)
+  run_items {f} {b} (escape_fault {t} {e} q) k depth out l = items_fails f k depth b out t e q (positive _ k l)
+  run_items {f} {b} (escaped_fault {t} {u} {x} {e} q h) k depth out l =
+      items_escape f depth b out (backslash ∷ t) backslash t refl k x u (positive _ k l) refl q
       ∙ run_items h (pred k) depth (out ++ escape_in_class b x)
-      (omega (arith, escape_within n f true _ t u x q, step_left n f k depth b out t backslash l))
-  run_items {n} {f} {b} (class_fault {t} {e} h) k depth out l =
-      items_open n f depth b out (open_bracket ∷ t) open_bracket t refl k (positive _ k l) refl
-      ∙ run_class h (pred k) (depth + 1) out (step_left n f k depth b out t open_bracket l)
-  run_items {n} {f} {b} (nested_fault {m} {t} {u} {x} {e} g h) k depth out l =
-      let (j, more, less, q) = run_class g (pred k) (depth + 1) out (step_left n f k depth b out t open_bracket l) in
-      items_open n f depth b out (open_bracket ∷ t) open_bracket t refl k (positive _ k l) refl ∙ q
-      ∙ ended_inside n f j depth m (out ++ x) u ∙ run_items h j depth (out ++ x) more
+      (omega (arith, escape_within f true _ t u x q, step_left f k depth b out t backslash l))
+  run_items {f} {b} (class_fault {t} {e} h) k depth out l =
+      items_open f depth b out (open_bracket ∷ t) open_bracket t refl k (positive _ k l) refl
+      ∙ run_class h (pred k) (depth + 1) out (step_left f k depth b out t open_bracket l)
+  run_items {f} {b} (nested_fault {m} {t} {u} {x} {e} g h) k depth out l =
+      let (j, more, less, q) = run_class g (pred k) (depth + 1) out (step_left f k depth b out t open_bracket l) in
+      items_open f depth b out (open_bracket ∷ t) open_bracket t refl k (positive _ k l) refl ∙ q
+      ∙ ended_inside f j depth m (out ++ x) u ∙ run_items h j depth (out ++ x) more
 
 -- the function's answer, as the relation puts it
 abbrev answer : Written → Reading Text
 answer (written w a v) = gives w v
 answer (fault e) = fails e
 
-pub class_complete : (n : ℕ) (f : Flags) (t : Text) (o : Written) → Class n f false t o → class n f t ≡ answer o
+pub class_complete : (f : Flags) (t : Text) (o : Written) → Class f false t o → class f t ≡ answer o
 unfolding class
-class_complete n f t (written w a v) h = let (j, m, less, q) = run_class h (suc (bytes t)) 0 [] (omega arith) in q
-class_complete n f t (fault e) h = run_class h (suc (bytes t)) 0 [] (omega arith)
+class_complete f t (written w a v) h = let (j, m, less, q) = run_class h (suc (bytes t)) 0 [] (omega arith) in q
+class_complete f t (fault e) h = run_class h (suc (bytes t)) 0 [] (omega arith)
 
-pub class_is : (n : ℕ) (f : Flags) (t : Text) (o : Reading Text) → OuterClass n f t o → class n f t ≡ o
-class_is n f t (gives out v) (a, h) = class_complete n f t _ h
-class_is n f t (fails e) h = class_complete n f t _ h
+pub class_is : (f : Flags) (t : Text) (o : Reading Text) → OuterClass f t o → class f t ≡ o
+class_is f t (gives out v) (a, h) = class_complete f t _ h
+class_is f t (fails e) h = class_complete f t _ h
 
 -- Every text reads, or has a fault.
 
@@ -205,91 +205,91 @@ abbrev Less : Text → Written → Type 0
 Less t (written w a v) = bytes v < bytes t
 Less t (fault e) = Unit {0}
 
-abbrev ReadsClass : ℕ → Flags → Bool → Text → Type 0
-ReadsClass n f b t = (o : Written) × ClassItems n f b t o × Less t o
+abbrev ReadsClass : Flags → Bool → Text → Type 0
+ReadsClass f b t = (o : Written) × ClassItems f b t o × Less t o
 
-abbrev ReadsShort : ℕ → Flags → ℕ → Type 0
-ReadsShort n f k = (b : Bool) (t : Text) → bytes t < k → ReadsClass n f b t
+abbrev ReadsShort : Flags → ℕ → Type 0
+ReadsShort f k = (b : Bool) (t : Text) → bytes t < k → ReadsClass f b t
 
-class_within : (n : ℕ) (f : Flags) (b : Bool) (t head u : Text) → ◌≡◌ {A = Text × Text} (class_head [] t) (head, u) →
-    ReadsClass n f b u → (o : Written) × Class n f b t o × Less t o
-class_within n f b t head u e (written w a v, h, less) =
+class_within : (f : Flags) (b : Bool) (t head u : Text) → ◌≡◌ {A = Text × Text} (class_head [] t) (head, u) →
+    ReadsClass f b u → (o : Written) × Class f b t o × Less t o
+class_within f b t head u e (written w a v, h, less) =
     (written (head ++ w) a v, class_items e h, omega (arith, less, head_bytes t head u e))
-class_within n f b t head u e (fault x, h, less) = (fault x, class_items_fault e h, tt)
+class_within f b t head u e (fault x, h, less) = (fault x, class_items_fault e h, tt)
 
-module _ (n : ℕ) (f : Flags) (k : ℕ) (reads : ReadsShort n f k) (b : Bool) (t : Text) (l : bytes t < k) where
-  plain_reads : (c : ℕ) → is_plain_in_class c ≡ true → ReadsClass n f b t → ReadsClass n f b (c ∷ t)
+module _ (f : Flags) (k : ℕ) (reads : ReadsShort f k) (b : Bool) (t : Text) (l : bytes t < k) where
+  plain_reads : (c : ℕ) → is_plain_in_class c ≡ true → ReadsClass f b t → ReadsClass f b (c ∷ t)
   plain_reads c p (written w a v, h, less) = (written (c ∷ w) a v, plain p h, omega (arith, less, bytes_cons c t))
   plain_reads c p (fault e, h, less) = (fault e, plain_fault p h, tt)
 
-  escaped_reads : (e : Escape) (u : Text) → escape n f true (place_of n (backslash ∷ t)) t ≡ gives e u →
-      ReadsClass n f (b || is_negated e) u → ReadsClass n f b (backslash ∷ t)
+  escaped_reads : (e : Escape) (u : Text) → escape f true (reach_of (backslash ∷ t)) t ≡ gives e u →
+      ReadsClass f (b || is_negated e) u → ReadsClass f b (backslash ∷ t)
   escaped_reads e u q (written w a v, h, less) = (
     written (escape_in_class b e ++ w) a v,
     escaped q h,
-    omega (arith, less, escape_within n f true _ t u e q, bytes_cons backslash t),
+    omega (arith, less, escape_within f true _ t u e q, bytes_cons backslash t),
   )
   escaped_reads e u q (fault x, h, less) = (fault x, escaped_fault q h, tt)
 
-  escape_reads : (r : Reading Escape) → escape n f true (place_of n (backslash ∷ t)) t ≡ r →
-      ReadsClass n f b (backslash ∷ t)
+  escape_reads : (r : Reading Escape) → escape f true (reach_of (backslash ∷ t)) t ≡ r →
+      ReadsClass f b (backslash ∷ t)
   escape_reads (gives e u) q = escaped_reads e u q
-      (reads (b || is_negated e) u (omega (arith, escape_within n f true _ t u e q, l)))
+      (reads (b || is_negated e) u (omega (arith, escape_within f true _ t u e q, l)))
   escape_reads (fails e) q = (fault e, escape_fault q, tt)
 
-  behind_class : (x : Text) (m : Bool) (u : Text) → Class n f b t (written x m u) → bytes u < bytes t →
-      ReadsClass n f m u →
-      ReadsClass n f b (open_bracket ∷ t)
+  behind_class : (x : Text) (m : Bool) (u : Text) → Class f b t (written x m u) → bytes u < bytes t →
+      ReadsClass f m u →
+      ReadsClass f b (open_bracket ∷ t)
   behind_class x m u g shorter (written w a v, h, less) =
       (written (x ++ w) a v, nested g h, omega (arith, less, shorter, bytes_cons open_bracket t))
   behind_class x m u g shorter (fault e, h, less) = (fault e, nested_fault g h, tt)
 
-  class_item : (o : Written) × Class n f b t o × Less t o → ReadsClass n f b (open_bracket ∷ t)
+  class_item : (o : Written) × Class f b t o × Less t o → ReadsClass f b (open_bracket ∷ t)
   class_item (written x m u, g, less) = behind_class x m u g less (reads m u (omega (arith, less, l)))
   class_item (fault e, g, less) = (fault e, class_fault g, tt)
 
-  nested_reads : ReadsClass n f b (open_bracket ∷ t)
+  nested_reads : ReadsClass f b (open_bracket ∷ t)
   nested_reads =
       let p = class_head [] t in
-      class_item (class_within n f b t p.0 p.1 refl (reads b p.1 (omega (arith, class_head_bytes t, l))))
+      class_item (class_within f b t p.0 p.1 refl (reads b p.1 (omega (arith, class_head_bytes t, l))))
 
-  one_more : (c : ℕ) → ReadsClass n f b (c ∷ t)
+  one_more : (c : ℕ) → ReadsClass f b (c ∷ t)
   one_more c = by_backslash (cases_eq c backslash) where
     plain_left : (c ≢ backslash) → (c ≢ open_bracket) → (c ≢ close_bracket) → is_plain_in_class c ≡ true
     plain_left x y z = grind (arith, nat_tests)
 
     by_close : (c ≢ backslash) → (c ≢ open_bracket) → (c ≡ close_bracket) ⊎ (c ≢ close_bracket) →
-        ReadsClass n f b (c ∷ t)
+        ReadsClass f b (c ∷ t)
     by_close x y (inl e) = rw e (written (close_bracket ∷ []) b t, close, bytes_cons close_bracket t)
     by_close x y (inr z) = plain_reads c (plain_left x y z) (reads b t l)
 
-    by_open : (c ≢ backslash) → (c ≡ open_bracket) ⊎ (c ≢ open_bracket) → ReadsClass n f b (c ∷ t)
+    by_open : (c ≢ backslash) → (c ≡ open_bracket) ⊎ (c ≢ open_bracket) → ReadsClass f b (c ∷ t)
     by_open x (inl e) = rw e nested_reads
     by_open x (inr y) = by_close x y (cases_eq c close_bracket)
 
-    by_backslash : (c ≡ backslash) ⊎ (c ≢ backslash) → ReadsClass n f b (c ∷ t)
+    by_backslash : (c ≡ backslash) ⊎ (c ≢ backslash) → ReadsClass f b (c ∷ t)
     by_backslash (inl e) = rw e (escape_reads _ refl)
     by_backslash (inr x) = by_open x (cases_eq c open_bracket)
 
-items_read : (n : ℕ) (f : Flags) (k : ℕ) → ReadsShort n f k
-items_read n f zero b t l = absurd (omega arith)
-items_read n f (suc k) b [] l = (fault (class_not_closed n), end, tt)
-items_read n f (suc k) b (c ∷ t) l = one_more n f k (items_read n f k) b t (omega (arith, l, bytes_cons c t)) c
+items_read : (f : Flags) (k : ℕ) → ReadsShort f k
+items_read f zero b t l = absurd (omega arith)
+items_read f (suc k) b [] l = (fault class_not_closed, end, tt)
+items_read f (suc k) b (c ∷ t) l = one_more f k (items_read f k) b t (omega (arith, l, bytes_cons c t)) c
 
-outer : (n : ℕ) (f : Flags) (t : Text) (o : Written) → Class n f false t o → OuterClass n f t (answer o)
-outer n f t (written w a v) h = (a, h)
-outer n f t (fault e) h = h
+outer : (f : Flags) (t : Text) (o : Written) → Class f false t o → OuterClass f t (answer o)
+outer f t (written w a v) h = (a, h)
+outer f t (fault e) h = h
 
-pub class_reads : (n : ℕ) (f : Flags) (t : Text) → OuterClass n f t (class n f t)
-class_reads n f t =
+pub class_reads : (f : Flags) (t : Text) → OuterClass f t (class f t)
+class_reads f t =
     let p = class_head [] t in
-    let (o, h, less) = class_within n f false t p.0 p.1 refl
-    (items_read n f (suc (bytes p.1)) false p.1 (omega arith)) in
-    subst (OuterClass n f t) (sym (class_complete n f t o h)) (outer n f t o h)
+    let (o, h, less) = class_within f false t p.0 p.1 refl
+    (items_read f (suc (bytes p.1)) false p.1 (omega arith)) in
+    subst (OuterClass f t) (sym (class_complete f t o h)) (outer f t o h)
 
 -- What follows does not matter: by induction on the derivation.
 
-items_some : {n : ℕ} {f : Flags} {b a : Bool} {t w v : Text} → ClassItems n f b t (written w a v) →
+items_some : {f : Flags} {b a : Bool} {t w v : Text} → ClassItems f b t (written w a v) →
     (c : ℕ) × (u : Text) × (t ≡ c ∷ u)
 items_some {v} close = (close_bracket, v, refl)
 items_some (plain {c} {t} p h) = (c, t, refl)
@@ -325,34 +325,34 @@ class_head_frame out t s c u e =
     ∙ mark_frame close_bracket p.0 p.1 s d r q
 
 mutual
-  class_frame : {n : ℕ} {f : Flags} {b a : Bool} {t w v : Text} → Class n f b t (written w a v) → (m : ℕ) (s : Text) →
-      Class m f b (t ++ s) (written w a (v ++ s))
-  class_frame {t} (class_items e h) m s =
+  class_frame : {f : Flags} {b a : Bool} {t w v : Text} → Class f b t (written w a v) → (s : Text) →
+      Class f b (t ++ s) (written w a (v ++ s))
+  class_frame {t} (class_items e h) s =
       let (c, u, q) = items_some h in
       class_items (class_head_frame [] t s c u (ap (λ (p : Text × Text). p.1) e ∙ q) ∙ ap (before s) e)
-      (items_frame h m s)
+      (items_frame h s)
 
-  items_frame : {n : ℕ} {f : Flags} {b a : Bool} {t w v : Text} → ClassItems n f b t (written w a v) →
-      (m : ℕ) (s : Text) → ClassItems m f b (t ++ s) (written w a (v ++ s))
-  items_frame close m s = close
-  items_frame (plain p h) m s = plain p (items_frame h m s)
-  items_frame {n} {f} (escaped {t} {u} {e} q h) m s = escaped (escape_frame n m f _ _ t u s e q) (items_frame h m s)
-  items_frame (nested g h) m s = nested (class_frame g m s) (items_frame h m s)
+  items_frame : {f : Flags} {b a : Bool} {t w v : Text} → ClassItems f b t (written w a v) →
+      (s : Text) → ClassItems f b (t ++ s) (written w a (v ++ s))
+  items_frame close s = close
+  items_frame (plain p h) s = plain p (items_frame h s)
+  items_frame {f} (escaped {t} {u} {e} q h) s = escaped (escape_frame f _ _ t u s e q) (items_frame h s)
+  items_frame (nested g h) s = nested (class_frame g s) (items_frame h s)
 
 -- The clauses of the reader.
 
-module _ (n : ℕ) (f : Flags) (t : Text) (r : Result (String Global × Bor (List ℕ)) Error)
-    (g : IsReadingOrNoMemory text_of r (class n f t)) where
-  pub class_derives : Derives text_of r (OuterClass n f t)
-  class_derives = derives_given text_of r (OuterClass n f t) (class n f t) (class_reads n f t) g
+module _ (f : Flags) (t : Text) (r : Result (String Global × Bor (List ℕ)) Failure)
+    (g : IsReadingOrNoMemory text_of r (class f t)) where
+  pub class_derives : Derives text_of r (OuterClass f t)
+  class_derives = derives_given text_of r (OuterClass f t) (class f t) (class_reads f t) g
 
-  pub class_only : (o : Reading Text) → OuterClass n f t o → IsReadingOrNoMemory text_of r o
-  class_only o h = subst (IsReadingOrNoMemory text_of r) (class_is n f t o h) g
+  pub class_only : (o : Reading Text) → OuterClass f t o → IsReadingOrNoMemory text_of r o
+  class_only o h = subst (IsReadingOrNoMemory text_of r) (class_is f t o h) g
 
-pub class_follows : (n m : ℕ) (f : Flags) (t s : Text) (r : Result (String Global × Bor (List ℕ)) Error) →
-    IsReadingOrNoMemory text_of r (class n f t) →
-    IfOk r (λ p. class m f (t ++ s) ≡ gives (text_of p.0) (chars p.1.now ++ s))
-class_follows n m f t s (Ok p) g =
-    let (a, h) = subst (OuterClass n f t) g (class_reads n f t) in
-    class_complete m f (t ++ s) _ (class_frame h m s)
-class_follows n m f t s (Err e) g = tt
+pub class_follows : (f : Flags) (t s : Text) (r : Result (String Global × Bor (List ℕ)) Failure) →
+    IsReadingOrNoMemory text_of r (class f t) →
+    IfOk r (λ p. class f (t ++ s) ≡ gives (text_of p.0) (chars p.1.now ++ s))
+class_follows f t s (Ok p) g =
+    let (a, h) = subst (OuterClass f t) g (class_reads f t) in
+    class_complete f (t ++ s) _ (class_frame h s)
+class_follows f t s (Err e) g = tt

@@ -8,8 +8,8 @@ use Rattle.fancy_lex.specs.Escape.{escape}
 use Rattle.fancy_lex.specs.Escaped.{Escape}
 use Rattle.fancy_lex.specs.Fault.{invalid_class}
 use Rattle.fancy_lex.specs.Reading.{gives, fault_at, Reports, IsErrorOrNoMemory}
-use Rattle.fancy_lex.specs.Text.{Text, bytes, place_of}
-use Rattle.fancy_lex.specs.declared.error.Error.{Error}
+use Rattle.fancy_lex.specs.Text.{Text, bytes, reach_of}
+use Rattle.fancy_lex.specs.declared.error.Failure.{Failure}
 use Rattle.fancy_lex.specs.declared.flags.Flags.{Flags}
 use Rattle.fancy_lex.proofs.ReadingLemmas.{reports_first, report_fails}
 
@@ -17,93 +17,93 @@ pub pred_lt : (a b k : ℕ) → a < b → b < k → a < pred k
 pred_lt a b zero l m = absurd (omega arith)
 pred_lt a b (suc k) l m = omega arith
 
-module _ (n : ℕ) (f : Flags) where
+module _ (f : Flags) where
   pub items_end : (k depth : ℕ) (seen : Bool) (out t : Text) → t ≡ [] →
-      class_from n f k depth seen out t ≡ fault_at n invalid_class
+      class_from f k depth seen out t ≡ fault_at 1 invalid_class
   unfolding class_from
   items_end zero depth seen out t e = refl
   items_end (suc k) depth seen out t e = rw e refl
 
   module _ (depth : ℕ) (seen : Bool) (out t : Text) (c : ℕ) (r : Text) (e : t ≡ c ∷ r) where
     pub items_plain : (k : ℕ) → 0 < k → c ≢ backslash → c ≢ open_bracket → c ≢ close_bracket →
-        class_from n f k depth seen out t ≡ class_from n f (pred k) depth seen (out ++ c ∷ []) r
+        class_from f k depth seen out t ≡ class_from f (pred k) depth seen (out ++ c ∷ []) r
     unfolding class_from
     items_plain zero m g h i = absurd (omega arith)
     items_plain (suc k) m g h i = rw (e, class_from) (grind (arith, nat_tests))
 
     pub items_open : (k : ℕ) → 0 < k → c ≡ open_bracket →
-        class_from n f k depth seen out t ≡ class_from n f (pred k) (depth + 1) seen (class_head out r).0
+        class_from f k depth seen out t ≡ class_from f (pred k) (depth + 1) seen (class_head out r).0
         (class_head out r).1
     unfolding class_from
     items_open zero m g = absurd (omega arith)
     items_open (suc k) m g = rw (e, class_from, g) refl
 
     pub items_last : (k : ℕ) → 0 < k → c ≡ close_bracket → depth ≡ 0 →
-        class_from n f k depth seen out t ≡ gives (out ++ c ∷ []) r
+        class_from f k depth seen out t ≡ gives (out ++ c ∷ []) r
     unfolding class_from
     items_last zero m g d = absurd (omega arith)
     items_last (suc k) m g d = rw (e, class_from, g, d) refl
 
     pub items_close : (k : ℕ) → 0 < k → c ≡ close_bracket → depth ≢ 0 →
-        class_from n f k depth seen out t ≡ class_from n f (pred k) (depth - 1) seen (out ++ c ∷ []) r
+        class_from f k depth seen out t ≡ class_from f (pred k) (depth - 1) seen (out ++ c ∷ []) r
     unfolding class_from
     items_close zero m g d = absurd (omega arith)
     items_close (suc k) m g d = let test : (depth == 0) ≡ false = grind (arith, nat_tests) in
         rw (e, class_from, g, test) refl
 
     pub items_escape : (k : ℕ) (v : Escape) (u : Text) → 0 < k → c ≡ backslash →
-        escape n f true (place_of n t) r ≡ gives v u →
-        class_from n f k depth seen out t ≡ class_from n f (pred k) depth (seen || is_negated v)
+        escape f true (reach_of t) r ≡ gives v u →
+        class_from f k depth seen out t ≡ class_from f (pred k) depth (seen || is_negated v)
         (out ++ escape_in_class seen v) u
     unfolding class_from
     items_escape zero v u m g q = absurd (omega arith)
     items_escape (suc k) v u m g q =
-        let here : escape n f true (place_of n (backslash ∷ r)) r ≡ gives v u =
-        ap (λ s. escape n f true (place_of n s) r) (sym (e ∙ ap (λ d. d ∷ r) g)) ∙ q in
+        let here : escape f true (reach_of (backslash ∷ r)) r ≡ gives v u =
+        ap (λ s. escape f true (reach_of s) r) (sym (e ∙ ap (λ d. d ∷ r) g)) ∙ q in
         rw (e, g, class_from, here) refl
 
-    pub items_fault : (k : ℕ) (b : Error) → 0 < k → c ≡ backslash → Reports b (escape n f true (place_of n t) r) →
-        IsErrorOrNoMemory b (class_from n f k depth seen out t)
+    pub items_fault : (k : ℕ) (b : Failure) → 0 < k → c ≡ backslash → Reports b (escape f true (reach_of t) r) →
+        IsErrorOrNoMemory b (class_from f k depth seen out t)
     unfolding class_from
     items_fault zero b m g q = absurd (omega arith)
     items_fault (suc k) b m g q =
-        let here = subst (λ s. Reports b (escape n f true (place_of n s) r)) (e ∙ ap (λ d. d ∷ r) g) q in
+        let here = subst (λ s. Reports b (escape f true (reach_of s) r)) (e ∙ ap (λ d. d ∷ r) g) q in
         rw (e, g, class_from) (report_fails b _ (reports_first _ _ b here))
 
   pub class_init : (t o out rest : Text) → o ≡ [] → ◌≡◌ {A = Text × Text} (class_head o t) (out, rest) →
-      class n f t ≡ class_from n f (suc (bytes t)) 0 false out rest
+      class f t ≡ class_from f (suc (bytes t)) 0 false out rest
   unfolding class
-  class_init t o out rest z e = ap (λ (p : Text × Text). class_from n f (suc (bytes t)) 0 false p.0 p.1)
+  class_init t o out rest z e = ap (λ (p : Text × Text). class_from f (suc (bytes t)) 0 false p.0 p.1)
       (ap (λ u. class_head u t) (sym z) ∙ e)
 
 -- the same, where the code holds the parts
-module _ (n : ℕ) (f : Flags) (depth : ℕ) (seen : Bool) (out t : Text) (c : ℕ) (r : Text) (e : t ≡ c ∷ r) (k : ℕ)
+module _ (f : Flags) (depth : ℕ) (seen : Bool) (out t : Text) (c : ℕ) (r : Text) (e : t ≡ c ∷ r) (k : ℕ)
     (some : 0 < k) where
   pub open_step : (o u : Text) → c ≡ open_bracket → ◌≡◌ {A = Text × Text} (class_head out r) (o, u) →
-      class_from n f k depth seen out t ≡ class_from n f (pred k) (depth + 1) seen o u
+      class_from f k depth seen out t ≡ class_from f (pred k) (depth + 1) seen o u
   open_step o u g q =
-      items_open n f depth seen out t c r e k some g
-      ∙ ap (λ (p : Text × Text). class_from n f (pred k) (depth + 1) seen p.0 p.1) q
+      items_open f depth seen out t c r e k some g
+      ∙ ap (λ (p : Text × Text). class_from f (pred k) (depth + 1) seen p.0 p.1) q
 
   module _ (o : Text) (q : o ≡ out ++ c ∷ []) where
     pub plain_step : c ≢ backslash → c ≢ open_bracket → c ≢ close_bracket →
-        class_from n f k depth seen out t ≡ class_from n f (pred k) depth seen o r
-    plain_step g h i = rw q (items_plain n f depth seen out t c r e k some g h i)
+        class_from f k depth seen out t ≡ class_from f (pred k) depth seen o r
+    plain_step g h i = rw q (items_plain f depth seen out t c r e k some g h i)
 
     pub close_step : c ≡ close_bracket → depth ≢ 0 →
-        class_from n f k depth seen out t ≡ class_from n f (pred k) (depth - 1) seen o r
-    close_step g d = rw q (items_close n f depth seen out t c r e k some g d)
+        class_from f k depth seen out t ≡ class_from f (pred k) (depth - 1) seen o r
+    close_step g d = rw q (items_close f depth seen out t c r e k some g d)
 
-    pub last_step : c ≡ close_bracket → depth ≡ 0 → class_from n f k depth seen out t ≡ gives o r
-    last_step g d = rw q (items_last n f depth seen out t c r e k some g d)
+    pub last_step : c ≡ close_bracket → depth ≡ 0 → class_from f k depth seen out t ≡ gives o r
+    last_step g d = rw q (items_last f depth seen out t c r e k some g d)
 
-  pub escape_step : (o : Text) (s : Bool) (p : ℕ) (v : Escape) (u : Text) → c ≡ backslash → p ≡ place_of n t →
-      escape n f true p r ≡ gives v u → o ≡ out ++ escape_in_class seen v → s ≡ (seen || is_negated v) →
-      class_from n f k depth seen out t ≡ class_from n f (pred k) depth s o u
+  pub escape_step : (o : Text) (s : Bool) (p : ℕ) (v : Escape) (u : Text) → c ≡ backslash → p ≡ reach_of t →
+      escape f true p r ≡ gives v u → o ≡ out ++ escape_in_class seen v → s ≡ (seen || is_negated v) →
+      class_from f k depth seen out t ≡ class_from f (pred k) depth s o u
   escape_step o s p v u g q h z y =
-      rw (z, y) (items_escape n f depth seen out t c r e k v u some g (ap (λ m. escape n f true m r) (sym q) ∙ h))
+      rw (z, y) (items_escape f depth seen out t c r e k v u some g (ap (λ m. escape f true m r) (sym q) ∙ h))
 
-  pub fault_step : (p : ℕ) (b : Error) → c ≡ backslash → p ≡ place_of n t → Reports b (escape n f true p r) →
-      IsErrorOrNoMemory b (class_from n f k depth seen out t)
-  fault_step p b g q h = items_fault n f depth seen out t c r e k b some g
-      (subst (λ m. Reports b (escape n f true m r)) q h)
+  pub fault_step : (p : ℕ) (b : Failure) → c ≡ backslash → p ≡ reach_of t → Reports b (escape f true p r) →
+      IsErrorOrNoMemory b (class_from f k depth seen out t)
+  fault_step p b g q h = items_fault f depth seen out t c r e k b some g
+      (subst (λ m. Reports b (escape f true m r)) q h)

@@ -20,7 +20,7 @@ use Rattle.fancy_lex.specs.LayoutSteps.{escaped, line, after_comment_head}
 use Rattle.fancy_lex.specs.Property.{Property, PropertyName, read_property, name_at, property_text}
 use Rattle.fancy_lex.specs.Property as property_spec
 use Rattle.fancy_lex.specs.Reading.{Reading, gives, fails, fault_at, choose, layout_reading, ◌>=>◌}
-use Rattle.fancy_lex.specs.Text.{Text, place_of, strip, cut_at}
+use Rattle.fancy_lex.specs.Text.{Text, reach_of, strip, cut_at}
 use Rattle.fancy_lex.specs.declared.flags.Flags.{Flags}
 use Rattle.fancy_lex.proofs.LayoutLemmas.{between_step}
 
@@ -41,9 +41,9 @@ opened_more d (a ∷ b ∷ u) s e = grind (arith, nat_tests)
 not_opened : (d : ℕ) (t : Text) → d ≢ open_paren → is_some (after_comment_head (d ∷ t)) ≡ false
 not_opened d t h = grind (arith, nat_tests)
 
-at_paren : (n : ℕ) (x : Bool) (d : ℕ) (t : Text) → d ≡ open_paren → is_some (after_comment_head (d ∷ t)) ≡ false →
-    layout_from n x between (d ∷ t) ≡ rest (d ∷ t)
-at_paren n x d t h q = let step = between_step n x (d ∷ t) d t refl in grind (arith, nat_tests)
+at_paren : (x : Bool) (d : ℕ) (t : Text) → d ≡ open_paren → is_some (after_comment_head (d ∷ t)) ≡ false →
+    layout_from x between (d ∷ t) ≡ rest (d ∷ t)
+at_paren x d t h q = let step = between_step x (d ∷ t) d t refl in grind (arith, nat_tests)
 
 rest_same : (v w : Text) → rest v ≡ rest w → v ≡ w
 rest_same v w e = cc
@@ -52,36 +52,36 @@ first_same : (c d : ℕ) (t u : Text) → ◌≡◌ {A = Text} (c ∷ t) (d ∷ 
 first_same c d t u e = cc
 
 -- a step between units, where b says whether a comment opens
-abbrev step_on : ℕ → Bool → Bool → ℕ → Text → Skipped
-step_on n x b d t =
-    if b then layout_from n x two t
-    else if x && d == hash then layout_from n x line t
-    else if x && is_blank d then layout_from n x between t
+abbrev step_on : Bool → Bool → ℕ → Text → Skipped
+step_on x b d t =
+    if b then layout_from x two t
+    else if x && d == hash then layout_from x line t
+    else if x && is_blank d then layout_from x between t
     else rest (d ∷ t)
 
-step_is : (n : ℕ) (x b : Bool) (d : ℕ) (t : Text) → is_some (after_comment_head (d ∷ t)) ≡ b →
-    layout_from n x between (d ∷ t) ≡ step_on n x b d t
-step_is n x b d t q = between_step n x (d ∷ t) d t refl ∙ ap (λ a. step_on n x a d t) q
+step_is : (x b : Bool) (d : ℕ) (t : Text) → is_some (after_comment_head (d ∷ t)) ≡ b →
+    layout_from x between (d ∷ t) ≡ step_on x b d t
+step_is x b d t q = between_step x (d ∷ t) d t refl ∙ ap (λ a. step_on x a d t) q
 
-module _ (n m : ℕ) (x : Bool) (s : Text) (c : ℕ) (r : Text) (paren : c ≢ open_paren) where
+module _ (x : Bool) (s : Text) (c : ℕ) (r : Text) (paren : c ≢ open_paren) where
   abbrev From : Phase → Text → Type 0
-  From st t = layout_from n x st t ≡ rest (c ∷ r) → layout_from m x st (t ++ s) ≡ rest ((c ∷ r) ++ s)
+  From st t = layout_from x st t ≡ rest (c ∷ r) → layout_from x st (t ++ s) ≡ rest ((c ∷ r) ++ s)
 
   module _ (d : ℕ) (t : Text) (rec : (st : Phase) → From st t) where
     from_step : (b : Bool) → is_some (after_comment_head (d ∷ t)) ≡ b →
         is_some (after_comment_head (d ∷ (t ++ s))) ≡ b → From between (d ∷ t)
     from_step b q z e =
-        step_is m x b d (t ++ s) z
+        step_is x b d (t ++ s) z
         ∙ from_if b _ _ _ _ _ _ (rec two) (from_if (x && d == hash) _ _ _ _ _ _ (rec line)
         (from_if (x && is_blank d) _ _ _ _ _ _ (rec between)
-        (λ q. ap (λ (l : Text). rest (l ++ s)) (rest_same (d ∷ t) (c ∷ r) q)))) (sym (step_is n x b d t q) ∙ e)
+        (λ q. ap (λ (l : Text). rest (l ++ s)) (rest_same (d ∷ t) (c ∷ r) q)))) (sym (step_is x b d t q) ∙ e)
 
     from_between : (b : Bool) → is_some (after_comment_head (d ∷ t)) ≡ b → (d ≡ open_paren) ⊎ (d ≢ open_paren) →
         From between (d ∷ t)
     from_between true q h e = from_step true q (opened_more d t s q) e
     from_between false q (inr h) e = from_step false q (not_opened d (t ++ s) h) e
     from_between false q (inl h) e =
-        let stop = at_paren n x d t h q in
+        let stop = at_paren x d t h q in
         absurd (paren (sym (first_same d c t r (rest_same _ _ (sym stop ∙ e))) ∙ h))
 
     from_next : (st : Phase) → From st (d ∷ t)
@@ -105,9 +105,9 @@ module _ (n m : ℕ) (x : Bool) (s : Text) (c : ℕ) (r : Text) (paren : c ≢ o
   layout_from_frame (d ∷ t) st e = from_next d t (layout_from_frame t) st e
 
 -- layout stays the same where it ends before another character than `(`
-pub layout_frame : (n m : ℕ) (x : Bool) (t s : Text) (c : ℕ) (r : Text) → c ≢ open_paren → layout n x t ≡ rest (c ∷ r) →
-    layout m x (t ++ s) ≡ rest ((c ∷ r) ++ s)
-layout_frame n m x t s c r h e = layout_from_frame n m x s c r h t between e
+pub layout_frame : (x : Bool) (t s : Text) (c : ℕ) (r : Text) → c ≢ open_paren → layout x t ≡ rest (c ∷ r) →
+    layout x (t ++ s) ≡ rest ((c ∷ r) ++ s)
+layout_frame x t s c r h e = layout_from_frame x s c r h t between e
 
 -- A reading whose text may have s behind it, and then has s behind what is left, and nothing else is changed.
 
@@ -135,20 +135,20 @@ firm_from c t (gives a u) there h same = ((c, t, refl, h), same)
 firm_from c t (fails e) there h k = tt
 
 -- behind layout
-behind_layout : {A : Type 0} (n m : ℕ) (x : Bool) (t : Text) (R : Text → Reading A) (S : Text → Text → Reading A) →
+behind_layout : {A : Type 0} (x : Bool) (t : Text) (R : Text → Reading A) (S : Text → Text → Reading A) →
     ((v : Text) → Firm v (R v) (λ s. S s (v ++ s))) →
-    Stays (layout_reading (layout n x t) >=> (λ _ v. R v))
-    (λ s. layout_reading (layout m x (t ++ s)) >=> (λ _ v. S s v))
-behind_layout {A = A} n m x t R S firm = by_layout (layout n x t) refl where
-  by_reading : (v : Text) → layout n x t ≡ rest v → (o : Reading A) → Firm v o (λ s. S s (v ++ s)) →
-      Stays o (λ s. layout_reading (layout m x (t ++ s)) >=> (λ _ v. S s v))
+    Stays (layout_reading (layout x t) >=> (λ _ v. R v))
+    (λ s. layout_reading (layout x (t ++ s)) >=> (λ _ v. S s v))
+behind_layout {A = A} x t R S firm = by_layout (layout x t) refl where
+  by_reading : (v : Text) → layout x t ≡ rest v → (o : Reading A) → Firm v o (λ s. S s (v ++ s)) →
+      Stays o (λ s. layout_reading (layout x (t ++ s)) >=> (λ _ v. S s v))
   by_reading v e (gives a u) ((c, r, q, h), same) = λ s.
       ap (λ o. layout_reading o >=> (λ _ v. S s v))
-      (layout_frame n m x t s c r h (e ∙ ap rest q) ∙ ap (λ (l : Text). rest (l ++ s)) (sym q)) ∙ same s
+      (layout_frame x t s c r h (e ∙ ap rest q) ∙ ap (λ (l : Text). rest (l ++ s)) (sym q)) ∙ same s
   by_reading v e (fails z) h = tt
 
-  by_layout : (k : Skipped) → layout n x t ≡ k →
-      Stays (layout_reading k >=> (λ _ v. R v)) (λ s. layout_reading (layout m x (t ++ s)) >=> (λ _ v. S s v))
+  by_layout : (k : Skipped) → layout x t ≡ k →
+      Stays (layout_reading k >=> (λ _ v. R v)) (λ s. layout_reading (layout x (t ++ s)) >=> (λ _ v. S s v))
   by_layout (rest v) e = by_reading v e (R v) (firm v)
   by_layout (fault p) e = tt
 
@@ -157,7 +157,7 @@ behind_layout {A = A} n m x t R S firm = by_layout (layout n x t) refl where
 is_hex : (c : ℕ) → nat_lt (digit_value c) 16 ≡ true → c ≢ open_paren
 is_hex c h = grind (arith, nat_tests)
 
-module _ (n m : ℕ) (x : Bool) (h : ℕ) (h' : Text → ℕ) where
+module _ (x : Bool) (h : ℕ) (h' : Text → ℕ) where
   closed_firm : (some : Bool) (v : ℕ) (t : Text) →
       Firm t (closing_brace h some v (strip close_brace t))
       (λ s. closing_brace (h' s) some v (strip close_brace (t ++ s)))
@@ -175,22 +175,22 @@ module _ (n m : ℕ) (x : Bool) (h : ℕ) (h' : Text → ℕ) where
   closed_none false v there = tt
 
   abbrev DigitsFirm : ℕ → Bool → ℕ → Type 0
-  DigitsFirm k some v = (t : Text) → Firm t (hex_digits n x h k some v t) (λ s. hex_digits m x (h' s) k some v (t ++ s))
+  DigitsFirm k some v = (t : Text) → Firm t (hex_digits x h k some v t) (λ s. hex_digits x (h' s) k some v (t ++ s))
 
   -- behind a digit come layout and more digits, else the closing brace
   digits_on : (k : ℕ) (some : Bool) (v d c : ℕ) (t : Text) → ((v : ℕ) → DigitsFirm k true v) → (b : Bool) →
       (b ≡ true → c ≢ open_paren)
       → Firm (c ∷ t)
       (choose (if b then Some (d, t) else None)
-      (λ (p : ℕ × Text). layout_reading (layout n x p.1) >=> (λ _ t. hex_digits n x h k true (v * 16 + p.0) t))
+      (λ (p : ℕ × Text). layout_reading (layout x p.1) >=> (λ _ t. hex_digits x h k true (v * 16 + p.0) t))
       (closing_brace h some v (strip close_brace (c ∷ t))))
       (λ s. choose (if b then Some (d, t ++ s) else None)
-      (λ (p : ℕ × Text). layout_reading (layout m x p.1) >=> (λ _ t. hex_digits m x (h' s) k true (v * 16 + p.0) t))
+      (λ (p : ℕ × Text). layout_reading (layout x p.1) >=> (λ _ t. hex_digits x (h' s) k true (v * 16 + p.0) t))
       (closing_brace (h' s) some v (strip close_brace ((c ∷ t) ++ s))))
   digits_on k some v d c t more false f = closed_firm some v (c ∷ t)
   digits_on k some v d c t more true f =
       firm_from c t _ _ (f refl)
-      (behind_layout n m x t (hex_digits n x h k true (v * 16 + d)) (λ s u. hex_digits m x (h' s) k true (v * 16 + d) u)
+      (behind_layout x t (hex_digits x h k true (v * 16 + d)) (λ s u. hex_digits x (h' s) k true (v * 16 + d) u)
       (more (v * 16 + d)))
 
   digits_firm : (k : ℕ) (some : Bool) (v : ℕ) → DigitsFirm k some v
@@ -200,12 +200,12 @@ module _ (n m : ℕ) (x : Bool) (h : ℕ) (h' : Text → ℕ) where
   digits_firm (suc k) some v (c ∷ t) = digits_on k some v (digit_value c) c t (λ v. digits_firm k true v)
       (nat_lt (digit_value c) 16) (is_hex c)
 
-  braced_firm : (t : Text) → Firm (open_brace ∷ t) (braced_value n x h t) (λ s. braced_value m x (h' s) (t ++ s))
+  braced_firm : (t : Text) → Firm (open_brace ∷ t) (braced_value x h t) (λ s. braced_value x (h' s) (t ++ s))
   unfolding braced_value
   braced_firm t =
       let other : open_brace ≢ open_paren = grind (arith, nat_tests) in
       firm_from open_brace t _ _ other
-      (behind_layout n m x t (hex_digits n x h 8 false 0) (λ s v. hex_digits m x (h' s) 8 false 0 v)
+      (behind_layout x t (hex_digits x h 8 false 0) (λ s v. hex_digits x (h' s) 8 false 0 v)
       (digits_firm 8 false 0))
 
 -- the same of what reads a value or nothing
@@ -248,26 +248,26 @@ fixed_paren k v c t e = rw e refl
 not_both : {A : Type 0} (p : A) → Some p ≡ None → ⊥
 not_both p e = cc
 
-module _ (n m : ℕ) (x : Bool) (h : ℕ) (h' : Text → ℕ) where
+module _ (x : Bool) (h : ℕ) (h' : Text → ℕ) where
   abbrev ValueFirm : ℕ → Text → Type 0
-  ValueFirm w t = Firm t (value n x h (suc w) t) (λ s. value m x (h' s) (suc w) (t ++ s))
+  ValueFirm w t = Firm t (value x h (suc w) t) (λ s. value x (h' s) (suc w) (t ++ s))
 
   value_brace : (w : ℕ) (t : Text) → ValueFirm w (open_brace ∷ t)
   unfolding value fixed_digits hex_digit
-  value_brace w t = braced_firm n m x h h' t
+  value_brace w t = braced_firm x h h' t
 
   value_on : (w c : ℕ) (t : Text) → c ≢ open_brace → (o : Option (ℕ × Text)) → fixed_digits (suc w) 0 (c ∷ t) ≡ o →
       StaysSome o (λ s. fixed_digits (suc w) 0 (c ∷ (t ++ s)))
       → Firm (c ∷ t)
       (choose o (λ p. gives p.0 p.1)
-      (choose (strip open_brace (c ∷ t)) (braced_value n x h) (fault_at h invalid_hex)))
-      (λ s. value m x (h' s) (suc w) (c ∷ (t ++ s)))
+      (choose (strip open_brace (c ∷ t)) (braced_value x h) (fault_at h invalid_hex)))
+      (λ s. value x (h' s) (suc w) (c ∷ (t ++ s)))
   unfolding value
   value_on w c t other None e k = let test : (c == open_brace) ≡ false = grind (arith, nat_tests) in rw test tt
   value_on w c t other (Some p) e same = (
     (c, t, refl, λ z. not_both p (sym e ∙ fixed_paren w 0 c t z)),
     λ s. ap (λ o. choose o (λ (p : ℕ × Text). gives p.0 p.1)
-        (choose (strip open_brace (c ∷ (t ++ s))) (braced_value m x (h' s)) (fault_at (h' s) invalid_hex))) (same s),
+        (choose (strip open_brace (c ∷ (t ++ s))) (braced_value x (h' s)) (fault_at (h' s) invalid_hex))) (same s),
   )
 
   value_other : (w c : ℕ) (t : Text) → c ≢ open_brace → ValueFirm w (c ∷ t)
@@ -301,14 +301,14 @@ coded_firm f w h h' t (gives a u) there (front, same) =
     (λ s. ap (λ o. o >=> leaf_of_value f w (h' s)) (same s))
 coded_firm f w h h' t (fails e) there k = tt
 
-hex_stays : (n m : ℕ) (f : Flags) (w : ℕ) (t : Text) → Stays (hex n f (suc w) t) (λ s. hex m f (suc w) (t ++ s))
+hex_stays : (f : Flags) (w : ℕ) (t : Text) → Stays (hex f (suc w) t) (λ s. hex f (suc w) (t ++ s))
 unfolding hex
-hex_stays n m f w t =
-    behind_layout n m f.ignore_space t
-    (λ v. value n f.ignore_space (place_of n v) (suc w) v >=> leaf_of_value f (suc w) (place_of n v))
-    (λ s v. value m f.ignore_space (place_of m v) (suc w) v >=> leaf_of_value f (suc w) (place_of m v))
-    (λ v. coded_firm f (suc w) (place_of n v) (λ s. place_of m (v ++ s)) v _ _
-    (value_firm n m f.ignore_space (place_of n v) (λ s. place_of m (v ++ s)) w v))
+hex_stays f w t =
+    behind_layout f.ignore_space t
+    (λ v. value f.ignore_space (reach_of v) (suc w) v >=> leaf_of_value f (suc w) (reach_of v))
+    (λ s v. value f.ignore_space (reach_of v) (suc w) v >=> leaf_of_value f (suc w) (reach_of v))
+    (λ v. coded_firm f (suc w) (reach_of v) (λ s. reach_of (v ++ s)) v _ _
+    (value_firm f.ignore_space (reach_of v) (λ s. reach_of (v ++ s)) w v))
 
 -- Properties.
 
@@ -350,10 +350,10 @@ numbered_on : (p : ℕ) (there : Text → Reading Escape) (o : Reading ℕ) →
 numbered_on p there (gives k u) = tt
 numbered_on p there (fails e) = tt
 
-number_escape_stays : (n : ℕ) (f : Flags) (p : ℕ) (t : Text) (there : Text → Reading Escape) →
-    Stays (number_escape n f true p t) there
+number_escape_stays : (f : Flags) (p : ℕ) (t : Text) (there : Text → Reading Escape) →
+    Stays (number_escape f true p t) there
 unfolding number_escape
-number_escape_stays n f p t there = numbered_on p there (group_number n t)
+number_escape_stays f p t there = numbered_on p there (group_number t)
 
 value_stays : (e : Escape) (t : Text) → Stays (gives e t) (λ s. gives e (t ++ s))
 value_stays e t = λ s. refl
@@ -363,18 +363,18 @@ unfolding in_class
 in_class_stays p q c t = stays_if (c ∈ "b") _ _ _ _ (value_stays _ t)
     (stays_if (c ∈ "kAzBKGR") _ _ _ _ (value_stays _ t) tt)
 
-escape_stays : (n m : ℕ) (f : Flags) (p q : ℕ) (t : Text) →
-    Stays (escape n f true p t) (λ s. escape m f true q (t ++ s))
+escape_stays : (f : Flags) (p q : ℕ) (t : Text) →
+    Stays (escape f true p t) (λ s. escape f true q (t ++ s))
 unfolding escape
-escape_stays n m f p q [] = tt
-escape_stays n m f p q (c ∷ t) =
-    stays_if (is_ascii_digit c) _ _ _ _ (number_escape_stays n f p (c ∷ t) _)
+escape_stays f p q [] = tt
+escape_stays f p q (c ∷ t) =
+    stays_if (is_ascii_digit c) _ _ _ _ (number_escape_stays f p (c ∷ t) _)
     (stays_if (c ∈ "dDsSwW") _ _ _ _ (value_stays _ t)
     (stays_if (c ∈ "h") _ _ _ _ (value_stays _ t)
     (stays_if (c ∈ "H") _ _ _ _ (value_stays _ t)
-    (stays_if (c ∈ "x") _ _ _ _ (hex_stays n m f 1 t)
-    (stays_if (c ∈ "u") _ _ _ _ (hex_stays n m f 3 t)
-    (stays_if (c ∈ "U") _ _ _ _ (hex_stays n m f 7 t)
+    (stays_if (c ∈ "x") _ _ _ _ (hex_stays f 1 t)
+    (stays_if (c ∈ "u") _ _ _ _ (hex_stays f 3 t)
+    (stays_if (c ∈ "U") _ _ _ _ (hex_stays f 7 t)
     (stays_if (c ∈ "pP") _ _ _ _ (property_stays f p q c t)
     (stays_if (c ∈ "a") _ _ _ _ (value_stays _ t)
     (stays_if (c ∈ "f") _ _ _ _ (value_stays _ t)
@@ -387,7 +387,7 @@ escape_stays n m f p q (c ∷ t) =
     (in_class_stays p q c t))))))))))))))))
 
 -- what the escape stands for and what is left stay the same
-pub escape_frame : (n m : ℕ) (f : Flags) (p q : ℕ) (t u s : Text) (e : Escape) → escape n f true p t ≡ gives e u →
-    escape m f true q (t ++ s) ≡ gives e (u ++ s)
-escape_frame n m f p q t u s e h = (subst (λ o. Stays o (λ s. escape m f true q (t ++ s))) h (escape_stays n m f p q t))
+pub escape_frame : (f : Flags) (p q : ℕ) (t u s : Text) (e : Escape) → escape f true p t ≡ gives e u →
+    escape f true q (t ++ s) ≡ gives e (u ++ s)
+escape_frame f p q t u s e h = (subst (λ o. Stays o (λ s. escape f true q (t ++ s))) h (escape_stays f p q t))
     s

@@ -16,7 +16,7 @@ use Rattle.fancy_lex.specs.LayoutSteps.{Skipped, rest, fault, layout}
 use Rattle.fancy_lex.specs.Property.{single, braced, name_at, read_property}
 use Rattle.fancy_lex.specs.Reading.{Reading, gives, fails, fault_at, ◌>=>◌, choose, layout_reading}
 use Rattle.fancy_lex.specs.Referred.{Reference}
-use Rattle.fancy_lex.specs.Text.{Text, EndsWith as Ends, bytes, strip, place_of, cut_at}
+use Rattle.fancy_lex.specs.Text.{Text, EndsWith as Ends, bytes, strip, reach_of, cut_at}
 use Rattle.fancy_lex.proofs.LayoutLaws.{layout_cut, layout_stands}
 use Rattle.fancy_lex.proofs.LeaveLaws.{ends_whole, ends_past, ends_twice, stands_here, stands_past, Leaves, whole}
 use Rattle.fancy_lex.proofs.LeaveLaws.{whole_next, leaves_none, leaves_told, leaves_retold, leaves_past, leaves_if}
@@ -72,37 +72,37 @@ unfolding read_property
 leaves_read negated t = some_map t (name_at t) _ (leaves_name_at t)
 
 -- a pattern of n bytes, where the place p is told
-module _ (n p : ℕ) where
-  pub leaves_layout : (x : Bool) (t : Text) → Leaves n p t (layout_reading (layout n x t))
-  leaves_layout x t = at (layout n x t) refl where
-    at : (o : Skipped) → layout n x t ≡ o → Leaves n p t (layout_reading o)
-    at (rest u) e = leaves (layout_cut n x t u e)
-    at (fault q) e = leaves_none (layout_stands n p x t q e)
+module _ (p : ℕ) where
+  pub leaves_layout : (x : Bool) (t : Text) → Leaves p t (layout_reading (layout x t))
+  leaves_layout x t = at (layout x t) refl where
+    at : (o : Skipped) → layout x t ≡ o → Leaves p t (layout_reading o)
+    at (rest u) e = leaves (layout_cut x t u e)
+    at (fault q) e = leaves_none (layout_stands p x t q e)
 
 -- hex codes, where the place h is told
-module _ (n h : ℕ) where
+module _ (h : ℕ) where
   module _ (x : Bool) where
-    leaves_closed : (some : Bool) (v : ℕ) (t : Text) → Leaves n h t (hexes.closing_brace h some v (strip close_brace t))
+    leaves_closed : (some : Bool) (v : ℕ) (t : Text) → Leaves h t (hexes.closing_brace h some v (strip close_brace t))
     leaves_closed some v t = at some (strip close_brace t) refl where
-      at : (some : Bool) (o : Option Text) → strip close_brace t ≡ o → Leaves n h t (hexes.closing_brace h some v o)
+      at : (some : Bool) (o : Option Text) → strip close_brace t ≡ o → Leaves h t (hexes.closing_brace h some v o)
       at true (Some u) e = leaves (ends_strip close_brace t u e)
       at true None e = leaves_told
       at false o e = leaves_told
 
-    leaves_digits : (k : ℕ) (some : Bool) (v : ℕ) (t : Text) → Leaves n h t (hexes.hex_digits n x h k some v t)
+    leaves_digits : (k : ℕ) (some : Bool) (v : ℕ) (t : Text) → Leaves h t (hexes.hex_digits x h k some v t)
     unfolding hexes.hex_digits
     leaves_digits zero some v t = leaves_closed some v t
     leaves_digits (suc k) some v t =
         leaves_choose (hexes.hex_digit t)
         (λ p e. leaves_past (ends_some t _ p (leaves_digit t) e)
-        (leaves_both (leaves_layout n h x p.1) (λ _ u. leaves_digits k true (v * 16 + p.0) u)))
+        (leaves_both (leaves_layout h x p.1) (λ _ u. leaves_digits k true (v * 16 + p.0) u)))
         (leaves_closed some v t)
 
-    leaves_braced : (t : Text) → Leaves n h t (hexes.braced_value n x h t)
+    leaves_braced : (t : Text) → Leaves h t (hexes.braced_value x h t)
     unfolding hexes.braced_value
-    leaves_braced t = leaves_both (leaves_layout n h x t) (λ _ u. leaves_digits 8 false 0 u)
+    leaves_braced t = leaves_both (leaves_layout h x t) (λ _ u. leaves_digits 8 false 0 u)
 
-    leaves_value : (width : ℕ) (t : Text) → Leaves n h t (hexes.value n x h width t)
+    leaves_value : (width : ℕ) (t : Text) → Leaves h t (hexes.value x h width t)
     unfolding hexes.value
     leaves_value width t =
         leaves_choose (hexes.fixed_digits width 0 t) (λ p e. leaves (ends_some t _ p (leaves_fixed width 0 t) e))
@@ -110,108 +110,108 @@ module _ (n h : ℕ) where
         (leaves_told))
 
   module _ (f : Flags) (width : ℕ) where
-    none_at_code : {A : Type 0} {k : Kind} {t : Text} → Leaves {A = A} n h t (fault_at h k)
+    none_at_code : {A : Type 0} {k : Kind} {t : Text} → Leaves {A = A} h t (fault_at h k)
     none_at_code = leaves_told
 
-    leaves_coded : (v : ℕ) (t : Text) → Leaves n h t (hexes.leaf_of_value f width h v t)
+    leaves_coded : (v : ℕ) (t : Text) → Leaves h t (hexes.leaf_of_value f width h v t)
     unfolding hexes.leaf_of_value
     leaves_coded v t = search (leaves_if, whole, none_at_code)
 
-module _ (n p : ℕ) where
-  pub leaves_hex : (f : Flags) (width : ℕ) (t : Text) → Leaves n p t (hexes.hex n f width t)
+module _ (p : ℕ) where
+  pub leaves_hex : (f : Flags) (width : ℕ) (t : Text) → Leaves p t (hexes.hex f width t)
   unfolding hexes.hex
   leaves_hex f width t =
-      leaves_both (leaves_layout n p f.ignore_space t)
+      leaves_both (leaves_layout p f.ignore_space t)
       (λ _ u. leaves_retold (stands_here u)
-      (leaves_both (leaves_value n (place_of n u) f.ignore_space width u) (leaves_coded n (place_of n u) f width)))
+      (leaves_both (leaves_value (reach_of u) f.ignore_space width u) (leaves_coded (reach_of u) f width)))
 
   -- word boundaries
   module _ (x : Bool) where
-    leaves_name_behind : (k : ℕ) → ((t : Text) → Leaves n p t (boundary_steps.name n x p k t)) → (t : Text) →
-        Leaves n p t (boundary_steps.up_to_brace (fault_at p (invalid_escape (codes "\\b{...}"))) (gives [])
-        (λ c v. boundary_steps.name n x p k v >=> (λ w v. gives (c ∷ w) v)) t)
+    leaves_name_behind : (k : ℕ) → ((t : Text) → Leaves p t (boundary_steps.name x p k t)) → (t : Text) →
+        Leaves p t (boundary_steps.up_to_brace (fault_at p (invalid_escape (codes "\\b{...}"))) (gives [])
+        (λ c v. boundary_steps.name x p k v >=> (λ w v. gives (c ∷ w) v)) t)
     leaves_name_behind k more [] = leaves_told
     leaves_name_behind k more (c ∷ t) =
         let past = ends_past c t t (ends_whole t) in
         leaves_if (c == close_brace) (leaves past) (leaves_past past (leaves_both (more t) (λ w v. whole v)))
 
-    leaves_name : (k : ℕ) (t : Text) → Leaves n p t (boundary_steps.name n x p k t)
+    leaves_name : (k : ℕ) (t : Text) → Leaves p t (boundary_steps.name x p k t)
     unfolding boundary_steps.name
     leaves_name zero t = leaves_told
-    leaves_name (suc k) t = leaves_both (leaves_layout n p x t) (λ _ u. leaves_name_behind k (leaves_name k) u)
+    leaves_name (suc k) t = leaves_both (leaves_layout p x t) (λ _ u. leaves_name_behind k (leaves_name k) u)
 
-    leaves_named : (negated : Bool) (t : Text) → Leaves n p t (boundary_steps.named_boundary n x p negated t)
+    leaves_named : (negated : Bool) (t : Text) → Leaves p t (boundary_steps.named_boundary x p negated t)
     unfolding boundary_steps.named_boundary
     leaves_named negated t = leaves_both (leaves_name (suc (length t)) t)
         (λ w u. leaves_choose (boundaries.boundary_of_name negated w) (λ a e. whole u) (leaves_told))
 
-    pub leaves_boundary : (negated : Bool) (t : Text) → Leaves n p t (boundary_steps.boundary n x p negated t)
+    pub leaves_boundary : (negated : Bool) (t : Text) → Leaves p t (boundary_steps.boundary x p negated t)
     unfolding boundary_steps.boundary
-    leaves_boundary negated t = at (layout n x t) refl where
-      at : (o : Skipped) → layout n x t ≡ o →
-          Leaves n p t (layout_reading o >=>
+    leaves_boundary negated t = at (layout x t) refl where
+      at : (o : Skipped) → layout x t ≡ o →
+          Leaves p t (layout_reading o >=>
           (λ _ u. choose (strip open_brace u)
-          (λ inside. layout_reading (layout n x inside) >=>
+          (λ inside. layout_reading (layout x inside) >=>
           (λ _ v. if boundaries.at_count v then gives (boundaries.unnamed_boundary negated) t
-          else boundary_steps.named_boundary n x p negated inside)) (gives (boundaries.unnamed_boundary negated) t)))
-      at (rest u) e = leaves_choose (strip open_brace u) (λ inside h. braces u inside e h (layout n x inside) refl)
+          else boundary_steps.named_boundary x p negated inside)) (gives (boundaries.unnamed_boundary negated) t)))
+      at (rest u) e = leaves_choose (strip open_brace u) (λ inside h. braces u inside e h (layout x inside) refl)
           (whole t) where
-            braces : (u inside : Text) → layout n x t ≡ rest u → strip open_brace u ≡ Some inside → (o : Skipped) →
-                layout n x inside ≡ o → Leaves n p t
+            braces : (u inside : Text) → layout x t ≡ rest u → strip open_brace u ≡ Some inside → (o : Skipped) →
+                layout x inside ≡ o → Leaves p t
                 (layout_reading o >=>
                 (λ _ v. if boundaries.at_count v then gives (boundaries.unnamed_boundary negated) t
-                else boundary_steps.named_boundary n x p negated inside))
+                else boundary_steps.named_boundary x p negated inside))
             braces u inside e h (rest v) i =
                 leaves_if (boundaries.at_count v) (whole t)
-                (leaves_past (ends_twice t u inside (layout_cut n x t u e) (ends_strip open_brace u inside h))
+                (leaves_past (ends_twice t u inside (layout_cut x t u e) (ends_strip open_brace u inside h))
                 (leaves_named negated inside))
             braces u inside e h (fault q) i = leaves_none
-                (stands_past (ends_twice t u inside (layout_cut n x t u e) (ends_strip open_brace u inside h))
-                (layout_stands n p x inside q i))
-      at (fault q) e = leaves_none (layout_stands n p x t q e)
+                (stands_past (ends_twice t u inside (layout_cut x t u e) (ends_strip open_brace u inside h))
+                (layout_stands p x inside q i))
+      at (fault q) e = leaves_none (layout_stands p x t q e)
 
 -- escapes
-module _ (n : ℕ) (f : Flags) (inside : Bool) (p : ℕ) where
-  none_here : {A : Type 0} {k : Kind} {t : Text} → Leaves {A = A} n p t (fault_at p k)
+module _ (f : Flags) (inside : Bool) (p : ℕ) where
+  none_here : {A : Type 0} {k : Kind} {t : Text} → Leaves {A = A} p t (fault_at p k)
   none_here = leaves_told
 
-  leaves_property : (c : ℕ) (t : Text) → Leaves n p t (property f inside p c t)
+  leaves_property : (c : ℕ) (t : Text) → Leaves p t (property f inside p c t)
   unfolding property
   leaves_property c [] = none_here
   leaves_property c (d ∷ t) =
       leaves_choose (read_property (c ∈ "P") (d ∷ t))
       (λ q e. leaves (ends_some (d ∷ t) _ q (leaves_read (c ∈ "P") (d ∷ t)) e)) none_here
 
-  leaves_backref_leaf : {t : Text} {o : Reading Reference} → Leaves n p t o → Leaves n p t (backref_leaf f o)
+  leaves_backref_leaf : {t : Text} {o : Reading Reference} → Leaves p t o → Leaves p t (backref_leaf f o)
   leaves_backref_leaf h = leaves_both h (λ r u. whole u)
 
-  leaves_number_escape : (t : Text) → Leaves n p t (number_escape n f inside p t)
+  leaves_number_escape : (t : Text) → Leaves p t (number_escape f inside p t)
   unfolding number_escape
   leaves_number_escape t =
-      leaves_if inside (leaves_both (takes_leaves (place_of n t) 1 t (stands_here t) (takes_number n t))
+      leaves_if inside (leaves_both (takes_leaves (reach_of t) 1 t (stands_here t) (takes_number t))
       (λ k u. none_here))
-      (leaves_backref_leaf (takes_leaves (place_of n t) 1 t (stands_here t) (takes_numbered_reference n t)))
+      (leaves_backref_leaf (takes_leaves (reach_of t) 1 t (stands_here t) (takes_numbered_reference t)))
 
-  leaves_named_reference : (t : Text) → Leaves n p t (backref_leaf f (back_reference n t))
+  leaves_named_reference : (t : Text) → Leaves p t (backref_leaf f (back_reference t))
   leaves_named_reference t = leaves_backref_leaf
-      (takes_leaves (place_of n t) 3 t (stands_here t) (takes_back_reference n t))
+      (takes_leaves (reach_of t) 3 t (stands_here t) (takes_back_reference t))
 
-  leaves_call : (c : ℕ) (t : Text) → Leaves n p t (call_escape n p c t)
+  leaves_call : (c : ℕ) (t : Text) → Leaves p t (call_escape p c t)
   unfolding call_escape
   leaves_call c [] = none_here
   leaves_call c (d ∷ t) =
-      leaves_both (takes_leaves (place_of n (d ∷ t)) 1 (d ∷ t) (stands_here (d ∷ t)) (takes_subroutine_call n (d ∷ t)))
+      leaves_both (takes_leaves (reach_of (d ∷ t)) 1 (d ∷ t) (stands_here (d ∷ t)) (takes_subroutine_call (d ∷ t)))
       (λ r u. whole u)
 
-  boundary_here : (negated : Bool) (t : Text) → Leaves n p t (boundary_steps.boundary n f.ignore_space p negated t)
-  boundary_here = leaves_boundary n p f.ignore_space
+  boundary_here : (negated : Bool) (t : Text) → Leaves p t (boundary_steps.boundary f.ignore_space p negated t)
+  boundary_here = leaves_boundary p f.ignore_space
 
-  leaves_outside : (c : ℕ) (t : Text) → Leaves n p t (outside n f p c t)
+  leaves_outside : (c : ℕ) (t : Text) → Leaves p t (outside f p c t)
   unfolding outside
   leaves_outside c t = search (leaves_if, whole, none_here, boundary_here, leaves_named_reference, leaves_call) depth 60
       fits 3000
 
-  leaves_in_class : (c : ℕ) (t : Text) → Leaves n p t (in_class p c t)
+  leaves_in_class : (c : ℕ) (t : Text) → Leaves p t (in_class p c t)
   unfolding in_class
   leaves_in_class c t = search (leaves_if, whole, none_here)
 
@@ -220,20 +220,20 @@ module _ (n : ℕ) (f : Flags) (inside : Bool) (p : ℕ) where
     past : Ends (d ∷ t) t
     past = ends_past d t t (ends_whole t)
 
-    hex_next : (width : ℕ) → Leaves n p (d ∷ t) (hexes.hex n f width t)
-    hex_next width = leaves_past past (leaves_hex n p f width t)
+    hex_next : (width : ℕ) → Leaves p (d ∷ t) (hexes.hex f width t)
+    hex_next width = leaves_past past (leaves_hex p f width t)
 
-    property_next : Leaves n p (d ∷ t) (property f inside p c t)
+    property_next : Leaves p (d ∷ t) (property f inside p c t)
     property_next = leaves_past past (leaves_property c t)
 
-    in_class_next : Leaves n p (d ∷ t) (in_class p c t)
+    in_class_next : Leaves p (d ∷ t) (in_class p c t)
     in_class_next = leaves_past past (leaves_in_class c t)
 
-    outside_next : Leaves n p (d ∷ t) (outside n f p c t)
+    outside_next : Leaves p (d ∷ t) (outside f p c t)
     outside_next = leaves_past past (leaves_outside c t)
 
   -- the end of the text is left, or the fault stands there, or at the backslash
-  pub leaves_escape : (t : Text) → Leaves n p t (escape n f inside p t)
+  pub leaves_escape : (t : Text) → Leaves p t (escape f inside p t)
   unfolding escape
   leaves_escape [] = none_here
   leaves_escape (c ∷ t) =
@@ -241,13 +241,13 @@ module _ (n : ℕ) (f : Flags) (inside : Bool) (p : ℕ) where
       60 fits 3000
 
 -- what is left is the end of the text
-pub escape_cut : (n : ℕ) (f : Flags) (b : Bool) (p : ℕ) (t u : Text) (e : Escape) → escape n f b p t ≡ gives e u →
+pub escape_cut : (f : Flags) (b : Bool) (p : ℕ) (t u : Text) (e : Escape) → escape f b p t ≡ gives e u →
     (w : Text) × (t ≡ w ++ u)
-escape_cut n f b p t u e q = at (escape n f b p t) (leaves_escape n f b p t) q where
-  at : (o : Reading Escape) → Leaves n p t o → o ≡ gives e u → Ends t u
+escape_cut f b p t u e q = at (escape f b p t) (leaves_escape f b p t) q where
+  at : (o : Reading Escape) → Leaves p t o → o ≡ gives e u → Ends t u
   at (gives a v) (leaves h) q = let same : v ≡ u = cc in subst (Ends t) same h
   at (fails g) l q = absurd (cc)
 
-pub escape_within : (n : ℕ) (f : Flags) (b : Bool) (p : ℕ) (t u : Text) (e : Escape) → escape n f b p t ≡ gives e u →
+pub escape_within : (f : Flags) (b : Bool) (p : ℕ) (t u : Text) (e : Escape) → escape f b p t ≡ gives e u →
     bytes u ≤ bytes t
-escape_within n f b p t u e q = let (w, cut) = escape_cut n f b p t u e q in rw cut (omega (arith, bytes-append w u))
+escape_within f b p t u e q = let (w, cut) = escape_cut f b p t u e q in rw cut (omega (arith, bytes-append w u))

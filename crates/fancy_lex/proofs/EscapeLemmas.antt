@@ -35,10 +35,10 @@ property_read f inside p c [] q v h = absurd (nothing h) where
 property_read f inside p c (d ∷ r) q v h = rw h refl
 
 -- a call behind its letter
-pub call_is : (n p c : ℕ) (t : Text) (k : Call) (v : Text) → subroutine_call n t ≡ gives k v →
-    call_escape n p c t ≡ gives (leaf.subroutine_call k) v
+pub call_is : (p c : ℕ) (t : Text) (k : Call) (v : Text) → subroutine_call t ≡ gives k v →
+    call_escape p c t ≡ gives (leaf.subroutine_call k) v
 unfolding call_escape subroutine_call marked_call marked_name
-call_is n p c [] k v e = absurd cc
-call_is n p c (d ∷ t) k v e = rw e refl
+call_is p c [] k v e = absurd cc
+call_is p c (d ∷ t) k v e = rw e refl
 
 pub ruleset property_steps = (property_end, property_unclosed, property_read)

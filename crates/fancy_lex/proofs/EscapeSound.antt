@@ -17,7 +17,7 @@ use Rattle.fancy_lex.specs.LayoutSteps.{layout}
 use Rattle.fancy_lex.specs.Property.{read_property}
 use Rattle.fancy_lex.specs.Reading.{Reading, gives, fails, ◌>=>◌, choose, layout_reading}
 use Rattle.fancy_lex.specs.Referred.{Reference, Call}
-use Rattle.fancy_lex.specs.Text.{Text, EndsWith as Ends, strip, place_of}
+use Rattle.fancy_lex.specs.Text.{Text, EndsWith as Ends, strip, reach_of}
 use Rattle.fancy_lex.specs.declared.escape.Assertion.{Assertion}
 use Rattle.fancy_lex.specs.declared.escape.Assertion.TheVariants.{LeftWordBoundary, RightWordBoundary}
 use Rattle.fancy_lex.specs.declared.flags.Flags.{Flags}
@@ -28,172 +28,171 @@ use Rattle.fancy_lex.proofs.ReferencePlaces.{subroutine_call_at}
 use Rattle.fancy_lex.proofs.TakeLaws.{Takes, TakesOrFails, takes, takes_less}
 
 -- the place p, in a pattern of n bytes, lies behind the beginning of t and before that of u
-pub record Stands (n : ℕ) (t u : Text) (p : ℕ) : Type 0 where
+pub record Stands (t u : Text) (p : ℕ) : Type 0 where
   pub mark : Text
   pub ends : Ends t mark
   pub takes : Takes 1 mark u
-  pub place : p ≡ place_of n mark
+  pub place : p ≡ reach_of mark
 
 -- what an escape of t, behind which u is left, stands for: a byte above the ASCII ones, a reference or call that stands
 -- in the escape, or another leaf
-abbrev pub IsSound : ℕ → Text → Text → Escape → Type 0
-IsSound n t u (literal_bytes b) = (0x80 ≤ b) × (b ≤ 0xFF)
-IsSound n t u (backref r casei) = Stands n t u r.place
-IsSound n t u (called c) = Stands n t u c.place
-IsSound n t u _ = Unit {0}
+abbrev pub IsSound : Text → Text → Escape → Type 0
+IsSound t u (literal_bytes b) = (0x80 ≤ b) × (b ≤ 0xFF)
+IsSound t u (backref r casei) = Stands t u r.reach
+IsSound t u (called c) = Stands t u c.reach
+IsSound t u _ = Unit {0}
 
 -- the same of what was read of t
-abbrev pub Sound : ℕ → Text → Reading Escape → Type 0
-Sound n t (gives e u) = IsSound n t u e
-Sound n t (fails e) = Unit {0}
+abbrev pub Sound : Text → Reading Escape → Type 0
+Sound t (gives e u) = IsSound t u e
+Sound t (fails e) = Unit {0}
 
-module _ (n : ℕ) where
-  stands_past : (c : ℕ) (t u : Text) (p : ℕ) → Stands n t u p → Stands n (c ∷ t) u p
-  stands_past c t u p h = record { mark = h.mark; ends = ends_past c t h.mark h.ends; takes = h.takes; place = h.place }
+stands_past : (c : ℕ) (t u : Text) (p : ℕ) → Stands t u p → Stands (c ∷ t) u p
+stands_past c t u p h = record { mark = h.mark; ends = ends_past c t h.mark h.ends; takes = h.takes; place = h.place }
 
-  past_one : (c : ℕ) (t u : Text) (e : Escape) → IsSound n t u e → IsSound n (c ∷ t) u e
-  past_one c t u (literal v casei) h = h
-  past_one c t u (literal_bytes b) h = h
-  past_one c t u (any newline crlf) h = h
-  past_one c t u (assertion a) h = h
-  past_one c t u (general_newline unicode) h = h
-  past_one c t u keep_out h = h
-  past_one c t u continue_from_previous_match_end h = h
-  past_one c t u (delegate w casei) h = h
-  past_one c t u (backref r casei) h = stands_past c t u r.place h
-  past_one c t u (called r) h = stands_past c t u r.place h
+past_one : (c : ℕ) (t u : Text) (e : Escape) → IsSound t u e → IsSound (c ∷ t) u e
+past_one c t u (literal v casei) h = h
+past_one c t u (literal_bytes b) h = h
+past_one c t u (any newline crlf) h = h
+past_one c t u (assertion a) h = h
+past_one c t u (general_newline unicode) h = h
+past_one c t u keep_out h = h
+past_one c t u continue_from_previous_match_end h = h
+past_one c t u (delegate w casei) h = h
+past_one c t u (backref r casei) h = stands_past c t u r.reach h
+past_one c t u (called r) h = stands_past c t u r.reach h
 
-  sound_past : (c : ℕ) (t : Text) (o : Reading Escape) → Sound n t o → Sound n (c ∷ t) o
-  sound_past c t (gives e u) h = past_one c t u e h
-  sound_past c t (fails e) h = tt
+sound_past : (c : ℕ) (t : Text) (o : Reading Escape) → Sound t o → Sound (c ∷ t) o
+sound_past c t (gives e u) h = past_one c t u e h
+sound_past c t (fails e) h = tt
 
-  sound_both : {A : Type 0} (t : Text) (o : Reading A) (f : A → Text → Reading Escape) →
-      ((a : A) (u : Text) → Sound n t (f a u)) → Sound n t (o >=> f)
-  sound_both t (gives a u) f h = h a u
-  sound_both t (fails e) f h = tt
+sound_both : {A : Type 0} (t : Text) (o : Reading A) (f : A → Text → Reading Escape) →
+    ((a : A) (u : Text) → Sound t (f a u)) → Sound t (o >=> f)
+sound_both t (gives a u) f h = h a u
+sound_both t (fails e) f h = tt
 
-  sound_choose : {A : Type 0} (t : Text) (o : Option A) (f : A → Reading Escape) (d : Reading Escape) →
-      ((a : A) → Sound n t (f a)) → Sound n t d → Sound n t (choose o f d)
-  sound_choose t (Some a) f d h k = h a
-  sound_choose t None f d h k = k
+sound_choose : {A : Type 0} (t : Text) (o : Option A) (f : A → Reading Escape) (d : Reading Escape) →
+    ((a : A) → Sound t (f a)) → Sound t d → Sound t (choose o f d)
+sound_choose t (Some a) f d h k = h a
+sound_choose t None f d h k = k
 
-  module _ (f : Flags) where
-    sound_backref_leaf : (t : Text) (o : Reading Reference) → TakesOrFails (place_of n t) 1 t o →
-        IfGives (ReferenceAt (place_of n t)) o → Sound n t (backref_leaf f o)
-    sound_backref_leaf t (gives r u) (takes a) e = record { mark = t; ends = ends_whole t; takes = a; place = e }
-    sound_backref_leaf t (fails z) h e = tt
+module _ (f : Flags) where
+  sound_backref_leaf : (t : Text) (o : Reading Reference) → TakesOrFails (reach_of t) 1 t o →
+      IfGives (ReferenceAt (reach_of t)) o → Sound t (backref_leaf f o)
+  sound_backref_leaf t (gives r u) (takes a) e = record { mark = t; ends = ends_whole t; takes = a; place = e }
+  sound_backref_leaf t (fails z) h e = tt
 
-    sound_calling : (t : Text) (o : Reading Call) → TakesOrFails (place_of n t) 1 t o →
-        IfGives (CallAt (place_of n t)) o →
-        Sound n t (o >=> (λ c u. gives (called c) u))
-    sound_calling t (gives c u) (takes a) e = record { mark = t; ends = ends_whole t; takes = a; place = e }
-    sound_calling t (fails z) h e = tt
+  sound_calling : (t : Text) (o : Reading Call) → TakesOrFails (reach_of t) 1 t o →
+      IfGives (CallAt (reach_of t)) o →
+      Sound t (o >=> (λ c u. gives (called c) u))
+  sound_calling t (gives c u) (takes a) e = record { mark = t; ends = ends_whole t; takes = a; place = e }
+  sound_calling t (fails z) h e = tt
 
-    sound_number_escape : (inside : Bool) (p : ℕ) (t : Text) → Sound n t (number_escape n f inside p t)
-    unfolding number_escape
-    sound_number_escape inside p t =
-        cond_both inside _ _ (Sound n t) (λ _. sound_both t (group_number n t) _ (λ k u. tt))
-        (λ _. sound_backref_leaf t (numbered_reference n t) (takes_numbered_reference n t) (numbered_reference_at n t))
+  sound_number_escape : (inside : Bool) (p : ℕ) (t : Text) → Sound t (number_escape f inside p t)
+  unfolding number_escape
+  sound_number_escape inside p t =
+      cond_both inside _ _ (Sound t) (λ _. sound_both t (group_number t) _ (λ k u. tt))
+      (λ _. sound_backref_leaf t (numbered_reference t) (takes_numbered_reference t) (numbered_reference_at t))
 
-    sound_named : (t : Text) → Sound n t (backref_leaf f (back_reference n t))
-    sound_named t =
-        sound_backref_leaf t (back_reference n t)
-        (takes_less (place_of n t) 3 t (omega arith) (takes_back_reference n t)) (back_reference_at n t)
+  sound_named : (t : Text) → Sound t (backref_leaf f (back_reference t))
+  sound_named t =
+      sound_backref_leaf t (back_reference t)
+      (takes_less (reach_of t) 3 t (omega arith) (takes_back_reference t)) (back_reference_at t)
 
-    sound_call : (p c : ℕ) (t : Text) → Sound n t (call_escape n p c t)
-    unfolding call_escape
-    sound_call p c [] = tt
-    sound_call p c (d ∷ t) =
-        sound_calling (d ∷ t) (subroutine_call n (d ∷ t)) (takes_subroutine_call n (d ∷ t))
-        (subroutine_call_at n (d ∷ t))
+  sound_call : (p c : ℕ) (t : Text) → Sound t (call_escape p c t)
+  unfolding call_escape
+  sound_call p c [] = tt
+  sound_call p c (d ∷ t) =
+      sound_calling (d ∷ t) (subroutine_call (d ∷ t)) (takes_subroutine_call (d ∷ t))
+      (subroutine_call_at (d ∷ t))
 
-    sound_coded : (width h v : ℕ) (t u : Text) → Sound n t (hexes.leaf_of_value f width h v u)
-    unfolding hexes.leaf_of_value
-    sound_coded width h v t u =
-        cond_both (width == 2 && not f.unicode && nat_le 0x80 v && nat_le v 0xFF) _ _ (Sound n t)
-        (λ e. high (width == 2) (not f.unicode) e)
-        (λ _. cond_both (hexes.is_scalar v) _ _ (Sound n t) (λ _. tt) (λ _. tt))
-      where
-        high : (a b : Bool) → (a && b && nat_le 0x80 v && nat_le v 0xFF) ≡ true → (0x80 ≤ v) × (v ≤ 0xFF)
-        high true true e = (grind (arith, nat_tests, e), grind (arith, nat_tests, e))
-        high true false e = absurd cc
-        high false b e = absurd cc
+  sound_coded : (width h v : ℕ) (t u : Text) → Sound t (hexes.leaf_of_value f width h v u)
+  unfolding hexes.leaf_of_value
+  sound_coded width h v t u =
+      cond_both (width == 2 && not f.unicode && nat_le 0x80 v && nat_le v 0xFF) _ _ (Sound t)
+      (λ e. high (width == 2) (not f.unicode) e)
+      (λ _. cond_both (hexes.is_scalar v) _ _ (Sound t) (λ _. tt) (λ _. tt))
+    where
+      high : (a b : Bool) → (a && b && nat_le 0x80 v && nat_le v 0xFF) ≡ true → (0x80 ≤ v) × (v ≤ 0xFF)
+      high true true e = (grind (arith, nat_tests, e), grind (arith, nat_tests, e))
+      high true false e = absurd cc
+      high false b e = absurd cc
 
-    sound_hex : (width : ℕ) (t : Text) → Sound n t (hexes.hex n f width t)
-    unfolding hexes.hex
-    sound_hex width t =
-        sound_both t (layout_reading (layout n f.ignore_space t)) _
-        (λ _ u. sound_both t (hexes.value n f.ignore_space (place_of n u) width u) _
-        (λ v w. sound_coded width (place_of n u) v t w))
+  sound_hex : (width : ℕ) (t : Text) → Sound t (hexes.hex f width t)
+  unfolding hexes.hex
+  sound_hex width t =
+      sound_both t (layout_reading (layout f.ignore_space t)) _
+      (λ _ u. sound_both t (hexes.value f.ignore_space (reach_of u) width u) _
+      (λ v w. sound_coded width (reach_of u) v t w))
 
-    sound_property : (inside : Bool) (p c : ℕ) (t : Text) → Sound n t (property f inside p c t)
-    unfolding property
-    sound_property inside p c [] = tt
-    sound_property inside p c (d ∷ t) = sound_choose (d ∷ t) (read_property (c ∈ "P") (d ∷ t)) _ _ (λ q. tt) tt
+  sound_property : (inside : Bool) (p c : ℕ) (t : Text) → Sound t (property f inside p c t)
+  unfolding property
+  sound_property inside p c [] = tt
+  sound_property inside p c (d ∷ t) = sound_choose (d ∷ t) (read_property (c ∈ "P") (d ∷ t)) _ _ (λ q. tt) tt
 
-    sound_boundary : (p : ℕ) (negated : Bool) (t : Text) →
-        Sound n t (boundary_steps.boundary n f.ignore_space p negated t)
-    unfolding boundary_steps.boundary boundary_steps.named_boundary
-    sound_boundary p negated t =
-        sound_both t (layout_reading (layout n f.ignore_space t)) _
-        (λ _ u. sound_choose t (strip open_brace u) _ _
-        (λ v. sound_both t (layout_reading (layout n f.ignore_space v)) _
-        (λ _ w. cond_both (boundaries.at_count w) _ _ (Sound n t) (λ _. tt) (λ _. braces v))) tt)
-      where
-        braces : (v : Text) → Sound n t (boundary_steps.named_boundary n f.ignore_space p negated v)
-        braces v =
-            sound_both t (boundary_steps.name n f.ignore_space p _ v) _
-            (λ w u. sound_choose t (boundaries.boundary_of_name negated w) _ _ (λ a. tt) tt)
+  sound_boundary : (p : ℕ) (negated : Bool) (t : Text) →
+      Sound t (boundary_steps.boundary f.ignore_space p negated t)
+  unfolding boundary_steps.boundary boundary_steps.named_boundary
+  sound_boundary p negated t =
+      sound_both t (layout_reading (layout f.ignore_space t)) _
+      (λ _ u. sound_choose t (strip open_brace u) _ _
+      (λ v. sound_both t (layout_reading (layout f.ignore_space v)) _
+      (λ _ w. cond_both (boundaries.at_count w) _ _ (Sound t) (λ _. tt) (λ _. braces v))) tt)
+    where
+      braces : (v : Text) → Sound t (boundary_steps.named_boundary f.ignore_space p negated v)
+      braces v =
+          sound_both t (boundary_steps.name f.ignore_space p _ v) _
+          (λ w u. sound_choose t (boundaries.boundary_of_name negated w) _ _ (λ a. tt) tt)
 
-    sound_outside : (p c : ℕ) (t : Text) → Sound n t (outside n f p c t)
-    unfolding outside
-    sound_outside p c t =
-        let P = Sound n t in
-        cond_both (c ∈ "A") _ _ P (λ _. tt) (λ _.
-        cond_both (c ∈ "z") _ _ P (λ _. tt) (λ _.
-        cond_both (c ∈ "Z") _ _ P (λ _. tt) (λ _.
-        cond_both (c ∈ "K") _ _ P (λ _. tt) (λ _.
-        cond_both (c ∈ "G") _ _ P (λ _. tt) (λ _.
-        cond_both (c ∈ "R") _ _ P (λ _. tt) (λ _.
-        cond_both (c ∈ "O") _ _ P (λ _. tt) (λ _.
-        cond_both (c ∈ "N") _ _ P (λ _. tt) (λ _.
-        cond_both (c ∈ "<") _ _ P (λ _. mark LeftWordBoundary) (λ _.
-        cond_both (c ∈ ">") _ _ P (λ _. mark RightWordBoundary) (λ _.
-        cond_both (c ∈ "k") _ _ P (λ _. sound_named t) (λ _.
-        cond_both (c ∈ "g") _ _ P (λ _. sound_call p c t) (λ _.
-        cond_both (c ∈ "b") _ _ P (λ _. sound_boundary p _ t) (λ _.
-        cond_both (c ∈ "B") _ _ P (λ _. sound_boundary p _ t) (λ _. tt))))))))))))))
-      where
-        mark : (a : Assertion) → Sound n t (gives (if f.oniguruma_mode then literal c false else assertion a) t)
-        mark a = cond_both f.oniguruma_mode _ _ (λ e. Sound n t (gives e t)) (λ _. tt) (λ _. tt)
+  sound_outside : (p c : ℕ) (t : Text) → Sound t (outside f p c t)
+  unfolding outside
+  sound_outside p c t =
+      let P = Sound t in
+      cond_both (c ∈ "A") _ _ P (λ _. tt) (λ _.
+      cond_both (c ∈ "z") _ _ P (λ _. tt) (λ _.
+      cond_both (c ∈ "Z") _ _ P (λ _. tt) (λ _.
+      cond_both (c ∈ "K") _ _ P (λ _. tt) (λ _.
+      cond_both (c ∈ "G") _ _ P (λ _. tt) (λ _.
+      cond_both (c ∈ "R") _ _ P (λ _. tt) (λ _.
+      cond_both (c ∈ "O") _ _ P (λ _. tt) (λ _.
+      cond_both (c ∈ "N") _ _ P (λ _. tt) (λ _.
+      cond_both (c ∈ "<") _ _ P (λ _. mark LeftWordBoundary) (λ _.
+      cond_both (c ∈ ">") _ _ P (λ _. mark RightWordBoundary) (λ _.
+      cond_both (c ∈ "k") _ _ P (λ _. sound_named t) (λ _.
+      cond_both (c ∈ "g") _ _ P (λ _. sound_call p c t) (λ _.
+      cond_both (c ∈ "b") _ _ P (λ _. sound_boundary p _ t) (λ _.
+      cond_both (c ∈ "B") _ _ P (λ _. sound_boundary p _ t) (λ _. tt))))))))))))))
+    where
+      mark : (a : Assertion) → Sound t (gives (if f.oniguruma_mode then literal c false else assertion a) t)
+      mark a = cond_both f.oniguruma_mode _ _ (λ e. Sound t (gives e t)) (λ _. tt) (λ _. tt)
 
-    sound_in_class : (p c : ℕ) (t : Text) → Sound n t (in_class p c t)
-    unfolding in_class
-    sound_in_class p c t =
-        cond_both (c ∈ "b") _ _ (Sound n t) (λ _. tt)
-        (λ _. cond_both (c ∈ "kAzBKGR") _ _ (Sound n t) (λ _. tt) (λ _. tt))
+  sound_in_class : (p c : ℕ) (t : Text) → Sound t (in_class p c t)
+  unfolding in_class
+  sound_in_class p c t =
+      cond_both (c ∈ "b") _ _ (Sound t) (λ _. tt)
+      (λ _. cond_both (c ∈ "kAzBKGR") _ _ (Sound t) (λ _. tt) (λ _. tt))
 
-    -- of all that an escape stands for
-    pub sound_escape : (inside : Bool) (p : ℕ) (t : Text) → Sound n t (escape n f inside p t)
-    unfolding escape
-    sound_escape inside p [] = tt
-    sound_escape inside p (c ∷ t) =
-        let P = Sound n (c ∷ t) in
-        cond_both (is_ascii_digit c) _ _ P (λ _. sound_number_escape inside p (c ∷ t)) (λ _.
-        cond_both (c ∈ "dDsSwW") _ _ P (λ _. tt) (λ _.
-        cond_both (c ∈ "h") _ _ P (λ _. tt) (λ _.
-        cond_both (c ∈ "H") _ _ P (λ _. tt) (λ _.
-        cond_both (c ∈ "x") _ _ P (λ _. sound_past c t _ (sound_hex 2 t)) (λ _.
-        cond_both (c ∈ "u") _ _ P (λ _. sound_past c t _ (sound_hex 4 t)) (λ _.
-        cond_both (c ∈ "U") _ _ P (λ _. sound_past c t _ (sound_hex 8 t)) (λ _.
-        cond_both (c ∈ "pP") _ _ P (λ _. sound_past c t _ (sound_property inside p c t)) (λ _.
-        cond_both (c ∈ "a") _ _ P (λ _. tt) (λ _.
-        cond_both (c ∈ "f") _ _ P (λ _. tt) (λ _.
-        cond_both (c ∈ "n") _ _ P (λ _. tt) (λ _.
-        cond_both (c ∈ "r") _ _ P (λ _. tt) (λ _.
-        cond_both (c ∈ "t") _ _ P (λ _. tt) (λ _.
-        cond_both (c ∈ "v") _ _ P (λ _. tt) (λ _.
-        cond_both (c ∈ "e") _ _ P (λ _. tt) (λ _.
-        cond_both (is_itself inside c) _ _ P (λ _. tt) (λ _.
-        cond_both inside _ _ P (λ _. sound_past c t _ (sound_in_class p c t))
-        (λ _. sound_past c t _ (sound_outside p c t))))))))))))))))))
+  -- of all that an escape stands for
+  pub sound_escape : (inside : Bool) (p : ℕ) (t : Text) → Sound t (escape f inside p t)
+  unfolding escape
+  sound_escape inside p [] = tt
+  sound_escape inside p (c ∷ t) =
+      let P = Sound (c ∷ t) in
+      cond_both (is_ascii_digit c) _ _ P (λ _. sound_number_escape inside p (c ∷ t)) (λ _.
+      cond_both (c ∈ "dDsSwW") _ _ P (λ _. tt) (λ _.
+      cond_both (c ∈ "h") _ _ P (λ _. tt) (λ _.
+      cond_both (c ∈ "H") _ _ P (λ _. tt) (λ _.
+      cond_both (c ∈ "x") _ _ P (λ _. sound_past c t _ (sound_hex 2 t)) (λ _.
+      cond_both (c ∈ "u") _ _ P (λ _. sound_past c t _ (sound_hex 4 t)) (λ _.
+      cond_both (c ∈ "U") _ _ P (λ _. sound_past c t _ (sound_hex 8 t)) (λ _.
+      cond_both (c ∈ "pP") _ _ P (λ _. sound_past c t _ (sound_property inside p c t)) (λ _.
+      cond_both (c ∈ "a") _ _ P (λ _. tt) (λ _.
+      cond_both (c ∈ "f") _ _ P (λ _. tt) (λ _.
+      cond_both (c ∈ "n") _ _ P (λ _. tt) (λ _.
+      cond_both (c ∈ "r") _ _ P (λ _. tt) (λ _.
+      cond_both (c ∈ "t") _ _ P (λ _. tt) (λ _.
+      cond_both (c ∈ "v") _ _ P (λ _. tt) (λ _.
+      cond_both (c ∈ "e") _ _ P (λ _. tt) (λ _.
+      cond_both (is_itself inside c) _ _ P (λ _. tt) (λ _.
+      cond_both inside _ _ P (λ _. sound_past c t _ (sound_in_class p c t))
+      (λ _. sound_past c t _ (sound_outside p c t))))))))))))))))))

@@ -8,7 +8,7 @@ use Rattle.fancy_lex.specs.FaultTable.{code_not_read}
 use Rattle.fancy_lex.specs.Text.{Text, strip}
 use Rattle.fancy_lex.specs.LayoutSteps.{layout}
 use Rattle.fancy_lex.specs.Reading.{gives, fails, Says, layout_reading}
-use Rattle.fancy_lex.specs.declared.error.Error.{Error}
+use Rattle.fancy_lex.specs.declared.error.Failure.{Failure}
 use Rattle.fancy_lex.proofs.ReadingLemmas.{says_first}
 use Rattle.fancy_lex.specs.Hex.{fixed_digits, hex_digit, hex_digits, closing_brace}
 
@@ -29,37 +29,37 @@ pub fixed_done : (w i v : ℕ) (t : Text) → w ≤ i → fixed_digits (w - i) v
 unfolding fixed_digits
 fixed_done w i v t h = let none : w - i ≡ 0 = omega arith in rw none refl
 
-module _ (n : ℕ) (x : Bool) (h i v : ℕ) (t : Text) where
+module _ (x : Bool) (h i v : ℕ) (t : Text) where
   pub digits_step : (d : ℕ) (r u : Text) → i < 8 → hex_digit t ≡ Some (d, r) →
-      layout_reading (layout n x r) ≡ gives tt u →
-      hex_digits n x h (8 - i) (nat_lt 0 i) v t ≡ hex_digits n x h (8 - (i + 1)) (nat_lt 0 (i + 1)) (v * 16 + d) u
+      layout_reading (layout x r) ≡ gives tt u →
+      hex_digits x h (8 - i) (nat_lt 0 i) v t ≡ hex_digits x h (8 - (i + 1)) (nat_lt 0 (i + 1)) (v * 16 + d) u
   unfolding hex_digits
   digits_step d r u l e s =
       let some : nat_lt 0 (i + 1) ≡ true = grind (arith, nat_tests) in
       rw (one_more 8 i l, hex_digits, e, s, some) refl
 
-  pub digits_fault : (d : ℕ) (r : Text) (b : Error) → i < 8 → hex_digit t ≡ Some (d, r) →
-      Says b (layout_reading (layout n x r)) → Says b (hex_digits n x h (8 - i) (nat_lt 0 i) v t)
+  pub digits_fault : (d : ℕ) (r : Text) (b : Failure) → i < 8 → hex_digit t ≡ Some (d, r) →
+      Says b (layout_reading (layout x r)) → Says b (hex_digits x h (8 - i) (nat_lt 0 i) v t)
   unfolding hex_digits
   digits_fault d r b l e s = rw (one_more 8 i l, hex_digits, e) (says_first _ _ b s)
 
   pub digits_end : i < 8 → hex_digit t ≡ None →
-      hex_digits n x h (8 - i) (nat_lt 0 i) v t ≡ closing_brace h (nat_lt 0 i) v (strip close_brace t)
+      hex_digits x h (8 - i) (nat_lt 0 i) v t ≡ closing_brace h (nat_lt 0 i) v (strip close_brace t)
   unfolding hex_digits
   digits_end l e = rw (one_more 8 i l, hex_digits, e) refl
 
-  pub digits_none : i ≡ 0 → hex_digit t ≡ None → hex_digits n x h (8 - i) (nat_lt 0 i) v t ≡ fails (code_not_read h)
+  pub digits_none : i ≡ 0 → hex_digit t ≡ None → hex_digits x h (8 - i) (nat_lt 0 i) v t ≡ fails (code_not_read h)
   digits_none z e =
       let none : nat_lt 0 i ≡ false = grind (arith, nat_tests) in
       digits_end (omega arith) e ∙ ap (λ some. closing_brace h some v (strip close_brace t)) none
 
   pub digits_some : i ≢ 0 → i < 8 → hex_digit t ≡ None →
-      hex_digits n x h (8 - i) (nat_lt 0 i) v t ≡ closing_brace h true v (strip close_brace t)
+      hex_digits x h (8 - i) (nat_lt 0 i) v t ≡ closing_brace h true v (strip close_brace t)
   digits_some z l e =
       let some : nat_lt 0 i ≡ true = grind (arith, nat_tests) in
       digits_end l e ∙ ap (λ some. closing_brace h some v (strip close_brace t)) some
 
-  pub digits_done : 8 ≤ i → hex_digits n x h (8 - i) (nat_lt 0 i) v t ≡ closing_brace h true v (strip close_brace t)
+  pub digits_done : 8 ≤ i → hex_digits x h (8 - i) (nat_lt 0 i) v t ≡ closing_brace h true v (strip close_brace t)
   unfolding hex_digits
   digits_done l =
       let none : 8 - i ≡ 0 = omega arith in

@@ -22,61 +22,61 @@ use Rattle.fancy_lex.proofs.LayoutLemmas.{between_plain, between_end, line_end}
 snoc : (i r : Text) (c : ℕ) → (i ++ c ∷ []) ++ r ≡ i ++ c ∷ r
 snoc i r c = append_assoc i (c ∷ []) r
 
-module _ (n : ℕ) (x : Bool) where
+module _ (x : Bool) where
   -- what the relation says, the function answers
-  past_inside : {i : Text} → InComment i → (r : Text) → layout_from n x comment (i ++ r) ≡ layout_from n x comment r
+  past_inside : {i : Text} → InComment i → (r : Text) → layout_from x comment (i ++ r) ≡ layout_from x comment r
   past_inside nothing r = refl
   past_inside (plain {c} {t} a b h) r =
-      let step = comment_step n x _ c (t ++ r) refl in
+      let step = comment_step x _ c (t ++ r) refl in
       let after = past_inside h r in
-      let now : layout_from n x comment (c ∷ (t ++ r)) ≡ layout_from n x comment (t ++ r) = grind (arith, nat_tests) in
+      let now : layout_from x comment (c ∷ (t ++ r)) ≡ layout_from x comment (t ++ r) = grind (arith, nat_tests) in
       now ∙ after
   past_inside (pair {b} {c} {t} e h) r =
-      let step = comment_step n x _ b (c ∷ (t ++ r)) refl in
-      let pass = escaped_step n x _ c (t ++ r) refl in
-      let now : layout_from n x comment (b ∷ c ∷ (t ++ r)) ≡ layout_from n x escaped (c ∷ (t ++ r)) =
+      let step = comment_step x _ b (c ∷ (t ++ r)) refl in
+      let pass = escaped_step x _ c (t ++ r) refl in
+      let now : layout_from x comment (b ∷ c ∷ (t ++ r)) ≡ layout_from x escaped (c ∷ (t ++ r)) =
       grind (arith, nat_tests) in
       now ∙ pass ∙ past_inside h r
 
-  past_line : {i : Text} → InLine i → (r : Text) → layout_from n x line (i ++ r) ≡ layout_from n x line r
+  past_line : {i : Text} → InLine i → (r : Text) → layout_from x line (i ++ r) ≡ layout_from x line r
   past_line end_line r = refl
   past_line (on_line {c} {t} a h) r =
-      let step = line_step n x _ c (t ++ r) refl in
-      let now : layout_from n x line (c ∷ (t ++ r)) ≡ layout_from n x line (t ++ r) = grind (arith, nat_tests) in
+      let step = line_step x _ c (t ++ r) refl in
+      let now : layout_from x line (c ∷ (t ++ r)) ≡ layout_from x line (t ++ r) = grind (arith, nat_tests) in
       now ∙ past_line h r
 
   past_comment : {i : Text} → InComment i → (r : Text) →
-      layout_from n x between (comment_head ++ (i ++ close_paren ∷ r)) ≡ layout_from n x between r
+      layout_from x between (comment_head ++ (i ++ close_paren ∷ r)) ≡ layout_from x between r
   past_comment {i} h r =
-      between_opened n x _ (i ++ close_paren ∷ r) refl ∙ past_inside h (close_paren ∷ r)
-      ∙ comment_step n x _ close_paren r refl
+      between_opened x _ (i ++ close_paren ∷ r) refl ∙ past_inside h (close_paren ∷ r)
+      ∙ comment_step x _ close_paren r refl
 
   -- a character that opens no comment
   not_open : (c : ℕ) (r : Text) → c ≢ open_paren → after_comment_head (c ∷ r) ≡ None
   not_open c r h = grind (arith, nat_tests)
 
-  at_hash : x ≡ true → (r : Text) → layout_from n x between (hash ∷ r) ≡ layout_from n x line r
-  at_hash on r = between_line n x _ hash r refl refl on refl
+  at_hash : x ≡ true → (r : Text) → layout_from x between (hash ∷ r) ≡ layout_from x line r
+  at_hash on r = between_line x _ hash r refl refl on refl
 
   at_blank : x ≡ true → (c : ℕ) → is_blank c ≡ true → (r : Text) →
-      layout_from n x between (c ∷ r) ≡ layout_from n x between r
+      layout_from x between (c ∷ r) ≡ layout_from x between r
   at_blank on c b r =
       let other : c ≢ hash = grind (arith, nat_tests) in
       let paren : c ≢ open_paren = grind (arith, nat_tests) in
-      between_blank n x _ c r refl (not_open c r paren) on other b
+      between_blank x _ c r refl (not_open c r paren) on other b
 
-  past_unit : (u r : Text) → IsUnit x u r → layout_from n x between (u ++ r) ≡ layout_from n x between r
+  past_unit : (u r : Text) → IsUnit x u r → layout_from x between (u ++ r) ≡ layout_from x between r
   past_unit u r (inl (i, h, e)) = rw (e, snoc) (past_comment h r)
   past_unit u r (inr (on, inl (c, b, e))) = rw e (at_blank on c b r)
   past_unit u r (inr (on, inr (i, h, inl e))) =
-      rw (e, snoc) (at_hash on _ ∙ past_line h (line_feed ∷ r) ∙ line_step n x _ line_feed r refl)
+      rw (e, snoc) (at_hash on _ ∙ past_line h (line_feed ∷ r) ∙ line_step x _ line_feed r refl)
   past_unit u r (inr (on, inr (i, h, inr (e, z)))) =
-      rw (e, z) (at_hash on _ ∙ past_line h [] ∙ line_end n x [] refl ∙ sym (between_end n x [] refl))
+      rw (e, z) (at_hash on _ ∙ past_line h [] ∙ line_end x [] refl ∙ sym (between_end x [] refl))
 
-past_units : (n : ℕ) (x : Bool) {w v : Text} → Units x w v →
-    layout_from n x between (w ++ v) ≡ layout_from n x between v
-past_units n x none = refl
-past_units n x (more {v} u t e h hs) = rw (e, append_assoc) (past_unit n x u (t ++ v) h ∙ past_units n x hs)
+past_units : (x : Bool) {w v : Text} → Units x w v →
+    layout_from x between (w ++ v) ≡ layout_from x between v
+past_units x none = refl
+past_units x (more {v} u t e h hs) = rw (e, append_assoc) (past_unit x u (t ++ v) h ∙ past_units x hs)
 
 -- the text up to the line feed, or all of it
 split_line : (t : Text) → ((i : Text) × (r : Text) × InLine i × (t ≡ i ++ line_feed ∷ r)) ⊎ InLine t
@@ -100,44 +100,44 @@ ends_plain c t a b (i, r, h, q) = (c ∷ i, r, plain a b h, ap (λ s. c ∷ s) q
 ends_pair : (b c : ℕ) (t : Text) → b ≡ backslash → Ends t → Ends (b ∷ c ∷ t)
 ends_pair b c t e (i, r, h, q) = (b ∷ c ∷ i, r, pair e h, ap (λ s. b ∷ c ∷ s) q)
 
-open_plain : (n c : ℕ) (t : Text) (p : ℕ) → c ≢ backslash → c ≢ close_paren → OpenComment n t p →
-    OpenComment n (c ∷ t) p
-open_plain n c t p a b (at_end h) = at_end (plain a b h)
-open_plain n c t p a b (after_backslash i e q h) = after_backslash (c ∷ i) (ap (λ s. c ∷ s) e) q (plain a b h)
+open_plain : (c : ℕ) (t : Text) (p : ℕ) → c ≢ backslash → c ≢ close_paren → OpenComment t p →
+    OpenComment (c ∷ t) p
+open_plain c t p a b (at_end h) = at_end (plain a b h)
+open_plain c t p a b (after_backslash i e q h) = after_backslash (c ∷ i) (ap (λ s. c ∷ s) e) q (plain a b h)
 
-open_pair : (n b c : ℕ) (t : Text) (p : ℕ) → b ≡ backslash → OpenComment n t p → OpenComment n (b ∷ c ∷ t) p
-open_pair n b c t p d (at_end h) = at_end (pair d h)
-open_pair n b c t p d (after_backslash i e q h) = after_backslash (b ∷ c ∷ i) (ap (λ s. b ∷ c ∷ s) e) q (pair d h)
+open_pair : (b c : ℕ) (t : Text) (p : ℕ) → b ≡ backslash → OpenComment t p → OpenComment (b ∷ c ∷ t) p
+open_pair b c t p d (at_end h) = at_end (pair d h)
+open_pair b c t p d (after_backslash i e q h) = after_backslash (b ∷ c ∷ i) (ap (λ s. b ∷ c ∷ s) e) q (pair d h)
 
-split_comment : (n : ℕ) (t : Text) → Ends t ⊎ ((p : ℕ) × OpenComment n t p)
-split_comment n [] = inr (n, at_end nothing)
-split_comment n (c ∷ []) =
+split_comment : (t : Text) → Ends t ⊎ ((p : ℕ) × OpenComment t p)
+split_comment [] = inr (1, at_end nothing)
+split_comment (c ∷ []) =
     elim (cases_eq c close_paren) [
       | inl e ↦ inl ([], [], nothing, ap (λ d. d ∷ []) e)
       | inr e ↦ elim (cases_eq c backslash) [
-        | inl b ↦ inr (n + 1, after_backslash [] (ap (λ d. d ∷ []) b) refl nothing)
-        | inr b ↦ inr (n, at_end (plain b e nothing))
+        | inl b ↦ inr (0, after_backslash [] (ap (λ d. d ∷ []) b) refl nothing)
+        | inr b ↦ inr (1, at_end (plain b e nothing))
       ]
     ]
-split_comment n (c ∷ d ∷ t) =
+split_comment (c ∷ d ∷ t) =
     elim (cases_eq c close_paren) [
       | inl e ↦ inl ([], d ∷ t, nothing, ap (λ k. k ∷ d ∷ t) e)
       | inr e ↦ elim (cases_eq c backslash) [
-        | inl b ↦ elim (split_comment n t) [
+        | inl b ↦ elim (split_comment t) [
           | inl h ↦ inl (ends_pair c d t b h)
-          | inr (p, h) ↦ inr (p, open_pair n c d t p b h)
+          | inr (p, h) ↦ inr (p, open_pair c d t p b h)
         ]
-        | inr b ↦ elim (split_comment n (d ∷ t)) [
+        | inr b ↦ elim (split_comment (d ∷ t)) [
           | inl h ↦ inl (ends_plain c (d ∷ t) b e h)
-          | inr (p, h) ↦ inr (p, open_plain n c (d ∷ t) p b e h)
+          | inr (p, h) ↦ inr (p, open_plain c (d ∷ t) p b e h)
         ]
       ]
     ]
 
-open_fault : (n : ℕ) (x : Bool) (t : Text) (p : ℕ) → OpenComment n t p → layout_from n x comment t ≡ fault p
-open_fault n x t p (at_end h) = rw (← append-nil t) (past_inside n x h [] ∙ comment_end n x [] refl)
-open_fault n x t p (after_backslash i e q h) =
-    rw (e, q) (past_inside n x h (backslash ∷ []) ∙ comment_step n x _ backslash [] refl ∙ escaped_end n x [] refl)
+open_fault : (x : Bool) (t : Text) (p : ℕ) → OpenComment t p → layout_from x comment t ≡ fault p
+open_fault x t p (at_end h) = rw (← append-nil t) (past_inside x h [] ∙ comment_end x [] refl)
+open_fault x t p (after_backslash i e q h) =
+    rw (e, q) (past_inside x h (backslash ∷ []) ∙ comment_step x _ backslash [] refl ∙ escaped_end x [] refl)
 
 -- `(?#`, told from the text
 opened_is : (t i : Text) → after_comment_head t ≡ Some i → t ≡ comment_head ++ i
@@ -154,10 +154,10 @@ opened_cases t = opened_by t (after_comment_head t) refl where
   opened_by t None e = inr e
 
 -- what stands at the front of a text: nothing more of layout, or a unit, or an open comment
-data Front (n : ℕ) (x : Bool) (t : Text) : Type 0 where
-  stop : Stops x t → layout_from n x between t ≡ rest t → Front n x t
-  unit : (u r : Text) → t ≡ u ++ r → IsUnit x u r → 0 < length u → Front n x t
-  open_comment : (r : Text) (p : ℕ) → t ≡ comment_head ++ r → OpenComment n r p → Front n x t
+data Front (x : Bool) (t : Text) : Type 0 where
+  stop : Stops x t → layout_from x between t ≡ rest t → Front x t
+  unit : (u r : Text) → t ≡ u ++ r → IsUnit x u r → 0 < length u → Front x t
+  open_comment : (r : Text) (p : ℕ) → t ≡ comment_head ++ r → OpenComment r p → Front x t
 
 some_none : (t i r : Text) → after_comment_head t ≡ None → t ≡ r → after_comment_head r ≡ Some i → ⊥
 some_none t i r n e s = let same = ap after_comment_head e in cc
@@ -175,12 +175,12 @@ stops_from x t n others =
       no_unit u r e (inr (on, inr (i, h, inl q))) = (others on hash _ (e ∙ ap (λ s. s ++ r) q)).0 refl
       no_unit u r e (inr (on, inr (i, h, inr (q, z)))) = (others on hash _ (e ∙ ap (λ s. s ++ r) q)).0 refl
 
-front_extended : (n : ℕ) (t : Text) → after_comment_head t ≡ None → Front n true t
-front_extended n [] e = stop (stops_from true [] e (λ _ c r q. absurd (nil_cons c r q))) (between_end n true [] refl)
+front_extended : (t : Text) → after_comment_head t ≡ None → Front true t
+front_extended [] e = stop (stops_from true [] e (λ _ c r q. absurd (nil_cons c r q))) (between_end true [] refl)
   where
     nil_cons : (c : ℕ) (r : Text) → [] ≡ c ∷ r → ⊥
     nil_cons c r q = cc
-front_extended n (c ∷ t) e =
+front_extended (c ∷ t) e =
     elim (cases_eq c hash) [
       | inl h ↦ elim (split_line t) [
         | inl (i, r, k, q) ↦ unit (hash ∷ (i ++ line_feed ∷ [])) r (at_line i r h q) (inr (refl, inr (i, k, inl refl)))
@@ -193,20 +193,20 @@ front_extended n (c ∷ t) e =
       at_line : (i r : Text) → c ≡ hash → t ≡ i ++ line_feed ∷ r → c ∷ t ≡ hash ∷ ((i ++ line_feed ∷ []) ++ r)
       at_line i r h q = rw (h, q, snoc) refl
 
-      blank_or : (b : Bool) → is_blank c ≡ b → c ≢ hash → Front n true (c ∷ t)
+      blank_or : (b : Bool) → is_blank c ≡ b → c ≢ hash → Front true (c ∷ t)
       blank_or true b h = unit (c ∷ []) t refl (inr (refl, inl (c, b, refl))) (omega arith)
       blank_or false b h =
           stop
           (stops_from true (c ∷ t) e
           (λ _ d r q. (λ k. h (head_same d r q ∙ k), ap is_blank (sym (head_same d r q)) ∙ b)))
-          (between_other n true _ c t refl e refl h b) where
+          (between_other true _ c t refl e refl h b) where
             head_same : (d : ℕ) (r : Text) → c ∷ t ≡ d ∷ r → c ≡ d
             head_same d r q = cc
 
-front : (n : ℕ) (x : Bool) (t : Text) → Front n x t
-front n x t =
+front : (x : Bool) (t : Text) → Front x t
+front x t =
     elim (opened_cases t) [
-      | inl (i, e) ↦ elim (split_comment n i) [
+      | inl (i, e) ↦ elim (split_comment i) [
         | inl (j, r, h, q) ↦ unit (comment_head ++ (j ++ close_paren ∷ [])) r (at_comment i j r e q) (inl (j, h, refl))
             (omega arith)
         | inr (p, h) ↦ open_comment i p e h
@@ -217,32 +217,32 @@ front n x t =
           t ≡ (comment_head ++ (j ++ close_paren ∷ [])) ++ r
       at_comment i j r e q = rw (e, q, snoc) refl
 
-      by_flag : (x : Bool) → after_comment_head t ≡ None → Front n x t
-      by_flag true e = front_extended n t e
-      by_flag false e = stop (stops_from false t e (λ h c r q. absurd (false≢true h))) (between_plain n t e)
+      by_flag : (x : Bool) → after_comment_head t ≡ None → Front x t
+      by_flag true e = front_extended t e
+      by_flag false e = stop (stops_from false t e (λ h c r q. absurd (false≢true h))) (between_plain t e)
 
-stop_rest : (n : ℕ) (x : Bool) (v : Text) → Stops x v → layout_from n x between v ≡ rest v
-stop_rest n x v s =
-    elim (front n x v) [
+stop_rest : (x : Bool) (v : Text) → Stops x v → layout_from x between v ≡ rest v
+stop_rest x v s =
+    elim (front x v) [
       | stop _ e ↦ e
       | unit u r e h _ ↦ absurd (s.no_unit u r e h)
       | open_comment r p e h ↦ absurd (s.no_comment_head r e)
     ]
 
 -- whatever the relation gives is the function's answer
-pub layout_complete : (n : ℕ) (x : Bool) (t v : Text) → Before x t v → layout_from n x between t ≡ rest v
-layout_complete n x t v b = rw b.cut (past_units n x b.layout.units ∙ stop_rest n x v b.layout.stops)
+pub layout_complete : (x : Bool) (t v : Text) → Before x t v → layout_from x between t ≡ rest v
+layout_complete x t v b = rw b.cut (past_units x b.layout.units ∙ stop_rest x v b.layout.stops)
 
-pub unclosed_complete : (n : ℕ) (x : Bool) (t : Text) (p : ℕ) → Unclosed n x t p → layout_from n x between t ≡ fault p
-unclosed_complete n x t p b =
-    rw b.cut (past_units n x b.units ∙ between_opened n x _ b.r refl ∙ open_fault n x b.r p b.inside)
+pub unclosed_complete : (x : Bool) (t : Text) (p : ℕ) → Unclosed x t p → layout_from x between t ≡ fault p
+unclosed_complete x t p b =
+    rw b.cut (past_units x b.units ∙ between_opened x _ b.r refl ∙ open_fault x b.r p b.inside)
 
 -- a text has layout at its front, or an unclosed comment
-abbrev Told : ℕ → Bool → Text → Type 0
-Told n x t = ((v : Text) × Before x t v) ⊎ ((p : ℕ) × Unclosed n x t p)
+abbrev Told : Bool → Text → Type 0
+Told x t = ((v : Text) × Before x t v) ⊎ ((p : ℕ) × Unclosed x t p)
 
-told_more : (n : ℕ) (x : Bool) (t u r : Text) → t ≡ u ++ r → IsUnit x u r → Told n x r → Told n x t
-told_more n x t u r e h (inl (v, b)) =
+told_more : (x : Bool) (t u r : Text) → t ≡ u ++ r → IsUnit x u r → Told x r → Told x t
+told_more x t u r e h (inl (v, b)) =
     let unit = subst (IsUnit x u) b.cut h in
     inl (
       v,
@@ -252,7 +252,7 @@ told_more n x t u r e h (inl (v, b)) =
         layout = record { units = more u b.w refl unit b.layout.units; stops = b.layout.stops };
       },
     )
-told_more n x t u r e h (inr (p, b)) =
+told_more x t u r e h (inr (p, b)) =
     let unit = subst (IsUnit x u) b.cut h in
     inr (
       p,
@@ -268,12 +268,12 @@ told_more n x t u r e h (inr (p, b)) =
 shorter : (t u r : Text) (k : ℕ) → t ≡ u ++ r → 0 < length u → length t < suc k → length r < k
 shorter t u r k e m h = omega (arith, simp length-append at (ap length e))
 
-pub layout_total : (n : ℕ) (x : Bool) (k : ℕ) (t : Text) → length t < k → Told n x t
-layout_total n x zero t h = absurd (omega arith)
-layout_total n x (suc k) t h =
-    elim (front n x t) [
+pub layout_total : (x : Bool) (k : ℕ) (t : Text) → length t < k → Told x t
+layout_total x zero t h = absurd (omega arith)
+layout_total x (suc k) t h =
+    elim (front x t) [
       | stop s _ ↦ inl (t, record { w = []; cut = refl; layout = record { units = none; stops = s } })
-      | unit u r e q m ↦ told_more n x t u r e q (layout_total n x k r (shorter t u r k e m h))
+      | unit u r e q m ↦ told_more x t u r e q (layout_total x k r (shorter t u r k e m h))
       | open_comment r p e q ↦ inr (p, record { w = []; r = r; cut = e; units = none; inside = q })
     ]
 
@@ -284,40 +284,40 @@ apart : (v : Text) (p : ℕ) → rest v ≡ fault p → ⊥
 apart v p e = cc
 
 -- so the function's answer is the relation's
-pub layout_sound : (n : ℕ) (x : Bool) (t v : Text) → layout_from n x between t ≡ rest v → Before x t v
-layout_sound n x t v e =
-    elim (layout_total n x (suc (length t)) t (omega arith)) [
-      | inl (v', b) ↦ let same : v' ≡ v = rest_same v' v (sym (layout_complete n x t v' b) ∙ e) in
+pub layout_sound : (x : Bool) (t v : Text) → layout_from x between t ≡ rest v → Before x t v
+layout_sound x t v e =
+    elim (layout_total x (suc (length t)) t (omega arith)) [
+      | inl (v', b) ↦ let same : v' ≡ v = rest_same v' v (sym (layout_complete x t v' b) ∙ e) in
           subst (Before x t) same b
-      | inr (p, b) ↦ absurd (apart v p (sym e ∙ unclosed_complete n x t p b))
+      | inr (p, b) ↦ absurd (apart v p (sym e ∙ unclosed_complete x t p b))
     ]
 
 faults_same : (p q : ℕ) → fault p ≡ fault q → p ≡ q
 faults_same p q e = cc
 
-pub unclosed_sound : (n : ℕ) (x : Bool) (t : Text) (p : ℕ) → layout_from n x between t ≡ fault p → Unclosed n x t p
-unclosed_sound n x t p e =
-    elim (layout_total n x (suc (length t)) t (omega arith)) [
-      | inl (v, b) ↦ absurd (apart v p (sym (layout_complete n x t v b) ∙ e))
-      | inr (q, b) ↦ let same : q ≡ p = faults_same q p (sym (unclosed_complete n x t q b) ∙ e) in
-          subst (Unclosed n x t) same b
+pub unclosed_sound : (x : Bool) (t : Text) (p : ℕ) → layout_from x between t ≡ fault p → Unclosed x t p
+unclosed_sound x t p e =
+    elim (layout_total x (suc (length t)) t (omega arith)) [
+      | inl (v, b) ↦ absurd (apart v p (sym (layout_complete x t v b) ∙ e))
+      | inr (q, b) ↦ let same : q ≡ p = faults_same q p (sym (unclosed_complete x t q b) ∙ e) in
+          subst (Unclosed x t) same b
     ]
 
-pub derives_from : (n : ℕ) (x : Bool) (t : Text) (r : Result (Bor (List ℕ)) ℕ) →
-    layout_from n x between t ≡ skipped_of r → MatchResult r (λ v. Before x t (chars v.now)) (λ p. Unclosed n x t p)
-derives_from n x t (Ok v) e = layout_sound n x t (chars v.now) e
-derives_from n x t (Err p) e = unclosed_sound n x t p e
+pub derives_from : (x : Bool) (t : Text) (r : Result (Bor (List ℕ)) ℕ) →
+    layout_from x between t ≡ skipped_of r → MatchResult r (λ v. Before x t (chars v.now)) (λ p. Unclosed x t p)
+derives_from x t (Ok v) e = layout_sound x t (chars v.now) e
+derives_from x t (Err p) e = unclosed_sound x t p e
 
 -- what is left is the end of the text
-pub layout_cut : (n : ℕ) (x : Bool) (t v : Text) → layout n x t ≡ rest v → (w : Text) × (t ≡ w ++ v)
-layout_cut n x t v e = let b = layout_sound n x t v e in (b.w, b.cut)
+pub layout_cut : (x : Bool) (t v : Text) → layout x t ≡ rest v → (w : Text) × (t ≡ w ++ v)
+layout_cut x t v e = let b = layout_sound x t v e in (b.w, b.cut)
 
-pub layout_length : (n : ℕ) (x : Bool) (t v : Text) → layout n x t ≡ rest v → length v ≤ length t
-layout_length n x t v e = let (w, cut) = layout_cut n x t v e in omega (arith, simp length-append at (ap length cut))
+pub layout_length : (x : Bool) (t v : Text) → layout x t ≡ rest v → length v ≤ length t
+layout_length x t v e = let (w, cut) = layout_cut x t v e in omega (arith, simp length-append at (ap length cut))
 
 -- the fault stands at the end, or one past it
-pub layout_stands : (n p : ℕ) (x : Bool) (t : Text) (q : ℕ) → layout n x t ≡ fault q → Stands n p t q
-layout_stands n p x t q e = place (unclosed_sound n x t q e).inside where
-  place : {r : Text} {q : ℕ} → OpenComment n r q → Stands n p t q
+pub layout_stands : (p : ℕ) (x : Bool) (t : Text) (q : ℕ) → layout x t ≡ fault q → Stands p t q
+layout_stands p x t q e = place (unclosed_sound x t q e).inside where
+  place : {r : Text} {q : ℕ} → OpenComment r q → Stands p t q
   place (at_end i) = stands_end t
   place (after_backslash i e f j) = past_end f

@@ -6,10 +6,10 @@ use Rattle.std.specs.Option.{option_and_then}
 use Rattle.fancy_lex.specs.Fault.{Fault, Kind}
 use Rattle.fancy_lex.specs.ErrorViews.{kind_of, StandsWithin}
 use Rattle.fancy_lex.specs.Reading.{Reading, gives, fails, fault_at, ◌>=>◌, choose, IsReadingOrNoMemory}
-use Rattle.fancy_lex.specs.Text.{Text, EndsWith as Ends, Stands, as_told, begins, past_end, bytes, place_of, strip}
-use Rattle.fancy_lex.specs.declared.error.Error.{Error}
-use Rattle.fancy_lex.specs.declared.error.Error.TheVariants.{ParseError, OutOfMemory}
-use Rattle.fancy_lex.proofs.TextLemmas.{strip_is}
+use Rattle.fancy_lex.specs.Text.{Text, EndsWith as Ends, Stands, as_told, begins, past_end, bytes, reach_of, strip}
+use Rattle.fancy_lex.specs.declared.error.Failure.{Failure}
+use Rattle.fancy_lex.specs.declared.error.Failure.TheVariants.{At, OutOfMemory}
+use Rattle.fancy_lex.proofs.TextLemmas.{strip_is, bytes-append}
 
 pub ends_whole : (t : Text) → Ends t t
 ends_whole t = ([], refl)
@@ -22,73 +22,73 @@ ends_twice t u v (w, e) (z, h) = (w ++ z, e ∙ ap (λ s. w ++ s) h ∙ sym (app
 
 -- ---- where a fault stands
 
-module _ {n p : ℕ} where
+module _ {p : ℕ} where
   -- where the text begins, and at its end
-  pub stands_here : (t : Text) → Stands n p t (place_of n t)
+  pub stands_here : (t : Text) → Stands p t (reach_of t)
   stands_here t = begins t (ends_whole t) refl
 
-  pub stands_end : (t : Text) → Stands n p t n
+  pub stands_end : (t : Text) → Stands p t 1
   unfolding bytes
   stands_end t = begins [] (t, sym (append-nil t)) (omega arith)
 
   -- what stands in an end of the text stands in the text
-  pub stands_past : {t u : Text} {q : ℕ} → Ends t u → Stands n p u q → Stands n p t q
+  pub stands_past : {t u : Text} {q : ℕ} → Ends t u → Stands p u q → Stands p t q
   stands_past e (as_told h) = as_told h
   stands_past {t} {u} e (begins v h i) = begins v (ends_twice t u v e h) i
   stands_past e (past_end h) = past_end h
 
-  -- another place may be told that stands there
-  pub stands_retold : {t : Text} {h q : ℕ} → Stands n p t h → Stands n h t q → Stands n p t q
-  stands_retold {t} told (as_told e) = subst (Stands n p t) (sym e) told
+  -- another reach may be told that stands there
+  pub stands_retold : {t : Text} {h q : ℕ} → Stands p t h → Stands h t q → Stands p t q
+  stands_retold {t} told (as_told e) = subst (Stands p t) (sym e) told
   stands_retold told (begins v h i) = begins v h i
   stands_retold told (past_end h) = past_end h
 
-  -- the place is at most as great as that told, or one past the end
-  pub stands_within : {t : Text} {m q : ℕ} → p ≤ m → n + 1 ≤ m → Stands n p t q → q ≤ m
+  -- the reach is at most as great as that told, or as that of the text
+  pub stands_within : {t : Text} {m q : ℕ} → p ≤ m → reach_of t ≤ m → Stands p t q → q ≤ m
   stands_within told up (as_told e) = omega arith
-  stands_within told up (begins v h e) = omega arith
+  stands_within told up (begins v (w, cut) e) = omega (arith, ap bytes cut, bytes-append w v)
   stands_within told up (past_end e) = omega arith
 
 -- ---- readings
 
 -- a reading of the text leaves its end, or finds a fault that stands there; it is an answer
-pub data Leaves {A : Type 0} (n p : ℕ) : Text → Reading A → Type 0 where
-  leaves : {t u : Text} {a : A} → Ends t u → Leaves n p t (gives a u)
-  faults : {t : Text} {e : Fault} → Stands n p t e.place → Leaves n p t (fails e)
+pub data Leaves {A : Type 0} (p : ℕ) : Text → Reading A → Type 0 where
+  leaves : {t u : Text} {a : A} → Ends t u → Leaves p t (gives a u)
+  faults : {t : Text} {e : Fault} → Stands p t e.reach → Leaves p t (fails e)
 
-pub whole : {A : Type 0} {a : A} {n p : ℕ} (t : Text) → Leaves n p t (gives a t)
+pub whole : {A : Type 0} {a : A} {p : ℕ} (t : Text) → Leaves p t (gives a t)
 whole t = leaves (ends_whole t)
 
-pub whole_next : {A : Type 0} {a : A} {n p c : ℕ} (t : Text) → Leaves n p (c ∷ t) (gives a t)
+pub whole_next : {A : Type 0} {a : A} {p c : ℕ} (t : Text) → Leaves p (c ∷ t) (gives a t)
 whole_next {c} t = leaves (ends_past c t t (ends_whole t))
 
-pub leaves_none : {A : Type 0} {n p q : ℕ} {k : Kind} {t : Text} → Stands n p t q → Leaves {A = A} n p t (fault_at q k)
+pub leaves_none : {A : Type 0} {p q : ℕ} {k : Kind} {t : Text} → Stands p t q → Leaves {A = A} p t (fault_at q k)
 leaves_none l = faults l
 
-pub leaves_told : {A : Type 0} {n p : ℕ} {k : Kind} {t : Text} → Leaves {A = A} n p t (fault_at p k)
+pub leaves_told : {A : Type 0} {p : ℕ} {k : Kind} {t : Text} → Leaves {A = A} p t (fault_at p k)
 leaves_told = faults (as_told refl)
 
-pub leaves_past : {A : Type 0} {n p : ℕ} {t u : Text} {o : Reading A} → Ends t u → Leaves n p u o → Leaves n p t o
+pub leaves_past : {A : Type 0} {p : ℕ} {t u : Text} {o : Reading A} → Ends t u → Leaves p u o → Leaves p t o
 leaves_past e (leaves h) = leaves (ends_twice _ _ _ e h)
 leaves_past e (faults l) = faults (stands_past e l)
 
-pub leaves_retold : {A : Type 0} {n p h : ℕ} {t : Text} {o : Reading A} → Stands n p t h → Leaves n h t o →
-    Leaves n p t o
+pub leaves_retold : {A : Type 0} {p h : ℕ} {t : Text} {o : Reading A} → Stands p t h → Leaves h t o →
+    Leaves p t o
 leaves_retold told (leaves h) = leaves h
 leaves_retold told (faults l) = faults (stands_retold told l)
 
-pub leaves_if : {A : Type 0} {n p : ℕ} {t : Text} {x y : Reading A} (b : Bool) → Leaves n p t x → Leaves n p t y →
-    Leaves n p t (if b then x else y)
+pub leaves_if : {A : Type 0} {p : ℕ} {t : Text} {x y : Reading A} (b : Bool) → Leaves p t x → Leaves p t y →
+    Leaves p t (if b then x else y)
 leaves_if true l k = l
 leaves_if false l k = k
 
-pub leaves_both : {A B : Type 0} {n p : ℕ} {t : Text} {o : Reading A} {f : A → Text → Reading B} → Leaves n p t o →
-    ((a : A) (u : Text) → Leaves n p u (f a u)) → Leaves n p t (o >=> f)
+pub leaves_both : {A B : Type 0} {p : ℕ} {t : Text} {o : Reading A} {f : A → Text → Reading B} → Leaves p t o →
+    ((a : A) (u : Text) → Leaves p u (f a u)) → Leaves p t (o >=> f)
 leaves_both (leaves {u} {a} e) k = leaves_past e (k a u)
 leaves_both (faults l) k = faults l
 
-pub leaves_choose : {A B : Type 0} {n p : ℕ} {t : Text} {f : A → Reading B} {d : Reading B} (o : Option A) →
-    ((a : A) → o ≡ Some a → Leaves n p t (f a)) → Leaves n p t d → Leaves n p t (choose o f d)
+pub leaves_choose : {A B : Type 0} {p : ℕ} {t : Text} {f : A → Reading B} {d : Reading B} (o : Option A) →
+    ((a : A) → o ≡ Some a → Leaves p t (f a)) → Leaves p t d → Leaves p t (choose o f d)
 leaves_choose (Some a) l k = l a refl
 leaves_choose None l k = k
 
@@ -119,12 +119,12 @@ some_both t None f l m = tt
 
 -- ---- the clauses of a reader
 
-module _ {A B : Type 0} {n place : ℕ} {t : Text} {o : Reading B} (f : A → B) (r : Result (A × Bor (List ℕ)) Error) where
+module _ {A B : Type 0} {place : ℕ} {t : Text} {o : Reading B} (f : A → B) (r : Result (A × Bor (List ℕ)) Failure) where
   -- what the code leaves ends the text
-  pub given_cut : Leaves n place t o → IsReadingOrNoMemory f r o → IfOk r (λ p. Ends t (chars p.1.now))
+  pub given_cut : Leaves place t o → IsReadingOrNoMemory f r o → IfOk r (λ p. Ends t (chars p.1.now))
   given_cut l g = by_answer r l g
     where
-      by_answer : (r : Result (A × Bor (List ℕ)) Error) → {o : Reading B} → Leaves n place t o →
+      by_answer : (r : Result (A × Bor (List ℕ)) Failure) → {o : Reading B} → Leaves place t o →
           IsReadingOrNoMemory f r o →
           IfOk r (λ p. Ends t (chars p.1.now))
       by_answer (Ok p) (leaves {u} e) g = let same : u ≡ chars p.1.now = cc in subst (Ends t) same e
@@ -132,16 +132,16 @@ module _ {A B : Type 0} {n place : ℕ} {t : Text} {o : Reading B} (f : A → B)
       by_answer (Err e) l g = tt
 
   -- and its fault stands in the bound
-  pub given_place : {m : ℕ} → place ≤ m → n + 1 ≤ m → Leaves n place t o → IsReadingOrNoMemory f r o →
+  pub given_place : {m : ℕ} → place ≤ m → reach_of t ≤ m → Leaves place t o → IsReadingOrNoMemory f r o →
       IfErr r (λ e. StandsWithin m e)
   given_place {m} told up l g = by_answer r l g
     where
-      by_answer : (r : Result (A × Bor (List ℕ)) Error) → {o : Reading B} → Leaves n place t o →
+      by_answer : (r : Result (A × Bor (List ℕ)) Failure) → {o : Reading B} → Leaves place t o →
           IsReadingOrNoMemory f r o →
           IfErr r (λ e. StandsWithin m e)
       by_answer (Ok p) l g = tt
       by_answer (Err OutOfMemory) l g = tt
-      by_answer (Err (ParseError p k)) (leaves e) g = absurd cc
-      by_answer (Err (ParseError p k)) (faults {e} l) g =
-          let same : e ≡ record { place = p; kind = kind_of k } = cc in
-          subst (λ (x : Fault). x.place ≤ m) same (stands_within told up l)
+      by_answer (Err (At p k)) (leaves e) g = absurd cc
+      by_answer (Err (At p k)) (faults {e} l) g =
+          let same : e ≡ record { reach = p; kind = kind_of k } = cc in
+          subst (λ (x : Fault). x.reach ≤ m) same (stands_within told up l)

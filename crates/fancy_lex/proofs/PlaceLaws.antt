@@ -5,7 +5,7 @@ use Rattle.std.proofs.Common.{None, refl}
 use Rattle.fancy_lex.specs.Characters.{backslash, caret, open_bracket, close_bracket}
 use Rattle.fancy_lex.specs.Class.{class, class_from, escape_in_class, is_negated, class_head, with_mark}
 use Rattle.fancy_lex.specs.Reading.{choose}
-use Rattle.fancy_lex.specs.Text.{Text, EndsWith as Ends, bytes, place_of, strip}
+use Rattle.fancy_lex.specs.Text.{Text, EndsWith as Ends, bytes, reach_of, strip}
 use Rattle.fancy_lex.specs.declared.flags.Flags.{Flags}
 use Rattle.fancy_lex.proofs.EscapeLaws.{leaves_escape}
 use Rattle.fancy_lex.proofs.LeaveLaws.{ends_whole, ends_past, ends_twice, ends_strip, stands_here, stands_end, Leaves}
@@ -24,9 +24,9 @@ ends_class_head out t =
     let start : Text × Text = (out ++ open_bracket ∷ [], t) in
     ends_twice t _ _ (ends_mark caret start) (ends_mark close_bracket (with_mark caret start))
 
--- no place is told but the one past the end
-module _ (n : ℕ) (f : Flags) where
-  leaves_items : (k depth : ℕ) (seen : Bool) (out t : Text) → Leaves n (n + 1) t (class_from n f k depth seen out t)
+-- no reach is told but that of one past the end
+module _ (f : Flags) where
+  leaves_items : (k depth : ℕ) (seen : Bool) (out t : Text) → Leaves 0 t (class_from f k depth seen out t)
   unfolding class_from
   leaves_items zero depth seen out t = leaves_none (stands_end t)
   leaves_items (suc k) depth seen out [] = leaves_none (stands_end [])
@@ -34,7 +34,7 @@ module _ (n : ℕ) (f : Flags) where
       let past = ends_past c t t (ends_whole t) in
       leaves_if (c == backslash)
       (leaves_both (leaves_retold (stands_here (c ∷ t))
-      (leaves_past past (leaves_escape n f true (place_of n (c ∷ t)) t)))
+      (leaves_past past (leaves_escape f true (reach_of (c ∷ t)) t)))
       (λ e u. leaves_items k depth (seen || is_negated e) (out ++ escape_in_class seen e) u))
       (leaves_if (c == open_bracket)
       (leaves_past past
@@ -45,7 +45,7 @@ module _ (n : ℕ) (f : Flags) where
       (leaves_past past (leaves_items k depth seen (out ++ c ∷ []) t))))
 
   -- the end of the text is left, or the fault stands at a cut of it or one past its end
-  pub leaves_class : (t : Text) → Leaves n (n + 1) t (class n f t)
+  pub leaves_class : (t : Text) → Leaves 0 t (class f t)
   unfolding class
   leaves_class t = leaves_past (ends_class_head [] t)
       (leaves_items (suc (bytes t)) 0 false (class_head [] t).0 (class_head [] t).1)

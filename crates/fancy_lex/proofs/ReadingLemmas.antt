@@ -5,51 +5,51 @@ use Rattle.fancy_lex.specs.Text.{Text}
 use Rattle.fancy_lex.specs.Reading.{Reading, gives, fails, CarriesText, Says, Reads, Reports, Answers}
 use Rattle.fancy_lex.specs.Reading.{IsErrorOrNoMemory, IsReadingOrNoMemory}
 use Rattle.fancy_lex.specs.Reading.{Derives, ◌>=>◌}
-use Rattle.fancy_lex.specs.declared.error.Error.{Error}
-use Rattle.fancy_lex.specs.declared.error.Error.TheVariants.{ParseError, OutOfMemory}
+use Rattle.fancy_lex.specs.declared.error.Failure.{Failure}
+use Rattle.fancy_lex.specs.declared.error.Failure.TheVariants.{At, OutOfMemory}
 
 module _ {A B : Type 0} (o : Reading A) (f : A → Text → Reading B) where
   -- the fault of the first step is that of both
-  pub says_first : (b : Error) → Says b o → Says b (o >=> f)
-  says_first (ParseError p k) e = rw e refl
+  pub says_first : (b : Failure) → Says b o → Says b (o >=> f)
+  says_first (At p k) e = rw e refl
   says_first OutOfMemory e = absurd e
 
-  pub reports_first : (b : Error) → Reports b o → Reports b (o >=> f)
-  reports_first (ParseError p k) e = rw e refl
+  pub reports_first : (b : Failure) → Reports b o → Reports b (o >=> f)
+  reports_first (At p k) e = rw e refl
   reports_first OutOfMemory e = carried o e where
     carried : (q : Reading A) → CarriesText q → CarriesText (q >=> f)
     carried (gives a t) h = absurd h
     carried (fails d) h = h
 
 -- where memory may run out at any time
-pub report_fails : {A : Type 0} (b : Error) (o : Reading A) → Reports b o → IsErrorOrNoMemory b o
-report_fails (ParseError p k) o e = e
+pub report_fails : {A : Type 0} (b : Failure) (o : Reading A) → Reports b o → IsErrorOrNoMemory b o
+report_fails (At p k) o e = e
 report_fails OutOfMemory o e = tt
 
 -- what is the function's answer is the code's
-pub only_answer : {A B : Type 0} (f : A → B) (r : Result (A × Bor (List ℕ)) Error) (o q : Reading B) → o ≡ q →
+pub only_answer : {A B : Type 0} (f : A → B) (r : Result (A × Bor (List ℕ)) Failure) (o q : Reading B) → o ≡ q →
     Answers f r o → Answers f r q
 only_answer f r o q e g = subst (Answers f r) e g
 
 -- the code's answer is the reading, however seldom memory runs out
-pub answers_gives : {A B : Type 0} (f : A → B) (r : Result (A × Bor (List ℕ)) Error) (o : Reading B) → Answers f r o →
+pub answers_gives : {A B : Type 0} (f : A → B) (r : Result (A × Bor (List ℕ)) Failure) (o : Reading B) → Answers f r o →
     IsReadingOrNoMemory f r o
 answers_gives f (Ok p) o g = g
 answers_gives f (Err e) o g = report_fails e o g
 
 -- the answer of a function for which the relation holds is one that the relation gives
-pub derives_given : {A B : Type 0} (f : A → B) (r : Result (A × Bor (List ℕ)) Error) (R : Reading B → Type 0)
+pub derives_given : {A B : Type 0} (f : A → B) (r : Result (A × Bor (List ℕ)) Failure) (R : Reading B → Type 0)
     (o : Reading B) → R o → IsReadingOrNoMemory f r o → Derives f r R
 derives_given f (Ok p) R o h g = subst R g h
 derives_given f (Err OutOfMemory) R o h g = tt
-derives_given f (Err (ParseError p k)) R o h g = subst R g h
+derives_given f (Err (At p k)) R o h g = subst R g h
 
-pub derives_answer : {A B : Type 0} (f : A → B) (r : Result (A × Bor (List ℕ)) Error) (R : Reading B → Type 0)
+pub derives_answer : {A B : Type 0} (f : A → B) (r : Result (A × Bor (List ℕ)) Failure) (R : Reading B → Type 0)
     (o : Reading B) → R o → Answers f r o → Derives f r R
 derives_answer f r R o h g = derives_given f r R o h (answers_gives f r o g)
 
-pub reads_answers : {A B : Type 0} (f : A → B) (r : Result (A × Bor (List ℕ)) Error) (o : Reading B) → Reads f r o →
+pub reads_answers : {A B : Type 0} (f : A → B) (r : Result (A × Bor (List ℕ)) Failure) (o : Reading B) → Reads f r o →
     Answers f r o
 reads_answers f (Ok p) o g = g
 reads_answers f (Err OutOfMemory) o g = absurd g
-reads_answers f (Err (ParseError p k)) o g = g
+reads_answers f (Err (At p k)) o g = g

@@ -12,7 +12,7 @@ use Rattle.fancy_lex.specs.Number.{number, at_digit}
 use Rattle.fancy_lex.specs.Reading.{fails, choose}
 use Rattle.fancy_lex.specs.Referred.{call_to, reference_to, name_reading, reference_by_name, written_reference}
 use Rattle.fancy_lex.specs.Target.{by_number}
-use Rattle.fancy_lex.specs.Text.{Text, place_of}
+use Rattle.fancy_lex.specs.Text.{Text, reach_of}
 use Rattle.fancy_lex.proofs.DelimitedLaws.{name_sound}
 use Rattle.fancy_lex.proofs.NumberLemmas.{number_sound}
 use Rattle.fancy_lex.proofs.TakeLaws.{Takes, TakesSome, TakesOrFails, takes, fails_at, takes_on, takes_one, takes_if}
@@ -55,58 +55,57 @@ module _ {A : Type 0} (k : ℕ) (t : Text) (f : Text → Option A) where
   takes_of_name None h = tt
   takes_of_name (Some (w, u)) h = takes_written u (f w) h
 
-module _ (n : ℕ) where
-  pub takes_name_reading : {A : Type 0} (k : ℕ) (t u : Text) (o : Option (A × Text)) → TakesSome k t o →
-      TakesOrFails (place_of n u) k t (name_reading (place_of n u) o)
-  takes_name_reading k t u None h = fails_at refl
-  takes_name_reading k t u (Some p) h = takes h
+pub takes_name_reading : {A : Type 0} (k : ℕ) (t u : Text) (o : Option (A × Text)) → TakesSome k t o →
+    TakesOrFails (reach_of u) k t (name_reading (reach_of u) o)
+takes_name_reading k t u None h = fails_at refl
+takes_name_reading k t u (Some p) h = takes h
 
-  -- the reference or call that a name writes
-  pub takes_by_name : {A : Type 0} (k : ℕ) (t u : Text) (f : Text → Option A) (o : Option (Text × Text)) →
-      TakesSome k t o → TakesOrFails (place_of n u) k t (name_reading (place_of n u) (of_name f o))
-  takes_by_name k t u f o h = takes_name_reading k t u (of_name f o) (takes_of_name k t f o h)
+-- the reference or call that a name writes
+pub takes_by_name : {A : Type 0} (k : ℕ) (t u : Text) (f : Text → Option A) (o : Option (Text × Text)) →
+    TakesSome k t o → TakesOrFails (reach_of u) k t (name_reading (reach_of u) (of_name f o))
+takes_by_name k t u f o h = takes_name_reading k t u (of_name f o) (takes_of_name k t f o h)
 
-  pub takes_reference_by_name : (k : ℕ) (t : Text) (amounts : Bool) (o : Option (Text × Text)) → TakesSome k t o →
-      TakesOrFails (place_of n t) k t (reference_by_name (place_of n t) amounts o)
-  unfolding reference_by_name
-  takes_reference_by_name k t amounts o h = takes_by_name k t t (written_reference (place_of n t) amounts) o h
+pub takes_reference_by_name : (k : ℕ) (t : Text) (amounts : Bool) (o : Option (Text × Text)) → TakesSome k t o →
+    TakesOrFails (reach_of t) k t (reference_by_name (reach_of t) amounts o)
+unfolding reference_by_name
+takes_reference_by_name k t amounts o h = takes_by_name k t t (written_reference (reach_of t) amounts) o h
 
-  pub takes_number : (t : Text) → TakesOrFails (place_of n t) 1 t (group_number n t)
-  unfolding group_number
-  takes_number t = at (number t) refl where
-    fails_here : {A : Type 0} → TakesOrFails {A = A} (place_of n t) 1 t (fails (number_too_great n t))
-    fails_here = fails_at refl
+pub takes_number : (t : Text) → TakesOrFails (reach_of t) 1 t (group_number t)
+unfolding group_number
+takes_number t = at (number t) refl where
+  fails_here : {A : Type 0} → TakesOrFails {A = A} (reach_of t) 1 t (fails (number_too_great t))
+  fails_here = fails_at refl
 
-    at : (o : Option (ℕ × Text)) → number t ≡ o →
-        TakesOrFails (place_of n t) 1 t
-        (choose o (number_reading (number_too_great n t)) (fails (number_too_great n t)))
-    at None e = fails_here
-    at (Some (k, u)) e =
-        let starts = number_sound t u k e in
-        let long : 1 ≤ length starts.w = omega (arith, starts.number.some) in
-        let word : Takes 1 t u = record { word = starts.w; cut = starts.cut; long = long } in
-        takes_if (place_of n t) 1 t (nat_lt k (2 ^ 64)) (takes word) fails_here
+  at : (o : Option (ℕ × Text)) → number t ≡ o →
+      TakesOrFails (reach_of t) 1 t
+      (choose o (number_reading (number_too_great t)) (fails (number_too_great t)))
+  at None e = fails_here
+  at (Some (k, u)) e =
+      let starts = number_sound t u k e in
+      let long : 1 ≤ length starts.w = omega (arith, starts.number.some) in
+      let word : Takes 1 t u = record { word = starts.w; cut = starts.cut; long = long } in
+      takes_if (reach_of t) 1 t (nat_lt k (2 ^ 64)) (takes word) fails_here
 
-  pub takes_numbered_reference : (t : Text) → TakesOrFails (place_of n t) 1 t (numbered_reference n t)
-  unfolding numbered_reference
-  takes_numbered_reference t = takes_as (place_of n t) 1 t (λ k. reference_to (place_of n t) (by_number k) None)
-      (takes_number t)
+pub takes_numbered_reference : (t : Text) → TakesOrFails (reach_of t) 1 t (numbered_reference t)
+unfolding numbered_reference
+takes_numbered_reference t = takes_as (reach_of t) 1 t (λ k. reference_to (reach_of t) (by_number k) None)
+    (takes_number t)
 
-  pub takes_back_reference : (t : Text) → TakesOrFails (place_of n t) 3 t (back_reference n t)
-  unfolding back_reference
-  takes_back_reference t = takes_reference_by_name 3 t true (marked_name t) (takes_marked_name t)
+pub takes_back_reference : (t : Text) → TakesOrFails (reach_of t) 3 t (back_reference t)
+unfolding back_reference
+takes_back_reference t = takes_reference_by_name 3 t true (marked_name t) (takes_marked_name t)
 
-  takes_numbered_call : (t : Text) → TakesOrFails (place_of n t) 1 t (numbered_call n t)
-  unfolding numbered_call
-  takes_numbered_call t = takes_as (place_of n t) 1 t (λ k. call_to (place_of n t) (by_number k)) (takes_number t)
+takes_numbered_call : (t : Text) → TakesOrFails (reach_of t) 1 t (numbered_call t)
+unfolding numbered_call
+takes_numbered_call t = takes_as (reach_of t) 1 t (λ k. call_to (reach_of t) (by_number k)) (takes_number t)
 
-  takes_marked_call : (t : Text) → TakesOrFails (place_of n t) 3 t
-      (name_reading (place_of n t) (marked_call (place_of n t) t))
-  unfolding marked_call
-  takes_marked_call t = takes_by_name 3 t t (written_call (place_of n t)) (marked_name t) (takes_marked_name t)
+takes_marked_call : (t : Text) → TakesOrFails (reach_of t) 3 t
+    (name_reading (reach_of t) (marked_call (reach_of t) t))
+unfolding marked_call
+takes_marked_call t = takes_by_name 3 t t (written_call (reach_of t)) (marked_name t) (takes_marked_name t)
 
-  pub takes_subroutine_call : (t : Text) → TakesOrFails (place_of n t) 1 t (subroutine_call n t)
-  unfolding subroutine_call
-  takes_subroutine_call t =
-      takes_if (place_of n t) 1 t (at_digit t) (takes_numbered_call t)
-      (takes_less (place_of n t) 3 t (omega arith) (takes_marked_call t))
+pub takes_subroutine_call : (t : Text) → TakesOrFails (reach_of t) 1 t (subroutine_call t)
+unfolding subroutine_call
+takes_subroutine_call t =
+    takes_if (reach_of t) 1 t (at_digit t) (takes_numbered_call t)
+    (takes_less (reach_of t) 3 t (omega arith) (takes_marked_call t))

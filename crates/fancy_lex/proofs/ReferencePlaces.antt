@@ -10,7 +10,7 @@ use Rattle.fancy_lex.specs.Reading.{Reading, gives, fails, ◌>=>◌}
 use Rattle.fancy_lex.specs.Referred.{Reference, Call, call_to, reference_to, reference_of, written_reference}
 use Rattle.fancy_lex.specs.Referred.{name_reading, reference_by_name}
 use Rattle.fancy_lex.specs.Target.{Target, by_number}
-use Rattle.fancy_lex.specs.Text.{Text, place_of}
+use Rattle.fancy_lex.specs.Text.{Text, reach_of}
 
 -- what a reading gives is so
 abbrev pub IfGives : {A : Type 0} → (A → Type 0) → Reading A → Type 0
@@ -25,10 +25,10 @@ if_gives P f (fails e) h = tt
 
 module _ (p : ℕ) where
   abbrev pub ReferenceAt : Reference → Type 0
-  ReferenceAt r = r.place ≡ p
+  ReferenceAt r = r.reach ≡ p
 
   abbrev pub CallAt : Call → Type 0
-  CallAt c = c.place ≡ p
+  CallAt c = c.reach ≡ p
 
   reference_of_at : (w : IdReference) → ReferenceAt (reference_of p w)
   unfolding reference_of
@@ -69,24 +69,24 @@ module _ (p : ℕ) where
   unfolding marked_call
   marked_call_at t = named_at CallAt (written_call p) (marked_name t) written_call_at
 
-module _ (n : ℕ) (t : Text) where
-  pub numbered_reference_at : IfGives (ReferenceAt (place_of n t)) (numbered_reference n t)
+module _ (t : Text) where
+  pub numbered_reference_at : IfGives (ReferenceAt (reach_of t)) (numbered_reference t)
   unfolding numbered_reference
   numbered_reference_at =
-      if_gives (ReferenceAt (place_of n t)) (λ k. reference_to (place_of n t) (by_number k) None) (group_number n t)
+      if_gives (ReferenceAt (reach_of t)) (λ k. reference_to (reach_of t) (by_number k) None) (group_number t)
       (λ k. refl)
 
-  pub back_reference_at : IfGives (ReferenceAt (place_of n t)) (back_reference n t)
+  pub back_reference_at : IfGives (ReferenceAt (reach_of t)) (back_reference t)
   unfolding back_reference
-  back_reference_at = reference_by_name_at (place_of n t) _ (marked_name t)
+  back_reference_at = reference_by_name_at (reach_of t) _ (marked_name t)
 
-  numbered_call_at : IfGives (CallAt (place_of n t)) (numbered_call n t)
+  numbered_call_at : IfGives (CallAt (reach_of t)) (numbered_call t)
   unfolding numbered_call
-  numbered_call_at = if_gives (CallAt (place_of n t)) (λ k. call_to (place_of n t) (by_number k)) (group_number n t)
+  numbered_call_at = if_gives (CallAt (reach_of t)) (λ k. call_to (reach_of t) (by_number k)) (group_number t)
       (λ k. refl)
 
-  pub subroutine_call_at : IfGives (CallAt (place_of n t)) (subroutine_call n t)
+  pub subroutine_call_at : IfGives (CallAt (reach_of t)) (subroutine_call t)
   unfolding subroutine_call
   subroutine_call_at =
-      cond_both (at_digit t) _ _ (IfGives (CallAt (place_of n t))) (λ _. numbered_call_at)
-      (λ _. marked_call_at (place_of n t) t)
+      cond_both (at_digit t) _ _ (IfGives (CallAt (reach_of t))) (λ _. numbered_call_at)
+      (λ _. marked_call_at (reach_of t) t)

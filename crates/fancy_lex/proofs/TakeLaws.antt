@@ -45,7 +45,7 @@ takes_less_some j k t (Some p) e h = record { word = h.word; cut = h.cut; long =
 -- a reading takes at least k characters, or its fault stands at the place p
 pub data TakesOrFails {A : Type 0} (p k : ℕ) : Text → Reading A → Type 0 where
   takes : {t u : Text} {a : A} → Takes k t u → TakesOrFails p k t (gives a u)
-  fails_at : {t : Text} {e : Fault} → e.place ≡ p → TakesOrFails p k t (fails e)
+  fails_at : {t : Text} {e : Fault} → e.reach ≡ p → TakesOrFails p k t (fails e)
 
 module _ {A : Type 0} (p k : ℕ) (t : Text) where
   pub takes_if : {x y : Reading A} (b : Bool) → TakesOrFails p k t x → TakesOrFails p k t y →
@@ -64,9 +64,9 @@ module _ {A : Type 0} (p k : ℕ) (t : Text) where
   takes_less e (fails_at l) = fails_at l
 
   -- the end of the text is left
-  pub takes_leaves : {n h : ℕ} {o : Reading A} → Stands n h t p → TakesOrFails p k t o → Leaves n h t o
+  pub takes_leaves : {h : ℕ} {o : Reading A} → Stands h t p → TakesOrFails p k t o → Leaves h t o
   takes_leaves stands (takes a) = leaves (a.word, a.cut)
-  takes_leaves {n} {h} stands (fails_at e) = faults (subst (Stands n h t) (sym e) stands)
+  takes_leaves {h} stands (fails_at e) = faults (subst (Stands h t) (sym e) stands)
 
   -- where a value is given, at least k bytes were taken
   pub takes_or_fails_bytes : {u : Text} {a : A} → TakesOrFails p k t (gives a u) → bytes u + k ≤ bytes t

@@ -35,30 +35,30 @@ at_count [] = false
 at_count (c ∷ t) = is_ascii_digit c || c == comma
 
 -- the name behind the opening brace: up to the first closing one outside layout, with layout taken out
-pub data BracedName (n : ℕ) (x : Bool) (p : ℕ) : Text → Reading Text → Type 0 where
-  close : {t v : Text} → Before x t (close_brace ∷ v) → BracedName n x p t (gives [] v)
-  character : {c : ℕ} {t u v w : Text} → c ≢ close_brace → Before x t (c ∷ u) → BracedName n x p u (gives w v) →
-      BracedName n x p t (gives (c ∷ w) v)
-  open_layout : {q : ℕ} {t : Text} → Unclosed n x t q → BracedName n x p t (fails (comment_not_closed q))
-  no_end : {t : Text} → Before x t [] → BracedName n x p t (fails (boundary_not_closed p))
+pub data BracedName (x : Bool) (p : ℕ) : Text → Reading Text → Type 0 where
+  close : {t v : Text} → Before x t (close_brace ∷ v) → BracedName x p t (gives [] v)
+  character : {c : ℕ} {t u v w : Text} → c ≢ close_brace → Before x t (c ∷ u) → BracedName x p u (gives w v) →
+      BracedName x p t (gives (c ∷ w) v)
+  open_layout : {q : ℕ} {t : Text} → Unclosed x t q → BracedName x p t (fails (comment_not_closed q))
+  no_end : {t : Text} → Before x t [] → BracedName x p t (fails (boundary_not_closed p))
   fault_behind : {c : ℕ} {t u : Text} {e : Fault} → c ≢ close_brace → Before x t (c ∷ u) →
-      BracedName n x p u (fails e) → BracedName n x p t (fails e)
+      BracedName x p u (fails e) → BracedName x p t (fails e)
 
 -- a brace stands behind layout, with `u` behind it, where the count of a repeat does or does not begin behind layout
 abbrev pub Braces : Bool → Text → Text → Bool → Type 0
 Braces x t u counts = Before x t (open_brace ∷ u) × (v : Text) × Before x u v × (at_count v ≡ counts)
 
 -- a boundary behind its letter: braces belong to it where they do not begin the count of a repeat
-pub data Boundary (n : ℕ) (x : Bool) (p : ℕ) (negated : Bool) : Text → Reading Escape → Type 0 where
+pub data Boundary (x : Bool) (p : ℕ) (negated : Bool) : Text → Reading Escape → Type 0 where
   no_brace : {t u : Text} → Before x t u → strip open_brace u ≡ None →
-      Boundary n x p negated t (gives (unnamed_boundary negated) t)
-  count : {t u : Text} → Braces x t u true → Boundary n x p negated t (gives (unnamed_boundary negated) t)
-  known : {t u v w : Text} {a : Assertion} → Braces x t u false → BracedName n x p u (gives w v) →
-      boundary_of_name negated w ≡ Some a → Boundary n x p negated t (gives (assertion a) v)
-  unknown : {t u v w : Text} → Braces x t u false → BracedName n x p u (gives w v) → boundary_of_name negated w ≡ None →
-      Boundary n x p negated t (fails (name_of_no_boundary p negated w))
-  name_fault : {t u : Text} {e : Fault} → Braces x t u false → BracedName n x p u (fails e) →
-      Boundary n x p negated t (fails e)
-  comment_open_before : {q : ℕ} {t : Text} → Unclosed n x t q → Boundary n x p negated t (fails (comment_not_closed q))
-  comment_open_inside : {q : ℕ} {t u : Text} → Before x t (open_brace ∷ u) → Unclosed n x u q →
-      Boundary n x p negated t (fails (comment_not_closed q))
+      Boundary x p negated t (gives (unnamed_boundary negated) t)
+  count : {t u : Text} → Braces x t u true → Boundary x p negated t (gives (unnamed_boundary negated) t)
+  known : {t u v w : Text} {a : Assertion} → Braces x t u false → BracedName x p u (gives w v) →
+      boundary_of_name negated w ≡ Some a → Boundary x p negated t (gives (assertion a) v)
+  unknown : {t u v w : Text} → Braces x t u false → BracedName x p u (gives w v) → boundary_of_name negated w ≡ None →
+      Boundary x p negated t (fails (name_of_no_boundary p negated w))
+  name_fault : {t u : Text} {e : Fault} → Braces x t u false → BracedName x p u (fails e) →
+      Boundary x p negated t (fails e)
+  comment_open_before : {q : ℕ} {t : Text} → Unclosed x t q → Boundary x p negated t (fails (comment_not_closed q))
+  comment_open_inside : {q : ℕ} {t u : Text} → Before x t (open_brace ∷ u) → Unclosed x u q →
+      Boundary x p negated t (fails (comment_not_closed q))

@@ -26,9 +26,9 @@ known_boundary x t =
     (option_map (λ v. (RightWordHalfBoundary, v)) (after_name x (codes "end-half") t))))
 
 -- the fault of a name, behind what the fault tells before it
-unfoldable pub name_fault_behind : ℕ → Bool → ℕ → Text → ℕ → Text → Reading Escape
-name_fault_behind n x p out k t = name n x p k t >=> (λ w v. fault_at p (invalid_escape (out ++ (w ++ codes "}"))))
+unfoldable pub name_fault_behind : Bool → ℕ → Text → ℕ → Text → Reading Escape
+name_fault_behind x p out k t = name x p k t >=> (λ w v. fault_at p (invalid_escape (out ++ (w ++ codes "}"))))
 
 -- the fault of a name, with what stands before it
-unfoldable pub name_fault : ℕ → Bool → ℕ → Bool → Text → Reading Escape
-name_fault n x p negated t = name_fault_behind n x p (boundary_head negated) (suc (length t)) t
+unfoldable pub name_fault : Bool → ℕ → Bool → Text → Reading Escape
+name_fault x p negated t = name_fault_behind x p (boundary_head negated) (suc (length t)) t

@@ -13,14 +13,14 @@ abbrev pub up_to_brace : {A : Type 0} → A → (Text → A) → (ℕ → Text �
 up_to_brace end closed more [] = end
 up_to_brace end closed more (c ∷ t) = if c == close_brace then closed t else more c t
 
--- the backslash stands at the place p of a pattern of n bytes, and x says that blanks are layout
-module _ (n : ℕ) (x : Bool) (p : ℕ) where
+-- the backslash stands at the reach p, and x says that blanks are layout
+module _ (x : Bool) (p : ℕ) where
   -- the name up to the first closing brace outside layout, with layout taken out; k steps are left, each of which takes
   -- a character, so that they never run out
   unfoldable pub name : ℕ → Text → Reading Text
   name zero t = fails (boundary_not_closed p)
   name (suc k) t =
-      layout_reading (layout n x t) >=> (λ _ u.
+      layout_reading (layout x t) >=> (λ _ u.
       up_to_brace
       (fails (boundary_not_closed p))
       (gives [])
@@ -37,8 +37,8 @@ module _ (n : ℕ) (x : Bool) (p : ℕ) where
   -- behind the letter: where no braces belong to the boundary, it ends right there
   unfoldable pub boundary : Bool → Text → Reading Escape
   boundary negated t =
-      layout_reading (layout n x t) >=> (λ _ u.
+      layout_reading (layout x t) >=> (λ _ u.
       choose (strip open_brace u)
-      (λ inside. layout_reading (layout n x inside) >=> (λ _ v.
+      (λ inside. layout_reading (layout x inside) >=> (λ _ v.
       if at_count v then gives (unnamed_boundary negated) t else named_boundary negated inside))
       (gives (unnamed_boundary negated) t))

@@ -9,7 +9,7 @@ use Rattle.fancy_lex.specs.Fault.{Fault}
 use Rattle.fancy_lex.specs.FaultTable.{class_not_closed}
 use Rattle.fancy_lex.specs.Property.{is_negated_set}
 use Rattle.fancy_lex.specs.Reading.{Reading, gives, fails, choose, ◌>=>◌}
-use Rattle.fancy_lex.specs.Text.{Text, bytes, place_of, strip}
+use Rattle.fancy_lex.specs.Text.{Text, bytes, reach_of, strip}
 use Rattle.fancy_lex.specs.declared.flags.Flags.{Flags}
 
 -- the characters that stand behind a backslash in a class
@@ -57,17 +57,17 @@ with_mark mark p = choose {B = Text × Text} (strip mark p.1) (λ u. (p.0 ++ mar
 unfoldable pub class_head : Text → Text → Text × Text
 class_head out t = with_mark close_bracket (with_mark caret (out ++ open_bracket ∷ [], t))
 
--- a class in a pattern of n bytes, under these flags
-module _ (n : ℕ) (f : Flags) where
+-- a class under these flags
+module _ (f : Flags) where
   -- What is left of a class that stands in so many outer ones, behind what is written so far. The first number is how
   -- many steps are left: each takes a byte or more, so that they never run out. `seen` says whether a negated set is
   -- written already.
   unfoldable pub class_from : ℕ → ℕ → Bool → Text → Text → Reading Text
-  class_from zero outer seen out t = fails (class_not_closed n)
-  class_from (suc k) outer seen out [] = fails (class_not_closed n)
+  class_from zero outer seen out t = fails class_not_closed
+  class_from (suc k) outer seen out [] = fails class_not_closed
   class_from (suc k) outer seen out (c ∷ t) =
       if c == backslash then
-      escape n f true (place_of n (c ∷ t)) t >=> (λ e u.
+      escape f true (reach_of (c ∷ t)) t >=> (λ e u.
       class_from k outer (seen || is_negated e) (out ++ escape_in_class seen e) u)
       else if c == open_bracket then class_from k (outer + 1) seen (class_head out t).0 (class_head out t).1
       else if c == close_bracket then (
@@ -89,42 +89,42 @@ is_plain_in_class c = not (c ∈ "\\[]")
 
 mutual
   -- a class behind its bracket; the flag says whether a negated set was written before it
-  pub data Class : ℕ → Flags → Bool → Text → Written → Type 0 where
-    class_items : {n : ℕ} {f : Flags} {b a : Bool} {t u v head w : Text} →
+  pub data Class : Flags → Bool → Text → Written → Type 0 where
+    class_items : {f : Flags} {b a : Bool} {t u v head w : Text} →
         ◌≡◌ {A = Text × Text} (class_head [] t) (head, u) →
-        ClassItems n f b u (written w a v) → Class n f b t (written (head ++ w) a v)
-    class_items_fault : {n : ℕ} {f : Flags} {b : Bool} {t u head : Text} {e : Fault} →
+        ClassItems f b u (written w a v) → Class f b t (written (head ++ w) a v)
+    class_items_fault : {f : Flags} {b : Bool} {t u head : Text} {e : Fault} →
         ◌≡◌ {A = Text × Text} (class_head [] t) (head, u) →
-        ClassItems n f b u (fault e) → Class n f b t (fault e)
+        ClassItems f b u (fault e) → Class f b t (fault e)
 
   -- the items of a class through its closing bracket
-  pub data ClassItems : ℕ → Flags → Bool → Text → Written → Type 0 where
-    close : {n : ℕ} {f : Flags} {b : Bool} {v : Text} →
-        ClassItems n f b (close_bracket ∷ v) (written (close_bracket ∷ []) b v)
-    plain : {n c : ℕ} {f : Flags} {b a : Bool} {t v w : Text} → is_plain_in_class c ≡ true →
-        ClassItems n f b t (written w a v) → ClassItems n f b (c ∷ t) (written (c ∷ w) a v)
-    escaped : {n : ℕ} {f : Flags} {b a : Bool} {t u v w : Text} {e : Escape} →
-        escape n f true (place_of n (backslash ∷ t)) t ≡ gives e u →
-        ClassItems n f (b || is_negated e) u (written w a v) →
-        ClassItems n f b (backslash ∷ t) (written (escape_in_class b e ++ w) a v)
-    nested : {n : ℕ} {f : Flags} {b m a : Bool} {t u v x w : Text} → Class n f b t (written x m u) →
-        ClassItems n f m u (written w a v) → ClassItems n f b (open_bracket ∷ t) (written (x ++ w) a v)
+  pub data ClassItems : Flags → Bool → Text → Written → Type 0 where
+    close : {f : Flags} {b : Bool} {v : Text} →
+        ClassItems f b (close_bracket ∷ v) (written (close_bracket ∷ []) b v)
+    plain : {c : ℕ} {f : Flags} {b a : Bool} {t v w : Text} → is_plain_in_class c ≡ true →
+        ClassItems f b t (written w a v) → ClassItems f b (c ∷ t) (written (c ∷ w) a v)
+    escaped : {f : Flags} {b a : Bool} {t u v w : Text} {e : Escape} →
+        escape f true (reach_of (backslash ∷ t)) t ≡ gives e u →
+        ClassItems f (b || is_negated e) u (written w a v) →
+        ClassItems f b (backslash ∷ t) (written (escape_in_class b e ++ w) a v)
+    nested : {f : Flags} {b m a : Bool} {t u v x w : Text} → Class f b t (written x m u) →
+        ClassItems f m u (written w a v) → ClassItems f b (open_bracket ∷ t) (written (x ++ w) a v)
     -- the end of the text
-    end : {n : ℕ} {f : Flags} {b : Bool} → ClassItems n f b [] (fault (class_not_closed n))
-    plain_fault : {n c : ℕ} {f : Flags} {b : Bool} {t : Text} {e : Fault} → is_plain_in_class c ≡ true →
-        ClassItems n f b t (fault e) → ClassItems n f b (c ∷ t) (fault e)
-    escape_fault : {n : ℕ} {f : Flags} {b : Bool} {t : Text} {e : Fault} →
-        escape n f true (place_of n (backslash ∷ t)) t ≡ fails e →
-        ClassItems n f b (backslash ∷ t) (fault e)
-    escaped_fault : {n : ℕ} {f : Flags} {b : Bool} {t u : Text} {x : Escape} {e : Fault} →
-        escape n f true (place_of n (backslash ∷ t)) t ≡ gives x u →
-        ClassItems n f (b || is_negated x) u (fault e) → ClassItems n f b (backslash ∷ t) (fault e)
-    class_fault : {n : ℕ} {f : Flags} {b : Bool} {t : Text} {e : Fault} →
-        Class n f b t (fault e) → ClassItems n f b (open_bracket ∷ t) (fault e)
-    nested_fault : {n : ℕ} {f : Flags} {b m : Bool} {t u x : Text} {e : Fault} → Class n f b t (written x m u) →
-        ClassItems n f m u (fault e) → ClassItems n f b (open_bracket ∷ t) (fault e)
+    end : {f : Flags} {b : Bool} → ClassItems f b [] (fault class_not_closed)
+    plain_fault : {c : ℕ} {f : Flags} {b : Bool} {t : Text} {e : Fault} → is_plain_in_class c ≡ true →
+        ClassItems f b t (fault e) → ClassItems f b (c ∷ t) (fault e)
+    escape_fault : {f : Flags} {b : Bool} {t : Text} {e : Fault} →
+        escape f true (reach_of (backslash ∷ t)) t ≡ fails e →
+        ClassItems f b (backslash ∷ t) (fault e)
+    escaped_fault : {f : Flags} {b : Bool} {t u : Text} {x : Escape} {e : Fault} →
+        escape f true (reach_of (backslash ∷ t)) t ≡ gives x u →
+        ClassItems f (b || is_negated x) u (fault e) → ClassItems f b (backslash ∷ t) (fault e)
+    class_fault : {f : Flags} {b : Bool} {t : Text} {e : Fault} →
+        Class f b t (fault e) → ClassItems f b (open_bracket ∷ t) (fault e)
+    nested_fault : {f : Flags} {b m : Bool} {t u x : Text} {e : Fault} → Class f b t (written x m u) →
+        ClassItems f m u (fault e) → ClassItems f b (open_bracket ∷ t) (fault e)
 
 -- the outermost class behind its bracket, before which no negated set was written
-abbrev pub OuterClass : ℕ → Flags → Text → Reading Text → Type 0
-OuterClass n f t (gives out v) = (a : Bool) × Class n f false t (written out a v)
-OuterClass n f t (fails e) = Class n f false t (fault e)
+abbrev pub OuterClass : Flags → Text → Reading Text → Type 0
+OuterClass f t (gives out v) = (a : Bool) × Class f false t (written out a v)
+OuterClass f t (fails e) = Class f false t (fault e)

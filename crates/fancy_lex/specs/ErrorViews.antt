@@ -8,8 +8,11 @@ use Rattle.fancy_lex.specs.Fault.{changing_unicode_mode_unsupported, invalid_bac
 use Rattle.fancy_lex.specs.Fault.{invalid_group_name, invalid_group_name_backref, kind_text, carries_text}
 use Rattle.fancy_lex.specs.declared.error.Error.{Error}
 use Rattle.fancy_lex.specs.declared.error.Error.TheVariants.{ParseError, OutOfMemory}
+use Rattle.fancy_lex.specs.declared.error.Failure.{Failure}
+use Rattle.fancy_lex.specs.declared.error.Failure.TheVariants as inside
 use Rattle.fancy_lex.specs.declared.error.ParseError as declared
 use Rattle.fancy_lex.specs.declared.error.ParseError.TheVariants as code
+use Rattle.fancy_lex.specs.Text.{place_at}
 
 -- the kind that the code's value stands for
 abbrev pub kind_of : declared.ParseError → Kind
@@ -42,10 +45,15 @@ SameError (ParseError p k) (ParseError q l) = (p ≡ q) × (kind_of k ≡ kind_o
 SameError OutOfMemory OutOfMemory = Unit {0}
 SameError _ _ = ⊥
 
--- memory ran out, or the fault stands at most at the place m
-abbrev pub StandsWithin : ℕ → Error → Type 0
-StandsWithin m (ParseError p k) = p ≤ m
-StandsWithin m OutOfMemory = Unit {0}
+-- memory ran out, or the fault stands at a reach of at most m
+abbrev pub StandsWithin : ℕ → Failure → Type 0
+StandsWithin m (inside.At p k) = p ≤ m
+StandsWithin m inside.OutOfMemory = Unit {0}
+
+-- the error of a reader in a pattern of n bytes
+abbrev pub error_in : ℕ → Failure → Error
+error_in n (inside.At p k) = ParseError (place_at n p) k
+error_in n inside.OutOfMemory = OutOfMemory
 
 -- whether its kind carries a text, whose clone takes memory
 abbrev pub error_carries_text : Error → Bool

@@ -17,7 +17,7 @@ use Rattle.fancy_lex.specs.Reading.{Reading, gives, fails, ◌>=>◌, choose}
 use Rattle.fancy_lex.specs.Referred.{Reference}
 use Rattle.fancy_lex.specs.Text.{Text}
 
--- the fault of a letter that is no escape; in all that follows the backslash stands at the place p
+-- the fault of a letter that is no escape; in all that follows the backslash stands at the reach p
 abbrev pub unknown_escape : ℕ → ℕ → Reading Escape
 unknown_escape p c = fails (letter_of_no_escape p c)
 
@@ -25,16 +25,16 @@ unknown_escape p c = fails (letter_of_no_escape p c)
 abbrev pub backref_leaf : Flags → Reading Reference → Reading Escape
 backref_leaf f o = o >=> (λ r u. gives (backref r f.casei) u)
 
--- digits are a back reference, which no class holds; the pattern has n bytes
-unfoldable pub number_escape : ℕ → Flags → Bool → ℕ → Text → Reading Escape
-number_escape n f inside p t =
-    if inside then reference.group_number n t >=> (λ k u. fails (number_in_class p))
-    else backref_leaf f (reference.numbered_reference n t)
+-- digits are a back reference, which no class holds
+unfoldable pub number_escape : Flags → Bool → ℕ → Text → Reading Escape
+number_escape f inside p t =
+    if inside then reference.group_number t >=> (λ k u. fails (number_in_class p))
+    else backref_leaf f (reference.numbered_reference t)
 
 -- a call behind its letter
-unfoldable pub call_escape : ℕ → ℕ → ℕ → Text → Reading Escape
-call_escape n p c [] = unknown_escape p c
-call_escape n p c (d ∷ t) = reference.subroutine_call n (d ∷ t) >=> (λ r u. gives (subroutine_call r) u)
+unfoldable pub call_escape : ℕ → ℕ → Text → Reading Escape
+call_escape p c [] = unknown_escape p c
+call_escape p c (d ∷ t) = reference.subroutine_call (d ∷ t) >=> (λ r u. gives (subroutine_call r) u)
 
 -- a property behind its letter
 unfoldable pub property : Flags → Bool → ℕ → ℕ → Text → Reading Escape
@@ -45,8 +45,8 @@ property f inside p c (d ∷ t) =
     (fails (property_not_closed p))
 
 -- outside a class only
-unfoldable pub outside : ℕ → Flags → ℕ → ℕ → Text → Reading Escape
-outside n f p c t =
+unfoldable pub outside : Flags → ℕ → ℕ → Text → Reading Escape
+outside f p c t =
     if c ∈ "A" then gives (assertion StartText) t
     else if c ∈ "z" then gives (assertion EndText) t
     else if c ∈ "Z" then gives (assertion (EndTextIgnoreTrailingNewlines f.crlf)) t
@@ -57,10 +57,10 @@ outside n f p c t =
     else if c ∈ "N" then gives (any false false) t
     else if c ∈ "<" then gives (if f.oniguruma_mode then literal c false else assertion LeftWordBoundary) t
     else if c ∈ ">" then gives (if f.oniguruma_mode then literal c false else assertion RightWordBoundary) t
-    else if c ∈ "k" then backref_leaf f (reference.back_reference n t)
-    else if c ∈ "g" then call_escape n p c t
-    else if c ∈ "b" then boundary n f.ignore_space p false t
-    else if c ∈ "B" then boundary n f.ignore_space p true t
+    else if c ∈ "k" then backref_leaf f (reference.back_reference t)
+    else if c ∈ "g" then call_escape p c t
+    else if c ∈ "b" then boundary f.ignore_space p false t
+    else if c ∈ "B" then boundary f.ignore_space p true t
     else unknown_escape p c
 
 -- in a class only
@@ -82,17 +82,17 @@ is_lone_anywhere c = c ∈ "dDsSwWhHafnrtve"
 abbrev pub reads_on : Bool → ℕ → Bool
 reads_on inside c = is_ascii_digit c || (c ∈ "xuUpP" || (not inside && c ∈ "kgbB"))
 
--- what stands behind the backslash of a pattern of n bytes, in a class or outside
-unfoldable pub escape : ℕ → Flags → Bool → ℕ → Text → Reading Escape
-escape n f inside p [] = fails (backslash_at_end p)
-escape n f inside p (c ∷ t) =
-    if is_ascii_digit c then number_escape n f inside p (c ∷ t)
+-- what stands behind the backslash, in a class or outside
+unfoldable pub escape : Flags → Bool → ℕ → Text → Reading Escape
+escape f inside p [] = fails (backslash_at_end p)
+escape f inside p (c ∷ t) =
+    if is_ascii_digit c then number_escape f inside p (c ∷ t)
     else if c ∈ "dDsSwW" then gives (delegate (backslash ∷ c ∷ []) f.casei) t
     else if c ∈ "h" then gives (delegate hex_class false) t
     else if c ∈ "H" then gives (delegate negated_hex_class false) t
-    else if c ∈ "x" then hex n f 2 t
-    else if c ∈ "u" then hex n f 4 t
-    else if c ∈ "U" then hex n f 8 t
+    else if c ∈ "x" then hex f 2 t
+    else if c ∈ "u" then hex f 4 t
+    else if c ∈ "U" then hex f 8 t
     else if c ∈ "pP" then property f inside p c t
     else if c ∈ "a" then gives (literal (code "\u{7}") false) t
     else if c ∈ "f" then gives (literal (code "\u{c}") false) t
@@ -103,4 +103,4 @@ escape n f inside p (c ∷ t) =
     else if c ∈ "e" then gives (literal (code "\u{1b}") false) t
     else if is_itself inside c then gives (literal c false) t
     else if inside then in_class p c t
-    else outside n f p c t
+    else outside f p c t

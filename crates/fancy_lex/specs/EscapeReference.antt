@@ -13,23 +13,23 @@ use Rattle.fancy_lex.specs.Reading.{Reading, gives, fails, ◌>=>◌, choose}
 use Rattle.fancy_lex.specs.Referred.{Reference, Call, call_to, reference_to, target_of_name, name_reading}
 use Rattle.fancy_lex.specs.Referred.{reference_by_name}
 use Rattle.fancy_lex.specs.Target.{Target, by_number, relative}
-use Rattle.fancy_lex.specs.Text.{Text, place_of}
+use Rattle.fancy_lex.specs.Text.{Text, reach_of}
 
 -- a number that a word holds, or else the fault
 abbrev pub number_reading : Fault → ℕ × Text → Reading ℕ
 number_reading e q = if nat_lt q.0 (2 ^ 64) then gives q.0 q.1 else fails e
 
 -- all the digits at the front, which number a group; a text that begins with none has the same fault
-unfoldable pub group_number : ℕ → Text → Reading ℕ
-group_number n t = choose (number t) (number_reading (number_too_great n t)) (fails (number_too_great n t))
+unfoldable pub group_number : Text → Reading ℕ
+group_number t = choose (number t) (number_reading (number_too_great t)) (fails (number_too_great t))
 
--- a back reference in digits, in a pattern of n bytes
-unfoldable pub numbered_reference : ℕ → Text → Reading Reference
-numbered_reference n t = group_number n t >=> (λ k u. gives (reference_to (place_of n t) (by_number k) None) u)
+-- a back reference in digits
+unfoldable pub numbered_reference : Text → Reading Reference
+numbered_reference t = group_number t >=> (λ k u. gives (reference_to (reach_of t) (by_number k) None) u)
 
 -- a back reference behind `\k`
-unfoldable pub back_reference : ℕ → Text → Reading Reference
-back_reference n t = reference_by_name (place_of n t) true (marked_name t)
+unfoldable pub back_reference : Text → Reading Reference
+back_reference t = reference_by_name (reach_of t) true (marked_name t)
 
 -- the name of a call is relative: a sign alone, or a sign and a number text
 unfoldable pub is_relative : Text → Bool
@@ -45,19 +45,19 @@ relative_target _ = None
 unfoldable pub call_target : Text → Option Target
 call_target w = if is_relative w then option_and_then relative_target (id_reference true w) else Some (target_of_name w)
 
--- the call by name at the place p
+-- the call by name at the reach p
 unfoldable pub written_call : ℕ → Text → Option Call
 written_call p w = option_map (call_to p) (call_target w)
 
--- the call between marks, at the place p
+-- the call between marks, at the reach p
 unfoldable pub marked_call : ℕ → Text → Option (Call × Text)
 marked_call p t = of_name (written_call p) (marked_name t)
 
 -- a call in digits
-unfoldable pub numbered_call : ℕ → Text → Reading Call
-numbered_call n t = group_number n t >=> (λ k u. gives (call_to (place_of n t) (by_number k)) u)
+unfoldable pub numbered_call : Text → Reading Call
+numbered_call t = group_number t >=> (λ k u. gives (call_to (reach_of t) (by_number k)) u)
 
 -- a call behind `\g`: all the digits there, or a name between marks
-unfoldable pub subroutine_call : ℕ → Text → Reading Call
-subroutine_call n t =
-    if at_digit t then numbered_call n t else name_reading (place_of n t) (marked_call (place_of n t) t)
+unfoldable pub subroutine_call : Text → Reading Call
+subroutine_call t =
+    if at_digit t then numbered_call t else name_reading (reach_of t) (marked_call (reach_of t) t)

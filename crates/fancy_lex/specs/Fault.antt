@@ -1,4 +1,4 @@
--- Faults: a kind and a place, apart from how the code holds them.
+-- Faults: a kind and a reach, apart from how the code holds them.
 use Rattle.std.specs.Prelude.{ℕ, Bool, true, false, List, ◌++◌, codes, encode_utf8_all}
 use Rattle.fancy_lex.specs.Text.{Text}
 
@@ -21,9 +21,9 @@ pub data Kind : Type 0 where
   invalid_group_name : Kind
   invalid_group_name_backref : Text → Kind
 
--- a kind, and the place in bytes
+-- a kind, and the reach of the place where it stands
 pub record Fault : Type 0 where
-  pub place : ℕ
+  pub reach : ℕ
   pub kind : Kind
 
 -- the bytes that a kind prints

@@ -1,13 +1,13 @@
--- The faults of a pattern of n bytes, a row for each: what went wrong, the kind with its text, and the place. A row
--- that takes a place p is told it by the reader; one that takes a text t measures it where that is left to be read.
-use Rattle.std.specs.Prelude.{ℕ, ◌+◌, ◌-◌, Bool, [], ◌∷◌, ◌++◌, codes, if◌then◌else◌}
+-- The faults of a pattern, a row for each: what went wrong, the kind with its text, and the reach. A row that takes a
+-- reach p is told it by the reader; one that takes a text t measures it where that is left to be read.
+use Rattle.std.specs.Prelude.{ℕ, ◌+◌, Bool, [], ◌∷◌, ◌++◌, codes, if◌then◌else◌}
 use Rattle.fancy_lex.specs.Characters.{backslash}
 use Rattle.fancy_lex.specs.Fault.{Kind, Fault, general_parse_error, unclosed_open_paren, recursion_exceeded}
 use Rattle.fancy_lex.specs.Fault.{trailing_backslash, invalid_escape, unclosed_unicode_name, invalid_hex}
 use Rattle.fancy_lex.specs.Fault.{invalid_codepoint_value, invalid_class, unknown_flag}
 use Rattle.fancy_lex.specs.Fault.{changing_unicode_mode_unsupported, invalid_backref, target_not_repeatable}
 use Rattle.fancy_lex.specs.Fault.{invalid_group_name, invalid_group_name_backref}
-use Rattle.fancy_lex.specs.Text.{Text, place_of}
+use Rattle.fancy_lex.specs.Text.{Text, reach_of}
 
 -- ---- the texts of the general faults
 
@@ -25,84 +25,84 @@ body_expected =
 
 -- a comment without its `)`: at one of the next two places
 abbrev pub comment_not_closed : ℕ → Fault
-comment_not_closed p = record { place = p; kind = unclosed_open_paren }
+comment_not_closed p = record { reach = p; kind = unclosed_open_paren }
 
 -- the end of the text
-abbrev pub end_in_comment : ℕ → ℕ
-end_in_comment n = n
+abbrev pub end_in_comment : ℕ
+end_in_comment = 1
 
 -- one past the end, where the text ends right behind an unpaired backslash
-abbrev pub end_behind_backslash : ℕ → ℕ
-end_behind_backslash n = n + 1
+abbrev pub end_behind_backslash : ℕ
+end_behind_backslash = 0
 
 -- a group whose inside would be too deep: at its `(`, where t begins
-abbrev pub group_too_deep : ℕ → Text → Fault
-group_too_deep n t = record { place = place_of n t; kind = recursion_exceeded }
+abbrev pub group_too_deep : Text → Fault
+group_too_deep t = record { reach = reach_of t; kind = recursion_exceeded }
 
 -- an adjacent quantifier too many, or too deep: behind its reading, where t begins
-abbrev pub quantifier_too_deep : ℕ → Text → Fault
-quantifier_too_deep n t = record { place = place_of n t; kind = recursion_exceeded }
+abbrev pub quantifier_too_deep : Text → Fault
+quantifier_too_deep t = record { reach = reach_of t; kind = recursion_exceeded }
 
 -- a quantifier on what is not repeatable: at its mark or closing brace, one byte before t
-abbrev pub not_repeatable : ℕ → Text → Fault
-not_repeatable n t = record { place = place_of n t - 1; kind = target_not_repeatable }
+abbrev pub not_repeatable : Text → Fault
+not_repeatable t = record { reach = reach_of t + 1; kind = target_not_repeatable }
 
 -- the end of the text where a group's `)`, a flag letter, or the text behind `(?(` or `(?~` is due
-abbrev pub group_not_closed : ℕ → Fault
-group_not_closed n = record { place = n; kind = unclosed_open_paren }
+abbrev pub group_not_closed : Fault
+group_not_closed = record { reach = 1; kind = unclosed_open_paren }
 
 -- a bar behind the second branch of an absent expression: at that bar, where t begins
-abbrev pub bar_for_close_paren : ℕ → Text → Fault
-bar_for_close_paren n t = record { place = place_of n t; kind = general_parse_error close_paren_expected }
+abbrev pub bar_for_close_paren : Text → Fault
+bar_for_close_paren t = record { reach = reach_of t; kind = general_parse_error close_paren_expected }
 
 -- a `)` that closes nothing: there, where t begins
-abbrev pub close_paren_left_over : ℕ → Text → Fault
-close_paren_left_over n t = record { place = place_of n t; kind = general_parse_error end_expected }
+abbrev pub close_paren_left_over : Text → Fault
+close_paren_left_over t = record { reach = reach_of t; kind = general_parse_error end_expected }
 
 -- a conditional whose body takes no byte, and whose condition is none on a group: behind the condition's `)`, where t
 -- begins
-abbrev pub body_wanting : ℕ → Text → Fault
-body_wanting n t = record { place = place_of n t; kind = general_parse_error body_expected }
+abbrev pub body_wanting : Text → Fault
+body_wanting t = record { reach = reach_of t; kind = general_parse_error body_expected }
 
 -- ---- heads of groups
 
 -- a character that is no letter of flags: right behind the `?`, where t begins with `w` through that character
-abbrev pub no_flag_letter : ℕ → Text → Text → Fault
-no_flag_letter n t w = record { place = place_of n t; kind = unknown_flag (codes "(?" ++ w) }
+abbrev pub no_flag_letter : Text → Text → Fault
+no_flag_letter t w = record { reach = reach_of t; kind = unknown_flag (codes "(?" ++ w) }
 
 -- `u` set or cleared against the mode: at the `u`, where t begins
-abbrev pub mode_changed : ℕ → Text → Fault
-mode_changed n t = record { place = place_of n t; kind = changing_unicode_mode_unsupported }
+abbrev pub mode_changed : Text → Fault
+mode_changed t = record { reach = reach_of t; kind = changing_unicode_mode_unsupported }
 
 -- a named group without its name or closing mark: at the `?`, one byte before t
-abbrev pub group_not_named : ℕ → Text → Fault
-group_not_named n t = record { place = place_of n t - 1; kind = invalid_group_name }
+abbrev pub group_not_named : Text → Fault
+group_not_named t = record { reach = reach_of t + 1; kind = invalid_group_name }
 
 -- a reference, call or condition's target that does not read: at the reference's place
 abbrev pub reference_not_read : ℕ → Fault
-reference_not_read p = record { place = p; kind = invalid_group_name }
+reference_not_read p = record { reach = p; kind = invalid_group_name }
 
 -- an unknown verb: at the `*`, where t begins
-abbrev pub unknown_verb : ℕ → Text → Fault
-unknown_verb n t = record { place = place_of n t; kind = target_not_repeatable }
+abbrev pub unknown_verb : Text → Fault
+unknown_verb t = record { reach = reach_of t; kind = target_not_repeatable }
 
--- ---- escapes, whose backslash stands at the place p
+-- ---- escapes, whose backslash stands at the reach p
 
 -- a backslash at the end
 abbrev pub backslash_at_end : ℕ → Fault
-backslash_at_end p = record { place = p; kind = trailing_backslash }
+backslash_at_end p = record { reach = p; kind = trailing_backslash }
 
 -- a number that no word holds, behind a backslash or `\g`: at its first digit, where t begins
-abbrev pub number_too_great : ℕ → Text → Fault
-number_too_great n t = record { place = place_of n t; kind = invalid_backref }
+abbrev pub number_too_great : Text → Fault
+number_too_great t = record { reach = reach_of t; kind = invalid_backref }
 
 -- a letter that is no escape
 abbrev pub letter_of_no_escape : ℕ → ℕ → Fault
-letter_of_no_escape p c = record { place = p; kind = invalid_escape (backslash ∷ c ∷ []) }
+letter_of_no_escape p c = record { reach = p; kind = invalid_escape (backslash ∷ c ∷ []) }
 
 -- the braces of a boundary without their end; the text is the same for `\B`
 abbrev pub boundary_not_closed : ℕ → Fault
-boundary_not_closed p = record { place = p; kind = invalid_escape (codes "\\b{...}") }
+boundary_not_closed p = record { reach = p; kind = invalid_escape (codes "\\b{...}") }
 
 -- what stands before a boundary's name; `\B` is negated
 abbrev pub boundary_head : Bool → Text
@@ -111,29 +111,29 @@ boundary_head negated = if negated then codes "\\B{" else codes "\\b{"
 -- a name that no boundary has
 abbrev pub name_of_no_boundary : ℕ → Bool → Text → Fault
 name_of_no_boundary p negated w = record {
-  place = p;
+  reach = p;
   kind = invalid_escape (boundary_head negated ++ (w ++ codes "}"));
 }
 
 -- the name of a property in braces that do not end
 abbrev pub property_not_closed : ℕ → Fault
-property_not_closed p = record { place = p; kind = unclosed_unicode_name }
+property_not_closed p = record { reach = p; kind = unclosed_unicode_name }
 
--- a code that does not read: where its digits or its brace should stand, at the place h
+-- a code that does not read: where its digits or its brace should stand, at the reach h
 abbrev pub code_not_read : ℕ → Fault
-code_not_read h = record { place = h; kind = invalid_hex }
+code_not_read h = record { reach = h; kind = invalid_hex }
 
 -- a code of no character: there too
 abbrev pub code_of_no_character : ℕ → Fault
-code_of_no_character h = record { place = h; kind = invalid_codepoint_value }
+code_of_no_character h = record { reach = h; kind = invalid_codepoint_value }
 
 -- the end of the text in a class
-abbrev pub class_not_closed : ℕ → Fault
-class_not_closed n = record { place = n; kind = invalid_class }
+abbrev pub class_not_closed : Fault
+class_not_closed = record { reach = 1; kind = invalid_class }
 
 -- a backslash and a digit in a class
 abbrev pub number_in_class : ℕ → Fault
-number_in_class p = record { place = p; kind = invalid_class }
+number_in_class p = record { reach = p; kind = invalid_class }
 
 -- ---- references, once the whole text was read: each at its reference's place
 
@@ -145,6 +145,6 @@ name_of_later_group w = invalid_group_name_backref w
 abbrev pub no_such_group : Kind
 no_such_group = invalid_backref
 
--- the fault of this kind of the reference at the place p
+-- the fault of this kind of the reference at the reach p
 abbrev pub of_reference : ℕ → Kind → Fault
-of_reference p k = record { place = p; kind = k }
+of_reference p k = record { reach = p; kind = k }

@@ -11,7 +11,7 @@ use Rattle.fancy_lex.specs.FaultTable.{code_not_read, code_of_no_character, comm
 use Rattle.fancy_lex.specs.Layout.{Before, Unclosed}
 use Rattle.fancy_lex.specs.LayoutSteps.{layout}
 use Rattle.fancy_lex.specs.Reading.{Reading, gives, fails, ◌>=>◌, choose, layout_reading}
-use Rattle.fancy_lex.specs.Text.{Text, strip, place_of}
+use Rattle.fancy_lex.specs.Text.{Text, strip, reach_of}
 
 -- the value of the digit at the front, in either case, and what is left
 unfoldable pub hex_digit : Text → Option (ℕ × Text)
@@ -32,19 +32,19 @@ closing_brace h _ _ _ = fails (code_not_read h)
 abbrev pub is_scalar : ℕ → Bool
 is_scalar v = nat_lt v 0xD800 || (nat_lt 0xDFFF v && nat_lt v 0x110000)
 
--- the code begins at the place h of a pattern of n bytes, and x says that blanks are layout
-module _ (n : ℕ) (x : Bool) (h : ℕ) where
+-- the code begins at the reach h, and x says that blanks are layout
+module _ (x : Bool) (h : ℕ) where
   -- up to k digits with layout behind each, behind those of the value v, and the closing brace
   unfoldable pub hex_digits : ℕ → Bool → ℕ → Text → Reading ℕ
   hex_digits zero some v t = closing_brace h some v (strip close_brace t)
   hex_digits (suc k) some v t =
       choose (hex_digit t)
-      (λ p. layout_reading (layout n x p.1) >=> (λ _ t. hex_digits k true (v * 16 + p.0) t))
+      (λ p. layout_reading (layout x p.1) >=> (λ _ t. hex_digits k true (v * 16 + p.0) t))
       (closing_brace h some v (strip close_brace t))
 
   -- one to eight digits with layout before, between and behind them
   unfoldable pub braced_value : Text → Reading ℕ
-  braced_value t = layout_reading (layout n x t) >=> (λ _ t. hex_digits 8 false 0 t)
+  braced_value t = layout_reading (layout x t) >=> (λ _ t. hex_digits 8 false 0 t)
 
   -- the value of a code of so many digits, or of one in braces
   unfoldable pub value : ℕ → Text → Reading ℕ
@@ -60,10 +60,10 @@ leaf_of_value f width h v t =
     else fails (code_of_no_character h)
 
 -- behind the letter
-unfoldable pub hex : ℕ → Flags → ℕ → Text → Reading Escape
-hex n f width t =
-    layout_reading (layout n f.ignore_space t) >=> (λ _ t.
-    value n f.ignore_space (place_of n t) width t >=> leaf_of_value f width (place_of n t))
+unfoldable pub hex : Flags → ℕ → Text → Reading Escape
+hex f width t =
+    layout_reading (layout f.ignore_space t) >=> (λ _ t.
+    value f.ignore_space (reach_of t) width t >=> leaf_of_value f width (reach_of t))
 
 -- ---- the same as relations: what stands there, and what it comes to
 
@@ -79,28 +79,28 @@ pub record Stuck (k : ℕ) (t : Text) : Type 0 where
   pub no_end : (k ≡ 0) ⊎ (strip close_brace t ≡ None)
 
 -- a code in braces, behind the opening one: one to eight digits with layout before, between and behind them
-pub data BracedCode (n : ℕ) (x : Bool) (h : ℕ) : Text → Reading ℕ → Type 0 where
+pub data BracedCode (x : Bool) (h : ℕ) : Text → Reading ℕ → Type 0 where
   braced : {k v : ℕ} {t u w : Text} → Before x t u → Digits x k v u (close_brace ∷ w) → 0 < k → k ≤ 8 →
-      BracedCode n x h t (gives v w)
+      BracedCode x h t (gives v w)
   stuck : {k v : ℕ} {t u w : Text} → Before x t u → Digits x k v u w → k ≤ 8 → Stuck k w →
-      BracedCode n x h t (fails (code_not_read h))
-  comment_open_before : {q : ℕ} {t : Text} → Unclosed n x t q → BracedCode n x h t (fails (comment_not_closed q))
+      BracedCode x h t (fails (code_not_read h))
+  comment_open_before : {q : ℕ} {t : Text} → Unclosed x t q → BracedCode x h t (fails (comment_not_closed q))
   comment_open_behind : {k v d q : ℕ} {t u w z : Text} → Before x t u → Digits x k v u w → k < 8 →
-      hex_digit w ≡ Some (d, z) → Unclosed n x z q → BracedCode n x h t (fails (comment_not_closed q))
+      hex_digit w ≡ Some (d, z) → Unclosed x z q → BracedCode x h t (fails (comment_not_closed q))
 
 -- a code that begins there: so many digits, or else one in braces
-pub data Code (n : ℕ) (x : Bool) (h width : ℕ) : Text → Reading ℕ → Type 0 where
-  fixed : {v : ℕ} {t u : Text} → fixed_digits width 0 t ≡ Some (v, u) → Code n x h width t (gives v u)
-  code_in_braces : {t : Text} {o : Reading ℕ} → fixed_digits width 0 (open_brace ∷ t) ≡ None → BracedCode n x h t o →
-      Code n x h width (open_brace ∷ t) o
+pub data Code (x : Bool) (h width : ℕ) : Text → Reading ℕ → Type 0 where
+  fixed : {v : ℕ} {t u : Text} → fixed_digits width 0 t ≡ Some (v, u) → Code x h width t (gives v u)
+  code_in_braces : {t : Text} {o : Reading ℕ} → fixed_digits width 0 (open_brace ∷ t) ≡ None → BracedCode x h t o →
+      Code x h width (open_brace ∷ t) o
   neither : {t : Text} → fixed_digits width 0 t ≡ None → strip open_brace t ≡ None →
-      Code n x h width t (fails (code_not_read h))
+      Code x h width t (fails (code_not_read h))
 
 -- behind the letter: layout, and a code; what it stands for
-pub data HexCode (n : ℕ) (f : Flags) (width : ℕ) : Text → Reading Escape → Type 0 where
+pub data HexCode (f : Flags) (width : ℕ) : Text → Reading Escape → Type 0 where
   code : {v : ℕ} {t u w : Text} → Before f.ignore_space t u →
-      Code n f.ignore_space (place_of n u) width u (gives v w) →
-      HexCode n f width t (leaf_of_value f width (place_of n u) v w)
+      Code f.ignore_space (reach_of u) width u (gives v w) →
+      HexCode f width t (leaf_of_value f width (reach_of u) v w)
   code_fault : {t u : Text} {e : Fault} → Before f.ignore_space t u →
-      Code n f.ignore_space (place_of n u) width u (fails e) → HexCode n f width t (fails e)
-  open_layout : {q : ℕ} {t : Text} → Unclosed n f.ignore_space t q → HexCode n f width t (fails (comment_not_closed q))
+      Code f.ignore_space (reach_of u) width u (fails e) → HexCode f width t (fails e)
+  open_layout : {q : ℕ} {t : Text} → Unclosed f.ignore_space t q → HexCode f width t (fails (comment_not_closed q))

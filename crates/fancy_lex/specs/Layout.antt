@@ -62,15 +62,15 @@ pub record Before (x : Bool) (t v : Text) : Type 0 where
   pub layout : Layout x w v
 
 -- a comment's inside that does not end: all of the text, or all but an unpaired backslash
-pub data OpenComment : ℕ → Text → ℕ → Type 0 where
-  at_end : {n : ℕ} {t : Text} → InComment t → OpenComment n t (end_in_comment n)
-  after_backslash : {n p : ℕ} {t : Text} (i : Text) → t ≡ i ++ (backslash ∷ []) → p ≡ end_behind_backslash n →
-      InComment i → OpenComment n t p
+pub data OpenComment : Text → ℕ → Type 0 where
+  at_end : {t : Text} → InComment t → OpenComment t end_in_comment
+  after_backslash : {p : ℕ} {t : Text} (i : Text) → t ≡ i ++ (backslash ∷ []) → p ≡ end_behind_backslash →
+      InComment i → OpenComment t p
 
--- in a text of n bytes that ends with `t`, the layout at `t` holds an unclosed comment, with its fault at p
-pub record Unclosed (n : ℕ) (x : Bool) (t : Text) (p : ℕ) : Type 0 where
+-- the layout at `t` holds an unclosed comment, with its fault at the reach p
+pub record Unclosed (x : Bool) (t : Text) (p : ℕ) : Type 0 where
   pub w : Text
   pub r : Text
   pub cut : t ≡ w ++ (comment_head ++ r)
   pub units : Units x w (comment_head ++ r)
-  pub inside : OpenComment n r p
+  pub inside : OpenComment r p

@@ -6,7 +6,7 @@ use Rattle.fancy_lex.specs.FaultTable.{end_in_comment, end_behind_backslash}
 use Rattle.fancy_lex.specs.Layout.{is_blank}
 use Rattle.fancy_lex.specs.Text.{Text, strip}
 
--- what a reader of layout answers: the rest of the text, or the place of the fault
+-- what a reader of layout answers: the rest of the text, or the reach of the fault
 pub data Skipped : Type 0 where
   rest : Text → Skipped
   fault : ℕ → Skipped
@@ -33,33 +33,33 @@ is_layout x c = x && (c == hash || is_blank c)
 abbrev pub after_comment_head : Text → Option Text
 after_comment_head t = option_and_then (strip hash) (option_and_then (strip question_mark) (strip open_paren t))
 
--- what is left behind the rest of the layout, or the place of an unclosed comment's fault in a text of n bytes; no text
--- ends inside `(?#`, since all of that was seen before the first of it was taken
-unfoldable pub layout_from : ℕ → Bool → Phase → Text → Skipped
-layout_from n x between [] = rest []
-layout_from n x between (c ∷ t) =
-    if is_some (after_comment_head (c ∷ t)) then layout_from n x two t
-    else if x && c == hash then layout_from n x line t
-    else if x && is_blank c then layout_from n x between t
+-- what is left behind the rest of the layout, or the reach of an unclosed comment's fault; no text ends inside `(?#`,
+-- since all of that was seen before the first of it was taken
+unfoldable pub layout_from : Bool → Phase → Text → Skipped
+layout_from x between [] = rest []
+layout_from x between (c ∷ t) =
+    if is_some (after_comment_head (c ∷ t)) then layout_from x two t
+    else if x && c == hash then layout_from x line t
+    else if x && is_blank c then layout_from x between t
     else rest (c ∷ t)
-layout_from n x two [] = rest []
-layout_from n x two (c ∷ t) = layout_from n x one t
-layout_from n x one [] = rest []
-layout_from n x one (c ∷ t) = layout_from n x comment t
-layout_from n x comment [] = fault (end_in_comment n)
-layout_from n x comment (c ∷ t) =
-    if c == close_paren then layout_from n x between t
-    else if c == backslash then layout_from n x escaped t
-    else layout_from n x comment t
-layout_from n x escaped [] = fault (end_behind_backslash n)
-layout_from n x escaped (c ∷ t) = layout_from n x comment t
-layout_from n x line [] = rest []
-layout_from n x line (c ∷ t) = if c == line_feed then layout_from n x between t else layout_from n x line t
+layout_from x two [] = rest []
+layout_from x two (c ∷ t) = layout_from x one t
+layout_from x one [] = rest []
+layout_from x one (c ∷ t) = layout_from x comment t
+layout_from x comment [] = fault end_in_comment
+layout_from x comment (c ∷ t) =
+    if c == close_paren then layout_from x between t
+    else if c == backslash then layout_from x escaped t
+    else layout_from x comment t
+layout_from x escaped [] = fault end_behind_backslash
+layout_from x escaped (c ∷ t) = layout_from x comment t
+layout_from x line [] = rest []
+layout_from x line (c ∷ t) = if c == line_feed then layout_from x between t else layout_from x line t
 
 -- the same, where no layout was read yet
-abbrev pub layout : ℕ → Bool → Text → Skipped
-layout n x t = layout_from n x between t
+abbrev pub layout : Bool → Text → Skipped
+layout x t = layout_from x between t
 
--- what follows the layout, where every comment in it is closed: it is the same for any n
+-- what follows the layout, where every comment in it is closed
 abbrev pub past_layout : Bool → Text → Option Text
-past_layout x t = rest_of (layout 0 x t)
+past_layout x t = rest_of (layout x t)

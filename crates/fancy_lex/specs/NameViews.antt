@@ -33,8 +33,8 @@ view_borrowed (borrowed.Relative z) = relative z
 
 -- a reference in code
 abbrev pub view_reference : declared_reference.Reference → Reference
-view_reference r = reference_to r.place (view_borrowed r.target) r.level
+view_reference r = reference_to r.reach (view_borrowed r.target) r.level
 
 -- a call in code
 abbrev pub view_call : declared_call.Call → Call
-view_call c = call_to c.place (view_borrowed c.target)
+view_call c = call_to c.reach (view_borrowed c.target)

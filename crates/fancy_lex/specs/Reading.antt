@@ -6,17 +6,17 @@ use Rattle.fancy_lex.specs.Fault.{Fault, Kind, carries_text}
 use Rattle.fancy_lex.specs.ErrorViews.{kind_of}
 use Rattle.fancy_lex.specs.FaultTable.{comment_not_closed}
 use Rattle.fancy_lex.specs.LayoutSteps.{Skipped, rest, fault}
-use Rattle.fancy_lex.specs.declared.error.Error.{Error}
-use Rattle.fancy_lex.specs.declared.error.Error.TheVariants.{ParseError, OutOfMemory}
+use Rattle.fancy_lex.specs.declared.error.Failure.{Failure}
+use Rattle.fancy_lex.specs.declared.error.Failure.TheVariants.{At, OutOfMemory}
 
 -- a value and what is left of the text, or a fault
 pub data Reading (A : Type 0) : Type 0 where
   gives : A → Text → Reading A
   fails : Fault → Reading A
 
--- the fault of this kind at this place
+-- the fault of this kind at this reach
 abbrev pub fault_at : {A : Type 0} → ℕ → Kind → Reading A
-fault_at p k = fails (record { place = p; kind = k })
+fault_at p k = fails (record { reach = p; kind = k })
 
 -- one step after another
 infixl 10 ◌>=>◌
@@ -39,16 +39,16 @@ layout_reading (rest t) = gives tt t
 layout_reading (fault p) = fails (comment_not_closed p)
 
 -- the error says the reading's fault
-abbrev pub Says : {A : Type 0} → Error → Reading A → Type 0
-Says (ParseError p k) o = o ≡ fault_at p (kind_of k)
+abbrev pub Says : {A : Type 0} → Failure → Reading A → Type 0
+Says (At p k) o = o ≡ fault_at p (kind_of k)
 Says OutOfMemory o = ⊥
 
 -- the code's answer is the reading, with its value seen through f
-abbrev pub Reads : {A B : Type 0} → (A → B) → Result (A × Bor (List ℕ)) Error → Reading B → Type 0
+abbrev pub Reads : {A B : Type 0} → (A → B) → Result (A × Bor (List ℕ)) Failure → Reading B → Type 0
 Reads f r o = MatchResult r (λ p. o ≡ gives (f p.0) (chars p.1.now)) (λ e. Says e o)
 
 -- the same of an answer with no value
-abbrev pub ReadsRest : Result (Bor (List ℕ)) Error → Reading (Unit {0}) → Type 0
+abbrev pub ReadsRest : Result (Bor (List ℕ)) Failure → Reading (Unit {0}) → Type 0
 ReadsRest r o = MatchResult r (λ t. o ≡ gives tt (chars t.now)) (λ e. Says e o)
 
 -- the reading fails with a fault that carries a text
@@ -57,28 +57,28 @@ CarriesText (gives a t) = ⊥
 CarriesText (fails e) = carries_text e.kind ≡ true
 
 -- the error says the reading's fault, or that memory ran out for the text that this fault carries
-abbrev pub Reports : {A : Type 0} → Error → Reading A → Type 0
+abbrev pub Reports : {A : Type 0} → Failure → Reading A → Type 0
 Reports OutOfMemory o = CarriesText o
-Reports (ParseError p k) o = o ≡ fault_at p (kind_of k)
+Reports (At p k) o = o ≡ fault_at p (kind_of k)
 
 -- the code's answer is the reading, with its value seen through f; memory is wanted for the text of a fault alone
-abbrev pub Answers : {A B : Type 0} → (A → B) → Result (A × Bor (List ℕ)) Error → Reading B → Type 0
+abbrev pub Answers : {A B : Type 0} → (A → B) → Result (A × Bor (List ℕ)) Failure → Reading B → Type 0
 Answers f r o = MatchResult r (λ p. o ≡ gives (f p.0) (chars p.1.now)) (λ e. Reports e o)
 
 -- the error says the reading's fault, or that memory ran out
-abbrev pub IsErrorOrNoMemory : {B : Type 0} → Error → Reading B → Type 0
+abbrev pub IsErrorOrNoMemory : {B : Type 0} → Failure → Reading B → Type 0
 IsErrorOrNoMemory OutOfMemory o = ⊤
-IsErrorOrNoMemory (ParseError p k) o = o ≡ fault_at p (kind_of k)
+IsErrorOrNoMemory (At p k) o = o ≡ fault_at p (kind_of k)
 
 -- the code's answer is the reading, with its value seen through f, unless memory ran out
-abbrev pub IsReadingOrNoMemory : {A B : Type 0} → (A → B) → Result (A × Bor (List ℕ)) Error → Reading B → Type 0
+abbrev pub IsReadingOrNoMemory : {A B : Type 0} → (A → B) → Result (A × Bor (List ℕ)) Failure → Reading B → Type 0
 IsReadingOrNoMemory f r o = MatchResult r (λ p. o ≡ gives (f p.0) (chars p.1.now)) (λ e. IsErrorOrNoMemory e o)
 
 -- the relation gives the error's fault, or memory ran out
-abbrev pub DerivesFault : {B : Type 0} → Error → (Reading B → Type 0) → Type 0
+abbrev pub DerivesFault : {B : Type 0} → Failure → (Reading B → Type 0) → Type 0
 DerivesFault OutOfMemory R = ⊤
-DerivesFault (ParseError p k) R = R (fault_at p (kind_of k))
+DerivesFault (At p k) R = R (fault_at p (kind_of k))
 
 -- the relation gives the code's answer, with its value seen through f, unless memory ran out
-abbrev pub Derives : {A B : Type 0} → (A → B) → Result (A × Bor (List ℕ)) Error → (Reading B → Type 0) → Type 0
+abbrev pub Derives : {A B : Type 0} → (A → B) → Result (A × Bor (List ℕ)) Failure → (Reading B → Type 0) → Type 0
 Derives f r R = MatchResult r (λ p. R (gives (f p.0) (chars p.1.now))) (λ e. DerivesFault e R)

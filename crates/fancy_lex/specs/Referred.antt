@@ -8,24 +8,24 @@ use Rattle.fancy_lex.specs.Reading.{Reading, read_or}
 use Rattle.fancy_lex.specs.Target.{Target, by_number, by_name, relative}
 use Rattle.fancy_lex.specs.Text.{Text}
 
--- what asks for a group's match: the group, the level of recursion where one is written, and the place
+-- what asks for a group's match: the group, the level of recursion where one is written, and the reach
 pub record Reference : Type 0 where
   pub target : Target
   pub level : Option ℤ
-  pub place : ℕ
+  pub reach : ℕ
 
--- what calls a group: the group, and the place
+-- what calls a group: the group, and the reach
 pub record Call : Type 0 where
   pub target : Target
-  pub place : ℕ
+  pub reach : ℕ
 
--- the reference at the place p to this group, at this level
+-- the reference at the reach p to this group, at this level
 abbrev pub reference_to : ℕ → Target → Option ℤ → Reference
-reference_to p g l = record { target = g; level = l; place = p }
+reference_to p g l = record { target = g; level = l; reach = p }
 
--- the call at the place p of this group
+-- the call at the reach p of this group
 abbrev pub call_to : ℕ → Target → Call
-call_to p g = record { target = g; place = p }
+call_to p g = record { target = g; reach = p }
 
 -- the group of the number, or else of the name
 abbrev pub number_or_name : Text → Option ℕ → Target
@@ -36,7 +36,7 @@ number_or_name w None = by_name w
 unfoldable pub target_of_name : Text → Target
 target_of_name w = number_or_name w (number_text w)
 
--- the reference at the place p that an id reference says: relative without an id; an amount behind an id is a level
+-- the reference at the reach p that an id reference says: relative without an id; an amount behind an id is a level
 unfoldable pub reference_of : ℕ → IdReference → Reference
 reference_of p (id_alone w) = reference_to p (target_of_name w) None
 reference_of p (id_and_amount w z) = reference_to p (target_of_name w) (Some z)
@@ -46,10 +46,10 @@ reference_of p (amount_alone z) = reference_to p (relative z) None
 unfoldable pub written_reference : ℕ → Bool → Text → Option Reference
 written_reference p amounts w = option_map (reference_of p) (id_reference amounts w)
 
--- what was read, or else the fault of the reference at the place p
+-- what was read, or else the fault of the reference at the reach p
 abbrev pub name_reading : {A : Type 0} → ℕ → Option (A × Text) → Reading A
 name_reading p o = read_or (reference_not_read p) o
 
--- the reference at the place p that the name found there writes
+-- the reference at the reach p that the name found there writes
 unfoldable pub reference_by_name : ℕ → Bool → Option (Text × Text) → Reading Reference
 reference_by_name p amounts o = name_reading p (of_name (written_reference p amounts) o)

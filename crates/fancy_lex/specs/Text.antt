@@ -17,9 +17,14 @@ unfoldable pub bytes : Text → ℕ
 bytes [] = 0
 bytes (c ∷ t) = len_utf8 c + bytes t
 
--- the place where `t` begins, at the end of a text of n bytes
-abbrev pub place_of : ℕ → Text → ℕ
-place_of n t = n - bytes t
+-- the reach of the place where `t` begins: how many bytes lie from there to one past the end of the pattern, which
+-- `t` ends. It is 1 at the end, and 0 one past it.
+abbrev pub reach_of : Text → ℕ
+reach_of t = bytes t + 1
+
+-- the place of this reach in a pattern of n bytes
+abbrev pub place_at : ℕ → ℕ → ℕ
+place_at n reach = n + 1 - reach
 
 -- what follows the character, if the text begins with it
 abbrev pub strip : ℕ → Text → Option Text
@@ -44,9 +49,9 @@ EndsWith t end = (w : Text) × (t ≡ w ++ end)
 abbrev pub BeginsWith : Text → Text → Type 0
 BeginsWith t front = (w : Text) × (t ≡ front ++ w)
 
--- in a pattern of n bytes that ends with t, a place where a fault may stand: the one that is told, where an end of t
--- begins, or one past the end
-pub data Stands (n told : ℕ) (t : Text) (place : ℕ) : Type 0 where
-  as_told : place ≡ told → Stands n told t place
-  begins : (u : Text) → EndsWith t u → place ≡ place_of n u → Stands n told t place
-  past_end : place ≡ n + 1 → Stands n told t place
+-- the reach of a fault in a pattern that ends with t: the one that is told, that of an end of t, or that of one past
+-- the end
+pub data Stands (told : ℕ) (t : Text) (reach : ℕ) : Type 0 where
+  as_told : reach ≡ told → Stands told t reach
+  begins : (u : Text) → EndsWith t u → reach ≡ reach_of u → Stands told t reach
+  past_end : reach ≡ 0 → Stands told t reach

@@ -5,20 +5,20 @@ use Rattle.std.specs.Borrow.{Bor}
 use Rattle.fancy_lex.specs.LayoutSteps.{Skipped, rest, fault}
 use Rattle.fancy_lex.specs.Number.{number, IsWord}
 use Rattle.fancy_lex.specs.Text.{Text}
-use Rattle.fancy_lex.specs.declared.error.Error.{Error}
-use Rattle.fancy_lex.specs.declared.error.Error.TheVariants.{ParseError}
+use Rattle.fancy_lex.specs.declared.error.Failure.{Failure}
+use Rattle.fancy_lex.specs.declared.error.Failure.TheVariants.{At}
 use Rattle.fancy_lex.specs.declared.error.ParseError.TheVariants.{UnclosedOpenParen}
 
--- the text behind layout, or the place of the fault
+-- the text behind layout, or the reach of the fault
 abbrev pub skipped_of : Result (Bor (List ℕ)) ℕ → Skipped
 skipped_of (Ok r) = rest (chars r.now)
 skipped_of (Err p) = fault p
 
 -- the text behind layout, or the error of an open comment in it
-abbrev pub Skips : Result (Bor (List ℕ)) Error → Skipped → Type 0
+abbrev pub Skips : Result (Bor (List ℕ)) Failure → Skipped → Type 0
 Skips r s =
     MatchResult r (λ t. s ≡ rest (chars t.now))
-    (λ e. (p : ℕ) × (e ≡ ParseError p UnclosedOpenParen) × (s ≡ fault p))
+    (λ e. (p : ℕ) × (e ≡ At p UnclosedOpenParen) × (s ≡ fault p))
 
 -- two parts of a text
 abbrev pub parts : Option (Bor (List ℕ) × Bor (List ℕ)) → Option (Text × Text)

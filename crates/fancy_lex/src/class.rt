@@ -7,11 +7,11 @@ ghost use Rattle.fancy_lex.specs.Reading.{Reading, Derives, IsReadingOrNoMemory,
 ghost use Rattle.fancy_lex.specs.ErrorViews.{StandsWithin};
 ghost use Rattle.fancy_lex.specs.Text.{Text, text_of, BeginsWith, EndsWith};
 
-use crate::error::{Error, ParseError};
+use crate::error::{Failure, ParseError};
 use crate::escape::{DelegateText, Escaped, escape};
 use crate::flags::Flags;
 use crate::property::{is_negated, push_property};
-use crate::text::{after, append, next, place, push};
+use crate::text::{after, append, next, push, reach};
 use std::alloc::{AllocError, Global};
 
 /// Whether the character stands behind a backslash in a class.
@@ -165,10 +165,8 @@ fn push_head<'a>(out: &mut String, text: &'a str) -> Result<&'a str, AllocError>
 }
 
 /// Reads a class and those that nest in it through its last bracket: what is written, and the text left.
-fn read_class(alloc: Global, text: &str, flags: Flags, end: usize) -> Result<(String, &str), Error>
-    requires bounded { end < 2 ^ 63 }
-    requires inside { length text.now ≤ end }
-    ensures value { IsReadingOrNoMemory text_of result (spec.class end flags (chars text.now)) }
+fn read_class(alloc: Global, text: &str, flags: Flags) -> Result<(String, &str), Failure>
+    ensures value { IsReadingOrNoMemory text_of result (spec.class flags (chars text.now)) }
     ensures shorter { IfOk result (λ p. length p.1.now < length text.now) }
 {
     let mut out = String::new(alloc);
@@ -177,7 +175,7 @@ fn read_class(alloc: Global, text: &str, flags: Flags, end: usize) -> Result<(St
     let mut seen = false;
     while let Some((c, behind)) = next(rest) {
         if c == '\\' {
-            let (escaped, after) = escape(alloc, behind, flags, true, place(rest, end), end)?;
+            let (escaped, after) = escape(alloc, behind, flags, true, reach(rest))?;
             seen = push_escape(&mut out, escaped, seen)?;
             rest = after;
             continue;
@@ -196,24 +194,22 @@ fn read_class(alloc: Global, text: &str, flags: Flags, end: usize) -> Result<(St
             outer -= 1;
         }
     }
-    Err(Error::ParseError(end, ParseError::InvalidClass))
+    Err(Failure::At(1, ParseError::InvalidClass))
 }
 
-/// Reads a class behind its opening bracket, in the rest of a pattern of `end` bytes: the text that is written for it,
+/// Reads a class behind its opening bracket, in the text with which the pattern ends: the text that is written for it,
 /// and the text left. Where the pattern ends in the class, the fault is `InvalidClass` at its end; else it is the
 /// fault of the first escape that cannot be read. What follows the class changes nothing.
-pub fn class(alloc: Global, text: &str, flags: Flags, end: usize) -> Result<(String, &str), Error>
-    requires bounded { end < 2 ^ 63 }
-    requires inside { length text.now ≤ end }
-    ensures value { IsReadingOrNoMemory text_of result (spec.class end flags (chars text.now)) }
-    ensures derives { Derives text_of result (spec.OuterClass end flags (chars text.now)) }
-    ensures only { (o : Reading Text) → spec.OuterClass end flags (chars text.now) o →
+pub fn class(alloc: Global, text: &str, flags: Flags) -> Result<(String, &str), Failure>
+    ensures value { IsReadingOrNoMemory text_of result (spec.class flags (chars text.now)) }
+    ensures derives { Derives text_of result (spec.OuterClass flags (chars text.now)) }
+    ensures only { (o : Reading Text) → spec.OuterClass flags (chars text.now) o →
         IsReadingOrNoMemory text_of result o }
-    ensures follows { (m : ℕ) (s : Text) →
-        IfOk result (λ p. spec.class m flags (chars text.now ++ s) ≡ gives (text_of p.0) (chars p.1.now ++ s)) }
+    ensures follows { (s : Text) →
+        IfOk result (λ p. spec.class flags (chars text.now ++ s) ≡ gives (text_of p.0) (chars p.1.now ++ s)) }
     ensures cut { IfOk result (λ p. EndsWith (chars text.now) (chars p.1.now)) }
-    ensures place { IfErr result (λ e. StandsWithin (end + 1) e) }
+    ensures place { IfErr result (λ e. StandsWithin (length text.now + 1) e) }
     ensures shorter { IfOk result (λ p. length p.1.now < length text.now) }
 {
-    read_class(alloc, text, flags, end)
+    read_class(alloc, text, flags)
 }

@@ -1,8 +1,9 @@
 //! Why a pattern is refused.
-ghost use Rattle.std.specs.Prelude.{◌≡◌, ◌++◌, false, IfOk, IsOk, Some};
+ghost use Rattle.std.specs.Prelude.{◌≡◌, ◌++◌, ◌<◌, ◌^◌, false, IfOk, IsOk, Some};
 ghost use Rattle.fancy_lex.specs.Fault.{kind_text, carries_text};
-ghost use Rattle.fancy_lex.specs.ErrorViews.{kind_of, error_text, SameError, error_carries_text};
+ghost use Rattle.fancy_lex.specs.ErrorViews.{kind_of, error_text, error_in, SameError, error_carries_text};
 
+use crate::text::place_at;
 use std::alloc::{AllocError, AllocFailed, Global};
 use std::fmt;
 
@@ -21,6 +22,28 @@ pub enum Error {
     ParseError(ParseErrorPosition, ParseError),
     /// Memory was refused. It says nothing of the pattern.
     OutOfMemory,
+}
+
+/// Why a reader stops: the pattern's fault, or that memory was refused.
+#[derive(Debug, Drop)]
+pub enum Failure {
+    /// The fault's reach, which is 0 one past the end of the pattern and 1 at its end, and what is wrong there.
+    At(usize, ParseError),
+    /// Memory was refused. It says nothing of the pattern.
+    OutOfMemory,
+}
+
+impl Failure {
+    /// The error of a reader in a pattern of `end` bytes.
+    pub fn in_pattern(self, end: usize) -> Error
+        requires { end < 2 ^ 63 }
+        ensures { result ≡ error_in end self }
+    {
+        match self {
+            Failure::At(reach, kind) => Error::ParseError(place_at(end, reach), kind),
+            Failure::OutOfMemory => Error::OutOfMemory,
+        }
+    }
 }
 
 /// What is wrong with a pattern. Each kind stands here with when it is answered, an example, and the place in bytes
@@ -200,5 +223,27 @@ impl<T: Drop> From<AllocFailed<T>> for Error {
 
     fn from(_refused: AllocFailed<T>) -> Error {
         Error::OutOfMemory
+    }
+}
+
+impl From<AllocError> for Failure {
+    ghost use Rattle.fancy_lex.specs.declared.error.Failure.TheVariants.{OutOfMemory};
+    ghost use Rattle.std.specs.Prelude.{◌≡◌};
+
+    ghost from_gives = { λ _ e. e ≡ OutOfMemory };
+
+    fn from(_refused: AllocError) -> Failure {
+        Failure::OutOfMemory
+    }
+}
+
+impl<T: Drop> From<AllocFailed<T>> for Failure {
+    ghost use Rattle.fancy_lex.specs.declared.error.Failure.TheVariants.{OutOfMemory};
+    ghost use Rattle.std.specs.Prelude.{◌≡◌};
+
+    ghost from_gives = { λ _ e. e ≡ OutOfMemory };
+
+    fn from(_refused: AllocFailed<T>) -> Failure {
+        Failure::OutOfMemory
     }
 }

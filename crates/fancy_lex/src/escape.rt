@@ -9,7 +9,7 @@ ghost use Rattle.fancy_lex.specs.Reading.{Reads, Answers, Reports, gives, choose
 ghost use Rattle.fancy_lex.specs.Text.{Text, EndsWith, text_of};
 ghost use Rattle.fancy_lex.specs.ErrorViews.{StandsWithin};
 
-use crate::error::{Error, ParseError};
+use crate::error::{Failure, ParseError};
 use crate::escape::boundary::{bare_boundary, boundary};
 use crate::escape::hex::{hex, short_hex};
 use crate::escape::reference::{back_reference, group_number, numbered_reference, subroutine_call};
@@ -114,12 +114,12 @@ fn letter_name(alloc: Global, c: char) -> Result<String, AllocError>
 
 /// The fault of a letter that is no escape.
 #[cold]
-fn unknown_escape(alloc: Global, c: char, place: usize) -> Error
-    ensures { Reports result (spec.unknown_escape place c) }
+fn unknown_escape(alloc: Global, c: char, reach: usize) -> Failure
+    ensures { Reports result (spec.unknown_escape reach c) }
 {
     match letter_name(alloc, c) {
-        Ok(name) => Error::ParseError(place, ParseError::InvalidEscape(name)),
-        Err(refused) => Error::from(refused),
+        Ok(name) => Failure::At(reach, ParseError::InvalidEscape(name)),
+        Err(refused) => Failure::from(refused),
     }
 }
 
@@ -148,69 +148,63 @@ fn is_itself(c: char, inside: bool) -> bool
     !c.is_ascii_alphanumeric() && (inside || !matches!(c, '<' | '>'))
 }
 
-/// Reads digits, which are a back reference. In a class the fault is InvalidClass at `place`, unless no word holds
+/// Reads digits, which are a back reference. In a class the fault is InvalidClass at `reach`, unless no word holds
 /// their number.
 #[tactic(auto, unfolding(crate::specs::Escape::number_escape))]
 fn number_escape(
     text: &str,
     flags: Flags,
     inside: bool,
-    place: usize,
-    end: usize,
-) -> Result<(Escaped<'_>, &str), Error>
-    requires { length text.now ≤ end }
-    ensures value { Reads escape_of result (spec.number_escape end flags inside place (chars text.now)) }
+    reach: usize,
+) -> Result<(Escaped<'_>, &str), Failure>
+    ensures value { Reads escape_of result (spec.number_escape flags inside reach (chars text.now)) }
     ensures shorter { IfOk result (λ p. length p.1.now < length text.now) }
 {
     if inside {
-        group_number(text, end)?;
-        return Err(Error::ParseError(place, ParseError::InvalidClass));
+        group_number(text)?;
+        return Err(Failure::At(reach, ParseError::InvalidClass));
     }
-    numbered_backref(text, flags, end)
+    numbered_backref(text, flags)
 }
 
 /// Reads a back reference in digits.
 #[inline(always)]
-fn numbered_backref(text: &str, flags: Flags, end: usize) -> Result<(Escaped<'_>, &str), Error>
-    requires { length text.now ≤ end }
+fn numbered_backref(text: &str, flags: Flags) -> Result<(Escaped<'_>, &str), Failure>
     ensures value { Reads escape_of result
-        (spec.backref_leaf flags (references.numbered_reference end (chars text.now))) }
+        (spec.backref_leaf flags (references.numbered_reference (chars text.now))) }
     ensures shorter { IfOk result (λ p. length p.1.now < length text.now) }
 {
-    let (reference, rest) = numbered_reference(text, end)?;
+    let (reference, rest) = numbered_reference(text)?;
     let casei = flags.casei;
     Ok((Escaped::Backref { reference, casei }, rest))
 }
 
 /// Reads a named back reference, behind its letter.
 #[inline(always)]
-fn backref_escape(text: &str, flags: Flags, end: usize) -> Result<(Escaped<'_>, &str), Error>
-    requires { length text.now ≤ end }
-    ensures value { Reads escape_of result (spec.backref_leaf flags (references.back_reference end (chars text.now))) }
+fn backref_escape(text: &str, flags: Flags) -> Result<(Escaped<'_>, &str), Failure>
+    ensures value { Reads escape_of result (spec.backref_leaf flags (references.back_reference (chars text.now))) }
     ensures within { IfOk result (λ p. length p.1.now ≤ length text.now) }
 {
-    let (reference, rest) = back_reference(text, end)?;
+    let (reference, rest) = back_reference(text)?;
     let casei = flags.casei;
     Ok((Escaped::Backref { reference, casei }, rest))
 }
 
-/// Reads a call behind its letter. InvalidEscape at `place` where the text ends.
+/// Reads a call behind its letter. InvalidEscape at `reach` where the text ends.
 #[tactic(auto, unfolding(crate::specs::Escape::call_escape))]
 fn call_escape<'a>(
     alloc: Global,
     text: &'a str,
     letter: char,
-    place: usize,
-    end: usize,
-) -> Result<(Escaped<'a>, &'a str), Error>
-    requires { length text.now ≤ end }
-    ensures value { Answers escape_of result (spec.call_escape end place letter (chars text.now)) }
+    reach: usize,
+) -> Result<(Escaped<'a>, &'a str), Failure>
+    ensures value { Answers escape_of result (spec.call_escape reach letter (chars text.now)) }
     ensures within { IfOk result (λ p. length p.1.now ≤ length text.now) }
 {
     if next(text).is_none() {
-        return Err(unknown_escape(alloc, letter, place));
+        return Err(unknown_escape(alloc, letter, reach));
     }
-    let (call, rest) = subroutine_call(text, end)?;
+    let (call, rest) = subroutine_call(text)?;
     Ok((Escaped::SubroutineCall(call), rest))
 }
 
@@ -222,16 +216,16 @@ fn property<'a>(
     letter: char,
     flags: Flags,
     inside: bool,
-    place: usize,
-) -> Result<(Escaped<'a>, &'a str), Error>
-    ensures value { Answers escape_of result (spec.property flags inside place letter (chars text.now)) }
+    reach: usize,
+) -> Result<(Escaped<'a>, &'a str), Failure>
+    ensures value { Answers escape_of result (spec.property flags inside reach letter (chars text.now)) }
     ensures within { IfOk result (λ p. length p.1.now ≤ length text.now) }
 {
     if next(text).is_none() {
-        return Err(unknown_escape(alloc, letter, place));
+        return Err(unknown_escape(alloc, letter, reach));
     }
     let Some((property, rest)) = read_property(text, letter == 'P') else {
-        return Err(Error::ParseError(place, ParseError::UnclosedUnicodeName));
+        return Err(Failure::At(reach, ParseError::UnclosedUnicodeName));
     };
     let inner = DelegateText::Property {
         property,
@@ -292,8 +286,8 @@ fn word_boundary(c: char, boundary: Assertion, flags: Flags) -> Escaped<'static>
 #[inline(always)]
 #[tactic(auto, unfolding(crate::specs::Escape::escape))]
 fn lone_anywhere(c: char, flags: Flags) -> Option<Escaped<'static>>
-    ensures lone { IfSome result (λ e. (n : ℕ) (inside : Bool) (p : ℕ) (t : Text) →
-        spec.escape n flags inside p (c ∷ t) ≡ gives (escape_of e) t) }
+    ensures lone { IfSome result (λ e. (inside : Bool) (p : ℕ) (t : Text) →
+        spec.escape flags inside p (c ∷ t) ≡ gives (escape_of e) t) }
     ensures other { result ≡ None → spec.is_lone_anywhere c ≡ false }
 {
     match c {
@@ -333,7 +327,7 @@ fn lone_in_class(c: char) -> Option<Escaped<'static>>
 #[inline(always)]
 #[tactic(auto, unfolding(crate::specs::Escape::outside))]
 fn lone_outside(c: char, flags: Flags) -> Option<Escaped<'static>>
-    ensures lone { (n p : ℕ) (t : Text) → spec.reads_on false c ≡ false → spec.outside n flags p c t ≡
+    ensures lone { (p : ℕ) (t : Text) → spec.reads_on false c ≡ false → spec.outside flags p c t ≡
         choose result (λ e. gives (escape_of e) t) (spec.unknown_escape p c) }
     ensures whole { spec.reads_on false c ≡ true → result ≡ None }
 {
@@ -358,10 +352,10 @@ fn lone_outside(c: char, flags: Flags) -> Option<Escaped<'static>>
 /// for a letter that is no escape.
 #[inline(always)]
 fn lone_escape(c: char, flags: Flags, inside: bool) -> Option<Escaped<'static>>
-    ensures lone { IfSome result (λ e. (n p : ℕ) (t : Text) →
-        spec.escape n flags inside p (c ∷ t) ≡ gives (escape_of e) t) }
-    ensures unknown { result ≡ None → spec.reads_on inside c ≡ false → (n p : ℕ) (t : Text) →
-        spec.escape n flags inside p (c ∷ t) ≡ spec.unknown_escape p c }
+    ensures lone { IfSome result (λ e. (p : ℕ) (t : Text) →
+        spec.escape flags inside p (c ∷ t) ≡ gives (escape_of e) t) }
+    ensures unknown { result ≡ None → spec.reads_on inside c ≡ false → (p : ℕ) (t : Text) →
+        spec.escape flags inside p (c ∷ t) ≡ spec.unknown_escape p c }
 {
     if is_itself(c, inside) {
         return Some(literal(c));
@@ -381,29 +375,26 @@ fn read_escape<'a>(
     text: &'a str,
     flags: Flags,
     inside: bool,
-    place: usize,
-    end: usize,
-) -> Result<(Escaped<'a>, &'a str), Error>
-    requires bounded { end < 2 ^ 63 }
-    requires within { length text.now ≤ end }
-    ensures value { Answers escape_of result (spec.escape end flags inside place (chars text.now)) }
+    reach: usize,
+) -> Result<(Escaped<'a>, &'a str), Failure>
+    ensures value { Answers escape_of result (spec.escape flags inside reach (chars text.now)) }
     ensures shorter { IfOk result (λ p. length p.1.now < length text.now) }
 {
     let Some((c, rest)) = next(text) else {
-        return Err(Error::ParseError(place, ParseError::TrailingBackslash));
+        return Err(Failure::At(reach, ParseError::TrailingBackslash));
     };
     match c {
-        '0'..='9' => number_escape(text, flags, inside, place, end),
-        'x' => hex(rest, 2, flags, end),
-        'u' => hex(rest, 4, flags, end),
-        'U' => hex(rest, 8, flags, end),
-        'p' | 'P' => property(alloc, rest, c, flags, inside, place),
-        'b' | 'B' if !inside => boundary(alloc, rest, c == 'B', flags, place, end),
-        'k' if !inside => backref_escape(rest, flags, end),
-        'g' if !inside => call_escape(alloc, rest, c, place, end),
+        '0'..='9' => number_escape(text, flags, inside, reach),
+        'x' => hex(rest, 2, flags),
+        'u' => hex(rest, 4, flags),
+        'U' => hex(rest, 8, flags),
+        'p' | 'P' => property(alloc, rest, c, flags, inside, reach),
+        'b' | 'B' if !inside => boundary(alloc, rest, c == 'B', flags, reach),
+        'k' if !inside => backref_escape(rest, flags),
+        'g' if !inside => call_escape(alloc, rest, c, reach),
         _ => match lone_escape(c, flags, inside) {
             Some(leaf) => Ok((leaf, rest)),
-            None => Err(unknown_escape(alloc, c, place)),
+            None => Err(unknown_escape(alloc, c, reach)),
         },
     }
 }
@@ -411,25 +402,23 @@ fn read_escape<'a>(
 /// The call at the front, behind its letter, where it reads.
 #[inline(always)]
 #[tactic(auto, using(crate::proofs::EscapeLemmas::call_is))]
-fn short_call(text: &str, end: usize) -> Option<(Escaped<'_>, &str)>
-    requires { length text.now ≤ end }
+fn short_call(text: &str) -> Option<(Escaped<'_>, &str)>
     ensures value { IfSome result (λ p. (q c : ℕ) →
-        spec.call_escape end q c (chars text.now) ≡ gives (escape_of p.0) (chars p.1.now)) }
+        spec.call_escape q c (chars text.now) ≡ gives (escape_of p.0) (chars p.1.now)) }
     ensures shorter { IfSome result (λ p. length p.1.now < length text.now) }
 {
-    let (call, rest) = subroutine_call(text, end).ok()?;
+    let (call, rest) = subroutine_call(text).ok()?;
     Some((Escaped::SubroutineCall(call), rest))
 }
 
-/// The escape at the front, behind a backslash outside a class in a pattern of `end` bytes, where a look ahead reads
+/// The escape at the front, behind a backslash outside a class, where a look ahead reads
 /// all of it, and what follows it: a character alone, a code of so many digits with no layout before them, a property
 /// of one character, a reference or a call.
 #[inline(always)]
 #[tactic(auto, unfolding(crate::specs::Escape::escape, crate::specs::Escape::outside, crate::specs::Escape::number_escape))]
-pub fn short_escape(text: &str, flags: Flags, end: usize) -> Option<(Escaped<'_>, &str)>
-    requires { length text.now ≤ end }
+pub fn short_escape(text: &str, flags: Flags) -> Option<(Escaped<'_>, &str)>
     ensures value { IfSome result (λ p. (q : ℕ) →
-        spec.escape end flags false q (chars text.now) ≡ gives (escape_of p.0) (chars p.1.now)) }
+        spec.escape flags false q (chars text.now) ≡ gives (escape_of p.0) (chars p.1.now)) }
     ensures shorter { IfSome result (λ p. length p.1.now < length text.now) }
 {
     let (c, rest) = next(text)?;
@@ -440,15 +429,15 @@ pub fn short_escape(text: &str, flags: Flags, end: usize) -> Option<(Escaped<'_>
         'u' => return short_hex(rest, 4, flags),
         'U' => return short_hex(rest, 8, flags),
         'p' | 'P' => return short_property(rest, c, flags),
-        '0'..='9' => return numbered_backref(text, flags, end).ok(),
-        'k' => return backref_escape(rest, flags, end).ok(),
-        'g' => return short_call(rest, end),
+        '0'..='9' => return numbered_backref(text, flags).ok(),
+        'k' => return backref_escape(rest, flags).ok(),
+        'g' => return short_call(rest),
         _ => lone_escape(c, flags, false)?,
     };
     Some((leaf, rest))
 }
 
-/// Reads what stands behind the backslash at `place` in a pattern of `end` bytes, in a class where `inside` says so.
+/// Reads what stands behind the backslash at this reach, in a class where `inside` says so.
 ///
 /// The faults, at the backslash where no other place is named: TrailingBackslash at the end of the text; InvalidEscape
 /// for a letter that is no escape, for a `g` at the end of the text, and for a boundary's braces that are not closed or
@@ -461,15 +450,12 @@ pub fn escape<'a>(
     text: &'a str,
     flags: Flags,
     inside: bool,
-    place: usize,
-    end: usize,
-) -> Result<(Escaped<'a>, &'a str), Error>
-    requires bounded { end < 2 ^ 63 }
-    requires within { length text.now ≤ end }
-    ensures value { Answers escape_of result (spec.escape end flags inside place (chars text.now)) }
+    reach: usize,
+) -> Result<(Escaped<'a>, &'a str), Failure>
+    ensures value { Answers escape_of result (spec.escape flags inside reach (chars text.now)) }
     ensures cut { IfOk result (λ p. EndsWith (chars text.now) (chars p.1.now)) }
-    ensures place { place ≤ end + 1 → IfErr result (λ e. StandsWithin (end + 1) e) }
+    ensures place { (m : ℕ) → reach ≤ m → length text.now + 1 ≤ m → IfErr result (λ e. StandsWithin m e) }
     ensures shorter { IfOk result (λ p. length p.1.now < length text.now) }
 {
-    read_escape(alloc, text, flags, inside, place, end)
+    read_escape(alloc, text, flags, inside, reach)
 }

@@ -7,19 +7,24 @@ ghost use Rattle.fancy_lex.specs.LayoutSteps.{rest, fault};
 ghost use Rattle.fancy_lex.specs.Views.{Skips, skipped_of};
 ghost use Rattle.fancy_lex.specs.Reading.{layout_reading, ReadsRest};
 
-use crate::error::{Error, ParseError};
+use crate::error::{Failure, ParseError};
 use crate::text::{after, next};
 
-/// Reads a comment behind its `(?#`: the text behind it, or the place of its fault in a pattern of `end` bytes.
+/// The reach of the end of the pattern.
+const AT_END: usize = 1;
+
+/// The reach of the byte past it.
+const PAST_END: usize = 0;
+
+/// Reads a comment behind its `(?#`: the text behind it, or the reach of its fault.
 #[tactic(auto, using(crate::proofs::LayoutLemmas::layout_steps))]
-fn comment(text: &str, end: usize) -> Result<&str, usize>
-    requires { end < 2 ^ 63 }
+fn comment(text: &str) -> Result<&str, usize>
     ensures value { (x : Bool) →
         MatchResult result
-        (λ r. spec.layout_from end x spec.comment (chars text.now) ≡ spec.layout_from end x spec.between (chars r.now))
-        (λ p. spec.layout_from end x spec.comment (chars text.now) ≡ fault p) }
+        (λ r. spec.layout_from x spec.comment (chars text.now) ≡ spec.layout_from x spec.between (chars r.now))
+        (λ p. spec.layout_from x spec.comment (chars text.now) ≡ fault p) }
     ensures shorter { IfOk result (λ r. length r.now < length text.now) }
-    ensures place { IfErr result (λ p. p ≤ end + 1) }
+    ensures place { IfErr result (λ p. p ≤ 1) }
 {
     let mut rest = text;
     while let Some((c, after)) = next(rest) {
@@ -29,19 +34,19 @@ fn comment(text: &str, end: usize) -> Result<&str, usize>
         rest = after;
         if c == '\\' {
             let Some((_, pair)) = next(rest) else {
-                return Err(end + 1);
+                return Err(PAST_END);
             };
             rest = pair;
         }
     }
-    Err(end)
+    Err(AT_END)
 }
 
 /// Reads a line comment behind its `#`: the text behind it.
 #[tactic(auto, using(crate::proofs::LayoutLemmas::layout_steps))]
 fn line(text: &str) -> &str
-    ensures value { (n : ℕ) (x : Bool) →
-        spec.layout_from n x spec.line (chars text.now) ≡ spec.layout_from n x spec.between (chars result.now) }
+    ensures value { (x : Bool) →
+        spec.layout_from x spec.line (chars text.now) ≡ spec.layout_from x spec.between (chars result.now) }
     ensures within { length result.now ≤ length text.now }
 {
     let mut rest = text;
@@ -83,16 +88,15 @@ fn after_comment_head(text: &str) -> Option<&str>
 /// Reads the layout at the front, one unit after another.
 #[inline(never)]
 #[tactic(auto, using(crate::proofs::LayoutLemmas::layout_steps))]
-fn read_units(text: &str, ignore_space: bool, end: usize) -> Result<&str, usize>
-    requires { end < 2 ^ 63 }
-    ensures value { spec.layout end ignore_space (chars text.now) ≡ skipped_of result }
+fn read_units(text: &str, ignore_space: bool) -> Result<&str, usize>
+    ensures value { spec.layout ignore_space (chars text.now) ≡ skipped_of result }
     ensures within { IfOk result (λ r. length r.now ≤ length text.now) }
-    ensures place { IfErr result (λ p. p ≤ end + 1) }
+    ensures place { IfErr result (λ p. p ≤ 1) }
 {
     let mut rest = text;
     loop {
         if let Some(inside) = after_comment_head(rest) {
-            rest = comment(inside, end)?;
+            rest = comment(inside)?;
             continue;
         }
         if !ignore_space {
@@ -114,7 +118,7 @@ fn read_units(text: &str, ignore_space: bool, end: usize) -> Result<&str, usize>
 /// Whether layout may begin here, as its first character shows.
 #[inline]
 pub(crate) fn begins_layout(text: &str, ignore_space: bool) -> bool
-    ensures { result ≡ false → (n : ℕ) → spec.layout n ignore_space (chars text.now) ≡ rest (chars text.now) }
+    ensures { result ≡ false → spec.layout ignore_space (chars text.now) ≡ rest (chars text.now) }
 {
     let Some((c, _)) = next(text) else {
         return false;
@@ -124,35 +128,33 @@ pub(crate) fn begins_layout(text: &str, ignore_space: bool) -> bool
 
 /// Reads the layout at the front, where any begins there.
 #[inline]
-fn read_layout(text: &str, ignore_space: bool, end: usize) -> Result<&str, usize>
-    requires { end < 2 ^ 63 }
-    ensures value { spec.layout end ignore_space (chars text.now) ≡ skipped_of result }
+fn read_layout(text: &str, ignore_space: bool) -> Result<&str, usize>
+    ensures value { spec.layout ignore_space (chars text.now) ≡ skipped_of result }
     ensures within { IfOk result (λ r. length r.now ≤ length text.now) }
-    ensures place { IfErr result (λ p. p ≤ end + 1) }
+    ensures place { IfErr result (λ p. p ≤ 1) }
 {
     if begins_layout(text, ignore_space) {
-        read_units(text, ignore_space, end)
+        read_units(text, ignore_space)
     } else {
         Ok(text)
     }
 }
 
-/// Reads the layout at the front of `text`, the rest of a pattern of `end` bytes: the text behind it.
-/// Where a comment in it is not closed, the error is the place of that fault: the pattern's end, or the
-/// byte past it where the pattern ends with a backslash that guards nothing.
+/// Reads the layout at the front of `text`, with which the pattern ends: the text behind it. Where a comment in it is not
+/// closed, the error is the reach of that fault: of the pattern's end, or of the byte past it where the pattern ends with
+/// a backslash that guards nothing.
 #[inline]
-pub fn layout(text: &str, ignore_space: bool, end: usize) -> Result<&str, usize>
-    requires { end < 2 ^ 63 }
-    ensures value { spec.layout end ignore_space (chars text.now) ≡ skipped_of result }
+pub fn layout(text: &str, ignore_space: bool) -> Result<&str, usize>
+    ensures value { spec.layout ignore_space (chars text.now) ≡ skipped_of result }
     ensures derives { MatchResult result
         (λ r. relation.Before ignore_space (chars text.now) (chars r.now))
-        (λ p. relation.Unclosed end ignore_space (chars text.now) p) }
+        (λ p. relation.Unclosed ignore_space (chars text.now) p) }
     ensures only { (v : Text) → relation.Before ignore_space (chars text.now) v → skipped_of result ≡ rest v }
-    ensures only_fault { (p : ℕ) → relation.Unclosed end ignore_space (chars text.now) p → skipped_of result ≡ fault p }
+    ensures only_fault { (p : ℕ) → relation.Unclosed ignore_space (chars text.now) p → skipped_of result ≡ fault p }
     ensures within { IfOk result (λ r. length r.now ≤ length text.now) }
-    ensures place { IfErr result (λ p. p ≤ end + 1) }
+    ensures place { IfErr result (λ p. p ≤ 1) }
 {
-    read_layout(text, ignore_space, end)
+    read_layout(text, ignore_space)
 }
 
 /// What follows the layout at the front, if no comment in it is open.
@@ -161,21 +163,19 @@ pub fn past_layout(text: &str, ignore_space: bool) -> Option<&str>
     ensures value { spec.past_layout ignore_space (chars text.now) ≡ option_map (λ r. chars r.now) result }
     ensures within { IfSome result (λ r. length r.now ≤ length text.now) }
 {
-    // The place of a fault is not told, so the pattern may end anywhere.
-    layout(text, ignore_space, 0).ok()
+    layout(text, ignore_space).ok()
 }
 
 /// The layout at the front, as `layout` reads it, with the fault as an error: UnclosedOpenParen at its place.
 #[inline]
-pub fn skip(text: &str, ignore_space: bool, end: usize) -> Result<&str, Error>
-    requires { end < 2 ^ 63 }
-    ensures value { ReadsRest result (layout_reading (spec.layout end ignore_space (chars text.now))) }
-    ensures skips { Skips result (spec.layout end ignore_space (chars text.now)) }
+pub fn skip(text: &str, ignore_space: bool) -> Result<&str, Failure>
+    ensures value { ReadsRest result (layout_reading (spec.layout ignore_space (chars text.now))) }
+    ensures skips { Skips result (spec.layout ignore_space (chars text.now)) }
     ensures cut { IfOk result (λ r. EndsWith (chars text.now) (chars r.now)) }
     ensures within { IfOk result (λ r. length r.now ≤ length text.now) }
 {
-    match layout(text, ignore_space, end) {
+    match layout(text, ignore_space) {
         Ok(rest) => Ok(rest),
-        Err(place) => Err(Error::ParseError(place, ParseError::UnclosedOpenParen)),
+        Err(reach) => Err(Failure::At(reach, ParseError::UnclosedOpenParen)),
     }
 }

@@ -1,7 +1,7 @@
 //! Steps over the text, which allocate nothing, and strings that grow.
-ghost use Rattle.std.specs.Prelude.{◌≡◌, ◌+◌, ◌-◌, ◌<◌, ◌≤◌, [], ◌∷◌, ◌++◌, length, chars, MatchOption, IfSome, option_map, is_ok, if◌then◌else◌};
+ghost use Rattle.std.specs.Prelude.{◌≡◌, ◌+◌, ◌<◌, ◌≤◌, ◌^◌, [], ◌∷◌, ◌++◌, length, chars, MatchOption, IfSome, option_map, is_ok, if◌then◌else◌};
 ghost use Rattle.std.specs.Str.{bytes_eq};
-ghost use Rattle.fancy_lex.specs.Text.{Text, bytes, cut_at, strip, strip_word, place_of, text_of};
+ghost use Rattle.fancy_lex.specs.Text.{Text, bytes, cut_at, strip, strip_word, place_at, reach_of, text_of};
 ghost use Rattle.fancy_lex.specs.Views.{parts};
 
 use std::alloc::AllocError;
@@ -60,22 +60,30 @@ pub fn is_same_text(a: &str, b: &str) -> bool
     a == b
 }
 
-/// The place where `text` begins, at the end of a text of `end` bytes.
+/// The reach of the place where `text` begins, at the end of a pattern: how many bytes lie from there to one past the
+/// end. It is 1 at the end.
 #[inline]
-pub fn place(text: &str, end: usize) -> usize
-    requires { length text.now ≤ end }
-    ensures { result ≡ place_of end (chars text.now) }
+pub fn reach(text: &str) -> usize
+    ensures { result ≡ reach_of (chars text.now) }
 {
-    end - text.len()
+    text.len() + 1
 }
 
-/// The place of the byte before `text`, at the end of a text of `end` bytes.
+/// The reach of the byte before `text`.
 #[inline]
-pub fn place_before(text: &str, end: usize) -> usize
-    requires { length text.now < end }
-    ensures { result ≡ place_of end (chars text.now) - 1 }
+pub fn reach_before(text: &str) -> usize
+    ensures { result ≡ reach_of (chars text.now) + 1 }
 {
-    end - text.len() - 1
+    text.len() + 2
+}
+
+/// The place of this reach in a pattern of `end` bytes.
+#[inline]
+pub fn place_at(end: usize, reach: usize) -> usize
+    requires { end < 2 ^ 63 }
+    ensures { result ≡ place_at end reach }
+{
+    (end + 1).saturating_sub(reach)
 }
 
 /// The slice of `text` before `rest`, with which it ends.

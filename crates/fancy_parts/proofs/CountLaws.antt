@@ -39,10 +39,10 @@ takes_count t = by_number (number t) (takes_number t)
     by_number (Some (n, u)) h = cond_both (nat_lt n (2 ^ 64)) _ _ (TakesSome 0 t) (λ _. h) (λ _. tt)
 
 takes_layout : (x : Bool) (t : Text) → IfSome (past_layout x t) (λ u. Takes 0 t u)
-takes_layout x t = by_layout (layout 0 x t) refl
+takes_layout x t = by_layout (layout x t) refl
   where
-    by_layout : (k : Skipped) → layout 0 x t ≡ k → IfSome (rest_of k) (λ u. Takes 0 t u)
-    by_layout (rest u) e = let (w, cut) = layout_cut 0 x t u e in record { word = w; cut = cut; long = omega arith }
+    by_layout : (k : Skipped) → layout x t ≡ k → IfSome (rest_of k) (λ u. Takes 0 t u)
+    by_layout (rest u) e = let (w, cut) = layout_cut x t u e in record { word = w; cut = cut; long = omega arith }
     by_layout (open_comment p) e = tt
 
 takes_spaced : (x : Bool) (t : Text) → TakesSome 0 t (spaced_count x t)

@@ -10,8 +10,8 @@ use Rattle.fancy_lex.specs.LayoutSteps.{layout}
 use Rattle.fancy_lex.specs.Reading.{Reading, gives, layout_reading, Says, Reports}
 use Rattle.fancy_lex.specs.Text.{Text, bytes}
 use Rattle.fancy_lex.specs.declared.flags.Flags.{Flags}
-use Rattle.fancy_lex.specs.declared.error.Error.{Error}
-use Rattle.fancy_lex.specs.declared.error.Error.TheVariants.{ParseError, OutOfMemory}
+use Rattle.fancy_lex.specs.declared.error.Failure.{Failure}
+use Rattle.fancy_lex.specs.declared.error.Failure.TheVariants.{At, OutOfMemory}
 use Rattle.fancy_parts.specs.FlagLetters.{Letters, flags_end, flags_go_on}
 use Rattle.fancy_parts.specs.LetterSteps.{step, letters_in, letters}
 
@@ -35,66 +35,66 @@ two_marks = refl
 
 -- ---- the letters, from one layout and letter to the next
 
-module _ (n : ℕ) (t : Text) (clears : Bool) (f : Flags) (u : Text) where
+module _ (t : Text) (clears : Bool) (f : Flags) (u : Text) where
   -- the layout before the letter
   abbrev before : Reading (Unit {0})
-  before = layout_reading (layout n f.ignore_space u)
+  before = layout_reading (layout f.ignore_space u)
 
-  layout_fault : (k : ℕ) (b : Error) → Says b before → Reports b (letters_in n t (suc k) clears f u)
+  layout_fault : (k : ℕ) (b : Failure) → Says b before → Reports b (letters_in t (suc k) clears f u)
   unfolding letters_in
-  layout_fault k (ParseError p d) e = rw e refl
+  layout_fault k (At p d) e = rw e refl
   layout_fault k OutOfMemory e = absurd e
 
-  letter_fault : (k : ℕ) (v : Text) (b : Error) → before ≡ gives tt v → Reports b (step n t clears f v) →
-      Reports b (letters_in n t (suc k) clears f u)
+  letter_fault : (k : ℕ) (v : Text) (b : Failure) → before ≡ gives tt v → Reports b (step t clears f v) →
+      Reports b (letters_in t (suc k) clears f u)
   unfolding letters_in
   letter_fault k v b e h = rw e (reports_first _ _ b h)
 
   letters_end : (k : ℕ) (v : Text) (l : Letters) (w : Text) → before ≡ gives tt v →
-      step n t clears f v ≡ gives (flags_end l) w →
-      letters_in n t (suc k) clears f u ≡ gives l w
+      step t clears f v ≡ gives (flags_end l) w →
+      letters_in t (suc k) clears f u ≡ gives l w
   unfolding letters_in
   letters_end k v l w e h = rw (e, h) refl
 
   letters_go : (k : ℕ) (v : Text) (c : Bool) (g : Flags) (w : Text) → before ≡ gives tt v →
-      step n t clears f v ≡ gives (flags_go_on c g) w →
-      letters_in n t (suc k) clears f u ≡ letters_in n t k c g w
+      step t clears f v ≡ gives (flags_go_on c g) w →
+      letters_in t (suc k) clears f u ≡ letters_in t k c g w
   unfolding letters_in
   letters_go k v c g w e h = rw (e, h) refl
 
   -- the same where more steps are left than m
   module _ (k m : ℕ) (some : m < k) where
-    pub in_layout_fault : (b : Error) → Says b before → Reports b (letters_in n t k clears f u)
+    pub in_layout_fault : (b : Failure) → Says b before → Reports b (letters_in t k clears f u)
     in_layout_fault b e = by_steps k some
       where
-        by_steps : (k : ℕ) → m < k → Reports b (letters_in n t k clears f u)
+        by_steps : (k : ℕ) → m < k → Reports b (letters_in t k clears f u)
         by_steps zero h = absurd (omega arith)
         by_steps (suc k) h = layout_fault k b e
 
     module _ (v : Text) (e : before ≡ gives tt v) where
-      pub in_letter_fault : (b : Error) → Reports b (step n t clears f v) → Reports b (letters_in n t k clears f u)
+      pub in_letter_fault : (b : Failure) → Reports b (step t clears f v) → Reports b (letters_in t k clears f u)
       in_letter_fault b i = by_steps k some
         where
-          by_steps : (k : ℕ) → m < k → Reports b (letters_in n t k clears f u)
+          by_steps : (k : ℕ) → m < k → Reports b (letters_in t k clears f u)
           by_steps zero h = absurd (omega arith)
           by_steps (suc k) h = letter_fault k v b e i
 
-      pub in_end : (l : Letters) (w : Text) → step n t clears f v ≡ gives (flags_end l) w →
-          letters_in n t k clears f u ≡ gives l w
+      pub in_end : (l : Letters) (w : Text) → step t clears f v ≡ gives (flags_end l) w →
+          letters_in t k clears f u ≡ gives l w
       in_end l w i = by_steps k some
         where
-          by_steps : (k : ℕ) → m < k → letters_in n t k clears f u ≡ gives l w
+          by_steps : (k : ℕ) → m < k → letters_in t k clears f u ≡ gives l w
           by_steps zero h = absurd (omega arith)
           by_steps (suc k) h = letters_end k v l w e i
 
-      pub in_go : (q : ℕ) (c : Bool) (g : Flags) (w : Text) → q < m → step n t clears f v ≡ gives (flags_go_on c g) w →
-          (j : ℕ) × (q < j) × (letters_in n t k clears f u ≡ letters_in n t j c g w)
+      pub in_go : (q : ℕ) (c : Bool) (g : Flags) (w : Text) → q < m → step t clears f v ≡ gives (flags_go_on c g) w →
+          (j : ℕ) × (q < j) × (letters_in t k clears f u ≡ letters_in t j c g w)
       in_go q c g w l i = by_steps k some
         where
-          by_steps : (k : ℕ) → m < k → (j : ℕ) × (q < j) × (letters_in n t k clears f u ≡ letters_in n t j c g w)
+          by_steps : (k : ℕ) → m < k → (j : ℕ) × (q < j) × (letters_in t k clears f u ≡ letters_in t j c g w)
           by_steps zero h = absurd (omega arith)
           by_steps (suc k) h = (k, omega arith, letters_go k v c g w e i)
 
-pub letters_start : (n : ℕ) (f : Flags) (t : Text) → letters n f t ≡ letters_in n t (suc (bytes t)) false f t
+pub letters_start : (f : Flags) (t : Text) → letters f t ≡ letters_in t (suc (bytes t)) false f t
 unfolding letters
-letters_start n f t = refl
+letters_start f t = refl

@@ -7,7 +7,7 @@ use Prim.Native.Char.{code}
 use Rattle.fancy_lex.specs.Characters.{close_paren, ◌∈◌}
 use Rattle.fancy_lex.specs.Delimited.{name_before}
 use Rattle.fancy_lex.specs.Referred.{name_reading, target_of_name}
-use Rattle.fancy_lex.specs.Text.{Text, strip, place_of}
+use Rattle.fancy_lex.specs.Text.{Text, strip, reach_of}
 use Rattle.fancy_lex.proofs.TextLemmas.{strip_is}
 use Rattle.fancy_lex.proofs.ReferenceLaws.{takes_name, takes_marked_name, takes_by_name, takes_reference_by_name}
 use Rattle.fancy_lex.proofs.ReferencePlaces.{IfGives, ReferenceAt, CallAt, named_at, call_to_at, reference_by_name_at}
@@ -60,39 +60,38 @@ takes_condition_name (c ∷ t) =
     (λ _. takes_less_some 2 4 (c ∷ t) _ (omega arith) (takes_close_paren (c ∷ t) _ (takes_marked_name (c ∷ t))))
     (λ _. takes_name close_paren (c ∷ t))
 
-module _ (n : ℕ) where
-  pub takes_group_name : (t : Text) → TakesOrFails (place_of n t - 1) 3 t (group_name n t)
-  unfolding group_name
-  takes_group_name t = at (head_name t) (takes_head_name t) where
-    at : (o : Option (Text × Text)) → TakesSome 3 t o →
-        TakesOrFails (place_of n t - 1) 3 t (name_reading (place_of n t - 1) o)
-    at None h = fails_at refl
-    at (Some p) h = takes h
+pub takes_group_name : (t : Text) → TakesOrFails (reach_of t + 1) 3 t (group_name t)
+unfolding group_name
+takes_group_name t = at (head_name t) (takes_head_name t) where
+  at : (o : Option (Text × Text)) → TakesSome 3 t o →
+      TakesOrFails (reach_of t + 1) 3 t (name_reading (reach_of t + 1) o)
+  at None h = fails_at refl
+  at (Some p) h = takes h
 
-  pub takes_named_reference : (t : Text) → TakesOrFails (place_of n t) 2 t (named_reference n t)
+pub takes_named_reference : (t : Text) → TakesOrFails (reach_of t) 2 t (named_reference t)
+unfolding named_reference
+takes_named_reference t = takes_reference_by_name 2 t false (name_before close_paren t) (takes_name close_paren t)
+
+pub takes_named_call : (t : Text) → TakesOrFails (reach_of t) 2 t (named_call t)
+unfolding named_call
+takes_named_call t =
+    takes_by_name 2 t t (call_of (reach_of t)) (name_before close_paren t) (takes_name close_paren t)
+
+pub takes_condition_target : (t : Text) → TakesOrFails (reach_of t) 2 t (condition_target t)
+unfolding condition_target
+takes_condition_target t = takes_reference_by_name 2 t true (condition_name t) (takes_condition_name t)
+
+module _ (t : Text) where
+  pub named_reference_at : IfGives (ReferenceAt (reach_of t)) (named_reference t)
   unfolding named_reference
-  takes_named_reference t = takes_reference_by_name n 2 t false (name_before close_paren t) (takes_name close_paren t)
+  named_reference_at = reference_by_name_at (reach_of t) false (name_before close_paren t)
 
-  pub takes_named_call : (t : Text) → TakesOrFails (place_of n t) 2 t (named_call n t)
-  unfolding named_call
-  takes_named_call t =
-      takes_by_name n 2 t t (call_of (place_of n t)) (name_before close_paren t) (takes_name close_paren t)
-
-  pub takes_condition_target : (t : Text) → TakesOrFails (place_of n t) 2 t (condition_target n t)
-  unfolding condition_target
-  takes_condition_target t = takes_reference_by_name n 2 t true (condition_name t) (takes_condition_name t)
-
-module _ (n : ℕ) (t : Text) where
-  pub named_reference_at : IfGives (ReferenceAt (place_of n t)) (named_reference n t)
-  unfolding named_reference
-  named_reference_at = reference_by_name_at (place_of n t) false (name_before close_paren t)
-
-  pub named_call_at : IfGives (CallAt (place_of n t)) (named_call n t)
+  pub named_call_at : IfGives (CallAt (reach_of t)) (named_call t)
   unfolding named_call
   named_call_at =
-      let p = place_of n t in
+      let p = reach_of t in
       named_at p (CallAt p) (call_of p) (name_before close_paren t) (λ w. call_to_at p (Some (target_of_name w)))
 
-  pub condition_target_at : IfGives (ReferenceAt (place_of n t)) (condition_target n t)
+  pub condition_target_at : IfGives (ReferenceAt (reach_of t)) (condition_target t)
   unfolding condition_target
-  condition_target_at = reference_by_name_at (place_of n t) true (condition_name t)
+  condition_target_at = reference_by_name_at (reach_of t) true (condition_name t)

@@ -19,7 +19,7 @@ use Rattle.fancy_lex.specs.LayoutSteps.{Skipped, rest, fault, layout}
 use Rattle.fancy_lex.specs.Layout.{Before}
 use Rattle.fancy_lex.specs.Reading.{Reading, gives, fails, ◌>=>◌, Answers, Derives}
 use Rattle.fancy_lex.specs.Text.{Text, bytes}
-use Rattle.fancy_lex.specs.declared.error.Error.{Error}
+use Rattle.fancy_lex.specs.declared.error.Failure.{Failure}
 use Rattle.fancy_lex.specs.declared.flags.Flags.{Flags}
 use Rattle.fancy_parts.specs.FlagLetters.{Letters, setting, scope, with_letter, LetterStep, flags_end, flags_go_on}
 use Rattle.fancy_parts.specs.FlagLetters.{NoLetter, nothing_closed, nothing_scoped, second_minus, names_no_flag}
@@ -178,14 +178,14 @@ same_test a b e = grind (arith, nat_tests)
 other_test : (a b : ℕ) → a ≢ b → (a == b) ≡ false
 other_test a b d = grind (arith, nat_tests)
 
-module _ (n : ℕ) (t w : Text) (clears : Bool) (f : Flags) (c : ℕ) (u : Text) (told : Told w clears)
+module _ (t w : Text) (clears : Bool) (f : Flags) (c : ℕ) (u : Text) (told : Told w clears)
     (cut : t ≡ w ++ (c ∷ u)) where
   sum : bytes t ≡ bytes w + bytes (c ∷ u)
   sum = ap bytes cut ∙ bytes-append w (c ∷ u)
 
-  unknown_is : unknown_letter n t u ≡ fails (no_flag_letter n t (w ++ c ∷ []))
+  unknown_is : unknown_letter t u ≡ fails (no_flag_letter t (w ++ c ∷ []))
   unknown_is =
-      ap (λ s. fails (no_flag_letter n t s)) (front_read t (w ++ c ∷ []) u (cut ∙ sym (append_assoc w (c ∷ []) u)))
+      ap (λ s. fails (no_flag_letter t s)) (front_read t (w ++ c ∷ []) u (cut ∙ sym (append_assoc w (c ∷ []) u)))
 
   first_at : w ≡ [] → is_first t (c ∷ u) ≡ true
   first_at e = same_test (bytes (c ∷ u)) (bytes t) (sym (ap bytes (cut ∙ ap (λ s. s ++ (c ∷ u)) e)))
@@ -217,18 +217,18 @@ module _ (n : ℕ) (t w : Text) (clears : Bool) (f : Flags) (c : ℕ) (u : Text)
 
   -- the step, by its character
   at_parenthesis : c ≡ code ")" → (b : Bool) → (is_first t (c ∷ u) || is_behind_minus t clears (c ∷ u)) ≡ b →
-      step n t clears f (c ∷ u) ≡ (if b then unknown_letter n t u else gives (flags_end (setting f)) u)
+      step t clears f (c ∷ u) ≡ (if b then unknown_letter t u else gives (flags_end (setting f)) u)
   at_parenthesis e b h = let is : (c == code ")") ≡ true = same_test c (code ")") e in rw (is, h) refl
 
   at_colon : c ≡ code ":" → (b : Bool) → is_behind_minus t clears (c ∷ u) ≡ b →
-      step n t clears f (c ∷ u) ≡ (if b then unknown_letter n t u else gives (flags_end (scope f)) u)
+      step t clears f (c ∷ u) ≡ (if b then unknown_letter t u else gives (flags_end (scope f)) u)
   at_colon e b h =
       let is : (c == code ":") ≡ true = same_test c (code ":") e in
       let a : (c == code ")") ≡ false = rw e refl in
       rw (a, is, h) refl
 
   at_minus : c ≡ code "-" → (b : Bool) → clears ≡ b →
-      step n t clears f (c ∷ u) ≡ (if b then unknown_letter n t u else gives (flags_go_on true f) u)
+      step t clears f (c ∷ u) ≡ (if b then unknown_letter t u else gives (flags_go_on true f) u)
   at_minus e b h =
       let is : (c == code "-") ≡ true = same_test c (code "-") e in
       let a : (c == code ")") ≡ false = rw e refl in
@@ -236,7 +236,7 @@ module _ (n : ℕ) (t w : Text) (clears : Bool) (f : Flags) (c : ℕ) (u : Text)
       rw (a, d, is, h) refl
 
   at_mode : c ≡ code "u" → (b : Bool) → beq clears f.unicode ≡ b →
-      step n t clears f (c ∷ u) ≡ (if b then fails (mode_changed n (c ∷ u)) else gives (flags_go_on clears f) u)
+      step t clears f (c ∷ u) ≡ (if b then fails (mode_changed (c ∷ u)) else gives (flags_go_on clears f) u)
   at_mode e b h =
       let is : (c == code "u") ≡ true = same_test c (code "u") e in
       let a : (c == code ")") ≡ false = rw e refl in
@@ -245,7 +245,7 @@ module _ (n : ℕ) (t w : Text) (clears : Bool) (f : Flags) (c : ℕ) (u : Text)
       rw (a, d, g, is, h) refl
 
   at_other : c ≢ code ")" → c ≢ code ":" → c ≢ code "-" → c ≢ code "u" →
-      step n t clears f (c ∷ u) ≡ flag_or_fault n t clears u (with_letter f (not clears) c)
+      step t clears f (c ∷ u) ≡ flag_or_fault t clears u (with_letter f (not clears) c)
   at_other a b d e =
       let a : (c == code ")") ≡ false = other_test c (code ")") a in
       let b : (c == code ":") ≡ false = other_test c (code ":") b in
@@ -266,7 +266,7 @@ module _ (n : ℕ) (t w : Text) (clears : Bool) (f : Flags) (c : ℕ) (u : Text)
   equal false false e = refl
 
   -- the relation holds of the step
-  letter_at : Letter n t w clears f c u (step n t clears f (c ∷ u))
+  letter_at : Letter t w clears f c u (step t clears f (c ∷ u))
   letter_at =
       elim (cases_eq c (code ")")) [
         | inl a ↦ on_parenthesis a (front w)
@@ -281,39 +281,39 @@ module _ (n : ℕ) (t w : Text) (clears : Bool) (f : Flags) (c : ℕ) (u : Text)
           ]
         ]
       ] where
-        bad : NoLetter w clears f c → Letter n t w clears f c u (unknown_letter n t u)
+        bad : NoLetter w clears f c → Letter t w clears f c u (unknown_letter t u)
         bad h = rw unknown_is (no_letter h)
 
-        on_parenthesis : c ≡ code ")" → Front w → Letter n t w clears f c u (step n t clears f (c ∷ u))
+        on_parenthesis : c ≡ code ")" → Front w → Letter t w clears f c u (step t clears f (c ∷ u))
         on_parenthesis a (nothing e) = rw (at_parenthesis a true (closes_bad (inl e))) (bad (nothing_closed a (inl e)))
         on_parenthesis a (dash e) = rw (at_parenthesis a true (closes_bad (inr e))) (bad (nothing_closed a (inr e)))
         on_parenthesis a (other d e) = rw (at_parenthesis a false (closes_well d e)) (parenthesis a d e)
 
-        on_colon : c ≡ code ":" → Front w → Letter n t w clears f c u (step n t clears f (c ∷ u))
+        on_colon : c ≡ code ":" → Front w → Letter t w clears f c u (step t clears f (c ∷ u))
         on_colon a (nothing e) = rw (at_colon a false (no_minus (λ q. nil_or e q))) (colon a (λ q. nil_or e q)) where
           nil_or : w ≡ [] → w ≡ one_minus → ⊥
           nil_or e q = let both = sym e ∙ q in cc
         on_colon a (dash e) = rw (at_colon a true (minus_at e)) (bad (nothing_scoped a e))
         on_colon a (other d e) = rw (at_colon a false (no_minus e)) (colon a e)
 
-        on_minus : c ≡ code "-" → (b : Bool) → clears ≡ b → Letter n t w clears f c u (step n t clears f (c ∷ u))
+        on_minus : c ≡ code "-" → (b : Bool) → clears ≡ b → Letter t w clears f c u (step t clears f (c ∷ u))
         on_minus a true e = rw (at_minus a true e) (bad (second_minus a e))
         on_minus a false e = rw (at_minus a false e) (minus a e)
 
         on_mode : c ≡ code "u" → (b : Bool) → beq clears f.unicode ≡ b →
-            Letter n t w clears f c u (step n t clears f (c ∷ u))
+            Letter t w clears f c u (step t clears f (c ∷ u))
         on_mode a true e = rw (at_mode a true e) (other_mode a (equal clears f.unicode e))
         on_mode a false e = rw (at_mode a false e) (same_mode a (opposite clears f.unicode e))
 
         on_other : c ≢ code ")" → c ≢ code ":" → c ≢ code "-" → c ≢ code "u" → (o : Option Flags) →
-            with_letter f (not clears) c ≡ o → Letter n t w clears f c u (step n t clears f (c ∷ u))
+            with_letter f (not clears) c ≡ o → Letter t w clears f c u (step t clears f (c ∷ u))
         on_other a b d e None h =
             let among : (c ∈ ")-:u") ≡ false = grind (arith, nat_tests) in
             rw (at_other a b d e, h) (bad (names_no_flag among h))
         on_other a b d e (Some g) h = rw (at_other a b d e, h) (flag h)
 
   -- and of nothing else
-  letter_is : {q : Reading LetterStep} → Letter n t w clears f c u q → step n t clears f (c ∷ u) ≡ q
+  letter_is : {q : Reading LetterStep} → Letter t w clears f c u q → step t clears f (c ∷ u) ≡ q
   letter_is (flag {g} e) =
       at_other (not_at (code ")") (λ a. none_at (code ")") refl a)) (not_at (code ":") (λ a. none_at (code ":") refl a))
       (not_at (code "-") (λ a. none_at (code "-") refl a)) (not_at (code "u") (λ a. none_at (code "u") refl a))
@@ -335,7 +335,7 @@ module _ (n : ℕ) (t w : Text) (clears : Bool) (f : Flags) (c : ℕ) (u : Text)
     agree true = refl
     agree false = refl
   letter_is (no_letter h) = by h ∙ unknown_is where
-    by : NoLetter w clears f c → step n t clears f (c ∷ u) ≡ unknown_letter n t u
+    by : NoLetter w clears f c → step t clears f (c ∷ u) ≡ unknown_letter t u
     by (nothing_closed a e) = at_parenthesis a true (closes_bad e)
     by (nothing_scoped a e) = at_colon a true (minus_at e)
     by (second_minus a e) = at_minus a true e
@@ -344,7 +344,7 @@ module _ (n : ℕ) (t w : Text) (clears : Bool) (f : Flags) (c : ℕ) (u : Text)
         (grind (arith, nat_tests)) ∙ rw e refl
 
   -- what is known of `clears` behind it
-  told_behind : {b : Bool} {g : Flags} {r : Text} → Letter n t w clears f c u (gives (flags_go_on b g) r) →
+  told_behind : {b : Bool} {g : Flags} {r : Text} → Letter t w clears f c u (gives (flags_go_on b g) r) →
       Told (w ++ c ∷ []) b
   told_behind (flag e) = told_more clears w c told no_minus_flag where
     no_minus_flag : c ≢ code "-"
@@ -357,8 +357,8 @@ module _ (n : ℕ) (t w : Text) (clears : Bool) (f : Flags) (c : ℕ) (u : Text)
 -- ---- the letters, one after another
 
 -- a letter leaves what follows it
-letter_rest : {n : ℕ} {t w : Text} {clears : Bool} {f : Flags} {c : ℕ} {u r : Text} {s : LetterStep} →
-    Letter n t w clears f c u (gives s r) → r ≡ u
+letter_rest : {t w : Text} {clears : Bool} {f : Flags} {c : ℕ} {u r : Text} {s : LetterStep} →
+    Letter t w clears f c u (gives s r) → r ≡ u
 letter_rest (flag e) = refl
 letter_rest (same_mode a e) = refl
 letter_rest (minus a e) = refl
@@ -369,20 +369,20 @@ letter_rest (colon a d) = refl
 abbrev Reached : Text → Bool → Text → Type 0
 Reached t clears u = (w : Text) × (t ≡ w ++ u) × Told w clears
 
-module _ (n : ℕ) (t : Text) where
+module _ (t : Text) where
   -- one step of the function
-  read_open : (k : ℕ) (clears : Bool) (f : Flags) (u : Text) (q : ℕ) → layout n f.ignore_space u ≡ fault q →
-      letters_in n t (suc k) clears f u ≡ fails (comment_not_closed q)
+  read_open : (k : ℕ) (clears : Bool) (f : Flags) (u : Text) (q : ℕ) → layout f.ignore_space u ≡ fault q →
+      letters_in t (suc k) clears f u ≡ fails (comment_not_closed q)
   unfolding letters_in
   read_open k clears f u q e = rw e refl
 
-  read_end : (k : ℕ) (clears : Bool) (f : Flags) (u : Text) → layout n f.ignore_space u ≡ rest [] →
-      letters_in n t (suc k) clears f u ≡ fails (group_not_closed n)
+  read_end : (k : ℕ) (clears : Bool) (f : Flags) (u : Text) → layout f.ignore_space u ≡ rest [] →
+      letters_in t (suc k) clears f u ≡ fails group_not_closed
   unfolding letters_in
   read_end k clears f u e = rw e refl
 
-  read_step : (k : ℕ) (clears : Bool) (f : Flags) (u v : Text) → layout n f.ignore_space u ≡ rest v →
-      letters_in n t (suc k) clears f u ≡ (step n t clears f v >=> behind_step (letters_in n t k))
+  read_step : (k : ℕ) (clears : Bool) (f : Flags) (u v : Text) → layout f.ignore_space u ≡ rest v →
+      letters_in t (suc k) clears f u ≡ (step t clears f v >=> behind_step (letters_in t k))
   unfolding letters_in
   read_step k clears f u v e = rw e refl
 
@@ -404,94 +404,94 @@ module _ (n : ℕ) (t : Text) where
 
   -- and behind it
   reach_on : {clears b : Bool} {f g : Flags} {u v : Text} → Reached t clears u →
-      Next n t clears f u v (gives (flags_go_on b g) v) →
+      Next t clears f u v (gives (flags_go_on b g) v) →
       Reached t b v
   reach_on {clears} {b} {f} {g} {u} {v} at x = (
     x.w ++ x.c ∷ [],
     x.read ∙ sym (append_assoc x.w (x.c ∷ []) v),
-    told_behind n t x.w clears f x.c v (told_as clears f u x.c v at x.layout x.w x.read) x.read x.letter,
+    told_behind t x.w clears f x.c v (told_as clears f u x.c v at x.layout x.w x.read) x.read x.letter,
   )
 
   abbrev ReadShort : ℕ → Type 0
   ReadShort k =
       (clears : Bool) (f : Flags) (u : Text) → Reached t clears u → bytes u < k →
-      LettersFrom n t clears f u (letters_in n t k clears f u)
+      LettersFrom t clears f u (letters_in t k clears f u)
 
   -- what the function answers, the relation gives
   module _ (k : ℕ) (reads : ReadShort k) (clears : Bool) (f : Flags) (u : Text) (at : Reached t clears u)
       (l : bytes u < suc k) where
     read_behind : (c : ℕ) (v : Text) (b : Before f.ignore_space u (c ∷ v)) (q : Reading LetterStep) →
-        Letter n t (at.0 ++ b.w) clears f c v q → LettersFrom n t clears f u (q >=> behind_step (letters_in n t k))
+        Letter t (at.0 ++ b.w) clears f c v q → LettersFrom t clears f u (q >=> behind_step (letters_in t k))
     read_behind c v b q h = by q h where
-      next : (q : Reading LetterStep) → Letter n t (at.0 ++ b.w) clears f c v q → Next n t clears f u v q
+      next : (q : Reading LetterStep) → Letter t (at.0 ++ b.w) clears f c v q → Next t clears f u v q
       next q h = record { c = c; w = at.0 ++ b.w; layout = b; read = cut_at clears f u c v at b; letter = h }
 
-      by : (q : Reading LetterStep) → Letter n t (at.0 ++ b.w) clears f c v q →
-          LettersFrom n t clears f u (q >=> behind_step (letters_in n t k))
+      by : (q : Reading LetterStep) → Letter t (at.0 ++ b.w) clears f c v q →
+          LettersFrom t clears f u (q >=> behind_step (letters_in t k))
       by (gives (flags_end a) r) h =
           rw (letter_rest h)
           (last (next (gives (flags_end a) v)
-          (subst (λ s. Letter n t (at.0 ++ b.w) clears f c v (gives (flags_end a) s)) (letter_rest h) h)))
+          (subst (λ s. Letter t (at.0 ++ b.w) clears f c v (gives (flags_end a) s)) (letter_rest h) h)))
       by (gives (flags_go_on d g) r) h =
           let here = next (gives (flags_go_on d g) v)
-          (subst (λ s. Letter n t (at.0 ++ b.w) clears f c v (gives (flags_go_on d g) s)) (letter_rest h) h) in
+          (subst (λ s. Letter t (at.0 ++ b.w) clears f c v (gives (flags_go_on d g) s)) (letter_rest h) h) in
           rw (letter_rest h) (more here (reads d g v (reach_on at here) (shorter b.w u c v k b.cut l)))
       by (fails e) h = letter_fault (next (fails e) h)
 
-    read_layout : (s : Skipped) → layout n f.ignore_space u ≡ s →
-        LettersFrom n t clears f u (letters_in n t (suc k) clears f u)
-    read_layout (fault q) e = rw (read_open k clears f u q e) (open_layout (unclosed_sound n f.ignore_space u q e))
-    read_layout (rest []) e = rw (read_end k clears f u e) (text_end (layout_sound n f.ignore_space u [] e))
+    read_layout : (s : Skipped) → layout f.ignore_space u ≡ s →
+        LettersFrom t clears f u (letters_in t (suc k) clears f u)
+    read_layout (fault q) e = rw (read_open k clears f u q e) (open_layout (unclosed_sound f.ignore_space u q e))
+    read_layout (rest []) e = rw (read_end k clears f u e) (text_end (layout_sound f.ignore_space u [] e))
     read_layout (rest (c ∷ v)) e =
-        let b = layout_sound n f.ignore_space u (c ∷ v) e in
-        let h = letter_at n t (at.0 ++ b.w) clears f c v (told_at clears f u c v at b) (cut_at clears f u c v at b) in
-        rw (read_step k clears f u (c ∷ v) e) (read_behind c v b (step n t clears f (c ∷ v)) h)
+        let b = layout_sound f.ignore_space u (c ∷ v) e in
+        let h = letter_at t (at.0 ++ b.w) clears f c v (told_at clears f u c v at b) (cut_at clears f u c v at b) in
+        rw (read_step k clears f u (c ∷ v) e) (read_behind c v b (step t clears f (c ∷ v)) h)
 
   letters_read : (k : ℕ) → ReadShort k
   letters_read zero clears f u at l = absurd (omega arith)
-  letters_read (suc k) clears f u at l = read_layout k (letters_read k) clears f u at l (layout n f.ignore_space u) refl
+  letters_read (suc k) clears f u at l = read_layout k (letters_read k) clears f u at l (layout f.ignore_space u) refl
 
   -- whatever the relation gives is the function's answer: by induction on the derivation
   step_is : {clears : Bool} {f : Flags} {u v : Text} {q : Reading LetterStep} (k : ℕ) → Reached t clears u →
-      (x : Next n t clears f u v q) →
-      letters_in n t (suc k) clears f u ≡ (q >=> behind_step (letters_in n t k))
+      (x : Next t clears f u v q) →
+      letters_in t (suc k) clears f u ≡ (q >=> behind_step (letters_in t k))
   step_is {clears} {f} {u} {v} {q} k at x =
-      read_step k clears f u (x.c ∷ v) (layout_complete n f.ignore_space u (x.c ∷ v) x.layout)
-      ∙ ap (λ o. o >=> behind_step (letters_in n t k))
-      (letter_is n t x.w clears f x.c v (told_as clears f u x.c v at x.layout x.w x.read) x.read x.letter)
+      read_step k clears f u (x.c ∷ v) (layout_complete f.ignore_space u (x.c ∷ v) x.layout)
+      ∙ ap (λ o. o >=> behind_step (letters_in t k))
+      (letter_is t x.w clears f x.c v (told_as clears f u x.c v at x.layout x.w x.read) x.read x.letter)
 
-  letters_are : (k : ℕ) {clears : Bool} {f : Flags} {u : Text} {o : Reading Letters} → LettersFrom n t clears f u o →
-      Reached t clears u → bytes u < k → letters_in n t k clears f u ≡ o
+  letters_are : (k : ℕ) {clears : Bool} {f : Flags} {u : Text} {o : Reading Letters} → LettersFrom t clears f u o →
+      Reached t clears u → bytes u < k → letters_in t k clears f u ≡ o
   letters_are zero h at l = absurd (omega arith)
   letters_are (suc k) (last x) at l = step_is k at x
   letters_are (suc k) {clears} {f} {u} (more {b} {g} {v} x h) at l =
       step_is k at x ∙ letters_are k h (reach_on at x) (shorter x.layout.w u x.c v k x.layout.cut l)
   letters_are (suc k) (letter_fault x) at l = step_is k at x
   letters_are (suc k) {clears} {f} {u} (text_end b) at l =
-      read_end k clears f u (layout_complete n f.ignore_space u [] b)
+      read_end k clears f u (layout_complete f.ignore_space u [] b)
   letters_are (suc k) {clears} {f} {u} (open_layout {q} b) at l =
-      read_open k clears f u q (unclosed_complete n f.ignore_space u q b)
+      read_open k clears f u q (unclosed_complete f.ignore_space u q b)
 
 -- ---- the letters of a flag group
 
-module _ (n : ℕ) (f : Flags) (t : Text) where
+module _ (f : Flags) (t : Text) where
   at_start : Reached t false t
   at_start = ([], refl, told_start)
 
-  pub flag_group_reads : FlagGroup n f t (letters n f t)
+  pub flag_group_reads : FlagGroup f t (letters f t)
   unfolding letters
-  flag_group_reads = letters_read n t (suc (bytes t)) false f t at_start (omega arith)
+  flag_group_reads = letters_read t (suc (bytes t)) false f t at_start (omega arith)
 
-  pub flag_group_is : {o : Reading Letters} → FlagGroup n f t o → letters n f t ≡ o
+  pub flag_group_is : {o : Reading Letters} → FlagGroup f t o → letters f t ≡ o
   unfolding letters
-  flag_group_is h = letters_are n t (suc (bytes t)) h at_start (omega arith)
+  flag_group_is h = letters_are t (suc (bytes t)) h at_start (omega arith)
 
 -- ---- the clauses of the reader
 
-module _ (n : ℕ) (f : Flags) (t : Text) (r : Result (declared.Letters × Bor (List ℕ)) Error)
-    (g : Answers letters_of r (letters n f t)) where
-  pub letters_derive : Derives letters_of r (FlagGroup n f t)
-  letters_derive = derives_answer letters_of r (FlagGroup n f t) (letters n f t) (flag_group_reads n f t) g
+module _ (f : Flags) (t : Text) (r : Result (declared.Letters × Bor (List ℕ)) Failure)
+    (g : Answers letters_of r (letters f t)) where
+  pub letters_derive : Derives letters_of r (FlagGroup f t)
+  letters_derive = derives_answer letters_of r (FlagGroup f t) (letters f t) (flag_group_reads f t) g
 
-  pub letters_only : (o : Reading Letters) → FlagGroup n f t o → Answers letters_of r o
-  letters_only o h = only_answer letters_of r (letters n f t) o (flag_group_is n f t h) g
+  pub letters_only : (o : Reading Letters) → FlagGroup f t o → Answers letters_of r o
+  letters_only o h = only_answer letters_of r (letters f t) o (flag_group_is f t h) g

@@ -251,13 +251,13 @@ groups_in_all : (l : List Opening) → with_all no_groups l ≡ groups_in l
 groups_in_all l = λ i. record { total = all_total l i; names = all_named l i }
 
 -- with a group more the groups are numbered as with its opening
-pub groups_in_more : (s : Groups) (l : List Opening) (place : ℕ) (name : Option Text) → s ≡ groups_in l →
-    with_group s name ≡ groups_in (openings_with l place name)
-groups_in_more s l place name e =
-    let o : Opening = record { place = place; name = name } in
+pub groups_in_more : (s : Groups) (l : List Opening) (reach : ℕ) (name : Option Text) → s ≡ groups_in l →
+    with_group s name ≡ groups_in (openings_with l reach name)
+groups_in_more s l reach name e =
+    let o : Opening = record { reach = reach; name = name } in
     ap (λ g. with_group g name) (e ∙ sym (groups_in_all l))
     ∙ sym (fold-append (λ g (x : Opening). with_group g x.name) no_groups l (o ∷ []))
-    ∙ groups_in_all (openings_with l place name)
+    ∙ groups_in_all (openings_with l reach name)
 
 -- so a name has its numbers
 pub groups_in_under : (s : Groups) (l : List Opening) → s ≡ groups_in l → numbers_under s.names ≡ (λ t. numbers t l)

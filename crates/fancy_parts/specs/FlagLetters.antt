@@ -38,8 +38,8 @@ pub data NoLetter (w : Text) (clears : Bool) (f : Flags) (c : ℕ) : Type 0 wher
   second_minus : c ≡ code "-" → clears ≡ true → NoLetter w clears f c
   names_no_flag : (c ∈ ")-:u") ≡ false → with_letter f (not clears) c ≡ None → NoLetter w clears f c
 
--- the letters `t` of a pattern of n bytes
-module _ (n : ℕ) (t : Text) where
+-- the letters `t`
+module _ (t : Text) where
   -- one letter, mark or fault, before `u`
   pub data Letter (w : Text) (clears : Bool) (f : Flags) (c : ℕ) (u : Text) : Reading LetterStep → Type 0 where
     flag : {g : Flags} → with_letter f (not clears) c ≡ Some g → Letter w clears f c u (gives (flags_go_on clears g) u)
@@ -47,8 +47,8 @@ module _ (n : ℕ) (t : Text) where
     minus : c ≡ code "-" → clears ≡ false → Letter w clears f c u (gives (flags_go_on true f) u)
     parenthesis : c ≡ code ")" → w ≢ [] → w ≢ codes "-" → Letter w clears f c u (gives (flags_end (setting f)) u)
     colon : c ≡ code ":" → w ≢ codes "-" → Letter w clears f c u (gives (flags_end (scope f)) u)
-    no_letter : NoLetter w clears f c → Letter w clears f c u (fails (no_flag_letter n t (w ++ c ∷ [])))
-    other_mode : c ≡ code "u" → f.unicode ≡ clears → Letter w clears f c u (fails (mode_changed n (c ∷ u)))
+    no_letter : NoLetter w clears f c → Letter w clears f c u (fails (no_flag_letter t (w ++ c ∷ [])))
+    other_mode : c ≡ code "u" → f.unicode ≡ clears → Letter w clears f c u (fails (mode_changed (c ∷ u)))
 
   -- layout, and behind it one letter, mark or fault, before `v`; `w` is what was read of the letters before it
   pub record Next (clears : Bool) (f : Flags) (u v : Text) (q : Reading LetterStep) : Type 0 where
@@ -67,10 +67,10 @@ module _ (n : ℕ) (t : Text) where
     letter_fault : {clears : Bool} {f : Flags} {u v : Text} {e : Fault} → Next clears f u v (fails e) →
         LettersFrom clears f u (fails e)
     text_end : {clears : Bool} {f : Flags} {u : Text} → Before f.ignore_space u [] →
-        LettersFrom clears f u (fails (group_not_closed n))
-    open_layout : {clears : Bool} {f : Flags} {u : Text} {q : ℕ} → Unclosed n f.ignore_space u q →
+        LettersFrom clears f u (fails group_not_closed)
+    open_layout : {clears : Bool} {f : Flags} {u : Text} {q : ℕ} → Unclosed f.ignore_space u q →
         LettersFrom clears f u (fails (comment_not_closed q))
 
 -- the letters of a flag group, from behind the `(?`
-abbrev pub FlagGroup : ℕ → Flags → Text → Reading Letters → Type 0
-FlagGroup n f t o = LettersFrom n t false f t o
+abbrev pub FlagGroup : Flags → Text → Reading Letters → Type 0
+FlagGroup f t o = LettersFrom t false f t o

@@ -13,6 +13,6 @@ head_name [] = None
 head_name (c ∷ t) =
     if c == code "P" then option_and_then (name_before (code ">")) (strip (code "<") t) else marked_name (c ∷ t)
 
--- the name of a group in a pattern of n bytes
-unfoldable pub group_name : ℕ → Text → Reading Text
-group_name n t = read_or (group_not_named n t) (head_name t)
+-- the name of a group
+unfoldable pub group_name : Text → Reading Text
+group_name t = read_or (group_not_named t) (head_name t)

@@ -25,7 +25,7 @@ groups_in l = record { total = length l; names = named_groups l }
 
 -- one opening more, behind the others
 abbrev pub openings_with : List Opening → ℕ → Option Text → List Opening
-openings_with l place name = l ++ record { place = place; name = name } ∷ []
+openings_with l reach name = l ++ record { reach = reach; name = name } ∷ []
 
 -- none, as where nothing opens
 abbrev pub no_groups : Groups

@@ -6,19 +6,19 @@ use Rattle.fancy_lex.specs.Characters.{close_paren, ◌∈◌}
 use Rattle.fancy_lex.specs.Delimited.{name_before, marked_name, of_name}
 use Rattle.fancy_lex.specs.Reading.{Reading}
 use Rattle.fancy_lex.specs.Referred.{Reference, Call, call_to, target_of_name, name_reading, reference_by_name}
-use Rattle.fancy_lex.specs.Text.{Text, strip, place_of}
+use Rattle.fancy_lex.specs.Text.{Text, strip, reach_of}
 
--- behind `(?P=`: an id and a closing parenthesis, in a pattern of n bytes
-unfoldable pub named_reference : ℕ → Text → Reading Reference
-named_reference n t = reference_by_name (place_of n t) false (name_before close_paren t)
+-- behind `(?P=`: an id and a closing parenthesis
+unfoldable pub named_reference : Text → Reading Reference
+named_reference t = reference_by_name (reach_of t) false (name_before close_paren t)
 
--- the call at the place p by a number or a name
+-- the call at the reach p by a number or a name
 abbrev pub call_of : ℕ → Text → Option Call
 call_of p w = Some (call_to p (target_of_name w))
 
 -- behind `(?P>`: a name and a closing parenthesis
-unfoldable pub named_call : ℕ → Text → Reading Call
-named_call n t = name_reading (place_of n t) (of_name (call_of (place_of n t)) (name_before close_paren t))
+unfoldable pub named_call : Text → Reading Call
+named_call t = name_reading (reach_of t) (of_name (call_of (reach_of t)) (name_before close_paren t))
 
 -- a condition that begins so asks for a group
 unfoldable pub begins_target : Text → Bool
@@ -34,6 +34,6 @@ unfoldable pub condition_name : Text → Option (Text × Text)
 condition_name [] = None
 condition_name (c ∷ t) = if c ∈ "'<" then with_close_paren (marked_name (c ∷ t)) else name_before close_paren (c ∷ t)
 
--- right behind `(?(`: an id reference as the condition's target, in a pattern of n bytes
-unfoldable pub condition_target : ℕ → Text → Reading Reference
-condition_target n t = reference_by_name (place_of n t) true (condition_name t)
+-- right behind `(?(`: an id reference as the condition's target
+unfoldable pub condition_target : Text → Reading Reference
+condition_target t = reference_by_name (reach_of t) true (condition_name t)

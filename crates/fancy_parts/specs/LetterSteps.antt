@@ -27,11 +27,11 @@ abbrev pub behind_step : (Bool → Flags → Text → Reading Letters) → Lette
 behind_step more (flags_end l) u = gives l u
 behind_step more (flags_go_on clears f) u = more clears f u
 
--- the letters `t` of a pattern of n bytes
-module _ (n : ℕ) (t : Text) where
+-- the letters `t`
+module _ (t : Text) where
   -- the fault of the character before `u`
   abbrev pub unknown_letter : Text → Reading LetterStep
-  unknown_letter u = fails (no_flag_letter n t (letters_before t u))
+  unknown_letter u = fails (no_flag_letter t (letters_before t u))
 
   -- the letters go on under these flags, if the letter before `u` names one
   abbrev pub flag_or_fault : Bool → Text → Option Flags → Reading LetterStep
@@ -40,7 +40,7 @@ module _ (n : ℕ) (t : Text) where
 
   -- the letter at the front of the text
   abbrev pub step : Bool → Flags → Text → Reading LetterStep
-  step clears f [] = fails (group_not_closed n)
+  step clears f [] = fails group_not_closed
   step clears f (c ∷ u) =
       if c == code ")" then (
       if is_first t (c ∷ u) || is_behind_minus t clears (c ∷ u) then unknown_letter u
@@ -51,16 +51,16 @@ module _ (n : ℕ) (t : Text) where
       if clears then unknown_letter u else gives (flags_go_on true f) u)
       -- the Unicode mode may be said again, and not changed
       else if c == code "u" then (
-      if beq clears f.unicode then fails (mode_changed n (c ∷ u))
+      if beq clears f.unicode then fails (mode_changed (c ∷ u))
       else gives (flags_go_on clears f) u)
       else flag_or_fault clears u (with_letter f (not clears) c)
 
   -- at most k letters, each with layout before it; each takes a byte or more, so that `letters` never runs out of steps
   unfoldable pub letters_in : ℕ → Bool → Flags → Text → Reading Letters
-  letters_in zero clears f u = fails (group_not_closed n)
+  letters_in zero clears f u = fails group_not_closed
   letters_in (suc k) clears f u =
-      layout_reading (layout n f.ignore_space u) >=> (λ _ v. step clears f v >=> behind_step (letters_in k))
+      layout_reading (layout f.ignore_space u) >=> (λ _ v. step clears f v >=> behind_step (letters_in k))
 
 -- the letters of a flag group, whose text begins behind the `(?`
-unfoldable pub letters : ℕ → Flags → Text → Reading Letters
-letters n f t = letters_in n t (suc (bytes t)) false f t
+unfoldable pub letters : Flags → Text → Reading Letters
+letters f t = letters_in t (suc (bytes t)) false f t

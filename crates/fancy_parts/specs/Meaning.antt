@@ -14,9 +14,9 @@ pub data Role : Type 0 where
   call : Role  -- it calls the group
   condition : Role  -- it asks whether the group has matched
 
--- a reference: its place, what it does, and what it names
+-- a reference: its reach, what it does, and what it names
 pub record AnyReference : Type 0 where
-  pub place : ℕ
+  pub reach : ℕ
   pub role : Role
   pub target : Target
 
@@ -74,14 +74,14 @@ means numbers_of c role (relative z) = group_or_none role (at_distance c z)
 
 -- what a reference means among the groups that have a number
 abbrev pub meaning : List Opening → AnyReference → Meaning
-meaning groups r = means (λ t. numbers t groups) (openings_before groups r.place) r.role r.target
+meaning groups r = means (λ t. numbers t groups) (openings_before groups r.reach) r.role r.target
 
--- the fault of a meaning at the place, or else the other
+-- the fault of a meaning at the reach, or else the other
 abbrev pub fault_or : Meaning → ℕ → Option Fault → Option Fault
-fault_or (faulty k) place other = Some (of_reference place k)
-fault_or _ place other = other
+fault_or (faulty k) reach other = Some (of_reference reach k)
+fault_or _ reach other = other
 
 -- the first fault of the references
 abbrev pub first_fault : List Opening → List AnyReference → Option Fault
 first_fault groups [] = None
-first_fault groups (r ∷ l) = fault_or (meaning groups r) r.place (first_fault groups l)
+first_fault groups (r ∷ l) = fault_or (meaning groups r) r.reach (first_fault groups l)

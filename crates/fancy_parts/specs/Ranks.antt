@@ -9,9 +9,9 @@ use Rattle.std.specs.declared.cmp.Ordering.{Ordering}
 use Rattle.fancy_lex.specs.Text.{Text}
 use Rattle.fancy_lex.specs.declared.flags.Flags.{Flags}
 
--- an opening parenthesis of a capturing group: its place, and the group's name if it has one
+-- an opening parenthesis of a capturing group: its reach, and the group's name if it has one
 pub record Opening : Type 0 where
-  pub place : ℕ
+  pub reach : ℕ
   pub name : Option Text
 
 -- whether the group has a name
@@ -34,9 +34,9 @@ numbered_openings_in named l = filter (λ o. is_counted named o.name) l
 abbrev pub numbered_openings : Flags → List Opening → List Opening
 numbered_openings f l = numbered_openings_in (only_named f l) l
 
--- how many of the groups open before the place
+-- how many of the groups open before the place of this reach: those open at a greater one
 abbrev pub openings_before : List Opening → ℕ → ℕ
-openings_before groups place = count_by (λ o. nat_lt o.place place) groups
+openings_before groups reach = count_by (λ o. nat_lt reach o.reach) groups
 
 -- whether the name is this one
 abbrev pub is_name : Text → Option Text → Bool

@@ -61,9 +61,9 @@ impl Groups {
         requires { self.old.total + 1 < 2 ^ 64 }
         ensures added { IfOk result
             (λ _. groups_of self.new ≡ with_group (groups_of self.old) (option_map (λ t. chars t.now) name.entry)) }
-        ensures numbers { (before : List Opening) (place : ℕ) → groups_of self.old ≡ groups_in before →
+        ensures numbers { (before : List Opening) (reach : ℕ) → groups_of self.old ≡ groups_in before →
             IfOk result (λ _. groups_of self.new
-            ≡ groups_in (openings_with before place (option_map (λ t. chars t.now) name.entry))) }
+            ≡ groups_in (openings_with before reach (option_map (λ t. chars t.now) name.entry))) }
         ensures kept { OnErr result (groups_of self.new ≡ groups_of self.old) }
         ensures without_memory { is_some name.entry ≡ false → IsOk result }
     {

@@ -8,10 +8,10 @@ use Rattle.fancy_lex.specs.Characters.{bar}
 use Rattle.fancy_lex.specs.Fault.{Kind}
 use Rattle.fancy_lex.specs.FaultTable.{bar_for_close_paren, body_wanting}
 use Rattle.fancy_lex.specs.LayoutSteps.{rest, fault as open_comment}
-use Rattle.fancy_lex.specs.Text.{Text, bytes, place_of, strip}
-use Rattle.fancy_lex.specs.declared.error.Error.{Error}
+use Rattle.fancy_lex.specs.Text.{Text, bytes, reach_of, strip}
+use Rattle.fancy_lex.specs.declared.error.Failure.{Failure}
 use Rattle.fancy_lex.specs.declared.flags.Flags.{Flags}
-use Rattle.fancy_lex.specs.declared.error.Error.TheVariants.{ParseError}
+use Rattle.fancy_lex.specs.declared.error.Failure.TheVariants.{At}
 use Rattle.fancy_lex.specs.declared.error.ParseError.TheVariants.{UnclosedOpenParen}
 use Rattle.fancy_grammar.specs.Grammar.{Alternation, alternation, Branches, last, branch_fault, Branch, branch, stop}
 use Rattle.fancy_grammar.specs.Grammar.{piece_fault, Piece, piece, layout_fault, Atom, atom, inside, the_body}
@@ -43,29 +43,29 @@ use Rattle.fancy_grammar.proofs.OutcomeLemmas.{solid-append}
 -- ---- a step
 
 -- an atom behind layout is a piece under its quantifiers
-pub piece_of : {n d left : ℕ} {s : State} {u : Text} {q o : Outcome Tree} → left ≡ bytes s.rest → skipped n s ≡ rest u →
-    Atom n d (at s u) q →
-    and_then q (quants n d left) ≡ o → Piece n d s o
-piece_of {n} {d} {q} {o} i l a e = piece l a (subst (λ m. and_then q (quants n d m) ≡ o) i e)
+pub piece_of : {d left : ℕ} {s : State} {u : Text} {q o : Outcome Tree} → left ≡ bytes s.rest → skipped s ≡ rest u →
+    Atom d (at s u) q →
+    and_then q (quants d left) ≡ o → Piece d s o
+piece_of {d} {q} {o} i l a e = piece l a (subst (λ m. and_then q (quants d m) ≡ o) i e)
 
-pub steps_piece : {n d left : ℕ} (s : State) {t : State} {u : Text} {a : Tree} (r : Result Step Error) (v : State) →
+pub steps_piece : {d left : ℕ} (s : State) {t : State} {u : Text} {a : Tree} (r : Result Step Failure) (v : State) →
     left ≡ bytes s.rest →
-    skipped n s ≡ rest u → Atom n d (at s u) (done a t) → GivesPiece r (quants n d left a t) v → GivesStep r n d s v
+    skipped s ≡ rest u → Atom d (at s u) (done a t) → GivesPiece r (quants d left a t) v → GivesStep r d s v
 steps_piece s (Ok (step.Piece tree)) v i l a h = piece_of i l a h
 steps_piece s (Ok (step.Open opener)) v i l a h = absurd h
-steps_piece {n} {d} {left} s {t} {a = tree} (Err e) v i l a h =
-    IsErrorAmong-map (λ o. quants n d left tree t ≡ o) (Piece n d s) e (λ k p g. piece_of i l a g) h
+steps_piece {d} {left} s {t} {a = tree} (Err e) v i l a h =
+    IsErrorAmong-map (λ o. quants d left tree t ≡ o) (Piece d s) e (λ k p g. piece_of i l a g) h
 
 -- a fault of the layout before a piece is the piece's
-pub steps_layout : (n d : ℕ) (s : State) {p : ℕ} (e : Error) → e ≡ ParseError p UnclosedOpenParen →
-    skipped n s ≡ open_comment p → IsErrorAmong e (Piece n d s)
-steps_layout n d s e i l = rw i (layout_fault l)
+pub steps_layout : (d : ℕ) (s : State) {p : ℕ} (e : Failure) → e ≡ At p UnclosedOpenParen →
+    skipped s ≡ open_comment p → IsErrorAmong e (Piece d s)
+steps_layout d s e i l = rw i (layout_fault l)
 
 -- ---- what is open
 
 -- a fault inside is the piece's
-pub opens_fault : {n d p : ℕ} {s v : State} {k : Kind} {o : OpenPart} → OpensPart n d s o v →
-    Part o n (d + 1) v (fault k p) → Piece n d s (fault k p)
+pub opens_fault : {d p : ℕ} {s v : State} {k : Kind} {o : OpenPart} → OpensPart d s o v →
+    Part o (d + 1) v (fault k p) → Piece d s (fault k p)
 opens_fault (a_group l e) r = piece l (atom e (grammar.a_group (inside r refl) refl) refl) refl
 opens_fault (a_condition l e) r = piece l (atom e (condition_fault (inside r refl)) refl) refl
 opens_fault (a_body l e) r = piece l (atom e (grammar.a_body (the_body r refl)) refl) refl
@@ -75,37 +75,37 @@ opens_fault (a_branch l e) r = piece l (atom e (absent_fault r) refl) refl
 opens_fault (behind_branch (a_branch l e) b f) r = piece l (atom e (two_branches b f r refl) refl) refl
 
 -- a closing parenthesis is taken whatever the tree
-closed_through : (n : ℕ) (f : Tree → Tree) (r : Tree) (s : State) → seen_through f (closed n r s) ≡ closed n (f r) s
-closed_through n f r s = by_text s.rest
+closed_through : (f : Tree → Tree) (r : Tree) (s : State) → seen_through f (closed r s) ≡ closed (f r) s
+closed_through f r s = by_text s.rest
   where
     by_test : (u : Text) (b : Bool) →
-        seen_through f (if b then done r (at s u) else faulted (bar_for_close_paren n s.rest))
-        ≡ (if b then done (f r) (at s u) else faulted (bar_for_close_paren n s.rest))
+        seen_through f (if b then done r (at s u) else faulted (bar_for_close_paren s.rest))
+        ≡ (if b then done (f r) (at s u) else faulted (bar_for_close_paren s.rest))
     by_test u true = refl
     by_test u false = refl
 
-    by_text : (u : Text) → seen_through f (closed_at n r s u) ≡ closed_at n (f r) s u
+    by_text : (u : Text) → seen_through f (closed_at r s u) ≡ closed_at (f r) s u
     by_text [] = refl
     by_text (c ∷ u) = by_test u (c == code ")")
 
-pub ended_without_body : (n : ℕ) (p : OpenPart) (r : Tree) (s : State) → lacks_body p s ≡ true →
-    ended_part n p r s ≡ faulted (body_wanting n s.rest)
-ended_without_body n p r s e = rw e refl
+pub ended_without_body : (p : OpenPart) (r : Tree) (s : State) → lacks_body p s ≡ true →
+    ended_part p r s ≡ faulted (body_wanting s.rest)
+ended_without_body p r s e = rw e refl
 
-pub ended_closed : (n : ℕ) (p : OpenPart) (r : Tree) (s : State) → lacks_body p s ≡ false →
-    ended_part n p r s ≡ closed n (node_of_part p r) s
-ended_closed n p r s e = rw e refl
+pub ended_closed : (p : OpenPart) (r : Tree) (s : State) → lacks_body p s ≡ false →
+    ended_part p r s ≡ closed (node_of_part p r) s
+ended_closed p r s e = rw e refl
 
 -- a part may be followed by a bar only where it is the second branch of an absent expression, and then by a fault
 abbrev MayEnd : OpenPart → State → Type 0
 MayEnd p s = holds_one p ≡ true → is_second p ≡ false → strip bar s.rest ≡ None
 
 -- a part ends, and with it the atom: the flags from before it hold again
-opens_ended : {n d : ℕ} {s v : State} {p : OpenPart} (r : Tree) (w : State) → OpensPart n d s p v →
-    Part p n (d + 1) v (done r w) → goes_on p ≡ false →
-    MayEnd p w → (t : Text) × (skipped n s ≡ rest t) × Atom n d (at s t) (restored s.flags (ended_part n p r w))
-opens_ended {n} q w (a_group {h} {u} l e) r g f =
-    (u, l, atom e (grammar.a_group (inside r refl) (closed_through n (group_node h (place_of n u)) q w)) refl)
+opens_ended : {d : ℕ} {s v : State} {p : OpenPart} (r : Tree) (w : State) → OpensPart d s p v →
+    Part p (d + 1) v (done r w) → goes_on p ≡ false →
+    MayEnd p w → (t : Text) × (skipped s ≡ rest t) × Atom d (at s t) (restored s.flags (ended_part p r w))
+opens_ended q w (a_group {h} {u} l e) r g f =
+    (u, l, atom e (grammar.a_group (inside r refl) (closed_through (group_node h (reach_of u)) q w)) refl)
 opens_ended q w (a_condition l e) r g f = absurd (true≢false g)
 opens_ended q w (a_body {u} l e) r g f = (u, l, atom e (grammar.a_body (the_body r refl)) refl)
 opens_ended q w (behind_condition (a_condition {u} l e) i) r g f =
@@ -114,9 +114,9 @@ opens_ended q w (a_branch {u} l e) r g f = (u, l, atom e (one_branch r (f refl r
 opens_ended q w (behind_branch (a_branch {u} l e) b i) r g f = (u, l, atom e (two_branches b i r refl) refl)
 
 -- where the atom goes on, the body of the conditional comes next
-pub condition_ended : {n d : ℕ} {s v t : State} {p : OpenPart} {c : Tree} (r : Tree) (w : State) → OpensPart n d s p v →
-    Part p n (d + 1) v (done r w) → goes_on p ≡ true →
-    ended_part n p r w ≡ done c t → OpensPart n d s (body c (bytes t.rest)) t
+pub condition_ended : {d : ℕ} {s v t : State} {p : OpenPart} {c : Tree} (r : Tree) (w : State) → OpensPart d s p v →
+    Part p (d + 1) v (done r w) → goes_on p ≡ true →
+    ended_part p r w ≡ done c t → OpensPart d s (body c (bytes t.rest)) t
 condition_ended r w (a_condition l e) x g h = behind_condition (a_condition l e) (inside x h)
 condition_ended r w (a_group l e) x g h = absurd (true≢false (sym g))
 condition_ended r w (a_body l e) x g h = absurd (true≢false (sym g))
@@ -125,13 +125,13 @@ condition_ended r w (a_branch l e) x g h = absurd (true≢false (sym g))
 condition_ended r w (behind_branch x y z) a g h = absurd (true≢false (sym g))
 
 -- a fault at the end of a part is the piece's
-pub ended_fault : {n d q : ℕ} {s v : State} {k : Kind} {p : OpenPart} (r : Tree) (w : State) → OpensPart n d s p v →
-    Part p n (d + 1) v (done r w) →
-    MayEnd p w → ended_part n p r w ≡ fault k q → Piece n d s (fault k q)
-ended_fault {n} {d} {q} {s} {k} {p} r w x y f h = by_goes (goes_on p) refl
+pub ended_fault : {d q : ℕ} {s v : State} {k : Kind} {p : OpenPart} (r : Tree) (w : State) → OpensPart d s p v →
+    Part p (d + 1) v (done r w) →
+    MayEnd p w → ended_part p r w ≡ fault k q → Piece d s (fault k q)
+ended_fault {d} {q} {s} {k} {p} r w x y f h = by_goes (goes_on p) refl
   where
-    of_condition : {v : State} {p : OpenPart} → OpensPart n d s p v → Part p n (d + 1) v (done r w) → goes_on p ≡ true →
-        ended_part n p r w ≡ fault k q → Piece n d s (fault k q)
+    of_condition : {v : State} {p : OpenPart} → OpensPart d s p v → Part p (d + 1) v (done r w) → goes_on p ≡ true →
+        ended_part p r w ≡ fault k q → Piece d s (fault k q)
     of_condition (a_condition l e) x g h = piece l (atom e (condition_fault (inside x h)) refl) refl
     of_condition (a_group l e) x g h = absurd (true≢false (sym g))
     of_condition (a_body l e) x g h = absurd (true≢false (sym g))
@@ -139,25 +139,25 @@ ended_fault {n} {d} {q} {s} {k} {p} r w x y f h = by_goes (goes_on p) refl
     of_condition (a_branch l e) x g h = absurd (true≢false (sym g))
     of_condition (behind_branch x y z) a g h = absurd (true≢false (sym g))
 
-    by_goes : (b : Bool) → goes_on p ≡ b → Piece n d s (fault k q)
+    by_goes : (b : Bool) → goes_on p ≡ b → Piece d s (fault k q)
     by_goes true g = of_condition x y g h
     by_goes false g =
-        let (u, i, a) = opens_ended r w x y g f in piece i (subst (Atom n d (at s u)) (ap (restored s.flags) h) a) refl
+        let (u, i, a) = opens_ended r w x y g f in piece i (subst (Atom d (at s u)) (ap (restored s.flags) h) a) refl
 
 -- the atom that ends with a part, under its quantifiers
-pub closes : {n d left : ℕ} {s v t : State} {a : Tree} {p : OpenPart} (r : Tree) (w : State) (q : Result Step Error)
-    (z : State) → OpensPart n d s p v →
-    Part p n (d + 1) v (done r w) → goes_on p ≡ false → strip bar w.rest ≡ None → ended_part n p r w ≡ done a t →
+pub closes : {d left : ℕ} {s v t : State} {a : Tree} {p : OpenPart} (r : Tree) (w : State) (q : Result Step Failure)
+    (z : State) → OpensPart d s p v →
+    Part p (d + 1) v (done r w) → goes_on p ≡ false → strip bar w.rest ≡ None → ended_part p r w ≡ done a t →
     left ≡ bytes s.rest →
-    GivesPiece q (quants n d left a (record t { flags = s.flags })) z → GivesStep q n d s z
-closes {n} {d} {s} r w q z x y g f h i e =
+    GivesPiece q (quants d left a (record t { flags = s.flags })) z → GivesStep q d s z
+closes {d} {s} r w q z x y g f h i e =
     let (u, l, b) = opens_ended r w x y g (λ _ _. f) in
-    steps_piece s q z i l (subst (Atom n d (at s u)) (ap (restored s.flags) h) b) e
+    steps_piece s q z i l (subst (Atom d (at s u)) (ap (restored s.flags) h) b) e
 
 -- ---- what is read of the innermost part
 
-reading_new : (n d : ℕ) (p : OpenPart) (s : State) (bs ps : List Tree) → bs ≡ [] → ps ≡ [] → ReadSoFar n d p s bs ps s
-reading_new n d p s bs ps e f = record {
+reading_new : (d : ℕ) (p : OpenPart) (s : State) (bs ps : List Tree) → bs ≡ [] → ps ≡ [] → ReadSoFar d p s bs ps s
+reading_new d p s bs ps e f = record {
   begin = s;
   read = [];
   same = rw f;
@@ -166,9 +166,9 @@ reading_new n d p s bs ps e f = record {
   one = λ _. (refl, e);
 }
 
-reading_piece : {n d : ℕ} {p : OpenPart} {s t v : State} {r : Tree} {bs ps : List Tree} (cs qs : List Tree) →
-    ReadSoFar n d p s bs ps t → ends t.rest ≡ false →
-    Piece n d t (done r v) → cs ≡ bs → qs ≡ ps ++ solid (r ∷ []) → ReadSoFar n d p s cs qs v
+reading_piece : {d : ℕ} {p : OpenPart} {s t v : State} {r : Tree} {bs ps : List Tree} (cs qs : List Tree) →
+    ReadSoFar d p s bs ps t → ends t.rest ≡ false →
+    Piece d t (done r v) → cs ≡ bs → qs ≡ ps ++ solid (r ∷ []) → ReadSoFar d p s cs qs v
 reading_piece {r} cs qs h e a i j = record {
   begin = h.begin;
   read = h.read ++ r ∷ [];
@@ -183,78 +183,78 @@ abbrev pub joined : List Tree → Tree
 joined = one_or concat
 
 -- the open branch ends at t
-reading_branch : {n d : ℕ} {p : OpenPart} {s t : State} {bs ps : List Tree} (h : ReadSoFar n d p s bs ps t) →
+reading_branch : {d : ℕ} {p : OpenPart} {s t : State} {bs ps : List Tree} (h : ReadSoFar d p s bs ps t) →
     ends t.rest ≡ true →
-    Branch n d h.begin (done (joined ps) t)
-reading_branch {n} {d} {t} h e =
+    Branch d h.begin (done (joined ps) t)
+reading_branch {d} {t} h e =
     let b = branch (h.branch (done [] t) (stop e)) refl in
-    subst (λ x. Branch n d h.begin (done (one_or concat x) t)) (ap solid (append-nil h.read) ∙ h.same) b
+    subst (λ x. Branch d h.begin (done (one_or concat x) t)) (ap solid (append-nil h.read) ∙ h.same) b
 
 -- the one branch of a part that holds no other
-reading_one : {n d : ℕ} {p : OpenPart} {s t : State} {bs ps : List Tree} → ReadSoFar n d p s bs ps t →
+reading_one : {d : ℕ} {p : OpenPart} {s t : State} {bs ps : List Tree} → ReadSoFar d p s bs ps t →
     holds_one p ≡ true → ends t.rest ≡ true →
-    Branch n d s (done (joined ps) t)
-reading_one {n} {d} {t} {ps} h k e = subst (λ (x : State). Branch n d x (done (joined ps) t)) (h.one k).0
+    Branch d s (done (joined ps) t)
+reading_one {d} {t} {ps} h k e = subst (λ (x : State). Branch d x (done (joined ps) t)) (h.one k).0
     (reading_branch h e)
 
-reading_bar : {n d : ℕ} {p : OpenPart} {s t : State} {u : Text} {bs ps : List Tree} (cs qs : List Tree) →
-    ReadSoFar n d p s bs ps t → holds_one p ≡ false →
+reading_bar : {d : ℕ} {p : OpenPart} {s t : State} {u : Text} {bs ps : List Tree} (cs qs : List Tree) →
+    ReadSoFar d p s bs ps t → holds_one p ≡ false →
     ends t.rest ≡ true → strip bar t.rest ≡ Some u → cs ≡ bs ++ joined ps ∷ [] → qs ≡ [] →
-    ReadSoFar n d p s cs qs (at t u)
-reading_bar {n} {d} {s} {t} {u} {bs} {ps} cs qs h k e f i j = record {
+    ReadSoFar d p s cs qs (at t u)
+reading_bar {d} {s} {t} {u} {bs} {ps} cs qs h k e f i j = record {
   begin = at t u;
   read = [];
   same = rw j;
   branch = λ o p. rw before-nil p;
   all = λ o b.
-      subst (λ l. Branches n d s (trees_before l o)) (sym i)
-      (subst (Branches n d s) (sym (before-push bs (joined ps) o)) (h.all _ (more_any o (reading_branch h e) f b)));
+      subst (λ l. Branches d s (trees_before l o)) (sym i)
+      (subst (Branches d s) (sym (before-push bs (joined ps) o)) (h.all _ (more_any o (reading_branch h e) f b)));
   one = λ l. absurd (true≢false (sym l ∙ k));
 }
 
-reading_alternation : {n d : ℕ} {p : OpenPart} {s t : State} {bs ps : List Tree} → ReadSoFar n d p s bs ps t →
+reading_alternation : {d : ℕ} {p : OpenPart} {s t : State} {bs ps : List Tree} → ReadSoFar d p s bs ps t →
     ends t.rest ≡ true → strip bar t.rest ≡ None →
-    Alternation n d s (done (choice (bs ++ joined ps ∷ [])) t)
+    Alternation d s (done (choice (bs ++ joined ps ∷ [])) t)
 reading_alternation h e f = alternation (h.all _ (last (reading_branch h e) f)) refl
 
 -- what is open ends at t
-reading_end : {n d : ℕ} {s t : State} {bs ps : List Tree} (p : OpenPart) → ReadSoFar n d p s bs ps t →
+reading_end : {d : ℕ} {s t : State} {bs ps : List Tree} (p : OpenPart) → ReadSoFar d p s bs ps t →
     ends t.rest ≡ true → strip bar t.rest ≡ None →
-    Part p n d s (done (choice (bs ++ joined ps ∷ [])) t)
+    Part p d s (done (choice (bs ++ joined ps ∷ [])) t)
 reading_end top h e f = reading_alternation h e f
 reading_end (group _ _) h e f = reading_alternation h e f
 reading_end condition h e f = reading_alternation h e f
 reading_end (body _ _) h e f = reading_alternation h e f
-reading_end {n} {d} {s} {t} {ps} first h e f =
-    subst (λ l. Branch n d s (done (choice (l ++ joined ps ∷ [])) t)) (sym (h.one refl).1) (reading_one h refl e)
-reading_end {n} {d} {s} {t} {ps} (second a) h e f =
-    subst (λ l. Branch n d s (done (choice (l ++ joined ps ∷ [])) t)) (sym (h.one refl).1) (reading_one h refl e)
+reading_end {d} {s} {t} {ps} first h e f =
+    subst (λ l. Branch d s (done (choice (l ++ joined ps ∷ [])) t)) (sym (h.one refl).1) (reading_one h refl e)
+reading_end {d} {s} {t} {ps} (second a) h e f =
+    subst (λ l. Branch d s (done (choice (l ++ joined ps ∷ [])) t)) (sym (h.one refl).1) (reading_one h refl e)
 
-reading_branch_fault : {n d q : ℕ} {p : OpenPart} {s t : State} {k : Kind} {bs ps : List Tree}
-    (h : ReadSoFar n d p s bs ps t) → ends t.rest ≡ false →
-    Piece n d t (fault k q) → Branch n d h.begin (fault k q)
+reading_branch_fault : {d q : ℕ} {p : OpenPart} {s t : State} {k : Kind} {bs ps : List Tree}
+    (h : ReadSoFar d p s bs ps t) → ends t.rest ≡ false →
+    Piece d t (fault k q) → Branch d h.begin (fault k q)
 reading_branch_fault {q} {k} h e a = branch (h.branch (fault k q) (piece_fault e a)) refl
 
-reading_fault : {n d q : ℕ} {s t : State} {k : Kind} {bs ps : List Tree} (p : OpenPart) → ReadSoFar n d p s bs ps t →
+reading_fault : {d q : ℕ} {s t : State} {k : Kind} {bs ps : List Tree} (p : OpenPart) → ReadSoFar d p s bs ps t →
     ends t.rest ≡ false →
-    Piece n d t (fault k q) → Part p n d s (fault k q)
+    Piece d t (fault k q) → Part p d s (fault k q)
 reading_fault {q} {k} top h e a = alternation (h.all (fault k q) (branch_fault (reading_branch_fault h e a))) refl
 reading_fault {q} {k} (group _ _) h e a = alternation (h.all (fault k q) (branch_fault (reading_branch_fault h e a)))
     refl
 reading_fault {q} {k} condition h e a = alternation (h.all (fault k q) (branch_fault (reading_branch_fault h e a))) refl
 reading_fault {q} {k} (body _ _) h e a = alternation (h.all (fault k q) (branch_fault (reading_branch_fault h e a)))
     refl
-reading_fault {n} {d} {q} {k} first h e a =
-    subst (λ (x : State). Branch n d x (fault k q)) (h.one refl).0 (reading_branch_fault h e a)
-reading_fault {n} {d} {q} {k} (second b) h e a =
-    subst (λ (x : State). Branch n d x (fault k q)) (h.one refl).0 (reading_branch_fault h e a)
+reading_fault {d} {q} {k} first h e a =
+    subst (λ (x : State). Branch d x (fault k q)) (h.one refl).0 (reading_branch_fault h e a)
+reading_fault {d} {q} {k} (second b) h e a =
+    subst (λ (x : State). Branch d x (fault k q)) (h.one refl).0 (reading_branch_fault h e a)
 
 -- ---- the stack of open groups
 
 -- the fault of what is open is that of the whole
-levels_fault : {n : ℕ} {start : State} {d p : ℕ} {s : State} {k : Kind} {fs : List Frame} {ts : List Tree}
-    {o : OpenPart} → OpenGroups n start fs ts o d s →
-    Part o n d s (fault k p) → Alternation n 0 start (fault k p)
+levels_fault : {start : State} {d p : ℕ} {s : State} {k : Kind} {fs : List Frame} {ts : List Tree}
+    {o : OpenPart} → OpenGroups start fs ts o d s →
+    Part o d s (fault k p) → Alternation 0 start (fault k p)
 levels_fault outermost r = r
 levels_fault (inner f e x l h i m j) r = levels_fault l (reading_fault (part_of f.opener) h m (opens_fault j r))
 
@@ -262,8 +262,8 @@ push-not_nil : {A : Type 0} (l : List A) (x : A) → [] ≡ l ++ x ∷ [] → �
 push-not_nil [] x e = cc
 push-not_nil (y ∷ l) x e = cc
 
-levels_none : {n : ℕ} {start : State} {d : ℕ} {s : State} {fs : List Frame} {ts : List Tree} {o : OpenPart} →
-    OpenGroups n start fs ts o d s →
+levels_none : {start : State} {d : ℕ} {s : State} {fs : List Frame} {ts : List Tree} {o : OpenPart} →
+    OpenGroups start fs ts o d s →
     fs ≡ [] → (d ≡ 0) × (s ≡ start) × (o ≡ top)
 levels_none outermost e = (refl, refl, refl)
 levels_none (inner {frames} f i x l h a j k) e = absurd (push-not_nil frames f (sym e ∙ i))
@@ -277,7 +277,7 @@ push-same (a ∷ c ∷ l) [] x y e = absurd cc
 push-same (a ∷ l) (b ∷ m) x y e = let t : l ++ x ∷ [] ≡ m ++ y ∷ [] = cc in let h = push-same l m x y t in (cc, h.1)
 
 -- the group on top of the stack, in which the innermost part was opened, and the trees that stand to its end
-record Outer (n : ℕ) (start : State) (gs : List Frame) (g : Frame) (ts : List Tree) (o : OpenPart) (d : ℕ)
+record Outer (start : State) (gs : List Frame) (g : Frame) (ts : List Tree) (o : OpenPart) (d : ℕ)
     (s : State) : Type 0 where
   depth : ℕ
   begin : State
@@ -287,17 +287,17 @@ record Outer (n : ℕ) (start : State) (gs : List Frame) (g : Frame) (ts : List 
   pieces : List Tree
   deeper : d ≡ depth + 1
   holds : HoldsTrees g ts below branches pieces
-  levels : OpenGroups n start gs below (part_of g.opener) depth begin
-  reading : ReadSoFar n depth (part_of g.opener) begin branches pieces here
+  levels : OpenGroups start gs below (part_of g.opener) depth begin
+  reading : ReadSoFar depth (part_of g.opener) begin branches pieces here
   began : Began g here
   more : ends here.rest ≡ false
-  opens : OpensPart n depth here o s
+  opens : OpensPart depth here o s
 
-levels_pop : {n : ℕ} {start : State} (gs : List Frame) (g : Frame) {d : ℕ} {s : State} {fs : List Frame}
-    {ts : List Tree} {o : OpenPart} → OpenGroups n start fs ts o d s →
-    fs ≡ gs ++ g ∷ [] → Outer n start gs g ts o d s
+levels_pop : {start : State} (gs : List Frame) (g : Frame) {d : ℕ} {s : State} {fs : List Frame}
+    {ts : List Tree} {o : OpenPart} → OpenGroups start fs ts o d s →
+    fs ≡ gs ++ g ∷ [] → Outer start gs g ts o d s
 levels_pop gs g outermost e = absurd (push-not_nil gs g e)
-levels_pop {n} {start} gs g {ts} (inner {d} {s} {t} {frames} {below} {branches} {pieces} f i x l h a m j) e =
+levels_pop {start} gs g {ts} (inner {d} {s} {t} {frames} {below} {branches} {pieces} f i x l h a m j) e =
     let p = push-same frames gs f g (sym i ∙ e) in
     record {
       depth = d;
@@ -308,9 +308,9 @@ levels_pop {n} {start} gs g {ts} (inner {d} {s} {t} {frames} {below} {branches} 
       pieces = pieces;
       deeper = refl;
       holds = subst (λ (y : Frame). HoldsTrees y ts below branches pieces) p.1 x;
-      levels = subst (λ (y : Frame). OpenGroups n start gs below (part_of y.opener) d s) p.1
-          (subst (λ y. OpenGroups n start y below (part_of f.opener) d s) p.0 l);
-      reading = subst (λ (y : Frame). ReadSoFar n d (part_of y.opener) s branches pieces t) p.1 h;
+      levels = subst (λ (y : Frame). OpenGroups start gs below (part_of y.opener) d s) p.1
+          (subst (λ y. OpenGroups start y below (part_of f.opener) d s) p.0 l);
+      reading = subst (λ (y : Frame). ReadSoFar d (part_of y.opener) s branches pieces t) p.1 h;
       began = subst (λ (y : Frame). Began y t) p.1 a;
       more = m;
       opens = j;
@@ -324,9 +324,9 @@ holds_new : (g : Frame) (trees : List Tree) → g.branches ≡ length trees → 
 holds_new g trees i j =
     let n = append-nil trees in (sym (append-nil (trees ++ []) ∙ n), i, j ∙ ap length (sym n))
 
-pub running_start : (n : ℕ) (start : State) (stack : List Frame) (f : Frame) (trees : List Tree) → stack ≡ [] →
-    trees ≡ [] → f.branches ≡ 0 → f.pieces ≡ 0 → part_of f.opener ≡ top → Running n start stack f trees start
-running_start n start stack f trees e x i j k = record {
+pub running_start : (start : State) (stack : List Frame) (f : Frame) (trees : List Tree) → stack ≡ [] →
+    trees ≡ [] → f.branches ≡ 0 → f.pieces ≡ 0 → part_of f.opener ≡ top → Running start stack f trees start
+running_start start stack f trees e x i j k = record {
   depth = 0;
   begin = start;
   below = [];
@@ -335,13 +335,13 @@ running_start n start stack f trees e x i j k = record {
   is_depth = rw e;
   holds = (x, i, j);
   levels = rw (e, k) outermost;
-  reading = reading_new n 0 _ start _ _ refl refl;
+  reading = reading_new 0 _ start _ _ refl refl;
 }
 
 -- what stands on the stack does not change by where the piece began
-pub running_began : {n : ℕ} {start t : State} {stack : List Frame} {f : Frame} {trees : List Tree} (left : ℕ)
-    (flags : Flags) → Running n start stack f trees t →
-    Running n start stack (record f { left = left; flags = flags }) trees t
+pub running_began : {start t : State} {stack : List Frame} {f : Frame} {trees : List Tree} (left : ℕ)
+    (flags : Flags) → Running start stack f trees t →
+    Running start stack (record f { left = left; flags = flags }) trees t
 running_began left flags h = record {
   depth = h.depth;
   begin = h.begin;
@@ -354,17 +354,17 @@ running_began left flags h = record {
   reading = h.reading;
 }
 
-pub running_fault : {n : ℕ} {start t : State} {stack : List Frame} {f : Frame} {trees : List Tree} {p : ℕ} {k : Kind}
-    (h : Running n start stack f trees t) → ends t.rest ≡ false →
-    Piece n (length stack) t (fault k p) → Alternation n 0 start (fault k p)
-running_fault {n} {t} {f} {p} {k} h e a =
+pub running_fault : {start t : State} {stack : List Frame} {f : Frame} {trees : List Tree} {p : ℕ} {k : Kind}
+    (h : Running start stack f trees t) → ends t.rest ≡ false →
+    Piece (length stack) t (fault k p) → Alternation 0 start (fault k p)
+running_fault {t} {f} {p} {k} h e a =
     levels_fault h.levels
-    (reading_fault (part_of f.opener) h.reading e (subst (λ d. Piece n d t (fault k p)) (sym h.is_depth) a))
+    (reading_fault (part_of f.opener) h.reading e (subst (λ d. Piece d t (fault k p)) (sym h.is_depth) a))
 
-pub running_piece : {n : ℕ} {start t v : State} {stack : List Frame} {f : Frame} {trees : List Tree} {r : Tree}
-    (all : List Tree) → Running n start stack f trees t → ends t.rest ≡ false →
-    Piece n (length stack) t (done r v) → all ≡ trees ++ solid (r ∷ []) → Running n start stack f all v
-running_piece {n} {t} {v} {r} all h e a i = record {
+pub running_piece : {start t v : State} {stack : List Frame} {f : Frame} {trees : List Tree} {r : Tree}
+    (all : List Tree) → Running start stack f trees t → ends t.rest ≡ false →
+    Piece (length stack) t (done r v) → all ≡ trees ++ solid (r ∷ []) → Running start stack f all v
+running_piece {t} {v} {r} all h e a i = record {
   depth = h.depth;
   begin = h.begin;
   below = h.below;
@@ -377,15 +377,15 @@ running_piece {n} {t} {v} {r} all h e a i = record {
     h.holds.2,
   );
   levels = h.levels;
-  reading = reading_piece _ _ h.reading e (subst (λ d. Piece n d t (done r v)) (sym h.is_depth) a) refl refl;
+  reading = reading_piece _ _ h.reading e (subst (λ d. Piece d t (done r v)) (sym h.is_depth) a) refl refl;
 }
 
 -- a part is opened in the piece that began there
-running_open : {n : ℕ} {start t v : State} {stack : List Frame} {f : Frame} {trees : List Tree} {o : OpenPart}
-    (all : List Frame) (g : Frame) → Running n start stack f trees t →
-    Began f t → ends t.rest ≡ false → OpensPart n (length stack) t o v → all ≡ stack ++ f ∷ [] → part_of g.opener ≡ o →
-    g.branches ≡ length trees → g.pieces ≡ length trees → Running n start all g trees v
-running_open {n} {t} {v} {stack} {f} {trees} {o} all g h b e a i j k l = record {
+running_open : {start t v : State} {stack : List Frame} {f : Frame} {trees : List Tree} {o : OpenPart}
+    (all : List Frame) (g : Frame) → Running start stack f trees t →
+    Began f t → ends t.rest ≡ false → OpensPart (length stack) t o v → all ≡ stack ++ f ∷ [] → part_of g.opener ≡ o →
+    g.branches ≡ length trees → g.pieces ≡ length trees → Running start all g trees v
+running_open {t} {v} {stack} {f} {trees} {o} all g h b e a i j k l = record {
   depth = h.depth + 1;
   begin = v;
   below = trees;
@@ -394,14 +394,14 @@ running_open {n} {t} {v} {stack} {f} {trees} {o} all g h b e a i j k l = record 
   is_depth = omega (arith, h.is_depth, ap length i, length_push stack f);
   holds = holds_new g trees k l;
   levels = rw j
-      (inner f i h.holds h.levels h.reading b e (subst (λ d. OpensPart n d t o v) (sym h.is_depth) a));
-  reading = reading_new n _ _ v _ _ refl refl;
+      (inner f i h.holds h.levels h.reading b e (subst (λ d. OpensPart d t o v) (sym h.is_depth) a));
+  reading = reading_new _ _ v _ _ refl refl;
 }
 
 -- a step is taken
-pub running_step : {n : ℕ} {start t v : State} {stack all : List Frame} {f g : Frame} {trees ts : List Tree}
-    (made : Step) → Running n start stack f trees t → Began f t → ends t.rest ≡ false →
-    IsStep n (length stack) t made v → Takes made stack f trees all g ts → Running n start all g ts v
+pub running_step : {start t v : State} {stack all : List Frame} {f g : Frame} {trees ts : List Tree}
+    (made : Step) → Running start stack f trees t → Began f t → ends t.rest ≡ false →
+    IsStep (length stack) t made v → Takes made stack f trees all g ts → Running start all g ts v
 running_step {ts} (step.Piece tree) h b e a i = rw (i.0, i.1) (running_piece ts h e a i.2)
 running_step {all} {g} (step.Open opener) h b e a i =
     rw i.1 (running_open all g h b e a i.0 (ap part_of i.2) i.3 i.4)
@@ -420,22 +420,22 @@ opens_below d (step.Piece tree) h = tt
 opens_below d (step.Open opener) h = h
 
 -- behind a bar the second branch of an absent expression is open
-levels_bar : {n d : ℕ} {start s t : State} {u : Text} {a : Tree} {fs : List Frame} {ts : List Tree} →
-    OpenGroups n start fs ts first d s → Branch n d s (done a t) →
-    strip bar t.rest ≡ Some u → OpenGroups n start fs ts (second a) d (at t u)
+levels_bar : {d : ℕ} {start s t : State} {u : Text} {a : Tree} {fs : List Frame} {ts : List Tree} →
+    OpenGroups start fs ts first d s → Branch d s (done a t) →
+    strip bar t.rest ≡ Some u → OpenGroups start fs ts (second a) d (at t u)
 levels_bar (inner f i l h m j x y) b e = inner f i l h m j x (behind_branch y b e)
 
-pub running_bar : {n : ℕ} {start t : State} {u : Text} {stack : List Frame} {f : Frame} {trees : List Tree}
-    (all : List Tree) (g : Frame) (h : Running n start stack f trees t) → ends t.rest ≡ true →
+pub running_bar : {start t : State} {u : Text} {stack : List Frame} {f : Frame} {trees : List Tree}
+    (all : List Tree) (g : Frame) (h : Running start stack f trees t) → ends t.rest ≡ true →
     strip bar t.rest ≡ Some u → is_second (part_of f.opener) ≡ false →
     part_of g.opener ≡ opened_by_bar (part_of f.opener) (joined h.pieces) →
     HoldsTrees g all h.below (branches_at_bar (part_of f.opener) h.branches (joined h.pieces)) [] →
-    Running n start stack g all (at t u)
-running_bar {n} {start} {t} {u} {stack} {f} all g h e b x i j = by_open (part_of f.opener) h.levels h.reading x i j
+    Running start stack g all (at t u)
+running_bar {start} {t} {u} {stack} {f} all g h e b x i j = by_open (part_of f.opener) h.levels h.reading x i j
   where
-    ordinary : {p : OpenPart} → holds_one p ≡ false → OpenGroups n start stack h.below p h.depth h.begin →
-        ReadSoFar n h.depth p h.begin h.branches h.pieces t → part_of g.opener ≡ p →
-        HoldsTrees g all h.below (h.branches ++ joined h.pieces ∷ []) [] → Running n start stack g all (at t u)
+    ordinary : {p : OpenPart} → holds_one p ≡ false → OpenGroups start stack h.below p h.depth h.begin →
+        ReadSoFar h.depth p h.begin h.branches h.pieces t → part_of g.opener ≡ p →
+        HoldsTrees g all h.below (h.branches ++ joined h.pieces ∷ []) [] → Running start stack g all (at t u)
     ordinary z l r i j = record {
       depth = h.depth;
       begin = h.begin;
@@ -448,11 +448,11 @@ running_bar {n} {start} {t} {u} {stack} {f} all g h e b x i j = by_open (part_of
       reading = rw i (reading_bar _ _ r z e b refl refl);
     }
 
-    by_open : (p : OpenPart) → OpenGroups n start stack h.below p h.depth h.begin →
-        ReadSoFar n h.depth p h.begin h.branches h.pieces t →
+    by_open : (p : OpenPart) → OpenGroups start stack h.below p h.depth h.begin →
+        ReadSoFar h.depth p h.begin h.branches h.pieces t →
         is_second p ≡ false → part_of g.opener ≡ opened_by_bar p (joined h.pieces) →
         HoldsTrees g all h.below (branches_at_bar p h.branches (joined h.pieces)) [] →
-        Running n start stack g all (at t u)
+        Running start stack g all (at t u)
     by_open top l r x i j = ordinary refl l r i j
     by_open (group _ _) l r x i j = ordinary refl l r i j
     by_open condition l r x i j = ordinary refl l r i j
@@ -466,42 +466,42 @@ running_bar {n} {start} {t} {u} {stack} {f} all g h e b x i j = by_open (part_of
       is_depth = h.is_depth;
       holds = j;
       levels = rw i (levels_bar l (reading_one r refl e) b);
-      reading = rw i (reading_new n _ _ _ _ _ (r.one refl).1 refl);
+      reading = rw i (reading_new _ _ _ _ _ (r.one refl).1 refl);
     }
     by_open (second a) l r x i j = absurd (true≢false x)
 
 -- where another character than the closing parenthesis follows
-pub closed_other : (n : ℕ) (r : Tree) (t : State) (c : ℕ) (u : Text) → t.rest ≡ c ∷ u → c ≢ code ")" →
-    closed n r t ≡ faulted (bar_for_close_paren n t.rest)
-closed_other n r t c u e h = ap (closed_at n r t) e ∙ other (c == code ")") (search (tests, rules))
+pub closed_other : (r : Tree) (t : State) (c : ℕ) (u : Text) → t.rest ≡ c ∷ u → c ≢ code ")" →
+    closed r t ≡ faulted (bar_for_close_paren t.rest)
+closed_other r t c u e h = ap (closed_at r t) e ∙ other (c == code ")") (search (tests, rules))
   where
-    other : (b : Bool) → b ≡ false → (if b then done r (at t u) else faulted (bar_for_close_paren n t.rest))
-        ≡ faulted (bar_for_close_paren n t.rest)
+    other : (b : Bool) → b ≡ false → (if b then done r (at t u) else faulted (bar_for_close_paren t.rest))
+        ≡ faulted (bar_for_close_paren t.rest)
     other true i = absurd (true≢false i)
     other false i = refl
 
 bar_does_not_close : bar ≢ code ")"
 bar_does_not_close e = omega (arith, e)
 
-second_fault : {n d p : ℕ} {start s t : State} {k : Kind} {a r : Tree} {fs : List Frame} {ts : List Tree} →
-    OpenGroups n start fs ts (second a) d s → Branch n d s (done r t) →
-    closed n (absent (expression a r)) t ≡ fault k p → Alternation n 0 start (fault k p)
-second_fault {n} {t} {a} {r} (inner f i y l h m j x) b e =
+second_fault : {d p : ℕ} {start s t : State} {k : Kind} {a r : Tree} {fs : List Frame} {ts : List Tree} →
+    OpenGroups start fs ts (second a) d s → Branch d s (done r t) →
+    closed (absent (expression a r)) t ≡ fault k p → Alternation 0 start (fault k p)
+second_fault {t} {a} {r} (inner f i y l h m j x) b e =
     levels_fault l (reading_fault (part_of f.opener) h j (ended_fault r t x b (λ _ z. absurd (true≢false z)) e))
 
-pub running_bar_fault : {n : ℕ} {start t : State} {u : Text} {stack : List Frame} {f : Frame} {trees : List Tree}
-    (o : Outcome Tree) → Running n start stack f trees t →
-    ends t.rest ≡ true → strip bar t.rest ≡ Some u → IsFaultOfBar (part_of f.opener) n t.rest o →
-    Alternation n 0 start o
-running_bar_fault {n} {start} {t} {u} {stack} {f} o h e b x = by_open (part_of f.opener) h.levels h.reading x
+pub running_bar_fault : {start t : State} {u : Text} {stack : List Frame} {f : Frame} {trees : List Tree}
+    (o : Outcome Tree) → Running start stack f trees t →
+    ends t.rest ≡ true → strip bar t.rest ≡ Some u → IsFaultOfBar (part_of f.opener) t.rest o →
+    Alternation 0 start o
+running_bar_fault {start} {t} {u} {stack} {f} o h e b x = by_open (part_of f.opener) h.levels h.reading x
   where
-    by_open : (p : OpenPart) → OpenGroups n start stack h.below p h.depth h.begin →
-        ReadSoFar n h.depth p h.begin h.branches h.pieces t →
-        IsFaultOfBar p n t.rest o → Alternation n 0 start o
+    by_open : (p : OpenPart) → OpenGroups start stack h.below p h.depth h.begin →
+        ReadSoFar h.depth p h.begin h.branches h.pieces t →
+        IsFaultOfBar p t.rest o → Alternation 0 start o
     by_open (second a) l r x =
-        subst (Alternation n 0 start) (sym x)
+        subst (Alternation 0 start) (sym x)
         (second_fault l (reading_one r refl e)
-        (closed_other n (absent (expression a (joined h.pieces))) t bar u (strip_is bar t.rest u b)
+        (closed_other (absent (expression a (joined h.pieces))) t bar u (strip_is bar t.rest u b)
         bar_does_not_close))
     by_open top l r x = absurd x
     by_open (group _ _) l r x = absurd x
@@ -509,16 +509,16 @@ running_bar_fault {n} {start} {t} {u} {stack} {f} o h e b x = by_open (part_of f
     by_open (body _ _) l r x = absurd x
     by_open first l r x = absurd x
 
-pub running_end : {n : ℕ} {start t : State} {stack : List Frame} {f : Frame} {trees : List Tree} (r : Tree)
-    (h : Running n start stack f trees t) → ends t.rest ≡ true → strip bar t.rest ≡ None →
-    r ≡ choice (h.branches ++ joined h.pieces ∷ []) → stack ≡ [] → Alternation n 0 start (done r t)
-running_end {n} {start} {t} r h e a i j =
+pub running_end : {start t : State} {stack : List Frame} {f : Frame} {trees : List Tree} (r : Tree)
+    (h : Running start stack f trees t) → ends t.rest ≡ true → strip bar t.rest ≡ None →
+    r ≡ choice (h.branches ++ joined h.pieces ∷ []) → stack ≡ [] → Alternation 0 start (done r t)
+running_end {start} {t} r h e a i j =
     let m = levels_none h.levels j in
     let whole = choice (h.branches ++ joined h.pieces ∷ []) in
-    rw i (subst (λ s. Alternation n 0 s (done whole t)) m.1
-    (subst (λ d. Alternation n d h.begin (done whole t)) m.0 (reading_alternation h.reading e a)))
+    rw i (subst (λ s. Alternation 0 s (done whole t)) m.1
+    (subst (λ d. Alternation d h.begin (done whole t)) m.0 (reading_alternation h.reading e a)))
 
-opens_not_top : {n d : ℕ} {s v : State} {o : OpenPart} → OpensPart n d s o v → o ≢ top
+opens_not_top : {d : ℕ} {s v : State} {o : OpenPart} → OpensPart d s o v → o ≢ top
 opens_not_top (a_group l e) i = cc
 opens_not_top (a_condition l e) i = cc
 opens_not_top (a_body l e) i = cc
@@ -527,27 +527,27 @@ opens_not_top (a_branch l e) i = cc
 opens_not_top (behind_branch x y z) i = cc
 
 -- what the part that is to be closed stands in
-pub record Closing (n : ℕ) (start : State) (stack : List Frame) (g : Frame) (trees : List Tree) (o : OpenPart)
+pub record Closing (start : State) (stack : List Frame) (g : Frame) (trees : List Tree) (o : OpenPart)
     (r : Tree) (t : State) : Type 0 where
   pub here : State
   pub inside : State
-  pub outer : Running n start stack g trees here
+  pub outer : Running start stack g trees here
   pub began : Began g here
   pub more : ends here.rest ≡ false
-  pub opens : OpensPart n (length stack) here o inside
-  pub whole : Part o n (length stack + 1) inside (done r t)
+  pub opens : OpensPart (length stack) here o inside
+  pub whole : Part o (length stack + 1) inside (done r t)
   pub not_top : o ≢ top
 
-pub running_closing : {n : ℕ} {start t : State} {all : List Frame} {f : Frame} {trees : List Tree}
+pub running_closing : {start t : State} {all : List Frame} {f : Frame} {trees : List Tree}
     (stack : List Frame) (g : Frame) (below : List Tree) (r : Tree) (q : OpenPart) → q ≡ part_of f.opener →
-    (h : Running n start all f trees t) → ends t.rest ≡ true → strip bar t.rest ≡ None →
+    (h : Running start all f trees t) → ends t.rest ≡ true → strip bar t.rest ≡ None →
     r ≡ choice (h.branches ++ joined h.pieces ∷ []) → below ≡ h.below → all ≡ stack ++ g ∷ [] →
-    Closing n start stack g below q r t
-running_closing {n} {t} {f} stack g below r q z h e a i k j =
+    Closing start stack g below q r t
+running_closing {t} {f} stack g below r q z h e a i k j =
     let o = levels_pop stack g h.levels j in
     let m : o.depth ≡ length stack = omega (arith, o.deeper, h.is_depth, ap length j, length_push stack g) in
-    let opens : OpensPart n (length stack) o.here q h.begin =
-    rw z (subst (λ d. OpensPart n d o.here (part_of f.opener) h.begin) m o.opens) in
+    let opens : OpensPart (length stack) o.here q h.begin =
+    rw z (subst (λ d. OpensPart d o.here (part_of f.opener) h.begin) m o.opens) in
     record {
       here = o.here;
       inside = h.begin;
@@ -565,7 +565,7 @@ running_closing {n} {t} {f} stack g below r q z h e a i k j =
       began = o.began;
       more = o.more;
       opens = opens;
-      whole = rw (z, i) (subst (λ d. Part (part_of f.opener) n d h.begin
+      whole = rw (z, i) (subst (λ d. Part (part_of f.opener) d h.begin
           (done (choice (h.branches ++ joined h.pieces ∷ [])) t)) (o.deeper ∙ ap (λ d. d + 1) m)
           (reading_end (part_of f.opener) h.reading e a));
       not_top = opens_not_top opens;

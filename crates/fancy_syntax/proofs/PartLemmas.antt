@@ -1,6 +1,6 @@
 -- The items of the nodes that have several children.
 use Rattle.std.proofs.Common.{◌≡◌, ◌+◌, ◌≤◌, ◌++◌, ◌||◌, List, Bool, arith, length, ap, sym, ◌∙◌, rules, Option, Box, Global}
-use Rattle.fancy_lex.specs.declared.error.Error.{Error}
+use Rattle.fancy_lex.specs.declared.error.Failure.{Failure}
 use Rattle.fancy_parts.specs.Groups.{Groups}
 use Rattle.fancy_grammar.specs.Items.{Item, items, items_absent, openings_in}
 use Rattle.fancy_grammar.specs.Tree.{conditional, expression}
@@ -100,11 +100,11 @@ third_noted {x} {y} k r s t p e f = omega (arith, three_noted k r s p e, noted_l
 
 -- the error of a walk over one of the parts is that of the walk over all
 
-pub three_error : {l : List Item} {x y z : Expr} (k : Known) (r : Progress) (e : Option Error) → Three l x y z →
+pub three_error : {l : List Item} {x y z : Expr} (k : Known) (r : Progress) (e : Option Failure) → Three l x y z →
     IsErrorNoted e (progress_after k r (items (view x))).fault → IsErrorNoted e (progress_after k r l).fault
 three_error {x} k r e p h = rw p.is (error_kept k r e (items (view x)) _ h)
 
-pub third_error : {l : List Item} {x y z : Expr} (k : Known) (r s : Progress) (e : Option Error) → Three l x y z →
+pub third_error : {l : List Item} {x y z : Expr} (k : Known) (r s : Progress) (e : Option Failure) → Three l x y z →
     s ≡ progress_after k r (items (view x)) → IsErrorNoted e (progress_after k s (items (view y))).fault →
     IsErrorNoted e (progress_after k r l).fault
 third_error {x} {y} {z} k r s e p f h =

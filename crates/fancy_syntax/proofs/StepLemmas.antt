@@ -2,7 +2,7 @@
 use Rattle.std.proofs.Common.{◌≡◌, ℕ, ◌<◌, ◌≤◌, false, Result, Ok, Err, IfOk, sym, ◌∙◌, subst, ap, arith, ⊎_elim}
 use Rattle.std.proofs.Math.Nat.{eq-or-lt_of_le}
 use Rattle.fancy_lex.specs.Text.{Text, bytes}
-use Rattle.fancy_lex.specs.declared.error.Error.{Error}
+use Rattle.fancy_lex.specs.declared.error.Failure.{Failure}
 use Rattle.fancy_grammar.specs.Ahead.{nothing, ahead}
 use Rattle.fancy_grammar.specs.Quantified.{quants}
 use Rattle.fancy_grammar.specs.State.{ends, State, at}
@@ -13,20 +13,20 @@ use Rattle.fancy_syntax.specs.declared.grammar.step.Step.{Step}
 use Rattle.fancy_syntax.specs.declared.grammar.step.Step.TheVariants as step
 
 -- where no atom stands and the branch does not end, no piece is read
-pub nothing_stops : (n d : ℕ) (s : State) (u : Text) (r : Result Step Error) (v : State) (P : Step → Type 0) →
-    ahead n d (at s u) ≡ nothing → ends u ≡ false → GivesPiece r (quants n d (bytes u) empty (at s u)) v → IfOk r P
-nothing_stops n d s u (Ok (step.Piece piece)) v P e h g = absurd (let p = nothing_repeats n d s u e h in cc)
-nothing_stops n d s u (Ok (step.Open opener)) v P e h g = absurd g
-nothing_stops n d s u (Err e) v P f h g = tt
+pub nothing_stops : (d : ℕ) (s : State) (u : Text) (r : Result Step Failure) (v : State) (P : Step → Type 0) →
+    ahead d (at s u) ≡ nothing → ends u ≡ false → GivesPiece r (quants d (bytes u) empty (at s u)) v → IfOk r P
+nothing_stops d s u (Ok (step.Piece piece)) v P e h g = absurd (let p = nothing_repeats d s u e h in cc)
+nothing_stops d s u (Ok (step.Open opener)) v P e h g = absurd g
+nothing_stops d s u (Err e) v P f h g = tt
 
 -- behind the layout before a piece, nothing is read only where layout was
-pub nothing_shorter : (n d k l m left : ℕ) (s : State) (u : Text) (r : Result Step Error) (v : State) →
-    ahead n d (at s u) ≡ nothing → ends s.rest ≡ false →
-    left ≡ bytes s.rest → GivesPiece r (quants n d left empty (at s u)) v → l ≤ m → (l ≡ m → u ≡ s.rest) → k ≤ l →
+pub nothing_shorter : (d k l m left : ℕ) (s : State) (u : Text) (r : Result Step Failure) (v : State) →
+    ahead d (at s u) ≡ nothing → ends s.rest ≡ false →
+    left ≡ bytes s.rest → GivesPiece r (quants d left empty (at s u)) v → l ≤ m → (l ≡ m → u ≡ s.rest) → k ≤ l →
     IfOk r (λ _. k < m)
-nothing_shorter n d k l m left s u r v e h b g i same within = ⊎_elim stops shorter (eq-or-lt_of_le i)
+nothing_shorter d k l m left s u r v e h b g i same within = ⊎_elim stops shorter (eq-or-lt_of_le i)
   where
-    below : (r : Result Step Error) → l < m → IfOk r (λ _. k < m)
+    below : (r : Result Step Failure) → l < m → IfOk r (λ _. k < m)
     below (Ok p) i = omega (arith, within, i)
     below (Err e) i = tt
 
@@ -36,5 +36,5 @@ nothing_shorter n d k l m left s u r v e h b g i same within = ⊎_elim stops sh
     stops : l ≡ m → IfOk r (λ _. k < m)
     stops j =
         let at_start : left ≡ bytes u = b ∙ ap bytes (sym (same j)) in
-        nothing_stops n d s u r v _ e (ap ends (same j) ∙ h)
-        (subst (λ x. GivesPiece r (quants n d x empty (at s u)) v) at_start g)
+        nothing_stops d s u r v _ e (ap ends (same j) ∙ h)
+        (subst (λ x. GivesPiece r (quants d x empty (at s u)) v) at_start g)

@@ -6,8 +6,8 @@ use Rattle.std.proofs.lemmas.List.{take_all}
 use Rattle.std.proofs.lemmas.List.{drop_all}
 use Rattle.std.proofs.lemmas.List.Sums.{fold-append}
 use Rattle.fancy_lex.specs.Fault.{Fault}
-use Rattle.fancy_lex.specs.declared.error.Error.{Error}
-use Rattle.fancy_lex.specs.declared.error.Error.TheVariants.{ParseError, OutOfMemory}
+use Rattle.fancy_lex.specs.declared.error.Failure.{Failure}
+use Rattle.fancy_lex.specs.declared.error.Failure.TheVariants.{At, OutOfMemory}
 use Rattle.fancy_parts.specs.Groups.{Groups, with_opening}
 use Rattle.fancy_parts.specs.Ranks.{Opening, is_counted}
 use Rattle.fancy_grammar.proofs.ItemLemmas.{length_openings}
@@ -34,10 +34,10 @@ fault_kept k s f [] h = h
 fault_kept k s f (opening o ∷ l) h = fault_kept k (note_item k s (opening o)) f l h
 fault_kept k s f (reference r ∷ l) h = fault_kept k (note_item k s (reference r)) f l (rw h refl)
 
-pub error_kept : (k : Known) (s : Progress) (e : Option Error) (a b : List Item) →
+pub error_kept : (k : Known) (s : Progress) (e : Option Failure) (a b : List Item) →
     IsErrorNoted e (progress_after k s a).fault → IsErrorNoted e (progress_after k s (a ++ b)).fault
 error_kept k s None a b h = h
-error_kept k s (Some (ParseError place kind)) a b h =
+error_kept k s (Some (At reach kind)) a b h =
     ap (λ (q : Progress). q.fault) (noted_append k s a b) ∙ fault_kept k (progress_after k s a) _ b h
 error_kept k s (Some OutOfMemory) a b h = tt
 

@@ -4,8 +4,8 @@ use Rattle.std.specs.Prelude.{◌∷◌, ◌++◌, length, Some, Result, MatchRe
 use Rattle.fancy_lex.specs.Characters.{bar}
 use Rattle.fancy_lex.specs.FaultTable.{bar_for_close_paren, body_wanting}
 use Rattle.fancy_lex.specs.LayoutSteps.{rest}
-use Rattle.fancy_lex.specs.Text.{Text, bytes, place_of, strip}
-use Rattle.fancy_lex.specs.declared.error.Error.{Error}
+use Rattle.fancy_lex.specs.Text.{Text, bytes, reach_of, strip}
+use Rattle.fancy_lex.specs.declared.error.Failure.{Failure}
 use Rattle.fancy_grammar.specs.Ahead.{ahead}
 use Rattle.fancy_grammar.specs.Depth.{max_depth}
 use Rattle.fancy_grammar.specs.Ahead as seen
@@ -63,33 +63,33 @@ branches_at_bar first l a = l
 branches_at_bar _ l a = l ++ a ∷ []
 
 -- no bar may stand behind the second branch of an absent expression
-abbrev pub IsFaultOfBar : OpenPart → ℕ → Text → Outcome Tree → Type 0
-IsFaultOfBar (second a) n t o = o ≡ faulted (bar_for_close_paren n t)
-IsFaultOfBar _ n t o = ⊥
+abbrev pub IsFaultOfBar : OpenPart → Text → Outcome Tree → Type 0
+IsFaultOfBar (second a) t o = o ≡ faulted (bar_for_close_paren t)
+IsFaultOfBar _ t o = ⊥
 
 -- what is read of what is open
-abbrev pub Part : OpenPart → ℕ → ℕ → State → Outcome Tree → Type 0
-Part first n d s o = Branch n d s o
-Part (second a) n d s o = Branch n d s o
-Part top n d s o = Alternation n d s o
-Part (group h p) n d s o = Alternation n d s o
-Part condition n d s o = Alternation n d s o
-Part (body c left) n d s o = Alternation n d s o
+abbrev pub Part : OpenPart → ℕ → State → Outcome Tree → Type 0
+Part first d s o = Branch d s o
+Part (second a) d s o = Branch d s o
+Part top d s o = Alternation d s o
+Part (group h p) d s o = Alternation d s o
+Part condition d s o = Alternation d s o
+Part (body c left) d s o = Alternation d s o
 
 -- a piece at s opens this, and what is read of it begins at t
-pub data OpensPart : ℕ → ℕ → State → OpenPart → State → Type 0 where
-  a_group : {n d : ℕ} {h : Head} {s t : State} {u : Text} → skipped n s ≡ rest u →
-      ahead n d (at s u) ≡ seen.with_head h t → OpensPart n d s (group h (place_of n u)) t
-  a_condition : {n d : ℕ} {s t : State} {u : Text} → skipped n s ≡ rest u → ahead n d (at s u) ≡ seen.condition t →
-      OpensPart n d s condition t
-  a_body : {n d : ℕ} {c : Tree} {s t : State} {u : Text} → skipped n s ≡ rest u → ahead n d (at s u) ≡ seen.body c t →
-      OpensPart n d s (body c (bytes t.rest)) t
-  behind_condition : {n d : ℕ} {c : Tree} {s t v : State} → OpensPart n d s condition t → Inside n d t (done c v) →
-      OpensPart n d s (body c (bytes v.rest)) v
-  a_branch : {n d : ℕ} {s t : State} {u : Text} → skipped n s ≡ rest u → ahead n d (at s u) ≡ seen.absent_branch t →
-      OpensPart n d s first t
-  behind_branch : {n d : ℕ} {a : Tree} {s t v : State} {u : Text} → OpensPart n d s first t →
-      Branch n (d + 1) t (done a v) → strip bar v.rest ≡ Some u → OpensPart n d s (second a) (at v u)
+pub data OpensPart : ℕ → State → OpenPart → State → Type 0 where
+  a_group : {d : ℕ} {h : Head} {s t : State} {u : Text} → skipped s ≡ rest u →
+      ahead d (at s u) ≡ seen.with_head h t → OpensPart d s (group h (reach_of u)) t
+  a_condition : {d : ℕ} {s t : State} {u : Text} → skipped s ≡ rest u → ahead d (at s u) ≡ seen.condition t →
+      OpensPart d s condition t
+  a_body : {d : ℕ} {c : Tree} {s t : State} {u : Text} → skipped s ≡ rest u → ahead d (at s u) ≡ seen.body c t →
+      OpensPart d s (body c (bytes t.rest)) t
+  behind_condition : {d : ℕ} {c : Tree} {s t v : State} → OpensPart d s condition t → Inside d t (done c v) →
+      OpensPart d s (body c (bytes v.rest)) v
+  a_branch : {d : ℕ} {s t : State} {u : Text} → skipped s ≡ rest u → ahead d (at s u) ≡ seen.absent_branch t →
+      OpensPart d s first t
+  behind_branch : {d : ℕ} {a : Tree} {s t v : State} {u : Text} → OpensPart d s first t →
+      Branch (d + 1) t (done a v) → strip bar v.rest ≡ Some u → OpensPart d s (second a) (at v u)
 
 -- the body of a conditional is wanting: it takes no byte, and the condition cannot do without
 abbrev pub lacks_body : OpenPart → State → Bool
@@ -111,10 +111,10 @@ goes_on condition = true
 goes_on _ = false
 
 -- what comes out where what is open ends with the tree r at s
-abbrev pub ended_part : ℕ → OpenPart → Tree → State → Outcome Tree
-ended_part n p r s =
-    if lacks_body p s then faulted (body_wanting n s.rest)
-    else closed n (node_of_part p r) s
+abbrev pub ended_part : OpenPart → Tree → State → Outcome Tree
+ended_part p r s =
+    if lacks_body p s then faulted (body_wanting s.rest)
+    else closed (node_of_part p r) s
 
 -- a group is opened only where one may open inside d groups
 abbrev pub OpensBelow : Step → ℕ → Type 0
@@ -122,9 +122,9 @@ OpensBelow (step.Piece piece) d = ⊤
 OpensBelow (step.Open opener) d = d + 1 < max_depth
 
 -- a step from s reads a piece, or opens a part of one, and ends at t
-abbrev pub IsStep : ℕ → ℕ → State → Step → State → Type 0
-IsStep n d s (step.Piece piece) t = Piece n d s (done (view piece) t)
-IsStep n d s (step.Open opener) t = OpensPart n d s (part_of opener) t
+abbrev pub IsStep : ℕ → State → Step → State → Type 0
+IsStep d s (step.Piece piece) t = Piece d s (done (view piece) t)
+IsStep d s (step.Open opener) t = OpensPart d s (part_of opener) t
 
 -- the stack, the innermost group and all trees behind a step: a tree more, or a group more in which nothing is read
 abbrev pub Takes : Step → List Frame → Frame → List Tree → List Frame → Frame → List Tree → Type 0
@@ -134,8 +134,8 @@ Takes (step.Open opener) fs f ts gs g us =
     (g.opener ≡ opener) × (g.branches ≡ length ts) × (g.pieces ≡ length ts)
 
 -- a step from s to t, or the fault of a piece there
-abbrev pub GivesStep : Result Step Error → ℕ → ℕ → State → State → Type 0
-GivesStep r n d s t = MatchResult r (λ p. IsStep n d s p t) (λ e. IsErrorAmong e (Piece n d s))
+abbrev pub GivesStep : Result Step Failure → ℕ → State → State → Type 0
+GivesStep r d s t = MatchResult r (λ p. IsStep d s p t) (λ e. IsErrorAmong e (Piece d s))
 
 -- the step reads a piece, to this outcome
 abbrev pub IsPiece : Step → State → Outcome Tree → Type 0
@@ -143,16 +143,16 @@ IsPiece (step.Piece piece) t o = o ≡ done (view piece) t
 IsPiece (step.Open opener) t o = ⊥
 
 -- a step that reads a piece, up to t, or a fault, is the outcome
-abbrev pub GivesPiece : Result Step Error → Outcome Tree → State → Type 0
+abbrev pub GivesPiece : Result Step Failure → Outcome Tree → State → Type 0
 GivesPiece r o t = MatchResult r (λ p. IsPiece p t o) (λ e. IsErrorAmong e (λ q. o ≡ q))
 
 -- what is read of a part that begins at s: branches, and the pieces of the branch that is open at t
-pub record ReadSoFar (n d : ℕ) (p : OpenPart) (s : State) (branches pieces : List Tree) (t : State) : Type 0 where
+pub record ReadSoFar (d : ℕ) (p : OpenPart) (s : State) (branches pieces : List Tree) (t : State) : Type 0 where
   pub begin : State
   pub read : List Tree
   pub same : solid read ≡ pieces
-  pub branch : (o : Outcome (List Tree)) → Pieces n d t o → Pieces n d begin (trees_before read o)
-  pub all : (o : Outcome (List Tree)) → Branches n d begin o → Branches n d s (trees_before branches o)
+  pub branch : (o : Outcome (List Tree)) → Pieces d t o → Pieces d begin (trees_before read o)
+  pub all : (o : Outcome (List Tree)) → Branches d begin o → Branches d s (trees_before branches o)
   pub one : holds_one p ≡ true → (begin ≡ s) × (branches ≡ [])
 
 -- the piece in which the parts above the frame were opened began at the state
@@ -166,16 +166,16 @@ HoldsTrees f trees below branches pieces =
 
 -- the open groups of a text that begins at `start`, and the trees that they hold; what is read of the innermost begins
 -- at s, at depth d, and its own trees are not among these
-pub data OpenGroups (n : ℕ) (start : State) : List Frame → List Tree → OpenPart → ℕ → State → Type 0 where
-  outermost : OpenGroups n start [] [] top 0 start
+pub data OpenGroups (start : State) : List Frame → List Tree → OpenPart → ℕ → State → Type 0 where
+  outermost : OpenGroups start [] [] top 0 start
   inner : {d : ℕ} {s t v : State} {p : OpenPart} {all frames : List Frame} {trees below branches pieces : List Tree}
       (f : Frame) → all ≡ frames ++ f ∷ [] → HoldsTrees f trees below branches pieces →
-      OpenGroups n start frames below (part_of f.opener) d s → ReadSoFar n d (part_of f.opener) s branches pieces t →
-      Began f t → ends t.rest ≡ false → OpensPart n d t p v → OpenGroups n start all trees p (d + 1) v
+      OpenGroups start frames below (part_of f.opener) d s → ReadSoFar d (part_of f.opener) s branches pieces t →
+      Began f t → ends t.rest ≡ false → OpensPart d t p v → OpenGroups start all trees p (d + 1) v
 
 -- what is open is read of a text that begins at `start`, up to t: the frames, the trees that they hold, and the frame
 -- on top of them
-pub record Running (n : ℕ) (start : State) (stack : List Frame) (f : Frame) (trees : List Tree) (t : State) : Type 0
+pub record Running (start : State) (stack : List Frame) (f : Frame) (trees : List Tree) (t : State) : Type 0
   where
     pub depth : ℕ
     pub begin : State
@@ -184,9 +184,9 @@ pub record Running (n : ℕ) (start : State) (stack : List Frame) (f : Frame) (t
     pub pieces : List Tree
     pub is_depth : depth ≡ length stack
     pub holds : HoldsTrees f trees below branches pieces
-    pub levels : OpenGroups n start stack below (part_of f.opener) depth begin
-    pub reading : ReadSoFar n depth (part_of f.opener) begin branches pieces t
+    pub levels : OpenGroups start stack below (part_of f.opener) depth begin
+    pub reading : ReadSoFar depth (part_of f.opener) begin branches pieces t
 
 -- the same of what the loop holds
-abbrev pub IsReading : ℕ → State → Reading → Type 0
-IsReading n start r = Running n start r.stack.items r.frame (views r.trees.items) (state r.here)
+abbrev pub IsReading : State → Reading → Type 0
+IsReading start r = Running start r.stack.items r.frame (views r.trees.items) (state r.here)

@@ -2,8 +2,9 @@
 use Rattle.std.specs.Prelude.{◌≡◌, ℕ, ◌||◌, Bool, true, false, List, [], ◌∷◌, Option, Some, None, chars}
 use Rattle.std.specs.Prelude.{Result, MatchResult}
 use Rattle.fancy_lex.specs.Fault.{Fault}
+use Rattle.fancy_lex.specs.Text.{bytes, place_at}
 use Rattle.fancy_lex.specs.NameViews.{view_target}
-use Rattle.fancy_lex.specs.declared.error.Error.{Error}
+use Rattle.fancy_lex.specs.declared.error.Failure.{Failure}
 use Rattle.fancy_lex.specs.declared.name.CaptureGroupTarget.{CaptureGroupTarget}
 use Rattle.fancy_parts.specs.Groups.{Groups, groups_of, meaning_of, role_of}
 use Rattle.fancy_parts.specs.Meaning.{fault_or}
@@ -42,7 +43,7 @@ progress_of p = record {
 }
 
 -- the error that a walk noted where it stopped is this fault, or that memory ran out
-abbrev pub IsErrorNoted : Option Error → Option Fault → Type 0
+abbrev pub IsErrorNoted : Option Failure → Option Fault → Type 0
 IsErrorNoted None o = ⊥
 IsErrorNoted (Some e) o = IsErrorIn e o
 
@@ -86,7 +87,7 @@ noted_one k p place role target =
 -- the walk with what the form of a reference says noted
 abbrev pub form_noted : Known → Progress → ℕ → Role → CaptureGroupTarget → walk.Progress
 form_noted k p place role target = record (progress_of p) {
-  numeric = p.numeric || is_numeric (chars k.pattern.now) place (role_of role) (view_target target);
+  numeric = p.numeric || is_numeric (chars k.pattern.now) (place_at (bytes (chars k.pattern.now)) place) (role_of role) (view_target target);
   calls = p.calls || spec.is_call (role_of role);
   self_recursive = p.self_recursive || spec.is_call_of_all (role_of role) (view_target target);
 }

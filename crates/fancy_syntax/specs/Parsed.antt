@@ -1,6 +1,6 @@
 -- How the answers of the parser's readers stand to the grammar's.
 use Rattle.std.specs.Prelude.{◌≡◌, ℕ, ◌+◌, ◌<◌, List, option_map, chars, length, Result, MatchResult, ⊤}
-use Rattle.fancy_lex.specs.declared.error.Error.{Error}
+use Rattle.fancy_lex.specs.declared.error.Failure.{Failure}
 use Rattle.fancy_grammar.specs.Ahead.{Ahead, nothing, leaf, with_head, condition, body, absent_branch}
 use Rattle.fancy_grammar.specs.Depth.{max_depth}
 use Rattle.fancy_grammar.specs.Head as head
@@ -33,11 +33,11 @@ head_of code.Define = head.define
 head_of code.Repeater = head.repeater
 
 -- a tree and the state behind it, or the fault, is an outcome
-abbrev pub IsTreeRead : Result (Expr × State) Error → (Outcome Tree → Type 0) → Type 0
+abbrev pub IsTreeRead : Result (Expr × State) Failure → (Outcome Tree → Type 0) → Type 0
 IsTreeRead r P = MatchResult r (λ found. P (done (view found.0) (state found.1))) (λ e. IsErrorAmong e P)
 
 -- the tree and the state come to these, or a fault is found: the outcome
-abbrev pub Turns : Result (Unit {0}) Error → Tree → spec.State → Outcome Tree → Type 0
+abbrev pub Turns : Result (Unit {0}) Failure → Tree → spec.State → Outcome Tree → Type 0
 Turns r t s o = MatchResult r (λ _. o ≡ done t s) (λ e. IsErrorAmong e (λ q. o ≡ q))
 
 -- the marks behind the counts of a quantifier
@@ -45,11 +45,11 @@ abbrev pub suffix_of : Suffix → quantified.Suffix
 suffix_of m = record { lazy = m.lazy; possessive = m.possessive }
 
 -- such marks are read, up to the state, or a fault is found: the outcome
-abbrev pub GivesSuffix : Result Suffix Error → spec.State → Outcome quantified.Suffix → Type 0
+abbrev pub GivesSuffix : Result Suffix Failure → spec.State → Outcome quantified.Suffix → Type 0
 GivesSuffix r s o = MatchResult r (λ m. o ≡ done (suffix_of m) s) (λ e. IsErrorAmong e (λ q. o ≡ q))
 
 -- the tree of an expression is read, up to the state, or a fault is found: the outcome
-abbrev pub GivesTree : Result Expr Error → spec.State → Outcome Tree → Type 0
+abbrev pub GivesTree : Result Expr Failure → spec.State → Outcome Tree → Type 0
 GivesTree r s o = MatchResult r (λ e. o ≡ done (view e) s) (λ e. IsErrorAmong e (λ q. o ≡ q))
 
 -- what stands ahead, where the parser comes to the state
@@ -62,7 +62,7 @@ view_ahead (Body c) s = body (view c.value) s
 view_ahead AbsentBranch s = absent_branch s
 
 -- what the parser sees ahead is what stands there
-abbrev pub Sees : Result declared.Ahead Error → spec.State → Ahead → Type 0
+abbrev pub Sees : Result declared.Ahead Failure → spec.State → Ahead → Type 0
 Sees r s k = MatchResult r (λ a. k ≡ view_ahead a s) (λ e. IsErrorAmong e (λ o. k ≡ leaf o))
 
 -- where nothing is seen, the state is the same

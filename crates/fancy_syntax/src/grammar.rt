@@ -1,5 +1,5 @@
 //! The grammar: a loop over a stack of open groups reads the raw tree of a text.
-ghost use Rattle.std.specs.Prelude.{◌<◌, ◌≤◌, ◌^◌, length, chars, IfOk};
+ghost use Rattle.std.specs.Prelude.{◌<◌, ◌≤◌, length, chars, IfOk};
 ghost use Rattle.fancy_grammar.specs.Grammar as spec;
 ghost use Rattle.fancy_syntax.specs.Parsed.{state, IsTreeRead};
 ghost use Rattle.fancy_syntax.specs.Reads.{ReadsWhole};
@@ -22,45 +22,42 @@ use crate::expr::Expr;
 use crate::grammar::fault::general;
 use crate::grammar::reading::Reading;
 use crate::grammar::state::{State, is_end};
-use fancy_lex::error::Error;
+use fancy_lex::error::Failure;
 use fancy_lex::flags::Flags;
-use fancy_lex::text::{after, next, place};
+use fancy_lex::text::{after, next, reach};
 use std::alloc::Global;
 
 /// Reads a whole text: its raw tree, in which a capturing group is an AstNode with the place of its parenthesis.
 /// Else the fault of the text, or OutOfMemory.
-pub(crate) fn parse(alloc: Global, text: &str, flags: Flags) -> Result<Expr, Error>
+pub(crate) fn parse(alloc: Global, text: &str, flags: Flags) -> Result<Expr, Failure>
     ensures reads { ReadsWhole result flags (chars text.now) }
 {
-    let end = text.len();
-    let (tree, here) = alternation(alloc, State { flags, rest: text }, end)?;
+    let (tree, here) = alternation(alloc, State { flags, rest: text })?;
     match next(here.rest) {
         None => Ok(tree),
         Some(_) => {
             drop(tree);
-            Err(general(alloc, "end of string not reached", place(here.rest, end)))
+            Err(general(alloc, "end of string not reached", reach(here.rest)))
         }
     }
 }
 
 /// Reads branches with bars between, up to where the outermost ends.
-fn alternation<'a>(alloc: Global, start: State<'a>, end: usize) -> Result<(Expr, State<'a>), Error>
-    requires within { length start.rest.now ≤ end }
-    requires end { end < 2 ^ 63 }
-    ensures value { IsTreeRead result (spec.Alternation end 0 (state start.entry)) }
+fn alternation<'a>(alloc: Global, start: State<'a>) -> Result<(Expr, State<'a>), Failure>
+    ensures value { IsTreeRead result (spec.Alternation 0 (state start.entry)) }
     ensures within { IfOk result (λ p. length p.1.rest.now ≤ length start.entry.rest.now) }
 {
     let mut reading = Reading::new(alloc, start)?;
     loop {
-        if reading.add_leaf(alloc, end)? {
+        if reading.add_leaf(alloc)? {
             continue;
         }
         let rest = reading.here.rest;
         if !is_end(rest) {
-            reading.step(alloc, end)?;
+            reading.step(alloc)?;
         } else if let Some(behind) = after(rest, '|') {
-            reading.bar(alloc, behind, end)?;
-        } else if let Some(tree) = reading.close(alloc, end)? {
+            reading.bar(alloc, behind)?;
+        } else if let Some(tree) = reading.close(alloc)? {
             return Ok((tree, reading.here));
         }
     }

@@ -1,6 +1,7 @@
 //! From a raw tree to the one that is answered: groups get their numbers, and references what they mean.
-ghost use Rattle.std.specs.Prelude.{◌≡◌, ◌<◌, ◌^◌, ◌&&◌, chars, length, IfOk, IfErr, None};
+ghost use Rattle.std.specs.Prelude.{◌≡◌, ◌+◌, ◌<◌, ◌^◌, ◌&&◌, chars, length, IfOk, IfErr, None};
 ghost use Rattle.std.specs.List.{list_any};
+ghost use Rattle.fancy_lex.specs.Text.{bytes};
 ghost use Rattle.fancy_parts.specs.Groups.{groups_of};
 ghost use Rattle.fancy_parts.specs.Ranks.{numbered_openings_in, is_named, named_groups};
 ghost use Rattle.fancy_grammar.specs.Items.{items, openings};
@@ -8,7 +9,7 @@ ghost use Rattle.fancy_grammar.specs.Marks.{marks};
 ghost use Rattle.fancy_grammar.specs.Errors.{IsErrorIn};
 ghost use Rattle.fancy_syntax.specs.Answer.{marks_of};
 ghost use Rattle.fancy_syntax.specs.Notes.{known_of, progress_of, marks_found, has_items};
-ghost use Rattle.fancy_grammar.specs.Ordered.{AscendingPlaces};
+ghost use Rattle.fancy_grammar.specs.Ordered.{DescendingReaches};
 ghost use Rattle.fancy_grammar.specs.Resolved.{resolved, fault_of};
 ghost use Rattle.fancy_grammar.specs.Walk.{progress_after, nothing_noted, rebuilt};
 ghost use Rattle.fancy_syntax.specs.View.{view};
@@ -22,22 +23,27 @@ use crate::resolve::notes::{Known, Progress};
 use crate::resolve::rewrite::rewrite;
 use crate::resolve::survey::{Found, survey};
 use crate::tree::ExprTree;
-use fancy_lex::error::{Error, Result};
+use fancy_lex::error::Failure;
 use fancy_lex::flags::Flags;
 use fancy_parts::ranks::Groups;
 use std::alloc::{AllocError, Global};
 
 /// The raw tree of the pattern resolved in its place, with its marks, or the first fault of its references.
-pub(crate) fn resolve(alloc: Global, raw: Expr, pattern: &str, flags: Flags) -> Result<ExprTree>
-    requires { AscendingPlaces 0 (length pattern.now) (items (view raw)) }
-    ensures tree { IfOk result (λ t. view t.expr ≡ resolved flags (view raw)) }
+pub(crate) fn resolve(
+    alloc: Global,
+    raw: Expr,
+    pattern: &str,
+    flags: Flags,
+) -> Result<ExprTree, Failure>
+    requires { DescendingReaches (length pattern.now + 2) 2 (items (view raw)) }
+    ensures tree { IfOk result (λ t. view t.expr ≡ resolved flags (bytes (chars pattern.now)) (view raw)) }
     ensures marks { IfOk result (λ t. marks_of t ≡ marks flags (chars pattern.now) (view raw)) }
     ensures no_fault { IfOk result (λ _. fault_of flags (view raw) ≡ None) }
     ensures fault { IfErr result (λ e. IsErrorIn e (fault_of flags (view raw))) }
 {
     let Ok((named, found)) = find_groups(alloc, &raw, flags.ignore_numbered_groups) else {
         drop(raw);
-        return Err(Error::OutOfMemory);
+        return Err(Failure::OutOfMemory);
     };
     let Found { groups, met } = found;
     let known = Known {
@@ -86,7 +92,7 @@ fn answer(expr: Expr, named: bool, groups: Groups, progress: Progress) -> ExprTr
 
 /// Resolves the tree in its place, and answers what was noted on the way, or the first fault. A tree where nothing was
 /// met is not walked.
-fn walk(alloc: Global, tree: &mut Expr, known: &Known, met: bool) -> Result<Progress>
+fn walk(alloc: Global, tree: &mut Expr, known: &Known, met: bool) -> Result<Progress, Failure>
     requires room { length (openings (view tree.old)) < 2 ^ 63 }
     requires met { met ≡ has_items (items (view tree.old)) }
     ensures tree { IfOk result (λ _. view tree.new ≡ rebuilt (known_of known.now) nothing_noted (view tree.old)) }
@@ -105,11 +111,7 @@ fn walk(alloc: Global, tree: &mut Expr, known: &Known, met: bool) -> Result<Prog
 }
 
 /// The groups that have a number, and whether only those with a name have one, which the flag may ask for.
-fn find_groups(
-    alloc: Global,
-    tree: &Expr,
-    ignore: bool,
-) -> std::result::Result<(bool, Found), AllocError>
+fn find_groups(alloc: Global, tree: &Expr, ignore: bool) -> Result<(bool, Found), AllocError>
     requires { length (openings (view tree.now)) < 2 ^ 63 }
     ensures named { IfOk result (λ p. p.0 ≡ (ignore && list_any is_named (openings (view tree.now)))) }
     ensures total { IfOk result (λ p. p.1.groups.total ≡ length (numbered_openings_in p.0 (openings (view tree.now)))) }

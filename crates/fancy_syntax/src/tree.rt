@@ -1,6 +1,8 @@
 //! Patterns read whole.
 ghost use Rattle.std.specs.Prelude.{◌≡◌, chars, length, IfOk, IfErr};
+ghost use Rattle.fancy_lex.specs.ErrorViews.{error_in};
 ghost use Rattle.fancy_lex.specs.Flags.{flags_of, unicode_alone};
+ghost use Rattle.fancy_lex.specs.Text.{bytes};
 ghost use Rattle.fancy_grammar.specs.Answer.{IsTreeOf, IsFaultOf, IsOnlyFault, IsPlacedIn};
 ghost use Rattle.fancy_syntax.specs.Answer.{marks_of};
 ghost use Rattle.fancy_grammar.specs.Answered.{IsAnsweredWith, HasGroupsOf, IsSmall};
@@ -10,7 +12,7 @@ ghost use Rattle.fancy_syntax.specs.View.{view};
 use crate::expr::Expr;
 use crate::grammar::parse;
 use crate::resolve::resolve;
-use fancy_lex::error::Result;
+use fancy_lex::error::{Failure, Result};
 use fancy_lex::flags::{FLAG_UNICODE, Flags};
 use std::alloc::{AllocError, Global};
 use std::collections::{BTreeMap, BTreeSet};
@@ -78,13 +80,15 @@ impl Expr {
         ensures bounds { IfOk result (λ t. IsSmall (view t.expr) (length re.now)) }
         ensures answered { IfOk result (λ t. IsAnsweredWith (view t.expr) (marks_of t)) }
         ensures groups { IfOk result (λ t. (r : _) → DerivesTree (flags_of flags) (chars re.now) r →
-            HasGroupsOf (flags_of flags) r (view t.expr)) }
+            HasGroupsOf (flags_of flags) (bytes (chars re.now)) r (view t.expr)) }
         ensures fault { IfErr result (λ e. IsOnlyFault e (flags_of flags) (chars re.now)) }
         ensures place { IfErr result (λ e. IsPlacedIn e re.now) }
     {
         let flags = Flags::from_bits(flags);
-        let raw = parse(alloc, re, flags)?;
-        resolve(alloc, raw, re, flags)
+        match read(alloc, re, flags) {
+            Ok(tree) => Ok(tree),
+            Err(failure) => Err(failure.in_pattern(re.len())),
+        }
     }
 
     /// Reads the pattern under `FLAG_UNICODE` alone, as `parse_tree_with_flags` does, and with the same errors.
@@ -101,10 +105,20 @@ impl Expr {
         ensures bounds { IfOk result (λ t. IsSmall (view t.expr) (length re.now)) }
         ensures answered { IfOk result (λ t. IsAnsweredWith (view t.expr) (marks_of t)) }
         ensures groups { IfOk result (λ t. (r : _) → DerivesTree unicode_alone (chars re.now) r →
-            HasGroupsOf unicode_alone r (view t.expr)) }
+            HasGroupsOf unicode_alone (bytes (chars re.now)) r (view t.expr)) }
         ensures fault { IfErr result (λ e. IsOnlyFault e unicode_alone (chars re.now)) }
         ensures place { IfErr result (λ e. IsPlacedIn e re.now) }
     {
         Expr::parse_tree_with_flags(alloc, re, FLAG_UNICODE)
     }
+}
+
+/// Reads the pattern: its tree, or its fault with the reach of that.
+fn read(alloc: Global, re: &str, flags: Flags) -> std::result::Result<ExprTree, Failure>
+    ensures found { IfOk result (λ t. IsTreeOf flags (chars re.now) (view t.expr) (marks_of t)) }
+    ensures fault { IfErr result (λ e. IsOnlyFault (error_in (bytes (chars re.now)) e) flags (chars re.now)) }
+    ensures place { IfErr result (λ e. IsPlacedIn (error_in (bytes (chars re.now)) e) re.now) }
+{
+    let raw = parse(alloc, re, flags)?;
+    resolve(alloc, raw, re, flags)
 }

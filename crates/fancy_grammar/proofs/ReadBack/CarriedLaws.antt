@@ -19,7 +19,7 @@ use Rattle.fancy_lex.specs.LayoutSteps.{layout}
 use Rattle.fancy_lex.specs.Property.{Property, read_property, property_text}
 use Rattle.fancy_lex.specs.Reading.{Reading, gives, fails, fault_at, choose, layout_reading, ◌>=>◌}
 use Rattle.fancy_lex.specs.Referred.{Reference}
-use Rattle.fancy_lex.specs.Text.{Text, bytes, place_of, strip}
+use Rattle.fancy_lex.specs.Text.{Text, bytes, reach_of, strip}
 use Rattle.fancy_lex.specs.declared.flags.Flags.{Flags}
 use Rattle.fancy_lex.proofs.ClassLaws.{class_head_frame}
 use Rattle.fancy_lex.proofs.EscapeFrame.{StaysSome, read_stays, escape_frame}
@@ -42,10 +42,10 @@ too_then : {A : Type 0} (o : Reading A) (k k' : A → Text → Reading Escape) �
 too_then (gives a u) k k' h = h a u
 too_then (fails e) k k' h = tt
 
-number_escape_too : (n p : ℕ) (t : Text) (other : Reading Escape) →
-    Too (number_escape n (unicode_flags false) true p t) other
+number_escape_too : (p : ℕ) (t : Text) (other : Reading Escape) →
+    Too (number_escape (unicode_flags false) true p t) other
 unfolding number_escape
-number_escape_too n p t other = by_number (group_number n t)
+number_escape_too p t other = by_number (group_number t)
   where
     by_number : (o : Reading ℕ) → Too (o >=> (λ k u. fault_at p invalid_class)) other
     by_number (gives k u) = tt
@@ -94,24 +94,24 @@ coded_too true i w h v t =
     rw (never (w == 2) (nat_le 0x80 v) (nat_le v 0xFF))
     (both_too (((w == 2) && true) && nat_le 0x80 v && nat_le v 0xFF) (is_scalar v) _ _ _ t _ (byte_scalar v _))
 
-hex_too : (u i : Bool) (n w : ℕ) (t : Text) → Too (hex n (unicode_flags false) w t) (hex n (case_flags u i) w t)
+hex_too : (u i : Bool) (w : ℕ) (t : Text) → Too (hex (unicode_flags false) w t) (hex (case_flags u i) w t)
 unfolding hex
-hex_too u i n w t =
-    too_then (layout_reading (layout n false t)) _ _
-    (λ _ v. too_then (value n false (place_of n v) w v) _ _ (λ a r. coded_too u i w (place_of n v) a r))
+hex_too u i w t =
+    too_then (layout_reading (layout false t)) _ _
+    (λ _ v. too_then (value false (reach_of v) w v) _ _ (λ a r. coded_too u i w (reach_of v) a r))
 
-escape_too : (u i : Bool) (n p : ℕ) (t : Text) →
-    Too (escape n (unicode_flags false) true p t) (escape n (case_flags u i) true p t)
+escape_too : (u i : Bool) (p : ℕ) (t : Text) →
+    Too (escape (unicode_flags false) true p t) (escape (case_flags u i) true p t)
 unfolding escape in_class
-escape_too u i n p [] = tt
-escape_too u i n p (c ∷ t) =
-    too_if (is_ascii_digit c) _ _ _ _ (number_escape_too n p (c ∷ t) _)
+escape_too u i p [] = tt
+escape_too u i p (c ∷ t) =
+    too_if (is_ascii_digit c) _ _ _ _ (number_escape_too p (c ∷ t) _)
     (too_if (c ∈ "dDsSwW") _ _ _ _ (_, refl)
     (too_if (c ∈ "h") _ _ _ _ (_, refl)
     (too_if (c ∈ "H") _ _ _ _ (_, refl)
-    (too_if (c ∈ "x") _ _ _ _ (hex_too u i n 2 t)
-    (too_if (c ∈ "u") _ _ _ _ (hex_too u i n 4 t)
-    (too_if (c ∈ "U") _ _ _ _ (hex_too u i n 8 t)
+    (too_if (c ∈ "x") _ _ _ _ (hex_too u i 2 t)
+    (too_if (c ∈ "u") _ _ _ _ (hex_too u i 4 t)
+    (too_if (c ∈ "U") _ _ _ _ (hex_too u i 8 t)
     (too_if (c ∈ "pP") _ _ _ _ (property_too u i true p c t)
     (too_if (c ∈ "a") _ _ _ _ (_, refl)
     (too_if (c ∈ "f") _ _ _ _ (_, refl)
@@ -127,28 +127,28 @@ escape_too u i n p (c ∷ t) =
 -- ---- a class
 
 -- where the reading gives something, the others, with k steps or more, give one thing, with what follows it left too
-abbrev Carries : ℕ → Reading Text → (ℕ → ℕ → Text → Reading Text) → Type 0
-Carries k (gives w v) there = (x : Text) × ((j m : ℕ) (s : Text) → k ≤ j → there j m s ≡ gives x (v ++ s))
+abbrev Carries : ℕ → Reading Text → (ℕ → Text → Reading Text) → Type 0
+Carries k (gives w v) there = (x : Text) × ((j : ℕ) (s : Text) → k ≤ j → there j s ≡ gives x (v ++ s))
 Carries k (fails e) there = Unit {0}
 
-carry_if : (k : ℕ) (b : Bool) (p q : Reading Text) (p' q' : ℕ → ℕ → Text → Reading Text) → Carries k p p' →
+carry_if : (k : ℕ) (b : Bool) (p q : Reading Text) (p' q' : ℕ → Text → Reading Text) → Carries k p p' →
     Carries k q q'
-    → Carries k (if b then p else q) (λ j m s. if b then p' j m s else q' j m s)
+    → Carries k (if b then p else q) (λ j s. if b then p' j s else q' j s)
 carry_if k true p q p' q' g h = g
 carry_if k false p q p' q' g h = h
 
-carry_same : (k : ℕ) (o : Reading Text) (there here : ℕ → ℕ → Text → Reading Text) →
-    ((j m : ℕ) (s : Text) → here j m s ≡ there j m s) → Carries k o there → Carries k o here
-carry_same k (gives w v) there here e (x, h) = (x, λ j m s l. e j m s ∙ h j m s l)
+carry_same : (k : ℕ) (o : Reading Text) (there here : ℕ → Text → Reading Text) →
+    ((j : ℕ) (s : Text) → here j s ≡ there j s) → Carries k o there → Carries k o here
+carry_same k (gives w v) there here e (x, h) = (x, λ j s l. e j s ∙ h j s l)
 carry_same k (fails z) there here e h = tt
 
 -- a step more
-carry_step : (k : ℕ) (o : Reading Text) (there here : ℕ → ℕ → Text → Reading Text) →
-    ((j m : ℕ) (s : Text) → here (suc j) m s ≡ there j m s) → Carries k o there → Carries (suc k) o here
+carry_step : (k : ℕ) (o : Reading Text) (there here : ℕ → Text → Reading Text) →
+    ((j : ℕ) (s : Text) → here (suc j) s ≡ there j s) → Carries k o there → Carries (suc k) o here
 carry_step k (gives w v) there here e (x, h) = (x, late) where
-  late : (j m : ℕ) (s : Text) → suc k ≤ j → here j m s ≡ gives x (v ++ s)
-  late zero m s l = absurd (omega arith)
-  late (suc j) m s l = e j m s ∙ h j m s (omega arith)
+  late : (j : ℕ) (s : Text) → suc k ≤ j → here j s ≡ gives x (v ++ s)
+  late zero s l = absurd (omega arith)
+  late (suc j) s l = e j s ∙ h j s (omega arith)
 carry_step k (fails z) there here e h = tt
 
 -- what is left hangs not on what is written
@@ -174,58 +174,58 @@ opening_left out out' t =
 rest_is : (a w r v : Text) → gives a r ≡ gives w v → r ≡ v
 rest_is a w r v e = cc
 
-module _ (u i : Bool) (n : ℕ) where
+module _ (u i : Bool) where
   abbrev ItemsCarry : ℕ → Type 0
   ItemsCarry k = (depth : ℕ) (seen seen' : Bool) (out out' t : Text)
-      → Carries k (class_from n (unicode_flags false) k depth seen out t)
-      (λ j m s. class_from m (case_flags u i) j depth seen' out' (t ++ s))
+      → Carries k (class_from (unicode_flags false) k depth seen out t)
+      (λ j s. class_from (case_flags u i) j depth seen' out' (t ++ s))
 
-  end_carries : (k depth : ℕ) (seen : Bool) (out : Text) (there : ℕ → ℕ → Text → Reading Text) →
-      Carries k (class_from n (unicode_flags false) k depth seen out []) there
+  end_carries : (k depth : ℕ) (seen : Bool) (out : Text) (there : ℕ → Text → Reading Text) →
+      Carries k (class_from (unicode_flags false) k depth seen out []) there
   unfolding class_from
   end_carries zero depth seen out there = tt
   end_carries (suc k) depth seen out there = tt
 
   -- behind an opening bracket
   open_carries : (k : ℕ) → ItemsCarry k → (depth : ℕ) (seen seen' : Bool) (out out' t : Text)
-      → Carries k (class_from n (unicode_flags false) k depth seen (class_head out t).0 (class_head out t).1)
-      (λ j m s. class_from m (case_flags u i) j depth seen' (class_head out' (t ++ s)).0
+      → Carries k (class_from (unicode_flags false) k depth seen (class_head out t).0 (class_head out t).1)
+      (λ j s. class_from (case_flags u i) j depth seen' (class_head out' (t ++ s)).0
       (class_head out' (t ++ s)).1)
   open_carries k more depth seen seen' out out' t = by_left (class_head out t).1 refl where
     by_left : (v : Text) → (class_head out t).1 ≡ v →
-        Carries k (class_from n (unicode_flags false) k depth seen (class_head out t).0 v)
-        (λ j m s. class_from m (case_flags u i) j depth seen' (class_head out' (t ++ s)).0
+        Carries k (class_from (unicode_flags false) k depth seen (class_head out t).0 v)
+        (λ j s. class_from (case_flags u i) j depth seen' (class_head out' (t ++ s)).0
         (class_head out' (t ++ s)).1)
     by_left [] e = end_carries k depth seen (class_head out t).0 _
     by_left (c ∷ v) e =
         let left = sym (opening_left out out' t) ∙ e in
-        carry_same k _ (λ j m s. class_from m (case_flags u i) j depth seen' (class_head out' t).0
+        carry_same k _ (λ j s. class_from (case_flags u i) j depth seen' (class_head out' t).0
         ((c ∷ v) ++ s)) _
-        (λ j m s. ap (λ (p : Text × Text). class_from m (case_flags u i) j depth seen' p.0 p.1)
+        (λ j s. ap (λ (p : Text × Text). class_from (case_flags u i) j depth seen' p.0 p.1)
         (class_head_frame out' t s c v left)
-        ∙ ap (λ (r : Text). class_from m (case_flags u i) j depth seen' (class_head out' t).0 (r ++ s)) left)
+        ∙ ap (λ (r : Text). class_from (case_flags u i) j depth seen' (class_head out' t).0 (r ++ s)) left)
         (more depth seen seen' (class_head out t).0 (class_head out' t).0 (c ∷ v))
 
   inner_carries : (k : ℕ) → ItemsCarry k →
-      (depth : ℕ) (seen seen' : Bool) (out out' t : Text) (p : ℕ) (q : ℕ → Text → ℕ)
-      → Carries k (escape n (unicode_flags false) true p t >=>
-      (λ e v. class_from n (unicode_flags false) k depth (seen || is_negated e) (out ++ escape_in_class seen e) v))
-      (λ j m s. escape m (case_flags u i) true (q m s) (t ++ s) >=>
-      (λ e v. class_from m (case_flags u i) j depth (seen' || is_negated e) (out' ++ escape_in_class seen' e) v))
+      (depth : ℕ) (seen seen' : Bool) (out out' t : Text) (p : ℕ) (q : Text → ℕ)
+      → Carries k (escape (unicode_flags false) true p t >=>
+      (λ e v. class_from (unicode_flags false) k depth (seen || is_negated e) (out ++ escape_in_class seen e) v))
+      (λ j s. escape (case_flags u i) true (q s) (t ++ s) >=>
+      (λ e v. class_from (case_flags u i) j depth (seen' || is_negated e) (out' ++ escape_in_class seen' e) v))
   inner_carries k more depth seen seen' out out' t p q =
-      by_escape (escape n (unicode_flags false) true p t) (escape_too u i n p t) where
-        by_escape : (o : Reading Escape) → Too o (escape n (case_flags u i) true p t)
+      by_escape (escape (unicode_flags false) true p t) (escape_too u i p t) where
+        by_escape : (o : Reading Escape) → Too o (escape (case_flags u i) true p t)
             → Carries k (o >=>
-            (λ e v. class_from n (unicode_flags false) k depth (seen || is_negated e)
+            (λ e v. class_from (unicode_flags false) k depth (seen || is_negated e)
             (out ++ escape_in_class seen e) v))
-            (λ j m s. escape m (case_flags u i) true (q m s) (t ++ s) >=>
-            (λ e v. class_from m (case_flags u i) j depth (seen' || is_negated e)
+            (λ j s. escape (case_flags u i) true (q s) (t ++ s) >=>
+            (λ e v. class_from (case_flags u i) j depth (seen' || is_negated e)
             (out' ++ escape_in_class seen' e) v))
         by_escape (gives e v) (x, h) =
-            carry_same k _ (λ j m s. class_from m (case_flags u i) j depth (seen' || is_negated x)
+            carry_same k _ (λ j s. class_from (case_flags u i) j depth (seen' || is_negated x)
             (out' ++ escape_in_class seen' x) (v ++ s)) _
-            (λ j m s. ap (λ o. o >=> (λ e v. class_from m (case_flags u i) j depth (seen' || is_negated e)
-            (out' ++ escape_in_class seen' e) v)) (escape_frame n m (case_flags u i) p (q m s) t v s x h))
+            (λ j s. ap (λ o. o >=> (λ e v. class_from (case_flags u i) j depth (seen' || is_negated e)
+            (out' ++ escape_in_class seen' e) v)) (escape_frame (case_flags u i) p (q s) t v s x h))
             (more depth (seen || is_negated e) (seen' || is_negated x) (out ++ escape_in_class seen e)
             (out' ++ escape_in_class seen' x) v)
         by_escape (fails e) h = tt
@@ -237,40 +237,40 @@ module _ (u i : Bool) (n : ℕ) where
   items_carry (suc k) depth seen seen' out out' (c ∷ t) =
       let more = items_carry k in
       carry_step k _
-      (λ j m s.
-      if c == backslash then escape m (case_flags u i) true (place_of m (c ∷ (t ++ s))) (t ++ s) >=>
-      (λ e v. class_from m (case_flags u i) j depth (seen' || is_negated e) (out' ++ escape_in_class seen' e) v)
-      else if c == open_bracket then class_from m (case_flags u i) j (depth + 1) seen'
+      (λ j s.
+      if c == backslash then escape (case_flags u i) true (reach_of (c ∷ (t ++ s))) (t ++ s) >=>
+      (λ e v. class_from (case_flags u i) j depth (seen' || is_negated e) (out' ++ escape_in_class seen' e) v)
+      else if c == open_bracket then class_from (case_flags u i) j (depth + 1) seen'
       (class_head out' (t ++ s)).0 (class_head out' (t ++ s)).1
       else if c == close_bracket
-      then (if depth == 0 then gives (out' ++ c ∷ []) (t ++ s) else class_from m (case_flags u i) j
+      then (if depth == 0 then gives (out' ++ c ∷ []) (t ++ s) else class_from (case_flags u i) j
       (depth - 1) seen' (out' ++ c ∷ []) (t ++ s))
-      else class_from m (case_flags u i) j depth seen' (out' ++ c ∷ []) (t ++ s))
-      _ (λ j m s. refl)
+      else class_from (case_flags u i) j depth seen' (out' ++ c ∷ []) (t ++ s))
+      _ (λ j s. refl)
       (carry_if k (c == backslash) _ _ _ _
-      (inner_carries k more depth seen seen' out out' t _ (λ m s. place_of m (c ∷ (t ++ s))))
+      (inner_carries k more depth seen seen' out out' t _ (λ s. reach_of (c ∷ (t ++ s))))
       (carry_if k (c == open_bracket) _ _ _ _ (open_carries k more (depth + 1) seen seen' out out' t)
       (carry_if k (c == close_bracket) _ _ _ _
-      (carry_if k (depth == 0) _ _ _ _ (out' ++ c ∷ [], λ j m s l. refl)
+      (carry_if k (depth == 0) _ _ _ _ (out' ++ c ∷ [], λ j s l. refl)
       (more (depth - 1) seen seen' (out ++ c ∷ []) (out' ++ c ∷ []) t))
       (more depth seen seen' (out ++ c ∷ []) (out' ++ c ∷ []) t))))
 
-  pub class_carries : (t w v : Text) → class n (unicode_flags false) t ≡ gives w v →
-      (x : Text) × ((m : ℕ) (s : Text) → class m (case_flags u i) (t ++ s) ≡ gives x (v ++ s))
+  pub class_carries : (t w v : Text) → class (unicode_flags false) t ≡ gives w v →
+      (x : Text) × ((s : Text) → class (case_flags u i) (t ++ s) ≡ gives x (v ++ s))
   unfolding class
   class_carries t w v e =
-      from (class n (unicode_flags false) t) e
+      from (class (unicode_flags false) t) e
       (open_carries (suc (bytes t)) (items_carry (suc (bytes t))) 0 false false [] [] t) where
         from : (o : Reading Text) → o ≡ gives w v
             → Carries (suc (bytes t)) o
-            (λ j m s. class_from m (case_flags u i) j 0 false (class_head [] (t ++ s)).0
+            (λ j s. class_from (case_flags u i) j 0 false (class_head [] (t ++ s)).0
             (class_head [] (t ++ s)).1)
-            → (x : Text) × ((m : ℕ) (s : Text) →
-            class_from m (case_flags u i) (suc (bytes (t ++ s))) 0 false (class_head [] (t ++ s)).0
+            → (x : Text) × ((s : Text) →
+            class_from (case_flags u i) (suc (bytes (t ++ s))) 0 false (class_head [] (t ++ s)).0
             (class_head [] (t ++ s)).1 ≡ gives x (v ++ s))
         from (gives a r) e (x, h) = (
           x,
-          λ m s. h (suc (bytes (t ++ s))) m s (omega (arith, bytes-append t s))
+          λ s. h (suc (bytes (t ++ s))) s (omega (arith, bytes-append t s))
               ∙ ap (λ z. gives x (z ++ s)) (rest_is a w r v e),
         )
         from (fails z) e h = absurd cc
@@ -278,21 +278,21 @@ module _ (u i : Bool) (n : ℕ) where
 -- ---- a class escape
 
 -- where the reading gives a Delegate, the others give one, with what follows behind what is left
-abbrev Keeps : Reading Escape → (ℕ → ℕ → Text → Reading Escape) → Type 0
+abbrev Keeps : Reading Escape → (ℕ → Text → Reading Escape) → Type 0
 Keeps (gives (delegate w c) u) there =
-    (x : Text) × (b : Bool) × ((m q : ℕ) (s : Text) → there m q s ≡ gives (delegate x b) (u ++ s))
+    (x : Text) × (b : Bool) × ((q : ℕ) (s : Text) → there q s ≡ gives (delegate x b) (u ++ s))
 Keeps _ there = Unit {0}
 
 abbrev pub NoDelegate : Reading Escape → Type 0
 NoDelegate (gives (delegate w c) u) = ⊥
 NoDelegate _ = Unit {0}
 
-keep_none : (o : Reading Escape) (there : ℕ → ℕ → Text → Reading Escape) → NoDelegate o → Keeps o there
+keep_none : (o : Reading Escape) (there : ℕ → Text → Reading Escape) → NoDelegate o → Keeps o there
 keep_none (gives (delegate w c) u) there h = absurd h
 keep_none _ there h = tt
 
-keep_if : (b : Bool) (p q : Reading Escape) (p' q' : ℕ → ℕ → Text → Reading Escape) → Keeps p p' → Keeps q q' →
-    Keeps (if b then p else q) (λ m r s. if b then p' m r s else q' m r s)
+keep_if : (b : Bool) (p q : Reading Escape) (p' q' : ℕ → Text → Reading Escape) → Keeps p p' → Keeps q q' →
+    Keeps (if b then p else q) (λ r s. if b then p' r s else q' r s)
 keep_if true p q p' q' g h = g
 keep_if false p q p' q' g h = h
 
@@ -320,33 +320,33 @@ coded_none f w h v t = by_tests (w == 2 && not f.unicode && nat_le 0x80 v && nat
   by_tests false true = tt
   by_tests false false = tt
 
-pub hex_none : (n : ℕ) (f : Flags) (w : ℕ) (t : Text) → NoDelegate (hex n f w t)
+pub hex_none : (f : Flags) (w : ℕ) (t : Text) → NoDelegate (hex f w t)
 unfolding hex
-hex_none n f w t =
-    none_then (layout_reading (layout n f.ignore_space t)) _
-    (λ _ v. none_then (value n f.ignore_space (place_of n v) w v) _ (λ a r. coded_none f w (place_of n v) a r))
+hex_none f w t =
+    none_then (layout_reading (layout f.ignore_space t)) _
+    (λ _ v. none_then (value f.ignore_space (reach_of v) w v) _ (λ a r. coded_none f w (reach_of v) a r))
 
-boundary_none : (n : ℕ) (x : Bool) (p : ℕ) (negated : Bool) (t : Text) → NoDelegate (boundary n x p negated t)
+boundary_none : (x : Bool) (p : ℕ) (negated : Bool) (t : Text) → NoDelegate (boundary x p negated t)
 unfolding boundary named_boundary
-boundary_none n x p negated t =
-    none_then (layout_reading (layout n x t)) _
-    (λ _ v. none_choose (strip open_brace v) _ _ (λ inside. none_then (layout_reading (layout n x inside)) _ (λ _ w.
+boundary_none x p negated t =
+    none_then (layout_reading (layout x t)) _
+    (λ _ v. none_choose (strip open_brace v) _ _ (λ inside. none_then (layout_reading (layout x inside)) _ (λ _ w.
     none_if (at_count w) _ _ tt
-    (none_then (name n x p (suc _) inside) _
+    (none_then (name x p (suc _) inside) _
     (λ word r. none_choose (boundary_of_name negated word) _ _ (λ a. tt) tt)))) tt)
 
 pub backref_leaf_none : (f : Flags) (o : Reading Reference) → NoDelegate (backref_leaf f o)
 backref_leaf_none f o = none_then o (λ r u. gives (backref r f.casei) u) (λ r u. tt)
 
-call_none : (n p c : ℕ) (t : Text) → NoDelegate (call_escape n p c t)
+call_none : (p c : ℕ) (t : Text) → NoDelegate (call_escape p c t)
 unfolding call_escape
-call_none n p c [] = tt
-call_none n p c (d ∷ t) =
-    none_then (reference.subroutine_call n (d ∷ t)) (λ r u. gives (subroutine_call r) u) (λ r u. tt)
+call_none p c [] = tt
+call_none p c (d ∷ t) =
+    none_then (reference.subroutine_call (d ∷ t)) (λ r u. gives (subroutine_call r) u) (λ r u. tt)
 
-pub outside_none : (u i : Bool) (n p c : ℕ) (t : Text) → NoDelegate (outside n (case_flags u i) p c t)
+pub outside_none : (u i : Bool) (p c : ℕ) (t : Text) → NoDelegate (outside (case_flags u i) p c t)
 unfolding outside
-outside_none u i n p c t =
+outside_none u i p c t =
     none_if (c ∈ "A") _ _ tt
     (none_if (c ∈ "z") _ _ tt
     (none_if (c ∈ "Z") _ _ tt
@@ -357,46 +357,46 @@ outside_none u i n p c t =
     (none_if (c ∈ "N") _ _ tt
     (none_if (c ∈ "<") _ _ tt
     (none_if (c ∈ ">") _ _ tt
-    (none_if (c ∈ "k") _ _ (backref_leaf_none (case_flags u i) (reference.back_reference n t))
-    (none_if (c ∈ "g") _ _ (call_none n p c t)
-    (none_if (c ∈ "b") _ _ (boundary_none n false p false t)
-    (none_if (c ∈ "B") _ _ (boundary_none n false p true t) tt)))))))))))))
+    (none_if (c ∈ "k") _ _ (backref_leaf_none (case_flags u i) (reference.back_reference t))
+    (none_if (c ∈ "g") _ _ (call_none p c t)
+    (none_if (c ∈ "b") _ _ (boundary_none false p false t)
+    (none_if (c ∈ "B") _ _ (boundary_none false p true t) tt)))))))))))))
 
 -- properties
 
 module _ (u i : Bool) where
   property_keeps : (p c : ℕ) (t : Text) →
-      Keeps (property (unicode_flags false) false p c t) (λ m q s. property (case_flags u i) false q c (t ++ s))
+      Keeps (property (unicode_flags false) false p c t) (λ q s. property (case_flags u i) false q c (t ++ s))
   unfolding property
   property_keeps p c [] = tt
   property_keeps p c (d ∷ t) = by_property (read_property (c ∈ "P") (d ∷ t)) (read_stays (c ∈ "P") d t) where
     by_property : (o : Option (Property × Text)) → StaysSome o (λ s. read_property (c ∈ "P") (d ∷ (t ++ s)))
         → Keeps (choose o (λ r. gives (delegate (property_text false false r.0) false) r.1)
         (fault_at p unclosed_unicode_name))
-        (λ m q s. choose (read_property (c ∈ "P") (d ∷ (t ++ s)))
+        (λ q s. choose (read_property (c ∈ "P") (d ∷ (t ++ s)))
         (λ r. gives (delegate (property_text u false r.0) i) r.1) (fault_at q unclosed_unicode_name))
     by_property None h = tt
     by_property (Some a) h = (
       property_text u false a.0,
       i,
-      λ m q s. ap
+      λ q s. ap
           (λ o. choose o (λ r. gives (delegate (property_text u false r.0) i) r.1) (fault_at q unclosed_unicode_name))
           (h s),
     )
 
-  escape_keeps : (n p : ℕ) (t : Text) →
-      Keeps (escape n (unicode_flags false) false p t) (λ m q s. escape m (case_flags u i) false q (t ++ s))
+  escape_keeps : (p : ℕ) (t : Text) →
+      Keeps (escape (unicode_flags false) false p t) (λ q s. escape (case_flags u i) false q (t ++ s))
   unfolding escape number_escape
-  escape_keeps n p [] = tt
-  escape_keeps n p (c ∷ t) =
+  escape_keeps p [] = tt
+  escape_keeps p (c ∷ t) =
       keep_if (is_ascii_digit c) _ _ _ _
-      (keep_none _ _ (backref_leaf_none (unicode_flags false) (reference.numbered_reference n (c ∷ t))))
-      (keep_if (c ∈ "dDsSwW") _ _ _ _ (backslash ∷ c ∷ [], i, λ m q s. refl)
-      (keep_if (c ∈ "h") _ _ _ _ (codes "[0-9A-Fa-f]", false, λ m q s. refl)
-      (keep_if (c ∈ "H") _ _ _ _ (codes "[^0-9A-Fa-f]", false, λ m q s. refl)
-      (keep_if (c ∈ "x") _ _ _ _ (keep_none _ _ (hex_none n (unicode_flags false) 2 t))
-      (keep_if (c ∈ "u") _ _ _ _ (keep_none _ _ (hex_none n (unicode_flags false) 4 t))
-      (keep_if (c ∈ "U") _ _ _ _ (keep_none _ _ (hex_none n (unicode_flags false) 8 t))
+      (keep_none _ _ (backref_leaf_none (unicode_flags false) (reference.numbered_reference (c ∷ t))))
+      (keep_if (c ∈ "dDsSwW") _ _ _ _ (backslash ∷ c ∷ [], i, λ q s. refl)
+      (keep_if (c ∈ "h") _ _ _ _ (codes "[0-9A-Fa-f]", false, λ q s. refl)
+      (keep_if (c ∈ "H") _ _ _ _ (codes "[^0-9A-Fa-f]", false, λ q s. refl)
+      (keep_if (c ∈ "x") _ _ _ _ (keep_none _ _ (hex_none (unicode_flags false) 2 t))
+      (keep_if (c ∈ "u") _ _ _ _ (keep_none _ _ (hex_none (unicode_flags false) 4 t))
+      (keep_if (c ∈ "U") _ _ _ _ (keep_none _ _ (hex_none (unicode_flags false) 8 t))
       (keep_if (c ∈ "pP") _ _ _ _ (property_keeps p c t)
       (keep_if (c ∈ "a") _ _ _ _ tt
       (keep_if (c ∈ "f") _ _ _ _ tt
@@ -406,12 +406,12 @@ module _ (u i : Bool) where
       (keep_if (c ∈ "v") _ _ _ _ tt
       (keep_if (c ∈ "e") _ _ _ _ tt
       (keep_if (is_itself false c) _ _ _ _ tt
-      (keep_none _ _ (outside_none false false n p c t)))))))))))))))))
+      (keep_none _ _ (outside_none false false p c t)))))))))))))))))
 
-  pub escape_carries : (n p : ℕ) (t w v : Text) (b : Bool) →
-      escape n (unicode_flags false) false p t ≡ gives (delegate w b) v
+  pub escape_carries : (p : ℕ) (t w v : Text) (b : Bool) →
+      escape (unicode_flags false) false p t ≡ gives (delegate w b) v
       → (x : Text) × (c : Bool)
-      × ((m q : ℕ) (s : Text) →
-      escape m (case_flags u i) false q (t ++ s) ≡ gives (delegate x c) (v ++ s))
-  escape_carries n p t w v b e =
-      subst (λ o. Keeps o (λ m q s. escape m (case_flags u i) false q (t ++ s))) e (escape_keeps n p t)
+      × ((q : ℕ) (s : Text) →
+      escape (case_flags u i) false q (t ++ s) ≡ gives (delegate x c) (v ++ s))
+  escape_carries p t w v b e =
+      subst (λ o. Keeps o (λ q s. escape (case_flags u i) false q (t ++ s))) e (escape_keeps p t)

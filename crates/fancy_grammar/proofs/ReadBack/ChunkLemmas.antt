@@ -22,7 +22,7 @@ use Rattle.fancy_lex.specs.Property.{Form, set, pair, form, form_text, look_up, 
 use Rattle.fancy_lex.specs.Reading.{Reading, gives, fails, fault_at, choose, layout_reading, ◌>=>◌}
 use Rattle.fancy_lex.specs.EscapeReference.{group_number}
 use Rattle.fancy_lex.specs.declared.flags.Flags.{Flags}
-use Rattle.fancy_lex.specs.Text.{Text, place_of, strip, cut_at}
+use Rattle.fancy_lex.specs.Text.{Text, reach_of, strip, cut_at}
 use Rattle.fancy_grammar.specs.Normal.{unicode_flags, case_flags}
 use Rattle.fancy_grammar.proofs.ReadBack.ClearLemmas.{Each, no_more, also, each_among, not_open, no_layout}
 use Rattle.fancy_grammar.proofs.ReadBack.ScalarLemmas.{scalars_append}
@@ -35,11 +35,11 @@ abbrev pub all_plain : Text → Bool
 all_plain [] = true
 all_plain (c ∷ w) = is_plain_in_class c && all_plain w
 
-word_goes : (w : Text) → all_plain w ≡ true → (m : ℕ) (s v : Text) → Goes m s v → Goes m (w ++ s) v
-word_goes [] h m s v g = g
-word_goes (c ∷ w) h m s v g =
-    pass_plain m c (w ++ s) v (first_so (is_plain_in_class c) _ h)
-    (word_goes w (second_so (is_plain_in_class c) _ h) m s v g)
+word_goes : (w : Text) → all_plain w ≡ true → (s v : Text) → Goes s v → Goes (w ++ s) v
+word_goes [] h s v g = g
+word_goes (c ∷ w) h s v g =
+    pass_plain c (w ++ s) v (first_so (is_plain_in_class c) _ h)
+    (word_goes w (second_so (is_plain_in_class c) _ h) s v g)
 
 pub word_chunk : (c : ℕ) (w : Text) → all_plain (c ∷ w) ≡ true → (c == code "^") ≡ false → (c == code "]") ≡ false →
     all_scalars (c ∷ w) ≡ true → Chunk (c ∷ w)
@@ -56,22 +56,22 @@ pub open_caret : (t : Text) → strip (code "]") t ≡ None →
 unfolding class_head
 open_caret t b = rw b refl
 
-pub bracket_goes : (w : Text) → Chunk w → (m : ℕ) (s : Text) → ClassGoes m ((w ++ code "]" ∷ []) ++ s) s
-bracket_goes w c m s =
-    subst (λ z. ClassGoes m z s) (sym (append_assoc w (code "]" ∷ []) s))
-    (pass_class m (w ++ code "]" ∷ s) (code "[" ∷ []) (w ++ code "]" ∷ s) s (open_plain _ (c.no_caret _) (c.no_close _))
-    (c.goes m (code "]" ∷ s) s (pass_close m s)))
+pub bracket_goes : (w : Text) → Chunk w → (s : Text) → ClassGoes ((w ++ code "]" ∷ []) ++ s) s
+bracket_goes w c s =
+    subst (λ z. ClassGoes z s) (sym (append_assoc w (code "]" ∷ []) s))
+    (pass_class (w ++ code "]" ∷ s) (code "[" ∷ []) (w ++ code "]" ∷ s) s (open_plain _ (c.no_caret _) (c.no_close _))
+    (c.goes (code "]" ∷ s) s (pass_close s)))
 
-pub caret_goes : (w : Text) → Chunk w → (m : ℕ) (s : Text) → ClassGoes m (code "^" ∷ ((w ++ code "]" ∷ []) ++ s)) s
-caret_goes w c m s =
-    subst (λ z. ClassGoes m (code "^" ∷ z) s) (sym (append_assoc w (code "]" ∷ []) s))
-    (pass_class m (code "^" ∷ (w ++ code "]" ∷ s)) (code "[" ∷ code "^" ∷ []) (w ++ code "]" ∷ s) s
+pub caret_goes : (w : Text) → Chunk w → (s : Text) → ClassGoes (code "^" ∷ ((w ++ code "]" ∷ []) ++ s)) s
+caret_goes w c s =
+    subst (λ z. ClassGoes (code "^" ∷ z) s) (sym (append_assoc w (code "]" ∷ []) s))
+    (pass_class (code "^" ∷ (w ++ code "]" ∷ s)) (code "[" ∷ code "^" ∷ []) (w ++ code "]" ∷ s) s
     (open_caret _ (c.no_close _))
-    (c.goes m (code "]" ∷ s) s (pass_close m s)))
+    (c.goes (code "]" ∷ s) s (pass_close s)))
 
 pub bracket_chunk : (w : Text) → Chunk w → Chunk (code "[" ∷ (w ++ code "]" ∷ []))
 bracket_chunk w c = record {
-  goes = λ m s v g. pass_nested m ((w ++ code "]" ∷ []) ++ s) s v (bracket_goes w c m s) g;
+  goes = λ s v g. pass_nested ((w ++ code "]" ∷ []) ++ s) s v (bracket_goes w c s) g;
   no_caret = λ s. refl;
   no_close = λ s. refl;
   scalars = scalars_append w (code "]" ∷ []) c.scalars refl;
@@ -79,7 +79,7 @@ bracket_chunk w c = record {
 
 pub caret_chunk : (w : Text) → Chunk w → Chunk (code "[" ∷ code "^" ∷ (w ++ code "]" ∷ []))
 caret_chunk w c = record {
-  goes = λ m s v g. pass_nested m (code "^" ∷ ((w ++ code "]" ∷ []) ++ s)) s v (caret_goes w c m s) g;
+  goes = λ s v g. pass_nested (code "^" ∷ ((w ++ code "]" ∷ []) ++ s)) s v (caret_goes w c s) g;
   no_caret = λ s. refl;
   no_close = λ s. refl;
   scalars = scalars_append w (code "]" ∷ []) c.scalars refl;
@@ -87,9 +87,9 @@ caret_chunk w c = record {
 
 -- an escape that is read whatever follows it
 escape_chunk : (w : Text) (e : Escape) → all_scalars w ≡ true →
-    ((m p : ℕ) (s : Text) → escape m (unicode_flags false) true p (w ++ s) ≡ gives e s) → Chunk (code "\\" ∷ w)
+    ((p : ℕ) (s : Text) → escape (unicode_flags false) true p (w ++ s) ≡ gives e s) → Chunk (code "\\" ∷ w)
 escape_chunk w e k h = record {
-  goes = λ m s v g. pass_escape m (w ++ s) s v e (h m (place_of m (code "\\" ∷ (w ++ s))) s) g;
+  goes = λ s v g. pass_escape (w ++ s) s v e (h (reach_of (code "\\" ∷ (w ++ s))) s) g;
   no_caret = λ s. refl;
   no_close = λ s. refl;
   scalars = k;
@@ -181,68 +181,68 @@ abbrev pub prop : Bool → PropertyName → Property
 prop b name = record { negated = b; name = name }
 
 -- in a class or outside
-module _ (m p : ℕ) (inside : Bool) where
+module _ (p : ℕ) (inside : Bool) where
   pub single_small : (c : ℕ) (s : Text) → (c == code "{") ≡ false →
-      escape m (unicode_flags false) inside p (code "p" ∷ c ∷ s) ≡ gives
+      escape (unicode_flags false) inside p (code "p" ∷ c ∷ s) ≡ gives
       (delegate (property_text false inside (prop false (single c))) false) s
   unfolding escape property read_property name_at
   single_small c s h = rw h refl
 
   pub single_large : (c : ℕ) (s : Text) → (c == code "{") ≡ false →
-      escape m (unicode_flags false) inside p (code "P" ∷ c ∷ s) ≡ gives
+      escape (unicode_flags false) inside p (code "P" ∷ c ∷ s) ≡ gives
       (delegate (property_text false inside (prop true (single c))) false) s
   unfolding escape property read_property name_at
   single_large c s h = rw h refl
 
   pub braced_small : (w s : Text) → IsName w →
-      escape m (unicode_flags false) inside p (code "p" ∷ code "{" ∷ (w ++ code "}" ∷ s)) ≡ gives
+      escape (unicode_flags false) inside p (code "p" ∷ code "{" ∷ (w ++ code "}" ∷ s)) ≡ gives
       (delegate (property_text false inside (prop false (braced w))) false) s
   unfolding escape property read_property name_at
   braced_small w s h = rw (cut_back w s h) refl
 
   pub braced_large : (w s : Text) → IsName w →
-      escape m (unicode_flags false) inside p (code "P" ∷ code "{" ∷ (w ++ code "}" ∷ s)) ≡ gives
+      escape (unicode_flags false) inside p (code "P" ∷ code "{" ∷ (w ++ code "}" ∷ s)) ≡ gives
       (delegate (property_text false inside (prop true (braced w))) false) s
   unfolding escape property read_property name_at
   braced_large w s h = rw (cut_back w s h) refl
 
 single_chunk : (b : Bool) (c : ℕ) → (c == code "{") ≡ false → IsScalar c → Chunk (letter b ++ c ∷ [])
 single_chunk false c h k = escape_chunk (code "p" ∷ c ∷ []) _ (and_from _ true k refl)
-    (λ m p s. single_small m p true c s h)
+    (λ p s. single_small p true c s h)
 single_chunk true c h k = escape_chunk (code "P" ∷ c ∷ []) _ (and_from _ true k refl)
-    (λ m p s. single_large m p true c s h)
+    (λ p s. single_large p true c s h)
 
 small_chunk : (w : Text) → IsName w → Chunk (code "\\" ∷ code "p" ∷ code "{" ∷ (w ++ code "}" ∷ []))
 small_chunk w h =
     escape_chunk (code "p" ∷ code "{" ∷ (w ++ code "}" ∷ [])) _
     (scalars_append w (code "}" ∷ []) (name_scalars w h) refl)
-    (λ m p s. ap (λ z. escape m (unicode_flags false) true p (code "p" ∷ code "{" ∷ z))
+    (λ p s. ap (λ z. escape (unicode_flags false) true p (code "p" ∷ code "{" ∷ z))
     (append_assoc w (code "}" ∷ []) s)
-    ∙ braced_small m p true w s h)
+    ∙ braced_small p true w s h)
 
 large_chunk : (w : Text) → IsName w → Chunk (code "\\" ∷ code "P" ∷ code "{" ∷ (w ++ code "}" ∷ []))
 large_chunk w h =
     escape_chunk (code "P" ∷ code "{" ∷ (w ++ code "}" ∷ [])) _
     (scalars_append w (code "}" ∷ []) (name_scalars w h) refl)
-    (λ m p s. ap (λ z. escape m (unicode_flags false) true p (code "P" ∷ code "{" ∷ z))
+    (λ p s. ap (λ z. escape (unicode_flags false) true p (code "P" ∷ code "{" ∷ z))
     (append_assoc w (code "}" ∷ []) s)
-    ∙ braced_large m p true w s h)
+    ∙ braced_large p true w s h)
 
 -- closed escapes
 letter_chunks : Each (λ c. Chunk (code "\\" ∷ c ∷ [])) (codes "dDsSwWtnvfr")
 unfolding escape
 letter_chunks =
-    also (escape_chunk (code "d" ∷ []) _ refl (λ m p s. refl))
-    (also (escape_chunk (code "D" ∷ []) _ refl (λ m p s. refl))
-    (also (escape_chunk (code "s" ∷ []) _ refl (λ m p s. refl))
-    (also (escape_chunk (code "S" ∷ []) _ refl (λ m p s. refl))
-    (also (escape_chunk (code "w" ∷ []) _ refl (λ m p s. refl))
-    (also (escape_chunk (code "W" ∷ []) _ refl (λ m p s. refl))
-    (also (escape_chunk (code "t" ∷ []) _ refl (λ m p s. refl))
-    (also (escape_chunk (code "n" ∷ []) _ refl (λ m p s. refl))
-    (also (escape_chunk (code "v" ∷ []) _ refl (λ m p s. refl))
-    (also (escape_chunk (code "f" ∷ []) _ refl (λ m p s. refl))
-    (also (escape_chunk (code "r" ∷ []) _ refl (λ m p s. refl)) no_more))))))))))
+    also (escape_chunk (code "d" ∷ []) _ refl (λ p s. refl))
+    (also (escape_chunk (code "D" ∷ []) _ refl (λ p s. refl))
+    (also (escape_chunk (code "s" ∷ []) _ refl (λ p s. refl))
+    (also (escape_chunk (code "S" ∷ []) _ refl (λ p s. refl))
+    (also (escape_chunk (code "w" ∷ []) _ refl (λ p s. refl))
+    (also (escape_chunk (code "W" ∷ []) _ refl (λ p s. refl))
+    (also (escape_chunk (code "t" ∷ []) _ refl (λ p s. refl))
+    (also (escape_chunk (code "n" ∷ []) _ refl (λ p s. refl))
+    (also (escape_chunk (code "v" ∷ []) _ refl (λ p s. refl))
+    (also (escape_chunk (code "f" ∷ []) _ refl (λ p s. refl))
+    (also (escape_chunk (code "r" ∷ []) _ refl (λ p s. refl)) no_more))))))))))
 
 pub letter_chunk : (c : ℕ) → c ∈ "dDsSwWtnvfr" ≡ true → Chunk (code "\\" ∷ c ∷ [])
 letter_chunk c h = each_among (λ c. Chunk (code "\\" ∷ c ∷ [])) (codes "dDsSwWtnvfr") c letter_chunks h
@@ -276,18 +276,18 @@ digits_read : (a b : ℕ) (s : Text) → a < 16 → b < 16 →
 unfolding fixed_digits hexes.hex_digit
 digits_read a b s h k = rw (hex_value a h, lt-ltb a 16 h, hex_value b k, lt-ltb b 16 k) refl
 
-hex_some : (m : ℕ) (a b : ℕ) (s : Text) → a < 16 → b < 16 →
-    (e : Escape) × (hex m (unicode_flags false) 2 (upper_hex_digit a ∷ upper_hex_digit b ∷ s) ≡ gives e s)
+hex_some : (a b : ℕ) (s : Text) → a < 16 → b < 16 →
+    (e : Escape) × (hex (unicode_flags false) 2 (upper_hex_digit a ∷ upper_hex_digit b ∷ s) ≡ gives e s)
 unfolding hex value
-hex_some m a b s h k =
+hex_some a b s h k =
     let t = upper_hex_digit a ∷ upper_hex_digit b ∷ s in
-    let (e, q) = coded_some (place_of m t) ((0 * 16 + a) * 16 + b) s (omega arith) in
-    (e, rw (no_layout m t (not_open _ _ (hex_paren a h)), digits_read a b s h k) q)
+    let (e, q) = coded_some (reach_of t) ((0 * 16 + a) * 16 + b) s (omega arith) in
+    (e, rw (no_layout t (not_open _ _ (hex_paren a h)), digits_read a b s h k) q)
 
-hex_escape : (m p : ℕ) (t : Text) →
-    escape m (unicode_flags false) true p (code "x" ∷ t) ≡ hex m (unicode_flags false) 2 t
+hex_escape : (p : ℕ) (t : Text) →
+    escape (unicode_flags false) true p (code "x" ∷ t) ≡ hex (unicode_flags false) 2 t
 unfolding escape
-hex_escape m p t = refl
+hex_escape p t = refl
 
 pub byte_chunk : (v : ℕ) → nat_le v 0xFF ≡ true → Chunk (byte_text v)
 byte_chunk v h =
@@ -296,9 +296,9 @@ byte_chunk v h =
     let b : v % 16 < 16 = omega arith in
     record {
       goes =
-          λ m s r g. let (e, q) = hex_some m (v / 16) (v % 16) s a b in
-          pass_escape m (code "x" ∷ upper_hex_digit (v / 16) ∷ upper_hex_digit (v % 16) ∷ s) s r e
-          (hex_escape m _ _ ∙ q) g;
+          λ s r g. let (e, q) = hex_some (v / 16) (v % 16) s a b in
+          pass_escape (code "x" ∷ upper_hex_digit (v / 16) ∷ upper_hex_digit (v % 16) ∷ s) s r e
+          (hex_escape _ _ ∙ q) g;
       no_caret = λ s. refl;
       no_close = λ s. refl;
       scalars = and_from _ _ (hex_scalar (v / 16) a) (and_from _ true (hex_scalar (v % 16) b) refl);
@@ -438,9 +438,9 @@ fine_then : {A : Type 0} (o : Reading A) (k : A → Text → Reading Escape) →
 fine_then (gives a t) k h = h a t
 fine_then (fails e) k h = tt
 
-number_escape_fine : (n p : ℕ) (f : Flags) (t : Text) → FineOf (number_escape n f true p t)
+number_escape_fine : (p : ℕ) (f : Flags) (t : Text) → FineOf (number_escape f true p t)
 unfolding number_escape
-number_escape_fine n p f t = by_number (group_number n t)
+number_escape_fine p f t = by_number (group_number t)
   where
     by_number : (o : Reading ℕ) → FineOf (o >=> (λ k u. fault_at p invalid_class))
     by_number (gives k u) = tt
@@ -457,11 +457,11 @@ coded_fine u i w h v t =
     (λ e. second_so (w == 2 && not u && nat_le 0x80 v) _ e)
     (fine_if (is_scalar v) (gives (literal v i) t) (fault_at h invalid_codepoint_value) (scalar_is v) tt)
 
-hex_fine : (u i : Bool) (n w : ℕ) (t : Text) → FineOf (hex n (case_flags u i) w t)
+hex_fine : (u i : Bool) (w : ℕ) (t : Text) → FineOf (hex (case_flags u i) w t)
 unfolding hex
-hex_fine u i n w t =
-    fine_then (layout_reading (layout n false t)) _
-    (λ _ v. fine_then (value n false (place_of n v) w v) _ (λ a r. coded_fine u i w (place_of n v) a r))
+hex_fine u i w t =
+    fine_then (layout_reading (layout false t)) _
+    (λ _ v. fine_then (value false (reach_of v) w v) _ (λ a r. coded_fine u i w (reach_of v) a r))
 
 read_fine : (u i : Bool) (p : ℕ) (b : Bool) (o : Option (PropertyName × Text)) → NameSome o
     → FineOf (choose (option_map {T = PropertyName × Text} {U = Property × Text} (λ q. (prop b q.0, q.1)) o)
@@ -481,21 +481,21 @@ set_letter c h = grind (arith, nat_tests)
 pub hex_word : Chunk (codes "0-9A-Fa-f")
 hex_word = word_chunk (code "0") (codes "-9A-Fa-f") refl refl refl refl
 
-pub escape_fine : (u i : Bool) (n p : ℕ) (t : Text) → all_scalars t ≡ true →
-    FineOf (escape n (case_flags u i) true p t)
+pub escape_fine : (u i : Bool) (p : ℕ) (t : Text) → all_scalars t ≡ true →
+    FineOf (escape (case_flags u i) true p t)
 unfolding escape in_class
-escape_fine u i n p [] k = tt
-escape_fine u i n p (c ∷ t) k =
+escape_fine u i p [] k = tt
+escape_fine u i p (c ∷ t) k =
     let (here, more) = and_parts _ (all_scalars t) k in
-    fine_if (is_ascii_digit c) _ _ (λ _. number_escape_fine n p (case_flags u i) (c ∷ t))
+    fine_if (is_ascii_digit c) _ _ (λ _. number_escape_fine p (case_flags u i) (c ∷ t))
     (fine_if (c ∈ "dDsSwW") (gives (delegate (code "\\" ∷ c ∷ []) i) t) _ (λ e. letter_chunk c (set_letter c e))
     (fine_if (c ∈ "h") (gives (delegate (codes "[0-9A-Fa-f]") false) t) _
     (λ _. bracket_chunk (codes "0-9A-Fa-f") hex_word)
     (fine_if (c ∈ "H") (gives (delegate (codes "[^0-9A-Fa-f]") false) t) _
     (λ _. caret_chunk (codes "0-9A-Fa-f") hex_word)
-    (fine_if (c ∈ "x") (hex n (case_flags u i) 2 t) _ (λ _. hex_fine u i n 2 t)
-    (fine_if (c ∈ "u") (hex n (case_flags u i) 4 t) _ (λ _. hex_fine u i n 4 t)
-    (fine_if (c ∈ "U") (hex n (case_flags u i) 8 t) _ (λ _. hex_fine u i n 8 t)
+    (fine_if (c ∈ "x") (hex (case_flags u i) 2 t) _ (λ _. hex_fine u i 2 t)
+    (fine_if (c ∈ "u") (hex (case_flags u i) 4 t) _ (λ _. hex_fine u i 4 t)
+    (fine_if (c ∈ "U") (hex (case_flags u i) 8 t) _ (λ _. hex_fine u i 8 t)
     (fine_if (c ∈ "pP") (property (case_flags u i) true p c t) _ (λ _. property_fine u i p c t more)
     (fine_if (c ∈ "a") (gives (literal 7 false) t) _ (λ _. refl)
     (fine_if (c ∈ "f") (gives (literal 12 false) t) _ (λ _. refl)

@@ -10,43 +10,43 @@ use Rattle.fancy_lex.specs.Class.{escape_in_class, is_negated, is_plain_in_class
 use Rattle.fancy_lex.specs.Escape.{escape}
 use Rattle.fancy_lex.specs.Escaped.{Escape, literal, literal_bytes, delegate}
 use Rattle.fancy_lex.specs.Reading.{gives}
-use Rattle.fancy_lex.specs.Text.{Text, place_of, strip}
+use Rattle.fancy_lex.specs.Text.{Text, reach_of, strip}
 use Rattle.fancy_grammar.specs.Normal.{unicode_flags}
 use Rattle.fancy_grammar.proofs.ReadBack.ClearLemmas.{apart, Each, no_more, also, each_among}
 use Rattle.fancy_grammar.proofs.ReadBack.ScalarLemmas.{scalars_append}
 
 -- from s on, a class's items are read to v, whatever was seen before
-abbrev pub Goes : ℕ → Text → Text → Type 0
-Goes m s v = (b : Bool) → (y : Text) × (a : Bool) × ClassItems m (unicode_flags false) b s (written y a v)
+abbrev pub Goes : Text → Text → Type 0
+Goes s v = (b : Bool) → (y : Text) × (a : Bool) × ClassItems (unicode_flags false) b s (written y a v)
 
 -- the same of a class behind its bracket
-abbrev pub ClassGoes : ℕ → Text → Text → Type 0
-ClassGoes m s v = (b : Bool) → (y : Text) × (a : Bool) × Class m (unicode_flags false) b s (written y a v)
+abbrev pub ClassGoes : Text → Text → Type 0
+ClassGoes s v = (b : Bool) → (y : Text) × (a : Bool) × Class (unicode_flags false) b s (written y a v)
 
-pub pass_close : (m : ℕ) (v : Text) → Goes m (code "]" ∷ v) v
-pass_close m v b = (_, b, close)
+pub pass_close : (v : Text) → Goes (code "]" ∷ v) v
+pass_close v b = (_, b, close)
 
-pub pass_plain : (m c : ℕ) (s v : Text) → is_plain_in_class c ≡ true → Goes m s v → Goes m (c ∷ s) v
-pass_plain m c s v p g b = let (y, a, h) = g b in (c ∷ y, a, plain p h)
+pub pass_plain : (c : ℕ) (s v : Text) → is_plain_in_class c ≡ true → Goes s v → Goes (c ∷ s) v
+pass_plain c s v p g b = let (y, a, h) = g b in (c ∷ y, a, plain p h)
 
-pub pass_escape : (m : ℕ) (t s v : Text) (e : Escape) →
-    escape m (unicode_flags false) true (place_of m (code "\\" ∷ t)) t ≡ gives e s → Goes m s v →
-    Goes m (code "\\" ∷ t) v
-pass_escape m t s v e q g b = let (y, a, h) = g (b || is_negated e) in (escape_in_class b e ++ y, a, escaped q h)
+pub pass_escape : (t s v : Text) (e : Escape) →
+    escape (unicode_flags false) true (reach_of (code "\\" ∷ t)) t ≡ gives e s → Goes s v →
+    Goes (code "\\" ∷ t) v
+pass_escape t s v e q g b = let (y, a, h) = g (b || is_negated e) in (escape_in_class b e ++ y, a, escaped q h)
 
-pub pass_nested : (m : ℕ) (t s v : Text) → ClassGoes m t s → Goes m s v → Goes m (code "[" ∷ t) v
-pass_nested m t s v k g b =
+pub pass_nested : (t s v : Text) → ClassGoes t s → Goes s v → Goes (code "[" ∷ t) v
+pass_nested t s v k g b =
     let (x, c, h) = k b in
     let (y, a, i) = g c in
     (x ++ y, a, nested h i)
 
-pub pass_class : (m : ℕ) (t head r v : Text) → ◌≡◌ {A = Text × Text} (class_head [] t) (head, r) → Goes m r v →
-    ClassGoes m t v
-pass_class m t head r v e g b = let (y, a, h) = g b in (head ++ y, a, class_items e h)
+pub pass_class : (t head r v : Text) → ◌≡◌ {A = Text × Text} (class_head [] t) (head, r) → Goes r v →
+    ClassGoes t v
+pass_class t head r v e g b = let (y, a, h) = g b in (head ++ y, a, class_items e h)
 
 -- what is written for an item: it goes on, and begins with neither a caret nor a closing bracket
 pub record Chunk (w : Text) : Type 0 where
-  pub goes : (m : ℕ) (s v : Text) → Goes m s v → Goes m (w ++ s) v
+  pub goes : (s v : Text) → Goes s v → Goes (w ++ s) v
   pub no_caret : (s : Text) → strip (code "^") (w ++ s) ≡ None
   pub no_close : (s : Text) → strip (code "]") (w ++ s) ≡ None
   pub scalars : all_scalars w ≡ true
@@ -61,7 +61,7 @@ Fine _ = ⊥
 pub both_chunk : (w x : Text) → Chunk w → Chunk x → Chunk (w ++ x)
 both_chunk w x p q =
     record {
-      goes = λ m s v g. subst (λ z. Goes m z v) (sym (append_assoc w x s)) (p.goes m (x ++ s) v (q.goes m s v g));
+      goes = λ s v g. subst (λ z. Goes z v) (sym (append_assoc w x s)) (p.goes (x ++ s) v (q.goes s v g));
       no_caret = λ s. ap (strip (code "^")) (append_assoc w x s) ∙ p.no_caret (x ++ s);
       no_close = λ s. ap (strip (code "]")) (append_assoc w x s) ∙ p.no_close (x ++ s);
       scalars = scalars_append w x p.scalars q.scalars;
@@ -69,7 +69,7 @@ both_chunk w x p q =
 
 pub amp_chunk : Chunk (codes "&&")
 amp_chunk = record {
-  goes = λ m s v g. pass_plain m (code "&") (code "&" ∷ s) v refl (pass_plain m (code "&") s v refl g);
+  goes = λ s v g. pass_plain (code "&") (code "&" ∷ s) v refl (pass_plain (code "&") s v refl g);
   no_caret = λ s. refl;
   no_close = λ s. refl;
   scalars = refl;
@@ -81,22 +81,22 @@ abbrev class_marks : Text
 class_marks = codes "\\.+*?()|[]{}^$#&-~"
 
 abbrev Escapes : ℕ → Type 0
-Escapes c = (m p : ℕ) (s : Text) → escape m (unicode_flags false) true p (c ∷ s) ≡ gives (literal c false) s
+Escapes c = (p : ℕ) (s : Text) → escape (unicode_flags false) true p (c ∷ s) ≡ gives (literal c false) s
 
 escapes_marks : Each Escapes class_marks
 unfolding escape
 escapes_marks =
-    also (λ m p s. refl) (also (λ m p s. refl) (also (λ m p s. refl) (also (λ m p s. refl)
-    (also (λ m p s. refl) (also (λ m p s. refl) (also (λ m p s. refl) (also (λ m p s. refl)
-    (also (λ m p s. refl) (also (λ m p s. refl) (also (λ m p s. refl) (also (λ m p s. refl)
-    (also (λ m p s. refl) (also (λ m p s. refl) (also (λ m p s. refl) (also (λ m p s. refl)
-    (also (λ m p s. refl) (also (λ m p s. refl) no_more)))))))))))))))))
+    also (λ p s. refl) (also (λ p s. refl) (also (λ p s. refl) (also (λ p s. refl)
+    (also (λ p s. refl) (also (λ p s. refl) (also (λ p s. refl) (also (λ p s. refl)
+    (also (λ p s. refl) (also (λ p s. refl) (also (λ p s. refl) (also (λ p s. refl)
+    (also (λ p s. refl) (also (λ p s. refl) (also (λ p s. refl) (also (λ p s. refl)
+    (also (λ p s. refl) (also (λ p s. refl) no_more)))))))))))))))))
 
 mark_chunk : (c : ℕ) → IsScalar c → needs_backslash_in_class c ≡ true → Chunk (code "\\" ∷ c ∷ [])
 mark_chunk c k h =
     record {
-      goes = λ m s v g. pass_escape m (c ∷ s) s v (literal c false)
-          (each_among Escapes class_marks c escapes_marks h m (place_of m (code "\\" ∷ c ∷ s)) s) g;
+      goes = λ s v g. pass_escape (c ∷ s) s v (literal c false)
+          (each_among Escapes class_marks c escapes_marks h (reach_of (code "\\" ∷ c ∷ s)) s) g;
       no_caret = λ s. refl;
       no_close = λ s. refl;
       scalars = and_from _ true k refl;
@@ -106,8 +106,8 @@ plain_chunk : (c : ℕ) → IsScalar c → needs_backslash_in_class c ≡ false 
 plain_chunk c i h =
     let is_not = apart needs_backslash_in_class c h in
     record {
-      goes = λ m s v g.
-          pass_plain m c s v (rw (is_not (code "\\") refl, is_not (code "[") refl, is_not (code "]") refl) refl) g;
+      goes = λ s v g.
+          pass_plain c s v (rw (is_not (code "\\") refl, is_not (code "[") refl, is_not (code "]") refl) refl) g;
       no_caret = λ s. rw (is_not (code "^") refl) refl;
       no_close = λ s. rw (is_not (code "]") refl) refl;
       scalars = and_from _ true i refl;

@@ -33,11 +33,11 @@ not_open c s e = rw e refl
 pub not_asking : (s : Text) → strip (code "?") s ≡ None → after_comment_head (code "(" ∷ s) ≡ None
 not_asking s e = rw e refl
 
-pub no_layout : (n : ℕ) (s : Text) → after_comment_head s ≡ None → layout n false s ≡ rest s
-no_layout n s e = between_plain n s e
+pub no_layout : (s : Text) → after_comment_head s ≡ None → layout false s ≡ rest s
+no_layout s e = between_plain s e
 
-pub clear_layout : (n : ℕ) (s : Text) → Clear s → layout n false s ≡ rest s
-clear_layout n s h = no_layout n s h.no_comment
+pub clear_layout : (s : Text) → Clear s → layout false s ≡ rest s
+clear_layout s h = no_layout s h.no_comment
 
 -- a character that begins no quantifier
 pub record NoMark (c : ℕ) : Type 0 where
@@ -136,27 +136,27 @@ behind_none c =
 
 -- what is printed behind a backslash is read as the character
 abbrev pub Escapes : ℕ → ℕ → Type 0
-Escapes x c = (n : ℕ) (f : Flags) (p : ℕ) (t : Text) → escape n f false p (x ∷ t) ≡ gives (escaped.literal c false) t
+Escapes x c = (f : Flags) (p : ℕ) (t : Text) → escape f false p (x ∷ t) ≡ gives (escaped.literal c false) t
 
 escapes_marks : Each (λ m. Escapes m m) marks_with_backslash
 unfolding escape
 escapes_marks =
-    also (λ n f p t. refl) (also (λ n f p t. refl) (also (λ n f p t. refl) (also (λ n f p t. refl)
-    (also (λ n f p t. refl) (also (λ n f p t. refl) (also (λ n f p t. refl) (also (λ n f p t. refl)
-    (also (λ n f p t. refl) (also (λ n f p t. refl) (also (λ n f p t. refl) (also (λ n f p t. refl)
-    (also (λ n f p t. refl) (also (λ n f p t. refl) (also (λ n f p t. refl) no_more))))))))))))))
+    also (λ f p t. refl) (also (λ f p t. refl) (also (λ f p t. refl) (also (λ f p t. refl)
+    (also (λ f p t. refl) (also (λ f p t. refl) (also (λ f p t. refl) (also (λ f p t. refl)
+    (also (λ f p t. refl) (also (λ f p t. refl) (also (λ f p t. refl) (also (λ f p t. refl)
+    (also (λ f p t. refl) (also (λ f p t. refl) (also (λ f p t. refl) no_more))))))))))))))
 
 escapes_n : Escapes (code "n") (code "\n")
 unfolding escape
-escapes_n n f p t = refl
+escapes_n f p t = refl
 
 escapes_t : Escapes (code "t") (code "\t")
 unfolding escape
-escapes_t n f p t = refl
+escapes_t f p t = refl
 
 escapes_r : Escapes (code "r") (code "\r")
 unfolding escape
-escapes_r n f p t = refl
+escapes_r f p t = refl
 
 pub behind_some : (c x : ℕ) → behind_backslash c ≡ Some x → Escapes x c
 behind_some c x =

@@ -60,7 +60,7 @@ no_comment [] s h = absurd (omega (arith, h.0))
 no_comment (d ∷ ds) s h = let r = digit_from_value d h.1.0 in not_open d (ds ++ s) (ne_eqb d (code "(") (omega arith))
 
 skip_same : (s : Text) → after_comment_head s ≡ None → past_layout false s ≡ Some s
-skip_same s e = ap rest_of (no_layout 0 s e)
+skip_same s e = ap rest_of (no_layout s e)
 
 abbrev counted_some : ℕ → Text → Option (Option ℕ × Text)
 counted_some n s = Some (Some n, s)
@@ -108,11 +108,11 @@ braces_both lo hi s l h =
 
 -- a boundary ends before the text: no name in braces follows it
 abbrev pub NoName : Text → Type 0
-NoName v = (n p : ℕ) (negated : Bool) → boundary n false p negated v ≡ gives (unnamed_boundary negated) v
+NoName v = (p : ℕ) (negated : Bool) → boundary false p negated v ≡ gives (unnamed_boundary negated) v
 
 pub no_brace : (v : Text) → after_comment_head v ≡ None → strip (code "{") v ≡ None → NoName v
 unfolding boundary
-no_brace v e b n p negated = rw (no_layout n v e, b) refl
+no_brace v e b p negated = rw (no_layout v e, b) refl
 
 pub clear_name : (v : Text) → Clear v → NoName v
 clear_name v h = no_brace v h.no_comment (clear_brace v h)
@@ -123,8 +123,8 @@ digit_first (d ∷ ds) s h = rw ((digit_is d h.1.0).0) refl
 
 brace_name : (ds s : Text) → IsNumeral 10 ds → NoName (code "{" ∷ (ds ++ s))
 unfolding boundary
-brace_name ds s h n p negated =
-    rw (no_layout n (code "{" ∷ (ds ++ s)) refl, no_layout n (ds ++ s) (no_comment ds s h), digit_first ds s h) refl
+brace_name ds s h p negated =
+    rw (no_layout (code "{" ∷ (ds ++ s)) refl, no_layout (ds ++ s) (no_comment ds s h), digit_first ds s h) refl
 
 -- the mark w in front of s
 pub record IsMark (lo hi : ℕ) (s w : Text) : Type 0 where

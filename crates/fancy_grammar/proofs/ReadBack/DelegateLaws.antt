@@ -17,7 +17,7 @@ use Prim.Native.Char.{code}
 use Rattle.fancy_lex.specs.Property.{Property, PropertyName, single, braced, read_property, name_at, property_text}
 use Rattle.fancy_lex.specs.Property.{Form, set, pair, form, form_text, look_up, lowercase, turn, letter}
 use Rattle.fancy_lex.specs.Reading.{Reading, gives, fault_at, choose}
-use Rattle.fancy_lex.specs.Text.{Text, bytes, place_of}
+use Rattle.fancy_lex.specs.Text.{Text, bytes, reach_of}
 use Rattle.fancy_lex.proofs.ClassLaws.{class_complete, class_reads}
 use Rattle.fancy_grammar.specs.Ahead.{leaf_node, leaf_outcome}
 use Rattle.fancy_grammar.specs.Tree.{delegate}
@@ -41,16 +41,16 @@ use Rattle.fancy_grammar.proofs.ReadBack.ClearLemmas.{Each, no_more, also, each_
 abbrev IsWhole : Text → Type 0
 IsWhole w = (all_scalars w && is_some (class_of (unicode_flags false) w)) ≡ true
 
-class_whole : (t : Text) → all_scalars t ≡ true → ClassGoes (bytes (code "[" ∷ t)) t [] → IsWhole (code "[" ∷ t)
+class_whole : (t : Text) → all_scalars t ≡ true → ClassGoes t [] → IsWhole (code "[" ∷ t)
 unfolding class_of
 class_whole t k g =
     let (y, a, h) = g false in
     and_from (all_scalars (code "[" ∷ t)) _ k
     (ap (λ o. is_some (whole_leaf (leaf_outcome (λ w. delegate w false) (st (unicode_flags false) (code "[" ∷ t)) o)))
-    (class_complete (bytes (code "[" ∷ t)) (unicode_flags false) t _ h))
+    (class_complete (unicode_flags false) t _ h))
 
 escape_whole : (t w : Text) (b : Bool) → all_scalars t ≡ true →
-    escape (bytes (code "\\" ∷ t)) (unicode_flags false) false (place_of (bytes (code "\\" ∷ t)) (code "\\" ∷ t)) t
+    escape (unicode_flags false) false (reach_of (code "\\" ∷ t)) t
     ≡ gives (escaped.delegate w b) [] →
     IsWhole (code "\\" ∷ t)
 unfolding class_of
@@ -60,16 +60,16 @@ escape_whole t w b k e =
 
 -- ---- a class
 
-class_stays : (u i : Bool) (n : ℕ) (t x : Text) → all_scalars t ≡ true →
-    class n (case_flags u i) t ≡ gives x [] → IsWhole x
-class_stays u i n t x k e =
+class_stays : (u i : Bool) (t x : Text) → all_scalars t ≡ true →
+    class (case_flags u i) t ≡ gives x [] → IsWhole x
+class_stays u i t x k e =
     let f = case_flags u i in
-    let (a, h) = subst (OuterClass n f t) e (class_reads n f t) in
+    let (a, h) = subst (OuterClass f t) e (class_reads f t) in
     let c = class_again h k in
     subst IsWhole (sym c.is)
     (class_whole c.inner c.scalars
-    (subst (λ z. ClassGoes (bytes (code "[" ∷ c.inner)) z []) (append-nil c.inner)
-    (c.goes (bytes (code "[" ∷ c.inner)) [])))
+    (subst (λ z. ClassGoes z []) (append-nil c.inner)
+    (c.goes [])))
 
 -- ---- a class escape
 
@@ -88,30 +88,29 @@ whole_if false p q h k = k
 bracket_whole : (w : Text) → Chunk w → IsWhole (code "[" ∷ (w ++ code "]" ∷ []))
 bracket_whole w c =
     class_whole (w ++ code "]" ∷ []) (scalars_append w (code "]" ∷ []) c.scalars refl)
-    (subst (λ z. ClassGoes (bytes (code "[" ∷ (w ++ code "]" ∷ []))) z []) (append-nil (w ++ code "]" ∷ []))
-    (bracket_goes w c (bytes (code "[" ∷ (w ++ code "]" ∷ []))) []))
+    (subst (λ z. ClassGoes z []) (append-nil (w ++ code "]" ∷ []))
+    (bracket_goes w c []))
 
 caret_whole : (w : Text) → Chunk w → IsWhole (code "[" ∷ code "^" ∷ (w ++ code "]" ∷ []))
 caret_whole w c =
-    let m = bytes (code "[" ∷ code "^" ∷ (w ++ code "]" ∷ [])) in
     class_whole (code "^" ∷ (w ++ code "]" ∷ [])) (scalars_append w (code "]" ∷ []) c.scalars refl)
-    (subst (λ z. ClassGoes m (code "^" ∷ z) []) (append-nil (w ++ code "]" ∷ [])) (caret_goes w c m []))
+    (subst (λ z. ClassGoes (code "^" ∷ z) []) (append-nil (w ++ code "]" ∷ [])) (caret_goes w c []))
 
 small_whole : (w : Text) → IsName w → IsWhole (code "\\" ∷ code "p" ∷ code "{" ∷ (w ++ code "}" ∷ []))
 small_whole w h =
     escape_whole (code "p" ∷ code "{" ∷ (w ++ code "}" ∷ [])) _ _
     (scalars_append w (code "}" ∷ []) (name_scalars w h) refl)
-    (braced_small _ _ false w [] h)
+    (braced_small _ false w [] h)
 
 large_whole : (w : Text) → IsName w → IsWhole (code "\\" ∷ code "P" ∷ code "{" ∷ (w ++ code "}" ∷ []))
 large_whole w h =
     escape_whole (code "P" ∷ code "{" ∷ (w ++ code "}" ∷ [])) _ _
     (scalars_append w (code "}" ∷ []) (name_scalars w h) refl)
-    (braced_large _ _ false w [] h)
+    (braced_large _ false w [] h)
 
 single_whole : (b : Bool) (c : ℕ) → (c == code "{") ≡ false → IsScalar c → IsWhole (letter b ++ c ∷ [])
-single_whole false c h k = escape_whole (code "p" ∷ c ∷ []) _ _ (and_from _ true k refl) (single_small _ _ false c [] h)
-single_whole true c h k = escape_whole (code "P" ∷ c ∷ []) _ _ (and_from _ true k refl) (single_large _ _ false c [] h)
+single_whole false c h k = escape_whole (code "p" ∷ c ∷ []) _ _ (and_from _ true k refl) (single_small _ false c [] h)
+single_whole true c h k = escape_whole (code "P" ∷ c ∷ []) _ _ (and_from _ true k refl) (single_large _ false c [] h)
 
 letters_whole : Each (λ c. IsWhole (code "\\" ∷ c ∷ [])) (codes "dDsSwW")
 unfolding class_of escape
@@ -162,22 +161,22 @@ unfolding property read_property
 outside_property u i p c [] h = tt
 outside_property u i p c (d ∷ t) h = read_whole u i p (c ∈ "P") (name_at (d ∷ t)) (name_ok d t h)
 
-outside_whole : (u i : Bool) (n p : ℕ) (t : Text) → all_scalars t ≡ true →
-    WholeOf (escape n (case_flags u i) false p t)
+outside_whole : (u i : Bool) (p : ℕ) (t : Text) → all_scalars t ≡ true →
+    WholeOf (escape (case_flags u i) false p t)
 unfolding escape number_escape
-outside_whole u i n p [] k = tt
-outside_whole u i n p (c ∷ t) k =
+outside_whole u i p [] k = tt
+outside_whole u i p (c ∷ t) k =
     let f = case_flags u i in
-    whole_if (is_ascii_digit c) (number_escape n f false p (c ∷ t)) _
-    (λ _. whole_none _ (backref_leaf_none f (numbered_reference n (c ∷ t))))
+    whole_if (is_ascii_digit c) (number_escape f false p (c ∷ t)) _
+    (λ _. whole_none _ (backref_leaf_none f (numbered_reference (c ∷ t))))
     (whole_if (c ∈ "dDsSwW") (gives (escaped.delegate (code "\\" ∷ c ∷ []) i) t) _ (λ e. letter_whole c e)
     (whole_if (c ∈ "h") (gives (escaped.delegate (codes "[0-9A-Fa-f]") false) t) _
     (λ _. bracket_whole (codes "0-9A-Fa-f") hex_word)
     (whole_if (c ∈ "H") (gives (escaped.delegate (codes "[^0-9A-Fa-f]") false) t) _
     (λ _. caret_whole (codes "0-9A-Fa-f") hex_word)
-    (whole_if (c ∈ "x") (hex n f 2 t) _ (λ _. whole_none _ (hex_none n f 2 t))
-    (whole_if (c ∈ "u") (hex n f 4 t) _ (λ _. whole_none _ (hex_none n f 4 t))
-    (whole_if (c ∈ "U") (hex n f 8 t) _ (λ _. whole_none _ (hex_none n f 8 t))
+    (whole_if (c ∈ "x") (hex f 2 t) _ (λ _. whole_none _ (hex_none f 2 t))
+    (whole_if (c ∈ "u") (hex f 4 t) _ (λ _. whole_none _ (hex_none f 4 t))
+    (whole_if (c ∈ "U") (hex f 8 t) _ (λ _. whole_none _ (hex_none f 8 t))
     (whole_if (c ∈ "pP") (property f false p c t) _ (λ _. outside_property u i p c t (and_parts _ (all_scalars t) k).1)
     (whole_if (c ∈ "a") (gives (escaped.literal 7 false) t) _ (λ _. tt)
     (whole_if (c ∈ "f") (gives (escaped.literal 12 false) t) _ (λ _. tt)
@@ -187,7 +186,7 @@ outside_whole u i n p (c ∷ t) k =
     (whole_if (c ∈ "v") (gives (escaped.literal 11 false) t) _ (λ _. tt)
     (whole_if (c ∈ "e") (gives (escaped.literal 27 false) t) _ (λ _. tt)
     (whole_if (is_itself false c) (gives (escaped.literal c false) t) _ (λ _. tt)
-    (whole_none _ (outside_none u i n p c t)))))))))))))))))
+    (whole_none _ (outside_none u i p c t)))))))))))))))))
 
 -- ---- a Delegate
 
@@ -196,21 +195,20 @@ bracket_stays : (u i : Bool) (t : Text) → IsWhole (code "[" ∷ t) →
 bracket_stays u i t h =
     let (k, whole) = and_parts (all_scalars (code "[" ∷ t)) _ h in
     let (w, e) = bracket_read t whole in
-    let (x, same) = class_carries u i (bytes (code "[" ∷ t)) t w [] e in
-    let here = same (bytes (code "[" ∷ t)) [] in
+    let (x, same) = class_carries u i t w [] e in
+    let here = same [] in
     ap printable (bracket_normal u i t x here)
-    ∙ class_stays u i (bytes (code "[" ∷ t)) (t ++ []) x (scalars_append t [] k refl) here
+    ∙ class_stays u i (t ++ []) x (scalars_append t [] k refl) here
 
 escape_stays : (u i : Bool) (t : Text) → IsWhole (code "\\" ∷ t) →
     printable (normal u (delegate (code "\\" ∷ t) i)) ≡ true
 escape_stays u i t h =
     let (k, whole) = and_parts (all_scalars (code "\\" ∷ t)) _ h in
     let (w, b, e) = escape_read t whole in
-    let n = bytes (code "\\" ∷ t) in
-    let p = place_of n (code "\\" ∷ t) in
-    let (x, c, same) = escape_carries u i n p t w [] b e in
-    ap printable (escape_normal u i t x c (same n p []))
-    ∙ subst WholeOf (same n p []) (outside_whole u i n p (t ++ []) (scalars_append t [] k refl))
+    let p = reach_of (code "\\" ∷ t) in
+    let (x, c, same) = escape_carries u i p t w [] b e in
+    ap printable (escape_normal u i t x c (same p []))
+    ∙ subst WholeOf (same p []) (outside_whole u i p (t ++ []) (scalars_append t [] k refl))
 
 no_class : {X : Type 0} (s : Text) → false ≡ is_some (class_of (unicode_flags false) s) → IsWhole s → X
 no_class s e h = absurd (false≢true (e ∙ (and_parts (all_scalars s) _ h).1))

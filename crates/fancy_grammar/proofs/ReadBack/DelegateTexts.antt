@@ -8,7 +8,7 @@ use Rattle.fancy_lex.specs.Escape.{escape}
 use Rattle.fancy_lex.specs.Escaped as escaped
 use Rattle.fancy_lex.specs.Escaped.{Escape}
 use Rattle.fancy_lex.specs.Reading.{Reading, gives, fails}
-use Rattle.fancy_lex.specs.Text.{Text, bytes, place_of}
+use Rattle.fancy_lex.specs.Text.{Text, bytes, reach_of}
 use Rattle.fancy_grammar.specs.Ahead.{leaf, leaf_node, leaf_outcome}
 use Rattle.fancy_grammar.specs.State.{State, Outcome}
 use Rattle.fancy_grammar.specs.Tree.{Tree, delegate}
@@ -35,36 +35,36 @@ bracket_whole s (gives w v) h = (w, ap (gives w) (whole_is v (delegate w false) 
 bracket_whole s (fails e) h = absurd (false≢true h)
 
 pub bracket_read : (t : Text) → is_some (class_of (unicode_flags false) (code "[" ∷ t)) ≡ true →
-    (w : Text) × (class (bytes (code "[" ∷ t)) (unicode_flags false) t ≡ gives w [])
+    (w : Text) × (class (unicode_flags false) t ≡ gives w [])
 unfolding class_of
 bracket_read t h = bracket_whole (st (unicode_flags false) (code "[" ∷ t)) _ h
 
 pub bracket_normal : (u i : Bool) (t x : Text) →
-    class (bytes (code "[" ∷ t)) (case_flags u i) (t ++ []) ≡ gives x [] →
+    class (case_flags u i) (t ++ []) ≡ gives x [] →
     normal u (delegate (code "[" ∷ t) i) ≡ delegate x i
 unfolding class_of
 bracket_normal u i t x e =
     ap (λ o. unwrap_or (whole_leaf (leaf_outcome (λ w. delegate w i) (st (case_flags u i) (code "[" ∷ t)) o))
     (delegate (code "[" ∷ t) i))
-    (ap (class (bytes (code "[" ∷ t)) (case_flags u i)) (sym (append-nil t)) ∙ e)
+    (ap (class (case_flags u i)) (sym (append-nil t)) ∙ e)
 
-bracket_atom : (n d : ℕ) (u i : Bool) (t x v : Text) → class n (case_flags u i) (t ++ v) ≡ gives x v →
-    AtomAs n d (case_flags u i) (code "[" ∷ (t ++ v)) v (delegate x i)
-bracket_atom n d u i t x v e =
+bracket_atom : (d : ℕ) (u i : Bool) (t x v : Text) → class (case_flags u i) (t ++ v) ≡ gives x v →
+    AtomAs d (case_flags u i) (code "[" ∷ (t ++ v)) v (delegate x i)
+bracket_atom d u i t x v e =
     let g = case_flags u i in
-    reads_leaf n d g (code "[" ∷ (t ++ v)) v (delegate x i)
-    (leaf_at n d g (code "[") (t ++ v) refl refl
+    reads_leaf d g (code "[" ∷ (t ++ v)) v (delegate x i)
+    (leaf_at d g (code "[") (t ++ v) refl refl
     ∙ ap (λ o. leaf (leaf_outcome (λ w. delegate w i) (st g (code "[" ∷ (t ++ v))) o)) e)
-    (record { is = λ r. refl; groups = tt })
+    (record { is = λ z r. refl; groups = tt })
 
 bracket_text : (t : Text) → is_some (class_of (unicode_flags false) (code "[" ∷ t)) ≡ true → DelegateText (code "[" ∷ t)
 bracket_text t h =
     let (w, e) = bracket_read t h in
     record {
-      reads = λ n d u i v.
-          let (x, same) = class_carries u i (bytes (code "[" ∷ t)) t w [] e in
-          subst (AtomAs n d (case_flags u i) (code "[" ∷ (t ++ v)) v)
-          (sym (bracket_normal u i t x (same (bytes (code "[" ∷ t)) []))) (bracket_atom n d u i t x v (same n v));
+      reads = λ d u i v.
+          let (x, same) = class_carries u i t w [] e in
+          subst (AtomAs d (case_flags u i) (code "[" ∷ (t ++ v)) v)
+          (sym (bracket_normal u i t x (same []))) (bracket_atom d u i t x v (same v));
       begins = λ v. begins_by refl refl refl;
     }
 
@@ -82,13 +82,13 @@ escape_whole s (fails e) h = absurd (false≢true h)
 
 pub escape_read : (t : Text) → is_some (class_of (unicode_flags false) (code "\\" ∷ t)) ≡ true
     → (w : Text) × (b : Bool)
-    × (escape (bytes (code "\\" ∷ t)) (unicode_flags false) false (place_of (bytes (code "\\" ∷ t)) (code "\\" ∷ t)) t
+    × (escape (unicode_flags false) false (reach_of (code "\\" ∷ t)) t
     ≡ gives (escaped.delegate w b) [])
 unfolding class_of
 escape_read t h = escape_whole (st (unicode_flags false) (code "\\" ∷ t)) _ h
 
 pub escape_normal : (u i : Bool) (t x : Text) (b : Bool) →
-    escape (bytes (code "\\" ∷ t)) (case_flags u i) false (place_of (bytes (code "\\" ∷ t)) (code "\\" ∷ t))
+    escape (case_flags u i) false (reach_of (code "\\" ∷ t))
     (t ++ []) ≡ gives
     (escaped.delegate x b) []
     → normal u (delegate (code "\\" ∷ t) i) ≡ delegate x b
@@ -96,31 +96,30 @@ unfolding class_of
 escape_normal u i t x b e =
     ap (λ o. unwrap_or (whole_leaf (leaf_outcome leaf_node (st (case_flags u i) (code "\\" ∷ t)) o))
     (delegate (code "\\" ∷ t) i))
-    (ap (escape (bytes (code "\\" ∷ t)) (case_flags u i) false (place_of (bytes (code "\\" ∷ t)) (code "\\" ∷ t)))
+    (ap (escape (case_flags u i) false (reach_of (code "\\" ∷ t)))
     (sym (append-nil t)) ∙ e)
 
-escape_atom : (n d : ℕ) (u i : Bool) (t x v : Text) (b : Bool) →
-    escape n (case_flags u i) false (place_of n (code "\\" ∷ (t ++ v))) (t ++ v) ≡ gives (escaped.delegate x b) v
-    → AtomAs n d (case_flags u i) (code "\\" ∷ (t ++ v)) v (delegate x b)
-escape_atom n d u i t x v b e =
+escape_atom : (d : ℕ) (u i : Bool) (t x v : Text) (b : Bool) →
+    escape (case_flags u i) false (reach_of (code "\\" ∷ (t ++ v))) (t ++ v) ≡ gives (escaped.delegate x b) v
+    → AtomAs d (case_flags u i) (code "\\" ∷ (t ++ v)) v (delegate x b)
+escape_atom d u i t x v b e =
     let g = case_flags u i in
-    reads_leaf n d g (code "\\" ∷ (t ++ v)) v (delegate x b)
-    (leaf_at n d g (code "\\") (t ++ v) refl refl
+    reads_leaf d g (code "\\" ∷ (t ++ v)) v (delegate x b)
+    (leaf_at d g (code "\\") (t ++ v) refl refl
     ∙ ap (λ o. leaf (leaf_outcome leaf_node (st g (code "\\" ∷ (t ++ v))) o)) e)
-    (record { is = λ r. refl; groups = tt })
+    (record { is = λ z r. refl; groups = tt })
 
 escape_text : (t : Text) → is_some (class_of (unicode_flags false) (code "\\" ∷ t)) ≡ true →
     DelegateText (code "\\" ∷ t)
 escape_text t h =
     let (w, b, e) = escape_read t h in
-    let n0 = bytes (code "\\" ∷ t) in
-    let p0 = place_of n0 (code "\\" ∷ t) in
+    let p0 = reach_of (code "\\" ∷ t) in
     record {
-      reads = λ n d u i v.
-          let (x, c, same) = escape_carries u i n0 p0 t w [] b e in
-          subst (AtomAs n d (case_flags u i) (code "\\" ∷ (t ++ v)) v)
-          (sym (escape_normal u i t x c (same n0 p0 [])))
-          (escape_atom n d u i t x v c (same n (place_of n (code "\\" ∷ (t ++ v))) v));
+      reads = λ d u i v.
+          let (x, c, same) = escape_carries u i p0 t w [] b e in
+          subst (AtomAs d (case_flags u i) (code "\\" ∷ (t ++ v)) v)
+          (sym (escape_normal u i t x c (same p0 [])))
+          (escape_atom d u i t x v c (same (reach_of (code "\\" ∷ (t ++ v))) v));
       begins = λ v. begins_by refl refl refl;
     }
 

@@ -34,41 +34,41 @@ use Rattle.fancy_grammar.proofs.ReadBack.ShapeLemmas.{clear_put, clear_puts}
 
 -- what k prints, with m groups nested, reads as the tree x
 abbrev pub ReadsAtom : Bool → (Text → Text) → ℕ → Tree → Type 0
-ReadsAtom u k m x = (n d : ℕ) (v : Text) → d + m < max_depth → NoName v → AtomAs n d (unicode_flags u) (k v) v x
+ReadsAtom u k m x = (d : ℕ) (v : Text) → d + m < max_depth → NoName v → AtomAs d (unicode_flags u) (k v) v x
 
 abbrev pub ReadsRun : Bool → (Text → Text) → ℕ → List Tree → Type 0
-ReadsRun u k m ys = (n d : ℕ) (v : Text) → d + m < max_depth → Clear v → Run n d (unicode_flags u) (k v) v ys
+ReadsRun u k m ys = (d : ℕ) (v : Text) → d + m < max_depth → Clear v → Run d (unicode_flags u) (k v) v ys
 
 abbrev pub ReadsBranch : Bool → (Text → Text) → ℕ → Tree → Type 0
-ReadsBranch u k m x = (n d : ℕ) (v : Text) → d + m < max_depth → Stops v → BranchAs n d (unicode_flags u) (k v) v x
+ReadsBranch u k m x = (d : ℕ) (v : Text) → d + m < max_depth → Stops v → BranchAs d (unicode_flags u) (k v) v x
 
 abbrev pub ReadsWhole : Bool → (Text → Text) → ℕ → Tree → Type 0
-ReadsWhole u k m x = (n d : ℕ) (v : Text) → d + m < max_depth → Ends v → WholeAs n d (unicode_flags u) (k v) v x
+ReadsWhole u k m x = (d : ℕ) (v : Text) → d + m < max_depth → Ends v → WholeAs d (unicode_flags u) (k v) v x
 
 abbrev pub Starts : (Text → Text) → Type 0
 Starts k = (v : Text) → Begins (k v)
 
 atom_run : (u : Bool) (k : Text → Text) (m : ℕ) (x : Tree) → Starts k → ReadsAtom u k m x →
     ReadsRun u k m (solid (x ∷ []))
-atom_run u k m x s a n d v l c =
-    reads_piece n d (unicode_flags u) (k v) v x (kept_unicode u) (s v).goes (s v).clear.no_comment c
-    (a n d v l (clear_name v c))
+atom_run u k m x s a d v l c =
+    reads_piece d (unicode_flags u) (k v) v x (kept_unicode u) (s v).goes (s v).clear.no_comment c
+    (a d v l (clear_name v c))
 
 to_branch : (u : Bool) (k : Text → Text) (m : ℕ) (ys : List Tree) (x : Tree) → join ys ≡ x → ReadsRun u k m ys →
     ReadsBranch u k m x
-to_branch u k m ys x e r n d v l h = reads_branch x (r n d v l h.clear) e h
+to_branch u k m ys x e r d v l h = reads_branch x (r d v l h.clear) e h
 
 to_whole : (u : Bool) (k : Text → Text) (m : ℕ) (x : Tree) → ReadsBranch u k m x → ReadsWhole u k m x
-to_whole u k m x b n d v l e = reads_only n d (unicode_flags u) (k v) v x (b n d v l e.stops) e
+to_whole u k m x b d v l e = reads_only d (unicode_flags u) (k v) v x (b d v l e.stops) e
 
 -- in a group of its own
 abbrev pub wrapped : (Text → Text) → Text → Text
 wrapped k v = open_if true (k (code ")" ∷ v))
 
 wrap_atom : (u : Bool) (k : Text → Text) (m : ℕ) (x : Tree) → ReadsWhole u k m x → ReadsAtom u (wrapped k) (1 + m) x
-wrap_atom u k m x w n d v l _ =
-    reads_grouped n d (unicode_flags u) (k (code ")" ∷ v)) v x (kept_unicode u) (omega arith)
-    (w n (d + 1) (code ")" ∷ v) (omega arith) (ends_close v))
+wrap_atom u k m x w d v l _ =
+    reads_grouped d (unicode_flags u) (k (code ")" ∷ v)) v x (kept_unicode u) (omega arith)
+    (w (d + 1) (code ")" ∷ v) (omega arith) (ends_close v))
 
 pub wrap_starts : (k : Text → Text) → Starts (wrapped k)
 wrap_starts k v = begins_head (code ":") (k (code ")" ∷ v)) refl
@@ -111,7 +111,7 @@ by_whole u k m i x w =
       high = r;
       run = r;
       branch = to_branch u (wrapped k) (1 + m) (solid (x ∷ [])) x (join_one x) r;
-      whole = λ n d v l e. w n d v (omega arith) e;
+      whole = λ d v l e. w d v (omega arith) e;
     }
 
 -- wrapped from 2 on
@@ -127,8 +127,8 @@ by_branch u k m i x ys e r =
       atom = λ _. a;
       high = h;
       run = h;
-      branch = λ n d v l c. b n d v (omega arith) c;
-      whole = λ n d v l c. w n d v (omega arith) c;
+      branch = λ d v l c. b d v (omega arith) c;
+      whole = λ d v l c. w d v (omega arith) c;
     }
 
 -- wrapped from 3 on
@@ -141,9 +141,9 @@ by_run u k m i x r =
     record {
       atom = λ _. a;
       high = atom_run u (wrapped k) (1 + m) x (wrap_starts k) a;
-      run = λ n d v l c. r n d v (omega arith) c;
-      branch = λ n d v l c. b n d v (omega arith) c;
-      whole = λ n d v l c. w n d v (omega arith) c;
+      run = λ d v l c. r d v (omega arith) c;
+      branch = λ d v l c. b d v (omega arith) c;
+      whole = λ d v l c. w d v (omega arith) c;
     }
 
 -- ---- each kind of tree
@@ -151,7 +151,7 @@ by_run u k m i x r =
 empty_reads : (u : Bool) → ReadsTree u empty
 empty_reads u =
     let k = λ (v : Text). v in
-    let r : ReadsRun u k 0 [] = λ n d v l c. no_run n d (unicode_flags u) v in
+    let r : ReadsRun u k 0 [] = λ d v l c. no_run d (unicode_flags u) v in
     let b = to_branch u k 0 [] empty refl r in
     record { atom = λ i. absurd i; high = r; run = r; branch = b; whole = to_whole u k 0 empty b }
 
@@ -163,7 +163,7 @@ define_reads u t =
 any_reads : (u a b : Bool) → ReadsTree u (any a b)
 any_reads u a b =
     by_atom u (put_any a b) (one_if (a || b)) (Unit {0}) (any a (not a && b)) (begins_any a b)
-    (λ n d v l _. reads_any n d u a b v l)
+    (λ d v l _. reads_any d u a b v l)
 
 assertion_is : (u : Bool) (a : Assertion) → read_assertion a ≡ normal u (assertion a)
 assertion_is u (StartLineOniguruma crlf) = refl
@@ -175,7 +175,7 @@ assertion_reads u a h =
     let m = one_if (is_at_line a) in
     subst (λ x. ReadsBy u k k k k m m m m (Unit {0}) x (solid (x ∷ []))) (assertion_is u a)
     (by_atom u k m (Unit {0}) (read_assertion a) (λ v. begins_assertion a v h)
-    (λ n d v l e. reads_assertion n d u a v h l e))
+    (λ d v l e. reads_assertion d u a v h l e))
 
 caseless_reads : (u : Bool) (s : Text) → ReadsTree u (literal s true)
 caseless_reads u s =
@@ -183,77 +183,77 @@ caseless_reads u s =
     let f = case_flags u true in
     let x = join (map (normal_character true) s) in
     by_atom u k 1 (Unit {0}) x (λ v. begins_head (code "i") _ refl)
-    (λ n d v l _. reads_caseless n d u (put_quotes s (code ")" ∷ v)) v x l
-    (reads_only n (d + 1) f (put_quotes s (code ")" ∷ v)) (code ")" ∷ v) x
-    (reads_branch x (quotes_run n (d + 1) f s (code ")" ∷ v) (kept_case u true) (clear_close v)) refl
+    (λ d v l _. reads_caseless d u (put_quotes s (code ")" ∷ v)) v x l
+    (reads_only (d + 1) f (put_quotes s (code ")" ∷ v)) (code ")" ∷ v) x
+    (reads_branch x (quotes_run (d + 1) f s (code ")" ∷ v) (kept_case u true) (clear_close v)) refl
     (ends_close v).stops) (ends_close v)))
 
 literal_atom : (u : Bool) (s : Text) → IsAtom (literal s false) →
     ReadsAtom u (put_quotes s) 0 (join (map (normal_character false) s))
-literal_atom u [] i n d v l _ = absurd i
-literal_atom u (c ∷ []) i n d v l _ = reads_char n d (unicode_flags u) c v (behind_backslash c) refl
-literal_atom u (c ∷ e ∷ cs) i n d v l _ = absurd i
+literal_atom u [] i d v l _ = absurd i
+literal_atom u (c ∷ []) i d v l _ = reads_char d (unicode_flags u) c v (behind_backslash c) refl
+literal_atom u (c ∷ e ∷ cs) i d v l _ = absurd i
 
 literal_reads : (u : Bool) (s : Text) → ReadsTree u (literal s false)
 literal_reads u s =
     let k = put_quotes s in
     let ys = map (normal_character false) s in
-    let r : ReadsRun u k 0 ys = λ n d v l c. quotes_run n d (unicode_flags u) s v (kept_unicode u) c in
+    let r : ReadsRun u k 0 ys = λ d v l c. quotes_run d (unicode_flags u) s v (kept_unicode u) c in
     let b = to_branch u k 0 ys (join ys) refl r in
     record { atom = literal_atom u s; high = r; run = r; branch = b; whole = to_whole u k 0 (join ys) b }
 
 delegate_reads : (u : Bool) (s : Text) → DelegateText s → ReadsTree u (delegate s false)
 delegate_reads u s h =
-    by_atom u (λ v. s ++ v) 0 (Unit {0}) (normal u (delegate s false)) h.begins (λ n d v l _. h.reads n d u false v)
+    by_atom u (λ v. s ++ v) 0 (Unit {0}) (normal u (delegate s false)) h.begins (λ d v l _. h.reads d u false v)
 
 caseless_delegate_reads : (u : Bool) (s : Text) → DelegateText s → ReadsTree u (delegate s true)
 caseless_delegate_reads u s h =
     let x = normal u (delegate s true) in
     by_atom u (λ v. code "(" ∷ code "?" ∷ code "i" ∷ code ":" ∷ (s ++ code ")" ∷ v)) 1 (Unit {0}) x
     (λ v. begins_head (code "i") _ refl)
-    (λ n d v l _. reads_caseless n d u (s ++ code ")" ∷ v) v x l
-    (whole_atom n (d + 1) (case_flags u true) (s ++ code ")" ∷ v) v x (kept_case u true)
-    (h.begins (code ")" ∷ v)) (h.reads n (d + 1) u true (code ")" ∷ v))))
+    (λ d v l _. reads_caseless d u (s ++ code ")" ∷ v) v x l
+    (whole_atom (d + 1) (case_flags u true) (s ++ code ")" ∷ v) v x (kept_case u true)
+    (h.begins (code ")" ∷ v)) (h.reads (d + 1) u true (code ")" ∷ v))))
 
 group_reads : (u : Bool) (t : Tree) → Printable t → ReadsTree u t → ReadsTree u (group t)
 group_reads u t h r =
     let k = λ (v : Text). code "(" ∷ put t 0 (code ")" ∷ v) in
     by_atom u k (1 + nest t 0) (Unit {0}) (group (normal u t))
     (λ v. begins_group _ (clear_put t h 0 (code ")" ∷ v) (clear_close v)))
-    (λ n d v l _. reads_group n d (unicode_flags u) (put t 0 (code ")" ∷ v)) v (normal u t) (kept_unicode u)
+    (λ d v l _. reads_group d (unicode_flags u) (put t 0 (code ")" ∷ v)) v (normal u t) (kept_unicode u)
     (omega arith) (clear_put t h 0 (code ")" ∷ v) (clear_close v))
-    (r.whole n (d + 1) (code ")" ∷ v) (omega arith) (ends_close v)))
+    (r.whole (d + 1) (code ")" ∷ v) (omega arith) (ends_close v)))
 
 concat_run : (u : Bool) (ts : Trees) → ArePrintable ts → EachReads u ts →
     ReadsRun u (puts ts) (nests ts 2) (normal_pieces u ts)
-concat_run u no_trees h r n d v l c = no_run n d (unicode_flags u) v
-concat_run u (more_trees t ts) h r n d v l c =
-    run_chain (r.0.run n d (puts ts v) (omega arith) (clear_puts ts h.1 v c))
-    (concat_run u ts h.1 r.1 n d v (omega arith) c)
+concat_run u no_trees h r d v l c = no_run d (unicode_flags u) v
+concat_run u (more_trees t ts) h r d v l c =
+    run_chain (r.0.run d (puts ts v) (omega arith) (clear_puts ts h.1 v c))
+    (concat_run u ts h.1 r.1 d v (omega arith) c)
 
 concat_reads : (u : Bool) (ts : Trees) → ArePrintable ts → EachReads u ts → ReadsTree u (concat ts)
 concat_reads u ts h r =
     by_branch u (puts ts) (nests ts 2) (Unit {0}) (join (normal_pieces u ts)) (normal_pieces u ts) refl
     (concat_run u ts h r)
 
-alt_branches : (u : Bool) (t : Tree) (ts : Trees) → ReadsTree u t → EachReads u ts → (n d : ℕ) (v : Text) →
+alt_branches : (u : Bool) (t : Tree) (ts : Trees) → ReadsTree u t → EachReads u ts → (d : ℕ) (v : Text) →
     d + nest t 1 < max_depth → d + nests ts 1 < max_depth → Ends v
-    → BranchesAs n d (unicode_flags u) (put t 1 (put_barred ts v)) v (normal u t ∷ normals u ts)
-alt_branches u t no_trees r rs n d v l m e =
-    reads_last n d (unicode_flags u) (put t 1 v) v (normal u t) (r.branch n d v l e.stops) e
-alt_branches u t (more_trees x xs) r rs n d v l m e =
-    reads_more n d (unicode_flags u) (put t 1 (code "|" ∷ put x 1 (put_barred xs v))) (put x 1 (put_barred xs v)) v
+    → BranchesAs d (unicode_flags u) (put t 1 (put_barred ts v)) v (normal u t ∷ normals u ts)
+alt_branches u t no_trees r rs d v l m e =
+    reads_last d (unicode_flags u) (put t 1 v) v (normal u t) (r.branch d v l e.stops) e
+alt_branches u t (more_trees x xs) r rs d v l m e =
+    reads_more d (unicode_flags u) (put t 1 (code "|" ∷ put x 1 (put_barred xs v))) (put x 1 (put_barred xs v)) v
     (normal u t) (normal u x ∷ normals u xs)
-    (r.branch n d (code "|" ∷ put x 1 (put_barred xs v)) l (stops_bar _))
-    (alt_branches u x xs rs.0 rs.1 n d v (omega arith) (omega arith) e)
+    (r.branch d (code "|" ∷ put x 1 (put_barred xs v)) l (stops_bar _))
+    (alt_branches u x xs rs.0 rs.1 d v (omega arith) (omega arith) e)
 
 alt_whole : (u : Bool) (ts : Trees) → EachReads u ts →
     ReadsWhole u (put_branches ts) (nests ts 1) (choice (normals u ts))
-alt_whole u no_trees r n d v l e =
-    reads_only n d (unicode_flags u) v v empty (reads_branch empty (no_run n d (unicode_flags u) v) refl e.stops) e
-alt_whole u (more_trees t ts) r n d v l e =
-    reads_whole n d (unicode_flags u) (put t 1 (put_barred ts v)) v (normal u t ∷ normals u ts)
-    (alt_branches u t ts r.0 r.1 n d v (omega arith) (omega arith) e)
+alt_whole u no_trees r d v l e =
+    reads_only d (unicode_flags u) v v empty (reads_branch empty (no_run d (unicode_flags u) v) refl e.stops) e
+alt_whole u (more_trees t ts) r d v l e =
+    reads_whole d (unicode_flags u) (put t 1 (put_barred ts v)) v (normal u t ∷ normals u ts)
+    (alt_branches u t ts r.0 r.1 d v (omega arith) (omega arith) e)
 
 alt_reads : (u : Bool) (ts : Trees) → EachReads u ts → ReadsTree u (alt ts)
 alt_reads u ts r = by_whole u (put_branches ts) (nests ts 1) (Unit {0}) (choice (normals u ts)) (alt_whole u ts r)
@@ -272,7 +272,7 @@ from_run u t p r =
 atom_if : (u b : Bool) (k : Text → Text) (m : ℕ) (x : Tree) → (b ≡ false → ReadsAtom u k m x) → ReadsWhole u k m x →
     ReadsAtom u (λ v. open_if b (k (close_if b v))) (one_if b + m) x
 atom_if u true k m x a w = wrap_atom u k m x w
-atom_if u false k m x a w = λ n d v l c. a refl n d v (omega arith) c
+atom_if u false k m x a w = λ d v l c. a refl d v (omega arith) c
 
 -- what a quantifier is put behind is one atom
 repeated_atom : (u : Bool) (t : Tree) → is_repeatable (unicode_flags false) (normal false t) ≡ true → ReadsTree u t →
@@ -283,13 +283,13 @@ repeated_atom u t n r =
 repeat_run : (u : Bool) (t : Tree) (lo hi : ℕ) (greedy : Bool) → Printable (repeat t lo hi greedy) → ReadsTree u t
     → ReadsRun u (λ v. put_repeated t (quantifier lo hi greedy ++ v)) (one_if (is_long t) + nest t 3)
     (repeat (normal u t) lo hi greedy ∷ [])
-repeat_run u t lo hi greedy h r n d v l c =
+repeat_run u t lo hi greedy h r d v l c =
     let q = quantifier lo hi greedy ++ v in
     let m = quantifier_read lo hi greedy v h.2 h.3 in
     let b = begins_repeated t (h.1 false) (begins_atom t h.0) q in
-    reads_repeat n d (unicode_flags u) (put_repeated t q) q v (normal u t) lo hi greedy
+    reads_repeat d (unicode_flags u) (put_repeated t q) q v (normal u t) lo hi greedy
     (kept_unicode u) b.goes b.clear.no_comment c m (h.1 u)
-    (repeated_atom u t (h.1 false) r n d q l m.no_name)
+    (repeated_atom u t (h.1 false) r d q l m.no_name)
 
 repeat_reads : (u : Bool) (t : Tree) (lo hi : ℕ) (greedy : Bool) → Printable (repeat t lo hi greedy) → ReadsTree u t →
     ReadsTree u (repeat t lo hi greedy)
@@ -336,7 +336,7 @@ nest_high t p h = refl
 abbrev ReadsFrom : Bool → Tree → Text → Type 0
 ReadsFrom u t s = (r : Tree) × DerivesTree (unicode_flags u) s r × Becomes r (normal u t)
 
-from_whole : (u : Bool) (t : Tree) (s : Text) → WholeAs (bytes s) 0 (unicode_flags u) s [] (normal u t) →
+from_whole : (u : Bool) (t : Tree) (s : Text) → WholeAs 0 (unicode_flags u) s [] (normal u t) →
     ReadsFrom u t s
 from_whole u t s w = reads_text (unicode_flags u) s (normal u t) w
 
@@ -344,7 +344,7 @@ at_level : (t : Tree) (p : ℕ) (u : Bool) → nest t p < max_depth → ReadsWho
     ReadsFrom u t (printed t p)
 at_level t p u l w =
     subst (ReadsFrom u t) (put_alone t p)
-    (from_whole u t (put t p []) (w (bytes (put t p [])) 0 [] (omega arith) ends_nothing))
+    (from_whole u t (put t p []) (w 0 [] (omega arith) ends_nothing))
 
 pub reads_back : (t : Tree) (p : ℕ) (u : Bool) → Printable t → nest t p < max_depth → ReadsFrom u t (printed t p)
 reads_back t zero u h l = at_level t 0 u l (reads u t h).whole

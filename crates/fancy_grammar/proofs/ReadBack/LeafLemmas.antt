@@ -8,7 +8,7 @@ use Rattle.fancy_lex.specs.Escape.{escape, outside}
 use Rattle.fancy_lex.specs.Escaped as escaped
 use Rattle.fancy_lex.specs.LayoutSteps.{after_comment_head, layout_from}
 use Rattle.fancy_lex.specs.Reading.{gives}
-use Rattle.fancy_lex.specs.Text.{Text, bytes, place_of}
+use Rattle.fancy_lex.specs.Text.{Text, bytes, reach_of}
 use Rattle.fancy_lex.specs.declared.escape.Assertion.{Assertion}
 use Rattle.fancy_lex.specs.declared.escape.Assertion.TheVariants.{StartText, EndText, EndTextIgnoreTrailingNewlines}
 use Rattle.fancy_lex.specs.declared.escape.Assertion.TheVariants.{StartLine, StartLineOniguruma, EndLine}
@@ -45,11 +45,11 @@ pub begins_by : {s : Text} → after_comment_head s ≡ None → begins_mark s �
 begins_by e m g = record { clear = record { no_comment = e; no_mark = m }; goes = g }
 
 -- an atom alone in a group
-pub whole_atom : (n d : ℕ) (f : Flags) (s v : Text) (x : Tree) → Kept f → Begins s → AtomAs n d f s (code ")" ∷ v) x →
-    WholeAs n d f s (code ")" ∷ v) x
-whole_atom n d f s v x k b a =
-    reads_only n d f s (code ")" ∷ v) x
-    (reads_branch x (reads_piece n d f s (code ")" ∷ v) x k b.goes b.clear.no_comment (clear_close v) a) (join_one x)
+pub whole_atom : (d : ℕ) (f : Flags) (s v : Text) (x : Tree) → Kept f → Begins s → AtomAs d f s (code ")" ∷ v) x →
+    WholeAs d f s (code ")" ∷ v) x
+whole_atom d f s v x k b a =
+    reads_only d f s (code ")" ∷ v) x
+    (reads_branch x (reads_piece d f s (code ")" ∷ v) x k b.goes b.clear.no_comment (clear_close v) a) (join_one x)
     (ends_close v).stops) (ends_close v)
 
 -- ---- characters
@@ -72,15 +72,15 @@ quotes_clear [] v h = h
 quotes_clear (c ∷ cs) v h = (begins_char c (put_quotes cs v) (behind_backslash c) refl).clear
 
 -- characters where nothing follows that takes the last
-pub quotes_run : (n d : ℕ) (f : Flags) (cs v : Text) → Kept f → Clear v →
-    Run n d f (put_quotes cs v) v (map (normal_character f.casei) cs)
-quotes_run n d f [] v k h = no_run n d f v
-quotes_run n d f (c ∷ cs) v k h =
+pub quotes_run : (d : ℕ) (f : Flags) (cs v : Text) → Kept f → Clear v →
+    Run d f (put_quotes cs v) v (map (normal_character f.casei) cs)
+quotes_run d f [] v k h = no_run d f v
+quotes_run d f (c ∷ cs) v k h =
     let s = put_quotes cs v in
     let b = begins_char c s (behind_backslash c) refl in
-    run_chain (reads_piece n d f (put_as c (behind_backslash c) s) s (normal_character f.casei c) k b.goes
+    run_chain (reads_piece d f (put_as c (behind_backslash c) s) s (normal_character f.casei c) k b.goes
     b.clear.no_comment
-    (quotes_clear cs v h) (reads_char n d f c s (behind_backslash c) refl)) (quotes_run n d f cs v k h)
+    (quotes_clear cs v h) (reads_char d f c s (behind_backslash c) refl)) (quotes_run d f cs v k h)
 
 -- ---- the flags of a group that is printed for a leaf
 
@@ -107,55 +107,55 @@ kept_multi u crlf = record { no_space = refl; not_swapped = refl; not_oniguruma 
 
 -- ---- any character
 
-reads_dot : (n d : ℕ) (f : Flags) (v : Text) → AtomAs n d f (code "." ∷ v) v (any f.dotnl f.crlf)
-reads_dot n d f v =
-    reads_leaf n d f (code "." ∷ v) v (any f.dotnl f.crlf) (leaf_at n d f (code ".") v refl refl) (record {
-      is = λ g. refl;
+reads_dot : (d : ℕ) (f : Flags) (v : Text) → AtomAs d f (code "." ∷ v) v (any f.dotnl f.crlf)
+reads_dot d f v =
+    reads_leaf d f (code "." ∷ v) v (any f.dotnl f.crlf) (leaf_at d f (code ".") v refl refl) (record {
+      is = λ n g. refl;
       groups = tt;
     })
 
 begins_dot : (v : Text) → Begins (code "." ∷ v)
 begins_dot v = begins_by refl refl refl
 
-minus_letters : (n : ℕ) (u : Bool) (s : Text) →
-    letters n (unicode_flags u) (code "R" ∷ code "-" ∷ code "s" ∷ code ":" ∷ s) ≡ gives (scoped (crlf_flags u)) s
+minus_letters : (u : Bool) (s : Text) →
+    letters (unicode_flags u) (code "R" ∷ code "-" ∷ code "s" ∷ code ":" ∷ s) ≡ gives (scoped (crlf_flags u)) s
 unfolding bytes
-minus_letters n u s =
+minus_letters u s =
     let t = code "R" ∷ code "-" ∷ code "s" ∷ code ":" ∷ s in
     let g = crlf_flags u in
     let far : (bytes (code ":" ∷ s) + 1 == bytes t) ≡ false =
     ne_eqb (bytes (code ":" ∷ s) + 1) (bytes t) (omega arith) in
     let k = kept_crlf u in
-    spelled n 3 (unicode_flags u) t (scoped g) s
-    (more_letters n t false (unicode_flags u) t (kept_unicode u) refl 2 false g (code "-" ∷ code "s" ∷ code ":" ∷ s)
+    spelled 3 (unicode_flags u) t (scoped g) s
+    (more_letters t false (unicode_flags u) t (kept_unicode u) refl 2 false g (code "-" ∷ code "s" ∷ code ":" ∷ s)
     (scoped g) s refl
-    (more_letters n t false g (code "-" ∷ code "s" ∷ code ":" ∷ s) k refl 1 true g (code "s" ∷ code ":" ∷ s)
+    (more_letters t false g (code "-" ∷ code "s" ∷ code ":" ∷ s) k refl 1 true g (code "s" ∷ code ":" ∷ s)
     (scoped g) s refl
-    (more_letters n t true g (code "s" ∷ code ":" ∷ s) k refl 0 true g (code ":" ∷ s) (scoped g) s refl
-    (last_letter n t true g (code ":" ∷ s) k refl (scoped g) s (cond-false _ _ _ far)))))
+    (more_letters t true g (code "s" ∷ code ":" ∷ s) k refl 0 true g (code ":" ∷ s) (scoped g) s refl
+    (last_letter t true g (code ":" ∷ s) k refl (scoped g) s (cond-false _ _ _ far)))))
     (omega arith)
 
-pub reads_any : (n d : ℕ) (u a b : Bool) (v : Text) → d + one_if (a || b) < max_depth →
-    AtomAs n d (unicode_flags u) (put_any a b v) v (any a (not a && b))
-reads_any n d u true b v l =
+pub reads_any : (d : ℕ) (u a b : Bool) (v : Text) → d + one_if (a || b) < max_depth →
+    AtomAs d (unicode_flags u) (put_any a b v) v (any a (not a && b))
+reads_any d u true b v l =
     let g = dotnl_flags u in
-    reads_scope n d (unicode_flags u) g (put_any true b v) (code "." ∷ code ")" ∷ v) v (any true false)
-    (scope_at n d (unicode_flags u) g (code "s" ∷ code ":" ∷ code "." ∷ code ")" ∷ v) (code "." ∷ code ")" ∷ v)
+    reads_scope d (unicode_flags u) g (put_any true b v) (code "." ∷ code ")" ∷ v) v (any true false)
+    (scope_at d (unicode_flags u) g (code "s" ∷ code ":" ∷ code "." ∷ code ")" ∷ v) (code "." ∷ code ")" ∷ v)
     (kept_unicode u) l refl refl
-    (one_letter n (unicode_flags u) g (code "s") (code "." ∷ code ")" ∷ v) (kept_unicode u)
+    (one_letter (unicode_flags u) g (code "s") (code "." ∷ code ")" ∷ v) (kept_unicode u)
     (kept_dotnl u) refl refl))
-    (whole_atom n (d + 1) g (code "." ∷ code ")" ∷ v) v (any true false) (kept_dotnl u) (begins_dot (code ")" ∷ v))
-    (reads_dot n (d + 1) g (code ")" ∷ v)))
-reads_any n d u false true v l =
+    (whole_atom (d + 1) g (code "." ∷ code ")" ∷ v) v (any true false) (kept_dotnl u) (begins_dot (code ")" ∷ v))
+    (reads_dot (d + 1) g (code ")" ∷ v)))
+reads_any d u false true v l =
     let g = crlf_flags u in
-    reads_scope n d (unicode_flags u) g (put_any false true v) (code "." ∷ code ")" ∷ v) v (any false true)
-    (scope_at n d (unicode_flags u) g (code "R" ∷ code "-" ∷ code "s" ∷ code ":" ∷ code "." ∷ code ")" ∷ v)
+    reads_scope d (unicode_flags u) g (put_any false true v) (code "." ∷ code ")" ∷ v) v (any false true)
+    (scope_at d (unicode_flags u) g (code "R" ∷ code "-" ∷ code "s" ∷ code ":" ∷ code "." ∷ code ")" ∷ v)
     (code "." ∷ code ")" ∷ v)
     (kept_unicode u) l refl refl
-    (minus_letters n u (code "." ∷ code ")" ∷ v)))
-    (whole_atom n (d + 1) g (code "." ∷ code ")" ∷ v) v (any false true) (kept_crlf u) (begins_dot (code ")" ∷ v))
-    (reads_dot n (d + 1) g (code ")" ∷ v)))
-reads_any n d u false false v l = reads_dot n d (unicode_flags u) v
+    (minus_letters u (code "." ∷ code ")" ∷ v)))
+    (whole_atom (d + 1) g (code "." ∷ code ")" ∷ v) v (any false true) (kept_crlf u) (begins_dot (code ")" ∷ v))
+    (reads_dot (d + 1) g (code ")" ∷ v)))
+reads_any d u false false v l = reads_dot d (unicode_flags u) v
 
 pub begins_any : (a b : Bool) (v : Text) → Begins (put_any a b v)
 begins_any true b v = begins_by refl refl refl
@@ -165,97 +165,97 @@ begins_any false false v = begins_dot v
 -- ---- conditions on a place
 
 -- an anchor under MULTI in a group of its own
-line_atom : (n d c : ℕ) (u r : Bool) (v : Text) (x : Tree) → d + 1 < max_depth → Begins (c ∷ code ")" ∷ v) →
-    AtomAs n (d + 1) (multi_flags u r) (c ∷ code ")" ∷ v) (code ")" ∷ v) x →
-    AtomAs n d (unicode_flags u) (put_line c r v) v x
+line_atom : (d c : ℕ) (u r : Bool) (v : Text) (x : Tree) → d + 1 < max_depth → Begins (c ∷ code ")" ∷ v) →
+    AtomAs (d + 1) (multi_flags u r) (c ∷ code ")" ∷ v) (code ")" ∷ v) x →
+    AtomAs d (unicode_flags u) (put_line c r v) v x
 unfolding bytes
-line_atom n d c u false v x l b a =
+line_atom d c u false v x l b a =
     let g = multi_flags u false in
-    reads_scope n d (unicode_flags u) g (put_line c false v) (c ∷ code ")" ∷ v) v x
-    (scope_at n d (unicode_flags u) g (code "m" ∷ code ":" ∷ c ∷ code ")" ∷ v) (c ∷ code ")" ∷ v)
+    reads_scope d (unicode_flags u) g (put_line c false v) (c ∷ code ")" ∷ v) v x
+    (scope_at d (unicode_flags u) g (code "m" ∷ code ":" ∷ c ∷ code ")" ∷ v) (c ∷ code ")" ∷ v)
     (kept_unicode u) l refl refl
-    (one_letter n (unicode_flags u) g (code "m") (c ∷ code ")" ∷ v) (kept_unicode u)
+    (one_letter (unicode_flags u) g (code "m") (c ∷ code ")" ∷ v) (kept_unicode u)
     (kept_multi u false) refl refl))
-    (whole_atom n (d + 1) g (c ∷ code ")" ∷ v) v x (kept_multi u false) b a)
-line_atom n d c u true v x l b a =
+    (whole_atom (d + 1) g (c ∷ code ")" ∷ v) v x (kept_multi u false) b a)
+line_atom d c u true v x l b a =
     let g = multi_flags u true in
-    reads_scope n d (unicode_flags u) g (put_line c true v) (c ∷ code ")" ∷ v) v x
-    (scope_at n d (unicode_flags u) g (code "R" ∷ code "m" ∷ code ":" ∷ c ∷ code ")" ∷ v) (c ∷ code ")" ∷ v)
+    reads_scope d (unicode_flags u) g (put_line c true v) (c ∷ code ")" ∷ v) v x
+    (scope_at d (unicode_flags u) g (code "R" ∷ code "m" ∷ code ":" ∷ c ∷ code ")" ∷ v) (c ∷ code ")" ∷ v)
     (kept_unicode u) l refl refl
-    (two_letters n (unicode_flags u) (crlf_flags u) g (code "R") (code "m") (c ∷ code ")" ∷ v) (kept_unicode u)
+    (two_letters (unicode_flags u) (crlf_flags u) g (code "R") (code "m") (c ∷ code ")" ∷ v) (kept_unicode u)
     (kept_crlf u) (kept_multi u true) (omega arith) refl refl refl refl))
-    (whole_atom n (d + 1) g (c ∷ code ")" ∷ v) v x (kept_multi u true) b a)
+    (whole_atom (d + 1) g (c ∷ code ")" ∷ v) v x (kept_multi u true) b a)
 
 -- an anchor, under the flags that it needs
-anchor : (n d : ℕ) (f : Flags) (c : ℕ) (v : Text) (a : Assertion) →
-    ahead n d (st f (c ∷ v)) ≡ leaf (done (assertion a) (st f v)) →
-    AtomAs n d f (c ∷ v) v (assertion a)
-anchor n d f c v a e = reads_leaf n d f (c ∷ v) v (assertion a) e (record { is = λ g. refl; groups = tt })
+anchor : (d : ℕ) (f : Flags) (c : ℕ) (v : Text) (a : Assertion) →
+    ahead d (st f (c ∷ v)) ≡ leaf (done (assertion a) (st f v)) →
+    AtomAs d f (c ∷ v) v (assertion a)
+anchor d f c v a e = reads_leaf d f (c ∷ v) v (assertion a) e (record { is = λ n g. refl; groups = tt })
 
-start_line : (n d : ℕ) (u r : Bool) (v : Text) → d + 1 < max_depth →
-    AtomAs n d (unicode_flags u) (put_line (code "^") r v) v (assertion (StartLine r))
-start_line n d u r v l =
+start_line : (d : ℕ) (u r : Bool) (v : Text) → d + 1 < max_depth →
+    AtomAs d (unicode_flags u) (put_line (code "^") r v) v (assertion (StartLine r))
+start_line d u r v l =
     let f = multi_flags u r in
-    line_atom n d (code "^") u r v (assertion (StartLine r)) l (record {
+    line_atom d (code "^") u r v (assertion (StartLine r)) l (record {
       clear = record { no_comment = refl; no_mark = refl };
       goes = refl;
     })
-    (anchor n (d + 1) f (code "^") (code ")" ∷ v) (StartLine r)
-    (leaf_at n (d + 1) f (code "^") (code ")" ∷ v) refl refl))
+    (anchor (d + 1) f (code "^") (code ")" ∷ v) (StartLine r)
+    (leaf_at (d + 1) f (code "^") (code ")" ∷ v) refl refl))
 
-end_line : (n d : ℕ) (u r : Bool) (v : Text) → d + 1 < max_depth →
-    AtomAs n d (unicode_flags u) (put_line (code "$") r v) v (assertion (EndLine r))
-end_line n d u r v l =
+end_line : (d : ℕ) (u r : Bool) (v : Text) → d + 1 < max_depth →
+    AtomAs d (unicode_flags u) (put_line (code "$") r v) v (assertion (EndLine r))
+end_line d u r v l =
     let f = multi_flags u r in
-    line_atom n d (code "$") u r v (assertion (EndLine r)) l (record {
+    line_atom d (code "$") u r v (assertion (EndLine r)) l (record {
       clear = record { no_comment = refl; no_mark = refl };
       goes = refl;
     })
-    (anchor n (d + 1) f (code "$") (code ")" ∷ v) (EndLine r) (leaf_at n (d + 1) f (code "$") (code ")" ∷ v) refl refl))
+    (anchor (d + 1) f (code "$") (code ")" ∷ v) (EndLine r) (leaf_at (d + 1) f (code "$") (code ")" ∷ v) refl refl))
 
 -- an escape that is a leaf
-reads_assertion_escape : (n d : ℕ) (u : Bool) (t v : Text) (a : Assertion) →
-    ((p : ℕ) → escape n (unicode_flags u) false p t ≡ gives (escaped.assertion a) v) →
-    AtomAs n d (unicode_flags u) (code "\\" ∷ t) v (assertion a)
-reads_assertion_escape n d u t v a e =
-    reads_leaf n d (unicode_flags u) (code "\\" ∷ t) v (assertion a)
-    (leaf_at n d (unicode_flags u) (code "\\") t refl refl
-    ∙ ap (λ r. leaf (leaf_outcome leaf_node (st (unicode_flags u) (code "\\" ∷ t)) r)) (e (place_of n (code "\\" ∷ t))))
-    (record { is = λ g. refl; groups = tt })
+reads_assertion_escape : (d : ℕ) (u : Bool) (t v : Text) (a : Assertion) →
+    ((p : ℕ) → escape (unicode_flags u) false p t ≡ gives (escaped.assertion a) v) →
+    AtomAs d (unicode_flags u) (code "\\" ∷ t) v (assertion a)
+reads_assertion_escape d u t v a e =
+    reads_leaf d (unicode_flags u) (code "\\" ∷ t) v (assertion a)
+    (leaf_at d (unicode_flags u) (code "\\") t refl refl
+    ∙ ap (λ r. leaf (leaf_outcome leaf_node (st (unicode_flags u) (code "\\" ∷ t)) r)) (e (reach_of (code "\\" ∷ t))))
+    (record { is = λ n g. refl; groups = tt })
 
-half_start : (n p : ℕ) (v : Text) →
-    boundary n false p false (code "{" ∷ code "s" ∷ code "t" ∷ code "a" ∷ code "r" ∷ code "t" ∷ code "-" ∷ code
+half_start : (p : ℕ) (v : Text) →
+    boundary false p false (code "{" ∷ code "s" ∷ code "t" ∷ code "a" ∷ code "r" ∷ code "t" ∷ code "-" ∷ code
     "h" ∷ code "a" ∷ code "l" ∷ code "f" ∷ code "}" ∷ v) ≡ gives
     (escaped.assertion LeftWordHalfBoundary) v
 unfolding boundary named_boundary name layout_from
-half_start n p v = refl
+half_start p v = refl
 
-half_end : (n p : ℕ) (v : Text) →
-    boundary n false p false (code "{" ∷ code "e" ∷ code "n" ∷ code "d" ∷ code "-" ∷ code "h" ∷ code "a" ∷ code
+half_end : (p : ℕ) (v : Text) →
+    boundary false p false (code "{" ∷ code "e" ∷ code "n" ∷ code "d" ∷ code "-" ∷ code "h" ∷ code "a" ∷ code
     "l" ∷ code "f" ∷ code "}" ∷ v) ≡ gives
     (escaped.assertion RightWordHalfBoundary) v
 unfolding boundary named_boundary name layout_from
-half_end n p v = refl
+half_end p v = refl
 
-boundary_escape : (n : ℕ) (u : Bool) (p : ℕ) (t : Text) →
-    escape n (unicode_flags u) false p (code "b" ∷ t) ≡ boundary n false p false t
+boundary_escape : (u : Bool) (p : ℕ) (t : Text) →
+    escape (unicode_flags u) false p (code "b" ∷ t) ≡ boundary false p false t
 unfolding escape outside
-boundary_escape n u p t = refl
+boundary_escape u p t = refl
 
-no_boundary_escape : (n : ℕ) (u : Bool) (p : ℕ) (t : Text) →
-    escape n (unicode_flags u) false p (code "B" ∷ t) ≡ boundary n false p true t
+no_boundary_escape : (u : Bool) (p : ℕ) (t : Text) →
+    escape (unicode_flags u) false p (code "B" ∷ t) ≡ boundary false p true t
 unfolding escape outside
-no_boundary_escape n u p t = refl
+no_boundary_escape u p t = refl
 
-left_escape : (n : ℕ) (u : Bool) (p : ℕ) (t : Text) →
-    escape n (unicode_flags u) false p (code "<" ∷ t) ≡ gives (escaped.assertion LeftWordBoundary) t
+left_escape : (u : Bool) (p : ℕ) (t : Text) →
+    escape (unicode_flags u) false p (code "<" ∷ t) ≡ gives (escaped.assertion LeftWordBoundary) t
 unfolding escape outside
-left_escape n u p t = refl
+left_escape u p t = refl
 
-right_escape : (n : ℕ) (u : Bool) (p : ℕ) (t : Text) →
-    escape n (unicode_flags u) false p (code ">" ∷ t) ≡ gives (escaped.assertion RightWordBoundary) t
+right_escape : (u : Bool) (p : ℕ) (t : Text) →
+    escape (unicode_flags u) false p (code ">" ∷ t) ≡ gives (escaped.assertion RightWordBoundary) t
 unfolding escape outside
-right_escape n u p t = refl
+right_escape u p t = refl
 
 -- the assertion that is read
 abbrev pub read_assertion : Assertion → Tree
@@ -266,29 +266,29 @@ abbrev pub HasText : Assertion → Type 0
 HasText (EndTextIgnoreTrailingNewlines crlf) = ⊥
 HasText _ = Unit {0}
 
-pub reads_assertion : (n d : ℕ) (u : Bool) (a : Assertion) (v : Text) → HasText a →
+pub reads_assertion : (d : ℕ) (u : Bool) (a : Assertion) (v : Text) → HasText a →
     d + one_if (is_at_line a) < max_depth → NoName v →
-    AtomAs n d (unicode_flags u) (put_assertion a v) v (read_assertion a)
-reads_assertion n d u StartText v h l m = anchor n d (unicode_flags u) (code "^") v StartText
-    (leaf_at n d (unicode_flags u) (code "^") v refl refl)
-reads_assertion n d u EndText v h l m = anchor n d (unicode_flags u) (code "$") v EndText
-    (leaf_at n d (unicode_flags u) (code "$") v refl refl)
-reads_assertion n d u (EndTextIgnoreTrailingNewlines crlf) v h l m = absurd h
-reads_assertion n d u (StartLine crlf) v h l m = start_line n d u crlf v l
-reads_assertion n d u (StartLineOniguruma crlf) v h l m = start_line n d u crlf v l
-reads_assertion n d u (EndLine crlf) v h l m = end_line n d u crlf v l
-reads_assertion n d u WordBoundary v h l m =
-    reads_assertion_escape n d u (code "b" ∷ v) v WordBoundary (λ p. boundary_escape n u p v ∙ m n p false)
-reads_assertion n d u NotWordBoundary v h l m =
-    reads_assertion_escape n d u (code "B" ∷ v) v NotWordBoundary (λ p. no_boundary_escape n u p v ∙ m n p true)
-reads_assertion n d u LeftWordBoundary v h l m =
-    reads_assertion_escape n d u (code "<" ∷ v) v LeftWordBoundary (λ p. left_escape n u p v)
-reads_assertion n d u RightWordBoundary v h l m =
-    reads_assertion_escape n d u (code ">" ∷ v) v RightWordBoundary (λ p. right_escape n u p v)
-reads_assertion n d u LeftWordHalfBoundary v h l m =
-    reads_assertion_escape n d u _ v LeftWordHalfBoundary (λ p. boundary_escape n u p _ ∙ half_start n p v)
-reads_assertion n d u RightWordHalfBoundary v h l m =
-    reads_assertion_escape n d u _ v RightWordHalfBoundary (λ p. boundary_escape n u p _ ∙ half_end n p v)
+    AtomAs d (unicode_flags u) (put_assertion a v) v (read_assertion a)
+reads_assertion d u StartText v h l m = anchor d (unicode_flags u) (code "^") v StartText
+    (leaf_at d (unicode_flags u) (code "^") v refl refl)
+reads_assertion d u EndText v h l m = anchor d (unicode_flags u) (code "$") v EndText
+    (leaf_at d (unicode_flags u) (code "$") v refl refl)
+reads_assertion d u (EndTextIgnoreTrailingNewlines crlf) v h l m = absurd h
+reads_assertion d u (StartLine crlf) v h l m = start_line d u crlf v l
+reads_assertion d u (StartLineOniguruma crlf) v h l m = start_line d u crlf v l
+reads_assertion d u (EndLine crlf) v h l m = end_line d u crlf v l
+reads_assertion d u WordBoundary v h l m =
+    reads_assertion_escape d u (code "b" ∷ v) v WordBoundary (λ p. boundary_escape u p v ∙ m p false)
+reads_assertion d u NotWordBoundary v h l m =
+    reads_assertion_escape d u (code "B" ∷ v) v NotWordBoundary (λ p. no_boundary_escape u p v ∙ m p true)
+reads_assertion d u LeftWordBoundary v h l m =
+    reads_assertion_escape d u (code "<" ∷ v) v LeftWordBoundary (λ p. left_escape u p v)
+reads_assertion d u RightWordBoundary v h l m =
+    reads_assertion_escape d u (code ">" ∷ v) v RightWordBoundary (λ p. right_escape u p v)
+reads_assertion d u LeftWordHalfBoundary v h l m =
+    reads_assertion_escape d u _ v LeftWordHalfBoundary (λ p. boundary_escape u p _ ∙ half_start p v)
+reads_assertion d u RightWordHalfBoundary v h l m =
+    reads_assertion_escape d u _ v RightWordHalfBoundary (λ p. boundary_escape u p _ ∙ half_end p v)
 
 begins_line : (c : ℕ) (r : Bool) (v : Text) → Begins (put_line c r v)
 begins_line c false v = begins_by refl refl refl

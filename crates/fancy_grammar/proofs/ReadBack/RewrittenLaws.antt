@@ -90,7 +90,7 @@ open_both t = refl
 
 -- what is written for items that were read from t
 record ItemsAgain (t w : Text) : Type 0 where
-  goes : (m : ℕ) (s : Text) → Goes m (w ++ s) s
+  goes : (s : Text) → Goes (w ++ s) s
   no_caret : strip (code "^") t ≡ None → (s : Text) → strip (code "^") (w ++ s) ≡ None
   no_close : strip (code "]") t ≡ None → (s : Text) → strip (code "]") (w ++ s) ≡ None
   scalars : all_scalars w ≡ true
@@ -99,32 +99,32 @@ record ItemsAgain (t w : Text) : Type 0 where
 pub record ClassAgain (x : Text) : Type 0 where
   pub inner : Text
   pub is : x ≡ code "[" ∷ inner
-  pub goes : (m : ℕ) (s : Text) → ClassGoes m (inner ++ s) s
+  pub goes : (s : Text) → ClassGoes (inner ++ s) s
   pub scalars : all_scalars inner ≡ true
 
 head_again : (t head r w : Text) → Heads t head r → ItemsAgain r w → ClassAgain (head ++ w)
 head_again t head r w (plain_head a b) h = record {
   inner = w;
   is = refl;
-  goes = λ m s. pass_class m (w ++ s) _ (w ++ s) s (open_plain (w ++ s) (h.no_caret a s) (h.no_close b s)) (h.goes m s);
+  goes = λ s. pass_class (w ++ s) _ (w ++ s) s (open_plain (w ++ s) (h.no_caret a s) (h.no_close b s)) (h.goes s);
   scalars = h.scalars;
 }
 head_again t head r w (caret_head u e b) h = record {
   inner = code "^" ∷ w;
   is = refl;
-  goes = λ m s. pass_class m (code "^" ∷ (w ++ s)) _ (w ++ s) s (open_caret (w ++ s) (h.no_close b s)) (h.goes m s);
+  goes = λ s. pass_class (code "^" ∷ (w ++ s)) _ (w ++ s) s (open_caret (w ++ s) (h.no_close b s)) (h.goes s);
   scalars = h.scalars;
 }
 head_again t head r w (close_head u e) h = record {
   inner = code "]" ∷ w;
   is = refl;
-  goes = λ m s. pass_class m (code "]" ∷ (w ++ s)) _ (w ++ s) s (open_close (w ++ s)) (h.goes m s);
+  goes = λ s. pass_class (code "]" ∷ (w ++ s)) _ (w ++ s) s (open_close (w ++ s)) (h.goes s);
   scalars = h.scalars;
 }
 head_again t head r w (both_head u e) h = record {
   inner = code "^" ∷ code "]" ∷ w;
   is = refl;
-  goes = λ m s. pass_class m (code "^" ∷ code "]" ∷ (w ++ s)) _ (w ++ s) s (open_both (w ++ s)) (h.goes m s);
+  goes = λ s. pass_class (code "^" ∷ code "]" ∷ (w ++ s)) _ (w ++ s) s (open_both (w ++ s)) (h.goes s);
   scalars = h.scalars;
 }
 
@@ -137,7 +137,7 @@ from_fine o e r q h = subst FineOf q h
 plain_again : (c : ℕ) (t w : Text) → is_plain_in_class c ≡ true → IsScalar c → ItemsAgain t w →
     ItemsAgain (c ∷ t) (c ∷ w)
 plain_again c t w p k h = record {
-  goes = λ m s. pass_plain m c (w ++ s) s p (h.goes m s);
+  goes = λ s. pass_plain c (w ++ s) s p (h.goes s);
   no_caret = λ e s. same_front (code "^") c t (w ++ s) e;
   no_close = λ e s. same_front (code "]") c t (w ++ s) e;
   scalars = and_from _ _ k h.scalars;
@@ -145,7 +145,7 @@ plain_again c t w p k h = record {
 
 escaped_again : (t r w x : Text) → Chunk x → ItemsAgain r w → ItemsAgain (code "\\" ∷ t) (x ++ w)
 escaped_again t r w x c h = record {
-  goes = λ m s. subst (λ z. Goes m z s) (sym (append_assoc x w s)) (c.goes m (w ++ s) s (h.goes m s));
+  goes = λ s. subst (λ z. Goes z s) (sym (append_assoc x w s)) (c.goes (w ++ s) s (h.goes s));
   no_caret = λ _ s. ap (strip (code "^")) (append_assoc x w s) ∙ c.no_caret (w ++ s);
   no_close = λ _ s. ap (strip (code "]")) (append_assoc x w s) ∙ c.no_close (w ++ s);
   scalars = scalars_append x w c.scalars h.scalars;
@@ -156,8 +156,8 @@ nested_again t r w x c h =
     subst (λ z. ItemsAgain (code "[" ∷ t) (z ++ w)) (sym c.is)
     (record {
       goes =
-          λ m s. pass_nested m ((c.inner ++ w) ++ s) (w ++ s) s
-          (subst (λ z. ClassGoes m z (w ++ s)) (sym (append_assoc c.inner w s)) (c.goes m (w ++ s))) (h.goes m s);
+          λ s. pass_nested ((c.inner ++ w) ++ s) (w ++ s) s
+          (subst (λ z. ClassGoes z (w ++ s)) (sym (append_assoc c.inner w s)) (c.goes (w ++ s))) (h.goes s);
       no_caret = λ _ s. refl;
       no_close = λ _ s. refl;
       scalars = scalars_append c.inner w c.scalars h.scalars;
@@ -178,45 +178,45 @@ head_rest : (t head r : Text) → ◌≡◌ {A = Text × Text} (class_head [] t)
     all_scalars r ≡ true
 head_rest t head r e k = opened_rest t (head, r) (subst (Opened t) e (class_head_is t)) k
 
-escape_rest : (n : ℕ) (f : Flags) (p : ℕ) (t r : Text) (e : Escape) → escape n f true p t ≡ gives e r →
+escape_rest : (f : Flags) (p : ℕ) (t r : Text) (e : Escape) → escape f true p t ≡ gives e r →
     all_scalars t ≡ true → all_scalars r ≡ true
-escape_rest n f p t r e q k =
-    let (w, cut) = escape_cut n f true p t r e q in scalars_behind w r (subst (λ z. all_scalars z ≡ true) cut k)
+escape_rest f p t r e q k =
+    let (w, cut) = escape_cut f true p t r e q in scalars_behind w r (subst (λ z. all_scalars z ≡ true) cut k)
 
 mutual
-  class_rest : {n : ℕ} {f : Flags} {b a : Bool} {t x v : Text} → Class n f b t (written x a v) → all_scalars t ≡ true →
+  class_rest : {f : Flags} {b a : Bool} {t x v : Text} → Class f b t (written x a v) → all_scalars t ≡ true →
       all_scalars v ≡ true
   class_rest {t} (class_items {u} {head} e h) k = items_rest h (head_rest t head u e k)
 
-  items_rest : {n : ℕ} {f : Flags} {b a : Bool} {t w v : Text} → ClassItems n f b t (written w a v) →
+  items_rest : {f : Flags} {b a : Bool} {t w v : Text} → ClassItems f b t (written w a v) →
       all_scalars t ≡ true → all_scalars v ≡ true
   items_rest close k = k
   items_rest (plain {c} {t} p h) k = items_rest h (and_parts _ (all_scalars t) k).1
-  items_rest {n} {f} (escaped {t} {u} {e} q h) k = items_rest h (escape_rest n f _ t u e q k)
+  items_rest {f} (escaped {t} {u} {e} q h) k = items_rest h (escape_rest f _ t u e q k)
   items_rest (nested g h) k = items_rest h (class_rest g k)
 
 -- ---- by induction on the derivation
 
 mutual
-  pub class_again : {n : ℕ} {u i b a : Bool} {t x v : Text} →
-      Class n (case_flags u i) b t (written x a v) →
+  pub class_again : {u i b a : Bool} {t x v : Text} →
+      Class (case_flags u i) b t (written x a v) →
       all_scalars t ≡ true → ClassAgain x
   class_again {t} (class_items {u} {head} {w} e h) k =
       opened_again t _ w (subst (Opened t) e (class_head_is t)) (items_again h (head_rest t head u e k))
 
-  items_again : {n : ℕ} {u i b a : Bool} {t w v : Text} → ClassItems n (case_flags u i) b t (written w a v) →
+  items_again : {u i b a : Bool} {t w v : Text} → ClassItems (case_flags u i) b t (written w a v) →
       all_scalars t ≡ true → ItemsAgain t w
   items_again close k =
       record {
-        goes = λ m s. pass_close m s;
+        goes = λ s. pass_close s;
         no_caret = λ _ s. refl;
         no_close = λ e s. same_front (code "]") (code "]") _ s e;
         scalars = refl;
       }
   items_again (plain {c} {t} {w} p h) k =
       let (here, more) = and_parts _ (all_scalars t) k in plain_again c t w p here (items_again h more)
-  items_again {n} {u} {i} {b} (escaped {t} {u = r} {w} {e} q h) k =
-      escaped_again t r w (escape_in_class b e) (item_chunk b e (from_fine _ e r q (escape_fine u i n _ t k)))
-      (items_again h (escape_rest n (case_flags u i) _ t r e q k))
+  items_again {u} {i} {b} (escaped {t} {u = r} {w} {e} q h) k =
+      escaped_again t r w (escape_in_class b e) (item_chunk b e (from_fine _ e r q (escape_fine u i _ t k)))
+      (items_again h (escape_rest (case_flags u i) _ t r e q k))
   items_again (nested {t} {u = r} {x} {w} g h) k =
       nested_again t r w x (class_again g k) (items_again h (class_rest g k))

@@ -11,7 +11,7 @@ use Prim.Native.Char.{code}
 use Rattle.fancy_lex.specs.Fault.{Kind, recursion_exceeded}
 use Rattle.fancy_lex.specs.LayoutSteps.{layout, after_comment_head, rest}
 use Rattle.fancy_lex.specs.Reading.{gives, choose, layout_reading}
-use Rattle.fancy_lex.specs.Text.{Text, bytes, place_of}
+use Rattle.fancy_lex.specs.Text.{Text, bytes, place_at, reach_of}
 use Rattle.fancy_lex.specs.declared.flags.Flags.{Flags}
 use Rattle.fancy_parts.specs.FlagLetters.{Letters, scope as scoped, flags_end, flags_go_on}
 use Rattle.fancy_parts.specs.LetterSteps.{letters, letters_in, step}
@@ -95,18 +95,18 @@ choice_groups (t ∷ u ∷ l) h = all_groups (t ∷ u ∷ l) h
 
 -- a raw tree of that kind that resolves to x
 pub record Becomes (r x : Tree) : Type 0 where
-  pub is : (g : List Opening) → resolved_in false g r ≡ x
+  pub is : (n : ℕ) (g : List Opening) → resolved_in n false g r ≡ x
   pub groups : OnlyGroups (items r)
 
 -- ---- what resolving keeps
 
-pub resolved_repeatable : (g : List Opening) (f : Flags) (t : Tree) → OnlyGroups (items t) →
-    is_repeatable f (resolved_in false g t) ≡ is_repeatable f t
-resolved_repeatable g f (ast_node (ast_group m t) p) h = refl
-resolved_repeatable g f (ast_node (ast_backref t c l) p) h = absurd h
-resolved_repeatable g f (ast_node (ast_call t) p) h = absurd h
-resolved_repeatable g f (ast_node (ast_condition t l) p) h = absurd h
-resolved_repeatable g f _ h = refl
+pub resolved_repeatable : (n : ℕ) (g : List Opening) (f : Flags) (t : Tree) → OnlyGroups (items t) →
+    is_repeatable f (resolved_in n false g t) ≡ is_repeatable f t
+resolved_repeatable n g f (ast_node (ast_group m t) p) h = refl
+resolved_repeatable n g f (ast_node (ast_backref t c l) p) h = absurd h
+resolved_repeatable n g f (ast_node (ast_call t) p) h = absurd h
+resolved_repeatable n g f (ast_node (ast_condition t l) p) h = absurd h
+resolved_repeatable n g f _ h = refl
 
 solid_cond : (t : Tree) (l : List Tree) (b : Bool) → is_empty t ≡ b → solid l ≡ l →
     solid (if b then l else t ∷ l) ≡ (if b then l else t ∷ l)
@@ -121,11 +121,11 @@ pub join_one : (x : Tree) → join (solid (x ∷ [])) ≡ x
 join_one empty = refl
 join_one _ = refl
 
-module _ (g : List Opening) where
+module _ (n : ℕ) (g : List Opening) where
   abbrev there : Tree → Tree
-  there = resolved_in false g
+  there = resolved_in n false g
 
-  resolved_trees : (l : List Tree) → resolved_all false g (trees_of l) ≡ trees_of (map there l)
+  resolved_trees : (l : List Tree) → resolved_all n false g (trees_of l) ≡ trees_of (map there l)
   resolved_trees [] = refl
   resolved_trees (t ∷ l) = ap (tree.more_trees (there t)) (resolved_trees l)
 
@@ -162,39 +162,39 @@ module _ (g : List Opening) where
 
 -- ---- what the text from s to v reads as: a tree that becomes x
 
-pub record AtomAs (n d : ℕ) (f : Flags) (s v : Text) (x : Tree) : Type 0 where
+pub record AtomAs (d : ℕ) (f : Flags) (s v : Text) (x : Tree) : Type 0 where
   pub tree : Tree
-  pub derives : Atom n d (st f s) (done tree (st f v))
+  pub derives : Atom d (st f s) (done tree (st f v))
   pub becomes : Becomes tree x
 
-pub record BranchAs (n d : ℕ) (f : Flags) (s v : Text) (x : Tree) : Type 0 where
+pub record BranchAs (d : ℕ) (f : Flags) (s v : Text) (x : Tree) : Type 0 where
   pub tree : Tree
-  pub derives : Branch n d (st f s) (done tree (st f v))
+  pub derives : Branch d (st f s) (done tree (st f v))
   pub becomes : Becomes tree x
 
-pub record WholeAs (n d : ℕ) (f : Flags) (s v : Text) (x : Tree) : Type 0 where
+pub record WholeAs (d : ℕ) (f : Flags) (s v : Text) (x : Tree) : Type 0 where
   pub tree : Tree
-  pub derives : Alternation n d (st f s) (done tree (st f v))
+  pub derives : Alternation d (st f s) (done tree (st f v))
   pub becomes : Becomes tree x
 
-pub record BranchesAs (n d : ℕ) (f : Flags) (s v : Text) (ys : List Tree) : Type 0 where
+pub record BranchesAs (d : ℕ) (f : Flags) (s v : Text) (ys : List Tree) : Type 0 where
   pub trees : List Tree
-  pub derives : Branches n d (st f s) (done trees (st f v))
-  pub are : (g : List Opening) → map (resolved_in false g) trees ≡ ys
+  pub derives : Branches d (st f s) (done trees (st f v))
+  pub are : (n : ℕ) (g : List Opening) → map (resolved_in n false g) trees ≡ ys
   pub groups : EachHasGroups trees
 
 -- the pieces from s to v, whatever pieces follow; without the Empties they are these
-pub record Run (n d : ℕ) (f : Flags) (s v : Text) (ys : List Tree) : Type 0 where
+pub record Run (d : ℕ) (f : Flags) (s v : Text) (ys : List Tree) : Type 0 where
   pub trees : List Tree
-  pub pieces : (q : Outcome (List Tree)) → Pieces n d (st f v) q → Pieces n d (st f s) (trees_before trees q)
-  pub are : (g : List Opening) → solid (map (resolved_in false g) trees) ≡ ys
+  pub pieces : (q : Outcome (List Tree)) → Pieces d (st f v) q → Pieces d (st f s) (trees_before trees q)
+  pub are : (n : ℕ) (g : List Opening) → solid (map (resolved_in n false g) trees) ≡ ys
   pub groups : EachHasGroups trees
 
-pub no_run : (n d : ℕ) (f : Flags) (v : Text) → Run n d f v v []
-no_run n d f v = record {
+pub no_run : (d : ℕ) (f : Flags) (v : Text) → Run d f v v []
+no_run d f v = record {
   trees = [];
-  pieces = λ q p. subst (Pieces n d (st f v)) (sym (before-nil q)) p;
-  are = λ g. refl;
+  pieces = λ q p. subst (Pieces d (st f v)) (sym (before-nil q)) p;
+  are = λ n g. refl;
   groups = tt;
 }
 
@@ -203,54 +203,54 @@ before_append : (l m : List Tree) (q : Outcome (List Tree)) →
 before_append l m (done k s) = ap (λ n. done n s) (sym (append_assoc l m k))
 before_append l m (fault k e) = refl
 
-pub run_chain : {n d : ℕ} {f : Flags} {s t v : Text} {xs ys : List Tree} → Run n d f s t xs → Run n d f t v ys →
-    Run n d f s v (xs ++ ys)
-run_chain {n} {d} {f} {s} p q = record {
+pub run_chain : {d : ℕ} {f : Flags} {s t v : Text} {xs ys : List Tree} → Run d f s t xs → Run d f t v ys →
+    Run d f s v (xs ++ ys)
+run_chain {d} {f} {s} p q = record {
   trees = p.trees ++ q.trees;
   pieces =
-      λ o r. subst (Pieces n d (st f s)) (before_append p.trees q.trees o)
+      λ o r. subst (Pieces d (st f s)) (before_append p.trees q.trees o)
       (p.pieces (trees_before q.trees o) (q.pieces o r));
   are =
-      λ g. ap solid (map-append (resolved_in false g) p.trees q.trees)
-      ∙ solid-append (map (resolved_in false g) p.trees) (map (resolved_in false g) q.trees)
-      ∙ ap₂ (λ a b. a ++ b) (p.are g) (q.are g);
+      λ n g. ap solid (map-append (resolved_in n false g) p.trees q.trees)
+      ∙ solid-append (map (resolved_in n false g) p.trees) (map (resolved_in n false g) q.trees)
+      ∙ ap₂ (λ a b. a ++ b) (p.are n g) (q.are n g);
   groups = each_append HasGroups p.trees q.trees p.groups q.groups;
 }
 
-run_piece : {n d : ℕ} {f : Flags} {s v : Text} (r x : Tree) → Piece n d (st f s) (done r (st f v)) →
-    states.ends s ≡ false → Becomes r x → Run n d f s v (solid (x ∷ []))
+run_piece : {d : ℕ} {f : Flags} {s v : Text} (r x : Tree) → Piece d (st f s) (done r (st f v)) →
+    states.ends s ≡ false → Becomes r x → Run d f s v (solid (x ∷ []))
 run_piece r x p e b = record {
   trees = r ∷ [];
   pieces = λ q m. next e p m refl;
-  are = λ g. ap (λ y. solid (y ∷ [])) (b.is g);
+  are = λ n g. ap (λ y. solid (y ∷ [])) (b.is n g);
   groups = (b.groups, tt);
 }
 
-skip_here : (n : ℕ) (f : Flags) (s : Text) → Kept f → after_comment_head s ≡ None → skipped n (st f s) ≡ rest s
-skip_here n f s k e = ap (λ x. layout n x s) k.no_space ∙ no_layout n s e
+skip_here : (f : Flags) (s : Text) → Kept f → after_comment_head s ≡ None → skipped (st f s) ≡ rest s
+skip_here f s k e = ap (λ x. layout x s) k.no_space ∙ no_layout s e
 
 -- ---- pieces
 
-quants_one : (n d left : ℕ) (f : Flags) (a b : Tree) (s v : Text) → Kept f →
-    quant n left a (st f s) ≡ done b (st f v) → quants n d left a (st f s) ≡ done b (st f v)
-quants_one n d left f a b s v k e =
-    ap (λ q. and_then q (λ b t. if t.flags.oniguruma_mode then adjacent max_adjacent n d b t else done b t)) e
+quants_one : (d left : ℕ) (f : Flags) (a b : Tree) (s v : Text) → Kept f →
+    quant left a (st f s) ≡ done b (st f v) → quants d left a (st f s) ≡ done b (st f v)
+quants_one d left f a b s v k e =
+    ap (λ q. and_then q (λ b t. if t.flags.oniguruma_mode then adjacent max_adjacent d b t else done b t)) e
     ∙ cond-false _ _ _ k.not_oniguruma
 
-quant_none : (n left : ℕ) (f : Flags) (a : Tree) (v : Text) → Kept f → Clear v →
-    quant n left a (st f v) ≡ done a (st f v)
+quant_none : (left : ℕ) (f : Flags) (a : Tree) (v : Text) → Kept f → Clear v →
+    quant left a (st f v) ≡ done a (st f v)
 unfolding quant
-quant_none n left f a v k c =
-    ap (quant_at n left a (st f v)) (skip_here n f v k c.no_comment)
-    ∙ ap (quantified.with_counts n left a (st f v)) (clear_counts f.ignore_space v c)
+quant_none left f a v k c =
+    ap (quant_at left a (st f v)) (skip_here f v k c.no_comment)
+    ∙ ap (quantified.with_counts left a (st f v)) (clear_counts f.ignore_space v c)
 
 -- an atom that no quantifier follows
-pub reads_piece : (n d : ℕ) (f : Flags) (s v : Text) (x : Tree) → Kept f → states.ends s ≡ false →
-    after_comment_head s ≡ None → Clear v → AtomAs n d f s v x → Run n d f s v (solid (x ∷ []))
-reads_piece n d f s v x k e o c a =
+pub reads_piece : (d : ℕ) (f : Flags) (s v : Text) (x : Tree) → Kept f → states.ends s ≡ false →
+    after_comment_head s ≡ None → Clear v → AtomAs d f s v x → Run d f s v (solid (x ∷ []))
+reads_piece d f s v x k e o c a =
     run_piece a.tree x
-    (piece (skip_here n f s k o) a.derives
-    (quants_one n d (bytes s) f a.tree a.tree v v k (quant_none n (bytes s) f a.tree v k c)))
+    (piece (skip_here f s k o) a.derives
+    (quants_one d (bytes s) f a.tree a.tree v v k (quant_none (bytes s) f a.tree v k c)))
     e a.becomes
 
 greed : (f : Flags) (lazy greedy : Bool) → f.swap_greed ≡ false → not lazy ≡ greedy →
@@ -273,219 +273,219 @@ no_possessive : (f : Flags) (c : Counts) (b : Bool) (s v : Text) → Clear v →
     behind_lazy (st f s) c b v ≡ done (record { lazy = b; possessive = false }) (st f v)
 no_possessive f c b s v k = rw (clear_plus v k) (same_if (may_be_possessive f c) _)
 
-lazy_read : (n : ℕ) (f : Flags) (c : Counts) (v : Text) (greedy : Bool) → Kept f → Clear v →
-    suffix n (st f (lazy greedy ++ v)) c ≡ done (record { lazy = not greedy; possessive = false }) (st f v)
-lazy_read n f c v true k h =
-    ap (suffix_at (st f v) c) (skip_here n f v k h.no_comment)
+lazy_read : (f : Flags) (c : Counts) (v : Text) (greedy : Bool) → Kept f → Clear v →
+    suffix (st f (lazy greedy ++ v)) c ≡ done (record { lazy = not greedy; possessive = false }) (st f v)
+lazy_read f c v true k h =
+    ap (suffix_at (st f v) c) (skip_here f v k h.no_comment)
     ∙ ap (λ o. choose o (behind_lazy (st f v) c true) (behind_lazy (st f v) c false v)) (clear_lazy v h)
     ∙ no_possessive f c false v v h
-lazy_read n f c v false k h =
-    ap (suffix_at (st f (code "?" ∷ v)) c) (skip_here n f (code "?" ∷ v) k refl)
+lazy_read f c v false k h =
+    ap (suffix_at (st f (code "?" ∷ v)) c) (skip_here f (code "?" ∷ v) k refl)
     ∙ no_possessive f c true (code "?" ∷ v) v h
 
-quant_some : (n left : ℕ) (f : Flags) (a : Tree) (q v : Text) (lo hi : ℕ) (greedy : Bool) → Kept f → Clear v →
+quant_some : (left : ℕ) (f : Flags) (a : Tree) (q v : Text) (lo hi : ℕ) (greedy : Bool) → Kept f → Clear v →
     IsQuantifier lo hi greedy v q → is_repeatable f a ≡ true →
-    quant n left a (st f q) ≡ done (repeat a lo hi greedy) (st f v)
+    quant left a (st f q) ≡ done (repeat a lo hi greedy) (st f v)
 unfolding quant
-quant_some n left f a q v lo hi greedy k c m r =
+quant_some left f a q v lo hi greedy k c m r =
     let read_counts : Counts = record { low = lo; high = hi; braces = m.braces } in
-    ap (quant_at n left a (st f q)) (skip_here n f q k m.no_comment)
-    ∙ ap (λ x. quantified.with_counts n left a (st f q) (counts x q)) k.no_space
-    ∙ ap (quantified.with_counts n left a (st f q)) m.counts
+    ap (quant_at left a (st f q)) (skip_here f q k m.no_comment)
+    ∙ ap (λ x. quantified.with_counts left a (st f q) (counts x q)) k.no_space
+    ∙ ap (quantified.with_counts left a (st f q)) m.counts
     ∙ cond-true _ _ _ r
-    ∙ ap (seen_through (λ m. quantified.quantified f read_counts m a)) (lazy_read n f read_counts v greedy k c)
+    ∙ ap (seen_through (λ m. quantified.quantified f read_counts m a)) (lazy_read f read_counts v greedy k c)
     ∙ ap (λ x. done x (st f v)) (quantified_as f a read_counts (not greedy) greedy k (not-not greedy))
 
 -- an atom under a quantifier
-pub reads_repeat : (n d : ℕ) (f : Flags) (s q v : Text) (x : Tree) (lo hi : ℕ) (greedy : Bool) → Kept f →
+pub reads_repeat : (d : ℕ) (f : Flags) (s q v : Text) (x : Tree) (lo hi : ℕ) (greedy : Bool) → Kept f →
     states.ends s ≡ false → after_comment_head s ≡ None → Clear v → IsQuantifier lo hi greedy v q →
-    is_repeatable f x ≡ true → AtomAs n d f s q x → Run n d f s v (repeat x lo hi greedy ∷ [])
-reads_repeat n d f s q v x lo hi greedy k e o c m r a =
+    is_repeatable f x ≡ true → AtomAs d f s q x → Run d f s v (repeat x lo hi greedy ∷ [])
+reads_repeat d f s q v x lo hi greedy k e o c m r a =
     let b = a.becomes in
     let repeatable : is_repeatable f a.tree ≡ true =
-    sym (resolved_repeatable [] f a.tree b.groups) ∙ ap (is_repeatable f) (b.is []) ∙ r in
+    sym (resolved_repeatable 0 [] f a.tree b.groups) ∙ ap (is_repeatable f) (b.is 0 []) ∙ r in
     run_piece (repeat a.tree lo hi greedy) (repeat x lo hi greedy)
-    (piece (skip_here n f s k o) a.derives
-    (quants_one n d (bytes s) f a.tree (repeat a.tree lo hi greedy) q v k
-    (quant_some n (bytes s) f a.tree q v lo hi greedy k c m repeatable)))
-    e (record { is = λ g. ap (λ y. repeat y lo hi greedy) (b.is g); groups = b.groups })
+    (piece (skip_here f s k o) a.derives
+    (quants_one d (bytes s) f a.tree (repeat a.tree lo hi greedy) q v k
+    (quant_some (bytes s) f a.tree q v lo hi greedy k c m repeatable)))
+    e (record { is = λ n g. ap (λ y. repeat y lo hi greedy) (b.is n g); groups = b.groups })
 
 -- ---- branches
 
-pub reads_branch : {n d : ℕ} {f : Flags} {s v : Text} {ys : List Tree} (x : Tree) → Run n d f s v ys → join ys ≡ x →
-    Stops v → BranchAs n d f s v x
-reads_branch {n} {d} {f} {s} {v} x r e h = record {
+pub reads_branch : {d : ℕ} {f : Flags} {s v : Text} {ys : List Tree} (x : Tree) → Run d f s v ys → join ys ≡ x →
+    Stops v → BranchAs d f s v x
+reads_branch {d} {f} {s} {v} x r e h = record {
   tree = join (r.trees ++ []);
   derives = branch (r.pieces (done [] (st f v)) (stop h.ends)) refl;
   becomes = record {
-    is = λ g. ap (λ l. resolved_in false g (join l)) (append-nil r.trees) ∙ resolved_join g r.trees r.groups
-        ∙ ap (one_or concat) (sym (solid_solid (map (resolved_in false g) r.trees))) ∙ ap join (r.are g) ∙ e;
+    is = λ n g. ap (λ l. resolved_in n false g (join l)) (append-nil r.trees) ∙ resolved_join n g r.trees r.groups
+        ∙ ap (one_or concat) (sym (solid_solid (map (resolved_in n false g) r.trees))) ∙ ap join (r.are n g) ∙ e;
     groups =
         subst (λ l. OnlyGroups (items (join l))) (sym (append-nil r.trees))
         (concat_groups (solid r.trees) (each_solid HasGroups r.trees r.groups));
   };
 }
 
-pub reads_last : (n d : ℕ) (f : Flags) (s v : Text) (x : Tree) → BranchAs n d f s v x → Ends v →
-    BranchesAs n d f s v (x ∷ [])
-reads_last n d f s v x b e = record {
+pub reads_last : (d : ℕ) (f : Flags) (s v : Text) (x : Tree) → BranchAs d f s v x → Ends v →
+    BranchesAs d f s v (x ∷ [])
+reads_last d f s v x b e = record {
   trees = b.tree ∷ [];
   derives = last b.derives e.no_bar;
-  are = λ g. ap (λ y. y ∷ []) (b.becomes.is g);
+  are = λ n g. ap (λ y. y ∷ []) (b.becomes.is n g);
   groups = (b.becomes.groups, tt);
 }
 
-pub reads_more : (n d : ℕ) (f : Flags) (s t v : Text) (x : Tree) (ys : List Tree) → BranchAs n d f s (code "|" ∷ t) x →
-    BranchesAs n d f t v ys → BranchesAs n d f s v (x ∷ ys)
-reads_more n d f s t v x ys b bs = record {
+pub reads_more : (d : ℕ) (f : Flags) (s t v : Text) (x : Tree) (ys : List Tree) → BranchAs d f s (code "|" ∷ t) x →
+    BranchesAs d f t v ys → BranchesAs d f s v (x ∷ ys)
+reads_more d f s t v x ys b bs = record {
   trees = b.tree ∷ bs.trees;
   derives = more b.derives refl bs.derives refl;
-  are = λ g. ap₂ (λ y l. y ∷ l) (b.becomes.is g) (bs.are g);
+  are = λ n g. ap₂ (λ y l. y ∷ l) (b.becomes.is n g) (bs.are n g);
   groups = (b.becomes.groups, bs.groups);
 }
 
-pub reads_whole : (n d : ℕ) (f : Flags) (s v : Text) (ys : List Tree) → BranchesAs n d f s v ys →
-    WholeAs n d f s v (choice ys)
-reads_whole n d f s v ys b = record {
+pub reads_whole : (d : ℕ) (f : Flags) (s v : Text) (ys : List Tree) → BranchesAs d f s v ys →
+    WholeAs d f s v (choice ys)
+reads_whole d f s v ys b = record {
   tree = choice b.trees;
   derives = alternation b.derives refl;
   becomes = record {
-    is = λ g. resolved_choice g b.trees ∙ ap choice (b.are g);
+    is = λ n g. resolved_choice n g b.trees ∙ ap choice (b.are n g);
     groups = choice_groups b.trees b.groups;
   };
 }
 
-pub reads_only : (n d : ℕ) (f : Flags) (s v : Text) (x : Tree) → BranchAs n d f s v x → Ends v → WholeAs n d f s v x
-reads_only n d f s v x b e = reads_whole n d f s v (x ∷ []) (reads_last n d f s v x b e)
+pub reads_only : (d : ℕ) (f : Flags) (s v : Text) (x : Tree) → BranchAs d f s v x → Ends v → WholeAs d f s v x
+reads_only d f s v x b e = reads_whole d f s v (x ∷ []) (reads_last d f s v x b e)
 
 -- ---- groups
 
 not_deep : (d : ℕ) → d + 1 < max_depth → nat_le max_depth (d + 1) ≡ false
 not_deep d h = grind (arith, nat_tests)
 
-head_at : (n d : ℕ) (f : Flags) (t : Text) → Kept f → d + 1 < max_depth → after_comment_head t ≡ None →
-    ahead n d (st f (code "(" ∷ t)) ≡ group_ahead n (st f (code "(" ∷ t)) t
+head_at : (d : ℕ) (f : Flags) (t : Text) → Kept f → d + 1 < max_depth → after_comment_head t ≡ None →
+    ahead d (st f (code "(" ∷ t)) ≡ group_ahead (st f (code "(" ∷ t)) t
 unfolding ahead
-head_at n d f t k l o = cond-false _ _ _ (not_deep d l)
-    ∙ ap (behind_layout n (st f (code "(" ∷ t))) (skip_here n f t k o)
+head_at d f t k l o = cond-false _ _ _ (not_deep d l)
+    ∙ ap (behind_layout (st f (code "(" ∷ t))) (skip_here f t k o)
 
 -- no head
-head_group : (n : ℕ) (f : Flags) (s t : Text) → Clear t → group_ahead n (st f s) t ≡ with_head (capture None) (st f t)
-head_group n f s t c = rw (clear_lazy t c, clear_star t c) refl
+head_group : (f : Flags) (s t : Text) → Clear t → group_ahead (st f s) t ≡ with_head (capture None) (st f t)
+head_group f s t c = rw (clear_lazy t c, clear_star t c) refl
 
-group_at : (n d : ℕ) (f : Flags) (s : Text) → Kept f → d + 1 < max_depth → Clear s →
-    ahead n d (st f (code "(" ∷ s)) ≡ with_head (capture None) (st f s)
-group_at n d f s k l c = head_at n d f s k l c.no_comment ∙ head_group n f (code "(" ∷ s) s c
+group_at : (d : ℕ) (f : Flags) (s : Text) → Kept f → d + 1 < max_depth → Clear s →
+    ahead d (st f (code "(" ∷ s)) ≡ with_head (capture None) (st f s)
+group_at d f s k l c = head_at d f s k l c.no_comment ∙ head_group f (code "(" ∷ s) s c
 
 -- a capturing group
-pub reads_group : (n d : ℕ) (f : Flags) (s v : Text) (x : Tree) → Kept f → d + 1 < max_depth → Clear s →
-    WholeAs n (d + 1) f s (code ")" ∷ v) x → AtomAs n d f (code "(" ∷ s) v (tree.group x)
-reads_group n d f s v x k l c w = record {
-  tree = ast_node (ast_group None w.tree) (place_of n (code "(" ∷ s));
-  derives = atom (group_at n d f s k l c) (a_group (inside w.derives refl) refl) refl;
-  becomes = record { is = λ g. ap tree.group (w.becomes.is g); groups = (refl, w.becomes.groups) };
+pub reads_group : (d : ℕ) (f : Flags) (s v : Text) (x : Tree) → Kept f → d + 1 < max_depth → Clear s →
+    WholeAs (d + 1) f s (code ")" ∷ v) x → AtomAs d f (code "(" ∷ s) v (tree.group x)
+reads_group d f s v x k l c w = record {
+  tree = ast_node (ast_group None w.tree) (reach_of (code "(" ∷ s));
+  derives = atom (group_at d f s k l c) (a_group (inside w.derives refl) refl) refl;
+  becomes = record { is = λ n g. ap tree.group (w.becomes.is n g); groups = (refl, w.becomes.groups) };
 }
 
 -- a group of flags, whose letters begin with one that begins no other head
-pub scope_at : (n d : ℕ) (f g : Flags) (t u : Text) → Kept f → d + 1 < max_depth →
+pub scope_at : (d : ℕ) (f g : Flags) (t u : Text) → Kept f → d + 1 < max_depth →
     after_comment_head (code "?" ∷ t) ≡ None →
-    behind_question n (st f (code "(" ∷ code "?" ∷ t)) t ≡ flags_ahead (letters n f t) →
-    letters n f t ≡ gives (scoped g) u →
-    ahead n d (st f (code "(" ∷ code "?" ∷ t)) ≡ with_head scope (st g u)
-scope_at n d f g t u k l o q e = head_at n d f (code "?" ∷ t) k l o ∙ q ∙ ap flags_ahead e
+    behind_question (st f (code "(" ∷ code "?" ∷ t)) t ≡ flags_ahead (letters f t) →
+    letters f t ≡ gives (scoped g) u →
+    ahead d (st f (code "(" ∷ code "?" ∷ t)) ≡ with_head scope (st g u)
+scope_at d f g t u k l o q e = head_at d f (code "?" ∷ t) k l o ∙ q ∙ ap flags_ahead e
 
-pub reads_scope : (n d : ℕ) (f g : Flags) (s t v : Text) (x : Tree) → ahead n d (st f s) ≡ with_head scope (st g t) →
-    WholeAs n (d + 1) g t (code ")" ∷ v) x → AtomAs n d f s v x
-reads_scope n d f g s t v x e w =
+pub reads_scope : (d : ℕ) (f g : Flags) (s t v : Text) (x : Tree) → ahead d (st f s) ≡ with_head scope (st g t) →
+    WholeAs (d + 1) g t (code ")" ∷ v) x → AtomAs d f s v x
+reads_scope d f g s t v x e w =
     record { tree = w.tree; derives = atom e (a_group (inside w.derives refl) refl) refl; becomes = w.becomes }
 
 -- with more than k letters to spare
-abbrev pub Spelled : ℕ → Text → ℕ → Bool → Flags → Text → Letters → Text → Type 0
-Spelled n t k c f u l w = (j : ℕ) → k < j → letters_in n t j c f u ≡ gives l w
+abbrev pub Spelled : Text → ℕ → Bool → Flags → Text → Letters → Text → Type 0
+Spelled t k c f u l w = (j : ℕ) → k < j → letters_in t j c f u ≡ gives l w
 
-module _ (n : ℕ) (t : Text) (c : Bool) (f : Flags) (u : Text) (h : Kept f) (o : after_comment_head u ≡ None) where
-  pub last_letter : (l : Letters) (w : Text) → step n t c f u ≡ gives (flags_end l) w → Spelled n t 0 c f u l w
-  last_letter l w e j m = in_end n t c f u j 0 m u (ap layout_reading (skip_here n f u h o)) l w e
+module _ (t : Text) (c : Bool) (f : Flags) (u : Text) (h : Kept f) (o : after_comment_head u ≡ None) where
+  pub last_letter : (l : Letters) (w : Text) → step t c f u ≡ gives (flags_end l) w → Spelled t 0 c f u l w
+  last_letter l w e j m = in_end t c f u j 0 m u (ap layout_reading (skip_here f u h o)) l w e
 
   pub more_letters : (k : ℕ) (b : Bool) (g : Flags) (v : Text) (l : Letters) (w : Text) →
-      step n t c f u ≡ gives (flags_go_on b g) v → Spelled n t k b g v l w → Spelled n t (k + 1) c f u l w
+      step t c f u ≡ gives (flags_go_on b g) v → Spelled t k b g v l w → Spelled t (k + 1) c f u l w
   more_letters k b g v l w e r j m =
       let (i, q, same) =
-      in_go n t c f u j (k + 1) m u (ap layout_reading (skip_here n f u h o)) k b g v (omega arith) e in
+      in_go t c f u j (k + 1) m u (ap layout_reading (skip_here f u h o)) k b g v (omega arith) e in
       same ∙ r i q
 
-pub spelled : (n k : ℕ) (f : Flags) (t : Text) (l : Letters) (w : Text) → Spelled n t k false f t l w → k ≤ bytes t →
-    letters n f t ≡ gives l w
-spelled n k f t l w h m = letters_start n f t ∙ h (suc (bytes t)) (omega arith)
+pub spelled : (k : ℕ) (f : Flags) (t : Text) (l : Letters) (w : Text) → Spelled t k false f t l w → k ≤ bytes t →
+    letters f t ≡ gives l w
+spelled k f t l w h m = letters_start f t ∙ h (suc (bytes t)) (omega arith)
 
-colon : (n : ℕ) (f : Flags) (s : Text) → Kept f → letters n f (code ":" ∷ s) ≡ gives (scoped f) s
-colon n f s k =
-    spelled n 0 f (code ":" ∷ s) (scoped f) s
-    (last_letter n (code ":" ∷ s) false f (code ":" ∷ s) k refl (scoped f) s refl)
+colon : (f : Flags) (s : Text) → Kept f → letters f (code ":" ∷ s) ≡ gives (scoped f) s
+colon f s k =
+    spelled 0 f (code ":" ∷ s) (scoped f) s
+    (last_letter (code ":" ∷ s) false f (code ":" ∷ s) k refl (scoped f) s refl)
     (omega arith)
 
-grouped_at : (n d : ℕ) (f : Flags) (s : Text) → Kept f → d + 1 < max_depth →
-    ahead n d (st f (code "(" ∷ code "?" ∷ code ":" ∷ s)) ≡ with_head scope (st f s)
-grouped_at n d f s k l = scope_at n d f f (code ":" ∷ s) s k l refl refl (colon n f s k)
+grouped_at : (d : ℕ) (f : Flags) (s : Text) → Kept f → d + 1 < max_depth →
+    ahead d (st f (code "(" ∷ code "?" ∷ code ":" ∷ s)) ≡ with_head scope (st f s)
+grouped_at d f s k l = scope_at d f f (code ":" ∷ s) s k l refl refl (colon f s k)
 
 -- `(?:`
-pub reads_grouped : (n d : ℕ) (f : Flags) (s v : Text) (x : Tree) → Kept f → d + 1 < max_depth →
-    WholeAs n (d + 1) f s (code ")" ∷ v) x → AtomAs n d f (code "(" ∷ code "?" ∷ code ":" ∷ s) v x
-reads_grouped n d f s v x k l w = reads_scope n d f f (code "(" ∷ code "?" ∷ code ":" ∷ s) s v x
-    (grouped_at n d f s k l) w
+pub reads_grouped : (d : ℕ) (f : Flags) (s v : Text) (x : Tree) → Kept f → d + 1 < max_depth →
+    WholeAs (d + 1) f s (code ")" ∷ v) x → AtomAs d f (code "(" ∷ code "?" ∷ code ":" ∷ s) v x
+reads_grouped d f s v x k l w = reads_scope d f f (code "(" ∷ code "?" ∷ code ":" ∷ s) s v x
+    (grouped_at d f s k l) w
 
 -- one letter and a colon
-pub one_letter : (n : ℕ) (f g : Flags) (c : ℕ) (s : Text) → Kept f → Kept g →
+pub one_letter : (f g : Flags) (c : ℕ) (s : Text) → Kept f → Kept g →
     after_comment_head (c ∷ code ":" ∷ s) ≡ None →
-    step n (c ∷ code ":" ∷ s) false f (c ∷ code ":" ∷ s) ≡ gives (flags_go_on false g) (code ":" ∷ s) →
-    letters n f (c ∷ code ":" ∷ s) ≡ gives (scoped g) s
+    step (c ∷ code ":" ∷ s) false f (c ∷ code ":" ∷ s) ≡ gives (flags_go_on false g) (code ":" ∷ s) →
+    letters f (c ∷ code ":" ∷ s) ≡ gives (scoped g) s
 unfolding bytes
-one_letter n f g c s k m o e =
+one_letter f g c s k m o e =
     let t = c ∷ code ":" ∷ s in
-    spelled n 1 f t (scoped g) s
-    (more_letters n t false f t k o 0 false g (code ":" ∷ s) (scoped g) s e
-    (last_letter n t false g (code ":" ∷ s) m refl (scoped g) s refl)) (omega arith)
+    spelled 1 f t (scoped g) s
+    (more_letters t false f t k o 0 false g (code ":" ∷ s) (scoped g) s e
+    (last_letter t false g (code ":" ∷ s) m refl (scoped g) s refl)) (omega arith)
 
-pub two_letters : (n : ℕ) (f g h : Flags) (b c : ℕ) (s : Text) → Kept f → Kept g → Kept h → 1 ≤ bytes (b ∷ []) →
+pub two_letters : (f g h : Flags) (b c : ℕ) (s : Text) → Kept f → Kept g → Kept h → 1 ≤ bytes (b ∷ []) →
     after_comment_head (b ∷ c ∷ code ":" ∷ s) ≡ None → after_comment_head (c ∷ code ":" ∷ s) ≡ None →
-    step n (b ∷ c ∷ code ":" ∷ s) false f (b ∷ c ∷ code ":" ∷ s) ≡ gives (flags_go_on false g) (c ∷ code ":" ∷ s) →
-    step n (b ∷ c ∷ code ":" ∷ s) false g (c ∷ code ":" ∷ s) ≡ gives (flags_go_on false h) (code ":" ∷ s) →
-    letters n f (b ∷ c ∷ code ":" ∷ s) ≡ gives (scoped h) s
+    step (b ∷ c ∷ code ":" ∷ s) false f (b ∷ c ∷ code ":" ∷ s) ≡ gives (flags_go_on false g) (c ∷ code ":" ∷ s) →
+    step (b ∷ c ∷ code ":" ∷ s) false g (c ∷ code ":" ∷ s) ≡ gives (flags_go_on false h) (code ":" ∷ s) →
+    letters f (b ∷ c ∷ code ":" ∷ s) ≡ gives (scoped h) s
 unfolding bytes
-two_letters n f g h b c s k m p z o q e r =
+two_letters f g h b c s k m p z o q e r =
     let t = b ∷ c ∷ code ":" ∷ s in
-    spelled n 2 f t (scoped h) s
-    (more_letters n t false f t k o 1 false g (c ∷ code ":" ∷ s) (scoped h) s e
-    (more_letters n t false g (c ∷ code ":" ∷ s) m q 0 false h (code ":" ∷ s) (scoped h) s r
-    (last_letter n t false h (code ":" ∷ s) p refl (scoped h) s refl))) (omega arith)
+    spelled 2 f t (scoped h) s
+    (more_letters t false f t k o 1 false g (c ∷ code ":" ∷ s) (scoped h) s e
+    (more_letters t false g (c ∷ code ":" ∷ s) m q 0 false h (code ":" ∷ s) (scoped h) s r
+    (last_letter t false h (code ":" ∷ s) p refl (scoped h) s refl))) (omega arith)
 
 -- `(?i:`
-pub reads_caseless : (n d : ℕ) (u : Bool) (s v : Text) (x : Tree) → d + 1 < max_depth →
-    WholeAs n (d + 1) (case_flags u true) s (code ")" ∷ v) x →
-    AtomAs n d (unicode_flags u) (code "(" ∷ code "?" ∷ code "i" ∷ code ":" ∷ s) v x
-reads_caseless n d u s v x l w =
+pub reads_caseless : (d : ℕ) (u : Bool) (s v : Text) (x : Tree) → d + 1 < max_depth →
+    WholeAs (d + 1) (case_flags u true) s (code ")" ∷ v) x →
+    AtomAs d (unicode_flags u) (code "(" ∷ code "?" ∷ code "i" ∷ code ":" ∷ s) v x
+reads_caseless d u s v x l w =
     let f = unicode_flags u in
     let g = case_flags u true in
-    reads_scope n d f g (code "(" ∷ code "?" ∷ code "i" ∷ code ":" ∷ s) s v x
-    (scope_at n d f g (code "i" ∷ code ":" ∷ s) s (kept_unicode u) l refl refl
-    (one_letter n f g (code "i") s (kept_unicode u) (kept_case u true) refl refl)) w
+    reads_scope d f g (code "(" ∷ code "?" ∷ code "i" ∷ code ":" ∷ s) s v x
+    (scope_at d f g (code "i" ∷ code ":" ∷ s) s (kept_unicode u) l refl refl
+    (one_letter f g (code "i") s (kept_unicode u) (kept_case u true) refl refl)) w
 
 -- ---- leaves
 
-pub reads_leaf : (n d : ℕ) (f : Flags) (s v : Text) (x : Tree) → ahead n d (st f s) ≡ leaf (done x (st f v)) →
-    Becomes x x → AtomAs n d f s v x
-reads_leaf n d f s v x e b = record { tree = x; derives = atom e a_leaf refl; becomes = b }
+pub reads_leaf : (d : ℕ) (f : Flags) (s v : Text) (x : Tree) → ahead d (st f s) ≡ leaf (done x (st f v)) →
+    Becomes x x → AtomAs d f s v x
+reads_leaf d f s v x e b = record { tree = x; derives = atom e a_leaf refl; becomes = b }
 
-pub leaf_at : (n d : ℕ) (f : Flags) (c : ℕ) (t : Text) → (c == code "(") ≡ false → is_before_nothing c ≡ false →
-    ahead n d (st f (c ∷ t)) ≡ leaf (leaf_of n (st f (c ∷ t)) c t)
+pub leaf_at : (d : ℕ) (f : Flags) (c : ℕ) (t : Text) → (c == code "(") ≡ false → is_before_nothing c ≡ false →
+    ahead d (st f (c ∷ t)) ≡ leaf (leaf_of (st f (c ∷ t)) c t)
 unfolding ahead
-leaf_at n d f c t a b = cond-false _ _ _ a ∙ cond-false _ _ _ b
+leaf_at d f c t a b = cond-false _ _ _ a ∙ cond-false _ _ _ b
 
-plain_leaf : (n d : ℕ) (f : Flags) (c : ℕ) (v : Text) → behind_backslash c ≡ None →
-    ahead n d (st f (c ∷ v)) ≡ leaf (done (literal (c ∷ []) f.casei) (st f v))
-plain_leaf n d f c v e =
+plain_leaf : (d : ℕ) (f : Flags) (c : ℕ) (v : Text) → behind_backslash c ≡ None →
+    ahead d (st f (c ∷ v)) ≡ leaf (done (literal (c ∷ []) f.casei) (st f v))
+plain_leaf d f c v e =
     let is_not = apart needs_backslash c (behind_none c e) in
-    leaf_at n d f c v (is_not (code "(") refl)
+    leaf_at d f c v (is_not (code "(") refl)
     (rw (
       is_not (code "+") refl,
       is_not (code "*") refl,
@@ -502,62 +502,62 @@ plain_leaf n d f c v e =
     ) refl
 
 -- a character, as it is printed
-pub reads_char : (n d : ℕ) (f : Flags) (c : ℕ) (v : Text) (o : Option ℕ) → behind_backslash c ≡ o →
-    AtomAs n d f (put_as c o v) v (literal (c ∷ []) (f.casei && is_none o))
-reads_char n d f c v None e =
-    reads_leaf n d f (c ∷ v) v (literal (c ∷ []) (f.casei && true))
-    (plain_leaf n d f c v e ∙ ap (λ b. leaf (done (literal (c ∷ []) b) (st f v))) (sym (and-true f.casei)))
-    (record { is = λ g. refl; groups = tt })
-reads_char n d f c v (Some x) e =
-    reads_leaf n d f (code "\\" ∷ x ∷ v) v (literal (c ∷ []) (f.casei && false))
-    (leaf_at n d f (code "\\") (x ∷ v) refl refl
+pub reads_char : (d : ℕ) (f : Flags) (c : ℕ) (v : Text) (o : Option ℕ) → behind_backslash c ≡ o →
+    AtomAs d f (put_as c o v) v (literal (c ∷ []) (f.casei && is_none o))
+reads_char d f c v None e =
+    reads_leaf d f (c ∷ v) v (literal (c ∷ []) (f.casei && true))
+    (plain_leaf d f c v e ∙ ap (λ b. leaf (done (literal (c ∷ []) b) (st f v))) (sym (and-true f.casei)))
+    (record { is = λ n g. refl; groups = tt })
+reads_char d f c v (Some x) e =
+    reads_leaf d f (code "\\" ∷ x ∷ v) v (literal (c ∷ []) (f.casei && false))
+    (leaf_at d f (code "\\") (x ∷ v) refl refl
     ∙ ap (λ r. leaf (leaf_outcome leaf_node (st f (code "\\" ∷ x ∷ v)) r))
-    (behind_some c x e n f (place_of n (code "\\" ∷ x ∷ v)) v)
+    (behind_some c x e f (reach_of (code "\\" ∷ x ∷ v)) v)
     ∙ ap (λ b. leaf (done (literal (c ∷ []) b) (st f v))) (sym (and-false f.casei)))
-    (record { is = λ g. refl; groups = tt })
+    (record { is = λ n g. refl; groups = tt })
 
 -- ---- faults
 
 -- a group that is too deep
-pub fails_deep : (n d : ℕ) (f : Flags) (t : Text) → max_depth ≤ d + 1 →
-    Atom n d (st f (code "(" ∷ t)) (fault recursion_exceeded (place_of n (code "(" ∷ t)))
+pub fails_deep : (d : ℕ) (f : Flags) (t : Text) → max_depth ≤ d + 1 →
+    Atom d (st f (code "(" ∷ t)) (fault recursion_exceeded (reach_of (code "(" ∷ t)))
 unfolding ahead
-fails_deep n d f t h =
+fails_deep d f t h =
     let deep : nat_le max_depth (d + 1) ≡ true = le-leb max_depth (d + 1) h in atom (cond-true _ _ _ deep) a_leaf refl
 
-module _ (n d : ℕ) (f : Flags) (k : Kind) (p : ℕ) where
-  fails_head : (g : Flags) (h : Head) (s t : Text) → ahead n d (st f s) ≡ with_head h (st g t) →
-      Alternation n (d + 1) (st g t) (fault k p) → Atom n d (st f s) (fault k p)
+module _ (d : ℕ) (f : Flags) (k : Kind) (p : ℕ) where
+  fails_head : (g : Flags) (h : Head) (s t : Text) → ahead d (st f s) ≡ with_head h (st g t) →
+      Alternation (d + 1) (st g t) (fault k p) → Atom d (st f s) (fault k p)
   fails_head g h s t e w = atom e (a_group (inside w refl) refl) refl
 
-  pub fails_group : (s : Text) → Kept f → d + 1 < max_depth → Clear s → Alternation n (d + 1) (st f s) (fault k p) →
-      Atom n d (st f (code "(" ∷ s)) (fault k p)
-  fails_group s h l c w = fails_head f (capture None) (code "(" ∷ s) s (group_at n d f s h l c) w
+  pub fails_group : (s : Text) → Kept f → d + 1 < max_depth → Clear s → Alternation (d + 1) (st f s) (fault k p) →
+      Atom d (st f (code "(" ∷ s)) (fault k p)
+  fails_group s h l c w = fails_head f (capture None) (code "(" ∷ s) s (group_at d f s h l c) w
 
-  pub fails_grouped : (s : Text) → Kept f → d + 1 < max_depth → Alternation n (d + 1) (st f s) (fault k p) →
-      Atom n d (st f (code "(" ∷ code "?" ∷ code ":" ∷ s)) (fault k p)
-  fails_grouped s h l w = fails_head f scope (code "(" ∷ code "?" ∷ code ":" ∷ s) s (grouped_at n d f s h l) w
+  pub fails_grouped : (s : Text) → Kept f → d + 1 < max_depth → Alternation (d + 1) (st f s) (fault k p) →
+      Atom d (st f (code "(" ∷ code "?" ∷ code ":" ∷ s)) (fault k p)
+  fails_grouped s h l w = fails_head f scope (code "(" ∷ code "?" ∷ code ":" ∷ s) s (grouped_at d f s h l) w
 
   pub fails_piece : (s : Text) → Kept f → states.ends s ≡ false → after_comment_head s ≡ None →
-      Atom n d (st f s) (fault k p) → Pieces n d (st f s) (fault k p)
-  fails_piece s h e o a = piece_fault e (piece (skip_here n f s h o) a refl)
+      Atom d (st f s) (fault k p) → Pieces d (st f s) (fault k p)
+  fails_piece s h e o a = piece_fault e (piece (skip_here f s h o) a refl)
 
-  pub fails_first : (s : Text) → Pieces n d (st f s) (fault k p) → Branches n d (st f s) (fault k p)
+  pub fails_first : (s : Text) → Pieces d (st f s) (fault k p) → Branches d (st f s) (fault k p)
   fails_first s q = branch_fault (branch q refl)
 
-  pub fails_more : (s t : Text) (x : Tree) → BranchAs n d f s (code "|" ∷ t) x → Branches n d (st f t) (fault k p) →
-      Branches n d (st f s) (fault k p)
+  pub fails_more : (s t : Text) (x : Tree) → BranchAs d f s (code "|" ∷ t) x → Branches d (st f t) (fault k p) →
+      Branches d (st f s) (fault k p)
   fails_more s t x b q = more b.derives refl q refl
 
-  pub fails_whole : (s : Text) → Branches n d (st f s) (fault k p) → Alternation n d (st f s) (fault k p)
+  pub fails_whole : (s : Text) → Branches d (st f s) (fault k p) → Alternation d (st f s) (fault k p)
   fails_whole s q = alternation q refl
 
 -- ---- a whole text
 
-pub reads_text : (f : Flags) (s : Text) (x : Tree) → WholeAs (bytes s) 0 f s [] x →
+pub reads_text : (f : Flags) (s : Text) (x : Tree) → WholeAs 0 f s [] x →
     (r : Tree) × DerivesTree f s r × Becomes r x
 reads_text f s x w = (w.tree, (_, whole w.derives refl), w.becomes)
 
-pub fails_text : (f : Flags) (s : Text) (k : Kind) (p : ℕ) → Alternation (bytes s) 0 (st f s) (fault k p) →
-    Faults f s k p
-fails_text f s k p w = whole w refl
+pub fails_text : (f : Flags) (s : Text) (k : Kind) (q : ℕ) → Alternation 0 (st f s) (fault k q) →
+    Faults f s k (place_at (bytes s) q)
+fails_text f s k q w = (q, whole w refl, refl)

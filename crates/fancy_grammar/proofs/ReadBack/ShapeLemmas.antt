@@ -17,8 +17,8 @@ use Rattle.fancy_grammar.proofs.ReadBack.LeafLemmas.{HasText}
 
 -- a Delegate's text in front of anything reads as its normal form
 pub record DelegateText (s : Text) : Type 0 where
-  pub reads : (n d : ℕ) (u i : Bool) (v : Text) →
-      AtomAs n d (case_flags u i) (s ++ v) v (normal u (delegate s i))
+  pub reads : (d : ℕ) (u i : Bool) (v : Text) →
+      AtomAs d (case_flags u i) (s ++ v) v (normal u (delegate s i))
   pub begins : (v : Text) → Begins (s ++ v)
 
 abbrev mutual

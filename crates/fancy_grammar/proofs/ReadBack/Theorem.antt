@@ -9,8 +9,8 @@ use Rattle.std.proofs.lemmas.Bool.{cond_both, cond-true}
 use borrow.Author.Tests.{ltb-true, ltb-false}
 use Rattle.std.proofs.Common.{lt-ltb}
 use Rattle.fancy_lex.specs.Fault.{Kind, recursion_exceeded}
-use Rattle.fancy_lex.specs.Text.{Text}
-use Rattle.fancy_lex.specs.declared.error.Error.TheVariants.{ParseError}
+use Rattle.fancy_lex.specs.Text.{Text, bytes, place_at}
+use Rattle.fancy_lex.specs.declared.error.Failure.TheVariants.{At}
 use Rattle.fancy_lex.specs.declared.error.ParseError.TheVariants.{RecursionExceeded}
 use Rattle.fancy_lex.specs.declared.flags.Flags.{Flags}
 use Rattle.fancy_parts.specs.Meaning.{first_fault}
@@ -61,7 +61,7 @@ marks_are u text r h =
     λ i. record {
       backrefs = ascending (filter (λ n. nat_le n (length numbered)) (back_numbers numbered (none i)));
       named_groups = unnamed i;
-      numeric_capture_group_references = list_any (λ x. is_numeric text x.place x.role x.target) (none i);
+      numeric_capture_group_references = list_any (λ x. is_numeric text (place_at (bytes text) x.reach) x.role x.target) (none i);
       contains_subroutines = list_any (λ x. is_call x.role) (none i);
       self_recursive = list_any (λ x. is_call_of_all x.role x.target) (none i);
       total_groups = length numbered;
@@ -78,7 +78,7 @@ tree_of u text r x d b =
     let numbered = numbered_openings_in false (openings r) in
     let none : fault_of (unicode_flags u) r ≡ None = ap (first_fault numbered) (no_references (items r) b.groups) in
     let found : IsTreeOf (unicode_flags u) text x (marks_of_groups (length numbered)) =
-    (r, d, none, sym (b.is numbered), sym (marks_are u text r b.groups)) in
+    (r, d, none, sym (b.is (bytes text) numbered), sym (marks_are u text r b.groups)) in
     subst (λ n. IsTreeOf (unicode_flags u) text x (marks_of_groups n)) (sym (groups_total found)) found
 
 only_read : (f : Flags) (text : Text) (t : Tree) (m : Marks) → IsTreeOf f text t m → IsOnlyAnswer f text (read t m)
@@ -95,7 +95,7 @@ only_refused f text p a = record { is = of_reading a; only = λ b h. other b h }
     other : (b : Answer) → IsAnswerOf f text b → b ≡ refused recursion_exceeded p
     other (read s k) h = absurd (no_fault f text s k recursion_exceeded p h (of_reading a))
     other (refused k q) h =
-        let (e, d) = (only_reading (ParseError p RecursionExceeded) f text a).1 k q h in ap₂ refused e d
+        let (e, d) = (only_reading (At a.0 RecursionExceeded) f text a.1).1 k q h in ap₂ refused e (d ∙ sym a.2)
 
 only_answer : (t : Tree) (p : ℕ) (u : Bool) → printable t ≡ true →
     IsOnlyAnswer (unicode_flags u) (printed t p) (read_back u t p)

@@ -4,7 +4,7 @@ use Rattle.std.proofs.Common.{◌∷◌, ◌++◌, refl, sym, ap, ◌∙◌, sub
 use Rattle.std.proofs.lemmas.Bool.{cond_both}
 use Prim.Native.Char.{code}
 use Rattle.fancy_lex.specs.Fault.{recursion_exceeded}
-use Rattle.fancy_lex.specs.Text.{Text, bytes, place_of}
+use Rattle.fancy_lex.specs.Text.{Text, bytes, place_at, reach_of}
 use Rattle.fancy_lex.specs.declared.escape.Assertion.{Assertion}
 use Rattle.fancy_lex.specs.declared.escape.Assertion.TheVariants.{StartLine, StartLineOniguruma, EndLine}
 use Rattle.fancy_parts.specs.Quote.{quantifier}
@@ -64,26 +64,26 @@ abbrev repeated_left : Tree → ℕ → Text → Text
 repeated_left t d v = left_if (is_long t) d (put t 3) (left t 3) v
 
 -- What k prints in front of v, with m groups nested, fails where o leaves.
-abbrev AtomFails : Bool → ℕ → ℕ → Text → Text → Type 0
-AtomFails u n d s at = Atom n d (st (unicode_flags u) s) (fault recursion_exceeded (place_of n at))
+abbrev AtomFails : Bool → ℕ → Text → Text → Type 0
+AtomFails u d s at = Atom d (st (unicode_flags u) s) (fault recursion_exceeded (reach_of at))
 
-abbrev PiecesFail : Bool → ℕ → ℕ → Text → Text → Type 0
-PiecesFail u n d s at = Pieces n d (st (unicode_flags u) s) (fault recursion_exceeded (place_of n at))
+abbrev PiecesFail : Bool → ℕ → Text → Text → Type 0
+PiecesFail u d s at = Pieces d (st (unicode_flags u) s) (fault recursion_exceeded (reach_of at))
 
-abbrev BranchesFail : Bool → ℕ → ℕ → Text → Text → Type 0
-BranchesFail u n d s at = Branches n d (st (unicode_flags u) s) (fault recursion_exceeded (place_of n at))
+abbrev BranchesFail : Bool → ℕ → Text → Text → Type 0
+BranchesFail u d s at = Branches d (st (unicode_flags u) s) (fault recursion_exceeded (reach_of at))
 
-abbrev WholeFails : Bool → ℕ → ℕ → Text → Text → Type 0
-WholeFails u n d s at = Alternation n d (st (unicode_flags u) s) (fault recursion_exceeded (place_of n at))
+abbrev WholeFails : Bool → ℕ → Text → Text → Type 0
+WholeFails u d s at = Alternation d (st (unicode_flags u) s) (fault recursion_exceeded (reach_of at))
 
 abbrev FailsAtom : Bool → (Text → Text) → ℕ → (ℕ → Text → Text) → Type 0
-FailsAtom u k m o = (n d : ℕ) (v : Text) → d < max_depth → max_depth ≤ d + m → AtomFails u n d (k v) (o d v)
+FailsAtom u k m o = (d : ℕ) (v : Text) → d < max_depth → max_depth ≤ d + m → AtomFails u d (k v) (o d v)
 
 abbrev FailsRun : Bool → (Text → Text) → ℕ → (ℕ → Text → Text) → Type 0
-FailsRun u k m o = (n d : ℕ) (v : Text) → d < max_depth → max_depth ≤ d + m → Clear v → PiecesFail u n d (k v) (o d v)
+FailsRun u k m o = (d : ℕ) (v : Text) → d < max_depth → max_depth ≤ d + m → Clear v → PiecesFail u d (k v) (o d v)
 
 abbrev FailsWhole : Bool → (Text → Text) → ℕ → (ℕ → Text → Text) → Type 0
-FailsWhole u k m o = (n d : ℕ) (v : Text) → d < max_depth → max_depth ≤ d + m → Ends v → WholeFails u n d (k v) (o d v)
+FailsWhole u k m o = (d : ℕ) (v : Text) → d < max_depth → max_depth ≤ d + m → Ends v → WholeFails u d (k v) (o d v)
 
 record FailsBy (u : Bool) (k3 k2 k1 k0 : Text → Text) (m3 m2 m1 m0 : ℕ) (o3 o2 o1 o0 : ℕ → Text → Text) : Type 0 where
   atom : FailsAtom u k3 m3 o3
@@ -102,14 +102,14 @@ EachFails u no_trees = Unit {0}
 EachFails u (more_trees t ts) = Fails u t × EachFails u ts
 
 to_whole : (u : Bool) (k : Text → Text) (m : ℕ) (o : ℕ → Text → Text) → FailsRun u k m o → FailsWhole u k m o
-to_whole u k m o r n d v l h e =
-    fails_whole n d (unicode_flags u) recursion_exceeded _ (k v)
-    (fails_first n d (unicode_flags u) recursion_exceeded _ (k v) (r n d v l h e.stops.clear))
+to_whole u k m o r d v l h e =
+    fails_whole d (unicode_flags u) recursion_exceeded _ (k v)
+    (fails_first d (unicode_flags u) recursion_exceeded _ (k v) (r d v l h e.stops.clear))
 
 atom_run : (u : Bool) (k : Text → Text) (m : ℕ) (o : ℕ → Text → Text) → Starts k → FailsAtom u k m o → FailsRun u k m o
-atom_run u k m o s a n d v l h _ =
-    fails_piece n d (unicode_flags u) recursion_exceeded _ (k v) (kept_unicode u) (s v).goes
-    (s v).clear.no_comment (a n d v l h)
+atom_run u k m o s a d v l h _ =
+    fails_piece d (unicode_flags u) recursion_exceeded _ (k v) (kept_unicode u) (s v).goes
+    (s v).clear.no_comment (a d v l h)
 
 -- never wrapped
 by_atom : (u : Bool) (k : Text → Text) (m : ℕ) (o : ℕ → Text → Text) → Starts k → FailsAtom u k m o →
@@ -122,11 +122,11 @@ by_atom u k m o s a =
 by_none : (u : Bool) (k : Text → Text) (o : ℕ → Text → Text) → FailsBy u k k k k 0 0 0 0 o o o o
 by_none u k o =
     record {
-      atom = λ n d v l h. absurd (omega arith);
-      high = λ n d v l h c. absurd (omega arith);
-      run = λ n d v l h c. absurd (omega arith);
-      branch = λ n d v l h c. absurd (omega arith);
-      whole = λ n d v l h e. absurd (omega arith);
+      atom = λ d v l h. absurd (omega arith);
+      high = λ d v l h c. absurd (omega arith);
+      run = λ d v l h c. absurd (omega arith);
+      branch = λ d v l h c. absurd (omega arith);
+      whole = λ d v l h e. absurd (omega arith);
     }
 
 -- one group, that holds none
@@ -134,15 +134,15 @@ by_one : (u : Bool) (k : Text → Text) → ((v : Text) → (t : Text) × (k v �
     FailsBy u k k k k 1 1 1 1 (λ d v. k v) (λ d v. k v) (λ d v. k v) (λ d v. k v)
 by_one u k h s =
     by_atom u k 1 (λ d v. k v) s
-    (λ n d v l m. subst (λ w. AtomFails u n d w w) (sym (h v).1) (fails_deep n d (unicode_flags u) (h v).0 m))
+    (λ d v l m. subst (λ w. AtomFails u d w w) (sym (h v).1) (fails_deep d (unicode_flags u) (h v).0 m))
 
 -- a group with something inside, that opens at here
-opened : (u : Bool) (n d : ℕ) (t inner : Text) → (d + 1 < max_depth → AtomFails u n d (code "(" ∷ t) inner) →
+opened : (u : Bool) (d : ℕ) (t inner : Text) → (d + 1 < max_depth → AtomFails u d (code "(" ∷ t) inner) →
     d < max_depth →
-    AtomFails u n d (code "(" ∷ t) (left_open d (code "(" ∷ t) inner)
-opened u n d t inner f l =
-    cond_both (nat_le most_open d) (code "(" ∷ t) inner (λ at. AtomFails u n d (code "(" ∷ t) at)
-    (λ yes. let h = leb-true most_open d yes in fails_deep n d (unicode_flags u) t (omega arith))
+    AtomFails u d (code "(" ∷ t) (left_open d (code "(" ∷ t) inner)
+opened u d t inner f l =
+    cond_both (nat_le most_open d) (code "(" ∷ t) inner (λ at. AtomFails u d (code "(" ∷ t) at)
+    (λ yes. let h = leb-true most_open d yes in fails_deep d (unicode_flags u) t (omega arith))
     (λ no. let h = leb-false most_open d no in f (omega arith))
 
 abbrev wrapped_left : (Text → Text) → (ℕ → Text → Text) → ℕ → Text → Text
@@ -150,11 +150,11 @@ wrapped_left k o d v = left_open d (open_if true (k (code ")" ∷ v))) (o (d + 1
 
 wrap_fails : (u : Bool) (k : Text → Text) (m : ℕ) (o : ℕ → Text → Text) → FailsWhole u k m o →
     FailsAtom u (wrapped k) (1 + m) (wrapped_left k o)
-wrap_fails u k m o w n d v l h =
+wrap_fails u k m o w d v l h =
     let s = k (code ")" ∷ v) in
-    opened u n d (code "?" ∷ code ":" ∷ s) (o (d + 1) (code ")" ∷ v))
-    (λ b. fails_grouped n d (unicode_flags u) recursion_exceeded _ s (kept_unicode u) b
-    (w n (d + 1) (code ")" ∷ v) b (omega arith) (ends_close v))) l
+    opened u d (code "?" ∷ code ":" ∷ s) (o (d + 1) (code ")" ∷ v))
+    (λ b. fails_grouped d (unicode_flags u) recursion_exceeded _ s (kept_unicode u) b
+    (w (d + 1) (code ")" ∷ v) b (omega arith) (ends_close v))) l
 
 -- wrapped from 1 on, from 2 on, from 3 on
 by_whole : (u : Bool) (k : Text → Text) (m : ℕ) (o : ℕ → Text → Text) → FailsWhole u k m o
@@ -163,7 +163,7 @@ by_whole : (u : Bool) (k : Text → Text) (m : ℕ) (o : ℕ → Text → Text) 
 by_whole u k m o w =
     let a = wrap_fails u k m o w in
     let r = atom_run u (wrapped k) (1 + m) (wrapped_left k o) (wrap_starts k) a in
-    record { atom = a; high = r; run = r; branch = r; whole = λ n d v l h e. w n d v l (omega arith) e }
+    record { atom = a; high = r; run = r; branch = r; whole = λ d v l h e. w d v l (omega arith) e }
 
 by_branch : (u : Bool) (k : Text → Text) (m : ℕ) (o : ℕ → Text → Text) → FailsRun u k m o
     → FailsBy u (wrapped k) (wrapped k) k k (1 + m) (1 + m) (0 + m) (0 + m) (wrapped_left k o) (wrapped_left k o) o o
@@ -175,8 +175,8 @@ by_branch u k m o b =
       atom = a;
       high = r;
       run = r;
-      branch = λ n d v l h c. b n d v l (omega arith) c;
-      whole = λ n d v l h e. w n d v l (omega arith) e;
+      branch = λ d v l h c. b d v l (omega arith) c;
+      whole = λ d v l h e. w d v l (omega arith) e;
     }
 
 by_run : (u : Bool) (k : Text → Text) (m : ℕ) (o : ℕ → Text → Text) → FailsRun u k m o
@@ -187,9 +187,9 @@ by_run u k m o b =
     record {
       atom = a;
       high = atom_run u (wrapped k) (1 + m) (wrapped_left k o) (wrap_starts k) a;
-      run = λ n d v l h c. b n d v l (omega arith) c;
-      branch = λ n d v l h c. b n d v l (omega arith) c;
-      whole = λ n d v l h e. w n d v l (omega arith) e;
+      run = λ d v l h c. b d v l (omega arith) c;
+      branch = λ d v l h c. b d v l (omega arith) c;
+      whole = λ d v l h e. w d v l (omega arith) e;
     }
 
 any_fails : (u a b : Bool) → Fails u (any a b)
@@ -214,46 +214,46 @@ group_fails u t h r =
     let clear = λ (v : Text). clear_put t h 0 (code ")" ∷ v) (clear_close v) in
     by_atom u k (1 + nest t 0) (λ d v. left_open d (k v) (left t 0 (d + 1) (code ")" ∷ v)))
     (λ v. begins_group (put t 0 (code ")" ∷ v)) (clear v))
-    (λ n d v l m. opened u n d (put t 0 (code ")" ∷ v)) (left t 0 (d + 1) (code ")" ∷ v))
-    (λ b. fails_group n d (unicode_flags u) recursion_exceeded _ (put t 0 (code ")" ∷ v)) (kept_unicode u) b (clear v)
-    (r.whole n (d + 1) (code ")" ∷ v) b (omega arith) (ends_close v))) l)
+    (λ d v l m. opened u d (put t 0 (code ")" ∷ v)) (left t 0 (d + 1) (code ")" ∷ v))
+    (λ b. fails_group d (unicode_flags u) recursion_exceeded _ (put t 0 (code ")" ∷ v)) (kept_unicode u) b (clear v)
+    (r.whole (d + 1) (code ")" ∷ v) b (omega arith) (ends_close v))) l)
 
 concat_fails : (u : Bool) (ts : Trees) → ArePrintable ts → EachReads u ts → EachFails u ts →
     FailsRun u (puts ts) (nests ts 2) (lefts ts)
-concat_fails u no_trees h r q n d v l m c = absurd (omega arith)
-concat_fails u (more_trees t ts) h r q n d v l m c =
-    cond_both (nat_le max_depth (d + nest t 2)) _ _ (λ at. PiecesFail u n d (put t 2 (puts ts v)) at)
-    (λ yes. q.0.run n d (puts ts v) l (leb-true max_depth (d + nest t 2) yes) (clear_puts ts h.1 v c))
+concat_fails u no_trees h r q d v l m c = absurd (omega arith)
+concat_fails u (more_trees t ts) h r q d v l m c =
+    cond_both (nat_le max_depth (d + nest t 2)) _ _ (λ at. PiecesFail u d (put t 2 (puts ts v)) at)
+    (λ yes. q.0.run d (puts ts v) l (leb-true max_depth (d + nest t 2) yes) (clear_puts ts h.1 v c))
     (λ no.
     let b = leb-false max_depth (d + nest t 2) no in
-    (r.0.run n d (puts ts v) b (clear_puts ts h.1 v c)).pieces _
-    (concat_fails u ts h.1 r.1 q.1 n d v l (omega arith) c))
+    (r.0.run d (puts ts v) b (clear_puts ts h.1 v c)).pieces _
+    (concat_fails u ts h.1 r.1 q.1 d v l (omega arith) c))
 
-alt_fails : (u : Bool) (ts : Trees) → EachReads u ts → EachFails u ts → (n d : ℕ) (v : Text) → d < max_depth →
+alt_fails : (u : Bool) (ts : Trees) → EachReads u ts → EachFails u ts → (d : ℕ) (v : Text) → d < max_depth →
     max_depth ≤ d + nests ts 1 → Ends v
-    → BranchesFail u n d (put_branches ts v) (branch_lefts ts d v)
-alt_fails u no_trees r q n d v l m e = absurd (omega arith)
-alt_fails u (more_trees t no_trees) r q n d v l m e =
-    cond_both (nat_le max_depth (d + nest t 1)) _ _ (λ at. BranchesFail u n d (put t 1 v) at)
-    (λ yes. fails_first n d (unicode_flags u) recursion_exceeded _ (put t 1 v)
-    (q.0.branch n d v l (leb-true max_depth (d + nest t 1) yes) e.stops.clear))
+    → BranchesFail u d (put_branches ts v) (branch_lefts ts d v)
+alt_fails u no_trees r q d v l m e = absurd (omega arith)
+alt_fails u (more_trees t no_trees) r q d v l m e =
+    cond_both (nat_le max_depth (d + nest t 1)) _ _ (λ at. BranchesFail u d (put t 1 v) at)
+    (λ yes. fails_first d (unicode_flags u) recursion_exceeded _ (put t 1 v)
+    (q.0.branch d v l (leb-true max_depth (d + nest t 1) yes) e.stops.clear))
     (λ no. let b = leb-false max_depth (d + nest t 1) no in absurd (omega arith))
-alt_fails u (more_trees t (more_trees x xs)) r q n d v l m e =
+alt_fails u (more_trees t (more_trees x xs)) r q d v l m e =
     let rest = put x 1 (put_barred xs v) in
-    cond_both (nat_le max_depth (d + nest t 1)) _ _ (λ at. BranchesFail u n d (put t 1 (code "|" ∷ rest)) at)
-    (λ yes. fails_first n d (unicode_flags u) recursion_exceeded _ (put t 1 (code "|" ∷ rest))
-    (q.0.branch n d (code "|" ∷ rest) l (leb-true max_depth (d + nest t 1) yes) (stops_bar rest).clear))
+    cond_both (nat_le max_depth (d + nest t 1)) _ _ (λ at. BranchesFail u d (put t 1 (code "|" ∷ rest)) at)
+    (λ yes. fails_first d (unicode_flags u) recursion_exceeded _ (put t 1 (code "|" ∷ rest))
+    (q.0.branch d (code "|" ∷ rest) l (leb-true max_depth (d + nest t 1) yes) (stops_bar rest).clear))
     (λ no.
     let b = leb-false max_depth (d + nest t 1) no in
-    fails_more n d (unicode_flags u) recursion_exceeded _ (put t 1 (code "|" ∷ rest)) rest _
-    (r.0.branch n d (code "|" ∷ rest) b (stops_bar rest))
-    (alt_fails u (more_trees x xs) r.1 q.1 n d v l (omega arith) e))
+    fails_more d (unicode_flags u) recursion_exceeded _ (put t 1 (code "|" ∷ rest)) rest _
+    (r.0.branch d (code "|" ∷ rest) b (stops_bar rest))
+    (alt_fails u (more_trees x xs) r.1 q.1 d v l (omega arith) e))
 
 -- what is put in a group of its own where that is asked
 fails_if : (u b : Bool) (k : Text → Text) (m : ℕ) (o : ℕ → Text → Text) → FailsAtom u k m o → FailsWhole u k m o →
     FailsAtom u (λ v. open_if b (k (close_if b v))) (one_if b + m) (λ d v. left_if b d k o v)
 fails_if u true k m o a w = wrap_fails u k m o w
-fails_if u false k m o a w = λ n d v l h. a n d v l (omega arith)
+fails_if u false k m o a w = λ d v l h. a d v l (omega arith)
 
 -- what a quantifier is put behind
 repeated_fails : (u : Bool) (t : Tree) → Fails u t →
@@ -264,11 +264,11 @@ repeated_fails u t q =
 repeat_fails : (u : Bool) (t : Tree) (lo hi : ℕ) (greedy : Bool) → Printable (repeat t lo hi greedy) → Fails u t
     → FailsRun u (λ v. put_repeated t (quantifier lo hi greedy ++ v)) (one_if (is_long t) + nest t 3)
     (λ d v. repeated_left t d (quantifier lo hi greedy ++ v))
-repeat_fails u t lo hi greedy h q n d v l m c =
+repeat_fails u t lo hi greedy h q d v l m c =
     let w = quantifier lo hi greedy ++ v in
     let b = begins_repeated t (h.1 false) (begins_atom t h.0) w in
-    fails_piece n d (unicode_flags u) recursion_exceeded _ (put_repeated t w) (kept_unicode u) b.goes
-    b.clear.no_comment (repeated_fails u t q n d w l m)
+    fails_piece d (unicode_flags u) recursion_exceeded _ (put_repeated t w) (kept_unicode u) b.goes
+    b.clear.no_comment (repeated_fails u t q d w l m)
 
 mutual
   fails : (u : Bool) (t : Tree) → Printable t → Fails u t
@@ -287,8 +287,8 @@ mutual
       by_branch u (puts ts) (nests ts 2) (lefts ts) (concat_fails u ts h (reads_each u ts h) (fails_each u ts h))
   fails u (alt ts) h =
       by_whole u (put_branches ts) (nests ts 1) (branch_lefts ts)
-      (λ n d v l m e. fails_whole n d (unicode_flags u) recursion_exceeded _ (put_branches ts v)
-      (alt_fails u ts (reads_each u ts h) (fails_each u ts h) n d v l m e))
+      (λ d v l m e. fails_whole d (unicode_flags u) recursion_exceeded _ (put_branches ts v)
+      (alt_fails u ts (reads_each u ts h) (fails_each u ts h) d v l m e))
   fails u (group t) h = group_fails u t h (fails u t h)
   fails u (repeat t lo hi greedy) h =
       by_run u (λ v. put_repeated t (quantifier lo hi greedy ++ v)) (one_if (is_long t) + nest t 3)
@@ -386,17 +386,17 @@ place_high t p h = refl
 abbrev DeepFrom : Bool → Text → ℕ → Type 0
 DeepFrom u s p = Faults (unicode_flags u) s recursion_exceeded p
 
-from_whole : (u : Bool) (s : Text) (p : ℕ) →
-    Alternation (bytes s) 0 (st (unicode_flags u) s) (fault recursion_exceeded p) → DeepFrom u s p
-from_whole u s p w = fails_text (unicode_flags u) s recursion_exceeded p w
+from_whole : (u : Bool) (s : Text) (q : ℕ) →
+    Alternation 0 (st (unicode_flags u) s) (fault recursion_exceeded q) → DeepFrom u s (place_at (bytes s) q)
+from_whole u s q w = fails_text (unicode_flags u) s recursion_exceeded q w
 
 at_level : (t : Tree) (p : ℕ) (u : Bool) → max_depth ≤ nest t p → FailsWhole u (put t p) (nest t p) (left t p) →
     DeepFrom u (printed t p) (place t p 0)
 at_level t p u h w =
     let s = put t p [] in
-    let here : place_of (bytes s) (left t p 0 []) ≡ place t p 0 = omega (arith, left_bytes t p 0 []) in
+    let here : place_at (bytes s) (reach_of (left t p 0 [])) ≡ place t p 0 = omega (arith, left_bytes t p 0 []) in
     subst (λ x. DeepFrom u x (place t p 0)) (put_alone t p)
-    (subst (DeepFrom u s) here (from_whole u s _ (w (bytes s) 0 [] (omega arith) (omega arith) ends_nothing)))
+    (subst (DeepFrom u s) here (from_whole u s _ (w 0 [] (omega arith) (omega arith) ends_nothing)))
 
 at_place : (t : Tree) (p : ℕ) (u : Bool) → Printable t → max_depth ≤ nest t p → DeepFrom u (printed t p) (place t p 0)
 at_place t zero u h m = at_level t 0 u m (fails u t h).whole

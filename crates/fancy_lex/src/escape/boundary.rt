@@ -11,7 +11,7 @@ ghost use Rattle.fancy_lex.specs.Reading.{Reading, Answers, Reports, Derives, gi
 ghost use Rattle.fancy_lex.specs.BoundaryName as name_spec;
 ghost use Rattle.fancy_lex.specs.Text.{EndsWith, text_of};
 
-use crate::error::{Error, ParseError};
+use crate::error::{Failure, ParseError};
 use crate::escape::{Assertion, Escaped};
 use crate::flags::Flags;
 use crate::layout::{begins_layout, past_layout, skip};
@@ -36,8 +36,8 @@ pub(crate) fn bare_boundary(
     negated: bool,
     ignore_space: bool,
 ) -> Option<Escaped<'static>>
-    ensures { IfSome result (λ e. (n p : ℕ) →
-        steps.boundary n ignore_space p negated (chars text.now) ≡ gives (escape_of e) (chars text.now)) }
+    ensures { IfSome result (λ e. (p : ℕ) →
+        steps.boundary ignore_space p negated (chars text.now) ≡ gives (escape_of e) (chars text.now)) }
 {
     if begins_layout(text, ignore_space) {
         return None;
@@ -98,12 +98,12 @@ fn known_boundary(text: &str, ignore_space: bool) -> Option<(Assertion, &str)>
 }
 
 /// The fault of braces that are not closed.
-fn unclosed_fault(alloc: Global, place: usize) -> Error
-    ensures { Reports {A = Escape} result (fails (boundary_not_closed place)) }
+fn unclosed_fault(alloc: Global, reach: usize) -> Failure
+    ensures { Reports {A = Escape} result (fails (boundary_not_closed reach)) }
 {
     match String::from_str(alloc, r"\b{...}") {
-        Ok(text) => Error::ParseError(place, ParseError::InvalidEscape(text)),
-        Err(refused) => Error::from(refused),
+        Ok(text) => Failure::At(reach, ParseError::InvalidEscape(text)),
+        Err(refused) => Failure::from(refused),
     }
 }
 
@@ -127,28 +127,26 @@ fn bare_escape(
     text: &str,
     negated: bool,
     ignore_space: bool,
-    place: usize,
-    end: usize,
-) -> Result<String, Error>
-    requires { end < 2 ^ 63 }
-    ensures value { let told = name_spec.name_fault end ignore_space place negated (chars text.now) in
-        MatchResult result (λ s. told ≡ fault_at place (invalid_escape (text_of s))) (λ e. Reports e told) }
+    reach: usize,
+) -> Result<String, Failure>
+    ensures value { let told = name_spec.name_fault ignore_space reach negated (chars text.now) in
+        MatchResult result (λ s. told ≡ fault_at reach (invalid_escape (text_of s))) (λ e. Reports e told) }
 {
     let mut out = String::new(alloc);
     // A fault of the pattern comes first, so that where memory runs out the name is read on.
     let mut whole = append(&mut out, boundary_head(negated)).is_ok();
     let mut rest = text;
     loop {
-        let name = skip(rest, ignore_space, end)?;
+        let name = skip(rest, ignore_space)?;
         let Some((c, behind)) = next(name) else {
-            return Err(unclosed_fault(alloc, place));
+            return Err(unclosed_fault(alloc, reach));
         };
         whole = push_behind(&mut out, whole, c);
         if c == '}' {
             return if whole {
                 Ok(out)
             } else {
-                Err(Error::OutOfMemory)
+                Err(Failure::OutOfMemory)
             };
         }
         rest = behind;
@@ -162,11 +160,9 @@ fn named_boundary<'a>(
     text: &'a str,
     negated: bool,
     ignore_space: bool,
-    place: usize,
-    end: usize,
-) -> Result<(Escaped<'a>, &'a str), Error>
-    requires { end < 2 ^ 63 }
-    ensures value { Answers escape_of result (steps.named_boundary end ignore_space place negated (chars text.now)) }
+    reach: usize,
+) -> Result<(Escaped<'a>, &'a str), Failure>
+    ensures value { Answers escape_of result (steps.named_boundary ignore_space reach negated (chars text.now)) }
     ensures shorter { IfOk result (λ p. length p.1.now < length text.now) }
 {
     if !negated {
@@ -174,8 +170,8 @@ fn named_boundary<'a>(
             return Ok((Escaped::Assertion(assertion), rest));
         }
     }
-    let text = bare_escape(alloc, text, negated, ignore_space, place, end)?;
-    Err(Error::ParseError(place, ParseError::InvalidEscape(text)))
+    let text = bare_escape(alloc, text, negated, ignore_space, reach)?;
+    Err(Failure::At(reach, ParseError::InvalidEscape(text)))
 }
 
 /// Reads a word boundary behind its letter, with the braces that belong to it.
@@ -185,44 +181,40 @@ fn read_boundary<'a>(
     text: &'a str,
     negated: bool,
     flags: Flags,
-    place: usize,
-    end: usize,
-) -> Result<(Escaped<'a>, &'a str), Error>
-    requires { end < 2 ^ 63 }
-    ensures value { Answers escape_of result (steps.boundary end flags.ignore_space place negated (chars text.now)) }
+    reach: usize,
+) -> Result<(Escaped<'a>, &'a str), Failure>
+    ensures value { Answers escape_of result (steps.boundary flags.ignore_space reach negated (chars text.now)) }
     ensures within { IfOk result (λ p. length p.1.now ≤ length text.now) }
 {
-    let rest = skip(text, flags.ignore_space, end)?;
+    let rest = skip(text, flags.ignore_space)?;
     let Some(inside) = after(rest, '{') else {
         return Ok((unnamed_boundary(negated), text));
     };
-    let first = skip(inside, flags.ignore_space, end)?;
+    let first = skip(inside, flags.ignore_space)?;
     if at_count(first) {
         return Ok((unnamed_boundary(negated), text));
     }
-    named_boundary(alloc, inside, negated, flags.ignore_space, place, end)
+    named_boundary(alloc, inside, negated, flags.ignore_space, reach)
 }
 
-/// Reads a word boundary behind its letter, `B` where it is negated; its backslash stands at `place` in a pattern of
+/// Reads a word boundary behind its letter, `B` where it is negated; its backslash stands at `reach` in a pattern of
 /// `end` bytes. Braces belong to it unless they begin a repeat. UnclosedOpenParen where a comment in its layout is
-/// open; InvalidEscape at `place` where its braces are not closed, or hold no name of a boundary.
+/// open; InvalidEscape at it where its braces are not closed, or hold no name of a boundary.
 #[inline]
 pub fn boundary<'a>(
     alloc: Global,
     text: &'a str,
     negated: bool,
     flags: Flags,
-    place: usize,
-    end: usize,
-) -> Result<(Escaped<'a>, &'a str), Error>
-    requires { end < 2 ^ 63 }
-    ensures value { Answers escape_of result (steps.boundary end flags.ignore_space place negated (chars text.now)) }
-    ensures derives { Derives escape_of result (spec.Boundary end flags.ignore_space place negated (chars text.now)) }
-    ensures only { (o : Reading Escape) → spec.Boundary end flags.ignore_space place negated (chars text.now) o →
+    reach: usize,
+) -> Result<(Escaped<'a>, &'a str), Failure>
+    ensures value { Answers escape_of result (steps.boundary flags.ignore_space reach negated (chars text.now)) }
+    ensures derives { Derives escape_of result (spec.Boundary flags.ignore_space reach negated (chars text.now)) }
+    ensures only { (o : Reading Escape) → spec.Boundary flags.ignore_space reach negated (chars text.now) o →
         Answers escape_of result o }
     ensures cut { IfOk result (λ p. EndsWith (chars text.now) (chars p.1.now)) }
-    ensures place { place ≤ end + 1 → IfErr result (λ e. StandsWithin (end + 1) e) }
+    ensures place { (m : ℕ) → reach ≤ m → length text.now + 1 ≤ m → IfErr result (λ e. StandsWithin m e) }
     ensures within { IfOk result (λ p. length p.1.now ≤ length text.now) }
 {
-    read_boundary(alloc, text, negated, flags, place, end)
+    read_boundary(alloc, text, negated, flags, reach)
 }

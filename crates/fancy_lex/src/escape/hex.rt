@@ -9,11 +9,11 @@ ghost use Rattle.fancy_lex.specs.Hex as spec;
 ghost use Rattle.fancy_lex.specs.Reading.{Derives, Reading, Reads, choose, fails, gives};
 ghost use Rattle.fancy_lex.specs.Text.{EndsWith, Text, strip};
 
-use crate::error::{Error, ParseError};
+use crate::error::{Failure, ParseError};
 use crate::escape::Escaped;
 use crate::flags::Flags;
 use crate::layout::{begins_layout, skip};
-use crate::text::{after, next, place};
+use crate::text::{after, next, reach};
 
 /// The value of the digit at the front.
 #[tactic(auto, unfolding(crate::specs::Hex::hex_digit))]
@@ -44,25 +44,19 @@ fn fixed_digits(text: &str, width: u32) -> Option<(u32, &str)>
 }
 
 /// Reads the closing brace behind some digits.
-fn closing_brace(text: &str, value: u32, place: usize) -> Result<(u32, &str), Error>
-    ensures value { Reads (λ v. v) result (spec.closing_brace place true value (strip close_brace (chars text.now))) }
+fn closing_brace(text: &str, value: u32, reach: usize) -> Result<(u32, &str), Failure>
+    ensures value { Reads (λ v. v) result (spec.closing_brace reach true value (strip close_brace (chars text.now))) }
     ensures shorter { IfOk result (λ p. length p.1.now < length text.now) }
 {
     if let Some(rest) = after(text, '}') {
         return Ok((value, rest));
     }
-    Err(Error::ParseError(place, ParseError::InvalidHex))
+    Err(Failure::At(reach, ParseError::InvalidHex))
 }
 
 /// Reads up to eight digits, each with layout behind it, and the closing brace.
-fn hex_digits(
-    text: &str,
-    ignore_space: bool,
-    end: usize,
-    place: usize,
-) -> Result<(u32, &str), Error>
-    requires { end < 2 ^ 63 }
-    ensures value { Reads (λ v. v) result (spec.hex_digits end ignore_space place 8 false 0 (chars text.now)) }
+fn hex_digits(text: &str, ignore_space: bool, reach: usize) -> Result<(u32, &str), Failure>
+    ensures value { Reads (λ v. v) result (spec.hex_digits ignore_space reach 8 false 0 (chars text.now)) }
     ensures shorter { IfOk result (λ p. length p.1.now < length text.now) }
 {
     let mut rest = text;
@@ -70,52 +64,39 @@ fn hex_digits(
     for read in 0..8u32 {
         let Some((digit, behind)) = hex_digit(rest) else {
             if read == 0 {
-                return Err(Error::ParseError(place, ParseError::InvalidHex));
+                return Err(Failure::At(reach, ParseError::InvalidHex));
             }
-            return closing_brace(rest, value, place);
+            return closing_brace(rest, value, reach);
         };
         value = value * 16 + digit;
-        rest = skip(behind, ignore_space, end)?;
+        rest = skip(behind, ignore_space)?;
     }
-    closing_brace(rest, value, place)
+    closing_brace(rest, value, reach)
 }
 
 /// Reads what stands behind the opening brace.
 #[tactic(auto, unfolding(crate::specs::Hex::braced_value))]
-fn braced_value(
-    text: &str,
-    ignore_space: bool,
-    end: usize,
-    place: usize,
-) -> Result<(u32, &str), Error>
-    requires { end < 2 ^ 63 }
-    ensures value { Reads (λ v. v) result (spec.braced_value end ignore_space place (chars text.now)) }
+fn braced_value(text: &str, ignore_space: bool, reach: usize) -> Result<(u32, &str), Failure>
+    ensures value { Reads (λ v. v) result (spec.braced_value ignore_space reach (chars text.now)) }
     ensures shorter { IfOk result (λ p. length p.1.now < length text.now) }
 {
-    let rest = skip(text, ignore_space, end)?;
-    hex_digits(rest, ignore_space, end, place)
+    let rest = skip(text, ignore_space)?;
+    hex_digits(rest, ignore_space, reach)
 }
 
-/// Reads a code of so many digits, or one in braces; its fault is at `place`.
+/// Reads a code of so many digits, or one in braces; its fault is at `reach`.
 #[tactic(auto, unfolding(crate::specs::Hex::value))]
-fn value(
-    text: &str,
-    width: u32,
-    ignore_space: bool,
-    end: usize,
-    place: usize,
-) -> Result<(u32, &str), Error>
-    requires bounded { end < 2 ^ 63 }
+fn value(text: &str, width: u32, ignore_space: bool, reach: usize) -> Result<(u32, &str), Failure>
     requires width { width ≤ 8 }
-    ensures value { Reads (λ v. v) result (spec.value end ignore_space place width (chars text.now)) }
+    ensures value { Reads (λ v. v) result (spec.value ignore_space reach width (chars text.now)) }
     ensures within { IfOk result (λ p. length p.1.now ≤ length text.now) }
 {
     if let Some(read) = fixed_digits(text, width) {
         return Ok(read);
     }
     match after(text, '{') {
-        Some(inside) => braced_value(inside, ignore_space, end, place),
-        None => Err(Error::ParseError(place, ParseError::InvalidHex)),
+        Some(inside) => braced_value(inside, ignore_space, reach),
+        None => Err(Failure::At(reach, ParseError::InvalidHex)),
     }
 }
 
@@ -137,24 +118,17 @@ fn leaf_of_value(value: u32, width: u32, flags: Flags) -> Option<Escaped<'static
 
 /// Reads a code in hexadecimal, by digits or in braces.
 #[tactic(auto, unfolding(crate::specs::Hex::hex))]
-fn read_hex<'a>(
-    text: &'a str,
-    width: u32,
-    flags: Flags,
-    end: usize,
-) -> Result<(Escaped<'a>, &'a str), Error>
-    requires bounded { end < 2 ^ 63 }
+fn read_hex<'a>(text: &'a str, width: u32, flags: Flags) -> Result<(Escaped<'a>, &'a str), Failure>
     requires width { width ≤ 8 }
-    requires inside { length text.now ≤ end }
-    ensures value { Reads escape_of result (spec.hex end flags width (chars text.now)) }
+    ensures value { Reads escape_of result (spec.hex flags width (chars text.now)) }
     ensures within { IfOk result (λ p. length p.1.now ≤ length text.now) }
 {
-    let rest = skip(text, flags.ignore_space, end)?;
-    let place = place(rest, end);
-    let (value, rest) = value(rest, width, flags.ignore_space, end, place)?;
+    let rest = skip(text, flags.ignore_space)?;
+    let reach = reach(rest);
+    let (value, rest) = value(rest, width, flags.ignore_space, reach)?;
     match leaf_of_value(value, width, flags) {
         Some(leaf) => Ok((leaf, rest)),
-        None => Err(Error::ParseError(place, ParseError::InvalidCodepointValue)),
+        None => Err(Failure::At(reach, ParseError::InvalidCodepointValue)),
     }
 }
 
@@ -163,8 +137,8 @@ fn read_hex<'a>(
 #[tactic(auto, unfolding(crate::specs::Hex::hex, crate::specs::Hex::value))]
 pub(crate) fn short_hex(text: &str, width: u32, flags: Flags) -> Option<(Escaped<'static>, &str)>
     requires { width ≤ 8 }
-    ensures value { IfSome result (λ p. (n : ℕ) →
-        spec.hex n flags width (chars text.now) ≡ gives (escape_of p.0) (chars p.1.now)) }
+    ensures value { IfSome result (λ p.
+        spec.hex flags width (chars text.now) ≡ gives (escape_of p.0) (chars p.1.now)) }
     ensures within { IfSome result (λ p. length p.1.now ≤ length text.now) }
 {
     if begins_layout(text, flags.ignore_space) {
@@ -175,25 +149,18 @@ pub(crate) fn short_hex(text: &str, width: u32, flags: Flags) -> Option<(Escaped
     Some((leaf, rest))
 }
 
-/// Reads a hex code behind its letter, in a pattern of `end` bytes: layout, then `width` digits, or one to eight in
+/// Reads a hex code behind its letter: layout, then `width` digits, or one to eight in
 /// braces with layout round them. Its faults are at the place behind the first layout: InvalidHex, and
 /// InvalidCodepointValue where the value is no character; or UnclosedOpenParen where a comment in layout is open.
 #[inline]
-pub fn hex<'a>(
-    text: &'a str,
-    width: u32,
-    flags: Flags,
-    end: usize,
-) -> Result<(Escaped<'a>, &'a str), Error>
-    requires bounded { end < 2 ^ 63 }
+pub fn hex<'a>(text: &'a str, width: u32, flags: Flags) -> Result<(Escaped<'a>, &'a str), Failure>
     requires width { width ≤ 8 }
-    requires inside { length text.now ≤ end }
-    ensures value { Reads escape_of result (spec.hex end flags width (chars text.now)) }
-    ensures derives { Derives escape_of result (spec.HexCode end flags width (chars text.now)) }
-    ensures only { (o : Reading Escape) → spec.HexCode end flags width (chars text.now) o → Reads escape_of result o }
+    ensures value { Reads escape_of result (spec.hex flags width (chars text.now)) }
+    ensures derives { Derives escape_of result (spec.HexCode flags width (chars text.now)) }
+    ensures only { (o : Reading Escape) → spec.HexCode flags width (chars text.now) o → Reads escape_of result o }
     ensures cut { IfOk result (λ p. EndsWith (chars text.now) (chars p.1.now)) }
-    ensures place { IfErr result (λ e. StandsWithin (end + 1) e) }
+    ensures place { IfErr result (λ e. StandsWithin (length text.now + 1) e) }
     ensures within { IfOk result (λ p. length p.1.now ≤ length text.now) }
 {
-    read_hex(text, width, flags, end)
+    read_hex(text, width, flags)
 }

@@ -7,62 +7,59 @@ ghost use Rattle.fancy_lex.specs.FaultTable.{number_too_great};
 ghost use Rattle.fancy_lex.specs.NameViews.{view_borrowed, view_reference, view_call};
 ghost use Rattle.fancy_lex.specs.Views.{view_read};
 
-use crate::error::{Error, ParseError};
+use crate::error::{Failure, ParseError};
 use crate::name::delimited::marked_name;
 use crate::name::id::{IdReference, id_reference};
 use crate::name::number::number;
 use crate::name::number_text::number_text;
 use crate::name::target::{Call, Reference, Target, reference_by_name, target_of_name};
-use crate::text::{next, place};
+use crate::text::{next, reach};
 
-/// Reads all the digits at the front, which number a group, in a pattern of `end` bytes. The fault is InvalidBackref at
-/// the text's place, where no digit stands there, or no word holds the number.
+/// Reads all the digits at the front, which number a group. The fault is InvalidBackref at
+/// the text's reach, where no digit stands there, or no word holds the number.
 #[inline(always)]
 #[tactic(auto, unfolding(crate::specs::EscapeReference::group_number))]
-pub(crate) fn group_number(text: &str, end: usize) -> Result<(usize, &str), Error>
-    requires { length text.now ≤ end }
-    ensures value { Reads (λ n. n) result (spec.group_number end (chars text.now)) }
+pub(crate) fn group_number(text: &str) -> Result<(usize, &str), Failure>
+    ensures value { Reads (λ n. n) result (spec.group_number (chars text.now)) }
     ensures no_digit { at_digit (chars text.now) ≡ false →
-        Reads (λ n. n) result (fails (number_too_great end (chars text.now))) }
+        Reads (λ n. n) result (fails (number_too_great (chars text.now))) }
     ensures shorter { IfOk result (λ p. length p.1.now < length text.now) }
 {
     match number(text) {
         Some((Some(number), rest)) => Ok((number, rest)),
-        _ => Err(Error::ParseError(place(text, end), ParseError::InvalidBackref)),
+        _ => Err(Failure::At(reach(text), ParseError::InvalidBackref)),
     }
 }
 
-/// Reads a back reference in digits, behind its backslash in a pattern of `end` bytes. Its place is that of the first
-/// digit. The fault is InvalidBackref at the text's place, where no digit stands there, or no word holds the number.
+/// Reads a back reference in digits, behind its backslash. Its place is that of the first
+/// digit. The fault is InvalidBackref at the text's reach, where no digit stands there, or no word holds the number.
 #[inline(always)]
 #[tactic(auto, unfolding(crate::specs::EscapeReference::numbered_reference))]
-pub fn numbered_reference(text: &str, end: usize) -> Result<(Reference<'_>, &str), Error>
-    requires { length text.now ≤ end }
-    ensures value { Reads view_reference result (spec.numbered_reference end (chars text.now)) }
+pub fn numbered_reference(text: &str) -> Result<(Reference<'_>, &str), Failure>
+    ensures value { Reads view_reference result (spec.numbered_reference (chars text.now)) }
     ensures no_digit { at_digit (chars text.now) ≡ false →
-        Reads view_reference result (fails (number_too_great end (chars text.now))) }
+        Reads view_reference result (fails (number_too_great (chars text.now))) }
     ensures shorter { IfOk result (λ p. length p.1.now < length text.now) }
 {
-    let place = place(text, end);
-    let (number, rest) = group_number(text, end)?;
+    let reach = reach(text);
+    let (number, rest) = group_number(text)?;
     let reference = Reference {
         target: Target::ByNumber(number),
         level: None,
-        place,
+        reach,
     };
     Ok((reference, rest))
 }
 
-/// Reads a back reference behind `\k`, in a pattern of `end` bytes: an id reference between `<` and `>` or between two
+/// Reads a back reference behind `\k`: an id reference between `<` and `>` or between two
 /// `'`. Its place is that of the opening mark, and so is that of the fault: InvalidGroupName where it does not read.
 #[inline(always)]
 #[tactic(auto, unfolding(crate::specs::EscapeReference::back_reference))]
-pub fn back_reference(text: &str, end: usize) -> Result<(Reference<'_>, &str), Error>
-    requires { length text.now ≤ end }
-    ensures value { Reads view_reference result (spec.back_reference end (chars text.now)) }
+pub fn back_reference(text: &str) -> Result<(Reference<'_>, &str), Failure>
+    ensures value { Reads view_reference result (spec.back_reference (chars text.now)) }
     ensures shorter { IfOk result (λ p. length p.1.now < length text.now) }
 {
-    reference_by_name(marked_name(text), true, place(text, end))
+    reference_by_name(marked_name(text), true, reach(text))
 }
 
 /// Whether the name of a call is relative: a sign alone, or a sign and a number text.
@@ -96,36 +93,35 @@ fn call_target(name: &str) -> Option<Target<'_>>
 /// Reads a call in digits.
 #[inline(always)]
 #[tactic(auto, unfolding(crate::specs::EscapeReference::numbered_call))]
-fn numbered_call(text: &str, end: usize) -> Result<(Call<'_>, &str), Error>
-    requires { length text.now ≤ end }
-    ensures value { Reads view_call result (spec.numbered_call end (chars text.now)) }
+fn numbered_call(text: &str) -> Result<(Call<'_>, &str), Failure>
+    ensures value { Reads view_call result (spec.numbered_call (chars text.now)) }
     ensures shorter { IfOk result (λ p. length p.1.now < length text.now) }
 {
-    let place = place(text, end);
-    let (number, rest) = group_number(text, end)?;
+    let reach = reach(text);
+    let (number, rest) = group_number(text)?;
     let target = Target::ByNumber(number);
-    Ok((Call { target, place }, rest))
+    Ok((Call { target, reach }, rest))
 }
 
 /// The call by this name at the place; none where the name is relative and no id reference.
 #[inline(always)]
 #[tactic(auto, unfolding(crate::specs::EscapeReference::written_call))]
-fn written_call(name: &str, place: usize) -> Option<Call<'_>>
-    ensures value { spec.written_call place (chars name.now) ≡ option_map view_call result }
+fn written_call(name: &str, reach: usize) -> Option<Call<'_>>
+    ensures value { spec.written_call reach (chars name.now) ≡ option_map view_call result }
 {
     let target = call_target(name)?;
-    Some(Call { target, place })
+    Some(Call { target, reach })
 }
 
 /// Reads a call between marks.
 #[inline(always)]
 #[tactic(auto, unfolding(crate::specs::EscapeReference::marked_call))]
-fn marked_call(text: &str, place: usize) -> Option<(Call<'_>, &str)>
-    ensures value { spec.marked_call place (chars text.now) ≡ option_map (view_read view_call) result }
+fn marked_call(text: &str, reach: usize) -> Option<(Call<'_>, &str)>
+    ensures value { spec.marked_call reach (chars text.now) ≡ option_map (view_read view_call) result }
     ensures shorter { IfSome result (λ p. length p.1.now < length text.now) }
 {
     let (name, rest) = marked_name(text)?;
-    Some((written_call(name, place)?, rest))
+    Some((written_call(name, reach)?, rest))
 }
 
 /// Whether a digit stands at the front.
@@ -138,23 +134,22 @@ fn is_at_digit(text: &str) -> bool
     }
 }
 
-/// Reads a call behind `\g`, in a pattern of `end` bytes: all the digits there, or a name between `<` and `>` or
+/// Reads a call behind `\g`: all the digits there, or a name between `<` and `>` or
 /// between two `'`. Its place is that of the first digit or of the opening mark, and so is that of the fault:
 /// InvalidBackref for digits whose number no word holds; InvalidGroupName where no name reads, or where one that is
 /// relative is no id reference.
 #[inline(always)]
 #[tactic(auto, unfolding(crate::specs::EscapeReference::subroutine_call))]
-pub fn subroutine_call(text: &str, end: usize) -> Result<(Call<'_>, &str), Error>
-    requires { length text.now ≤ end }
-    ensures value { Reads view_call result (spec.subroutine_call end (chars text.now)) }
+pub fn subroutine_call(text: &str) -> Result<(Call<'_>, &str), Failure>
+    ensures value { Reads view_call result (spec.subroutine_call (chars text.now)) }
     ensures shorter { IfOk result (λ p. length p.1.now < length text.now) }
 {
     if is_at_digit(text) {
-        return numbered_call(text, end);
+        return numbered_call(text);
     }
-    let place = place(text, end);
-    match marked_call(text, place) {
+    let reach = reach(text);
+    match marked_call(text, reach) {
         Some(read) => Ok(read),
-        None => Err(Error::ParseError(place, ParseError::InvalidGroupName)),
+        None => Err(Failure::At(reach, ParseError::InvalidGroupName)),
     }
 }

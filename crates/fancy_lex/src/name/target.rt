@@ -7,7 +7,7 @@ ghost use Rattle.fancy_lex.specs.Referred as spec;
 ghost use Rattle.fancy_lex.specs.Target.{is_by_name};
 ghost use Rattle.fancy_lex.specs.Views.{parts};
 
-use crate::error::{Error, ParseError};
+use crate::error::{Failure, ParseError};
 use crate::name::CaptureGroupTarget;
 use crate::name::id::{IdReference, amount, id_reference};
 use crate::name::number::number;
@@ -46,16 +46,16 @@ pub struct Reference<'a> {
     pub target: Target<'a>,
     /// The level of recursion, where one is written.
     pub level: Option<isize>,
-    /// The byte offset of the reference.
-    pub place: usize,
+    /// How many bytes lie from the reference to one past the end of the pattern.
+    pub reach: usize,
 }
 
 /// What calls a group.
 #[derive(Clone, Copy, Debug)]
 pub struct Call<'a> {
     pub target: Target<'a>,
-    /// The byte offset of the call.
-    pub place: usize,
+    /// How many bytes lie from the call to one past the end of the pattern.
+    pub reach: usize,
 }
 
 /// The group that a name means: that of the number where it is a number text, or else the one of that name.
@@ -70,76 +70,76 @@ pub fn target_of_name(name: &str) -> Target<'_>
     }
 }
 
-/// The reference at the place to this group, at this level.
+/// The reference at the reach to this group, at this level.
 #[inline(always)]
-fn reference_to(place: usize, target: Target<'_>, level: Option<isize>) -> Reference<'_>
-    ensures { view_reference result ≡ spec.reference_to place (view_borrowed target.entry) level }
+fn reference_to(reach: usize, target: Target<'_>, level: Option<isize>) -> Reference<'_>
+    ensures { view_reference result ≡ spec.reference_to reach (view_borrowed target.entry) level }
 {
     Reference {
         target,
         level,
-        place,
+        reach,
     }
 }
 
-/// The reference at the place that all of the text writes by a number, alone or with a level behind it; `amounts` allows
+/// The reference at the reach that all of the text writes by a number, alone or with a level behind it; `amounts` allows
 /// the level. None where no number stands at the front, where no word holds it, and where what follows it is no level.
 #[inline(always)]
 #[tactic(auto, unfolding(crate::specs::NumberText::whole_number), using(crate::proofs::NumberIds::numbers_written))]
-fn reference_by_number(text: &str, amounts: bool, place: usize) -> Option<Reference<'_>>
+fn reference_by_number(text: &str, amounts: bool, reach: usize) -> Option<Reference<'_>>
     ensures value { MatchOption result (whole_number (chars text.now) ≡ None)
-        (λ r. spec.written_reference place amounts (chars text.now) ≡ Some (view_reference r)) }
+        (λ r. spec.written_reference reach amounts (chars text.now) ≡ Some (view_reference r)) }
 {
     let (value, rest) = number(text)?;
     let target = Target::ByNumber(value?);
     if next(rest).is_none() {
-        return Some(reference_to(place, target, None));
+        return Some(reference_to(reach, target, None));
     }
     if !amounts {
         return None;
     }
-    Some(reference_to(place, target, Some(amount(rest)?)))
+    Some(reference_to(reach, target, Some(amount(rest)?)))
 }
 
-/// The reference at the place that all of the text writes, where it is an id reference; `amounts` allows amounts. An
+/// The reference at the reach that all of the text writes, where it is an id reference; `amounts` allows amounts. An
 /// amount alone is relative, and one behind an id is a level.
 #[inline(always)]
 #[tactic(auto, unfolding(crate::specs::Referred::written_reference, crate::specs::Referred::reference_of))]
-fn written_reference(text: &str, amounts: bool, place: usize) -> Option<Reference<'_>>
-    ensures value { spec.written_reference place amounts (chars text.now) ≡ option_map view_reference result }
+fn written_reference(text: &str, amounts: bool, reach: usize) -> Option<Reference<'_>>
+    ensures value { spec.written_reference reach amounts (chars text.now) ≡ option_map view_reference result }
 {
     // A number is an id too, and is told sooner.
-    if let Some(reference) = reference_by_number(text, amounts, place) {
+    if let Some(reference) = reference_by_number(text, amounts, reach) {
         return Some(reference);
     }
     match id_reference(text, amounts)? {
-        IdReference::Id(name) => Some(reference_to(place, Target::ByName(name), None)),
+        IdReference::Id(name) => Some(reference_to(reach, Target::ByName(name), None)),
         IdReference::IdAndAmount(id, amount) => Some(reference_to(
-            place,
+            reach,
             target_of_name(id),
             Some(amount),
         )),
-        IdReference::Amount(amount) => Some(reference_to(place, Target::Relative(amount), None)),
+        IdReference::Amount(amount) => Some(reference_to(reach, Target::Relative(amount), None)),
     }
 }
 
-/// The reference at the place that the name writes, and the text behind it, where one was found; `amounts` allows
-/// amounts. The fault is InvalidGroupName at the place, where no name was found, or one that is no id reference.
+/// The reference at the reach that the name writes, and the text behind it, where one was found; `amounts` allows
+/// amounts. The fault is InvalidGroupName at the reach, where no name was found, or one that is no id reference.
 #[inline(always)]
 #[tactic(auto, unfolding(crate::specs::Referred::reference_by_name))]
 pub fn reference_by_name<'a>(
     name: Option<(&'a str, &'a str)>,
     amounts: bool,
-    place: usize,
-) -> Result<(Reference<'a>, &'a str), Error>
-    ensures value { Reads view_reference result (spec.reference_by_name place amounts (parts name.entry)) }
+    reach: usize,
+) -> Result<(Reference<'a>, &'a str), Failure>
+    ensures value { Reads view_reference result (spec.reference_by_name reach amounts (parts name.entry)) }
     ensures rest { IfOk result (λ p. IfSome name.entry (λ q. p.1.now ≡ q.1.now) × IsSome name.entry) }
 {
     let Some((name, rest)) = name else {
-        return Err(Error::ParseError(place, ParseError::InvalidGroupName));
+        return Err(Failure::At(reach, ParseError::InvalidGroupName));
     };
-    match written_reference(name, amounts, place) {
+    match written_reference(name, amounts, reach) {
         Some(reference) => Ok((reference, rest)),
-        None => Err(Error::ParseError(place, ParseError::InvalidGroupName)),
+        None => Err(Failure::At(reach, ParseError::InvalidGroupName)),
     }
 }

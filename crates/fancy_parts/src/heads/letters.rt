@@ -7,10 +7,10 @@ ghost use Rattle.fancy_parts.specs.FlagLetters as spec;
 ghost use Rattle.fancy_parts.specs.LetterSteps as steps;
 ghost use Rattle.fancy_parts.specs.FlagReads.{letters_of, step_of};
 
-use fancy_lex::error::{Error, ParseError};
+use fancy_lex::error::{Failure, ParseError};
 use fancy_lex::flags::Flags;
 use fancy_lex::layout::skip;
-use fancy_lex::text::{front, next, place};
+use fancy_lex::text::{front, next, reach};
 use std::alloc::{AllocError, Global};
 
 /// What the letters of a flag group come to.
@@ -68,14 +68,13 @@ fn flag_text(alloc: Global, letters: &str, rest: &str) -> Result<String, AllocEr
 }
 
 /// The fault of the letter before `rest`.
-fn unknown_flag(alloc: Global, letters: &str, rest: &str, end: usize) -> Error
-    requires behind { (w : Text) × (chars letters.now ≡ w ++ chars rest.now) }
-    requires within { length letters.now ≤ end }
-    ensures { Reports result (steps.unknown_letter end (chars letters.now) (chars rest.now)) }
+fn unknown_flag(alloc: Global, letters: &str, rest: &str) -> Failure
+    requires { (w : Text) × (chars letters.now ≡ w ++ chars rest.now) }
+    ensures { Reports result (steps.unknown_letter (chars letters.now) (chars rest.now)) }
 {
     match flag_text(alloc, letters, rest) {
-        Ok(text) => Error::ParseError(place(letters, end), ParseError::UnknownFlag(text)),
-        Err(_) => Error::OutOfMemory,
+        Ok(text) => Failure::At(reach(letters), ParseError::UnknownFlag(text)),
+        Err(_) => Failure::OutOfMemory,
     }
 }
 
@@ -110,32 +109,30 @@ fn flag_letter<'a>(
     clears: bool,
     flags: Flags,
     here: &'a str,
-    end: usize,
-) -> Result<(LetterStep, &'a str), Error>
-    requires behind { (w : Text) × (chars letters.now ≡ w ++ chars here.now) }
-    requires within { length letters.now ≤ end }
-    ensures value { Answers step_of result (steps.step end (chars letters.now) clears flags (chars here.now)) }
+) -> Result<(LetterStep, &'a str), Failure>
+    requires { (w : Text) × (chars letters.now ≡ w ++ chars here.now) }
+    ensures value { Answers step_of result (steps.step (chars letters.now) clears flags (chars here.now)) }
     ensures one_on { IfOk result (λ p. (c : ℕ) × (chars here.now ≡ c ∷ chars p.1.now)) }
     ensures shorter { IfOk result (λ p. length p.1.now < length here.now) }
 {
     let Some((letter, rest)) = next(here) else {
-        return Err(Error::ParseError(end, ParseError::UnclosedOpenParen));
+        return Err(Failure::At(1, ParseError::UnclosedOpenParen));
     };
     if letter == ')' {
         if closes_nothing(letters, clears, here) {
-            return Err(unknown_flag(alloc, letters, rest, end));
+            return Err(unknown_flag(alloc, letters, rest));
         }
         return Ok((LetterStep::Ends(Letters::Setting(flags)), rest));
     }
     if letter == ':' {
         if is_behind_minus(letters, clears, here) {
-            return Err(unknown_flag(alloc, letters, rest, end));
+            return Err(unknown_flag(alloc, letters, rest));
         }
         return Ok((LetterStep::Ends(Letters::Scope(flags)), rest));
     }
     if letter == '-' {
         if clears {
-            return Err(unknown_flag(alloc, letters, rest, end));
+            return Err(unknown_flag(alloc, letters, rest));
         }
         return Ok((
             LetterStep::GoesOn {
@@ -147,37 +144,27 @@ fn flag_letter<'a>(
     }
     if letter == 'u' {
         if clears == flags.unicode {
-            return Err(Error::ParseError(
-                place(here, end),
-                ParseError::ChangingUnicodeModeUnsupported,
-            ));
+            return Err(Failure::At(reach(here), ParseError::ChangingUnicodeModeUnsupported));
         }
         return Ok((LetterStep::GoesOn { clears, flags }, rest));
     }
     match with_letter(flags, !clears, letter) {
         Some(flags) => Ok((LetterStep::GoesOn { clears, flags }, rest)),
-        None => Err(unknown_flag(alloc, letters, rest, end)),
+        None => Err(unknown_flag(alloc, letters, rest)),
     }
 }
 
 /// Reads the letters of a flag group, one after another.
-fn read_letters(
-    alloc: Global,
-    text: &str,
-    flags: Flags,
-    end: usize,
-) -> Result<(Letters, &str), Error>
-    requires within { length text.now ≤ end }
-    requires end { end < 2 ^ 63 }
-    ensures value { Answers letters_of result (steps.letters end flags (chars text.now)) }
+fn read_letters(alloc: Global, text: &str, flags: Flags) -> Result<(Letters, &str), Failure>
+    ensures value { Answers letters_of result (steps.letters flags (chars text.now)) }
     ensures shorter { IfOk result (λ p. length p.1.now < length text.now) }
 {
     let mut clears = false;
     let mut flags = flags;
     let mut rest = text;
     loop {
-        let here = skip(rest, flags.ignore_space, end)?;
-        let (step, behind) = flag_letter(alloc, text, clears, flags, here, end)?;
+        let here = skip(rest, flags.ignore_space)?;
+        let (step, behind) = flag_letter(alloc, text, clears, flags, here)?;
         match step {
             LetterStep::Ends(letters) => return Ok((letters, behind)),
             LetterStep::GoesOn {
@@ -192,25 +179,18 @@ fn read_letters(
     }
 }
 
-/// Reads the letters of a flag group, which begin behind the `(?`, in the rest of a pattern of `end` bytes: what they
+/// Reads the letters of a flag group, which begin behind the `(?`: what they
 /// come to, and the text behind the parenthesis or the colon. UnknownFlag at the first letter for a letter that names
 /// no flag, for a second minus, and where no letter stands before the end; ChangingUnicodeModeUnsupported at a `u` that
 /// is not the mode; UnclosedOpenParen where the text ends, or a comment in layout is open.
-pub fn flag_letters(
-    alloc: Global,
-    text: &str,
-    flags: Flags,
-    end: usize,
-) -> Result<(Letters, &str), Error>
-    requires within { length text.now ≤ end }
-    requires end { end < 2 ^ 63 }
-    ensures value { Answers letters_of result (steps.letters end flags (chars text.now)) }
-    ensures derives { Derives letters_of result (spec.FlagGroup end flags (chars text.now)) }
-    ensures only { (o : Reading spec.Letters) → spec.FlagGroup end flags (chars text.now) o →
+pub fn flag_letters(alloc: Global, text: &str, flags: Flags) -> Result<(Letters, &str), Failure>
+    ensures value { Answers letters_of result (steps.letters flags (chars text.now)) }
+    ensures derives { Derives letters_of result (spec.FlagGroup flags (chars text.now)) }
+    ensures only { (o : Reading spec.Letters) → spec.FlagGroup flags (chars text.now) o →
         Answers letters_of result o }
     ensures cut { IfOk result (λ p. EndsWith (chars text.now) (chars p.1.now)) }
-    ensures place { IfErr result (λ e. StandsWithin (end + 1) e) }
+    ensures place { IfErr result (λ e. StandsWithin (length text.now + 1) e) }
     ensures shorter { IfOk result (λ p. length p.1.now < length text.now) }
 {
-    read_letters(alloc, text, flags, end)
+    read_letters(alloc, text, flags)
 }

@@ -5,37 +5,35 @@ ghost use Rattle.fancy_lex.specs.NameViews.{view_reference, view_call};
 ghost use Rattle.fancy_lex.specs.Views.{parts};
 ghost use Rattle.fancy_parts.specs.HeadReference as spec;
 
-use fancy_lex::error::{Error, ParseError};
+use fancy_lex::error::{Failure, ParseError};
 use fancy_lex::name::delimited::{marked_name, name_before};
 use fancy_lex::name::target::{Call, Reference, reference_by_name, target_of_name};
-use fancy_lex::text::{after, next, place};
+use fancy_lex::text::{after, next, reach};
 
-/// Reads a back reference behind `(?P=` in a pattern of `end` bytes: an id, and the closing parenthesis. Its place is
+/// Reads a back reference behind `(?P=`: an id, and the closing parenthesis. Its place is
 /// that of the id, and so is that of the fault: InvalidGroupName where it does not read.
 #[tactic(auto, unfolding(crate::specs::HeadReference::named_reference))]
-pub fn named_reference(text: &str, end: usize) -> Result<(Reference<'_>, &str), Error>
-    requires { length text.now ≤ end }
-    ensures value { Reads view_reference result (spec.named_reference end (chars text.now)) }
+pub fn named_reference(text: &str) -> Result<(Reference<'_>, &str), Failure>
+    ensures value { Reads view_reference result (spec.named_reference (chars text.now)) }
     ensures shorter { IfOk result (λ p. length p.1.now < length text.now) }
 {
-    reference_by_name(name_before(text, ')'), false, place(text, end))
+    reference_by_name(name_before(text, ')'), false, reach(text))
 }
 
-/// Reads a call behind `(?P>` in a pattern of `end` bytes: a name, which is a number or itself, and the closing
+/// Reads a call behind `(?P>`: a name, which is a number or itself, and the closing
 /// parenthesis. Its place is that of the name, and so is that of the fault: InvalidGroupName where no name or no
 /// parenthesis stands there.
 #[tactic(auto, unfolding(crate::specs::HeadReference::named_call))]
-pub fn named_call(text: &str, end: usize) -> Result<(Call<'_>, &str), Error>
-    requires { length text.now ≤ end }
-    ensures value { Reads view_call result (spec.named_call end (chars text.now)) }
+pub fn named_call(text: &str) -> Result<(Call<'_>, &str), Failure>
+    ensures value { Reads view_call result (spec.named_call (chars text.now)) }
     ensures shorter { IfOk result (λ p. length p.1.now < length text.now) }
 {
-    let place = place(text, end);
+    let reach = reach(text);
     let Some((name, rest)) = name_before(text, ')') else {
-        return Err(Error::ParseError(place, ParseError::InvalidGroupName));
+        return Err(Failure::At(reach, ParseError::InvalidGroupName));
     };
     let target = target_of_name(name);
-    Ok((Call { target, place }, rest))
+    Ok((Call { target, reach }, rest))
 }
 
 /// Whether a condition that begins so asks for a group: by a quote, a `<`, a sign or an ASCII digit.
@@ -63,14 +61,13 @@ fn condition_name(text: &str) -> Option<(&str, &str)>
     Some((name, after(rest, ')')?))
 }
 
-/// Reads what a condition asks for right behind its `(?(`, in a pattern of `end` bytes: an id reference as `'ref')`,
+/// Reads what a condition asks for right behind its `(?(`: an id reference as `'ref')`,
 /// `<ref>)` or `ref)`. Its place is right behind the `(?(`, and so is that of the fault: InvalidGroupName where it does
 /// not read.
 #[tactic(auto, unfolding(crate::specs::HeadReference::condition_target))]
-pub fn condition_target(text: &str, end: usize) -> Result<(Reference<'_>, &str), Error>
-    requires { length text.now ≤ end }
-    ensures value { Reads view_reference result (spec.condition_target end (chars text.now)) }
+pub fn condition_target(text: &str) -> Result<(Reference<'_>, &str), Failure>
+    ensures value { Reads view_reference result (spec.condition_target (chars text.now)) }
     ensures shorter { IfOk result (λ p. length p.1.now < length text.now) }
 {
-    reference_by_name(condition_name(text), true, place(text, end))
+    reference_by_name(condition_name(text), true, reach(text))
 }

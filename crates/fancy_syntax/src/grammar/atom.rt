@@ -16,10 +16,10 @@ use crate::grammar::group::after_paren;
 use crate::grammar::reference::{backref, subroutine_call};
 use crate::grammar::state::{MAX_DEPTH, State};
 use fancy_lex::class::{class, push_delegate};
-use fancy_lex::error::{Error, ParseError};
+use fancy_lex::error::{Failure, ParseError};
 use fancy_lex::escape::{Assertion, Escaped, escape};
 use fancy_lex::flags::Flags;
-use fancy_lex::text::{next, place};
+use fancy_lex::text::{next, reach};
 use std::alloc::{AllocError, Global};
 
 /// Reads what stands before an atom, through a leaf, or up to where the first part of a group begins.
@@ -28,12 +28,9 @@ pub(crate) fn read_atom_start<'a>(
     alloc: Global,
     here: &mut State<'a>,
     depth: usize,
-    end: usize,
-) -> Result<Ahead<'a>, Error>
-    requires within { length here.old.rest.now ≤ end }
-    requires end { end < 2 ^ 63 }
+) -> Result<Ahead<'a>, Failure>
     requires depth { depth < max_depth }
-    ensures value { Sees result (state here.new) (spec.ahead end depth (state here.old)) }
+    ensures value { Sees result (state here.new) (spec.ahead depth (state here.old)) }
     ensures stays { IfOk result (λ a. StaysAtNothing a here.old here.new) }
     ensures shorter { IfOk result (λ a. TakesBytes a here.old.rest.now here.new.rest.now) }
     ensures below { IfOk result (λ a. IsBelow a depth) }
@@ -42,12 +39,12 @@ pub(crate) fn read_atom_start<'a>(
         return Ok(Ahead::Nothing);
     };
     if c == '(' {
-        return open_group(alloc, here, rest, depth, end);
+        return open_group(alloc, here, rest, depth);
     }
     if is_before_nothing(c) {
         return Ok(Ahead::Nothing);
     }
-    Ok(Ahead::Leaf(leaf(alloc, c, here, rest, end)?))
+    Ok(Ahead::Leaf(leaf(alloc, c, here, rest)?))
 }
 
 /// Reads from the parenthesis at the front, which `rest` follows, up to where the first part of the group begins.
@@ -57,42 +54,31 @@ fn open_group<'a>(
     here: &mut State<'a>,
     rest: &'a str,
     depth: usize,
-    end: usize,
-) -> Result<Ahead<'a>, Error>
-    requires within { length here.old.rest.now ≤ end }
-    requires end { end < 2 ^ 63 }
+) -> Result<Ahead<'a>, Failure>
     requires depth { depth < max_depth }
     requires front { chars here.old.rest.now ≡ open_paren ∷ chars rest.now }
     requires shorter { length rest.now < length here.old.rest.now }
-    ensures value { Sees result (state here.new) (spec.ahead end depth (state here.old)) }
+    ensures value { Sees result (state here.new) (spec.ahead depth (state here.old)) }
     ensures within { IfOk result (λ _. length here.new.rest.now < length here.old.rest.now) }
     ensures something { IfOk result (λ a. IsSomething a) }
     ensures below { IfOk result (λ _. depth + 1 < max_depth) }
 {
     if depth >= MAX_DEPTH - 1 {
-        let paren = place(here.rest, end);
-        return Err(Error::ParseError(paren, ParseError::RecursionExceeded));
+        let paren = reach(here.rest);
+        return Err(Failure::At(paren, ParseError::RecursionExceeded));
     }
     here.rest = rest;
-    after_paren(alloc, here, end)
+    after_paren(alloc, here)
 }
 
 /// Reads an atom of one character, which `rest` follows, an escape or a class.
-fn leaf<'a>(
-    alloc: Global,
-    c: char,
-    here: &mut State<'a>,
-    rest: &'a str,
-    end: usize,
-) -> Result<Expr, Error>
-    requires within { length here.old.rest.now ≤ end }
-    requires end { end < 2 ^ 63 }
+fn leaf<'a>(alloc: Global, c: char, here: &mut State<'a>, rest: &'a str) -> Result<Expr, Failure>
     requires front { chars here.old.rest.now ≡ c ∷ chars rest.now }
     requires shorter { length rest.now < length here.old.rest.now }
-    ensures value { GivesTree result (state here.new) (spec.leaf_of end (state here.old) c (chars rest.now)) }
+    ensures value { GivesTree result (state here.new) (spec.leaf_of (state here.old) c (chars rest.now)) }
     ensures within { IfOk result (λ _. length here.new.rest.now ≤ length rest.now) }
 {
-    let backslash = place(here.rest, end);
+    let backslash = reach(here.rest);
     here.rest = rest;
     let flags = here.flags;
     match c {
@@ -102,34 +88,30 @@ fn leaf<'a>(
         }),
         '^' => Ok(Expr::Assertion(start_anchor(flags))),
         '$' => Ok(Expr::Assertion(end_anchor(flags))),
-        '\\' => escape_leaf(alloc, here, backslash, end),
-        '[' => class_leaf(alloc, here, end),
+        '\\' => escape_leaf(alloc, here, backslash),
+        '[' => class_leaf(alloc, here),
         _ => Ok(literal(alloc, c, flags.casei)?),
     }
 }
 
 /// Reads what stands behind a backslash.
-fn escape_leaf(alloc: Global, here: &mut State, backslash: usize, end: usize) -> Result<Expr, Error>
-    requires within { length here.old.rest.now ≤ end }
-    requires end { end < 2 ^ 63 }
+fn escape_leaf(alloc: Global, here: &mut State, backslash: usize) -> Result<Expr, Failure>
     ensures value { GivesTree result (state here.new) (spec.leaf_outcome spec.leaf_node (state here.old)
-        (escapes.escape end here.old.flags false backslash (chars here.old.rest.now))) }
+        (escapes.escape here.old.flags false backslash (chars here.old.rest.now))) }
     ensures within { IfOk result (λ _. length here.new.rest.now ≤ length here.old.rest.now) }
 {
-    let (escaped, rest) = escape(alloc, here.rest, here.flags, false, backslash, end)?;
+    let (escaped, rest) = escape(alloc, here.rest, here.flags, false, backslash)?;
     here.rest = rest;
     Ok(leaf_node(alloc, escaped)?)
 }
 
 /// Reads a class behind its bracket.
-fn class_leaf(alloc: Global, here: &mut State, end: usize) -> Result<Expr, Error>
-    requires within { length here.old.rest.now ≤ end }
-    requires end { end < 2 ^ 63 }
+fn class_leaf(alloc: Global, here: &mut State) -> Result<Expr, Failure>
     ensures value { GivesTree result (state here.new) (spec.leaf_outcome (λ w. delegate w here.old.flags.casei)
-        (state here.old) (classes.class end here.old.flags (chars here.old.rest.now))) }
+        (state here.old) (classes.class here.old.flags (chars here.old.rest.now))) }
     ensures within { IfOk result (λ _. length here.new.rest.now ≤ length here.old.rest.now) }
 {
-    let (inner, rest) = class(alloc, here.rest, here.flags, end)?;
+    let (inner, rest) = class(alloc, here.rest, here.flags)?;
     here.rest = rest;
     let casei = here.flags.casei;
     Ok(Expr::Delegate { inner, casei })

@@ -3,15 +3,15 @@ ghost use Rattle.std.specs.Prelude.{chars};
 ghost use Rattle.fancy_lex.specs.Fault as spec;
 ghost use Rattle.fancy_grammar.specs.Errors.{IsErrorAt};
 
-use fancy_lex::error::{Error, ParseError};
+use fancy_lex::error::{Failure, ParseError};
 use std::alloc::Global;
 
 /// The general fault with this message, or that memory ran out.
-pub(crate) fn general(alloc: Global, message: &str, place: usize) -> Error
+pub(crate) fn general(alloc: Global, message: &str, place: usize) -> Failure
     ensures { IsErrorAt result (spec.general_parse_error (chars message.now)) place }
 {
     match String::from_str(alloc, message) {
-        Ok(message) => Error::ParseError(place, ParseError::GeneralParseError(message)),
-        Err(refused) => Error::from(refused),
+        Ok(message) => Failure::At(place, ParseError::GeneralParseError(message)),
+        Err(refused) => Failure::from(refused),
     }
 }

@@ -9,7 +9,7 @@ use crate::expr::Expr;
 use crate::grammar::fault::general;
 use crate::grammar::group::head::Head;
 use crate::grammar::trees::{push, take_branch};
-use fancy_lex::error::Error;
+use fancy_lex::error::Failure;
 use fancy_lex::flags::Flags;
 use std::alloc::{AllocError, Global};
 
@@ -45,7 +45,7 @@ pub(crate) struct Frame<'a> {
 
 impl<'a> Frame<'a> {
     ghost use Rattle.std.specs.Prelude.{false, IfErr};
-    ghost use Rattle.fancy_lex.specs.Text.{place_of};
+    ghost use Rattle.fancy_lex.specs.Text.{reach_of};
     ghost use Rattle.fancy_syntax.specs.Machine.{part_of, opened_by_bar, branches_at_bar, is_second, IsFaultOfBar};
     ghost use Rattle.fancy_grammar.specs.Errors.{IsErrorAmong};
 
@@ -72,7 +72,7 @@ impl<'a> Frame<'a> {
         alloc: Global,
         trees: &mut Vec<Expr>,
         place: usize,
-    ) -> Result<(), Error>
+    ) -> Result<(), Failure>
         requires { self.old.pieces ≤ vec_len trees.old }
         ensures opener { (below branches pieces : List Tree) →
             HoldsTrees self.old (views trees.old.items) below branches pieces →
@@ -82,8 +82,8 @@ impl<'a> Frame<'a> {
             OnOk result (HoldsTrees self.new (views trees.new.items) below
             (branches_at_bar (part_of self.old.opener) branches (one_or concat pieces)) []) }
         ensures allowed { IfOk result (λ _. is_second (part_of self.old.opener) ≡ false) }
-        ensures fault { (n : _) (t : _) → place ≡ place_of n t →
-            IfErr result (λ e. IsErrorAmong e (IsFaultOfBar (part_of self.old.opener) n t)) }
+        ensures fault { (t : _) → place ≡ reach_of t →
+            IfErr result (λ e. IsErrorAmong e (IsFaultOfBar (part_of self.old.opener) t)) }
     {
         match &self.opener {
             Opener::First => {

@@ -1,5 +1,5 @@
 //! The heads of groups: what stands behind a parenthesis and a question mark or an asterisk.
-ghost use Rattle.std.specs.Prelude.{◌≡◌, ◌<◌, ◌≤◌, ◌^◌, length, chars, codes, ◌++◌, Some, None, IfOk, IfSome, option_map, MatchResult};
+ghost use Rattle.std.specs.Prelude.{◌≡◌, ◌<◌, ◌≤◌, length, chars, codes, ◌++◌, Some, None, IfOk, IfSome, option_map, MatchResult};
 ghost use Rattle.fancy_lex.specs.FaultTable.{unknown_verb};
 ghost use Rattle.fancy_parts.specs.LetterSteps.{letters};
 ghost use Rattle.fancy_parts.specs.GroupName as names;
@@ -19,8 +19,8 @@ use crate::grammar::ahead::Ahead;
 use crate::grammar::group::head::Head;
 use crate::grammar::reference::{backref, condition, subroutine_call};
 use crate::grammar::state::{State, skip_layout};
-use fancy_lex::error::{Error, ParseError};
-use fancy_lex::text::{after, after_word, next, place};
+use fancy_lex::error::{Failure, ParseError};
+use fancy_lex::text::{after, after_word, next, reach};
 use fancy_parts::heads::names::group_name;
 use fancy_parts::heads::references::{
     begins_target, condition_target, named_call, named_reference,
@@ -29,27 +29,21 @@ use fancy_parts::heads::{Letters, flag_letters};
 use std::alloc::Global;
 
 /// Reads what stands behind a parenthesis: the head of the group, if it has one.
-pub(crate) fn after_paren<'a>(
-    alloc: Global,
-    here: &mut State<'a>,
-    end: usize,
-) -> Result<Ahead<'a>, Error>
-    requires within { length here.old.rest.now ≤ end }
-    requires end { end < 2 ^ 63 }
-    ensures value { Sees result (state here.new) (spec.behind_layout end (state here.old)
-        (skipped end (state here.old))) }
+pub(crate) fn after_paren<'a>(alloc: Global, here: &mut State<'a>) -> Result<Ahead<'a>, Failure>
+    ensures value { Sees result (state here.new) (spec.behind_layout (state here.old)
+        (skipped (state here.old))) }
     ensures within { length here.new.rest.now ≤ length here.old.rest.now }
     ensures something { IfOk result (λ a. IsSomething a) }
 {
-    here.rest = skip_layout(*here, end)?;
+    here.rest = skip_layout(*here)?;
     let Some((c, rest)) = next(here.rest) else {
         return Ok(Ahead::Group(Head::Capture(None)));
     };
     if c == '?' {
         here.rest = rest;
-        after_question(alloc, here, end)
+        after_question(alloc, here)
     } else if c == '*' {
-        let verb = read_verb(here, rest, end)?;
+        let verb = read_verb(here, rest)?;
         Ok(Ahead::Leaf(Expr::BacktrackingControlVerb(verb)))
     } else {
         Ok(Ahead::Group(Head::Capture(None)))
@@ -57,25 +51,23 @@ pub(crate) fn after_paren<'a>(
 }
 
 /// Reads what stands behind a parenthesis and a question mark.
-fn after_question<'a>(alloc: Global, here: &mut State<'a>, end: usize) -> Result<Ahead<'a>, Error>
-    requires within { length here.old.rest.now < end }
-    requires end { end < 2 ^ 63 }
-    ensures value { Sees result (state here.new) (spec.behind_question end (state here.old) (chars here.old.rest.now)) }
+fn after_question<'a>(alloc: Global, here: &mut State<'a>) -> Result<Ahead<'a>, Failure>
+    ensures value { Sees result (state here.new) (spec.behind_question (state here.old) (chars here.old.rest.now)) }
     ensures within { length here.new.rest.now ≤ length here.old.rest.now }
     ensures something { IfOk result (λ a. IsSomething a) }
 {
     let Some((c, rest)) = next(here.rest) else {
-        return read_flags(alloc, here, end);
+        return read_flags(alloc, here);
     };
     match c {
         '=' => Ok(open_look_around(here, rest, LookAround::LookAhead)),
         '!' => Ok(open_look_around(here, rest, LookAround::LookAheadNeg)),
-        '<' => after_less(here, rest, end),
-        '\'' => read_name(here, end),
-        'P' => after_p(alloc, here, rest, end),
+        '<' => after_less(here, rest),
+        '\'' => read_name(here),
+        'P' => after_p(alloc, here, rest),
         '~' => {
             here.rest = rest;
-            after_tilde(here, end)
+            after_tilde(here)
         }
         '>' => {
             here.rest = rest;
@@ -83,9 +75,9 @@ fn after_question<'a>(alloc: Global, here: &mut State<'a>, end: usize) -> Result
         }
         '(' => {
             here.rest = rest;
-            read_condition(alloc, here, end)
+            read_condition(alloc, here)
         }
-        _ => read_flags(alloc, here, end),
+        _ => read_flags(alloc, here),
     }
 }
 
@@ -102,11 +94,10 @@ fn open_look_around<'a>(here: &mut State<'a>, inside: &'a str, look: LookAround)
 }
 
 /// Reads what stands behind `(?<`: look-behind, or a name.
-fn after_less<'a>(here: &mut State<'a>, rest: &'a str, end: usize) -> Result<Ahead<'a>, Error>
-    requires within { length here.old.rest.now < end }
+fn after_less<'a>(here: &mut State<'a>, rest: &'a str) -> Result<Ahead<'a>, Failure>
     requires shorter { length rest.now ≤ length here.old.rest.now }
     requires less { chars here.old.rest.now ≡ codes "<" ++ chars rest.now }
-    ensures value { Sees result (state here.new) (spec.behind_question end (state here.old) (chars here.old.rest.now)) }
+    ensures value { Sees result (state here.new) (spec.behind_question (state here.old) (chars here.old.rest.now)) }
     ensures within { length here.new.rest.now ≤ length here.old.rest.now }
     ensures something { IfOk result (λ a. IsSomething a) }
 {
@@ -116,45 +107,37 @@ fn after_less<'a>(here: &mut State<'a>, rest: &'a str, end: usize) -> Result<Ahe
     if let Some(inside) = after(rest, '!') {
         return Ok(open_look_around(here, inside, LookAround::LookBehindNeg));
     }
-    read_name(here, end)
+    read_name(here)
 }
 
 /// Reads the name of a group, behind the question mark.
-fn read_name<'a>(here: &mut State<'a>, end: usize) -> Result<Ahead<'a>, Error>
-    requires within { length here.old.rest.now < end }
+fn read_name<'a>(here: &mut State<'a>) -> Result<Ahead<'a>, Failure>
     ensures value { Sees result (state here.new)
-        (spec.named_ahead (state here.old) (names.group_name end (chars here.old.rest.now))) }
+        (spec.named_ahead (state here.old) (names.group_name (chars here.old.rest.now))) }
     ensures within { length here.new.rest.now ≤ length here.old.rest.now }
     ensures something { IfOk result (λ a. IsSomething a) }
 {
-    let (name, inside) = group_name(here.rest, end)?;
+    let (name, inside) = group_name(here.rest)?;
     here.rest = inside;
     Ok(Ahead::Group(Head::Capture(Some(name))))
 }
 
 /// Reads what stands behind `(?P`: a name, a reference, a call, or letters of flags, of which none is a `P`.
-fn after_p<'a>(
-    alloc: Global,
-    here: &mut State<'a>,
-    rest: &'a str,
-    end: usize,
-) -> Result<Ahead<'a>, Error>
-    requires within { length here.old.rest.now < end }
+fn after_p<'a>(alloc: Global, here: &mut State<'a>, rest: &'a str) -> Result<Ahead<'a>, Failure>
     requires shorter { length rest.now ≤ length here.old.rest.now }
     requires letter { chars here.old.rest.now ≡ codes "P" ++ chars rest.now }
-    requires end { end < 2 ^ 63 }
-    ensures value { Sees result (state here.new) (spec.behind_question end (state here.old) (chars here.old.rest.now)) }
+    ensures value { Sees result (state here.new) (spec.behind_question (state here.old) (chars here.old.rest.now)) }
     ensures within { length here.new.rest.now ≤ length here.old.rest.now }
     ensures something { IfOk result (λ a. IsSomething a) }
 {
     let Some((c, behind)) = next(rest) else {
-        return read_flags(alloc, here, end);
+        return read_flags(alloc, here);
     };
     match c {
-        '<' => read_name(here, end),
-        '=' => read_reference(alloc, here, behind, end),
-        '>' => read_call(alloc, here, behind, end),
-        _ => read_flags(alloc, here, end),
+        '<' => read_name(here),
+        '=' => read_reference(alloc, here, behind),
+        '>' => read_call(alloc, here, behind),
+        _ => read_flags(alloc, here),
     }
 }
 
@@ -163,49 +146,39 @@ fn read_reference<'a>(
     alloc: Global,
     here: &mut State<'a>,
     id: &'a str,
-    end: usize,
-) -> Result<Ahead<'a>, Error>
-    requires within { length here.old.rest.now ≤ end }
+) -> Result<Ahead<'a>, Failure>
     requires shorter { length id.now ≤ length here.old.rest.now }
     ensures value { Sees result (state here.new) (leaf (spec.leaf_outcome (spec.backref_node here.old.flags.casei)
-        (state here.old) (references.named_reference end (chars id.now)))) }
+        (state here.old) (references.named_reference (chars id.now)))) }
     ensures within { length here.new.rest.now ≤ length here.old.rest.now }
     ensures something { IfOk result (λ a. IsSomething a) }
 {
-    let (reference, rest) = named_reference(id, end)?;
+    let (reference, rest) = named_reference(id)?;
     here.rest = rest;
     Ok(Ahead::Leaf(backref(alloc, reference, here.flags.casei)?))
 }
 
 /// Reads a call, whose name begins at the text.
-fn read_call<'a>(
-    alloc: Global,
-    here: &mut State<'a>,
-    name: &'a str,
-    end: usize,
-) -> Result<Ahead<'a>, Error>
-    requires within { length here.old.rest.now ≤ end }
+fn read_call<'a>(alloc: Global, here: &mut State<'a>, name: &'a str) -> Result<Ahead<'a>, Failure>
     requires shorter { length name.now ≤ length here.old.rest.now }
     ensures value { Sees result (state here.new) (leaf (spec.leaf_outcome spec.call_node
-        (state here.old) (references.named_call end (chars name.now)))) }
+        (state here.old) (references.named_call (chars name.now)))) }
     ensures within { length here.new.rest.now ≤ length here.old.rest.now }
     ensures something { IfOk result (λ a. IsSomething a) }
 {
-    let (call, rest) = named_call(name, end)?;
+    let (call, rest) = named_call(name)?;
     here.rest = rest;
     Ok(Ahead::Leaf(subroutine_call(alloc, call)?))
 }
 
 /// Reads the letters of a flag group.
-fn read_flags<'a>(alloc: Global, here: &mut State<'a>, end: usize) -> Result<Ahead<'a>, Error>
-    requires within { length here.old.rest.now ≤ end }
-    requires end { end < 2 ^ 63 }
+fn read_flags<'a>(alloc: Global, here: &mut State<'a>) -> Result<Ahead<'a>, Failure>
     ensures value { Sees result (state here.new)
-        (spec.flags_ahead (letters end here.old.flags (chars here.old.rest.now))) }
+        (spec.flags_ahead (letters here.old.flags (chars here.old.rest.now))) }
     ensures within { length here.new.rest.now ≤ length here.old.rest.now }
     ensures something { IfOk result (λ a. IsSomething a) }
 {
-    match flag_letters(alloc, here.rest, here.flags, end)? {
+    match flag_letters(alloc, here.rest, here.flags)? {
         (Letters::Setting(flags), rest) => {
             *here = State { flags, rest };
             Ok(Ahead::Leaf(Expr::Empty))
@@ -218,15 +191,14 @@ fn read_flags<'a>(alloc: Global, here: &mut State<'a>, end: usize) -> Result<Ahe
 }
 
 /// Reads what stands behind `(?~`: a bar, or nothing. UnclosedOpenParen at the end of the text.
-fn after_tilde<'a>(here: &mut State<'a>, end: usize) -> Result<Ahead<'a>, Error>
-    requires within { length here.old.rest.now ≤ end }
+fn after_tilde<'a>(here: &mut State<'a>) -> Result<Ahead<'a>, Failure>
     ensures value { Sees result (state here.new)
-        (spec.behind_question end (state here.old) (codes "~" ++ chars here.old.rest.now)) }
+        (spec.behind_question (state here.old) (codes "~" ++ chars here.old.rest.now)) }
     ensures within { length here.new.rest.now ≤ length here.old.rest.now }
     ensures something { IfOk result (λ a. IsSomething a) }
 {
     let Some((c, rest)) = next(here.rest) else {
-        return Err(Error::ParseError(end, ParseError::UnclosedOpenParen));
+        return Err(Failure::At(1, ParseError::UnclosedOpenParen));
     };
     if c == '|' {
         here.rest = rest;
@@ -240,25 +212,24 @@ fn after_tilde<'a>(here: &mut State<'a>, end: usize) -> Result<Ahead<'a>, Error>
 ///
 /// UnclosedOpenParen at the end of the text; TargetNotRepeatable at the asterisk of no verb; the faults of
 /// `condition_target`.
-fn read_condition<'a>(alloc: Global, here: &mut State<'a>, end: usize) -> Result<Ahead<'a>, Error>
-    requires within { length here.old.rest.now ≤ end }
+fn read_condition<'a>(alloc: Global, here: &mut State<'a>) -> Result<Ahead<'a>, Failure>
     ensures value { Sees result (state here.new)
-        (spec.behind_question end (state here.old) (codes "(" ++ chars here.old.rest.now)) }
+        (spec.behind_question (state here.old) (codes "(" ++ chars here.old.rest.now)) }
     ensures within { length here.new.rest.now ≤ length here.old.rest.now }
     ensures something { IfOk result (λ a. IsSomething a) }
 {
     let Some((c, rest)) = next(here.rest) else {
-        return Err(Error::ParseError(end, ParseError::UnclosedOpenParen));
+        return Err(Failure::At(1, ParseError::UnclosedOpenParen));
     };
     if let Some(definitions) = after_word(here.rest, "DEFINE)") {
         here.rest = definitions;
         return Ok(Ahead::Group(Head::Define));
     }
     if begins_target(here.rest) {
-        return read_target(alloc, here, end);
+        return read_target(alloc, here);
     }
     if c == '*' {
-        return read_verb_condition(alloc, here, rest, end);
+        return read_verb_condition(alloc, here, rest);
     }
     Ok(Ahead::Condition)
 }
@@ -268,50 +239,42 @@ fn read_verb_condition<'a>(
     alloc: Global,
     here: &mut State<'a>,
     rest: &'a str,
-    end: usize,
-) -> Result<Ahead<'a>, Error>
-    requires within { length here.old.rest.now ≤ end }
+) -> Result<Ahead<'a>, Failure>
     requires shorter { length rest.now ≤ length here.old.rest.now }
     requires asterisk { chars here.old.rest.now ≡ codes "*" ++ chars rest.now }
-    ensures value { Sees result (state here.new) (spec.verb_condition end (state here.old) (chars rest.now)) }
+    ensures value { Sees result (state here.new) (spec.verb_condition (state here.old) (chars rest.now)) }
     ensures within { length here.new.rest.now ≤ length here.old.rest.now }
     ensures something { IfOk result (λ a. IsSomething a) }
 {
-    let verb = read_verb(here, rest, end)?;
+    let verb = read_verb(here, rest)?;
     let verb = Box::new(alloc, Expr::BacktrackingControlVerb(verb))?;
     Ok(Ahead::Body(verb))
 }
 
 /// Reads what a condition asks for.
-fn read_target<'a>(alloc: Global, here: &mut State<'a>, end: usize) -> Result<Ahead<'a>, Error>
-    requires within { length here.old.rest.now ≤ end }
+fn read_target<'a>(alloc: Global, here: &mut State<'a>) -> Result<Ahead<'a>, Failure>
     ensures value { Sees result (state here.new)
-        (spec.target_ahead (state here.old) (references.condition_target end (chars here.old.rest.now))) }
+        (spec.target_ahead (state here.old) (references.condition_target (chars here.old.rest.now))) }
     ensures within { length here.new.rest.now ≤ length here.old.rest.now }
     ensures something { IfOk result (λ a. IsSomething a) }
 {
-    let (target, rest) = condition_target(here.rest, end)?;
+    let (target, rest) = condition_target(here.rest)?;
     here.rest = rest;
     Ok(Ahead::Body(condition(alloc, target)?))
 }
 
 /// Reads the verb behind the asterisk at the front, which `rest` follows. TargetNotRepeatable at the asterisk of no
 /// verb.
-fn read_verb<'a>(
-    here: &mut State<'a>,
-    rest: &'a str,
-    end: usize,
-) -> Result<BacktrackingControlVerb, Error>
-    requires within { length here.old.rest.now ≤ end }
+fn read_verb<'a>(here: &mut State<'a>, rest: &'a str) -> Result<BacktrackingControlVerb, Failure>
     requires shorter { length rest.now ≤ length here.old.rest.now }
     ensures value { MatchResult result (λ v. verbs.verb_at (chars rest.now) ≡ Some (v, chars here.new.rest.now))
-        (λ e. (verbs.verb_at (chars rest.now) ≡ None) × IsErrorOf e (unknown_verb end (chars here.old.rest.now))) }
+        (λ e. (verbs.verb_at (chars rest.now) ≡ None) × IsErrorOf e (unknown_verb (chars here.old.rest.now))) }
     ensures flags { here.new.flags ≡ here.old.flags }
     ensures within { length here.new.rest.now ≤ length here.old.rest.now }
 {
     let Some((verb, behind)) = verb_at(rest) else {
-        let asterisk = place(here.rest, end);
-        return Err(Error::ParseError(asterisk, ParseError::TargetNotRepeatable));
+        let asterisk = reach(here.rest);
+        return Err(Failure::At(asterisk, ParseError::TargetNotRepeatable));
     };
     here.rest = behind;
     Ok(verb)

@@ -1,5 +1,5 @@
 //! Plain characters and escapes of one character, which most pieces are.
-ghost use Rattle.std.specs.Prelude.{◌≡◌, ◌<◌, ◌≤◌, ℕ, true, [], ◌∷◌, length, chars, IfSome};
+ghost use Rattle.std.specs.Prelude.{◌≡◌, ◌<◌, ℕ, true, [], ◌∷◌, length, chars, IfSome};
 ghost use Rattle.fancy_lex.specs.EscapeViews.{escape_of};
 ghost use Rattle.fancy_grammar.specs.Ahead.{leaf_node};
 ghost use Rattle.fancy_syntax.specs.Parsed.{state};
@@ -18,7 +18,7 @@ use fancy_lex::text::{after, next};
 /// no quantifier.
 #[inline]
 pub(crate) fn plain<'a>(here: State<'a>) -> Option<(char, &'a str)>
-    ensures plain { IfSome result (λ p. (n : ℕ) → IsPlain n (state here.entry)
+    ensures plain { IfSome result (λ p. IsPlain (state here.entry)
         (literal (p.0 ∷ []) here.entry.flags.casei) (chars p.1.now)) }
     ensures shorter { IfSome result (λ p. length p.1.now < length here.entry.rest.now) }
 {
@@ -33,16 +33,15 @@ pub(crate) fn plain<'a>(here: State<'a>) -> Option<(char, &'a str)>
     Some((c, rest))
 }
 
-/// What the escape at the front stands for and what follows it, in a pattern of `end` bytes, where a look ahead reads
+/// What the escape at the front stands for and what follows it, where a look ahead reads
 /// all of it, with no layout and no quantifier behind it.
 #[inline(always)]
-pub(crate) fn plain_escape<'a>(here: State<'a>, end: usize) -> Option<(Escaped<'a>, &'a str)>
-    requires { length here.rest.now ≤ end }
-    ensures plain { IfSome result (λ p. IsPlain end (state here.entry) (leaf_node (escape_of p.0)) (chars p.1.now)) }
+pub(crate) fn plain_escape<'a>(here: State<'a>) -> Option<(Escaped<'a>, &'a str)>
+    ensures plain { IfSome result (λ p. IsPlain (state here.entry) (leaf_node (escape_of p.0)) (chars p.1.now)) }
     ensures shorter { IfSome result (λ p. length p.1.now < length here.entry.rest.now) }
 {
     let text = after(here.rest, '\\')?;
-    let (leaf, rest) = short_escape(text, here.flags, end)?;
+    let (leaf, rest) = short_escape(text, here.flags)?;
     let behind = State {
         flags: here.flags,
         rest,
@@ -56,8 +55,8 @@ pub(crate) fn plain_escape<'a>(here: State<'a>, end: usize) -> Option<(Escaped<'
 /// Whether one look ahead shows that no quantifier follows, and no layout before one.
 #[inline]
 pub(crate) fn is_unquantified(here: State) -> bool
-    ensures { result ≡ true → (n d left : ℕ) (a : Tree) →
-        quants n d left a (state here.entry) ≡ done a (state here.entry) }
+    ensures { result ≡ true → (d left : ℕ) (a : Tree) →
+        quants d left a (state here.entry) ≡ done a (state here.entry) }
 {
     let Some((c, _)) = next(here.rest) else {
         return true;

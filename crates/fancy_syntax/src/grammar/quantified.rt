@@ -1,5 +1,5 @@
 //! A tree under the quantifiers that follow it.
-ghost use Rattle.std.specs.Prelude.{◌≡◌, ◌≤◌, ◌<◌, ◌+◌, ◌^◌, true, false, length, chars, Some, if◌then◌else◌, IfOk, OnOk};
+ghost use Rattle.std.specs.Prelude.{◌≡◌, ◌≤◌, ◌<◌, ◌+◌, true, false, length, chars, Some, if◌then◌else◌, IfOk, OnOk};
 ghost use Rattle.fancy_grammar.specs.Depth.{max_depth};
 ghost use Rattle.fancy_grammar.specs.Join.{is_empty};
 ghost use Rattle.fancy_grammar.specs.Quantified as spec;
@@ -10,9 +10,9 @@ ghost use Rattle.fancy_syntax.specs.View.{view};
 use crate::expr::Expr;
 use crate::grammar::state::{MAX_DEPTH, State, skip_layout};
 use crate::grammar::trees::is_empty;
-use fancy_lex::error::{Error, ParseError};
+use fancy_lex::error::{Failure, ParseError};
 use fancy_lex::flags::Flags;
-use fancy_lex::text::{after, byte_len, place, place_before};
+use fancy_lex::text::{after, byte_len, reach, reach_before};
 use fancy_parts::counts::Counts;
 use fancy_parts::heads::counts;
 use std::alloc::{AllocError, Global};
@@ -66,18 +66,15 @@ pub(crate) fn quantify(
     here: &mut State,
     left: usize,
     depth: usize,
-    end: usize,
-) -> Result<(), Error>
-    requires within { length here.old.rest.now ≤ end }
-    requires end { end < 2 ^ 63 }
+) -> Result<(), Failure>
     requires depth { depth < max_depth }
     ensures value { Turns result (view tree.new) (state here.new)
-        (spec.quants end depth left (view tree.old) (state here.old)) }
+        (spec.quants depth left (view tree.old) (state here.old)) }
     ensures within { length here.new.rest.now ≤ length here.old.rest.now }
 {
-    quantify_once(alloc, tree, here, left, end)?;
+    quantify_once(alloc, tree, here, left)?;
     if here.flags.oniguruma_mode {
-        quantify_adjacent(alloc, tree, here, depth, end)?;
+        quantify_adjacent(alloc, tree, here, depth)?;
     }
     Ok(())
 }
@@ -88,26 +85,23 @@ fn quantify_adjacent(
     tree: &mut Expr,
     here: &mut State,
     depth: usize,
-    end: usize,
-) -> Result<(), Error>
-    requires within { length here.old.rest.now ≤ end }
-    requires end { end < 2 ^ 63 }
+) -> Result<(), Failure>
     requires depth { depth < max_depth }
     ensures value { Turns result (view tree.new) (state here.new)
-        (spec.adjacent spec.max_adjacent end depth (view tree.old) (state here.old)) }
+        (spec.adjacent spec.max_adjacent depth (view tree.old) (state here.old)) }
     ensures within { length here.new.rest.now ≤ length here.old.rest.now }
 {
     let mut depth = depth;
     let mut more = MAX_ADJACENT;
     loop {
         let before = byte_len(here.rest);
-        quantify_once(alloc, tree, here, before, end)?;
+        quantify_once(alloc, tree, here, before)?;
         if byte_len(here.rest) == before {
             return Ok(());
         }
         if !may_count(more, depth) {
-            let behind = place(here.rest, end);
-            return Err(Error::ParseError(behind, ParseError::RecursionExceeded));
+            let behind = reach(here.rest);
+            return Err(Failure::At(behind, ParseError::RecursionExceeded));
         }
         more -= 1;
         depth += 1;
@@ -130,20 +124,17 @@ fn quantify_once(
     tree: &mut Expr,
     here: &mut State,
     left: usize,
-    end: usize,
-) -> Result<(), Error>
-    requires within { length here.old.rest.now ≤ end }
-    requires end { end < 2 ^ 63 }
+) -> Result<(), Failure>
     ensures value { Turns result (view tree.new) (state here.new)
-        (spec.quant end left (view tree.old) (state here.old)) }
+        (spec.quant left (view tree.old) (state here.old)) }
     ensures within { length here.new.rest.now ≤ length here.old.rest.now }
 {
-    here.rest = skip_layout(*here, end)?;
+    here.rest = skip_layout(*here)?;
     let Some((counts, rest)) = counts(here.rest, here.flags.ignore_space) else {
         return Ok(());
     };
     here.rest = rest;
-    repeat(alloc, tree, counts, here, left, end)
+    repeat(alloc, tree, counts, here, left)
 }
 
 /// Puts the tree under a quantifier of these counts, and reads what follows them.
@@ -155,35 +146,31 @@ fn repeat(
     counts: Counts,
     here: &mut State,
     left: usize,
-    end: usize,
-) -> Result<(), Error>
-    requires within { length here.old.rest.now < end }
-    requires end { end < 2 ^ 63 }
+) -> Result<(), Failure>
     ensures value { Turns result (view tree.new) (state here.new)
-        (spec.with_counts end left (view tree.old) (state here.old) (Some (counts, chars here.old.rest.now))) }
+        (spec.with_counts left (view tree.old) (state here.old) (Some (counts, chars here.old.rest.now))) }
     ensures within { length here.new.rest.now ≤ length here.old.rest.now }
 {
     if is_repeatable(here.flags, tree) {
-        let suffix = read_suffix(here, counts, end)?;
+        let suffix = read_suffix(here, counts)?;
         put_under(alloc, tree, here.flags, counts, suffix)?;
         return Ok(());
     }
     if is_dropped(here.flags, left, tree, here.rest) {
-        read_suffix(here, counts, end)?;
+        read_suffix(here, counts)?;
         return Ok(());
     }
-    let mark = place_before(here.rest, end);
-    Err(Error::ParseError(mark, ParseError::TargetNotRepeatable))
+    let mark = reach_before(here.rest);
+    Err(Failure::At(mark, ParseError::TargetNotRepeatable))
 }
 
 /// Reads layout and the marks behind the counts of a quantifier: the lazy one, and directly the possessive one.
-fn read_suffix(here: &mut State, counts: Counts, end: usize) -> Result<Suffix, Error>
-    requires end { end < 2 ^ 63 }
-    ensures value { GivesSuffix result (state here.new) (spec.suffix end (state here.old) counts) }
+fn read_suffix(here: &mut State, counts: Counts) -> Result<Suffix, Failure>
+    ensures value { GivesSuffix result (state here.new) (spec.suffix (state here.old) counts) }
     ensures flags { here.new.flags ≡ here.old.flags }
     ensures within { length here.new.rest.now ≤ length here.old.rest.now }
 {
-    here.rest = skip_layout(*here, end)?;
+    here.rest = skip_layout(*here)?;
     let mut lazy = false;
     if let Some(rest) = after(here.rest, '?') {
         lazy = true;

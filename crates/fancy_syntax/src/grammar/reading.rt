@@ -1,5 +1,5 @@
 //! Where the loop stands that reads the raw tree of a text.
-ghost use Rattle.std.specs.Prelude.{◌≡◌, ◌∷◌, [], ◌++◌, ◌<◌, ◌≤◌, ◌^◌, ℕ, true, false, length, chars, vec_len};
+ghost use Rattle.std.specs.Prelude.{◌≡◌, ◌∷◌, [], ◌++◌, ◌<◌, ◌≤◌, ℕ, true, false, length, chars, vec_len};
 ghost use Rattle.std.specs.Prelude.{Some, None, IfOk, OnOk, MatchOption, MatchResult};
 ghost use Rattle.fancy_lex.specs.Characters.{bar};
 ghost use Rattle.fancy_lex.specs.Text.{strip};
@@ -19,8 +19,8 @@ use crate::grammar::plain::{plain, plain_escape};
 use crate::grammar::state::State;
 use crate::grammar::step::{Step, close, read_step};
 use crate::grammar::trees::add;
-use fancy_lex::error::Error;
-use fancy_lex::text::{byte_len, place};
+use fancy_lex::error::Failure;
+use fancy_lex::text::{byte_len, reach};
 use std::alloc::{AllocError, Global};
 use std::mem;
 
@@ -48,7 +48,7 @@ impl<'a> Reading<'a> {
     pub(crate) fn new(alloc: Global, start: State<'a>) -> Result<Reading<'a>, AllocError>
         ensures here { IfOk result (λ r. r.here ≡ start.entry) }
         ensures depth { IfOk result (λ r. length r.stack.items < max_depth) }
-        ensures reading { (n : ℕ) → IfOk result (λ r. IsReading n (state start.entry) r) }
+        ensures reading { IfOk result (λ r. IsReading (state start.entry) r) }
     {
         Ok(Reading {
             here: start,
@@ -60,10 +60,9 @@ impl<'a> Reading<'a> {
 
     /// Reads the leaf at the front, where a look ahead reads all of it: whether it does.
     #[inline(always)]
-    pub(crate) fn add_leaf(&mut self, alloc: Global, end: usize) -> Result<bool, AllocError>
-        requires within { length self.old.here.rest.now ≤ end }
-        ensures reading { (start : states.State) → IsReading end start self.old →
-            OnOk result (IsReading end start self.new) }
+    pub(crate) fn add_leaf(&mut self, alloc: Global) -> Result<bool, AllocError>
+        ensures reading { (start : states.State) → IsReading start self.old →
+            OnOk result (IsReading start self.new) }
         ensures stack { self.new.stack ≡ self.old.stack }
         ensures within { length self.new.here.rest.now ≤ length self.old.here.rest.now }
         ensures shorter { IfOk result (λ found. found ≡ true →
@@ -75,7 +74,7 @@ impl<'a> Reading<'a> {
             self.here.rest = rest;
             return Ok(true);
         }
-        let Some((escaped, rest)) = plain_escape(self.here, end) else {
+        let Some((escaped, rest)) = plain_escape(self.here) else {
             return Ok(false);
         };
         let leaf = leaf_node(alloc, escaped)?;
@@ -86,36 +85,33 @@ impl<'a> Reading<'a> {
 
     /// Reads a piece, or the opening of a group. A fault is the text's.
     #[inline(always)]
-    pub(crate) fn step(&mut self, alloc: Global, end: usize) -> Result<(), Error>
-        requires within { length self.old.here.rest.now ≤ end }
-        requires end { end < 2 ^ 63 }
+    pub(crate) fn step(&mut self, alloc: Global) -> Result<(), Failure>
         requires depth { length self.old.stack.items < max_depth }
         requires more { ends (chars self.old.here.rest.now) ≡ false }
-        ensures reading { (start : states.State) → IsReading end start self.old →
-            MatchResult result (λ _. IsReading end start self.new) (λ e. IsErrorAmong e (Alternation end 0 start)) }
+        ensures reading { (start : states.State) → IsReading start self.old →
+            MatchResult result (λ _. IsReading start self.new) (λ e. IsErrorAmong e (Alternation 0 start)) }
         ensures depth { OnOk result (length self.new.stack.items < max_depth) }
         ensures shorter { OnOk result (length self.new.here.rest.now < length self.old.here.rest.now) }
     {
         self.frame.left = byte_len(self.here.rest);
         self.frame.flags = self.here.flags;
-        let step = read_step(alloc, &mut self.here, self.stack.len(), end)?;
+        let step = read_step(alloc, &mut self.here, self.stack.len())?;
         Ok(self.take(step)?)
     }
 
     /// Ends the open branch at the bar that stands here, before `rest`. A fault is the text's.
     #[inline(always)]
-    pub(crate) fn bar(&mut self, alloc: Global, rest: &'a str, end: usize) -> Result<(), Error>
-        requires within { length self.old.here.rest.now ≤ end }
+    pub(crate) fn bar(&mut self, alloc: Global, rest: &'a str) -> Result<(), Failure>
         requires pieces { self.old.frame.pieces ≤ vec_len self.old.trees }
         requires last { ends (chars self.old.here.rest.now) ≡ true }
         requires bar { strip bar (chars self.old.here.rest.now) ≡ Some (chars rest.now) }
-        ensures reading { (start : states.State) → IsReading end start self.old →
-            MatchResult result (λ _. IsReading end start self.new) (λ e. IsErrorAmong e (Alternation end 0 start)) }
+        ensures reading { (start : states.State) → IsReading start self.old →
+            MatchResult result (λ _. IsReading start self.new) (λ e. IsErrorAmong e (Alternation 0 start)) }
         ensures stack { self.new.stack ≡ self.old.stack }
         ensures rest { OnOk result (self.new.here.rest ≡ rest.entry) }
     {
-        let place = place(self.here.rest, end);
-        self.frame.bar(alloc, &mut self.trees, place)?;
+        let reach = reach(self.here.rest);
+        self.frame.bar(alloc, &mut self.trees, reach)?;
         self.here.rest = rest;
         Ok(())
     }
@@ -123,18 +119,16 @@ impl<'a> Reading<'a> {
     /// Ends the innermost group where neither a piece nor a bar follows: the tree of the text, where no group is
     /// around it. A fault is the text's.
     #[inline(always)]
-    pub(crate) fn close(&mut self, alloc: Global, end: usize) -> Result<Option<Expr>, Error>
-        requires within { length self.old.here.rest.now ≤ end }
-        requires end { end < 2 ^ 63 }
+    pub(crate) fn close(&mut self, alloc: Global) -> Result<Option<Expr>, Failure>
         requires depth { length self.old.stack.items < max_depth }
         requires branches { self.old.frame.branches ≤ self.old.frame.pieces }
         requires pieces { self.old.frame.pieces ≤ vec_len self.old.trees }
         requires last { ends (chars self.old.here.rest.now) ≡ true }
         requires no_bar { strip bar (chars self.old.here.rest.now) ≡ None }
-        ensures reading { (start : states.State) → IsReading end start self.old →
-            MatchResult result (λ found. MatchOption found (IsReading end start self.new)
-            (λ tree. Alternation end 0 start (done (view tree) (state self.new.here))))
-            (λ e. IsErrorAmong e (Alternation end 0 start)) }
+        ensures reading { (start : states.State) → IsReading start self.old →
+            MatchResult result (λ found. MatchOption found (IsReading start self.new)
+            (λ tree. Alternation 0 start (done (view tree) (state self.new.here))))
+            (λ e. IsErrorAmong e (Alternation 0 start)) }
         ensures depth { OnOk result (length self.new.stack.items < max_depth) }
         ensures shorter { IfOk result (λ found. MatchOption found
             (length self.new.here.rest.now < length self.old.here.rest.now)
@@ -153,7 +147,6 @@ impl<'a> Reading<'a> {
             self.frame.left,
             self.frame.flags,
             self.stack.len(),
-            end,
         )?;
         self.take(step)?;
         Ok(None)

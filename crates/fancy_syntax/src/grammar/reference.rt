@@ -17,7 +17,7 @@ pub(crate) fn backref(alloc: Global, reference: Reference, casei: bool) -> Resul
         casei,
         relative_recursion_level: reference.level,
     };
-    Ok(Expr::AstNode(node, reference.place))
+    Ok(Expr::AstNode(node, reference.reach))
 }
 
 /// The node of a call.
@@ -25,7 +25,7 @@ pub(crate) fn subroutine_call(alloc: Global, call: Call) -> Result<Expr, AllocEr
     ensures { IfOk result (λ e. view e ≡ spec.call_node (view_call call.entry)) }
 {
     let node = AstNode::SubroutineCall(call.target.to_owned(alloc)?);
-    Ok(Expr::AstNode(node, call.place))
+    Ok(Expr::AstNode(node, call.reach))
 }
 
 /// The node of a condition on a group.
@@ -36,5 +36,5 @@ pub(crate) fn condition(alloc: Global, reference: Reference) -> Result<Box<Expr>
         target: reference.target.to_owned(alloc)?,
         relative_recursion_level: reference.level,
     };
-    Ok(Box::new(alloc, Expr::AstNode(node, reference.place))?)
+    Ok(Box::new(alloc, Expr::AstNode(node, reference.reach))?)
 }

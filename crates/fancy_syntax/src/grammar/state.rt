@@ -1,10 +1,10 @@
 //! Where a reading stands: what holds there, whether a branch ends there, and the layout there.
-ghost use Rattle.std.specs.Prelude.{◌≡◌, ◌<◌, ◌≤◌, ◌^◌, length, chars, IfOk};
+ghost use Rattle.std.specs.Prelude.{◌≡◌, ◌<◌, ◌≤◌, length, chars, IfOk};
 ghost use Rattle.fancy_grammar.specs.State.{ends, skipped};
 ghost use Rattle.fancy_lex.specs.Views.{Skips};
 ghost use Rattle.fancy_syntax.specs.Parsed.{state, IsUnmoved};
 
-use fancy_lex::error::Error;
+use fancy_lex::error::Failure;
 use fancy_lex::flags::Flags;
 use fancy_lex::layout::skip;
 use fancy_lex::text::next;
@@ -31,11 +31,10 @@ pub(crate) fn is_end(text: &str) -> bool
 
 /// Reads the layout at the front: the text behind it.
 #[inline]
-pub(crate) fn skip_layout<'a>(here: State<'a>, end: usize) -> Result<&'a str, Error>
-    requires { end < 2 ^ 63 }
-    ensures value { Skips result (skipped end (state here.entry)) }
+pub(crate) fn skip_layout<'a>(here: State<'a>) -> Result<&'a str, Failure>
+    ensures value { Skips result (skipped (state here.entry)) }
     ensures within { IfOk result (λ r. length r.now ≤ length here.entry.rest.now) }
     ensures unmoved { IfOk result (λ r. IsUnmoved here.entry.rest.now r.now) }
 {
-    skip(here.rest, here.flags.ignore_space, end)
+    skip(here.rest, here.flags.ignore_space)
 }

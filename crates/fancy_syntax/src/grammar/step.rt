@@ -1,5 +1,5 @@
 //! The steps of the loop that read a piece, or come to the next part of a group.
-ghost use Rattle.std.specs.Prelude.{◌≡◌, ◌+◌, ◌<◌, ◌≤◌, ◌^◌, false, length, chars, IfOk, MatchResult, None};
+ghost use Rattle.std.specs.Prelude.{◌≡◌, ◌+◌, ◌<◌, ◌≤◌, false, length, chars, IfOk, MatchResult, None};
 ghost use Rattle.fancy_lex.specs.Characters.{bar};
 ghost use Rattle.fancy_lex.specs.Text.{bytes, strip};
 ghost use Rattle.fancy_grammar.specs.State.{ends};
@@ -24,9 +24,9 @@ use crate::grammar::group::head::node;
 use crate::grammar::plain::is_unquantified;
 use crate::grammar::quantified::quantify;
 use crate::grammar::state::{State, skip_layout};
-use fancy_lex::error::{Error, ParseError};
+use fancy_lex::error::{Failure, ParseError};
 use fancy_lex::flags::Flags;
-use fancy_lex::text::{byte_len, next, place};
+use fancy_lex::text::{byte_len, next, reach};
 use std::alloc::{AllocError, Global};
 
 /// What a step reads.
@@ -42,31 +42,28 @@ pub(crate) fn read_step<'a>(
     alloc: Global,
     here: &mut State<'a>,
     depth: usize,
-    end: usize,
-) -> Result<Step<'a>, Error>
-    requires within { length here.old.rest.now ≤ end }
-    requires end { end < 2 ^ 63 }
+) -> Result<Step<'a>, Failure>
     requires depth { depth < max_depth }
     requires more { ends (chars here.old.rest.now) ≡ false }
-    ensures value { GivesStep result end depth (state here.old) (state here.new) }
+    ensures value { GivesStep result depth (state here.old) (state here.new) }
     ensures shorter { IfOk result (λ _. length here.new.rest.now < length here.old.rest.now) }
     ensures below { IfOk result (λ p. OpensBelow p depth) }
 {
     let left = byte_len(here.rest);
-    here.rest = skip_layout(*here, end)?;
+    here.rest = skip_layout(*here)?;
     let before = *here;
-    match read_atom_start(alloc, here, depth, end)? {
-        Ahead::Nothing => piece(alloc, Expr::Empty, here, left, depth, end),
+    match read_atom_start(alloc, here, depth)? {
+        Ahead::Nothing => piece(alloc, Expr::Empty, here, left, depth),
         Ahead::Leaf(atom) => {
             // Mostly no quantifier follows: this saves a call for each leaf.
             if is_unquantified(*here) {
                 return Ok(Step::Piece(atom));
             }
-            piece(alloc, atom, here, left, depth, end)
+            piece(alloc, atom, here, left, depth)
         }
         Ahead::Group(head) => Ok(Step::Open(Opener::Group {
             head,
-            place: place(before.rest, end),
+            place: reach(before.rest),
         })),
         Ahead::Condition => Ok(Step::Open(Opener::Condition)),
         Ahead::Body(condition) => Ok(Step::Open(Opener::Body {
@@ -85,16 +82,13 @@ fn piece<'a>(
     here: &mut State<'a>,
     left: usize,
     depth: usize,
-    end: usize,
-) -> Result<Step<'a>, Error>
-    requires within { length here.old.rest.now ≤ end }
-    requires end { end < 2 ^ 63 }
+) -> Result<Step<'a>, Failure>
     requires depth { depth < max_depth }
-    ensures value { GivesPiece result (quants end depth left (view atom) (state here.old)) (state here.new) }
+    ensures value { GivesPiece result (quants depth left (view atom) (state here.old)) (state here.new) }
     ensures within { length here.new.rest.now ≤ length here.old.rest.now }
 {
     let mut piece = atom;
-    match quantify(alloc, &mut piece, here, left, depth, end) {
+    match quantify(alloc, &mut piece, here, left, depth) {
         Ok(()) => Ok(Step::Piece(piece)),
         Err(fault) => {
             drop(piece);
@@ -113,27 +107,24 @@ pub(crate) fn close<'a>(
     left: usize,
     flags: Flags,
     depth: usize,
-    end: usize,
-) -> Result<Step<'a>, Error>
-    requires within { length here.old.rest.now ≤ end }
-    requires end { end < 2 ^ 63 }
+) -> Result<Step<'a>, Failure>
     requires depth { depth < max_depth }
     requires last { strip bar (chars here.old.rest.now) ≡ None }
     ensures value { (s t : states.State) → left ≡ bytes s.rest → flags ≡ s.flags →
-        OpensPart end depth s (part_of opener.entry) t →
-        Part (part_of opener.entry) end (depth + 1) t (states.done (view inner) (state here.old)) →
-        GivesStep result end depth s (state here.new) }
+        OpensPart depth s (part_of opener.entry) t →
+        Part (part_of opener.entry) (depth + 1) t (states.done (view inner) (state here.old)) →
+        GivesStep result depth s (state here.new) }
     ensures shorter { IfOk result (λ _. length here.new.rest.now < length here.old.rest.now) }
 {
     let has_body = goes_on(&opener);
-    let atom = end_part(alloc, opener, inner, here, end)?;
+    let atom = end_part(alloc, opener, inner, here)?;
     if !has_body {
         here.flags = flags;
         // Mostly no quantifier follows: this saves a call for each group.
         if is_unquantified(*here) {
             return Ok(Step::Piece(atom));
         }
-        return piece(alloc, atom, here, left, depth, end);
+        return piece(alloc, atom, here, left, depth);
     }
     let condition = Box::new(alloc, atom)?;
     let left = byte_len(here.rest);
@@ -150,19 +141,12 @@ fn goes_on(opener: &Opener) -> bool
 /// Reads the closing parenthesis of what is open: the tree that comes out.
 ///
 /// The general fault where a conditional has no body; else the faults of `close_paren`.
-fn end_part(
-    alloc: Global,
-    opener: Opener,
-    inner: Expr,
-    here: &mut State,
-    end: usize,
-) -> Result<Expr, Error>
-    requires within { length here.old.rest.now ≤ end }
+fn end_part(alloc: Global, opener: Opener, inner: Expr, here: &mut State) -> Result<Expr, Failure>
     ensures value { GivesTree result (state here.new)
-        (ended_part end (part_of opener.entry) (view inner) (state here.old)) }
+        (ended_part (part_of opener.entry) (view inner) (state here.old)) }
     ensures shorter { IfOk result (λ _. length here.new.rest.now < length here.old.rest.now) }
 {
-    if let Err(fault) = read_end(alloc, &opener, here, end) {
+    if let Err(fault) = read_end(alloc, &opener, here) {
         drop(inner);
         return Err(fault);
     }
@@ -170,18 +154,17 @@ fn end_part(
 }
 
 /// Reads the closing parenthesis of what is open, whatever tree stands in it. The faults are those of `end_part`.
-fn read_end(alloc: Global, opener: &Opener, here: &mut State, end: usize) -> Result<(), Error>
-    requires within { length here.old.rest.now ≤ end }
+fn read_end(alloc: Global, opener: &Opener, here: &mut State) -> Result<(), Failure>
     ensures value { (r : Tree) → MatchResult result
-        (λ _. ended_part end (part_of opener.now) r (state here.old) ≡
+        (λ _. ended_part (part_of opener.now) r (state here.old) ≡
         states.done (machine.node_of_part (part_of opener.now) r) (state here.new))
-        (λ e. IsErrorAmong e (λ o. ended_part end (part_of opener.now) r (state here.old) ≡ o)) }
+        (λ e. IsErrorAmong e (λ o. ended_part (part_of opener.now) r (state here.old) ≡ o)) }
     ensures shorter { IfOk result (λ _. length here.new.rest.now < length here.old.rest.now) }
 {
     if lacks_body(opener, here.rest) {
-        return Err(general(alloc, NO_BODY, place(here.rest, end)));
+        return Err(general(alloc, NO_BODY, reach(here.rest)));
     }
-    close_paren(alloc, here, end)
+    close_paren(alloc, here)
 }
 
 /// Whether what is open is the body of a conditional that takes no byte before the text, and the condition cannot do
@@ -217,17 +200,16 @@ const NO_BODY: &str =
 
 /// Reads a closing parenthesis. UnclosedOpenParen at the end of the text; at a bar, which is behind the second branch
 /// of an absent expression, the general fault.
-pub(crate) fn close_paren(alloc: Global, here: &mut State, end: usize) -> Result<(), Error>
-    requires within { length here.old.rest.now ≤ end }
-    ensures value { (r : Tree) → MatchResult result (λ _. spec.closed end r (state here.old) ≡
-        states.done r (state here.new)) (λ e. IsErrorAmong e (λ o. spec.closed end r (state here.old) ≡ o)) }
+pub(crate) fn close_paren(alloc: Global, here: &mut State) -> Result<(), Failure>
+    ensures value { (r : Tree) → MatchResult result (λ _. spec.closed r (state here.old) ≡
+        states.done r (state here.new)) (λ e. IsErrorAmong e (λ o. spec.closed r (state here.old) ≡ o)) }
     ensures shorter { IfOk result (λ _. length here.new.rest.now < length here.old.rest.now) }
 {
     let Some((c, rest)) = next(here.rest) else {
-        return Err(Error::ParseError(end, ParseError::UnclosedOpenParen));
+        return Err(Failure::At(1, ParseError::UnclosedOpenParen));
     };
     if c != ')' {
-        let bar = place(here.rest, end);
+        let bar = reach(here.rest);
         return Err(general(alloc, "expected close paren", bar));
     }
     here.rest = rest;

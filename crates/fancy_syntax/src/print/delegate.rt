@@ -1,16 +1,16 @@
 //! Whether a Delegate's text is one whole class or one whole class escape.
-ghost use Rattle.std.specs.Prelude.{◌≡◌, ◌∷◌, ◌+◌, ◌<◌, ◌^◌, [], chars, is_some, length, false, IfOk};
+ghost use Rattle.std.specs.Prelude.{◌≡◌, ◌∷◌, ◌<◌, [], chars, is_some, false, IfOk};
 ghost use Rattle.fancy_lex.specs.Characters.{open_bracket, backslash};
-ghost use Rattle.fancy_lex.specs.declared.error.Error.TheVariants.{OutOfMemory};
+ghost use Rattle.fancy_lex.specs.declared.error.Failure.TheVariants.{OutOfMemory};
 ghost use Rattle.fancy_lex.specs.EscapeViews.{escape_of};
 ghost use Rattle.fancy_grammar.specs.Ahead.{leaf_node};
 ghost use Rattle.fancy_grammar.specs.Normal.{unicode_flags, class_of, whole_of};
 
 use fancy_lex::class::class;
-use fancy_lex::error::Error;
+use fancy_lex::error::Failure;
 use fancy_lex::escape::{Escaped, escape};
 use fancy_lex::flags::Flags;
-use fancy_lex::text::next;
+use fancy_lex::text::{next, reach_before};
 use std::alloc::{AllocError, Global};
 
 /// Whether the text alone, read under no flags, is one whole class or one whole class escape.
@@ -21,31 +21,27 @@ pub(crate) fn is_whole(alloc: Global, text: &str) -> Result<bool, AllocError>
         return Ok(false);
     };
     match c {
-        '[' => is_whole_class(alloc, rest, text.len()),
-        '\\' => is_whole_escape(alloc, rest, text.len()),
+        '[' => is_whole_class(alloc, rest),
+        '\\' => is_whole_escape(alloc, rest),
         _ => Ok(false),
     }
 }
 
 /// Whether a bracket and the text are one whole class, of so many bytes.
-fn is_whole_class(alloc: Global, text: &str, end: usize) -> Result<bool, AllocError>
-    requires bounded { end < 2 ^ 63 }
-    requires whole { end ≡ length text.now + 1 }
+fn is_whole_class(alloc: Global, text: &str) -> Result<bool, AllocError>
     ensures { IfOk result (λ b. b ≡ is_some (class_of (unicode_flags false) (open_bracket ∷ chars text.now))) }
 {
-    match class(alloc, text, Flags::from_bits(0), end) {
+    match class(alloc, text, Flags::from_bits(0)) {
         Ok((_, rest)) => Ok(next(rest).is_none()),
         Err(error) => is_no_class(error),
     }
 }
 
 /// Whether a backslash and the text are one whole class escape, of so many bytes.
-fn is_whole_escape(alloc: Global, text: &str, end: usize) -> Result<bool, AllocError>
-    requires bounded { end < 2 ^ 63 }
-    requires whole { end ≡ length text.now + 1 }
+fn is_whole_escape(alloc: Global, text: &str) -> Result<bool, AllocError>
     ensures { IfOk result (λ b. b ≡ is_some (class_of (unicode_flags false) (backslash ∷ chars text.now))) }
 {
-    match escape(alloc, text, Flags::from_bits(0), false, 0, end) {
+    match escape(alloc, text, Flags::from_bits(0), false, reach_before(text)) {
         Ok((leaf, rest)) => Ok(is_class(leaf) && next(rest).is_none()),
         Err(error) => is_no_class(error),
     }
@@ -59,12 +55,12 @@ fn is_class(leaf: Escaped) -> bool
 }
 
 /// False for a fault of the text; the refusal where memory ran out.
-fn is_no_class(error: Error) -> Result<bool, AllocError>
+fn is_no_class(error: Failure) -> Result<bool, AllocError>
     ensures no { IfOk result (λ b. b ≡ false) }
     ensures fault { IfOk result (λ _. error ≡ OutOfMemory → ⊥) }
 {
     match error {
-        Error::ParseError(..) => Ok(false),
-        Error::OutOfMemory => Err(AllocError),
+        Failure::At(..) => Ok(false),
+        Failure::OutOfMemory => Err(AllocError),
     }
 }

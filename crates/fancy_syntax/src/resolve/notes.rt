@@ -1,13 +1,16 @@
 //! What the second walk knows, and what it notes of each reference.
-ghost use Rattle.std.specs.Prelude.{◌≡◌, ◌<◌, ◌^◌, IfOk, IfErr, Option, Some};
+ghost use Rattle.std.specs.Prelude.{◌≡◌, ◌<◌, ◌^◌, IfOk, IfErr, Option, Some, chars};
 ghost use Rattle.fancy_lex.specs.Fault.{Fault};
+ghost use Rattle.fancy_lex.specs.Text.{bytes};
+ghost use Rattle.fancy_lex.specs.Text as text;
 ghost use Rattle.fancy_parts.specs.Groups.{meaning_of};
 ghost use Rattle.fancy_grammar.specs.Errors.{IsErrorIn};
 ghost use Rattle.fancy_syntax.specs.Notes.{IsErrorNoted, progress_of, number_meant, noted_one, form_noted, meaning_noted};
 ghost use Rattle.fancy_grammar.specs.Walk.{nothing_noted, number_in};
 
-use fancy_lex::error::Error;
+use fancy_lex::error::Failure;
 use fancy_lex::name::CaptureGroupTarget;
+use fancy_lex::text::place_at;
 use fancy_parts::ranks::{Groups, Meaning, Role, meaning_behind};
 use fancy_parts::written::is_numeric;
 use std::alloc::Global;
@@ -41,7 +44,7 @@ pub(super) struct Progress {
     /// Some call by the number 0 is written.
     pub(super) self_recursive: bool,
     /// The fault at which the walk stopped, or that memory ran out.
-    pub(super) error: Option<Error>,
+    pub(super) error: Option<Failure>,
 }
 
 /// The walk stopped: its `Progress` says why. An error by itself is seven words, which each call would hand on.
@@ -66,7 +69,7 @@ impl Progress {
 
     /// Notes why the walk stops.
     #[cold]
-    fn stop(&mut self, error: Error) -> Stopped
+    fn stop(&mut self, error: Failure) -> Stopped
         ensures error { self.new.error ≡ Some error }
         ensures passed { self.new.passed ≡ self.old.passed }
     {
@@ -75,10 +78,10 @@ impl Progress {
     }
 
     /// Why the walk stopped.
-    pub(super) fn into_error(self) -> Error
+    pub(super) fn into_error(self) -> Failure
         ensures { (o : Option Fault) → IsErrorNoted self.error o → IsErrorIn result o }
     {
-        self.error.unwrap_or(Error::OutOfMemory)
+        self.error.unwrap_or(Failure::OutOfMemory)
     }
 }
 
@@ -100,10 +103,17 @@ pub(super) fn refer(
     ensures passed { progress.new.passed ≡ progress.old.passed }
 {
     let Ok(meaning) = meaning_behind(&known.groups, progress.passed, role, target) else {
-        return Err(progress.stop(Error::OutOfMemory));
+        return Err(progress.stop(Failure::OutOfMemory));
     };
     note_form(known, progress, place, role, target);
     note_meaning(known, progress, place, role, meaning)
+}
+
+/// The place of this reach in the pattern.
+pub(super) fn place_in(pattern: &str, reach: usize) -> usize
+    ensures { result ≡ text.place_at (bytes (chars pattern.now)) reach }
+{
+    place_at(pattern.len(), reach)
 }
 
 /// Notes how the reference is written: as a number, as a call, as a call of the whole pattern.
@@ -117,7 +127,8 @@ fn note_form(
     ensures progress { progress_of progress.new
         ≡ form_noted known.now progress.old place role target.now }
 {
-    if is_numeric(known.pattern, place, role, target) {
+    let from_start = place_in(known.pattern, place);
+    if is_numeric(known.pattern, from_start, role, target) {
         progress.numeric = true;
     }
     if let Role::Call = role {
@@ -148,7 +159,7 @@ fn note_meaning(
             if let Role::BackReference = role {
                 if known.groups.is_in_range(number) {
                     let Ok(_) = progress.backrefs.insert(number) else {
-                        return Err(progress.stop(Error::OutOfMemory));
+                        return Err(progress.stop(Failure::OutOfMemory));
                     };
                 } else if progress.out_of_range.is_none() {
                     progress.out_of_range = Some(number);
@@ -157,6 +168,6 @@ fn note_meaning(
             Ok(Some(number))
         }
         Meaning::Unresolved => Ok(None),
-        Meaning::Faulty(kind) => Err(progress.stop(Error::ParseError(place, kind))),
+        Meaning::Faulty(kind) => Err(progress.stop(Failure::At(place, kind))),
     }
 }

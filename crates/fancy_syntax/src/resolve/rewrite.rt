@@ -1,7 +1,8 @@
 //! The second walk: each capturing group becomes a `Group`, and each reference what it means. It stops at the first
 //! fault.
-ghost use Rattle.std.specs.Prelude.{◌≡◌, ◌+◌, ◌<◌, ◌^◌, length, true, false};
+ghost use Rattle.std.specs.Prelude.{◌≡◌, ◌+◌, ◌<◌, ◌^◌, length, true, false, chars};
 ghost use Rattle.fancy_lex.specs.NameViews.{view_target};
+ghost use Rattle.fancy_lex.specs.Text.{bytes, place_at};
 ghost use Rattle.fancy_grammar.specs.Items.{items, items_all, items_absent, items_ast, openings_in};
 ghost use Rattle.fancy_syntax.specs.Notes.{Walks, is_group_read, is_node_read, is_reference, known_of, progress_of, resolved_or};
 ghost use Rattle.fancy_grammar.specs.Tree.{trees_of, ast_node, ast_backref};
@@ -9,7 +10,7 @@ ghost use Rattle.fancy_syntax.specs.View.{view, view_absent, view_ast, views};
 ghost use Rattle.fancy_grammar.specs.Walk.{rebuilt, rebuilt_all, rebuilt_absent};
 
 use crate::expr::{Absent, AstNode, Expr};
-use crate::resolve::notes::{Known, Progress, Stopped, refer};
+use crate::resolve::notes::{Known, Progress, Stopped, place_in, refer};
 use crate::resolve::survey::{is_counted_name, may_hold_items};
 use fancy_lex::name::CaptureGroupTarget;
 use fancy_parts::ranks::Role;
@@ -73,6 +74,8 @@ fn rewrite_node(tree: &mut Expr, known: &Known, progress: &mut Progress) -> Resu
         // The name goes alone, and not with its tree; what stands in its place then takes no memory.
         drop(take_target(node));
         mem::forget(mem::replace(tree, resolved));
+    } else {
+        *place = place_in(known.pattern, *place);
     }
     Ok(())
 }
@@ -149,7 +152,7 @@ fn resolve_reference(
     requires reference { is_reference (view_ast node.now) ≡ true }
     ensures { Walks result (known_of known.now) (progress_of progress.old) (items_ast (view_ast node.now) place)
         progress.new
-        (λ o. resolved_or (ast_node (view_ast node.now) place) o
+        (λ o. resolved_or (ast_node (view_ast node.now) (place_at (bytes (chars known.now.pattern.now)) place)) o
         ≡ rebuilt (known_of known.now) (progress_of progress.old) (ast_node (view_ast node.now) place)) }
 {
     match node {
@@ -199,7 +202,7 @@ fn resolve_backref(
     requires { progress.old.passed < 2 ^ 63 }
     ensures { let node = ast_backref (view_target target.now) casei relative_recursion_level in
         Walks result (known_of known.now) (progress_of progress.old) (items_ast node place) progress.new
-        (λ o. resolved_or (ast_node node place) o
+        (λ o. resolved_or (ast_node node (place_at (bytes (chars known.now.pattern.now)) place)) o
         ≡ rebuilt (known_of known.now) (progress_of progress.old) (ast_node node place)) }
 {
     let Some(group) = refer(known, progress, place, Role::BackReference, target)? else {

@@ -13,7 +13,7 @@ loop-c-init c = record {
   same = (
     suc (bytes (chars c.args.text.now)),
     omega (arith, bytes_chars c.args.text.now c.utf8.text, c.in_ok-rest.ensures.within),
-    class_init _ _ _ _ _ _ (ap chars c.new-out.ensures.bytes ∙ chars-nil) c.in_ok-rest.ensures.value,
+    class_init _ _ _ _ _ (ap chars c.new-out.ensures.bytes ∙ chars-nil) c.in_ok-rest.ensures.value,
   );
   within = omega (arith, c.in_ok-rest.ensures.within);
 }
@@ -22,8 +22,8 @@ pub returns-in_err-escaped-clause-value : goal.returns-in_err-escaped-clause-val
 returns-in_err-escaped-clause-value c =
     let p = err_from_is_err_and c.from_residual-in_err-escaped.result c.from_residual-in_err-escaped.ensures.1 in
     let (k, m, same) = c.loop-c.invariant.same in
-    rw (p.1, p.2, same) (fault_step _ _ _ _ _ _ _ _ c.in-Some.ensures.value k (omega arith) _ _ c.if-c-eq92.true
-    c.place.ensures c.in_err-escaped.ensures.value)
+    rw (p.1, p.2, same) (fault_step _ _ _ _ _ _ _ c.in-Some.ensures.value k (omega arith) _ _ c.if-c-eq92.true
+    c.reach.ensures c.in_err-escaped.ensures.value)
 
 pub loop-c-preserved-then-c-eq92 : goal.loop-c-preserved-then-c-eq92
 loop-c-preserved-then-c-eq92 c =
@@ -33,8 +33,8 @@ loop-c-preserved-then-c-eq92 c =
       same = (
         pred k,
         pred_lt _ _ k (omega (arith, c.in-Some.ensures.shorter, c.in_ok-escaped.ensures.shorter)) m,
-        same ∙ escape_step _ _ _ _ _ _ _ _ c.in-Some.ensures.value k (omega arith) _ _ _ _ _ c.if-c-eq92.true
-            c.place.ensures c.in_ok-escaped.ensures.value c.in_ok-seen.ensures.grown c.in_ok-seen.ensures.seen,
+        same ∙ escape_step _ _ _ _ _ _ _ c.in-Some.ensures.value k (omega arith) _ _ _ _ _ c.if-c-eq92.true
+            c.reach.ensures c.in_ok-escaped.ensures.value c.in_ok-seen.ensures.grown c.in_ok-seen.ensures.seen,
       );
       within = omega (arith, c.in-Some.ensures.shorter, c.in_ok-escaped.ensures.shorter);
     }
@@ -47,7 +47,7 @@ loop-c-preserved-then-c-eq91 c =
       same = (
         pred k,
         pred_lt _ _ k (omega (arith, c.in-Some.ensures.shorter, c.in_ok-rest-2.ensures.within)) m,
-        same ∙ open_step _ _ _ _ _ _ _ _ c.in-Some.ensures.value k (omega arith) _ _ c.if-c-eq91.true
+        same ∙ open_step _ _ _ _ _ _ _ c.in-Some.ensures.value k (omega arith) _ _ c.if-c-eq91.true
             c.in_ok-rest-2.ensures.value,
       );
       within = omega (arith, c.in-Some.ensures.shorter, c.in_ok-rest-2.ensures.within);
@@ -56,7 +56,7 @@ loop-c-preserved-then-c-eq91 c =
 pub returns-then-outer-eq0-clause-value : goal.returns-then-outer-eq0-clause-value
 returns-then-outer-eq0-clause-value c =
     let (k, m, same) = c.loop-c.invariant.same in
-    same ∙ last_step _ _ _ _ _ _ _ _ c.in-Some.ensures.value k (omega arith) _ c.in_ok-push.ensures c.if-c-eq93.true
+    same ∙ last_step _ _ _ _ _ _ _ c.in-Some.ensures.value k (omega arith) _ c.in_ok-push.ensures c.if-c-eq93.true
     c.if-outer-eq0.true
 
 pub loop-c-preserved-then-c-eq93 : goal.loop-c-preserved-then-c-eq93
@@ -67,7 +67,7 @@ loop-c-preserved-then-c-eq93 c =
       same = (
         pred k,
         pred_lt _ _ k (omega (arith, c.in-Some.ensures.shorter)) m,
-        same ∙ close_step _ _ _ _ _ _ _ _ c.in-Some.ensures.value k (omega arith) _ c.in_ok-push.ensures
+        same ∙ close_step _ _ _ _ _ _ _ c.in-Some.ensures.value k (omega arith) _ c.in_ok-push.ensures
             c.if-c-eq93.true c.if-outer-eq0.false,
       );
       within = omega (arith, c.in-Some.ensures.shorter);
@@ -81,7 +81,7 @@ loop-c-preserved c =
       same = (
         pred k,
         pred_lt _ _ k (omega (arith, c.in-Some.ensures.shorter)) m,
-        same ∙ plain_step _ _ _ _ _ _ _ _ c.in-Some.ensures.value k (omega arith) _ c.in_ok-push.ensures
+        same ∙ plain_step _ _ _ _ _ _ _ c.in-Some.ensures.value k (omega arith) _ c.in_ok-push.ensures
             c.if-c-eq92.false c.if-c-eq91.false c.if-c-eq93.false,
       );
       within = omega (arith, c.in-Some.ensures.shorter);
@@ -90,4 +90,4 @@ loop-c-preserved c =
 pub returns-clause-value : goal.returns-clause-value
 returns-clause-value c =
     let (k, m, same) = c.loop-c.invariant.same in
-    same ∙ items_end _ _ k _ _ _ _ c.in_default.ensures.value
+    same ∙ items_end _ k _ _ _ _ c.in_default.ensures.value

@@ -8,7 +8,7 @@ use Rattle.fancy_lex.proofs.class.read_class.Given as goal
 abbrev pub invariant-loop-c : goal.invariant-loop-c
 invariant-loop-c l = record {
   text : shadow (Utf8 l.rest);
-  same : (k : ℕ) × (length l.rest < k) × (spec.class l.end l.flags (chars l.text) ≡ spec.class_from l.end l.flags k
+  same : (k : ℕ) × (length l.rest < k) × (spec.class l.flags (chars l.text) ≡ spec.class_from l.flags k
       l.outer l.seen (text_of l.out) (chars l.rest));
   within : l.outer + length l.rest ≤ length l.text;
 }

@@ -2,6 +2,7 @@ use Rattle.std.proofs.Common.{chars, arith}
 use Rattle.fancy_lex.proofs.EscapeLaws.{leaves_escape}
 use Rattle.fancy_lex.proofs.LeaveLaws.{given_cut, given_place}
 use Rattle.fancy_lex.proofs.ReadingLemmas.{answers_gives}
+use Rattle.fancy_lex.proofs.TextLemmas.{bytes_chars}
 use Rattle.fancy_lex.specs.EscapeViews.{escape_of}
 use Rattle.fancy_lex.proofs.escape.escape.Goals as goal
 
@@ -9,12 +10,13 @@ pub returns-clause-cut : goal.returns-clause-cut
 returns-clause-cut c =
     let a = c.args in
     given_cut escape_of c.read_escape.result
-    (leaves_escape a.end a.flags a.inside a.place (chars a.text.now))
+    (leaves_escape a.flags a.inside a.reach (chars a.text.now))
     (answers_gives escape_of c.read_escape.result _ c.read_escape.ensures.value)
 
 pub returns-clause-place : goal.returns-clause-place
-returns-clause-place c within =
+returns-clause-place c m within long =
     let a = c.args in
-    given_place escape_of c.read_escape.result within (omega arith)
-    (leaves_escape a.end a.flags a.inside a.place (chars a.text.now))
+    given_place escape_of c.read_escape.result within
+    (omega (arith, bytes_chars a.text.now c.utf8.text, long))
+    (leaves_escape a.flags a.inside a.reach (chars a.text.now))
     (answers_gives escape_of c.read_escape.result _ c.read_escape.ensures.value)

@@ -20,6 +20,6 @@ returns-in-None-clause-value c =
       | in_default-c-via-in_default+then-c-lt48 w ↦ grind (arith, nat_tests)
       | in_default-c-via-in_default+else-c-lt48+else-c-lt58 w ↦ grind (arith, nat_tests)
     ] in
-    let unknown = c.lone_escape.ensures.unknown c.in-None.is alone a.end a.place (chars c.in-Some.rest.now) in
-    let is = ap (escape a.end a.flags a.inside a.place) c.in-Some.ensures.value ∙ unknown in
+    let unknown = c.lone_escape.ensures.unknown c.in-None.is alone a.reach (chars c.in-Some.rest.now) in
+    let is = ap (escape a.flags a.inside a.reach) c.in-Some.ensures.value ∙ unknown in
     subst (Reports c.unknown_escape.result) (sym is) c.unknown_escape.ensures

@@ -7,7 +7,7 @@ use Rattle.fancy_lex.proofs.layout.comment.Given as goal
 abbrev pub invariant-loop-c : goal.invariant-loop-c
 invariant-loop-c l = record {
   text : shadow (Utf8 l.rest);
-  same : (x : Bool) → spec.layout_from l.end x spec.comment (chars l.text) ≡ spec.layout_from l.end x spec.comment
+  same : (x : Bool) → spec.layout_from x spec.comment (chars l.text) ≡ spec.layout_from x spec.comment
       (chars l.rest);
   within : length l.rest ≤ length l.text;
 }

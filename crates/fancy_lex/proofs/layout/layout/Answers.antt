@@ -3,10 +3,10 @@ use Rattle.fancy_lex.proofs.LayoutLaws.{derives_from, layout_complete, unclosed_
 use Rattle.fancy_lex.proofs.layout.layout.Goals as goal
 
 pub returns-clause-derives : goal.returns-clause-derives
-returns-clause-derives c = derives_from _ _ _ _ c.read_layout.ensures.value
+returns-clause-derives c = derives_from _ _ _ c.read_layout.ensures.value
 
 pub returns-clause-only : goal.returns-clause-only
-returns-clause-only c v b = sym c.read_layout.ensures.value ∙ layout_complete _ _ _ v b
+returns-clause-only c v b = sym c.read_layout.ensures.value ∙ layout_complete _ _ v b
 
 pub returns-clause-only_fault : goal.returns-clause-only_fault
-returns-clause-only_fault c p b = sym c.read_layout.ensures.value ∙ unclosed_complete _ _ _ p b
+returns-clause-only_fault c p b = sym c.read_layout.ensures.value ∙ unclosed_complete _ _ p b

@@ -1,4 +1,4 @@
-use Rattle.std.proofs.Common.{◌≡◌, ◌≤◌, ℕ, Bool, length, chars}
+use Rattle.std.proofs.Common.{◌≡◌, ◌≤◌, Bool, length, chars}
 use denote.Text.{Utf8}
 use denote.Shadow.{shadow}
 use Rattle.fancy_lex.specs.LayoutSteps as spec
@@ -7,7 +7,7 @@ use Rattle.fancy_lex.proofs.layout.line.Given as goal
 abbrev pub invariant-loop-c : goal.invariant-loop-c
 invariant-loop-c l = record {
   text : shadow (Utf8 l.rest);
-  same : (n : ℕ) (x : Bool) → spec.layout_from n x spec.line (chars l.text) ≡ spec.layout_from n x spec.line
+  same : (x : Bool) → spec.layout_from x spec.line (chars l.text) ≡ spec.layout_from x spec.line
       (chars l.rest);
   within : length l.rest ≤ length l.text;
 }

@@ -7,7 +7,7 @@ use Rattle.fancy_lex.proofs.layout.read_units.Given as goal
 abbrev pub invariant-loop-inside : goal.invariant-loop-inside
 invariant-loop-inside l = record {
   text : shadow (Utf8 l.rest);
-  same : spec.layout_from l.end l.ignore_space spec.between (chars l.text) ≡ spec.layout_from l.end l.ignore_space
+  same : spec.layout_from l.ignore_space spec.between (chars l.text) ≡ spec.layout_from l.ignore_space
       spec.between (chars l.rest);
   within : length l.rest ≤ length l.text;
 }

@@ -7,7 +7,7 @@ pub loop-reading-init : goal.loop-reading-init
 loop-reading-init c =
     let r = c.in_ok-reading.ensures in
     record {
-      reading = r.reading c.args.end;
+      reading = r.reading;
       depth = r.depth;
       within = rw r.here (omega arith);
     }

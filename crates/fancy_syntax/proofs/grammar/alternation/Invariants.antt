@@ -6,7 +6,7 @@ use Rattle.fancy_syntax.proofs.grammar.alternation.Given as goal
 
 abbrev pub invariant-loop-reading : goal.invariant-loop-reading
 invariant-loop-reading l = record {
-  reading : IsReading l.fn.end (state l.fn.start) l.reading;
+  reading : IsReading (state l.fn.start) l.reading;
   depth : length l.reading.stack.items < max_depth;
   within : length l.reading.here.rest.now ≤ length l.fn.start.rest.now;
 }

@@ -7,7 +7,7 @@ use Rattle.fancy_lex.proofs.escape.boundary.bare_boundary.Goals as goal
 
 pub returns-in-None : goal.returns-in-None
 unfolding boundary
-returns-in-None c n p =
-    let no_layout = c.begins_layout.ensures c.if-begins_layout.false n in
+returns-in-None c p =
+    let no_layout = c.begins_layout.ensures c.if-begins_layout.false in
     let no_brace : strip open_brace (chars c.args.text.now) ≡ None = search rules in
     rw (no_layout, no_brace) (ap (λ e. gives e (chars c.args.text.now)) (sym c.unnamed_boundary.ensures))

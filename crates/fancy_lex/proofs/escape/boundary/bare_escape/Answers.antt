@@ -11,14 +11,14 @@ pub returns-in_err-name : goal.returns-in_err-name
 returns-in_err-name c =
     let p = err_from_is_err_and c.from_residual.result c.from_residual.ensures.1 in
     let (k, m, o, told, same) = c.loop-out.invariant.same in
-    record { value = rw (p.1, p.2, same) (name_fault_open _ _ _ _ _ k _ (omega arith) c.in_err-name.ensures.value) }
+    record { value = rw (p.1, p.2, same) (name_fault_open _ _ _ _ k _ (omega arith) c.in_err-name.ensures.value) }
 
 pub returns-in_default : goal.returns-in_default
 returns-in_default c =
     let (k, m, o, told, same) = c.loop-out.invariant.same in
     record {
       value = subst (Reports c.unclosed_fault.result)
-          (sym (same ∙ name_fault_end _ _ _ _ _ k _ c.in_ok-name.ensures.value c.in_default.ensures.value))
+          (sym (same ∙ name_fault_end _ _ _ _ k _ c.in_ok-name.ensures.value c.in_default.ensures.value))
           c.unclosed_fault.ensures;
     }
 
@@ -31,7 +31,7 @@ loop-out-init c = record {
     chars c.boundary_head.result.now,
     λ h. sym (rw (sym c.is_ok-whole.ensures.value ∙ h) at c.append.ensures
         ∙ ap (λ (t : Text). t ++ chars c.boundary_head.result.now) (ap chars c.new-out.ensures.bytes ∙ chars-nil)),
-    name_fault_from _ _ _ _ _ _ c.boundary_head.ensures,
+    name_fault_from _ _ _ _ _ c.boundary_head.ensures,
   );
 }
 
@@ -40,7 +40,7 @@ returns-then-whole c =
     let (k, m, o, told, same) = c.loop-out.invariant.same in
     let (before, added) = c.push_behind-whole.ensures c.if-whole.true in
     record {
-      value = same ∙ name_fault_close _ _ _ _ _ _ c.in_ok-name.ensures.value _ _ c.in-Some.ensures.value k _
+      value = same ∙ name_fault_close _ _ _ _ _ c.in_ok-name.ensures.value _ _ c.in-Some.ensures.value k _
           (omega arith) c.if-c-eq125.true (added ∙ ap (λ (t : Text). t ++ c.in-Some.c ∷ []) (sym (told before)));
     }
 
@@ -48,7 +48,7 @@ pub returns-else-whole : goal.returns-else-whole
 returns-else-whole c =
     let (k, m, o, told, same) = c.loop-out.invariant.same in
     record {
-      value = rw (same ∙ name_fault_close _ _ _ _ _ _ c.in_ok-name.ensures.value _ _ c.in-Some.ensures.value k
+      value = rw (same ∙ name_fault_close _ _ _ _ _ c.in_ok-name.ensures.value _ _ c.in-Some.ensures.value k
           (o ++ c.in-Some.c ∷ []) (omega arith) c.if-c-eq125.true refl) refl;
     }
 
@@ -59,11 +59,11 @@ loop-out-preserved c =
       text = search rules;
       same = (
         pred k,
-        step_length _ _ _ _ _ _ k c.in_ok-name.ensures.value c.in-Some.ensures.value m,
+        step_length _ _ _ _ _ k c.in_ok-name.ensures.value c.in-Some.ensures.value m,
         o ++ c.in-Some.c ∷ [],
         λ h. let (before, added) = c.push_behind-whole.ensures h in
             ap (λ (t : Text). t ++ c.in-Some.c ∷ []) (told before) ∙ sym added,
-        same ∙ name_fault_step _ _ _ _ _ _ c.in_ok-name.ensures.value _ _ c.in-Some.ensures.value k _ (omega arith)
+        same ∙ name_fault_step _ _ _ _ _ c.in_ok-name.ensures.value _ _ c.in-Some.ensures.value k _ (omega arith)
             c.if-c-eq125.false refl,
       );
     }

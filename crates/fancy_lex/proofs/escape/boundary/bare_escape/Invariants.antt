@@ -9,8 +9,8 @@ abbrev pub invariant-loop-out : goal.invariant-loop-out
 invariant-loop-out l = record {
   text : shadow (Utf8 l.rest);
   same : (k : ℕ) × (length (chars l.rest) < k) × (o : Text) × (l.whole ≡ true → o ≡ text_of l.out)
-      × (name_fault l.end l.ignore_space l.place l.negated (chars l.text) ≡ name_fault_behind l.end l.ignore_space
-      l.place o k (chars l.rest));
+      × (name_fault l.ignore_space l.reach l.negated (chars l.text) ≡ name_fault_behind l.ignore_space
+      l.reach o k (chars l.rest));
 }
 
 abbrev pub decreases-loop-out : goal.decreases-loop-out

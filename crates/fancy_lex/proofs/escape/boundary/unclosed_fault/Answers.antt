@@ -6,4 +6,4 @@ use Rattle.fancy_lex.proofs.escape.boundary.unclosed_fault.Goals as goal
 
 pub returns-in-Ok : goal.returns-in-Ok
 unfolding chars
-returns-in-Ok c = ap (λ t. fault_at c.args.place (invalid_escape (chars t))) (sym c.in-Ok.ensures.ok)
+returns-in-Ok c = ap (λ t. fault_at c.args.reach (invalid_escape (chars t))) (sym c.in-Ok.ensures.ok)

@@ -3,21 +3,22 @@ use Rattle.fancy_parts.proofs.LetterRelation.{letters_derive, letters_only}
 use Rattle.fancy_lex.proofs.LeaveLaws.{given_cut, given_place}
 use Rattle.fancy_lex.proofs.ReadingLemmas.{answers_gives}
 use Rattle.fancy_parts.proofs.FlagLaws.{leaves_letters}
+use Rattle.fancy_lex.proofs.TextLemmas.{bytes_chars}
 use Rattle.fancy_parts.specs.FlagReads.{letters_of}
 use Rattle.fancy_parts.proofs.heads.letters.flag_letters.Goals as goal
 
 pub returns-clause-cut : goal.returns-clause-cut
 returns-clause-cut c =
-    given_cut letters_of c.read_letters.result (leaves_letters c.args.end c.args.flags _)
+    given_cut letters_of c.read_letters.result (leaves_letters c.args.flags _)
     (answers_gives letters_of c.read_letters.result _ c.read_letters.ensures.value)
 
 pub returns-clause-place : goal.returns-clause-place
 returns-clause-place c =
-    given_place letters_of c.read_letters.result (omega arith) (omega arith) (leaves_letters c.args.end c.args.flags _)
+    given_place letters_of c.read_letters.result (omega (arith, bytes_chars c.args.text.now c.utf8.text)) (omega (arith, bytes_chars c.args.text.now c.utf8.text)) (leaves_letters c.args.flags _)
     (answers_gives letters_of c.read_letters.result _ c.read_letters.ensures.value)
 
 pub returns-clause-derives : goal.returns-clause-derives
-returns-clause-derives c = letters_derive _ _ _ _ c.read_letters.ensures.value
+returns-clause-derives c = letters_derive _ _ _ c.read_letters.ensures.value
 
 pub returns-clause-only : goal.returns-clause-only
-returns-clause-only c o h = letters_only _ _ _ _ c.read_letters.ensures.value o h
+returns-clause-only c o h = letters_only _ _ _ c.read_letters.ensures.value o h

@@ -12,7 +12,7 @@ loop-here-init c = record {
   steps = (
     suc (bytes (chars c.args.text.now)),
     omega (arith, bytes_chars c.args.text.now c.utf8.text),
-    letters_start _ _ _,
+    letters_start _ _,
   );
   behind = ([], refl);
   within = omega arith;
@@ -22,29 +22,29 @@ pub returns-in_err-here-clause-value : goal.returns-in_err-here-clause-value
 returns-in_err-here-clause-value c =
     let (k, h, e) = c.loop-here.invariant.steps in
     let is = err_from_is_err_and c.from_residual.result c.from_residual.ensures.1 in
-    rw (is.1, is.2, e) (in_layout_fault _ _ _ _ _ k _ h _ c.in_err-here.ensures.value)
+    rw (is.1, is.2, e) (in_layout_fault _ _ _ _ k _ h _ c.in_err-here.ensures.value)
 
-pub flag_letter-requires-clause-behind : goal.flag_letter-requires-clause-behind
-flag_letter-requires-clause-behind c =
+pub flag_letter-requires : goal.flag_letter-requires
+flag_letter-requires c =
     let cut = c.in_ok-here.ensures.cut in behind_more _ _ _ _ c.loop-here.invariant.behind cut.1
 
 pub returns-in_err-step-clause-value : goal.returns-in_err-step-clause-value
 returns-in_err-step-clause-value c =
     let (k, h, e) = c.loop-here.invariant.steps in
     let is = err_from_is_err_and c.from_residual-in_err-step.result c.from_residual-in_err-step.ensures.1 in
-    rw (is.1, is.2, e) (in_letter_fault _ _ _ _ _ k _ h _ c.in_ok-here.ensures.value _ c.in_err-step.ensures.value)
+    rw (is.1, is.2, e) (in_letter_fault _ _ _ _ k _ h _ c.in_ok-here.ensures.value _ c.in_err-step.ensures.value)
 
 pub returns-in-Ends-clause-value : goal.returns-in-Ends-clause-value
 returns-in-Ends-clause-value c =
     let (k, h, e) = c.loop-here.invariant.steps in
-    e ∙ in_end _ _ _ _ _ k _ h _ c.in_ok-here.ensures.value _ _ (rw c.in-Ends.is at c.in_ok-step.ensures.value)
+    e ∙ in_end _ _ _ _ k _ h _ c.in_ok-here.ensures.value _ _ (rw c.in-Ends.is at c.in_ok-step.ensures.value)
 
 pub loop-here-preserved : goal.loop-here-preserved
 loop-here-preserved c =
     let (k, h, e) = c.loop-here.invariant.steps in
     let less : length c.in_ok-step.behind.now < length c.loop-here.rest.now =
     omega (arith, c.in_ok-step.ensures.shorter, c.in_ok-here.ensures.within) in
-    let (j, i, f) = in_go _ _ _ _ _ k _ h _ c.in_ok-here.ensures.value _ _ _ _ less
+    let (j, i, f) = in_go _ _ _ _ k _ h _ c.in_ok-here.ensures.value _ _ _ _ less
     (rw c.in-GoesOn.is at c.in_ok-step.ensures.value) in
     let (x, y) = c.in_ok-step.ensures.one_on in
     let cut = c.in_ok-here.ensures.cut in record {

@@ -8,7 +8,7 @@ use Rattle.fancy_parts.proofs.heads.letters.read_letters.Given as goal
 abbrev pub invariant-loop-here : goal.invariant-loop-here
 invariant-loop-here l = record {
   text : shadow (Utf8 l.rest);
-  steps : (k : ℕ) × (length l.rest < k) × (spec.letters l.end l.fn.flags (chars l.text) ≡ spec.letters_in l.end
+  steps : (k : ℕ) × (length l.rest < k) × (spec.letters l.fn.flags (chars l.text) ≡ spec.letters_in
       (chars l.text) k l.clears l.flags (chars l.rest));
   behind : (w : Text) × (chars l.text ≡ w ++ chars l.rest);
   within : length l.rest ≤ length l.text;

@@ -13,36 +13,36 @@ pub returns-in_err-quantify_once-clause-value : goal.returns-in_err-quantify_onc
 returns-in_err-quantify_once-clause-value c =
     let e = err_from_is_err_and c.from_residual.result c.from_residual.ensures.1 in
     rw (e.1, e.2)
-    (IsErrorAmong-map (λ o. quant c.args.end c.byte_len-before.result (view c.loop-behind.tree)
+    (IsErrorAmong-map (λ o. quant c.byte_len-before.result (view c.loop-behind.tree)
     (state c.loop-behind.here) ≡ o)
-    (λ o. adjacent max_adjacent c.args.end c.args.depth (view c.args.tree.now) (state c.args.here.now) ≡ o)
+    (λ o. adjacent max_adjacent c.args.depth (view c.args.tree.now) (state c.args.here.now) ≡ o)
     c.in_err-quantify_once.field-0.0
     (λ k p h. c.loop-behind.invariant.value
-    ∙ adjacent_fault _ _ _ _ _ (from_start _ _ _ _ (fault k p) c.byte_len-before.ensures h))
+    ∙ adjacent_fault _ _ _ _ (from_start _ _ _ (fault k p) c.byte_len-before.ensures h))
     c.in_err-quantify_once.ensures.value)
 
 pub returns-then-byte_len-before-clause-value : goal.returns-then-byte_len-before-clause-value
 returns-then-byte_len-before-clause-value c =
-    let once = from_start c.args.end c.byte_len-before.result (view c.loop-behind.tree) (state c.loop-behind.here)
+    let once = from_start c.byte_len-before.result (view c.loop-behind.tree) (state c.loop-behind.here)
     (done (view c.quantify_once.new.tree) (state c.quantify_once.new.here)) c.byte_len-before.ensures
     c.in_ok-quantify_once.ensures.value in
     c.loop-behind.invariant.value
-    ∙ adjacent_ends _ _ _ _ _ once (unmoved_is _ _ _ (sym c.byte_len.ensures ∙ c.if-byte_len-before.true)
+    ∙ adjacent_ends _ _ _ _ once (unmoved_is _ _ _ (sym c.byte_len.ensures ∙ c.if-byte_len-before.true)
     (sym c.byte_len-before.ensures))
 
 pub returns-then-not-may_count-clause-value : goal.returns-then-not-may_count-clause-value
 returns-then-not-may_count-clause-value c =
-    let once = from_start c.args.end c.byte_len-before.result (view c.loop-behind.tree) (state c.loop-behind.here)
+    let once = from_start c.byte_len-before.result (view c.loop-behind.tree) (state c.loop-behind.here)
     (done (view c.quantify_once.new.tree) (state c.quantify_once.new.here)) c.byte_len-before.ensures
     c.in_ok-quantify_once.ensures.value in
     c.loop-behind.invariant.value
-    ∙ rw c.place-behind.ensures (adjacent_stops _ _ _ _ _ once
+    ∙ rw c.reach-behind.ensures (adjacent_stops _ _ _ _ once
     (moved_is _ _ _ _ (sym c.byte_len.ensures) (sym c.byte_len-before.ensures) c.if-byte_len-before.false)
     (sym c.may_count.ensures ∙ c.if-not-may_count.true))
 
 pub loop-behind-preserved : goal.loop-behind-preserved
 loop-behind-preserved c =
-    let once = from_start c.args.end c.byte_len-before.result (view c.loop-behind.tree) (state c.loop-behind.here)
+    let once = from_start c.byte_len-before.result (view c.loop-behind.tree) (state c.loop-behind.here)
     (done (view c.quantify_once.new.tree) (state c.quantify_once.new.here)) c.byte_len-before.ensures
     c.in_ok-quantify_once.ensures.value in
     let counts = sym c.may_count.ensures ∙ c.if-not-may_count.false in
@@ -50,7 +50,7 @@ loop-behind-preserved c =
     let one : c.loop-behind.more ≡ (c.loop-behind.more - 1) + 1 = omega (arith, some.0) in
     record {
       value = c.loop-behind.invariant.value
-          ∙ adjacent_counts c.loop-behind.more (c.loop-behind.more - 1) _ _ _ _ once
+          ∙ adjacent_counts c.loop-behind.more (c.loop-behind.more - 1) _ _ _ once
           (moved_is _ _ _ _ (sym c.byte_len.ensures) (sym c.byte_len-before.ensures) c.if-byte_len-before.false) counts
           one;
       deep = some.1;

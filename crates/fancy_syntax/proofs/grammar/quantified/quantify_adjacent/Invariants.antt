@@ -7,8 +7,8 @@ use Rattle.fancy_syntax.proofs.grammar.quantified.quantify_adjacent.Given as goa
 
 abbrev pub invariant-loop-behind : goal.invariant-loop-behind
 invariant-loop-behind l = record {
-  value : spec.adjacent spec.max_adjacent l.fn.end l.fn.depth (view l.fn.tree) (state l.fn.here)
-      ≡ spec.adjacent l.more l.fn.end l.depth (view l.tree) (state l.here);
+  value : spec.adjacent spec.max_adjacent l.fn.depth (view l.fn.tree) (state l.fn.here)
+      ≡ spec.adjacent l.more l.depth (view l.tree) (state l.here);
   deep : l.depth < max_depth;
   within : length l.here.rest.now ≤ length l.fn.here.rest.now;
 }

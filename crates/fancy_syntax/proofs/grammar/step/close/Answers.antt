@@ -17,8 +17,8 @@ returns-in_err-atom-clause-value c =
     let e = err_from_is_err_and c.from_residual.result c.from_residual.ensures.1 in
     rw (e.1, e.2)
     (IsErrorAmong-map
-    (λ q. ended_part c.args.end (part_of c.args.opener) (view c.args.inner) (state c.args.here.now) ≡ q)
-    (Piece c.args.end c.args.depth s)
+    (λ q. ended_part (part_of c.args.opener) (view c.args.inner) (state c.args.here.now) ≡ q)
+    (Piece c.args.depth s)
     c.in_err-atom.field-0.0 (λ k q h. ended_fault (view c.args.inner) (state c.args.here.now) o p
     (λ _ _. c.requires.last) h) c.in_err-atom.ensures.value)
 
@@ -28,9 +28,9 @@ returns-then-is_unquantified-clause-value c =
     closes (view c.args.inner) (state c.args.here.now) (Ok (step.Piece _)) _ o p
     (sym c.goes_on-has_body.ensures ∙ c.if-not-has_body.true) c.requires.last
     c.in_ok-atom.ensures.value i
-    (ap (λ (f : Flags). quants c.args.end c.args.depth c.args.left (view c.in_ok-atom.atom)
+    (ap (λ (f : Flags). quants c.args.depth c.args.left (view c.in_ok-atom.atom)
     (record (state c.end_part.new.here) { flags = f })) (sym j)
-    ∙ c.is_unquantified.ensures c.if-is_unquantified.true _ _ _ _)
+    ∙ c.is_unquantified.ensures c.if-is_unquantified.true _ _ _)
 
 pub returns-then-not-has_body-clause-value : goal.returns-then-not-has_body-clause-value
 returns-then-not-has_body-clause-value c =

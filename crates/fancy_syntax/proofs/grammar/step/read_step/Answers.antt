@@ -14,15 +14,15 @@ use Rattle.fancy_syntax.proofs.grammar.step.read_step.Goals as goal
 pub returns-in_err-here-clause-value : goal.returns-in_err-here-clause-value
 returns-in_err-here-clause-value c =
     let e = err_from_is_err_and c.from_residual.result c.from_residual.ensures.1 in
-    let (p, is, layout) = c.in_err-here.ensures.value in rw (e.1, e.2) (steps_layout _ _ _ _ is layout)
+    let (p, is, layout) = c.in_err-here.ensures.value in rw (e.1, e.2) (steps_layout _ _ _ is layout)
 
 pub returns-in_err-read_atom_start-clause-value : goal.returns-in_err-read_atom_start-clause-value
 returns-in_err-read_atom_start-clause-value c =
     let e = err_from_is_err_and c.from_residual-in_err-read_atom_start.result
     c.from_residual-in_err-read_atom_start.ensures.1 in
     rw (e.1, e.2)
-    (IsErrorAmong-map (λ o. ahead c.args.end c.args.depth _ ≡ leaf o)
-    (Piece c.args.end c.args.depth (state c.args.here.now))
+    (IsErrorAmong-map (λ o. ahead c.args.depth _ ≡ leaf o)
+    (Piece c.args.depth (state c.args.here.now))
     c.in_err-read_atom_start.field-0.0 (λ k p h. piece c.in_ok-here.ensures.value (atom h a_leaf refl) refl)
     c.in_err-read_atom_start.ensures.value)
 
@@ -30,7 +30,7 @@ pub returns-then-is_unquantified-clause-value : goal.returns-then-is_unquantifie
 returns-then-is_unquantified-clause-value c =
     steps_piece (state c.args.here.now) (Ok (step.Piece _)) _ c.byte_len-left.ensures c.in_ok-here.ensures.value
     (atom (rw c.in-Leaf.is at c.in_ok-read_atom_start.ensures.value) a_leaf refl)
-    (c.is_unquantified.ensures c.if-is_unquantified.true _ _ _ _)
+    (c.is_unquantified.ensures c.if-is_unquantified.true _ _ _)
 
 pub returns-else-is_unquantified-clause-value : goal.returns-else-is_unquantified-clause-value
 returns-else-is_unquantified-clause-value c =
@@ -47,7 +47,7 @@ returns-in-Nothing-clause-value c =
 pub returns-in-Nothing-clause-shorter : goal.returns-in-Nothing-clause-shorter
 returns-in-Nothing-clause-shorter c =
     let stays = rw c.in-Nothing.is at c.in_ok-read_atom_start.ensures.stays in
-    nothing_shorter c.args.end c.args.depth _ _ _ _ (state c.args.here.now) _ _ _
+    nothing_shorter c.args.depth _ _ _ _ (state c.args.here.now) _ _ _
     (rw c.in-Nothing.is at c.in_ok-read_atom_start.ensures.value) c.requires.more
     c.byte_len-left.ensures (rw (view_Empty, stays) at c.piece.ensures.value) c.in_ok-here.ensures.within
     c.in_ok-here.ensures.unmoved
@@ -55,7 +55,7 @@ returns-in-Nothing-clause-shorter c =
 
 pub returns-in-Group-clause-value : goal.returns-in-Group-clause-value
 returns-in-Group-clause-value c =
-    rw c.place.ensures (a_group c.in_ok-here.ensures.value (rw c.in-Group.is at c.in_ok-read_atom_start.ensures.value))
+    rw c.reach.ensures (a_group c.in_ok-here.ensures.value (rw c.in-Group.is at c.in_ok-read_atom_start.ensures.value))
 
 pub returns-in-Condition-clause-value : goal.returns-in-Condition-clause-value
 returns-in-Condition-clause-value c = a_condition c.in_ok-here.ensures.value

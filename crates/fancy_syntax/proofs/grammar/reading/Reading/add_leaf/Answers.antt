@@ -3,7 +3,7 @@ use Rattle.fancy_syntax.proofs.grammar.reading.Reading.add_leaf.Goals as goal
 
 pub returns-in-Some-clause-reading : goal.returns-in-Some-clause-reading
 returns-in-Some-clause-reading c start h =
-    let plain = c.in-Some.ensures.plain c.args.end in
+    let plain = c.in-Some.ensures.plain in
     running_piece _ h plain.more (plain.piece _) (rw c.in_ok-leaf.ensures at c.in_ok-add.ensures)
 
 pub returns-clause-reading : goal.returns-clause-reading

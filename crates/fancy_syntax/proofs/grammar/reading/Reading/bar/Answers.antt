@@ -10,10 +10,10 @@ pub returns-in_err-bar-clause-reading : goal.returns-in_err-bar-clause-reading
 returns-in_err-bar-clause-reading c start h =
     let e = err_from_is_err_and c.from_residual.result c.from_residual.ensures.1 in
     let rest = (state c.args.self.now.here).rest in
-    rw (e.1, e.2) (IsErrorAmong-map (IsFaultOfBar (part_of c.args.self.now.frame.opener) c.args.end rest)
-    (Alternation c.args.end 0 start) c.in_err-bar.field-0.0
+    rw (e.1, e.2) (IsErrorAmong-map (IsFaultOfBar (part_of c.args.self.now.frame.opener) rest)
+    (Alternation 0 start) c.in_err-bar.field-0.0
     (λ k p a. running_bar_fault _ h c.requires.last c.requires.bar a)
-    (c.in_err-bar.ensures.fault c.args.end rest c.place-place.ensures))
+    (c.in_err-bar.ensures.fault rest c.reach-reach.ensures))
 
 pub returns-clause-reading : goal.returns-clause-reading
 returns-clause-reading c start h =

@@ -29,9 +29,9 @@ returns-in_err-step-clause-reading c start h =
     (rw g.after c.in-Some.ensures.items) in
     let n : c.len.result ≡ length c.pop.new.self.items = omega (arith, c.len.ensures, c.pop.new.self.ok.0) in
     let e = err_from_is_err_and c.from_residual-in_err-step.result c.from_residual-in_err-step.ensures.1 in
-    rw (e.1, e.2) (IsErrorAmong-map (Piece c.args.end c.len.result w.here)
-    (Alternation c.args.end 0 start) c.in_err-step.field-0.0
-    (λ k p a. running_fault w.outer w.more (subst (λ d. Piece c.args.end d w.here (fault k p)) n a))
+    rw (e.1, e.2) (IsErrorAmong-map (Piece c.len.result w.here)
+    (Alternation 0 start) c.in_err-step.field-0.0
+    (λ k p a. running_fault w.outer w.more (subst (λ d. Piece d w.here (fault k p)) n a))
     (c.in_err-step.ensures.value w.here w.inside w.began.0 w.began.1 (rw n w.opens) (rw n w.whole)))
 
 pub returns-clause-reading : goal.returns-clause-reading
@@ -45,7 +45,7 @@ returns-clause-reading c start h =
     (rw g.after c.in-Some.ensures.items) in
     let n : c.len.result ≡ length c.pop.new.self.items = omega (arith, c.len.ensures, c.pop.new.self.ok.0) in
     let made = c.in_ok-step.step in
-    let steps = subst (λ d. IsStep c.args.end d w.here made (state c.close.new.here)) n
+    let steps = subst (λ d. IsStep d w.here made (state c.close.new.here)) n
     (c.in_ok-step.ensures.value w.here w.inside w.began.0 w.began.1 (rw n w.opens) (rw n w.whole)) in
     let taken = c.in_ok-take.ensures in
     rw taken.here (running_step made w.outer w.began w.more steps taken.taken)

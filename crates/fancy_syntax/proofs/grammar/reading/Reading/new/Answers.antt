@@ -6,7 +6,7 @@ use Rattle.fancy_syntax.proofs.MachineLemmas.{running_start}
 use Rattle.fancy_syntax.proofs.grammar.reading.Reading.new.Goals as goal
 
 pub returns-clause-reading : goal.returns-clause-reading
-returns-clause-reading c n =
+returns-clause-reading c =
     let f = c.new.ensures in
-    running_start n (state c.args.start) _ _ _ c.new-2.ensures.items (ap views c.in_ok-with_capacity.ensures.items)
+    running_start (state c.args.start) _ _ _ c.new-2.ensures.items (ap views c.in_ok-with_capacity.ensures.items)
     f.branches f.pieces (ap part_of f.opener)
