@@ -5,9 +5,8 @@ use Rattle.std.proofs.Math.Seq.{drop-append_seam}
 use Rattle.std.proofs.lemmas.List.{set_split, take_all, take-append-le, take-take, length-take-le}
 use Rattle.std.proofs.lemmas.List.Edits.{paste-paste, length-paste, paste_none}
 use Rattle.std.proofs.Math.Seq.{paste}
-use Rattle.fancy_grammar.specs.Tree.{Tree, Trees, no_trees, more_trees, concat, alt, group, look_around, repeat}
-use Rattle.fancy_grammar.specs.Tree.{atomic_group, conditional, absent, define_group, repeater, expression, stopper}
-use Rattle.fancy_grammar.specs.Tree.{clear, list_of, children}
+use Rattle.fancy_grammar.specs.Label as label
+use Rattle.fancy_grammar.specs.Tree.{Tree, leaf, over, row as row_of, Trees, no_trees, more_trees, list_of, children}
 use Rattle.fancy_parts.specs.Room.{in_word}
 use Rattle.fancy_c.specs.Buffer.{put_at}
 use Rattle.fancy_c.specs.Node.{listed, listed_all, listed_each, carried, texts, row, rows}
@@ -22,23 +21,11 @@ listed_list (more_trees t ts) = ap (λ l. listed t ++ l) (listed_list ts)
 one : (t : Tree) → listed t ≡ listed_each (t ∷ [])
 one t = sym (append-nil (listed t))
 
-two : (t u : Tree) → listed t ++ listed u ≡ listed_each (t ∷ u ∷ [])
-two t u = ap (λ l. listed t ++ l) (one u)
-
 pub listed_is : (t : Tree) → listed t ≡ t ∷ listed_each (children t)
-listed_is (concat ts) = ap (λ l. concat ts ∷ l) (listed_list ts)
-listed_is (alt ts) = ap (λ l. alt ts ∷ l) (listed_list ts)
-listed_is (group t) = ap (λ l. group t ∷ l) (one t)
-listed_is (look_around t k) = ap (λ l. look_around t k ∷ l) (one t)
-listed_is (repeat t lo hi greedy) = ap (λ l. repeat t lo hi greedy ∷ l) (one t)
-listed_is (atomic_group t) = ap (λ l. atomic_group t ∷ l) (one t)
-listed_is (conditional c t f) = ap (λ l. conditional c t f ∷ (listed c ++ l)) (two t f)
-listed_is (absent (repeater t)) = ap (λ l. absent (repeater t) ∷ l) (one t)
-listed_is (absent (expression a e)) = ap (λ l. absent (expression a e) ∷ l) (two a e)
-listed_is (absent (stopper t)) = ap (λ l. absent (stopper t) ∷ l) (one t)
-listed_is (absent clear) = refl
-listed_is (define_group t) = ap (λ l. define_group t ∷ l) (one t)
-listed_is _ = refl
+listed_is (leaf l) = refl
+listed_is (over (label.ast_group name place) t) = refl
+listed_is (over w t) = ap (λ l. over w t ∷ l) (one t)
+listed_is (row_of r ts) = ap (λ l. row_of r ts ∷ l) (listed_list ts)
 
 -- ---- texts and rows of several nodes
 

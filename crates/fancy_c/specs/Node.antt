@@ -9,11 +9,13 @@ use Rattle.fancy_grammar.specs.declared.kinds.BacktrackingControlVerb.{Backtrack
 use Rattle.fancy_grammar.specs.declared.kinds.BacktrackingControlVerb.TheVariants as verbs
 use Rattle.fancy_grammar.specs.declared.kinds.LookAround.{LookAround}
 use Rattle.fancy_grammar.specs.declared.kinds.LookAround.TheVariants as looks
+use Rattle.fancy_grammar.specs.Label as label
+use Rattle.fancy_grammar.specs.Label.{AstReference, ast_call}
 use Rattle.fancy_grammar.specs.Tree.{Tree, empty, any, assertion, general_newline, literal, literal_bytes, concat, alt}
 use Rattle.fancy_grammar.specs.Tree.{group, look_around, repeat, delegate, backref, backref_at_level, atomic_group}
-use Rattle.fancy_grammar.specs.Tree.{keep_out, continue_from_previous_match_end, backref_exists, conditional}
-use Rattle.fancy_grammar.specs.Tree.{subroutine_call, verb, absent, define_group, ast_node, Trees, no_trees, more_trees}
-use Rattle.fancy_grammar.specs.Tree.{AbsentTree, repeater, expression, stopper, clear, AstTree, ast_call}
+use Rattle.fancy_grammar.specs.Tree.{keep_out, continue_from_previous_match_end, backref_exists, subroutine_call, verb}
+use Rattle.fancy_grammar.specs.Tree.{define_group, ast_node, ast_group, Trees, no_trees, more_trees, repeater, stopper}
+use Rattle.fancy_grammar.specs.Tree.{clear, leaf, over, row as row_of}
 use Rattle.fancy_c.specs.declared.node.Node.{Node}
 use Rattle.fancy_c.specs.declared.node.Stand.{Stand}
 use Rattle.fancy_c.specs.declared.node.TheConstants as number
@@ -54,12 +56,6 @@ verb_number verbs.Commit = number.COMMIT
 verb_number verbs.Skip = number.SKIP
 verb_number verbs.Prune = number.PRUNE
 
-abbrev pub absent_number : AbsentTree → ℕ
-absent_number (repeater t) = number.REPEATER
-absent_number (expression a e) = number.EXPRESSION
-absent_number (stopper t) = number.STOPPER
-absent_number clear = number.CLEAR
-
 -- ---- what a node carries
 
 -- the name that is called, where it is one
@@ -67,16 +63,12 @@ abbrev pub target_name : Target → List ℕ
 target_name (by_name w) = encode_utf8_all w
 target_name _ = []
 
-abbrev pub called_name : AstTree → List ℕ
-called_name (ast_call t) = target_name t
-called_name _ = []
-
 -- the bytes of a node's text
 abbrev pub carried : Tree → List ℕ
 carried (literal s casei) = encode_utf8_all s
 carried (literal_bytes b) = b
 carried (delegate s casei) = encode_utf8_all s
-carried (ast_node node place) = called_name node
+carried (ast_node (ast_call t) place) = target_name t
 carried _ = []
 
 -- ---- the row of a node
@@ -115,9 +107,13 @@ row_of_call s (by_number n) p = record (plain number.AST_NODE s 0) { which = num
 row_of_call s (by_name w) p = record (with_text s number.AST_NODE w false) { which = number.BY_NAME; place = p }
 row_of_call s (relative z) p = record (plain number.AST_NODE s 0) { which = number.RELATIVE; level = z; place = p }
 
-abbrev pub row_of_read : Stand → AstTree → ℕ → Node
+abbrev pub row_of_read : Stand → AstReference → ℕ → Node
 row_of_read s (ast_call t) p = row_of_call s t p
 row_of_read s _ p = plain number.AST_NODE s 0
+
+-- of an absent form
+abbrev pub absent_row : Stand → ℕ → Node
+absent_row s n = record (plain number.ABSENT s 0) { which = n }
 
 abbrev pub row : Stand → Tree → Node
 row s empty = plain number.EMPTY s 0
@@ -139,12 +135,16 @@ row s (atomic_group t) = plain number.ATOMIC_GROUP s 0
 row s keep_out = plain number.KEEP_OUT s 0
 row s continue_from_previous_match_end = plain number.CONTINUE_FROM_PREVIOUS_MATCH_END s 0
 row s (backref_exists n l) = condition s n l
-row s (conditional c t f) = plain number.CONDITIONAL s 0
+row s (row_of label.conditional ts) = plain number.CONDITIONAL s 0
 row s (subroutine_call n) = record (plain number.SUBROUTINE_CALL s 0) { number = n }
 row s (verb v) = record (plain number.VERB s 0) { which = verb_number v }
-row s (absent a) = record (plain number.ABSENT s 0) { which = absent_number a }
+row s (repeater t) = absent_row s number.REPEATER
+row s (row_of label.expression ts) = absent_row s number.EXPRESSION
+row s (stopper t) = absent_row s number.STOPPER
+row s clear = absent_row s number.CLEAR
 row s (define_group t) = plain number.DEFINE_GROUP s 0
-row s (ast_node node place) = row_of_read s node place
+row s (ast_node r place) = row_of_read s r place
+row s (ast_group name place t) = plain number.AST_NODE s 0
 
 -- ---- the rows of a tree
 
@@ -152,26 +152,14 @@ row s (ast_node node place) = row_of_read s node place
 -- group that is not resolved, so that one has no case here, as it has in `preorder`.
 abbrev mutual
   pub listed : Tree → List Tree
-  listed (concat ts) = concat ts ∷ listed_all ts
-  listed (alt ts) = alt ts ∷ listed_all ts
-  listed (group t) = group t ∷ listed t
-  listed (look_around t l) = look_around t l ∷ listed t
-  listed (repeat t lo hi greedy) = repeat t lo hi greedy ∷ listed t
-  listed (atomic_group t) = atomic_group t ∷ listed t
-  listed (conditional c t f) = conditional c t f ∷ (listed c ++ (listed t ++ listed f))
-  listed (absent a) = absent a ∷ listed_absent a
-  listed (define_group t) = define_group t ∷ listed t
-  listed t = t ∷ []
+  listed (leaf l) = leaf l ∷ []
+  listed (over (label.ast_group name place) t) = ast_group name place t ∷ []
+  listed (over w t) = over w t ∷ listed t
+  listed (row_of r ts) = row_of r ts ∷ listed_all ts
 
   pub listed_all : Trees → List Tree
   listed_all no_trees = []
   listed_all (more_trees t ts) = listed t ++ listed_all ts
-
-  pub listed_absent : AbsentTree → List Tree
-  listed_absent (repeater t) = listed t
-  listed_absent (expression a e) = listed a ++ listed e
-  listed_absent (stopper t) = listed t
-  listed_absent clear = []
 
 -- their texts, one behind the other
 abbrev pub texts : List Tree → List ℕ

@@ -217,7 +217,7 @@ fn verb_number(verb: BacktrackingControlVerb) -> u32
 
 /// The number of the absent form.
 fn absent_number(absent: &Absent) -> u32
-    ensures { result ≡ spec.absent_number (view_absent absent.now) }
+    ensures { (s : _) → spec.row s (view_absent absent.now) ≡ spec.absent_row s result }
 {
     match absent {
         Absent::Repeater(_) => REPEATER,
@@ -240,7 +240,7 @@ fn target_name(target: &CaptureGroupTarget) -> &[u8]
 
 /// The name that is called, of a node that was read and not resolved.
 fn called_name(node: &AstNode) -> &[u8]
-    ensures { result.now ≡ spec.called_name (view_ast node.now) }
+    ensures { (place : _) → result.now ≡ spec.carried (view_ast node.now place) }
 {
     match node {
         AstNode::SubroutineCall(target) => target_name(target),
@@ -334,7 +334,7 @@ impl Stand {
 
     /// A node that was read and not resolved.
     fn read_node(self, node: &AstNode, place: usize) -> Node
-        ensures { result ≡ spec.row_of_read self (view_ast node.now) place }
+        ensures { result ≡ spec.row self (view_ast node.now place) }
     {
         match node {
             AstNode::SubroutineCall(target) => self.call(target, place),

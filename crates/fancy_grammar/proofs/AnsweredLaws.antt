@@ -1,5 +1,5 @@
 -- What is true of every answered tree, by the nodes of the raw tree that it was resolved from.
-use Rattle.std.proofs.Common.{◌≡◌, ℕ, ℤ, suc, ◌≤◌, ◌==◌, Bool, true, false, ◌||◌, if◌then◌else◌, List, [], ◌∷◌, length}
+use Rattle.std.proofs.Common.{◌≡◌, ℕ, suc, ◌≤◌, ◌==◌, Bool, true, false, ◌||◌, if◌then◌else◌, List, [], ◌∷◌, length}
 use Rattle.std.proofs.Common.{Option, Some, None, filter, filter_map, map, nat_le, nat_lt, refl, sym, ap, ◌∙◌, subst}
 use Rattle.std.specs.List.{AllByRecursion, list_any}
 use Rattle.std.proofs.lemmas.List.{length-map}
@@ -9,27 +9,30 @@ use Rattle.fancy_lex.specs.Target.{Target, by_number, by_name, relative}
 use Rattle.fancy_lex.specs.Text.{Text, bytes}
 use Rattle.fancy_lex.specs.declared.flags.Flags.{Flags}
 use Rattle.fancy_parts.specs.Meaning.{Meaning, number, unresolved, faulty, means, meaning, back_to, last_of}
-use Rattle.fancy_parts.specs.Meaning.{group_or_none, no_group, at_distance, Role, back_reference, call, condition, AnyReference}
+use Rattle.fancy_parts.specs.Meaning.{group_or_none, no_group, at_distance, Role, back_reference, condition}
+use Rattle.fancy_parts.specs.Meaning.{AnyReference}
 use Rattle.fancy_parts.specs.Meaning.{fault_or, first_fault}
 use Rattle.fancy_parts.specs.Ranks.{Opening, is_counted, numbers, openings_before, only_named, numbered_openings_in}
 use Rattle.fancy_parts.specs.Ranks.{numbered_openings}
 use Rattle.fancy_grammar.specs.Answer.{IsTreeOf}
-use Rattle.fancy_grammar.specs.Answered.{IsAnsweredNode, IsAnswered, IsAnsweredWith, AreNamed, is_group, groups}
+use Rattle.fancy_grammar.specs.Answered.{is_call_as_read, IsAnsweredNode, IsAnswered, IsAnsweredWith, AreNamed}
+use Rattle.fancy_grammar.specs.Answered.{is_group, groups}
 use Rattle.fancy_grammar.specs.Answered.{is_call_node, has_call, group_referred, groups_referred, numbered_in}
 use Rattle.fancy_grammar.specs.Answered.{numbered_groups, HasGroupsOf}
 use Rattle.fancy_grammar.specs.Grammar.{DerivesTree}
-use Rattle.fancy_grammar.specs.Items.{openings_in, references_in, openings, references}
+use Rattle.fancy_grammar.specs.Items.{openings_in, references_in, openings, references, role_of, target_of}
+use Rattle.fancy_grammar.specs.Label as label
+use Rattle.fancy_grammar.specs.Label.{AstReference, ast_backref, ast_call, ast_condition}
 use Rattle.fancy_grammar.specs.Marks.{Marks, marks, is_call, back_number, back_numbers, ascending}
 use Rattle.fancy_grammar.specs.Preorder.{preorder}
 use Rattle.fancy_grammar.specs.Resolved.{resolved_in, resolved_all, reference_node}
-use Rattle.fancy_grammar.specs.Tree.{Tree, Trees, no_trees, more_trees, literal, literal_bytes, alt, group, backref}
-use Rattle.fancy_grammar.specs.Tree.{backref_at_level, backref_exists, subroutine_call, ast_node, ast_group}
-use Rattle.fancy_grammar.specs.Tree.{ast_backref, ast_call, ast_condition, list_of}
+use Rattle.fancy_grammar.specs.Tree.{Tree, leaf, over, row, Trees, no_trees, more_trees, group, ast_node, ast_group}
+use Rattle.fancy_grammar.specs.Tree.{list_of}
 use Rattle.fancy_parts.specs.Groups.{numbers_under}
 use Rattle.fancy_parts.proofs.NamedLaws.{under_named}
 use Rattle.fancy_grammar.proofs.NamedNumbers.{named_ascend, carries, number_carried}
-use Rattle.fancy_grammar.proofs.PreorderLaws.{of_backref, of_call, of_condition, kept}
-use Rattle.fancy_grammar.proofs.PreorderLaws.{resolved_nodes, item_of, items_of_nodes}
+use Rattle.fancy_grammar.proofs.PreorderLaws.{of_reference, kept}
+use Rattle.fancy_grammar.proofs.PreorderLaws.{resolved_nodes, items_of_all, items_of_nodes}
 use Rattle.fancy_grammar.proofs.Verdict.{same_tree}
 use Rattle.fancy_grammar.proofs.ReadLaws.{IsReadNode, IsRead, derived_read}
 
@@ -65,47 +68,43 @@ condition_resolved u c (by_number n) e = cc
 condition_resolved u c (by_name w) e = group_or_fault condition _ (last_of (u w)) refl e
 condition_resolved u c (relative z) e = group_or_fault condition _ (at_distance c z) refl e
 
-backref_answered : (z : ℕ) (m : Meaning) (t : Target) (casei : Bool) (level : Option ℤ) (place : ℕ) (o : Option Fault) →
-    (m ≡ unresolved → ⊥) → fault_or m place o ≡ None →
-    IsAnsweredNode (reference_node z m (ast_backref t casei level) place)
-backref_answered z (number n) t casei None place o u e = tt
-backref_answered z (number n) t casei (Some level) place o u e = tt
-backref_answered z unresolved t casei level place o u e = absurd (u refl)
-backref_answered z (faulty k) t casei level place o u e = absurd cc
+-- so that only a call is left without a number
+call_unresolved : (u : Text → List ℕ) (c : ℕ) (r : AstReference) → means u c (role_of r) (target_of r) ≡ unresolved →
+    is_call_as_read r ≡ true
+call_unresolved u c (ast_backref t casei level) e = absurd (back_reference_resolved u c t e)
+call_unresolved u c (ast_call t) e = refl
+call_unresolved u c (ast_condition t level) e = absurd (condition_resolved u c t e)
 
-call_answered : (z : ℕ) (m : Meaning) (t : Target) (place : ℕ) → IsAnsweredNode (reference_node z m (ast_call t) place)
-call_answered z (number n) t place = tt
-call_answered z unresolved t place = refl
-call_answered z (faulty k) t place = refl
-
-condition_answered : (z : ℕ) (m : Meaning) (t : Target) (level : Option ℤ) (place : ℕ) (o : Option Fault) →
-    (m ≡ unresolved → ⊥) → fault_or m place o ≡ None → IsAnsweredNode (reference_node z m (ast_condition t level) place)
-condition_answered z (number n) t level place o u e = tt
-condition_answered z unresolved t level place o u e = absurd (u refl)
-condition_answered z (faulty k) t level place o u e = absurd cc
+reference_answered : (z : ℕ) (m : Meaning) (r : AstReference) (place : ℕ) (o : Option Fault) →
+    (m ≡ unresolved → is_call_as_read r ≡ true) → fault_or m place o ≡ None →
+    IsAnsweredNode (reference_node z m r place)
+reference_answered z (number n) (ast_backref t casei None) place o u e = tt
+reference_answered z (number n) (ast_backref t casei (Some level)) place o u e = tt
+reference_answered z (number n) (ast_call t) place o u e = tt
+reference_answered z (number n) (ast_condition t level) place o u e = tt
+reference_answered z unresolved r place o u e = u refl
+reference_answered z (faulty k) r place o u e = absurd cc
 
 -- ---- the nodes that resolving keeps
 
 module _ (z : ℕ) (named : Bool) (g : List Opening) where
   -- what a reference at the place means
-  abbrev means_here : Role → Target → ℕ → Meaning
-  means_here role t place = means (λ u. numbers u g) (openings_before g place) role t
+  abbrev means_here : AstReference → ℕ → Meaning
+  means_here r place = means (λ u. numbers u g) (openings_before g place) (role_of r) (target_of r)
 
   -- their openings are those that have a number
   openings_counted : (l : List Tree) →
-      map (λ q. q.0) (numbered_in named l) ≡ numbered_openings_in named (openings_in (filter_map item_of l))
+      map (λ q. q.0) (numbered_in named l) ≡ numbered_openings_in named (openings_in (items_of_all l))
   openings_counted [] = refl
-  openings_counted (ast_node (ast_group name t) place ∷ l) = by_name (is_counted named name) refl (openings_counted l)
+  openings_counted (ast_group name place t ∷ l) = by_name (is_counted named name) refl (openings_counted l)
     where
       by_name : (b : Bool) → is_counted named name ≡ b →
-          map (λ q. q.0) (numbered_in named l) ≡ numbered_openings_in named (openings_in (filter_map item_of l)) →
-          map (λ q. q.0) (numbered_in named (ast_node (ast_group name t) place ∷ l))
-          ≡ numbered_openings_in named (openings_in (filter_map item_of (ast_node (ast_group name t) place ∷ l)))
+          map (λ q. q.0) (numbered_in named l) ≡ numbered_openings_in named (openings_in (items_of_all l)) →
+          map (λ q. q.0) (numbered_in named (ast_group name place t ∷ l))
+          ≡ numbered_openings_in named (openings_in (items_of_all (ast_group name place t ∷ l)))
       by_name true e more = rw e (ap (λ l. record { reach = place; name = name } ∷ l) more)
       by_name false e more = rw e more
-  openings_counted (ast_node (ast_backref t casei level) place ∷ l) = openings_counted l
-  openings_counted (ast_node (ast_call t) place ∷ l) = openings_counted l
-  openings_counted (ast_node (ast_condition t level) place ∷ l) = openings_counted l
+  openings_counted (ast_node r place ∷ l) = openings_counted l
   openings_counted (_ ∷ l) = openings_counted l
 
   if_false : {A : Type 0} (x y : A) (b : Bool) → b ≡ false → (if b then x else y) ≡ y
@@ -115,55 +114,35 @@ module _ (z : ℕ) (named : Bool) (g : List Opening) where
   groups_kept : (l : List Tree) → AllByRecursion IsReadNode l →
       filter is_group (kept z named g l) ≡ map (λ q. group (resolved_in z named g q.1)) (numbered_in named l)
   groups_kept [] h = refl
-  groups_kept (ast_node (ast_group name t) place ∷ l) h = by_name (is_counted named name) refl (groups_kept l h.1)
+  groups_kept (ast_group name place t ∷ l) h = by_name (is_counted named name) refl (groups_kept l h.1)
     where
       by_name : (b : Bool) → is_counted named name ≡ b →
           filter is_group (kept z named g l) ≡ map (λ q. group (resolved_in z named g q.1)) (numbered_in named l) →
-          filter is_group (kept z named g (ast_node (ast_group name t) place ∷ l))
-          ≡ map (λ q. group (resolved_in z named g q.1)) (numbered_in named (ast_node (ast_group name t) place ∷ l))
+          filter is_group (kept z named g (ast_group name place t ∷ l))
+          ≡ map (λ q. group (resolved_in z named g q.1)) (numbered_in named (ast_group name place t ∷ l))
       by_name true e more = rw (e, e) (ap (λ l. group (resolved_in z named g t) ∷ l) more)
       by_name false e more = rw e more
-  groups_kept (ast_node (ast_backref t casei level) place ∷ l) h =
-      if_false _ _ _ (of_backref z (means_here back_reference t place) t casei level place).no_group ∙ groups_kept l h.1
-  groups_kept (ast_node (ast_call t) place ∷ l) h =
-      if_false _ _ _ (of_call z (means_here call t place) t place).no_group ∙ groups_kept l h.1
-  groups_kept (ast_node (ast_condition t level) place ∷ l) h =
-      if_false _ _ _ (of_condition z (means_here condition t place) t level place).no_group ∙ groups_kept l h.1
-  groups_kept (group t ∷ l) h = absurd h.0
-  groups_kept (backref n casei ∷ l) h = absurd h.0
-  groups_kept (backref_at_level n level casei ∷ l) h = absurd h.0
-  groups_kept (backref_exists n level ∷ l) h = absurd h.0
-  groups_kept (subroutine_call n ∷ l) h = absurd h.0
+  groups_kept (ast_node r place ∷ l) h =
+      if_false _ _ _ (of_reference z (means_here r place) r place).no_group ∙ groups_kept l h.1
+  groups_kept (over label.group t ∷ l) h = absurd h.0
   groups_kept (_ ∷ l) h = groups_kept l h.1
 
   -- calls stay calls
   calls_kept : (l : List Tree) → AllByRecursion IsReadNode l →
-      list_any is_call_node (kept z named g l) ≡ list_any (λ x. is_call x.role) (references_in (filter_map item_of l))
+      list_any is_call_node (kept z named g l) ≡ list_any (λ x. is_call x.role) (references_in (items_of_all l))
   calls_kept [] h = refl
-  calls_kept (ast_node (ast_group name t) place ∷ l) h = by_name (is_counted named name) refl (calls_kept l h.1)
+  calls_kept (ast_group name place t ∷ l) h = by_name (is_counted named name) refl (calls_kept l h.1)
     where
       by_name : (b : Bool) → is_counted named name ≡ b →
-          list_any is_call_node (kept z named g l) ≡ list_any (λ x. is_call x.role)
-          (references_in (filter_map item_of l)) →
-          list_any is_call_node (kept z named g (ast_node (ast_group name t) place ∷ l))
-          ≡ list_any (λ x. is_call x.role) (references_in (filter_map item_of l))
+          list_any is_call_node (kept z named g l) ≡ list_any (λ x. is_call x.role) (references_in (items_of_all l)) →
+          list_any is_call_node (kept z named g (ast_group name place t ∷ l))
+          ≡ list_any (λ x. is_call x.role) (references_in (items_of_all l))
       by_name true e more = rw (e, e) more
       by_name false e more = rw e more
-  calls_kept (ast_node (ast_backref t casei level) place ∷ l) h =
-      ap (λ b. b || list_any is_call_node (kept z named g l))
-      (of_backref z (means_here back_reference t place) t casei level place).calls
-      ∙ calls_kept l h.1
-  calls_kept (ast_node (ast_call t) place ∷ l) h =
-      ap (λ b. b || list_any is_call_node (kept z named g l)) (of_call z (means_here call t place) t place).calls
-  calls_kept (ast_node (ast_condition t level) place ∷ l) h =
-      ap (λ b. b || list_any is_call_node (kept z named g l))
-      (of_condition z (means_here condition t place) t level place).calls
-      ∙ calls_kept l h.1
-  calls_kept (group t ∷ l) h = absurd h.0
-  calls_kept (backref n casei ∷ l) h = absurd h.0
-  calls_kept (backref_at_level n level casei ∷ l) h = absurd h.0
-  calls_kept (backref_exists n level ∷ l) h = absurd h.0
-  calls_kept (subroutine_call n ∷ l) h = absurd h.0
+  calls_kept (ast_node r place ∷ l) h =
+      ap (λ b. b || list_any is_call_node (kept z named g l)) (of_reference z (means_here r place) r place).calls
+      ∙ ap (λ b. is_call (role_of r) || b) (calls_kept l h.1)
+  calls_kept (leaf (label.subroutine_call n) ∷ l) h = absurd h.0
   calls_kept (_ ∷ l) h = calls_kept l h.1
 
   -- one number more, if there is one
@@ -189,35 +168,22 @@ module _ (z : ℕ) (named : Bool) (g : List Opening) where
 
   -- the numbers of back references
   numbers_kept : (l : List Tree) → AllByRecursion IsReadNode l →
-      filter_map group_referred (kept z named g l) ≡ back_numbers g (references_in (filter_map item_of l))
+      filter_map group_referred (kept z named g l) ≡ back_numbers g (references_in (items_of_all l))
   numbers_kept [] h = refl
-  numbers_kept (ast_node (ast_group name t) place ∷ l) h = by_name (is_counted named name) refl (numbers_kept l h.1)
+  numbers_kept (ast_group name place t ∷ l) h = by_name (is_counted named name) refl (numbers_kept l h.1)
     where
       by_name : (b : Bool) → is_counted named name ≡ b →
-          filter_map group_referred (kept z named g l) ≡ back_numbers g (references_in (filter_map item_of l)) →
-          filter_map group_referred (kept z named g (ast_node (ast_group name t) place ∷ l))
-          ≡ back_numbers g (references_in (filter_map item_of l))
+          filter_map group_referred (kept z named g l) ≡ back_numbers g (references_in (items_of_all l)) →
+          filter_map group_referred (kept z named g (ast_group name place t ∷ l))
+          ≡ back_numbers g (references_in (items_of_all l))
       by_name true e more = rw (e, e) more
       by_name false e more = rw e more
-  numbers_kept (ast_node (ast_backref t casei level) place ∷ l) h =
-      numbers_step (resolved_in z named g (ast_node (ast_backref t casei level) place))
-      (record { reach = place; role = back_reference; target = t }) (kept z named g l)
-      (references_in (filter_map item_of l))
-      (of_backref z (means_here back_reference t place) t casei level place).refers (numbers_kept l h.1)
-  numbers_kept (ast_node (ast_call t) place ∷ l) h =
-      numbers_step (resolved_in z named g (ast_node (ast_call t) place))
-      (record { reach = place; role = call; target = t })
-      (kept z named g l) (references_in (filter_map item_of l)) (of_call z (means_here call t place) t place).refers
-      (numbers_kept l h.1)
-  numbers_kept (ast_node (ast_condition t level) place ∷ l) h =
-      numbers_step (resolved_in z named g (ast_node (ast_condition t level) place))
-      (record { reach = place; role = condition; target = t }) (kept z named g l) (references_in (filter_map item_of l))
-      (of_condition z (means_here condition t place) t level place).refers (numbers_kept l h.1)
-  numbers_kept (group t ∷ l) h = absurd h.0
-  numbers_kept (backref n casei ∷ l) h = absurd h.0
-  numbers_kept (backref_at_level n level casei ∷ l) h = absurd h.0
-  numbers_kept (backref_exists n level ∷ l) h = absurd h.0
-  numbers_kept (subroutine_call n ∷ l) h = absurd h.0
+  numbers_kept (ast_node r place ∷ l) h =
+      numbers_step (resolved_in z named g (ast_node r place))
+      (record { reach = place; role = role_of r; target = target_of r }) (kept z named g l)
+      (references_in (items_of_all l)) (of_reference z (means_here r place) r place).refers (numbers_kept l h.1)
+  numbers_kept (leaf (label.backref n casei) ∷ l) h = absurd h.0
+  numbers_kept (leaf (label.backref_at_level n level casei) ∷ l) h = absurd h.0
   numbers_kept (_ ∷ l) h = numbers_kept l h.1
 
   list_length : (ts : Trees) → length (list_of (resolved_all z named g ts)) ≡ length (list_of ts)
@@ -226,40 +192,24 @@ module _ (z : ℕ) (named : Bool) (g : List Opening) where
 
   -- where no reference has a fault, each node is one of an answered tree
   answered_kept : (l : List Tree) → AllByRecursion IsReadNode l →
-      first_fault g (references_in (filter_map item_of l)) ≡ None → AllByRecursion IsAnsweredNode (kept z named g l)
+      first_fault g (references_in (items_of_all l)) ≡ None → AllByRecursion IsAnsweredNode (kept z named g l)
   answered_kept [] h n = tt
-  answered_kept (ast_node (ast_group name t) place ∷ l) h n =
+  answered_kept (ast_group name place t ∷ l) h n =
       by_name (is_counted named name) refl (answered_kept l h.1 n)
     where
       by_name : (b : Bool) → is_counted named name ≡ b → AllByRecursion IsAnsweredNode (kept z named g l) →
-          AllByRecursion IsAnsweredNode (kept z named g (ast_node (ast_group name t) place ∷ l))
+          AllByRecursion IsAnsweredNode (kept z named g (ast_group name place t ∷ l))
       by_name true e more = rw (e, e) (tt, more)
       by_name false e more = rw e more
-  answered_kept (ast_node (ast_backref t casei level) place ∷ l) h n =
-      let m = means_here back_reference t place in
-      let behind = first_fault g (references_in (filter_map item_of l)) in (
-        backref_answered z m t casei level place behind
-            (back_reference_resolved (λ u. numbers u g) (openings_before g place) t) n,
+  answered_kept (ast_node r place ∷ l) h n =
+      let m = means_here r place in let behind = first_fault g (references_in (items_of_all l)) in (
+        reference_answered z m r place behind (call_unresolved (λ u. numbers u g) (openings_before g place) r) n,
         answered_kept l h.1 (none_behind m place behind n),
       )
-  answered_kept (ast_node (ast_call t) place ∷ l) h n =
-      let m = means_here call t place in
-      let behind = first_fault g (references_in (filter_map item_of l)) in
-      (call_answered z m t place, answered_kept l h.1 (none_behind m place behind n))
-  answered_kept (ast_node (ast_condition t level) place ∷ l) h n =
-      let m = means_here condition t place in
-      let behind = first_fault g (references_in (filter_map item_of l)) in (
-        condition_answered z m t level place behind (condition_resolved (λ u. numbers u g) (openings_before g place) t) n,
-        answered_kept l h.1 (none_behind m place behind n),
-      )
-  answered_kept (literal w casei ∷ l) h n = (h.0, answered_kept l h.1 n)
-  answered_kept (literal_bytes w ∷ l) h n = (h.0, answered_kept l h.1 n)
-  answered_kept (alt ts ∷ l) h n = (subst (λ k. 2 ≤ k) (sym (list_length ts)) h.0, answered_kept l h.1 n)
-  answered_kept (group t ∷ l) h n = absurd h.0
-  answered_kept (backref k casei ∷ l) h n = absurd h.0
-  answered_kept (backref_at_level k level casei ∷ l) h n = absurd h.0
-  answered_kept (backref_exists k level ∷ l) h n = absurd h.0
-  answered_kept (subroutine_call k ∷ l) h n = absurd h.0
+  answered_kept (leaf (label.literal w casei) ∷ l) h n = (h.0, answered_kept l h.1 n)
+  answered_kept (leaf (label.literal_bytes w) ∷ l) h n = (h.0, answered_kept l h.1 n)
+  answered_kept (row label.alt ts ∷ l) h n =
+      (subst (λ k. 2 ≤ k) (sym (list_length ts)) h.0, answered_kept l h.1 n)
   answered_kept (_ ∷ l) h n = (tt, answered_kept l h.1 n)
 
 -- ---- answered trees

@@ -1,8 +1,8 @@
 -- A tree is small beside its text. Each part of the grammar keeps two bounds, by induction on its derivation: its nodes
 -- by the bytes that it takes, and its levels by the groups that may still open.
 use Rattle.std.proofs.Common.{◌≡◌, ℕ, zero, suc, ◌+◌, ◌*◌, ◌≤◌, ◌<◌, max, Bool, true, false, not, ◌&&◌, ◌==◌, nat_lt}
-use Rattle.std.proofs.Common.{nat_le, if◌then◌else◌, List, [], ◌∷◌, ◌++◌, length, length-append, Option, Some, None}
-use Rattle.std.proofs.Common.{IfSome, refl, ap, subst, arith, chars}
+use Rattle.std.proofs.Common.{nat_le, if◌then◌else◌, List, [], ◌∷◌, length, Option, Some, None}
+use Rattle.std.proofs.Common.{IfSome, refl, ap, ◌∙◌, subst, arith, chars}
 use Rattle.std.proofs.lemmas.Bool.{cond_both}
 use Rattle.std.proofs.lemmas.Bool.Decides.{nat_tests}
 use Rattle.std.specs.Str.{IsUtf8}
@@ -29,15 +29,16 @@ use Rattle.fancy_grammar.specs.Items.{openings}
 use Rattle.fancy_grammar.specs.Join.{join, choice, solid, is_empty, one_or}
 use Rattle.fancy_grammar.specs.Marks.{Marks}
 use Rattle.fancy_parts.specs.Ranks.{only_named, numbered_openings}
-use Rattle.fancy_grammar.specs.Preorder.{preorder, preorder_all}
+use Rattle.fancy_grammar.specs.Preorder.{preorder}
 use Rattle.fancy_grammar.specs.Quantified.{quants, adjacent, max_adjacent, is_unmoved, quant, quant_at, with_counts}
 use Rattle.fancy_grammar.specs.Quantified.{suffix, is_swapped, quantified, is_repeatable, is_dropped}
 use Rattle.fancy_grammar.specs.Slices.{Within}
 use Rattle.fancy_grammar.specs.State.{skipped, State, at, Outcome, done, fault}
-use Rattle.fancy_grammar.specs.Tree.{Tree, more_trees, empty, concat, alt, absent, expression, trees_of, list_of, nodes}
-use Rattle.fancy_grammar.specs.Tree.{levels}
 use Rattle.fancy_grammar.specs.Quantified.{Suffix}
-use Rattle.fancy_grammar.proofs.LevelLaws.{size, resolved_size, raw_levels, raw_levels_all, resolved_levels}
+use Rattle.fancy_grammar.specs.Tree.{Tree, more_trees, empty, concat, alt, expression, trees_of, list_of, nodes}
+use Rattle.fancy_grammar.specs.Tree.{nodes_all}
+use Rattle.fancy_grammar.specs.Tree.{levels, levels_all}
+use Rattle.fancy_grammar.proofs.LevelLaws.{nodes_preorder, resolved_size, resolved_levels}
 use Rattle.fancy_grammar.proofs.OutcomeLemmas.{Holds, then_holds, behind_keeps}
 use Rattle.fancy_grammar.proofs.ReadLaws.{Makes, IsReadLeaf, ReadAhead, ahead_read}
 use Rattle.fancy_grammar.proofs.Slices.{one_bytes, fits, here, bare, skipped_slice, suffix_slice, counts_past}
@@ -47,11 +48,11 @@ use Rattle.fancy_grammar.proofs.Slices.{LeafSlice, AheadSlice, ahead_slice, layo
 
 abbrev sizes : List Tree → ℕ
 sizes [] = 0
-sizes (t ∷ ts) = size t + sizes ts
+sizes (t ∷ ts) = nodes t + sizes ts
 
 -- in a row a tree counts one more than its nodes, and an Empty nothing
 abbrev weight : Tree → ℕ
-weight t = if is_empty t then 0 else size t + 1
+weight t = if is_empty t then 0 else nodes t + 1
 
 abbrev weights : List Tree → ℕ
 weights [] = 0
@@ -59,14 +60,14 @@ weights (t ∷ ts) = weight t + weights ts
 
 -- the levels of trees side by side
 abbrev widest : List Tree → ℕ
-widest ts = raw_levels_all (trees_of ts)
+widest ts = levels_all (trees_of ts)
 
-weight_most : (t : Tree) → weight t ≤ size t + 1
-weight_most t = cond_both (is_empty t) _ _ (λ m. m ≤ size t + 1) (λ _. omega arith) (λ _. omega arith)
+weight_most : (t : Tree) → weight t ≤ nodes t + 1
+weight_most t = cond_both (is_empty t) _ _ (λ m. m ≤ nodes t + 1) (λ _. omega arith) (λ _. omega arith)
 
-size_all : (ts : List Tree) → length (preorder_all (trees_of ts)) ≡ sizes ts
+size_all : (ts : List Tree) → nodes_all (trees_of ts) ≡ sizes ts
 size_all [] = refl
-size_all (t ∷ ts) = omega (arith, size_all ts, length-append (preorder t) (preorder_all (trees_of ts)))
+size_all (t ∷ ts) = omega (arith, size_all ts)
 
 -- a branch of pieces
 solid_weights : (ts : List Tree) → sizes (solid ts) + length (solid ts) ≤ weights ts
@@ -77,16 +78,16 @@ solid_weights (t ∷ ts) =
   where
     by_test : (b : Bool) → sizes (solid ts) + length (solid ts) ≤ weights ts →
         sizes (if b then solid ts else t ∷ solid ts) + length (if b then solid ts else t ∷ solid ts)
-        ≤ (if b then 0 else size t + 1) + weights ts
+        ≤ (if b then 0 else nodes t + 1) + weights ts
     by_test true h = omega (arith, h)
     by_test false h = omega (arith, h)
 
-one_size : (ts : List Tree) → size (one_or concat ts) ≤ sizes ts + length ts + 1
+one_size : (ts : List Tree) → nodes (one_or concat ts) ≤ sizes ts + length ts + 1
 one_size [] = omega arith
 one_size (t ∷ []) = omega arith
 one_size (t ∷ u ∷ ts) = omega (arith, size_all (t ∷ u ∷ ts))
 
-join_size : (ts : List Tree) → size (join ts) ≤ weights ts + 1
+join_size : (ts : List Tree) → nodes (join ts) ≤ weights ts + 1
 join_size ts = omega (arith, one_size (solid ts), solid_weights ts)
 
 solid_levels : (ts : List Tree) → widest (solid ts) ≤ widest ts
@@ -95,63 +96,57 @@ solid_levels (t ∷ ts) =
     let more = solid_levels ts in
     cond_both (is_empty t) _ _ (λ us. widest us ≤ widest (t ∷ ts)) (λ _. omega (arith, more)) (λ _. omega (arith, more))
 
-one_level : (ts : List Tree) → raw_levels (one_or concat ts) ≤ widest ts + 1
+one_level : (ts : List Tree) → levels (one_or concat ts) ≤ widest ts + 1
 one_level [] = omega arith
 one_level (t ∷ []) = omega arith
 one_level (t ∷ u ∷ ts) = omega arith
 
-join_levels : (ts : List Tree) → raw_levels (join ts) ≤ widest ts + 1
+join_levels : (ts : List Tree) → levels (join ts) ≤ widest ts + 1
 join_levels ts = omega (arith, one_level (solid ts), solid_levels ts)
 
 -- a choice among branches
-choice_size : (ts : List Tree) → size (choice ts) ≤ sizes ts + 1
+choice_size : (ts : List Tree) → nodes (choice ts) ≤ sizes ts + 1
 choice_size [] = omega arith
 choice_size (t ∷ []) = omega arith
 choice_size (t ∷ u ∷ ts) = omega (arith, size_all (t ∷ u ∷ ts))
 
-some_choice_size : (ts : List Tree) → 1 ≤ length ts → size (choice ts) + 1 ≤ sizes ts + length ts
+some_choice_size : (ts : List Tree) → 1 ≤ length ts → nodes (choice ts) + 1 ≤ sizes ts + length ts
 some_choice_size [] h = absurd (omega (arith, h))
 some_choice_size (t ∷ []) h = omega arith
 some_choice_size (t ∷ u ∷ ts) h = omega (arith, size_all (t ∷ u ∷ ts))
 
-choice_levels : (ts : List Tree) → raw_levels (choice ts) ≤ widest ts + 1
+choice_levels : (ts : List Tree) → levels (choice ts) ≤ widest ts + 1
 choice_levels [] = omega arith
 choice_levels (t ∷ []) = omega arith
 choice_levels (t ∷ u ∷ ts) = omega arith
 
 -- a conditional
-branches_size : (r : Tree) → size (branches_of r).0 + size (branches_of r).1 ≤ size r + 1
+branches_size : (r : Tree) → nodes (branches_of r).0 + nodes (branches_of r).1 ≤ nodes r + 1
 branches_size (alt (more_trees t ts)) =
-    omega (
-      arith,
-      choice_size (list_of ts),
-      size_all (list_of ts),
-      ap (λ us. length (preorder_all us)) (trees_back ts),
-      length-append (preorder t) (preorder_all ts),
-    )
+    omega (arith, choice_size (list_of ts), size_all (list_of ts), ap nodes_all (trees_back ts))
 branches_size r = omega arith
 
-branches_levels : (r : Tree) → (raw_levels (branches_of r).0 ≤ raw_levels r)
-    × (raw_levels (branches_of r).1 ≤ max 1 (raw_levels r))
+branches_levels : (r : Tree) → (levels (branches_of r).0 ≤ levels r)
+    × (levels (branches_of r).1 ≤ max 1 (levels r))
 branches_levels (alt (more_trees t ts)) =
-    (omega arith, omega (arith, choice_levels (list_of ts), ap raw_levels_all (trees_back ts)))
+    (omega arith, omega (arith, choice_levels (list_of ts), ap levels_all (trees_back ts)))
 branches_levels r = (omega arith, omega arith)
 
-conditional_size : (c t f : Tree) → size (conditional_of c t f) ≤ size c + (size t + size f) + 1
+conditional_size : (c t f : Tree) → nodes (conditional_of c t f) ≤ nodes c + (nodes t + nodes f) + 1
 conditional_size c t f =
-    cond_both (is_empty t && is_empty f) _ _ (λ x. size x ≤ size c + (size t + size f) + 1) (λ _. omega arith)
-    (λ _. omega (arith, length-append (preorder c) (preorder t ++ preorder f), length-append (preorder t) (preorder f)))
+    cond_both (is_empty t && is_empty f) _ _ (λ x. nodes x ≤ nodes c + (nodes t + nodes f) + 1) (λ _. omega arith)
+    (λ _. omega arith)
 
-conditional_levels : (c t f : Tree) → raw_levels (conditional_of c t f) ≤ max (raw_levels c)
-    (max (raw_levels t) (raw_levels f)) + 1
+conditional_levels : (c t f : Tree) → levels (conditional_of c t f) ≤ max (levels c)
+    (max (levels t) (levels f)) + 1
 conditional_levels c t f =
     cond_both (is_empty t && is_empty f) _ _
-    (λ x. raw_levels x ≤ max (raw_levels c) (max (raw_levels t) (raw_levels f)) + 1)
+    (λ x. levels x ≤ max (levels c) (max (levels t) (levels f)) + 1)
     (λ _. omega arith) (λ _. omega arith)
 
 -- a group, and a branch behind `(?~|`
 abbrev IsNodeOver : Tree → Tree → Type 0
-IsNodeOver t u = (size u ≤ size t + 1) × (raw_levels u ≤ raw_levels t + 1)
+IsNodeOver t u = (nodes u ≤ nodes t + 1) × (levels u ≤ levels t + 1)
 
 node_over : (h : Head) (p : ℕ) (t : Tree) → IsNodeOver t (group_node h p t)
 node_over (capture name) p t = (omega arith, omega arith)
@@ -191,23 +186,23 @@ closed_holds P r s k = by_text s.rest refl
 abbrev Grows : Tree → State → Tree → State → Type 0
 Grows a s b t =
     (weight b + 2 * bytes t.rest ≤ weight a + 2 * bytes s.rest)
-    × (raw_levels b + 2 * bytes t.rest ≤ raw_levels a + 2 * bytes s.rest)
-    × (raw_levels b ≤ raw_levels a + 2)
+    × (levels b + 2 * bytes t.rest ≤ levels a + 2 * bytes s.rest)
+    × (levels b ≤ levels a + 2)
 
 -- so many of them
 abbrev GrowsBy : ℕ → Tree → State → Tree → State → Type 0
-GrowsBy k a s b t = (weight b + 2 * bytes t.rest ≤ weight a + 2 * bytes s.rest) × (raw_levels b ≤ raw_levels a + 2 * k)
+GrowsBy k a s b t = (weight b + 2 * bytes t.rest ≤ weight a + 2 * bytes s.rest) × (levels b ≤ levels a + 2 * k)
 
 repeatable_solid : (f : Flags) (a : Tree) → is_repeatable f a ≡ true → is_empty a ≡ false
 repeatable_solid f empty e = absurd cc
 repeatable_solid f _ e = refl
 
-solid_weight : (a : Tree) → is_empty a ≡ false → weight a ≡ size a + 1
-solid_weight a e = ap (λ b. if b then 0 else size a + 1) e
+solid_weight : (a : Tree) → is_empty a ≡ false → weight a ≡ nodes a + 1
+solid_weight a e = ap (λ b. if b then 0 else nodes a + 1) e
 
 -- a Repeat, or one in an AtomicGroup
 abbrev IsOver : Tree → Tree → Type 0
-IsOver a b = (weight b ≤ size a + 3) × (raw_levels b ≤ raw_levels a + 2)
+IsOver a b = (weight b ≤ nodes a + 3) × (levels b ≤ levels a + 2)
 
 quantified_over : (f : Flags) (c : Counts) (m : Suffix) (a : Tree) → IsOver a (quantified f c m a)
 quantified_over f c m a =
@@ -305,7 +300,7 @@ ahead_below d s = by_text s.rest
 
 -- of an atom, and of one with its quantifiers: an Empty may take no byte
 abbrev Fits : ℕ → ℕ → State → Tree → State → Type 0
-Fits high d s r t = (weight r + 2 * bytes t.rest ≤ 2 * bytes s.rest) × (raw_levels r + 13 * d ≤ high)
+Fits high d s r t = (weight r + 2 * bytes t.rest ≤ 2 * bytes s.rest) × (levels r + 13 * d ≤ high)
 
 -- of pieces
 abbrev PiecesFit : ℕ → State → List Tree → State → Type 0
@@ -313,7 +308,7 @@ PiecesFit d s l t = (weights l + 2 * bytes t.rest ≤ 2 * bytes s.rest) × (wide
 
 -- of a branch, and of an alternation
 abbrev Fills : ℕ → ℕ → State → Tree → State → Type 0
-Fills high d s r t = (size r + 2 * bytes t.rest ≤ 2 * bytes s.rest + 1) × (raw_levels r + 13 * d ≤ high)
+Fills high d s r t = (nodes r + 2 * bytes t.rest ≤ 2 * bytes s.rest + 1) × (levels r + 13 * d ≤ high)
 
 -- of branches: each may have a node more than twice its bytes, and the bars make up for all but one of them
 abbrev BranchesFit : ℕ → State → List Tree → State → Type 0
@@ -322,11 +317,15 @@ BranchesFit d s l t =
 
 -- of the inside of a group
 abbrev InsideFits : ℕ → State → Tree → State → Type 0
-InsideFits d s r t = (size r + 1 + 2 * bytes t.rest ≤ 2 * bytes s.rest) × (raw_levels r + 13 * d ≤ 819)
+InsideFits d s r t = (nodes r + 1 + 2 * bytes t.rest ≤ 2 * bytes s.rest) × (levels r + 13 * d ≤ 819)
+
+-- a leaf is one node
+leaf_size : (t : Tree) → preorder t ≡ t ∷ [] → nodes t ≡ 1
+leaf_size t e = nodes_preorder t ∙ ap length e
 
 leaf_fits : (d : ℕ) (s : State) (o : Outcome Tree) → d < max_depth → LeafSlice s o → Makes IsReadLeaf o →
     Holds (Fits 820 d s) o
-leaf_fits d s (done a t) l h i = (omega (arith, h.1, weight_most a, ap length i.1), omega (arith, l, i.2))
+leaf_fits d s (done a t) l h i = (omega (arith, h.1, weight_most a, leaf_size a i.1), omega (arith, l, i.2))
 leaf_fits d s (fault k p) l h i = tt
 
 mutual
@@ -385,13 +384,12 @@ mutual
   of_fits (a_condition {d} {s} i m) l h r b =
       let c = inside_fits i b in body_fits m s (omega (arith, c.0, h.1)) c.1 b
   of_fits (condition_fault i) l h r b = tt
-  of_fits (a_body {s} m) l h r b = body_fits m s (omega (arith, h.1, ap length r.1)) (omega (arith, b, r.2)) b
+  of_fits (a_body {s} m) l h r b = body_fits m s (omega (arith, h.1, leaf_size _ r.1)) (omega (arith, b, r.2)) b
   of_fits (two_branches {d} {s} {v} {u} {a} {q} x e m f) l h r b =
       let first = branch_fits x b in let past = strip_bytes bar v.rest u e in
       then_holds (Fills 831 (d + 1) (at v u)) (Fits 820 d s) q _ (branch_fits m b) f (λ y w i.
-      closed_holds (Fits 820 d s) (absent (expression a y)) w (λ z k.
-      let both = length-append (preorder a) (preorder y) in
-      (omega (arith, h.1, first.0, past, i.0, k, both), omega (arith, first.1, i.1))))
+      closed_holds (Fits 820 d s) (expression a y) w (λ z k.
+      (omega (arith, h.1, first.0, past, i.0, k), omega (arith, first.1, i.1))))
   of_fits (one_branch {d} {s} {v} {a} x e f) l h r b =
       let first = branch_fits x b in let over = clear_or_stopper_over a in
       subst (Holds (Fits 820 d s)) f (closed_holds (Fits 820 d s) (clear_or_stopper a) v (λ z k.
@@ -404,7 +402,7 @@ mutual
       closed_holds (InsideFits d s) t v (λ z k. (omega (arith, h.0, k), omega (arith, h.1))))
 
   body_fits : {d : ℕ} {c : Tree} {t : State} {o : Outcome Tree} → Body d c t o → (s : State) →
-      size c + 2 + 2 * bytes t.rest ≤ 2 * bytes s.rest → raw_levels c + 13 * d ≤ 819 → d + 1 < max_depth →
+      nodes c + 2 + 2 * bytes t.rest ≤ 2 * bytes s.rest → levels c + 13 * d ≤ 819 → d + 1 < max_depth →
       Holds (Fits 820 d s) o
   body_fits (the_body {d} {c} {s = t} {q} a e) s g h l =
       then_holds (Fills max_levels (d + 1) t) (Fits 820 d s) q _ (alternation_fits a l) e (λ x v i.

@@ -36,24 +36,24 @@ use Rattle.fancy_grammar.specs.Preorder.{preorder, preorder_all}
 use Rattle.fancy_grammar.specs.Quantified.{quants, adjacent, max_adjacent, is_unmoved, quant, quant_at, with_counts}
 use Rattle.fancy_grammar.specs.Quantified.{suffix, is_swapped, quantified, is_repeatable, is_dropped}
 use Rattle.fancy_grammar.specs.State.{skipped, State, at, Outcome, done, fault, and_then}
-use Rattle.fancy_grammar.specs.Tree.{Tree, Trees, no_trees, more_trees, literal, literal_bytes, concat, alt, group}
-use Rattle.fancy_grammar.specs.Tree.{backref, backref_at_level, backref_exists, subroutine_call, delegate, absent}
-use Rattle.fancy_grammar.specs.Tree.{expression, trees_of, list_of}
 use Rattle.fancy_grammar.specs.Verb.{verb_at}
 use Rattle.fancy_grammar.specs.Quantified.{Suffix}
-use Rattle.fancy_grammar.proofs.LevelLaws.{raw_levels}
+use Rattle.fancy_grammar.specs.Label as label
+use Rattle.fancy_grammar.specs.Tree.{Tree, leaf, over, row, Trees, no_trees, more_trees, concat, alt, delegate}
+use Rattle.fancy_grammar.specs.Tree.{expression}
+use Rattle.fancy_grammar.specs.Tree.{trees_of, list_of, levels}
 use Rattle.fancy_grammar.proofs.OutcomeLemmas.{Holds, then_holds, behind_keeps}
 
 -- what holds of a node of a raw tree: it is none that resolving makes, and what holds of an answered one
 abbrev pub IsReadNode : Tree → Type 0
-IsReadNode (literal w casei) = length w ≡ 1
-IsReadNode (literal_bytes w) = (length w ≡ 1) × AllByRecursion (λ b. (0x80 ≤ b) × (b ≤ 0xFF)) w
-IsReadNode (alt ts) = 2 ≤ length (list_of ts)
-IsReadNode (group t) = ⊥
-IsReadNode (backref n casei) = ⊥
-IsReadNode (backref_at_level n level casei) = ⊥
-IsReadNode (backref_exists n level) = ⊥
-IsReadNode (subroutine_call n) = ⊥
+IsReadNode (leaf (label.literal w casei)) = length w ≡ 1
+IsReadNode (leaf (label.literal_bytes w)) = (length w ≡ 1) × AllByRecursion (λ b. (0x80 ≤ b) × (b ≤ 0xFF)) w
+IsReadNode (row label.alt ts) = 2 ≤ length (list_of ts)
+IsReadNode (over label.group t) = ⊥
+IsReadNode (leaf (label.backref n casei)) = ⊥
+IsReadNode (leaf (label.backref_at_level n level casei)) = ⊥
+IsReadNode (leaf (label.backref_exists n level)) = ⊥
+IsReadNode (leaf (label.subroutine_call n)) = ⊥
 IsReadNode _ = Unit {0}
 
 abbrev pub IsRead : Tree → Type 0
@@ -168,7 +168,7 @@ quants_read d left a t h =
 
 -- so is a node that stands alone
 abbrev pub IsReadLeaf : Tree → Type 0
-IsReadLeaf t = IsReadNode t × (preorder t ≡ t ∷ []) × (raw_levels t ≡ 1)
+IsReadLeaf t = IsReadNode t × (preorder t ≡ t ∷ []) × (levels t ≡ 1)
 
 leaf_is_read : (t : Tree) → IsReadLeaf t → IsRead t
 leaf_is_read t h = subst (AllByRecursion IsReadNode) (sym h.1) (h.0, tt)
@@ -305,7 +305,7 @@ node_read repeater p r i = (tt, i)
 conditional_of_read : (c t f : Tree) → IsRead c → IsRead t → IsRead f → IsRead (conditional_of c t f)
 conditional_of_read c t f h i j =
     cond_both (is_empty t && is_empty f) _ _ IsRead (λ _. h)
-    (λ _. (tt, both_read (preorder c) (preorder t ++ preorder f) h (both_read (preorder t) (preorder f) i j)))
+    (λ _. (tt, all_read (c ∷ t ∷ f ∷ []) (h, (i, (j, tt)))))
 
 branches_read : (r : Tree) → IsRead r → IsRead (branches_of r).0 × IsRead (branches_of r).1
 branches_read (alt (more_trees t ts)) h =
@@ -365,7 +365,7 @@ mutual
   of_read (two_branches {a} {q} b e m f) h =
       let first = branch_read b in
       then_makes IsRead IsRead q _ (branch_read m) f
-      (λ r w x. closed_read (absent (expression a r)) w (tt, both_read (preorder a) (preorder r) first x))
+      (λ r w x. closed_read (expression a r) w (tt, all_read (a ∷ r ∷ []) (first, (x, tt))))
   of_read (one_branch {v} {a} b e f) h =
       subst (Makes IsRead) f (closed_read (clear_or_stopper a) v (clear_or_stopper_read a (branch_read b)))
   of_read (absent_fault b) h = tt

@@ -1,5 +1,5 @@
 -- What is read is a slice of the text, in which groups and references stand one behind another.
-use Rattle.std.proofs.Common.{◌≡◌, ℕ, zero, suc, ◌+◌, ◌<◌, ◌≤◌, ◌-◌, ◌∷◌, [], ◌++◌, List, refl, sym, ap, ◌∙◌, subst}
+use Rattle.std.proofs.Common.{◌≡◌, ℕ, zero, suc, ◌+◌, ◌<◌, ◌≤◌, ◌∷◌, [], ◌++◌, List, refl, sym, ap, ◌∙◌, subst}
 use Rattle.std.proofs.Common.{arith, Bool, true, false, Option, Some, None, append_assoc, append-nil}
 use Rattle.std.specs.Prelude.{◌==◌, not, nat_lt, nat_le, IfSome, codes, ◌&&◌}
 use Rattle.std.proofs.lemmas.Bool.{cond_both}
@@ -58,8 +58,8 @@ use Rattle.fancy_grammar.specs.Quantified.{is_repeatable, is_dropped}
 use Rattle.fancy_grammar.specs.Ordered.{DescendingReaches, reach_of_item}
 use Rattle.fancy_grammar.specs.Slices.{Slice, Span, Within, MayStand, items_of}
 use Rattle.fancy_grammar.specs.State.{skipped, State, at, Outcome, done, fault, and_then}
-use Rattle.fancy_grammar.specs.Tree.{Tree, Trees, no_trees, more_trees, empty, concat, alt, delegate, absent}
-use Rattle.fancy_grammar.specs.Tree.{expression, trees_of, list_of}
+use Rattle.fancy_grammar.specs.Tree.{Tree, Trees, no_trees, more_trees, empty, concat, alt, delegate, expression}
+use Rattle.fancy_grammar.specs.Tree.{trees_of, list_of}
 use Rattle.fancy_grammar.specs.Verb.{verb_at}
 use Rattle.fancy_grammar.specs.declared.kinds.BacktrackingControlVerb.{BacktrackingControlVerb}
 use Rattle.fancy_grammar.specs.declared.kinds.BacktrackingControlVerb.TheVariants.{Fail, Accept, Commit, Skip, Prune}
@@ -590,7 +590,7 @@ items_conditional c t f =
     cond_both (is_empty t && is_empty f) _ _ (λ x. items c ++ (items t ++ items f) ≡ items x)
     (λ e. let h = both_true (is_empty t) (is_empty f) e in
     ap (λ l. items c ++ (l ++ items f)) (no_items t h.0) ∙ ap (λ l. items c ++ l) (no_items f h.1)
-    ∙ append-nil (items c)) (λ _. refl)
+    ∙ append-nil (items c)) (λ _. simp append-nil)
   where
     both_true : (a b : Bool) → (a && b) ≡ true → (a ≡ true) × (b ≡ true)
     both_true true b e = (refl, e)
@@ -671,7 +671,8 @@ mutual
   of_slice (two_branches {s} {v} {u} {a} {q} b e m f) h =
       let k = before h.0 (behind (branch_slice b) (strip_slice bar v.rest u e)) in
       then_slice items items s (at v u) q _ k.slice (branch_slice m) f
-      (λ r w x. closed_slice s w (absent (expression a r)) (then k x))
+      (λ r w x.
+      closed_slice s w (expression a r) (listed (ap (λ l. items a ++ l) (sym (append-nil (items r)))) (then k x)))
   of_slice (one_branch {s} {v} {a} b e f) h =
       subst (Within items s) f
       (closed_slice s v (clear_or_stopper a) (listed (items_clear_or_stopper a) (before h.0 (branch_slice b))))
@@ -706,5 +707,6 @@ items_stand a = (whole_slice a).stand
 pub ordered_within : {f : Flags} {text : Text} {r : Tree} {t : State} → Whole f text (done r t) →
     DescendingReaches (bytes text + 2) 2 (items r)
 ordered_within {text} {r} {t} a =
-    let d : DescendingReaches (bytes text + 2) (reach_of t.rest + 1) (items r) = raised _ _ _ (items r) (omega arith) (whole_slice a).descends in
+    let d : DescendingReaches (bytes text + 2) (reach_of t.rest + 1) (items r) =
+    raised _ _ _ (items r) (omega arith) (whole_slice a).descends in
     lowered (bytes text + 2) (reach_of t.rest + 1) 2 (items r) (omega arith) d

@@ -13,7 +13,7 @@ use Rattle.fancy_grammar.specs.Grammar.{conditional_behind, clear_or_stopper}
 use Rattle.fancy_grammar.specs.Head.{group_node}
 use Rattle.fancy_grammar.specs.Quantified.{quants}
 use Rattle.fancy_grammar.specs.State.{skipped, State, at, Outcome, done, fault, and_then, seen_through}
-use Rattle.fancy_grammar.specs.Tree.{Tree, absent, expression}
+use Rattle.fancy_grammar.specs.Tree.{Tree, expression}
 
 -- ---- what one outcome says of another
 
@@ -121,7 +121,7 @@ mutual
   of_unique (a_body a) (a_body b) e = body_unique a b refl refl
   of_unique (two_branches {q} a f m i) (two_branches b g l j) e =
       let h = branch_unique a b refl in
-      sym i ∙ ap (λ (x : Tree). and_then q (λ r. closed (absent (expression x r)))) (value_of h)
+      sym i ∙ ap (λ (x : Tree). and_then q (λ r. closed (expression x r))) (value_of h)
       ∙ then_same _ refl j (branch_unique m l cc)
   of_unique (two_branches a f m i) (one_branch b g j) e = let h = branch_unique a b refl in absurd cc
   of_unique (two_branches a f m i) (absent_fault b) e = absurd (done_or_fault (branch_unique a b refl))

@@ -22,10 +22,10 @@ use Rattle.fancy_parts.specs.GroupName.{group_name}
 use Rattle.fancy_parts.specs.HeadReference.{named_reference, named_call, begins_target, condition_target}
 use Rattle.fancy_grammar.specs.Depth.{max_depth}
 use Rattle.fancy_grammar.specs.Head.{Head, capture, scope, look, atomic, define, repeater}
+use Rattle.fancy_grammar.specs.Label.{ast_backref, ast_call, ast_condition}
 use Rattle.fancy_grammar.specs.State.{State, at, skipped, Outcome, done, faulted}
 use Rattle.fancy_grammar.specs.Tree.{Tree, empty, any, assertion, general_newline, literal, literal_bytes, delegate}
-use Rattle.fancy_grammar.specs.Tree.{keep_out, continue_from_previous_match_end, verb, ast_node, ast_backref, ast_call}
-use Rattle.fancy_grammar.specs.Tree.{ast_condition}
+use Rattle.fancy_grammar.specs.Tree.{keep_out, continue_from_previous_match_end, verb, ast_node}
 use Rattle.fancy_grammar.specs.Verb.{verb_at}
 use Rattle.fancy_grammar.specs.declared.kinds.LookAround.TheVariants.{LookAhead, LookAheadNeg, LookBehind}
 use Rattle.fancy_grammar.specs.declared.kinds.LookAround.TheVariants.{LookBehindNeg}

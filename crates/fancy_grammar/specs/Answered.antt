@@ -8,24 +8,26 @@ use Rattle.fancy_lex.specs.declared.flags.Flags.{Flags}
 use Rattle.fancy_parts.specs.Ranks.{Opening, only_named, is_counted, numbered_openings}
 use Rattle.fancy_grammar.specs.Depth.{max_levels}
 use Rattle.fancy_grammar.specs.Items.{openings}
+use Rattle.fancy_grammar.specs.Label as label
+use Rattle.fancy_grammar.specs.Label.{AstReference, ast_call}
 use Rattle.fancy_grammar.specs.Marks.{Marks, ascending}
 use Rattle.fancy_grammar.specs.Preorder.{preorder}
 use Rattle.fancy_grammar.specs.Resolved.{resolved_in}
-use Rattle.fancy_grammar.specs.Tree.{Tree, literal, literal_bytes, alt, group, backref, backref_at_level}
-use Rattle.fancy_grammar.specs.Tree.{subroutine_call, ast_node, AstTree, ast_group, ast_call, list_of, nodes, levels}
+use Rattle.fancy_grammar.specs.Tree.{Tree, leaf, over, row, group, ast_group, list_of, nodes, levels}
 
 -- only a call stays as it was read
-abbrev pub is_call_as_read : AstTree → Bool
+abbrev pub is_call_as_read : AstReference → Bool
 is_call_as_read (ast_call t) = true
 is_call_as_read _ = false
 
 -- a Literal holds one character, a LiteralBytes one byte above the ASCII ones, an Alt two children or more, and an
 -- AstNode a call
 abbrev pub IsAnsweredNode : Tree → Type 0
-IsAnsweredNode (literal w casei) = length w ≡ 1
-IsAnsweredNode (literal_bytes w) = (length w ≡ 1) × AllByRecursion (λ b. (0x80 ≤ b) × (b ≤ 0xFF)) w
-IsAnsweredNode (alt ts) = 2 ≤ length (list_of ts)
-IsAnsweredNode (ast_node node reach) = is_call_as_read node ≡ true
+IsAnsweredNode (leaf (label.literal w casei)) = length w ≡ 1
+IsAnsweredNode (leaf (label.literal_bytes w)) = (length w ≡ 1) × AllByRecursion (λ b. (0x80 ≤ b) × (b ≤ 0xFF)) w
+IsAnsweredNode (row label.alt ts) = 2 ≤ length (list_of ts)
+IsAnsweredNode (leaf (label.ast_node r reach)) = is_call_as_read r ≡ true
+IsAnsweredNode (over (label.ast_group name reach) t) = ⊥
 IsAnsweredNode _ = Unit {0}
 
 -- this is true of each node
@@ -37,7 +39,7 @@ abbrev pub IsSmall : Tree → ℕ → Type 0
 IsSmall t n = (nodes t ≤ 2 * n + 1) × (levels t ≤ max_levels)
 
 abbrev pub is_group : Tree → Bool
-is_group (group t) = true
+is_group (over label.group t) = true
 is_group _ = false
 
 -- the Groups in preorder: the k-th has the number k
@@ -55,8 +57,8 @@ AreNamed total l = AllByRecursion (λ e. (0 < length e.1) × AscendingNumbers 0 
 
 -- whether the node is a call, resolved or not
 abbrev pub is_call_node : Tree → Bool
-is_call_node (subroutine_call n) = true
-is_call_node (ast_node node reach) = is_call_as_read node
+is_call_node (leaf (label.subroutine_call n)) = true
+is_call_node (leaf (label.ast_node r reach)) = is_call_as_read r
 is_call_node _ = false
 
 -- whether some node is a call
@@ -65,8 +67,8 @@ has_call t = list_any is_call_node (preorder t)
 
 -- the group of a back reference
 abbrev pub group_referred : Tree → Option ℕ
-group_referred (backref n casei) = Some n
-group_referred (backref_at_level n level casei) = Some n
+group_referred (leaf (label.backref n casei)) = Some n
+group_referred (leaf (label.backref_at_level n level casei)) = Some n
 group_referred _ = None
 
 -- the groups of the back references, in text order
@@ -86,7 +88,7 @@ pub record IsAnsweredWith (t : Tree) (m : Marks) : Type 0 where
 
 -- a node's opening and inside, where it is a capturing group that has a number
 abbrev pub numbered_group : Bool → Tree → Option (Opening × Tree)
-numbered_group named (ast_node (ast_group name t) reach) =
+numbered_group named (ast_group name reach t) =
     if is_counted named name then Some (record { reach = reach; name = name }, t) else None
 numbered_group _ _ = None
 

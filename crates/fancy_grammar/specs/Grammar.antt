@@ -15,10 +15,11 @@ use Rattle.fancy_lex.specs.declared.flags.Flags.{Flags}
 use Rattle.fancy_grammar.specs.Ahead.{Ahead, nothing, leaf, with_head, condition, body, absent_branch, ahead}
 use Rattle.fancy_grammar.specs.Head.{Head, group_node}
 use Rattle.fancy_grammar.specs.Join.{join, choice, is_empty}
+use Rattle.fancy_grammar.specs.Label.{AstReference, ast_condition}
 use Rattle.fancy_grammar.specs.Quantified.{quants}
 use Rattle.fancy_grammar.specs.State.{ends, skipped, State, at, Outcome, done, fault, faulted, and_then, seen_through}
-use Rattle.fancy_grammar.specs.Tree.{Tree, more_trees, list_of, empty, alt, conditional, absent, clear, stopper}
-use Rattle.fancy_grammar.specs.Tree.{expression, ast_node, AstTree, ast_condition}
+use Rattle.fancy_grammar.specs.Tree.{Tree, more_trees, list_of, empty, alt, conditional, clear, stopper}
+use Rattle.fancy_grammar.specs.Tree.{expression, ast_node}
 
 -- ---- what a part comes to behind its last one
 
@@ -33,7 +34,7 @@ abbrev pub closed : Tree → State → Outcome Tree
 closed r s = closed_at r s s.rest
 
 -- whether the tree is a condition on a group, before it is resolved
-abbrev pub is_condition_node : AstTree → Bool
+abbrev pub is_condition_node : AstReference → Bool
 is_condition_node (ast_condition t level) = true
 is_condition_node _ = false
 
@@ -59,7 +60,7 @@ conditional_behind c left r s =
 
 -- a branch behind `(?~|`, where no other follows
 abbrev pub clear_or_stopper : Tree → Tree
-clear_or_stopper a = if is_empty a then absent clear else absent (stopper a)
+clear_or_stopper a = if is_empty a then clear else stopper a
 
 -- ---- the flags behind an atom
 
@@ -75,10 +76,9 @@ behind_atom _ f q = restored f q
 
 -- ---- the productions
 
--- In each of them d is how many groups are open; s is the state where it begins,
--- t and v are later states, in text order, and u is a later text; r, a and c are trees, of which c is a condition; q is
--- the outcome of a part, and o that of the whole; k and p are the kind and the reach of a fault, and in `Atom` k is what
--- stands ahead.
+-- In each of them d is how many groups are open; s is the state where it begins, t and v are later states, in text
+-- order, and u is a later text; r, a and c are trees, of which c is a condition; q is the outcome of a part, and o that
+-- of the whole; k and p are the kind and the reach of a fault, and in `Atom` k is what stands ahead.
 
 mutual
   -- branches with bars between
@@ -130,7 +130,7 @@ mutual
     -- an absent expression's two branches; a stopper's or a clear's one
     two_branches : {d : ℕ} {s t v : State} {u : Text} {a : Tree} {q o : Outcome Tree} →
         Branch (d + 1) t (done a v) → strip bar v.rest ≡ Some u → Branch (d + 1) (at v u) q →
-        and_then q (λ e. closed (absent (expression a e))) ≡ o → AtomOf (absent_branch t) d s o
+        and_then q (λ e. closed (expression a e)) ≡ o → AtomOf (absent_branch t) d s o
     one_branch : {d : ℕ} {s t v : State} {a : Tree} {o : Outcome Tree} → Branch (d + 1) t (done a v) →
         strip bar v.rest ≡ None → closed (clear_or_stopper a) v ≡ o → AtomOf (absent_branch t) d s o
     absent_fault : {d p : ℕ} {s t : State} {k : Kind} → Branch (d + 1) t (fault k p) →

@@ -1,8 +1,8 @@
 -- What opens a group that holds one alternation, and what the group comes to.
 use Rattle.std.specs.Prelude.{ℕ, Option}
 use Rattle.fancy_lex.specs.Text.{Text}
-use Rattle.fancy_grammar.specs.Tree.{Tree, look_around, atomic_group, define_group, absent, repeater as repeater_of}
-use Rattle.fancy_grammar.specs.Tree.{ast_node, ast_group}
+use Rattle.fancy_grammar.specs.Tree.{Tree, look_around, atomic_group, define_group, repeater as repeater_of}
+use Rattle.fancy_grammar.specs.Tree.{ast_group}
 use Rattle.fancy_grammar.specs.declared.kinds.LookAround.{LookAround}
 
 pub data Head : Type 0 where
@@ -15,9 +15,9 @@ pub data Head : Type 0 where
 
 -- the node round the inside of a group that opens at the reach p
 abbrev pub group_node : Head → ℕ → Tree → Tree
-group_node (capture name) p t = ast_node (ast_group name t) p
+group_node (capture name) p t = ast_group name p t
 group_node scope p t = t
 group_node (look l) p t = look_around t l
 group_node atomic p t = atomic_group t
 group_node define p t = define_group t
-group_node repeater p t = absent (repeater_of t)
+group_node repeater p t = repeater_of t

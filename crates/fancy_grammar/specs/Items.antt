@@ -1,50 +1,47 @@
 -- The capturing groups and the references of a raw tree, in text order.
-use Rattle.std.specs.Prelude.{ℕ, List, [], ◌∷◌, ◌++◌}
-use Rattle.fancy_parts.specs.Meaning.{AnyReference, back_reference, call, condition}
+use Rattle.std.specs.Prelude.{List, [], ◌∷◌, ◌++◌}
+use Rattle.fancy_lex.specs.Target.{Target}
+use Rattle.fancy_parts.specs.Meaning.{AnyReference, Role, back_reference, call, condition}
 use Rattle.fancy_parts.specs.Ranks.{Opening}
-use Rattle.fancy_grammar.specs.Tree.{Tree, Trees, no_trees, more_trees, concat, alt, group, look_around, repeat}
-use Rattle.fancy_grammar.specs.Tree.{atomic_group}
-use Rattle.fancy_grammar.specs.Tree.{conditional, define_group, absent, AbsentTree, repeater, expression, stopper}
-use Rattle.fancy_grammar.specs.Tree.{clear}
-use Rattle.fancy_grammar.specs.Tree.{ast_node, AstTree, ast_group, ast_backref, ast_call, ast_condition}
+use Rattle.fancy_grammar.specs.Label.{Leaf, Wrap, AstReference, ast_group, ast_node, ast_backref, ast_call}
+use Rattle.fancy_grammar.specs.Label.{ast_condition}
+use Rattle.fancy_grammar.specs.Tree.{Tree, leaf, over, row, Trees, no_trees, more_trees}
 
 -- a capturing group opens, or a reference stands
 pub data Item : Type 0 where
   opening : Opening → Item
   reference : AnyReference → Item
 
+-- how a reference refers, and to what
+abbrev pub role_of : AstReference → Role
+role_of (ast_backref target casei level) = back_reference
+role_of (ast_call target) = call
+role_of (ast_condition target level) = condition
+
+abbrev pub target_of : AstReference → Target
+target_of (ast_backref target casei level) = target
+target_of (ast_call target) = target
+target_of (ast_condition target level) = target
+
+-- what a node opens, or refers to
+abbrev pub opened_by : Wrap → List Item
+opened_by (ast_group name reach) = opening (record { reach = reach; name = name }) ∷ []
+opened_by _ = []
+
+abbrev pub referred_by : Leaf → List Item
+referred_by (ast_node r reach) = reference (record { reach = reach; role = role_of r; target = target_of r }) ∷ []
+referred_by _ = []
+
 abbrev mutual
   -- the items in text order
   pub items : Tree → List Item
-  items (concat ts) = items_all ts
-  items (alt ts) = items_all ts
-  items (group t) = items t
-  items (look_around t l) = items t
-  items (repeat t lo hi greedy) = items t
-  items (atomic_group t) = items t
-  items (conditional c t f) = items c ++ (items t ++ items f)
-  items (absent a) = items_absent a
-  items (define_group t) = items t
-  items (ast_node node reach) = items_ast node reach
-  items _ = []
+  items (leaf l) = referred_by l
+  items (over w t) = opened_by w ++ items t
+  items (row r ts) = items_all ts
 
   pub items_all : Trees → List Item
   items_all no_trees = []
   items_all (more_trees t ts) = items t ++ items_all ts
-
-  pub items_absent : AbsentTree → List Item
-  items_absent (repeater t) = items t
-  items_absent (expression a e) = items a ++ items e
-  items_absent (stopper t) = items t
-  items_absent clear = []
-
-  pub items_ast : AstTree → ℕ → List Item
-  items_ast (ast_group name t) reach = opening (record { reach = reach; name = name }) ∷ items t
-  items_ast (ast_backref target casei level) reach =
-      reference (record { reach = reach; role = back_reference; target = target }) ∷ []
-  items_ast (ast_call target) reach = reference (record { reach = reach; role = call; target = target }) ∷ []
-  items_ast (ast_condition target level) reach = reference
-      (record { reach = reach; role = condition; target = target }) ∷ []
 
 -- the openings among the items
 abbrev pub openings_in : List Item → List Opening

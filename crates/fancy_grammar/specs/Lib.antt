@@ -1,6 +1,7 @@
 -- What a pattern means: what the contracts of its parser and its printer speak of.
 
 -- ---- trees, and when two are the same
+pub mod Label
 pub mod Tree
 pub mod Same
 pub mod SameLaws

@@ -12,17 +12,17 @@ use Rattle.fancy_parts.specs.declared.counts.Counts.{Counts}
 use Rattle.fancy_grammar.specs.Depth.{max_depth}
 use Rattle.fancy_grammar.specs.Join.{is_empty}
 use Rattle.fancy_grammar.specs.State.{skipped, State, at, Outcome, done, faulted, and_then, seen_through}
-use Rattle.fancy_grammar.specs.Tree.{Tree, empty, assertion, look_around, keep_out, continue_from_previous_match_end}
-use Rattle.fancy_grammar.specs.Tree.{verb, repeat, atomic_group}
+use Rattle.fancy_grammar.specs.Label as label
+use Rattle.fancy_grammar.specs.Tree.{Tree, leaf, over, repeat, atomic_group}
 
 -- whether a quantifier may follow the tree; in Oniguruma mode none follows an assertion
 abbrev pub is_repeatable : Flags → Tree → Bool
-is_repeatable f empty = false
-is_repeatable f (look_around t l) = false
-is_repeatable f keep_out = false
-is_repeatable f continue_from_previous_match_end = false
-is_repeatable f (verb v) = false
-is_repeatable f (assertion a) = not f.oniguruma_mode
+is_repeatable f (leaf label.empty) = false
+is_repeatable f (over (label.look_around l) t) = false
+is_repeatable f (leaf label.keep_out) = false
+is_repeatable f (leaf label.continue_from_previous_match_end) = false
+is_repeatable f (leaf (label.verb v)) = false
+is_repeatable f (leaf (label.assertion a)) = not f.oniguruma_mode
 is_repeatable f _ = true
 
 -- in Oniguruma mode an Empty stays without the quantifier whose mark or closing brace t follows,

@@ -22,14 +22,17 @@ use Rattle.fancy_grammar.specs.declared.kinds.BacktrackingControlVerb.TheVariant
 use Rattle.fancy_grammar.specs.declared.kinds.LookAround.{LookAround}
 use Rattle.fancy_grammar.specs.declared.kinds.LookAround.TheVariants.{LookAhead, LookAheadNeg, LookBehind}
 use Rattle.fancy_grammar.specs.declared.kinds.LookAround.TheVariants.{LookBehindNeg}
-use Rattle.fancy_grammar.specs.Same.{same, same_all, same_absent, same_ast, same_look, same_assertion, same_verb}
+use Rattle.fancy_grammar.specs.Same.{same, same_all, same_leaf, same_wrap, same_row, same_reference, same_look}
+use Rattle.fancy_grammar.specs.Same.{same_assertion, same_verb}
 use Rattle.fancy_grammar.specs.Same.{same_level, same_name}
-use Rattle.fancy_grammar.specs.Tree.{Tree, empty, any, assertion, general_newline, literal, literal_bytes, concat, alt}
-use Rattle.fancy_grammar.specs.Tree.{group, look_around, repeat, delegate, backref, backref_at_level, atomic_group}
-use Rattle.fancy_grammar.specs.Tree.{keep_out, continue_from_previous_match_end, backref_exists, conditional}
-use Rattle.fancy_grammar.specs.Tree.{subroutine_call, verb, absent, define_group, ast_node, Trees, no_trees, more_trees}
-use Rattle.fancy_grammar.specs.Tree.{AbsentTree, repeater, expression, stopper, clear, AstTree, ast_group, ast_backref}
-use Rattle.fancy_grammar.specs.Tree.{ast_call, ast_condition}
+use Rattle.fancy_grammar.specs.Label.{Leaf, Wrap, Row, empty, any, assertion, general_newline, literal, literal_bytes}
+use Rattle.fancy_grammar.specs.Label.{delegate}
+use Rattle.fancy_grammar.specs.Label.{backref, backref_at_level, keep_out, continue_from_previous_match_end}
+use Rattle.fancy_grammar.specs.Label.{backref_exists, subroutine_call, verb, clear, ast_node, group, look_around}
+use Rattle.fancy_grammar.specs.Label.{repeat}
+use Rattle.fancy_grammar.specs.Label.{atomic_group, define_group, repeater, stopper, ast_group, expression, conditional}
+use Rattle.fancy_grammar.specs.Label.{concat, alt, AstReference, ast_backref, ast_call, ast_condition}
+use Rattle.fancy_grammar.specs.Tree.{Tree, leaf, over, row, Trees, no_trees, more_trees}
 
 both : (x y : Bool) → x ≡ true → y ≡ true → (x && y) ≡ true
 both true y h k = k
@@ -114,151 +117,145 @@ same_name-refl : (t : Option Text) → same_name t t ≡ true
 same_name-refl None = refl
 same_name-refl (Some x) = (bytes_decides x x).1 refl
 
+-- ---- labels
+
+same_reference-true : (s t : AstReference) → same_reference s t ≡ true → s ≡ t
+same_reference-true (ast_backref target casei level) (ast_backref target' casei' level') h =
+    λ i. ast_backref (same_target-true target target' (first_so _ _ (first_so _ _ h)) i)
+    ((booleans_Decides casei casei').0 (second_so (same_target target target') _ (first_so _ _ h)) i)
+    (same_level-true level level' (second_so (same_target target target' && beq casei casei') _ h) i)
+same_reference-true (ast_call target) (ast_call target') h = λ i. ast_call (same_target-true target target' h i)
+same_reference-true (ast_condition target level) (ast_condition target' level') h =
+    λ i. ast_condition (same_target-true target target' (first_so _ _ h) i)
+    (same_level-true level level' (second_so (same_target target target') _ h) i)
+same_reference-true _ _ h = absurd (false≢true h)
+
+same_reference-refl : (t : AstReference) → same_reference t t ≡ true
+same_reference-refl (ast_backref target casei level) =
+    both _ _ (both _ _ (same_target-refl target) ((booleans_Decides casei casei).1 refl)) (same_level-refl level)
+same_reference-refl (ast_call target) = same_target-refl target
+same_reference-refl (ast_condition target level) = both _ _ (same_target-refl target) (same_level-refl level)
+
+same_leaf-true : (l m : Leaf) → same_leaf l m ≡ true → l ≡ m
+same_leaf-true empty empty h = refl
+same_leaf-true (any newline crlf) (any newline' crlf') h =
+    λ i. any ((booleans_Decides newline newline').0 (first_so _ _ h) i)
+    ((booleans_Decides crlf crlf').0 (second_so (beq newline newline') _ h) i)
+same_leaf-true (assertion a) (assertion a') h = λ i. assertion (same_assertion-true a a' h i)
+same_leaf-true (general_newline unicode) (general_newline unicode') h =
+    λ i. general_newline ((booleans_Decides unicode unicode').0 h i)
+same_leaf-true (literal text casei) (literal text' casei') h =
+    λ i. literal ((bytes_decides text text').0 (first_so _ _ h) i)
+    ((booleans_Decides casei casei').0 (second_so (bytes_eq text text') _ h) i)
+same_leaf-true (literal_bytes bytes) (literal_bytes bytes') h =
+    λ i. literal_bytes ((bytes_decides bytes bytes').0 h i)
+same_leaf-true (delegate text casei) (delegate text' casei') h =
+    λ i. delegate ((bytes_decides text text').0 (first_so _ _ h) i)
+    ((booleans_Decides casei casei').0 (second_so (bytes_eq text text') _ h) i)
+same_leaf-true (backref n casei) (backref n' casei') h =
+    λ i. backref ((unsigned_Decides n n').0 (first_so _ _ h) i)
+    ((booleans_Decides casei casei').0 (second_so (nat_eq n n') _ h) i)
+same_leaf-true (backref_at_level n level casei) (backref_at_level n' level' casei') h =
+    λ i. backref_at_level ((unsigned_Decides n n').0 (first_so _ _ (first_so _ _ h)) i)
+    ((signed_Decides level level').0 (second_so (nat_eq n n') _ (first_so _ _ h)) i)
+    ((booleans_Decides casei casei').0 (second_so (nat_eq n n' && int_eq level level') _ h) i)
+same_leaf-true keep_out keep_out h = refl
+same_leaf-true continue_from_previous_match_end continue_from_previous_match_end h = refl
+same_leaf-true (backref_exists n level) (backref_exists n' level') h =
+    λ i. backref_exists ((unsigned_Decides n n').0 (first_so _ _ h) i)
+    (same_level-true level level' (second_so (nat_eq n n') _ h) i)
+same_leaf-true (subroutine_call n) (subroutine_call n') h = λ i. subroutine_call ((unsigned_Decides n n').0 h i)
+same_leaf-true (verb v) (verb v') h = λ i. verb (same_verb-true v v' h i)
+same_leaf-true clear clear h = refl
+same_leaf-true (ast_node r place) (ast_node r' place') h =
+    λ i. ast_node (same_reference-true r r' (first_so _ _ h) i)
+    ((unsigned_Decides place place').0 (second_so (same_reference r r') _ h) i)
+same_leaf-true _ _ h = absurd (false≢true h)
+
+same_wrap-true : (w v : Wrap) → same_wrap w v ≡ true → w ≡ v
+same_wrap-true group group h = refl
+same_wrap-true (look_around l) (look_around l') h = λ i. look_around (same_look-true l l' h i)
+same_wrap-true (repeat lo hi greedy) (repeat lo' hi' greedy') h =
+    λ i. repeat ((unsigned_Decides lo lo').0 (first_so _ _ (first_so _ _ h)) i)
+    ((unsigned_Decides hi hi').0 (second_so (nat_eq lo lo') _ (first_so _ _ h)) i)
+    ((booleans_Decides greedy greedy').0 (second_so (nat_eq lo lo' && nat_eq hi hi') _ h) i)
+same_wrap-true atomic_group atomic_group h = refl
+same_wrap-true define_group define_group h = refl
+same_wrap-true repeater repeater h = refl
+same_wrap-true stopper stopper h = refl
+same_wrap-true (ast_group name place) (ast_group name' place') h =
+    λ i. ast_group (same_name-true name name' (first_so _ _ h) i)
+    ((unsigned_Decides place place').0 (second_so (same_name name name') _ h) i)
+same_wrap-true _ _ h = absurd (false≢true h)
+
+same_row-true : (r q : Row) → same_row r q ≡ true → r ≡ q
+same_row-true concat concat h = refl
+same_row-true alt alt h = refl
+same_row-true expression expression h = refl
+same_row-true conditional conditional h = refl
+same_row-true _ _ h = absurd (false≢true h)
+
+same_leaf-refl : (l : Leaf) → same_leaf l l ≡ true
+same_leaf-refl (any newline crlf) =
+    both _ _ ((booleans_Decides newline newline).1 refl) ((booleans_Decides crlf crlf).1 refl)
+same_leaf-refl (assertion a) = same_assertion-refl a
+same_leaf-refl (general_newline unicode) = (booleans_Decides unicode unicode).1 refl
+same_leaf-refl (literal text casei) =
+    both _ _ ((bytes_decides text text).1 refl) ((booleans_Decides casei casei).1 refl)
+same_leaf-refl (literal_bytes bytes) = (bytes_decides bytes bytes).1 refl
+same_leaf-refl (delegate text casei) =
+    both _ _ ((bytes_decides text text).1 refl) ((booleans_Decides casei casei).1 refl)
+same_leaf-refl (backref n casei) = both _ _ ((unsigned_Decides n n).1 refl) ((booleans_Decides casei casei).1 refl)
+same_leaf-refl (backref_at_level n level casei) =
+    both _ _ (both _ _ ((unsigned_Decides n n).1 refl) ((signed_Decides level level).1 refl))
+    ((booleans_Decides casei casei).1 refl)
+same_leaf-refl (backref_exists n level) = both _ _ ((unsigned_Decides n n).1 refl) (same_level-refl level)
+same_leaf-refl (subroutine_call n) = (unsigned_Decides n n).1 refl
+same_leaf-refl (verb v) = same_verb-refl v
+same_leaf-refl (ast_node r place) = both _ _ (same_reference-refl r) ((unsigned_Decides place place).1 refl)
+same_leaf-refl _ = refl
+
+same_wrap-refl : (w : Wrap) → same_wrap w w ≡ true
+same_wrap-refl (look_around l) = same_look-refl l
+same_wrap-refl (repeat lo hi greedy) =
+    both _ _ (both _ _ ((unsigned_Decides lo lo).1 refl) ((unsigned_Decides hi hi).1 refl))
+    ((booleans_Decides greedy greedy).1 refl)
+same_wrap-refl (ast_group name place) = both _ _ (same_name-refl name) ((unsigned_Decides place place).1 refl)
+same_wrap-refl _ = refl
+
+same_row-refl : (r : Row) → same_row r r ≡ true
+same_row-refl concat = refl
+same_row-refl _ = refl
+
 -- ---- trees
 
 mutual
   pub same-true : (s t : Tree) → same s t ≡ true → s ≡ t
-  same-true empty empty h = refl
-  same-true (any newline crlf) (any newline' crlf') h =
-      λ i. any ((booleans_Decides newline newline').0 (first_so _ _ h) i)
-      ((booleans_Decides crlf crlf').0 (second_so (beq newline newline') _ h) i)
-  same-true (assertion a) (assertion a') h = λ i. assertion (same_assertion-true a a' h i)
-  same-true (general_newline unicode) (general_newline unicode') h =
-      λ i. general_newline ((booleans_Decides unicode unicode').0 h i)
-  same-true (literal text casei) (literal text' casei') h =
-      λ i. literal ((bytes_decides text text').0 (first_so _ _ h) i)
-      ((booleans_Decides casei casei').0 (second_so (bytes_eq text text') _ h) i)
-  same-true (literal_bytes bytes) (literal_bytes bytes') h = λ i. literal_bytes ((bytes_decides bytes bytes').0 h i)
-  same-true (concat ts) (concat ts') h = λ i. concat (same_all-true ts ts' h i)
-  same-true (alt ts) (alt ts') h = λ i. alt (same_all-true ts ts' h i)
-  same-true (group t) (group t') h = λ i. group (same-true t t' h i)
-  same-true (look_around t l) (look_around t' l') h =
-      λ i. look_around (same-true t t' (first_so _ _ h) i) (same_look-true l l' (second_so (same t t') _ h) i)
-  same-true (repeat t lo hi greedy) (repeat t' lo' hi' greedy') h =
-      λ i. repeat (same-true t t' (first_so _ _ (first_so _ _ (first_so _ _ h))) i)
-      ((unsigned_Decides lo lo').0 (second_so (same t t') _ (first_so _ _ (first_so _ _ h))) i)
-      ((unsigned_Decides hi hi').0 (second_so (same t t' && nat_eq lo lo') _ (first_so _ _ h)) i)
-      ((booleans_Decides greedy greedy').0 (second_so (same t t' && nat_eq lo lo' && nat_eq hi hi') _ h) i)
-  same-true (delegate text casei) (delegate text' casei') h =
-      λ i. delegate ((bytes_decides text text').0 (first_so _ _ h) i)
-      ((booleans_Decides casei casei').0 (second_so (bytes_eq text text') _ h) i)
-  same-true (backref n casei) (backref n' casei') h =
-      λ i. backref ((unsigned_Decides n n').0 (first_so _ _ h) i)
-      ((booleans_Decides casei casei').0 (second_so (nat_eq n n') _ h) i)
-  same-true (backref_at_level n level casei) (backref_at_level n' level' casei') h =
-      λ i. backref_at_level ((unsigned_Decides n n').0 (first_so _ _ (first_so _ _ h)) i)
-      ((signed_Decides level level').0 (second_so (nat_eq n n') _ (first_so _ _ h)) i)
-      ((booleans_Decides casei casei').0 (second_so (nat_eq n n' && int_eq level level') _ h) i)
-  same-true (atomic_group t) (atomic_group t') h = λ i. atomic_group (same-true t t' h i)
-  same-true keep_out keep_out h = refl
-  same-true continue_from_previous_match_end continue_from_previous_match_end h = refl
-  same-true (backref_exists n level) (backref_exists n' level') h =
-      λ i. backref_exists ((unsigned_Decides n n').0 (first_so _ _ h) i)
-      (same_level-true level level' (second_so (nat_eq n n') _ h) i)
-  same-true (conditional c t f) (conditional c' t' f') h =
-      λ i. conditional (same-true c c' (first_so _ _ (first_so _ _ h)) i)
-      (same-true t t' (second_so (same c c') _ (first_so _ _ h)) i)
-      (same-true f f' (second_so (same c c' && same t t') _ h) i)
-  same-true (subroutine_call n) (subroutine_call n') h = λ i. subroutine_call ((unsigned_Decides n n').0 h i)
-  same-true (verb v) (verb v') h = λ i. verb (same_verb-true v v' h i)
-  same-true (absent a) (absent a') h = λ i. absent (same_absent-true a a' h i)
-  same-true (define_group t) (define_group t') h = λ i. define_group (same-true t t' h i)
-  same-true (ast_node node place) (ast_node node' place') h =
-      λ i. ast_node (same_ast-true node node' (first_so _ _ h) i)
-      ((unsigned_Decides place place').0 (second_so (same_ast node node') _ h) i)
+  same-true (leaf l) (leaf m) h = λ i. leaf (same_leaf-true l m h i)
+  same-true (over w t) (over v u) h =
+      λ i. over (same_wrap-true w v (first_so _ _ h) i) (same-true t u (second_so (same_wrap w v) _ h) i)
+  same-true (row r ts) (row q us) h =
+      λ i. row (same_row-true r q (first_so _ _ h) i) (same_all-true ts us (second_so (same_row r q) _ h) i)
   same-true _ _ h = absurd (false≢true h)
 
   pub same_all-true : (s t : Trees) → same_all s t ≡ true → s ≡ t
   same_all-true no_trees no_trees h = refl
-  same_all-true (more_trees t ts) (more_trees t' ts') h =
-      λ i. more_trees (same-true t t' (first_so _ _ h) i) (same_all-true ts ts' (second_so (same t t') _ h) i)
+  same_all-true (more_trees t ts) (more_trees u us) h =
+      λ i. more_trees (same-true t u (first_so _ _ h) i) (same_all-true ts us (second_so (same t u) _ h) i)
   same_all-true _ _ h = absurd (false≢true h)
-
-  pub same_absent-true : (s t : AbsentTree) → same_absent s t ≡ true → s ≡ t
-  same_absent-true (repeater t) (repeater t') h = λ i. repeater (same-true t t' h i)
-  same_absent-true (expression a e) (expression a' e') h =
-      λ i. expression (same-true a a' (first_so _ _ h) i) (same-true e e' (second_so (same a a') _ h) i)
-  same_absent-true (stopper t) (stopper t') h = λ i. stopper (same-true t t' h i)
-  same_absent-true clear clear h = refl
-  same_absent-true _ _ h = absurd (false≢true h)
-
-  pub same_ast-true : (s t : AstTree) → same_ast s t ≡ true → s ≡ t
-  same_ast-true (ast_group name t) (ast_group name' t') h =
-      λ i. ast_group (same_name-true name name' (first_so _ _ h) i)
-      (same-true t t' (second_so (same_name name name') _ h) i)
-  same_ast-true (ast_backref target casei level) (ast_backref target' casei' level') h =
-      λ i. ast_backref (same_target-true target target' (first_so _ _ (first_so _ _ h)) i)
-      ((booleans_Decides casei casei').0 (second_so (same_target target target') _ (first_so _ _ h)) i)
-      (same_level-true level level' (second_so (same_target target target' && beq casei casei') _ h) i)
-  same_ast-true (ast_call target) (ast_call target') h = λ i. ast_call (same_target-true target target' h i)
-  same_ast-true (ast_condition target level) (ast_condition target' level') h =
-      λ i. ast_condition (same_target-true target target' (first_so _ _ h) i)
-      (same_level-true level level' (second_so (same_target target target') _ h) i)
-  same_ast-true _ _ h = absurd (false≢true h)
 
 mutual
   pub same-refl : (t : Tree) → same t t ≡ true
-  same-refl empty = refl
-  same-refl (any newline crlf) =
-      both _ _ ((booleans_Decides newline newline).1 refl) ((booleans_Decides crlf crlf).1 refl)
-  same-refl (assertion a) = same_assertion-refl a
-  same-refl (general_newline unicode) = (booleans_Decides unicode unicode).1 refl
-  same-refl (literal text casei) = both _ _ ((bytes_decides text text).1 refl) ((booleans_Decides casei casei).1 refl)
-  same-refl (literal_bytes bytes) = (bytes_decides bytes bytes).1 refl
-  same-refl (concat ts) = same_all-refl ts
-  same-refl (alt ts) = same_all-refl ts
-  same-refl (group t) = same-refl t
-  same-refl (look_around t l) = both _ _ (same-refl t) (same_look-refl l)
-  same-refl (repeat t lo hi greedy) =
-      both _ _ (both _ _ (both _ _ (same-refl t) ((unsigned_Decides lo lo).1 refl)) ((unsigned_Decides hi hi).1 refl))
-      ((booleans_Decides greedy greedy).1 refl)
-  same-refl (delegate text casei) = both _ _ ((bytes_decides text text).1 refl) ((booleans_Decides casei casei).1 refl)
-  same-refl (backref n casei) = both _ _ ((unsigned_Decides n n).1 refl) ((booleans_Decides casei casei).1 refl)
-  same-refl (backref_at_level n level casei) =
-      both _ _ (both _ _ ((unsigned_Decides n n).1 refl) ((signed_Decides level level).1 refl))
-      ((booleans_Decides casei casei).1 refl)
-  same-refl (atomic_group t) = same-refl t
-  same-refl keep_out = refl
-  same-refl continue_from_previous_match_end = refl
-  same-refl (backref_exists n level) = both _ _ ((unsigned_Decides n n).1 refl) (same_level-refl level)
-  same-refl (conditional c t f) = both _ _ (both _ _ (same-refl c) (same-refl t)) (same-refl f)
-  same-refl (subroutine_call n) = (unsigned_Decides n n).1 refl
-  same-refl (verb v) = same_verb-refl v
-  same-refl (absent a) = same_absent-refl a
-  same-refl (define_group t) = same-refl t
-  same-refl (ast_node node place) = both _ _ (same_ast-refl node) ((unsigned_Decides place place).1 refl)
+  same-refl (leaf l) = same_leaf-refl l
+  same-refl (over w t) = both _ _ (same_wrap-refl w) (same-refl t)
+  same-refl (row r ts) = both _ _ (same_row-refl r) (same_all-refl ts)
 
   pub same_all-refl : (t : Trees) → same_all t t ≡ true
   same_all-refl no_trees = refl
   same_all-refl (more_trees t ts) = both _ _ (same-refl t) (same_all-refl ts)
-
-  pub same_absent-refl : (t : AbsentTree) → same_absent t t ≡ true
-  same_absent-refl (repeater t) = same-refl t
-  same_absent-refl (expression a e) = both _ _ (same-refl a) (same-refl e)
-  same_absent-refl (stopper t) = same-refl t
-  same_absent-refl clear = refl
-
-  pub same_ast-refl : (t : AstTree) → same_ast t t ≡ true
-  same_ast-refl (ast_group name t) = both _ _ (same_name-refl name) (same-refl t)
-  same_ast-refl (ast_backref target casei level) =
-      both _ _ (both _ _ (same_target-refl target) ((booleans_Decides casei casei).1 refl)) (same_level-refl level)
-  same_ast-refl (ast_call target) = same_target-refl target
-  same_ast-refl (ast_condition target level) = both _ _ (same_target-refl target) (same_level-refl level)
 
 pub same-Decides : (s t : Tree) → Decides (same s t) (s ≡ t)
 same-Decides s t = (same-true s t, λ e. subst (λ u. same s u ≡ true) e (same-refl s))
 
 pub same-equiv : IsEquivalence same
 same-equiv = decided same same-Decides
-
-pub same_absent-Decides : (s t : AbsentTree) → Decides (same_absent s t) (s ≡ t)
-same_absent-Decides s t = (same_absent-true s t, λ e. subst (λ u. same_absent s u ≡ true) e (same_absent-refl s))
-
-pub same_absent-equiv : IsEquivalence same_absent
-same_absent-equiv = decided same_absent same_absent-Decides
-
-pub same_ast-Decides : (s t : AstTree) → Decides (same_ast s t) (s ≡ t)
-same_ast-Decides s t = (same_ast-true s t, λ e. subst (λ u. same_ast s u ≡ true) e (same_ast-refl s))
-
-pub same_ast-equiv : IsEquivalence same_ast
-same_ast-equiv = decided same_ast same_ast-Decides

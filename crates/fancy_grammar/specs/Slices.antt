@@ -1,5 +1,5 @@
 -- What is read is a slice of the text, and what it opens and refers to stands in it.
-use Rattle.std.specs.Prelude.{◌≡◌, ℕ, ◌+◌, ◌≤◌, List, ◌++◌}
+use Rattle.std.specs.Prelude.{◌≡◌, ℕ, ◌+◌, List, ◌++◌}
 use Rattle.std.specs.List.{AllByRecursion}
 use Rattle.fancy_lex.specs.Text.{Text, Stands, reach_of}
 use Rattle.fancy_grammar.specs.Items.{Item, items_all}

@@ -12,11 +12,7 @@ use Rattle.fancy_parts.specs.Written.{is_numeric}
 use Rattle.fancy_grammar.specs.Items.{Item, opening, reference, items}
 use Rattle.fancy_grammar.specs.Marks.{back_number, is_call, is_call_of_all}
 use Rattle.fancy_grammar.specs.Resolved.{resolved_node, group_or_inside}
-use Rattle.fancy_grammar.specs.Tree.{Tree, Trees, no_trees, more_trees, concat, alt, group, look_around, repeat}
-use Rattle.fancy_grammar.specs.Tree.{atomic_group}
-use Rattle.fancy_grammar.specs.Tree.{conditional, define_group, absent, AbsentTree, repeater, expression, stopper}
-use Rattle.fancy_grammar.specs.Tree.{clear}
-use Rattle.fancy_grammar.specs.Tree.{ast_node, ast_group}
+use Rattle.fancy_grammar.specs.Tree.{Tree, leaf, over, row, Trees, no_trees, more_trees, ast_group, ast_node}
 
 -- ---- the first walk finds the groups
 
@@ -112,29 +108,14 @@ progress_after k s l = fold (note_item k) s l
 abbrev mutual
   -- the tree resolved from there on
   pub rebuilt : Known → Progress → Tree → Tree
-  rebuilt k s (concat ts) = concat (rebuilt_all k s ts)
-  rebuilt k s (alt ts) = alt (rebuilt_all k s ts)
-  rebuilt k s (group t) = group (rebuilt k s t)
-  rebuilt k s (look_around t l) = look_around (rebuilt k s t) l
-  rebuilt k s (repeat t lo hi greedy) = repeat (rebuilt k s t) lo hi greedy
-  rebuilt k s (atomic_group t) = atomic_group (rebuilt k s t)
-  rebuilt k s (conditional c t f) =
-      conditional (rebuilt k s c) (rebuilt k (progress_after k s (items c)) t)
-      (rebuilt k (progress_after k (progress_after k s (items c)) (items t)) f)
-  rebuilt k s (absent a) = absent (rebuilt_absent k s a)
-  rebuilt k s (define_group t) = define_group (rebuilt k s t)
-  rebuilt k s (ast_node (ast_group name t) reach) =
+  rebuilt k s (ast_group name reach t) =
       let inside = note_item k s (opening (record { reach = reach; name = name })) in
       group_or_inside (is_counted k.named name) (rebuilt k inside t)
-  rebuilt k s (ast_node node reach) = resolved_node (bytes k.text) (numbers_under k.groups.names) s.passed node reach
-  rebuilt k s t = t
+  rebuilt k s (ast_node r reach) = resolved_node (bytes k.text) (numbers_under k.groups.names) s.passed r reach
+  rebuilt k s (leaf l) = leaf l
+  rebuilt k s (over w t) = over w (rebuilt k s t)
+  rebuilt k s (row r ts) = row r (rebuilt_all k s ts)
 
   pub rebuilt_all : Known → Progress → Trees → Trees
   rebuilt_all k s no_trees = no_trees
   rebuilt_all k s (more_trees t ts) = more_trees (rebuilt k s t) (rebuilt_all k (progress_after k s (items t)) ts)
-
-  pub rebuilt_absent : Known → Progress → AbsentTree → AbsentTree
-  rebuilt_absent k s (repeater t) = repeater (rebuilt k s t)
-  rebuilt_absent k s (expression a e) = expression (rebuilt k s a) (rebuilt k (progress_after k s (items a)) e)
-  rebuilt_absent k s (stopper t) = stopper (rebuilt k s t)
-  rebuilt_absent k s clear = clear

@@ -1,11 +1,13 @@
 -- Two trees of different variants are not the same.
-use Rattle.std.proofs.Common.{◌≡◌, false, ◌∙◌, refl, ap, sym, subst}
+use Rattle.std.proofs.Common.{◌≡◌, ℕ, Bool, true, false, ◌∙◌, refl, ap, sym, subst}
 use Rattle.fancy_grammar.specs.Same.{same}
-use Rattle.fancy_grammar.specs.Tree.{Tree, AbsentTree, AstTree}
+use Rattle.fancy_grammar.specs.Label as label
+use Rattle.fancy_grammar.specs.SameLaws.{same-Decides}
+use Rattle.fancy_grammar.specs.Tree.{Tree, leaf, over, row}
 use Rattle.fancy_syntax.specs.View.{view, view_absent, view_ast, absent_step, ast_step, expr_step}
-use Rattle.fancy_syntax.specs.declared.expr.Absent.{Absent}
-use Rattle.fancy_syntax.specs.declared.expr.Absent.TheOpen.{Expr-F}
-use Rattle.fancy_syntax.specs.declared.expr.AstNode.{AstNode}
+use Rattle.fancy_syntax.specs.declared.expr.Absent.{Absent, out-Absent, map-Absent, fold_out-Absent}
+use Rattle.fancy_syntax.specs.declared.expr.Absent.TheOpen.{Absent-F, AstNode-F, Expr-F}
+use Rattle.fancy_syntax.specs.declared.expr.AstNode.{AstNode, out-AstNode, map-AstNode, fold_out-AstNode}
 use Rattle.fancy_syntax.specs.declared.expr.Expr as expr
 use Rattle.fancy_syntax.specs.declared.expr.Expr.{Expr, out-Expr, roll-Expr, roll-out-Expr, map-Expr, fold_out-Expr}
 use Rattle.fancy_syntax.specs.declared.expr.Expr.TheVariants as variant
@@ -40,7 +42,51 @@ Other (Expr-F.AstNode _ _) y = (a b : _) → y ≡ expr.AstNode a b → ⊥
 
 -- a level with each tree inside seen
 abbrev seen : Expr-F Absent AstNode Expr → Tree
-seen u = expr_step (map-Expr Absent AstNode Expr AbsentTree AstTree Tree view_absent view_ast view u)
+seen u = expr_step (map-Expr Absent AstNode Expr Tree (ℕ → Tree) Tree view_absent view_ast view u)
+
+-- what tells an absent form, and a node that is read, from the others
+abbrev is_absent : Tree → Bool
+is_absent (leaf label.clear) = true
+is_absent (over label.repeater t) = true
+is_absent (over label.stopper t) = true
+is_absent (row label.expression ts) = true
+is_absent _ = false
+
+abbrev is_read : Tree → Bool
+is_read (leaf (label.ast_node r place)) = true
+is_read (over (label.ast_group name place) t) = true
+is_read _ = false
+
+absent_step_is : (a : Absent-F Tree (ℕ → Tree) Tree) → is_absent (absent_step a) ≡ true
+absent_step_is (Absent-F.Repeater t) = refl
+absent_step_is _ = refl
+
+absent_is : (a : Absent) → is_absent (view_absent a) ≡ true
+absent_is a =
+    ap is_absent (fold_out-Absent Tree (ℕ → Tree) Tree absent_step ast_step expr_step a)
+    ∙ absent_step_is (map-Absent Absent AstNode Expr Tree (ℕ → Tree) Tree view_absent view_ast view (out-Absent a))
+
+node_step_is : (n : AstNode-F Tree (ℕ → Tree) Tree) (place : ℕ) →
+    (is_read (ast_step n place) ≡ true) × (is_absent (ast_step n place) ≡ false)
+node_step_is (AstNode-F.AstGroup name inner) place = (refl, refl)
+node_step_is _ place = (refl, refl)
+
+node_is : (n : AstNode) (place : ℕ) →
+    (is_read (view_ast n place) ≡ true) × (is_absent (view_ast n place) ≡ false)
+node_is n place =
+    subst (λ f. (is_read (f place) ≡ true) × (is_absent (f place) ≡ false))
+    (sym (fold_out-AstNode Tree (ℕ → Tree) Tree absent_step ast_step expr_step n))
+    (node_step_is
+    (map-AstNode Absent AstNode Expr Tree (ℕ → Tree) Tree view_absent view_ast view (out-AstNode n)) place)
+
+false_unless : (b : Bool) → (b ≡ true → ⊥) → false ≡ b
+false_unless true h = absurd (h refl)
+false_unless false h = refl
+
+-- two trees of which one has it
+differ : (f : Tree → Bool) (s t : Tree) (b c : Bool) → f s ≡ b → f t ≡ c → (b ≡ c → ⊥) → false ≡ same s t
+differ f s t b c e g h =
+    false_unless (same s t) (λ i. h (sym e ∙ ap f ((same-Decides s t).0 i) ∙ g))
 
 levels_apart : (u v : Expr-F Absent AstNode Expr) → Other u (roll-Expr v) → false ≡ same (seen u) (seen v)
 levels_apart Expr-F.Empty Expr-F.Empty h = absurd (h variant.rolls-Empty)
@@ -73,10 +119,18 @@ levels_apart (Expr-F.BacktrackingControlVerb _) (Expr-F.BacktrackingControlVerb 
 levels_apart (Expr-F.Absent _) (Expr-F.Absent a) h = absurd (h a (variant.rolls-Absent a))
 levels_apart (Expr-F.DefineGroup _) (Expr-F.DefineGroup a) h = absurd (h a (variant.rolls-DefineGroup a))
 levels_apart (Expr-F.AstNode _ _) (Expr-F.AstNode a b) h = absurd (h a b (variant.rolls-AstNode a b))
+levels_apart (Expr-F.Absent a) (Expr-F.AstNode n p) h =
+    differ is_absent (view_absent a) (view_ast n p) true false (absent_is a) (node_is n p).1 (λ e. cc)
+levels_apart (Expr-F.AstNode n p) (Expr-F.Absent a) h =
+    differ is_absent (view_ast n p) (view_absent a) false true (node_is n p).1 (absent_is a) (λ e. cc)
+levels_apart (Expr-F.Absent a) v h = differ is_absent (view_absent a) (seen v) true false (absent_is a) refl (λ e. cc)
+levels_apart u (Expr-F.Absent a) h = differ is_absent (seen u) (view_absent a) false true refl (absent_is a) (λ e. cc)
+levels_apart (Expr-F.AstNode n p) v h = differ is_read (view_ast n p) (seen v) true false (node_is n p).0 refl (λ e. cc)
+levels_apart u (Expr-F.AstNode n p) h = differ is_read (seen u) (view_ast n p) false true refl (node_is n p).0 (λ e. cc)
 levels_apart _ _ h = refl
 
 seen_out : (x : Expr) → view x ≡ seen (out-Expr x)
-seen_out x = fold_out-Expr AbsentTree AstTree Tree absent_step ast_step expr_step x
+seen_out x = fold_out-Expr Tree (ℕ → Tree) Tree absent_step ast_step expr_step x
 
 pub apart : (x y : Expr) (u : Expr-F Absent AstNode Expr) → out-Expr x ≡ u → Other u y → false ≡ same (view x) (view y)
 apart x y u is other =

@@ -1,8 +1,8 @@
 -- The children of a node that holds a list, and of a leaf.
 use Rattle.std.proofs.Common.{◌≡◌, true, List, [], ◌∷◌, Global, Vec, rules, ◌∙◌, refl, ap}
 use Rattle.std.proofs.lemmas.Bool.{false≢true}
-use Rattle.fancy_grammar.specs.Tree.{Tree, concat, alt, group, look_around, repeat, atomic_group, conditional, absent}
-use Rattle.fancy_grammar.specs.Tree.{repeater, expression, stopper, define_group, children, is_leaf, list_of, trees_of}
+use Rattle.fancy_grammar.specs.Label as label
+use Rattle.fancy_grammar.specs.Tree.{Tree, leaf, over, row, concat, alt, children, is_leaf, list_of, trees_of}
 use Rattle.fancy_syntax.specs.View.{view, views}
 use Rattle.fancy_syntax.specs.declared.expr.Expr.{Expr, Concat, Alt, the_lemmas}
 
@@ -23,15 +23,7 @@ pub children_Alt : (e : Expr) (v : Vec Expr Global) → e ≡ Alt v → children
 children_Alt e v h = ap (λ x. children (view x)) h ∙ ap children (view_Alt v) ∙ list_of_trees_of _
 
 pub leaf_children : (t : Tree) → is_leaf t ≡ true → children t ≡ []
-leaf_children (concat ts) h = absurd (false≢true h)
-leaf_children (alt ts) h = absurd (false≢true h)
-leaf_children (group t) h = absurd (false≢true h)
-leaf_children (look_around t l) h = absurd (false≢true h)
-leaf_children (repeat t lo hi greedy) h = absurd (false≢true h)
-leaf_children (atomic_group t) h = absurd (false≢true h)
-leaf_children (conditional c t f) h = absurd (false≢true h)
-leaf_children (absent (repeater t)) h = absurd (false≢true h)
-leaf_children (absent (expression a e)) h = absurd (false≢true h)
-leaf_children (absent (stopper t)) h = absurd (false≢true h)
-leaf_children (define_group t) h = absurd (false≢true h)
-leaf_children _ h = refl
+leaf_children (leaf l) h = refl
+leaf_children (over (label.ast_group name place) t) h = refl
+leaf_children (over w t) h = absurd (false≢true h)
+leaf_children (row r ts) h = absurd (false≢true h)

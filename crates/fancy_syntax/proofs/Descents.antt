@@ -5,9 +5,9 @@ use Rattle.std.specs.List.{IsAmong}
 use Rattle.std.proofs.lemmas.List.{get_or-map, length-map}
 use Rattle.fancy_syntax.specs.Children.{children_of}
 use Rattle.fancy_syntax.specs.Descendants.{IsDescendant, child, deeper}
-use Rattle.fancy_grammar.specs.Tree.{Tree, concat, alt, group, look_around, repeat, atomic_group, conditional, absent}
-use Rattle.fancy_grammar.specs.Tree.{define_group, Trees, no_trees, more_trees, repeater, expression, stopper, list_of}
-use Rattle.fancy_grammar.specs.Tree.{children, levels, levels_all}
+use Rattle.fancy_grammar.specs.Label as label
+use Rattle.fancy_grammar.specs.Tree.{Tree, leaf, over, row, Trees, no_trees, more_trees, list_of, children, levels}
+use Rattle.fancy_grammar.specs.Tree.{levels_all}
 use Rattle.fancy_syntax.specs.View.{view, views}
 use Rattle.fancy_syntax.specs.declared.expr.Expr.{Expr}
 
@@ -20,30 +20,11 @@ levels_member (more_trees t ts) zero d h = omega arith
 levels_member (more_trees t ts) (suc i) d h = omega (arith, levels_member ts i d (omega arith))
 
 levels_child : (t : Tree) (i : ℕ) (d : Tree) → i < length (children t) → levels (get_or (children t) i d) < levels t
-levels_child (concat ts) i d h = omega (arith, levels_member ts i d h)
-levels_child (alt ts) i d h = omega (arith, levels_member ts i d h)
-levels_child (group t) zero d h = omega arith
-levels_child (group t) (suc i) d h = absurd (omega arith)
-levels_child (look_around t l) zero d h = omega arith
-levels_child (look_around t l) (suc i) d h = absurd (omega arith)
-levels_child (repeat t lo hi greedy) zero d h = omega arith
-levels_child (repeat t lo hi greedy) (suc i) d h = absurd (omega arith)
-levels_child (atomic_group t) zero d h = omega arith
-levels_child (atomic_group t) (suc i) d h = absurd (omega arith)
-levels_child (conditional c t f) zero d h = omega arith
-levels_child (conditional c t f) (suc zero) d h = omega arith
-levels_child (conditional c t f) (suc (suc zero)) d h = omega arith
-levels_child (conditional c t f) (suc (suc (suc i))) d h = absurd (omega arith)
-levels_child (absent (repeater t)) zero d h = omega arith
-levels_child (absent (repeater t)) (suc i) d h = absurd (omega arith)
-levels_child (absent (expression a e)) zero d h = omega arith
-levels_child (absent (expression a e)) (suc zero) d h = omega arith
-levels_child (absent (expression a e)) (suc (suc i)) d h = absurd (omega arith)
-levels_child (absent (stopper t)) zero d h = omega arith
-levels_child (absent (stopper t)) (suc i) d h = absurd (omega arith)
-levels_child (define_group t) zero d h = omega arith
-levels_child (define_group t) (suc i) d h = absurd (omega arith)
-levels_child _ i d h = absurd (omega arith)
+levels_child (leaf l) i d h = absurd (omega arith)
+levels_child (over (label.ast_group name place) t) i d h = absurd (omega arith)
+levels_child (over w t) zero d h = omega arith
+levels_child (over w t) (suc i) d h = absurd (omega arith)
+levels_child (row r ts) i d h = omega (arith, levels_member ts i d h)
 
 pub levels_of_child : (e c : Expr) → views (children_of e) ≡ children (view e) → IsAmong (children_of e) c →
     levels (view c) < levels (view e)

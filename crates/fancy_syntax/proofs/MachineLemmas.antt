@@ -32,7 +32,7 @@ use Rattle.fancy_grammar.specs.Head.{group_node}
 use Rattle.fancy_grammar.specs.Quantified.{quants}
 use Rattle.fancy_grammar.specs.Errors.{IsErrorAmong}
 use Rattle.fancy_grammar.specs.State.{ends, skipped, State, at, Outcome, done, fault, faulted, and_then, seen_through}
-use Rattle.fancy_grammar.specs.Tree.{Tree, concat, absent, expression}
+use Rattle.fancy_grammar.specs.Tree.{Tree, concat, expression}
 use Rattle.fancy_syntax.specs.declared.grammar.frame.Frame.{Frame}
 use Rattle.fancy_syntax.specs.declared.grammar.step.Step.{Step}
 use Rattle.fancy_syntax.specs.declared.grammar.step.Step.TheVariants as step
@@ -485,7 +485,7 @@ bar_does_not_close e = omega (arith, e)
 
 second_fault : {d p : ℕ} {start s t : State} {k : Kind} {a r : Tree} {fs : List Frame} {ts : List Tree} →
     OpenGroups start fs ts (second a) d s → Branch d s (done r t) →
-    closed (absent (expression a r)) t ≡ fault k p → Alternation 0 start (fault k p)
+    closed (expression a r) t ≡ fault k p → Alternation 0 start (fault k p)
 second_fault {t} {a} {r} (inner f i y l h m j x) b e =
     levels_fault l (reading_fault (part_of f.opener) h j (ended_fault r t x b (λ _ z. absurd (true≢false z)) e))
 
@@ -501,7 +501,7 @@ running_bar_fault {start} {t} {u} {stack} {f} o h e b x = by_open (part_of f.ope
     by_open (second a) l r x =
         subst (Alternation 0 start) (sym x)
         (second_fault l (reading_one r refl e)
-        (closed_other (absent (expression a (joined h.pieces))) t bar u (strip_is bar t.rest u b)
+        (closed_other (expression a (joined h.pieces)) t bar u (strip_is bar t.rest u b)
         bar_does_not_close))
     by_open top l r x = absurd x
     by_open (group _ _) l r x = absurd x

@@ -1,8 +1,9 @@
 -- The items of the nodes that have several children.
-use Rattle.std.proofs.Common.{◌≡◌, ◌+◌, ◌≤◌, ◌++◌, ◌||◌, List, Bool, arith, length, ap, sym, ◌∙◌, rules, Option, Box, Global}
+use Rattle.std.proofs.Common.{◌≡◌, ◌+◌, ◌≤◌, ◌++◌, ◌||◌, List, Bool, arith, length, ap, sym, ◌∙◌, rules, Option, Box}
+use Rattle.std.proofs.Common.{Global, append-nil}
 use Rattle.fancy_lex.specs.declared.error.Failure.{Failure}
 use Rattle.fancy_parts.specs.Groups.{Groups}
-use Rattle.fancy_grammar.specs.Items.{Item, items, items_absent, openings_in}
+use Rattle.fancy_grammar.specs.Items.{Item, items, openings_in}
 use Rattle.fancy_grammar.specs.Tree.{conditional, expression}
 use Rattle.fancy_syntax.specs.Notes.{has_items, IsErrorNoted}
 use Rattle.fancy_syntax.specs.View.{view, view_absent}
@@ -32,7 +33,7 @@ pub three_parts : {e x y z : Expr} {c t f : Box Expr Global} → e ≡ Condition
     Three (items (view e)) x y z
 three_parts {c} {t} {f} h i j k = record {
   is = ap items (ap view h ∙ view_conditional c t f)
-      ∙ (λ n. items (view (sym i n)) ++ (items (view (sym j n)) ++ items (view (sym k n))));
+      ∙ (λ n. items (view (sym i n)) ++ (items (view (sym j n)) ++ append-nil (items (view (sym k n))) n));
 }
 
 -- the same of boxes that are lent
@@ -42,10 +43,10 @@ three_lent h i j k =
     let value = λ (b : Box Expr Global). b.value in three_parts h (ap value i) (ap value j) (ap value k)
 
 pub two_parts : {e : Absent} {x y : Expr} {a b : Box Expr Global} → e ≡ Expression a b → x ≡ a.value → y ≡ b.value →
-    Two (items_absent (view_absent e)) x y
+    Two (items (view_absent e)) x y
 two_parts {a} {b} h i j = record {
-  is = ap items_absent (ap view_absent h ∙ view_expression a b)
-      ∙ (λ n. items (view (sym i n)) ++ items (view (sym j n)));
+  is = ap items (ap view_absent h ∙ view_expression a b)
+      ∙ (λ n. items (view (sym i n)) ++ append-nil (items (view (sym j n))) n);
 }
 
 -- how many openings

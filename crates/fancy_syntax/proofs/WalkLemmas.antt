@@ -1,6 +1,7 @@
 -- Walks over parts, one behind another.
 use Rattle.std.proofs.Common.{◌≡◌, ℕ, ◌+◌, ◌<◌, ◌≤◌, List, ◌++◌, Bool, true, false, length, refl, ap}
-use Rattle.std.proofs.Common.{◌∙◌, [], ◌∷◌, drop, drop-cons, get_or, add-one, take, set, sym, arith, zero, suc, Option, Some, None}
+use Rattle.std.proofs.Common.{◌∙◌, [], ◌∷◌, drop, drop-cons, get_or, add-one, take, set, sym, arith, zero, suc, Option}
+use Rattle.std.proofs.Common.{Some, None}
 use Rattle.std.proofs.lemmas.Grind.{take-set_at}
 use Rattle.std.proofs.lemmas.List.{take_all}
 use Rattle.std.proofs.lemmas.List.{drop_all}

@@ -16,7 +16,7 @@ use Rattle.fancy_grammar.specs.Join.{solid}
 use Rattle.fancy_syntax.specs.Parsed.{head_of, state}
 use Rattle.fancy_grammar.specs.Errors.{IsErrorAmong}
 use Rattle.fancy_grammar.specs.State.{ends, skipped, State, at, Outcome, done, faulted}
-use Rattle.fancy_grammar.specs.Tree.{Tree, absent, expression}
+use Rattle.fancy_grammar.specs.Tree.{Tree, expression}
 use Rattle.fancy_syntax.specs.View.{view, views}
 use Rattle.fancy_syntax.specs.declared.grammar.frame.Frame.{Frame}
 use Rattle.fancy_syntax.specs.declared.grammar.frame.Opener.{Opener}
@@ -103,7 +103,7 @@ node_of_part (group h p) r = group_node h p r
 node_of_part condition r = r
 node_of_part (body c left) r = conditional_of c (branches_of r).0 (branches_of r).1
 node_of_part first r = clear_or_stopper r
-node_of_part (second a) r = absent (expression a r)
+node_of_part (second a) r = expression a r
 
 -- whether the atom goes on behind what is open: the body follows a condition
 abbrev pub goes_on : OpenPart → Bool

@@ -15,8 +15,12 @@ use Rattle.fancy_grammar.specs.Errors.{IsErrorIn}
 use Rattle.fancy_grammar.specs.Items.{Item}
 use Rattle.fancy_grammar.specs.Marks as spec
 use Rattle.fancy_grammar.specs.Walk as walk
-use Rattle.fancy_grammar.specs.Tree.{Tree, ast_node, AstTree, ast_group}
+use Rattle.fancy_grammar.specs.Label as label
+use Rattle.fancy_grammar.specs.Tree.{Tree, leaf, over}
 use Rattle.fancy_syntax.specs.View.{view}
+use Rattle.fancy_syntax.specs.declared.expr.Absent.{Absent}
+use Rattle.fancy_syntax.specs.declared.expr.Absent.TheOpen.{AstNode-F}
+use Rattle.fancy_syntax.specs.declared.expr.AstNode.{AstNode, out-AstNode}
 use Rattle.fancy_syntax.specs.declared.expr.Expr.{Expr}
 use Rattle.fancy_syntax.specs.declared.resolve.notes.Known.{Known}
 use Rattle.fancy_syntax.specs.declared.resolve.notes.Progress.{Progress}
@@ -56,18 +60,22 @@ Walks r k before l after P =
 
 -- the tree is a node as it is read: a capturing group, or a reference
 abbrev pub is_node_read : Tree → Bool
-is_node_read (ast_node node place) = true
+is_node_read (leaf (label.ast_node r place)) = true
+is_node_read (over (label.ast_group name place) t) = true
 is_node_read _ = false
 
 -- the tree is a capturing group as it is read
 abbrev pub is_group_read : Tree → Bool
-is_group_read (ast_node (ast_group name t) place) = true
+is_group_read (over (label.ast_group name place) t) = true
 is_group_read _ = false
 
 -- a node that is read is a reference, and no group
-abbrev pub is_reference : AstTree → Bool
-is_reference (ast_group name t) = false
-is_reference _ = true
+abbrev pub is_reference_step : AstNode-F Absent AstNode Expr → Bool
+is_reference_step (AstNode-F.AstGroup name inner) = false
+is_reference_step _ = true
+
+abbrev pub is_reference : AstNode → Bool
+is_reference n = is_reference_step (out-AstNode n)
 
 -- the tree, or where there is none what stands there
 abbrev pub resolved_or : Tree → Option Expr → Tree
@@ -87,7 +95,8 @@ noted_one k p place role target =
 -- the walk with what the form of a reference says noted
 abbrev pub form_noted : Known → Progress → ℕ → Role → CaptureGroupTarget → walk.Progress
 form_noted k p place role target = record (progress_of p) {
-  numeric = p.numeric || is_numeric (chars k.pattern.now) (place_at (bytes (chars k.pattern.now)) place) (role_of role) (view_target target);
+  numeric = p.numeric || is_numeric (chars k.pattern.now) (place_at (bytes (chars k.pattern.now)) place)
+      (role_of role) (view_target target);
   calls = p.calls || spec.is_call (role_of role);
   self_recursive = p.self_recursive || spec.is_call_of_all (role_of role) (view_target target);
 }

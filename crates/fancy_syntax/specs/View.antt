@@ -1,32 +1,34 @@
 -- The tree that an `Expr` stands for.
-use Rattle.std.specs.Prelude.{List, map, option_map}
+use Rattle.std.specs.Prelude.{ℕ, List, map, option_map}
 use Rattle.fancy_lex.specs.NameViews.{view_target}
 use Rattle.fancy_lex.specs.Text.{text_of}
 use Rattle.fancy_grammar.specs.Tree.{Tree, empty, any, assertion, general_newline, literal, literal_bytes, concat, alt}
 use Rattle.fancy_grammar.specs.Tree.{group, look_around, repeat, delegate, backref, backref_at_level, atomic_group}
 use Rattle.fancy_grammar.specs.Tree.{keep_out, continue_from_previous_match_end, backref_exists, conditional}
-use Rattle.fancy_grammar.specs.Tree.{subroutine_call, verb, absent, define_group, ast_node, AbsentTree, repeater}
-use Rattle.fancy_grammar.specs.Tree.{expression, stopper, clear, AstTree, ast_group, ast_backref, ast_call}
-use Rattle.fancy_grammar.specs.Tree.{ast_condition, trees_of}
+use Rattle.fancy_grammar.specs.Tree.{subroutine_call, verb, define_group, ast_node, repeater, expression, stopper}
+use Rattle.fancy_grammar.specs.Tree.{clear, ast_group, trees_of}
+use Rattle.fancy_grammar.specs.Label.{ast_backref, ast_call, ast_condition}
 use Rattle.fancy_syntax.specs.declared.expr.Expr.{Expr, fold-Expr}
 use Rattle.fancy_syntax.specs.declared.expr.Absent.{Absent, fold-Absent}
 use Rattle.fancy_syntax.specs.declared.expr.AstNode.{AstNode, fold-AstNode}
 use Rattle.fancy_syntax.specs.declared.expr.Absent.TheOpen.{Absent-F, AstNode-F, Expr-F}
 
 -- one level, with each tree inside already seen
-abbrev pub absent_step : Absent-F AbsentTree AstTree Tree → AbsentTree
+abbrev pub absent_step : Absent-F Tree (ℕ → Tree) Tree → Tree
 absent_step (Absent-F.Repeater t) = repeater t.value
 absent_step (Absent-F.Expression a e) = expression a.value e.value
 absent_step (Absent-F.Stopper t) = stopper t.value
 absent_step Absent-F.Clear = clear
 
-abbrev pub ast_step : AstNode-F AbsentTree AstTree Tree → AstTree
-ast_step (AstNode-F.AstGroup name inner) = ast_group (option_map text_of name) inner.value
-ast_step (AstNode-F.AstNode::Backref t casei level) = ast_backref (view_target t) casei level
-ast_step (AstNode-F.AstNode::SubroutineCall t) = ast_call (view_target t)
-ast_step (AstNode-F.AstNode::BackrefExistsCondition t level) = ast_condition (view_target t) level
+-- the node at its place
+abbrev pub ast_step : AstNode-F Tree (ℕ → Tree) Tree → ℕ → Tree
+ast_step (AstNode-F.AstGroup name inner) place = ast_group (option_map text_of name) place inner.value
+ast_step (AstNode-F.AstNode::Backref t casei level) place = ast_node (ast_backref (view_target t) casei level) place
+ast_step (AstNode-F.AstNode::SubroutineCall t) place = ast_node (ast_call (view_target t)) place
+ast_step (AstNode-F.AstNode::BackrefExistsCondition t level) place =
+    ast_node (ast_condition (view_target t) level) place
 
-abbrev pub expr_step : Expr-F AbsentTree AstTree Tree → Tree
+abbrev pub expr_step : Expr-F Tree (ℕ → Tree) Tree → Tree
 expr_step Expr-F.Empty = empty
 expr_step (Expr-F.Any newline crlf) = any newline crlf
 expr_step (Expr-F.Assertion a) = assertion a
@@ -48,18 +50,18 @@ expr_step (Expr-F.Expr::BackrefExistsCondition n level) = backref_exists n level
 expr_step (Expr-F.Conditional c t f) = conditional c.value t.value f.value
 expr_step (Expr-F.Expr::SubroutineCall n) = subroutine_call n
 expr_step (Expr-F.BacktrackingControlVerb v) = verb v
-expr_step (Expr-F.Absent a) = absent a
+expr_step (Expr-F.Absent a) = a
 expr_step (Expr-F.DefineGroup t) = define_group t.value
-expr_step (Expr-F.AstNode n place) = ast_node n place
+expr_step (Expr-F.AstNode n place) = n place
 
 abbrev pub view : Expr → Tree
-view = fold-Expr AbsentTree AstTree Tree absent_step ast_step expr_step
+view = fold-Expr Tree (ℕ → Tree) Tree absent_step ast_step expr_step
 
-abbrev pub view_absent : Absent → AbsentTree
-view_absent = fold-Absent AbsentTree AstTree Tree absent_step ast_step expr_step
+abbrev pub view_absent : Absent → Tree
+view_absent = fold-Absent Tree (ℕ → Tree) Tree absent_step ast_step expr_step
 
-abbrev pub view_ast : AstNode → AstTree
-view_ast = fold-AstNode AbsentTree AstTree Tree absent_step ast_step expr_step
+abbrev pub view_ast : AstNode → ℕ → Tree
+view_ast = fold-AstNode Tree (ℕ → Tree) Tree absent_step ast_step expr_step
 
 -- the trees of several
 abbrev pub views : List Expr → List Tree

@@ -4,7 +4,7 @@ use Rattle.std.specs.Borrow.{MutBor, Fml}
 use Rattle.std.specs.declared.alloc.Global.{Global}
 use Rattle.std.specs.declared.boxed.Box.{Box}
 use Rattle.fancy_syntax.specs.Loans.{LendsChildAt, LendsBoxAt}
-use Rattle.fancy_grammar.specs.Tree.{Tree, absent, children, with_child}
+use Rattle.fancy_grammar.specs.Tree.{Tree, children, with_child}
 use Rattle.fancy_syntax.specs.View.{view, view_absent}
 use Rattle.fancy_syntax.specs.contracts.expr.Absent as absent_type
 use Rattle.fancy_syntax.specs.contracts.expr.Expr as expr
@@ -19,10 +19,6 @@ child_at t i = slice_get (children t) i
 abbrev pub LendsChild : MutBor Expr → ℕ → Option (MutBor Expr) → Fml
 LendsChild = LendsChildAt expr.the_row expr.the_row Tree view view with_child
 
--- the node of such a kind
-abbrev pub view_of_absent : Absent → Tree
-view_of_absent a = absent (view_absent a)
-
 -- a ends with the box of its child i as it is last behind r, and else as it was
 abbrev pub LendsAbsentBox : MutBor Absent → ℕ → Option (MutBor (Box Expr Global)) → Fml
-LendsAbsentBox = LendsBoxAt absent_type.the_row expr.the_row Tree view_of_absent view with_child
+LendsAbsentBox = LendsBoxAt absent_type.the_row expr.the_row Tree view_absent view with_child

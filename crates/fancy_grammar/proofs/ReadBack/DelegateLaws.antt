@@ -17,7 +17,7 @@ use Prim.Native.Char.{code}
 use Rattle.fancy_lex.specs.Property.{Property, PropertyName, single, braced, read_property, name_at, property_text}
 use Rattle.fancy_lex.specs.Property.{Form, set, pair, form, form_text, look_up, lowercase, turn, letter}
 use Rattle.fancy_lex.specs.Reading.{Reading, gives, fault_at, choose}
-use Rattle.fancy_lex.specs.Text.{Text, bytes, reach_of}
+use Rattle.fancy_lex.specs.Text.{Text, reach_of}
 use Rattle.fancy_lex.proofs.ClassLaws.{class_complete, class_reads}
 use Rattle.fancy_grammar.specs.Ahead.{leaf_node, leaf_outcome}
 use Rattle.fancy_grammar.specs.Tree.{delegate}

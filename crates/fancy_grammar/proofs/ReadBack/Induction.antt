@@ -2,7 +2,7 @@
 use Rattle.std.proofs.Common.{◌≡◌, ℕ, zero, suc, ◌+◌, ◌<◌, ◌≤◌, Bool, true, false, not, ◌&&◌, ◌||◌, List, [], ◌∷◌, ◌++◌}
 use Rattle.std.proofs.Common.{map, refl, sym, ap, subst, arith, lt-ltb}
 use Prim.Native.Char.{code}
-use Rattle.fancy_lex.specs.Text.{Text, bytes}
+use Rattle.fancy_lex.specs.Text.{Text}
 use Rattle.fancy_lex.specs.declared.escape.Assertion.{Assertion}
 use Rattle.fancy_lex.specs.declared.escape.Assertion.TheVariants.{StartLineOniguruma}
 use Rattle.fancy_grammar.specs.Depth.{max_depth}
@@ -320,6 +320,7 @@ mutual
 -- ---- any precedence
 
 pub text_high : (t : Tree) (p : ℕ) → 3 ≤ p → printed t p ≡ printed t 3
+text_high (literal s casei) p h = refl
 text_high (concat ts) p h = ap (λ b. grouped b (printed_all ts)) (lt-ltb 1 p (omega arith))
 text_high (alt ts) p h = ap (λ b. grouped b (printed_branches ts)) (lt-ltb 0 p (omega arith))
 text_high (repeat t lo hi greedy) p h =
@@ -327,6 +328,7 @@ text_high (repeat t lo hi greedy) p h =
 text_high t p h = refl
 
 pub nest_high : (t : Tree) (p : ℕ) → 3 ≤ p → nest t p ≡ nest t 3
+nest_high (literal s casei) p h = refl
 nest_high (concat ts) p h = ap (λ b. one_if b + nests ts 2) (lt-ltb 1 p (omega arith))
 nest_high (alt ts) p h = ap (λ b. one_if b + nests ts 1) (lt-ltb 0 p (omega arith))
 nest_high (repeat t lo hi greedy) p h =

@@ -64,7 +64,8 @@ no_group : Finds no_parens 0 (λ d. 0)
 no_group = record { deep = λ start d l h. absurd (omega arith); shallow = λ start d h. refl }
 
 at_same : (x y : ℕ) → x ≡ y →
-    ◌≡◌ {A = Option Paren} (Some (record { place = x; round = most_open })) (Some (record { place = y; round = most_open }))
+    ◌≡◌ {A = Option Paren}
+    (Some (record { place = x; round = most_open })) (Some (record { place = y; round = most_open }))
 at_same x y e = ap (λ z. Some (record { place = z; round = most_open })) e
 
 -- a group that is too deep

@@ -131,6 +131,7 @@ mutual
   normal_empty u (delegate s i) = (good_delegate _ (delegate_class _ s (delegate s i) tt)).1
   normal_empty u (concat ts) = join_empty (normal_pieces u ts) ∙ items_empty u ts
   normal_empty u (alt ts) = choice_empty u ts
+  normal_empty u (group t) = refl
   normal_empty u _ = refl
 
   items_empty : (u : Bool) (ts : Trees) → list_all is_empty (normal_pieces u ts) ≡ blanks ts

@@ -38,7 +38,7 @@ use Rattle.fancy_grammar.specs.Resolved.{resolved_in, resolved_all}
 use Rattle.fancy_grammar.specs.State.{skipped, State, Outcome, done, fault, and_then, seen_through}
 use Rattle.fancy_grammar.specs.Tree as tree
 use Rattle.fancy_grammar.specs.Tree.{Tree, empty, literal, concat, alt, repeat, trees_of, ast_node}
-use Rattle.fancy_grammar.specs.Tree.{ast_group, ast_backref, ast_call, ast_condition}
+use Rattle.fancy_grammar.specs.Tree.{ast_group}
 use Rattle.fancy_grammar.proofs.OutcomeLemmas.{before-nil, solid-append, each_append, each_solid}
 use Rattle.fancy_grammar.specs.Normal.{unicode_flags, case_flags}
 use Rattle.fancy_grammar.proofs.ReadBack.InFront.{put_as}
@@ -102,10 +102,8 @@ pub record Becomes (r x : Tree) : Type 0 where
 
 pub resolved_repeatable : (n : ℕ) (g : List Opening) (f : Flags) (t : Tree) → OnlyGroups (items t) →
     is_repeatable f (resolved_in n false g t) ≡ is_repeatable f t
-resolved_repeatable n g f (ast_node (ast_group m t) p) h = refl
-resolved_repeatable n g f (ast_node (ast_backref t c l) p) h = absurd h
-resolved_repeatable n g f (ast_node (ast_call t) p) h = absurd h
-resolved_repeatable n g f (ast_node (ast_condition t l) p) h = absurd h
+resolved_repeatable n g f (ast_group m p t) h = refl
+resolved_repeatable n g f (ast_node r p) h = absurd h
 resolved_repeatable n g f _ h = refl
 
 solid_cond : (t : Tree) (l : List Tree) (b : Bool) → is_empty t ≡ b → solid l ≡ l →
@@ -140,10 +138,8 @@ module _ (n : ℕ) (g : List Opening) where
   resolved_choice (t ∷ u ∷ l) = ap alt (resolved_trees (t ∷ u ∷ l))
 
   resolved_empty : (t : Tree) → OnlyGroups (items t) → is_empty (there t) ≡ is_empty t
-  resolved_empty (ast_node (ast_group m t) p) h = refl
-  resolved_empty (ast_node (ast_backref t c l) p) h = absurd h
-  resolved_empty (ast_node (ast_call t) p) h = absurd h
-  resolved_empty (ast_node (ast_condition t l) p) h = absurd h
+  resolved_empty (ast_group m p t) h = refl
+  resolved_empty (ast_node r p) h = absurd h
   resolved_empty _ h = refl
 
   resolved_cond : (b : Bool) (t : Tree) (l : List Tree) →
@@ -381,7 +377,7 @@ group_at d f s k l c = head_at d f s k l c.no_comment ∙ head_group f (code "("
 pub reads_group : (d : ℕ) (f : Flags) (s v : Text) (x : Tree) → Kept f → d + 1 < max_depth → Clear s →
     WholeAs (d + 1) f s (code ")" ∷ v) x → AtomAs d f (code "(" ∷ s) v (tree.group x)
 reads_group d f s v x k l c w = record {
-  tree = ast_node (ast_group None w.tree) (reach_of (code "(" ∷ s));
+  tree = ast_group None (reach_of (code "(" ∷ s)) w.tree;
   derives = atom (group_at d f s k l c) (a_group (inside w.derives refl) refl) refl;
   becomes = record { is = λ n g. ap tree.group (w.becomes.is n g); groups = (refl, w.becomes.groups) };
 }

@@ -2,8 +2,8 @@
 ghost use Rattle.std.specs.Prelude.{◌≡◌, ◌<◌, Some, option_map, slice_get};
 ghost use Rattle.std.specs.Borrow.{sem};
 ghost use Rattle.fancy_grammar.specs.Tree.{Tree, children, is_list, with_child as tree_with_child};
-ghost use Rattle.fancy_syntax.specs.View.{view};
-ghost use Rattle.fancy_syntax.specs.Writes.{LendsAbsentBox, LendsChild, child_at as tree_child_at, view_of_absent};
+ghost use Rattle.fancy_syntax.specs.View.{view, view_absent};
+ghost use Rattle.fancy_syntax.specs.Writes.{LendsAbsentBox, LendsChild, child_at as tree_child_at};
 ghost use Rattle.fancy_syntax.specs.declared.expr.Expr.{Expr};
 
 use super::parent::{Parent, lend_child};
@@ -65,7 +65,7 @@ impl Parent for Expr {
 impl Absent {
     fn box_mut(&mut self, i: usize) -> Option<&mut Box<Expr>>
         ensures* writes_back { sem 𝓛 (LendsAbsentBox self.entry i result) }
-        ensures value { option_map (λ b. view b.now.value) result ≡ slice_get (children (view_of_absent self.old)) i }
+        ensures value { option_map (λ b. view b.now.value) result ≡ slice_get (children (view_absent self.old)) i }
     {
         match i {
             0 => match self {

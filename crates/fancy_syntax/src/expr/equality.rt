@@ -1,8 +1,8 @@
 //! Equality of trees: the same variant and the same fields.
 ghost use Rattle.std.specs.Prelude.{chars, ◌≡◌, ◌↔◌, IsTrue, option_map};
 ghost use Rattle.std.specs.Cmp.{on_per, on_equiv, partial_equiv_from_equiv};
-ghost use Rattle.fancy_grammar.specs.Same.{same, same_all, same_absent, same_ast, same_name};
-ghost use Rattle.fancy_grammar.specs.SameLaws.{same-equiv, same_absent-equiv, same_ast-equiv};
+ghost use Rattle.fancy_grammar.specs.Same.{same, same_all, same_name};
+ghost use Rattle.fancy_grammar.specs.SameLaws.{same-equiv};
 ghost use Rattle.fancy_grammar.specs.Tree.{trees_of};
 ghost use Rattle.fancy_syntax.specs.View.{view, views, view_ast, view_absent};
 
@@ -10,29 +10,29 @@ use super::{Absent, AstNode, Expr};
 use fancy_lex::text::is_same_text;
 
 impl PartialEq for AstNode {
-    ghost eq = { λ a b. same_ast (view_ast a) (view_ast b) };
+    ghost eq = { λ a b. same (view_ast a 0) (view_ast b 0) };
 
-    ghost laws = { on_per view_ast (partial_equiv_from_equiv same_ast-equiv) };
+    ghost laws = { on_per (λ a. view_ast a 0) (partial_equiv_from_equiv same-equiv) };
 
     fn eq(&self, other: &AstNode) -> bool
-        ensures value { result ≡ same_ast (view_ast self.now) (view_ast other.now) }
-        ensures decides { IsTrue result ↔ (view_ast self.now ≡ view_ast other.now) }
+        ensures value { result ≡ same (view_ast self.now 0) (view_ast other.now 0) }
+        ensures decides { IsTrue result ↔ (view_ast self.now 0 ≡ view_ast other.now 0) }
     {
-        is_same_node(self, other)
+        is_same_node(self, 0, other, 0)
     }
 }
 
 impl Eq for AstNode {
-    ghost laws = { on_equiv view_ast same_ast-equiv };
+    ghost laws = { on_equiv (λ a. view_ast a 0) same-equiv };
 }
 
 impl PartialEq for Absent {
-    ghost eq = { λ a b. same_absent (view_absent a) (view_absent b) };
+    ghost eq = { λ a b. same (view_absent a) (view_absent b) };
 
-    ghost laws = { on_per view_absent (partial_equiv_from_equiv same_absent-equiv) };
+    ghost laws = { on_per view_absent (partial_equiv_from_equiv same-equiv) };
 
     fn eq(&self, other: &Absent) -> bool
-        ensures value { result ≡ same_absent (view_absent self.now) (view_absent other.now) }
+        ensures value { result ≡ same (view_absent self.now) (view_absent other.now) }
         ensures decides { IsTrue result ↔ (view_absent self.now ≡ view_absent other.now) }
     {
         is_same_absent(self, other)
@@ -40,7 +40,7 @@ impl PartialEq for Absent {
 }
 
 impl Eq for Absent {
-    ghost laws = { on_equiv view_absent same_absent-equiv };
+    ghost laws = { on_equiv view_absent same-equiv };
 }
 
 impl PartialEq for Expr {
@@ -62,8 +62,8 @@ impl Eq for Expr {
 
 /// Whether the nodes are the same.
 #[cycle(same)]
-fn is_same_node(node: &AstNode, other: &AstNode) -> bool
-    ensures { result ≡ same_ast (view_ast node.now) (view_ast other.now) }
+fn is_same_node(node: &AstNode, place: usize, other: &AstNode, other_place: usize) -> bool
+    ensures { result ≡ same (view_ast node.now place) (view_ast other.now other_place) }
 {
     match node {
         AstNode::AstGroup { name, inner } => match other {
@@ -71,6 +71,7 @@ fn is_same_node(node: &AstNode, other: &AstNode) -> bool
                 name: other_name,
                 inner: other_inner,
             } => is_same_name(name.as_deref(), other_name.as_deref())
+                && place == other_place
                 && is_same_child(inner, other_inner),
             AstNode::Backref { .. }
             | AstNode::SubroutineCall(_)
@@ -87,13 +88,15 @@ fn is_same_node(node: &AstNode, other: &AstNode) -> bool
                 relative_recursion_level: other_level,
             } => *target == *other_target
                 && *casei == *other_casei
-                && *relative_recursion_level == *other_level,
+                && *relative_recursion_level == *other_level
+                && place == other_place,
             AstNode::AstGroup { .. }
             | AstNode::SubroutineCall(_)
             | AstNode::BackrefExistsCondition { .. } => false,
         },
         AstNode::SubroutineCall(target) => match other {
-            AstNode::SubroutineCall(other_target) => *target == *other_target,
+            AstNode::SubroutineCall(other_target) => *target == *other_target
+                && place == other_place,
             AstNode::AstGroup { .. }
             | AstNode::Backref { .. }
             | AstNode::BackrefExistsCondition { .. } => false,
@@ -105,7 +108,9 @@ fn is_same_node(node: &AstNode, other: &AstNode) -> bool
             AstNode::BackrefExistsCondition {
                 target: other_target,
                 relative_recursion_level: other_level,
-            } => *target == *other_target && *relative_recursion_level == *other_level,
+            } => *target == *other_target
+                && *relative_recursion_level == *other_level
+                && place == other_place,
             AstNode::AstGroup { .. } | AstNode::Backref { .. } | AstNode::SubroutineCall(_) =>
                 false,
         },
@@ -115,7 +120,7 @@ fn is_same_node(node: &AstNode, other: &AstNode) -> bool
 /// Whether the absent forms are the same.
 #[cycle(same)]
 fn is_same_absent(absent: &Absent, other: &Absent) -> bool
-    ensures { result ≡ same_absent (view_absent absent.now) (view_absent other.now) }
+    ensures { result ≡ same (view_absent absent.now) (view_absent other.now) }
 {
     match absent {
         Absent::Repeater(child) => match other {
@@ -185,8 +190,8 @@ fn is_same(tree: &Expr, other: &Expr) -> bool
             _ => false,
         },
         Expr::LookAround(child, look) => match other {
-            Expr::LookAround(other_child, other_look) => is_same_child(child, other_child)
-                && *look == *other_look,
+            Expr::LookAround(other_child, other_look) => *look == *other_look
+                && is_same_child(child, other_child),
             _ => false,
         },
         Expr::Repeat {
@@ -200,10 +205,10 @@ fn is_same(tree: &Expr, other: &Expr) -> bool
                 lo: other_lo,
                 hi: other_hi,
                 greedy: other_greedy,
-            } => is_same_child(child, other_child)
-                && *lo == *other_lo
+            } => *lo == *other_lo
                 && *hi == *other_hi
-                && *greedy == *other_greedy,
+                && *greedy == *other_greedy
+                && is_same_child(child, other_child),
             _ => false,
         },
         Expr::Delegate { inner, casei } => match other {
@@ -283,8 +288,12 @@ fn is_same(tree: &Expr, other: &Expr) -> bool
             _ => false,
         },
         Expr::AstNode(node, place) => match other {
-            Expr::AstNode(other_node, other_place) => is_same_node(node, other_node)
-                && *place == *other_place,
+            Expr::AstNode(other_node, other_place) => is_same_node(
+                node,
+                *place,
+                other_node,
+                *other_place,
+            ),
             _ => false,
         },
     }

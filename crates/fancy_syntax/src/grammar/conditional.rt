@@ -21,7 +21,7 @@ pub(crate) fn is_condition(tree: &Expr) -> bool
 
 /// Whether the node is a condition on a group.
 fn is_condition_node(node: &AstNode) -> bool
-    ensures { result ≡ spec.is_condition_node (view_ast node.now) }
+    ensures { result ≡ spec.is_condition (view_ast node.now 0) }
 {
     match node {
         AstNode::BackrefExistsCondition { .. } => true,

@@ -3,11 +3,12 @@
 ghost use Rattle.std.specs.Prelude.{◌≡◌, ◌+◌, ◌<◌, ◌^◌, length, true, false, chars};
 ghost use Rattle.fancy_lex.specs.NameViews.{view_target};
 ghost use Rattle.fancy_lex.specs.Text.{bytes, place_at};
-ghost use Rattle.fancy_grammar.specs.Items.{items, items_all, items_absent, items_ast, openings_in};
+ghost use Rattle.fancy_grammar.specs.Items.{items, items_all, openings_in};
 ghost use Rattle.fancy_syntax.specs.Notes.{Walks, is_group_read, is_node_read, is_reference, known_of, progress_of, resolved_or};
-ghost use Rattle.fancy_grammar.specs.Tree.{trees_of, ast_node, ast_backref};
+ghost use Rattle.fancy_grammar.specs.Tree.{trees_of, ast_node};
+ghost use Rattle.fancy_grammar.specs.Label.{ast_backref};
 ghost use Rattle.fancy_syntax.specs.View.{view, view_absent, view_ast, views};
-ghost use Rattle.fancy_grammar.specs.Walk.{rebuilt, rebuilt_all, rebuilt_absent};
+ghost use Rattle.fancy_grammar.specs.Walk.{rebuilt, rebuilt_all};
 
 use crate::expr::{Absent, AstNode, Expr};
 use crate::resolve::notes::{Known, Progress, Stopped, place_in, refer};
@@ -102,7 +103,7 @@ fn rewrite_group(tree: &mut Expr, known: &Known, progress: &mut Progress) -> Res
 
 /// Takes what the reference names out of it.
 fn take_target(reference: &mut AstNode) -> CaptureGroupTarget
-    requires { is_reference (view_ast reference.old) ≡ true }
+    requires { is_reference reference.old ≡ true }
 {
     let target = match reference {
         AstNode::AstGroup { .. } => unreachable!(),
@@ -122,11 +123,11 @@ fn resolve_group(
     known: &Known,
     progress: &mut Progress,
 ) -> Result<Expr, Stopped>
-    requires passed { progress.old.passed + length (openings_in (items_ast (view_ast node) place)) < 2 ^ 63 }
-    requires group { is_reference (view_ast node) ≡ false }
-    ensures { Walks result (known_of known.now) (progress_of progress.old) (items_ast (view_ast node) place)
+    requires passed { progress.old.passed + length (openings_in (items (view_ast node place))) < 2 ^ 63 }
+    requires group { is_reference node ≡ false }
+    ensures { Walks result (known_of known.now) (progress_of progress.old) (items (view_ast node place))
         progress.new
-        (λ e. view e ≡ rebuilt (known_of known.now) (progress_of progress.old) (ast_node (view_ast node) place)) }
+        (λ e. view e ≡ rebuilt (known_of known.now) (progress_of progress.old) (view_ast node place)) }
 {
     let AstNode::AstGroup { name, mut inner } = node else {
         unreachable!();
@@ -149,11 +150,11 @@ fn resolve_reference(
     progress: &mut Progress,
 ) -> Result<Option<Expr>, Stopped>
     requires passed { progress.old.passed < 2 ^ 63 }
-    requires reference { is_reference (view_ast node.now) ≡ true }
-    ensures { Walks result (known_of known.now) (progress_of progress.old) (items_ast (view_ast node.now) place)
+    requires reference { is_reference node.now ≡ true }
+    ensures { Walks result (known_of known.now) (progress_of progress.old) (items (view_ast node.now place))
         progress.new
-        (λ o. resolved_or (ast_node (view_ast node.now) (place_at (bytes (chars known.now.pattern.now)) place)) o
-        ≡ rebuilt (known_of known.now) (progress_of progress.old) (ast_node (view_ast node.now) place)) }
+        (λ o. resolved_or (view_ast node.now (place_at (bytes (chars known.now.pattern.now)) place)) o
+        ≡ rebuilt (known_of known.now) (progress_of progress.old) (view_ast node.now place)) }
 {
     match node {
         AstNode::AstGroup { .. } => unreachable!(),
@@ -201,7 +202,7 @@ fn resolve_backref(
 ) -> Result<Option<Expr>, Stopped>
     requires { progress.old.passed < 2 ^ 63 }
     ensures { let node = ast_backref (view_target target.now) casei relative_recursion_level in
-        Walks result (known_of known.now) (progress_of progress.old) (items_ast node place) progress.new
+        Walks result (known_of known.now) (progress_of progress.old) (items (ast_node node place)) progress.new
         (λ o. resolved_or (ast_node node (place_at (bytes (chars known.now.pattern.now)) place)) o
         ≡ rebuilt (known_of known.now) (progress_of progress.old) (ast_node node place)) }
 {
@@ -226,11 +227,11 @@ fn rewrite_absent(
     known: &Known,
     progress: &mut Progress,
 ) -> Result<(), Stopped>
-    requires { progress.old.passed + length (openings_in (items_absent (view_absent absent.old))) < 2 ^ 63 }
-    ensures { Walks result (known_of known.now) (progress_of progress.old) (items_absent (view_absent absent.old))
+    requires { progress.old.passed + length (openings_in (items (view_absent absent.old))) < 2 ^ 63 }
+    ensures { Walks result (known_of known.now) (progress_of progress.old) (items (view_absent absent.old))
         progress.new
         (λ _. view_absent absent.new
-        ≡ rebuilt_absent (known_of known.now) (progress_of progress.old) (view_absent absent.old)) }
+        ≡ rebuilt (known_of known.now) (progress_of progress.old) (view_absent absent.old)) }
 {
     match absent {
         Absent::Repeater(child) => rewrite_child(child, known, progress),

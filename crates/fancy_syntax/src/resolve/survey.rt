@@ -2,7 +2,7 @@
 ghost use Rattle.std.specs.Prelude.{chars, ◌≡◌, ◌+◌, ◌<◌, ◌^◌, ◌||◌, [], false, if◌then◌else◌, length, IfOk, option_map};
 ghost use Rattle.fancy_parts.specs.Groups.{groups_of, no_groups, with_group};
 ghost use Rattle.fancy_parts.specs.Ranks.{is_counted};
-ghost use Rattle.fancy_grammar.specs.Items.{items, items_all, items_absent, items_ast, openings_in};
+ghost use Rattle.fancy_grammar.specs.Items.{items, items_all, openings_in};
 ghost use Rattle.fancy_grammar.specs.Tree.{trees_of};
 ghost use Rattle.fancy_syntax.specs.Notes.{has_items};
 ghost use Rattle.fancy_syntax.specs.View.{view, view_absent, view_ast, views};
@@ -109,12 +109,12 @@ fn survey_node(
     named: bool,
     found: &mut Found,
 ) -> Result<(), AllocError>
-    requires { found.old.groups.total + length (openings_in (items_ast (view_ast node.now) place)) < 2 ^ 63 }
+    requires { found.old.groups.total + length (openings_in (items (view_ast node.now place))) < 2 ^ 63 }
     ensures found { IfOk result
         (λ _. groups_of found.new.groups
-        ≡ spec.groups_after named (groups_of found.old.groups) (items_ast (view_ast node.now) place)) }
+        ≡ spec.groups_after named (groups_of found.old.groups) (items (view_ast node.now place))) }
     ensures met { IfOk result
-        (λ _. found.new.met ≡ (found.old.met || has_items (items_ast (view_ast node.now) place))) }
+        (λ _. found.new.met ≡ (found.old.met || has_items (items (view_ast node.now place)))) }
 {
     found.met = true;
     match node {
@@ -163,12 +163,12 @@ fn survey_absent(
     named: bool,
     found: &mut Found,
 ) -> Result<(), AllocError>
-    requires { found.old.groups.total + length (openings_in (items_absent (view_absent absent.now))) < 2 ^ 63 }
+    requires { found.old.groups.total + length (openings_in (items (view_absent absent.now))) < 2 ^ 63 }
     ensures found { IfOk result
         (λ _. groups_of found.new.groups
-        ≡ spec.groups_after named (groups_of found.old.groups) (items_absent (view_absent absent.now))) }
+        ≡ spec.groups_after named (groups_of found.old.groups) (items (view_absent absent.now))) }
     ensures met { IfOk result
-        (λ _. found.new.met ≡ (found.old.met || has_items (items_absent (view_absent absent.now)))) }
+        (λ _. found.new.met ≡ (found.old.met || has_items (items (view_absent absent.now)))) }
 {
     match absent {
         Absent::Repeater(child) => survey(alloc, child, named, found),

@@ -8,7 +8,8 @@ use Rattle.fancy_syntax.specs.View.{view}
 use Rattle.fancy_grammar.proofs.FoundLaws.{start_total, start_names, any_named, some_counted, none_counted, not_asked}
 use Rattle.fancy_syntax.proofs.NoItems.{no_items}
 use Rattle.fancy_syntax.proofs.resolve.find_groups.Goals as goal
-use Rattle.fancy_syntax.proofs.resolve.find_groups.Goals.{else-ignore-via-then-ignore+else-found-eq0, else-ignore-via-else-ignore}
+use Rattle.fancy_syntax.proofs.resolve.find_groups.Goals.{else-ignore-via-then-ignore+else-found-eq0}
+use Rattle.fancy_syntax.proofs.resolve.find_groups.Goals.{else-ignore-via-else-ignore}
 use Rattle.fancy_syntax.proofs.resolve.find_groups.Goals.{Then-not-found}
 
 -- where nothing is met, no group opens

@@ -2,7 +2,7 @@
 ghost use Rattle.std.specs.Prelude.{◌≡◌, IfOk, option_map, chars};
 ghost use Rattle.fancy_grammar.specs.Head as spec;
 ghost use Rattle.fancy_syntax.specs.Parsed.{head_of};
-ghost use Rattle.fancy_grammar.specs.Tree.{ast_node, ast_group};
+ghost use Rattle.fancy_grammar.specs.Tree.{ast_group};
 ghost use Rattle.fancy_syntax.specs.View.{view};
 
 use crate::expr::{Absent, AstNode, Expr, LookAround};
@@ -40,8 +40,8 @@ pub(crate) fn node(alloc: Global, head: Head, place: usize, inner: Expr) -> Resu
 
 /// The node of a capturing group.
 fn capture(alloc: Global, name: Option<&str>, place: usize, inner: Expr) -> Result<Expr, AllocError>
-    ensures { IfOk result (λ e. view e ≡ ast_node (ast_group (option_map
-        (λ t. chars t.now) name.entry) (view inner)) place) }
+    ensures { IfOk result (λ e. view e ≡ ast_group (option_map
+        (λ t. chars t.now) name.entry) place (view inner)) }
 {
     let inner = Box::new(alloc, inner)?;
     let Some(name) = name else {

@@ -25,7 +25,8 @@ returns-else-is_class c =
 
 pub returns-in-Err : goal.returns-in-Err
 returns-in-Err c =
-    failed c.is_no_class.result c.in-Err.error (escape c.from_bits.result false c.reach_before.result (chars c.args.text.now)) _
+    failed c.is_no_class.result c.in-Err.error
+    (escape c.from_bits.result false c.reach_before.result (chars c.args.text.now)) _
     c.is_no_class.ensures.no c.is_no_class.ensures.fault (report_fails c.in-Err.error _ c.in-Err.ensures.value)
     (escape_faulty c.args.text.now c.reach_before.result c.from_bits.result c.utf8.text
     (behind_backslash c.args.text.now c.reach_before.result c.utf8.text c.reach_before.ensures) c.from_bits.ensures)

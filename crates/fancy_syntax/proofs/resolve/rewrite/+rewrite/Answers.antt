@@ -1,10 +1,14 @@
 use Rattle.std.proofs.Common.{arith, rules, ◌≡◌, ◌+◌, ◌++◌, get_or, length, sym, ap, ◌∙◌, ◌<◌, ◌≢◌, length-set}
-use Rattle.std.proofs.Common.{get_or-set_other, refl, set, take, []}
+use Rattle.std.proofs.Common.{get_or-set_other, refl, set, take, [], true}
 use Rattle.std.proofs.lemmas.List.{set-get_or}
 use Rattle.fancy_grammar.specs.Items.{items, openings_in}
-use Rattle.fancy_syntax.specs.Notes.{known_of, progress_of}
+use Rattle.fancy_syntax.specs.Notes.{known_of, progress_of, is_reference, is_reference_step}
 use Rattle.fancy_syntax.specs.View.{view, views}
 use Rattle.fancy_grammar.specs.Walk.{progress_after}
+use Rattle.fancy_syntax.specs.declared.expr.Absent.{Absent}
+use Rattle.fancy_syntax.specs.declared.expr.Absent.TheOpen.{AstNode-F}
+use Rattle.fancy_syntax.specs.declared.expr.AstNode.{AstNode, AstGroup, roll-AstNode, out-AstNode, roll-out-AstNode}
+use Rattle.fancy_syntax.specs.declared.expr.AstNode.TheVariants as variant
 use Rattle.fancy_syntax.specs.declared.expr.Expr.{Expr, the_lemmas}
 use Rattle.fancy_syntax.proofs.NoItems.{rebuilt_same}
 use Rattle.fancy_syntax.proofs.PartLemmas.{two_parts, three_lent, two_count, three_count, two_noted, three_noted}
@@ -166,3 +170,15 @@ rewrite_all-returns-in_err-rewrite t c =
     let kept = error_kept k s _ (items (view e)) (rest es (i + 1)) c.in_err-rewrite.ensures in
     let all = rw (← step, c.loop-i.invariant.1) at kept in
     search rules
+
+-- a node that is no group is a reference
+no_group : (v : AstNode-F Absent AstNode Expr) → ((a b : _) → roll-AstNode v ≡ AstGroup a b → ⊥) →
+    is_reference_step v ≡ true
+no_group (AstNode-F.AstGroup a b) h = absurd (h a b (variant.rolls-AstGroup a b))
+no_group _ h = refl
+
+not_group : (n : AstNode) → ((a b : _) → n ≡ AstGroup a b → ⊥) → is_reference n ≡ true
+not_group n h = no_group (out-AstNode n) (λ a b e. h a b (sym (roll-out-AstNode n) ∙ e))
+
+pub rewrite_node-take_target-requires : goal.rewrite_node-take_target-requires
+rewrite_node-take_target-requires t c = not_group _ c.in_default-node.not-AstGroup

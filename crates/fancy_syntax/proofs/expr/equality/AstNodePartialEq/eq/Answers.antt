@@ -1,6 +1,6 @@
 use Rattle.std.proofs.lemmas.Bool.Decides.{Decides-at}
-use Rattle.fancy_grammar.specs.SameLaws.{same_ast-Decides}
+use Rattle.fancy_grammar.specs.SameLaws.{same-Decides}
 use Rattle.fancy_syntax.proofs.expr.equality.AstNodePartialEq.eq.Goals as goal
 
 pub returns-clause-decides : goal.returns-clause-decides
-returns-clause-decides c = Decides-at _ _ c.is_same_node.ensures (same_ast-Decides _ _)
+returns-clause-decides c = Decides-at _ _ c.is_same_node.ensures (same-Decides _ _)
