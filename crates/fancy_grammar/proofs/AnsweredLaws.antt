@@ -302,7 +302,7 @@ module _ {f : Flags} {text : Text} {t : Tree} {m : Marks} (a : IsTreeOf f text t
   }
 
   -- the Groups are those of the one raw tree of the text
-  pub groups_of_raw : (r : Tree) → DerivesTree f text r → HasGroupsOf f (bytes text) r t
+  pub groups_of_raw : (r : Tree) → DerivesTree f text r → HasGroupsOf f text r t
   groups_of_raw r b =
-      subst (λ q. HasGroupsOf f (bytes text) q t) (sym (same_tree a.1 b))
+      subst (λ q. HasGroupsOf f text q t) (sym (same_tree a.1 b))
       (record { in_order = openings_in_order; insides = groups_in_order })

@@ -3,7 +3,7 @@ use Rattle.std.specs.Prelude.{◌≡◌, ℕ, ◌+◌, ◌*◌, ◌<◌, ◌≤�
 use Rattle.std.specs.Prelude.{map}
 use Rattle.std.specs.Prelude.{Option, Some, None, find, nat_le, nat_lt, if◌then◌else◌}
 use Rattle.std.specs.List.{AllByRecursion, list_any}
-use Rattle.fancy_lex.specs.Text.{Text}
+use Rattle.fancy_lex.specs.Text.{Text, bytes}
 use Rattle.fancy_lex.specs.declared.flags.Flags.{Flags}
 use Rattle.fancy_parts.specs.Ranks.{Opening, only_named, is_counted, numbered_openings}
 use Rattle.fancy_grammar.specs.Depth.{max_levels}
@@ -102,8 +102,8 @@ numbered_groups f r = numbered_in (only_named f (openings r)) (preorder r)
 
 -- their openings are those that have a number, in text order; and the k-th Group of the answered tree t holds the
 -- inside of the k-th of them, resolved
-pub record HasGroupsOf (f : Flags) (n : ℕ) (r t : Tree) : Type 0 where
+pub record HasGroupsOf (f : Flags) (text : Text) (r t : Tree) : Type 0 where
   pub in_order : map (λ g. g.0) (numbered_groups f r) ≡ numbered_openings f (openings r)
   pub insides : groups t ≡
-      map (λ g. group (resolved_in n (only_named f (openings r)) (numbered_openings f (openings r)) g.1))
+      map (λ g. group (resolved_in (bytes text) (only_named f (openings r)) (numbered_openings f (openings r)) g.1))
       (numbered_groups f r)

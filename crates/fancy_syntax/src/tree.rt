@@ -80,7 +80,7 @@ impl Expr {
         ensures bounds { IfOk result (λ t. IsSmall (view t.expr) (length re.now)) }
         ensures answered { IfOk result (λ t. IsAnsweredWith (view t.expr) (marks_of t)) }
         ensures groups { IfOk result (λ t. (r : _) → DerivesTree (flags_of flags) (chars re.now) r →
-            HasGroupsOf (flags_of flags) (bytes (chars re.now)) r (view t.expr)) }
+            HasGroupsOf (flags_of flags) (chars re.now) r (view t.expr)) }
         ensures fault { IfErr result (λ e. IsOnlyFault e (flags_of flags) (chars re.now)) }
         ensures place { IfErr result (λ e. IsPlacedIn e re.now) }
     {
@@ -105,7 +105,7 @@ impl Expr {
         ensures bounds { IfOk result (λ t. IsSmall (view t.expr) (length re.now)) }
         ensures answered { IfOk result (λ t. IsAnsweredWith (view t.expr) (marks_of t)) }
         ensures groups { IfOk result (λ t. (r : _) → DerivesTree unicode_alone (chars re.now) r →
-            HasGroupsOf unicode_alone (bytes (chars re.now)) r (view t.expr)) }
+            HasGroupsOf unicode_alone (chars re.now) r (view t.expr)) }
         ensures fault { IfErr result (λ e. IsOnlyFault e unicode_alone (chars re.now)) }
         ensures place { IfErr result (λ e. IsPlacedIn e re.now) }
     {
