@@ -1,4 +1,4 @@
-use Rattle.std.proofs.Common.{◌≡◌, None, Result, Ok, Err, IfOk, IfErr, chars}
+use Rattle.std.proofs.Common.{◌≡◌, None, Result, Ok, Err, IfOk, chars}
 use Rattle.std.proofs.lemmas.Result.{err_from_is_err_and, IfErr-weaker}
 use Rattle.fancy_lex.specs.Text.{Text, bytes}
 use Rattle.fancy_lex.specs.declared.error.Failure.{Failure}
