@@ -9,6 +9,7 @@ pub mod WriteLemmas
 mod TreesLemmas
 mod StepLemmas
 mod MachineLemmas
+mod RoomLemmas
 mod TreeLemmas
 -- ---- the resolver
 pub mod WalkLemmas

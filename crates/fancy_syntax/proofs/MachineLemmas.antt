@@ -39,6 +39,7 @@ use Rattle.fancy_syntax.specs.declared.grammar.step.Step.TheVariants as step
 use Rattle.fancy_lex.proofs.TextLemmas.{strip_is}
 use Rattle.fancy_grammar.proofs.OutcomeLemmas.{IsErrorAmong-map, before-nil, before-push, more_any, next_any}
 use Rattle.fancy_grammar.proofs.OutcomeLemmas.{solid-append}
+use Rattle.fancy_grammar.proofs.Slices.{here, on, piece_slice, strip_slice}
 
 -- ---- a step
 
@@ -164,6 +165,7 @@ reading_new d p s bs ps e f = record {
   branch = λ o b. rw before-nil b;
   all = λ o b. rw (e, before-nil) b;
   one = λ _. (refl, e);
+  slice = here s.rest;
 }
 
 reading_piece : {d : ℕ} {p : OpenPart} {s t v : State} {r : Tree} {bs ps : List Tree} (cs qs : List Tree) →
@@ -176,6 +178,7 @@ reading_piece {r} cs qs h e a i j = record {
   branch = λ o p. rw before-push (h.branch _ (next_any o e a p));
   all = λ o b. rw i (h.all o b);
   one = λ k. ((h.one k).0, i ∙ (h.one k).1);
+  slice = on h.slice (piece_slice a).slice;
 }
 
 -- the tree of the branch that is open
@@ -210,6 +213,7 @@ reading_bar {d} {s} {t} {u} {bs} {ps} cs qs h k e f i j = record {
       subst (λ l. Branches d s (trees_before l o)) (sym i)
       (subst (Branches d s) (sym (before-push bs (joined ps) o)) (h.all _ (more_any o (reading_branch h e) f b)));
   one = λ l. absurd (true≢false (sym l ∙ k));
+  slice = on h.slice (strip_slice bar t.rest u f);
 }
 
 reading_alternation : {d : ℕ} {p : OpenPart} {s t : State} {bs ps : List Tree} → ReadSoFar d p s bs ps t →

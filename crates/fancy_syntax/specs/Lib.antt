@@ -38,5 +38,6 @@ pub use Rattle.fancy_grammar.specs.ReadBack
 pub mod Reads
 pub mod Parsed
 pub mod Machine
+pub mod Room
 -- ---- the resolver's walks
 pub mod Notes

@@ -13,6 +13,7 @@ use Rattle.fancy_grammar.specs.Grammar.{Alternation, Branches, Branch, Pieces, P
 use Rattle.fancy_grammar.specs.Grammar.{branches_of, conditional_of, clear_or_stopper, trees_before}
 use Rattle.fancy_grammar.specs.Head.{Head, group_node}
 use Rattle.fancy_grammar.specs.Join.{solid}
+use Rattle.fancy_grammar.specs.Slices.{Slice}
 use Rattle.fancy_syntax.specs.Parsed.{head_of, state}
 use Rattle.fancy_grammar.specs.Errors.{IsErrorAmong}
 use Rattle.fancy_grammar.specs.State.{ends, skipped, State, at, Outcome, done, faulted}
@@ -154,6 +155,7 @@ pub record ReadSoFar (d : ℕ) (p : OpenPart) (s : State) (branches pieces : Lis
   pub branch : (o : Outcome (List Tree)) → Pieces d t o → Pieces d begin (trees_before read o)
   pub all : (o : Outcome (List Tree)) → Branches d begin o → Branches d s (trees_before branches o)
   pub one : holds_one p ≡ true → (begin ≡ s) × (branches ≡ [])
+  pub slice : Slice s.rest t.rest
 
 -- the piece in which the parts above the frame were opened began at the state
 abbrev pub Began : Frame → State → Type 0

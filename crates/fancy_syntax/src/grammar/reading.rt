@@ -1,5 +1,5 @@
 //! Where the loop stands that reads the raw tree of a text.
-ghost use Rattle.std.specs.Prelude.{◌≡◌, ◌∷◌, [], ◌++◌, ◌<◌, ◌≤◌, ℕ, true, false, length, chars, vec_len};
+ghost use Rattle.std.specs.Prelude.{◌≡◌, ◌<◌, ◌≤◌, true, false, length, chars, vec_len, vec_capacity};
 ghost use Rattle.std.specs.Prelude.{Some, None, IfOk, OnOk, MatchOption, MatchResult};
 ghost use Rattle.fancy_lex.specs.Characters.{bar};
 ghost use Rattle.fancy_lex.specs.Text.{strip};
@@ -10,17 +10,18 @@ ghost use Rattle.fancy_grammar.specs.State.{done, ends};
 ghost use Rattle.fancy_grammar.specs.State as states;
 ghost use Rattle.fancy_syntax.specs.Machine.{Takes, IsReading};
 ghost use Rattle.fancy_syntax.specs.Parsed.{state};
+ghost use Rattle.fancy_syntax.specs.Room.{groups_at_once, HasRoom, IsRoomy, HasRoomFor, OpensAlways};
 ghost use Rattle.fancy_syntax.specs.View.{view, views};
 
 use crate::expr::Expr;
 use crate::grammar::atom::{leaf_node, literal};
 use crate::grammar::frame::{Frame, Opener};
 use crate::grammar::plain::{plain, plain_escape};
-use crate::grammar::state::State;
+use crate::grammar::state::{MAX_DEPTH, State};
 use crate::grammar::step::{Step, close, read_step};
 use crate::grammar::trees::add;
 use fancy_lex::error::Failure;
-use fancy_lex::text::{byte_len, reach};
+use fancy_lex::text::{byte_len, reach, split_at};
 use std::alloc::{AllocError, Global};
 use std::mem;
 
@@ -31,7 +32,7 @@ pub(crate) struct Reading<'a> {
     pub(crate) here: State<'a>,
     /// The innermost group that is open.
     pub(crate) frame: Frame<'a>,
-    /// The groups around it, the innermost last.
+    /// The groups around it, the innermost last. It has room for all that can be open at once in the text.
     pub(crate) stack: Vec<Frame<'a>>,
     /// The trees that stand in no other yet: those of all open groups, one above the other.
     pub(crate) trees: Vec<Expr>,
@@ -49,11 +50,12 @@ impl<'a> Reading<'a> {
         ensures here { IfOk result (λ r. r.here ≡ start.entry) }
         ensures depth { IfOk result (λ r. length r.stack.items < max_depth) }
         ensures reading { IfOk result (λ r. IsReading (state start.entry) r) }
+        ensures room { IfOk result (λ r. HasRoom r (chars start.entry.rest.now)) }
     {
         Ok(Reading {
             here: start,
             frame: Frame::new(Opener::Top, 0, start.flags),
-            stack: Vec::new(alloc),
+            stack: Vec::with_capacity(alloc, groups_at_once(start.rest))?,
             trees: Vec::with_capacity(alloc, TREES)?,
         })
     }
@@ -86,11 +88,13 @@ impl<'a> Reading<'a> {
     /// Reads a piece, or the opening of a group. A fault is the text's.
     #[inline(always)]
     pub(crate) fn step(&mut self, alloc: Global) -> Result<(), Failure>
+        requires room { IsRoomy self.old }
         requires depth { length self.old.stack.items < max_depth }
         requires more { ends (chars self.old.here.rest.now) ≡ false }
         ensures reading { (start : states.State) → IsReading start self.old →
             MatchResult result (λ _. IsReading start self.new) (λ e. IsErrorAmong e (Alternation 0 start)) }
         ensures depth { OnOk result (length self.new.stack.items < max_depth) }
+        ensures capacity { OnOk result (vec_capacity self.new.stack ≡ vec_capacity self.old.stack) }
         ensures shorter { OnOk result (length self.new.here.rest.now < length self.old.here.rest.now) }
     {
         self.frame.left = byte_len(self.here.rest);
@@ -130,6 +134,7 @@ impl<'a> Reading<'a> {
             (λ tree. Alternation 0 start (done (view tree) (state self.new.here))))
             (λ e. IsErrorAmong e (Alternation 0 start)) }
         ensures depth { OnOk result (length self.new.stack.items < max_depth) }
+        ensures capacity { OnOk result (vec_capacity self.new.stack ≡ vec_capacity self.old.stack) }
         ensures shorter { IfOk result (λ found. MatchOption found
             (length self.new.here.rest.now < length self.old.here.rest.now)
             (λ _. self.new.here ≡ self.old.here)) }
@@ -153,31 +158,41 @@ impl<'a> Reading<'a> {
     }
 
     /// Takes what a step read: a piece, which stands behind the others of the group, or a group, which opens in it.
+    /// Memory can be wanting for the list of pieces alone.
     #[inline(always)]
     fn take(&mut self, step: Step<'a>) -> Result<(), AllocError>
+        requires room { HasRoomFor step self.old }
         ensures taken { OnOk result (Takes step.entry
             self.old.stack.items self.old.frame (views self.old.trees.items)
             self.new.stack.items self.new.frame (views self.new.trees.items)) }
         ensures here { self.new.here ≡ self.old.here }
+        ensures capacity { vec_capacity self.new.stack ≡ vec_capacity self.old.stack }
+        ensures opens { OpensAlways step.entry result }
     {
         match step {
             Step::Piece(piece) => add(&mut self.trees, piece),
             Step::Open(opener) => {
                 let inner = Frame::new(opener, self.trees.len(), self.here.flags);
-                push_frame(&mut self.stack, mem::replace(&mut self.frame, inner))
+                self.stack
+                    .push_reserved(mem::replace(&mut self.frame, inner));
+                Ok(())
             }
         }
     }
 }
 
-/// Puts a frame on the stack.
-fn push_frame<'a>(stack: &mut Vec<Frame<'a>>, frame: Frame<'a>) -> Result<(), AllocError>
-    ensures { OnOk result (stack.new.items ≡ stack.old.items ++ frame.entry ∷ []) }
+/// How many groups can be open at once in the text: as many as it has opening parentheses, and fewer than MAX_DEPTH.
+fn groups_at_once(text: &str) -> usize
+    ensures { result ≡ groups_at_once (chars text.now) }
 {
-    if let Err(refused) = stack.reserve(1) {
-        drop(frame);
-        return Err(AllocError::from(refused));
+    let mut rest = text;
+    let mut count = 0;
+    while count < MAX_DEPTH - 1 {
+        let Some((_, behind)) = split_at(rest, '(') else {
+            return count;
+        };
+        rest = behind;
+        count += 1;
     }
-    stack.push_reserved(frame);
-    Ok(())
+    count
 }

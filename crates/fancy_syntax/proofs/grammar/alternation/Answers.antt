@@ -1,5 +1,6 @@
 use Rattle.std.proofs.Common.{arith}
 use Rattle.std.proofs.lemmas.Result.{err_from_is_err_and}
+use Rattle.fancy_syntax.specs.Parsed.{state}
 use Rattle.fancy_syntax.proofs.TreesLemmas.{holds_below, views_length}
 use Rattle.fancy_syntax.proofs.grammar.alternation.Goals as goal
 
@@ -9,6 +10,7 @@ loop-reading-init c =
     record {
       reading = r.reading;
       depth = r.depth;
+      room = r.room;
       within = rw r.here (omega arith);
     }
 
@@ -17,6 +19,11 @@ returns-in_err-step-clause-value c =
     let e = err_from_is_err_and c.from_residual-in_err-step.result c.from_residual-in_err-step.ensures.1 in
     let r = c.in_ok-add_leaf.ensures.reading _ c.loop-reading.invariant.reading in
     rw (e.1, e.2) (c.in_err-step.ensures.reading _ r)
+
+pub step-requires-clause-room : goal.step-requires-clause-room
+step-requires-clause-room c =
+    let r = c.in_ok-add_leaf.ensures.reading _ c.loop-reading.invariant.reading in
+    (state c.args.start, r, rw c.in_ok-add_leaf.ensures.stack c.loop-reading.invariant.room)
 
 pub bar-requires-clause-pieces : goal.bar-requires-clause-pieces
 bar-requires-clause-pieces c =

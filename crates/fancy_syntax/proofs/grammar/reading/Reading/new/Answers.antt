@@ -8,5 +8,5 @@ use Rattle.fancy_syntax.proofs.grammar.reading.Reading.new.Goals as goal
 pub returns-clause-reading : goal.returns-clause-reading
 returns-clause-reading c =
     let f = c.new.ensures in
-    running_start (state c.args.start) _ _ _ c.new-2.ensures.items (ap views c.in_ok-with_capacity.ensures.items)
+    running_start (state c.args.start) _ _ _ c.in_ok-with_capacity.ensures.items (ap views c.in_ok-with_capacity-2.ensures.items)
     f.branches f.pieces (ap part_of f.opener)

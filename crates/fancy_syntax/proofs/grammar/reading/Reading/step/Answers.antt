@@ -2,9 +2,10 @@ use Rattle.std.proofs.Common.{◌≡◌, length, arith, refl, subst}
 use Rattle.std.proofs.lemmas.Result.{err_from_is_err_and}
 use Rattle.fancy_grammar.specs.Grammar.{Alternation, Piece}
 use Rattle.fancy_grammar.specs.State.{fault}
-use Rattle.fancy_syntax.specs.Machine.{IsStep}
+use Rattle.fancy_syntax.specs.Machine.{IsStep, OpensBelow}
 use Rattle.fancy_syntax.specs.Parsed.{state}
 use Rattle.fancy_syntax.proofs.MachineLemmas.{running_began, running_fault, running_step}
+use Rattle.fancy_syntax.proofs.RoomLemmas.{room_for_step}
 use Rattle.fancy_grammar.proofs.OutcomeLemmas.{IsErrorAmong-map}
 use Rattle.fancy_syntax.proofs.grammar.reading.Reading.step.Goals as goal
 
@@ -29,3 +30,15 @@ returns-clause-reading c start h =
     rw taken.here
     (running_step made (running_began c.byte_len-self.result c.args.self.now.here.flags h)
     (c.byte_len-self.ensures, refl) c.requires.more steps taken.taken)
+
+pub take-requires : goal.take-requires
+take-requires c =
+    let n : c.len.result ≡ length c.args.self.now.stack.items = omega (arith, c.len.ensures, c.args.self.now.stack.ok.0) in
+    let made = c.in_ok-step.step in
+    let (start, h, room) = c.requires.room in
+    let steps = subst (λ d. IsStep d (state c.args.self.now.here) made (state c.read_step.new.here)) n
+    c.in_ok-step.ensures.value in
+    record {
+      room = room_for_step (state c.read_step.new.here) made _ h steps (subst (OpensBelow made) n c.in_ok-step.ensures.below) room
+          (omega (arith, c.args.self.now.stack.ok.0));
+    }
