@@ -21,6 +21,7 @@ pub mod PrintableLaws
 pub mod PrintedScalars
 pub mod NormalLaws
 -- ---- trees that nest less deep than 64 groups, and those that nest too deep
+pub mod Nest
 pub mod Induction
 pub mod OverLemmas
 pub mod TooDeep

@@ -2,11 +2,10 @@
 use Rattle.std.specs.Prelude.{◌≡◌, ℕ, ◌+◌, ◌⊎◌, List, length, Some, None}
 use Rattle.std.specs.Str.{IsCharBoundary}
 use Rattle.fancy_lex.specs.Fault.{Kind}
-use Rattle.fancy_lex.specs.ErrorViews.{kind_of}
 use Rattle.fancy_lex.specs.Text.{Text, bytes, place_at}
 use Rattle.fancy_lex.specs.declared.error.Error.{Error}
-use Rattle.fancy_lex.specs.declared.error.Error.TheVariants.{ParseError, OutOfMemory}
 use Rattle.fancy_lex.specs.declared.flags.Flags.{Flags}
+use Rattle.fancy_grammar.specs.Errors.{IfFault}
 use Rattle.fancy_grammar.specs.Grammar.{DerivesTree, Faults}
 use Rattle.fancy_grammar.specs.Marks.{Marks, marks}
 use Rattle.fancy_grammar.specs.Resolved.{resolved, fault_of}
@@ -26,13 +25,11 @@ pub data IsFaultOf : Flags → Text → Kind → ℕ → Type 0 where
 
 -- memory ran out, or the text has this fault and no other, and no tree
 abbrev pub IsOnlyFault : Error → Flags → Text → Type 0
-IsOnlyFault (ParseError p k) f text =
-    IsFaultOf f text (kind_of k) p
-    × ((j : Kind) (q : ℕ) → IsFaultOf f text j q → (j ≡ kind_of k) × (q ≡ p))
-    × ((t : Tree) (m : Marks) → IsTreeOf f text t m → ⊥)
-IsOnlyFault OutOfMemory f text = Unit {0}
+IsOnlyFault e f text = IfFault e (λ k p.
+    IsFaultOf f text k p
+    × ((j : Kind) (q : ℕ) → IsFaultOf f text j q → (j ≡ k) × (q ≡ p))
+    × ((t : Tree) (m : Marks) → IsTreeOf f text t m → ⊥))
 
 -- memory ran out, or the fault's place is one past the end of the pattern, or one at which the pattern may be cut
 abbrev pub IsPlacedIn : Error → List ℕ → Type 0
-IsPlacedIn (ParseError p k) pattern = (p ≡ length pattern + 1) ⊎ IsCharBoundary pattern p
-IsPlacedIn OutOfMemory pattern = Unit {0}
+IsPlacedIn e pattern = IfFault e (λ k p. (p ≡ length pattern + 1) ⊎ IsCharBoundary pattern p)

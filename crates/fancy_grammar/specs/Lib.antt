@@ -28,7 +28,6 @@ pub mod Printed
 pub mod HasDelegate
 pub mod Normal
 pub mod Printable
-pub mod Nest
 pub mod Over
 pub mod ReadBack
 -- What only the laws, the private contracts and the proofs of the code speak of.

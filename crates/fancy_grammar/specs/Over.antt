@@ -1,12 +1,12 @@
 -- The parentheses that open printed groups, and the first that stands too deep.
-use Rattle.std.specs.Prelude.{ℕ, ◌+◌, ◌==◌, Bool, true, false, ◌||◌, nat_lt, List, [], ◌∷◌, ◌++◌, codes, find}
-use Rattle.std.specs.Prelude.{option_map, unwrap_or}
+use Rattle.std.specs.Prelude.{ℕ, ◌+◌, ◌==◌, Bool, true, false, ◌||◌, nat_lt, List, [], ◌∷◌, ◌++◌, codes, find, Option}
 use Rattle.fancy_lex.specs.Text.{Text, bytes}
+use Rattle.fancy_lex.specs.declared.escape.Assertion.{Assertion}
+use Rattle.fancy_lex.specs.declared.escape.Assertion.TheVariants.{StartLine, StartLineOniguruma, EndLine}
 use Rattle.fancy_grammar.specs.Depth.{max_depth}
 use Rattle.fancy_grammar.specs.Printed.{is_long, printed}
 use Rattle.fancy_grammar.specs.Tree.{Tree, Trees, no_trees, more_trees, any, assertion, literal, concat, alt, group}
 use Rattle.fancy_grammar.specs.Tree.{repeat, delegate}
-use Rattle.fancy_grammar.specs.Nest.{is_at_line}
 
 -- the opening parenthesis of a printed group: its place in bytes, and how many groups are open round it
 pub record Paren : Type 0 where
@@ -25,6 +25,13 @@ abbrev pub in_group : Bool → Text → Parens → Parens
 in_group true head inside place round =
     record { place = place; round = round } ∷ inside (place + bytes head) (round + 1)
 in_group false head inside place round = inside place round
+
+-- the start or the end of each line, which is printed with its flags in a group
+abbrev pub is_at_line : Assertion → Bool
+is_at_line (StartLine crlf) = true
+is_at_line (StartLineOniguruma crlf) = true
+is_at_line (EndLine crlf) = true
+is_at_line _ = false
 
 abbrev mutual
   -- those of the tree's text at a precedence, in text order
@@ -59,6 +66,6 @@ abbrev mutual
 abbrev pub is_too_deep : Paren → Bool
 is_too_deep q = q.round + 1 == max_depth
 
--- the place of the first group that is too deep; 0 where none is
-abbrev pub over : Tree → ℕ → ℕ
-over t p = unwrap_or (option_map (λ q. q.place) (find is_too_deep (parens t p 0 0))) 0
+-- the first of the tree's text at a precedence that is too deep
+abbrev pub too_deep : Tree → ℕ → Option Paren
+too_deep t p = find is_too_deep (parens t p 0 0)

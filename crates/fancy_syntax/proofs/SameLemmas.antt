@@ -1,19 +1,19 @@
 -- Whether two lists have the same trees.
 use Rattle.std.proofs.Common.{◌≡◌, ◌≢◌, ℕ, ◌+◌, ◌<◌, ◌≤◌, Bool, true, false, List, [], ◌∷◌, ◌++◌, length, take, get_or}
-use Rattle.std.proofs.Common.{◌∙◌, refl, ap, sym, subst, true≢false}
+use Rattle.std.proofs.Common.{◌∙◌, refl, ap, sym, true≢false}
 use Rattle.std.specs.Bool.{Decides}
 use Rattle.std.proofs.lemmas.List.{get_or-map, length-map, map_more, take_all}
 use Rattle.fancy_syntax.proofs.ChildrenLemmas.{list_of_trees_of}
 use Rattle.fancy_grammar.specs.Same.{same, same_all}
-use Rattle.fancy_grammar.specs.SameLaws.{same_all-true, same_all-refl, same-Decides}
+use Rattle.fancy_grammar.specs.SameLaws.{same-Decides, all-Decides}
 use Rattle.fancy_grammar.specs.Tree.{Tree, list_of, trees_of}
 use Rattle.fancy_syntax.specs.View.{view, views}
 use Rattle.fancy_syntax.specs.declared.expr.Expr.{Expr}
 
 same_lists : (s t : List Tree) → Decides (same_all (trees_of s) (trees_of t)) (s ≡ t)
 same_lists s t = (
-  λ e. sym (list_of_trees_of s) ∙ ap list_of (same_all-true (trees_of s) (trees_of t) e) ∙ list_of_trees_of t,
-  λ e. subst (λ u. same_all (trees_of s) (trees_of u) ≡ true) e (same_all-refl (trees_of s)),
+  λ e. sym (list_of_trees_of s) ∙ ap list_of ((all-Decides (trees_of s) (trees_of t)).0 e) ∙ list_of_trees_of t,
+  λ e. (all-Decides (trees_of s) (trees_of t)).1 (ap trees_of e),
 )
 
 false_unless : (r : Bool) → ¬ (r ≡ true) → false ≡ r

@@ -29,7 +29,6 @@ pub use Rattle.fancy_grammar.specs.Printed
 pub use Rattle.fancy_grammar.specs.HasDelegate
 pub use Rattle.fancy_grammar.specs.Normal
 pub use Rattle.fancy_grammar.specs.Printable
-pub use Rattle.fancy_grammar.specs.Nest
 pub use Rattle.fancy_grammar.specs.Over
 pub use Rattle.fancy_grammar.specs.ReadBack
 -- What only the private contracts and the proofs of the code speak of.

@@ -1,11 +1,10 @@
 //! The text of a tree.
-ghost use Rattle.std.specs.Prelude.{◌≡◌, ℕ, ◌+◌, ◌<◌, ◌≤◌, Bool, List, [], ◌++◌, true, false, is_some, IfOk, IfSome, IsOk, OnOk, OnErr};
-ghost use Rattle.std.specs.Prelude.{string_bytes, string_len, string_capacity, chars, encode_utf8_all};
+ghost use Rattle.std.specs.Prelude.{◌≡◌, ℕ, ◌+◌, ◌<◌, ◌≤◌, Bool, List, [], ◌++◌, true, false, IfOk, IfSome, IsOk, OnOk, OnErr};
+ghost use Rattle.std.specs.Prelude.{None, is_some, string_bytes, string_len, string_capacity, chars, encode_utf8_all};
 ghost use Rattle.fancy_lex.specs.Text.{bytes};
-ghost use Rattle.fancy_grammar.specs.Depth.{max_depth};
 ghost use Rattle.fancy_grammar.specs.HasDelegate.{has_delegate};
-ghost use Rattle.fancy_grammar.specs.Nest.{nest};
 ghost use Rattle.fancy_grammar.specs.Normal.{normal};
+ghost use Rattle.fancy_grammar.specs.Over.{too_deep};
 ghost use Rattle.fancy_grammar.specs.Printable.{printable};
 ghost use Rattle.fancy_grammar.specs.Printed.{printed, has_text};
 ghost use Rattle.fancy_grammar.specs.ReadBack.{IsReadBack};
@@ -73,7 +72,7 @@ impl Expr {
         ensures capacity { OnErr result (string_capacity buf.new ≡ string_capacity buf.old) }
         ensures reads_back { OnOk result (printable (view self.now) ≡ true → (w : List ℕ) × (string_bytes buf.new ≡
             string_bytes buf.old ++ w) × IsReadBack (view self.now) precedence (chars w)) }
-        ensures same_text { printable (view self.now) ≡ true → nest (view self.now) precedence < max_depth →
+        ensures same_text { printable (view self.now) ≡ true → too_deep (view self.now) precedence ≡ None →
             (s : Tree) (q : ℕ) (u : Bool) → printable s ≡ true → printed (view self.now) precedence ≡ printed s q →
             normal u (view self.now) ≡ normal u s }
         ensures room { string_len buf.old + bytes (printed (view self.now) precedence) ≤ string_capacity buf.old →

@@ -15,7 +15,8 @@ use Rattle.fancy_grammar.specs.Quantified.{is_repeatable}
 use Rattle.fancy_grammar.specs.Printed.{is_long, printed, operand_text, printed_all, printed_branches, grouped}
 use Rattle.fancy_grammar.specs.Tree.{Tree, Trees, no_trees, more_trees, empty, any, assertion, literal, concat, alt}
 use Rattle.fancy_grammar.specs.Tree.{group, repeat, delegate, define_group}
-use Rattle.fancy_grammar.specs.Nest.{nest, nests, one_if, is_at_line}
+use Rattle.fancy_grammar.specs.Over.{is_at_line}
+use Rattle.fancy_grammar.proofs.ReadBack.Nest.{nest, nests, one_if}
 use Rattle.fancy_grammar.proofs.ReadBack.InFront.{put, puts, put_branches, put_barred, put_repeated, put_any}
 use Rattle.fancy_grammar.proofs.ReadBack.InFront.{put_assertion, put_quotes, open_if, close_if, put_alone}
 use Rattle.fancy_grammar.proofs.ReadBack.ClearLemmas.{Clear, Stops, Ends, clear_close, stops_bar, ends_close}

@@ -25,7 +25,8 @@ use Rattle.fancy_grammar.specs.Ahead.{leaf, ahead, leaf_node, leaf_outcome}
 use Rattle.fancy_grammar.specs.Normal.{normal_character, unicode_flags}
 use Rattle.fancy_grammar.specs.State.{done}
 use Rattle.fancy_grammar.specs.Tree.{Tree, any, assertion}
-use Rattle.fancy_grammar.specs.Nest.{one_if, is_at_line}
+use Rattle.fancy_grammar.specs.Over.{is_at_line}
+use Rattle.fancy_grammar.proofs.ReadBack.Nest.{one_if}
 use Rattle.fancy_grammar.proofs.ReadBack.InFront.{put_as, put_quotes, put_any, put_line, put_assertion}
 use Rattle.fancy_grammar.proofs.ReadBack.ClearLemmas.{begins_mark, Clear, not_open, clear_close, ends_close}
 use Rattle.fancy_grammar.proofs.ReadBack.ClearLemmas.{apart, behind_none}

@@ -1,21 +1,20 @@
 -- The place of the first group that is too deep, by the nesting of each part.
 use Rattle.std.proofs.Common.{◌≡◌, ℕ, ◌+◌, ◌<◌, ◌≤◌, Bool, true, false, ◌||◌, nat_lt, nat_le, ◌==◌, if◌then◌else◌, List}
-use Rattle.std.proofs.Common.{[], ◌∷◌, ◌++◌, codes, Option, Some, None, option_map, unwrap_or, refl, ap, ◌∙◌, arith}
+use Rattle.std.proofs.Common.{[], ◌∷◌, ◌++◌, codes, Option, Some, None, refl, ap, ◌∙◌, arith}
 use Rattle.std.proofs.lemmas.Bool.{cond_both, cond-true, cond-false}
 use Rattle.std.proofs.lemmas.Bool.Decides.{nat_tests}
 use Rattle.std.proofs.lemmas.List.Folds.{find-append}
 use Rattle.std.specs.Prelude.{find, max}
 use Rattle.std.specs.Option.{option_or}
 use Rattle.std.proofs.Common.{leb-true, leb-false}
-use Prim.Native.Char.{code}
 use Rattle.fancy_lex.specs.Text.{Text, bytes}
 use Rattle.fancy_grammar.specs.Depth.{max_depth, most_open}
 use Rattle.fancy_grammar.specs.Printed.{is_long, printed}
 use Rattle.fancy_grammar.specs.Tree.{Tree, Trees, no_trees, more_trees, any, assertion, literal, concat, alt, group}
 use Rattle.fancy_grammar.specs.Tree.{repeat, delegate}
-use Rattle.fancy_grammar.specs.Nest.{one_if, is_at_line, nest, nests}
+use Rattle.fancy_grammar.proofs.ReadBack.Nest.{one_if, nest, nests}
 use Rattle.fancy_grammar.specs.Over.{Paren, Parens, no_parens, in_group, parens, parens_all, parens_branches}
-use Rattle.fancy_grammar.specs.Over.{parens_barred, is_too_deep, over}
+use Rattle.fancy_grammar.specs.Over.{parens_barred, is_at_line, is_too_deep, too_deep}
 
 -- of a group whose head has so many bytes, where d groups are open round it
 abbrev pub at_open : ℕ → ℕ → ℕ → ℕ
@@ -69,13 +68,13 @@ at_same : (x y : ℕ) → x ≡ y →
 at_same x y e = ap (λ z. Some (record { place = z; round = most_open })) e
 
 -- a group that is too deep
-at_head : (start d : ℕ) (l : List Paren) → d ≡ code "?" →
+at_head : (start d : ℕ) (l : List Paren) → d ≡ most_open →
     first (record { place = start; round = d } ∷ l) ≡ Some (record { place = start + 0; round = most_open })
 at_head start d l e =
     let same : start ≡ start + 0 = omega arith in
     cond-true _ _ _ (deep d e) ∙ (λ i. Some (record { place = same i; round = e i }))
   where
-    deep : (n : ℕ) → n ≡ code "?" → (n + 1 == max_depth) ≡ true
+    deep : (n : ℕ) → n ≡ most_open → (n + 1 == max_depth) ≡ true
     deep n h = grind (arith, nat_tests)
 
 -- inside a group
@@ -199,8 +198,10 @@ mutual
       (both_find (parens t 1) (parens_barred ts) (nest t 1) (nests ts 1) (bytes (printed t 1)) (place t 1)
       (barred_places ts) (parens_find t 1) (barred_find ts))
 
--- the first that is too deep stands there
-pub over_place : (t : Tree) (p : ℕ) → max_depth ≤ nest t p → over t p ≡ place t p 0
-over_place t p h =
-    ap (λ o. unwrap_or (option_map (λ q. q.place) o) 0) ((parens_find t p).deep 0 0 (omega arith) (omega arith))
-    ∙ omega arith
+-- the first that is too deep stands there, and where fewer nest there is none
+pub over_place : (t : Tree) (p : ℕ) → max_depth ≤ nest t p →
+    too_deep t p ≡ Some (record { place = place t p 0; round = most_open })
+over_place t p h = (parens_find t p).deep 0 0 (omega arith) (omega arith) ∙ at_same _ _ (omega arith)
+
+pub none_too_deep : (t : Tree) (p : ℕ) → nest t p < max_depth → too_deep t p ≡ None
+none_too_deep t p h = (parens_find t p).shallow 0 0 (omega arith)

@@ -1,14 +1,12 @@
 -- What is printed for a printable tree reads as its normal form, or is refused where it nests too deep: the text has no
 -- other answer.
-use Rattle.std.proofs.Common.{◌≡◌, ℕ, ◌<◌, Bool, true, false, if◌then◌else◌, nat_lt, nat_le, List, [], ◌∷◌, length}
-use Rattle.std.proofs.Common.{filter, filter_map, map, None, refl, sym, ap, ap₂, ◌∙◌, subst}
+use Rattle.std.proofs.Common.{◌≡◌, ℕ, Bool, true, false, nat_lt, nat_le, List, [], ◌∷◌, length}
+use Rattle.std.proofs.Common.{filter, filter_map, map, Option, Some, None, refl, sym, ap, ap₂, ◌∙◌, subst}
 use Rattle.std.specs.Prelude.{find, fold, chars, encode_utf8_all}
 use Rattle.std.specs.BTreeSet.{insert_key}
 use Rattle.std.specs.List.{list_any}
-use Rattle.std.proofs.lemmas.Bool.{cond_both, cond-true}
 use borrow.Author.Tests.{ltb-true, ltb-false}
-use Rattle.std.proofs.Common.{lt-ltb}
-use Rattle.fancy_lex.specs.Fault.{Kind, recursion_exceeded}
+use Rattle.fancy_lex.specs.Fault.{recursion_exceeded}
 use Rattle.fancy_lex.specs.Text.{Text, bytes, place_at}
 use Rattle.fancy_lex.specs.declared.error.Failure.TheVariants.{At}
 use Rattle.fancy_lex.specs.declared.error.ParseError.TheVariants.{RecursionExceeded}
@@ -27,17 +25,19 @@ use Rattle.fancy_grammar.specs.Resolved.{fault_of}
 use Rattle.fancy_grammar.specs.Tree.{Tree, empty}
 use Rattle.fancy_grammar.proofs.AnsweredLaws.{groups_total}
 use Rattle.fancy_grammar.proofs.Verdict.{only_tree, no_fault, only_reading}
-use Rattle.fancy_grammar.specs.Nest.{nest}
 use Rattle.fancy_grammar.specs.Normal.{unicode_flags, normal}
-use Rattle.fancy_grammar.specs.Over.{over}
+use Rattle.fancy_grammar.specs.Over.{Paren, too_deep}
 use Rattle.fancy_grammar.specs.Printable.{printable}
 use Rattle.fancy_grammar.specs.ReadBack.{marks_of_groups, Answer, read, refused, IsAnswerOf, IsOnlyAnswer, read_back}
+use Rattle.fancy_grammar.specs.ReadBack.{read_or_refused}
 use Rattle.fancy_grammar.specs.ReadBack.{IsReadBack}
 use Rattle.fancy_grammar.proofs.ReadBack.PrintableLaws.{told}
 use Rattle.fancy_grammar.proofs.ReadBack.PrintedScalars.{printed_spelled}
+use Rattle.fancy_grammar.proofs.ReadBack.Nest.{nest}
 use Rattle.fancy_grammar.proofs.ReadBack.Induction.{reads_back}
 use Rattle.fancy_grammar.proofs.ReadBack.RuleLemmas.{OnlyGroups, Becomes}
-use Rattle.fancy_grammar.proofs.ReadBack.TooDeep.{too_deep}
+use Rattle.fancy_grammar.proofs.ReadBack.TooDeep.{deep_fails}
+use Rattle.fancy_grammar.proofs.ReadBack.OverLemmas.{place, over_place, none_too_deep}
 
 -- ---- the marks
 
@@ -100,12 +100,20 @@ only_refused f text p a = record { is = of_reading a; only = λ b h. other b h }
 
 only_answer : (t : Tree) (p : ℕ) (u : Bool) → printable t ≡ true →
     IsOnlyAnswer (unicode_flags u) (printed t p) (read_back u t p)
-only_answer t p u h =
-    cond_both (nat_lt (nest t p) max_depth) _ _ (IsOnlyAnswer (unicode_flags u) (printed t p))
-    (λ yes. let (r, d, b) = reads_back t p u (told t h) (ltb-true (nest t p) max_depth yes) in
-    only_read (unicode_flags u) (printed t p) (normal u t) _ (tree_of u (printed t p) r (normal u t) d b))
-    (λ no. only_refused (unicode_flags u) (printed t p) (over t p)
-    (too_deep t p u (told t h) (ltb-false (nest t p) max_depth no)))
+only_answer t p u h = by_nest (nat_lt (nest t p) max_depth) refl
+  where
+    Is : Option Paren → Type 0
+    Is o = IsOnlyAnswer (unicode_flags u) (printed t p) (read_or_refused (normal u t) o)
+
+    by_nest : (b : Bool) → nat_lt (nest t p) max_depth ≡ b → Is (too_deep t p)
+    by_nest true e =
+        let l = ltb-true (nest t p) max_depth e in let (r, d, b) = reads_back t p u (told t h) l in
+        subst Is (sym (none_too_deep t p l))
+        (only_read (unicode_flags u) (printed t p) (normal u t) _ (tree_of u (printed t p) r (normal u t) d b))
+    by_nest false e =
+        let l = ltb-false (nest t p) max_depth e in
+        subst Is (sym (over_place t p l))
+        (only_refused (unicode_flags u) (printed t p) (place t p 0) (deep_fails t p u (told t h) l))
 
 pub read_back_only : (t : Tree) (p : ℕ) → printable t ≡ true → IsReadBack t p (printed t p)
 read_back_only t p h = record { plain = only_answer t p false h; unicode = only_answer t p true h }
@@ -120,23 +128,17 @@ tree_read : Answer → Tree
 tree_read (read t m) = t
 tree_read (refused k p) = empty
 
-from_read : (b : Bool) (x y : Tree) (m k : Marks) (j : Kind) (p : ℕ) →
-    (if b then read x m else refused j p) ≡ read y k → y ≡ x
+from_read : (o : Option Paren) (x y : Tree) (m : Marks) → read_or_refused x o ≡ read y m → y ≡ x
 unfolding tree_read
-from_read true x y m k j p e = sym (ap tree_read e)
-from_read false x y m k j p e = absurd cc
-
-read_where : (t : Tree) (p : ℕ) (u : Bool) → nest t p < max_depth →
-    read_back u t p ≡ read (normal u t) (marks_of_groups (length (groups (normal u t))))
-read_where t p u l = cond-true _ _ _ (lt-ltb (nest t p) max_depth l)
+from_read None x y m e = sym (ap tree_read e)
+from_read (Some q) x y m e = absurd cc
 
 -- what was printed as the same text has the same normal form
-pub same_texts : (t s : Tree) (p q : ℕ) (u : Bool) → printable t ≡ true → printable s ≡ true → nest t p < max_depth →
-    printed t p ≡ printed s q → normal u t ≡ normal u s
+pub same_texts : (t s : Tree) (p q : ℕ) (u : Bool) → printable t ≡ true → printable s ≡ true →
+    too_deep t p ≡ None → printed t p ≡ printed s q → normal u t ≡ normal u s
 same_texts t s p q u h k l e =
     let here = only_answer t p u h in
     let there = only_answer s q u k in
     let same : read_back u s q ≡ read_back u t p =
     here.only (read_back u s q) (subst (λ w. IsAnswerOf (unicode_flags u) w (read_back u s q)) (sym e) there.is) in
-    from_read (nat_lt (nest s q) max_depth) (normal u s) (normal u t) _ _ recursion_exceeded (over s q)
-    (same ∙ read_where t p u l)
+    from_read (too_deep s q) (normal u s) (normal u t) _ (same ∙ ap (read_or_refused (normal u t)) l)

@@ -15,10 +15,9 @@ use Rattle.fancy_grammar.specs.Printed.{is_long, printed}
 use Rattle.fancy_grammar.specs.State.{fault}
 use Rattle.fancy_grammar.specs.Tree.{Tree, Trees, no_trees, more_trees, empty, any, assertion, literal, concat, alt}
 use Rattle.fancy_grammar.specs.Tree.{group, repeat, delegate, define_group}
-use Rattle.fancy_grammar.specs.Nest.{one_if, nest, nests}
+use Rattle.fancy_grammar.proofs.ReadBack.Nest.{one_if, nest, nests}
 use Rattle.fancy_grammar.specs.Normal.{unicode_flags}
-use Rattle.fancy_grammar.specs.Over.{over}
-use Rattle.fancy_grammar.proofs.ReadBack.OverLemmas.{over_place, at_open, at_open_if, place, places, branch_places}
+use Rattle.fancy_grammar.proofs.ReadBack.OverLemmas.{at_open, at_open_if, place, places, branch_places}
 use Rattle.fancy_grammar.proofs.ReadBack.OverLemmas.{barred_places}
 use Rattle.fancy_grammar.proofs.ReadBack.InFront.{put, puts, put_branches, put_barred, put_repeated, put_any}
 use Rattle.fancy_grammar.proofs.ReadBack.InFront.{put_assertion, put_line, put_quotes, open_if, close_if, put_alone}
@@ -202,10 +201,12 @@ line_open c false v = (_, refl)
 line_open c true v = (_, refl)
 
 assertion_fails : (u : Bool) (a : Assertion) → HasText a → Fails u (assertion a)
-assertion_fails u (StartLine r) h = by_one u (put_line (code "^") r) (line_open (code "^") r) (λ v. begins_assertion (StartLine r) v tt)
+assertion_fails u (StartLine r) h =
+    by_one u (put_line (code "^") r) (line_open (code "^") r) (λ v. begins_assertion (StartLine r) v tt)
 assertion_fails u (StartLineOniguruma r) h =
     by_one u (put_line (code "^") r) (line_open (code "^") r) (λ v. begins_assertion (StartLine r) v tt)
-assertion_fails u (EndLine r) h = by_one u (put_line (code "$") r) (line_open (code "$") r) (λ v. begins_assertion (EndLine r) v tt)
+assertion_fails u (EndLine r) h =
+    by_one u (put_line (code "$") r) (line_open (code "$") r) (λ v. begins_assertion (EndLine r) v tt)
 assertion_fails u a h = by_none u (put_assertion a) (λ d v. put_assertion a v)
 
 group_fails : (u : Bool) (t : Tree) → Printable t → Fails u t → Fails u (group t)
@@ -398,17 +399,15 @@ at_level t p u h w =
     subst (λ x. DeepFrom u x (place t p 0)) (put_alone t p)
     (subst (DeepFrom u s) here (from_whole u s _ (w 0 [] (omega arith) (omega arith) ends_nothing)))
 
-at_place : (t : Tree) (p : ℕ) (u : Bool) → Printable t → max_depth ≤ nest t p → DeepFrom u (printed t p) (place t p 0)
-at_place t zero u h m = at_level t 0 u m (fails u t h).whole
-at_place t (suc zero) u h m = at_level t 1 u m (to_whole u (put t 1) (nest t 1) (left t 1) (fails u t h).branch)
-at_place t (suc (suc zero)) u h m = at_level t 2 u m (to_whole u (put t 2) (nest t 2) (left t 2) (fails u t h).run)
-at_place t (suc (suc (suc p))) u h m =
+-- where too many groups nest, the text fails at the first parenthesis that opens too deep
+pub deep_fails : (t : Tree) (p : ℕ) (u : Bool) → Printable t → max_depth ≤ nest t p →
+    Faults (unicode_flags u) (printed t p) recursion_exceeded (place t p 0)
+deep_fails t zero u h m = at_level t 0 u m (fails u t h).whole
+deep_fails t (suc zero) u h m = at_level t 1 u m (to_whole u (put t 1) (nest t 1) (left t 1) (fails u t h).branch)
+deep_fails t (suc (suc zero)) u h m = at_level t 2 u m (to_whole u (put t 2) (nest t 2) (left t 2) (fails u t h).run)
+deep_fails t (suc (suc (suc p))) u h m =
     let big : 3 ≤ suc (suc (suc p)) = omega arith in
     subst (DeepFrom u (printed t (suc (suc (suc p))))) (sym (place_high t (suc (suc (suc p))) big))
     (subst (λ s. DeepFrom u s (place t 3 0)) (sym (text_high t (suc (suc (suc p))) big))
     (at_level t 3 u (omega (arith, nest_high t (suc (suc (suc p))) big))
     (to_whole u (put t 3) (nest t 3) (left t 3) (fails u t h).high)))
-
-pub too_deep : (t : Tree) (p : ℕ) (u : Bool) → Printable t → max_depth ≤ nest t p →
-    Faults (unicode_flags u) (printed t p) recursion_exceeded (over t p)
-too_deep t p u h m = subst (DeepFrom u (printed t p)) (sym (over_place t p m)) (at_place t p u h m)

@@ -1,7 +1,8 @@
-use Rattle.std.proofs.Common.{◌≡◌, Ok, refl}
+use Rattle.std.proofs.Common.{◌≡◌, Ok, refl, chars}
 use Rattle.std.proofs.lemmas.Result.{err_from_is_err_and}
 use Rattle.fancy_grammar.specs.Ahead.{ahead, leaf}
 use Rattle.fancy_grammar.specs.Grammar.{Piece, piece, atom, a_nothing, a_leaf}
+use Rattle.fancy_grammar.specs.State.{at}
 use Rattle.fancy_syntax.specs.Machine.{a_group, a_condition, a_body, a_branch}
 use Rattle.fancy_syntax.specs.Parsed.{state}
 use Rattle.fancy_syntax.specs.declared.grammar.step.Step.TheVariants as step
@@ -21,7 +22,7 @@ returns-in_err-read_atom_start-clause-value c =
     let e = err_from_is_err_and c.from_residual-in_err-read_atom_start.result
     c.from_residual-in_err-read_atom_start.ensures.1 in
     rw (e.1, e.2)
-    (IsErrorAmong-map (λ o. ahead c.args.depth _ ≡ leaf o)
+    (IsErrorAmong-map (λ o. ahead c.args.depth (at (state c.args.here.now) (chars c.in_ok-here.field-0.now)) ≡ leaf o)
     (Piece c.args.depth (state c.args.here.now))
     c.in_err-read_atom_start.field-0.0 (λ k p h. piece c.in_ok-here.ensures.value (atom h a_leaf refl) refl)
     c.in_err-read_atom_start.ensures.value)

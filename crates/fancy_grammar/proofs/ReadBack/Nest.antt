@@ -1,7 +1,6 @@
 -- How many of the groups that are printed for a tree nest.
-use Rattle.std.specs.Prelude.{ℕ, ◌+◌, max, Bool, true, false, ◌||◌, nat_lt}
-use Rattle.fancy_lex.specs.declared.escape.Assertion.{Assertion}
-use Rattle.fancy_lex.specs.declared.escape.Assertion.TheVariants.{StartLine, StartLineOniguruma, EndLine}
+use Rattle.std.proofs.Common.{ℕ, ◌+◌, max, Bool, true, false, ◌||◌, nat_lt}
+use Rattle.fancy_grammar.specs.Over.{is_at_line}
 use Rattle.fancy_grammar.specs.Tree.{Tree, Trees, no_trees, more_trees, any, assertion, literal, concat, alt, group}
 use Rattle.fancy_grammar.specs.Tree.{repeat, delegate}
 use Rattle.fancy_grammar.specs.Printed.{is_long}
@@ -10,13 +9,6 @@ use Rattle.fancy_grammar.specs.Printed.{is_long}
 abbrev pub one_if : Bool → ℕ
 one_if true = 1
 one_if false = 0
-
--- the start or the end of each line, which is printed with its flags in a group
-abbrev pub is_at_line : Assertion → Bool
-is_at_line (StartLine crlf) = true
-is_at_line (StartLineOniguruma crlf) = true
-is_at_line (EndLine crlf) = true
-is_at_line _ = false
 
 abbrev mutual
   -- in the tree's text at a precedence
