@@ -20,7 +20,7 @@ extern "C" {
 
 /* Flags: bits, of which any may be set. Other bits say nothing. */
 enum {
-    FANCY_CASEI = 1,           /* literals and references ignore case */
+    FANCY_CASEI = 1,           /* literals, classes, properties and back references ignore case */
     FANCY_MULTI = 2,           /* ^ and $ stand for the ends of lines too */
     FANCY_DOTNL = 4,           /* . stands for a new line too */
     FANCY_SWAP_GREED = 8,      /* a quantifier is lazy without ?, and greedy with it */

@@ -5,7 +5,9 @@ use patterns_program::draw::Style;
 use patterns_program::run::{STANDARD_INPUT, Verb};
 use std::alloc::{AllocError, Global};
 
-const ABOUT: &str = "Checks and shows patterns of regular expressions, as fancy-regex reads them";
+const ABOUT: &str =
+    "Checks, shows and formats patterns in the syntax of fancy-regex. Flags that are set in a \
+group end with it.";
 
 const STATUSES: &str =
     "The status is 0 where each pattern is as the verb asks, 1 where one is not, \
@@ -30,8 +32,7 @@ const CHECK: &str = "Says of each pattern that is refused where and why";
 
 const TREE: &str = "Draws the tree of a pattern, and says what its groups and references are";
 
-const FORMAT: &str =
-    "Writes each pattern as it prints, so that two patterns that print alike are alike";
+const FORMAT: &str = "Writes each pattern as its tree prints, and one that has no text as it is";
 
 const GROUPS: &str = "Lists the groups of each pattern, and what its references and calls mean";
 
@@ -40,8 +41,8 @@ const NOT_KEPT: &str =
 Not kept are the names of groups, comments, blanks that are layout, definitions in (?(DEFINE)..), and how a \
 character, a class or a quantifier was written. A line ends with LF.
 
-A pattern with a reference, a call, a look-around or another part that has no text is left as it is, and why is said \
-on the standard error; so is one that is refused.";
+A pattern with a reference, a call, a look-around or another part that has no text is left as it is, and so is one \
+whose text would hold a line break or nest too deep, and one that is refused; why is said on the standard error.";
 
 fn flags_arg<'a>(alloc: Global) -> Arg<'a> {
     Arg::new(alloc, "flags")
@@ -91,7 +92,7 @@ fn format_command<'a>(alloc: Global) -> Result<Command<'a>, AllocError> {
     let is_check = Arg::new(alloc, "check")
         .long("check")
         .action(ArgAction::SetTrue)
-        .help("Writes no pattern, and answers 1 where a line would change");
+        .help("Writes no pattern; the status is 1 where a line would change or is refused");
     over_files(alloc, "format", FORMAT)?
         .before_help(NOT_KEPT)
         .arg(is_check)

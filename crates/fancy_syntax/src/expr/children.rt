@@ -32,7 +32,8 @@ impl Expr {
     }
 
     /// The immediate children, in the order of the text: of a `Conditional` the condition and the two branches, of an
-    /// absent expression what must not stand and what has to. What an `AstNode` holds is no child. It takes no memory.
+    /// absent expression what must not stand and what has to. What an `AstNode` holds is no child. It takes no memory,
+    /// which no clause says.
     ///
     /// ```rust
     /// for child in tree.children_iter() {
