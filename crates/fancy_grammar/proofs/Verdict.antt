@@ -7,7 +7,7 @@ use Rattle.std.proofs.lemmas.Str.{scalars-chars, chars-encodes}
 use Rattle.fancy_lex.proofs.TextLemmas.{bytes_chars, cut_boundary}
 use Rattle.fancy_lex.specs.Fault.{Kind, Fault}
 use Rattle.fancy_lex.specs.ErrorViews.{kind_of, error_in}
-use Rattle.fancy_lex.specs.Text.{Text, EndsWith, as_told, begins, past_end, bytes, place_at}
+use Rattle.fancy_lex.specs.Text.{Text, EndsWith, as_told, begins, beyond, bytes, past_end, place_at}
 use Rattle.fancy_lex.specs.declared.error.ParseError.{ParseError as ErrorKind}
 use Rattle.fancy_lex.specs.declared.error.Error.TheVariants.{ParseError}
 use Rattle.fancy_lex.specs.declared.error.Failure.{Failure}
@@ -105,7 +105,7 @@ cut_at re u valid (w, cut) =
     subst (IsCharBoundary re) (ap₂ (λ a b. a - b) (sym (bytes_chars re valid)) left)
     (cut_boundary re (encodes u) w valid ends (cut ∙ ap (λ s. w ++ s) (sym same)))
 
-past_end_is : (re : List ℕ) (q : ℕ) → IsUtf8 re → q ≡ 0 → place_at (bytes (chars re)) q ≡ length re + 1
+past_end_is : (re : List ℕ) (q : ℕ) → IsUtf8 re → q ≡ past_end → place_at (bytes (chars re)) q ≡ length re + 1
 past_end_is re q valid h = omega (arith, bytes_chars re valid)
 
 placed : (e : ErrorKind) (re : List ℕ) (q : ℕ) → IsUtf8 re → MayStand (chars re) q →
@@ -114,7 +114,7 @@ placed e re q valid (as_told h) = inl (past_end_is re q valid h)
 placed e re q valid (begins u ends h) =
     let at : bytes (chars re) - bytes u ≡ place_at (bytes (chars re)) q = omega arith in
     inr (subst (IsCharBoundary re) at (cut_at re u valid ends))
-placed e re q valid (past_end h) = inl (past_end_is re q valid h)
+placed e re q valid (beyond h) = inl (past_end_is re q valid h)
 
 pub reading_placed : (e : Failure) (f : Flags) (re : List ℕ) → IsUtf8 re → IsErrorAmong e (Whole f (chars re)) →
     IsPlacedIn (error_in (bytes (chars re)) e) re

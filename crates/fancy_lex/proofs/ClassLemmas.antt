@@ -8,7 +8,7 @@ use Rattle.fancy_lex.specs.Escape.{escape}
 use Rattle.fancy_lex.specs.Escaped.{Escape}
 use Rattle.fancy_lex.specs.Fault.{invalid_class}
 use Rattle.fancy_lex.specs.Reading.{gives, fault_at, Reports, IsErrorOrNoMemory}
-use Rattle.fancy_lex.specs.Text.{Text, bytes, reach_of}
+use Rattle.fancy_lex.specs.Text.{Text, bytes, reach_of, at_end}
 use Rattle.fancy_lex.specs.declared.error.Failure.{Failure}
 use Rattle.fancy_lex.specs.declared.flags.Flags.{Flags}
 use Rattle.fancy_lex.proofs.ReadingLemmas.{reports_first, report_fails}
@@ -19,7 +19,7 @@ pred_lt a b (suc k) l m = omega arith
 
 module _ (f : Flags) where
   pub items_end : (k depth : ℕ) (seen : Bool) (out t : Text) → t ≡ [] →
-      class_from f k depth seen out t ≡ fault_at 1 invalid_class
+      class_from f k depth seen out t ≡ fault_at at_end invalid_class
   unfolding class_from
   items_end zero depth seen out t e = refl
   items_end (suc k) depth seen out t e = rw e refl

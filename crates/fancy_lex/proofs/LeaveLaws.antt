@@ -6,7 +6,8 @@ use Rattle.std.specs.Option.{option_and_then}
 use Rattle.fancy_lex.specs.Fault.{Fault, Kind}
 use Rattle.fancy_lex.specs.ErrorViews.{kind_of, StandsWithin}
 use Rattle.fancy_lex.specs.Reading.{Reading, gives, fails, fault_at, ◌>=>◌, choose, IsReadingOrNoMemory}
-use Rattle.fancy_lex.specs.Text.{Text, EndsWith as Ends, Stands, as_told, begins, past_end, bytes, reach_of, strip}
+use Rattle.fancy_lex.specs.Text.{Text, EndsWith as Ends, Stands, as_told, begins, beyond, bytes, reach_of, at_end}
+use Rattle.fancy_lex.specs.Text.{strip}
 use Rattle.fancy_lex.specs.declared.error.Failure.{Failure}
 use Rattle.fancy_lex.specs.declared.error.Failure.TheVariants.{At, OutOfMemory}
 use Rattle.fancy_lex.proofs.TextLemmas.{strip_is, bytes-append}
@@ -27,7 +28,7 @@ module _ {p : ℕ} where
   pub stands_here : (t : Text) → Stands p t (reach_of t)
   stands_here t = begins t (ends_whole t) refl
 
-  pub stands_end : (t : Text) → Stands p t 1
+  pub stands_end : (t : Text) → Stands p t at_end
   unfolding bytes
   stands_end t = begins [] (t, sym (append-nil t)) (omega arith)
 
@@ -35,19 +36,19 @@ module _ {p : ℕ} where
   pub stands_past : {t u : Text} {q : ℕ} → Ends t u → Stands p u q → Stands p t q
   stands_past e (as_told h) = as_told h
   stands_past {t} {u} e (begins v h i) = begins v (ends_twice t u v e h) i
-  stands_past e (past_end h) = past_end h
+  stands_past e (beyond h) = beyond h
 
   -- another reach may be told that stands there
   pub stands_retold : {t : Text} {h q : ℕ} → Stands p t h → Stands h t q → Stands p t q
   stands_retold {t} told (as_told e) = subst (Stands p t) (sym e) told
   stands_retold told (begins v h i) = begins v h i
-  stands_retold told (past_end h) = past_end h
+  stands_retold told (beyond h) = beyond h
 
   -- the reach is at most as great as that told, or as that of the text
   pub stands_within : {t : Text} {m q : ℕ} → p ≤ m → reach_of t ≤ m → Stands p t q → q ≤ m
   stands_within told up (as_told e) = omega arith
   stands_within told up (begins v (w, cut) e) = omega (arith, ap bytes cut, bytes-append w v)
-  stands_within told up (past_end e) = omega arith
+  stands_within told up (beyond e) = omega arith
 
 -- ---- readings
 

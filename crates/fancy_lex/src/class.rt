@@ -11,7 +11,7 @@ use crate::error::{Failure, ParseError};
 use crate::escape::{DelegateText, Escaped, escape};
 use crate::flags::Flags;
 use crate::property::{is_negated, push_property};
-use crate::text::{after, append, next, push, reach};
+use crate::text::{AT_END, after, append, next, push, reach};
 use std::alloc::{AllocError, Global};
 
 /// Whether the character stands behind a backslash in a class.
@@ -194,7 +194,7 @@ fn read_class(alloc: Global, text: &str, flags: Flags) -> Result<(String, &str),
             outer -= 1;
         }
     }
-    Err(Failure::At(1, ParseError::InvalidClass))
+    Err(Failure::At(AT_END, ParseError::InvalidClass))
 }
 
 /// Reads a class behind its opening bracket, in the text with which the pattern ends: the text that is written for it,

@@ -60,8 +60,14 @@ pub fn is_same_text(a: &str, b: &str) -> bool
     a == b
 }
 
-/// The reach of the place where `text` begins, at the end of a pattern: how many bytes lie from there to one past the
-/// end. It is 1 at the end.
+/// The reach of the end of a pattern.
+pub const AT_END: usize = 1;
+
+/// The reach of one past the end of a pattern.
+pub const PAST_END: usize = 0;
+
+/// The reach of the place where `text` begins, with which a pattern ends: how many bytes lie from there to one past
+/// the end.
 #[inline]
 pub fn reach(text: &str) -> usize
     ensures { result ≡ reach_of (chars text.now) }

@@ -10,7 +10,7 @@ ghost use Rattle.fancy_parts.specs.FlagReads.{letters_of, step_of};
 use fancy_lex::error::{Failure, ParseError};
 use fancy_lex::flags::Flags;
 use fancy_lex::layout::skip;
-use fancy_lex::text::{front, next, reach};
+use fancy_lex::text::{AT_END, front, next, reach};
 use std::alloc::{AllocError, Global};
 
 /// What the letters of a flag group come to.
@@ -116,7 +116,7 @@ fn flag_letter<'a>(
     ensures shorter { IfOk result (λ p. length p.1.now < length here.now) }
 {
     let Some((letter, rest)) = next(here) else {
-        return Err(Failure::At(1, ParseError::UnclosedOpenParen));
+        return Err(Failure::At(AT_END, ParseError::UnclosedOpenParen));
     };
     if letter == ')' {
         if closes_nothing(letters, clears, here) {
