@@ -1,5 +1,5 @@
 //! Steps over the text, which allocate nothing, and strings that grow.
-ghost use Rattle.std.specs.Prelude.{◌≡◌, ◌+◌, ◌<◌, ◌≤◌, ◌^◌, [], ◌∷◌, ◌++◌, length, chars, MatchOption, IfSome, option_map, is_ok, if◌then◌else◌};
+ghost use Rattle.std.specs.Prelude.{◌≡◌, ◌+◌, ◌<◌, ◌≤◌, [], ◌∷◌, ◌++◌, length, chars, MatchOption, IfSome, option_map, is_ok, if◌then◌else◌};
 ghost use Rattle.std.specs.Str.{bytes_eq};
 ghost use Rattle.fancy_lex.specs.Text.{Text, bytes, cut_at, strip, strip_word, place_at, reach_of, text_of};
 ghost use Rattle.fancy_lex.specs.Views.{parts};
@@ -83,13 +83,12 @@ pub fn reach_before(text: &str) -> usize
     text.len() + 2
 }
 
-/// The place of this reach in a pattern of `end` bytes.
+/// The place of this reach in the pattern.
 #[inline]
-pub fn place_at(end: usize, reach: usize) -> usize
-    requires { end < 2 ^ 63 }
-    ensures { result ≡ place_at end reach }
+pub fn place_at(pattern: &str, reach: usize) -> usize
+    ensures { result ≡ place_at (bytes (chars pattern.now)) reach }
 {
-    (end + 1).saturating_sub(reach)
+    (pattern.len() + 1).saturating_sub(reach)
 }
 
 /// The slice of `text` before `rest`, with which it ends.
