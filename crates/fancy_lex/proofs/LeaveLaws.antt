@@ -1,8 +1,9 @@
 -- What a reader leaves: the end of the text; or its fault, and where that stands.
-use Rattle.std.proofs.Common.{◌≡◌, ℕ, ◌+◌, ◌≤◌, Bool, true, false, if◌then◌else◌, [], ◌∷◌, ◌++◌, Option, Some, None}
-use Rattle.std.proofs.Common.{refl, ap, sym, ◌∙◌, subst, append_assoc, append-nil, arith, chars, List, Bor, Result, Ok}
-use Rattle.std.proofs.Common.{Err, IfOk, IfErr}
+use Rattle.std.proofs.Common.{◌≡◌, ℕ, ◌+◌, ◌<◌, ◌≤◌, Bool, true, false, if◌then◌else◌, [], ◌∷◌, ◌++◌, Option, Some}
+use Rattle.std.proofs.Common.{None, refl, ap, sym, ◌∙◌, subst, append_assoc, append-nil, arith, chars, List, Bor}
+use Rattle.std.proofs.Common.{Result, Ok, Err, IfOk, IfErr}
 use Rattle.std.specs.Option.{option_and_then}
+use Rattle.std.proofs.lemmas.Str.{len_utf8_ascii}
 use Rattle.fancy_lex.specs.Fault.{Fault, Kind}
 use Rattle.fancy_lex.specs.ErrorViews.{kind_of, StandsWithin}
 use Rattle.fancy_lex.specs.Reading.{Reading, gives, fails, fault_at, ◌>=>◌, choose, IsReadingOrNoMemory}
@@ -27,6 +28,11 @@ module _ {p : ℕ} where
   -- where the text begins, and at its end
   pub stands_here : (t : Text) → Stands p t (reach_of t)
   stands_here t = begins t (ends_whole t) refl
+
+  -- a byte before an end of the text
+  pub stands_before : {t u : Text} {c : ℕ} → c < 128 → Ends t (c ∷ u) → Stands p t (reach_of u + 1)
+  unfolding bytes
+  stands_before {u} {c} l e = begins (c ∷ u) e (omega (arith, len_utf8_ascii c l))
 
   pub stands_end : (t : Text) → Stands p t at_end
   unfolding bytes

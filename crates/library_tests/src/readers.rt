@@ -1,13 +1,13 @@
 //! What the readers say of a pattern, and what they leave of it; or the fault.
 use crate::{classes, escapes, references};
 use fancy_lex::class::{class, push_delegate};
-use fancy_lex::error::Error;
+use fancy_lex::error::{Error, Failure};
 use fancy_lex::escape::reference::{back_reference, numbered_reference, subroutine_call};
 use fancy_lex::escape::{Escaped, escape};
 use fancy_lex::flags::Flags;
 use fancy_lex::name::CaptureGroupTarget;
 use fancy_lex::name::target::{Call, Reference, Target};
-use fancy_lex::text::after;
+use fancy_lex::text::{after, place_at};
 use fancy_parts::heads::names::group_name;
 use fancy_parts::heads::references::{condition_target, named_call, named_reference};
 use std::alloc::{AllocError, Global};
@@ -26,7 +26,8 @@ pub(crate) enum Reader {
 /// A reader, a pattern, and what the reader says of it.
 pub(crate) type Row = (Reader, &'static str, &'static str);
 
-/// What was read. What a delegate or a class is written as stands in memory of its own.
+/// What was read. What a delegate or a class is written as stands in memory of its own; a reference and a call stand
+/// beside their places.
 #[derive(Drop)]
 enum Found<'a> {
     Nothing,
@@ -34,8 +35,8 @@ enum Found<'a> {
     Delegate(String, bool),
     Class(String),
     Name(&'a str),
-    Reference(Reference<'a>),
-    Call(Call<'a>),
+    Reference(Reference<'a>, usize),
+    Call(Call<'a>, usize),
 }
 
 impl fmt::Display for Found<'_> {
@@ -46,15 +47,10 @@ impl fmt::Display for Found<'_> {
             Found::Delegate(text, casei) => write!(f, "Delegate {text} {casei}"),
             Found::Class(text) => write!(f, "{text}"),
             Found::Name(name) => write!(f, "{name}"),
-            Found::Reference(reference) => {
-                let Reference {
-                    target,
-                    level,
-                    place,
-                } = reference;
+            Found::Reference(Reference { target, level, .. }, place) => {
                 write!(f, "{target:?} {level:?} at {place}")
             }
-            Found::Call(Call { target, place }) => write!(f, "{target:?} at {place}"),
+            Found::Call(Call { target, .. }, place) => write!(f, "{target:?} at {place}"),
         }
     }
 }
@@ -71,14 +67,14 @@ fn write_escaped<W: fmt::Write>(f: &mut fmt::Formatter<W>, escaped: &Escaped) ->
 }
 
 /// What is read, and what is left.
-type Answer<'a> = Result<(Found<'a>, &'a str), Error>;
+type Answer<'a> = Result<(Found<'a>, &'a str), Failure>;
 
 fn read_escape(alloc: Global, pattern: &str, flags: u32) -> Answer<'_> {
-    let Some((front, text)) = pattern.split_once('\\') else {
+    let Some((_, text)) = pattern.split_once('\\') else {
         return Ok((Found::Nothing, pattern));
     };
     let flags = Flags::from_bits(flags);
-    let (escaped, rest) = escape(alloc, text, flags, false, front.len(), pattern.len())?;
+    let (escaped, rest) = escape(alloc, text, flags, false)?;
     let Escaped::Delegate { inner, casei } = escaped else {
         return Ok((Found::Escape(escaped), rest));
     };
@@ -91,7 +87,7 @@ fn read_class(alloc: Global, pattern: &str, flags: u32) -> Answer<'_> {
     let Some(text) = after(pattern, '[') else {
         return Ok((Found::Nothing, pattern));
     };
-    let (written, rest) = class(alloc, text, Flags::from_bits(flags), pattern.len())?;
+    let (written, rest) = class(alloc, text, Flags::from_bits(flags))?;
     Ok((Found::Class(written), rest))
 }
 
@@ -99,16 +95,21 @@ fn read_name(pattern: &str) -> Answer<'_> {
     let Some(text) = after(pattern, '(').and_then(|head| after(head, '?')) else {
         return Ok((Found::Nothing, pattern));
     };
-    let (name, rest) = group_name(text, pattern.len())?;
+    let (name, rest) = group_name(text)?;
     Ok((Found::Name(name), rest))
 }
 
-fn reference<'a>((reference, rest): (Reference<'a>, &'a str)) -> (Found<'a>, &'a str) {
-    (Found::Reference(reference), rest)
+fn reference<'a>(
+    pattern: &str,
+    (reference, rest): (Reference<'a>, &'a str),
+) -> (Found<'a>, &'a str) {
+    let place = place_at(pattern, reference.reach);
+    (Found::Reference(reference, place), rest)
 }
 
-fn call<'a>((call, rest): (Call<'a>, &'a str)) -> (Found<'a>, &'a str) {
-    (Found::Call(call), rest)
+fn call<'a>(pattern: &str, (call, rest): (Call<'a>, &'a str)) -> (Found<'a>, &'a str) {
+    let place = place_at(pattern, call.reach);
+    (Found::Call(call, place), rest)
 }
 
 /// Reads the first reference that opens so.
@@ -116,14 +117,13 @@ fn read_reference<'a>(pattern: &'a str, opening: &str) -> Answer<'a> {
     let Some((_, text)) = pattern.split_once(opening) else {
         return Ok((Found::Nothing, pattern));
     };
-    let end = pattern.len();
     Ok(match opening {
-        r"\k" => reference(back_reference(text, end)?),
-        r"\g" => call(subroutine_call(text, end)?),
-        r"\" => reference(numbered_reference(text, end)?),
-        "(?P=" => reference(named_reference(text, end)?),
-        "(?P>" => call(named_call(text, end)?),
-        _ => reference(condition_target(text, end)?),
+        r"\k" => reference(pattern, back_reference(text)?),
+        r"\g" => call(pattern, subroutine_call(text)?),
+        r"\" => reference(pattern, numbered_reference(text)?),
+        "(?P=" => reference(pattern, named_reference(text)?),
+        "(?P>" => call(pattern, named_call(text)?),
+        _ => reference(pattern, condition_target(text)?),
     })
 }
 
@@ -140,8 +140,10 @@ fn read<'a>(alloc: Global, reader: &Reader, pattern: &'a str) -> Answer<'a> {
 fn says(alloc: Global, reader: &Reader, pattern: &str, wanted: &str) -> Result<bool, AllocError> {
     let said = match read(alloc, reader, pattern) {
         Ok((read, rest)) => format!(in alloc; "{read} then {rest}")?,
-        Err(Error::OutOfMemory) => return Err(AllocError),
-        Err(error) => format!(in alloc; "{error}")?,
+        Err(failure) => match failure.in_pattern(pattern) {
+            Error::OutOfMemory => return Err(AllocError),
+            error => format!(in alloc; "{error}")?,
+        },
     };
     Ok(said.as_str() == wanted)
 }
