@@ -42,7 +42,8 @@ known_numbers : (f : Flags) (r : Tree) (k : Known) → Suits f r k →
     numbers_under k.groups.names ≡ (λ u. numbers u (numbered_openings_in k.named (openings r)))
 known_numbers f r k h = ap numbers_under h.names ∙ (λ i u. under_named (numbered_openings_in k.named (openings r)) u i)
 
-pub law_tree : (f : Flags) (r : Tree) (k : Known) → Suits f r k → rebuilt k nothing_noted r ≡ resolved f (bytes k.text) r
+pub law_tree : (f : Flags) (r : Tree) (k : Known) → Suits f r k →
+    rebuilt k nothing_noted r ≡ resolved f (bytes k.text) r
 law_tree f r k h =
     rebuilt_resolved k (numbered_openings_in k.named (openings r)) nothing_noted r (known_numbers f r k h)
     (fits f r k h)

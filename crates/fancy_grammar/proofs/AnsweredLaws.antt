@@ -9,8 +9,8 @@ use Rattle.fancy_lex.specs.Target.{Target, by_number, by_name, relative}
 use Rattle.fancy_lex.specs.Text.{Text, bytes}
 use Rattle.fancy_lex.specs.declared.flags.Flags.{Flags}
 use Rattle.fancy_parts.specs.Meaning.{Meaning, number, unresolved, faulty, means, meaning, back_to, last_of}
-use Rattle.fancy_parts.specs.Meaning.{group_or_none, no_group, at_distance, Role, back_reference, call, condition, AnyReference}
-use Rattle.fancy_parts.specs.Meaning.{fault_or, first_fault}
+use Rattle.fancy_parts.specs.Meaning.{group_or_none, no_group, at_distance, Role, back_reference, call, condition}
+use Rattle.fancy_parts.specs.Meaning.{AnyReference, fault_or, first_fault}
 use Rattle.fancy_parts.specs.Ranks.{Opening, is_counted, numbers, openings_before, only_named, numbered_openings_in}
 use Rattle.fancy_parts.specs.Ranks.{numbered_openings}
 use Rattle.fancy_grammar.specs.Answer.{IsTreeOf}
@@ -87,9 +87,9 @@ condition_answered z (faulty k) t level place o u e = absurd cc
 -- ---- the nodes that resolving keeps
 
 module _ (z : ℕ) (named : Bool) (g : List Opening) where
-  -- what a reference at the place means
+  -- what a reference at the reach means
   abbrev means_here : Role → Target → ℕ → Meaning
-  means_here role t place = means (λ u. numbers u g) (openings_before g place) role t
+  means_here role t reach = means (λ u. numbers u g) (openings_before g reach) role t
 
   -- their openings are those that have a number
   openings_counted : (l : List Tree) →
@@ -249,7 +249,8 @@ module _ (z : ℕ) (named : Bool) (g : List Opening) where
   answered_kept (ast_node (ast_condition t level) place ∷ l) h n =
       let m = means_here condition t place in
       let behind = first_fault g (references_in (filter_map item_of l)) in (
-        condition_answered z m t level place behind (condition_resolved (λ u. numbers u g) (openings_before g place) t) n,
+        condition_answered z m t level place behind
+            (condition_resolved (λ u. numbers u g) (openings_before g place) t) n,
         answered_kept l h.1 (none_behind m place behind n),
       )
   answered_kept (literal w casei ∷ l) h n = (h.0, answered_kept l h.1 n)

@@ -51,7 +51,8 @@ fault_first (faulty k) p o = refl
 
 pub noted_numeric : (k : Known) (s : Progress) (l : List Item) →
     (progress_after k s l).numeric
-    ≡ (s.numeric || list_any (λ x. is_numeric k.text (place_at (bytes k.text) x.reach) x.role x.target) (references_in l))
+    ≡ (s.numeric
+    || list_any (λ x. is_numeric k.text (place_at (bytes k.text) x.reach) x.role x.target) (references_in l))
 noted_numeric k s [] = sym (or_false s.numeric)
 noted_numeric k s (opening o ∷ l) = noted_numeric k (note_item k s (opening o)) l
 noted_numeric k s (reference r ∷ l) = noted_numeric k (note_item k s (reference r)) l ∙ or_assoc s.numeric _ _

@@ -34,7 +34,8 @@ pub record IsNodeOf (role : Role) (m : Meaning) (node : Tree) : Type 0 where
 pub of_backref : (z : ℕ) (m : Meaning) (t : Target) (casei : Bool) (level : Option ℤ) (place : ℕ) →
     IsNodeOf back_reference m (reference_node z m (ast_backref t casei level) place)
 of_backref z (number n) t casei None place = record { alone = refl; no_group = refl; calls = refl; refers = refl }
-of_backref z (number n) t casei (Some level) place = record { alone = refl; no_group = refl; calls = refl; refers = refl }
+of_backref z (number n) t casei (Some level) place =
+    record { alone = refl; no_group = refl; calls = refl; refers = refl }
 of_backref z unresolved t casei level place = record { alone = refl; no_group = refl; calls = refl; refers = refl }
 of_backref z (faulty k) t casei level place = record { alone = refl; no_group = refl; calls = refl; refers = refl }
 

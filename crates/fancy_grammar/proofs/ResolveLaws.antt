@@ -31,7 +31,8 @@ at_reference : (k : Known) (g : List Opening) (s : Progress) (node : AstTree) (p
     resolved_node (bytes k.text) (numbers_under k.groups.names) s.passed node place
     ≡ resolved_node (bytes k.text) (λ u. numbers u g) (openings_before g place) node place
 at_reference k g s node place n h =
-    ap (λ f. resolved_node (bytes k.text) f s.passed node place) n ∙ ap (λ c. resolved_node (bytes k.text) (λ u. numbers u g) c node place) (sym h)
+    ap (λ f. resolved_node (bytes k.text) f s.passed node place) n
+    ∙ ap (λ c. resolved_node (bytes k.text) (λ u. numbers u g) c node place) (sym h)
 
 mutual
   pub rebuilt_resolved : (k : Known) (g : List Opening) (s : Progress) (t : Tree) → Numbers k g → Fits k g s (items t) →

@@ -75,10 +75,9 @@ behind_atom _ f q = restored f q
 
 -- ---- the productions
 
--- In each of them d is how many groups are open; s is the state where it begins,
--- t and v are later states, in text order, and u is a later text; r, a and c are trees, of which c is a condition; q is
--- the outcome of a part, and o that of the whole; k and p are the kind and the reach of a fault, and in `Atom` k is what
--- stands ahead.
+-- In each of them d is how many groups are open; s is the state where it begins, t and v are later states, in text
+-- order, and u is a later text; r, a and c are trees, of which c is a condition; q is the outcome of a part, and o that
+-- of the whole; k and p are the kind and the reach of a fault, and in `Atom` k is what stands ahead.
 
 mutual
   -- branches with bars between

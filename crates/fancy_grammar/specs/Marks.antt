@@ -54,7 +54,8 @@ marks f text r =
     record {
       backrefs = ascending (filter (λ n. nat_le n total) (back_numbers groups (references r)));
       named_groups = named_groups groups;
-      numeric_capture_group_references = list_any (λ x. is_numeric text (place_at (bytes text) x.reach) x.role x.target) (references r);
+      numeric_capture_group_references =
+          list_any (λ x. is_numeric text (place_at (bytes text) x.reach) x.role x.target) (references r);
       contains_subroutines = list_any (λ x. is_call x.role) (references r);
       self_recursive = list_any (λ x. is_call_of_all x.role x.target) (references r);
       total_groups = total;

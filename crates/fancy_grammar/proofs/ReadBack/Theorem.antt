@@ -61,7 +61,8 @@ marks_are u text r h =
     λ i. record {
       backrefs = ascending (filter (λ n. nat_le n (length numbered)) (back_numbers numbered (none i)));
       named_groups = unnamed i;
-      numeric_capture_group_references = list_any (λ x. is_numeric text (place_at (bytes text) x.reach) x.role x.target) (none i);
+      numeric_capture_group_references =
+          list_any (λ x. is_numeric text (place_at (bytes text) x.reach) x.role x.target) (none i);
       contains_subroutines = list_any (λ x. is_call x.role) (none i);
       self_recursive = list_any (λ x. is_call_of_all x.role x.target) (none i);
       total_groups = length numbered;

@@ -33,7 +33,7 @@ use Rattle.fancy_grammar.proofs.ReadBack.RuleLemmas.{fails_first, fails_more, fa
 use Rattle.fancy_grammar.proofs.ReadBack.ShapeLemmas.{Printable, ArePrintable, begins_head, begins_group, begins_atom}
 use Rattle.fancy_grammar.proofs.ReadBack.ShapeLemmas.{begins_repeated, clear_put, clear_puts}
 
--- the text that is left at that place
+-- the text that is left there
 abbrev left_open : ℕ → Text → Text → Text
 left_open d here inner = if nat_le most_open d then here else inner
 
@@ -202,10 +202,12 @@ line_open c false v = (_, refl)
 line_open c true v = (_, refl)
 
 assertion_fails : (u : Bool) (a : Assertion) → HasText a → Fails u (assertion a)
-assertion_fails u (StartLine r) h = by_one u (put_line (code "^") r) (line_open (code "^") r) (λ v. begins_assertion (StartLine r) v tt)
+assertion_fails u (StartLine r) h =
+    by_one u (put_line (code "^") r) (line_open (code "^") r) (λ v. begins_assertion (StartLine r) v tt)
 assertion_fails u (StartLineOniguruma r) h =
     by_one u (put_line (code "^") r) (line_open (code "^") r) (λ v. begins_assertion (StartLine r) v tt)
-assertion_fails u (EndLine r) h = by_one u (put_line (code "$") r) (line_open (code "$") r) (λ v. begins_assertion (EndLine r) v tt)
+assertion_fails u (EndLine r) h =
+    by_one u (put_line (code "$") r) (line_open (code "$") r) (λ v. begins_assertion (EndLine r) v tt)
 assertion_fails u a h = by_none u (put_assertion a) (λ d v. put_assertion a v)
 
 group_fails : (u : Bool) (t : Tree) → Printable t → Fails u t → Fails u (group t)

@@ -63,7 +63,7 @@ pub(crate) fn read_step<'a>(
         }
         Ahead::Group(head) => Ok(Step::Open(Opener::Group {
             head,
-            place: reach(before.rest),
+            reach: reach(before.rest),
         })),
         Ahead::Condition => Ok(Step::Open(Opener::Condition)),
         Ahead::Body(condition) => Ok(Step::Open(Opener::Body {
@@ -184,7 +184,7 @@ fn node_of_part(alloc: Global, opener: Opener, inner: Expr) -> Result<Expr, Allo
 {
     match opener {
         Opener::Top | Opener::Condition => Ok(inner),
-        Opener::Group { head, place } => node(alloc, head, place, inner),
+        Opener::Group { head, reach } => node(alloc, head, reach, inner),
         Opener::Body { condition, .. } => conditional(alloc, condition, branches_of(inner)),
         Opener::First => clear_or_stopper(alloc, inner),
         Opener::Second(absent) => {

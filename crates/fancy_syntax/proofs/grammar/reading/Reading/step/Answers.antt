@@ -10,7 +10,8 @@ use Rattle.fancy_syntax.proofs.grammar.reading.Reading.step.Goals as goal
 
 pub returns-in_err-step-clause-reading : goal.returns-in_err-step-clause-reading
 returns-in_err-step-clause-reading c start h =
-    let n : c.len.result ≡ length c.args.self.now.stack.items = omega (arith, c.len.ensures, c.args.self.now.stack.ok.0) in
+    let n : c.len.result ≡ length c.args.self.now.stack.items =
+    omega (arith, c.len.ensures, c.args.self.now.stack.ok.0) in
     let e = err_from_is_err_and c.from_residual.result c.from_residual.ensures.1 in
     rw (e.1, e.2) (IsErrorAmong-map (Piece c.len.result (state c.args.self.now.here)) (Alternation 0 start)
     c.in_err-step.field-0.0
@@ -19,7 +20,8 @@ returns-in_err-step-clause-reading c start h =
 
 pub returns-clause-reading : goal.returns-clause-reading
 returns-clause-reading c start h =
-    let n : c.len.result ≡ length c.args.self.now.stack.items = omega (arith, c.len.ensures, c.args.self.now.stack.ok.0) in
+    let n : c.len.result ≡ length c.args.self.now.stack.items =
+    omega (arith, c.len.ensures, c.args.self.now.stack.ok.0) in
     let made = c.in_ok-step.step in
     let steps = subst (λ d. IsStep d (state c.args.self.now.here) made (state c.read_step.new.here)) n
     c.in_ok-step.ensures.value in
