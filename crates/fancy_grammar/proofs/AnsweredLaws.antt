@@ -10,8 +10,7 @@ use Rattle.fancy_lex.specs.Text.{Text, bytes}
 use Rattle.fancy_lex.specs.declared.flags.Flags.{Flags}
 use Rattle.fancy_parts.specs.Meaning.{Meaning, number, unresolved, faulty, means, meaning, back_to, last_of}
 use Rattle.fancy_parts.specs.Meaning.{group_or_none, no_group, at_distance, Role, back_reference, condition}
-use Rattle.fancy_parts.specs.Meaning.{AnyReference}
-use Rattle.fancy_parts.specs.Meaning.{fault_or, first_fault}
+use Rattle.fancy_parts.specs.Meaning.{AnyReference, fault_or, first_fault}
 use Rattle.fancy_parts.specs.Ranks.{Opening, is_counted, numbers, openings_before, only_named, numbered_openings_in}
 use Rattle.fancy_parts.specs.Ranks.{numbered_openings}
 use Rattle.fancy_grammar.specs.Answer.{IsTreeOf}
@@ -88,9 +87,9 @@ reference_answered z (faulty k) r place o u e = absurd cc
 -- ---- the nodes that resolving keeps
 
 module _ (z : ℕ) (named : Bool) (g : List Opening) where
-  -- what a reference at the place means
+  -- what a reference at the reach means
   abbrev means_here : AstReference → ℕ → Meaning
-  means_here r place = means (λ u. numbers u g) (openings_before g place) (role_of r) (target_of r)
+  means_here r reach = means (λ u. numbers u g) (openings_before g reach) (role_of r) (target_of r)
 
   -- their openings are those that have a number
   openings_counted : (l : List Tree) →

@@ -1,11 +1,10 @@
 -- A Delegate's text, read as a class or an escape.
-use Rattle.std.proofs.Common.{◌≡◌, ℕ, ◌+◌, Bool, true, false, not, List, [], ◌∷◌, Option, Some, None, MatchOption}
-use Rattle.std.proofs.Common.{is_some, Result, Ok, Err, IfOk, chars, length, refl, sym, ap, ◌∙◌, arith}
+use Rattle.std.proofs.Common.{◌≡◌, ℕ, Bool, true, false, not, List, [], ◌∷◌, Option, Some, None, MatchOption}
+use Rattle.std.proofs.Common.{is_some, Result, Ok, Err, IfOk, chars, refl, sym, ap, ◌∙◌}
 use Rattle.std.proofs.lemmas.Bool.{or_parts, false≢true}
 use Rattle.std.specs.Borrow.{Bor}
 use Rattle.std.specs.declared.alloc.AllocError.{AllocError}
-use Rattle.std.specs.Char.{len_utf8}
-use Rattle.std.specs.Str.{IsUtf8, all_scalars}
+use Rattle.std.specs.Str.{all_scalars}
 use Rattle.fancy_lex.specs.Characters.{open_bracket, backslash, ◌∈◌}
 use Rattle.fancy_lex.specs.Class.{class}
 use Rattle.fancy_lex.specs.Escape.{escape}
@@ -14,12 +13,11 @@ use Rattle.fancy_lex.specs.Fault.{Fault}
 use Rattle.fancy_lex.specs.ErrorViews.{kind_of}
 use Rattle.fancy_lex.specs.Flags.{flags_of}
 use Rattle.fancy_lex.specs.Reading.{Reading, gives, fails, IsErrorOrNoMemory}
-use Rattle.fancy_lex.specs.Text.{Text, bytes}
+use Rattle.fancy_lex.specs.Text.{Text}
 use Rattle.fancy_lex.specs.declared.error.Failure.{Failure}
 use Rattle.fancy_lex.specs.declared.error.Failure.TheVariants.{At, OutOfMemory}
 use Rattle.fancy_lex.specs.declared.escape.Assertion.TheVariants.{StartLineOniguruma}
 use Rattle.fancy_lex.specs.declared.flags.Flags.{Flags}
-use Rattle.fancy_lex.proofs.TextLemmas.{bytes_chars}
 use Rattle.fancy_grammar.specs.Ahead.{leaf_node, leaf_outcome}
 use Rattle.fancy_grammar.specs.Grammar.{start}
 use Rattle.fancy_grammar.specs.Normal.{unicode_flags, class_of, whole_of, whole_leaf, normal}
@@ -28,10 +26,6 @@ use Rattle.fancy_grammar.specs.Printable.{printable}
 use Rattle.fancy_grammar.specs.Tree.{Tree, empty, assertion, literal, concat, alt, delegate, define_group}
 use Rattle.fancy_grammar.proofs.ReadBack.DelegateTexts.{other_left, no_other}
 use Rattle.fancy_grammar.proofs.ReadBack.PrintableLaws.{normal_empty}
-
--- the reach before a text of a character of one byte
-one_more : (bs : List ℕ) (p : ℕ) → IsUtf8 bs → p ≡ length bs + 2 → p ≡ 1 + bytes (chars bs) + 1
-one_more bs p u e = e ∙ rw (bytes_chars bs u) (omega arith)
 
 -- whether something is left behind a Delegate, as the code asks it
 whole_left : (o : Option (ℕ × Bor (List ℕ))) (b : Bool) (r : Tree) (v : Text) → true ≡ is_some (whole_of [] r) →
@@ -42,12 +36,12 @@ whole_left (Some p) false r v class none is = ap (λ w. is_some (whole_of w r)) 
 whole_left None false r v class none is = absurd (false≢true none)
 whole_left (Some p) true r v class none is = absurd (false≢true (sym none))
 
-module _ (bs : List ℕ) (p : ℕ) (f : Flags) (utf8 : IsUtf8 bs) (whole : p ≡ length bs + 2) (is : f ≡ flags_of 0) where
+module _ (bs : List ℕ) (f : Flags) (is : f ≡ flags_of 0) where
   -- a class under no flags, as a leaf
   class_leaf : class_of (unicode_flags false) (open_bracket ∷ chars bs) ≡
       whole_leaf (leaf_outcome (λ w. delegate w false) (start (unicode_flags false) (open_bracket ∷ chars bs))
       (class f (chars bs)))
-  unfolding class_of bytes
+  unfolding class_of
   class_leaf = rw is refl
 
   pub class_read : (w v : Text) (o : Option (ℕ × Bor (List ℕ))) (b : Bool) → class f (chars bs) ≡ gives w v →
@@ -66,31 +60,31 @@ module _ (bs : List ℕ) (p : ℕ) (f : Flags) (utf8 : IsUtf8 bs) (whole : p ≡
   -- an escape under no flags, as a leaf
   escape_leaf : class_of (unicode_flags false) (backslash ∷ chars bs) ≡
       whole_leaf (leaf_outcome leaf_node (start (unicode_flags false) (backslash ∷ chars bs))
-      (escape f false p (chars bs)))
-  unfolding class_of bytes
-  escape_leaf = rw (one_more bs p utf8 whole, is) (grind arith)
+      (escape f false (chars bs)))
+  unfolding class_of
+  escape_leaf = rw is refl
 
-  escape_is : (q : Reading Escape) → escape f false p (chars bs) ≡ q →
+  escape_is : (q : Reading Escape) → escape f false (chars bs) ≡ q →
       is_some (class_of (unicode_flags false) (backslash ∷ chars bs)) ≡
       is_some (whole_leaf (leaf_outcome leaf_node (start (unicode_flags false) (backslash ∷ chars bs)) q))
   escape_is q e = ap is_some (escape_leaf ∙
       ap (λ q. whole_leaf (leaf_outcome leaf_node (start (unicode_flags false) (backslash ∷ chars bs)) q)) e)
 
   pub escape_read : (x : Escape) (v : Text) (o : Option (ℕ × Bor (List ℕ))) (a b : Bool) →
-      escape f false p (chars bs) ≡ gives x v →
+      escape f false (chars bs) ≡ gives x v →
       a ≡ is_some (whole_of [] (leaf_node x)) → a ≡ true → is_some o ≡ not b →
       MatchOption o (v ≡ []) (λ p. v ≡ p.0 ∷ chars p.1.now) →
       b ≡ is_some (class_of (unicode_flags false) (backslash ∷ chars bs))
   escape_read x v o a b e class is_class none left = whole_left o b (leaf_node x) v (sym is_class ∙ class) none left
       ∙ sym (escape_is _ e)
 
-  pub escape_other : (x : Escape) (v : Text) (a : Bool) → escape f false p (chars bs) ≡ gives x v →
+  pub escape_other : (x : Escape) (v : Text) (a : Bool) → escape f false (chars bs) ≡ gives x v →
       a ≡ is_some (whole_of [] (leaf_node x)) → a ≡ false →
       a ≡ is_some (class_of (unicode_flags false) (backslash ∷ chars bs))
   escape_other x v a e class is_other = is_other ∙ other_left (leaf_node x) v (sym is_other ∙ class)
       ∙ sym (escape_is _ e)
 
-  pub escape_faulty : (e : Fault) → escape f false p (chars bs) ≡ fails e →
+  pub escape_faulty : (e : Fault) → escape f false (chars bs) ≡ fails e →
       false ≡ is_some (class_of (unicode_flags false) (backslash ∷ chars bs))
   escape_faulty e h = sym (escape_is _ h)
 
@@ -113,11 +107,6 @@ pub none_of_others : (bs r : List ℕ) (c : ℕ) → chars bs ≡ c ∷ chars r 
 none_of_others bs r c is other =
     let (a, b) = or_parts _ _ other in
     no_other c (chars r) a b ∙ sym (ap (λ t. is_some (class_of (unicode_flags false) t)) is)
-
-pub one_shorter : (s r : List ℕ) (c : ℕ) → IsUtf8 s → IsUtf8 r → chars s ≡ c ∷ chars r → len_utf8 c ≡ 1 →
-    length s ≡ length r + 1
-unfolding bytes
-one_shorter s r c u v is one = sym (bytes_chars s u) ∙ rw (is, one, bytes_chars r v) (omega arith)
 
 -- ---- what the code tells of a variant
 

@@ -12,7 +12,7 @@ use Rattle.fancy_grammar.specs.Items.{Item, opening, reference, openings_in, ref
 use Rattle.fancy_grammar.specs.Ordered.{DescendingReaches, reach_of_item}
 use Rattle.fancy_grammar.specs.Walk.{Known, Progress, note_item}
 
--- the items stand behind the reach of this reach
+-- the items stand behind the place of this reach
 abbrev Behind : ℕ → List Item → Type 0
 Behind p [] = Unit {0}
 Behind p (i ∷ l) = (reach_of_item i < p) × Behind p l

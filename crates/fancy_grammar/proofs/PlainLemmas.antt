@@ -9,7 +9,7 @@ use Rattle.fancy_lex.specs.Characters.{hash, backslash}
 use Rattle.fancy_lex.specs.Escape.{escape}
 use Rattle.fancy_lex.specs.Escaped.{Escape}
 use Rattle.fancy_lex.specs.Reading.{gives}
-use Rattle.fancy_lex.specs.Text.{Text, bytes, reach_of}
+use Rattle.fancy_lex.specs.Text.{Text, bytes}
 use Rattle.fancy_parts.specs.Quantifier.{counts}
 use Rattle.fancy_grammar.specs.Ahead.{ahead, leaf, leaf_node, leaf_outcome}
 use Rattle.fancy_grammar.specs.Grammar.{piece, atom, a_leaf}
@@ -112,14 +112,13 @@ backslash_no_layout : (x : Bool) → is_layout x backslash ≡ false
 backslash_no_layout true = refl
 backslash_no_layout false = refl
 
-is_escape : (d : ℕ) (s : State) (t u : Text) (e : Escape) →
-    ((q : ℕ) → escape s.flags false q t ≡ gives e u) →
+is_escape : (d : ℕ) (s : State) (t u : Text) (e : Escape) → escape s.flags false t ≡ gives e u →
     ahead d (at s (backslash ∷ t)) ≡ leaf (done (leaf_node e) (at s u))
 unfolding ahead
-is_escape d s t u e h = ap (λ o. leaf (leaf_outcome leaf_node s o)) (h (reach_of (backslash ∷ t)))
+is_escape d s t u e h = ap (λ o. leaf (leaf_outcome leaf_node s o)) h
 
 pub is_plain_escape : (s : State) (t u : Text) (e : Escape) → s.rest ≡ backslash ∷ t →
-    ((q : ℕ) → escape s.flags false q t ≡ gives e u) →
+    escape s.flags false t ≡ gives e u →
     ((d left : ℕ) (a : Tree) → quants d left a (at s u) ≡ done a (at s u)) → IsPlain s (leaf_node e) u
 is_plain_escape s t u e i h q = record {
   more = ap ends i;

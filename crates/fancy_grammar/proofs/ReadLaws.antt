@@ -265,8 +265,7 @@ leaf_read s c t =
     cond_both (c == code "^") _ _ P (λ _. (tt, refl, refl)) (λ _.
     cond_both (c == code "$") _ _ P (λ _. (tt, refl, refl)) (λ _.
     cond_both (c == code "\\") _ _ P
-    (λ _. escape_read s t (escape s.flags false (reach_of (c ∷ t)) t)
-    (sound_escape s.flags false (reach_of (c ∷ t)) t)) (λ _.
+    (λ _. escape_read s t (escape s.flags false t) (sound_escape s.flags false t)) (λ _.
     cond_both (c == code "[") _ _ P (λ _. class_read s s.flags.casei (class s.flags t)) (λ _. (refl, refl, refl))))))
 
 pub ahead_read : (d : ℕ) (s : State) → ReadAhead (ahead d s)

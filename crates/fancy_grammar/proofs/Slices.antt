@@ -3,9 +3,9 @@ use Rattle.std.proofs.Common.{◌≡◌, ℕ, zero, suc, ◌+◌, ◌<◌, ◌�
 use Rattle.std.proofs.Common.{arith, Bool, true, false, Option, Some, None, append_assoc, append-nil}
 use Rattle.std.specs.Prelude.{◌==◌, not, nat_lt, nat_le, IfSome, codes, ◌&&◌}
 use Rattle.std.proofs.lemmas.Bool.{cond_both}
-use Rattle.std.proofs.lemmas.Str.{len_utf8_bounds, len_utf8_ascii}
+use Rattle.std.proofs.lemmas.Str.{len_utf8_bounds}
 use Rattle.fancy_lex.proofs.EscapeLaws.{leaves_escape}
-use Rattle.fancy_lex.proofs.LeaveLaws.{Leaves, leaves, faults, stands_past, stands_end, stands_retold}
+use Rattle.fancy_lex.proofs.LeaveLaws.{Leaves, leaves, faults, stands_past, stands_before, stands_end, stands_retold}
 use Rattle.std.specs.List.{AllByRecursion}
 use Rattle.std.proofs.lemmas.Bool.Decides.{nat_tests}
 use Rattle.fancy_lex.proofs.LayoutLaws.{layout_cut, layout_stands}
@@ -102,11 +102,6 @@ stands_at {u} a = begins u (to_ends a) refl
 
 stands_in : {p : ℕ} {t u : Text} → Slice t u → MayStand u p → MayStand t p
 stands_in a h = stands_past (to_ends a) h
-
--- before an ASCII character
-stands_before : {c : ℕ} {t u : Text} → c < 128 → Slice t (c ∷ u) → MayStand t (reach_of u + 1)
-unfolding bytes
-stands_before {c} {u} l a = begins (c ∷ u) (to_ends a) (omega (arith, len_utf8_ascii c l))
 
 -- ---- items in a slice
 
@@ -223,7 +218,7 @@ counts_past x t = by_counts (counts x t) (takes_counts x t)
 
 -- ---- layout
 
--- the text behind the layout ends the text, and an open comment's place is the end or one past it
+-- the text behind the layout ends the text, and an open comment's fault stands at the end or one past it
 abbrev pub SkippedSlice : Text → Skipped → Type 0
 SkippedSlice t (rest u) = Slice t u
 SkippedSlice t (open_comment p) = MayStand t p
@@ -297,7 +292,7 @@ quant_slice left a s t h = by_layout (skipped t) (layout_slice t.flags.ignore_sp
         (λ m v k. listed (items_quantified t.flags c m a) k)) (λ _.
         cond_both (is_dropped t.flags left a u) _ _ W
         (λ _. then_slice (λ (m : Suffix). items a) items s s _ _ (here s.rest) marks refl (λ m v k. k))
-        (λ _. stands_before i.ascii (on l.slice (cut_slice i.ends))))
+        (λ _. stands_before i.ascii (to_ends (on l.slice (cut_slice i.ends)))))
 
     by_layout : (j : Skipped) → SkippedSlice t.rest j → W (quant_at left a t j)
     by_layout (rest v) i = by_counts v (counts t.flags.ignore_space v) (behind h i)
@@ -491,7 +486,7 @@ group_slice s z t h =
     marked : (u : Text) → strip_word (codes "?") t ≡ Some u → AheadSlice s (behind_question z u)
     marked u e =
         let cut : Slice s.rest (code "?" ∷ u) = subst (Slice s.rest) (strip_word_is (codes "?") t u e) h.0 in
-        question_slice s z u (behind (codes "?") u e, stands_before (omega arith) cut)
+        question_slice s z u (behind (codes "?") u e, stands_before (omega arith) (to_ends cut))
 
     starred : (u : Text) → strip_word (codes "*") t ≡ Some u → AheadSlice s (verb_ahead z u)
     starred u e =
@@ -505,10 +500,9 @@ behind_slice s z t (rest u) h i = group_slice s z u (further s h i)
 behind_slice s z t (open_comment p) h i = stands_in h.0 i
 
 -- what an escape stands for, behind a first character
-escape_slice : (told : ℕ) (s z : State) (t : Text) → Past s t → MayStand s.rest told → (o : Reading Escape) →
-    Leaves told t o →
-    Sound t o → LeafSlice s (leaf_outcome leaf_node z o)
-escape_slice told s z t h m (gives e u) (leaves l) p = (by_leaf e p, (further s h (cut_slice l)).1)
+escape_slice : (s z : State) (t : Text) → Past s t → MayStand s.rest (reach_of t + 1) → (o : Reading Escape) →
+    Leaves (reach_of t + 1) t o → Sound t o → LeafSlice s (leaf_outcome leaf_node z o)
+escape_slice s z t h m (gives e u) (leaves l) p = (by_leaf e p, (further s h (cut_slice l)).1)
   where
     plain : Span [] s.rest u
     plain = bare (on h.0 (cut_slice l))
@@ -522,9 +516,9 @@ escape_slice told s z t h m (gives e u) (leaves l) p = (by_leaf e p, (further s 
     by_leaf escaped.keep_out p = plain
     by_leaf escaped.continue_from_previous_match_end p = plain
     by_leaf (escaped.delegate t casei) p = plain
-    by_leaf (escaped.backref r casei) p = referred _ (on h.0 (cut_slice p.ends)) p.takes p.place
-    by_leaf (escaped.subroutine_call c) p = referred _ (on h.0 (cut_slice p.ends)) p.takes p.place
-escape_slice told s z t h m (fails e) (faults l) p = stands_retold m (stands_past (to_ends h.0) l)
+    by_leaf (escaped.backref r casei) p = referred _ (on h.0 (cut_slice p.ends)) p.takes p.reach
+    by_leaf (escaped.subroutine_call c) p = referred _ (on h.0 (cut_slice p.ends)) p.takes p.reach
+escape_slice s z t h m (fails e) (faults l) p = stands_retold m (stands_past (to_ends h.0) l)
 
 -- a class, behind its bracket
 class_slice : (s z : State) (casei : Bool) (t : Text) → Past s t → (o : Reading Text) → Leaves 0 t o →
@@ -532,17 +526,18 @@ class_slice : (s z : State) (casei : Bool) (t : Text) → Past s t → (o : Read
 class_slice s z casei t h (gives a u) (leaves e) = leaf_past s (further s h (cut_slice e))
 class_slice s z casei t h (fails e) (faults l) = stands_in h.0 l
 
-leaf_slice : (s : State) (c : ℕ) (t : Text) → Past s t → MayStand s.rest (reach_of (c ∷ t)) →
-    LeafSlice s (leaf_of s c t)
-leaf_slice s c t h m =
+backslash_ascii : (c : ℕ) → (c == code "\\") ≡ true → c < 128
+backslash_ascii c e = grind (arith, nat_tests)
+
+leaf_slice : (s : State) (c : ℕ) (t : Text) → Past s t → Slice s.rest (c ∷ t) → LeafSlice s (leaf_of s c t)
+leaf_slice s c t h cut =
     let plain = leaf_past s h in
-    let p = reach_of (c ∷ t) in
     cond_both (c == code ".") _ _ (LeafSlice s) (λ _. plain) (λ _.
     cond_both (c == code "^") _ _ (LeafSlice s) (λ _. plain) (λ _.
     cond_both (c == code "$") _ _ (LeafSlice s) (λ _. plain) (λ _.
     cond_both (c == code "\\") _ _ (LeafSlice s)
-    (λ _. escape_slice p s s t h m (escape s.flags false p t) (leaves_escape s.flags false p t)
-    (sound_escape s.flags false p t)) (λ _.
+    (λ e. escape_slice s s t h (stands_before (backslash_ascii c e) (to_ends cut)) (escape s.flags false t)
+    (leaves_escape s.flags false t) (sound_escape s.flags false t)) (λ _.
     cond_both (c == code "[") _ _ (LeafSlice s)
     (λ _. class_slice s s s.flags.casei t h (class s.flags t) (leaves_class s.flags t)) (λ _. plain)))))
 
@@ -554,11 +549,11 @@ ahead_slice d s = by_text s.rest refl
     by_text [] e = tt
     by_text (c ∷ t) e =
         let h = first_slice s c t e in
-        let m = stands_at (record { word = []; cut = e }) in
+        let cut : Slice s.rest (c ∷ t) = record { word = []; cut = e } in
         cond_both (c == code "(") _ _ (AheadSlice s) (λ _.
-        cond_both (nat_le max_depth (d + 1)) _ _ (AheadSlice s) (λ _. m)
+        cond_both (nat_le max_depth (d + 1)) _ _ (AheadSlice s) (λ _. stands_at cut)
         (λ _. behind_slice s (at s t) t (skipped (at s t)) h (layout_slice s.flags.ignore_space t))) (λ _.
-        cond_both (is_before_nothing c) _ _ (AheadSlice s) (λ _. tt) (λ _. leaf_slice s c t h m))
+        cond_both (is_before_nothing c) _ _ (AheadSlice s) (λ _. tt) (λ _. leaf_slice s c t h cut))
 
 -- ---- what a part comes to behind its last one
 

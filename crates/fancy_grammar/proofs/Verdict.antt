@@ -7,7 +7,7 @@ use Rattle.std.proofs.lemmas.Str.{scalars-chars, chars-encodes}
 use Rattle.fancy_lex.proofs.TextLemmas.{bytes_chars, cut_boundary}
 use Rattle.fancy_lex.specs.Fault.{Kind, Fault}
 use Rattle.fancy_lex.specs.ErrorViews.{kind_of, error_in}
-use Rattle.fancy_lex.specs.Text.{Text, EndsWith, as_told, begins, past_end, bytes, place_at}
+use Rattle.fancy_lex.specs.Text.{Text, EndsWith, as_told, begins, beyond, bytes, past_end, place_at}
 use Rattle.fancy_lex.specs.declared.error.ParseError.{ParseError as ErrorKind}
 use Rattle.fancy_lex.specs.declared.error.Error.TheVariants.{ParseError}
 use Rattle.fancy_lex.specs.declared.error.Failure.{Failure}
@@ -67,7 +67,7 @@ no_fault f text t m k p (r, a, none, e, d) (of_resolving {q} b some) =
 
 -- the one fault of a text that cannot be read
 pub only_reading : (e : Failure) (f : Flags) (text : Text) → IsErrorAmong e (Whole f text) →
-    IsOnlyFault (error_in (bytes text) e) f text
+    IsOnlyFault (error_in text e) f text
 only_reading (At p k) f text a =
     (of_reading here, λ j q b. other j q b, λ t m b. no_fault f text t m (kind_of k) _ b (of_reading here))
   where
@@ -82,7 +82,7 @@ only_reading OutOfMemory f text a = tt
 
 -- the one fault of a text that is read, and cannot be resolved
 pub only_resolving : (e : Failure) (f : Flags) (text : Text) (r : Tree) → DerivesTree f text r →
-    IsErrorIn e (fault_of f r) → IsOnlyFault (error_in (bytes text) e) f text
+    IsErrorIn e (fault_of f r) → IsOnlyFault (error_in text e) f text
 only_resolving (At p k) f text r a h =
     (of_resolving a h, λ j q b. other j q b, λ t m b. no_fault f text t m (kind_of k) _ b (of_resolving a h))
   where
@@ -105,7 +105,7 @@ cut_at re u valid (w, cut) =
     subst (IsCharBoundary re) (ap₂ (λ a b. a - b) (sym (bytes_chars re valid)) left)
     (cut_boundary re (encodes u) w valid ends (cut ∙ ap (λ s. w ++ s) (sym same)))
 
-past_end_is : (re : List ℕ) (q : ℕ) → IsUtf8 re → q ≡ 0 → place_at (bytes (chars re)) q ≡ length re + 1
+past_end_is : (re : List ℕ) (q : ℕ) → IsUtf8 re → q ≡ past_end → place_at (bytes (chars re)) q ≡ length re + 1
 past_end_is re q valid h = omega (arith, bytes_chars re valid)
 
 placed : (e : ErrorKind) (re : List ℕ) (q : ℕ) → IsUtf8 re → MayStand (chars re) q →
@@ -114,10 +114,10 @@ placed e re q valid (as_told h) = inl (past_end_is re q valid h)
 placed e re q valid (begins u ends h) =
     let at : bytes (chars re) - bytes u ≡ place_at (bytes (chars re)) q = omega arith in
     inr (subst (IsCharBoundary re) at (cut_at re u valid ends))
-placed e re q valid (past_end h) = inl (past_end_is re q valid h)
+placed e re q valid (beyond h) = inl (past_end_is re q valid h)
 
 pub reading_placed : (e : Failure) (f : Flags) (re : List ℕ) → IsUtf8 re → IsErrorAmong e (Whole f (chars re)) →
-    IsPlacedIn (error_in (bytes (chars re)) e) re
+    IsPlacedIn (error_in (chars re) e) re
 reading_placed (At p k) f re u a = placed k re p u (fault_stands a)
 reading_placed OutOfMemory f re u a = tt
 
@@ -127,7 +127,7 @@ pub text_order : (f : Flags) (re : List ℕ) (r : Tree) → IsUtf8 re → Derive
 text_order f re r u a = subst (λ n. DescendingReaches (n + 2) 2 (items r)) (bytes_chars re u) (ordered_within a.1)
 
 pub resolving_placed : (e : Failure) (f : Flags) (re : List ℕ) (r : Tree) → IsUtf8 re → DerivesTree f (chars re) r →
-    IsErrorIn e (fault_of f r) → IsPlacedIn (error_in (bytes (chars re)) e) re
+    IsErrorIn e (fault_of f r) → IsPlacedIn (error_in (chars re) e) re
 resolving_placed (At p k) f re r u a h =
     placed k re p u
     (fault_place (MayStand (chars re)) (numbered_openings f (openings r)) (items r)

@@ -11,7 +11,7 @@ use Rattle.fancy_lex.specs.FaultTable.{comment_not_closed, group_too_deep, group
 use Rattle.fancy_lex.specs.LayoutSteps.{Skipped, rest, fault as open_comment}
 use Rattle.fancy_lex.specs.Reading.{Reading, gives, fails, choose}
 use Rattle.fancy_lex.specs.Referred.{Reference, Call}
-use Rattle.fancy_lex.specs.Text.{Text, reach_of, strip_word}
+use Rattle.fancy_lex.specs.Text.{Text, strip_word}
 use Rattle.fancy_lex.specs.declared.escape.Assertion.{Assertion}
 use Rattle.fancy_lex.specs.declared.escape.Assertion.TheVariants.{StartText, EndText, StartLine, StartLineOniguruma}
 use Rattle.fancy_lex.specs.declared.escape.Assertion.TheVariants.{EndLine}
@@ -89,7 +89,7 @@ leaf_of s c t =
     if c == code "." then done (any s.flags.dotnl s.flags.crlf) (at s t)
     else if c == code "^" then done (assertion (start_anchor s.flags)) (at s t)
     else if c == code "$" then done (assertion (end_anchor s.flags)) (at s t)
-    else if c == code "\\" then leaf_outcome leaf_node s (escape s.flags false (reach_of (c ∷ t)) t)
+    else if c == code "\\" then leaf_outcome leaf_node s (escape s.flags false t)
     else if c == code "[" then leaf_outcome (λ w. delegate w s.flags.casei) s (class s.flags t)
     else done (literal (c ∷ []) s.flags.casei) (at s t)
 

@@ -25,8 +25,8 @@ is_repeatable f (leaf (label.verb v)) = false
 is_repeatable f (leaf (label.assertion a)) = not f.oniguruma_mode
 is_repeatable f _ = true
 
--- in Oniguruma mode an Empty stays without the quantifier whose mark or closing brace t follows,
--- where that stands behind the start, at which so many bytes were left
+-- in Oniguruma mode an Empty stays without the quantifier whose mark or closing brace t follows, where that stands
+-- behind the start, at which so many bytes were left
 abbrev pub is_dropped : Flags → ℕ → Tree → Text → Bool
 is_dropped f left a t = f.oniguruma_mode && (is_empty a && nat_lt (bytes t + 1) left)
 

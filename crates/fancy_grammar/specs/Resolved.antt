@@ -12,8 +12,7 @@ use Rattle.fancy_grammar.specs.Tree.{Tree, leaf, over, row, Trees, no_trees, mor
 use Rattle.fancy_grammar.specs.Tree.{backref}
 use Rattle.fancy_grammar.specs.Tree.{backref_at_level, subroutine_call, backref_exists}
 
--- the node of a reference that means this; one that has no number for its meaning stays, with its place in the pattern
--- of m bytes
+-- the node of a reference that means this, in a pattern of m bytes; one that means no number stays, with its place
 abbrev pub reference_node : ℕ → Meaning → AstReference → ℕ → Tree
 reference_node m (number n) (ast_backref t casei None) reach = backref n casei
 reference_node m (number n) (ast_backref t casei (Some level)) reach = backref_at_level n level casei
@@ -49,7 +48,8 @@ module _ (n : ℕ) where
 -- the raw tree resolved, under the flags that are handed in, in a pattern of n bytes
 abbrev pub resolved : Flags → ℕ → Tree → Tree
 resolved f n r =
-    let named = only_named f (openings r) in resolved_in n named (numbered_openings_in named (openings r)) r
+    let named = only_named f (openings r) in
+    resolved_in n named (numbered_openings_in named (openings r)) r
 
 -- the first fault of the references of the raw tree
 abbrev pub fault_of : Flags → Tree → Option Fault

@@ -1,7 +1,7 @@
 -- What is read is a slice of the text, and what it opens and refers to stands in it.
 use Rattle.std.specs.Prelude.{◌≡◌, ℕ, ◌+◌, List, ◌++◌}
 use Rattle.std.specs.List.{AllByRecursion}
-use Rattle.fancy_lex.specs.Text.{Text, Stands, reach_of}
+use Rattle.fancy_lex.specs.Text.{Text, Stands, reach_of, past_end}
 use Rattle.fancy_grammar.specs.Items.{Item, items_all}
 use Rattle.fancy_grammar.specs.Ordered.{DescendingReaches, reach_of_item}
 use Rattle.fancy_grammar.specs.State.{State, Outcome, done, fault}
@@ -14,7 +14,7 @@ pub record Slice (t u : Text) : Type 0 where
 
 -- in a pattern that ends with t: the reach of where an end of t begins, or of one past the end
 abbrev pub MayStand : Text → ℕ → Type 0
-MayStand t p = Stands 0 t p
+MayStand t p = Stands past_end t p
 
 -- a slice lies between the beginnings of t and u, and the items stand in it one behind another
 pub record Span (l : List Item) (t u : Text) : Type 0 where

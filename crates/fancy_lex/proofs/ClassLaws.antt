@@ -19,7 +19,7 @@ use Rattle.fancy_lex.specs.Escaped.{Escape}
 use Rattle.fancy_lex.specs.Fault.{Fault}
 use Rattle.fancy_lex.specs.FaultTable.{class_not_closed}
 use Rattle.fancy_lex.specs.Reading.{Reading, gives, fails, choose, IsReadingOrNoMemory, Derives}
-use Rattle.fancy_lex.specs.Text.{Text, bytes, reach_of, strip, text_of}
+use Rattle.fancy_lex.specs.Text.{Text, bytes, strip, text_of}
 use Rattle.fancy_lex.specs.declared.error.Failure.{Failure}
 use Rattle.fancy_lex.specs.declared.flags.Flags.{Flags}
 use Rattle.fancy_lex.proofs.ClassLemmas.{items_end, items_plain, items_open, items_escape, pred_lt}
@@ -107,8 +107,7 @@ not_special : (c : ℕ) → is_plain_in_class c ≡ true → (c ≢ backslash) �
 not_special c p = (grind (arith, nat_tests), grind (arith, nat_tests), grind (arith, nat_tests))
 
 items_fails : (f : Flags) (k depth : ℕ) (b : Bool) (out t : Text) (e : Fault) →
-    escape f true (reach_of (backslash ∷ t)) t ≡ fails e → 0 < k →
-    class_from f k depth b out (backslash ∷ t) ≡ fails e
+    escape f true t ≡ fails e → 0 < k → class_from f k depth b out (backslash ∷ t) ≡ fails e
 unfolding class_from
 items_fails f zero depth b out t e q m = absurd (omega arith)
 items_fails f (suc k) depth b out t e q m = rw q refl
@@ -156,7 +155,7 @@ mutual
       (omega (arith, bytes_cons c t)) w a v
       (run_items h (pred k) depth (out ++ c ∷ []) (step_left f k depth b out t c l))
   run_items {f} {b} (escaped {a} {t} {u} {v} {w} {e} q h) k depth out l =
-      let less = escape_within f true _ t u e q in
+      let less = escape_within f true t u e q in
       after f _ _ (backslash ∷ t) u depth out (escape_in_class b e)
       (items_escape f depth b out (backslash ∷ t) backslash t refl k e u (positive _ k l) refl q)
       (omega (arith, less, bytes_cons backslash t)) w a v
@@ -176,7 +175,7 @@ mutual
   run_items {f} {b} (escaped_fault {t} {u} {x} {e} q h) k depth out l =
       items_escape f depth b out (backslash ∷ t) backslash t refl k x u (positive _ k l) refl q
       ∙ run_items h (pred k) depth (out ++ escape_in_class b x)
-      (omega (arith, escape_within f true _ t u x q, step_left f k depth b out t backslash l))
+      (omega (arith, escape_within f true t u x q, step_left f k depth b out t backslash l))
   run_items {f} {b} (class_fault {t} {e} h) k depth out l =
       items_open f depth b out (open_bracket ∷ t) open_bracket t refl k (positive _ k l) refl
       ∙ run_class h (pred k) (depth + 1) out (step_left f k depth b out t open_bracket l)
@@ -222,19 +221,18 @@ module _ (f : Flags) (k : ℕ) (reads : ReadsShort f k) (b : Bool) (t : Text) (l
   plain_reads c p (written w a v, h, less) = (written (c ∷ w) a v, plain p h, omega (arith, less, bytes_cons c t))
   plain_reads c p (fault e, h, less) = (fault e, plain_fault p h, tt)
 
-  escaped_reads : (e : Escape) (u : Text) → escape f true (reach_of (backslash ∷ t)) t ≡ gives e u →
+  escaped_reads : (e : Escape) (u : Text) → escape f true t ≡ gives e u →
       ReadsClass f (b || is_negated e) u → ReadsClass f b (backslash ∷ t)
   escaped_reads e u q (written w a v, h, less) = (
     written (escape_in_class b e ++ w) a v,
     escaped q h,
-    omega (arith, less, escape_within f true _ t u e q, bytes_cons backslash t),
+    omega (arith, less, escape_within f true t u e q, bytes_cons backslash t),
   )
   escaped_reads e u q (fault x, h, less) = (fault x, escaped_fault q h, tt)
 
-  escape_reads : (r : Reading Escape) → escape f true (reach_of (backslash ∷ t)) t ≡ r →
-      ReadsClass f b (backslash ∷ t)
+  escape_reads : (r : Reading Escape) → escape f true t ≡ r → ReadsClass f b (backslash ∷ t)
   escape_reads (gives e u) q = escaped_reads e u q
-      (reads (b || is_negated e) u (omega (arith, escape_within f true _ t u e q, l)))
+      (reads (b || is_negated e) u (omega (arith, escape_within f true t u e q, l)))
   escape_reads (fails e) q = (fault e, escape_fault q, tt)
 
   behind_class : (x : Text) (m : Bool) (u : Text) → Class f b t (written x m u) → bytes u < bytes t →
@@ -336,7 +334,7 @@ mutual
       (s : Text) → ClassItems f b (t ++ s) (written w a (v ++ s))
   items_frame close s = close
   items_frame (plain p h) s = plain p (items_frame h s)
-  items_frame {f} (escaped {t} {u} {e} q h) s = escaped (escape_frame f _ _ t u s e q) (items_frame h s)
+  items_frame {f} (escaped {t} {u} {e} q h) s = escaped (escape_frame f t u s e q) (items_frame h s)
   items_frame (nested g h) s = nested (class_frame g s) (items_frame h s)
 
 -- The clauses of the reader.

@@ -1,6 +1,6 @@
 -- One step of a class, where k steps are left.
 use Rattle.std.proofs.Common.{◌≡◌, ◌≢◌, ℕ, zero, suc, pred, ◌+◌, ◌-◌, ◌<◌, Bool, true, false, ◌||◌, ◌==◌, [], ◌∷◌, ◌++◌}
-use Rattle.std.proofs.Common.{refl, ap, sym, ◌∙◌, arith, subst}
+use Rattle.std.proofs.Common.{refl, ap, sym, ◌∙◌, arith}
 use Rattle.std.proofs.lemmas.Bool.Decides.{nat_tests}
 use Rattle.fancy_lex.specs.Characters.{backslash, open_bracket, close_bracket}
 use Rattle.fancy_lex.specs.Class.{class_head, class_from, class, escape_in_class, is_negated}
@@ -8,7 +8,7 @@ use Rattle.fancy_lex.specs.Escape.{escape}
 use Rattle.fancy_lex.specs.Escaped.{Escape}
 use Rattle.fancy_lex.specs.Fault.{invalid_class}
 use Rattle.fancy_lex.specs.Reading.{gives, fault_at, Reports, IsErrorOrNoMemory}
-use Rattle.fancy_lex.specs.Text.{Text, bytes, reach_of}
+use Rattle.fancy_lex.specs.Text.{Text, bytes, at_end}
 use Rattle.fancy_lex.specs.declared.error.Failure.{Failure}
 use Rattle.fancy_lex.specs.declared.flags.Flags.{Flags}
 use Rattle.fancy_lex.proofs.ReadingLemmas.{reports_first, report_fails}
@@ -19,7 +19,7 @@ pred_lt a b (suc k) l m = omega arith
 
 module _ (f : Flags) where
   pub items_end : (k depth : ℕ) (seen : Bool) (out t : Text) → t ≡ [] →
-      class_from f k depth seen out t ≡ fault_at 1 invalid_class
+      class_from f k depth seen out t ≡ fault_at at_end invalid_class
   unfolding class_from
   items_end zero depth seen out t e = refl
   items_end (suc k) depth seen out t e = rw e refl
@@ -52,23 +52,18 @@ module _ (f : Flags) where
         rw (e, class_from, g, test) refl
 
     pub items_escape : (k : ℕ) (v : Escape) (u : Text) → 0 < k → c ≡ backslash →
-        escape f true (reach_of t) r ≡ gives v u →
+        escape f true r ≡ gives v u →
         class_from f k depth seen out t ≡ class_from f (pred k) depth (seen || is_negated v)
         (out ++ escape_in_class seen v) u
     unfolding class_from
     items_escape zero v u m g q = absurd (omega arith)
-    items_escape (suc k) v u m g q =
-        let here : escape f true (reach_of (backslash ∷ r)) r ≡ gives v u =
-        ap (λ s. escape f true (reach_of s) r) (sym (e ∙ ap (λ d. d ∷ r) g)) ∙ q in
-        rw (e, g, class_from, here) refl
+    items_escape (suc k) v u m g q = rw (e, g, class_from, q) refl
 
-    pub items_fault : (k : ℕ) (b : Failure) → 0 < k → c ≡ backslash → Reports b (escape f true (reach_of t) r) →
+    pub items_fault : (k : ℕ) (b : Failure) → 0 < k → c ≡ backslash → Reports b (escape f true r) →
         IsErrorOrNoMemory b (class_from f k depth seen out t)
     unfolding class_from
     items_fault zero b m g q = absurd (omega arith)
-    items_fault (suc k) b m g q =
-        let here = subst (λ s. Reports b (escape f true (reach_of s) r)) (e ∙ ap (λ d. d ∷ r) g) q in
-        rw (e, g, class_from) (report_fails b _ (reports_first _ _ b here))
+    items_fault (suc k) b m g q = rw (e, g, class_from) (report_fails b _ (reports_first _ _ b q))
 
   pub class_init : (t o out rest : Text) → o ≡ [] → ◌≡◌ {A = Text × Text} (class_head o t) (out, rest) →
       class f t ≡ class_from f (suc (bytes t)) 0 false out rest
@@ -97,13 +92,7 @@ module _ (f : Flags) (depth : ℕ) (seen : Bool) (out t : Text) (c : ℕ) (r : T
     pub last_step : c ≡ close_bracket → depth ≡ 0 → class_from f k depth seen out t ≡ gives o r
     last_step g d = rw q (items_last f depth seen out t c r e k some g d)
 
-  pub escape_step : (o : Text) (s : Bool) (p : ℕ) (v : Escape) (u : Text) → c ≡ backslash → p ≡ reach_of t →
-      escape f true p r ≡ gives v u → o ≡ out ++ escape_in_class seen v → s ≡ (seen || is_negated v) →
+  pub escape_step : (o : Text) (s : Bool) (v : Escape) (u : Text) → c ≡ backslash → escape f true r ≡ gives v u →
+      o ≡ out ++ escape_in_class seen v → s ≡ (seen || is_negated v) →
       class_from f k depth seen out t ≡ class_from f (pred k) depth s o u
-  escape_step o s p v u g q h z y =
-      rw (z, y) (items_escape f depth seen out t c r e k v u some g (ap (λ m. escape f true m r) (sym q) ∙ h))
-
-  pub fault_step : (p : ℕ) (b : Failure) → c ≡ backslash → p ≡ reach_of t → Reports b (escape f true p r) →
-      IsErrorOrNoMemory b (class_from f k depth seen out t)
-  fault_step p b g q h = items_fault f depth seen out t c r e k b some g
-      (subst (λ m. Reports b (escape f true m r)) q h)
+  escape_step o s v u g h z y = rw (z, y) (items_escape f depth seen out t c r e k v u some g h)

@@ -7,7 +7,7 @@ use Rattle.std.proofs.lemmas.Bool.Decides.{nat_tests}
 use Rattle.std.specs.Char.{digit_value, is_ascii_digit}
 use Rattle.fancy_lex.specs.Characters.{open_paren, open_brace, close_brace, close_paren, backslash, line_feed, hash}
 use Rattle.fancy_lex.specs.Characters.{◌∈◌}
-use Rattle.fancy_lex.specs.Escape.{escape, number_escape, property, in_class, is_itself}
+use Rattle.fancy_lex.specs.Escape.{escape, escape_at, number_escape, property, in_class, is_itself}
 use Rattle.fancy_lex.specs.EscapeReference.{group_number}
 use Rattle.fancy_lex.specs.Escaped.{Escape, delegate, literal, literal_bytes}
 use Rattle.fancy_lex.specs.Fault.{invalid_class, invalid_hex, invalid_codepoint_value, unclosed_unicode_name}
@@ -152,7 +152,7 @@ behind_layout {A = A} x t R S firm = by_layout (layout x t) refl where
   by_layout (rest v) e = by_reading v e (R v) (firm v)
   by_layout (fault p) e = tt
 
--- Hex codes, whose places h and h' serve for faults alone.
+-- Hex codes, whose reaches h and h' serve for faults alone.
 
 is_hex : (c : ℕ) → nat_lt (digit_value c) 16 ≡ true → c ≢ open_paren
 is_hex c h = grind (arith, nat_tests)
@@ -364,8 +364,8 @@ in_class_stays p q c t = stays_if (c ∈ "b") _ _ _ _ (value_stays _ t)
     (stays_if (c ∈ "kAzBKGR") _ _ _ _ (value_stays _ t) tt)
 
 escape_stays : (f : Flags) (p q : ℕ) (t : Text) →
-    Stays (escape f true p t) (λ s. escape f true q (t ++ s))
-unfolding escape
+    Stays (escape_at f true p t) (λ s. escape_at f true q (t ++ s))
+unfolding escape_at
 escape_stays f p q [] = tt
 escape_stays f p q (c ∷ t) =
     stays_if (is_ascii_digit c) _ _ _ _ (number_escape_stays f p (c ∷ t) _)
@@ -387,7 +387,8 @@ escape_stays f p q (c ∷ t) =
     (in_class_stays p q c t))))))))))))))))
 
 -- what the escape stands for and what is left stay the same
-pub escape_frame : (f : Flags) (p q : ℕ) (t u s : Text) (e : Escape) → escape f true p t ≡ gives e u →
-    escape f true q (t ++ s) ≡ gives e (u ++ s)
-escape_frame f p q t u s e h = (subst (λ o. Stays o (λ s. escape f true q (t ++ s))) h (escape_stays f p q t))
-    s
+pub escape_frame : (f : Flags) (t u s : Text) (e : Escape) → escape f true t ≡ gives e u →
+    escape f true (t ++ s) ≡ gives e (u ++ s)
+escape_frame f t u s e h =
+    let q = reach_of (t ++ s) + 1 in
+    (subst (λ o. Stays o (λ z. escape_at f true q (t ++ z))) h (escape_stays f (reach_of t + 1) q t)) s

@@ -7,7 +7,8 @@ use Rattle.fancy_lex.specs.declared.flags.Flags.{Flags}
 use Rattle.fancy_lex.specs.Boundary as boundaries
 use Rattle.fancy_lex.specs.BoundarySteps as boundary_steps
 use Rattle.fancy_lex.specs.Characters.{open_brace, close_brace, ◌∈◌}
-use Rattle.fancy_lex.specs.Escape.{escape, number_escape, call_escape, backref_leaf, property, outside, in_class}
+use Rattle.fancy_lex.specs.Escape.{escape, escape_at, number_escape, call_escape, backref_leaf, property, outside}
+use Rattle.fancy_lex.specs.Escape.{in_class}
 use Rattle.fancy_lex.specs.EscapeReference.{back_reference}
 use Rattle.fancy_lex.specs.Escaped.{Escape}
 use Rattle.fancy_lex.specs.Fault.{Kind, invalid_escape}
@@ -71,7 +72,7 @@ leaves_read : (negated : Bool) (t : Text) → LeavesSome t (read_property negate
 unfolding read_property
 leaves_read negated t = some_map t (name_at t) _ (leaves_name_at t)
 
--- a pattern of n bytes, where the place p is told
+-- readers that are told the reach p
 module _ (p : ℕ) where
   pub leaves_layout : (x : Bool) (t : Text) → Leaves p t (layout_reading (layout x t))
   leaves_layout x t = at (layout x t) refl where
@@ -79,7 +80,7 @@ module _ (p : ℕ) where
     at (rest u) e = leaves (layout_cut x t u e)
     at (fault q) e = leaves_none (layout_stands p x t q e)
 
--- hex codes, where the place h is told
+-- hex codes, where the reach h is told
 module _ (h : ℕ) where
   module _ (x : Bool) where
     leaves_closed : (some : Bool) (v : ℕ) (t : Text) → Leaves h t (hexes.closing_brace h some v (strip close_brace t))
@@ -232,22 +233,24 @@ module _ (f : Flags) (inside : Bool) (p : ℕ) where
     outside_next : Leaves p (d ∷ t) (outside f p c t)
     outside_next = leaves_past past (leaves_outside c t)
 
-  -- the end of the text is left, or the fault stands there, or at the backslash
-  pub leaves_escape : (t : Text) → Leaves p t (escape f inside p t)
-  unfolding escape
-  leaves_escape [] = none_here
-  leaves_escape (c ∷ t) =
+  leaves_escape_at : (t : Text) → Leaves p t (escape_at f inside p t)
+  unfolding escape_at
+  leaves_escape_at [] = none_here
+  leaves_escape_at (c ∷ t) =
       search (leaves_if, whole_next, leaves_number_escape, hex_next, property_next, in_class_next, outside_next) depth
       60 fits 3000
 
+-- the end of the text is left, or the fault stands there, or at the backslash
+pub leaves_escape : (f : Flags) (inside : Bool) (t : Text) → Leaves (reach_of t + 1) t (escape f inside t)
+leaves_escape f inside t = leaves_escape_at f inside (reach_of t + 1) t
+
 -- what is left is the end of the text
-pub escape_cut : (f : Flags) (b : Bool) (p : ℕ) (t u : Text) (e : Escape) → escape f b p t ≡ gives e u →
+pub escape_cut : (f : Flags) (b : Bool) (t u : Text) (e : Escape) → escape f b t ≡ gives e u →
     (w : Text) × (t ≡ w ++ u)
-escape_cut f b p t u e q = at (escape f b p t) (leaves_escape f b p t) q where
-  at : (o : Reading Escape) → Leaves p t o → o ≡ gives e u → Ends t u
+escape_cut f b t u e q = at (escape f b t) (leaves_escape f b t) q where
+  at : (o : Reading Escape) → Leaves (reach_of t + 1) t o → o ≡ gives e u → Ends t u
   at (gives a v) (leaves h) q = let same : v ≡ u = cc in subst (Ends t) same h
   at (fails g) l q = absurd (cc)
 
-pub escape_within : (f : Flags) (b : Bool) (p : ℕ) (t u : Text) (e : Escape) → escape f b p t ≡ gives e u →
-    bytes u ≤ bytes t
-escape_within f b p t u e q = let (w, cut) = escape_cut f b p t u e q in rw cut (omega (arith, bytes-append w u))
+pub escape_within : (f : Flags) (b : Bool) (t u : Text) (e : Escape) → escape f b t ≡ gives e u → bytes u ≤ bytes t
+escape_within f b t u e q = let (w, cut) = escape_cut f b t u e q in rw cut (omega (arith, bytes-append w u))

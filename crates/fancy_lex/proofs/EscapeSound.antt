@@ -1,14 +1,14 @@
 -- What an escape stands for is sound: a reference or call stands in the escape, and a byte is none of ASCII.
 use Rattle.std.proofs.Common.{◌≡◌, ℕ, ◌≤◌, Bool, true, false, ◌==◌, ◌&&◌, nat_le, if◌then◌else◌, not, [], ◌∷◌, Option}
-use Rattle.std.proofs.Common.{Some, None, arith}
+use Rattle.std.proofs.Common.{Some, None, arith, ◌+◌}
 use Rattle.std.proofs.lemmas.Bool.{cond_both}
 use Rattle.std.proofs.lemmas.Bool.Decides.{nat_tests}
 use Rattle.std.specs.Char.{is_ascii_digit}
 use Rattle.fancy_lex.specs.Boundary as boundaries
 use Rattle.fancy_lex.specs.BoundarySteps as boundary_steps
 use Rattle.fancy_lex.specs.Characters.{open_brace, ◌∈◌}
-use Rattle.fancy_lex.specs.Escape.{escape, number_escape, call_escape, backref_leaf, property, outside, in_class}
-use Rattle.fancy_lex.specs.Escape.{is_itself}
+use Rattle.fancy_lex.specs.Escape.{escape, escape_at, number_escape, call_escape, backref_leaf, property}
+use Rattle.fancy_lex.specs.Escape.{outside, in_class, is_itself}
 use Rattle.fancy_lex.specs.EscapeReference.{group_number, numbered_reference, back_reference, subroutine_call}
 use Rattle.fancy_lex.specs.Escaped.{Escape, literal, literal_bytes, any, assertion, general_newline, keep_out}
 use Rattle.fancy_lex.specs.Escaped.{continue_from_previous_match_end, delegate, backref, subroutine_call as called}
@@ -27,12 +27,12 @@ use Rattle.fancy_lex.proofs.ReferencePlaces.{IfGives, ReferenceAt, CallAt, numbe
 use Rattle.fancy_lex.proofs.ReferencePlaces.{subroutine_call_at}
 use Rattle.fancy_lex.proofs.TakeLaws.{Takes, TakesOrFails, takes, takes_less}
 
--- the place p, in a pattern of n bytes, lies behind the beginning of t and before that of u
+-- the reach p is that of an end of t, of which a character or more stands before u
 pub record Stands (t u : Text) (p : ℕ) : Type 0 where
   pub mark : Text
   pub ends : Ends t mark
   pub takes : Takes 1 mark u
-  pub place : p ≡ reach_of mark
+  pub reach : p ≡ reach_of mark
 
 -- what an escape of t, behind which u is left, stands for: a byte above the ASCII ones, a reference or call that stands
 -- in the escape, or another leaf
@@ -48,7 +48,7 @@ Sound t (gives e u) = IsSound t u e
 Sound t (fails e) = Unit {0}
 
 stands_past : (c : ℕ) (t u : Text) (p : ℕ) → Stands t u p → Stands (c ∷ t) u p
-stands_past c t u p h = record { mark = h.mark; ends = ends_past c t h.mark h.ends; takes = h.takes; place = h.place }
+stands_past c t u p h = record { mark = h.mark; ends = ends_past c t h.mark h.ends; takes = h.takes; reach = h.reach }
 
 past_one : (c : ℕ) (t u : Text) (e : Escape) → IsSound t u e → IsSound (c ∷ t) u e
 past_one c t u (literal v casei) h = h
@@ -79,13 +79,13 @@ sound_choose t None f d h k = k
 module _ (f : Flags) where
   sound_backref_leaf : (t : Text) (o : Reading Reference) → TakesOrFails (reach_of t) 1 t o →
       IfGives (ReferenceAt (reach_of t)) o → Sound t (backref_leaf f o)
-  sound_backref_leaf t (gives r u) (takes a) e = record { mark = t; ends = ends_whole t; takes = a; place = e }
+  sound_backref_leaf t (gives r u) (takes a) e = record { mark = t; ends = ends_whole t; takes = a; reach = e }
   sound_backref_leaf t (fails z) h e = tt
 
   sound_calling : (t : Text) (o : Reading Call) → TakesOrFails (reach_of t) 1 t o →
       IfGives (CallAt (reach_of t)) o →
       Sound t (o >=> (λ c u. gives (called c) u))
-  sound_calling t (gives c u) (takes a) e = record { mark = t; ends = ends_whole t; takes = a; place = e }
+  sound_calling t (gives c u) (takes a) e = record { mark = t; ends = ends_whole t; takes = a; reach = e }
   sound_calling t (fails z) h e = tt
 
   sound_number_escape : (inside : Bool) (p : ℕ) (t : Text) → Sound t (number_escape f inside p t)
@@ -173,11 +173,12 @@ module _ (f : Flags) where
       (λ _. cond_both (c ∈ "kAzBKGR") _ _ (Sound t) (λ _. tt) (λ _. tt))
 
   -- of all that an escape stands for
-  pub sound_escape : (inside : Bool) (p : ℕ) (t : Text) → Sound t (escape f inside p t)
-  unfolding escape
-  sound_escape inside p [] = tt
-  sound_escape inside p (c ∷ t) =
+  pub sound_escape : (inside : Bool) (t : Text) → Sound t (escape f inside t)
+  unfolding escape_at
+  sound_escape inside [] = tt
+  sound_escape inside (c ∷ t) =
       let P = Sound (c ∷ t) in
+      let p = reach_of (c ∷ t) + 1 in
       cond_both (is_ascii_digit c) _ _ P (λ _. sound_number_escape inside p (c ∷ t)) (λ _.
       cond_both (c ∈ "dDsSwW") _ _ P (λ _. tt) (λ _.
       cond_both (c ∈ "h") _ _ P (λ _. tt) (λ _.

@@ -6,12 +6,12 @@ use Rattle.std.proofs.lemmas.Bool.Decides.{nat_tests}
 use Rattle.std.proofs.lemmas.Bool.{cases_eq, false≢true}
 use Rattle.std.specs.Borrow.{Bor}
 use Rattle.fancy_lex.specs.Characters.{line_feed, hash, open_paren, close_paren, backslash}
-use Rattle.fancy_lex.specs.Text.{Text, Stands, past_end}
+use Rattle.fancy_lex.specs.Text.{Text, Stands, beyond, at_end}
 use Rattle.fancy_lex.proofs.LeaveLaws.{stands_end}
 use Rattle.fancy_lex.specs.Layout.{InComment, nothing, plain, pair, InLine, end_line, on_line}
 use Rattle.fancy_lex.specs.Views.{skipped_of}
 use Rattle.fancy_lex.specs.Layout.{comment_head, IsUnit, Units, none, more, Stops}
-use Rattle.fancy_lex.specs.Layout.{is_blank, OpenComment, at_end, after_backslash}
+use Rattle.fancy_lex.specs.Layout.{is_blank, OpenComment, to_end, after_backslash}
 use Rattle.fancy_lex.specs.LayoutSteps.{rest, fault, layout, layout_from, between, comment, escaped, line}
 use Rattle.fancy_lex.specs.LayoutSteps.{after_comment_head}
 use Rattle.fancy_lex.specs.Layout.{Unclosed, Before}
@@ -102,21 +102,21 @@ ends_pair b c t e (i, r, h, q) = (b ∷ c ∷ i, r, pair e h, ap (λ s. b ∷ c 
 
 open_plain : (c : ℕ) (t : Text) (p : ℕ) → c ≢ backslash → c ≢ close_paren → OpenComment t p →
     OpenComment (c ∷ t) p
-open_plain c t p a b (at_end h) = at_end (plain a b h)
+open_plain c t p a b (to_end h) = to_end (plain a b h)
 open_plain c t p a b (after_backslash i e q h) = after_backslash (c ∷ i) (ap (λ s. c ∷ s) e) q (plain a b h)
 
 open_pair : (b c : ℕ) (t : Text) (p : ℕ) → b ≡ backslash → OpenComment t p → OpenComment (b ∷ c ∷ t) p
-open_pair b c t p d (at_end h) = at_end (pair d h)
+open_pair b c t p d (to_end h) = to_end (pair d h)
 open_pair b c t p d (after_backslash i e q h) = after_backslash (b ∷ c ∷ i) (ap (λ s. b ∷ c ∷ s) e) q (pair d h)
 
 split_comment : (t : Text) → Ends t ⊎ ((p : ℕ) × OpenComment t p)
-split_comment [] = inr (1, at_end nothing)
+split_comment [] = inr (at_end, to_end nothing)
 split_comment (c ∷ []) =
     elim (cases_eq c close_paren) [
       | inl e ↦ inl ([], [], nothing, ap (λ d. d ∷ []) e)
       | inr e ↦ elim (cases_eq c backslash) [
         | inl b ↦ inr (0, after_backslash [] (ap (λ d. d ∷ []) b) refl nothing)
-        | inr b ↦ inr (1, at_end (plain b e nothing))
+        | inr b ↦ inr (at_end, to_end (plain b e nothing))
       ]
     ]
 split_comment (c ∷ d ∷ t) =
@@ -135,7 +135,7 @@ split_comment (c ∷ d ∷ t) =
     ]
 
 open_fault : (x : Bool) (t : Text) (p : ℕ) → OpenComment t p → layout_from x comment t ≡ fault p
-open_fault x t p (at_end h) = rw (← append-nil t) (past_inside x h [] ∙ comment_end x [] refl)
+open_fault x t p (to_end h) = rw (← append-nil t) (past_inside x h [] ∙ comment_end x [] refl)
 open_fault x t p (after_backslash i e q h) =
     rw (e, q) (past_inside x h (backslash ∷ []) ∙ comment_step x _ backslash [] refl ∙ escaped_end x [] refl)
 
@@ -319,5 +319,5 @@ layout_length x t v e = let (w, cut) = layout_cut x t v e in omega (arith, simp 
 pub layout_stands : (p : ℕ) (x : Bool) (t : Text) (q : ℕ) → layout x t ≡ fault q → Stands p t q
 layout_stands p x t q e = place (unclosed_sound x t q e).inside where
   place : {r : Text} {q : ℕ} → OpenComment r q → Stands p t q
-  place (at_end i) = stands_end t
-  place (after_backslash i e f j) = past_end f
+  place (to_end i) = stands_end t
+  place (after_backslash i e f j) = beyond f

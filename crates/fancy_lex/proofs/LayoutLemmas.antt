@@ -1,19 +1,19 @@
 -- One step of the layout's definition, where the text is known by an equation.
-use Rattle.std.proofs.Common.{◌≡◌, ◌≢◌, ◌+◌, ℕ, Bool, true, [], ◌∷◌, Option, Some, None, false, arith, ◌==◌, ◌&&◌}
+use Rattle.std.proofs.Common.{◌≡◌, ◌≢◌, ℕ, Bool, true, [], ◌∷◌, Some, None, false, arith, ◌==◌, ◌&&◌}
 use Rattle.std.proofs.Common.{if◌then◌else◌, is_some, ap, refl, ◌∙◌}
 use Rattle.std.proofs.lemmas.Bool.Decides.{nat_tests}
 use Rattle.fancy_lex.specs.Characters.{line_feed, hash, open_paren, close_paren, backslash}
-use Rattle.fancy_lex.specs.Text.{Text}
+use Rattle.fancy_lex.specs.Text.{Text, at_end, past_end}
 use Rattle.fancy_lex.specs.Layout.{is_blank}
 use Rattle.fancy_lex.specs.LayoutSteps.{rest, fault, layout_from, between}
 use Rattle.fancy_lex.specs.LayoutSteps.{two, one, comment, escaped, line, is_layout, after_comment_head}
 
 module _ (x : Bool) (t : Text) where
-  pub comment_end : t ≡ [] → layout_from x comment t ≡ fault 1
+  pub comment_end : t ≡ [] → layout_from x comment t ≡ fault at_end
   unfolding layout_from
   comment_end e = ap (layout_from x comment) e
 
-  pub escaped_end : t ≡ [] → layout_from x escaped t ≡ fault 0
+  pub escaped_end : t ≡ [] → layout_from x escaped t ≡ fault past_end
   unfolding layout_from
   escaped_end e = ap (layout_from x escaped) e
 

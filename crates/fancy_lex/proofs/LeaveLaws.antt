@@ -1,12 +1,14 @@
 -- What a reader leaves: the end of the text; or its fault, and where that stands.
-use Rattle.std.proofs.Common.{◌≡◌, ℕ, ◌+◌, ◌≤◌, Bool, true, false, if◌then◌else◌, [], ◌∷◌, ◌++◌, Option, Some, None}
-use Rattle.std.proofs.Common.{refl, ap, sym, ◌∙◌, subst, append_assoc, append-nil, arith, chars, List, Bor, Result, Ok}
-use Rattle.std.proofs.Common.{Err, IfOk, IfErr}
+use Rattle.std.proofs.Common.{◌≡◌, ℕ, ◌+◌, ◌<◌, ◌≤◌, Bool, true, false, if◌then◌else◌, [], ◌∷◌, ◌++◌, Option, Some}
+use Rattle.std.proofs.Common.{None, refl, ap, sym, ◌∙◌, subst, append_assoc, append-nil, arith, chars, List, Bor}
+use Rattle.std.proofs.Common.{Result, Ok, Err, IfOk, IfErr}
 use Rattle.std.specs.Option.{option_and_then}
+use Rattle.std.proofs.lemmas.Str.{len_utf8_ascii}
 use Rattle.fancy_lex.specs.Fault.{Fault, Kind}
 use Rattle.fancy_lex.specs.ErrorViews.{kind_of, StandsWithin}
 use Rattle.fancy_lex.specs.Reading.{Reading, gives, fails, fault_at, ◌>=>◌, choose, IsReadingOrNoMemory}
-use Rattle.fancy_lex.specs.Text.{Text, EndsWith as Ends, Stands, as_told, begins, past_end, bytes, reach_of, strip}
+use Rattle.fancy_lex.specs.Text.{Text, EndsWith as Ends, Stands, as_told, begins, beyond, bytes, reach_of, at_end}
+use Rattle.fancy_lex.specs.Text.{strip}
 use Rattle.fancy_lex.specs.declared.error.Failure.{Failure}
 use Rattle.fancy_lex.specs.declared.error.Failure.TheVariants.{At, OutOfMemory}
 use Rattle.fancy_lex.proofs.TextLemmas.{strip_is, bytes-append}
@@ -27,7 +29,12 @@ module _ {p : ℕ} where
   pub stands_here : (t : Text) → Stands p t (reach_of t)
   stands_here t = begins t (ends_whole t) refl
 
-  pub stands_end : (t : Text) → Stands p t 1
+  -- a byte before an end of the text
+  pub stands_before : {t u : Text} {c : ℕ} → c < 128 → Ends t (c ∷ u) → Stands p t (reach_of u + 1)
+  unfolding bytes
+  stands_before {u} {c} l e = begins (c ∷ u) e (omega (arith, len_utf8_ascii c l))
+
+  pub stands_end : (t : Text) → Stands p t at_end
   unfolding bytes
   stands_end t = begins [] (t, sym (append-nil t)) (omega arith)
 
@@ -35,19 +42,19 @@ module _ {p : ℕ} where
   pub stands_past : {t u : Text} {q : ℕ} → Ends t u → Stands p u q → Stands p t q
   stands_past e (as_told h) = as_told h
   stands_past {t} {u} e (begins v h i) = begins v (ends_twice t u v e h) i
-  stands_past e (past_end h) = past_end h
+  stands_past e (beyond h) = beyond h
 
   -- another reach may be told that stands there
   pub stands_retold : {t : Text} {h q : ℕ} → Stands p t h → Stands h t q → Stands p t q
   stands_retold {t} told (as_told e) = subst (Stands p t) (sym e) told
   stands_retold told (begins v h i) = begins v h i
-  stands_retold told (past_end h) = past_end h
+  stands_retold told (beyond h) = beyond h
 
   -- the reach is at most as great as that told, or as that of the text
   pub stands_within : {t : Text} {m q : ℕ} → p ≤ m → reach_of t ≤ m → Stands p t q → q ≤ m
   stands_within told up (as_told e) = omega arith
   stands_within told up (begins v (w, cut) e) = omega (arith, ap bytes cut, bytes-append w v)
-  stands_within told up (past_end e) = omega arith
+  stands_within told up (beyond e) = omega arith
 
 -- ---- readings
 

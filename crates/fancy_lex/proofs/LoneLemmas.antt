@@ -4,7 +4,7 @@ use Rattle.std.proofs.Common.{IfSome}
 use Rattle.std.specs.Char.{is_ascii_digit, is_ascii_alphanumeric}
 use Rattle.std.proofs.lemmas.Bool.Decides.{nat_tests}
 use Rattle.fancy_lex.specs.Characters.{◌∈◌}
-use Rattle.fancy_lex.specs.Escape.{escape, in_class, outside, is_itself, is_lone_anywhere, reads_on, unknown_escape}
+use Rattle.fancy_lex.specs.Escape.{escape_at, in_class, outside, is_itself, is_lone_anywhere, reads_on, unknown_escape}
 use Rattle.fancy_lex.specs.Escaped.{literal}
 use Rattle.fancy_lex.specs.EscapeViews.{escape_of}
 use Rattle.fancy_lex.specs.Reading.{gives, choose}
@@ -15,9 +15,9 @@ use Rattle.fancy_lex.specs.declared.flags.Flags.{Flags}
 -- a character that is no escape of its own anywhere stands for itself, or for what it is where it stands
 by_place : (f : Flags) (inside : Bool) (p c : ℕ) (t : Text) → is_ascii_digit c ≡ false →
     (c ∈ "xuUpP") ≡ false → is_lone_anywhere c ≡ false →
-    escape f inside p (c ∷ t) ≡ (if is_itself inside c then gives (literal c false) t
+    escape_at f inside p (c ∷ t) ≡ (if is_itself inside c then gives (literal c false) t
     else if inside then in_class p c t else outside f p c t)
-unfolding escape
+unfolding escape_at
 by_place f inside p c t digit on other =
     let set : (c ∈ "dDsSwW") ≡ false = grind (arith, nat_tests) in
     let hex : (c ∈ "h") ≡ false = grind (arith, nat_tests) in
@@ -38,7 +38,7 @@ by_place f inside p c t digit on other =
 
 -- a character that stands for itself
 pub lone_itself : (f : Flags) (inside : Bool) (p c : ℕ) (t : Text) → is_itself inside c ≡ true →
-    escape f inside p (c ∷ t) ≡ gives (literal c false) t
+    escape_at f inside p (c ∷ t) ≡ gives (literal c false) t
 lone_itself f inside p c t itself =
     let neither : is_ascii_alphanumeric c ≡ false = grind (arith, nat_tests) in
     by_place f inside p c t (grind (arith, nat_tests)) (grind (arith, nat_tests)) (grind (arith, nat_tests))
@@ -53,21 +53,21 @@ Stands f inside c o = (p : ℕ) (t : Text) → reads_on inside c ≡ false →
 module _ (f : Flags) (inside : Bool) (c : ℕ) (itself : is_itself inside c ≡ false) (other : is_lone_anywhere c ≡ false)
   where
     past : (p : ℕ) (t : Text) → reads_on inside c ≡ false →
-        escape f inside p (c ∷ t) ≡ (if inside then in_class p c t else outside f p c t)
+        escape_at f inside p (c ∷ t) ≡ (if inside then in_class p c t else outside f p c t)
     past p t on =
         by_place f inside p c t (grind (arith, nat_tests)) (grind (arith, nat_tests)) other
         ∙ ap (λ b. if b then gives (literal c false) t else if inside then in_class p c t else outside f p c t) itself
 
     pub lone_by_place : (o : Option Escaped) → (reads_on inside c ≡ true → o ≡ None) → Stands f inside c o →
-        IfSome o (λ e. (p : ℕ) (t : Text) → escape f inside p (c ∷ t) ≡ gives (escape_of e) t)
+        IfSome o (λ e. (p : ℕ) (t : Text) → escape_at f inside p (c ∷ t) ≡ gives (escape_of e) t)
     lone_by_place None whole stands = tt
     lone_by_place (Some e) whole stands = λ p t. by_test p t (reads_on inside c) refl where
       by_test : (p : ℕ) (t : Text) (b : Bool) → reads_on inside c ≡ b →
-          escape f inside p (c ∷ t) ≡ gives (escape_of e) t
+          escape_at f inside p (c ∷ t) ≡ gives (escape_of e) t
       by_test p t true on = let none = whole on in absurd cc
       by_test p t false on = past p t on ∙ stands p t on
 
     pub unknown_by_place : (o : Option Escaped) → Stands f inside c o → o ≡ None → reads_on inside c ≡ false →
-        (p : ℕ) (t : Text) → escape f inside p (c ∷ t) ≡ unknown_escape p c
+        (p : ℕ) (t : Text) → escape_at f inside p (c ∷ t) ≡ unknown_escape p c
     unknown_by_place None stands none on p t = past p t on ∙ stands p t on
     unknown_by_place (Some e) stands none on p t = absurd cc

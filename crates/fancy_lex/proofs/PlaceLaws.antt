@@ -1,14 +1,16 @@
 -- What holds of every class: it leaves the end of the text, its fault stands at a cut of it or one past its end, and it
 -- answers.
 use Rattle.std.proofs.Common.{◌≡◌, ℕ, zero, suc, ◌+◌, ◌-◌, Bool, true, false, ◌||◌, ◌==◌, [], ◌∷◌, ◌++◌, Option, Some}
-use Rattle.std.proofs.Common.{None, refl}
+use Rattle.std.proofs.Common.{None, refl, ◌<◌, arith}
+use Rattle.std.proofs.lemmas.Bool.{cond_both}
+use Rattle.std.proofs.lemmas.Bool.Decides.{nat_tests}
 use Rattle.fancy_lex.specs.Characters.{backslash, caret, open_bracket, close_bracket}
 use Rattle.fancy_lex.specs.Class.{class, class_from, escape_in_class, is_negated, class_head, with_mark}
 use Rattle.fancy_lex.specs.Reading.{choose}
-use Rattle.fancy_lex.specs.Text.{Text, EndsWith as Ends, bytes, reach_of, strip}
+use Rattle.fancy_lex.specs.Text.{Text, EndsWith as Ends, bytes, strip}
 use Rattle.fancy_lex.specs.declared.flags.Flags.{Flags}
 use Rattle.fancy_lex.proofs.EscapeLaws.{leaves_escape}
-use Rattle.fancy_lex.proofs.LeaveLaws.{ends_whole, ends_past, ends_twice, ends_strip, stands_here, stands_end, Leaves}
+use Rattle.fancy_lex.proofs.LeaveLaws.{ends_whole, ends_past, ends_twice, ends_strip, stands_before, stands_end, Leaves}
 use Rattle.fancy_lex.proofs.LeaveLaws.{whole_next, leaves_none, leaves_past, leaves_retold, leaves_if, leaves_both}
 
 -- what stands behind the front of a class ends the text
@@ -24,7 +26,10 @@ ends_class_head out t =
     let start : Text × Text = (out ++ open_bracket ∷ [], t) in
     ends_twice t _ _ (ends_mark caret start) (ends_mark close_bracket (with_mark caret start))
 
--- no reach is told but that of one past the end
+is_ascii : (c : ℕ) → (c == backslash) ≡ true → c < 128
+is_ascii c e = grind (arith, nat_tests)
+
+-- the reach that is told is that of one past the end
 module _ (f : Flags) where
   leaves_items : (k depth : ℕ) (seen : Bool) (out t : Text) → Leaves 0 t (class_from f k depth seen out t)
   unfolding class_from
@@ -32,11 +37,11 @@ module _ (f : Flags) where
   leaves_items (suc k) depth seen out [] = leaves_none (stands_end [])
   leaves_items (suc k) depth seen out (c ∷ t) =
       let past = ends_past c t t (ends_whole t) in
-      leaves_if (c == backslash)
-      (leaves_both (leaves_retold (stands_here (c ∷ t))
-      (leaves_past past (leaves_escape f true (reach_of (c ∷ t)) t)))
+      cond_both (c == backslash) _ _ (Leaves 0 (c ∷ t))
+      (λ e. leaves_both (leaves_retold (stands_before (is_ascii c e) (ends_whole (c ∷ t)))
+      (leaves_past past (leaves_escape f true t)))
       (λ e u. leaves_items k depth (seen || is_negated e) (out ++ escape_in_class seen e) u))
-      (leaves_if (c == open_bracket)
+      (λ _. leaves_if (c == open_bracket)
       (leaves_past past
       (leaves_past (ends_class_head out t)
       (leaves_items k (depth + 1) seen (class_head out t).0 (class_head out t).1)))

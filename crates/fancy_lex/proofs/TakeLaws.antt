@@ -42,7 +42,7 @@ pub takes_less_some : {A : Type 0} (j k : ℕ) (t : Text) (o : Option (A × Text
 takes_less_some j k t None e h = tt
 takes_less_some j k t (Some p) e h = record { word = h.word; cut = h.cut; long = omega (arith, e, h.long) }
 
--- a reading takes at least k characters, or its fault stands at the place p
+-- a reading takes at least k characters, or its fault stands at the reach p
 pub data TakesOrFails {A : Type 0} (p k : ℕ) : Text → Reading A → Type 0 where
   takes : {t u : Text} {a : A} → Takes k t u → TakesOrFails p k t (gives a u)
   fails_at : {t : Text} {e : Fault} → e.reach ≡ p → TakesOrFails p k t (fails e)

@@ -9,7 +9,7 @@ use Rattle.fancy_lex.specs.Fault.{Fault}
 use Rattle.fancy_lex.specs.FaultTable.{class_not_closed}
 use Rattle.fancy_lex.specs.Property.{is_negated_set}
 use Rattle.fancy_lex.specs.Reading.{Reading, gives, fails, choose, ◌>=>◌}
-use Rattle.fancy_lex.specs.Text.{Text, bytes, reach_of, strip}
+use Rattle.fancy_lex.specs.Text.{Text, bytes, strip}
 use Rattle.fancy_lex.specs.declared.flags.Flags.{Flags}
 
 -- the characters that stand behind a backslash in a class
@@ -67,8 +67,7 @@ module _ (f : Flags) where
   class_from (suc k) outer seen out [] = fails class_not_closed
   class_from (suc k) outer seen out (c ∷ t) =
       if c == backslash then
-      escape f true (reach_of (c ∷ t)) t >=> (λ e u.
-      class_from k outer (seen || is_negated e) (out ++ escape_in_class seen e) u)
+      escape f true t >=> (λ e u. class_from k outer (seen || is_negated e) (out ++ escape_in_class seen e) u)
       else if c == open_bracket then class_from k (outer + 1) seen (class_head out t).0 (class_head out t).1
       else if c == close_bracket then (
       if outer == 0 then gives (out ++ c ∷ []) t else class_from k (outer - 1) seen (out ++ c ∷ []) t)
@@ -104,7 +103,7 @@ mutual
     plain : {c : ℕ} {f : Flags} {b a : Bool} {t v w : Text} → is_plain_in_class c ≡ true →
         ClassItems f b t (written w a v) → ClassItems f b (c ∷ t) (written (c ∷ w) a v)
     escaped : {f : Flags} {b a : Bool} {t u v w : Text} {e : Escape} →
-        escape f true (reach_of (backslash ∷ t)) t ≡ gives e u →
+        escape f true t ≡ gives e u →
         ClassItems f (b || is_negated e) u (written w a v) →
         ClassItems f b (backslash ∷ t) (written (escape_in_class b e ++ w) a v)
     nested : {f : Flags} {b m a : Bool} {t u v x w : Text} → Class f b t (written x m u) →
@@ -114,10 +113,9 @@ mutual
     plain_fault : {c : ℕ} {f : Flags} {b : Bool} {t : Text} {e : Fault} → is_plain_in_class c ≡ true →
         ClassItems f b t (fault e) → ClassItems f b (c ∷ t) (fault e)
     escape_fault : {f : Flags} {b : Bool} {t : Text} {e : Fault} →
-        escape f true (reach_of (backslash ∷ t)) t ≡ fails e →
-        ClassItems f b (backslash ∷ t) (fault e)
+        escape f true t ≡ fails e → ClassItems f b (backslash ∷ t) (fault e)
     escaped_fault : {f : Flags} {b : Bool} {t u : Text} {x : Escape} {e : Fault} →
-        escape f true (reach_of (backslash ∷ t)) t ≡ gives x u →
+        escape f true t ≡ gives x u →
         ClassItems f (b || is_negated x) u (fault e) → ClassItems f b (backslash ∷ t) (fault e)
     class_fault : {f : Flags} {b : Bool} {t : Text} {e : Fault} →
         Class f b t (fault e) → ClassItems f b (open_bracket ∷ t) (fault e)

@@ -12,7 +12,7 @@ use Rattle.fancy_lex.specs.declared.error.Failure.{Failure}
 use Rattle.fancy_lex.specs.declared.error.Failure.TheVariants as inside
 use Rattle.fancy_lex.specs.declared.error.ParseError as declared
 use Rattle.fancy_lex.specs.declared.error.ParseError.TheVariants as code
-use Rattle.fancy_lex.specs.Text.{place_at}
+use Rattle.fancy_lex.specs.Text.{Text, bytes, place_at}
 
 -- the kind that the code's value stands for
 abbrev pub kind_of : declared.ParseError → Kind
@@ -50,10 +50,10 @@ abbrev pub StandsWithin : ℕ → Failure → Type 0
 StandsWithin m (inside.At p k) = p ≤ m
 StandsWithin m inside.OutOfMemory = Unit {0}
 
--- the error of a reader in a pattern of n bytes
-abbrev pub error_in : ℕ → Failure → Error
-error_in n (inside.At p k) = ParseError (place_at n p) k
-error_in n inside.OutOfMemory = OutOfMemory
+-- the error of a reader in this pattern
+abbrev pub error_in : Text → Failure → Error
+error_in t (inside.At p k) = ParseError (place_at (bytes t) p) k
+error_in t inside.OutOfMemory = OutOfMemory
 
 -- whether its kind carries a text, whose clone takes memory
 abbrev pub error_carries_text : Error → Bool

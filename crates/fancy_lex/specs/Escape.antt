@@ -1,5 +1,5 @@
 -- Escapes: what stands behind a backslash.
-use Rattle.std.specs.Prelude.{ℕ, Bool, true, false, not, ◌&&◌, ◌||◌, if◌then◌else◌, [], ◌∷◌}
+use Rattle.std.specs.Prelude.{ℕ, ◌+◌, Bool, true, false, not, ◌&&◌, ◌||◌, if◌then◌else◌, [], ◌∷◌}
 use Prim.Native.Char.{code}
 use Rattle.std.specs.Char.{is_ascii_alphanumeric, is_ascii_digit}
 use Rattle.fancy_lex.specs.declared.escape.Assertion.TheVariants.{StartText, EndText, EndTextIgnoreTrailingNewlines}
@@ -15,7 +15,7 @@ use Rattle.fancy_lex.specs.Hex.{hex}
 use Rattle.fancy_lex.specs.Property.{read_property, property_text}
 use Rattle.fancy_lex.specs.Reading.{Reading, gives, fails, ◌>=>◌, choose}
 use Rattle.fancy_lex.specs.Referred.{Reference}
-use Rattle.fancy_lex.specs.Text.{Text}
+use Rattle.fancy_lex.specs.Text.{Text, reach_of}
 
 -- the fault of a letter that is no escape; in all that follows the backslash stands at the reach p
 abbrev pub unknown_escape : ℕ → ℕ → Reading Escape
@@ -83,9 +83,9 @@ abbrev pub reads_on : Bool → ℕ → Bool
 reads_on inside c = is_ascii_digit c || (c ∈ "xuUpP" || (not inside && c ∈ "kgbB"))
 
 -- what stands behind the backslash, in a class or outside
-unfoldable pub escape : Flags → Bool → ℕ → Text → Reading Escape
-escape f inside p [] = fails (backslash_at_end p)
-escape f inside p (c ∷ t) =
+unfoldable pub escape_at : Flags → Bool → ℕ → Text → Reading Escape
+escape_at f inside p [] = fails (backslash_at_end p)
+escape_at f inside p (c ∷ t) =
     if is_ascii_digit c then number_escape f inside p (c ∷ t)
     else if c ∈ "dDsSwW" then gives (delegate (backslash ∷ c ∷ []) f.casei) t
     else if c ∈ "h" then gives (delegate hex_class false) t
@@ -104,3 +104,7 @@ escape f inside p (c ∷ t) =
     else if is_itself inside c then gives (literal c false) t
     else if inside then in_class p c t
     else outside f p c t
+
+-- what stands behind a backslash, which comes right before t, in a class or outside
+abbrev pub escape : Flags → Bool → Text → Reading Escape
+escape f inside t = escape_at f inside (reach_of t + 1) t

@@ -7,7 +7,7 @@ use Rattle.fancy_lex.specs.Fault.{trailing_backslash, invalid_escape, unclosed_u
 use Rattle.fancy_lex.specs.Fault.{invalid_codepoint_value, invalid_class, unknown_flag}
 use Rattle.fancy_lex.specs.Fault.{changing_unicode_mode_unsupported, invalid_backref, target_not_repeatable}
 use Rattle.fancy_lex.specs.Fault.{invalid_group_name, invalid_group_name_backref}
-use Rattle.fancy_lex.specs.Text.{Text, reach_of}
+use Rattle.fancy_lex.specs.Text.{Text, reach_of, at_end}
 
 -- ---- the texts of the general faults
 
@@ -23,17 +23,10 @@ body_expected =
 
 -- ---- layout, groups and quantifiers
 
--- a comment without its `)`: at one of the next two places
+-- a comment without its `)`: at the end of the text, or one past it where the text ends right behind an unpaired
+-- backslash
 abbrev pub comment_not_closed : ℕ → Fault
 comment_not_closed p = record { reach = p; kind = unclosed_open_paren }
-
--- the end of the text
-abbrev pub end_in_comment : ℕ
-end_in_comment = 1
-
--- one past the end, where the text ends right behind an unpaired backslash
-abbrev pub end_behind_backslash : ℕ
-end_behind_backslash = 0
 
 -- a group whose inside would be too deep: at its `(`, where t begins
 abbrev pub group_too_deep : Text → Fault
@@ -49,7 +42,7 @@ not_repeatable t = record { reach = reach_of t + 1; kind = target_not_repeatable
 
 -- the end of the text where a group's `)`, a flag letter, or the text behind `(?(` or `(?~` is due
 abbrev pub group_not_closed : Fault
-group_not_closed = record { reach = 1; kind = unclosed_open_paren }
+group_not_closed = record { reach = at_end; kind = unclosed_open_paren }
 
 -- a bar behind the second branch of an absent expression: at that bar, where t begins
 abbrev pub bar_for_close_paren : Text → Fault
@@ -78,7 +71,7 @@ mode_changed t = record { reach = reach_of t; kind = changing_unicode_mode_unsup
 abbrev pub group_not_named : Text → Fault
 group_not_named t = record { reach = reach_of t + 1; kind = invalid_group_name }
 
--- a reference, call or condition's target that does not read: at the reference's place
+-- a reference, call or condition's target that does not read: at the reference
 abbrev pub reference_not_read : ℕ → Fault
 reference_not_read p = record { reach = p; kind = invalid_group_name }
 
@@ -129,13 +122,13 @@ code_of_no_character h = record { reach = h; kind = invalid_codepoint_value }
 
 -- the end of the text in a class
 abbrev pub class_not_closed : Fault
-class_not_closed = record { reach = 1; kind = invalid_class }
+class_not_closed = record { reach = at_end; kind = invalid_class }
 
 -- a backslash and a digit in a class
 abbrev pub number_in_class : ℕ → Fault
 number_in_class p = record { reach = p; kind = invalid_class }
 
--- ---- references, once the whole text was read: each at its reference's place
+-- ---- references, once the whole text was read: each at its reference
 
 -- a back reference by a name whose last group opens at it or behind it
 abbrev pub name_of_later_group : Text → Kind

@@ -2,8 +2,7 @@
 use Rattle.std.specs.Prelude.{◌≡◌, ◌≢◌, ℕ, Bool, true, ◌||◌, ◌==◌, [], ◌∷◌, ◌++◌, ◌⊎◌, codes}
 use Prim.Native.Char.{code}
 use Rattle.fancy_lex.specs.Characters.{line_feed, hash, close_paren, backslash}
-use Rattle.fancy_lex.specs.FaultTable.{end_in_comment, end_behind_backslash}
-use Rattle.fancy_lex.specs.Text.{Text}
+use Rattle.fancy_lex.specs.Text.{Text, at_end, past_end}
 
 -- a space, CR, LF or TAB
 abbrev pub is_blank : ℕ → Bool
@@ -63,8 +62,8 @@ pub record Before (x : Bool) (t v : Text) : Type 0 where
 
 -- a comment's inside that does not end: all of the text, or all but an unpaired backslash
 pub data OpenComment : Text → ℕ → Type 0 where
-  at_end : {t : Text} → InComment t → OpenComment t end_in_comment
-  after_backslash : {p : ℕ} {t : Text} (i : Text) → t ≡ i ++ (backslash ∷ []) → p ≡ end_behind_backslash →
+  to_end : {t : Text} → InComment t → OpenComment t at_end
+  after_backslash : {p : ℕ} {t : Text} (i : Text) → t ≡ i ++ (backslash ∷ []) → p ≡ past_end →
       InComment i → OpenComment t p
 
 -- the layout at `t` holds an unclosed comment, with its fault at the reach p

@@ -2,9 +2,8 @@
 use Rattle.std.specs.Prelude.{ℕ, Bool, ◌&&◌, ◌||◌, ◌==◌, if◌then◌else◌, [], ◌∷◌, option_and_then, Option, Some, None}
 use Rattle.std.specs.Prelude.{is_some}
 use Rattle.fancy_lex.specs.Characters.{line_feed, hash, open_paren, close_paren, question_mark, backslash}
-use Rattle.fancy_lex.specs.FaultTable.{end_in_comment, end_behind_backslash}
 use Rattle.fancy_lex.specs.Layout.{is_blank}
-use Rattle.fancy_lex.specs.Text.{Text, strip}
+use Rattle.fancy_lex.specs.Text.{Text, strip, at_end, past_end}
 
 -- what a reader of layout answers: the rest of the text, or the reach of the fault
 pub data Skipped : Type 0 where
@@ -46,12 +45,12 @@ layout_from x two [] = rest []
 layout_from x two (c ∷ t) = layout_from x one t
 layout_from x one [] = rest []
 layout_from x one (c ∷ t) = layout_from x comment t
-layout_from x comment [] = fault end_in_comment
+layout_from x comment [] = fault at_end
 layout_from x comment (c ∷ t) =
     if c == close_paren then layout_from x between t
     else if c == backslash then layout_from x escaped t
     else layout_from x comment t
-layout_from x escaped [] = fault end_behind_backslash
+layout_from x escaped [] = fault past_end
 layout_from x escaped (c ∷ t) = layout_from x comment t
 layout_from x line [] = rest []
 layout_from x line (c ∷ t) = if c == line_feed then layout_from x between t else layout_from x line t

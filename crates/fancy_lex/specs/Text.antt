@@ -18,9 +18,17 @@ bytes [] = 0
 bytes (c ∷ t) = len_utf8 c + bytes t
 
 -- the reach of the place where `t` begins: how many bytes lie from there to one past the end of the pattern, which
--- `t` ends. It is 1 at the end, and 0 one past it.
+-- `t` ends
 abbrev pub reach_of : Text → ℕ
 reach_of t = bytes t + 1
+
+-- the reach of the end of a pattern
+abbrev pub at_end : ℕ
+at_end = 1
+
+-- the reach of one past the end of a pattern
+abbrev pub past_end : ℕ
+past_end = 0
 
 -- the place of this reach in a pattern of n bytes
 abbrev pub place_at : ℕ → ℕ → ℕ
@@ -54,4 +62,4 @@ BeginsWith t front = (w : Text) × (t ≡ front ++ w)
 pub data Stands (told : ℕ) (t : Text) (reach : ℕ) : Type 0 where
   as_told : reach ≡ told → Stands told t reach
   begins : (u : Text) → EndsWith t u → reach ≡ reach_of u → Stands told t reach
-  past_end : reach ≡ 0 → Stands told t reach
+  beyond : reach ≡ past_end → Stands told t reach

@@ -1,5 +1,5 @@
 //! Classes: what stands behind an opening bracket, and the text that is written for it.
-ghost use Rattle.std.specs.Prelude.{◌≡◌, ℕ, ◌+◌, ◌/◌, ◌%◌, ◌^◌, ◌<◌, ◌≤◌, ◌||◌, ◌++◌, length, chars, IfErr, IfOk, OnOk};
+ghost use Rattle.std.specs.Prelude.{◌≡◌, ◌+◌, ◌/◌, ◌%◌, ◌^◌, ◌<◌, ◌≤◌, ◌||◌, ◌++◌, length, chars, IfErr, IfOk, OnOk};
 ghost use Rattle.fancy_lex.specs.Class as spec;
 ghost use Rattle.fancy_lex.specs.EscapeViews.{escape_of, delegate_text};
 ghost use Rattle.fancy_lex.specs.Property.{is_negated_set};
@@ -11,7 +11,7 @@ use crate::error::{Failure, ParseError};
 use crate::escape::{DelegateText, Escaped, escape};
 use crate::flags::Flags;
 use crate::property::{is_negated, push_property};
-use crate::text::{after, append, next, push, reach};
+use crate::text::{AT_END, after, append, next, push};
 use std::alloc::{AllocError, Global};
 
 /// Whether the character stands behind a backslash in a class.
@@ -175,7 +175,7 @@ fn read_class(alloc: Global, text: &str, flags: Flags) -> Result<(String, &str),
     let mut seen = false;
     while let Some((c, behind)) = next(rest) {
         if c == '\\' {
-            let (escaped, after) = escape(alloc, behind, flags, true, reach(rest))?;
+            let (escaped, after) = escape(alloc, behind, flags, true)?;
             seen = push_escape(&mut out, escaped, seen)?;
             rest = after;
             continue;
@@ -194,7 +194,7 @@ fn read_class(alloc: Global, text: &str, flags: Flags) -> Result<(String, &str),
             outer -= 1;
         }
     }
-    Err(Failure::At(1, ParseError::InvalidClass))
+    Err(Failure::At(AT_END, ParseError::InvalidClass))
 }
 
 /// Reads a class behind its opening bracket, in the text with which the pattern ends: the text that is written for it,

@@ -1,5 +1,5 @@
 //! Why a pattern is refused.
-ghost use Rattle.std.specs.Prelude.{◌≡◌, ◌++◌, ◌<◌, ◌^◌, false, IfOk, IsOk, Some};
+ghost use Rattle.std.specs.Prelude.{◌≡◌, ◌++◌, chars, false, IfOk, IsOk, Some};
 ghost use Rattle.fancy_lex.specs.Fault.{kind_text, carries_text};
 ghost use Rattle.fancy_lex.specs.ErrorViews.{kind_of, error_text, error_in, SameError, error_carries_text};
 
@@ -27,20 +27,20 @@ pub enum Error {
 /// Why a reader stops: the pattern's fault, or that memory was refused.
 #[derive(Debug, Drop)]
 pub enum Failure {
-    /// The fault's reach, which is 0 one past the end of the pattern and 1 at its end, and what is wrong there.
+    /// The pattern's fault: its reach, which is how many bytes lie from its place to one past the end of the pattern,
+    /// and what is wrong there.
     At(usize, ParseError),
     /// Memory was refused. It says nothing of the pattern.
     OutOfMemory,
 }
 
 impl Failure {
-    /// The error of a reader in a pattern of `end` bytes.
-    pub fn in_pattern(self, end: usize) -> Error
-        requires { end < 2 ^ 63 }
-        ensures { result ≡ error_in end self }
+    /// The error of a reader in this pattern.
+    pub fn in_pattern(self, pattern: &str) -> Error
+        ensures { result ≡ error_in (chars pattern.now) self }
     {
         match self {
-            Failure::At(reach, kind) => Error::ParseError(place_at(end, reach), kind),
+            Failure::At(reach, kind) => Error::ParseError(place_at(pattern, reach), kind),
             Failure::OutOfMemory => Error::OutOfMemory,
         }
     }

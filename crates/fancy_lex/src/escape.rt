@@ -16,7 +16,7 @@ use crate::escape::reference::{back_reference, group_number, numbered_reference,
 use crate::flags::Flags;
 use crate::name::target::{Call, Reference};
 use crate::property::{Property, PropertyName, read_property};
-use crate::text::{next, push};
+use crate::text::{next, push, reach_before};
 use std::alloc::{AllocError, Global};
 
 pub mod boundary;
@@ -284,10 +284,10 @@ fn word_boundary(c: char, boundary: Assertion, flags: Flags) -> Escaped<'static>
 
 /// What the letter stands for behind a backslash, in a class and outside, where it is all of the escape.
 #[inline(always)]
-#[tactic(auto, unfolding(crate::specs::Escape::escape))]
+#[tactic(auto, unfolding(crate::specs::Escape::escape_at))]
 fn lone_anywhere(c: char, flags: Flags) -> Option<Escaped<'static>>
     ensures lone { IfSome result (λ e. (inside : Bool) (p : ℕ) (t : Text) →
-        spec.escape flags inside p (c ∷ t) ≡ gives (escape_of e) t) }
+        spec.escape_at flags inside p (c ∷ t) ≡ gives (escape_of e) t) }
     ensures other { result ≡ None → spec.is_lone_anywhere c ≡ false }
 {
     match c {
@@ -353,9 +353,9 @@ fn lone_outside(c: char, flags: Flags) -> Option<Escaped<'static>>
 #[inline(always)]
 fn lone_escape(c: char, flags: Flags, inside: bool) -> Option<Escaped<'static>>
     ensures lone { IfSome result (λ e. (p : ℕ) (t : Text) →
-        spec.escape flags inside p (c ∷ t) ≡ gives (escape_of e) t) }
+        spec.escape_at flags inside p (c ∷ t) ≡ gives (escape_of e) t) }
     ensures unknown { result ≡ None → spec.reads_on inside c ≡ false → (p : ℕ) (t : Text) →
-        spec.escape flags inside p (c ∷ t) ≡ spec.unknown_escape p c }
+        spec.escape_at flags inside p (c ∷ t) ≡ spec.unknown_escape p c }
 {
     if is_itself(c, inside) {
         return Some(literal(c));
@@ -367,9 +367,9 @@ fn lone_escape(c: char, flags: Flags, inside: bool) -> Option<Escaped<'static>>
     }
 }
 
-/// Reads what stands behind a backslash.
+/// Reads what stands behind the backslash at this reach.
 #[inline(never)]
-#[tactic(auto, unfolding(crate::specs::Escape::escape, crate::specs::Escape::outside))]
+#[tactic(auto, unfolding(crate::specs::Escape::escape_at, crate::specs::Escape::outside))]
 fn read_escape<'a>(
     alloc: Global,
     text: &'a str,
@@ -377,7 +377,7 @@ fn read_escape<'a>(
     inside: bool,
     reach: usize,
 ) -> Result<(Escaped<'a>, &'a str), Failure>
-    ensures value { Answers escape_of result (spec.escape flags inside reach (chars text.now)) }
+    ensures value { Answers escape_of result (spec.escape_at flags inside reach (chars text.now)) }
     ensures shorter { IfOk result (λ p. length p.1.now < length text.now) }
 {
     let Some((c, rest)) = next(text) else {
@@ -411,14 +411,14 @@ fn short_call(text: &str) -> Option<(Escaped<'_>, &str)>
     Some((Escaped::SubroutineCall(call), rest))
 }
 
-/// The escape at the front, behind a backslash outside a class, where a look ahead reads
-/// all of it, and what follows it: a character alone, a code of so many digits with no layout before them, a property
-/// of one character, a reference or a call.
+/// The escape at the front, behind a backslash outside a class, where a look ahead reads all of it, and what follows
+/// it: a character alone, a code of so many digits with no layout before them, a property of one character, a
+/// reference or a call.
 #[inline(always)]
-#[tactic(auto, unfolding(crate::specs::Escape::escape, crate::specs::Escape::outside, crate::specs::Escape::number_escape))]
+#[tactic(auto, unfolding(crate::specs::Escape::escape_at, crate::specs::Escape::outside, crate::specs::Escape::number_escape))]
 pub fn short_escape(text: &str, flags: Flags) -> Option<(Escaped<'_>, &str)>
-    ensures value { IfSome result (λ p. (q : ℕ) →
-        spec.escape flags false q (chars text.now) ≡ gives (escape_of p.0) (chars p.1.now)) }
+    ensures value { IfSome result (λ p.
+        spec.escape flags false (chars text.now) ≡ gives (escape_of p.0) (chars p.1.now)) }
     ensures shorter { IfSome result (λ p. length p.1.now < length text.now) }
 {
     let (c, rest) = next(text)?;
@@ -437,9 +437,9 @@ pub fn short_escape(text: &str, flags: Flags) -> Option<(Escaped<'_>, &str)>
     Some((leaf, rest))
 }
 
-/// Reads what stands behind the backslash at this reach, in a class where `inside` says so.
+/// Reads what stands behind a backslash, in a class where `inside` says so.
 ///
-/// The faults, at the backslash where no other place is named: TrailingBackslash at the end of the text; InvalidEscape
+/// The faults, at the backslash where nothing else is named: TrailingBackslash at the end of the text; InvalidEscape
 /// for a letter that is no escape, for a `g` at the end of the text, and for a boundary's braces that are not closed or
 /// hold no name; UnclosedUnicodeName for a property's; InvalidClass for digits in a class; InvalidBackref at the first
 /// of digits whose number no word holds; those of `hex` behind `x`, `u` and `U`; those of `back_reference` behind `k`,
@@ -450,12 +450,11 @@ pub fn escape<'a>(
     text: &'a str,
     flags: Flags,
     inside: bool,
-    reach: usize,
 ) -> Result<(Escaped<'a>, &'a str), Failure>
-    ensures value { Answers escape_of result (spec.escape flags inside reach (chars text.now)) }
+    ensures value { Answers escape_of result (spec.escape flags inside (chars text.now)) }
     ensures cut { IfOk result (λ p. EndsWith (chars text.now) (chars p.1.now)) }
-    ensures place { (m : ℕ) → reach ≤ m → length text.now + 1 ≤ m → IfErr result (λ e. StandsWithin m e) }
+    ensures place { IfErr result (λ e. StandsWithin (length text.now + 2) e) }
     ensures shorter { IfOk result (λ p. length p.1.now < length text.now) }
 {
-    read_escape(alloc, text, flags, inside, reach)
+    read_escape(alloc, text, flags, inside, reach_before(text))
 }

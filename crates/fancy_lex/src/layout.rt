@@ -1,5 +1,5 @@
 //! Layout: the comments and blanks between the parts of a pattern.
-ghost use Rattle.std.specs.Prelude.{◌≡◌, ℕ, ◌+◌, ◌<◌, ◌≤◌, ◌^◌, Bool, length, chars, MatchResult, IfOk, IfErr, IfSome, option_map, false};
+ghost use Rattle.std.specs.Prelude.{◌≡◌, ℕ, ◌<◌, ◌≤◌, Bool, length, chars, MatchResult, IfOk, IfErr, IfSome, option_map, false};
 ghost use Rattle.fancy_lex.specs.Text.{Text, EndsWith};
 ghost use Rattle.fancy_lex.specs.Layout as relation;
 ghost use Rattle.fancy_lex.specs.LayoutSteps as spec;
@@ -8,13 +8,7 @@ ghost use Rattle.fancy_lex.specs.Views.{Skips, skipped_of};
 ghost use Rattle.fancy_lex.specs.Reading.{layout_reading, ReadsRest};
 
 use crate::error::{Failure, ParseError};
-use crate::text::{after, next};
-
-/// The reach of the end of the pattern.
-const AT_END: usize = 1;
-
-/// The reach of the byte past it.
-const PAST_END: usize = 0;
+use crate::text::{AT_END, PAST_END, after, next};
 
 /// Reads a comment behind its `(?#`: the text behind it, or the reach of its fault.
 #[tactic(auto, using(crate::proofs::LayoutLemmas::layout_steps))]
@@ -140,9 +134,9 @@ fn read_layout(text: &str, ignore_space: bool) -> Result<&str, usize>
     }
 }
 
-/// Reads the layout at the front of `text`, with which the pattern ends: the text behind it. Where a comment in it is not
-/// closed, the error is the reach of that fault: of the pattern's end, or of the byte past it where the pattern ends with
-/// a backslash that guards nothing.
+/// Reads the layout at the front of `text`, with which the pattern ends: the text behind it. Where a comment in it is
+/// not closed, the error is the reach of that fault: `AT_END`, or `PAST_END` where the pattern ends with a backslash
+/// that guards nothing.
 #[inline]
 pub fn layout(text: &str, ignore_space: bool) -> Result<&str, usize>
     ensures value { spec.layout ignore_space (chars text.now) ≡ skipped_of result }
@@ -166,7 +160,7 @@ pub fn past_layout(text: &str, ignore_space: bool) -> Option<&str>
     layout(text, ignore_space).ok()
 }
 
-/// The layout at the front, as `layout` reads it, with the fault as an error: UnclosedOpenParen at its place.
+/// The layout at the front, as `layout` reads it, with the fault as an error: UnclosedOpenParen at its reach.
 #[inline]
 pub fn skip(text: &str, ignore_space: bool) -> Result<&str, Failure>
     ensures value { ReadsRest result (layout_reading (spec.layout ignore_space (chars text.now))) }

@@ -1,5 +1,5 @@
 //! Steps over the text, which allocate nothing, and strings that grow.
-ghost use Rattle.std.specs.Prelude.{◌≡◌, ◌+◌, ◌<◌, ◌≤◌, ◌^◌, [], ◌∷◌, ◌++◌, length, chars, MatchOption, IfSome, option_map, is_ok, if◌then◌else◌};
+ghost use Rattle.std.specs.Prelude.{◌≡◌, ◌+◌, ◌<◌, ◌≤◌, [], ◌∷◌, ◌++◌, length, chars, MatchOption, IfSome, option_map, is_ok, if◌then◌else◌};
 ghost use Rattle.std.specs.Str.{bytes_eq};
 ghost use Rattle.fancy_lex.specs.Text.{Text, bytes, cut_at, strip, strip_word, place_at, reach_of, text_of};
 ghost use Rattle.fancy_lex.specs.Views.{parts};
@@ -60,8 +60,14 @@ pub fn is_same_text(a: &str, b: &str) -> bool
     a == b
 }
 
-/// The reach of the place where `text` begins, at the end of a pattern: how many bytes lie from there to one past the
-/// end. It is 1 at the end.
+/// The reach of the end of a pattern.
+pub const AT_END: usize = 1;
+
+/// The reach of one past the end of a pattern.
+pub const PAST_END: usize = 0;
+
+/// The reach of the place where `text` begins, with which a pattern ends: how many bytes lie from there to one past
+/// the end.
 #[inline]
 pub fn reach(text: &str) -> usize
     ensures { result ≡ reach_of (chars text.now) }
@@ -77,13 +83,12 @@ pub fn reach_before(text: &str) -> usize
     text.len() + 2
 }
 
-/// The place of this reach in a pattern of `end` bytes.
+/// The place of this reach in the pattern.
 #[inline]
-pub fn place_at(end: usize, reach: usize) -> usize
-    requires { end < 2 ^ 63 }
-    ensures { result ≡ place_at end reach }
+pub fn place_at(pattern: &str, reach: usize) -> usize
+    ensures { result ≡ place_at (bytes (chars pattern.now)) reach }
 {
-    (end + 1).saturating_sub(reach)
+    (pattern.len() + 1).saturating_sub(reach)
 }
 
 /// The slice of `text` before `rest`, with which it ends.

@@ -29,7 +29,7 @@ use Rattle.fancy_syntax.specs.declared.grammar.step.Step.TheVariants as step
 -- what is open
 pub data OpenPart : Type 0 where
   top : OpenPart  -- the whole text
-  group : Head → ℕ → OpenPart  -- a group that opens at the place
+  group : Head → ℕ → OpenPart  -- a group that opens at the reach
   condition : OpenPart  -- the condition of a conditional
   body : Tree → ℕ → OpenPart  -- the body of a conditional of this condition, which began where so many bytes were left
   first : OpenPart  -- the branch behind `(?~|`
@@ -37,7 +37,7 @@ pub data OpenPart : Type 0 where
 
 abbrev pub part_of : Opener → OpenPart
 part_of opener.Top = top
-part_of (opener.Group head place) = group (head_of head) place
+part_of (opener.Group head reach) = group (head_of head) reach
 part_of opener.Condition = condition
 part_of (opener.Body c left) = body (view c.value) left
 part_of opener.First = first

@@ -60,13 +60,13 @@ Walks r k before l after P =
 
 -- the tree is a node as it is read: a capturing group, or a reference
 abbrev pub is_node_read : Tree → Bool
-is_node_read (leaf (label.ast_node r place)) = true
-is_node_read (over (label.ast_group name place) t) = true
+is_node_read (leaf (label.ast_node r reach)) = true
+is_node_read (over (label.ast_group name reach) t) = true
 is_node_read _ = false
 
 -- the tree is a capturing group as it is read
 abbrev pub is_group_read : Tree → Bool
-is_group_read (over (label.ast_group name place) t) = true
+is_group_read (over (label.ast_group name reach) t) = true
 is_group_read _ = false
 
 -- a node that is read is a reference, and no group
@@ -89,26 +89,27 @@ number_meant k p role target =
 
 -- the walk with a reference noted
 abbrev pub noted_one : Known → Progress → ℕ → Role → CaptureGroupTarget → walk.Progress
-noted_one k p place role target =
-    walk.note_reference (known_of k) (progress_of p) place (role_of role) (view_target target)
+noted_one k p reach role target =
+    walk.note_reference (known_of k) (progress_of p) reach (role_of role) (view_target target)
 
 -- the walk with what the form of a reference says noted
 abbrev pub form_noted : Known → Progress → ℕ → Role → CaptureGroupTarget → walk.Progress
-form_noted k p place role target = record (progress_of p) {
-  numeric = p.numeric || is_numeric (chars k.pattern.now) (place_at (bytes (chars k.pattern.now)) place)
-      (role_of role) (view_target target);
+form_noted k p reach role target = record (progress_of p) {
+  numeric = p.numeric
+      || is_numeric (chars k.pattern.now) (place_at (bytes (chars k.pattern.now)) reach) (role_of role)
+      (view_target target);
   calls = p.calls || spec.is_call (role_of role);
   self_recursive = p.self_recursive || spec.is_call_of_all (role_of role) (view_target target);
 }
 
 -- the walk with what the meaning of a reference says noted
 abbrev pub meaning_noted : Known → Progress → ℕ → Role → Meaning → walk.Progress
-meaning_noted k p place role m =
+meaning_noted k p reach role m =
     let total = (groups_of k.groups).total in let number = spec.back_number (role_of role) (meaning_of m) in
     record (progress_of p) {
       backrefs = walk.with_backref total p.backrefs.keys number;
       out_of_range = walk.or_else p.out_of_range (walk.number_above total number);
-      fault = fault_or (meaning_of m) place None;
+      fault = fault_or (meaning_of m) reach None;
     }
 
 -- the marks that the end of the walk says, given the groups that have a number and whether these are the named ones

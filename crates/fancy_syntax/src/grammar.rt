@@ -27,8 +27,8 @@ use fancy_lex::flags::Flags;
 use fancy_lex::text::{after, next, reach};
 use std::alloc::Global;
 
-/// Reads a whole text: its raw tree, in which a capturing group is an AstNode with the place of its parenthesis.
-/// Else the fault of the text, or OutOfMemory.
+/// Reads a whole text: its raw tree, in which a capturing group is an AstNode with the reach of its parenthesis. Else
+/// the fault of the text, or OutOfMemory.
 pub(crate) fn parse(alloc: Global, text: &str, flags: Flags) -> Result<Expr, Failure>
     ensures reads { ReadsWhole result flags (chars text.now) }
 {

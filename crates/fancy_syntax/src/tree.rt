@@ -87,7 +87,7 @@ impl Expr {
         let flags = Flags::from_bits(flags);
         match read(alloc, re, flags) {
             Ok(tree) => Ok(tree),
-            Err(failure) => Err(failure.in_pattern(re.len())),
+            Err(failure) => Err(failure.in_pattern(re)),
         }
     }
 
@@ -116,8 +116,8 @@ impl Expr {
 /// Reads the pattern: its tree, or its fault with the reach of that.
 fn read(alloc: Global, re: &str, flags: Flags) -> std::result::Result<ExprTree, Failure>
     ensures found { IfOk result (λ t. IsTreeOf flags (chars re.now) (view t.expr) (marks_of t)) }
-    ensures fault { IfErr result (λ e. IsOnlyFault (error_in (bytes (chars re.now)) e) flags (chars re.now)) }
-    ensures place { IfErr result (λ e. IsPlacedIn (error_in (bytes (chars re.now)) e) re.now) }
+    ensures fault { IfErr result (λ e. IsOnlyFault (error_in (chars re.now) e) flags (chars re.now)) }
+    ensures place { IfErr result (λ e. IsPlacedIn (error_in (chars re.now) e) re.now) }
 {
     let raw = parse(alloc, re, flags)?;
     resolve(alloc, raw, re, flags)

@@ -8,7 +8,8 @@ use Rattle.fancy_lex.specs.BoundarySteps.{boundary, named_boundary, name}
 use Rattle.std.specs.Char.{is_ascii_digit}
 use Rattle.fancy_lex.specs.Characters.{backslash, open_bracket, close_bracket, caret, open_brace, ◌∈◌}
 use Rattle.fancy_lex.specs.Class.{class_from, class, class_head, with_mark, escape_in_class, is_negated}
-use Rattle.fancy_lex.specs.Escape.{escape, backref_leaf, number_escape, call_escape, property, outside, in_class}
+use Rattle.fancy_lex.specs.Escape.{escape, escape_at, backref_leaf, number_escape, call_escape, property, outside}
+use Rattle.fancy_lex.specs.Escape.{in_class}
 use Rattle.fancy_lex.specs.Escape.{is_itself}
 use Rattle.fancy_lex.specs.EscapeReference as reference
 use Rattle.fancy_lex.specs.EscapeReference.{group_number}
@@ -100,11 +101,12 @@ hex_too u i w t =
     too_then (layout_reading (layout false t)) _ _
     (λ _ v. too_then (value false (reach_of v) w v) _ _ (λ a r. coded_too u i w (reach_of v) a r))
 
-escape_too : (u i : Bool) (p : ℕ) (t : Text) →
-    Too (escape (unicode_flags false) true p t) (escape (case_flags u i) true p t)
-unfolding escape in_class
-escape_too u i p [] = tt
-escape_too u i p (c ∷ t) =
+escape_too : (u i : Bool) (t : Text) →
+    Too (escape (unicode_flags false) true t) (escape (case_flags u i) true t)
+unfolding escape_at in_class
+escape_too u i [] = tt
+escape_too u i (c ∷ t) =
+    let p = reach_of (c ∷ t) + 1 in
     too_if (is_ascii_digit c) _ _ _ _ (number_escape_too p (c ∷ t) _)
     (too_if (c ∈ "dDsSwW") _ _ _ _ (_, refl)
     (too_if (c ∈ "h") _ _ _ _ (_, refl)
@@ -207,25 +209,25 @@ module _ (u i : Bool) where
         (more depth seen seen' (class_head out t).0 (class_head out' t).0 (c ∷ v))
 
   inner_carries : (k : ℕ) → ItemsCarry k →
-      (depth : ℕ) (seen seen' : Bool) (out out' t : Text) (p : ℕ) (q : Text → ℕ)
-      → Carries k (escape (unicode_flags false) true p t >=>
+      (depth : ℕ) (seen seen' : Bool) (out out' t : Text)
+      → Carries k (escape (unicode_flags false) true t >=>
       (λ e v. class_from (unicode_flags false) k depth (seen || is_negated e) (out ++ escape_in_class seen e) v))
-      (λ j s. escape (case_flags u i) true (q s) (t ++ s) >=>
+      (λ j s. escape (case_flags u i) true (t ++ s) >=>
       (λ e v. class_from (case_flags u i) j depth (seen' || is_negated e) (out' ++ escape_in_class seen' e) v))
-  inner_carries k more depth seen seen' out out' t p q =
-      by_escape (escape (unicode_flags false) true p t) (escape_too u i p t) where
-        by_escape : (o : Reading Escape) → Too o (escape (case_flags u i) true p t)
+  inner_carries k more depth seen seen' out out' t =
+      by_escape (escape (unicode_flags false) true t) (escape_too u i t) where
+        by_escape : (o : Reading Escape) → Too o (escape (case_flags u i) true t)
             → Carries k (o >=>
             (λ e v. class_from (unicode_flags false) k depth (seen || is_negated e)
             (out ++ escape_in_class seen e) v))
-            (λ j s. escape (case_flags u i) true (q s) (t ++ s) >=>
+            (λ j s. escape (case_flags u i) true (t ++ s) >=>
             (λ e v. class_from (case_flags u i) j depth (seen' || is_negated e)
             (out' ++ escape_in_class seen' e) v))
         by_escape (gives e v) (x, h) =
             carry_same k _ (λ j s. class_from (case_flags u i) j depth (seen' || is_negated x)
             (out' ++ escape_in_class seen' x) (v ++ s)) _
             (λ j s. ap (λ o. o >=> (λ e v. class_from (case_flags u i) j depth (seen' || is_negated e)
-            (out' ++ escape_in_class seen' e) v)) (escape_frame (case_flags u i) p (q s) t v s x h))
+            (out' ++ escape_in_class seen' e) v)) (escape_frame (case_flags u i) t v s x h))
             (more depth (seen || is_negated e) (seen' || is_negated x) (out ++ escape_in_class seen e)
             (out' ++ escape_in_class seen' x) v)
         by_escape (fails e) h = tt
@@ -238,7 +240,7 @@ module _ (u i : Bool) where
       let more = items_carry k in
       carry_step k _
       (λ j s.
-      if c == backslash then escape (case_flags u i) true (reach_of (c ∷ (t ++ s))) (t ++ s) >=>
+      if c == backslash then escape (case_flags u i) true (t ++ s) >=>
       (λ e v. class_from (case_flags u i) j depth (seen' || is_negated e) (out' ++ escape_in_class seen' e) v)
       else if c == open_bracket then class_from (case_flags u i) j (depth + 1) seen'
       (class_head out' (t ++ s)).0 (class_head out' (t ++ s)).1
@@ -248,7 +250,7 @@ module _ (u i : Bool) where
       else class_from (case_flags u i) j depth seen' (out' ++ c ∷ []) (t ++ s))
       _ (λ j s. refl)
       (carry_if k (c == backslash) _ _ _ _
-      (inner_carries k more depth seen seen' out out' t _ (λ s. reach_of (c ∷ (t ++ s))))
+      (inner_carries k more depth seen seen' out out' t)
       (carry_if k (c == open_bracket) _ _ _ _ (open_carries k more (depth + 1) seen seen' out out' t)
       (carry_if k (c == close_bracket) _ _ _ _
       (carry_if k (depth == 0) _ _ _ _ (out' ++ c ∷ [], λ j s l. refl)
@@ -385,8 +387,8 @@ module _ (u i : Bool) where
     )
 
   escape_keeps : (p : ℕ) (t : Text) →
-      Keeps (escape (unicode_flags false) false p t) (λ q s. escape (case_flags u i) false q (t ++ s))
-  unfolding escape number_escape
+      Keeps (escape_at (unicode_flags false) false p t) (λ q s. escape_at (case_flags u i) false q (t ++ s))
+  unfolding escape_at number_escape
   escape_keeps p [] = tt
   escape_keeps p (c ∷ t) =
       keep_if (is_ascii_digit c) _ _ _ _
@@ -408,10 +410,10 @@ module _ (u i : Bool) where
       (keep_if (is_itself false c) _ _ _ _ tt
       (keep_none _ _ (outside_none false false p c t)))))))))))))))))
 
-  pub escape_carries : (p : ℕ) (t w v : Text) (b : Bool) →
-      escape (unicode_flags false) false p t ≡ gives (delegate w b) v
-      → (x : Text) × (c : Bool)
-      × ((q : ℕ) (s : Text) →
-      escape (case_flags u i) false q (t ++ s) ≡ gives (delegate x c) (v ++ s))
-  escape_carries p t w v b e =
-      subst (λ o. Keeps o (λ q s. escape (case_flags u i) false q (t ++ s))) e (escape_keeps p t)
+  pub escape_carries : (t w v : Text) (b : Bool) → escape (unicode_flags false) false t ≡ gives (delegate w b) v →
+      (x : Text) × (c : Bool)
+      × ((s : Text) → escape (case_flags u i) false (t ++ s) ≡ gives (delegate x c) (v ++ s))
+  escape_carries t w v b e =
+      let (x, c, same) = subst (λ o. Keeps o (λ q s. escape_at (case_flags u i) false q (t ++ s))) e
+      (escape_keeps (reach_of t + 1) t) in
+      (x, c, λ s. same (reach_of (t ++ s) + 1) s)

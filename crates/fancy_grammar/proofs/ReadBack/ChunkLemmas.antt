@@ -11,7 +11,7 @@ use Rattle.std.specs.Str.{all_scalars, bytes_eq}
 use Prim.Native.Char.{code}
 use Rattle.fancy_lex.specs.Characters.{caret, ◌∈◌}
 use Rattle.fancy_lex.specs.Class.{class_head, is_plain_in_class, byte_text, upper_hex_digit}
-use Rattle.fancy_lex.specs.Escape.{escape, number_escape, property, in_class, is_itself}
+use Rattle.fancy_lex.specs.Escape.{escape, escape_at, number_escape, property, in_class, is_itself}
 use Rattle.fancy_lex.specs.Escaped.{Escape, literal, literal_bytes, delegate}
 use Rattle.fancy_lex.specs.Fault.{invalid_class, invalid_codepoint_value, unclosed_unicode_name}
 use Rattle.fancy_lex.specs.Hex as hexes
@@ -87,9 +87,9 @@ caret_chunk w c = record {
 
 -- an escape that is read whatever follows it
 escape_chunk : (w : Text) (e : Escape) → all_scalars w ≡ true →
-    ((p : ℕ) (s : Text) → escape (unicode_flags false) true p (w ++ s) ≡ gives e s) → Chunk (code "\\" ∷ w)
+    ((s : Text) → escape (unicode_flags false) true (w ++ s) ≡ gives e s) → Chunk (code "\\" ∷ w)
 escape_chunk w e k h = record {
-  goes = λ s v g. pass_escape (w ++ s) s v e (h (reach_of (code "\\" ∷ (w ++ s))) s) g;
+  goes = λ s v g. pass_escape (w ++ s) s v e (h s) g;
   no_caret = λ s. refl;
   no_close = λ s. refl;
   scalars = k;
@@ -181,68 +181,68 @@ abbrev pub prop : Bool → PropertyName → Property
 prop b name = record { negated = b; name = name }
 
 -- in a class or outside
-module _ (p : ℕ) (inside : Bool) where
+module _ (inside : Bool) where
   pub single_small : (c : ℕ) (s : Text) → (c == code "{") ≡ false →
-      escape (unicode_flags false) inside p (code "p" ∷ c ∷ s) ≡ gives
+      escape (unicode_flags false) inside (code "p" ∷ c ∷ s) ≡ gives
       (delegate (property_text false inside (prop false (single c))) false) s
-  unfolding escape property read_property name_at
+  unfolding escape_at property read_property name_at
   single_small c s h = rw h refl
 
   pub single_large : (c : ℕ) (s : Text) → (c == code "{") ≡ false →
-      escape (unicode_flags false) inside p (code "P" ∷ c ∷ s) ≡ gives
+      escape (unicode_flags false) inside (code "P" ∷ c ∷ s) ≡ gives
       (delegate (property_text false inside (prop true (single c))) false) s
-  unfolding escape property read_property name_at
+  unfolding escape_at property read_property name_at
   single_large c s h = rw h refl
 
   pub braced_small : (w s : Text) → IsName w →
-      escape (unicode_flags false) inside p (code "p" ∷ code "{" ∷ (w ++ code "}" ∷ s)) ≡ gives
+      escape (unicode_flags false) inside (code "p" ∷ code "{" ∷ (w ++ code "}" ∷ s)) ≡ gives
       (delegate (property_text false inside (prop false (braced w))) false) s
-  unfolding escape property read_property name_at
+  unfolding escape_at property read_property name_at
   braced_small w s h = rw (cut_back w s h) refl
 
   pub braced_large : (w s : Text) → IsName w →
-      escape (unicode_flags false) inside p (code "P" ∷ code "{" ∷ (w ++ code "}" ∷ s)) ≡ gives
+      escape (unicode_flags false) inside (code "P" ∷ code "{" ∷ (w ++ code "}" ∷ s)) ≡ gives
       (delegate (property_text false inside (prop true (braced w))) false) s
-  unfolding escape property read_property name_at
+  unfolding escape_at property read_property name_at
   braced_large w s h = rw (cut_back w s h) refl
 
 single_chunk : (b : Bool) (c : ℕ) → (c == code "{") ≡ false → IsScalar c → Chunk (letter b ++ c ∷ [])
 single_chunk false c h k = escape_chunk (code "p" ∷ c ∷ []) _ (and_from _ true k refl)
-    (λ p s. single_small p true c s h)
+    (λ s. single_small true c s h)
 single_chunk true c h k = escape_chunk (code "P" ∷ c ∷ []) _ (and_from _ true k refl)
-    (λ p s. single_large p true c s h)
+    (λ s. single_large true c s h)
 
 small_chunk : (w : Text) → IsName w → Chunk (code "\\" ∷ code "p" ∷ code "{" ∷ (w ++ code "}" ∷ []))
 small_chunk w h =
     escape_chunk (code "p" ∷ code "{" ∷ (w ++ code "}" ∷ [])) _
     (scalars_append w (code "}" ∷ []) (name_scalars w h) refl)
-    (λ p s. ap (λ z. escape (unicode_flags false) true p (code "p" ∷ code "{" ∷ z))
+    (λ s. ap (λ z. escape (unicode_flags false) true (code "p" ∷ code "{" ∷ z))
     (append_assoc w (code "}" ∷ []) s)
-    ∙ braced_small p true w s h)
+    ∙ braced_small true w s h)
 
 large_chunk : (w : Text) → IsName w → Chunk (code "\\" ∷ code "P" ∷ code "{" ∷ (w ++ code "}" ∷ []))
 large_chunk w h =
     escape_chunk (code "P" ∷ code "{" ∷ (w ++ code "}" ∷ [])) _
     (scalars_append w (code "}" ∷ []) (name_scalars w h) refl)
-    (λ p s. ap (λ z. escape (unicode_flags false) true p (code "P" ∷ code "{" ∷ z))
+    (λ s. ap (λ z. escape (unicode_flags false) true (code "P" ∷ code "{" ∷ z))
     (append_assoc w (code "}" ∷ []) s)
-    ∙ braced_large p true w s h)
+    ∙ braced_large true w s h)
 
 -- closed escapes
 letter_chunks : Each (λ c. Chunk (code "\\" ∷ c ∷ [])) (codes "dDsSwWtnvfr")
-unfolding escape
+unfolding escape_at
 letter_chunks =
-    also (escape_chunk (code "d" ∷ []) _ refl (λ p s. refl))
-    (also (escape_chunk (code "D" ∷ []) _ refl (λ p s. refl))
-    (also (escape_chunk (code "s" ∷ []) _ refl (λ p s. refl))
-    (also (escape_chunk (code "S" ∷ []) _ refl (λ p s. refl))
-    (also (escape_chunk (code "w" ∷ []) _ refl (λ p s. refl))
-    (also (escape_chunk (code "W" ∷ []) _ refl (λ p s. refl))
-    (also (escape_chunk (code "t" ∷ []) _ refl (λ p s. refl))
-    (also (escape_chunk (code "n" ∷ []) _ refl (λ p s. refl))
-    (also (escape_chunk (code "v" ∷ []) _ refl (λ p s. refl))
-    (also (escape_chunk (code "f" ∷ []) _ refl (λ p s. refl))
-    (also (escape_chunk (code "r" ∷ []) _ refl (λ p s. refl)) no_more))))))))))
+    also (escape_chunk (code "d" ∷ []) _ refl (λ s. refl))
+    (also (escape_chunk (code "D" ∷ []) _ refl (λ s. refl))
+    (also (escape_chunk (code "s" ∷ []) _ refl (λ s. refl))
+    (also (escape_chunk (code "S" ∷ []) _ refl (λ s. refl))
+    (also (escape_chunk (code "w" ∷ []) _ refl (λ s. refl))
+    (also (escape_chunk (code "W" ∷ []) _ refl (λ s. refl))
+    (also (escape_chunk (code "t" ∷ []) _ refl (λ s. refl))
+    (also (escape_chunk (code "n" ∷ []) _ refl (λ s. refl))
+    (also (escape_chunk (code "v" ∷ []) _ refl (λ s. refl))
+    (also (escape_chunk (code "f" ∷ []) _ refl (λ s. refl))
+    (also (escape_chunk (code "r" ∷ []) _ refl (λ s. refl)) no_more))))))))))
 
 pub letter_chunk : (c : ℕ) → c ∈ "dDsSwWtnvfr" ≡ true → Chunk (code "\\" ∷ c ∷ [])
 letter_chunk c h = each_among (λ c. Chunk (code "\\" ∷ c ∷ [])) (codes "dDsSwWtnvfr") c letter_chunks h
@@ -284,10 +284,9 @@ hex_some a b s h k =
     let (e, q) = coded_some (reach_of t) ((0 * 16 + a) * 16 + b) s (omega arith) in
     (e, rw (no_layout t (not_open _ _ (hex_paren a h)), digits_read a b s h k) q)
 
-hex_escape : (p : ℕ) (t : Text) →
-    escape (unicode_flags false) true p (code "x" ∷ t) ≡ hex (unicode_flags false) 2 t
-unfolding escape
-hex_escape p t = refl
+hex_escape : (t : Text) → escape (unicode_flags false) true (code "x" ∷ t) ≡ hex (unicode_flags false) 2 t
+unfolding escape_at
+hex_escape t = refl
 
 pub byte_chunk : (v : ℕ) → nat_le v 0xFF ≡ true → Chunk (byte_text v)
 byte_chunk v h =
@@ -298,7 +297,7 @@ byte_chunk v h =
       goes =
           λ s r g. let (e, q) = hex_some (v / 16) (v % 16) s a b in
           pass_escape (code "x" ∷ upper_hex_digit (v / 16) ∷ upper_hex_digit (v % 16) ∷ s) s r e
-          (hex_escape _ _ ∙ q) g;
+          (hex_escape _ ∙ q) g;
       no_caret = λ s. refl;
       no_close = λ s. refl;
       scalars = and_from _ _ (hex_scalar (v / 16) a) (and_from _ true (hex_scalar (v % 16) b) refl);
@@ -481,11 +480,11 @@ set_letter c h = grind (arith, nat_tests)
 pub hex_word : Chunk (codes "0-9A-Fa-f")
 hex_word = word_chunk (code "0") (codes "-9A-Fa-f") refl refl refl refl
 
-pub escape_fine : (u i : Bool) (p : ℕ) (t : Text) → all_scalars t ≡ true →
-    FineOf (escape (case_flags u i) true p t)
-unfolding escape in_class
-escape_fine u i p [] k = tt
-escape_fine u i p (c ∷ t) k =
+pub escape_fine : (u i : Bool) (t : Text) → all_scalars t ≡ true → FineOf (escape (case_flags u i) true t)
+unfolding escape_at in_class
+escape_fine u i [] k = tt
+escape_fine u i (c ∷ t) k =
+    let p = reach_of (c ∷ t) + 1 in
     let (here, more) = and_parts _ (all_scalars t) k in
     fine_if (is_ascii_digit c) _ _ (λ _. number_escape_fine p (case_flags u i) (c ∷ t))
     (fine_if (c ∈ "dDsSwW") (gives (delegate (code "\\" ∷ c ∷ []) i) t) _ (λ e. letter_chunk c (set_letter c e))

@@ -7,10 +7,10 @@ use Rattle.std.specs.Str.{all_scalars}
 use Prim.Native.Char.{code}
 use Rattle.fancy_lex.specs.Class.{Class, class_items, ClassItems, close, plain, escaped, nested, written, class_head}
 use Rattle.fancy_lex.specs.Class.{escape_in_class, is_negated, is_plain_in_class, needs_backslash_in_class, char_text}
-use Rattle.fancy_lex.specs.Escape.{escape}
+use Rattle.fancy_lex.specs.Escape.{escape, escape_at}
 use Rattle.fancy_lex.specs.Escaped.{Escape, literal, literal_bytes, delegate}
 use Rattle.fancy_lex.specs.Reading.{gives}
-use Rattle.fancy_lex.specs.Text.{Text, reach_of, strip}
+use Rattle.fancy_lex.specs.Text.{Text, strip}
 use Rattle.fancy_grammar.specs.Normal.{unicode_flags}
 use Rattle.fancy_grammar.proofs.ReadBack.ClearLemmas.{apart, Each, no_more, also, each_among}
 use Rattle.fancy_grammar.proofs.ReadBack.ScalarLemmas.{scalars_append}
@@ -30,8 +30,7 @@ pub pass_plain : (c : ℕ) (s v : Text) → is_plain_in_class c ≡ true → Goe
 pass_plain c s v p g b = let (y, a, h) = g b in (c ∷ y, a, plain p h)
 
 pub pass_escape : (t s v : Text) (e : Escape) →
-    escape (unicode_flags false) true (reach_of (code "\\" ∷ t)) t ≡ gives e s → Goes s v →
-    Goes (code "\\" ∷ t) v
+    escape (unicode_flags false) true t ≡ gives e s → Goes s v → Goes (code "\\" ∷ t) v
 pass_escape t s v e q g b = let (y, a, h) = g (b || is_negated e) in (escape_in_class b e ++ y, a, escaped q h)
 
 pub pass_nested : (t s v : Text) → ClassGoes t s → Goes s v → Goes (code "[" ∷ t) v
@@ -81,22 +80,22 @@ abbrev class_marks : Text
 class_marks = codes "\\.+*?()|[]{}^$#&-~"
 
 abbrev Escapes : ℕ → Type 0
-Escapes c = (p : ℕ) (s : Text) → escape (unicode_flags false) true p (c ∷ s) ≡ gives (literal c false) s
+Escapes c = (s : Text) → escape (unicode_flags false) true (c ∷ s) ≡ gives (literal c false) s
 
 escapes_marks : Each Escapes class_marks
-unfolding escape
+unfolding escape_at
 escapes_marks =
-    also (λ p s. refl) (also (λ p s. refl) (also (λ p s. refl) (also (λ p s. refl)
-    (also (λ p s. refl) (also (λ p s. refl) (also (λ p s. refl) (also (λ p s. refl)
-    (also (λ p s. refl) (also (λ p s. refl) (also (λ p s. refl) (also (λ p s. refl)
-    (also (λ p s. refl) (also (λ p s. refl) (also (λ p s. refl) (also (λ p s. refl)
-    (also (λ p s. refl) (also (λ p s. refl) no_more)))))))))))))))))
+    also (λ s. refl) (also (λ s. refl) (also (λ s. refl) (also (λ s. refl)
+    (also (λ s. refl) (also (λ s. refl) (also (λ s. refl) (also (λ s. refl)
+    (also (λ s. refl) (also (λ s. refl) (also (λ s. refl) (also (λ s. refl)
+    (also (λ s. refl) (also (λ s. refl) (also (λ s. refl) (also (λ s. refl)
+    (also (λ s. refl) (also (λ s. refl) no_more)))))))))))))))))
 
 mark_chunk : (c : ℕ) → IsScalar c → needs_backslash_in_class c ≡ true → Chunk (code "\\" ∷ c ∷ [])
 mark_chunk c k h =
     record {
       goes = λ s v g. pass_escape (c ∷ s) s v (literal c false)
-          (each_among Escapes class_marks c escapes_marks h (reach_of (code "\\" ∷ c ∷ s)) s) g;
+          (each_among Escapes class_marks c escapes_marks h s) g;
       no_caret = λ s. refl;
       no_close = λ s. refl;
       scalars = and_from _ true k refl;

@@ -7,7 +7,7 @@ use Rattle.std.proofs.lemmas.Bool.{or_parts, or_cases, cond_both, both_ways, fal
 use Rattle.std.proofs.lemmas.Option.{same_Some}
 use Prim.Native.Char.{code}
 use Rattle.fancy_lex.specs.Characters.{is_among, ◌∈◌, bar}
-use Rattle.fancy_lex.specs.Escape.{escape}
+use Rattle.fancy_lex.specs.Escape.{escape, escape_at}
 use Rattle.fancy_lex.specs.Escaped as escaped
 use Rattle.fancy_lex.specs.LayoutSteps.{layout, after_comment_head, rest}
 use Rattle.fancy_lex.specs.Reading.{gives}
@@ -136,27 +136,27 @@ behind_none c =
 
 -- what is printed behind a backslash is read as the character
 abbrev pub Escapes : ℕ → ℕ → Type 0
-Escapes x c = (f : Flags) (p : ℕ) (t : Text) → escape f false p (x ∷ t) ≡ gives (escaped.literal c false) t
+Escapes x c = (f : Flags) (t : Text) → escape f false (x ∷ t) ≡ gives (escaped.literal c false) t
 
 escapes_marks : Each (λ m. Escapes m m) marks_with_backslash
-unfolding escape
+unfolding escape_at
 escapes_marks =
-    also (λ f p t. refl) (also (λ f p t. refl) (also (λ f p t. refl) (also (λ f p t. refl)
-    (also (λ f p t. refl) (also (λ f p t. refl) (also (λ f p t. refl) (also (λ f p t. refl)
-    (also (λ f p t. refl) (also (λ f p t. refl) (also (λ f p t. refl) (also (λ f p t. refl)
-    (also (λ f p t. refl) (also (λ f p t. refl) (also (λ f p t. refl) no_more))))))))))))))
+    also (λ f t. refl) (also (λ f t. refl) (also (λ f t. refl) (also (λ f t. refl)
+    (also (λ f t. refl) (also (λ f t. refl) (also (λ f t. refl) (also (λ f t. refl)
+    (also (λ f t. refl) (also (λ f t. refl) (also (λ f t. refl) (also (λ f t. refl)
+    (also (λ f t. refl) (also (λ f t. refl) (also (λ f t. refl) no_more))))))))))))))
 
 escapes_n : Escapes (code "n") (code "\n")
-unfolding escape
-escapes_n f p t = refl
+unfolding escape_at
+escapes_n f t = refl
 
 escapes_t : Escapes (code "t") (code "\t")
-unfolding escape
-escapes_t f p t = refl
+unfolding escape_at
+escapes_t f t = refl
 
 escapes_r : Escapes (code "r") (code "\r")
-unfolding escape
-escapes_r f p t = refl
+unfolding escape_at
+escapes_r f t = refl
 
 pub behind_some : (c x : ℕ) → behind_backslash c ≡ Some x → Escapes x c
 behind_some c x =

@@ -1,12 +1,12 @@
 -- What a printable Delegate's text is read as is printable again.
 use Rattle.std.proofs.Common.{◌≡◌, ◌≢◌, ℕ, Bool, true, false, ◌==◌, ◌&&◌, if◌then◌else◌, [], ◌∷◌, ◌++◌, codes, Option}
 use Rattle.std.proofs.Common.{Some, None, is_some, option_map, ◌⊎◌, inl, inr, refl, sym, ap, ◌∙◌, subst, append-nil}
-use Rattle.std.proofs.Common.{ne_eqb}
+use Rattle.std.proofs.Common.{ne_eqb, ◌+◌}
 use Rattle.std.proofs.lemmas.Bool.{and_from, and_parts, cases_eq, false≢true}
 use Rattle.std.specs.Str.{all_scalars}
 use Rattle.fancy_lex.specs.Characters.{◌∈◌}
 use Rattle.fancy_lex.specs.Class.{class, OuterClass}
-use Rattle.fancy_lex.specs.Escape.{escape, number_escape, property, is_itself}
+use Rattle.fancy_lex.specs.Escape.{escape, escape_at, number_escape, property, is_itself}
 use Rattle.fancy_lex.specs.EscapeReference.{numbered_reference}
 use Rattle.fancy_lex.specs.Escaped as escaped
 use Rattle.fancy_lex.specs.Escaped.{Escape}
@@ -50,9 +50,7 @@ class_whole t k g =
     (class_complete (unicode_flags false) t _ h))
 
 escape_whole : (t w : Text) (b : Bool) → all_scalars t ≡ true →
-    escape (unicode_flags false) false (reach_of (code "\\" ∷ t)) t
-    ≡ gives (escaped.delegate w b) [] →
-    IsWhole (code "\\" ∷ t)
+    escape (unicode_flags false) false t ≡ gives (escaped.delegate w b) [] → IsWhole (code "\\" ∷ t)
 unfolding class_of
 escape_whole t w b k e =
     and_from (all_scalars (code "\\" ∷ t)) _ k
@@ -100,20 +98,20 @@ small_whole : (w : Text) → IsName w → IsWhole (code "\\" ∷ code "p" ∷ co
 small_whole w h =
     escape_whole (code "p" ∷ code "{" ∷ (w ++ code "}" ∷ [])) _ _
     (scalars_append w (code "}" ∷ []) (name_scalars w h) refl)
-    (braced_small _ false w [] h)
+    (braced_small false w [] h)
 
 large_whole : (w : Text) → IsName w → IsWhole (code "\\" ∷ code "P" ∷ code "{" ∷ (w ++ code "}" ∷ []))
 large_whole w h =
     escape_whole (code "P" ∷ code "{" ∷ (w ++ code "}" ∷ [])) _ _
     (scalars_append w (code "}" ∷ []) (name_scalars w h) refl)
-    (braced_large _ false w [] h)
+    (braced_large false w [] h)
 
 single_whole : (b : Bool) (c : ℕ) → (c == code "{") ≡ false → IsScalar c → IsWhole (letter b ++ c ∷ [])
-single_whole false c h k = escape_whole (code "p" ∷ c ∷ []) _ _ (and_from _ true k refl) (single_small _ false c [] h)
-single_whole true c h k = escape_whole (code "P" ∷ c ∷ []) _ _ (and_from _ true k refl) (single_large _ false c [] h)
+single_whole false c h k = escape_whole (code "p" ∷ c ∷ []) _ _ (and_from _ true k refl) (single_small false c [] h)
+single_whole true c h k = escape_whole (code "P" ∷ c ∷ []) _ _ (and_from _ true k refl) (single_large false c [] h)
 
 letters_whole : Each (λ c. IsWhole (code "\\" ∷ c ∷ [])) (codes "dDsSwW")
-unfolding class_of escape
+unfolding class_of escape_at
 letters_whole = also refl (also refl (also refl (also refl (also refl (also refl no_more)))))
 
 letter_whole : (c : ℕ) → c ∈ "dDsSwW" ≡ true → IsWhole (code "\\" ∷ c ∷ [])
@@ -161,11 +159,11 @@ unfolding property read_property
 outside_property u i p c [] h = tt
 outside_property u i p c (d ∷ t) h = read_whole u i p (c ∈ "P") (name_at (d ∷ t)) (name_ok d t h)
 
-outside_whole : (u i : Bool) (p : ℕ) (t : Text) → all_scalars t ≡ true →
-    WholeOf (escape (case_flags u i) false p t)
-unfolding escape number_escape
-outside_whole u i p [] k = tt
-outside_whole u i p (c ∷ t) k =
+outside_whole : (u i : Bool) (t : Text) → all_scalars t ≡ true → WholeOf (escape (case_flags u i) false t)
+unfolding escape_at number_escape
+outside_whole u i [] k = tt
+outside_whole u i (c ∷ t) k =
+    let p = reach_of (c ∷ t) + 1 in
     let f = case_flags u i in
     whole_if (is_ascii_digit c) (number_escape f false p (c ∷ t)) _
     (λ _. whole_none _ (backref_leaf_none f (numbered_reference (c ∷ t))))
@@ -205,10 +203,9 @@ escape_stays : (u i : Bool) (t : Text) → IsWhole (code "\\" ∷ t) →
 escape_stays u i t h =
     let (k, whole) = and_parts (all_scalars (code "\\" ∷ t)) _ h in
     let (w, b, e) = escape_read t whole in
-    let p = reach_of (code "\\" ∷ t) in
-    let (x, c, same) = escape_carries u i p t w [] b e in
-    ap printable (escape_normal u i t x c (same p []))
-    ∙ subst WholeOf (same p []) (outside_whole u i p (t ++ []) (scalars_append t [] k refl))
+    let (x, c, same) = escape_carries u i t w [] b e in
+    ap printable (escape_normal u i t x c (same []))
+    ∙ subst WholeOf (same []) (outside_whole u i (t ++ []) (scalars_append t [] k refl))
 
 no_class : {X : Type 0} (s : Text) → false ≡ is_some (class_of (unicode_flags false) s) → IsWhole s → X
 no_class s e h = absurd (false≢true (e ∙ (and_parts (all_scalars s) _ h).1))

@@ -8,7 +8,7 @@ use Rattle.fancy_lex.specs.Escape.{escape}
 use Rattle.fancy_lex.specs.Escaped as escaped
 use Rattle.fancy_lex.specs.Escaped.{Escape}
 use Rattle.fancy_lex.specs.Reading.{Reading, gives, fails}
-use Rattle.fancy_lex.specs.Text.{Text, reach_of}
+use Rattle.fancy_lex.specs.Text.{Text}
 use Rattle.fancy_grammar.specs.Ahead.{leaf, leaf_node, leaf_outcome}
 use Rattle.fancy_grammar.specs.State.{State, Outcome}
 use Rattle.fancy_grammar.specs.Tree.{Tree, delegate}
@@ -82,25 +82,21 @@ escape_whole s (fails e) h = absurd (false≢true h)
 
 pub escape_read : (t : Text) → is_some (class_of (unicode_flags false) (code "\\" ∷ t)) ≡ true
     → (w : Text) × (b : Bool)
-    × (escape (unicode_flags false) false (reach_of (code "\\" ∷ t)) t
-    ≡ gives (escaped.delegate w b) [])
+    × (escape (unicode_flags false) false t ≡ gives (escaped.delegate w b) [])
 unfolding class_of
 escape_read t h = escape_whole (st (unicode_flags false) (code "\\" ∷ t)) _ h
 
 pub escape_normal : (u i : Bool) (t x : Text) (b : Bool) →
-    escape (case_flags u i) false (reach_of (code "\\" ∷ t))
-    (t ++ []) ≡ gives
-    (escaped.delegate x b) []
+    escape (case_flags u i) false (t ++ []) ≡ gives (escaped.delegate x b) []
     → normal u (delegate (code "\\" ∷ t) i) ≡ delegate x b
 unfolding class_of
 escape_normal u i t x b e =
     ap (λ o. unwrap_or (whole_leaf (leaf_outcome leaf_node (st (case_flags u i) (code "\\" ∷ t)) o))
     (delegate (code "\\" ∷ t) i))
-    (ap (escape (case_flags u i) false (reach_of (code "\\" ∷ t)))
-    (sym (append-nil t)) ∙ e)
+    (ap (escape (case_flags u i) false) (sym (append-nil t)) ∙ e)
 
 escape_atom : (d : ℕ) (u i : Bool) (t x v : Text) (b : Bool) →
-    escape (case_flags u i) false (reach_of (code "\\" ∷ (t ++ v))) (t ++ v) ≡ gives (escaped.delegate x b) v
+    escape (case_flags u i) false (t ++ v) ≡ gives (escaped.delegate x b) v
     → AtomAs d (case_flags u i) (code "\\" ∷ (t ++ v)) v (delegate x b)
 escape_atom d u i t x v b e =
     let g = case_flags u i in
@@ -113,13 +109,12 @@ escape_text : (t : Text) → is_some (class_of (unicode_flags false) (code "\\" 
     DelegateText (code "\\" ∷ t)
 escape_text t h =
     let (w, b, e) = escape_read t h in
-    let p0 = reach_of (code "\\" ∷ t) in
     record {
       reads = λ d u i v.
-          let (x, c, same) = escape_carries u i p0 t w [] b e in
+          let (x, c, same) = escape_carries u i t w [] b e in
           subst (AtomAs d (case_flags u i) (code "\\" ∷ (t ++ v)) v)
-          (sym (escape_normal u i t x c (same p0 [])))
-          (escape_atom d u i t x v c (same (reach_of (code "\\" ∷ (t ++ v))) v));
+          (sym (escape_normal u i t x c (same [])))
+          (escape_atom d u i t x v c (same v));
       begins = λ v. begins_by refl refl refl;
     }
 

@@ -4,7 +4,7 @@ use Rattle.std.proofs.Common.{None, refl, ap, ◌∙◌, arith, ne_eqb}
 use Rattle.std.proofs.lemmas.Bool.{cond-false}
 use Prim.Native.Char.{code}
 use Rattle.fancy_lex.specs.BoundarySteps.{boundary, named_boundary, name}
-use Rattle.fancy_lex.specs.Escape.{escape, outside}
+use Rattle.fancy_lex.specs.Escape.{escape, escape_at, outside}
 use Rattle.fancy_lex.specs.Escaped as escaped
 use Rattle.fancy_lex.specs.LayoutSteps.{after_comment_head, layout_from}
 use Rattle.fancy_lex.specs.Reading.{gives}
@@ -216,12 +216,12 @@ end_line d u r v l =
 
 -- an escape that is a leaf
 reads_assertion_escape : (d : ℕ) (u : Bool) (t v : Text) (a : Assertion) →
-    ((p : ℕ) → escape (unicode_flags u) false p t ≡ gives (escaped.assertion a) v) →
+    escape (unicode_flags u) false t ≡ gives (escaped.assertion a) v →
     AtomAs d (unicode_flags u) (code "\\" ∷ t) v (assertion a)
 reads_assertion_escape d u t v a e =
     reads_leaf d (unicode_flags u) (code "\\" ∷ t) v (assertion a)
     (leaf_at d (unicode_flags u) (code "\\") t refl refl
-    ∙ ap (λ r. leaf (leaf_outcome leaf_node (st (unicode_flags u) (code "\\" ∷ t)) r)) (e (reach_of (code "\\" ∷ t))))
+    ∙ ap (λ r. leaf (leaf_outcome leaf_node (st (unicode_flags u) (code "\\" ∷ t)) r)) e)
     (record { is = λ n g. refl; groups = tt })
 
 half_start : (p : ℕ) (v : Text) →
@@ -238,25 +238,25 @@ half_end : (p : ℕ) (v : Text) →
 unfolding boundary named_boundary name layout_from
 half_end p v = refl
 
-boundary_escape : (u : Bool) (p : ℕ) (t : Text) →
-    escape (unicode_flags u) false p (code "b" ∷ t) ≡ boundary false p false t
-unfolding escape outside
-boundary_escape u p t = refl
+boundary_escape : (u : Bool) (t : Text) →
+    escape (unicode_flags u) false (code "b" ∷ t) ≡ boundary false (reach_of (code "b" ∷ t) + 1) false t
+unfolding escape_at outside
+boundary_escape u t = refl
 
-no_boundary_escape : (u : Bool) (p : ℕ) (t : Text) →
-    escape (unicode_flags u) false p (code "B" ∷ t) ≡ boundary false p true t
-unfolding escape outside
-no_boundary_escape u p t = refl
+no_boundary_escape : (u : Bool) (t : Text) →
+    escape (unicode_flags u) false (code "B" ∷ t) ≡ boundary false (reach_of (code "B" ∷ t) + 1) true t
+unfolding escape_at outside
+no_boundary_escape u t = refl
 
-left_escape : (u : Bool) (p : ℕ) (t : Text) →
-    escape (unicode_flags u) false p (code "<" ∷ t) ≡ gives (escaped.assertion LeftWordBoundary) t
-unfolding escape outside
-left_escape u p t = refl
+left_escape : (u : Bool) (t : Text) →
+    escape (unicode_flags u) false (code "<" ∷ t) ≡ gives (escaped.assertion LeftWordBoundary) t
+unfolding escape_at outside
+left_escape u t = refl
 
-right_escape : (u : Bool) (p : ℕ) (t : Text) →
-    escape (unicode_flags u) false p (code ">" ∷ t) ≡ gives (escaped.assertion RightWordBoundary) t
-unfolding escape outside
-right_escape u p t = refl
+right_escape : (u : Bool) (t : Text) →
+    escape (unicode_flags u) false (code ">" ∷ t) ≡ gives (escaped.assertion RightWordBoundary) t
+unfolding escape_at outside
+right_escape u t = refl
 
 -- the assertion that is read
 abbrev pub read_assertion : Assertion → Tree
@@ -279,17 +279,17 @@ reads_assertion d u (StartLine crlf) v h l m = start_line d u crlf v l
 reads_assertion d u (StartLineOniguruma crlf) v h l m = start_line d u crlf v l
 reads_assertion d u (EndLine crlf) v h l m = end_line d u crlf v l
 reads_assertion d u WordBoundary v h l m =
-    reads_assertion_escape d u (code "b" ∷ v) v WordBoundary (λ p. boundary_escape u p v ∙ m p false)
+    reads_assertion_escape d u (code "b" ∷ v) v WordBoundary (boundary_escape u v ∙ m _ false)
 reads_assertion d u NotWordBoundary v h l m =
-    reads_assertion_escape d u (code "B" ∷ v) v NotWordBoundary (λ p. no_boundary_escape u p v ∙ m p true)
+    reads_assertion_escape d u (code "B" ∷ v) v NotWordBoundary (no_boundary_escape u v ∙ m _ true)
 reads_assertion d u LeftWordBoundary v h l m =
-    reads_assertion_escape d u (code "<" ∷ v) v LeftWordBoundary (λ p. left_escape u p v)
+    reads_assertion_escape d u (code "<" ∷ v) v LeftWordBoundary (left_escape u v)
 reads_assertion d u RightWordBoundary v h l m =
-    reads_assertion_escape d u (code ">" ∷ v) v RightWordBoundary (λ p. right_escape u p v)
+    reads_assertion_escape d u (code ">" ∷ v) v RightWordBoundary (right_escape u v)
 reads_assertion d u LeftWordHalfBoundary v h l m =
-    reads_assertion_escape d u _ v LeftWordHalfBoundary (λ p. boundary_escape u p _ ∙ half_start p v)
+    reads_assertion_escape d u _ v LeftWordHalfBoundary (boundary_escape u _ ∙ half_start _ v)
 reads_assertion d u RightWordHalfBoundary v h l m =
-    reads_assertion_escape d u _ v RightWordHalfBoundary (λ p. boundary_escape u p _ ∙ half_end p v)
+    reads_assertion_escape d u _ v RightWordHalfBoundary (boundary_escape u _ ∙ half_end _ v)
 
 begins_line : (c : ℕ) (r : Bool) (v : Text) → Begins (put_line c r v)
 begins_line c false v = begins_by refl refl refl

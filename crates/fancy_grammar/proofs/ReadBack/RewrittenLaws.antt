@@ -178,10 +178,10 @@ head_rest : (t head r : Text) → ◌≡◌ {A = Text × Text} (class_head [] t)
     all_scalars r ≡ true
 head_rest t head r e k = opened_rest t (head, r) (subst (Opened t) e (class_head_is t)) k
 
-escape_rest : (f : Flags) (p : ℕ) (t r : Text) (e : Escape) → escape f true p t ≡ gives e r →
-    all_scalars t ≡ true → all_scalars r ≡ true
-escape_rest f p t r e q k =
-    let (w, cut) = escape_cut f true p t r e q in scalars_behind w r (subst (λ z. all_scalars z ≡ true) cut k)
+escape_rest : (f : Flags) (t r : Text) (e : Escape) → escape f true t ≡ gives e r → all_scalars t ≡ true →
+    all_scalars r ≡ true
+escape_rest f t r e q k =
+    let (w, cut) = escape_cut f true t r e q in scalars_behind w r (subst (λ z. all_scalars z ≡ true) cut k)
 
 mutual
   class_rest : {f : Flags} {b a : Bool} {t x v : Text} → Class f b t (written x a v) → all_scalars t ≡ true →
@@ -192,7 +192,7 @@ mutual
       all_scalars t ≡ true → all_scalars v ≡ true
   items_rest close k = k
   items_rest (plain {c} {t} p h) k = items_rest h (and_parts _ (all_scalars t) k).1
-  items_rest {f} (escaped {t} {u} {e} q h) k = items_rest h (escape_rest f _ t u e q k)
+  items_rest {f} (escaped {t} {u} {e} q h) k = items_rest h (escape_rest f t u e q k)
   items_rest (nested g h) k = items_rest h (class_rest g k)
 
 -- ---- by induction on the derivation
@@ -216,7 +216,7 @@ mutual
   items_again (plain {c} {t} {w} p h) k =
       let (here, more) = and_parts _ (all_scalars t) k in plain_again c t w p here (items_again h more)
   items_again {u} {i} {b} (escaped {t} {u = r} {w} {e} q h) k =
-      escaped_again t r w (escape_in_class b e) (item_chunk b e (from_fine _ e r q (escape_fine u i _ t k)))
-      (items_again h (escape_rest (case_flags u i) _ t r e q k))
+      escaped_again t r w (escape_in_class b e) (item_chunk b e (from_fine _ e r q (escape_fine u i t k)))
+      (items_again h (escape_rest (case_flags u i) t r e q k))
   items_again (nested {t} {u = r} {x} {w} g h) k =
       nested_again t r w x (class_again g k) (items_again h (class_rest g k))

@@ -508,7 +508,7 @@ reads_char d f c v (Some x) e =
     reads_leaf d f (code "\\" ∷ x ∷ v) v (literal (c ∷ []) (f.casei && false))
     (leaf_at d f (code "\\") (x ∷ v) refl refl
     ∙ ap (λ r. leaf (leaf_outcome leaf_node (st f (code "\\" ∷ x ∷ v)) r))
-    (behind_some c x e f (reach_of (code "\\" ∷ x ∷ v)) v)
+    (behind_some c x e f v)
     ∙ ap (λ b. leaf (done (literal (c ∷ []) b) (st f v))) (sym (and-false f.casei)))
     (record { is = λ n g. refl; groups = tt })
 

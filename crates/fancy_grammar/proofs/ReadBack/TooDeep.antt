@@ -32,7 +32,7 @@ use Rattle.fancy_grammar.proofs.ReadBack.RuleLemmas.{fails_first, fails_more, fa
 use Rattle.fancy_grammar.proofs.ReadBack.ShapeLemmas.{Printable, ArePrintable, begins_head, begins_group, begins_atom}
 use Rattle.fancy_grammar.proofs.ReadBack.ShapeLemmas.{begins_repeated, clear_put, clear_puts}
 
--- the text that is left at that place
+-- the text that is left there
 abbrev left_open : ℕ → Text → Text → Text
 left_open d here inner = if nat_le most_open d then here else inner
 

@@ -1,5 +1,5 @@
 //! Word boundaries behind `\b` and `\B`.
-ghost use Rattle.std.specs.Prelude.{◌≡◌, ℕ, ◌+◌, ◌^◌, ◌<◌, ◌≤◌, [], ◌∷◌, ◌++◌, true, length, chars, IfSome, IfErr, IfOk, MatchResult, option_map};
+ghost use Rattle.std.specs.Prelude.{◌≡◌, ℕ, ◌+◌, ◌<◌, ◌≤◌, [], ◌∷◌, ◌++◌, true, length, chars, IfSome, IfErr, IfOk, MatchResult, option_map};
 ghost use Rattle.fancy_lex.specs.Boundary as spec;
 ghost use Rattle.fancy_lex.specs.BoundarySteps as steps;
 ghost use Rattle.fancy_lex.specs.Escaped.{Escape};
@@ -197,9 +197,9 @@ fn read_boundary<'a>(
     named_boundary(alloc, inside, negated, flags.ignore_space, reach)
 }
 
-/// Reads a word boundary behind its letter, `B` where it is negated; its backslash stands at `reach` in a pattern of
-/// `end` bytes. Braces belong to it unless they begin a repeat. UnclosedOpenParen where a comment in its layout is
-/// open; InvalidEscape at it where its braces are not closed, or hold no name of a boundary.
+/// Reads a word boundary behind its letter, `B` where it is negated; its backslash stands at `reach`. Braces belong to
+/// it unless they begin a repeat. UnclosedOpenParen where a comment in its layout is open; InvalidEscape at the
+/// backslash where its braces are not closed, or hold no name of a boundary.
 #[inline]
 pub fn boundary<'a>(
     alloc: Global,

@@ -1,5 +1,5 @@
 //! Hex codes behind `\x`, `\u` and `\U`.
-ghost use Rattle.std.specs.Prelude.{◌≡◌, ℕ, ◌+◌, ◌*◌, ◌-◌, ◌^◌, ◌<◌, ◌≤◌, length, chars, IfSome, IfErr, IfOk, option_map, false, true};
+ghost use Rattle.std.specs.Prelude.{◌≡◌, ℕ, ◌+◌, ◌*◌, ◌-◌, ◌<◌, ◌≤◌, length, chars, IfSome, IfErr, IfOk, option_map, false, true};
 ghost use Rattle.fancy_lex.specs.Characters.{close_brace};
 ghost use Rattle.fancy_lex.specs.Escaped.{Escape};
 ghost use Rattle.fancy_lex.specs.EscapeViews.{escape_of};
@@ -149,9 +149,9 @@ pub(crate) fn short_hex(text: &str, width: u32, flags: Flags) -> Option<(Escaped
     Some((leaf, rest))
 }
 
-/// Reads a hex code behind its letter: layout, then `width` digits, or one to eight in
-/// braces with layout round them. Its faults are at the place behind the first layout: InvalidHex, and
-/// InvalidCodepointValue where the value is no character; or UnclosedOpenParen where a comment in layout is open.
+/// Reads a hex code behind its letter: layout, then `width` digits, or one to eight in braces with layout round them.
+/// Its faults stand behind the first layout: InvalidHex, and InvalidCodepointValue where the value is no character; or
+/// the fault is UnclosedOpenParen where a comment in layout is open.
 #[inline]
 pub fn hex<'a>(text: &'a str, width: u32, flags: Flags) -> Result<(Escaped<'a>, &'a str), Failure>
     requires width { width ≤ 8 }

@@ -1,5 +1,5 @@
 //! References in escapes: what stands behind `\k`, behind `\g`, or behind a backslash in digits.
-ghost use Rattle.std.specs.Prelude.{◌≡◌, ◌<◌, ◌≤◌, false, length, chars, IfOk, IfSome, option_map};
+ghost use Rattle.std.specs.Prelude.{◌≡◌, ◌<◌, false, length, chars, IfOk, IfSome, option_map};
 ghost use Rattle.fancy_lex.specs.EscapeReference as spec;
 ghost use Rattle.fancy_lex.specs.Number.{at_digit};
 ghost use Rattle.fancy_lex.specs.Reading.{Reads, fails};
@@ -15,8 +15,8 @@ use crate::name::number_text::number_text;
 use crate::name::target::{Call, Reference, Target, reference_by_name, target_of_name};
 use crate::text::{next, reach};
 
-/// Reads all the digits at the front, which number a group. The fault is InvalidBackref at
-/// the text's reach, where no digit stands there, or no word holds the number.
+/// Reads all the digits at the front, which number a group. The fault is InvalidBackref at the text's reach, where no
+/// digit stands there, or no word holds the number.
 #[inline(always)]
 #[tactic(auto, unfolding(crate::specs::EscapeReference::group_number))]
 pub(crate) fn group_number(text: &str) -> Result<(usize, &str), Failure>
@@ -31,8 +31,8 @@ pub(crate) fn group_number(text: &str) -> Result<(usize, &str), Failure>
     }
 }
 
-/// Reads a back reference in digits, behind its backslash. Its place is that of the first
-/// digit. The fault is InvalidBackref at the text's reach, where no digit stands there, or no word holds the number.
+/// Reads a back reference in digits, behind its backslash. Its reach is that of the first digit. The fault is
+/// InvalidBackref there, where no digit stands at the front, or no word holds the number.
 #[inline(always)]
 #[tactic(auto, unfolding(crate::specs::EscapeReference::numbered_reference))]
 pub fn numbered_reference(text: &str) -> Result<(Reference<'_>, &str), Failure>
@@ -51,8 +51,8 @@ pub fn numbered_reference(text: &str) -> Result<(Reference<'_>, &str), Failure>
     Ok((reference, rest))
 }
 
-/// Reads a back reference behind `\k`: an id reference between `<` and `>` or between two
-/// `'`. Its place is that of the opening mark, and so is that of the fault: InvalidGroupName where it does not read.
+/// Reads a back reference behind `\k`: an id reference between `<` and `>` or between two `'`. Its reach is that of the
+/// opening mark, and so is that of the fault: InvalidGroupName where it does not read.
 #[inline(always)]
 #[tactic(auto, unfolding(crate::specs::EscapeReference::back_reference))]
 pub fn back_reference(text: &str) -> Result<(Reference<'_>, &str), Failure>
@@ -103,7 +103,7 @@ fn numbered_call(text: &str) -> Result<(Call<'_>, &str), Failure>
     Ok((Call { target, reach }, rest))
 }
 
-/// The call by this name at the place; none where the name is relative and no id reference.
+/// The call by this name at the reach; none where the name is relative and no id reference.
 #[inline(always)]
 #[tactic(auto, unfolding(crate::specs::EscapeReference::written_call))]
 fn written_call(name: &str, reach: usize) -> Option<Call<'_>>
@@ -134,10 +134,9 @@ fn is_at_digit(text: &str) -> bool
     }
 }
 
-/// Reads a call behind `\g`: all the digits there, or a name between `<` and `>` or
-/// between two `'`. Its place is that of the first digit or of the opening mark, and so is that of the fault:
-/// InvalidBackref for digits whose number no word holds; InvalidGroupName where no name reads, or where one that is
-/// relative is no id reference.
+/// Reads a call behind `\g`: all the digits there, or a name between `<` and `>` or between two `'`. Its reach is that
+/// of the first digit or of the opening mark, and so is that of the fault: InvalidBackref for digits whose number no
+/// word holds; InvalidGroupName where no name reads, or where one that is relative is no id reference.
 #[inline(always)]
 #[tactic(auto, unfolding(crate::specs::EscapeReference::subroutine_call))]
 pub fn subroutine_call(text: &str) -> Result<(Call<'_>, &str), Failure>

@@ -82,8 +82,9 @@ fn reference_to(reach: usize, target: Target<'_>, level: Option<isize>) -> Refer
     }
 }
 
-/// The reference at the reach that all of the text writes by a number, alone or with a level behind it; `amounts` allows
-/// the level. None where no number stands at the front, where no word holds it, and where what follows it is no level.
+/// The reference at the reach that all of the text writes by a number, alone or with a level behind it; `amounts`
+/// allows the level. None where no number stands at the front, where no word holds it, and where what follows it is no
+/// level.
 #[inline(always)]
 #[tactic(auto, unfolding(crate::specs::NumberText::whole_number), using(crate::proofs::NumberIds::numbers_written))]
 fn reference_by_number(text: &str, amounts: bool, reach: usize) -> Option<Reference<'_>>

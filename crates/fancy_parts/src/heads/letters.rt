@@ -1,7 +1,7 @@
 //! The letters of a flag group.
-ghost use Rattle.std.specs.Prelude.{◌≡◌, ℕ, ◌+◌, ◌<◌, ◌≤◌, ◌^◌, ◌++◌, ◌∷◌, length, chars, codes, ◌||◌, IfErr, IfOk};
+ghost use Rattle.std.specs.Prelude.{◌≡◌, ℕ, ◌+◌, ◌<◌, ◌++◌, ◌∷◌, length, chars, codes, ◌||◌, IfErr, IfOk};
 ghost use Rattle.fancy_lex.specs.Reading.{Reading, Answers, Reports, Derives};
-ghost use Rattle.fancy_lex.specs.Text.{Text, EndsWith, bytes, text_of};
+ghost use Rattle.fancy_lex.specs.Text.{Text, EndsWith, text_of};
 ghost use Rattle.fancy_lex.specs.ErrorViews.{StandsWithin};
 ghost use Rattle.fancy_parts.specs.FlagLetters as spec;
 ghost use Rattle.fancy_parts.specs.LetterSteps as steps;
@@ -10,7 +10,7 @@ ghost use Rattle.fancy_parts.specs.FlagReads.{letters_of, step_of};
 use fancy_lex::error::{Failure, ParseError};
 use fancy_lex::flags::Flags;
 use fancy_lex::layout::skip;
-use fancy_lex::text::{front, next, reach};
+use fancy_lex::text::{AT_END, front, next, reach};
 use std::alloc::{AllocError, Global};
 
 /// What the letters of a flag group come to.
@@ -116,7 +116,7 @@ fn flag_letter<'a>(
     ensures shorter { IfOk result (λ p. length p.1.now < length here.now) }
 {
     let Some((letter, rest)) = next(here) else {
-        return Err(Failure::At(1, ParseError::UnclosedOpenParen));
+        return Err(Failure::At(AT_END, ParseError::UnclosedOpenParen));
     };
     if letter == ')' {
         if closes_nothing(letters, clears, here) {
@@ -179,10 +179,10 @@ fn read_letters(alloc: Global, text: &str, flags: Flags) -> Result<(Letters, &st
     }
 }
 
-/// Reads the letters of a flag group, which begin behind the `(?`: what they
-/// come to, and the text behind the parenthesis or the colon. UnknownFlag at the first letter for a letter that names
-/// no flag, for a second minus, and where no letter stands before the end; ChangingUnicodeModeUnsupported at a `u` that
-/// is not the mode; UnclosedOpenParen where the text ends, or a comment in layout is open.
+/// Reads the letters of a flag group, which begin behind the `(?`: what they come to, and the text behind the
+/// parenthesis or the colon. UnknownFlag at the first letter for a letter that names no flag, for a second minus, and
+/// where no letter stands before the end; ChangingUnicodeModeUnsupported at a `u` that is not the mode;
+/// UnclosedOpenParen where the text ends, or a comment in layout is open.
 pub fn flag_letters(alloc: Global, text: &str, flags: Flags) -> Result<(Letters, &str), Failure>
     ensures value { Answers letters_of result (steps.letters flags (chars text.now)) }
     ensures derives { Derives letters_of result (spec.FlagGroup flags (chars text.now)) }

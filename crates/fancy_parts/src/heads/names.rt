@@ -23,9 +23,9 @@ fn head_name(text: &str) -> Option<(&str, &str)>
     }
 }
 
-/// Reads the name of a group behind the question mark of its head: one or more characters
-/// as they stand, `<name>`, `'name'` or `P<name>`. The fault is InvalidGroupName at the question mark, where no name or
-/// no closing mark stands there.
+/// Reads the name of a group behind the question mark of its head: one or more characters as they stand, `<name>`,
+/// `'name'` or `P<name>`. The fault is InvalidGroupName at the question mark, where no name or no closing mark stands
+/// there.
 #[tactic(auto, unfolding(crate::specs::GroupName::group_name))]
 pub fn group_name(text: &str) -> Result<(&str, &str), Failure>
     ensures value { Reads (λ s. chars s.now) result (spec.group_name (chars text.now)) }

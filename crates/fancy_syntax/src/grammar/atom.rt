@@ -78,7 +78,6 @@ fn leaf<'a>(alloc: Global, c: char, here: &mut State<'a>, rest: &'a str) -> Resu
     ensures value { GivesTree result (state here.new) (spec.leaf_of (state here.old) c (chars rest.now)) }
     ensures within { IfOk result (λ _. length here.new.rest.now ≤ length rest.now) }
 {
-    let backslash = reach(here.rest);
     here.rest = rest;
     let flags = here.flags;
     match c {
@@ -88,19 +87,19 @@ fn leaf<'a>(alloc: Global, c: char, here: &mut State<'a>, rest: &'a str) -> Resu
         }),
         '^' => Ok(Expr::Assertion(start_anchor(flags))),
         '$' => Ok(Expr::Assertion(end_anchor(flags))),
-        '\\' => escape_leaf(alloc, here, backslash),
+        '\\' => escape_leaf(alloc, here),
         '[' => class_leaf(alloc, here),
         _ => Ok(literal(alloc, c, flags.casei)?),
     }
 }
 
 /// Reads what stands behind a backslash.
-fn escape_leaf(alloc: Global, here: &mut State, backslash: usize) -> Result<Expr, Failure>
+fn escape_leaf(alloc: Global, here: &mut State) -> Result<Expr, Failure>
     ensures value { GivesTree result (state here.new) (spec.leaf_outcome spec.leaf_node (state here.old)
-        (escapes.escape here.old.flags false backslash (chars here.old.rest.now))) }
+        (escapes.escape here.old.flags false (chars here.old.rest.now))) }
     ensures within { IfOk result (λ _. length here.new.rest.now ≤ length here.old.rest.now) }
 {
-    let (escaped, rest) = escape(alloc, here.rest, here.flags, false, backslash)?;
+    let (escaped, rest) = escape(alloc, here.rest, here.flags, false)?;
     here.rest = rest;
     Ok(leaf_node(alloc, escaped)?)
 }

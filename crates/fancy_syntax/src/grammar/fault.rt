@@ -7,11 +7,11 @@ use fancy_lex::error::{Failure, ParseError};
 use std::alloc::Global;
 
 /// The general fault with this message, or that memory ran out.
-pub(crate) fn general(alloc: Global, message: &str, place: usize) -> Failure
-    ensures { IsErrorAt result (spec.general_parse_error (chars message.now)) place }
+pub(crate) fn general(alloc: Global, message: &str, reach: usize) -> Failure
+    ensures { IsErrorAt result (spec.general_parse_error (chars message.now)) reach }
 {
     match String::from_str(alloc, message) {
-        Ok(message) => Failure::At(place, ParseError::GeneralParseError(message)),
+        Ok(message) => Failure::At(reach, ParseError::GeneralParseError(message)),
         Err(refused) => Failure::from(refused),
     }
 }

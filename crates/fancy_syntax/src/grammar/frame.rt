@@ -18,8 +18,8 @@ use std::alloc::{AllocError, Global};
 pub(crate) enum Opener<'a> {
     /// The whole text.
     Top,
-    /// A group that opens at the place.
-    Group { head: Head<'a>, place: usize },
+    /// A group that opens at the reach.
+    Group { head: Head<'a>, reach: usize },
     /// The condition of a conditional.
     Condition,
     /// The body of a conditional of this condition, which began where so many bytes were left.
@@ -64,14 +64,14 @@ impl<'a> Frame<'a> {
         }
     }
 
-    /// Ends the open branch at the bar at the place, and opens what comes next.
+    /// Ends the open branch at the bar at the reach, and opens what comes next.
     ///
     /// Behind the second branch of an absent expression no bar may stand: the general fault, at the bar.
     pub(crate) fn bar(
         &mut self,
         alloc: Global,
         trees: &mut Vec<Expr>,
-        place: usize,
+        reach: usize,
     ) -> Result<(), Failure>
         requires { self.old.pieces ≤ vec_len trees.old }
         ensures opener { (below branches pieces : List Tree) →
@@ -82,7 +82,7 @@ impl<'a> Frame<'a> {
             OnOk result (HoldsTrees self.new (views trees.new.items) below
             (branches_at_bar (part_of self.old.opener) branches (one_or concat pieces)) []) }
         ensures allowed { IfOk result (λ _. is_second (part_of self.old.opener) ≡ false) }
-        ensures fault { (t : _) → place ≡ reach_of t →
+        ensures fault { (t : _) → reach ≡ reach_of t →
             IfErr result (λ e. IsErrorAmong e (IsFaultOfBar (part_of self.old.opener) t)) }
     {
         match &self.opener {
@@ -91,7 +91,7 @@ impl<'a> Frame<'a> {
                 self.opener = Opener::Second(Box::new(alloc, branch)?);
                 Ok(())
             }
-            Opener::Second(_) => Err(general(alloc, "expected close paren", place)),
+            Opener::Second(_) => Err(general(alloc, "expected close paren", reach)),
             _ => Ok(self.end_branch(trees)?),
         }
     }

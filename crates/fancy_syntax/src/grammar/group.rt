@@ -20,7 +20,7 @@ use crate::grammar::group::head::Head;
 use crate::grammar::reference::{backref, condition, subroutine_call};
 use crate::grammar::state::{State, skip_layout};
 use fancy_lex::error::{Failure, ParseError};
-use fancy_lex::text::{after, after_word, next, reach};
+use fancy_lex::text::{AT_END, after, after_word, next, reach};
 use fancy_parts::heads::names::group_name;
 use fancy_parts::heads::references::{
     begins_target, condition_target, named_call, named_reference,
@@ -198,7 +198,7 @@ fn after_tilde<'a>(here: &mut State<'a>) -> Result<Ahead<'a>, Failure>
     ensures something { IfOk result (λ a. IsSomething a) }
 {
     let Some((c, rest)) = next(here.rest) else {
-        return Err(Failure::At(1, ParseError::UnclosedOpenParen));
+        return Err(Failure::At(AT_END, ParseError::UnclosedOpenParen));
     };
     if c == '|' {
         here.rest = rest;
@@ -219,7 +219,7 @@ fn read_condition<'a>(alloc: Global, here: &mut State<'a>) -> Result<Ahead<'a>, 
     ensures something { IfOk result (λ a. IsSomething a) }
 {
     let Some((c, rest)) = next(here.rest) else {
-        return Err(Failure::At(1, ParseError::UnclosedOpenParen));
+        return Err(Failure::At(AT_END, ParseError::UnclosedOpenParen));
     };
     if let Some(definitions) = after_word(here.rest, "DEFINE)") {
         here.rest = definitions;

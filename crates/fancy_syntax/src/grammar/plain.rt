@@ -33,8 +33,8 @@ pub(crate) fn plain<'a>(here: State<'a>) -> Option<(char, &'a str)>
     Some((c, rest))
 }
 
-/// What the escape at the front stands for and what follows it, where a look ahead reads
-/// all of it, with no layout and no quantifier behind it.
+/// What the escape at the front stands for and what follows it, where a look ahead reads all of it, with no layout and
+/// no quantifier behind it.
 #[inline(always)]
 pub(crate) fn plain_escape<'a>(here: State<'a>) -> Option<(Escaped<'a>, &'a str)>
     ensures plain { IfSome result (λ p. IsPlain (state here.entry) (leaf_node (escape_of p.0)) (chars p.1.now)) }

@@ -26,7 +26,7 @@ use crate::grammar::quantified::quantify;
 use crate::grammar::state::{State, skip_layout};
 use fancy_lex::error::{Failure, ParseError};
 use fancy_lex::flags::Flags;
-use fancy_lex::text::{byte_len, next, reach};
+use fancy_lex::text::{AT_END, byte_len, next, reach};
 use std::alloc::{AllocError, Global};
 
 /// What a step reads.
@@ -63,7 +63,7 @@ pub(crate) fn read_step<'a>(
         }
         Ahead::Group(head) => Ok(Step::Open(Opener::Group {
             head,
-            place: reach(before.rest),
+            reach: reach(before.rest),
         })),
         Ahead::Condition => Ok(Step::Open(Opener::Condition)),
         Ahead::Body(condition) => Ok(Step::Open(Opener::Body {
@@ -184,7 +184,7 @@ fn node_of_part(alloc: Global, opener: Opener, inner: Expr) -> Result<Expr, Allo
 {
     match opener {
         Opener::Top | Opener::Condition => Ok(inner),
-        Opener::Group { head, place } => node(alloc, head, place, inner),
+        Opener::Group { head, reach } => node(alloc, head, reach, inner),
         Opener::Body { condition, .. } => conditional(alloc, condition, branches_of(inner)),
         Opener::First => clear_or_stopper(alloc, inner),
         Opener::Second(absent) => {
@@ -206,7 +206,7 @@ pub(crate) fn close_paren(alloc: Global, here: &mut State) -> Result<(), Failure
     ensures shorter { IfOk result (λ _. length here.new.rest.now < length here.old.rest.now) }
 {
     let Some((c, rest)) = next(here.rest) else {
-        return Err(Failure::At(1, ParseError::UnclosedOpenParen));
+        return Err(Failure::At(AT_END, ParseError::UnclosedOpenParen));
     };
     if c != ')' {
         let bar = reach(here.rest);

@@ -10,7 +10,7 @@ use fancy_lex::class::class;
 use fancy_lex::error::Failure;
 use fancy_lex::escape::{Escaped, escape};
 use fancy_lex::flags::Flags;
-use fancy_lex::text::{next, reach_before};
+use fancy_lex::text::next;
 use std::alloc::{AllocError, Global};
 
 /// Whether the text alone, read under no flags, is one whole class or one whole class escape.
@@ -27,7 +27,7 @@ pub(crate) fn is_whole(alloc: Global, text: &str) -> Result<bool, AllocError>
     }
 }
 
-/// Whether a bracket and the text are one whole class, of so many bytes.
+/// Whether a bracket and the text are one whole class.
 fn is_whole_class(alloc: Global, text: &str) -> Result<bool, AllocError>
     ensures { IfOk result (λ b. b ≡ is_some (class_of (unicode_flags false) (open_bracket ∷ chars text.now))) }
 {
@@ -37,11 +37,11 @@ fn is_whole_class(alloc: Global, text: &str) -> Result<bool, AllocError>
     }
 }
 
-/// Whether a backslash and the text are one whole class escape, of so many bytes.
+/// Whether a backslash and the text are one whole class escape.
 fn is_whole_escape(alloc: Global, text: &str) -> Result<bool, AllocError>
     ensures { IfOk result (λ b. b ≡ is_some (class_of (unicode_flags false) (backslash ∷ chars text.now))) }
 {
-    match escape(alloc, text, Flags::from_bits(0), false, reach_before(text)) {
+    match escape(alloc, text, Flags::from_bits(0), false) {
         Ok((leaf, rest)) => Ok(is_class(leaf) && next(rest).is_none()),
         Err(error) => is_no_class(error),
     }

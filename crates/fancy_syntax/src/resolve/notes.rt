@@ -1,8 +1,6 @@
 //! What the second walk knows, and what it notes of each reference.
-ghost use Rattle.std.specs.Prelude.{◌≡◌, ◌<◌, ◌^◌, IfOk, IfErr, Option, Some, chars};
+ghost use Rattle.std.specs.Prelude.{◌≡◌, ◌<◌, ◌^◌, IfOk, IfErr, Option, Some};
 ghost use Rattle.fancy_lex.specs.Fault.{Fault};
-ghost use Rattle.fancy_lex.specs.Text.{bytes};
-ghost use Rattle.fancy_lex.specs.Text as text;
 ghost use Rattle.fancy_parts.specs.Groups.{meaning_of};
 ghost use Rattle.fancy_grammar.specs.Errors.{IsErrorIn};
 ghost use Rattle.fancy_syntax.specs.Notes.{IsErrorNoted, progress_of, number_meant, noted_one, form_noted, meaning_noted};
@@ -90,45 +88,38 @@ impl Progress {
 pub(super) fn refer(
     known: &Known,
     progress: &mut Progress,
-    place: usize,
+    reach: usize,
     role: Role,
     target: &CaptureGroupTarget,
 ) -> Result<Option<usize>, Stopped>
     requires { progress.old.passed < 2 ^ 63 }
     ensures number { IfOk result (λ n. n ≡ number_meant known.now progress.old role target.now) }
     ensures progress { IfOk result
-        (λ _. progress_of progress.new ≡ noted_one known.now progress.old place role target.now) }
+        (λ _. progress_of progress.new ≡ noted_one known.now progress.old reach role target.now) }
     ensures fault { IfErr result
-        (λ _. IsErrorNoted progress.new.error (noted_one known.now progress.old place role target.now).fault) }
+        (λ _. IsErrorNoted progress.new.error (noted_one known.now progress.old reach role target.now).fault) }
     ensures passed { progress.new.passed ≡ progress.old.passed }
 {
     let Ok(meaning) = meaning_behind(&known.groups, progress.passed, role, target) else {
         return Err(progress.stop(Failure::OutOfMemory));
     };
-    note_form(known, progress, place, role, target);
-    note_meaning(known, progress, place, role, meaning)
-}
-
-/// The place of this reach in the pattern.
-pub(super) fn place_in(pattern: &str, reach: usize) -> usize
-    ensures { result ≡ text.place_at (bytes (chars pattern.now)) reach }
-{
-    place_at(pattern.len(), reach)
+    note_form(known, progress, reach, role, target);
+    note_meaning(known, progress, reach, role, meaning)
 }
 
 /// Notes how the reference is written: as a number, as a call, as a call of the whole pattern.
 fn note_form(
     known: &Known,
     progress: &mut Progress,
-    place: usize,
+    reach: usize,
     role: Role,
     target: &CaptureGroupTarget,
 )
     ensures progress { progress_of progress.new
-        ≡ form_noted known.now progress.old place role target.now }
+        ≡ form_noted known.now progress.old reach role target.now }
 {
-    let from_start = place_in(known.pattern, place);
-    if is_numeric(known.pattern, from_start, role, target) {
+    let place = place_at(known.pattern, reach);
+    if is_numeric(known.pattern, place, role, target) {
         progress.numeric = true;
     }
     if let Role::Call = role {
@@ -143,15 +134,15 @@ fn note_form(
 fn note_meaning(
     known: &Known,
     progress: &mut Progress,
-    place: usize,
+    reach: usize,
     role: Role,
     meaning: Meaning,
 ) -> Result<Option<usize>, Stopped>
     ensures number { IfOk result (λ n. n ≡ number_in (meaning_of meaning)) }
     ensures progress { IfOk result
-        (λ _. progress_of progress.new ≡ meaning_noted known.now progress.old place role meaning) }
+        (λ _. progress_of progress.new ≡ meaning_noted known.now progress.old reach role meaning) }
     ensures fault { IfErr result
-        (λ _. IsErrorNoted progress.new.error (meaning_noted known.now progress.old place role meaning).fault) }
+        (λ _. IsErrorNoted progress.new.error (meaning_noted known.now progress.old reach role meaning).fault) }
     ensures passed { progress.new.passed ≡ progress.old.passed }
 {
     match meaning {
@@ -168,6 +159,6 @@ fn note_meaning(
             Ok(Some(number))
         }
         Meaning::Unresolved => Ok(None),
-        Meaning::Faulty(kind) => Err(progress.stop(Failure::At(place, kind))),
+        Meaning::Faulty(kind) => Err(progress.stop(Failure::At(reach, kind))),
     }
 }

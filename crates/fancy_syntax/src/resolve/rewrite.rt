@@ -2,7 +2,8 @@
 //! fault.
 ghost use Rattle.std.specs.Prelude.{◌≡◌, ◌+◌, ◌<◌, ◌^◌, length, true, false, chars};
 ghost use Rattle.fancy_lex.specs.NameViews.{view_target};
-ghost use Rattle.fancy_lex.specs.Text.{bytes, place_at};
+ghost use Rattle.fancy_lex.specs.Text as text;
+ghost use Rattle.fancy_lex.specs.Text.{bytes};
 ghost use Rattle.fancy_grammar.specs.Items.{items, items_all, openings_in};
 ghost use Rattle.fancy_syntax.specs.Notes.{Walks, is_group_read, is_node_read, is_reference, known_of, progress_of, resolved_or};
 ghost use Rattle.fancy_grammar.specs.Tree.{trees_of, ast_node};
@@ -11,9 +12,10 @@ ghost use Rattle.fancy_syntax.specs.View.{view, view_absent, view_ast, views};
 ghost use Rattle.fancy_grammar.specs.Walk.{rebuilt, rebuilt_all};
 
 use crate::expr::{Absent, AstNode, Expr};
-use crate::resolve::notes::{Known, Progress, Stopped, place_in, refer};
+use crate::resolve::notes::{Known, Progress, Stopped, refer};
 use crate::resolve::survey::{is_counted_name, may_hold_items};
 use fancy_lex::name::CaptureGroupTarget;
+use fancy_lex::text::place_at;
 use fancy_parts::ranks::Role;
 use std::mem;
 
@@ -76,7 +78,7 @@ fn rewrite_node(tree: &mut Expr, known: &Known, progress: &mut Progress) -> Resu
         drop(take_target(node));
         mem::forget(mem::replace(tree, resolved));
     } else {
-        *place = place_in(known.pattern, *place);
+        *place = place_at(known.pattern, *place);
     }
     Ok(())
 }
@@ -90,13 +92,13 @@ fn rewrite_group(tree: &mut Expr, known: &Known, progress: &mut Progress) -> Res
     ensures { Walks result (known_of known.now) (progress_of progress.old) (items (view tree.old)) progress.new
         (λ _. view tree.new ≡ rebuilt (known_of known.now) (progress_of progress.old) (view tree.old)) }
 {
-    let Expr::AstNode(node, place) = tree else {
+    let Expr::AstNode(node, reach) = tree else {
         unreachable!();
     };
     // The node is moved alone, and not with its tree; what stands in its place then takes no memory.
     let taken = AstNode::SubroutineCall(CaptureGroupTarget::ByNumber(0));
     let node = mem::replace(node, taken);
-    let resolved = resolve_group(node, *place, known, progress)?;
+    let resolved = resolve_group(node, *reach, known, progress)?;
     mem::forget(mem::replace(tree, resolved));
     Ok(())
 }
@@ -114,20 +116,20 @@ fn take_target(reference: &mut AstNode) -> CaptureGroupTarget
     mem::replace(target, CaptureGroupTarget::ByNumber(0))
 }
 
-/// The capturing group that is read at the place, resolved.
+/// The capturing group that is read at the reach, resolved.
 #[cycle(rewrite)]
 #[inline(never)]
 fn resolve_group(
     node: AstNode,
-    place: usize,
+    reach: usize,
     known: &Known,
     progress: &mut Progress,
 ) -> Result<Expr, Stopped>
-    requires passed { progress.old.passed + length (openings_in (items (view_ast node place))) < 2 ^ 63 }
+    requires passed { progress.old.passed + length (openings_in (items (view_ast node reach))) < 2 ^ 63 }
     requires group { is_reference node ≡ false }
-    ensures { Walks result (known_of known.now) (progress_of progress.old) (items (view_ast node place))
+    ensures { Walks result (known_of known.now) (progress_of progress.old) (items (view_ast node reach))
         progress.new
-        (λ e. view e ≡ rebuilt (known_of known.now) (progress_of progress.old) (view_ast node place)) }
+        (λ e. view e ≡ rebuilt (known_of known.now) (progress_of progress.old) (view_ast node reach)) }
 {
     let AstNode::AstGroup { name, mut inner } = node else {
         unreachable!();
@@ -142,19 +144,19 @@ fn resolve_group(
     }
 }
 
-/// What the reference that is read at the place is resolved to; none where it stays.
+/// What the reference that is read at the reach is resolved to; none where it stays.
 fn resolve_reference(
     node: &AstNode,
-    place: usize,
+    reach: usize,
     known: &Known,
     progress: &mut Progress,
 ) -> Result<Option<Expr>, Stopped>
     requires passed { progress.old.passed < 2 ^ 63 }
     requires reference { is_reference node.now ≡ true }
-    ensures { Walks result (known_of known.now) (progress_of progress.old) (items (view_ast node.now place))
+    ensures { Walks result (known_of known.now) (progress_of progress.old) (items (view_ast node.now reach))
         progress.new
-        (λ o. resolved_or (view_ast node.now (place_at (bytes (chars known.now.pattern.now)) place)) o
-        ≡ rebuilt (known_of known.now) (progress_of progress.old) (view_ast node.now place)) }
+        (λ o. resolved_or (view_ast node.now (text.place_at (bytes (chars known.now.pattern.now)) reach)) o
+        ≡ rebuilt (known_of known.now) (progress_of progress.old) (view_ast node.now reach)) }
 {
     match node {
         AstNode::AstGroup { .. } => unreachable!(),
@@ -166,12 +168,12 @@ fn resolve_reference(
             target,
             *casei,
             *relative_recursion_level,
-            place,
+            reach,
             known,
             progress,
         ),
         AstNode::SubroutineCall(target) => {
-            let Some(group) = refer(known, progress, place, Role::Call, target)? else {
+            let Some(group) = refer(known, progress, reach, Role::Call, target)? else {
                 return Ok(None);
             };
             Ok(Some(Expr::SubroutineCall(group)))
@@ -180,7 +182,7 @@ fn resolve_reference(
             target,
             relative_recursion_level,
         } => {
-            let Some(group) = refer(known, progress, place, Role::Condition, target)? else {
+            let Some(group) = refer(known, progress, reach, Role::Condition, target)? else {
                 return Ok(None);
             };
             Ok(Some(Expr::BackrefExistsCondition {
@@ -191,22 +193,22 @@ fn resolve_reference(
     }
 }
 
-/// What the back reference that is read at the place is resolved to; none where it stays.
+/// What the back reference that is read at the reach is resolved to; none where it stays.
 fn resolve_backref(
     target: &CaptureGroupTarget,
     casei: bool,
     relative_recursion_level: Option<isize>,
-    place: usize,
+    reach: usize,
     known: &Known,
     progress: &mut Progress,
 ) -> Result<Option<Expr>, Stopped>
     requires { progress.old.passed < 2 ^ 63 }
     ensures { let node = ast_backref (view_target target.now) casei relative_recursion_level in
-        Walks result (known_of known.now) (progress_of progress.old) (items (ast_node node place)) progress.new
-        (λ o. resolved_or (ast_node node (place_at (bytes (chars known.now.pattern.now)) place)) o
-        ≡ rebuilt (known_of known.now) (progress_of progress.old) (ast_node node place)) }
+        Walks result (known_of known.now) (progress_of progress.old) (items (ast_node node reach)) progress.new
+        (λ o. resolved_or (ast_node node (text.place_at (bytes (chars known.now.pattern.now)) reach)) o
+        ≡ rebuilt (known_of known.now) (progress_of progress.old) (ast_node node reach)) }
 {
-    let Some(group) = refer(known, progress, place, Role::BackReference, target)? else {
+    let Some(group) = refer(known, progress, reach, Role::BackReference, target)? else {
         return Ok(None);
     };
     Ok(Some(match relative_recursion_level {

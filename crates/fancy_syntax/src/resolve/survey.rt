@@ -67,7 +67,7 @@ pub(super) fn survey(
         }
         Expr::Absent(absent) => survey_absent(alloc, absent, named, found),
         Expr::DefineGroup { definitions } => survey(alloc, definitions, named, found),
-        Expr::AstNode(node, place) => survey_node(alloc, node, *place, named, found),
+        Expr::AstNode(node, reach) => survey_node(alloc, node, *reach, named, found),
         _ => Ok(()),
     }
 }
@@ -99,22 +99,22 @@ pub(super) fn may_hold_items(tree: &Expr) -> bool
     )
 }
 
-/// Adds the groups of the node that is read at the place. A reference has none, and is met without a call.
+/// Adds the groups of the node that is read at the reach. A reference has none, and is met without a call.
 #[cycle(survey)]
 #[inline(always)]
 fn survey_node(
     alloc: Global,
     node: &AstNode,
-    place: usize,
+    reach: usize,
     named: bool,
     found: &mut Found,
 ) -> Result<(), AllocError>
-    requires { found.old.groups.total + length (openings_in (items (view_ast node.now place))) < 2 ^ 63 }
+    requires { found.old.groups.total + length (openings_in (items (view_ast node.now reach))) < 2 ^ 63 }
     ensures found { IfOk result
         (λ _. groups_of found.new.groups
-        ≡ spec.groups_after named (groups_of found.old.groups) (items (view_ast node.now place))) }
+        ≡ spec.groups_after named (groups_of found.old.groups) (items (view_ast node.now reach))) }
     ensures met { IfOk result
-        (λ _. found.new.met ≡ (found.old.met || has_items (items (view_ast node.now place)))) }
+        (λ _. found.new.met ≡ (found.old.met || has_items (items (view_ast node.now reach)))) }
 {
     found.met = true;
     match node {

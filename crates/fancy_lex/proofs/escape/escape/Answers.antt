@@ -1,4 +1,4 @@
-use Rattle.std.proofs.Common.{chars, arith}
+use Rattle.std.proofs.Common.{arith, chars}
 use Rattle.fancy_lex.proofs.EscapeLaws.{leaves_escape}
 use Rattle.fancy_lex.proofs.LeaveLaws.{given_cut, given_place}
 use Rattle.fancy_lex.proofs.ReadingLemmas.{answers_gives}
@@ -6,17 +6,21 @@ use Rattle.fancy_lex.proofs.TextLemmas.{bytes_chars}
 use Rattle.fancy_lex.specs.EscapeViews.{escape_of}
 use Rattle.fancy_lex.proofs.escape.escape.Goals as goal
 
+pub returns-clause-value : goal.returns-clause-value
+returns-clause-value c = rw c.reach_before.ensures at c.read_escape.ensures.value
+
 pub returns-clause-cut : goal.returns-clause-cut
 returns-clause-cut c =
     let a = c.args in
-    given_cut escape_of c.read_escape.result
-    (leaves_escape a.flags a.inside a.reach (chars a.text.now))
-    (answers_gives escape_of c.read_escape.result _ c.read_escape.ensures.value)
+    let value = rw c.reach_before.ensures at c.read_escape.ensures.value in
+    given_cut escape_of c.read_escape.result (leaves_escape a.flags a.inside (chars a.text.now))
+    (answers_gives escape_of c.read_escape.result _ value)
 
 pub returns-clause-place : goal.returns-clause-place
-returns-clause-place c m within long =
+returns-clause-place c =
     let a = c.args in
-    given_place escape_of c.read_escape.result within
-    (omega (arith, bytes_chars a.text.now c.utf8.text, long))
-    (leaves_escape a.flags a.inside a.reach (chars a.text.now))
-    (answers_gives escape_of c.read_escape.result _ c.read_escape.ensures.value)
+    let value = rw c.reach_before.ensures at c.read_escape.ensures.value in
+    given_place escape_of c.read_escape.result
+    (omega (arith, bytes_chars a.text.now c.utf8.text)) (omega (arith, bytes_chars a.text.now c.utf8.text))
+    (leaves_escape a.flags a.inside (chars a.text.now))
+    (answers_gives escape_of c.read_escape.result _ value)

@@ -1,6 +1,6 @@
 use Rattle.std.proofs.Common.{◌≡◌, false, sym, subst, arith, chars, ◌∙◌, ap}
 use Rattle.std.proofs.lemmas.Bool.Decides.{nat_tests}
-use Rattle.fancy_lex.specs.Escape.{escape, reads_on}
+use Rattle.fancy_lex.specs.Escape.{escape_at, reads_on}
 use Rattle.fancy_lex.specs.Reading.{Reports}
 use Rattle.fancy_lex.proofs.escape.read_escape.Goals as goal
 use Rattle.fancy_lex.proofs.escape.read_escape.Goals.{in_default-c-via-in-b+else-not-inside}
@@ -21,5 +21,5 @@ returns-in-None-clause-value c =
       | in_default-c-via-in_default+else-c-lt48+else-c-lt58 w ↦ grind (arith, nat_tests)
     ] in
     let unknown = c.lone_escape.ensures.unknown c.in-None.is alone a.reach (chars c.in-Some.rest.now) in
-    let is = ap (escape a.flags a.inside a.reach) c.in-Some.ensures.value ∙ unknown in
+    let is = ap (escape_at a.flags a.inside a.reach) c.in-Some.ensures.value ∙ unknown in
     subst (Reports c.unknown_escape.result) (sym is) c.unknown_escape.ensures

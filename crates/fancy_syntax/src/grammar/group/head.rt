@@ -22,12 +22,12 @@ pub(crate) enum Head<'a> {
     Repeater,
 }
 
-/// The node round the inside of a group that opens at the place.
-pub(crate) fn node(alloc: Global, head: Head, place: usize, inner: Expr) -> Result<Expr, AllocError>
-    ensures { IfOk result (λ e. view e ≡ spec.group_node (head_of head.entry) place (view inner)) }
+/// The node round the inside of a group that opens at the reach.
+pub(crate) fn node(alloc: Global, head: Head, reach: usize, inner: Expr) -> Result<Expr, AllocError>
+    ensures { IfOk result (λ e. view e ≡ spec.group_node (head_of head.entry) reach (view inner)) }
 {
     match head {
-        Head::Capture(name) => capture(alloc, name, place, inner),
+        Head::Capture(name) => capture(alloc, name, reach, inner),
         Head::Scope => Ok(inner),
         Head::Look(look) => Ok(Expr::LookAround(Box::new(alloc, inner)?, look)),
         Head::Atomic => Ok(Expr::AtomicGroup(Box::new(alloc, inner)?)),
@@ -39,14 +39,14 @@ pub(crate) fn node(alloc: Global, head: Head, place: usize, inner: Expr) -> Resu
 }
 
 /// The node of a capturing group.
-fn capture(alloc: Global, name: Option<&str>, place: usize, inner: Expr) -> Result<Expr, AllocError>
+fn capture(alloc: Global, name: Option<&str>, reach: usize, inner: Expr) -> Result<Expr, AllocError>
     ensures { IfOk result (λ e. view e ≡ ast_group (option_map
-        (λ t. chars t.now) name.entry) place (view inner)) }
+        (λ t. chars t.now) name.entry) reach (view inner)) }
 {
     let inner = Box::new(alloc, inner)?;
     let Some(name) = name else {
-        return Ok(Expr::AstNode(AstNode::AstGroup { name: None, inner }, place));
+        return Ok(Expr::AstNode(AstNode::AstGroup { name: None, inner }, reach));
     };
     let name = Some(String::from_str(alloc, name)?);
-    Ok(Expr::AstNode(AstNode::AstGroup { name, inner }, place))
+    Ok(Expr::AstNode(AstNode::AstGroup { name, inner }, reach))
 }

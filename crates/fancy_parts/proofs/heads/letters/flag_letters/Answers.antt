@@ -14,7 +14,8 @@ returns-clause-cut c =
 
 pub returns-clause-place : goal.returns-clause-place
 returns-clause-place c =
-    given_place letters_of c.read_letters.result (omega (arith, bytes_chars c.args.text.now c.utf8.text)) (omega (arith, bytes_chars c.args.text.now c.utf8.text)) (leaves_letters c.args.flags _)
+    given_place letters_of c.read_letters.result (omega (arith, bytes_chars c.args.text.now c.utf8.text))
+    (omega (arith, bytes_chars c.args.text.now c.utf8.text)) (leaves_letters c.args.flags _)
     (answers_gives letters_of c.read_letters.result _ c.read_letters.ensures.value)
 
 pub returns-clause-derives : goal.returns-clause-derives

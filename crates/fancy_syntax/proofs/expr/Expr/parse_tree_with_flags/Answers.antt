@@ -1,13 +1,7 @@
-use Rattle.std.proofs.Common.{◌≡◌, ℕ, List, chars, length, subst, sym, ap, ◌∙◌}
-use Rattle.std.specs.Str.{IsUtf8}
-use Rattle.fancy_lex.specs.ErrorViews.{error_in}
-use Rattle.fancy_lex.specs.Text.{bytes}
-use Rattle.fancy_lex.specs.declared.error.Error.{Error}
-use Rattle.fancy_lex.specs.declared.error.Failure.{Failure}
+use Rattle.std.proofs.Common.{chars, subst, sym}
 use Rattle.fancy_grammar.specs.Answer.{IsTreeOf, IsOnlyFault, IsPlacedIn}
 use Rattle.fancy_syntax.specs.Answer.{marks_of}
 use Rattle.fancy_syntax.specs.View.{view}
-use Rattle.fancy_lex.proofs.TextLemmas.{bytes_chars}
 use Rattle.fancy_grammar.proofs.AnsweredLaws.{answered_with, groups_of_raw}
 use Rattle.fancy_grammar.proofs.BoundLaws.{bounded}
 use Rattle.fancy_grammar.proofs.Verdict.{only_tree, no_fault}
@@ -33,19 +27,12 @@ returns-in-Ok-clause-answered c = answered_with (returns-in-Ok-clause-found c)
 pub returns-in-Ok-clause-groups : goal.returns-in-Ok-clause-groups
 returns-in-Ok-clause-groups c = groups_of_raw (returns-in-Ok-clause-found c)
 
--- the error is that of the reader, in a text of so many bytes
-told : (re : List ℕ) (e : Error) (f : Failure) → IsUtf8 re → e ≡ error_in (length re) f →
-    error_in (bytes (chars re)) f ≡ e
-told re e f utf8 is = ap (λ n. error_in n f) (bytes_chars re utf8) ∙ sym is
-
 pub returns-in-Err-clause-fault : goal.returns-in-Err-clause-fault
 returns-in-Err-clause-fault c =
     let text = chars c.args.re.now in
-    let same = told c.args.re.now c.in_pattern.result c.in-Err.failure c.utf8.re c.in_pattern.ensures in
     subst (λ f. IsOnlyFault c.in_pattern.result f text) c.from_bits-flags.ensures
-    (subst (λ e. IsOnlyFault e c.from_bits-flags.result text) same c.in-Err.ensures.fault)
+    (subst (λ e. IsOnlyFault e c.from_bits-flags.result text) (sym c.in_pattern.ensures) c.in-Err.ensures.fault)
 
 pub returns-in-Err-clause-place : goal.returns-in-Err-clause-place
 returns-in-Err-clause-place c =
-    subst (λ e. IsPlacedIn e c.args.re.now)
-    (told c.args.re.now c.in_pattern.result c.in-Err.failure c.utf8.re c.in_pattern.ensures) c.in-Err.ensures.place
+    subst (λ e. IsPlacedIn e c.args.re.now) (sym c.in_pattern.ensures) c.in-Err.ensures.place

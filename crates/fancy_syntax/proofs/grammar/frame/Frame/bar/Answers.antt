@@ -10,5 +10,5 @@ use Rattle.fancy_syntax.proofs.grammar.frame.Frame.bar.Goals as goal
 pub returns-in-Second-clause-fault : goal.returns-in-Second-clause-fault
 returns-in-Second-clause-fault c t h =
     IsErrorAmong-is (IsFaultOfBar (part_of c.args.self.now.opener) t) c.general.result _ _
-    (says_close_paren c.general.result c.args.place c.general.ensures)
+    (says_close_paren c.general.result c.args.reach c.general.ensures)
     (rw c.in-Second.is (ap (fault (general_parse_error close_paren_expected)) h))
