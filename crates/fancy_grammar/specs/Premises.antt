@@ -1,17 +1,12 @@
--- What the grammar's premises say by functions, said by the relations: what stands in the text, and what that comes to.
--- Each is proved, as a clause of `premises`.
-use Rattle.std.specs.Prelude.{◌≡◌, ◌↔◌, ℕ, Bool, Some}
+-- What the grammar's premises say by functions that go round, said by relations: what stands in the text, and what that
+-- comes to. Each is proved, as a clause of `premises`.
+use Rattle.std.specs.Prelude.{◌≡◌, ◌↔◌, ℕ, Bool}
 use Rattle.fancy_lex.specs.Boundary.{Boundary}
 use Rattle.fancy_lex.specs.BoundarySteps.{boundary}
 use Rattle.fancy_lex.specs.Class.{class, OuterClass}
-use Rattle.fancy_lex.specs.Delimited.{name_before, StartsWithName}
 use Rattle.fancy_lex.specs.Escaped.{Escape}
-use Rattle.fancy_lex.specs.Hex.{hex, HexCode}
-use Rattle.fancy_lex.specs.IdReference.{IdReference, id_reference, IsIdReference}
 use Rattle.fancy_lex.specs.Layout.{Before, Unclosed}
 use Rattle.fancy_lex.specs.LayoutSteps.{layout, rest, fault as open_comment}
-use Rattle.fancy_lex.specs.Number.{number, StartsWithNumber}
-use Rattle.fancy_lex.specs.NumberText.{number_text, IsNumberText}
 use Rattle.fancy_lex.specs.Reading.{Reading}
 use Rattle.fancy_lex.specs.Text.{Text}
 use Rattle.fancy_lex.specs.declared.flags.Flags.{Flags}
@@ -38,25 +33,3 @@ abbrev pub BoundaryIsRelated : Type 0
 BoundaryIsRelated =
     (x : Bool) (p : ℕ) (negated : Bool) (t : Text) (o : Reading Escape) →
     (boundary x p negated t ≡ o) ↔ Boundary x p negated t o
-
--- a hex code behind its letter
-abbrev pub HexIsRelated : Type 0
-HexIsRelated =
-    (f : Flags) (width : ℕ) (t : Text) (o : Reading Escape) → (hex f width t ≡ o) ↔ HexCode f width t o
-
--- a number at the front
-abbrev pub NumberIsRelated : Type 0
-NumberIsRelated = (t v : Text) (k : ℕ) → (number t ≡ Some (k, v)) ↔ StartsWithNumber t v k
-
--- a number text
-abbrev pub NumberTextIsRelated : Type 0
-NumberTextIsRelated = (t : Text) (k : ℕ) → (number_text t ≡ Some k) ↔ IsNumberText t k
-
--- a name up to its closing mark
-abbrev pub NameIsRelated : Type 0
-NameIsRelated = (mark : ℕ) (t w v : Text) → (name_before mark t ≡ Some (w, v)) ↔ StartsWithName mark t w v
-
--- an id reference
-abbrev pub IdReferenceIsRelated : Type 0
-IdReferenceIsRelated =
-    (relative : Bool) (t : Text) (r : IdReference) → (id_reference relative t ≡ Some r) ↔ IsIdReference relative t r

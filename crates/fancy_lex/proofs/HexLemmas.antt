@@ -43,7 +43,7 @@ module _ (x : Bool) (h i v : ℕ) (t : Text) where
   unfolding hex_digits
   digits_fault d r b l e s = rw (one_more 8 i l, hex_digits, e) (says_first _ _ b s)
 
-  pub digits_end : i < 8 → hex_digit t ≡ None →
+  digits_end : i < 8 → hex_digit t ≡ None →
       hex_digits x h (8 - i) (nat_lt 0 i) v t ≡ closing_brace h (nat_lt 0 i) v (strip close_brace t)
   unfolding hex_digits
   digits_end l e = rw (one_more 8 i l, hex_digits, e) refl

@@ -1,45 +1,66 @@
 -- Runs of id characters, and where they end.
-use Rattle.std.proofs.Common.{◌≡◌, zero-add, ℕ, ◌<◌, true, false, List, [], ◌∷◌, ◌++◌, length, Option, Some, None, ap}
-use Rattle.std.proofs.Common.{sym, ◌∙◌, refl, arith, append_assoc, chars}
+use Rattle.std.proofs.Common.{◌≡◌, zero-add, ℕ, ◌<◌, Bool, true, false, if◌then◌else◌, List, [], ◌∷◌, ◌++◌, length}
+use Rattle.std.proofs.Common.{Option, Some, None, ap, sym, ◌∙◌, refl, arith, chars}
 use Rattle.std.specs.Str.{IsUtf8}
 use Rattle.std.proofs.lemmas.List.{nil_from_length, append_cancel_right}
 use Rattle.std.proofs.lemmas.Str.{length-le-encodes}
-use Rattle.fancy_lex.specs.Id.{is_id_char, AllIdChars, IsId, StartsWithId, id_run, id}
+use Rattle.fancy_lex.specs.Id.{is_id_char, id_run, nonempty_front, id}
 use Rattle.fancy_lex.specs.Text.{Text}
 use Rattle.fancy_lex.proofs.TextLemmas.{cut_lengths}
 
--- no id character stands at the front
-abbrev pub Stops : Text → Type 0
-Stops v = (c : ℕ) (t : Text) → v ≡ c ∷ t → is_id_char c ≡ false
+-- ---- one step of a run
 
-pub all_snoc : (w : Text) (c : ℕ) → AllIdChars w → is_id_char c ≡ true → AllIdChars (w ++ c ∷ [])
-all_snoc [] c a h = (h, tt)
-all_snoc (d ∷ w) c a h = (a.0, all_snoc w c a.1 h)
-
-pub read_step : (t w rest r : Text) (c : ℕ) → t ≡ w ++ rest → rest ≡ c ∷ r → t ≡ (w ++ c ∷ []) ++ r
-read_step t w rest r c cut e = cut ∙ ap (λ u. w ++ u) e ∙ sym (append_assoc w (c ∷ []) r)
-
-pub run_all : (w v : Text) → AllIdChars w → Stops v → ◌≡◌ {A = Text × Text} (id_run (w ++ v)) (w, v)
+pub run_more : (t : Text) (c : ℕ) (r : Text) → t ≡ c ∷ r → is_id_char c ≡ true → (id_run t).1 ≡ (id_run r).1
 unfolding id_run
-run_all [] [] a s = refl
-run_all [] (c ∷ v) a s = rw (s c v refl) refl
-run_all (c ∷ w) v a s = rw (a.0, run_all w v a.1 s) refl
+run_more t c r e h = rw (e, id_run, h) refl
 
--- whatever the relation gives is the function's answer
-pub id_complete : (t w v : Text) → StartsWithId t w v → ◌≡◌ {A = Option (Text × Text)} (id t) (Some (w, v))
+pub run_stops : (t : Text) (c : ℕ) (r : Text) → t ≡ c ∷ r → is_id_char c ≡ false → (id_run t).1 ≡ t
+unfolding id_run
+run_stops t c r e h = rw (e, id_run, h) refl
+
+pub run_ends : (t : Text) → t ≡ [] → (id_run t).1 ≡ t
+unfolding id_run
+run_ends t e = rw e refl
+
+-- ---- the run, and what follows it
+
+-- the run where c is a character more, which is an id character or not
+abbrev run_behind : ℕ → Text → Bool → Text × Text → Text × Text
+run_behind c t b p = if b then (c ∷ p.0, p.1) else ([], c ∷ t)
+
+-- they are the text
+pub run_cut : (t : Text) → t ≡ (id_run t).0 ++ (id_run t).1
+unfolding id_run
+run_cut [] = refl
+run_cut (c ∷ t) = at (is_id_char c) (id_run t) (run_cut t) where
+  at : (b : Bool) (p : Text × Text) → t ≡ p.0 ++ p.1 → c ∷ t ≡ (run_behind c t b p).0 ++ (run_behind c t b p).1
+  at true p e = ap (λ u. c ∷ u) e
+  at false p e = refl
+
+front_none : (p : Text × Text) → p.0 ≡ [] → nonempty_front p ≡ None
+front_none ([], v) e = refl
+front_none (c ∷ w, v) e = absurd cc
+
+pub front_some : (p : Text × Text) (w v : Text) → p.0 ≡ w → p.1 ≡ v → 0 < length w →
+    nonempty_front p ≡ Some (w, v)
+front_some ([], u) w v e h l = absurd (omega (arith, ap length e))
+front_some (c ∷ x, u) w v e h l = rw (← e, ← h) refl
+
+-- the id and what follows it are the text
+pub id_cut : (t w v : Text) → ◌≡◌ {A = Option (Text × Text)} (id t) (Some (w, v)) → t ≡ w ++ v
 unfolding id
-id_complete t [] v h = absurd (omega (arith, h.id.id.some))
-id_complete t (c ∷ w) v h = rw (h.cut, run_all (c ∷ w) v h.id.id.chars h.id.stops) refl
+id_cut t w v e = run_cut t ∙ at (id_run t) e where
+  at : (p : Text × Text) → nonempty_front p ≡ Some (w, v) → p.0 ++ p.1 ≡ w ++ v
+  at ([], u) e = absurd cc
+  at (c ∷ x, u) e = let same : ◌≡◌ {A = Text × Text} (c ∷ x, u) (w, v) = cc in ap (λ (p : Text × Text). p.0 ++ p.1) same
 
-pub id_none : (t : Text) → Stops t → ◌≡◌ {A = Option (Text × Text)} (id t) None
-unfolding id
-id_none t s = rw (run_all [] t tt s) refl
+-- ---- the clause of the reader
 
--- what a reader of id characters has read
-abbrev Read : Text → Text → Type 0
-Read t rest = (w : Text) × AllIdChars w × (t ≡ w ++ rest)
+-- a reader of id characters stands at `r` in the text `s`
+module _ (s r : List ℕ) (u : IsUtf8 s) (v : IsUtf8 r) (left : (id_run (chars s)).1 ≡ chars r) where
+  pub read_cut : chars s ≡ (id_run (chars s)).0 ++ chars r
+  read_cut = run_cut (chars s) ∙ ap (λ x. (id_run (chars s)).0 ++ x) left
 
-module _ (s r : List ℕ) (u : IsUtf8 s) (v : IsUtf8 r) where
   nothing_read : (w : Text) → chars s ≡ w ++ chars r → length r ≡ length s → w ≡ []
   nothing_read w e q = nil_from_length w (omega (arith, cut_lengths s r w u v e, length-le-encodes w))
 
@@ -47,20 +68,15 @@ module _ (s r : List ℕ) (u : IsUtf8 s) (v : IsUtf8 r) where
   some_read [] e q = absurd (q (sym (cut_lengths s r [] u v e ∙ zero-add (length r))))
   some_read (c ∷ w) e q = omega arith
 
--- a reader of id characters stands at `r` in the text `s`
-module _ (s r : List ℕ) (u : IsUtf8 s) (v : IsUtf8 r) (read : Read (chars s) (chars r)) (stops : Stops (chars r)) where
   -- no answer where nothing was read
   pub id_nothing : length r ≡ length s → ◌≡◌ {A = Option (Text × Text)} (id (chars s)) None
-  id_nothing q =
-      let (w, _, cut) = read in
-      let same : chars s ≡ chars r = cut ∙ ap (λ x. x ++ chars r) (nothing_read s r u v w cut q) in
-      rw same (id_none (chars r) stops)
+  unfolding id
+  id_nothing q = front_none (id_run (chars s)) (nothing_read (id_run (chars s)).0 read_cut q)
 
-  -- what was read is an id
+  -- what was read is the id
   pub id_read : (f : List ℕ) → (length r ≡ length s → ⊥) → chars s ≡ chars f ++ chars r →
-      StartsWithId (chars s) (chars f) (chars r)
+      ◌≡◌ {A = Option (Text × Text)} (id (chars s)) (Some (chars f, chars r))
+  unfolding id
   id_read f q g =
-      let (w, all, cut) = read in
-      let same : chars f ≡ w = append_cancel_right (chars f) w (chars r) (sym g ∙ cut) in
-      let word : IsId w = record { chars = all; some = some_read s r u v w cut q } in
-      record { cut = g; id = record { id = rw same word; stops = stops } }
+      let same : chars f ≡ (id_run (chars s)).0 = append_cancel_right (chars f) _ (chars r) (sym g ∙ read_cut) in
+      front_some (id_run (chars s)) (chars f) (chars r) (sym same) left (some_read (chars f) g q)

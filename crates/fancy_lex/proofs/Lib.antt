@@ -7,17 +7,13 @@ pub mod ReadingLemmas
 pub mod LayoutLemmas
 pub mod LayoutLaws
 pub mod NumberLemmas
-pub mod NumberTextLaws
 mod IdLemmas
 mod AsciiLemmas
-pub mod IdReferenceLaws
 mod NumberIds
-pub mod DelimitedLaws
 pub mod ReferenceLaws
 pub mod ReferencePlaces
 -- ---- escapes
 mod HexLemmas
-pub mod HexRelation
 mod BoundaryLemmas
 mod BoundaryLaws
 pub mod BoundaryRelation

@@ -1,85 +1,172 @@
--- A number is an id, and what an id reference writes with it, alone or before a level, is the group of that number; with
--- any other id alone it is the group of that name.
-use Rattle.std.proofs.Common.{◌≡◌, ℕ, ◌^◌, ◌<◌, ℤ, Bool, true, false, [], ◌∷◌, Some, None, ◌==◌, if◌then◌else◌}
-use Rattle.std.proofs.Common.{◌++◌, refl, sym, ap, ◌∙◌, subst, append-nil, arith}
-use Rattle.std.proofs.lemmas.Bool.{false≢true}
+-- A number is an id, and what an id reference writes with it, alone or before a level, is the group of that number;
+-- with any other id alone it is the group of that name.
+use Rattle.std.proofs.Common.{◌≡◌, ℕ, ◌+◌, ◌*◌, ◌-◌, ◌^◌, ◌<◌, ℤ, pos, Bool, true, false, [], ◌∷◌, Option, Some, None}
+use Rattle.std.proofs.Common.{◌==◌, if◌then◌else◌, option_map, refl, sym, ap, ◌∙◌, subst, append-nil, arith, inl, inr, nat_lt}
+use Rattle.std.specs.Option.{option_and_then}
+use Rattle.std.specs.Ordering.{int_eq}
+use Rattle.std.proofs.lemmas.Bool.{cases_eq}
 use Rattle.std.proofs.lemmas.Bool.Decides.{nat_tests}
+use Rattle.unicode.proofs.CategoryComputing.{ucd_category}
+use Rattle.unicode.proofs.DerivedComputing.{ucd_derived}
 use Prim.Native.Char.{code}
 use Rattle.std.specs.Char.{is_ascii_digit}
-use Rattle.fancy_lex.specs.Id.{AllIdChars, IsId, is_id_char}
-use Rattle.fancy_lex.specs.IdReference.{IdReference, id_alone, IsIdReference, plain, with_amount, without_id, amount, id_reference}
-use Rattle.fancy_lex.specs.Number.{AllDigits, Number, StartsWithNumber, number}
+use Rattle.fancy_lex.specs.Characters.{◌∈◌}
+use Rattle.fancy_lex.specs.Id.{is_id_char, id_run, id}
+use Rattle.fancy_lex.specs.IdReference.{id_alone, id_and_amount, amount_alone, small_amount, amount}
+use Rattle.fancy_lex.specs.IdReference.{with_id, without_id, id_reference}
+use Rattle.fancy_lex.specs.Number.{number, run}
 use Rattle.fancy_lex.specs.NumberText.{whole_number, number_text}
 use Rattle.fancy_lex.specs.Referred.{reference_of, reference_to, target_of_name, written_reference}
 use Rattle.fancy_lex.specs.Target.{by_number, by_name}
+use Rattle.fancy_lex.specs.Reading.{choose}
 use Rattle.fancy_lex.specs.Text.{Text, strip}
 use Rattle.fancy_lex.proofs.AsciiLemmas.{alphanumeric_told}
-use Rattle.fancy_lex.proofs.IdReferenceLaws.{amount_sound, plus_no_id, reference_complete, reference_sound}
-use Rattle.fancy_lex.proofs.NumberLemmas.{number_sound}
-use Rattle.fancy_lex.proofs.NumberTextLaws.{whole_complete}
+use Rattle.fancy_lex.proofs.IdLemmas.{front_some, id_cut}
+use Rattle.fancy_lex.proofs.NumberLemmas.{Taken, digits_of, number_taken}
+
+-- ---- what is an id character
 
 id_of_digit : (c : ℕ) → is_ascii_digit c ≡ true → is_id_char c ≡ true
 id_of_digit c h = alphanumeric_told c (rw h refl)
 
-ids_of_digits : (w : Text) → AllDigits w → AllIdChars w
-ids_of_digits [] h = tt
-ids_of_digits (c ∷ w) h = (id_of_digit c h.0, ids_of_digits w h.1)
+plus_no_id : is_id_char (code "+") ≡ false
+unfolding is_id_char ucd_category ucd_derived
+plus_no_id = refl
 
-no_plus : (t : Text) → IsId t → strip (code "+") t ≡ None
-no_plus [] i = absurd (omega (arith, i.some))
-no_plus (c ∷ t) i = at (c == code "+") refl where
+minus_no_id : is_id_char (code "-") ≡ false
+unfolding is_id_char ucd_category ucd_derived
+minus_no_id = refl
+
+sign_no_id : (c : ℕ) → (c ∈ "+-") ≡ true → is_id_char c ≡ false
+sign_no_id c h =
+    elim (cases_eq c (code "+")) [
+      | inl e ↦ ap is_id_char e ∙ plus_no_id
+      | inr e ↦ let other : c ≡ code "-" = grind (arith, nat_tests) in ap is_id_char other ∙ minus_no_id
+    ]
+
+-- no id stands at the front
+abbrev NoId : Text → Type 0
+NoId v = ◌≡◌ {A = Text × Text} (id_run v) ([], v)
+
+no_id_nothing : NoId []
+unfolding id_run
+no_id_nothing = refl
+
+no_id_amount : (v : Text) (z : ℤ) → amount v ≡ Some z → NoId v
+unfolding amount id_run
+no_id_amount [] z e = refl
+no_id_amount (c ∷ v) z e = at (c ∈ "+-") refl e where
+  at : (b : Bool) → (c ∈ "+-") ≡ b → (if b then option_and_then (small_amount c) (whole_number v) else None) ≡ Some z →
+      NoId (c ∷ v)
+  at true s e = rw (sign_no_id c s) refl
+  at false s e = absurd cc
+
+nothing_no_amount : (z : ℤ) → amount [] ≡ Some z → ⊥
+unfolding amount
+nothing_no_amount z e = cc
+
+-- an amount behind an id
+amount_behind : (i v : Text) (z : ℤ) → amount v ≡ Some z → with_id true i v ≡ Some (id_and_amount i z)
+amount_behind i [] z h = absurd (nothing_no_amount z h)
+amount_behind i (c ∷ v) z h = rw h refl
+
+-- an id begins with no plus
+no_plus : (t w v : Text) → ◌≡◌ {A = Option (Text × Text)} (id t) (Some (w, v)) → strip (code "+") t ≡ None
+unfolding id id_run
+no_plus [] w v e = refl
+no_plus (c ∷ t) w v e = at (c == code "+") refl where
+  bare : c ≡ code "+" → id (c ∷ t) ≡ None
+  bare same = rw (same, plus_no_id) refl
+
   at : (b : Bool) → (c == code "+") ≡ b → (if b then Some t else None) ≡ None
-  at true e =
-      let same : c ≡ code "+" = grind (arith, nat_tests) in
-      absurd (false≢true (sym plus_no_id ∙ sym (ap is_id_char same) ∙ i.chars.0))
+  at true s = let none = bare (grind (arith, nat_tests)) in absurd cc
+  at false s = refl
+
+-- ---- a number is an id
+
+digits_run : (n : ℕ) (t : Text) → NoId (run n t).1 → ◌≡◌ {A = Text × Text} (id_run t) (digits_of t, (run n t).1)
+unfolding run id_run
+digits_run n [] s = refl
+digits_run n (c ∷ t) s = at (is_ascii_digit c) refl _ (digits_run (n * 10 + (c - code "0")) t) s where
+  at : (b : Bool) → is_ascii_digit c ≡ b → (p : ℕ × Text) →
+      (NoId p.1 → ◌≡◌ {A = Text × Text} (id_run t) (digits_of t, p.1)) →
+      NoId (if b then p else (n, c ∷ t)).1 →
+      ◌≡◌ {A = Text × Text} (id_run (c ∷ t)) (if b then c ∷ digits_of t else [], (if b then p else (n, c ∷ t)).1)
+  at true e p h s = rw (id_of_digit c e, h s) refl
+  at false e p h s = s
+
+digits_no_plus : (t : Text) → strip (code "+") (digits_of t) ≡ None
+digits_no_plus [] = refl
+digits_no_plus (c ∷ t) = at (is_ascii_digit c) refl where
+  at : (b : Bool) → is_ascii_digit c ≡ b → strip (code "+") (if b then c ∷ digits_of t else []) ≡ None
+  at true e = grind (arith, nat_tests)
   at false e = refl
 
 module _ (p : ℕ) (t v : Text) (n : ℕ) (found : number t ≡ Some (n, v)) (word : n < 2 ^ 64) where
-  digits : StartsWithNumber t v n
-  digits = number_sound t v n found
+  taken : Taken t v n
+  taken = number_taken t v n found
 
-  digits_id : IsId digits.w
-  digits_id = record { chars = ids_of_digits digits.w digits.number.digits; some = digits.number.some }
+  digits_id : NoId v → ◌≡◌ {A = Option (Text × Text)} (id t) (Some (digits_of t, v))
+  unfolding id
+  digits_id s =
+      let both = digits_run 0 t (subst NoId (sym taken.left) s) in
+      front_some (id_run t) (digits_of t) v (ap (λ (p : Text × Text). p.0) both)
+      (ap (λ (p : Text × Text). p.1) both ∙ taken.left) taken.some
 
-  number_named : target_of_name digits.w ≡ by_number n
-  unfolding target_of_name number_text
+  number_named : target_of_name (digits_of t) ≡ by_number n
+  unfolding target_of_name number_text whole_number
   number_named =
-      let alone : Number digits.w [] n =
-      record {
-        digits = digits.number.digits;
-        some = digits.number.some;
-        stops = λ c u e. absurd cc;
-        value_is = digits.number.value_is;
-      } in
-      rw (no_plus digits.w digits_id, whole_complete digits.w n (record { number = alone; word = word })) refl
+      let small : nat_lt n (2 ^ 64) ≡ true = grind (arith, nat_tests, word) in
+      rw (digits_no_plus t, taken.alone, small) refl
 
   -- a number alone is the group of that number
-  pub number_written : (amounts : Bool) → v ≡ [] → written_reference p amounts t ≡ Some (reference_to p (by_number n) None)
-  unfolding written_reference reference_of
-  number_written amounts h =
-      let whole : digits.w ≡ t = sym (append-nil digits.w) ∙ ap (λ u. digits.w ++ u) (sym h) ∙ sym digits.cut in
-      let is : IsIdReference amounts t (id_alone digits.w) =
-      subst (λ u. IsIdReference amounts u (id_alone digits.w)) whole (plain digits_id) in
-      rw (reference_complete amounts t _ is, number_named) refl
+  pub number_written : (amounts : Bool) → v ≡ [] →
+      written_reference p amounts t ≡ Some (reference_to p (by_number n) None)
+  unfolding written_reference reference_of id_reference
+  number_written amounts h = rw (digits_id (subst NoId (sym h) no_id_nothing), h, number_named) refl
 
   -- with an amount behind it, it is that group at a level
-  pub level_written : (z : ℤ) → amount v ≡ Some z → written_reference p true t ≡ Some (reference_to p (by_number n) (Some z))
-  unfolding written_reference reference_of
+  pub level_written : (z : ℤ) → amount v ≡ Some z →
+      written_reference p true t ≡ Some (reference_to p (by_number n) (Some z))
+  unfolding written_reference reference_of id_reference
   level_written z h =
-      let is = with_amount digits.w v digits.cut digits_id (amount_sound v z h) in
-      rw (reference_complete true t _ is, number_named) refl
+      rw (digits_id (no_id_amount v z h), amount_behind (digits_of t) v z h, number_named) refl
 
 pub ruleset numbers_written = (number_written, level_written)
 
-alone_is : (relative : Bool) (t w : Text) (r : IdReference) → IsIdReference relative t r → r ≡ id_alone w →
-    (t ≡ w) × IsId t
-alone_is relative t w r (plain i) e = (cc, i)
-alone_is relative t w r (with_amount i a q s m) e = absurd cc
-alone_is relative t w r (without_id m z) e = absurd cc
+-- ---- an id alone that is no number
 
-no_number_text : (t : Text) → IsId t → whole_number t ≡ None → number_text t ≡ None
+-- what says an id alone is that id
+alone_is : (relative : Bool) (t w : Text) → id_reference relative t ≡ Some (id_alone w) →
+    ◌≡◌ {A = Option (Text × Text)} (id t) (Some (w, []))
+unfolding id_reference
+alone_is relative t w e = at (id t) e where
+  with_amount : (b : Bool) (i : Text) (o : Option ℤ) →
+      (if b then option_map (id_and_amount i) o else None) ≡ Some (id_alone w) → ⊥
+  with_amount true i None e = cc
+  with_amount true i (Some z) e = cc
+  with_amount false i o e = cc
+
+  nonzero : (b : Bool) (z : ℤ) → (if b then None else Some (amount_alone z)) ≡ Some (id_alone w) → ⊥
+  nonzero true z e = cc
+  nonzero false z e = cc
+
+  bare : (b : Bool) (o : Option ℤ) → (if b then option_and_then without_id o else None) ≡ Some (id_alone w) → ⊥
+  bare true None e = cc
+  bare true (Some z) e = nonzero (int_eq z (pos 0)) z e
+  bare false o e = cc
+
+  at : (o : Option (Text × Text)) →
+      choose o (λ q. with_id relative q.0 q.1) (if relative then option_and_then without_id (amount t) else None)
+      ≡ Some (id_alone w) → o ≡ Some (w, [])
+  at None e = absurd (bare relative (amount t) e)
+  at (Some (i, [])) e = let same : i ≡ w = cc in ap (λ x. Some (x, [])) same
+  at (Some (i, c ∷ v)) e = absurd (with_amount relative i (amount (c ∷ v)) e)
+
+no_number_text : (t w v : Text) → ◌≡◌ {A = Option (Text × Text)} (id t) (Some (w, v)) → whole_number t ≡ None →
+    number_text t ≡ None
 unfolding number_text
-no_number_text t i h = rw (no_plus t i, h) refl
+no_number_text t w v i h = rw (no_plus t w v i, h) refl
 
 -- an id alone that is no number is the group of that name
 pub name_written : (p : ℕ) (amounts : Bool) (t w : Text) → whole_number t ≡ None →
@@ -87,6 +174,7 @@ pub name_written : (p : ℕ) (amounts : Bool) (t w : Text) → whole_number t �
     written_reference p amounts t ≡ Some (reference_to p (by_name w) None)
 unfolding written_reference target_of_name reference_of
 name_written p amounts t w h r =
-    let is = alone_is amounts t w (id_alone w) (reference_sound amounts t (id_alone w) r) refl in
-    let none : number_text w ≡ None = subst (λ u. number_text u ≡ None) is.0 (no_number_text t is.1 h) in
+    let i = alone_is amounts t w r in
+    let same : t ≡ w = id_cut t w [] i ∙ append-nil w in
+    let none : number_text w ≡ None = subst (λ u. number_text u ≡ None) same (no_number_text t w [] i h) in
     rw (r, none) refl

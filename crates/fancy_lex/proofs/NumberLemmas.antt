@@ -1,13 +1,11 @@
--- One step of a number, and that the reading function and the relation are one.
-use Rattle.std.proofs.Common.{rules, IfSome, IsSome, chars, ◌≡◌, ℕ, ◌+◌, ◌*◌, ◌-◌, ◌^◌, ◌<◌, ◌≤◌, if◌then◌else◌, Bool, true, false, List, []}
-use Rattle.std.proofs.Common.{◌∷◌, ◌++◌, length, Option, Some, None, ap, sym, ◌∙◌, refl, arith, subst}
+-- One step of a number, and what a number takes of the text.
+use Rattle.std.proofs.Common.{◌≡◌, ℕ, ◌+◌, ◌*◌, ◌-◌, ◌^◌, ◌<◌, ◌≤◌, if◌then◌else◌, Bool, true, false, []}
+use Rattle.std.proofs.Common.{◌∷◌, ◌++◌, length, Some, None, ap, sym, ◌∙◌, refl, arith}
 use Rattle.std.proofs.lemmas.Bool.Decides.{nat_tests}
-use Rattle.std.specs.Borrow.{Bor}
 use Rattle.std.specs.Char.{is_ascii_digit}
 use Prim.Native.Char.{code}
 use Rattle.fancy_lex.specs.Text.{Text}
-use Rattle.fancy_lex.specs.Number.{digit_code, AllDigits, value_after, run, at_digit, number, StartsWithNumber, IsWord}
-use Rattle.fancy_lex.specs.Views.{GivesNumber}
+use Rattle.fancy_lex.specs.Number.{digit_code, run, at_digit, number}
 
 pub digit_is : (d : ℕ) → d < 10 → is_ascii_digit (digit_code d) ≡ true
 digit_is d h = grind (arith, nat_tests)
@@ -84,98 +82,66 @@ pub number_of_more_digits : (t : Text) (d : ℕ) (r : Text) (e : ℕ) (s : Text)
 number_of_more_digits t d r e s p h q k =
     number_some t (at_digit_is t d r p h) ∙ ap Some (run_first t d r p h ∙ run_step d r e s q k)
 
-run_digits : (n : ℕ) (w v : Text) → AllDigits w → run n (w ++ v) ≡ run (value_after n w) v
-unfolding run
-run_digits n [] v h = refl
-run_digits n (c ∷ w) v (d, h) = rw d (run_digits (n * 10 + (c - code "0")) w v h)
-
-at_stop : (v : Text) → ((c : ℕ) (t : Text) → v ≡ c ∷ t → is_ascii_digit c ≡ false) → at_digit v ≡ false
-at_stop [] h = refl
-at_stop (c ∷ t) h = h c t refl
-
-at_front : (w v : Text) → AllDigits w → 0 < length w → at_digit (w ++ v) ≡ true
-at_front [] v a h = absurd (omega arith)
-at_front (c ∷ w) v a h = a.0
-
--- whatever the relation gives is the function's answer
-pub number_complete : (t v : Text) (k : ℕ) → StartsWithNumber t v k → number t ≡ Some (k, v)
-number_complete t v k b =
-    let digits = b.number.digits in
-    rw (
-      b.cut,
-      number_some _ (at_front b.w v digits b.number.some),
-      run_digits 0 b.w v digits,
-      run_stop _ v (at_stop v b.number.stops),
-      b.number.value_is,
-    ) refl
-
--- the digits at the front, and the rest
-record Split (t : Text) : Type 0 where
-  w : Text
-  v : Text
-  cut : t ≡ w ++ v
-  digits : AllDigits w
-  stops : (c : ℕ) (r : Text) → v ≡ c ∷ r → is_ascii_digit c ≡ false
-
-split : (t : Text) → Split t
-split [] = record { w = []; v = []; cut = refl; digits = tt; stops = λ c r e. absurd (nil_cons c r e) } where
-  nil_cons : (c : ℕ) (r : Text) → [] ≡ c ∷ r → ⊥
-  nil_cons c r e = cc
-split (c ∷ t) = by_test (split t) (is_ascii_digit c) refl where
-  by_test : Split t → (b : Bool) → is_ascii_digit c ≡ b → Split (c ∷ t)
-  by_test s true e = record {
-    w = c ∷ s.w;
-    v = s.v;
-    cut = ap (λ u. c ∷ u) s.cut;
-    digits = (e, s.digits);
-    stops =
-        s.stops;
-  }
-  by_test s false e =
-      record { w = []; v = c ∷ t; cut = refl; digits = tt; stops = λ d r q. ap is_ascii_digit (head_same d r q) ∙ e }
-    where
-      head_same : (d : ℕ) (r : Text) → c ∷ t ≡ d ∷ r → d ≡ c
-      head_same d r q = cc
-
-same_answer : (k m : ℕ) (v u : Text) → ◌≡◌ {A = Option (ℕ × Text)} (Some (k, v)) (Some (m, u)) → (k ≡ m) × (v ≡ u)
-same_answer k m v u e =
-    let pair : ◌≡◌ {A = ℕ × Text} (k, v) (m, u) = cc in
-    (ap (λ (p : ℕ × Text). p.0) pair, ap (λ (p : ℕ × Text). p.1) pair)
-
-no_answer : (p : ℕ × Text) → None ≡ Some p → ⊥
-no_answer p e = cc
-
--- so the function's answer is the relation's
-pub number_sound : (t v : Text) (k : ℕ) → number t ≡ Some (k, v) → StartsWithNumber t v k
-number_sound t v k e = by_split (split t) where
-  by_split : Split t → StartsWithNumber t v k
-  by_split s = by_front s.w s refl where
-    by_front : (w : Text) (s : Split t) → s.w ≡ w → StartsWithNumber t v k
-    by_front [] s z =
-        let bare : t ≡ s.v = s.cut ∙ ap (λ u. u ++ s.v) z in
-        absurd (no_answer (k, v) (sym (number_none t (ap at_digit bare ∙ at_stop s.v s.stops)) ∙ e))
-    by_front (c ∷ w) s z =
-        let some : 0 < length s.w = rw z (omega arith) in
-        let found : StartsWithNumber t s.v (value_after 0 s.w) =
-        record {
-          w = s.w;
-          cut = s.cut;
-          number =
-              record { digits = s.digits; some = some; stops = s.stops; value_is = refl };
-        } in
-        let same = same_answer _ _ _ _ (sym (number_complete t s.v _ found) ∙ e) in
-        subst (λ u. StartsWithNumber t u k) same.1 (subst (StartsWithNumber t s.v) same.0 found)
-
-pub number_derives : (t : Text) (r : Option (Option ℕ × Bor (List ℕ))) → GivesNumber t r →
-    IfSome r (λ p. (n : ℕ) × IsWord p.0 n × StartsWithNumber t (chars p.1.now) n)
-number_derives t None h = tt
-number_derives t (Some p) (n, e, word) = (n, word, number_sound t (chars p.1.now) n e)
-
-pub number_only : (t v : Text) (n : ℕ) (r : Option (Option ℕ × Bor (List ℕ))) → GivesNumber t r →
-    StartsWithNumber t v n → IfSome r (λ p. (chars p.1.now ≡ v) × IsWord p.0 n) × IsSome r
-number_only t v n None h b = absurd (no_answer (n, v) (sym h ∙ number_complete t v n b))
-number_only t v n (Some p) (m, e, word) b =
-    let same = same_answer m n (chars p.1.now) v (sym e ∙ number_complete t v n b) in
-    ((same.1, subst (IsWord p.0) same.0 word), search rules)
-
 pub ruleset number_steps = (run_step, run_first, run_stop, at_digit_is, number_none, number_some)
+
+-- ---- what a number takes of the text
+
+-- the digits at the front
+abbrev pub digits_of : Text → Text
+digits_of [] = []
+digits_of (c ∷ t) = if is_ascii_digit c then c ∷ digits_of t else []
+
+digits_cut : (n : ℕ) (t : Text) → t ≡ digits_of t ++ (run n t).1
+unfolding run
+digits_cut n [] = refl
+digits_cut n (c ∷ t) = at (is_ascii_digit c) _ (digits_cut (n * 10 + (c - code "0")) t) where
+  at : (b : Bool) (p : ℕ × Text) → t ≡ digits_of t ++ p.1 →
+      c ∷ t ≡ (if b then c ∷ digits_of t else []) ++ (if b then p else (n, c ∷ t)).1
+  at true p e = ap (λ u. c ∷ u) e
+  at false p e = refl
+
+-- alone they write the same number
+digits_alone : (n : ℕ) (t : Text) → run n (digits_of t) ≡ ((run n t).0, [])
+unfolding run
+digits_alone n [] = refl
+digits_alone n (c ∷ t) = at (is_ascii_digit c) refl _ (digits_alone (n * 10 + (c - code "0")) t) where
+  at : (b : Bool) → is_ascii_digit c ≡ b → (p : ℕ × Text) →
+      run (n * 10 + (c - code "0")) (digits_of t) ≡ (p.0, []) →
+      run n (if b then c ∷ digits_of t else []) ≡ ((if b then p else (n, c ∷ t)).0, [])
+  at true e p h = rw (run, e) h
+  at false e p h = refl
+
+digits_first : (t : Text) → at_digit (digits_of t) ≡ at_digit t
+digits_first [] = refl
+digits_first (c ∷ t) = at (is_ascii_digit c) refl where
+  at : (b : Bool) → is_ascii_digit c ≡ b → at_digit (if b then c ∷ digits_of t else []) ≡ b
+  at true e = e
+  at false e = refl
+
+digits_some : (t : Text) → at_digit t ≡ true → 0 < length (digits_of t)
+digits_some [] e = absurd cc
+digits_some (c ∷ t) e = rw e (omega arith)
+
+-- a number takes the digits at the front, one or more, which alone are the same number
+pub record Taken (t v : Text) (k : ℕ) : Type 0 where
+  pub cut : t ≡ digits_of t ++ v
+  pub some : 0 < length (digits_of t)
+  pub alone : number (digits_of t) ≡ Some (k, [])
+  pub left : (run 0 t).1 ≡ v
+
+pub number_taken : (t v : Text) (k : ℕ) → number t ≡ Some (k, v) → Taken t v k
+number_taken t v k e = at (at_digit t) refl where
+  taken : at_digit t ≡ true → run 0 t ≡ (k, v) → Taken t v k
+  taken d r =
+      let left = ap (λ (p : ℕ × Text). p.1) r in
+      record {
+        cut = digits_cut 0 t ∙ ap (λ u. digits_of t ++ u) left;
+        some = digits_some t d;
+        alone = number_some (digits_of t) (digits_first t ∙ d)
+            ∙ ap Some (digits_alone 0 t ∙ ap (λ (p : ℕ × Text). (p.0, [])) r);
+        left = left;
+      }
+
+  at : (b : Bool) → at_digit t ≡ b → Taken t v k
+  at true d = let found : Some (run 0 t) ≡ Some (k, v) = sym (number_some t d) ∙ e in taken d cc
+  at false d = let nothing = sym (number_none t d) ∙ e in absurd cc

@@ -1,7 +1,11 @@
 -- What holds of every name and reference: it leaves the end of the text behind some characters, and its fault stands
 -- where it begins.
-use Rattle.std.proofs.Common.{Bool, ◌≡◌, ℕ, ◌≤◌, ◌^◌, nat_lt, true, ◌==◌, [], ◌∷◌, ◌++◌, length, length-append}
-use Rattle.std.proofs.Common.{append_assoc, Option, Some, None, option_map, refl, sym, ◌∙◌, arith}
+use Rattle.std.proofs.Common.{Bool, ◌≡◌, ℕ, ◌^◌, nat_lt, true, ◌==◌, [], ◌∷◌, ◌++◌, length-append}
+use Rattle.std.proofs.Common.{append_assoc, Option, Some, None, IfSome, option_map, refl, ap, sym, ◌∙◌, arith, false}
+use Rattle.std.proofs.Common.{if◌then◌else◌}
+use Rattle.std.specs.Option.{option_and_then}
+use Rattle.std.proofs.lemmas.Bool.Decides.{nat_tests}
+use Rattle.fancy_lex.specs.Id.{nonempty_front}
 use Rattle.std.proofs.lemmas.Bool.{cond_both}
 use Prim.Native.Char.{code}
 use Rattle.fancy_lex.specs.Delimited.{name_before, marked_name, of_name}
@@ -12,24 +16,36 @@ use Rattle.fancy_lex.specs.Number.{number, at_digit}
 use Rattle.fancy_lex.specs.Reading.{fails, choose}
 use Rattle.fancy_lex.specs.Referred.{call_to, reference_to, name_reading, reference_by_name, written_reference}
 use Rattle.fancy_lex.specs.Target.{by_number}
-use Rattle.fancy_lex.specs.Text.{Text, reach_of}
-use Rattle.fancy_lex.proofs.DelimitedLaws.{name_sound}
-use Rattle.fancy_lex.proofs.NumberLemmas.{number_sound}
+use Rattle.fancy_lex.specs.Text.{Text, cut_at, reach_of}
+use Rattle.fancy_lex.proofs.NumberLemmas.{digits_of, number_taken}
 use Rattle.fancy_lex.proofs.TakeLaws.{Takes, TakesSome, TakesOrFails, takes, fails_at, takes_on, takes_one, takes_if}
 use Rattle.fancy_lex.proofs.TakeLaws.{takes_as, takes_less}
 
+-- the text is what stands before the mark, the mark, and what follows it
+abbrev IsCut : ℕ → Text → Option (Text × Text) → Type 0
+IsCut mark t o = IfSome o (λ p. t ≡ p.0 ++ mark ∷ p.1)
+
+cut_is : (mark : ℕ) (t : Text) → IsCut mark t (cut_at mark t)
+cut_is mark [] = tt
+cut_is mark (c ∷ t) = at (c == mark) refl (cut_at mark t) (cut_is mark t) where
+  at : (b : Bool) → (c == mark) ≡ b → (o : Option (Text × Text)) → IsCut mark t o →
+      IsCut mark (c ∷ t) (if b then Some ([], t) else option_map (λ p. (c ∷ p.0, p.1)) o)
+  at true s o h = let same : c ≡ mark = grind (arith, nat_tests) in ap (λ d. d ∷ t) same
+  at false s None h = tt
+  at false s (Some p) h = ap (λ u. c ∷ u) h
+
 -- a name and its closing mark
 pub takes_name : (mark : ℕ) (t : Text) → TakesSome 2 t (name_before mark t)
-takes_name mark t = at (name_before mark t) refl where
-  at : (o : Option (Text × Text)) → name_before mark t ≡ o → TakesSome 2 t o
+unfolding name_before
+takes_name mark t = at (cut_at mark t) (cut_is mark t) where
+  at : (o : Option (Text × Text)) → IsCut mark t o → TakesSome 2 t (option_and_then nonempty_front o)
   at None e = tt
-  at (Some (w, v)) e =
-      let name = name_sound mark t w v e in
-      record {
-        word = w ++ mark ∷ [];
-        cut = name.cut ∙ sym (append_assoc w (mark ∷ []) v);
-        long = omega (arith, name.some, length-append w (mark ∷ []));
-      }
+  at (Some ([], v)) e = tt
+  at (Some (c ∷ w, v)) e = record {
+    word = c ∷ w ++ mark ∷ [];
+    cut = e ∙ sym (append_assoc (c ∷ w) (mark ∷ []) v);
+    long = omega (arith, length-append w (mark ∷ []));
+  }
 
 -- the same behind an opening mark
 past_mark : (c mark : ℕ) (t : Text) → TakesSome 3 (c ∷ t) (name_before mark t)
@@ -81,9 +97,8 @@ takes_number t = at (number t) refl where
       (choose o (number_reading (number_too_great t)) (fails (number_too_great t)))
   at None e = fails_here
   at (Some (k, u)) e =
-      let starts = number_sound t u k e in
-      let long : 1 ≤ length starts.w = omega (arith, starts.number.some) in
-      let word : Takes 1 t u = record { word = starts.w; cut = starts.cut; long = long } in
+      let taken = number_taken t u k e in
+      let word : Takes 1 t u = record { word = digits_of t; cut = taken.cut; long = omega (arith, taken.some) } in
       takes_if (reach_of t) 1 t (nat_lt k (2 ^ 64)) (takes word) fails_here
 
 pub takes_numbered_reference : (t : Text) → TakesOrFails (reach_of t) 1 t (numbered_reference t)

@@ -1,22 +1,11 @@
 -- Names: what stands before the first closing mark.
-use Rattle.std.specs.Prelude.{◌≡◌, ◌≢◌, ℕ, ◌<◌, ◌==◌, if◌then◌else◌, [], ◌∷◌, ◌++◌, length, Option, None, option_map}
+use Rattle.std.specs.Prelude.{ℕ, ◌==◌, if◌then◌else◌, [], ◌∷◌, Option, None, option_map}
 use Rattle.std.specs.Option.{option_and_then}
 use Prim.Native.Char.{code}
 use Rattle.fancy_lex.specs.Id.{nonempty_front}
 use Rattle.fancy_lex.specs.Text.{Text, cut_at}
 
--- no character is the mark
-abbrev pub Without : ℕ → Text → Type 0
-Without mark [] = Unit {0}
-Without mark (c ∷ t) = (c ≢ mark) × Without mark t
-
--- the text begins with the name `w`, one or more characters up to the first closing mark, and `v` follows the mark
-pub record StartsWithName (mark : ℕ) (t w v : Text) : Type 0 where
-  pub cut : t ≡ w ++ (mark ∷ v)
-  pub some : 0 < length w
-  pub first : Without mark w
-
--- the name before the closing mark, and what follows the mark
+-- a name is all the characters before the first closing mark, one or more: the name, and what follows the mark
 unfoldable pub name_before : ℕ → Text → Option (Text × Text)
 name_before mark t = option_and_then nonempty_front (cut_at mark t)
 

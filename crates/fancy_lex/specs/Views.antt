@@ -24,10 +24,6 @@ Skips r s =
 abbrev pub parts : Option (Bor (List ℕ) × Bor (List ℕ)) → Option (Text × Text)
 parts = option_map (λ p. (chars p.0.now, chars p.1.now))
 
--- a part that may be missing, and what is left
-abbrev pub option_and_rest : Option (Bor (List ℕ)) × Bor (List ℕ) → Option Text × Text
-option_and_rest p = (option_map (λ s. chars s.now) p.0, chars p.1.now)
-
 -- a value seen through f, and what is left
 abbrev pub view_read : {A B : Type 0} → (A → B) → A × Bor (List ℕ) → B × Text
 view_read f p = (f p.0, chars p.1.now)

@@ -7,7 +7,7 @@ use Rattle.std.specs.Prelude.{option_and_then}
 use Rattle.std.proofs.lemmas.Bool.{cond_both}
 use Prim.Native.Char.{code}
 use Rattle.fancy_lex.proofs.LayoutLaws.{layout_cut}
-use Rattle.fancy_lex.proofs.NumberLemmas.{number_sound}
+use Rattle.fancy_lex.proofs.NumberLemmas.{digits_of, number_taken}
 use Rattle.fancy_lex.proofs.TakeLaws.{Takes, TakesSome, takes_on, takes_one}
 use Rattle.fancy_lex.proofs.TextLemmas.{strip_is}
 use Rattle.std.proofs.lemmas.Bool.Decides.{nat_tests}
@@ -28,7 +28,7 @@ takes_number t = by_number (number t) refl
     by_number : (o : Option (ℕ × Text)) → number t ≡ o → TakesSome 0 t o
     by_number None e = tt
     by_number (Some (n, u)) e =
-        let starts = number_sound t u n e in record { word = starts.w; cut = starts.cut; long = omega arith }
+        record { word = digits_of t; cut = (number_taken t u n e).cut; long = omega arith }
 
 takes_count : (t : Text) → TakesSome 0 t (count t)
 unfolding count

@@ -3,8 +3,7 @@ use Rattle.std.proofs.Common.{◌≡◌, ℕ, ◌+◌, ◌*◌, ◌-◌, ◌^◌
 use Rattle.std.proofs.Common.{Some, None, codes, decimal, refl, sym, ap, ap₂, ◌∙◌, arith, append_assoc, append-nil}
 use Rattle.std.proofs.Common.{eqb-true, ne_eqb, le-leb, lt-ltb, subst}
 use Rattle.std.specs.Char.{digit_value, is_ascii_digit}
-use Rattle.std.specs.Str.Parse.{IsNumeral, digits_value_after}
-use Rattle.std.specs.Str.Parse as parse
+use Rattle.std.specs.Str.Parse.{AllDigits, IsNumeral, digits_value_after}
 use Rattle.std.proofs.lemmas.Bool.{and_from, cond_both, and_parts}
 use Rattle.std.proofs.lemmas.Fmt.{decimal_is_IsNumeral}
 use Rattle.std.proofs.lemmas.Str.{digit_value_digit}
@@ -13,47 +12,38 @@ use Prim.Native.Char.{code}
 use Rattle.fancy_lex.specs.Boundary.{unnamed_boundary, at_count}
 use Rattle.fancy_lex.specs.BoundarySteps.{boundary}
 use Rattle.fancy_lex.specs.LayoutSteps.{after_comment_head, rest_of, past_layout}
-use Rattle.fancy_lex.specs.Number.{AllDigits, at_digit, number, value_after}
+use Rattle.fancy_lex.specs.Number.{at_digit, number, run}
 use Rattle.fancy_lex.specs.Reading.{gives}
 use Rattle.fancy_lex.specs.Text.{Text, strip}
-use Rattle.fancy_lex.proofs.NumberLemmas.{number_complete, number_none}
+use Rattle.fancy_lex.proofs.NumberLemmas.{number_none, number_some, run_stop}
 use Rattle.fancy_parts.specs.Quantifier.{most, count, spaced_count, counts_from, braced_counts, counts}
 use Rattle.fancy_parts.specs.declared.counts.Counts.{Counts}
 use Rattle.fancy_parts.specs.Quote.{range, mark, counts_as, counts_text, quantifier}
 use Rattle.fancy_grammar.proofs.ReadBack.ClearLemmas.{Clear, not_open, no_layout, clear_brace}
 
-digit_is : (c : ℕ) → digit_value c < 10 → (is_ascii_digit c ≡ true) × (c - code "0" ≡ digit_value c)
+pub digit_is : (c : ℕ) → digit_value c < 10 → (is_ascii_digit c ≡ true) × (c - code "0" ≡ digit_value c)
 digit_is c h =
     let r = digit_from_value c h in
     let v = digit_value_digit c r in
     (and_from _ _ (le-leb (code "0") c (omega arith)) (le-leb c (code "9") (omega arith)), omega arith)
 
-pub all_digits : (ds : Text) → parse.AllDigits 10 ds → AllDigits ds
-all_digits [] h = tt
-all_digits (d ∷ ds) h = ((digit_is d h.0).0, all_digits ds h.1)
+-- digits in front of what begins with none
+run_read : (a : ℕ) (ds s : Text) → AllDigits 10 ds → at_digit s ≡ false →
+    run a (ds ++ s) ≡ (digits_value_after 10 a ds, s)
+unfolding run
+run_read a [] s h stop = run_stop a s stop
+run_read a (d ∷ ds) s h stop =
+    let (is, value) = digit_is d h.0 in rw (run, is, value) (run_read (a * 10 + digit_value d) ds s h.1 stop)
 
-same_value : (a : ℕ) (ds : Text) → parse.AllDigits 10 ds → digits_value_after 10 a ds ≡ value_after a ds
-same_value a [] h = refl
-same_value a (d ∷ ds) h =
-    same_value (a * 10 + digit_value d) ds h.1 ∙ ap (λ x. value_after (a * 10 + x) ds) (sym (digit_is d h.0).1)
-
-stop_at : (s : Text) → at_digit s ≡ false → (c : ℕ) (t : Text) → s ≡ c ∷ t → is_ascii_digit c ≡ false
-stop_at s h c t e = sym (ap at_digit e) ∙ h
+number_first : (ds s : Text) → IsNumeral 10 ds → at_digit (ds ++ s) ≡ true
+number_first [] s h = absurd (omega (arith, h.0))
+number_first (d ∷ ds) s h = (digit_is d h.1.0).0
 
 number_read : (n : ℕ) (s : Text) → n < 2 ^ 64 → at_digit s ≡ false → number (decimal n ++ s) ≡ Some (n, s)
 number_read n s h d =
     let (numeral, value) = decimal_is_IsNumeral n h in
-    number_complete (decimal n ++ s) s n
-    (record {
-      w = decimal n;
-      cut = refl;
-      number = record {
-        digits = all_digits (decimal n) numeral.1;
-        some = numeral.0;
-        stops = stop_at s d;
-        value_is = sym value ∙ same_value 0 (decimal n) numeral.1;
-      };
-    })
+    number_some (decimal n ++ s) (number_first (decimal n) s numeral)
+    ∙ ap Some (run_read 0 (decimal n) s numeral.1 d ∙ ap (λ k. (k, s)) value)
 
 no_comment : (ds s : Text) → IsNumeral 10 ds → after_comment_head (ds ++ s) ≡ None
 no_comment [] s h = absurd (omega (arith, h.0))

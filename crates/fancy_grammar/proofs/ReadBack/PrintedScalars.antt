@@ -9,7 +9,7 @@ use Rattle.std.proofs.lemmas.Str.{chars-encodes}
 use Rattle.std.specs.Char.{IsScalar, is_ascii_digit}
 use Rattle.std.specs.Cmp.{first_so, second_so}
 use Rattle.std.specs.Str.{all_scalars}
-use Rattle.fancy_lex.specs.Number.{AllDigits}
+use Rattle.std.specs.Str.Parse.{AllDigits}
 use Rattle.fancy_lex.specs.Text.{Text}
 use Rattle.fancy_lex.specs.declared.escape.Assertion.{Assertion}
 use Rattle.fancy_lex.specs.declared.escape.Assertion.TheVariants.{StartLine, StartLineOniguruma, EndLine}
@@ -21,7 +21,7 @@ use Rattle.fancy_grammar.specs.Printed.{any_text, assertion_text, grouped, casel
 use Rattle.fancy_grammar.specs.Printed.{printed_all, printed_branches, barred}
 use Rattle.fancy_grammar.specs.Tree.{Tree, Trees, no_trees, more_trees, any, assertion, literal, concat, alt, group}
 use Rattle.fancy_grammar.specs.Tree.{repeat, delegate}
-use Rattle.fancy_grammar.proofs.ReadBack.CountTexts.{all_digits}
+use Rattle.fancy_grammar.proofs.ReadBack.CountTexts.{digit_is}
 use Rattle.fancy_grammar.proofs.ReadBack.PrintableLaws.{count_below}
 use Rattle.fancy_grammar.proofs.ReadBack.ScalarLemmas.{scalars_append}
 
@@ -43,12 +43,12 @@ quotes_scalars (c ∷ s) h =
 digit_scalar : (c : ℕ) → is_ascii_digit c ≡ true → IsScalar c
 digit_scalar c h = grind (arith, nat_tests)
 
-digits_scalars : (w : Text) → AllDigits w → all_scalars w ≡ true
+digits_scalars : (w : Text) → AllDigits 10 w → all_scalars w ≡ true
 digits_scalars [] h = refl
-digits_scalars (c ∷ w) h = and_from _ _ (digit_scalar c h.0) (digits_scalars w h.1)
+digits_scalars (c ∷ w) h = and_from _ _ (digit_scalar c (digit_is c h.0).0) (digits_scalars w h.1)
 
 decimal_scalars : (n : ℕ) → n < 2 ^ 64 → all_scalars (decimal n) ≡ true
-decimal_scalars n h = digits_scalars (decimal n) (all_digits (decimal n) (decimal_is_IsNumeral n h).0.1)
+decimal_scalars n h = digits_scalars (decimal n) (decimal_is_IsNumeral n h).0.1
 
 range_scalars : (lo hi : ℕ) → lo < 2 ^ 64 → hi < 2 ^ 64 → all_scalars (range lo hi) ≡ true
 unfolding range

@@ -1,12 +1,11 @@
 //! Hex codes behind `\x`, `\u` and `\U`.
 ghost use Rattle.std.specs.Prelude.{◌≡◌, ℕ, ◌+◌, ◌*◌, ◌-◌, ◌<◌, ◌≤◌, length, chars, IfSome, IfErr, IfOk, option_map, false, true};
 ghost use Rattle.fancy_lex.specs.Characters.{close_brace};
-ghost use Rattle.fancy_lex.specs.Escaped.{Escape};
 ghost use Rattle.fancy_lex.specs.EscapeViews.{escape_of};
 ghost use Rattle.fancy_lex.specs.ErrorViews.{StandsWithin};
 ghost use Rattle.fancy_lex.specs.FaultTable.{code_of_no_character};
 ghost use Rattle.fancy_lex.specs.Hex as spec;
-ghost use Rattle.fancy_lex.specs.Reading.{Derives, Reading, Reads, choose, fails, gives};
+ghost use Rattle.fancy_lex.specs.Reading.{Reads, choose, fails, gives};
 ghost use Rattle.fancy_lex.specs.Text.{EndsWith, Text, strip};
 
 use crate::error::{Failure, ParseError};
@@ -156,8 +155,6 @@ pub(crate) fn short_hex(text: &str, width: u32, flags: Flags) -> Option<(Escaped
 pub fn hex<'a>(text: &'a str, width: u32, flags: Flags) -> Result<(Escaped<'a>, &'a str), Failure>
     requires width { width ≤ 8 }
     ensures value { Reads escape_of result (spec.hex flags width (chars text.now)) }
-    ensures derives { Derives escape_of result (spec.HexCode flags width (chars text.now)) }
-    ensures only { (o : Reading Escape) → spec.HexCode flags width (chars text.now) o → Reads escape_of result o }
     ensures cut { IfOk result (λ p. EndsWith (chars text.now) (chars p.1.now)) }
     ensures place { IfErr result (λ e. StandsWithin (length text.now + 1) e) }
     ensures within { IfOk result (λ p. length p.1.now ≤ length text.now) }

@@ -1,15 +1,15 @@
 //! Names: what stands before the first closing mark.
-ghost use Rattle.std.specs.Prelude.{◌≡◌, ◌<◌, length, chars, IfSome, Some};
+ghost use Rattle.std.specs.Prelude.{◌≡◌, ◌<◌, length, chars, IfSome};
 ghost use Rattle.fancy_lex.specs.Delimited as spec;
-ghost use Rattle.fancy_lex.specs.Text.{Text};
 ghost use Rattle.fancy_lex.specs.Views.{parts};
 
 use crate::text::{next, split_at};
 
-/// Reads a name up to the mark that closes it.
+/// Reads a name, one or more characters up to the first closing mark, which is an ASCII character: the name, and the
+/// text behind the mark. None where no character or no closing mark stands there.
 #[tactic(auto, unfolding(crate::specs::Delimited::name_before))]
-fn read_name(text: &str, mark: char) -> Option<(&str, &str)>
-    requires { mark < 128 }
+pub fn name_before(text: &str, mark: char) -> Option<(&str, &str)>
+    requires ascii { mark < 128 }
     ensures value { spec.name_before mark (chars text.now) ≡ parts result }
     ensures shorter { IfSome result (λ p. length p.1.now < length text.now) }
 {
@@ -18,18 +18,6 @@ fn read_name(text: &str, mark: char) -> Option<(&str, &str)>
         return None;
     }
     Some((name, rest))
-}
-
-/// Reads a name, one or more characters up to the first closing mark, which is an ASCII character: the name, and the
-/// text behind the mark. None where no character or no closing mark stands there.
-pub fn name_before(text: &str, mark: char) -> Option<(&str, &str)>
-    requires ascii { mark < 128 }
-    ensures value { spec.name_before mark (chars text.now) ≡ parts result }
-    ensures derives { IfSome result (λ p. spec.StartsWithName mark (chars text.now) (chars p.0.now) (chars p.1.now)) }
-    ensures only { (w v : Text) → spec.StartsWithName mark (chars text.now) w v → parts result ≡ Some (w, v) }
-    ensures shorter { IfSome result (λ p. length p.1.now < length text.now) }
-{
-    read_name(text, mark)
 }
 
 /// Reads a name between `<` and `>`, or between two `'`: the name, and the text behind the closing mark. None where no

@@ -1,11 +1,9 @@
 //! Ids: the names that a reference may be written with.
-ghost use Rattle.std.specs.Prelude.{◌≡◌, ℕ, ◌<◌, ◌≤◌, ◌++◌, ◌∷◌, false, length, chars, IfSome, option_map, Some};
+ghost use Rattle.std.specs.Prelude.{◌≡◌, ◌<◌, ◌≤◌, length, chars, IfSome, option_map, option_and_then};
 ghost use Rattle.fancy_lex.specs.Id as spec;
 ghost use Rattle.fancy_lex.specs.IdReference as reference;
-ghost use Rattle.fancy_lex.specs.IdReference.{IsIdReference};
 ghost use Rattle.fancy_lex.specs.NameViews.{view_id_reference};
-ghost use Rattle.fancy_lex.specs.Text.{Text};
-ghost use Rattle.fancy_lex.specs.Views.{option_and_rest, parts};
+ghost use Rattle.fancy_lex.specs.Views.{parts};
 
 use crate::name::number_text::whole_number;
 use crate::text::{front, next};
@@ -39,9 +37,9 @@ fn is_id_char(c: char) -> bool
 }
 
 /// What stands behind all the id characters at the front.
+#[tactic(auto, using(crate::proofs::IdLemmas::run_ends))]
 fn behind_id(text: &str) -> &str
-    ensures read { (w : Text) × (spec.AllIdChars w) × (chars text.now ≡ w ++ chars result.now) }
-    ensures stops { (c : ℕ) (t : Text) → chars result.now ≡ c ∷ t → spec.is_id_char c ≡ false }
+    ensures value { (spec.id_run (chars text.now)).1 ≡ chars result.now }
     ensures within { length result.now ≤ length text.now }
 {
     let mut rest = text;
@@ -58,8 +56,6 @@ fn behind_id(text: &str) -> &str
 /// character stands there.
 pub fn id(text: &str) -> Option<(&str, &str)>
     ensures value { spec.id (chars text.now) ≡ parts result }
-    ensures derives { IfSome result (λ p. spec.StartsWithId (chars text.now) (chars p.0.now) (chars p.1.now)) }
-    ensures only { (w v : Text) → spec.StartsWithId (chars text.now) w v → parts result ≡ Some (w, v) }
     ensures shorter { IfSome result (λ p. length p.1.now < length text.now) }
 {
     let rest = behind_id(text);
@@ -93,44 +89,35 @@ pub(crate) fn amount(text: &str) -> Option<isize>
     Some(if sign == '-' { -amount } else { amount })
 }
 
-/// The id at the front or none, and what follows it.
-fn id_or_none(text: &str) -> (Option<&str>, &str)
-    ensures { reference.id_or_none (chars text.now) (spec.id (chars text.now)) ≡ option_and_rest result }
+/// The amount that all of the text writes, where it is not 0.
+#[tactic(auto)]
+fn amount_alone(text: &str) -> Option<IdReference<'_>>
+    ensures { option_and_then reference.without_id (reference.amount (chars text.now))
+        ≡ option_map view_id_reference result }
 {
-    match id(text) {
-        Some((id, rest)) => (Some(id), rest),
-        None => (None, text),
-    }
-}
-
-/// Reads all of the text as an id reference.
-#[tactic(auto, unfolding(crate::specs::IdReference::id_reference))]
-fn read_id_reference(text: &str, relative: bool) -> Option<IdReference<'_>>
-    ensures value { reference.id_reference relative (chars text.now) ≡ option_map view_id_reference result }
-{
-    let (id, rest) = id_or_none(text);
-    if next(rest).is_none() {
-        return Some(IdReference::Id(id?));
-    }
-    if !relative {
-        return None;
-    }
-    let amount = amount(rest)?;
-    match id {
-        Some(id) => Some(IdReference::IdAndAmount(id, amount)),
-        None if amount == 0 => None,
-        None => Some(IdReference::Amount(amount)),
+    let amount = amount(text)?;
+    if amount == 0 {
+        None
+    } else {
+        Some(IdReference::Amount(amount))
     }
 }
 
 /// What all of the text says as an id reference: an id, and where `relative` allows it an amount behind it or in its
 /// place, which is a sign and ASCII digits of a number of at most `isize::MAX`; 0 only behind an id. None for any other
 /// text.
+#[tactic(auto, unfolding(crate::specs::IdReference::id_reference))]
 pub fn id_reference(text: &str, relative: bool) -> Option<IdReference<'_>>
     ensures value { reference.id_reference relative (chars text.now) ≡ option_map view_id_reference result }
-    ensures derives { IfSome result (λ r. IsIdReference relative (chars text.now) (view_id_reference r)) }
-    ensures only { (r : reference.IdReference) → IsIdReference relative (chars text.now) r →
-        option_map view_id_reference result ≡ Some r }
 {
-    read_id_reference(text, relative)
+    let Some((id, rest)) = id(text) else {
+        return if relative { amount_alone(text) } else { None };
+    };
+    if next(rest).is_none() {
+        return Some(IdReference::Id(id));
+    }
+    if !relative {
+        return None;
+    }
+    Some(IdReference::IdAndAmount(id, amount(rest)?))
 }

@@ -1,5 +1,5 @@
 //! Numbers: the digits at the front of a text.
-ghost use Rattle.std.specs.Prelude.{◌≡◌, ℕ, ◌+◌, ◌*◌, ◌<◌, ◌≤◌, ◌∷◌, length, chars, IfSome, MatchOption, false, IsSome, List, Some};
+ghost use Rattle.std.specs.Prelude.{◌≡◌, ℕ, ◌+◌, ◌*◌, ◌<◌, ◌≤◌, ◌∷◌, length, chars, IfSome, MatchOption, false};
 ghost use Rattle.fancy_lex.specs.Number as spec;
 ghost use Rattle.fancy_lex.specs.Views.{GivesNumber};
 
@@ -64,29 +64,17 @@ fn more_digits(number: usize, text: &str) -> (Option<usize>, &str)
     (Some(value), rest)
 }
 
-/// Reads the number at the front. Most have one digit.
+/// Reads the digits at the front: their value, where a word holds it, and the text after them.
 #[inline(always)]
 #[tactic(auto, using(crate::proofs::NumberLemmas::number_none))]
-fn read_number(text: &str) -> Option<(Option<usize>, &str)>
+pub fn number(text: &str) -> Option<(Option<usize>, &str)>
     ensures value { GivesNumber (chars text.now) result }
     ensures shorter { IfSome result (λ p. length p.1.now < length text.now) }
 {
     let (first, rest) = digit(text)?;
+    // Most have one digit.
     let Some((second, behind)) = digit(rest) else {
         return Some((Some(first), rest));
     };
     Some(more_digits(first * 10 + second, behind))
-}
-
-/// Reads the digits at the front: their value, where a word holds it, and the text after them.
-#[inline(always)]
-pub fn number(text: &str) -> Option<(Option<usize>, &str)>
-    ensures value { GivesNumber (chars text.now) result }
-    ensures derives { IfSome result
-        (λ p. (n : ℕ) × spec.IsWord p.0 n × spec.StartsWithNumber (chars text.now) (chars p.1.now) n) }
-    ensures only { (v : List ℕ) (n : ℕ) → spec.StartsWithNumber (chars text.now) v n →
-        IfSome result (λ p. (chars p.1.now ≡ v) × spec.IsWord p.0 n) × IsSome result }
-    ensures shorter { IfSome result (λ p. length p.1.now < length text.now) }
-{
-    read_number(text)
 }

@@ -1,5 +1,5 @@
 //! Number texts: whole texts that write a number.
-ghost use Rattle.std.specs.Prelude.{◌≡◌, ℕ, chars, IfSome, Some};
+ghost use Rattle.std.specs.Prelude.{◌≡◌, chars};
 ghost use Rattle.fancy_lex.specs.NumberText as spec;
 
 use crate::name::number::number;
@@ -21,8 +21,6 @@ pub(crate) fn whole_number(text: &str) -> Option<usize>
 #[tactic(auto, unfolding(crate::specs::NumberText::number_text))]
 pub fn number_text(text: &str) -> Option<usize>
     ensures value { spec.number_text (chars text.now) ≡ result }
-    ensures derives { IfSome result (λ n. spec.IsNumberText (chars text.now) n) }
-    ensures only { (n : ℕ) → spec.IsNumberText (chars text.now) n → result ≡ Some n }
 {
     whole_number(after(text, '+').unwrap_or(text))
 }

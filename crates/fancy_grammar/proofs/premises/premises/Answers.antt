@@ -1,6 +1,4 @@
 use Rattle.fancy_grammar.proofs.PremiseLaws.{layout_related, class_related, letters_related, boundary_related}
-use Rattle.fancy_grammar.proofs.PremiseLaws.{hex_related, number_related, number_text_related, name_related}
-use Rattle.fancy_grammar.proofs.PremiseLaws.{id_reference_related}
 use Rattle.fancy_grammar.proofs.premises.premises.Goals as goal
 
 pub returns : goal.returns
@@ -9,9 +7,4 @@ returns c = record {
   class = class_related;
   letters = letters_related;
   boundary = boundary_related;
-  hex = hex_related;
-  number = number_related;
-  number_text = number_text_related;
-  name = name_related;
-  id_reference = id_reference_related;
 }

@@ -1,17 +1,10 @@
-use Rattle.std.proofs.Common.{◌+◌, chars, arith}
+use Rattle.std.proofs.Common.{chars, arith}
 use Rattle.fancy_lex.proofs.EscapeLaws.{leaves_hex}
 use Rattle.fancy_lex.proofs.LeaveLaws.{given_cut, given_place}
 use Rattle.fancy_lex.proofs.ReadingLemmas.{reads_answers, answers_gives}
 use Rattle.fancy_lex.proofs.TextLemmas.{bytes_chars}
 use Rattle.fancy_lex.specs.EscapeViews.{escape_of}
-use Rattle.fancy_lex.proofs.HexRelation.{hex_derives, hex_only}
 use Rattle.fancy_lex.proofs.escape.hex.hex.Goals as goal
-
-pub returns-clause-derives : goal.returns-clause-derives
-returns-clause-derives c = hex_derives _ _ _ _ c.read_hex.ensures.value
-
-pub returns-clause-only : goal.returns-clause-only
-returns-clause-only c o h = hex_only _ _ _ _ c.read_hex.ensures.value o h
 
 pub returns-clause-cut : goal.returns-clause-cut
 returns-clause-cut c =

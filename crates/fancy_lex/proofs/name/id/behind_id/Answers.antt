@@ -1,16 +1,14 @@
-use Rattle.std.proofs.Common.{◌++◌, ◌∷◌, [], arith, rules, sym}
-use Rattle.fancy_lex.proofs.IdLemmas.{all_snoc, read_step}
+use Rattle.std.proofs.Common.{arith, rules, sym, ◌∙◌}
+use Rattle.fancy_lex.proofs.IdLemmas.{run_more, run_stops}
 use Rattle.fancy_lex.proofs.name.id.behind_id.Goals as goal
 
+pub returns-then-not-is_id_char-clause-value : goal.returns-then-not-is_id_char-clause-value
+returns-then-not-is_id_char-clause-value c =
+    c.loop-c.invariant.behind ∙ run_stops _ _ _ c.in-Some.ensures.value (sym c.if-not-is_id_char.ensures)
+
 pub loop-c-preserved : goal.loop-c-preserved
-loop-c-preserved c =
-    let (w, all, cut) = c.loop-c.invariant.read in
-    record {
-      text = search rules;
-      read = (
-        w ++ c.in-Some.c ∷ [],
-        all_snoc w _ all (sym c.if-not-is_id_char.ensures),
-        read_step _ w _ _ _ cut c.in-Some.ensures.value,
-      );
-      within = omega (arith, c.in-Some.ensures.shorter);
-    }
+loop-c-preserved c = record {
+  text = search rules;
+  behind = c.loop-c.invariant.behind ∙ run_more _ _ _ c.in-Some.ensures.value (sym c.if-not-is_id_char.ensures);
+  within = omega (arith, c.in-Some.ensures.shorter);
+}

@@ -1,14 +1,13 @@
-use Rattle.std.proofs.Common.{◌≡◌, ◌≤◌, ◌++◌, length, chars}
+use Rattle.std.proofs.Common.{◌≡◌, ◌≤◌, length, chars}
 use denote.Text.{Utf8}
 use denote.Shadow.{shadow}
-use Rattle.fancy_lex.specs.Id.{AllIdChars}
-use Rattle.fancy_lex.specs.Text.{Text}
+use Rattle.fancy_lex.specs.Id.{id_run}
 use Rattle.fancy_lex.proofs.name.id.behind_id.Given as goal
 
 abbrev pub invariant-loop-c : goal.invariant-loop-c
 invariant-loop-c l = record {
   text : shadow (Utf8 l.rest);
-  read : (w : Text) × AllIdChars w × (chars l.text ≡ w ++ chars l.rest);
+  behind : (id_run (chars l.text)).1 ≡ (id_run (chars l.rest)).1;
   within : length l.rest ≤ length l.text;
 }
 

@@ -1,8 +1,15 @@
-use Rattle.fancy_lex.proofs.NumberLemmas.{number_derives, number_only}
+use Rattle.std.proofs.Common.{Some, ap, ◌∙◌, refl}
+use Rattle.fancy_lex.proofs.NumberLemmas.{number_of_one_digit, number_of_more_digits}
 use Rattle.fancy_lex.proofs.name.number.number.Goals as goal
 
-pub returns-clause-derives : goal.returns-clause-derives
-returns-clause-derives c = number_derives _ _ c.read_number.ensures.value
+pub returns-in_default-clause-value : goal.returns-in_default-clause-value
+returns-in_default-clause-value c =
+    let digit = c.in_ok-first.ensures.value in
+    (c.in_ok-first.first, number_of_one_digit _ _ _ digit.0 digit.1 c.in_default.ensures.value, refl)
 
-pub returns-clause-only : goal.returns-clause-only
-returns-clause-only c v n b = number_only _ v n _ c.read_number.ensures.value b
+pub returns-clause-value : goal.returns-clause-value
+returns-clause-value c =
+    let first = c.in_ok-first.ensures.value in
+    let second = c.in-Some.ensures.value in
+    let (n, run, word) = c.more_digits.ensures.value in
+    (n, number_of_more_digits _ _ _ _ _ first.0 first.1 second.0 second.1 ∙ ap Some run, word)
