@@ -1,15 +1,12 @@
 -- A number is an id, and what an id reference writes with it, alone or before a level, is the group of that number;
 -- with any other id alone it is the group of that name.
 use Rattle.std.proofs.Common.{◌≡◌, ℕ, ◌+◌, ◌*◌, ◌-◌, ◌^◌, ◌<◌, ℤ, pos, Bool, true, false, [], ◌∷◌, Option, Some, None}
-use Rattle.std.proofs.Common.{◌==◌, if◌then◌else◌, option_map, refl, sym, ap, ◌∙◌, subst, append-nil, arith, inl, inr, nat_lt}
+use Rattle.std.proofs.Common.{◌==◌, if◌then◌else◌, option_map, refl, sym, ap, ◌∙◌, subst, append-nil, arith, nat_lt}
 use Rattle.std.specs.Option.{option_and_then}
 use Rattle.std.specs.Ordering.{int_eq}
-use Rattle.std.proofs.lemmas.Bool.{cases_eq}
 use Rattle.std.proofs.lemmas.Bool.Decides.{nat_tests}
-use Rattle.unicode.proofs.CategoryComputing.{ucd_category}
-use Rattle.unicode.proofs.DerivedComputing.{ucd_derived}
 use Prim.Native.Char.{code}
-use Rattle.std.specs.Char.{is_ascii_digit}
+use Rattle.std.specs.Char.{is_ascii, is_ascii_alphanumeric, is_ascii_digit}
 use Rattle.fancy_lex.specs.Characters.{◌∈◌}
 use Rattle.fancy_lex.specs.Id.{is_id_char, id_run, id}
 use Rattle.fancy_lex.specs.IdReference.{id_alone, id_and_amount, amount_alone, small_amount, amount}
@@ -20,7 +17,7 @@ use Rattle.fancy_lex.specs.Referred.{reference_of, reference_to, target_of_name,
 use Rattle.fancy_lex.specs.Target.{by_number, by_name}
 use Rattle.fancy_lex.specs.Reading.{choose}
 use Rattle.fancy_lex.specs.Text.{Text, strip}
-use Rattle.fancy_lex.proofs.AsciiLemmas.{alphanumeric_told}
+use Rattle.fancy_lex.proofs.AsciiLemmas.{alphanumeric_told, other_told}
 use Rattle.fancy_lex.proofs.IdLemmas.{front_some, id_cut}
 use Rattle.fancy_lex.proofs.NumberLemmas.{Taken, digits_of, number_taken}
 
@@ -29,20 +26,11 @@ use Rattle.fancy_lex.proofs.NumberLemmas.{Taken, digits_of, number_taken}
 id_of_digit : (c : ℕ) → is_ascii_digit c ≡ true → is_id_char c ≡ true
 id_of_digit c h = alphanumeric_told c (rw h refl)
 
-plus_no_id : is_id_char (code "+") ≡ false
-unfolding is_id_char ucd_category ucd_derived
-plus_no_id = refl
-
-minus_no_id : is_id_char (code "-") ≡ false
-unfolding is_id_char ucd_category ucd_derived
-minus_no_id = refl
-
 sign_no_id : (c : ℕ) → (c ∈ "+-") ≡ true → is_id_char c ≡ false
 sign_no_id c h =
-    elim (cases_eq c (code "+")) [
-      | inl e ↦ ap is_id_char e ∙ plus_no_id
-      | inr e ↦ let other : c ≡ code "-" = grind (arith, nat_tests) in ap is_id_char other ∙ minus_no_id
-    ]
+    let alone : is_ascii_alphanumeric c ≡ false = grind (arith, nat_tests) in
+    let ascii : is_ascii c ≡ true = grind (arith, nat_tests) in
+    other_told c alone ascii ∙ grind (arith, nat_tests)
 
 -- no id stands at the front
 abbrev NoId : Text → Type 0
@@ -75,11 +63,11 @@ no_plus : (t w v : Text) → ◌≡◌ {A = Option (Text × Text)} (id t) (Some 
 unfolding id id_run
 no_plus [] w v e = refl
 no_plus (c ∷ t) w v e = at (c == code "+") refl where
-  bare : c ≡ code "+" → id (c ∷ t) ≡ None
-  bare same = rw (same, plus_no_id) refl
+  nothing : is_id_char c ≡ false → ⊥
+  nothing none = let bare : id (c ∷ t) ≡ None = rw none refl in cc
 
   at : (b : Bool) → (c == code "+") ≡ b → (if b then Some t else None) ≡ None
-  at true s = let none = bare (grind (arith, nat_tests)) in absurd cc
+  at true s = let none : is_id_char c ≡ false = sign_no_id c (rw s refl) in absurd (nothing none)
   at false s = refl
 
 -- ---- a number is an id

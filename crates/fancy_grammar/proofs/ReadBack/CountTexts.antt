@@ -33,7 +33,9 @@ run_read : (a : ℕ) (ds s : Text) → AllDigits 10 ds → at_digit s ≡ false 
 unfolding run
 run_read a [] s h stop = run_stop a s stop
 run_read a (d ∷ ds) s h stop =
-    let (is, value) = digit_is d h.0 in rw (run, is, value) (run_read (a * 10 + digit_value d) ds s h.1 stop)
+    let (is, value) = digit_is d h.0 in
+    rw (run, is)
+    (ap (λ x. run (a * 10 + x) (ds ++ s)) value ∙ run_read (a * 10 + digit_value d) ds s h.1 stop)
 
 number_first : (ds s : Text) → IsNumeral 10 ds → at_digit (ds ++ s) ≡ true
 number_first [] s h = absurd (omega (arith, h.0))
