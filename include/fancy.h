@@ -77,7 +77,7 @@ enum {
     FANCY_REPEAT = 11,          /* least, most, greedy */
     FANCY_DELEGATE = 12,        /* text, size, casei */
     FANCY_BACKREF = 13,         /* number, casei */
-    FANCY_BACKREF_AT_LEVEL = 14, /* number, level, casei */
+    FANCY_BACKREF_AT_LEVEL = 14, /* number, has_level, level, casei */
     FANCY_ATOMIC_GROUP = 15,
     FANCY_KEEP_OUT = 16,
     FANCY_CONTINUE_FROM_PREVIOUS_MATCH_END = 17,
@@ -126,13 +126,13 @@ typedef struct {
     size_t size;     /* of the text that was to be written, in bytes, where fancy_message or fancy_print has one; else 0 */
 } fancy_answer;
 
-/* A node. What its kind does not have is 0 or false. */
+/* A node. What its kind does not have is 0 or false, and text is 0 where size is. */
 typedef struct {
     uint32_t kind;
     uint32_t which;
     size_t end;      /* the index behind its last descendant: its first child, if it has one, is the next node, and each
                         further child begins at the end of the one before */
-    size_t text;     /* where its text begins in the buffer of texts; a text has no 0 behind it */
+    size_t text;     /* where its text begins in the buffer of texts, 0 where it has none; a text has no 0 behind it */
     size_t size;     /* of its text, in bytes */
     size_t least;    /* how often at least */
     size_t most;     /* how often at most, SIZE_MAX for no bound */
@@ -144,7 +144,7 @@ typedef struct {
     bool unicode;    /* the line breaks of Unicode count too */
     bool casei;      /* upper and lower case are one */
     bool greedy;     /* as often as possible is tried first */
-    bool has_level;  /* a level is meant */
+    bool has_level;  /* a level of recursion is meant: always of a FANCY_BACKREF_AT_LEVEL */
 } fancy_node;
 
 /* A name of a group with its number. A name that several groups have stands once for each. */

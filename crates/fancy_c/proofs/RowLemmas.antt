@@ -9,7 +9,7 @@ use Rattle.fancy_grammar.specs.Label as label
 use Rattle.fancy_grammar.specs.Tree.{Tree, leaf, over, row as row_of, Trees, no_trees, more_trees, list_of, children}
 use Rattle.fancy_parts.specs.Room.{in_word}
 use Rattle.fancy_c.specs.Buffer.{put_at}
-use Rattle.fancy_c.specs.Node.{listed, listed_all, listed_each, carried, texts, row, rows}
+use Rattle.fancy_c.specs.Node.{listed, listed_all, listed_each, carried, texts, start_of_text, row, rows}
 use Rattle.fancy_c.specs.declared.node.Node.{Node}
 
 -- ---- the nodes of a tree are the node and those of its children
@@ -48,7 +48,7 @@ pub rows-append : (i o : ℕ) (xs ys : List Tree) →
     rows i o (xs ++ ys) ≡ rows i o xs ++ rows (i + length xs) (o + length (texts xs)) ys
 rows-append i o [] ys = rows_at i (i + 0) o (o + 0) ys (omega arith) (omega arith)
 rows-append i o (x ∷ xs) ys =
-    ap (λ l. row (record { end = i + length (listed x); text = o }) x ∷ l)
+    ap (λ l. row (record { end = i + length (listed x); text = start_of_text o (carried x) }) x ∷ l)
     (rows-append (i + 1) (o + length (carried x)) xs ys
     ∙ ap (λ l. rows (i + 1) (o + length (carried x)) xs ++ l)
     (rows_at _ _ _ _ ys (omega arith) (omega (arith, length-append (carried x) (texts xs)))))
@@ -112,18 +112,19 @@ texts_size t = ap length (texts_is t) ∙ length-append (carried t) (texts (list
 pub text_place : (w v : List ℕ) (o p : ℕ) → w ≡ v → p ≡ o + length w → p ≡ o + length v
 text_place w v o p is at = at ∙ ap (λ u. o + length u) is
 
-pub row_put : (t : Tree) (nodes nodes' : List Node) (n o b : ℕ) → b ≡ n + 1 + length (listed_each (children t)) →
-    n + length (listed t) ≤ length nodes
+pub row_put : (t : Tree) (nodes nodes' : List Node) (n o b p : ℕ) → b ≡ n + 1 + length (listed_each (children t)) →
+    p ≡ start_of_text o (carried t) → n + length (listed t) ≤ length nodes
     → nodes' ≡ put_at nodes (n + 1) (rows (n + 1) (o + length (carried t)) (listed_each (children t)))
-    → set nodes' n (row (record { end = b; text = o }) t) ≡ put_at nodes n (rows n o (listed t))
-row_put t nodes nodes' n o b end room put =
+    → set nodes' n (row (record { end = b; text = p }) t) ≡ put_at nodes n (rows n o (listed t))
+row_put t nodes nodes' n o b p end start room put =
     let inside = rows (n + 1) (o + length (carried t)) (listed_each (children t)) in
     let size = rows_length (n + 1) (o + length (carried t)) (listed_each (children t)) in
     let long = listed_length t in
     let end_is : b ≡ n + length (listed t) = omega (arith, end, long) in
-    ap (λ l. set l n (row (record { end = b; text = o }) t)) put
-    ∙ put_before nodes n (row (record { end = b; text = o }) t) inside (omega (arith, room, long, size))
-    ∙ ap (λ e. put_at nodes n (row (record { end = e; text = o }) t ∷ inside)) end_is
+    ap (λ l. set l n (row (record { end = b; text = p }) t)) put
+    ∙ put_before nodes n (row (record { end = b; text = p }) t) inside (omega (arith, room, long, size))
+    ∙ ap (λ e. put_at nodes n (row (record { end = e; text = p }) t ∷ inside)) end_is
+    ∙ ap (λ q. put_at nodes n (row (record { end = n + length (listed t); text = q }) t ∷ inside)) start
     ∙ ap (λ l. put_at nodes n (rows n o l)) (sym (listed_is t))
 
 pub text_put : (t : Tree) (bytes bytes' bytes'' : List ℕ) (o p : ℕ) → p ≡ o + length (carried t) →

@@ -166,11 +166,17 @@ abbrev pub texts : List Tree → List ℕ
 texts [] = []
 texts (t ∷ ts) = carried t ++ texts ts
 
+-- where a text begins that is put at the byte o; 0 where there is none
+abbrev pub start_of_text : ℕ → List ℕ → ℕ
+start_of_text o [] = 0
+start_of_text o (b ∷ bs) = o
+
 -- their rows, from the index i and the byte o on
 abbrev pub rows : ℕ → ℕ → List Tree → List Node
 rows i o [] = []
 rows i o (t ∷ ts) =
-    row (record { end = i + length (listed t); text = o }) t ∷ rows (i + 1) (o + length (carried t)) ts
+    row (record { end = i + length (listed t); text = start_of_text o (carried t) }) t
+    ∷ rows (i + 1) (o + length (carried t)) ts
 
 -- the nodes of several trees
 abbrev pub listed_each : List Tree → List Tree

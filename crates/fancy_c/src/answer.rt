@@ -18,6 +18,11 @@ pub const SHORT: u32 = 4;
 /// The pattern has a tree, which is not printable.
 pub const NOT_PRINTABLE: u32 = 5;
 
+// Callers in C compare with these very numbers.
+const _: () = prove!(READ == 0 && REFUSED == 1 && NO_UTF8 == 2);
+
+const _: () = prove!(NO_MEMORY == 3 && SHORT == 4 && NOT_PRINTABLE == 5);
+
 /// No fault.
 pub const NO_KIND: u32 = 0;
 
@@ -53,17 +58,31 @@ pub const INVALID_GROUP_NAME: u32 = 15;
 
 pub const INVALID_GROUP_NAME_BACKREF: u32 = 16;
 
+const _: () = prove!(NO_KIND == 0 && GENERAL_PARSE_ERROR == 1 && UNCLOSED_OPEN_PAREN == 2);
+
+const _: () = prove!(INVALID_REPEAT == 3 && RECURSION_EXCEEDED == 4 && TRAILING_BACKSLASH == 5);
+
+const _: () = prove!(INVALID_ESCAPE == 6 && UNCLOSED_UNICODE_NAME == 7 && INVALID_HEX == 8);
+
+const _: () = prove!(INVALID_CODEPOINT_VALUE == 9 && INVALID_CLASS == 10 && UNKNOWN_FLAG == 11);
+
+const _: () = prove!(CHANGING_UNICODE_MODE_UNSUPPORTED == 12 && INVALID_BACKREF == 13);
+
+const _: () = prove!(TARGET_NOT_REPEATABLE == 14 && INVALID_GROUP_NAME == 15);
+
+const _: () = prove!(INVALID_GROUP_NAME_BACKREF == 16);
+
 /// What became of a call.
 #[repr(C)]
 #[derive(Clone, Copy)]
 pub struct Answer {
     /// `READ`, `REFUSED`, `NO_UTF8`, `NO_MEMORY`, `SHORT` or `NOT_PRINTABLE`.
     pub answer: u32,
-    /// The kind of the fault, `NO_KIND` where there is none.
+    /// The kind of the fault, `NO_KIND` where none is told.
     pub kind: u32,
-    /// The place of the fault, or of the first byte that is no UTF-8, as a byte offset.
+    /// The place of the fault, or of the first byte that is no UTF-8, as a byte offset; else 0.
     pub place: usize,
-    /// How many bytes the text has that is to be written.
+    /// How many bytes the text has that is to be written, where there is one; else 0.
     pub size: usize,
 }
 

@@ -30,6 +30,9 @@ fn tell(alloc: Global, place: usize, kind: &ParseError, buffer: &mut [u8]) -> An
     ensures kept { result.answer ≢ REFUSED → buffer.new ≡ buffer.old }
     ensures fault { (result.answer ≢ READ) × (result.answer ≢ NO_UTF8) }
     ensures answers { result.answer ≤ SHORT }
+    ensures no_kind { result.answer ≡ NO_MEMORY → result.kind ≡ NO_KIND }
+    ensures no_place { result.answer ≡ NO_MEMORY → result.place ≡ 0 }
+    ensures no_size { result.answer ≡ NO_MEMORY → result.size ≡ 0 }
 {
     let Ok(words) = words(alloc, kind) else {
         return Answer {
@@ -70,6 +73,9 @@ pub extern "C" fn fancy_message(
     ensures no_utf8 { result.answer ≡ NO_UTF8 → IsNoUtf8 pattern.now result.place }
     ensures kept { result.answer ≢ REFUSED → buffer.new ≡ buffer.old }
     ensures answers { result.answer ≤ SHORT }
+    ensures no_kind { result.answer ≢ REFUSED → result.answer ≢ SHORT → result.kind ≡ NO_KIND }
+    ensures no_place { result.answer ≢ REFUSED → result.answer ≢ SHORT → result.answer ≢ NO_UTF8 → result.place ≡ 0 }
+    ensures no_size { result.answer ≢ REFUSED → result.answer ≢ SHORT → result.size ≡ 0 }
 {
     match read(alloc, pattern, flags) {
         Ok(_) => Answer {

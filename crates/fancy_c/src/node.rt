@@ -56,6 +56,25 @@ pub const DEFINE_GROUP: u32 = 23;
 
 pub const AST_NODE: u32 = 24;
 
+// Callers in C compare with these very numbers.
+const _: () = prove!(EMPTY == 1 && ANY == 2 && ASSERTION == 3);
+
+const _: () = prove!(GENERAL_NEWLINE == 4 && LITERAL == 5 && LITERAL_BYTES == 6);
+
+const _: () = prove!(CONCAT == 7 && ALT == 8 && GROUP == 9);
+
+const _: () = prove!(LOOK_AROUND == 10 && REPEAT == 11 && DELEGATE == 12);
+
+const _: () = prove!(BACKREF == 13 && BACKREF_AT_LEVEL == 14 && ATOMIC_GROUP == 15);
+
+const _: () = prove!(KEEP_OUT == 16 && CONTINUE_FROM_PREVIOUS_MATCH_END == 17);
+
+const _: () = prove!(BACKREF_EXISTS_CONDITION == 18 && CONDITIONAL == 19 && SUBROUTINE_CALL == 20);
+
+const _: () = prove!(VERB == 21 && ABSENT == 22 && DEFINE_GROUP == 23);
+
+const _: () = prove!(AST_NODE == 24);
+
 pub const START_TEXT: u32 = 1;
 
 pub const END_TEXT: u32 = 2;
@@ -80,6 +99,16 @@ pub const WORD_BOUNDARY: u32 = 11;
 
 pub const NOT_WORD_BOUNDARY: u32 = 12;
 
+const _: () = prove!(START_TEXT == 1 && END_TEXT == 2 && END_TEXT_IGNORE_TRAILING_NEWLINES == 3);
+
+const _: () = prove!(START_LINE == 4 && START_LINE_ONIGURUMA == 5 && END_LINE == 6);
+
+const _: () = prove!(LEFT_WORD_BOUNDARY == 7 && LEFT_WORD_HALF_BOUNDARY == 8);
+
+const _: () = prove!(RIGHT_WORD_BOUNDARY == 9 && RIGHT_WORD_HALF_BOUNDARY == 10);
+
+const _: () = prove!(WORD_BOUNDARY == 11 && NOT_WORD_BOUNDARY == 12);
+
 pub const LOOK_AHEAD: u32 = 1;
 
 pub const LOOK_AHEAD_NEG: u32 = 2;
@@ -87,6 +116,10 @@ pub const LOOK_AHEAD_NEG: u32 = 2;
 pub const LOOK_BEHIND: u32 = 3;
 
 pub const LOOK_BEHIND_NEG: u32 = 4;
+
+const _: () = prove!(LOOK_AHEAD == 1 && LOOK_AHEAD_NEG == 2 && LOOK_BEHIND == 3);
+
+const _: () = prove!(LOOK_BEHIND_NEG == 4);
 
 pub const FAIL: u32 = 1;
 
@@ -98,6 +131,10 @@ pub const SKIP: u32 = 4;
 
 pub const PRUNE: u32 = 5;
 
+const _: () = prove!(FAIL == 1 && ACCEPT == 2 && COMMIT == 3);
+
+const _: () = prove!(SKIP == 4 && PRUNE == 5);
+
 pub const REPEATER: u32 = 1;
 
 pub const EXPRESSION: u32 = 2;
@@ -106,11 +143,17 @@ pub const STOPPER: u32 = 3;
 
 pub const CLEAR: u32 = 4;
 
+const _: () = prove!(REPEATER == 1 && EXPRESSION == 2 && STOPPER == 3);
+
+const _: () = prove!(CLEAR == 4);
+
 pub const BY_NUMBER: u32 = 1;
 
 pub const BY_NAME: u32 = 2;
 
 pub const RELATIVE: u32 = 3;
+
+const _: () = prove!(BY_NUMBER == 1 && BY_NAME == 2 && RELATIVE == 3);
 
 /// A node. What its kind does not have is 0 or false.
 #[repr(C)]
@@ -122,7 +165,7 @@ pub struct Node {
     pub which: u32,
     /// The index behind its last descendant.
     pub end: usize,
-    /// Where its text begins in the buffer of texts, as a byte offset.
+    /// Where its text begins in the buffer of texts, as a byte offset; 0 where it has none.
     pub text: usize,
     /// How many bytes its text has.
     pub size: usize,
@@ -146,11 +189,11 @@ pub struct Node {
     pub casei: bool,
     /// Whether as often as possible is tried first.
     pub greedy: bool,
-    /// Whether a level is meant.
+    /// Whether a level of recursion is meant; of a `BACKREF_AT_LEVEL` always.
     pub has_level: bool,
 }
 
-/// Where a node stands: the index behind its last descendant, and where its text begins.
+/// Where a node stands: the index behind its last descendant, and where its text begins, 0 where it has none.
 #[derive(Clone, Copy)]
 pub(crate) struct Stand {
     pub(crate) end: usize,

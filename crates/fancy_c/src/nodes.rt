@@ -105,6 +105,9 @@ fn tell(
     ensures names_kept { result.answer ≢ READ → names.new ≡ names.old }
     ensures backrefs_kept { result.answer ≢ READ → backrefs.new ≡ backrefs.old }
     ensures answers { (result.answer ≡ READ) ⊎ (result.answer ≡ SHORT) }
+    ensures no_kind { result.kind ≡ NO_KIND }
+    ensures no_place { result.place ≡ 0 }
+    ensures no_size { result.size ≡ 0 }
 {
     let told = marks_told(tree);
     *marks = told;
@@ -157,6 +160,9 @@ pub extern "C" fn fancy_nodes(
     ensures backrefs_kept { result.answer ≢ READ → backrefs.new ≡ backrefs.old }
     ensures marks_kept { result.answer ≢ READ → result.answer ≢ SHORT → marks.new ≡ marks.old }
     ensures answers { result.answer ≤ SHORT }
+    ensures no_kind { result.answer ≢ REFUSED → result.kind ≡ NO_KIND }
+    ensures no_place { result.answer ≢ REFUSED → result.answer ≢ NO_UTF8 → result.place ≡ 0 }
+    ensures no_size { result.size ≡ 0 }
 {
     match read(alloc, pattern, flags) {
         Ok(tree) => tell(nodes, texts, names, backrefs, marks, &tree),

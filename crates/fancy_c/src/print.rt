@@ -35,6 +35,9 @@ fn print(alloc: Global, tree: &Expr, precedence: u8, buffer: &mut [u8]) -> Answe
     ensures kept { result.answer ≢ READ → buffer.new ≡ buffer.old }
     ensures fault { (result.answer ≢ REFUSED) × (result.answer ≢ NO_UTF8) }
     ensures answers { result.answer ≤ NOT_PRINTABLE }
+    ensures no_kind { result.kind ≡ NO_KIND }
+    ensures no_place { result.place ≡ 0 }
+    ensures no_size { result.answer ≢ READ → result.answer ≢ SHORT → result.size ≡ 0 }
 {
     match text_of(alloc, tree, precedence) {
         Ok(Some(text)) => {
@@ -88,6 +91,9 @@ pub extern "C" fn fancy_print(
     ensures no_utf8 { result.answer ≡ NO_UTF8 → IsNoUtf8 pattern.now result.place }
     ensures kept { result.answer ≢ READ → buffer.new ≡ buffer.old }
     ensures answers { result.answer ≤ NOT_PRINTABLE }
+    ensures no_kind { result.answer ≢ REFUSED → result.kind ≡ NO_KIND }
+    ensures no_place { result.answer ≢ REFUSED → result.answer ≢ NO_UTF8 → result.place ≡ 0 }
+    ensures no_size { result.answer ≢ READ → result.answer ≢ SHORT → result.size ≡ 0 }
 {
     match read(alloc, pattern, flags) {
         Ok(tree) => print(alloc, &tree.expr, precedence, buffer),

@@ -1,5 +1,5 @@
 //! Bytes read as a pattern.
-ghost use Rattle.std.specs.Prelude.{◌≡◌, ◌≤◌, IfOk, IfErr};
+ghost use Rattle.std.specs.Prelude.{◌≡◌, ◌≢◌, ◌≤◌, IfOk, IfErr};
 ghost use Rattle.fancy_lex.specs.Fault.{Kind};
 ghost use Rattle.fancy_lex.specs.Flags.{flags_of};
 ghost use Rattle.fancy_grammar.specs.Marks.{Marks};
@@ -76,6 +76,9 @@ pub extern "C" fn fancy_read(alloc: Global, pattern: &[u8], flags: u32) -> Answe
         × IsFaultOfBytes (flags_of flags) pattern.now k result.place }
     ensures no_utf8 { result.answer ≡ NO_UTF8 → IsNoUtf8 pattern.now result.place }
     ensures answers { result.answer ≤ NO_MEMORY }
+    ensures no_kind { result.answer ≢ REFUSED → result.kind ≡ NO_KIND }
+    ensures no_place { result.answer ≢ REFUSED → result.answer ≢ NO_UTF8 → result.place ≡ 0 }
+    ensures no_size { result.size ≡ 0 }
 {
     match read(alloc, pattern, flags) {
         Ok(_) => Answer {

@@ -4,6 +4,7 @@ ghost use Rattle.fancy_parts.specs.Room.{in_word};
 ghost use Rattle.fancy_grammar.specs.Tree.{children};
 ghost use Rattle.fancy_syntax.specs.View.{view};
 ghost use Rattle.fancy_c.specs.Buffer.{put_at};
+ghost use Rattle.fancy_c.specs.Node as spec;
 ghost use Rattle.fancy_c.specs.Node.{listed, listed_each, rows, texts};
 
 use crate::node::{Node, Stand, carried};
@@ -43,6 +44,16 @@ pub(crate) fn put_text(bytes: &mut [u8], place: usize, text: &[u8]) -> usize
     behind
 }
 
+/// Where a text begins that is put at a place; 0 where there is none.
+fn start_of_text(place: usize, text: &[u8]) -> usize
+    ensures { result ≡ spec.start_of_text place text.now }
+{
+    match text {
+        [] => 0,
+        _ => place,
+    }
+}
+
 /// Writes the rows of a tree's nodes, and their texts, behind the counts, and answers the counts behind them.
 #[cycle(put)]
 pub(crate) fn put_tree(nodes: &mut [Node], bytes: &mut [u8], tree: &Expr, before: Counts) -> Counts
@@ -53,14 +64,15 @@ pub(crate) fn put_tree(nodes: &mut [Node], bytes: &mut [u8], tree: &Expr, before
     ensures nodes { nodes.new ≡ put_at nodes.old before.rows (rows before.rows before.text (listed (view tree.now))) }
     ensures bytes { bytes.new ≡ put_at bytes.old before.text (texts (listed (view tree.now))) }
 {
+    let text = carried(tree);
     let first = Counts {
         rows: before.rows + 1,
-        text: put_text(bytes, before.text, carried(tree)),
+        text: put_text(bytes, before.text, text),
     };
     let behind = put_children(nodes, bytes, tree, first);
     let stand = Stand {
         end: behind.rows,
-        text: before.text,
+        text: start_of_text(before.text, text),
     };
     nodes[before.rows] = stand.row(tree);
     behind

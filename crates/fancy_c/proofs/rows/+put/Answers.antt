@@ -2,7 +2,7 @@ use Rattle.std.proofs.Common.{◌+◌, ◌<◌, ◌∙◌, ap, sym, set, length,
 use Rattle.fancy_grammar.specs.Tree.{levels, children}
 use Rattle.fancy_syntax.specs.View.{view, views}
 use Rattle.fancy_syntax.proofs.Descents.{sweep_start, sweep_head, sweep_next, levels_of_child}
-use Rattle.fancy_c.specs.Node.{listed_each, rows}
+use Rattle.fancy_c.specs.Node.{listed_each, rows, start_of_text}
 use Rattle.fancy_c.specs.Buffer.{put_at}
 use Rattle.fancy_c.proofs.RowLemmas.{putting_starts, putting_as, putting_next, putting_ends, putting_room, put_length}
 use Rattle.fancy_c.proofs.RowLemmas.{listed_length, texts_size, row_put, text_put, text_place}
@@ -60,14 +60,14 @@ put_children-returns-clause-bytes t c =
 pub put_tree-put_text-requires : goal.put_tree-put_text-requires
 put_tree-put_text-requires t c =
     let tree = view c.args.tree.now in
-    omega (arith, c.requires.bytes_room, texts_size tree, ap length c.carried.ensures)
+    omega (arith, c.requires.bytes_room, texts_size tree, ap length c.carried-text.ensures)
 
 pub put_tree-put_children-behind-requires : goal.put_tree-put_children-behind-requires
 put_tree-put_children-behind-requires t c =
     let tree = view c.args.tree.now in
-    let size = ap length c.carried.ensures in
+    let size = ap length c.carried-text.ensures in
     let text = ap length c.put_text.ensures.put
-    ∙ put_length c.args.bytes.now c.args.before.text c.carried.result.now
+    ∙ put_length c.args.bytes.now c.args.before.text c.carried-text.result.now
     (omega (arith, c.requires.bytes_room, texts_size tree, size)) in (
       omega arith,
       (
@@ -87,7 +87,7 @@ put_tree-returns-clause-text_behind t c =
       c.put_children-behind.ensures.text_behind,
       c.put_text.ensures.behind,
       texts_size (view c.args.tree.now),
-      ap length c.carried.ensures,
+      ap length c.carried-text.ensures,
     )
 
 pub put_tree-returns-clause-nodes : goal.put_tree-returns-clause-nodes
@@ -95,16 +95,17 @@ put_tree-returns-clause-nodes t c =
     let tree = view c.args.tree.now in
     let n = c.args.before.rows in
     let put = c.put_children-behind.ensures in
-    let at_text = text_place _ _ _ _ c.carried.ensures c.put_text.ensures.behind in
+    let at_text = text_place _ _ _ _ c.carried-text.ensures c.put_text.ensures.behind in
     ap (λ r. set c.put_children-behind.new.nodes n r) c.row.ensures
     ∙ row_put tree c.args.nodes.now c.put_children-behind.new.nodes n c.args.before.text
-    c.put_children-behind.result.rows put.behind c.requires.nodes_room
+    c.put_children-behind.result.rows _ put.behind
+    (c.start_of_text.ensures ∙ ap (start_of_text c.args.before.text) c.carried-text.ensures) c.requires.nodes_room
     (put.nodes ∙ ap (λ o. put_at c.args.nodes.now (n + 1) (rows (n + 1) o (listed_each (children tree)))) at_text)
 
 pub put_tree-returns-clause-bytes : goal.put_tree-returns-clause-bytes
 put_tree-returns-clause-bytes t c =
-    let at_text = text_place _ _ _ _ c.carried.ensures c.put_text.ensures.behind in
+    let at_text = text_place _ _ _ _ c.carried-text.ensures c.put_text.ensures.behind in
     text_put (view c.args.tree.now) c.args.bytes.now c.put_text.new.bytes c.put_children-behind.new.bytes
     c.args.before.text c.put_text.result at_text c.requires.bytes_room
-    (c.put_text.ensures.put ∙ ap (put_at c.args.bytes.now c.args.before.text) c.carried.ensures)
+    (c.put_text.ensures.put ∙ ap (put_at c.args.bytes.now c.args.before.text) c.carried-text.ensures)
     c.put_children-behind.ensures.bytes
