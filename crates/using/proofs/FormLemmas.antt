@@ -1,6 +1,7 @@
 -- What follows of a pattern from what the library promises.
 use Rattle.std.proofs.Common.{◌≡◌, ℕ, chars, string_bytes, String, length, Option, Some, None, is_some, IfSome}
 use Rattle.std.proofs.Common.{MatchOption, ap, sym, ◌∙◌}
+use Rattle.std.specs.Prelude.{encode_utf8_all}
 use Rattle.std.specs.declared.alloc.Global.{Global}
 use Rattle.fancy_lex.specs.Text.{Text}
 use Rattle.fancy_lex.specs.declared.flags.Flags.{Flags}
@@ -9,6 +10,7 @@ use Rattle.fancy_syntax.specs.Answer.{IsTreeOf}
 use Rattle.fancy_syntax.specs.Answered.{groups}
 use Rattle.fancy_syntax.specs.Marks.{Marks}
 use Rattle.fancy_syntax.specs.Printable.{printable}
+use Rattle.fancy_syntax.specs.Printed.{printed}
 use Rattle.fancy_syntax.specs.ReadBack.{IsReadBack}
 use Rattle.fancy_syntax.specs.Tree.{Tree}
 use Rattle.using.specs.Forms.{IsFormOf, HasNoForm}
@@ -16,10 +18,11 @@ use Rattle.using.specs.Forms.{IsFormOf, HasNoForm}
 -- what a tree of the pattern prints as is a form of it, and without a text it has none
 pub form_of : (f : Flags) (pattern : Text) (t : Tree) (m : Marks) (text : Option (String Global)) →
     IsTreeOf f pattern t m → is_some text ≡ printable t →
+    IfSome text (λ s. string_bytes s ≡ encode_utf8_all (printed t 0)) →
     IfSome text (λ s. IsReadBack t 0 (chars (string_bytes s))) →
-    MatchOption text (HasNoForm f pattern) (λ s. IsFormOf f pattern (chars (string_bytes s)))
-form_of f pattern t m None found exact back = (t, m, found, sym exact)
-form_of f pattern t m (Some s) found exact back = (t, m, found, back)
+    MatchOption text (HasNoForm f pattern) (λ s. IsFormOf f pattern (string_bytes s))
+form_of f pattern t m None found exact is back = (t, m, found, sym exact)
+form_of f pattern t m (Some s) found exact is back = (t, m, found, is, back)
 
 -- where a pattern has one tree, its Groups are as many as the marks say
 pub count_of : (f : Flags) (pattern : Text) (t : Tree) (m : Marks) →

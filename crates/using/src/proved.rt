@@ -3,6 +3,8 @@ ghost use Rattle.std.specs.Prelude.{◌≡◌, chars, length, string_bytes, IfOk
 ghost use Rattle.fancy_lex.specs.Flags.{flags_of};
 ghost use Rattle.fancy_syntax.specs.Answer.{IsTreeOf};
 ghost use Rattle.fancy_syntax.specs.Answered.{groups};
+ghost use Rattle.fancy_syntax.specs.Marks.{Marks};
+ghost use Rattle.fancy_syntax.specs.Tree.{Tree};
 ghost use Rattle.using.specs.Forms.{IsFormOf, HasNoForm};
 
 use fancy_syntax::{Error, Expr, FLAG_UNICODE, WHOLE};
@@ -11,7 +13,7 @@ use std::alloc::Global;
 /// The text that the pattern prints as; none where its tree is not printable.
 pub fn formatted(alloc: Global, pattern: &str) -> Result<Option<String>, Error>
     ensures form { IfOk result (λ text. MatchOption text (HasNoForm (flags_of FLAG_UNICODE) (chars pattern.now))
-        (λ s. IsFormOf (flags_of FLAG_UNICODE) (chars pattern.now) (chars (string_bytes s)))) }
+        (λ s. IsFormOf (flags_of FLAG_UNICODE) (chars pattern.now) (string_bytes s))) }
 {
     let tree = Expr::parse_tree_with_flags(alloc, pattern, FLAG_UNICODE)?;
     Ok(tree.expr.print(alloc, WHOLE)?)
@@ -19,6 +21,8 @@ pub fn formatted(alloc: Global, pattern: &str) -> Result<Option<String>, Error>
 
 /// How many capturing groups the pattern has.
 pub fn group_count(alloc: Global, pattern: &str) -> Result<usize, Error>
+    ensures tree { IfOk result (λ n. (t : Tree) × (m : Marks) ×
+        IsTreeOf (flags_of FLAG_UNICODE) (chars pattern.now) t m) }
     ensures count { IfOk result (λ n. (t : _) (m : _) → IsTreeOf (flags_of FLAG_UNICODE) (chars pattern.now) t m →
         length (groups t) ≡ n) }
 {
