@@ -32,7 +32,8 @@ pub record IsLineOf (t : Tree) (w : List ℕ) : Type 0 where
 
 -- the tree has no text, or one that cannot stand in a line
 abbrev pub HasNoLine : Tree → Type 0
-HasNoLine t = (printable t ≡ false) ⊎ ((has_break (text_bytes t) ≡ true) ⊎ HasFault unicode_alone (chars (text_bytes t)))
+HasNoLine t = (printable t ≡ false)
+    ⊎ ((has_break (text_bytes t) ≡ true) ⊎ HasFault unicode_alone (chars (text_bytes t)))
 
 -- the text is the tree's line; or the pattern is kept, since the tree has none
 abbrev pub IsWrittenAs : Tree → Text → Type 0
