@@ -1,5 +1,5 @@
 //! The verb `tree`: a pattern's tree with branches, and what is known of it.
-ghost use Rattle.std.specs.Prelude.{◌≡◌, chars, Ok};
+ghost use Rattle.std.specs.Prelude.{◌≡◌, ◌≤◌, ◌⊎◌, chars, Ok, IfOk};
 ghost use Rattle.fancy_lex.specs.Flags.{flags_of};
 ghost use Rattle.fre_program.specs.Words.{HasTree, HasFault};
 
@@ -161,6 +161,7 @@ fn answer<O: Write, E: Write>(
 ) -> Result<u8, Fault>
     ensures read { result ≡ Ok 0 → HasTree (flags_of flags) (chars pattern.now) }
     ensures refused { result ≡ Ok 1 → HasFault (flags_of flags) (chars pattern.now) }
+    ensures status { IfOk result (λ n. n ≤ 1) }
 {
     let at = Location {
         file: "PATTERN",
@@ -186,6 +187,7 @@ pub fn draw_tree<O: Write, E: Write>(
 ) -> u8
     ensures read { result ≡ 0 → HasTree (flags_of flags) (chars pattern.now) }
     ensures refused { result ≡ 1 → HasFault (flags_of flags) (chars pattern.now) }
+    ensures status { (result ≡ 0) ⊎ ((result ≡ 1) ⊎ (result ≡ 3)) }
 {
     match answer(alloc, flags, style, pattern, out, err) {
         Ok(status) => status,

@@ -1,7 +1,10 @@
 //! The verb `format`: each pattern as it prints.
-ghost use Rattle.std.specs.Prelude.{◌≡◌, chars, Ok};
-ghost use Rattle.fancy_lex.specs.Flags.{flags_of};
+ghost use Rattle.std.specs.Prelude.{◌≡◌, ◌≢◌, ◌⊎◌, ℕ, List, true, false, chars, Ok, IfOk, OnSome, IfNone};
+ghost use Rattle.fancy_lex.specs.Flags.{flags_of, unicode_alone};
+ghost use Rattle.fancy_syntax.specs.View.{view};
 ghost use Rattle.fre_program.specs.Words.{HasTree, HasFault};
+ghost use Rattle.patterns_program.specs.Line as spec;
+ghost use Rattle.patterns_program.specs.Line.{IsLineOf, HasNoLine, IsWrittenAs, Stays, Changes};
 ghost use Rattle.patterns_program.specs.declared.outcome.Outcome.{Outcome};
 
 use crate::fault::Fault;
@@ -64,7 +67,10 @@ fn first_textless(tree: &Expr) -> Option<&'static str> {
 }
 
 /// Whether a printed text is read again: all are but those in which too many groups nest.
-fn is_read_again(alloc: Global, text: &str) -> Result<bool, Fault> {
+fn is_read_again(alloc: Global, text: &str) -> Result<bool, Fault>
+    ensures read { IfOk result (λ is. is ≡ true → HasTree unicode_alone (chars text.now)) }
+    ensures refused { IfOk result (λ is. is ≡ false → HasFault unicode_alone (chars text.now)) }
+{
     match Expr::parse_tree(alloc, text) {
         Ok(_) => Ok(true),
         Err(Error::ParseError(..)) => Ok(false),
@@ -72,9 +78,22 @@ fn is_read_again(alloc: Global, text: &str) -> Result<bool, Fault> {
     }
 }
 
+/// Whether the text holds an end of a line.
+fn has_break(text: &str) -> bool
+    ensures { result ≡ spec.has_break text.now }
+{
+    let bytes = text.as_bytes();
+    bytes.contains(&b'\n') || bytes.contains(&b'\r')
+}
+
 /// Why a printed text cannot stand in a line for its pattern, where it cannot.
-fn hindrance(alloc: Global, text: &str) -> Result<Option<&'static str>, Fault> {
-    if text.contains(['\n', '\r']) {
+fn hindrance(alloc: Global, text: &str) -> Result<Option<&'static str>, Fault>
+    ensures none { IfOk result (λ why. IfNone why
+        ((spec.has_break text.now ≡ false) × HasTree unicode_alone (chars text.now))) }
+    ensures some { IfOk result (λ why. OnSome why
+        ((spec.has_break text.now ≡ true) ⊎ HasFault unicode_alone (chars text.now))) }
+{
+    if has_break(text) {
         return Ok(Some("its text holds a line break"));
     }
     if !is_read_again(alloc, text)? {
@@ -84,7 +103,9 @@ fn hindrance(alloc: Global, text: &str) -> Result<Option<&'static str>, Fault> {
 }
 
 /// What the tree's pattern is written as.
-fn text_of(alloc: Global, tree: &Expr) -> Result<Text, Fault> {
+fn text_of(alloc: Global, tree: &Expr) -> Result<Text, Fault>
+    ensures { IfOk result (λ text. IsWrittenAs (view tree.now) text) }
+{
     let Some(text) = tree.print(alloc, WHOLE)? else {
         return Ok(Text::Kept(first_textless(tree).unwrap_or("a repeat of nothing has no text")));
     };
@@ -136,7 +157,10 @@ pub(crate) fn format_pattern<O: Write, E: Write>(
 }
 
 /// Whether the tree's pattern is written as it is.
-fn stays(alloc: Global, pattern: &str, tree: &Expr) -> Result<bool, Fault> {
+fn stays(alloc: Global, pattern: &str, tree: &Expr) -> Result<bool, Fault>
+    ensures stays { IfOk result (λ is. is ≡ true → IsLineOf (view tree.now) pattern.now ⊎ HasNoLine (view tree.now)) }
+    ensures changes { IfOk result (λ is. is ≡ false → (w : List ℕ) × IsLineOf (view tree.now) w × (w ≢ pattern.now)) }
+{
     Ok(match text_of(alloc, tree)? {
         Text::Printed(text) => text.as_str() == pattern,
         Text::Kept(_) => true,
@@ -151,7 +175,9 @@ pub(crate) fn is_formatted<E: Write>(
     pattern: &str,
     err: &mut E,
 ) -> Result<Outcome, Fault>
-    ensures good { result ≡ Ok Outcome.Good → HasTree (flags_of flags) (chars pattern.now) }
+    ensures good { result ≡ Ok Outcome.Good → Stays (flags_of flags) pattern.now }
+    ensures refused { result ≡ Ok Outcome.Refused → HasFault (flags_of flags) (chars pattern.now)
+        ⊎ Changes (flags_of flags) pattern.now }
     ensures read { result ≡ Ok Outcome.Unread → ⊥ }
 {
     let Some(tree) = read(alloc, flags, at, pattern, err)? else {

@@ -1,6 +1,8 @@
 //! Patterns read.
-ghost use Rattle.std.specs.Prelude.{chars, IfOk, OnSome, IfNone};
+ghost use Rattle.std.specs.Prelude.{chars, IfOk, IfSome, OnSome, IfNone};
 ghost use Rattle.fancy_lex.specs.Flags.{flags_of};
+ghost use Rattle.fancy_syntax.specs.Answer.{IsTreeOf, marks_of};
+ghost use Rattle.fancy_syntax.specs.View.{view};
 ghost use Rattle.fre_program.specs.Words.{HasTree, HasFault};
 
 use crate::fault::Fault;
@@ -20,6 +22,8 @@ pub(crate) fn read<O: Write>(
     refusals: &mut O,
 ) -> Result<Option<ExprTree>, Fault>
     ensures read { IfOk result (λ answer. OnSome answer (HasTree (flags_of flags) (chars pattern.now))) }
+    ensures tree { IfOk result (λ answer. IfSome answer (λ t.
+        IsTreeOf (flags_of flags) (chars pattern.now) (view t.expr) (marks_of t))) }
     ensures refused { IfOk result (λ answer. IfNone answer (HasFault (flags_of flags) (chars pattern.now))) }
 {
     match Expr::parse_tree_with_flags(alloc, pattern, flags) {
