@@ -1,13 +1,18 @@
 -- No more groups are open at once than the text has opening parentheses.
-use Rattle.std.proofs.Common.{◌≡◌, ℕ, ◌+◌, ◌<◌, ◌≤◌, ◌==◌, Bool, true, false, Option, Some, None, List, [], ◌∷◌, ◌++◌}
+use Rattle.std.proofs.Common.{◌≡◌, ◌≢◌, ℕ, zero, suc, ◌+◌, ◌<◌, ◌≤◌, ◌==◌, Bool, true, false, Some, None, List, [], ◌∷◌}
+use Rattle.std.proofs.Common.{◌++◌, chars, drop, append-nil}
 use Rattle.std.proofs.Common.{length, refl, sym, ap, ◌∙◌, subst, arith, if◌then◌else◌}
-use Rattle.std.specs.Prelude.{nat_le, option_map, vec_len, vec_capacity}
+use Rattle.std.specs.Prelude.{nat_le, slice_index, vec_len, vec_capacity}
 use Rattle.std.proofs.lemmas.Bool.{cond_both}
 use Rattle.std.proofs.lemmas.Bool.Decides.{nat_tests}
 use Rattle.std.proofs.lemmas.List.{length_push}
+use Rattle.std.proofs.lemmas.Str.{encode_ascii, encodes-chars, inside_one}
+use Rattle.std.proofs.Math.Utf8.{encode, encodes}
+use Rattle.std.specs.Str.{IsUtf8}
+use Rattle.memchr.specs.Find.{IsFirstByte, is_byte}
 use Prim.Native.Char.{code}
 use Rattle.fancy_lex.specs.Characters.{bar, open_paren}
-use Rattle.fancy_lex.specs.Text.{Text, bytes, cut_at}
+use Rattle.fancy_lex.specs.Text.{Text, bytes}
 use Rattle.fancy_grammar.specs.Ahead.{Ahead, nothing, leaf, ahead, ahead_of}
 use Rattle.fancy_grammar.specs.Ahead.{is_before_nothing}
 use Rattle.fancy_grammar.specs.Depth.{max_depth, most_open}
@@ -135,38 +140,68 @@ room_for_step v (step.Open opener) r h steps below room e =
 
 -- ---- the count
 
-pub no_more : (t : Text) → cut_at open_paren t ≡ None → open_parens t ≡ 0
-no_more [] e = refl
-no_more (c ∷ t) e = by_test (no_more t) (c == open_paren) e
+-- the byte of an opening parenthesis stands in a text where the character does
+no_paren : (bs : List ℕ) → ((k : ℕ) → k < length bs → slice_index bs k ≢ open_paren) → open_parens bs ≡ 0
+no_paren [] h = refl
+no_paren (b ∷ bs) h =
+    by_test (b == open_paren) refl (no_paren bs (λ k l. h (suc k) (omega (arith, l))))
   where
-    none : (o : Option (Text × Text)) → option_map {U = Text × Text} (λ p. (c ∷ p.0, p.1)) o ≡ None → o ≡ None
-    none None i = refl
-    none (Some p) i = absurd cc
+    by_test : (x : Bool) → (b == open_paren) ≡ x → open_parens bs ≡ 0 →
+        (if x then open_parens bs + 1 else open_parens bs) ≡ 0
+    by_test true e more = absurd (h 0 (omega arith) (grind (arith, nat_tests)))
+    by_test false e more = more
 
-    by_test : (cut_at open_paren t ≡ None → open_parens t ≡ 0) → (b : Bool) →
-        (if b then Some ([], t) else option_map {U = Text × Text} (λ p. (c ∷ p.0, p.1)) (cut_at open_paren t)) ≡ None →
-        (if b then open_parens t + 1 else open_parens t) ≡ 0
-    by_test all true i = absurd cc
-    by_test all false i = all (none (cut_at open_paren t) i)
-
-pub one_more : (t : Text) (p : Text × Text) → cut_at open_paren t ≡ Some p → open_parens t ≡ open_parens p.1 + 1
-one_more [] p e = absurd cc
-one_more (c ∷ t) p e = by_test (one_more t) (c == open_paren) e
+parens_encoded : (cs : Text) → open_parens (encodes cs) ≡ open_parens cs
+parens_encoded [] = refl
+parens_encoded (c ∷ cs) =
+    open_parens-append (encode c) (encodes cs) ∙ by_test (c == open_paren) refl (parens_encoded cs)
   where
-    later : (o : Option (Text × Text)) → ((q : Text × Text) → o ≡ Some q → open_parens t ≡ open_parens q.1 + 1) →
-        option_map {U = Text × Text} (λ p. (c ∷ p.0, p.1)) o ≡ Some p → open_parens t ≡ open_parens p.1 + 1
-    later None all i = absurd cc
-    later (Some q) all i =
-        let same : q.1 ≡ p.1 = cc in
-        all q refl ∙ ap (λ x. open_parens x + 1) same
+    one_of : (c == open_paren) ≡ true → open_parens (encode c) ≡ 1
+    one_of e =
+        let is : c ≡ open_paren = grind (arith, nat_tests) in
+        rw (encode_ascii c (omega (arith, is)), is) refl
 
-    by_test : ((q : Text × Text) → cut_at open_paren t ≡ Some q → open_parens t ≡ open_parens q.1 + 1) → (b : Bool) →
-        (if b then Some ([], t) else option_map {U = Text × Text} (λ p. (c ∷ p.0, p.1)) (cut_at open_paren t)) ≡ Some p →
-        (if b then open_parens t + 1 else open_parens t) ≡ open_parens p.1 + 1
-    by_test all true i =
-        let same : t ≡ p.1 = cc in
-        ap (λ x. open_parens x + 1) same
-    by_test all false i = later (cut_at open_paren t) all i
+    none_of : (c == open_paren) ≡ false → open_parens (encode c) ≡ 0
+    none_of e = no_paren (encode c) (λ k l i.
+        let same : c ≡ slice_index (encode c) k =
+        inside_one c [] (encode c) k (sym (append-nil (encode c))) l (omega (arith, i)) in
+        grind (arith, nat_tests))
+
+    by_test : (b : Bool) → (c == open_paren) ≡ b → open_parens (encodes cs) ≡ open_parens cs →
+        open_parens (encode c) + open_parens (encodes cs) ≡ (if b then open_parens cs + 1 else open_parens cs)
+    by_test true e more = omega (arith, one_of e, more)
+    by_test false e more = omega (arith, none_of e, more)
+
+pub parens_of_bytes : (bs : List ℕ) → IsUtf8 bs → open_parens bs ≡ open_parens (chars bs)
+parens_of_bytes bs u = ap open_parens (sym (encodes-chars bs u)) ∙ parens_encoded (chars bs)
+
+-- none is left where none is found
+pub none_found : (bs : List ℕ) → IsFirstByte (is_byte open_paren) bs None → open_parens bs ≡ 0
+none_found bs none = no_paren bs (λ k l e. none k (omega arith) l (grind (arith, nat_tests)))
+
+-- behind the first there is one less
+paren_at : (bs : List ℕ) (k : ℕ) → k < length bs → ((j : ℕ) → j < k → slice_index bs j ≢ open_paren) →
+    slice_index bs k ≡ open_paren → open_parens bs ≡ open_parens (drop 1 (drop k bs)) + 1
+paren_at [] k l h e = absurd (omega (arith, l))
+paren_at (b ∷ bs) zero l h e = by_test (b == open_paren) refl
+  where
+    by_test : (x : Bool) → (b == open_paren) ≡ x →
+        (if x then open_parens bs + 1 else open_parens bs) ≡ open_parens bs + 1
+    by_test true i = refl
+    by_test false i = absurd (grind (arith, nat_tests))
+paren_at (b ∷ bs) (suc k) l h e =
+    by_test (b == open_paren) refl (paren_at bs k (omega (arith, l)) (λ j m. h (suc j) (omega (arith, m))) e)
+  where
+    by_test : (x : Bool) → (b == open_paren) ≡ x → open_parens bs ≡ open_parens (drop 1 (drop k bs)) + 1 →
+        (if x then open_parens bs + 1 else open_parens bs) ≡ open_parens (drop 1 (drop k bs)) + 1
+    by_test true i more = absurd (h 0 (omega arith) (grind (arith, nat_tests)))
+    by_test false i more = more
+
+pub first_found : (bs : List ℕ) (k : ℕ) → IsFirstByte (is_byte open_paren) bs (Some k) →
+    open_parens bs ≡ open_parens (drop 1 (drop k bs)) + 1
+first_found bs k first =
+    paren_at bs k first.0.high (λ j l e. first.0.before j (omega arith) l (grind (arith, nat_tests)))
+    (grind (arith, nat_tests))
 
 -- fewer than may be are all that there are
 pub all_counted : (t : Text) (count : ℕ) → open_parens t ≡ count → count < most_open → count ≡ groups_at_once t
@@ -175,3 +210,11 @@ all_counted t count e l = by_test (nat_le most_open (open_parens t)) refl
     by_test : (b : Bool) → nat_le most_open (open_parens t) ≡ b → count ≡ (if b then most_open else open_parens t)
     by_test true i = absurd (grind (arith, nat_tests))
     by_test false i = sym e
+
+-- and no more are counted than may be
+pub most_counted : (t : Text) (count : ℕ) → most_open ≤ open_parens t → count ≡ most_open → count ≡ groups_at_once t
+most_counted t count l e = by_test (nat_le most_open (open_parens t)) refl
+  where
+    by_test : (b : Bool) → nat_le most_open (open_parens t) ≡ b → count ≡ (if b then most_open else open_parens t)
+    by_test true i = e
+    by_test false i = absurd (grind (arith, nat_tests))

@@ -21,7 +21,8 @@ use crate::grammar::state::{MAX_DEPTH, State};
 use crate::grammar::step::{Step, close, read_step};
 use crate::grammar::trees::add;
 use fancy_lex::error::Failure;
-use fancy_lex::text::{byte_len, reach, split_at};
+use fancy_lex::text::{byte_len, reach};
+use memchr::memchr;
 use std::alloc::{AllocError, Global};
 use std::mem;
 
@@ -185,13 +186,14 @@ impl<'a> Reading<'a> {
 fn groups_at_once(text: &str) -> usize
     ensures { result ≡ groups_at_once (chars text.now) }
 {
-    let mut rest = text;
+    let mut rest = text.as_bytes();
     let mut count = 0;
     while count < MAX_DEPTH - 1 {
-        let Some((_, behind)) = split_at(rest, '(') else {
+        let Some(index) = memchr(b'(', rest) else {
             return count;
         };
-        rest = behind;
+        let (_, behind) = rest.split_at(index);
+        rest = &behind[1..];
         count += 1;
     }
     count
