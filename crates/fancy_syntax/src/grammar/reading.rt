@@ -1,5 +1,5 @@
 //! Where the loop stands that reads the raw tree of a text.
-ghost use Rattle.std.specs.Prelude.{◌≡◌, ◌<◌, ◌≤◌, true, false, length, chars, vec_len, vec_capacity};
+ghost use Rattle.std.specs.Prelude.{◌≡◌, ◌∷◌, [], ◌++◌, ◌<◌, ◌≤◌, true, false, length, chars, vec_len, vec_capacity};
 ghost use Rattle.std.specs.Prelude.{Some, None, IfOk, OnOk, MatchOption, MatchResult};
 ghost use Rattle.fancy_lex.specs.Characters.{bar};
 ghost use Rattle.fancy_lex.specs.Text.{strip};
@@ -53,12 +53,14 @@ impl<'a> Reading<'a> {
         ensures reading { IfOk result (λ r. IsReading (state start.entry) r) }
         ensures room { IfOk result (λ r. HasRoom r (chars start.entry.rest.now)) }
     {
-        Ok(Reading {
+        let mut reading = Reading {
             here: start,
             frame: Frame::new(Opener::Top, 0, start.flags),
-            stack: Vec::with_capacity(alloc, groups_at_once(start.rest))?,
+            stack: Vec::new(alloc),
             trees: Vec::with_capacity(alloc, TREES)?,
-        })
+        };
+        reading.stack.reserve_exact(groups_at_once(start.rest))?;
+        Ok(reading)
     }
 
     /// Reads the leaf at the front, where a look ahead reads all of it: whether it does.
@@ -174,15 +176,25 @@ impl<'a> Reading<'a> {
             Step::Piece(piece) => add(&mut self.trees, piece),
             Step::Open(opener) => {
                 let inner = Frame::new(opener, self.trees.len(), self.here.flags);
-                self.stack
-                    .push_reserved(mem::replace(&mut self.frame, inner));
+                push_frame(&mut self.stack, mem::replace(&mut self.frame, inner));
                 Ok(())
             }
         }
     }
 }
 
+/// Puts a frame on the stack, which has room for it. It stands apart: inlined, it costs each leaf registers.
+#[inline(never)]
+fn push_frame<'a>(stack: &mut Vec<Frame<'a>>, frame: Frame<'a>)
+    requires room { vec_len stack.old < vec_capacity stack.old }
+    ensures items { stack.new.items ≡ stack.old.items ++ frame.entry ∷ [] }
+    ensures capacity { vec_capacity stack.new ≡ vec_capacity stack.old }
+{
+    stack.push_reserved(frame);
+}
+
 /// How many groups can be open at once in the text: as many as it has opening parentheses, and fewer than MAX_DEPTH.
+#[inline(never)]
 fn groups_at_once(text: &str) -> usize
     ensures { result ≡ groups_at_once (chars text.now) }
 {

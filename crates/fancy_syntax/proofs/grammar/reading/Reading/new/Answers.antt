@@ -1,4 +1,4 @@
-use Rattle.std.proofs.Common.{ap}
+use Rattle.std.proofs.Common.{ap, ◌∙◌}
 use Rattle.fancy_syntax.specs.Machine.{part_of}
 use Rattle.fancy_syntax.specs.Parsed.{state}
 use Rattle.fancy_syntax.specs.View.{views}
@@ -8,5 +8,5 @@ use Rattle.fancy_syntax.proofs.grammar.reading.Reading.new.Goals as goal
 pub returns-clause-reading : goal.returns-clause-reading
 returns-clause-reading c =
     let f = c.new.ensures in
-    running_start (state c.args.start) _ _ _ c.in_ok-with_capacity.ensures.items (ap views c.in_ok-with_capacity-2.ensures.items)
+    running_start (state c.args.start) _ _ _ (c.reserve_exact.ensures.items ∙ c.new-2.ensures.items) (ap views c.in_ok-with_capacity.ensures.items)
     f.branches f.pieces (ap part_of f.opener)
