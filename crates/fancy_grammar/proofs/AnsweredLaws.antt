@@ -1,5 +1,5 @@
 -- What is true of every answered tree, by the nodes of the raw tree that it was resolved from.
-use Rattle.std.proofs.Common.{◌≡◌, ℕ, suc, ◌≤◌, ◌==◌, Bool, true, false, ◌||◌, if◌then◌else◌, List, [], ◌∷◌, length}
+use Rattle.std.proofs.Common.{◌≡◌, ℕ, suc, ◌+◌, ◌≤◌, ◌==◌, Bool, true, false, ◌||◌, if◌then◌else◌, List, [], ◌∷◌, length}
 use Rattle.std.proofs.Common.{Option, Some, None, filter, filter_map, map, nat_le, nat_lt, refl, sym, ap, ◌∙◌, subst}
 use Rattle.std.specs.List.{AllByRecursion, list_any}
 use Rattle.std.proofs.lemmas.List.{length-map}
@@ -8,18 +8,17 @@ use Rattle.fancy_lex.specs.Fault.{Fault, Kind, invalid_group_name_backref}
 use Rattle.fancy_lex.specs.Target.{Target, by_number, by_name, relative}
 use Rattle.fancy_lex.specs.Text.{Text, bytes}
 use Rattle.fancy_lex.specs.declared.flags.Flags.{Flags}
-use Rattle.fancy_parts.specs.Meaning.{Meaning, number, unresolved, faulty, means, meaning, back_to, last_of}
+use Rattle.fancy_parts.specs.Meaning.{Meaning, number, unresolved, faulty, means, back_to, last_of}
 use Rattle.fancy_parts.specs.Meaning.{group_or_none, no_group, at_distance, Role, back_reference, condition}
 use Rattle.fancy_parts.specs.Meaning.{AnyReference, fault_or, first_fault}
-use Rattle.fancy_parts.specs.Ranks.{Opening, is_counted, numbers, openings_before, only_named, numbered_openings_in}
-use Rattle.fancy_parts.specs.Ranks.{numbered_openings}
+use Rattle.fancy_parts.specs.Ranks.{Opening, is_counted, only_named, numbered_openings_in, numbered_openings}
 use Rattle.fancy_grammar.specs.Answer.{IsTreeOf}
 use Rattle.fancy_grammar.specs.Answered.{is_call_as_read, IsAnsweredNode, IsAnswered, IsAnsweredWith, AreNamed}
 use Rattle.fancy_grammar.specs.Answered.{is_group, groups}
 use Rattle.fancy_grammar.specs.Answered.{is_call_node, has_call, group_referred, groups_referred, numbered_in}
 use Rattle.fancy_grammar.specs.Answered.{numbered_groups, HasGroupsOf}
 use Rattle.fancy_grammar.specs.Grammar.{DerivesTree}
-use Rattle.fancy_grammar.specs.Items.{openings_in, references_in, openings, references, role_of, target_of}
+use Rattle.fancy_grammar.specs.Items.{openings_in, openings, role_of, target_of, meanings_in, numbers_in, meanings}
 use Rattle.fancy_grammar.specs.Label as label
 use Rattle.fancy_grammar.specs.Label.{AstReference, ast_backref, ast_call, ast_condition}
 use Rattle.fancy_grammar.specs.Marks.{Marks, marks, is_call, back_number, back_numbers, ascending}
@@ -30,8 +29,7 @@ use Rattle.fancy_grammar.specs.Tree.{list_of}
 use Rattle.fancy_parts.specs.Groups.{numbers_under}
 use Rattle.fancy_parts.proofs.NamedLaws.{under_named}
 use Rattle.fancy_grammar.proofs.NamedNumbers.{named_ascend, carries, number_carried}
-use Rattle.fancy_grammar.proofs.PreorderLaws.{of_reference, kept}
-use Rattle.fancy_grammar.proofs.PreorderLaws.{resolved_nodes, items_of_all, items_of_nodes}
+use Rattle.fancy_grammar.proofs.PreorderLaws.{of_reference, behind, kept, resolved_nodes, items_of_all, items_of_nodes}
 use Rattle.fancy_grammar.proofs.Verdict.{same_tree}
 use Rattle.fancy_grammar.proofs.ReadLaws.{IsReadNode, IsRead, derived_read}
 
@@ -86,63 +84,96 @@ reference_answered z (faulty k) r place o u e = absurd cc
 
 -- ---- the nodes that resolving keeps
 
-module _ (z : ℕ) (named : Bool) (g : List Opening) where
-  -- what a reference at the reach means
-  abbrev means_here : AstReference → ℕ → Meaning
-  means_here r reach = means (λ u. numbers u g) (openings_before g reach) (role_of r) (target_of r)
+module _ (z : ℕ) (named : Bool) (numbers_of : Text → List ℕ) where
+  -- what a reference means behind c groups
+  abbrev means_here : ℕ → AstReference → Meaning
+  means_here c r = means numbers_of c (role_of r) (target_of r)
+
+  abbrev behind_group : Option Text → ℕ → ℕ
+  behind_group = behind z named numbers_of
+
+  abbrev kept_here : ℕ → List Tree → List Tree
+  kept_here = kept z named numbers_of
+
+  abbrev meant : ℕ → List Tree → List (AnyReference × Meaning)
+  meant c l = meanings_in named numbers_of c (items_of_all l)
 
   -- their openings are those that have a number
-  openings_counted : (l : List Tree) →
-      map (λ q. q.0) (numbered_in named l) ≡ numbered_openings_in named (openings_in (items_of_all l))
-  openings_counted [] = refl
-  openings_counted (ast_group name place t ∷ l) = by_name (is_counted named name) refl (openings_counted l)
+  openings_counted : (c : ℕ) (l : List Tree) →
+      map (λ q. q.1) (numbered_in named c l) ≡ numbered_openings_in named (openings_in (items_of_all l))
+  openings_counted c [] = refl
+  openings_counted c (ast_group name place t ∷ l) =
+      by_name (is_counted named name) (openings_counted (c + 1) l) (openings_counted c l)
     where
-      by_name : (b : Bool) → is_counted named name ≡ b →
-          map (λ q. q.0) (numbered_in named l) ≡ numbered_openings_in named (openings_in (items_of_all l)) →
-          map (λ q. q.0) (numbered_in named (ast_group name place t ∷ l))
-          ≡ numbered_openings_in named (openings_in (items_of_all (ast_group name place t ∷ l)))
-      by_name true e more = rw e (ap (λ l. record { reach = place; name = name } ∷ l) more)
-      by_name false e more = rw e more
-  openings_counted (ast_node r place ∷ l) = openings_counted l
-  openings_counted (_ ∷ l) = openings_counted l
+      o : Opening
+      o = record { reach = place; name = name }
+
+      rest : List Opening
+      rest = numbered_openings_in named (openings_in (items_of_all l))
+
+      by_name : (b : Bool) → map (λ q. q.1) (numbered_in named (c + 1) l) ≡ rest →
+          map (λ q. q.1) (numbered_in named c l) ≡ rest →
+          map (λ q. q.1) (if b then (c + 1, o, t) ∷ numbered_in named (c + 1) l else numbered_in named c l)
+          ≡ (if b then o ∷ rest else rest)
+      by_name true counted passed_over = ap (λ l. o ∷ l) counted
+      by_name false counted passed_over = passed_over
+  openings_counted c (ast_node r place ∷ l) = openings_counted c l
+  openings_counted c (_ ∷ l) = openings_counted c l
 
   if_false : {A : Type 0} (x y : A) (b : Bool) → b ≡ false → (if b then x else y) ≡ y
   if_false x y b e = ap (λ b. if b then x else y) e
 
   -- the Groups are these with their insides resolved
-  groups_kept : (l : List Tree) → AllByRecursion IsReadNode l →
-      filter is_group (kept z named g l) ≡ map (λ q. group (resolved_in z named g q.1)) (numbered_in named l)
-  groups_kept [] h = refl
-  groups_kept (ast_group name place t ∷ l) h = by_name (is_counted named name) refl (groups_kept l h.1)
+  groups_kept : (c : ℕ) (l : List Tree) → AllByRecursion IsReadNode l →
+      filter is_group (kept_here c l) ≡ map (λ q. group (resolved_in z named numbers_of q.0 q.2)) (numbered_in named c l)
+  groups_kept c [] h = refl
+  groups_kept c (ast_group name place t ∷ l) h = by_name (is_counted named name) (groups_kept (c + 1) l h.1)
+      (groups_kept c l h.1)
     where
-      by_name : (b : Bool) → is_counted named name ≡ b →
-          filter is_group (kept z named g l) ≡ map (λ q. group (resolved_in z named g q.1)) (numbered_in named l) →
-          filter is_group (kept z named g (ast_group name place t ∷ l))
-          ≡ map (λ q. group (resolved_in z named g q.1)) (numbered_in named (ast_group name place t ∷ l))
-      by_name true e more = rw (e, e) (ap (λ l. group (resolved_in z named g t) ∷ l) more)
-      by_name false e more = rw e more
-  groups_kept (ast_node r place ∷ l) h =
-      if_false _ _ _ (of_reference z (means_here r place) r place).no_group ∙ groups_kept l h.1
-  groups_kept (over label.group t ∷ l) h = absurd h.0
-  groups_kept (_ ∷ l) h = groups_kept l h.1
+      inside : List (ℕ × Opening × Tree) → List Tree
+      inside l = map (λ q. group (resolved_in z named numbers_of q.0 q.2)) l
+
+      here : ℕ × Opening × Tree
+      here = (c + 1, record { reach = place; name = name }, t)
+
+      by_name : (b : Bool) → filter is_group (kept_here (c + 1) l) ≡ inside (numbered_in named (c + 1) l) →
+          filter is_group (kept_here c l) ≡ inside (numbered_in named c l) →
+          filter is_group (if b then group (resolved_in z named numbers_of (c + 1) t) ∷ kept_here (if b then c + 1 else c) l else kept_here (if b then c + 1 else c) l)
+          ≡ inside (if b then here ∷ numbered_in named (c + 1) l else numbered_in named c l)
+      by_name true counted passed_over = ap (λ l. group (resolved_in z named numbers_of (c + 1) t) ∷ l) counted
+      by_name false counted passed_over = passed_over
+  groups_kept c (ast_node r place ∷ l) h =
+      if_false _ _ _ (of_reference z (means_here c r) r place).no_group ∙ groups_kept c l h.1
+  groups_kept c (over label.group t ∷ l) h = absurd h.0
+  groups_kept c (_ ∷ l) h = groups_kept c l h.1
+
+  -- a Group in front says nothing of a call, nor of a back reference
+  call_behind : (b : Bool) (t : Tree) (l : List Tree) →
+      list_any is_call_node (if b then group t ∷ l else l) ≡ list_any is_call_node l
+  call_behind true t l = refl
+  call_behind false t l = refl
+
+  refers_behind : (b : Bool) (t : Tree) (l : List Tree) →
+      filter_map group_referred (if b then group t ∷ l else l) ≡ filter_map group_referred l
+  refers_behind true t l = refl
+  refers_behind false t l = refl
+
+  answered_behind : (b : Bool) (t : Tree) (l : List Tree) → AllByRecursion IsAnsweredNode l →
+      AllByRecursion IsAnsweredNode (if b then group t ∷ l else l)
+  answered_behind true t l h = (tt, h)
+  answered_behind false t l h = h
 
   -- calls stay calls
-  calls_kept : (l : List Tree) → AllByRecursion IsReadNode l →
-      list_any is_call_node (kept z named g l) ≡ list_any (λ x. is_call x.role) (references_in (items_of_all l))
-  calls_kept [] h = refl
-  calls_kept (ast_group name place t ∷ l) h = by_name (is_counted named name) refl (calls_kept l h.1)
-    where
-      by_name : (b : Bool) → is_counted named name ≡ b →
-          list_any is_call_node (kept z named g l) ≡ list_any (λ x. is_call x.role) (references_in (items_of_all l)) →
-          list_any is_call_node (kept z named g (ast_group name place t ∷ l))
-          ≡ list_any (λ x. is_call x.role) (references_in (items_of_all l))
-      by_name true e more = rw (e, e) more
-      by_name false e more = rw e more
-  calls_kept (ast_node r place ∷ l) h =
-      ap (λ b. b || list_any is_call_node (kept z named g l)) (of_reference z (means_here r place) r place).calls
-      ∙ ap (λ b. is_call (role_of r) || b) (calls_kept l h.1)
-  calls_kept (leaf (label.subroutine_call n) ∷ l) h = absurd h.0
-  calls_kept (_ ∷ l) h = calls_kept l h.1
+  calls_kept : (c : ℕ) (l : List Tree) → AllByRecursion IsReadNode l →
+      list_any is_call_node (kept_here c l) ≡ list_any (λ x. is_call x.0.role) (meant c l)
+  calls_kept c [] h = refl
+  calls_kept c (ast_group name place t ∷ l) h =
+      call_behind (is_counted named name) _ (kept_here (behind_group name c) l) ∙ calls_kept (behind_group name c) l h.1
+  calls_kept c (ast_node r place ∷ l) h =
+      ap (λ b. b || list_any is_call_node (kept_here c l)) (of_reference z (means_here c r) r place).calls
+      ∙ ap (λ b. is_call (role_of r) || b) (calls_kept c l h.1)
+  calls_kept c (leaf (label.subroutine_call n) ∷ l) h = absurd h.0
+  calls_kept c (_ ∷ l) h = calls_kept c l h.1
 
   -- one number more, if there is one
   abbrev in_front : Option ℕ → List ℕ → List ℕ
@@ -157,59 +188,50 @@ module _ (z : ℕ) (named : Bool) (g : List Opening) where
       by_option (Some n) e = rw e refl
       by_option None e = rw e refl
 
-  numbers_step : (x : Tree) (r : AnyReference) (l : List Tree) (m : List AnyReference) →
-      group_referred x ≡ back_number r.role (meaning g r) →
-      filter_map group_referred l ≡ back_numbers g m → filter_map group_referred (x ∷ l) ≡ back_numbers g (r ∷ m)
+  numbers_step : (x : Tree) (r : AnyReference × Meaning) (l : List Tree) (m : List (AnyReference × Meaning)) →
+      group_referred x ≡ back_number r.0.role r.1 →
+      filter_map group_referred l ≡ back_numbers m → filter_map group_referred (x ∷ l) ≡ back_numbers (r ∷ m)
   numbers_step x r l m e h =
       filter_map_step group_referred x l ∙ ap (λ o. in_front o (filter_map group_referred l)) e
-      ∙ ap (in_front (back_number r.role (meaning g r))) h
-      ∙ sym (filter_map_step (λ r. back_number r.role (meaning g r)) r m)
+      ∙ ap (in_front (back_number r.0.role r.1)) h
+      ∙ sym (filter_map_step (λ (x : AnyReference × Meaning). back_number x.0.role x.1) r m)
 
   -- the numbers of back references
-  numbers_kept : (l : List Tree) → AllByRecursion IsReadNode l →
-      filter_map group_referred (kept z named g l) ≡ back_numbers g (references_in (items_of_all l))
-  numbers_kept [] h = refl
-  numbers_kept (ast_group name place t ∷ l) h = by_name (is_counted named name) refl (numbers_kept l h.1)
-    where
-      by_name : (b : Bool) → is_counted named name ≡ b →
-          filter_map group_referred (kept z named g l) ≡ back_numbers g (references_in (items_of_all l)) →
-          filter_map group_referred (kept z named g (ast_group name place t ∷ l))
-          ≡ back_numbers g (references_in (items_of_all l))
-      by_name true e more = rw (e, e) more
-      by_name false e more = rw e more
-  numbers_kept (ast_node r place ∷ l) h =
-      numbers_step (resolved_in z named g (ast_node r place))
-      (record { reach = place; role = role_of r; target = target_of r }) (kept z named g l)
-      (references_in (items_of_all l)) (of_reference z (means_here r place) r place).refers (numbers_kept l h.1)
-  numbers_kept (leaf (label.backref n casei) ∷ l) h = absurd h.0
-  numbers_kept (leaf (label.backref_at_level n level casei) ∷ l) h = absurd h.0
-  numbers_kept (_ ∷ l) h = numbers_kept l h.1
+  numbers_kept : (c : ℕ) (l : List Tree) → AllByRecursion IsReadNode l →
+      filter_map group_referred (kept_here c l) ≡ back_numbers (meant c l)
+  numbers_kept c [] h = refl
+  numbers_kept c (ast_group name place t ∷ l) h =
+      refers_behind (is_counted named name) _ (kept_here (behind_group name c) l)
+      ∙ numbers_kept (behind_group name c) l h.1
+  numbers_kept c (ast_node r place ∷ l) h =
+      numbers_step (resolved_in z named numbers_of c (ast_node r place))
+      (record { reach = place; role = role_of r; target = target_of r }, means_here c r) (kept_here c l) (meant c l)
+      (of_reference z (means_here c r) r place).refers (numbers_kept c l h.1)
+  numbers_kept c (leaf (label.backref n casei) ∷ l) h = absurd h.0
+  numbers_kept c (leaf (label.backref_at_level n level casei) ∷ l) h = absurd h.0
+  numbers_kept c (_ ∷ l) h = numbers_kept c l h.1
 
-  list_length : (ts : Trees) → length (list_of (resolved_all z named g ts)) ≡ length (list_of ts)
-  list_length no_trees = refl
-  list_length (more_trees t ts) = ap suc (list_length ts)
+  list_length : (ts : Trees) (c : ℕ) → length (list_of (resolved_all z named numbers_of c ts)) ≡ length (list_of ts)
+  list_length no_trees c = refl
+  list_length (more_trees t ts) c = ap suc (list_length ts _)
 
   -- where no reference has a fault, each node is one of an answered tree
-  answered_kept : (l : List Tree) → AllByRecursion IsReadNode l →
-      first_fault g (references_in (items_of_all l)) ≡ None → AllByRecursion IsAnsweredNode (kept z named g l)
-  answered_kept [] h n = tt
-  answered_kept (ast_group name place t ∷ l) h n =
-      by_name (is_counted named name) refl (answered_kept l h.1 n)
-    where
-      by_name : (b : Bool) → is_counted named name ≡ b → AllByRecursion IsAnsweredNode (kept z named g l) →
-          AllByRecursion IsAnsweredNode (kept z named g (ast_group name place t ∷ l))
-      by_name true e more = rw (e, e) (tt, more)
-      by_name false e more = rw e more
-  answered_kept (ast_node r place ∷ l) h n =
-      let m = means_here r place in let behind = first_fault g (references_in (items_of_all l)) in (
-        reference_answered z m r place behind (call_unresolved (λ u. numbers u g) (openings_before g place) r) n,
-        answered_kept l h.1 (none_behind m place behind n),
+  answered_kept : (c : ℕ) (l : List Tree) → AllByRecursion IsReadNode l → first_fault (meant c l) ≡ None →
+      AllByRecursion IsAnsweredNode (kept_here c l)
+  answered_kept c [] h n = tt
+  answered_kept c (ast_group name place t ∷ l) h n =
+      answered_behind (is_counted named name) _ (kept_here (behind_group name c) l)
+      (answered_kept (behind_group name c) l h.1 n)
+  answered_kept c (ast_node r place ∷ l) h n =
+      let m = means_here c r in let behind = first_fault (meant c l) in (
+        reference_answered z m r place behind (call_unresolved numbers_of c r) n,
+        answered_kept c l h.1 (none_behind m place behind n),
       )
-  answered_kept (leaf (label.literal w casei) ∷ l) h n = (h.0, answered_kept l h.1 n)
-  answered_kept (leaf (label.literal_bytes w) ∷ l) h n = (h.0, answered_kept l h.1 n)
-  answered_kept (row label.alt ts ∷ l) h n =
-      (subst (λ k. 2 ≤ k) (sym (list_length ts)) h.0, answered_kept l h.1 n)
-  answered_kept (_ ∷ l) h n = (tt, answered_kept l h.1 n)
+  answered_kept c (leaf (label.literal w casei) ∷ l) h n = (h.0, answered_kept c l h.1 n)
+  answered_kept c (leaf (label.literal_bytes w) ∷ l) h n = (h.0, answered_kept c l h.1 n)
+  answered_kept c (row label.alt ts ∷ l) h n =
+      (subst (λ k. 2 ≤ k) (sym (list_length ts c)) h.0, answered_kept c l h.1 n)
+  answered_kept c (_ ∷ l) h n = (tt, answered_kept c l h.1 n)
 
 -- ---- answered trees
 
@@ -223,8 +245,14 @@ module _ {f : Flags} {text : Text} {t : Tree} {m : Marks} (a : IsTreeOf f text t
   abbrev numbered : List Opening
   numbered = numbered_openings f (openings raw)
 
-  nodes : preorder t ≡ kept (bytes text) named numbered (preorder raw)
-  nodes = ap preorder a.3 ∙ resolved_nodes (bytes text) named numbered raw
+  abbrev numbers_of : Text → List ℕ
+  numbers_of = numbers_in f raw
+
+  nodes : preorder t ≡ kept (bytes text) named numbers_of 0 (preorder raw)
+  nodes = ap preorder a.3 ∙ resolved_nodes (bytes text) named numbers_of 0 raw
+
+  meanings_of_nodes : meanings f raw ≡ meanings_in named numbers_of 0 (items_of_all (preorder raw))
+  meanings_of_nodes = ap (meanings_in named numbers_of 0) (items_of_nodes raw)
 
   nodes_read : IsRead raw
   nodes_read = derived_read a.1.1
@@ -235,25 +263,26 @@ module _ {f : Flags} {text : Text} {t : Tree} {m : Marks} (a : IsTreeOf f text t
   -- each node is one of an answered tree
   answered : IsAnswered t
   answered =
-      let no_fault = ap (λ l. first_fault numbered (references_in l)) (sym (items_of_nodes raw)) ∙ a.2 in
+      let no_fault = ap first_fault (sym meanings_of_nodes) ∙ a.2 in
       subst (AllByRecursion IsAnsweredNode) (sym nodes)
-      (answered_kept (bytes text) named numbered (preorder raw) nodes_read no_fault)
+      (answered_kept (bytes text) named numbers_of 0 (preorder raw) nodes_read no_fault)
 
   -- the Groups in preorder are the groups that have a number, in the order of their opening parentheses
-  groups_in_order : groups t ≡ map (λ q. group (resolved_in (bytes text) named numbered q.1)) (numbered_groups f raw)
-  groups_in_order = ap (filter is_group) nodes ∙ groups_kept (bytes text) named numbered (preorder raw) nodes_read
+  groups_in_order :
+      groups t ≡ map (λ q. group (resolved_in (bytes text) named numbers_of q.0 q.2)) (numbered_groups f raw)
+  groups_in_order = ap (filter is_group) nodes ∙ groups_kept (bytes text) named numbers_of 0 (preorder raw) nodes_read
 
-  openings_in_order : map (λ q. q.0) (numbered_groups f raw) ≡ numbered
+  openings_in_order : map (λ q. q.1) (numbered_groups f raw) ≡ numbered
   openings_in_order =
-      openings_counted (bytes text) named numbered (preorder raw)
+      openings_counted (bytes text) named numbers_of 0 (preorder raw)
       ∙ ap (λ l. numbered_openings_in named (openings_in l)) (sym (items_of_nodes raw))
 
   -- as many as are said
   pub groups_total : length (groups t) ≡ m.total_groups
   groups_total =
       let groups_of = numbered_groups f raw in
-      ap length groups_in_order ∙ length-map groups_of (λ q. group (resolved_in (bytes text) named numbered q.1))
-      ∙ sym (length-map groups_of (λ q. q.0)) ∙ ap length openings_in_order ∙ ap (λ k. k.total_groups) (sym is_marks)
+      ap length groups_in_order ∙ length-map groups_of (λ q. group (resolved_in (bytes text) named numbers_of q.0 q.2))
+      ∙ sym (length-map groups_of (λ q. q.1)) ∙ ap length openings_in_order ∙ ap (λ k. k.total_groups) (sym is_marks)
 
   -- of each name they are the numbers, and of the groups that carry it
   names_marked : AreNamed m.total_groups m.named_groups
@@ -268,14 +297,14 @@ module _ {f : Flags} {text : Text} {t : Tree} {m : Marks} (a : IsTreeOf f text t
   -- a call is said where one stands
   calls_marked : has_call t ≡ m.contains_subroutines
   calls_marked =
-      ap (list_any is_call_node) nodes ∙ calls_kept (bytes text) named numbered (preorder raw) nodes_read
-      ∙ ap (λ l. list_any (λ x. is_call x.role) (references_in l)) (sym (items_of_nodes raw))
+      ap (list_any is_call_node) nodes ∙ calls_kept (bytes text) named numbers_of 0 (preorder raw) nodes_read
+      ∙ ap (list_any (λ x. is_call x.0.role)) (sym meanings_of_nodes)
       ∙ ap (λ k. k.contains_subroutines) (sym is_marks)
 
-  numbers_referred : groups_referred t ≡ back_numbers numbered (references raw)
+  numbers_referred : groups_referred t ≡ back_numbers (meanings f raw)
   numbers_referred =
-      ap (filter_map group_referred) nodes ∙ numbers_kept (bytes text) named numbered (preorder raw) nodes_read
-      ∙ ap (λ l. back_numbers numbered (references_in l)) (sym (items_of_nodes raw))
+      ap (filter_map group_referred) nodes ∙ numbers_kept (bytes text) named numbers_of 0 (preorder raw) nodes_read
+      ∙ ap back_numbers (sym meanings_of_nodes)
 
   -- the numbers up to the total, each once, are said
   backrefs_marked : m.backrefs ≡ ascending (filter (λ n. nat_le n m.total_groups) (groups_referred t))

@@ -25,10 +25,10 @@ use Rattle.fancy_grammar.specs.Grammar.{one_branch, absent_fault, Inside, inside
 use Rattle.fancy_grammar.specs.Grammar.{closed, closed_at, ended, ended_at, branches_of, conditional_of, is_condition}
 use Rattle.fancy_grammar.specs.Grammar.{clear_or_stopper}
 use Rattle.fancy_grammar.specs.Head.{Head, capture, scope, look, atomic, define, repeater, group_node}
-use Rattle.fancy_grammar.specs.Items.{openings}
+use Rattle.fancy_grammar.specs.Items.{openings, numbers_in}
 use Rattle.fancy_grammar.specs.Join.{join, choice, solid, is_empty, one_or}
 use Rattle.fancy_grammar.specs.Marks.{Marks}
-use Rattle.fancy_parts.specs.Ranks.{only_named, numbered_openings}
+use Rattle.fancy_parts.specs.Ranks.{only_named}
 use Rattle.fancy_grammar.specs.Preorder.{preorder}
 use Rattle.fancy_grammar.specs.Quantified.{quants, adjacent, max_adjacent, is_unmoved, quant, quant_at, with_counts}
 use Rattle.fancy_grammar.specs.Quantified.{suffix, is_swapped, quantified, is_repeatable, is_dropped}
@@ -432,7 +432,7 @@ pub bounded : {f : Flags} {re : List ℕ} {t : Tree} {m : Marks} → IsUtf8 re �
     IsSmall t (length re)
 bounded {f} {re} {t} u (r, a, none, e, d) =
     let small = whole_fits a.1 in let named = only_named f (openings r) in
-    let numbered = numbered_openings f (openings r) in (
-      omega (arith, ap nodes e, resolved_size (bytes (chars re)) named numbered r, small.0, bytes_chars re u),
-      omega (arith, ap levels e, resolved_levels (bytes (chars re)) named numbered r, small.1),
+    let numbers_of = numbers_in f r in (
+      omega (arith, ap nodes e, resolved_size (bytes (chars re)) named numbers_of 0 r, small.0, bytes_chars re u),
+      omega (arith, ap levels e, resolved_levels (bytes (chars re)) named numbers_of 0 r, small.1),
     )

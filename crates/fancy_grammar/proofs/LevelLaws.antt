@@ -1,18 +1,18 @@
 -- Resolving takes nodes away, and adds neither a node nor a level.
-use Rattle.std.proofs.Common.{◌≡◌, ℕ, suc, ◌≤◌, Bool, List, [], ◌∷◌, length, length-append}
-use Rattle.std.proofs.Common.{Some, None, filter, refl, ap, arith}
+use Rattle.std.proofs.Common.{◌≡◌, ℕ, suc, ◌+◌, ◌≤◌, Bool, true, false, List, [], ◌∷◌, length, length-append, Some, None}
+use Rattle.std.proofs.Common.{refl, ap, arith}
 use Rattle.std.proofs.lemmas.Bool.{cond_both}
-use Rattle.std.proofs.lemmas.List.{length-map}
+use Rattle.fancy_lex.specs.Text.{Text}
 use Rattle.fancy_parts.specs.Meaning.{Meaning, number, means}
-use Rattle.fancy_parts.specs.Ranks.{Opening, is_counted, numbers, openings_before}
-use Rattle.fancy_grammar.specs.Items.{role_of, target_of}
+use Rattle.fancy_parts.specs.Ranks.{is_counted, numbered_openings_in}
+use Rattle.fancy_grammar.specs.Items.{openings, role_of, target_of}
 use Rattle.fancy_grammar.specs.Label.{AstReference, ast_backref, ast_call, ast_condition}
 use Rattle.fancy_grammar.specs.Preorder.{preorder, preorder_all}
 use Rattle.fancy_grammar.specs.Resolved.{resolved_in, resolved_all, reference_node}
 use Rattle.fancy_grammar.specs.Tree.{Tree, leaf, over, row, Trees, no_trees, more_trees, ast_node, ast_group, nodes}
 use Rattle.fancy_grammar.specs.Tree.{nodes_all}
 use Rattle.fancy_grammar.specs.Tree.{levels, levels_all}
-use Rattle.fancy_grammar.proofs.PreorderLaws.{is_kept, resolved_nodes}
+use Rattle.fancy_grammar.proofs.PreorderLaws.{behind, in_front_if, kept, resolved_nodes}
 
 -- ---- nodes
 
@@ -27,23 +27,30 @@ mutual
   nodes_preorder_all (more_trees t ts) =
       omega (arith, nodes_preorder t, nodes_preorder_all ts, length-append (preorder t) (preorder_all ts))
 
-filter_length : (p : Tree → Bool) (l : List Tree) → length (filter p l) ≤ length l
-filter_length p [] = omega arith
-filter_length p (t ∷ l) =
-    let more = filter_length p l in
-    cond_both (p t) _ _ (λ m. length m ≤ length (t ∷ l)) (λ _. omega (arith, more)) (λ _. omega (arith, more))
+module _ (z : ℕ) (named : Bool) (numbers_of : Text → List ℕ) where
+  front_length : (b : Bool) (t : Tree) (l : List Tree) (n : ℕ) → length l ≤ n →
+      length (in_front_if z named numbers_of b t l) ≤ suc n
+  front_length true t l n h = omega (arith, h)
+  front_length false t l n h = omega (arith, h)
 
--- the resolved tree has no more nodes than the raw one
-pub resolved_size : (z : ℕ) (named : Bool) (g : List Opening) (t : Tree) → nodes (resolved_in z named g t) ≤ nodes t
-resolved_size z named g t =
-    omega (
-      arith,
-      nodes_preorder t,
-      nodes_preorder (resolved_in z named g t),
-      ap length (resolved_nodes z named g t),
-      length-map (filter (is_kept named) (preorder t)) (resolved_in z named g),
-      filter_length (is_kept named) (preorder t),
-    )
+  kept_length : (c : ℕ) (l : List Tree) → length (kept z named numbers_of c l) ≤ length l
+  kept_length c [] = omega arith
+  kept_length c (ast_group name place t ∷ l) =
+      let behind = behind z named numbers_of name c in
+      front_length (is_counted named name) _ (kept z named numbers_of behind l) (length l) (kept_length behind l)
+  kept_length c (ast_node r place ∷ l) = omega (arith, kept_length c l)
+  kept_length c (t ∷ l) = omega (arith, kept_length c l)
+
+  -- the resolved tree has no more nodes than the raw one
+  pub resolved_size : (c : ℕ) (t : Tree) → nodes (resolved_in z named numbers_of c t) ≤ nodes t
+  resolved_size c t =
+      omega (
+        arith,
+        nodes_preorder t,
+        nodes_preorder (resolved_in z named numbers_of c t),
+        ap length (resolved_nodes z named numbers_of c t),
+        kept_length c (preorder t),
+      )
 
 -- ---- levels
 
@@ -54,21 +61,26 @@ reference_level z (number n) (ast_call t) place = refl
 reference_level z (number n) (ast_condition t level) place = refl
 reference_level z _ r place = refl
 
-module _ (z : ℕ) (named : Bool) (g : List Opening) where
+module _ (z : ℕ) (named : Bool) (numbers_of : Text → List ℕ) where
   mutual
     -- the resolved tree has no more levels than the raw one
-    pub resolved_levels : (t : Tree) → levels (resolved_in z named g t) ≤ levels t
-    resolved_levels (ast_group name place t) =
-        let inside = resolved_levels t in
+    pub resolved_levels : (c : ℕ) (t : Tree) → levels (resolved_in z named numbers_of c t) ≤ levels t
+    resolved_levels c (ast_group name place t) =
+        let in_group = resolved_levels (c + 1) t in
+        let alone = resolved_levels c t in
         cond_both (is_counted named name) _ _ (λ u. levels u ≤ levels (ast_group name place t))
-        (λ _. omega (arith, inside)) (λ _. omega (arith, inside))
-    resolved_levels (ast_node r place) =
-        let m = means (λ u. numbers u g) (openings_before g place) (role_of r) (target_of r) in
-        omega (arith, reference_level z m r place)
-    resolved_levels (leaf l) = omega arith
-    resolved_levels (over w t) = omega (arith, resolved_levels t)
-    resolved_levels (row r ts) = omega (arith, resolved_levels_all ts)
+        (λ _. omega (arith, in_group)) (λ _. omega (arith, alone))
+    resolved_levels c (ast_node r place) =
+        let m = means numbers_of c (role_of r) (target_of r) in omega (arith, reference_level z m r place)
+    resolved_levels c (leaf l) = omega arith
+    resolved_levels c (over w t) = omega (arith, resolved_levels c t)
+    resolved_levels c (row r ts) = omega (arith, resolved_levels_all c ts)
 
-    resolved_levels_all : (ts : Trees) → levels_all (resolved_all z named g ts) ≤ levels_all ts
-    resolved_levels_all no_trees = omega arith
-    resolved_levels_all (more_trees t ts) = omega (arith, resolved_levels t, resolved_levels_all ts)
+    resolved_levels_all : (c : ℕ) (ts : Trees) → levels_all (resolved_all z named numbers_of c ts) ≤ levels_all ts
+    resolved_levels_all c no_trees = omega arith
+    resolved_levels_all c (more_trees t ts) =
+        omega (
+          arith,
+          resolved_levels c t,
+          resolved_levels_all (c + length (numbered_openings_in named (openings t))) ts,
+        )

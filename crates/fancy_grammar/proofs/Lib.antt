@@ -19,7 +19,6 @@ pub mod OrderLaws
 pub mod NamedNumbers
 pub mod FoundLaws
 pub mod NoteLaws
-pub mod ResolveLaws
 pub mod AnswerLaws
 -- ---- printing, and what a printed text reads as
 pub mod PrintableLemmas

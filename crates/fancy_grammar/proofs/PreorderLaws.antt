@@ -1,88 +1,18 @@
 -- Resolving keeps the nodes of a raw tree in their order, and its items are those of its nodes.
-use Rattle.std.proofs.Common.{◌≡◌, ℕ, Bool, true, false, if◌then◌else◌, List, [], ◌∷◌, ◌++◌, Option, Some, None}
-use Rattle.std.proofs.Common.{filter, map, refl, sym, ap, ◌∙◌, append_assoc, append-nil}
-use Rattle.std.proofs.lemmas.List.{map-append}
-use Rattle.std.proofs.lemmas.List.Elements.{filter-append}
+use Rattle.std.proofs.Common.{◌≡◌, ℕ, ◌+◌, Bool, true, false, if◌then◌else◌, List, [], ◌∷◌, ◌++◌, Option, Some}
+use Rattle.std.proofs.Common.{None, refl, sym, ap, ◌∙◌, arith, append_assoc, append-nil}
 use Rattle.fancy_lex.specs.Text.{Text}
 use Rattle.fancy_parts.specs.Meaning.{Meaning, number, means, Role}
-use Rattle.fancy_parts.specs.Ranks.{Opening, is_counted, numbers, openings_before}
+use Rattle.fancy_parts.specs.Ranks.{is_counted}
 use Rattle.fancy_grammar.specs.Answered.{is_group, is_call_node, group_referred}
-use Rattle.fancy_grammar.specs.Items.{Item, items, items_all, opened_by, referred_by, role_of, target_of}
+use Rattle.fancy_grammar.specs.Items.{Item, items, items_all, opened_by, referred_by, role_of}
+use Rattle.fancy_grammar.specs.Items.{target_of}
 use Rattle.fancy_grammar.specs.Label.{AstReference, ast_backref, ast_call, ast_condition}
 use Rattle.fancy_grammar.specs.Marks.{is_call, back_number}
 use Rattle.fancy_grammar.specs.Preorder.{preorder, preorder_all}
-use Rattle.fancy_grammar.specs.Resolved.{resolved_in, resolved_all, group_or_inside, reference_node}
+use Rattle.fancy_grammar.specs.Resolved.{resolved_in, resolved_all, reference_node}
 use Rattle.fancy_grammar.specs.Tree.{Tree, leaf, over, row, Trees, no_trees, more_trees, group, ast_node, ast_group}
-
--- ---- the nodes that resolving keeps
-
--- whether a node stays: all but a capturing group without a number
-abbrev pub is_kept : Bool → Tree → Bool
-is_kept named (ast_group name place t) = is_counted named name
-is_kept named _ = true
-
--- the node of a reference stands alone, is no group, is a call where the reference is one, and refers to a group where
--- that is a back reference
-pub record IsNodeOf (role : Role) (m : Meaning) (node : Tree) : Type 0 where
-  pub alone : preorder node ≡ node ∷ []
-  pub no_group : is_group node ≡ false
-  pub calls : is_call_node node ≡ is_call role
-  pub refers : group_referred node ≡ back_number role m
-
-pub of_reference : (z : ℕ) (m : Meaning) (r : AstReference) (place : ℕ) →
-    IsNodeOf (role_of r) m (reference_node z m r place)
-of_reference z (number n) (ast_backref t casei None) place =
-    record { alone = refl; no_group = refl; calls = refl; refers = refl }
-of_reference z (number n) (ast_backref t casei (Some level)) place =
-    record { alone = refl; no_group = refl; calls = refl; refers = refl }
-of_reference z _ (ast_backref t casei level) place =
-    record { alone = refl; no_group = refl; calls = refl; refers = refl }
-of_reference z (number n) (ast_call t) place = record { alone = refl; no_group = refl; calls = refl; refers = refl }
-of_reference z _ (ast_call t) place = record { alone = refl; no_group = refl; calls = refl; refers = refl }
-of_reference z (number n) (ast_condition t level) place =
-    record { alone = refl; no_group = refl; calls = refl; refers = refl }
-of_reference z _ (ast_condition t level) place = record { alone = refl; no_group = refl; calls = refl; refers = refl }
-
-module _ (z : ℕ) (named : Bool) (g : List Opening) where
-  -- what is left of nodes, resolved
-  abbrev pub kept : List Tree → List Tree
-  kept l = map (resolved_in z named g) (filter (is_kept named) l)
-
-  kept_append : (a b : List Tree) → kept (a ++ b) ≡ kept a ++ kept b
-  kept_append a b =
-      ap (map (resolved_in z named g)) (filter-append (is_kept named) a b)
-      ∙ map-append (resolved_in z named g) (filter (is_kept named) a) (filter (is_kept named) b)
-
-  two : {a b : List Tree} (c d : List Tree) → a ≡ kept c → b ≡ kept d → a ++ b ≡ kept (c ++ d)
-  two c d e h = (λ i. e i ++ h i) ∙ sym (kept_append c d)
-
-  group_kept : (name : Option Text) (place : ℕ) (t : Tree) (b : Bool) → is_counted named name ≡ b →
-      preorder (resolved_in z named g t) ≡ kept (preorder t) →
-      preorder (group_or_inside b (resolved_in z named g t)) ≡ kept (ast_group name place t ∷ preorder t)
-  group_kept name place t true e h =
-      let node = ast_group name place t in
-      ap (λ l. group (resolved_in z named g t) ∷ l) h
-      ∙ ap (λ b. group_or_inside b (resolved_in z named g t) ∷ kept (preorder t)) (sym e)
-      ∙ ap (λ b. map (resolved_in z named g)
-      (if b then node ∷ filter (is_kept named) (preorder t) else filter (is_kept named) (preorder t))) (sym e)
-  group_kept name place t false e h =
-      let node = ast_group name place t in
-      h ∙ ap (λ b. map (resolved_in z named g)
-      (if b then node ∷ filter (is_kept named) (preorder t) else filter (is_kept named) (preorder t))) (sym e)
-
-  mutual
-    pub resolved_nodes : (t : Tree) → preorder (resolved_in z named g t) ≡ kept (preorder t)
-    resolved_nodes (ast_group name place t) =
-        group_kept name place t (is_counted named name) refl (resolved_nodes t)
-    resolved_nodes (ast_node r place) =
-        (of_reference z (means (λ u. numbers u g) (openings_before g place) (role_of r) (target_of r)) r place).alone
-    resolved_nodes (leaf l) = refl
-    resolved_nodes (over w t) = ap (λ m. over w (resolved_in z named g t) ∷ m) (resolved_nodes t)
-    resolved_nodes (row r ts) = ap (λ m. row r (resolved_all z named g ts) ∷ m) (all_nodes ts)
-
-    all_nodes : (ts : Trees) → preorder_all (resolved_all z named g ts) ≡ kept (preorder_all ts)
-    all_nodes no_trees = refl
-    all_nodes (more_trees t ts) = two (preorder t) (preorder_all ts) (resolved_nodes t) (all_nodes ts)
+use Rattle.fancy_grammar.proofs.ItemLemmas.{counted, counted_first}
 
 -- ---- the items of nodes
 
@@ -111,3 +41,83 @@ mutual
   all_items no_trees = refl
   all_items (more_trees t ts) =
       (λ i. items_of_nodes t i ++ all_items ts i) ∙ sym (both_items (preorder t) (preorder_all ts))
+
+-- ---- the nodes that resolving keeps
+
+-- the node of a reference stands alone, is no group, is a call where the reference is one, and refers to a group where
+-- that is a back reference
+pub record IsNodeOf (role : Role) (m : Meaning) (node : Tree) : Type 0 where
+  pub alone : preorder node ≡ node ∷ []
+  pub no_group : is_group node ≡ false
+  pub calls : is_call_node node ≡ is_call role
+  pub refers : group_referred node ≡ back_number role m
+
+pub of_reference : (z : ℕ) (m : Meaning) (r : AstReference) (place : ℕ) →
+    IsNodeOf (role_of r) m (reference_node z m r place)
+of_reference z (number n) (ast_backref t casei None) place =
+    record { alone = refl; no_group = refl; calls = refl; refers = refl }
+of_reference z (number n) (ast_backref t casei (Some level)) place =
+    record { alone = refl; no_group = refl; calls = refl; refers = refl }
+of_reference z _ (ast_backref t casei level) place =
+    record { alone = refl; no_group = refl; calls = refl; refers = refl }
+of_reference z (number n) (ast_call t) place = record { alone = refl; no_group = refl; calls = refl; refers = refl }
+of_reference z _ (ast_call t) place = record { alone = refl; no_group = refl; calls = refl; refers = refl }
+of_reference z (number n) (ast_condition t level) place =
+    record { alone = refl; no_group = refl; calls = refl; refers = refl }
+of_reference z _ (ast_condition t level) place = record { alone = refl; no_group = refl; calls = refl; refers = refl }
+
+module _ (z : ℕ) (named : Bool) (numbers_of : Text → List ℕ) where
+  abbrev there : ℕ → Tree → Tree
+  there = resolved_in z named numbers_of
+
+  -- how many groups with a number open before what follows an opening, or these items
+  abbrev pub behind : Option Text → ℕ → ℕ
+  behind name c = if is_counted named name then c + 1 else c
+
+  -- one node in front, where it stays
+  abbrev pub in_front_if : Bool → Tree → List Tree → List Tree
+  in_front_if b t l = if b then t ∷ l else l
+
+  -- what is left of nodes, resolved, where c groups with a number open before them: all but the capturing groups without
+  abbrev pub kept : ℕ → List Tree → List Tree
+  kept c [] = []
+  kept c (ast_group name place t ∷ l) =
+      in_front_if (is_counted named name) (group (there (c + 1) t)) (kept (behind name c) l)
+  kept c (t ∷ l) = there c t ∷ kept c l
+
+  front_append : (b : Bool) (t : Tree) (l m n : List Tree) → n ≡ l ++ m → in_front_if b t n ≡ in_front_if b t l ++ m
+  front_append true t l m n e = ap (λ k. t ∷ k) e
+  front_append false t l m n e = e
+
+  kept_append : (c k : ℕ) (a b : List Tree) → k ≡ c + counted named (items_of_all a) → kept c (a ++ b) ≡ kept c a ++ kept k b
+  kept_append c k [] b e = let same : c ≡ k = omega (arith, e) in ap (λ m. kept m b) same
+  kept_append c k (ast_group name place t ∷ a) b e =
+      front_append (is_counted named name) (group (there (c + 1) t)) (kept (behind name c) a) (kept k b) _
+      (kept_append (behind name c) k a b (e ∙ counted_first named _ c (items_of_all a)))
+  kept_append c k (ast_node r place ∷ a) b e = ap (λ l. there c (ast_node r place) ∷ l) (kept_append c k a b e)
+  kept_append c k (t ∷ a) b e = ap (λ l. there c t ∷ l) (kept_append c k a b e)
+
+  group_kept : (b : Bool) (c : ℕ) (t : Tree) (l : List Tree) → preorder (there (c + 1) t) ≡ kept (c + 1) l →
+      preorder (there c t) ≡ kept c l →
+      preorder (if b then group (there (c + 1) t) else there c t)
+      ≡ in_front_if b (group (there (c + 1) t)) (kept (if b then c + 1 else c) l)
+  group_kept true c t l in_group alone = ap (λ m. group (there (c + 1) t) ∷ m) in_group
+  group_kept false c t l in_group alone = alone
+
+  mutual
+    pub resolved_nodes : (c : ℕ) (t : Tree) → preorder (there c t) ≡ kept c (preorder t)
+    resolved_nodes c (ast_group name place t) =
+        group_kept (is_counted named name) c t (preorder t) (resolved_nodes (c + 1) t) (resolved_nodes c t)
+    resolved_nodes c (ast_node r place) =
+        (of_reference z (means numbers_of c (role_of r) (target_of r)) r place).alone
+    resolved_nodes c (leaf l) = refl
+    resolved_nodes c (over w t) = ap (λ m. over w (there c t) ∷ m) (resolved_nodes c t)
+    resolved_nodes c (row r ts) =
+        ap (λ m. row r (resolved_all z named numbers_of c ts) ∷ m) (all_nodes c ts)
+
+    all_nodes : (c : ℕ) (ts : Trees) → preorder_all (resolved_all z named numbers_of c ts) ≡ kept c (preorder_all ts)
+    all_nodes c no_trees = refl
+    all_nodes c (more_trees t ts) =
+        let k = c + counted named (items t) in
+        (λ i. resolved_nodes c t i ++ all_nodes k ts i)
+        ∙ sym (kept_append c k (preorder t) (preorder_all ts) (ap (λ l. c + counted named l) (items_of_nodes t)))

@@ -13,10 +13,10 @@ use Rattle.fancy_lex.specs.declared.error.Error.TheVariants.{ParseError}
 use Rattle.fancy_lex.specs.declared.error.Failure.{Failure}
 use Rattle.fancy_lex.specs.declared.error.Failure.TheVariants.{At, OutOfMemory}
 use Rattle.fancy_lex.specs.declared.flags.Flags.{Flags}
-use Rattle.fancy_parts.specs.Ranks.{numbered_openings}
+use Rattle.fancy_parts.specs.Ranks.{only_named}
 use Rattle.fancy_grammar.specs.Answer.{IsTreeOf, IsFaultOf, of_reading, of_resolving, IsOnlyFault, IsPlacedIn}
 use Rattle.fancy_grammar.specs.Grammar.{DerivesTree, Faults, Whole}
-use Rattle.fancy_grammar.specs.Items.{items, openings}
+use Rattle.fancy_grammar.specs.Items.{items, openings, numbers_in}
 use Rattle.fancy_grammar.specs.Marks.{Marks, marks}
 use Rattle.fancy_grammar.specs.Errors.{IsErrorAmong, IsErrorIn}
 use Rattle.fancy_grammar.specs.Ordered.{DescendingReaches}
@@ -130,7 +130,7 @@ pub resolving_placed : (e : Failure) (f : Flags) (re : List ℕ) (r : Tree) → 
     IsErrorIn e (fault_of f r) → IsPlacedIn (error_in (chars re) e) re
 resolving_placed (At p k) f re r u a h =
     placed k re p u
-    (fault_place (MayStand (chars re)) (numbered_openings f (openings r)) (items r)
+    (fault_place (MayStand (chars re)) (only_named f (openings r)) (numbers_in f r) 0 (items r)
     (record { reach = p; kind = kind_of k })
     (items_stand a.1) h)
 resolving_placed OutOfMemory f re r u a h = tt

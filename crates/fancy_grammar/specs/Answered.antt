@@ -7,7 +7,7 @@ use Rattle.fancy_lex.specs.Text.{Text, bytes}
 use Rattle.fancy_lex.specs.declared.flags.Flags.{Flags}
 use Rattle.fancy_parts.specs.Ranks.{Opening, only_named, is_counted, numbered_openings}
 use Rattle.fancy_grammar.specs.Depth.{max_levels}
-use Rattle.fancy_grammar.specs.Items.{openings}
+use Rattle.fancy_grammar.specs.Items.{openings, numbers_in}
 use Rattle.fancy_grammar.specs.Label as label
 use Rattle.fancy_grammar.specs.Label.{AstReference, ast_call}
 use Rattle.fancy_grammar.specs.Marks.{Marks, ascending}
@@ -86,24 +86,23 @@ pub record IsAnsweredWith (t : Tree) (m : Marks) : Type 0 where
 
 -- ---- the groups of the raw tree, which is read before they have their numbers
 
--- a node's opening and inside, where it is a capturing group that has a number
-abbrev pub numbered_group : Bool → Tree → Option (Opening × Tree)
-numbered_group named (ast_group name reach t) =
-    if is_counted named name then Some (record { reach = reach; name = name }, t) else None
-numbered_group _ _ = None
-
--- of all that have a number
-abbrev pub numbered_in : Bool → List Tree → List (Opening × Tree)
-numbered_in named l = filter_map (numbered_group named) l
+-- the capturing groups among the nodes that have a number: their numbers, from c + 1 on, their openings and insides
+abbrev pub numbered_in : Bool → ℕ → List Tree → List (ℕ × Opening × Tree)
+numbered_in named c [] = []
+numbered_in named c (ast_group name reach t ∷ l) =
+    if is_counted named name
+    then (c + 1, record { reach = reach; name = name }, t) ∷ numbered_in named (c + 1) l
+    else numbered_in named c l
+numbered_in named c (_ ∷ l) = numbered_in named c l
 
 -- the groups of the raw tree that have a number, in preorder
-abbrev pub numbered_groups : Flags → Tree → List (Opening × Tree)
-numbered_groups f r = numbered_in (only_named f (openings r)) (preorder r)
+abbrev pub numbered_groups : Flags → Tree → List (ℕ × Opening × Tree)
+numbered_groups f r = numbered_in (only_named f (openings r)) 0 (preorder r)
 
 -- their openings are those that have a number, in text order; and the k-th Group of the answered tree t holds the
--- inside of the k-th of them, resolved
+-- inside of the k-th of them, resolved where k groups open before it
 pub record HasGroupsOf (f : Flags) (text : Text) (r t : Tree) : Type 0 where
-  pub in_order : map (λ g. g.0) (numbered_groups f r) ≡ numbered_openings f (openings r)
+  pub in_order : map (λ g. g.1) (numbered_groups f r) ≡ numbered_openings f (openings r)
   pub insides : groups t ≡
-      map (λ g. group (resolved_in (bytes text) (only_named f (openings r)) (numbered_openings f (openings r)) g.1))
+      map (λ g. group (resolved_in (bytes text) (only_named f (openings r)) (numbers_in f r) g.0 g.2))
       (numbered_groups f r)

@@ -1,8 +1,10 @@
 -- The capturing groups and the references of a raw tree, in text order.
-use Rattle.std.specs.Prelude.{List, [], ◌∷◌, ◌++◌}
+use Rattle.std.specs.Prelude.{ℕ, ◌+◌, Bool, List, [], ◌∷◌, ◌++◌, if◌then◌else◌}
 use Rattle.fancy_lex.specs.Target.{Target}
-use Rattle.fancy_parts.specs.Meaning.{AnyReference, Role, back_reference, call, condition}
-use Rattle.fancy_parts.specs.Ranks.{Opening}
+use Rattle.fancy_lex.specs.Text.{Text}
+use Rattle.fancy_lex.specs.declared.flags.Flags.{Flags}
+use Rattle.fancy_parts.specs.Meaning.{AnyReference, Role, back_reference, call, condition, Meaning, means}
+use Rattle.fancy_parts.specs.Ranks.{Opening, is_counted, only_named, numbered_openings, numbers}
 use Rattle.fancy_grammar.specs.Label.{Leaf, Wrap, AstReference, ast_group, ast_node, ast_backref, ast_call}
 use Rattle.fancy_grammar.specs.Label.{ast_condition}
 use Rattle.fancy_grammar.specs.Tree.{Tree, leaf, over, row, Trees, no_trees, more_trees}
@@ -49,16 +51,25 @@ openings_in [] = []
 openings_in (opening o ∷ l) = o ∷ openings_in l
 openings_in (reference r ∷ l) = openings_in l
 
--- the references among the items
-abbrev pub references_in : List Item → List AnyReference
-references_in [] = []
-references_in (opening o ∷ l) = references_in l
-references_in (reference r ∷ l) = r ∷ references_in l
-
 -- the openings of a raw tree in text order
 abbrev pub openings : Tree → List Opening
 openings r = openings_in (items r)
 
--- the references of a raw tree in text order
-abbrev pub references : Tree → List AnyReference
-references r = references_in (items r)
+-- ---- what the references mean
+
+-- the references among the items, each with what it means, where each name has these numbers, and c groups that have a
+-- number open before the items
+abbrev pub meanings_in : Bool → (Text → List ℕ) → ℕ → List Item → List (AnyReference × Meaning)
+meanings_in named numbers_of c [] = []
+meanings_in named numbers_of c (opening o ∷ l) =
+    meanings_in named numbers_of (if is_counted named o.name then c + 1 else c) l
+meanings_in named numbers_of c (reference r ∷ l) =
+    (r, means numbers_of c r.role r.target) ∷ meanings_in named numbers_of c l
+
+-- the numbers of each name in a raw tree, under the flags that are handed in
+abbrev pub numbers_in : Flags → Tree → Text → List ℕ
+numbers_in f r name = numbers name (numbered_openings f (openings r))
+
+-- the references of a raw tree in text order, each with what it means
+abbrev pub meanings : Flags → Tree → List (AnyReference × Meaning)
+meanings f r = meanings_in (only_named f (openings r)) (numbers_in f r) 0 (items r)

@@ -38,4 +38,3 @@ pub mod Slices
 -- ---- resolving
 pub mod Ordered
 pub mod Walk
-pub mod Fits

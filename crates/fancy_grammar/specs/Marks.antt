@@ -7,10 +7,10 @@ use Rattle.std.specs.Ordering.{nat_cmp}
 use Rattle.fancy_lex.specs.Target.{Target, by_number}
 use Rattle.fancy_lex.specs.Text.{Text, bytes, place_at}
 use Rattle.fancy_lex.specs.declared.flags.Flags.{Flags}
-use Rattle.fancy_parts.specs.Meaning.{Role, back_reference, call, AnyReference, Meaning, number, meaning}
-use Rattle.fancy_parts.specs.Ranks.{Opening, only_named, numbered_openings_in, named_groups}
+use Rattle.fancy_parts.specs.Meaning.{Role, back_reference, call, AnyReference, Meaning, number}
+use Rattle.fancy_parts.specs.Ranks.{only_named, numbered_openings_in, named_groups}
 use Rattle.fancy_parts.specs.Written.{is_numeric}
-use Rattle.fancy_grammar.specs.Items.{openings, references}
+use Rattle.fancy_grammar.specs.Items.{openings, meanings}
 use Rattle.fancy_grammar.specs.Tree.{Tree}
 
 pub record Marks : Type 0 where
@@ -29,8 +29,8 @@ back_number back_reference (number n) = Some n
 back_number _ _ = None
 
 -- the numbers of the back references, in text order
-abbrev pub back_numbers : List Opening → List AnyReference → List ℕ
-back_numbers groups l = filter_map (λ r. back_number r.role (meaning groups r)) l
+abbrev pub back_numbers : List (AnyReference × Meaning) → List ℕ
+back_numbers l = filter_map (λ x. back_number x.0.role x.1) l
 
 -- the numbers ascending, each once
 abbrev pub ascending : List ℕ → List ℕ
@@ -51,14 +51,15 @@ marks f text r =
     let named = only_named f (openings r) in
     let groups = numbered_openings_in named (openings r) in
     let total = length groups in
+    let references = meanings f r in
     record {
-      backrefs = ascending (filter (λ n. nat_le n total) (back_numbers groups (references r)));
+      backrefs = ascending (filter (λ n. nat_le n total) (back_numbers references));
       named_groups = named_groups groups;
       numeric_capture_group_references =
-          list_any (λ x. is_numeric text (place_at (bytes text) x.reach) x.role x.target) (references r);
-      contains_subroutines = list_any (λ x. is_call x.role) (references r);
-      self_recursive = list_any (λ x. is_call_of_all x.role x.target) (references r);
+          list_any (λ x. is_numeric text (place_at (bytes text) x.0.reach) x.0.role x.0.target) references;
+      contains_subroutines = list_any (λ x. is_call x.0.role) references;
+      self_recursive = list_any (λ x. is_call_of_all x.0.role x.0.target) references;
       total_groups = total;
-      out_of_range_backref = find (λ n. nat_lt total n) (back_numbers groups (references r));
+      out_of_range_backref = find (λ n. nat_lt total n) (back_numbers references);
       numbered_groups_ignored = named;
     }

@@ -9,10 +9,10 @@ use Rattle.fancy_parts.specs.Groups.{Groups, with_opening, numbers_under}
 use Rattle.fancy_parts.specs.Meaning.{Role, AnyReference, Meaning, number, means, fault_or}
 use Rattle.fancy_parts.specs.Ranks.{is_counted}
 use Rattle.fancy_parts.specs.Written.{is_numeric}
-use Rattle.fancy_grammar.specs.Items.{Item, opening, reference, items}
+use Rattle.fancy_grammar.specs.Items.{Item, opening, reference}
 use Rattle.fancy_grammar.specs.Marks.{back_number, is_call, is_call_of_all}
-use Rattle.fancy_grammar.specs.Resolved.{resolved_node, group_or_inside}
-use Rattle.fancy_grammar.specs.Tree.{Tree, leaf, over, row, Trees, no_trees, more_trees, ast_group, ast_node}
+use Rattle.fancy_grammar.specs.Resolved.{resolved_in, resolved_all}
+use Rattle.fancy_grammar.specs.Tree.{Tree, Trees}
 
 -- ---- the first walk finds the groups
 
@@ -105,17 +105,9 @@ note_item k s (reference r) = note_reference k s r.reach r.role r.target
 abbrev pub progress_after : Known → Progress → List Item → Progress
 progress_after k s l = fold (note_item k) s l
 
-abbrev mutual
-  -- the tree resolved from there on
-  pub rebuilt : Known → Progress → Tree → Tree
-  rebuilt k s (ast_group name reach t) =
-      let inside = note_item k s (opening (record { reach = reach; name = name })) in
-      group_or_inside (is_counted k.named name) (rebuilt k inside t)
-  rebuilt k s (ast_node r reach) = resolved_node (bytes k.text) (numbers_under k.groups.names) s.passed r reach
-  rebuilt k s (leaf l) = leaf l
-  rebuilt k s (over w t) = over w (rebuilt k s t)
-  rebuilt k s (row r ts) = row r (rebuilt_all k s ts)
+-- trees resolved by what is known, where c groups with a number open before them
+abbrev pub resolved_by : Known → ℕ → Tree → Tree
+resolved_by k c t = resolved_in (bytes k.text) k.named (numbers_under k.groups.names) c t
 
-  pub rebuilt_all : Known → Progress → Trees → Trees
-  rebuilt_all k s no_trees = no_trees
-  rebuilt_all k s (more_trees t ts) = more_trees (rebuilt k s t) (rebuilt_all k (progress_after k s (items t)) ts)
+abbrev pub all_resolved_by : Known → ℕ → Trees → Trees
+all_resolved_by k c ts = resolved_all (bytes k.text) k.named (numbers_under k.groups.names) c ts

@@ -6,7 +6,6 @@ use Rattle.fancy_lex.specs.Fault.{Kind, Fault, carries_text}
 use Rattle.fancy_lex.specs.FaultTable.{name_of_later_group, no_such_group, of_reference}
 use Rattle.fancy_lex.specs.Target.{Target, by_number, by_name, relative}
 use Rattle.fancy_lex.specs.Text.{Text}
-use Rattle.fancy_parts.specs.Ranks.{Opening, openings_before, numbers}
 
 -- what a reference does with the group that it means
 pub data Role : Type 0 where
@@ -72,16 +71,12 @@ means numbers_of c role (by_number n) = number n
 means numbers_of c role (by_name name) = means_name role c name (numbers_of name)
 means numbers_of c role (relative z) = group_or_none role (at_distance c z)
 
--- what a reference means among the groups that have a number
-abbrev pub meaning : List Opening → AnyReference → Meaning
-meaning groups r = means (λ t. numbers t groups) (openings_before groups r.reach) r.role r.target
-
 -- the fault of a meaning at the reach, or else the other
 abbrev pub fault_or : Meaning → ℕ → Option Fault → Option Fault
 fault_or (faulty k) reach other = Some (of_reference reach k)
 fault_or _ reach other = other
 
--- the first fault of the references
-abbrev pub first_fault : List Opening → List AnyReference → Option Fault
-first_fault groups [] = None
-first_fault groups (r ∷ l) = fault_or (meaning groups r) r.reach (first_fault groups l)
+-- the first fault of the references that have these meanings
+abbrev pub first_fault : List (AnyReference × Meaning) → Option Fault
+first_fault [] = None
+first_fault ((r, m) ∷ l) = fault_or m r.reach (first_fault l)

@@ -1,6 +1,6 @@
 -- The capturing groups that have a number. A group's number is its rank among them, from 1.
-use Rattle.std.specs.Prelude.{ℕ, ◌+◌, Bool, false, ◌||◌, ◌&&◌, not, nat_lt, List, [], ◌∷◌, Option, Some, None, is_some}
-use Rattle.std.specs.Prelude.{filter, filter_map, fold, map, count_by, encode_utf8_all, bytes_eq, if◌then◌else◌}
+use Rattle.std.specs.Prelude.{ℕ, ◌+◌, Bool, false, ◌||◌, ◌&&◌, not, List, [], ◌∷◌, Option, Some, None, is_some, filter}
+use Rattle.std.specs.Prelude.{filter_map, fold, map, encode_utf8_all, bytes_eq, if◌then◌else◌}
 use Rattle.std.specs.BTreeSet.{insert_key}
 use Rattle.std.specs.Cmp.Lexicographic.{slice_cmp}
 use Rattle.std.specs.List.{list_any}
@@ -33,10 +33,6 @@ numbered_openings_in named l = filter (λ o. is_counted named o.name) l
 -- the groups that have a number under the flags
 abbrev pub numbered_openings : Flags → List Opening → List Opening
 numbered_openings f l = numbered_openings_in (only_named f l) l
-
--- how many of the groups open before the place of this reach: those open at a greater one
-abbrev pub openings_before : List Opening → ℕ → ℕ
-openings_before groups reach = count_by (λ o. nat_lt reach o.reach) groups
 
 -- whether the name is this one
 abbrev pub is_name : Text → Option Text → Bool

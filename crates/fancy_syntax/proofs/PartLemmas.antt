@@ -1,25 +1,27 @@
 -- The items of the nodes that have several children.
 use Rattle.std.proofs.Common.{◌≡◌, ◌+◌, ◌≤◌, ◌++◌, ◌||◌, List, Bool, arith, length, ap, sym, ◌∙◌, rules, Option, Box}
-use Rattle.std.proofs.Common.{Global, append-nil}
+use Rattle.std.proofs.Common.{Global, Result, append-nil, refl}
 use Rattle.fancy_lex.specs.declared.error.Failure.{Failure}
 use Rattle.fancy_parts.specs.Groups.{Groups}
 use Rattle.fancy_grammar.specs.Items.{Item, items, openings_in}
 use Rattle.fancy_grammar.specs.Tree.{conditional, expression}
-use Rattle.fancy_syntax.specs.Notes.{has_items, IsErrorNoted}
+use Rattle.fancy_syntax.specs.Notes.{has_items, IsErrorNoted, Walks}
 use Rattle.fancy_syntax.specs.View.{view, view_absent}
-use Rattle.fancy_grammar.specs.Walk.{Known, Progress, groups_after, progress_after}
+use Rattle.fancy_grammar.specs.Walk.{Known, Progress, groups_after, progress_after, resolved_by}
 use Rattle.fancy_syntax.specs.declared.expr.Absent.{Absent, Expression}
 use Rattle.fancy_syntax.specs.declared.expr.Expr.{Expr, Conditional, the_lemmas}
-use Rattle.fancy_grammar.proofs.ItemLemmas.{length_openings}
+use Rattle.fancy_syntax.specs.declared.resolve.notes.Progress as code
+use Rattle.fancy_syntax.specs.declared.resolve.notes.Stopped.{Stopped}
+use Rattle.fancy_grammar.proofs.ItemLemmas.{length_openings, counted}
 use Rattle.fancy_syntax.proofs.NoItems.{met_append}
-use Rattle.fancy_syntax.proofs.WalkLemmas.{found_le, noted_le, noted_append, error_kept}
+use Rattle.fancy_syntax.proofs.WalkLemmas.{found_le, noted_le, noted_passed, noted_append, error_kept, walk_ends}
 
 -- the items are those of two trees, or of three
 pub record Two (l : List Item) (x y : Expr) : Type 0 where
-  is : l ≡ items (view x) ++ items (view y)
+  pub is : l ≡ items (view x) ++ items (view y)
 
 pub record Three (l : List Item) (x y z : Expr) : Type 0 where
-  is : l ≡ items (view x) ++ (items (view y) ++ items (view z))
+  pub is : l ≡ items (view x) ++ (items (view y) ++ items (view z))
 
 view_conditional : (c t f : Box Expr Global) →
     view (Conditional c t f) ≡ conditional (view c.value) (view t.value) (view f.value)
@@ -110,6 +112,40 @@ pub third_error : {l : List Item} {x y z : Expr} (k : Known) (r s : Progress) (e
     IsErrorNoted e (progress_after k r l).fault
 third_error {x} {y} {z} k r s e p f h =
     rw (p.is, noted_append k r (items (view x)) _, ← f) (error_kept k s e (items (view y)) (items (view z)) h)
+
+-- a walk that resolves the last part, behind the groups of the parts before it, ends one that resolves all
+
+pub two_resolved : {A : Type 0} {e : Absent} {a b : Box Expr Global} (k : Known) (r s : Progress) (o : Result A Stopped)
+    (after : code.Progress) (x y : Box Expr Global) → e ≡ Expression a b →
+    s ≡ progress_after k r (items (view a.value)) → view x.value ≡ resolved_by k r.passed (view a.value) →
+    Walks o k s (items (view b.value)) after (λ _. view y.value ≡ resolved_by k s.passed (view b.value)) →
+    Walks o k r (items (view_absent e)) after
+    (λ _. view_absent (Expression x y) ≡ resolved_by k r.passed (view_absent e))
+two_resolved {a} {b} k r s o after x y h f first w =
+    let one = noted_passed k r s (items (view a.value)) f in
+    let parts = two_parts h refl refl in
+    walk_ends o k r s _ (items (view a.value)) (items (view b.value)) after _ _ parts.is f
+    (λ _ second. view_expression x y
+    ∙ (λ n. expression (first n) ((second ∙ ap (λ c. resolved_by k c (view b.value)) one) n))
+    ∙ sym (ap (resolved_by k r.passed) (ap view_absent h ∙ view_expression a b))) w
+
+pub three_resolved : {A : Type 0} {e : Expr} {c t f u v w : Box Expr Global} (k : Known) (p q s : Progress)
+    (o : Result A Stopped) (after : code.Progress) (x y z : Box Expr Global) → e ≡ Conditional c t f → u ≡ c → v ≡ t →
+    w ≡ f → q ≡ progress_after k p (items (view u.value)) → s ≡ progress_after k q (items (view v.value)) →
+    view x.value ≡ resolved_by k p.passed (view u.value) → view y.value ≡ resolved_by k q.passed (view v.value) →
+    Walks o k s (items (view w.value)) after (λ _. view z.value ≡ resolved_by k s.passed (view w.value)) →
+    Walks o k p (items (view e)) after (λ _. view (Conditional x y z) ≡ resolved_by k p.passed (view e))
+three_resolved {u} {v} {w} k p q s o after x y z h i j l a b first second rest =
+    let one = noted_passed k p q (items (view u.value)) a in
+    let two = noted_passed k q s (items (view v.value)) b ∙ ap (λ c. c + counted k.named (items (view v.value))) one in
+    let parts = three_lent h i j l in
+    let same = h ∙ (λ n. Conditional (sym i n) (sym j n) (sym l n)) in
+    walk_ends o k p q _ (items (view u.value)) (items (view v.value) ++ items (view w.value)) after _ _ parts.is a
+    (λ _ third. view_conditional x y z
+    ∙ (λ n. conditional (first n) ((second ∙ ap (λ c. resolved_by k c (view v.value)) one) n)
+    ((third ∙ ap (λ c. resolved_by k c (view w.value)) two) n))
+    ∙ sym (ap (resolved_by k p.passed) (ap view same ∙ view_conditional u v w)))
+    (walk_ends o k q s _ (items (view v.value)) (items (view w.value)) after _ _ refl b (λ _ h. h) rest)
 
 -- a walk meets an item where one of the parts has one
 

@@ -1,24 +1,26 @@
 -- Walks over parts, one behind another.
 use Rattle.std.proofs.Common.{◌≡◌, ℕ, ◌+◌, ◌<◌, ◌≤◌, List, ◌++◌, Bool, true, false, length, refl, ap}
 use Rattle.std.proofs.Common.{◌∙◌, [], ◌∷◌, drop, drop-cons, get_or, add-one, take, set, sym, arith, zero, suc, Option}
-use Rattle.std.proofs.Common.{Some, None}
+use Rattle.std.proofs.Common.{Some, None, Result, Ok, Err, subst}
 use Rattle.std.proofs.lemmas.Grind.{take-set_at}
 use Rattle.std.proofs.lemmas.List.{take_all}
 use Rattle.std.proofs.lemmas.List.{drop_all}
-use Rattle.std.proofs.lemmas.List.Sums.{fold-append}
+use Rattle.std.proofs.lemmas.List.Sums.{fold-append, length-filter, count_by-le-length}
 use Rattle.fancy_lex.specs.Fault.{Fault}
 use Rattle.fancy_lex.specs.declared.error.Failure.{Failure}
 use Rattle.fancy_lex.specs.declared.error.Failure.TheVariants.{At, OutOfMemory}
 use Rattle.fancy_parts.specs.Groups.{Groups, with_opening}
 use Rattle.fancy_parts.specs.Ranks.{Opening, is_counted}
-use Rattle.fancy_grammar.proofs.ItemLemmas.{length_openings}
+use Rattle.fancy_grammar.proofs.ItemLemmas.{length_openings, counted, counted_first}
 use Rattle.fancy_grammar.specs.Items.{Item, opening, reference, items, items_all, openings_in}
 use Rattle.fancy_grammar.specs.Tree.{Tree, trees_of, more_trees}
-use Rattle.fancy_syntax.specs.Notes.{IsErrorNoted}
+use Rattle.fancy_syntax.specs.Notes.{IsErrorNoted, Walks}
 use Rattle.fancy_syntax.specs.View.{view, views}
 use Rattle.fancy_syntax.specs.declared.expr.Expr.{Expr}
-use Rattle.fancy_grammar.specs.Walk.{groups_after, find_item, Known, Progress, progress_after, note_item, rebuilt}
-use Rattle.fancy_grammar.specs.Walk.{rebuilt_all}
+use Rattle.fancy_syntax.specs.declared.resolve.notes.Progress as code
+use Rattle.fancy_syntax.specs.declared.resolve.notes.Stopped.{Stopped}
+use Rattle.fancy_grammar.specs.Walk.{groups_after, find_item, Known, Progress, progress_after, note_item, resolved_by}
+use Rattle.fancy_grammar.specs.Walk.{all_resolved_by}
 
 pub found_append : (named : Bool) (s : Groups) (a b : List Item) →
     groups_after named s (a ++ b) ≡ groups_after named (groups_after named s a) b
@@ -42,6 +44,19 @@ error_kept k s (Some (At reach kind)) a b h =
     ap (λ (q : Progress). q.fault) (noted_append k s a b) ∙ fault_kept k (progress_after k s a) _ b h
 error_kept k s (Some OutOfMemory) a b h = tt
 
+-- a walk over the last part is the end of one over all
+same_end : (k : Known) (s p : Progress) (l x y : List Item) → l ≡ x ++ y → p ≡ progress_after k s x →
+    progress_after k p y ≡ progress_after k s l
+same_end k s p l x y h e =
+    ap (λ q. progress_after k q y) e ∙ sym (noted_append k s x y) ∙ ap (progress_after k s) (sym h)
+
+pub walk_ends : {A : Type 0} (r : Result A Stopped) (k : Known) (s p : Progress) (l x y : List Item) (after : code.Progress)
+    (P Q : A → Type 0) → l ≡ x ++ y → p ≡ progress_after k s x → ((a : A) → P a → Q a) → Walks r k p y after P →
+    Walks r k s l after Q
+walk_ends (Ok a) k s p l x y after P Q h e f w = (f a w.0, w.1 ∙ same_end k s p l x y h e)
+walk_ends (Err _) k s p l x y after P Q h e f w =
+    subst (λ (q : Progress). IsErrorNoted after.error q.fault) (same_end k s p l x y h e) w
+
 -- a walk passes at most as many groups as there are openings
 
 opening_total : (named : Bool) (s : Groups) (o : Opening) (b : Bool) → is_counted named o.name ≡ b →
@@ -60,21 +75,22 @@ pub found_le : (named : Bool) (s f : Groups) (l : List Item) → f ≡ groups_af
     f.total ≤ s.total + length (openings_in l)
 found_le named s f l e = omega (arith, total_le named s l, ap (λ (g : Groups). g.total) e)
 
-opening_passed : (k : Known) (s : Progress) (o : Opening) (b : Bool) → is_counted k.named o.name ≡ b →
-    (note_item k s (opening o)).passed ≤ s.passed + 1
-opening_passed k s o true e = rw e (omega arith)
-opening_passed k s o false e = rw e (omega arith)
+-- and just as many as have a number
+passed_is : (k : Known) (s : Progress) (l : List Item) →
+    (progress_after k s l).passed ≡ s.passed + counted k.named l
+passed_is k s [] = omega arith
+passed_is k s (opening o ∷ l) = passed_is k (note_item k s (opening o)) l ∙ sym (counted_first k.named o s.passed l)
+passed_is k s (reference r ∷ l) = passed_is k (note_item k s (reference r)) l
 
-passed_le : (k : Known) (s : Progress) (l : List Item) →
-    (progress_after k s l).passed ≤ s.passed + length (openings_in l)
-passed_le k s [] = omega arith
-passed_le k s (opening o ∷ l) =
-    omega (arith, passed_le k (note_item k s (opening o)) l, opening_passed k s o (is_counted k.named o.name) refl)
-passed_le k s (reference r ∷ l) = passed_le k (note_item k s (reference r)) l
+pub noted_passed : (k : Known) (s p : Progress) (l : List Item) → p ≡ progress_after k s l →
+    p.passed ≡ s.passed + counted k.named l
+noted_passed k s p l e = ap (λ (q : Progress). q.passed) e ∙ passed_is k s l
 
 pub noted_le : (k : Known) (s p : Progress) (l : List Item) → p ≡ progress_after k s l →
     p.passed ≤ s.passed + length (openings_in l)
-noted_le k s p l e = omega (arith, passed_le k s l, ap (λ (q : Progress). q.passed) e)
+noted_le k s p l e =
+    let counts = λ (o : Opening). is_counted k.named o.name in
+    omega (arith, noted_passed k s p l e, length-filter counts (openings_in l), count_by-le-length counts (openings_in l))
 
 -- the items of the trees from the i-th on
 abbrev pub rest : List Expr → ℕ → List Item
@@ -91,16 +107,15 @@ pub count_two : (l x y : List Item) → l ≡ x ++ y →
     length (openings_in l) ≡ length (openings_in x) + length (openings_in y)
 count_two l x y h = ap (λ m. length (openings_in m)) h ∙ length_openings x y
 
--- the trees rebuilt one after another
-abbrev pub rebuilt_list : Known → Progress → List Tree → List Tree
-rebuilt_list k s [] = []
-rebuilt_list k s (t ∷ ts) = rebuilt k s t ∷ rebuilt_list k (progress_after k s (items t)) ts
+-- the trees resolved one after another
+abbrev pub resolved_list : Known → ℕ → List Tree → List Tree
+resolved_list k c [] = []
+resolved_list k c (t ∷ ts) = resolved_by k c t ∷ resolved_list k (c + counted k.named (items t)) ts
 
-pub rebuilt_trees : (k : Known) (s : Progress) (ts : List Tree) →
-    rebuilt_all k s (trees_of ts) ≡ trees_of (rebuilt_list k s ts)
-rebuilt_trees k s [] = refl
-rebuilt_trees k s (t ∷ ts) = ap (λ us. more_trees (rebuilt k s t) us)
-    (rebuilt_trees k (progress_after k s (items t)) ts)
+resolved_trees : (k : Known) (ts : List Tree) (c : ℕ) →
+    all_resolved_by k c (trees_of ts) ≡ trees_of (resolved_list k c ts)
+resolved_trees k [] c = refl
+resolved_trees k (t ∷ ts) c = ap (more_trees (resolved_by k c t)) (resolved_trees k ts _)
 
 -- a list whose end from i on is known
 front_next : (l r : List Tree) (i : ℕ) (x : Tree) → drop i l ≡ x ∷ r → take (suc i) l ≡ take i l ++ (x ∷ [])
@@ -119,49 +134,50 @@ views_append : (a b : List Expr) → views (a ++ b) ≡ views a ++ views b
 views_append [] b = refl
 views_append (e ∷ a) b = ap (λ l. view e ∷ l) (views_append a b)
 
--- the front that is rebuilt, with one tree more
-pub front_rebuilt : (k : Known) (s : Progress) (es now : List Expr) (all : List Tree) (i : ℕ) (e e2 : Expr) →
-    length now ≡ length es → i < length es → e ≡ get_or es i e →
-    view e2 ≡ rebuilt k s (view e) → views (take i now) ≡ take i all →
-    rebuilt_list k s (views (drop i es)) ≡ drop i all →
-    views (take (i + 1) (set now i e2)) ≡ take (i + 1) all
-front_rebuilt k s es now all i e e2 n h g v f d =
+-- the end that is not resolved yet, cut behind its first tree
+end_cut : (k : Known) (c : ℕ) (es : List Expr) (all : List Tree) (i : ℕ) (e : Expr) → i < length es →
+    e ≡ get_or es i e → resolved_list k c (views (drop i es)) ≡ drop i all →
+    drop i all
+    ≡ resolved_by k c (view e) ∷ resolved_list k (c + counted k.named (items (view e))) (views (drop (i + 1) es))
+end_cut k c es all i e h g d =
     let es_cut : drop i es ≡ e ∷ drop (i + 1) es = rw (drop-cons es i e, ← g, add-one) refl in
-    let cut : drop i all ≡ rebuilt k s (view e) ∷ rebuilt_list k (progress_after k s (items (view e)))
-    (views (drop (i + 1) es))
-    = sym d ∙ ap (λ l. rebuilt_list k s (views l)) es_cut in
+    sym d ∙ ap (λ l. resolved_list k c (views l)) es_cut
+
+-- the front that is resolved, with one tree more
+pub front_resolved : (k : Known) (c : ℕ) (es now : List Expr) (all : List Tree) (i : ℕ) (e e2 : Expr) →
+    length now ≡ length es → i < length es → e ≡ get_or es i e →
+    view e2 ≡ resolved_by k c (view e) → views (take i now) ≡ take i all →
+    resolved_list k c (views (drop i es)) ≡ drop i all →
+    views (take (i + 1) (set now i e2)) ≡ take (i + 1) all
+front_resolved k c es now all i e e2 n h g v f d =
     let taken : take (i + 1) (set now i e2) ≡ take i now ++ (e2 ∷ [])
     = take-set_at now i (i + 1) e2 refl (omega arith) in
     ap views taken ∙ views_append (take i now) (e2 ∷ []) ∙ ap (λ l. l ++ (view e2 ∷ [])) f
     ∙ ap (λ x. take i all ++ (x ∷ [])) v
-    ∙ sym (front_next all _ i _ cut) ∙ ap (λ j. take j all) (sym (add-one i))
+    ∙ sym (front_next all _ i _ (end_cut k c es all i e h g d)) ∙ ap (λ j. take j all) (sym (add-one i))
 
-pub rest_rebuilt : (k : Known) (s s2 : Progress) (es : List Expr) (all : List Tree) (i : ℕ) (e : Expr) → i < length es →
-    e ≡ get_or es i e →
-    s2 ≡ progress_after k s (items (view e)) → rebuilt_list k s (views (drop i es)) ≡ drop i all →
-    rebuilt_list k s2 (views (drop (i + 1) es)) ≡ drop (i + 1) all
-rest_rebuilt k s s2 es all i e h g n d =
-    let es_cut : drop i es ≡ e ∷ drop (i + 1) es = rw (drop-cons es i e, ← g, add-one) refl in
-    let cut : drop i all ≡ rebuilt k s (view e) ∷ rebuilt_list k (progress_after k s (items (view e)))
-    (views (drop (i + 1) es))
-    = sym d ∙ ap (λ l. rebuilt_list k s (views l)) es_cut in
-    ap (λ p. rebuilt_list k p (views (drop (i + 1) es))) n ∙ sym (drop_next all _ i _ cut)
-    ∙ ap (λ j. drop j all) (sym (add-one i))
+pub rest_resolved : (k : Known) (s s2 : Progress) (es : List Expr) (all : List Tree) (i : ℕ) (e : Expr) →
+    i < length es → e ≡ get_or es i e → s2 ≡ progress_after k s (items (view e)) →
+    resolved_list k s.passed (views (drop i es)) ≡ drop i all →
+    resolved_list k s2.passed (views (drop (i + 1) es)) ≡ drop (i + 1) all
+rest_resolved k s s2 es all i e h g n d =
+    ap (λ c. resolved_list k c (views (drop (i + 1) es))) (noted_passed k s s2 (items (view e)) n)
+    ∙ sym (drop_next all _ i _ (end_cut k s.passed es all i e h g d)) ∙ ap (λ j. drop j all) (sym (add-one i))
 
-rebuilt_length : (k : Known) (s : Progress) (ts : List Tree) → length (rebuilt_list k s ts) ≡ length ts
-rebuilt_length k s [] = refl
-rebuilt_length k s (t ∷ ts) = ap suc (rebuilt_length k (progress_after k s (items t)) ts)
+resolved_length : (k : Known) (ts : List Tree) (c : ℕ) → length (resolved_list k c ts) ≡ length ts
+resolved_length k [] c = refl
+resolved_length k (t ∷ ts) c = ap suc (resolved_length k ts _)
 
 views_length : (es : List Expr) → length (views es) ≡ length es
 views_length [] = refl
 views_length (e ∷ es) = ap suc (views_length es)
 
--- all are rebuilt
-pub all_rebuilt : (k : Known) (s : Progress) (es now : List Expr) (i : ℕ) → length now ≡ length es → length es ≤ i →
-    views (take i now) ≡ take i (rebuilt_list k s (views es)) →
-    trees_of (views now) ≡ rebuilt_all k s (trees_of (views es))
-all_rebuilt k s es now i n h f =
+-- all are resolved
+pub each_resolved : (k : Known) (c : ℕ) (es now : List Expr) (i : ℕ) → length now ≡ length es → length es ≤ i →
+    views (take i now) ≡ take i (resolved_list k c (views es)) →
+    trees_of (views now) ≡ all_resolved_by k c (trees_of (views es))
+each_resolved k c es now i n h f =
     let a : take i now ≡ now = take_all i now (omega arith) in
-    let b : take i (rebuilt_list k s (views es)) ≡ rebuilt_list k s (views es)
-    = take_all i (rebuilt_list k s (views es)) (omega (arith, rebuilt_length k s (views es), views_length es)) in
-    ap (λ l. trees_of (views l)) (sym a) ∙ ap trees_of (f ∙ b) ∙ sym (rebuilt_trees k s (views es))
+    let b : take i (resolved_list k c (views es)) ≡ resolved_list k c (views es)
+    = take_all i (resolved_list k c (views es)) (omega (arith, resolved_length k (views es) c, views_length es)) in
+    ap (λ l. trees_of (views l)) (sym a) ∙ ap trees_of (f ∙ b) ∙ sym (resolved_trees k (views es) c)

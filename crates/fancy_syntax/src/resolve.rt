@@ -11,7 +11,7 @@ ghost use Rattle.fancy_syntax.specs.Answer.{marks_of};
 ghost use Rattle.fancy_syntax.specs.Notes.{known_of, progress_of, marks_found, has_items};
 ghost use Rattle.fancy_grammar.specs.Ordered.{DescendingReaches};
 ghost use Rattle.fancy_grammar.specs.Resolved.{resolved, fault_of};
-ghost use Rattle.fancy_grammar.specs.Walk.{progress_after, nothing_noted, rebuilt};
+ghost use Rattle.fancy_grammar.specs.Walk.{progress_after, nothing_noted, resolved_by};
 ghost use Rattle.fancy_syntax.specs.View.{view};
 
 mod notes;
@@ -95,7 +95,7 @@ fn answer(expr: Expr, named: bool, groups: Groups, progress: Progress) -> ExprTr
 fn walk(alloc: Global, tree: &mut Expr, known: &Known, met: bool) -> Result<Progress, Failure>
     requires room { length (openings (view tree.old)) < 2 ^ 63 }
     requires met { met ≡ has_items (items (view tree.old)) }
-    ensures tree { IfOk result (λ _. view tree.new ≡ rebuilt (known_of known.now) nothing_noted (view tree.old)) }
+    ensures tree { IfOk result (λ _. view tree.new ≡ resolved_by (known_of known.now) 0 (view tree.old)) }
     ensures progress { IfOk result
         (λ p. progress_of p ≡ progress_after (known_of known.now) nothing_noted (items (view tree.old))) }
     ensures fault { IfErr result

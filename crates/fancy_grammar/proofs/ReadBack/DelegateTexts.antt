@@ -55,7 +55,7 @@ bracket_atom d u i t x v e =
     reads_leaf d g (code "[" ∷ (t ++ v)) v (delegate x i)
     (leaf_at d g (code "[") (t ++ v) refl refl
     ∙ ap (λ o. leaf (leaf_outcome (λ w. delegate w i) (st g (code "[" ∷ (t ++ v))) o)) e)
-    (record { is = λ z r. refl; groups = tt })
+    (record { is = λ n u c. refl; groups = tt })
 
 bracket_text : (t : Text) → is_some (class_of (unicode_flags false) (code "[" ∷ t)) ≡ true → DelegateText (code "[" ∷ t)
 bracket_text t h =
@@ -103,7 +103,7 @@ escape_atom d u i t x v b e =
     reads_leaf d g (code "\\" ∷ (t ++ v)) v (delegate x b)
     (leaf_at d g (code "\\") (t ++ v) refl refl
     ∙ ap (λ o. leaf (leaf_outcome leaf_node (st g (code "\\" ∷ (t ++ v))) o)) e)
-    (record { is = λ z r. refl; groups = tt })
+    (record { is = λ n u c. refl; groups = tt })
 
 escape_text : (t : Text) → is_some (class_of (unicode_flags false) (code "\\" ∷ t)) ≡ true →
     DelegateText (code "\\" ∷ t)

@@ -111,7 +111,7 @@ kept_multi u crlf = record { no_space = refl; not_swapped = refl; not_oniguruma 
 reads_dot : (d : ℕ) (f : Flags) (v : Text) → AtomAs d f (code "." ∷ v) v (any f.dotnl f.crlf)
 reads_dot d f v =
     reads_leaf d f (code "." ∷ v) v (any f.dotnl f.crlf) (leaf_at d f (code ".") v refl refl) (record {
-      is = λ n g. refl;
+      is = λ n u c. refl;
       groups = tt;
     })
 
@@ -191,7 +191,7 @@ line_atom d c u true v x l b a =
 anchor : (d : ℕ) (f : Flags) (c : ℕ) (v : Text) (a : Assertion) →
     ahead d (st f (c ∷ v)) ≡ leaf (done (assertion a) (st f v)) →
     AtomAs d f (c ∷ v) v (assertion a)
-anchor d f c v a e = reads_leaf d f (c ∷ v) v (assertion a) e (record { is = λ n g. refl; groups = tt })
+anchor d f c v a e = reads_leaf d f (c ∷ v) v (assertion a) e (record { is = λ n u c. refl; groups = tt })
 
 start_line : (d : ℕ) (u r : Bool) (v : Text) → d + 1 < max_depth →
     AtomAs d (unicode_flags u) (put_line (code "^") r v) v (assertion (StartLine r))
@@ -222,7 +222,7 @@ reads_assertion_escape d u t v a e =
     reads_leaf d (unicode_flags u) (code "\\" ∷ t) v (assertion a)
     (leaf_at d (unicode_flags u) (code "\\") t refl refl
     ∙ ap (λ r. leaf (leaf_outcome leaf_node (st (unicode_flags u) (code "\\" ∷ t)) r)) e)
-    (record { is = λ n g. refl; groups = tt })
+    (record { is = λ n u c. refl; groups = tt })
 
 half_start : (p : ℕ) (v : Text) →
     boundary false p false (code "{" ∷ code "s" ∷ code "t" ∷ code "a" ∷ code "r" ∷ code "t" ∷ code "-" ∷ code

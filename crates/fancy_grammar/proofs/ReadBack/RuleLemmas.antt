@@ -1,12 +1,11 @@
 -- What the grammar's rules read, under flags with which no blank is layout. Nothing else speaks of the rules.
 use Rattle.std.proofs.Common.{◌≡◌, ℕ, ◌+◌, ◌<◌, ◌≤◌, suc, Bool, true, false, not, ◌&&◌, ◌==◌, nat_le, nat_lt, List, []}
-use Rattle.std.proofs.Common.{◌∷◌, ◌++◌, map, Option, Some, None, is_none, refl, sym, ap, ap₂, ◌∙◌, subst, arith}
+use Rattle.std.proofs.Common.{◌∷◌, ◌++◌, Option, Some, None, is_none, refl, sym, ap, ap₂, ◌∙◌, subst, arith}
 use Rattle.std.proofs.Common.{append_assoc, append-nil, le-leb, if◌then◌else◌}
 use Rattle.std.proofs.lemmas.Bool.{cond-true, cond-false}
 use Rattle.std.proofs.lemmas.Bool.Decides.{nat_tests}
 use Rattle.std.proofs.Math.Bool.{and-true, and-false, not-not}
-use Rattle.std.proofs.lemmas.List.{map-append}
-use Rattle.std.specs.List.{AllByRecursion}
+use Rattle.std.specs.List.{AllByRecursion, AllZip}
 use Prim.Native.Char.{code}
 use Rattle.fancy_lex.specs.Fault.{Kind, recursion_exceeded}
 use Rattle.fancy_lex.specs.LayoutSteps.{layout, after_comment_head, rest}
@@ -17,7 +16,6 @@ use Rattle.fancy_parts.specs.FlagLetters.{Letters, scope as scoped, flags_end, f
 use Rattle.fancy_parts.specs.LetterSteps.{letters, letters_in, step}
 use Rattle.fancy_parts.specs.Quantifier.{counts}
 use Rattle.fancy_parts.specs.Quote.{behind_backslash, needs_backslash}
-use Rattle.fancy_parts.specs.Ranks.{Opening}
 use Rattle.fancy_parts.specs.declared.counts.Counts.{Counts}
 use Rattle.fancy_parts.proofs.FlagLemmas.{letters_start, in_end, in_go}
 use Rattle.fancy_grammar.specs.State as states
@@ -29,6 +27,8 @@ use Rattle.fancy_grammar.specs.Grammar.{Pieces, stop, next, piece_fault, Piece, 
 use Rattle.fancy_grammar.specs.Grammar.{inside, DerivesTree, Faults, whole}
 use Rattle.fancy_grammar.specs.Head.{Head, capture, scope}
 use Rattle.fancy_grammar.specs.Items.{Item, opening, reference, items, items_all}
+use Rattle.fancy_grammar.specs.Label as label
+use Rattle.fancy_grammar.specs.Label.{Row}
 use Rattle.fancy_grammar.specs.Join.{is_empty, solid, one_or, join, choice}
 use Rattle.fancy_grammar.specs.Grammar.{trees_before}
 use Rattle.fancy_grammar.specs.Quantified as quantified
@@ -37,9 +37,9 @@ use Rattle.fancy_grammar.specs.Quantified.{adjacent, max_adjacent, behind_lazy, 
 use Rattle.fancy_grammar.specs.Resolved.{resolved_in, resolved_all}
 use Rattle.fancy_grammar.specs.State.{skipped, State, Outcome, done, fault, and_then, seen_through}
 use Rattle.fancy_grammar.specs.Tree as tree
-use Rattle.fancy_grammar.specs.Tree.{Tree, empty, literal, concat, alt, repeat, trees_of, ast_node}
+use Rattle.fancy_grammar.specs.Tree.{Tree, row, empty, literal, concat, repeat, trees_of, ast_node}
 use Rattle.fancy_grammar.specs.Tree.{ast_group}
-use Rattle.fancy_grammar.proofs.OutcomeLemmas.{before-nil, solid-append, each_append, each_solid}
+use Rattle.fancy_grammar.proofs.OutcomeLemmas.{before-nil, solid-append}
 use Rattle.fancy_grammar.specs.Normal.{unicode_flags, case_flags}
 use Rattle.fancy_grammar.proofs.ReadBack.InFront.{put_as}
 use Rattle.fancy_grammar.proofs.ReadBack.ClearLemmas.{Clear, no_layout, clear_counts, clear_lazy, clear_star}
@@ -83,28 +83,36 @@ all_groups : (l : List Tree) → EachHasGroups l → OnlyGroups (items_all (tree
 all_groups [] h = tt
 all_groups (t ∷ l) h = groups_append (items t) (items_all (trees_of l)) h.0 (all_groups l h.1)
 
-concat_groups : (l : List Tree) → EachHasGroups l → OnlyGroups (items (one_or concat l))
-concat_groups [] h = tt
-concat_groups (t ∷ []) h = h.0
-concat_groups (t ∷ u ∷ l) h = all_groups (t ∷ u ∷ l) h
-
-choice_groups : (l : List Tree) → EachHasGroups l → OnlyGroups (items (choice l))
-choice_groups [] h = tt
-choice_groups (t ∷ []) h = h.0
-choice_groups (t ∷ u ∷ l) h = all_groups (t ∷ u ∷ l) h
-
--- a raw tree of that kind that resolves to x
+-- a raw tree of that kind that resolves to x, whatever stands around it
 pub record Becomes (r x : Tree) : Type 0 where
-  pub is : (n : ℕ) (g : List Opening) → resolved_in n false g r ≡ x
+  pub is : (n : ℕ) (numbers_of : Text → List ℕ) (c : ℕ) → resolved_in n false numbers_of c r ≡ x
   pub groups : OnlyGroups (items r)
+
+-- each of the trees becomes the one at its place
+abbrev pub EachBecomes : List Tree → List Tree → Type 0
+EachBecomes l m = AllZip Becomes l m
 
 -- ---- what resolving keeps
 
-pub resolved_repeatable : (n : ℕ) (g : List Opening) (f : Flags) (t : Tree) → OnlyGroups (items t) →
-    is_repeatable f (resolved_in n false g t) ≡ is_repeatable f t
-resolved_repeatable n g f (ast_group m p t) h = refl
-resolved_repeatable n g f (ast_node r p) h = absurd h
-resolved_repeatable n g f _ h = refl
+no_numbers : Text → List ℕ
+no_numbers u = []
+
+resolved_repeatable : (f : Flags) (t : Tree) → OnlyGroups (items t) →
+    is_repeatable f (resolved_in 0 false no_numbers 0 t) ≡ is_repeatable f t
+resolved_repeatable f (ast_group m p t) h = refl
+resolved_repeatable f (ast_node r p) h = absurd h
+resolved_repeatable f _ h = refl
+
+same_repeatable : (f : Flags) {r x : Tree} → Becomes r x → is_repeatable f r ≡ is_repeatable f x
+same_repeatable f {r} b = sym (resolved_repeatable f r b.groups) ∙ ap (is_repeatable f) (b.is 0 no_numbers 0)
+
+resolved_empty : (t : Tree) → OnlyGroups (items t) → is_empty (resolved_in 0 false no_numbers 0 t) ≡ is_empty t
+resolved_empty (ast_group m p t) h = refl
+resolved_empty (ast_node r p) h = absurd h
+resolved_empty _ h = refl
+
+same_empty : {r x : Tree} → Becomes r x → is_empty r ≡ is_empty x
+same_empty {r} b = sym (resolved_empty r b.groups) ∙ ap is_empty (b.is 0 no_numbers 0)
 
 solid_cond : (t : Tree) (l : List Tree) (b : Bool) → is_empty t ≡ b → solid l ≡ l →
     solid (if b then l else t ∷ l) ≡ (if b then l else t ∷ l)
@@ -119,42 +127,44 @@ pub join_one : (x : Tree) → join (solid (x ∷ [])) ≡ x
 join_one empty = refl
 join_one _ = refl
 
-module _ (n : ℕ) (g : List Opening) where
-  abbrev there : Tree → Tree
-  there = resolved_in n false g
+each_groups : (l m : List Tree) → EachBecomes l m → EachHasGroups l
+each_groups [] [] h = tt
+each_groups (r ∷ l) (x ∷ m) h = (h.0.groups, each_groups l m h.1)
+each_groups _ _ h = absurd h
 
-  resolved_trees : (l : List Tree) → resolved_all n false g (trees_of l) ≡ trees_of (map there l)
-  resolved_trees [] = refl
-  resolved_trees (t ∷ l) = ap (tree.more_trees (there t)) (resolved_trees l)
+each_resolved : (l m : List Tree) → EachBecomes l m → (n : ℕ) (numbers_of : Text → List ℕ) (c : ℕ) →
+    resolved_all n false numbers_of c (trees_of l) ≡ trees_of m
+each_resolved [] [] h n u c = refl
+each_resolved (r ∷ l) (x ∷ m) h n u c = ap₂ tree.more_trees (h.0.is n u c) (each_resolved l m h.1 n u _)
+each_resolved _ _ h n u c = absurd h
 
-  resolved_concat : (l : List Tree) → there (one_or concat l) ≡ one_or concat (map there l)
-  resolved_concat [] = refl
-  resolved_concat (t ∷ []) = refl
-  resolved_concat (t ∷ u ∷ l) = ap concat (resolved_trees (t ∷ u ∷ l))
+one_becomes : (w : Row) (l m : List Tree) → EachBecomes l m → Becomes (one_or (row w) l) (one_or (row w) m)
+one_becomes w [] [] h = record { is = λ n u c. refl; groups = tt }
+one_becomes w (r ∷ []) (x ∷ []) h = h.0
+one_becomes w (r ∷ s ∷ l) (x ∷ y ∷ m) h = record {
+  is = λ n u c. ap (row w) (each_resolved (r ∷ s ∷ l) (x ∷ y ∷ m) h n u c);
+  groups = all_groups (r ∷ s ∷ l) (each_groups (r ∷ s ∷ l) (x ∷ y ∷ m) h);
+}
+one_becomes w (r ∷ []) (x ∷ y ∷ m) h = absurd h.1
+one_becomes w (r ∷ s ∷ l) (x ∷ []) h = absurd h.1
+one_becomes w _ _ h = absurd h
 
-  resolved_choice : (l : List Tree) → there (choice l) ≡ choice (map there l)
-  resolved_choice [] = refl
-  resolved_choice (t ∷ []) = refl
-  resolved_choice (t ∷ u ∷ l) = ap alt (resolved_trees (t ∷ u ∷ l))
+append_becomes : (l m a b : List Tree) → EachBecomes l m → EachBecomes a b → EachBecomes (l ++ a) (m ++ b)
+append_becomes [] [] a b h k = k
+append_becomes (r ∷ l) (x ∷ m) a b h k = (h.0, append_becomes l m a b h.1 k)
+append_becomes _ _ a b h k = absurd h
 
-  resolved_empty : (t : Tree) → OnlyGroups (items t) → is_empty (there t) ≡ is_empty t
-  resolved_empty (ast_group m p t) h = refl
-  resolved_empty (ast_node r p) h = absurd h
-  resolved_empty _ h = refl
+solid_both : (b d : Bool) (r x : Tree) (l m : List Tree) → b ≡ d → Becomes r x → EachBecomes l m →
+    EachBecomes (if b then l else r ∷ l) (if d then m else x ∷ m)
+solid_both true true r x l m e h k = k
+solid_both false false r x l m e h k = (h, k)
+solid_both _ _ r x l m e h k = absurd cc
 
-  resolved_cond : (b : Bool) (t : Tree) (l : List Tree) →
-      (if b then map there l else there t ∷ map there l) ≡ map there (if b then l else t ∷ l)
-  resolved_cond true t l = refl
-  resolved_cond false t l = refl
-
-  solid_resolved : (l : List Tree) → EachHasGroups l → solid (map there l) ≡ map there (solid l)
-  solid_resolved [] h = refl
-  solid_resolved (t ∷ l) h =
-      ap₂ (λ (b : Bool) (m : List Tree). if b then m else there t ∷ m) (resolved_empty t h.0) (solid_resolved l h.1)
-      ∙ resolved_cond (is_empty t) t (solid l)
-
-  resolved_join : (l : List Tree) → EachHasGroups l → there (join l) ≡ one_or concat (solid (map there l))
-  resolved_join l h = resolved_concat (solid l) ∙ ap (one_or concat) (sym (solid_resolved l h))
+solid_becomes : (l m : List Tree) → EachBecomes l m → EachBecomes (solid l) (solid m)
+solid_becomes [] [] h = tt
+solid_becomes (r ∷ l) (x ∷ m) h =
+    solid_both (is_empty r) (is_empty x) r x (solid l) (solid m) (same_empty h.0) h.0 (solid_becomes l m h.1)
+solid_becomes _ _ h = absurd h
 
 -- ---- what the text from s to v reads as: a tree that becomes x
 
@@ -176,22 +186,23 @@ pub record WholeAs (d : ℕ) (f : Flags) (s v : Text) (x : Tree) : Type 0 where
 pub record BranchesAs (d : ℕ) (f : Flags) (s v : Text) (ys : List Tree) : Type 0 where
   pub trees : List Tree
   pub derives : Branches d (st f s) (done trees (st f v))
-  pub are : (n : ℕ) (g : List Opening) → map (resolved_in n false g) trees ≡ ys
-  pub groups : EachHasGroups trees
+  pub become : EachBecomes trees ys
 
 -- the pieces from s to v, whatever pieces follow; without the Empties they are these
 pub record Run (d : ℕ) (f : Flags) (s v : Text) (ys : List Tree) : Type 0 where
   pub trees : List Tree
   pub pieces : (q : Outcome (List Tree)) → Pieces d (st f v) q → Pieces d (st f s) (trees_before trees q)
-  pub are : (n : ℕ) (g : List Opening) → solid (map (resolved_in n false g) trees) ≡ ys
-  pub groups : EachHasGroups trees
+  pub resolved : List Tree
+  pub become : EachBecomes trees resolved
+  pub are : solid resolved ≡ ys
 
 pub no_run : (d : ℕ) (f : Flags) (v : Text) → Run d f v v []
 no_run d f v = record {
   trees = [];
   pieces = λ q p. subst (Pieces d (st f v)) (sym (before-nil q)) p;
-  are = λ n g. refl;
-  groups = tt;
+  resolved = [];
+  become = tt;
+  are = refl;
 }
 
 before_append : (l m : List Tree) (q : Outcome (List Tree)) →
@@ -206,11 +217,9 @@ run_chain {d} {f} {s} p q = record {
   pieces =
       λ o r. subst (Pieces d (st f s)) (before_append p.trees q.trees o)
       (p.pieces (trees_before q.trees o) (q.pieces o r));
-  are =
-      λ n g. ap solid (map-append (resolved_in n false g) p.trees q.trees)
-      ∙ solid-append (map (resolved_in n false g) p.trees) (map (resolved_in n false g) q.trees)
-      ∙ ap₂ (λ a b. a ++ b) (p.are n g) (q.are n g);
-  groups = each_append HasGroups p.trees q.trees p.groups q.groups;
+  resolved = p.resolved ++ q.resolved;
+  become = append_becomes p.trees p.resolved q.trees q.resolved p.become q.become;
+  are = solid-append p.resolved q.resolved ∙ ap₂ (λ a b. a ++ b) p.are q.are;
 }
 
 run_piece : {d : ℕ} {f : Flags} {s v : Text} (r x : Tree) → Piece d (st f s) (done r (st f v)) →
@@ -218,8 +227,9 @@ run_piece : {d : ℕ} {f : Flags} {s v : Text} (r x : Tree) → Piece d (st f s)
 run_piece r x p e b = record {
   trees = r ∷ [];
   pieces = λ q m. next e p m refl;
-  are = λ n g. ap (λ y. solid (y ∷ [])) (b.is n g);
-  groups = (b.groups, tt);
+  resolved = x ∷ [];
+  become = (b, tt);
+  are = refl;
 }
 
 skip_here : (f : Flags) (s : Text) → Kept f → after_comment_head s ≡ None → skipped (st f s) ≡ rest s
@@ -298,13 +308,12 @@ pub reads_repeat : (d : ℕ) (f : Flags) (s q v : Text) (x : Tree) (lo hi : ℕ)
     is_repeatable f x ≡ true → AtomAs d f s q x → Run d f s v (repeat x lo hi greedy ∷ [])
 reads_repeat d f s q v x lo hi greedy k e o c m r a =
     let b = a.becomes in
-    let repeatable : is_repeatable f a.tree ≡ true =
-    sym (resolved_repeatable 0 [] f a.tree b.groups) ∙ ap (is_repeatable f) (b.is 0 []) ∙ r in
+    let repeatable : is_repeatable f a.tree ≡ true = same_repeatable f b ∙ r in
     run_piece (repeat a.tree lo hi greedy) (repeat x lo hi greedy)
     (piece (skip_here f s k o) a.derives
     (quants_one d (bytes s) f a.tree (repeat a.tree lo hi greedy) q v k
     (quant_some (bytes s) f a.tree q v lo hi greedy k c m repeatable)))
-    e (record { is = λ n g. ap (λ y. repeat y lo hi greedy) (b.is n g); groups = b.groups })
+    e (record { is = λ n u c. ap (λ y. repeat y lo hi greedy) (b.is n u c); groups = b.groups })
 
 -- ---- branches
 
@@ -313,13 +322,10 @@ pub reads_branch : {d : ℕ} {f : Flags} {s v : Text} {ys : List Tree} (x : Tree
 reads_branch {d} {f} {s} {v} x r e h = record {
   tree = join (r.trees ++ []);
   derives = branch (r.pieces (done [] (st f v)) (stop h.ends)) refl;
-  becomes = record {
-    is = λ n g. ap (λ l. resolved_in n false g (join l)) (append-nil r.trees) ∙ resolved_join n g r.trees r.groups
-        ∙ ap (one_or concat) (sym (solid_solid (map (resolved_in n false g) r.trees))) ∙ ap join (r.are n g) ∙ e;
-    groups =
-        subst (λ l. OnlyGroups (items (join l))) (sym (append-nil r.trees))
-        (concat_groups (solid r.trees) (each_solid HasGroups r.trees r.groups));
-  };
+  becomes =
+      let same = ap (one_or concat) (sym (solid_solid r.resolved)) ∙ ap join r.are ∙ e in
+      let joined = one_becomes label.concat (solid r.trees) (solid r.resolved) (solid_becomes r.trees r.resolved r.become) in
+      subst (λ l. Becomes (join l) x) (sym (append-nil r.trees)) (subst (Becomes (join r.trees)) same joined);
 }
 
 pub reads_last : (d : ℕ) (f : Flags) (s v : Text) (x : Tree) → BranchAs d f s v x → Ends v →
@@ -327,8 +333,7 @@ pub reads_last : (d : ℕ) (f : Flags) (s v : Text) (x : Tree) → BranchAs d f 
 reads_last d f s v x b e = record {
   trees = b.tree ∷ [];
   derives = last b.derives e.no_bar;
-  are = λ n g. ap (λ y. y ∷ []) (b.becomes.is n g);
-  groups = (b.becomes.groups, tt);
+  become = (b.becomes, tt);
 }
 
 pub reads_more : (d : ℕ) (f : Flags) (s t v : Text) (x : Tree) (ys : List Tree) → BranchAs d f s (code "|" ∷ t) x →
@@ -336,8 +341,7 @@ pub reads_more : (d : ℕ) (f : Flags) (s t v : Text) (x : Tree) (ys : List Tree
 reads_more d f s t v x ys b bs = record {
   trees = b.tree ∷ bs.trees;
   derives = more b.derives refl bs.derives refl;
-  are = λ n g. ap₂ (λ y l. y ∷ l) (b.becomes.is n g) (bs.are n g);
-  groups = (b.becomes.groups, bs.groups);
+  become = (b.becomes, bs.become);
 }
 
 pub reads_whole : (d : ℕ) (f : Flags) (s v : Text) (ys : List Tree) → BranchesAs d f s v ys →
@@ -345,10 +349,7 @@ pub reads_whole : (d : ℕ) (f : Flags) (s v : Text) (ys : List Tree) → Branch
 reads_whole d f s v ys b = record {
   tree = choice b.trees;
   derives = alternation b.derives refl;
-  becomes = record {
-    is = λ n g. resolved_choice n g b.trees ∙ ap choice (b.are n g);
-    groups = choice_groups b.trees b.groups;
-  };
+  becomes = one_becomes label.alt b.trees ys b.become;
 }
 
 pub reads_only : (d : ℕ) (f : Flags) (s v : Text) (x : Tree) → BranchAs d f s v x → Ends v → WholeAs d f s v x
@@ -379,7 +380,7 @@ pub reads_group : (d : ℕ) (f : Flags) (s v : Text) (x : Tree) → Kept f → d
 reads_group d f s v x k l c w = record {
   tree = ast_group None (reach_of (code "(" ∷ s)) w.tree;
   derives = atom (group_at d f s k l c) (a_group (inside w.derives refl) refl) refl;
-  becomes = record { is = λ n g. ap tree.group (w.becomes.is n g); groups = (refl, w.becomes.groups) };
+  becomes = record { is = λ n u c. ap tree.group (w.becomes.is n u (c + 1)); groups = (refl, w.becomes.groups) };
 }
 
 -- a group of flags, whose letters begin with one that begins no other head
@@ -503,14 +504,14 @@ pub reads_char : (d : ℕ) (f : Flags) (c : ℕ) (v : Text) (o : Option ℕ) →
 reads_char d f c v None e =
     reads_leaf d f (c ∷ v) v (literal (c ∷ []) (f.casei && true))
     (plain_leaf d f c v e ∙ ap (λ b. leaf (done (literal (c ∷ []) b) (st f v))) (sym (and-true f.casei)))
-    (record { is = λ n g. refl; groups = tt })
+    (record { is = λ n u c. refl; groups = tt })
 reads_char d f c v (Some x) e =
     reads_leaf d f (code "\\" ∷ x ∷ v) v (literal (c ∷ []) (f.casei && false))
     (leaf_at d f (code "\\") (x ∷ v) refl refl
     ∙ ap (λ r. leaf (leaf_outcome leaf_node (st f (code "\\" ∷ x ∷ v)) r))
     (behind_some c x e f v)
     ∙ ap (λ b. leaf (done (literal (c ∷ []) b) (st f v))) (sym (and-false f.casei)))
-    (record { is = λ n g. refl; groups = tt })
+    (record { is = λ n u c. refl; groups = tt })
 
 -- ---- faults
 

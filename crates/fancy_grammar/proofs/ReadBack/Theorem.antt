@@ -1,28 +1,27 @@
 -- What is printed for a printable tree reads as its normal form, or is refused where it nests too deep: the text has no
 -- other answer.
-use Rattle.std.proofs.Common.{◌≡◌, ℕ, Bool, true, false, nat_lt, nat_le, List, [], ◌∷◌, length}
-use Rattle.std.proofs.Common.{filter, filter_map, map, Option, Some, None, refl, sym, ap, ap₂, ◌∙◌, subst}
-use Rattle.std.specs.Prelude.{find, fold, chars, encode_utf8_all}
+use Rattle.std.proofs.Common.{◌≡◌, ℕ, Bool, true, false, nat_lt, List, [], ◌∷◌, length}
+use Rattle.std.proofs.Common.{filter_map, map, Option, Some, None, refl, sym, ap, ap₂, ◌∙◌, subst}
+use Rattle.std.specs.Prelude.{fold, chars, encode_utf8_all}
 use Rattle.std.specs.BTreeSet.{insert_key}
-use Rattle.std.specs.List.{list_any}
 use borrow.Author.Tests.{ltb-true, ltb-false}
 use Rattle.fancy_lex.specs.Fault.{recursion_exceeded}
-use Rattle.fancy_lex.specs.Text.{Text, bytes, place_at}
+use Rattle.fancy_lex.specs.Text.{Text, bytes}
 use Rattle.fancy_lex.specs.declared.error.Failure.TheVariants.{At}
 use Rattle.fancy_lex.specs.declared.error.ParseError.TheVariants.{RecursionExceeded}
 use Rattle.fancy_lex.specs.declared.flags.Flags.{Flags}
 use Rattle.fancy_parts.specs.Meaning.{first_fault}
 use Rattle.fancy_parts.specs.Ranks.{numbered_openings_in, named_groups, numbers, name_cmp}
-use Rattle.fancy_parts.specs.Written.{is_numeric}
 use Rattle.fancy_grammar.specs.Depth.{max_depth}
 use Rattle.fancy_grammar.specs.Answer.{IsTreeOf, of_reading}
 use Rattle.fancy_grammar.specs.Answered.{groups}
 use Rattle.fancy_grammar.specs.Grammar.{DerivesTree, Faults}
-use Rattle.fancy_grammar.specs.Items.{Item, opening, reference, items, openings, openings_in, references_in}
-use Rattle.fancy_grammar.specs.Marks.{Marks, marks, ascending, back_numbers, is_call, is_call_of_all}
+use Rattle.fancy_grammar.specs.Items.{Item, opening, reference, items, openings, openings_in, meanings_in, numbers_in}
+use Rattle.fancy_grammar.specs.Marks.{Marks, marks}
 use Rattle.fancy_grammar.specs.Printed.{printed}
 use Rattle.fancy_grammar.specs.Resolved.{fault_of}
 use Rattle.fancy_grammar.specs.Tree.{Tree, empty}
+use Rattle.fancy_grammar.proofs.AnswerLaws.{marks_from}
 use Rattle.fancy_grammar.proofs.AnsweredLaws.{groups_total}
 use Rattle.fancy_grammar.proofs.Verdict.{only_tree, no_fault, only_reading}
 use Rattle.fancy_grammar.specs.Normal.{unicode_flags, normal}
@@ -41,10 +40,11 @@ use Rattle.fancy_grammar.proofs.ReadBack.OverLemmas.{place, over_place, none_too
 
 -- ---- the marks
 
-no_references : (l : List Item) → OnlyGroups l → references_in l ≡ []
-no_references [] h = refl
-no_references (opening o ∷ l) h = no_references l h.1
-no_references (reference r ∷ l) h = absurd h
+no_meanings : (l : List Item) → OnlyGroups l → (named : Bool) (numbers_of : Text → List ℕ) (c : ℕ) →
+    meanings_in named numbers_of c l ≡ []
+no_meanings [] h named u c = refl
+no_meanings (opening o ∷ l) h named u c = no_meanings l h.1 named u _
+no_meanings (reference r ∷ l) h named u c = absurd h
 
 no_names : (l : List Item) → OnlyGroups l → filter_map (λ o. o.name) (numbered_openings_in false (openings_in l)) ≡ []
 no_names [] h = refl
@@ -54,21 +54,12 @@ no_names (reference r ∷ l) h = absurd h
 marks_are : (u : Bool) (text : Text) (r : Tree) → OnlyGroups (items r) →
     marks (unicode_flags u) text r ≡ marks_of_groups (length (numbered_openings_in false (openings r)))
 marks_are u text r h =
-    let none = no_references (items r) h in
+    let n = length (numbered_openings_in false (openings r)) in
     let numbered = numbered_openings_in false (openings r) in
     let unnamed : named_groups numbered ≡ [] =
     ap (λ l. map (λ t. (t, numbers t numbered)) (fold (insert_key name_cmp) [] l)) (no_names (items r) h) in
-    λ i. record {
-      backrefs = ascending (filter (λ n. nat_le n (length numbered)) (back_numbers numbered (none i)));
-      named_groups = unnamed i;
-      numeric_capture_group_references =
-          list_any (λ x. is_numeric text (place_at (bytes text) x.reach) x.role x.target) (none i);
-      contains_subroutines = list_any (λ x. is_call x.role) (none i);
-      self_recursive = list_any (λ x. is_call_of_all x.role x.target) (none i);
-      total_groups = length numbered;
-      out_of_range_backref = find (λ n. nat_lt (length numbered) n) (back_numbers numbered (none i));
-      numbered_groups_ignored = false;
-    }
+    let none = no_meanings (items r) h false (numbers_in (unicode_flags u) r) 0 in
+    λ i. marks_from text false n (unnamed i) (none i)
 
 -- ---- the answer
 
@@ -77,9 +68,10 @@ tree_of : (u : Bool) (text : Text) (r x : Tree) → DerivesTree (unicode_flags u
     IsTreeOf (unicode_flags u) text x (marks_of_groups (length (groups x)))
 tree_of u text r x d b =
     let numbered = numbered_openings_in false (openings r) in
-    let none : fault_of (unicode_flags u) r ≡ None = ap (first_fault numbered) (no_references (items r) b.groups) in
+    let numbers_of = numbers_in (unicode_flags u) r in
+    let none : fault_of (unicode_flags u) r ≡ None = ap first_fault (no_meanings (items r) b.groups false numbers_of 0) in
     let found : IsTreeOf (unicode_flags u) text x (marks_of_groups (length numbered)) =
-    (r, d, none, sym (b.is (bytes text) numbered), sym (marks_are u text r b.groups)) in
+    (r, d, none, sym (b.is (bytes text) numbers_of 0), sym (marks_are u text r b.groups)) in
     subst (λ n. IsTreeOf (unicode_flags u) text x (marks_of_groups n)) (sym (groups_total found)) found
 
 only_read : (f : Flags) (text : Text) (t : Tree) (m : Marks) → IsTreeOf f text t m → IsOnlyAnswer f text (read t m)

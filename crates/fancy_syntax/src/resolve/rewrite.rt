@@ -9,7 +9,7 @@ ghost use Rattle.fancy_syntax.specs.Notes.{Walks, is_group_read, is_node_read, i
 ghost use Rattle.fancy_grammar.specs.Tree.{trees_of, ast_node};
 ghost use Rattle.fancy_grammar.specs.Label.{ast_backref};
 ghost use Rattle.fancy_syntax.specs.View.{view, view_absent, view_ast, views};
-ghost use Rattle.fancy_grammar.specs.Walk.{rebuilt, rebuilt_all};
+ghost use Rattle.fancy_grammar.specs.Walk.{resolved_by, all_resolved_by};
 
 use crate::expr::{Absent, AstNode, Expr};
 use crate::resolve::notes::{Known, Progress, Stopped, refer};
@@ -30,7 +30,7 @@ pub(super) fn rewrite(
     requires { progress.old.passed + length (openings_in (items (view tree.old))) < 2 ^ 63 }
     ensures { Walks result (known_of known.now) (progress_of progress.old) (items (view tree.old))
         progress.new
-        (λ _. view tree.new ≡ rebuilt (known_of known.now) (progress_of progress.old) (view tree.old)) }
+        (λ _. view tree.new ≡ resolved_by (known_of known.now) progress.old.passed (view tree.old)) }
 {
     match tree {
         Expr::Concat(parts) => rewrite_all(parts, known, progress),
@@ -65,7 +65,7 @@ fn rewrite_node(tree: &mut Expr, known: &Known, progress: &mut Progress) -> Resu
     requires node { is_node_read (view tree.old) ≡ true }
     ensures { Walks result (known_of known.now) (progress_of progress.old) (items (view tree.old))
         progress.new
-        (λ _. view tree.new ≡ rebuilt (known_of known.now) (progress_of progress.old) (view tree.old)) }
+        (λ _. view tree.new ≡ resolved_by (known_of known.now) progress.old.passed (view tree.old)) }
 {
     let Expr::AstNode(node, place) = tree else {
         unreachable!();
@@ -90,7 +90,7 @@ fn rewrite_group(tree: &mut Expr, known: &Known, progress: &mut Progress) -> Res
     requires passed { progress.old.passed + length (openings_in (items (view tree.old))) < 2 ^ 63 }
     requires group { is_group_read (view tree.old) ≡ true }
     ensures { Walks result (known_of known.now) (progress_of progress.old) (items (view tree.old)) progress.new
-        (λ _. view tree.new ≡ rebuilt (known_of known.now) (progress_of progress.old) (view tree.old)) }
+        (λ _. view tree.new ≡ resolved_by (known_of known.now) progress.old.passed (view tree.old)) }
 {
     let Expr::AstNode(node, reach) = tree else {
         unreachable!();
@@ -129,7 +129,7 @@ fn resolve_group(
     requires group { is_reference node ≡ false }
     ensures { Walks result (known_of known.now) (progress_of progress.old) (items (view_ast node reach))
         progress.new
-        (λ e. view e ≡ rebuilt (known_of known.now) (progress_of progress.old) (view_ast node reach)) }
+        (λ e. view e ≡ resolved_by (known_of known.now) progress.old.passed (view_ast node reach)) }
 {
     let AstNode::AstGroup { name, mut inner } = node else {
         unreachable!();
@@ -156,7 +156,7 @@ fn resolve_reference(
     ensures { Walks result (known_of known.now) (progress_of progress.old) (items (view_ast node.now reach))
         progress.new
         (λ o. resolved_or (view_ast node.now (text.place_at (bytes (chars known.now.pattern.now)) reach)) o
-        ≡ rebuilt (known_of known.now) (progress_of progress.old) (view_ast node.now reach)) }
+        ≡ resolved_by (known_of known.now) progress.old.passed (view_ast node.now reach)) }
 {
     match node {
         AstNode::AstGroup { .. } => unreachable!(),
@@ -206,7 +206,7 @@ fn resolve_backref(
     ensures { let node = ast_backref (view_target target.now) casei relative_recursion_level in
         Walks result (known_of known.now) (progress_of progress.old) (items (ast_node node reach)) progress.new
         (λ o. resolved_or (ast_node node (text.place_at (bytes (chars known.now.pattern.now)) reach)) o
-        ≡ rebuilt (known_of known.now) (progress_of progress.old) (ast_node node reach)) }
+        ≡ resolved_by (known_of known.now) progress.old.passed (ast_node node reach)) }
 {
     let Some(group) = refer(known, progress, reach, Role::BackReference, target)? else {
         return Ok(None);
@@ -233,7 +233,7 @@ fn rewrite_absent(
     ensures { Walks result (known_of known.now) (progress_of progress.old) (items (view_absent absent.old))
         progress.new
         (λ _. view_absent absent.new
-        ≡ rebuilt (known_of known.now) (progress_of progress.old) (view_absent absent.old)) }
+        ≡ resolved_by (known_of known.now) progress.old.passed (view_absent absent.old)) }
 {
     match absent {
         Absent::Repeater(child) => rewrite_child(child, known, progress),
@@ -257,7 +257,7 @@ fn rewrite_child(
     requires { progress.old.passed + length (openings_in (items (view child.old.value))) < 2 ^ 63 }
     ensures { Walks result (known_of known.now) (progress_of progress.old) (items (view child.old.value))
         progress.new
-        (λ _. view child.new.value ≡ rebuilt (known_of known.now) (progress_of progress.old) (view child.old.value)) }
+        (λ _. view child.new.value ≡ resolved_by (known_of known.now) progress.old.passed (view child.old.value)) }
 {
     rewrite(&mut **child, known, progress)
 }
@@ -270,7 +270,7 @@ fn rewrite_all(trees: &mut Vec<Expr>, known: &Known, progress: &mut Progress) ->
     ensures { Walks result (known_of known.now) (progress_of progress.old)
         (items_all (trees_of (views trees.old.items))) progress.new
         (λ _. trees_of (views trees.new.items)
-        ≡ rebuilt_all (known_of known.now) (progress_of progress.old) (trees_of (views trees.old.items))) }
+        ≡ all_resolved_by (known_of known.now) progress.old.passed (trees_of (views trees.old.items))) }
 {
     for i in 0..trees.len() {
         if may_hold_items(&trees[i]) {

@@ -21,7 +21,7 @@ returns-clause-tree c =
     let f = c.args.flags in let r = view c.args.raw in let groups = groups_of c.in-Ok.found.groups in
     let k : Known = record { text = chars c.args.pattern.now; named = c.in-Ok.named; groups = groups } in
     let found = rw c.in-Ok.is at c.find_groups.ensures in
-    let suits = known_suits f r k (length c.args.pattern.now + 2) found.named found.total found.names c.requires in
+    let suits = known_suits f r k found.named found.total found.names in
     let walked = rw c.in-Ok-walk.is at c.walk.ensures in
     ap view c.answer.ensures.tree ∙ walked.tree ∙ law_tree f r k suits
 
@@ -30,7 +30,7 @@ returns-clause-marks c =
     let f = c.args.flags in let r = view c.args.raw in let groups = groups_of c.in-Ok.found.groups in
     let k : Known = record { text = chars c.args.pattern.now; named = c.in-Ok.named; groups = groups } in
     let found = rw c.in-Ok.is at c.find_groups.ensures in
-    let suits = known_suits f r k (length c.args.pattern.now + 2) found.named found.total found.names c.requires in
+    let suits = known_suits f r k found.named found.total found.names in
     let walked = rw c.in-Ok-walk.is at c.walk.ensures in
     c.answer.ensures.marks ∙ ap (marks_noted k) walked.progress ∙ law_marks f r k suits
 
@@ -39,7 +39,7 @@ returns-clause-no_fault c =
     let f = c.args.flags in let r = view c.args.raw in let groups = groups_of c.in-Ok.found.groups in
     let k : Known = record { text = chars c.args.pattern.now; named = c.in-Ok.named; groups = groups } in
     let found = rw c.in-Ok.is at c.find_groups.ensures in
-    let suits = known_suits f r k (length c.args.pattern.now + 2) found.named found.total found.names c.requires in
+    let suits = known_suits f r k found.named found.total found.names in
     let walked = rw c.in-Ok-walk.is at c.walk.ensures in
     sym (law_fault f r k suits) ∙ sym (ap (λ (p : Progress). p.fault) walked.progress)
 
@@ -48,6 +48,6 @@ returns-in-Err-clause-fault c =
     let f = c.args.flags in let r = view c.args.raw in let groups = groups_of c.in-Ok.found.groups in
     let k : Known = record { text = chars c.args.pattern.now; named = c.in-Ok.named; groups = groups } in
     let found = rw c.in-Ok.is at c.find_groups.ensures in
-    let suits = known_suits f r k (length c.args.pattern.now + 2) found.named found.total found.names c.requires in
+    let suits = known_suits f r k found.named found.total found.names in
     let walked = rw c.in-Err.is at c.walk.ensures in
     subst (IsErrorIn c.in-Err.error) (law_fault f r k suits) walked.fault

@@ -10,12 +10,11 @@ use Rattle.fancy_syntax.specs.declared.expr.Absent.TheOpen.{AstNode-F}
 use Rattle.fancy_syntax.specs.declared.expr.AstNode.{AstNode, AstGroup, roll-AstNode, out-AstNode, roll-out-AstNode}
 use Rattle.fancy_syntax.specs.declared.expr.AstNode.TheVariants as variant
 use Rattle.fancy_syntax.specs.declared.expr.Expr.{Expr, the_lemmas}
-use Rattle.fancy_syntax.proofs.NoItems.{rebuilt_same}
+use Rattle.fancy_syntax.proofs.NoItems.{resolved_same}
 use Rattle.fancy_syntax.proofs.PartLemmas.{two_parts, three_lent, two_count, three_count, two_noted, three_noted}
-use Rattle.fancy_syntax.proofs.PartLemmas.{third_noted, three_error, third_error}
+use Rattle.fancy_syntax.proofs.PartLemmas.{third_noted, three_error, third_error, two_resolved, three_resolved}
 use Rattle.fancy_syntax.proofs.WalkLemmas.{noted_append, noted_le, error_kept, count_two, rest, rest_next, rest_none}
-use Rattle.fancy_syntax.proofs.WalkLemmas.{rebuilt_list}
-use Rattle.fancy_syntax.proofs.WalkLemmas.{front_rebuilt, rest_rebuilt, all_rebuilt}
+use Rattle.fancy_syntax.proofs.WalkLemmas.{resolved_list, front_resolved, rest_resolved, each_resolved}
 use Rattle.fancy_syntax.proofs.resolve.rewrite.+rewrite.Goals as goal
 use Rattle.fancy_syntax.proofs.resolve.rewrite.+rewrite.Goals.{rewrite_all-then-may_hold_items+in_ok-rewrite}
 use Rattle.fancy_syntax.proofs.resolve.rewrite.+rewrite.Goals.{rewrite_all-else-may_hold_items}
@@ -72,7 +71,7 @@ pub rewrite_all-loop-i-preserved : goal.rewrite_all-loop-i-preserved
 rewrite_all-loop-i-preserved t c =
     let es = c.args.trees.now.items in let i = c.loop-i.i in let now = c.loop-i.trees.items in
     let k = known_of c.args.known.now in
-    let all = rebuilt_list k (progress_of c.args.progress.now) (views es) in
+    let all = resolved_list k c.args.progress.now.passed (views es) in
     let s = progress_of c.loop-i.progress in
     let lengths = c.loop-i.invariant.0.0 in
     let below : i < length es = omega arith in
@@ -99,9 +98,9 @@ rewrite_all-loop-i-preserved t c =
                   passed,
                   c.loop-i.invariant.2,
                 ),
-            front_rebuilt k s es now all i e w.rewrite.new.tree lengths below tree now_is.0 c.loop-i.invariant.3
+            front_resolved k s.passed es now all i e w.rewrite.new.tree lengths below tree now_is.0 c.loop-i.invariant.3
                 c.loop-i.invariant.4,
-            rest_rebuilt k s (progress_of w.rewrite.new.progress) es all i e below tree now_is.1
+            rest_resolved k s (progress_of w.rewrite.new.progress) es all i e below tree now_is.1
                 c.loop-i.invariant.4,
           )
       | rewrite_all-else-may_hold_items w ↦
@@ -116,9 +115,10 @@ rewrite_all-loop-i-preserved t c =
             ap (progress_after k s) (sym step) ∙ c.loop-i.invariant.1,
             omega (arith, ap (λ l. length (openings_in l)) step, c.loop-i.invariant.2),
             ap (λ l. views (take (i + 1) l)) (sym put)
-                ∙ front_rebuilt k s es now all i e e lengths below tree (sym (rebuilt_same k s (view e) none))
+                ∙ front_resolved k s.passed es now all i e e lengths below tree
+                (sym (resolved_same k (view e) none s.passed))
                 c.loop-i.invariant.3 c.loop-i.invariant.4,
-            rest_rebuilt k s s es all i e below tree (ap (progress_after k s) (sym none)) c.loop-i.invariant.4,
+            rest_resolved k s s es all i e below tree (ap (progress_after k s) (sym none)) c.loop-i.invariant.4,
           )
     ]
 
@@ -127,9 +127,30 @@ rewrite_all-returns t c =
     let k = known_of c.args.known.now in let s = progress_of c.args.progress.now in
     let p = progress_of c.loop-i.progress in
     let es = c.args.trees.now.items in let i = c.loop-i.i in (
-      all_rebuilt k s es c.loop-i.trees.items i c.loop-i.invariant.0.0 (omega arith) c.loop-i.invariant.3,
+      each_resolved k s.passed es c.loop-i.trees.items i c.loop-i.invariant.0.0 (omega arith) c.loop-i.invariant.3,
       ap (progress_after k p) (sym (rest_none es i (omega arith))) ∙ c.loop-i.invariant.1,
     )
+
+-- a part behind others is resolved behind the groups of these
+
+pub rewrite-returns-in_ok-rewrite_child-in-Conditional-2 :
+    goal.rewrite-returns-in_ok-rewrite_child-in-Conditional-2
+rewrite-returns-in_ok-rewrite_child-in-Conditional-2 t c =
+    let is = c.in-Conditional in let one = c.rewrite_child-in-Conditional in
+    let two = c.rewrite_child-in-Conditional-2 in let three = c.rewrite_child-in-Conditional-3 in
+    let first = c.in_ok-rewrite_child-in-Conditional.ensures in
+    let second = c.in_ok-rewrite_child-in-Conditional-2.ensures in
+    three_resolved (known_of c.args.known.now) (progress_of c.args.progress.now) (progress_of one.new.progress)
+    (progress_of two.new.progress) three.result three.new.progress one.new.child two.new.child three.new.child
+    is.is is.condition-is is.true_branch-is is.false_branch-is first.1 second.1 first.0 second.0 three.ensures
+
+pub rewrite_absent-returns-in_ok-rewrite_child-in-Expression :
+    goal.rewrite_absent-returns-in_ok-rewrite_child-in-Expression
+rewrite_absent-returns-in_ok-rewrite_child-in-Expression t c =
+    let one = c.rewrite_child-in-Expression in let two = c.rewrite_child-in-Expression-2 in
+    let first = c.in_ok-rewrite_child-in-Expression.ensures in
+    two_resolved (known_of c.args.known.now) (progress_of c.args.progress.now) (progress_of one.new.progress) two.result
+    two.new.progress one.new.child two.new.child c.in-Expression.is first.1 first.0 two.ensures
 
 -- the walk stops at the first fault, which is that of the walk over all the parts
 

@@ -3,7 +3,7 @@ use Rattle.fancy_grammar.specs.Items.{openings_in}
 use Rattle.fancy_syntax.specs.Notes.{known_of, progress_of}
 use Rattle.fancy_syntax.specs.View.{views}
 use Rattle.fancy_grammar.specs.Walk.{progress_after}
-use Rattle.fancy_syntax.proofs.WalkLemmas.{rest, rebuilt_list}
+use Rattle.fancy_syntax.proofs.WalkLemmas.{rest, resolved_list}
 use Rattle.fancy_syntax.proofs.resolve.rewrite.+rewrite.Given as goal
 
 abbrev pub invariant-rewrite_all-loop-i : goal.invariant-rewrite_all-loop-i
@@ -15,6 +15,6 @@ invariant-rewrite_all-loop-i l =
     × (l.progress.passed + length (openings_in (rest before l.i)) ≤ l.fn.progress.passed + length
     (openings_in (rest before 0)))
     × (views (take l.i l.trees.items)
-    ≡ take l.i (rebuilt_list (known_of l.known) (progress_of l.fn.progress) (views before)))
-    × (rebuilt_list (known_of l.known) (progress_of l.progress) (views (drop l.i before))
-    ≡ drop l.i (rebuilt_list (known_of l.known) (progress_of l.fn.progress) (views before)))
+    ≡ take l.i (resolved_list (known_of l.known) l.fn.progress.passed (views before)))
+    × (resolved_list (known_of l.known) l.progress.passed (views (drop l.i before))
+    ≡ drop l.i (resolved_list (known_of l.known) l.fn.progress.passed (views before)))
