@@ -1,29 +1,29 @@
-//! What a look-around looks at, and what a verb does.
+//! The kinds of look-around, and the verbs.
 
-/// Which way a look-around looks, and whether it wants its pattern to match there.
+/// The kind of a look-around.
 #[derive(Clone, Copy, PartialEq, Eq, Debug, Drop)]
 pub enum LookAround {
-    /// `(?=a)`: it matches from here on.
+    /// `(?=a)`: what follows matches.
     LookAhead,
-    /// `(?!a)`: it does not match from here on.
+    /// `(?!a)`: what follows does not match.
     LookAheadNeg,
-    /// `(?<=a)`: it matches up to here.
+    /// `(?<=a)`: what precedes matches.
     LookBehind,
-    /// `(?<!a)`: it does not match up to here.
+    /// `(?<!a)`: what precedes does not match.
     LookBehindNeg,
 }
 
-/// A verb, which steers the search and takes no text.
+/// A backtracking control verb: it matches the empty text and steers the search.
 #[derive(Clone, Copy, PartialEq, Eq, Debug, Drop)]
 pub enum BacktrackingControlVerb {
-    /// `(*FAIL)` or `(*F)`: nothing matches here.
+    /// `(*FAIL)`, `(*F)`: fails, so that the search backtracks.
     Fail,
-    /// `(*ACCEPT)`: what was matched so far is the match.
+    /// `(*ACCEPT)`: ends the match successfully.
     Accept,
-    /// `(*COMMIT)`: once passed, no other way and no later start is tried.
+    /// `(*COMMIT)`: backtracking onto it fails the whole match, at later start positions too.
     Commit,
-    /// `(*SKIP)`: once passed, the next start that is tried is here.
+    /// `(*SKIP)`: backtracking onto it fails at this start position; the next one tried is the position here.
     Skip,
-    /// `(*PRUNE)`: once passed, no other way is tried from this start.
+    /// `(*PRUNE)`: backtracking onto it fails at this start position.
     Prune,
 }

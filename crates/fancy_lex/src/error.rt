@@ -1,4 +1,4 @@
-//! Why a pattern is refused.
+//! Errors: why a pattern cannot be parsed.
 ghost use Rattle.std.specs.Prelude.{◌≡◌, ◌++◌, chars, false, IfOk, IsOk, Some};
 ghost use Rattle.fancy_lex.specs.Fault.{kind_text, carries_text};
 ghost use Rattle.fancy_lex.specs.ErrorViews.{kind_of, error_text, error_in, SameError, error_carries_text};
@@ -7,20 +7,20 @@ use crate::text::place_at;
 use std::alloc::{AllocError, AllocFailed, Global};
 use std::fmt;
 
-/// A place in the pattern, in bytes from its start: at most one past the end. It is one past the end only where the
-/// pattern ends with a backslash in a comment that is not closed, as `(?#a\`.
+/// A byte offset from the start of the pattern, at most one past its end. It is one past the end only if the pattern
+/// ends with a backslash in an unclosed comment, as `(?#a\`.
 pub type ParseErrorPosition = usize;
 
-/// What a call that reads a pattern answers.
+/// The result of a function that parses a pattern.
 pub type Result<T> = std::result::Result<T, Error>;
 
-/// Why a pattern has no tree: its fault, or that memory was refused. It is printed as `out of memory`, or as
-/// `Parsing error at position 0: Invalid escape: \y`.
+/// Why a pattern was not parsed. It is displayed as `Parsing error at position 0: Invalid escape: \y`, or as
+/// `out of memory`.
 #[derive(Debug, Drop)]
 pub enum Error {
-    /// The pattern's fault: its place, and what is wrong there.
+    /// The pattern is invalid: the position and the kind of the error.
     ParseError(ParseErrorPosition, ParseError),
-    /// Memory was refused. It says nothing of the pattern.
+    /// Out of memory. It says nothing about the pattern.
     OutOfMemory,
 }
 
@@ -46,50 +46,49 @@ impl Failure {
     }
 }
 
-/// What is wrong with a pattern. Each kind stands here with when it is answered, an example, and the place in bytes
-/// that is answered with it. Examples are read under `FLAG_UNICODE`, where no other flag is named.
+/// The kind of an error. Each is documented with when it is returned, and with the smallest patterns that have it and
+/// the positions (byte offsets) reported for them, under `FLAG_UNICODE` unless another flag is named.
 #[derive(Debug, Drop)]
 pub enum ParseError {
-    /// One of three, told by the text: a closing parenthesis that closes nothing, as `a)` at 1; a bar after the second
-    /// branch of an absent expression, as `(?~|a|b|c)` at 7; a conditional that has a condition and no body, as
-    /// `(?(a))` at 5.
+    /// One of three, distinguished by the text: an unmatched closing parenthesis, `a)` at 1; a third branch of an
+    /// absent expression, `(?~|a|b|c)` at 7, its bar; a conditional without a body, `(?(a))` at 5.
     GeneralParseError(String),
-    /// The pattern ends in a group, as `a(` at 2, or in a comment, as `(?#a` at 4.
+    /// The pattern ends inside a group, `a(` at 2, or inside a comment, `(?#a` at 4.
     UnclosedOpenParen,
-    /// Never answered: braces that hold no counts are plain characters, as in `a{x}`.
+    /// Never returned: braces that are no quantifier are literals, as in `a{x}`.
     InvalidRepeat,
-    /// A group inside 63 others, at its parenthesis; with `FLAG_ONIGURUMA_MODE` also where too many quantifiers follow
-    /// one another, or stand too deep, as `a******` at 7, where the last of them ends.
+    /// A group inside 63 others, at its parenthesis. Under `FLAG_ONIGURUMA_MODE` also too many consecutive quantifiers,
+    /// or ones nested too deeply: `a******` at 7, the end of the last one.
     RecursionExceeded,
-    /// The pattern ends with a backslash, as `a\` at 1.
+    /// The pattern ends with a backslash: `a\` at 1.
     TrailingBackslash,
-    /// No escape is written so, as `\y` at 0, or no word boundary, as `\b{x}` at 0: at the backslash. It holds what is
-    /// written, and `\b{...}` where the boundary's braces are not closed.
+    /// An unknown escape, `\y` at 0, or word boundary, `\b{x}` at 0: at the backslash. It holds the escape as written,
+    /// or `\b{...}` if the braces of the boundary are not closed.
     InvalidEscape(String),
-    /// The name of a property has no closing brace, as `\p{Greek` at 0, the backslash.
+    /// The braces of a Unicode property are not closed: `\p{Greek` at 0, the backslash.
     UnclosedUnicodeName,
-    /// A code in hexadecimal has other digits than it needs, or no closing brace, as `\x{42` at 2.
+    /// A hexadecimal escape with wrong digits or without its closing brace: `\x{42` at 2.
     InvalidHex,
-    /// A code in hexadecimal is that of no character, as `\x{D800}` at 2.
+    /// A hexadecimal escape that is no Unicode scalar value: `\x{D800}` at 2.
     InvalidCodepointValue,
-    /// The pattern ends in a class, as `[a` at 2; or a digit follows a backslash in one, as `[\1]` at 1.
+    /// The pattern ends inside a class, `[a` at 2; or a class has an escape in digits, `[\1]` at 1.
     InvalidClass,
-    /// No letter of a flag, a second minus, or no letter where one has to stand, as `(?z)` at 2, which is right after
-    /// the `?`. It holds `(?` and all through the character that is wrong.
+    /// An unknown flag letter, a second minus, or a flag group without letters: `(?z)` at 2, right after the `?`. It
+    /// holds the group as written, from `(?` through the offending character.
     UnknownFlag(String),
-    /// A flag group turns Unicode on or off, as `(?-u)a` at 3, its `u`.
+    /// A flag group changes the Unicode setting: `(?-u)a` at 3, its `u`.
     ChangingUnicodeModeUnsupported,
-    /// A back reference or a condition names no group, as `\k<b>` at 2, or counts back to before the whole pattern, as
-    /// `\k<-2>` at 2; or the number of a back reference or a call is above `usize::MAX`, at its first digit.
+    /// A back reference or condition by a name that no group has, `\k<b>` at 2, or by a relative number below 0,
+    /// `\k<-2>` at 2; or the number of a back reference or subroutine call is above `usize::MAX`, at its first digit.
     InvalidBackref,
-    /// A quantifier stands on nothing, as `+` at 0, or on what cannot be repeated, as `(?=a)+` at 5: a look-around,
-    /// `\K`, `\G`, a verb, and with `FLAG_ONIGURUMA_MODE` an assertion. The place is that of its mark or its closing
-    /// brace. Or no verb has this name, as `(*X)` at 1, the asterisk.
+    /// A quantifier without an operand, `+` at 0, or with one that cannot be repeated, `(?=a)+` at 5: a look-around,
+    /// `\K`, `\G`, a verb, and under `FLAG_ONIGURUMA_MODE` an assertion. The position is that of its character or its
+    /// closing brace. Also an unknown verb: `(*X)` at 1, the asterisk.
     TargetNotRepeatable,
-    /// The name of a group or in a reference is empty, is not closed, or is not one that may stand there: `(?<>a)` at
-    /// 1, the `?`, and `\k<n` at 2, where the reference has its place.
+    /// The name of a group or of a reference is empty, not closed or malformed: `(?<>a)` at 1, the `?`; `\k<n` at 2,
+    /// the position of the reference.
     InvalidGroupName,
-    /// A back reference by a name whose last group opens after it, as `\k<n>(?<n>a)` at 2. It holds the name.
+    /// A back reference by a name whose last group opens after it: `\k<n>(?<n>a)` at 2. It holds the name.
     InvalidGroupNameBackref(String),
 }
 
@@ -155,7 +154,7 @@ impl fmt::Display for Error {
 impl std::error::Error for Error {}
 
 impl ParseError {
-    /// An equal kind, in memory of its own. `AllocError` where that is refused; one that carries no text takes none.
+    /// Returns an equal kind, or `AllocError` if out of memory, which cannot happen for one without a text.
     pub fn clone(&self, alloc: Global) -> std::result::Result<ParseError, AllocError>
         ensures equal { IfOk result (λ e. kind_of e ≡ kind_of self.now) }
         ensures without_memory { carries_text (kind_of self.now) ≡ false → IsOk result }
@@ -192,7 +191,7 @@ impl ParseError {
 }
 
 impl Error {
-    /// An equal error, in memory of its own. `AllocError` where that is refused; one that carries no text takes none.
+    /// Returns an equal error, or `AllocError` if out of memory, which cannot happen for one without a text.
     pub fn clone(&self, alloc: Global) -> std::result::Result<Error, AllocError>
         ensures equal { IfOk result (λ e. SameError e self.now) }
         ensures without_memory { error_carries_text self.now ≡ false → IsOk result }

@@ -23,30 +23,30 @@ pub mod boundary;
 pub mod hex;
 pub mod reference;
 
-/// A condition on the place in the text, which takes no character. A `crlf` says whether CR LF counts as one line
-/// break, by `FLAG_CRLF`.
+/// A zero-width assertion about the position in the text. `crlf` says whether CR LF is one line terminator, as under
+/// `FLAG_CRLF`.
 #[derive(Clone, Copy, PartialEq, Eq, Debug, Drop)]
 pub enum Assertion {
     /// The start of the text: `\A`, and `^` without `FLAG_MULTI`.
     StartText,
     /// The end of the text: `\z`, and `$` without `FLAG_MULTI`.
     EndText,
-    /// The end of the text, or where nothing but line breaks is left of it: `\Z`.
+    /// The end of the text, or before line terminators that end it: `\Z`.
     EndTextIgnoreTrailingNewlines { crlf: bool },
     /// The start of a line: `^` with `FLAG_MULTI`, as in `(?m)^`.
     StartLine { crlf: bool },
-    /// The start of a line, but for an empty one at the end of the text: `^` with `FLAG_MULTI` and
+    /// The start of a line, except at the end of the text: `^` with `FLAG_MULTI` and
     /// `FLAG_ONIGURUMA_MODE`.
     StartLineOniguruma { crlf: bool },
     /// The end of a line: `$` with `FLAG_MULTI`, as in `(?m)$`.
     EndLine { crlf: bool },
     /// The start of a word: `\b{start}`, and `\<` without `FLAG_ONIGURUMA_MODE`.
     LeftWordBoundary,
-    /// No character of a word stands before the place: `\b{start-half}`.
+    /// No word character before the position: `\b{start-half}`.
     LeftWordHalfBoundary,
     /// The end of a word: `\b{end}`, and `\>` without `FLAG_ONIGURUMA_MODE`.
     RightWordBoundary,
-    /// No character of a word stands after the place: `\b{end-half}`.
+    /// No word character after the position: `\b{end-half}`.
     RightWordHalfBoundary,
     /// The start or the end of a word: `\b`.
     WordBoundary,

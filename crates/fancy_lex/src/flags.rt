@@ -1,29 +1,28 @@
-//! The flags under which a pattern is read. A word of flags is the `|` of some of the nine: no flag is 0, and bits that
-//! are none of these say nothing.
+//! The flags under which a pattern is parsed, as bits of a `u32`: combine them with `|`. 0 is no flag, and other bits
+//! are ignored. The letters are those of flag groups, as `(?i)`.
 ghost use Rattle.std.specs.Prelude.{◌≡◌};
 ghost use Rattle.fancy_lex.specs.Bits.{has_bit};
 
-/// Plain characters, classes and back references ignore case: `a` is a `Literal` with `casei`. In a pattern `(?i)`.
+/// Case-insensitive (`i`): literals, classes and back references have `casei`.
 pub const FLAG_CASEI: u32 = 1;
-/// `^` and `$` stand for the ends of lines too: `^` is `StartLine`, and not `StartText`. In a pattern `(?m)`.
+/// Multi-line (`m`): `^` and `$` match at the start and the end of each line, as `StartLine` and `EndLine`.
 pub const FLAG_MULTI: u32 = 2;
-/// `.` stands for a new line too: it is an `Any` with `newline`. In a pattern `(?s)`.
+/// `.` matches a line feed too (`s`): it is an `Any` with `newline`.
 pub const FLAG_DOTNL: u32 = 4;
-/// A quantifier is lazy without `?`, and greedy with it: `a*` is a `Repeat` that is not `greedy`. In a pattern `(?U)`.
+/// Quantifiers are lazy without `?`, and greedy with it (`U`).
 pub const FLAG_SWAP_GREED: u32 = 8;
-/// Blanks, and `#` through the end of the line, are layout, and passed over: `a b # c` is read as `ab`. In a
-/// pattern `(?x)`.
+/// Verbose (`x`): whitespace, and `#` through the end of the line, is ignored, so `a b # c` is parsed as `ab`.
 pub const FLAG_IGNORE_SPACE: u32 = 16;
-/// Classes and escapes are read as Unicode's: `\x80` is the character U+0080, and without the flag a byte. No pattern
-/// turns it on or off. `parse_tree` reads under this flag alone.
+/// Unicode: `\x80` is the character U+0080, and a byte without the flag; properties are rewritten as Unicode's. A
+/// pattern cannot change it. `parse_tree` parses under this flag alone.
 pub const FLAG_UNICODE: u32 = 32;
-/// CR LF ends a line as one: `.` and `\Z`, and with `FLAG_MULTI` `^` and `$`, have `crlf`. In a pattern `(?R)`.
+/// CR LF is one line terminator (`R`): `.`, `\Z`, and under `FLAG_MULTI` `^` and `$`, have `crlf`.
 pub const FLAG_CRLF: u32 = 64;
-/// The pattern is one of Oniguruma's: quantifiers may follow one another, as in `a{3}{2}`, `x{3,0}` counts from 0 to 3,
-/// and `\<` and `\>` are plain characters.
+/// The pattern is in Oniguruma's syntax: quantifiers can follow one another, as in `a{3}{2}`, `x{3,0}` repeats 0 to 3
+/// times, and `\<` and `\>` are literals.
 pub const FLAG_ONIGURUMA_MODE: u32 = 128;
-/// Where a group has a name, the groups without one have no number: in `(a)(?<n>b)` the number 1 is that of `n`, and
-/// no `Group` stands for `(a)`.
+/// If some group has a name, groups without a name have no number: in `(a)(?<n>b)` the group `n` has number 1, and the
+/// tree has no `Group` for `(a)`.
 pub const FLAG_IGNORE_NUMBERED_GROUPS_WHEN_NAMED_GROUPS_EXIST: u32 = 256;
 
 // Callers hand the flags in under these very numbers, by which `flags_of` tells them too.
@@ -61,7 +60,7 @@ pub struct Flags {
 impl Flags {
     ghost use Rattle.fancy_lex.specs.Flags.{flags_of};
 
-    /// The flags whose bits are set in `bits`; other bits say nothing.
+    /// The flags whose bits are set in `bits`; other bits are ignored.
     pub fn from_bits(bits: u32) -> Flags
         ensures { result ≡ flags_of bits }
     {

@@ -13,20 +13,21 @@ pub mod target;
 use crate::text::is_same_text;
 use std::alloc::{AllocError, Global};
 
-/// The group that a reference names, before its number is known.
+/// The group that a reference names, before it is resolved.
 #[derive(Debug, Drop)]
 pub enum CaptureGroupTarget {
-    /// The group of this number, as in `\1`; 0 is the whole pattern.
+    /// By number: `\1`. 0 is the whole pattern.
     ByNumber(usize),
-    /// The group of this name, as in `\k<n>`: of several the last one, but for a call, which means none of several.
+    /// By name: `\k<n>`. If several groups have the name, it is the last of them; a subroutine call is then not
+    /// resolved.
     ByName(String),
-    /// A group counted from the reference: -1 is the last that opens before it, as in `\k<-1>`, and 1 the first that
-    /// opens after it. It is never 0 in a pattern.
+    /// Relative to the reference: -1 is the last group that opens before it, `\k<-1>`, and 1 the first that opens after
+    /// it. A pattern cannot have 0 here.
     Relative(isize),
 }
 
 impl CaptureGroupTarget {
-    /// An equal target, in memory of its own. `AllocError` where that is refused; one that is no name takes none.
+    /// Returns an equal target, or `AllocError` if out of memory, which can only happen for a name.
     pub fn clone(&self, alloc: Global) -> Result<Self, AllocError>
         ensures equal { IfOk result (λ target. view_target target ≡ view_target self.now) }
         ensures without_memory { is_by_name (view_target self.now) ≡ false → IsOk result }

@@ -1,4 +1,4 @@
-//! The trees of patterns, and what can be asked of them.
+//! The types of trees, and the functions on them.
 mod child_mut;
 mod children;
 mod clone;
@@ -11,170 +11,172 @@ pub use fancy_grammar::kinds::{BacktrackingControlVerb, LookAround};
 pub use fancy_lex::escape::Assertion;
 pub use fancy_lex::name::CaptureGroupTarget;
 
-/// A node as it is read, before the groups have numbers. It counts as a leaf, an `AstGroup` too. In the tree that is
-/// answered for a pattern only a `SubroutineCall` is left, where it names no group, or more than one.
+/// A node as it is parsed, before references are resolved. It counts as a leaf, and so does an `AstGroup`. The only one
+/// in a returned tree is a `SubroutineCall` that cannot be resolved.
 #[cycle(expr)]
 #[derive(Debug, Drop)]
 pub enum AstNode {
-    /// A capturing group, as `(a)` and `(?<n>a)`.
+    /// A capturing group: `(a)`, `(?<n>a)`.
     AstGroup {
         /// The group's name, if it has one.
         name: Option<String>,
-        /// What stands in the group.
+        /// The contents of the group.
         inner: Box<Expr>,
     },
-    /// A reference back to what a group matched, as `\1` and `\k<n>`.
+    /// A back reference: `\1`, `\k<n>`.
     Backref {
-        /// The group that is meant.
+        /// The group that it refers to.
         target: CaptureGroupTarget,
-        /// Whether upper and lower case are one.
+        /// Whether it is case-insensitive.
         casei: bool,
-        /// The level of recursion that is meant, relative to the one here.
+        /// The recursion level, relative to the current one.
         relative_recursion_level: Option<isize>,
     },
-    /// A call of a group, as `\g<n>`.
+    /// A subroutine call: `\g<n>`.
     SubroutineCall(CaptureGroupTarget),
-    /// A condition that holds where a group has matched, as that of `(?(<n>)a|b)`.
+    /// A condition that is true if a group has matched, as in `(?(<n>)a|b)`.
     BackrefExistsCondition {
-        /// The group that is meant.
+        /// The group that it refers to.
         target: CaptureGroupTarget,
-        /// The level of recursion that is meant, relative to the one here.
+        /// The recursion level, relative to the current one.
         relative_recursion_level: Option<isize>,
     },
 }
 
-/// What must not stand in the text.
+/// Oniguruma's absent forms, each about what the text must not contain.
 #[cycle(expr)]
 #[derive(Debug, Drop)]
 pub enum Absent {
-    /// `(?~a)`: any text that holds no match of the child.
+    /// `(?~a)`: any text that does not contain a match of the child.
     Repeater(Box<Expr>),
-    /// `(?~|a|b)`: a match of the second in a text that holds none of the first.
+    /// `(?~|a|b)`: a match of the second in a text that does not contain a match of the first.
     Expression {
-        /// What must not stand in the text.
+        /// What the text must not contain.
         absent: Box<Expr>,
-        /// What the text has to match.
+        /// What the text must match.
         exp: Box<Expr>,
     },
-    /// `(?~|a)`: no match of the child from here on.
+    /// `(?~|a)`: from here on the text must not contain a match of the child.
     Stopper(Box<Expr>),
-    /// `(?~|)`: what a stopper forbade may stand again.
+    /// `(?~|)`: ends the effect of a stopper.
     Clear,
 }
 
-/// A pattern as a tree. Each node stands here with a pattern that is read as one.
+/// A pattern as a tree. Each variant is documented with a pattern that is parsed as one.
 ///
-/// A tree may be changed by hand, and then it need not be one that a pattern is read as: a `Literal` may hold several
-/// characters, and a `Concat` none. What goes over a tree calls itself once a level, so that a very deep one needs much
-/// stack; that of a pattern has at most 832 levels.
+/// Trees can be built and changed by hand, and then need not be the tree of any pattern: a `Literal` may hold several
+/// characters, and a `Concat` may be empty. Functions on trees are recursive, so a very deep tree needs much stack; the
+/// tree of a pattern has at most 832 levels.
 #[cycle(expr)]
 #[derive(Debug, Drop)]
 pub enum Expr {
-    /// The empty text, as the empty pattern and `(?:)`.
+    /// The empty pattern, also as `(?:)`: matches the empty text.
     Empty,
-    /// Any character, as `.`.
+    /// Any character: `.`, `\O`, `\N`.
     Any {
-        /// Whether it may be a line break, as under `FLAG_DOTNL`.
+        /// Whether it also matches a line feed, as under `FLAG_DOTNL`.
         newline: bool,
-        /// Whether a carriage return counts as a line break too, as under `FLAG_CRLF`.
+        /// Whether a carriage return is a line terminator too, as under `FLAG_CRLF`.
         crlf: bool,
     },
-    /// A condition on the place, which takes no text, as `^`.
+    /// A zero-width assertion: `^`, `\b`.
     Assertion(Assertion),
-    /// `\R`: a line break of any kind.
+    /// Any line break: `\R`.
     GeneralNewline {
-        /// Whether the line breaks of Unicode count too, as under `FLAG_UNICODE`.
+        /// Whether Unicode's line breaks count too, as under `FLAG_UNICODE`.
         unicode: bool,
     },
-    /// A text as it stands, as `a`. In an answered tree each holds one character.
+    /// A literal text: `a`. In a returned tree each holds one character.
     Literal {
-        /// The text, in which no character is an escape.
+        /// The text, with escapes already replaced by their characters.
         val: String,
-        /// Whether upper and lower case are one.
+        /// Whether it is case-insensitive.
         casei: bool,
     },
-    /// Bytes as they stand, which need not be a text, as `\xFF` without `FLAG_UNICODE`.
+    /// Literal bytes, which need not be UTF-8: `\xFF` without `FLAG_UNICODE`.
     LiteralBytes {
-        /// The bytes; in an answered tree one, from 0x80 on.
+        /// The bytes; in a returned tree a single one, from 0x80 to 0xFF.
         bytes: Vec<u8>,
     },
-    /// Its children one after the other, as `ab`.
+    /// A concatenation: `ab`.
     Concat(Vec<Expr>),
-    /// One of its children, the first that matches, as `a|b`.
+    /// An alternation: `a|b`.
     Alt(Vec<Expr>),
-    /// A capturing group, as `(a)`. Groups are numbered from 1 by where they begin; the names are in `ExprTree`.
+    /// A capturing group: `(a)`, `(?<n>a)`. Groups are numbered from 1 in the order of their opening parentheses;
+    /// names are in `ExprTree::named_groups`.
     Group(Box<Expr>),
-    /// A condition on the text before or after the place, which takes no text, as `(?=a)`.
+    /// A look-around: `(?=a)`, `(?<!a)`.
     LookAround(Box<Expr>, LookAround),
-    /// Its child several times over, as `a*` and `a{2,3}?`.
+    /// A repetition: `a*`, `a{2,3}?`.
     Repeat {
         /// What is repeated.
         child: Box<Expr>,
-        /// How often at least.
+        /// The minimum number of repetitions.
         lo: usize,
-        /// How often at most; `usize::MAX` for no bound.
+        /// The maximum number of repetitions; `usize::MAX` for no limit.
         hi: usize,
-        /// Whether as often as possible is tried first.
+        /// Whether it is greedy.
         greedy: bool,
     },
-    /// A class or a class escape, kept as its text, as `[a-z]`, `\d` and `\p{Greek}`. Whoever matches reads that text.
+    /// A character class as pattern text, for the matching engine to parse: `[a-z]`, `\d`, `\p{Greek}`.
     Delegate {
-        /// The text, which is not always as it was written: a class is written anew from what was read.
+        /// The text. It can differ from what the pattern has: a class is rewritten while it is parsed.
         inner: String,
-        /// Whether upper and lower case are one.
+        /// Whether it is case-insensitive.
         casei: bool,
     },
-    /// A reference back to what a group matched, as `\1`.
+    /// A back reference: `\1`, `\k<n>`.
     Backref {
-        /// The group's number, which need not be that of a group, and may be 0.
+        /// The number, which may be 0, and need not be the number of a group.
         group: usize,
-        /// Whether upper and lower case are one.
+        /// Whether it is case-insensitive.
         casei: bool,
     },
-    /// A reference back to what a group matched at a level of recursion, as `\k<1+3>`.
+    /// A back reference with a recursion level: `\k<1+3>`.
     BackrefWithRelativeRecursionLevel {
-        /// The group's number.
+        /// The number, as in `Backref`.
         group: usize,
-        /// The level that is meant, relative to the one here.
+        /// The recursion level, relative to the current one.
         relative_level: isize,
-        /// Whether upper and lower case are one.
+        /// Whether it is case-insensitive.
         casei: bool,
     },
-    /// What is not entered again once it has matched, as `(?>a)` and `a++`.
+    /// An atomic group, also of a possessive quantifier: `(?>a)`, `a++`.
     AtomicGroup(Box<Expr>),
-    /// `\K`: what was matched so far is not part of the match.
+    /// `\K`: the match begins here.
     KeepOut,
-    /// `\G`: the place where the match before ended.
+    /// `\G`: the position where the previous match ended.
     ContinueFromPreviousMatchEnd,
-    /// A condition that holds where a group has matched, as that of `(?(1)a|b)`.
+    /// A condition that is true if a group has matched, as in `(?(1)a|b)`.
     BackrefExistsCondition {
-        /// The group's number, which need not be that of a group.
+        /// The number, which need not be the number of a group.
         group: usize,
-        /// The level of recursion that is meant, relative to the one here.
+        /// The recursion level, relative to the current one.
         relative_recursion_level: Option<isize>,
     },
-    /// One of two branches, as the condition says: `(?(1)a|b)`.
+    /// A conditional: `(?(1)a|b)`.
     Conditional {
-        /// What decides.
+        /// The condition.
         condition: Box<Expr>,
-        /// The branch where the condition holds.
+        /// What must match if the condition is true.
         true_branch: Box<Expr>,
-        /// The branch where it does not, `Empty` where none is written.
+        /// What must match if it is false; `Empty` if the pattern has no second branch.
         false_branch: Box<Expr>,
     },
-    /// A call of the group of this number, as `\g<1>`; 0 is the whole pattern. It need not be the number of a group.
+    /// A subroutine call of the group of this number, which need not be the number of a group: `\g<1>`. 0 is the whole
+    /// pattern.
     SubroutineCall(usize),
-    /// A verb, which takes no text, as `(*FAIL)`.
+    /// A backtracking control verb: `(*FAIL)`.
     BacktrackingControlVerb(BacktrackingControlVerb),
-    /// What must not stand in the text, as `(?~a)`.
+    /// An absent form of Oniguruma's: `(?~a)`.
     Absent(Absent),
-    /// Groups that match nothing here and can be called, as `(?(DEFINE)(a))`.
+    /// Definitions, which match nothing here and can be called: `(?(DEFINE)(a))`.
     DefineGroup {
-        /// What stands in the group.
+        /// The contents of the group.
         definitions: Box<Expr>,
     },
-    /// A node as it is read, and its place in the pattern in bytes. In an answered tree it is a call that means no
-    /// group: by a name that no group has, as `\g<b>` with the place 2, or that several have; or by a relative number
-    /// below 0, as `\g<-2>`. There it stands as a leaf, and is no fault.
+    /// A node as it is parsed, with its position in the pattern (a byte offset). In a returned tree it is a subroutine
+    /// call that cannot be resolved, which is no error: by a name that no group has, as `\g<b>` at position 2, or that
+    /// several have; or by a relative number below 0, as `\g<-2>`.
     AstNode(AstNode, usize),
 }

@@ -1,16 +1,16 @@
-//! Patterns as trees: what a text reads as, and the text that a tree is printed as.
+//! The pattern syntax of fancy-regex: parses a pattern into a tree, and prints a tree as a pattern.
 //!
 //! ```rust
 //! use fancy_syntax::{Error, Expr, FLAG_CASEI, FLAG_UNICODE};
 //!
 //! match Expr::parse_tree_with_flags(alloc, pattern, FLAG_CASEI | FLAG_UNICODE) {
 //!     Ok(tree) => println!(rt; "{} groups", tree.total_groups)?,
-//!     Err(Error::ParseError(place, kind)) => println!(rt; "at byte {place}: {kind}")?,
-//!     Err(Error::OutOfMemory) => println!(rt; "no memory to read it")?,
+//!     Err(Error::ParseError(position, kind)) => println!(rt; "at byte {position}: {kind}")?,
+//!     Err(Error::OutOfMemory) => println!(rt; "out of memory")?,
 //! }
 //! ```
 //!
-//! Each name that callers use stands here, beside its module.
+//! Every public item can be imported from the root, and from its module.
 #![tactic(auto)]
 
 pub mod expr;

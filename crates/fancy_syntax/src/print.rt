@@ -1,4 +1,4 @@
-//! The text of a tree.
+//! Printing a tree as a pattern.
 ghost use Rattle.std.specs.Prelude.{◌≡◌, ℕ, ◌+◌, ◌<◌, ◌≤◌, Bool, List, [], ◌++◌, true, false, IfOk, IfSome, IsOk, OnOk, OnErr};
 ghost use Rattle.std.specs.Prelude.{None, is_some, string_bytes, string_len, string_capacity, chars, encode_utf8_all};
 ghost use Rattle.fancy_lex.specs.Text.{bytes};
@@ -24,21 +24,22 @@ use crate::print::printable::is_printable;
 use crate::print::write::put_tree;
 use std::alloc::{AllocError, Global};
 
-/// The precedence of a whole pattern, and of the inside of a group.
+/// The precedence of a whole pattern, and of the contents of a group.
 pub const WHOLE: u8 = 0;
-/// The precedence of a branch.
+/// The precedence of a branch of an alternation.
 pub const BRANCH: u8 = 1;
-/// The precedence of a piece in a row of them.
+/// The precedence of an element of a concatenation.
 pub const PIECE: u8 = 2;
-/// The precedence of what a quantifier stands behind.
+/// The precedence of the operand of a quantifier.
 pub const OPERAND: u8 = 3;
 
 impl Expr {
-    /// Whether the tree is printable: whether each node outside the inside of a DefineGroup has a text, that of each
-    /// Delegate is one whole class or class escape, and under each Repeat stands no tree that reads as nothing.
-    /// `AllocError` where memory was refused, which is asked for where a Delegate's text is read. The normal form of a
-    /// printable tree is printable too, and it is its own normal form, with Unicode or without, where the tree holds no
-    /// Delegate. The tree of `(?:a|b)c` is printable, and that of `(?=a)` is not.
+    /// Returns whether the tree is printable: the tree of `(?:a|b)c` is, and that of `(?=a)` is not. It is if each node
+    /// outside a `DefineGroup` has a text, the text of each `Delegate` is one whole class or class escape, and no
+    /// `Repeat` has an operand that is read as `Empty`. A printable tree is read back as its normal form, which is
+    /// printable too, and, if the tree has no `Delegate`, is its own normal form under either Unicode setting.
+    ///
+    /// Returns `AllocError` if out of memory, which can only happen if the tree has a `Delegate`.
     pub fn is_printable(&self, alloc: Global) -> Result<bool, AllocError>
         ensures exact { IfOk result (λ b. b ≡ printable (view self.now)) }
         ensures text { IfOk result (λ b. b ≡ true → has_text (view self.now) ≡ true) }
@@ -50,14 +51,16 @@ impl Expr {
         is_printable(alloc, self)
     }
 
-    /// Appends the tree's text to `buf`; the caller owes a tree that has one, as every printable tree has. Above
-    /// precedence 0, `WHOLE`, an `Alt`, above 1, `BRANCH`, a `Concat` and above 2, `PIECE`, a `Repeat` stands in a
-    /// group of its own, and so does a `Literal` of several characters with its case kept under a `Repeat`. The buffer
-    /// grows once, by the text's length in bytes, where it lacks room for that; where that is refused, the answer is
-    /// `AllocError` and `buf` holds what it held. What is appended for a printable tree reads as its normal form, with
-    /// no flag and with `FLAG_UNICODE` alone; where 64 printed groups nest or more, it is refused as
-    /// `RecursionExceeded`, at the byte of the first opening parenthesis that has 63 groups open round it. So trees
-    /// that are printed as one text have one normal form.
+    /// Appends the tree's text to `buf`. The tree must have a text, as every printable tree has. A group is printed
+    /// around an `Alt` above precedence `WHOLE`, around a `Concat` above `BRANCH`, and around a `Repeat` above `PIECE`;
+    /// also around the operand of a `Repeat` that is a case-sensitive `Literal` of several characters.
+    ///
+    /// The text of a printable tree is read back as the tree's normal form, under no flag and under `FLAG_UNICODE`
+    /// alone. If 64 or more printed groups nest, it is refused instead: as `RecursionExceeded`, at the first opening
+    /// parenthesis inside 63 groups. So printable trees with the same text have the same normal form.
+    ///
+    /// `buf` grows at most once, by the text's length in bytes. Returns `AllocError` if out of memory; `buf` is then
+    /// unchanged.
     ///
     /// ```rust
     /// if tree.is_printable(alloc)? {
@@ -85,15 +88,15 @@ impl Expr {
         Ok(())
     }
 
-    /// The text that `to_str` appends for the tree at the precedence, or none where the tree is not printable, as
-    /// `is_printable` says. `AllocError` where memory was refused, and no other error. With `WHOLE` the text is a
-    /// pattern of its own; the higher ones are for a text that goes into another.
+    /// Returns the text that `to_str` appends at this precedence, or `None` if the tree is not printable, as
+    /// `is_printable` says. With `WHOLE` the text is a whole pattern; higher precedences are for text that goes into
+    /// another pattern. Returns `AllocError` if out of memory.
     ///
     /// ```rust
     /// let tree = Expr::parse_tree(alloc, "(?:a|b)c")?;
     /// match tree.expr.print(alloc, WHOLE)? {
     ///     Some(text) => println!(rt; "{text}")?,
-    ///     None => println!(rt; "it has no text that is read back")?,
+    ///     None => println!(rt; "not printable")?,
     /// }
     /// ```
     pub fn print(&self, alloc: Global, precedence: u8) -> Result<Option<String>, AllocError>

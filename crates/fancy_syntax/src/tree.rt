@@ -1,4 +1,4 @@
-//! Patterns read whole.
+//! Parsing a pattern.
 ghost use Rattle.std.specs.Prelude.{◌≡◌, chars, length, IfOk, IfErr};
 ghost use Rattle.fancy_lex.specs.ErrorViews.{error_in};
 ghost use Rattle.fancy_lex.specs.Flags.{flags_of, unicode_alone};
@@ -17,33 +17,33 @@ use fancy_lex::flags::{FLAG_UNICODE, Flags};
 use std::alloc::{AllocError, Global};
 use std::collections::{BTreeMap, BTreeSet};
 
-/// A pattern's tree, and what is said of the pattern beside it. Of `(?<a>x)(?<b>y)(?<a>z)` the names are `a` with the
-/// numbers 1 and 3, and `b` with 2, and the total is 3.
+/// The tree of a pattern with its group information. For `(?<a>x)(?<b>y)(?<a>z)`, `named_groups` maps `a` to 1 and 3
+/// and `b` to 2, and `total_groups` is 3.
 #[derive(Debug, Drop)]
 pub struct ExprTree {
-    /// The tree, in which each capturing group is a `Group`: the k-th in text order has the number k.
+    /// The tree. Its k-th `Group` in preorder is the group with the number k.
     pub expr: Expr,
-    /// The numbers that back references have, as 1 of `(a)\1`, up to `total_groups`; 0 too, as of `\k<-1>`. Conditions
-    /// and calls are not among them.
+    /// The group numbers of back references, as 1 in `(a)\1`, up to `total_groups`; 0 too, as in `\k<-1>`. Conditions
+    /// and subroutine calls do not count.
     pub backrefs: BTreeSet<usize>,
-    /// For each name the numbers of its groups, ascending.
+    /// The group numbers of each name, ascending.
     pub named_groups: BTreeMap<String, Vec<usize>>,
-    /// Some back reference was written as a backslash and digits, as `\1`, or some call by a number, as `\g<1>`.
+    /// Whether the pattern has a back reference in digits, as `\1`, or a subroutine call by number, as `\g<1>`.
     pub numeric_capture_group_references: bool,
-    /// Some call stands in the pattern, as `\g<n>`, also one that means no group.
+    /// Whether the pattern has a subroutine call, as `\g<n>`, even one that cannot be resolved.
     pub contains_subroutines: bool,
-    /// Some call is by the number 0, as `\g<0>`: of the whole pattern.
+    /// Whether the pattern calls itself by number, `\g<0>`.
     pub self_recursive: bool,
-    /// How many groups have a number.
+    /// The number of groups that have a number.
     pub total_groups: usize,
-    /// The number of the first back reference that is above `total_groups`, as 12 of `\12`: that is no fault.
+    /// The number of the first back reference above `total_groups`, as 12 in `\12`, which is no error.
     pub out_of_range_backref: Option<usize>,
-    /// The groups without a name have no number: the flag says so, and some group has a name.
+    /// Whether groups without a name have no number: if the flag is set and some group has a name.
     pub numbered_groups_ignored: bool,
 }
 
 impl ExprTree {
-    /// An equal tree with equal marks, in memory of its own. `AllocError` where that is refused.
+    /// Returns an equal tree with equal group information, or `AllocError` if out of memory.
     pub fn clone(&self, alloc: Global) -> std::result::Result<Self, AllocError>
         ensures tree { IfOk result (λ t. view t.expr ≡ view self.now.expr) }
         ensures marks { IfOk result (λ t. marks_of t ≡ marks_of self.now) }
@@ -63,10 +63,12 @@ impl ExprTree {
 }
 
 impl Expr {
-    /// Reads the pattern under the flags whose bits are set; other bits say nothing. The answer is its tree, or
-    /// `ParseError` with its only fault and the place of that, in bytes and at most one past the end, or `OutOfMemory`
-    /// where memory was refused. That a reference names no group is told only where all of the pattern could be read.
-    /// The tree of a pattern of n bytes has at most 2 n + 1 nodes, and at most 832 levels.
+    /// Parses the pattern under the flags whose bits are set; other bits are ignored. The tree of a pattern of n bytes
+    /// has at most 2 n + 1 nodes and at most 832 levels.
+    ///
+    /// Returns `ParseError` with the position and the kind of the first error; the position is a byte offset, at most
+    /// one past the end. A reference that cannot be resolved is reported only if the whole pattern could be parsed.
+    /// Returns `OutOfMemory` if out of memory.
     ///
     /// ```rust
     /// let tree = Expr::parse_tree_with_flags(alloc, "(a|b)c*", FLAG_CASEI | FLAG_UNICODE)?;
@@ -91,7 +93,7 @@ impl Expr {
         }
     }
 
-    /// Reads the pattern under `FLAG_UNICODE` alone, as `parse_tree_with_flags` does, and with the same errors.
+    /// Parses the pattern under `FLAG_UNICODE` alone, with the errors of `parse_tree_with_flags`.
     ///
     /// ```rust
     /// let tree = Expr::parse_tree(alloc, "(?<year>\\d{4})-\\k<year>")?;

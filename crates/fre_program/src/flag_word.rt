@@ -45,7 +45,8 @@ fn letters(word: &str) -> Option<u32>
     Some(flags)
 }
 
-/// The flags that a word names, where it names any: `-` none, and letters a flag each.
+/// The flags that an argument names: `-` for none, or a letter for each. `None` if it is empty or has another
+/// character.
 #[tactic(auto, using(crate::proofs::FlagLemmas::names_none, crate::proofs::FlagLemmas::names_dash, crate::proofs::FlagLemmas::names_letters, crate::proofs::FlagLemmas::names_other))]
 pub fn flags_named(word: &str) -> Option<u32>
     ensures { MatchOption result (NamesFlags (chars word.now) → ⊥) (λ bits. NamesFlags (chars word.now) ×

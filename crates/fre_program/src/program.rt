@@ -80,16 +80,18 @@ fn give_up<E: Write>(err: &mut E, fault: Fault) -> u8
     3
 }
 
-/// Tries to say on `err` that memory was wanting for the words, and answers the status for that, 3.
+/// Reports on `err`, if that is possible, that memory ran out for the arguments, and returns the exit status for that,
+/// 3.
 pub fn out_of_memory<E: Write>(err: &mut E) -> u8
     ensures status { result ≡ 3 }
 {
     give_up(err, Fault::Memory(AllocError))
 }
 
-/// Runs the program on the words behind its name, and answers its status: 0 where the pattern is accepted, with the
-/// lines on `out`; 1 where it is refused, with why on `err`; 2 where the words are not well formed, with the usage on
-/// `err`; 3 where memory or a write was wanting, which is tried on `err`. Then `out` may hold a beginning.
+/// Runs the program on its arguments, without its name, and returns the exit status: 0 if the pattern is accepted, with
+/// its tree on `out`; 1 if it is refused, with the error on `err`; 2 if the arguments are not well formed, with the
+/// usage on `err`; 3 if memory ran out or a write failed, which is reported on `err` if that is possible, and `out` may
+/// then have part of the output.
 pub fn fre_run<O: Write, E: Write>(alloc: Global, words: &[String], out: &mut O, err: &mut E) -> u8
     ensures accepted { result ≡ 0 → OfWords HasTree words.now }
     ensures refused { result ≡ 1 → OfWords HasFault words.now }

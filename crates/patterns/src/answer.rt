@@ -1,4 +1,4 @@
-//! What the program does with its words.
+//! What the program does with its arguments.
 use crate::words::{command, flags_chosen, style_chosen, verb_chosen};
 use clap::error::ErrorKind;
 use clap::{ArgMatches, Error};
@@ -9,10 +9,10 @@ use patterns_program::sources::Sources;
 use std::alloc::{AllocError, Global};
 use std::io::Write;
 
-/// The status where the words are wrong.
+/// The exit status if the arguments are wrong.
 const MISUSED: u8 = 2;
 
-/// Says what the words were answered with: the help that was asked for on `out`, and else what is wrong on `err`.
+/// Writes the help that was asked for to `out`, or what is wrong with the arguments to `err`.
 fn explain<O: Write, E: Write>(error: &Error, out: &mut O, err: &mut E) -> Result<u8, Fault> {
     if error.kind() == ErrorKind::OutOfMemory {
         return Err(Fault::Memory(AllocError));
@@ -26,7 +26,7 @@ fn explain<O: Write, E: Write>(error: &Error, out: &mut O, err: &mut E) -> Resul
     Ok(0)
 }
 
-/// Says that no flags have this name.
+/// Reports letters that are no flags.
 fn explain_flags<E: Write>(err: &mut E) -> Result<u8, Fault> {
     writeln!(
         err,
@@ -35,7 +35,7 @@ fn explain_flags<E: Write>(err: &mut E) -> Result<u8, Fault> {
     Ok(MISUSED)
 }
 
-/// Does what a verb's words ask.
+/// Runs a subcommand.
 fn answer_verb<S: Sources, O: Write, E: Write>(
     alloc: Global,
     name: &str,
@@ -58,7 +58,7 @@ fn answer_verb<S: Sources, O: Write, E: Write>(
     Ok(run(alloc, job, files, sources, out, err))
 }
 
-/// Does what the words ask, or says what is wrong with them.
+/// Runs the subcommand that the arguments choose, or reports what is wrong with them.
 fn try_answer<S: Sources, O: Write, E: Write>(
     alloc: Global,
     words: &[String],
@@ -75,8 +75,8 @@ fn try_answer<S: Sources, O: Write, E: Write>(
     }
 }
 
-/// Does what the words ask, the program's name among them, and answers the status: that of the run, or 0 where help was
-/// asked for, 2 where the words are wrong, and 3 where memory or a write was wanting.
+/// Does what the arguments ask, the program's name first, and returns the exit status: that of the run, or 0 if help
+/// was asked for, 2 if the arguments are wrong, and 3 if memory ran out or a write failed.
 pub(crate) fn answer<S: Sources, O: Write, E: Write>(
     alloc: Global,
     words: &[String],

@@ -47,32 +47,32 @@ const UNNAMED: &str = "PATTERN:2:2: Opening parenthesis without closing parenthe
  ^
 ";
 
-const LINES: &str = "in a row
+const LINES: &str = "concatenation
 ├─ group 1, named \"y\"
-│  └─ repeated exactly 4 times, as often as possible
+│  └─ repeat 4 times, greedy
 │     └─ class \\d
-├─ text \"-\"
-├─ repeated 0 or more times, as seldom as possible
+├─ literal \"-\"
+├─ repeat 0 or more times, lazy
 │  └─ group 2
-│     └─ one of
-│        ├─ text \"a\"
-│        └─ text \"b\"
+│     └─ alternation
+│        ├─ literal \"a\"
+│        └─ literal \"b\"
 └─ back reference to group 1, named \"y\"
-2 groups have a number.
-\"y\" names group 1.
-Back references mean group 1.
+2 numbered groups.
+Name \"y\": group 1.
+Back references to group 1.
 ";
 
-const ASCII: &str = "in a row
+const ASCII: &str = "concatenation
 |- group 1
-|  `- nothing
+|  `- empty
 `- conditional
-   |- if: condition on a match of group 1
-   |- then: text \"b\", upper and lower case alike
+   |- if: condition on group 1
+   |- then: literal \"b\", case-insensitive
    `- else: call of the whole pattern
-1 group has a number.
-Some reference or call is by a number.
-Some group is called.
+1 numbered group.
+Has references or calls by number.
+Has subroutine calls.
 The pattern calls itself.
 ";
 
@@ -85,8 +85,8 @@ const GROUPS: &str = "-:1: (?<y>a)(b)\\k<y>\\2\\g<1>\\g0
   call of the whole pattern
   the pattern calls itself
 -:2: \\g<-2>
-  no group has a number
-  call of no group, by -2 from here, column 3
+  no numbered groups
+  unresolved call \\g<-2>, column 3
 ";
 
 const FORMATTED: &str = "ab*
@@ -94,22 +94,22 @@ const FORMATTED: &str = "ab*
 (
 ";
 
-const LEFT: &str = "-:2: left as it is: a back reference has no text
+const LEFT: &str = "-:2: not formatted: back references cannot be printed
 -:3:2: Opening parenthesis without closing parenthesis
 (
  ^
 ";
 
-const BREAK: &str = "-:1: left as it is: its text holds a line break\n";
+const BREAK: &str = "-:1: not formatted: its text would contain a line break\n";
 
-const DEEP: &str = "-:1: left as it is: its text nests too deep\n";
+const DEEP: &str = "-:1: not formatted: its text would nest too deeply\n";
 
 const NESTED: &str =
     "(((((((((((((((((((((((((((((((((((((((((((((((((((((((((((((((a)))))))))))))))))))))))))))))))))))))))))))))))))))))))))))))))\n";
 
 const NO_FLAGS: &str = "patterns: --flags takes letters of imsUxuRon, or - for none\n";
 
-const NO_TEXT: &str = "mixed:4: the line is not UTF-8\n";
+const NO_TEXT: &str = "mixed:4: the line is not valid UTF-8\n";
 
 const NO_FILES: &str = "patterns: none: entity not found
 patterns: broken: connection reset

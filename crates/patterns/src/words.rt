@@ -1,4 +1,4 @@
-//! The words that the program is called with.
+//! The arguments of the program.
 use clap::{Arg, ArgAction, ArgMatches, Command};
 use fre_program::flag_word::flags_named;
 use patterns_program::draw::Style;
@@ -6,43 +6,44 @@ use patterns_program::run::{STANDARD_INPUT, Verb};
 use std::alloc::{AllocError, Global};
 
 const ABOUT: &str =
-    "Checks, shows and formats patterns in the syntax of fancy-regex. Flags that are set in a \
-group end with it.";
+    "Checks, shows and formats patterns in the syntax of fancy-regex. Nothing is matched. Flags \
+that are set in a group end with it.";
 
 const STATUSES: &str =
-    "The status is 0 where each pattern is as the verb asks, 1 where one is not, \
-2 where the words or a file are wrong, and 3 where memory or a write was refused.";
+    "The exit status is 0 if every pattern passes, 1 if one does not, 2 if the arguments are \
+wrong or a file cannot be read, and 3 if memory ran out or a write failed.";
 
-const FLAGS_HELP: &str = "The flags to read under, a letter each, or - for none";
+const FLAGS_HELP: &str = "The flags to parse under, as letters, or - for none";
 
 const LETTERS: &str = "The letters of --flags:
-  i  upper and lower case are one
-  m  ^ and $ stand for the ends of lines too
-  s  . stands for a line feed too
+  i  case-insensitive
+  m  multi-line: ^ and $ match at the start and the end of each line
+  s  . matches a line feed too
   U  a quantifier is lazy without ?, and greedy with it
-  x  blanks are layout, and so is # with what follows it in its line
-  u  classes and escapes are Unicode's
-  R  CR LF ends a line as one
-  o  the pattern is one of Oniguruma's
-  n  where a group has a name, the groups without one have no number";
+  x  verbose: whitespace is ignored, and # with what follows it in its line
+  u  Unicode
+  R  CR LF is one line terminator
+  o  Oniguruma's syntax
+  n  if some group has a name, groups without a name have no number";
 
-const FILES_HELP: &str = "Files of patterns, a pattern a line, in UTF-8; - is the standard input";
+const FILES_HELP: &str = "Files with one pattern per line, in UTF-8; - is standard input";
 
-const CHECK: &str = "Says of each pattern that is refused where and why";
+const CHECK: &str = "Reports each pattern that is refused, with the position and the reason";
 
-const TREE: &str = "Draws the tree of a pattern, and says what its groups and references are";
+const TREE: &str = "Draws the tree of a pattern, and describes its groups and references";
 
-const FORMAT: &str = "Writes each pattern as its tree prints, and one that has no text as it is";
+const FORMAT: &str = "Writes each pattern as it prints, and one that cannot be printed unchanged";
 
-const GROUPS: &str = "Lists the groups of each pattern, and what its references and calls mean";
+const GROUPS: &str = "Lists the groups of each pattern, and what its references and calls refer to";
 
 const NOT_KEPT: &str =
-    "What is printed is the tree of a pattern, and it reads under u, whatever the flags were. \
-Not kept are the names of groups, comments, blanks that are layout, definitions in (?(DEFINE)..), and how a \
-character, a class or a quantifier was written. A line ends with LF.
+    "What is printed is the tree of a pattern, to be parsed under u, whatever the flags were. \
+Lost are the names of groups, comments, ignored whitespace, the contents of (?(DEFINE)..), and how a character, a \
+class or a quantifier was written. A line ends with LF.
 
-A pattern with a reference, a call, a look-around or another part that has no text is left as it is, and so is one \
-whose text would hold a line break or nest too deep, and one that is refused; why is said on the standard error.";
+A pattern with a reference, a subroutine call, a look-around or another part that cannot be printed is written \
+unchanged, and so is one whose text would contain a line break or nest too deeply, and one that is refused; standard \
+error has the reason.";
 
 fn flags_arg<'a>(alloc: Global) -> Arg<'a> {
     Arg::new(alloc, "flags")
@@ -61,7 +62,7 @@ fn files_arg<'a>(alloc: Global) -> Arg<'a> {
         .help(FILES_HELP)
 }
 
-/// A verb over files.
+/// A subcommand over files.
 fn over_files<'a>(alloc: Global, name: &'a str, about: &'a str) -> Result<Command<'a>, AllocError> {
     Command::new(alloc, name)
         .about(about)
@@ -70,16 +71,16 @@ fn over_files<'a>(alloc: Global, name: &'a str, about: &'a str) -> Result<Comman
         .arg(files_arg(alloc))
 }
 
-/// The verb for one pattern.
+/// The subcommand for one pattern.
 fn tree_command<'a>(alloc: Global) -> Result<Command<'a>, AllocError> {
     let ascii = Arg::new(alloc, "ascii")
         .long("ascii")
         .action(ArgAction::SetTrue)
-        .help("Draws the branches with characters of ASCII");
+        .help("Draws with ASCII characters");
     let pattern = Arg::new(alloc, "pattern")
         .value_name("PATTERN")
         .required(true)
-        .help("The pattern; one that begins with - stands behind --");
+        .help("The pattern; put -- before one that begins with -");
     Command::new(alloc, "tree")
         .about(TREE)
         .after_help(LETTERS)
@@ -92,13 +93,13 @@ fn format_command<'a>(alloc: Global) -> Result<Command<'a>, AllocError> {
     let is_check = Arg::new(alloc, "check")
         .long("check")
         .action(ArgAction::SetTrue)
-        .help("Writes no pattern; the status is 1 where a line would change or is refused");
+        .help("Writes no pattern; the exit status is 1 if a line would change or is refused");
     over_files(alloc, "format", FORMAT)?
         .before_help(NOT_KEPT)
         .arg(is_check)
 }
 
-/// What the program can be asked.
+/// The command line.
 pub(crate) fn command<'a>(alloc: Global) -> Result<Command<'a>, AllocError> {
     Command::new(alloc, "patterns")
         .bin_name("patterns")?
@@ -112,7 +113,7 @@ pub(crate) fn command<'a>(alloc: Global) -> Result<Command<'a>, AllocError> {
         .subcommand(over_files(alloc, "groups", GROUPS)?)
 }
 
-/// The verb over files that the words choose.
+/// The subcommand over files that the arguments choose.
 pub(crate) fn verb_chosen(name: &str, matches: &ArgMatches<'_>) -> Option<Verb> {
     match name {
         "check" => Some(Verb::Check),
@@ -123,7 +124,7 @@ pub(crate) fn verb_chosen(name: &str, matches: &ArgMatches<'_>) -> Option<Verb> 
     }
 }
 
-/// How the words want branches to be drawn.
+/// The style of drawing that the arguments choose.
 pub(crate) fn style_chosen(matches: &ArgMatches<'_>) -> Style {
     if matches.get_flag("ascii") {
         Style::Ascii
@@ -132,7 +133,7 @@ pub(crate) fn style_chosen(matches: &ArgMatches<'_>) -> Style {
     }
 }
 
-/// The flags that the words choose; none where they name no flags.
+/// The flags that the arguments choose; none if the letters are wrong.
 pub(crate) fn flags_chosen(matches: &ArgMatches<'_>) -> Option<u32> {
     flags_named(matches.get_str("flags")?)
 }

@@ -1,4 +1,4 @@
-//! The verb `check`: whether a pattern is read.
+//! The subcommand `check`: whether a pattern is accepted.
 ghost use Rattle.std.specs.Prelude.{◌≡◌, chars, Ok};
 ghost use Rattle.fancy_lex.specs.Flags.{flags_of};
 ghost use Rattle.fre_program.specs.Words.{HasTree, HasFault};
@@ -11,7 +11,7 @@ use crate::reading::read;
 use std::alloc::Global;
 use std::io::Write;
 
-/// Says on `out` where and why the pattern is refused, if it is.
+/// Writes the position and the reason to `out` if the pattern is refused.
 pub(crate) fn check<O: Write>(
     alloc: Global,
     flags: u32,

@@ -1,4 +1,4 @@
-//! The verb `tree`: a pattern's tree with branches, and what is known of it.
+//! The subcommand `tree`: a pattern's tree with branches, and its group information.
 ghost use Rattle.std.specs.Prelude.{◌≡◌, ◌≤◌, ◌⊎◌, chars, Ok, IfOk};
 ghost use Rattle.fancy_lex.specs.Flags.{flags_of};
 ghost use Rattle.fre_program.specs.Words.{HasTree, HasFault};

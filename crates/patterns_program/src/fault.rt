@@ -1,4 +1,4 @@
-//! Why a run ends before its work is done.
+//! Errors that end a run.
 ghost use Rattle.std.specs.Prelude.{◌≡◌};
 
 use std::alloc::AllocError;
@@ -6,18 +6,18 @@ use std::io;
 use std::io::Write;
 use thiserror::Error;
 
-/// What a run cannot do without.
+/// Why a run ended before its work was done.
 #[derive(Debug, Drop, Error)]
 pub enum Fault {
-    /// Memory was refused.
+    /// Out of memory.
     #[error("out of memory")]
     Memory(#[from(alloc)] AllocError),
-    /// A write was refused.
+    /// A write failed.
     #[error("cannot write")]
     Write(#[from] io::Error),
 }
 
-/// Tries to say on `err` why the run ends, and answers the status for that, 3.
+/// Reports on `err`, if that is possible, why the run ends, and returns the exit status for that, 3.
 pub fn give_up<E: Write>(err: &mut E, fault: Fault) -> u8
     ensures status { result ≡ 3 }
 {

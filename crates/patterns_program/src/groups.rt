@@ -1,4 +1,4 @@
-//! The verb `groups`: a pattern's groups, and what its references and calls mean.
+//! The subcommand `groups`: a pattern's groups, and what its references and calls refer to.
 ghost use Rattle.std.specs.Prelude.{◌≡◌, chars, Ok};
 ghost use Rattle.fancy_lex.specs.Flags.{flags_of};
 ghost use Rattle.fre_program.specs.Words.{HasTree, HasFault};
@@ -19,7 +19,7 @@ use std::io::Write;
 /// Writes the groups that have a number, a line each.
 fn write_numbered<O: Write>(out: &mut O, total: usize, names: &Names<'_>) -> io::Result<()> {
     if total == 0 {
-        return writeln!(out, "  no group has a number");
+        return writeln!(out, "  no numbered groups");
     }
     for number in 1..=total {
         writeln!(out, "  {}", names.group(number))?;
@@ -62,8 +62,8 @@ fn write_groups<O: Write>(
     Ok(())
 }
 
-/// Says on `out` what groups the pattern has and what its references and calls mean, or on `err` where and why it is
-/// refused.
+/// Writes to `out` which groups the pattern has and what its references and calls refer to, or to `err` the position
+/// and the reason of a refusal.
 pub(crate) fn list_groups<O: Write, E: Write>(
     alloc: Global,
     flags: u32,

@@ -1,14 +1,14 @@
-//! What is known of a pattern's groups and references, in words.
+//! A pattern's group information, described.
 use fancy_syntax::tree::ExprTree;
 use std::io;
 use std::io::Write;
 
-/// Writes the sentence on how many groups have a number.
+/// Writes the sentence on the number of groups.
 fn write_total<O: Write>(out: &mut O, total: usize) -> io::Result<()> {
     match total {
-        0 => writeln!(out, "No group has a number."),
-        1 => writeln!(out, "1 group has a number."),
-        _ => writeln!(out, "{total} groups have a number."),
+        0 => writeln!(out, "No numbered groups."),
+        1 => writeln!(out, "1 numbered group."),
+        _ => writeln!(out, "{total} numbered groups."),
     }
 }
 
@@ -20,7 +20,7 @@ fn write_number<O: Write>(out: &mut O, written: usize, number: usize) -> io::Res
 
 /// Writes the sentence on the groups of a name.
 fn write_name<O: Write>(out: &mut O, name: &str, numbers: &[usize]) -> io::Result<()> {
-    write!(out, "{name:?} names group")?;
+    write!(out, "Name {name:?}: group")?;
     for (i, number) in numbers.iter().enumerate() {
         write_number(out, i, *number)?;
     }
@@ -35,9 +35,9 @@ fn write_names<O: Write>(out: &mut O, tree: &ExprTree) -> io::Result<()> {
     Ok(())
 }
 
-/// Writes the sentence on the groups that back references mean.
+/// Writes the sentence on the groups that back references refer to.
 fn write_referred<O: Write>(out: &mut O, tree: &ExprTree) -> io::Result<()> {
-    write!(out, "Back references mean group")?;
+    write!(out, "Back references to group")?;
     for (i, number) in tree.backrefs.iter().enumerate() {
         write_number(out, i, *number)?;
     }
@@ -52,11 +52,11 @@ fn write_references<O: Write>(out: &mut O, tree: &ExprTree) -> io::Result<()> {
     if let Some(number) = tree.out_of_range_backref {
         writeln!(
             out,
-            "A back reference means group {number}, which is not there."
+            "Back reference to group {number}, which does not exist."
         )?;
     }
     if tree.numeric_capture_group_references {
-        writeln!(out, "Some reference or call is by a number.")?;
+        writeln!(out, "Has references or calls by number.")?;
     }
     Ok(())
 }
@@ -65,12 +65,12 @@ fn write_references<O: Write>(out: &mut O, tree: &ExprTree) -> io::Result<()> {
 pub(crate) fn write_marks<O: Write>(out: &mut O, tree: &ExprTree) -> io::Result<()> {
     write_total(out, tree.total_groups)?;
     if tree.numbered_groups_ignored {
-        writeln!(out, "Groups without a name have no number.")?;
+        writeln!(out, "Groups without a name are not numbered.")?;
     }
     write_names(out, tree)?;
     write_references(out, tree)?;
     if tree.contains_subroutines {
-        writeln!(out, "Some group is called.")?;
+        writeln!(out, "Has subroutine calls.")?;
     }
     if tree.self_recursive {
         writeln!(out, "The pattern calls itself.")?;

@@ -1,4 +1,4 @@
-//! Places of a pattern, as a terminal shows them.
+//! Positions in a pattern, as a terminal shows them.
 ghost use Rattle.std.specs.Prelude.{◌≡◌, ◌+◌, chars, false};
 ghost use Rattle.unicode_width.specs.Width.{str_width};
 
@@ -7,12 +7,12 @@ use std::io::Write;
 use std::{fmt, io};
 use unicode_width::UnicodeWidthStr;
 
-/// Where a pattern stands.
+/// Where a pattern is in its file.
 #[derive(Clone, Copy)]
 pub struct Location<'a> {
-    /// The file's name, as it was given.
+    /// The file's name as an argument.
     pub file: &'a str,
-    /// The number of the line with which the pattern begins, from 1.
+    /// The number of the pattern's first line, from 1.
     pub line: u64,
 }
 
@@ -22,8 +22,8 @@ impl fmt::Display for Location<'_> {
     }
 }
 
-/// The column of what follows the text in its line, from 1. Each character takes the columns that a terminal gives it,
-/// and a tab or another control character one.
+/// The column after the text in its line, from 1. Each character takes as many columns as on a terminal; a tab or
+/// another control character takes one.
 pub fn column_after(text: &str) -> usize
     ensures value { result ≡ 1 + str_width false (chars text.now) }
 {

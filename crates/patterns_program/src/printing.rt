@@ -1,4 +1,4 @@
-//! The verb `format`: each pattern as it prints.
+//! The subcommand `format`: each pattern as it prints.
 ghost use Rattle.std.specs.Prelude.{◌≡◌, ◌≢◌, ◌⊎◌, ℕ, List, true, false, chars, Ok, IfOk, OnSome, IfNone};
 ghost use Rattle.fancy_lex.specs.Flags.{flags_of, unicode_alone};
 ghost use Rattle.fancy_syntax.specs.View.{view};
@@ -30,22 +30,22 @@ enum Text {
 /// What has no text, where the node itself is such.
 fn textless(node: &Expr) -> Option<&'static str> {
     Some(match node {
-        Expr::Assertion(Assertion::EndTextIgnoreTrailingNewlines { .. }) => r"\Z has no text",
-        Expr::GeneralNewline { .. } => r"\R has no text",
-        Expr::LiteralBytes { .. } => "a byte that is no character has no text",
-        Expr::LookAround(..) => "a look-around has no text",
+        Expr::Assertion(Assertion::EndTextIgnoreTrailingNewlines { .. }) => r"\Z cannot be printed",
+        Expr::GeneralNewline { .. } => r"\R cannot be printed",
+        Expr::LiteralBytes { .. } => "bytes that are no character cannot be printed",
+        Expr::LookAround(..) => "look-arounds cannot be printed",
         Expr::Backref { .. } | Expr::BackrefWithRelativeRecursionLevel { .. } => {
-            "a back reference has no text"
+            "back references cannot be printed"
         }
-        Expr::AtomicGroup(_) => "an atomic group has no text",
-        Expr::KeepOut => r"\K has no text",
-        Expr::ContinueFromPreviousMatchEnd => r"\G has no text",
+        Expr::AtomicGroup(_) => "atomic groups cannot be printed",
+        Expr::KeepOut => r"\K cannot be printed",
+        Expr::ContinueFromPreviousMatchEnd => r"\G cannot be printed",
         Expr::BackrefExistsCondition { .. } | Expr::Conditional { .. } => {
-            "a conditional has no text"
+            "conditionals cannot be printed"
         }
-        Expr::SubroutineCall(_) | Expr::AstNode(..) => "a call has no text",
-        Expr::BacktrackingControlVerb(_) => "a verb has no text",
-        Expr::Absent(_) => "an absent operator has no text",
+        Expr::SubroutineCall(_) | Expr::AstNode(..) => "subroutine calls cannot be printed",
+        Expr::BacktrackingControlVerb(_) => "backtracking control verbs cannot be printed",
+        Expr::Absent(_) => "absent forms cannot be printed",
         _ => return None,
     })
 }
@@ -94,10 +94,10 @@ fn hindrance(alloc: Global, text: &str) -> Result<Option<&'static str>, Fault>
         ((spec.has_break text.now ≡ true) ⊎ HasFault unicode_alone (chars text.now))) }
 {
     if has_break(text) {
-        return Ok(Some("its text holds a line break"));
+        return Ok(Some("its text would contain a line break"));
     }
     if !is_read_again(alloc, text)? {
-        return Ok(Some("its text nests too deep"));
+        return Ok(Some("its text would nest too deeply"));
     }
     Ok(None)
 }
@@ -107,7 +107,9 @@ fn text_of(alloc: Global, tree: &Expr) -> Result<Text, Fault>
     ensures { IfOk result (λ text. IsWrittenAs (view tree.now) text) }
 {
     let Some(text) = tree.print(alloc, WHOLE)? else {
-        return Ok(Text::Kept(first_textless(tree).unwrap_or("a repeat of nothing has no text")));
+        return Ok(Text::Kept(first_textless(tree).unwrap_or(
+            "a repetition of the empty pattern cannot be printed",
+        )));
     };
     Ok(match hindrance(alloc, text.as_str())? {
         Some(why) => Text::Kept(why),
@@ -127,15 +129,15 @@ fn write_text<O: Write, E: Write>(
     match text_of(alloc, tree)? {
         Text::Printed(text) => writeln!(out, "{text}")?,
         Text::Kept(why) => {
-            writeln!(err, "{at}: left as it is: {why}")?;
+            writeln!(err, "{at}: not formatted: {why}")?;
             writeln!(out, "{pattern}")?;
         }
     }
     Ok(())
 }
 
-/// Writes the pattern as it prints, a line of `out`. One that has no text is written as it was, with why on `err`, and
-/// so is one that is refused, with where and why.
+/// Writes the pattern as it prints, as a line of `out`. One that cannot be printed, or is refused, is written
+/// unchanged, with the reason on `err`.
 pub(crate) fn format_pattern<O: Write, E: Write>(
     alloc: Global,
     flags: u32,
@@ -167,7 +169,7 @@ fn stays(alloc: Global, pattern: &str, tree: &Expr) -> Result<bool, Fault>
     })
 }
 
-/// Whether the pattern would be written as it is. Where it is refused, `err` says where and why.
+/// Whether the pattern would be written unchanged. If it is refused, the position and the reason are written to `err`.
 pub(crate) fn is_formatted<E: Write>(
     alloc: Global,
     flags: u32,

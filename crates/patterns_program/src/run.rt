@@ -13,23 +13,23 @@ use std::alloc::{AllocError, Global};
 use std::io::{BufRead, ErrorKind, Write};
 use std::{io, str};
 
-/// The name of the standard input.
+/// The file name that stands for standard input.
 pub const STANDARD_INPUT: &str = "-";
 
-/// What is asked of each pattern.
+/// What is done with each pattern.
 #[derive(Clone, Copy)]
 pub enum Verb {
-    /// Whether it is read; where and why not goes to the output.
+    /// Check it; the position and the reason of a refusal are written to the output.
     Check,
-    /// Its text as it prints, in the place of the line.
+    /// Write it as it prints.
     Format,
-    /// Whether it would be written as it is.
+    /// Check whether `Format` would write it unchanged.
     IsFormatted,
-    /// Its groups, and what its references and calls mean.
+    /// List its groups, and what its references and calls refer to.
     Groups,
 }
 
-/// A verb, and the flags that the patterns are read under.
+/// A subcommand over files, and the flags that the patterns are parsed under.
 #[derive(Clone, Copy)]
 pub struct Job {
     pub verb: Verb,
@@ -44,7 +44,7 @@ fn pass_over<O: Write, E: Write>(
     out: &mut O,
     err: &mut E,
 ) -> io::Result<()> {
-    writeln!(err, "{at}: the line is not UTF-8")?;
+    writeln!(err, "{at}: the line is not valid UTF-8")?;
     if let Verb::Format = verb {
         out.write_all(line)?;
         out.write_all(b"\n")?;
@@ -144,10 +144,10 @@ fn answer_files<S: Sources, O: Write, E: Write>(
     Ok(outcome)
 }
 
-/// Does the job on each pattern of the files, a pattern a line, and answers the status of the run: 0 where each is as
-/// the verb asks; 1 where one is not; 2 where a file, or a line of one, could not be read, which is said on `err`, and
-/// the others were; 3 where memory or a write was wanting, which is tried on `err`, and then `out` may hold a
-/// beginning. A line ends with LF or CR LF. The file `-` is the standard input.
+/// Does the job on each pattern of the files, one a line, and returns the exit status: 0 if every pattern passes; 1 if
+/// one does not; 2 if a file, or a line of one, cannot be read, which is reported on `err` while the others are still
+/// read; 3 if memory ran out or a write failed, which is reported on `err` if that is possible, and `out` may then have
+/// part of the output. A line ends with LF or CR LF. The file `-` is standard input.
 pub fn run<S: Sources, O: Write, E: Write>(
     alloc: Global,
     job: Job,

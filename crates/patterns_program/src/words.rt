@@ -1,4 +1,4 @@
-//! Nodes in words.
+//! Nodes described for people.
 use crate::names::Names;
 use crate::place::Cut;
 use fancy_lex::escape::Assertion;
@@ -24,20 +24,16 @@ impl fmt::Display for Visible<'_> {
     }
 }
 
-/// What is added where upper and lower case are one.
+/// What is added to a node that is case-insensitive.
 fn case_words(casei: bool) -> &'static str {
-    if casei {
-        ", upper and lower case alike"
-    } else {
-        ""
-    }
+    if casei { ", case-insensitive" } else { "" }
 }
 
 fn any_words(newline: bool, crlf: bool) -> &'static str {
     match (newline, crlf) {
         (true, _) => "any character",
-        (false, false) => "any character but a line feed",
-        (false, true) => "any character but a carriage return or a line feed",
+        (false, false) => "any character except a line feed",
+        (false, true) => "any character except a carriage return or a line feed",
     }
 }
 
@@ -46,36 +42,36 @@ fn assertion_words(assertion: Assertion) -> &'static str {
         Assertion::StartText => "start of the text",
         Assertion::EndText => "end of the text",
         Assertion::EndTextIgnoreTrailingNewlines { crlf: false } => {
-            "end of the text, but for line feeds that end it"
+            "end of the text, or before line feeds that end it"
         }
         Assertion::EndTextIgnoreTrailingNewlines { crlf: true } => {
-            "end of the text, but for line feeds or CR LF that end it"
+            "end of the text, or before line terminators that end it, CR LF as one"
         }
         Assertion::StartLine { crlf: false } => "start of a line",
-        Assertion::StartLine { crlf: true } => "start of a line, CR LF counted as one end",
+        Assertion::StartLine { crlf: true } => "start of a line, CR LF as one terminator",
         Assertion::StartLineOniguruma { crlf: false } => {
-            "start of a line, but not at the end of the text"
+            "start of a line, except at the end of the text"
         }
         Assertion::StartLineOniguruma { crlf: true } => {
-            "start of a line, but not at the end of the text, CR LF counted as one end"
+            "start of a line, except at the end of the text, CR LF as one terminator"
         }
         Assertion::EndLine { crlf: false } => "end of a line",
-        Assertion::EndLine { crlf: true } => "end of a line, CR LF counted as one end",
+        Assertion::EndLine { crlf: true } => "end of a line, CR LF as one terminator",
         Assertion::LeftWordBoundary => "start of a word",
         Assertion::LeftWordHalfBoundary => "no word character before",
         Assertion::RightWordBoundary => "end of a word",
         Assertion::RightWordHalfBoundary => "no word character after",
-        Assertion::WordBoundary => "start or end of a word",
-        Assertion::NotWordBoundary => "neither start nor end of a word",
+        Assertion::WordBoundary => "word boundary",
+        Assertion::NotWordBoundary => "not a word boundary",
     }
 }
 
 fn look_around_words(look_around: LookAround) -> &'static str {
     match look_around {
-        LookAround::LookAhead => "look-ahead: what follows matches",
-        LookAround::LookAheadNeg => "negative look-ahead: what follows does not match",
-        LookAround::LookBehind => "look-behind: what stands before matches",
-        LookAround::LookBehindNeg => "negative look-behind: what stands before does not match",
+        LookAround::LookAhead => "look-ahead",
+        LookAround::LookAheadNeg => "negative look-ahead",
+        LookAround::LookBehind => "look-behind",
+        LookAround::LookBehindNeg => "negative look-behind",
     }
 }
 
@@ -91,36 +87,37 @@ fn verb_words(verb: BacktrackingControlVerb) -> &'static str {
 
 fn absent_words(absent: &Absent) -> &'static str {
     match absent {
-        Absent::Repeater(_) => "absent repeater: any text that holds no match",
-        Absent::Expression { .. } => "absent expression: text that holds no match of another",
-        Absent::Stopper(_) => "absent stopper: from here on, no match",
-        Absent::Clear => "absent clear: the stopper ends",
+        Absent::Repeater(_) => "absent repeater: text without a match of",
+        Absent::Expression { .. } =>
+            "absent expression: a match in text without a match of another",
+        Absent::Stopper(_) => "absent stopper: from here on no match of",
+        Absent::Clear => "absent clear: ends the stopper",
     }
 }
 
-/// What a node without fields of its own is, or one whose fields are its children.
+/// A node that has no fields, or whose fields are flags or its children.
 fn plain_words(node: &Expr) -> &'static str {
     match node {
-        Expr::Empty => "nothing",
+        Expr::Empty => "empty",
         Expr::Any { newline, crlf } => any_words(*newline, *crlf),
         Expr::Assertion(assertion) => assertion_words(*assertion),
-        Expr::GeneralNewline { unicode: false } => "any line break of ASCII",
+        Expr::GeneralNewline { unicode: false } => "any ASCII line break",
         Expr::GeneralNewline { unicode: true } => "any line break",
-        Expr::Concat(_) => "in a row",
-        Expr::Alt(_) => "one of",
+        Expr::Concat(_) => "concatenation",
+        Expr::Alt(_) => "alternation",
         Expr::LookAround(_, look_around) => look_around_words(*look_around),
         Expr::AtomicGroup(_) => "atomic group",
-        Expr::KeepOut => "start of what is kept of the match",
-        Expr::ContinueFromPreviousMatchEnd => "end of the match before",
+        Expr::KeepOut => r"\K: the match begins here",
+        Expr::ContinueFromPreviousMatchEnd => "end of the previous match",
         Expr::Conditional { .. } => "conditional",
         Expr::BacktrackingControlVerb(verb) => verb_words(*verb),
         Expr::Absent(absent) => absent_words(absent),
         Expr::DefineGroup { .. } => "definitions",
-        _ => "a node that no answered tree has",
+        _ => "a node that no parsed tree has",
     }
 }
 
-/// How often.
+/// How often an operand is repeated.
 #[derive(Clone, Copy)]
 struct Times {
     least: usize,
@@ -130,15 +127,15 @@ struct Times {
 impl fmt::Display for Times {
     fn fmt<W: fmt::Write>(&self, f: &mut fmt::Formatter<W>) -> fmt::Result {
         match (self.least, self.most) {
-            (1, 1) => f.write_str("exactly once"),
+            (1, 1) => f.write_str("once"),
             (least, usize::MAX) => write!(f, "{least} or more times"),
-            (least, most) if least == most => write!(f, "exactly {least} times"),
+            (least, most) if least == most => write!(f, "{least} times"),
             (least, most) => write!(f, "{least} to {most} times"),
         }
     }
 }
 
-/// Bytes in hexadecimal, with blanks between.
+/// Bytes in hexadecimal, separated by spaces.
 #[derive(Clone, Copy)]
 struct Hex<'a>(&'a [u8]);
 
@@ -152,34 +149,34 @@ impl fmt::Display for Hex<'_> {
     }
 }
 
-/// A level of recursion that a reference looks at, where it names one.
+/// The recursion level of a reference, if it has one.
 #[derive(Clone, Copy)]
 struct Level(Option<isize>);
 
 impl fmt::Display for Level {
     fn fmt<W: fmt::Write>(&self, f: &mut fmt::Formatter<W>) -> fmt::Result {
         match self.0 {
-            Some(level) => write!(f, ", at the level of recursion {level:+}"),
+            Some(level) => write!(f, ", at recursion level {level:+}"),
             None => Ok(()),
         }
     }
 }
 
-/// What a call means nothing by.
+/// The target of an unresolved call, as it is written.
 #[derive(Clone, Copy)]
-struct Meant<'a>(&'a CaptureGroupTarget);
+struct Target<'a>(&'a CaptureGroupTarget);
 
-impl fmt::Display for Meant<'_> {
+impl fmt::Display for Target<'_> {
     fn fmt<W: fmt::Write>(&self, f: &mut fmt::Formatter<W>) -> fmt::Result {
         match self.0 {
-            CaptureGroupTarget::ByNumber(number) => write!(f, "number {number}"),
-            CaptureGroupTarget::ByName(name) => write!(f, "name {:?}", name.as_str()),
-            CaptureGroupTarget::Relative(amount) => write!(f, "{amount:+} from here"),
+            CaptureGroupTarget::ByNumber(number) => write!(f, "{number}"),
+            CaptureGroupTarget::ByName(name) => write!(f, "{}", Visible(name.as_str())),
+            CaptureGroupTarget::Relative(amount) => write!(f, "{amount:+}"),
         }
     }
 }
 
-/// Writes what a reference or a call means; nothing of any other node.
+/// Writes what a reference or a subroutine call refers to; nothing for any other node.
 pub(crate) fn write_reference<O: Write>(
     out: &mut O,
     node: &Expr,
@@ -209,23 +206,19 @@ pub(crate) fn write_reference<O: Write>(
             relative_recursion_level,
         } => {
             let level = Level(*relative_recursion_level);
-            writeln!(
-                out,
-                "condition on a match of {}{level}",
-                names.group(*group)
-            )
+            writeln!(out, "condition on {}{level}", names.group(*group))
         }
         Expr::SubroutineCall(0) => writeln!(out, "call of the whole pattern"),
         Expr::SubroutineCall(group) => writeln!(out, "call of {}", names.group(*group)),
         Expr::AstNode(AstNode::SubroutineCall(target), place) => {
             let at = Cut::at(pattern, *place);
-            writeln!(out, "call of no group, by {}, {at}", Meant(target))
+            writeln!(out, r"unresolved call \g<{}>, {at}", Target(target))
         }
         _ => Ok(()),
     }
 }
 
-/// Whether the node is a reference or a call.
+/// Whether the node is a reference or a subroutine call.
 pub(crate) fn is_reference(node: &Expr) -> bool {
     matches!(
         node,
@@ -237,7 +230,7 @@ pub(crate) fn is_reference(node: &Expr) -> bool {
     )
 }
 
-/// What a node holds that is neither a reference nor a group, in words.
+/// A node that is neither a reference nor a group, described.
 #[derive(Clone, Copy)]
 pub(crate) struct Held<'a>(pub(crate) &'a Expr);
 
@@ -245,7 +238,7 @@ impl fmt::Display for Held<'_> {
     fn fmt<W: fmt::Write>(&self, f: &mut fmt::Formatter<W>) -> fmt::Result {
         match self.0 {
             Expr::Literal { val, casei } => {
-                write!(f, "text {:?}{}", val.as_str(), case_words(*casei))
+                write!(f, "literal {:?}{}", val.as_str(), case_words(*casei))
             }
             Expr::LiteralBytes { bytes } => write!(f, "bytes {}", Hex(bytes)),
             Expr::Delegate { inner, casei } => {
@@ -256,8 +249,8 @@ impl fmt::Display for Held<'_> {
                     least: *lo,
                     most: *hi,
                 };
-                let first = if *greedy { "often" } else { "seldom" };
-                write!(f, "repeated {times}, as {first} as possible")
+                let mode = if *greedy { "greedy" } else { "lazy" };
+                write!(f, "repeat {times}, {mode}")
             }
             node => f.write_str(plain_words(node)),
         }

@@ -86,8 +86,8 @@ impl Absent {
 }
 
 impl Expr {
-    /// The child i, counted from 0 in the order of the text, or none past the last. What is written there is that child
-    /// afterwards, and all else stays as it was. It takes no memory, which no clause says.
+    /// Returns the i-th child, counted from 0 in the order of the text, or `None` past the last one. What is written
+    /// there becomes that child; nothing else changes. It does not allocate, which no clause says.
     ///
     /// ```rust
     /// if let Some(child) = tree.child_mut(0) {

@@ -10,8 +10,7 @@ use super::{Absent, Expr};
 use std::slice;
 
 impl Expr {
-    /// Whether a node of this variant has no children, whatever it holds. A `Concat` without children is no leaf, and
-    /// each `AstNode` is one.
+    /// Returns whether nodes of this variant never have children. An empty `Concat` is no leaf; every `AstNode` is one.
     #[tactic(auto, using(crate::proofs::ChildrenLemmas::leaf_children))]
     pub fn is_leaf_node(&self) -> bool
         ensures value { result ≡ is_leaf (view self.now) }
@@ -31,9 +30,9 @@ impl Expr {
         }
     }
 
-    /// The immediate children, in the order of the text: of a `Conditional` the condition and the two branches, of an
-    /// absent expression what must not stand and what has to. What an `AstNode` holds is no child. It takes no memory,
-    /// which no clause says.
+    /// Returns an iterator over the immediate children, in the order of the text: for a `Conditional` the condition and
+    /// the two branches, for an absent expression `absent` and `exp`. The contents of an `AstNode` are not its
+    /// children. It does not allocate, which no clause says.
     ///
     /// ```rust
     /// for child in tree.children_iter() {
@@ -74,22 +73,22 @@ impl Expr {
     }
 }
 
-/// Gives the immediate children of a node, in the order of the text.
+/// An iterator over the immediate children of a node, in the order of the text.
 #[derive(Drop)]
 pub enum ExprChildrenIter<'a> {
     /// No child.
     Empty,
-    /// The one child, until it is given.
+    /// One child, until it is returned.
     Single(Option<&'a Expr>),
-    /// The children of a list that are not given yet.
+    /// The children of a list that are still to come.
     Vec(slice::Iter<'a, Expr>),
-    /// Up to three children, each until it is given.
+    /// Up to three children, each until it is returned.
     Triple {
-        /// The child to give first.
+        /// The first child.
         first: Option<&'a Expr>,
-        /// The child to give next.
+        /// The second child.
         second: Option<&'a Expr>,
-        /// The child to give last.
+        /// The third child.
         third: Option<&'a Expr>,
     },
 }

@@ -7,7 +7,7 @@ use super::{Absent, AstNode, Expr};
 use std::alloc::{AllocError, Global};
 
 impl AstNode {
-    /// An equal node, in memory of its own. `AllocError` where that is refused.
+    /// Returns an equal node, or `AllocError` if out of memory.
     #[cycle(clone)]
     pub fn clone(&self, alloc: Global) -> Result<Self, AllocError>
         ensures equal { IfOk result (λ node. view_ast node ≡ view_ast self.now) }
@@ -46,7 +46,7 @@ impl AstNode {
 }
 
 impl Absent {
-    /// An equal node, in memory of its own. `AllocError` where that is refused; `Clear` takes none.
+    /// Returns an equal node, or `AllocError` if out of memory, which cannot happen for `Clear`.
     #[cycle(clone)]
     pub fn clone(&self, alloc: Global) -> Result<Self, AllocError>
         ensures equal { IfOk result (λ absent. view_absent absent ≡ view_absent self.now) }
@@ -65,8 +65,8 @@ impl Absent {
 }
 
 impl Expr {
-    /// An equal tree, in memory of its own. `AllocError` where that is refused; a node that holds no text, no bytes, no
-    /// tree and no target takes none.
+    /// Returns an equal tree, or `AllocError` if out of memory, which cannot happen for a node that holds no text, no
+    /// bytes, no tree and no target.
     #[cycle(clone)]
     pub fn clone(&self, alloc: Global) -> Result<Self, AllocError>
         ensures equal { IfOk result (λ tree. view tree ≡ view self.now) }

@@ -6,9 +6,9 @@ ghost use Rattle.fancy_syntax.specs.Descendants.{IsDescendant};
 use super::Expr;
 
 impl Expr {
-    /// Whether the predicate is true of a proper descendant: of a child, or of a descendant of one. It must be callable
-    /// on each of these. It is not asked about the node itself, and about the others in no fixed order. It takes no
-    /// memory.
+    /// Returns whether the predicate is true of some proper descendant: a child, or a descendant of a child. It must be
+    /// callable on each of these. It is not called on the node itself, and the order of calls is unspecified. It does
+    /// not allocate, which no clause says.
     ///
     /// ```rust
     /// let looks_around = tree.has_descendant(|node| matches!(node, Expr::LookAround(..)));
