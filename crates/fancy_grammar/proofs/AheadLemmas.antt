@@ -5,6 +5,7 @@ use Rattle.std.proofs.Common.{rules, ap, arith}
 use Rattle.std.proofs.lemmas.Bool.{cond-true, cond-false}
 use Rattle.std.proofs.lemmas.Bool.Decides.{nat_tests}
 use Prim.Native.Char.{code}
+use Rattle.fancy_lex.proofs.ReadingLemmas.{choose_both}
 use Rattle.fancy_lex.specs.Fault.{target_not_repeatable}
 use Rattle.fancy_lex.specs.FaultTable.{group_too_deep}
 use Rattle.fancy_lex.specs.LayoutSteps.{layout, layout_from, Skipped, rest, fault as open_comment}
@@ -56,11 +57,6 @@ either_there : (b : Bool) {x y : Ahead} → IsThere x → IsThere y → IsThere 
 either_there true f g = f
 either_there false f g = g
 
-choice_there : {A : Type 0} (o : Option A) (f : A → Ahead) (x : Ahead) → ((a : A) → IsThere (f a)) → IsThere x →
-    IsThere (choose o f x)
-choice_there (Some a) f x g h = g a
-choice_there None f x g h = h
-
 condition_there : (s : State) → IsThere (condition s)
 condition_there s e = cc
 
@@ -68,10 +64,10 @@ body_there : (c : Tree) (s : State) → IsThere (body c s)
 body_there c s e = cc
 
 verb_there : (s : State) (t : Text) → IsThere (verb_ahead s t)
-verb_there s t = choice_there (verb_at t) _ _ (λ p. leaf_there _) (leaf_there _)
+verb_there s t = choose_both IsThere (verb_at t) _ _ (λ p _. leaf_there _) (leaf_there _)
 
 verb_condition_there : (s : State) (t : Text) → IsThere (verb_condition s t)
-verb_condition_there s t = choice_there (verb_at t) _ _ (λ p. body_there _ _) (leaf_there _)
+verb_condition_there s t = choose_both IsThere (verb_at t) _ _ (λ p _. body_there _ _) (leaf_there _)
 
 condition_ahead_there : (s : State) (t : Text) → IsThere (condition_ahead s t)
 condition_ahead_there s [] = leaf_there _
@@ -85,25 +81,25 @@ repeater_there s (c ∷ t) = opens_there _ _
 
 question_there : (s : State) (t : Text) → IsThere (behind_question s t)
 question_there s t =
-    choice_there (strip_word (codes "=") t) _ _ (λ u. opens_there _ _) (
-    choice_there (strip_word (codes "!") t) _ _ (λ u. opens_there _ _) (
-    choice_there (strip_word (codes "<=") t) _ _ (λ u. opens_there _ _) (
-    choice_there (strip_word (codes "<!") t) _ _ (λ u. opens_there _ _) (
-    choice_there (strip_word (codes ">") t) _ _ (λ u. opens_there _ _) (
-    choice_there (strip_word (codes "(DEFINE)") t) _ _ (λ u. opens_there _ _) (
-    choice_there (strip_word (codes "(") t) _ _ (λ u. condition_ahead_there s u) (
-    choice_there (strip_word (codes "~|") t) _ _ (λ u e. cc) (
-    choice_there (strip_word (codes "~") t) _ _ (λ u. repeater_there s u) (
-    choice_there (strip_word (codes "<") t) _ _ (λ u. named_there s _) (
-    choice_there (strip_word (codes "'") t) _ _ (λ u. named_there s _) (
-    choice_there (strip_word (codes "P<") t) _ _ (λ u. named_there s _) (
-    choice_there (strip_word (codes "P=") t) _ _ (λ u. leaf_there _) (
-    choice_there (strip_word (codes "P>") t) _ _ (λ u. leaf_there _) (flags_there _))))))))))))))
+    choose_both IsThere (strip_word (codes "=") t) _ _ (λ u _. opens_there _ _) (
+    choose_both IsThere (strip_word (codes "!") t) _ _ (λ u _. opens_there _ _) (
+    choose_both IsThere (strip_word (codes "<=") t) _ _ (λ u _. opens_there _ _) (
+    choose_both IsThere (strip_word (codes "<!") t) _ _ (λ u _. opens_there _ _) (
+    choose_both IsThere (strip_word (codes ">") t) _ _ (λ u _. opens_there _ _) (
+    choose_both IsThere (strip_word (codes "(DEFINE)") t) _ _ (λ u _. opens_there _ _) (
+    choose_both IsThere (strip_word (codes "(") t) _ _ (λ u _. condition_ahead_there s u) (
+    choose_both IsThere (strip_word (codes "~|") t) _ _ (λ u _ e. cc) (
+    choose_both IsThere (strip_word (codes "~") t) _ _ (λ u _. repeater_there s u) (
+    choose_both IsThere (strip_word (codes "<") t) _ _ (λ u _. named_there s _) (
+    choose_both IsThere (strip_word (codes "'") t) _ _ (λ u _. named_there s _) (
+    choose_both IsThere (strip_word (codes "P<") t) _ _ (λ u _. named_there s _) (
+    choose_both IsThere (strip_word (codes "P=") t) _ _ (λ u _. leaf_there _) (
+    choose_both IsThere (strip_word (codes "P>") t) _ _ (λ u _. leaf_there _) (flags_there _))))))))))))))
 
 group_there : (s : State) (t : Text) → IsThere (group_ahead s t)
 group_there s t =
-    choice_there (strip_word (codes "?") t) _ _ (λ u. question_there s u) (
-    choice_there (strip_word (codes "*") t) _ _ (λ u. verb_there s u) (opens_there _ _))
+    choose_both IsThere (strip_word (codes "?") t) _ _ (λ u _. question_there s u) (
+    choose_both IsThere (strip_word (codes "*") t) _ _ (λ u _. verb_there s u) (opens_there _ _))
 
 behind_there : (s : State) (k : Skipped) → IsThere (behind_layout s k)
 behind_there s (rest u) = group_there s u

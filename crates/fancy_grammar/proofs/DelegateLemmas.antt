@@ -10,9 +10,9 @@ use Rattle.fancy_lex.specs.Class.{class}
 use Rattle.fancy_lex.specs.Escape.{escape}
 use Rattle.fancy_lex.specs.Escaped.{Escape}
 use Rattle.fancy_lex.specs.Fault.{Fault}
-use Rattle.fancy_lex.specs.ErrorViews.{kind_of}
+use Rattle.fancy_lex.specs.ErrorViews.{kind_of, IfFailed}
 use Rattle.fancy_lex.specs.Flags.{flags_of}
-use Rattle.fancy_lex.specs.Reading.{Reading, gives, fails, IsErrorOrNoMemory}
+use Rattle.fancy_lex.specs.Reading.{Reading, gives, fails, fault_at}
 use Rattle.fancy_lex.specs.Text.{Text}
 use Rattle.fancy_lex.specs.declared.error.Failure.{Failure}
 use Rattle.fancy_lex.specs.declared.error.Failure.TheVariants.{At, OutOfMemory}
@@ -91,7 +91,7 @@ module _ (bs : List ℕ) (f : Flags) (is : f ≡ flags_of 0) where
 -- the answer where a reading failed, unless memory ran out
 pub failed : {A : Type 0} (r : Result Bool AllocError) (error : Failure) (o : Reading A) (x : Bool) →
     IfOk r (λ b. b ≡ false) →
-    IfOk r (λ _. error ≡ OutOfMemory → ⊥) → IsErrorOrNoMemory error o → ((e : Fault) → o ≡ fails e → false ≡ x) →
+    IfOk r (λ _. error ≡ OutOfMemory → ⊥) → IfFailed error (λ k p. o ≡ fault_at p k) → ((e : Fault) → o ≡ fails e → false ≡ x) →
     IfOk r (λ b. b ≡ x)
 failed (Ok b) (At p k) o x is in_memory f faulty = is ∙ faulty (record { reach = p; kind = kind_of k }) f
 failed (Ok b) OutOfMemory o x is in_memory f faulty = absurd (in_memory refl)

@@ -5,12 +5,13 @@ use Rattle.std.proofs.lemmas.Bool.{cond_both}
 use Rattle.std.specs.List.{AllByRecursion}
 use Prim.Native.Char.{code}
 use Rattle.fancy_lex.proofs.EscapeSound.{Sound, sound_escape}
+use Rattle.fancy_lex.proofs.ReadingLemmas.{choose_both}
 use Rattle.fancy_lex.specs.Class.{class}
 use Rattle.fancy_lex.specs.Escape.{escape}
 use Rattle.fancy_lex.specs.Escaped as escaped
 use Rattle.fancy_lex.specs.Escaped.{Escape}
 use Rattle.fancy_lex.specs.LayoutSteps.{Skipped, rest, fault as open_comment}
-use Rattle.fancy_lex.specs.Reading.{Reading, gives, fails, choose}
+use Rattle.fancy_lex.specs.Reading.{Reading, gives, fails}
 use Rattle.fancy_lex.specs.Referred.{Reference, Call}
 use Rattle.fancy_lex.specs.Text.{Text, bytes, reach_of, strip_word}
 use Rattle.fancy_lex.specs.declared.flags.Flags.{Flags}
@@ -113,11 +114,6 @@ then_makes : {A B : Type 0} (P : A → Type 0) (Q : B → Type 0) (q : Outcome A
     (f : A → State → Outcome B) → Makes P q → and_then q f ≡ o →
     ((a : A) (s : State) → P a → Makes Q (f a s)) → Makes Q o
 then_makes P Q q f h e g = then_holds (λ a s. P a) (λ a s. Q a) q f h e g
-
-choose_makes : {A B : Type 0} (P : B → Type 0) (o : Option A) (f : A → B) (b : B) → ((a : A) → P (f a)) → P b →
-    P (choose o f b)
-choose_makes P (Some a) f b g h = g a
-choose_makes P None f b g h = h
 
 any_made : {A : Type 0} (o : Outcome A) → Makes (λ _. Unit {0}) o
 any_made (done a s) = tt
@@ -222,7 +218,7 @@ condition_read : (s : State) (t : Text) → ReadAhead (condition_ahead s t)
 condition_read s [] = tt
 condition_read s (c ∷ t) =
     cond_both (begins_target (c ∷ t)) _ _ ReadAhead (λ _. target_read s (condition_target (c ∷ t))) (λ _.
-    cond_both (c == code "*") _ _ ReadAhead (λ _. choose_makes ReadAhead (verb_at t) _ _ (λ p. (tt, refl, refl)) tt)
+    cond_both (c == code "*") _ _ ReadAhead (λ _. choose_both ReadAhead (verb_at t) _ _ (λ p _. (tt, refl, refl)) tt)
     (λ _. tt))
 
 repeater_read : (s : State) (t : Text) → ReadAhead (repeater_ahead s t)
@@ -232,27 +228,27 @@ repeater_read s (c ∷ t) = tt
 question_read : (s : State) (t : Text) → ReadAhead (behind_question s t)
 question_read s t =
     let P = ReadAhead in
-    choose_makes P (strip_word (codes "=") t) _ _ (λ u. tt) (
-    choose_makes P (strip_word (codes "!") t) _ _ (λ u. tt) (
-    choose_makes P (strip_word (codes "<=") t) _ _ (λ u. tt) (
-    choose_makes P (strip_word (codes "<!") t) _ _ (λ u. tt) (
-    choose_makes P (strip_word (codes ">") t) _ _ (λ u. tt) (
-    choose_makes P (strip_word (codes "(DEFINE)") t) _ _ (λ u. tt) (
-    choose_makes P (strip_word (codes "(") t) _ _ (λ u. condition_read s u) (
-    choose_makes P (strip_word (codes "~|") t) _ _ (λ u. tt) (
-    choose_makes P (strip_word (codes "~") t) _ _ (λ u. repeater_read s u) (
-    choose_makes P (strip_word (codes "<") t) _ _ (λ u. named_read s (group_name t)) (
-    choose_makes P (strip_word (codes "'") t) _ _ (λ u. named_read s (group_name t)) (
-    choose_makes P (strip_word (codes "P<") t) _ _ (λ u. named_read s (group_name t)) (
-    choose_makes P (strip_word (codes "P=") t) _ _ (λ u. backref_read s s.flags.casei (named_reference u)) (
-    choose_makes P (strip_word (codes "P>") t) _ _ (λ u. call_read s (named_call u))
+    choose_both P (strip_word (codes "=") t) _ _ (λ u _. tt) (
+    choose_both P (strip_word (codes "!") t) _ _ (λ u _. tt) (
+    choose_both P (strip_word (codes "<=") t) _ _ (λ u _. tt) (
+    choose_both P (strip_word (codes "<!") t) _ _ (λ u _. tt) (
+    choose_both P (strip_word (codes ">") t) _ _ (λ u _. tt) (
+    choose_both P (strip_word (codes "(DEFINE)") t) _ _ (λ u _. tt) (
+    choose_both P (strip_word (codes "(") t) _ _ (λ u _. condition_read s u) (
+    choose_both P (strip_word (codes "~|") t) _ _ (λ u _. tt) (
+    choose_both P (strip_word (codes "~") t) _ _ (λ u _. repeater_read s u) (
+    choose_both P (strip_word (codes "<") t) _ _ (λ u _. named_read s (group_name t)) (
+    choose_both P (strip_word (codes "'") t) _ _ (λ u _. named_read s (group_name t)) (
+    choose_both P (strip_word (codes "P<") t) _ _ (λ u _. named_read s (group_name t)) (
+    choose_both P (strip_word (codes "P=") t) _ _ (λ u _. backref_read s s.flags.casei (named_reference u)) (
+    choose_both P (strip_word (codes "P>") t) _ _ (λ u _. call_read s (named_call u))
     (flags_read (letters s.flags t)))))))))))))))
 
 group_read : (s : State) (t : Text) → ReadAhead (group_ahead s t)
 group_read s t =
-    choose_makes ReadAhead (strip_word (codes "?") t) _ _ (λ u. question_read s u) (
-    choose_makes ReadAhead (strip_word (codes "*") t) _ _
-    (λ u. choose_makes ReadAhead (verb_at u) _ _ (λ p. (tt, refl, refl)) tt) tt)
+    choose_both ReadAhead (strip_word (codes "?") t) _ _ (λ u _. question_read s u) (
+    choose_both ReadAhead (strip_word (codes "*") t) _ _
+    (λ u _. choose_both ReadAhead (verb_at u) _ _ (λ p _. (tt, refl, refl)) tt) tt)
 
 behind_read : (s : State) (k : Skipped) → ReadAhead (behind_layout s k)
 behind_read s (rest u) = group_read s u

@@ -11,6 +11,7 @@ use Rattle.std.proofs.lemmas.Bool.Decides.{nat_tests}
 use Rattle.fancy_lex.proofs.LayoutLaws.{layout_cut, layout_stands}
 use Rattle.fancy_lex.proofs.PlaceLaws.{leaves_class}
 use Rattle.fancy_lex.proofs.EscapeSound.{Sound, sound_escape}
+use Rattle.fancy_lex.proofs.ReadingLemmas.{choose_both}
 use Rattle.fancy_lex.proofs.ReferencePlaces.{IfGives, ReferenceAt, CallAt}
 use Rattle.fancy_lex.proofs.TakeLaws.{Takes, TakesSome, TakesOrFails, takes, fails_at, takes_bytes}
 use Rattle.fancy_lex.proofs.TextLemmas.{bytes-append, strip_is, strip_word_is}
@@ -240,11 +241,6 @@ then_slice : {A B : Type 0} (m : A → List Item) (w : B → List Item) (s t : S
 then_slice m w s t (done a v) f x h e g = subst (Within w s) e (g a v h)
 then_slice m w s t (fault k p) f x h e g = subst (Within w s) e (stands_in x h)
 
-choose_both : {A B : Type 0} (P : B → Type 0) (o : Option A) (f : A → B) (b : B) → ((a : A) → o ≡ Some a → P (f a)) →
-    P b → P (choose o f b)
-choose_both P (Some a) f b g h = g a refl
-choose_both P None f b g h = h
-
 -- ---- quantifiers
 
 pub suffix_slice : (l : List Item) (s w : State) (c : Counts) → Span l s.rest w.rest →
@@ -362,11 +358,8 @@ record VerbSlice (t : Text) (o : Option (BacktrackingControlVerb × Text)) : Typ
 named_slice : {t : Text} {o : Option (BacktrackingControlVerb × Text)} (v : BacktrackingControlVerb) (w : Text) →
     VerbSlice t o →
     VerbSlice t (choose (strip_word w t) (λ u. Some (v, u)) o)
-named_slice {t} {o} v w h = by_word (strip_word w t) refl
-  where
-    by_word : (m : Option Text) → strip_word w t ≡ m → VerbSlice t (choose m (λ u. Some (v, u)) o)
-    by_word (Some u) e = record { slice = word_slice w t u e }
-    by_word None e = h
+named_slice {t} v w h =
+    choose_both (VerbSlice t) (strip_word w t) _ _ (λ u e. record { slice = word_slice w t u e }) h
 
 no_verb : (t : Text) → VerbSlice t None
 no_verb t = record { slice = tt }

@@ -1,22 +1,16 @@
 -- How an error stands to a fault and to an outcome.
 use Rattle.std.specs.Prelude.{◌≡◌, ℕ, Option, Some}
 use Rattle.fancy_lex.specs.Fault.{Kind, Fault}
-use Rattle.fancy_lex.specs.ErrorViews.{kind_of}
+use Rattle.fancy_lex.specs.ErrorViews.{kind_of, IfFailed}
 use Rattle.fancy_lex.specs.declared.error.Error.{Error}
 use Rattle.fancy_lex.specs.declared.error.Error.TheVariants.{ParseError, OutOfMemory}
 use Rattle.fancy_lex.specs.declared.error.Failure.{Failure}
-use Rattle.fancy_lex.specs.declared.error.Failure.TheVariants as inside
 use Rattle.fancy_grammar.specs.State.{Outcome, fault}
 
 -- memory ran out, or P holds of the error's kind and place
 abbrev pub IfFault : Error → (Kind → ℕ → Type 0) → Type 0
 IfFault (ParseError p k) P = P (kind_of k) p
 IfFault OutOfMemory P = Unit {0}
-
--- memory ran out, or P holds of the failure's kind and reach
-abbrev pub IfFailed : Failure → (Kind → ℕ → Type 0) → Type 0
-IfFailed (inside.At q k) P = P (kind_of k) q
-IfFailed inside.OutOfMemory P = Unit {0}
 
 -- memory ran out, or the failure is of this kind, at this reach
 abbrev pub IsErrorAt : Failure → Kind → ℕ → Type 0

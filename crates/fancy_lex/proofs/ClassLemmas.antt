@@ -7,7 +7,8 @@ use Rattle.fancy_lex.specs.Class.{class_head, class_from, class, escape_in_class
 use Rattle.fancy_lex.specs.Escape.{escape}
 use Rattle.fancy_lex.specs.Escaped.{Escape}
 use Rattle.fancy_lex.specs.Fault.{invalid_class}
-use Rattle.fancy_lex.specs.Reading.{gives, fault_at, Reports, IsErrorOrNoMemory}
+use Rattle.fancy_lex.specs.ErrorViews.{IfFailed}
+use Rattle.fancy_lex.specs.Reading.{gives, fault_at, Reports}
 use Rattle.fancy_lex.specs.Text.{Text, bytes, at_end}
 use Rattle.fancy_lex.specs.declared.error.Failure.{Failure}
 use Rattle.fancy_lex.specs.declared.flags.Flags.{Flags}
@@ -60,7 +61,7 @@ module _ (f : Flags) where
     items_escape (suc k) v u m g q = rw (e, g, class_from, q) refl
 
     pub items_fault : (k : ℕ) (b : Failure) → 0 < k → c ≡ backslash → Reports b (escape f true r) →
-        IsErrorOrNoMemory b (class_from f k depth seen out t)
+        IfFailed b (λ d p. class_from f k depth seen out t ≡ fault_at p d)
     unfolding class_from
     items_fault zero b m g q = absurd (omega arith)
     items_fault (suc k) b m g q = rw (e, g, class_from) (report_fails b _ (reports_first _ _ b q))

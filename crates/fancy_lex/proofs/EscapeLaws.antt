@@ -21,8 +21,9 @@ use Rattle.fancy_lex.specs.Text.{Text, EndsWith as Ends, bytes, strip, reach_of,
 use Rattle.fancy_lex.proofs.LayoutLaws.{layout_cut, layout_stands}
 use Rattle.fancy_lex.proofs.LeaveLaws.{ends_whole, ends_past, ends_twice, stands_here, stands_past, Leaves, whole}
 use Rattle.fancy_lex.proofs.LeaveLaws.{whole_next, leaves_none, leaves_told, leaves_retold, leaves_past, leaves_if}
-use Rattle.fancy_lex.proofs.LeaveLaws.{leaves_both, leaves_choose, ends_strip, LeavesSome, ends_some, some_if}
+use Rattle.fancy_lex.proofs.LeaveLaws.{leaves_both, ends_strip, LeavesSome, ends_some, some_if}
 use Rattle.fancy_lex.proofs.LeaveLaws.{some_past, some_both, leaves}
+use Rattle.fancy_lex.proofs.ReadingLemmas.{choose_both}
 use Rattle.fancy_lex.proofs.ReferenceLaws.{takes_number, takes_numbered_reference, takes_back_reference}
 use Rattle.fancy_lex.proofs.ReferenceLaws.{takes_subroutine_call}
 use Rattle.fancy_lex.proofs.TakeLaws.{takes_leaves}
@@ -94,7 +95,7 @@ module _ (h : ℕ) where
     unfolding hexes.hex_digits
     leaves_digits zero some v t = leaves_closed some v t
     leaves_digits (suc k) some v t =
-        leaves_choose (hexes.hex_digit t)
+        choose_both (Leaves h t) (hexes.hex_digit t) _ _
         (λ p e. leaves_past (ends_some t _ p (leaves_digit t) e)
         (leaves_both (leaves_layout h x p.1) (λ _ u. leaves_digits k true (v * 16 + p.0) u)))
         (leaves_closed some v t)
@@ -106,8 +107,10 @@ module _ (h : ℕ) where
     leaves_value : (width : ℕ) (t : Text) → Leaves h t (hexes.value x h width t)
     unfolding hexes.value
     leaves_value width t =
-        leaves_choose (hexes.fixed_digits width 0 t) (λ p e. leaves (ends_some t _ p (leaves_fixed width 0 t) e))
-        (leaves_choose (strip open_brace t) (λ u e. leaves_past (ends_strip open_brace t u e) (leaves_braced u))
+        choose_both (Leaves h t) (hexes.fixed_digits width 0 t) _ _
+        (λ p e. leaves (ends_some t _ p (leaves_fixed width 0 t) e))
+        (choose_both (Leaves h t) (strip open_brace t) _ _
+        (λ u e. leaves_past (ends_strip open_brace t u e) (leaves_braced u))
         (leaves_told))
 
   module _ (f : Flags) (width : ℕ) where
@@ -144,7 +147,7 @@ module _ (p : ℕ) where
     leaves_named : (negated : Bool) (t : Text) → Leaves p t (boundary_steps.named_boundary x p negated t)
     unfolding boundary_steps.named_boundary
     leaves_named negated t = leaves_both (leaves_name (suc (length t)) t)
-        (λ w u. leaves_choose (boundaries.boundary_of_name negated w) (λ a e. whole u) (leaves_told))
+        (λ w u. choose_both (Leaves p u) (boundaries.boundary_of_name negated w) _ _ (λ a e. whole u) leaves_told)
 
     pub leaves_boundary : (negated : Bool) (t : Text) → Leaves p t (boundary_steps.boundary x p negated t)
     unfolding boundary_steps.boundary
@@ -155,7 +158,8 @@ module _ (p : ℕ) where
           (λ inside. layout_reading (layout x inside) >=>
           (λ _ v. if boundaries.at_count v then gives (boundaries.unnamed_boundary negated) t
           else boundary_steps.named_boundary x p negated inside)) (gives (boundaries.unnamed_boundary negated) t)))
-      at (rest u) e = leaves_choose (strip open_brace u) (λ inside h. braces u inside e h (layout x inside) refl)
+      at (rest u) e = choose_both (Leaves p t) (strip open_brace u) _ _
+          (λ inside h. braces u inside e h (layout x inside) refl)
           (whole t) where
             braces : (u inside : Text) → layout x t ≡ rest u → strip open_brace u ≡ Some inside → (o : Skipped) →
                 layout x inside ≡ o → Leaves p t
@@ -180,7 +184,7 @@ module _ (f : Flags) (inside : Bool) (p : ℕ) where
   unfolding property
   leaves_property c [] = none_here
   leaves_property c (d ∷ t) =
-      leaves_choose (read_property (c ∈ "P") (d ∷ t))
+      choose_both (Leaves p (d ∷ t)) (read_property (c ∈ "P") (d ∷ t)) _ _
       (λ q e. leaves (ends_some (d ∷ t) _ q (leaves_read (c ∈ "P") (d ∷ t)) e)) none_here
 
   leaves_backref_leaf : {t : Text} {o : Reading Reference} → Leaves p t o → Leaves p t (backref_leaf f o)

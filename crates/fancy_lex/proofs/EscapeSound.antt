@@ -1,6 +1,6 @@
 -- What an escape stands for is sound: a reference or call stands in the escape, and a byte is none of ASCII.
-use Rattle.std.proofs.Common.{◌≡◌, ℕ, ◌≤◌, Bool, true, false, ◌==◌, ◌&&◌, nat_le, if◌then◌else◌, not, [], ◌∷◌, Option}
-use Rattle.std.proofs.Common.{Some, None, arith, ◌+◌}
+use Rattle.std.proofs.Common.{◌≡◌, ℕ, ◌≤◌, Bool, true, false, ◌==◌, ◌&&◌, nat_le, if◌then◌else◌, not, [], ◌∷◌, arith}
+use Rattle.std.proofs.Common.{◌+◌}
 use Rattle.std.proofs.lemmas.Bool.{cond_both}
 use Rattle.std.proofs.lemmas.Bool.Decides.{nat_tests}
 use Rattle.std.specs.Char.{is_ascii_digit}
@@ -15,13 +15,14 @@ use Rattle.fancy_lex.specs.Escaped.{continue_from_previous_match_end, delegate, 
 use Rattle.fancy_lex.specs.Hex as hexes
 use Rattle.fancy_lex.specs.LayoutSteps.{layout}
 use Rattle.fancy_lex.specs.Property.{read_property}
-use Rattle.fancy_lex.specs.Reading.{Reading, gives, fails, ◌>=>◌, choose, layout_reading}
+use Rattle.fancy_lex.specs.Reading.{Reading, gives, fails, ◌>=>◌, layout_reading}
 use Rattle.fancy_lex.specs.Referred.{Reference, Call}
 use Rattle.fancy_lex.specs.Text.{Text, EndsWith as Ends, strip, reach_of}
 use Rattle.fancy_lex.specs.declared.escape.Assertion.{Assertion}
 use Rattle.fancy_lex.specs.declared.escape.Assertion.TheVariants.{LeftWordBoundary, RightWordBoundary}
 use Rattle.fancy_lex.specs.declared.flags.Flags.{Flags}
 use Rattle.fancy_lex.proofs.LeaveLaws.{ends_whole, ends_past}
+use Rattle.fancy_lex.proofs.ReadingLemmas.{choose_both}
 use Rattle.fancy_lex.proofs.ReferenceLaws.{takes_numbered_reference, takes_back_reference, takes_subroutine_call}
 use Rattle.fancy_lex.proofs.ReferencePlaces.{IfGives, ReferenceAt, CallAt, numbered_reference_at, back_reference_at}
 use Rattle.fancy_lex.proofs.ReferencePlaces.{subroutine_call_at}
@@ -70,11 +71,6 @@ sound_both : {A : Type 0} (t : Text) (o : Reading A) (f : A → Text → Reading
     ((a : A) (u : Text) → Sound t (f a u)) → Sound t (o >=> f)
 sound_both t (gives a u) f h = h a u
 sound_both t (fails e) f h = tt
-
-sound_choose : {A : Type 0} (t : Text) (o : Option A) (f : A → Reading Escape) (d : Reading Escape) →
-    ((a : A) → Sound t (f a)) → Sound t d → Sound t (choose o f d)
-sound_choose t (Some a) f d h k = h a
-sound_choose t None f d h k = k
 
 module _ (f : Flags) where
   sound_backref_leaf : (t : Text) (o : Reading Reference) → TakesOrFails (reach_of t) 1 t o →
@@ -128,21 +124,21 @@ module _ (f : Flags) where
   sound_property : (inside : Bool) (p c : ℕ) (t : Text) → Sound t (property f inside p c t)
   unfolding property
   sound_property inside p c [] = tt
-  sound_property inside p c (d ∷ t) = sound_choose (d ∷ t) (read_property (c ∈ "P") (d ∷ t)) _ _ (λ q. tt) tt
+  sound_property inside p c (d ∷ t) = choose_both (Sound (d ∷ t)) (read_property (c ∈ "P") (d ∷ t)) _ _ (λ q _. tt) tt
 
   sound_boundary : (p : ℕ) (negated : Bool) (t : Text) →
       Sound t (boundary_steps.boundary f.ignore_space p negated t)
   unfolding boundary_steps.boundary boundary_steps.named_boundary
   sound_boundary p negated t =
       sound_both t (layout_reading (layout f.ignore_space t)) _
-      (λ _ u. sound_choose t (strip open_brace u) _ _
-      (λ v. sound_both t (layout_reading (layout f.ignore_space v)) _
+      (λ _ u. choose_both (Sound t) (strip open_brace u) _ _
+      (λ v _. sound_both t (layout_reading (layout f.ignore_space v)) _
       (λ _ w. cond_both (boundaries.at_count w) _ _ (Sound t) (λ _. tt) (λ _. braces v))) tt)
     where
       braces : (v : Text) → Sound t (boundary_steps.named_boundary f.ignore_space p negated v)
       braces v =
           sound_both t (boundary_steps.name f.ignore_space p _ v) _
-          (λ w u. sound_choose t (boundaries.boundary_of_name negated w) _ _ (λ a. tt) tt)
+          (λ w u. choose_both (Sound t) (boundaries.boundary_of_name negated w) _ _ (λ a _. tt) tt)
 
   sound_outside : (p c : ℕ) (t : Text) → Sound t (outside f p c t)
   unfolding outside

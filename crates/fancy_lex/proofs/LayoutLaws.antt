@@ -1,5 +1,5 @@
 -- The reading function and the relation are one.
-use Rattle.std.proofs.Common.{◌≡◌, ◌≢◌, Result, Ok, Err, MatchResult, chars, ◌+◌, ℕ, zero, suc, Bool, true, false, List}
+use Rattle.std.proofs.Common.{◌≡◌, ◌≢◌, Result, Ok, Err, MatchResult, chars, ℕ, zero, suc, Bool, true, false, List}
 use Rattle.std.proofs.Common.{[], ◌∷◌, ◌++◌, length, Some, None, ap, sym, ◌∙◌, refl, arith, ◌⊎◌, inl, inr, append_assoc}
 use Rattle.std.proofs.Common.{append-nil, length-append, ◌<◌, ◌≤◌, Option, subst}
 use Rattle.std.proofs.lemmas.Bool.Decides.{nat_tests}

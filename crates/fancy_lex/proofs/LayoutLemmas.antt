@@ -6,7 +6,7 @@ use Rattle.fancy_lex.specs.Characters.{line_feed, hash, open_paren, close_paren,
 use Rattle.fancy_lex.specs.Text.{Text, at_end, past_end}
 use Rattle.fancy_lex.specs.Layout.{is_blank}
 use Rattle.fancy_lex.specs.LayoutSteps.{rest, fault, layout_from, between}
-use Rattle.fancy_lex.specs.LayoutSteps.{two, one, comment, escaped, line, is_layout, after_comment_head}
+use Rattle.fancy_lex.specs.LayoutSteps.{two, comment, escaped, line, is_layout, after_comment_head}
 
 module _ (x : Bool) (t : Text) where
   pub comment_end : t ≡ [] → layout_from x comment t ≡ fault at_end

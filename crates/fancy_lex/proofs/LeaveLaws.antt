@@ -6,7 +6,7 @@ use Rattle.std.specs.Option.{option_and_then}
 use Rattle.std.proofs.lemmas.Str.{len_utf8_ascii}
 use Rattle.fancy_lex.specs.Fault.{Fault, Kind}
 use Rattle.fancy_lex.specs.ErrorViews.{kind_of, StandsWithin}
-use Rattle.fancy_lex.specs.Reading.{Reading, gives, fails, fault_at, ◌>=>◌, choose, IsReadingOrNoMemory}
+use Rattle.fancy_lex.specs.Reading.{Reading, gives, fails, fault_at, ◌>=>◌, IsReadingOrNoMemory}
 use Rattle.fancy_lex.specs.Text.{Text, EndsWith as Ends, Stands, as_told, begins, beyond, bytes, reach_of, at_end}
 use Rattle.fancy_lex.specs.Text.{strip}
 use Rattle.fancy_lex.specs.declared.error.Failure.{Failure}
@@ -93,11 +93,6 @@ pub leaves_both : {A B : Type 0} {p : ℕ} {t : Text} {o : Reading A} {f : A →
     ((a : A) (u : Text) → Leaves p u (f a u)) → Leaves p t (o >=> f)
 leaves_both (leaves {u} {a} e) k = leaves_past e (k a u)
 leaves_both (faults l) k = faults l
-
-pub leaves_choose : {A B : Type 0} {p : ℕ} {t : Text} {f : A → Reading B} {d : Reading B} (o : Option A) →
-    ((a : A) → o ≡ Some a → Leaves p t (f a)) → Leaves p t d → Leaves p t (choose o f d)
-leaves_choose (Some a) l k = l a refl
-leaves_choose None l k = k
 
 pub ends_strip : (m : ℕ) (t u : Text) → strip m t ≡ Some u → Ends t u
 ends_strip m t u e = (m ∷ [], strip_is m t u e)

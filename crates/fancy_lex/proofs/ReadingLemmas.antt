@@ -1,12 +1,18 @@
 -- How one step follows another.
-use Rattle.std.proofs.Common.{◌≡◌, ℕ, List, Result, Ok, Err, refl, subst}
+use Rattle.std.proofs.Common.{◌≡◌, ℕ, List, Option, Some, None, Result, Ok, Err, refl, subst}
 use Rattle.std.specs.Borrow.{Bor}
 use Rattle.fancy_lex.specs.Text.{Text}
-use Rattle.fancy_lex.specs.Reading.{Reading, gives, fails, CarriesText, Says, Reads, Reports, Answers}
-use Rattle.fancy_lex.specs.Reading.{IsErrorOrNoMemory, IsReadingOrNoMemory}
-use Rattle.fancy_lex.specs.Reading.{Derives, ◌>=>◌}
+use Rattle.fancy_lex.specs.ErrorViews.{IfFailed}
+use Rattle.fancy_lex.specs.Reading.{Reading, gives, fails, fault_at, CarriesText, Says, Reads, Reports, Answers}
+use Rattle.fancy_lex.specs.Reading.{IsReadingOrNoMemory, Derives, choose, ◌>=>◌}
 use Rattle.fancy_lex.specs.declared.error.Failure.{Failure}
 use Rattle.fancy_lex.specs.declared.error.Failure.TheVariants.{At, OutOfMemory}
+
+-- what holds of either is so of the one that is chosen
+pub choose_both : {A B : Type 0} (P : B → Type 0) (o : Option A) (f : A → B) (b : B) →
+    ((a : A) → o ≡ Some a → P (f a)) → P b → P (choose o f b)
+choose_both P (Some a) f b g h = g a refl
+choose_both P None f b g h = h
 
 module _ {A B : Type 0} (o : Reading A) (f : A → Text → Reading B) where
   -- the fault of the first step is that of both
@@ -22,7 +28,7 @@ module _ {A B : Type 0} (o : Reading A) (f : A → Text → Reading B) where
     carried (fails d) h = h
 
 -- where memory may run out at any time
-pub report_fails : {A : Type 0} (b : Failure) (o : Reading A) → Reports b o → IsErrorOrNoMemory b o
+pub report_fails : {A : Type 0} (b : Failure) (o : Reading A) → Reports b o → IfFailed b (λ k p. o ≡ fault_at p k)
 report_fails (At p k) o e = e
 report_fails OutOfMemory o e = tt
 

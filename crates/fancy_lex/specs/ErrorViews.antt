@@ -1,5 +1,5 @@
 -- Errors, as the code holds them: what they stand for, and what they print.
-use Rattle.std.specs.Prelude.{◌≡◌, ◌≤◌, ℕ, Bool, false, List, ◌++◌, codes, string_bytes, chars}
+use Rattle.std.specs.Prelude.{◌≡◌, ◌≤◌, ℕ, Bool, false, List, ◌++◌, codes, string_bytes, chars, ⊤}
 use Rattle.std.specs.Fmt.{decimal}
 use Rattle.fancy_lex.specs.Fault.{Kind, general_parse_error, unclosed_open_paren, invalid_repeat, recursion_exceeded}
 use Rattle.fancy_lex.specs.Fault.{trailing_backslash, invalid_escape, unclosed_unicode_name, invalid_hex}
@@ -45,10 +45,18 @@ SameError (ParseError p k) (ParseError q l) = (p ≡ q) × (kind_of k ≡ kind_o
 SameError OutOfMemory OutOfMemory = Unit {0}
 SameError _ _ = ⊥
 
+-- P holds of the failure's kind and reach, or M does where memory ran out
+abbrev pub MatchFailure : Failure → Type 0 → (Kind → ℕ → Type 0) → Type 0
+MatchFailure inside.OutOfMemory M P = M
+MatchFailure (inside.At p k) M P = P (kind_of k) p
+
+-- memory ran out, or P holds of the failure's kind and reach
+abbrev pub IfFailed : Failure → (Kind → ℕ → Type 0) → Type 0
+IfFailed e P = MatchFailure e ⊤ P
+
 -- memory ran out, or the fault stands at a reach of at most m
 abbrev pub StandsWithin : ℕ → Failure → Type 0
-StandsWithin m (inside.At p k) = p ≤ m
-StandsWithin m inside.OutOfMemory = Unit {0}
+StandsWithin m e = IfFailed e (λ k p. p ≤ m)
 
 -- the error of a reader in this pattern
 abbrev pub error_in : Text → Failure → Error

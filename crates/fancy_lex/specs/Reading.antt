@@ -1,13 +1,12 @@
 -- What a reader comes to that can find a fault.
-use Rattle.std.specs.Prelude.{◌≡◌, ℕ, true, List, chars, Option, Some, None, Result, MatchResult, ⊤}
+use Rattle.std.specs.Prelude.{◌≡◌, ℕ, true, List, chars, Option, Some, None, Result, MatchResult}
 use Rattle.std.specs.Borrow.{Bor}
 use Rattle.fancy_lex.specs.Text.{Text}
 use Rattle.fancy_lex.specs.Fault.{Fault, Kind, carries_text}
-use Rattle.fancy_lex.specs.ErrorViews.{kind_of}
+use Rattle.fancy_lex.specs.ErrorViews.{MatchFailure, IfFailed}
 use Rattle.fancy_lex.specs.FaultTable.{comment_not_closed}
 use Rattle.fancy_lex.specs.LayoutSteps.{Skipped, rest, fault}
 use Rattle.fancy_lex.specs.declared.error.Failure.{Failure}
-use Rattle.fancy_lex.specs.declared.error.Failure.TheVariants.{At, OutOfMemory}
 
 -- a value and what is left of the text, or a fault
 pub data Reading (A : Type 0) : Type 0 where
@@ -40,8 +39,7 @@ layout_reading (fault p) = fails (comment_not_closed p)
 
 -- the error says the reading's fault
 abbrev pub Says : {A : Type 0} → Failure → Reading A → Type 0
-Says (At p k) o = o ≡ fault_at p (kind_of k)
-Says OutOfMemory o = ⊥
+Says e o = MatchFailure e ⊥ (λ k p. o ≡ fault_at p k)
 
 -- the code's answer is the reading, with its value seen through f
 abbrev pub Reads : {A B : Type 0} → (A → B) → Result (A × Bor (List ℕ)) Failure → Reading B → Type 0
@@ -58,27 +56,16 @@ CarriesText (fails e) = carries_text e.kind ≡ true
 
 -- the error says the reading's fault, or that memory ran out for the text that this fault carries
 abbrev pub Reports : {A : Type 0} → Failure → Reading A → Type 0
-Reports OutOfMemory o = CarriesText o
-Reports (At p k) o = o ≡ fault_at p (kind_of k)
+Reports e o = MatchFailure e (CarriesText o) (λ k p. o ≡ fault_at p k)
 
 -- the code's answer is the reading, with its value seen through f; memory is wanted for the text of a fault alone
 abbrev pub Answers : {A B : Type 0} → (A → B) → Result (A × Bor (List ℕ)) Failure → Reading B → Type 0
 Answers f r o = MatchResult r (λ p. o ≡ gives (f p.0) (chars p.1.now)) (λ e. Reports e o)
 
--- the error says the reading's fault, or that memory ran out
-abbrev pub IsErrorOrNoMemory : {B : Type 0} → Failure → Reading B → Type 0
-IsErrorOrNoMemory OutOfMemory o = ⊤
-IsErrorOrNoMemory (At p k) o = o ≡ fault_at p (kind_of k)
+-- the relation gives the code's answer, with its value seen through f, unless memory ran out
+abbrev pub Derives : {A B : Type 0} → (A → B) → Result (A × Bor (List ℕ)) Failure → (Reading B → Type 0) → Type 0
+Derives f r R = MatchResult r (λ p. R (gives (f p.0) (chars p.1.now))) (λ e. IfFailed e (λ k p. R (fault_at p k)))
 
 -- the code's answer is the reading, with its value seen through f, unless memory ran out
 abbrev pub IsReadingOrNoMemory : {A B : Type 0} → (A → B) → Result (A × Bor (List ℕ)) Failure → Reading B → Type 0
-IsReadingOrNoMemory f r o = MatchResult r (λ p. o ≡ gives (f p.0) (chars p.1.now)) (λ e. IsErrorOrNoMemory e o)
-
--- the relation gives the error's fault, or memory ran out
-abbrev pub DerivesFault : {B : Type 0} → Failure → (Reading B → Type 0) → Type 0
-DerivesFault OutOfMemory R = ⊤
-DerivesFault (At p k) R = R (fault_at p (kind_of k))
-
--- the relation gives the code's answer, with its value seen through f, unless memory ran out
-abbrev pub Derives : {A B : Type 0} → (A → B) → Result (A × Bor (List ℕ)) Failure → (Reading B → Type 0) → Type 0
-Derives f r R = MatchResult r (λ p. R (gives (f p.0) (chars p.1.now))) (λ e. DerivesFault e R)
+IsReadingOrNoMemory f r o = Derives f r (λ q. o ≡ q)

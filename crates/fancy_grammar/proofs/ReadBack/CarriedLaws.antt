@@ -24,6 +24,7 @@ use Rattle.fancy_lex.specs.Text.{Text, bytes, reach_of, strip}
 use Rattle.fancy_lex.specs.declared.flags.Flags.{Flags}
 use Rattle.fancy_lex.proofs.ClassLaws.{class_head_frame}
 use Rattle.fancy_lex.proofs.EscapeFrame.{StaysSome, read_stays, escape_frame}
+use Rattle.fancy_lex.proofs.ReadingLemmas.{choose_both}
 use Rattle.fancy_lex.proofs.TextLemmas.{bytes-append}
 use Rattle.fancy_grammar.specs.Normal.{case_flags, unicode_flags}
 
@@ -307,11 +308,6 @@ none_then : {A : Type 0} (o : Reading A) (k : A → Text → Reading Escape) →
 none_then (gives a u) k h = h a u
 none_then (fails e) k h = tt
 
-none_choose : {A : Type 0} (o : Option A) (f : A → Reading Escape) (r : Reading Escape) →
-    ((a : A) → NoDelegate (f a)) → NoDelegate r → NoDelegate (choose o f r)
-none_choose (Some a) f r g h = g a
-none_choose None f r g h = h
-
 coded_none : (f : Flags) (w h v : ℕ) (t : Text) → NoDelegate (leaf_of_value f w h v t)
 unfolding leaf_of_value
 coded_none f w h v t = by_tests (w == 2 && not f.unicode && nat_le 0x80 v && nat_le v 0xFF) (is_scalar v) where
@@ -332,10 +328,10 @@ boundary_none : (x : Bool) (p : ℕ) (negated : Bool) (t : Text) → NoDelegate 
 unfolding boundary named_boundary
 boundary_none x p negated t =
     none_then (layout_reading (layout x t)) _
-    (λ _ v. none_choose (strip open_brace v) _ _ (λ inside. none_then (layout_reading (layout x inside)) _ (λ _ w.
+    (λ _ v. choose_both NoDelegate (strip open_brace v) _ _ (λ inside _. none_then (layout_reading (layout x inside)) _ (λ _ w.
     none_if (at_count w) _ _ tt
     (none_then (name x p (suc _) inside) _
-    (λ word r. none_choose (boundary_of_name negated word) _ _ (λ a. tt) tt)))) tt)
+    (λ word r. choose_both NoDelegate (boundary_of_name negated word) _ _ (λ a _. tt) tt)))) tt)
 
 pub backref_leaf_none : (f : Flags) (o : Reading Reference) → NoDelegate (backref_leaf f o)
 backref_leaf_none f o = none_then o (λ r u. gives (backref r f.casei) u) (λ r u. tt)
