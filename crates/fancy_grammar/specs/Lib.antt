@@ -4,7 +4,6 @@
 pub mod Label
 pub mod Tree
 pub mod Same
-pub mod SameLaws
 -- ---- reading: the grammar, and the faults that it comes to
 pub mod Depth
 pub mod State
