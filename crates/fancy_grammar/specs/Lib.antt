@@ -1,4 +1,4 @@
--- What a pattern means: what the contracts of its parser and its printer speak of.
+-- What a pattern means: what the public contracts of its parser and its printer speak of.
 
 -- ---- trees, and when two are the same
 pub mod Label
@@ -29,9 +29,9 @@ pub mod Normal
 pub mod Printable
 pub mod Over
 pub mod ReadBack
--- What only the laws, the private contracts and the proofs of the code speak of.
+-- What no public contract speaks of, but private ones of the parser and the resolver do.
 
--- ---- readings
+-- ---- reading
 pub mod Plain
 pub mod Slices
 -- ---- resolving
