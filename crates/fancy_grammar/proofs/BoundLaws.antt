@@ -32,7 +32,6 @@ use Rattle.fancy_parts.specs.Ranks.{only_named}
 use Rattle.fancy_grammar.specs.Preorder.{preorder}
 use Rattle.fancy_grammar.specs.Quantified.{quants, adjacent, max_adjacent, is_unmoved, quant, quant_at, with_counts}
 use Rattle.fancy_grammar.specs.Quantified.{suffix, is_swapped, quantified, is_repeatable, is_dropped}
-use Rattle.fancy_grammar.specs.Slices.{Within}
 use Rattle.fancy_grammar.specs.State.{skipped, State, at, Outcome, done, fault}
 use Rattle.fancy_grammar.specs.Quantified.{Suffix}
 use Rattle.fancy_grammar.specs.Tree.{Tree, more_trees, empty, concat, alt, expression, trees_of, list_of, nodes}
@@ -41,7 +40,7 @@ use Rattle.fancy_grammar.specs.Tree.{levels, levels_all}
 use Rattle.fancy_grammar.proofs.LevelLaws.{nodes_preorder, resolved_size, resolved_levels}
 use Rattle.fancy_grammar.proofs.OutcomeLemmas.{Holds, then_holds, behind_keeps}
 use Rattle.fancy_grammar.proofs.ReadLaws.{Makes, IsReadLeaf, ReadAhead, ahead_read}
-use Rattle.fancy_grammar.proofs.Slices.{one_bytes, fits, here, bare, skipped_slice, suffix_slice, counts_past}
+use Rattle.fancy_grammar.proofs.Slices.{Within, one_bytes, fits, here, bare, skipped_slice, suffix_slice, counts_past}
 use Rattle.fancy_grammar.proofs.Slices.{LeafSlice, AheadSlice, ahead_slice, layout_slice, SkippedSlice, trees_back}
 
 -- ---- what trees count

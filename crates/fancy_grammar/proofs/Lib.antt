@@ -1,3 +1,5 @@
+-- ---- when two trees are the same
+pub mod SameLaws
 -- ---- reading: each start has one outcome
 pub mod OutcomeLemmas
 pub mod AheadLemmas

@@ -9,11 +9,10 @@ use Rattle.fancy_lex.specs.declared.error.Failure.TheVariants.{At, OutOfMemory}
 use Rattle.fancy_lex.specs.Characters.{bar}
 use Rattle.fancy_lex.specs.declared.flags.Flags.{Flags}
 use Rattle.fancy_grammar.specs.Ahead.{Ahead, nothing, leaf, with_head, condition, body, absent_branch}
-use Rattle.fancy_grammar.specs.Grammar.{trees_before, restored, behind_atom, Branch, Branches, more, Piece, Pieces}
-use Rattle.fancy_grammar.specs.Grammar.{next}
+use Rattle.fancy_grammar.specs.Grammar.{restored, behind_atom, Branch, Branches, more, Piece, Pieces, next}
 use Rattle.fancy_grammar.specs.Join.{is_empty, solid}
 use Rattle.fancy_grammar.specs.Errors.{IsErrorAmong, IsErrorAt}
-use Rattle.fancy_grammar.specs.State.{ends, State, at, Outcome, done, fault, and_then}
+use Rattle.fancy_grammar.specs.State.{ends, State, at, Outcome, done, fault, and_then, seen_through}
 use Rattle.fancy_grammar.specs.Tree.{Tree}
 
 -- the same tree with other flags
@@ -60,6 +59,10 @@ IsErrorAmong-is P OutOfMemory k p h d = tt
 pub at_done : {A : Type 0} (P : Outcome A → Type 0) {a b : A} {s t : State} → b ≡ a → t ≡ s → P (done a s) →
     P (done b t)
 at_done P e f h = rw (e, f) h
+
+-- the trees so far, before those that follow
+abbrev pub trees_before : List Tree → Outcome (List Tree) → Outcome (List Tree)
+trees_before l = seen_through (λ m. l ++ m)
 
 pub before-nil : (o : Outcome (List Tree)) → trees_before [] o ≡ o
 before-nil (done l s) = refl

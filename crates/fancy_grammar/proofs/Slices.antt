@@ -25,7 +25,7 @@ use Rattle.fancy_lex.specs.Fault.{Kind}
 use Rattle.fancy_lex.specs.LayoutSteps.{layout, Skipped, rest, fault as open_comment}
 use Prim.Native.Char.{code}
 use Rattle.fancy_lex.specs.Reading.{Reading, gives, fails, choose}
-use Rattle.fancy_lex.specs.Text.{Text, EndsWith, begins, bytes, reach_of, strip, strip_word}
+use Rattle.fancy_lex.specs.Text.{Text, EndsWith, Stands, begins, bytes, past_end, reach_of, strip, strip_word}
 use Rattle.fancy_lex.specs.declared.flags.Flags.{Flags}
 use Rattle.fancy_parts.proofs.CountLaws.{Closed, takes_counts, closes_counts}
 use Rattle.fancy_parts.proofs.FlagLaws.{leaves_letters}
@@ -57,7 +57,7 @@ use Rattle.fancy_grammar.specs.Quantified.{quants, adjacent, max_adjacent, is_un
 use Rattle.fancy_grammar.specs.Quantified.{suffix, suffix_at, behind_lazy, may_be_possessive, is_swapped, quantified}
 use Rattle.fancy_grammar.specs.Quantified.{is_repeatable, is_dropped}
 use Rattle.fancy_grammar.specs.Ordered.{DescendingReaches, reach_of_item}
-use Rattle.fancy_grammar.specs.Slices.{Slice, Span, Within, MayStand, items_of}
+use Rattle.fancy_grammar.specs.Slices.{Slice}
 use Rattle.fancy_grammar.specs.State.{skipped, State, at, Outcome, done, fault, and_then}
 use Rattle.fancy_grammar.specs.Tree.{Tree, Trees, no_trees, more_trees, empty, concat, alt, delegate, expression}
 use Rattle.fancy_grammar.specs.Tree.{trees_of, list_of}
@@ -65,6 +65,25 @@ use Rattle.fancy_grammar.specs.Verb.{verb_at}
 use Rattle.fancy_grammar.specs.declared.kinds.BacktrackingControlVerb.{BacktrackingControlVerb}
 use Rattle.fancy_grammar.specs.declared.kinds.BacktrackingControlVerb.TheVariants.{Fail, Accept, Commit, Skip, Prune}
 use Rattle.fancy_grammar.specs.Quantified.{Suffix}
+
+-- in a pattern that ends with t: the reach of where an end of t begins, or of one past the end
+abbrev pub MayStand : Text → ℕ → Type 0
+MayStand t p = Stands past_end t p
+
+-- a slice lies between the beginnings of t and u, and the items stand in it one behind another
+pub record Span (l : List Item) (t u : Text) : Type 0 where
+  pub slice : Slice t u
+  pub descends : DescendingReaches (reach_of t + 1) (reach_of u + 1) l
+  pub stand : AllByRecursion (λ i. MayStand t (reach_of_item i)) l
+
+-- what was read has its items in its slice, or the fault stands at an end of the text or one past it
+abbrev pub Within : {A : Type 0} → (A → List Item) → State → Outcome A → Type 0
+Within m s (done a t) = Span (m a) s.rest t.rest
+Within m s (fault k p) = MayStand s.rest p
+
+-- the items of several trees
+abbrev pub items_of : List Tree → List Item
+items_of l = items_all (trees_of l)
 
 -- ---- slices
 

@@ -20,13 +20,12 @@ use Rattle.fancy_grammar.specs.Items.{items, openings, numbers_in}
 use Rattle.fancy_grammar.specs.Marks.{Marks, marks}
 use Rattle.fancy_grammar.specs.Errors.{IsErrorAmong, IsErrorIn}
 use Rattle.fancy_grammar.specs.Ordered.{DescendingReaches}
-use Rattle.fancy_grammar.specs.Slices.{MayStand}
 use Rattle.fancy_grammar.proofs.ReadBack.ScalarLemmas.{scalars_behind}
 use Rattle.fancy_grammar.specs.Resolved.{resolved, fault_of}
 use Rattle.fancy_grammar.specs.State.{Outcome, fault}
 use Rattle.fancy_grammar.specs.Tree.{Tree}
 use Rattle.fancy_grammar.proofs.OrderLaws.{fault_place}
-use Rattle.fancy_grammar.proofs.Slices.{fault_stands, items_stand, ordered_within}
+use Rattle.fancy_grammar.proofs.Slices.{MayStand, fault_stands, items_stand, ordered_within}
 use Rattle.fancy_grammar.proofs.Unique.{whole_unique}
 
 pub same_tree : {f : Flags} {text : Text} {r q : Tree} → DerivesTree f text r → DerivesTree f text q → q ≡ r

@@ -2,7 +2,7 @@
 -- A part that comes first has a rule for its fault; where a part is the last, its outcome decides the whole.
 -- Layout, classes, the letters of flag groups, boundaries, hex codes, numbers, names and id references stand in the
 -- premises as functions; that these are the relations in the same files is said in `Premises`.
-use Rattle.std.specs.Prelude.{◌≡◌, ℕ, ◌+◌, ◌==◌, Bool, true, false, not, ◌&&◌, List, [], ◌∷◌, ◌++◌, Some, None}
+use Rattle.std.specs.Prelude.{◌≡◌, ℕ, ◌+◌, ◌==◌, Bool, true, false, not, ◌&&◌, List, [], ◌∷◌, Some, None}
 use Rattle.std.specs.Prelude.{if◌then◌else◌}
 use Prim.Native.Char.{code}
 use Rattle.fancy_lex.specs.Characters.{bar}
@@ -172,7 +172,3 @@ DerivesTree f text r = (t : State) × Whole f text (done r t)
 -- the reading of the text ends with this fault, at this place
 abbrev pub Faults : Flags → Text → Kind → ℕ → Type 0
 Faults f text k p = (q : ℕ) × Whole f text (fault k q) × (p ≡ place_at (bytes text) q)
-
--- the trees so far, before those that follow
-abbrev pub trees_before : List Tree → Outcome (List Tree) → Outcome (List Tree)
-trees_before l = seen_through (λ m. l ++ m)

@@ -1,10 +1,9 @@
--- What a pattern means: what the contracts of its parser and its printer speak of.
+-- What a pattern means: what the public contracts of its parser and its printer speak of.
 
 -- ---- trees, and when two are the same
 pub mod Label
 pub mod Tree
 pub mod Same
-pub mod SameLaws
 -- ---- reading: the grammar, and the faults that it comes to
 pub mod Depth
 pub mod State
@@ -30,9 +29,9 @@ pub mod Normal
 pub mod Printable
 pub mod Over
 pub mod ReadBack
--- What only the laws, the private contracts and the proofs of the code speak of.
+-- What no public contract speaks of, but private ones of the parser and the resolver do.
 
--- ---- readings
+-- ---- reading
 pub mod Plain
 pub mod Slices
 -- ---- resolving

@@ -2,7 +2,7 @@
 use Rattle.std.proofs.Common.{◌≡◌, ℕ, Bool, true, false, ◌∙◌, refl, ap, sym, subst}
 use Rattle.fancy_grammar.specs.Same.{same}
 use Rattle.fancy_grammar.specs.Label as label
-use Rattle.fancy_grammar.specs.SameLaws.{same-Decides}
+use Rattle.fancy_grammar.proofs.SameLaws.{same-Decides}
 use Rattle.fancy_grammar.specs.Tree.{Tree, leaf, over, row}
 use Rattle.fancy_syntax.specs.View.{view, view_absent, view_ast, absent_step, ast_step, expr_step}
 use Rattle.fancy_syntax.specs.declared.expr.Absent.{Absent, out-Absent, map-Absent, fold_out-Absent}

@@ -27,7 +27,6 @@ use Rattle.fancy_syntax.specs.Machine.{node_of_part, goes_on, ended_part, Began,
 use Rattle.fancy_syntax.specs.Machine.{OpenGroups, Running}
 use Rattle.fancy_syntax.specs.Machine.{outermost, inner, HoldsTrees, IsStep, OpensBelow, Takes}
 use Rattle.fancy_grammar.specs.Depth.{max_depth}
-use Rattle.fancy_grammar.specs.Grammar.{trees_before}
 use Rattle.fancy_grammar.specs.Head.{group_node}
 use Rattle.fancy_grammar.specs.Quantified.{quants}
 use Rattle.fancy_grammar.specs.Errors.{IsErrorAmong}
@@ -38,7 +37,7 @@ use Rattle.fancy_syntax.specs.declared.grammar.step.Step.{Step}
 use Rattle.fancy_syntax.specs.declared.grammar.step.Step.TheVariants as step
 use Rattle.fancy_lex.proofs.TextLemmas.{strip_is}
 use Rattle.fancy_grammar.proofs.OutcomeLemmas.{IsErrorAmong-map, before-nil, before-push, more_any, next_any}
-use Rattle.fancy_grammar.proofs.OutcomeLemmas.{solid-append}
+use Rattle.fancy_grammar.proofs.OutcomeLemmas.{trees_before, solid-append}
 use Rattle.fancy_grammar.proofs.Slices.{here, on, piece_slice, strip_slice}
 
 -- ---- a step
@@ -175,7 +174,7 @@ reading_piece {r} cs qs h e a i j = record {
   begin = h.begin;
   read = h.read ++ r ∷ [];
   same = solid-append h.read (r ∷ []) ∙ ap (λ x. x ++ solid (r ∷ [])) h.same ∙ sym j;
-  branch = λ o p. rw before-push (h.branch _ (next_any o e a p));
+  branch = λ o p. rw (before-push h.read r o) (h.branch _ (next_any o e a p));
   all = λ o b. rw i (h.all o b);
   one = λ k. ((h.one k).0, i ∙ (h.one k).1);
   slice = on h.slice (piece_slice a).slice;

@@ -5,7 +5,7 @@ use Rattle.std.specs.Bool.{Decides}
 use Rattle.std.proofs.lemmas.List.{get_or-map, length-map, map_more, take_all}
 use Rattle.fancy_syntax.proofs.ChildrenLemmas.{list_of_trees_of}
 use Rattle.fancy_grammar.specs.Same.{same, same_all}
-use Rattle.fancy_grammar.specs.SameLaws.{same-Decides, all-Decides}
+use Rattle.fancy_grammar.proofs.SameLaws.{same-Decides, all-Decides}
 use Rattle.fancy_grammar.specs.Tree.{Tree, list_of, trees_of}
 use Rattle.fancy_syntax.specs.View.{view, views}
 use Rattle.fancy_syntax.specs.declared.expr.Expr.{Expr}

@@ -6,7 +6,6 @@ pub mod View
 pub mod Children
 pub mod Descendants
 pub use Rattle.fancy_grammar.specs.Same
-pub use Rattle.fancy_grammar.specs.SameLaws
 pub mod Loans
 pub mod Writes
 -- ---- reading: the grammar, what references mean, and what is answered

@@ -10,13 +10,13 @@ use Rattle.fancy_grammar.specs.Ahead.{ahead}
 use Rattle.fancy_grammar.specs.Depth.{max_depth}
 use Rattle.fancy_grammar.specs.Ahead as seen
 use Rattle.fancy_grammar.specs.Grammar.{Alternation, Branches, Branch, Pieces, Piece, Inside, closed, is_condition}
-use Rattle.fancy_grammar.specs.Grammar.{branches_of, conditional_of, clear_or_stopper, trees_before}
+use Rattle.fancy_grammar.specs.Grammar.{branches_of, conditional_of, clear_or_stopper}
 use Rattle.fancy_grammar.specs.Head.{Head, group_node}
 use Rattle.fancy_grammar.specs.Join.{solid}
 use Rattle.fancy_grammar.specs.Slices.{Slice}
 use Rattle.fancy_syntax.specs.Parsed.{head_of, state}
 use Rattle.fancy_grammar.specs.Errors.{IsErrorAmong}
-use Rattle.fancy_grammar.specs.State.{ends, skipped, State, at, Outcome, done, faulted}
+use Rattle.fancy_grammar.specs.State.{ends, skipped, State, at, Outcome, done, faulted, seen_through}
 use Rattle.fancy_grammar.specs.Tree.{Tree, expression}
 use Rattle.fancy_syntax.specs.View.{view, views}
 use Rattle.fancy_syntax.specs.declared.grammar.frame.Frame.{Frame}
@@ -152,8 +152,8 @@ pub record ReadSoFar (d : ℕ) (p : OpenPart) (s : State) (branches pieces : Lis
   pub begin : State
   pub read : List Tree
   pub same : solid read ≡ pieces
-  pub branch : (o : Outcome (List Tree)) → Pieces d t o → Pieces d begin (trees_before read o)
-  pub all : (o : Outcome (List Tree)) → Branches d begin o → Branches d s (trees_before branches o)
+  pub branch : (o : Outcome (List Tree)) → Pieces d t o → Pieces d begin (seen_through (λ l. read ++ l) o)
+  pub all : (o : Outcome (List Tree)) → Branches d begin o → Branches d s (seen_through (λ l. branches ++ l) o)
   pub one : holds_one p ≡ true → (begin ≡ s) × (branches ≡ [])
   pub slice : Slice s.rest t.rest
 

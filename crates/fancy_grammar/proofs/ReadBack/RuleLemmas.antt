@@ -30,7 +30,6 @@ use Rattle.fancy_grammar.specs.Items.{Item, opening, reference, items, items_all
 use Rattle.fancy_grammar.specs.Label as label
 use Rattle.fancy_grammar.specs.Label.{Row}
 use Rattle.fancy_grammar.specs.Join.{is_empty, solid, one_or, join, choice}
-use Rattle.fancy_grammar.specs.Grammar.{trees_before}
 use Rattle.fancy_grammar.specs.Quantified as quantified
 use Rattle.fancy_grammar.specs.Quantified.{is_repeatable, may_be_possessive, quant, quant_at, quants}
 use Rattle.fancy_grammar.specs.Quantified.{adjacent, max_adjacent, behind_lazy, suffix, suffix_at}
@@ -39,7 +38,7 @@ use Rattle.fancy_grammar.specs.State.{skipped, State, Outcome, done, fault, and_
 use Rattle.fancy_grammar.specs.Tree as tree
 use Rattle.fancy_grammar.specs.Tree.{Tree, row, empty, literal, concat, repeat, trees_of, ast_node}
 use Rattle.fancy_grammar.specs.Tree.{ast_group}
-use Rattle.fancy_grammar.proofs.OutcomeLemmas.{before-nil, solid-append}
+use Rattle.fancy_grammar.proofs.OutcomeLemmas.{trees_before, before-nil, solid-append}
 use Rattle.fancy_grammar.specs.Normal.{unicode_flags, case_flags}
 use Rattle.fancy_grammar.proofs.ReadBack.InFront.{put_as}
 use Rattle.fancy_grammar.proofs.ReadBack.ClearLemmas.{Clear, no_layout, clear_counts, clear_lazy, clear_star}

@@ -2,7 +2,7 @@
 ghost use Rattle.std.specs.Prelude.{chars, ◌≡◌, ◌↔◌, IsTrue, option_map};
 ghost use Rattle.std.specs.Cmp.{on_per, on_equiv, partial_equiv_from_equiv};
 ghost use Rattle.fancy_grammar.specs.Same.{same, same_all, same_name};
-ghost use Rattle.fancy_grammar.specs.SameLaws.{same-equiv};
+ghost use Rattle.fancy_grammar.proofs.SameLaws.{same-equiv};
 ghost use Rattle.fancy_grammar.specs.Tree.{trees_of};
 ghost use Rattle.fancy_syntax.specs.View.{view, views, view_ast, view_absent};
 

@@ -1,5 +1,5 @@
 use Rattle.std.proofs.lemmas.Bool.Decides.{Decides-at}
-use Rattle.fancy_grammar.specs.SameLaws.{same-Decides}
+use Rattle.fancy_grammar.proofs.SameLaws.{same-Decides}
 use Rattle.fancy_syntax.proofs.expr.equality.AstNodePartialEq.eq.Goals as goal
 
 pub returns-clause-decides : goal.returns-clause-decides
