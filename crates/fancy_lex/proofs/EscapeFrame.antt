@@ -7,7 +7,7 @@ use Rattle.std.proofs.lemmas.Bool.Decides.{nat_tests}
 use Rattle.std.specs.Char.{digit_value, is_ascii_digit}
 use Rattle.fancy_lex.specs.Characters.{open_paren, open_brace, close_brace, close_paren, backslash, line_feed, hash}
 use Rattle.fancy_lex.specs.Characters.{◌∈◌}
-use Rattle.fancy_lex.specs.Escape.{escape, escape_at, number_escape, property, in_class, is_itself}
+use Rattle.fancy_lex.specs.Escape.{escape, escape_at, number_escape, property, lone_escape, unknown_escape}
 use Rattle.fancy_lex.specs.EscapeReference.{group_number}
 use Rattle.fancy_lex.specs.Escaped.{Escape, delegate, literal, literal_bytes}
 use Rattle.fancy_lex.specs.Fault.{invalid_class, invalid_hex, invalid_codepoint_value, unclosed_unicode_name}
@@ -355,13 +355,10 @@ number_escape_stays : (f : Flags) (p : ℕ) (t : Text) (there : Text → Reading
 unfolding number_escape
 number_escape_stays f p t there = numbered_on p there (group_number t)
 
-value_stays : (e : Escape) (t : Text) → Stays (gives e t) (λ s. gives e (t ++ s))
-value_stays e t = λ s. refl
-
-in_class_stays : (p q c : ℕ) (t : Text) → Stays (in_class p c t) (λ s. in_class q c (t ++ s))
-unfolding in_class
-in_class_stays p q c t = stays_if (c ∈ "b") _ _ _ _ (value_stays _ t)
-    (stays_if (c ∈ "kAzBKGR") _ _ _ _ (value_stays _ t) tt)
+lone_stays : (p q c : ℕ) (t : Text) (o : Option Escape) →
+    Stays (choose o (λ e. gives e t) (unknown_escape p c)) (λ s. choose o (λ e. gives e (t ++ s)) (unknown_escape q c))
+lone_stays p q c t (Some e) = λ s. refl
+lone_stays p q c t None = tt
 
 escape_stays : (f : Flags) (p q : ℕ) (t : Text) →
     Stays (escape_at f true p t) (λ s. escape_at f true q (t ++ s))
@@ -369,22 +366,10 @@ unfolding escape_at
 escape_stays f p q [] = tt
 escape_stays f p q (c ∷ t) =
     stays_if (is_ascii_digit c) _ _ _ _ (number_escape_stays f p (c ∷ t) _)
-    (stays_if (c ∈ "dDsSwW") _ _ _ _ (value_stays _ t)
-    (stays_if (c ∈ "h") _ _ _ _ (value_stays _ t)
-    (stays_if (c ∈ "H") _ _ _ _ (value_stays _ t)
     (stays_if (c ∈ "x") _ _ _ _ (hex_stays f 1 t)
     (stays_if (c ∈ "u") _ _ _ _ (hex_stays f 3 t)
     (stays_if (c ∈ "U") _ _ _ _ (hex_stays f 7 t)
-    (stays_if (c ∈ "pP") _ _ _ _ (property_stays f p q c t)
-    (stays_if (c ∈ "a") _ _ _ _ (value_stays _ t)
-    (stays_if (c ∈ "f") _ _ _ _ (value_stays _ t)
-    (stays_if (c ∈ "n") _ _ _ _ (value_stays _ t)
-    (stays_if (c ∈ "r") _ _ _ _ (value_stays _ t)
-    (stays_if (c ∈ "t") _ _ _ _ (value_stays _ t)
-    (stays_if (c ∈ "v") _ _ _ _ (value_stays _ t)
-    (stays_if (c ∈ "e") _ _ _ _ (value_stays _ t)
-    (stays_if (is_itself true c) _ _ _ _ (value_stays _ t)
-    (in_class_stays p q c t))))))))))))))))
+    (stays_if (c ∈ "pP") _ _ _ _ (property_stays f p q c t) (lone_stays p q c t (lone_escape f true c))))))
 
 -- what the escape stands for and what is left stay the same
 pub escape_frame : (f : Flags) (t u s : Text) (e : Escape) → escape f true t ≡ gives e u →

@@ -8,7 +8,6 @@ use Rattle.fancy_lex.specs.Boundary as boundaries
 use Rattle.fancy_lex.specs.BoundarySteps as boundary_steps
 use Rattle.fancy_lex.specs.Characters.{open_brace, close_brace, ◌∈◌}
 use Rattle.fancy_lex.specs.Escape.{escape, escape_at, number_escape, call_escape, backref_leaf, property, outside}
-use Rattle.fancy_lex.specs.Escape.{in_class}
 use Rattle.fancy_lex.specs.EscapeReference.{back_reference}
 use Rattle.fancy_lex.specs.Escaped.{Escape}
 use Rattle.fancy_lex.specs.Fault.{Kind, invalid_escape}
@@ -213,12 +212,7 @@ module _ (f : Flags) (inside : Bool) (p : ℕ) where
 
   leaves_outside : (c : ℕ) (t : Text) → Leaves p t (outside f p c t)
   unfolding outside
-  leaves_outside c t = search (leaves_if, whole, none_here, boundary_here, leaves_named_reference, leaves_call) depth 60
-      fits 3000
-
-  leaves_in_class : (c : ℕ) (t : Text) → Leaves p t (in_class p c t)
-  unfolding in_class
-  leaves_in_class c t = search (leaves_if, whole, none_here)
+  leaves_outside c t = search (leaves_if, none_here, boundary_here, leaves_named_reference, leaves_call)
 
   -- the same behind the letter
   module _ (c d : ℕ) (t : Text) where
@@ -231,8 +225,9 @@ module _ (f : Flags) (inside : Bool) (p : ℕ) where
     property_next : Leaves p (d ∷ t) (property f inside p c t)
     property_next = leaves_past past (leaves_property c t)
 
-    in_class_next : Leaves p (d ∷ t) (in_class p c t)
-    in_class_next = leaves_past past (leaves_in_class c t)
+    lone_next : (o : Option Escape) (r : Reading Escape) → Leaves p (d ∷ t) r →
+        Leaves p (d ∷ t) (choose o (λ e. gives e t) r)
+    lone_next o r = choose_both (Leaves p (d ∷ t)) o _ _ (λ e _. whole_next t)
 
     outside_next : Leaves p (d ∷ t) (outside f p c t)
     outside_next = leaves_past past (leaves_outside c t)
@@ -241,8 +236,7 @@ module _ (f : Flags) (inside : Bool) (p : ℕ) where
   unfolding escape_at
   leaves_escape_at [] = none_here
   leaves_escape_at (c ∷ t) =
-      search (leaves_if, whole_next, leaves_number_escape, hex_next, property_next, in_class_next, outside_next) depth
-      60 fits 3000
+      search (leaves_if, none_here, leaves_number_escape, hex_next, property_next, lone_next, outside_next) depth 10
 
 -- the end of the text is left, or the fault stands there, or at the backslash
 pub leaves_escape : (f : Flags) (inside : Bool) (t : Text) → Leaves (reach_of t + 1) t (escape f inside t)

@@ -1,6 +1,6 @@
 -- What an escape stands for is sound: a reference or call stands in the escape, and a byte is none of ASCII.
-use Rattle.std.proofs.Common.{◌≡◌, ℕ, ◌≤◌, Bool, true, false, ◌==◌, ◌&&◌, nat_le, if◌then◌else◌, not, [], ◌∷◌, arith}
-use Rattle.std.proofs.Common.{◌+◌}
+use Rattle.std.proofs.Common.{◌≡◌, ℕ, ◌≤◌, Bool, true, false, ◌==◌, ◌&&◌, nat_le, not, [], ◌∷◌, arith}
+use Rattle.std.proofs.Common.{◌+◌, Some, rules}
 use Rattle.std.proofs.lemmas.Bool.{cond_both}
 use Rattle.std.proofs.lemmas.Bool.Decides.{nat_tests}
 use Rattle.std.specs.Char.{is_ascii_digit}
@@ -8,7 +8,7 @@ use Rattle.fancy_lex.specs.Boundary as boundaries
 use Rattle.fancy_lex.specs.BoundarySteps as boundary_steps
 use Rattle.fancy_lex.specs.Characters.{open_brace, ◌∈◌}
 use Rattle.fancy_lex.specs.Escape.{escape, escape_at, number_escape, call_escape, backref_leaf, property}
-use Rattle.fancy_lex.specs.Escape.{outside, in_class, is_itself}
+use Rattle.fancy_lex.specs.Escape.{outside, lone_escape, lone_outside}
 use Rattle.fancy_lex.specs.EscapeReference.{group_number, numbered_reference, back_reference, subroutine_call}
 use Rattle.fancy_lex.specs.Escaped.{Escape, literal, literal_bytes, any, assertion, general_newline, keep_out}
 use Rattle.fancy_lex.specs.Escaped.{continue_from_previous_match_end, delegate, backref, subroutine_call as called}
@@ -18,10 +18,9 @@ use Rattle.fancy_lex.specs.Property.{read_property}
 use Rattle.fancy_lex.specs.Reading.{Reading, gives, fails, ◌>=>◌, layout_reading}
 use Rattle.fancy_lex.specs.Referred.{Reference, Call}
 use Rattle.fancy_lex.specs.Text.{Text, EndsWith as Ends, strip, reach_of}
-use Rattle.fancy_lex.specs.declared.escape.Assertion.{Assertion}
-use Rattle.fancy_lex.specs.declared.escape.Assertion.TheVariants.{LeftWordBoundary, RightWordBoundary}
 use Rattle.fancy_lex.specs.declared.flags.Flags.{Flags}
 use Rattle.fancy_lex.proofs.LeaveLaws.{ends_whole, ends_past}
+use Rattle.fancy_lex.proofs.LoneLemmas.{AtRows, of_lone}
 use Rattle.fancy_lex.proofs.ReadingLemmas.{choose_both}
 use Rattle.fancy_lex.proofs.ReferenceLaws.{takes_numbered_reference, takes_back_reference, takes_subroutine_call}
 use Rattle.fancy_lex.proofs.ReferencePlaces.{IfGives, ReferenceAt, CallAt, numbered_reference_at, back_reference_at}
@@ -144,29 +143,17 @@ module _ (f : Flags) where
   unfolding outside
   sound_outside p c t =
       let P = Sound t in
-      cond_both (c ∈ "A") _ _ P (λ _. tt) (λ _.
-      cond_both (c ∈ "z") _ _ P (λ _. tt) (λ _.
-      cond_both (c ∈ "Z") _ _ P (λ _. tt) (λ _.
-      cond_both (c ∈ "K") _ _ P (λ _. tt) (λ _.
-      cond_both (c ∈ "G") _ _ P (λ _. tt) (λ _.
-      cond_both (c ∈ "R") _ _ P (λ _. tt) (λ _.
-      cond_both (c ∈ "O") _ _ P (λ _. tt) (λ _.
-      cond_both (c ∈ "N") _ _ P (λ _. tt) (λ _.
-      cond_both (c ∈ "<") _ _ P (λ _. mark LeftWordBoundary) (λ _.
-      cond_both (c ∈ ">") _ _ P (λ _. mark RightWordBoundary) (λ _.
       cond_both (c ∈ "k") _ _ P (λ _. sound_named t) (λ _.
       cond_both (c ∈ "g") _ _ P (λ _. sound_call p c t) (λ _.
-      cond_both (c ∈ "b") _ _ P (λ _. sound_boundary p _ t) (λ _.
-      cond_both (c ∈ "B") _ _ P (λ _. sound_boundary p _ t) (λ _. tt))))))))))))))
-    where
-      mark : (a : Assertion) → Sound t (gives (if f.oniguruma_mode then literal c false else assertion a) t)
-      mark a = cond_both f.oniguruma_mode _ _ (λ e. Sound t (gives e t)) (λ _. tt) (λ _. tt)
+      cond_both (c ∈ "bB") _ _ P (λ _. sound_boundary p _ t) (λ _. tt)))
 
-  sound_in_class : (p c : ℕ) (t : Text) → Sound t (in_class p c t)
-  unfolding in_class
-  sound_in_class p c t =
-      cond_both (c ∈ "b") _ _ (Sound t) (λ _. tt)
-      (λ _. cond_both (c ∈ "kAzBKGR") _ _ (Sound t) (λ _. tt) (λ _. tt))
+  sound_lone : (inside : Bool) (c : ℕ) (t u : Text) (e : Escape) → lone_escape f inside c ≡ Some e → IsSound t u e
+  sound_lone inside c t u =
+      of_lone (IsSound t u) f inside c (λ _. tt) (search rules)
+      (cond_both inside _ _ (AtRows (IsSound t u) c) (λ _. search rules) (λ _. outside_rows))
+    where
+      outside_rows : AtRows (IsSound t u) c (lone_outside f c)
+      outside_rows = search rules
 
   -- of all that an escape stands for
   pub sound_escape : (inside : Bool) (t : Text) → Sound t (escape f inside t)
@@ -176,20 +163,9 @@ module _ (f : Flags) where
       let P = Sound (c ∷ t) in
       let p = reach_of (c ∷ t) + 1 in
       cond_both (is_ascii_digit c) _ _ P (λ _. sound_number_escape inside p (c ∷ t)) (λ _.
-      cond_both (c ∈ "dDsSwW") _ _ P (λ _. tt) (λ _.
-      cond_both (c ∈ "h") _ _ P (λ _. tt) (λ _.
-      cond_both (c ∈ "H") _ _ P (λ _. tt) (λ _.
       cond_both (c ∈ "x") _ _ P (λ _. sound_past c t _ (sound_hex 2 t)) (λ _.
       cond_both (c ∈ "u") _ _ P (λ _. sound_past c t _ (sound_hex 4 t)) (λ _.
       cond_both (c ∈ "U") _ _ P (λ _. sound_past c t _ (sound_hex 8 t)) (λ _.
       cond_both (c ∈ "pP") _ _ P (λ _. sound_past c t _ (sound_property inside p c t)) (λ _.
-      cond_both (c ∈ "a") _ _ P (λ _. tt) (λ _.
-      cond_both (c ∈ "f") _ _ P (λ _. tt) (λ _.
-      cond_both (c ∈ "n") _ _ P (λ _. tt) (λ _.
-      cond_both (c ∈ "r") _ _ P (λ _. tt) (λ _.
-      cond_both (c ∈ "t") _ _ P (λ _. tt) (λ _.
-      cond_both (c ∈ "v") _ _ P (λ _. tt) (λ _.
-      cond_both (c ∈ "e") _ _ P (λ _. tt) (λ _.
-      cond_both (is_itself inside c) _ _ P (λ _. tt) (λ _.
-      cond_both inside _ _ P (λ _. sound_past c t _ (sound_in_class p c t))
-      (λ _. sound_past c t _ (sound_outside p c t))))))))))))))))))
+      choose_both P (lone_escape f inside c) _ _ (sound_lone inside c (c ∷ t) t)
+      (cond_both inside _ _ P (λ _. tt) (λ _. sound_past c t _ (sound_outside p c t))))))))

@@ -19,7 +19,7 @@ mod BoundaryLaws
 pub mod BoundaryRelation
 mod PropertyLemmas
 mod EscapeLemmas
-mod LoneLemmas
+pub mod LoneLemmas
 pub mod EscapeLaws
 pub mod EscapeSound
 pub mod EscapeFrame

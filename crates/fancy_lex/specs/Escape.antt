@@ -1,7 +1,10 @@
 -- Escapes: what stands behind a backslash.
-use Rattle.std.specs.Prelude.{ℕ, ◌+◌, Bool, true, false, not, ◌&&◌, ◌||◌, if◌then◌else◌, [], ◌∷◌}
+use Rattle.std.specs.Prelude.{ℕ, ◌+◌, Bool, true, false, not, ◌&&◌, ◌||◌, if◌then◌else◌, List, [], ◌∷◌, Option, Some}
 use Prim.Native.Char.{code}
+use Prim.Native.String.{String}
 use Rattle.std.specs.Char.{is_ascii_alphanumeric, is_ascii_digit}
+use Rattle.std.specs.Map.{lookup}
+use Rattle.std.specs.Option.{option_or}
 use Rattle.fancy_lex.specs.declared.escape.Assertion.TheVariants.{StartText, EndText, EndTextIgnoreTrailingNewlines}
 use Rattle.fancy_lex.specs.declared.escape.Assertion.TheVariants.{LeftWordBoundary, RightWordBoundary}
 use Rattle.fancy_lex.specs.declared.flags.Flags.{Flags}
@@ -44,66 +47,70 @@ property f inside p c (d ∷ t) =
     (λ q. gives (delegate (property_text f.unicode inside q.0) f.casei) q.1)
     (fails (property_not_closed p))
 
--- outside a class only
-unfoldable pub outside : Flags → ℕ → ℕ → Text → Reading Escape
-outside f p c t =
-    if c ∈ "A" then gives (assertion StartText) t
-    else if c ∈ "z" then gives (assertion EndText) t
-    else if c ∈ "Z" then gives (assertion (EndTextIgnoreTrailingNewlines f.crlf)) t
-    else if c ∈ "K" then gives keep_out t
-    else if c ∈ "G" then gives continue_from_previous_match_end t
-    else if c ∈ "R" then gives (general_newline f.unicode) t
-    else if c ∈ "O" then gives (any true true) t
-    else if c ∈ "N" then gives (any false false) t
-    else if c ∈ "<" then gives (if f.oniguruma_mode then literal c false else assertion LeftWordBoundary) t
-    else if c ∈ ">" then gives (if f.oniguruma_mode then literal c false else assertion RightWordBoundary) t
-    else if c ∈ "k" then backref_leaf f (reference.back_reference t)
-    else if c ∈ "g" then call_escape p c t
-    else if c ∈ "b" then boundary f.ignore_space p false t
-    else if c ∈ "B" then boundary f.ignore_space p true t
-    else unknown_escape p c
-
--- in a class only
-unfoldable pub in_class : ℕ → ℕ → Text → Reading Escape
-in_class p c t =
-    if c ∈ "b" then gives (literal (code "\u{8}") false) t
-    else if c ∈ "kAzBKGR" then gives (literal c false) t
-    else unknown_escape p c
-
 -- neither a letter nor a digit; outside a class `<` and `>` are boundaries
 abbrev pub is_itself : Bool → ℕ → Bool
 is_itself inside c = not (is_ascii_alphanumeric c) && (inside || not (c ∈ "<>"))
 
--- letters that are all of their escape, in a class and outside
-abbrev pub is_lone_anywhere : ℕ → Bool
-is_lone_anywhere c = c ∈ "dDsSwWhHafnrtve"
+-- letters that are all of their escape, in a class and outside, and what c stands for as one of them
+abbrev pub lone_anywhere : Flags → ℕ → List (String × Escape)
+lone_anywhere f c =
+    ("dDsSwW", delegate (backslash ∷ c ∷ []) f.casei)
+    ∷ ("h", delegate hex_class false)
+    ∷ ("H", delegate negated_hex_class false)
+    ∷ ("a", literal (code "\u{7}") false)
+    ∷ ("f", literal (code "\u{c}") false)
+    ∷ ("n", literal (code "\n") false)
+    ∷ ("r", literal (code "\r") false)
+    ∷ ("t", literal (code "\t") false)
+    ∷ ("v", literal (code "\u{b}") false)
+    ∷ ("e", literal (code "\u{1b}") false) ∷ []
 
--- more than the character belongs to its escape
-abbrev pub reads_on : Bool → ℕ → Bool
-reads_on inside c = is_ascii_digit c || (c ∈ "xuUpP" || (not inside && c ∈ "kgbB"))
+-- the same of those in a class only
+abbrev pub lone_in_class : ℕ → List (String × Escape)
+lone_in_class c = ("b", literal (code "\u{8}") false) ∷ ("kAzBKGR", literal c false) ∷ []
+
+-- the same of those outside only
+abbrev pub lone_outside : Flags → ℕ → List (String × Escape)
+lone_outside f c =
+    ("A", assertion StartText)
+    ∷ ("z", assertion EndText)
+    ∷ ("Z", assertion (EndTextIgnoreTrailingNewlines f.crlf))
+    ∷ ("K", keep_out)
+    ∷ ("G", continue_from_previous_match_end)
+    ∷ ("R", general_newline f.unicode)
+    ∷ ("O", any true true)
+    ∷ ("N", any false false)
+    ∷ ("<", if f.oniguruma_mode then literal c false else assertion LeftWordBoundary)
+    ∷ (">", if f.oniguruma_mode then literal c false else assertion RightWordBoundary) ∷ []
+
+-- what c stands for by the row that has it among its letters
+abbrev pub row_of : ℕ → List (String × Escape) → Option Escape
+row_of c rows = lookup (λ letters. c ∈ letters) rows
+
+-- what a character stands for that is all of its escape
+unfoldable pub lone_escape : Flags → Bool → ℕ → Option Escape
+lone_escape f inside c =
+    if is_itself inside c then Some (literal c false)
+    else option_or (row_of c (lone_anywhere f c)) (row_of c (if inside then lone_in_class c else lone_outside f c))
+
+-- references, calls and boundaries, behind their letters
+unfoldable pub outside : Flags → ℕ → ℕ → Text → Reading Escape
+outside f p c t =
+    if c ∈ "k" then backref_leaf f (reference.back_reference t)
+    else if c ∈ "g" then call_escape p c t
+    else if c ∈ "bB" then boundary f.ignore_space p (c ∈ "B") t
+    else unknown_escape p c
 
 -- what stands behind the backslash, in a class or outside
 unfoldable pub escape_at : Flags → Bool → ℕ → Text → Reading Escape
 escape_at f inside p [] = fails (backslash_at_end p)
 escape_at f inside p (c ∷ t) =
     if is_ascii_digit c then number_escape f inside p (c ∷ t)
-    else if c ∈ "dDsSwW" then gives (delegate (backslash ∷ c ∷ []) f.casei) t
-    else if c ∈ "h" then gives (delegate hex_class false) t
-    else if c ∈ "H" then gives (delegate negated_hex_class false) t
     else if c ∈ "x" then hex f 2 t
     else if c ∈ "u" then hex f 4 t
     else if c ∈ "U" then hex f 8 t
     else if c ∈ "pP" then property f inside p c t
-    else if c ∈ "a" then gives (literal (code "\u{7}") false) t
-    else if c ∈ "f" then gives (literal (code "\u{c}") false) t
-    else if c ∈ "n" then gives (literal (code "\n") false) t
-    else if c ∈ "r" then gives (literal (code "\r") false) t
-    else if c ∈ "t" then gives (literal (code "\t") false) t
-    else if c ∈ "v" then gives (literal (code "\u{b}") false) t
-    else if c ∈ "e" then gives (literal (code "\u{1b}") false) t
-    else if is_itself inside c then gives (literal c false) t
-    else if inside then in_class p c t
-    else outside f p c t
+    else choose (lone_escape f inside c) (λ e. gives e t) (if inside then unknown_escape p c else outside f p c t)
 
 -- what stands behind a backslash, which comes right before t, in a class or outside
 abbrev pub escape : Flags → Bool → Text → Reading Escape

@@ -1,11 +1,11 @@
 //! Escapes: what stands behind a backslash.
-ghost use Rattle.std.specs.Prelude.{◌≡◌, ℕ, Bool, true, ◌+◌, ◌^◌, ◌<◌, ◌≤◌, [], ◌∷◌, if◌then◌else◌, false, length, chars, IfErr, IfOk, IfSome, None};
+ghost use Rattle.std.specs.Prelude.{◌≡◌, ℕ, Bool, true, ◌+◌, ◌^◌, ◌<◌, ◌≤◌, [], ◌∷◌, if◌then◌else◌, false, length, chars, IfErr, IfOk, IfSome, option_map};
 ghost use Rattle.fancy_lex.specs.Characters.{backslash};
 ghost use Rattle.fancy_lex.specs.Escape as spec;
 ghost use Rattle.fancy_lex.specs.EscapeReference as references;
 ghost use Rattle.fancy_lex.specs.Escaped as leaf;
 ghost use Rattle.fancy_lex.specs.EscapeViews.{escape_of, delegate_text};
-ghost use Rattle.fancy_lex.specs.Reading.{Reads, Answers, Reports, gives, choose};
+ghost use Rattle.fancy_lex.specs.Reading.{Reads, Answers, Reports, gives};
 ghost use Rattle.fancy_lex.specs.Text.{Text, EndsWith, text_of};
 ghost use Rattle.fancy_lex.specs.ErrorViews.{StandsWithin};
 
@@ -284,11 +284,8 @@ fn word_boundary(c: char, boundary: Assertion, flags: Flags) -> Escaped<'static>
 
 /// What the letter stands for behind a backslash, in a class and outside, where it is all of the escape.
 #[inline(always)]
-#[tactic(auto, unfolding(crate::specs::Escape::escape_at))]
 fn lone_anywhere(c: char, flags: Flags) -> Option<Escaped<'static>>
-    ensures lone { IfSome result (λ e. (inside : Bool) (p : ℕ) (t : Text) →
-        spec.escape_at flags inside p (c ∷ t) ≡ gives (escape_of e) t) }
-    ensures other { result ≡ None → spec.is_lone_anywhere c ≡ false }
+    ensures { spec.row_of c (spec.lone_anywhere flags c) ≡ option_map escape_of result }
 {
     match c {
         'd' | 'D' | 's' | 'S' | 'w' | 'W' => Some(Escaped::Delegate {
@@ -309,11 +306,8 @@ fn lone_anywhere(c: char, flags: Flags) -> Option<Escaped<'static>>
 }
 
 /// What the letter stands for behind a backslash in a class, where it is all of an escape that is one there only.
-#[tactic(auto, unfolding(crate::specs::Escape::in_class))]
 fn lone_in_class(c: char) -> Option<Escaped<'static>>
-    ensures lone { (p : ℕ) (t : Text) → spec.in_class p c t ≡
-        choose result (λ e. gives (escape_of e) t) (spec.unknown_escape p c) }
-    ensures whole { spec.reads_on true c ≡ true → result ≡ None }
+    ensures { spec.row_of c (spec.lone_in_class c) ≡ option_map escape_of result }
 {
     match c {
         'b' => Some(literal('\x08')),
@@ -325,11 +319,8 @@ fn lone_in_class(c: char) -> Option<Escaped<'static>>
 /// What the character stands for behind a backslash outside a class, where it is all of an escape that is one there
 /// only.
 #[inline(always)]
-#[tactic(auto, unfolding(crate::specs::Escape::outside))]
 fn lone_outside(c: char, flags: Flags) -> Option<Escaped<'static>>
-    ensures lone { (p : ℕ) (t : Text) → spec.reads_on false c ≡ false → spec.outside flags p c t ≡
-        choose result (λ e. gives (escape_of e) t) (spec.unknown_escape p c) }
-    ensures whole { spec.reads_on false c ≡ true → result ≡ None }
+    ensures { spec.row_of c (spec.lone_outside flags c) ≡ option_map escape_of result }
 {
     let crlf = flags.crlf;
     let unicode = flags.unicode;
@@ -351,11 +342,9 @@ fn lone_outside(c: char, flags: Flags) -> Option<Escaped<'static>>
 /// What the character stands for behind a backslash, where it is all of the escape. None where more belongs to it, and
 /// for a letter that is no escape.
 #[inline(always)]
+#[tactic(auto, unfolding(crate::specs::Escape::lone_escape))]
 fn lone_escape(c: char, flags: Flags, inside: bool) -> Option<Escaped<'static>>
-    ensures lone { IfSome result (λ e. (p : ℕ) (t : Text) →
-        spec.escape_at flags inside p (c ∷ t) ≡ gives (escape_of e) t) }
-    ensures unknown { result ≡ None → spec.reads_on inside c ≡ false → (p : ℕ) (t : Text) →
-        spec.escape_at flags inside p (c ∷ t) ≡ spec.unknown_escape p c }
+    ensures { spec.lone_escape flags inside c ≡ option_map escape_of result }
 {
     if is_itself(c, inside) {
         return Some(literal(c));
@@ -369,7 +358,7 @@ fn lone_escape(c: char, flags: Flags, inside: bool) -> Option<Escaped<'static>>
 
 /// Reads what stands behind the backslash at this reach.
 #[inline(never)]
-#[tactic(auto, unfolding(crate::specs::Escape::escape_at, crate::specs::Escape::outside))]
+#[tactic(auto, unfolding(crate::specs::Escape::escape_at, crate::specs::Escape::lone_escape, crate::specs::Escape::outside))]
 fn read_escape<'a>(
     alloc: Global,
     text: &'a str,
@@ -415,7 +404,7 @@ fn short_call(text: &str) -> Option<(Escaped<'_>, &str)>
 /// it: a character alone, a code of so many digits with no layout before them, a property of one character, a
 /// reference or a call.
 #[inline(always)]
-#[tactic(auto, unfolding(crate::specs::Escape::escape_at, crate::specs::Escape::outside, crate::specs::Escape::number_escape))]
+#[tactic(auto, unfolding(crate::specs::Escape::escape_at, crate::specs::Escape::lone_escape, crate::specs::Escape::outside, crate::specs::Escape::number_escape))]
 pub fn short_escape(text: &str, flags: Flags) -> Option<(Escaped<'_>, &str)>
     ensures value { IfSome result (λ p.
         spec.escape flags false (chars text.now) ≡ gives (escape_of p.0) (chars p.1.now)) }

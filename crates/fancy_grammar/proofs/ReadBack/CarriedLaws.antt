@@ -1,19 +1,20 @@
 -- A class, and an escape for one, read the same whatever follows them, and under other flags to the same end.
 use Rattle.std.proofs.Common.{◌≡◌, ℕ, zero, suc, ◌+◌, ◌-◌, ◌≤◌, Bool, true, false, not, ◌&&◌, ◌||◌, ◌==◌, nat_le}
-use Rattle.std.proofs.Common.{if◌then◌else◌, [], ◌∷◌, ◌++◌, codes, Option, Some, None, refl, sym, ap, ◌∙◌, subst, arith}
+use Rattle.std.proofs.Common.{if◌then◌else◌, [], ◌∷◌, ◌++◌, Option, Some, None, refl, sym, ap, ◌∙◌, subst, arith}
 use Rattle.std.proofs.lemmas.Bool.{false≢true}
 use Rattle.std.proofs.lemmas.Bool.Decides.{nat_tests}
 use Rattle.fancy_lex.specs.Boundary.{boundary_of_name, at_count}
 use Rattle.fancy_lex.specs.BoundarySteps.{boundary, named_boundary, name}
 use Rattle.std.specs.Char.{is_ascii_digit}
+use Rattle.std.specs.Option.{option_or}
 use Rattle.fancy_lex.specs.Characters.{backslash, open_bracket, close_bracket, caret, open_brace, ◌∈◌}
 use Rattle.fancy_lex.specs.Class.{class_from, class, class_head, with_mark, escape_in_class, is_negated}
 use Rattle.fancy_lex.specs.Escape.{escape, escape_at, backref_leaf, number_escape, call_escape, property, outside}
-use Rattle.fancy_lex.specs.Escape.{in_class}
-use Rattle.fancy_lex.specs.Escape.{is_itself}
+use Rattle.fancy_lex.specs.Escape.{is_itself, lone_anywhere, lone_in_class, lone_outside, row_of, lone_escape}
+use Rattle.fancy_lex.specs.Escape.{unknown_escape}
 use Rattle.fancy_lex.specs.EscapeReference as reference
 use Rattle.fancy_lex.specs.EscapeReference.{group_number}
-use Rattle.fancy_lex.specs.Escaped.{Escape, literal, literal_bytes, delegate, backref, subroutine_call}
+use Rattle.fancy_lex.specs.Escaped.{Escape, literal, literal_bytes, assertion, delegate, backref, subroutine_call}
 use Rattle.fancy_lex.specs.Fault.{Fault, invalid_class, invalid_codepoint_value, unclosed_unicode_name}
 use Rattle.fancy_lex.specs.Hex.{hex, value, leaf_of_value, is_scalar}
 use Rattle.fancy_lex.specs.LayoutSteps.{layout}
@@ -21,6 +22,7 @@ use Rattle.fancy_lex.specs.Property.{Property, read_property, property_text}
 use Rattle.fancy_lex.specs.Reading.{Reading, gives, fails, fault_at, choose, layout_reading, ◌>=>◌}
 use Rattle.fancy_lex.specs.Referred.{Reference}
 use Rattle.fancy_lex.specs.Text.{Text, bytes, reach_of, strip}
+use Rattle.fancy_lex.specs.declared.escape.Assertion.{Assertion}
 use Rattle.fancy_lex.specs.declared.flags.Flags.{Flags}
 use Rattle.fancy_lex.proofs.ClassLaws.{class_head_frame}
 use Rattle.fancy_lex.proofs.EscapeFrame.{StaysSome, read_stays, escape_frame}
@@ -102,30 +104,67 @@ hex_too u i w t =
     too_then (layout_reading (layout false t)) _ _
     (λ _ v. too_then (value false (reach_of v) w v) _ _ (λ a r. coded_too u i w (reach_of v) a r))
 
+-- the one is a Delegate where the other is
+abbrev Likewise : Escape → Escape → Type 0
+Likewise (delegate w c) (delegate x b) = Unit {0}
+Likewise (delegate w c) _ = ⊥
+Likewise _ _ = Unit {0}
+
+-- both are none, or such escapes
+abbrev Alike : Option Escape → Option Escape → Type 0
+Alike (Some e) (Some d) = Likewise e d
+Alike None None = Unit {0}
+Alike _ _ = ⊥
+
+alike_if : (b : Bool) (o q o' q' : Option Escape) → Alike o o' → Alike q q' →
+    Alike (if b then o else q) (if b then o' else q')
+alike_if true o q o' q' h k = h
+alike_if false o q o' q' h k = k
+
+alike_or : (o q o' q' : Option Escape) → Alike o o' → Alike q q' → Alike (option_or o q) (option_or o' q')
+alike_or (Some e) q (Some d) q' h k = h
+alike_or None q None q' h k = k
+alike_or (Some e) q None q' h k = absurd h
+alike_or None q (Some d) q' h k = absurd h
+
+mark_alike : (b : Bool) (c : ℕ) (a : Assertion) (e : Escape) →
+    Likewise (if b then literal c false else assertion a) e
+mark_alike true c a e = tt
+mark_alike false c a e = tt
+
+-- a character stands for the like under any flags
+lone_alike : (f g : Flags) (inside : Bool) (c : ℕ) → Alike (lone_escape f inside c) (lone_escape g inside c)
+unfolding lone_escape
+lone_alike f g inside c =
+    alike_if (is_itself inside c) _ _ _ _ tt
+    (alike_or (row_of c (lone_anywhere f c)) _ (row_of c (lone_anywhere g c)) _ anywhere (by_place inside))
+  where
+    anywhere : Alike (row_of c (lone_anywhere f c)) (row_of c (lone_anywhere g c))
+    anywhere = search alike_if depth 30
+
+    by_place : (inside : Bool) → Alike (row_of c (if inside then lone_in_class c else lone_outside f c))
+        (row_of c (if inside then lone_in_class c else lone_outside g c))
+    by_place true = search alike_if depth 30
+    by_place false = search (alike_if, mark_alike) depth 30
+
+lone_too : (p c : ℕ) (t : Text) (o q : Option Escape) → Alike o q →
+    Too (choose o (λ e. gives e t) (unknown_escape p c)) (choose q (λ e. gives e t) (unknown_escape p c))
+lone_too p c t (Some e) (Some d) h = (d, refl)
+lone_too p c t (Some e) None h = absurd h
+lone_too p c t None q h = tt
+
 escape_too : (u i : Bool) (t : Text) →
     Too (escape (unicode_flags false) true t) (escape (case_flags u i) true t)
-unfolding escape_at in_class
+unfolding escape_at
 escape_too u i [] = tt
 escape_too u i (c ∷ t) =
     let p = reach_of (c ∷ t) + 1 in
     too_if (is_ascii_digit c) _ _ _ _ (number_escape_too p (c ∷ t) _)
-    (too_if (c ∈ "dDsSwW") _ _ _ _ (_, refl)
-    (too_if (c ∈ "h") _ _ _ _ (_, refl)
-    (too_if (c ∈ "H") _ _ _ _ (_, refl)
     (too_if (c ∈ "x") _ _ _ _ (hex_too u i 2 t)
     (too_if (c ∈ "u") _ _ _ _ (hex_too u i 4 t)
     (too_if (c ∈ "U") _ _ _ _ (hex_too u i 8 t)
     (too_if (c ∈ "pP") _ _ _ _ (property_too u i true p c t)
-    (too_if (c ∈ "a") _ _ _ _ (_, refl)
-    (too_if (c ∈ "f") _ _ _ _ (_, refl)
-    (too_if (c ∈ "n") _ _ _ _ (_, refl)
-    (too_if (c ∈ "r") _ _ _ _ (_, refl)
-    (too_if (c ∈ "t") _ _ _ _ (_, refl)
-    (too_if (c ∈ "v") _ _ _ _ (_, refl)
-    (too_if (c ∈ "e") _ _ _ _ (_, refl)
-    (too_if (is_itself true c) _ _ _ _ (_, refl)
-    (too_if (c ∈ "b") _ _ _ _ (_, refl)
-    (too_if (c ∈ "kAzBKGR") _ _ _ _ (_, refl) tt)))))))))))))))))
+    (lone_too p c t _ _ (lone_alike (unicode_flags false) (case_flags u i) true c))))))
 
 -- ---- a class
 
@@ -345,20 +384,9 @@ call_none p c (d ∷ t) =
 pub outside_none : (u i : Bool) (p c : ℕ) (t : Text) → NoDelegate (outside (case_flags u i) p c t)
 unfolding outside
 outside_none u i p c t =
-    none_if (c ∈ "A") _ _ tt
-    (none_if (c ∈ "z") _ _ tt
-    (none_if (c ∈ "Z") _ _ tt
-    (none_if (c ∈ "K") _ _ tt
-    (none_if (c ∈ "G") _ _ tt
-    (none_if (c ∈ "R") _ _ tt
-    (none_if (c ∈ "O") _ _ tt
-    (none_if (c ∈ "N") _ _ tt
-    (none_if (c ∈ "<") _ _ tt
-    (none_if (c ∈ ">") _ _ tt
-    (none_if (c ∈ "k") _ _ (backref_leaf_none (case_flags u i) (reference.back_reference t))
+    none_if (c ∈ "k") _ _ (backref_leaf_none (case_flags u i) (reference.back_reference t))
     (none_if (c ∈ "g") _ _ (call_none p c t)
-    (none_if (c ∈ "b") _ _ (boundary_none false p false t)
-    (none_if (c ∈ "B") _ _ (boundary_none false p true t) tt)))))))))))))
+    (none_if (c ∈ "bB") _ _ (boundary_none false p (c ∈ "B") t) tt))
 
 -- properties
 
@@ -382,6 +410,13 @@ module _ (u i : Bool) where
           (h s),
     )
 
+  lone_keeps : (t : Text) (x : Reading Escape) (y : ℕ → Text → Reading Escape) (o q : Option Escape) → NoDelegate x →
+      Alike o q → Keeps (choose o (λ e. gives e t) x) (λ r s. choose q (λ e. gives e (t ++ s)) (y r s))
+  lone_keeps t x y (Some (delegate w c)) (Some (delegate v b)) none h = (v, b, λ r s. refl)
+  lone_keeps t x y (Some (delegate w c)) _ none h = absurd h
+  lone_keeps t x y (Some _) q none h = tt
+  lone_keeps t x y None q none h = keep_none x _ none
+
   escape_keeps : (p : ℕ) (t : Text) →
       Keeps (escape_at (unicode_flags false) false p t) (λ q s. escape_at (case_flags u i) false q (t ++ s))
   unfolding escape_at number_escape
@@ -389,22 +424,12 @@ module _ (u i : Bool) where
   escape_keeps p (c ∷ t) =
       keep_if (is_ascii_digit c) _ _ _ _
       (keep_none _ _ (backref_leaf_none (unicode_flags false) (reference.numbered_reference (c ∷ t))))
-      (keep_if (c ∈ "dDsSwW") _ _ _ _ (backslash ∷ c ∷ [], i, λ q s. refl)
-      (keep_if (c ∈ "h") _ _ _ _ (codes "[0-9A-Fa-f]", false, λ q s. refl)
-      (keep_if (c ∈ "H") _ _ _ _ (codes "[^0-9A-Fa-f]", false, λ q s. refl)
       (keep_if (c ∈ "x") _ _ _ _ (keep_none _ _ (hex_none (unicode_flags false) 2 t))
       (keep_if (c ∈ "u") _ _ _ _ (keep_none _ _ (hex_none (unicode_flags false) 4 t))
       (keep_if (c ∈ "U") _ _ _ _ (keep_none _ _ (hex_none (unicode_flags false) 8 t))
       (keep_if (c ∈ "pP") _ _ _ _ (property_keeps p c t)
-      (keep_if (c ∈ "a") _ _ _ _ tt
-      (keep_if (c ∈ "f") _ _ _ _ tt
-      (keep_if (c ∈ "n") _ _ _ _ tt
-      (keep_if (c ∈ "r") _ _ _ _ tt
-      (keep_if (c ∈ "t") _ _ _ _ tt
-      (keep_if (c ∈ "v") _ _ _ _ tt
-      (keep_if (c ∈ "e") _ _ _ _ tt
-      (keep_if (is_itself false c) _ _ _ _ tt
-      (keep_none _ _ (outside_none false false p c t)))))))))))))))))
+      (lone_keeps t _ _ _ _ (outside_none false false p c t)
+      (lone_alike (unicode_flags false) (case_flags u i) false c))))))
 
   pub escape_carries : (t w v : Text) (b : Bool) → escape (unicode_flags false) false t ≡ gives (delegate w b) v →
       (x : Text) × (c : Bool)

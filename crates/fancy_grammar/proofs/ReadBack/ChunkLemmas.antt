@@ -1,7 +1,7 @@
 -- Each thing that is written for an escape in a class is read again there.
 use Rattle.std.proofs.Common.{◌≡◌, ℕ, ◌+◌, ◌*◌, ◌/◌, ◌%◌, ◌<◌, Bool, true, false, not, ◌&&◌, ◌==◌, nat_le}
 use Rattle.std.proofs.Common.{if◌then◌else◌, [], ◌∷◌, ◌++◌, codes, Option, Some, None, option_map, refl, sym, ap, ◌∙◌}
-use Rattle.std.proofs.Common.{subst, arith, append_assoc, lt-ltb}
+use Rattle.std.proofs.Common.{subst, arith, rules, append_assoc, lt-ltb}
 use Rattle.std.proofs.lemmas.Bool.{not-true, cond-false, cond_both, and_from, and_parts}
 use Rattle.std.proofs.lemmas.Bool.Decides.{nat_tests}
 use Rattle.std.specs.Char.{IsScalar, digit_value, is_ascii_digit, to_ascii_lowercase}
@@ -11,7 +11,7 @@ use Rattle.std.specs.Str.{all_scalars, bytes_eq}
 use Prim.Native.Char.{code}
 use Rattle.fancy_lex.specs.Characters.{caret, ◌∈◌}
 use Rattle.fancy_lex.specs.Class.{class_head, is_plain_in_class, byte_text, upper_hex_digit}
-use Rattle.fancy_lex.specs.Escape.{escape, escape_at, number_escape, property, in_class, is_itself}
+use Rattle.fancy_lex.specs.Escape.{escape, escape_at, number_escape, property, lone_escape}
 use Rattle.fancy_lex.specs.Escaped.{Escape, literal, literal_bytes, delegate}
 use Rattle.fancy_lex.specs.Fault.{invalid_class, invalid_codepoint_value, unclosed_unicode_name}
 use Rattle.fancy_lex.specs.Hex as hexes
@@ -23,6 +23,8 @@ use Rattle.fancy_lex.specs.Reading.{Reading, gives, fails, fault_at, choose, lay
 use Rattle.fancy_lex.specs.EscapeReference.{group_number}
 use Rattle.fancy_lex.specs.declared.flags.Flags.{Flags}
 use Rattle.fancy_lex.specs.Text.{Text, reach_of, strip, cut_at}
+use Rattle.fancy_lex.proofs.LoneLemmas.{of_lone}
+use Rattle.fancy_lex.proofs.ReadingLemmas.{choose_both}
 use Rattle.fancy_grammar.specs.Normal.{unicode_flags, case_flags}
 use Rattle.fancy_grammar.proofs.ReadBack.ClearLemmas.{Each, no_more, also, each_among, not_open, no_layout}
 use Rattle.fancy_grammar.proofs.ReadBack.ScalarLemmas.{scalars_append}
@@ -230,7 +232,7 @@ large_chunk w h =
 
 -- closed escapes
 letter_chunks : Each (λ c. Chunk (code "\\" ∷ c ∷ [])) (codes "dDsSwWtnvfr")
-unfolding escape_at
+unfolding escape_at lone_escape
 letter_chunks =
     also (escape_chunk (code "d" ∷ []) _ refl (λ s. refl))
     (also (escape_chunk (code "D" ∷ []) _ refl (λ s. refl))
@@ -480,29 +482,22 @@ set_letter c h = grind (arith, nat_tests)
 pub hex_word : Chunk (codes "0-9A-Fa-f")
 hex_word = word_chunk (code "0") (codes "-9A-Fa-f") refl refl refl refl
 
+lone_fine : (u i : Bool) (c : ℕ) → IsScalar c → (e : Escape) → lone_escape (case_flags u i) true c ≡ Some e → Fine e
+lone_fine u i c here =
+    let set : c ∈ "dDsSwW" ≡ true → Chunk (code "\\" ∷ c ∷ []) = λ e. letter_chunk c (set_letter c e) in
+    let digit : Chunk (codes "[0-9A-Fa-f]") = bracket_chunk (codes "0-9A-Fa-f") hex_word in
+    let no_digit : Chunk (codes "[^0-9A-Fa-f]") = caret_chunk (codes "0-9A-Fa-f") hex_word in
+    of_lone Fine (case_flags u i) true c (λ _. here) (search rules) (search rules)
+
 pub escape_fine : (u i : Bool) (t : Text) → all_scalars t ≡ true → FineOf (escape (case_flags u i) true t)
-unfolding escape_at in_class
+unfolding escape_at
 escape_fine u i [] k = tt
 escape_fine u i (c ∷ t) k =
     let p = reach_of (c ∷ t) + 1 in
     let (here, more) = and_parts _ (all_scalars t) k in
     fine_if (is_ascii_digit c) _ _ (λ _. number_escape_fine p (case_flags u i) (c ∷ t))
-    (fine_if (c ∈ "dDsSwW") (gives (delegate (code "\\" ∷ c ∷ []) i) t) _ (λ e. letter_chunk c (set_letter c e))
-    (fine_if (c ∈ "h") (gives (delegate (codes "[0-9A-Fa-f]") false) t) _
-    (λ _. bracket_chunk (codes "0-9A-Fa-f") hex_word)
-    (fine_if (c ∈ "H") (gives (delegate (codes "[^0-9A-Fa-f]") false) t) _
-    (λ _. caret_chunk (codes "0-9A-Fa-f") hex_word)
     (fine_if (c ∈ "x") (hex (case_flags u i) 2 t) _ (λ _. hex_fine u i 2 t)
     (fine_if (c ∈ "u") (hex (case_flags u i) 4 t) _ (λ _. hex_fine u i 4 t)
     (fine_if (c ∈ "U") (hex (case_flags u i) 8 t) _ (λ _. hex_fine u i 8 t)
     (fine_if (c ∈ "pP") (property (case_flags u i) true p c t) _ (λ _. property_fine u i p c t more)
-    (fine_if (c ∈ "a") (gives (literal 7 false) t) _ (λ _. refl)
-    (fine_if (c ∈ "f") (gives (literal 12 false) t) _ (λ _. refl)
-    (fine_if (c ∈ "n") (gives (literal 10 false) t) _ (λ _. refl)
-    (fine_if (c ∈ "r") (gives (literal 13 false) t) _ (λ _. refl)
-    (fine_if (c ∈ "t") (gives (literal 9 false) t) _ (λ _. refl)
-    (fine_if (c ∈ "v") (gives (literal 11 false) t) _ (λ _. refl)
-    (fine_if (c ∈ "e") (gives (literal 27 false) t) _ (λ _. refl)
-    (fine_if (is_itself true c) (gives (literal c false) t) _ (λ _. here)
-    (fine_if (c ∈ "b") (gives (literal 8 false) t) _ (λ _. refl)
-    (fine_if (c ∈ "kAzBKGR") (gives (literal c false) t) _ (λ _. here) tt)))))))))))))))))
+    (choose_both FineOf (lone_escape (case_flags u i) true c) _ _ (lone_fine u i c here) tt)))))

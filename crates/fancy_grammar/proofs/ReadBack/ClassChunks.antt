@@ -7,7 +7,7 @@ use Rattle.std.specs.Str.{all_scalars}
 use Prim.Native.Char.{code}
 use Rattle.fancy_lex.specs.Class.{Class, class_items, ClassItems, close, plain, escaped, nested, written, class_head}
 use Rattle.fancy_lex.specs.Class.{escape_in_class, is_negated, is_plain_in_class, needs_backslash_in_class, char_text}
-use Rattle.fancy_lex.specs.Escape.{escape, escape_at}
+use Rattle.fancy_lex.specs.Escape.{escape, escape_at, lone_escape}
 use Rattle.fancy_lex.specs.Escaped.{Escape, literal, literal_bytes, delegate}
 use Rattle.fancy_lex.specs.Reading.{gives}
 use Rattle.fancy_lex.specs.Text.{Text, strip}
@@ -83,7 +83,7 @@ abbrev Escapes : ℕ → Type 0
 Escapes c = (s : Text) → escape (unicode_flags false) true (c ∷ s) ≡ gives (literal c false) s
 
 escapes_marks : Each Escapes class_marks
-unfolding escape_at
+unfolding escape_at lone_escape
 escapes_marks =
     also (λ s. refl) (also (λ s. refl) (also (λ s. refl) (also (λ s. refl)
     (also (λ s. refl) (also (λ s. refl) (also (λ s. refl) (also (λ s. refl)

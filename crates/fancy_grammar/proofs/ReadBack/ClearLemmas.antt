@@ -7,7 +7,7 @@ use Rattle.std.proofs.lemmas.Bool.{or_parts, or_cases, cond_both, both_ways, fal
 use Rattle.std.proofs.lemmas.Option.{same_Some}
 use Prim.Native.Char.{code}
 use Rattle.fancy_lex.specs.Characters.{is_among, ◌∈◌, bar}
-use Rattle.fancy_lex.specs.Escape.{escape, escape_at}
+use Rattle.fancy_lex.specs.Escape.{escape, escape_at, lone_escape}
 use Rattle.fancy_lex.specs.Escaped as escaped
 use Rattle.fancy_lex.specs.LayoutSteps.{layout, after_comment_head, rest}
 use Rattle.fancy_lex.specs.Reading.{gives}
@@ -139,7 +139,7 @@ abbrev pub Escapes : ℕ → ℕ → Type 0
 Escapes x c = (f : Flags) (t : Text) → escape f false (x ∷ t) ≡ gives (escaped.literal c false) t
 
 escapes_marks : Each (λ m. Escapes m m) marks_with_backslash
-unfolding escape_at
+unfolding escape_at lone_escape
 escapes_marks =
     also (λ f t. refl) (also (λ f t. refl) (also (λ f t. refl) (also (λ f t. refl)
     (also (λ f t. refl) (also (λ f t. refl) (also (λ f t. refl) (also (λ f t. refl)
@@ -147,15 +147,15 @@ escapes_marks =
     (also (λ f t. refl) (also (λ f t. refl) (also (λ f t. refl) no_more))))))))))))))
 
 escapes_n : Escapes (code "n") (code "\n")
-unfolding escape_at
+unfolding escape_at lone_escape
 escapes_n f t = refl
 
 escapes_t : Escapes (code "t") (code "\t")
-unfolding escape_at
+unfolding escape_at lone_escape
 escapes_t f t = refl
 
 escapes_r : Escapes (code "r") (code "\r")
-unfolding escape_at
+unfolding escape_at lone_escape
 escapes_r f t = refl
 
 pub behind_some : (c x : ℕ) → behind_backslash c ≡ Some x → Escapes x c

@@ -1,12 +1,12 @@
 -- What a printable Delegate's text is read as is printable again.
 use Rattle.std.proofs.Common.{◌≡◌, ◌≢◌, ℕ, Bool, true, false, ◌==◌, ◌&&◌, if◌then◌else◌, [], ◌∷◌, ◌++◌, codes, Option}
 use Rattle.std.proofs.Common.{Some, None, is_some, option_map, ◌⊎◌, inl, inr, refl, sym, ap, ◌∙◌, subst, append-nil}
-use Rattle.std.proofs.Common.{ne_eqb, ◌+◌}
+use Rattle.std.proofs.Common.{ne_eqb, ◌+◌, rules}
 use Rattle.std.proofs.lemmas.Bool.{and_from, and_parts, cases_eq, false≢true}
 use Rattle.std.specs.Str.{all_scalars}
 use Rattle.fancy_lex.specs.Characters.{◌∈◌}
 use Rattle.fancy_lex.specs.Class.{class, OuterClass}
-use Rattle.fancy_lex.specs.Escape.{escape, escape_at, number_escape, property, is_itself}
+use Rattle.fancy_lex.specs.Escape.{escape, escape_at, number_escape, property, lone_escape}
 use Rattle.fancy_lex.specs.EscapeReference.{numbered_reference}
 use Rattle.fancy_lex.specs.Escaped as escaped
 use Rattle.fancy_lex.specs.Escaped.{Escape}
@@ -19,6 +19,8 @@ use Rattle.fancy_lex.specs.Property.{Form, set, pair, form, form_text, look_up, 
 use Rattle.fancy_lex.specs.Reading.{Reading, gives, fault_at, choose}
 use Rattle.fancy_lex.specs.Text.{Text, reach_of}
 use Rattle.fancy_lex.proofs.ClassLaws.{class_complete, class_reads}
+use Rattle.fancy_lex.proofs.LoneLemmas.{of_lone}
+use Rattle.fancy_lex.proofs.ReadingLemmas.{choose_both}
 use Rattle.fancy_grammar.specs.Ahead.{leaf_node, leaf_outcome}
 use Rattle.fancy_grammar.specs.Tree.{delegate}
 use Rattle.fancy_grammar.specs.Normal.{unicode_flags, case_flags, class_of, whole_leaf, normal}
@@ -111,7 +113,7 @@ single_whole false c h k = escape_whole (code "p" ∷ c ∷ []) _ _ (and_from _ 
 single_whole true c h k = escape_whole (code "P" ∷ c ∷ []) _ _ (and_from _ true k refl) (single_large false c [] h)
 
 letters_whole : Each (λ c. IsWhole (code "\\" ∷ c ∷ [])) (codes "dDsSwW")
-unfolding class_of escape_at
+unfolding class_of escape_at lone_escape
 letters_whole = also refl (also refl (also refl (also refl (also refl (also refl no_more)))))
 
 letter_whole : (c : ℕ) → c ∈ "dDsSwW" ≡ true → IsWhole (code "\\" ∷ c ∷ [])
@@ -159,6 +161,15 @@ unfolding property read_property
 outside_property u i p c [] h = tt
 outside_property u i p c (d ∷ t) h = read_whole u i p (c ∈ "P") (name_at (d ∷ t)) (name_ok d t h)
 
+lone_whole : (u i : Bool) (c : ℕ) (t : Text) (e : Escape) → lone_escape (case_flags u i) false c ≡ Some e →
+    WholeOf (gives e t)
+lone_whole u i c t =
+    let P : Escape → Type 0 = λ e. WholeOf (gives e t) in
+    let set : c ∈ "dDsSwW" ≡ true → IsWhole (code "\\" ∷ c ∷ []) = letter_whole c in
+    let digit : IsWhole (codes "[0-9A-Fa-f]") = bracket_whole (codes "0-9A-Fa-f") hex_word in
+    let no_digit : IsWhole (codes "[^0-9A-Fa-f]") = caret_whole (codes "0-9A-Fa-f") hex_word in
+    of_lone P (case_flags u i) false c (λ _. tt) (search rules) (search rules)
+
 outside_whole : (u i : Bool) (t : Text) → all_scalars t ≡ true → WholeOf (escape (case_flags u i) false t)
 unfolding escape_at number_escape
 outside_whole u i [] k = tt
@@ -167,24 +178,12 @@ outside_whole u i (c ∷ t) k =
     let f = case_flags u i in
     whole_if (is_ascii_digit c) (number_escape f false p (c ∷ t)) _
     (λ _. whole_none _ (backref_leaf_none f (numbered_reference (c ∷ t))))
-    (whole_if (c ∈ "dDsSwW") (gives (escaped.delegate (code "\\" ∷ c ∷ []) i) t) _ (λ e. letter_whole c e)
-    (whole_if (c ∈ "h") (gives (escaped.delegate (codes "[0-9A-Fa-f]") false) t) _
-    (λ _. bracket_whole (codes "0-9A-Fa-f") hex_word)
-    (whole_if (c ∈ "H") (gives (escaped.delegate (codes "[^0-9A-Fa-f]") false) t) _
-    (λ _. caret_whole (codes "0-9A-Fa-f") hex_word)
     (whole_if (c ∈ "x") (hex f 2 t) _ (λ _. whole_none _ (hex_none f 2 t))
     (whole_if (c ∈ "u") (hex f 4 t) _ (λ _. whole_none _ (hex_none f 4 t))
     (whole_if (c ∈ "U") (hex f 8 t) _ (λ _. whole_none _ (hex_none f 8 t))
     (whole_if (c ∈ "pP") (property f false p c t) _ (λ _. outside_property u i p c t (and_parts _ (all_scalars t) k).1)
-    (whole_if (c ∈ "a") (gives (escaped.literal 7 false) t) _ (λ _. tt)
-    (whole_if (c ∈ "f") (gives (escaped.literal 12 false) t) _ (λ _. tt)
-    (whole_if (c ∈ "n") (gives (escaped.literal 10 false) t) _ (λ _. tt)
-    (whole_if (c ∈ "r") (gives (escaped.literal 13 false) t) _ (λ _. tt)
-    (whole_if (c ∈ "t") (gives (escaped.literal 9 false) t) _ (λ _. tt)
-    (whole_if (c ∈ "v") (gives (escaped.literal 11 false) t) _ (λ _. tt)
-    (whole_if (c ∈ "e") (gives (escaped.literal 27 false) t) _ (λ _. tt)
-    (whole_if (is_itself false c) (gives (escaped.literal c false) t) _ (λ _. tt)
-    (whole_none _ (outside_none u i p c t)))))))))))))))))
+    (choose_both WholeOf (lone_escape f false c) _ _ (lone_whole u i c t)
+    (whole_none _ (outside_none u i p c t)))))))
 
 -- ---- a Delegate
 

@@ -4,7 +4,7 @@ use Rattle.std.proofs.Common.{None, refl, ap, ◌∙◌, arith, ne_eqb}
 use Rattle.std.proofs.lemmas.Bool.{cond-false}
 use Prim.Native.Char.{code}
 use Rattle.fancy_lex.specs.BoundarySteps.{boundary, named_boundary, name}
-use Rattle.fancy_lex.specs.Escape.{escape, escape_at, outside}
+use Rattle.fancy_lex.specs.Escape.{escape, escape_at, lone_escape, outside}
 use Rattle.fancy_lex.specs.Escaped as escaped
 use Rattle.fancy_lex.specs.LayoutSteps.{after_comment_head, layout_from}
 use Rattle.fancy_lex.specs.Reading.{gives}
@@ -240,22 +240,22 @@ half_end p v = refl
 
 boundary_escape : (u : Bool) (t : Text) →
     escape (unicode_flags u) false (code "b" ∷ t) ≡ boundary false (reach_of (code "b" ∷ t) + 1) false t
-unfolding escape_at outside
+unfolding escape_at lone_escape outside
 boundary_escape u t = refl
 
 no_boundary_escape : (u : Bool) (t : Text) →
     escape (unicode_flags u) false (code "B" ∷ t) ≡ boundary false (reach_of (code "B" ∷ t) + 1) true t
-unfolding escape_at outside
+unfolding escape_at lone_escape outside
 no_boundary_escape u t = refl
 
 left_escape : (u : Bool) (t : Text) →
     escape (unicode_flags u) false (code "<" ∷ t) ≡ gives (escaped.assertion LeftWordBoundary) t
-unfolding escape_at outside
+unfolding escape_at lone_escape outside
 left_escape u t = refl
 
 right_escape : (u : Bool) (t : Text) →
     escape (unicode_flags u) false (code ">" ∷ t) ≡ gives (escaped.assertion RightWordBoundary) t
-unfolding escape_at outside
+unfolding escape_at lone_escape outside
 right_escape u t = refl
 
 -- the assertion that is read

@@ -1,6 +1,8 @@
-use Rattle.std.proofs.Common.{◌≡◌, false, sym, subst, arith, chars, ◌∙◌, ap}
+use Rattle.std.proofs.Common.{◌≡◌, false, option_map, sym, subst, arith, chars, ◌∙◌, ap}
 use Rattle.std.proofs.lemmas.Bool.Decides.{nat_tests}
-use Rattle.fancy_lex.specs.Escape.{escape_at, reads_on}
+use Rattle.fancy_lex.proofs.LoneLemmas.{reads_on, alone}
+use Rattle.fancy_lex.specs.Escape.{escape_at}
+use Rattle.fancy_lex.specs.EscapeViews.{escape_of}
 use Rattle.fancy_lex.specs.Reading.{Reports}
 use Rattle.fancy_lex.proofs.escape.read_escape.Goals as goal
 use Rattle.fancy_lex.proofs.escape.read_escape.Goals.{in_default-c-via-in-b+else-not-inside}
@@ -12,7 +14,7 @@ use Rattle.fancy_lex.proofs.escape.read_escape.Goals.{in_default-c-via-in_defaul
 pub returns-in-None-clause-value : goal.returns-in-None-clause-value
 returns-in-None-clause-value c =
     let a = c.args in
-    let alone : reads_on a.inside c.in-Some.c ≡ false =
+    let whole : reads_on a.inside c.in-Some.c ≡ false =
     elim c.in_default-c.branch [
       | in_default-c-via-in-b+else-not-inside w ↦ grind (arith, nat_tests)
       | in_default-c-via-in-k+else-not-inside-2 w ↦ grind (arith, nat_tests)
@@ -20,6 +22,7 @@ returns-in-None-clause-value c =
       | in_default-c-via-in_default+then-c-lt48 w ↦ grind (arith, nat_tests)
       | in_default-c-via-in_default+else-c-lt48+else-c-lt58 w ↦ grind (arith, nat_tests)
     ] in
-    let unknown = c.lone_escape.ensures.unknown c.in-None.is alone a.reach (chars c.in-Some.rest.now) in
+    let none = c.lone_escape.ensures ∙ ap (option_map escape_of) c.in-None.is in
+    let unknown = rw none at (alone a.flags a.reach c.in-Some.c (chars c.in-Some.rest.now) a.inside whole) in
     let is = ap (escape_at a.flags a.inside a.reach) c.in-Some.ensures.value ∙ unknown in
     subst (Reports c.unknown_escape.result) (sym is) c.unknown_escape.ensures
