@@ -16,11 +16,10 @@ use Rattle.fancy_parts.specs.FlagLetters.{Letters, setting, scope as scoped}
 use Rattle.fancy_parts.specs.HeadReference.{begins_target, condition_target}
 use Rattle.fancy_parts.specs.Quantifier.{counts, as_mark, most}
 use Rattle.fancy_parts.specs.declared.counts.Counts.{Counts}
-use Rattle.fancy_grammar.specs.Ahead.{Ahead, nothing, leaf, with_head, condition, body, ahead, ahead_of}
+use Rattle.fancy_grammar.specs.Ahead.{Ahead, nothing, read, with_head, condition, body, ahead, ahead_of}
 use Rattle.fancy_grammar.specs.Ahead.{group_ahead, behind_question, condition_ahead, repeater_ahead, verb_ahead}
 use Rattle.fancy_grammar.specs.Ahead.{verb_condition, named_ahead, target_ahead, flags_ahead, behind_layout}
-use Rattle.fancy_grammar.specs.Ahead.{fault_ahead}
-use Rattle.fancy_grammar.specs.Ahead.{leaf_of, is_before_nothing}
+use Rattle.fancy_grammar.specs.Ahead.{refused, leaf_of, is_before_nothing}
 use Rattle.fancy_grammar.specs.Depth.{max_depth}
 use Rattle.fancy_grammar.specs.Head.{Head, define}
 use Rattle.fancy_grammar.specs.Quantified.{quant, quants, adjacent, max_adjacent}
@@ -34,8 +33,8 @@ use Rattle.fancy_grammar.specs.Verb.{verb_at}
 abbrev IsThere : Ahead → Type 0
 IsThere k = k ≡ nothing → ⊥
 
-leaf_there : (o : Outcome Tree) → IsThere (leaf o)
-leaf_there o e = cc
+read_there : (o : Outcome Tree) → IsThere (read o)
+read_there o e = cc
 
 opens_there : (h : Head) (s : State) → IsThere (with_head h s)
 opens_there h s e = cc
@@ -64,19 +63,19 @@ body_there : (c : Tree) (s : State) → IsThere (body c s)
 body_there c s e = cc
 
 verb_there : (s : State) (t : Text) → IsThere (verb_ahead s t)
-verb_there s t = choose_both IsThere (verb_at t) _ _ (λ p _. leaf_there _) (leaf_there _)
+verb_there s t = choose_both IsThere (verb_at t) _ _ (λ p _. read_there _) (read_there _)
 
 verb_condition_there : (s : State) (t : Text) → IsThere (verb_condition s t)
-verb_condition_there s t = choose_both IsThere (verb_at t) _ _ (λ p _. body_there _ _) (leaf_there _)
+verb_condition_there s t = choose_both IsThere (verb_at t) _ _ (λ p _. body_there _ _) (read_there _)
 
 condition_ahead_there : (s : State) (t : Text) → IsThere (condition_ahead s t)
-condition_ahead_there s [] = leaf_there _
+condition_ahead_there s [] = read_there _
 condition_ahead_there s (c ∷ t) =
     either_there (begins_target (c ∷ t)) (target_there s _)
     (either_there (c == code "*") (verb_condition_there s t) (condition_there _))
 
 repeater_there : (s : State) (t : Text) → IsThere (repeater_ahead s t)
-repeater_there s [] = leaf_there _
+repeater_there s [] = read_there _
 repeater_there s (c ∷ t) = opens_there _ _
 
 question_there : (s : State) (t : Text) → IsThere (behind_question s t)
@@ -85,16 +84,16 @@ question_there s t =
     choose_both IsThere (strip_word (codes "!") t) _ _ (λ u _. opens_there _ _) (
     choose_both IsThere (strip_word (codes "<=") t) _ _ (λ u _. opens_there _ _) (
     choose_both IsThere (strip_word (codes "<!") t) _ _ (λ u _. opens_there _ _) (
-    choose_both IsThere (strip_word (codes ">") t) _ _ (λ u _. opens_there _ _) (
-    choose_both IsThere (strip_word (codes "(DEFINE)") t) _ _ (λ u _. opens_there _ _) (
-    choose_both IsThere (strip_word (codes "(") t) _ _ (λ u _. condition_ahead_there s u) (
-    choose_both IsThere (strip_word (codes "~|") t) _ _ (λ u _ e. cc) (
-    choose_both IsThere (strip_word (codes "~") t) _ _ (λ u _. repeater_there s u) (
     choose_both IsThere (strip_word (codes "<") t) _ _ (λ u _. named_there s _) (
     choose_both IsThere (strip_word (codes "'") t) _ _ (λ u _. named_there s _) (
     choose_both IsThere (strip_word (codes "P<") t) _ _ (λ u _. named_there s _) (
-    choose_both IsThere (strip_word (codes "P=") t) _ _ (λ u _. leaf_there _) (
-    choose_both IsThere (strip_word (codes "P>") t) _ _ (λ u _. leaf_there _) (flags_there _))))))))))))))
+    choose_both IsThere (strip_word (codes "P=") t) _ _ (λ u _. read_there _) (
+    choose_both IsThere (strip_word (codes "P>") t) _ _ (λ u _. read_there _) (
+    choose_both IsThere (strip_word (codes "~|") t) _ _ (λ u _ e. cc) (
+    choose_both IsThere (strip_word (codes "~") t) _ _ (λ u _. repeater_there s u) (
+    choose_both IsThere (strip_word (codes ">") t) _ _ (λ u _. opens_there _ _) (
+    choose_both IsThere (strip_word (codes "(DEFINE)") t) _ _ (λ u _. opens_there _ _) (
+    choose_both IsThere (strip_word (codes "(") t) _ _ (λ u _. condition_ahead_there s u) (flags_there _))))))))))))))
 
 group_there : (s : State) (t : Text) → IsThere (group_ahead s t)
 group_there s t =
@@ -103,22 +102,22 @@ group_there s t =
 
 behind_there : (s : State) (k : Skipped) → IsThere (behind_layout s k)
 behind_there s (rest u) = group_there s u
-behind_there s (open_comment p) = leaf_there _
+behind_there s (open_comment p) = read_there _
 
 deep_there : (d c : ℕ) (s : State) (t : Text) →
-    IsThere (if nat_le max_depth (d + 1) then fault_ahead (group_too_deep (c ∷ t)) else behind_layout s
+    IsThere (if nat_le max_depth (d + 1) then refused (group_too_deep (c ∷ t)) else behind_layout s
     (skipped (at s t)))
-deep_there d c s t = either_there (nat_le max_depth (d + 1)) (leaf_there _) (behind_there s (skipped (at s t)))
+deep_there d c s t = either_there (nat_le max_depth (d + 1)) (read_there _) (behind_there s (skipped (at s t)))
 
 before_nothing : (d : ℕ) (s : State) (c : ℕ) (t : Text) → ahead_of d s (c ∷ t) ≡ nothing →
     is_before_nothing c ≡ true
 before_nothing d s c t e = by_tests (c == code "(") (is_before_nothing c) _ (deep_there d c s t) e
   where
     by_tests : (p b : Bool) (x : Ahead) → (x ≡ nothing → ⊥) →
-        (if p then x else if b then nothing else leaf (leaf_of s c t)) ≡ nothing → b ≡ true
+        (if p then x else if b then nothing else read (leaf_of s c t)) ≡ nothing → b ≡ true
     by_tests true b x f e = absurd (f e)
     by_tests false true x f e = refl
-    by_tests false false x f e = absurd (leaf_there _ e)
+    by_tests false false x f e = absurd (read_there _ e)
 
 -- ---- the rows of conditionals
 

@@ -14,13 +14,13 @@ use Rattle.fancy_lex.specs.Text.{Text, bytes, reach_of, strip}
 use Rattle.fancy_lex.specs.declared.flags.Flags.{Flags}
 use Rattle.fancy_parts.specs.Quantifier.{counts}
 use Rattle.fancy_parts.specs.declared.counts.Counts.{Counts}
-use Rattle.fancy_grammar.specs.Ahead.{Ahead, nothing, leaf, ahead, ahead_of, behind_layout, is_before_nothing}
+use Rattle.fancy_grammar.specs.Ahead.{Ahead, nothing, read, ahead, ahead_of, behind_layout, is_before_nothing}
 use Rattle.fancy_grammar.specs.Depth.{max_depth, max_levels}
 use Rattle.fancy_grammar.specs.Answer.{IsTreeOf}
 use Rattle.fancy_grammar.specs.Answered.{IsSmall}
 use Rattle.fancy_grammar.specs.Grammar.{Alternation, alternation, Branches, last, more, branch_fault, Branch, branch}
 use Rattle.fancy_grammar.specs.Grammar.{Pieces, stop, next, piece_fault, Piece, piece, layout_fault, Atom, atom, AtomOf}
-use Rattle.fancy_grammar.specs.Grammar.{a_nothing, a_leaf, a_group, a_condition, condition_fault, a_body, two_branches}
+use Rattle.fancy_grammar.specs.Grammar.{a_nothing, a_read, a_group, a_condition, condition_fault, a_body, two_branches}
 use Rattle.fancy_grammar.specs.Grammar.{one_branch, absent_fault, Inside, inside, Body, the_body, Whole, whole, start}
 use Rattle.fancy_grammar.specs.Grammar.{closed, closed_at, ended, ended_at, branches_of, conditional_of, is_condition}
 use Rattle.fancy_grammar.specs.Grammar.{clear_or_stopper}
@@ -225,11 +225,11 @@ quant_grows left a t = by_layout (skipped t) (layout_slice t.flags.ignore_space 
     by_counts v l (Some (c, u)) h =
         let marks = suffix_ends (at t u) c in
         cond_both (is_repeatable t.flags a) _ _ (Holds (Grows a t))
-        (λ e. then_holds (λ m w. bytes w.rest ≤ bytes u) (Grows a t) _ _ marks refl (λ m w i.
+        (λ e. then_holds (λ m w. bytes w.rest ≤ bytes u) (Grows a t) _ _ marks (λ m w i.
         let over = quantified_over t.flags c m a in let is = solid_weight a (repeatable_solid t.flags a e) in
         (omega (arith, over.0, is, l, h, i), omega (arith, over.1, l, h, i), over.1))) (λ _.
         cond_both (is_dropped t.flags left a u) _ _ (Holds (Grows a t))
-        (λ _. then_holds (λ m w. bytes w.rest ≤ bytes u) (Grows a t) _ _ marks refl (λ m w i.
+        (λ _. then_holds (λ m w. bytes w.rest ≤ bytes u) (Grows a t) _ _ marks (λ m w i.
         (omega (arith, l, h, i), omega (arith, l, h, i), omega arith))) (λ _. tt))
 
     by_layout : (j : Skipped) → SkippedSlice t.rest j → Holds (Grows a t) (quant_at left a t j)
@@ -244,12 +244,12 @@ adjacent_grows : (k d : ℕ) (a : Tree) (t : State) → Holds (GrowsBy k a t) (a
 unfolding adjacent
 adjacent_grows zero d a t =
     let Q = GrowsBy zero a t in let once = quant_grows (bytes t.rest) a t in
-    then_holds (Grows a t) Q (quant (bytes t.rest) a t) _ once refl (λ b v h.
+    then_holds (Grows a t) Q (quant (bytes t.rest) a t) _ once (λ b v h.
     cond_both (is_unmoved t v) _ _ (Holds Q) (λ e. (h.0, omega (arith, h.1, unmoved_bytes t v e))) (λ _. tt))
 adjacent_grows (suc k) d a t =
     let Q = GrowsBy (suc k) a t in let once = quant_grows (bytes t.rest) a t in
     let more = adjacent_grows k (d + 1) in
-    then_holds (Grows a t) Q (quant (bytes t.rest) a t) _ once refl (λ b v h.
+    then_holds (Grows a t) Q (quant (bytes t.rest) a t) _ once (λ b v h.
     cond_both (is_unmoved t v) _ _ (Holds Q) (λ e. (h.0, omega (arith, h.1, unmoved_bytes t v e))) (λ _.
     cond_both (nat_lt (d + 1) max_depth) _ _ (Holds Q)
     (λ _. holds_too (GrowsBy k b v) Q (adjacent k (d + 1) b v) (λ x w i.
@@ -259,7 +259,7 @@ adjacent_grows (suc k) d a t =
 quants_grow : (d left : ℕ) (a : Tree) (t : State) → Holds (GrowsBy 5 a t) (quants d left a t)
 quants_grow d left a t =
     let Q = GrowsBy 5 a t in
-    then_holds (Grows a t) Q (quant left a t) _ (quant_grows left a t) refl (λ b v h.
+    then_holds (Grows a t) Q (quant left a t) _ (quant_grows left a t) (λ b v h.
     cond_both v.flags.oniguruma_mode _ _ (Holds Q)
     (λ _. holds_too (GrowsBy max_adjacent b v) Q (adjacent max_adjacent d b v) (λ x w i.
     (omega (arith, h.0, i.0), omega (arith, h.2, i.1))) (adjacent_grows max_adjacent d b v))
@@ -270,12 +270,12 @@ quants_grow d left a t =
 -- a group opens only below the greatest depth
 abbrev OpensBelow : ℕ → Ahead → Type 0
 OpensBelow d nothing = Unit {0}
-OpensBelow d (leaf o) = Unit {0}
+OpensBelow d (read o) = Unit {0}
 OpensBelow d _ = d + 1 < max_depth
 
 below_at : (d : ℕ) (k : Ahead) → d + 1 < max_depth → OpensBelow d k
 below_at d nothing h = tt
-below_at d (leaf o) h = tt
+below_at d (read o) h = tt
 below_at d _ h = h
 
 ahead_below : (d : ℕ) (s : State) → OpensBelow d (ahead d s)
@@ -330,81 +330,81 @@ leaf_fits d s (fault k p) l h i = tt
 mutual
   alternation_fits : {d : ℕ} {s : State} {o : Outcome Tree} → Alternation d s o → d < max_depth →
       Holds (Fills max_levels d s) o
-  alternation_fits (alternation {d} {s} {q} b e) l =
-      then_holds (BranchesFit d s) (Fills max_levels d s) q _ (branches_fit b l) e (λ ts v h.
+  alternation_fits (alternation {d} {s} {q} b) l =
+      then_holds (BranchesFit d s) (Fills max_levels d s) q _ (branches_fit b l) (λ ts v h.
       (omega (arith, some_choice_size ts h.2, h.0), omega (arith, choice_levels ts, h.1)))
 
   branches_fit : {d : ℕ} {s : State} {o : Outcome (List Tree)} → Branches d s o → d < max_depth →
       Holds (BranchesFit d s) o
   branches_fit (last b e) l = let h = branch_fits b l in (omega (arith, h.0), omega (arith, h.1), omega arith)
-  branches_fit (more {d} {s} {t} {u} {r} {q} b e m f) l =
+  branches_fit (more {d} {s} {t} {u} {q} b e m) l =
       let h = branch_fits b l in let past = strip_bytes bar t.rest u e in
-      then_holds (BranchesFit d (at t u)) (BranchesFit d s) q _ (branches_fit m l) f (λ ts v i.
+      then_holds (BranchesFit d (at t u)) (BranchesFit d s) q _ (branches_fit m l) (λ ts v i.
       (omega (arith, h.0, past, i.0), omega (arith, h.1, i.1), omega arith))
   branches_fit (branch_fault b) l = tt
 
   branch_fits : {d : ℕ} {s : State} {o : Outcome Tree} → Branch d s o → d < max_depth → Holds (Fills 831 d s) o
-  branch_fits (branch {d} {s} {q} b e) l =
-      then_holds (PiecesFit d s) (Fills 831 d s) q _ (pieces_fit b l) e (λ ts v h.
+  branch_fits (branch {d} {s} {q} b) l =
+      then_holds (PiecesFit d s) (Fills 831 d s) q _ (pieces_fit b l) (λ ts v h.
       (omega (arith, join_size ts, h.0), omega (arith, join_levels ts, h.1)))
 
   pieces_fit : {d : ℕ} {s : State} {o : Outcome (List Tree)} → Pieces d s o → d < max_depth →
       Holds (PiecesFit d s) o
   pieces_fit (stop e) l = (omega arith, omega (arith, l))
-  pieces_fit (next {d} {s} {t} {q} e a m f) l =
+  pieces_fit (next {d} {t} {q} {s} e a m) l =
       let h = piece_fits a l in
-      then_holds (PiecesFit d t) (PiecesFit d s) q _ (pieces_fit m l) f (λ ts v i.
+      then_holds (PiecesFit d t) (PiecesFit d s) q _ (pieces_fit m l) (λ ts v i.
       (omega (arith, h.0, i.0), omega (arith, h.1, i.1)))
   pieces_fit (piece_fault e a) l = tt
 
   piece_fits : {d : ℕ} {s : State} {o : Outcome Tree} → Piece d s o → d < max_depth → Holds (Fits 830 d s) o
-  piece_fits (piece {d} {s} {u} {q} k x e) l =
+  piece_fits (piece {d} {s} {u} {q} k x) l =
       let past = fits (skipped_slice s u k) in
-      then_holds (Fits 820 d (at s u)) (Fits 830 d s) q _ (atom_fits x l) e (λ a t h.
+      then_holds (Fits 820 d (at s u)) (Fits 830 d s) q _ (atom_fits x l) (λ a t h.
       holds_too (GrowsBy 5 a t) (Fits 830 d s) (quants d (bytes s.rest) a t) (λ b v i.
       (omega (arith, past, h.0, i.0), omega (arith, h.1, i.1))) (quants_grow d (bytes s.rest) a t))
   piece_fits (layout_fault k) l = tt
 
   atom_fits : {d : ℕ} {s : State} {o : Outcome Tree} → Atom d s o → d < max_depth → Holds (Fits 820 d s) o
-  atom_fits (atom {d} {s} {q} {k} e a b) l =
-      let h = of_fits a l (subst (AheadSlice s) e (ahead_slice d s)) (subst ReadAhead e (ahead_read d s))
-      (subst (OpensBelow d) e (ahead_below d s)) in
-      let P = Holds (Fits 820 d s) in subst P b (behind_keeps P (λ r t f i. i) k s.flags q h)
+  atom_fits (atom {d} {s} {e} {q} is a) l =
+      behind_keeps (Holds (Fits 820 d s)) (λ r t f i. i) e s.flags q
+      (of_fits a l (subst (AheadSlice s) is (ahead_slice d s)) (subst ReadAhead is (ahead_read d s))
+      (subst (OpensBelow d) is (ahead_below d s)))
 
   of_fits : {k : Ahead} {d : ℕ} {s : State} {o : Outcome Tree} → AtomOf k d s o → d < max_depth →
       AheadSlice s k → ReadAhead k → OpensBelow d k → Holds (Fits 820 d s) o
   of_fits a_nothing l h r b = (omega arith, omega (arith, l))
-  of_fits (a_leaf {d} {s} {o}) l h r b = leaf_fits d s o l h r
-  of_fits (a_group {d} {h = head} {s} {t} {q} i e) l h r b =
+  of_fits (a_read {d} {s} {o}) l h r b = leaf_fits d s o l h r
+  of_fits (a_group {d} {s} {t} {h = head} {q} i) l h r b =
       let p = reach_of s.rest in
-      then_holds (InsideFits d t) (Fits 820 d s) q _ (inside_fits i b) e (λ x v k.
+      then_holds (InsideFits d t) (Fits 820 d s) q _ (inside_fits i b) (λ x v k.
       let over = node_over head p x in
       (omega (arith, weight_most (group_node head p x), over.0, k.0, h.1), omega (arith, over.1, k.1)))
   of_fits (a_condition {d} {s} i m) l h r b =
       let c = inside_fits i b in body_fits m s (omega (arith, c.0, h.1)) c.1 b
   of_fits (condition_fault i) l h r b = tt
   of_fits (a_body {s} m) l h r b = body_fits m s (omega (arith, h.1, leaf_size _ r.1)) (omega (arith, b, r.2)) b
-  of_fits (two_branches {d} {s} {v} {u} {a} {q} x e m f) l h r b =
+  of_fits (two_branches {d} {s} {v} {u} {a} {q} x e m) l h r b =
       let first = branch_fits x b in let past = strip_bytes bar v.rest u e in
-      then_holds (Fills 831 (d + 1) (at v u)) (Fits 820 d s) q _ (branch_fits m b) f (λ y w i.
+      then_holds (Fills 831 (d + 1) (at v u)) (Fits 820 d s) q _ (branch_fits m b) (λ y w i.
       closed_holds (Fits 820 d s) (expression a y) w (λ z k.
       (omega (arith, h.1, first.0, past, i.0, k), omega (arith, first.1, i.1))))
-  of_fits (one_branch {d} {s} {v} {a} x e f) l h r b =
+  of_fits (one_branch {d} {s} {v} {a} x e) l h r b =
       let first = branch_fits x b in let over = clear_or_stopper_over a in
-      subst (Holds (Fits 820 d s)) f (closed_holds (Fits 820 d s) (clear_or_stopper a) v (λ z k.
-      (omega (arith, weight_most (clear_or_stopper a), over.0, h.1, first.0, k), omega (arith, over.1, first.1))))
+      closed_holds (Fits 820 d s) (clear_or_stopper a) v (λ z k.
+      (omega (arith, weight_most (clear_or_stopper a), over.0, h.1, first.0, k), omega (arith, over.1, first.1)))
   of_fits (absent_fault x) l h r b = tt
 
   inside_fits : {d : ℕ} {s : State} {o : Outcome Tree} → Inside d s o → d + 1 < max_depth → Holds (InsideFits d s) o
-  inside_fits (inside {d} {s} {q} a e) l =
-      then_holds (Fills max_levels (d + 1) s) (InsideFits d s) q _ (alternation_fits a l) e (λ t v h.
+  inside_fits (inside {d} {s} {q} a) l =
+      then_holds (Fills max_levels (d + 1) s) (InsideFits d s) q _ (alternation_fits a l) (λ t v h.
       closed_holds (InsideFits d s) t v (λ z k. (omega (arith, h.0, k), omega (arith, h.1))))
 
   body_fits : {d : ℕ} {c : Tree} {t : State} {o : Outcome Tree} → Body d c t o → (s : State) →
       nodes c + 2 + 2 * bytes t.rest ≤ 2 * bytes s.rest → levels c + 13 * d ≤ 819 → d + 1 < max_depth →
       Holds (Fits 820 d s) o
-  body_fits (the_body {d} {c} {s = t} {q} a e) s g h l =
-      then_holds (Fills max_levels (d + 1) t) (Fits 820 d s) q _ (alternation_fits a l) e (λ x v i.
+  body_fits (the_body {d} {c} {q} {s = t} a) s g h l =
+      then_holds (Fills max_levels (d + 1) t) (Fits 820 d s) q _ (alternation_fits a l) (λ x v i.
       cond_both (bytes v.rest == bytes t.rest && not (is_condition c)) _ _ (Holds (Fits 820 d s)) (λ _. tt) (λ _.
       let parts = branches_of x in let whole = conditional_of c parts.0 parts.1 in let deep = branches_levels x in
       closed_holds (Fits 820 d s) whole v (λ z k. (
@@ -422,9 +422,9 @@ ended_holds P r s h = by_text s.rest
     by_text (c ∷ t) = tt
 
 whole_fits : {f : Flags} {text : Text} {o : Outcome Tree} → Whole f text o → Holds (Fills max_levels 0 (start f text)) o
-whole_fits (whole {f} {text} {q} a e) =
+whole_fits (whole {f} {text} {q} a) =
     let P = Fills max_levels 0 (start f text) in
-    then_holds P P q _ (alternation_fits a (omega arith)) e (λ r t h. ended_holds P r t h)
+    then_holds P P q _ (alternation_fits a (omega arith)) (λ r t h. ended_holds P r t h)
 
 -- an answered tree is small beside its text
 pub bounded : {f : Flags} {re : List ℕ} {t : Tree} {m : Marks} → IsUtf8 re → IsTreeOf f (chars re) t m →

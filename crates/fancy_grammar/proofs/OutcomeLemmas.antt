@@ -3,16 +3,18 @@ use Rattle.std.proofs.Common.{◌≡◌, ℕ, Bool, true, false, if◌then◌els
 use Rattle.std.proofs.Common.{append_assoc}
 use Rattle.std.specs.List.{AllByRecursion}
 use Rattle.fancy_lex.specs.Fault.{Kind}
-use Rattle.fancy_lex.specs.Text.{Text, strip}
+use Rattle.fancy_lex.specs.LayoutSteps.{rest}
+use Rattle.fancy_lex.specs.Text.{Text, bytes, strip}
 use Rattle.fancy_lex.specs.declared.error.Failure.{Failure}
 use Rattle.fancy_lex.specs.declared.error.Failure.TheVariants.{At, OutOfMemory}
 use Rattle.fancy_lex.specs.Characters.{bar}
 use Rattle.fancy_lex.specs.declared.flags.Flags.{Flags}
-use Rattle.fancy_grammar.specs.Ahead.{Ahead, nothing, leaf, with_head, condition, body, absent_branch}
-use Rattle.fancy_grammar.specs.Grammar.{restored, behind_atom, Branch, Branches, more, Piece, Pieces, next}
+use Rattle.fancy_grammar.specs.Ahead.{Ahead, nothing, read, with_head, condition, body, absent_branch}
+use Rattle.fancy_grammar.specs.Grammar.{restored, behind_atom, Branch, Branches, more, Piece, Pieces, next, Atom, piece}
+use Rattle.fancy_grammar.specs.Quantified.{quants}
 use Rattle.fancy_grammar.specs.Join.{is_empty, solid}
 use Rattle.fancy_grammar.specs.Errors.{IsErrorAmong, IsErrorAt}
-use Rattle.fancy_grammar.specs.State.{ends, State, at, Outcome, done, fault, and_then, seen_through}
+use Rattle.fancy_grammar.specs.State.{ends, skipped, State, at, Outcome, done, fault, and_then, seen_through}
 use Rattle.fancy_grammar.specs.Tree.{Tree}
 
 -- the same tree with other flags
@@ -28,18 +30,17 @@ Holds P (done a s) = P a s
 Holds P (fault k p) = Unit {0}
 
 -- one part behind another
-pub then_holds : {A B : Type 0} (P : A → State → Type 0) (Q : B → State → Type 0) (q : Outcome A) {o : Outcome B}
-    (f : A → State → Outcome B) → Holds P q → and_then q f ≡ o →
-    ((a : A) (s : State) → P a s → Holds Q (f a s)) → Holds Q o
-then_holds P Q (done a s) f h e g = subst (Holds Q) e (g a s h)
-then_holds P Q (fault k p) f h e g = subst (Holds Q) e tt
+pub then_holds : {A B : Type 0} (P : A → State → Type 0) (Q : B → State → Type 0) (q : Outcome A)
+    (f : A → State → Outcome B) → Holds P q → ((a : A) (s : State) → P a s → Holds Q (f a s)) → Holds Q (and_then q f)
+then_holds P Q (done a s) f h g = g a s h
+then_holds P Q (fault k p) f h g = tt
 
 -- what says nothing of the flags behind an atom holds whatever they are
 pub behind_keeps : (P : Outcome Tree → Type 0) →
     ((r : Tree) (t : State) (f : Flags) → P (done r t) → P (done r (record t { flags = f }))) →
     (k : Ahead) (f : Flags) (q : Outcome Tree) → P q → P (behind_atom k f q)
 behind_keeps P g nothing f q h = h
-behind_keeps P g (leaf o) f q h = h
+behind_keeps P g (read o) f q h = h
 behind_keeps P g (with_head a s) f q h = then_keeps P g f q h
 behind_keeps P g (condition s) f q h = then_keeps P g f q h
 behind_keeps P g (body c s) f q h = then_keeps P g f q h
@@ -100,9 +101,14 @@ module _ (P : Tree → Type 0) where
 pub more_any : {d : ℕ} {s t : State} {u : Text} {r : Tree} (o : Outcome (List Tree)) → Branch d s (done r t) →
     strip bar t.rest ≡ Some u →
     Branches d (at t u) o → Branches d s (trees_before (r ∷ []) o)
-more_any o b e m = more b e m refl
+more_any o b e m = more b e m
 
 pub next_any : {d : ℕ} {s t : State} {r : Tree} (o : Outcome (List Tree)) → ends s.rest ≡ false →
     Piece d s (done r t) → Pieces d t o →
     Pieces d s (trees_before (r ∷ []) o)
-next_any o e a m = next e a m refl
+next_any o e a m = next e a m
+
+-- a piece that comes to this under its quantifiers
+pub piece_as : {d : ℕ} {s : State} {u : Text} {q o : Outcome Tree} → skipped s ≡ rest u → Atom d (at s u) q →
+    and_then q (quants d (bytes s.rest)) ≡ o → Piece d s o
+piece_as {d} {s} l a e = subst (Piece d s) e (piece l a)

@@ -11,12 +11,13 @@ use Rattle.fancy_lex.specs.Escaped.{Escape}
 use Rattle.fancy_lex.specs.Reading.{gives}
 use Rattle.fancy_lex.specs.Text.{Text, bytes}
 use Rattle.fancy_parts.specs.Quantifier.{counts}
-use Rattle.fancy_grammar.specs.Ahead.{ahead, leaf, leaf_node, leaf_outcome}
-use Rattle.fancy_grammar.specs.Grammar.{piece, atom, a_leaf}
+use Rattle.fancy_grammar.specs.Ahead.{ahead, read, leaf_node, leaf_outcome}
+use Rattle.fancy_grammar.specs.Grammar.{atom, a_read}
 use Rattle.fancy_grammar.specs.Plain.{is_special, is_suffix, IsPlain}
 use Rattle.fancy_grammar.specs.Quantified.{quant, quants, adjacent, max_adjacent, is_unmoved}
 use Rattle.fancy_grammar.specs.State.{ends, State, at, Outcome, done, and_then}
 use Rattle.fancy_grammar.specs.Tree.{Tree, literal}
+use Rattle.fancy_grammar.proofs.OutcomeLemmas.{piece_as}
 
 -- a state is where it is
 pub unmoved : (s : State) → is_unmoved s s ≡ true
@@ -44,7 +45,7 @@ no_end : (c : ℕ) (t : Text) → is_special c ≡ false → ends (c ∷ t) ≡ 
 no_end c t e = grind (arith, nat_tests)
 
 is_leaf : (d c : ℕ) (s : State) (t : Text) → is_special c ≡ false →
-    ahead d (at s (c ∷ t)) ≡ leaf (done (literal (c ∷ []) s.flags.casei) (at s t))
+    ahead d (at s (c ∷ t)) ≡ read (done (literal (c ∷ []) s.flags.casei) (at s t))
 unfolding ahead
 is_leaf d c s t e = grind (arith, nat_tests)
 
@@ -103,8 +104,8 @@ pub is_plain : (s : State) (c d : ℕ) (t u : Text) → is_layout s.flags.ignore
     IsPlain s (literal (c ∷ []) s.flags.casei) t
 is_plain s c d t u x y e f h k = record {
   more = ap ends e ∙ no_end c t h;
-  piece = λ b. piece (rw e (no_layout c s.flags.ignore_space t (not_open c h) x))
-      (atom (is_leaf b c s t h) a_leaf refl)
+  piece = λ b. piece_as (rw e (no_layout c s.flags.ignore_space t (not_open c h) x))
+      (atom (is_leaf b c s t h) a_read)
       (rw f (no_quants b _ _ (at s (d ∷ u)) (λ l. no_quant l d _ s u y k)));
 }
 
@@ -113,16 +114,16 @@ backslash_no_layout true = refl
 backslash_no_layout false = refl
 
 is_escape : (d : ℕ) (s : State) (t u : Text) (e : Escape) → escape s.flags false t ≡ gives e u →
-    ahead d (at s (backslash ∷ t)) ≡ leaf (done (leaf_node e) (at s u))
+    ahead d (at s (backslash ∷ t)) ≡ read (done (leaf_node e) (at s u))
 unfolding ahead
-is_escape d s t u e h = ap (λ o. leaf (leaf_outcome leaf_node s o)) h
+is_escape d s t u e h = ap (λ o. read (leaf_outcome leaf_node s o)) h
 
 pub is_plain_escape : (s : State) (t u : Text) (e : Escape) → s.rest ≡ backslash ∷ t →
     escape s.flags false t ≡ gives e u →
     ((d left : ℕ) (a : Tree) → quants d left a (at s u) ≡ done a (at s u)) → IsPlain s (leaf_node e) u
 is_plain_escape s t u e i h q = record {
   more = ap ends i;
-  piece = λ b. piece (rw i (no_layout backslash s.flags.ignore_space t refl
+  piece = λ b. piece_as (rw i (no_layout backslash s.flags.ignore_space t refl
       (backslash_no_layout s.flags.ignore_space)))
-      (atom (is_escape b s t u e h) a_leaf refl) (q b _ _);
+      (atom (is_escape b s t u e h) a_read) (q b _ _);
 }

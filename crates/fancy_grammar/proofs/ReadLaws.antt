@@ -21,13 +21,13 @@ use Rattle.fancy_parts.specs.GroupName.{group_name}
 use Rattle.fancy_parts.specs.HeadReference.{named_reference, named_call, begins_target, condition_target}
 use Rattle.fancy_parts.specs.Quantifier.{counts}
 use Rattle.fancy_parts.specs.declared.counts.Counts.{Counts}
-use Rattle.fancy_grammar.specs.Ahead.{Ahead, leaf, body, ahead, ahead_of, behind_layout, group_ahead, behind_question}
+use Rattle.fancy_grammar.specs.Ahead.{Ahead, read, body, ahead, ahead_of, behind_layout, group_ahead, behind_question}
 use Rattle.fancy_grammar.specs.Ahead.{condition_ahead, repeater_ahead, flags_ahead, named_ahead, target_ahead}
 use Rattle.fancy_grammar.specs.Ahead.{backref_node, call_node, leaf_node, leaf_outcome, leaf_of, is_before_nothing}
 use Rattle.fancy_grammar.specs.Depth.{max_depth}
 use Rattle.fancy_grammar.specs.Grammar.{Alternation, alternation, Branches, last, more, branch_fault, Branch, branch}
 use Rattle.fancy_grammar.specs.Grammar.{Pieces, stop, next, piece_fault, Piece, piece, layout_fault, Atom, atom, AtomOf}
-use Rattle.fancy_grammar.specs.Grammar.{a_nothing, a_leaf, a_group, a_condition, condition_fault, a_body, two_branches}
+use Rattle.fancy_grammar.specs.Grammar.{a_nothing, a_read, a_group, a_condition, condition_fault, a_body, two_branches}
 use Rattle.fancy_grammar.specs.Grammar.{one_branch, absent_fault, Inside, inside, Body, the_body, Whole, whole, closed}
 use Rattle.fancy_grammar.specs.Grammar.{closed_at, ended, ended_at, branches_of, conditional_of, conditional_behind}
 use Rattle.fancy_grammar.specs.Grammar.{is_condition, clear_or_stopper}
@@ -110,10 +110,9 @@ choice_read (t ∷ u ∷ ts) h = (omega arith, all_read (t ∷ u ∷ ts) h)
 abbrev pub Makes : {A : Type 0} → (A → Type 0) → Outcome A → Type 0
 Makes P o = Holds (λ a s. P a) o
 
-then_makes : {A B : Type 0} (P : A → Type 0) (Q : B → Type 0) (q : Outcome A) {o : Outcome B}
-    (f : A → State → Outcome B) → Makes P q → and_then q f ≡ o →
-    ((a : A) (s : State) → P a → Makes Q (f a s)) → Makes Q o
-then_makes P Q q f h e g = then_holds (λ a s. P a) (λ a s. Q a) q f h e g
+then_makes : {A B : Type 0} (P : A → Type 0) (Q : B → Type 0) (q : Outcome A) (f : A → State → Outcome B) →
+    Makes P q → ((a : A) (s : State) → P a → Makes Q (f a s)) → Makes Q (and_then q f)
+then_makes P Q q f h g = then_holds (λ a s. P a) (λ a s. Q a) q f h g
 
 any_made : {A : Type 0} (o : Outcome A) → Makes (λ _. Unit {0}) o
 any_made (done a s) = tt
@@ -135,10 +134,10 @@ quant_read left a t h = by_layout (skipped t)
     by_counts v (Some (c, u)) =
         let marks = suffix (at t u) c in
         cond_both (is_repeatable t.flags a) _ _ (Makes IsRead)
-        (λ _. then_makes (λ _. Unit {0}) IsRead marks _ (any_made marks) refl
+        (λ _. then_makes (λ _. Unit {0}) IsRead marks _ (any_made marks)
         (λ m s _. quantified_read t.flags c m a h)) (λ _.
         cond_both (is_dropped t.flags left a u) _ _ (Makes IsRead)
-        (λ _. then_makes (λ _. Unit {0}) IsRead marks _ (any_made marks) refl (λ m s _. h)) (λ _. tt))
+        (λ _. then_makes (λ _. Unit {0}) IsRead marks _ (any_made marks) (λ m s _. h)) (λ _. tt))
 
     by_layout : (j : Skipped) → Makes IsRead (quant_at left a t j)
     by_layout (rest v) = by_counts v (counts t.flags.ignore_space v)
@@ -147,17 +146,17 @@ quant_read left a t h = by_layout (skipped t)
 adjacent_read : (k d : ℕ) (a : Tree) (t : State) → IsRead a → Makes IsRead (adjacent k d a t)
 unfolding adjacent
 adjacent_read zero d a t h =
-    then_makes IsRead IsRead (quant (bytes t.rest) a t) _ (quant_read (bytes t.rest) a t h) refl
+    then_makes IsRead IsRead (quant (bytes t.rest) a t) _ (quant_read (bytes t.rest) a t h)
     (λ b v i. cond_both (is_unmoved t v) _ _ (Makes IsRead) (λ _. i) (λ _. tt))
 adjacent_read (suc k) d a t h =
     let more = adjacent_read k (d + 1) in
-    then_makes IsRead IsRead (quant (bytes t.rest) a t) _ (quant_read (bytes t.rest) a t h) refl
+    then_makes IsRead IsRead (quant (bytes t.rest) a t) _ (quant_read (bytes t.rest) a t h)
     (λ b v i. cond_both (is_unmoved t v) _ _ (Makes IsRead) (λ _. i)
     (λ _. cond_both (nat_lt (d + 1) max_depth) _ _ (Makes IsRead) (λ _. more b v i) (λ _. tt)))
 
 quants_read : (d left : ℕ) (a : Tree) (t : State) → IsRead a → Makes IsRead (quants d left a t)
 quants_read d left a t h =
-    then_makes IsRead IsRead (quant left a t) _ (quant_read left a t h) refl
+    then_makes IsRead IsRead (quant left a t) _ (quant_read left a t h)
     (λ b v i. cond_both v.flags.oniguruma_mode _ _ (Makes IsRead) (λ _. adjacent_read max_adjacent d b v i) (λ _. i))
 
 -- ---- what stands ahead
@@ -170,7 +169,7 @@ leaf_is_read : (t : Tree) → IsReadLeaf t → IsRead t
 leaf_is_read t h = subst (AllByRecursion IsReadNode) (sym h.1) (h.0, tt)
 
 abbrev pub ReadAhead : Ahead → Type 0
-ReadAhead (leaf o) = Makes IsReadLeaf o
+ReadAhead (read o) = Makes IsReadLeaf o
 ReadAhead (body c s) = IsReadLeaf c
 ReadAhead _ = Unit {0}
 
@@ -232,16 +231,16 @@ question_read s t =
     choose_both P (strip_word (codes "!") t) _ _ (λ u _. tt) (
     choose_both P (strip_word (codes "<=") t) _ _ (λ u _. tt) (
     choose_both P (strip_word (codes "<!") t) _ _ (λ u _. tt) (
-    choose_both P (strip_word (codes ">") t) _ _ (λ u _. tt) (
-    choose_both P (strip_word (codes "(DEFINE)") t) _ _ (λ u _. tt) (
-    choose_both P (strip_word (codes "(") t) _ _ (λ u _. condition_read s u) (
+    choose_both P (strip_word (codes "<") t) _ _ (λ u _. named_read s (group_name (code ">") t u)) (
+    choose_both P (strip_word (codes "'") t) _ _ (λ u _. named_read s (group_name (code "'") t u)) (
+    choose_both P (strip_word (codes "P<") t) _ _ (λ u _. named_read s (group_name (code ">") t u)) (
+    choose_both P (strip_word (codes "P=") t) _ _ (λ u _. backref_read s s.flags.casei (named_reference u)) (
+    choose_both P (strip_word (codes "P>") t) _ _ (λ u _. call_read s (named_call u)) (
     choose_both P (strip_word (codes "~|") t) _ _ (λ u _. tt) (
     choose_both P (strip_word (codes "~") t) _ _ (λ u _. repeater_read s u) (
-    choose_both P (strip_word (codes "<") t) _ _ (λ u _. named_read s (group_name t)) (
-    choose_both P (strip_word (codes "'") t) _ _ (λ u _. named_read s (group_name t)) (
-    choose_both P (strip_word (codes "P<") t) _ _ (λ u _. named_read s (group_name t)) (
-    choose_both P (strip_word (codes "P=") t) _ _ (λ u _. backref_read s s.flags.casei (named_reference u)) (
-    choose_both P (strip_word (codes "P>") t) _ _ (λ u _. call_read s (named_call u))
+    choose_both P (strip_word (codes ">") t) _ _ (λ u _. tt) (
+    choose_both P (strip_word (codes "(DEFINE)") t) _ _ (λ u _. tt) (
+    choose_both P (strip_word (codes "(") t) _ _ (λ u _. condition_read s u)
     (flags_read (letters s.flags t)))))))))))))))
 
 group_read : (s : State) (t : Text) → ReadAhead (group_ahead s t)
@@ -321,56 +320,54 @@ behind_body_read left c r s h i =
 
 mutual
   alternation_read : {d : ℕ} {s : State} {o : Outcome Tree} → Alternation d s o → Makes IsRead o
-  alternation_read (alternation {q} b e) =
-      then_makes AreRead IsRead q _ (branches_are_read b) e (λ l v h. choice_read l h)
+  alternation_read (alternation {q} b) =
+      then_makes AreRead IsRead q _ (branches_are_read b) (λ l v h. choice_read l h)
 
   branches_are_read : {d : ℕ} {s : State} {o : Outcome (List Tree)} → Branches d s o → Makes AreRead o
   branches_are_read (last b e) = (branch_read b, tt)
-  branches_are_read (more {q} b e m f) =
-      let h = branch_read b in then_makes AreRead AreRead q _ (branches_are_read m) f (λ l v i. (h, i))
+  branches_are_read (more {q} b e m) =
+      let h = branch_read b in then_makes AreRead AreRead q _ (branches_are_read m) (λ l v i. (h, i))
   branches_are_read (branch_fault b) = tt
 
   branch_read : {d : ℕ} {s : State} {o : Outcome Tree} → Branch d s o → Makes IsRead o
-  branch_read (branch {q} b e) = then_makes AreRead IsRead q _ (pieces_read b) e (λ l v h. join_read l h)
+  branch_read (branch {q} b) = then_makes AreRead IsRead q _ (pieces_read b) (λ l v h. join_read l h)
 
   pieces_read : {d : ℕ} {s : State} {o : Outcome (List Tree)} → Pieces d s o → Makes AreRead o
   pieces_read (stop e) = tt
-  pieces_read (next {q} e a m f) =
-      let h = piece_read a in then_makes AreRead AreRead q _ (pieces_read m) f (λ l v i. (h, i))
+  pieces_read (next {q} e a m) =
+      let h = piece_read a in then_makes AreRead AreRead q _ (pieces_read m) (λ l v i. (h, i))
   pieces_read (piece_fault e a) = tt
 
   piece_read : {d : ℕ} {s : State} {o : Outcome Tree} → Piece d s o → Makes IsRead o
-  piece_read (piece {d} {s} {q} l x e) =
-      then_makes IsRead IsRead q _ (atom_read x) e (λ a t i. quants_read d (bytes s.rest) a t i)
+  piece_read (piece {d} {s} {q} l x) =
+      then_makes IsRead IsRead q _ (atom_read x) (λ a t i. quants_read d (bytes s.rest) a t i)
   piece_read (layout_fault l) = tt
 
   atom_read : {d : ℕ} {s : State} {o : Outcome Tree} → Atom d s o → Makes IsRead o
-  atom_read (atom {d} {s} {q} {k} e a b) =
-      let h = of_read a (subst ReadAhead e (ahead_read d s)) in
-      subst (Makes IsRead) b (behind_keeps (Makes IsRead) (λ r t f i. i) k s.flags q h)
+  atom_read (atom {d} {s} {e} {q} is a) =
+      behind_keeps (Makes IsRead) (λ r t f i. i) e s.flags q (of_read a (subst ReadAhead is (ahead_read d s)))
 
   of_read : {k : Ahead} {d : ℕ} {s : State} {o : Outcome Tree} → AtomOf k d s o → ReadAhead k → Makes IsRead o
   of_read a_nothing h = (tt, tt)
-  of_read (a_leaf {o}) h = leaf_read_whole o h
-  of_read (a_group {h = head} {s} {q} i e) h =
-      then_makes IsRead IsRead q _ (inside_read i) e (λ r v a. node_read head (reach_of s.rest) r a)
+  of_read (a_read {o}) h = leaf_read_whole o h
+  of_read (a_group {s} {h = head} {q} i) h =
+      then_makes IsRead IsRead q _ (inside_read i) (λ r v a. node_read head (reach_of s.rest) r a)
   of_read (a_condition i b) h = body_read b (inside_read i)
   of_read (condition_fault i) h = tt
   of_read (a_body {c} b) h = body_read b (leaf_is_read c h)
-  of_read (two_branches {a} {q} b e m f) h =
+  of_read (two_branches {a} {q} b e m) h =
       let first = branch_read b in
-      then_makes IsRead IsRead q _ (branch_read m) f
+      then_makes IsRead IsRead q _ (branch_read m)
       (λ r w x. closed_read (expression a r) w (tt, all_read (a ∷ r ∷ []) (first, (x, tt))))
-  of_read (one_branch {v} {a} b e f) h =
-      subst (Makes IsRead) f (closed_read (clear_or_stopper a) v (clear_or_stopper_read a (branch_read b)))
+  of_read (one_branch {v} {a} b e) h = closed_read (clear_or_stopper a) v (clear_or_stopper_read a (branch_read b))
   of_read (absent_fault b) h = tt
 
   inside_read : {d : ℕ} {s : State} {o : Outcome Tree} → Inside d s o → Makes IsRead o
-  inside_read (inside {q} r e) = then_makes IsRead IsRead q _ (alternation_read r) e (λ t v h. closed_read t v h)
+  inside_read (inside {q} r) = then_makes IsRead IsRead q _ (alternation_read r) (λ t v h. closed_read t v h)
 
   body_read : {d : ℕ} {c : Tree} {t : State} {o : Outcome Tree} → Body d c t o → IsRead c → Makes IsRead o
-  body_read (the_body {c} {s = t} {q} r e) h =
-      then_makes IsRead IsRead q _ (alternation_read r) e (λ a v i. behind_body_read (bytes t.rest) c a v h i)
+  body_read (the_body {c} {q} {s = t} r) h =
+      then_makes IsRead IsRead q _ (alternation_read r) (λ a v i. behind_body_read (bytes t.rest) c a v h i)
 
 ended_read : (r : Tree) (s : State) → IsRead r → Makes IsRead (ended r s)
 ended_read r s h = by_text s.rest
@@ -380,7 +377,7 @@ ended_read r s h = by_text s.rest
     by_text (c ∷ u) = tt
 
 whole_read : {f : Flags} {text : Text} {o : Outcome Tree} → Whole f text o → Makes IsRead o
-whole_read (whole {q} a e) = then_makes IsRead IsRead q _ (alternation_read a) e
+whole_read (whole {q} a) = then_makes IsRead IsRead q _ (alternation_read a)
     (λ r t h. ended_read r t h)
 
 -- each raw tree of a text is so

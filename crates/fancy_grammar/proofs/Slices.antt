@@ -38,14 +38,14 @@ use Rattle.fancy_parts.specs.LetterSteps.{letters}
 use Rattle.fancy_parts.specs.Quantifier.{counts}
 use Rattle.fancy_parts.specs.declared.counts.Counts.{Counts}
 use Rattle.fancy_grammar.proofs.OutcomeLemmas.{behind_keeps}
-use Rattle.fancy_grammar.specs.Ahead.{Ahead, nothing, leaf, with_head, condition, body, absent_branch, ahead, ahead_of}
+use Rattle.fancy_grammar.specs.Ahead.{Ahead, nothing, read, with_head, condition, body, absent_branch, ahead, ahead_of}
 use Rattle.fancy_grammar.specs.Ahead.{behind_layout, group_ahead, behind_question, condition_ahead, repeater_ahead}
 use Rattle.fancy_grammar.specs.Ahead.{verb_ahead, flags_ahead, leaf_node, leaf_outcome, leaf_of, is_before_nothing}
 use Rattle.fancy_grammar.specs.Ahead.{named_ahead, target_ahead, backref_node, call_node}
 use Rattle.fancy_grammar.specs.Depth.{max_depth}
 use Rattle.fancy_grammar.specs.Grammar.{Alternation, alternation, Branches, last, more, branch_fault, Branch, branch}
 use Rattle.fancy_grammar.specs.Grammar.{Pieces, stop, next, piece_fault, Piece, piece, layout_fault, Atom, atom, AtomOf}
-use Rattle.fancy_grammar.specs.Grammar.{a_nothing, a_leaf, a_group, a_condition, condition_fault, a_body, two_branches}
+use Rattle.fancy_grammar.specs.Grammar.{a_nothing, a_read, a_group, a_condition, condition_fault, a_body, two_branches}
 use Rattle.fancy_grammar.specs.Grammar.{one_branch, absent_fault, Inside, inside, Body, the_body, Whole, whole, start}
 use Rattle.fancy_grammar.specs.Grammar.{closed, closed_at, ended, ended_at, branches_of, conditional_of}
 use Rattle.fancy_grammar.specs.Grammar.{conditional_behind, is_condition, clear_or_stopper}
@@ -254,11 +254,10 @@ layout_slice x t = by_layout (layout x t) refl
 
 -- where q was read from t, and f goes on from what it left
 then_slice : {A B : Type 0} (m : A → List Item) (w : B → List Item) (s t : State) (q : Outcome A)
-    {o : Outcome B} (f : A → State → Outcome B) →
-    Slice s.rest t.rest → Within m t q → and_then q f ≡ o →
-    ((a : A) (v : State) → Span (m a) t.rest v.rest → Within w s (f a v)) → Within w s o
-then_slice m w s t (done a v) f x h e g = subst (Within w s) e (g a v h)
-then_slice m w s t (fault k p) f x h e g = subst (Within w s) e (stands_in x h)
+    (f : A → State → Outcome B) → Slice s.rest t.rest → Within m t q →
+    ((a : A) (v : State) → Span (m a) t.rest v.rest → Within w s (f a v)) → Within w s (and_then q f)
+then_slice m w s t (done a v) f x h g = g a v h
+then_slice m w s t (fault k p) f x h g = stands_in x h
 
 -- ---- quantifiers
 
@@ -303,10 +302,10 @@ quant_slice left a s t h = by_layout (skipped t) (layout_slice t.flags.ignore_sp
         record { word = i.ends.0 ++ i.mark ∷ []; cut = i.ends.1 ∙ sym (append_assoc i.ends.0 (i.mark ∷ []) u) } in
         let marks = suffix_slice (items a) s (at t u) c (behind l past) in
         cond_both (is_repeatable t.flags a) _ _ W
-        (λ _. then_slice (λ (m : Suffix). items a) items s s _ _ (here s.rest) marks refl
+        (λ _. then_slice (λ (m : Suffix). items a) items s s _ _ (here s.rest) marks
         (λ m v k. listed (items_quantified t.flags c m a) k)) (λ _.
         cond_both (is_dropped t.flags left a u) _ _ W
-        (λ _. then_slice (λ (m : Suffix). items a) items s s _ _ (here s.rest) marks refl (λ m v k. k))
+        (λ _. then_slice (λ (m : Suffix). items a) items s s _ _ (here s.rest) marks (λ m v k. k))
         (λ _. stands_before i.ascii (to_ends (on l.slice (cut_slice i.ends)))))
 
     by_layout : (j : Skipped) → SkippedSlice t.rest j → W (quant_at left a t j)
@@ -318,18 +317,18 @@ adjacent_slice : (k d : ℕ) (a : Tree) (s t : State) → Span (items a) s.rest 
     Within items s (adjacent k d a t)
 unfolding adjacent
 adjacent_slice zero d a s t h =
-    then_slice items items s s _ _ (here s.rest) (quant_slice (bytes t.rest) a s t h) refl
+    then_slice items items s s _ _ (here s.rest) (quant_slice (bytes t.rest) a s t h)
     (λ b v i. cond_both (is_unmoved t v) _ _ (Within items s) (λ _. i) (λ _. stands_at i.slice))
 adjacent_slice (suc k) d a s t h =
     let more = adjacent_slice k (d + 1) in
-    then_slice items items s s _ _ (here s.rest) (quant_slice (bytes t.rest) a s t h) refl
+    then_slice items items s s _ _ (here s.rest) (quant_slice (bytes t.rest) a s t h)
     (λ b v i. cond_both (is_unmoved t v) _ _ (Within items s) (λ _. i)
     (λ _. cond_both (nat_lt (d + 1) max_depth) _ _ (Within items s) (λ _. more b s v i) (λ _. stands_at i.slice)))
 
 quants_slice : (d left : ℕ) (a : Tree) (s t : State) → Span (items a) s.rest t.rest →
     Within items s (quants d left a t)
 quants_slice d left a s t h =
-    then_slice items items s s _ _ (here s.rest) (quant_slice left a s t h) refl
+    then_slice items items s s _ _ (here s.rest) (quant_slice left a s t h)
     (λ b v i. cond_both v.flags.oniguruma_mode _ _ (Within items s) (λ _. adjacent_slice max_adjacent d b s v i)
     (λ _. i))
 
@@ -354,7 +353,7 @@ leaf_within s (fault k p) h = h
 -- what an atom takes by what stands ahead
 abbrev pub AheadSlice : State → Ahead → Type 0
 AheadSlice s nothing = Unit {0}
-AheadSlice s (leaf o) = LeafSlice s o
+AheadSlice s (read o) = LeafSlice s o
 AheadSlice s (with_head h t) = Past s t.rest
 AheadSlice s (condition t) = Past s t.rest
 AheadSlice s (body c t) = Span (items c) s.rest t.rest × (bytes t.rest + 2 ≤ bytes s.rest)
@@ -412,14 +411,10 @@ at_least_one a = record { word = a.word; cut = a.cut; long = omega (arith, a.lon
 abbrev BehindMark : State → Text → Type 0
 BehindMark s t = Past s t × MayStand s.rest (reach_of t + 1)
 
-name_slice : (s z : State) (t : Text) (o : Reading Text) → BehindMark s t →
-    TakesOrFails (reach_of t + 1) 3 t o →
-    AheadSlice s (named_ahead z o)
-name_slice s z t (gives w u) h (takes a) = further s h.0 (taken a)
-name_slice s z t (fails e) h (fails_at l) = subst (MayStand s.rest) (sym l) h.1
-
-group_name_slice : (s z : State) (t : Text) → BehindMark s t → AheadSlice s (named_ahead z (group_name t))
-group_name_slice s z t h = name_slice s z t (group_name t) h (takes_group_name t)
+name_slice : (s z : State) (t u : Text) (o : Reading Text) → Past s u → MayStand s.rest (reach_of t + 1) →
+    TakesOrFails (reach_of t + 1) 2 u o → AheadSlice s (named_ahead z o)
+name_slice s z t u (gives w v) h m (takes a) = further s h (taken a)
+name_slice s z t u (fails e) h m (fails_at l) = subst (MayStand s.rest) (sym l) m
 
 target_slice : (s z : State) (t : Text) (o : Reading referred_spec.Reference) → Past s t →
     TakesOrFails (reach_of t) 2 t o →
@@ -469,23 +464,26 @@ question_slice s z t h =
     choose_both P (strip_word (codes "!") t) _ _ (behind (codes "!")) (
     choose_both P (strip_word (codes "<=") t) _ _ (behind (codes "<=")) (
     choose_both P (strip_word (codes "<!") t) _ _ (behind (codes "<!")) (
-    choose_both P (strip_word (codes ">") t) _ _ (behind (codes ">")) (
-    choose_both P (strip_word (codes "(DEFINE)") t) _ _ (behind (codes "(DEFINE)")) (
-    choose_both P (strip_word (codes "(") t) _ _ (λ u e. condition_ahead_slice s z u (behind (codes "(") u e)) (
-    choose_both P (strip_word (codes "~|") t) _ _ (behind (codes "~|")) (
-    choose_both P (strip_word (codes "~") t) _ _ (λ u e. repeater_slice s z u (behind (codes "~") u e)) (
-    choose_both P (strip_word (codes "<") t) _ _ (λ u e. group_name_slice s z t h) (
-    choose_both P (strip_word (codes "'") t) _ _ (λ u e. group_name_slice s z t h) (
-    choose_both P (strip_word (codes "P<") t) _ _ (λ u e. group_name_slice s z t h) (
+    choose_both P (strip_word (codes "<") t) _ _ (named (code ">") (codes "<")) (
+    choose_both P (strip_word (codes "'") t) _ _ (named (code "'") (codes "'")) (
+    choose_both P (strip_word (codes "P<") t) _ _ (named (code ">") (codes "P<")) (
     choose_both P (strip_word (codes "P=") t) _ _
     (λ u e. backref_slice s z z.flags.casei u (named_reference u) (behind (codes "P=") u e)
     (takes_named_reference u) (named_reference_at u)) (
     choose_both P (strip_word (codes "P>") t) _ _
-    (λ u e. call_slice s z u (named_call u) (behind (codes "P>") u e) (takes_named_call u) (named_call_at u))
+    (λ u e. call_slice s z u (named_call u) (behind (codes "P>") u e) (takes_named_call u) (named_call_at u)) (
+    choose_both P (strip_word (codes "~|") t) _ _ (behind (codes "~|")) (
+    choose_both P (strip_word (codes "~") t) _ _ (λ u e. repeater_slice s z u (behind (codes "~") u e)) (
+    choose_both P (strip_word (codes ">") t) _ _ (behind (codes ">")) (
+    choose_both P (strip_word (codes "(DEFINE)") t) _ _ (behind (codes "(DEFINE)")) (
+    choose_both P (strip_word (codes "(") t) _ _ (λ u e. condition_ahead_slice s z u (behind (codes "(") u e))
     (letters_ahead_slice s z t h.0))))))))))))))
   where
     behind : (w u : Text) → strip_word w t ≡ Some u → Past s u
     behind w u e = further s h.0 (word_slice w t u e)
+
+    named : (mark : ℕ) (w u : Text) → strip_word w t ≡ Some u → AheadSlice s (named_ahead z (group_name mark t u))
+    named mark w u e = name_slice s z t u (group_name mark t u) (behind w u e) h.1 (takes_group_name mark t u)
 
 group_slice : (s z : State) (t : Text) → Past s t → AheadSlice s (group_ahead z t)
 group_slice s z t h =
@@ -633,71 +631,70 @@ skipped_slice s u l = subst (SkippedSlice s.rest) l (layout_slice s.flags.ignore
 
 mutual
   alternation_slice : {d : ℕ} {s : State} {o : Outcome Tree} → Alternation d s o → Within items s o
-  alternation_slice (alternation {s} {q} b e) =
-      then_slice items_of items s s q _ (here s.rest) (branches_slice b) e (λ l v h. listed (sym (items_choice l)) h)
+  alternation_slice (alternation {s} {q} b) =
+      then_slice items_of items s s q _ (here s.rest) (branches_slice b) (λ l v h. listed (sym (items_choice l)) h)
 
   branches_slice : {d : ℕ} {s : State} {o : Outcome (List Tree)} → Branches d s o → Within items_of s o
   branches_slice (last {r} b e) = listed (sym (append-nil (items r))) (branch_slice b)
-  branches_slice (more {s} {t} {u} {r} {q} b e m f) =
+  branches_slice (more {s} {t} {u} {q} b e m) =
       let h = behind (branch_slice b) (strip_slice bar t.rest u e) in
-      then_slice items_of items_of s (at t u) q _ h.slice (branches_slice m) f (λ l v i. then h i)
+      then_slice items_of items_of s (at t u) q _ h.slice (branches_slice m) (λ l v i. then h i)
   branches_slice (branch_fault b) = branch_slice b
 
   pub branch_slice : {d : ℕ} {s : State} {o : Outcome Tree} → Branch d s o → Within items s o
-  branch_slice (branch {s} {q} b e) = then_slice items_of items s s q _ (here s.rest) (pieces_slice b) e
+  branch_slice (branch {s} {q} b) = then_slice items_of items s s q _ (here s.rest) (pieces_slice b)
       (λ l v h. listed (sym (items_join l)) h)
 
   pieces_slice : {d : ℕ} {s : State} {o : Outcome (List Tree)} → Pieces d s o → Within items_of s o
   pieces_slice (stop {s} e) = bare (here s.rest)
-  pieces_slice (next {s} {t} {r} {q} e a m f) =
-      let h = piece_slice a in then_slice items_of items_of s t q _ h.slice (pieces_slice m) f (λ l v i. then h i)
+  pieces_slice (next {t} {q} {s} e a m) =
+      let h = piece_slice a in then_slice items_of items_of s t q _ h.slice (pieces_slice m) (λ l v i. then h i)
   pieces_slice (piece_fault e a) = piece_slice a
 
   pub piece_slice : {d : ℕ} {s : State} {o : Outcome Tree} → Piece d s o → Within items s o
-  piece_slice (piece {d} {s} {u} {q} l x e) =
+  piece_slice (piece {d} {s} {u} {q} l x) =
       let k = skipped_slice s u l in
-      then_slice items items s (at s u) q _ k (atom_slice x) e
+      then_slice items items s (at s u) q _ k (atom_slice x)
       (λ a t i. quants_slice d (bytes s.rest) a s t (before k i))
-  piece_slice (layout_fault {p} {s} l) =
+  piece_slice (layout_fault {s} l) =
       subst (SkippedSlice s.rest) l (layout_slice s.flags.ignore_space s.rest)
 
   atom_slice : {d : ℕ} {s : State} {o : Outcome Tree} → Atom d s o → Within items s o
-  atom_slice (atom {d} {s} {q} {k} e a b) =
-      let h = of_slice a (subst (AheadSlice s) e (ahead_slice d s)) in
-      subst (Within items s) b (behind_keeps (Within items s) (λ r t f i. i) k s.flags q h)
+  atom_slice (atom {d} {s} {e} {q} is a) =
+      behind_keeps (Within items s) (λ r t f i. i) e s.flags q
+      (of_slice a (subst (AheadSlice s) is (ahead_slice d s)))
 
   of_slice : {k : Ahead} {d : ℕ} {s : State} {o : Outcome Tree} → AtomOf k d s o → AheadSlice s k →
       Within items s o
   of_slice (a_nothing {s}) h = bare (here s.rest)
-  of_slice (a_leaf {s} {o}) h = leaf_within s o h
-  of_slice (a_group {h = head} {s} {t} {q} i e) h =
-      then_slice items items s t q _ h.0 (inside_slice i) e (λ r v a. node_slice head s t r v.rest h a)
+  of_slice (a_read {s} {o}) h = leaf_within s o h
+  of_slice (a_group {s} {t} {h = head} {q} i) h =
+      then_slice items items s t q _ h.0 (inside_slice i) (λ r v a. node_slice head s t r v.rest h a)
   of_slice (a_condition {s} i b) h = body_slice s b (before h.0 (inside_slice i))
   of_slice (condition_fault i) h = stands_in h.0 (inside_slice i)
   of_slice (a_body {s} b) h = body_slice s b h.0
-  of_slice (two_branches {s} {v} {u} {a} {q} b e m f) h =
+  of_slice (two_branches {s} {v} {u} {a} {q} b e m) h =
       let k = before h.0 (behind (branch_slice b) (strip_slice bar v.rest u e)) in
-      then_slice items items s (at v u) q _ k.slice (branch_slice m) f
+      then_slice items items s (at v u) q _ k.slice (branch_slice m)
       (λ r w x.
       closed_slice s w (expression a r) (listed (ap (λ l. items a ++ l) (sym (append-nil (items r)))) (then k x)))
-  of_slice (one_branch {s} {v} {a} b e f) h =
-      subst (Within items s) f
-      (closed_slice s v (clear_or_stopper a) (listed (items_clear_or_stopper a) (before h.0 (branch_slice b))))
+  of_slice (one_branch {s} {v} {a} b e) h =
+      closed_slice s v (clear_or_stopper a) (listed (items_clear_or_stopper a) (before h.0 (branch_slice b)))
   of_slice (absent_fault b) h = stands_in h.0 (branch_slice b)
 
   pub inside_slice : {d : ℕ} {s : State} {o : Outcome Tree} → Inside d s o → Within items s o
-  inside_slice (inside {s} {q} r e) = then_slice items items s s q _ (here s.rest) (alternation_slice r) e
+  inside_slice (inside {s} {q} r) = then_slice items items s s q _ (here s.rest) (alternation_slice r)
       (λ t v h. closed_slice s v t h)
 
   body_slice : {d : ℕ} {c : Tree} (s : State) {t : State} {o : Outcome Tree} → Body d c t o →
       Span (items c) s.rest t.rest → Within items s o
-  body_slice s (the_body {c} {s = t} {q} r e) h =
-      then_slice items items s t q _ h.slice (alternation_slice r) e
+  body_slice s (the_body {c} {q} {s = t} r) h =
+      then_slice items items s t q _ h.slice (alternation_slice r)
       (λ a v i. conditional_slice (bytes t.rest) s v c a (then h i))
 
 whole_slice : {f : Flags} {text : Text} {o : Outcome Tree} → Whole f text o → Within items (start f text) o
-whole_slice (whole {f} {text} {q} a e) =
-    then_slice items items (start f text) (start f text) q _ (here text) (alternation_slice a) e
+whole_slice (whole {f} {text} {q} a) =
+    then_slice items items (start f text) (start f text) q _ (here text) (alternation_slice a)
     (λ r t h. ended_slice (start f text) t r h)
 
 -- a fault stands where an end of the text begins, or one past its end

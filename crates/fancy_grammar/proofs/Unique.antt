@@ -1,5 +1,5 @@
 -- From a start there is at most one outcome.
-use Rattle.std.proofs.Common.{◌≡◌, ℕ, refl, sym, subst, ap, ◌∙◌, List, ◌∷◌}
+use Rattle.std.proofs.Common.{◌≡◌, ℕ, refl, sym, subst, ap, ap₂, ◌∙◌, List, ◌∷◌}
 use Rattle.fancy_lex.specs.Fault.{Kind}
 use Rattle.fancy_lex.specs.Text.{Text, bytes, reach_of}
 use Rattle.fancy_lex.specs.declared.flags.Flags.{Flags}
@@ -7,7 +7,7 @@ use Rattle.fancy_lex.specs.LayoutSteps.{rest, fault as open_comment}
 use Rattle.fancy_grammar.specs.Ahead.{Ahead}
 use Rattle.fancy_grammar.specs.Grammar.{Alternation, alternation, Branches, last, more, branch_fault, Branch, branch}
 use Rattle.fancy_grammar.specs.Grammar.{Pieces, stop, next, piece_fault, Piece, piece, layout_fault, Atom, atom, AtomOf}
-use Rattle.fancy_grammar.specs.Grammar.{a_nothing, a_leaf, a_group, a_condition, condition_fault, a_body, two_branches}
+use Rattle.fancy_grammar.specs.Grammar.{a_nothing, a_read, a_group, a_condition, condition_fault, a_body, two_branches}
 use Rattle.fancy_grammar.specs.Grammar.{one_branch, absent_fault, Inside, inside, Body, the_body, Whole, whole, closed}
 use Rattle.fancy_grammar.specs.Grammar.{conditional_behind, clear_or_stopper}
 use Rattle.fancy_grammar.specs.Head.{group_node}
@@ -31,13 +31,12 @@ same_fault : {A B : Type 0} {k j : Kind} {p q : ℕ} → ◌≡◌ {A = Outcome 
 same_fault e = cc
 
 -- the same part behind the same outcome
-then_same : {A B : Type 0} (f : A → State → Outcome B) {q r : Outcome A} {o m : Outcome B} → and_then q f ≡ o →
-    and_then r f ≡ m → q ≡ r → o ≡ m
-then_same f e g h = sym e ∙ ap (λ x. and_then x f) h ∙ g
+then_same : {A B : Type 0} (f : A → State → Outcome B) {q r : Outcome A} → q ≡ r → and_then q f ≡ and_then r f
+then_same f h = ap (λ x. and_then x f) h
 
-in_front_same : {A : Type 0} {a b : A} {q r o m : Outcome (List A)} → seen_through (λ l. a ∷ l) q ≡ o →
-    seen_through (λ l. b ∷ l) r ≡ m → a ≡ b → q ≡ r → o ≡ m
-in_front_same {b} {q} e g i h = sym e ∙ ap (λ x. seen_through (λ l. x ∷ l) q) i ∙ ap (seen_through (λ l. b ∷ l)) h ∙ g
+in_front_same : {A : Type 0} {a b : A} {q r : Outcome (List A)} → a ≡ b → q ≡ r →
+    seen_through (λ l. a ∷ l) q ≡ seen_through (λ l. b ∷ l) r
+in_front_same i h = ap₂ (λ a q. seen_through (λ l. a ∷ l) q) i h
 
 -- ---- layout is a function
 
@@ -64,86 +63,81 @@ ap_at e i = cc
 mutual
   alternation_unique : {d : ℕ} {s z : State} {o q : Outcome Tree} → Alternation d s o → Alternation d z q →
       s ≡ z → o ≡ q
-  alternation_unique (alternation a f) (alternation b g) e = then_same _ f g (branches_unique a b e)
+  alternation_unique (alternation a) (alternation b) e = then_same _ (branches_unique a b e)
 
   branches_unique : {d : ℕ} {s z : State} {o q : Outcome (List Tree)} → Branches d s o → Branches d z q → s ≡ z →
       o ≡ q
   branches_unique (last a f) (last b g) e = let h = branch_unique a b e in cc
-  branches_unique (last a f) (more b g m i) e = let h = branch_unique a b e in absurd cc
+  branches_unique (last a f) (more b g m) e = let h = branch_unique a b e in absurd cc
   branches_unique (last a f) (branch_fault b) e = absurd (done_or_fault (branch_unique a b e))
-  branches_unique (more a f m i) (last b g) e = let h = branch_unique a b e in absurd cc
-  branches_unique (more a f m i) (more b g l j) e =
-      let h = branch_unique a b e in in_front_same i j (value_of h) (branches_unique m l cc)
-  branches_unique (more a f m i) (branch_fault b) e = absurd (done_or_fault (branch_unique a b e))
+  branches_unique (more a f m) (last b g) e = let h = branch_unique a b e in absurd cc
+  branches_unique (more a f m) (more b g l) e =
+      let h = branch_unique a b e in in_front_same (value_of h) (branches_unique m l cc)
+  branches_unique (more a f m) (branch_fault b) e = absurd (done_or_fault (branch_unique a b e))
   branches_unique (branch_fault a) (last b g) e = absurd (done_or_fault (sym (branch_unique a b e)))
-  branches_unique (branch_fault a) (more b g m i) e = absurd (done_or_fault (sym (branch_unique a b e)))
+  branches_unique (branch_fault a) (more b g m) e = absurd (done_or_fault (sym (branch_unique a b e)))
   branches_unique (branch_fault a) (branch_fault b) e = same_fault (branch_unique a b e)
 
   branch_unique : {d : ℕ} {s z : State} {o q : Outcome Tree} → Branch d s o → Branch d z q → s ≡ z → o ≡ q
-  branch_unique (branch a f) (branch b g) e = then_same _ f g (pieces_unique a b e)
+  branch_unique (branch a) (branch b) e = then_same _ (pieces_unique a b e)
 
   pieces_unique : {d : ℕ} {s z : State} {o q : Outcome (List Tree)} → Pieces d s o → Pieces d z q → s ≡ z → o ≡ q
   pieces_unique (stop f) (stop g) e = cc
-  pieces_unique (stop f) (next g b m i) e = absurd cc
+  pieces_unique (stop f) (next g b m) e = absurd cc
   pieces_unique (stop f) (piece_fault g b) e = absurd cc
-  pieces_unique (next f a m i) (stop g) e = absurd cc
-  pieces_unique (next f a m i) (next g b l j) e =
-      let h = piece_unique a b e in in_front_same i j (value_of h) (pieces_unique m l (state_of h))
-  pieces_unique (next f a m i) (piece_fault g b) e = absurd (done_or_fault (piece_unique a b e))
+  pieces_unique (next f a m) (stop g) e = absurd cc
+  pieces_unique (next f a m) (next g b l) e =
+      let h = piece_unique a b e in in_front_same (value_of h) (pieces_unique m l (state_of h))
+  pieces_unique (next f a m) (piece_fault g b) e = absurd (done_or_fault (piece_unique a b e))
   pieces_unique (piece_fault f a) (stop g) e = absurd cc
-  pieces_unique (piece_fault f a) (next g b m i) e = absurd (done_or_fault (sym (piece_unique a b e)))
+  pieces_unique (piece_fault f a) (next g b m) e = absurd (done_or_fault (sym (piece_unique a b e)))
   pieces_unique (piece_fault f a) (piece_fault g b) e = same_fault (piece_unique a b e)
 
   piece_unique : {d : ℕ} {s z : State} {o q : Outcome Tree} → Piece d s o → Piece d z q → s ≡ z → o ≡ q
-  piece_unique (piece {d} {s} {q} l a f) (piece m b g) e =
+  piece_unique (piece {d} l a) (piece m b) e =
       let h = atom_unique a b (ap_at e (same_layout l m e)) in
-      sym f ∙ ap (λ (x : State). and_then q (quants d (bytes x.rest))) e ∙ then_same _ refl g h
-  piece_unique (piece l a f) (layout_fault m) e = absurd (layout_or_fault l m e)
-  piece_unique (layout_fault l) (piece m b g) e = absurd (layout_or_fault m l (sym e))
+      ap₂ (λ (x : State) q. and_then q (quants d (bytes x.rest))) e h
+  piece_unique (piece l a) (layout_fault m) e = absurd (layout_or_fault l m e)
+  piece_unique (layout_fault l) (piece m b) e = absurd (layout_or_fault m l (sym e))
   piece_unique (layout_fault l) (layout_fault m) e = let h = same_skipped e in cc
 
   atom_unique : {d : ℕ} {s z : State} {o q : Outcome Tree} → Atom d s o → Atom d z q → s ≡ z → o ≡ q
-  atom_unique (atom {d} {k} f a h) (atom {s = z} {q} {k = l} g b m) e =
+  atom_unique (atom {d} {e = k} f a) (atom {s = z} {e = l} {q} g b) e =
       let i : l ≡ k = cc in let same = of_unique a (subst (λ (x : Ahead). AtomOf x d z q) i b) e in cc
 
   of_unique : {k : Ahead} {d : ℕ} {s z : State} {o q : Outcome Tree} → AtomOf k d s o → AtomOf k d z q → s ≡ z →
       o ≡ q
   of_unique a_nothing a_nothing e = cc
-  of_unique a_leaf a_leaf e = cc
-  of_unique (a_group {h} {q} a f) (a_group b g) e =
-      sym f ∙ ap (λ (x : State). seen_through (group_node h (reach_of x.rest)) q) e
-      ∙ then_same _ refl g (inside_unique a b refl)
+  of_unique a_read a_read e = cc
+  of_unique (a_group {h} a) (a_group b) e =
+      ap₂ (λ (x : State) q. seen_through (group_node h (reach_of x.rest)) q) e (inside_unique a b refl)
   of_unique (a_condition i a) (a_condition j b) e =
       let h = inside_unique i j refl in body_unique a b (value_of h) (state_of h)
   of_unique (a_condition i a) (condition_fault j) e = absurd (done_or_fault (inside_unique i j refl))
   of_unique (condition_fault i) (a_condition j b) e = absurd (done_or_fault (sym (inside_unique i j refl)))
   of_unique (condition_fault i) (condition_fault j) e = inside_unique i j refl
   of_unique (a_body a) (a_body b) e = body_unique a b refl refl
-  of_unique (two_branches {q} a f m i) (two_branches b g l j) e =
+  of_unique (two_branches a f m) (two_branches b g l) e =
       let h = branch_unique a b refl in
-      sym i ∙ ap (λ (x : Tree). and_then q (λ r. closed (expression x r))) (value_of h)
-      ∙ then_same _ refl j (branch_unique m l cc)
-  of_unique (two_branches a f m i) (one_branch b g j) e = let h = branch_unique a b refl in absurd cc
-  of_unique (two_branches a f m i) (absent_fault b) e = absurd (done_or_fault (branch_unique a b refl))
-  of_unique (one_branch a f i) (two_branches b g l j) e = let h = branch_unique a b refl in absurd cc
-  of_unique (one_branch {v} a f i) (one_branch {a = c} b g j) e =
-      let h = branch_unique a b refl in
-      sym i ∙ ap (λ (x : Tree). closed (clear_or_stopper x) v) (value_of h)
-      ∙ ap (closed (clear_or_stopper c)) (state_of h) ∙ j
-  of_unique (one_branch a f i) (absent_fault b) e = absurd (done_or_fault (branch_unique a b refl))
-  of_unique (absent_fault a) (two_branches b g l j) e = absurd (done_or_fault (sym (branch_unique a b refl)))
-  of_unique (absent_fault a) (one_branch b g j) e = absurd (done_or_fault (sym (branch_unique a b refl)))
+      ap₂ (λ (x : Tree) q. and_then q (λ r. closed (expression x r))) (value_of h) (branch_unique m l cc)
+  of_unique (two_branches a f m) (one_branch b g) e = let h = branch_unique a b refl in absurd cc
+  of_unique (two_branches a f m) (absent_fault b) e = absurd (done_or_fault (branch_unique a b refl))
+  of_unique (one_branch a f) (two_branches b g l) e = let h = branch_unique a b refl in absurd cc
+  of_unique (one_branch a f) (one_branch b g) e =
+      let h = branch_unique a b refl in ap₂ (λ x v. closed (clear_or_stopper x) v) (value_of h) (state_of h)
+  of_unique (one_branch a f) (absent_fault b) e = absurd (done_or_fault (branch_unique a b refl))
+  of_unique (absent_fault a) (two_branches b g l) e = absurd (done_or_fault (sym (branch_unique a b refl)))
+  of_unique (absent_fault a) (one_branch b g) e = absurd (done_or_fault (sym (branch_unique a b refl)))
   of_unique (absent_fault a) (absent_fault b) e = branch_unique a b refl
 
   inside_unique : {d : ℕ} {s z : State} {o q : Outcome Tree} → Inside d s o → Inside d z q → s ≡ z → o ≡ q
-  inside_unique (inside a f) (inside b g) e = then_same _ f g (alternation_unique a b e)
+  inside_unique (inside a) (inside b) e = then_same _ (alternation_unique a b e)
 
   body_unique : {d : ℕ} {c x : Tree} {s z : State} {o q : Outcome Tree} → Body d c s o → Body d x z q → c ≡ x →
       s ≡ z → o ≡ q
-  body_unique (the_body {s} {q} a f) (the_body {c = x} b g) i e =
-      sym f ∙ ap (λ (y : Tree). and_then q (conditional_behind y (bytes s.rest))) i
-      ∙ ap (λ (y : State). and_then q (conditional_behind x (bytes y.rest))) e
-      ∙ then_same _ refl g (alternation_unique a b e)
+  body_unique (the_body {q} {s} a) (the_body {c = x} b) i e =
+      ap (λ (y : Tree). and_then q (conditional_behind y (bytes s.rest))) i
+      ∙ ap₂ (λ (y : State) o. and_then o (conditional_behind x (bytes y.rest))) e (alternation_unique a b e)
 
 pub whole_unique : {f : Flags} {text : Text} {o q : Outcome Tree} → Whole f text o → Whole f text q → o ≡ q
-whole_unique (whole a f) (whole b g) = then_same _ f g (alternation_unique a b refl)
+whole_unique (whole a) (whole b) = then_same _ (alternation_unique a b refl)

@@ -33,15 +33,15 @@ use Rattle.fancy_grammar.specs.declared.kinds.LookAround.TheVariants.{LookBehind
 -- what stands before an atom decides its rule
 pub data Ahead : Type 0 where
   nothing : Ahead  -- no atom: it is Empty, and takes no character
-  leaf : Outcome Tree → Ahead  -- an atom that holds no branches, or its fault
+  read : Outcome Tree → Ahead  -- an atom without branches, which is read here at once, or a fault: its outcome
   with_head : Head → State → Ahead  -- a group of one alternation, which begins at the state
   condition : State → Ahead  -- a conditional whose condition is an alternation, which begins at the state
   body : Tree → State → Ahead  -- a conditional whose condition is this tree; its body begins at the state
   absent_branch : State → Ahead  -- `(?~|` of an absent expression, stopper or clear; a branch begins at the state
 
--- a group with this fault
-abbrev pub fault_ahead : Fault → Ahead
-fault_ahead e = leaf (faulted e)
+-- nothing can stand there: this fault
+abbrev pub refused : Fault → Ahead
+refused e = read (faulted e)
 
 -- the start of each line; in Oniguruma mode it has a variant of its own
 abbrev pub start_of_line : Flags → Assertion
@@ -100,32 +100,32 @@ is_before_nothing c = c ∈ "+*?|)"
 -- a group whose name was read
 abbrev pub named_ahead : State → Reading Text → Ahead
 named_ahead s (gives w u) = with_head (capture (Some w)) (at s u)
-named_ahead s (fails e) = fault_ahead e
+named_ahead s (fails e) = refused e
 
 -- a conditional whose target was read
 abbrev pub target_ahead : State → Reading Reference → Ahead
 target_ahead s (gives r u) = body (condition_node r) (at s u)
-target_ahead s (fails e) = fault_ahead e
+target_ahead s (fails e) = refused e
 
 -- a flag group, whose letters were read
 abbrev pub flags_ahead : Reading Letters → Ahead
-flags_ahead (gives (setting f) u) = leaf (done empty (record { flags = f; rest = u }))
+flags_ahead (gives (setting f) u) = read (done empty (record { flags = f; rest = u }))
 flags_ahead (gives (scoped f) u) = with_head scope (record { flags = f; rest = u })
-flags_ahead (fails e) = fault_ahead e
+flags_ahead (fails e) = refused e
 
 -- a verb, whose name and closing parenthesis stand behind its asterisk
 abbrev pub verb_ahead : State → Text → Ahead
 verb_ahead s t =
-    choose (verb_at t) (λ p. leaf (done (verb p.0) (at s p.1))) (fault_ahead (unknown_verb (code "*" ∷ t)))
+    choose (verb_at t) (λ p. read (done (verb p.0) (at s p.1))) (refused (unknown_verb (code "*" ∷ t)))
 
 -- a verb as the condition of a conditional, behind its asterisk
 abbrev pub verb_condition : State → Text → Ahead
 verb_condition s t =
-    choose (verb_at t) (λ p. body (verb p.0) (at s p.1)) (fault_ahead (unknown_verb (code "*" ∷ t)))
+    choose (verb_at t) (λ p. body (verb p.0) (at s p.1)) (refused (unknown_verb (code "*" ∷ t)))
 
 -- behind `(?(`, where more text is due: a condition, which is a target, a verb, or an alternation
 abbrev pub condition_ahead : State → Text → Ahead
-condition_ahead s [] = fault_ahead group_not_closed
+condition_ahead s [] = refused group_not_closed
 condition_ahead s (c ∷ t) =
     if begins_target (c ∷ t) then target_ahead s (condition_target (c ∷ t))
     else if c == code "*" then verb_condition s t
@@ -133,7 +133,7 @@ condition_ahead s (c ∷ t) =
 
 -- behind `(?~`, where more text is due: an alternation
 abbrev pub repeater_ahead : State → Text → Ahead
-repeater_ahead s [] = fault_ahead group_not_closed
+repeater_ahead s [] = refused group_not_closed
 repeater_ahead s (c ∷ t) = with_head repeater (at s (c ∷ t))
 
 -- behind the question mark of a group's head: the first row whose word stands there, or else letters of flags
@@ -143,16 +143,16 @@ behind_question s t =
     choose (strip_word (codes "!") t) (λ u. with_head (look LookAheadNeg) (at s u)) (
     choose (strip_word (codes "<=") t) (λ u. with_head (look LookBehind) (at s u)) (
     choose (strip_word (codes "<!") t) (λ u. with_head (look LookBehindNeg) (at s u)) (
-    choose (strip_word (codes ">") t) (λ u. with_head atomic (at s u)) (
-    choose (strip_word (codes "(DEFINE)") t) (λ u. with_head define (at s u)) (
-    choose (strip_word (codes "(") t) (λ u. condition_ahead s u) (
+    choose (strip_word (codes "<") t) (λ u. named_ahead s (group_name (code ">") t u)) (
+    choose (strip_word (codes "'") t) (λ u. named_ahead s (group_name (code "'") t u)) (
+    choose (strip_word (codes "P<") t) (λ u. named_ahead s (group_name (code ">") t u)) (
+    choose (strip_word (codes "P=") t) (λ u. read (leaf_outcome (backref_node s.flags.casei) s (named_reference u)))
+    (choose (strip_word (codes "P>") t) (λ u. read (leaf_outcome call_node s (named_call u))) (
     choose (strip_word (codes "~|") t) (λ u. absent_branch (at s u)) (
     choose (strip_word (codes "~") t) (λ u. repeater_ahead s u) (
-    choose (strip_word (codes "<") t) (λ u. named_ahead s (group_name t)) (
-    choose (strip_word (codes "'") t) (λ u. named_ahead s (group_name t)) (
-    choose (strip_word (codes "P<") t) (λ u. named_ahead s (group_name t)) (
-    choose (strip_word (codes "P=") t) (λ u. leaf (leaf_outcome (backref_node s.flags.casei) s (named_reference u)))
-    (choose (strip_word (codes "P>") t) (λ u. leaf (leaf_outcome call_node s (named_call u)))
+    choose (strip_word (codes ">") t) (λ u. with_head atomic (at s u)) (
+    choose (strip_word (codes "(DEFINE)") t) (λ u. with_head define (at s u)) (
+    choose (strip_word (codes "(") t) (λ u. condition_ahead s u)
     (flags_ahead (letters s.flags t)))))))))))))))
 
 -- behind the parenthesis and layout: a head, a verb, or a capturing group without a name
@@ -164,16 +164,16 @@ group_ahead s t =
 
 abbrev pub behind_layout : State → Skipped → Ahead
 behind_layout s (rest u) = group_ahead s u
-behind_layout s (open_comment p) = fault_ahead (comment_not_closed p)
+behind_layout s (open_comment p) = refused (comment_not_closed p)
 
 -- what stands before an atom, inside d groups
 abbrev pub ahead_of : ℕ → State → Text → Ahead
 ahead_of d s [] = nothing
 ahead_of d s (c ∷ t) =
     if c == code "(" then (
-    if nat_le max_depth (d + 1) then fault_ahead (group_too_deep (c ∷ t)) else behind_layout s (skipped (at s t)))
+    if nat_le max_depth (d + 1) then refused (group_too_deep (c ∷ t)) else behind_layout s (skipped (at s t)))
     else if is_before_nothing c then nothing
-    else leaf (leaf_of s c t)
+    else read (leaf_of s c t)
 
 unfoldable pub ahead : ℕ → State → Ahead
 ahead d s = ahead_of d s s.rest

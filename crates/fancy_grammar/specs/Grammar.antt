@@ -12,8 +12,8 @@ use Rattle.fancy_lex.specs.FaultTable.{body_wanting}
 use Rattle.fancy_lex.specs.LayoutSteps.{rest, fault as open_comment}
 use Rattle.fancy_lex.specs.Text.{Text, bytes, place_at, reach_of, strip}
 use Rattle.fancy_lex.specs.declared.flags.Flags.{Flags}
-use Rattle.fancy_grammar.specs.Ahead.{Ahead, nothing, leaf, with_head, condition, body, absent_branch, ahead}
-use Rattle.fancy_grammar.specs.Head.{Head, group_node}
+use Rattle.fancy_grammar.specs.Ahead.{Ahead, nothing, read, with_head, condition, body, absent_branch, ahead}
+use Rattle.fancy_grammar.specs.Head.{group_node}
 use Rattle.fancy_grammar.specs.Join.{join, choice, is_empty}
 use Rattle.fancy_grammar.specs.Label.{AstReference, ast_condition}
 use Rattle.fancy_grammar.specs.Quantified.{quants}
@@ -71,80 +71,69 @@ restored f q = and_then q (λ r t. done r (record t { flags = f }))
 -- behind a group the flags f from before it hold again; a leaf, as `(?flags)`, leaves its own
 abbrev pub behind_atom : Ahead → Flags → Outcome Tree → Outcome Tree
 behind_atom nothing f q = q
-behind_atom (leaf o) f q = q
+behind_atom (read o) f q = q
 behind_atom _ f q = restored f q
 
 -- ---- the productions
 
 -- In each of them d is how many groups are open; s is the state where it begins, t and v are later states, in text
--- order, and u is a later text; r, a and c are trees, of which c is a condition; q is the outcome of a part, and o that
--- of the whole; k and p are the kind and the reach of a fault, and in `Atom` k is what stands ahead.
+-- order, and u is a later text; r, a and c are trees, of which c is a condition; o and q are outcomes, e is what stands
+-- ahead, and k and p are the kind and the reach of a fault.
 
 mutual
   -- branches with bars between
   pub data Alternation : ℕ → State → Outcome Tree → Type 0 where
-    alternation : {d : ℕ} {s : State} {q : Outcome (List Tree)} {o : Outcome Tree} → Branches d s q →
-        seen_through choice q ≡ o → Alternation d s o
+    alternation : {d s q : _} → Branches d s q → Alternation d s (seen_through choice q)
 
   pub data Branches : ℕ → State → Outcome (List Tree) → Type 0 where
-    last : {d : ℕ} {s t : State} {r : Tree} → Branch d s (done r t) → strip bar t.rest ≡ None →
-        Branches d s (done (r ∷ []) t)
-    more : {d : ℕ} {s t : State} {u : Text} {r : Tree} {q o : Outcome (List Tree)} → Branch d s (done r t) →
-        strip bar t.rest ≡ Some u → Branches d (at t u) q → seen_through (λ l. r ∷ l) q ≡ o → Branches d s o
-    branch_fault : {d p : ℕ} {s : State} {k : Kind} → Branch d s (fault k p) → Branches d s (fault k p)
+    last : {d s t r : _} → Branch d s (done r t) → strip bar t.rest ≡ None → Branches d s (done (r ∷ []) t)
+    more : {d s t u r q : _} → Branch d s (done r t) → strip bar t.rest ≡ Some u → Branches d (at t u) q →
+        Branches d s (seen_through (λ l. r ∷ l) q)
+    branch_fault : {d s k p : _} → Branch d s (fault k p) → Branches d s (fault k p)
 
   -- pieces up to where a branch ends
   pub data Branch : ℕ → State → Outcome Tree → Type 0 where
-    branch : {d : ℕ} {s : State} {q : Outcome (List Tree)} {o : Outcome Tree} → Pieces d s q →
-        seen_through join q ≡ o → Branch d s o
+    branch : {d s q : _} → Pieces d s q → Branch d s (seen_through join q)
 
   pub data Pieces : ℕ → State → Outcome (List Tree) → Type 0 where
     stop : {d : ℕ} {s : State} → ends s.rest ≡ true → Pieces d s (done [] s)
-    next : {d : ℕ} {s t : State} {r : Tree} {q o : Outcome (List Tree)} → ends s.rest ≡ false →
-        Piece d s (done r t) → Pieces d t q → seen_through (λ l. r ∷ l) q ≡ o → Pieces d s o
-    piece_fault : {d p : ℕ} {s : State} {k : Kind} → ends s.rest ≡ false → Piece d s (fault k p) →
-        Pieces d s (fault k p)
+    next : {d t r q : _} {s : State} → ends s.rest ≡ false → Piece d s (done r t) → Pieces d t q →
+        Pieces d s (seen_through (λ l. r ∷ l) q)
+    piece_fault : {d k p : _} {s : State} → ends s.rest ≡ false → Piece d s (fault k p) → Pieces d s (fault k p)
 
   -- layout, and an atom under the quantifiers that follow it
   pub data Piece : ℕ → State → Outcome Tree → Type 0 where
-    piece : {d : ℕ} {s : State} {u : Text} {q o : Outcome Tree} → skipped s ≡ rest u → Atom d (at s u) q →
-        and_then q (quants d (bytes s.rest)) ≡ o → Piece d s o
-    layout_fault : {d p : ℕ} {s : State} → skipped s ≡ open_comment p → Piece d s (faulted (comment_not_closed p))
+    piece : {d s u q : _} → skipped s ≡ rest u → Atom d (at s u) q → Piece d s (and_then q (quants d (bytes s.rest)))
+    layout_fault : {d s p : _} → skipped s ≡ open_comment p → Piece d s (faulted (comment_not_closed p))
 
-  -- what stands ahead, k, decides which rule of an atom applies
+  -- what stands ahead decides which rule of an atom applies
   pub data Atom : ℕ → State → Outcome Tree → Type 0 where
-    atom : {d : ℕ} {s : State} {q o : Outcome Tree} {k : Ahead} → ahead d s ≡ k → AtomOf k d s q →
-        behind_atom k s.flags q ≡ o → Atom d s o
+    atom : {d s e q : _} → ahead d s ≡ e → AtomOf e d s q → Atom d s (behind_atom e s.flags q)
 
   pub data AtomOf : Ahead → ℕ → State → Outcome Tree → Type 0 where
-    a_nothing : {d : ℕ} {s : State} → AtomOf nothing d s (done empty s)
-    a_leaf : {d : ℕ} {s : State} {o : Outcome Tree} → AtomOf (leaf o) d s o
-    a_group : {d : ℕ} {h : Head} {s t : State} {q o : Outcome Tree} → Inside d t q →
-        seen_through (group_node h (reach_of s.rest)) q ≡ o → AtomOf (with_head h t) d s o
+    a_nothing : {d s : _} → AtomOf nothing d s (done empty s)
+    a_read : {d s o : _} → AtomOf (read o) d s o
+    a_group : {d s t h q : _} → Inside d t q →
+        AtomOf (with_head h t) d s (seen_through (group_node h (reach_of s.rest)) q)
     -- a conditional: its condition's parentheses, and its body
-    a_condition : {d : ℕ} {s t v : State} {c : Tree} {o : Outcome Tree} → Inside d t (done c v) → Body d c v o →
-        AtomOf (condition t) d s o
-    condition_fault : {d p : ℕ} {s t : State} {k : Kind} → Inside d t (fault k p) →
-        AtomOf (condition t) d s (fault k p)
-    a_body : {d : ℕ} {c : Tree} {s t : State} {o : Outcome Tree} → Body d c t o → AtomOf (body c t) d s o
+    a_condition : {d s t v c o : _} → Inside d t (done c v) → Body d c v o → AtomOf (condition t) d s o
+    condition_fault : {d s t k p : _} → Inside d t (fault k p) → AtomOf (condition t) d s (fault k p)
+    a_body : {d s t c o : _} → Body d c t o → AtomOf (body c t) d s o
     -- an absent expression's two branches; a stopper's or a clear's one
-    two_branches : {d : ℕ} {s t v : State} {u : Text} {a : Tree} {q o : Outcome Tree} →
-        Branch (d + 1) t (done a v) → strip bar v.rest ≡ Some u → Branch (d + 1) (at v u) q →
-        and_then q (λ e. closed (expression a e)) ≡ o → AtomOf (absent_branch t) d s o
-    one_branch : {d : ℕ} {s t v : State} {a : Tree} {o : Outcome Tree} → Branch (d + 1) t (done a v) →
-        strip bar v.rest ≡ None → closed (clear_or_stopper a) v ≡ o → AtomOf (absent_branch t) d s o
-    absent_fault : {d p : ℕ} {s t : State} {k : Kind} → Branch (d + 1) t (fault k p) →
-        AtomOf (absent_branch t) d s (fault k p)
+    two_branches : {d s t v u a q : _} → Branch (d + 1) t (done a v) → strip bar v.rest ≡ Some u →
+        Branch (d + 1) (at v u) q → AtomOf (absent_branch t) d s (and_then q (λ r. closed (expression a r)))
+    one_branch : {d s t v a : _} → Branch (d + 1) t (done a v) → strip bar v.rest ≡ None →
+        AtomOf (absent_branch t) d s (closed (clear_or_stopper a) v)
+    absent_fault : {d s t k p : _} → Branch (d + 1) t (fault k p) → AtomOf (absent_branch t) d s (fault k p)
 
   -- the inside of a group, one level deeper, through its closing parenthesis
   pub data Inside : ℕ → State → Outcome Tree → Type 0 where
-    inside : {d : ℕ} {s : State} {q o : Outcome Tree} → Alternation (d + 1) s q → and_then q closed ≡ o →
-        Inside d s o
+    inside : {d s q : _} → Alternation (d + 1) s q → Inside d s (and_then q closed)
 
   -- the body of a conditional whose condition is the tree, through its closing parenthesis
   pub data Body : ℕ → Tree → State → Outcome Tree → Type 0 where
-    the_body : {d : ℕ} {c : Tree} {s : State} {q o : Outcome Tree} → Alternation (d + 1) s q →
-        and_then q (conditional_behind c (bytes s.rest)) ≡ o → Body d c s o
+    the_body : {d c q : _} {s : State} → Alternation (d + 1) s q →
+        Body d c s (and_then q (conditional_behind c (bytes s.rest)))
 
 -- ---- a whole text
 
@@ -162,8 +151,7 @@ ended r s = ended_at r s s.rest
 
 -- a whole text under the flags handed in
 pub data Whole : Flags → Text → Outcome Tree → Type 0 where
-  whole : {f : Flags} {text : Text} {q o : Outcome Tree} → Alternation 0 (start f text) q →
-      and_then q ended ≡ o → Whole f text o
+  whole : {f text q : _} → Alternation 0 (start f text) q → Whole f text (and_then q ended)
 
 -- the grammar derives all of the text, with this raw tree
 abbrev pub DerivesTree : Flags → Text → Tree → Type 0

@@ -1,9 +1,9 @@
 -- The letters of a flag group leave the end of the text, or their fault stands at a cut of the text or one past its
 -- end.
-use Rattle.std.proofs.Common.{ℕ, zero, suc, ◌+◌, Bool, false, [], ◌∷◌, Option, Some, None}
+use Rattle.std.proofs.Common.{ℕ, zero, suc, Bool, false, [], ◌∷◌, Option, Some, None}
 use Rattle.fancy_lex.proofs.EscapeLaws.{leaves_layout}
 use Rattle.fancy_lex.proofs.LeaveLaws.{ends_whole, stands_here, stands_end, Leaves, leaves, whole_next, leaves_none}
-use Rattle.fancy_lex.proofs.LeaveLaws.{leaves_told, leaves_retold, leaves_if, leaves_both}
+use Rattle.fancy_lex.proofs.LeaveLaws.{leaves_told, leaves_if, leaves_both}
 use Rattle.fancy_lex.specs.FaultTable.{mode_changed}
 use Rattle.fancy_lex.specs.Reading.{Reading, fails}
 use Rattle.fancy_lex.specs.Text.{Text, bytes, reach_of}

@@ -14,7 +14,7 @@ use Rattle.fancy_lex.specs.declared.flags.Flags.{Flags}
 use Rattle.fancy_lex.specs.declared.error.Failure.TheVariants.{At}
 use Rattle.fancy_lex.specs.declared.error.ParseError.TheVariants.{UnclosedOpenParen}
 use Rattle.fancy_grammar.specs.Grammar.{Alternation, alternation, Branches, last, branch_fault, Branch, branch, stop}
-use Rattle.fancy_grammar.specs.Grammar.{piece_fault, Piece, piece, layout_fault, Atom, atom, inside, the_body}
+use Rattle.fancy_grammar.specs.Grammar.{piece_fault, Piece, piece, layout_fault, Atom, atom, Inside, inside, the_body}
 use Rattle.fancy_grammar.specs.Grammar.{condition_fault, two_branches, one_branch, absent_fault, closed, closed_at}
 use Rattle.fancy_grammar.specs.Grammar.{restored, conditional_behind, conditional_of, branches_of}
 use Rattle.fancy_grammar.specs.Grammar as grammar
@@ -37,7 +37,7 @@ use Rattle.fancy_syntax.specs.declared.grammar.step.Step.{Step}
 use Rattle.fancy_syntax.specs.declared.grammar.step.Step.TheVariants as step
 use Rattle.fancy_lex.proofs.TextLemmas.{strip_is}
 use Rattle.fancy_grammar.proofs.OutcomeLemmas.{IsErrorAmong-map, before-nil, before-push, more_any, next_any}
-use Rattle.fancy_grammar.proofs.OutcomeLemmas.{trees_before, solid-append}
+use Rattle.fancy_grammar.proofs.OutcomeLemmas.{trees_before, solid-append, piece_as}
 use Rattle.fancy_grammar.proofs.Slices.{here, on, piece_slice, strip_slice}
 
 -- ---- a step
@@ -46,7 +46,7 @@ use Rattle.fancy_grammar.proofs.Slices.{here, on, piece_slice, strip_slice}
 pub piece_of : {d left : ℕ} {s : State} {u : Text} {q o : Outcome Tree} → left ≡ bytes s.rest → skipped s ≡ rest u →
     Atom d (at s u) q →
     and_then q (quants d left) ≡ o → Piece d s o
-piece_of {d} {q} {o} i l a e = piece l a (subst (λ m. and_then q (quants d m) ≡ o) i e)
+piece_of {d} {q} {o} i l a e = piece_as l a (subst (λ m. and_then q (quants d m) ≡ o) i e)
 
 pub steps_piece : {d left : ℕ} (s : State) {t : State} {u : Text} {a : Tree} (r : Result Step Failure) (v : State) →
     left ≡ bytes s.rest →
@@ -66,13 +66,12 @@ steps_layout d s e i l = rw i (layout_fault l)
 -- a fault inside is the piece's
 pub opens_fault : {d p : ℕ} {s v : State} {k : Kind} {o : OpenPart} → OpensPart d s o v →
     Part o (d + 1) v (fault k p) → Piece d s (fault k p)
-opens_fault (a_group l e) r = piece l (atom e (grammar.a_group (inside r refl) refl) refl) refl
-opens_fault (a_condition l e) r = piece l (atom e (condition_fault (inside r refl)) refl) refl
-opens_fault (a_body l e) r = piece l (atom e (grammar.a_body (the_body r refl)) refl) refl
-opens_fault (behind_condition (a_condition l e) i) r =
-    piece l (atom e (grammar.a_condition i (the_body r refl)) refl) refl
-opens_fault (a_branch l e) r = piece l (atom e (absent_fault r) refl) refl
-opens_fault (behind_branch (a_branch l e) b f) r = piece l (atom e (two_branches b f r refl) refl) refl
+opens_fault (a_group l e) r = piece l (atom e (grammar.a_group (inside r)))
+opens_fault (a_condition l e) r = piece l (atom e (condition_fault (inside r)))
+opens_fault (a_body l e) r = piece l (atom e (grammar.a_body (the_body r)))
+opens_fault (behind_condition (a_condition l e) i) r = piece l (atom e (grammar.a_condition i (the_body r)))
+opens_fault (a_branch l e) r = piece l (atom e (absent_fault r))
+opens_fault (behind_branch (a_branch l e) b f) r = piece l (atom e (two_branches b f r))
 
 -- a closing parenthesis is taken whatever the tree
 closed_through : (f : Tree → Tree) (r : Tree) (s : State) → seen_through f (closed r s) ≡ closed (f r) s
@@ -104,20 +103,25 @@ MayEnd p s = holds_one p ≡ true → is_second p ≡ false → strip bar s.rest
 opens_ended : {d : ℕ} {s v : State} {p : OpenPart} (r : Tree) (w : State) → OpensPart d s p v →
     Part p (d + 1) v (done r w) → goes_on p ≡ false →
     MayEnd p w → (t : Text) × (skipped s ≡ rest t) × Atom d (at s t) (restored s.flags (ended_part p r w))
-opens_ended q w (a_group {h} {u} l e) r g f =
-    (u, l, atom e (grammar.a_group (inside r refl) (closed_through (group_node h (reach_of u)) q w)) refl)
+opens_ended {d} {s} q w (a_group {u} {h} l e) r g f = (
+  u,
+  l,
+  subst (λ o. Atom d (at s u) (restored s.flags o)) (closed_through (group_node h (reach_of u)) q w)
+      (atom e (grammar.a_group (inside r))),
+)
 opens_ended q w (a_condition l e) r g f = absurd (true≢false g)
-opens_ended q w (a_body {u} l e) r g f = (u, l, atom e (grammar.a_body (the_body r refl)) refl)
+opens_ended q w (a_body {u} l e) r g f = (u, l, atom e (grammar.a_body (the_body r)))
 opens_ended q w (behind_condition (a_condition {u} l e) i) r g f =
-    (u, l, atom e (grammar.a_condition i (the_body r refl)) refl)
-opens_ended q w (a_branch {u} l e) r g f = (u, l, atom e (one_branch r (f refl refl) refl) refl)
-opens_ended q w (behind_branch (a_branch {u} l e) b i) r g f = (u, l, atom e (two_branches b i r refl) refl)
+    (u, l, atom e (grammar.a_condition i (the_body r)))
+opens_ended q w (a_branch {u} l e) r g f = (u, l, atom e (one_branch r (f refl refl)))
+opens_ended q w (behind_branch (a_branch {u} l e) b i) r g f = (u, l, atom e (two_branches b i r))
 
 -- where the atom goes on, the body of the conditional comes next
 pub condition_ended : {d : ℕ} {s v t : State} {p : OpenPart} {c : Tree} (r : Tree) (w : State) → OpensPart d s p v →
     Part p (d + 1) v (done r w) → goes_on p ≡ true →
     ended_part p r w ≡ done c t → OpensPart d s (body c (bytes t.rest)) t
-condition_ended r w (a_condition l e) x g h = behind_condition (a_condition l e) (inside x h)
+condition_ended {d} {v} r w (a_condition l e) x g h =
+    behind_condition (a_condition l e) (subst (Inside d v) h (inside x))
 condition_ended r w (a_group l e) x g h = absurd (true≢false (sym g))
 condition_ended r w (a_body l e) x g h = absurd (true≢false (sym g))
 condition_ended r w (behind_condition x y) z g h = absurd (true≢false (sym g))
@@ -132,7 +136,7 @@ ended_fault {d} {q} {s} {k} {p} r w x y f h = by_goes (goes_on p) refl
   where
     of_condition : {v : State} {p : OpenPart} → OpensPart d s p v → Part p (d + 1) v (done r w) → goes_on p ≡ true →
         ended_part p r w ≡ fault k q → Piece d s (fault k q)
-    of_condition (a_condition l e) x g h = piece l (atom e (condition_fault (inside x h)) refl) refl
+    of_condition {v} (a_condition l e) x g h = piece l (atom e (condition_fault (subst (Inside d v) h (inside x))))
     of_condition (a_group l e) x g h = absurd (true≢false (sym g))
     of_condition (a_body l e) x g h = absurd (true≢false (sym g))
     of_condition (behind_condition x y) z g h = absurd (true≢false (sym g))
@@ -142,7 +146,7 @@ ended_fault {d} {q} {s} {k} {p} r w x y f h = by_goes (goes_on p) refl
     by_goes : (b : Bool) → goes_on p ≡ b → Piece d s (fault k q)
     by_goes true g = of_condition x y g h
     by_goes false g =
-        let (u, i, a) = opens_ended r w x y g f in piece i (subst (Atom d (at s u)) (ap (restored s.flags) h) a) refl
+        let (u, i, a) = opens_ended r w x y g f in piece i (subst (Atom d (at s u)) (ap (restored s.flags) h) a)
 
 -- the atom that ends with a part, under its quantifiers
 pub closes : {d left : ℕ} {s v t : State} {a : Tree} {p : OpenPart} (r : Tree) (w : State) (q : Result Step Failure)
@@ -189,7 +193,7 @@ reading_branch : {d : ℕ} {p : OpenPart} {s t : State} {bs ps : List Tree} (h :
     ends t.rest ≡ true →
     Branch d h.begin (done (joined ps) t)
 reading_branch {d} {t} h e =
-    let b = branch (h.branch (done [] t) (stop e)) refl in
+    let b = branch (h.branch (done [] t) (stop e)) in
     subst (λ x. Branch d h.begin (done (one_or concat x) t)) (ap solid (append-nil h.read) ∙ h.same) b
 
 -- the one branch of a part that holds no other
@@ -218,7 +222,7 @@ reading_bar {d} {s} {t} {u} {bs} {ps} cs qs h k e f i j = record {
 reading_alternation : {d : ℕ} {p : OpenPart} {s t : State} {bs ps : List Tree} → ReadSoFar d p s bs ps t →
     ends t.rest ≡ true → strip bar t.rest ≡ None →
     Alternation d s (done (choice (bs ++ joined ps ∷ [])) t)
-reading_alternation h e f = alternation (h.all _ (last (reading_branch h e) f)) refl
+reading_alternation h e f = alternation (h.all _ (last (reading_branch h e) f))
 
 -- what is open ends at t
 reading_end : {d : ℕ} {s t : State} {bs ps : List Tree} (p : OpenPart) → ReadSoFar d p s bs ps t →
@@ -236,17 +240,15 @@ reading_end {d} {s} {t} {ps} (second a) h e f =
 reading_branch_fault : {d q : ℕ} {p : OpenPart} {s t : State} {k : Kind} {bs ps : List Tree}
     (h : ReadSoFar d p s bs ps t) → ends t.rest ≡ false →
     Piece d t (fault k q) → Branch d h.begin (fault k q)
-reading_branch_fault {q} {k} h e a = branch (h.branch (fault k q) (piece_fault e a)) refl
+reading_branch_fault {q} {k} h e a = branch (h.branch (fault k q) (piece_fault e a))
 
 reading_fault : {d q : ℕ} {s t : State} {k : Kind} {bs ps : List Tree} (p : OpenPart) → ReadSoFar d p s bs ps t →
     ends t.rest ≡ false →
     Piece d t (fault k q) → Part p d s (fault k q)
-reading_fault {q} {k} top h e a = alternation (h.all (fault k q) (branch_fault (reading_branch_fault h e a))) refl
+reading_fault {q} {k} top h e a = alternation (h.all (fault k q) (branch_fault (reading_branch_fault h e a)))
 reading_fault {q} {k} (group _ _) h e a = alternation (h.all (fault k q) (branch_fault (reading_branch_fault h e a)))
-    refl
-reading_fault {q} {k} condition h e a = alternation (h.all (fault k q) (branch_fault (reading_branch_fault h e a))) refl
+reading_fault {q} {k} condition h e a = alternation (h.all (fault k q) (branch_fault (reading_branch_fault h e a)))
 reading_fault {q} {k} (body _ _) h e a = alternation (h.all (fault k q) (branch_fault (reading_branch_fault h e a)))
-    refl
 reading_fault {d} {q} {k} first h e a =
     subst (λ (x : State). Branch d x (fault k q)) (h.one refl).0 (reading_branch_fault h e a)
 reading_fault {d} {q} {k} (second b) h e a =

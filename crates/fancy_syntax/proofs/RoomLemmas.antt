@@ -13,7 +13,7 @@ use Rattle.memchr.specs.Find.{IsFirstByte, is_byte}
 use Prim.Native.Char.{code}
 use Rattle.fancy_lex.specs.Characters.{bar, open_paren}
 use Rattle.fancy_lex.specs.Text.{Text, bytes}
-use Rattle.fancy_grammar.specs.Ahead.{Ahead, nothing, leaf, ahead, ahead_of}
+use Rattle.fancy_grammar.specs.Ahead.{Ahead, nothing, read, ahead, ahead_of}
 use Rattle.fancy_grammar.specs.Ahead.{is_before_nothing}
 use Rattle.fancy_grammar.specs.Depth.{max_depth, most_open}
 use Rattle.fancy_grammar.specs.Slices.{Slice}
@@ -62,7 +62,7 @@ one_fewer {s} {t} {u} e a long = by_word a.word a.cut
 
 abbrev Opens : Ahead → Type 0
 Opens nothing = ⊥
-Opens (leaf o) = ⊥
+Opens (read o) = ⊥
 Opens _ = Unit {0}
 
 abbrev Begins : State → Ahead → Type 0
@@ -88,7 +88,7 @@ opens_ahead d s k u e h a long =
 
 -- a part is opened by a parenthesis or more
 opened_fewer : {d : ℕ} {s t : State} {o : OpenPart} → OpensPart d s o t → open_parens t.rest + 1 ≤ open_parens s.rest
-opened_fewer (a_group {d} {h} {s} {t} {u} l e) =
+opened_fewer (a_group {d} {s} {t} {u} l e) =
     let past = subst (AheadSlice (at s u)) e (ahead_slice d (at s u)) in
     omega (arith, fewer_behind (skipped_slice s u l), opens_ahead d (at s u) _ t.rest e tt past.0 past.1)
 opened_fewer (a_condition {d} {s} {t} {u} l e) =

@@ -79,18 +79,16 @@ Part (body c left) d s o = Alternation d s o
 
 -- a piece at s opens this, and what is read of it begins at t
 pub data OpensPart : ℕ → State → OpenPart → State → Type 0 where
-  a_group : {d : ℕ} {h : Head} {s t : State} {u : Text} → skipped s ≡ rest u →
-      ahead d (at s u) ≡ seen.with_head h t → OpensPart d s (group h (reach_of u)) t
-  a_condition : {d : ℕ} {s t : State} {u : Text} → skipped s ≡ rest u → ahead d (at s u) ≡ seen.condition t →
-      OpensPart d s condition t
-  a_body : {d : ℕ} {c : Tree} {s t : State} {u : Text} → skipped s ≡ rest u → ahead d (at s u) ≡ seen.body c t →
+  a_group : {d s t u h : _} → skipped s ≡ rest u → ahead d (at s u) ≡ seen.with_head h t →
+      OpensPart d s (group h (reach_of u)) t
+  a_condition : {d s t u : _} → skipped s ≡ rest u → ahead d (at s u) ≡ seen.condition t → OpensPart d s condition t
+  a_body : {d s t u c : _} → skipped s ≡ rest u → ahead d (at s u) ≡ seen.body c t →
       OpensPart d s (body c (bytes t.rest)) t
-  behind_condition : {d : ℕ} {c : Tree} {s t v : State} → OpensPart d s condition t → Inside d t (done c v) →
+  behind_condition : {d s t v c : _} → OpensPart d s condition t → Inside d t (done c v) →
       OpensPart d s (body c (bytes v.rest)) v
-  a_branch : {d : ℕ} {s t : State} {u : Text} → skipped s ≡ rest u → ahead d (at s u) ≡ seen.absent_branch t →
-      OpensPart d s first t
-  behind_branch : {d : ℕ} {a : Tree} {s t v : State} {u : Text} → OpensPart d s first t →
-      Branch (d + 1) t (done a v) → strip bar v.rest ≡ Some u → OpensPart d s (second a) (at v u)
+  a_branch : {d s t u : _} → skipped s ≡ rest u → ahead d (at s u) ≡ seen.absent_branch t → OpensPart d s first t
+  behind_branch : {d s t v u a : _} → OpensPart d s first t → Branch (d + 1) t (done a v) →
+      strip bar v.rest ≡ Some u → OpensPart d s (second a) (at v u)
 
 -- the body of a conditional is wanting: it takes no byte, and the condition cannot do without
 abbrev pub lacks_body : OpenPart → State → Bool
@@ -170,10 +168,10 @@ HoldsTrees f trees below branches pieces =
 -- at s, at depth d, and its own trees are not among these
 pub data OpenGroups (start : State) : List Frame → List Tree → OpenPart → ℕ → State → Type 0 where
   outermost : OpenGroups start [] [] top 0 start
-  inner : {d : ℕ} {s t v : State} {p : OpenPart} {all frames : List Frame} {trees below branches pieces : List Tree}
-      (f : Frame) → all ≡ frames ++ f ∷ [] → HoldsTrees f trees below branches pieces →
-      OpenGroups start frames below (part_of f.opener) d s → ReadSoFar d (part_of f.opener) s branches pieces t →
-      Began f t → ends t.rest ≡ false → OpensPart d t p v → OpenGroups start all trees p (d + 1) v
+  inner : {d s t v p all frames trees below branches pieces : _} (f : Frame) → all ≡ frames ++ f ∷ [] →
+      HoldsTrees f trees below branches pieces → OpenGroups start frames below (part_of f.opener) d s →
+      ReadSoFar d (part_of f.opener) s branches pieces t → Began f t → ends t.rest ≡ false → OpensPart d t p v →
+      OpenGroups start all trees p (d + 1) v
 
 -- what is open is read of a text that begins at `start`, up to t: the frames, the trees that they hold, and the frame
 -- on top of them

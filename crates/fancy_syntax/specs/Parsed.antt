@@ -1,7 +1,7 @@
 -- How the answers of the parser's readers stand to the grammar's.
 use Rattle.std.specs.Prelude.{◌≡◌, ℕ, ◌+◌, ◌<◌, List, option_map, chars, length, Result, MatchResult, ⊤}
 use Rattle.fancy_lex.specs.declared.error.Failure.{Failure}
-use Rattle.fancy_grammar.specs.Ahead.{Ahead, nothing, leaf, with_head, condition, body, absent_branch}
+use Rattle.fancy_grammar.specs.Ahead.{Ahead, nothing, read, with_head, condition, body, absent_branch}
 use Rattle.fancy_grammar.specs.Depth.{max_depth}
 use Rattle.fancy_grammar.specs.Head as head
 use Rattle.fancy_grammar.specs.Errors.{IsErrorAmong}
@@ -12,7 +12,7 @@ use Rattle.fancy_grammar.specs.Tree.{Tree}
 use Rattle.fancy_syntax.specs.View.{view}
 use Rattle.fancy_syntax.specs.declared.expr.Expr.{Expr}
 use Rattle.fancy_syntax.specs.declared.grammar.ahead.Ahead as declared
-use Rattle.fancy_syntax.specs.declared.grammar.ahead.Ahead.TheVariants.{Nothing, Leaf, Group, Condition, Body}
+use Rattle.fancy_syntax.specs.declared.grammar.ahead.Ahead.TheVariants.{Nothing, Read, Group, Condition, Body}
 use Rattle.fancy_syntax.specs.declared.grammar.ahead.Ahead.TheVariants.{AbsentBranch}
 use Rattle.fancy_syntax.specs.declared.grammar.group.head.Head.{Head}
 use Rattle.fancy_syntax.specs.declared.grammar.group.head.Head.TheVariants as code
@@ -55,7 +55,7 @@ GivesTree r s o = MatchResult r (λ e. o ≡ done (view e) s) (λ e. IsErrorAmon
 -- what stands ahead, where the parser comes to the state
 abbrev pub view_ahead : declared.Ahead → spec.State → Ahead
 view_ahead Nothing s = nothing
-view_ahead (Leaf atom) s = leaf (done (view atom) s)
+view_ahead (Read atom) s = read (done (view atom) s)
 view_ahead (Group h) s = with_head (head_of h) s
 view_ahead Condition s = condition s
 view_ahead (Body c) s = body (view c.value) s
@@ -63,7 +63,7 @@ view_ahead AbsentBranch s = absent_branch s
 
 -- what the parser sees ahead is what stands there
 abbrev pub Sees : Result declared.Ahead Failure → spec.State → Ahead → Type 0
-Sees r s k = MatchResult r (λ a. k ≡ view_ahead a s) (λ e. IsErrorAmong e (λ o. k ≡ leaf o))
+Sees r s k = MatchResult r (λ a. k ≡ view_ahead a s) (λ e. IsErrorAmong e (λ o. k ≡ read o))
 
 -- where nothing is seen, the state is the same
 abbrev pub StaysAtNothing : declared.Ahead → State → State → Type 0
@@ -83,7 +83,7 @@ IsSomething _ = ⊤
 -- a group is seen only where one may open inside d groups
 abbrev pub IsBelow : declared.Ahead → ℕ → Type 0
 IsBelow Nothing d = ⊤
-IsBelow (Leaf atom) d = ⊤
+IsBelow (Read atom) d = ⊤
 IsBelow _ d = d + 1 < max_depth
 
 -- where no byte was taken, the text is the same

@@ -7,7 +7,7 @@ use fancy_lex::escape::{Escaped, escape};
 use fancy_lex::flags::Flags;
 use fancy_lex::name::CaptureGroupTarget;
 use fancy_lex::name::target::{Call, Reference, Target};
-use fancy_lex::text::{after, place_at};
+use fancy_lex::text::{after, after_word, place_at};
 use fancy_parts::heads::names::group_name;
 use fancy_parts::heads::references::{condition_target, named_call, named_reference};
 use std::alloc::{AllocError, Global};
@@ -92,10 +92,16 @@ fn read_class(alloc: Global, pattern: &str, flags: u32) -> Answer<'_> {
 }
 
 fn read_name(pattern: &str) -> Answer<'_> {
-    let Some(text) = after(pattern, '(').and_then(|head| after(head, '?')) else {
+    let Some(head) = after(pattern, '(').and_then(|head| after(head, '?')) else {
         return Ok((Found::Nothing, pattern));
     };
-    let (name, rest) = group_name(text)?;
+    let (name, rest) = if let Some(text) = after(head, '\'') {
+        group_name(head, '\'', text)?
+    } else if let Some(text) = after_word(head, "P<").or_else(|| after(head, '<')) {
+        group_name(head, '>', text)?
+    } else {
+        return Ok((Found::Nothing, pattern));
+    };
     Ok((Found::Name(name), rest))
 }
 

@@ -105,11 +105,7 @@ static ROWS: [Row; 49] = [
         "(?P<>a)",
         "Parsing error at position 1: Could not parse group name",
     ),
-    (
-        Name,
-        "(?P'n'a)",
-        "Parsing error at position 1: Could not parse group name",
-    ),
+    (Name, "(?P'n'a)", "nothing then (?P'n'a)"),
     // where a name is wanting
     (Reference(r"\k"), r"\k<+9223372036854775808>", NAMELESS_AT_2),
     (Reference(r"\k"), r"\k<+0>", NAMELESS_AT_2),

@@ -9,7 +9,7 @@ use Rattle.fancy_lex.specs.Escaped as escaped
 use Rattle.fancy_lex.specs.Escaped.{Escape}
 use Rattle.fancy_lex.specs.Reading.{Reading, gives, fails}
 use Rattle.fancy_lex.specs.Text.{Text}
-use Rattle.fancy_grammar.specs.Ahead.{leaf, leaf_node, leaf_outcome}
+use Rattle.fancy_grammar.specs.Ahead.{read, leaf_node, leaf_outcome}
 use Rattle.fancy_grammar.specs.State.{State, Outcome}
 use Rattle.fancy_grammar.specs.Tree.{Tree, delegate}
 use Rattle.fancy_grammar.specs.Normal.{case_flags, unicode_flags, whole_of, whole_leaf, class_of, normal}
@@ -54,7 +54,7 @@ bracket_atom d u i t x v e =
     let g = case_flags u i in
     reads_leaf d g (code "[" ∷ (t ++ v)) v (delegate x i)
     (leaf_at d g (code "[") (t ++ v) refl refl
-    ∙ ap (λ o. leaf (leaf_outcome (λ w. delegate w i) (st g (code "[" ∷ (t ++ v))) o)) e)
+    ∙ ap (λ o. read (leaf_outcome (λ w. delegate w i) (st g (code "[" ∷ (t ++ v))) o)) e)
     (record { is = λ n u c. refl; groups = tt })
 
 bracket_text : (t : Text) → is_some (class_of (unicode_flags false) (code "[" ∷ t)) ≡ true → DelegateText (code "[" ∷ t)
@@ -102,7 +102,7 @@ escape_atom d u i t x v b e =
     let g = case_flags u i in
     reads_leaf d g (code "\\" ∷ (t ++ v)) v (delegate x b)
     (leaf_at d g (code "\\") (t ++ v) refl refl
-    ∙ ap (λ o. leaf (leaf_outcome leaf_node (st g (code "\\" ∷ (t ++ v))) o)) e)
+    ∙ ap (λ o. read (leaf_outcome leaf_node (st g (code "\\" ∷ (t ++ v))) o)) e)
     (record { is = λ n u c. refl; groups = tt })
 
 escape_text : (t : Text) → is_some (class_of (unicode_flags false) (code "\\" ∷ t)) ≡ true →

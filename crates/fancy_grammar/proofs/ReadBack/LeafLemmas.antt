@@ -21,7 +21,7 @@ use Rattle.fancy_parts.specs.FlagLetters.{scope as scoped}
 use Rattle.fancy_parts.specs.LetterSteps.{letters}
 use Rattle.fancy_parts.specs.Quote.{behind_backslash, needs_backslash}
 use Rattle.fancy_grammar.specs.State as states
-use Rattle.fancy_grammar.specs.Ahead.{leaf, ahead, leaf_node, leaf_outcome}
+use Rattle.fancy_grammar.specs.Ahead.{read, ahead, leaf_node, leaf_outcome}
 use Rattle.fancy_grammar.specs.Normal.{normal_character, unicode_flags}
 use Rattle.fancy_grammar.specs.State.{done}
 use Rattle.fancy_grammar.specs.Tree.{Tree, any, assertion}
@@ -189,7 +189,7 @@ line_atom d c u true v x l b a =
 
 -- an anchor, under the flags that it needs
 anchor : (d : ℕ) (f : Flags) (c : ℕ) (v : Text) (a : Assertion) →
-    ahead d (st f (c ∷ v)) ≡ leaf (done (assertion a) (st f v)) →
+    ahead d (st f (c ∷ v)) ≡ read (done (assertion a) (st f v)) →
     AtomAs d f (c ∷ v) v (assertion a)
 anchor d f c v a e = reads_leaf d f (c ∷ v) v (assertion a) e (record { is = λ n u c. refl; groups = tt })
 
@@ -221,7 +221,7 @@ reads_assertion_escape : (d : ℕ) (u : Bool) (t v : Text) (a : Assertion) →
 reads_assertion_escape d u t v a e =
     reads_leaf d (unicode_flags u) (code "\\" ∷ t) v (assertion a)
     (leaf_at d (unicode_flags u) (code "\\") t refl refl
-    ∙ ap (λ r. leaf (leaf_outcome leaf_node (st (unicode_flags u) (code "\\" ∷ t)) r)) e)
+    ∙ ap (λ r. read (leaf_outcome leaf_node (st (unicode_flags u) (code "\\" ∷ t)) r)) e)
     (record { is = λ n u c. refl; groups = tt })
 
 half_start : (p : ℕ) (v : Text) →

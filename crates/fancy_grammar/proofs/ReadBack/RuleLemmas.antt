@@ -19,11 +19,11 @@ use Rattle.fancy_parts.specs.Quote.{behind_backslash, needs_backslash}
 use Rattle.fancy_parts.specs.declared.counts.Counts.{Counts}
 use Rattle.fancy_parts.proofs.FlagLemmas.{letters_start, in_end, in_go}
 use Rattle.fancy_grammar.specs.State as states
-use Rattle.fancy_grammar.specs.Ahead.{leaf, with_head, ahead, is_before_nothing, flags_ahead, behind_question}
+use Rattle.fancy_grammar.specs.Ahead.{read, with_head, ahead, is_before_nothing, flags_ahead, behind_question}
 use Rattle.fancy_grammar.specs.Ahead.{group_ahead, behind_layout, leaf_of, leaf_node, leaf_outcome}
 use Rattle.fancy_grammar.specs.Depth.{max_depth}
 use Rattle.fancy_grammar.specs.Grammar.{Alternation, alternation, Branches, last, more, branch_fault, Branch, branch}
-use Rattle.fancy_grammar.specs.Grammar.{Pieces, stop, next, piece_fault, Piece, piece, Atom, atom, a_leaf, a_group}
+use Rattle.fancy_grammar.specs.Grammar.{Pieces, stop, next, piece_fault, Piece, piece, Atom, atom, a_read, a_group}
 use Rattle.fancy_grammar.specs.Grammar.{inside, DerivesTree, Faults, whole}
 use Rattle.fancy_grammar.specs.Head.{Head, capture, scope}
 use Rattle.fancy_grammar.specs.Items.{Item, opening, reference, items, items_all}
@@ -38,7 +38,7 @@ use Rattle.fancy_grammar.specs.State.{skipped, State, Outcome, done, fault, and_
 use Rattle.fancy_grammar.specs.Tree as tree
 use Rattle.fancy_grammar.specs.Tree.{Tree, row, empty, literal, concat, repeat, trees_of, ast_node}
 use Rattle.fancy_grammar.specs.Tree.{ast_group}
-use Rattle.fancy_grammar.proofs.OutcomeLemmas.{trees_before, before-nil, solid-append}
+use Rattle.fancy_grammar.proofs.OutcomeLemmas.{trees_before, before-nil, solid-append, piece_as}
 use Rattle.fancy_grammar.specs.Normal.{unicode_flags, case_flags}
 use Rattle.fancy_grammar.proofs.ReadBack.InFront.{put_as}
 use Rattle.fancy_grammar.proofs.ReadBack.ClearLemmas.{Clear, no_layout, clear_counts, clear_lazy, clear_star}
@@ -225,7 +225,7 @@ run_piece : {d : ℕ} {f : Flags} {s v : Text} (r x : Tree) → Piece d (st f s)
     states.ends s ≡ false → Becomes r x → Run d f s v (solid (x ∷ []))
 run_piece r x p e b = record {
   trees = r ∷ [];
-  pieces = λ q m. next e p m refl;
+  pieces = λ q m. next e p m;
   resolved = x ∷ [];
   become = (b, tt);
   are = refl;
@@ -254,7 +254,7 @@ pub reads_piece : (d : ℕ) (f : Flags) (s v : Text) (x : Tree) → Kept f → s
     after_comment_head s ≡ None → Clear v → AtomAs d f s v x → Run d f s v (solid (x ∷ []))
 reads_piece d f s v x k e o c a =
     run_piece a.tree x
-    (piece (skip_here f s k o) a.derives
+    (piece_as (skip_here f s k o) a.derives
     (quants_one d (bytes s) f a.tree a.tree v v k (quant_none (bytes s) f a.tree v k c)))
     e a.becomes
 
@@ -309,7 +309,7 @@ reads_repeat d f s q v x lo hi greedy k e o c m r a =
     let b = a.becomes in
     let repeatable : is_repeatable f a.tree ≡ true = same_repeatable f b ∙ r in
     run_piece (repeat a.tree lo hi greedy) (repeat x lo hi greedy)
-    (piece (skip_here f s k o) a.derives
+    (piece_as (skip_here f s k o) a.derives
     (quants_one d (bytes s) f a.tree (repeat a.tree lo hi greedy) q v k
     (quant_some (bytes s) f a.tree q v lo hi greedy k c m repeatable)))
     e (record { is = λ n u c. ap (λ y. repeat y lo hi greedy) (b.is n u c); groups = b.groups })
@@ -320,7 +320,7 @@ pub reads_branch : {d : ℕ} {f : Flags} {s v : Text} {ys : List Tree} (x : Tree
     Stops v → BranchAs d f s v x
 reads_branch {d} {f} {s} {v} x r e h = record {
   tree = join (r.trees ++ []);
-  derives = branch (r.pieces (done [] (st f v)) (stop h.ends)) refl;
+  derives = branch (r.pieces (done [] (st f v)) (stop h.ends));
   becomes =
       let same = ap (one_or concat) (sym (solid_solid r.resolved)) ∙ ap join r.are ∙ e in
       let joined = one_becomes label.concat (solid r.trees) (solid r.resolved) (solid_becomes r.trees r.resolved r.become) in
@@ -339,7 +339,7 @@ pub reads_more : (d : ℕ) (f : Flags) (s t v : Text) (x : Tree) (ys : List Tree
     BranchesAs d f t v ys → BranchesAs d f s v (x ∷ ys)
 reads_more d f s t v x ys b bs = record {
   trees = b.tree ∷ bs.trees;
-  derives = more b.derives refl bs.derives refl;
+  derives = more b.derives refl bs.derives;
   become = (b.becomes, bs.become);
 }
 
@@ -347,7 +347,7 @@ pub reads_whole : (d : ℕ) (f : Flags) (s v : Text) (ys : List Tree) → Branch
     WholeAs d f s v (choice ys)
 reads_whole d f s v ys b = record {
   tree = choice b.trees;
-  derives = alternation b.derives refl;
+  derives = alternation b.derives;
   becomes = one_becomes label.alt b.trees ys b.become;
 }
 
@@ -378,7 +378,7 @@ pub reads_group : (d : ℕ) (f : Flags) (s v : Text) (x : Tree) → Kept f → d
     WholeAs (d + 1) f s (code ")" ∷ v) x → AtomAs d f (code "(" ∷ s) v (tree.group x)
 reads_group d f s v x k l c w = record {
   tree = ast_group None (reach_of (code "(" ∷ s)) w.tree;
-  derives = atom (group_at d f s k l c) (a_group (inside w.derives refl) refl) refl;
+  derives = atom (group_at d f s k l c) (a_group (inside w.derives));
   becomes = record { is = λ n u c. ap tree.group (w.becomes.is n u (c + 1)); groups = (refl, w.becomes.groups) };
 }
 
@@ -393,7 +393,7 @@ scope_at d f g t u k l o q e = head_at d f (code "?" ∷ t) k l o ∙ q ∙ ap f
 pub reads_scope : (d : ℕ) (f g : Flags) (s t v : Text) (x : Tree) → ahead d (st f s) ≡ with_head scope (st g t) →
     WholeAs (d + 1) g t (code ")" ∷ v) x → AtomAs d f s v x
 reads_scope d f g s t v x e w =
-    record { tree = w.tree; derives = atom e (a_group (inside w.derives refl) refl) refl; becomes = w.becomes }
+    record { tree = w.tree; derives = atom e (a_group (inside w.derives)); becomes = w.becomes }
 
 -- with more than k letters to spare
 abbrev pub Spelled : Text → ℕ → Bool → Flags → Text → Letters → Text → Type 0
@@ -468,17 +468,17 @@ reads_caseless d u s v x l w =
 
 -- ---- leaves
 
-pub reads_leaf : (d : ℕ) (f : Flags) (s v : Text) (x : Tree) → ahead d (st f s) ≡ leaf (done x (st f v)) →
+pub reads_leaf : (d : ℕ) (f : Flags) (s v : Text) (x : Tree) → ahead d (st f s) ≡ read (done x (st f v)) →
     Becomes x x → AtomAs d f s v x
-reads_leaf d f s v x e b = record { tree = x; derives = atom e a_leaf refl; becomes = b }
+reads_leaf d f s v x e b = record { tree = x; derives = atom e a_read; becomes = b }
 
 pub leaf_at : (d : ℕ) (f : Flags) (c : ℕ) (t : Text) → (c == code "(") ≡ false → is_before_nothing c ≡ false →
-    ahead d (st f (c ∷ t)) ≡ leaf (leaf_of (st f (c ∷ t)) c t)
+    ahead d (st f (c ∷ t)) ≡ read (leaf_of (st f (c ∷ t)) c t)
 unfolding ahead
 leaf_at d f c t a b = cond-false _ _ _ a ∙ cond-false _ _ _ b
 
 plain_leaf : (d : ℕ) (f : Flags) (c : ℕ) (v : Text) → behind_backslash c ≡ None →
-    ahead d (st f (c ∷ v)) ≡ leaf (done (literal (c ∷ []) f.casei) (st f v))
+    ahead d (st f (c ∷ v)) ≡ read (done (literal (c ∷ []) f.casei) (st f v))
 plain_leaf d f c v e =
     let is_not = apart needs_backslash c (behind_none c e) in
     leaf_at d f c v (is_not (code "(") refl)
@@ -502,14 +502,14 @@ pub reads_char : (d : ℕ) (f : Flags) (c : ℕ) (v : Text) (o : Option ℕ) →
     AtomAs d f (put_as c o v) v (literal (c ∷ []) (f.casei && is_none o))
 reads_char d f c v None e =
     reads_leaf d f (c ∷ v) v (literal (c ∷ []) (f.casei && true))
-    (plain_leaf d f c v e ∙ ap (λ b. leaf (done (literal (c ∷ []) b) (st f v))) (sym (and-true f.casei)))
+    (plain_leaf d f c v e ∙ ap (λ b. read (done (literal (c ∷ []) b) (st f v))) (sym (and-true f.casei)))
     (record { is = λ n u c. refl; groups = tt })
 reads_char d f c v (Some x) e =
     reads_leaf d f (code "\\" ∷ x ∷ v) v (literal (c ∷ []) (f.casei && false))
     (leaf_at d f (code "\\") (x ∷ v) refl refl
-    ∙ ap (λ r. leaf (leaf_outcome leaf_node (st f (code "\\" ∷ x ∷ v)) r))
+    ∙ ap (λ r. read (leaf_outcome leaf_node (st f (code "\\" ∷ x ∷ v)) r))
     (behind_some c x e f v)
-    ∙ ap (λ b. leaf (done (literal (c ∷ []) b) (st f v))) (sym (and-false f.casei)))
+    ∙ ap (λ b. read (done (literal (c ∷ []) b) (st f v))) (sym (and-false f.casei)))
     (record { is = λ n u c. refl; groups = tt })
 
 -- ---- faults
@@ -519,12 +519,12 @@ pub fails_deep : (d : ℕ) (f : Flags) (t : Text) → max_depth ≤ d + 1 →
     Atom d (st f (code "(" ∷ t)) (fault recursion_exceeded (reach_of (code "(" ∷ t)))
 unfolding ahead
 fails_deep d f t h =
-    let deep : nat_le max_depth (d + 1) ≡ true = le-leb max_depth (d + 1) h in atom (cond-true _ _ _ deep) a_leaf refl
+    let deep : nat_le max_depth (d + 1) ≡ true = le-leb max_depth (d + 1) h in atom (cond-true _ _ _ deep) a_read
 
 module _ (d : ℕ) (f : Flags) (k : Kind) (p : ℕ) where
   fails_head : (g : Flags) (h : Head) (s t : Text) → ahead d (st f s) ≡ with_head h (st g t) →
       Alternation (d + 1) (st g t) (fault k p) → Atom d (st f s) (fault k p)
-  fails_head g h s t e w = atom e (a_group (inside w refl) refl) refl
+  fails_head g h s t e w = atom e (a_group (inside w))
 
   pub fails_group : (s : Text) → Kept f → d + 1 < max_depth → Clear s → Alternation (d + 1) (st f s) (fault k p) →
       Atom d (st f (code "(" ∷ s)) (fault k p)
@@ -536,24 +536,24 @@ module _ (d : ℕ) (f : Flags) (k : Kind) (p : ℕ) where
 
   pub fails_piece : (s : Text) → Kept f → states.ends s ≡ false → after_comment_head s ≡ None →
       Atom d (st f s) (fault k p) → Pieces d (st f s) (fault k p)
-  fails_piece s h e o a = piece_fault e (piece (skip_here f s h o) a refl)
+  fails_piece s h e o a = piece_fault e (piece (skip_here f s h o) a)
 
   pub fails_first : (s : Text) → Pieces d (st f s) (fault k p) → Branches d (st f s) (fault k p)
-  fails_first s q = branch_fault (branch q refl)
+  fails_first s q = branch_fault (branch q)
 
   pub fails_more : (s t : Text) (x : Tree) → BranchAs d f s (code "|" ∷ t) x → Branches d (st f t) (fault k p) →
       Branches d (st f s) (fault k p)
-  fails_more s t x b q = more b.derives refl q refl
+  fails_more s t x b q = more b.derives refl q
 
   pub fails_whole : (s : Text) → Branches d (st f s) (fault k p) → Alternation d (st f s) (fault k p)
-  fails_whole s q = alternation q refl
+  fails_whole s q = alternation q
 
 -- ---- a whole text
 
 pub reads_text : (f : Flags) (s : Text) (x : Tree) → WholeAs 0 f s [] x →
     (r : Tree) × DerivesTree f s r × Becomes r x
-reads_text f s x w = (w.tree, (_, whole w.derives refl), w.becomes)
+reads_text f s x w = (w.tree, (_, whole w.derives), w.becomes)
 
 pub fails_text : (f : Flags) (s : Text) (k : Kind) (q : ℕ) → Alternation 0 (st f s) (fault k q) →
     Faults f s k (place_at (bytes s) q)
-fails_text f s k q w = (q, whole w refl, refl)
+fails_text f s k q w = (q, whole w, refl)

@@ -6,8 +6,8 @@ use crate::grammar::group::head::Head;
 pub(crate) enum Ahead<'a> {
     /// No atom: it is Empty, and takes no character.
     Nothing,
-    /// An atom that holds no branches.
-    Leaf(Expr),
+    /// An atom without branches, which is read at once.
+    Read(Expr),
     /// A group that holds one alternation.
     Group(Head<'a>),
     /// A conditional whose condition is an alternation.

@@ -44,7 +44,7 @@ pub(crate) fn read_atom_start<'a>(
     if is_before_nothing(c) {
         return Ok(Ahead::Nothing);
     }
-    Ok(Ahead::Leaf(leaf(alloc, c, here, rest)?))
+    Ok(Ahead::Read(leaf(alloc, c, here, rest)?))
 }
 
 /// Reads from the parenthesis at the front, which `rest` follows, up to where the first part of the group begins.

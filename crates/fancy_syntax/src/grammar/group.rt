@@ -4,7 +4,7 @@ ghost use Rattle.fancy_lex.specs.FaultTable.{unknown_verb};
 ghost use Rattle.fancy_parts.specs.LetterSteps.{letters};
 ghost use Rattle.fancy_parts.specs.GroupName as names;
 ghost use Rattle.fancy_parts.specs.HeadReference as references;
-ghost use Rattle.fancy_grammar.specs.Ahead.{leaf, with_head};
+ghost use Rattle.fancy_grammar.specs.Ahead.{read, with_head};
 ghost use Rattle.fancy_grammar.specs.Head as head;
 ghost use Rattle.fancy_grammar.specs.State.{at, skipped};
 ghost use Rattle.fancy_grammar.specs.Ahead as spec;
@@ -44,7 +44,7 @@ pub(crate) fn after_paren<'a>(alloc: Global, here: &mut State<'a>) -> Result<Ahe
         after_question(alloc, here)
     } else if c == '*' {
         let verb = read_verb(here, rest)?;
-        Ok(Ahead::Leaf(Expr::BacktrackingControlVerb(verb)))
+        Ok(Ahead::Read(Expr::BacktrackingControlVerb(verb)))
     } else {
         Ok(Ahead::Group(Head::Capture(None)))
     }
@@ -63,7 +63,7 @@ fn after_question<'a>(alloc: Global, here: &mut State<'a>) -> Result<Ahead<'a>, 
         '=' => Ok(open_look_around(here, rest, LookAround::LookAhead)),
         '!' => Ok(open_look_around(here, rest, LookAround::LookAheadNeg)),
         '<' => after_less(here, rest),
-        '\'' => read_name(here),
+        '\'' => read_name(here, rest, '\''),
         'P' => after_p(alloc, here, rest),
         '~' => {
             here.rest = rest;
@@ -107,17 +107,19 @@ fn after_less<'a>(here: &mut State<'a>, rest: &'a str) -> Result<Ahead<'a>, Fail
     if let Some(inside) = after(rest, '!') {
         return Ok(open_look_around(here, inside, LookAround::LookBehindNeg));
     }
-    read_name(here)
+    read_name(here, rest, '>')
 }
 
-/// Reads the name of a group, behind the question mark.
-fn read_name<'a>(here: &mut State<'a>) -> Result<Ahead<'a>, Failure>
-    ensures value { Sees result (state here.new)
-        (spec.named_ahead (state here.old) (names.group_name (chars here.old.rest.now))) }
+/// Reads the name of a group, which begins at the text, up to the closing mark.
+fn read_name<'a>(here: &mut State<'a>, name: &'a str, mark: char) -> Result<Ahead<'a>, Failure>
+    requires shorter { length name.now ≤ length here.old.rest.now }
+    requires ascii { mark < 128 }
+    ensures value { Sees result (state here.new) (spec.named_ahead (state here.old)
+        (names.group_name mark (chars here.old.rest.now) (chars name.now))) }
     ensures within { length here.new.rest.now ≤ length here.old.rest.now }
     ensures something { IfOk result (λ a. IsSomething a) }
 {
-    let (name, inside) = group_name(here.rest)?;
+    let (name, inside) = group_name(here.rest, mark, name)?;
     here.rest = inside;
     Ok(Ahead::Group(Head::Capture(Some(name))))
 }
@@ -134,7 +136,7 @@ fn after_p<'a>(alloc: Global, here: &mut State<'a>, rest: &'a str) -> Result<Ahe
         return read_flags(alloc, here);
     };
     match c {
-        '<' => read_name(here),
+        '<' => read_name(here, behind, '>'),
         '=' => read_reference(alloc, here, behind),
         '>' => read_call(alloc, here, behind),
         _ => read_flags(alloc, here),
@@ -148,27 +150,27 @@ fn read_reference<'a>(
     id: &'a str,
 ) -> Result<Ahead<'a>, Failure>
     requires shorter { length id.now ≤ length here.old.rest.now }
-    ensures value { Sees result (state here.new) (leaf (spec.leaf_outcome (spec.backref_node here.old.flags.casei)
+    ensures value { Sees result (state here.new) (read (spec.leaf_outcome (spec.backref_node here.old.flags.casei)
         (state here.old) (references.named_reference (chars id.now)))) }
     ensures within { length here.new.rest.now ≤ length here.old.rest.now }
     ensures something { IfOk result (λ a. IsSomething a) }
 {
     let (reference, rest) = named_reference(id)?;
     here.rest = rest;
-    Ok(Ahead::Leaf(backref(alloc, reference, here.flags.casei)?))
+    Ok(Ahead::Read(backref(alloc, reference, here.flags.casei)?))
 }
 
 /// Reads a call, whose name begins at the text.
 fn read_call<'a>(alloc: Global, here: &mut State<'a>, name: &'a str) -> Result<Ahead<'a>, Failure>
     requires shorter { length name.now ≤ length here.old.rest.now }
-    ensures value { Sees result (state here.new) (leaf (spec.leaf_outcome spec.call_node
+    ensures value { Sees result (state here.new) (read (spec.leaf_outcome spec.call_node
         (state here.old) (references.named_call (chars name.now)))) }
     ensures within { length here.new.rest.now ≤ length here.old.rest.now }
     ensures something { IfOk result (λ a. IsSomething a) }
 {
     let (call, rest) = named_call(name)?;
     here.rest = rest;
-    Ok(Ahead::Leaf(subroutine_call(alloc, call)?))
+    Ok(Ahead::Read(subroutine_call(alloc, call)?))
 }
 
 /// Reads the letters of a flag group.
@@ -181,7 +183,7 @@ fn read_flags<'a>(alloc: Global, here: &mut State<'a>) -> Result<Ahead<'a>, Fail
     match flag_letters(alloc, here.rest, here.flags)? {
         (Letters::Setting(flags), rest) => {
             *here = State { flags, rest };
-            Ok(Ahead::Leaf(Expr::Empty))
+            Ok(Ahead::Read(Expr::Empty))
         }
         (Letters::Scope(flags), rest) => {
             *here = State { flags, rest };

@@ -54,7 +54,7 @@ pub(crate) fn read_step<'a>(
     let before = *here;
     match read_atom_start(alloc, here, depth)? {
         Ahead::Nothing => piece(alloc, Expr::Empty, here, left, depth),
-        Ahead::Leaf(atom) => {
+        Ahead::Read(atom) => {
             // Mostly no quantifier follows: this saves a call for each leaf.
             if is_unquantified(*here) {
                 return Ok(Step::Piece(atom));

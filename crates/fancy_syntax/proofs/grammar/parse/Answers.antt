@@ -1,4 +1,4 @@
-use Rattle.std.proofs.Common.{ap, refl}
+use Rattle.std.proofs.Common.{ap, subst}
 use Rattle.std.proofs.lemmas.Result.{err_from_is_err_and}
 use Rattle.std.specs.Str.{chars}
 use Rattle.fancy_grammar.specs.Grammar.{Alternation, Whole, whole, start, ended_at}
@@ -13,7 +13,7 @@ returns-in_err-tree c =
     let e = err_from_is_err_and c.from_residual.result c.from_residual.ensures.1 in
     record {
       reads = rw (e.1, e.2) (IsErrorAmong-map (Alternation 0 (start c.args.flags (chars c.args.text.now)))
-          (Whole c.args.flags (chars c.args.text.now)) c.in_err-tree.field-0.0 (λ k p h. whole h refl)
+          (Whole c.args.flags (chars c.args.text.now)) c.in_err-tree.field-0.0 (λ k p h. whole h)
           c.in_err-tree.ensures.value);
     }
 
@@ -23,7 +23,8 @@ returns-in-None c =
     record {
       reads = (
         here,
-        whole c.in_ok-tree.ensures.value (ap (ended_at (view c.in_ok-tree.tree) here) c.in-None.ensures.value),
+        subst (Whole c.args.flags (chars c.args.text.now))
+            (ap (ended_at (view c.in_ok-tree.tree) here) c.in-None.ensures.value) (whole c.in_ok-tree.ensures.value),
       );
     }
 
@@ -34,6 +35,6 @@ returns-in-Some c =
     record {
       reads = IsErrorAmong-is (Whole c.args.flags (chars c.args.text.now)) c.general.result _ _
           (rw c.reach.ensures at f)
-          (whole c.in_ok-tree.ensures.value
-          (ap (ended_at (view c.in_ok-tree.tree) here) c.in-Some.ensures.value));
+          (subst (Whole c.args.flags (chars c.args.text.now))
+          (ap (ended_at (view c.in_ok-tree.tree) here) c.in-Some.ensures.value) (whole c.in_ok-tree.ensures.value));
     }

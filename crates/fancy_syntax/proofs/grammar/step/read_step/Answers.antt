@@ -1,7 +1,7 @@
-use Rattle.std.proofs.Common.{◌≡◌, Ok, refl, chars}
+use Rattle.std.proofs.Common.{◌≡◌, Ok, chars}
 use Rattle.std.proofs.lemmas.Result.{err_from_is_err_and}
-use Rattle.fancy_grammar.specs.Ahead.{ahead, leaf}
-use Rattle.fancy_grammar.specs.Grammar.{Piece, piece, atom, a_nothing, a_leaf}
+use Rattle.fancy_grammar.specs.Ahead.{ahead, read}
+use Rattle.fancy_grammar.specs.Grammar.{Piece, piece, atom, a_nothing, a_read}
 use Rattle.fancy_grammar.specs.State.{at}
 use Rattle.fancy_syntax.specs.Machine.{a_group, a_condition, a_body, a_branch}
 use Rattle.fancy_syntax.specs.Parsed.{state}
@@ -22,27 +22,27 @@ returns-in_err-read_atom_start-clause-value c =
     let e = err_from_is_err_and c.from_residual-in_err-read_atom_start.result
     c.from_residual-in_err-read_atom_start.ensures.1 in
     rw (e.1, e.2)
-    (IsErrorAmong-map (λ o. ahead c.args.depth (at (state c.args.here.now) (chars c.in_ok-here.field-0.now)) ≡ leaf o)
+    (IsErrorAmong-map (λ o. ahead c.args.depth (at (state c.args.here.now) (chars c.in_ok-here.field-0.now)) ≡ read o)
     (Piece c.args.depth (state c.args.here.now))
-    c.in_err-read_atom_start.field-0.0 (λ k p h. piece c.in_ok-here.ensures.value (atom h a_leaf refl) refl)
+    c.in_err-read_atom_start.field-0.0 (λ k p h. piece c.in_ok-here.ensures.value (atom h a_read))
     c.in_err-read_atom_start.ensures.value)
 
 pub returns-then-is_unquantified-clause-value : goal.returns-then-is_unquantified-clause-value
 returns-then-is_unquantified-clause-value c =
     steps_piece (state c.args.here.now) (Ok (step.Piece _)) _ c.byte_len-left.ensures c.in_ok-here.ensures.value
-    (atom (rw c.in-Leaf.is at c.in_ok-read_atom_start.ensures.value) a_leaf refl)
+    (atom (rw c.in-Read.is at c.in_ok-read_atom_start.ensures.value) a_read)
     (c.is_unquantified.ensures c.if-is_unquantified.true _ _ _)
 
 pub returns-else-is_unquantified-clause-value : goal.returns-else-is_unquantified-clause-value
 returns-else-is_unquantified-clause-value c =
     steps_piece (state c.args.here.now) _ _ c.byte_len-left.ensures c.in_ok-here.ensures.value
-    (atom (rw c.in-Leaf.is at c.in_ok-read_atom_start.ensures.value) a_leaf refl) c.piece-in-Leaf.ensures.value
+    (atom (rw c.in-Read.is at c.in_ok-read_atom_start.ensures.value) a_read) c.piece-in-Read.ensures.value
 
 pub returns-in-Nothing-clause-value : goal.returns-in-Nothing-clause-value
 returns-in-Nothing-clause-value c =
     let stays = rw c.in-Nothing.is at c.in_ok-read_atom_start.ensures.stays in
     steps_piece (state c.args.here.now) _ _ c.byte_len-left.ensures c.in_ok-here.ensures.value
-    (atom (rw c.in-Nothing.is at c.in_ok-read_atom_start.ensures.value) a_nothing refl)
+    (atom (rw c.in-Nothing.is at c.in_ok-read_atom_start.ensures.value) a_nothing)
     (rw (view_Empty, stays) at c.piece.ensures.value)
 
 pub returns-in-Nothing-clause-shorter : goal.returns-in-Nothing-clause-shorter
