@@ -2,6 +2,7 @@
 use Rattle.std.proofs.Common.{◌≡◌, ◌≢◌, ◌==◌, if◌then◌else◌, tests, rules, ℕ, ◌+◌, Bool, true, false}
 use Rattle.std.proofs.Common.{true≢false, List, [], ◌∷◌, ◌++◌, length, Some, None, Result, Ok, Err, refl, sym, ap, ◌∙◌}
 use Rattle.std.proofs.Common.{subst, append-nil, arith, ◌<◌}
+use Rattle.std.proofs.lemmas.Bool.Decides.{nat_tests}
 use Rattle.std.proofs.lemmas.List.{length_push, append_assoc}
 use Prim.Native.Char.{code}
 use Rattle.fancy_lex.specs.Characters.{bar}
@@ -475,8 +476,22 @@ running_bar {start} {t} {u} {stack} {f} all g h e b x i j = by_open (part_of f.o
     }
     by_open (second a) l r x i j = absurd (true≢false x)
 
+-- a closing parenthesis follows where a branch ends and no bar does
+pub closed_here : (r : Tree) (t : State) (c : ℕ) (u : Text) → t.rest ≡ c ∷ u → ends t.rest ≡ true →
+    strip bar t.rest ≡ None → closed r t ≡ done r (at t u)
+closed_here r t c u e h n =
+    ap (closed_at r t) e ∙ same (c == code ")") (by_bar (rw e at h) (rw e at n))
+  where
+    by_bar : ends (c ∷ u) ≡ true → strip bar (c ∷ u) ≡ None → (c == code ")") ≡ true
+    by_bar h n = grind (arith, nat_tests)
+
+    same : (b : Bool) → b ≡ true → (if b then done r (at t u) else faulted (bar_for_close_paren t.rest))
+        ≡ done r (at t u)
+    same true i = refl
+    same false i = absurd (true≢false (sym i))
+
 -- where another character than the closing parenthesis follows
-pub closed_other : (r : Tree) (t : State) (c : ℕ) (u : Text) → t.rest ≡ c ∷ u → c ≢ code ")" →
+closed_other : (r : Tree) (t : State) (c : ℕ) (u : Text) → t.rest ≡ c ∷ u → c ≢ code ")" →
     closed r t ≡ faulted (bar_for_close_paren t.rest)
 closed_other r t c u e h = ap (closed_at r t) e ∙ other (c == code ")") (search (tests, rules))
   where
@@ -523,14 +538,6 @@ running_end {start} {t} r h e a i j =
     rw i (subst (λ s. Alternation 0 s (done whole t)) m.1
     (subst (λ d. Alternation d h.begin (done whole t)) m.0 (reading_alternation h.reading e a)))
 
-opens_not_top : {d : ℕ} {s v : State} {o : OpenPart} → OpensPart d s o v → o ≢ top
-opens_not_top (a_group l e) i = cc
-opens_not_top (a_condition l e) i = cc
-opens_not_top (a_body l e) i = cc
-opens_not_top (behind_condition x y) i = cc
-opens_not_top (a_branch l e) i = cc
-opens_not_top (behind_branch x y z) i = cc
-
 -- what the part that is to be closed stands in
 pub record Closing (start : State) (stack : List Frame) (g : Frame) (trees : List Tree) (o : OpenPart)
     (r : Tree) (t : State) : Type 0 where
@@ -541,7 +548,6 @@ pub record Closing (start : State) (stack : List Frame) (g : Frame) (trees : Lis
   pub more : ends here.rest ≡ false
   pub opens : OpensPart (length stack) here o inside
   pub whole : Part o (length stack + 1) inside (done r t)
-  pub not_top : o ≢ top
 
 pub running_closing : {start t : State} {all : List Frame} {f : Frame} {trees : List Tree}
     (stack : List Frame) (g : Frame) (below : List Tree) (r : Tree) (q : OpenPart) → q ≡ part_of f.opener →
@@ -573,5 +579,4 @@ running_closing {t} {f} stack g below r q z h e a i k j =
       whole = rw (z, i) (subst (λ d. Part (part_of f.opener) d h.begin
           (done (choice (h.branches ++ joined h.pieces ∷ [])) t)) (o.deeper ∙ ap (λ d. d + 1) m)
           (reading_end (part_of f.opener) h.reading e a));
-      not_top = opens_not_top opens;
     }

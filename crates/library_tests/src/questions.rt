@@ -1,21 +1,19 @@
 //! Questions of one tree. What owns a tree is dear to prove, so one function alone does it for all questions.
 use crate::calls::{is_put_behind, nests_once, reads_as};
-use crate::nodes::{has_below, node};
+use crate::nodes::has_below;
 use crate::trees::{Source, tree_of};
 use fancy_syntax::error::Error;
 use fancy_syntax::expr::Expr;
 use std::alloc::Global;
 
 /// Whether it is printable, one group nests in its text, its text at the precedence is put behind the first text and is
-/// the second, the text reads as it and it has so many groups, its node is this one, or there is such a node below its
-/// own.
+/// the second, the text reads as it and it has so many groups, or there is such a node below its own.
 #[derive(Clone, Copy)]
 pub(crate) enum Question {
     Printable,
     NestsOnce,
     HasText(u8, &'static str, &'static str),
     ReadsAs(&'static str, usize),
-    Node(&'static str),
     Below(&'static str),
 }
 
@@ -34,7 +32,6 @@ fn answer(alloc: Global, tree: &Expr, question: &Question) -> Result<bool, Error
             text,
         )?),
         Question::ReadsAs(text, groups) => reads_as(alloc, text, tree, *groups),
-        Question::Node(name) => Ok(node(tree) == *name),
         Question::Below(name) => Ok(has_below(tree, name)),
     }
 }

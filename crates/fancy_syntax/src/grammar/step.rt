@@ -1,5 +1,5 @@
 //! The steps of the loop that read a piece, or come to the next part of a group.
-ghost use Rattle.std.specs.Prelude.{◌≡◌, ◌+◌, ◌<◌, ◌≤◌, false, length, chars, IfOk, MatchResult, None};
+ghost use Rattle.std.specs.Prelude.{◌≡◌, ◌+◌, ◌<◌, ◌≤◌, true, false, length, chars, IfOk, MatchResult, None};
 ghost use Rattle.fancy_lex.specs.Characters.{bar};
 ghost use Rattle.fancy_lex.specs.Text.{bytes, strip};
 ghost use Rattle.fancy_grammar.specs.State.{ends};
@@ -109,7 +109,8 @@ pub(crate) fn close<'a>(
     depth: usize,
 ) -> Result<Step<'a>, Failure>
     requires depth { depth < max_depth }
-    requires last { strip bar (chars here.old.rest.now) ≡ None }
+    requires last { ends (chars here.old.rest.now) ≡ true }
+    requires no_bar { strip bar (chars here.old.rest.now) ≡ None }
     ensures value { (s t : states.State) → left ≡ bytes s.rest → flags ≡ s.flags →
         OpensPart depth s (part_of opener.entry) t →
         Part (part_of opener.entry) (depth + 1) t (states.done (view inner) (state here.old)) →
@@ -140,8 +141,10 @@ fn goes_on(opener: &Opener) -> bool
 
 /// Reads the closing parenthesis of what is open: the tree that comes out.
 ///
-/// The general fault where a conditional has no body; else the faults of `close_paren`.
+/// The general fault where a conditional has no body; else that of `close_paren`.
 fn end_part(alloc: Global, opener: Opener, inner: Expr, here: &mut State) -> Result<Expr, Failure>
+    requires last { ends (chars here.old.rest.now) ≡ true }
+    requires no_bar { strip bar (chars here.old.rest.now) ≡ None }
     ensures value { GivesTree result (state here.new)
         (ended_part (part_of opener.entry) (view inner) (state here.old)) }
     ensures shorter { IfOk result (λ _. length here.new.rest.now < length here.old.rest.now) }
@@ -155,6 +158,8 @@ fn end_part(alloc: Global, opener: Opener, inner: Expr, here: &mut State) -> Res
 
 /// Reads the closing parenthesis of what is open, whatever tree stands in it. The faults are those of `end_part`.
 fn read_end(alloc: Global, opener: &Opener, here: &mut State) -> Result<(), Failure>
+    requires last { ends (chars here.old.rest.now) ≡ true }
+    requires no_bar { strip bar (chars here.old.rest.now) ≡ None }
     ensures value { (r : Tree) → MatchResult result
         (λ _. ended_part (part_of opener.now) r (state here.old) ≡
         states.done (machine.node_of_part (part_of opener.now) r) (state here.new))
@@ -164,7 +169,7 @@ fn read_end(alloc: Global, opener: &Opener, here: &mut State) -> Result<(), Fail
     if lacks_body(opener, here.rest) {
         return Err(general(alloc, NO_BODY, reach(here.rest)));
     }
-    close_paren(alloc, here)
+    close_paren(here)
 }
 
 /// Whether what is open is the body of a conditional that takes no byte before the text, and the condition cannot do
@@ -198,20 +203,18 @@ fn node_of_part(alloc: Global, opener: Opener, inner: Expr) -> Result<Expr, Allo
 const NO_BODY: &str =
     "expected conditional to be a backreference or at least an expression for when the condition is true";
 
-/// Reads a closing parenthesis. UnclosedOpenParen at the end of the text; at a bar, which is behind the second branch
-/// of an absent expression, the general fault.
-pub(crate) fn close_paren(alloc: Global, here: &mut State) -> Result<(), Failure>
+/// Reads the closing parenthesis that stands where neither a piece nor a bar does. UnclosedOpenParen at the end of the
+/// text.
+fn close_paren(here: &mut State) -> Result<(), Failure>
+    requires last { ends (chars here.old.rest.now) ≡ true }
+    requires no_bar { strip bar (chars here.old.rest.now) ≡ None }
     ensures value { (r : Tree) → MatchResult result (λ _. spec.closed r (state here.old) ≡
         states.done r (state here.new)) (λ e. IsErrorAmong e (λ o. spec.closed r (state here.old) ≡ o)) }
     ensures shorter { IfOk result (λ _. length here.new.rest.now < length here.old.rest.now) }
 {
-    let Some((c, rest)) = next(here.rest) else {
+    let Some((_, rest)) = next(here.rest) else {
         return Err(Failure::At(AT_END, ParseError::UnclosedOpenParen));
     };
-    if c != ')' {
-        let bar = reach(here.rest);
-        return Err(general(alloc, "expected close paren", bar));
-    }
     here.rest = rest;
     Ok(())
 }

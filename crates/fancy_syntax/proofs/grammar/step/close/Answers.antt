@@ -20,13 +20,13 @@ returns-in_err-atom-clause-value c =
     (λ q. ended_part (part_of c.args.opener) (view c.args.inner) (state c.args.here.now) ≡ q)
     (Piece c.args.depth s)
     c.in_err-atom.field-0.0 (λ k q h. ended_fault (view c.args.inner) (state c.args.here.now) o p
-    (λ _ _. c.requires.last) h) c.in_err-atom.ensures.value)
+    (λ _ _. c.requires.no_bar) h) c.in_err-atom.ensures.value)
 
 pub returns-then-is_unquantified-clause-value : goal.returns-then-is_unquantified-clause-value
 returns-then-is_unquantified-clause-value c =
     λ s t i j o p.
     closes (view c.args.inner) (state c.args.here.now) (Ok (step.Piece _)) _ o p
-    (sym c.goes_on-has_body.ensures ∙ c.if-not-has_body.true) c.requires.last
+    (sym c.goes_on-has_body.ensures ∙ c.if-not-has_body.true) c.requires.no_bar
     c.in_ok-atom.ensures.value i
     (ap (λ (f : Flags). quants c.args.depth c.args.left (view c.in_ok-atom.atom)
     (record (state c.end_part.new.here) { flags = f })) (sym j)
@@ -36,7 +36,7 @@ pub returns-then-not-has_body-clause-value : goal.returns-then-not-has_body-clau
 returns-then-not-has_body-clause-value c =
     λ s t i j o p.
     closes (view c.args.inner) (state c.args.here.now) c.piece.result _ o p
-    (sym c.goes_on-has_body.ensures ∙ c.if-not-has_body.true) c.requires.last
+    (sym c.goes_on-has_body.ensures ∙ c.if-not-has_body.true) c.requires.no_bar
     c.in_ok-atom.ensures.value i (rw j at c.piece.ensures.value)
 
 pub returns-clause-value : goal.returns-clause-value
