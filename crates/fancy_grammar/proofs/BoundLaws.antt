@@ -403,7 +403,7 @@ mutual
   body_fits : {d : ℕ} {c : Tree} {t : State} {o : Outcome Tree} → Body d c t o → (s : State) →
       nodes c + 2 + 2 * bytes t.rest ≤ 2 * bytes s.rest → levels c + 13 * d ≤ 819 → d + 1 < max_depth →
       Holds (Fits 820 d s) o
-  body_fits (the_body {d} {c} {q} {s = t} a) s g h l =
+  body_fits (the_body {d} {c} {s = t} {q} a) s g h l =
       then_holds (Fills max_levels (d + 1) t) (Fits 820 d s) q _ (alternation_fits a l) (λ x v i.
       cond_both (bytes v.rest == bytes t.rest && not (is_condition c)) _ _ (Holds (Fits 820 d s)) (λ _. tt) (λ _.
       let parts = branches_of x in let whole = conditional_of c parts.0 parts.1 in let deep = branches_levels x in

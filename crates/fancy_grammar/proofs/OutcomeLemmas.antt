@@ -63,7 +63,7 @@ at_done P e f h = rw (e, f) h
 
 -- the trees so far, before those that follow
 abbrev pub trees_before : List Tree → Outcome (List Tree) → Outcome (List Tree)
-trees_before l = seen_through (λ m. l ++ m)
+trees_before l = seen_through (l ++◌)
 
 pub before-nil : (o : Outcome (List Tree)) → trees_before [] o ≡ o
 before-nil (done l s) = refl

@@ -366,7 +366,7 @@ mutual
   inside_read (inside {q} r) = then_makes IsRead IsRead q _ (alternation_read r) (λ t v h. closed_read t v h)
 
   body_read : {d : ℕ} {c : Tree} {t : State} {o : Outcome Tree} → Body d c t o → IsRead c → Makes IsRead o
-  body_read (the_body {c} {q} {s = t} r) h =
+  body_read (the_body {c} {s = t} {q} r) h =
       then_makes IsRead IsRead q _ (alternation_read r) (λ a v i. behind_body_read (bytes t.rest) c a v h i)
 
 ended_read : (r : Tree) (s : State) → IsRead r → Makes IsRead (ended r s)

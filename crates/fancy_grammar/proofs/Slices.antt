@@ -688,7 +688,7 @@ mutual
 
   body_slice : {d : ℕ} {c : Tree} (s : State) {t : State} {o : Outcome Tree} → Body d c t o →
       Span (items c) s.rest t.rest → Within items s o
-  body_slice s (the_body {c} {q} {s = t} r) h =
+  body_slice s (the_body {c} {s = t} {q} r) h =
       then_slice items items s t q _ h.slice (alternation_slice r)
       (λ a v i. conditional_slice (bytes t.rest) s v c a (then h i))
 

@@ -135,7 +135,7 @@ mutual
 
   body_unique : {d : ℕ} {c x : Tree} {s z : State} {o q : Outcome Tree} → Body d c s o → Body d x z q → c ≡ x →
       s ≡ z → o ≡ q
-  body_unique (the_body {q} {s} a) (the_body {c = x} b) i e =
+  body_unique (the_body {s} {q} a) (the_body {c = x} b) i e =
       ap (λ (y : Tree). and_then q (conditional_behind y (bytes s.rest))) i
       ∙ ap₂ (λ (y : State) o. and_then o (conditional_behind x (bytes y.rest))) e (alternation_unique a b e)
 

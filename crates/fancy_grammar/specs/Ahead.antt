@@ -39,7 +39,7 @@ pub data Ahead : Type 0 where
   body : Tree → State → Ahead  -- a conditional whose condition is this tree; its body begins at the state
   absent_branch : State → Ahead  -- `(?~|` of an absent expression, stopper or clear; a branch begins at the state
 
--- nothing can stand there: this fault
+-- what stands there is refused, with this fault
 abbrev pub refused : Fault → Ahead
 refused e = read (faulted e)
 
@@ -146,8 +146,8 @@ behind_question s t =
     choose (strip_word (codes "<") t) (λ u. named_ahead s (group_name (code ">") t u)) (
     choose (strip_word (codes "'") t) (λ u. named_ahead s (group_name (code "'") t u)) (
     choose (strip_word (codes "P<") t) (λ u. named_ahead s (group_name (code ">") t u)) (
-    choose (strip_word (codes "P=") t) (λ u. read (leaf_outcome (backref_node s.flags.casei) s (named_reference u)))
-    (choose (strip_word (codes "P>") t) (λ u. read (leaf_outcome call_node s (named_call u))) (
+    choose (strip_word (codes "P=") t) (λ u. read (leaf_outcome (backref_node s.flags.casei) s (named_reference u))) (
+    choose (strip_word (codes "P>") t) (λ u. read (leaf_outcome call_node s (named_call u))) (
     choose (strip_word (codes "~|") t) (λ u. absent_branch (at s u)) (
     choose (strip_word (codes "~") t) (λ u. repeater_ahead s u) (
     choose (strip_word (codes ">") t) (λ u. with_head atomic (at s u)) (
@@ -162,6 +162,7 @@ group_ahead s t =
     choose (strip_word (codes "*") t) (λ u. verb_ahead s u)
     (with_head (capture None) (at s t)))
 
+-- behind the parenthesis, with the layout that follows it passed over
 abbrev pub behind_layout : State → Skipped → Ahead
 behind_layout s (rest u) = group_ahead s u
 behind_layout s (open_comment p) = refused (comment_not_closed p)

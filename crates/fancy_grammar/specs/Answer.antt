@@ -19,9 +19,9 @@ IsTreeOf f text t m =
 
 -- the fault of the text: that of reading it, or, where the text derives, the first fault of its references
 pub data IsFaultOf : Flags → Text → Kind → ℕ → Type 0 where
-  of_reading : {f : Flags} {text : Text} {k : Kind} {p : ℕ} → Faults f text k p → IsFaultOf f text k p
-  of_resolving : {f : Flags} {text : Text} {k : Kind} {q : ℕ} {r : Tree} → DerivesTree f text r →
-      fault_of f r ≡ Some (record { reach = q; kind = k }) → IsFaultOf f text k (place_at (bytes text) q)
+  of_reading : {f text k p : _} → Faults f text k p → IsFaultOf f text k p
+  of_resolving : {f text k q r : _} → DerivesTree f text r → fault_of f r ≡ Some (record { reach = q; kind = k }) →
+      IsFaultOf f text k (place_at (bytes text) q)
 
 -- memory ran out, or the text has this fault and no other, and no tree
 abbrev pub IsOnlyFault : Error → Flags → Text → Type 0

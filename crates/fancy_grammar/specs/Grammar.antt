@@ -68,7 +68,7 @@ clear_or_stopper a = if is_empty a then clear else stopper a
 abbrev pub restored : Flags → Outcome Tree → Outcome Tree
 restored f q = and_then q (λ r t. done r (record t { flags = f }))
 
--- behind a group the flags f from before it hold again; a leaf, as `(?flags)`, leaves its own
+-- behind a group the flags f from before it hold again; what is read at once, as `(?flags)`, leaves its own
 abbrev pub behind_atom : Ahead → Flags → Outcome Tree → Outcome Tree
 behind_atom nothing f q = q
 behind_atom (read o) f q = q
@@ -76,9 +76,9 @@ behind_atom _ f q = restored f q
 
 -- ---- the productions
 
--- In each of them d is how many groups are open; s is the state where it begins, t and v are later states, in text
--- order, and u is a later text; r, a and c are trees, of which c is a condition; o and q are outcomes, e is what stands
--- ahead, and k and p are the kind and the reach of a fault.
+-- The letters of a rule stand in braces before it: d is how many groups are open; s is the state where it begins, t and v
+-- are later states, in text order, and u is a later text; r, a and c are trees, of which c is a condition; o and q are
+-- outcomes, k and p the kind and the reach of a fault; e is what stands ahead, and h the head of a group.
 
 mutual
   -- branches with bars between
@@ -88,7 +88,7 @@ mutual
   pub data Branches : ℕ → State → Outcome (List Tree) → Type 0 where
     last : {d s t r : _} → Branch d s (done r t) → strip bar t.rest ≡ None → Branches d s (done (r ∷ []) t)
     more : {d s t u r q : _} → Branch d s (done r t) → strip bar t.rest ≡ Some u → Branches d (at t u) q →
-        Branches d s (seen_through (λ l. r ∷ l) q)
+        Branches d s (seen_through (r ∷◌) q)
     branch_fault : {d s k p : _} → Branch d s (fault k p) → Branches d s (fault k p)
 
   -- pieces up to where a branch ends
@@ -98,7 +98,7 @@ mutual
   pub data Pieces : ℕ → State → Outcome (List Tree) → Type 0 where
     stop : {d : ℕ} {s : State} → ends s.rest ≡ true → Pieces d s (done [] s)
     next : {d t r q : _} {s : State} → ends s.rest ≡ false → Piece d s (done r t) → Pieces d t q →
-        Pieces d s (seen_through (λ l. r ∷ l) q)
+        Pieces d s (seen_through (r ∷◌) q)
     piece_fault : {d k p : _} {s : State} → ends s.rest ≡ false → Piece d s (fault k p) → Pieces d s (fault k p)
 
   -- layout, and an atom under the quantifiers that follow it
@@ -132,8 +132,7 @@ mutual
 
   -- the body of a conditional whose condition is the tree, through its closing parenthesis
   pub data Body : ℕ → Tree → State → Outcome Tree → Type 0 where
-    the_body : {d c q : _} {s : State} → Alternation (d + 1) s q →
-        Body d c s (and_then q (conditional_behind c (bytes s.rest)))
+    the_body : {d c s q : _} → Alternation (d + 1) s q → Body d c s (and_then q (conditional_behind c (bytes s.rest)))
 
 -- ---- a whole text
 

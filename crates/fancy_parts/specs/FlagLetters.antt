@@ -3,7 +3,6 @@ use Rattle.std.specs.Prelude.{◌≡◌, ◌≢◌, ◌⊎◌, ℕ, ◌==◌, Bo
 use Rattle.std.specs.Prelude.{if◌then◌else◌}
 use Prim.Native.Char.{code}
 use Rattle.fancy_lex.specs.Characters.{◌∈◌}
-use Rattle.fancy_lex.specs.Fault.{Fault}
 use Rattle.fancy_lex.specs.FaultTable.{comment_not_closed, group_not_closed, no_flag_letter, mode_changed}
 use Rattle.fancy_lex.specs.Layout.{Before, Unclosed}
 use Rattle.fancy_lex.specs.Reading.{Reading, gives, fails}
@@ -42,7 +41,7 @@ pub data NoLetter (w : Text) (clears : Bool) (f : Flags) (c : ℕ) : Type 0 wher
 module _ (t : Text) where
   -- one letter, mark or fault, before `u`
   pub data Letter (w : Text) (clears : Bool) (f : Flags) (c : ℕ) (u : Text) : Reading LetterStep → Type 0 where
-    flag : {g : Flags} → with_letter f (not clears) c ≡ Some g → Letter w clears f c u (gives (flags_go_on clears g) u)
+    flag : {g : _} → with_letter f (not clears) c ≡ Some g → Letter w clears f c u (gives (flags_go_on clears g) u)
     same_mode : c ≡ code "u" → f.unicode ≡ not clears → Letter w clears f c u (gives (flags_go_on clears f) u)
     minus : c ≡ code "-" → clears ≡ false → Letter w clears f c u (gives (flags_go_on true f) u)
     parenthesis : c ≡ code ")" → w ≢ [] → w ≢ codes "-" → Letter w clears f c u (gives (flags_end (setting f)) u)
@@ -60,15 +59,12 @@ module _ (t : Text) where
 
   -- what is left of the letters under these flags, where `clears` says whether a minus was read
   pub data LettersFrom : Bool → Flags → Text → Reading Letters → Type 0 where
-    last : {clears : Bool} {f : Flags} {u v : Text} {l : Letters} → Next clears f u v (gives (flags_end l) v) →
-        LettersFrom clears f u (gives l v)
-    more : {clears b : Bool} {f g : Flags} {u v : Text} {o : Reading Letters} →
-        Next clears f u v (gives (flags_go_on b g) v) → LettersFrom b g v o → LettersFrom clears f u o
-    letter_fault : {clears : Bool} {f : Flags} {u v : Text} {e : Fault} → Next clears f u v (fails e) →
-        LettersFrom clears f u (fails e)
-    text_end : {clears : Bool} {f : Flags} {u : Text} → Before f.ignore_space u [] →
-        LettersFrom clears f u (fails group_not_closed)
-    open_layout : {clears : Bool} {f : Flags} {u : Text} {q : ℕ} → Unclosed f.ignore_space u q →
+    last : {clears f u v l : _} → Next clears f u v (gives (flags_end l) v) → LettersFrom clears f u (gives l v)
+    more : {clears b f g u v o : _} → Next clears f u v (gives (flags_go_on b g) v) → LettersFrom b g v o →
+        LettersFrom clears f u o
+    letter_fault : {clears f u v e : _} → Next clears f u v (fails e) → LettersFrom clears f u (fails e)
+    text_end : {clears u : _} {f : Flags} → Before f.ignore_space u [] → LettersFrom clears f u (fails group_not_closed)
+    open_layout : {clears u q : _} {f : Flags} → Unclosed f.ignore_space u q →
         LettersFrom clears f u (fails (comment_not_closed q))
 
 -- the letters of a flag group, from behind the `(?`

@@ -27,7 +27,7 @@ begins_target (c ∷ t) = (c ∈ "'<+-") || is_ascii_digit c
 
 -- the same with a closing parenthesis behind the name
 abbrev pub with_close_paren : Option (Text × Text) → Option (Text × Text)
-with_close_paren o = option_and_then (λ q. option_map (λ u. (q.0, u)) (strip close_paren q.1)) o
+with_close_paren o = option_and_then (λ (w, u). option_map (λ v. (w, v)) (strip close_paren u)) o
 
 -- `'name')`, `<name>)` or `name)`, and what follows
 unfoldable pub condition_name : Text → Option (Text × Text)

@@ -19,7 +19,7 @@ o >>= f = option_and_then f o
 -- a number as a count: none where no digit stands; one above the greatest is refused
 abbrev pub count_of : Text → Option (ℕ × Text) → Option (Option ℕ × Text)
 count_of t None = Some (None, t)
-count_of t (Some p) = if nat_lt p.0 (2 ^ 64) then Some (Some p.0, p.1) else None
+count_of t (Some (n, u)) = if nat_lt n (2 ^ 64) then Some (Some n, u) else None
 
 -- the count at the front, or none
 unfoldable pub count : Text → Option (Option ℕ × Text)
@@ -27,7 +27,7 @@ count t = count_of t (number t)
 
 -- a count with layout round it
 unfoldable pub spaced_count : Bool → Text → Option (Option ℕ × Text)
-spaced_count x t = past_layout x t >>= (λ t. count t >>= (λ p. option_map (λ t. (p.0, t)) (past_layout x p.1)))
+spaced_count x t = past_layout x t >>= λ u. count u >>= λ (n, v). option_map (λ w. (n, w)) (past_layout x v)
 
 -- these counts in braces
 abbrev pub in_braces : ℕ → ℕ → Counts
@@ -40,7 +40,7 @@ as_mark low high = record { low = low; high = high; braces = false }
 -- behind the comma: a count or nothing, and the closing brace
 unfoldable pub counts_from : Bool → ℕ → Text → Option (Counts × Text)
 counts_from x low t =
-    spaced_count x t >>= (λ p. option_map (λ v. (in_braces low (unwrap_or p.0 most), v)) (strip (code "}") p.1))
+    spaced_count x t >>= λ (high, u). option_map (λ v. (in_braces low (unwrap_or high most), v)) (strip (code "}") u)
 
 -- behind the first count: the closing brace, where there was one, or a comma
 abbrev pub exact_or_range : Bool → Option ℕ → Text → Option Text → Option (Counts × Text)
@@ -49,7 +49,7 @@ exact_or_range x low t None = strip (code ",") t >>= counts_from x (unwrap_or lo
 
 -- the counts behind the opening brace, and what follows the closing one
 unfoldable pub braced_counts : Bool → Text → Option (Counts × Text)
-braced_counts x t = spaced_count x t >>= (λ p. exact_or_range x p.0 p.1 (strip (code "}") p.1))
+braced_counts x t = spaced_count x t >>= λ (low, u). exact_or_range x low u (strip (code "}") u)
 
 -- The counts of the quantifier at the front, and what follows its mark or closing brace; none where no quantifier
 -- stands, as where braces do not read whole. The flag says that blanks are layout.
