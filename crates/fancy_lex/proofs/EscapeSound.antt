@@ -28,7 +28,7 @@ use Rattle.fancy_lex.proofs.ReferencePlaces.{subroutine_call_at}
 use Rattle.fancy_lex.proofs.TakeLaws.{Takes, TakesOrFails, takes, takes_less}
 
 -- the reach p is that of an end of t, of which a character or more stands before u
-pub record Stands (t u : Text) (p : ℕ) : Type 0 where
+pub record StandsBefore (t u : Text) (p : ℕ) : Type 0 where
   pub mark : Text
   pub ends : Ends t mark
   pub takes : Takes 1 mark u
@@ -38,8 +38,8 @@ pub record Stands (t u : Text) (p : ℕ) : Type 0 where
 -- in the escape, or another leaf
 abbrev pub IsSound : Text → Text → Escape → Type 0
 IsSound t u (literal_bytes b) = (0x80 ≤ b) × (b ≤ 0xFF)
-IsSound t u (backref r casei) = Stands t u r.reach
-IsSound t u (called c) = Stands t u c.reach
+IsSound t u (backref r casei) = StandsBefore t u r.reach
+IsSound t u (called c) = StandsBefore t u c.reach
 IsSound t u _ = Unit {0}
 
 -- the same of what was read of t
@@ -47,8 +47,8 @@ abbrev pub Sound : Text → Reading Escape → Type 0
 Sound t (gives e u) = IsSound t u e
 Sound t (fails e) = Unit {0}
 
-stands_past : (c : ℕ) (t u : Text) (p : ℕ) → Stands t u p → Stands (c ∷ t) u p
-stands_past c t u p h = record { mark = h.mark; ends = ends_past c t h.mark h.ends; takes = h.takes; reach = h.reach }
+before_past : (c : ℕ) (t u : Text) (p : ℕ) → StandsBefore t u p → StandsBefore (c ∷ t) u p
+before_past c t u p h = record { mark = h.mark; ends = ends_past c t h.mark h.ends; takes = h.takes; reach = h.reach }
 
 past_one : (c : ℕ) (t u : Text) (e : Escape) → IsSound t u e → IsSound (c ∷ t) u e
 past_one c t u (literal v casei) h = h
@@ -59,8 +59,8 @@ past_one c t u (general_newline unicode) h = h
 past_one c t u keep_out h = h
 past_one c t u continue_from_previous_match_end h = h
 past_one c t u (delegate w casei) h = h
-past_one c t u (backref r casei) h = stands_past c t u r.reach h
-past_one c t u (called r) h = stands_past c t u r.reach h
+past_one c t u (backref r casei) h = before_past c t u r.reach h
+past_one c t u (called r) h = before_past c t u r.reach h
 
 sound_past : (c : ℕ) (t : Text) (o : Reading Escape) → Sound t o → Sound (c ∷ t) o
 sound_past c t (gives e u) h = past_one c t u e h

@@ -164,7 +164,7 @@ not_inserted x t (u ∷ ts) h = by_order (name_cmp t u) refl (not_inserted x t t
 -- ---- all groups, one after another
 
 -- the entries are those of the names, by the function, which has no number for another name
-record Stands (es : List (Text × List ℕ)) (ts : List Text) (f : Text → List ℕ) : Type 0 where
+record Lists (es : List (Text × List ℕ)) (ts : List Text) (f : Text → List ℕ) : Type 0 where
   is : es ≡ entries f ts
   sorted : IsStrictlySortedBy name_cmp ts
   absent : (u : Text) → list_any (λ x. bytes_eq x u) ts ≡ false → f u ≡ []
@@ -172,9 +172,9 @@ record Stands (es : List (Text × List ℕ)) (ts : List Text) (f : Text → List
 with_one_other : (t : Text) (n : ℕ) (f : Text → List ℕ) (u : Text) → bytes_eq u t ≡ false → with_one t n f u ≡ f u
 with_one_other t n f u e = rw e refl
 
-stands_more : (es : List (Text × List ℕ)) (ts : List Text) (f : Text → List ℕ) (t : Text) (n : ℕ) → Stands es ts f →
-    Stands (with_number t n es) (insert_key name_cmp ts t) (with_one t n f)
-stands_more es ts f t n h = record {
+lists_more : (es : List (Text × List ℕ)) (ts : List Text) (f : Text → List ℕ) (t : Text) (n : ℕ) → Lists es ts f →
+    Lists (with_number t n es) (insert_key name_cmp ts t) (with_one t n f)
+lists_more es ts f t n h = record {
   is = ap (with_number t n) h.is ∙ numbered t n f ts h.sorted (h.absent t);
   sorted = sorted_inserted t ts h.sorted;
   absent = λ u a. let k = not_inserted u t ts a in with_one_other t n f u k.0 ∙ h.absent u k.1;
@@ -193,35 +193,35 @@ abbrev all_names : List Text → List Opening → List Text
 all_names ts l = fold (insert_key name_cmp) ts (filter_map (λ o. o.name) l)
 
 -- one group more, and then the others
-stands_next : (s : Groups) (ts : List Text) (f : Text → List ℕ) (m : Option Text) (l : List Opening) →
-    ((us : List Text) (g : Text → List ℕ) → Stands (with_group s m).names us g →
-    Stands (with_all (with_group s m) l).names (all_names us l) (λ u. g u ++ numbers_from (s.total + 1) u l)) →
-    Stands s.names ts f →
-    Stands (with_all (with_group s m) l).names
+lists_next : (s : Groups) (ts : List Text) (f : Text → List ℕ) (m : Option Text) (l : List Opening) →
+    ((us : List Text) (g : Text → List ℕ) → Lists (with_group s m).names us g →
+    Lists (with_all (with_group s m) l).names (all_names us l) (λ u. g u ++ numbers_from (s.total + 1) u l)) →
+    Lists s.names ts f →
+    Lists (with_all (with_group s m) l).names
     (fold (insert_key name_cmp) ts (cons_option m (filter_map (λ o. o.name) l)))
     (λ u. f u ++
     (if is_name u m then (s.total + 1) ∷ numbers_from (s.total + 1) u l else numbers_from (s.total + 1) u l))
-stands_next s ts f None l i h = i ts f h
-stands_next s ts f (Some t) l i h =
-    let k = i (insert_key name_cmp ts t) (with_one t (s.total + 1) f) (stands_more s.names ts f t (s.total + 1) h) in
-    subst (Stands (with_all (with_group s (Some t)) l).names (all_names (insert_key name_cmp ts t) l))
+lists_next s ts f None l i h = i ts f h
+lists_next s ts f (Some t) l i h =
+    let k = i (insert_key name_cmp ts t) (with_one t (s.total + 1) f) (lists_more s.names ts f t (s.total + 1) h) in
+    subst (Lists (with_all (with_group s (Some t)) l).names (all_names (insert_key name_cmp ts t) l))
     (λ j u. one_more (f u) (numbers_from (s.total + 1) u l) (s.total + 1) (bytes_eq u t) j) k
 
-stands_all : (s : Groups) (ts : List Text) (f : Text → List ℕ) (l : List Opening) → Stands s.names ts f →
-    Stands (with_all s l).names (all_names ts l) (λ u. f u ++ numbers_from s.total u l)
-stands_all s ts f [] h = subst (Stands s.names ts) (λ i u. sym (append-nil (f u)) i) h
-stands_all s ts f (o ∷ l) h = stands_next s ts f o.name l (λ us g k. stands_all (with_group s o.name) us g l k) h
+lists_all : (s : Groups) (ts : List Text) (f : Text → List ℕ) (l : List Opening) → Lists s.names ts f →
+    Lists (with_all s l).names (all_names ts l) (λ u. f u ++ numbers_from s.total u l)
+lists_all s ts f [] h = subst (Lists s.names ts) (λ i u. sym (append-nil (f u)) i) h
+lists_all s ts f (o ∷ l) h = lists_next s ts f o.name l (λ us g k. lists_all (with_group s o.name) us g l k) h
 
-none_stands : Stands [] [] (λ u. [])
+none_listed : Lists [] [] (λ u. [])
 unfolding IsStrictlySortedBy
-none_stands = record { is = refl; sorted = tt; absent = λ u a. refl }
+none_listed = record { is = refl; sorted = tt; absent = λ u a. refl }
 
-stands_named : (l : List Opening) → Stands (with_all no_groups l).names (names l) (λ u. numbers u l)
-stands_named l = stands_all no_groups [] (λ u. []) l none_stands
+lists_named : (l : List Opening) → Lists (with_all no_groups l).names (names l) (λ u. numbers u l)
+lists_named l = lists_all no_groups [] (λ u. []) l none_listed
 
 -- all groups added to none
 pub all_named : (l : List Opening) → (with_all no_groups l).names ≡ named_groups l
-all_named l = (stands_named l).is
+all_named l = (lists_named l).is
 
 under_entries : (f : Text → List ℕ) (t : Text) (ts : List Text) → (list_any (λ u. bytes_eq u t) ts ≡ false → f t ≡ []) →
     numbers_under (entries f ts) t ≡ f t
@@ -238,7 +238,7 @@ under_entries f t (u ∷ ts) a = by_test (bytes_eq u t) refl (under_entries f t 
 
 -- the numbers that a name has among the groups
 pub under_named : (l : List Opening) (t : Text) → numbers_under (named_groups l) t ≡ numbers t l
-under_named l t = under_entries (λ u. numbers u l) t (names l) ((stands_named l).absent t)
+under_named l t = under_entries (λ u. numbers u l) t (names l) ((lists_named l).absent t)
 
 total_all : (s : Groups) (l : List Opening) → (with_all s l).total ≡ s.total + length l
 total_all s [] = omega arith

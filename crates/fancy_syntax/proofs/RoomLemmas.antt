@@ -26,7 +26,7 @@ use Rattle.fancy_syntax.specs.Machine.{behind_branch, OpenGroups, outermost, inn
 use Rattle.fancy_syntax.specs.Machine.{OpensBelow}
 use Rattle.fancy_syntax.specs.Room.{open_parens, groups_at_once, HasRoom, HasRoomFor}
 use Rattle.fancy_syntax.specs.declared.grammar.frame.Frame.{Frame}
-use Rattle.fancy_syntax.specs.declared.grammar.reading.Reading.{Reading}
+use Rattle.fancy_syntax.specs.declared.grammar.parser.Parser.{Parser}
 use Rattle.fancy_syntax.specs.declared.grammar.step.Step.{Step}
 use Rattle.fancy_syntax.specs.declared.grammar.step.Step.TheVariants as step
 
@@ -132,7 +132,7 @@ room_for_one {start} {stack} room h opens below fits =
     by_test false i k = omega (arith, i, k)
 
 pub room_for_step : {start t : State} {stack : List Frame} {f : Frame} {trees : List Tree} (v : State) (made : Step)
-    (r : Reading) → Running start stack f trees t → IsStep (length stack) t made v → OpensBelow made (length stack) →
+    (r : Parser) → Running start stack f trees t → IsStep (length stack) t made v → OpensBelow made (length stack) →
     HasRoom r start.rest → vec_len r.stack ≡ length stack → HasRoomFor made r
 room_for_step v (step.Piece piece) r h steps below room e = tt
 room_for_step v (step.Open opener) r h steps below room e =

@@ -22,7 +22,7 @@ use Rattle.fancy_syntax.specs.View.{view, views}
 use Rattle.fancy_syntax.specs.declared.grammar.frame.Frame.{Frame}
 use Rattle.fancy_syntax.specs.declared.grammar.frame.Opener.{Opener}
 use Rattle.fancy_syntax.specs.declared.grammar.frame.Opener.TheVariants as opener
-use Rattle.fancy_syntax.specs.declared.grammar.reading.Reading.{Reading}
+use Rattle.fancy_syntax.specs.declared.grammar.parser.Parser.{Parser}
 use Rattle.fancy_syntax.specs.declared.grammar.step.Step.{Step}
 use Rattle.fancy_syntax.specs.declared.grammar.step.Step.TheVariants as step
 
@@ -188,5 +188,5 @@ pub record Running (start : State) (stack : List Frame) (f : Frame) (trees : Lis
     pub reading : ReadSoFar depth (part_of f.opener) begin branches pieces t
 
 -- the same of what the loop holds
-abbrev pub IsReading : State → Reading → Type 0
-IsReading start r = Running start r.stack.items r.frame (views r.trees.items) (state r.here)
+abbrev pub HasRead : State → Parser → Type 0
+HasRead start r = Running start r.stack.items r.frame (views r.trees.items) (state r.here)

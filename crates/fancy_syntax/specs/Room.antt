@@ -5,8 +5,8 @@ use Rattle.fancy_lex.specs.Characters.{open_paren}
 use Rattle.fancy_lex.specs.Text.{Text}
 use Rattle.fancy_grammar.specs.Depth.{most_open}
 use Rattle.fancy_grammar.specs.State.{State}
-use Rattle.fancy_syntax.specs.Machine.{IsReading}
-use Rattle.fancy_syntax.specs.declared.grammar.reading.Reading.{Reading}
+use Rattle.fancy_syntax.specs.Machine.{HasRead}
+use Rattle.fancy_syntax.specs.declared.grammar.parser.Parser.{Parser}
 use Rattle.fancy_syntax.specs.declared.grammar.step.Step.{Step}
 use Rattle.fancy_syntax.specs.declared.grammar.step.Step.TheVariants as step
 
@@ -20,15 +20,15 @@ abbrev pub groups_at_once : Text → ℕ
 groups_at_once t = if nat_le most_open (open_parens t) then most_open else open_parens t
 
 -- the stack has room for all groups of the text that can be open at once
-abbrev pub HasRoom : Reading → Text → Type 0
+abbrev pub HasRoom : Parser → Text → Type 0
 HasRoom r text = groups_at_once text ≤ vec_capacity r.stack
 
 -- what is read is read of some text, and the stack has room for its groups
-abbrev pub IsRoomy : Reading → Type 0
-IsRoomy r = (start : State) × IsReading start r × HasRoom r start.rest
+abbrev pub IsRoomy : Parser → Type 0
+IsRoomy r = (start : State) × HasRead start r × HasRoom r start.rest
 
 -- there is room for what the step opens
-abbrev pub HasRoomFor : Step → Reading → Type 0
+abbrev pub HasRoomFor : Step → Parser → Type 0
 HasRoomFor (step.Piece piece) r = ⊤
 HasRoomFor (step.Open opener) r = vec_len r.stack < vec_capacity r.stack
 

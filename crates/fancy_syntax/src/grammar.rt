@@ -10,9 +10,9 @@ mod conditional;
 mod fault;
 mod frame;
 mod group;
+mod parser;
 mod plain;
 mod quantified;
-mod reading;
 mod reference;
 mod state;
 mod step;
@@ -20,7 +20,7 @@ mod trees;
 
 use crate::expr::Expr;
 use crate::grammar::fault::general;
-use crate::grammar::reading::Reading;
+use crate::grammar::parser::Parser;
 use crate::grammar::state::{State, is_end};
 use fancy_lex::error::Failure;
 use fancy_lex::flags::Flags;
@@ -47,18 +47,18 @@ fn alternation<'a>(alloc: Global, start: State<'a>) -> Result<(Expr, State<'a>),
     ensures value { IsTreeRead result (spec.Alternation 0 (state start.entry)) }
     ensures within { IfOk result (λ p. length p.1.rest.now ≤ length start.entry.rest.now) }
 {
-    let mut reading = Reading::new(alloc, start)?;
+    let mut parser = Parser::new(alloc, start)?;
     loop {
-        if reading.add_leaf(alloc)? {
+        if parser.add_leaf(alloc)? {
             continue;
         }
-        let rest = reading.here.rest;
+        let rest = parser.here.rest;
         if !is_end(rest) {
-            reading.step(alloc)?;
+            parser.step(alloc)?;
         } else if let Some(behind) = after(rest, '|') {
-            reading.bar(alloc, behind)?;
-        } else if let Some(tree) = reading.close(alloc)? {
-            return Ok((tree, reading.here));
+            parser.bar(alloc, behind)?;
+        } else if let Some(tree) = parser.close(alloc)? {
+            return Ok((tree, parser.here));
         }
     }
 }

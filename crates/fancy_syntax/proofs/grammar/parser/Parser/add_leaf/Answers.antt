@@ -1,5 +1,5 @@
 use Rattle.fancy_syntax.proofs.MachineLemmas.{running_piece}
-use Rattle.fancy_syntax.proofs.grammar.reading.Reading.add_leaf.Goals as goal
+use Rattle.fancy_syntax.proofs.grammar.parser.Parser.add_leaf.Goals as goal
 
 pub returns-in-Some-clause-reading : goal.returns-in-Some-clause-reading
 returns-in-Some-clause-reading c start h =

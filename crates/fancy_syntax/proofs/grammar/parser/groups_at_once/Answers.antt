@@ -2,7 +2,7 @@ use Rattle.std.proofs.Common.{◌≡◌, ◌+◌, ◌-◌, arith, ap, ◌∙◌,
 use Rattle.std.proofs.lemmas.List.{take_rest}
 use Rattle.fancy_syntax.specs.Room.{open_parens}
 use Rattle.fancy_syntax.proofs.RoomLemmas.{parens_of_bytes, none_found, first_found, all_counted, most_counted}
-use Rattle.fancy_syntax.proofs.grammar.reading.groups_at_once.Goals as goal
+use Rattle.fancy_syntax.proofs.grammar.parser.groups_at_once.Goals as goal
 
 pub returns-in_default : goal.returns-in_default
 returns-in_default c =

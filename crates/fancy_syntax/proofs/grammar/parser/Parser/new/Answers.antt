@@ -3,7 +3,7 @@ use Rattle.fancy_syntax.specs.Machine.{part_of}
 use Rattle.fancy_syntax.specs.Parsed.{state}
 use Rattle.fancy_syntax.specs.View.{views}
 use Rattle.fancy_syntax.proofs.MachineLemmas.{running_start}
-use Rattle.fancy_syntax.proofs.grammar.reading.Reading.new.Goals as goal
+use Rattle.fancy_syntax.proofs.grammar.parser.Parser.new.Goals as goal
 
 pub returns-clause-reading : goal.returns-clause-reading
 returns-clause-reading c =

@@ -4,7 +4,7 @@ use Rattle.fancy_syntax.specs.Machine.{IsFaultOfBar, part_of}
 use Rattle.fancy_syntax.specs.Parsed.{state}
 use Rattle.fancy_syntax.proofs.MachineLemmas.{running_bar, running_bar_fault}
 use Rattle.fancy_grammar.proofs.OutcomeLemmas.{IsErrorAmong-map}
-use Rattle.fancy_syntax.proofs.grammar.reading.Reading.bar.Goals as goal
+use Rattle.fancy_syntax.proofs.grammar.parser.Parser.bar.Goals as goal
 
 pub returns-in_err-bar-clause-reading : goal.returns-in_err-bar-clause-reading
 returns-in_err-bar-clause-reading c start h =

@@ -8,7 +8,7 @@ ghost use Rattle.fancy_grammar.specs.Errors.{IsErrorAmong};
 ghost use Rattle.fancy_grammar.specs.Grammar.{Alternation};
 ghost use Rattle.fancy_grammar.specs.State.{done, ends};
 ghost use Rattle.fancy_grammar.specs.State as states;
-ghost use Rattle.fancy_syntax.specs.Machine.{Takes, IsReading};
+ghost use Rattle.fancy_syntax.specs.Machine.{Takes, HasRead};
 ghost use Rattle.fancy_syntax.specs.Parsed.{state};
 ghost use Rattle.fancy_syntax.specs.Room.{groups_at_once, HasRoom, IsRoomy, HasRoomFor, OpensAlways};
 ghost use Rattle.fancy_syntax.specs.View.{view, views};
@@ -28,7 +28,7 @@ use std::mem;
 
 /// What is read so far of a text.
 #[derive(Drop)]
-pub(crate) struct Reading<'a> {
+pub(crate) struct Parser<'a> {
     /// Where it stands.
     pub(crate) here: State<'a>,
     /// The innermost group that is open.
@@ -45,29 +45,29 @@ pub(crate) struct Reading<'a> {
 /// blocks of a tree slowly.
 const TREES: usize = 12;
 
-impl<'a> Reading<'a> {
+impl<'a> Parser<'a> {
     /// Nothing is read yet.
-    pub(crate) fn new(alloc: Global, start: State<'a>) -> Result<Reading<'a>, AllocError>
+    pub(crate) fn new(alloc: Global, start: State<'a>) -> Result<Parser<'a>, AllocError>
         ensures here { IfOk result (λ r. r.here ≡ start.entry) }
         ensures depth { IfOk result (λ r. length r.stack.items < max_depth) }
-        ensures reading { IfOk result (λ r. IsReading (state start.entry) r) }
+        ensures reading { IfOk result (λ r. HasRead (state start.entry) r) }
         ensures room { IfOk result (λ r. HasRoom r (chars start.entry.rest.now)) }
     {
-        let mut reading = Reading {
+        let mut parser = Parser {
             here: start,
             frame: Frame::new(Opener::Top, 0, start.flags),
             stack: Vec::new(alloc),
             trees: Vec::with_capacity(alloc, TREES)?,
         };
-        reading.stack.reserve_exact(groups_at_once(start.rest))?;
-        Ok(reading)
+        parser.stack.reserve_exact(groups_at_once(start.rest))?;
+        Ok(parser)
     }
 
     /// Reads the leaf at the front, where a look ahead reads all of it: whether it does.
     #[inline(always)]
     pub(crate) fn add_leaf(&mut self, alloc: Global) -> Result<bool, AllocError>
-        ensures reading { (start : states.State) → IsReading start self.old →
-            OnOk result (IsReading start self.new) }
+        ensures reading { (start : states.State) → HasRead start self.old →
+            OnOk result (HasRead start self.new) }
         ensures stack { self.new.stack ≡ self.old.stack }
         ensures within { length self.new.here.rest.now ≤ length self.old.here.rest.now }
         ensures shorter { IfOk result (λ found. found ≡ true →
@@ -94,8 +94,8 @@ impl<'a> Reading<'a> {
         requires room { IsRoomy self.old }
         requires depth { length self.old.stack.items < max_depth }
         requires more { ends (chars self.old.here.rest.now) ≡ false }
-        ensures reading { (start : states.State) → IsReading start self.old →
-            MatchResult result (λ _. IsReading start self.new) (λ e. IsErrorAmong e (Alternation 0 start)) }
+        ensures reading { (start : states.State) → HasRead start self.old →
+            MatchResult result (λ _. HasRead start self.new) (λ e. IsErrorAmong e (Alternation 0 start)) }
         ensures depth { OnOk result (length self.new.stack.items < max_depth) }
         ensures capacity { OnOk result (vec_capacity self.new.stack ≡ vec_capacity self.old.stack) }
         ensures shorter { OnOk result (length self.new.here.rest.now < length self.old.here.rest.now) }
@@ -112,8 +112,8 @@ impl<'a> Reading<'a> {
         requires pieces { self.old.frame.pieces ≤ vec_len self.old.trees }
         requires last { ends (chars self.old.here.rest.now) ≡ true }
         requires bar { strip bar (chars self.old.here.rest.now) ≡ Some (chars rest.now) }
-        ensures reading { (start : states.State) → IsReading start self.old →
-            MatchResult result (λ _. IsReading start self.new) (λ e. IsErrorAmong e (Alternation 0 start)) }
+        ensures reading { (start : states.State) → HasRead start self.old →
+            MatchResult result (λ _. HasRead start self.new) (λ e. IsErrorAmong e (Alternation 0 start)) }
         ensures stack { self.new.stack ≡ self.old.stack }
         ensures rest { OnOk result (self.new.here.rest ≡ rest.entry) }
     {
@@ -132,8 +132,8 @@ impl<'a> Reading<'a> {
         requires pieces { self.old.frame.pieces ≤ vec_len self.old.trees }
         requires last { ends (chars self.old.here.rest.now) ≡ true }
         requires no_bar { strip bar (chars self.old.here.rest.now) ≡ None }
-        ensures reading { (start : states.State) → IsReading start self.old →
-            MatchResult result (λ found. MatchOption found (IsReading start self.new)
+        ensures reading { (start : states.State) → HasRead start self.old →
+            MatchResult result (λ found. MatchOption found (HasRead start self.new)
             (λ tree. Alternation 0 start (done (view tree) (state self.new.here))))
             (λ e. IsErrorAmong e (Alternation 0 start)) }
         ensures depth { OnOk result (length self.new.stack.items < max_depth) }

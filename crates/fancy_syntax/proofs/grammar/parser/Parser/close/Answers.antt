@@ -9,7 +9,7 @@ use Rattle.fancy_syntax.specs.View.{view, views}
 use Rattle.fancy_syntax.specs.declared.grammar.frame.Frame.{Frame}
 use Rattle.fancy_syntax.proofs.MachineLemmas.{running_fault, running_step, running_end, running_closing}
 use Rattle.fancy_grammar.proofs.OutcomeLemmas.{IsErrorAmong-map}
-use Rattle.fancy_syntax.proofs.grammar.reading.Reading.close.Goals as goal
+use Rattle.fancy_syntax.proofs.grammar.parser.Parser.close.Goals as goal
 
 pub returns-in_default-clause-reading : goal.returns-in_default-clause-reading
 returns-in_default-clause-reading c start h =

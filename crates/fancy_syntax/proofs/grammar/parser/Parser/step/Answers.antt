@@ -7,7 +7,7 @@ use Rattle.fancy_syntax.specs.Parsed.{state}
 use Rattle.fancy_syntax.proofs.MachineLemmas.{running_began, running_fault, running_step}
 use Rattle.fancy_syntax.proofs.RoomLemmas.{room_for_step}
 use Rattle.fancy_grammar.proofs.OutcomeLemmas.{IsErrorAmong-map}
-use Rattle.fancy_syntax.proofs.grammar.reading.Reading.step.Goals as goal
+use Rattle.fancy_syntax.proofs.grammar.parser.Parser.step.Goals as goal
 
 pub returns-in_err-step-clause-reading : goal.returns-in_err-step-clause-reading
 returns-in_err-step-clause-reading c start h =
