@@ -30,6 +30,14 @@ pub mod Normal
 pub mod Printable
 pub mod Over
 pub mod ReadBack
+-- ---- the text of every tree
+pub mod PatternNeeds
+pub mod PatternLetters
+pub mod PatternSource
+pub mod PatternReference
+pub mod PatternQuantifier
+pub mod Pattern
+pub mod ReadAs
 -- What only the laws, the private contracts and the proofs of the code speak of.
 
 -- ---- readings

@@ -4,4 +4,5 @@
 #![tactic(auto)]
 
 pub mod kinds;
+pub mod needs;
 pub mod premises;
