@@ -28,3 +28,5 @@ pub mod DelegateLemmas
 -- ---- the one answer of a text, and what is true of it
 pub mod Verdict
 pub mod AnsweredLaws
+-- ---- the text of every tree
+pub mod PatternRows
