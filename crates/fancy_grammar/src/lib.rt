@@ -4,5 +4,5 @@
 #![tactic(auto)]
 
 pub mod kinds;
-pub mod needs;
+pub mod pattern;
 pub mod premises;
