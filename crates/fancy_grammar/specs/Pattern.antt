@@ -12,8 +12,9 @@ use Rattle.fancy_parts.specs.HeadReference.{begins_target}
 use Rattle.fancy_grammar.specs.Join.{is_empty}
 use Rattle.fancy_grammar.specs.Label.{Leaf, empty, any, assertion, general_newline, literal, literal_bytes}
 use Rattle.fancy_grammar.specs.Label.{delegate, backref, backref_at_level, keep_out, continue_from_previous_match_end}
-use Rattle.fancy_grammar.specs.Label.{backref_exists, subroutine_call, verb, clear, ast_node, group, look_around, repeat}
-use Rattle.fancy_grammar.specs.Label.{atomic_group, define_group, repeater, stopper, expression, conditional, concat, alt}
+use Rattle.fancy_grammar.specs.Label.{backref_exists, subroutine_call, verb, clear, ast_node, group, look_around}
+use Rattle.fancy_grammar.specs.Label.{repeat, atomic_group, define_group, repeater, stopper, expression, conditional}
+use Rattle.fancy_grammar.specs.Label.{concat, alt}
 use Rattle.fancy_grammar.specs.Marks.{Marks}
 use Rattle.fancy_grammar.specs.PatternLetters.{character, any_text, assertion_text}
 use Rattle.fancy_grammar.specs.PatternNeeds.{settled, agreed, letters_between, setting}
@@ -70,9 +71,14 @@ is_last_operand _ = false
 
 -- ---- groups
 
--- in parentheses, behind a head
+-- in the parentheses of a group, behind its head
 abbrev pub in_parens : Text → (Here → Text) → Here → Text
 in_parens head text h = codes "(" ++ (head ++ (text (deeper h) ++ codes ")"))
+
+-- the whole of a group with this head where that is asked, and else at its position
+abbrev pub in_parens_if : Bool → Text → (Position → Here → Text) → Position → Here → Text
+in_parens_if true head text p h = in_parens head (text Whole) h
+in_parens_if false head text p h = text p h
 
 -- behind the flags that are set before the tree
 abbrev pub after_setting : Tree → (Here → Text) → Here → Text
@@ -85,7 +91,7 @@ in_scope_unless false t text h =
     in_parens (codes "?" ++ (letters_between h.flags (settled h.flags t) ++ codes ":")) text
     (under (settled h.flags t) h)
 
--- what a quantifier follows that may not, in a group without a number: in one it was read
+-- a tree that no quantifier may follow, in a group where one does: it was read in one that has no number
 abbrev pub as_atom : Tree → Position → (Here → Text) → Here → Text
 as_atom t p text h = if is_operand p && not (is_repeatable h.flags t) then in_parens [] text h else text h
 
@@ -219,12 +225,12 @@ module _ (m : Marks) where
         (as_atom (over (look_around l) t) p (in_parens (look_head l) (written t Whole))) h
     written (over (repeat lo hi greedy) t) p h =
         after_setting t
-        (λ i. if is_last_operand p then in_parens (codes "?:") (repeated false t lo hi greedy (written t) Whole) i
-        else repeated false t lo hi greedy (written t) p i) h
+        (in_parens_if (is_last_operand p) (codes "?:") (repeated false t lo hi greedy (written t)) p) h
     written (over atomic_group (over (repeat lo hi greedy) t)) p h =
         after_setting t
-        (λ i. if is_possessive i.flags lo hi && not (is_last_operand p) then repeated true t lo hi greedy (written t) p i
-        else in_parens (codes "?>") (repeated false t lo hi greedy (written t) Whole) i) h
+        (λ i. if is_last_operand p || not (is_possessive i.flags lo hi) then
+        in_parens (codes "?>") (repeated false t lo hi greedy (written t) Whole) i
+        else repeated true t lo hi greedy (written t) p i) h
     written (over atomic_group t) p h = after_setting t (in_parens (codes "?>") (written t Whole)) h
     written (over define_group t) p h = after_setting t (in_parens (codes "?(DEFINE)") (written t Whole)) h
     written (over repeater t) p h = after_setting t (in_parens (codes "?~") (λ i. repeater_text (written t Whole i))) h
@@ -234,8 +240,8 @@ module _ (m : Marks) where
         (in_parens (codes "?~|") (λ i. written a Branch i ++ (codes "|" ++ written e Branch (behind a Branch i)))) h
     written (row conditional (more_trees c (more_trees t (more_trees e no_trees)))) p h =
         after_setting (row conditional (more_trees c (more_trees t (more_trees e no_trees))))
-        (in_parens (codes "?") (λ i. parenthesized (condition_text m c (written c Whole i))
-        ++ branches_text t e (written t Branch (behind c Whole i)) (written e Whole (behind t Branch (behind c Whole i))))) h
+        (in_parens (codes "?") (λ i. let j = behind c Whole i in parenthesized (condition_text m c (written c Whole i))
+        ++ branches_text t e (written t Branch j) (written e Whole (behind t Branch j)))) h
     written _ p h = []
 
     -- one behind the other; the flag says that a reference in digits stands before them
