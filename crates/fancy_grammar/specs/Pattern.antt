@@ -12,9 +12,9 @@ use Rattle.fancy_parts.specs.HeadReference.{begins_target}
 use Rattle.fancy_grammar.specs.Join.{is_empty}
 use Rattle.fancy_grammar.specs.Label.{Leaf, empty, any, assertion, general_newline, literal, literal_bytes}
 use Rattle.fancy_grammar.specs.Label.{delegate, backref, backref_at_level, keep_out, continue_from_previous_match_end}
-use Rattle.fancy_grammar.specs.Label.{backref_exists, subroutine_call, verb, clear, ast_node, group, look_around}
-use Rattle.fancy_grammar.specs.Label.{repeat, atomic_group, define_group, repeater, stopper, expression, conditional}
-use Rattle.fancy_grammar.specs.Label.{concat, alt}
+use Rattle.fancy_grammar.specs.Label.{backref_exists, subroutine_call, verb, clear, ast_node, group, ast_group}
+use Rattle.fancy_grammar.specs.Label.{look_around, repeat, atomic_group, define_group, repeater, stopper, expression}
+use Rattle.fancy_grammar.specs.Label.{conditional, concat, alt}
 use Rattle.fancy_grammar.specs.Marks.{Marks}
 use Rattle.fancy_grammar.specs.PatternLetters.{character, any_text, assertion_text}
 use Rattle.fancy_grammar.specs.PatternNeeds.{settled, agreed, letters_between, setting}
@@ -186,6 +186,7 @@ abbrev mutual
   -- how many groups with a number
   pub group_count : Tree → ℕ
   group_count (leaf l) = 0
+  group_count (over (ast_group name place) t) = 0
   group_count (over group t) = group_count t + 1
   group_count (over w t) = group_count t
   group_count (row r ts) = group_count_all ts

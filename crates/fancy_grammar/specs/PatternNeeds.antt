@@ -15,7 +15,7 @@ use Rattle.fancy_lex.specs.declared.escape.Assertion.{Assertion}
 use Rattle.fancy_lex.specs.declared.escape.Assertion.TheVariants.{EndTextIgnoreTrailingNewlines, StartLine}
 use Rattle.fancy_lex.specs.declared.escape.Assertion.TheVariants.{StartLineOniguruma, EndLine}
 use Rattle.fancy_lex.specs.declared.flags.Flags.{Flags}
-use Rattle.fancy_grammar.specs.Label.{Leaf, any, assertion, literal, delegate, backref, backref_at_level}
+use Rattle.fancy_grammar.specs.Label.{Leaf, any, assertion, literal, delegate, backref, backref_at_level, ast_group}
 use Rattle.fancy_grammar.specs.Tree.{Tree, leaf, over, row, Trees, no_trees, more_trees}
 use Rattle.fancy_grammar.specs.declared.pattern.Needs.{Needs}
 
@@ -62,7 +62,7 @@ leaf_needs o (any newline crlf) = if beq newline crlf then no_needs else needs_d
 leaf_needs o (assertion a) = assertion_needs a
 leaf_needs o _ = no_needs
 
--- ---- what a tree needs, by its leaves in text order
+-- ---- what a tree needs, by its leaves in text order; what a capturing group holds is none of them
 
 -- for each flag what the one needs, or else what the other does
 abbrev pub or_else : Needs → Needs → Needs
@@ -77,6 +77,7 @@ abbrev mutual
   -- for each flag what the first leaf needs that needs something
   pub first_needs : Bool → Tree → Needs
   first_needs o (leaf l) = leaf_needs o l
+  first_needs o (over (ast_group name place) t) = no_needs
   first_needs o (over w t) = first_needs o t
   first_needs o (row r ts) = first_needs_all o ts
 
@@ -101,6 +102,7 @@ abbrev mutual
   -- of these needs those that no leaf needs otherwise
   pub alike_in : Bool → Tree → Needs → Needs
   alike_in o (leaf l) n = alike n (leaf_needs o l)
+  alike_in o (over (ast_group name place) t) n = n
   alike_in o (over w t) n = alike_in o t n
   alike_in o (row r ts) n = alike_in_all o ts n
 
@@ -139,18 +141,16 @@ letters_on f g =
     letter_on (code "i") f.casei g.casei ++ (letter_on (code "m") f.multi g.multi
     ++ (letter_on (code "s") f.dotnl g.dotnl ++ letter_on (code "R") f.crlf g.crlf))
 
-abbrev pub behind_minus : Text → Text
-behind_minus [] = []
-behind_minus (c ∷ t) = code "-" ∷ c ∷ t
+-- some flag is on in g, and not in f
+abbrev pub turns_on : Flags → Flags → Bool
+turns_on f g =
+    (g.casei && not f.casei) || ((g.multi && not f.multi) || ((g.dotnl && not f.dotnl) || (g.crlf && not f.crlf)))
 
 -- the letters that make the flags f the flags g
 abbrev pub letters_between : Flags → Flags → Text
-letters_between f g = letters_on f g ++ behind_minus (letters_on g f)
+letters_between f g = letters_on f g ++ ((if turns_on g f then codes "-" else []) ++ letters_on g f)
 
-abbrev pub setting_of : Text → Text
-setting_of [] = []
-setting_of (c ∷ t) = codes "(?" ++ ((c ∷ t) ++ codes ")")
-
--- a group that makes the flags f the flags g from there on; nothing where they are the same
+-- a group that makes the flags f the flags g from there on, where they are not the same
 abbrev pub setting : Flags → Flags → Text
-setting f g = setting_of (letters_between f g)
+setting f g =
+    if turns_on f g || turns_on g f then codes "(?" ++ (letters_between f g ++ codes ")") else []
