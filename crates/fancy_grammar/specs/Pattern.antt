@@ -29,8 +29,8 @@ use Rattle.fancy_grammar.specs.declared.kinds.LookAround.TheVariants.{LookAhead,
 use Rattle.fancy_grammar.specs.declared.kinds.LookAround.TheVariants.{LookBehindNeg}
 use Rattle.fancy_grammar.specs.declared.kinds.BacktrackingControlVerb.{BacktrackingControlVerb}
 use Rattle.fancy_grammar.specs.declared.kinds.BacktrackingControlVerb.TheVariants.{Fail, Accept, Commit, Skip, Prune}
-use Rattle.fancy_grammar.specs.declared.pattern.Position.{Position}
-use Rattle.fancy_grammar.specs.declared.pattern.Position.TheVariants.{Whole, Branch, Piece, Operand}
+use Rattle.fancy_grammar.specs.declared.position.Position.{Position}
+use Rattle.fancy_grammar.specs.declared.position.Position.TheVariants.{Whole, Branch, Piece, Operand}
 
 -- ---- where a text stands
 

@@ -1,10 +1,8 @@
 -- What a tree needs of the flags, and the flags that are set before it. A text sets CASEI, MULTI, DOTNL and CRLF alone;
 -- the others stay as they are handed in.
-use Rattle.std.specs.Prelude.{ℕ, Bool, true, false, not, ◌&&◌, ◌||◌, [], ◌∷◌, ◌++◌, codes, Option, Some, None}
-use Rattle.std.specs.Prelude.{unwrap_or, if◌then◌else◌}
+use Rattle.std.specs.Prelude.{ℕ, Bool, true, false, not, ◌&&◌, ◌||◌, [], ◌∷◌, ◌++◌, codes, if◌then◌else◌}
 use Rattle.std.specs.Char.{is_ascii_alphanumeric}
 use Rattle.std.specs.List.{list_all}
-use Rattle.std.specs.Option.{option_or}
 use Rattle.std.specs.Str.{bytes_eq}
 use Rattle.std.proofs.Math.Bool.{beq}
 use Prim.Native.Char.{code}
@@ -17,23 +15,25 @@ use Rattle.fancy_lex.specs.declared.escape.Assertion.TheVariants.{StartLineOnigu
 use Rattle.fancy_lex.specs.declared.flags.Flags.{Flags}
 use Rattle.fancy_grammar.specs.Label.{Leaf, any, assertion, literal, delegate, backref, backref_at_level, ast_group}
 use Rattle.fancy_grammar.specs.Tree.{Tree, leaf, over, row, Trees, no_trees, more_trees}
-use Rattle.fancy_grammar.specs.declared.pattern.Needs.{Needs}
+use Rattle.fancy_grammar.specs.declared.needs.Need.{Need}
+use Rattle.fancy_grammar.specs.declared.needs.Need.TheVariants.{Free, Fixed, Torn}
+use Rattle.fancy_grammar.specs.declared.needs.Needs.{Needs}
 
 -- ---- what a leaf needs
 
 abbrev pub no_needs : Needs
-no_needs = record { casei = None; multi = None; dotnl = None; crlf = None }
+no_needs = record { casei = Free; multi = Free; dotnl = Free; crlf = Free }
 
 abbrev pub needs_case : Bool → Needs
-needs_case casei = record no_needs { casei = Some casei }
+needs_case casei = record no_needs { casei = Fixed casei }
 
 -- of `^` and `$` at lines
 abbrev pub needs_line : Bool → Needs
-needs_line crlf = record no_needs { multi = Some true; crlf = Some crlf }
+needs_line crlf = record no_needs { multi = Fixed true; crlf = Fixed crlf }
 
 -- of a dot
 abbrev pub needs_dot : Bool → Bool → Needs
-needs_dot newline crlf = record no_needs { dotnl = Some newline; crlf = Some crlf }
+needs_dot newline crlf = record no_needs { dotnl = Fixed newline; crlf = Fixed crlf }
 
 -- behind a backslash the character stands for itself with its case kept, whatever the flags
 abbrev pub is_kept_by_backslash : Bool → ℕ → Bool
@@ -47,7 +47,7 @@ abbrev pub assertion_needs : Assertion → Needs
 assertion_needs (StartLine crlf) = needs_line crlf
 assertion_needs (StartLineOniguruma crlf) = needs_line crlf
 assertion_needs (EndLine crlf) = needs_line crlf
-assertion_needs (EndTextIgnoreTrailingNewlines crlf) = record no_needs { crlf = Some crlf }
+assertion_needs (EndTextIgnoreTrailingNewlines crlf) = record no_needs { crlf = Fixed crlf }
 assertion_needs _ = no_needs
 
 -- in Oniguruma mode, or outside it
@@ -62,72 +62,61 @@ leaf_needs o (any newline crlf) = if beq newline crlf then no_needs else needs_d
 leaf_needs o (assertion a) = assertion_needs a
 leaf_needs o _ = no_needs
 
--- ---- what a tree needs, by its leaves in text order; what a capturing group holds is none of them
+-- ---- what a tree needs: what its leaves do, joined in text order; what a capturing group holds is none of them
 
--- for each flag what the one needs, or else what the other does
-abbrev pub or_else : Needs → Needs → Needs
-or_else n m = record {
-  casei = option_or n.casei m.casei;
-  multi = option_or n.multi m.multi;
-  dotnl = option_or n.dotnl m.dotnl;
-  crlf = option_or n.crlf m.crlf;
+-- what the one needs, or where that needs nothing the other behind it
+abbrev pub first : Need → Need → Need
+first Free n = n
+first n _ = n
+
+-- what both need together
+abbrev pub both : Need → Need → Need
+both Free n = n
+both n Free = n
+both (Fixed a) (Fixed b) = if beq a b then Fixed a else Torn
+both _ _ = Torn
+
+abbrev pub joined : (Need → Need → Need) → Needs → Needs → Needs
+joined join n m = record {
+  casei = join n.casei m.casei;
+  multi = join n.multi m.multi;
+  dotnl = join n.dotnl m.dotnl;
+  crlf = join n.crlf m.crlf;
 }
 
 abbrev mutual
-  -- for each flag what the first leaf needs that needs something
-  pub first_needs : Bool → Tree → Needs
-  first_needs o (leaf l) = leaf_needs o l
-  first_needs o (over (ast_group name place) t) = no_needs
-  first_needs o (over w t) = first_needs o t
-  first_needs o (row r ts) = first_needs_all o ts
+  pub needs : (Need → Need → Need) → Bool → Tree → Needs
+  needs join o (leaf l) = leaf_needs o l
+  needs join o (over (ast_group name place) t) = no_needs
+  needs join o (over w t) = needs join o t
+  needs join o (row r ts) = needs_all join o ts
 
-  pub first_needs_all : Bool → Trees → Needs
-  first_needs_all o no_trees = no_needs
-  first_needs_all o (more_trees t ts) = or_else (first_needs o t) (first_needs_all o ts)
-
--- what is needed of a flag, unless the other needs it otherwise
-abbrev pub unless_unlike : Option Bool → Option Bool → Option Bool
-unless_unlike (Some a) (Some b) = if beq a b then Some a else None
-unless_unlike a b = a
-
-abbrev pub alike : Needs → Needs → Needs
-alike n m = record {
-  casei = unless_unlike n.casei m.casei;
-  multi = unless_unlike n.multi m.multi;
-  dotnl = unless_unlike n.dotnl m.dotnl;
-  crlf = unless_unlike n.crlf m.crlf;
-}
-
-abbrev mutual
-  -- of these needs those that no leaf needs otherwise
-  pub alike_in : Bool → Tree → Needs → Needs
-  alike_in o (leaf l) n = alike n (leaf_needs o l)
-  alike_in o (over (ast_group name place) t) n = n
-  alike_in o (over w t) n = alike_in o t n
-  alike_in o (row r ts) n = alike_in_all o ts n
-
-  pub alike_in_all : Bool → Trees → Needs → Needs
-  alike_in_all o no_trees n = n
-  alike_in_all o (more_trees t ts) n = alike_in_all o ts (alike_in o t n)
+  pub needs_all : (Need → Need → Need) → Bool → Trees → Needs
+  needs_all join o no_trees = no_needs
+  needs_all join o (more_trees t ts) = joined join (needs join o t) (needs_all join o ts)
 
 -- ---- the flags that are set
 
--- the flags as they are needed, or else as they are
+-- the flag as it is needed, or else as it is
+abbrev pub fixed_or : Bool → Need → Bool
+fixed_or b (Fixed c) = c
+fixed_or b _ = b
+
 abbrev pub with_needs : Flags → Needs → Flags
 with_needs f n = record f {
-  casei = unwrap_or n.casei f.casei;
-  multi = unwrap_or n.multi f.multi;
-  dotnl = unwrap_or n.dotnl f.dotnl;
-  crlf = unwrap_or n.crlf f.crlf;
+  casei = fixed_or f.casei n.casei;
+  multi = fixed_or f.multi n.multi;
+  dotnl = fixed_or f.dotnl n.dotnl;
+  crlf = fixed_or f.crlf n.crlf;
 }
 
 -- before a tree: for each flag what the first leaf needs that needs something
 abbrev pub settled : Flags → Tree → Flags
-settled f t = with_needs f (first_needs f.oniguruma_mode t)
+settled f t = with_needs f (needs first f.oniguruma_mode t)
 
 -- before the whole: for each flag what all leaves need that need something, where they need the same
 abbrev pub agreed : Flags → Tree → Flags
-agreed f t = with_needs f (alike_in f.oniguruma_mode t (first_needs f.oniguruma_mode t))
+agreed f t = with_needs f (needs both f.oniguruma_mode t)
 
 -- ---- how they are set
 

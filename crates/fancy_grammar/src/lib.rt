@@ -4,5 +4,6 @@
 #![tactic(auto)]
 
 pub mod kinds;
-pub mod pattern;
+pub mod needs;
+pub mod position;
 pub mod premises;
