@@ -30,3 +30,5 @@ pub mod Verdict
 pub mod AnsweredLaws
 -- ---- the text of every tree
 pub mod PatternRows
+pub mod PatternLemmas
+pub mod ReadAsLaws

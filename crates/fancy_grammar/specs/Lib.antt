@@ -47,3 +47,6 @@ pub mod Slices
 pub mod Ordered
 pub mod Walk
 pub mod Fits
+-- ---- the text of every tree
+pub mod NeedsTable
+pub mod Placed
