@@ -30,5 +30,6 @@ pub mod Verdict
 pub mod AnsweredLaws
 -- ---- the text of every tree
 pub mod PatternRows
-pub mod PatternLemmas
+pub mod NeedsLemmas
+pub mod SourceLemmas
 pub mod ReadAsLaws

@@ -1,4 +1,4 @@
--- What the code that writes a tree's text goes by: what several trees need, and how the source of a Delegate goes on.
+-- What several trees need of the flags, one after another.
 use Rattle.std.proofs.Common.{◌≡◌, Bool, true, false, ◌∷◌, ◌++◌}
 use Rattle.std.proofs.Common.{refl, ap, sym, ◌∙◌, append-nil}
 use Rattle.std.specs.List.{flat_map}
