@@ -32,4 +32,5 @@ pub mod AnsweredLaws
 pub mod PatternRows
 pub mod NeedsLemmas
 pub mod SourceLemmas
+pub mod HereLemmas
 pub mod ReadAsLaws

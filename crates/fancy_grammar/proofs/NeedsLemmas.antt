@@ -3,7 +3,7 @@ use Rattle.std.proofs.Common.{◌≡◌, Bool, true, false, ◌∷◌, ◌++◌}
 use Rattle.std.proofs.Common.{refl, ap, sym, ◌∙◌, append-nil}
 use Rattle.std.specs.List.{flat_map}
 use Rattle.fancy_grammar.specs.Label.{ast_group}
-use Rattle.fancy_grammar.specs.NeedsTable.{needs_table, needs_table_all}
+use Rattle.fancy_grammar.specs.PatternWalk.{needs_table, needs_table_all}
 use Rattle.fancy_grammar.specs.PatternNeeds.{no_needs, leaf_needs, first, both, joined, needs, needs_all}
 use Rattle.fancy_grammar.specs.Tree.{Tree, leaf, over, row, Trees, no_trees, more_trees, trees_of, list_of, children}
 use Rattle.fancy_grammar.specs.declared.needs.Need.{Need}

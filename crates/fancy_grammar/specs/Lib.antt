@@ -48,5 +48,5 @@ pub mod Ordered
 pub mod Walk
 pub mod Fits
 -- ---- the text of every tree
-pub mod NeedsTable
+pub mod PatternWalk
 pub mod Placed
