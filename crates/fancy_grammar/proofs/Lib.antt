@@ -29,3 +29,9 @@ pub mod DelegateLemmas
 -- ---- the one answer of a text, and what is true of it
 pub mod Verdict
 pub mod AnsweredLaws
+-- ---- the text of every tree
+pub mod PatternRows
+pub mod NeedsLemmas
+pub mod SourceLemmas
+pub mod HereLemmas
+pub mod ReadAsLaws

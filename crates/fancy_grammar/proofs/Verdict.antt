@@ -21,6 +21,7 @@ use Rattle.fancy_grammar.specs.Marks.{Marks, marks}
 use Rattle.fancy_grammar.specs.Errors.{IsErrorAmong, IsErrorIn}
 use Rattle.fancy_grammar.specs.Ordered.{DescendingReaches}
 use Rattle.fancy_grammar.proofs.ReadBack.ScalarLemmas.{scalars_behind}
+use Rattle.fancy_grammar.specs.ReadBack.{Answer, read, refused, IsAnswerOf, IsOnlyAnswer}
 use Rattle.fancy_grammar.specs.Resolved.{resolved, fault_of}
 use Rattle.fancy_grammar.specs.State.{Outcome, fault}
 use Rattle.fancy_grammar.specs.Tree.{Tree}
@@ -63,6 +64,14 @@ no_fault f text t m k p (r, a, none, e, d) (of_resolving {q} b some) =
     let same = ap (fault_of f) (same_tree a b) in
     let both : ◌≡◌ {A = Option Fault} None (Some (record { reach = q; kind = k })) = sym none ∙ sym same ∙ some in
     absurd cc
+
+-- a tree of the text is all that is answered for it
+pub only_read : (f : Flags) (text : Text) (t : Tree) (m : Marks) → IsTreeOf f text t m → IsOnlyAnswer f text (read t m)
+only_read f text t m a = record { is = a; only = λ b h. other b h }
+  where
+    other : (b : Answer) → IsAnswerOf f text b → b ≡ read t m
+    other (read s k) h = let (e, d) = only_tree f text t s m k a h in ap₂ read e d
+    other (refused k p) h = absurd (no_fault f text t m k p a h)
 
 -- the one fault of a text that cannot be read
 pub only_reading : (e : Failure) (f : Flags) (text : Text) → IsErrorAmong e (Whole f text) →

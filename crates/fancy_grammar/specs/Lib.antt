@@ -29,6 +29,14 @@ pub mod Normal
 pub mod Printable
 pub mod Over
 pub mod ReadBack
+-- ---- the text of every tree
+pub mod PatternNeeds
+pub mod PatternLetters
+pub mod PatternSource
+pub mod PatternReference
+pub mod PatternQuantifier
+pub mod Pattern
+pub mod ReadAs
 -- What no public contract speaks of, but private ones of the parser and the resolver do.
 
 -- ---- reading
@@ -37,3 +45,6 @@ pub mod Slices
 -- ---- resolving
 pub mod Ordered
 pub mod Walk
+-- ---- the text of every tree
+pub mod PatternWalk
+pub mod Placed

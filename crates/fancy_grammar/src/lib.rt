@@ -4,4 +4,6 @@
 #![tactic(auto)]
 
 pub mod kinds;
+pub mod needs;
+pub mod position;
 pub mod premises;

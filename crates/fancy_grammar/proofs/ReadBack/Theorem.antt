@@ -23,7 +23,7 @@ use Rattle.fancy_grammar.specs.Resolved.{fault_of}
 use Rattle.fancy_grammar.specs.Tree.{Tree, empty}
 use Rattle.fancy_grammar.proofs.AnswerLaws.{marks_from}
 use Rattle.fancy_grammar.proofs.AnsweredLaws.{groups_total}
-use Rattle.fancy_grammar.proofs.Verdict.{only_tree, no_fault, only_reading}
+use Rattle.fancy_grammar.proofs.Verdict.{no_fault, only_reading, only_read}
 use Rattle.fancy_grammar.specs.Normal.{unicode_flags, normal}
 use Rattle.fancy_grammar.specs.Over.{Paren, too_deep}
 use Rattle.fancy_grammar.specs.Printable.{printable}
@@ -73,13 +73,6 @@ tree_of u text r x d b =
     let found : IsTreeOf (unicode_flags u) text x (marks_of_groups (length numbered)) =
     (r, d, none, sym (b.is (bytes text) numbers_of 0), sym (marks_are u text r b.groups)) in
     subst (λ n. IsTreeOf (unicode_flags u) text x (marks_of_groups n)) (sym (groups_total found)) found
-
-only_read : (f : Flags) (text : Text) (t : Tree) (m : Marks) → IsTreeOf f text t m → IsOnlyAnswer f text (read t m)
-only_read f text t m a = record { is = a; only = λ b h. other b h }
-  where
-    other : (b : Answer) → IsAnswerOf f text b → b ≡ read t m
-    other (read s k) h = let (e, d) = only_tree f text t s m k a h in ap₂ read e d
-    other (refused k p) h = absurd (no_fault f text t m k p a h)
 
 only_refused : (f : Flags) (text : Text) (p : ℕ) → Faults f text recursion_exceeded p →
     IsOnlyAnswer f text (refused recursion_exceeded p)

@@ -1,0 +1,268 @@
+-- The text of every tree, for the flags that its pattern was read under: read under them again it is the same tree, and
+-- has the same marks.
+use Rattle.std.specs.Prelude.{ℕ, zero, suc, ◌+◌, ◌-◌, nat_lt, Bool, true, false, not, ◌&&◌, ◌||◌, [], ◌∷◌, ◌++◌}
+use Rattle.std.specs.Prelude.{nat_eq, codes, if◌then◌else◌}
+use Rattle.std.specs.List.{flat_map, starts_with}
+use Rattle.std.specs.Str.{bytes_eq}
+use Rattle.fancy_lex.specs.Class.{byte_text}
+use Rattle.fancy_lex.specs.Number.{at_digit}
+use Rattle.fancy_lex.specs.Text.{Text}
+use Rattle.fancy_lex.specs.declared.flags.Flags.{Flags}
+use Rattle.fancy_parts.specs.HeadReference.{begins_target}
+use Rattle.fancy_grammar.specs.Join.{is_empty}
+use Rattle.fancy_grammar.specs.Label.{Leaf, empty, any, assertion, general_newline, literal, literal_bytes}
+use Rattle.fancy_grammar.specs.Label.{delegate, backref, backref_at_level, keep_out, continue_from_previous_match_end}
+use Rattle.fancy_grammar.specs.Label.{backref_exists, subroutine_call, verb, clear, ast_node, group, ast_group}
+use Rattle.fancy_grammar.specs.Label.{look_around, repeat, atomic_group, define_group, repeater, stopper, expression}
+use Rattle.fancy_grammar.specs.Label.{conditional, concat, alt}
+use Rattle.fancy_grammar.specs.Marks.{Marks}
+use Rattle.fancy_grammar.specs.PatternLetters.{character, any_text, assertion_text}
+use Rattle.fancy_grammar.specs.PatternNeeds.{settled, agreed, letters_between, setting}
+use Rattle.fancy_grammar.specs.PatternQuantifier.{is_possessive, is_quantified, quantifier_text, most_quantifiers}
+use Rattle.fancy_grammar.specs.PatternReference.{backref_text, backref_at_level_text, target_text, call_text}
+use Rattle.fancy_grammar.specs.PatternReference.{unresolved_text, group_head}
+use Rattle.fancy_grammar.specs.PatternSource.{delegate_text}
+use Rattle.fancy_grammar.specs.Quantified.{is_repeatable}
+use Rattle.fancy_grammar.specs.Tree.{Tree, leaf, over, row, Trees, no_trees, more_trees}
+use Rattle.fancy_grammar.specs.declared.kinds.LookAround.{LookAround}
+use Rattle.fancy_grammar.specs.declared.kinds.LookAround.TheVariants.{LookAhead, LookAheadNeg, LookBehind}
+use Rattle.fancy_grammar.specs.declared.kinds.LookAround.TheVariants.{LookBehindNeg}
+use Rattle.fancy_grammar.specs.declared.kinds.BacktrackingControlVerb.{BacktrackingControlVerb}
+use Rattle.fancy_grammar.specs.declared.kinds.BacktrackingControlVerb.TheVariants.{Fail, Accept, Commit, Skip, Prune}
+use Rattle.fancy_grammar.specs.declared.position.Position.{Position}
+use Rattle.fancy_grammar.specs.declared.position.Position.TheVariants.{Whole, Branch, Piece, Operand}
+
+-- ---- where a text stands
+
+pub record Here : Type 0 where
+  pub flags : Flags  -- those that hold there
+  pub opened : ℕ  -- how many groups with a number open before
+  pub depth : ℕ  -- how many groups are open
+
+abbrev pub under : Flags → Here → Here
+under f h = record h { flags = f }
+
+abbrev pub past_groups : ℕ → Here → Here
+past_groups n h = record h { opened = h.opened + n }
+
+abbrev pub deeper : Here → Here
+deeper h = record h { depth = h.depth + 1 }
+
+-- pieces may stand there one behind another
+abbrev pub takes_pieces : Position → Bool
+takes_pieces Whole = true
+takes_pieces Branch = true
+takes_pieces _ = false
+
+-- branches may stand there side by side
+abbrev pub takes_branches : Position → Bool
+takes_branches Whole = true
+takes_branches _ = false
+
+-- a quantifier follows
+abbrev pub is_operand : Position → Bool
+is_operand (Operand k) = true
+is_operand _ = false
+
+-- a quantifier follows, and no other may stand before it
+abbrev pub is_last_operand : Position → Bool
+is_last_operand (Operand zero) = true
+is_last_operand _ = false
+
+-- ---- groups
+
+-- in the parentheses of a group, behind its head
+abbrev pub in_parens : Text → (Here → Text) → Here → Text
+in_parens head text h = codes "(" ++ (head ++ (text (deeper h) ++ codes ")"))
+
+-- the whole of a group with this head where that is asked, and else at its position
+abbrev pub in_parens_if : Bool → Text → (Position → Here → Text) → Position → Here → Text
+in_parens_if true head text p h = in_parens head (text Whole) h
+in_parens_if false head text p h = text p h
+
+-- behind the flags that are set before the tree
+abbrev pub after_setting : Tree → (Here → Text) → Here → Text
+after_setting t text h = setting h.flags (settled h.flags t) ++ text (under (settled h.flags t) h)
+
+-- in a group of flags that sets them for itself, unless the tree may stand there as it is
+abbrev pub in_scope_unless : Bool → Tree → (Here → Text) → Here → Text
+in_scope_unless true t text h = text h
+in_scope_unless false t text h =
+    in_parens (codes "?" ++ (letters_between h.flags (settled h.flags t) ++ codes ":")) text
+    (under (settled h.flags t) h)
+
+-- a tree that no quantifier may follow, in a group where one does: it was read in one that has no number
+abbrev pub as_atom : Tree → Position → (Here → Text) → Here → Text
+as_atom t p text h = if is_operand p && not (is_repeatable h.flags t) then in_parens [] text h else text h
+
+-- behind an empty comment, where it would be read together with what stands before it
+abbrev pub parted_if : Bool → Text → Text
+parted_if is t = if is then codes "(?#)" ++ t else t
+
+-- ---- leaves
+
+abbrev pub verb_name : BacktrackingControlVerb → Text
+verb_name Fail = codes "*FAIL"
+verb_name Accept = codes "*ACCEPT"
+verb_name Commit = codes "*COMMIT"
+verb_name Skip = codes "*SKIP"
+verb_name Prune = codes "*PRUNE"
+
+abbrev pub parenthesized : Text → Text
+parenthesized t = codes "(" ++ (t ++ codes ")")
+
+abbrev pub leaf_text : Marks → Leaf → Here → Text
+leaf_text m (any newline crlf) h = any_text h.flags newline crlf
+leaf_text m (assertion a) h = assertion_text h.flags a
+leaf_text m (general_newline unicode) h = codes "\\R"
+leaf_text m (literal s casei) h = flat_map (character h.flags casei) s
+leaf_text m (literal_bytes s) h = flat_map byte_text s
+leaf_text m (delegate s casei) h = delegate_text h.flags casei s
+leaf_text m (backref n casei) h = backref_text m h.opened n
+leaf_text m (backref_at_level n level casei) h = backref_at_level_text m h.opened n level
+leaf_text m keep_out h = codes "\\K"
+leaf_text m continue_from_previous_match_end h = codes "\\G"
+leaf_text m (backref_exists n level) h = codes "(?" ++ (parenthesized (target_text m n level) ++ codes ")")
+leaf_text m (subroutine_call n) h = call_text m h.opened n
+leaf_text m (verb v) h = parenthesized (verb_name v)
+leaf_text m clear h = codes "(?~|)"
+leaf_text m (ast_node r place) h = unresolved_text r
+leaf_text m empty h = []
+
+-- a reference in digits, to which a digit behind it would belong
+abbrev pub is_in_digits : Marks → Tree → Bool
+is_in_digits m (leaf (backref n casei)) = m.numeric_capture_group_references
+is_in_digits m _ = false
+
+-- ---- quantifiers
+
+-- how many may stand before that of a tree at this position
+abbrev pub room : Position → Here → ℕ
+room (Operand (suc k)) h = k
+room _ h = most_quantifiers h.flags h.depth - 1
+
+-- a tree, whose text at each position this is, under its quantifier
+abbrev pub repeated : Bool → Tree → ℕ → ℕ → Bool → (Position → Here → Text) → Position → Here → Text
+repeated possessive t lo hi greedy text p h =
+    text (Operand (room p h)) h
+    ++ quantifier_text h.flags possessive (nat_lt 0 (room p h) && is_quantified h.flags t) lo hi greedy
+
+-- ---- groups of more than one part
+
+abbrev pub look_head : LookAround → Text
+look_head LookAhead = codes "?="
+look_head LookAheadNeg = codes "?!"
+look_head LookBehind = codes "?<="
+look_head LookBehindNeg = codes "?<!"
+
+-- a condition whose text as an alternation is this one, which is to be read neither as a target nor as `DEFINE`
+abbrev pub condition_text : Marks → Tree → Text → Text
+condition_text m (leaf (backref_exists n level)) t = target_text m n level
+condition_text m (leaf (verb v)) t = verb_name v
+condition_text m c t = parted_if (begins_target t || bytes_eq t (codes "DEFINE")) t
+
+abbrev pub is_alt : Tree → Bool
+is_alt (row alt ts) = true
+is_alt _ = false
+
+-- the branches of a conditional, whose texts are v and w; an Alt without a bar behind it would be read as both
+abbrev pub branches_text : Tree → Tree → Text → Text → Text
+branches_text t e v w =
+    if is_empty t && is_empty e then codes "()"
+    else v ++ (if not (is_empty e) || is_alt t then codes "|" ++ w else [])
+
+-- an absent repeater: with a bar in front it would be another absent form
+abbrev pub repeater_text : Text → Text
+repeater_text t = parted_if (starts_with nat_eq t (codes "|")) t
+
+-- a stopper: without a text it would be a clear
+abbrev pub stopper_text : Text → Text
+stopper_text [] = codes "()"
+stopper_text (c ∷ t) = c ∷ t
+
+-- ---- behind a tree
+
+abbrev mutual
+  -- how many groups with a number
+  pub group_count : Tree → ℕ
+  group_count (leaf l) = 0
+  group_count (over (ast_group name place) t) = 0
+  group_count (over group t) = group_count t + 1
+  group_count (over w t) = group_count t
+  group_count (row r ts) = group_count_all ts
+
+  pub group_count_all : Trees → ℕ
+  group_count_all no_trees = 0
+  group_count_all (more_trees t ts) = group_count t + group_count_all ts
+
+abbrev mutual
+  -- the flags that hold behind the text of a tree at a position: behind a group those from before it
+  pub flags_behind : Tree → Position → Flags → Flags
+  flags_behind (row concat ts) p f = if takes_pieces p then flags_behind_all ts Piece f else f
+  flags_behind (row alt ts) p f = if takes_branches p then flags_behind_all ts Branch f else f
+  flags_behind t p f = settled f t
+
+  pub flags_behind_all : Trees → Position → Flags → Flags
+  flags_behind_all no_trees p f = f
+  flags_behind_all (more_trees t ts) p f = flags_behind_all ts p (flags_behind t p f)
+
+abbrev pub behind : Tree → Position → Here → Here
+behind t p h = past_groups (group_count t) (under (flags_behind t p h.flags) h)
+
+-- ---- the tree
+
+module _ (m : Marks) where
+  abbrev mutual
+    pub written : Tree → Position → Here → Text
+    written (leaf empty) p h = if takes_pieces p then [] else codes "()"
+    written (leaf l) p h = after_setting (leaf l) (as_atom (leaf l) p (leaf_text m l)) h
+    written (row concat ts) p h = in_scope_unless (takes_pieces p) (row concat ts) (written_all false ts) h
+    written (row alt ts) p h = in_scope_unless (takes_branches p) (row alt ts) (written_branches ts) h
+    written (over group t) p h =
+        after_setting (over group t)
+        (λ i. in_parens (group_head m (i.opened + 1)) (written t Whole) (past_groups 1 i)) h
+    written (over (look_around l) t) p h =
+        after_setting (over (look_around l) t)
+        (as_atom (over (look_around l) t) p (in_parens (look_head l) (written t Whole))) h
+    written (over (repeat lo hi greedy) t) p h =
+        after_setting t
+        (in_parens_if (is_last_operand p) (codes "?:") (repeated false t lo hi greedy (written t)) p) h
+    written (over atomic_group (over (repeat lo hi greedy) t)) p h =
+        after_setting t
+        (λ i. if is_last_operand p || not (is_possessive i.flags lo hi) then
+        in_parens (codes "?>") (repeated false t lo hi greedy (written t) Whole) i
+        else repeated true t lo hi greedy (written t) p i) h
+    written (over atomic_group t) p h = after_setting t (in_parens (codes "?>") (written t Whole)) h
+    written (over define_group t) p h = after_setting t (in_parens (codes "?(DEFINE)") (written t Whole)) h
+    written (over repeater t) p h = after_setting t (in_parens (codes "?~") (λ i. repeater_text (written t Whole i))) h
+    written (over stopper t) p h = after_setting t (in_parens (codes "?~|") (λ i. stopper_text (written t Branch i))) h
+    written (row expression (more_trees a (more_trees e no_trees))) p h =
+        after_setting (row expression (more_trees a (more_trees e no_trees)))
+        (in_parens (codes "?~|") (λ i. written a Branch i ++ (codes "|" ++ written e Branch (behind a Branch i)))) h
+    written (row conditional (more_trees c (more_trees t (more_trees e no_trees)))) p h =
+        after_setting (row conditional (more_trees c (more_trees t (more_trees e no_trees))))
+        (in_parens (codes "?") (λ i. let j = behind c Whole i in parenthesized (condition_text m c (written c Whole i))
+        ++ branches_text t e (written t Branch j) (written e Whole (behind t Branch j)))) h
+    written _ p h = []
+
+    -- one behind the other; the flag says that a reference in digits stands before them
+    pub written_all : Bool → Trees → Here → Text
+    written_all after_digits no_trees h = []
+    written_all after_digits (more_trees t ts) h =
+        parted_if (after_digits && at_digit (written t Piece h)) (written t Piece h)
+        ++ written_all (is_in_digits m t) ts (behind t Piece h)
+
+    -- with bars between
+    pub written_branches : Trees → Here → Text
+    written_branches no_trees h = []
+    written_branches (more_trees t ts) h = written t Branch h ++ written_barred ts (behind t Branch h)
+
+    -- with a bar before each
+    pub written_barred : Trees → Here → Text
+    written_barred no_trees h = []
+    written_barred (more_trees t ts) h = codes "|" ++ (written t Branch h ++ written_barred ts (behind t Branch h))
+
+-- the text of a whole tree that was answered under the flags f with the marks m
+unfoldable pub pattern_text : Flags → Tree → Marks → Text
+pattern_text f t m =
+    setting f (agreed f t) ++ written m t Whole (record { flags = agreed f t; opened = 0; depth = 0 })

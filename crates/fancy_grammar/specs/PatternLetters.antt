@@ -1,0 +1,88 @@
+-- The texts of characters and of escapes.
+use Rattle.std.specs.Prelude.{ℕ, ◌/◌, ◌%◌, ◌==◌, Bool, true, false, ◌&&◌, ◌||◌, nat_lt, nat_le, List, [], ◌∷◌}
+use Rattle.std.specs.Prelude.{◌++◌, codes, map, Option, Some, None, if◌then◌else◌}
+use Rattle.std.specs.List.{list_any}
+use Rattle.std.proofs.Math.Bool.{beq}
+use Prim.Native.Char.{code}
+use Rattle.fancy_lex.specs.Characters.{◌∈◌, backslash}
+use Rattle.fancy_lex.specs.Class.{upper_hex_digit, byte_text}
+use Rattle.fancy_lex.specs.Reading.{choose}
+use Rattle.fancy_lex.specs.Text.{Text}
+use Rattle.fancy_lex.specs.declared.escape.Assertion.{Assertion}
+use Rattle.fancy_lex.specs.declared.escape.Assertion.TheVariants.{StartText, EndText, EndTextIgnoreTrailingNewlines}
+use Rattle.fancy_lex.specs.declared.escape.Assertion.TheVariants.{StartLine, StartLineOniguruma, EndLine}
+use Rattle.fancy_lex.specs.declared.escape.Assertion.TheVariants.{LeftWordBoundary, LeftWordHalfBoundary}
+use Rattle.fancy_lex.specs.declared.escape.Assertion.TheVariants.{RightWordBoundary, RightWordHalfBoundary}
+use Rattle.fancy_lex.specs.declared.escape.Assertion.TheVariants.{WordBoundary, NotWordBoundary}
+use Rattle.fancy_lex.specs.declared.flags.Flags.{Flags}
+
+-- ---- characters
+
+-- control characters, and those that show nothing, from a first one to a last
+abbrev pub unseen : List (ℕ × ℕ)
+unseen =
+    (0, 0x1F) ∷ (0x7F, 0xA0) ∷ (0xAD, 0xAD) ∷ (0x2000, 0x200F) ∷ (0x2028, 0x202F) ∷ (0x205F, 0x206F)
+    ∷ (0x3000, 0x3000) ∷ (0xFEFF, 0xFEFF) ∷ []
+
+abbrev pub is_unseen : ℕ → Bool
+is_unseen c = list_any (λ r. nat_le r.0 c && nat_le c r.1) unseen
+
+-- a character of at most four digits by its code: it reads so with UNICODE and without, and takes the case flag that
+-- holds
+abbrev pub coded : ℕ → Text
+coded c =
+    if nat_lt c 0x80 then byte_text c
+    else codes "\\u" ++ map upper_hex_digit (c / 4096 ∷ c / 256 % 16 ∷ c / 16 % 16 ∷ c % 16 ∷ [])
+
+-- the letter that stands for the character behind a backslash
+abbrev pub letter_of : ℕ → Option ℕ
+letter_of c =
+    if c == code "\n" then Some (code "n")
+    else if c == code "\t" then Some (code "t")
+    else if c == code "\r" then Some (code "r")
+    else if c == code "\u{c}" then Some (code "f")
+    else if c == code "\u{b}" then Some (code "v")
+    else if c == code "\u{7}" then Some (code "a")
+    else if c == code "\u{1b}" then Some (code "e")
+    else None
+
+-- what a character is written as that no mark or flag concerns
+abbrev pub plain : ℕ → Text
+plain c = if is_unseen c then coded c else c ∷ []
+
+-- by its letter, or else the other text
+abbrev pub by_letter_or : ℕ → Text → Text
+by_letter_or c other = choose (letter_of c) (λ d. backslash ∷ d ∷ []) other
+
+-- where blanks are layout, these are too
+abbrev pub is_layout : Flags → ℕ → Bool
+is_layout f c = f.ignore_space && c ∈ " #"
+
+-- a character of a Literal under these flags, with its case ignored, or kept
+abbrev pub character : Flags → Bool → ℕ → Text
+character f true c = if c ∈ "\\.+*?()|[{^$" || is_layout f c then coded c else plain c
+character f false c =
+    by_letter_or c (if c ∈ "\\.+*?()|[]{}^$" || (is_layout f c || f.casei) then backslash ∷ c ∷ [] else plain c)
+
+-- ---- escapes
+
+-- any character: a dot where the flags say as its fields do
+abbrev pub any_text : Flags → Bool → Bool → Text
+any_text f newline crlf =
+    if beq f.dotnl newline && beq f.crlf crlf then codes "."
+    else if newline then codes "\\O"
+    else codes "\\N"
+
+abbrev pub assertion_text : Flags → Assertion → Text
+assertion_text f StartText = if f.multi then codes "\\A" else codes "^"
+assertion_text f EndText = if f.multi then codes "\\z" else codes "$"
+assertion_text f (EndTextIgnoreTrailingNewlines crlf) = codes "\\Z"
+assertion_text f (StartLine crlf) = codes "^"
+assertion_text f (StartLineOniguruma crlf) = codes "^"
+assertion_text f (EndLine crlf) = codes "$"
+assertion_text f WordBoundary = codes "\\b"
+assertion_text f NotWordBoundary = codes "\\B"
+assertion_text f LeftWordBoundary = if f.oniguruma_mode then codes "\\b{start}" else codes "\\<"
+assertion_text f RightWordBoundary = if f.oniguruma_mode then codes "\\b{end}" else codes "\\>"
+assertion_text f LeftWordHalfBoundary = codes "\\b{start-half}"
+assertion_text f RightWordHalfBoundary = codes "\\b{end-half}"

@@ -1,0 +1,122 @@
+-- The texts of references, and of what they refer to: names, numbers, and distances.
+use Rattle.std.specs.Prelude.{ℕ, ◌+◌, ◌-◌, ◌==◌, nat_lt, nat_le, ℤ, pos, negsuc, Bool, false, not, ◌&&◌, ◌||◌, List}
+use Rattle.std.specs.Prelude.{[], ◌∷◌, ◌++◌, codes, decimal, find, Option, Some, None, is_some, is_none}
+use Rattle.std.specs.Prelude.{if◌then◌else◌}
+use Rattle.std.specs.List.{list_any}
+use Prim.Native.Char.{code}
+use Rattle.fancy_lex.specs.Characters.{◌∈◌, is_among, backslash}
+use Rattle.fancy_lex.specs.EscapeReference.{is_relative}
+use Rattle.fancy_lex.specs.IdReference.{id_reference}
+use Rattle.fancy_lex.specs.NumberText.{number_text}
+use Rattle.fancy_lex.specs.Reading.{choose}
+use Rattle.fancy_lex.specs.Target.{by_number, by_name, relative}
+use Rattle.fancy_lex.specs.Text.{Text}
+use Rattle.fancy_parts.specs.Meaning.{last_of}
+use Rattle.fancy_grammar.specs.Label.{AstReference, ast_call}
+use Rattle.fancy_grammar.specs.Marks.{Marks}
+
+-- ---- names
+
+-- a name with the numbers of its groups
+abbrev pub Named : Type 0
+Named = Text × List ℕ
+
+-- the name of the group
+abbrev pub name_of : Marks → ℕ → Option Named
+name_of m n = find (λ e. list_any (λ k. k == n) e.1) m.named_groups
+
+-- an id that is no number text
+abbrev pub is_plain_name : Text → Bool
+is_plain_name w = is_some (id_reference false w) && is_none (number_text w)
+
+-- the group is the last of its name
+abbrev pub is_last : ℕ → List ℕ → Bool
+is_last n l = choose (last_of l) (λ k. k == n) false
+
+-- the group is the only one of its name
+abbrev pub is_only : ℕ → List ℕ → Bool
+is_only n (k ∷ []) = k == n
+is_only n _ = false
+
+-- the name of the group, where it is plain, its groups are such, and no reference is written as a number
+abbrev pub fit_name : Marks → (List ℕ → Bool) → ℕ → Option Text
+fit_name m are_such n =
+    choose (name_of m n)
+    (λ e. if not m.numeric_capture_group_references && (is_plain_name e.0 && are_such e.1) then Some e.0 else None)
+    None
+
+-- that name, or else the other text
+abbrev pub name_or : Marks → (List ℕ → Bool) → ℕ → Text → Text
+name_or m are_such n other = choose (fit_name m are_such n) (λ w. w) other
+
+-- ---- between marks
+
+abbrev pub marked : Text → Text → Text
+marked head w = head ++ (codes "<" ++ (w ++ codes ">"))
+
+abbrev pub signed : ℤ → Text
+signed (pos n) = code "+" ∷ decimal n
+signed (negsuc n) = code "-" ∷ decimal (n + 1)
+
+abbrev pub level_text : Option ℤ → Text
+level_text None = []
+level_text (Some z) = signed z
+
+-- ---- references, behind the openings of c groups
+
+-- what a back reference names: a name means no group that opens later
+abbrev pub backref_name : Marks → ℕ → ℕ → Text
+backref_name m c n = name_or m (λ l. is_last n l && nat_le n c) n (decimal n)
+
+abbrev pub backref_text : Marks → ℕ → ℕ → Text
+backref_text m c n =
+    if m.numeric_capture_group_references then backslash ∷ decimal n else marked (codes "\\k") (backref_name m c n)
+
+abbrev pub backref_at_level_text : Marks → ℕ → ℕ → ℤ → Text
+backref_at_level_text m c n level = marked (codes "\\k") (backref_name m c n ++ signed level)
+
+-- the target of a condition
+abbrev pub target_text : Marks → ℕ → Option ℤ → Text
+target_text m n level =
+    choose (fit_name m (is_last n) n) (λ w. marked [] (w ++ level_text level)) (decimal n ++ level_text level)
+
+-- so many groups on, or back
+abbrev pub distance : ℕ → ℕ → Text
+distance c n = if nat_lt c n then code "+" ∷ decimal (n - c) else code "-" ∷ decimal (c + 1 - n)
+
+-- what a call names: a number where some reference was one, and 0 where some call of it was
+abbrev pub call_name : Marks → ℕ → ℕ → Text
+call_name m c n =
+    if m.numeric_capture_group_references && (nat_lt 0 n || m.self_recursive) then decimal n
+    else name_or m (is_only n) n (distance c n)
+
+abbrev pub call_text : Marks → ℕ → ℕ → Text
+call_text m c n = marked (codes "\\g") (call_name m c n)
+
+-- a call by a name that means no group
+abbrev pub unresolved_call_by_name : Text → Text
+unresolved_call_by_name w =
+    if is_relative w then codes "(?P>" ++ (w ++ codes ")")
+    else if not (is_among (code ">") w) then marked (codes "\\g") w
+    else if not (is_among (code "'") w) then codes "\\g'" ++ (w ++ codes "'")
+    else codes "(?P>" ++ (w ++ codes ")")
+
+-- a reference that means no group is a call
+abbrev pub unresolved_text : AstReference → Text
+unresolved_text (ast_call (by_name w)) = unresolved_call_by_name w
+unresolved_text (ast_call (relative z)) = marked (codes "\\g") (signed z)
+unresolved_text (ast_call (by_number n)) = marked (codes "\\g") (decimal n)
+unresolved_text _ = []
+
+-- ---- groups
+
+-- what stands behind the parenthesis of a group of this name; before `=` and `!` a `<` would begin a look-behind
+abbrev pub name_head : Text → Text
+name_head [] = []
+name_head (c ∷ t) =
+    if is_among (code ">") (c ∷ t) then codes "?'" ++ ((c ∷ t) ++ codes "'")
+    else marked (if c ∈ "=!" then codes "?P" else codes "?") (c ∷ t)
+
+-- the same of the group with the number n
+abbrev pub group_head : Marks → ℕ → Text
+group_head m n = choose (name_of m n) (λ e. name_head e.0) []
