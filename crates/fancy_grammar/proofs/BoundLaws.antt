@@ -2,7 +2,7 @@
 -- by the bytes that it takes, and its levels by the groups that may still open.
 use Rattle.std.proofs.Common.{◌≡◌, ℕ, zero, suc, ◌+◌, ◌*◌, ◌≤◌, ◌<◌, max, Bool, true, false, not, ◌&&◌, ◌==◌, nat_lt}
 use Rattle.std.proofs.Common.{nat_le, if◌then◌else◌, List, [], ◌∷◌, length, Option, Some, None}
-use Rattle.std.proofs.Common.{IfSome, refl, ap, ◌∙◌, subst, arith, chars}
+use Rattle.std.proofs.Common.{IfSome, refl, ap, ◌∙◌, ◌-◌, subst, arith, chars}
 use Rattle.std.proofs.lemmas.Bool.{cond_both}
 use Rattle.std.proofs.lemmas.Bool.Decides.{nat_tests}
 use Rattle.std.specs.Str.{IsUtf8}
@@ -15,7 +15,7 @@ use Rattle.fancy_lex.specs.declared.flags.Flags.{Flags}
 use Rattle.fancy_parts.specs.Quantifier.{counts}
 use Rattle.fancy_parts.specs.declared.counts.Counts.{Counts}
 use Rattle.fancy_grammar.specs.Ahead.{Ahead, nothing, read, ahead, ahead_of, behind_layout, is_before_nothing}
-use Rattle.fancy_grammar.specs.Depth.{max_depth, max_levels}
+use Rattle.fancy_grammar.specs.Depth.{max_depth, levels_at_depth, max_levels}
 use Rattle.fancy_grammar.specs.Answer.{IsTreeOf}
 use Rattle.fancy_grammar.specs.Answered.{IsSmall}
 use Rattle.fancy_grammar.specs.Grammar.{Alternation, alternation, Branches, last, more, branch_fault, Branch, branch}
@@ -293,37 +293,50 @@ ahead_below d s = by_text s.rest
         (λ e. below_at d (behind_layout s (skipped (at s t))) (may_open e))) (λ _.
         cond_both (is_before_nothing c) _ _ (OpensBelow d) (λ _. tt) (λ _. tt))
 
--- ---- the bounds of each part, which is read from s at depth d and ends at t; its levels are max_levels, less 13 for
--- each depth: of these an Alt takes one and a Concat one, so that a piece has 830, and its quantifiers ten and a group
--- one, so that an atom has 820, and a group's inside 819
+-- ---- the bounds of each part, which is read from s at depth d and ends at t; its levels are max_levels, less those of
+-- each depth: of these an Alt takes one and a Concat one, the quantifiers of a piece ten, and a group one
+
+abbrev branch_levels : ℕ
+branch_levels = max_levels - 1
+
+abbrev piece_levels : ℕ
+piece_levels = branch_levels - 1
+
+abbrev atom_levels : ℕ
+atom_levels = piece_levels - 10
+
+abbrev inside_levels : ℕ
+inside_levels = atom_levels - 1
 
 -- of an atom, and of one with its quantifiers: an Empty may take no byte
 abbrev Fits : ℕ → ℕ → State → Tree → State → Type 0
-Fits high d s r t = (weight r + 2 * bytes t.rest ≤ 2 * bytes s.rest) × (levels r + 13 * d ≤ high)
+Fits high d s r t = (weight r + 2 * bytes t.rest ≤ 2 * bytes s.rest) × (levels r + levels_at_depth * d ≤ high)
 
 -- of pieces
 abbrev PiecesFit : ℕ → State → List Tree → State → Type 0
-PiecesFit d s l t = (weights l + 2 * bytes t.rest ≤ 2 * bytes s.rest) × (widest l + 13 * d ≤ 830)
+PiecesFit d s l t = (weights l + 2 * bytes t.rest ≤ 2 * bytes s.rest) × (widest l + levels_at_depth * d ≤ piece_levels)
 
 -- of a branch, and of an alternation
 abbrev Fills : ℕ → ℕ → State → Tree → State → Type 0
-Fills high d s r t = (nodes r + 2 * bytes t.rest ≤ 2 * bytes s.rest + 1) × (levels r + 13 * d ≤ high)
+Fills high d s r t = (nodes r + 2 * bytes t.rest ≤ 2 * bytes s.rest + 1) × (levels r + levels_at_depth * d ≤ high)
 
 -- of branches: each may have a node more than twice its bytes, and the bars make up for all but one of them
 abbrev BranchesFit : ℕ → State → List Tree → State → Type 0
 BranchesFit d s l t =
-    (sizes l + length l + 2 * bytes t.rest ≤ 2 * bytes s.rest + 2) × (widest l + 13 * d ≤ 831) × (1 ≤ length l)
+    (sizes l + length l + 2 * bytes t.rest ≤ 2 * bytes s.rest + 2) × (widest l + levels_at_depth * d ≤ branch_levels)
+    × (1 ≤ length l)
 
 -- of the inside of a group
 abbrev InsideFits : ℕ → State → Tree → State → Type 0
-InsideFits d s r t = (nodes r + 1 + 2 * bytes t.rest ≤ 2 * bytes s.rest) × (levels r + 13 * d ≤ 819)
+InsideFits d s r t =
+    (nodes r + 1 + 2 * bytes t.rest ≤ 2 * bytes s.rest) × (levels r + levels_at_depth * d ≤ inside_levels)
 
 -- a leaf is one node
 leaf_size : (t : Tree) → preorder t ≡ t ∷ [] → nodes t ≡ 1
 leaf_size t e = nodes_preorder t ∙ ap length e
 
 leaf_fits : (d : ℕ) (s : State) (o : Outcome Tree) → d < max_depth → LeafSlice s o → Makes IsReadLeaf o →
-    Holds (Fits 820 d s) o
+    Holds (Fits atom_levels d s) o
 leaf_fits d s (done a t) l h i = (omega (arith, h.1, weight_most a, leaf_size a i.1), omega (arith, l, i.2))
 leaf_fits d s (fault k p) l h i = tt
 
@@ -343,9 +356,9 @@ mutual
       (omega (arith, h.0, past, i.0), omega (arith, h.1, i.1), omega arith))
   branches_fit (branch_fault b) l = tt
 
-  branch_fits : {d : ℕ} {s : State} {o : Outcome Tree} → Branch d s o → d < max_depth → Holds (Fills 831 d s) o
+  branch_fits : {d : ℕ} {s : State} {o : Outcome Tree} → Branch d s o → d < max_depth → Holds (Fills branch_levels d s) o
   branch_fits (branch {d} {s} {q} b) l =
-      then_holds (PiecesFit d s) (Fills 831 d s) q _ (pieces_fit b l) (λ ts v h.
+      then_holds (PiecesFit d s) (Fills branch_levels d s) q _ (pieces_fit b l) (λ ts v h.
       (omega (arith, join_size ts, h.0), omega (arith, join_levels ts, h.1)))
 
   pieces_fit : {d : ℕ} {s : State} {o : Outcome (List Tree)} → Pieces d s o → d < max_depth →
@@ -357,27 +370,27 @@ mutual
       (omega (arith, h.0, i.0), omega (arith, h.1, i.1)))
   pieces_fit (piece_fault e a) l = tt
 
-  piece_fits : {d : ℕ} {s : State} {o : Outcome Tree} → Piece d s o → d < max_depth → Holds (Fits 830 d s) o
+  piece_fits : {d : ℕ} {s : State} {o : Outcome Tree} → Piece d s o → d < max_depth → Holds (Fits piece_levels d s) o
   piece_fits (piece {d} {s} {u} {q} k x) l =
       let past = fits (skipped_slice s u k) in
-      then_holds (Fits 820 d (at s u)) (Fits 830 d s) q _ (atom_fits x l) (λ a t h.
-      holds_too (GrowsBy 5 a t) (Fits 830 d s) (quants d (bytes s.rest) a t) (λ b v i.
+      then_holds (Fits atom_levels d (at s u)) (Fits piece_levels d s) q _ (atom_fits x l) (λ a t h.
+      holds_too (GrowsBy 5 a t) (Fits piece_levels d s) (quants d (bytes s.rest) a t) (λ b v i.
       (omega (arith, past, h.0, i.0), omega (arith, h.1, i.1))) (quants_grow d (bytes s.rest) a t))
   piece_fits (layout_fault k) l = tt
 
-  atom_fits : {d : ℕ} {s : State} {o : Outcome Tree} → Atom d s o → d < max_depth → Holds (Fits 820 d s) o
+  atom_fits : {d : ℕ} {s : State} {o : Outcome Tree} → Atom d s o → d < max_depth → Holds (Fits atom_levels d s) o
   atom_fits (atom {d} {s} {e} {q} is a) l =
-      behind_keeps (Holds (Fits 820 d s)) (λ r t f i. i) e s.flags q
+      behind_keeps (Holds (Fits atom_levels d s)) (λ r t f i. i) e s.flags q
       (of_fits a l (subst (AheadSlice s) is (ahead_slice d s)) (subst ReadAhead is (ahead_read d s))
       (subst (OpensBelow d) is (ahead_below d s)))
 
   of_fits : {k : Ahead} {d : ℕ} {s : State} {o : Outcome Tree} → AtomOf k d s o → d < max_depth →
-      AheadSlice s k → ReadAhead k → OpensBelow d k → Holds (Fits 820 d s) o
+      AheadSlice s k → ReadAhead k → OpensBelow d k → Holds (Fits atom_levels d s) o
   of_fits a_nothing l h r b = (omega arith, omega (arith, l))
   of_fits (a_read {d} {s} {o}) l h r b = leaf_fits d s o l h r
   of_fits (a_group {d} {s} {t} {h = head} {q} i) l h r b =
       let p = reach_of s.rest in
-      then_holds (InsideFits d t) (Fits 820 d s) q _ (inside_fits i b) (λ x v k.
+      then_holds (InsideFits d t) (Fits atom_levels d s) q _ (inside_fits i b) (λ x v k.
       let over = node_over head p x in
       (omega (arith, weight_most (group_node head p x), over.0, k.0, h.1), omega (arith, over.1, k.1)))
   of_fits (a_condition {d} {s} i m) l h r b =
@@ -386,12 +399,12 @@ mutual
   of_fits (a_body {s} m) l h r b = body_fits m s (omega (arith, h.1, leaf_size _ r.1)) (omega (arith, b, r.2)) b
   of_fits (two_branches {d} {s} {v} {u} {a} {q} x e m) l h r b =
       let first = branch_fits x b in let past = strip_bytes bar v.rest u e in
-      then_holds (Fills 831 (d + 1) (at v u)) (Fits 820 d s) q _ (branch_fits m b) (λ y w i.
-      closed_holds (Fits 820 d s) (expression a y) w (λ z k.
+      then_holds (Fills branch_levels (d + 1) (at v u)) (Fits atom_levels d s) q _ (branch_fits m b) (λ y w i.
+      closed_holds (Fits atom_levels d s) (expression a y) w (λ z k.
       (omega (arith, h.1, first.0, past, i.0, k), omega (arith, first.1, i.1))))
   of_fits (one_branch {d} {s} {v} {a} x e) l h r b =
       let first = branch_fits x b in let over = clear_or_stopper_over a in
-      closed_holds (Fits 820 d s) (clear_or_stopper a) v (λ z k.
+      closed_holds (Fits atom_levels d s) (clear_or_stopper a) v (λ z k.
       (omega (arith, weight_most (clear_or_stopper a), over.0, h.1, first.0, k), omega (arith, over.1, first.1)))
   of_fits (absent_fault x) l h r b = tt
 
@@ -401,13 +414,13 @@ mutual
       closed_holds (InsideFits d s) t v (λ z k. (omega (arith, h.0, k), omega (arith, h.1))))
 
   body_fits : {d : ℕ} {c : Tree} {t : State} {o : Outcome Tree} → Body d c t o → (s : State) →
-      nodes c + 2 + 2 * bytes t.rest ≤ 2 * bytes s.rest → levels c + 13 * d ≤ 819 → d + 1 < max_depth →
-      Holds (Fits 820 d s) o
+      nodes c + 2 + 2 * bytes t.rest ≤ 2 * bytes s.rest → levels c + levels_at_depth * d ≤ inside_levels → d + 1 < max_depth →
+      Holds (Fits atom_levels d s) o
   body_fits (the_body {d} {c} {s = t} {q} a) s g h l =
-      then_holds (Fills max_levels (d + 1) t) (Fits 820 d s) q _ (alternation_fits a l) (λ x v i.
-      cond_both (bytes v.rest == bytes t.rest && not (is_condition c)) _ _ (Holds (Fits 820 d s)) (λ _. tt) (λ _.
+      then_holds (Fills max_levels (d + 1) t) (Fits atom_levels d s) q _ (alternation_fits a l) (λ x v i.
+      cond_both (bytes v.rest == bytes t.rest && not (is_condition c)) _ _ (Holds (Fits atom_levels d s)) (λ _. tt) (λ _.
       let parts = branches_of x in let whole = conditional_of c parts.0 parts.1 in let deep = branches_levels x in
-      closed_holds (Fits 820 d s) whole v (λ z k. (
+      closed_holds (Fits atom_levels d s) whole v (λ z k. (
         omega (arith, weight_most whole, conditional_size c parts.0 parts.1, branches_size x, g, i.0, k),
         omega (arith, conditional_levels c parts.0 parts.1, deep.0, deep.1, h, i.1, l),
       ))))

@@ -5,6 +5,7 @@ use Rattle.fancy_lex.specs.declared.escape.Assertion.{Assertion}
 use Rattle.fancy_lex.specs.declared.escape.Assertion.TheVariants.{StartLine, StartLineOniguruma, EndLine}
 use Rattle.fancy_grammar.specs.Depth.{max_depth}
 use Rattle.fancy_grammar.specs.Printed.{is_long, printed}
+use Rattle.fancy_grammar.specs.Printed.{WHOLE, BRANCH, PIECE, OPERAND}
 use Rattle.fancy_grammar.specs.Tree.{Tree, Trees, no_trees, more_trees, any, assertion, literal, concat, alt, group}
 use Rattle.fancy_grammar.specs.Tree.{repeat, delegate}
 
@@ -40,27 +41,27 @@ abbrev mutual
   parens (assertion a) p = in_group (is_at_line a) [] no_parens
   parens (literal s casei) p = in_group casei [] no_parens
   parens (delegate s casei) p = in_group casei [] no_parens
-  parens (concat ts) p = in_group (nat_lt 1 p) (codes "(?:") (parens_all ts)
-  parens (alt ts) p = in_group (nat_lt 0 p) (codes "(?:") (parens_branches ts)
-  parens (group t) p = in_group true (codes "(") (parens t 0)
+  parens (concat ts) p = in_group (nat_lt BRANCH p) (codes "(?:") (parens_all ts)
+  parens (alt ts) p = in_group (nat_lt WHOLE p) (codes "(?:") (parens_branches ts)
+  parens (group t) p = in_group true (codes "(") (parens t WHOLE)
   parens (repeat t lo hi greedy) p =
-      in_group (nat_lt 2 p) (codes "(?:") (in_group (is_long t) (codes "(?:") (parens t 3))
+      in_group (nat_lt PIECE p) (codes "(?:") (in_group (is_long t) (codes "(?:") (parens t OPERAND))
   parens _ p = no_parens
 
   pub parens_all : Trees → Parens
   parens_all no_trees place round = []
   parens_all (more_trees t ts) place round =
-      parens t 2 place round ++ parens_all ts (place + bytes (printed t 2)) round
+      parens t PIECE place round ++ parens_all ts (place + bytes (printed t PIECE)) round
 
   pub parens_branches : Trees → Parens
   parens_branches no_trees place round = []
   parens_branches (more_trees t ts) place round =
-      parens t 1 place round ++ parens_barred ts (place + bytes (printed t 1)) round
+      parens t BRANCH place round ++ parens_barred ts (place + bytes (printed t BRANCH)) round
 
   pub parens_barred : Trees → Parens
   parens_barred no_trees place round = []
   parens_barred (more_trees t ts) place round =
-      parens t 1 (place + 1) round ++ parens_barred ts (place + 1 + bytes (printed t 1)) round
+      parens t BRANCH (place + 1) round ++ parens_barred ts (place + 1 + bytes (printed t BRANCH)) round
 
 -- a group that opens there is too deep, and none before it
 abbrev pub is_too_deep : Paren → Bool

@@ -51,6 +51,20 @@ is_long (literal s true) = false
 is_long (literal (c ∷ d ∷ s) false) = true
 is_long _ = false
 
+-- the precedences: of a whole pattern and of the inside of a group, of a branch, of a piece in a row of them, and of what
+-- a quantifier stands behind
+abbrev pub WHOLE : ℕ
+WHOLE = 0
+
+abbrev pub BRANCH : ℕ
+BRANCH = 1
+
+abbrev pub PIECE : ℕ
+PIECE = 2
+
+abbrev pub OPERAND : ℕ
+OPERAND = 3
+
 abbrev mutual
   -- the variants that have no text of their own give nothing
   pub printed : Tree → ℕ → Text
@@ -58,31 +72,31 @@ abbrev mutual
   printed (assertion a) p = assertion_text a
   printed (literal s casei) p = caseless casei (quotes s)
   printed (delegate s casei) p = caseless casei s
-  printed (concat ts) p = grouped (nat_lt 1 p) (printed_all ts)
-  printed (alt ts) p = grouped (nat_lt 0 p) (printed_branches ts)
-  printed (group t) p = codes "(" ++ (printed t 0 ++ codes ")")
+  printed (concat ts) p = grouped (nat_lt BRANCH p) (printed_all ts)
+  printed (alt ts) p = grouped (nat_lt WHOLE p) (printed_branches ts)
+  printed (group t) p = codes "(" ++ (printed t WHOLE ++ codes ")")
   printed (repeat t lo hi greedy) p =
-      grouped (nat_lt 2 p) (grouped (is_long t) (printed t 3) ++ quantifier lo hi greedy)
+      grouped (nat_lt PIECE p) (grouped (is_long t) (printed t OPERAND) ++ quantifier lo hi greedy)
   printed _ p = []
 
   -- one behind the other
   pub printed_all : Trees → Text
   printed_all no_trees = []
-  printed_all (more_trees t ts) = printed t 2 ++ printed_all ts
+  printed_all (more_trees t ts) = printed t PIECE ++ printed_all ts
 
   -- with bars between
   pub printed_branches : Trees → Text
   printed_branches no_trees = []
-  printed_branches (more_trees t ts) = printed t 1 ++ barred ts
+  printed_branches (more_trees t ts) = printed t BRANCH ++ barred ts
 
   -- with a bar before each
   pub barred : Trees → Text
   barred no_trees = []
-  barred (more_trees t ts) = codes "|" ++ (printed t 1 ++ barred ts)
+  barred (more_trees t ts) = codes "|" ++ (printed t BRANCH ++ barred ts)
 
 -- what a quantifier is put behind
 abbrev pub operand_text : Tree → Text
-operand_text t = grouped (is_long t) (printed t 3)
+operand_text t = grouped (is_long t) (printed t OPERAND)
 
 abbrev mutual
   -- every node has a text; what a DefineGroup holds is not looked at

@@ -20,11 +20,15 @@ pub data IdReference : Type 0 where
 abbrev pub with_sign : ℕ → ℕ → ℤ
 with_sign sign n = if sign == code "-" then neg_ℤ (pos n) else pos n
 
--- a sign and a number of at most 2^63 - 1
-abbrev pub small_amount : ℕ → ℕ → Option ℤ
-small_amount sign n = if nat_lt n (2 ^ 63) then Some (with_sign sign n) else None
+-- amounts are less than this, with either sign
+abbrev pub max_amount : ℕ
+max_amount = 2 ^ 63
 
--- an amount is a sign and a number of at most 2^63 - 1, and no more: its value
+-- a sign and a number that an amount may have
+abbrev pub small_amount : ℕ → ℕ → Option ℤ
+small_amount sign n = if nat_lt n max_amount then Some (with_sign sign n) else None
+
+-- an amount is a sign and such a number, and no more: its value
 unfoldable pub amount : Text → Option ℤ
 amount [] = None
 amount (c ∷ t) = if c ∈ "+-" then option_and_then (small_amount c) (whole_number t) else None

@@ -17,6 +17,7 @@ use Rattle.fancy_grammar.specs.Tree.{Tree, Trees, no_trees, more_trees, literal,
 use Rattle.fancy_grammar.specs.Printed.{grouped, caseless, is_long, printed, operand_text, printed_all}
 use Rattle.fancy_grammar.specs.Printed.{printed_branches}
 use Rattle.fancy_grammar.specs.Printed.{barred}
+use Rattle.fancy_grammar.specs.Printed.{OPERAND}
 use Rattle.fancy_syntax.specs.declared.expr.Expr.{Expr}
 use Rattle.fancy_syntax.specs.View.{view, views}
 
@@ -118,14 +119,14 @@ pub no_text_written : (a : String Global) (t : Text) → t ≡ [] → Appended a
 no_text_written a t e = subst (λ u. Appended a a u) (sym e) (nothing_written a)
 
 pub long_written : (a b c d : String Global) (e : Tree) → is_long e ≡ true → Appended a b (codes "(?:") →
-    Appended b c (printed e 3) → Appended c d (codes ")") → Appended a d (operand_text e)
-long_written a b c d e l p q r = subst (λ g. Appended a d (grouped g (printed e 3))) (sym l)
-    (grouped_written a b c d true (printed e 3) p q r)
+    Appended b c (printed e OPERAND) → Appended c d (codes ")") → Appended a d (operand_text e)
+long_written a b c d e l p q r = subst (λ g. Appended a d (grouped g (printed e OPERAND))) (sym l)
+    (grouped_written a b c d true (printed e OPERAND) p q r)
 
-pub short_written : (a b : String Global) (e : Tree) → is_long e ≡ false → Appended a b (printed e 3) →
+pub short_written : (a b : String Global) (e : Tree) → is_long e ≡ false → Appended a b (printed e OPERAND) →
     Appended a b (operand_text e)
-short_written a b e l p = subst (λ g. Appended a b (grouped g (printed e 3))) (sym l)
-    (subst (λ t. Appended a b t) (sym (grouped_same (printed e 3))) p)
+short_written a b e l p = subst (λ g. Appended a b (grouped g (printed e OPERAND))) (sym l)
+    (subst (λ t. Appended a b t) (sym (grouped_same (printed e OPERAND))) p)
 
 pub ruleset write_steps = (
   bytes-append,

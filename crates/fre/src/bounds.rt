@@ -17,10 +17,16 @@ fn measured(out: &[u8]) -> (usize, usize) {
     (nodes, levels)
 }
 
+/// How many groups can be open.
+const MOST_OPEN: usize = 63;
+
+/// How many quantifiers may be adjacent to an earlier one.
+const MOST_ADJACENT: usize = 4;
+
 /// Adds as many possessive quantifiers as a piece inside so many groups may have in Oniguruma's mode: one, and up to
 /// four adjacent ones, each of which is one deeper.
 fn push_quantifiers(pattern: &mut String, depth: usize) -> Result<(), AllocError> {
-    let adjacent = 63usize.saturating_sub(depth).min(4);
+    let adjacent = MOST_OPEN.saturating_sub(depth).min(MOST_ADJACENT);
     for _ in 0..adjacent.saturating_add(1) {
         pattern.push_str("*+")?;
     }
@@ -29,10 +35,10 @@ fn push_quantifiers(pattern: &mut String, depth: usize) -> Result<(), AllocError
 
 /// An Alt, a Concat, a Group and all quantifiers on each of 64 levels.
 fn deepest(alloc: Global) -> Result<String, AllocError> {
-    let mut pattern = "|a(".repeat(alloc, 63)?;
+    let mut pattern = "|a(".repeat(alloc, MOST_OPEN)?;
     pattern.push_str("|aa")?;
-    push_quantifiers(&mut pattern, 63)?;
-    for depth in (0..63).rev() {
+    push_quantifiers(&mut pattern, MOST_OPEN)?;
+    for depth in (0..MOST_OPEN).rev() {
         pattern.push(')')?;
         push_quantifiers(&mut pattern, depth)?;
     }

@@ -7,6 +7,7 @@ use fancy_syntax::flags::{
     FLAG_CASEI, FLAG_CRLF, FLAG_DOTNL, FLAG_MULTI, FLAG_ONIGURUMA_MODE, FLAG_UNICODE,
 };
 use fancy_syntax::tree::ExprTree;
+use fancy_syntax::{OPERAND, PIECE, WHOLE};
 use std::alloc::{AllocError, Global};
 
 /// Whether nothing but its tree and so many groups is known of it.
@@ -87,7 +88,7 @@ fn is_text(
 static PRINTED: [Row; 8] = [
     (
         Source::Pattern("(?:ab){2,3}", FLAG_UNICODE),
-        Question::HasText(0, "", "(?:ab){2,3}"),
+        Question::HasText(WHOLE, "", "(?:ab){2,3}"),
         true,
     ),
     (
@@ -97,7 +98,7 @@ static PRINTED: [Row; 8] = [
     ),
     (
         Source::Pattern("(?:a|b)c", FLAG_UNICODE),
-        Question::HasText(0, "x", "(?:a|b)c"),
+        Question::HasText(WHOLE, "x", "(?:a|b)c"),
         true,
     ),
     (
@@ -107,7 +108,7 @@ static PRINTED: [Row; 8] = [
     ),
     (
         Source::Pattern("(?:a|b)c", FLAG_UNICODE),
-        Question::HasText(2, "x", "(?:(?:a|b)c)"),
+        Question::HasText(PIECE, "x", "(?:(?:a|b)c)"),
         true,
     ),
     (
@@ -117,7 +118,7 @@ static PRINTED: [Row; 8] = [
     ),
     (
         Source::Pattern("(a|b)c*", FLAG_UNICODE),
-        Question::HasText(0, "x", "(a|b)c*"),
+        Question::HasText(WHOLE, "x", "(a|b)c*"),
         true,
     ),
     (
@@ -137,27 +138,27 @@ fn text_is_appended_and_read_again(rt: HostRuntime) -> Result<(), Error> {
 static REPEATED: [Row; 5] = [
     (
         Source::RepeatedLiteral("ab", false),
-        Question::HasText(0, "x", "(?:ab)*"),
+        Question::HasText(WHOLE, "x", "(?:ab)*"),
         true,
     ),
     (
         Source::RepeatedLiteral("ab", false),
-        Question::HasText(3, "x", "(?:(?:ab)*)"),
+        Question::HasText(OPERAND, "x", "(?:(?:ab)*)"),
         true,
     ),
     (
         Source::RepeatedLiteral(".\n", false),
-        Question::HasText(0, "x", r"(?:\.\n)*"),
+        Question::HasText(WHOLE, "x", r"(?:\.\n)*"),
         true,
     ),
     (
         Source::RepeatedLiteral("ab", true),
-        Question::HasText(0, "x", "(?i:ab)*"),
+        Question::HasText(WHOLE, "x", "(?i:ab)*"),
         true,
     ),
     (
         Source::Literal("ab", false),
-        Question::HasText(3, "x", "ab"),
+        Question::HasText(OPERAND, "x", "ab"),
         true,
     ),
 ];
@@ -170,7 +171,7 @@ fn a_repeated_literal_stands_in_a_group(rt: HostRuntime) -> Result<(), Error> {
 
 fn empty_is_printed(alloc: Global) -> Result<bool, AllocError> {
     let mut text = String::from_str(alloc, "x")?;
-    Ok(Expr::Empty.to_str(&mut text, 0).is_ok() && text.as_str() == "x")
+    Ok(Expr::Empty.to_str(&mut text, WHOLE).is_ok() && text.as_str() == "x")
 }
 
 #[test]
@@ -191,14 +192,21 @@ fn nested(alloc: Global, tree: &Expr, groups: usize) -> Result<Expr, AllocError>
 /// The text of the tree in so many groups, where it is printable.
 fn nested_text(alloc: Global, tree: &Expr, groups: usize) -> Result<Option<String>, AllocError> {
     let nested = nested(alloc, tree, groups)?;
-    nested.print(alloc, 0)
+    nested.print(alloc, WHOLE)
 }
 
+/// How many groups can be open.
+const MOST_OPEN: usize = 63;
+
+/// Whether it is the fault of a group behind so many, each of which opens with one byte.
 fn is_too_deep(error: &Error) -> bool {
-    matches!(error, Error::ParseError(63, ParseError::RecursionExceeded))
+    matches!(
+        error,
+        Error::ParseError(MOST_OPEN, ParseError::RecursionExceeded)
+    )
 }
 
-/// How many groups the text has; none where it nests too deeply behind 63 of them.
+/// How many groups the text has; none where it nests too deeply behind as many as can be open.
 fn groups(alloc: Global, text: &str) -> Result<Option<usize>, Error> {
     match Expr::parse_tree(alloc, text) {
         Ok(tree) => Ok(Some(tree.total_groups)),
@@ -215,9 +223,14 @@ fn groups_inside(alloc: Global, tree: &Expr, outer: usize) -> Result<Option<usiz
     }
 }
 
-/// Whether the tree's text, in which one group nests, is read inside 62 groups and not inside 63.
+/// Whether the tree's text, in which one group nests, is read inside one group less than can be open, and not inside
+/// as many.
 pub(crate) fn nests_once(alloc: Global, tree: &Expr) -> Result<bool, Error> {
-    Ok(groups_inside(alloc, tree, 62)? == Some(62) && groups_inside(alloc, tree, 63)?.is_none())
+    let outer = MOST_OPEN - 1;
+    Ok(
+        groups_inside(alloc, tree, outer)? == Some(outer)
+            && groups_inside(alloc, tree, MOST_OPEN)?.is_none(),
+    )
 }
 
 /// A tree for each kind of group that is printed; in each one such group nests.

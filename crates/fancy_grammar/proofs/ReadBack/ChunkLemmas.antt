@@ -331,9 +331,9 @@ controls =
     let minus = word_chunk (code "-") [] refl refl refl refl in
     both_chunk (codes "\\x00") (codes "-\\x1F\\x7F-\\x9F") (byte_chunk 0 refl)
     (both_chunk (codes "-") (codes "\\x1F\\x7F-\\x9F") minus
-    (both_chunk (codes "\\x1F") (codes "\\x7F-\\x9F") (byte_chunk 31 refl)
-    (both_chunk (codes "\\x7F") (codes "-\\x9F") (byte_chunk 127 refl)
-    (both_chunk (codes "-") (codes "\\x9F") minus (byte_chunk 159 refl)))))
+    (both_chunk (codes "\\x1F") (codes "\\x7F-\\x9F") (byte_chunk 0x1F refl)
+    (both_chunk (codes "\\x7F") (codes "-\\x9F") (byte_chunk 0x7F refl)
+    (both_chunk (codes "-") (codes "\\x9F") minus (byte_chunk 0x9F refl)))))
 
 pub space_other : Chunk (codes "\\p{White_Space}\\p{C}")
 space_other =
@@ -350,7 +350,8 @@ unprinted =
     (both_chunk (codes "\\f") (codes "\\r") (letter_chunk (code "f") refl) (letter_chunk (code "r") refl)))))
 
 blank_set : Chunk (codes "\\t ")
-blank_set = both_chunk (codes "\\t") (codes " ") (letter_chunk (code "t") refl) (word_chunk 32 [] refl refl refl refl)
+blank_set =
+    both_chunk (codes "\\t") (codes " ") (letter_chunk (code "t") refl) (word_chunk (code " ") [] refl refl refl refl)
 
 word_set : Chunk (codes "_[:alnum:]")
 word_set =

@@ -12,6 +12,7 @@ use Rattle.fancy_lex.specs.declared.escape.Assertion.TheVariants.{WordBoundary, 
 use Rattle.fancy_parts.specs.Quote.{behind_backslash, quote_as, quote, quotes, quantifier}
 use Rattle.fancy_grammar.specs.Printed.{any_text, assertion_text, grouped, caseless, is_long, printed, operand_text}
 use Rattle.fancy_grammar.specs.Printed.{printed_all, printed_branches, barred}
+use Rattle.fancy_grammar.specs.Printed.{WHOLE, BRANCH, PIECE, OPERAND}
 use Rattle.fancy_grammar.specs.Tree.{Tree, Trees, no_trees, more_trees, any, assertion, literal, concat, alt, group}
 use Rattle.fancy_grammar.specs.Tree.{repeat, delegate}
 
@@ -67,29 +68,29 @@ abbrev mutual
   put (assertion a) p v = put_assertion a v
   put (literal s casei) p v = fold_if casei (put_quotes s (close_if casei v))
   put (delegate s casei) p v = fold_if casei (s ++ close_if casei v)
-  put (concat ts) p v = open_if (nat_lt 1 p) (puts ts (close_if (nat_lt 1 p) v))
-  put (alt ts) p v = open_if (nat_lt 0 p) (put_branches ts (close_if (nat_lt 0 p) v))
-  put (group t) p v = code "(" ∷ put t 0 (code ")" ∷ v)
+  put (concat ts) p v = open_if (nat_lt BRANCH p) (puts ts (close_if (nat_lt BRANCH p) v))
+  put (alt ts) p v = open_if (nat_lt WHOLE p) (put_branches ts (close_if (nat_lt WHOLE p) v))
+  put (group t) p v = code "(" ∷ put t WHOLE (code ")" ∷ v)
   put (repeat t lo hi greedy) p v =
-      open_if (nat_lt 2 p) (open_if (is_long t)
-      (put t 3 (close_if (is_long t) (quantifier lo hi greedy ++ close_if (nat_lt 2 p) v))))
+      open_if (nat_lt PIECE p) (open_if (is_long t)
+      (put t OPERAND (close_if (is_long t) (quantifier lo hi greedy ++ close_if (nat_lt PIECE p) v))))
   put _ p v = v
 
   pub puts : Trees → Text → Text
   puts no_trees v = v
-  puts (more_trees t ts) v = put t 2 (puts ts v)
+  puts (more_trees t ts) v = put t PIECE (puts ts v)
 
   pub put_branches : Trees → Text → Text
   put_branches no_trees v = v
-  put_branches (more_trees t ts) v = put t 1 (put_barred ts v)
+  put_branches (more_trees t ts) v = put t BRANCH (put_barred ts v)
 
   pub put_barred : Trees → Text → Text
   put_barred no_trees v = v
-  put_barred (more_trees t ts) v = code "|" ∷ put t 1 (put_barred ts v)
+  put_barred (more_trees t ts) v = code "|" ∷ put t BRANCH (put_barred ts v)
 
 -- what a quantifier is put behind
 abbrev pub put_repeated : Tree → Text → Text
-put_repeated t v = open_if (is_long t) (put t 3 (close_if (is_long t) v))
+put_repeated t v = open_if (is_long t) (put t OPERAND (close_if (is_long t) v))
 
 grouped_put : (b : Bool) (w v : Text) → open_if b (w ++ close_if b v) ≡ grouped b w ++ v
 unfolding grouped
@@ -137,36 +138,39 @@ mutual
       ap (fold_if casei) (quotes_put s (close_if casei v)) ∙ caseless_put casei (quotes s) v
   put_text (delegate s casei) p v = caseless_put casei s v
   put_text (concat ts) p v =
-      ap (open_if (nat_lt 1 p)) (puts_text ts (close_if (nat_lt 1 p) v)) ∙ grouped_put (nat_lt 1 p) (printed_all ts) v
+      ap (open_if (nat_lt BRANCH p)) (puts_text ts (close_if (nat_lt BRANCH p) v))
+      ∙ grouped_put (nat_lt BRANCH p) (printed_all ts) v
   put_text (alt ts) p v =
-      ap (open_if (nat_lt 0 p)) (branches_text ts (close_if (nat_lt 0 p) v))
-      ∙ grouped_put (nat_lt 0 p) (printed_branches ts) v
+      ap (open_if (nat_lt WHOLE p)) (branches_text ts (close_if (nat_lt WHOLE p) v))
+      ∙ grouped_put (nat_lt WHOLE p) (printed_branches ts) v
   put_text (group t) p v = ap (λ w. code "(" ∷ w)
-      (put_text t 0 (code ")" ∷ v) ∙ sym (append_assoc (printed t 0) (code ")" ∷ []) v))
+      (put_text t WHOLE (code ")" ∷ v) ∙ sym (append_assoc (printed t WHOLE) (code ")" ∷ []) v))
   put_text (repeat t lo hi greedy) p v =
-      let w = quantifier lo hi greedy ++ close_if (nat_lt 2 p) v in
-      ap (open_if (nat_lt 2 p))
-      (ap (open_if (is_long t)) (put_text t 3 (close_if (is_long t) w)) ∙ grouped_put (is_long t) (printed t 3) w
-      ∙ sym (append_assoc (operand_text t) (quantifier lo hi greedy) (close_if (nat_lt 2 p) v)))
-      ∙ grouped_put (nat_lt 2 p) (operand_text t ++ quantifier lo hi greedy) v
+      let w = quantifier lo hi greedy ++ close_if (nat_lt PIECE p) v in
+      ap (open_if (nat_lt PIECE p))
+      (ap (open_if (is_long t)) (put_text t OPERAND (close_if (is_long t) w))
+      ∙ grouped_put (is_long t) (printed t OPERAND) w
+      ∙ sym (append_assoc (operand_text t) (quantifier lo hi greedy) (close_if (nat_lt PIECE p) v)))
+      ∙ grouped_put (nat_lt PIECE p) (operand_text t ++ quantifier lo hi greedy) v
   put_text _ p v = refl
 
   puts_text : (ts : Trees) (v : Text) → puts ts v ≡ printed_all ts ++ v
   puts_text no_trees v = refl
   puts_text (more_trees t ts) v =
-      ap (put t 2) (puts_text ts v)
-      ∙ (put_text t 2 (printed_all ts ++ v) ∙ sym (append_assoc (printed t 2) (printed_all ts) v))
+      ap (put t PIECE) (puts_text ts v)
+      ∙ (put_text t PIECE (printed_all ts ++ v) ∙ sym (append_assoc (printed t PIECE) (printed_all ts) v))
 
   branches_text : (ts : Trees) (v : Text) → put_branches ts v ≡ printed_branches ts ++ v
   branches_text no_trees v = refl
   branches_text (more_trees t ts) v =
-      ap (put t 1) (barred_text ts v) ∙ (put_text t 1 (barred ts ++ v) ∙ sym (append_assoc (printed t 1) (barred ts) v))
+      ap (put t BRANCH) (barred_text ts v)
+      ∙ (put_text t BRANCH (barred ts ++ v) ∙ sym (append_assoc (printed t BRANCH) (barred ts) v))
 
   barred_text : (ts : Trees) (v : Text) → put_barred ts v ≡ barred ts ++ v
   barred_text no_trees v = refl
   barred_text (more_trees t ts) v =
-      ap (λ w. code "|" ∷ w) (ap (put t 1) (barred_text ts v)
-      ∙ (put_text t 1 (barred ts ++ v) ∙ sym (append_assoc (printed t 1) (barred ts) v)))
+      ap (λ w. code "|" ∷ w) (ap (put t BRANCH) (barred_text ts v)
+      ∙ (put_text t BRANCH (barred ts ++ v) ∙ sym (append_assoc (printed t BRANCH) (barred ts) v)))
 
 -- a text is what is put in front of nothing
 pub put_alone : (t : Tree) (p : ℕ) → put t p [] ≡ printed t p

@@ -13,6 +13,7 @@ use Rattle.fancy_grammar.specs.Normal.{normal_character, pieces_of, case_flags, 
 use Rattle.fancy_grammar.specs.Normal.{normals}
 use Rattle.fancy_grammar.specs.Quantified.{is_repeatable}
 use Rattle.fancy_grammar.specs.Printed.{is_long, printed, operand_text, printed_all, printed_branches, grouped}
+use Rattle.fancy_grammar.specs.Printed.{WHOLE, BRANCH, PIECE, OPERAND}
 use Rattle.fancy_grammar.specs.Tree.{Tree, Trees, no_trees, more_trees, empty, any, assertion, literal, concat, alt}
 use Rattle.fancy_grammar.specs.Tree.{group, repeat, delegate, define_group}
 use Rattle.fancy_grammar.specs.Over.{is_at_line}
@@ -86,7 +87,8 @@ pub record ReadsBy (u : Bool) (k3 k2 k1 k0 : Text → Text) (m3 m2 m1 m0 : ℕ) 
 
 abbrev pub ReadsTree : Bool → Tree → Type 0
 ReadsTree u t =
-    ReadsBy u (put t 3) (put t 2) (put t 1) (put t 0) (nest t 3) (nest t 2) (nest t 1) (nest t 0) (IsAtom t)
+    ReadsBy u (put t OPERAND) (put t PIECE) (put t BRANCH) (put t WHOLE) (nest t OPERAND) (nest t PIECE)
+    (nest t BRANCH) (nest t WHOLE) (IsAtom t)
     (normal u t) (pieces_of t (normal u t))
 
 abbrev pub EachReads : Bool → Trees → Type 0
@@ -218,15 +220,15 @@ caseless_delegate_reads u s h =
 
 group_reads : (u : Bool) (t : Tree) → Printable t → ReadsTree u t → ReadsTree u (group t)
 group_reads u t h r =
-    let k = λ (v : Text). code "(" ∷ put t 0 (code ")" ∷ v) in
-    by_atom u k (1 + nest t 0) (Unit {0}) (group (normal u t))
-    (λ v. begins_group _ (clear_put t h 0 (code ")" ∷ v) (clear_close v)))
-    (λ d v l _. reads_group d (unicode_flags u) (put t 0 (code ")" ∷ v)) v (normal u t) (kept_unicode u)
-    (omega arith) (clear_put t h 0 (code ")" ∷ v) (clear_close v))
+    let k = λ (v : Text). code "(" ∷ put t WHOLE (code ")" ∷ v) in
+    by_atom u k (1 + nest t WHOLE) (Unit {0}) (group (normal u t))
+    (λ v. begins_group _ (clear_put t h WHOLE (code ")" ∷ v) (clear_close v)))
+    (λ d v l _. reads_group d (unicode_flags u) (put t WHOLE (code ")" ∷ v)) v (normal u t) (kept_unicode u)
+    (omega arith) (clear_put t h WHOLE (code ")" ∷ v) (clear_close v))
     (r.whole (d + 1) (code ")" ∷ v) (omega arith) (ends_close v)))
 
 concat_run : (u : Bool) (ts : Trees) → ArePrintable ts → EachReads u ts →
-    ReadsRun u (puts ts) (nests ts 2) (normal_pieces u ts)
+    ReadsRun u (puts ts) (nests ts PIECE) (normal_pieces u ts)
 concat_run u no_trees h r d v l c = no_run d (unicode_flags u) v
 concat_run u (more_trees t ts) h r d v l c =
     run_chain (r.0.run d (puts ts v) (omega arith) (clear_puts ts h.1 v c))
@@ -234,30 +236,31 @@ concat_run u (more_trees t ts) h r d v l c =
 
 concat_reads : (u : Bool) (ts : Trees) → ArePrintable ts → EachReads u ts → ReadsTree u (concat ts)
 concat_reads u ts h r =
-    by_branch u (puts ts) (nests ts 2) (Unit {0}) (join (normal_pieces u ts)) (normal_pieces u ts) refl
+    by_branch u (puts ts) (nests ts PIECE) (Unit {0}) (join (normal_pieces u ts)) (normal_pieces u ts) refl
     (concat_run u ts h r)
 
 alt_branches : (u : Bool) (t : Tree) (ts : Trees) → ReadsTree u t → EachReads u ts → (d : ℕ) (v : Text) →
-    d + nest t 1 < max_depth → d + nests ts 1 < max_depth → Ends v
-    → BranchesAs d (unicode_flags u) (put t 1 (put_barred ts v)) v (normal u t ∷ normals u ts)
+    d + nest t BRANCH < max_depth → d + nests ts BRANCH < max_depth → Ends v
+    → BranchesAs d (unicode_flags u) (put t BRANCH (put_barred ts v)) v (normal u t ∷ normals u ts)
 alt_branches u t no_trees r rs d v l m e =
-    reads_last d (unicode_flags u) (put t 1 v) v (normal u t) (r.branch d v l e.stops) e
+    reads_last d (unicode_flags u) (put t BRANCH v) v (normal u t) (r.branch d v l e.stops) e
 alt_branches u t (more_trees x xs) r rs d v l m e =
-    reads_more d (unicode_flags u) (put t 1 (code "|" ∷ put x 1 (put_barred xs v))) (put x 1 (put_barred xs v)) v
+    reads_more d (unicode_flags u) (put t BRANCH (code "|" ∷ put x BRANCH (put_barred xs v)))
+    (put x BRANCH (put_barred xs v)) v
     (normal u t) (normal u x ∷ normals u xs)
-    (r.branch d (code "|" ∷ put x 1 (put_barred xs v)) l (stops_bar _))
+    (r.branch d (code "|" ∷ put x BRANCH (put_barred xs v)) l (stops_bar _))
     (alt_branches u x xs rs.0 rs.1 d v (omega arith) (omega arith) e)
 
 alt_whole : (u : Bool) (ts : Trees) → EachReads u ts →
-    ReadsWhole u (put_branches ts) (nests ts 1) (choice (normals u ts))
+    ReadsWhole u (put_branches ts) (nests ts BRANCH) (choice (normals u ts))
 alt_whole u no_trees r d v l e =
     reads_only d (unicode_flags u) v v empty (reads_branch empty (no_run d (unicode_flags u) v) refl e.stops) e
 alt_whole u (more_trees t ts) r d v l e =
-    reads_whole d (unicode_flags u) (put t 1 (put_barred ts v)) v (normal u t ∷ normals u ts)
+    reads_whole d (unicode_flags u) (put t BRANCH (put_barred ts v)) v (normal u t ∷ normals u ts)
     (alt_branches u t ts r.0 r.1 d v (omega arith) (omega arith) e)
 
 alt_reads : (u : Bool) (ts : Trees) → EachReads u ts → ReadsTree u (alt ts)
-alt_reads u ts r = by_whole u (put_branches ts) (nests ts 1) (Unit {0}) (choice (normals u ts)) (alt_whole u ts r)
+alt_reads u ts r = by_whole u (put_branches ts) (nests ts BRANCH) (Unit {0}) (choice (normals u ts)) (alt_whole u ts r)
 
 join_items : (u : Bool) (t : Tree) → join (pieces_of t (normal u t)) ≡ normal u t
 join_items u (literal s false) = refl
@@ -277,12 +280,13 @@ atom_if u false k m x a w = λ d v l c. a refl d v (omega arith) c
 
 -- what a quantifier is put behind is one atom
 repeated_atom : (u : Bool) (t : Tree) → is_repeatable (unicode_flags false) (normal false t) ≡ true → ReadsTree u t →
-    ReadsAtom u (put_repeated t) (one_if (is_long t) + nest t 3) (normal u t)
+    ReadsAtom u (put_repeated t) (one_if (is_long t) + nest t OPERAND) (normal u t)
 repeated_atom u t n r =
-    atom_if u (is_long t) (put t 3) (nest t 3) (normal u t) (λ e. r.atom (atom_of t n e)) (from_run u t 3 r.high)
+    atom_if u (is_long t) (put t OPERAND) (nest t OPERAND) (normal u t) (λ e. r.atom (atom_of t n e))
+    (from_run u t OPERAND r.high)
 
 repeat_run : (u : Bool) (t : Tree) (lo hi : ℕ) (greedy : Bool) → Printable (repeat t lo hi greedy) → ReadsTree u t
-    → ReadsRun u (λ v. put_repeated t (quantifier lo hi greedy ++ v)) (one_if (is_long t) + nest t 3)
+    → ReadsRun u (λ v. put_repeated t (quantifier lo hi greedy ++ v)) (one_if (is_long t) + nest t OPERAND)
     (repeat (normal u t) lo hi greedy ∷ [])
 repeat_run u t lo hi greedy h r d v l c =
     let q = quantifier lo hi greedy ++ v in
@@ -295,7 +299,7 @@ repeat_run u t lo hi greedy h r d v l c =
 repeat_reads : (u : Bool) (t : Tree) (lo hi : ℕ) (greedy : Bool) → Printable (repeat t lo hi greedy) → ReadsTree u t →
     ReadsTree u (repeat t lo hi greedy)
 repeat_reads u t lo hi greedy h r =
-    by_run u (λ v. put_repeated t (quantifier lo hi greedy ++ v)) (one_if (is_long t) + nest t 3) (Unit {0})
+    by_run u (λ v. put_repeated t (quantifier lo hi greedy ++ v)) (one_if (is_long t) + nest t OPERAND) (Unit {0})
     (repeat (normal u t) lo hi greedy) (repeat_run u t lo hi greedy h r)
 
 mutual
@@ -320,20 +324,20 @@ mutual
 
 -- ---- any precedence
 
-pub text_high : (t : Tree) (p : ℕ) → 3 ≤ p → printed t p ≡ printed t 3
+pub text_high : (t : Tree) (p : ℕ) → 3 ≤ p → printed t p ≡ printed t OPERAND
 text_high (literal s casei) p h = refl
-text_high (concat ts) p h = ap (λ b. grouped b (printed_all ts)) (lt-ltb 1 p (omega arith))
-text_high (alt ts) p h = ap (λ b. grouped b (printed_branches ts)) (lt-ltb 0 p (omega arith))
+text_high (concat ts) p h = ap (λ b. grouped b (printed_all ts)) (lt-ltb BRANCH p (omega arith))
+text_high (alt ts) p h = ap (λ b. grouped b (printed_branches ts)) (lt-ltb WHOLE p (omega arith))
 text_high (repeat t lo hi greedy) p h =
-    ap (λ b. grouped b (operand_text t ++ quantifier lo hi greedy)) (lt-ltb 2 p (omega arith))
+    ap (λ b. grouped b (operand_text t ++ quantifier lo hi greedy)) (lt-ltb PIECE p (omega arith))
 text_high t p h = refl
 
-pub nest_high : (t : Tree) (p : ℕ) → 3 ≤ p → nest t p ≡ nest t 3
+pub nest_high : (t : Tree) (p : ℕ) → 3 ≤ p → nest t p ≡ nest t OPERAND
 nest_high (literal s casei) p h = refl
-nest_high (concat ts) p h = ap (λ b. one_if b + nests ts 2) (lt-ltb 1 p (omega arith))
-nest_high (alt ts) p h = ap (λ b. one_if b + nests ts 1) (lt-ltb 0 p (omega arith))
+nest_high (concat ts) p h = ap (λ b. one_if b + nests ts PIECE) (lt-ltb BRANCH p (omega arith))
+nest_high (alt ts) p h = ap (λ b. one_if b + nests ts BRANCH) (lt-ltb WHOLE p (omega arith))
 nest_high (repeat t lo hi greedy) p h =
-    ap (λ b. one_if b + (one_if (is_long t) + nest t 3)) (lt-ltb 2 p (omega arith))
+    ap (λ b. one_if b + (one_if (is_long t) + nest t OPERAND)) (lt-ltb PIECE p (omega arith))
 nest_high t p h = refl
 
 abbrev ReadsFrom : Bool → Tree → Text → Type 0
@@ -350,10 +354,12 @@ at_level t p u l w =
     (from_whole u t (put t p []) (w 0 [] (omega arith) ends_nothing))
 
 pub reads_back : (t : Tree) (p : ℕ) (u : Bool) → Printable t → nest t p < max_depth → ReadsFrom u t (printed t p)
-reads_back t zero u h l = at_level t 0 u l (reads u t h).whole
-reads_back t (suc zero) u h l = at_level t 1 u l (to_whole u (put t 1) (nest t 1) (normal u t) (reads u t h).branch)
-reads_back t (suc (suc zero)) u h l = at_level t 2 u l (from_run u t 2 (reads u t h).run)
+reads_back t zero u h l = at_level t WHOLE u l (reads u t h).whole
+reads_back t (suc zero) u h l =
+    at_level t BRANCH u l (to_whole u (put t BRANCH) (nest t BRANCH) (normal u t) (reads u t h).branch)
+reads_back t (suc (suc zero)) u h l = at_level t PIECE u l (from_run u t PIECE (reads u t h).run)
 reads_back t (suc (suc (suc p))) u h l =
     let big : 3 ≤ suc (suc (suc p)) = omega arith in
     subst (ReadsFrom u t) (sym (text_high t (suc (suc (suc p))) big))
-    (at_level t 3 u (omega (arith, nest_high t (suc (suc (suc p))) big)) (from_run u t 3 (reads u t h).high))
+    (at_level t OPERAND u (omega (arith, nest_high t (suc (suc (suc p))) big))
+    (from_run u t OPERAND (reads u t h).high))

@@ -4,6 +4,7 @@ use Rattle.fancy_grammar.specs.Over.{is_at_line}
 use Rattle.fancy_grammar.specs.Tree.{Tree, Trees, no_trees, more_trees, any, assertion, literal, concat, alt, group}
 use Rattle.fancy_grammar.specs.Tree.{repeat, delegate}
 use Rattle.fancy_grammar.specs.Printed.{is_long}
+use Rattle.fancy_grammar.specs.Printed.{WHOLE, BRANCH, PIECE, OPERAND}
 
 -- one group where it is printed
 abbrev pub one_if : Bool → ℕ
@@ -17,10 +18,10 @@ abbrev mutual
   nest (assertion a) p = one_if (is_at_line a)
   nest (literal s casei) p = one_if casei
   nest (delegate s casei) p = one_if casei
-  nest (concat ts) p = one_if (nat_lt 1 p) + nests ts 2
-  nest (alt ts) p = one_if (nat_lt 0 p) + nests ts 1
-  nest (group t) p = 1 + nest t 0
-  nest (repeat t lo hi greedy) p = one_if (nat_lt 2 p) + (one_if (is_long t) + nest t 3)
+  nest (concat ts) p = one_if (nat_lt BRANCH p) + nests ts PIECE
+  nest (alt ts) p = one_if (nat_lt WHOLE p) + nests ts BRANCH
+  nest (group t) p = 1 + nest t WHOLE
+  nest (repeat t lo hi greedy) p = one_if (nat_lt PIECE p) + (one_if (is_long t) + nest t OPERAND)
   nest _ p = 0
 
   -- the most in any of several trees

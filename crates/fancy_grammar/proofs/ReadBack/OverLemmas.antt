@@ -10,6 +10,7 @@ use Rattle.std.proofs.Common.{leb-true, leb-false}
 use Rattle.fancy_lex.specs.Text.{Text, bytes}
 use Rattle.fancy_grammar.specs.Depth.{max_depth, most_open}
 use Rattle.fancy_grammar.specs.Printed.{is_long, printed}
+use Rattle.fancy_grammar.specs.Printed.{WHOLE, BRANCH, PIECE, OPERAND}
 use Rattle.fancy_grammar.specs.Tree.{Tree, Trees, no_trees, more_trees, any, assertion, literal, concat, alt, group}
 use Rattle.fancy_grammar.specs.Tree.{repeat, delegate}
 use Rattle.fancy_grammar.proofs.ReadBack.Nest.{one_if, nest, nests}
@@ -28,26 +29,28 @@ at_open_if false d inner = inner d
 -- the place in the text at p of the first group that opens where as many are open as can be, d of them round the tree
 abbrev mutual
   pub place : Tree → ℕ → ℕ → ℕ
-  place (concat ts) p d = at_open_if (nat_lt 1 p) d (λ e. places ts e)
-  place (alt ts) p d = at_open_if (nat_lt 0 p) d (λ e. branch_places ts e)
-  place (group t) p d = at_open d 1 (place t 0 (d + 1))
-  place (repeat t lo hi greedy) p d = at_open_if (nat_lt 2 p) d (λ e. at_open_if (is_long t) e (place t 3))
+  place (concat ts) p d = at_open_if (nat_lt BRANCH p) d (λ e. places ts e)
+  place (alt ts) p d = at_open_if (nat_lt WHOLE p) d (λ e. branch_places ts e)
+  place (group t) p d = at_open d 1 (place t WHOLE (d + 1))
+  place (repeat t lo hi greedy) p d = at_open_if (nat_lt PIECE p) d (λ e. at_open_if (is_long t) e (place t OPERAND))
   place _ p d = 0
 
   pub places : Trees → ℕ → ℕ
   places no_trees d = 0
-  places (more_trees t ts) d = if nat_le max_depth (d + nest t 2) then place t 2 d else bytes (printed t 2) + places ts
+  places (more_trees t ts) d =
+      if nat_le max_depth (d + nest t PIECE) then place t PIECE d else bytes (printed t PIECE) + places ts
       d
 
   pub branch_places : Trees → ℕ → ℕ
   branch_places no_trees d = 0
   branch_places (more_trees t ts) d =
-      if nat_le max_depth (d + nest t 1) then place t 1 d else bytes (printed t 1) + barred_places ts d
+      if nat_le max_depth (d + nest t BRANCH) then place t BRANCH d else bytes (printed t BRANCH) + barred_places ts d
 
   pub barred_places : Trees → ℕ → ℕ
   barred_places no_trees d = 0
   barred_places (more_trees t ts) d =
-      1 + (if nat_le max_depth (d + nest t 1) then place t 1 d else bytes (printed t 1) + barred_places ts d)
+      1 + (if nat_le max_depth (d + nest t BRANCH) then place t BRANCH d
+      else bytes (printed t BRANCH) + barred_places ts d)
 
 -- ---- the parentheses, in which so many groups nest, have their first that is too deep there
 
@@ -159,10 +162,10 @@ shifted k m o f = record {
 none_find : Finds (λ start d. []) 0 (λ d. 0)
 none_find = record { deep = λ start d l h. absurd (omega arith); shallow = λ start d h. refl }
 
-one_group : (t : Tree) → Finds (parens t 0) (nest t 0) (place t 0) →
-    Finds (in_group true (codes "(") (parens t 0)) (1 + nest t 0) (λ d. at_open d 1 (place t 0 (d + 1)))
+one_group : (t : Tree) → Finds (parens t WHOLE) (nest t WHOLE) (place t WHOLE) →
+    Finds (in_group true (codes "(") (parens t WHOLE)) (1 + nest t WHOLE) (λ d. at_open d 1 (place t WHOLE (d + 1)))
 unfolding bytes
-one_group t f = group_finds (codes "(") (parens t 0) (nest t 0) (place t 0) f
+one_group t f = group_finds (codes "(") (parens t WHOLE) (nest t WHOLE) (place t WHOLE) f
 
 -- by induction on the tree
 mutual
@@ -171,32 +174,37 @@ mutual
   parens_find (assertion a) p = leaf_finds (is_at_line a)
   parens_find (literal s casei) p = leaf_finds casei
   parens_find (delegate s casei) p = leaf_finds casei
-  parens_find (concat ts) p = if_finds (nat_lt 1 p) (parens_all ts) (nests ts 2) (places ts) (all_find ts)
-  parens_find (alt ts) p = if_finds (nat_lt 0 p) (parens_branches ts) (nests ts 1) (branch_places ts) (branches_find ts)
-  parens_find (group t) p = one_group t (parens_find t 0)
+  parens_find (concat ts) p = if_finds (nat_lt BRANCH p) (parens_all ts) (nests ts PIECE) (places ts) (all_find ts)
+  parens_find (alt ts) p =
+      if_finds (nat_lt WHOLE p) (parens_branches ts) (nests ts BRANCH) (branch_places ts) (branches_find ts)
+  parens_find (group t) p = one_group t (parens_find t WHOLE)
   parens_find (repeat t lo hi greedy) p =
-      if_finds (nat_lt 2 p) (in_group (is_long t) (codes "(?:") (parens t 3)) (one_if (is_long t) + nest t 3)
-      (λ d. at_open_if (is_long t) d (place t 3))
-      (if_finds (is_long t) (parens t 3) (nest t 3) (place t 3) (parens_find t 3))
+      if_finds (nat_lt PIECE p) (in_group (is_long t) (codes "(?:") (parens t OPERAND))
+      (one_if (is_long t) + nest t OPERAND)
+      (λ d. at_open_if (is_long t) d (place t OPERAND))
+      (if_finds (is_long t) (parens t OPERAND) (nest t OPERAND) (place t OPERAND) (parens_find t OPERAND))
   parens_find _ p = none_find
 
-  all_find : (ts : Trees) → Finds (parens_all ts) (nests ts 2) (places ts)
+  all_find : (ts : Trees) → Finds (parens_all ts) (nests ts PIECE) (places ts)
   all_find no_trees = none_find
   all_find (more_trees t ts) =
-      both_find (parens t 2) (parens_all ts) (nest t 2) (nests ts 2) (bytes (printed t 2)) (place t 2) (places ts)
-      (parens_find t 2) (all_find ts)
+      both_find (parens t PIECE) (parens_all ts) (nest t PIECE) (nests ts PIECE) (bytes (printed t PIECE))
+      (place t PIECE) (places ts)
+      (parens_find t PIECE) (all_find ts)
 
-  branches_find : (ts : Trees) → Finds (parens_branches ts) (nests ts 1) (branch_places ts)
+  branches_find : (ts : Trees) → Finds (parens_branches ts) (nests ts BRANCH) (branch_places ts)
   branches_find no_trees = none_find
   branches_find (more_trees t ts) =
-      both_find (parens t 1) (parens_barred ts) (nest t 1) (nests ts 1) (bytes (printed t 1)) (place t 1)
-      (barred_places ts) (parens_find t 1) (barred_find ts)
+      both_find (parens t BRANCH) (parens_barred ts) (nest t BRANCH) (nests ts BRANCH) (bytes (printed t BRANCH))
+      (place t BRANCH)
+      (barred_places ts) (parens_find t BRANCH) (barred_find ts)
 
-  barred_find : (ts : Trees) → Finds (parens_barred ts) (nests ts 1) (barred_places ts)
+  barred_find : (ts : Trees) → Finds (parens_barred ts) (nests ts BRANCH) (barred_places ts)
   barred_find no_trees = none_find
   barred_find (more_trees t ts) = shifted _ _ _
-      (both_find (parens t 1) (parens_barred ts) (nest t 1) (nests ts 1) (bytes (printed t 1)) (place t 1)
-      (barred_places ts) (parens_find t 1) (barred_find ts))
+      (both_find (parens t BRANCH) (parens_barred ts) (nest t BRANCH) (nests ts BRANCH) (bytes (printed t BRANCH))
+      (place t BRANCH)
+      (barred_places ts) (parens_find t BRANCH) (barred_find ts))
 
 -- the first that is too deep stands there, and where fewer nest there is none
 pub over_place : (t : Tree) (p : ℕ) → max_depth ≤ nest t p →

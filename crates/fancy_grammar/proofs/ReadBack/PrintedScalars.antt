@@ -10,6 +10,7 @@ use Rattle.std.specs.Char.{IsScalar, is_ascii_digit}
 use Rattle.std.specs.Cmp.{first_so, second_so}
 use Rattle.std.specs.Str.{all_scalars}
 use Rattle.std.specs.Str.Parse.{AllDigits}
+use Prim.Native.Char.{code}
 use Rattle.fancy_lex.specs.Text.{Text}
 use Rattle.fancy_lex.specs.declared.escape.Assertion.{Assertion}
 use Rattle.fancy_lex.specs.declared.escape.Assertion.TheVariants.{StartLine, StartLineOniguruma, EndLine}
@@ -19,6 +20,7 @@ use Rattle.fancy_parts.specs.Quote.{quantifier}
 use Rattle.fancy_grammar.specs.Printable.{is_count, printable, all_printable, takes_quantifier}
 use Rattle.fancy_grammar.specs.Printed.{any_text, assertion_text, grouped, caseless, is_long, printed, operand_text}
 use Rattle.fancy_grammar.specs.Printed.{printed_all, printed_branches, barred}
+use Rattle.fancy_grammar.specs.Printed.{WHOLE, BRANCH, PIECE, OPERAND}
 use Rattle.fancy_grammar.specs.Tree.{Tree, Trees, no_trees, more_trees, any, assertion, literal, concat, alt, group}
 use Rattle.fancy_grammar.specs.Tree.{repeat, delegate}
 use Rattle.fancy_grammar.proofs.ReadBack.CountTexts.{digit_is}
@@ -29,9 +31,9 @@ quote_scalars : (c : ℕ) → IsScalar c → all_scalars (quote c) ≡ true
 unfolding quote
 quote_scalars c k =
     let P = λ (o : Option ℕ). all_scalars (quote_as c o) ≡ true in
-    cond_both (c == 10) _ _ P (λ _. refl)
-    (λ _. cond_both (c == 9) _ _ P (λ _. refl)
-    (λ _. cond_both (c == 13) _ _ P (λ _. refl)
+    cond_both (c == code "\n") _ _ P (λ _. refl)
+    (λ _. cond_both (c == code "\t") _ _ P (λ _. refl)
+    (λ _. cond_both (c == code "\r") _ _ P (λ _. refl)
     (λ _. cond_both (needs_backslash c) _ _ P (λ _. and_from _ true k refl) (λ _. and_from _ true k refl))))
 
 quotes_scalars : (s : Text) → all_scalars s ≡ true → all_scalars (quotes s) ≡ true
@@ -97,11 +99,11 @@ assertion_scalars (EndLine false) = refl
 assertion_scalars _ = refl
 
 repeat_scalars : (t : Tree) (lo hi : ℕ) (greedy : Bool) (p : ℕ) → (is_count lo && is_count hi) ≡ true →
-    all_scalars (printed t 3) ≡ true → all_scalars (printed (repeat t lo hi greedy) p) ≡ true
+    all_scalars (printed t OPERAND) ≡ true → all_scalars (printed (repeat t lo hi greedy) p) ≡ true
 repeat_scalars t lo hi greedy p counts h =
     let (l, k) = and_parts (is_count lo) (is_count hi) counts in
-    grouped_scalars (nat_lt 2 p) _
-    (scalars_append (operand_text t) (quantifier lo hi greedy) (grouped_scalars (is_long t) (printed t 3) h)
+    grouped_scalars (nat_lt PIECE p) _
+    (scalars_append (operand_text t) (quantifier lo hi greedy) (grouped_scalars (is_long t) (printed t OPERAND) h)
     (quantifier_scalars lo hi greedy (count_below lo l) (count_below hi k)))
 
 mutual
@@ -110,30 +112,30 @@ mutual
   printed_scalars (assertion a) p h = assertion_scalars a
   printed_scalars (literal s i) p h = caseless_scalars i (quotes s) (quotes_scalars s h)
   printed_scalars (delegate s i) p h = caseless_scalars i s (first_so (all_scalars s) _ h)
-  printed_scalars (concat ts) p h = grouped_scalars (nat_lt 1 p) (printed_all ts) (all_printed ts h)
-  printed_scalars (alt ts) p h = grouped_scalars (nat_lt 0 p) (printed_branches ts) (branches_printed ts h)
-  printed_scalars (group t) p h = scalars_append (printed t 0) (codes ")") (printed_scalars t 0 h) refl
+  printed_scalars (concat ts) p h = grouped_scalars (nat_lt BRANCH p) (printed_all ts) (all_printed ts h)
+  printed_scalars (alt ts) p h = grouped_scalars (nat_lt WHOLE p) (printed_branches ts) (branches_printed ts h)
+  printed_scalars (group t) p h = scalars_append (printed t WHOLE) (codes ")") (printed_scalars t WHOLE h) refl
   printed_scalars (repeat t lo hi greedy) p h =
       repeat_scalars t lo hi greedy p (second_so (takes_quantifier t) _ (second_so (printable t) _ h))
-      (printed_scalars t 3 (first_so (printable t) _ h))
+      (printed_scalars t OPERAND (first_so (printable t) _ h))
   printed_scalars _ p h = refl
 
   all_printed : (ts : Trees) → all_printable ts ≡ true → all_scalars (printed_all ts) ≡ true
   all_printed no_trees h = refl
   all_printed (more_trees t ts) h =
-      scalars_append (printed t 2) (printed_all ts) (printed_scalars t 2 (first_so (printable t) _ h))
+      scalars_append (printed t PIECE) (printed_all ts) (printed_scalars t PIECE (first_so (printable t) _ h))
       (all_printed ts (second_so (printable t) _ h))
 
   branches_printed : (ts : Trees) → all_printable ts ≡ true → all_scalars (printed_branches ts) ≡ true
   branches_printed no_trees h = refl
   branches_printed (more_trees t ts) h =
-      scalars_append (printed t 1) (barred ts) (printed_scalars t 1 (first_so (printable t) _ h))
+      scalars_append (printed t BRANCH) (barred ts) (printed_scalars t BRANCH (first_so (printable t) _ h))
       (barred_printed ts (second_so (printable t) _ h))
 
   barred_printed : (ts : Trees) → all_printable ts ≡ true → all_scalars (barred ts) ≡ true
   barred_printed no_trees h = refl
   barred_printed (more_trees t ts) h =
-      scalars_append (printed t 1) (barred ts) (printed_scalars t 1 (first_so (printable t) _ h))
+      scalars_append (printed t BRANCH) (barred ts) (printed_scalars t BRANCH (first_so (printable t) _ h))
       (barred_printed ts (second_so (printable t) _ h))
 
 -- the bytes that are printed spell the text

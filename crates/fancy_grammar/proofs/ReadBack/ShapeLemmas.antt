@@ -5,6 +5,7 @@ use Prim.Native.Char.{code}
 use Rattle.fancy_lex.specs.Text.{Text}
 use Rattle.fancy_parts.specs.Quote.{behind_backslash, quantifier}
 use Rattle.fancy_grammar.specs.Printed.{is_long}
+use Rattle.fancy_grammar.specs.Printed.{WHOLE, BRANCH, PIECE, OPERAND}
 use Rattle.fancy_grammar.specs.Quantified.{is_repeatable}
 use Rattle.fancy_grammar.specs.Tree.{Tree, Trees, no_trees, more_trees, empty, any, assertion, literal, concat, alt}
 use Rattle.fancy_grammar.specs.Tree.{group, repeat, delegate, define_group}
@@ -68,9 +69,9 @@ begins_group s c = record { clear = record { no_comment = not_asking s (clear_la
 
 -- what a quantifier is put behind begins an atom
 pub begins_repeated : (t : Tree) → is_repeatable (unicode_flags false) (normal false t) ≡ true →
-    (IsAtom t → (w : Text) → Begins (put t 3 w)) → (v : Text) → Begins (put_repeated t v)
+    (IsAtom t → (w : Text) → Begins (put t OPERAND w)) → (v : Text) → Begins (put_repeated t v)
 begins_repeated t n h v = by_length (is_long t) refl where
-  by_length : (b : Bool) → is_long t ≡ b → Begins (open_if b (put t 3 (close_if b v)))
+  by_length : (b : Bool) → is_long t ≡ b → Begins (open_if b (put t OPERAND (close_if b v)))
   by_length true e = begins_head (code ":") _ refl
   by_length false e = h (atom_of t n e) v
 
@@ -80,7 +81,7 @@ clear_if true k v h c = (begins_head (code ":") _ refl).clear
 clear_if false k v h c = h v c
 
 mutual
-  pub begins_atom : (t : Tree) → Printable t → IsAtom t → (v : Text) → Begins (put t 3 v)
+  pub begins_atom : (t : Tree) → Printable t → IsAtom t → (v : Text) → Begins (put t OPERAND v)
   begins_atom empty h i v = absurd i
   begins_atom (any a b) h i v = begins_any a b v
   begins_atom (assertion a) h i v = begins_assertion a v h
@@ -92,7 +93,7 @@ mutual
   begins_atom (delegate s false) h i v = h.begins v
   begins_atom (concat ts) h i v = begins_head (code ":") _ refl
   begins_atom (alt ts) h i v = begins_head (code ":") _ refl
-  begins_atom (group t) h i v = begins_group _ (clear_put t h 0 (code ")" ∷ v) (clear_close v))
+  begins_atom (group t) h i v = begins_group _ (clear_put t h WHOLE (code ")" ∷ v) (clear_close v))
   begins_atom (repeat t lo hi greedy) h i v = begins_head (code ":") _ refl
   begins_atom (define_group t) h i v = absurd i
   begins_atom _ h i v = absurd h
@@ -105,11 +106,11 @@ mutual
   clear_put (literal s true) h p v c = (begins_head (code "i") _ refl).clear
   clear_put (delegate s true) h p v c = (begins_head (code "i") _ refl).clear
   clear_put (delegate s false) h p v c = (h.begins v).clear
-  clear_put (concat ts) h p v c = clear_if (nat_lt 1 p) (puts ts) v (λ w e. clear_puts ts h w e) c
-  clear_put (alt ts) h p v c = clear_if (nat_lt 0 p) (put_branches ts) v (λ w e. clear_branches ts h w e) c
-  clear_put (group t) h p v c = (begins_group _ (clear_put t h 0 (code ")" ∷ v) (clear_close v))).clear
+  clear_put (concat ts) h p v c = clear_if (nat_lt BRANCH p) (puts ts) v (λ w e. clear_puts ts h w e) c
+  clear_put (alt ts) h p v c = clear_if (nat_lt WHOLE p) (put_branches ts) v (λ w e. clear_branches ts h w e) c
+  clear_put (group t) h p v c = (begins_group _ (clear_put t h WHOLE (code ")" ∷ v) (clear_close v))).clear
   clear_put (repeat t lo hi greedy) h p v c =
-      clear_if (nat_lt 2 p) (λ w. put_repeated t (quantifier lo hi greedy ++ w)) v
+      clear_if (nat_lt PIECE p) (λ w. put_repeated t (quantifier lo hi greedy ++ w)) v
       (λ w e. (begins_repeated t (h.1 false) (λ i s. begins_atom t h.0 i s) (quantifier lo hi greedy ++ w)).clear) c
   clear_put (define_group t) h p v c = c
   clear_put _ h p v c = absurd h

@@ -12,6 +12,7 @@ use Rattle.fancy_lex.proofs.TextLemmas.{bytes-append}
 use Rattle.fancy_grammar.specs.Depth.{max_depth, most_open}
 use Rattle.fancy_grammar.specs.Grammar.{Alternation, Branches, Pieces, Atom, Faults}
 use Rattle.fancy_grammar.specs.Printed.{is_long, printed}
+use Rattle.fancy_grammar.specs.Printed.{WHOLE, BRANCH, PIECE, OPERAND}
 use Rattle.fancy_grammar.specs.State.{fault}
 use Rattle.fancy_grammar.specs.Tree.{Tree, Trees, no_trees, more_trees, empty, any, assertion, literal, concat, alt}
 use Rattle.fancy_grammar.specs.Tree.{group, repeat, delegate, define_group}
@@ -42,25 +43,25 @@ left_if false d k inner v = inner d v
 
 abbrev mutual
   left : Tree → ℕ → ℕ → Text → Text
-  left (concat ts) p d v = left_if (nat_lt 1 p) d (λ w. puts ts w) (λ e w. lefts ts e w) v
-  left (alt ts) p d v = left_if (nat_lt 0 p) d (λ w. put_branches ts w) (λ e w. branch_lefts ts e w) v
-  left (group t) p d v = left_open d (code "(" ∷ put t 0 (code ")" ∷ v)) (left t 0 (d + 1) (code ")" ∷ v))
+  left (concat ts) p d v = left_if (nat_lt BRANCH p) d (λ w. puts ts w) (λ e w. lefts ts e w) v
+  left (alt ts) p d v = left_if (nat_lt WHOLE p) d (λ w. put_branches ts w) (λ e w. branch_lefts ts e w) v
+  left (group t) p d v = left_open d (code "(" ∷ put t WHOLE (code ")" ∷ v)) (left t WHOLE (d + 1) (code ")" ∷ v))
   left (repeat t lo hi greedy) p d v =
-      left_if (nat_lt 2 p) d (λ w. put_repeated t (quantifier lo hi greedy ++ w))
-      (λ e w. left_if (is_long t) e (put t 3) (left t 3) (quantifier lo hi greedy ++ w)) v
+      left_if (nat_lt PIECE p) d (λ w. put_repeated t (quantifier lo hi greedy ++ w))
+      (λ e w. left_if (is_long t) e (put t OPERAND) (left t OPERAND) (quantifier lo hi greedy ++ w)) v
   left t p d v = put t p v
 
   lefts : Trees → ℕ → Text → Text
   lefts no_trees d v = v
-  lefts (more_trees t ts) d v = if nat_le max_depth (d + nest t 2) then left t 2 d (puts ts v) else lefts ts d v
+  lefts (more_trees t ts) d v = if nat_le max_depth (d + nest t PIECE) then left t PIECE d (puts ts v) else lefts ts d v
 
   branch_lefts : Trees → ℕ → Text → Text
   branch_lefts no_trees d v = v
   branch_lefts (more_trees t ts) d v =
-      if nat_le max_depth (d + nest t 1) then left t 1 d (put_barred ts v) else branch_lefts ts d v
+      if nat_le max_depth (d + nest t BRANCH) then left t BRANCH d (put_barred ts v) else branch_lefts ts d v
 
 abbrev repeated_left : Tree → ℕ → Text → Text
-repeated_left t d v = left_if (is_long t) d (put t 3) (left t 3) v
+repeated_left t d v = left_if (is_long t) d (put t OPERAND) (left t OPERAND) v
 
 -- What k prints in front of v, with m groups nested, fails where o leaves.
 abbrev AtomFails : Bool → ℕ → Text → Text → Type 0
@@ -93,8 +94,9 @@ record FailsBy (u : Bool) (k3 k2 k1 k0 : Text → Text) (m3 m2 m1 m0 : ℕ) (o3 
 
 abbrev Fails : Bool → Tree → Type 0
 Fails u t =
-    FailsBy u (put t 3) (put t 2) (put t 1) (put t 0) (nest t 3) (nest t 2) (nest t 1) (nest t 0) (left t 3) (left t 2)
-    (left t 1) (left t 0)
+    FailsBy u (put t OPERAND) (put t PIECE) (put t BRANCH) (put t WHOLE) (nest t OPERAND) (nest t PIECE)
+    (nest t BRANCH) (nest t WHOLE) (left t OPERAND) (left t PIECE)
+    (left t BRANCH) (left t WHOLE)
 
 abbrev EachFails : Bool → Trees → Type 0
 EachFails u no_trees = Unit {0}
@@ -211,42 +213,42 @@ assertion_fails u a h = by_none u (put_assertion a) (λ d v. put_assertion a v)
 
 group_fails : (u : Bool) (t : Tree) → Printable t → Fails u t → Fails u (group t)
 group_fails u t h r =
-    let k = λ (v : Text). code "(" ∷ put t 0 (code ")" ∷ v) in
-    let clear = λ (v : Text). clear_put t h 0 (code ")" ∷ v) (clear_close v) in
-    by_atom u k (1 + nest t 0) (λ d v. left_open d (k v) (left t 0 (d + 1) (code ")" ∷ v)))
-    (λ v. begins_group (put t 0 (code ")" ∷ v)) (clear v))
-    (λ d v l m. opened u d (put t 0 (code ")" ∷ v)) (left t 0 (d + 1) (code ")" ∷ v))
-    (λ b. fails_group d (unicode_flags u) recursion_exceeded _ (put t 0 (code ")" ∷ v)) (kept_unicode u) b (clear v)
+    let k = λ (v : Text). code "(" ∷ put t WHOLE (code ")" ∷ v) in
+    let clear = λ (v : Text). clear_put t h WHOLE (code ")" ∷ v) (clear_close v) in
+    by_atom u k (1 + nest t WHOLE) (λ d v. left_open d (k v) (left t WHOLE (d + 1) (code ")" ∷ v)))
+    (λ v. begins_group (put t WHOLE (code ")" ∷ v)) (clear v))
+    (λ d v l m. opened u d (put t WHOLE (code ")" ∷ v)) (left t WHOLE (d + 1) (code ")" ∷ v))
+    (λ b. fails_group d (unicode_flags u) recursion_exceeded _ (put t WHOLE (code ")" ∷ v)) (kept_unicode u) b (clear v)
     (r.whole (d + 1) (code ")" ∷ v) b (omega arith) (ends_close v))) l)
 
 concat_fails : (u : Bool) (ts : Trees) → ArePrintable ts → EachReads u ts → EachFails u ts →
-    FailsRun u (puts ts) (nests ts 2) (lefts ts)
+    FailsRun u (puts ts) (nests ts PIECE) (lefts ts)
 concat_fails u no_trees h r q d v l m c = absurd (omega arith)
 concat_fails u (more_trees t ts) h r q d v l m c =
-    cond_both (nat_le max_depth (d + nest t 2)) _ _ (λ at. PiecesFail u d (put t 2 (puts ts v)) at)
-    (λ yes. q.0.run d (puts ts v) l (leb-true max_depth (d + nest t 2) yes) (clear_puts ts h.1 v c))
+    cond_both (nat_le max_depth (d + nest t PIECE)) _ _ (λ at. PiecesFail u d (put t PIECE (puts ts v)) at)
+    (λ yes. q.0.run d (puts ts v) l (leb-true max_depth (d + nest t PIECE) yes) (clear_puts ts h.1 v c))
     (λ no.
-    let b = leb-false max_depth (d + nest t 2) no in
+    let b = leb-false max_depth (d + nest t PIECE) no in
     (r.0.run d (puts ts v) b (clear_puts ts h.1 v c)).pieces _
     (concat_fails u ts h.1 r.1 q.1 d v l (omega arith) c))
 
 alt_fails : (u : Bool) (ts : Trees) → EachReads u ts → EachFails u ts → (d : ℕ) (v : Text) → d < max_depth →
-    max_depth ≤ d + nests ts 1 → Ends v
+    max_depth ≤ d + nests ts BRANCH → Ends v
     → BranchesFail u d (put_branches ts v) (branch_lefts ts d v)
 alt_fails u no_trees r q d v l m e = absurd (omega arith)
 alt_fails u (more_trees t no_trees) r q d v l m e =
-    cond_both (nat_le max_depth (d + nest t 1)) _ _ (λ at. BranchesFail u d (put t 1 v) at)
-    (λ yes. fails_first d (unicode_flags u) recursion_exceeded _ (put t 1 v)
-    (q.0.branch d v l (leb-true max_depth (d + nest t 1) yes) e.stops.clear))
-    (λ no. let b = leb-false max_depth (d + nest t 1) no in absurd (omega arith))
+    cond_both (nat_le max_depth (d + nest t BRANCH)) _ _ (λ at. BranchesFail u d (put t BRANCH v) at)
+    (λ yes. fails_first d (unicode_flags u) recursion_exceeded _ (put t BRANCH v)
+    (q.0.branch d v l (leb-true max_depth (d + nest t BRANCH) yes) e.stops.clear))
+    (λ no. let b = leb-false max_depth (d + nest t BRANCH) no in absurd (omega arith))
 alt_fails u (more_trees t (more_trees x xs)) r q d v l m e =
-    let rest = put x 1 (put_barred xs v) in
-    cond_both (nat_le max_depth (d + nest t 1)) _ _ (λ at. BranchesFail u d (put t 1 (code "|" ∷ rest)) at)
-    (λ yes. fails_first d (unicode_flags u) recursion_exceeded _ (put t 1 (code "|" ∷ rest))
-    (q.0.branch d (code "|" ∷ rest) l (leb-true max_depth (d + nest t 1) yes) (stops_bar rest).clear))
+    let rest = put x BRANCH (put_barred xs v) in
+    cond_both (nat_le max_depth (d + nest t BRANCH)) _ _ (λ at. BranchesFail u d (put t BRANCH (code "|" ∷ rest)) at)
+    (λ yes. fails_first d (unicode_flags u) recursion_exceeded _ (put t BRANCH (code "|" ∷ rest))
+    (q.0.branch d (code "|" ∷ rest) l (leb-true max_depth (d + nest t BRANCH) yes) (stops_bar rest).clear))
     (λ no.
-    let b = leb-false max_depth (d + nest t 1) no in
-    fails_more d (unicode_flags u) recursion_exceeded _ (put t 1 (code "|" ∷ rest)) rest _
+    let b = leb-false max_depth (d + nest t BRANCH) no in
+    fails_more d (unicode_flags u) recursion_exceeded _ (put t BRANCH (code "|" ∷ rest)) rest _
     (r.0.branch d (code "|" ∷ rest) b (stops_bar rest))
     (alt_fails u (more_trees x xs) r.1 q.1 d v l (omega arith) e))
 
@@ -258,12 +260,13 @@ fails_if u false k m o a w = λ d v l h. a d v l (omega arith)
 
 -- what a quantifier is put behind
 repeated_fails : (u : Bool) (t : Tree) → Fails u t →
-    FailsAtom u (put_repeated t) (one_if (is_long t) + nest t 3) (repeated_left t)
+    FailsAtom u (put_repeated t) (one_if (is_long t) + nest t OPERAND) (repeated_left t)
 repeated_fails u t q =
-    fails_if u (is_long t) (put t 3) (nest t 3) (left t 3) q.atom (to_whole u (put t 3) (nest t 3) (left t 3) q.high)
+    fails_if u (is_long t) (put t OPERAND) (nest t OPERAND) (left t OPERAND) q.atom
+    (to_whole u (put t OPERAND) (nest t OPERAND) (left t OPERAND) q.high)
 
 repeat_fails : (u : Bool) (t : Tree) (lo hi : ℕ) (greedy : Bool) → Printable (repeat t lo hi greedy) → Fails u t
-    → FailsRun u (λ v. put_repeated t (quantifier lo hi greedy ++ v)) (one_if (is_long t) + nest t 3)
+    → FailsRun u (λ v. put_repeated t (quantifier lo hi greedy ++ v)) (one_if (is_long t) + nest t OPERAND)
     (λ d v. repeated_left t d (quantifier lo hi greedy ++ v))
 repeat_fails u t lo hi greedy h q d v l m c =
     let w = quantifier lo hi greedy ++ v in
@@ -285,14 +288,14 @@ mutual
       (λ v. begins_head (code "i") _ refl)
   fails u (delegate s false) h = by_none u (λ v. s ++ v) (λ d v. s ++ v)
   fails u (concat ts) h =
-      by_branch u (puts ts) (nests ts 2) (lefts ts) (concat_fails u ts h (reads_each u ts h) (fails_each u ts h))
+      by_branch u (puts ts) (nests ts PIECE) (lefts ts) (concat_fails u ts h (reads_each u ts h) (fails_each u ts h))
   fails u (alt ts) h =
-      by_whole u (put_branches ts) (nests ts 1) (branch_lefts ts)
+      by_whole u (put_branches ts) (nests ts BRANCH) (branch_lefts ts)
       (λ d v l m e. fails_whole d (unicode_flags u) recursion_exceeded _ (put_branches ts v)
       (alt_fails u ts (reads_each u ts h) (fails_each u ts h) d v l m e))
   fails u (group t) h = group_fails u t h (fails u t h)
   fails u (repeat t lo hi greedy) h =
-      by_run u (λ v. put_repeated t (quantifier lo hi greedy ++ v)) (one_if (is_long t) + nest t 3)
+      by_run u (λ v. put_repeated t (quantifier lo hi greedy ++ v)) (one_if (is_long t) + nest t OPERAND)
       (λ d v. repeated_left t d (quantifier lo hi greedy ++ v)) (repeat_fails u t lo hi greedy h (fails u t h.0))
   fails u (define_group t) h = by_none u (λ v. v) (λ d v. v)
   fails u _ h = absurd h
@@ -340,48 +343,51 @@ put_bytes t p v = ap bytes (put_text t p v) ∙ bytes-append (printed t p) v
 
 mutual
   left_bytes : (t : Tree) (p d : ℕ) (v : Text) → place t p d + bytes (left t p d v) ≡ bytes (put t p v)
-  left_bytes (concat ts) p d v = if_bytes (nat_lt 1 p) d (puts ts) (places ts) (lefts ts) v (λ e w. lefts_bytes ts e w)
+  left_bytes (concat ts) p d v =
+      if_bytes (nat_lt BRANCH p) d (puts ts) (places ts) (lefts ts) v (λ e w. lefts_bytes ts e w)
   left_bytes (alt ts) p d v =
-      if_bytes (nat_lt 0 p) d (put_branches ts) (branch_places ts) (branch_lefts ts) v (λ e w. branches_bytes ts e w)
+      if_bytes (nat_lt WHOLE p) d (put_branches ts) (branch_places ts) (branch_lefts ts) v
+      (λ e w. branches_bytes ts e w)
   left_bytes (group t) p d v =
-      open_bytes d 1 (place t 0 (d + 1)) (code "(" ∷ put t 0 (code ")" ∷ v)) (left t 0 (d + 1) (code ")" ∷ v))
-      (omega (arith, left_bytes t 0 (d + 1) (code ")" ∷ v), paren_bytes (put t 0 (code ")" ∷ v))))
+      open_bytes d 1 (place t WHOLE (d + 1)) (code "(" ∷ put t WHOLE (code ")" ∷ v))
+      (left t WHOLE (d + 1) (code ")" ∷ v))
+      (omega (arith, left_bytes t WHOLE (d + 1) (code ")" ∷ v), paren_bytes (put t WHOLE (code ")" ∷ v))))
   left_bytes (repeat t lo hi greedy) p d v =
-      if_bytes (nat_lt 2 p) d (λ w. put_repeated t (quantifier lo hi greedy ++ w))
-      (λ e. at_open_if (is_long t) e (place t 3)) (λ e w. repeated_left t e (quantifier lo hi greedy ++ w)) v
-      (λ e w. if_bytes (is_long t) e (put t 3) (place t 3) (left t 3) (quantifier lo hi greedy ++ w)
-      (λ c x. left_bytes t 3 c x))
+      if_bytes (nat_lt PIECE p) d (λ w. put_repeated t (quantifier lo hi greedy ++ w))
+      (λ e. at_open_if (is_long t) e (place t OPERAND)) (λ e w. repeated_left t e (quantifier lo hi greedy ++ w)) v
+      (λ e w. if_bytes (is_long t) e (put t OPERAND) (place t OPERAND) (left t OPERAND) (quantifier lo hi greedy ++ w)
+      (λ c x. left_bytes t OPERAND c x))
   left_bytes _ p d v = omega arith
 
   lefts_bytes : (ts : Trees) (d : ℕ) (v : Text) → places ts d + bytes (lefts ts d v) ≡ bytes (puts ts v)
   lefts_bytes no_trees d v = omega arith
   lefts_bytes (more_trees t ts) d v =
-      cond_bytes (nat_le max_depth (d + nest t 2)) _ _ _ _ _ (left_bytes t 2 d (puts ts v))
-      (omega (arith, put_bytes t 2 (puts ts v), lefts_bytes ts d v))
+      cond_bytes (nat_le max_depth (d + nest t PIECE)) _ _ _ _ _ (left_bytes t PIECE d (puts ts v))
+      (omega (arith, put_bytes t PIECE (puts ts v), lefts_bytes ts d v))
 
   branches_bytes : (ts : Trees) (d : ℕ) (v : Text) →
       branch_places ts d + bytes (branch_lefts ts d v) ≡ bytes (put_branches ts v)
   branches_bytes no_trees d v = omega arith
   branches_bytes (more_trees t ts) d v =
-      cond_bytes (nat_le max_depth (d + nest t 1)) _ _ _ _ _ (left_bytes t 1 d (put_barred ts v))
-      (omega (arith, put_bytes t 1 (put_barred ts v), barred_bytes ts d v))
+      cond_bytes (nat_le max_depth (d + nest t BRANCH)) _ _ _ _ _ (left_bytes t BRANCH d (put_barred ts v))
+      (omega (arith, put_bytes t BRANCH (put_barred ts v), barred_bytes ts d v))
 
   barred_bytes : (ts : Trees) (d : ℕ) (v : Text) →
       barred_places ts d + bytes (branch_lefts ts d v) ≡ bytes (put_barred ts v)
   barred_bytes no_trees d v = omega arith
   barred_bytes (more_trees t ts) d v =
-      let b = nat_le max_depth (d + nest t 1) in
-      let h : (if b then place t 1 d else bytes (printed t 1) + barred_places ts d) + bytes
-      (if b then left t 1 d (put_barred ts v) else branch_lefts ts d v) ≡ bytes (put t 1 (put_barred ts v)) =
-      cond_bytes b _ _ _ _ _ (left_bytes t 1 d (put_barred ts v))
-      (omega (arith, put_bytes t 1 (put_barred ts v), barred_bytes ts d v)) in
-      omega (arith, h, bar_bytes (put t 1 (put_barred ts v)))
+      let b = nat_le max_depth (d + nest t BRANCH) in
+      let h : (if b then place t BRANCH d else bytes (printed t BRANCH) + barred_places ts d) + bytes
+      (if b then left t BRANCH d (put_barred ts v) else branch_lefts ts d v) ≡ bytes (put t BRANCH (put_barred ts v)) =
+      cond_bytes b _ _ _ _ _ (left_bytes t BRANCH d (put_barred ts v))
+      (omega (arith, put_bytes t BRANCH (put_barred ts v), barred_bytes ts d v)) in
+      omega (arith, h, bar_bytes (put t BRANCH (put_barred ts v)))
 
-place_high : (t : Tree) (p : ℕ) → 3 ≤ p → place t p 0 ≡ place t 3 0
-place_high (concat ts) p h = ap (λ b. at_open_if b 0 (places ts)) (lt-ltb 1 p (omega arith))
-place_high (alt ts) p h = ap (λ b. at_open_if b 0 (branch_places ts)) (lt-ltb 0 p (omega arith))
+place_high : (t : Tree) (p : ℕ) → 3 ≤ p → place t p 0 ≡ place t OPERAND 0
+place_high (concat ts) p h = ap (λ b. at_open_if b 0 (places ts)) (lt-ltb BRANCH p (omega arith))
+place_high (alt ts) p h = ap (λ b. at_open_if b 0 (branch_places ts)) (lt-ltb WHOLE p (omega arith))
 place_high (repeat t lo hi greedy) p h =
-    ap (λ b. at_open_if b 0 (λ e. at_open_if (is_long t) e (place t 3))) (lt-ltb 2 p (omega arith))
+    ap (λ b. at_open_if b 0 (λ e. at_open_if (is_long t) e (place t OPERAND))) (lt-ltb PIECE p (omega arith))
 place_high t p h = refl
 
 abbrev DeepFrom : Bool → Text → ℕ → Type 0
@@ -402,12 +408,14 @@ at_level t p u h w =
 -- where too many groups nest, the text fails at the first parenthesis that opens too deep
 pub deep_fails : (t : Tree) (p : ℕ) (u : Bool) → Printable t → max_depth ≤ nest t p →
     Faults (unicode_flags u) (printed t p) recursion_exceeded (place t p 0)
-deep_fails t zero u h m = at_level t 0 u m (fails u t h).whole
-deep_fails t (suc zero) u h m = at_level t 1 u m (to_whole u (put t 1) (nest t 1) (left t 1) (fails u t h).branch)
-deep_fails t (suc (suc zero)) u h m = at_level t 2 u m (to_whole u (put t 2) (nest t 2) (left t 2) (fails u t h).run)
+deep_fails t zero u h m = at_level t WHOLE u m (fails u t h).whole
+deep_fails t (suc zero) u h m =
+    at_level t BRANCH u m (to_whole u (put t BRANCH) (nest t BRANCH) (left t BRANCH) (fails u t h).branch)
+deep_fails t (suc (suc zero)) u h m =
+    at_level t PIECE u m (to_whole u (put t PIECE) (nest t PIECE) (left t PIECE) (fails u t h).run)
 deep_fails t (suc (suc (suc p))) u h m =
     let big : 3 ≤ suc (suc (suc p)) = omega arith in
     subst (DeepFrom u (printed t (suc (suc (suc p))))) (sym (place_high t (suc (suc (suc p))) big))
-    (subst (λ s. DeepFrom u s (place t 3 0)) (sym (text_high t (suc (suc (suc p))) big))
-    (at_level t 3 u (omega (arith, nest_high t (suc (suc (suc p))) big))
-    (to_whole u (put t 3) (nest t 3) (left t 3) (fails u t h).high)))
+    (subst (λ s. DeepFrom u s (place t OPERAND 0)) (sym (text_high t (suc (suc (suc p))) big))
+    (at_level t OPERAND u (omega (arith, nest_high t (suc (suc (suc p))) big))
+    (to_whole u (put t OPERAND) (nest t OPERAND) (left t OPERAND) (fails u t h).high)))
