@@ -3,7 +3,7 @@ use Rattle.std.proofs.Common.{◌≡◌, Bool, true, false, ◌∷◌, ◌++◌}
 use Rattle.std.proofs.Common.{refl, ap, sym, ◌∙◌, append-nil}
 use Rattle.std.specs.List.{flat_map}
 use Rattle.fancy_grammar.specs.Label.{ast_group}
-use Rattle.fancy_grammar.specs.PatternWalk.{needs_table, needs_table_all}
+use Rattle.fancy_grammar.specs.PatternWalk.{needs_alone, needs_listed, all_listed}
 use Rattle.fancy_grammar.specs.PatternNeeds.{no_needs, leaf_needs, first, both, joined, needs, needs_all}
 use Rattle.fancy_grammar.specs.Tree.{Tree, leaf, over, row, Trees, no_trees, more_trees, trees_of, list_of, children}
 use Rattle.fancy_grammar.specs.declared.needs.Need.{Need}
@@ -81,11 +81,6 @@ both-behind Torn = refl
 pub both_joins : IsJoin both
 both_joins = record { assoc = both-assoc; before = λ a. refl; behind = both-behind }
 
--- what a node needs itself, and not those in it
-abbrev pub own_needs : Bool → Tree → Needs
-own_needs o (leaf l) = leaf_needs o l
-own_needs o _ = no_needs
-
 pub listed : (ts : Trees) → trees_of (list_of ts) ≡ ts
 listed no_trees = refl
 listed (more_trees t ts) = ap (more_trees t) (listed ts)
@@ -117,7 +112,7 @@ module _ (join : Need → Need → Need) (j : IsJoin join) where
 
   -- a node needs what it needs itself, and what its children need
   pub needs_node : (o : Bool) (t : Tree) →
-      needs join o t ≡ joined join (own_needs o t) (needs_all join o (trees_of (children t)))
+      needs join o t ≡ joined join (needs_alone o t) (needs_all join o (trees_of (children t)))
   needs_node o (leaf l) = sym (joined-behind (leaf_needs o l))
   needs_node o (over (ast_group name place) t) = sym (joined-behind no_needs)
   needs_node o (over w t) = sym (joined-before (joined join (needs join o t) no_needs) ∙ joined-behind (needs join o t))
@@ -131,14 +126,14 @@ module _ (join : Need → Need → Need) (j : IsJoin join) where
 
 -- ---- the table of needs
 
-tables_listed : (o : Bool) (ts : Trees) → needs_table_all o ts ≡ flat_map (needs_table o) (list_of ts)
+tables_listed : (o : Bool) (ts : Trees) → all_listed o ts ≡ flat_map (needs_listed o) (list_of ts)
 tables_listed o no_trees = refl
-tables_listed o (more_trees t ts) = ap (λ l. needs_table o t ++ l) (tables_listed o ts)
+tables_listed o (more_trees t ts) = ap (λ l. needs_listed o t ++ l) (tables_listed o ts)
 
 -- a node's row, and behind it those of its children
 pub table_node : (o : Bool) (t : Tree) →
-    needs_table o t ≡ needs first o t ∷ flat_map (needs_table o) (children t)
+    needs_listed o t ≡ needs first o t ∷ flat_map (needs_listed o) (children t)
 table_node o (leaf l) = refl
 table_node o (over (ast_group name place) t) = refl
-table_node o (over w t) = ap (λ l. needs first o t ∷ l) (sym (append-nil (needs_table o t)))
+table_node o (over w t) = ap (λ l. needs first o t ∷ l) (sym (append-nil (needs_listed o t)))
 table_node o (row r ts) = ap (λ l. needs_all first o ts ∷ l) (tables_listed o ts)

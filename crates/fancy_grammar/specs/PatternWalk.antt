@@ -7,18 +7,23 @@ use Rattle.fancy_grammar.specs.Tree.{Tree, leaf, over, row, Trees, no_trees, mor
 use Rattle.fancy_grammar.specs.declared.needs.Needs.{Needs}
 use Rattle.fancy_grammar.specs.declared.position.Position.{Position}
 
+-- what a leaf needs; nothing of a tree that holds others
+abbrev pub needs_alone : Bool → Tree → Needs
+needs_alone o (leaf l) = leaf_needs o l
+needs_alone o _ = no_needs
+
 abbrev mutual
   -- for each node and each flag what its first leaf needs that needs something; what a capturing group holds is passed
   -- over
-  pub needs_table : Bool → Tree → List Needs
-  needs_table o (leaf l) = leaf_needs o l ∷ []
-  needs_table o (over (ast_group name place) t) = no_needs ∷ []
-  needs_table o (over w t) = needs first o t ∷ needs_table o t
-  needs_table o (row r ts) = needs_all first o ts ∷ needs_table_all o ts
+  pub needs_listed : Bool → Tree → List Needs
+  needs_listed o (leaf l) = leaf_needs o l ∷ []
+  needs_listed o (over (ast_group name place) t) = no_needs ∷ []
+  needs_listed o (over w t) = needs first o t ∷ needs_listed o t
+  needs_listed o (row r ts) = needs_all first o ts ∷ all_listed o ts
 
-  pub needs_table_all : Bool → Trees → List Needs
-  needs_table_all o no_trees = []
-  needs_table_all o (more_trees t ts) = needs_table o t ++ needs_table_all o ts
+  pub all_listed : Bool → Trees → List Needs
+  all_listed o no_trees = []
+  all_listed o (more_trees t ts) = needs_listed o t ++ all_listed o ts
 
 -- where what follows trees stands, each of which stands at the position
 abbrev pub behind_all : Trees → Position → Here → Here
