@@ -21,12 +21,12 @@ abbrev pub with_sign : ℕ → ℕ → ℤ
 with_sign sign n = if sign == code "-" then neg_ℤ (pos n) else pos n
 
 -- amounts are less than this, with either sign
-abbrev pub max_amount : ℕ
-max_amount = 2 ^ 63
+abbrev pub amount_bound : ℕ
+amount_bound = 2 ^ 63
 
 -- a sign and a number that an amount may have
 abbrev pub small_amount : ℕ → ℕ → Option ℤ
-small_amount sign n = if nat_lt n max_amount then Some (with_sign sign n) else None
+small_amount sign n = if nat_lt n amount_bound then Some (with_sign sign n) else None
 
 -- an amount is a sign and such a number, and no more: its value
 unfoldable pub amount : Text → Option ℤ

@@ -1,6 +1,6 @@
 //! The numbers of capturing groups, and what a reference means by them.
 ghost use Rattle.std.specs.Prelude.{◌≡◌, ℕ, ◌+◌, ◌<◌, ◌^◌, List, false, nat_le, IfOk, IsOk, OnErr, chars, is_some, map, option_map};
-ghost use Rattle.fancy_lex.specs.IdReference.{max_amount};
+ghost use Rattle.fancy_lex.specs.IdReference.{amount_bound};
 ghost use Rattle.fancy_lex.specs.NameViews.{view_target};
 ghost use Rattle.fancy_lex.specs.Text.{text_of};
 ghost use Rattle.fancy_parts.specs.Groups.{groups_of, no_groups, with_group, with_number, numbers_under, entry_of};
@@ -113,7 +113,7 @@ pub fn meaning_behind(
     role: Role,
     target: &CaptureGroupTarget,
 ) -> Result<Meaning, AllocError>
-    requires { passed < max_amount }
+    requires { passed < amount_bound }
     ensures value { IfOk result
         (λ m. meaning_of m
         ≡ means (numbers_under (groups_of groups.now).names) passed (role_of role) (view_target target.now)) }
@@ -186,7 +186,7 @@ fn group_or_none(role: Role, number: Option<usize>) -> Meaning
 
 /// The number so many groups behind those that opened, or before the next.
 fn at(passed: usize, amount: isize) -> Option<usize>
-    requires { passed < max_amount }
+    requires { passed < amount_bound }
     ensures { result ≡ at_distance passed amount }
 {
     if amount >= 0 {

@@ -1,7 +1,7 @@
 //! From a raw tree to the one that is answered: groups get their numbers, and references what they mean.
 ghost use Rattle.std.specs.Prelude.{◌≡◌, ◌+◌, ◌<◌, ◌&&◌, chars, length, IfOk, IfErr, None};
 ghost use Rattle.std.specs.List.{list_any};
-ghost use Rattle.fancy_lex.specs.IdReference.{max_amount};
+ghost use Rattle.fancy_lex.specs.IdReference.{amount_bound};
 ghost use Rattle.fancy_lex.specs.Text.{bytes};
 ghost use Rattle.fancy_parts.specs.Groups.{groups_of};
 ghost use Rattle.fancy_parts.specs.Ranks.{numbered_openings_in, is_named, named_groups};
@@ -94,7 +94,7 @@ fn answer(expr: Expr, named: bool, groups: Groups, progress: Progress) -> ExprTr
 /// Resolves the tree in its place, and answers what was noted on the way, or the first fault. A tree where nothing was
 /// met is not walked.
 fn walk(alloc: Global, tree: &mut Expr, known: &Known, met: bool) -> Result<Progress, Failure>
-    requires room { length (openings (view tree.old)) < max_amount }
+    requires room { length (openings (view tree.old)) < amount_bound }
     requires met { met ≡ has_items (items (view tree.old)) }
     ensures tree { IfOk result (λ _. view tree.new ≡ resolved_by (known_of known.now) 0 (view tree.old)) }
     ensures progress { IfOk result
@@ -113,7 +113,7 @@ fn walk(alloc: Global, tree: &mut Expr, known: &Known, met: bool) -> Result<Prog
 
 /// The groups that have a number, and whether only those with a name have one, which the flag may ask for.
 fn find_groups(alloc: Global, tree: &Expr, ignore: bool) -> Result<(bool, Found), AllocError>
-    requires { length (openings (view tree.now)) < max_amount }
+    requires { length (openings (view tree.now)) < amount_bound }
     ensures named { IfOk result (λ p. p.0 ≡ (ignore && list_any is_named (openings (view tree.now)))) }
     ensures total { IfOk result (λ p. p.1.groups.total ≡ length (numbered_openings_in p.0 (openings (view tree.now)))) }
     ensures names { IfOk result

@@ -1,7 +1,7 @@
 //! What the second walk knows, and what it notes of each reference.
 ghost use Rattle.std.specs.Prelude.{◌≡◌, ◌<◌, IfOk, IfErr, Option, Some};
 ghost use Rattle.fancy_lex.specs.Fault.{Fault};
-ghost use Rattle.fancy_lex.specs.IdReference.{max_amount};
+ghost use Rattle.fancy_lex.specs.IdReference.{amount_bound};
 ghost use Rattle.fancy_parts.specs.Groups.{meaning_of};
 ghost use Rattle.fancy_grammar.specs.Errors.{IsErrorIn};
 ghost use Rattle.fancy_syntax.specs.Notes.{IsErrorNoted, progress_of, number_meant, noted_one, form_noted, meaning_noted};
@@ -93,7 +93,7 @@ pub(super) fn refer(
     role: Role,
     target: &CaptureGroupTarget,
 ) -> Result<Option<usize>, Stopped>
-    requires { progress.old.passed < max_amount }
+    requires { progress.old.passed < amount_bound }
     ensures number { IfOk result (λ n. n ≡ number_meant known.now progress.old role target.now) }
     ensures progress { IfOk result
         (λ _. progress_of progress.new ≡ noted_one known.now progress.old reach role target.now) }

@@ -1,7 +1,7 @@
 //! The second walk: each capturing group becomes a `Group`, and each reference what it means. It stops at the first
 //! fault.
 ghost use Rattle.std.specs.Prelude.{◌≡◌, ◌+◌, ◌<◌, length, true, false, chars};
-ghost use Rattle.fancy_lex.specs.IdReference.{max_amount};
+ghost use Rattle.fancy_lex.specs.IdReference.{amount_bound};
 ghost use Rattle.fancy_lex.specs.NameViews.{view_target};
 ghost use Rattle.fancy_lex.specs.Text as text;
 ghost use Rattle.fancy_lex.specs.Text.{bytes};
@@ -28,7 +28,7 @@ pub(super) fn rewrite(
     known: &Known,
     progress: &mut Progress,
 ) -> Result<(), Stopped>
-    requires { progress.old.passed + length (openings_in (items (view tree.old))) < max_amount }
+    requires { progress.old.passed + length (openings_in (items (view tree.old))) < amount_bound }
     ensures { Walks result (known_of known.now) (progress_of progress.old) (items (view tree.old))
         progress.new
         (λ _. view tree.new ≡ resolved_by (known_of known.now) progress.old.passed (view tree.old)) }
@@ -62,7 +62,7 @@ pub(super) fn rewrite(
 #[cycle(rewrite)]
 #[inline(never)]
 fn rewrite_node(tree: &mut Expr, known: &Known, progress: &mut Progress) -> Result<(), Stopped>
-    requires passed { progress.old.passed + length (openings_in (items (view tree.old))) < max_amount }
+    requires passed { progress.old.passed + length (openings_in (items (view tree.old))) < amount_bound }
     requires node { is_node_read (view tree.old) ≡ true }
     ensures { Walks result (known_of known.now) (progress_of progress.old) (items (view tree.old))
         progress.new
@@ -88,7 +88,7 @@ fn rewrite_node(tree: &mut Expr, known: &Known, progress: &mut Progress) -> Resu
 #[cycle(rewrite)]
 #[inline(never)]
 fn rewrite_group(tree: &mut Expr, known: &Known, progress: &mut Progress) -> Result<(), Stopped>
-    requires passed { progress.old.passed + length (openings_in (items (view tree.old))) < max_amount }
+    requires passed { progress.old.passed + length (openings_in (items (view tree.old))) < amount_bound }
     requires group { is_group_read (view tree.old) ≡ true }
     ensures { Walks result (known_of known.now) (progress_of progress.old) (items (view tree.old)) progress.new
         (λ _. view tree.new ≡ resolved_by (known_of known.now) progress.old.passed (view tree.old)) }
@@ -126,7 +126,7 @@ fn resolve_group(
     known: &Known,
     progress: &mut Progress,
 ) -> Result<Expr, Stopped>
-    requires passed { progress.old.passed + length (openings_in (items (view_ast node reach))) < max_amount }
+    requires passed { progress.old.passed + length (openings_in (items (view_ast node reach))) < amount_bound }
     requires group { is_reference node ≡ false }
     ensures { Walks result (known_of known.now) (progress_of progress.old) (items (view_ast node reach))
         progress.new
@@ -152,7 +152,7 @@ fn resolve_reference(
     known: &Known,
     progress: &mut Progress,
 ) -> Result<Option<Expr>, Stopped>
-    requires passed { progress.old.passed < max_amount }
+    requires passed { progress.old.passed < amount_bound }
     requires reference { is_reference node.now ≡ true }
     ensures { Walks result (known_of known.now) (progress_of progress.old) (items (view_ast node.now reach))
         progress.new
@@ -203,7 +203,7 @@ fn resolve_backref(
     known: &Known,
     progress: &mut Progress,
 ) -> Result<Option<Expr>, Stopped>
-    requires { progress.old.passed < max_amount }
+    requires { progress.old.passed < amount_bound }
     ensures { let node = ast_backref (view_target target.now) casei relative_recursion_level in
         Walks result (known_of known.now) (progress_of progress.old) (items (ast_node node reach)) progress.new
         (λ o. resolved_or (ast_node node (text.place_at (bytes (chars known.now.pattern.now)) reach)) o
@@ -230,7 +230,7 @@ fn rewrite_absent(
     known: &Known,
     progress: &mut Progress,
 ) -> Result<(), Stopped>
-    requires { progress.old.passed + length (openings_in (items (view_absent absent.old))) < max_amount }
+    requires { progress.old.passed + length (openings_in (items (view_absent absent.old))) < amount_bound }
     ensures { Walks result (known_of known.now) (progress_of progress.old) (items (view_absent absent.old))
         progress.new
         (λ _. view_absent absent.new
@@ -255,7 +255,7 @@ fn rewrite_child(
     known: &Known,
     progress: &mut Progress,
 ) -> Result<(), Stopped>
-    requires { progress.old.passed + length (openings_in (items (view child.old.value))) < max_amount }
+    requires { progress.old.passed + length (openings_in (items (view child.old.value))) < amount_bound }
     ensures { Walks result (known_of known.now) (progress_of progress.old) (items (view child.old.value))
         progress.new
         (λ _. view child.new.value ≡ resolved_by (known_of known.now) progress.old.passed (view child.old.value)) }
@@ -267,7 +267,7 @@ fn rewrite_child(
 #[cycle(rewrite)]
 #[inline(never)]
 fn rewrite_all(trees: &mut Vec<Expr>, known: &Known, progress: &mut Progress) -> Result<(), Stopped>
-    requires { progress.old.passed + length (openings_in (items_all (trees_of (views trees.old.items)))) < max_amount }
+    requires { progress.old.passed + length (openings_in (items_all (trees_of (views trees.old.items)))) < amount_bound }
     ensures { Walks result (known_of known.now) (progress_of progress.old)
         (items_all (trees_of (views trees.old.items))) progress.new
         (λ _. trees_of (views trees.new.items)

@@ -1,6 +1,6 @@
 //! The first walk: the groups that have a number, the numbers of each name, and whether there is anything to resolve.
 ghost use Rattle.std.specs.Prelude.{chars, ◌≡◌, ◌+◌, ◌<◌, ◌||◌, [], false, if◌then◌else◌, length, IfOk, option_map};
-ghost use Rattle.fancy_lex.specs.IdReference.{max_amount};
+ghost use Rattle.fancy_lex.specs.IdReference.{amount_bound};
 ghost use Rattle.fancy_parts.specs.Groups.{groups_of, no_groups, with_group};
 ghost use Rattle.fancy_parts.specs.Ranks.{is_counted};
 ghost use Rattle.fancy_grammar.specs.Items.{items, items_all, openings_in};
@@ -44,7 +44,7 @@ pub(super) fn survey(
     named: bool,
     found: &mut Found,
 ) -> Result<(), AllocError>
-    requires { found.old.groups.total + length (openings_in (items (view tree.now))) < max_amount }
+    requires { found.old.groups.total + length (openings_in (items (view tree.now))) < amount_bound }
     ensures found { IfOk result
         (λ _. groups_of found.new.groups
         ≡ spec.groups_after named (groups_of found.old.groups) (items (view tree.now))) }
@@ -110,7 +110,7 @@ fn survey_node(
     named: bool,
     found: &mut Found,
 ) -> Result<(), AllocError>
-    requires { found.old.groups.total + length (openings_in (items (view_ast node.now reach))) < max_amount }
+    requires { found.old.groups.total + length (openings_in (items (view_ast node.now reach))) < amount_bound }
     ensures found { IfOk result
         (λ _. groups_of found.new.groups
         ≡ spec.groups_after named (groups_of found.old.groups) (items (view_ast node.now reach))) }
@@ -142,7 +142,7 @@ fn survey_group(
     named: bool,
     found: &mut Found,
 ) -> Result<(), AllocError>
-    requires { found.old.groups.total + 1 + length (openings_in (items (view inner.now))) < max_amount }
+    requires { found.old.groups.total + 1 + length (openings_in (items (view inner.now))) < amount_bound }
     ensures found { let name = option_map (λ t. chars t.now) name.entry in
         let before = groups_of found.old.groups in
         let opened = if is_counted named name then with_group before name else before in
@@ -164,7 +164,7 @@ fn survey_absent(
     named: bool,
     found: &mut Found,
 ) -> Result<(), AllocError>
-    requires { found.old.groups.total + length (openings_in (items (view_absent absent.now))) < max_amount }
+    requires { found.old.groups.total + length (openings_in (items (view_absent absent.now))) < amount_bound }
     ensures found { IfOk result
         (λ _. groups_of found.new.groups
         ≡ spec.groups_after named (groups_of found.old.groups) (items (view_absent absent.now))) }
@@ -191,7 +191,7 @@ fn survey_all(
     named: bool,
     found: &mut Found,
 ) -> Result<(), AllocError>
-    requires { found.old.groups.total + length (openings_in (items_all (trees_of (views trees.now)))) < max_amount }
+    requires { found.old.groups.total + length (openings_in (items_all (trees_of (views trees.now)))) < amount_bound }
     ensures found { IfOk result
         (λ _. groups_of found.new.groups
         ≡ spec.groups_after named (groups_of found.old.groups) (items_all (trees_of (views trees.now)))) }
