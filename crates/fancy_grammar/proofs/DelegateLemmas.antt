@@ -91,7 +91,8 @@ module _ (bs : List ℕ) (f : Flags) (is : f ≡ flags_of 0) where
 -- the answer where a reading failed, unless memory ran out
 pub failed : {A : Type 0} (r : Result Bool AllocError) (error : Failure) (o : Reading A) (x : Bool) →
     IfOk r (λ b. b ≡ false) →
-    IfOk r (λ _. error ≡ OutOfMemory → ⊥) → IfFailed error (λ k p. o ≡ fault_at p k) → ((e : Fault) → o ≡ fails e → false ≡ x) →
+    IfOk r (λ _. error ≡ OutOfMemory → ⊥) → IfFailed error (λ k p. o ≡ fault_at p k) →
+    ((e : Fault) → o ≡ fails e → false ≡ x) →
     IfOk r (λ b. b ≡ x)
 failed (Ok b) (At p k) o x is in_memory f faulty = is ∙ faulty (record { reach = p; kind = kind_of k }) f
 failed (Ok b) OutOfMemory o x is in_memory f faulty = absurd (in_memory refl)

@@ -51,8 +51,8 @@ is_long (literal s true) = false
 is_long (literal (c ∷ d ∷ s) false) = true
 is_long _ = false
 
--- the precedences: of a whole pattern and of the inside of a group, of a branch, of a piece in a row of them, and of what
--- a quantifier stands behind
+-- the precedences: of a whole pattern and of the inside of a group, of a branch, of a piece in a row of them, and of
+-- what a quantifier stands behind
 abbrev pub WHOLE : ℕ
 WHOLE = 0
 

@@ -367,8 +367,9 @@ boundary_none : (x : Bool) (p : ℕ) (negated : Bool) (t : Text) → NoDelegate 
 unfolding boundary named_boundary
 boundary_none x p negated t =
     none_then (layout_reading (layout x t)) _
-    (λ _ v. choose_both NoDelegate (strip open_brace v) _ _ (λ inside _. none_then (layout_reading (layout x inside)) _ (λ _ w.
-    none_if (at_count w) _ _ tt
+    (λ _ v. choose_both NoDelegate (strip open_brace v) _ _
+    (λ inside _. none_then (layout_reading (layout x inside)) _
+    (λ _ w. none_if (at_count w) _ _ tt
     (none_then (name x p (suc _) inside) _
     (λ word r. choose_both NoDelegate (boundary_of_name negated word) _ _ (λ a _. tt) tt)))) tt)
 
