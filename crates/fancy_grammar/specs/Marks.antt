@@ -8,7 +8,7 @@ use Rattle.fancy_lex.specs.Target.{Target, by_number}
 use Rattle.fancy_lex.specs.Text.{Text, bytes, place_at}
 use Rattle.fancy_lex.specs.declared.flags.Flags.{Flags}
 use Rattle.fancy_parts.specs.Meaning.{Role, back_reference, call, AnyReference, Meaning, number}
-use Rattle.fancy_parts.specs.Ranks.{only_named, numbered_openings_in, named_groups}
+use Rattle.fancy_parts.specs.Ranks.{only_named, numbered_openings, named_groups}
 use Rattle.fancy_parts.specs.Written.{is_numeric}
 use Rattle.fancy_grammar.specs.Items.{openings, meanings}
 use Rattle.fancy_grammar.specs.Tree.{Tree}
@@ -48,8 +48,7 @@ is_call_of_all _ _ = false
 -- the marks of a raw tree that was read from the text, under the flags that are handed in
 abbrev pub marks : Flags → Text → Tree → Marks
 marks f text r =
-    let named = only_named f (openings r) in
-    let groups = numbered_openings_in named (openings r) in
+    let groups = numbered_openings f (openings r) in
     let total = length groups in
     let references = meanings f r in
     record {
@@ -61,5 +60,5 @@ marks f text r =
       self_recursive = list_any (λ x. is_call_of_all x.0.role x.0.target) references;
       total_groups = total;
       out_of_range_backref = find (λ n. nat_lt total n) (back_numbers references);
-      numbered_groups_ignored = named;
+      numbered_groups_ignored = only_named f (openings r);
     }

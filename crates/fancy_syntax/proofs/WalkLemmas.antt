@@ -50,9 +50,9 @@ same_end : (k : Known) (s p : Progress) (l x y : List Item) → l ≡ x ++ y →
 same_end k s p l x y h e =
     ap (λ q. progress_after k q y) e ∙ sym (noted_append k s x y) ∙ ap (progress_after k s) (sym h)
 
-pub walk_ends : {A : Type 0} (r : Result A Stopped) (k : Known) (s p : Progress) (l x y : List Item) (after : code.Progress)
-    (P Q : A → Type 0) → l ≡ x ++ y → p ≡ progress_after k s x → ((a : A) → P a → Q a) → Walks r k p y after P →
-    Walks r k s l after Q
+pub walk_ends : {A : Type 0} (r : Result A Stopped) (k : Known) (s p : Progress) (l x y : List Item)
+    (after : code.Progress) (P Q : A → Type 0) → l ≡ x ++ y → p ≡ progress_after k s x →
+    ((a : A) → P a → Q a) → Walks r k p y after P → Walks r k s l after Q
 walk_ends (Ok a) k s p l x y after P Q h e f w = (f a w.0, w.1 ∙ same_end k s p l x y h e)
 walk_ends (Err _) k s p l x y after P Q h e f w =
     subst (λ (q : Progress). IsErrorNoted after.error q.fault) (same_end k s p l x y h e) w
@@ -89,8 +89,8 @@ noted_passed k s p l e = ap (λ (q : Progress). q.passed) e ∙ passed_is k s l
 pub noted_le : (k : Known) (s p : Progress) (l : List Item) → p ≡ progress_after k s l →
     p.passed ≤ s.passed + length (openings_in l)
 noted_le k s p l e =
-    let counts = λ (o : Opening). is_counted k.named o.name in
-    omega (arith, noted_passed k s p l e, length-filter counts (openings_in l), count_by-le-length counts (openings_in l))
+    let counts = λ (o : Opening). is_counted k.named o.name in let openings = openings_in l in
+    omega (arith, noted_passed k s p l e, length-filter counts openings, count_by-le-length counts openings)
 
 -- the items of the trees from the i-th on
 abbrev pub rest : List Expr → ℕ → List Item

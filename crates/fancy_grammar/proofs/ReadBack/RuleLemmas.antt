@@ -324,7 +324,8 @@ reads_branch {d} {f} {s} {v} x r e h = record {
   derives = branch (r.pieces (done [] (st f v)) (stop h.ends)) refl;
   becomes =
       let same = ap (one_or concat) (sym (solid_solid r.resolved)) ∙ ap join r.are ∙ e in
-      let joined = one_becomes label.concat (solid r.trees) (solid r.resolved) (solid_becomes r.trees r.resolved r.become) in
+      let joined =
+      one_becomes label.concat (solid r.trees) (solid r.resolved) (solid_becomes r.trees r.resolved r.become) in
       subst (λ l. Becomes (join l) x) (sym (append-nil r.trees)) (subst (Becomes (join r.trees)) same joined);
 }
 

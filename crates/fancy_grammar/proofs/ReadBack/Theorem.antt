@@ -69,7 +69,8 @@ tree_of : (u : Bool) (text : Text) (r x : Tree) → DerivesTree (unicode_flags u
 tree_of u text r x d b =
     let numbered = numbered_openings_in false (openings r) in
     let numbers_of = numbers_in (unicode_flags u) r in
-    let none : fault_of (unicode_flags u) r ≡ None = ap first_fault (no_meanings (items r) b.groups false numbers_of 0) in
+    let none : fault_of (unicode_flags u) r ≡ None
+    = ap first_fault (no_meanings (items r) b.groups false numbers_of 0) in
     let found : IsTreeOf (unicode_flags u) text x (marks_of_groups (length numbered)) =
     (r, d, none, sym (b.is (bytes text) numbers_of 0), sym (marks_are u text r b.groups)) in
     subst (λ n. IsTreeOf (unicode_flags u) text x (marks_of_groups n)) (sym (groups_total found)) found
