@@ -11,10 +11,10 @@ use Rattle.fancy_lex.specs.Text.{Text, bytes}
 use Rattle.fancy_lex.specs.declared.flags.Flags.{Flags}
 use Rattle.fancy_parts.specs.Meaning.{Meaning, number, unresolved, faulty, means, back_to, last_of}
 use Rattle.fancy_parts.specs.Meaning.{group_or_none, no_group, at_distance, Role, back_reference, condition}
-use Rattle.fancy_parts.specs.Meaning.{AnyReference, fault_or, first_fault}
+use Rattle.fancy_parts.specs.Meaning.{fault_or}
 use Rattle.fancy_parts.specs.Ranks.{Opening, is_counted, only_named, numbered_openings_in, numbered_openings}
 use Rattle.fancy_grammar.specs.Answer.{IsTreeOf}
-use Rattle.fancy_grammar.specs.Answered.{is_call_as_read, IsAnsweredNode, IsAnswered, IsAnsweredWith, AreNamed}
+use Rattle.fancy_grammar.specs.Answered.{IsAnsweredNode, IsAnswered, IsAnsweredWith, AreNamed}
 use Rattle.fancy_grammar.specs.Answered.{is_group, groups}
 use Rattle.fancy_grammar.specs.Answered.{is_call_node, has_call, group_referred, groups_referred, numbered_in}
 use Rattle.fancy_grammar.specs.Answered.{numbered_groups, HasGroupsOf}
@@ -24,7 +24,7 @@ use Rattle.fancy_grammar.specs.Label as label
 use Rattle.fancy_grammar.specs.Label.{AstReference, ast_backref, ast_call, ast_condition}
 use Rattle.fancy_grammar.specs.Marks.{Marks, marks, is_call, back_number, back_numbers, ascending}
 use Rattle.fancy_grammar.specs.Preorder.{preorder}
-use Rattle.fancy_grammar.specs.Resolved.{resolved_in, resolved_all, reference_node}
+use Rattle.fancy_grammar.specs.Resolved.{resolved_in, resolved_all, reference_node, first_fault}
 use Rattle.fancy_grammar.specs.Tree.{Tree, leaf, over, row, Trees, no_trees, more_trees, group, ast_node, ast_group}
 use Rattle.fancy_grammar.specs.Tree.{list_of}
 use Rattle.fancy_parts.specs.Groups.{numbers_under}
@@ -68,13 +68,13 @@ condition_resolved u c (relative z) e = group_or_fault condition _ (at_distance 
 
 -- so that only a call is left without a number
 call_unresolved : (u : Text → List ℕ) (c : ℕ) (r : AstReference) → means u c (role_of r) (target_of r) ≡ unresolved →
-    is_call_as_read r ≡ true
+    is_call (role_of r) ≡ true
 call_unresolved u c (ast_backref t casei level) e = absurd (back_reference_resolved u c t e)
 call_unresolved u c (ast_call t) e = refl
 call_unresolved u c (ast_condition t level) e = absurd (condition_resolved u c t e)
 
 reference_answered : (z : ℕ) (m : Meaning) (r : AstReference) (place : ℕ) (o : Option Fault) →
-    (m ≡ unresolved → is_call_as_read r ≡ true) → fault_or m place o ≡ None →
+    (m ≡ unresolved → is_call (role_of r) ≡ true) → fault_or m place o ≡ None →
     IsAnsweredNode (reference_node z m r place)
 reference_answered z (number n) (ast_backref t casei None) place o u e = tt
 reference_answered z (number n) (ast_backref t casei (Some level)) place o u e = tt
@@ -96,7 +96,7 @@ module _ (z : ℕ) (named : Bool) (numbers_of : Text → List ℕ) where
   abbrev front_here : Bool → ℕ → Tree → List Tree → List Tree
   front_here = kept_if z named numbers_of
 
-  abbrev meant : ℕ → List Tree → List (AnyReference × Meaning)
+  abbrev meant : ℕ → List Tree → List (AstReference × ℕ × Meaning)
   meant c l = meanings_in named numbers_of c (items_of_all l)
 
   abbrev numbered_if : Bool → ℕ → Opening × Tree → List Tree → List (ℕ × Opening × Tree)
@@ -140,11 +140,11 @@ module _ (z : ℕ) (named : Bool) (numbers_of : Text → List ℕ) where
 
   -- calls stay calls
   calls_kept : (c : ℕ) (l : List Tree) → AllByRecursion IsReadNode l →
-      list_any is_call_node (kept_here c l) ≡ list_any (λ x. is_call x.0.role) (meant c l)
+      list_any is_call_node (kept_here c l) ≡ list_any (λ x. is_call (role_of x.0)) (meant c l)
   calls_kept c [] h = refl
   calls_kept c (ast_group name place t ∷ l) h =
       elim (is_counted named name) as (λ b. list_any is_call_node (front_here b c t l)
-      ≡ list_any (λ x. is_call x.0.role) (meant (if b then c + 1 else c) l)) [
+      ≡ list_any (λ x. is_call (role_of x.0)) (meant (if b then c + 1 else c) l)) [
         | true ↦ calls_kept (c + 1) l h.1
         | false ↦ calls_kept c l h.1
       ]
@@ -167,13 +167,13 @@ module _ (z : ℕ) (named : Bool) (numbers_of : Text → List ℕ) where
       by_option (Some n) e = rw e refl
       by_option None e = rw e refl
 
-  numbers_step : (x : Tree) (r : AnyReference × Meaning) (l : List Tree) (m : List (AnyReference × Meaning)) →
-      group_referred x ≡ back_number r.0.role r.1 →
+  numbers_step : (x : Tree) (r : AstReference × ℕ × Meaning) (l : List Tree) (m : List (AstReference × ℕ × Meaning)) →
+      group_referred x ≡ back_number (role_of r.0) r.2 →
       filter_map group_referred l ≡ back_numbers m → filter_map group_referred (x ∷ l) ≡ back_numbers (r ∷ m)
   numbers_step x r l m e h =
       filter_map_step group_referred x l ∙ ap (λ o. in_front o (filter_map group_referred l)) e
-      ∙ ap (in_front (back_number r.0.role r.1)) h
-      ∙ sym (filter_map_step (λ (x : AnyReference × Meaning). back_number x.0.role x.1) r m)
+      ∙ ap (in_front (back_number (role_of r.0) r.2)) h
+      ∙ sym (filter_map_step (λ (x : AstReference × ℕ × Meaning). back_number (role_of x.0) x.2) r m)
 
   -- the numbers of back references
   numbers_kept : (c : ℕ) (l : List Tree) → AllByRecursion IsReadNode l →
@@ -187,7 +187,7 @@ module _ (z : ℕ) (named : Bool) (numbers_of : Text → List ℕ) where
       ]
   numbers_kept c (ast_node r place ∷ l) h =
       numbers_step (resolved_in z named numbers_of c (ast_node r place))
-      (record { reach = place; role = role_of r; target = target_of r }, means_here c r) (kept_here c l) (meant c l)
+      (r, place, means_here c r) (kept_here c l) (meant c l)
       (of_reference z (means_here c r) r place).refers (numbers_kept c l h.1)
   numbers_kept c (leaf (label.backref n casei) ∷ l) h = absurd h.0
   numbers_kept c (leaf (label.backref_at_level n level casei) ∷ l) h = absurd h.0
@@ -283,7 +283,7 @@ module _ {f : Flags} {text : Text} {t : Tree} {m : Marks} (a : IsTreeOf f text t
   calls_marked : has_call t ≡ m.contains_subroutines
   calls_marked =
       ap (list_any is_call_node) nodes ∙ calls_kept (bytes text) named numbers_of 0 (preorder raw) nodes_read
-      ∙ ap (list_any (λ x. is_call x.0.role)) (sym meanings_of_nodes)
+      ∙ ap (list_any (λ x. is_call (role_of x.0))) (sym meanings_of_nodes)
       ∙ ap (λ k. k.contains_subroutines) (sym is_marks)
 
   numbers_referred : groups_referred t ≡ back_numbers (meanings f raw)

@@ -1,9 +1,9 @@
 -- The tree that is answered for a raw one: its groups have numbers, and so have its references.
-use Rattle.std.specs.Prelude.{ℕ, ◌+◌, Bool, List, length, Option, Some, None, if◌then◌else◌}
+use Rattle.std.specs.Prelude.{ℕ, ◌+◌, Bool, List, [], ◌∷◌, length, Option, Some, None, if◌then◌else◌}
 use Rattle.fancy_lex.specs.Fault.{Fault}
 use Rattle.fancy_lex.specs.Text.{Text, place_at}
 use Rattle.fancy_lex.specs.declared.flags.Flags.{Flags}
-use Rattle.fancy_parts.specs.Meaning.{Meaning, number, means, first_fault}
+use Rattle.fancy_parts.specs.Meaning.{Meaning, number, means, fault_or}
 use Rattle.fancy_parts.specs.Ranks.{only_named, is_counted, numbered_openings_in}
 use Rattle.fancy_grammar.specs.Items.{openings, role_of, target_of, numbers_in, meanings}
 use Rattle.fancy_grammar.specs.Label.{AstReference, ast_backref, ast_call, ast_condition}
@@ -38,6 +38,11 @@ module _ (n : ℕ) (named : Bool) (numbers_of : Text → List ℕ) where
 -- the raw tree resolved, under the flags that are handed in, in a pattern of n bytes
 abbrev pub resolved : Flags → ℕ → Tree → Tree
 resolved f n r = resolved_in n (only_named f (openings r)) (numbers_in f r) 0 r
+
+-- the first fault of references with their reaches and meanings
+abbrev pub first_fault : List (AstReference × ℕ × Meaning) → Option Fault
+first_fault [] = None
+first_fault ((r, reach, m) ∷ l) = fault_or m reach (first_fault l)
 
 -- the first fault of the references of the raw tree
 abbrev pub fault_of : Flags → Tree → Option Fault
