@@ -81,8 +81,8 @@ in_range : (total n : ℕ) (l ns : List ℕ) (b : Bool) → nat_le n total ≡ b
 in_range total n l ns true h = rw h refl
 in_range total n l ns false h = rw h refl
 
-inside : (total : ℕ) (l : List ℕ) (x : AstReference × ℕ × Meaning) (xs : List (AstReference × ℕ × Meaning)) (o : Option ℕ) →
-    back_number (role_of x.0) x.2 ≡ o →
+inside : (total : ℕ) (l : List ℕ) (x : AstReference × ℕ × Meaning) (xs : List (AstReference × ℕ × Meaning))
+    (o : Option ℕ) → back_number (role_of x.0) x.2 ≡ o →
     fold (insert_key nat_cmp) (with_backref total l o) (filter (λ n. nat_le n total) (back_numbers xs))
     ≡ fold (insert_key nat_cmp) l (filter (λ n. nat_le n total) (back_numbers (x ∷ xs)))
 inside total l x xs None e = rw e refl
@@ -95,7 +95,8 @@ noted_backrefs k s [] = refl
 noted_backrefs k s (opening o ∷ l) = noted_backrefs k (note_item k s (opening o)) l
 noted_backrefs k s (reference r p ∷ l) =
     noted_backrefs k (note_item k s (reference r p)) l
-    ∙ inside k.groups.total s.backrefs (r, p, means (numbers_of k) s.passed (role_of r) (target_of r)) (meant k s l) _ refl
+    ∙ inside k.groups.total s.backrefs (r, p, means (numbers_of k) s.passed (role_of r) (target_of r)) (meant k s l) _
+    refl
 
 outside : (total : ℕ) (x : AstReference × ℕ × Meaning) (xs : List (AstReference × ℕ × Meaning)) (o : Option ℕ) →
     back_number (role_of x.0) x.2 ≡ o →

@@ -57,8 +57,8 @@ openings r = openings_in (items r)
 
 -- ---- what the references mean
 
--- the references among the items, each with its reach and what it means, where each name has these numbers, and c groups
--- that have a number open before the items
+-- the references among the items, each with its reach and what it means, where each name has these numbers, and c
+-- groups that have a number open before the items
 abbrev pub meanings_in : Bool → (Text → List ℕ) → ℕ → List Item → List (AstReference × ℕ × Meaning)
 meanings_in named numbers_of c [] = []
 meanings_in named numbers_of c (opening o ∷ l) =
