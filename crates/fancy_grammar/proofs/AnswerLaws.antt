@@ -6,12 +6,14 @@ use Rattle.fancy_lex.specs.Text.{Text, bytes, place_at}
 use Rattle.fancy_lex.specs.declared.flags.Flags.{Flags}
 use Rattle.fancy_parts.proofs.NamedLaws.{under_named}
 use Rattle.fancy_parts.specs.Groups.{numbers_under}
-use Rattle.fancy_parts.specs.Meaning.{AnyReference, Meaning, first_fault}
+use Rattle.fancy_parts.specs.Meaning.{Meaning}
 use Rattle.fancy_parts.specs.Ranks.{only_named, numbered_openings_in, named_groups}
 use Rattle.fancy_parts.specs.Written.{is_numeric}
-use Rattle.fancy_grammar.specs.Items.{Item, items, openings, meanings_in, numbers_in, meanings}
+use Rattle.fancy_grammar.specs.Items.{Item, items, openings, meanings_in, numbers_in, meanings, role_of}
+use Rattle.fancy_grammar.specs.Items.{target_of}
+use Rattle.fancy_grammar.specs.Label.{AstReference}
 use Rattle.fancy_grammar.specs.Marks.{Marks, marks, ascending, back_numbers, is_call, is_call_of_all}
-use Rattle.fancy_grammar.specs.Resolved.{resolved, resolved_in, fault_of}
+use Rattle.fancy_grammar.specs.Resolved.{resolved, resolved_in, first_fault, fault_of}
 use Rattle.fancy_grammar.specs.Tree.{Tree}
 use Rattle.fancy_grammar.specs.Walk.{Known, Progress, nothing_noted, progress_after, resolved_by}
 use Rattle.fancy_grammar.proofs.NoteLaws.{noted_numeric, noted_calls, noted_self, noted_fault, noted_backrefs}
@@ -42,14 +44,14 @@ marks_noted k s = record {
 }
 
 -- the marks of references with these meanings, where so many groups have a number
-abbrev pub marks_from : Text → Bool → ℕ → List (Text × List ℕ) → List (AnyReference × Meaning) → Marks
+abbrev pub marks_from : Text → Bool → ℕ → List (Text × List ℕ) → List (AstReference × ℕ × Meaning) → Marks
 marks_from text named total names l = record {
   backrefs = ascending (filter (λ n. nat_le n total) (back_numbers l));
   named_groups = names;
   numeric_capture_group_references =
-      list_any (λ x. is_numeric text (place_at (bytes text) x.0.reach) x.0.role x.0.target) l;
-  contains_subroutines = list_any (λ x. is_call x.0.role) l;
-  self_recursive = list_any (λ x. is_call_of_all x.0.role x.0.target) l;
+      list_any (λ x. is_numeric text (place_at (bytes text) x.1) (role_of x.0) (target_of x.0)) l;
+  contains_subroutines = list_any (λ x. is_call (role_of x.0)) l;
+  self_recursive = list_any (λ x. is_call_of_all (role_of x.0) (target_of x.0)) l;
   total_groups = total;
   out_of_range_backref = find (λ n. nat_lt total n) (back_numbers l);
   numbered_groups_ignored = named;

@@ -1,6 +1,7 @@
 -- What is true of every answered tree, by the nodes of the raw tree that it was resolved from.
-use Rattle.std.proofs.Common.{◌≡◌, ℕ, suc, ◌+◌, ◌≤◌, ◌==◌, Bool, true, false, ◌||◌, if◌then◌else◌, List, [], ◌∷◌, length}
-use Rattle.std.proofs.Common.{Option, Some, None, filter, filter_map, map, nat_le, nat_lt, refl, sym, ap, ◌∙◌, subst}
+use Rattle.std.proofs.Common.{◌≡◌, ℕ, suc, ◌+◌, ◌≤◌, ◌==◌, Bool, true, false, ◌||◌, if◌then◌else◌, List, [], ◌∷◌}
+use Rattle.std.proofs.Common.{length, Option, Some, None, filter, filter_map, map, nat_le, nat_lt, refl, sym, ap}
+use Rattle.std.proofs.Common.{◌∙◌, subst}
 use Rattle.std.specs.List.{AllByRecursion, list_any}
 use Rattle.std.proofs.lemmas.List.{length-map}
 use Rattle.std.specs.Prelude.{find, slice_get}
@@ -10,10 +11,10 @@ use Rattle.fancy_lex.specs.Text.{Text, bytes}
 use Rattle.fancy_lex.specs.declared.flags.Flags.{Flags}
 use Rattle.fancy_parts.specs.Meaning.{Meaning, number, unresolved, faulty, means, back_to, last_of}
 use Rattle.fancy_parts.specs.Meaning.{group_or_none, no_group, at_distance, Role, back_reference, condition}
-use Rattle.fancy_parts.specs.Meaning.{AnyReference, fault_or, first_fault}
+use Rattle.fancy_parts.specs.Meaning.{fault_or}
 use Rattle.fancy_parts.specs.Ranks.{Opening, is_counted, only_named, numbered_openings_in, numbered_openings}
 use Rattle.fancy_grammar.specs.Answer.{IsTreeOf}
-use Rattle.fancy_grammar.specs.Answered.{is_call_as_read, IsAnsweredNode, IsAnswered, IsAnsweredWith, AreNamed}
+use Rattle.fancy_grammar.specs.Answered.{IsAnsweredNode, IsAnswered, IsAnsweredWith, AreNamed}
 use Rattle.fancy_grammar.specs.Answered.{is_group, groups}
 use Rattle.fancy_grammar.specs.Answered.{is_call_node, has_call, group_referred, groups_referred, numbered_in}
 use Rattle.fancy_grammar.specs.Answered.{numbered_groups, HasGroupsOf}
@@ -23,13 +24,13 @@ use Rattle.fancy_grammar.specs.Label as label
 use Rattle.fancy_grammar.specs.Label.{AstReference, ast_backref, ast_call, ast_condition}
 use Rattle.fancy_grammar.specs.Marks.{Marks, marks, is_call, back_number, back_numbers, ascending}
 use Rattle.fancy_grammar.specs.Preorder.{preorder}
-use Rattle.fancy_grammar.specs.Resolved.{resolved_in, resolved_all, reference_node}
+use Rattle.fancy_grammar.specs.Resolved.{resolved_in, resolved_all, reference_node, first_fault}
 use Rattle.fancy_grammar.specs.Tree.{Tree, leaf, over, row, Trees, no_trees, more_trees, group, ast_node, ast_group}
 use Rattle.fancy_grammar.specs.Tree.{list_of}
 use Rattle.fancy_parts.specs.Groups.{numbers_under}
 use Rattle.fancy_parts.proofs.NamedLaws.{under_named}
 use Rattle.fancy_grammar.proofs.NamedNumbers.{named_ascend, carries, number_carried}
-use Rattle.fancy_grammar.proofs.PreorderLaws.{of_reference, behind, kept, resolved_nodes, items_of_all, items_of_nodes}
+use Rattle.fancy_grammar.proofs.PreorderLaws.{of_reference, kept, kept_if, resolved_nodes, items_of_all, items_of_nodes}
 use Rattle.fancy_grammar.proofs.Verdict.{same_tree}
 use Rattle.fancy_grammar.proofs.ReadLaws.{IsReadNode, IsRead, derived_read}
 
@@ -67,13 +68,13 @@ condition_resolved u c (relative z) e = group_or_fault condition _ (at_distance 
 
 -- so that only a call is left without a number
 call_unresolved : (u : Text → List ℕ) (c : ℕ) (r : AstReference) → means u c (role_of r) (target_of r) ≡ unresolved →
-    is_call_as_read r ≡ true
+    is_call (role_of r) ≡ true
 call_unresolved u c (ast_backref t casei level) e = absurd (back_reference_resolved u c t e)
 call_unresolved u c (ast_call t) e = refl
 call_unresolved u c (ast_condition t level) e = absurd (condition_resolved u c t e)
 
 reference_answered : (z : ℕ) (m : Meaning) (r : AstReference) (place : ℕ) (o : Option Fault) →
-    (m ≡ unresolved → is_call_as_read r ≡ true) → fault_or m place o ≡ None →
+    (m ≡ unresolved → is_call (role_of r) ≡ true) → fault_or m place o ≡ None →
     IsAnsweredNode (reference_node z m r place)
 reference_answered z (number n) (ast_backref t casei None) place o u e = tt
 reference_answered z (number n) (ast_backref t casei (Some level)) place o u e = tt
@@ -89,34 +90,30 @@ module _ (z : ℕ) (named : Bool) (numbers_of : Text → List ℕ) where
   abbrev means_here : ℕ → AstReference → Meaning
   means_here c r = means numbers_of c (role_of r) (target_of r)
 
-  abbrev behind_group : Option Text → ℕ → ℕ
-  behind_group = behind z named numbers_of
-
   abbrev kept_here : ℕ → List Tree → List Tree
   kept_here = kept z named numbers_of
 
-  abbrev meant : ℕ → List Tree → List (AnyReference × Meaning)
+  abbrev front_here : Bool → ℕ → Tree → List Tree → List Tree
+  front_here = kept_if z named numbers_of
+
+  abbrev meant : ℕ → List Tree → List (AstReference × ℕ × Meaning)
   meant c l = meanings_in named numbers_of c (items_of_all l)
+
+  abbrev numbered_if : Bool → ℕ → Opening × Tree → List Tree → List (ℕ × Opening × Tree)
+  numbered_if b c g l = if b then (c + 1, g.0, g.1) ∷ numbered_in named (c + 1) l else numbered_in named c l
 
   -- their openings are those that have a number
   openings_counted : (c : ℕ) (l : List Tree) →
       map (λ q. q.1) (numbered_in named c l) ≡ numbered_openings_in named (openings_in (items_of_all l))
   openings_counted c [] = refl
   openings_counted c (ast_group name place t ∷ l) =
-      by_name (is_counted named name) (openings_counted (c + 1) l) (openings_counted c l)
-    where
-      o : Opening
-      o = record { reach = place; name = name }
-
-      rest : List Opening
-      rest = numbered_openings_in named (openings_in (items_of_all l))
-
-      by_name : (b : Bool) → map (λ q. q.1) (numbered_in named (c + 1) l) ≡ rest →
-          map (λ q. q.1) (numbered_in named c l) ≡ rest →
-          map (λ q. q.1) (if b then (c + 1, o, t) ∷ numbered_in named (c + 1) l else numbered_in named c l)
-          ≡ (if b then o ∷ rest else rest)
-      by_name true counted passed_over = ap (λ l. o ∷ l) counted
-      by_name false counted passed_over = passed_over
+      let o : Opening = record { reach = place; name = name } in
+      let rest = numbered_openings_in named (openings_in (items_of_all l)) in
+      elim (is_counted named name) as (λ b. map (λ q. q.1) (numbered_if b c (o, t) l)
+      ≡ (if b then o ∷ rest else rest)) [
+        | true ↦ ap (λ l. o ∷ l) (openings_counted (c + 1) l)
+        | false ↦ openings_counted c l
+      ]
   openings_counted c (ast_node r place ∷ l) = openings_counted c l
   openings_counted c (_ ∷ l) = openings_counted c l
 
@@ -124,51 +121,33 @@ module _ (z : ℕ) (named : Bool) (numbers_of : Text → List ℕ) where
   if_false x y b e = ap (λ b. if b then x else y) e
 
   -- the Groups are these with their insides resolved
+  abbrev insides : List (ℕ × Opening × Tree) → List Tree
+  insides l = map (λ q. group (resolved_in z named numbers_of q.0 q.2)) l
+
   groups_kept : (c : ℕ) (l : List Tree) → AllByRecursion IsReadNode l →
-      filter is_group (kept_here c l) ≡ map (λ q. group (resolved_in z named numbers_of q.0 q.2)) (numbered_in named c l)
+      filter is_group (kept_here c l) ≡ insides (numbered_in named c l)
   groups_kept c [] h = refl
-  groups_kept c (ast_group name place t ∷ l) h = by_name (is_counted named name) (groups_kept (c + 1) l h.1)
-      (groups_kept c l h.1)
-    where
-      inside : List (ℕ × Opening × Tree) → List Tree
-      inside l = map (λ q. group (resolved_in z named numbers_of q.0 q.2)) l
-
-      here : ℕ × Opening × Tree
-      here = (c + 1, record { reach = place; name = name }, t)
-
-      by_name : (b : Bool) → filter is_group (kept_here (c + 1) l) ≡ inside (numbered_in named (c + 1) l) →
-          filter is_group (kept_here c l) ≡ inside (numbered_in named c l) →
-          filter is_group (if b then group (resolved_in z named numbers_of (c + 1) t) ∷ kept_here (if b then c + 1 else c) l else kept_here (if b then c + 1 else c) l)
-          ≡ inside (if b then here ∷ numbered_in named (c + 1) l else numbered_in named c l)
-      by_name true counted passed_over = ap (λ l. group (resolved_in z named numbers_of (c + 1) t) ∷ l) counted
-      by_name false counted passed_over = passed_over
+  groups_kept c (ast_group name place t ∷ l) h =
+      let o : Opening = record { reach = place; name = name } in
+      elim (is_counted named name) as (λ b. filter is_group (front_here b c t l) ≡ insides (numbered_if b c (o, t) l)) [
+        | true ↦ ap (λ l. group (resolved_in z named numbers_of (c + 1) t) ∷ l) (groups_kept (c + 1) l h.1)
+        | false ↦ groups_kept c l h.1
+      ]
   groups_kept c (ast_node r place ∷ l) h =
       if_false _ _ _ (of_reference z (means_here c r) r place).no_group ∙ groups_kept c l h.1
   groups_kept c (over label.group t ∷ l) h = absurd h.0
   groups_kept c (_ ∷ l) h = groups_kept c l h.1
 
-  -- a Group in front says nothing of a call, nor of a back reference
-  call_behind : (b : Bool) (t : Tree) (l : List Tree) →
-      list_any is_call_node (if b then group t ∷ l else l) ≡ list_any is_call_node l
-  call_behind true t l = refl
-  call_behind false t l = refl
-
-  refers_behind : (b : Bool) (t : Tree) (l : List Tree) →
-      filter_map group_referred (if b then group t ∷ l else l) ≡ filter_map group_referred l
-  refers_behind true t l = refl
-  refers_behind false t l = refl
-
-  answered_behind : (b : Bool) (t : Tree) (l : List Tree) → AllByRecursion IsAnsweredNode l →
-      AllByRecursion IsAnsweredNode (if b then group t ∷ l else l)
-  answered_behind true t l h = (tt, h)
-  answered_behind false t l h = h
-
   -- calls stay calls
   calls_kept : (c : ℕ) (l : List Tree) → AllByRecursion IsReadNode l →
-      list_any is_call_node (kept_here c l) ≡ list_any (λ x. is_call x.0.role) (meant c l)
+      list_any is_call_node (kept_here c l) ≡ list_any (λ x. is_call (role_of x.0)) (meant c l)
   calls_kept c [] h = refl
   calls_kept c (ast_group name place t ∷ l) h =
-      call_behind (is_counted named name) _ (kept_here (behind_group name c) l) ∙ calls_kept (behind_group name c) l h.1
+      elim (is_counted named name) as (λ b. list_any is_call_node (front_here b c t l)
+      ≡ list_any (λ x. is_call (role_of x.0)) (meant (if b then c + 1 else c) l)) [
+        | true ↦ calls_kept (c + 1) l h.1
+        | false ↦ calls_kept c l h.1
+      ]
   calls_kept c (ast_node r place ∷ l) h =
       ap (λ b. b || list_any is_call_node (kept_here c l)) (of_reference z (means_here c r) r place).calls
       ∙ ap (λ b. is_call (role_of r) || b) (calls_kept c l h.1)
@@ -188,24 +167,27 @@ module _ (z : ℕ) (named : Bool) (numbers_of : Text → List ℕ) where
       by_option (Some n) e = rw e refl
       by_option None e = rw e refl
 
-  numbers_step : (x : Tree) (r : AnyReference × Meaning) (l : List Tree) (m : List (AnyReference × Meaning)) →
-      group_referred x ≡ back_number r.0.role r.1 →
+  numbers_step : (x : Tree) (r : AstReference × ℕ × Meaning) (l : List Tree) (m : List (AstReference × ℕ × Meaning)) →
+      group_referred x ≡ back_number (role_of r.0) r.2 →
       filter_map group_referred l ≡ back_numbers m → filter_map group_referred (x ∷ l) ≡ back_numbers (r ∷ m)
   numbers_step x r l m e h =
       filter_map_step group_referred x l ∙ ap (λ o. in_front o (filter_map group_referred l)) e
-      ∙ ap (in_front (back_number r.0.role r.1)) h
-      ∙ sym (filter_map_step (λ (x : AnyReference × Meaning). back_number x.0.role x.1) r m)
+      ∙ ap (in_front (back_number (role_of r.0) r.2)) h
+      ∙ sym (filter_map_step (λ (x : AstReference × ℕ × Meaning). back_number (role_of x.0) x.2) r m)
 
   -- the numbers of back references
   numbers_kept : (c : ℕ) (l : List Tree) → AllByRecursion IsReadNode l →
       filter_map group_referred (kept_here c l) ≡ back_numbers (meant c l)
   numbers_kept c [] h = refl
   numbers_kept c (ast_group name place t ∷ l) h =
-      refers_behind (is_counted named name) _ (kept_here (behind_group name c) l)
-      ∙ numbers_kept (behind_group name c) l h.1
+      elim (is_counted named name) as (λ b. filter_map group_referred (front_here b c t l)
+      ≡ back_numbers (meant (if b then c + 1 else c) l)) [
+        | true ↦ numbers_kept (c + 1) l h.1
+        | false ↦ numbers_kept c l h.1
+      ]
   numbers_kept c (ast_node r place ∷ l) h =
       numbers_step (resolved_in z named numbers_of c (ast_node r place))
-      (record { reach = place; role = role_of r; target = target_of r }, means_here c r) (kept_here c l) (meant c l)
+      (r, place, means_here c r) (kept_here c l) (meant c l)
       (of_reference z (means_here c r) r place).refers (numbers_kept c l h.1)
   numbers_kept c (leaf (label.backref n casei) ∷ l) h = absurd h.0
   numbers_kept c (leaf (label.backref_at_level n level casei) ∷ l) h = absurd h.0
@@ -220,8 +202,11 @@ module _ (z : ℕ) (named : Bool) (numbers_of : Text → List ℕ) where
       AllByRecursion IsAnsweredNode (kept_here c l)
   answered_kept c [] h n = tt
   answered_kept c (ast_group name place t ∷ l) h n =
-      answered_behind (is_counted named name) _ (kept_here (behind_group name c) l)
-      (answered_kept (behind_group name c) l h.1 n)
+      (elim (is_counted named name) as (λ b. first_fault (meant (if b then c + 1 else c) l) ≡ None →
+      AllByRecursion IsAnsweredNode (front_here b c t l)) [
+        | true ↦ λ n. (tt, answered_kept (c + 1) l h.1 n)
+        | false ↦ λ n. answered_kept c l h.1 n
+      ]) n
   answered_kept c (ast_node r place ∷ l) h n =
       let m = means_here c r in let behind = first_fault (meant c l) in (
         reference_answered z m r place behind (call_unresolved numbers_of c r) n,
@@ -298,7 +283,7 @@ module _ {f : Flags} {text : Text} {t : Tree} {m : Marks} (a : IsTreeOf f text t
   calls_marked : has_call t ≡ m.contains_subroutines
   calls_marked =
       ap (list_any is_call_node) nodes ∙ calls_kept (bytes text) named numbers_of 0 (preorder raw) nodes_read
-      ∙ ap (list_any (λ x. is_call x.0.role)) (sym meanings_of_nodes)
+      ∙ ap (list_any (λ x. is_call (role_of x.0))) (sym meanings_of_nodes)
       ∙ ap (λ k. k.contains_subroutines) (sym is_marks)
 
   numbers_referred : groups_referred t ≡ back_numbers (meanings f raw)

@@ -20,7 +20,7 @@ pub found_all : (named : Bool) (s : Groups) (l : List Item) →
 found_all named s [] = refl
 found_all named s (opening o ∷ l) =
     found_all named (with_opening named s o) l ∙ found_step named s o l (is_counted named o.name) refl
-found_all named s (reference r ∷ l) = found_all named s l
+found_all named s (reference r p ∷ l) = found_all named s l
 
 -- what a walk from nothing finds
 pub start_total : (named : Bool) (s f : Groups) (l : List Item) → s ≡ no_groups → f ≡ groups_after named s l →

@@ -1,5 +1,5 @@
 -- Resolving takes nodes away, and adds neither a node nor a level.
-use Rattle.std.proofs.Common.{◌≡◌, ℕ, suc, ◌+◌, ◌≤◌, Bool, true, false, List, [], ◌∷◌, length, length-append, Some, None}
+use Rattle.std.proofs.Common.{◌≡◌, ℕ, suc, ◌+◌, ◌≤◌, Bool, List, [], ◌∷◌, length, length-append, Some, None}
 use Rattle.std.proofs.Common.{refl, ap, arith}
 use Rattle.std.proofs.lemmas.Bool.{cond_both}
 use Rattle.fancy_lex.specs.Text.{Text}
@@ -12,7 +12,7 @@ use Rattle.fancy_grammar.specs.Resolved.{resolved_in, resolved_all, reference_no
 use Rattle.fancy_grammar.specs.Tree.{Tree, leaf, over, row, Trees, no_trees, more_trees, ast_node, ast_group, nodes}
 use Rattle.fancy_grammar.specs.Tree.{nodes_all}
 use Rattle.fancy_grammar.specs.Tree.{levels, levels_all}
-use Rattle.fancy_grammar.proofs.PreorderLaws.{behind, in_front_if, kept, resolved_nodes}
+use Rattle.fancy_grammar.proofs.PreorderLaws.{kept, resolved_nodes}
 
 -- ---- nodes
 
@@ -28,16 +28,12 @@ mutual
       omega (arith, nodes_preorder t, nodes_preorder_all ts, length-append (preorder t) (preorder_all ts))
 
 module _ (z : ℕ) (named : Bool) (numbers_of : Text → List ℕ) where
-  front_length : (b : Bool) (t : Tree) (l : List Tree) (n : ℕ) → length l ≤ n →
-      length (in_front_if z named numbers_of b t l) ≤ suc n
-  front_length true t l n h = omega (arith, h)
-  front_length false t l n h = omega (arith, h)
-
   kept_length : (c : ℕ) (l : List Tree) → length (kept z named numbers_of c l) ≤ length l
   kept_length c [] = omega arith
   kept_length c (ast_group name place t ∷ l) =
-      let behind = behind z named numbers_of name c in
-      front_length (is_counted named name) _ (kept z named numbers_of behind l) (length l) (kept_length behind l)
+      let in_group = kept_length (c + 1) l in let alone = kept_length c l in
+      cond_both (is_counted named name) _ _ (λ m. length m ≤ length (ast_group name place t ∷ l))
+      (λ _. omega (arith, in_group)) (λ _. omega (arith, alone))
   kept_length c (ast_node r place ∷ l) = omega (arith, kept_length c l)
   kept_length c (t ∷ l) = omega (arith, kept_length c l)
 

@@ -3,10 +3,11 @@ use Rattle.std.proofs.Common.{◌≡◌, ℕ, ◌+◌, ◌≤◌, Option, Some, 
 use Rattle.std.specs.List.{AllByRecursion}
 use Rattle.fancy_lex.specs.Fault.{Fault}
 use Rattle.fancy_lex.specs.Text.{Text}
-use Rattle.fancy_parts.specs.Meaning.{Meaning, number, unresolved, faulty, means, fault_or, first_fault}
+use Rattle.fancy_parts.specs.Meaning.{Meaning, number, unresolved, faulty, means, fault_or}
 use Rattle.fancy_parts.specs.Ranks.{is_counted}
-use Rattle.fancy_grammar.specs.Items.{Item, opening, reference, openings_in, meanings_in}
+use Rattle.fancy_grammar.specs.Items.{Item, opening, reference, openings_in, meanings_in, role_of, target_of}
 use Rattle.fancy_grammar.specs.Ordered.{DescendingReaches, reach_of_item}
+use Rattle.fancy_grammar.specs.Resolved.{first_fault}
 
 pub bounds : (high low : ℕ) (l : List Item) → DescendingReaches high low l → low ≤ high
 bounds high low [] a = a
@@ -16,7 +17,7 @@ bounds high low (i ∷ l) a = omega (arith, a.0, bounds (reach_of_item i) low l 
 pub openings_fit : (high low : ℕ) (l : List Item) → DescendingReaches high low l → low + length (openings_in l) ≤ high
 openings_fit high low [] a = omega (arith, a)
 openings_fit high low (opening o ∷ l) a = omega (arith, a.0, openings_fit o.reach low l a.1)
-openings_fit high low (reference r ∷ l) a = omega (arith, a.0, openings_fit r.reach low l a.1)
+openings_fit high low (reference r reach ∷ l) a = omega (arith, a.0, openings_fit reach low l a.1)
 
 -- the first fault stands at a reference
 fault_here : (P : ℕ → Type 0) (m : Meaning) (reach : ℕ) (other : Option Fault) (x : Fault) → P reach →
@@ -31,6 +32,6 @@ pub fault_place : (P : ℕ → Type 0) (named : Bool) (numbers_of : Text → Lis
 fault_place P named u c [] x a e = absurd cc
 fault_place P named u c (opening o ∷ l) x a e =
     fault_place P named u (if is_counted named o.name then c + 1 else c) l x a.1 e
-fault_place P named u c (reference r ∷ l) x a e =
-    fault_here P (means u c r.role r.target) r.reach (first_fault (meanings_in named u c l)) x a.0
+fault_place P named u c (reference r reach ∷ l) x a e =
+    fault_here P (means u c (role_of r) (target_of r)) reach (first_fault (meanings_in named u c l)) x a.0
     (fault_place P named u c l x a.1) e

@@ -1,5 +1,5 @@
 -- Resolving keeps the nodes of a raw tree in their order, and its items are those of its nodes.
-use Rattle.std.proofs.Common.{◌≡◌, ℕ, ◌+◌, Bool, true, false, if◌then◌else◌, List, [], ◌∷◌, ◌++◌, Option, Some}
+use Rattle.std.proofs.Common.{◌≡◌, ℕ, ◌+◌, Bool, true, false, if◌then◌else◌, List, [], ◌∷◌, ◌++◌, Some}
 use Rattle.std.proofs.Common.{None, refl, sym, ap, ◌∙◌, arith, append_assoc, append-nil}
 use Rattle.fancy_lex.specs.Text.{Text}
 use Rattle.fancy_parts.specs.Meaning.{Meaning, number, means, Role}
@@ -70,44 +70,37 @@ module _ (z : ℕ) (named : Bool) (numbers_of : Text → List ℕ) where
   abbrev there : ℕ → Tree → Tree
   there = resolved_in z named numbers_of
 
-  -- how many groups with a number open before what follows an opening, or these items
-  abbrev pub behind : Option Text → ℕ → ℕ
-  behind name c = if is_counted named name then c + 1 else c
-
-  -- one node in front, where it stays
-  abbrev pub in_front_if : Bool → Tree → List Tree → List Tree
-  in_front_if b t l = if b then t ∷ l else l
-
-  -- what is left of nodes, resolved, where c groups with a number open before them: all but the capturing groups without
+  -- what is left of nodes, resolved, where c groups with a number open before them
   abbrev pub kept : ℕ → List Tree → List Tree
   kept c [] = []
   kept c (ast_group name place t ∷ l) =
-      in_front_if (is_counted named name) (group (there (c + 1) t)) (kept (behind name c) l)
+      if is_counted named name then group (there (c + 1) t) ∷ kept (c + 1) l else kept c l
   kept c (t ∷ l) = there c t ∷ kept c l
 
-  front_append : (b : Bool) (t : Tree) (l m n : List Tree) → n ≡ l ++ m → in_front_if b t n ≡ in_front_if b t l ++ m
-  front_append true t l m n e = ap (λ k. t ∷ k) e
-  front_append false t l m n e = e
+  -- behind a capturing group with this inside, which stays where it has a number
+  abbrev pub kept_if : Bool → ℕ → Tree → List Tree → List Tree
+  kept_if b c t l = if b then group (there (c + 1) t) ∷ kept (c + 1) l else kept c l
 
-  kept_append : (c k : ℕ) (a b : List Tree) → k ≡ c + counted named (items_of_all a) → kept c (a ++ b) ≡ kept c a ++ kept k b
+  kept_append : (c k : ℕ) (a b : List Tree) → k ≡ c + counted named (items_of_all a) →
+      kept c (a ++ b) ≡ kept c a ++ kept k b
   kept_append c k [] b e = let same : c ≡ k = omega (arith, e) in ap (λ m. kept m b) same
   kept_append c k (ast_group name place t ∷ a) b e =
-      front_append (is_counted named name) (group (there (c + 1) t)) (kept (behind name c) a) (kept k b) _
-      (kept_append (behind name c) k a b (e ∙ counted_first named _ c (items_of_all a)))
+      (elim (is_counted named name) as (λ d. k ≡ (if d then c + 1 else c) + counted named (items_of_all a) →
+      kept_if d c t (a ++ b) ≡ kept_if d c t a ++ kept k b) [
+        | true ↦ λ e. ap (λ l. group (there (c + 1) t) ∷ l) (kept_append (c + 1) k a b e)
+        | false ↦ λ e. kept_append c k a b e
+      ]) (e ∙ counted_first named _ c (items_of_all a))
   kept_append c k (ast_node r place ∷ a) b e = ap (λ l. there c (ast_node r place) ∷ l) (kept_append c k a b e)
   kept_append c k (t ∷ a) b e = ap (λ l. there c t ∷ l) (kept_append c k a b e)
-
-  group_kept : (b : Bool) (c : ℕ) (t : Tree) (l : List Tree) → preorder (there (c + 1) t) ≡ kept (c + 1) l →
-      preorder (there c t) ≡ kept c l →
-      preorder (if b then group (there (c + 1) t) else there c t)
-      ≡ in_front_if b (group (there (c + 1) t)) (kept (if b then c + 1 else c) l)
-  group_kept true c t l in_group alone = ap (λ m. group (there (c + 1) t) ∷ m) in_group
-  group_kept false c t l in_group alone = alone
 
   mutual
     pub resolved_nodes : (c : ℕ) (t : Tree) → preorder (there c t) ≡ kept c (preorder t)
     resolved_nodes c (ast_group name place t) =
-        group_kept (is_counted named name) c t (preorder t) (resolved_nodes (c + 1) t) (resolved_nodes c t)
+        elim (is_counted named name) as (λ b. preorder (if b then group (there (c + 1) t) else there c t)
+        ≡ kept_if b c t (preorder t)) [
+          | true ↦ ap (λ l. group (there (c + 1) t) ∷ l) (resolved_nodes (c + 1) t)
+          | false ↦ resolved_nodes c t
+        ]
     resolved_nodes c (ast_node r place) =
         (of_reference z (means numbers_of c (role_of r) (target_of r)) r place).alone
     resolved_nodes c (leaf l) = refl

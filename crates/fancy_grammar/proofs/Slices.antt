@@ -51,8 +51,8 @@ use Rattle.fancy_grammar.specs.Grammar.{closed, closed_at, ended, ended_at, bran
 use Rattle.fancy_grammar.specs.Grammar.{conditional_behind, is_condition, clear_or_stopper}
 use Rattle.fancy_grammar.specs.Head.{Head, capture, scope, look, atomic, define, repeater, group_node}
 use Rattle.fancy_grammar.specs.Join.{join, choice, solid, is_empty, one_or}
-use Rattle.fancy_parts.specs.Meaning.{AnyReference}
 use Rattle.fancy_grammar.specs.Items.{Item, opening, reference, items, items_all}
+use Rattle.fancy_grammar.specs.Label.{AstReference}
 use Rattle.fancy_grammar.specs.Quantified.{quants, adjacent, max_adjacent, is_unmoved, quant, quant_at, with_counts}
 use Rattle.fancy_grammar.specs.Quantified.{suffix, suffix_at, behind_lazy, may_be_possessive, is_swapped, quantified}
 use Rattle.fancy_grammar.specs.Quantified.{is_repeatable, is_dropped}
@@ -185,9 +185,9 @@ taken : {k : ℕ} {t u : Text} → Takes k t u → Slice t u
 taken a = record { word = a.word; cut = a.cut }
 
 -- a reference alone, whose reach is that of a mark in the slice
-referred : {t m u : Text} (r : AnyReference) → Slice t m → Takes 1 m u → r.reach ≡ reach_of m →
-    Span (reference r ∷ []) t u
-referred {t} {m} {u} r a k e =
+referred : {t m u : Text} (r : AstReference) (p : ℕ) → Slice t m → Takes 1 m u → p ≡ reach_of m →
+    Span (reference r p ∷ []) t u
+referred {t} {m} {u} r p a k e =
     let more = takes_bytes k in
     record {
       slice = on a (taken k);
@@ -419,20 +419,20 @@ name_slice s z t u (fails e) h m (fails_at l) = subst (MayStand s.rest) (sym l) 
 target_slice : (s z : State) (t : Text) (o : Reading referred_spec.Reference) → Past s t →
     TakesOrFails (reach_of t) 2 t o →
     IfGives (ReferenceAt (reach_of t)) o → AheadSlice s (target_ahead z o)
-target_slice s z t (gives r u) h (takes a) e = (referred _ h.0 (at_least_one a) e, omega (arith, h.1, takes_bytes a))
+target_slice s z t (gives r u) h (takes a) e = (referred _ _ h.0 (at_least_one a) e, omega (arith, h.1, takes_bytes a))
 target_slice s z t (fails k) h (fails_at l) e = subst (MayStand s.rest) (sym l) (stands_at h.0)
 
 backref_slice : (s z : State) (casei : Bool) (t : Text) (o : Reading referred_spec.Reference) → Past s t →
     TakesOrFails (reach_of t) 2 t o →
     IfGives (ReferenceAt (reach_of t)) o → LeafSlice s (leaf_outcome (backref_node casei) z o)
 backref_slice s z casei t (gives r u) h (takes a) e =
-    (referred _ h.0 (at_least_one a) e, omega (arith, h.1, takes_bytes a))
+    (referred _ _ h.0 (at_least_one a) e, omega (arith, h.1, takes_bytes a))
 backref_slice s z casei t (fails k) h (fails_at l) e = subst (MayStand s.rest) (sym l) (stands_at h.0)
 
 call_slice : (s z : State) (t : Text) (o : Reading referred_spec.Call) → Past s t →
     TakesOrFails (reach_of t) 2 t o →
     IfGives (CallAt (reach_of t)) o → LeafSlice s (leaf_outcome call_node z o)
-call_slice s z t (gives c u) h (takes a) e = (referred _ h.0 (at_least_one a) e, omega (arith, h.1, takes_bytes a))
+call_slice s z t (gives c u) h (takes a) e = (referred _ _ h.0 (at_least_one a) e, omega (arith, h.1, takes_bytes a))
 call_slice s z t (fails k) h (fails_at l) e = subst (MayStand s.rest) (sym l) (stands_at h.0)
 
 condition_ahead_slice : (s z : State) (t : Text) → Past s t → AheadSlice s (condition_ahead z t)
@@ -526,8 +526,8 @@ escape_slice s z t h m (gives e u) (leaves l) p = (by_leaf e p, (further s h (cu
     by_leaf escaped.keep_out p = plain
     by_leaf escaped.continue_from_previous_match_end p = plain
     by_leaf (escaped.delegate t casei) p = plain
-    by_leaf (escaped.backref r casei) p = referred _ (on h.0 (cut_slice p.ends)) p.takes p.reach
-    by_leaf (escaped.subroutine_call c) p = referred _ (on h.0 (cut_slice p.ends)) p.takes p.reach
+    by_leaf (escaped.backref r casei) p = referred _ _ (on h.0 (cut_slice p.ends)) p.takes p.reach
+    by_leaf (escaped.subroutine_call c) p = referred _ _ (on h.0 (cut_slice p.ends)) p.takes p.reach
 escape_slice s z t h m (fails e) (faults l) p = stands_retold m (stands_past (to_ends h.0) l)
 
 -- a class, behind its bracket

@@ -7,18 +7,12 @@ use Rattle.fancy_lex.specs.Text.{Text, bytes}
 use Rattle.fancy_lex.specs.declared.flags.Flags.{Flags}
 use Rattle.fancy_parts.specs.Ranks.{Opening, only_named, is_counted, numbered_openings}
 use Rattle.fancy_grammar.specs.Depth.{max_levels}
-use Rattle.fancy_grammar.specs.Items.{openings, numbers_in}
+use Rattle.fancy_grammar.specs.Items.{openings, numbers_in, role_of}
 use Rattle.fancy_grammar.specs.Label as label
-use Rattle.fancy_grammar.specs.Label.{AstReference, ast_call}
-use Rattle.fancy_grammar.specs.Marks.{Marks, ascending}
+use Rattle.fancy_grammar.specs.Marks.{Marks, ascending, is_call}
 use Rattle.fancy_grammar.specs.Preorder.{preorder}
 use Rattle.fancy_grammar.specs.Resolved.{resolved_in}
 use Rattle.fancy_grammar.specs.Tree.{Tree, leaf, over, row, group, ast_group, list_of, nodes, levels}
-
--- only a call stays as it was read
-abbrev pub is_call_as_read : AstReference → Bool
-is_call_as_read (ast_call t) = true
-is_call_as_read _ = false
 
 -- a Literal holds one character, a LiteralBytes one byte above the ASCII ones, an Alt two children or more, and an
 -- AstNode a call
@@ -26,7 +20,7 @@ abbrev pub IsAnsweredNode : Tree → Type 0
 IsAnsweredNode (leaf (label.literal w casei)) = length w ≡ 1
 IsAnsweredNode (leaf (label.literal_bytes w)) = (length w ≡ 1) × AllByRecursion (λ b. (0x80 ≤ b) × (b ≤ 0xFF)) w
 IsAnsweredNode (row label.alt ts) = 2 ≤ length (list_of ts)
-IsAnsweredNode (leaf (label.ast_node r reach)) = is_call_as_read r ≡ true
+IsAnsweredNode (leaf (label.ast_node r reach)) = is_call (role_of r) ≡ true
 IsAnsweredNode (over (label.ast_group name reach) t) = ⊥
 IsAnsweredNode _ = Unit {0}
 
@@ -58,7 +52,7 @@ AreNamed total l = AllByRecursion (λ e. (0 < length e.1) × AscendingNumbers 0 
 -- whether the node is a call, resolved or not
 abbrev pub is_call_node : Tree → Bool
 is_call_node (leaf (label.subroutine_call n)) = true
-is_call_node (leaf (label.ast_node r reach)) = is_call_as_read r
+is_call_node (leaf (label.ast_node r reach)) = is_call (role_of r)
 is_call_node _ = false
 
 -- whether some node is a call

@@ -3,16 +3,16 @@ use Rattle.std.specs.Prelude.{ℕ, ◌+◌, Bool, List, [], ◌∷◌, ◌++◌,
 use Rattle.fancy_lex.specs.Target.{Target}
 use Rattle.fancy_lex.specs.Text.{Text}
 use Rattle.fancy_lex.specs.declared.flags.Flags.{Flags}
-use Rattle.fancy_parts.specs.Meaning.{AnyReference, Role, back_reference, call, condition, Meaning, means}
+use Rattle.fancy_parts.specs.Meaning.{Role, back_reference, call, condition, Meaning, means}
 use Rattle.fancy_parts.specs.Ranks.{Opening, is_counted, only_named, numbered_openings, numbers}
 use Rattle.fancy_grammar.specs.Label.{Leaf, Wrap, AstReference, ast_group, ast_node, ast_backref, ast_call}
 use Rattle.fancy_grammar.specs.Label.{ast_condition}
 use Rattle.fancy_grammar.specs.Tree.{Tree, leaf, over, row, Trees, no_trees, more_trees}
 
--- a capturing group opens, or a reference stands
+-- a capturing group opens, or a reference stands at a reach
 pub data Item : Type 0 where
   opening : Opening → Item
-  reference : AnyReference → Item
+  reference : AstReference → ℕ → Item
 
 -- how a reference refers, and to what
 abbrev pub role_of : AstReference → Role
@@ -31,7 +31,7 @@ opened_by (ast_group name reach) = opening (record { reach = reach; name = name 
 opened_by _ = []
 
 abbrev pub referred_by : Leaf → List Item
-referred_by (ast_node r reach) = reference (record { reach = reach; role = role_of r; target = target_of r }) ∷ []
+referred_by (ast_node r reach) = reference r reach ∷ []
 referred_by _ = []
 
 abbrev mutual
@@ -49,7 +49,7 @@ abbrev mutual
 abbrev pub openings_in : List Item → List Opening
 openings_in [] = []
 openings_in (opening o ∷ l) = o ∷ openings_in l
-openings_in (reference r ∷ l) = openings_in l
+openings_in (reference r reach ∷ l) = openings_in l
 
 -- the openings of a raw tree in text order
 abbrev pub openings : Tree → List Opening
@@ -57,19 +57,19 @@ openings r = openings_in (items r)
 
 -- ---- what the references mean
 
--- the references among the items, each with what it means, where each name has these numbers, and c groups that have a
--- number open before the items
-abbrev pub meanings_in : Bool → (Text → List ℕ) → ℕ → List Item → List (AnyReference × Meaning)
+-- the references among the items, each with its reach and what it means, where each name has these numbers, and c
+-- groups that have a number open before the items
+abbrev pub meanings_in : Bool → (Text → List ℕ) → ℕ → List Item → List (AstReference × ℕ × Meaning)
 meanings_in named numbers_of c [] = []
 meanings_in named numbers_of c (opening o ∷ l) =
     meanings_in named numbers_of (if is_counted named o.name then c + 1 else c) l
-meanings_in named numbers_of c (reference r ∷ l) =
-    (r, means numbers_of c r.role r.target) ∷ meanings_in named numbers_of c l
+meanings_in named numbers_of c (reference r reach ∷ l) =
+    (r, reach, means numbers_of c (role_of r) (target_of r)) ∷ meanings_in named numbers_of c l
 
 -- the numbers of each name in a raw tree, under the flags that are handed in
 abbrev pub numbers_in : Flags → Tree → Text → List ℕ
 numbers_in f r name = numbers name (numbered_openings f (openings r))
 
--- the references of a raw tree in text order, each with what it means
-abbrev pub meanings : Flags → Tree → List (AnyReference × Meaning)
+-- the references of a raw tree in text order, each with its reach and what it means
+abbrev pub meanings : Flags → Tree → List (AstReference × ℕ × Meaning)
 meanings f r = meanings_in (only_named f (openings r)) (numbers_in f r) 0 (items r)

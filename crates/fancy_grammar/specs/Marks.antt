@@ -7,10 +7,11 @@ use Rattle.std.specs.Ordering.{nat_cmp}
 use Rattle.fancy_lex.specs.Target.{Target, by_number}
 use Rattle.fancy_lex.specs.Text.{Text, bytes, place_at}
 use Rattle.fancy_lex.specs.declared.flags.Flags.{Flags}
-use Rattle.fancy_parts.specs.Meaning.{Role, back_reference, call, AnyReference, Meaning, number}
-use Rattle.fancy_parts.specs.Ranks.{only_named, numbered_openings_in, named_groups}
+use Rattle.fancy_parts.specs.Meaning.{Role, back_reference, call, Meaning, number}
+use Rattle.fancy_parts.specs.Ranks.{only_named, numbered_openings, named_groups}
 use Rattle.fancy_parts.specs.Written.{is_numeric}
-use Rattle.fancy_grammar.specs.Items.{openings, meanings}
+use Rattle.fancy_grammar.specs.Items.{openings, meanings, role_of, target_of}
+use Rattle.fancy_grammar.specs.Label.{AstReference}
 use Rattle.fancy_grammar.specs.Tree.{Tree}
 
 pub record Marks : Type 0 where
@@ -29,8 +30,8 @@ back_number back_reference (number n) = Some n
 back_number _ _ = None
 
 -- the numbers of the back references, in text order
-abbrev pub back_numbers : List (AnyReference × Meaning) → List ℕ
-back_numbers l = filter_map (λ x. back_number x.0.role x.1) l
+abbrev pub back_numbers : List (AstReference × ℕ × Meaning) → List ℕ
+back_numbers l = filter_map (λ x. back_number (role_of x.0) x.2) l
 
 -- the numbers ascending, each once
 abbrev pub ascending : List ℕ → List ℕ
@@ -48,18 +49,17 @@ is_call_of_all _ _ = false
 -- the marks of a raw tree that was read from the text, under the flags that are handed in
 abbrev pub marks : Flags → Text → Tree → Marks
 marks f text r =
-    let named = only_named f (openings r) in
-    let groups = numbered_openings_in named (openings r) in
+    let groups = numbered_openings f (openings r) in
     let total = length groups in
     let references = meanings f r in
     record {
       backrefs = ascending (filter (λ n. nat_le n total) (back_numbers references));
       named_groups = named_groups groups;
       numeric_capture_group_references =
-          list_any (λ x. is_numeric text (place_at (bytes text) x.0.reach) x.0.role x.0.target) references;
-      contains_subroutines = list_any (λ x. is_call x.0.role) references;
-      self_recursive = list_any (λ x. is_call_of_all x.0.role x.0.target) references;
+          list_any (λ x. is_numeric text (place_at (bytes text) x.1) (role_of x.0) (target_of x.0)) references;
+      contains_subroutines = list_any (λ x. is_call (role_of x.0)) references;
+      self_recursive = list_any (λ x. is_call_of_all (role_of x.0) (target_of x.0)) references;
       total_groups = total;
       out_of_range_backref = find (λ n. nat_lt total n) (back_numbers references);
-      numbered_groups_ignored = named;
+      numbered_groups_ignored = only_named f (openings r);
     }

@@ -4,7 +4,7 @@ use Rattle.fancy_grammar.specs.Items.{Item, opening, reference}
 
 abbrev pub reach_of_item : Item → ℕ
 reach_of_item (opening o) = o.reach
-reach_of_item (reference r) = r.reach
+reach_of_item (reference r reach) = reach
 
 -- the items stand one behind another, no two at one place: below the reach high, and from the reach low on
 abbrev pub DescendingReaches : ℕ → ℕ → List Item → Type 0

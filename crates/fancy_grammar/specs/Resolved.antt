@@ -1,15 +1,14 @@
 -- The tree that is answered for a raw one: its groups have numbers, and so have its references.
-use Rattle.std.specs.Prelude.{ℕ, ◌+◌, Bool, List, length, Option, Some, None, if◌then◌else◌}
+use Rattle.std.specs.Prelude.{ℕ, ◌+◌, Bool, List, [], ◌∷◌, length, Option, Some, None, if◌then◌else◌}
 use Rattle.fancy_lex.specs.Fault.{Fault}
 use Rattle.fancy_lex.specs.Text.{Text, place_at}
 use Rattle.fancy_lex.specs.declared.flags.Flags.{Flags}
-use Rattle.fancy_parts.specs.Meaning.{Meaning, number, means, first_fault}
+use Rattle.fancy_parts.specs.Meaning.{Meaning, number, means, fault_or}
 use Rattle.fancy_parts.specs.Ranks.{only_named, is_counted, numbered_openings_in}
 use Rattle.fancy_grammar.specs.Items.{openings, role_of, target_of, numbers_in, meanings}
 use Rattle.fancy_grammar.specs.Label.{AstReference, ast_backref, ast_call, ast_condition}
 use Rattle.fancy_grammar.specs.Tree.{Tree, leaf, over, row, Trees, no_trees, more_trees, group, ast_group, ast_node}
-use Rattle.fancy_grammar.specs.Tree.{backref}
-use Rattle.fancy_grammar.specs.Tree.{backref_at_level, subroutine_call, backref_exists}
+use Rattle.fancy_grammar.specs.Tree.{backref, backref_at_level, subroutine_call, backref_exists}
 
 -- the node of a reference that means this, in a pattern of m bytes; one that means no number stays, with its place
 abbrev pub reference_node : ℕ → Meaning → AstReference → ℕ → Tree
@@ -19,10 +18,10 @@ reference_node m (number n) (ast_call t) reach = subroutine_call n
 reference_node m (number n) (ast_condition t level) reach = backref_exists n level
 reference_node m _ r reach = ast_node r (place_at m reach)
 
--- in a pattern of n bytes where each name has these numbers; c groups that have a number open before the tree
+-- in a pattern of n bytes where each name has these numbers, and c groups that have a number open before the tree
 module _ (n : ℕ) (named : Bool) (numbers_of : Text → List ℕ) where
   abbrev mutual
-    -- a capturing group that has a number becomes a Group, and another one its inside; a reference becomes what it means
+    -- a capturing group that has a number becomes a Group, and another its inside; a reference becomes what it means
     pub resolved_in : ℕ → Tree → Tree
     resolved_in c (ast_group name reach t) =
         if is_counted named name then group (resolved_in (c + 1) t) else resolved_in c t
@@ -39,6 +38,11 @@ module _ (n : ℕ) (named : Bool) (numbers_of : Text → List ℕ) where
 -- the raw tree resolved, under the flags that are handed in, in a pattern of n bytes
 abbrev pub resolved : Flags → ℕ → Tree → Tree
 resolved f n r = resolved_in n (only_named f (openings r)) (numbers_in f r) 0 r
+
+-- the first fault of references with their reaches and meanings
+abbrev pub first_fault : List (AstReference × ℕ × Meaning) → Option Fault
+first_fault [] = None
+first_fault ((r, reach, m) ∷ l) = fault_or m reach (first_fault l)
 
 -- the first fault of the references of the raw tree
 abbrev pub fault_of : Flags → Tree → Option Fault

@@ -6,10 +6,10 @@ use Rattle.fancy_lex.specs.Fault.{Fault}
 use Rattle.fancy_lex.specs.Target.{Target}
 use Rattle.fancy_lex.specs.Text.{Text, bytes, place_at}
 use Rattle.fancy_parts.specs.Groups.{Groups, with_opening, numbers_under}
-use Rattle.fancy_parts.specs.Meaning.{Role, AnyReference, Meaning, number, means, fault_or}
+use Rattle.fancy_parts.specs.Meaning.{Role, Meaning, number, means, fault_or}
 use Rattle.fancy_parts.specs.Ranks.{is_counted}
 use Rattle.fancy_parts.specs.Written.{is_numeric}
-use Rattle.fancy_grammar.specs.Items.{Item, opening, reference}
+use Rattle.fancy_grammar.specs.Items.{Item, opening, reference, role_of, target_of}
 use Rattle.fancy_grammar.specs.Marks.{back_number, is_call, is_call_of_all}
 use Rattle.fancy_grammar.specs.Resolved.{resolved_in, resolved_all}
 use Rattle.fancy_grammar.specs.Tree.{Tree, Trees}
@@ -19,7 +19,7 @@ use Rattle.fancy_grammar.specs.Tree.{Tree, Trees}
 -- a group is added where it has a number; a reference adds nothing
 abbrev pub find_item : Bool → Groups → Item → Groups
 find_item named s (opening o) = with_opening named s o
-find_item named s (reference r) = s
+find_item named s (reference r reach) = s
 
 -- the groups behind these items
 abbrev pub groups_after : Bool → Groups → List Item → Groups
@@ -71,15 +71,15 @@ number_above total None = None
 number_above total (Some n) = if nat_le n total then None else Some n
 
 -- what is noted of a reference with this meaning: its number, how it is written, whether it calls, and its fault
-abbrev pub note_reference_with : Known → Progress → AnyReference → Meaning → Progress
-note_reference_with k s r m = record {
+abbrev pub note_reference_with : Known → Progress → ℕ → Role → Target → Meaning → Progress
+note_reference_with k s reach role target m = record {
   passed = s.passed;
-  backrefs = with_backref k.groups.total s.backrefs (back_number r.role m);
-  out_of_range = or_else s.out_of_range (number_above k.groups.total (back_number r.role m));
-  numeric = s.numeric || is_numeric k.text (place_at (bytes k.text) r.reach) r.role r.target;
-  calls = s.calls || is_call r.role;
-  self_recursive = s.self_recursive || is_call_of_all r.role r.target;
-  fault = or_else s.fault (fault_or m r.reach None);
+  backrefs = with_backref k.groups.total s.backrefs (back_number role m);
+  out_of_range = or_else s.out_of_range (number_above k.groups.total (back_number role m));
+  numeric = s.numeric || is_numeric k.text (place_at (bytes k.text) reach) role target;
+  calls = s.calls || is_call role;
+  self_recursive = s.self_recursive || is_call_of_all role target;
+  fault = or_else s.fault (fault_or m reach None);
 }
 
 -- what a target means to the walk, by the groups that it has passed
@@ -93,13 +93,12 @@ number_in _ = None
 
 -- what is noted of a reference
 abbrev pub note_reference : Known → Progress → ℕ → Role → Target → Progress
-note_reference k s reach role target =
-    note_reference_with k s (record { reach = reach; role = role; target = target }) (means_here k s role target)
+note_reference k s reach role target = note_reference_with k s reach role target (means_here k s role target)
 
 -- what is noted of an item: a group with a number is passed
 abbrev pub note_item : Known → Progress → Item → Progress
 note_item k s (opening o) = record s { passed = if is_counted k.named o.name then s.passed + 1 else s.passed }
-note_item k s (reference r) = note_reference k s r.reach r.role r.target
+note_item k s (reference r reach) = note_reference k s reach (role_of r) (target_of r)
 
 -- what is noted of the items, one after another
 abbrev pub progress_after : Known → Progress → List Item → Progress

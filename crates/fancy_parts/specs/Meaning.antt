@@ -13,12 +13,6 @@ pub data Role : Type 0 where
   call : Role  -- it calls the group
   condition : Role  -- it asks whether the group has matched
 
--- a reference: its reach, what it does, and what it names
-pub record AnyReference : Type 0 where
-  pub reach : ℕ
-  pub role : Role
-  pub target : Target
-
 -- a group's number, nothing yet, or a fault
 pub data Meaning : Type 0 where
   number : ℕ → Meaning
@@ -75,8 +69,3 @@ means numbers_of c role (relative z) = group_or_none role (at_distance c z)
 abbrev pub fault_or : Meaning → ℕ → Option Fault → Option Fault
 fault_or (faulty k) reach other = Some (of_reference reach k)
 fault_or _ reach other = other
-
--- the first fault of the references that have these meanings
-abbrev pub first_fault : List (AnyReference × Meaning) → Option Fault
-first_fault [] = None
-first_fault ((r, m) ∷ l) = fault_or m r.reach (first_fault l)

@@ -35,7 +35,7 @@ fault_kept : (k : Known) (s : Progress) (f : Fault) (l : List Item) → s.fault 
     (progress_after k s l).fault ≡ Some f
 fault_kept k s f [] h = h
 fault_kept k s f (opening o ∷ l) h = fault_kept k (note_item k s (opening o)) f l h
-fault_kept k s f (reference r ∷ l) h = fault_kept k (note_item k s (reference r)) f l (rw h refl)
+fault_kept k s f (reference r p ∷ l) h = fault_kept k (note_item k s (reference r p)) f l (rw h refl)
 
 pub error_kept : (k : Known) (s : Progress) (e : Option Failure) (a b : List Item) →
     IsErrorNoted e (progress_after k s a).fault → IsErrorNoted e (progress_after k s (a ++ b)).fault
@@ -50,9 +50,9 @@ same_end : (k : Known) (s p : Progress) (l x y : List Item) → l ≡ x ++ y →
 same_end k s p l x y h e =
     ap (λ q. progress_after k q y) e ∙ sym (noted_append k s x y) ∙ ap (progress_after k s) (sym h)
 
-pub walk_ends : {A : Type 0} (r : Result A Stopped) (k : Known) (s p : Progress) (l x y : List Item) (after : code.Progress)
-    (P Q : A → Type 0) → l ≡ x ++ y → p ≡ progress_after k s x → ((a : A) → P a → Q a) → Walks r k p y after P →
-    Walks r k s l after Q
+pub walk_ends : {A : Type 0} (r : Result A Stopped) (k : Known) (s p : Progress) (l x y : List Item)
+    (after : code.Progress) (P Q : A → Type 0) → l ≡ x ++ y → p ≡ progress_after k s x →
+    ((a : A) → P a → Q a) → Walks r k p y after P → Walks r k s l after Q
 walk_ends (Ok a) k s p l x y after P Q h e f w = (f a w.0, w.1 ∙ same_end k s p l x y h e)
 walk_ends (Err _) k s p l x y after P Q h e f w =
     subst (λ (q : Progress). IsErrorNoted after.error q.fault) (same_end k s p l x y h e) w
@@ -69,7 +69,7 @@ total_le : (named : Bool) (s : Groups) (l : List Item) →
 total_le named s [] = omega arith
 total_le named s (opening o ∷ l) =
     omega (arith, total_le named (with_opening named s o) l, opening_total named s o (is_counted named o.name) refl)
-total_le named s (reference r ∷ l) = total_le named s l
+total_le named s (reference r p ∷ l) = total_le named s l
 
 pub found_le : (named : Bool) (s f : Groups) (l : List Item) → f ≡ groups_after named s l →
     f.total ≤ s.total + length (openings_in l)
@@ -80,7 +80,7 @@ passed_is : (k : Known) (s : Progress) (l : List Item) →
     (progress_after k s l).passed ≡ s.passed + counted k.named l
 passed_is k s [] = omega arith
 passed_is k s (opening o ∷ l) = passed_is k (note_item k s (opening o)) l ∙ sym (counted_first k.named o s.passed l)
-passed_is k s (reference r ∷ l) = passed_is k (note_item k s (reference r)) l
+passed_is k s (reference r p ∷ l) = passed_is k (note_item k s (reference r p)) l
 
 pub noted_passed : (k : Known) (s p : Progress) (l : List Item) → p ≡ progress_after k s l →
     p.passed ≡ s.passed + counted k.named l
@@ -89,8 +89,8 @@ noted_passed k s p l e = ap (λ (q : Progress). q.passed) e ∙ passed_is k s l
 pub noted_le : (k : Known) (s p : Progress) (l : List Item) → p ≡ progress_after k s l →
     p.passed ≤ s.passed + length (openings_in l)
 noted_le k s p l e =
-    let counts = λ (o : Opening). is_counted k.named o.name in
-    omega (arith, noted_passed k s p l e, length-filter counts (openings_in l), count_by-le-length counts (openings_in l))
+    let counts = λ (o : Opening). is_counted k.named o.name in let openings = openings_in l in
+    omega (arith, noted_passed k s p l e, length-filter counts openings, count_by-le-length counts openings)
 
 -- the items of the trees from the i-th on
 abbrev pub rest : List Expr → ℕ → List Item

@@ -65,12 +65,12 @@ kept_case u i = record { no_space = refl; not_swapped = refl; not_oniguruma = re
 abbrev pub OnlyGroups : List Item → Type 0
 OnlyGroups [] = Unit {0}
 OnlyGroups (opening o ∷ l) = (o.name ≡ None) × OnlyGroups l
-OnlyGroups (reference r ∷ l) = ⊥
+OnlyGroups (reference r p ∷ l) = ⊥
 
 groups_append : (l m : List Item) → OnlyGroups l → OnlyGroups m → OnlyGroups (l ++ m)
 groups_append [] m h k = k
 groups_append (opening o ∷ l) m h k = (h.0, groups_append l m h.1 k)
-groups_append (reference r ∷ l) m h k = absurd h
+groups_append (reference r p ∷ l) m h k = absurd h
 
 abbrev pub HasGroups : Tree → Type 0
 HasGroups t = OnlyGroups (items t)
@@ -323,7 +323,8 @@ reads_branch {d} {f} {s} {v} x r e h = record {
   derives = branch (r.pieces (done [] (st f v)) (stop h.ends));
   becomes =
       let same = ap (one_or concat) (sym (solid_solid r.resolved)) ∙ ap join r.are ∙ e in
-      let joined = one_becomes label.concat (solid r.trees) (solid r.resolved) (solid_becomes r.trees r.resolved r.become) in
+      let joined =
+      one_becomes label.concat (solid r.trees) (solid r.resolved) (solid_becomes r.trees r.resolved r.become) in
       subst (λ l. Becomes (join l) x) (sym (append-nil r.trees)) (subst (Becomes (join r.trees)) same joined);
 }
 

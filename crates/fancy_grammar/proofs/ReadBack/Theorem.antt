@@ -10,7 +10,6 @@ use Rattle.fancy_lex.specs.Text.{Text, bytes}
 use Rattle.fancy_lex.specs.declared.error.Failure.TheVariants.{At}
 use Rattle.fancy_lex.specs.declared.error.ParseError.TheVariants.{RecursionExceeded}
 use Rattle.fancy_lex.specs.declared.flags.Flags.{Flags}
-use Rattle.fancy_parts.specs.Meaning.{first_fault}
 use Rattle.fancy_parts.specs.Ranks.{numbered_openings_in, named_groups, numbers, name_cmp}
 use Rattle.fancy_grammar.specs.Depth.{max_depth}
 use Rattle.fancy_grammar.specs.Answer.{IsTreeOf, of_reading}
@@ -19,7 +18,7 @@ use Rattle.fancy_grammar.specs.Grammar.{DerivesTree, Faults}
 use Rattle.fancy_grammar.specs.Items.{Item, opening, reference, items, openings, openings_in, meanings_in, numbers_in}
 use Rattle.fancy_grammar.specs.Marks.{Marks, marks}
 use Rattle.fancy_grammar.specs.Printed.{printed}
-use Rattle.fancy_grammar.specs.Resolved.{fault_of}
+use Rattle.fancy_grammar.specs.Resolved.{first_fault, fault_of}
 use Rattle.fancy_grammar.specs.Tree.{Tree, empty}
 use Rattle.fancy_grammar.proofs.AnswerLaws.{marks_from}
 use Rattle.fancy_grammar.proofs.AnsweredLaws.{groups_total}
@@ -44,12 +43,12 @@ no_meanings : (l : List Item) → OnlyGroups l → (named : Bool) (numbers_of : 
     meanings_in named numbers_of c l ≡ []
 no_meanings [] h named u c = refl
 no_meanings (opening o ∷ l) h named u c = no_meanings l h.1 named u _
-no_meanings (reference r ∷ l) h named u c = absurd h
+no_meanings (reference r p ∷ l) h named u c = absurd h
 
 no_names : (l : List Item) → OnlyGroups l → filter_map (λ o. o.name) (numbered_openings_in false (openings_in l)) ≡ []
 no_names [] h = refl
 no_names (opening o ∷ l) h = rw h.0 (no_names l h.1)
-no_names (reference r ∷ l) h = absurd h
+no_names (reference r p ∷ l) h = absurd h
 
 marks_are : (u : Bool) (text : Text) (r : Tree) → OnlyGroups (items r) →
     marks (unicode_flags u) text r ≡ marks_of_groups (length (numbered_openings_in false (openings r)))
@@ -69,7 +68,8 @@ tree_of : (u : Bool) (text : Text) (r x : Tree) → DerivesTree (unicode_flags u
 tree_of u text r x d b =
     let numbered = numbered_openings_in false (openings r) in
     let numbers_of = numbers_in (unicode_flags u) r in
-    let none : fault_of (unicode_flags u) r ≡ None = ap first_fault (no_meanings (items r) b.groups false numbers_of 0) in
+    let none : fault_of (unicode_flags u) r ≡ None
+    = ap first_fault (no_meanings (items r) b.groups false numbers_of 0) in
     let found : IsTreeOf (unicode_flags u) text x (marks_of_groups (length numbered)) =
     (r, d, none, sym (b.is (bytes text) numbers_of 0), sym (marks_are u text r b.groups)) in
     subst (λ n. IsTreeOf (unicode_flags u) text x (marks_of_groups n)) (sym (groups_total found)) found
