@@ -5,6 +5,7 @@ pub mod Quantifier
 pub mod FlagLetters
 pub mod LetterSteps
 pub mod GroupName
+pub mod NameMark
 pub mod HeadReference
 -- ---- the numbers of groups, and what references mean by them
 pub mod Ranks

@@ -8,7 +8,7 @@ use fancy_lex::flags::Flags;
 use fancy_lex::name::CaptureGroupTarget;
 use fancy_lex::name::target::{Call, Reference, Target};
 use fancy_lex::text::{after, after_word, place_at};
-use fancy_parts::heads::names::group_name;
+use fancy_parts::heads::names::{ClosingMark, group_name};
 use fancy_parts::heads::references::{condition_target, named_call, named_reference};
 use std::alloc::{AllocError, Global};
 use std::fmt;
@@ -96,9 +96,9 @@ fn read_name(pattern: &str) -> Answer<'_> {
         return Ok((Found::Nothing, pattern));
     };
     let (name, rest) = if let Some(text) = after(head, '\'') {
-        group_name(head, '\'', text)?
+        group_name(head, ClosingMark::Quote, text)?
     } else if let Some(text) = after_word(head, "P<").or_else(|| after(head, '<')) {
-        group_name(head, '>', text)?
+        group_name(head, ClosingMark::Angle, text)?
     } else {
         return Ok((Found::Nothing, pattern));
     };

@@ -3,6 +3,7 @@ ghost use Rattle.std.specs.Prelude.{◌≡◌, ◌<◌, ◌≤◌, length, chars
 ghost use Rattle.fancy_lex.specs.FaultTable.{unknown_verb};
 ghost use Rattle.fancy_parts.specs.LetterSteps.{letters};
 ghost use Rattle.fancy_parts.specs.GroupName as names;
+ghost use Rattle.fancy_parts.specs.NameMark.{mark_of};
 ghost use Rattle.fancy_parts.specs.HeadReference as references;
 ghost use Rattle.fancy_grammar.specs.Ahead.{read, with_head};
 ghost use Rattle.fancy_grammar.specs.Head as head;
@@ -21,7 +22,7 @@ use crate::grammar::reference::{backref, condition, subroutine_call};
 use crate::grammar::state::{State, skip_layout};
 use fancy_lex::error::{Failure, ParseError};
 use fancy_lex::text::{AT_END, after, after_word, next, reach};
-use fancy_parts::heads::names::group_name;
+use fancy_parts::heads::names::{ClosingMark, group_name};
 use fancy_parts::heads::references::{
     begins_target, condition_target, named_call, named_reference,
 };
@@ -63,7 +64,7 @@ fn after_question<'a>(alloc: Global, here: &mut State<'a>) -> Result<Ahead<'a>, 
         '=' => Ok(open_look_around(here, rest, LookAround::LookAhead)),
         '!' => Ok(open_look_around(here, rest, LookAround::LookAheadNeg)),
         '<' => after_less(here, rest),
-        '\'' => read_name(here, rest, '\''),
+        '\'' => read_name(here, rest, ClosingMark::Quote),
         'P' => after_p(alloc, here, rest),
         '~' => {
             here.rest = rest;
@@ -107,15 +108,18 @@ fn after_less<'a>(here: &mut State<'a>, rest: &'a str) -> Result<Ahead<'a>, Fail
     if let Some(inside) = after(rest, '!') {
         return Ok(open_look_around(here, inside, LookAround::LookBehindNeg));
     }
-    read_name(here, rest, '>')
+    read_name(here, rest, ClosingMark::Angle)
 }
 
 /// Reads the name of a group, which begins at the text, up to the closing mark.
-fn read_name<'a>(here: &mut State<'a>, name: &'a str, mark: char) -> Result<Ahead<'a>, Failure>
+fn read_name<'a>(
+    here: &mut State<'a>,
+    name: &'a str,
+    mark: ClosingMark,
+) -> Result<Ahead<'a>, Failure>
     requires shorter { length name.now ≤ length here.old.rest.now }
-    requires ascii { mark < 128 }
     ensures value { Sees result (state here.new) (spec.named_ahead (state here.old)
-        (names.group_name mark (chars here.old.rest.now) (chars name.now))) }
+        (names.group_name (mark_of mark) (chars here.old.rest.now) (chars name.now))) }
     ensures within { length here.new.rest.now ≤ length here.old.rest.now }
     ensures something { IfOk result (λ a. IsSomething a) }
 {
@@ -136,7 +140,7 @@ fn after_p<'a>(alloc: Global, here: &mut State<'a>, rest: &'a str) -> Result<Ahe
         return read_flags(alloc, here);
     };
     match c {
-        '<' => read_name(here, behind, '>'),
+        '<' => read_name(here, behind, ClosingMark::Angle),
         '=' => read_reference(alloc, here, behind),
         '>' => read_call(alloc, here, behind),
         _ => read_flags(alloc, here),
