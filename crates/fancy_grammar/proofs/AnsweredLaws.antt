@@ -32,7 +32,8 @@ use Rattle.fancy_parts.proofs.NamedLaws.{under_named}
 use Rattle.fancy_grammar.proofs.NamedNumbers.{named_ascend, carries, number_carried}
 use Rattle.fancy_grammar.proofs.PreorderLaws.{of_reference, kept, kept_if, resolved_nodes, items_of_all, items_of_nodes}
 use Rattle.fancy_grammar.proofs.Verdict.{same_tree}
-use Rattle.fancy_grammar.proofs.ReadLaws.{IsReadNode, IsRead, derived_read}
+use Rattle.fancy_grammar.proofs.ReadLaws.{derived_read}
+use Rattle.fancy_grammar.proofs.TreeLaws.{IsReadNode, IsRead}
 
 -- ---- what a reference comes to
 

@@ -14,6 +14,8 @@ pub mod PreorderLaws
 pub mod LevelLaws
 -- ---- what is true of every raw tree
 pub mod Slices
+pub mod TreeLaws
+pub mod AheadLaws
 pub mod ReadLaws
 pub mod BoundLaws
 -- ---- resolving

@@ -24,17 +24,6 @@ then_keeps : (P : Outcome Tree → Type 0) →
 then_keeps P g f (done r t) h = g r t f h
 then_keeps P g f (fault k p) h = h
 
--- what was read is so, where it ends
-abbrev pub Holds : {A : Type 0} → (A → State → Type 0) → Outcome A → Type 0
-Holds P (done a s) = P a s
-Holds P (fault k p) = Unit {0}
-
--- one part behind another
-pub then_holds : {A B : Type 0} (P : A → State → Type 0) (Q : B → State → Type 0) (q : Outcome A)
-    (f : A → State → Outcome B) → Holds P q → ((a : A) (s : State) → P a s → Holds Q (f a s)) → Holds Q (and_then q f)
-then_holds P Q (done a s) f h g = g a s h
-then_holds P Q (fault k p) f h g = tt
-
 -- what says nothing of the flags behind an atom holds whatever they are
 pub behind_keeps : (P : Outcome Tree → Type 0) →
     ((r : Tree) (t : State) (f : Flags) → P (done r t) → P (done r (record t { flags = f }))) →

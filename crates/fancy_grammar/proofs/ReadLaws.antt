@@ -1,385 +1,467 @@
--- What is true of the nodes of every raw tree.
-use Rattle.std.proofs.Common.{◌≡◌, ℕ, zero, suc, ◌+◌, ◌≤◌, Bool, false, ◌==◌, ◌&&◌, not, List, [], ◌∷◌, ◌++◌, length}
-use Rattle.std.proofs.Common.{Option, Some, None, refl, subst, nat_lt, nat_le, sym, codes, arith}
+-- What is true of all that is read: where it stands, what its nodes are, and how large it is. By one induction on the
+-- derivation; what stands ahead decides the rule of an atom.
+use Rattle.std.proofs.Common.{◌≡◌, ℕ, zero, suc, ◌+◌, ◌<◌, ◌≤◌, ◌∷◌, [], ◌++◌, List, refl, sym, ap, ◌∙◌, subst, arith}
+use Rattle.std.proofs.Common.{Bool, true, false, Option, Some, None, append-nil, length, ◌*◌, ◌-◌}
+use Rattle.std.specs.Prelude.{◌==◌, not, nat_lt, IfSome, ◌&&◌}
 use Rattle.std.proofs.lemmas.Bool.{cond_both}
 use Rattle.std.specs.List.{AllByRecursion}
+use Rattle.std.proofs.lemmas.Bool.Decides.{nat_tests}
 use Prim.Native.Char.{code}
-use Rattle.fancy_lex.proofs.EscapeSound.{Sound, sound_escape}
+use Rattle.fancy_lex.proofs.LeaveLaws.{stands_before, stands_end}
 use Rattle.fancy_lex.proofs.ReadingLemmas.{choose_both}
-use Rattle.fancy_lex.specs.Class.{class}
-use Rattle.fancy_lex.specs.Escape.{escape}
-use Rattle.fancy_lex.specs.Escaped as escaped
-use Rattle.fancy_lex.specs.Escaped.{Escape}
+use Rattle.fancy_lex.specs.Characters.{bar}
+use Rattle.fancy_lex.specs.Fault.{Kind}
 use Rattle.fancy_lex.specs.LayoutSteps.{Skipped, rest, fault as open_comment}
-use Rattle.fancy_lex.specs.Reading.{Reading, gives, fails}
-use Rattle.fancy_lex.specs.Referred.{Reference, Call}
-use Rattle.fancy_lex.specs.Text.{Text, bytes, reach_of, strip_word}
+use Rattle.fancy_lex.specs.Text.{Text, bytes, reach_of, strip}
 use Rattle.fancy_lex.specs.declared.flags.Flags.{Flags}
-use Rattle.fancy_parts.specs.FlagLetters.{Letters, setting, scope as scoped}
-use Rattle.fancy_parts.specs.LetterSteps.{letters}
-use Rattle.fancy_parts.specs.GroupName.{group_name}
-use Rattle.fancy_parts.specs.HeadReference.{named_reference, named_call, begins_target, condition_target}
+use Rattle.fancy_parts.proofs.CountLaws.{Closed, closes_counts}
 use Rattle.fancy_parts.specs.Quantifier.{counts}
 use Rattle.fancy_parts.specs.declared.counts.Counts.{Counts}
-use Rattle.fancy_grammar.specs.Ahead.{Ahead, read, body, ahead, ahead_of, behind_layout, group_ahead, behind_question}
-use Rattle.fancy_grammar.specs.Ahead.{condition_ahead, repeater_ahead, flags_ahead, named_ahead, target_ahead}
-use Rattle.fancy_grammar.specs.Ahead.{backref_node, call_node, leaf_node, leaf_outcome, leaf_of, is_before_nothing}
-use Rattle.fancy_grammar.specs.Depth.{max_depth}
+use Rattle.fancy_grammar.specs.Ahead.{Ahead}
+use Rattle.fancy_grammar.specs.Depth.{max_depth, levels_at_depth, max_levels}
 use Rattle.fancy_grammar.specs.Grammar.{Alternation, alternation, Branches, last, more, branch_fault, Branch, branch}
 use Rattle.fancy_grammar.specs.Grammar.{Pieces, stop, next, piece_fault, Piece, piece, layout_fault, Atom, atom, AtomOf}
 use Rattle.fancy_grammar.specs.Grammar.{a_nothing, a_read, a_group, a_condition, condition_fault, a_body, two_branches}
-use Rattle.fancy_grammar.specs.Grammar.{one_branch, absent_fault, Inside, inside, Body, the_body, Whole, whole, closed}
-use Rattle.fancy_grammar.specs.Grammar.{closed_at, ended, ended_at, branches_of, conditional_of, conditional_behind}
-use Rattle.fancy_grammar.specs.Grammar.{is_condition, clear_or_stopper}
+use Rattle.fancy_grammar.specs.Grammar.{one_branch, absent_fault, Inside, inside, Body, the_body, Whole, whole, start}
+use Rattle.fancy_grammar.specs.Grammar.{closed, closed_at, ended, ended_at, branches_of, conditional_of}
+use Rattle.fancy_grammar.specs.Grammar.{conditional_behind, is_condition, clear_or_stopper}
 use Rattle.fancy_grammar.specs.Head.{Head, capture, scope, look, atomic, define, repeater, group_node}
-use Rattle.fancy_grammar.specs.Join.{join, choice, solid, is_empty, one_or}
-use Rattle.fancy_grammar.specs.Preorder.{preorder, preorder_all}
+use Rattle.fancy_grammar.specs.Items.{items}
 use Rattle.fancy_grammar.specs.Quantified.{quants, adjacent, max_adjacent, is_unmoved, quant, quant_at, with_counts}
-use Rattle.fancy_grammar.specs.Quantified.{suffix, is_swapped, quantified, is_repeatable, is_dropped}
-use Rattle.fancy_grammar.specs.State.{skipped, State, at, Outcome, done, fault, and_then}
-use Rattle.fancy_grammar.specs.Verb.{verb_at}
+use Rattle.fancy_grammar.specs.Quantified.{suffix, suffix_at, behind_lazy, may_be_possessive, is_repeatable, is_dropped}
 use Rattle.fancy_grammar.specs.Quantified.{Suffix}
-use Rattle.fancy_grammar.specs.Label as label
-use Rattle.fancy_grammar.specs.Tree.{Tree, leaf, over, row, Trees, no_trees, more_trees, concat, alt, delegate}
-use Rattle.fancy_grammar.specs.Tree.{expression}
-use Rattle.fancy_grammar.specs.Tree.{trees_of, list_of, levels}
-use Rattle.fancy_grammar.proofs.OutcomeLemmas.{Holds, then_holds, behind_keeps}
+use Rattle.fancy_grammar.specs.Ordered.{DescendingReaches, reach_of_item}
+use Rattle.fancy_grammar.specs.Slices.{Slice}
+use Rattle.fancy_grammar.specs.State.{skipped, State, at, Outcome, done, fault}
+use Rattle.fancy_grammar.specs.Tree.{Tree, expression, levels, nodes}
+use Rattle.fancy_grammar.proofs.OutcomeLemmas.{behind_keeps}
+use Rattle.fancy_grammar.proofs.Slices.{MayStand, Span, Reads, here, on, fits, one, one_bytes, strip_slice, strip_bytes}
+use Rattle.fancy_grammar.proofs.Slices.{cut_slice, to_ends, stands_at, stands_in, raised, lowered, bare, then, before}
+use Rattle.fancy_grammar.proofs.Slices.{behind, listed, opened, SkippedSlice, layout_slice, skipped_slice, then_reads}
+use Rattle.fancy_grammar.proofs.TreeLaws.{items_of, items_choice, items_join, items_quantified, items_conditional}
+use Rattle.fancy_grammar.proofs.TreeLaws.{items_branches, items_clear_or_stopper, IsRead, AreRead, leaf_is_read}
+use Rattle.fancy_grammar.proofs.TreeLaws.{all_read, join_read, choice_read, quantified_read, node_read}
+use Rattle.fancy_grammar.proofs.TreeLaws.{conditional_of_read, branches_read, clear_or_stopper_read, sizes, weight}
+use Rattle.fancy_grammar.proofs.TreeLaws.{weights, widest, weight_most, join_size, join_levels, some_choice_size}
+use Rattle.fancy_grammar.proofs.TreeLaws.{choice_levels, branches_size, branches_levels, conditional_size}
+use Rattle.fancy_grammar.proofs.TreeLaws.{conditional_levels, node_over, clear_or_stopper_over, repeatable_solid}
+use Rattle.fancy_grammar.proofs.TreeLaws.{solid_weight, quantified_over, leaf_size}
+use Rattle.fancy_grammar.proofs.AheadLaws.{Past, IsLeaf, AheadReads, ahead_reads, OpensBelow, ahead_below}
 
--- what holds of a node of a raw tree: it is none that resolving makes, and what holds of an answered one
-abbrev pub IsReadNode : Tree → Type 0
-IsReadNode (leaf (label.literal w casei)) = length w ≡ 1
-IsReadNode (leaf (label.literal_bytes w)) = (length w ≡ 1) × AllByRecursion (λ b. (0x80 ≤ b) × (b ≤ 0xFF)) w
-IsReadNode (row label.alt ts) = 2 ≤ length (list_of ts)
-IsReadNode (over label.group t) = ⊥
-IsReadNode (leaf (label.backref n casei)) = ⊥
-IsReadNode (leaf (label.backref_at_level n level casei)) = ⊥
-IsReadNode (leaf (label.backref_exists n level)) = ⊥
-IsReadNode (leaf (label.subroutine_call n)) = ⊥
-IsReadNode _ = Unit {0}
+-- a tree that is read from s up to t: its groups and references, its nodes, and a bound on its size
+pub record Part (Size : Tree → State → Type 0) (s : State) (r : Tree) (t : State) : Type 0 where
+  pub span : Span (items r) s.rest t.rest
+  pub read : IsRead r
+  pub size : Size r t
 
-abbrev pub IsRead : Tree → Type 0
-IsRead t = AllByRecursion IsReadNode (preorder t)
+-- trees that are read one after another
+pub record Parts (Size : List Tree → State → Type 0) (s : State) (l : List Tree) (t : State) : Type 0 where
+  pub span : Span (items_of l) s.rest t.rest
+  pub read : AreRead l
+  pub size : Size l t
 
-abbrev AreRead : List Tree → Type 0
-AreRead ts = AllByRecursion IsRead ts
-
-both_read : (a b : List Tree) → AllByRecursion IsReadNode a → AllByRecursion IsReadNode b →
-    AllByRecursion IsReadNode (a ++ b)
-both_read [] b h i = i
-both_read (t ∷ a) b h i = (h.0, both_read a b h.1 i)
-
--- ---- trees that are put together
-
-all_read : (ts : List Tree) → AreRead ts → AllByRecursion IsReadNode (preorder_all (trees_of ts))
-all_read [] h = tt
-all_read (t ∷ ts) h = both_read (preorder t) (preorder_all (trees_of ts)) h.0 (all_read ts h.1)
-
-each_read : (ts : Trees) → AllByRecursion IsReadNode (preorder_all ts) → AreRead (list_of ts)
-each_read no_trees h = tt
-each_read (more_trees t ts) h =
-    (front (preorder t) (preorder_all ts) h, each_read ts (back (preorder t) (preorder_all ts) h))
-  where
-    front : (a b : List Tree) → AllByRecursion IsReadNode (a ++ b) → AllByRecursion IsReadNode a
-    front [] b h = tt
-    front (x ∷ a) b h = (h.0, front a b h.1)
-
-    back : (a b : List Tree) → AllByRecursion IsReadNode (a ++ b) → AllByRecursion IsReadNode b
-    back [] b h = h
-    back (x ∷ a) b h = back a b h.1
-
-solid_read : (ts : List Tree) → AreRead ts → AreRead (solid ts)
-solid_read [] h = tt
-solid_read (t ∷ ts) h = cond_both (is_empty t) _ _ AreRead (λ _. solid_read ts h.1) (λ _. (h.0, solid_read ts h.1))
-
-join_read : (ts : List Tree) → AreRead ts → IsRead (join ts)
-join_read ts h = of_solid (solid ts) (solid_read ts h)
-  where
-    of_solid : (ts : List Tree) → AreRead ts → IsRead (one_or concat ts)
-    of_solid [] h = (tt, tt)
-    of_solid (t ∷ []) h = h.0
-    of_solid (t ∷ u ∷ ts) h = (tt, all_read (t ∷ u ∷ ts) h)
-
-choice_read : (ts : List Tree) → AreRead ts → IsRead (choice ts)
-choice_read [] h = (tt, tt)
-choice_read (t ∷ []) h = h.0
-choice_read (t ∷ u ∷ ts) h = (omega arith, all_read (t ∷ u ∷ ts) h)
-
--- ---- outcomes
-
--- what was read is so
-abbrev pub Makes : {A : Type 0} → (A → Type 0) → Outcome A → Type 0
-Makes P o = Holds (λ a s. P a) o
-
-then_makes : {A B : Type 0} (P : A → Type 0) (Q : B → Type 0) (q : Outcome A) (f : A → State → Outcome B) →
-    Makes P q → ((a : A) (s : State) → P a → Makes Q (f a s)) → Makes Q (and_then q f)
-then_makes P Q q f h g = then_holds (λ a s. P a) (λ a s. Q a) q f h g
-
-any_made : {A : Type 0} (o : Outcome A) → Makes (λ _. Unit {0}) o
-any_made (done a s) = tt
-any_made (fault k p) = tt
+-- the same part under another bound
+resized : (P Q : Tree → State → Type 0) (s : State) (o : Outcome Tree) → ((b : Tree) (v : State) → P b v → Q b v) →
+    Reads (Part P s) s o → Reads (Part Q s) s o
+resized P Q s (done b v) f h = record { span = h.span; read = h.read; size = f b v h.size }
+resized P Q s (fault k p) f h = h
 
 -- ---- quantifiers
 
-quantified_read : (f : Flags) (c : Counts) (m : Suffix) (a : Tree) → IsRead a → IsRead (quantified f c m a)
-quantified_read f c m a h =
-    cond_both (is_swapped f c) _ _ IsRead (λ _. (tt, (tt, h)))
-    (λ _. cond_both m.possessive _ _ IsRead (λ _. (tt, (tt, h))) (λ _. (tt, h)))
+pub suffix_reads : (w : State) (c : Counts) → Reads (λ (m : Suffix) v. Slice w.rest v.rest) w (suffix w c)
+suffix_reads w c = by_layout (skipped w) (layout_slice w.flags.ignore_space w.rest)
+  where
+    W : Outcome Suffix → Type 0
+    W = Reads (λ (m : Suffix) v. Slice w.rest v.rest) w
 
-quant_read : (left : ℕ) (a : Tree) (t : State) → IsRead a → Makes IsRead (quant left a t)
+    behind_mark : (lazy : Bool) (t : Text) → Slice w.rest t → W (behind_lazy w c lazy t)
+    behind_mark lazy t i =
+        cond_both (may_be_possessive w.flags c) _ _ W
+        (λ _. choose_both W (strip (code "+") t) _ _ (λ u e. on i (strip_slice (code "+") t u e)) i) (λ _. i)
+
+    by_layout : (j : Skipped) → SkippedSlice w.rest j → W (suffix_at w c j)
+    by_layout (rest t) i =
+        choose_both W (strip (code "?") t) _ _ (λ u e. behind_mark true u (on i (strip_slice (code "?") t u e)))
+        (behind_mark false t i)
+    by_layout (open_comment p) i = i
+
+-- a quantifier has a byte at least for each level that it adds, and for each two nodes; it adds two levels at most
+abbrev Grows : Tree → State → Tree → State → Type 0
+Grows a s b t =
+    (weight b + 2 * bytes t.rest ≤ weight a + 2 * bytes s.rest)
+    × (levels b + 2 * bytes t.rest ≤ levels a + 2 * bytes s.rest)
+    × (levels b ≤ levels a + 2)
+
+-- so many of them
+abbrev GrowsBy : ℕ → Tree → State → Tree → State → Type 0
+GrowsBy k a s b t = (weight b + 2 * bytes t.rest ≤ weight a + 2 * bytes s.rest) × (levels b ≤ levels a + 2 * k)
+
+-- of a tree that is read from s up to t
+quant_read : (left : ℕ) (a : Tree) (s t : State) → Span (items a) s.rest t.rest → IsRead a →
+    Reads (Part (Grows a t) s) s (quant left a t)
 unfolding quant
-quant_read left a t h = by_layout (skipped t)
+quant_read left a s t h n = by_layout (skipped t) (layout_slice t.flags.ignore_space t.rest)
   where
-    by_counts : (v : Text) (o : Option (Counts × Text)) → Makes IsRead (with_counts left a (at t v) o)
-    by_counts v None = h
-    by_counts v (Some (c, u)) =
-        let marks = suffix (at t u) c in
-        cond_both (is_repeatable t.flags a) _ _ (Makes IsRead)
-        (λ _. then_makes (λ _. Unit {0}) IsRead marks _ (any_made marks)
-        (λ m s _. quantified_read t.flags c m a h)) (λ _.
-        cond_both (is_dropped t.flags left a u) _ _ (Makes IsRead)
-        (λ _. then_makes (λ _. Unit {0}) IsRead marks _ (any_made marks) (λ m s _. h)) (λ _. tt))
+    P : Tree → State → Type 0
+    P = Part (Grows a t) s
 
-    by_layout : (j : Skipped) → Makes IsRead (quant_at left a t j)
-    by_layout (rest v) = by_counts v (counts t.flags.ignore_space v)
-    by_layout (open_comment p) = tt
+    by_counts : (v : Text) (o : Option (Counts × Text)) → Slice t.rest v → IfSome o (λ p. Closed v p.1) →
+        Reads P s (with_counts left a (at t v) o)
+    by_counts v None l i = record {
+      span = behind h l;
+      read = n;
+      size = (omega (arith, fits l), omega (arith, fits l), omega arith);
+    }
+    by_counts v (Some (c, u)) l i =
+        let ends = on l (cut_slice i.ends) in let past = on ends (one i.mark u) in
+        let long : bytes u + 1 ≤ bytes t.rest = omega (arith, fits ends, one_bytes i.mark u) in
+        let marks = suffix_reads (at t u) c in
+        cond_both (is_repeatable t.flags a) _ _ (Reads P s)
+        (λ e. then_reads _ P s (at t u) (suffix (at t u) c) _ (on h.slice past) marks (λ m w k.
+        let over = quantified_over t.flags c m a in let is = solid_weight a (repeatable_solid t.flags a e) in record {
+          span = listed (items_quantified t.flags c m a) (behind h (on past k));
+          read = quantified_read t.flags c m a n;
+          size = (omega (arith, over.0, is, long, fits k), omega (arith, over.1, long, fits k), over.1);
+        })) (λ _.
+        cond_both (is_dropped t.flags left a u) _ _ (Reads P s)
+        (λ _. then_reads _ P s (at t u) (suffix (at t u) c) _ (on h.slice past) marks (λ m w k. record {
+          span = behind h (on past k);
+          read = n;
+          size = (omega (arith, long, fits k), omega (arith, long, fits k), omega arith);
+        })) (λ _. stands_before i.ascii (to_ends (on h.slice ends))))
 
-adjacent_read : (k d : ℕ) (a : Tree) (t : State) → IsRead a → Makes IsRead (adjacent k d a t)
+    by_layout : (j : Skipped) → SkippedSlice t.rest j → Reads P s (quant_at left a t j)
+    by_layout (rest v) i =
+        by_counts v (counts t.flags.ignore_space v) i (closes_counts t.flags.ignore_space v)
+    by_layout (open_comment p) i = stands_in h.slice i
+
+unmoved_bytes : (s t : State) → is_unmoved s t ≡ true → bytes t.rest ≡ bytes s.rest
+unmoved_bytes s t e = grind (arith, nat_tests)
+
+-- a reading that takes no byte adds no level
+adjacent_read : (k d : ℕ) (a : Tree) (s t : State) → Span (items a) s.rest t.rest → IsRead a →
+    Reads (Part (GrowsBy k a t) s) s (adjacent k d a t)
 unfolding adjacent
-adjacent_read zero d a t h =
-    then_makes IsRead IsRead (quant (bytes t.rest) a t) _ (quant_read (bytes t.rest) a t h)
-    (λ b v i. cond_both (is_unmoved t v) _ _ (Makes IsRead) (λ _. i) (λ _. tt))
-adjacent_read (suc k) d a t h =
+adjacent_read zero d a s t h n =
+    let P = Part (GrowsBy zero a t) s in let once = quant_read (bytes t.rest) a s t h n in
+    then_reads (Part (Grows a t) s) P s s (quant (bytes t.rest) a t) _ (here s.rest) once (λ b v i.
+    cond_both (is_unmoved t v) _ _ (Reads P s) (λ e. record {
+      span = i.span;
+      read = i.read;
+      size = (i.size.0, omega (arith, i.size.1, unmoved_bytes t v e));
+    }) (λ _. stands_at i.span.slice))
+adjacent_read (suc k) d a s t h n =
+    let P = Part (GrowsBy (suc k) a t) s in let once = quant_read (bytes t.rest) a s t h n in
     let more = adjacent_read k (d + 1) in
-    then_makes IsRead IsRead (quant (bytes t.rest) a t) _ (quant_read (bytes t.rest) a t h)
-    (λ b v i. cond_both (is_unmoved t v) _ _ (Makes IsRead) (λ _. i)
-    (λ _. cond_both (nat_lt (d + 1) max_depth) _ _ (Makes IsRead) (λ _. more b v i) (λ _. tt)))
+    then_reads (Part (Grows a t) s) P s s (quant (bytes t.rest) a t) _ (here s.rest) once (λ b v i.
+    cond_both (is_unmoved t v) _ _ (Reads P s) (λ e. record {
+      span = i.span;
+      read = i.read;
+      size = (i.size.0, omega (arith, i.size.1, unmoved_bytes t v e));
+    }) (λ _.
+    cond_both (nat_lt (d + 1) max_depth) _ _ (Reads P s)
+    (λ _. resized (GrowsBy k b v) (GrowsBy (suc k) a t) s (adjacent k (d + 1) b v) (λ x w j.
+    (omega (arith, i.size.0, j.0), omega (arith, i.size.2, j.1))) (more b s v i.span i.read))
+    (λ _. stands_at i.span.slice)))
 
-quants_read : (d left : ℕ) (a : Tree) (t : State) → IsRead a → Makes IsRead (quants d left a t)
-quants_read d left a t h =
-    then_makes IsRead IsRead (quant left a t) _ (quant_read left a t h)
-    (λ b v i. cond_both v.flags.oniguruma_mode _ _ (Makes IsRead) (λ _. adjacent_read max_adjacent d b v i) (λ _. i))
+-- one, and four adjacent to it
+quants_read : (d left : ℕ) (a : Tree) (s t : State) → Span (items a) s.rest t.rest → IsRead a →
+    Reads (Part (GrowsBy 5 a t) s) s (quants d left a t)
+quants_read d left a s t h n =
+    let P = Part (GrowsBy 5 a t) s in
+    then_reads (Part (Grows a t) s) P s s (quant left a t) _ (here s.rest) (quant_read left a s t h n) (λ b v i.
+    cond_both v.flags.oniguruma_mode _ _ (Reads P s)
+    (λ _. resized (GrowsBy max_adjacent b v) (GrowsBy 5 a t) s (adjacent max_adjacent d b v) (λ x w j.
+    (omega (arith, i.size.0, j.0), omega (arith, i.size.2, j.1)))
+    (adjacent_read max_adjacent d b s v i.span i.read))
+    (λ _. record { span = i.span; read = i.read; size = (i.size.0, omega (arith, i.size.2)) }))
 
--- ---- what stands ahead
+-- ---- the bounds of each part, which is read from s at depth d and ends at t; its levels are max_levels, less those of
+-- each depth: of these an Alt takes one and a Concat one, the quantifiers of a piece ten, and a group one
 
--- so is a node that stands alone
-abbrev pub IsReadLeaf : Tree → Type 0
-IsReadLeaf t = IsReadNode t × (preorder t ≡ t ∷ []) × (levels t ≡ 1)
+abbrev branch_levels : ℕ
+branch_levels = max_levels - 1
 
-leaf_is_read : (t : Tree) → IsReadLeaf t → IsRead t
-leaf_is_read t h = subst (AllByRecursion IsReadNode) (sym h.1) (h.0, tt)
+abbrev piece_levels : ℕ
+piece_levels = branch_levels - 1
 
-abbrev pub ReadAhead : Ahead → Type 0
-ReadAhead (read o) = Makes IsReadLeaf o
-ReadAhead (body c s) = IsReadLeaf c
-ReadAhead _ = Unit {0}
+abbrev atom_levels : ℕ
+atom_levels = piece_levels - 10
 
-escape_read : (s : State) (t : Text) (o : Reading Escape) → Sound t o →
-    Makes IsReadLeaf (leaf_outcome leaf_node s o)
-escape_read s t (gives (escaped.literal c casei) u) h = (refl, refl, refl)
-escape_read s t (gives (escaped.literal_bytes b) u) h = ((refl, (h, tt)), refl, refl)
-escape_read s t (gives (escaped.any newline crlf) u) h = (tt, refl, refl)
-escape_read s t (gives (escaped.assertion a) u) h = (tt, refl, refl)
-escape_read s t (gives (escaped.general_newline unicode) u) h = (tt, refl, refl)
-escape_read s t (gives escaped.keep_out u) h = (tt, refl, refl)
-escape_read s t (gives escaped.continue_from_previous_match_end u) h = (tt, refl, refl)
-escape_read s t (gives (escaped.delegate w casei) u) h = (tt, refl, refl)
-escape_read s t (gives (escaped.backref r casei) u) h = (tt, refl, refl)
-escape_read s t (gives (escaped.subroutine_call c) u) h = (tt, refl, refl)
-escape_read s t (fails e) h = tt
+abbrev inside_levels : ℕ
+inside_levels = atom_levels - 1
 
-class_read : (s : State) (casei : Bool) (o : Reading Text) → Makes IsReadLeaf (leaf_outcome (λ w. delegate w casei) s o)
-class_read s casei (gives w u) = (tt, refl, refl)
-class_read s casei (fails e) = tt
+-- of an atom, and of one with its quantifiers: an Empty may take no byte
+abbrev Fits : ℕ → ℕ → State → Tree → State → Type 0
+Fits high d s r t =
+    d < max_depth → (weight r + 2 * bytes t.rest ≤ 2 * bytes s.rest) × (levels r + levels_at_depth * d ≤ high)
 
-backref_read : (s : State) (casei : Bool) (o : Reading Reference) →
-    Makes IsReadLeaf (leaf_outcome (backref_node casei) s o)
-backref_read s casei (gives r u) = (tt, refl, refl)
-backref_read s casei (fails e) = tt
+-- of pieces
+abbrev PiecesFit : ℕ → State → List Tree → State → Type 0
+PiecesFit d s l t =
+    d < max_depth → (weights l + 2 * bytes t.rest ≤ 2 * bytes s.rest) × (widest l + levels_at_depth * d ≤ piece_levels)
 
-call_read : (s : State) (o : Reading Call) → Makes IsReadLeaf (leaf_outcome call_node s o)
-call_read s (gives c u) = (tt, refl, refl)
-call_read s (fails e) = tt
+-- of a branch, and of an alternation
+abbrev Fills : ℕ → ℕ → State → Tree → State → Type 0
+Fills high d s r t =
+    d < max_depth → (nodes r + 2 * bytes t.rest ≤ 2 * bytes s.rest + 1) × (levels r + levels_at_depth * d ≤ high)
 
-target_read : (s : State) (o : Reading Reference) → ReadAhead (target_ahead s o)
-target_read s (gives r u) = (tt, refl, refl)
-target_read s (fails e) = tt
+-- of branches: each may have a node more than twice its bytes, and the bars make up for all but one of them
+abbrev BranchesFit : ℕ → State → List Tree → State → Type 0
+BranchesFit d s l t =
+    d < max_depth →
+    (sizes l + length l + 2 * bytes t.rest ≤ 2 * bytes s.rest + 2) × (widest l + levels_at_depth * d ≤ branch_levels) × (1 ≤ length l)
 
-named_read : (s : State) (o : Reading Text) → ReadAhead (named_ahead s o)
-named_read s (gives w u) = tt
-named_read s (fails e) = tt
+-- of the inside of a group
+abbrev InsideFits : ℕ → State → Tree → State → Type 0
+InsideFits d s r t =
+    d + 1 < max_depth → (nodes r + 1 + 2 * bytes t.rest ≤ 2 * bytes s.rest) × (levels r + levels_at_depth * d ≤ inside_levels)
 
-flags_read : (o : Reading Letters) → ReadAhead (flags_ahead o)
-flags_read (gives (setting f) u) = (tt, refl, refl)
-flags_read (gives (scoped f) u) = tt
-flags_read (fails e) = tt
+-- of a condition, behind which its body begins
+abbrev ConditionFits : ℕ → State → Tree → State → Type 0
+ConditionFits d s c t =
+    d + 1 < max_depth → (nodes c + 2 + 2 * bytes t.rest ≤ 2 * bytes s.rest) × (levels c + levels_at_depth * d ≤ inside_levels)
 
-condition_read : (s : State) (t : Text) → ReadAhead (condition_ahead s t)
-condition_read s [] = tt
-condition_read s (c ∷ t) =
-    cond_both (begins_target (c ∷ t)) _ _ ReadAhead (λ _. target_read s (condition_target (c ∷ t))) (λ _.
-    cond_both (c == code "*") _ _ ReadAhead (λ _. choose_both ReadAhead (verb_at t) _ _ (λ p _. (tt, refl, refl)) tt)
-    (λ _. tt))
+-- the parts with these bounds
+abbrev IsAtom : ℕ → State → Tree → State → Type 0
+IsAtom d s = Part (Fits atom_levels d s) s
 
-repeater_read : (s : State) (t : Text) → ReadAhead (repeater_ahead s t)
-repeater_read s [] = tt
-repeater_read s (c ∷ t) = tt
+abbrev IsPiece : ℕ → State → Tree → State → Type 0
+IsPiece d s = Part (Fits piece_levels d s) s
 
-question_read : (s : State) (t : Text) → ReadAhead (behind_question s t)
-question_read s t =
-    let P = ReadAhead in
-    choose_both P (strip_word (codes "=") t) _ _ (λ u _. tt) (
-    choose_both P (strip_word (codes "!") t) _ _ (λ u _. tt) (
-    choose_both P (strip_word (codes "<=") t) _ _ (λ u _. tt) (
-    choose_both P (strip_word (codes "<!") t) _ _ (λ u _. tt) (
-    choose_both P (strip_word (codes "<") t) _ _ (λ u _. named_read s (group_name (code ">") t u)) (
-    choose_both P (strip_word (codes "'") t) _ _ (λ u _. named_read s (group_name (code "'") t u)) (
-    choose_both P (strip_word (codes "P<") t) _ _ (λ u _. named_read s (group_name (code ">") t u)) (
-    choose_both P (strip_word (codes "P=") t) _ _ (λ u _. backref_read s s.flags.casei (named_reference u)) (
-    choose_both P (strip_word (codes "P>") t) _ _ (λ u _. call_read s (named_call u)) (
-    choose_both P (strip_word (codes "~|") t) _ _ (λ u _. tt) (
-    choose_both P (strip_word (codes "~") t) _ _ (λ u _. repeater_read s u) (
-    choose_both P (strip_word (codes ">") t) _ _ (λ u _. tt) (
-    choose_both P (strip_word (codes "(DEFINE)") t) _ _ (λ u _. tt) (
-    choose_both P (strip_word (codes "(") t) _ _ (λ u _. condition_read s u)
-    (flags_read (letters s.flags t)))))))))))))))
+abbrev ArePieces : ℕ → State → List Tree → State → Type 0
+ArePieces d s = Parts (PiecesFit d s) s
 
-group_read : (s : State) (t : Text) → ReadAhead (group_ahead s t)
-group_read s t =
-    choose_both ReadAhead (strip_word (codes "?") t) _ _ (λ u _. question_read s u) (
-    choose_both ReadAhead (strip_word (codes "*") t) _ _
-    (λ u _. choose_both ReadAhead (verb_at u) _ _ (λ p _. (tt, refl, refl)) tt) tt)
+abbrev IsBranch : ℕ → State → Tree → State → Type 0
+IsBranch d s = Part (Fills branch_levels d s) s
 
-behind_read : (s : State) (k : Skipped) → ReadAhead (behind_layout s k)
-behind_read s (rest u) = group_read s u
-behind_read s (open_comment p) = tt
+abbrev AreBranches : ℕ → State → List Tree → State → Type 0
+AreBranches d s = Parts (BranchesFit d s) s
 
-leaf_read : (s : State) (c : ℕ) (t : Text) → Makes IsReadLeaf (leaf_of s c t)
-leaf_read s c t =
-    let P = Makes IsReadLeaf in
-    cond_both (c == code ".") _ _ P (λ _. (tt, refl, refl)) (λ _.
-    cond_both (c == code "^") _ _ P (λ _. (tt, refl, refl)) (λ _.
-    cond_both (c == code "$") _ _ P (λ _. (tt, refl, refl)) (λ _.
-    cond_both (c == code "\\") _ _ P
-    (λ _. escape_read s t (escape s.flags false t) (sound_escape s.flags false t)) (λ _.
-    cond_both (c == code "[") _ _ P (λ _. class_read s s.flags.casei (class s.flags t)) (λ _. (refl, refl, refl))))))
+abbrev IsAlternation : ℕ → State → Tree → State → Type 0
+IsAlternation d s = Part (Fills max_levels d s) s
 
-pub ahead_read : (d : ℕ) (s : State) → ReadAhead (ahead d s)
-unfolding ahead
-ahead_read d s = by_text s.rest
-  where
-    by_text : (t : Text) → ReadAhead (ahead_of d s t)
-    by_text [] = tt
-    by_text (c ∷ t) =
-        cond_both (c == code "(") _ _ ReadAhead
-        (λ _. cond_both (nat_le max_depth (d + 1)) _ _ ReadAhead (λ _. tt) (λ _. behind_read s (skipped (at s t))))
-        (λ _.
-        cond_both (is_before_nothing c) _ _ ReadAhead (λ _. tt) (λ _. leaf_read s c t))
-
-leaf_read_whole : (o : Outcome Tree) → Makes IsReadLeaf o → Makes IsRead o
-leaf_read_whole (done a s) h = leaf_is_read a h
-leaf_read_whole (fault k p) h = tt
+abbrev IsInside : ℕ → State → Tree → State → Type 0
+IsInside d s = Part (InsideFits d s) s
 
 -- ---- what a part comes to behind its last one
 
-closed_read : (r : Tree) (s : State) → IsRead r → Makes IsRead (closed r s)
-closed_read r s h = by_text s.rest
+closed_reads : (P : Tree → State → Type 0) (s t : State) (r : Tree) → Slice s.rest t.rest →
+    ((u : State) → Slice t.rest u.rest → bytes u.rest + 1 ≤ bytes t.rest → P r u) → Reads P s (closed r t)
+closed_reads P s t r h k = by_text t.rest refl
   where
-    by_text : (u : Text) → Makes IsRead (closed_at r s u)
-    by_text [] = tt
-    by_text (c ∷ u) = cond_both (c == code ")") _ _ (Makes IsRead) (λ _. h) (λ _. tt)
+    by_text : (u : Text) → t.rest ≡ u → Reads P s (closed_at r t u)
+    by_text [] e = stands_end s.rest
+    by_text (c ∷ u) e =
+        cond_both (c == code ")") _ _ (Reads P s)
+        (λ _. k (at t u) (record { word = c ∷ []; cut = e }) (omega (arith, ap bytes e, one_bytes c u)))
+        (λ _. stands_at h)
 
-node_read : (h : Head) (p : ℕ) (r : Tree) → IsRead r → IsRead (group_node h p r)
-node_read (capture name) p r i = (tt, i)
-node_read scope p r i = i
-node_read (look l) p r i = (tt, i)
-node_read atomic p r i = (tt, i)
-node_read define p r i = (tt, i)
-node_read repeater p r i = (tt, i)
+-- a capturing group's opening stands before its inside
+node_span : (h : Head) (s t : State) (r : Tree) (v : Text) → Past s t.rest → Span (items r) t.rest v →
+    Span (items (group_node h (reach_of s.rest) r)) s.rest v
+node_span (capture name) s t r v a b = opened name a b
+node_span scope s t r v a b = before a.0 b
+node_span (look l) s t r v a b = before a.0 b
+node_span atomic s t r v a b = before a.0 b
+node_span define s t r v a b = before a.0 b
+node_span repeater s t r v a b = before a.0 b
 
-conditional_of_read : (c t f : Tree) → IsRead c → IsRead t → IsRead f → IsRead (conditional_of c t f)
-conditional_of_read c t f h i j =
-    cond_both (is_empty t && is_empty f) _ _ IsRead (λ _. h)
-    (λ _. (tt, all_read (c ∷ t ∷ f ∷ []) (h, (i, (j, tt)))))
+conditional_reads : (d : ℕ) (s t v : State) (c r : Tree) → d + 1 < max_depth → Part (ConditionFits d s) s c t →
+    IsAlternation (d + 1) t r v → Reads (IsAtom d s) s (conditional_behind c (bytes t.rest) r v)
+conditional_reads d s t v c r l h i =
+    let (a, b) = branches_of r in let both = then h.span i.span in
+    cond_both (bytes v.rest == bytes t.rest && not (is_condition c)) _ _ (Reads (IsAtom d s) s)
+    (λ _. stands_at both.slice) (λ _. closed_reads (IsAtom d s) s v (conditional_of c a b) both.slice (λ z k m.
+    let each = branches_read r i.read in let deep = branches_levels r in record {
+      span = listed (ap (λ l. items c ++ l) (items_branches r) ∙ items_conditional c a b) (behind both k);
+      read = conditional_of_read c a b h.read each.0 each.1;
+      size = λ _. (
+        omega (
+          arith,
+          weight_most (conditional_of c a b),
+          conditional_size c a b,
+          branches_size r,
+          (h.size l).0,
+          (i.size l).0,
+          m,
+        ),
+        omega (arith, conditional_levels c a b, deep.0, deep.1, (h.size l).1, (i.size l).1, l),
+      );
+    }))
 
-branches_read : (r : Tree) → IsRead r → IsRead (branches_of r).0 × IsRead (branches_of r).1
-branches_read (alt (more_trees t ts)) h =
-    let each = each_read (more_trees t ts) h.1 in (each.0, choice_read (list_of ts) each.1)
-branches_read r h = (h, (tt, tt))
-
-clear_or_stopper_read : (a : Tree) → IsRead a → IsRead (clear_or_stopper a)
-clear_or_stopper_read a h = cond_both (is_empty a) _ _ IsRead (λ _. (tt, tt)) (λ _. (tt, h))
-
-behind_body_read : (left : ℕ) (c r : Tree) (s : State) → IsRead c → IsRead r →
-    Makes IsRead (conditional_behind c left r s)
-behind_body_read left c r s h i =
-    let b = branches_of r in let e = branches_read r i in
-    cond_both (bytes s.rest == left && not (is_condition c)) _ _ (Makes IsRead) (λ _. tt)
-    (λ _. closed_read (conditional_of c b.0 b.1) s (conditional_of_read c b.0 b.1 h e.0 e.1))
+leaf_is_atom : (d : ℕ) (s : State) (o : Outcome Tree) → Reads (IsLeaf s) s o → Reads (IsAtom d s) s o
+leaf_is_atom d s (done a t) h = record {
+  span = h.span;
+  read = leaf_is_read a h.alone;
+  size = λ l. (omega (arith, h.past, weight_most a, leaf_size a h.alone.1), omega (arith, l, h.alone.2));
+}
+leaf_is_atom d s (fault k p) h = h
 
 -- ---- the grammar
 
 mutual
-  alternation_read : {d : ℕ} {s : State} {o : Outcome Tree} → Alternation d s o → Makes IsRead o
-  alternation_read (alternation {q} b) =
-      then_makes AreRead IsRead q _ (branches_are_read b) (λ l v h. choice_read l h)
+  alternation_read : {d : ℕ} {s : State} {o : Outcome Tree} → Alternation d s o → Reads (IsAlternation d s) s o
+  alternation_read (alternation {d} {s} {q} b) =
+      then_reads (AreBranches d s) (IsAlternation d s) s s q _ (here s.rest) (branches_are_read b) (λ l v h. record {
+        span = listed (sym (items_choice l)) h.span;
+        read = choice_read l h.read;
+        size = λ x. let i = h.size x in
+            (omega (arith, some_choice_size l i.2, i.0), omega (arith, choice_levels l, i.1));
+      })
 
-  branches_are_read : {d : ℕ} {s : State} {o : Outcome (List Tree)} → Branches d s o → Makes AreRead o
-  branches_are_read (last b e) = (branch_read b, tt)
-  branches_are_read (more {q} b e m) =
-      let h = branch_read b in then_makes AreRead AreRead q _ (branches_are_read m) (λ l v i. (h, i))
-  branches_are_read (branch_fault b) = tt
+  branches_are_read : {d : ℕ} {s : State} {o : Outcome (List Tree)} → Branches d s o → Reads (AreBranches d s) s o
+  branches_are_read (last {r} b e) =
+      let h = branch_read b in record {
+        span = listed (sym (append-nil (items r))) h.span;
+        read = (h.read, tt);
+        size = λ x. let i = h.size x in (omega (arith, i.0), omega (arith, i.1), omega arith);
+      }
+  branches_are_read (more {d} {s} {t} {u} {q} b e m) =
+      let h = branch_read b in let past = behind h.span (strip_slice bar t.rest u e) in
+      then_reads (AreBranches d (at t u)) (AreBranches d s) s (at t u) q _ past.slice (branches_are_read m)
+      (λ l v i. record {
+        span = then past i.span;
+        read = (h.read, i.read);
+        size = λ x. let j = h.size x in let k = i.size x in
+            (omega (arith, j.0, strip_bytes bar t.rest u e, k.0), omega (arith, j.1, k.1), omega arith);
+      })
+  branches_are_read (branch_fault b) = branch_read b
 
-  branch_read : {d : ℕ} {s : State} {o : Outcome Tree} → Branch d s o → Makes IsRead o
-  branch_read (branch {q} b) = then_makes AreRead IsRead q _ (pieces_read b) (λ l v h. join_read l h)
+  pub branch_read : {d : ℕ} {s : State} {o : Outcome Tree} → Branch d s o → Reads (IsBranch d s) s o
+  branch_read (branch {d} {s} {q} b) =
+      then_reads (ArePieces d s) (IsBranch d s) s s q _ (here s.rest) (pieces_read b) (λ l v h. record {
+        span = listed (sym (items_join l)) h.span;
+        read = join_read l h.read;
+        size = λ x. let i = h.size x in (omega (arith, join_size l, i.0), omega (arith, join_levels l, i.1));
+      })
 
-  pieces_read : {d : ℕ} {s : State} {o : Outcome (List Tree)} → Pieces d s o → Makes AreRead o
-  pieces_read (stop e) = tt
-  pieces_read (next {q} e a m) =
-      let h = piece_read a in then_makes AreRead AreRead q _ (pieces_read m) (λ l v i. (h, i))
-  pieces_read (piece_fault e a) = tt
+  pieces_read : {d : ℕ} {s : State} {o : Outcome (List Tree)} → Pieces d s o → Reads (ArePieces d s) s o
+  pieces_read (stop {s} e) = record { span = bare (here s.rest); read = tt; size = λ x. (omega arith, omega (arith, x)) }
+  pieces_read (next {d} {t} {q} {s} e a m) =
+      let h = piece_read a in
+      then_reads (ArePieces d t) (ArePieces d s) s t q _ h.span.slice (pieces_read m) (λ l v i. record {
+        span = then h.span i.span;
+        read = (h.read, i.read);
+        size = λ x. let j = h.size x in let k = i.size x in (omega (arith, j.0, k.0), omega (arith, j.1, k.1));
+      })
+  pieces_read (piece_fault e a) = piece_read a
 
-  piece_read : {d : ℕ} {s : State} {o : Outcome Tree} → Piece d s o → Makes IsRead o
-  piece_read (piece {d} {s} {q} l x) =
-      then_makes IsRead IsRead q _ (atom_read x) (λ a t i. quants_read d (bytes s.rest) a t i)
-  piece_read (layout_fault l) = tt
+  pub piece_read : {d : ℕ} {s : State} {o : Outcome Tree} → Piece d s o → Reads (IsPiece d s) s o
+  piece_read (piece {d} {s} {u} {q} l x) =
+      let k = skipped_slice s u l in
+      then_reads (IsAtom d (at s u)) (IsPiece d s) s (at s u) q _ k (atom_read x) (λ a t h.
+      resized (GrowsBy 5 a t) (Fits piece_levels d s) s (quants d (bytes s.rest) a t) (λ b v i x. let j = h.size x in
+      (omega (arith, fits k, j.0, i.0), omega (arith, j.1, i.1)))
+      (quants_read d (bytes s.rest) a s t (before k h.span) h.read))
+  piece_read (layout_fault {s} l) =
+      subst (SkippedSlice s.rest) l (layout_slice s.flags.ignore_space s.rest)
 
-  atom_read : {d : ℕ} {s : State} {o : Outcome Tree} → Atom d s o → Makes IsRead o
+  atom_read : {d : ℕ} {s : State} {o : Outcome Tree} → Atom d s o → Reads (IsAtom d s) s o
   atom_read (atom {d} {s} {e} {q} is a) =
-      behind_keeps (Makes IsRead) (λ r t f i. i) e s.flags q (of_read a (subst ReadAhead is (ahead_read d s)))
+      behind_keeps (Reads (IsAtom d s) s) (λ r t f i. record { span = i.span; read = i.read; size = i.size }) e s.flags q
+      (of_read a (subst (AheadReads s) is (ahead_reads d s)) (subst (OpensBelow d) is (ahead_below d s)))
 
-  of_read : {k : Ahead} {d : ℕ} {s : State} {o : Outcome Tree} → AtomOf k d s o → ReadAhead k → Makes IsRead o
-  of_read a_nothing h = (tt, tt)
-  of_read (a_read {o}) h = leaf_read_whole o h
-  of_read (a_group {s} {h = head} {q} i) h =
-      then_makes IsRead IsRead q _ (inside_read i) (λ r v a. node_read head (reach_of s.rest) r a)
-  of_read (a_condition i b) h = body_read b (inside_read i)
-  of_read (condition_fault i) h = tt
-  of_read (a_body {c} b) h = body_read b (leaf_is_read c h)
-  of_read (two_branches {a} {q} b e m) h =
-      let first = branch_read b in
-      then_makes IsRead IsRead q _ (branch_read m)
-      (λ r w x. closed_read (expression a r) w (tt, all_read (a ∷ r ∷ []) (first, (x, tt))))
-  of_read (one_branch {v} {a} b e) h = closed_read (clear_or_stopper a) v (clear_or_stopper_read a (branch_read b))
-  of_read (absent_fault b) h = tt
+  of_read : {k : Ahead} {d : ℕ} {s : State} {o : Outcome Tree} → AtomOf k d s o → AheadReads s k → OpensBelow d k →
+      Reads (IsAtom d s) s o
+  of_read (a_nothing {s}) h b =
+      record { span = bare (here s.rest); read = (tt, tt); size = λ x. (omega arith, omega (arith, x)) }
+  of_read (a_read {d} {s} {o}) h b = leaf_is_atom d s o h
+  of_read (a_group {d} {s} {t} {h = head} {q} i) h b =
+      let p = reach_of s.rest in
+      then_reads (IsInside d t) (IsAtom d s) s t q _ h.0 (inside_read i) (λ r v k.
+      let over = node_over head p r in let j = k.size b in record {
+        span = node_span head s t r v.rest h k.span;
+        read = node_read head p r k.read;
+        size = λ _.
+            (omega (arith, weight_most (group_node head p r), over.0, j.0, h.1), omega (arith, over.1, j.1));
+      })
+  of_read (a_condition {s} i m) h b =
+      let c = inside_read i in
+      body_read s m b (record {
+        span = before h.0 c.span;
+        read = c.read;
+        size = λ x. let j = c.size x in (omega (arith, j.0, h.1), j.1);
+      })
+  of_read (condition_fault i) h b = stands_in h.0 (inside_read i)
+  of_read (a_body {s} {c} m) h b =
+      body_read s m b (record {
+        span = h.0;
+        read = leaf_is_read c h.2;
+        size = λ x. (omega (arith, h.1, leaf_size c h.2.1), omega (arith, x, h.2.2));
+      })
+  of_read (two_branches {d} {s} {v} {u} {a} {q} m e n) h b =
+      let c = branch_read m in let j = c.size b in
+      let first = before h.0 (behind c.span (strip_slice bar v.rest u e)) in
+      then_reads (IsBranch (d + 1) (at v u)) (IsAtom d s) s (at v u) q _ first.slice (branch_read n) (λ r w i.
+      let both = listed (ap (λ l. items a ++ l) (sym (append-nil (items r)))) (then first i.span) in
+      let k = i.size b in
+      closed_reads (IsAtom d s) s w (expression a r) both.slice (λ z x y. record {
+        span = behind both x;
+        read = (tt, all_read (a ∷ r ∷ []) (c.read, (i.read, tt)));
+        size = λ _. (omega (arith, h.1, j.0, strip_bytes bar v.rest u e, k.0, y), omega (arith, j.1, k.1));
+      }))
+  of_read (one_branch {d} {s} {v} {a} m e) h b =
+      let c = branch_read m in let j = c.size b in let over = clear_or_stopper_over a in
+      let one = listed (items_clear_or_stopper a) (before h.0 c.span) in
+      closed_reads (IsAtom d s) s v (clear_or_stopper a) one.slice (λ z x y. record {
+        span = behind one x;
+        read = clear_or_stopper_read a c.read;
+        size = λ _.
+            (omega (arith, weight_most (clear_or_stopper a), over.0, h.1, j.0, y), omega (arith, over.1, j.1));
+      })
+  of_read (absent_fault m) h b = stands_in h.0 (branch_read m)
 
-  inside_read : {d : ℕ} {s : State} {o : Outcome Tree} → Inside d s o → Makes IsRead o
-  inside_read (inside {q} r) = then_makes IsRead IsRead q _ (alternation_read r) (λ t v h. closed_read t v h)
+  pub inside_read : {d : ℕ} {s : State} {o : Outcome Tree} → Inside d s o → Reads (IsInside d s) s o
+  inside_read (inside {d} {s} {q} a) =
+      then_reads (IsAlternation (d + 1) s) (IsInside d s) s s q _ (here s.rest) (alternation_read a) (λ r v h.
+      closed_reads (IsInside d s) s v r h.span.slice (λ z k m. record {
+        span = behind h.span k;
+        read = h.read;
+        size = λ x. let i = h.size x in (omega (arith, i.0, m), omega (arith, i.1));
+      }))
 
-  body_read : {d : ℕ} {c : Tree} {t : State} {o : Outcome Tree} → Body d c t o → IsRead c → Makes IsRead o
-  body_read (the_body {c} {s = t} {q} r) h =
-      then_makes IsRead IsRead q _ (alternation_read r) (λ a v i. behind_body_read (bytes t.rest) c a v h i)
+  body_read : {d : ℕ} {c : Tree} (s : State) {t : State} {o : Outcome Tree} → Body d c t o → d + 1 < max_depth →
+      Part (ConditionFits d s) s c t → Reads (IsAtom d s) s o
+  body_read s (the_body {d} {c} {s = t} {q} a) l h =
+      then_reads (IsAlternation (d + 1) t) (IsAtom d s) s t q _ h.span.slice (alternation_read a)
+      (λ r v i. conditional_reads d s t v c r l h i)
 
-ended_read : (r : Tree) (s : State) → IsRead r → Makes IsRead (ended r s)
-ended_read r s h = by_text s.rest
+-- ---- a whole text
+
+ended_reads : (P : Tree → State → Type 0) (s t : State) (r : Tree) → Slice s.rest t.rest → P r t →
+    Reads P s (ended r t)
+ended_reads P s t r h i = by_text t.rest
   where
-    by_text : (u : Text) → Makes IsRead (ended_at r s u)
-    by_text [] = h
-    by_text (c ∷ u) = tt
+    by_text : (u : Text) → Reads P s (ended_at r t u)
+    by_text [] = i
+    by_text (c ∷ u) = stands_at h
 
-whole_read : {f : Flags} {text : Text} {o : Outcome Tree} → Whole f text o → Makes IsRead o
-whole_read (whole {q} a) = then_makes IsRead IsRead q _ (alternation_read a)
-    (λ r t h. ended_read r t h)
+pub whole_read : {f : Flags} {text : Text} {o : Outcome Tree} → Whole f text o →
+    Reads (IsAlternation 0 (start f text)) (start f text) o
+whole_read (whole {f} {text} {q} a) =
+    let s = start f text in
+    then_reads (IsAlternation 0 s) (IsAlternation 0 s) s s q _ (here text) (alternation_read a)
+    (λ r t h. ended_reads (IsAlternation 0 s) s t r h.span.slice h)
 
--- each raw tree of a text is so
+-- each raw tree of a text has such nodes
 pub derived_read : {f : Flags} {text : Text} {r : Tree} {t : State} → Whole f text (done r t) → IsRead r
-derived_read a = whole_read a
+derived_read a = (whole_read a).read
+
+-- a fault stands where an end of the text begins, or one past its end
+pub fault_stands : {f : Flags} {text : Text} {k : Kind} {p : ℕ} → Whole f text (fault k p) →
+    MayStand text p
+fault_stands a = whole_read a
+
+-- so do the groups and references
+pub items_stand : {f : Flags} {text : Text} {r : Tree} {t : State} → Whole f text (done r t) →
+    AllByRecursion (λ i. MayStand text (reach_of_item i)) (items r)
+items_stand a = (whole_read a).span.stand
+
+-- the groups and references of a text stand in text order, before its end
+pub ordered_within : {f : Flags} {text : Text} {r : Tree} {t : State} → Whole f text (done r t) →
+    DescendingReaches (bytes text + 2) 2 (items r)
+ordered_within {text} {r} {t} a =
+    let d : DescendingReaches (bytes text + 2) (reach_of t.rest + 1) (items r) =
+    raised _ _ _ (items r) (omega arith) (whole_read a).span.descends in
+    lowered (bytes text + 2) (reach_of t.rest + 1) 2 (items r) (omega arith) d

@@ -26,7 +26,8 @@ use Rattle.fancy_grammar.specs.Resolved.{resolved, fault_of}
 use Rattle.fancy_grammar.specs.State.{Outcome, fault}
 use Rattle.fancy_grammar.specs.Tree.{Tree}
 use Rattle.fancy_grammar.proofs.OrderLaws.{fault_place}
-use Rattle.fancy_grammar.proofs.Slices.{MayStand, fault_stands, items_stand, ordered_within}
+use Rattle.fancy_grammar.proofs.ReadLaws.{fault_stands, items_stand, ordered_within}
+use Rattle.fancy_grammar.proofs.Slices.{MayStand}
 use Rattle.fancy_grammar.proofs.Unique.{whole_unique}
 
 pub same_tree : {f : Flags} {text : Text} {r q : Tree} → DerivesTree f text r → DerivesTree f text q → q ≡ r

@@ -17,7 +17,7 @@ use Rattle.fancy_lex.specs.declared.error.ParseError.TheVariants.{UnclosedOpenPa
 use Rattle.fancy_grammar.specs.Grammar.{Alternation, alternation, Branches, last, branch_fault, Branch, branch, stop}
 use Rattle.fancy_grammar.specs.Grammar.{piece_fault, Piece, piece, layout_fault, Atom, atom, Inside, inside, the_body}
 use Rattle.fancy_grammar.specs.Grammar.{condition_fault, two_branches, one_branch, absent_fault, closed, closed_at}
-use Rattle.fancy_grammar.specs.Grammar.{restored, conditional_behind, conditional_of, branches_of}
+use Rattle.fancy_grammar.specs.Grammar.{restored}
 use Rattle.fancy_grammar.specs.Grammar as grammar
 use Rattle.fancy_grammar.specs.Join.{solid, one_or, choice}
 use Rattle.fancy_syntax.specs.Machine.{OpenPart, top, group, condition, body, first, second, part_of, holds_one}
@@ -39,7 +39,8 @@ use Rattle.fancy_syntax.specs.declared.grammar.step.Step.TheVariants as step
 use Rattle.fancy_lex.proofs.TextLemmas.{strip_is}
 use Rattle.fancy_grammar.proofs.OutcomeLemmas.{IsErrorAmong-map, before-nil, before-push, more_any, next_any}
 use Rattle.fancy_grammar.proofs.OutcomeLemmas.{trees_before, solid-append, piece_as}
-use Rattle.fancy_grammar.proofs.Slices.{here, on, piece_slice, strip_slice}
+use Rattle.fancy_grammar.proofs.ReadLaws.{piece_read}
+use Rattle.fancy_grammar.proofs.Slices.{here, on, strip_slice}
 
 -- ---- a step
 
@@ -182,7 +183,7 @@ reading_piece {r} cs qs h e a i j = record {
   branch = λ o p. rw (before-push h.read r o) (h.branch _ (next_any o e a p));
   all = λ o b. rw i (h.all o b);
   one = λ k. ((h.one k).0, i ∙ (h.one k).1);
-  slice = on h.slice (piece_slice a).slice;
+  slice = on h.slice (piece_read a).span.slice;
 }
 
 -- the tree of the branch that is open

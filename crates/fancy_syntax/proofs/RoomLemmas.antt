@@ -19,8 +19,9 @@ use Rattle.fancy_grammar.specs.Depth.{max_depth, most_open}
 use Rattle.fancy_grammar.specs.Slices.{Slice}
 use Rattle.fancy_grammar.specs.State.{State, at}
 use Rattle.fancy_grammar.specs.Tree.{Tree}
-use Rattle.fancy_grammar.proofs.Slices.{AheadSlice, ahead_slice, skipped_slice, inside_slice, branch_slice}
-use Rattle.fancy_grammar.proofs.Slices.{strip_slice}
+use Rattle.fancy_grammar.proofs.AheadLaws.{AheadReads, ahead_reads}
+use Rattle.fancy_grammar.proofs.ReadLaws.{inside_read, branch_read}
+use Rattle.fancy_grammar.proofs.Slices.{skipped_slice, strip_slice}
 use Rattle.fancy_syntax.specs.Machine.{OpenPart, OpensPart, a_group, a_condition, a_body, behind_condition, a_branch}
 use Rattle.fancy_syntax.specs.Machine.{behind_branch, OpenGroups, outermost, inner, Running, IsStep}
 use Rattle.fancy_syntax.specs.Machine.{OpensBelow}
@@ -89,24 +90,24 @@ opens_ahead d s k u e h a long =
 -- a part is opened by a parenthesis or more
 opened_fewer : {d : ℕ} {s t : State} {o : OpenPart} → OpensPart d s o t → open_parens t.rest + 1 ≤ open_parens s.rest
 opened_fewer (a_group {d} {s} {t} {u} l e) =
-    let past = subst (AheadSlice (at s u)) e (ahead_slice d (at s u)) in
+    let past = subst (AheadReads (at s u)) e (ahead_reads d (at s u)) in
     omega (arith, fewer_behind (skipped_slice s u l), opens_ahead d (at s u) _ t.rest e tt past.0 past.1)
 opened_fewer (a_condition {d} {s} {t} {u} l e) =
-    let past = subst (AheadSlice (at s u)) e (ahead_slice d (at s u)) in
+    let past = subst (AheadReads (at s u)) e (ahead_reads d (at s u)) in
     omega (arith, fewer_behind (skipped_slice s u l), opens_ahead d (at s u) _ t.rest e tt past.0 past.1)
 opened_fewer (a_body {d} {s} {t} {u} l e) =
-    let past = subst (AheadSlice (at s u)) e (ahead_slice d (at s u)) in
+    let past = subst (AheadReads (at s u)) e (ahead_reads d (at s u)) in
     omega (
       arith,
       fewer_behind (skipped_slice s u l),
       opens_ahead d (at s u) _ t.rest e tt past.0.slice (omega (arith, past.1)),
     )
-opened_fewer (behind_condition x i) = omega (arith, opened_fewer x, fewer_behind (inside_slice i).slice)
+opened_fewer (behind_condition x i) = omega (arith, opened_fewer x, fewer_behind (inside_read i).span.slice)
 opened_fewer (a_branch {d} {s} {t} {u} l e) =
-    let past = subst (AheadSlice (at s u)) e (ahead_slice d (at s u)) in
+    let past = subst (AheadReads (at s u)) e (ahead_reads d (at s u)) in
     omega (arith, fewer_behind (skipped_slice s u l), opens_ahead d (at s u) _ t.rest e tt past.0 past.1)
 opened_fewer (behind_branch {v} {u} x b e) =
-    omega (arith, opened_fewer x, fewer_behind (branch_slice b).slice, fewer_behind (strip_slice bar v.rest u e))
+    omega (arith, opened_fewer x, fewer_behind (branch_read b).span.slice, fewer_behind (strip_slice bar v.rest u e))
 
 -- ---- the stack
 
