@@ -39,7 +39,7 @@ use Rattle.fancy_grammar.specs.State.{skipped, State, at, Outcome}
 use Rattle.fancy_grammar.specs.Tree.{Tree, delegate, verb}
 use Rattle.fancy_grammar.specs.Verb.{verb_at}
 use Rattle.fancy_grammar.specs.declared.kinds.BacktrackingControlVerb.{BacktrackingControlVerb}
-use Rattle.fancy_grammar.proofs.Slices.{MayStand, Span, Reads, here, on, fits, one, one_bytes, cut_slice, to_ends}
+use Rattle.fancy_grammar.proofs.Slices.{MayStand, ItemSpan, Reads, here, on, fits, one, one_bytes, cut_slice, to_ends}
 use Rattle.fancy_grammar.proofs.Slices.{stands_at, stands_in, bare, listed, taken, referred, SkippedSlice, layout_slice}
 use Rattle.fancy_grammar.proofs.TreeLaws.{IsReadLeaf}
 
@@ -52,7 +52,7 @@ further s (a, h) b = (on a b, omega (arith, h, fits b))
 
 -- a leaf takes a byte or more, and is a node alone
 pub record IsLeaf (s : State) (r : Tree) (t : State) : Type 0 where
-  pub span : Span (items r) s.rest t.rest
+  pub span : ItemSpan (items r) s.rest t.rest
   pub past : bytes t.rest + 1 ≤ bytes s.rest
   pub alone : IsReadLeaf r
 
@@ -66,7 +66,7 @@ AheadReads s nothing = Unit {0}
 AheadReads s (read o) = LeafReads s o
 AheadReads s (with_head h t) = Past s t.rest
 AheadReads s (condition t) = Past s t.rest
-AheadReads s (body c t) = Span (items c) s.rest t.rest × (bytes t.rest + 2 ≤ bytes s.rest) × IsReadLeaf c
+AheadReads s (body c t) = ItemSpan (items c) s.rest t.rest × (bytes t.rest + 2 ≤ bytes s.rest) × IsReadLeaf c
 AheadReads s (absent_branch t) = Past s t.rest
 
 first_slice : (s : State) (c : ℕ) (t : Text) → s.rest ≡ c ∷ t → Past s t
@@ -229,10 +229,10 @@ escape_reads : (s z : State) (t : Text) → Past s t → MayStand s.rest (reach_
 escape_reads s z t h m (gives e u) (leaves l) p =
     let x = by_leaf e p in record { span = x.0; past = (further s h (cut_slice l)).1; alone = x.1 }
   where
-    plain : Span [] s.rest u
+    plain : ItemSpan [] s.rest u
     plain = bare (on h.0 (cut_slice l))
 
-    by_leaf : (e : Escape) → Sound t (gives e u) → Span (items (leaf_node e)) s.rest u × IsReadLeaf (leaf_node e)
+    by_leaf : (e : Escape) → Sound t (gives e u) → ItemSpan (items (leaf_node e)) s.rest u × IsReadLeaf (leaf_node e)
     by_leaf (escaped.literal c casei) p = (plain, (refl, refl, refl))
     by_leaf (escaped.literal_bytes b) p = (plain, ((refl, (p, tt)), refl, refl))
     by_leaf (escaped.any newline crlf) p = (plain, (tt, refl, refl))

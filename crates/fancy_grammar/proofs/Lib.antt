@@ -18,6 +18,12 @@ pub mod TreeLaws
 pub mod AheadLaws
 pub mod ReadLaws
 pub mod BoundLaws
+-- ---- where the nodes stand
+pub mod SpansLemmas
+pub mod SpansQuant
+pub mod SpansCondition
+pub mod SpansLaws
+pub mod SpansUnique
 -- ---- resolving
 pub mod OrderLaws
 pub mod NamedNumbers
@@ -30,6 +36,7 @@ pub mod ReadBack
 pub mod DelegateLemmas
 -- ---- the one answer of a text, and what is true of it
 pub mod Verdict
+pub mod SpansAnswer
 pub mod AnsweredLaws
 -- ---- the text of every tree
 pub mod PatternRows

@@ -24,6 +24,17 @@ then_keeps : (P : Outcome Tree → Type 0) →
 then_keeps P g f (done r t) h = g r t f h
 then_keeps P g f (fault k p) h = h
 
+-- what was read is so, where it ends
+abbrev pub Holds : {A : Type 0} → (A → State → Type 0) → Outcome A → Type 0
+Holds P (done a s) = P a s
+Holds P (fault k p) = Unit {0}
+
+-- one part behind another
+pub then_holds : {A B : Type 0} (P : A → State → Type 0) (Q : B → State → Type 0) (q : Outcome A)
+    (f : A → State → Outcome B) → Holds P q → ((a : A) (s : State) → P a s → Holds Q (f a s)) → Holds Q (and_then q f)
+then_holds P Q (done a s) f h g = g a s h
+then_holds P Q (fault k p) f h g = tt
+
 -- what says nothing of the flags behind an atom holds whatever they are
 pub behind_keeps : (P : Outcome Tree → Type 0) →
     ((r : Tree) (t : State) (f : Flags) → P (done r t) → P (done r (record t { flags = f }))) →
@@ -72,12 +83,14 @@ solid-append (r ∷ l) m = by_test (is_empty r) (solid-append l m)
     by_test true h = h
     by_test false h = ap (λ x. r ∷ x) h
 
--- what holds of each of some trees holds of each in both lists, and of each that is not Empty
-module _ (P : Tree → Type 0) where
-  pub each_append : (l m : List Tree) → AllByRecursion P l → AllByRecursion P m → AllByRecursion P (l ++ m)
-  each_append [] m h k = k
-  each_append (t ∷ l) m h k = (h.0, each_append l m h.1 k)
+-- what holds of each in two lists holds of each in both
+pub each_append : {A : Type 0} (P : A → Type 0) (l m : List A) → AllByRecursion P l → AllByRecursion P m →
+    AllByRecursion P (l ++ m)
+each_append P [] m h k = k
+each_append P (t ∷ l) m h k = (h.0, each_append P l m h.1 k)
 
+-- what holds of each of some trees holds of each that is not Empty
+module _ (P : Tree → Type 0) where
   each_if : (b : Bool) (t : Tree) (l : List Tree) → P t → AllByRecursion P l →
       AllByRecursion P (if b then l else t ∷ l)
   each_if true t l h k = k

@@ -35,9 +35,10 @@ use Rattle.fancy_grammar.specs.Slices.{Slice}
 use Rattle.fancy_grammar.specs.State.{skipped, State, at, Outcome, done, fault}
 use Rattle.fancy_grammar.specs.Tree.{Tree, expression, levels, nodes}
 use Rattle.fancy_grammar.proofs.OutcomeLemmas.{behind_keeps}
-use Rattle.fancy_grammar.proofs.Slices.{MayStand, Span, Reads, here, on, fits, one, one_bytes, strip_slice, strip_bytes}
-use Rattle.fancy_grammar.proofs.Slices.{cut_slice, to_ends, stands_at, stands_in, raised, lowered, bare, then, before}
-use Rattle.fancy_grammar.proofs.Slices.{behind, listed, opened, SkippedSlice, layout_slice, skipped_slice, then_reads}
+use Rattle.fancy_grammar.proofs.Slices.{MayStand, ItemSpan, Reads, here, on, fits, one, one_bytes, strip_slice}
+use Rattle.fancy_grammar.proofs.Slices.{strip_bytes, cut_slice, to_ends, stands_at, stands_in, raised, lowered, bare}
+use Rattle.fancy_grammar.proofs.Slices.{then, before, behind, listed, opened, SkippedSlice, layout_slice}
+use Rattle.fancy_grammar.proofs.Slices.{skipped_slice, then_reads}
 use Rattle.fancy_grammar.proofs.TreeLaws.{items_of, items_choice, items_join, items_quantified, items_conditional}
 use Rattle.fancy_grammar.proofs.TreeLaws.{items_branches, items_clear_or_stopper, IsRead, AreRead, leaf_is_read}
 use Rattle.fancy_grammar.proofs.TreeLaws.{all_read, join_read, choice_read, quantified_read, node_read}
@@ -50,13 +51,13 @@ use Rattle.fancy_grammar.proofs.AheadLaws.{Past, IsLeaf, AheadReads, ahead_reads
 
 -- a tree that is read from s up to t: its groups and references, its nodes, and a bound on its size
 pub record Part (Size : Tree → State → Type 0) (s : State) (r : Tree) (t : State) : Type 0 where
-  pub span : Span (items r) s.rest t.rest
+  pub span : ItemSpan (items r) s.rest t.rest
   pub read : IsRead r
   pub size : Size r t
 
 -- trees that are read one after another
 pub record Parts (Size : List Tree → State → Type 0) (s : State) (l : List Tree) (t : State) : Type 0 where
-  pub span : Span (items_of l) s.rest t.rest
+  pub span : ItemSpan (items_of l) s.rest t.rest
   pub read : AreRead l
   pub size : Size l t
 
@@ -97,7 +98,7 @@ abbrev GrowsBy : ℕ → Tree → State → Tree → State → Type 0
 GrowsBy k a s b t = (weight b + 2 * bytes t.rest ≤ weight a + 2 * bytes s.rest) × (levels b ≤ levels a + 2 * k)
 
 -- of a tree that is read from s up to t
-quant_read : (left : ℕ) (a : Tree) (s t : State) → Span (items a) s.rest t.rest → IsRead a →
+quant_read : (left : ℕ) (a : Tree) (s t : State) → ItemSpan (items a) s.rest t.rest → IsRead a →
     Reads (Part (Grows a t) s) s (quant left a t)
 unfolding quant
 quant_read left a s t h n = by_layout (skipped t) (layout_slice t.flags.ignore_space t.rest)
@@ -139,7 +140,7 @@ unmoved_bytes : (s t : State) → is_unmoved s t ≡ true → bytes t.rest ≡ b
 unmoved_bytes s t e = grind (arith, nat_tests)
 
 -- a reading that takes no byte adds no level
-adjacent_read : (k d : ℕ) (a : Tree) (s t : State) → Span (items a) s.rest t.rest → IsRead a →
+adjacent_read : (k d : ℕ) (a : Tree) (s t : State) → ItemSpan (items a) s.rest t.rest → IsRead a →
     Reads (Part (GrowsBy k a t) s) s (adjacent k d a t)
 unfolding adjacent
 adjacent_read zero d a s t h n =
@@ -165,7 +166,7 @@ adjacent_read (suc k) d a s t h n =
     (λ _. stands_at i.span.slice)))
 
 -- one, and four adjacent to it
-quants_read : (d left : ℕ) (a : Tree) (s t : State) → Span (items a) s.rest t.rest → IsRead a →
+quants_read : (d left : ℕ) (a : Tree) (s t : State) → ItemSpan (items a) s.rest t.rest → IsRead a →
     Reads (Part (GrowsBy 5 a t) s) s (quants d left a t)
 quants_read d left a s t h n =
     let P = Part (GrowsBy 5 a t) s in
@@ -258,8 +259,8 @@ closed_reads P s t r h k = by_text t.rest refl
         (λ _. stands_at h)
 
 -- a capturing group's opening stands before its inside
-node_span : (h : Head) (s t : State) (r : Tree) (v : Text) → Past s t.rest → Span (items r) t.rest v →
-    Span (items (group_node h (reach_of s.rest) r)) s.rest v
+node_span : (h : Head) (s t : State) (r : Tree) (v : Text) → Past s t.rest → ItemSpan (items r) t.rest v →
+    ItemSpan (items (group_node h (reach_of s.rest) r)) s.rest v
 node_span (capture name) s t r v a b = opened name a b
 node_span scope s t r v a b = before a.0 b
 node_span (look l) s t r v a b = before a.0 b

@@ -20,7 +20,7 @@ abbrev pub MayStand : Text → ℕ → Type 0
 MayStand t p = Stands past_end t p
 
 -- a slice lies between the beginnings of t and u, and the items stand in it one behind another
-pub record Span (l : List Item) (t u : Text) : Type 0 where
+pub record ItemSpan (l : List Item) (t u : Text) : Type 0 where
   pub slice : Slice t u
   pub descends : DescendingReaches (reach_of t + 1) (reach_of u + 1) l
   pub stand : AllByRecursion (λ i. MayStand t (reach_of_item i)) l
@@ -94,11 +94,11 @@ joined_stand [] (x ∷ m) a h k = (stands_in a k.0, joined_stand [] m a tt k.1)
 joined_stand (x ∷ l) m a h k = (h.0, joined_stand l m a h.1 k)
 
 -- a slice without items
-pub bare : {t u : Text} → Slice t u → Span [] t u
+pub bare : {t u : Text} → Slice t u → ItemSpan [] t u
 bare a = record { slice = a; descends = omega (arith, fits a); stand = tt }
 
 -- one part behind another
-pub then : {l m : List Item} {t u v : Text} → Span l t u → Span m u v → Span (l ++ m) t v
+pub then : {l m : List Item} {t u v : Text} → ItemSpan l t u → ItemSpan m u v → ItemSpan (l ++ m) t v
 then {l} {m} {t} {u} {v} a b = record {
   slice = on a.slice b.slice;
   descends = joined (reach_of t + 1) (reach_of u + 1) (reach_of v + 1) l m a.descends b.descends;
@@ -106,20 +106,20 @@ then {l} {m} {t} {u} {v} a b = record {
 }
 
 -- the slice goes on, or began before
-pub before : {l : List Item} {t u v : Text} → Slice t u → Span l u v → Span l t v
+pub before : {l : List Item} {t u v : Text} → Slice t u → ItemSpan l u v → ItemSpan l t v
 before a b = then (bare a) b
 
-pub behind : {l : List Item} {t u v : Text} → Span l t u → Slice u v → Span l t v
-behind {l} {t} {v} a b = subst (λ m. Span m t v) (append-nil l) (then a (bare b))
+pub behind : {l : List Item} {t u v : Text} → ItemSpan l t u → Slice u v → ItemSpan l t v
+behind {l} {t} {v} a b = subst (λ m. ItemSpan m t v) (append-nil l) (then a (bare b))
 
 -- the same items
-pub listed : {l m : List Item} {t u : Text} → l ≡ m → Span l t u → Span m t u
-listed {t} {u} e h = subst (λ x. Span x t u) e h
+pub listed : {l m : List Item} {t u : Text} → l ≡ m → ItemSpan l t u → ItemSpan m t u
+listed {t} {u} e h = subst (λ x. ItemSpan x t u) e h
 
 -- an opening stands before what is read behind it
 pub opened : {l : List Item} {t u v : Text} (name : Option Text) → Slice t u × (bytes u + 1 ≤ bytes t) →
-    Span l u v →
-    Span (opening (record { reach = reach_of t; name = name }) ∷ l) t v
+    ItemSpan l u v →
+    ItemSpan (opening (record { reach = reach_of t; name = name }) ∷ l) t v
 opened {l} {t} {u} {v} name a b = record {
   slice = on a.0 b.slice;
   descends = (
@@ -134,7 +134,7 @@ taken a = record { word = a.word; cut = a.cut }
 
 -- a reference alone, whose reach is that of a mark in the slice
 pub referred : {t m u : Text} (r : AstReference) (p : ℕ) → Slice t m → Takes 1 m u → p ≡ reach_of m →
-    Span (reference r p ∷ []) t u
+    ItemSpan (reference r p ∷ []) t u
 referred {t} {m} {u} r p a k e =
     let more = takes_bytes k in
     record {

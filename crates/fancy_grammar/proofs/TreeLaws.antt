@@ -57,6 +57,10 @@ pub trees_back : (ts : Trees) → trees_of (list_of ts) ≡ ts
 trees_back no_trees = refl
 trees_back (more_trees t ts) = ap (more_trees t) (trees_back ts)
 
+pub list_back : (l : List Tree) → list_of (trees_of l) ≡ l
+list_back [] = refl
+list_back (t ∷ l) = ap (t ∷◌) (list_back l)
+
 pub items_conditional : (c t f : Tree) → items c ++ (items t ++ items f) ≡ items (conditional_of c t f)
 items_conditional c t f =
     cond_both (is_empty t && is_empty f) _ _ (λ x. items c ++ (items t ++ items f) ≡ items x)

@@ -17,13 +17,13 @@ use Rattle.fancy_grammar.specs.Tree.{Tree, expression}
 
 -- ---- what one outcome says of another
 
-value_of : {A : Type 0} {a b : A} {s t : State} → ◌≡◌ {A = Outcome A} (done a s) (done b t) → a ≡ b
+pub value_of : {A : Type 0} {a b : A} {s t : State} → ◌≡◌ {A = Outcome A} (done a s) (done b t) → a ≡ b
 value_of e = cc
 
-state_of : {A : Type 0} {a b : A} {s t : State} → ◌≡◌ {A = Outcome A} (done a s) (done b t) → s ≡ t
+pub state_of : {A : Type 0} {a b : A} {s t : State} → ◌≡◌ {A = Outcome A} (done a s) (done b t) → s ≡ t
 state_of e = cc
 
-done_or_fault : {A : Type 0} {a : A} {s : State} {k : Kind} {p : ℕ} → ◌≡◌ {A = Outcome A} (done a s) (fault k p) → ⊥
+pub done_or_fault : {A : Type 0} {a : A} {s : State} {k : Kind} {p : ℕ} → ◌≡◌ {A = Outcome A} (done a s) (fault k p) → ⊥
 done_or_fault e = cc
 
 same_fault : {A B : Type 0} {k j : Kind} {p q : ℕ} → ◌≡◌ {A = Outcome A} (fault k p) (fault j q) →
@@ -49,19 +49,19 @@ rest_same u v e = cc
 rest_or_fault : (u : Text) (p : ℕ) → rest u ≡ open_comment p → ⊥
 rest_or_fault u p e = cc
 
-same_layout : {s z : State} {u v : Text} → skipped s ≡ rest u → skipped z ≡ rest v → s ≡ z → u ≡ v
+pub same_layout : {s z : State} {u v : Text} → skipped s ≡ rest u → skipped z ≡ rest v → s ≡ z → u ≡ v
 same_layout {u} {v} l m e = rest_same u v (sym l ∙ same_skipped e ∙ m)
 
-layout_or_fault : {s z : State} {u : Text} {p : ℕ} → skipped s ≡ rest u → skipped z ≡ open_comment p →
+pub layout_or_fault : {s z : State} {u : Text} {p : ℕ} → skipped s ≡ rest u → skipped z ≡ open_comment p →
     s ≡ z → ⊥
 layout_or_fault {u} {p} l m e = rest_or_fault u p (sym l ∙ same_skipped e ∙ m)
 
-ap_at : {s z : State} {u v : Text} → s ≡ z → u ≡ v → at s u ≡ at z v
+pub ap_at : {s z : State} {u v : Text} → s ≡ z → u ≡ v → at s u ≡ at z v
 ap_at e i = cc
 
 -- by induction on both derivations: an earlier part has one outcome, which says which rule reads on
 mutual
-  alternation_unique : {d : ℕ} {s z : State} {o q : Outcome Tree} → Alternation d s o → Alternation d z q →
+  pub alternation_unique : {d : ℕ} {s z : State} {o q : Outcome Tree} → Alternation d s o → Alternation d z q →
       s ≡ z → o ≡ q
   alternation_unique (alternation a) (alternation b) e = then_same _ (branches_unique a b e)
 
@@ -78,7 +78,7 @@ mutual
   branches_unique (branch_fault a) (more b g m) e = absurd (done_or_fault (sym (branch_unique a b e)))
   branches_unique (branch_fault a) (branch_fault b) e = same_fault (branch_unique a b e)
 
-  branch_unique : {d : ℕ} {s z : State} {o q : Outcome Tree} → Branch d s o → Branch d z q → s ≡ z → o ≡ q
+  pub branch_unique : {d : ℕ} {s z : State} {o q : Outcome Tree} → Branch d s o → Branch d z q → s ≡ z → o ≡ q
   branch_unique (branch a) (branch b) e = then_same _ (pieces_unique a b e)
 
   pieces_unique : {d : ℕ} {s z : State} {o q : Outcome (List Tree)} → Pieces d s o → Pieces d z q → s ≡ z → o ≡ q
@@ -93,7 +93,7 @@ mutual
   pieces_unique (piece_fault f a) (next g b m) e = absurd (done_or_fault (sym (piece_unique a b e)))
   pieces_unique (piece_fault f a) (piece_fault g b) e = same_fault (piece_unique a b e)
 
-  piece_unique : {d : ℕ} {s z : State} {o q : Outcome Tree} → Piece d s o → Piece d z q → s ≡ z → o ≡ q
+  pub piece_unique : {d : ℕ} {s z : State} {o q : Outcome Tree} → Piece d s o → Piece d z q → s ≡ z → o ≡ q
   piece_unique (piece {d} l a) (piece m b) e =
       let h = atom_unique a b (ap_at e (same_layout l m e)) in
       ap₂ (λ (x : State) q. and_then q (quants d (bytes x.rest))) e h
@@ -101,11 +101,11 @@ mutual
   piece_unique (layout_fault l) (piece m b) e = absurd (layout_or_fault m l (sym e))
   piece_unique (layout_fault l) (layout_fault m) e = let h = same_skipped e in cc
 
-  atom_unique : {d : ℕ} {s z : State} {o q : Outcome Tree} → Atom d s o → Atom d z q → s ≡ z → o ≡ q
+  pub atom_unique : {d : ℕ} {s z : State} {o q : Outcome Tree} → Atom d s o → Atom d z q → s ≡ z → o ≡ q
   atom_unique (atom {d} {e = k} f a) (atom {s = z} {e = l} {q} g b) e =
       let i : l ≡ k = cc in let same = of_unique a (subst (λ (x : Ahead). AtomOf x d z q) i b) e in cc
 
-  of_unique : {k : Ahead} {d : ℕ} {s z : State} {o q : Outcome Tree} → AtomOf k d s o → AtomOf k d z q → s ≡ z →
+  pub of_unique : {k : Ahead} {d : ℕ} {s z : State} {o q : Outcome Tree} → AtomOf k d s o → AtomOf k d z q → s ≡ z →
       o ≡ q
   of_unique a_nothing a_nothing e = cc
   of_unique a_read a_read e = cc
@@ -130,10 +130,10 @@ mutual
   of_unique (absent_fault a) (one_branch b g) e = absurd (done_or_fault (sym (branch_unique a b refl)))
   of_unique (absent_fault a) (absent_fault b) e = branch_unique a b refl
 
-  inside_unique : {d : ℕ} {s z : State} {o q : Outcome Tree} → Inside d s o → Inside d z q → s ≡ z → o ≡ q
+  pub inside_unique : {d : ℕ} {s z : State} {o q : Outcome Tree} → Inside d s o → Inside d z q → s ≡ z → o ≡ q
   inside_unique (inside a) (inside b) e = then_same _ (alternation_unique a b e)
 
-  body_unique : {d : ℕ} {c x : Tree} {s z : State} {o q : Outcome Tree} → Body d c s o → Body d x z q → c ≡ x →
+  pub body_unique : {d : ℕ} {c x : Tree} {s z : State} {o q : Outcome Tree} → Body d c s o → Body d x z q → c ≡ x →
       s ≡ z → o ≡ q
   body_unique (the_body {s} {q} a) (the_body {c = x} b) i e =
       ap (λ (y : Tree). and_then q (conditional_behind y (bytes s.rest))) i

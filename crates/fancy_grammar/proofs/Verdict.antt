@@ -105,7 +105,8 @@ only_resolving OutOfMemory f text r a h = tt
 -- ---- places
 
 -- where the pattern may be cut
-cut_at : (re : List ℕ) (u : Text) → IsUtf8 re → EndsWith (chars re) u → IsCharBoundary re (bytes (chars re) - bytes u)
+pub cut_at : (re : List ℕ) (u : Text) → IsUtf8 re → EndsWith (chars re) u →
+    IsCharBoundary re (bytes (chars re) - bytes u)
 cut_at re u valid (w, cut) =
     let scalars = scalars_behind w u (ap all_scalars (sym cut) ∙ scalars-chars re valid) in
     let ends : IsUtf8 (encodes u) = (u, (scalars, refl)) in

@@ -22,6 +22,8 @@ pub mod Marks
 pub mod Answer
 pub mod Preorder
 pub mod Answered
+-- ---- where the nodes stand, which no call answers yet
+pub mod Spans
 -- ---- printing, and what a printed text reads as
 pub mod Printed
 pub mod HasDelegate

@@ -22,10 +22,10 @@ use Rattle.fancy_lex.proofs.TakeLaws.{Takes, TakesSome, TakesOrFails, takes, fai
 use Rattle.fancy_lex.proofs.TakeLaws.{takes_as, takes_less}
 
 -- the text is what stands before the mark, the mark, and what follows it
-abbrev IsCut : ℕ → Text → Option (Text × Text) → Type 0
+abbrev pub IsCut : ℕ → Text → Option (Text × Text) → Type 0
 IsCut mark t o = IfSome o (λ p. t ≡ p.0 ++ mark ∷ p.1)
 
-cut_is : (mark : ℕ) (t : Text) → IsCut mark t (cut_at mark t)
+pub cut_is : (mark : ℕ) (t : Text) → IsCut mark t (cut_at mark t)
 cut_is mark [] = tt
 cut_is mark (c ∷ t) = at (c == mark) refl (cut_at mark t) (cut_is mark t) where
   at : (b : Bool) → (c == mark) ≡ b → (o : Option (Text × Text)) → IsCut mark t o →

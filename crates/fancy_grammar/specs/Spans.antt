@@ -1,0 +1,247 @@
+-- Where the nodes of a tree stand in its pattern, by the derivation that reads them.
+-- A node stands where the innermost rule begins and ends that makes it: a leaf through its own text, and what
+-- parentheses make through theirs; a Repeat, and an AtomicGroup that a quantifier makes, from where the atom under it
+-- begins through the last character of the quantifier; a Concat, and the Empty of a branch without pieces, from where
+-- the branch begins to where it ends; an Alt from where its first branch begins to where its last one ends, layout
+-- counted. A group that leaves no node adds nothing to the node of its inside; what stands round that counts its
+-- parentheses.
+use Rattle.std.specs.Prelude.{◌≡◌, ◌≤◌, ℕ, zero, suc, ◌+◌, Bool, ◌||◌, ◌&&◌, List, [], ◌∷◌, ◌++◌, Option, map, codes}
+use Rattle.std.specs.Prelude.{if◌then◌else◌}
+use Rattle.std.specs.Option.{option_and_then}
+use Rattle.std.specs.Str.{IsCharBoundary}
+use Rattle.fancy_lex.specs.Characters.{open_paren}
+use Rattle.fancy_lex.specs.LayoutSteps.{past_layout}
+use Rattle.fancy_lex.specs.Reading.{choose}
+use Rattle.fancy_lex.specs.Text.{Text, bytes, reach_of, place_at, strip, strip_word}
+use Rattle.fancy_lex.specs.declared.flags.Flags.{Flags}
+use Rattle.fancy_parts.specs.Quantifier.{counts}
+use Rattle.fancy_parts.specs.Ranks.{is_counted, only_named}
+use Rattle.fancy_parts.specs.declared.counts.Counts.{Counts}
+use Rattle.fancy_grammar.specs.Ahead.{Ahead}
+use Rattle.fancy_grammar.specs.Grammar.{Alternation, alternation, Branches, last, more, branch_fault, Branch, branch}
+use Rattle.fancy_grammar.specs.Grammar.{Pieces, stop, next, piece_fault, Piece, piece, layout_fault, Atom, atom, AtomOf}
+use Rattle.fancy_grammar.specs.Grammar.{a_nothing, a_read, a_group, a_condition, condition_fault, a_body, two_branches}
+use Rattle.fancy_grammar.specs.Grammar.{one_branch, absent_fault, Inside, inside, Body, the_body, Whole, whole}
+use Rattle.fancy_grammar.specs.Grammar.{branches_of}
+use Rattle.fancy_grammar.specs.Head.{Head, capture, scope}
+use Rattle.fancy_grammar.specs.Items.{openings}
+use Rattle.fancy_grammar.specs.Join.{is_empty}
+use Rattle.fancy_grammar.specs.Quantified.{quant, suffix, Suffix, is_repeatable, is_swapped, is_unmoved, max_adjacent}
+use Rattle.fancy_grammar.specs.State.{State, at, Outcome, done, fault}
+use Rattle.fancy_grammar.specs.Tree.{Tree, leaf, over, row, Trees, no_trees, more_trees, alt}
+
+-- where the text of a node begins and where it ends: their reaches while it is read, and their places in what is
+-- answered
+pub record Span : Type 0 where
+  pub start : ℕ
+  pub end : ℕ
+
+-- told by places in a pattern of n bytes
+abbrev pub placed : ℕ → Span → Span
+placed n p = record { start = place_at n p.start; end = place_at n p.end }
+
+-- ---- how the spans of a tree stand
+
+mutual
+  -- the list has a span for each node in preorder: between these two places, with those of its children in it, one
+  -- behind another
+  pub data Nests : ℕ → ℕ → Tree → List Span → Type 0 where
+    of_leaf : {low high a : _} {p : Span} → low ≤ p.start → p.start ≤ p.end → p.end ≤ high →
+        Nests low high (leaf a) (p ∷ [])
+    of_over : {low high w t l : _} {p : Span} → low ≤ p.start → p.end ≤ high → Nests p.start p.end t l →
+        Nests low high (over w t) (p ∷ l)
+    of_row : {low high r ts l : _} {p : Span} → low ≤ p.start → p.end ≤ high → AllNest p.start p.end ts l →
+        Nests low high (row r ts) (p ∷ l)
+
+  pub data AllNest : ℕ → ℕ → Trees → List Span → Type 0 where
+    of_none : {low high : ℕ} → low ≤ high → AllNest low high no_trees []
+    of_more : {low mid high t ts l m k : _} → Nests low mid t l → AllNest mid high ts m → k ≡ l ++ m →
+        AllNest low high (more_trees t ts) k
+
+-- the pattern may be cut where the span begins and where it ends
+abbrev pub IsCutOut : List ℕ → Span → Type 0
+IsCutOut pattern p = IsCharBoundary pattern p.start × IsCharBoundary pattern p.end
+
+-- ---- the spans of a tree, as a tree
+
+mutual
+  -- the span of a node, and those of its children
+  pub data Spans : Type 0 where
+    node : Span → Forest → Spans
+
+  -- those of several nodes; among branches also the reaches right behind the bars
+  pub data Forest : Type 0 where
+    no_spans : Forest
+    more_spans : Spans → Forest → Forest
+    behind_bar : ℕ → Forest → Forest
+
+abbrev mutual
+  -- each before those in it
+  pub in_preorder : Spans → List Span
+  in_preorder (node p xs) = p ∷ all_in_preorder xs
+
+  pub all_in_preorder : Forest → List Span
+  all_in_preorder no_spans = []
+  all_in_preorder (more_spans x xs) = in_preorder x ++ all_in_preorder xs
+  all_in_preorder (behind_bar p xs) = all_in_preorder xs
+
+abbrev pub alone : Span → Spans
+alone p = node p no_spans
+
+abbrev pub around : Span → Spans → Spans
+around p x = node p (more_spans x no_spans)
+
+-- pieces or branches that stand at p: none are an Empty there, one is itself, more are a node there
+abbrev pub one_or_node : Span → Forest → Spans
+one_or_node p no_spans = alone p
+one_or_node p (more_spans x no_spans) = x
+one_or_node p xs = node p xs
+
+-- a tree before others; an Empty is left out
+abbrev pub solid_spans : Tree → Spans → Forest → Forest
+solid_spans r x xs = if is_empty r then xs else more_spans x xs
+
+-- ---- outcomes
+
+-- the reach where what is read ends, or that of the fault
+abbrev pub end_of : {A : Type 0} → Outcome A → ℕ
+end_of (done a t) = reach_of t.rest
+end_of (fault k p) = p
+
+-- from a state to where what is read from it ends
+abbrev pub between : {A : Type 0} → State → Outcome A → Span
+between s o = record { start = reach_of s.rest; end = end_of o }
+
+-- what f says of what is read, or x for a fault
+abbrev pub if_done : {A B : Type 0} → Outcome A → (A → State → B) → B → B
+if_done (done a t) f x = f a t
+if_done (fault k p) f x = x
+
+-- ---- groups and conditionals
+
+-- the node of a group that stands at p, round its inside; where only groups with a name have a number, the others leave
+-- no node
+abbrev pub group_spans : Bool → Head → Span → Spans → Spans
+group_spans named (capture name) p x = if is_counted named name then around p x else x
+group_spans named scope p x = x
+group_spans named _ p x = around p x
+
+-- the branches of a conditional's body, which ends at v: of an Alt the first, and the choice among those behind the
+-- first bar; or the body, and an Empty at its end
+abbrev pub body_parts : Tree → State → Spans → Spans × Spans
+body_parts (alt ts) v (node p (more_spans x (behind_bar b xs))) =
+    (x, one_or_node (record { start = b; end = p.end }) xs)
+body_parts r v x = (x, alone (between v (done r v)))
+
+-- a conditional that stands at p, of its condition and its body; where both branches are Empty, the condition
+abbrev pub conditional_spans : Span → Spans → Outcome Tree → Spans → Spans
+conditional_spans p c q x = if_done q (λ r v.
+    let b = branches_of r in
+    let y = body_parts r v x in
+    if is_empty b.0 && is_empty b.1 then c
+    else node p (more_spans c (more_spans y.0 (more_spans y.1 no_spans)))) c
+
+-- what follows the parenthesis of a conditional, layout and `?(`
+abbrev pub condition_text : State → Option Text
+condition_text s = option_and_then (strip_word (codes "?(")) (option_and_then (past_layout s.flags.ignore_space)
+    (strip open_paren s.rest))
+
+-- a condition that is no alternation, of the conditional that begins at s: it ends one byte before its body, which
+-- begins at t
+abbrev pub condition_span : State → State → Span
+condition_span s t =
+    record { start = choose (condition_text s) reach_of (reach_of s.rest); end = reach_of t.rest + 1 }
+
+-- ---- quantifiers
+
+-- the nodes that a quantifier of these counts and marks makes
+abbrev pub under : Flags → Counts → Suffix → Span → Spans → Spans
+under f c m p x = if is_swapped f c || m.possessive then around p (around p x) else around p x
+
+-- where a quantifier ends: behind its marks, or where it has none behind its counts, where t begins
+abbrev pub quantifier_end : Text → Suffix → State → ℕ
+quantifier_end t m v = if m.lazy || m.possessive then reach_of v.rest else reach_of t
+
+-- the atom a, which begins at the reach `from`, under these counts, behind which t begins
+abbrev pub counted : ℕ → Tree → State → Spans → Counts × Text → Spans
+counted from a s x (c, t) =
+    if is_repeatable s.flags a
+    then if_done (suffix (at s t) c)
+    (λ m v. under s.flags c m (record { start = from; end = quantifier_end t m v }) x) x
+    else x
+
+-- under the quantifier that follows layout, if one does
+abbrev pub quant_spans : ℕ → Tree → State → Spans → Spans
+quant_spans from a s x =
+    let blanks = s.flags.ignore_space in
+    choose (option_and_then (counts blanks) (past_layout blanks s.rest)) (counted from a s x) x
+
+-- under adjacent ones, of which k may follow
+abbrev pub adjacent_spans : ℕ → ℕ → Tree → State → Spans → Spans
+adjacent_spans zero from a s x = quant_spans from a s x
+adjacent_spans (suc k) from a s x =
+    let y = quant_spans from a s x in
+    if_done (quant (bytes s.rest) a s) (λ b t. if is_unmoved s t then y else adjacent_spans k from b t y) y
+
+-- under all, in a piece before which so many bytes were left
+abbrev pub quants_spans : ℕ → ℕ → Outcome Tree → Spans → Spans
+quants_spans left from q x = if_done q (λ a s.
+    let y = quant_spans from a s x in
+    if_done (quant left a s)
+    (λ b t. if t.flags.oniguruma_mode then adjacent_spans max_adjacent from b t y else y) y) x
+
+-- ---- the productions
+
+-- where only groups with a name have a number, or all have one
+module _ (named : Bool) where
+  abbrev mutual
+    pub alternation_spans : {d : ℕ} {s : State} {o : Outcome Tree} → Alternation d s o → Spans
+    alternation_spans {s} {o} (alternation b) = one_or_node (between s o) (branches_spans b)
+
+    pub branches_spans : {d : ℕ} {s : State} {o : Outcome (List Tree)} → Branches d s o → Forest
+    branches_spans (last b e) = more_spans (branch_spans b) no_spans
+    branches_spans (more {u} b e m) = more_spans (branch_spans b) (behind_bar (reach_of u) (branches_spans m))
+    branches_spans (branch_fault b) = no_spans
+
+    pub branch_spans : {d : ℕ} {s : State} {o : Outcome Tree} → Branch d s o → Spans
+    branch_spans {s} {o} (branch p) = one_or_node (between s o) (pieces_spans p)
+
+    pub pieces_spans : {d : ℕ} {s : State} {o : Outcome (List Tree)} → Pieces d s o → Forest
+    pieces_spans (stop e) = no_spans
+    pieces_spans (next {r} e a m) = solid_spans r (piece_spans a) (pieces_spans m)
+    pieces_spans (piece_fault e a) = no_spans
+
+    pub piece_spans : {d : ℕ} {s : State} {o : Outcome Tree} → Piece d s o → Spans
+    piece_spans {s} (piece {u} {q} l a) = quants_spans (bytes s.rest) (reach_of u) q (atom_spans a)
+    piece_spans {s} {o} (layout_fault l) = alone (between s o)
+
+    pub atom_spans : {d : ℕ} {s : State} {o : Outcome Tree} → Atom d s o → Spans
+    atom_spans (atom e a) = atom_of_spans a
+
+    pub atom_of_spans : {k : Ahead} {d : ℕ} {s : State} {o : Outcome Tree} → AtomOf k d s o → Spans
+    atom_of_spans {s} {o} a_nothing = alone (between s o)
+    atom_of_spans {s} {o} a_read = alone (between s o)
+    atom_of_spans {s} {o} (a_group {h} i) = group_spans named h (between s o) (inside_spans i)
+    atom_of_spans {s} (a_condition i b) = body_spans s (inside_spans i) b
+    atom_of_spans {s} {o} (condition_fault i) = alone (between s o)
+    atom_of_spans {s} (a_body {t} b) = body_spans s (alone (condition_span s t)) b
+    atom_of_spans {s} {o} (two_branches b e m) =
+        node (between s o) (more_spans (branch_spans b) (more_spans (branch_spans m) no_spans))
+    atom_of_spans {s} {o} (one_branch {a} b e) = node (between s o) (solid_spans a (branch_spans b) no_spans)
+    atom_of_spans {s} {o} (absent_fault b) = alone (between s o)
+
+    pub inside_spans : {d : ℕ} {s : State} {o : Outcome Tree} → Inside d s o → Spans
+    inside_spans (inside a) = alternation_spans a
+
+    -- of a conditional that begins at w, whose condition has the spans y
+    pub body_spans : State → Spans → {d : ℕ} {c : Tree} {s : State} {o : Outcome Tree} → Body d c s o → Spans
+    body_spans w y {o} (the_body {q} a) = conditional_spans (between w o) y q (alternation_spans a)
+
+  abbrev pub whole_spans : {f : Flags} {text : Text} {o : Outcome Tree} → Whole f text o → Spans
+  whole_spans (whole a) = alternation_spans a
+
+-- the spans of the nodes of the tree that is answered for a text, in preorder
+abbrev pub AreSpansOf : Flags → Text → List Span → Type 0
+AreSpansOf f text l =
+    (r : Tree) × (t : State) × (a : Whole f text (done r t)) ×
+    (l ≡ map (placed (bytes text)) (in_preorder (whole_spans (only_named f (openings r)) a)))
