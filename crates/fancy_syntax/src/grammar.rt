@@ -11,7 +11,7 @@ mod fault;
 mod frame;
 mod group;
 mod plain;
-mod quantified;
+pub(crate) mod quantified;
 mod reading;
 mod reference;
 mod state;

@@ -1,0 +1,427 @@
+//! The walk that writes a tree's text.
+use crate::expr::{Absent, Expr};
+use crate::pattern::flags::{open_scope, put_setting};
+use crate::pattern::group::{close, look_head, open};
+use crate::pattern::here::{Here, Position};
+use crate::grammar::quantified::is_repeatable;
+use crate::pattern::leaf::{put_leaf, verb_name};
+use crate::pattern::names::Known;
+use crate::pattern::parting::Parting;
+use crate::pattern::quantifier::{
+    Counts, is_quantified, may_be_possessive, put_quantifier, room_left,
+};
+use crate::pattern::reference::{put_group_head, put_target};
+use crate::pattern::sink::Sink;
+use fancy_grammar::needs::Needs;
+use std::alloc::AllocError;
+
+/// Writes the whole text, before which the flags are set that all leaves need.
+pub(super) fn put_pattern<S: Sink>(
+    out: &mut S,
+    known: &Known,
+    tree: &Expr,
+    agreed: Needs,
+    here: Here,
+) -> Result<(), AllocError> {
+    let here = put_setting(out, agreed, here)?;
+    put_tree(out, known, tree, Position::Whole, here)?;
+    Ok(())
+}
+
+/// Writes a tree's text where it stands, and answers where what follows it does.
+#[cycle(write)]
+fn put_tree<'a, S: Sink>(
+    out: &mut S,
+    known: &Known,
+    tree: &Expr,
+    position: Position,
+    here: Here<'a>,
+) -> Result<Here<'a>, AllocError> {
+    let (needs, here) = here.next_node();
+    match tree {
+        Expr::Empty => put_empty(out, position, here),
+        Expr::Concat(pieces) => put_concat(out, known, pieces, position, needs, here),
+        Expr::Alt(branches) => put_alt(out, known, branches, position, needs, here),
+        _ => {
+            let here = put_setting(out, needs, here)?;
+            put_settled(out, known, tree, position, here)
+        }
+    }
+}
+
+/// Writes an Empty: as a group, where a piece has to stand.
+fn put_empty<'a, S: Sink>(
+    out: &mut S,
+    position: Position,
+    here: Here<'a>,
+) -> Result<Here<'a>, AllocError> {
+    match position {
+        Position::Whole | Position::Branch => {}
+        Position::Piece | Position::Operand(_) => out.put_text("()")?,
+    }
+    Ok(here)
+}
+
+/// Writes a Concat, in a group of its own where a branch may not stand.
+#[cycle(write)]
+fn put_concat<'a, S: Sink>(
+    out: &mut S,
+    known: &Known,
+    pieces: &[Expr],
+    position: Position,
+    needs: Needs,
+    here: Here<'a>,
+) -> Result<Here<'a>, AllocError> {
+    if let Position::Whole | Position::Branch = position {
+        return put_pieces(out, known, pieces, here);
+    }
+    let inside = open_scope(out, needs, here)?;
+    let end = put_pieces(out, known, pieces, inside)?;
+    close(out, here, end)
+}
+
+/// Writes trees one behind the other. What begins with a digit is parted from a number before it.
+#[cycle(write)]
+fn put_pieces<'a, S: Sink>(
+    out: &mut S,
+    known: &Known,
+    pieces: &[Expr],
+    here: Here<'a>,
+) -> Result<Here<'a>, AllocError> {
+    let mut here = here;
+    let mut behind_number = false;
+    for piece in pieces {
+        let place = out.len();
+        here = put_tree(out, known, piece, Position::Piece, here)?;
+        if behind_number {
+            out.part(place, Parting::Number)?;
+        }
+        behind_number = known.is_numeric && matches!(piece, Expr::Backref { .. });
+    }
+    Ok(here)
+}
+
+/// Writes an Alt, in a group of its own where it is not alone.
+#[cycle(write)]
+fn put_alt<'a, S: Sink>(
+    out: &mut S,
+    known: &Known,
+    branches: &[Expr],
+    position: Position,
+    needs: Needs,
+    here: Here<'a>,
+) -> Result<Here<'a>, AllocError> {
+    if let Position::Whole = position {
+        return put_branches(out, known, branches, here);
+    }
+    let inside = open_scope(out, needs, here)?;
+    let end = put_branches(out, known, branches, inside)?;
+    close(out, here, end)
+}
+
+/// Writes trees with bars between.
+#[cycle(write)]
+fn put_branches<'a, S: Sink>(
+    out: &mut S,
+    known: &Known,
+    branches: &[Expr],
+    here: Here<'a>,
+) -> Result<Here<'a>, AllocError> {
+    let mut here = here;
+    for (i, branch) in branches.iter().enumerate() {
+        if i > 0 {
+            out.put('|')?;
+        }
+        here = put_tree(out, known, branch, Position::Branch, here)?;
+    }
+    Ok(here)
+}
+
+/// Writes any other tree where its flags are set.
+#[cycle(write)]
+fn put_settled<'a, S: Sink>(
+    out: &mut S,
+    known: &Known,
+    tree: &Expr,
+    position: Position,
+    here: Here<'a>,
+) -> Result<Here<'a>, AllocError> {
+    match tree {
+        Expr::Group(child) => put_group(out, known, child, here),
+        Expr::LookAround(child, look) => {
+            let head = look_head(*look);
+            if let Position::Operand(_) = position {
+                let inside = open(out, "", here)?;
+                let end = put_in_group(out, known, head, child, inside)?;
+                return close(out, here, end);
+            }
+            put_in_group(out, known, head, child, here)
+        }
+        Expr::Repeat {
+            child,
+            lo,
+            hi,
+            greedy,
+        } => {
+            let counts = Counts::new(*lo, *hi, *greedy);
+            put_repeat(out, known, child, counts, position, here)
+        }
+        Expr::AtomicGroup(child) => put_atomic(out, known, child, position, here),
+        Expr::DefineGroup { definitions } =>
+            put_in_group(out, known, "?(DEFINE)", definitions, here),
+        Expr::Conditional {
+            condition,
+            true_branch,
+            false_branch,
+        } => put_conditional(out, known, condition, true_branch, false_branch, here),
+        Expr::Absent(absent) => put_absent(out, known, absent, here),
+        _ => put_leaf_at(out, known, tree, position, here),
+    }
+}
+
+/// Writes a leaf, in a group where a quantifier follows that may not stand behind it.
+fn put_leaf_at<'a, S: Sink>(
+    out: &mut S,
+    known: &Known,
+    leaf: &Expr,
+    position: Position,
+    here: Here<'a>,
+) -> Result<Here<'a>, AllocError> {
+    if let Position::Operand(_) = position
+        && !is_repeatable(here.flags, leaf)
+    {
+        let inside = open(out, "", here)?;
+        put_leaf(out, known, leaf, inside)?;
+        return close(out, here, inside);
+    }
+    put_leaf(out, known, leaf, here)?;
+    Ok(here)
+}
+
+/// Writes a tree in a group with this head.
+#[cycle(write)]
+fn put_in_group<'a, S: Sink>(
+    out: &mut S,
+    known: &Known,
+    head: &str,
+    child: &Expr,
+    here: Here<'a>,
+) -> Result<Here<'a>, AllocError> {
+    let inside = open(out, head, here)?;
+    let end = put_tree(out, known, child, Position::Whole, inside)?;
+    close(out, here, end)
+}
+
+/// Writes a capturing group.
+#[cycle(write)]
+fn put_group<'a, S: Sink>(
+    out: &mut S,
+    known: &Known,
+    child: &Expr,
+    here: Here<'a>,
+) -> Result<Here<'a>, AllocError> {
+    let inside = open(out, "", here)?.past_opening()?;
+    put_group_head(out, known, inside.opened)?;
+    let end = put_tree(out, known, child, Position::Whole, inside)?;
+    close(out, here, end)
+}
+
+/// Writes a Repeat, in a group where it stands right before a quantifier.
+#[cycle(write)]
+fn put_repeat<'a, S: Sink>(
+    out: &mut S,
+    known: &Known,
+    child: &Expr,
+    counts: Counts,
+    position: Position,
+    here: Here<'a>,
+) -> Result<Here<'a>, AllocError> {
+    if let Position::Operand(0) = position {
+        let inside = open(out, "?:", here)?;
+        let end = put_quantified(out, known, child, counts, Position::Whole, inside)?;
+        return close(out, here, end);
+    }
+    put_quantified(out, known, child, counts, position, here)
+}
+
+/// Writes an AtomicGroup: of a Repeat as a possessive quantifier, where one says so.
+#[cycle(write)]
+fn put_atomic<'a, S: Sink>(
+    out: &mut S,
+    known: &Known,
+    child: &Expr,
+    position: Position,
+    here: Here<'a>,
+) -> Result<Here<'a>, AllocError> {
+    let Expr::Repeat {
+        child: repeated,
+        lo,
+        hi,
+        greedy,
+    } = child else {
+        return put_in_group(out, known, "?>", child, here);
+    };
+    if let Position::Operand(0) = position {
+        return put_in_group(out, known, "?>", child, here);
+    }
+    if !may_be_possessive(*lo, *hi, here.flags) {
+        return put_in_group(out, known, "?>", child, here);
+    }
+    let counts = Counts {
+        possessive: true,
+        ..Counts::new(*lo, *hi, *greedy)
+    };
+    put_quantified(out, known, repeated, counts, position, here.past_node())
+}
+
+/// Writes a tree and the quantifier behind it.
+#[cycle(write)]
+fn put_quantified<'a, S: Sink>(
+    out: &mut S,
+    known: &Known,
+    child: &Expr,
+    counts: Counts,
+    position: Position,
+    here: Here<'a>,
+) -> Result<Here<'a>, AllocError> {
+    let room = room_left(here, position);
+    let adjacent = room > 0 && is_quantified(child, here.flags);
+    let end = put_tree(out, known, child, Position::Operand(room), here)?;
+    put_quantifier(out, counts, adjacent, here.flags)?;
+    Ok(here.behind(end))
+}
+
+/// Writes a Conditional.
+#[cycle(write)]
+fn put_conditional<'a, S: Sink>(
+    out: &mut S,
+    known: &Known,
+    condition: &Expr,
+    true_branch: &Expr,
+    false_branch: &Expr,
+    here: Here<'a>,
+) -> Result<Here<'a>, AllocError> {
+    let inside = open(out, "?(", here)?;
+    let behind = put_condition(out, known, condition, inside)?;
+    out.put(')')?;
+    let end = put_choice(out, known, true_branch, false_branch, behind)?;
+    close(out, here, end)
+}
+
+/// Writes a condition.
+#[cycle(write)]
+fn put_condition<'a, S: Sink>(
+    out: &mut S,
+    known: &Known,
+    condition: &Expr,
+    here: Here<'a>,
+) -> Result<Here<'a>, AllocError> {
+    match condition {
+        Expr::BackrefExistsCondition {
+            group,
+            relative_recursion_level,
+        } => {
+            put_target(out, known, *group, *relative_recursion_level)?;
+            Ok(here.past_node())
+        }
+        Expr::BacktrackingControlVerb(verb) => {
+            out.put_text(verb_name(*verb))?;
+            Ok(here.past_node())
+        }
+        _ => {
+            let place = out.len();
+            let end = put_tree(out, known, condition, Position::Whole, here)?;
+            out.part(place, Parting::Condition)?;
+            Ok(end)
+        }
+    }
+}
+
+/// Writes the branches of a Conditional.
+#[cycle(write)]
+fn put_choice<'a, S: Sink>(
+    out: &mut S,
+    known: &Known,
+    true_branch: &Expr,
+    false_branch: &Expr,
+    here: Here<'a>,
+) -> Result<Here<'a>, AllocError> {
+    let is_one = matches!(false_branch, Expr::Empty);
+    if is_one && matches!(true_branch, Expr::Empty) {
+        out.put_text("()")?;
+        return Ok(here.past_node().past_node());
+    }
+    let behind = put_tree(out, known, true_branch, Position::Branch, here)?;
+    if is_one && !matches!(true_branch, Expr::Alt(_)) {
+        return Ok(behind.past_node());
+    }
+    out.put('|')?;
+    put_tree(out, known, false_branch, Position::Whole, behind)
+}
+
+/// Writes an absent expression.
+#[cycle(write)]
+fn put_absent<'a, S: Sink>(
+    out: &mut S,
+    known: &Known,
+    absent: &Absent,
+    here: Here<'a>,
+) -> Result<Here<'a>, AllocError> {
+    match absent {
+        Absent::Repeater(child) => put_repeater(out, known, child, here),
+        Absent::Expression { absent, exp } => put_expression(out, known, absent, exp, here),
+        Absent::Stopper(child) => put_stopper(out, known, child, here),
+        Absent::Clear => {
+            out.put_text("(?~|)")?;
+            Ok(here)
+        }
+    }
+}
+
+/// Writes an absent repeater: with a bar in front it would be another absent form.
+#[cycle(write)]
+fn put_repeater<'a, S: Sink>(
+    out: &mut S,
+    known: &Known,
+    child: &Expr,
+    here: Here<'a>,
+) -> Result<Here<'a>, AllocError> {
+    let inside = open(out, "?~", here)?;
+    let place = out.len();
+    let end = put_tree(out, known, child, Position::Whole, inside)?;
+    out.part(place, Parting::Absent)?;
+    close(out, here, end)
+}
+
+/// Writes an absent expression of two parts.
+#[cycle(write)]
+fn put_expression<'a, S: Sink>(
+    out: &mut S,
+    known: &Known,
+    absent: &Expr,
+    exp: &Expr,
+    here: Here<'a>,
+) -> Result<Here<'a>, AllocError> {
+    let inside = open(out, "?~|", here)?;
+    let behind = put_tree(out, known, absent, Position::Branch, inside)?;
+    out.put('|')?;
+    let end = put_tree(out, known, exp, Position::Branch, behind)?;
+    close(out, here, end)
+}
+
+/// Writes an absent stopper: without a text it would be a clear.
+#[cycle(write)]
+fn put_stopper<'a, S: Sink>(
+    out: &mut S,
+    known: &Known,
+    child: &Expr,
+    here: Here<'a>,
+) -> Result<Here<'a>, AllocError> {
+    let inside = open(out, "?~|", here)?;
+    let place = out.len();
+    let end = put_tree(out, known, child, Position::Branch, inside)?;
+    if out.len() == place {
+        out.put_text("()")?;
+    }
+    close(out, here, end)
+}
