@@ -40,3 +40,5 @@ pub mod Machine
 pub mod Room
 -- ---- the resolver's walks
 pub mod Notes
+-- ---- the writing of texts
+pub mod Sink

@@ -24,6 +24,8 @@ impl Counter {
 }
 
 impl Sink for Counter {
+    ghost holds = { λ s t. ⊥ };
+
     fn put(&mut self, c: char) -> Result<(), AllocError> {
         self.add(c.len_utf8())
     }

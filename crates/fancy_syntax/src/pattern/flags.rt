@@ -1,6 +1,6 @@
 //! Groups that set flags.
 use crate::pattern::here::Here;
-use crate::pattern::sink::Sink;
+use crate::pattern::sink::{Sink, put_ascii};
 use fancy_lex::flags::Flags;
 use fancy_grammar::needs::Needs;
 use std::alloc::AllocError;
@@ -41,7 +41,7 @@ pub(super) fn put_setting<'a, S: Sink>(
 ) -> Result<Here<'a>, AllocError> {
     let set = here.with(needs);
     if sets_any(here.flags, set.flags) || sets_any(set.flags, here.flags) {
-        out.put_text("(?")?;
+        put_ascii(out, "(?")?;
         put_letters(out, here.flags, set.flags)?;
         out.put(')')?;
     }
@@ -55,7 +55,7 @@ pub(super) fn open_scope<'a, S: Sink>(
     here: Here<'a>,
 ) -> Result<Here<'a>, AllocError> {
     let set = here.with(needs);
-    out.put_text("(?")?;
+    put_ascii(out, "(?")?;
     put_letters(out, here.flags, set.flags)?;
     out.put(':')?;
     Ok(set.inside())

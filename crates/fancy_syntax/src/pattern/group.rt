@@ -1,7 +1,7 @@
 //! Groups.
 use crate::expr::LookAround;
 use crate::pattern::here::Here;
-use crate::pattern::sink::Sink;
+use crate::pattern::sink::{Sink, put_ascii};
 use std::alloc::AllocError;
 
 /// Opens a group with this head, and answers where its inside begins.
@@ -11,7 +11,7 @@ pub(super) fn open<'a, S: Sink>(
     here: Here<'a>,
 ) -> Result<Here<'a>, AllocError> {
     out.put('(')?;
-    out.put_text(head)?;
+    put_ascii(out, head)?;
     Ok(here.inside())
 }
 

@@ -6,7 +6,7 @@ use crate::pattern::names::Known;
 use crate::pattern::reference::{
     put_backref, put_backref_at_level, put_call, put_target, put_unresolved,
 };
-use crate::pattern::sink::Sink;
+use crate::pattern::sink::{Sink, put_ascii};
 use crate::pattern::source::put_delegate;
 use fancy_lex::flags::Flags;
 use std::alloc::AllocError;
@@ -54,7 +54,7 @@ pub(super) fn verb_name(verb: BacktrackingControlVerb) -> &'static str {
 /// Writes a verb.
 fn put_verb<S: Sink>(out: &mut S, verb: BacktrackingControlVerb) -> Result<(), AllocError> {
     out.put('(')?;
-    out.put_text(verb_name(verb))?;
+    put_ascii(out, verb_name(verb))?;
     out.put(')')
 }
 
@@ -65,9 +65,9 @@ fn put_condition_alone<S: Sink>(
     group: usize,
     level: Option<isize>,
 ) -> Result<(), AllocError> {
-    out.put_text("(?(")?;
+    put_ascii(out, "(?(")?;
     put_target(out, known, group, level)?;
-    out.put_text("))")
+    put_ascii(out, "))")
 }
 
 /// Writes a reference.
@@ -102,14 +102,14 @@ pub(super) fn put_leaf<S: Sink>(
     here: Here,
 ) -> Result<(), AllocError> {
     match leaf {
-        Expr::Any { newline, crlf } => out.put_text(any_text(*newline, *crlf, here.flags)),
-        Expr::Assertion(assertion) => out.put_text(assertion_text(*assertion, here.flags)),
-        Expr::GeneralNewline { .. } => out.put_text(r"\R"),
+        Expr::Any { newline, crlf } => put_ascii(out, any_text(*newline, *crlf, here.flags)),
+        Expr::Assertion(assertion) => put_ascii(out, assertion_text(*assertion, here.flags)),
+        Expr::GeneralNewline { .. } => put_ascii(out, r"\R"),
         Expr::Literal { val, casei } => put_literal(out, val.as_str(), *casei, here.flags),
         Expr::LiteralBytes { bytes } => put_bytes(out, bytes.as_slice()),
         Expr::Delegate { inner, casei } => put_delegate(out, inner.as_str(), *casei, here.flags),
-        Expr::KeepOut => out.put_text(r"\K"),
-        Expr::ContinueFromPreviousMatchEnd => out.put_text(r"\G"),
+        Expr::KeepOut => put_ascii(out, r"\K"),
+        Expr::ContinueFromPreviousMatchEnd => put_ascii(out, r"\G"),
         Expr::BacktrackingControlVerb(verb) => put_verb(out, *verb),
         _ => put_reference(out, known, leaf, here),
     }

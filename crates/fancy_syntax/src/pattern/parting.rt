@@ -1,5 +1,9 @@
 //! Texts before which an empty comment stands, since they would be read with what stands before them.
-use fancy_lex::text::next;
+ghost use Rattle.std.specs.Prelude.{◌≡◌, chars};
+ghost use Rattle.fancy_lex.specs.Number.{at_digit};
+ghost use Rattle.fancy_syntax.specs.Sink.{needs_parting};
+
+use fancy_lex::text::{after, is_same_text, next};
 use fancy_parts::heads::references::begins_target;
 
 /// What stands before a text.
@@ -15,17 +19,21 @@ pub(super) enum Parting {
 
 impl Parting {
     /// Whether the text has to be parted from what stands before it.
-    pub(super) fn is_needed(self, text: &str) -> bool {
+    pub(super) fn is_needed(self, text: &str) -> bool
+        ensures { result ≡ needs_parting self (chars text.now) }
+    {
         match self {
             Parting::Number => begins_with_digit(text),
-            Parting::Condition => begins_target(text) || text == "DEFINE",
-            Parting::Absent => text.starts_with('|'),
+            Parting::Condition => begins_target(text) || is_same_text(text, "DEFINE"),
+            Parting::Absent => after(text, '|').is_some(),
         }
     }
 }
 
 /// Whether an ASCII digit stands at the front.
-fn begins_with_digit(text: &str) -> bool {
+fn begins_with_digit(text: &str) -> bool
+    ensures { result ≡ at_digit (chars text.now) }
+{
     match next(text) {
         Some((c, _)) => c.is_ascii_digit(),
         None => false,

@@ -2,7 +2,7 @@
 use crate::expr::{AstNode, CaptureGroupTarget};
 use crate::pattern::here::Here;
 use crate::pattern::names::Known;
-use crate::pattern::sink::Sink;
+use crate::pattern::sink::{Sink, put_ascii};
 use fancy_lex::escape::reference::is_relative;
 use std::alloc::AllocError;
 
@@ -22,7 +22,7 @@ fn put_level<S: Sink>(out: &mut S, level: Option<isize>) -> Result<(), AllocErro
 
 /// Writes a text between marks, behind a head.
 fn put_marked<S: Sink>(out: &mut S, head: &str, text: &str) -> Result<(), AllocError> {
-    out.put_text(head)?;
+    put_ascii(out, head)?;
     out.put('<')?;
     out.put_text(text)?;
     out.put('>')
@@ -30,7 +30,7 @@ fn put_marked<S: Sink>(out: &mut S, head: &str, text: &str) -> Result<(), AllocE
 
 /// Writes a text between quotes, behind a head.
 fn put_quoted<S: Sink>(out: &mut S, head: &str, text: &str) -> Result<(), AllocError> {
-    out.put_text(head)?;
+    put_ascii(out, head)?;
     out.put('\'')?;
     out.put_text(text)?;
     out.put('\'')
@@ -61,7 +61,7 @@ pub(super) fn put_backref<S: Sink>(
         out.put('\\')?;
         return out.put_number(group);
     }
-    out.put_text(r"\k<")?;
+    put_ascii(out, r"\k<")?;
     put_group(out, known, group, here)?;
     out.put('>')
 }
@@ -74,7 +74,7 @@ pub(super) fn put_backref_at_level<S: Sink>(
     level: isize,
     here: Here,
 ) -> Result<(), AllocError> {
-    out.put_text(r"\k<")?;
+    put_ascii(out, r"\k<")?;
     put_group(out, known, group, here)?;
     put_signed(out, level)?;
     out.put('>')
@@ -136,7 +136,7 @@ pub(super) fn put_call<S: Sink>(
     group: usize,
     here: Here,
 ) -> Result<(), AllocError> {
-    out.put_text(r"\g<")?;
+    put_ascii(out, r"\g<")?;
     put_called(out, known, group, here)?;
     out.put('>')
 }
@@ -144,7 +144,7 @@ pub(super) fn put_call<S: Sink>(
 /// Writes a call by a name that means no group, or several.
 fn put_call_by_name<S: Sink>(out: &mut S, name: &str) -> Result<(), AllocError> {
     if is_relative(name) || name.contains('>') && name.contains('\'') {
-        out.put_text("(?P>")?;
+        put_ascii(out, "(?P>")?;
         out.put_text(name)?;
         return out.put(')');
     }
@@ -162,12 +162,12 @@ pub(super) fn put_unresolved<S: Sink>(out: &mut S, node: &AstNode) -> Result<(),
     match target {
         CaptureGroupTarget::ByName(name) => put_call_by_name(out, name.as_str()),
         CaptureGroupTarget::Relative(amount) => {
-            out.put_text(r"\g<")?;
+            put_ascii(out, r"\g<")?;
             put_signed(out, *amount)?;
             out.put('>')
         }
         CaptureGroupTarget::ByNumber(group) => {
-            out.put_text(r"\g<")?;
+            put_ascii(out, r"\g<")?;
             out.put_number(*group)?;
             out.put('>')
         }

@@ -1,7 +1,7 @@
 //! What a Delegate was written as: a text that the reader writes as that of the Delegate.
 use crate::pattern::letters::put_class_character;
 use crate::pattern::needs::{HEX_CLASS, NEGATED_HEX_CLASS};
-use crate::pattern::sink::Sink;
+use crate::pattern::sink::{Sink, put_ascii};
 use fancy_lex::flags::Flags;
 use fancy_lex::text::{after, after_word, next, split_at};
 use std::alloc::AllocError;
@@ -43,11 +43,11 @@ fn letter(upper: bool) -> &'static str {
 /// Writes a property by its name: the reader takes one caret off, and turns the letter.
 fn put_property<S: Sink>(out: &mut S, upper: bool, name: &str) -> Result<(), AllocError> {
     if let Some(name) = after(name, '^') {
-        out.put_text(letter(!upper))?;
-        out.put_text("{^^")?;
+        put_ascii(out, letter(!upper))?;
+        put_ascii(out, "{^^")?;
         out.put_text(name)?;
     } else {
-        out.put_text(letter(upper))?;
+        put_ascii(out, letter(upper))?;
         out.put('{')?;
         out.put_text(name)?;
     }
@@ -61,11 +61,11 @@ fn put_property_at<'a, S: Sink>(
     text: &'a str,
 ) -> Result<&'a str, AllocError> {
     let Some((c, rest)) = next(text) else {
-        out.put_text(letter(upper))?;
+        put_ascii(out, letter(upper))?;
         return Ok(text);
     };
     if c != '{' {
-        out.put_text(letter(upper))?;
+        put_ascii(out, letter(upper))?;
         out.put(c)?;
         return Ok(rest);
     }
@@ -75,7 +75,7 @@ fn put_property_at<'a, S: Sink>(
             Ok(behind)
         }
         None => {
-            out.put_text(letter(upper))?;
+            put_ascii(out, letter(upper))?;
             Ok(text)
         }
     }
@@ -103,10 +103,10 @@ fn put_source<S: Sink>(out: &mut S, text: &str, unicode: bool) -> Result<(), All
     let mut seen = false;
     while let Some((c, behind)) = next(rest) {
         if let Some((escape, behind)) = item_at(rest, unicode) {
-            out.put_text(escape)?;
+            put_ascii(out, escape)?;
             rest = behind;
         } else if let Some((escape, behind)) = negated_item_at(rest, unicode, seen) {
-            out.put_text(escape)?;
+            put_ascii(out, escape)?;
             seen = true;
             rest = behind;
         } else {
@@ -124,10 +124,10 @@ pub(super) fn put_delegate<S: Sink>(
     flags: Flags,
 ) -> Result<(), AllocError> {
     if flags.casei && !casei && inner == HEX_CLASS {
-        return out.put_text(r"\h");
+        return put_ascii(out, r"\h");
     }
     if flags.casei && !casei && inner == NEGATED_HEX_CLASS {
-        return out.put_text(r"\H");
+        return put_ascii(out, r"\H");
     }
     put_source(out, inner, flags.unicode)
 }

@@ -11,7 +11,7 @@ use crate::pattern::quantifier::{
     Counts, is_quantified, may_be_possessive, put_quantifier, room_left,
 };
 use crate::pattern::reference::{put_group_head, put_target};
-use crate::pattern::sink::Sink;
+use crate::pattern::sink::{Sink, put_ascii};
 use fancy_grammar::needs::Needs;
 use std::alloc::AllocError;
 
@@ -57,7 +57,7 @@ fn put_empty<'a, S: Sink>(
 ) -> Result<Here<'a>, AllocError> {
     match position {
         Position::Whole | Position::Branch => {}
-        Position::Piece | Position::Operand(_) => out.put_text("()")?,
+        Position::Piece | Position::Operand(_) => put_ascii(out, "()")?,
     }
     Ok(here)
 }
@@ -325,7 +325,7 @@ fn put_condition<'a, S: Sink>(
             Ok(here.past_node())
         }
         Expr::BacktrackingControlVerb(verb) => {
-            out.put_text(verb_name(*verb))?;
+            put_ascii(out, verb_name(*verb))?;
             Ok(here.past_node())
         }
         _ => {
@@ -348,7 +348,7 @@ fn put_choice<'a, S: Sink>(
 ) -> Result<Here<'a>, AllocError> {
     let is_one = matches!(false_branch, Expr::Empty);
     if is_one && matches!(true_branch, Expr::Empty) {
-        out.put_text("()")?;
+        put_ascii(out, "()")?;
         return Ok(here.past_node().past_node());
     }
     let behind = put_tree(out, known, true_branch, Position::Branch, here)?;
@@ -372,7 +372,7 @@ fn put_absent<'a, S: Sink>(
         Absent::Expression { absent, exp } => put_expression(out, known, absent, exp, here),
         Absent::Stopper(child) => put_stopper(out, known, child, here),
         Absent::Clear => {
-            out.put_text("(?~|)")?;
+            put_ascii(out, "(?~|)")?;
             Ok(here)
         }
     }
@@ -421,7 +421,7 @@ fn put_stopper<'a, S: Sink>(
     let place = out.len();
     let end = put_tree(out, known, child, Position::Branch, inside)?;
     if out.len() == place {
-        out.put_text("()")?;
+        put_ascii(out, "()")?;
     }
     close(out, here, end)
 }
