@@ -1,6 +1,6 @@
 -- The text of every tree, for the flags that its pattern was read under: read under them again it is the same tree, and
 -- has the same marks.
-use Rattle.std.specs.Prelude.{ℕ, ◌+◌, ◌-◌, ◌==◌, nat_lt, nat_le, Bool, true, false, not, ◌&&◌, ◌||◌, [], ◌∷◌, ◌++◌}
+use Rattle.std.specs.Prelude.{ℕ, zero, suc, ◌+◌, ◌-◌, nat_lt, Bool, true, false, not, ◌&&◌, ◌||◌, [], ◌∷◌, ◌++◌}
 use Rattle.std.specs.Prelude.{nat_eq, codes, if◌then◌else◌}
 use Rattle.std.specs.List.{flat_map, starts_with}
 use Rattle.std.specs.Str.{bytes_eq}
@@ -12,8 +12,9 @@ use Rattle.fancy_parts.specs.HeadReference.{begins_target}
 use Rattle.fancy_grammar.specs.Join.{is_empty}
 use Rattle.fancy_grammar.specs.Label.{Leaf, empty, any, assertion, general_newline, literal, literal_bytes}
 use Rattle.fancy_grammar.specs.Label.{delegate, backref, backref_at_level, keep_out, continue_from_previous_match_end}
-use Rattle.fancy_grammar.specs.Label.{backref_exists, subroutine_call, verb, clear, ast_node, group, look_around, repeat}
-use Rattle.fancy_grammar.specs.Label.{atomic_group, define_group, repeater, stopper, expression, conditional, concat, alt}
+use Rattle.fancy_grammar.specs.Label.{backref_exists, subroutine_call, verb, clear, ast_node, group, ast_group}
+use Rattle.fancy_grammar.specs.Label.{look_around, repeat, atomic_group, define_group, repeater, stopper, expression}
+use Rattle.fancy_grammar.specs.Label.{conditional, concat, alt}
 use Rattle.fancy_grammar.specs.Marks.{Marks}
 use Rattle.fancy_grammar.specs.PatternLetters.{character, any_text, assertion_text}
 use Rattle.fancy_grammar.specs.PatternNeeds.{settled, agreed, letters_between, setting}
@@ -28,6 +29,8 @@ use Rattle.fancy_grammar.specs.declared.kinds.LookAround.TheVariants.{LookAhead,
 use Rattle.fancy_grammar.specs.declared.kinds.LookAround.TheVariants.{LookBehindNeg}
 use Rattle.fancy_grammar.specs.declared.kinds.BacktrackingControlVerb.{BacktrackingControlVerb}
 use Rattle.fancy_grammar.specs.declared.kinds.BacktrackingControlVerb.TheVariants.{Fail, Accept, Commit, Skip, Prune}
+use Rattle.fancy_grammar.specs.declared.position.Position.{Position}
+use Rattle.fancy_grammar.specs.declared.position.Position.TheVariants.{Whole, Branch, Piece, Operand}
 
 -- ---- where a text stands
 
@@ -45,31 +48,52 @@ past_groups n h = record h { opened = h.opened + n }
 abbrev pub deeper : Here → Here
 deeper h = record h { depth = h.depth + 1 }
 
--- A tree's position is 0 in a group and of the whole, 1 of a branch, 2 of a piece among others, and 3 where a quantifier
--- follows, and then as many more as further quantifiers may stand between.
-abbrev pub operand : ℕ
-operand = 3
+-- pieces may stand there one behind another
+abbrev pub takes_pieces : Position → Bool
+takes_pieces Whole = true
+takes_pieces Branch = true
+takes_pieces _ = false
+
+-- branches may stand there side by side
+abbrev pub takes_branches : Position → Bool
+takes_branches Whole = true
+takes_branches _ = false
+
+-- a quantifier follows
+abbrev pub is_operand : Position → Bool
+is_operand (Operand k) = true
+is_operand _ = false
+
+-- a quantifier follows, and no other may stand before it
+abbrev pub is_last_operand : Position → Bool
+is_last_operand (Operand zero) = true
+is_last_operand _ = false
 
 -- ---- groups
 
--- in parentheses, behind a head
+-- in the parentheses of a group, behind its head
 abbrev pub in_parens : Text → (Here → Text) → Here → Text
 in_parens head text h = codes "(" ++ (head ++ (text (deeper h) ++ codes ")"))
+
+-- the whole of a group with this head where that is asked, and else at its position
+abbrev pub in_parens_if : Bool → Text → (Position → Here → Text) → Position → Here → Text
+in_parens_if true head text p h = in_parens head (text Whole) h
+in_parens_if false head text p h = text p h
 
 -- behind the flags that are set before the tree
 abbrev pub after_setting : Tree → (Here → Text) → Here → Text
 after_setting t text h = setting h.flags (settled h.flags t) ++ text (under (settled h.flags t) h)
 
--- in a group of flags that sets them for itself, where that is asked
-abbrev pub in_scope : Bool → Tree → (Here → Text) → Here → Text
-in_scope true t text h =
+-- in a group of flags that sets them for itself, unless the tree may stand there as it is
+abbrev pub in_scope_unless : Bool → Tree → (Here → Text) → Here → Text
+in_scope_unless true t text h = text h
+in_scope_unless false t text h =
     in_parens (codes "?" ++ (letters_between h.flags (settled h.flags t) ++ codes ":")) text
     (under (settled h.flags t) h)
-in_scope false t text h = text h
 
--- where a quantifier follows the tree and may not, in a group without a number: in such a group the tree was read
-abbrev pub as_atom : Tree → ℕ → (Here → Text) → Here → Text
-as_atom t p text h = if nat_le operand p && not (is_repeatable h.flags t) then in_parens [] text h else text h
+-- a tree that no quantifier may follow, in a group where one does: it was read in one that has no number
+abbrev pub as_atom : Tree → Position → (Here → Text) → Here → Text
+as_atom t p text h = if is_operand p && not (is_repeatable h.flags t) then in_parens [] text h else text h
 
 -- behind an empty comment, where it would be read together with what stands before it
 abbrev pub parted_if : Bool → Text → Text
@@ -112,14 +136,15 @@ is_in_digits m _ = false
 
 -- ---- quantifiers
 
--- how many may still stand before the quantifier of a tree at this position
-abbrev pub room : ℕ → Here → ℕ
-room p h = if nat_lt operand p then p - operand - 1 else most_quantifiers h.flags h.depth - 1
+-- how many may stand before that of a tree at this position
+abbrev pub room : Position → Here → ℕ
+room (Operand (suc k)) h = k
+room _ h = most_quantifiers h.flags h.depth - 1
 
 -- a tree, whose text at each position this is, under its quantifier
-abbrev pub repeated : Bool → Tree → ℕ → ℕ → Bool → (ℕ → Here → Text) → ℕ → Here → Text
+abbrev pub repeated : Bool → Tree → ℕ → ℕ → Bool → (Position → Here → Text) → Position → Here → Text
 repeated possessive t lo hi greedy text p h =
-    text (operand + room p h) h
+    text (Operand (room p h)) h
     ++ quantifier_text h.flags possessive (nat_lt 0 (room p h) && is_quantified h.flags t) lo hi greedy
 
 -- ---- groups of more than one part
@@ -161,6 +186,7 @@ abbrev mutual
   -- how many groups with a number
   pub group_count : Tree → ℕ
   group_count (leaf l) = 0
+  group_count (over (ast_group name place) t) = 0
   group_count (over group t) = group_count t + 1
   group_count (over w t) = group_count t
   group_count (row r ts) = group_count_all ts
@@ -171,72 +197,72 @@ abbrev mutual
 
 abbrev mutual
   -- the flags that hold behind the text of a tree at a position: behind a group those from before it
-  pub flags_behind : Tree → ℕ → Flags → Flags
-  flags_behind (row concat ts) p f = if nat_lt 1 p then f else flags_behind_all ts 2 f
-  flags_behind (row alt ts) p f = if nat_lt 0 p then f else flags_behind_all ts 1 f
+  pub flags_behind : Tree → Position → Flags → Flags
+  flags_behind (row concat ts) p f = if takes_pieces p then flags_behind_all ts Piece f else f
+  flags_behind (row alt ts) p f = if takes_branches p then flags_behind_all ts Branch f else f
   flags_behind t p f = settled f t
 
-  pub flags_behind_all : Trees → ℕ → Flags → Flags
+  pub flags_behind_all : Trees → Position → Flags → Flags
   flags_behind_all no_trees p f = f
   flags_behind_all (more_trees t ts) p f = flags_behind_all ts p (flags_behind t p f)
 
-abbrev pub behind : Tree → ℕ → Here → Here
+abbrev pub behind : Tree → Position → Here → Here
 behind t p h = past_groups (group_count t) (under (flags_behind t p h.flags) h)
 
 -- ---- the tree
 
 module _ (m : Marks) where
   abbrev mutual
-    pub written : Tree → ℕ → Here → Text
-    written (leaf empty) p h = if nat_lt 1 p then codes "()" else []
+    pub written : Tree → Position → Here → Text
+    written (leaf empty) p h = if takes_pieces p then [] else codes "()"
     written (leaf l) p h = after_setting (leaf l) (as_atom (leaf l) p (leaf_text m l)) h
-    written (row concat ts) p h = in_scope (nat_lt 1 p) (row concat ts) (written_all false ts) h
-    written (row alt ts) p h = in_scope (nat_lt 0 p) (row alt ts) (written_branches ts) h
+    written (row concat ts) p h = in_scope_unless (takes_pieces p) (row concat ts) (written_all false ts) h
+    written (row alt ts) p h = in_scope_unless (takes_branches p) (row alt ts) (written_branches ts) h
     written (over group t) p h =
         after_setting (over group t)
-        (λ i. in_parens (group_head m (i.opened + 1)) (written t 0) (past_groups 1 i)) h
+        (λ i. in_parens (group_head m (i.opened + 1)) (written t Whole) (past_groups 1 i)) h
     written (over (look_around l) t) p h =
         after_setting (over (look_around l) t)
-        (as_atom (over (look_around l) t) p (in_parens (look_head l) (written t 0))) h
+        (as_atom (over (look_around l) t) p (in_parens (look_head l) (written t Whole))) h
     written (over (repeat lo hi greedy) t) p h =
         after_setting t
-        (λ i. if p == operand then in_parens (codes "?:") (repeated false t lo hi greedy (written t) 0) i
-        else repeated false t lo hi greedy (written t) p i) h
+        (in_parens_if (is_last_operand p) (codes "?:") (repeated false t lo hi greedy (written t)) p) h
     written (over atomic_group (over (repeat lo hi greedy) t)) p h =
         after_setting t
-        (λ i. if is_possessive i.flags lo hi && not (p == operand) then repeated true t lo hi greedy (written t) p i
-        else in_parens (codes "?>") (repeated false t lo hi greedy (written t) 0) i) h
-    written (over atomic_group t) p h = after_setting t (in_parens (codes "?>") (written t 0)) h
-    written (over define_group t) p h = after_setting t (in_parens (codes "?(DEFINE)") (written t 0)) h
-    written (over repeater t) p h = after_setting t (in_parens (codes "?~") (λ i. repeater_text (written t 0 i))) h
-    written (over stopper t) p h = after_setting t (in_parens (codes "?~|") (λ i. stopper_text (written t 1 i))) h
+        (λ i. if is_last_operand p || not (is_possessive i.flags lo hi) then
+        in_parens (codes "?>") (repeated false t lo hi greedy (written t) Whole) i
+        else repeated true t lo hi greedy (written t) p i) h
+    written (over atomic_group t) p h = after_setting t (in_parens (codes "?>") (written t Whole)) h
+    written (over define_group t) p h = after_setting t (in_parens (codes "?(DEFINE)") (written t Whole)) h
+    written (over repeater t) p h = after_setting t (in_parens (codes "?~") (λ i. repeater_text (written t Whole i))) h
+    written (over stopper t) p h = after_setting t (in_parens (codes "?~|") (λ i. stopper_text (written t Branch i))) h
     written (row expression (more_trees a (more_trees e no_trees))) p h =
         after_setting (row expression (more_trees a (more_trees e no_trees)))
-        (in_parens (codes "?~|") (λ i. written a 1 i ++ (codes "|" ++ written e 1 (behind a 1 i)))) h
+        (in_parens (codes "?~|") (λ i. written a Branch i ++ (codes "|" ++ written e Branch (behind a Branch i)))) h
     written (row conditional (more_trees c (more_trees t (more_trees e no_trees)))) p h =
         after_setting (row conditional (more_trees c (more_trees t (more_trees e no_trees))))
-        (in_parens (codes "?") (λ i. parenthesized (condition_text m c (written c 0 i))
-        ++ branches_text t e (written t 1 (behind c 0 i)) (written e 0 (behind t 1 (behind c 0 i))))) h
+        (in_parens (codes "?") (λ i. let j = behind c Whole i in parenthesized (condition_text m c (written c Whole i))
+        ++ branches_text t e (written t Branch j) (written e Whole (behind t Branch j)))) h
     written _ p h = []
 
     -- one behind the other; the flag says that a reference in digits stands before them
     pub written_all : Bool → Trees → Here → Text
     written_all after_digits no_trees h = []
     written_all after_digits (more_trees t ts) h =
-        parted_if (after_digits && at_digit (written t 2 h)) (written t 2 h)
-        ++ written_all (is_in_digits m t) ts (behind t 2 h)
+        parted_if (after_digits && at_digit (written t Piece h)) (written t Piece h)
+        ++ written_all (is_in_digits m t) ts (behind t Piece h)
 
     -- with bars between
     pub written_branches : Trees → Here → Text
     written_branches no_trees h = []
-    written_branches (more_trees t ts) h = written t 1 h ++ written_barred ts (behind t 1 h)
+    written_branches (more_trees t ts) h = written t Branch h ++ written_barred ts (behind t Branch h)
 
     -- with a bar before each
     pub written_barred : Trees → Here → Text
     written_barred no_trees h = []
-    written_barred (more_trees t ts) h = codes "|" ++ (written t 1 h ++ written_barred ts (behind t 1 h))
+    written_barred (more_trees t ts) h = codes "|" ++ (written t Branch h ++ written_barred ts (behind t Branch h))
 
 -- the text of a whole tree that was answered under the flags f with the marks m
 unfoldable pub pattern_text : Flags → Tree → Marks → Text
 pattern_text f t m =
-    setting f (agreed f t) ++ written m t 0 (record { flags = agreed f t; opened = 0; depth = 0 })
+    setting f (agreed f t) ++ written m t Whole (record { flags = agreed f t; opened = 0; depth = 0 })

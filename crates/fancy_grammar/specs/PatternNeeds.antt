@@ -13,7 +13,7 @@ use Rattle.fancy_lex.specs.declared.escape.Assertion.{Assertion}
 use Rattle.fancy_lex.specs.declared.escape.Assertion.TheVariants.{EndTextIgnoreTrailingNewlines, StartLine}
 use Rattle.fancy_lex.specs.declared.escape.Assertion.TheVariants.{StartLineOniguruma, EndLine}
 use Rattle.fancy_lex.specs.declared.flags.Flags.{Flags}
-use Rattle.fancy_grammar.specs.Label.{Leaf, any, assertion, literal, delegate, backref, backref_at_level}
+use Rattle.fancy_grammar.specs.Label.{Leaf, any, assertion, literal, delegate, backref, backref_at_level, ast_group}
 use Rattle.fancy_grammar.specs.Tree.{Tree, leaf, over, row, Trees, no_trees, more_trees}
 use Rattle.fancy_grammar.specs.declared.needs.Need.{Need}
 use Rattle.fancy_grammar.specs.declared.needs.Need.TheVariants.{Free, Fixed, Torn}
@@ -31,7 +31,7 @@ needs_case casei = record no_needs { casei = Fixed casei }
 abbrev pub needs_line : Bool → Needs
 needs_line crlf = record no_needs { multi = Fixed true; crlf = Fixed crlf }
 
--- of `.` as one of two unlike fields
+-- of a dot
 abbrev pub needs_dot : Bool → Bool → Needs
 needs_dot newline crlf = record no_needs { dotnl = Fixed newline; crlf = Fixed crlf }
 
@@ -62,7 +62,7 @@ leaf_needs o (any newline crlf) = if beq newline crlf then no_needs else needs_d
 leaf_needs o (assertion a) = assertion_needs a
 leaf_needs o _ = no_needs
 
--- ---- what a tree needs: what its leaves do, joined in text order
+-- ---- what a tree needs: what its leaves do, joined in text order; what a capturing group holds is none of them
 
 -- what the one needs, or where that needs nothing the other behind it
 abbrev pub first : Need → Need → Need
@@ -87,6 +87,7 @@ joined join n m = record {
 abbrev mutual
   pub needs : (Need → Need → Need) → Bool → Tree → Needs
   needs join o (leaf l) = leaf_needs o l
+  needs join o (over (ast_group name place) t) = no_needs
   needs join o (over w t) = needs join o t
   needs join o (row r ts) = needs_all join o ts
 
@@ -129,18 +130,16 @@ letters_on f g =
     letter_on (code "i") f.casei g.casei ++ (letter_on (code "m") f.multi g.multi
     ++ (letter_on (code "s") f.dotnl g.dotnl ++ letter_on (code "R") f.crlf g.crlf))
 
-abbrev pub behind_minus : Text → Text
-behind_minus [] = []
-behind_minus (c ∷ t) = code "-" ∷ c ∷ t
+-- some flag is on in g, and not in f
+abbrev pub turns_on : Flags → Flags → Bool
+turns_on f g =
+    (g.casei && not f.casei) || ((g.multi && not f.multi) || ((g.dotnl && not f.dotnl) || (g.crlf && not f.crlf)))
 
 -- the letters that make the flags f the flags g
 abbrev pub letters_between : Flags → Flags → Text
-letters_between f g = letters_on f g ++ behind_minus (letters_on g f)
+letters_between f g = letters_on f g ++ ((if turns_on g f then codes "-" else []) ++ letters_on g f)
 
-abbrev pub setting_of : Text → Text
-setting_of [] = []
-setting_of (c ∷ t) = codes "(?" ++ ((c ∷ t) ++ codes ")")
-
--- a group that makes the flags f the flags g from there on; nothing where they are the same
+-- a group that makes the flags f the flags g from there on, where they are not the same
 abbrev pub setting : Flags → Flags → Text
-setting f g = setting_of (letters_between f g)
+setting f g =
+    if turns_on f g || turns_on g f then codes "(?" ++ (letters_between f g ++ codes ")") else []

@@ -1,6 +1,7 @@
 -- The text of a quantifier, and how many may stand one behind another.
 use Rattle.std.specs.Prelude.{ℕ, ◌+◌, ◌-◌, ◌==◌, min, nat_lt, Bool, true, false, not, ◌&&◌, ◌||◌, [], ◌++◌, codes}
 use Rattle.std.specs.Prelude.{decimal, Option, Some, None, is_none, if◌then◌else◌}
+use Rattle.std.proofs.Math.Bool.{beq}
 use Prim.Native.Char.{code}
 use Rattle.fancy_lex.specs.Text.{Text}
 use Rattle.fancy_lex.specs.declared.flags.Flags.{Flags}
@@ -26,8 +27,9 @@ abbrev pub mark_left : Bool → Option ℕ → Option ℕ
 mark_left adjacent None = None
 mark_left adjacent (Some c) = if adjacent && not (c == code "*") then None else Some c
 
+-- where the quantifier is not greedy, or under SWAP_GREED where it is
 abbrev pub lazy_mark : Flags → Bool → Text
-lazy_mark f greedy = if (if f.swap_greed then greedy else not greedy) then codes "?" else []
+lazy_mark f greedy = if beq greedy f.swap_greed then codes "?" else []
 
 abbrev pub possessive_mark : Bool → Text
 possessive_mark possessive = if possessive then codes "+" else []

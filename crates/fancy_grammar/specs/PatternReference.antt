@@ -11,6 +11,7 @@ use Rattle.fancy_lex.specs.NumberText.{number_text}
 use Rattle.fancy_lex.specs.Reading.{choose}
 use Rattle.fancy_lex.specs.Target.{by_number, by_name, relative}
 use Rattle.fancy_lex.specs.Text.{Text}
+use Rattle.fancy_parts.specs.Meaning.{last_of}
 use Rattle.fancy_grammar.specs.Label.{AstReference, ast_call}
 use Rattle.fancy_grammar.specs.Marks.{Marks}
 
@@ -30,9 +31,7 @@ is_plain_name w = is_some (id_reference false w) && is_none (number_text w)
 
 -- the group is the last of its name
 abbrev pub is_last : ℕ → List ℕ → Bool
-is_last n [] = false
-is_last n (k ∷ []) = k == n
-is_last n (k ∷ j ∷ l) = is_last n (j ∷ l)
+is_last n l = choose (last_of l) (λ k. k == n) false
 
 -- the group is the only one of its name
 abbrev pub is_only : ℕ → List ℕ → Bool

@@ -1,19 +1,18 @@
 -- The source of a Delegate: a text that the reader writes as the Delegate's. Read as it stands that text may change:
 -- `\p{Zs}` is lowered, `\x09` becomes a TAB, and `\P{^x}` becomes `\p{x}`.
-use Rattle.std.specs.Prelude.{ℕ, zero, suc, ◌+◌, ◌-◌, ◌==◌, nat_eq, Bool, true, false, not, ◌&&◌, ◌||◌, List, [], ◌∷◌}
-use Rattle.std.specs.Prelude.{◌++◌, codes, find, length, if◌then◌else◌}
-use Rattle.std.specs.List.{starts_with}
+use Rattle.std.specs.Prelude.{ℕ, zero, suc, ◌-◌, ◌==◌, Bool, true, false, not, ◌&&◌, ◌||◌, List, [], ◌∷◌}
+use Rattle.std.specs.Prelude.{◌++◌, codes, length, Option, Some, None, if◌then◌else◌}
 use Rattle.std.specs.Str.{bytes_eq}
-use Rattle.fancy_lex.specs.Characters.{◌∈◌, backslash, open_brace, close_brace}
+use Rattle.fancy_lex.specs.Characters.{◌∈◌, backslash, caret, open_brace, close_brace}
 use Rattle.fancy_lex.specs.Class.{joint}
 use Rattle.fancy_lex.specs.Escaped.{hex_class, negated_hex_class}
 use Rattle.fancy_lex.specs.Property.{letter}
 use Rattle.fancy_lex.specs.Reading.{choose}
-use Rattle.fancy_lex.specs.Text.{Text, cut_at}
+use Rattle.fancy_lex.specs.Text.{Text, strip, strip_word, cut_at}
 use Rattle.fancy_lex.specs.declared.flags.Flags.{Flags}
 use Rattle.fancy_grammar.specs.PatternLetters.{by_letter_or, plain}
 
--- what the reader writes for an escape, whose items no other source gives
+-- what the reader writes for an escape that no other source is written as
 pub record Replaced : Type 0 where
   pub written : Text
   pub escape : Text
@@ -37,57 +36,65 @@ replaced true =
     ∷ []
 replaced false = items (codes "\\t ") (codes "\\p{blank}") ∷ []
 
--- a part of a source: its text, how many characters of the Delegate's it takes behind the first, and whether it is a
--- negated set
+-- a part of a source: its text, what is left of the Delegate's behind it, and whether it is a negated set
 pub record Part : Type 0 where
   pub source : Text
-  pub more : ℕ
+  pub rest : Text
   pub negated : Bool
 
--- what is replaced, with `&&` before it where that is due
+abbrev pub part : Text → Text → Part
+part source rest = record { source = source; rest = rest; negated = false }
+
+-- ---- what is replaced
+
+-- with `&&` before it where that is due; `seen` says whether a negated set was among the source before
 abbrev pub written_after : Bool → Replaced → Text
 written_after seen r = joint (seen && r.negated) ++ r.written
 
-abbrev pub replaced_part : Bool → Replaced → Part
-replaced_part seen r =
-    record { source = r.escape; more = length (written_after seen r) - 1; negated = r.negated }
+-- the first of these that stands at the front
+abbrev pub replaced_part : Bool → List Replaced → Text → Option Part
+replaced_part seen [] t = None
+replaced_part seen (r ∷ l) t =
+    choose (strip_word (written_after seen r) t)
+    (λ u. Some (record { source = r.escape; rest = u; negated = r.negated }))
+    (replaced_part seen l t)
 
-abbrev pub part : Text → ℕ → Part
-part source more = record { source = source; more = more; negated = false }
+-- ---- what is not
 
 -- a property by its name: the reader takes one caret off and turns the letter, which one more of each makes good
 abbrev pub named_property : Bool → Text → Text
 named_property upper name =
-    (if starts_with nat_eq name (codes "^") then letter (not upper) ++ codes "{^" else letter upper ++ codes "{")
-    ++ (name ++ codes "}")
+    choose (strip caret name) (λ t. letter (not upper) ++ (codes "{^^" ++ t)) (letter upper ++ (codes "{" ++ name))
+    ++ codes "}"
 
 -- the property whose name or opening brace stands behind its letter; no reader leaves the brace open
 abbrev pub property_part : Bool → Text → Part
-property_part upper [] = part (letter upper) 1
+property_part upper [] = part (letter upper) []
 property_part upper (c ∷ t) =
-    if not (c == open_brace) then part (letter upper ++ (c ∷ [])) 2
-    else choose (cut_at close_brace t) (λ q. part (named_property upper q.0) (length q.0 + 3)) (part (letter upper) 1)
+    if not (c == open_brace) then part (letter upper ++ (c ∷ [])) t
+    else choose (cut_at close_brace t) (λ q. part (named_property upper q.0) q.1) (part (letter upper) (c ∷ t))
 
--- the escape or the character that stands before the text
+-- the character, or the escape that it begins
 abbrev pub single_part : ℕ → Text → Part
-single_part c [] = part (by_letter_or c (plain c)) 0
+single_part c [] = part (by_letter_or c (plain c)) []
 single_part c (d ∷ t) =
-    if not (c == backslash) then part (by_letter_or c (plain c)) 0
+    if not (c == backslash) then part (by_letter_or c (plain c)) (d ∷ t)
     else if d ∈ "pP" then property_part (d ∈ "P") t
-    else part (c ∷ d ∷ []) 1
+    else part (c ∷ d ∷ []) t
 
--- what the character begins that stands before the text; `seen` says whether a negated set was among the source before
+-- ---- part by part
+
+-- what begins with the character that stands before t
 abbrev pub part_at : Bool → Bool → ℕ → Text → Part
-part_at unicode seen c t =
-    choose (find (λ r. starts_with nat_eq (c ∷ t) (written_after seen r)) (replaced unicode)) (replaced_part seen)
-    (single_part c t)
+part_at unicode seen c t = choose (replaced_part seen (replaced unicode) (c ∷ t)) (λ p. p) (single_part c t)
 
--- part by part; the number is how many characters at the front were taken already
+-- the number is how many characters at the front were taken already
 unfoldable pub source_from : Bool → Bool → ℕ → Text → Text
 source_from unicode seen k [] = []
 source_from unicode seen (suc k) (c ∷ t) = source_from unicode seen k t
 source_from unicode seen zero (c ∷ t) =
-    let p = part_at unicode seen c t in p.source ++ source_from unicode (seen || p.negated) p.more t
+    let p = part_at unicode seen c t in
+    p.source ++ source_from unicode (seen || p.negated) (length t - length p.rest) t
 
 abbrev pub source : Bool → Text → Text
 source unicode t = source_from unicode false 0 t

@@ -5,4 +5,5 @@
 
 pub mod kinds;
 pub mod needs;
+pub mod position;
 pub mod premises;
