@@ -42,3 +42,4 @@ pub mod Room
 pub mod Notes
 -- ---- the writing of texts
 pub mod Sink
+pub mod Wheres

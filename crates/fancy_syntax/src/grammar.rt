@@ -14,7 +14,7 @@ mod plain;
 pub(crate) mod quantified;
 mod reading;
 mod reference;
-mod state;
+pub(crate) mod state;
 mod step;
 mod trees;
 

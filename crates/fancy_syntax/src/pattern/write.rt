@@ -1,18 +1,32 @@
 //! The walk that writes a tree's text.
-use crate::expr::{Absent, Expr};
+ghost use Rattle.std.specs.Prelude.{◌≡◌, ◌++◌, [], ℕ, nat_lt, ◌&&◌, Bool, true, false, codes, List, IfOk, OnOk, if◌then◌else◌};
+ghost use Rattle.std.specs.List.{list_all};
+ghost use Rattle.fancy_grammar.specs.Label as label;
+ghost use Rattle.fancy_grammar.specs.Marks.{Marks};
+ghost use Rattle.fancy_grammar.specs.Pattern as spec;
+ghost use Rattle.fancy_grammar.specs.PatternNeeds.{setting, with_needs};
+ghost use Rattle.fancy_grammar.specs.Tree as tree;
+ghost use Rattle.fancy_grammar.specs.Tree.{trees_of, over, row, more_trees, no_trees, is_leaf};
+ghost use Rattle.fancy_grammar.specs.declared.needs.Needs.{Needs};
+ghost use Rattle.fancy_syntax.specs.Sink.{Added};
+ghost use Rattle.fancy_syntax.specs.View.{view, view_absent, views};
+ghost use Rattle.fancy_syntax.specs.Wheres.{IsHere, IsKnown, Reaches, needs_listed, all_listed};
+
+use crate::expr::{Absent, Expr, LookAround};
+use crate::grammar::quantified::is_repeatable;
 use crate::pattern::flags::{open_scope, put_setting};
 use crate::pattern::group::{close, look_head, open};
-use crate::pattern::here::{Here, Position};
-use crate::grammar::quantified::is_repeatable;
+use crate::pattern::here::Here;
 use crate::pattern::leaf::{put_leaf, verb_name};
 use crate::pattern::names::Known;
 use crate::pattern::parting::Parting;
 use crate::pattern::quantifier::{
-    Counts, is_quantified, may_be_possessive, put_quantifier, room_left,
+    Quantifier, is_possessive, is_quantified, most_quantifiers, put_quantifier,
 };
 use crate::pattern::reference::{put_group_head, put_target};
 use crate::pattern::sink::{Sink, put_ascii};
 use fancy_grammar::needs::Needs;
+use fancy_grammar::position::Position;
 use std::alloc::AllocError;
 
 /// Writes the whole text, before which the flags are set that all leaves need.
@@ -22,7 +36,12 @@ pub(super) fn put_pattern<S: Sink>(
     tree: &Expr,
     agreed: Needs,
     here: Here,
-) -> Result<(), AllocError> {
+) -> Result<(), AllocError>
+    ensures { (m : Marks) (h : spec.Here) → IsKnown known.now m →
+        IsHere here.entry h (needs_listed h.flags.oniguruma_mode (view tree.now)) →
+        OnOk result (Added S.holds out.old out.new (setting h.flags (with_needs h.flags agreed)
+        ++ spec.written m (view tree.now) Position.Whole (spec.under (with_needs h.flags agreed) h))) }
+{
     let here = put_setting(out, agreed, here)?;
     put_tree(out, known, tree, Position::Whole, here)?;
     Ok(())
@@ -36,7 +55,12 @@ fn put_tree<'a, S: Sink>(
     tree: &Expr,
     position: Position,
     here: Here<'a>,
-) -> Result<Here<'a>, AllocError> {
+) -> Result<Here<'a>, AllocError>
+    ensures { (m : Marks) (h : spec.Here) (l : List Needs) → IsKnown known.now m →
+        IsHere here.entry h (needs_listed h.flags.oniguruma_mode (view tree.now) ++ l) →
+        IfOk result (λ i. Reaches S.holds out.old out.new i (spec.written m (view tree.now) position h)
+        (spec.behind (view tree.now) position h) l) }
+{
     let (needs, here) = here.next_node();
     match tree {
         Expr::Empty => put_empty(out, position, here),
@@ -49,20 +73,57 @@ fn put_tree<'a, S: Sink>(
     }
 }
 
-/// Writes an Empty: as a group, where a piece has to stand.
+/// Writes an Empty: as a group, where pieces may not stand.
 fn put_empty<'a, S: Sink>(
     out: &mut S,
     position: Position,
     here: Here<'a>,
 ) -> Result<Here<'a>, AllocError> {
-    match position {
-        Position::Whole | Position::Branch => {}
-        Position::Piece | Position::Operand(_) => put_ascii(out, "()")?,
+    if !takes_pieces(position) {
+        put_ascii(out, "()")?;
     }
     Ok(here)
 }
 
-/// Writes a Concat, in a group of its own where a branch may not stand.
+/// Whether pieces may stand there one behind another.
+fn takes_pieces(position: Position) -> bool
+    ensures { result ≡ spec.takes_pieces position }
+{
+    matches!(position, Position::Whole | Position::Branch)
+}
+
+/// Whether branches may stand there side by side.
+fn takes_branches(position: Position) -> bool
+    ensures { result ≡ spec.takes_branches position }
+{
+    matches!(position, Position::Whole)
+}
+
+/// Whether a quantifier follows.
+fn is_operand(position: Position) -> bool
+    ensures { result ≡ spec.is_operand position }
+{
+    matches!(position, Position::Operand(_))
+}
+
+/// Whether a quantifier follows, and no other may stand before it.
+fn is_last_operand(position: Position) -> bool
+    ensures { result ≡ spec.is_last_operand position }
+{
+    matches!(position, Position::Operand(0))
+}
+
+/// How many quantifiers may stand before that of a tree at this position.
+fn room(position: Position, here: Here) -> usize
+    ensures { (h : spec.Here) (l : List Needs) → IsHere here.entry h l → result ≡ spec.room position h }
+{
+    match position {
+        Position::Operand(room) if room > 0 => room - 1,
+        _ => most_quantifiers(here.flags, here.left).saturating_sub(1),
+    }
+}
+
+/// Writes a Concat, in a group of its own where pieces may not stand.
 #[cycle(write)]
 fn put_concat<'a, S: Sink>(
     out: &mut S,
@@ -72,7 +133,7 @@ fn put_concat<'a, S: Sink>(
     needs: Needs,
     here: Here<'a>,
 ) -> Result<Here<'a>, AllocError> {
-    if let Position::Whole | Position::Branch = position {
+    if takes_pieces(position) {
         return put_pieces(out, known, pieces, here);
     }
     let inside = open_scope(out, needs, here)?;
@@ -80,28 +141,34 @@ fn put_concat<'a, S: Sink>(
     close(out, here, end)
 }
 
-/// Writes trees one behind the other. What begins with a digit is parted from a number before it.
+/// Writes trees one behind the other. What begins with a digit is parted from a reference in digits before it.
 #[cycle(write)]
 fn put_pieces<'a, S: Sink>(
     out: &mut S,
     known: &Known,
     pieces: &[Expr],
     here: Here<'a>,
-) -> Result<Here<'a>, AllocError> {
+) -> Result<Here<'a>, AllocError>
+    ensures { (m : Marks) (h : spec.Here) (l : List Needs) → IsKnown known.now m →
+        let ts = trees_of (views pieces.now) in
+        IsHere here.entry h (all_listed h.flags.oniguruma_mode ts ++ l) →
+        IfOk result (λ i. Reaches S.holds out.old out.new i (spec.written_all m false ts h)
+        (spec.past_groups (spec.group_count_all ts) (spec.under (spec.flags_behind_all ts Position.Piece h.flags) h)) l) }
+{
     let mut here = here;
-    let mut behind_number = false;
+    let mut behind_digits = false;
     for piece in pieces {
         let place = out.len();
         here = put_tree(out, known, piece, Position::Piece, here)?;
-        if behind_number {
+        if behind_digits {
             out.part(place, Parting::Number)?;
         }
-        behind_number = known.is_numeric && matches!(piece, Expr::Backref { .. });
+        behind_digits = known.is_numeric && matches!(piece, Expr::Backref { .. });
     }
     Ok(here)
 }
 
-/// Writes an Alt, in a group of its own where it is not alone.
+/// Writes an Alt, in a group of its own where branches may not stand.
 #[cycle(write)]
 fn put_alt<'a, S: Sink>(
     out: &mut S,
@@ -111,7 +178,7 @@ fn put_alt<'a, S: Sink>(
     needs: Needs,
     here: Here<'a>,
 ) -> Result<Here<'a>, AllocError> {
-    if let Position::Whole = position {
+    if takes_branches(position) {
         return put_branches(out, known, branches, here);
     }
     let inside = open_scope(out, needs, here)?;
@@ -126,7 +193,13 @@ fn put_branches<'a, S: Sink>(
     known: &Known,
     branches: &[Expr],
     here: Here<'a>,
-) -> Result<Here<'a>, AllocError> {
+) -> Result<Here<'a>, AllocError>
+    ensures { (m : Marks) (h : spec.Here) (l : List Needs) → IsKnown known.now m →
+        let ts = trees_of (views branches.now) in
+        IsHere here.entry h (all_listed h.flags.oniguruma_mode ts ++ l) →
+        IfOk result (λ i. Reaches S.holds out.old out.new i (spec.written_branches m ts h)
+        (spec.past_groups (spec.group_count_all ts) (spec.under (spec.flags_behind_all ts Position.Branch h.flags) h)) l) }
+{
     let mut here = here;
     for (i, branch) in branches.iter().enumerate() {
         if i > 0 {
@@ -148,23 +221,20 @@ fn put_settled<'a, S: Sink>(
 ) -> Result<Here<'a>, AllocError> {
     match tree {
         Expr::Group(child) => put_group(out, known, child, here),
-        Expr::LookAround(child, look) => {
-            let head = look_head(*look);
-            if let Position::Operand(_) = position {
-                let inside = open(out, "", here)?;
-                let end = put_in_group(out, known, head, child, inside)?;
-                return close(out, here, end);
-            }
-            put_in_group(out, known, head, child, here)
-        }
+        Expr::LookAround(child, look) => put_look_around(out, known, child, *look, position, here),
         Expr::Repeat {
             child,
             lo,
             hi,
             greedy,
         } => {
-            let counts = Counts::new(*lo, *hi, *greedy);
-            put_repeat(out, known, child, counts, position, here)
+            let quantifier = Quantifier {
+                lo: *lo,
+                hi: *hi,
+                greedy: *greedy,
+                possessive: false,
+            };
+            put_repeat(out, known, child, quantifier, position, here)
         }
         Expr::AtomicGroup(child) => put_atomic(out, known, child, position, here),
         Expr::DefineGroup { definitions } =>
@@ -187,9 +257,7 @@ fn put_leaf_at<'a, S: Sink>(
     position: Position,
     here: Here<'a>,
 ) -> Result<Here<'a>, AllocError> {
-    if let Position::Operand(_) = position
-        && !is_repeatable(here.flags, leaf)
-    {
+    if is_operand(position) && !is_repeatable(here.flags, leaf) {
         let inside = open(out, "", here)?;
         put_leaf(out, known, leaf, inside)?;
         return close(out, here, inside);
@@ -206,10 +274,35 @@ fn put_in_group<'a, S: Sink>(
     head: &str,
     child: &Expr,
     here: Here<'a>,
-) -> Result<Here<'a>, AllocError> {
+) -> Result<Here<'a>, AllocError>
+    requires { list_all (λ b. nat_lt b 128) head.now ≡ true }
+    ensures { (m : Marks) (h : spec.Here) (l : List Needs) → IsKnown known.now m →
+        IsHere here.entry h (needs_listed h.flags.oniguruma_mode (view child.now) ++ l) →
+        IfOk result (λ i. Reaches S.holds out.old out.new i
+        (spec.in_parens head.now (spec.written m (view child.now) Position.Whole) h)
+        (spec.past_groups (spec.group_count (view child.now)) h) l) }
+{
     let inside = open(out, head, here)?;
     let end = put_tree(out, known, child, Position::Whole, inside)?;
     close(out, here, end)
+}
+
+/// Writes a look-around, in a group where a quantifier follows.
+#[cycle(write)]
+fn put_look_around<'a, S: Sink>(
+    out: &mut S,
+    known: &Known,
+    child: &Expr,
+    look: LookAround,
+    position: Position,
+    here: Here<'a>,
+) -> Result<Here<'a>, AllocError> {
+    if is_operand(position) {
+        let inside = open(out, "", here)?;
+        let end = put_in_group(out, known, look_head(look), child, inside)?;
+        return close(out, here, end);
+    }
+    put_in_group(out, known, look_head(look), child, here)
 }
 
 /// Writes a capturing group.
@@ -226,25 +319,23 @@ fn put_group<'a, S: Sink>(
     close(out, here, end)
 }
 
-/// Writes a Repeat, in a group where it stands right before a quantifier.
+/// Writes a Repeat, in a group where no quantifier may stand before the one that follows.
 #[cycle(write)]
 fn put_repeat<'a, S: Sink>(
     out: &mut S,
     known: &Known,
     child: &Expr,
-    counts: Counts,
+    quantifier: Quantifier,
     position: Position,
     here: Here<'a>,
 ) -> Result<Here<'a>, AllocError> {
-    if let Position::Operand(0) = position {
-        let inside = open(out, "?:", here)?;
-        let end = put_quantified(out, known, child, counts, Position::Whole, inside)?;
-        return close(out, here, end);
+    if is_last_operand(position) {
+        return put_quantified_in_group(out, known, "?:", child, quantifier, here);
     }
-    put_quantified(out, known, child, counts, position, here)
+    put_quantified(out, known, child, quantifier, position, here)
 }
 
-/// Writes an AtomicGroup: of a Repeat as a possessive quantifier, where one says so.
+/// Writes an AtomicGroup: of a Repeat by a possessive quantifier, where one is read so.
 #[cycle(write)]
 fn put_atomic<'a, S: Sink>(
     out: &mut S,
@@ -261,17 +352,35 @@ fn put_atomic<'a, S: Sink>(
     } = child else {
         return put_in_group(out, known, "?>", child, here);
     };
-    if let Position::Operand(0) = position {
-        return put_in_group(out, known, "?>", child, here);
-    }
-    if !may_be_possessive(*lo, *hi, here.flags) {
-        return put_in_group(out, known, "?>", child, here);
-    }
-    let counts = Counts {
-        possessive: true,
-        ..Counts::new(*lo, *hi, *greedy)
+    let here = here.past_node();
+    let in_group = is_last_operand(position) || !is_possessive(*lo, *hi, here.flags);
+    let quantifier = Quantifier {
+        lo: *lo,
+        hi: *hi,
+        greedy: *greedy,
+        possessive: !in_group,
     };
-    put_quantified(out, known, repeated, counts, position, here.past_node())
+    if in_group {
+        return put_quantified_in_group(out, known, "?>", repeated, quantifier, here);
+    }
+    put_quantified(out, known, repeated, quantifier, position, here)
+}
+
+/// Writes a tree and the quantifier behind it in a group with this head.
+#[cycle(write)]
+fn put_quantified_in_group<'a, S: Sink>(
+    out: &mut S,
+    known: &Known,
+    head: &str,
+    child: &Expr,
+    quantifier: Quantifier,
+    here: Here<'a>,
+) -> Result<Here<'a>, AllocError>
+    requires { list_all (λ b. nat_lt b 128) head.now ≡ true }
+{
+    let inside = open(out, head, here)?;
+    let end = put_quantified(out, known, child, quantifier, Position::Whole, inside)?;
+    close(out, here, end)
 }
 
 /// Writes a tree and the quantifier behind it.
@@ -280,14 +389,14 @@ fn put_quantified<'a, S: Sink>(
     out: &mut S,
     known: &Known,
     child: &Expr,
-    counts: Counts,
+    quantifier: Quantifier,
     position: Position,
     here: Here<'a>,
 ) -> Result<Here<'a>, AllocError> {
-    let room = room_left(here, position);
+    let room = room(position, here);
     let adjacent = room > 0 && is_quantified(child, here.flags);
     let end = put_tree(out, known, child, Position::Operand(room), here)?;
-    put_quantifier(out, counts, adjacent, here.flags)?;
+    put_quantifier(out, quantifier, adjacent, here.flags)?;
     Ok(here.behind(end))
 }
 
