@@ -18,3 +18,5 @@ pub mod PartLemmas
 -- ---- printing
 pub mod PrintLemmas
 mod EmptyLemmas
+-- ---- the texts of all trees
+pub mod SinkLemmas

@@ -18,7 +18,7 @@ impl PartialEq for AstNode {
         ensures value { result ≡ same (view_ast self.now 0) (view_ast other.now 0) }
         ensures decides { IsTrue result ↔ (view_ast self.now 0 ≡ view_ast other.now 0) }
     {
-        is_same_node(self, 0, other, 0)
+        is_same_node(self, 0, other, 0, true)
     }
 }
 
@@ -35,7 +35,7 @@ impl PartialEq for Absent {
         ensures value { result ≡ same (view_absent self.now) (view_absent other.now) }
         ensures decides { IsTrue result ↔ (view_absent self.now ≡ view_absent other.now) }
     {
-        is_same_absent(self, other)
+        is_same_absent(self, other, true)
     }
 }
 
@@ -52,7 +52,7 @@ impl PartialEq for Expr {
         ensures value { result ≡ same (view self.now) (view other.now) }
         ensures decides { IsTrue result ↔ (view self.now ≡ view other.now) }
     {
-        is_same(self, other)
+        is_same(self, other, true)
     }
 }
 
@@ -60,9 +60,27 @@ impl Eq for Expr {
     ghost laws = { on_equiv view same-equiv };
 }
 
+impl Expr {
+    /// Whether the trees are the same, but for the places in AstNodes.
+    pub fn is_same_but_for_places(&self, other: &Expr) -> bool {
+        is_same(self, other, false)
+    }
+}
+
+/// Whether the places are the same, where that is asked.
+fn is_same_place(place: usize, other: usize, placed: bool) -> bool {
+    !placed || place == other
+}
+
 /// Whether the nodes are the same.
 #[cycle(same)]
-fn is_same_node(node: &AstNode, place: usize, other: &AstNode, other_place: usize) -> bool
+fn is_same_node(
+    node: &AstNode,
+    place: usize,
+    other: &AstNode,
+    other_place: usize,
+    placed: bool,
+) -> bool
     ensures { result ≡ same (view_ast node.now place) (view_ast other.now other_place) }
 {
     match node {
@@ -71,8 +89,8 @@ fn is_same_node(node: &AstNode, place: usize, other: &AstNode, other_place: usiz
                 name: other_name,
                 inner: other_inner,
             } => is_same_name(name.as_deref(), other_name.as_deref())
-                && place == other_place
-                && is_same_child(inner, other_inner),
+                && is_same_place(place, other_place, placed)
+                && is_same_child(inner, other_inner, placed),
             AstNode::Backref { .. }
             | AstNode::SubroutineCall(_)
             | AstNode::BackrefExistsCondition { .. } => false,
@@ -89,14 +107,14 @@ fn is_same_node(node: &AstNode, place: usize, other: &AstNode, other_place: usiz
             } => *target == *other_target
                 && *casei == *other_casei
                 && *relative_recursion_level == *other_level
-                && place == other_place,
+                && is_same_place(place, other_place, placed),
             AstNode::AstGroup { .. }
             | AstNode::SubroutineCall(_)
             | AstNode::BackrefExistsCondition { .. } => false,
         },
         AstNode::SubroutineCall(target) => match other {
             AstNode::SubroutineCall(other_target) => *target == *other_target
-                && place == other_place,
+                && is_same_place(place, other_place, placed),
             AstNode::AstGroup { .. }
             | AstNode::Backref { .. }
             | AstNode::BackrefExistsCondition { .. } => false,
@@ -110,7 +128,7 @@ fn is_same_node(node: &AstNode, place: usize, other: &AstNode, other_place: usiz
                 relative_recursion_level: other_level,
             } => *target == *other_target
                 && *relative_recursion_level == *other_level
-                && place == other_place,
+                && is_same_place(place, other_place, placed),
             AstNode::AstGroup { .. } | AstNode::Backref { .. } | AstNode::SubroutineCall(_) =>
                 false,
         },
@@ -119,23 +137,23 @@ fn is_same_node(node: &AstNode, place: usize, other: &AstNode, other_place: usiz
 
 /// Whether the absent forms are the same.
 #[cycle(same)]
-fn is_same_absent(absent: &Absent, other: &Absent) -> bool
+fn is_same_absent(absent: &Absent, other: &Absent, placed: bool) -> bool
     ensures { result ≡ same (view_absent absent.now) (view_absent other.now) }
 {
     match absent {
         Absent::Repeater(child) => match other {
-            Absent::Repeater(other_child) => is_same_child(child, other_child),
+            Absent::Repeater(other_child) => is_same_child(child, other_child, placed),
             Absent::Expression { .. } | Absent::Stopper(_) | Absent::Clear => false,
         },
         Absent::Expression { absent, exp } => match other {
             Absent::Expression {
                 absent: other_absent,
                 exp: other_exp,
-            } => is_same_child(absent, other_absent) && is_same_child(exp, other_exp),
+            } => is_same_child(absent, other_absent, placed) && is_same_child(exp, other_exp, placed),
             Absent::Repeater(_) | Absent::Stopper(_) | Absent::Clear => false,
         },
         Absent::Stopper(child) => match other {
-            Absent::Stopper(other_child) => is_same_child(child, other_child),
+            Absent::Stopper(other_child) => is_same_child(child, other_child, placed),
             Absent::Repeater(_) | Absent::Expression { .. } | Absent::Clear => false,
         },
         Absent::Clear => matches!(other, Absent::Clear),
@@ -144,7 +162,7 @@ fn is_same_absent(absent: &Absent, other: &Absent) -> bool
 
 /// Whether the trees are the same.
 #[cycle(same)]
-fn is_same(tree: &Expr, other: &Expr) -> bool
+fn is_same(tree: &Expr, other: &Expr, placed: bool) -> bool
     ensures { result ≡ same (view tree.now) (view other.now) }
 {
     match tree {
@@ -178,20 +196,20 @@ fn is_same(tree: &Expr, other: &Expr) -> bool
             _ => false,
         },
         Expr::Concat(parts) => match other {
-            Expr::Concat(other_parts) => is_same_list(parts, other_parts),
+            Expr::Concat(other_parts) => is_same_list(parts, other_parts, placed),
             _ => false,
         },
         Expr::Alt(branches) => match other {
-            Expr::Alt(other_branches) => is_same_list(branches, other_branches),
+            Expr::Alt(other_branches) => is_same_list(branches, other_branches, placed),
             _ => false,
         },
         Expr::Group(child) => match other {
-            Expr::Group(other_child) => is_same_child(child, other_child),
+            Expr::Group(other_child) => is_same_child(child, other_child, placed),
             _ => false,
         },
         Expr::LookAround(child, look) => match other {
             Expr::LookAround(other_child, other_look) => *look == *other_look
-                && is_same_child(child, other_child),
+                && is_same_child(child, other_child, placed),
             _ => false,
         },
         Expr::Repeat {
@@ -208,7 +226,7 @@ fn is_same(tree: &Expr, other: &Expr) -> bool
             } => *lo == *other_lo
                 && *hi == *other_hi
                 && *greedy == *other_greedy
-                && is_same_child(child, other_child),
+                && is_same_child(child, other_child, placed),
             _ => false,
         },
         Expr::Delegate { inner, casei } => match other {
@@ -240,7 +258,7 @@ fn is_same(tree: &Expr, other: &Expr) -> bool
             _ => false,
         },
         Expr::AtomicGroup(child) => match other {
-            Expr::AtomicGroup(other_child) => is_same_child(child, other_child),
+            Expr::AtomicGroup(other_child) => is_same_child(child, other_child, placed),
             _ => false,
         },
         Expr::KeepOut => matches!(other, Expr::KeepOut),
@@ -264,9 +282,9 @@ fn is_same(tree: &Expr, other: &Expr) -> bool
                 condition: other_condition,
                 true_branch: other_true_branch,
                 false_branch: other_false_branch,
-            } => is_same_child(condition, other_condition)
-                && is_same_child(true_branch, other_true_branch)
-                && is_same_child(false_branch, other_false_branch),
+            } => is_same_child(condition, other_condition, placed)
+                && is_same_child(true_branch, other_true_branch, placed)
+                && is_same_child(false_branch, other_false_branch, placed),
             _ => false,
         },
         Expr::SubroutineCall(group) => match other {
@@ -278,13 +296,13 @@ fn is_same(tree: &Expr, other: &Expr) -> bool
             _ => false,
         },
         Expr::Absent(absent) => match other {
-            Expr::Absent(other_absent) => is_same_absent(absent, other_absent),
+            Expr::Absent(other_absent) => is_same_absent(absent, other_absent, placed),
             _ => false,
         },
         Expr::DefineGroup { definitions } => match other {
             Expr::DefineGroup {
                 definitions: other_definitions,
-            } => is_same_child(definitions, other_definitions),
+            } => is_same_child(definitions, other_definitions, placed),
             _ => false,
         },
         Expr::AstNode(node, place) => match other {
@@ -293,6 +311,7 @@ fn is_same(tree: &Expr, other: &Expr) -> bool
                 *place,
                 other_node,
                 *other_place,
+                placed,
             ),
             _ => false,
         },
@@ -314,22 +333,22 @@ fn is_same_name(name: Option<&str>, other: Option<&str>) -> bool
 
 /// Whether the trees in the boxes are the same.
 #[cycle(same)]
-fn is_same_child(child: &Box<Expr>, other: &Box<Expr>) -> bool
+fn is_same_child(child: &Box<Expr>, other: &Box<Expr>, placed: bool) -> bool
     ensures { result ≡ same (view child.now.value) (view other.now.value) }
 {
-    is_same(child, other)
+    is_same(child, other, placed)
 }
 
 /// Whether the lists hold the same trees, one by one.
 #[cycle(same)]
-fn is_same_list(trees: &[Expr], others: &[Expr]) -> bool
+fn is_same_list(trees: &[Expr], others: &[Expr], placed: bool) -> bool
     ensures { result ≡ same_all (trees_of (views trees.now)) (trees_of (views others.now)) }
 {
     if trees.len() != others.len() {
         return false;
     }
     for i in 0..trees.len() {
-        if !is_same(&trees[i], &others[i]) {
+        if !is_same(&trees[i], &others[i], placed) {
             return false;
         }
     }
