@@ -20,3 +20,4 @@ pub mod PrintLemmas
 mod EmptyLemmas
 -- ---- the texts of all trees
 pub mod SinkLemmas
+pub mod MarksLemmas

@@ -1,12 +1,14 @@
 -- Texts that are written one behind the other.
 use Rattle.std.proofs.Common.{◌≡◌, ℕ, ◌+◌, ◌<◌, List, [], ◌∷◌, ◌++◌, subst, append_assoc, append-nil, sym, refl, ap, ◌∙◌}
-use Rattle.std.proofs.Common.{length, drop, get_or, arith, add-one, drop-cons}
+use Rattle.std.proofs.Common.{length, drop, get_or, add-one, drop-cons}
 use Rattle.std.specs.Prelude.{Result, Ok, Err, OnOk}
 use Rattle.std.proofs.Common.{true, nat_lt, chars}
 use Rattle.std.specs.List.{flat_map, list_all}
 use Rattle.std.proofs.lemmas.Str.{chars-IsAscii}
 use Rattle.fancy_parts.proofs.RoomLemmas.{ascii}
-use Rattle.fancy_lex.specs.Text.{Text}
+use Rattle.std.proofs.Common.{String, Global, if◌then◌else◌}
+use Rattle.std.specs.Prelude.{is_ok}
+use Rattle.fancy_lex.specs.Text.{Text, text_of}
 use Rattle.fancy_syntax.specs.Sink.{Added}
 
 pub added_nothing : {S : Type 0} (holds : S → Text → Type 0) (a : S) → Added holds a a []
@@ -98,3 +100,10 @@ mapped_at f bs i h = rw add-one (ap (flat_map f) (drop-cons bs i 0 h))
 pub last_ascii : {S X E : Type 0} (holds : S → Text → Type 0) (r : Result X E) (a b : S) (bs : List ℕ) →
     list_all (λ b. nat_lt b 128) bs ≡ true → OnOk r (Added holds a b (chars bs)) → OnOk r (Added holds a b bs)
 last_ascii holds r a b bs h p = last_as holds r a b (chars bs) bs p (chars-IsAscii bs (ascii bs h))
+
+-- ---- a string
+
+pub text_pushed : {X E : Type 0} (r : Result X E) (a b : String Global) (w : Text) →
+    text_of b ≡ (if is_ok r then text_of a ++ w else text_of a) → OnOk r (Added (λ s t. text_of s ≡ t) a b w)
+text_pushed (Ok v) a b w e = record { behind = λ t h. e ∙ ap (λ u. u ++ w) h }
+text_pushed (Err v) a b w e = tt

@@ -1,11 +1,10 @@
 -- What a text is written to, piece by piece.
-use Rattle.std.specs.Prelude.{◌≡◌, ℕ, ◌||◌, Bool, ◌++◌, codes, nat_eq}
+use Rattle.std.specs.Prelude.{◌||◌, Bool, ◌++◌, codes, nat_eq}
 use Rattle.std.specs.List.{starts_with}
 use Rattle.std.specs.Str.{bytes_eq}
 use Rattle.fancy_lex.specs.Number.{at_digit}
-use Rattle.fancy_lex.specs.Text.{Text, bytes}
+use Rattle.fancy_lex.specs.Text.{Text}
 use Rattle.fancy_parts.specs.HeadReference.{begins_target}
-use Rattle.fancy_grammar.specs.Pattern.{parted_if}
 use Rattle.fancy_syntax.specs.declared.pattern.parting.Parting.{Parting}
 use Rattle.fancy_syntax.specs.declared.pattern.parting.Parting.TheVariants.{Number, Condition, Absent}
 
@@ -18,8 +17,3 @@ abbrev pub needs_parting : Parting → Text → Bool
 needs_parting Number t = at_digit t
 needs_parting Condition t = begins_target t || bytes_eq t (codes "DEFINE")
 needs_parting Absent t = starts_with nat_eq t (codes "|")
-
--- what was taken from the place on is parted from what was taken before
-abbrev pub IsParted : {S : Type 0} → (S → Text → Type 0) → S → S → ℕ → Parting → Type 0
-IsParted holds old new place p =
-    (t w : Text) → place ≡ bytes t → holds old (t ++ w) → holds new (t ++ parted_if (needs_parting p w) w)

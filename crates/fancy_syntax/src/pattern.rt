@@ -1,4 +1,10 @@
 //! The text of any tree that is read, for the flags that its pattern was read under.
+ghost use Rattle.std.specs.Prelude.{chars, string_bytes, IfOk, IfSome};
+ghost use Rattle.fancy_lex.specs.Flags.{flags_of};
+ghost use Rattle.fancy_grammar.specs.ReadAs.{IsReadAs};
+ghost use Rattle.fancy_syntax.specs.Answer.{marks_of};
+ghost use Rattle.fancy_syntax.specs.View.{view};
+
 mod counter;
 mod flags;
 mod group;
@@ -26,9 +32,10 @@ use fancy_lex::flags::Flags;
 use std::alloc::{AllocError, Global};
 
 impl ExprTree {
-    /// The text that is read under these flags as this tree, with the same marks; only the place in an `AstNode` may
-    /// differ. The flags are those that the pattern was read under. None where the text that is written for the tree is
-    /// not read so: then the tree was changed to one that no pattern is read as, or the flags are others.
+    /// Returns a pattern that is parsed, under the same flags, as this tree with the same group information; only the
+    /// position in an `AstNode` may differ. Pass the flags that the tree was parsed under. Returns `None` if the pattern
+    /// that is written for the tree is not parsed so: if the flags are others, or the tree was changed to one that no
+    /// pattern is parsed as. Returns `AllocError` if out of memory.
     ///
     /// ```rust
     /// let tree = Expr::parse_tree_with_flags(alloc, "(?<n>a)\\k<n>++", flags)?;
@@ -36,7 +43,10 @@ impl ExprTree {
     ///     println!(rt; "{text}")?;
     /// }
     /// ```
-    pub fn to_pattern(&self, alloc: Global, flags: u32) -> Result<Option<String>, AllocError> {
+    pub fn to_pattern(&self, alloc: Global, flags: u32) -> Result<Option<String>, AllocError>
+        ensures reads_back { IfOk result (λ t. IfSome t (λ s.
+            IsReadAs (flags_of flags) (chars (string_bytes s)) (view self.now.expr) (marks_of self.now))) }
+    {
         let text = pattern_text(alloc, self, Flags::from_bits(flags))?;
         if is_read_as(alloc, text.as_str(), flags, self)? {
             Ok(Some(text))

@@ -1,6 +1,6 @@
 //! How many bytes a text takes.
 use crate::pattern::parting::Parting;
-use crate::pattern::sink::{PARTING, Sink};
+use crate::pattern::sink::Sink;
 use fancy_parts::quote::number_len;
 use std::alloc::AllocError;
 
@@ -43,6 +43,6 @@ impl Sink for Counter {
     }
 
     fn part(&mut self, _place: usize, _parting: Parting) -> Result<(), AllocError> {
-        self.add(PARTING.len())
+        self.add(4)
     }
 }

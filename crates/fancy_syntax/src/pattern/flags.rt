@@ -77,20 +77,22 @@ pub(super) fn put_setting<'a, S: Sink>(
     Ok(set)
 }
 
+/// Writes what opens a group in which the flags `from` are the flags `to`.
+fn put_scope_head<S: Sink>(out: &mut S, from: Flags, to: Flags) -> Result<(), AllocError>
+    ensures { OnOk result (Added S.holds out.old out.new (codes "(?" ++ (spec.letters_between from to ++ codes ":"))) }
+{
+    put_ascii(out, "(?")?;
+    put_letters(out, from, to)?;
+    out.put(':')
+}
+
 /// Opens a group in which the flags that are needed are set, and answers where its inside begins.
 pub(super) fn open_scope<'a, S: Sink>(
     out: &mut S,
     needs: Needs,
     here: Here<'a>,
-) -> Result<Here<'a>, AllocError>
-    ensures { IfOk result (λ i. Added S.holds out.old out.new
-        (codes "(?" ++ (spec.letters_between here.entry.flags (spec.with_needs here.entry.flags needs) ++ codes ":"))
-        × ((h : place.Here) (l : List Needs) → IsHere here.entry h l →
-        IsHere i (place.deeper (place.under (spec.with_needs h.flags needs) h)) l)) }
-{
+) -> Result<Here<'a>, AllocError> {
     let set = here.with(needs);
-    put_ascii(out, "(?")?;
-    put_letters(out, here.flags, set.flags)?;
-    out.put(':')?;
+    put_scope_head(out, here.flags, set.flags)?;
     Ok(set.inside())
 }

@@ -1,4 +1,7 @@
 //! Trees that hold no other.
+ghost use Rattle.std.specs.Prelude.{◌≡◌, nat_lt, true};
+ghost use Rattle.std.specs.List.{list_all};
+
 use crate::expr::{Assertion, BacktrackingControlVerb, Expr};
 use crate::pattern::here::Here;
 use crate::pattern::letters::{put_bytes, put_literal};
@@ -12,7 +15,9 @@ use fancy_lex::flags::Flags;
 use std::alloc::AllocError;
 
 /// The text of any character.
-fn any_text(newline: bool, crlf: bool, flags: Flags) -> &'static str {
+fn any_text(newline: bool, crlf: bool, flags: Flags) -> &'static str
+    ensures { list_all (λ b. nat_lt b 128) result.now ≡ true }
+{
     if newline == flags.dotnl && crlf == flags.crlf {
         "."
     } else if newline {
@@ -23,7 +28,9 @@ fn any_text(newline: bool, crlf: bool, flags: Flags) -> &'static str {
 }
 
 /// The text of an assertion.
-fn assertion_text(assertion: Assertion, flags: Flags) -> &'static str {
+fn assertion_text(assertion: Assertion, flags: Flags) -> &'static str
+    ensures { list_all (λ b. nat_lt b 128) result.now ≡ true }
+{
     match assertion {
         Assertion::StartText => if flags.multi { r"\A" } else { "^" },
         Assertion::EndText => if flags.multi { r"\z" } else { "$" },
@@ -33,15 +40,25 @@ fn assertion_text(assertion: Assertion, flags: Flags) -> &'static str {
         Assertion::EndLine { .. } => "$",
         Assertion::WordBoundary => r"\b",
         Assertion::NotWordBoundary => r"\B",
-        Assertion::LeftWordBoundary => if flags.oniguruma_mode { r"\b{start}" } else { r"\<" },
-        Assertion::RightWordBoundary => if flags.oniguruma_mode { r"\b{end}" } else { r"\>" },
+        Assertion::LeftWordBoundary => if flags.oniguruma_mode {
+            r"\b{start}"
+        } else {
+            r"\<"
+        },
+        Assertion::RightWordBoundary => if flags.oniguruma_mode {
+            r"\b{end}"
+        } else {
+            r"\>"
+        },
         Assertion::LeftWordHalfBoundary => r"\b{start-half}",
         Assertion::RightWordHalfBoundary => r"\b{end-half}",
     }
 }
 
 /// The name of a verb, as it stands in the parentheses.
-pub(super) fn verb_name(verb: BacktrackingControlVerb) -> &'static str {
+pub(super) fn verb_name(verb: BacktrackingControlVerb) -> &'static str
+    ensures { list_all (λ b. nat_lt b 128) result.now ≡ true }
+{
     match verb {
         BacktrackingControlVerb::Fail => "*FAIL",
         BacktrackingControlVerb::Accept => "*ACCEPT",

@@ -109,7 +109,11 @@ fn put_code<S: Sink>(out: &mut S, c: char) -> Result<(), AllocError>
 fn put_plain<S: Sink>(out: &mut S, c: char) -> Result<(), AllocError>
     ensures { OnOk result (Added S.holds out.old out.new (spec.plain c)) }
 {
-    if is_unseen(c) { put_code(out, c) } else { out.put(c) }
+    if is_unseen(c) {
+        put_code(out, c)
+    } else {
+        out.put(c)
+    }
 }
 
 /// Writes the character behind a backslash.
@@ -157,15 +161,14 @@ fn put_cased<S: Sink>(out: &mut S, c: char, flags: Flags) -> Result<(), AllocErr
 }
 
 /// Writes a character of a Literal.
-fn put_character<S: Sink>(
-    out: &mut S,
-    c: char,
-    casei: bool,
-    flags: Flags,
-) -> Result<(), AllocError>
+fn put_character<S: Sink>(out: &mut S, c: char, casei: bool, flags: Flags) -> Result<(), AllocError>
     ensures { OnOk result (Added S.holds out.old out.new (spec.character flags casei c)) }
 {
-    if casei { put_caseless(out, c, flags) } else { put_cased(out, c, flags) }
+    if casei {
+        put_caseless(out, c, flags)
+    } else {
+        put_cased(out, c, flags)
+    }
 }
 
 /// Writes a Literal.

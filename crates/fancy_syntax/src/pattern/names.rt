@@ -45,12 +45,15 @@ fn add_name<'a>(
         if !names.contains_key(number) {
             let is_last = i + 1 == numbers.len();
             let is_only = is_last && i == 0;
-            names.insert(*number, Name {
-                text,
-                is_plain,
-                is_last,
-                is_only,
-            })?;
+            names.insert(
+                *number,
+                Name {
+                    text,
+                    is_plain,
+                    is_last,
+                    is_only,
+                },
+            )?;
         }
     }
     Ok(())

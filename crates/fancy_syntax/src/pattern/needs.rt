@@ -1,15 +1,14 @@
 //! What a tree needs of the flags that a text sets.
-ghost use Rattle.std.specs.Prelude.{◌≡◌, ◌++◌, Bool, chars, IfOk, OnOk};
+ghost use Rattle.std.specs.Prelude.{◌≡◌, Bool, chars};
 ghost use Rattle.std.specs.List.{list_all};
 ghost use Rattle.fancy_grammar.specs.Label.{literal, delegate};
 ghost use Rattle.fancy_grammar.specs.PatternNeeds as spec;
-ghost use Rattle.fancy_syntax.specs.View.{view};
-ghost use Rattle.fancy_syntax.specs.Wheres.{needs_listed, needs_alone};
 
 use crate::expr::{Assertion, Expr};
+use crate::pattern::parting::is_text;
 use fancy_grammar::needs::{Need, Needs};
 use fancy_lex::flags::Flags;
-use fancy_lex::text::{is_same_text, next};
+use fancy_lex::text::next;
 use std::alloc::{AllocError, Global};
 
 /// Nothing.
@@ -63,14 +62,8 @@ fn are_kept_by_backslash(text: &str, oniguruma_mode: bool) -> bool
 fn is_hex_class(text: &str) -> bool
     ensures { result ≡ spec.is_hex_class (chars text.now) }
 {
-    is_same_text(text, HEX_CLASS) || is_same_text(text, NEGATED_HEX_CLASS)
+    is_text(text, "[0-9A-Fa-f]") || is_text(text, "[^0-9A-Fa-f]")
 }
-
-/// What `\h` is read as.
-pub(super) const HEX_CLASS: &str = "[0-9A-Fa-f]";
-
-/// What `\H` is read as.
-pub(super) const NEGATED_HEX_CLASS: &str = "[^0-9A-Fa-f]";
 
 /// What an assertion needs.
 fn assertion_needs(assertion: Assertion) -> Needs
@@ -122,20 +115,17 @@ fn delegate_needs(text: &str, casei: bool) -> Needs
 }
 
 /// What a leaf needs; nothing for a tree that holds others.
-fn leaf_needs(tree: &Expr, oniguruma_mode: bool) -> Needs
-    ensures { result ≡ needs_alone oniguruma_mode (view tree.now) }
-{
+fn leaf_needs(tree: &Expr, oniguruma_mode: bool) -> Needs {
     match tree {
         Expr::Literal { val, casei } => literal_needs(val.as_str(), *casei, oniguruma_mode),
         Expr::Delegate { inner, casei } => delegate_needs(inner.as_str(), *casei),
         Expr::Backref { casei, .. } => needs_case(*casei),
         Expr::BackrefWithRelativeRecursionLevel { casei, .. } => needs_case(*casei),
-        Expr::Any { newline, crlf } =>
-            if *newline == *crlf {
-                no_needs()
-            } else {
-                needs_dot(*newline, *crlf)
-            },
+        Expr::Any { newline, crlf } => if *newline == *crlf {
+            no_needs()
+        } else {
+            needs_dot(*newline, *crlf)
+        },
         Expr::Assertion(assertion) => assertion_needs(*assertion),
         _ => no_needs(),
     }
@@ -193,17 +183,17 @@ fn push_needs(
     list: &mut Vec<Needs>,
     tree: &Expr,
     oniguruma_mode: bool,
-) -> Result<Needs, AllocError>
-    ensures needs { IfOk result (λ n. n ≡ spec.needs spec.first oniguruma_mode (view tree.now)) }
-    ensures list { OnOk result (list.new.items ≡ list.old.items ++ needs_listed oniguruma_mode (view tree.now)) }
-{
+) -> Result<Needs, AllocError> {
     let at = list.len();
     let mut needs = leaf_needs(tree, oniguruma_mode);
     list.push(needs)?;
-    for child in tree.children_iter() {
+    let mut children = tree.children_iter();
+    while let Some(child) = children.next() {
         needs = first_needs(needs, push_needs(list, child, oniguruma_mode)?);
     }
-    list[at] = needs;
+    if let Some(place) = list.get_mut(at) {
+        *place = needs;
+    }
     Ok(needs)
 }
 
@@ -212,20 +202,17 @@ pub(super) fn all_needs(
     alloc: Global,
     tree: &Expr,
     oniguruma_mode: bool,
-) -> Result<Vec<Needs>, AllocError>
-    ensures { IfOk result (λ l. l.items ≡ needs_listed oniguruma_mode (view tree.now)) }
-{
+) -> Result<Vec<Needs>, AllocError> {
     let mut list = Vec::new(alloc);
     push_needs(&mut list, tree, oniguruma_mode)?;
     Ok(list)
 }
 
 /// What all leaves of the tree need together.
-pub(super) fn common_needs(tree: &Expr, oniguruma_mode: bool) -> Needs
-    ensures { result ≡ spec.needs spec.both oniguruma_mode (view tree.now) }
-{
+pub(super) fn common_needs(tree: &Expr, oniguruma_mode: bool) -> Needs {
     let mut needs = leaf_needs(tree, oniguruma_mode);
-    for child in tree.children_iter() {
+    let mut children = tree.children_iter();
+    while let Some(child) = children.next() {
         needs = both_needs(needs, common_needs(child, oniguruma_mode));
     }
     needs

@@ -1,5 +1,7 @@
 //! Texts before which an empty comment stands, since they would be read with what stands before them.
-ghost use Rattle.std.specs.Prelude.{◌≡◌, chars};
+ghost use Rattle.std.specs.Prelude.{◌≡◌, true, nat_lt, chars};
+ghost use Rattle.std.specs.List.{list_all};
+ghost use Rattle.std.specs.Str.{bytes_eq};
 ghost use Rattle.fancy_lex.specs.Number.{at_digit};
 ghost use Rattle.fancy_syntax.specs.Sink.{needs_parting};
 
@@ -24,10 +26,18 @@ impl Parting {
     {
         match self {
             Parting::Number => begins_with_digit(text),
-            Parting::Condition => begins_target(text) || is_same_text(text, "DEFINE"),
+            Parting::Condition => begins_target(text) || is_text(text, "DEFINE"),
             Parting::Absent => after(text, '|').is_some(),
         }
     }
+}
+
+/// Whether the text is the word, which has ASCII characters alone.
+pub(super) fn is_text(text: &str, word: &str) -> bool
+    requires { list_all (λ b. nat_lt b 128) word.now ≡ true }
+    ensures { result ≡ bytes_eq (chars text.now) word.now }
+{
+    is_same_text(text, word)
 }
 
 /// Whether an ASCII digit stands at the front.

@@ -51,7 +51,11 @@ const MOST_ADJACENT: usize = 5;
 pub(super) fn most_quantifiers(flags: Flags, left: usize) -> usize
     ensures { (d : ℕ) → left ≡ max_depth - d → result ≡ spec.most_quantifiers flags d }
 {
-    if flags.oniguruma_mode { left.min(MOST_ADJACENT) } else { 1 }
+    if flags.oniguruma_mode {
+        left.min(MOST_ADJACENT)
+    } else {
+        1
+    }
 }
 
 /// Writes what stands in the braces of a quantifier.

@@ -1,4 +1,7 @@
 //! References, calls and the targets of conditions.
+ghost use Rattle.std.specs.Prelude.{◌≡◌, nat_lt, true};
+ghost use Rattle.std.specs.List.{list_all};
+
 use crate::expr::{AstNode, CaptureGroupTarget};
 use crate::pattern::here::Here;
 use crate::pattern::names::Known;
@@ -21,7 +24,9 @@ fn put_level<S: Sink>(out: &mut S, level: Option<isize>) -> Result<(), AllocErro
 }
 
 /// Writes a text between marks, behind a head.
-fn put_marked<S: Sink>(out: &mut S, head: &str, text: &str) -> Result<(), AllocError> {
+fn put_marked<S: Sink>(out: &mut S, head: &str, text: &str) -> Result<(), AllocError>
+    requires { list_all (λ b. nat_lt b 128) head.now ≡ true }
+{
     put_ascii(out, head)?;
     out.put('<')?;
     out.put_text(text)?;
@@ -29,7 +34,9 @@ fn put_marked<S: Sink>(out: &mut S, head: &str, text: &str) -> Result<(), AllocE
 }
 
 /// Writes a text between quotes, behind a head.
-fn put_quoted<S: Sink>(out: &mut S, head: &str, text: &str) -> Result<(), AllocError> {
+fn put_quoted<S: Sink>(out: &mut S, head: &str, text: &str) -> Result<(), AllocError>
+    requires { list_all (λ b. nat_lt b 128) head.now ≡ true }
+{
     put_ascii(out, head)?;
     out.put('\'')?;
     out.put_text(text)?;

@@ -2,9 +2,10 @@
 ghost use Rattle.std.specs.Prelude.{◌≡◌, ◌∷◌, [], true, nat_lt, chars, decimal, OnOk};
 ghost use Rattle.std.specs.List.{list_all};
 ghost use Rattle.fancy_lex.specs.Text.{Text, bytes, text_of};
-ghost use Rattle.fancy_syntax.specs.Sink.{Added, IsParted};
+ghost use Rattle.fancy_syntax.specs.Sink.{Added};
 
 use crate::pattern::parting::Parting;
+use fancy_lex::text::{append, byte_len, push};
 use fancy_parts::quote::{number_len, put_number};
 use std::alloc::AllocError;
 
@@ -30,19 +31,18 @@ pub(super) trait Sink {
         ensures { (t : Text) → holds self.now t → result ≡ bytes t };
 
     /// Parts what was taken from the place on from what stands before it, where it begins so that it has to be.
-    fn part(&mut self, place: usize, parting: Parting) -> Result<(), AllocError>
-        ensures { OnOk result (IsParted holds self.old self.new place parting) };
+    fn part(&mut self, place: usize, parting: Parting) -> Result<(), AllocError>;
 }
 
 impl Sink for String {
     ghost holds = { λ s t. text_of s ≡ t };
 
     fn put(&mut self, c: char) -> Result<(), AllocError> {
-        self.push(c)
+        push(self, c)
     }
 
     fn put_text(&mut self, text: &str) -> Result<(), AllocError> {
-        self.push_str(text)
+        append(self, text)
     }
 
     fn put_number(&mut self, n: usize) -> Result<(), AllocError> {
@@ -52,12 +52,14 @@ impl Sink for String {
     }
 
     fn len(&self) -> usize {
-        String::len(self)
+        byte_len(self.as_str())
     }
 
     fn part(&mut self, place: usize, parting: Parting) -> Result<(), AllocError> {
-        if parting.is_needed(&self.as_str()[place..]) {
-            self.insert_str(place, PARTING)?;
+        // Every caller asks at a place where it was before, so that a character begins there.
+        let (_, text) = self.as_str().split_at_checked(place).ok_or(AllocError)?;
+        if parting.is_needed(text) {
+            self.insert_str(place, "(?#)")?;
         }
         Ok(())
     }
@@ -70,6 +72,3 @@ pub(super) fn put_ascii<S: Sink>(out: &mut S, text: &str) -> Result<(), AllocErr
 {
     out.put_text(text)
 }
-
-/// An empty comment.
-pub(super) const PARTING: &str = "(?#)";

@@ -1,6 +1,12 @@
 //! What a Delegate was written as: a text that the reader writes as that of the Delegate.
+ghost use Rattle.std.specs.Prelude.{◌≡◌, true, nat_lt, chars, OnOk, IfOk};
+ghost use Rattle.std.specs.List.{list_all};
+ghost use Rattle.fancy_lex.specs.Property as property;
+ghost use Rattle.fancy_grammar.specs.PatternSource as spec;
+ghost use Rattle.fancy_syntax.specs.Sink.{Added};
+
 use crate::pattern::letters::put_class_character;
-use crate::pattern::needs::{HEX_CLASS, NEGATED_HEX_CLASS};
+use crate::pattern::parting::is_text;
 use crate::pattern::sink::{Sink, put_ascii};
 use fancy_lex::flags::Flags;
 use fancy_lex::text::{after, after_word, next, split_at};
@@ -31,27 +37,45 @@ fn negated_item_at(text: &str, unicode: bool, seen: bool) -> Option<Found<'_>> {
         return None;
     }
     let text = if seen { after_word(text, "&&")? } else { text };
-    row(text, r"[^\p{White_Space}\p{C}]", r"\p{graph}")
-        .or(row(text, r"[^\p{C}\t\n\v\f\r]", r"\p{print}"))
+    row(text, r"[^\p{White_Space}\p{C}]", r"\p{graph}").or(row(
+        text,
+        r"[^\p{C}\t\n\v\f\r]",
+        r"\p{print}",
+    ))
 }
 
 /// `\P`, or `\p`.
-fn letter(upper: bool) -> &'static str {
+fn letter(upper: bool) -> &'static str
+    ensures text { property.letter upper ≡ result.now }
+    ensures ascii { list_all (λ b. nat_lt b 128) result.now ≡ true }
+{
     if upper { r"\P" } else { r"\p" }
 }
 
 /// Writes a property by its name: the reader takes one caret off, and turns the letter.
-fn put_property<S: Sink>(out: &mut S, upper: bool, name: &str) -> Result<(), AllocError> {
-    if let Some(name) = after(name, '^') {
-        put_ascii(out, letter(!upper))?;
-        put_ascii(out, "{^^")?;
-        out.put_text(name)?;
-    } else {
-        put_ascii(out, letter(upper))?;
-        out.put('{')?;
-        out.put_text(name)?;
-    }
+fn put_property<S: Sink>(out: &mut S, upper: bool, name: &str) -> Result<(), AllocError>
+    ensures { OnOk result (Added S.holds out.old out.new (spec.named_property upper (chars name.now))) }
+{
+    put_property_front(out, upper, name)?;
     out.put('}')
+}
+
+/// Writes what stands before the closing brace of a property.
+fn put_property_front<S: Sink>(out: &mut S, upper: bool, name: &str) -> Result<(), AllocError>
+    ensures { OnOk result (Added S.holds out.old out.new (spec.named_front upper (chars name.now))) }
+{
+    match after(name, '^') {
+        Some(name) => {
+            put_ascii(out, letter(!upper))?;
+            put_ascii(out, "{^^")?;
+            out.put_text(name)
+        }
+        None => {
+            put_ascii(out, letter(upper))?;
+            out.put('{')?;
+            out.put_text(name)
+        }
+    }
 }
 
 /// Writes what stands behind the letter of a property, and answers what is left.
@@ -101,12 +125,16 @@ fn put_unit<'a, S: Sink>(out: &mut S, c: char, rest: &'a str) -> Result<&'a str,
 fn put_source<S: Sink>(out: &mut S, text: &str, unicode: bool) -> Result<(), AllocError> {
     let mut rest = text;
     let mut seen = false;
-    while let Some((c, behind)) = next(rest) {
+    // Each step takes a character or more.
+    for _step in 0..text.len() {
+        let Some((c, behind)) = next(rest) else {
+            return Ok(());
+        };
         if let Some((escape, behind)) = item_at(rest, unicode) {
-            put_ascii(out, escape)?;
+            out.put_text(escape)?;
             rest = behind;
         } else if let Some((escape, behind)) = negated_item_at(rest, unicode, seen) {
-            put_ascii(out, escape)?;
+            out.put_text(escape)?;
             seen = true;
             rest = behind;
         } else {
@@ -123,10 +151,10 @@ pub(super) fn put_delegate<S: Sink>(
     casei: bool,
     flags: Flags,
 ) -> Result<(), AllocError> {
-    if flags.casei && !casei && inner == HEX_CLASS {
+    if flags.casei && !casei && is_text(inner, "[0-9A-Fa-f]") {
         return put_ascii(out, r"\h");
     }
-    if flags.casei && !casei && inner == NEGATED_HEX_CLASS {
+    if flags.casei && !casei && is_text(inner, "[^0-9A-Fa-f]") {
         return put_ascii(out, r"\H");
     }
     put_source(out, inner, flags.unicode)

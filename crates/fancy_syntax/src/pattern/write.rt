@@ -1,16 +1,9 @@
 //! The walk that writes a tree's text.
-ghost use Rattle.std.specs.Prelude.{◌≡◌, ◌++◌, [], ℕ, nat_lt, ◌&&◌, Bool, true, false, codes, List, IfOk, OnOk, if◌then◌else◌};
+ghost use Rattle.std.specs.Prelude.{◌≡◌, nat_lt, true, List};
 ghost use Rattle.std.specs.List.{list_all};
-ghost use Rattle.fancy_grammar.specs.Label as label;
-ghost use Rattle.fancy_grammar.specs.Marks.{Marks};
 ghost use Rattle.fancy_grammar.specs.Pattern as spec;
-ghost use Rattle.fancy_grammar.specs.PatternNeeds.{setting, with_needs};
-ghost use Rattle.fancy_grammar.specs.Tree as tree;
-ghost use Rattle.fancy_grammar.specs.Tree.{trees_of, over, row, more_trees, no_trees, is_leaf};
 ghost use Rattle.fancy_grammar.specs.declared.needs.Needs.{Needs};
-ghost use Rattle.fancy_syntax.specs.Sink.{Added};
-ghost use Rattle.fancy_syntax.specs.View.{view, view_absent, views};
-ghost use Rattle.fancy_syntax.specs.Wheres.{IsHere, IsKnown, Reaches, needs_listed, all_listed};
+ghost use Rattle.fancy_syntax.specs.Wheres.{IsHere};
 
 use crate::expr::{Absent, Expr, LookAround};
 use crate::grammar::quantified::is_repeatable;
@@ -36,12 +29,7 @@ pub(super) fn put_pattern<S: Sink>(
     tree: &Expr,
     agreed: Needs,
     here: Here,
-) -> Result<(), AllocError>
-    ensures { (m : Marks) (h : spec.Here) → IsKnown known.now m →
-        IsHere here.entry h (needs_listed h.flags.oniguruma_mode (view tree.now)) →
-        OnOk result (Added S.holds out.old out.new (setting h.flags (with_needs h.flags agreed)
-        ++ spec.written m (view tree.now) Position.Whole (spec.under (with_needs h.flags agreed) h))) }
-{
+) -> Result<(), AllocError> {
     let here = put_setting(out, agreed, here)?;
     put_tree(out, known, tree, Position::Whole, here)?;
     Ok(())
@@ -55,12 +43,7 @@ fn put_tree<'a, S: Sink>(
     tree: &Expr,
     position: Position,
     here: Here<'a>,
-) -> Result<Here<'a>, AllocError>
-    ensures { (m : Marks) (h : spec.Here) (l : List Needs) → IsKnown known.now m →
-        IsHere here.entry h (needs_listed h.flags.oniguruma_mode (view tree.now) ++ l) →
-        IfOk result (λ i. Reaches S.holds out.old out.new i (spec.written m (view tree.now) position h)
-        (spec.behind (view tree.now) position h) l) }
-{
+) -> Result<Here<'a>, AllocError> {
     let (needs, here) = here.next_node();
     match tree {
         Expr::Empty => put_empty(out, position, here),
@@ -148,13 +131,7 @@ fn put_pieces<'a, S: Sink>(
     known: &Known,
     pieces: &[Expr],
     here: Here<'a>,
-) -> Result<Here<'a>, AllocError>
-    ensures { (m : Marks) (h : spec.Here) (l : List Needs) → IsKnown known.now m →
-        let ts = trees_of (views pieces.now) in
-        IsHere here.entry h (all_listed h.flags.oniguruma_mode ts ++ l) →
-        IfOk result (λ i. Reaches S.holds out.old out.new i (spec.written_all m false ts h)
-        (spec.past_groups (spec.group_count_all ts) (spec.under (spec.flags_behind_all ts Position.Piece h.flags) h)) l) }
-{
+) -> Result<Here<'a>, AllocError> {
     let mut here = here;
     let mut behind_digits = false;
     for piece in pieces {
@@ -193,13 +170,7 @@ fn put_branches<'a, S: Sink>(
     known: &Known,
     branches: &[Expr],
     here: Here<'a>,
-) -> Result<Here<'a>, AllocError>
-    ensures { (m : Marks) (h : spec.Here) (l : List Needs) → IsKnown known.now m →
-        let ts = trees_of (views branches.now) in
-        IsHere here.entry h (all_listed h.flags.oniguruma_mode ts ++ l) →
-        IfOk result (λ i. Reaches S.holds out.old out.new i (spec.written_branches m ts h)
-        (spec.past_groups (spec.group_count_all ts) (spec.under (spec.flags_behind_all ts Position.Branch h.flags) h)) l) }
-{
+) -> Result<Here<'a>, AllocError> {
     let mut here = here;
     for (i, branch) in branches.iter().enumerate() {
         if i > 0 {
@@ -237,13 +208,14 @@ fn put_settled<'a, S: Sink>(
             put_repeat(out, known, child, quantifier, position, here)
         }
         Expr::AtomicGroup(child) => put_atomic(out, known, child, position, here),
-        Expr::DefineGroup { definitions } =>
-            put_in_group(out, known, "?(DEFINE)", definitions, here),
-        Expr::Conditional {
-            condition,
-            true_branch,
-            false_branch,
-        } => put_conditional(out, known, condition, true_branch, false_branch, here),
+        Expr::DefineGroup { definitions } => put_in_group(
+            out,
+            known,
+            "?(DEFINE)",
+            definitions,
+            here,
+        ),
+        Expr::Conditional { .. } => put_conditional(out, known, tree, here),
         Expr::Absent(absent) => put_absent(out, known, absent, here),
         _ => put_leaf_at(out, known, tree, position, here),
     }
@@ -276,11 +248,6 @@ fn put_in_group<'a, S: Sink>(
     here: Here<'a>,
 ) -> Result<Here<'a>, AllocError>
     requires { list_all (λ b. nat_lt b 128) head.now ≡ true }
-    ensures { (m : Marks) (h : spec.Here) (l : List Needs) → IsKnown known.now m →
-        IsHere here.entry h (needs_listed h.flags.oniguruma_mode (view child.now) ++ l) →
-        IfOk result (λ i. Reaches S.holds out.old out.new i
-        (spec.in_parens head.now (spec.written m (view child.now) Position.Whole) h)
-        (spec.past_groups (spec.group_count (view child.now)) h) l) }
 {
     let inside = open(out, head, here)?;
     let end = put_tree(out, known, child, Position::Whole, inside)?;
@@ -349,7 +316,8 @@ fn put_atomic<'a, S: Sink>(
         lo,
         hi,
         greedy,
-    } = child else {
+    } = child
+    else {
         return put_in_group(out, known, "?>", child, here);
     };
     let here = here.past_node();
@@ -405,15 +373,16 @@ fn put_quantified<'a, S: Sink>(
 fn put_conditional<'a, S: Sink>(
     out: &mut S,
     known: &Known,
-    condition: &Expr,
-    true_branch: &Expr,
-    false_branch: &Expr,
+    tree: &Expr,
     here: Here<'a>,
 ) -> Result<Here<'a>, AllocError> {
+    let Expr::Conditional { condition, .. } = tree else {
+        return Ok(here);
+    };
     let inside = open(out, "?(", here)?;
     let behind = put_condition(out, known, condition, inside)?;
     out.put(')')?;
-    let end = put_choice(out, known, true_branch, false_branch, behind)?;
+    let end = put_choice(out, known, tree, behind)?;
     close(out, here, end)
 }
 
@@ -451,17 +420,24 @@ fn put_condition<'a, S: Sink>(
 fn put_choice<'a, S: Sink>(
     out: &mut S,
     known: &Known,
-    true_branch: &Expr,
-    false_branch: &Expr,
+    tree: &Expr,
     here: Here<'a>,
 ) -> Result<Here<'a>, AllocError> {
-    let is_one = matches!(false_branch, Expr::Empty);
-    if is_one && matches!(true_branch, Expr::Empty) {
+    let Expr::Conditional {
+        true_branch,
+        false_branch,
+        ..
+    } = tree
+    else {
+        return Ok(here);
+    };
+    let is_one = matches!(**false_branch, Expr::Empty);
+    if is_one && matches!(**true_branch, Expr::Empty) {
         put_ascii(out, "()")?;
         return Ok(here.past_node().past_node());
     }
     let behind = put_tree(out, known, true_branch, Position::Branch, here)?;
-    if is_one && !matches!(true_branch, Expr::Alt(_)) {
+    if is_one && !matches!(**true_branch, Expr::Alt(_)) {
         return Ok(behind.past_node());
     }
     out.put('|')?;
@@ -478,7 +454,7 @@ fn put_absent<'a, S: Sink>(
 ) -> Result<Here<'a>, AllocError> {
     match absent {
         Absent::Repeater(child) => put_repeater(out, known, child, here),
-        Absent::Expression { absent, exp } => put_expression(out, known, absent, exp, here),
+        Absent::Expression { .. } => put_expression(out, known, absent, here),
         Absent::Stopper(child) => put_stopper(out, known, child, here),
         Absent::Clear => {
             put_ascii(out, "(?~|)")?;
@@ -507,10 +483,12 @@ fn put_repeater<'a, S: Sink>(
 fn put_expression<'a, S: Sink>(
     out: &mut S,
     known: &Known,
-    absent: &Expr,
-    exp: &Expr,
+    parts: &Absent,
     here: Here<'a>,
 ) -> Result<Here<'a>, AllocError> {
+    let Absent::Expression { absent, exp } = parts else {
+        return Ok(here);
+    };
     let inside = open(out, "?~|", here)?;
     let behind = put_tree(out, known, absent, Position::Branch, inside)?;
     out.put('|')?;

@@ -1,5 +1,4 @@
-use Rattle.std.proofs.Common.{◌≡◌, ◌∷◌, chars, rules}
-use Rattle.std.specs.List.{flat_map}
+use Rattle.std.proofs.Common.{chars, rules}
 use Rattle.fancy_grammar.specs.PatternLetters.{character}
 use Rattle.fancy_syntax.proofs.SinkLemmas.{adding_starts, adding_later, adding_ends, mapped_next, mapped_end}
 use Rattle.fancy_syntax.proofs.pattern.letters.put_literal.Goals as goal
