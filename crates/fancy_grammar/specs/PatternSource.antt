@@ -61,11 +61,14 @@ replaced_part seen (r ∷ l) t =
 
 -- ---- what is not
 
--- a property by its name: the reader takes one caret off and turns the letter, which one more of each makes good
-abbrev pub named_property : Bool → Text → Text
-named_property upper name =
+-- a property by its name, without the closing brace: the reader takes one caret off and turns the letter, which one
+-- more of each makes good
+abbrev pub named_front : Bool → Text → Text
+named_front upper name =
     choose (strip caret name) (λ t. letter (not upper) ++ (codes "{^^" ++ t)) (letter upper ++ (codes "{" ++ name))
-    ++ codes "}"
+
+abbrev pub named_property : Bool → Text → Text
+named_property upper name = named_front upper name ++ codes "}"
 
 -- the property whose name or opening brace stands behind its letter; no reader leaves the brace open
 abbrev pub property_part : Bool → Text → Part

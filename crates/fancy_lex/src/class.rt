@@ -51,7 +51,7 @@ fn push_quoted(out: &mut String, c: char) -> Result<(), AllocError>
 }
 
 /// The character of a hex digit, in upper case.
-fn upper_hex_digit(digit: u8) -> char
+pub fn upper_hex_digit(digit: u8) -> char
     requires { digit < 16 }
     ensures { result ≡ spec.upper_hex_digit digit }
 {

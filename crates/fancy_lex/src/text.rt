@@ -110,7 +110,7 @@ pub fn push(out: &mut String, c: char) -> Result<(), AllocError>
 
 /// Adds the text to the string.
 #[inline]
-pub(crate) fn append(out: &mut String, text: &str) -> Result<(), AllocError>
+pub fn append(out: &mut String, text: &str) -> Result<(), AllocError>
     ensures { text_of out.new ≡ (if is_ok result then text_of out.old ++ chars text.now else text_of out.old) }
 {
     out.push_str(text)

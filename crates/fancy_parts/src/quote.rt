@@ -114,7 +114,7 @@ fn put_runs(buf: &mut String, text: &str)
 
 /// How many digits a number has.
 #[tactic(auto, using(crate::proofs::QuoteLemmas::number_steps))]
-pub(crate) fn number_len(n: usize) -> usize
+pub fn number_len(n: usize) -> usize
     ensures value { result ≡ bytes (decimal n) }
     ensures within { result ≤ 20 }
 {
@@ -132,7 +132,7 @@ fn digit(n: usize) -> char
 
 /// Writes a number in decimal digits.
 #[tactic(auto, using(crate::proofs::RoomLemmas::room_steps, crate::proofs::QuoteLemmas::number_steps))]
-pub(crate) fn put_number(buf: &mut String, n: usize)
+pub fn put_number(buf: &mut String, n: usize)
     requires { HasRoom buf.old (decimal n) }
     ensures { Appended buf.old buf.new (decimal n) }
 {
@@ -155,7 +155,7 @@ pub fn quantifier_len(lo: usize, hi: usize, greedy: bool) -> usize
 
 /// The mark that stands for a least and a greatest count.
 #[tactic(auto, unfolding(crate::specs::Quote::mark))]
-fn mark(lo: usize, hi: usize) -> Option<char>
+pub fn mark(lo: usize, hi: usize) -> Option<char>
     ensures { spec.mark lo hi ≡ result }
 {
     if lo == 0 && hi == 1 {

@@ -1,5 +1,6 @@
--- Two trees of different variants are not the same.
+-- Two trees of different variants are not the same, with their places or without.
 use Rattle.std.proofs.Common.{◌≡◌, ℕ, Bool, true, false, ◌∙◌, refl, ap, sym, subst}
+use Rattle.fancy_grammar.specs.Placed.{placed}
 use Rattle.fancy_grammar.specs.Same.{same}
 use Rattle.fancy_grammar.specs.Label as label
 use Rattle.fancy_grammar.proofs.SameLaws.{same-Decides}
@@ -57,26 +58,28 @@ is_read (leaf (label.ast_node r place)) = true
 is_read (over (label.ast_group name place) t) = true
 is_read _ = false
 
-absent_step_is : (a : Absent-F Tree (ℕ → Tree) Tree) → is_absent (absent_step a) ≡ true
-absent_step_is (Absent-F.Repeater t) = refl
-absent_step_is _ = refl
+absent_step_is : (p : Bool) (a : Absent-F Tree (ℕ → Tree) Tree) → is_absent (placed p (absent_step a)) ≡ true
+absent_step_is p (Absent-F.Repeater t) = refl
+absent_step_is p _ = refl
 
-absent_is : (a : Absent) → is_absent (view_absent a) ≡ true
-absent_is a =
-    ap is_absent (fold_out-Absent Tree (ℕ → Tree) Tree absent_step ast_step expr_step a)
-    ∙ absent_step_is (map-Absent Absent AstNode Expr Tree (ℕ → Tree) Tree view_absent view_ast view (out-Absent a))
+absent_is : (p : Bool) (a : Absent) → is_absent (placed p (view_absent a)) ≡ true
+absent_is p a =
+    ap (λ t. is_absent (placed p t)) (fold_out-Absent Tree (ℕ → Tree) Tree absent_step ast_step expr_step a)
+    ∙ absent_step_is p (map-Absent Absent AstNode Expr Tree (ℕ → Tree) Tree view_absent view_ast view (out-Absent a))
 
-node_step_is : (n : AstNode-F Tree (ℕ → Tree) Tree) (place : ℕ) →
-    (is_read (ast_step n place) ≡ true) × (is_absent (ast_step n place) ≡ false)
-node_step_is (AstNode-F.AstGroup name inner) place = (refl, refl)
-node_step_is _ place = (refl, refl)
+-- that a tree is a node that is read, and no absent form
+abbrev pub IsRead : Bool → Tree → Type 0
+IsRead p t = (is_read (placed p t) ≡ true) × (is_absent (placed p t) ≡ false)
 
-node_is : (n : AstNode) (place : ℕ) →
-    (is_read (view_ast n place) ≡ true) × (is_absent (view_ast n place) ≡ false)
-node_is n place =
-    subst (λ f. (is_read (f place) ≡ true) × (is_absent (f place) ≡ false))
+node_step_is : (p : Bool) (n : AstNode-F Tree (ℕ → Tree) Tree) (place : ℕ) → IsRead p (ast_step n place)
+node_step_is p (AstNode-F.AstGroup name inner) place = (refl, refl)
+node_step_is p _ place = (refl, refl)
+
+node_is : (p : Bool) (n : AstNode) (place : ℕ) → IsRead p (view_ast n place)
+node_is p n place =
+    subst (λ f. IsRead p (f place))
     (sym (fold_out-AstNode Tree (ℕ → Tree) Tree absent_step ast_step expr_step n))
-    (node_step_is
+    (node_step_is p
     (map-AstNode Absent AstNode Expr Tree (ℕ → Tree) Tree view_absent view_ast view (out-AstNode n)) place)
 
 false_unless : (b : Bool) → (b ≡ true → ⊥) → false ≡ b
@@ -88,51 +91,56 @@ differ : (f : Tree → Bool) (s t : Tree) (b c : Bool) → f s ≡ b → f t ≡
 differ f s t b c e g h =
     false_unless (same s t) (λ i. h (sym e ∙ ap f ((same-Decides s t).0 i) ∙ g))
 
-levels_apart : (u v : Expr-F Absent AstNode Expr) → Other u (roll-Expr v) → false ≡ same (seen u) (seen v)
-levels_apart Expr-F.Empty Expr-F.Empty h = absurd (h variant.rolls-Empty)
-levels_apart (Expr-F.Any _ _) (Expr-F.Any a b) h = absurd (h a b (variant.rolls-Any a b))
-levels_apart (Expr-F.Assertion _) (Expr-F.Assertion a) h = absurd (h a (variant.rolls-Assertion a))
-levels_apart (Expr-F.GeneralNewline _) (Expr-F.GeneralNewline a) h = absurd (h a (variant.rolls-GeneralNewline a))
-levels_apart (Expr-F.Literal _ _) (Expr-F.Literal a b) h = absurd (h a b (variant.rolls-Literal a b))
-levels_apart (Expr-F.LiteralBytes _) (Expr-F.LiteralBytes a) h = absurd (h a (variant.rolls-LiteralBytes a))
-levels_apart (Expr-F.Concat _) (Expr-F.Concat a) h = absurd (h a (variant.rolls-Concat a))
-levels_apart (Expr-F.Alt _) (Expr-F.Alt a) h = absurd (h a (variant.rolls-Alt a))
-levels_apart (Expr-F.Group _) (Expr-F.Group a) h = absurd (h a (variant.rolls-Group a))
-levels_apart (Expr-F.LookAround _ _) (Expr-F.LookAround a b) h = absurd (h a b (variant.rolls-LookAround a b))
-levels_apart (Expr-F.Repeat _ _ _ _) (Expr-F.Repeat a b c d) h = absurd (h a b c d (variant.rolls-Repeat a b c d))
-levels_apart (Expr-F.Delegate _ _) (Expr-F.Delegate a b) h = absurd (h a b (variant.rolls-Delegate a b))
-levels_apart (Expr-F.Expr::Backref _ _) (Expr-F.Expr::Backref a b) h = absurd (h a b (variant.rolls-Backref a b))
-levels_apart (Expr-F.BackrefWithRelativeRecursionLevel _ _ _) (Expr-F.BackrefWithRelativeRecursionLevel a b c) h =
+levels_apart : (p : Bool) (u v : Expr-F Absent AstNode Expr) → Other u (roll-Expr v) →
+    false ≡ same (placed p (seen u)) (placed p (seen v))
+levels_apart p Expr-F.Empty Expr-F.Empty h = absurd (h variant.rolls-Empty)
+levels_apart p (Expr-F.Any _ _) (Expr-F.Any a b) h = absurd (h a b (variant.rolls-Any a b))
+levels_apart p (Expr-F.Assertion _) (Expr-F.Assertion a) h = absurd (h a (variant.rolls-Assertion a))
+levels_apart p (Expr-F.GeneralNewline _) (Expr-F.GeneralNewline a) h = absurd (h a (variant.rolls-GeneralNewline a))
+levels_apart p (Expr-F.Literal _ _) (Expr-F.Literal a b) h = absurd (h a b (variant.rolls-Literal a b))
+levels_apart p (Expr-F.LiteralBytes _) (Expr-F.LiteralBytes a) h = absurd (h a (variant.rolls-LiteralBytes a))
+levels_apart p (Expr-F.Concat _) (Expr-F.Concat a) h = absurd (h a (variant.rolls-Concat a))
+levels_apart p (Expr-F.Alt _) (Expr-F.Alt a) h = absurd (h a (variant.rolls-Alt a))
+levels_apart p (Expr-F.Group _) (Expr-F.Group a) h = absurd (h a (variant.rolls-Group a))
+levels_apart p (Expr-F.LookAround _ _) (Expr-F.LookAround a b) h = absurd (h a b (variant.rolls-LookAround a b))
+levels_apart p (Expr-F.Repeat _ _ _ _) (Expr-F.Repeat a b c d) h = absurd (h a b c d (variant.rolls-Repeat a b c d))
+levels_apart p (Expr-F.Delegate _ _) (Expr-F.Delegate a b) h = absurd (h a b (variant.rolls-Delegate a b))
+levels_apart p (Expr-F.Expr::Backref _ _) (Expr-F.Expr::Backref a b) h = absurd (h a b (variant.rolls-Backref a b))
+levels_apart p (Expr-F.BackrefWithRelativeRecursionLevel _ _ _) (Expr-F.BackrefWithRelativeRecursionLevel a b c) h =
     absurd (h a b c (variant.rolls-BackrefWithRelativeRecursionLevel a b c))
-levels_apart (Expr-F.AtomicGroup _) (Expr-F.AtomicGroup a) h = absurd (h a (variant.rolls-AtomicGroup a))
-levels_apart Expr-F.KeepOut Expr-F.KeepOut h = absurd (h variant.rolls-KeepOut)
-levels_apart Expr-F.ContinueFromPreviousMatchEnd Expr-F.ContinueFromPreviousMatchEnd h =
+levels_apart p (Expr-F.AtomicGroup _) (Expr-F.AtomicGroup a) h = absurd (h a (variant.rolls-AtomicGroup a))
+levels_apart p Expr-F.KeepOut Expr-F.KeepOut h = absurd (h variant.rolls-KeepOut)
+levels_apart p Expr-F.ContinueFromPreviousMatchEnd Expr-F.ContinueFromPreviousMatchEnd h =
     absurd (h variant.rolls-ContinueFromPreviousMatchEnd)
-levels_apart (Expr-F.Expr::BackrefExistsCondition _ _) (Expr-F.Expr::BackrefExistsCondition a b) h =
+levels_apart p (Expr-F.Expr::BackrefExistsCondition _ _) (Expr-F.Expr::BackrefExistsCondition a b) h =
     absurd (h a b (variant.rolls-BackrefExistsCondition a b))
-levels_apart (Expr-F.Conditional _ _ _) (Expr-F.Conditional a b c) h =
+levels_apart p (Expr-F.Conditional _ _ _) (Expr-F.Conditional a b c) h =
     absurd (h a b c (variant.rolls-Conditional a b c))
-levels_apart (Expr-F.Expr::SubroutineCall _) (Expr-F.Expr::SubroutineCall a) h =
+levels_apart p (Expr-F.Expr::SubroutineCall _) (Expr-F.Expr::SubroutineCall a) h =
     absurd (h a (variant.rolls-SubroutineCall a))
-levels_apart (Expr-F.BacktrackingControlVerb _) (Expr-F.BacktrackingControlVerb a) h =
+levels_apart p (Expr-F.BacktrackingControlVerb _) (Expr-F.BacktrackingControlVerb a) h =
     absurd (h a (variant.rolls-BacktrackingControlVerb a))
-levels_apart (Expr-F.Absent _) (Expr-F.Absent a) h = absurd (h a (variant.rolls-Absent a))
-levels_apart (Expr-F.DefineGroup _) (Expr-F.DefineGroup a) h = absurd (h a (variant.rolls-DefineGroup a))
-levels_apart (Expr-F.AstNode _ _) (Expr-F.AstNode a b) h = absurd (h a b (variant.rolls-AstNode a b))
-levels_apart (Expr-F.Absent a) (Expr-F.AstNode n p) h =
-    differ is_absent (view_absent a) (view_ast n p) true false (absent_is a) (node_is n p).1 (λ e. cc)
-levels_apart (Expr-F.AstNode n p) (Expr-F.Absent a) h =
-    differ is_absent (view_ast n p) (view_absent a) false true (node_is n p).1 (absent_is a) (λ e. cc)
-levels_apart (Expr-F.Absent a) v h = differ is_absent (view_absent a) (seen v) true false (absent_is a) refl (λ e. cc)
-levels_apart u (Expr-F.Absent a) h = differ is_absent (seen u) (view_absent a) false true refl (absent_is a) (λ e. cc)
-levels_apart (Expr-F.AstNode n p) v h = differ is_read (view_ast n p) (seen v) true false (node_is n p).0 refl (λ e. cc)
-levels_apart u (Expr-F.AstNode n p) h = differ is_read (seen u) (view_ast n p) false true refl (node_is n p).0 (λ e. cc)
-levels_apart _ _ h = refl
+levels_apart p (Expr-F.Absent _) (Expr-F.Absent a) h = absurd (h a (variant.rolls-Absent a))
+levels_apart p (Expr-F.DefineGroup _) (Expr-F.DefineGroup a) h = absurd (h a (variant.rolls-DefineGroup a))
+levels_apart p (Expr-F.AstNode _ _) (Expr-F.AstNode a b) h = absurd (h a b (variant.rolls-AstNode a b))
+levels_apart p (Expr-F.Absent a) (Expr-F.AstNode n q) h =
+    differ is_absent _ _ true false (absent_is p a) (node_is p n q).1 (λ e. cc)
+levels_apart p (Expr-F.AstNode n q) (Expr-F.Absent a) h =
+    differ is_absent _ _ false true (node_is p n q).1 (absent_is p a) (λ e. cc)
+levels_apart p (Expr-F.Absent a) v h = differ is_absent _ (placed p (seen v)) true false (absent_is p a) refl (λ e. cc)
+levels_apart p u (Expr-F.Absent a) h = differ is_absent (placed p (seen u)) _ false true refl (absent_is p a) (λ e. cc)
+levels_apart p (Expr-F.AstNode n q) v h =
+    differ is_read _ (placed p (seen v)) true false (node_is p n q).0 refl (λ e. cc)
+levels_apart p u (Expr-F.AstNode n q) h =
+    differ is_read (placed p (seen u)) _ false true refl (node_is p n q).0 (λ e. cc)
+levels_apart p _ _ h = refl
 
 seen_out : (x : Expr) → view x ≡ seen (out-Expr x)
 seen_out x = fold_out-Expr Tree (ℕ → Tree) Tree absent_step ast_step expr_step x
 
-pub apart : (x y : Expr) (u : Expr-F Absent AstNode Expr) → out-Expr x ≡ u → Other u y → false ≡ same (view x) (view y)
-apart x y u is other =
-    levels_apart u (out-Expr y) (subst (Other u) (sym (roll-out-Expr y)) other)
-    ∙ ap (λ t. same t (seen (out-Expr y))) (sym (seen_out x ∙ ap seen is)) ∙ ap (same (view x)) (sym (seen_out y))
+pub apart : (p : Bool) (x y : Expr) (u : Expr-F Absent AstNode Expr) → out-Expr x ≡ u → Other u y →
+    false ≡ same (placed p (view x)) (placed p (view y))
+apart p x y u is other =
+    levels_apart p u (out-Expr y) (subst (Other u) (sym (roll-out-Expr y)) other)
+    ∙ ap (λ t. same (placed p t) (placed p (seen (out-Expr y)))) (sym (seen_out x ∙ ap seen is))
+    ∙ ap (λ t. same (placed p (view x)) (placed p t)) (sym (seen_out y))

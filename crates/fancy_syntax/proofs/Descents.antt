@@ -36,6 +36,29 @@ levels_of_child e c same (i, (h, is)) =
 
 -- ---- the children that are left
 
+among_head : (c : Expr) (cs : List Expr) → IsAmong (c ∷ cs) c
+among_head c cs = (0, (omega arith, refl))
+
+among_tail : (c d : Expr) (cs : List Expr) → IsAmong cs d → IsAmong (c ∷ cs) d
+among_tail c d cs (i, (h, is)) = (suc i, (omega arith, is))
+
+-- those that are left are children of e
+pub record Within (e : Expr) (left : List Expr) : Type 0 where
+  pub inside : (c : Expr) → IsAmong left c → IsAmong (children_of e) c
+
+pub within_start : (e : Expr) (left : List Expr) → left ≡ children_of e → Within e left
+within_start e left h = record { inside = λ c a. subst (λ es. IsAmong es c) h a }
+
+pub within_head : (e c : Expr) (left more : List Expr) → Within e left → left ≡ c ∷ more → IsAmong (children_of e) c
+within_head e c left more s h = s.inside c (subst (λ es. IsAmong es c) (sym h) (among_head c more))
+
+pub within_next : (e c : Expr) (left more : List Expr) → Within e left → left ≡ c ∷ more → Within e more
+within_next e c left more s h = record {
+  inside = λ d a. s.inside d (subst (λ es. IsAmong es d) (sym h) (among_tail c d more a));
+}
+
+-- ---- a search among them
+
 -- P holds of c and of all that lies below it
 pub record HoldsFrom (P : Expr → Type 0) (c : Expr) : Type 0 where
   pub here : P c
@@ -45,12 +68,6 @@ pub record HoldsFrom (P : Expr → Type 0) (c : Expr) : Type 0 where
 pub record Sweep (P : Expr → Type 0) (e : Expr) (left : List Expr) : Type 0 where
   pub inside : (c : Expr) → IsAmong left c → IsAmong (children_of e) c
   pub done_or_left : (c : Expr) → IsAmong (children_of e) c → IsAmong left c ⊎ HoldsFrom P c
-
-among_head : (c : Expr) (cs : List Expr) → IsAmong (c ∷ cs) c
-among_head c cs = (0, (omega arith, refl))
-
-among_tail : (c d : Expr) (cs : List Expr) → IsAmong cs d → IsAmong (c ∷ cs) d
-among_tail c d cs (i, (h, is)) = (suc i, (omega arith, is))
 
 among_cases : (c d : Expr) (cs : List Expr) (i : ℕ) → i < length (c ∷ cs) → d ≡ get_or (c ∷ cs) i d →
     (d ≡ c) ⊎ IsAmong cs d

@@ -18,3 +18,6 @@ pub mod PartLemmas
 -- ---- printing
 pub mod PrintLemmas
 mod EmptyLemmas
+-- ---- the texts of all trees
+pub mod SinkLemmas
+pub mod MarksLemmas

@@ -1,50 +1,85 @@
 -- Whether two lists have the same trees.
 use Rattle.std.proofs.Common.{◌≡◌, ◌≢◌, ℕ, ◌+◌, ◌<◌, ◌≤◌, Bool, true, false, List, [], ◌∷◌, ◌++◌, length, take, get_or}
-use Rattle.std.proofs.Common.{◌∙◌, refl, ap, sym, true≢false}
+use Rattle.std.proofs.Common.{◌∙◌, refl, ap, sym, map, true≢false}
 use Rattle.std.specs.Bool.{Decides}
 use Rattle.std.proofs.lemmas.List.{get_or-map, length-map, map_more, take_all}
 use Rattle.fancy_syntax.proofs.ChildrenLemmas.{list_of_trees_of}
+use Rattle.fancy_grammar.specs.Placed.{placed, placed_all}
+use Rattle.fancy_grammar.specs.ReadAs.{unplaced}
 use Rattle.fancy_grammar.specs.Same.{same, same_all}
+use Rattle.fancy_grammar.proofs.ReadAsLaws.{placed_is, unplaced_is}
 use Rattle.fancy_grammar.proofs.SameLaws.{same-Decides, all-Decides}
-use Rattle.fancy_grammar.specs.Tree.{Tree, list_of, trees_of}
+use Rattle.fancy_grammar.specs.Tree.{Tree, list_of, more_trees, trees_of}
 use Rattle.fancy_syntax.specs.View.{view, views}
 use Rattle.fancy_syntax.specs.declared.expr.Expr.{Expr}
 
-same_lists : (s t : List Tree) → Decides (same_all (trees_of s) (trees_of t)) (s ≡ t)
-same_lists s t = (
-  λ e. sym (list_of_trees_of s) ∙ ap list_of ((all-Decides (trees_of s) (trees_of t)).0 e) ∙ list_of_trees_of t,
-  λ e. (all-Decides (trees_of s) (trees_of t)).1 (ap trees_of e),
-)
+-- ---- with all places, and with none
+
+pub same_with_places : (s t : Tree) → same (placed true s) (placed true t) ≡ same s t
+same_with_places s t = λ i. same (placed_is s i) (placed_is t i)
+
+pub same_without_places : (s t : Tree) → same (placed false s) (placed false t) ≡ same (unplaced s) (unplaced t)
+same_without_places s t = λ i. same (unplaced_is s i) (unplaced_is t i)
+
+-- ---- lists
+
+abbrev pub placed_view : Bool → Expr → Tree
+placed_view p x = placed p (view x)
+
+abbrev pub placed_views : Bool → List Expr → List Tree
+placed_views p = map (placed_view p)
+
+placed_all_views : (p : Bool) (xs : List Expr) → placed_all p (trees_of (views xs)) ≡ trees_of (placed_views p xs)
+placed_all_views p [] = refl
+placed_all_views p (x ∷ xs) = ap (more_trees (placed_view p x)) (placed_all_views p xs)
+
+same_lists : (p : Bool) (xs ys : List Expr) →
+    Decides (same_all (placed_all p (trees_of (views xs))) (placed_all p (trees_of (views ys))))
+    (placed_views p xs ≡ placed_views p ys)
+same_lists p xs ys =
+    let there : same_all (placed_all p (trees_of (views xs))) (placed_all p (trees_of (views ys)))
+    ≡ same_all (trees_of (placed_views p xs)) (trees_of (placed_views p ys)) =
+    λ i. same_all (placed_all_views p xs i) (placed_all_views p ys i) in
+    let decides = all-Decides (trees_of (placed_views p xs)) (trees_of (placed_views p ys)) in (
+      λ e. sym (list_of_trees_of (placed_views p xs)) ∙ ap list_of (decides.0 (sym there ∙ e))
+          ∙ list_of_trees_of (placed_views p ys),
+      λ e. there ∙ decides.1 (ap trees_of e),
+    )
 
 false_unless : (r : Bool) → ¬ (r ≡ true) → false ≡ r
 false_unless true h = absurd (h refl)
 false_unless false h = refl
 
-pub same_all_lengths : (xs ys : List Expr) → length xs ≢ length ys →
-    false ≡ same_all (trees_of (views xs)) (trees_of (views ys))
-same_all_lengths xs ys h =
-    false_unless _ (λ e. h (sym (length-map xs view) ∙ ap length ((same_lists _ _).0 e) ∙ length-map ys view))
+pub same_all_lengths : (p : Bool) (xs ys : List Expr) → length xs ≢ length ys →
+    false ≡ same_all (placed_all p (trees_of (views xs))) (placed_all p (trees_of (views ys)))
+same_all_lengths p xs ys h =
+    false_unless _ (λ e. h (sym (length-map xs (placed_view p)) ∙ ap length ((same_lists p xs ys).0 e)
+    ∙ length-map ys (placed_view p)))
 
-pub same_all_here : (xs ys : List Expr) (i : ℕ) (x y : Expr) → i < length xs → i < length ys → x ≡ get_or xs i x →
-    y ≡ get_or ys i y
-    → same (view x) (view y) ≡ false → false ≡ same_all (trees_of (views xs)) (trees_of (views ys))
-same_all_here xs ys i x y h k ex ey d =
+pub same_all_here : (p : Bool) (xs ys : List Expr) (i : ℕ) (x y : Expr) → i < length xs → i < length ys →
+    x ≡ get_or xs i x → y ≡ get_or ys i y → same (placed p (view x)) (placed p (view y)) ≡ false →
+    false ≡ same_all (placed_all p (trees_of (views xs))) (placed_all p (trees_of (views ys)))
+same_all_here p xs ys i x y h k ex ey d =
     false_unless _ (λ e.
-    let at : view x ≡ view y = ap view ex ∙ sym (get_or-map view xs i x (view x) h)
-    ∙ ap (λ ts. get_or ts i (view x)) ((same_lists _ _).0 e) ∙ get_or-map view ys i y (view x) k
-    ∙ ap view (sym ey) in
-    true≢false (sym ((same-Decides (view x) (view y)).1 at) ∙ d))
+    let v = placed_view p in
+    let at : v x ≡ v y = ap v ex ∙ sym (get_or-map v xs i x (v x) h)
+    ∙ ap (λ ts. get_or ts i (v x)) ((same_lists p xs ys).0 e) ∙ get_or-map v ys i y (v x) k
+    ∙ ap v (sym ey) in
+    true≢false (sym ((same-Decides (v x) (v y)).1 at) ∙ d))
 
-pub same_all_all : (xs ys : List Expr) (n : ℕ) → length xs ≤ n → length ys ≤ n → views (take n xs) ≡ views (take n ys) →
-    true ≡ same_all (trees_of (views xs)) (trees_of (views ys))
-same_all_all xs ys n h k e =
-    sym ((same_lists _ _).1 (ap views (sym (take_all n xs h)) ∙ e ∙ ap views (take_all n ys k)))
+pub same_all_all : (p : Bool) (xs ys : List Expr) (n : ℕ) → length xs ≤ n → length ys ≤ n →
+    placed_views p (take n xs) ≡ placed_views p (take n ys) →
+    true ≡ same_all (placed_all p (trees_of (views xs))) (placed_all p (trees_of (views ys)))
+same_all_all p xs ys n h k e =
+    sym ((same_lists p xs ys).1
+    (ap (placed_views p) (sym (take_all n xs h)) ∙ e ∙ ap (placed_views p) (take_all n ys k)))
 
-pub same_all_more : (xs ys : List Expr) (i : ℕ) (x y : Expr) → i < length xs → i < length ys → x ≡ get_or xs i x →
-    y ≡ get_or ys i y
-    → views (take i xs) ≡ views (take i ys) → same (view x) (view y) ≡ true →
-    views (take (i + 1) xs) ≡ views (take (i + 1) ys)
-same_all_more xs ys i x y h k ex ey before e =
-    map_more view xs i x h ∙ ap (λ d. views (take i xs) ++ view d ∷ []) (sym ex) ∙ ap (λ ts. ts ++ view x ∷ []) before
-    ∙ ap (λ v. views (take i ys) ++ v ∷ []) ((same-Decides (view x) (view y)).0 e)
-    ∙ ap (λ d. views (take i ys) ++ view d ∷ []) ey ∙ sym (map_more view ys i y k)
+pub same_all_more : (p : Bool) (xs ys : List Expr) (i : ℕ) (x y : Expr) → i < length xs → i < length ys →
+    x ≡ get_or xs i x → y ≡ get_or ys i y → placed_views p (take i xs) ≡ placed_views p (take i ys) →
+    same (placed p (view x)) (placed p (view y)) ≡ true →
+    placed_views p (take (i + 1) xs) ≡ placed_views p (take (i + 1) ys)
+same_all_more p xs ys i x y h k ex ey before e =
+    let v = placed_view p in
+    map_more v xs i x h ∙ ap (λ d. map v (take i xs) ++ v d ∷ []) (sym ex) ∙ ap (λ ts. ts ++ v x ∷ []) before
+    ∙ ap (λ t. map v (take i ys) ++ t ∷ []) ((same-Decides (v x) (v y)).0 e)
+    ∙ ap (λ d. map v (take i ys) ++ v d ∷ []) ey ∙ sym (map_more v ys i y k)

@@ -39,3 +39,6 @@ pub mod Machine
 pub mod Room
 -- ---- the resolver's walks
 pub mod Notes
+-- ---- the writing of texts
+pub mod Sink
+pub mod Wheres

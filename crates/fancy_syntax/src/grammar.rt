@@ -12,9 +12,9 @@ mod frame;
 mod group;
 mod parser;
 mod plain;
-mod quantified;
+pub(crate) mod quantified;
 mod reference;
-mod state;
+pub(crate) mod state;
 mod step;
 mod trees;
 

@@ -15,6 +15,7 @@
 
 pub mod expr;
 mod grammar;
+mod pattern;
 pub mod print;
 mod resolve;
 pub mod tree;

@@ -64,7 +64,7 @@ pub fn back_reference(text: &str) -> Result<(Reference<'_>, &str), Failure>
 
 /// Whether the name of a call is relative: a sign alone, or a sign and a number text.
 #[tactic(auto, unfolding(crate::specs::EscapeReference::is_relative))]
-fn is_relative(name: &str) -> bool
+pub fn is_relative(name: &str) -> bool
     ensures { result ≡ spec.is_relative (chars name.now) }
 {
     let Some((sign, rest)) = next(name) else {

@@ -1,6 +1,8 @@
 //! Equality of trees: the same variant and the same fields.
-ghost use Rattle.std.specs.Prelude.{chars, ◌≡◌, ◌↔◌, IsTrue, option_map};
+ghost use Rattle.std.specs.Prelude.{chars, ◌≡◌, ◌↔◌, IsTrue, nat_eq, option_map};
 ghost use Rattle.std.specs.Cmp.{on_per, on_equiv, partial_equiv_from_equiv};
+ghost use Rattle.fancy_grammar.specs.Placed.{place_if, placed, placed_all};
+ghost use Rattle.fancy_grammar.specs.ReadAs.{unplaced};
 ghost use Rattle.fancy_grammar.specs.Same.{same, same_all, same_name};
 ghost use Rattle.fancy_grammar.proofs.SameLaws.{same-equiv};
 ghost use Rattle.fancy_grammar.specs.Tree.{trees_of};
@@ -18,7 +20,7 @@ impl PartialEq for AstNode {
         ensures value { result ≡ same (view_ast self.now 0) (view_ast other.now 0) }
         ensures decides { IsTrue result ↔ (view_ast self.now 0 ≡ view_ast other.now 0) }
     {
-        is_same_node(self, 0, other, 0)
+        is_same_node(self, 0, other, 0, true)
     }
 }
 
@@ -35,7 +37,7 @@ impl PartialEq for Absent {
         ensures value { result ≡ same (view_absent self.now) (view_absent other.now) }
         ensures decides { IsTrue result ↔ (view_absent self.now ≡ view_absent other.now) }
     {
-        is_same_absent(self, other)
+        is_same_absent(self, other, true)
     }
 }
 
@@ -52,7 +54,7 @@ impl PartialEq for Expr {
         ensures value { result ≡ same (view self.now) (view other.now) }
         ensures decides { IsTrue result ↔ (view self.now ≡ view other.now) }
     {
-        is_same(self, other)
+        is_same(self, other, true)
     }
 }
 
@@ -60,10 +62,33 @@ impl Eq for Expr {
     ghost laws = { on_equiv view same-equiv };
 }
 
+impl Expr {
+    /// Whether the trees are the same, but for the places in AstNodes.
+    pub fn is_same_but_for_places(&self, other: &Expr) -> bool
+        ensures { IsTrue result ↔ (unplaced (view self.now) ≡ unplaced (view other.now)) }
+    {
+        is_same(self, other, false)
+    }
+}
+
+/// Whether the places are the same, where that is asked.
+fn is_same_place(place: usize, other: usize, with_places: bool) -> bool
+    ensures { result ≡ nat_eq (place_if with_places place) (place_if with_places other) }
+{
+    !with_places || place == other
+}
+
 /// Whether the nodes are the same.
 #[cycle(same)]
-fn is_same_node(node: &AstNode, place: usize, other: &AstNode, other_place: usize) -> bool
-    ensures { result ≡ same (view_ast node.now place) (view_ast other.now other_place) }
+fn is_same_node(
+    node: &AstNode,
+    place: usize,
+    other: &AstNode,
+    other_place: usize,
+    with_places: bool,
+) -> bool
+    ensures { result ≡ same (placed with_places (view_ast node.now place))
+        (placed with_places (view_ast other.now other_place)) }
 {
     match node {
         AstNode::AstGroup { name, inner } => match other {
@@ -71,8 +96,8 @@ fn is_same_node(node: &AstNode, place: usize, other: &AstNode, other_place: usiz
                 name: other_name,
                 inner: other_inner,
             } => is_same_name(name.as_deref(), other_name.as_deref())
-                && place == other_place
-                && is_same_child(inner, other_inner),
+                && is_same_place(place, other_place, with_places)
+                && is_same_child(inner, other_inner, with_places),
             AstNode::Backref { .. }
             | AstNode::SubroutineCall(_)
             | AstNode::BackrefExistsCondition { .. } => false,
@@ -89,14 +114,14 @@ fn is_same_node(node: &AstNode, place: usize, other: &AstNode, other_place: usiz
             } => *target == *other_target
                 && *casei == *other_casei
                 && *relative_recursion_level == *other_level
-                && place == other_place,
+                && is_same_place(place, other_place, with_places),
             AstNode::AstGroup { .. }
             | AstNode::SubroutineCall(_)
             | AstNode::BackrefExistsCondition { .. } => false,
         },
         AstNode::SubroutineCall(target) => match other {
             AstNode::SubroutineCall(other_target) => *target == *other_target
-                && place == other_place,
+                && is_same_place(place, other_place, with_places),
             AstNode::AstGroup { .. }
             | AstNode::Backref { .. }
             | AstNode::BackrefExistsCondition { .. } => false,
@@ -110,7 +135,7 @@ fn is_same_node(node: &AstNode, place: usize, other: &AstNode, other_place: usiz
                 relative_recursion_level: other_level,
             } => *target == *other_target
                 && *relative_recursion_level == *other_level
-                && place == other_place,
+                && is_same_place(place, other_place, with_places),
             AstNode::AstGroup { .. } | AstNode::Backref { .. } | AstNode::SubroutineCall(_) =>
                 false,
         },
@@ -119,23 +144,24 @@ fn is_same_node(node: &AstNode, place: usize, other: &AstNode, other_place: usiz
 
 /// Whether the absent forms are the same.
 #[cycle(same)]
-fn is_same_absent(absent: &Absent, other: &Absent) -> bool
-    ensures { result ≡ same (view_absent absent.now) (view_absent other.now) }
+fn is_same_absent(absent: &Absent, other: &Absent, with_places: bool) -> bool
+    ensures { result ≡ same (placed with_places (view_absent absent.now)) (placed with_places (view_absent other.now)) }
 {
     match absent {
         Absent::Repeater(child) => match other {
-            Absent::Repeater(other_child) => is_same_child(child, other_child),
+            Absent::Repeater(other_child) => is_same_child(child, other_child, with_places),
             Absent::Expression { .. } | Absent::Stopper(_) | Absent::Clear => false,
         },
         Absent::Expression { absent, exp } => match other {
             Absent::Expression {
                 absent: other_absent,
                 exp: other_exp,
-            } => is_same_child(absent, other_absent) && is_same_child(exp, other_exp),
+            } => is_same_child(absent, other_absent, with_places)
+                && is_same_child(exp, other_exp, with_places),
             Absent::Repeater(_) | Absent::Stopper(_) | Absent::Clear => false,
         },
         Absent::Stopper(child) => match other {
-            Absent::Stopper(other_child) => is_same_child(child, other_child),
+            Absent::Stopper(other_child) => is_same_child(child, other_child, with_places),
             Absent::Repeater(_) | Absent::Expression { .. } | Absent::Clear => false,
         },
         Absent::Clear => matches!(other, Absent::Clear),
@@ -144,8 +170,8 @@ fn is_same_absent(absent: &Absent, other: &Absent) -> bool
 
 /// Whether the trees are the same.
 #[cycle(same)]
-fn is_same(tree: &Expr, other: &Expr) -> bool
-    ensures { result ≡ same (view tree.now) (view other.now) }
+fn is_same(tree: &Expr, other: &Expr, with_places: bool) -> bool
+    ensures { result ≡ same (placed with_places (view tree.now)) (placed with_places (view other.now)) }
 {
     match tree {
         Expr::Empty => matches!(other, Expr::Empty),
@@ -178,20 +204,20 @@ fn is_same(tree: &Expr, other: &Expr) -> bool
             _ => false,
         },
         Expr::Concat(parts) => match other {
-            Expr::Concat(other_parts) => is_same_list(parts, other_parts),
+            Expr::Concat(other_parts) => is_same_list(parts, other_parts, with_places),
             _ => false,
         },
         Expr::Alt(branches) => match other {
-            Expr::Alt(other_branches) => is_same_list(branches, other_branches),
+            Expr::Alt(other_branches) => is_same_list(branches, other_branches, with_places),
             _ => false,
         },
         Expr::Group(child) => match other {
-            Expr::Group(other_child) => is_same_child(child, other_child),
+            Expr::Group(other_child) => is_same_child(child, other_child, with_places),
             _ => false,
         },
         Expr::LookAround(child, look) => match other {
             Expr::LookAround(other_child, other_look) => *look == *other_look
-                && is_same_child(child, other_child),
+                && is_same_child(child, other_child, with_places),
             _ => false,
         },
         Expr::Repeat {
@@ -208,7 +234,7 @@ fn is_same(tree: &Expr, other: &Expr) -> bool
             } => *lo == *other_lo
                 && *hi == *other_hi
                 && *greedy == *other_greedy
-                && is_same_child(child, other_child),
+                && is_same_child(child, other_child, with_places),
             _ => false,
         },
         Expr::Delegate { inner, casei } => match other {
@@ -240,7 +266,7 @@ fn is_same(tree: &Expr, other: &Expr) -> bool
             _ => false,
         },
         Expr::AtomicGroup(child) => match other {
-            Expr::AtomicGroup(other_child) => is_same_child(child, other_child),
+            Expr::AtomicGroup(other_child) => is_same_child(child, other_child, with_places),
             _ => false,
         },
         Expr::KeepOut => matches!(other, Expr::KeepOut),
@@ -264,9 +290,9 @@ fn is_same(tree: &Expr, other: &Expr) -> bool
                 condition: other_condition,
                 true_branch: other_true_branch,
                 false_branch: other_false_branch,
-            } => is_same_child(condition, other_condition)
-                && is_same_child(true_branch, other_true_branch)
-                && is_same_child(false_branch, other_false_branch),
+            } => is_same_child(condition, other_condition, with_places)
+                && is_same_child(true_branch, other_true_branch, with_places)
+                && is_same_child(false_branch, other_false_branch, with_places),
             _ => false,
         },
         Expr::SubroutineCall(group) => match other {
@@ -278,13 +304,13 @@ fn is_same(tree: &Expr, other: &Expr) -> bool
             _ => false,
         },
         Expr::Absent(absent) => match other {
-            Expr::Absent(other_absent) => is_same_absent(absent, other_absent),
+            Expr::Absent(other_absent) => is_same_absent(absent, other_absent, with_places),
             _ => false,
         },
         Expr::DefineGroup { definitions } => match other {
             Expr::DefineGroup {
                 definitions: other_definitions,
-            } => is_same_child(definitions, other_definitions),
+            } => is_same_child(definitions, other_definitions, with_places),
             _ => false,
         },
         Expr::AstNode(node, place) => match other {
@@ -293,6 +319,7 @@ fn is_same(tree: &Expr, other: &Expr) -> bool
                 *place,
                 other_node,
                 *other_place,
+                with_places,
             ),
             _ => false,
         },
@@ -314,22 +341,23 @@ fn is_same_name(name: Option<&str>, other: Option<&str>) -> bool
 
 /// Whether the trees in the boxes are the same.
 #[cycle(same)]
-fn is_same_child(child: &Box<Expr>, other: &Box<Expr>) -> bool
-    ensures { result ≡ same (view child.now.value) (view other.now.value) }
+fn is_same_child(child: &Box<Expr>, other: &Box<Expr>, with_places: bool) -> bool
+    ensures { result ≡ same (placed with_places (view child.now.value)) (placed with_places (view other.now.value)) }
 {
-    is_same(child, other)
+    is_same(child, other, with_places)
 }
 
 /// Whether the lists hold the same trees, one by one.
 #[cycle(same)]
-fn is_same_list(trees: &[Expr], others: &[Expr]) -> bool
-    ensures { result ≡ same_all (trees_of (views trees.now)) (trees_of (views others.now)) }
+fn is_same_list(trees: &[Expr], others: &[Expr], with_places: bool) -> bool
+    ensures { result ≡ same_all (placed_all with_places (trees_of (views trees.now)))
+        (placed_all with_places (trees_of (views others.now))) }
 {
     if trees.len() != others.len() {
         return false;
     }
     for i in 0..trees.len() {
-        if !is_same(&trees[i], &others[i]) {
+        if !is_same(&trees[i], &others[i], with_places) {
             return false;
         }
     }

@@ -29,7 +29,7 @@ pub(crate) struct Suffix {
 }
 
 /// Whether a quantifier may follow the tree; in Oniguruma mode none follows an assertion.
-fn is_repeatable(flags: Flags, tree: &Expr) -> bool
+pub(crate) fn is_repeatable(flags: Flags, tree: &Expr) -> bool
     ensures { result ≡ spec.is_repeatable flags (view tree.now) }
 {
     match tree {

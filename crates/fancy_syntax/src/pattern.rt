@@ -1,0 +1,71 @@
+//! The text of any tree that is read, for the flags that its pattern was read under.
+ghost use Rattle.std.specs.Prelude.{chars, string_bytes, IfOk, IfSome};
+ghost use Rattle.fancy_lex.specs.Flags.{flags_of};
+ghost use Rattle.fancy_grammar.specs.ReadAs.{IsReadAs};
+ghost use Rattle.fancy_syntax.specs.Answer.{marks_of};
+ghost use Rattle.fancy_syntax.specs.View.{view};
+
+mod counter;
+mod flags;
+mod group;
+mod here;
+mod leaf;
+mod letters;
+mod names;
+mod needs;
+mod parting;
+mod quantifier;
+mod reference;
+mod same;
+mod sink;
+mod source;
+mod write;
+
+use crate::pattern::counter::Counter;
+use crate::pattern::here::Here;
+use crate::pattern::names::Known;
+use crate::pattern::needs::{all_needs, common_needs};
+use crate::pattern::same::is_read_as;
+use crate::pattern::write::put_pattern;
+use crate::tree::ExprTree;
+use fancy_lex::flags::Flags;
+use std::alloc::{AllocError, Global};
+
+impl ExprTree {
+    /// Returns a pattern that is parsed, under the same flags, as this tree with the same group information; only the
+    /// position in an `AstNode` may differ. Pass the flags that the tree was parsed under. Returns `None` if the pattern
+    /// that is written for the tree is not parsed so: if the flags are others, or the tree was changed to one that no
+    /// pattern is parsed as. Returns `AllocError` if out of memory.
+    ///
+    /// ```rust
+    /// let tree = Expr::parse_tree_with_flags(alloc, "(?<n>a)\\k<n>++", flags)?;
+    /// if let Some(text) = tree.to_pattern(alloc, flags)? {
+    ///     println!(rt; "{text}")?;
+    /// }
+    /// ```
+    pub fn to_pattern(&self, alloc: Global, flags: u32) -> Result<Option<String>, AllocError>
+        ensures reads_back { IfOk result (λ t. IfSome t (λ s.
+            IsReadAs (flags_of flags) (chars (string_bytes s)) (view self.now.expr) (marks_of self.now))) }
+    {
+        let text = pattern_text(alloc, self, Flags::from_bits(flags))?;
+        if is_read_as(alloc, text.as_str(), flags, self)? {
+            Ok(Some(text))
+        } else {
+            Ok(None)
+        }
+    }
+}
+
+/// The tree's text. It is counted first, so that the string takes memory once.
+fn pattern_text(alloc: Global, tree: &ExprTree, flags: Flags) -> Result<String, AllocError> {
+    let known = Known::new(alloc, tree)?;
+    let needs = all_needs(alloc, &tree.expr, flags.oniguruma_mode)?;
+    let here = Here::at_start(flags, needs.as_slice());
+    let agreed = common_needs(&tree.expr, flags.oniguruma_mode);
+    let mut counter = Counter::new();
+    put_pattern(&mut counter, &known, &tree.expr, agreed, here)?;
+    let mut text = String::new(alloc);
+    text.reserve(counter.bytes)?;
+    put_pattern(&mut text, &known, &tree.expr, agreed, here)?;
+    Ok(text)
+}

@@ -1,0 +1,133 @@
+//! Trees that hold no other.
+ghost use Rattle.std.specs.Prelude.{◌≡◌, nat_lt, true};
+ghost use Rattle.std.specs.List.{list_all};
+
+use crate::expr::{Assertion, BacktrackingControlVerb, Expr};
+use crate::pattern::here::Here;
+use crate::pattern::letters::{put_bytes, put_literal};
+use crate::pattern::names::Known;
+use crate::pattern::reference::{
+    put_backref, put_backref_at_level, put_call, put_target, put_unresolved,
+};
+use crate::pattern::sink::{Sink, put_ascii};
+use crate::pattern::source::put_delegate;
+use fancy_lex::flags::Flags;
+use std::alloc::AllocError;
+
+/// The text of any character.
+fn any_text(newline: bool, crlf: bool, flags: Flags) -> &'static str
+    ensures { list_all (λ b. nat_lt b 128) result.now ≡ true }
+{
+    if newline == flags.dotnl && crlf == flags.crlf {
+        "."
+    } else if newline {
+        r"\O"
+    } else {
+        r"\N"
+    }
+}
+
+/// The text of an assertion.
+fn assertion_text(assertion: Assertion, flags: Flags) -> &'static str
+    ensures { list_all (λ b. nat_lt b 128) result.now ≡ true }
+{
+    match assertion {
+        Assertion::StartText => if flags.multi { r"\A" } else { "^" },
+        Assertion::EndText => if flags.multi { r"\z" } else { "$" },
+        Assertion::EndTextIgnoreTrailingNewlines { .. } => r"\Z",
+        Assertion::StartLine { .. } => "^",
+        Assertion::StartLineOniguruma { .. } => "^",
+        Assertion::EndLine { .. } => "$",
+        Assertion::WordBoundary => r"\b",
+        Assertion::NotWordBoundary => r"\B",
+        Assertion::LeftWordBoundary => if flags.oniguruma_mode {
+            r"\b{start}"
+        } else {
+            r"\<"
+        },
+        Assertion::RightWordBoundary => if flags.oniguruma_mode {
+            r"\b{end}"
+        } else {
+            r"\>"
+        },
+        Assertion::LeftWordHalfBoundary => r"\b{start-half}",
+        Assertion::RightWordHalfBoundary => r"\b{end-half}",
+    }
+}
+
+/// The name of a verb, as it stands in the parentheses.
+pub(super) fn verb_name(verb: BacktrackingControlVerb) -> &'static str
+    ensures { list_all (λ b. nat_lt b 128) result.now ≡ true }
+{
+    match verb {
+        BacktrackingControlVerb::Fail => "*FAIL",
+        BacktrackingControlVerb::Accept => "*ACCEPT",
+        BacktrackingControlVerb::Commit => "*COMMIT",
+        BacktrackingControlVerb::Skip => "*SKIP",
+        BacktrackingControlVerb::Prune => "*PRUNE",
+    }
+}
+
+/// Writes a verb.
+fn put_verb<S: Sink>(out: &mut S, verb: BacktrackingControlVerb) -> Result<(), AllocError> {
+    out.put('(')?;
+    put_ascii(out, verb_name(verb))?;
+    out.put(')')
+}
+
+/// Writes a condition on a group that stands alone.
+fn put_condition_alone<S: Sink>(
+    out: &mut S,
+    known: &Known,
+    group: usize,
+    level: Option<isize>,
+) -> Result<(), AllocError> {
+    put_ascii(out, "(?(")?;
+    put_target(out, known, group, level)?;
+    put_ascii(out, "))")
+}
+
+/// Writes a reference.
+fn put_reference<S: Sink>(
+    out: &mut S,
+    known: &Known,
+    leaf: &Expr,
+    here: Here,
+) -> Result<(), AllocError> {
+    match leaf {
+        Expr::Backref { group, .. } => put_backref(out, known, *group, here),
+        Expr::BackrefWithRelativeRecursionLevel {
+            group,
+            relative_level,
+            ..
+        } => put_backref_at_level(out, known, *group, *relative_level, here),
+        Expr::BackrefExistsCondition {
+            group,
+            relative_recursion_level,
+        } => put_condition_alone(out, known, *group, *relative_recursion_level),
+        Expr::SubroutineCall(group) => put_call(out, known, *group, here),
+        Expr::AstNode(node, _) => put_unresolved(out, node),
+        _ => Ok(()),
+    }
+}
+
+/// Writes a leaf where its flags are set.
+pub(super) fn put_leaf<S: Sink>(
+    out: &mut S,
+    known: &Known,
+    leaf: &Expr,
+    here: Here,
+) -> Result<(), AllocError> {
+    match leaf {
+        Expr::Any { newline, crlf } => put_ascii(out, any_text(*newline, *crlf, here.flags)),
+        Expr::Assertion(assertion) => put_ascii(out, assertion_text(*assertion, here.flags)),
+        Expr::GeneralNewline { .. } => put_ascii(out, r"\R"),
+        Expr::Literal { val, casei } => put_literal(out, val.as_str(), *casei, here.flags),
+        Expr::LiteralBytes { bytes } => put_bytes(out, bytes.as_slice()),
+        Expr::Delegate { inner, casei } => put_delegate(out, inner.as_str(), *casei, here.flags),
+        Expr::KeepOut => put_ascii(out, r"\K"),
+        Expr::ContinueFromPreviousMatchEnd => put_ascii(out, r"\G"),
+        Expr::BacktrackingControlVerb(verb) => put_verb(out, *verb),
+        _ => put_reference(out, known, leaf, here),
+    }
+}

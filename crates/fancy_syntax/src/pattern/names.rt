@@ -1,0 +1,89 @@
+//! The names of groups, by their numbers.
+use crate::tree::ExprTree;
+use fancy_lex::name::id::id_reference;
+use fancy_lex::name::number_text::number_text;
+use std::alloc::{AllocError, Global};
+use std::collections::BTreeMap;
+
+/// A group's name.
+#[derive(Clone, Copy, Drop)]
+pub(super) struct Name<'a> {
+    /// The name.
+    pub(super) text: &'a str,
+    /// Whether it is an id, and no number text.
+    is_plain: bool,
+    /// Whether the group is the last of this name.
+    pub(super) is_last: bool,
+    /// Whether it is the only one.
+    pub(super) is_only: bool,
+}
+
+/// What the text of a tree depends on beside the tree.
+#[derive(Drop)]
+pub(super) struct Known<'a> {
+    /// For each group that has a name, by its number, that name.
+    names: BTreeMap<usize, Name<'a>>,
+    /// Some reference is written as a number, and so is each.
+    pub(super) is_numeric: bool,
+    /// Some call is by the number 0.
+    pub(super) self_recursive: bool,
+}
+
+/// Whether the name is an id, and no number text.
+fn is_plain_name(name: &str) -> bool {
+    id_reference(name, false).is_some() && number_text(name).is_none()
+}
+
+/// Adds the name for each of the numbers that has none.
+fn add_name<'a>(
+    names: &mut BTreeMap<usize, Name<'a>>,
+    text: &'a str,
+    numbers: &[usize],
+) -> Result<(), AllocError> {
+    let is_plain = is_plain_name(text);
+    for (i, number) in numbers.iter().enumerate() {
+        if !names.contains_key(number) {
+            let is_last = i + 1 == numbers.len();
+            let is_only = is_last && i == 0;
+            names.insert(
+                *number,
+                Name {
+                    text,
+                    is_plain,
+                    is_last,
+                    is_only,
+                },
+            )?;
+        }
+    }
+    Ok(())
+}
+
+impl<'a> Known<'a> {
+    /// What is known of the tree.
+    pub(super) fn new(alloc: Global, tree: &'a ExprTree) -> Result<Known<'a>, AllocError> {
+        let mut names = BTreeMap::new(alloc);
+        for (name, numbers) in &tree.named_groups {
+            add_name(&mut names, name.as_str(), numbers.as_slice())?;
+        }
+        Ok(Known {
+            names,
+            is_numeric: tree.numeric_capture_group_references,
+            self_recursive: tree.self_recursive,
+        })
+    }
+
+    /// The name of the group.
+    pub(super) fn name_of(&self, group: usize) -> Option<Name<'a>> {
+        self.names.get(&group).copied()
+    }
+
+    /// The name that references to the group are written by, where they are written by one.
+    pub(super) fn plain_name_of(&self, group: usize) -> Option<Name<'a>> {
+        if self.is_numeric {
+            return None;
+        }
+        let name = self.name_of(group)?;
+        if name.is_plain { Some(name) } else { None }
+    }
+}

@@ -1,0 +1,242 @@
+//! What a tree needs of the flags that a text sets.
+ghost use Rattle.std.specs.Prelude.{◌≡◌, Bool, chars};
+ghost use Rattle.std.specs.List.{list_all};
+ghost use Rattle.fancy_grammar.specs.Label.{literal, delegate};
+ghost use Rattle.fancy_grammar.specs.PatternNeeds as spec;
+
+use crate::expr::{Assertion, Expr};
+use crate::pattern::parting::is_text;
+use fancy_grammar::needs::{Need, Needs};
+use fancy_lex::flags::Flags;
+use fancy_lex::text::next;
+use std::alloc::{AllocError, Global};
+
+/// Nothing.
+pub(super) fn no_needs() -> Needs
+    ensures { result ≡ spec.no_needs }
+{
+    Needs {
+        casei: Need::Free,
+        multi: Need::Free,
+        dotnl: Need::Free,
+        crlf: Need::Free,
+    }
+}
+
+/// The case flag as it is told.
+fn needs_case(casei: bool) -> Needs
+    ensures { result ≡ spec.needs_case casei }
+{
+    Needs {
+        casei: Need::Fixed(casei),
+        ..no_needs()
+    }
+}
+
+/// Lines, which end so.
+fn needs_line(crlf: bool) -> Needs
+    ensures { result ≡ spec.needs_line crlf }
+{
+    Needs {
+        multi: Need::Fixed(true),
+        crlf: Need::Fixed(crlf),
+        ..no_needs()
+    }
+}
+
+/// Whether each character stands behind a backslash for itself with its case kept, whatever the flags.
+fn are_kept_by_backslash(text: &str, oniguruma_mode: bool) -> bool
+    ensures { result ≡ list_all (spec.is_kept_by_backslash oniguruma_mode) (chars text.now) }
+{
+    let mut rest = text;
+    while let Some((c, behind)) = next(rest) {
+        if c.is_ascii_alphanumeric() || !oniguruma_mode && (c == '<' || c == '>') {
+            return false;
+        }
+        rest = behind;
+    }
+    true
+}
+
+/// Whether the text is what `\h` or `\H` is read as.
+fn is_hex_class(text: &str) -> bool
+    ensures { result ≡ spec.is_hex_class (chars text.now) }
+{
+    is_text(text, "[0-9A-Fa-f]") || is_text(text, "[^0-9A-Fa-f]")
+}
+
+/// What an assertion needs.
+fn assertion_needs(assertion: Assertion) -> Needs
+    ensures { result ≡ spec.assertion_needs assertion }
+{
+    match assertion {
+        Assertion::StartLine { crlf }
+        | Assertion::StartLineOniguruma { crlf }
+        | Assertion::EndLine { crlf } => needs_line(crlf),
+        Assertion::EndTextIgnoreTrailingNewlines { crlf } => Needs {
+            crlf: Need::Fixed(crlf),
+            ..no_needs()
+        },
+        _ => no_needs(),
+    }
+}
+
+/// A dot with these fields.
+fn needs_dot(newline: bool, crlf: bool) -> Needs
+    ensures { result ≡ spec.needs_dot newline crlf }
+{
+    Needs {
+        dotnl: Need::Fixed(newline),
+        crlf: Need::Fixed(crlf),
+        ..no_needs()
+    }
+}
+
+/// What a Literal needs.
+fn literal_needs(text: &str, casei: bool, oniguruma_mode: bool) -> Needs
+    ensures { result ≡ spec.leaf_needs oniguruma_mode (literal (chars text.now) casei) }
+{
+    if !casei && are_kept_by_backslash(text, oniguruma_mode) {
+        no_needs()
+    } else {
+        needs_case(casei)
+    }
+}
+
+/// What a Delegate needs.
+fn delegate_needs(text: &str, casei: bool) -> Needs
+    ensures { (o : Bool) → result ≡ spec.leaf_needs o (delegate (chars text.now) casei) }
+{
+    if !casei && is_hex_class(text) {
+        no_needs()
+    } else {
+        needs_case(casei)
+    }
+}
+
+/// What a leaf needs; nothing for a tree that holds others.
+fn leaf_needs(tree: &Expr, oniguruma_mode: bool) -> Needs {
+    match tree {
+        Expr::Literal { val, casei } => literal_needs(val.as_str(), *casei, oniguruma_mode),
+        Expr::Delegate { inner, casei } => delegate_needs(inner.as_str(), *casei),
+        Expr::Backref { casei, .. } => needs_case(*casei),
+        Expr::BackrefWithRelativeRecursionLevel { casei, .. } => needs_case(*casei),
+        Expr::Any { newline, crlf } => if *newline == *crlf {
+            no_needs()
+        } else {
+            needs_dot(*newline, *crlf)
+        },
+        Expr::Assertion(assertion) => assertion_needs(*assertion),
+        _ => no_needs(),
+    }
+}
+
+/// What the one needs, or where that needs nothing the other behind it.
+fn first(one: Need, other: Need) -> Need
+    ensures { result ≡ spec.first one other }
+{
+    match one {
+        Need::Free => other,
+        _ => one,
+    }
+}
+
+/// The same for each flag.
+fn first_needs(one: Needs, other: Needs) -> Needs
+    ensures { result ≡ spec.joined spec.first one other }
+{
+    Needs {
+        casei: first(one.casei, other.casei),
+        multi: first(one.multi, other.multi),
+        dotnl: first(one.dotnl, other.dotnl),
+        crlf: first(one.crlf, other.crlf),
+    }
+}
+
+/// What both need together.
+fn both(one: Need, other: Need) -> Need
+    ensures { result ≡ spec.both one other }
+{
+    match (one, other) {
+        (Need::Free, _) => other,
+        (_, Need::Free) => one,
+        (Need::Fixed(a), Need::Fixed(b)) if a == b => one,
+        _ => Need::Torn,
+    }
+}
+
+/// The same for each flag.
+fn both_needs(one: Needs, other: Needs) -> Needs
+    ensures { result ≡ spec.joined spec.both one other }
+{
+    Needs {
+        casei: both(one.casei, other.casei),
+        multi: both(one.multi, other.multi),
+        dotnl: both(one.dotnl, other.dotnl),
+        crlf: both(one.crlf, other.crlf),
+    }
+}
+
+/// Adds for each node of the tree, in preorder, what the first leaf in it needs that needs something, and answers what
+/// that is for the tree.
+fn push_needs(
+    list: &mut Vec<Needs>,
+    tree: &Expr,
+    oniguruma_mode: bool,
+) -> Result<Needs, AllocError> {
+    let at = list.len();
+    let mut needs = leaf_needs(tree, oniguruma_mode);
+    list.push(needs)?;
+    let mut children = tree.children_iter();
+    while let Some(child) = children.next() {
+        needs = first_needs(needs, push_needs(list, child, oniguruma_mode)?);
+    }
+    if let Some(place) = list.get_mut(at) {
+        *place = needs;
+    }
+    Ok(needs)
+}
+
+/// For each node of the tree, in preorder, what the first leaf in it needs that needs something.
+pub(super) fn all_needs(
+    alloc: Global,
+    tree: &Expr,
+    oniguruma_mode: bool,
+) -> Result<Vec<Needs>, AllocError> {
+    let mut list = Vec::new(alloc);
+    push_needs(&mut list, tree, oniguruma_mode)?;
+    Ok(list)
+}
+
+/// What all leaves of the tree need together.
+pub(super) fn common_needs(tree: &Expr, oniguruma_mode: bool) -> Needs {
+    let mut needs = leaf_needs(tree, oniguruma_mode);
+    let mut children = tree.children_iter();
+    while let Some(child) = children.next() {
+        needs = both_needs(needs, common_needs(child, oniguruma_mode));
+    }
+    needs
+}
+
+/// The flag as it is needed, or else as it is.
+fn fixed_or(flag: bool, need: Need) -> bool
+    ensures { result ≡ spec.fixed_or flag need }
+{
+    match need {
+        Need::Fixed(on) => on,
+        _ => flag,
+    }
+}
+
+/// The flags as they are needed.
+pub(super) fn with_needs(flags: Flags, needs: Needs) -> Flags
+    ensures { result ≡ spec.with_needs flags needs }
+{
+    Flags {
+        casei: fixed_or(flags.casei, needs.casei),
+        multi: fixed_or(flags.multi, needs.multi),
+        dotnl: fixed_or(flags.dotnl, needs.dotnl),
+        crlf: fixed_or(flags.crlf, needs.crlf),
+        ..flags
+    }
+}
