@@ -29,8 +29,8 @@ use Rattle.fancy_grammar.specs.declared.kinds.LookAround.TheVariants.{LookAhead,
 use Rattle.fancy_grammar.specs.declared.kinds.LookAround.TheVariants.{LookBehindNeg}
 use Rattle.fancy_grammar.specs.declared.kinds.BacktrackingControlVerb.{BacktrackingControlVerb}
 use Rattle.fancy_grammar.specs.declared.kinds.BacktrackingControlVerb.TheVariants.{Fail, Accept, Commit, Skip, Prune}
-use Rattle.fancy_grammar.specs.declared.position.Position.{Position}
-use Rattle.fancy_grammar.specs.declared.position.Position.TheVariants.{Whole, Branch, Piece, Operand}
+use Rattle.fancy_grammar.specs.declared.precedence.Precedence.{Precedence}
+use Rattle.fancy_grammar.specs.declared.precedence.Precedence.TheVariants.{Whole, Branch, Piece, Operand}
 
 -- ---- where a text stands
 
@@ -49,23 +49,23 @@ abbrev pub deeper : Here → Here
 deeper h = record h { depth = h.depth + 1 }
 
 -- pieces may stand there one behind another
-abbrev pub takes_pieces : Position → Bool
+abbrev pub takes_pieces : Precedence → Bool
 takes_pieces Whole = true
 takes_pieces Branch = true
 takes_pieces _ = false
 
 -- branches may stand there side by side
-abbrev pub takes_branches : Position → Bool
+abbrev pub takes_branches : Precedence → Bool
 takes_branches Whole = true
 takes_branches _ = false
 
 -- a quantifier follows
-abbrev pub is_operand : Position → Bool
+abbrev pub is_operand : Precedence → Bool
 is_operand (Operand k) = true
 is_operand _ = false
 
 -- a quantifier follows, and no other may stand before it
-abbrev pub is_last_operand : Position → Bool
+abbrev pub is_last_operand : Precedence → Bool
 is_last_operand (Operand zero) = true
 is_last_operand _ = false
 
@@ -75,8 +75,8 @@ is_last_operand _ = false
 abbrev pub in_parens : Text → (Here → Text) → Here → Text
 in_parens head text h = codes "(" ++ (head ++ (text (deeper h) ++ codes ")"))
 
--- the whole of a group with this head where that is asked, and else at its position
-abbrev pub in_parens_if : Bool → Text → (Position → Here → Text) → Position → Here → Text
+-- the whole of a group with this head where that is asked, and else at its precedence
+abbrev pub in_parens_if : Bool → Text → (Precedence → Here → Text) → Precedence → Here → Text
 in_parens_if true head text p h = in_parens head (text Whole) h
 in_parens_if false head text p h = text p h
 
@@ -92,7 +92,7 @@ in_scope_unless false t text h =
     (under (settled h.flags t) h)
 
 -- a tree that no quantifier may follow, in a group where one does: it was read in one that has no number
-abbrev pub as_atom : Tree → Position → (Here → Text) → Here → Text
+abbrev pub as_atom : Tree → Precedence → (Here → Text) → Here → Text
 as_atom t p text h = if is_operand p && not (is_repeatable h.flags t) then in_parens [] text h else text h
 
 -- behind an empty comment, where it would be read together with what stands before it
@@ -136,13 +136,13 @@ is_in_digits m _ = false
 
 -- ---- quantifiers
 
--- how many may stand before that of a tree at this position
-abbrev pub room : Position → Here → ℕ
+-- how many may stand before that of a tree at this precedence
+abbrev pub room : Precedence → Here → ℕ
 room (Operand (suc k)) h = k
 room _ h = most_quantifiers h.flags h.depth - 1
 
--- a tree, whose text at each position this is, under its quantifier
-abbrev pub repeated : Bool → Tree → ℕ → ℕ → Bool → (Position → Here → Text) → Position → Here → Text
+-- a tree, whose text at each precedence this is, under its quantifier
+abbrev pub repeated : Bool → Tree → ℕ → ℕ → Bool → (Precedence → Here → Text) → Precedence → Here → Text
 repeated possessive t lo hi greedy text p h =
     text (Operand (room p h)) h
     ++ quantifier_text h.flags possessive (nat_lt 0 (room p h) && is_quantified h.flags t) lo hi greedy
@@ -196,24 +196,24 @@ abbrev mutual
   group_count_all (more_trees t ts) = group_count t + group_count_all ts
 
 abbrev mutual
-  -- the flags that hold behind the text of a tree at a position: behind a group those from before it
-  pub flags_behind : Tree → Position → Flags → Flags
+  -- the flags that hold behind the text of a tree at a precedence: behind a group those from before it
+  pub flags_behind : Tree → Precedence → Flags → Flags
   flags_behind (row concat ts) p f = if takes_pieces p then flags_behind_all ts Piece f else f
   flags_behind (row alt ts) p f = if takes_branches p then flags_behind_all ts Branch f else f
   flags_behind t p f = settled f t
 
-  pub flags_behind_all : Trees → Position → Flags → Flags
+  pub flags_behind_all : Trees → Precedence → Flags → Flags
   flags_behind_all no_trees p f = f
   flags_behind_all (more_trees t ts) p f = flags_behind_all ts p (flags_behind t p f)
 
-abbrev pub behind : Tree → Position → Here → Here
+abbrev pub behind : Tree → Precedence → Here → Here
 behind t p h = past_groups (group_count t) (under (flags_behind t p h.flags) h)
 
 -- ---- the tree
 
 module _ (m : Marks) where
   abbrev mutual
-    pub written : Tree → Position → Here → Text
+    pub written : Tree → Precedence → Here → Text
     written (leaf empty) p h = if takes_pieces p then [] else codes "()"
     written (leaf l) p h = after_setting (leaf l) (as_atom (leaf l) p (leaf_text m l)) h
     written (row concat ts) p h = in_scope_unless (takes_pieces p) (row concat ts) (written_all false ts) h

@@ -5,7 +5,7 @@ use Rattle.fancy_grammar.specs.Pattern.{Here, under, past_groups, group_count_al
 use Rattle.fancy_grammar.specs.PatternNeeds.{no_needs, leaf_needs, first, needs, needs_all}
 use Rattle.fancy_grammar.specs.Tree.{Tree, leaf, over, row, Trees, no_trees, more_trees}
 use Rattle.fancy_grammar.specs.declared.needs.Needs.{Needs}
-use Rattle.fancy_grammar.specs.declared.position.Position.{Position}
+use Rattle.fancy_grammar.specs.declared.precedence.Precedence.{Precedence}
 
 -- what a leaf needs; nothing of a tree that holds others
 abbrev pub needs_alone : Bool → Tree → Needs
@@ -25,6 +25,6 @@ abbrev mutual
   all_listed o no_trees = []
   all_listed o (more_trees t ts) = needs_listed o t ++ all_listed o ts
 
--- where what follows trees stands, each of which stands at the position
-abbrev pub behind_all : Trees → Position → Here → Here
+-- where what follows trees stands, each of which stands at the precedence
+abbrev pub behind_all : Trees → Precedence → Here → Here
 behind_all ts p h = past_groups (group_count_all ts) (under (flags_behind_all ts p h.flags) h)

@@ -5,5 +5,5 @@
 
 pub mod kinds;
 pub mod needs;
-pub mod position;
+pub mod precedence;
 pub mod premises;

@@ -63,7 +63,7 @@ impl Eq for Expr {
 }
 
 impl Expr {
-    /// Whether the trees are the same, but for the places in AstNodes.
+    /// Returns whether the trees are equal, with the positions in `AstNode`s left out.
     pub fn is_same_but_for_places(&self, other: &Expr) -> bool
         ensures { IsTrue result ↔ (unplaced (view self.now) ≡ unplaced (view other.now)) }
     {

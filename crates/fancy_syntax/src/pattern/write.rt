@@ -19,7 +19,7 @@ use crate::pattern::quantifier::{
 use crate::pattern::reference::{put_group_head, put_target};
 use crate::pattern::sink::{Sink, put_ascii};
 use fancy_grammar::needs::Needs;
-use fancy_grammar::position::Position;
+use fancy_grammar::precedence::Precedence;
 use std::alloc::AllocError;
 
 /// Writes the whole text, before which the flags are set that all leaves need.
@@ -31,7 +31,7 @@ pub(super) fn put_pattern<S: Sink>(
     here: Here,
 ) -> Result<(), AllocError> {
     let here = put_setting(out, agreed, here)?;
-    put_tree(out, known, tree, Position::Whole, here)?;
+    put_tree(out, known, tree, Precedence::Whole, here)?;
     Ok(())
 }
 
@@ -41,17 +41,17 @@ fn put_tree<'a, S: Sink>(
     out: &mut S,
     known: &Known,
     tree: &Expr,
-    position: Position,
+    precedence: Precedence,
     here: Here<'a>,
 ) -> Result<Here<'a>, AllocError> {
     let (needs, here) = here.next_node();
     match tree {
-        Expr::Empty => put_empty(out, position, here),
-        Expr::Concat(pieces) => put_concat(out, known, pieces, position, needs, here),
-        Expr::Alt(branches) => put_alt(out, known, branches, position, needs, here),
+        Expr::Empty => put_empty(out, precedence, here),
+        Expr::Concat(pieces) => put_concat(out, known, pieces, precedence, needs, here),
+        Expr::Alt(branches) => put_alt(out, known, branches, precedence, needs, here),
         _ => {
             let here = put_setting(out, needs, here)?;
-            put_settled(out, known, tree, position, here)
+            put_settled(out, known, tree, precedence, here)
         }
     }
 }
@@ -59,49 +59,49 @@ fn put_tree<'a, S: Sink>(
 /// Writes an Empty: as a group, where pieces may not stand.
 fn put_empty<'a, S: Sink>(
     out: &mut S,
-    position: Position,
+    precedence: Precedence,
     here: Here<'a>,
 ) -> Result<Here<'a>, AllocError> {
-    if !takes_pieces(position) {
+    if !takes_pieces(precedence) {
         put_ascii(out, "()")?;
     }
     Ok(here)
 }
 
 /// Whether pieces may stand there one behind another.
-fn takes_pieces(position: Position) -> bool
-    ensures { result ≡ spec.takes_pieces position }
+fn takes_pieces(precedence: Precedence) -> bool
+    ensures { result ≡ spec.takes_pieces precedence }
 {
-    matches!(position, Position::Whole | Position::Branch)
+    matches!(precedence, Precedence::Whole | Precedence::Branch)
 }
 
 /// Whether branches may stand there side by side.
-fn takes_branches(position: Position) -> bool
-    ensures { result ≡ spec.takes_branches position }
+fn takes_branches(precedence: Precedence) -> bool
+    ensures { result ≡ spec.takes_branches precedence }
 {
-    matches!(position, Position::Whole)
+    matches!(precedence, Precedence::Whole)
 }
 
 /// Whether a quantifier follows.
-fn is_operand(position: Position) -> bool
-    ensures { result ≡ spec.is_operand position }
+fn is_operand(precedence: Precedence) -> bool
+    ensures { result ≡ spec.is_operand precedence }
 {
-    matches!(position, Position::Operand(_))
+    matches!(precedence, Precedence::Operand(_))
 }
 
 /// Whether a quantifier follows, and no other may stand before it.
-fn is_last_operand(position: Position) -> bool
-    ensures { result ≡ spec.is_last_operand position }
+fn is_last_operand(precedence: Precedence) -> bool
+    ensures { result ≡ spec.is_last_operand precedence }
 {
-    matches!(position, Position::Operand(0))
+    matches!(precedence, Precedence::Operand(0))
 }
 
-/// How many quantifiers may stand before that of a tree at this position.
-fn room(position: Position, here: Here) -> usize
-    ensures { (h : spec.Here) (l : List Needs) → IsHere here.entry h l → result ≡ spec.room position h }
+/// How many quantifiers may stand before that of a tree at this precedence.
+fn room(precedence: Precedence, here: Here) -> usize
+    ensures { (h : spec.Here) (l : List Needs) → IsHere here.entry h l → result ≡ spec.room precedence h }
 {
-    match position {
-        Position::Operand(room) if room > 0 => room - 1,
+    match precedence {
+        Precedence::Operand(room) if room > 0 => room - 1,
         _ => most_quantifiers(here.flags, here.left).saturating_sub(1),
     }
 }
@@ -112,11 +112,11 @@ fn put_concat<'a, S: Sink>(
     out: &mut S,
     known: &Known,
     pieces: &[Expr],
-    position: Position,
+    precedence: Precedence,
     needs: Needs,
     here: Here<'a>,
 ) -> Result<Here<'a>, AllocError> {
-    if takes_pieces(position) {
+    if takes_pieces(precedence) {
         return put_pieces(out, known, pieces, here);
     }
     let inside = open_scope(out, needs, here)?;
@@ -136,7 +136,7 @@ fn put_pieces<'a, S: Sink>(
     let mut behind_digits = false;
     for piece in pieces {
         let place = out.len();
-        here = put_tree(out, known, piece, Position::Piece, here)?;
+        here = put_tree(out, known, piece, Precedence::Piece, here)?;
         if behind_digits {
             out.part(place, Parting::Number)?;
         }
@@ -151,11 +151,11 @@ fn put_alt<'a, S: Sink>(
     out: &mut S,
     known: &Known,
     branches: &[Expr],
-    position: Position,
+    precedence: Precedence,
     needs: Needs,
     here: Here<'a>,
 ) -> Result<Here<'a>, AllocError> {
-    if takes_branches(position) {
+    if takes_branches(precedence) {
         return put_branches(out, known, branches, here);
     }
     let inside = open_scope(out, needs, here)?;
@@ -176,7 +176,7 @@ fn put_branches<'a, S: Sink>(
         if i > 0 {
             out.put('|')?;
         }
-        here = put_tree(out, known, branch, Position::Branch, here)?;
+        here = put_tree(out, known, branch, Precedence::Branch, here)?;
     }
     Ok(here)
 }
@@ -187,12 +187,14 @@ fn put_settled<'a, S: Sink>(
     out: &mut S,
     known: &Known,
     tree: &Expr,
-    position: Position,
+    precedence: Precedence,
     here: Here<'a>,
 ) -> Result<Here<'a>, AllocError> {
     match tree {
         Expr::Group(child) => put_group(out, known, child, here),
-        Expr::LookAround(child, look) => put_look_around(out, known, child, *look, position, here),
+        Expr::LookAround(child, look) => put_look_around(
+            out, known, child, *look, precedence, here,
+        ),
         Expr::Repeat {
             child,
             lo,
@@ -205,9 +207,9 @@ fn put_settled<'a, S: Sink>(
                 greedy: *greedy,
                 possessive: false,
             };
-            put_repeat(out, known, child, quantifier, position, here)
+            put_repeat(out, known, child, quantifier, precedence, here)
         }
-        Expr::AtomicGroup(child) => put_atomic(out, known, child, position, here),
+        Expr::AtomicGroup(child) => put_atomic(out, known, child, precedence, here),
         Expr::DefineGroup { definitions } => put_in_group(
             out,
             known,
@@ -217,7 +219,7 @@ fn put_settled<'a, S: Sink>(
         ),
         Expr::Conditional { .. } => put_conditional(out, known, tree, here),
         Expr::Absent(absent) => put_absent(out, known, absent, here),
-        _ => put_leaf_at(out, known, tree, position, here),
+        _ => put_leaf_at(out, known, tree, precedence, here),
     }
 }
 
@@ -226,10 +228,10 @@ fn put_leaf_at<'a, S: Sink>(
     out: &mut S,
     known: &Known,
     leaf: &Expr,
-    position: Position,
+    precedence: Precedence,
     here: Here<'a>,
 ) -> Result<Here<'a>, AllocError> {
-    if is_operand(position) && !is_repeatable(here.flags, leaf) {
+    if is_operand(precedence) && !is_repeatable(here.flags, leaf) {
         let inside = open(out, "", here)?;
         put_leaf(out, known, leaf, inside)?;
         return close(out, here, inside);
@@ -250,7 +252,7 @@ fn put_in_group<'a, S: Sink>(
     requires { list_all (λ b. nat_lt b 128) head.now ≡ true }
 {
     let inside = open(out, head, here)?;
-    let end = put_tree(out, known, child, Position::Whole, inside)?;
+    let end = put_tree(out, known, child, Precedence::Whole, inside)?;
     close(out, here, end)
 }
 
@@ -261,10 +263,10 @@ fn put_look_around<'a, S: Sink>(
     known: &Known,
     child: &Expr,
     look: LookAround,
-    position: Position,
+    precedence: Precedence,
     here: Here<'a>,
 ) -> Result<Here<'a>, AllocError> {
-    if is_operand(position) {
+    if is_operand(precedence) {
         let inside = open(out, "", here)?;
         let end = put_in_group(out, known, look_head(look), child, inside)?;
         return close(out, here, end);
@@ -282,7 +284,7 @@ fn put_group<'a, S: Sink>(
 ) -> Result<Here<'a>, AllocError> {
     let inside = open(out, "", here)?.past_opening()?;
     put_group_head(out, known, inside.opened)?;
-    let end = put_tree(out, known, child, Position::Whole, inside)?;
+    let end = put_tree(out, known, child, Precedence::Whole, inside)?;
     close(out, here, end)
 }
 
@@ -293,13 +295,13 @@ fn put_repeat<'a, S: Sink>(
     known: &Known,
     child: &Expr,
     quantifier: Quantifier,
-    position: Position,
+    precedence: Precedence,
     here: Here<'a>,
 ) -> Result<Here<'a>, AllocError> {
-    if is_last_operand(position) {
+    if is_last_operand(precedence) {
         return put_quantified_in_group(out, known, "?:", child, quantifier, here);
     }
-    put_quantified(out, known, child, quantifier, position, here)
+    put_quantified(out, known, child, quantifier, precedence, here)
 }
 
 /// Writes an AtomicGroup: of a Repeat by a possessive quantifier, where one is read so.
@@ -308,7 +310,7 @@ fn put_atomic<'a, S: Sink>(
     out: &mut S,
     known: &Known,
     child: &Expr,
-    position: Position,
+    precedence: Precedence,
     here: Here<'a>,
 ) -> Result<Here<'a>, AllocError> {
     let Expr::Repeat {
@@ -321,7 +323,7 @@ fn put_atomic<'a, S: Sink>(
         return put_in_group(out, known, "?>", child, here);
     };
     let here = here.past_node();
-    let in_group = is_last_operand(position) || !is_possessive(*lo, *hi, here.flags);
+    let in_group = is_last_operand(precedence) || !is_possessive(*lo, *hi, here.flags);
     let quantifier = Quantifier {
         lo: *lo,
         hi: *hi,
@@ -331,7 +333,7 @@ fn put_atomic<'a, S: Sink>(
     if in_group {
         return put_quantified_in_group(out, known, "?>", repeated, quantifier, here);
     }
-    put_quantified(out, known, repeated, quantifier, position, here)
+    put_quantified(out, known, repeated, quantifier, precedence, here)
 }
 
 /// Writes a tree and the quantifier behind it in a group with this head.
@@ -347,7 +349,7 @@ fn put_quantified_in_group<'a, S: Sink>(
     requires { list_all (λ b. nat_lt b 128) head.now ≡ true }
 {
     let inside = open(out, head, here)?;
-    let end = put_quantified(out, known, child, quantifier, Position::Whole, inside)?;
+    let end = put_quantified(out, known, child, quantifier, Precedence::Whole, inside)?;
     close(out, here, end)
 }
 
@@ -358,12 +360,12 @@ fn put_quantified<'a, S: Sink>(
     known: &Known,
     child: &Expr,
     quantifier: Quantifier,
-    position: Position,
+    precedence: Precedence,
     here: Here<'a>,
 ) -> Result<Here<'a>, AllocError> {
-    let room = room(position, here);
+    let room = room(precedence, here);
     let adjacent = room > 0 && is_quantified(child, here.flags);
-    let end = put_tree(out, known, child, Position::Operand(room), here)?;
+    let end = put_tree(out, known, child, Precedence::Operand(room), here)?;
     put_quantifier(out, quantifier, adjacent, here.flags)?;
     Ok(here.behind(end))
 }
@@ -408,7 +410,7 @@ fn put_condition<'a, S: Sink>(
         }
         _ => {
             let place = out.len();
-            let end = put_tree(out, known, condition, Position::Whole, here)?;
+            let end = put_tree(out, known, condition, Precedence::Whole, here)?;
             out.part(place, Parting::Condition)?;
             Ok(end)
         }
@@ -436,12 +438,12 @@ fn put_choice<'a, S: Sink>(
         put_ascii(out, "()")?;
         return Ok(here.past_node().past_node());
     }
-    let behind = put_tree(out, known, true_branch, Position::Branch, here)?;
+    let behind = put_tree(out, known, true_branch, Precedence::Branch, here)?;
     if is_one && !matches!(**true_branch, Expr::Alt(_)) {
         return Ok(behind.past_node());
     }
     out.put('|')?;
-    put_tree(out, known, false_branch, Position::Whole, behind)
+    put_tree(out, known, false_branch, Precedence::Whole, behind)
 }
 
 /// Writes an absent expression.
@@ -473,7 +475,7 @@ fn put_repeater<'a, S: Sink>(
 ) -> Result<Here<'a>, AllocError> {
     let inside = open(out, "?~", here)?;
     let place = out.len();
-    let end = put_tree(out, known, child, Position::Whole, inside)?;
+    let end = put_tree(out, known, child, Precedence::Whole, inside)?;
     out.part(place, Parting::Absent)?;
     close(out, here, end)
 }
@@ -490,9 +492,9 @@ fn put_expression<'a, S: Sink>(
         return Ok(here);
     };
     let inside = open(out, "?~|", here)?;
-    let behind = put_tree(out, known, absent, Position::Branch, inside)?;
+    let behind = put_tree(out, known, absent, Precedence::Branch, inside)?;
     out.put('|')?;
-    let end = put_tree(out, known, exp, Position::Branch, behind)?;
+    let end = put_tree(out, known, exp, Precedence::Branch, behind)?;
     close(out, here, end)
 }
 
@@ -506,7 +508,7 @@ fn put_stopper<'a, S: Sink>(
 ) -> Result<Here<'a>, AllocError> {
     let inside = open(out, "?~|", here)?;
     let place = out.len();
-    let end = put_tree(out, known, child, Position::Branch, inside)?;
+    let end = put_tree(out, known, child, Precedence::Branch, inside)?;
     if out.len() == place {
         put_ascii(out, "()")?;
     }

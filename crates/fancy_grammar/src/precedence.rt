@@ -2,7 +2,7 @@
 
 /// What a text is where it stands.
 #[derive(Clone, Copy)]
-pub enum Position {
+pub enum Precedence {
     /// The whole, or all that stands in a group.
     Whole,
     /// A branch.
