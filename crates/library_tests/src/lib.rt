@@ -24,4 +24,6 @@ mod refused;
 #[cfg(test)]
 mod samples;
 #[cfg(test)]
+mod texts;
+#[cfg(test)]
 mod trees;

@@ -1,5 +1,5 @@
 //! Groups that set flags.
-ghost use Rattle.std.specs.Prelude.{◌≡◌, ◌∷◌, [], ◌++◌, codes, true, nat_lt, List, IfOk, OnOk, if◌then◌else◌};
+ghost use Rattle.std.specs.Prelude.{◌≡◌, ◌∷◌, [], ◌++◌, codes, List, IfOk, OnOk, if◌then◌else◌};
 ghost use Rattle.fancy_grammar.specs.Pattern as place;
 ghost use Rattle.fancy_grammar.specs.PatternNeeds as spec;
 ghost use Rattle.fancy_grammar.specs.declared.needs.Needs.{Needs};

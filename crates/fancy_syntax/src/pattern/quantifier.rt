@@ -1,5 +1,5 @@
 //! Quantifiers.
-ghost use Rattle.std.specs.Prelude.{◌≡◌, ◌-◌, ℕ, ◌∷◌, [], ◌++◌, codes, decimal, true, nat_lt, OnOk};
+ghost use Rattle.std.specs.Prelude.{◌≡◌, ◌-◌, ℕ, ◌++◌, codes, decimal, true, nat_lt, OnOk};
 ghost use Rattle.std.specs.List.{list_all};
 ghost use Rattle.fancy_parts.specs.Quote.{range, counts_as};
 ghost use Rattle.fancy_grammar.specs.Depth.{max_depth};

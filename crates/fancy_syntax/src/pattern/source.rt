@@ -1,5 +1,5 @@
 //! What a Delegate was written as: a text that the reader writes as that of the Delegate.
-ghost use Rattle.std.specs.Prelude.{◌≡◌, true, nat_lt, chars, OnOk, IfOk};
+ghost use Rattle.std.specs.Prelude.{◌≡◌, true, nat_lt, chars, OnOk};
 ghost use Rattle.std.specs.List.{list_all};
 ghost use Rattle.fancy_lex.specs.Property as property;
 ghost use Rattle.fancy_grammar.specs.PatternSource as spec;
