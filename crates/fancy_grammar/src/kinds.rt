@@ -13,7 +13,7 @@ pub enum LookAround {
     LookBehindNeg,
 }
 
-/// A backtracking control verb: it matches the empty text and steers the search.
+/// A backtracking control verb: it consumes nothing and steers the search.
 #[derive(Clone, Copy, PartialEq, Eq, Debug, Drop)]
 pub enum BacktrackingControlVerb {
     /// `(*FAIL)`, `(*F)`: fails, so that the search backtracks.

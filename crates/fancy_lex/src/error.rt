@@ -62,8 +62,8 @@ pub enum ParseError {
     RecursionExceeded,
     /// The pattern ends with a backslash: `a\` at 1.
     TrailingBackslash,
-    /// An unknown escape, `\y` at 0, or word boundary, `\b{x}` at 0: at the backslash. It holds the escape as written,
-    /// or `\b{...}` if the braces of the boundary are not closed.
+    /// An unknown escape, `\y` at 0, or word boundary, `\b{x}` at 0: at the backslash. It holds the escape without
+    /// whitespace and comments, or `\b{...}` if the braces of the boundary are not closed.
     InvalidEscape(String),
     /// The braces of a Unicode property are not closed: `\p{Greek` at 0, the backslash.
     UnclosedUnicodeName,
@@ -78,8 +78,8 @@ pub enum ParseError {
     UnknownFlag(String),
     /// A flag group changes the Unicode setting: `(?-u)a` at 3, its `u`.
     ChangingUnicodeModeUnsupported,
-    /// A back reference or condition by a name that no group has, `\k<b>` at 2, or by a relative number below 0,
-    /// `\k<-2>` at 2; or the number of a back reference or subroutine call is above `usize::MAX`, at its first digit.
+    /// A back reference or condition by a name that no group has, `\k<b>` at 2, or by a relative number that
+    /// leads below group 0, `\k<-2>` at 2; or the digits after `\` or `\g` are above `usize::MAX`, at the first digit.
     InvalidBackref,
     /// A quantifier without an operand, `+` at 0, or with one that cannot be repeated, `(?=a)+` at 5: a look-around,
     /// `\K`, `\G`, a verb, and under `FLAG_ONIGURUMA_MODE` an assertion. The position is that of its character or its

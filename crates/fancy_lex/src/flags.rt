@@ -3,7 +3,8 @@
 ghost use Rattle.std.specs.Prelude.{◌≡◌};
 ghost use Rattle.fancy_lex.specs.Bits.{has_bit};
 
-/// Case-insensitive (`i`): literals, classes and back references have `casei`.
+/// Case-insensitive (`i`): literals that are not escaped, hexadecimal escapes that are characters, classes, properties
+/// and back references have `casei`.
 pub const FLAG_CASEI: u32 = 1;
 /// Multi-line (`m`): `^` and `$` match at the start and the end of each line, as `StartLine` and `EndLine`.
 pub const FLAG_MULTI: u32 = 2;
@@ -11,7 +12,8 @@ pub const FLAG_MULTI: u32 = 2;
 pub const FLAG_DOTNL: u32 = 4;
 /// Quantifiers are lazy without `?`, and greedy with it (`U`).
 pub const FLAG_SWAP_GREED: u32 = 8;
-/// Verbose (`x`): whitespace, and `#` through the end of the line, is ignored, so `a b # c` is parsed as `ab`.
+/// Verbose (`x`): space, TAB, CR and LF are ignored outside classes, and `#` through the end of the line: `a b # c` is
+/// parsed as `ab`.
 pub const FLAG_IGNORE_SPACE: u32 = 16;
 /// Unicode: `\x80` is the character U+0080, and a byte without the flag; properties are rewritten as Unicode's. A
 /// pattern cannot change it. `parse_tree` parses under this flag alone.

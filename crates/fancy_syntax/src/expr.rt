@@ -11,8 +11,8 @@ pub use fancy_grammar::kinds::{BacktrackingControlVerb, LookAround};
 pub use fancy_lex::escape::Assertion;
 pub use fancy_lex::name::CaptureGroupTarget;
 
-/// A node as it is parsed, before references are resolved. It counts as a leaf, and so does an `AstGroup`. The only one
-/// in a returned tree is a `SubroutineCall` that cannot be resolved.
+/// A node as it is parsed, before references are resolved. Every one counts as a leaf, an `AstGroup` too. In a returned
+/// tree each is a `SubroutineCall` that cannot be resolved.
 #[cycle(expr)]
 #[derive(Debug, Drop)]
 pub enum AstNode {
@@ -177,6 +177,6 @@ pub enum Expr {
     },
     /// A node as it is parsed, with its position in the pattern (a byte offset). In a returned tree it is a subroutine
     /// call that cannot be resolved, which is no error: by a name that no group has, as `\g<b>` at position 2, or that
-    /// several have; or by a relative number below 0, as `\g<-2>`.
+    /// several have; or by a relative number that leads below group 0, as `\g<-2>`.
     AstNode(AstNode, usize),
 }

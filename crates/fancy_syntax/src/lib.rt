@@ -10,7 +10,7 @@
 //! }
 //! ```
 //!
-//! Every public item can be imported from the root, and from its module.
+//! Every item that a caller names can be imported from the root, and from its module.
 #![tactic(auto)]
 
 pub mod expr;

@@ -1,4 +1,4 @@
-//! The text of any tree that is read, for the flags that its pattern was read under.
+//! Printing any parsed tree, for the flags that its pattern was parsed under.
 ghost use Rattle.std.specs.Prelude.{chars, string_bytes, IfOk, IfSome};
 ghost use Rattle.fancy_lex.specs.Flags.{flags_of};
 ghost use Rattle.fancy_grammar.specs.ReadAs.{IsReadAs};
@@ -33,9 +33,10 @@ use std::alloc::{AllocError, Global};
 
 impl ExprTree {
     /// Returns a pattern that is parsed, under the same flags, as this tree with the same group information; only the
-    /// position in an `AstNode` may differ. Pass the flags that the tree was parsed under. Returns `None` if the pattern
-    /// that is written for the tree is not parsed so: if the flags are others, or the tree was changed to one that no
-    /// pattern is parsed as. Returns `AllocError` if out of memory.
+    /// position in an `AstNode` may differ. Pass the flags that the tree was parsed under.
+    ///
+    /// Returns `None` if the text that is written for the tree does not parse back as it, as can happen with other
+    /// flags or after the tree was changed. Returns `AllocError` if out of memory.
     ///
     /// ```rust
     /// let tree = Expr::parse_tree_with_flags(alloc, "(?<n>a)\\k<n>++", flags)?;

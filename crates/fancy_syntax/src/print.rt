@@ -35,9 +35,9 @@ pub const OPERAND: u8 = 3;
 
 impl Expr {
     /// Returns whether the tree is printable: the tree of `(?:a|b)c` is, and that of `(?=a)` is not. It is if each node
-    /// outside a `DefineGroup` has a text, the text of each `Delegate` is one whole class or class escape, and no
-    /// `Repeat` has an operand that is read as `Empty`. A printable tree is read back as its normal form, which is
-    /// printable too, and, if the tree has no `Delegate`, is its own normal form under either Unicode setting.
+    /// has a text, each `Delegate` holds one whole class or class escape, and no `Repeat` has an operand that parses as
+    /// `Empty`; nothing inside a `DefineGroup` counts. The normal form of a printable tree is printable too. Without a
+    /// `Delegate`, that form is its own normal form, with Unicode or without.
     ///
     /// Returns `AllocError` if out of memory, which can only happen if the tree has a `Delegate`.
     pub fn is_printable(&self, alloc: Global) -> Result<bool, AllocError>
@@ -56,8 +56,9 @@ impl Expr {
     /// also around the operand of a `Repeat` that is a case-sensitive `Literal` of several characters.
     ///
     /// The text of a printable tree is read back as the tree's normal form, under no flag and under `FLAG_UNICODE`
-    /// alone. If 64 or more printed groups nest, it is refused instead: as `RecursionExceeded`, at the first opening
-    /// parenthesis inside 63 groups. So printable trees with the same text have the same normal form.
+    /// alone. If 64 or more printed groups nest, `(?i:` and the like among them, it is refused instead: as
+    /// `RecursionExceeded`, at the first opening parenthesis inside 63 groups. If fewer nest, printable trees with the
+    /// same text have the same normal form.
     ///
     /// `buf` grows at most once, by the text's length in bytes. Returns `AllocError` if out of memory; `buf` is then
     /// unchanged.

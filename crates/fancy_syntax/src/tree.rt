@@ -38,7 +38,8 @@ pub struct ExprTree {
     pub total_groups: usize,
     /// The number of the first back reference above `total_groups`, as 12 in `\12`, which is no error.
     pub out_of_range_backref: Option<usize>,
-    /// Whether groups without a name have no number: if the flag is set and some group has a name.
+    /// Whether groups without a name have no number: `FLAG_IGNORE_NUMBERED_GROUPS_WHEN_NAMED_GROUPS_EXIST` is set, and
+    /// some group has a name.
     pub numbered_groups_ignored: bool,
 }
 

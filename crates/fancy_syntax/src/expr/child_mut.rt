@@ -1,4 +1,4 @@
-//! A child lent for writing.
+//! A child borrowed for writing.
 ghost use Rattle.std.specs.Prelude.{◌≡◌, ◌<◌, Some, option_map, slice_get};
 ghost use Rattle.std.specs.Borrow.{sem};
 ghost use Rattle.fancy_grammar.specs.Tree.{Tree, children, is_list, with_child as tree_with_child};
@@ -87,7 +87,7 @@ impl Absent {
 
 impl Expr {
     /// Returns the i-th child, counted from 0 in the order of the text, or `None` past the last one. What is written
-    /// there becomes that child; nothing else changes. It does not allocate, which no clause says.
+    /// there becomes that child; nothing else changes. It does not allocate, which is not part of the contract.
     ///
     /// ```rust
     /// if let Some(child) = tree.child_mut(0) {

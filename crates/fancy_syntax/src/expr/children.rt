@@ -10,7 +10,8 @@ use super::{Absent, Expr};
 use std::slice;
 
 impl Expr {
-    /// Returns whether nodes of this variant never have children. An empty `Concat` is no leaf; every `AstNode` is one.
+    /// Returns whether the node is of a kind that never has children: `Absent::Clear` is, an empty `Concat` is not, and
+    /// every `AstNode` is.
     #[tactic(auto, using(crate::proofs::ChildrenLemmas::leaf_children))]
     pub fn is_leaf_node(&self) -> bool
         ensures value { result ≡ is_leaf (view self.now) }
@@ -32,7 +33,7 @@ impl Expr {
 
     /// Returns an iterator over the immediate children, in the order of the text: for a `Conditional` the condition and
     /// the two branches, for an absent expression `absent` and `exp`. The contents of an `AstNode` are not its
-    /// children. It does not allocate, which no clause says.
+    /// children. It does not allocate, which is not part of the contract.
     ///
     /// ```rust
     /// for child in tree.children_iter() {

@@ -6,9 +6,9 @@ ghost use Rattle.fancy_syntax.specs.Descendants.{IsDescendant};
 use super::Expr;
 
 impl Expr {
-    /// Returns whether the predicate is true of some proper descendant: a child, or a descendant of a child. It must be
-    /// callable on each of these. It is not called on the node itself, and the order of calls is unspecified. It does
-    /// not allocate, which no clause says.
+    /// Returns whether the predicate is true of some proper descendant: a child, or a descendant of a child. The
+    /// predicate must be callable on each of these; it is not called on the node itself, and the order of calls is
+    /// unspecified. This function does not allocate, which is not part of the contract.
     ///
     /// ```rust
     /// let looks_around = tree.has_descendant(|node| matches!(node, Expr::LookAround(..)));
