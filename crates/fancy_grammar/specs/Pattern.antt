@@ -1,5 +1,5 @@
--- The text of every tree, for the flags that its pattern was read under: read under them again it is the same tree, and
--- has the same marks.
+-- A text for every tree, for the flags that its pattern was read under, made so that it reads under them as the same tree,
+-- but for the places of calls that mean no group, and has the same marks.
 use Rattle.std.specs.Prelude.{ℕ, zero, suc, ◌+◌, ◌-◌, nat_lt, Bool, true, false, not, ◌&&◌, ◌||◌, [], ◌∷◌, ◌++◌}
 use Rattle.std.specs.Prelude.{nat_eq, codes, if◌then◌else◌}
 use Rattle.std.specs.List.{flat_map, starts_with}

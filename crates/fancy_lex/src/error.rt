@@ -63,7 +63,7 @@ pub enum ParseError {
     /// The pattern ends with a backslash: `a\` at 1.
     TrailingBackslash,
     /// An unknown escape, `\y` at 0, or word boundary, `\b{x}` at 0: at the backslash. It holds the escape without
-    /// whitespace and comments, or `\b{...}` if the braces of the boundary are not closed.
+    /// what is ignored in it, or `\b{...}` if the braces of the boundary are not closed.
     InvalidEscape(String),
     /// The braces of a Unicode property are not closed: `\p{Greek` at 0, the backslash.
     UnclosedUnicodeName,

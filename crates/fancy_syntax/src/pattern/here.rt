@@ -19,7 +19,7 @@ pub(super) struct Here<'a> {
     pub(super) flags: Flags,
     /// How many groups opened before.
     pub(super) opened: usize,
-    /// How many groups may open round it yet.
+    /// How many levels are left: the groups that may still open in it, and one.
     pub(super) left: usize,
     /// What each node from there on needs of the flags, in preorder.
     pub(super) needs: &'a [Needs],
