@@ -1,5 +1,5 @@
 //! The subcommand `format`: each pattern as the text of its tree.
-ghost use Rattle.std.specs.Prelude.{◌≡◌, ◌≢◌, ◌⊎◌, ℕ, List, true, false, chars, string_bytes, Ok, IfOk, IfSome, IfNone};
+ghost use Rattle.std.specs.Prelude.{◌≡◌, ◌⊎◌, chars, string_bytes, Ok, IfOk, IfSome};
 ghost use Rattle.fancy_lex.specs.Flags.{flags_of};
 ghost use Rattle.fancy_syntax.specs.Answer.{marks_of};
 ghost use Rattle.fancy_syntax.specs.View.{view};
