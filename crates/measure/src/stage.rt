@@ -1,7 +1,7 @@
 //! How far a pattern is taken.
 use crate::sample::Sample;
 use anyhow::{Context, Result, bail};
-use fancy_syntax::{Error, Expr, WHOLE};
+use fancy_syntax::{Error, Expr, ExprTree, WHOLE};
 use fre_program::flag_word::flags_named;
 use std::alloc::{AllocError, Global};
 
@@ -12,6 +12,8 @@ pub(crate) enum Stage {
     Decode,
     /// The pattern is read.
     Read,
+    /// The text of the tree is made by `to_pattern`.
+    Write,
     /// The tree is asked whether it is printable.
     Ask,
     /// The tree is printed.
@@ -24,6 +26,7 @@ impl Stage {
         Some(match mode {
             "none" => Stage::Decode,
             "parse" => Stage::Read,
+            "pattern" => Stage::Write,
             "printable" => Stage::Ask,
             "text" => Stage::Print,
             _ => return None,
@@ -31,7 +34,7 @@ impl Stage {
     }
 
     /// The bytes of the pattern where it is only decoded; 1 where it is read, or is printable; the bytes of its tree's
-    /// text where it is printed. 0 where the pattern has a fault, or its tree is not printable.
+    /// text where that is made. 0 where the pattern has a fault, or its tree is not printable.
     pub(crate) fn amount(self, alloc: Global, sample: &Sample) -> Result<usize> {
         let [word, pattern] = &sample.words;
         let flags = flags_named(word.as_str()).context("no flags")?;
@@ -39,17 +42,23 @@ impl Stage {
             return Ok(pattern.len());
         }
         match Expr::parse_tree_with_flags(alloc, pattern.as_str(), flags) {
-            Ok(tree) => Ok(self.amount_of_tree(alloc, &tree.expr)?),
+            Ok(tree) => Ok(self.amount_of_tree(alloc, &tree, flags)?),
             Err(Error::OutOfMemory) => bail!("out of memory"),
             Err(Error::ParseError(_, _)) => Ok(0),
         }
     }
 
     /// The same of a pattern that was read as this tree.
-    fn amount_of_tree(self, alloc: Global, tree: &Expr) -> Result<usize, AllocError> {
+    fn amount_of_tree(
+        self,
+        alloc: Global,
+        tree: &ExprTree,
+        flags: u32,
+    ) -> Result<usize, AllocError> {
         match self {
-            Stage::Ask => Ok(usize::from(tree.is_printable(alloc)?)),
-            Stage::Print => Ok(tree.print(alloc, WHOLE)?.map_or(0, |text| text.len())),
+            Stage::Write => Ok(tree.to_pattern(alloc, flags)?.map_or(0, |text| text.len())),
+            Stage::Ask => Ok(usize::from(tree.expr.is_printable(alloc)?)),
+            Stage::Print => Ok(tree.expr.print(alloc, WHOLE)?.map_or(0, |text| text.len())),
             Stage::Decode | Stage::Read => Ok(1),
         }
     }

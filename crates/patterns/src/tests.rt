@@ -94,18 +94,25 @@ const FORMATTED: &str = "ab*
 (
 ";
 
-const LEFT: &str = "-:2: not formatted: back references cannot be printed
--:3:2: Opening parenthesis without closing parenthesis
+const LEFT: &str = "-:3:2: Opening parenthesis without closing parenthesis
 (
  ^
 ";
 
-const BREAK: &str = "-:1: not formatted: its text would contain a line break\n";
+const VERBOSE: &[u8] = b"(?<day> \\d{2} ) / (?P=day) (?=x)  # twice
+(?-i: \\n ) (?>b{1,}) (?:\\R|c)
+(a)(?(1)b|\\g<1>)(?#c)
+(?<a\rb> x{0,})
+(?:\\p\r)
+";
 
-const DEEP: &str = "-:1: not formatted: its text would nest too deeply\n";
-
-const NESTED: &str =
-    "(((((((((((((((((((((((((((((((((((((((((((((((((((((((((((((((a)))))))))))))))))))))))))))))))))))))))))))))))))))))))))))))))\n";
+/// Of the last line the text would end with a CR, which a line cannot hold there.
+const TERSE: &str = "(?<day>\\d{2})/\\k<day>(?=x)
+\\nb++(?:\\R|c)
+(a)(?(1)b|\\g<1>)
+(?<a\rb>x*)
+(?:\\p\r)
+";
 
 const NO_FLAGS: &str = "patterns: --flags takes letters of imsUxuRon, or - for none\n";
 
@@ -116,7 +123,7 @@ patterns: broken: connection reset
 ";
 
 /// Words, the standard input, and the status, the output and the error of a run.
-static RUNS: [(&[&str], &[u8], u8, &str, &str); 16] = [
+static RUNS: [(&[&str], &[u8], u8, &str, &str); 15] = [
     (&["patterns", "check", "good", "empty"], b"", 0, "", ""),
     (&["patterns", "check"], b"", 0, "", ""),
     (&["patterns", "check", "mixed"], b"", 2, MIXED, NO_TEXT),
@@ -178,22 +185,21 @@ static RUNS: [(&[&str], &[u8], u8, &str, &str); 16] = [
         FORMATTED,
         LEFT,
     ),
-    (&["patterns", "format"], b"[\\n]\n", 0, "[\\n]\n", BREAK),
     (
-        &["patterns", "format", "--flags", "ui"],
-        b"(((((((((((((((((((((((((((((((((((((((((((((((((((((((((((((((a)))))))))))))))))))))))))))))))))))))))))))))))))))))))))))))))\n",
+        &["patterns", "format", "--flags", "uxi"],
+        VERBOSE,
         0,
-        NESTED,
-        DEEP,
+        TERSE,
+        "",
     ),
     (
         &["patterns", "format", "--check"],
-        b"ab*\n\\Ka{0,}\n",
+        b"ab*\n(?<n>a)\\k<n>\n",
         0,
         "",
         "",
     ),
-    (&["patterns", "format", "--check"], b"ab{0,}\n", 1, "", ""),
+    (&["patterns", "format", "--check"], b"\\Ka{0,}\n", 1, "", ""),
 ];
 
 fn is_answer(

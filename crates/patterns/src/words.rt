@@ -32,18 +32,16 @@ const CHECK: &str = "Reports each pattern that is refused, with the position and
 
 const TREE: &str = "Draws the tree of a pattern, and describes its groups and references";
 
-const FORMAT: &str = "Writes each pattern as it prints, and one that cannot be printed unchanged";
+const FORMAT: &str =
+    "Writes each pattern in one form, which parses to the same tree under the same flags";
 
 const GROUPS: &str = "Lists the groups of each pattern, and what its references and calls refer to";
 
-const NOT_KEPT: &str =
-    "What is printed is the tree of a pattern, to be parsed under u, whatever the flags were. \
-Lost are the names of groups, comments, ignored whitespace, the contents of (?(DEFINE)..), and how a character, a \
-class or a quantifier was written. A line ends with LF.
+const FORMATTED: &str =
+    "What is written for a pattern parses, under the flags that were chosen, to the same tree with \
+the same groups and names. Lost are comments, ignored whitespace, and how a thing was written. A line ends with LF.
 
-A pattern with a reference, a subroutine call, a look-around or another part that cannot be printed is written \
-unchanged, and so is one whose text would contain a line break or nest too deeply, and one that is refused; standard \
-error has the reason.";
+A pattern that is refused is written unchanged; standard error has the position and the reason.";
 
 fn flags_arg<'a>(alloc: Global) -> Arg<'a> {
     Arg::new(alloc, "flags")
@@ -95,7 +93,7 @@ fn format_command<'a>(alloc: Global) -> Result<Command<'a>, AllocError> {
         .action(ArgAction::SetTrue)
         .help("Writes no pattern; the exit status is 1 if a line would change or is refused");
     over_files(alloc, "format", FORMAT)?
-        .before_help(NOT_KEPT)
+        .before_help(FORMATTED)
         .arg(is_check)
 }
 

@@ -7,6 +7,7 @@
 mod comparison;
 mod nodes;
 mod record;
+mod texts;
 
 use anyhow::{Context, Result, bail, ensure};
 use comparison::{Answer, OUT_OF_MEMORY};
@@ -19,6 +20,7 @@ use record::{Printing, Reading, Record};
 use std::alloc::Global;
 use std::rt::Files;
 use std::{env, fs};
+use texts::{is_written, replay_writing};
 
 /// What the program answers now; an error where memory was refused. It writes into room that is there, so that what is
 /// refused is no write.
@@ -35,27 +37,30 @@ fn answer_now(alloc: Global, record: &Reading) -> Result<Answer> {
     Ok(answer)
 }
 
-/// Whether a clone of the pattern's tree is equal to it, where the pattern has one, and one of its error says the same,
-/// where it has a fault.
-fn is_cloned(alloc: Global, record: &Reading) -> Result<bool> {
+/// Whether a clone of the error says the same.
+fn is_cloned(alloc: Global, error: &Error) -> Result<bool> {
+    let copy = error.clone(alloc)?;
+    let said = format!(in alloc; "{error}")?;
+    Ok(format!(in alloc; "{copy}")? == said)
+}
+
+/// Whether a clone of the pattern's tree is equal to it, and the tree is written as a text that is read as it; or, where
+/// the pattern has a fault, whether a clone of its error says the same.
+fn is_kept(alloc: Global, record: &Reading) -> Result<bool> {
     let [word, pattern] = &record.words;
     let Some(flags) = flags_named(word.as_str()) else {
         return Ok(true);
     };
     match Expr::parse_tree_with_flags(alloc, pattern.as_str(), flags) {
-        Ok(tree) => Ok(tree.clone(alloc)?.expr == tree.expr),
+        Ok(tree) => Ok(tree.clone(alloc)?.expr == tree.expr && is_written(alloc, &tree, flags)?),
         Err(Error::OutOfMemory) => bail!("memory was refused"),
-        Err(error) => {
-            let copy = error.clone(alloc)?;
-            let said = format!(in alloc; "{error}")?;
-            Ok(format!(in alloc; "{copy}")? == said)
-        }
+        Err(error) => is_cloned(alloc, &error),
     }
 }
 
 /// Whether a pattern is answered as recorded.
 fn replay_reading(alloc: Global, record: &Reading) -> Result<bool> {
-    Ok(is_cloned(alloc, record)? && answer_now(alloc, record)?.is(&record.answer))
+    Ok(is_kept(alloc, record)? && answer_now(alloc, record)?.is(&record.answer))
 }
 
 /// The text of the tree now, none where it is not printable. A refusal of memory for the text is said to be one, and
@@ -82,6 +87,7 @@ fn replay_printing(alloc: Global, record: &Printing) -> Result<bool> {
 fn replay_line(alloc: Global, line: &str) -> Result<bool> {
     Ok(match Record::read(alloc, line)? {
         Record::Reading(record) => replay_reading(alloc, &record)?,
+        Record::Writing(record) => replay_writing(alloc, &record)?,
         Record::Printing(record) => replay_printing(alloc, &record)?,
     })
 }

@@ -13,6 +13,14 @@ pub(crate) struct Reading {
     pub(crate) answer: Answer,
 }
 
+/// Flags, a pattern, and what `to_pattern` writes for its tree.
+#[derive(Drop)]
+pub(crate) struct Writing {
+    /// The flags and the pattern.
+    pub(crate) words: [String; 2],
+    pub(crate) text: String,
+}
+
 /// A precedence, the lines of a tree, and its text, `none` where it is not printable.
 #[derive(Drop)]
 pub(crate) struct Printing {
@@ -24,6 +32,7 @@ pub(crate) struct Printing {
 #[derive(Drop)]
 pub(crate) enum Record {
     Reading(Reading),
+    Writing(Writing),
     Printing(Printing),
 }
 
@@ -62,6 +71,10 @@ impl Record {
                     out: bytes(alloc, out)?,
                     err: bytes(alloc, err)?,
                 },
+            }),
+            ["text", flags, pattern, written] => Record::Writing(Writing {
+                words: [String::from_str(alloc, flags)?, text(alloc, pattern)?],
+                text: text(alloc, written)?,
             }),
             [precedence, lines, printed] => Record::Printing(Printing {
                 precedence: precedence.parse::<u8>()?,

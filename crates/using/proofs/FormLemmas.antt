@@ -6,6 +6,7 @@ use Rattle.std.specs.declared.alloc.Global.{Global}
 use Rattle.fancy_lex.specs.Text.{Text}
 use Rattle.fancy_lex.specs.declared.flags.Flags.{Flags}
 use Rattle.fancy_grammar.proofs.AnsweredLaws.{groups_total}
+use Rattle.fancy_grammar.specs.ReadAs.{IsReadAs}
 use Rattle.fancy_syntax.specs.Answer.{IsTreeOf}
 use Rattle.fancy_syntax.specs.Answered.{groups}
 use Rattle.fancy_syntax.specs.Marks.{Marks}
@@ -13,7 +14,7 @@ use Rattle.fancy_syntax.specs.Printable.{printable}
 use Rattle.fancy_syntax.specs.Printed.{printed}
 use Rattle.fancy_syntax.specs.ReadBack.{IsReadBack}
 use Rattle.fancy_syntax.specs.Tree.{Tree}
-use Rattle.using.specs.Forms.{IsFormOf, HasNoForm}
+use Rattle.using.specs.Forms.{IsFormOf, HasNoForm, HasMarksOf}
 
 -- what a tree of the pattern prints as is a form of it, and without a text it has none
 pub form_of : (f : Flags) (pattern : Text) (t : Tree) (m : Marks) (text : Option (String Global)) →
@@ -29,3 +30,10 @@ pub count_of : (f : Flags) (pattern : Text) (t : Tree) (m : Marks) →
     ((e : Tree) (k : Marks) → IsTreeOf f pattern e k → (e ≡ t) × (k ≡ m)) →
     (e : Tree) (k : Marks) → IsTreeOf f pattern e k → length (groups e) ≡ m.total_groups
 count_of f pattern t m only e k h = groups_total h ∙ ap (λ k. k.total_groups) (only e k h).1
+
+-- a text that is read as a tree with the marks of the pattern's tree has those marks
+pub marks_kept : (f : Flags) (pattern : Text) (t u : Tree) (m : Marks) (text : Option (String Global)) →
+    IsTreeOf f pattern t m → IfSome text (λ s. IsReadAs f (chars (string_bytes s)) u m) →
+    IfSome text (λ s. HasMarksOf f pattern (chars (string_bytes s)))
+marks_kept f pattern t u m None found reads = tt
+marks_kept f pattern t u m (Some s) found (v, only, same) = (t, v, m, found, only.is)

@@ -18,3 +18,7 @@ IsFormOf f pattern w = (t : Tree) × (m : Marks) × IsTreeOf f pattern t m × (w
 -- the pattern has a tree that is not printable
 abbrev pub HasNoForm : Flags → Text → Type 0
 HasNoForm f pattern = (t : Tree) × (m : Marks) × IsTreeOf f pattern t m × (printable t ≡ false)
+
+-- the text has a tree with the marks that the pattern's tree has
+abbrev pub HasMarksOf : Flags → Text → Text → Type 0
+HasMarksOf f pattern text = (t : Tree) × (u : Tree) × (m : Marks) × IsTreeOf f pattern t m × IsTreeOf f text u m

@@ -1,5 +1,10 @@
 //! A tree that is changed.
-use fancy_syntax::Expr;
+ghost use Rattle.std.specs.Prelude.{chars, string_bytes, IfOk, IfSome};
+ghost use Rattle.fancy_lex.specs.Flags.{flags_of};
+ghost use Rattle.using.specs.Forms.{HasMarksOf};
+
+use fancy_syntax::{Error, Expr, FLAG_UNICODE};
+use std::alloc::Global;
 
 /// Puts a tree in the place of the child i, and answers whether there is such a child.
 pub fn replace_child(tree: &mut Expr, i: usize, new: Expr) -> bool {
@@ -10,4 +15,22 @@ pub fn replace_child(tree: &mut Expr, i: usize, new: Expr) -> bool {
         }
         None => false,
     }
+}
+
+/// The pattern with the child i of its tree replaced; none where there is no such child, or where what is said of groups
+/// and references would change.
+pub fn with_child(
+    alloc: Global,
+    pattern: &str,
+    i: usize,
+    new: Expr,
+) -> Result<Option<String>, Error>
+    ensures marks { IfOk result (λ text. IfSome text (λ s.
+        HasMarksOf (flags_of FLAG_UNICODE) (chars pattern.now) (chars (string_bytes s)))) }
+{
+    let mut tree = Expr::parse_tree_with_flags(alloc, pattern, FLAG_UNICODE)?;
+    if !replace_child(&mut tree.expr, i, new) {
+        return Ok(None);
+    }
+    Ok(tree.to_pattern(alloc, FLAG_UNICODE)?)
 }

@@ -10,7 +10,7 @@ mod proved;
 mod summary;
 mod walks;
 
-use crate::changes::replace_child;
+use crate::changes::{replace_child, with_child};
 use crate::faults::{REFUSED, fault};
 use crate::groups::{calls_nothing, group_named};
 use crate::places::pointed;
@@ -85,6 +85,18 @@ fn show_change(rt: &HostRuntime) -> Result<()> {
     Ok(())
 }
 
+fn show_rewritten(rt: &HostRuntime, pattern: &str, i: usize) -> Result<()> {
+    let slash = Expr::Literal {
+        val: String::from_str(rt.alloc(), "/")?,
+        casei: false,
+    };
+    match with_child(rt.alloc(), pattern, i, slash)? {
+        Some(text) => println!(rt; "{pattern} is rewritten as {text}")?,
+        None => println!(rt; "{pattern} is not rewritten")?,
+    }
+    Ok(())
+}
+
 fn show_proved(rt: &HostRuntime, pattern: &str) -> Result<()> {
     println!(rt;
         "{pattern} has {} groups",
@@ -95,6 +107,8 @@ fn show_proved(rt: &HostRuntime, pattern: &str) -> Result<()> {
     }
     Ok(())
 }
+
+const DATE: &str = r"(?<year>\d{4})-(?<month>\d\d)";
 
 static PATTERNS: [&str; 4] = ["x(y|z)*", r"(?<day>\d)-\k<day>", r"(a)\g<day>", "a|b"];
 
@@ -108,5 +122,7 @@ fn main(rt: HostRuntime) -> Result<()> {
         show_pattern(&rt, pattern)?;
     }
     show_change(&rt)?;
+    show_rewritten(&rt, DATE, 1)?;
+    show_rewritten(&rt, DATE, 0)?;
     show_proved(&rt, "(?<n>a)(?#c)b")
 }
