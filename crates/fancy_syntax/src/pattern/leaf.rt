@@ -1,6 +1,12 @@
 //! Trees that hold no other.
-ghost use Rattle.std.specs.Prelude.{◌≡◌, nat_lt, true};
+ghost use Rattle.std.specs.Prelude.{◌≡◌, ◌++◌, codes, nat_lt, true, OnOk};
 ghost use Rattle.std.specs.List.{list_all};
+ghost use Rattle.fancy_grammar.specs.Marks.{Marks};
+ghost use Rattle.fancy_grammar.specs.Pattern as spec;
+ghost use Rattle.fancy_grammar.specs.PatternLetters as letters;
+ghost use Rattle.fancy_grammar.specs.PatternReference as reference;
+ghost use Rattle.fancy_syntax.specs.Sink.{Added};
+ghost use Rattle.fancy_syntax.specs.Wheres.{IsKnown};
 
 use crate::expr::{Assertion, BacktrackingControlVerb, Expr};
 use crate::pattern::here::Here;
@@ -16,7 +22,8 @@ use std::alloc::AllocError;
 
 /// The text of any character.
 fn any_text(newline: bool, crlf: bool, flags: Flags) -> &'static str
-    ensures { list_all (λ b. nat_lt b 128) result.now ≡ true }
+    ensures text { letters.any_text flags newline crlf ≡ result.now }
+    ensures ascii { list_all (λ b. nat_lt b 128) result.now ≡ true }
 {
     if newline == flags.dotnl && crlf == flags.crlf {
         "."
@@ -29,7 +36,8 @@ fn any_text(newline: bool, crlf: bool, flags: Flags) -> &'static str
 
 /// The text of an assertion.
 fn assertion_text(assertion: Assertion, flags: Flags) -> &'static str
-    ensures { list_all (λ b. nat_lt b 128) result.now ≡ true }
+    ensures text { letters.assertion_text flags assertion ≡ result.now }
+    ensures ascii { list_all (λ b. nat_lt b 128) result.now ≡ true }
 {
     match assertion {
         Assertion::StartText => if flags.multi { r"\A" } else { "^" },
@@ -57,7 +65,8 @@ fn assertion_text(assertion: Assertion, flags: Flags) -> &'static str
 
 /// The name of a verb, as it stands in the parentheses.
 pub(super) fn verb_name(verb: BacktrackingControlVerb) -> &'static str
-    ensures { list_all (λ b. nat_lt b 128) result.now ≡ true }
+    ensures text { spec.verb_name verb ≡ result.now }
+    ensures ascii { list_all (λ b. nat_lt b 128) result.now ≡ true }
 {
     match verb {
         BacktrackingControlVerb::Fail => "*FAIL",
@@ -69,43 +78,54 @@ pub(super) fn verb_name(verb: BacktrackingControlVerb) -> &'static str
 }
 
 /// Writes a verb.
-fn put_verb<S: Sink>(out: &mut S, verb: BacktrackingControlVerb) -> Result<(), AllocError> {
+#[tactic(auto, using(crate::proofs::SinkLemmas::added_steps))]
+fn put_verb<S: Sink>(out: &mut S, verb: BacktrackingControlVerb) -> Result<(), AllocError>
+    ensures { OnOk result (Added S.holds out.old out.new (spec.parenthesized (spec.verb_name verb))) }
+{
     out.put('(')?;
     put_ascii(out, verb_name(verb))?;
     out.put(')')
 }
 
 /// Writes a condition on a group that stands alone.
+#[tactic(auto, using(crate::proofs::SinkLemmas::added_steps))]
 fn put_condition_alone<S: Sink>(
     out: &mut S,
     known: &Known,
     group: usize,
     level: Option<isize>,
-) -> Result<(), AllocError> {
+) -> Result<(), AllocError>
+    ensures { (m : Marks) → IsKnown known.now m → OnOk result (Added S.holds out.old out.new
+        (codes "(?" ++ (spec.parenthesized (reference.target_text m group level) ++ codes ")"))) }
+{
     put_ascii(out, "(?(")?;
     put_target(out, known, group, level)?;
     put_ascii(out, "))")
 }
 
-/// Writes a reference.
+/// Writes a reference, or nothing for a tree that holds others.
+#[tactic(auto, using(crate::proofs::SinkLemmas::added_steps))]
 fn put_reference<S: Sink>(
     out: &mut S,
     known: &Known,
     leaf: &Expr,
     here: Here,
-) -> Result<(), AllocError> {
+) -> Result<(), AllocError>
+    ensures { (m : Marks) (h : spec.Here) (l : List Needs) → IsKnown known.now m → IsHere here.entry h l →
+        IsReference leaf.now → OnOk result (Added S.holds out.old out.new (alone_text m (view leaf.now) h)) }
+{
     match leaf {
-        Expr::Backref { group, .. } => put_backref(out, known, *group, here),
+        Expr::Backref { group, .. } => put_backref(out, known, *group, here.opened),
         Expr::BackrefWithRelativeRecursionLevel {
             group,
             relative_level,
             ..
-        } => put_backref_at_level(out, known, *group, *relative_level, here),
+        } => put_backref_at_level(out, known, *group, *relative_level, here.opened),
         Expr::BackrefExistsCondition {
             group,
             relative_recursion_level,
         } => put_condition_alone(out, known, *group, *relative_recursion_level),
-        Expr::SubroutineCall(group) => put_call(out, known, *group, here),
+        Expr::SubroutineCall(group) => put_call(out, known, *group, here.opened),
         Expr::AstNode(node, _) => put_unresolved(out, node),
         _ => Ok(()),
     }

@@ -1,4 +1,9 @@
 //! The names of groups, by their numbers.
+ghost use Rattle.std.specs.Prelude.{◌≡◌, chars, option_map};
+ghost use Rattle.fancy_grammar.specs.Marks.{Marks};
+ghost use Rattle.fancy_grammar.specs.PatternReference as spec;
+ghost use Rattle.fancy_syntax.specs.Wheres.{IsKnown, IsNameOf};
+
 use crate::tree::ExprTree;
 use fancy_lex::name::id::id_reference;
 use fancy_lex::name::number_text::number_text;
@@ -74,16 +79,37 @@ impl<'a> Known<'a> {
     }
 
     /// The name of the group.
-    pub(super) fn name_of(&self, group: usize) -> Option<Name<'a>> {
+    pub(super) fn name_of(&self, group: usize) -> Option<Name<'a>>
+        ensures { (m : Marks) → IsKnown self.now m → IsNameOf group result (spec.name_of m group) }
+    {
         self.names.get(&group).copied()
     }
 
-    /// The name that references to the group are written by, where they are written by one.
-    pub(super) fn plain_name_of(&self, group: usize) -> Option<Name<'a>> {
-        if self.is_numeric {
-            return None;
-        }
+    /// The group's name, where references are written by names, and one by this name means the group.
+    #[tactic(auto, using(crate::proofs::KnownLemmas::fit_last))]
+    pub(super) fn last_name(&self, group: usize) -> Option<&'a str>
+        ensures { (m : Marks) → IsKnown self.now m →
+            option_map (λ t. chars t.now) result ≡ spec.fit_name m (spec.is_last group) group }
+    {
         let name = self.name_of(group)?;
-        if name.is_plain { Some(name) } else { None }
+        if !self.is_numeric && name.is_plain && name.is_last {
+            Some(name.text)
+        } else {
+            None
+        }
+    }
+
+    /// The group's name, where references are written by names, and the group alone has this name.
+    #[tactic(auto, using(crate::proofs::KnownLemmas::fit_only))]
+    pub(super) fn only_name(&self, group: usize) -> Option<&'a str>
+        ensures { (m : Marks) → IsKnown self.now m →
+            option_map (λ t. chars t.now) result ≡ spec.fit_name m (spec.is_only group) group }
+    {
+        let name = self.name_of(group)?;
+        if !self.is_numeric && name.is_plain && name.is_only {
+            Some(name.text)
+        } else {
+            None
+        }
     }
 }
