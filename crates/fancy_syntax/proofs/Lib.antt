@@ -20,5 +20,5 @@ pub mod PrintLemmas
 mod EmptyLemmas
 -- ---- the texts of all trees
 pub mod SinkLemmas
-pub mod KnownLemmas
+mod AmongLemmas
 pub mod MarksLemmas

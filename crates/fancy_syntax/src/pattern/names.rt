@@ -86,7 +86,6 @@ impl<'a> Known<'a> {
     }
 
     /// The group's name, where references are written by names, and one by this name means the group.
-    #[tactic(auto, using(crate::proofs::KnownLemmas::fit_last))]
     pub(super) fn last_name(&self, group: usize) -> Option<&'a str>
         ensures { (m : Marks) → IsKnown self.now m →
             option_map (λ t. chars t.now) result ≡ spec.fit_name m (spec.is_last group) group }
@@ -100,7 +99,6 @@ impl<'a> Known<'a> {
     }
 
     /// The group's name, where references are written by names, and the group alone has this name.
-    #[tactic(auto, using(crate::proofs::KnownLemmas::fit_only))]
     pub(super) fn only_name(&self, group: usize) -> Option<&'a str>
         ensures { (m : Marks) → IsKnown self.now m →
             option_map (λ t. chars t.now) result ≡ spec.fit_name m (spec.is_only group) group }

@@ -19,7 +19,6 @@ use fancy_lex::text::{next, split_at};
 use std::alloc::AllocError;
 
 /// The sign of a number.
-#[tactic(auto, using(crate::proofs::KnownLemmas::signed_below, crate::proofs::KnownLemmas::signed_from))]
 fn sign(amount: isize) -> char
     ensures { spec.signed amount ≡ result ∷ decimal (unsigned_abs amount) }
 {
@@ -277,10 +276,7 @@ fn put_call_by_number<S: Sink>(out: &mut S, group: usize) -> Result<(), AllocErr
 }
 
 /// Writes a call of this target that means no group.
-fn put_unresolved_call<S: Sink>(
-    out: &mut S,
-    target: &CaptureGroupTarget,
-) -> Result<(), AllocError>
+fn put_unresolved_call<S: Sink>(out: &mut S, target: &CaptureGroupTarget) -> Result<(), AllocError>
     ensures { OnOk result (Added S.holds out.old out.new (spec.unresolved_text (ast_call (view_target target.now)))) }
 {
     match target {
@@ -309,7 +305,11 @@ fn name_mark(first: char) -> &'static str
     ensures text { (if first ∈ "=!" then codes "?P" else codes "?") ≡ result.now }
     ensures ascii { list_all (λ b. nat_lt b 128) result.now ≡ true }
 {
-    if first == '=' || first == '!' { "?P" } else { "?" }
+    if first == '=' || first == '!' {
+        "?P"
+    } else {
+        "?"
+    }
 }
 
 /// Writes the head of a capturing group of this name.

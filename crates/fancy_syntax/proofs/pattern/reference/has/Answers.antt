@@ -1,5 +1,5 @@
 use Rattle.std.proofs.Common.{ap, sym, ◌∙◌, is_some, chars}
-use Rattle.fancy_syntax.proofs.KnownLemmas.{is_some_parts, is_some_cut}
+use Rattle.fancy_syntax.proofs.AmongLemmas.{is_some_parts, is_some_cut}
 use Rattle.fancy_syntax.proofs.pattern.reference.has.Goals as goal
 
 pub returns : goal.returns
