@@ -1,14 +1,16 @@
 //! Trees that hold no other.
-ghost use Rattle.std.specs.Prelude.{◌≡◌, ◌++◌, codes, nat_lt, true, OnOk};
+ghost use Rattle.std.specs.Prelude.{◌≡◌, List, ◌++◌, codes, nat_lt, true, OnOk};
 ghost use Rattle.std.specs.List.{list_all};
 ghost use Rattle.fancy_grammar.specs.Marks.{Marks};
 ghost use Rattle.fancy_grammar.specs.Pattern as spec;
 ghost use Rattle.fancy_grammar.specs.PatternLetters as letters;
 ghost use Rattle.fancy_grammar.specs.PatternReference as reference;
+ghost use Rattle.fancy_grammar.specs.declared.needs.Needs.{Needs};
 ghost use Rattle.fancy_syntax.specs.Sink.{Added};
-ghost use Rattle.fancy_syntax.specs.Wheres.{IsKnown};
+ghost use Rattle.fancy_syntax.specs.View.{view};
+ghost use Rattle.fancy_syntax.specs.Wheres.{IsHere, IsKnown, alone_text};
 
-use crate::expr::{Assertion, BacktrackingControlVerb, Expr};
+use crate::expr::{Absent, Assertion, BacktrackingControlVerb, Expr};
 use crate::pattern::here::Here;
 use crate::pattern::letters::{put_bytes, put_literal};
 use crate::pattern::names::Known;
@@ -77,6 +79,31 @@ pub(super) fn verb_name(verb: BacktrackingControlVerb) -> &'static str
     }
 }
 
+/// Writes any character.
+#[tactic(auto, using(crate::proofs::SinkLemmas::added_steps))]
+fn put_any<S: Sink>(
+    out: &mut S,
+    newline: bool,
+    crlf: bool,
+    flags: Flags,
+) -> Result<(), AllocError>
+    ensures { OnOk result (Added S.holds out.old out.new (letters.any_text flags newline crlf)) }
+{
+    put_ascii(out, any_text(newline, crlf, flags))
+}
+
+/// Writes an assertion.
+#[tactic(auto, using(crate::proofs::SinkLemmas::added_steps))]
+fn put_assertion<S: Sink>(
+    out: &mut S,
+    assertion: Assertion,
+    flags: Flags,
+) -> Result<(), AllocError>
+    ensures { OnOk result (Added S.holds out.old out.new (letters.assertion_text flags assertion)) }
+{
+    put_ascii(out, assertion_text(assertion, flags))
+}
+
 /// Writes a verb.
 #[tactic(auto, using(crate::proofs::SinkLemmas::added_steps))]
 fn put_verb<S: Sink>(out: &mut S, verb: BacktrackingControlVerb) -> Result<(), AllocError>
@@ -103,18 +130,28 @@ fn put_condition_alone<S: Sink>(
     put_ascii(out, "))")
 }
 
-/// Writes a reference, or nothing for a tree that holds others.
+/// Writes a leaf where its flags are set.
 #[tactic(auto, using(crate::proofs::SinkLemmas::added_steps))]
-fn put_reference<S: Sink>(
+pub(super) fn put_leaf<S: Sink>(
     out: &mut S,
     known: &Known,
     leaf: &Expr,
     here: Here,
 ) -> Result<(), AllocError>
     ensures { (m : Marks) (h : spec.Here) (l : List Needs) → IsKnown known.now m → IsHere here.entry h l →
-        IsReference leaf.now → OnOk result (Added S.holds out.old out.new (alone_text m (view leaf.now) h)) }
+        OnOk result (Added S.holds out.old out.new (alone_text m (view leaf.now) h)) }
 {
     match leaf {
+        Expr::Any { newline, crlf } => put_any(out, *newline, *crlf, here.flags),
+        Expr::Assertion(assertion) => put_assertion(out, *assertion, here.flags),
+        Expr::GeneralNewline { .. } => put_ascii(out, r"\R"),
+        Expr::Literal { val, casei } => put_literal(out, val.as_str(), *casei, here.flags),
+        Expr::LiteralBytes { bytes } => put_bytes(out, bytes.as_slice()),
+        Expr::Delegate { inner, casei } => put_delegate(out, inner.as_str(), *casei, here.flags),
+        Expr::KeepOut => put_ascii(out, r"\K"),
+        Expr::ContinueFromPreviousMatchEnd => put_ascii(out, r"\G"),
+        Expr::BacktrackingControlVerb(verb) => put_verb(out, *verb),
+        Expr::Absent(Absent::Clear) => put_ascii(out, "(?~|)"),
         Expr::Backref { group, .. } => put_backref(out, known, *group, here.opened),
         Expr::BackrefWithRelativeRecursionLevel {
             group,
@@ -128,26 +165,5 @@ fn put_reference<S: Sink>(
         Expr::SubroutineCall(group) => put_call(out, known, *group, here.opened),
         Expr::AstNode(node, _) => put_unresolved(out, node),
         _ => Ok(()),
-    }
-}
-
-/// Writes a leaf where its flags are set.
-pub(super) fn put_leaf<S: Sink>(
-    out: &mut S,
-    known: &Known,
-    leaf: &Expr,
-    here: Here,
-) -> Result<(), AllocError> {
-    match leaf {
-        Expr::Any { newline, crlf } => put_ascii(out, any_text(*newline, *crlf, here.flags)),
-        Expr::Assertion(assertion) => put_ascii(out, assertion_text(*assertion, here.flags)),
-        Expr::GeneralNewline { .. } => put_ascii(out, r"\R"),
-        Expr::Literal { val, casei } => put_literal(out, val.as_str(), *casei, here.flags),
-        Expr::LiteralBytes { bytes } => put_bytes(out, bytes.as_slice()),
-        Expr::Delegate { inner, casei } => put_delegate(out, inner.as_str(), *casei, here.flags),
-        Expr::KeepOut => put_ascii(out, r"\K"),
-        Expr::ContinueFromPreviousMatchEnd => put_ascii(out, r"\G"),
-        Expr::BacktrackingControlVerb(verb) => put_verb(out, *verb),
-        _ => put_reference(out, known, leaf, here),
     }
 }

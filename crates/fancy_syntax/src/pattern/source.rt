@@ -150,7 +150,9 @@ pub(super) fn put_delegate<S: Sink>(
     inner: &str,
     casei: bool,
     flags: Flags,
-) -> Result<(), AllocError> {
+) -> Result<(), AllocError>
+    ensures { OnOk result (Added S.holds out.old out.new (spec.delegate_text flags casei (chars inner.now))) }
+{
     if flags.casei && !casei && is_text(inner, "[0-9A-Fa-f]") {
         return put_ascii(out, r"\h");
     }
