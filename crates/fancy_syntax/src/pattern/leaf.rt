@@ -81,12 +81,7 @@ pub(super) fn verb_name(verb: BacktrackingControlVerb) -> &'static str
 
 /// Writes any character.
 #[tactic(auto, using(crate::proofs::SinkLemmas::added_steps))]
-fn put_any<S: Sink>(
-    out: &mut S,
-    newline: bool,
-    crlf: bool,
-    flags: Flags,
-) -> Result<(), AllocError>
+fn put_any<S: Sink>(out: &mut S, newline: bool, crlf: bool, flags: Flags) -> Result<(), AllocError>
     ensures { OnOk result (Added S.holds out.old out.new (letters.any_text flags newline crlf)) }
 {
     put_ascii(out, any_text(newline, crlf, flags))
@@ -94,11 +89,7 @@ fn put_any<S: Sink>(
 
 /// Writes an assertion.
 #[tactic(auto, using(crate::proofs::SinkLemmas::added_steps))]
-fn put_assertion<S: Sink>(
-    out: &mut S,
-    assertion: Assertion,
-    flags: Flags,
-) -> Result<(), AllocError>
+fn put_assertion<S: Sink>(out: &mut S, assertion: Assertion, flags: Flags) -> Result<(), AllocError>
     ensures { OnOk result (Added S.holds out.old out.new (letters.assertion_text flags assertion)) }
 {
     put_ascii(out, assertion_text(assertion, flags))

@@ -35,7 +35,9 @@ pub(super) struct Known<'a> {
 }
 
 /// Whether the name is an id, and no number text.
-fn is_plain_name(name: &str) -> bool {
+fn is_plain_name(name: &str) -> bool
+    ensures { result ≡ spec.is_plain_name (chars name.now) }
+{
     id_reference(name, false).is_some() && number_text(name).is_none()
 }
 
