@@ -21,4 +21,5 @@ mod EmptyLemmas
 -- ---- the texts of all trees
 pub mod SinkLemmas
 mod AmongLemmas
+mod NamesLemmas
 pub mod MarksLemmas

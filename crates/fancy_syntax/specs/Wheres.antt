@@ -1,12 +1,13 @@
 -- How the place of a writer of texts, and what it knows beside the tree, stand to the definition.
-use Rattle.std.specs.Prelude.{◌≡◌, ℕ, ◌-◌, List, [], chars, Option, Some, None, ⊤}
-use Rattle.std.specs.BTreeMap.{get}
+use Rattle.std.specs.Prelude.{◌≡◌, ℕ, ◌-◌, ◌==◌, List, [], chars, find, Option, Some, None, ⊤}
+use Rattle.std.specs.BTreeMap.{BTreeMap, get}
+use Rattle.std.specs.List.{list_any}
 use Rattle.std.specs.Ordering.{nat_cmp}
 use Rattle.fancy_lex.specs.Text.{Text}
 use Rattle.fancy_grammar.specs.Depth.{max_depth}
 use Rattle.fancy_grammar.specs.Marks.{Marks}
 use Rattle.fancy_grammar.specs.Pattern.{Here, leaf_text}
-use Rattle.fancy_grammar.specs.PatternReference.{Named, name_of, is_plain_name, is_last, is_only}
+use Rattle.fancy_grammar.specs.PatternReference.{Named, is_plain_name, is_last, is_only}
 use Rattle.fancy_grammar.specs.Tree.{Tree, leaf}
 use Rattle.fancy_grammar.specs.declared.needs.Needs.{Needs}
 use Rattle.fancy_syntax.specs.declared.pattern.here.Here as code
@@ -37,11 +38,15 @@ IsNameOf n None None = ⊤
 IsNameOf n (Some a) (Some e) = Tells n a e
 IsNameOf n _ _ = ⊥
 
+-- each group has the name that the entries give it
+pub record AreNames (b : BTreeMap ℕ name.Name) (es : List Named) : Type 0 where
+  pub at : (n : ℕ) → IsNameOf n (get nat_cmp b n) (find (λ e. list_any (λ k. k == n) e.1) es)
+
 -- what is known of the tree is what its marks say
 pub record IsKnown (k : known.Known) (m : Marks) : Type 0 where
   pub numeric : k.is_numeric ≡ m.numeric_capture_group_references
   pub self_recursive : k.self_recursive ≡ m.self_recursive
-  pub names : (n : ℕ) → IsNameOf n (get nat_cmp k.names n) (name_of m n)
+  pub names : AreNames k.names m.named_groups
 
 -- ---- leaves
 

@@ -1,8 +1,13 @@
 //! The names of groups, by their numbers.
-ghost use Rattle.std.specs.Prelude.{◌≡◌, chars, option_map};
+ghost use Rattle.std.specs.Prelude.{◌≡◌, ℕ, List, [], ◌∷◌, ◌++◌, chars, Some, None, option_map, IfOk, if◌then◌else◌, ◌==◌};
+ghost use Rattle.std.specs.BTreeMap.{get};
+ghost use Rattle.std.specs.Option.{option_or};
+ghost use Rattle.std.specs.Ordering.{nat_cmp};
 ghost use Rattle.fancy_grammar.specs.Marks.{Marks};
 ghost use Rattle.fancy_grammar.specs.PatternReference as spec;
-ghost use Rattle.fancy_syntax.specs.Wheres.{IsKnown, IsNameOf};
+ghost use Rattle.fancy_grammar.specs.PatternReference.{Named};
+ghost use Rattle.fancy_syntax.specs.Answer.{marks_of};
+ghost use Rattle.fancy_syntax.specs.Wheres.{AreNames, IsKnown, IsNameOf};
 
 use crate::tree::ExprTree;
 use fancy_lex::name::id::id_reference;
@@ -41,34 +46,68 @@ fn is_plain_name(name: &str) -> bool
     id_reference(name, false).is_some() && number_text(name).is_none()
 }
 
+/// Whether the number is the last of the numbers.
+fn is_last(number: usize, numbers: &[usize]) -> bool
+    ensures { result ≡ spec.is_last number numbers.now }
+{
+    match numbers.last() {
+        Some(last) => *last == number,
+        None => false,
+    }
+}
+
+/// Whether the number is the only one of the numbers.
+fn is_only(number: usize, numbers: &[usize]) -> bool
+    ensures { result ≡ spec.is_only number numbers.now }
+{
+    match numbers {
+        [only] => *only == number,
+        _ => false,
+    }
+}
+
+/// Adds the name of the group with this number, if it has none.
+fn add_number<'a>(
+    names: &mut BTreeMap<usize, Name<'a>>,
+    number: usize,
+    name: Name<'a>,
+) -> Result<(), AllocError>
+    ensures { IfOk result (λ _. (n : ℕ) → get nat_cmp names.new n
+        ≡ option_or (get nat_cmp names.old n) (if number == n then Some name.entry else None)) }
+{
+    if !names.contains_key(&number) {
+        names.insert(number, name)?;
+    }
+    Ok(())
+}
+
 /// Adds the name for each of the numbers that has none.
 fn add_name<'a>(
     names: &mut BTreeMap<usize, Name<'a>>,
     text: &'a str,
     numbers: &[usize],
-) -> Result<(), AllocError> {
+) -> Result<(), AllocError>
+    ensures { (es : List Named) → AreNames names.old es →
+        IfOk result (λ _. AreNames names.new (es ++ (chars text.now, numbers.now) ∷ [])) }
+{
     let is_plain = is_plain_name(text);
-    for (i, number) in numbers.iter().enumerate() {
-        if !names.contains_key(number) {
-            let is_last = i + 1 == numbers.len();
-            let is_only = is_last && i == 0;
-            names.insert(
-                *number,
-                Name {
-                    text,
-                    is_plain,
-                    is_last,
-                    is_only,
-                },
-            )?;
-        }
+    for number in numbers {
+        let name = Name {
+            text,
+            is_plain,
+            is_last: is_last(*number, numbers),
+            is_only: is_only(*number, numbers),
+        };
+        add_number(names, *number, name)?;
     }
     Ok(())
 }
 
 impl<'a> Known<'a> {
     /// What is known of the tree.
-    pub(super) fn new(alloc: Global, tree: &'a ExprTree) -> Result<Known<'a>, AllocError> {
+    pub(super) fn new(alloc: Global, tree: &'a ExprTree) -> Result<Known<'a>, AllocError>
+        ensures { IfOk result (λ k. IsKnown k (marks_of tree.now)) }
+    {
         let mut names = BTreeMap::new(alloc);
         for (name, numbers) in &tree.named_groups {
             add_name(&mut names, name.as_str(), numbers.as_slice())?;
