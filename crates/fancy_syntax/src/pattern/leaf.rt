@@ -121,7 +121,7 @@ fn put_condition_alone<S: Sink>(
     put_ascii(out, "))")
 }
 
-/// Writes a leaf where its flags are set.
+/// Writes a leaf where its flags are set, and nothing for a tree that holds others.
 #[tactic(auto, using(crate::proofs::SinkLemmas::added_steps))]
 pub(super) fn put_leaf<S: Sink>(
     out: &mut S,

@@ -23,9 +23,9 @@ pub(super) struct Name<'a> {
     /// Whether it is an id, and no number text.
     is_plain: bool,
     /// Whether the group is the last of this name.
-    pub(super) is_last: bool,
+    is_last: bool,
     /// Whether it is the only one.
-    pub(super) is_only: bool,
+    is_only: bool,
 }
 
 /// What the text of a tree depends on beside the tree.
