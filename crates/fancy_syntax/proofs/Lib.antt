@@ -21,3 +21,4 @@ mod EmptyLemmas
 -- ---- the texts of all trees
 pub mod SinkLemmas
 pub mod MarksLemmas
+mod NeedsWalk
