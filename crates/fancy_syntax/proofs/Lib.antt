@@ -22,3 +22,4 @@ mod EmptyLemmas
 pub mod SinkLemmas
 pub mod MarksLemmas
 mod NeedsWalk
+mod SourceWalk
