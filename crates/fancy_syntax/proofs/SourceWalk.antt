@@ -1,18 +1,16 @@
 -- The source of a Delegate, part by part.
-use Rattle.std.proofs.Common.{◌≡◌, ◌≢◌, ◌⊎◌, inl, inr, ℕ, ◌+◌, ◌<◌, ◌==◌, Bool, true, false, not, ◌||◌, ◌&&◌}
+use Rattle.std.proofs.Common.{◌≡◌, ◌≢◌, ◌⊎◌, inl, inr, ℕ, ◌<◌, ◌==◌, Bool, true, false, not, ◌||◌}
 use Rattle.std.proofs.Common.{List, [], ◌∷◌, ◌++◌, length, length-append, Option, Some, None, if◌then◌else◌}
 use Rattle.std.proofs.Common.{refl, ap, sym, subst, ◌∙◌, arith, eq-eqb}
-use Rattle.std.proofs.Math.Bool.{and-true, or-false}
+use Rattle.std.proofs.Math.Bool.{or-false}
 use Rattle.std.proofs.lemmas.Bool.{ne_eqb}
-use Rattle.std.specs.Prelude.{option_map, option_and_then, codes}
 use Rattle.std.specs.Option.{option_or}
 use Rattle.fancy_lex.specs.Characters.{◌∈◌, backslash, open_brace, close_brace}
-use Rattle.fancy_lex.specs.Class.{joint}
 use Rattle.fancy_lex.specs.Property.{letter}
 use Rattle.fancy_lex.specs.Reading.{choose}
-use Rattle.fancy_lex.specs.Text.{Text, EndsWith, strip, strip_word, cut_at}
+use Rattle.fancy_lex.specs.Text.{Text, EndsWith, strip_word, cut_at}
 use Rattle.fancy_grammar.specs.PatternLetters.{by_letter_or, plain}
-use Rattle.fancy_grammar.specs.PatternSource.{Replaced, Part, part, negated_set, written_after, replaced, replaced_part}
+use Rattle.fancy_grammar.specs.PatternSource.{Replaced, Part, part, written_after, replaced, replaced_part}
 use Rattle.fancy_grammar.specs.PatternSource.{named_property, property_part, single_part, part_at, source_from}
 use Rattle.fancy_grammar.proofs.SourceLemmas.{source_goes_on, source_ends, part_left}
 use Rattle.fancy_syntax.specs.Sink.{Added}
