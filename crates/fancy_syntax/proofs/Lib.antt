@@ -23,3 +23,5 @@ pub mod SinkLemmas
 mod AmongLemmas
 mod NamesLemmas
 pub mod MarksLemmas
+mod NeedsWalk
+mod SourceWalk
