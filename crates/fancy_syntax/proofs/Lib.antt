@@ -20,4 +20,8 @@ pub mod PrintLemmas
 mod EmptyLemmas
 -- ---- the texts of all trees
 pub mod SinkLemmas
+mod AmongLemmas
+mod NamesLemmas
 pub mod MarksLemmas
+mod NeedsWalk
+mod SourceWalk

@@ -42,3 +42,4 @@ pub mod Notes
 -- ---- the writing of texts
 pub mod Sink
 pub mod Wheres
+pub mod Source

@@ -1,8 +1,16 @@
 //! Trees that hold no other.
-ghost use Rattle.std.specs.Prelude.{◌≡◌, nat_lt, true};
+ghost use Rattle.std.specs.Prelude.{◌≡◌, List, ◌++◌, codes, nat_lt, true, OnOk};
 ghost use Rattle.std.specs.List.{list_all};
+ghost use Rattle.fancy_grammar.specs.Marks.{Marks};
+ghost use Rattle.fancy_grammar.specs.Pattern as spec;
+ghost use Rattle.fancy_grammar.specs.PatternLetters as letters;
+ghost use Rattle.fancy_grammar.specs.PatternReference as reference;
+ghost use Rattle.fancy_grammar.specs.declared.needs.Needs.{Needs};
+ghost use Rattle.fancy_syntax.specs.Sink.{Added};
+ghost use Rattle.fancy_syntax.specs.View.{view};
+ghost use Rattle.fancy_syntax.specs.Wheres.{IsHere, IsKnown, alone_text};
 
-use crate::expr::{Assertion, BacktrackingControlVerb, Expr};
+use crate::expr::{Absent, Assertion, BacktrackingControlVerb, Expr};
 use crate::pattern::here::Here;
 use crate::pattern::letters::{put_bytes, put_literal};
 use crate::pattern::names::Known;
@@ -16,7 +24,8 @@ use std::alloc::AllocError;
 
 /// The text of any character.
 fn any_text(newline: bool, crlf: bool, flags: Flags) -> &'static str
-    ensures { list_all (λ b. nat_lt b 128) result.now ≡ true }
+    ensures text { letters.any_text flags newline crlf ≡ result.now }
+    ensures ascii { list_all (λ b. nat_lt b 128) result.now ≡ true }
 {
     if newline == flags.dotnl && crlf == flags.crlf {
         "."
@@ -29,7 +38,8 @@ fn any_text(newline: bool, crlf: bool, flags: Flags) -> &'static str
 
 /// The text of an assertion.
 fn assertion_text(assertion: Assertion, flags: Flags) -> &'static str
-    ensures { list_all (λ b. nat_lt b 128) result.now ≡ true }
+    ensures text { letters.assertion_text flags assertion ≡ result.now }
+    ensures ascii { list_all (λ b. nat_lt b 128) result.now ≡ true }
 {
     match assertion {
         Assertion::StartText => if flags.multi { r"\A" } else { "^" },
@@ -57,7 +67,8 @@ fn assertion_text(assertion: Assertion, flags: Flags) -> &'static str
 
 /// The name of a verb, as it stands in the parentheses.
 pub(super) fn verb_name(verb: BacktrackingControlVerb) -> &'static str
-    ensures { list_all (λ b. nat_lt b 128) result.now ≡ true }
+    ensures text { spec.verb_name verb ≡ result.now }
+    ensures ascii { list_all (λ b. nat_lt b 128) result.now ≡ true }
 {
     match verb {
         BacktrackingControlVerb::Fail => "*FAIL",
@@ -68,59 +79,62 @@ pub(super) fn verb_name(verb: BacktrackingControlVerb) -> &'static str
     }
 }
 
+/// Writes any character.
+#[tactic(auto, using(crate::proofs::SinkLemmas::added_steps))]
+fn put_any<S: Sink>(out: &mut S, newline: bool, crlf: bool, flags: Flags) -> Result<(), AllocError>
+    ensures { OnOk result (Added S.holds out.old out.new (letters.any_text flags newline crlf)) }
+{
+    put_ascii(out, any_text(newline, crlf, flags))
+}
+
+/// Writes an assertion.
+#[tactic(auto, using(crate::proofs::SinkLemmas::added_steps))]
+fn put_assertion<S: Sink>(out: &mut S, assertion: Assertion, flags: Flags) -> Result<(), AllocError>
+    ensures { OnOk result (Added S.holds out.old out.new (letters.assertion_text flags assertion)) }
+{
+    put_ascii(out, assertion_text(assertion, flags))
+}
+
 /// Writes a verb.
-fn put_verb<S: Sink>(out: &mut S, verb: BacktrackingControlVerb) -> Result<(), AllocError> {
+#[tactic(auto, using(crate::proofs::SinkLemmas::added_steps))]
+fn put_verb<S: Sink>(out: &mut S, verb: BacktrackingControlVerb) -> Result<(), AllocError>
+    ensures { OnOk result (Added S.holds out.old out.new (spec.parenthesized (spec.verb_name verb))) }
+{
     out.put('(')?;
     put_ascii(out, verb_name(verb))?;
     out.put(')')
 }
 
 /// Writes a condition on a group that stands alone.
+#[tactic(auto, using(crate::proofs::SinkLemmas::added_steps))]
 fn put_condition_alone<S: Sink>(
     out: &mut S,
     known: &Known,
     group: usize,
     level: Option<isize>,
-) -> Result<(), AllocError> {
+) -> Result<(), AllocError>
+    ensures { (m : Marks) → IsKnown known.now m → OnOk result (Added S.holds out.old out.new
+        (codes "(?" ++ (spec.parenthesized (reference.target_text m group level) ++ codes ")"))) }
+{
     put_ascii(out, "(?(")?;
     put_target(out, known, group, level)?;
     put_ascii(out, "))")
 }
 
-/// Writes a reference.
-fn put_reference<S: Sink>(
-    out: &mut S,
-    known: &Known,
-    leaf: &Expr,
-    here: Here,
-) -> Result<(), AllocError> {
-    match leaf {
-        Expr::Backref { group, .. } => put_backref(out, known, *group, here),
-        Expr::BackrefWithRelativeRecursionLevel {
-            group,
-            relative_level,
-            ..
-        } => put_backref_at_level(out, known, *group, *relative_level, here),
-        Expr::BackrefExistsCondition {
-            group,
-            relative_recursion_level,
-        } => put_condition_alone(out, known, *group, *relative_recursion_level),
-        Expr::SubroutineCall(group) => put_call(out, known, *group, here),
-        Expr::AstNode(node, _) => put_unresolved(out, node),
-        _ => Ok(()),
-    }
-}
-
-/// Writes a leaf where its flags are set.
+/// Writes a leaf where its flags are set, and nothing for a tree that holds others.
+#[tactic(auto, using(crate::proofs::SinkLemmas::added_steps))]
 pub(super) fn put_leaf<S: Sink>(
     out: &mut S,
     known: &Known,
     leaf: &Expr,
     here: Here,
-) -> Result<(), AllocError> {
+) -> Result<(), AllocError>
+    ensures { (m : Marks) (h : spec.Here) (l : List Needs) → IsKnown known.now m → IsHere here.entry h l →
+        OnOk result (Added S.holds out.old out.new (alone_text m (view leaf.now) h)) }
+{
     match leaf {
-        Expr::Any { newline, crlf } => put_ascii(out, any_text(*newline, *crlf, here.flags)),
-        Expr::Assertion(assertion) => put_ascii(out, assertion_text(*assertion, here.flags)),
+        Expr::Any { newline, crlf } => put_any(out, *newline, *crlf, here.flags),
+        Expr::Assertion(assertion) => put_assertion(out, *assertion, here.flags),
         Expr::GeneralNewline { .. } => put_ascii(out, r"\R"),
         Expr::Literal { val, casei } => put_literal(out, val.as_str(), *casei, here.flags),
         Expr::LiteralBytes { bytes } => put_bytes(out, bytes.as_slice()),
@@ -128,6 +142,19 @@ pub(super) fn put_leaf<S: Sink>(
         Expr::KeepOut => put_ascii(out, r"\K"),
         Expr::ContinueFromPreviousMatchEnd => put_ascii(out, r"\G"),
         Expr::BacktrackingControlVerb(verb) => put_verb(out, *verb),
-        _ => put_reference(out, known, leaf, here),
+        Expr::Absent(Absent::Clear) => put_ascii(out, "(?~|)"),
+        Expr::Backref { group, .. } => put_backref(out, known, *group, here.opened),
+        Expr::BackrefWithRelativeRecursionLevel {
+            group,
+            relative_level,
+            ..
+        } => put_backref_at_level(out, known, *group, *relative_level, here.opened),
+        Expr::BackrefExistsCondition {
+            group,
+            relative_recursion_level,
+        } => put_condition_alone(out, known, *group, *relative_recursion_level),
+        Expr::SubroutineCall(group) => put_call(out, known, *group, here.opened),
+        Expr::AstNode(node, _) => put_unresolved(out, node),
+        _ => Ok(()),
     }
 }

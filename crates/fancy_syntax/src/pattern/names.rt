@@ -1,4 +1,14 @@
 //! The names of groups, by their numbers.
+ghost use Rattle.std.specs.Prelude.{◌≡◌, ℕ, List, [], ◌∷◌, ◌++◌, chars, Some, None, option_map, IfOk, if◌then◌else◌, ◌==◌};
+ghost use Rattle.std.specs.BTreeMap.{get};
+ghost use Rattle.std.specs.Option.{option_or};
+ghost use Rattle.std.specs.Ordering.{nat_cmp};
+ghost use Rattle.fancy_grammar.specs.Marks.{Marks};
+ghost use Rattle.fancy_grammar.specs.PatternReference as spec;
+ghost use Rattle.fancy_grammar.specs.PatternReference.{Named};
+ghost use Rattle.fancy_syntax.specs.Answer.{marks_of};
+ghost use Rattle.fancy_syntax.specs.Wheres.{AreNames, IsKnown, IsNameOf};
+
 use crate::tree::ExprTree;
 use fancy_lex::name::id::id_reference;
 use fancy_lex::name::number_text::number_text;
@@ -13,9 +23,9 @@ pub(super) struct Name<'a> {
     /// Whether it is an id, and no number text.
     is_plain: bool,
     /// Whether the group is the last of this name.
-    pub(super) is_last: bool,
+    is_last: bool,
     /// Whether it is the only one.
-    pub(super) is_only: bool,
+    is_only: bool,
 }
 
 /// What the text of a tree depends on beside the tree.
@@ -30,8 +40,45 @@ pub(super) struct Known<'a> {
 }
 
 /// Whether the name is an id, and no number text.
-fn is_plain_name(name: &str) -> bool {
+fn is_plain_name(name: &str) -> bool
+    ensures { result ≡ spec.is_plain_name (chars name.now) }
+{
     id_reference(name, false).is_some() && number_text(name).is_none()
+}
+
+/// Whether the number is the last of the numbers.
+fn is_last(number: usize, numbers: &[usize]) -> bool
+    ensures { result ≡ spec.is_last number numbers.now }
+{
+    match numbers.last() {
+        Some(last) => *last == number,
+        None => false,
+    }
+}
+
+/// Whether the number is the only one of the numbers.
+fn is_only(number: usize, numbers: &[usize]) -> bool
+    ensures { result ≡ spec.is_only number numbers.now }
+{
+    match numbers {
+        [only] => *only == number,
+        _ => false,
+    }
+}
+
+/// Adds the name of the group with this number, if it has none.
+fn add_number<'a>(
+    names: &mut BTreeMap<usize, Name<'a>>,
+    number: usize,
+    name: Name<'a>,
+) -> Result<(), AllocError>
+    ensures { IfOk result (λ _. (n : ℕ) → get nat_cmp names.new n
+        ≡ option_or (get nat_cmp names.old n) (if number == n then Some name.entry else None)) }
+{
+    if !names.contains_key(&number) {
+        names.insert(number, name)?;
+    }
+    Ok(())
 }
 
 /// Adds the name for each of the numbers that has none.
@@ -39,29 +86,28 @@ fn add_name<'a>(
     names: &mut BTreeMap<usize, Name<'a>>,
     text: &'a str,
     numbers: &[usize],
-) -> Result<(), AllocError> {
+) -> Result<(), AllocError>
+    ensures { (es : List Named) → AreNames names.old es →
+        IfOk result (λ _. AreNames names.new (es ++ (chars text.now, numbers.now) ∷ [])) }
+{
     let is_plain = is_plain_name(text);
-    for (i, number) in numbers.iter().enumerate() {
-        if !names.contains_key(number) {
-            let is_last = i + 1 == numbers.len();
-            let is_only = is_last && i == 0;
-            names.insert(
-                *number,
-                Name {
-                    text,
-                    is_plain,
-                    is_last,
-                    is_only,
-                },
-            )?;
-        }
+    for number in numbers {
+        let name = Name {
+            text,
+            is_plain,
+            is_last: is_last(*number, numbers),
+            is_only: is_only(*number, numbers),
+        };
+        add_number(names, *number, name)?;
     }
     Ok(())
 }
 
 impl<'a> Known<'a> {
     /// What is known of the tree.
-    pub(super) fn new(alloc: Global, tree: &'a ExprTree) -> Result<Known<'a>, AllocError> {
+    pub(super) fn new(alloc: Global, tree: &'a ExprTree) -> Result<Known<'a>, AllocError>
+        ensures { IfOk result (λ k. IsKnown k (marks_of tree.now)) }
+    {
         let mut names = BTreeMap::new(alloc);
         for (name, numbers) in &tree.named_groups {
             add_name(&mut names, name.as_str(), numbers.as_slice())?;
@@ -74,16 +120,35 @@ impl<'a> Known<'a> {
     }
 
     /// The name of the group.
-    pub(super) fn name_of(&self, group: usize) -> Option<Name<'a>> {
+    pub(super) fn name_of(&self, group: usize) -> Option<Name<'a>>
+        ensures { (m : Marks) → IsKnown self.now m → IsNameOf group result (spec.name_of m group) }
+    {
         self.names.get(&group).copied()
     }
 
-    /// The name that references to the group are written by, where they are written by one.
-    pub(super) fn plain_name_of(&self, group: usize) -> Option<Name<'a>> {
-        if self.is_numeric {
-            return None;
-        }
+    /// The group's name, where references are written by names, and one by this name means the group.
+    pub(super) fn last_name(&self, group: usize) -> Option<&'a str>
+        ensures { (m : Marks) → IsKnown self.now m →
+            option_map (λ t. chars t.now) result ≡ spec.fit_name m (spec.is_last group) group }
+    {
         let name = self.name_of(group)?;
-        if name.is_plain { Some(name) } else { None }
+        if !self.is_numeric && name.is_plain && name.is_last {
+            Some(name.text)
+        } else {
+            None
+        }
+    }
+
+    /// The group's name, where references are written by names, and the group alone has this name.
+    pub(super) fn only_name(&self, group: usize) -> Option<&'a str>
+        ensures { (m : Marks) → IsKnown self.now m →
+            option_map (λ t. chars t.now) result ≡ spec.fit_name m (spec.is_only group) group }
+    {
+        let name = self.name_of(group)?;
+        if !self.is_numeric && name.is_plain && name.is_only {
+            Some(name.text)
+        } else {
+            None
+        }
     }
 }

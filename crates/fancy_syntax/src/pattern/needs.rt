@@ -1,8 +1,10 @@
 //! What a tree needs of the flags that a text sets.
-ghost use Rattle.std.specs.Prelude.{◌≡◌, Bool, chars};
+ghost use Rattle.std.specs.Prelude.{◌≡◌, Bool, chars, ◌++◌, IfOk};
 ghost use Rattle.std.specs.List.{list_all};
 ghost use Rattle.fancy_grammar.specs.Label.{literal, delegate};
 ghost use Rattle.fancy_grammar.specs.PatternNeeds as spec;
+ghost use Rattle.fancy_grammar.specs.PatternWalk.{needs_alone, needs_listed};
+ghost use Rattle.fancy_syntax.specs.View.{view};
 
 use crate::expr::{Assertion, Expr};
 use crate::pattern::parting::is_text;
@@ -115,7 +117,9 @@ fn delegate_needs(text: &str, casei: bool) -> Needs
 }
 
 /// What a leaf needs; nothing for a tree that holds others.
-fn leaf_needs(tree: &Expr, oniguruma_mode: bool) -> Needs {
+fn leaf_needs(tree: &Expr, oniguruma_mode: bool) -> Needs
+    ensures { result ≡ needs_alone oniguruma_mode (view tree.now) }
+{
     match tree {
         Expr::Literal { val, casei } => literal_needs(val.as_str(), *casei, oniguruma_mode),
         Expr::Delegate { inner, casei } => delegate_needs(inner.as_str(), *casei),
@@ -179,11 +183,10 @@ fn both_needs(one: Needs, other: Needs) -> Needs
 
 /// Adds for each node of the tree, in preorder, what the first leaf in it needs that needs something, and answers what
 /// that is for the tree.
-fn push_needs(
-    list: &mut Vec<Needs>,
-    tree: &Expr,
-    oniguruma_mode: bool,
-) -> Result<Needs, AllocError> {
+fn push_needs(list: &mut Vec<Needs>, tree: &Expr, oniguruma_mode: bool) -> Result<Needs, AllocError>
+    ensures { IfOk result (λ n. (n ≡ spec.needs spec.first oniguruma_mode (view tree.now))
+        × (list.new.items ≡ list.old.items ++ needs_listed oniguruma_mode (view tree.now))) }
+{
     let at = list.len();
     let mut needs = leaf_needs(tree, oniguruma_mode);
     list.push(needs)?;
@@ -202,14 +205,18 @@ pub(super) fn all_needs(
     alloc: Global,
     tree: &Expr,
     oniguruma_mode: bool,
-) -> Result<Vec<Needs>, AllocError> {
+) -> Result<Vec<Needs>, AllocError>
+    ensures { IfOk result (λ v. v.items ≡ needs_listed oniguruma_mode (view tree.now)) }
+{
     let mut list = Vec::new(alloc);
     push_needs(&mut list, tree, oniguruma_mode)?;
     Ok(list)
 }
 
 /// What all leaves of the tree need together.
-pub(super) fn common_needs(tree: &Expr, oniguruma_mode: bool) -> Needs {
+pub(super) fn common_needs(tree: &Expr, oniguruma_mode: bool) -> Needs
+    ensures { result ≡ spec.needs spec.both oniguruma_mode (view tree.now) }
+{
     let mut needs = leaf_needs(tree, oniguruma_mode);
     let mut children = tree.children_iter();
     while let Some(child) = children.next() {

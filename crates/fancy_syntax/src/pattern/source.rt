@@ -1,9 +1,12 @@
 //! What a Delegate was written as: a text that the reader writes as that of the Delegate.
-ghost use Rattle.std.specs.Prelude.{◌≡◌, true, nat_lt, chars, OnOk};
+ghost use Rattle.std.specs.Prelude.{◌≡◌, ◌∷◌, [], Bool, true, nat_lt, chars, option_map, IfOk, OnOk};
 ghost use Rattle.std.specs.List.{list_all};
+ghost use Rattle.fancy_lex.specs.Class.{joint};
 ghost use Rattle.fancy_lex.specs.Property as property;
+ghost use Rattle.fancy_lex.specs.Text.{strip_word};
 ghost use Rattle.fancy_grammar.specs.PatternSource as spec;
 ghost use Rattle.fancy_syntax.specs.Sink.{Added};
+ghost use Rattle.fancy_syntax.specs.Source.{AddedPart, found_part};
 
 use crate::pattern::letters::put_class_character;
 use crate::pattern::parting::is_text;
@@ -12,36 +15,82 @@ use fancy_lex::flags::Flags;
 use fancy_lex::text::{after, after_word, next, split_at};
 use std::alloc::AllocError;
 
-/// An escape, and the text behind what the reader writes for it.
-type Found<'a> = (&'static str, &'a str);
-
-/// The escape, where the text begins with what the reader writes for it.
-fn row<'a>(text: &'a str, written: &'static str, escape: &'static str) -> Option<Found<'a>> {
-    Some((escape, after_word(text, written)?))
+/// An escape, where the text begins with what the reader writes for it.
+#[derive(Clone, Copy)]
+struct Found<'a> {
+    /// The escape.
+    escape: &'static str,
+    /// The text behind what the reader writes for it.
+    rest: &'a str,
+    /// Whether that is a negated set.
+    negated: bool,
 }
 
-/// The escape at the front that is written so that its items alone do not read as it.
-fn item_at(text: &str, unicode: bool) -> Option<Found<'_>> {
-    if !unicode {
-        return row(text, r"\t ", r"\p{blank}");
-    }
-    row(text, r"\p{Zs}\x09", r"\p{blank}")
-        .or(row(text, r"\x00-\x1F\x7F-\x9F", r"\p{cntrl}"))
-        .or(row(text, r"[\p{White_Space}\p{C}]", r"\P{graph}"))
-        .or(row(text, r"[\p{C}\t\n\v\f\r]", r"\P{print}"))
+/// The escape, where the text begins with the items that the reader writes for it.
+fn items<'a>(text: &'a str, written: &'static str, escape: &'static str) -> Option<Found<'a>>
+    ensures { (seen : Bool) → found_part result
+        ≡ spec.replaced_part seen (spec.items (chars written.now) (chars escape.now) ∷ []) (chars text.now) }
+{
+    let rest = after_word(text, written)?;
+    Some(Found {
+        escape,
+        rest,
+        negated: false,
+    })
 }
 
-/// The same of negated sets, before which the reader writes `&&` where it wrote another before.
-fn negated_item_at(text: &str, unicode: bool, seen: bool) -> Option<Found<'_>> {
-    if !unicode {
-        return None;
+/// The text behind the `&&` that the reader writes before a negated set where it wrote another before.
+fn after_joint(text: &str, seen: bool) -> Option<&str>
+    ensures { strip_word (joint seen) (chars text.now) ≡ option_map (λ r. chars r.now) result }
+{
+    if seen {
+        after_word(text, "&&")
+    } else {
+        Some(text)
     }
-    let text = if seen { after_word(text, "&&")? } else { text };
-    row(text, r"[^\p{White_Space}\p{C}]", r"\p{graph}").or(row(
-        text,
-        r"[^\p{C}\t\n\v\f\r]",
-        r"\p{print}",
-    ))
+}
+
+/// The escape, where the text begins with the negated set that the reader writes for it, behind `&&` where it wrote
+/// another before.
+fn negated_set<'a>(
+    text: &'a str,
+    seen: bool,
+    written: &'static str,
+    escape: &'static str,
+) -> Option<Found<'a>>
+    ensures { found_part result
+        ≡ spec.replaced_part seen (spec.negated_set (chars written.now) (chars escape.now) ∷ []) (chars text.now) }
+{
+    let set = after_joint(text, seen)?;
+    let rest = after_word(set, written)?;
+    Some(Found {
+        escape,
+        rest,
+        negated: true,
+    })
+}
+
+/// The escape at the front, where UNICODE is set, that no other source is written as.
+fn replaced_with_unicode(text: &str, seen: bool) -> Option<Found<'_>>
+    ensures { found_part result ≡ spec.replaced_part seen (spec.replaced true) (chars text.now) }
+{
+    items(text, r"\p{Zs}\x09", r"\p{blank}")
+        .or(items(text, r"\x00-\x1F\x7F-\x9F", r"\p{cntrl}"))
+        .or(items(text, r"[\p{White_Space}\p{C}]", r"\P{graph}"))
+        .or(items(text, r"[\p{C}\t\n\v\f\r]", r"\P{print}"))
+        .or(negated_set(text, seen, r"[^\p{White_Space}\p{C}]", r"\p{graph}"))
+        .or(negated_set(text, seen, r"[^\p{C}\t\n\v\f\r]", r"\p{print}"))
+}
+
+/// The escape at the front that no other source is written as.
+fn replaced(text: &str, unicode: bool, seen: bool) -> Option<Found<'_>>
+    ensures { found_part result ≡ spec.replaced_part seen (spec.replaced unicode) (chars text.now) }
+{
+    if unicode {
+        replaced_with_unicode(text, seen)
+    } else {
+        items(text, r"\t ", r"\p{blank}")
+    }
 }
 
 /// `\P`, or `\p`.
@@ -83,7 +132,9 @@ fn put_property_at<'a, S: Sink>(
     out: &mut S,
     upper: bool,
     text: &'a str,
-) -> Result<&'a str, AllocError> {
+) -> Result<&'a str, AllocError>
+    ensures { IfOk result (λ r. AddedPart S.holds out.old out.new (spec.property_part upper (chars text.now)) (chars r.now)) }
+{
     let Some((c, rest)) = next(text) else {
         put_ascii(out, letter(upper))?;
         return Ok(text);
@@ -106,7 +157,9 @@ fn put_property_at<'a, S: Sink>(
 }
 
 /// Writes a character, or a backslash and what belongs to it, and answers what is left.
-fn put_unit<'a, S: Sink>(out: &mut S, c: char, rest: &'a str) -> Result<&'a str, AllocError> {
+fn put_unit<'a, S: Sink>(out: &mut S, c: char, rest: &'a str) -> Result<&'a str, AllocError>
+    ensures { IfOk result (λ r. AddedPart S.holds out.old out.new (spec.single_part c (chars rest.now)) (chars r.now)) }
+{
     if c == '\\'
         && let Some((letter, behind)) = next(rest)
     {
@@ -122,23 +175,19 @@ fn put_unit<'a, S: Sink>(out: &mut S, c: char, rest: &'a str) -> Result<&'a str,
 }
 
 /// Writes a text that the reader writes as this one.
-fn put_source<S: Sink>(out: &mut S, text: &str, unicode: bool) -> Result<(), AllocError> {
+fn put_source<S: Sink>(out: &mut S, text: &str, unicode: bool) -> Result<(), AllocError>
+    ensures { OnOk result (Added S.holds out.old out.new (spec.source unicode (chars text.now))) }
+{
     let mut rest = text;
     let mut seen = false;
-    // Each step takes a character or more.
-    for _step in 0..text.len() {
-        let Some((c, behind)) = next(rest) else {
-            return Ok(());
-        };
-        if let Some((escape, behind)) = item_at(rest, unicode) {
-            out.put_text(escape)?;
-            rest = behind;
-        } else if let Some((escape, behind)) = negated_item_at(rest, unicode, seen) {
-            out.put_text(escape)?;
-            seen = true;
-            rest = behind;
-        } else {
-            rest = put_unit(out, c, behind)?;
+    while let Some((c, behind)) = next(rest) {
+        match replaced(rest, unicode, seen) {
+            Some(found) => {
+                out.put_text(found.escape)?;
+                seen |= found.negated;
+                rest = found.rest;
+            }
+            None => rest = put_unit(out, c, behind)?,
         }
     }
     Ok(())
@@ -150,7 +199,9 @@ pub(super) fn put_delegate<S: Sink>(
     inner: &str,
     casei: bool,
     flags: Flags,
-) -> Result<(), AllocError> {
+) -> Result<(), AllocError>
+    ensures { OnOk result (Added S.holds out.old out.new (spec.delegate_text flags casei (chars inner.now))) }
+{
     if flags.casei && !casei && is_text(inner, "[0-9A-Fa-f]") {
         return put_ascii(out, r"\h");
     }

@@ -1,0 +1,50 @@
+use Rattle.std.proofs.Common.{chars, refl, rules}
+use Rattle.fancy_grammar.specs.PatternSource.{single_part}
+use Rattle.fancy_syntax.specs.Source.{part_of}
+use Rattle.fancy_syntax.proofs.SinkLemmas.{adding_ends}
+use Rattle.fancy_syntax.proofs.SourceWalk.{begins_replaced, begins_single, part_shorter, part_written, seen_still}
+use Rattle.fancy_syntax.proofs.SourceWalk.{source_done}
+use Rattle.fancy_syntax.proofs.pattern.source.put_source.Goals as goal
+
+pub loop-c-smaller-in-Some-replaced : goal.loop-c-smaller-in-Some-replaced
+loop-c-smaller-in-Some-replaced g c =
+    let found = c.in-Some-replaced.found in
+    part_shorter c.args.unicode c.loop-c.seen (chars c.loop-c.rest.now) (chars found.rest.now) (part_of found)
+    (begins_replaced _ _ c.in-Some.c (chars c.in-Some.behind.now) _ found c.in-Some.ensures.value
+    c.in-Some-replaced.ensures) refl
+
+pub loop-c-preserved-in-Some-replaced : goal.loop-c-preserved-in-Some-replaced
+loop-c-preserved-in-Some-replaced g c =
+    let found = c.in-Some-replaced.found in
+    record {
+      text = search rules;
+      writing = part_written g.S.Sink.holds c.args.out.now c.loop-c.out c.put_text.new.self c.args.unicode c.loop-c.seen
+          _ (chars c.loop-c.rest.now) (chars found.rest.now) _ (part_of found)
+          (begins_replaced _ _ c.in-Some.c (chars c.in-Some.behind.now) _ found c.in-Some.ensures.value
+          c.in-Some-replaced.ensures) refl c.loop-c.invariant.writing
+          (record { source = c.in_ok-put_text-in-Some-replaced.ensures; rest = refl });
+    }
+
+pub loop-c-smaller : goal.loop-c-smaller
+loop-c-smaller g c =
+    part_shorter c.args.unicode c.loop-c.seen (chars c.loop-c.rest.now) (chars c.in_ok-rest-in-None.rest.now)
+    (single_part c.in-Some.c (chars c.in-Some.behind.now))
+    (begins_single _ _ c.in-Some.c (chars c.in-Some.behind.now) _ c.in-Some.ensures.value c.in-None.ensures)
+    c.in_ok-rest-in-None.ensures.rest
+
+pub loop-c-preserved : goal.loop-c-preserved
+loop-c-preserved g c =
+    record {
+      text = search rules;
+      writing = part_written g.S.Sink.holds c.args.out.now c.loop-c.out c.put_unit.new.out c.args.unicode c.loop-c.seen
+          _ (chars c.loop-c.rest.now) (chars c.in_ok-rest-in-None.rest.now) _
+          (single_part c.in-Some.c (chars c.in-Some.behind.now))
+          (begins_single _ _ c.in-Some.c (chars c.in-Some.behind.now) _ c.in-Some.ensures.value c.in-None.ensures)
+          (seen_still c.loop-c.seen c.in-Some.c (chars c.in-Some.behind.now)) c.loop-c.invariant.writing
+          c.in_ok-rest-in-None.ensures;
+    }
+
+pub returns : goal.returns
+returns g c =
+    adding_ends g.S.Sink.holds _ _ _ _ (source_done c.args.unicode c.loop-c.seen (chars c.loop-c.rest.now)
+    c.in_default.ensures.value) c.loop-c.invariant.writing
