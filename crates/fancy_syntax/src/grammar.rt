@@ -10,11 +10,13 @@ mod conditional;
 mod fault;
 mod frame;
 mod group;
+pub(crate) mod noted;
 mod parser;
 mod plain;
 pub(crate) mod quantified;
 mod reference;
 mod spanning;
+pub(crate) mod spans;
 pub(crate) mod state;
 mod step;
 mod trees;
@@ -23,6 +25,7 @@ use crate::expr::Expr;
 use crate::grammar::fault::general;
 use crate::grammar::parser::Parser;
 use crate::grammar::spanning::{NoSpans, Spanning};
+use crate::grammar::spans::Spans;
 use crate::grammar::state::{State, is_end};
 use fancy_lex::error::Failure;
 use fancy_lex::flags::Flags;
@@ -35,6 +38,17 @@ pub(crate) fn parse(alloc: Global, text: &str, flags: Flags) -> Result<Expr, Fai
     ensures reads { ReadsWhole result flags (chars text.now) }
 {
     parse_noting(alloc, text, flags, &mut NoSpans)
+}
+
+/// Reads a whole text as `parse` does, with the spans of its nodes.
+pub(crate) fn parse_spanned(
+    alloc: Global,
+    text: &str,
+    flags: Flags,
+) -> Result<(Expr, Spans), Failure> {
+    let mut spans = Spans::new(alloc, reach(text));
+    let tree = parse_noting(alloc, text, flags, &mut spans)?;
+    Ok((tree, spans))
 }
 
 /// Reads a whole text as `parse` does, and notes where its nodes stand.

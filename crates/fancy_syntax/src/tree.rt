@@ -10,8 +10,9 @@ ghost use Rattle.fancy_grammar.specs.Grammar.{DerivesTree};
 ghost use Rattle.fancy_syntax.specs.View.{view};
 
 use crate::expr::Expr;
-use crate::grammar::parse;
+use crate::grammar::{parse, parse_spanned};
 use crate::resolve::resolve;
+use crate::span::Span;
 use fancy_lex::error::{Failure, Result};
 use fancy_lex::flags::{FLAG_UNICODE, Flags};
 use std::alloc::{AllocError, Global};
@@ -94,6 +95,24 @@ impl Expr {
         }
     }
 
+    /// Parses the pattern as `parse_tree_with_flags` does, and returns the span of each node of its tree, in preorder.
+    ///
+    /// ```rust
+    /// let (tree, spans) = Expr::parse_tree_with_spans(alloc, "(a|b)c*", FLAG_UNICODE)?;
+    /// let group = spans[1]; // Span { start: 0, end: 5 }
+    /// ```
+    pub fn parse_tree_with_spans(
+        alloc: Global,
+        re: &str,
+        flags: u32,
+    ) -> Result<(ExprTree, Vec<Span>)> {
+        let flags = Flags::from_bits(flags);
+        match read_with_spans(alloc, re, flags) {
+            Ok(found) => Ok(found),
+            Err(failure) => Err(failure.in_pattern(re)),
+        }
+    }
+
     /// Parses the pattern under `FLAG_UNICODE` alone, with the errors of `parse_tree_with_flags`.
     ///
     /// ```rust
@@ -124,4 +143,16 @@ fn read(alloc: Global, re: &str, flags: Flags) -> std::result::Result<ExprTree, 
 {
     let raw = parse(alloc, re, flags)?;
     resolve(alloc, raw, re, flags)
+}
+
+/// Reads the pattern as `read` does: its tree and the spans of its nodes, or its fault.
+fn read_with_spans(
+    alloc: Global,
+    re: &str,
+    flags: Flags,
+) -> std::result::Result<(ExprTree, Vec<Span>), Failure> {
+    let (raw, noted) = parse_spanned(alloc, re, flags)?;
+    let tree = resolve(alloc, raw, re, flags)?;
+    let spans = noted.answered(alloc, re, tree.numbered_groups_ignored)?;
+    Ok((tree, spans))
 }
