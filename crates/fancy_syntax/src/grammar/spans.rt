@@ -1,4 +1,13 @@
 //! The spans of the nodes of a raw tree, each tree in preorder.
+ghost use Rattle.std.specs.Prelude.{◌≡◌, chars, map, option_map, IfOk, OnOk};
+ghost use Rattle.fancy_lex.specs.Reading.{choose};
+ghost use Rattle.fancy_lex.specs.Text.{bytes, reach_of};
+ghost use Rattle.fancy_grammar.specs.Spans.{condition_text, placed};
+ghost use Rattle.fancy_syntax.specs.Log as spec;
+ghost use Rattle.fancy_syntax.specs.Log.{shown};
+ghost use Rattle.fancy_syntax.specs.LogViews.{log_of, spans_of};
+ghost use Rattle.fancy_syntax.specs.Parsed.{state};
+
 use crate::grammar::noted::{FirstBar, Last, Noted, Open};
 use crate::grammar::spanning::Spanning;
 use crate::grammar::state::{State, skip_layout};
@@ -19,7 +28,9 @@ pub(crate) struct Spans {
 
 impl Spans {
     /// Nothing is read yet of a text that begins at the reach.
-    pub(crate) fn new(alloc: Global, start: usize) -> Spans {
+    pub(crate) fn new(alloc: Global, start: usize) -> Spans
+        ensures { log_of result ≡ spec.started start }
+    {
         Spans {
             noted: Vec::new(alloc),
             around: Vec::new(alloc),
@@ -42,7 +53,10 @@ impl Spans {
         alloc: Global,
         pattern: &str,
         named: bool,
-    ) -> Result<Vec<Span>, AllocError> {
+    ) -> Result<Vec<Span>, AllocError>
+        ensures { IfOk result (λ spans. spans_of spans ≡
+            map (placed (bytes (chars pattern.now))) (shown named self.now.noted.items)) }
+    {
         let mut spans = Vec::with_capacity(alloc, self.noted.len())?;
         for noted in &self.noted {
             if named && noted.unnamed {
@@ -57,13 +71,27 @@ impl Spans {
     }
 
     /// Puts a node behind so many others.
-    fn put(&mut self, height: usize, node: Noted) -> Result<(), AllocError> {
+    fn put(&mut self, height: usize, node: Noted) -> Result<(), AllocError>
+        ensures { OnOk result (log_of self.new ≡ spec.put height node (log_of self.old)) }
+    {
         let height = height.min(self.noted.len());
         Ok(self.noted.insert(height, node)?)
     }
 
+    /// An atom begins there.
+    fn open_atom(&mut self, start: usize) -> Result<(), AllocError>
+        ensures { OnOk result (log_of self.new ≡ spec.atom_opened start (log_of self.old)) }
+    {
+        self.around.push(self.open)?;
+        self.open.start = start;
+        self.open.height = self.noted.len();
+        Ok(())
+    }
+
     /// Ends the open atom, which is the last piece.
-    fn end_atom(&mut self) {
+    fn end_atom(&mut self)
+        ensures { log_of self.new ≡ spec.atom_ended (log_of self.old) }
+    {
         self.last = Last {
             start: self.open.start,
             height: self.open.height,
@@ -75,6 +103,8 @@ impl Spans {
 }
 
 impl Spanning for Spans {
+    ghost notes = { λ s l. log_of s ≡ l };
+
     fn note_leaf(&mut self, start: usize, end: usize) -> Result<(), AllocError> {
         let height = self.noted.len();
         self.last = Last { start, height };
@@ -94,9 +124,7 @@ impl Spanning for Spans {
     }
 
     fn open(&mut self, start: usize, inside: usize) -> Result<(), AllocError> {
-        self.around.push(self.open)?;
-        self.open.start = start;
-        self.open.height = self.noted.len();
+        self.open_atom(start)?;
         self.begin(inside);
         Ok(())
     }
@@ -188,7 +216,9 @@ impl Spanning for Spans {
 }
 
 /// A node that is neither a group without a name nor an Alt which the grammar reads.
-fn plain(start: usize, end: usize) -> Noted {
+fn plain(start: usize, end: usize) -> Noted
+    ensures { result ≡ spec.plain start end }
+{
     Noted {
         start,
         end,
@@ -198,13 +228,17 @@ fn plain(start: usize, end: usize) -> Noted {
 }
 
 /// The choice among the branches behind the first bar of an Alt: its own first bar is of no use.
-fn rest_of(alt: Noted, bar: FirstBar) -> Noted {
+fn rest_of(alt: Noted, bar: FirstBar) -> Noted
+    ensures { result ≡ spec.plain bar.behind alt.end }
+{
     plain(bar.behind, alt.end)
 }
 
 /// Where the condition begins of a conditional that begins here: behind the parenthesis, layout, a question mark and a
 /// parenthesis.
-fn condition_start(here: State) -> usize {
+fn condition_start(here: State) -> usize
+    ensures { result ≡ choose (condition_text (state here.entry)) reach_of (reach_of (chars here.entry.rest.now)) }
+{
     match condition_text(here) {
         Some(text) => reach(text),
         None => reach(here.rest),
@@ -212,7 +246,9 @@ fn condition_start(here: State) -> usize {
 }
 
 /// What follows the parenthesis of a conditional, layout, a question mark and a parenthesis.
-fn condition_text(here: State<'_>) -> Option<&str> {
+fn condition_text(here: State<'_>) -> Option<&str>
+    ensures { condition_text (state here.entry) ≡ option_map (λ t. chars t.now) result }
+{
     let behind = State {
         flags: here.flags,
         rest: after(here.rest, '(')?,
