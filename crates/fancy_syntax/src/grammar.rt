@@ -15,7 +15,7 @@ mod parser;
 mod plain;
 pub(crate) mod quantified;
 mod reference;
-mod spanning;
+pub(crate) mod spanning;
 pub(crate) mod spans;
 pub(crate) mod state;
 mod step;
@@ -24,8 +24,7 @@ mod trees;
 use crate::expr::Expr;
 use crate::grammar::fault::general;
 use crate::grammar::parser::Parser;
-use crate::grammar::spanning::{NoSpans, Spanning};
-use crate::grammar::spans::Spans;
+use crate::grammar::spanning::Spanning;
 use crate::grammar::state::{State, is_end};
 use fancy_lex::error::Failure;
 use fancy_lex::flags::Flags;
@@ -34,26 +33,8 @@ use std::alloc::Global;
 
 /// Reads a whole text: its raw tree, in which a capturing group is an AstNode with the reach of its parenthesis. Else
 /// the fault of the text, or OutOfMemory.
-pub(crate) fn parse(alloc: Global, text: &str, flags: Flags) -> Result<Expr, Failure>
-    ensures reads { ReadsWhole result flags (chars text.now) }
-{
-    parse_noting(alloc, text, flags, &mut NoSpans)
-}
-
-/// Reads a whole text as `parse` does, with the spans of its nodes.
-pub(crate) fn parse_spanned(
-    alloc: Global,
-    text: &str,
-    flags: Flags,
-) -> Result<(Expr, Spans), Failure> {
-    let mut spans = Spans::new(alloc, reach(text));
-    let tree = parse_noting(alloc, text, flags, &mut spans)?;
-    Ok((tree, spans))
-}
-
-/// Reads a whole text as `parse` does, and notes where its nodes stand.
 #[inline]
-fn parse_noting<S: Spanning>(
+pub(crate) fn parse<S: Spanning>(
     alloc: Global,
     text: &str,
     flags: Flags,

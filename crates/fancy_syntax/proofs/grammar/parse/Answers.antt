@@ -6,7 +6,7 @@ use Rattle.fancy_syntax.specs.Parsed.{state}
 use Rattle.fancy_syntax.specs.View.{view}
 use Rattle.fancy_grammar.proofs.FaultLemmas.{says_end}
 use Rattle.fancy_grammar.proofs.OutcomeLemmas.{IsErrorAmong-map, IsErrorAmong-is}
-use Rattle.fancy_syntax.proofs.grammar.parse_noting.Goals as goal
+use Rattle.fancy_syntax.proofs.grammar.parse.Goals as goal
 
 pub returns-in_err-tree : goal.returns-in_err-tree
 returns-in_err-tree g c =
