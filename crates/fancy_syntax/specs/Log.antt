@@ -38,11 +38,14 @@ started start = record {
   last = record { start = start; height = 0 };
 }
 
+-- where the node stands
+abbrev pub reaches : Noted → Span
+reaches x = record { start = x.start; end = x.end }
+
 -- the reaches of the nodes that are answered; where only groups with a name have a number, the others leave no node
 abbrev pub shown : Bool → List Noted → List Span
 shown named [] = []
-shown named (x ∷ xs) =
-    if named && x.unnamed then shown named xs else record { start = x.start; end = x.end } ∷ shown named xs
+shown named (x ∷ xs) = if named && x.unnamed then shown named xs else reaches x ∷ shown named xs
 
 -- a node behind so many others, or behind all where there are fewer
 abbrev pub put : ℕ → Noted → Log → Log

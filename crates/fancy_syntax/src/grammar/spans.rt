@@ -1,11 +1,11 @@
 //! The spans of the nodes of a raw tree, each tree in preorder.
-ghost use Rattle.std.specs.Prelude.{◌≡◌, chars, map, option_map, IfOk, OnOk};
+ghost use Rattle.std.specs.Prelude.{◌≡◌, [], ◌∷◌, ◌++◌, chars, map, option_map, IfOk, OnOk};
 ghost use Rattle.fancy_lex.specs.Reading.{choose};
 ghost use Rattle.fancy_lex.specs.Text.{bytes, reach_of};
 ghost use Rattle.fancy_grammar.specs.Spans.{condition_text, placed};
 ghost use Rattle.fancy_syntax.specs.Log as spec;
-ghost use Rattle.fancy_syntax.specs.Log.{shown};
-ghost use Rattle.fancy_syntax.specs.LogViews.{log_of, spans_of};
+ghost use Rattle.fancy_syntax.specs.Log.{reaches, shown};
+ghost use Rattle.fancy_syntax.specs.LogViews.{log_of, span_of, spans_of};
 ghost use Rattle.fancy_syntax.specs.Parsed.{state};
 
 use crate::grammar::noted::{FirstBar, Last, Noted, Open};
@@ -59,13 +59,7 @@ impl Spans {
     {
         let mut spans = Vec::with_capacity(alloc, self.noted.len())?;
         for noted in &self.noted {
-            if named && noted.unnamed {
-                continue;
-            }
-            spans.push(Span {
-                start: place_at(pattern, noted.start),
-                end: place_at(pattern, noted.end),
-            })?;
+            push_shown(&mut spans, pattern, named, *noted)?;
         }
         Ok(spans)
     }
@@ -212,6 +206,32 @@ impl Spanning for Spans {
 
     fn close_bare(&mut self) {
         self.end_atom();
+    }
+}
+
+/// Adds where the node stands in the pattern, if it is answered.
+fn push_shown(
+    spans: &mut Vec<Span>,
+    pattern: &str,
+    named: bool,
+    node: Noted,
+) -> Result<(), AllocError>
+    ensures { OnOk result (spans_of spans.new ≡
+        spans_of spans.old ++ map (placed (bytes (chars pattern.now))) (shown named (node ∷ []))) }
+{
+    if named && node.unnamed {
+        return Ok(());
+    }
+    Ok(spans.push(span_in(pattern, node))?)
+}
+
+/// Where the node stands in the pattern.
+fn span_in(pattern: &str, node: Noted) -> Span
+    ensures { span_of result ≡ placed (bytes (chars pattern.now)) (reaches node) }
+{
+    Span {
+        start: place_at(pattern, node.start),
+        end: place_at(pattern, node.end),
     }
 }
 
