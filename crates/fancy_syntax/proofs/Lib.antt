@@ -10,6 +10,7 @@ mod TreesLemmas
 mod StepLemmas
 mod MachineLemmas
 mod RoomLemmas
+mod ShownLemmas
 mod TreeLemmas
 -- ---- the resolver
 pub mod WalkLemmas

@@ -37,6 +37,8 @@ pub mod Reads
 pub mod Parsed
 pub mod Machine
 pub mod Room
+pub mod Log
+pub mod LogViews
 -- ---- the resolver's walks
 pub mod Notes
 -- ---- the writing of texts

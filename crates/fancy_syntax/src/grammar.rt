@@ -10,10 +10,13 @@ mod conditional;
 mod fault;
 mod frame;
 mod group;
+pub(crate) mod noted;
 mod parser;
 mod plain;
 pub(crate) mod quantified;
 mod reference;
+pub(crate) mod spanning;
+pub(crate) mod spans;
 pub(crate) mod state;
 mod step;
 mod trees;
@@ -21,6 +24,7 @@ mod trees;
 use crate::expr::Expr;
 use crate::grammar::fault::general;
 use crate::grammar::parser::Parser;
+use crate::grammar::spanning::Spanning;
 use crate::grammar::state::{State, is_end};
 use fancy_lex::error::Failure;
 use fancy_lex::flags::Flags;
@@ -29,10 +33,16 @@ use std::alloc::Global;
 
 /// Reads a whole text: its raw tree, in which a capturing group is an AstNode with the reach of its parenthesis. Else
 /// the fault of the text, or OutOfMemory.
-pub(crate) fn parse(alloc: Global, text: &str, flags: Flags) -> Result<Expr, Failure>
+#[inline]
+pub(crate) fn parse<S: Spanning>(
+    alloc: Global,
+    text: &str,
+    flags: Flags,
+    spans: &mut S,
+) -> Result<Expr, Failure>
     ensures reads { ReadsWhole result flags (chars text.now) }
 {
-    let (tree, here) = alternation(alloc, State { flags, rest: text })?;
+    let (tree, here) = alternation(alloc, State { flags, rest: text }, spans)?;
     match next(here.rest) {
         None => Ok(tree),
         Some(_) => {
@@ -43,21 +53,25 @@ pub(crate) fn parse(alloc: Global, text: &str, flags: Flags) -> Result<Expr, Fai
 }
 
 /// Reads branches with bars between, up to where the outermost ends.
-fn alternation<'a>(alloc: Global, start: State<'a>) -> Result<(Expr, State<'a>), Failure>
+fn alternation<'a, S: Spanning>(
+    alloc: Global,
+    start: State<'a>,
+    spans: &mut S,
+) -> Result<(Expr, State<'a>), Failure>
     ensures value { IsTreeRead result (spec.Alternation 0 (state start.entry)) }
     ensures within { IfOk result (λ p. length p.1.rest.now ≤ length start.entry.rest.now) }
 {
     let mut parser = Parser::new(alloc, start)?;
     loop {
-        if parser.add_leaf(alloc)? {
+        if parser.add_leaf(alloc, spans)? {
             continue;
         }
         let rest = parser.here.rest;
         if !is_end(rest) {
-            parser.step(alloc)?;
+            parser.step(alloc, spans)?;
         } else if let Some(behind) = after(rest, '|') {
-            parser.bar(alloc, behind)?;
-        } else if let Some(tree) = parser.close(alloc)? {
+            parser.bar(alloc, behind, spans)?;
+        } else if let Some(tree) = parser.close(alloc, spans)? {
             return Ok((tree, parser.here));
         }
     }

@@ -18,6 +18,7 @@ mod grammar;
 mod pattern;
 pub mod print;
 mod resolve;
+pub mod span;
 pub mod tree;
 
 pub use expr::{
@@ -31,4 +32,5 @@ pub use fancy_lex::flags::{
 };
 pub use fancy_lex::{error, flags};
 pub use print::{BRANCH, OPERAND, PIECE, WHOLE};
+pub use span::Span;
 pub use tree::ExprTree;

@@ -11,9 +11,13 @@ ghost use Rattle.fancy_syntax.specs.View.{view};
 
 use crate::expr::Expr;
 use crate::grammar::parse;
+use crate::grammar::spanning::{NoSpans, Spanning};
+use crate::grammar::spans::Spans;
 use crate::resolve::resolve;
+use crate::span::Span;
 use fancy_lex::error::{Failure, Result};
 use fancy_lex::flags::{FLAG_UNICODE, Flags};
+use fancy_lex::text::reach;
 use std::alloc::{AllocError, Global};
 use std::collections::{BTreeMap, BTreeSet};
 
@@ -88,8 +92,37 @@ impl Expr {
         ensures place { IfErr result (λ e. IsPlacedIn e re.now) }
     {
         let flags = Flags::from_bits(flags);
-        match read(alloc, re, flags) {
+        match read(alloc, re, flags, &mut NoSpans) {
             Ok(tree) => Ok(tree),
+            Err(failure) => Err(failure.in_pattern(re)),
+        }
+    }
+
+    /// Parses the pattern as `parse_tree_with_flags` does, and returns the span of each node of its tree, in preorder.
+    ///
+    /// ```rust
+    /// let (tree, spans) = Expr::parse_tree_with_spans(alloc, "(a|b)c*", FLAG_UNICODE)?;
+    /// let group = spans[1]; // Span { start: 0, end: 5 }
+    /// ```
+    pub fn parse_tree_with_spans(
+        alloc: Global,
+        re: &str,
+        flags: u32,
+    ) -> Result<(ExprTree, Vec<Span>)>
+        ensures found { IfOk result (λ p. IsTreeOf (flags_of flags) (chars re.now) (view p.0.expr) (marks_of p.0)) }
+        ensures only { IfOk result (λ p. (e : _) (m : _) → IsTreeOf (flags_of flags) (chars re.now) e m → (e ≡
+            view p.0.expr) × (m ≡ marks_of p.0)) }
+        ensures exact { IfOk result (λ p. (k : _) (q : _) → IsFaultOf (flags_of flags) (chars re.now) k q → ⊥) }
+        ensures bounds { IfOk result (λ p. IsSmall (view p.0.expr) (length re.now)) }
+        ensures answered { IfOk result (λ p. IsAnsweredWith (view p.0.expr) (marks_of p.0)) }
+        ensures groups { IfOk result (λ p. (r : _) → DerivesTree (flags_of flags) (chars re.now) r →
+            HasGroupsOf (flags_of flags) (chars re.now) r (view p.0.expr)) }
+        ensures fault { IfErr result (λ e. IsOnlyFault e (flags_of flags) (chars re.now)) }
+        ensures place { IfErr result (λ e. IsPlacedIn e re.now) }
+    {
+        let flags = Flags::from_bits(flags);
+        match read_with_spans(alloc, re, flags) {
+            Ok(found) => Ok(found),
             Err(failure) => Err(failure.in_pattern(re)),
         }
     }
@@ -117,11 +150,33 @@ impl Expr {
 }
 
 /// Reads the pattern: its tree, or its fault with the reach of that.
-fn read(alloc: Global, re: &str, flags: Flags) -> std::result::Result<ExprTree, Failure>
+#[inline]
+fn read<S: Spanning>(
+    alloc: Global,
+    re: &str,
+    flags: Flags,
+    spans: &mut S,
+) -> std::result::Result<ExprTree, Failure>
     ensures found { IfOk result (λ t. IsTreeOf flags (chars re.now) (view t.expr) (marks_of t)) }
     ensures fault { IfErr result (λ e. IsOnlyFault (error_in (chars re.now) e) flags (chars re.now)) }
     ensures place { IfErr result (λ e. IsPlacedIn (error_in (chars re.now) e) re.now) }
 {
-    let raw = parse(alloc, re, flags)?;
+    let raw = parse(alloc, re, flags, spans)?;
     resolve(alloc, raw, re, flags)
+}
+
+/// Reads the pattern: its tree with the spans of its nodes, or its fault with the reach of that.
+fn read_with_spans(
+    alloc: Global,
+    re: &str,
+    flags: Flags,
+) -> std::result::Result<(ExprTree, Vec<Span>), Failure>
+    ensures found { IfOk result (λ p. IsTreeOf flags (chars re.now) (view p.0.expr) (marks_of p.0)) }
+    ensures fault { IfErr result (λ e. IsOnlyFault (error_in (chars re.now) e) flags (chars re.now)) }
+    ensures place { IfErr result (λ e. IsPlacedIn (error_in (chars re.now) e) re.now) }
+{
+    let mut noted = Spans::new(alloc, reach(re));
+    let tree = read(alloc, re, flags, &mut noted)?;
+    let spans = noted.answered(alloc, re, tree.numbered_groups_ignored)?;
+    Ok((tree, spans))
 }

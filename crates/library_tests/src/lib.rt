@@ -24,6 +24,8 @@ mod refused;
 #[cfg(test)]
 mod samples;
 #[cfg(test)]
+mod spans;
+#[cfg(test)]
 mod texts;
 #[cfg(test)]
 mod trees;

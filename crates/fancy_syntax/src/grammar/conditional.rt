@@ -6,6 +6,7 @@ ghost use Rattle.fancy_grammar.specs.Tree.{alt, trees_of, conditional as conditi
 ghost use Rattle.fancy_syntax.specs.View.{view, view_ast, views};
 
 use crate::expr::{Absent, AstNode, Expr};
+use crate::grammar::spanning::Spanning;
 use crate::grammar::trees::is_empty;
 use std::alloc::{AllocError, Global};
 
@@ -69,19 +70,24 @@ fn choice(branches: Vec<Expr>) -> Expr
     }
 }
 
-/// The conditional of these branches; where both are Empty, the condition alone.
-pub(crate) fn conditional(
+/// The conditional of these branches, which ends at the reach; where both are Empty, the condition alone.
+pub(crate) fn conditional<S: Spanning>(
     alloc: Global,
     condition: Box<Expr>,
     branches: (Expr, Expr),
+    end: usize,
+    spans: &mut S,
 ) -> Result<Expr, AllocError>
     ensures { IfOk result (λ e. view e ≡
         spec.conditional_of (view condition.value) (view branches.0) (view branches.1)) }
 {
     if is_empty(&branches.0) && is_empty(&branches.1) {
         drop(branches);
+        spans.drop_part();
+        spans.close_bare();
         return Ok(Box::into_inner(condition));
     }
+    spans.close(end, false)?;
     let (true_branch, false_branch) = branches;
     decide(alloc, condition, true_branch, false_branch)
 }
@@ -111,13 +117,21 @@ fn decide(
     })
 }
 
-/// A branch behind `(?~|` that no other follows: a stopper, or where it is Empty a clear.
-pub(crate) fn clear_or_stopper(alloc: Global, branch: Expr) -> Result<Expr, AllocError>
+/// A branch behind `(?~|` that no other follows: a stopper, or where it is Empty a clear. It ends at the reach.
+pub(crate) fn clear_or_stopper<S: Spanning>(
+    alloc: Global,
+    branch: Expr,
+    end: usize,
+    spans: &mut S,
+) -> Result<Expr, AllocError>
     ensures { IfOk result (λ e. view e ≡ spec.clear_or_stopper (view branch)) }
 {
     if is_empty(&branch) {
         drop(branch);
+        spans.drop_part();
+        spans.close(end, false)?;
         return Ok(Expr::Absent(Absent::Clear));
     }
+    spans.close(end, false)?;
     Ok(Expr::Absent(Absent::Stopper(Box::new(alloc, branch)?)))
 }

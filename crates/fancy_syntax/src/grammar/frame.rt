@@ -8,6 +8,7 @@ ghost use Rattle.fancy_syntax.specs.View.{view, views};
 use crate::expr::Expr;
 use crate::grammar::fault::general;
 use crate::grammar::group::head::Head;
+use crate::grammar::spanning::Spanning;
 use crate::grammar::trees::{push, take_branch};
 use fancy_lex::error::Failure;
 use fancy_lex::flags::Flags;
@@ -67,11 +68,12 @@ impl<'a> Frame<'a> {
     /// Ends the open branch at the bar at the reach, and opens what comes next.
     ///
     /// Behind the second branch of an absent expression no bar may stand: the general fault, at the bar.
-    pub(crate) fn bar(
+    pub(crate) fn bar<S: Spanning>(
         &mut self,
         alloc: Global,
         trees: &mut Vec<Expr>,
         reach: usize,
+        spans: &mut S,
     ) -> Result<(), Failure>
         requires { self.old.pieces ≤ vec_len trees.old }
         ensures opener { (below branches pieces : List Tree) →
@@ -87,31 +89,41 @@ impl<'a> Frame<'a> {
     {
         match &self.opener {
             Opener::First => {
-                let branch = take_branch(trees, self.pieces)?;
+                let branch = take_branch(trees, self.pieces, reach, spans)?;
                 self.opener = Opener::Second(Box::new(alloc, branch)?);
                 Ok(())
             }
             Opener::Second(_) => Err(general(alloc, "expected close paren", reach)),
-            _ => Ok(self.end_branch(trees)?),
+            _ => Ok(self.end_branch(trees, reach, spans)?),
         }
     }
 
-    /// Ends the open branch, and opens the next.
-    fn end_branch(&mut self, trees: &mut Vec<Expr>) -> Result<(), AllocError>
+    /// Ends the open branch at the reach, and opens the next.
+    fn end_branch<S: Spanning>(
+        &mut self,
+        trees: &mut Vec<Expr>,
+        reach: usize,
+        spans: &mut S,
+    ) -> Result<(), AllocError>
         requires { self.old.pieces ≤ vec_len trees.old }
         ensures opener { self.new.opener ≡ self.old.opener }
         ensures trees { (below branches pieces : List Tree) →
             HoldsTrees self.old (views trees.old.items) below branches pieces →
             OnOk result (HoldsTrees self.new (views trees.new.items) below (branches ++ one_or concat pieces ∷ []) []) }
     {
-        let branch = take_branch(trees, self.pieces)?;
+        let branch = take_branch(trees, self.pieces, reach, spans)?;
         push(trees, branch)?;
         self.pieces = trees.len();
         Ok(())
     }
 
-    /// Ends the group: the tree of its inside.
-    pub(crate) fn finish(&self, trees: &mut Vec<Expr>) -> Result<Expr, AllocError>
+    /// Ends the group, whose last branch ends at the reach: the tree of its inside.
+    pub(crate) fn finish<S: Spanning>(
+        &self,
+        trees: &mut Vec<Expr>,
+        reach: usize,
+        spans: &mut S,
+    ) -> Result<Expr, AllocError>
         requires branches { self.now.branches ≤ self.now.pieces }
         requires pieces { self.now.pieces ≤ vec_len trees.old }
         ensures tree { (below branches pieces : List Tree) →
@@ -121,12 +133,13 @@ impl<'a> Frame<'a> {
             HoldsTrees self.now (views trees.old.items) below branches pieces →
             OnOk result (views trees.new.items ≡ below) }
     {
-        let branch = take_branch(trees, self.pieces)?;
+        let branch = take_branch(trees, self.pieces, reach, spans)?;
         // Mostly it is the only one.
         if self.branches == self.pieces {
             return Ok(branch);
         }
         push(trees, branch)?;
+        spans.end_choice(reach)?;
         Ok(Expr::Alt(trees.split_off(self.branches)?))
     }
 }

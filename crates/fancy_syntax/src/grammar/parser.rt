@@ -17,6 +17,7 @@ use crate::expr::Expr;
 use crate::grammar::atom::{leaf_node, literal};
 use crate::grammar::frame::{Frame, Opener};
 use crate::grammar::plain::{plain, plain_escape};
+use crate::grammar::spanning::Spanning;
 use crate::grammar::state::{MAX_DEPTH, State};
 use crate::grammar::step::{Step, close, read_step};
 use crate::grammar::trees::add;
@@ -65,7 +66,11 @@ impl<'a> Parser<'a> {
 
     /// Reads the leaf at the front, where a look ahead reads all of it: whether it does.
     #[inline(always)]
-    pub(crate) fn add_leaf(&mut self, alloc: Global) -> Result<bool, AllocError>
+    pub(crate) fn add_leaf<S: Spanning>(
+        &mut self,
+        alloc: Global,
+        spans: &mut S,
+    ) -> Result<bool, AllocError>
         ensures reading { (start : states.State) → HasRead start self.old →
             OnOk result (HasRead start self.new) }
         ensures stack { self.new.stack ≡ self.old.stack }
@@ -75,7 +80,8 @@ impl<'a> Parser<'a> {
     {
         if let Some((c, rest)) = plain(self.here) {
             let leaf = literal(alloc, c, self.here.flags.casei)?;
-            add(&mut self.trees, leaf)?;
+            spans.note_leaf(reach(self.here.rest), reach(rest))?;
+            add(&mut self.trees, leaf, spans)?;
             self.here.rest = rest;
             return Ok(true);
         }
@@ -83,14 +89,15 @@ impl<'a> Parser<'a> {
             return Ok(false);
         };
         let leaf = leaf_node(alloc, escaped)?;
-        add(&mut self.trees, leaf)?;
+        spans.note_leaf(reach(self.here.rest), reach(rest))?;
+        add(&mut self.trees, leaf, spans)?;
         self.here.rest = rest;
         Ok(true)
     }
 
     /// Reads a piece, or the opening of a group. A fault is the text's.
     #[inline(always)]
-    pub(crate) fn step(&mut self, alloc: Global) -> Result<(), Failure>
+    pub(crate) fn step<S: Spanning>(&mut self, alloc: Global, spans: &mut S) -> Result<(), Failure>
         requires room { IsRoomy self.old }
         requires depth { length self.old.stack.items < max_depth }
         requires more { ends (chars self.old.here.rest.now) ≡ false }
@@ -102,13 +109,18 @@ impl<'a> Parser<'a> {
     {
         self.frame.left = byte_len(self.here.rest);
         self.frame.flags = self.here.flags;
-        let step = read_step(alloc, &mut self.here, self.stack.len())?;
-        Ok(self.take(step)?)
+        let step = read_step(alloc, &mut self.here, self.stack.len(), spans)?;
+        Ok(self.take(step, spans)?)
     }
 
     /// Ends the open branch at the bar that stands here, before `rest`. A fault is the text's.
     #[inline(always)]
-    pub(crate) fn bar(&mut self, alloc: Global, rest: &'a str) -> Result<(), Failure>
+    pub(crate) fn bar<S: Spanning>(
+        &mut self,
+        alloc: Global,
+        rest: &'a str,
+        spans: &mut S,
+    ) -> Result<(), Failure>
         requires pieces { self.old.frame.pieces ≤ vec_len self.old.trees }
         requires last { ends (chars self.old.here.rest.now) ≡ true }
         requires bar { strip bar (chars self.old.here.rest.now) ≡ Some (chars rest.now) }
@@ -117,8 +129,9 @@ impl<'a> Parser<'a> {
         ensures stack { self.new.stack ≡ self.old.stack }
         ensures rest { OnOk result (self.new.here.rest ≡ rest.entry) }
     {
-        let reach = reach(self.here.rest);
-        self.frame.bar(alloc, &mut self.trees, reach)?;
+        let bar = reach(self.here.rest);
+        self.frame.bar(alloc, &mut self.trees, bar, spans)?;
+        spans.next_branch(reach(rest));
         self.here.rest = rest;
         Ok(())
     }
@@ -126,7 +139,11 @@ impl<'a> Parser<'a> {
     /// Ends the innermost group where neither a piece nor a bar follows: the tree of the text, where no group is
     /// around it. A fault is the text's.
     #[inline(always)]
-    pub(crate) fn close(&mut self, alloc: Global) -> Result<Option<Expr>, Failure>
+    pub(crate) fn close<S: Spanning>(
+        &mut self,
+        alloc: Global,
+        spans: &mut S,
+    ) -> Result<Option<Expr>, Failure>
         requires depth { length self.old.stack.items < max_depth }
         requires branches { self.old.frame.branches ≤ self.old.frame.pieces }
         requires pieces { self.old.frame.pieces ≤ vec_len self.old.trees }
@@ -142,7 +159,8 @@ impl<'a> Parser<'a> {
             (length self.new.here.rest.now < length self.old.here.rest.now)
             (λ _. self.new.here ≡ self.old.here)) }
     {
-        let inner = self.frame.finish(&mut self.trees)?;
+        let end = reach(self.here.rest);
+        let inner = self.frame.finish(&mut self.trees, end, spans)?;
         let Some(outer) = self.stack.pop() else {
             return Ok(Some(inner));
         };
@@ -155,15 +173,16 @@ impl<'a> Parser<'a> {
             self.frame.left,
             self.frame.flags,
             self.stack.len(),
+            spans,
         )?;
-        self.take(step)?;
+        self.take(step, spans)?;
         Ok(None)
     }
 
     /// Takes what a step read: a piece, which stands behind the others of the group, or a group, which opens in it.
     /// Memory can be wanting for the list of pieces alone.
     #[inline(always)]
-    fn take(&mut self, step: Step<'a>) -> Result<(), AllocError>
+    fn take<S: Spanning>(&mut self, step: Step<'a>, spans: &mut S) -> Result<(), AllocError>
         requires room { HasRoomFor step self.old }
         ensures taken { OnOk result (Takes step.entry
             self.old.stack.items self.old.frame (views self.old.trees.items)
@@ -173,7 +192,7 @@ impl<'a> Parser<'a> {
         ensures opens { OpensAlways step.entry result }
     {
         match step {
-            Step::Piece(piece) => add(&mut self.trees, piece),
+            Step::Piece(piece) => add(&mut self.trees, piece, spans),
             Step::Open(opener) => {
                 let inner = Frame::new(opener, self.trees.len(), self.here.flags);
                 push_frame(&mut self.stack, mem::replace(&mut self.frame, inner));

@@ -8,6 +8,7 @@ ghost use Rattle.fancy_syntax.specs.Parsed.{state, suffix_of, Turns, GivesSuffix
 ghost use Rattle.fancy_syntax.specs.View.{view};
 
 use crate::expr::Expr;
+use crate::grammar::spanning::Spanning;
 use crate::grammar::state::{MAX_DEPTH, State, skip_layout};
 use crate::grammar::trees::is_empty;
 use fancy_lex::error::{Failure, ParseError};
@@ -60,31 +61,33 @@ fn is_greedy(flags: Flags, lazy: bool) -> bool
 
 /// Reads the quantifiers of the tree, before which so many bytes were left, and puts the tree under them.
 #[inline]
-pub(crate) fn quantify(
+pub(crate) fn quantify<S: Spanning>(
     alloc: Global,
     tree: &mut Expr,
     here: &mut State,
     left: usize,
     depth: usize,
+    spans: &mut S,
 ) -> Result<(), Failure>
     requires depth { depth < max_depth }
     ensures value { Turns result (view tree.new) (state here.new)
         (spec.quants depth left (view tree.old) (state here.old)) }
     ensures within { length here.new.rest.now ≤ length here.old.rest.now }
 {
-    quantify_once(alloc, tree, here, left)?;
+    quantify_once(alloc, tree, here, left, spans)?;
     if here.flags.oniguruma_mode {
-        quantify_adjacent(alloc, tree, here, depth)?;
+        quantify_adjacent(alloc, tree, here, depth, spans)?;
     }
     Ok(())
 }
 
 /// Reads the quantifiers that are adjacent to an earlier one. RecursionExceeded behind a fifth, or at depth 64.
-fn quantify_adjacent(
+fn quantify_adjacent<S: Spanning>(
     alloc: Global,
     tree: &mut Expr,
     here: &mut State,
     depth: usize,
+    spans: &mut S,
 ) -> Result<(), Failure>
     requires depth { depth < max_depth }
     ensures value { Turns result (view tree.new) (state here.new)
@@ -95,7 +98,7 @@ fn quantify_adjacent(
     let mut more = MAX_ADJACENT;
     loop {
         let before = byte_len(here.rest);
-        quantify_once(alloc, tree, here, before)?;
+        quantify_once(alloc, tree, here, before, spans)?;
         if byte_len(here.rest) == before {
             return Ok(());
         }
@@ -119,11 +122,12 @@ fn may_count(more: usize, depth: usize) -> bool
 /// Reads layout and the quantifier that follows the tree, if one does, and puts the tree under it.
 #[inline]
 #[tactic(auto, unfolding(fancy_grammar::specs::Quantified::quant))]
-fn quantify_once(
+fn quantify_once<S: Spanning>(
     alloc: Global,
     tree: &mut Expr,
     here: &mut State,
     left: usize,
+    spans: &mut S,
 ) -> Result<(), Failure>
     ensures value { Turns result (view tree.new) (state here.new)
         (spec.quant left (view tree.old) (state here.old)) }
@@ -134,26 +138,35 @@ fn quantify_once(
         return Ok(());
     };
     here.rest = rest;
-    repeat(alloc, tree, counts, here, left)
+    repeat(alloc, tree, counts, here, left, spans)
 }
 
 /// Puts the tree under a quantifier of these counts, and reads what follows them.
 ///
 /// TargetNotRepeatable at the mark or the closing brace, where the tree takes no quantifier.
-fn repeat(
+fn repeat<S: Spanning>(
     alloc: Global,
     tree: &mut Expr,
     counts: Counts,
     here: &mut State,
     left: usize,
+    spans: &mut S,
 ) -> Result<(), Failure>
     ensures value { Turns result (view tree.new) (state here.new)
         (spec.with_counts left (view tree.old) (state here.old) (Some (counts, chars here.old.rest.now))) }
     ensures within { length here.new.rest.now ≤ length here.old.rest.now }
 {
     if is_repeatable(here.flags, tree) {
+        let behind_counts = reach(here.rest);
         let suffix = read_suffix(here, counts)?;
         put_under(alloc, tree, here.flags, counts, suffix)?;
+        // Layout behind the counts belongs to the quantifier only where a mark follows.
+        let end = if suffix.lazy || suffix.possessive {
+            reach(here.rest)
+        } else {
+            behind_counts
+        };
+        spans.wrap(end, is_swapped(here.flags, counts) || suffix.possessive)?;
         return Ok(());
     }
     if is_dropped(here.flags, left, tree, here.rest) {

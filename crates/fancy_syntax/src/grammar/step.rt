@@ -20,9 +20,10 @@ use crate::grammar::atom::read_atom_start;
 use crate::grammar::conditional::{branches_of, clear_or_stopper, conditional, is_condition};
 use crate::grammar::fault::general;
 use crate::grammar::frame::Opener;
-use crate::grammar::group::head::node;
+use crate::grammar::group::head::{Head, node};
 use crate::grammar::plain::is_unquantified;
 use crate::grammar::quantified::quantify;
+use crate::grammar::spanning::Spanning;
 use crate::grammar::state::{State, skip_layout};
 use fancy_lex::error::{Failure, ParseError};
 use fancy_lex::flags::Flags;
@@ -38,10 +39,11 @@ pub(crate) enum Step<'a> {
 }
 
 /// Reads a piece, or the opening of a group. A fault is the piece's.
-pub(crate) fn read_step<'a>(
+pub(crate) fn read_step<'a, S: Spanning>(
     alloc: Global,
     here: &mut State<'a>,
     depth: usize,
+    spans: &mut S,
 ) -> Result<Step<'a>, Failure>
     requires depth { depth < max_depth }
     requires more { ends (chars here.old.rest.now) ≡ false }
@@ -53,42 +55,57 @@ pub(crate) fn read_step<'a>(
     here.rest = skip_layout(*here)?;
     let before = *here;
     match read_atom_start(alloc, here, depth)? {
-        Ahead::Nothing => piece(alloc, Expr::Empty, here, left, depth),
+        Ahead::Nothing => {
+            spans.note_leaf(reach(before.rest), reach(here.rest))?;
+            piece(alloc, Expr::Empty, here, left, depth, spans)
+        }
         Ahead::Read(atom) => {
+            spans.note_leaf(reach(before.rest), reach(here.rest))?;
             // Mostly no quantifier follows: this saves a call for each leaf.
             if is_unquantified(*here) {
                 return Ok(Step::Piece(atom));
             }
-            piece(alloc, atom, here, left, depth)
+            piece(alloc, atom, here, left, depth, spans)
         }
-        Ahead::Group(head) => Ok(Step::Open(Opener::Group {
-            head,
-            reach: reach(before.rest),
-        })),
-        Ahead::Condition => Ok(Step::Open(Opener::Condition)),
-        Ahead::Body(condition) => Ok(Step::Open(Opener::Body {
-            condition,
-            left: byte_len(here.rest),
-        })),
-        Ahead::AbsentBranch => Ok(Step::Open(Opener::First)),
+        Ahead::Group(head) => {
+            let paren = reach(before.rest);
+            spans.open(paren, reach(here.rest))?;
+            Ok(Step::Open(Opener::Group { head, reach: paren }))
+        }
+        Ahead::Condition => {
+            spans.open(reach(before.rest), reach(here.rest))?;
+            Ok(Step::Open(Opener::Condition))
+        }
+        Ahead::Body(condition) => {
+            spans.open_body(before, *here)?;
+            Ok(Step::Open(Opener::Body {
+                condition,
+                left: byte_len(here.rest),
+            }))
+        }
+        Ahead::AbsentBranch => {
+            spans.open(reach(before.rest), reach(here.rest))?;
+            Ok(Step::Open(Opener::First))
+        }
     }
 }
 
 /// Reads the quantifiers of an atom.
 #[inline(never)]
-fn piece<'a>(
+fn piece<'a, S: Spanning>(
     alloc: Global,
     atom: Expr,
     here: &mut State<'a>,
     left: usize,
     depth: usize,
+    spans: &mut S,
 ) -> Result<Step<'a>, Failure>
     requires depth { depth < max_depth }
     ensures value { GivesPiece result (quants depth left (view atom) (state here.old)) (state here.new) }
     ensures within { length here.new.rest.now ≤ length here.old.rest.now }
 {
     let mut piece = atom;
-    match quantify(alloc, &mut piece, here, left, depth) {
+    match quantify(alloc, &mut piece, here, left, depth, spans) {
         Ok(()) => Ok(Step::Piece(piece)),
         Err(fault) => {
             drop(piece);
@@ -99,7 +116,7 @@ fn piece<'a>(
 
 /// Ends what is open, where no branch follows: a piece, or the part that comes next. The piece began under the flags,
 /// where so many bytes were left; a quantifier behind it is read under them. A fault is the piece's.
-pub(crate) fn close<'a>(
+pub(crate) fn close<'a, S: Spanning>(
     alloc: Global,
     opener: Opener<'a>,
     inner: Expr,
@@ -107,6 +124,7 @@ pub(crate) fn close<'a>(
     left: usize,
     flags: Flags,
     depth: usize,
+    spans: &mut S,
 ) -> Result<Step<'a>, Failure>
     requires depth { depth < max_depth }
     requires last { ends (chars here.old.rest.now) ≡ true }
@@ -118,16 +136,17 @@ pub(crate) fn close<'a>(
     ensures shorter { IfOk result (λ _. length here.new.rest.now < length here.old.rest.now) }
 {
     let has_body = goes_on(&opener);
-    let atom = end_part(alloc, opener, inner, here)?;
+    let atom = end_part(alloc, opener, inner, here, spans)?;
     if !has_body {
         here.flags = flags;
         // Mostly no quantifier follows: this saves a call for each group.
         if is_unquantified(*here) {
             return Ok(Step::Piece(atom));
         }
-        return piece(alloc, atom, here, left, depth);
+        return piece(alloc, atom, here, left, depth, spans);
     }
     let condition = Box::new(alloc, atom)?;
+    spans.begin(reach(here.rest));
     let left = byte_len(here.rest);
     Ok(Step::Open(Opener::Body { condition, left }))
 }
@@ -142,18 +161,25 @@ fn goes_on(opener: &Opener) -> bool
 /// Reads the closing parenthesis of what is open: the tree that comes out.
 ///
 /// The general fault where a conditional has no body; else that of `close_paren`.
-fn end_part(alloc: Global, opener: Opener, inner: Expr, here: &mut State) -> Result<Expr, Failure>
+fn end_part<S: Spanning>(
+    alloc: Global,
+    opener: Opener,
+    inner: Expr,
+    here: &mut State,
+    spans: &mut S,
+) -> Result<Expr, Failure>
     requires last { ends (chars here.old.rest.now) ≡ true }
     requires no_bar { strip bar (chars here.old.rest.now) ≡ None }
     ensures value { GivesTree result (state here.new)
         (ended_part (part_of opener.entry) (view inner) (state here.old)) }
     ensures shorter { IfOk result (λ _. length here.new.rest.now < length here.old.rest.now) }
 {
+    let paren = reach(here.rest);
     if let Err(fault) = read_end(alloc, &opener, here) {
         drop(inner);
         return Err(fault);
     }
-    Ok(node_of_part(alloc, opener, inner)?)
+    Ok(node_of_part(alloc, opener, inner, paren, reach(here.rest), spans)?)
 }
 
 /// Reads the closing parenthesis of what is open, whatever tree stands in it. The faults are those of `end_part`.
@@ -183,19 +209,57 @@ fn lacks_body(opener: &Opener, text: &str) -> bool
     }
 }
 
-/// The tree of what was open, around the tree read inside.
-fn node_of_part(alloc: Global, opener: Opener, inner: Expr) -> Result<Expr, AllocError>
+/// The tree of what was open, around the tree read inside. Its closing parenthesis begins at the one reach and ends at the
+/// other.
+fn node_of_part<S: Spanning>(
+    alloc: Global,
+    opener: Opener,
+    inner: Expr,
+    paren: usize,
+    end: usize,
+    spans: &mut S,
+) -> Result<Expr, AllocError>
     ensures { IfOk result (λ e. view e ≡ machine.node_of_part (part_of opener.entry) (view inner)) }
 {
     match opener {
         Opener::Top | Opener::Condition => Ok(inner),
-        Opener::Group { head, reach } => node(alloc, head, reach, inner),
-        Opener::Body { condition, .. } => conditional(alloc, condition, branches_of(inner)),
-        Opener::First => clear_or_stopper(alloc, inner),
+        Opener::Group { head, reach } => {
+            close_group(&head, end, spans)?;
+            node(alloc, head, reach, inner)
+        }
+        Opener::Body { condition, .. } => {
+            part_body(&inner, paren, spans)?;
+            conditional(alloc, condition, branches_of(inner), end, spans)
+        }
+        Opener::First => clear_or_stopper(alloc, inner, end, spans),
         Opener::Second(absent) => {
+            spans.close(end, false)?;
             let exp = Box::new(alloc, inner)?;
             Ok(Expr::Absent(Absent::Expression { absent, exp }))
         }
+    }
+}
+
+/// Ends a group of one alternation at the reach: flags leave no node.
+#[inline(always)]
+fn close_group<S: Spanning>(head: &Head, end: usize, spans: &mut S) -> Result<(), AllocError> {
+    match head {
+        Head::Scope => {
+            spans.close_bare();
+            Ok(())
+        }
+        Head::Capture(None) => spans.close(end, true),
+        _ => spans.close(end, false),
+    }
+}
+
+/// Notes the branches of the body of a conditional, which ends at the reach: of an Alt the first, and the choice among
+/// the others; else the body, and an Empty.
+#[inline(always)]
+fn part_body<S: Spanning>(body: &Expr, end: usize, spans: &mut S) -> Result<(), AllocError> {
+    match body {
+        Expr::Alt(branches) => spans.split(branches.len()),
+        _ => spans.lack_branch(end),
     }
 }
 

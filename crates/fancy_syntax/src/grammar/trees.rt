@@ -6,17 +6,23 @@ ghost use Rattle.fancy_grammar.specs.Tree.{concat};
 ghost use Rattle.fancy_syntax.specs.View.{view, views};
 
 use crate::expr::Expr;
+use crate::grammar::spanning::Spanning;
 use std::alloc::AllocError;
 use std::mem;
 
 /// Adds a piece; an Empty one is left out.
 #[inline]
-pub(crate) fn add(trees: &mut Vec<Expr>, piece: Expr) -> Result<(), AllocError>
+pub(crate) fn add<S: Spanning>(
+    trees: &mut Vec<Expr>,
+    piece: Expr,
+    spans: &mut S,
+) -> Result<(), AllocError>
     ensures { OnOk result (views trees.new.items ≡ views trees.old.items ++ solid (view piece ∷ [])) }
 {
     if is_empty(&piece) {
         // It owns nothing.
         mem::forget(piece);
+        spans.leave_out();
         return Ok(());
     }
     push(trees, piece)
@@ -35,13 +41,20 @@ pub(crate) fn push(trees: &mut Vec<Expr>, tree: Expr) -> Result<(), AllocError>
     Ok(())
 }
 
-/// Takes the trees that stand above so many others, the pieces of a branch: its tree.
-pub(crate) fn take_branch(trees: &mut Vec<Expr>, height: usize) -> Result<Expr, AllocError>
+/// Takes the trees that stand above so many others, the pieces of a branch that ends at the reach: its tree.
+pub(crate) fn take_branch<S: Spanning>(
+    trees: &mut Vec<Expr>,
+    height: usize,
+    reach: usize,
+    spans: &mut S,
+) -> Result<Expr, AllocError>
     requires { height ≤ vec_len trees.old }
     ensures tree { IfOk result (λ e. view e ≡ one_or concat (drop height (views trees.old.items))) }
     ensures below { OnOk result (views trees.new.items ≡ take height (views trees.old.items)) }
 {
-    match trees.len() - height {
+    let pieces = trees.len() - height;
+    spans.end_branch(pieces, reach)?;
+    match pieces {
         0 => Ok(Expr::Empty),
         1 => Ok(trees.take_last()),
         _ => Ok(Expr::Concat(trees.split_off(height)?)),

@@ -6,7 +6,7 @@ use Rattle.fancy_syntax.specs.Room.{HasRoom}
 use Rattle.fancy_syntax.proofs.grammar.alternation.Given as goal
 
 abbrev pub invariant-loop-parser : goal.invariant-loop-parser
-invariant-loop-parser l = record {
+invariant-loop-parser g l = record {
   reading : HasRead (state l.fn.start) l.parser;
   depth : length l.parser.stack.items < max_depth;
   room : HasRoom l.parser (chars l.fn.start.rest.now);
@@ -14,4 +14,4 @@ invariant-loop-parser l = record {
 }
 
 abbrev pub decreases-loop-parser : goal.decreases-loop-parser
-decreases-loop-parser l = length l.parser.here.rest.now
+decreases-loop-parser g l = length l.parser.here.rest.now

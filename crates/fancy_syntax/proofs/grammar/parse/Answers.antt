@@ -9,7 +9,7 @@ use Rattle.fancy_grammar.proofs.OutcomeLemmas.{IsErrorAmong-map, IsErrorAmong-is
 use Rattle.fancy_syntax.proofs.grammar.parse.Goals as goal
 
 pub returns-in_err-tree : goal.returns-in_err-tree
-returns-in_err-tree c =
+returns-in_err-tree g c =
     let e = err_from_is_err_and c.from_residual.result c.from_residual.ensures.1 in
     record {
       reads = rw (e.1, e.2) (IsErrorAmong-map (Alternation 0 (start c.args.flags (chars c.args.text.now)))
@@ -18,7 +18,7 @@ returns-in_err-tree c =
     }
 
 pub returns-in-None : goal.returns-in-None
-returns-in-None c =
+returns-in-None g c =
     let here = state c.in_ok-tree.here in
     record {
       reads = (
@@ -29,7 +29,7 @@ returns-in-None c =
     }
 
 pub returns-in-Some : goal.returns-in-Some
-returns-in-Some c =
+returns-in-Some g c =
     let f = says_end c.general.result c.reach.result c.general.ensures in
     let here = state c.in_ok-tree.here in
     record {

@@ -15,17 +15,17 @@ use Rattle.fancy_grammar.proofs.Verdict.{only_reading, only_resolving, reading_p
 use Rattle.fancy_syntax.proofs.tree.read.Goals as goal
 
 pub returns-in_err-raw-clause-fault : goal.returns-in_err-raw-clause-fault
-returns-in_err-raw-clause-fault c =
+returns-in_err-raw-clause-fault g c =
     let e = err_from_is_err_and c.from_residual.result c.from_residual.ensures.1 in
     rw (e.1, e.2) (only_reading c.in_err-raw.field-0.0 c.args.flags (chars c.args.re.now) c.in_err-raw.ensures.reads)
 
 pub returns-in_err-raw-clause-place : goal.returns-in_err-raw-clause-place
-returns-in_err-raw-clause-place c =
+returns-in_err-raw-clause-place g c =
     let e = err_from_is_err_and c.from_residual.result c.from_residual.ensures.1 in
     rw (e.1, e.2) (reading_placed c.in_err-raw.field-0.0 _ _ c.utf8.re c.in_err-raw.ensures.reads)
 
 pub resolve-requires : goal.resolve-requires
-resolve-requires c =
+resolve-requires g c =
     text_order c.args.flags c.args.re.now (view c.in_ok-raw.raw) c.utf8.re c.in_ok-raw.ensures.reads
 
 -- the tree of the text, where its raw tree is this one
@@ -36,18 +36,18 @@ tree_of {r} (Ok t) reads tree said none = (r, reads, none, tree, said)
 tree_of (Err e) reads tree said none = tt
 
 pub returns-clause-found : goal.returns-clause-found
-returns-clause-found c =
+returns-clause-found g c =
     let answer = c.resolve.ensures in
     tree_of c.resolve.result c.in_ok-raw.ensures.reads answer.tree answer.marks answer.no_fault
 
 pub returns-clause-fault : goal.returns-clause-fault
-returns-clause-fault c =
+returns-clause-fault g c =
     IfErr-weaker c.resolve.result _ _
     (λ e first. only_resolving e _ (chars c.args.re.now) (view c.in_ok-raw.raw) c.in_ok-raw.ensures.reads first)
     c.resolve.ensures.fault
 
 pub returns-clause-place : goal.returns-clause-place
-returns-clause-place c =
+returns-clause-place g c =
     IfErr-weaker c.resolve.result _ _
     (λ e first. resolving_placed e c.args.flags c.args.re.now (view c.in_ok-raw.raw) c.utf8.re
     c.in_ok-raw.ensures.reads first)

@@ -10,7 +10,7 @@ use Rattle.fancy_grammar.proofs.QuantLemmas.{some_may_count, unmoved_is, moved_i
 use Rattle.fancy_syntax.proofs.grammar.quantified.quantify_adjacent.Goals as goal
 
 pub returns-in_err-quantify_once-clause-value : goal.returns-in_err-quantify_once-clause-value
-returns-in_err-quantify_once-clause-value c =
+returns-in_err-quantify_once-clause-value g c =
     let e = err_from_is_err_and c.from_residual.result c.from_residual.ensures.1 in
     rw (e.1, e.2)
     (IsErrorAmong-map (λ o. quant c.byte_len-before.result (view c.loop-behind.tree)
@@ -22,7 +22,7 @@ returns-in_err-quantify_once-clause-value c =
     c.in_err-quantify_once.ensures.value)
 
 pub returns-then-byte_len-before-clause-value : goal.returns-then-byte_len-before-clause-value
-returns-then-byte_len-before-clause-value c =
+returns-then-byte_len-before-clause-value g c =
     let once = from_start c.byte_len-before.result (view c.loop-behind.tree) (state c.loop-behind.here)
     (done (view c.quantify_once.new.tree) (state c.quantify_once.new.here)) c.byte_len-before.ensures
     c.in_ok-quantify_once.ensures.value in
@@ -31,7 +31,7 @@ returns-then-byte_len-before-clause-value c =
     (sym c.byte_len-before.ensures))
 
 pub returns-then-not-may_count-clause-value : goal.returns-then-not-may_count-clause-value
-returns-then-not-may_count-clause-value c =
+returns-then-not-may_count-clause-value g c =
     let once = from_start c.byte_len-before.result (view c.loop-behind.tree) (state c.loop-behind.here)
     (done (view c.quantify_once.new.tree) (state c.quantify_once.new.here)) c.byte_len-before.ensures
     c.in_ok-quantify_once.ensures.value in
@@ -41,7 +41,7 @@ returns-then-not-may_count-clause-value c =
     (sym c.may_count.ensures ∙ c.if-not-may_count.true))
 
 pub loop-behind-preserved : goal.loop-behind-preserved
-loop-behind-preserved c =
+loop-behind-preserved g c =
     let once = from_start c.byte_len-before.result (view c.loop-behind.tree) (state c.loop-behind.here)
     (done (view c.quantify_once.new.tree) (state c.quantify_once.new.here)) c.byte_len-before.ensures
     c.in_ok-quantify_once.ensures.value in

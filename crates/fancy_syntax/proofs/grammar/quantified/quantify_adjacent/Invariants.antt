@@ -6,7 +6,7 @@ use Rattle.fancy_syntax.specs.View.{view}
 use Rattle.fancy_syntax.proofs.grammar.quantified.quantify_adjacent.Given as goal
 
 abbrev pub invariant-loop-behind : goal.invariant-loop-behind
-invariant-loop-behind l = record {
+invariant-loop-behind g l = record {
   value : spec.adjacent spec.max_adjacent l.fn.depth (view l.fn.tree) (state l.fn.here)
       ≡ spec.adjacent l.more l.depth (view l.tree) (state l.here);
   deep : l.depth < max_depth;
@@ -14,4 +14,4 @@ invariant-loop-behind l = record {
 }
 
 abbrev pub decreases-loop-behind : goal.decreases-loop-behind
-decreases-loop-behind l = l.more
+decreases-loop-behind g l = l.more

@@ -12,7 +12,7 @@ use Rattle.fancy_grammar.proofs.OutcomeLemmas.{IsErrorAmong-map}
 use Rattle.fancy_syntax.proofs.grammar.step.close.Goals as goal
 
 pub returns-in_err-atom-clause-value : goal.returns-in_err-atom-clause-value
-returns-in_err-atom-clause-value c =
+returns-in_err-atom-clause-value g c =
     λ s t i j o p.
     let e = err_from_is_err_and c.from_residual.result c.from_residual.ensures.1 in
     rw (e.1, e.2)
@@ -23,7 +23,7 @@ returns-in_err-atom-clause-value c =
     (λ _ _. c.requires.no_bar) h) c.in_err-atom.ensures.value)
 
 pub returns-then-is_unquantified-clause-value : goal.returns-then-is_unquantified-clause-value
-returns-then-is_unquantified-clause-value c =
+returns-then-is_unquantified-clause-value g c =
     λ s t i j o p.
     closes (view c.args.inner) (state c.args.here.now) (Ok (step.Piece _)) _ o p
     (sym c.goes_on-has_body.ensures ∙ c.if-not-has_body.true) c.requires.no_bar
@@ -33,14 +33,14 @@ returns-then-is_unquantified-clause-value c =
     ∙ c.is_unquantified.ensures c.if-is_unquantified.true _ _ _)
 
 pub returns-then-not-has_body-clause-value : goal.returns-then-not-has_body-clause-value
-returns-then-not-has_body-clause-value c =
+returns-then-not-has_body-clause-value g c =
     λ s t i j o p.
     closes (view c.args.inner) (state c.args.here.now) c.piece.result _ o p
     (sym c.goes_on-has_body.ensures ∙ c.if-not-has_body.true) c.requires.no_bar
     c.in_ok-atom.ensures.value i (rw j at c.piece.ensures.value)
 
 pub returns-clause-value : goal.returns-clause-value
-returns-clause-value c =
+returns-clause-value g c =
     λ s t i j o p.
     rw (c.byte_len-left.ensures, c.in_ok-condition.ensures.ok)
     (condition_ended (view c.args.inner) (state c.args.here.now) o p

@@ -13,12 +13,12 @@ use Rattle.fancy_syntax.proofs.TreeLemmas.{view_Empty}
 use Rattle.fancy_syntax.proofs.grammar.step.read_step.Goals as goal
 
 pub returns-in_err-here-clause-value : goal.returns-in_err-here-clause-value
-returns-in_err-here-clause-value c =
+returns-in_err-here-clause-value g c =
     let e = err_from_is_err_and c.from_residual.result c.from_residual.ensures.1 in
     let (p, is, layout) = c.in_err-here.ensures.value in rw (e.1, e.2) (steps_layout _ _ _ is layout)
 
 pub returns-in_err-read_atom_start-clause-value : goal.returns-in_err-read_atom_start-clause-value
-returns-in_err-read_atom_start-clause-value c =
+returns-in_err-read_atom_start-clause-value g c =
     let e = err_from_is_err_and c.from_residual-in_err-read_atom_start.result
     c.from_residual-in_err-read_atom_start.ensures.1 in
     rw (e.1, e.2)
@@ -28,25 +28,25 @@ returns-in_err-read_atom_start-clause-value c =
     c.in_err-read_atom_start.ensures.value)
 
 pub returns-then-is_unquantified-clause-value : goal.returns-then-is_unquantified-clause-value
-returns-then-is_unquantified-clause-value c =
+returns-then-is_unquantified-clause-value g c =
     steps_piece (state c.args.here.now) (Ok (step.Piece _)) _ c.byte_len-left.ensures c.in_ok-here.ensures.value
     (atom (rw c.in-Read.is at c.in_ok-read_atom_start.ensures.value) a_read)
     (c.is_unquantified.ensures c.if-is_unquantified.true _ _ _)
 
 pub returns-else-is_unquantified-clause-value : goal.returns-else-is_unquantified-clause-value
-returns-else-is_unquantified-clause-value c =
+returns-else-is_unquantified-clause-value g c =
     steps_piece (state c.args.here.now) _ _ c.byte_len-left.ensures c.in_ok-here.ensures.value
     (atom (rw c.in-Read.is at c.in_ok-read_atom_start.ensures.value) a_read) c.piece-in-Read.ensures.value
 
-pub returns-in-Nothing-clause-value : goal.returns-in-Nothing-clause-value
-returns-in-Nothing-clause-value c =
+pub returns-in_ok-note_leaf-in-Nothing-clause-value : goal.returns-in_ok-note_leaf-in-Nothing-clause-value
+returns-in_ok-note_leaf-in-Nothing-clause-value g c =
     let stays = rw c.in-Nothing.is at c.in_ok-read_atom_start.ensures.stays in
     steps_piece (state c.args.here.now) _ _ c.byte_len-left.ensures c.in_ok-here.ensures.value
     (atom (rw c.in-Nothing.is at c.in_ok-read_atom_start.ensures.value) a_nothing)
     (rw (view_Empty, stays) at c.piece.ensures.value)
 
-pub returns-in-Nothing-clause-shorter : goal.returns-in-Nothing-clause-shorter
-returns-in-Nothing-clause-shorter c =
+pub returns-in_ok-note_leaf-in-Nothing-clause-shorter : goal.returns-in_ok-note_leaf-in-Nothing-clause-shorter
+returns-in_ok-note_leaf-in-Nothing-clause-shorter g c =
     let stays = rw c.in-Nothing.is at c.in_ok-read_atom_start.ensures.stays in
     nothing_shorter c.args.depth _ _ _ _ (state c.args.here.now) _ _ _
     (rw c.in-Nothing.is at c.in_ok-read_atom_start.ensures.value) c.requires.more
@@ -54,18 +54,18 @@ returns-in-Nothing-clause-shorter c =
     c.in_ok-here.ensures.unmoved
     (rw stays at c.piece.ensures.within)
 
-pub returns-in-Group-clause-value : goal.returns-in-Group-clause-value
-returns-in-Group-clause-value c =
-    rw c.reach.ensures (a_group c.in_ok-here.ensures.value (rw c.in-Group.is at c.in_ok-read_atom_start.ensures.value))
+pub returns-in_ok-open-in-Group-clause-value : goal.returns-in_ok-open-in-Group-clause-value
+returns-in_ok-open-in-Group-clause-value g c =
+    rw c.reach-paren.ensures (a_group c.in_ok-here.ensures.value (rw c.in-Group.is at c.in_ok-read_atom_start.ensures.value))
 
-pub returns-in-Condition-clause-value : goal.returns-in-Condition-clause-value
-returns-in-Condition-clause-value c = a_condition c.in_ok-here.ensures.value
+pub returns-in_ok-open-in-Condition-clause-value : goal.returns-in_ok-open-in-Condition-clause-value
+returns-in_ok-open-in-Condition-clause-value g c = a_condition c.in_ok-here.ensures.value
     (rw c.in-Condition.is at c.in_ok-read_atom_start.ensures.value)
 
-pub returns-in-Body-clause-value : goal.returns-in-Body-clause-value
-returns-in-Body-clause-value c =
+pub returns-in_ok-open_body-in-Body-clause-value : goal.returns-in_ok-open_body-in-Body-clause-value
+returns-in_ok-open_body-in-Body-clause-value g c =
     rw c.byte_len.ensures (a_body c.in_ok-here.ensures.value (rw c.in-Body.is at c.in_ok-read_atom_start.ensures.value))
 
-pub returns-in-AbsentBranch-clause-value : goal.returns-in-AbsentBranch-clause-value
-returns-in-AbsentBranch-clause-value c = a_branch c.in_ok-here.ensures.value
+pub returns-in_ok-open-in-AbsentBranch-clause-value : goal.returns-in_ok-open-in-AbsentBranch-clause-value
+returns-in_ok-open-in-AbsentBranch-clause-value g c = a_branch c.in_ok-here.ensures.value
     (rw c.in-AbsentBranch.is at c.in_ok-read_atom_start.ensures.value)

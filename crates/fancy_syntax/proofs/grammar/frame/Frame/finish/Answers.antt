@@ -6,14 +6,14 @@ use Rattle.fancy_syntax.proofs.TreesLemmas.{branches_taken, branches_below}
 use Rattle.fancy_syntax.proofs.grammar.frame.Frame.finish.Goals as goal
 
 pub returns-clause-tree : goal.returns-clause-tree
-returns-clause-tree c below branches pieces h =
+returns-clause-tree g c below branches pieces h =
     let put = c.in_ok-push.ensures ∙ ap (λ l. l ++ view c.in_ok-branch.branch ∷ []) c.in_ok-branch.ensures.below in
     view_Alt _
     ∙ branches_taken c.args.self.now below branches pieces (view c.in_ok-branch.branch) c.push.new.trees.items _ h
     c.in_ok-branch.ensures.tree put c.if-self.false c.in_ok-split_off.ensures.tail
 
 pub returns-clause-below : goal.returns-clause-below
-returns-clause-below c below branches pieces h =
+returns-clause-below g c below branches pieces h =
     let put = c.in_ok-push.ensures ∙ ap (λ l. l ++ view c.in_ok-branch.branch ∷ []) c.in_ok-branch.ensures.below in
     ap views c.in_ok-split_off.ensures.items ∙ sym (take-map view c.args.self.now.branches c.push.new.trees.items)
     ∙ branches_below c.args.self.now below branches pieces (view c.in_ok-branch.branch) c.push.new.trees.items h

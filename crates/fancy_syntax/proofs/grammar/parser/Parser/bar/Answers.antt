@@ -7,16 +7,16 @@ use Rattle.fancy_grammar.proofs.OutcomeLemmas.{IsErrorAmong-map}
 use Rattle.fancy_syntax.proofs.grammar.parser.Parser.bar.Goals as goal
 
 pub returns-in_err-bar-clause-reading : goal.returns-in_err-bar-clause-reading
-returns-in_err-bar-clause-reading c start h =
+returns-in_err-bar-clause-reading g c start h =
     let e = err_from_is_err_and c.from_residual.result c.from_residual.ensures.1 in
     let rest = (state c.args.self.now.here).rest in
     rw (e.1, e.2) (IsErrorAmong-map (IsFaultOfBar (part_of c.args.self.now.frame.opener) rest)
     (Alternation 0 start) c.in_err-bar.field-0.0
     (λ k p a. running_bar_fault _ h c.requires.last c.requires.bar a)
-    (c.in_err-bar.ensures.fault rest c.reach-reach.ensures))
+    (c.in_err-bar.ensures.fault rest c.reach-bar.ensures))
 
 pub returns-clause-reading : goal.returns-clause-reading
-returns-clause-reading c start h =
+returns-clause-reading g c start h =
     let f = c.in_ok-bar.ensures in
     running_bar _ c.bar.new.self h c.requires.last c.requires.bar f.allowed
     (f.opener h.below h.branches h.pieces h.holds) (f.trees h.below h.branches h.pieces h.holds)

@@ -12,14 +12,14 @@ use Rattle.fancy_grammar.proofs.OutcomeLemmas.{IsErrorAmong-map}
 use Rattle.fancy_syntax.proofs.grammar.parser.Parser.close.Goals as goal
 
 pub returns-in_default-clause-reading : goal.returns-in_default-clause-reading
-returns-in_default-clause-reading c start h =
+returns-in_default-clause-reading g c start h =
     let none : c.args.self.now.stack.items ≡ [] =
     nil_from_length _ (omega (arith, c.args.self.now.stack.ok.0, c.in_default.ensures.cases.0)) in
     running_end (view c.in_ok-inner.inner) h c.requires.last c.requires.no_bar
     (c.in_ok-inner.ensures.tree h.below h.branches h.pieces h.holds) none
 
 pub returns-in_err-step-clause-reading : goal.returns-in_err-step-clause-reading
-returns-in_err-step-clause-reading c start h =
+returns-in_err-step-clause-reading g c start h =
     let f = c.in_ok-inner.ensures in
     let g = c.replace-opener.ensures in
     let w = running_closing c.pop.new.self.items c.replace-opener.new.dest (views c.finish.new.trees.items)
@@ -35,7 +35,7 @@ returns-in_err-step-clause-reading c start h =
     (c.in_err-step.ensures.value w.here w.inside w.began.0 w.began.1 (rw n w.opens) (rw n w.whole)))
 
 pub returns-clause-reading : goal.returns-clause-reading
-returns-clause-reading c start h =
+returns-clause-reading g c start h =
     let f = c.in_ok-inner.ensures in
     let g = c.replace-opener.ensures in
     let w = running_closing c.pop.new.self.items c.replace-opener.new.dest (views c.finish.new.trees.items)

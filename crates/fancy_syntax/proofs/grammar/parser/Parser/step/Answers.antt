@@ -10,7 +10,7 @@ use Rattle.fancy_grammar.proofs.OutcomeLemmas.{IsErrorAmong-map}
 use Rattle.fancy_syntax.proofs.grammar.parser.Parser.step.Goals as goal
 
 pub returns-in_err-step-clause-reading : goal.returns-in_err-step-clause-reading
-returns-in_err-step-clause-reading c start h =
+returns-in_err-step-clause-reading g c start h =
     let n : c.len.result ≡ length c.args.self.now.stack.items =
     omega (arith, c.len.ensures, c.args.self.now.stack.ok.0) in
     let e = err_from_is_err_and c.from_residual.result c.from_residual.ensures.1 in
@@ -20,7 +20,7 @@ returns-in_err-step-clause-reading c start h =
     (subst (λ d. Piece d (state c.args.self.now.here) (fault k p)) n a)) c.in_err-step.ensures.value)
 
 pub returns-clause-reading : goal.returns-clause-reading
-returns-clause-reading c start h =
+returns-clause-reading g c start h =
     let n : c.len.result ≡ length c.args.self.now.stack.items =
     omega (arith, c.len.ensures, c.args.self.now.stack.ok.0) in
     let made = c.in_ok-step.step in
@@ -32,7 +32,7 @@ returns-clause-reading c start h =
     (c.byte_len-self.ensures, refl) c.requires.more steps taken.taken)
 
 pub take-requires : goal.take-requires
-take-requires c =
+take-requires g c =
     let n : c.len.result ≡ length c.args.self.now.stack.items = omega (arith, c.len.ensures, c.args.self.now.stack.ok.0) in
     let made = c.in_ok-step.step in
     let (start, h, room) = c.requires.room in

@@ -1,0 +1,174 @@
+-- What is noted of the places of nodes while a pattern is read, and what becomes of it with each thing that is read.
+use Rattle.std.specs.Prelude.{◌≡◌, ℕ, ◌+◌, ◌-◌, ◌==◌, nat_lt, min, Bool, false, ◌&&◌, if◌then◌else◌, List, [], ◌∷◌, ◌++◌}
+use Rattle.std.specs.Prelude.{length, take, insert, remove, Option, Some, None}
+use Rattle.std.specs.List.{slice_get, slice_index_or}
+use Rattle.fancy_lex.specs.Text.{reach_of}
+use Rattle.fancy_grammar.specs.Spans.{Span, condition_span}
+use Rattle.fancy_grammar.specs.State.{State}
+use Rattle.fancy_syntax.specs.declared.grammar.noted.FirstBar.{FirstBar}
+use Rattle.fancy_syntax.specs.declared.grammar.noted.Last.{Last}
+use Rattle.fancy_syntax.specs.declared.grammar.noted.Noted.{Noted}
+use Rattle.fancy_syntax.specs.declared.grammar.noted.Open.{Open}
+
+-- the nodes of what is read, each tree in preorder; the atoms that are open, the innermost apart; the last piece
+pub record Log : Type 0 where
+  pub noted : List Noted
+  pub around : List Open
+  pub open_atom : Open
+  pub last : Last
+
+-- a node that is neither a group without a name nor an Alt that the grammar reads
+abbrev pub plain : ℕ → ℕ → Noted
+plain start end = record { start = start; end = end; unnamed = false; bar = None }
+
+-- nothing is read yet of a text that begins at the reach
+abbrev pub started : ℕ → Log
+started start = record {
+  noted = [];
+  around = [];
+  open_atom = record {
+    start = start;
+    height = 0;
+    part = start;
+    branches = 0;
+    bar = None;
+    branch = start;
+    pieces = 0;
+  };
+  last = record { start = start; height = 0 };
+}
+
+-- where the node stands
+abbrev pub reaches : Noted → Span
+reaches x = record { start = x.start; end = x.end }
+
+-- the reaches of the nodes that are answered; where only groups with a name have a number, the others leave no node
+abbrev pub shown : Bool → List Noted → List Span
+shown named [] = []
+shown named (x ∷ xs) = if named && x.unnamed then shown named xs else reaches x ∷ shown named xs
+
+-- a node behind so many others, or behind all where there are fewer
+abbrev pub put : ℕ → Noted → Log → Log
+put height x l = record l { noted = insert l.noted (min height (length l.noted)) x }
+
+-- ---- leaves and quantifiers
+
+abbrev pub leaf_noted : ℕ → ℕ → Log → Log
+leaf_noted start end l = record l {
+  noted = l.noted ++ plain start end ∷ [];
+  last = record { start = start; height = length l.noted };
+}
+
+abbrev pub left_out : Log → Log
+left_out l = record l { noted = take l.last.height l.noted }
+
+-- under a node that ends there
+abbrev pub under_node : ℕ → Log → Log
+under_node end l = put l.last.height (plain l.last.start end) l
+
+abbrev pub wrapped : ℕ → Bool → Log → Log
+wrapped end atomic l = under_node end (if atomic then under_node end l else l)
+
+-- ---- atoms and their parts
+
+abbrev pub part_begun : ℕ → Log → Log
+part_begun start l = record l {
+  open_atom = record {
+    start = l.open_atom.start;
+    height = l.open_atom.height;
+    part = start;
+    branches = length l.noted;
+    bar = None;
+    branch = start;
+    pieces = length l.noted;
+  };
+}
+
+abbrev pub atom_opened : ℕ → Log → Log
+atom_opened start l = record l {
+  around = l.around ++ l.open_atom ∷ [];
+  open_atom = record {
+    start = start;
+    height = length l.noted;
+    part = l.open_atom.part;
+    branches = l.open_atom.branches;
+    bar = l.open_atom.bar;
+    branch = l.open_atom.branch;
+    pieces = l.open_atom.pieces;
+  };
+}
+
+-- an atom that begins at the one reach, and its first part at the other
+abbrev pub opened : ℕ → ℕ → Log → Log
+opened start inside l = part_begun inside (atom_opened start l)
+
+-- a conditional that begins at s, whose body begins at t behind a condition that is no alternation
+abbrev pub body_opened : State → State → Log → Log
+body_opened s t l =
+    let p = condition_span s t in
+    part_begun (reach_of t.rest) (leaf_noted p.start p.end (opened (reach_of s.rest) (reach_of t.rest) l))
+
+-- the open atom is the last piece, and the one around it is open
+abbrev pub atom_ended : Log → Log
+atom_ended l =
+    let outer = length l.around - 1 in
+    record {
+      noted = l.noted;
+      around = take outer l.around;
+      open_atom = slice_index_or l.around outer l.open_atom;
+      last = record { start = l.open_atom.start; height = l.open_atom.height };
+    }
+
+abbrev pub atom_closed : ℕ → Bool → Log → Log
+atom_closed end unnamed l = atom_ended
+    (put l.open_atom.height (record { start = l.open_atom.start; end = end; unnamed = unnamed; bar = None }) l)
+
+-- ---- branches
+
+-- the first bar is kept, of which the branch behind it begins there, and the one before it has so many nodes
+abbrev pub first_bar : Option FirstBar → ℕ → ℕ → FirstBar
+first_bar None start nodes = record { behind = start; nodes = nodes }
+first_bar (Some b) start nodes = b
+
+abbrev pub branch_begun : ℕ → Log → Log
+branch_begun start l = record l {
+  open_atom = record {
+    start = l.open_atom.start;
+    height = l.open_atom.height;
+    part = l.open_atom.part;
+    branches = l.open_atom.branches;
+    bar = Some (first_bar l.open_atom.bar start (length l.noted - l.open_atom.branches));
+    branch = start;
+    pieces = length l.noted;
+  };
+}
+
+abbrev pub branch_ended : ℕ → ℕ → Log → Log
+branch_ended pieces end l =
+    if pieces == 1 then l else put l.open_atom.pieces (plain l.open_atom.branch end) l
+
+abbrev pub choice_ended : ℕ → Log → Log
+choice_ended end l = put l.open_atom.branches
+    (record { start = l.open_atom.part; end = end; unnamed = false; bar = l.open_atom.bar }) l
+
+-- ---- the body of a conditional
+
+-- in the place of an Alt of so many branches the choice among those behind its first bar, where they are several
+abbrev pub others_put : ℕ → Noted → Option FirstBar → Log → Log
+others_put branches alt None l = l
+others_put branches alt (Some b) l =
+    if nat_lt branches 3 then l else put (l.open_atom.branches + b.nodes) (plain b.behind alt.end) l
+
+abbrev pub alt_split : ℕ → Option Noted → Log → Log
+alt_split branches None l = l
+alt_split branches (Some alt) l =
+    others_put branches alt alt.bar (record l { noted = remove l.noted l.open_atom.branches })
+
+abbrev pub body_split : ℕ → Log → Log
+body_split branches l = alt_split branches (slice_get l.noted l.open_atom.branches) l
+
+abbrev pub branch_lacked : ℕ → Log → Log
+branch_lacked end l = record l { noted = l.noted ++ plain end end ∷ [] }
+
+abbrev pub part_dropped : Log → Log
+part_dropped l = record l { noted = take l.open_atom.branches l.noted }

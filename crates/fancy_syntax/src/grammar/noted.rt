@@ -1,0 +1,43 @@
+//! What is noted of the places of nodes, which are told by their reaches.
+
+/// A node of the raw tree.
+#[derive(Clone, Copy)]
+pub(crate) struct Noted {
+    pub(crate) start: usize,
+    pub(crate) end: usize,
+    /// It is a capturing group without a name.
+    pub(crate) unnamed: bool,
+    /// It is an Alt, whose first bar this is.
+    pub(crate) bar: Option<FirstBar>,
+}
+
+/// The first bar of a part.
+#[derive(Clone, Copy)]
+pub(crate) struct FirstBar {
+    /// Where the branch behind it begins.
+    pub(crate) behind: usize,
+    /// How many nodes the branch before it has.
+    pub(crate) nodes: usize,
+}
+
+/// An atom that is open, the part of it that is open, and the branch that is.
+#[derive(Clone, Copy)]
+pub(crate) struct Open {
+    /// Where the atom begins, and how many nodes stand before its own.
+    pub(crate) start: usize,
+    pub(crate) height: usize,
+    /// The same of the part.
+    pub(crate) part: usize,
+    pub(crate) branches: usize,
+    pub(crate) bar: Option<FirstBar>,
+    /// The same of the branch.
+    pub(crate) branch: usize,
+    pub(crate) pieces: usize,
+}
+
+/// A piece: where it begins, and how many nodes stand before its own.
+#[derive(Clone, Copy)]
+pub(crate) struct Last {
+    pub(crate) start: usize,
+    pub(crate) height: usize,
+}

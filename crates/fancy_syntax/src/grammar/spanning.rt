@@ -1,0 +1,141 @@
+//! Where the nodes of a raw tree stand, noted while it is read.
+ghost use Rattle.std.specs.Prelude.{OnOk};
+ghost use Rattle.fancy_syntax.specs.Log.{Log, leaf_noted, left_out, wrapped, opened, body_opened, part_begun};
+ghost use Rattle.fancy_syntax.specs.Log.{branch_begun, branch_ended, choice_ended, body_split, branch_lacked};
+ghost use Rattle.fancy_syntax.specs.Log.{part_dropped, atom_closed, atom_ended};
+ghost use Rattle.fancy_syntax.specs.Parsed.{state};
+
+use crate::grammar::state::State;
+use std::alloc::AllocError;
+
+/// What is done with the reaches that the parser passes. Where no spans are wanted nothing is, and a call is compiled
+/// without them.
+pub(crate) trait Spanning: Drop {
+    /// What is noted is this, where anything is.
+    ghost notes: { Self → Log → Type 0 };
+
+    /// A leaf stands there, which is the last piece.
+    fn note_leaf(&mut self, start: usize, end: usize) -> Result<(), AllocError>
+        ensures { (l : Log) → notes self.old l → OnOk result (notes self.new (leaf_noted start end l)) };
+
+    /// The last piece is an Empty, which is left out.
+    fn leave_out(&mut self)
+        ensures { (l : Log) → notes self.old l → notes self.new (left_out l) };
+
+    /// A quantifier that ends there makes a node round the last piece, and where it is atomic one more round that.
+    fn wrap(&mut self, end: usize, atomic: bool) -> Result<(), AllocError>
+        ensures { (l : Log) → notes self.old l → OnOk result (notes self.new (wrapped end atomic l)) };
+
+    /// An atom that holds branches begins at the one reach, and its first part at the other.
+    fn open(&mut self, start: usize, inside: usize) -> Result<(), AllocError>
+        ensures { (l : Log) → notes self.old l → OnOk result (notes self.new (opened start inside l)) };
+
+    /// A conditional begins at the one state, and behind a condition that is no alternation its body at the other.
+    fn open_body(&mut self, start: State, inside: State) -> Result<(), AllocError>
+        ensures { (l : Log) → notes self.old l → OnOk result (notes self.new (body_opened (state start.entry) (state inside.entry) l)) };
+
+    /// The next part of the open atom begins there.
+    fn begin(&mut self, start: usize)
+        ensures { (l : Log) → notes self.old l → notes self.new (part_begun start l) };
+
+    /// The next branch begins there, behind a bar.
+    fn next_branch(&mut self, start: usize)
+        ensures { (l : Log) → notes self.old l → notes self.new (branch_begun start l) };
+
+    /// The open branch, of so many pieces, ends there.
+    fn end_branch(&mut self, pieces: usize, end: usize) -> Result<(), AllocError>
+        ensures { (l : Log) → notes self.old l → OnOk result (notes self.new (branch_ended pieces end l)) };
+
+    /// The branches of the open part are several, of which the last ends there: they become an Alt.
+    fn end_choice(&mut self, end: usize) -> Result<(), AllocError>
+        ensures { (l : Log) → notes self.old l → OnOk result (notes self.new (choice_ended end l)) };
+
+    /// The Alt of so many branches, the body of a conditional, gives way to the first of them and the choice among the
+    /// others.
+    fn split(&mut self, branches: usize) -> Result<(), AllocError>
+        ensures { (l : Log) → notes self.old l → OnOk result (notes self.new (body_split branches l)) };
+
+    /// The body of a conditional, which ends there, is its first branch; the second is an Empty at its end.
+    fn lack_branch(&mut self, end: usize) -> Result<(), AllocError>
+        ensures { (l : Log) → notes self.old l → OnOk result (notes self.new (branch_lacked end l)) };
+
+    /// What was read of the open part leaves no node.
+    fn drop_part(&mut self)
+        ensures { (l : Log) → notes self.old l → notes self.new (part_dropped l) };
+
+    /// The open atom ends there with a node of its own, and is the last piece. An unnamed group may be without a number.
+    fn close(&mut self, end: usize, unnamed: bool) -> Result<(), AllocError>
+        ensures { (l : Log) → notes self.old l → OnOk result (notes self.new (atom_closed end unnamed l)) };
+
+    /// The open atom ends without a node of its own, and is the last piece.
+    fn close_bare(&mut self)
+        ensures { (l : Log) → notes self.old l → notes self.new (atom_ended l) };
+}
+
+/// No spans are wanted.
+#[derive(Drop)]
+pub(crate) struct NoSpans;
+
+impl Spanning for NoSpans {
+    ghost notes = { λ s l. Unit {0} };
+
+    #[inline(always)]
+    fn note_leaf(&mut self, _start: usize, _end: usize) -> Result<(), AllocError> {
+        Ok(())
+    }
+
+    #[inline(always)]
+    fn leave_out(&mut self) {}
+
+    #[inline(always)]
+    fn wrap(&mut self, _end: usize, _atomic: bool) -> Result<(), AllocError> {
+        Ok(())
+    }
+
+    #[inline(always)]
+    fn open(&mut self, _start: usize, _inside: usize) -> Result<(), AllocError> {
+        Ok(())
+    }
+
+    #[inline(always)]
+    fn open_body(&mut self, _start: State, _inside: State) -> Result<(), AllocError> {
+        Ok(())
+    }
+
+    #[inline(always)]
+    fn begin(&mut self, _start: usize) {}
+
+    #[inline(always)]
+    fn next_branch(&mut self, _start: usize) {}
+
+    #[inline(always)]
+    fn end_branch(&mut self, _pieces: usize, _end: usize) -> Result<(), AllocError> {
+        Ok(())
+    }
+
+    #[inline(always)]
+    fn end_choice(&mut self, _end: usize) -> Result<(), AllocError> {
+        Ok(())
+    }
+
+    #[inline(always)]
+    fn split(&mut self, _branches: usize) -> Result<(), AllocError> {
+        Ok(())
+    }
+
+    #[inline(always)]
+    fn lack_branch(&mut self, _end: usize) -> Result<(), AllocError> {
+        Ok(())
+    }
+
+    #[inline(always)]
+    fn drop_part(&mut self) {}
+
+    #[inline(always)]
+    fn close(&mut self, _end: usize, _unnamed: bool) -> Result<(), AllocError> {
+        Ok(())
+    }
+
+    #[inline(always)]
+    fn close_bare(&mut self) {}
+}

@@ -1,0 +1,280 @@
+//! The spans of the nodes of a raw tree, each tree in preorder.
+ghost use Rattle.std.specs.Prelude.{◌≡◌, [], ◌∷◌, ◌++◌, chars, map, option_map, IfOk, OnOk};
+ghost use Rattle.fancy_lex.specs.Reading.{choose};
+ghost use Rattle.fancy_lex.specs.Text.{bytes, reach_of};
+ghost use Rattle.fancy_grammar.specs.Spans.{condition_text, placed};
+ghost use Rattle.fancy_syntax.specs.Log as spec;
+ghost use Rattle.fancy_syntax.specs.Log.{reaches, shown};
+ghost use Rattle.fancy_syntax.specs.LogViews.{log_of, span_of, spans_of};
+ghost use Rattle.fancy_syntax.specs.Parsed.{state};
+
+use crate::grammar::noted::{FirstBar, Last, Noted, Open};
+use crate::grammar::spanning::Spanning;
+use crate::grammar::state::{State, skip_layout};
+use crate::span::Span;
+use fancy_lex::text::{after, after_word, place_at, reach, reach_before};
+use std::alloc::{AllocError, Global};
+
+/// The nodes that are read, and the atoms that are open.
+#[derive(Drop)]
+pub(crate) struct Spans {
+    pub(crate) noted: Vec<Noted>,
+    /// The atoms around the innermost one that is open.
+    pub(crate) around: Vec<Open>,
+    pub(crate) open: Open,
+    /// The last piece.
+    pub(crate) last: Last,
+}
+
+impl Spans {
+    /// Nothing is read yet of a text that begins at the reach.
+    pub(crate) fn new(alloc: Global, start: usize) -> Spans
+        ensures { log_of result ≡ spec.started start }
+    {
+        Spans {
+            noted: Vec::new(alloc),
+            around: Vec::new(alloc),
+            open: Open {
+                start,
+                height: 0,
+                part: start,
+                branches: 0,
+                bar: None,
+                branch: start,
+                pieces: 0,
+            },
+            last: Last { start, height: 0 },
+        }
+    }
+
+    /// The spans of the answered tree; where `named` only groups with a name have a number, and the others no node.
+    pub(crate) fn answered(
+        &self,
+        alloc: Global,
+        pattern: &str,
+        named: bool,
+    ) -> Result<Vec<Span>, AllocError>
+        ensures { IfOk result (λ spans. spans_of spans ≡
+            map (placed (bytes (chars pattern.now))) (shown named self.now.noted.items)) }
+    {
+        let mut spans = Vec::with_capacity(alloc, self.noted.len())?;
+        for noted in &self.noted {
+            push_shown(&mut spans, pattern, named, *noted)?;
+        }
+        Ok(spans)
+    }
+
+    /// Puts a node behind so many others.
+    fn put(&mut self, height: usize, node: Noted) -> Result<(), AllocError>
+        ensures { OnOk result (log_of self.new ≡ spec.put height node (log_of self.old)) }
+    {
+        let height = height.min(self.noted.len());
+        Ok(self.noted.insert(height, node)?)
+    }
+
+    /// An atom begins there.
+    fn open_atom(&mut self, start: usize) -> Result<(), AllocError>
+        ensures { OnOk result (log_of self.new ≡ spec.atom_opened start (log_of self.old)) }
+    {
+        self.around.push(self.open)?;
+        self.open.start = start;
+        self.open.height = self.noted.len();
+        Ok(())
+    }
+
+    /// Ends the open atom, which is the last piece.
+    fn end_atom(&mut self)
+        ensures { log_of self.new ≡ spec.atom_ended (log_of self.old) }
+    {
+        self.last = Last {
+            start: self.open.start,
+            height: self.open.height,
+        };
+        if let Some(outer) = self.around.pop() {
+            self.open = outer;
+        }
+    }
+}
+
+impl Spanning for Spans {
+    ghost notes = { λ s l. log_of s ≡ l };
+
+    fn note_leaf(&mut self, start: usize, end: usize) -> Result<(), AllocError> {
+        let height = self.noted.len();
+        self.last = Last { start, height };
+        Ok(self.noted.push(plain(start, end))?)
+    }
+
+    fn leave_out(&mut self) {
+        self.noted.truncate(self.last.height);
+    }
+
+    fn wrap(&mut self, end: usize, atomic: bool) -> Result<(), AllocError> {
+        let Last { start, height } = self.last;
+        if atomic {
+            self.put(height, plain(start, end))?;
+        }
+        self.put(height, plain(start, end))
+    }
+
+    fn open(&mut self, start: usize, inside: usize) -> Result<(), AllocError> {
+        self.open_atom(start)?;
+        self.begin(inside);
+        Ok(())
+    }
+
+    fn open_body(&mut self, start: State, inside: State) -> Result<(), AllocError> {
+        let body = reach(inside.rest);
+        self.open(reach(start.rest), body)?;
+        self.note_leaf(condition_start(start), reach_before(inside.rest))?;
+        self.begin(body);
+        Ok(())
+    }
+
+    fn begin(&mut self, start: usize) {
+        let height = self.noted.len();
+        self.open.part = start;
+        self.open.branches = height;
+        self.open.bar = None;
+        self.open.branch = start;
+        self.open.pieces = height;
+    }
+
+    fn next_branch(&mut self, start: usize) {
+        let height = self.noted.len();
+        if self.open.bar.is_none() {
+            self.open.bar = Some(FirstBar {
+                behind: start,
+                nodes: height.saturating_sub(self.open.branches),
+            });
+        }
+        self.open.branch = start;
+        self.open.pieces = height;
+    }
+
+    fn end_branch(&mut self, pieces: usize, end: usize) -> Result<(), AllocError> {
+        if pieces == 1 {
+            return Ok(());
+        }
+        self.put(self.open.pieces, plain(self.open.branch, end))
+    }
+
+    fn end_choice(&mut self, end: usize) -> Result<(), AllocError> {
+        let alt = Noted {
+            start: self.open.part,
+            end,
+            unnamed: false,
+            bar: self.open.bar,
+        };
+        self.put(self.open.branches, alt)
+    }
+
+    fn split(&mut self, branches: usize) -> Result<(), AllocError> {
+        let at = self.open.branches;
+        if at >= self.noted.len() {
+            return Ok(());
+        }
+        let alt = self.noted.remove(at);
+        let Some(bar) = alt.bar else {
+            return Ok(());
+        };
+        if branches < 3 {
+            return Ok(());
+        }
+        self.put(at.saturating_add(bar.nodes), rest_of(alt, bar))
+    }
+
+    fn lack_branch(&mut self, end: usize) -> Result<(), AllocError> {
+        Ok(self.noted.push(plain(end, end))?)
+    }
+
+    fn drop_part(&mut self) {
+        self.noted.truncate(self.open.branches);
+    }
+
+    fn close(&mut self, end: usize, unnamed: bool) -> Result<(), AllocError> {
+        let node = Noted {
+            start: self.open.start,
+            end,
+            unnamed,
+            bar: None,
+        };
+        self.put(self.open.height, node)?;
+        self.end_atom();
+        Ok(())
+    }
+
+    fn close_bare(&mut self) {
+        self.end_atom();
+    }
+}
+
+/// Adds where the node stands in the pattern, if it is answered.
+fn push_shown(
+    spans: &mut Vec<Span>,
+    pattern: &str,
+    named: bool,
+    node: Noted,
+) -> Result<(), AllocError>
+    ensures { OnOk result (spans_of spans.new ≡
+        spans_of spans.old ++ map (placed (bytes (chars pattern.now))) (shown named (node ∷ []))) }
+{
+    if named && node.unnamed {
+        return Ok(());
+    }
+    Ok(spans.push(span_in(pattern, node))?)
+}
+
+/// Where the node stands in the pattern.
+fn span_in(pattern: &str, node: Noted) -> Span
+    ensures { span_of result ≡ placed (bytes (chars pattern.now)) (reaches node) }
+{
+    Span {
+        start: place_at(pattern, node.start),
+        end: place_at(pattern, node.end),
+    }
+}
+
+/// A node that is neither a group without a name nor an Alt which the grammar reads.
+fn plain(start: usize, end: usize) -> Noted
+    ensures { result ≡ spec.plain start end }
+{
+    Noted {
+        start,
+        end,
+        unnamed: false,
+        bar: None,
+    }
+}
+
+/// The choice among the branches behind the first bar of an Alt: its own first bar is of no use.
+fn rest_of(alt: Noted, bar: FirstBar) -> Noted
+    ensures { result ≡ spec.plain bar.behind alt.end }
+{
+    plain(bar.behind, alt.end)
+}
+
+/// Where the condition begins of a conditional that begins here: behind the parenthesis, layout, a question mark and a
+/// parenthesis.
+fn condition_start(here: State) -> usize
+    ensures { result ≡ choose (condition_text (state here.entry)) reach_of (reach_of (chars here.entry.rest.now)) }
+{
+    match condition_text(here) {
+        Some(text) => reach(text),
+        None => reach(here.rest),
+    }
+}
+
+/// What follows the parenthesis of a conditional, layout, a question mark and a parenthesis.
+fn condition_text(here: State<'_>) -> Option<&str>
+    ensures { condition_text (state here.entry) ≡ option_map (λ t. chars t.now) result }
+{
+    let behind = State {
+        flags: here.flags,
+        rest: after(here.rest, '(')?,
+    };
+    let Ok(mark) = skip_layout(behind) else {
+        return None;
+    };
+    after_word(mark, "?(")
+}
