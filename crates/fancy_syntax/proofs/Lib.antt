@@ -21,6 +21,12 @@ pub mod PrintLemmas
 mod EmptyLemmas
 -- ---- the texts of all trees
 pub mod SinkLemmas
+pub mod PartingLemmas
+pub mod WritesLemmas
+pub mod SettledLemmas
+pub mod RowLemmas
+pub mod NodeLemmas
+mod ExpressionLemmas
 mod AmongLemmas
 mod NamesLemmas
 pub mod MarksLemmas

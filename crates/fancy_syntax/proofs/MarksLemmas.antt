@@ -1,12 +1,16 @@
 -- When two trees have the same marks.
 use Rattle.std.proofs.Common.{◌≡◌, ℕ, Bool, true, false, ◌&&◌, List, [], ◌∷◌, String, Global, Vec, string_bytes, chars}
-use Rattle.std.proofs.Common.{refl, ap, sym, map, nat_eq, Option, Some, None}
+use Rattle.std.proofs.Common.{refl, ap, sym, ◌∙◌, map, nat_eq, Option, Some, None, Decides}
+use Rattle.std.specs.Prelude.{encode_utf8_all}
+use Rattle.std.proofs.lemmas.Str.{encodes-chars, IsUtf8-string_bytes}
+use Rattle.fancy_grammar.specs.Marks.{Marks}
 use Rattle.std.specs.Cmp.{booleans_Decides, unsigned_Decides}
 use Rattle.std.specs.Cmp.Lexicographic.{pointwise}
 use Rattle.std.specs.Option.{option_eq}
 use Rattle.std.proofs.lemmas.Bool.{false≢true}
 use Rattle.std.proofs.lemmas.Slice.Eq.{bytes_eq-Decides}
 use mathlib.Core.Bool.{beq}
+use Rattle.fancy_lex.specs.Text.{Text}
 use Rattle.fancy_parts.specs.Groups.{entry_of}
 use Rattle.fancy_syntax.specs.Answer.{marks_of}
 use Rattle.fancy_syntax.specs.declared.tree.ExprTree.{ExprTree}
@@ -15,7 +19,34 @@ both : (a b : Bool) → (a && b) ≡ true → (a ≡ true) × (b ≡ true)
 both true b h = (refl, h)
 both false b h = absurd (false≢true h)
 
-pub named_same : (es fs : List (String Global × Vec ℕ Global)) →
+chars_same : (a b : String Global) → chars (string_bytes a) ≡ chars (string_bytes b) → string_bytes a ≡ string_bytes b
+chars_same a b e =
+    sym (encodes-chars (string_bytes a) (IsUtf8-string_bytes a)) ∙ ap encode_utf8_all e
+    ∙ encodes-chars (string_bytes b) (IsUtf8-string_bytes b)
+
+all_true : (a b : Bool) → a ≡ true → b ≡ true → (a && b) ≡ true
+all_true a b e f = rw (e, f) refl
+
+abbrev same_names : List (String Global × Vec ℕ Global) → List (String Global × Vec ℕ Global) → Bool
+same_names es fs =
+    pointwise (λ p q. pointwise nat_eq (string_bytes p.0) (string_bytes q.0) && pointwise nat_eq p.1.items q.1.items)
+    es fs
+
+named_equal : (es fs : List (String Global × Vec ℕ Global)) → map entry_of es ≡ map entry_of fs →
+    same_names es fs ≡ true
+named_equal [] [] h = refl
+named_equal (e ∷ es) (f ∷ fs) h =
+    let head : entry_of e ≡ entry_of f = cc in
+    let first : chars (string_bytes e.0) ≡ chars (string_bytes f.0) = ap (λ (q : Text × List ℕ). q.0) head in
+    let second : e.1.items ≡ f.1.items = ap (λ (q : Text × List ℕ). q.1) head in
+    let rest : map entry_of es ≡ map entry_of fs = cc in
+    all_true _ _
+    (all_true _ _ ((bytes_eq-Decides _ _).1 (chars_same e.0 f.0 first)) ((bytes_eq-Decides _ _).1 second))
+    (named_equal es fs rest)
+named_equal [] (f ∷ fs) h = absurd cc
+named_equal (e ∷ es) [] h = absurd cc
+
+named_same : (es fs : List (String Global × Vec ℕ Global)) →
     pointwise (λ p q. pointwise nat_eq (string_bytes p.0) (string_bytes q.0) && pointwise nat_eq p.1.items q.1.items) es fs
     ≡ true → map entry_of es ≡ map entry_of fs
 named_same [] [] h = refl
@@ -26,6 +57,16 @@ named_same (e ∷ es) (f ∷ fs) h =
     let second : e.1.items ≡ f.1.items = (bytes_eq-Decides _ _).0 numbers in
     let rest = named_same es fs more in cc
 named_same _ _ h = absurd (false≢true h)
+
+pub names_Decides : (es fs : List (String Global × Vec ℕ Global)) →
+    Decides (same_names es fs) (map entry_of es ≡ map entry_of fs)
+names_Decides es fs = (named_same es fs, named_equal es fs)
+
+numbers_same : (a b : Option ℕ) → a ≡ b → option_eq nat_eq a b ≡ true
+numbers_same None None h = refl
+numbers_same (Some x) (Some y) h = (unsigned_Decides x y).1 cc
+numbers_same None (Some y) h = absurd cc
+numbers_same (Some x) None h = absurd cc
 
 number_same : (a b : Option ℕ) → option_eq nat_eq a b ≡ true → a ≡ b
 number_same None None h = refl
@@ -64,3 +105,35 @@ marks_same a b names keys flags numbers =
       out_of_range_backref = number_same a.out_of_range_backref b.out_of_range_backref above i;
       numbered_groups_ignored = (booleans_Decides a.numbered_groups_ignored b.numbered_groups_ignored).0 ignored i;
     }
+
+pub flags_equal : (a b : ExprTree) → marks_of a ≡ marks_of b →
+    (beq a.numeric_capture_group_references b.numeric_capture_group_references
+    && beq a.contains_subroutines b.contains_subroutines && beq a.self_recursive b.self_recursive
+    && beq a.numbered_groups_ignored b.numbered_groups_ignored) ≡ true
+flags_equal a b e =
+    let numeric = (booleans_Decides a.numeric_capture_group_references b.numeric_capture_group_references).1
+    (ap (λ (m : Marks). m.numeric_capture_group_references) e) in
+    let calls = (booleans_Decides a.contains_subroutines b.contains_subroutines).1
+    (ap (λ (m : Marks). m.contains_subroutines) e) in
+    let self = (booleans_Decides a.self_recursive b.self_recursive).1 (ap (λ (m : Marks). m.self_recursive) e) in
+    let ignored = (booleans_Decides a.numbered_groups_ignored b.numbered_groups_ignored).1
+    (ap (λ (m : Marks). m.numbered_groups_ignored) e) in
+    rw (numeric, calls, self, ignored) refl
+
+pub numbers_equal : (a b : ExprTree) → marks_of a ≡ marks_of b →
+    (nat_eq a.total_groups b.total_groups && option_eq nat_eq a.out_of_range_backref b.out_of_range_backref) ≡ true
+numbers_equal a b e =
+    all_true _ _
+    ((unsigned_Decides a.total_groups b.total_groups).1 (ap (λ (m : Marks). m.total_groups) e))
+    (numbers_same a.out_of_range_backref b.out_of_range_backref (ap (λ (m : Marks). m.out_of_range_backref) e))
+
+-- where one of the things that are the same differs, not all are the same
+pub differs : {P Q : Type 0} (r : Bool) → Decides r P → r ≡ false → (Q → P) → Decides false Q
+differs r d e f = (λ h. absurd (false≢true h), λ q. sym e ∙ d.1 (f q))
+
+pub contrary : {Q : Type 0} → (Q → false ≡ true) → Decides false Q
+contrary f = (λ h. absurd (false≢true h), f)
+
+pub decides_false : {Q : Type 0} (b : Bool) → b ≡ false → (Q → ⊥) → Decides b Q
+decides_false true e f = absurd (false≢true (sym e))
+decides_false false e f = contrary (λ q. absurd (f q))

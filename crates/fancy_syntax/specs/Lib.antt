@@ -44,4 +44,5 @@ pub mod Notes
 -- ---- the writing of texts
 pub mod Sink
 pub mod Wheres
+pub mod Writers
 pub mod Source

@@ -1,10 +1,11 @@
 -- What a text is written to, piece by piece.
-use Rattle.std.specs.Prelude.{◌||◌, Bool, ◌++◌, codes, nat_eq}
+use Rattle.std.specs.Prelude.{◌≡◌, ℕ, ◌||◌, Bool, ◌++◌, codes, nat_eq}
 use Rattle.std.specs.List.{starts_with}
 use Rattle.std.specs.Str.{bytes_eq}
 use Rattle.fancy_lex.specs.Number.{at_digit}
-use Rattle.fancy_lex.specs.Text.{Text}
+use Rattle.fancy_lex.specs.Text.{Text, bytes}
 use Rattle.fancy_parts.specs.HeadReference.{begins_target}
+use Rattle.fancy_grammar.specs.Pattern.{parted_if}
 use Rattle.fancy_syntax.specs.declared.pattern.parting.Parting.{Parting}
 use Rattle.fancy_syntax.specs.declared.pattern.parting.Parting.TheVariants.{Number, Condition, Absent}
 
@@ -17,3 +18,12 @@ abbrev pub needs_parting : Parting → Text → Bool
 needs_parting Number t = at_digit t
 needs_parting Condition t = begins_target t || bytes_eq t (codes "DEFINE")
 needs_parting Absent t = starts_with nat_eq t (codes "|")
+
+-- what was taken from the place on is changed so, and what stands before it is as it was
+pub record Changed {S : Type 0} (holds : S → Text → Type 0) (old new : S) (place : ℕ) (change : Text → Text) : Type 0
+  where
+    pub changes : (t u : Text) → holds old (t ++ u) → place ≡ bytes t → holds new (t ++ change u)
+
+-- parted from what stands before it, where it would be read with that
+abbrev pub parted : Parting → Text → Text
+parted parting t = parted_if (needs_parting parting t) t

@@ -1,6 +1,8 @@
 //! Printing any parsed tree, for the flags that its pattern was parsed under.
-ghost use Rattle.std.specs.Prelude.{chars, string_bytes, IfOk, IfSome};
+ghost use Rattle.std.specs.Prelude.{◌≡◌, IfOk, IfSome, IfNone};
 ghost use Rattle.fancy_lex.specs.Flags.{flags_of};
+ghost use Rattle.fancy_lex.specs.Text.{text_of};
+ghost use Rattle.fancy_grammar.specs.Pattern.{pattern_text};
 ghost use Rattle.fancy_grammar.specs.ReadAs.{IsReadAs};
 ghost use Rattle.fancy_syntax.specs.Answer.{marks_of};
 ghost use Rattle.fancy_syntax.specs.View.{view};
@@ -45,10 +47,15 @@ impl ExprTree {
     /// }
     /// ```
     pub fn to_pattern(&self, alloc: Global, flags: u32) -> Result<Option<String>, AllocError>
+        ensures text { IfOk result (λ t. IfSome t (λ s.
+            text_of s ≡ pattern_text (flags_of flags) (view self.now.expr) (marks_of self.now))) }
         ensures reads_back { IfOk result (λ t. IfSome t (λ s.
-            IsReadAs (flags_of flags) (chars (string_bytes s)) (view self.now.expr) (marks_of self.now))) }
+            IsReadAs (flags_of flags) (text_of s) (view self.now.expr) (marks_of self.now))) }
+        ensures none { IfOk result (λ t. IfNone t
+            (IsReadAs (flags_of flags) (pattern_text (flags_of flags) (view self.now.expr) (marks_of self.now))
+            (view self.now.expr) (marks_of self.now) → ⊥)) }
     {
-        let text = pattern_text(alloc, self, Flags::from_bits(flags))?;
+        let text = text_of_tree(alloc, self, Flags::from_bits(flags))?;
         if is_read_as(alloc, text.as_str(), flags, self)? {
             Ok(Some(text))
         } else {
@@ -58,7 +65,9 @@ impl ExprTree {
 }
 
 /// The tree's text. It is counted first, so that the string takes memory once.
-fn pattern_text(alloc: Global, tree: &ExprTree, flags: Flags) -> Result<String, AllocError> {
+fn text_of_tree(alloc: Global, tree: &ExprTree, flags: Flags) -> Result<String, AllocError>
+    ensures { IfOk result (λ s. text_of s ≡ pattern_text flags (view tree.now.expr) (marks_of tree.now)) }
+{
     let known = Known::new(alloc, tree)?;
     let needs = all_needs(alloc, &tree.expr, flags.oniguruma_mode)?;
     let here = Here::at_start(flags, needs.as_slice());

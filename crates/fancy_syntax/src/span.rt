@@ -1,8 +1,10 @@
 //! Where a node stands in its pattern.
 
-/// From the byte `start` of a pattern to before the byte `end`.
+/// The part of a pattern that a node was parsed from, in byte offsets.
 #[derive(Debug, Clone, Copy, PartialEq, Eq)]
 pub struct Span {
+    /// The offset of the first byte.
     pub start: usize,
+    /// One past the offset of the last byte.
     pub end: usize,
 }

@@ -98,7 +98,9 @@ impl Expr {
         }
     }
 
-    /// Parses the pattern as `parse_tree_with_flags` does, and returns the span of each node of its tree, in preorder.
+    /// Parses the pattern as `parse_tree_with_flags` does, with the same tree and the same errors, and returns the span
+    /// of each node of the tree too, in preorder. A quantified node starts where its operand does and ends after the
+    /// quantifier. A group that has no node, as `(?:a)`, is part of its parent alone.
     ///
     /// ```rust
     /// let (tree, spans) = Expr::parse_tree_with_spans(alloc, "(a|b)c*", FLAG_UNICODE)?;

@@ -1,4 +1,6 @@
 //! How many bytes a text takes.
+ghost use Rattle.std.specs.Prelude.{◌≡◌, ◌+◌, OnOk};
+
 use crate::pattern::parting::Parting;
 use crate::pattern::sink::Sink;
 use fancy_parts::quote::number_len;
@@ -12,12 +14,16 @@ pub(super) struct Counter {
 
 impl Counter {
     /// Nothing was taken.
-    pub(super) fn new() -> Counter {
+    pub(super) fn new() -> Counter
+        ensures { result.bytes ≡ 0 }
+    {
         Counter { bytes: 0 }
     }
 
     /// Counts so many more.
-    fn add(&mut self, bytes: usize) -> Result<(), AllocError> {
+    fn add(&mut self, bytes: usize) -> Result<(), AllocError>
+        ensures { OnOk result (self.new.bytes ≡ self.old.bytes + bytes) }
+    {
         self.bytes = self.bytes.checked_add(bytes).ok_or(AllocError)?;
         Ok(())
     }

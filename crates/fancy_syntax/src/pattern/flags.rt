@@ -91,7 +91,12 @@ pub(super) fn open_scope<'a, S: Sink>(
     out: &mut S,
     needs: Needs,
     here: Here<'a>,
-) -> Result<Here<'a>, AllocError> {
+) -> Result<Here<'a>, AllocError>
+    ensures { IfOk result (λ i. Added S.holds out.old out.new
+        (codes "(?" ++ (spec.letters_between here.entry.flags (spec.with_needs here.entry.flags needs) ++ codes ":"))
+        × ((h : place.Here) (l : List Needs) → IsHere here.entry h l →
+        IsHere i (place.deeper (place.under (spec.with_needs h.flags needs) h)) l)) }
+{
     let set = here.with(needs);
     put_scope_head(out, here.flags, set.flags)?;
     Ok(set.inside())

@@ -1,10 +1,15 @@
 //! Whether a text is read as a tree.
-ghost use Rattle.std.specs.Prelude.{◌≡◌, ◌&&◌, chars, map, nat_eq, true, IfOk};
+ghost use Rattle.std.specs.Prelude.{◌≡◌, ◌&&◌, chars, map, nat_eq, false, Decides, IfOk};
 ghost use Rattle.std.specs.Option.{option_eq};
 ghost use mathlib.Core.Bool.{beq};
 ghost use Rattle.fancy_lex.specs.Flags.{flags_of};
+ghost use Rattle.fancy_lex.specs.Text.{Text};
+ghost use Rattle.fancy_lex.specs.declared.flags.Flags.{Flags};
 ghost use Rattle.fancy_parts.specs.Groups.{entry_of};
+ghost use Rattle.fancy_grammar.specs.Answer.{IsTreeOf, IsOnlyFault};
+ghost use Rattle.fancy_grammar.specs.Marks.{Marks};
 ghost use Rattle.fancy_grammar.specs.ReadAs.{IsReadAs, unplaced};
+ghost use Rattle.fancy_grammar.specs.Tree.{Tree};
 ghost use Rattle.fancy_syntax.specs.Answer.{marks_of};
 ghost use Rattle.fancy_syntax.specs.View.{view};
 
@@ -15,14 +20,15 @@ use std::alloc::{AllocError, Global};
 
 /// Whether the same groups have the same names.
 fn have_same_names(a: &ExprTree, b: &ExprTree) -> bool
-    ensures { result ≡ true → map entry_of a.now.named_groups.entries ≡ map entry_of b.now.named_groups.entries }
+    ensures { Decides result
+        (map entry_of a.now.named_groups.entries ≡ map entry_of b.now.named_groups.entries) }
 {
     a.named_groups == b.named_groups
 }
 
 /// Whether back references refer to the same groups.
 fn have_same_backrefs(a: &ExprTree, b: &ExprTree) -> bool
-    ensures { result ≡ true → a.now.backrefs.keys ≡ b.now.backrefs.keys }
+    ensures { Decides result (a.now.backrefs.keys ≡ b.now.backrefs.keys) }
 {
     a.backrefs == b.backrefs
 }
@@ -49,9 +55,8 @@ fn have_same_numbers(a: &ExprTree, b: &ExprTree) -> bool
 }
 
 /// Whether what is said beside the trees is the same.
-#[tactic(auto, using(crate::proofs::MarksLemmas::marks_same))]
 fn have_same_marks(a: &ExprTree, b: &ExprTree) -> bool
-    ensures { result ≡ true → marks_of a.now ≡ marks_of b.now }
+    ensures { Decides result (marks_of a.now ≡ marks_of b.now) }
 {
     if !have_same_names(a, b) {
         return false;
@@ -67,13 +72,24 @@ fn have_same_marks(a: &ExprTree, b: &ExprTree) -> bool
 
 /// Whether the trees are the same up to places, with the same marks.
 fn is_same_answer(a: &ExprTree, b: &ExprTree) -> bool
-    ensures tree { result ≡ true → unplaced (view a.now.expr) ≡ unplaced (view b.now.expr) }
-    ensures marks { result ≡ true → marks_of a.now ≡ marks_of b.now }
+    ensures { Decides result
+        ((unplaced (view a.now.expr) ≡ unplaced (view b.now.expr)) × (marks_of a.now ≡ marks_of b.now)) }
 {
     if !have_same_marks(a, b) {
         return false;
     }
     a.expr.is_same_but_for_places(&b.expr)
+}
+
+/// Whether a text is read that was refused with this error: it is not, unless memory ran out.
+fn is_read_after(error: Error) -> Result<bool, AllocError>
+    ensures { (f : Flags) (text : Text) → IsOnlyFault error f text →
+        IfOk result (λ b. (b ≡ false) × ((t : Tree) (m : Marks) → IsTreeOf f text t m → ⊥)) }
+{
+    match error {
+        Error::OutOfMemory => Err(AllocError),
+        Error::ParseError(..) => Ok(false),
+    }
 }
 
 /// Whether the text is read under the flags as this tree, up to places, with these marks.
@@ -83,12 +99,11 @@ pub(super) fn is_read_as(
     flags: u32,
     tree: &ExprTree,
 ) -> Result<bool, AllocError>
-    ensures { IfOk result (λ b. b ≡ true →
-        IsReadAs (flags_of flags) (chars text.now) (view tree.now.expr) (marks_of tree.now)) }
+    ensures { IfOk result (λ b. Decides b
+        (IsReadAs (flags_of flags) (chars text.now) (view tree.now.expr) (marks_of tree.now))) }
 {
     match Expr::parse_tree_with_flags(alloc, text, flags) {
         Ok(read) => Ok(is_same_answer(&read, tree)),
-        Err(Error::OutOfMemory) => Err(AllocError),
-        Err(_) => Ok(false),
+        Err(error) => is_read_after(error),
     }
 }

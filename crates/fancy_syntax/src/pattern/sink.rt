@@ -2,7 +2,7 @@
 ghost use Rattle.std.specs.Prelude.{◌≡◌, ◌∷◌, [], true, nat_lt, chars, decimal, OnOk};
 ghost use Rattle.std.specs.List.{list_all};
 ghost use Rattle.fancy_lex.specs.Text.{Text, bytes, text_of};
-ghost use Rattle.fancy_syntax.specs.Sink.{Added};
+ghost use Rattle.fancy_syntax.specs.Sink.{Added, Changed, parted};
 
 use crate::pattern::parting::Parting;
 use fancy_lex::text::{append, byte_len, push};
@@ -31,7 +31,8 @@ pub(super) trait Sink {
         ensures { (t : Text) → holds self.now t → result ≡ bytes t };
 
     /// Parts what was taken from the place on from what stands before it, where it begins so that it has to be.
-    fn part(&mut self, place: usize, parting: Parting) -> Result<(), AllocError>;
+    fn part(&mut self, place: usize, parting: Parting) -> Result<(), AllocError>
+        ensures { OnOk result (Changed holds self.old self.new place (parted parting)) };
 }
 
 impl Sink for String {
@@ -57,11 +58,13 @@ impl Sink for String {
 
     fn part(&mut self, place: usize, parting: Parting) -> Result<(), AllocError> {
         // Every caller asks at a place where it was before, so that a character begins there.
-        let (_, text) = self.as_str().split_at_checked(place).ok_or(AllocError)?;
-        if parting.is_needed(text) {
-            self.insert_str(place, "(?#)")?;
+        let Some((_, text)) = self.as_str().split_at_checked(place) else {
+            return Err(AllocError);
+        };
+        if !parting.is_needed(text) {
+            return Ok(());
         }
-        Ok(())
+        self.insert_str(place, "(?#)")
     }
 }
 

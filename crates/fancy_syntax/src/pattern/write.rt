@@ -1,9 +1,24 @@
 //! The walk that writes a tree's text.
-ghost use Rattle.std.specs.Prelude.{◌≡◌, nat_lt, true, List};
+ghost use Rattle.std.specs.Prelude.{◌≡◌, ◌+◌, ◌++◌, not, ◌&&◌, ◌||◌, [], codes, nat_lt, true, false, if◌then◌else◌, List, IfOk, OnOk};
 ghost use Rattle.std.specs.List.{list_all};
+ghost use Rattle.fancy_lex.specs.Number.{at_digit};
+ghost use Rattle.fancy_lex.specs.declared.flags.Flags.{Flags};
+ghost use Rattle.fancy_grammar.specs.Join.{is_empty};
+ghost use Rattle.fancy_grammar.specs.Marks.{Marks};
 ghost use Rattle.fancy_grammar.specs.Pattern as spec;
+ghost use Rattle.fancy_grammar.specs.PatternNeeds.{first, both, needs, needs_all};
+ghost use Rattle.fancy_grammar.specs.PatternQuantifier as spec_quantifier;
+ghost use Rattle.fancy_grammar.specs.PatternReference.{group_head};
+ghost use Rattle.fancy_grammar.specs.Quantified as spec_quantified;
+ghost use Rattle.fancy_grammar.specs.PatternWalk.{needs_listed, all_listed, behind_all};
+ghost use Rattle.fancy_grammar.specs.Tree.{concat, alt, look_around, atomic_group, trees_of};
 ghost use Rattle.fancy_grammar.specs.declared.needs.Needs.{Needs};
-ghost use Rattle.fancy_syntax.specs.Wheres.{IsHere};
+ghost use Rattle.fancy_grammar.specs.declared.precedence.Precedence.TheVariants.{Whole, Branch, Piece};
+ghost use Rattle.fancy_syntax.specs.Sink.{Added, Changed};
+ghost use Rattle.fancy_syntax.specs.View.{view, views};
+ghost use Rattle.fancy_syntax.specs.Wheres.{IsHere, IsKnown, alone_text};
+ghost use Rattle.fancy_syntax.specs.Writers.{Writes, WritesSettled, needs_below, takes_setting};
+ghost use Rattle.fancy_syntax.specs.Writers.{is_conditional, is_expression, parts_text, branches_needs, choice_text, behind_branches};
 
 use crate::expr::{Absent, Expr, LookAround};
 use crate::grammar::quantified::is_repeatable;
@@ -20,6 +35,7 @@ use crate::pattern::reference::{put_group_head, put_target};
 use crate::pattern::sink::{Sink, put_ascii};
 use fancy_grammar::needs::Needs;
 use fancy_grammar::precedence::Precedence;
+use fancy_lex::flags::Flags;
 use std::alloc::AllocError;
 
 /// Writes the whole text, before which the flags are set that all leaves need.
@@ -29,7 +45,12 @@ pub(super) fn put_pattern<S: Sink>(
     tree: &Expr,
     agreed: Needs,
     here: Here,
-) -> Result<(), AllocError> {
+) -> Result<(), AllocError>
+    ensures { (m : Marks) (f : Flags) → IsKnown known.now m →
+        agreed ≡ needs both f.oniguruma_mode (view tree.now) →
+        IsHere here.entry (record { flags = f; opened = 0; depth = 0 }) (needs_listed f.oniguruma_mode (view tree.now)) →
+        OnOk result (Added S.holds out.old out.new (spec.pattern_text f (view tree.now) m)) }
+{
     let here = put_setting(out, agreed, here)?;
     put_tree(out, known, tree, Precedence::Whole, here)?;
     Ok(())
@@ -43,7 +64,11 @@ fn put_tree<'a, S: Sink>(
     tree: &Expr,
     precedence: Precedence,
     here: Here<'a>,
-) -> Result<Here<'a>, AllocError> {
+) -> Result<Here<'a>, AllocError>
+    ensures { (m : Marks) → IsKnown known.now m → IfOk result (λ i. Writes S.holds out.old out.new here.entry i
+        (λ o. needs_listed o (view tree.now)) (spec.written m (view tree.now) precedence)
+        (spec.behind (view tree.now) precedence)) }
+{
     let (needs, here) = here.next_node();
     match tree {
         Expr::Empty => put_empty(out, precedence, here),
@@ -61,7 +86,10 @@ fn put_empty<'a, S: Sink>(
     out: &mut S,
     precedence: Precedence,
     here: Here<'a>,
-) -> Result<Here<'a>, AllocError> {
+) -> Result<Here<'a>, AllocError>
+    ensures { IfOk result (λ i. Writes S.holds out.old out.new here.entry i (λ o. [])
+        (λ h. if spec.takes_pieces precedence then [] else codes "()") (λ h. h)) }
+{
     if !takes_pieces(precedence) {
         put_ascii(out, "()")?;
     }
@@ -115,7 +143,14 @@ fn put_concat<'a, S: Sink>(
     precedence: Precedence,
     needs: Needs,
     here: Here<'a>,
-) -> Result<Here<'a>, AllocError> {
+) -> Result<Here<'a>, AllocError>
+    ensures { (m : Marks) → IsKnown known.now m →
+        needs ≡ needs_all first here.entry.flags.oniguruma_mode (trees_of (views pieces.now)) →
+        IfOk result (λ i. Writes S.holds out.old out.new here.entry i (λ o. all_listed o (trees_of (views pieces.now)))
+        (spec.in_scope_unless (spec.takes_pieces precedence) (concat (trees_of (views pieces.now)))
+        (spec.written_all m false (trees_of (views pieces.now))))
+        (spec.behind (concat (trees_of (views pieces.now))) precedence)) }
+{
     if takes_pieces(precedence) {
         return put_pieces(out, known, pieces, here);
     }
@@ -131,18 +166,42 @@ fn put_pieces<'a, S: Sink>(
     known: &Known,
     pieces: &[Expr],
     here: Here<'a>,
-) -> Result<Here<'a>, AllocError> {
+) -> Result<Here<'a>, AllocError>
+    ensures { (m : Marks) → IsKnown known.now m → IfOk result (λ i. Writes S.holds out.old out.new here.entry i
+        (λ o. all_listed o (trees_of (views pieces.now))) (spec.written_all m false (trees_of (views pieces.now)))
+        (behind_all (trees_of (views pieces.now)) Piece)) }
+{
     let mut here = here;
     let mut behind_digits = false;
     for piece in pieces {
         let place = out.len();
         here = put_tree(out, known, piece, Precedence::Piece, here)?;
-        if behind_digits {
-            out.part(place, Parting::Number)?;
-        }
-        behind_digits = known.is_numeric && matches!(piece, Expr::Backref { .. });
+        part_behind_digits(out, place, behind_digits)?;
+        behind_digits = is_in_digits(known, piece);
     }
     Ok(here)
+}
+
+/// Parts what was written from the place on from the reference in digits before it, if there is one.
+fn part_behind_digits<S: Sink>(
+    out: &mut S,
+    place: usize,
+    behind_digits: bool,
+) -> Result<(), AllocError>
+    ensures { OnOk result (Changed S.holds out.old out.new place (λ u. spec.parted_if (behind_digits && at_digit u) u)) }
+{
+    if behind_digits {
+        out.part(place, Parting::Number)
+    } else {
+        Ok(())
+    }
+}
+
+/// Whether the tree is a reference in digits.
+fn is_in_digits(known: &Known, tree: &Expr) -> bool
+    ensures { (m : Marks) → IsKnown known.now m → result ≡ spec.is_in_digits m (view tree.now) }
+{
+    known.is_numeric && matches!(tree, Expr::Backref { .. })
 }
 
 /// Writes an Alt, in a group of its own where branches may not stand.
@@ -154,7 +213,14 @@ fn put_alt<'a, S: Sink>(
     precedence: Precedence,
     needs: Needs,
     here: Here<'a>,
-) -> Result<Here<'a>, AllocError> {
+) -> Result<Here<'a>, AllocError>
+    ensures { (m : Marks) → IsKnown known.now m →
+        needs ≡ needs_all first here.entry.flags.oniguruma_mode (trees_of (views branches.now)) →
+        IfOk result (λ i. Writes S.holds out.old out.new here.entry i (λ o. all_listed o (trees_of (views branches.now)))
+        (spec.in_scope_unless (spec.takes_branches precedence) (alt (trees_of (views branches.now)))
+        (spec.written_branches m (trees_of (views branches.now))))
+        (spec.behind (alt (trees_of (views branches.now))) precedence)) }
+{
     if takes_branches(precedence) {
         return put_branches(out, known, branches, here);
     }
@@ -170,12 +236,17 @@ fn put_branches<'a, S: Sink>(
     known: &Known,
     branches: &[Expr],
     here: Here<'a>,
-) -> Result<Here<'a>, AllocError> {
-    let mut here = here;
-    for (i, branch) in branches.iter().enumerate() {
-        if i > 0 {
-            out.put('|')?;
-        }
+) -> Result<Here<'a>, AllocError>
+    ensures { (m : Marks) → IsKnown known.now m → IfOk result (λ i. Writes S.holds out.old out.new here.entry i
+        (λ o. all_listed o (trees_of (views branches.now))) (spec.written_branches m (trees_of (views branches.now)))
+        (behind_all (trees_of (views branches.now)) Branch)) }
+{
+    let [first, others @ ..] = branches else {
+        return Ok(here);
+    };
+    let mut here = put_tree(out, known, first, Precedence::Branch, here)?;
+    for branch in others {
+        out.put('|')?;
         here = put_tree(out, known, branch, Precedence::Branch, here)?;
     }
     Ok(here)
@@ -189,7 +260,11 @@ fn put_settled<'a, S: Sink>(
     tree: &Expr,
     precedence: Precedence,
     here: Here<'a>,
-) -> Result<Here<'a>, AllocError> {
+) -> Result<Here<'a>, AllocError>
+    requires { takes_setting (view tree.now) ≡ true }
+    ensures { (m : Marks) → IsKnown known.now m → IfOk result (λ i.
+        WritesSettled S.holds out.old out.new here.entry i m (view tree.now) precedence) }
+{
     match tree {
         Expr::Group(child) => put_group(out, known, child, here),
         Expr::LookAround(child, look) => put_look_around(
@@ -218,9 +293,18 @@ fn put_settled<'a, S: Sink>(
             here,
         ),
         Expr::Conditional { .. } => put_conditional(out, known, tree, here),
-        Expr::Absent(absent) => put_absent(out, known, absent, here),
+        Expr::Absent(Absent::Repeater(child)) => put_repeater(out, known, child, here),
+        Expr::Absent(Absent::Expression { .. }) => put_expression(out, known, tree, here),
+        Expr::Absent(Absent::Stopper(child)) => put_stopper(out, known, child, here),
         _ => put_leaf_at(out, known, tree, precedence, here),
     }
+}
+
+/// Whether a quantifier follows that may not stand behind the tree.
+fn needs_group(tree: &Expr, precedence: Precedence, flags: Flags) -> bool
+    ensures { result ≡ (spec.is_operand precedence && not (spec_quantified.is_repeatable flags (view tree.now))) }
+{
+    is_operand(precedence) && !is_repeatable(flags, tree)
 }
 
 /// Writes a leaf, in a group where a quantifier follows that may not stand behind it.
@@ -230,8 +314,11 @@ fn put_leaf_at<'a, S: Sink>(
     leaf: &Expr,
     precedence: Precedence,
     here: Here<'a>,
-) -> Result<Here<'a>, AllocError> {
-    if is_operand(precedence) && !is_repeatable(here.flags, leaf) {
+) -> Result<Here<'a>, AllocError>
+    ensures { (m : Marks) → IsKnown known.now m → IfOk result (λ i. Writes S.holds out.old out.new here.entry i (λ o. [])
+        (spec.as_atom (view leaf.now) precedence (alone_text m (view leaf.now))) (λ h. h)) }
+{
+    if needs_group(leaf, precedence, here.flags) {
         let inside = open(out, "", here)?;
         put_leaf(out, known, leaf, inside)?;
         return close(out, here, inside);
@@ -250,6 +337,9 @@ fn put_in_group<'a, S: Sink>(
     here: Here<'a>,
 ) -> Result<Here<'a>, AllocError>
     requires { list_all (λ b. nat_lt b 128) head.now ≡ true }
+    ensures { (m : Marks) → IsKnown known.now m → IfOk result (λ i. Writes S.holds out.old out.new here.entry i
+        (λ o. needs_listed o (view child.now)) (spec.in_parens head.now (spec.written m (view child.now) Whole))
+        (spec.past_groups (spec.group_count (view child.now)))) }
 {
     let inside = open(out, head, here)?;
     let end = put_tree(out, known, child, Precedence::Whole, inside)?;
@@ -265,7 +355,13 @@ fn put_look_around<'a, S: Sink>(
     look: LookAround,
     precedence: Precedence,
     here: Here<'a>,
-) -> Result<Here<'a>, AllocError> {
+) -> Result<Here<'a>, AllocError>
+    ensures { (m : Marks) → IsKnown known.now m → IfOk result (λ i. Writes S.holds out.old out.new here.entry i
+        (λ o. needs_listed o (view child.now))
+        (spec.as_atom (look_around (view child.now) look) precedence
+        (spec.in_parens (spec.look_head look) (spec.written m (view child.now) Whole)))
+        (spec.past_groups (spec.group_count (view child.now)))) }
+{
     if is_operand(precedence) {
         let inside = open(out, "", here)?;
         let end = put_in_group(out, known, look_head(look), child, inside)?;
@@ -281,7 +377,12 @@ fn put_group<'a, S: Sink>(
     known: &Known,
     child: &Expr,
     here: Here<'a>,
-) -> Result<Here<'a>, AllocError> {
+) -> Result<Here<'a>, AllocError>
+    ensures { (m : Marks) → IsKnown known.now m → IfOk result (λ i. Writes S.holds out.old out.new here.entry i
+        (λ o. needs_listed o (view child.now))
+        (λ h. spec.in_parens (group_head m (h.opened + 1)) (spec.written m (view child.now) Whole) (spec.past_groups 1 h))
+        (spec.past_groups (spec.group_count (view child.now) + 1))) }
+{
     let inside = open(out, "", here)?.past_opening()?;
     put_group_head(out, known, inside.opened)?;
     let end = put_tree(out, known, child, Precedence::Whole, inside)?;
@@ -297,11 +398,26 @@ fn put_repeat<'a, S: Sink>(
     quantifier: Quantifier,
     precedence: Precedence,
     here: Here<'a>,
-) -> Result<Here<'a>, AllocError> {
+) -> Result<Here<'a>, AllocError>
+    ensures { (m : Marks) → IsKnown known.now m → IfOk result (λ i. Writes S.holds out.old out.new here.entry i
+        (λ o. needs_listed o (view child.now))
+        (spec.in_parens_if (spec.is_last_operand precedence) (codes "?:")
+        (spec.repeated quantifier.possessive (view child.now) quantifier.lo quantifier.hi quantifier.greedy
+        (spec.written m (view child.now))) precedence)
+        (spec.past_groups (spec.group_count (view child.now)))) }
+{
     if is_last_operand(precedence) {
         return put_quantified_in_group(out, known, "?:", child, quantifier, here);
     }
     put_quantified(out, known, child, quantifier, precedence, here)
+}
+
+/// Whether an atomic group of a Repeat with these counts is written as a group: no quantifier is read so, or none may
+/// stand before the one that follows.
+fn needs_atomic_group(lo: usize, hi: usize, precedence: Precedence, flags: Flags) -> bool
+    ensures { result ≡ (spec.is_last_operand precedence || not (spec_quantifier.is_possessive flags lo hi)) }
+{
+    is_last_operand(precedence) || !is_possessive(lo, hi, flags)
 }
 
 /// Writes an AtomicGroup: of a Repeat by a possessive quantifier, where one is read so.
@@ -312,7 +428,10 @@ fn put_atomic<'a, S: Sink>(
     child: &Expr,
     precedence: Precedence,
     here: Here<'a>,
-) -> Result<Here<'a>, AllocError> {
+) -> Result<Here<'a>, AllocError>
+    ensures { (m : Marks) → IsKnown known.now m → IfOk result (λ i.
+        WritesSettled S.holds out.old out.new here.entry i m (atomic_group (view child.now)) precedence) }
+{
     let Expr::Repeat {
         child: repeated,
         lo,
@@ -322,18 +441,18 @@ fn put_atomic<'a, S: Sink>(
     else {
         return put_in_group(out, known, "?>", child, here);
     };
-    let here = here.past_node();
-    let in_group = is_last_operand(precedence) || !is_possessive(*lo, *hi, here.flags);
-    let quantifier = Quantifier {
+    let past = here.past_node();
+    let mut quantifier = Quantifier {
         lo: *lo,
         hi: *hi,
         greedy: *greedy,
-        possessive: !in_group,
+        possessive: true,
     };
-    if in_group {
-        return put_quantified_in_group(out, known, "?>", repeated, quantifier, here);
+    if needs_atomic_group(*lo, *hi, precedence, here.flags) {
+        quantifier.possessive = false;
+        return put_quantified_in_group(out, known, "?>", repeated, quantifier, past);
     }
-    put_quantified(out, known, repeated, quantifier, precedence, here)
+    put_quantified(out, known, repeated, quantifier, precedence, past)
 }
 
 /// Writes a tree and the quantifier behind it in a group with this head.
@@ -347,10 +466,22 @@ fn put_quantified_in_group<'a, S: Sink>(
     here: Here<'a>,
 ) -> Result<Here<'a>, AllocError>
     requires { list_all (λ b. nat_lt b 128) head.now ≡ true }
+    ensures { (m : Marks) → IsKnown known.now m → IfOk result (λ i. Writes S.holds out.old out.new here.entry i
+        (λ o. needs_listed o (view child.now))
+        (spec.in_parens head.now (spec.repeated quantifier.possessive (view child.now) quantifier.lo quantifier.hi quantifier.greedy
+        (spec.written m (view child.now)) Whole))
+        (spec.past_groups (spec.group_count (view child.now)))) }
 {
     let inside = open(out, head, here)?;
     let end = put_quantified(out, known, child, quantifier, Precedence::Whole, inside)?;
     close(out, here, end)
+}
+
+/// Whether the quantifier of the tree stands directly behind another.
+fn is_adjacent(room: usize, child: &Expr, flags: Flags) -> bool
+    ensures { result ≡ (nat_lt 0 room && spec_quantifier.is_quantified flags (view child.now)) }
+{
+    room > 0 && is_quantified(child, flags)
 }
 
 /// Writes a tree and the quantifier behind it.
@@ -362,9 +493,14 @@ fn put_quantified<'a, S: Sink>(
     quantifier: Quantifier,
     precedence: Precedence,
     here: Here<'a>,
-) -> Result<Here<'a>, AllocError> {
+) -> Result<Here<'a>, AllocError>
+    ensures { (m : Marks) → IsKnown known.now m → IfOk result (λ i. Writes S.holds out.old out.new here.entry i
+        (λ o. needs_listed o (view child.now)) (spec.repeated quantifier.possessive (view child.now) quantifier.lo quantifier.hi quantifier.greedy
+        (spec.written m (view child.now)) precedence)
+        (spec.past_groups (spec.group_count (view child.now)))) }
+{
     let room = room(precedence, here);
-    let adjacent = room > 0 && is_quantified(child, here.flags);
+    let adjacent = is_adjacent(room, child, here.flags);
     let end = put_tree(out, known, child, Precedence::Operand(room), here)?;
     put_quantifier(out, quantifier, adjacent, here.flags)?;
     Ok(here.behind(end))
@@ -377,7 +513,12 @@ fn put_conditional<'a, S: Sink>(
     known: &Known,
     tree: &Expr,
     here: Here<'a>,
-) -> Result<Here<'a>, AllocError> {
+) -> Result<Here<'a>, AllocError>
+    ensures { (m : Marks) → IsKnown known.now m → is_conditional (view tree.now) ≡ true →
+        IfOk result (λ i. Writes S.holds out.old out.new here.entry i
+        (λ o. needs_below o (view tree.now)) (parts_text m (view tree.now))
+        (spec.past_groups (spec.group_count (view tree.now)))) }
+{
     let Expr::Conditional { condition, .. } = tree else {
         return Ok(here);
     };
@@ -395,7 +536,12 @@ fn put_condition<'a, S: Sink>(
     known: &Known,
     condition: &Expr,
     here: Here<'a>,
-) -> Result<Here<'a>, AllocError> {
+) -> Result<Here<'a>, AllocError>
+    ensures { (m : Marks) → IsKnown known.now m → IfOk result (λ i. Writes S.holds out.old out.new here.entry i
+        (λ o. needs_listed o (view condition.now))
+        (λ h. spec.condition_text m (view condition.now) (spec.written m (view condition.now) Whole h))
+        (spec.behind (view condition.now) Whole)) }
+{
     match condition {
         Expr::BackrefExistsCondition {
             group,
@@ -417,6 +563,20 @@ fn put_condition<'a, S: Sink>(
     }
 }
 
+/// Whether both branches of a Conditional are empty.
+fn are_empty(true_branch: &Expr, false_branch: &Expr) -> bool
+    ensures { result ≡ (is_empty (view true_branch.now) && is_empty (view false_branch.now)) }
+{
+    matches!(true_branch, Expr::Empty) && matches!(false_branch, Expr::Empty)
+}
+
+/// Whether a bar stands behind the first branch of a Conditional: an Alt without it would be read as both.
+fn needs_bar(true_branch: &Expr, false_branch: &Expr) -> bool
+    ensures { result ≡ (not (is_empty (view false_branch.now)) || spec.is_alt (view true_branch.now)) }
+{
+    !matches!(false_branch, Expr::Empty) || matches!(true_branch, Expr::Alt(_))
+}
+
 /// Writes the branches of a Conditional.
 #[cycle(write)]
 fn put_choice<'a, S: Sink>(
@@ -424,7 +584,11 @@ fn put_choice<'a, S: Sink>(
     known: &Known,
     tree: &Expr,
     here: Here<'a>,
-) -> Result<Here<'a>, AllocError> {
+) -> Result<Here<'a>, AllocError>
+    ensures { (m : Marks) → IsKnown known.now m → is_conditional (view tree.now) ≡ true →
+        IfOk result (λ i. Writes S.holds out.old out.new here.entry i
+        (λ o. branches_needs o (view tree.now)) (choice_text m (view tree.now)) (behind_branches (view tree.now))) }
+{
     let Expr::Conditional {
         true_branch,
         false_branch,
@@ -433,36 +597,16 @@ fn put_choice<'a, S: Sink>(
     else {
         return Ok(here);
     };
-    let is_one = matches!(**false_branch, Expr::Empty);
-    if is_one && matches!(**true_branch, Expr::Empty) {
+    if are_empty(true_branch, false_branch) {
         put_ascii(out, "()")?;
         return Ok(here.past_node().past_node());
     }
     let behind = put_tree(out, known, true_branch, Precedence::Branch, here)?;
-    if is_one && !matches!(**true_branch, Expr::Alt(_)) {
+    if !needs_bar(true_branch, false_branch) {
         return Ok(behind.past_node());
     }
     out.put('|')?;
     put_tree(out, known, false_branch, Precedence::Whole, behind)
-}
-
-/// Writes an absent expression.
-#[cycle(write)]
-fn put_absent<'a, S: Sink>(
-    out: &mut S,
-    known: &Known,
-    absent: &Absent,
-    here: Here<'a>,
-) -> Result<Here<'a>, AllocError> {
-    match absent {
-        Absent::Repeater(child) => put_repeater(out, known, child, here),
-        Absent::Expression { .. } => put_expression(out, known, absent, here),
-        Absent::Stopper(child) => put_stopper(out, known, child, here),
-        Absent::Clear => {
-            put_ascii(out, "(?~|)")?;
-            Ok(here)
-        }
-    }
 }
 
 /// Writes an absent repeater: with a bar in front it would be another absent form.
@@ -472,7 +616,12 @@ fn put_repeater<'a, S: Sink>(
     known: &Known,
     child: &Expr,
     here: Here<'a>,
-) -> Result<Here<'a>, AllocError> {
+) -> Result<Here<'a>, AllocError>
+    ensures { (m : Marks) → IsKnown known.now m → IfOk result (λ i. Writes S.holds out.old out.new here.entry i
+        (λ o. needs_listed o (view child.now))
+        (spec.in_parens (codes "?~") (λ h. spec.repeater_text (spec.written m (view child.now) Whole h)))
+        (spec.past_groups (spec.group_count (view child.now)))) }
+{
     let inside = open(out, "?~", here)?;
     let place = out.len();
     let end = put_tree(out, known, child, Precedence::Whole, inside)?;
@@ -485,9 +634,17 @@ fn put_repeater<'a, S: Sink>(
 fn put_expression<'a, S: Sink>(
     out: &mut S,
     known: &Known,
-    parts: &Absent,
+    tree: &Expr,
     here: Here<'a>,
-) -> Result<Here<'a>, AllocError> {
+) -> Result<Here<'a>, AllocError>
+    ensures { (m : Marks) → IsKnown known.now m → is_expression (view tree.now) ≡ true →
+        IfOk result (λ i. Writes S.holds out.old out.new here.entry i
+        (λ o. needs_below o (view tree.now)) (parts_text m (view tree.now))
+        (spec.past_groups (spec.group_count (view tree.now)))) }
+{
+    let Expr::Absent(parts) = tree else {
+        return Ok(here);
+    };
     let Absent::Expression { absent, exp } = parts else {
         return Ok(here);
     };
@@ -498,6 +655,17 @@ fn put_expression<'a, S: Sink>(
     close(out, here, end)
 }
 
+/// Writes an empty group, where nothing was written from the place on.
+fn fill<S: Sink>(out: &mut S, place: usize) -> Result<(), AllocError>
+    ensures { OnOk result (Changed S.holds out.old out.new place spec.stopper_text) }
+{
+    if out.len() == place {
+        put_ascii(out, "()")
+    } else {
+        Ok(())
+    }
+}
+
 /// Writes an absent stopper: without a text it would be a clear.
 #[cycle(write)]
 fn put_stopper<'a, S: Sink>(
@@ -505,12 +673,15 @@ fn put_stopper<'a, S: Sink>(
     known: &Known,
     child: &Expr,
     here: Here<'a>,
-) -> Result<Here<'a>, AllocError> {
+) -> Result<Here<'a>, AllocError>
+    ensures { (m : Marks) → IsKnown known.now m → IfOk result (λ i. Writes S.holds out.old out.new here.entry i
+        (λ o. needs_listed o (view child.now))
+        (spec.in_parens (codes "?~|") (λ h. spec.stopper_text (spec.written m (view child.now) Branch h)))
+        (spec.past_groups (spec.group_count (view child.now)))) }
+{
     let inside = open(out, "?~|", here)?;
     let place = out.len();
     let end = put_tree(out, known, child, Precedence::Branch, inside)?;
-    if out.len() == place {
-        put_ascii(out, "()")?;
-    }
+    fill(out, place)?;
     close(out, here, end)
 }

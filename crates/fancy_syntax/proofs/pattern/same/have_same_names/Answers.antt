@@ -1,6 +1,6 @@
-use Rattle.std.proofs.Common.{sym, ◌∙◌}
-use Rattle.fancy_syntax.proofs.MarksLemmas.{named_same}
+use Rattle.std.proofs.lemmas.Bool.Decides.{Decides-at}
+use Rattle.fancy_syntax.proofs.MarksLemmas.{names_Decides}
 use Rattle.fancy_syntax.proofs.pattern.same.have_same_names.Goals as goal
 
 pub returns : goal.returns
-returns c = λ e. named_same _ _ (sym c.eq.ensures ∙ e)
+returns c = Decides-at _ _ c.eq.ensures (names_Decides _ _)

@@ -1,0 +1,12 @@
+use Rattle.std.proofs.Common.{◌++◌, codes, subst}
+use Rattle.fancy_grammar.specs.PatternNeeds.{letters_between}
+use Rattle.fancy_syntax.specs.Sink.{Added}
+use Rattle.fancy_syntax.proofs.pattern.flags.open_scope.Goals as goal
+
+pub returns : goal.returns
+returns g c = (
+  subst (λ f. Added g.S.Sink.holds c.args.out.now c.put_scope_head.new.out
+      (codes "(?" ++ (letters_between c.args.here.flags f ++ codes ":")))
+      c.with-set.ensures.flags c.in_ok-put_scope_head.ensures,
+  λ h l is. c.inside.ensures _ _ (c.with-set.ensures.here h l is),
+)
