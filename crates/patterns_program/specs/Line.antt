@@ -1,8 +1,10 @@
 -- The line that a pattern is written as.
-use Rattle.std.specs.Prelude.{◌≡◌, ◌≢◌, ◌==◌, ◌&&◌, ◌||◌, not, ℕ, Bool, false, List, [], ◌∷◌, chars}
+use Rattle.std.specs.Prelude.{◌≡◌, ◌≢◌, ◌==◌, ◌&&◌, ◌||◌, ◌⊎◌, not, ℕ, Bool, true, false, List, [], ◌∷◌, chars}
+use Rattle.std.specs.Prelude.{encode_utf8_all, IsUtf8}
 use Rattle.std.specs.List.{list_any, ends_with}
 use Prim.Native.Char.{code}
 use Rattle.fancy_lex.specs.declared.flags.Flags.{Flags}
+use Rattle.fancy_grammar.specs.Pattern.{pattern_text}
 use Rattle.fancy_grammar.specs.ReadAs.{IsReadAs}
 use Rattle.fancy_syntax.specs.Answer.{IsTreeOf}
 use Rattle.fancy_syntax.specs.Marks.{Marks}
@@ -17,13 +19,26 @@ is_new byte w pattern = list_any (λ b. b == byte) w && not (list_any (λ b. b =
 abbrev pub breaks_line : List ℕ → List ℕ → Bool
 breaks_line w pattern = (is_new (code "\n") w pattern || is_new (code "\r") w pattern) || ends_with (λ a b. a == b) w (code "\r" ∷ [])
 
--- the bytes are a text of the tree for the line of the pattern: under the flags it is read as the tree with its marks,
--- and it stands in a line
+-- the bytes are the tree's text, for the line of the pattern: under the flags it is read as the tree with its marks, and
+-- it stands in a line
 pub record IsLineOf (f : Flags) (pattern : List ℕ) (t : Tree) (m : Marks) (w : List ℕ) : Type 0 where
+  pub utf8 : IsUtf8 w
+  pub is : chars w ≡ pattern_text f t m
   pub reads : IsReadAs f (chars w) t m
   pub unbroken : breaks_line w pattern ≡ false
 
--- the pattern's tree has such a text that is not the pattern: it is written otherwise
+-- the tree's text is not read so, or cannot stand in the line of the pattern
+abbrev pub HasNoLine : Flags → List ℕ → Tree → Marks → Type 0
+HasNoLine f pattern t m =
+    (IsReadAs f (pattern_text f t m) t m → ⊥) ⊎ (breaks_line (encode_utf8_all (pattern_text f t m)) pattern ≡ true)
+
+-- the pattern is the line of its tree, or its tree has none: it is written as it is
+abbrev pub Stays : Flags → List ℕ → Type 0
+Stays f pattern =
+    (t : Tree) × (m : Marks) × IsTreeOf f (chars pattern) t m
+    × (IsLineOf f pattern t m pattern ⊎ HasNoLine f pattern t m)
+
+-- the line of the pattern's tree is another: it is written otherwise
 abbrev pub Changes : Flags → List ℕ → Type 0
 Changes f pattern =
     (t : Tree) × (m : Marks) × (w : List ℕ) × IsTreeOf f (chars pattern) t m × IsLineOf f pattern t m w × (w ≢ pattern)

@@ -1,11 +1,11 @@
 //! The subcommand `format`: each pattern as the text of its tree.
-ghost use Rattle.std.specs.Prelude.{◌≡◌, ◌⊎◌, chars, string_bytes, Ok, IfOk, IfSome};
+ghost use Rattle.std.specs.Prelude.{◌≡◌, ◌⊎◌, chars, string_bytes, Ok, IfOk, IfSome, IfNone};
 ghost use Rattle.fancy_lex.specs.Flags.{flags_of};
 ghost use Rattle.fancy_syntax.specs.Answer.{marks_of};
 ghost use Rattle.fancy_syntax.specs.View.{view};
 ghost use Rattle.fre_program.specs.Words.{HasTree, HasFault};
 ghost use Rattle.patterns_program.specs.Line as spec;
-ghost use Rattle.patterns_program.specs.Line.{IsLineOf, Changes};
+ghost use Rattle.patterns_program.specs.Line.{IsLineOf, HasNoLine, Stays, Changes};
 ghost use Rattle.patterns_program.specs.declared.outcome.Outcome.{Outcome};
 
 use crate::fault::Fault;
@@ -31,21 +31,26 @@ fn breaks_line(text: &str, pattern: &str) -> bool
     is_new(b'\n', text, pattern) || is_new(b'\r', text, pattern) || text.as_bytes().ends_with(b"\r")
 }
 
-/// The text of the pattern's tree, for the pattern's line. None where the pattern itself is written: that has been seen
-/// only of a text that would end with a CR, but is not proved.
+/// The text of the pattern's tree, for the pattern's line. None where it is not read as the tree, or cannot stand in the
+/// line: the pattern itself is written then.
 fn text_of(
     alloc: Global,
     flags: u32,
     pattern: &str,
     tree: &ExprTree,
 ) -> Result<Option<String>, Fault>
-    ensures { IfOk result (λ text. IfSome text (λ s.
+    ensures some { IfOk result (λ text. IfSome text (λ s.
         IsLineOf (flags_of flags) pattern.now (view tree.now.expr) (marks_of tree.now) (string_bytes s))) }
+    ensures none { IfOk result (λ text. IfNone text
+        (HasNoLine (flags_of flags) pattern.now (view tree.now.expr) (marks_of tree.now))) }
 {
-    Ok(match tree.to_pattern(alloc, flags)? {
-        Some(text) if !breaks_line(text.as_str(), pattern) => Some(text),
-        _ => None,
-    })
+    let Some(text) = tree.to_pattern(alloc, flags)? else {
+        return Ok(None);
+    };
+    if breaks_line(text.as_str(), pattern) {
+        return Ok(None);
+    }
+    Ok(Some(text))
 }
 
 /// Writes the text of the pattern's tree as a line of `out`. A pattern that is refused is written unchanged, with the
@@ -81,7 +86,7 @@ pub(crate) fn is_formatted<E: Write>(
     pattern: &str,
     err: &mut E,
 ) -> Result<Outcome, Fault>
-    ensures good { result ≡ Ok Outcome.Good → HasTree (flags_of flags) (chars pattern.now) }
+    ensures good { result ≡ Ok Outcome.Good → Stays (flags_of flags) pattern.now }
     ensures refused { result ≡ Ok Outcome.Refused → HasFault (flags_of flags) (chars pattern.now)
         ⊎ Changes (flags_of flags) pattern.now }
     ensures read { result ≡ Ok Outcome.Unread → ⊥ }
@@ -89,8 +94,11 @@ pub(crate) fn is_formatted<E: Write>(
     let Some(tree) = read(alloc, flags, at, pattern, err)? else {
         return Ok(Outcome::Refused);
     };
-    match text_of(alloc, flags, pattern, &tree)? {
-        Some(text) if text.as_str() != pattern => Ok(Outcome::Refused),
-        _ => Ok(Outcome::Good),
+    let Some(text) = text_of(alloc, flags, pattern, &tree)? else {
+        return Ok(Outcome::Good);
+    };
+    if text.as_str() != pattern {
+        return Ok(Outcome::Refused);
     }
+    Ok(Outcome::Good)
 }
