@@ -44,3 +44,4 @@ pub mod NeedsLemmas
 pub mod SourceLemmas
 pub mod HereLemmas
 pub mod ReadAsLaws
+pub mod Pattern

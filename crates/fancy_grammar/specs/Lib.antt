@@ -39,6 +39,7 @@ pub mod PatternReference
 pub mod PatternQuantifier
 pub mod Pattern
 pub mod ReadAs
+pub mod Writable
 -- What no public contract speaks of, but private ones of the parser and the resolver do.
 
 -- ---- reading

@@ -1,0 +1,24 @@
+-- The text of a tree reads back, in reading order: the theorem stands last.
+
+-- ---- what a raw tree becomes where references are resolved
+pub mod Becomes
+-- ---- what the rules read, under flags that change along the text
+pub mod Rules
+pub mod Letters
+pub mod Groups
+-- ---- leaves
+pub mod Characters
+pub mod Leaves
+pub mod Sources
+-- ---- quantifiers
+pub mod Quantifiers
+-- ---- the induction
+pub mod Needed
+pub mod Induction
+pub mod Cases
+pub mod Repeats
+pub mod Rows
+pub mod Absent
+pub mod Conditionals
+-- ---- the theorem
+pub mod Theorem

@@ -1,0 +1,192 @@
+-- Each kind of tree reads back where the trees below it do.
+use Rattle.std.proofs.Common.{◌≡◌, ℕ, zero, ◌+◌, ◌<◌, Bool, false, not}
+use Rattle.std.proofs.Common.{[], ◌∷◌, ◌++◌, codes, refl, sym, ap, ◌∙◌, subst}
+use Rattle.std.proofs.lemmas.Bool.{cond-false, false≢true}
+use Prim.Native.Char.{code}
+use Rattle.fancy_lex.specs.Text.{Text}
+use Rattle.fancy_lex.specs.declared.escape.Assertion.{Assertion}
+use Rattle.fancy_lex.specs.declared.escape.Assertion.TheVariants.{StartLineOniguruma}
+use Rattle.fancy_lex.specs.declared.flags.Flags.{Flags}
+use Rattle.fancy_grammar.specs.Ahead.{with_head, ahead}
+use Rattle.fancy_grammar.specs.Depth.{max_depth}
+use Rattle.fancy_grammar.specs.Head.{look}
+use Rattle.fancy_grammar.specs.Join.{is_empty}
+use Rattle.fancy_grammar.specs.Label as label
+use Rattle.fancy_grammar.specs.Label.{Leaf}
+use Rattle.fancy_grammar.specs.Marks.{Marks}
+use Rattle.fancy_grammar.specs.Pattern.{Here, under, past_groups, deeper, in_parens, after_setting, as_atom}
+use Rattle.fancy_grammar.specs.Pattern.{flags_behind, written, leaf_text}
+use Rattle.fancy_grammar.specs.Pattern.{look_head}
+use Rattle.fancy_grammar.specs.PatternNeeds.{settled, setting}
+use Rattle.fancy_grammar.specs.Quantified.{is_repeatable}
+use Rattle.fancy_grammar.specs.ReadBack.{marks_of_groups}
+use Rattle.fancy_grammar.specs.Tree.{Tree, leaf, over}
+use Rattle.fancy_grammar.specs.Writable.{IsLike, IsWritableLeaf}
+use Rattle.fancy_grammar.specs.declared.kinds.LookAround.{LookAround}
+use Rattle.fancy_grammar.specs.declared.kinds.LookAround.TheVariants.{LookAhead, LookAheadNeg, LookBehind}
+use Rattle.fancy_grammar.specs.declared.kinds.LookAround.TheVariants.{LookBehindNeg}
+use Rattle.fancy_grammar.specs.declared.precedence.Precedence.TheVariants.{Whole, Branch, Piece, Operand}
+use Rattle.fancy_grammar.proofs.Pattern.Groups.{parens_text, question_at, reads_look, reads_atomic}
+use Rattle.fancy_grammar.proofs.Pattern.Groups.{reads_define, reads_group}
+use Rattle.fancy_grammar.proofs.Pattern.Induction.{ReadsBy}
+use Rattle.fancy_grammar.proofs.Pattern.Induction.{by_atom, by_nothing}
+use Rattle.fancy_grammar.proofs.Pattern.Leaves.{LeafAt, literal_at, byte_at, keep_at, continue_at, newline_at, any_at}
+use Rattle.fancy_grammar.proofs.Pattern.Leaves.{assertion_at, verb_leaf_at, clear_at, source_at}
+use Rattle.fancy_grammar.proofs.Pattern.Needed.{settled_again, case_fits, any_fits, IsOutside}
+use Rattle.fancy_grammar.proofs.Pattern.Needed.{assertion_fits}
+use Rattle.fancy_grammar.proofs.Pattern.Rules.{Clear, Begins, begins_by, no_question, ends_close, AtomAt}
+use Rattle.fancy_grammar.proofs.ReadBack.ClearLemmas.{not_asking}
+use Rattle.fancy_grammar.proofs.ReadBack.RuleLemmas.{st}
+
+module _ (n : ℕ) where
+  -- no group has a name, and no reference stands in the tree
+  abbrev pub m : Marks
+  m = marks_of_groups n
+
+  abbrev pub ReadsTree : Tree → Here → Type 0
+  ReadsTree t h =
+      ReadsBy t h (written m t Whole h) (written m t Branch h) (written m t Piece h) (written m t (Operand zero) h)
+      (flags_behind t Whole h.flags) (flags_behind t Branch h.flags)
+
+  -- ---- leaves
+
+  pub same_repeatable : (l : Leaf) (f g : Flags) → f.oniguruma_mode ≡ g.oniguruma_mode →
+      is_repeatable f (leaf l) ≡ is_repeatable g (leaf l)
+  same_repeatable (label.assertion a) f g e = ap not e
+  same_repeatable label.empty f g e = refl
+  same_repeatable label.keep_out f g e = refl
+  same_repeatable label.continue_from_previous_match_end f g e = refl
+  same_repeatable (label.verb v) f g e = refl
+  same_repeatable _ f g e = refl
+
+  leaf_by : (l : Leaf) (h : Here) → h.flags.oniguruma_mode ≡ false → h.depth + 1 < max_depth →
+      is_empty (leaf l) ≡ false →
+      LeafAt (under (settled h.flags (leaf l)) h) (leaf_text m l (under (settled h.flags (leaf l)) h)) l →
+      ReadsBy (leaf l) h (after_setting (leaf l) (leaf_text m l) h) (after_setting (leaf l) (leaf_text m l) h)
+      (after_setting (leaf l) (leaf_text m l) h)
+      (after_setting (leaf l) (as_atom (leaf l) (Operand zero) (leaf_text m l)) h) (settled h.flags (leaf l))
+      (settled h.flags (leaf l))
+  leaf_by l h o d e a =
+      let g = settled h.flags (leaf l) in
+      let i = under g h in
+      by_atom (leaf l) h o d e (leaf_text m l i) _ a.begins a.reads refl
+      (λ r. ap (λ w. setting h.flags g ++ w)
+      (cond-false _ _ _ (ap not (sym (same_repeatable l h.flags g refl) ∙ r))))
+
+  outside : (f : Flags) (a : Assertion) → IsWritableLeaf f (label.assertion a) → IsOutside a
+  outside f (StartLineOniguruma crlf) k = k
+  outside f _ k = tt
+
+  pub leaf_reads : (f : Flags) (l : Leaf) (h : Here) → h.flags.oniguruma_mode ≡ false → IsLike f h.flags →
+      h.depth + 1 < max_depth → IsWritableLeaf f l → ReadsTree (leaf l) h
+  leaf_reads f label.empty h o like d k = by_nothing h (codes "()") (codes "()")
+  leaf_reads f (label.any a b) h o like d k =
+      let i = under (settled h.flags (leaf (label.any a b))) h in
+      leaf_by (label.any a b) h o d refl (any_at i a b (any_fits i.flags a b (settled_again h.flags (leaf (label.any a b)))))
+  leaf_reads f (label.assertion a) h o like d k =
+      let i = under (settled h.flags (leaf (label.assertion a))) h in
+      leaf_by (label.assertion a) h o d refl
+      (assertion_at i a o (assertion_fits i.flags a (outside f a k) (settled_again h.flags (leaf (label.assertion a)))))
+  leaf_reads f (label.general_newline u) h o like d k =
+      leaf_by (label.general_newline u) h o d refl (newline_at h u (ap (λ g. g.unicode) like ∙ k))
+  leaf_reads f (label.literal [] casei) h o like d k = absurd k
+  leaf_reads f (label.literal (c ∷ []) casei) h o like d k =
+      let l = label.literal (c ∷ []) casei in
+      let i = under (settled h.flags (leaf l)) h in
+      leaf_by l h o d refl (literal_at i casei c (case_fits i.flags casei c o (settled_again h.flags (leaf l))))
+  leaf_reads f (label.literal (c ∷ e ∷ s) casei) h o like d k = absurd k
+  leaf_reads f (label.literal_bytes []) h o like d k = absurd k
+  leaf_reads f (label.literal_bytes (b ∷ [])) h o like d k =
+      leaf_by (label.literal_bytes (b ∷ [])) h o d refl (byte_at h b (ap (λ g. g.unicode) like ∙ k.0) k.1 k.2)
+  leaf_reads f (label.literal_bytes (b ∷ e ∷ s)) h o like d k = absurd k
+  leaf_reads f (label.delegate s casei) h o like d k =
+      let l = label.delegate s casei in
+      let i = under (settled h.flags (leaf l)) h in
+      leaf_by l h o d refl (source_at i s casei _ (k i.flags like (settled_again h.flags (leaf l))))
+  leaf_reads f label.keep_out h o like d k = leaf_by label.keep_out h o d refl (keep_at h)
+  leaf_reads f label.continue_from_previous_match_end h o like d k =
+      leaf_by label.continue_from_previous_match_end h o d refl (continue_at h)
+  leaf_reads f (label.verb v) h o like d k = leaf_by (label.verb v) h o d refl (verb_leaf_at h v d)
+  leaf_reads f label.clear h o like d k = leaf_by label.clear h o d refl (clear_at h d)
+  leaf_reads f _ h o like d k = absurd k
+
+  -- ---- groups
+
+  begins_open : (x : Bool) (s : Text) → Clear x s → Begins x (code "(" ∷ s)
+  begins_open x s c = begins_by x (code "(") s (not_asking s (no_question s c.no_mark)) refl refl refl
+
+  module _ (t : Tree) (h : Here) (o : h.flags.oniguruma_mode ≡ false) (d : h.depth + 1 < max_depth) where
+    pub group_reads : ReadsTree t (deeper (past_groups 1 (under (settled h.flags t) h))) →
+        ReadsTree (over label.group t) h
+    group_reads r =
+        let i = under (settled h.flags t) h in
+        let s = in_parens [] (written m t Whole) (past_groups 1 i) in
+        let inside = λ (v : Text). written m t Whole (deeper (past_groups 1 i)) ++ code ")" ∷ v in
+        let clear = λ (v : Text). r.whole_clear (code ")" ∷ v) (ends_close h.flags.ignore_space v).stops.clear in
+        let same = parens_text [] (written m t Whole) (past_groups 1 i) in
+        by_atom (over label.group t) h o d refl s _
+        (λ v. subst (Begins h.flags.ignore_space) (sym (same v)) (begins_open h.flags.ignore_space (inside v) (clear v)))
+        (λ v k. subst (λ w. AtomAt i w v (over label.group t)) (sym (same v))
+        (reads_group i _ (inside v) v t d (clear v) (r.whole (code ")" ∷ v) (ends_close h.flags.ignore_space v))))
+        refl (λ e. refl)
+
+    look_ahead_at : (f : Flags) (l : LookAround) (u : Text) →
+        ahead h.depth (st f (code "(" ∷ (look_head l ++ u))) ≡ with_head (look l) (st f u)
+    look_ahead_at f LookAhead u = question_at h.depth f (code "=" ∷ u) d
+    look_ahead_at f LookAheadNeg u = question_at h.depth f (code "!" ∷ u) d
+    look_ahead_at f LookBehind u = question_at h.depth f (codes "<=" ++ u) d
+    look_ahead_at f LookBehindNeg u = question_at h.depth f (codes "<!" ++ u) d
+
+    begins_look : (x : Bool) (l : LookAround) (u : Text) → Begins x (code "(" ∷ (look_head l ++ u))
+    begins_look x LookAhead u = begins_by x (code "(") _ refl refl refl refl
+    begins_look x LookAheadNeg u = begins_by x (code "(") _ refl refl refl refl
+    begins_look x LookBehind u = begins_by x (code "(") _ refl refl refl refl
+    begins_look x LookBehindNeg u = begins_by x (code "(") _ refl refl refl refl
+
+    pub look_reads : (l : LookAround) → ReadsTree t (deeper (under (settled h.flags t) h)) →
+        ReadsTree (over (label.look_around l) t) h
+    look_reads l r =
+        let i = under (settled h.flags t) h in
+        let s = in_parens (look_head l) (written m t Whole) i in
+        let inside = λ (v : Text). written m t Whole (deeper i) ++ code ")" ∷ v in
+        let same = parens_text (look_head l) (written m t Whole) i in
+        by_atom (over (label.look_around l) t) h o d refl s _
+        (λ v. subst (Begins h.flags.ignore_space) (sym (same v)) (begins_look h.flags.ignore_space l (inside v)))
+        (λ v k. subst (λ w. AtomAt i w v (over (label.look_around l) t)) (sym (same v))
+        (reads_look i l _ _ (inside v) v t (look_ahead_at i.flags l (inside v))
+        (r.whole (code ")" ∷ v) (ends_close h.flags.ignore_space v))))
+        refl (λ e. absurd (false≢true e))
+
+    pub define_reads : ReadsTree t (deeper (under (settled h.flags t) h)) → ReadsTree (over label.define_group t) h
+    define_reads r =
+        let i = under (settled h.flags t) h in
+        let s = in_parens (codes "?(DEFINE)") (written m t Whole) i in
+        let inside = λ (v : Text). written m t Whole (deeper i) ++ code ")" ∷ v in
+        let same = parens_text (codes "?(DEFINE)") (written m t Whole) i in
+        by_atom (over label.define_group t) h o d refl s _
+        (λ v. subst (Begins h.flags.ignore_space) (sym (same v))
+        (begins_by h.flags.ignore_space (code "(") _ refl refl refl refl))
+        (λ v k. subst (λ w. AtomAt i w v (over label.define_group t)) (sym (same v))
+        (reads_define i _ _ (inside v) v t (question_at h.depth i.flags (codes "(DEFINE)" ++ inside v) d)
+        (r.whole (code ")" ∷ v) (ends_close h.flags.ignore_space v))))
+        refl (λ e. refl)
+
+    -- where it is none of a quantifier
+    pub atomic_by : ReadsTree t (deeper (under (settled h.flags t) h)) →
+        ReadsBy (over label.atomic_group t) h
+        (after_setting t (in_parens (codes "?>") (written m t Whole)) h)
+        (after_setting t (in_parens (codes "?>") (written m t Whole)) h)
+        (after_setting t (in_parens (codes "?>") (written m t Whole)) h)
+        (after_setting t (in_parens (codes "?>") (written m t Whole)) h) (settled h.flags t) (settled h.flags t)
+    atomic_by r =
+        let i = under (settled h.flags t) h in
+        let s = in_parens (codes "?>") (written m t Whole) i in
+        let inside = λ (v : Text). written m t Whole (deeper i) ++ code ")" ∷ v in
+        let same = parens_text (codes "?>") (written m t Whole) i in
+        by_atom (over label.atomic_group t) h o d refl s _
+        (λ v. subst (Begins h.flags.ignore_space) (sym (same v))
+        (begins_by h.flags.ignore_space (code "(") _ refl refl refl refl))
+        (λ v k. subst (λ w. AtomAt i w v (over label.atomic_group t)) (sym (same v))
+        (reads_atomic i _ _ (inside v) v t (question_at h.depth i.flags (codes ">" ++ inside v) d)
+        (r.whole (code ")" ∷ v) (ends_close h.flags.ignore_space v))))
+        refl (λ e. refl)

@@ -1,0 +1,268 @@
+-- Groups, and flags that are set, outside Oniguruma mode.
+use Rattle.std.proofs.Common.{◌≡◌, ℕ, ◌+◌, ◌<◌, Bool, true, false, not, ◌&&◌, ◌||◌, ◌==◌, nat_le, List, [], ◌∷◌, ◌++◌}
+use Rattle.std.proofs.Common.{codes, None, refl, sym, ap, ◌∙◌, subst, arith, append_assoc, if◌then◌else◌}
+use Rattle.std.proofs.lemmas.Bool.{cond-false, or_parts}
+use Rattle.std.proofs.lemmas.Bool.Decides.{nat_tests}
+use Prim.Native.Char.{code}
+use Rattle.fancy_lex.specs.LayoutSteps.{layout, rest}
+use Rattle.fancy_lex.specs.Text.{Text, bytes, reach_of}
+use Rattle.fancy_lex.specs.declared.flags.Flags.{Flags}
+use Rattle.fancy_grammar.specs.Ahead.{with_head, ahead, behind_layout, group_ahead, behind_question}
+use Rattle.fancy_grammar.specs.Depth.{max_depth}
+use Rattle.fancy_grammar.specs.Grammar.{Alternation, alternation, Branches, last, more, branch_fault, Branch, branch}
+use Rattle.fancy_grammar.specs.Grammar.{Pieces, next, atom, a_read, a_group, inside}
+use Rattle.fancy_grammar.specs.Join.{join}
+use Rattle.fancy_grammar.specs.Head.{capture, scope, look, atomic, define}
+use Rattle.fancy_grammar.specs.Label as label
+use Rattle.fancy_grammar.specs.Label.{Wrap}
+use Rattle.fancy_grammar.specs.Pattern.{Here, under, past_groups, deeper, in_parens}
+use Rattle.fancy_grammar.specs.PatternNeeds.{letters_between, setting, turns_on}
+use Rattle.fancy_grammar.specs.State.{State, Outcome, done, fault, seen_through}
+use Rattle.fancy_grammar.specs.Tree.{Tree, over, empty, look_around, atomic_group, define_group, ast_group}
+use Rattle.fancy_grammar.specs.declared.kinds.LookAround.{LookAround}
+use Rattle.fancy_grammar.proofs.Pattern.Becomes.{Becomes}
+use Rattle.fancy_grammar.proofs.Pattern.Letters.{changed, setting_ahead, scope_ahead, no_hash}
+use Rattle.fancy_grammar.proofs.Pattern.Rules.{Clear, Begins, begins_by, not_layout, no_question, no_star}
+use Rattle.fancy_grammar.proofs.Pattern.Rules.{AtomAt, WholeAt, Rest, lead_flags, quants_one, quant_none}
+use Rattle.fancy_grammar.proofs.OutcomeLemmas.{piece_as}
+use Rattle.fancy_grammar.proofs.ReadBack.RuleLemmas.{st}
+
+-- ---- texts in parentheses
+
+pub parens_text : (head : Text) (text : Here → Text) (h : Here) (v : Text) →
+    in_parens head text h ++ v ≡ code "(" ∷ (head ++ (text (deeper h) ++ code ")" ∷ v))
+parens_text head text h v =
+    ap (λ w. code "(" ∷ w) (append_assoc head _ v ∙ ap (λ w. head ++ w) (append_assoc (text (deeper h)) _ v))
+
+-- ---- what stands ahead
+
+not_deep : (d : ℕ) → d + 1 < max_depth → nat_le max_depth (d + 1) ≡ false
+not_deep d h = grind (arith, nat_tests)
+
+pub paren_at : (d : ℕ) (f : Flags) (t : Text) → d + 1 < max_depth → layout f.ignore_space t ≡ rest t →
+    ahead d (st f (code "(" ∷ t)) ≡ group_ahead (st f (code "(" ∷ t)) t
+unfolding ahead
+paren_at d f t l o = cond-false _ _ _ (not_deep d l) ∙ ap (behind_layout (st f (code "(" ∷ t))) o
+
+pub question_at : (d : ℕ) (f : Flags) (t : Text) → d + 1 < max_depth →
+    ahead d (st f (code "(" ∷ code "?" ∷ t)) ≡ behind_question (st f (code "(" ∷ code "?" ∷ t)) t
+question_at d f t l = paren_at d f (code "?" ∷ t) l (no_layout f.ignore_space)
+  where
+    no_layout : (x : Bool) → layout x (code "?" ∷ t) ≡ rest (code "?" ∷ t)
+    no_layout true = not_layout true (code "?") t refl refl
+    no_layout false = not_layout false (code "?") t refl refl
+
+head_group : (f : Flags) (s t : Text) → Clear f.ignore_space t → group_ahead (st f s) t ≡ with_head (capture None) (st f t)
+head_group f s t c = rw (no_question t c.no_mark, no_star t c.no_mark) refl
+
+pub capture_at : (d : ℕ) (f : Flags) (t : Text) → d + 1 < max_depth → Clear f.ignore_space t →
+    ahead d (st f (code "(" ∷ t)) ≡ with_head (capture None) (st f t)
+capture_at d f t l c = paren_at d f t l c.no_layout ∙ head_group f (code "(" ∷ t) t c
+
+-- ---- what a group reads as
+
+abbrev pub inner : Flags → Here → Here
+inner g h = deeper (under g h)
+
+pub reads_scope : (h : Here) (f g : Flags) (s t v : Text) (x : Tree) →
+    ahead h.depth (st h.flags s) ≡ with_head scope (st f t) → WholeAt (inner f h) t g (code ")" ∷ v) x → AtomAt h s v x
+reads_scope h f g s t v x e w =
+    record { tree = w.tree; derives = atom e (a_group (inside w.derives)); becomes = w.becomes }
+
+-- nodes that hold a tree as they do when they are read
+abbrev pub IsKept : Wrap → Type 0
+IsKept label.group = ⊥
+IsKept (label.ast_group name place) = ⊥
+IsKept _ = Unit {0}
+
+pub over_becomes : (w : Wrap) (c : ℕ) (r x : Tree) → IsKept w → Becomes c r x → Becomes c (over w r) (over w x)
+over_becomes label.group c r x k b = absurd k
+over_becomes (label.ast_group name place) c r x k b = absurd k
+over_becomes (label.look_around l) c r x k b =
+    record { is = λ n u. ap (over (label.look_around l)) (b.is n u); count = b.count; groups = b.groups }
+over_becomes (label.repeat lo hi greedy) c r x k b =
+    record { is = λ n u. ap (over (label.repeat lo hi greedy)) (b.is n u); count = b.count; groups = b.groups }
+over_becomes label.atomic_group c r x k b =
+    record { is = λ n u. ap (over label.atomic_group) (b.is n u); count = b.count; groups = b.groups }
+over_becomes label.define_group c r x k b =
+    record { is = λ n u. ap (over label.define_group) (b.is n u); count = b.count; groups = b.groups }
+over_becomes label.repeater c r x k b =
+    record { is = λ n u. ap (over label.repeater) (b.is n u); count = b.count; groups = b.groups }
+over_becomes label.stopper c r x k b =
+    record { is = λ n u. ap (over label.stopper) (b.is n u); count = b.count; groups = b.groups }
+
+pub reads_look : (h : Here) (l : LookAround) (g : Flags) (s t v : Text) (x : Tree) →
+    ahead h.depth (st h.flags s) ≡ with_head (look l) (st h.flags t) → WholeAt (deeper h) t g (code ")" ∷ v) x →
+    AtomAt h s v (over (label.look_around l) x)
+reads_look h l g s t v x e w = record {
+  tree = look_around w.tree l;
+  derives = atom e (a_group (inside w.derives));
+  becomes = over_becomes (label.look_around l) h.opened w.tree x tt w.becomes;
+}
+
+pub reads_atomic : (h : Here) (g : Flags) (s t v : Text) (x : Tree) →
+    ahead h.depth (st h.flags s) ≡ with_head atomic (st h.flags t) → WholeAt (deeper h) t g (code ")" ∷ v) x →
+    AtomAt h s v (over label.atomic_group x)
+reads_atomic h g s t v x e w = record {
+  tree = atomic_group w.tree;
+  derives = atom e (a_group (inside w.derives));
+  becomes = over_becomes label.atomic_group h.opened w.tree x tt w.becomes;
+}
+
+pub reads_define : (h : Here) (g : Flags) (s t v : Text) (x : Tree) →
+    ahead h.depth (st h.flags s) ≡ with_head define (st h.flags t) → WholeAt (deeper h) t g (code ")" ∷ v) x →
+    AtomAt h s v (over label.define_group x)
+reads_define h g s t v x e w = record {
+  tree = define_group w.tree;
+  derives = atom e (a_group (inside w.derives));
+  becomes = over_becomes label.define_group h.opened w.tree x tt w.becomes;
+}
+
+-- a capturing group
+pub reads_group : (h : Here) (g : Flags) (s v : Text) (x : Tree) → h.depth + 1 < max_depth →
+    Clear h.flags.ignore_space s → WholeAt (deeper (past_groups 1 h)) s g (code ")" ∷ v) x →
+    AtomAt h (code "(" ∷ s) v (over label.group x)
+reads_group h g s v x l c w = record {
+  tree = ast_group None (reach_of (code "(" ∷ s)) w.tree;
+  derives = atom (capture_at h.depth h.flags s l c) (a_group (inside w.derives));
+  becomes = record {
+    is = λ n u. ap (over label.group) (w.becomes.is n u);
+    count = omega (arith, w.becomes.count);
+    groups = (refl, w.becomes.groups);
+  };
+}
+
+-- ---- a group of flags
+
+-- the letters and a text, in parentheses
+pub scope_text : (f g : Flags) (t v : Text) →
+    (codes "(" ++ ((codes "?" ++ (letters_between f g ++ codes ":")) ++ (t ++ codes ")"))) ++ v
+    ≡ codes "(?" ++ (letters_between f g ++ code ":" ∷ (t ++ code ")" ∷ v))
+scope_text f g t v =
+    ap (λ w. codes "(?" ++ w) (
+    append_assoc (letters_between f g ++ codes ":") (t ++ codes ")") v
+    ∙ append_assoc (letters_between f g) (codes ":") _
+    ∙ ap (λ w. letters_between f g ++ code ":" ∷ w) (append_assoc t (codes ")") v))
+
+pub begins_letters : (x : Bool) (f : Flags) (a b c d : Bool) (z : ℕ) (u : Text) → (z == code "#") ≡ false →
+    Begins x (codes "(?" ++ (letters_between f (changed f a b c d) ++ z ∷ u))
+begins_letters x f a b c d z u e =
+    begins_by x (code "(") _ (no_hash f a b c d z u e) refl refl refl
+
+pub scope_at : (d : ℕ) (f : Flags) (i m s r : Bool) (u : Text) → d + 1 < max_depth →
+    ahead d (st f (codes "(?" ++ (letters_between f (changed f i m s r) ++ code ":" ∷ u)))
+    ≡ with_head scope (st (changed f i m s r) u)
+scope_at d f i m s r u l =
+    let t = letters_between f (changed f i m s r) ++ code ":" ∷ u in
+    question_at d f t l ∙ scope_ahead (st f (code "(" ∷ code "?" ∷ t)) i m s r u
+
+-- ---- flags that are set
+
+same_flag : (a b : Bool) → b && not a ≡ false → a && not b ≡ false → b ≡ a
+same_flag true true e h = refl
+same_flag true false e h = absurd cc
+same_flag false true e h = absurd cc
+same_flag false false e h = refl
+
+-- where none is turned on or off
+same_flags : (f : Flags) (i m s r : Bool) →
+    turns_on f (changed f i m s r) || turns_on (changed f i m s r) f ≡ false → changed f i m s r ≡ f
+same_flags f i m s r e =
+    let (x, y) = or_parts (turns_on f (changed f i m s r)) _ e in
+    let (x1, p1) = or_parts (i && not f.casei) _ x in
+    let (x2, p2) = or_parts (m && not f.multi) _ p1 in
+    let (x3, x4) = or_parts (s && not f.dotnl) _ p2 in
+    let (y1, q1) = or_parts (f.casei && not i) _ y in
+    let (y2, q2) = or_parts (f.multi && not m) _ q1 in
+    let (y3, y4) = or_parts (f.dotnl && not s) _ q2 in
+    let e1 = same_flag f.casei i x1 y1 in
+    let e2 = same_flag f.multi m x2 y2 in
+    let e3 = same_flag f.dotnl s x3 y3 in
+    let e4 = same_flag f.crlf r x4 y4 in
+    λ k. changed f (e1 k) (e2 k) (e3 k) (e4 k)
+
+module _ (h : Here) (i m s r : Bool) where
+  abbrev g : Flags
+  g = changed h.flags i m s r
+
+  abbrev set_if : Bool → Text
+  set_if b = if b then codes "(?" ++ (letters_between h.flags g ++ codes ")") else []
+
+  set_text : (t : Text) →
+      (codes "(?" ++ (letters_between h.flags g ++ codes ")")) ++ t ≡ codes "(?" ++ (letters_between h.flags g ++ code ")" ∷ t)
+  set_text t = ap (λ w. codes "(?" ++ w) (append_assoc (letters_between h.flags g) (codes ")") t)
+
+  begins_set : (x b : Bool) (t : Text) → Begins x t → Begins x (set_if b ++ t)
+  begins_set x true t h' = subst (Begins x) (sym (set_text t)) (begins_letters x h.flags i m s r (code ")") t refl)
+  begins_set x false t h' = h'
+
+  pub begins_setting : (x : Bool) (t : Text) → Begins x t → Begins x (setting h.flags g ++ t)
+  begins_setting x t b = begins_set x (turns_on h.flags g || turns_on g h.flags) t b
+
+  set_rest : (b : Bool) → turns_on h.flags g || turns_on g h.flags ≡ b → (t w : Text) (k : Flags) (ys : List Tree) →
+      h.flags.oniguruma_mode ≡ false → h.depth + 1 < max_depth → Begins h.flags.ignore_space t → Rest (under g h) t k w ys →
+      Rest h (set_if b ++ t) k w ys
+  set_rest true e t w k ys o l n q =
+      let u = letters_between h.flags g ++ code ")" ∷ t in
+      subst (λ z. Rest h z k w ys) (sym (set_text t))
+      (lead_flags h g k (codes "(?" ++ u) t w ys o (begins_letters h.flags.ignore_space h.flags i m s r (code ")") t refl)
+      n.clear
+      (atom
+      (question_at h.depth h.flags u l
+      ∙ setting_ahead (st h.flags (code "(" ∷ code "?" ∷ u)) i m s r t e)
+      a_read) q)
+  set_rest false e t w k ys o l n q = subst (λ f. Rest (under f h) t k w ys) (same_flags h.flags i m s r e) q
+
+  pub setting_rest : (t w : Text) (k : Flags) (ys : List Tree) → h.flags.oniguruma_mode ≡ false → h.depth + 1 < max_depth →
+      Begins h.flags.ignore_space t → Rest (under g h) t k w ys → Rest h (setting h.flags g ++ t) k w ys
+  setting_rest t w k ys o l n q = set_rest (turns_on h.flags g || turns_on g h.flags) refl t w k ys o l n q
+
+-- ---- flags that are set before a whole text
+
+module _ (d : ℕ) (s u : State) (first : (q : Outcome (List Tree)) → Pieces d s q → Pieces d u (seen_through (empty ∷◌) q))
+  where
+    same_branch : (q : Outcome (List Tree)) → seen_through join (seen_through (empty ∷◌) q) ≡ seen_through join q
+    same_branch (done l t) = refl
+    same_branch (fault k p) = refl
+
+    branch_behind : {q : Outcome Tree} → Branch d s q → Branch d u q
+    branch_behind (branch {q} p) = subst (Branch d u) (same_branch q) (branch (first q p))
+
+    branches_behind : {q : Outcome (List Tree)} → Branches d s q → Branches d u q
+    branches_behind (last b e) = last (branch_behind b) e
+    branches_behind (more b e r) = more (branch_behind b) e r
+    branches_behind (branch_fault b) = branch_fault (branch_behind b)
+
+    pub whole_behind : {q : Outcome Tree} → Alternation d s q → Alternation d u q
+    whole_behind (alternation b) = alternation (branches_behind b)
+
+module _ (h : Here) (i m s r : Bool) (t v : Text) (k : Flags) (x : Tree) (o : h.flags.oniguruma_mode ≡ false)
+    (l : h.depth + 1 < max_depth) (c : Clear h.flags.ignore_space t) where
+  abbrev then_flags : Flags
+  then_flags = changed h.flags i m s r
+
+  set_whole : (b : Bool) → turns_on h.flags then_flags || turns_on then_flags h.flags ≡ b →
+      WholeAt (under then_flags h) t k v x →
+      WholeAt h ((if b then codes "(?" ++ (letters_between h.flags then_flags ++ codes ")") else []) ++ t) k v x
+  set_whole true e w =
+      let u = letters_between h.flags then_flags ++ code ")" ∷ t in
+      let b = begins_letters h.flags.ignore_space h.flags i m s r (code ")") t refl in
+      let a = atom
+      (question_at h.depth h.flags u l
+      ∙ setting_ahead (st h.flags (code "(" ∷ code "?" ∷ u)) i m s r t e)
+      a_read in
+      subst (λ z. WholeAt h z k v x) (sym (set_text h i m s r t)) (record {
+        tree = w.tree;
+        derives =
+            whole_behind h.depth (st then_flags t) (st h.flags (codes "(?" ++ u))
+            (λ q p. next b.goes
+            (piece_as b.clear.no_layout a
+            (quants_one h.depth (bytes (codes "(?" ++ u)) then_flags empty empty t t o
+            (quant_none (bytes (codes "(?" ++ u)) then_flags empty t c))) p)
+            w.derives;
+        becomes = w.becomes;
+      })
+  set_whole false e w = subst (λ f. WholeAt (under f h) t k v x) (same_flags h.flags i m s r e) w
+
+  pub whole_behind_setting : WholeAt (under then_flags h) t k v x → WholeAt h (setting h.flags then_flags ++ t) k v x
+  whole_behind_setting w = set_whole (turns_on h.flags then_flags || turns_on then_flags h.flags) refl w

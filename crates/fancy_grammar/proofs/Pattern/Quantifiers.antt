@@ -1,0 +1,331 @@
+-- The text of a quantifier is read as it, outside Oniguruma mode.
+use Rattle.std.proofs.Common.{◌≡◌, ℕ, ◌+◌, ◌*◌, ◌^◌, ◌<◌, Bool, true, false, not, ◌&&◌, ◌==◌, nat_lt, List, [], ◌∷◌, ◌++◌}
+use Rattle.std.proofs.Common.{Option, Some, None, is_none, codes, decimal, refl, sym, ap, ap₂, ◌∙◌, subst, arith, append_assoc}
+use Rattle.std.proofs.Common.{append-nil, eqb-true, lt-ltb, if◌then◌else◌}
+use Rattle.std.proofs.Math.Bool.{beq}
+use Rattle.std.specs.Char.{digit_value, is_ascii_digit}
+use Rattle.std.specs.Str.Parse.{AllDigits, IsNumeral, digits_value_after}
+use Rattle.std.proofs.lemmas.Bool.{cond-true, cond-false, cond_both, and_parts}
+use Rattle.std.proofs.lemmas.Bool.Decides.{nat_tests}
+use Rattle.std.proofs.lemmas.Fmt.{decimal_is_IsNumeral}
+use Prim.Native.Char.{code}
+use Rattle.fancy_lex.specs.Boundary.{unnamed_boundary, at_count}
+use Rattle.fancy_lex.specs.BoundarySteps.{boundary}
+use Rattle.fancy_lex.specs.LayoutSteps.{layout, after_comment_head, is_layout, past_layout, rest_of, rest}
+use Rattle.fancy_lex.specs.Number.{at_digit, number, run}
+use Rattle.fancy_lex.specs.Reading.{gives, choose}
+use Rattle.fancy_lex.specs.Text.{Text, bytes, strip}
+use Rattle.fancy_lex.specs.declared.flags.Flags.{Flags}
+use Rattle.fancy_lex.proofs.NumberLemmas.{number_none, number_some, run_stop}
+use Rattle.fancy_parts.specs.Quantifier.{most, count, spaced_count, counts_from, braced_counts, counts}
+use Rattle.fancy_parts.specs.Quote.{range, mark, counts_as}
+use Rattle.fancy_parts.specs.declared.counts.Counts.{Counts}
+use Rattle.fancy_grammar.specs.PatternQuantifier.{mark_left, lazy_mark, possessive_mark, quantifier_by, quantifier_text}
+use Rattle.fancy_grammar.specs.Quantified as quantified
+use Rattle.fancy_grammar.specs.Quantified.{is_repeatable, may_be_possessive, quant, quant_at, behind_lazy, suffix, suffix_at}
+use Rattle.fancy_grammar.specs.State.{done, seen_through}
+use Rattle.fancy_grammar.specs.Tree.{Tree, repeat, atomic_group}
+use Rattle.fancy_grammar.specs.Join.{is_empty}
+use Rattle.fancy_grammar.specs.Label.{atomic_group as atomic, repeat as repeated}
+use Rattle.fancy_grammar.specs.Pattern.{Here, past_groups, group_count}
+use Rattle.fancy_grammar.proofs.OutcomeLemmas.{piece_as}
+use Rattle.fancy_grammar.proofs.Pattern.Becomes.{Becomes, stays_repeatable}
+use Rattle.fancy_grammar.proofs.Pattern.Groups.{over_becomes}
+use Rattle.fancy_grammar.proofs.Pattern.Rules.{Clear, Begins, AtomAt, Rest, not_layout, no_question, no_plus}
+use Rattle.fancy_grammar.proofs.Pattern.Rules.{quants_one, lead_piece}
+use Rattle.fancy_grammar.proofs.ReadBack.ClearLemmas.{not_open}
+use Rattle.fancy_grammar.proofs.ReadBack.CountTexts.{digit_is, counts_and_rest}
+use Rattle.fancy_grammar.proofs.ReadBack.RuleLemmas.{st}
+
+-- ---- numbers
+
+run_read : (a : ℕ) (ds s : Text) → AllDigits 10 ds → at_digit s ≡ false →
+    run a (ds ++ s) ≡ (digits_value_after 10 a ds, s)
+unfolding run
+run_read a [] s h stop = run_stop a s stop
+run_read a (d ∷ ds) s h stop =
+    let (is, value) = digit_is d h.0 in
+    rw (run, is)
+    (ap (λ x. run (a * 10 + x) (ds ++ s)) value ∙ run_read (a * 10 + digit_value d) ds s h.1 stop)
+
+number_first : (ds s : Text) → IsNumeral 10 ds → at_digit (ds ++ s) ≡ true
+number_first [] s h = absurd (omega (arith, h.0))
+number_first (d ∷ ds) s h = (digit_is d h.1.0).0
+
+number_read : (n : ℕ) (s : Text) → n < 2 ^ 64 → at_digit s ≡ false → number (decimal n ++ s) ≡ Some (n, s)
+number_read n s h d =
+    let (numeral, value) = decimal_is_IsNumeral n h in
+    number_some (decimal n ++ s) (number_first (decimal n) s numeral)
+    ∙ ap Some (run_read 0 (decimal n) s numeral.1 d ∙ ap (λ k. (k, s)) value)
+
+digit_layout : (c : ℕ) → is_ascii_digit c ≡ true → (is_layout true c ≡ false) × ((c == code "(") ≡ false)
+digit_layout c h = (grind (arith, nat_tests), grind (arith, nat_tests))
+
+module _ (x : Bool) where
+  at_character : (c : ℕ) (s : Text) → after_comment_head (c ∷ s) ≡ None → is_layout true c ≡ false →
+      layout x (c ∷ s) ≡ rest (c ∷ s)
+  at_character c s o e = not_layout x c s o (both x e)
+    where
+      both : (x : Bool) → is_layout true c ≡ false → is_layout x c ≡ false
+      both true e = e
+      both false e = refl
+
+  at_digits : (ds s : Text) → IsNumeral 10 ds → layout x (ds ++ s) ≡ rest (ds ++ s)
+  at_digits [] s h = absurd (omega (arith, h.0))
+  at_digits (d ∷ ds) s h =
+      let (e, o) = digit_layout d ((digit_is d h.1.0).0) in at_character d (ds ++ s) (not_open d (ds ++ s) o) e
+
+  count_read : (n : ℕ) (s : Text) → n < 2 ^ 64 → at_digit s ≡ false → layout x s ≡ rest s →
+      spaced_count x (decimal n ++ s) ≡ Some (Some n, s)
+  unfolding spaced_count count
+  count_read n s h d e =
+      let before : past_layout x (decimal n ++ s) ≡ Some (decimal n ++ s)
+      = ap rest_of (at_digits (decimal n) s (decimal_is_IsNumeral n h).0) in
+      let after : past_layout x s ≡ Some s = ap rest_of e in
+      rw (before, number_read n s h d, lt-ltb n (2 ^ 64) h, after) refl
+
+  count_none : (s : Text) → at_digit s ≡ false → layout x s ≡ rest s → spaced_count x s ≡ Some (None, s)
+  unfolding spaced_count count
+  count_none s d e = let here : past_layout x s ≡ Some s = ap rest_of e in rw (here, number_none s d, here) refl
+
+  at_close : (s : Text) → layout x (code "}" ∷ s) ≡ rest (code "}" ∷ s)
+  at_close s = at_character (code "}") s refl refl
+
+  at_comma : (s : Text) → layout x (code "," ∷ s) ≡ rest (code "," ∷ s)
+  at_comma s = at_character (code ",") s refl refl
+
+  braces_one : (n : ℕ) (s : Text) → n < 2 ^ 64 →
+      braced_counts x (decimal n ++ code "}" ∷ s) ≡ counts_and_rest n n true s
+  unfolding braced_counts
+  braces_one n s h = rw (count_read n (code "}" ∷ s) h refl (at_close s)) refl
+
+  braces_open : (lo : ℕ) (s : Text) → lo < 2 ^ 64 →
+      braced_counts x (decimal lo ++ code "," ∷ code "}" ∷ s) ≡ counts_and_rest lo most true s
+  unfolding braced_counts counts_from
+  braces_open lo s h =
+      rw (count_read lo (code "," ∷ code "}" ∷ s) h refl (at_comma _), count_none (code "}" ∷ s) refl (at_close s)) refl
+
+  braces_both : (lo hi : ℕ) (s : Text) → lo < 2 ^ 64 → hi < 2 ^ 64 →
+      braced_counts x (decimal lo ++ code "," ∷ (decimal hi ++ code "}" ∷ s)) ≡ counts_and_rest lo hi true s
+  unfolding braced_counts counts_from
+  braces_both lo hi s l h =
+      rw (
+        count_read lo (code "," ∷ (decimal hi ++ code "}" ∷ s)) l refl (at_comma _),
+        count_read hi (code "}" ∷ s) h refl (at_close s),
+      ) refl
+
+-- no name in braces stands there
+abbrev pub NoName : Bool → Text → Type 0
+NoName x v = (p : ℕ) (negated : Bool) → boundary x p negated v ≡ gives (unnamed_boundary negated) v
+
+pub no_name : (x : Bool) (v : Text) → layout x v ≡ rest v → strip (code "{") v ≡ None → NoName x v
+unfolding boundary
+no_name x v e b p negated = rw (e, b) refl
+
+-- the counts in front of s, as they are written
+pub record Counted (x : Bool) (lo hi : ℕ) (s q : Text) : Type 0 where
+  pub braces : Bool
+  pub counted : counts x q ≡ counts_and_rest lo hi braces s
+  pub no_layout : layout x q ≡ rest q
+  pub no_name : NoName x q
+
+digit_first : (ds s : Text) → IsNumeral 10 ds → at_count (ds ++ s) ≡ true
+digit_first [] s h = absurd (omega (arith, h.0))
+digit_first (d ∷ ds) s h = rw ((digit_is d h.1.0).0) refl
+
+brace_name : (x : Bool) (ds s : Text) → IsNumeral 10 ds → NoName x (code "{" ∷ (ds ++ s))
+unfolding boundary
+brace_name x ds s h p negated =
+    rw (at_character x (code "{") (ds ++ s) refl refl, at_digits x ds s h, digit_first ds s h) refl
+
+same_counts : (lo hi l h : ℕ) (b : Bool) (s : Text) → l ≡ lo → h ≡ hi →
+    counts_and_rest lo hi b s ≡ counts_and_rest l h b s
+same_counts lo hi l h b s e g = ap₂ (λ x y. counts_and_rest x y b s) (sym e) (sym g)
+
+brace_counted : (x : Bool) (lo hi n : ℕ) (w r s : Text) → n < 2 ^ 64 → r ≡ decimal n ++ w →
+    braced_counts x (decimal n ++ (w ++ code "}" ∷ s)) ≡ counts_and_rest lo hi true s →
+    Counted x lo hi s ((codes "{" ++ (r ++ codes "}")) ++ s)
+unfolding counts
+brace_counted x lo hi n w r s h q e =
+    let numeral = (decimal_is_IsNumeral n h).0 in
+    let same : (r ++ code "}" ∷ []) ++ s ≡ decimal n ++ (w ++ code "}" ∷ s) =
+    append_assoc r (code "}" ∷ []) s ∙ ap (λ x. x ++ code "}" ∷ s) q ∙ append_assoc (decimal n) w (code "}" ∷ s) in
+    record {
+      braces = true;
+      counted = ap (braced_counts x) same ∙ e;
+      no_layout = at_character x (code "{") _ refl refl;
+      no_name = subst (λ y. NoName x (code "{" ∷ y)) (sym same) (brace_name x (decimal n) (w ++ code "}" ∷ s) numeral);
+    }
+
+sign_counted : (x : Bool) (lo hi l h c : ℕ) (s : Text) → lo ≡ l → hi ≡ h →
+    counts x (c ∷ s) ≡ counts_and_rest l h false s → layout x (c ∷ s) ≡ rest (c ∷ s) →
+    strip (code "{") (c ∷ s) ≡ None → Counted x lo hi s ((c ∷ []) ++ s)
+sign_counted x lo hi l h c s a b e o n =
+    record {
+      braces = false;
+      counted = e ∙ same_counts l h lo hi false s a b;
+      no_layout = o;
+      no_name = no_name x (c ∷ s) o n;
+    }
+
+module _ (x : Bool) (lo hi : ℕ) (s : Text) (l : lo < 2 ^ 64) (h : hi < 2 ^ 64) where
+  range_counted : Counted x lo hi s (counts_as lo hi None ++ s)
+  unfolding range
+  range_counted =
+      cond_both (lo == hi) _ _ (λ r. Counted x lo hi s ((codes "{" ++ (r ++ codes "}")) ++ s))
+      (λ e. brace_counted x lo hi lo [] _ s l (sym (append-nil (decimal lo)))
+      (braces_one x lo s l ∙ same_counts lo lo lo hi true s refl (sym (eqb-true lo hi e))))
+      (λ _. cond_both (hi == most) _ _ (λ r. Counted x lo hi s ((codes "{" ++ (r ++ codes "}")) ++ s))
+      (λ e. brace_counted x lo hi lo (codes ",") _ s l refl
+      (braces_open x lo s l ∙ same_counts lo most lo hi true s refl (eqb-true hi most e)))
+      (λ _. brace_counted x lo hi lo (codes "," ++ decimal hi) _ s l refl
+      (ap (λ y. braced_counts x (decimal lo ++ code "," ∷ y)) (append_assoc [] (decimal hi) _) ∙ braces_both x lo hi s l h)))
+
+  mark_counted : Counted x lo hi s (counts_as lo hi (mark lo hi) ++ s)
+  unfolding mark counts
+  mark_counted =
+      cond_both ((lo == 0) && (hi == 1)) _ _ (λ o. Counted x lo hi s (counts_as lo hi o ++ s))
+      (λ e. let (a, b) = and_parts _ _ e in
+      sign_counted x lo hi 0 1 (code "?") s (eqb-true lo 0 a) (eqb-true hi 1 b) refl
+      (at_character x (code "?") s refl refl) refl)
+      (λ _. cond_both ((lo == 0) && (hi == most)) _ _ (λ o. Counted x lo hi s (counts_as lo hi o ++ s))
+      (λ e. let (a, b) = and_parts _ _ e in
+      sign_counted x lo hi 0 most (code "*") s (eqb-true lo 0 a) (eqb-true hi most b) refl
+      (at_character x (code "*") s refl refl) refl)
+      (λ _. cond_both ((lo == 1) && (hi == most)) _ _ (λ o. Counted x lo hi s (counts_as lo hi o ++ s))
+      (λ e. let (a, b) = and_parts _ _ e in
+      sign_counted x lo hi 1 most (code "+") s (eqb-true lo 1 a) (eqb-true hi most b) refl
+      (at_character x (code "+") s refl refl) refl)
+      (λ _. range_counted)))
+
+-- ---- the marks behind the counts
+
+abbrev lazy : Bool → Text
+lazy b = if b then codes "?" else []
+
+no_possessive : (f : Flags) (c : Counts) (b : Bool) (s v : Text) → Clear f.ignore_space v →
+    behind_lazy (st f s) c b v ≡ done (record { lazy = b; possessive = false }) (st f v)
+no_possessive f c b s v k = rw (no_plus v k.no_mark) (same (may_be_possessive f c))
+  where
+    same : {A : Type 0} {a : A} (b : Bool) → (if b then a else a) ≡ a
+    same true = refl
+    same false = refl
+
+is_possessive : (f : Flags) (c : Counts) (b : Bool) (s v : Text) → f.oniguruma_mode ≡ false →
+    behind_lazy (st f s) c b (code "+" ∷ v) ≡ done (record { lazy = b; possessive = true }) (st f v)
+is_possessive f c b s v o = cond-true _ _ _ (ap (λ m. not (m && c.braces)) o)
+
+behind : (f : Flags) (c : Counts) (b possessive : Bool) (s v : Text) → f.oniguruma_mode ≡ false → Clear f.ignore_space v →
+    behind_lazy (st f s) c b (possessive_mark possessive ++ v)
+    ≡ done (record { lazy = b; possessive = possessive }) (st f v)
+behind f c b true s v o k = is_possessive f c b s v o
+behind f c b false s v o k = no_possessive f c b s v k
+
+suffix_read : (f : Flags) (c : Counts) (b possessive : Bool) (v : Text) → f.oniguruma_mode ≡ false →
+    Clear f.ignore_space v →
+    suffix (st f (lazy b ++ (possessive_mark possessive ++ v))) c
+    ≡ done (record { lazy = b; possessive = possessive }) (st f v)
+suffix_read f c true possessive v o k =
+    let t = possessive_mark possessive ++ v in
+    ap (suffix_at (st f (code "?" ∷ t)) c) (at_character f.ignore_space (code "?") t refl refl)
+    ∙ behind f c true possessive (code "?" ∷ t) v o k
+suffix_read f c false true v o k =
+    ap (suffix_at (st f (code "+" ∷ v)) c) (at_character f.ignore_space (code "+") v refl refl)
+    ∙ is_possessive f c false (code "+" ∷ v) v o
+suffix_read f c false false v o k =
+    ap (suffix_at (st f v) c) k.no_layout
+    ∙ ap (λ o. choose o (behind_lazy (st f v) c true) (behind_lazy (st f v) c false v)) (no_question v k.no_mark)
+    ∙ no_possessive f c false v v k
+
+greed : (swap greedy : Bool) → (if swap then beq greedy swap else not (beq greedy swap)) ≡ greedy
+greed true true = refl
+greed true false = refl
+greed false true = refl
+greed false false = refl
+
+-- the tree under the quantifier
+abbrev pub quantified_tree : Bool → Tree → ℕ → ℕ → Bool → Tree
+quantified_tree true a lo hi greedy = atomic_group (repeat a lo hi greedy)
+quantified_tree false a lo hi greedy = repeat a lo hi greedy
+
+quantified_as : (f : Flags) (a : Tree) (c : Counts) (possessive greedy : Bool) → f.oniguruma_mode ≡ false →
+    quantified.quantified f c (record { lazy = beq greedy f.swap_greed; possessive = possessive }) a
+    ≡ quantified_tree possessive a c.low c.high greedy
+quantified_as f a c true greedy o =
+    cond-false _ _ _ (ap (λ o. o && nat_lt c.high c.low) o)
+    ∙ ap (λ g. atomic_group (repeat a c.low c.high g)) (greed f.swap_greed greedy)
+quantified_as f a c false greedy o =
+    cond-false _ _ _ (ap (λ o. o && nat_lt c.high c.low) o)
+    ∙ ap (λ g. repeat a c.low c.high g) (greed f.swap_greed greedy)
+
+pub quant_read : (left : ℕ) (f : Flags) (a : Tree) (q v : Text) (possessive : Bool) (lo hi : ℕ) (greedy : Bool) →
+    f.oniguruma_mode ≡ false → Clear f.ignore_space v → is_repeatable f a ≡ true →
+    Counted f.ignore_space lo hi (lazy_mark f greedy ++ (possessive_mark possessive ++ v)) q →
+    quant left a (st f q) ≡ done (quantified_tree possessive a lo hi greedy) (st f v)
+unfolding quant
+quant_read left f a q v possessive lo hi greedy o k r m =
+    let read_counts : Counts = record { low = lo; high = hi; braces = m.braces } in
+    ap (quant_at left a (st f q)) m.no_layout
+    ∙ ap (quantified.with_counts left a (st f q)) m.counted
+    ∙ cond-true _ _ _ r
+    ∙ ap (seen_through (λ m. quantified.quantified f read_counts m a))
+    (suffix_read f read_counts (beq greedy f.swap_greed) possessive v o k)
+    ∙ ap (λ x. done x (st f v)) (quantified_as f a read_counts possessive greedy o)
+
+-- ---- the text
+
+left_same : (o : Option ℕ) → mark_left false o ≡ o
+left_same None = refl
+left_same (Some c) = refl
+
+-- no other quantifier stands before it
+pub text_is : (f : Flags) (possessive : Bool) (lo hi : ℕ) (greedy : Bool) (v : Text) → f.oniguruma_mode ≡ false →
+    quantifier_text f possessive false lo hi greedy ++ v
+    ≡ counts_as lo hi (mark lo hi) ++ (lazy_mark f greedy ++ (possessive_mark possessive ++ v))
+text_is f possessive lo hi greedy v o =
+    ap (λ m. quantifier_by f possessive lo hi greedy m ++ v) (left_same (mark lo hi))
+    ∙ (ap (λ w. w ++ v) (cond-false _ _ _ (ap (λ m. m && (possessive && is_none (mark lo hi))) o))
+    ∙ (append_assoc (counts_as lo hi (mark lo hi)) _ v
+    ∙ ap (λ w. counts_as lo hi (mark lo hi) ++ w) (append_assoc (lazy_mark f greedy) (possessive_mark possessive) v)))
+
+pub text_counted : (f : Flags) (possessive : Bool) (lo hi : ℕ) (greedy : Bool) (v : Text) → f.oniguruma_mode ≡ false →
+    lo < 2 ^ 64 → hi < 2 ^ 64 →
+    Counted f.ignore_space lo hi (lazy_mark f greedy ++ (possessive_mark possessive ++ v))
+    (quantifier_text f possessive false lo hi greedy ++ v)
+text_counted f possessive lo hi greedy v o l h =
+    subst (Counted f.ignore_space lo hi (lazy_mark f greedy ++ (possessive_mark possessive ++ v)))
+    (sym (text_is f possessive lo hi greedy v o))
+    (mark_counted f.ignore_space lo hi (lazy_mark f greedy ++ (possessive_mark possessive ++ v)) l h)
+
+-- ---- an atom under it, before the pieces that follow
+
+over_quantified : (possessive : Bool) (c : ℕ) (r x : Tree) (lo hi : ℕ) (greedy : Bool) → Becomes c r x →
+    Becomes c (quantified_tree possessive r lo hi greedy) (quantified_tree possessive x lo hi greedy)
+over_quantified true c r x lo hi greedy b =
+    over_becomes atomic c _ _ tt (over_becomes (repeated lo hi greedy) c r x tt b)
+over_quantified false c r x lo hi greedy b = over_becomes (repeated lo hi greedy) c r x tt b
+
+solid_quantified : (possessive : Bool) (x : Tree) (lo hi : ℕ) (greedy : Bool) →
+    is_empty (quantified_tree possessive x lo hi greedy) ≡ false
+solid_quantified true x lo hi greedy = refl
+solid_quantified false x lo hi greedy = refl
+
+pub same_count : (possessive : Bool) (x : Tree) (lo hi : ℕ) (greedy : Bool) →
+    group_count (quantified_tree possessive x lo hi greedy) ≡ group_count x
+same_count true x lo hi greedy = refl
+same_count false x lo hi greedy = refl
+
+pub lead_quantified : (h : Here) (s q v w : Text) (g : Flags) (x : Tree) (ys : List Tree) (possessive : Bool)
+    (lo hi : ℕ) (greedy : Bool) → h.flags.oniguruma_mode ≡ false → Begins h.flags.ignore_space s →
+    Clear h.flags.ignore_space v → is_repeatable h.flags x ≡ true →
+    Counted h.flags.ignore_space lo hi (lazy_mark h.flags greedy ++ (possessive_mark possessive ++ v)) q →
+    AtomAt h s q x → Rest (past_groups (group_count x) h) v g w ys →
+    Rest h s g w (quantified_tree possessive x lo hi greedy ∷ ys)
+lead_quantified h s q v w g x ys possessive lo hi greedy o b c r m a k =
+    let e = stays_repeatable h.flags h.opened a.tree x a.becomes r in
+    lead_piece h s v w g (quantified_tree possessive a.tree lo hi greedy) (quantified_tree possessive x lo hi greedy) ys b
+    (solid_quantified possessive x lo hi greedy) (over_quantified possessive h.opened a.tree x lo hi greedy a.becomes)
+    (piece_as b.clear.no_layout a.derives
+    (quants_one h.depth (bytes s) h.flags a.tree _ q v o
+    (quant_read (bytes s) h.flags a.tree q v possessive lo hi greedy o c e m)))
+    (subst (λ n. Rest (past_groups n h) v g w ys) (sym (same_count possessive x lo hi greedy)) k)

@@ -1,0 +1,222 @@
+-- What the grammar's rules read outside Oniguruma mode, under flags that change along the text.
+use Rattle.std.proofs.Common.{◌≡◌, ℕ, ◌+◌, Bool, true, false, ◌==◌, List, []}
+use Rattle.std.proofs.Common.{◌∷◌, None, is_some, refl, ap, ◌∙◌, if◌then◌else◌}
+use Rattle.std.proofs.lemmas.Bool.{cond-false, or_parts}
+use Prim.Native.Char.{code}
+use Rattle.fancy_lex.specs.Characters.{bar, hash}
+use Rattle.fancy_lex.specs.Layout.{is_blank}
+use Rattle.fancy_lex.specs.LayoutSteps.{layout, after_comment_head, is_layout, layout_from, rest}
+use Rattle.fancy_lex.specs.Text.{Text, bytes, strip}
+use Rattle.fancy_lex.specs.declared.flags.Flags.{Flags}
+use Rattle.fancy_lex.proofs.LayoutLemmas.{between_step}
+use Rattle.fancy_parts.specs.Quantifier.{counts}
+use Rattle.fancy_grammar.specs.State as states
+use Rattle.fancy_grammar.specs.Grammar.{Alternation, alternation, Branches, last, more, Branch, branch, Pieces, stop, next}
+use Rattle.fancy_grammar.specs.Grammar.{Piece, Atom}
+use Rattle.fancy_grammar.specs.Join.{is_empty, solid, one_or, join, choice}
+use Rattle.fancy_grammar.specs.Label as label
+use Rattle.fancy_grammar.specs.Pattern.{Here, under, past_groups, group_count}
+use Rattle.fancy_grammar.specs.Quantified as quantified
+use Rattle.fancy_grammar.specs.Quantified.{quant, quant_at, quants}
+use Rattle.fancy_grammar.specs.State.{done}
+use Rattle.fancy_grammar.specs.Tree.{Tree, empty, concat}
+use Rattle.fancy_grammar.proofs.OutcomeLemmas.{piece_as}
+use Rattle.fancy_grammar.proofs.ReadBack.ClearLemmas.{begins_mark, no_layout, no_mark_is}
+use Rattle.fancy_grammar.proofs.ReadBack.RuleLemmas.{st}
+use Rattle.fancy_grammar.proofs.Pattern.Becomes.{Becomes, EachBecomes, one_becomes, solid_also}
+
+-- ---- how a text begins
+
+-- no layout, and no quantifier
+pub record Clear (x : Bool) (v : Text) : Type 0 where
+  pub no_layout : layout x v ≡ rest v
+  pub no_mark : begins_mark v ≡ false
+
+-- an atom, or what begins with one
+pub record Begins (x : Bool) (s : Text) : Type 0 where
+  pub clear : Clear x s
+  pub goes : states.ends s ≡ false
+
+-- where a branch stops
+pub record Stops (x : Bool) (v : Text) : Type 0 where
+  pub clear : Clear x v
+  pub ends : states.ends v ≡ true
+
+-- where an alternation ends
+pub record Ends (x : Bool) (v : Text) : Type 0 where
+  pub stops : Stops x v
+  pub no_bar : strip bar v ≡ None
+
+pub not_layout : (x : Bool) (c : ℕ) (t : Text) → after_comment_head (c ∷ t) ≡ None → is_layout x c ≡ false →
+    layout x (c ∷ t) ≡ rest (c ∷ t)
+not_layout false c t o e = no_layout (c ∷ t) o
+not_layout true c t o e =
+    let (h, b) = or_parts (c == hash) (is_blank c) e in
+    between_step true (c ∷ t) c t refl
+    ∙ (cond-false _ _ _ (ap is_some o) ∙ (cond-false _ _ _ h ∙ cond-false _ _ _ b))
+
+pub layout_none : (x : Bool) → layout x [] ≡ rest []
+unfolding layout_from
+layout_none true = refl
+layout_none false = refl
+
+-- told from the first characters
+pub clear_by : (x : Bool) (c : ℕ) (t : Text) → after_comment_head (c ∷ t) ≡ None → is_layout true c ≡ false →
+    begins_mark (c ∷ t) ≡ false → Clear x (c ∷ t)
+clear_by true c t o e m = record { no_layout = not_layout true c t o e; no_mark = m }
+clear_by false c t o e m = record { no_layout = not_layout false c t o refl; no_mark = m }
+
+pub begins_by : (x : Bool) (c : ℕ) (t : Text) → after_comment_head (c ∷ t) ≡ None → is_layout true c ≡ false →
+    begins_mark (c ∷ t) ≡ false → states.ends (c ∷ t) ≡ false → Begins x (c ∷ t)
+begins_by x c t o e m g = record { clear = clear_by x c t o e m; goes = g }
+
+pub stops_bar : (x : Bool) (v : Text) → Stops x (code "|" ∷ v)
+stops_bar x v = record { clear = clear_by x (code "|") v refl refl refl; ends = refl }
+
+pub ends_close : (x : Bool) (v : Text) → Ends x (code ")" ∷ v)
+ends_close x v = record {
+  stops = record { clear = clear_by x (code ")") v refl refl refl; ends = refl };
+  no_bar = refl;
+}
+
+pub ends_nothing : (x : Bool) → Ends x []
+ends_nothing x = record {
+  stops = record { clear = record { no_layout = layout_none x; no_mark = refl }; ends = refl };
+  no_bar = refl;
+}
+
+no_counts : (x : Bool) (s : Text) → begins_mark s ≡ false → counts x s ≡ None
+unfolding counts
+no_counts x [] h = refl
+no_counts x (c ∷ s) h = let m = no_mark_is c h in rw (m.question, m.star, m.plus, m.brace) refl
+
+pub no_question : (s : Text) → begins_mark s ≡ false → strip (code "?") s ≡ None
+no_question [] h = refl
+no_question (c ∷ s) h = rw ((no_mark_is c h).question) refl
+
+pub no_star : (s : Text) → begins_mark s ≡ false → strip (code "*") s ≡ None
+no_star [] h = refl
+no_star (c ∷ s) h = rw ((no_mark_is c h).star) refl
+
+pub no_plus : (s : Text) → begins_mark s ≡ false → strip (code "+") s ≡ None
+no_plus [] h = refl
+no_plus (c ∷ s) h = rw ((no_mark_is c h).plus) refl
+
+pub no_brace : (s : Text) → begins_mark s ≡ false → strip (code "{") s ≡ None
+no_brace [] h = refl
+no_brace (c ∷ s) h = rw ((no_mark_is c h).brace) refl
+
+-- ---- what the text from s to v reads as here: a tree that becomes x, with the flags g behind it
+
+pub record AtomAt (h : Here) (s v : Text) (x : Tree) : Type 0 where
+  pub tree : Tree
+  pub derives : Atom h.depth (st h.flags s) (done tree (st h.flags v))
+  pub becomes : Becomes h.opened tree x
+
+pub record BranchAt (h : Here) (s : Text) (g : Flags) (v : Text) (x : Tree) : Type 0 where
+  pub tree : Tree
+  pub derives : Branch h.depth (st h.flags s) (done tree (st g v))
+  pub becomes : Becomes h.opened tree x
+
+pub record BranchesAt (h : Here) (s : Text) (g : Flags) (v : Text) (ys : List Tree) : Type 0 where
+  pub trees : List Tree
+  pub derives : Branches h.depth (st h.flags s) (done trees (st g v))
+  pub become : EachBecomes h.opened trees ys
+
+pub record WholeAt (h : Here) (s : Text) (g : Flags) (v : Text) (x : Tree) : Type 0 where
+  pub tree : Tree
+  pub derives : Alternation h.depth (st h.flags s) (done tree (st g v))
+  pub becomes : Becomes h.opened tree x
+
+-- the pieces up to where the branch stops; without the Empties they become these
+pub record Rest (h : Here) (s : Text) (g : Flags) (v : Text) (ys : List Tree) : Type 0 where
+  pub trees : List Tree
+  pub derives : Pieces h.depth (st h.flags s) (done trees (st g v))
+  pub become : EachBecomes h.opened (solid trees) ys
+
+pub no_more : (h : Here) (v : Text) → Stops h.flags.ignore_space v → Rest h v h.flags v []
+no_more h v e = record { trees = []; derives = stop e.ends; become = tt }
+
+-- ---- pieces
+
+pub quants_one : (d left : ℕ) (f : Flags) (a b : Tree) (s v : Text) → f.oniguruma_mode ≡ false →
+    quant left a (st f s) ≡ done b (st f v) → quants d left a (st f s) ≡ done b (st f v)
+quants_one d left f a b s v o e =
+    ap (λ q. states.and_then q (λ b t.
+    if t.flags.oniguruma_mode then quantified.adjacent quantified.max_adjacent d b t else done b t)) e
+    ∙ cond-false _ _ _ o
+
+pub quant_none : (left : ℕ) (f : Flags) (a : Tree) (v : Text) → Clear f.ignore_space v →
+    quant left a (st f v) ≡ done a (st f v)
+unfolding quant
+quant_none left f a v c =
+    ap (quant_at left a (st f v)) c.no_layout
+    ∙ ap (quantified.with_counts left a (st f v)) (no_counts f.ignore_space v c.no_mark)
+
+-- a piece that was read, before those that follow
+pub lead_piece : (h : Here) (s v w : Text) (g : Flags) (r x : Tree) (ys : List Tree) →
+    Begins h.flags.ignore_space s → is_empty x ≡ false → Becomes h.opened r x →
+    Piece h.depth (st h.flags s) (done r (st h.flags v)) → Rest (past_groups (group_count x) h) v g w ys →
+    Rest h s g w (x ∷ ys)
+lead_piece h s v w g r x ys b e k p q = record {
+  trees = r ∷ q.trees;
+  derives = next b.goes p q.derives;
+  become = solid_also h.opened r x q.trees ys k e q.become;
+}
+
+-- an atom that no quantifier follows
+pub lead : (h : Here) (s v w : Text) (g : Flags) (x : Tree) (ys : List Tree) → h.flags.oniguruma_mode ≡ false →
+    Begins h.flags.ignore_space s → Clear h.flags.ignore_space v → is_empty x ≡ false → AtomAt h s v x →
+    Rest (past_groups (group_count x) h) v g w ys → Rest h s g w (x ∷ ys)
+lead h s v w g x ys o b c e a q =
+    lead_piece h s v w g a.tree x ys b e a.becomes
+    (piece_as b.clear.no_layout a.derives
+    (quants_one h.depth (bytes s) h.flags a.tree a.tree v v o (quant_none (bytes s) h.flags a.tree v c))) q
+
+-- an Empty that is read at once, with other flags behind it
+pub lead_flags : (h : Here) (f g : Flags) (s v w : Text) (ys : List Tree) → f.oniguruma_mode ≡ false →
+    Begins h.flags.ignore_space s → Clear f.ignore_space v → Atom h.depth (st h.flags s) (done empty (st f v)) →
+    Rest (under f h) v g w ys → Rest h s g w ys
+lead_flags h f g s v w ys o b c a q = record {
+  trees = empty ∷ q.trees;
+  derives =
+      next b.goes
+      (piece_as b.clear.no_layout a
+      (quants_one h.depth (bytes s) f empty empty v v o (quant_none (bytes s) f empty v c))) q.derives;
+  become = q.become;
+}
+
+-- ---- branches
+
+pub reads_branch : (h : Here) (s v : Text) (g : Flags) (ys : List Tree) → Rest h s g v ys →
+    BranchAt h s g v (one_or concat ys)
+reads_branch h s v g ys r = record {
+  tree = join r.trees;
+  derives = branch r.derives;
+  becomes = one_becomes label.concat (solid r.trees) ys h.opened r.become;
+}
+
+pub reads_last : (h : Here) (s v : Text) (g : Flags) (x : Tree) → BranchAt h s g v x →
+    strip bar v ≡ None → BranchesAt h s g v (x ∷ [])
+reads_last h s v g x b e = record { trees = b.tree ∷ []; derives = last b.derives e; become = (b.becomes, tt) }
+
+pub reads_more : (h : Here) (s t v : Text) (f g : Flags) (x : Tree) (ys : List Tree) →
+    BranchAt h s f (code "|" ∷ t) x → BranchesAt (past_groups (group_count x) (under f h)) t g v ys →
+    BranchesAt h s g v (x ∷ ys)
+reads_more h s t v f g x ys b bs = record {
+  trees = b.tree ∷ bs.trees;
+  derives = more b.derives refl bs.derives;
+  become = (b.becomes, bs.become);
+}
+
+pub reads_whole : (h : Here) (s v : Text) (g : Flags) (ys : List Tree) → BranchesAt h s g v ys →
+    WholeAt h s g v (choice ys)
+reads_whole h s v g ys b = record {
+  tree = choice b.trees;
+  derives = alternation b.derives;
+  becomes = one_becomes label.alt b.trees ys h.opened b.become;
+}
+
+pub reads_only : (h : Here) (s v : Text) (g : Flags) (x : Tree) → BranchAt h s g v x → strip bar v ≡ None →
+    WholeAt h s g v x
+reads_only h s v g x b e = reads_whole h s v g (x ∷ []) (reads_last h s v g x b e)
