@@ -12,7 +12,8 @@ use Rattle.fancy_grammar.specs.Depth.{max_depth}
 use Rattle.fancy_grammar.specs.Join.{is_empty}
 use Rattle.fancy_grammar.specs.Label.{Leaf, empty, any, assertion, general_newline, literal, literal_bytes, delegate}
 use Rattle.fancy_grammar.specs.Label.{keep_out, continue_from_previous_match_end, verb, clear, group, look_around}
-use Rattle.fancy_grammar.specs.Label.{repeat, atomic_group, define_group, repeater, stopper, expression, conditional, concat, alt}
+use Rattle.fancy_grammar.specs.Label.{repeat, atomic_group, define_group, repeater, stopper, expression, conditional}
+use Rattle.fancy_grammar.specs.Label.{concat, alt}
 use Rattle.fancy_grammar.specs.Marks.{Marks}
 use Rattle.fancy_grammar.specs.Pattern.{group_count}
 use Rattle.fancy_grammar.specs.PatternNeeds.{settled}

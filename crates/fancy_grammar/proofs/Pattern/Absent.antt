@@ -13,17 +13,20 @@ use Rattle.fancy_grammar.specs.Grammar.{Alternation, next, atom, a_nothing, a_gr
 use Rattle.fancy_grammar.specs.Head as head
 use Rattle.fancy_grammar.specs.Join.{is_empty}
 use Rattle.fancy_grammar.specs.Label as label
-use Rattle.fancy_grammar.specs.Pattern.{Here, under, past_groups, deeper, group_count, in_parens, behind, written, repeater_text, stopper_text}
+use Rattle.fancy_grammar.specs.Pattern.{Here, under, past_groups, deeper, group_count, in_parens, behind, written}
+use Rattle.fancy_grammar.specs.Pattern.{repeater_text, stopper_text}
 use Rattle.fancy_grammar.specs.PatternNeeds.{settled}
 use Rattle.fancy_grammar.specs.State.{State, done}
-use Rattle.fancy_grammar.specs.Tree.{Tree, over, row, no_trees, more_trees, empty, clear, stopper, expression, repeater}
+use Rattle.fancy_grammar.specs.Tree.{Tree, over, row, no_trees, more_trees, empty, clear, stopper, expression}
+use Rattle.fancy_grammar.specs.Tree.{repeater}
 use Rattle.fancy_grammar.specs.declared.precedence.Precedence.TheVariants.{Whole, Branch}
 use Rattle.fancy_grammar.proofs.OutcomeLemmas.{piece_as}
 use Rattle.fancy_grammar.proofs.Pattern.Becomes.{Becomes, row_becomes, stays_solid}
 use Rattle.fancy_grammar.proofs.Pattern.Cases.{m, ReadsTree}
 use Rattle.fancy_grammar.proofs.Pattern.Groups.{parens_text, question_at, over_becomes, whole_behind}
 use Rattle.fancy_grammar.proofs.Pattern.Induction.{by_atom}
-use Rattle.fancy_grammar.proofs.Pattern.Rules.{Begins, Stops, begins_by, stops_bar, ends_close, AtomAt, BranchAt, WholeAt}
+use Rattle.fancy_grammar.proofs.Pattern.Rules.{Begins, Stops, begins_by, stops_bar, ends_close, AtomAt, BranchAt}
+use Rattle.fancy_grammar.proofs.Pattern.Rules.{WholeAt}
 use Rattle.fancy_grammar.proofs.Pattern.Rules.{quants_one, quant_none}
 use Rattle.fancy_grammar.proofs.ReadBack.RuleLemmas.{st}
 

@@ -13,12 +13,14 @@ use Rattle.fancy_lex.proofs.TextLemmas.{bytes-append}
 use Rattle.fancy_parts.specs.HeadReference.{begins_target}
 use Rattle.fancy_grammar.specs.Depth.{max_depth}
 use Rattle.fancy_grammar.specs.Grammar.{Alternation, alternation, Branches, last, more, branch_fault, Body, the_body}
-use Rattle.fancy_grammar.specs.Grammar.{atom, a_condition, inside, is_condition, branches_of, conditional_of, conditional_behind, closed}
+use Rattle.fancy_grammar.specs.Grammar.{atom, a_condition, inside, is_condition, branches_of, conditional_of}
+use Rattle.fancy_grammar.specs.Grammar.{conditional_behind, closed}
 use Rattle.fancy_grammar.specs.Items.{items}
 use Rattle.fancy_grammar.specs.Join.{is_empty, choice}
 use Rattle.fancy_grammar.specs.Label as label
 use Rattle.fancy_grammar.specs.Pattern.{Here, under, past_groups, deeper, group_count, is_alt, behind, written}
-use Rattle.fancy_grammar.specs.Pattern.{branches_text, in_parens, parenthesized, condition_text, look_head, flags_behind}
+use Rattle.fancy_grammar.specs.Pattern.{branches_text, in_parens, parenthesized, condition_text, look_head}
+use Rattle.fancy_grammar.specs.Pattern.{flags_behind}
 use Rattle.fancy_grammar.specs.PatternNeeds.{settled, turns_on, letters_between}
 use Rattle.fancy_grammar.specs.declared.kinds.LookAround.{LookAround}
 use Rattle.fancy_grammar.specs.Ahead.{ahead, condition}

@@ -18,7 +18,8 @@ use Rattle.fancy_grammar.proofs.Pattern.Groups.{begins_setting, setting_rest, sc
 use Rattle.fancy_grammar.proofs.Pattern.Groups.{begins_letters, inner}
 use Rattle.fancy_grammar.proofs.Pattern.Needed.{no_setting}
 use Rattle.fancy_grammar.proofs.Pattern.Quantifiers.{NoName, no_name}
-use Rattle.fancy_grammar.proofs.Pattern.Rules.{Clear, Begins, Stops, Ends, no_brace, ends_close, AtomAt, BranchAt, WholeAt}
+use Rattle.fancy_grammar.proofs.Pattern.Rules.{Clear, Begins, Stops, Ends, no_brace, ends_close, AtomAt, BranchAt}
+use Rattle.fancy_grammar.proofs.Pattern.Rules.{WholeAt}
 use Rattle.fancy_grammar.proofs.Pattern.Rules.{Rest, no_more, lead, reads_branch, reads_only}
 
 -- What the texts of a tree read as here, whatever follows: the whole of a group, a branch, a piece, and what a quantifier

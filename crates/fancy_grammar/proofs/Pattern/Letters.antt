@@ -1,6 +1,7 @@
 -- The letters that make some flags others are read so.
 use Rattle.std.proofs.Common.{◌≡◌, ℕ, ◌+◌, ◌<◌, ◌≤◌, suc, Bool, true, false, not, ◌&&◌, ◌||◌, ◌==◌, [], ◌∷◌, ◌++◌}
-use Rattle.std.proofs.Common.{codes, None, refl, sym, ap, ◌∙◌, subst, arith, append_assoc, ne_eqb, ⊎_elim, if◌then◌else◌}
+use Rattle.std.proofs.Common.{codes, None, refl, sym, ap, ◌∙◌, subst, arith, append_assoc, ne_eqb, ⊎_elim}
+use Rattle.std.proofs.Common.{if◌then◌else◌}
 use Rattle.std.proofs.lemmas.Bool.{cond-false, or_parts, or_cases}
 use Prim.Native.Char.{code}
 use Rattle.fancy_lex.specs.LayoutSteps.{layout, after_comment_head, is_layout}

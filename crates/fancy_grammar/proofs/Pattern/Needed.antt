@@ -9,7 +9,8 @@ use Rattle.fancy_lex.specs.declared.escape.Assertion.TheVariants.{StartLineOnigu
 use Rattle.fancy_lex.specs.declared.flags.Flags.{Flags}
 use Rattle.fancy_grammar.specs.Label.{concat, alt, literal, any, assertion}
 use Rattle.fancy_grammar.specs.Pattern.{takes_pieces, takes_branches, flags_behind, flags_behind_all}
-use Rattle.fancy_grammar.specs.PatternNeeds.{is_kept_by_backslash, first, needs, fixed_or, with_needs, settled, turns_on}
+use Rattle.fancy_grammar.specs.PatternNeeds.{is_kept_by_backslash, first, needs, fixed_or, with_needs, settled}
+use Rattle.fancy_grammar.specs.PatternNeeds.{turns_on}
 use Rattle.fancy_grammar.specs.PatternNeeds.{setting, letters_between}
 use Rattle.fancy_grammar.specs.Tree.{Tree, leaf, over, row, Trees, no_trees, more_trees}
 use Rattle.fancy_grammar.specs.Writable.{IsLike}

@@ -1,6 +1,8 @@
 -- The text of a quantifier is read as it, outside Oniguruma mode.
-use Rattle.std.proofs.Common.{◌≡◌, ℕ, ◌+◌, ◌*◌, ◌^◌, ◌<◌, Bool, true, false, not, ◌&&◌, ◌==◌, nat_lt, List, [], ◌∷◌, ◌++◌}
-use Rattle.std.proofs.Common.{Option, Some, None, is_none, codes, decimal, refl, sym, ap, ap₂, ◌∙◌, subst, arith, append_assoc}
+use Rattle.std.proofs.Common.{◌≡◌, ℕ, ◌+◌, ◌*◌, ◌^◌, ◌<◌, Bool, true, false, not, ◌&&◌, ◌==◌, nat_lt, List, [], ◌∷◌}
+use Rattle.std.proofs.Common.{◌++◌}
+use Rattle.std.proofs.Common.{Option, Some, None, is_none, codes, decimal, refl, sym, ap, ap₂, ◌∙◌, subst, arith}
+use Rattle.std.proofs.Common.{append_assoc}
 use Rattle.std.proofs.Common.{append-nil, eqb-true, lt-ltb, if◌then◌else◌}
 use Rattle.std.proofs.Math.Bool.{beq}
 use Rattle.std.specs.Char.{digit_value, is_ascii_digit}
@@ -20,9 +22,11 @@ use Rattle.fancy_lex.proofs.NumberLemmas.{number_none, number_some, run_stop}
 use Rattle.fancy_parts.specs.Quantifier.{most, count, spaced_count, counts_from, braced_counts, counts}
 use Rattle.fancy_parts.specs.Quote.{range, mark, counts_as}
 use Rattle.fancy_parts.specs.declared.counts.Counts.{Counts}
-use Rattle.fancy_grammar.specs.PatternQuantifier.{mark_left, lazy_mark, possessive_mark, quantifier_by, quantifier_text}
+use Rattle.fancy_grammar.specs.PatternQuantifier.{mark_left, lazy_mark, possessive_mark, quantifier_by}
+use Rattle.fancy_grammar.specs.PatternQuantifier.{quantifier_text}
 use Rattle.fancy_grammar.specs.Quantified as quantified
-use Rattle.fancy_grammar.specs.Quantified.{is_repeatable, may_be_possessive, quant, quant_at, behind_lazy, suffix, suffix_at}
+use Rattle.fancy_grammar.specs.Quantified.{is_repeatable, may_be_possessive, quant, quant_at, behind_lazy, suffix}
+use Rattle.fancy_grammar.specs.Quantified.{suffix_at}
 use Rattle.fancy_grammar.specs.State.{done, seen_through}
 use Rattle.fancy_grammar.specs.Tree.{Tree, repeat, atomic_group}
 use Rattle.fancy_grammar.specs.Join.{is_empty}

@@ -10,7 +10,8 @@ use Rattle.fancy_grammar.specs.Label as label
 use Rattle.fancy_grammar.specs.Pattern.{Here, behind, flags_behind, flags_behind_all, written}
 use Rattle.fancy_grammar.specs.Pattern.{written_all, written_branches, written_barred, is_in_digits}
 use Rattle.fancy_grammar.specs.PatternNeeds.{settled}
-use Rattle.fancy_grammar.specs.Tree.{Tree, leaf, row, Trees, no_trees, more_trees, levels, levels_all, list_of, concat}
+use Rattle.fancy_grammar.specs.Tree.{Tree, leaf, row, Trees, no_trees, more_trees, levels, levels_all, list_of}
+use Rattle.fancy_grammar.specs.Tree.{concat}
 use Rattle.fancy_grammar.specs.Tree.{trees_of}
 use Rattle.fancy_grammar.specs.Writable.{IsLike}
 use Rattle.fancy_grammar.specs.declared.precedence.Precedence.TheVariants.{Branch, Piece}
@@ -19,7 +20,8 @@ use Rattle.fancy_grammar.proofs.Pattern.Cases.{m, ReadsTree}
 use Rattle.fancy_grammar.proofs.Pattern.Groups.{inner}
 use Rattle.fancy_grammar.proofs.Pattern.Induction.{by_branch, by_whole}
 use Rattle.fancy_grammar.proofs.Pattern.Needed.{like_behind}
-use Rattle.fancy_grammar.proofs.Pattern.Rules.{Clear, Begins, Stops, Ends, stops_bar, BranchAt, BranchesAt, WholeAt, Rest, no_more}
+use Rattle.fancy_grammar.proofs.Pattern.Rules.{Clear, Begins, Stops, Ends, stops_bar, BranchAt, BranchesAt, WholeAt}
+use Rattle.fancy_grammar.proofs.Pattern.Rules.{Rest, no_more}
 use Rattle.fancy_grammar.proofs.Pattern.Rules.{reads_branch, reads_last, reads_more, reads_whole, reads_only}
 
 module _ (n : ℕ) (f : Flags) (mode : f.oniguruma_mode ≡ false) where

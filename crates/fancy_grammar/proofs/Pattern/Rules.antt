@@ -11,7 +11,8 @@ use Rattle.fancy_lex.specs.declared.flags.Flags.{Flags}
 use Rattle.fancy_lex.proofs.LayoutLemmas.{between_step}
 use Rattle.fancy_parts.specs.Quantifier.{counts}
 use Rattle.fancy_grammar.specs.State as states
-use Rattle.fancy_grammar.specs.Grammar.{Alternation, alternation, Branches, last, more, Branch, branch, Pieces, stop, next}
+use Rattle.fancy_grammar.specs.Grammar.{Alternation, alternation, Branches, last, more, Branch, branch, Pieces, stop}
+use Rattle.fancy_grammar.specs.Grammar.{next}
 use Rattle.fancy_grammar.specs.Grammar.{Piece, Atom}
 use Rattle.fancy_grammar.specs.Join.{is_empty, solid, one_or, join, choice}
 use Rattle.fancy_grammar.specs.Label as label

@@ -1,15 +1,17 @@
 -- Which Delegates have a source: escapes of one letter, and each class that is read alone as it stands.
-use Rattle.std.proofs.Common.{◌≡◌, None, ◌||◌, ◌==◌, ℕ, Bool, true, false, not, ◌&&◌, [], ◌∷◌, ◌++◌, codes, refl, sym, ap, ◌∙◌, subst}
+use Rattle.std.proofs.Common.{◌≡◌, List, append_assoc, None, ◌||◌, ◌==◌, ℕ, Bool, true, false, not, ◌&&◌, [], ◌∷◌}
+use Rattle.std.proofs.Common.{◌++◌, codes, refl, sym, ap, ◌∙◌, subst}
 use Rattle.std.proofs.Math.Bool.{and-false}
 use Rattle.std.proofs.lemmas.Bool.{cond-false, or_parts}
-use Rattle.std.specs.List.{AllByRecursion}
 use Rattle.std.specs.Str.{bytes_eq}
 use Prim.Native.Char.{code}
 use Rattle.fancy_lex.specs.Characters.{◌∈◌, backslash, open_bracket, close_bracket}
-use Rattle.fancy_lex.specs.Class.{class_head, class, written, Class, class_items, ClassItems, close, plain, escaped, nested}
+use Rattle.fancy_lex.specs.Class.{class_head, class, escape_in_class, is_negated, written, Class, class_items}
+use Rattle.fancy_lex.specs.Class.{ClassItems, close, plain, escaped, nested}
 use Rattle.fancy_lex.specs.Class.{OuterClass}
 use Rattle.fancy_lex.specs.Escape.{escape, escape_at, lone_escape}
 use Rattle.fancy_lex.specs.Escaped as leaves
+use Rattle.fancy_lex.specs.Escaped.{Escape}
 use Rattle.fancy_lex.specs.Escaped.{hex_class, negated_hex_class}
 use Rattle.fancy_lex.specs.Reading.{gives, choose}
 use Rattle.fancy_lex.specs.Text.{Text}
@@ -18,7 +20,8 @@ use Rattle.fancy_lex.proofs.ClassLaws.{class_complete, class_reads, class_head_f
 use Rattle.fancy_lex.proofs.EscapeFrame.{escape_frame}
 use Rattle.fancy_grammar.specs.Label.{delegate}
 use Rattle.fancy_grammar.specs.PatternNeeds.{is_hex_class, settled, fixed_or}
-use Rattle.fancy_grammar.specs.PatternSource.{Part, part, replaced, replaced_part, single_part, part_at, source, source_from}
+use Rattle.fancy_grammar.specs.PatternSource.{Part, part, replaced, replaced_part, single_part, part_at, source}
+use Rattle.fancy_grammar.specs.PatternSource.{source_from}
 use Rattle.fancy_grammar.specs.PatternSource.{delegate_text}
 use Rattle.fancy_grammar.specs.PatternLetters.{is_unseen, letter_of}
 use Rattle.fancy_grammar.proofs.SourceLemmas.{source_goes_on, source_ends}
@@ -141,9 +144,6 @@ letters_have_source f c casei h =
 abbrev pub IsOrdinary : ℕ → Type 0
 IsOrdinary c = (is_unseen c ≡ false) × (c ∈ "\\[]" ≡ false)
 
-abbrev pub AreOrdinary : Text → Type 0
-AreOrdinary t = AllByRecursion IsOrdinary t
-
 no_letter : (c : ℕ) → is_unseen c ≡ false → letter_of c ≡ None
 no_letter c h =
     let is_not = apart is_unseen c h in
@@ -200,49 +200,185 @@ module _ (c : ℕ) (h : IsOrdinary c) where
   ordinary_not : (mark : ℕ) → mark ∈ "\\[]" ≡ true → (c == mark) ≡ false
   ordinary_not mark e = apart (λ c. c ∈ "\\[]") c h.1 mark e
 
-ordinaries_on : (u : Bool) (w t : Text) → AreOrdinary w → source_from u false 0 (w ++ t) ≡ w ++ source_from u false 0 t
-ordinaries_on u [] t h = refl
-ordinaries_on u (c ∷ w) t h =
-    ordinary_on u c (w ++ t) h.0.0 (ordinary_not c h.0 (code "\\") refl) (ordinary_not c h.0 (code "[") refl)
-    ∙ ap (λ z. c ∷ z) (ordinaries_on u w t h.1)
-
 closing_on : (u : Bool) → source_from u false 0 (codes "]") ≡ codes "]"
 closing_on u = ordinary_on u (code "]") [] refl refl refl ∙ ap (λ z. code "]" ∷ z) (source_ends u false)
 
-ordinary_source : (u : Bool) (w : Text) → AreOrdinary w → source_from u false 0 (w ++ codes "]") ≡ w ++ codes "]"
-ordinary_source u w h = ordinaries_on u w (codes "]") h ∙ ap (λ z. w ++ z) (closing_on u)
+-- ---- escapes in a class that are written as they stand
 
-ordinary_items : (f : Flags) (w v : Text) → AreOrdinary w →
-    ClassItems f false (w ++ code "]" ∷ v) (written (w ++ codes "]") false v)
-ordinary_items f [] v h = close
-ordinary_items f (c ∷ w) v h = plain (ap not h.0.1) (ordinary_items f w v h.1)
+-- no row of what is replaced begins with it, and the class writes it as it is
+record IsKeptEscape (c : ℕ) : Type 0 where
+  no_row : c ∈ "pPxt" ≡ false
+  reads : (f : Flags) (v : Text) → (e : Escape) × (escape f true (c ∷ v) ≡ gives e v)
+      × (escape_in_class false e ≡ backslash ∷ c ∷ []) × (is_negated e ≡ false)
 
-module _ (f : Flags) (c : ℕ) (w : Text) (casei : Bool) (h : IsOrdinary c) (k : AreOrdinary w) where
-  -- a class of such characters, the first of which is no caret
-  pub ordinary_class : (c == code "^") ≡ false → is_hex_class (code "[" ∷ c ∷ (w ++ codes "]")) ≡ false →
-      HasSource f (code "[" ∷ c ∷ (w ++ codes "]")) casei
-  unfolding class_head
-  ordinary_class e hex =
-      let t = c ∷ (w ++ codes "]") in
-      let begun : ◌≡◌ {A = Text × Text} (class_head [] t) (code "[" ∷ [], t)
-      = rw (e, ordinary_not c h (code "]") refl) refl in
-      class_source (code "[" ∷ c ∷ (w ++ codes "]")) hex f (c ∷ (w ++ codes "]")) casei
-      (bracket_on f.unicode c (w ++ codes "]") (ordinary_not c h (code "\\") refl) e
-      ∙ ap (λ z. code "[" ∷ z) (ordinary_source f.unicode (c ∷ w) (h, k)))
-      (λ g like. class_complete g (c ∷ (w ++ codes "]")) (written (code "[" ∷ c ∷ (w ++ codes "]")) false [])
-      (class_items begun (ordinary_items g (c ∷ w) [] (h, k))))
+kept_escapes : Each IsKeptEscape (codes "dDsSwW\\.+*?()|[]{}^$#&-~")
+unfolding escape_at lone_escape
+kept_escapes =
+    also (letter (code "d") refl (λ f v. (_, refl, refl, refl)))
+    (also (letter (code "D") refl (λ f v. (_, refl, refl, refl)))
+    (also (letter (code "s") refl (λ f v. (_, refl, refl, refl)))
+    (also (letter (code "S") refl (λ f v. (_, refl, refl, refl)))
+    (also (letter (code "w") refl (λ f v. (_, refl, refl, refl)))
+    (also (letter (code "W") refl (λ f v. (_, refl, refl, refl)))
+    (also (letter (code "\\") refl (λ f v. (_, refl, refl, refl)))
+    (also (letter (code ".") refl (λ f v. (_, refl, refl, refl)))
+    (also (letter (code "+") refl (λ f v. (_, refl, refl, refl)))
+    (also (letter (code "*") refl (λ f v. (_, refl, refl, refl)))
+    (also (letter (code "?") refl (λ f v. (_, refl, refl, refl)))
+    (also (letter (code "(") refl (λ f v. (_, refl, refl, refl)))
+    (also (letter (code ")") refl (λ f v. (_, refl, refl, refl)))
+    (also (letter (code "|") refl (λ f v. (_, refl, refl, refl)))
+    (also (letter (code "[") refl (λ f v. (_, refl, refl, refl)))
+    (also (letter (code "]") refl (λ f v. (_, refl, refl, refl)))
+    (also (letter (code "{") refl (λ f v. (_, refl, refl, refl)))
+    (also (letter (code "}") refl (λ f v. (_, refl, refl, refl)))
+    (also (letter (code "^") refl (λ f v. (_, refl, refl, refl)))
+    (also (letter (code "$") refl (λ f v. (_, refl, refl, refl)))
+    (also (letter (code "#") refl (λ f v. (_, refl, refl, refl)))
+    (also (letter (code "&") refl (λ f v. (_, refl, refl, refl)))
+    (also (letter (code "-") refl (λ f v. (_, refl, refl, refl)))
+    (also (letter (code "~") refl (λ f v. (_, refl, refl, refl))) no_more)))))))))))))))))))))))
+  where
+    letter : (c : ℕ) → c ∈ "pPxt" ≡ false →
+        ((f : Flags) (v : Text) → (e : Escape) × (escape f true (c ∷ v) ≡ gives e v)
+        × (escape_in_class false e ≡ backslash ∷ c ∷ []) × (is_negated e ≡ false)) → IsKeptEscape c
+    letter c n r = record { no_row = n; reads = r }
+
+kept_escape : (c : ℕ) → c ∈ "dDsSwW\\.+*?()|[]{}^$#&-~" ≡ true → IsKeptEscape c
+kept_escape c h = each_among IsKeptEscape (codes "dDsSwW\\.+*?()|[]{}^$#&-~") c kept_escapes h
+
+escape_on : (u : Bool) (c : ℕ) (t : Text) → c ∈ "pPxt" ≡ false →
+    source_from u false 0 (code "\\" ∷ c ∷ t) ≡ code "\\" ∷ c ∷ source_from u false 0 t
+escape_on u c t h =
+    let (p, h1) = or_parts (c == code "p") _ h in
+    let (q, h2) = or_parts (c == code "P") _ h1 in
+    let (x, y) = or_parts (c == code "x") _ h2 in
+    source_goes_on u false (code "\\") (c ∷ t)
+    ∙ ap (λ (p : Part). p.source ++ source_from u (false || p.negated) 0 p.rest) (part_is u p q x y)
+  where
+    part_is : (u : Bool) → (c == code "p") ≡ false → (c == code "P") ≡ false → (c == code "x") ≡ false →
+        (c == code "t") ≡ false → part_at u false (code "\\") (c ∷ t) ≡ part (code "\\" ∷ c ∷ []) t
+    part_is true p q x y = rw (p, q, x) refl
+    part_is false p q x y = rw (y, p, q) refl
+
+-- ---- items of a class
+
+-- a character that stands for itself, or an escape that is kept
+pub data Item : Type 0 where
+  itself : (c : ℕ) → IsOrdinary c → Item
+  escape_of : (c : ℕ) → c ∈ "dDsSwW\\.+*?()|[]{}^$#&-~" ≡ true → Item
+
+abbrev pub item_text : Item → Text
+item_text (itself c h) = c ∷ []
+item_text (escape_of c h) = backslash ∷ c ∷ []
+
+abbrev pub items_text : List Item → Text
+items_text [] = []
+items_text (i ∷ l) = item_text i ++ items_text l
+
+item_on : (u : Bool) (i : Item) (t : Text) → source_from u false 0 (item_text i ++ t) ≡ item_text i ++ source_from u false 0 t
+item_on u (itself c h) t = ordinary_on u c t h.0 (ordinary_not c h (code "\\") refl) (ordinary_not c h (code "[") refl)
+item_on u (escape_of c h) t = escape_on u c t (kept_escape c h).no_row
+
+items_source : (u : Bool) (l : List Item) → source_from u false 0 (items_text l ++ codes "]") ≡ items_text l ++ codes "]"
+items_source u [] = closing_on u
+items_source u (i ∷ l) =
+    ap (λ z. source_from u false 0 z) (append_assoc (item_text i) (items_text l) (codes "]"))
+    ∙ (item_on u i (items_text l ++ codes "]") ∙ (ap (λ z. item_text i ++ z) (items_source u l)
+    ∙ sym (append_assoc (item_text i) (items_text l) (codes "]"))))
+
+item_items : (f : Flags) (i : Item) (t w v : Text) → ClassItems f false t (written w false v) →
+    ClassItems f false (item_text i ++ t) (written (item_text i ++ w) false v)
+item_items f (itself c h) t w v k = plain (ap not h.1) k
+item_items f (escape_of c h) t w v k =
+    let (e, q, x, y) = (kept_escape c h).reads f t in
+    subst (λ z. ClassItems f false (backslash ∷ c ∷ t) (written (z ++ w) false v)) x
+    (escaped q (subst (λ b. ClassItems f b t (written w false v)) (sym y) k))
+
+items_items : (f : Flags) (l : List Item) (v : Text) →
+    ClassItems f false (items_text l ++ code "]" ∷ v) (written (items_text l ++ codes "]") false v)
+items_items f [] v = close
+items_items f (i ∷ l) v =
+    subst (λ z. ClassItems f false z (written ((item_text i ++ items_text l) ++ codes "]") false v))
+    (sym (append_assoc (item_text i) (items_text l) (code "]" ∷ v)))
+    (subst (λ z. ClassItems f false (item_text i ++ (items_text l ++ code "]" ∷ v)) (written z false v))
+    (sym (append_assoc (item_text i) (items_text l) (codes "]")))
+    (item_items f i (items_text l ++ code "]" ∷ v) (items_text l ++ codes "]") v (items_items f l v)))
+
+-- what may stand first: no caret
+abbrev pub IsFirst : Item → Type 0
+IsFirst (itself c h) = (c == code "^") ≡ false
+IsFirst (escape_of c h) = Unit {0}
+
+first_source : (u : Bool) (i : Item) (t : Text) → IsFirst i →
+    source_from u false 0 (code "[" ∷ (item_text i ++ t)) ≡ code "[" ∷ source_from u false 0 (item_text i ++ t)
+first_source u (itself c h) t e = bracket_on u c t (ordinary_not c h (code "\\") refl) e
+first_source u (escape_of c h) t e =
+    let (p, more) = or_parts (c == code "p") _ ((kept_escape c h).no_row) in
+    itself_on u (code "[") (code "\\" ∷ c ∷ t) (part_is u p)
+  where
+    part_is : (u : Bool) → (c == code "p") ≡ false →
+        part_at u false (code "[") (code "\\" ∷ c ∷ t) ≡ part (code "[" ∷ []) (code "\\" ∷ c ∷ t)
+    part_is true p = rw p refl
+    part_is false p = refl
+
+first_head : (i : Item) (t : Text) → IsFirst i →
+    ◌≡◌ {A = Text × Text} (class_head [] (item_text i ++ t)) (code "[" ∷ [], item_text i ++ t)
+unfolding class_head
+first_head (itself c h) t e = rw (e, ordinary_not c h (code "]") refl) refl
+first_head (escape_of c h) t e = refl
+
+negated_source : (u : Bool) (i : Item) (t : Text) →
+    source_from u false 0 (codes "[^" ++ (item_text i ++ t)) ≡ code "[" ∷ source_from u false 0 (code "^" ∷ (item_text i ++ t))
+negated_source u (itself c h) t = negated_on u c t (ordinary_not c h (code "\\") refl)
+negated_source u (escape_of c h) t =
+    let (p, more) = or_parts (c == code "p") _ ((kept_escape c h).no_row) in
+    itself_on u (code "[") (codes "^\\" ++ c ∷ t) (part_is u p)
+  where
+    part_is : (u : Bool) → (c == code "p") ≡ false →
+        part_at u false (code "[") (codes "^\\" ++ c ∷ t) ≡ part (code "[" ∷ []) (codes "^\\" ++ c ∷ t)
+    part_is true p = rw p refl
+    part_is false p = refl
+
+negated_head : (i : Item) (t : Text) →
+    ◌≡◌ {A = Text × Text} (class_head [] (code "^" ∷ (item_text i ++ t))) (codes "[^", item_text i ++ t)
+unfolding class_head
+negated_head (itself c h) t = rw (ordinary_not c h (code "]") refl) refl
+negated_head (escape_of c h) t = refl
+
+module _ (f : Flags) (i : Item) (l : List Item) (casei : Bool) where
+  abbrev inside : Text
+  inside = items_text (i ∷ l) ++ codes "]"
+
+  apart_text : item_text i ++ (items_text l ++ codes "]") ≡ inside
+  apart_text = sym (append_assoc (item_text i) (items_text l) (codes "]"))
+
+  -- a class of such items
+  pub class_of_items : IsFirst i → is_hex_class (code "[" ∷ inside) ≡ false → HasSource f (code "[" ∷ inside) casei
+  class_of_items e hex =
+      let source_is : source_from f.unicode false 0 (code "[" ∷ inside) ≡ code "[" ∷ source_from f.unicode false 0 inside
+      = subst (λ z. source_from f.unicode false 0 (code "[" ∷ z) ≡ code "[" ∷ source_from f.unicode false 0 z) apart_text
+      (first_source f.unicode i (items_text l ++ codes "]") e) in
+      let begun : ◌≡◌ {A = Text × Text} (class_head [] inside) (code "[" ∷ [], inside)
+      = subst (λ z. ◌≡◌ {A = Text × Text} (class_head [] z) (code "[" ∷ [], z)) apart_text
+      (first_head i (items_text l ++ codes "]") e) in
+      class_source (code "[" ∷ inside) hex f inside casei
+      (source_is ∙ ap (λ z. code "[" ∷ z) (items_source f.unicode (i ∷ l)))
+      (λ g like. class_complete g inside (written (code "[" ∷ inside) false [])
+      (class_items begun (items_items g (i ∷ l) [])))
 
   -- the same, negated
-  pub negated_class : is_hex_class (codes "[^" ++ c ∷ (w ++ codes "]")) ≡ false →
-      HasSource f (codes "[^" ++ c ∷ (w ++ codes "]")) casei
-  unfolding class_head
-  negated_class hex =
-      let t = c ∷ (w ++ codes "]") in
-      let begun : ◌≡◌ {A = Text × Text} (class_head [] (code "^" ∷ t)) (codes "[^", t)
-      = rw (ordinary_not c h (code "]") refl) refl in
-      class_source (codes "[^" ++ c ∷ (w ++ codes "]")) hex f (code "^" ∷ c ∷ (w ++ codes "]")) casei
-      (negated_on f.unicode c (w ++ codes "]") (ordinary_not c h (code "\\") refl)
-      ∙ ap (λ z. code "[" ∷ z) (ordinary_on f.unicode (code "^") (c ∷ (w ++ codes "]")) refl refl refl
-      ∙ ap (λ z. code "^" ∷ z) (ordinary_source f.unicode (c ∷ w) (h, k))))
-      (λ g like. class_complete g (code "^" ∷ c ∷ (w ++ codes "]")) (written (codes "[^" ++ c ∷ (w ++ codes "]")) false [])
-      (class_items begun (ordinary_items g (c ∷ w) [] (h, k))))
+  pub negated_class_of_items : is_hex_class (codes "[^" ++ inside) ≡ false → HasSource f (codes "[^" ++ inside) casei
+  negated_class_of_items hex =
+      let source_is : source_from f.unicode false 0 (codes "[^" ++ inside)
+      ≡ code "[" ∷ source_from f.unicode false 0 (code "^" ∷ inside)
+      = subst (λ z. source_from f.unicode false 0 (codes "[^" ++ z) ≡ code "[" ∷ source_from f.unicode false 0 (code "^" ∷ z))
+      apart_text (negated_source f.unicode i (items_text l ++ codes "]")) in
+      let begun : ◌≡◌ {A = Text × Text} (class_head [] (code "^" ∷ inside)) (codes "[^", inside)
+      = subst (λ z. ◌≡◌ {A = Text × Text} (class_head [] (code "^" ∷ z)) (codes "[^", z)) apart_text
+      (negated_head i (items_text l ++ codes "]")) in
+      class_source (codes "[^" ++ inside) hex f (code "^" ∷ inside) casei
+      (source_is ∙ ap (λ z. code "[" ∷ z) (ordinary_on f.unicode (code "^") inside refl refl refl
+      ∙ ap (λ z. code "^" ∷ z) (items_source f.unicode (i ∷ l))))
+      (λ g like. class_complete g (code "^" ∷ inside) (written (codes "[^" ++ inside) false [])
+      (class_items begun (items_items g (i ∷ l) [])))

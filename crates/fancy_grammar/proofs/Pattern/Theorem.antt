@@ -15,7 +15,8 @@ use Rattle.fancy_grammar.specs.Grammar.{next, whole}
 use Rattle.fancy_grammar.specs.Items.{Item, opening, reference, items, openings, openings_in, meanings_in, numbers_in}
 use Rattle.fancy_grammar.specs.Label as label
 use Rattle.fancy_grammar.specs.Marks.{Marks, marks}
-use Rattle.fancy_grammar.specs.Pattern.{Here, under, past_groups, deeper, after_setting, in_parens, group_count, written, behind}
+use Rattle.fancy_grammar.specs.Pattern.{Here, under, past_groups, deeper, after_setting, in_parens, group_count}
+use Rattle.fancy_grammar.specs.Pattern.{written, behind}
 use Rattle.fancy_grammar.specs.Pattern.{flags_behind}
 use Rattle.fancy_grammar.specs.Pattern.{pattern_text}
 use Rattle.fancy_grammar.specs.PatternNeeds.{setting, agreed, settled}
@@ -25,12 +26,14 @@ use Rattle.fancy_grammar.specs.Resolved.{first_fault, fault_of, resolved_in, res
 use Rattle.fancy_grammar.specs.Tree.{Tree, leaf, over, row, Trees, no_trees, more_trees}
 use Rattle.fancy_grammar.specs.Writable.{AreNodesWritable, AreAllWritable, ArePieces, IsWritable}
 use Rattle.fancy_grammar.specs.declared.precedence.Precedence.{Precedence}
-use Rattle.fancy_grammar.specs.declared.precedence.Precedence.TheVariants.{Whole, Branch as BranchAlone, Piece, Operand}
+use Rattle.fancy_grammar.specs.declared.precedence.Precedence.TheVariants.{Whole, Branch as BranchAlone, Piece}
+use Rattle.fancy_grammar.specs.declared.precedence.Precedence.TheVariants.{Operand}
 use Rattle.fancy_grammar.proofs.AnswerLaws.{marks_from}
 use Rattle.fancy_grammar.proofs.ReadAsLaws.{read_as}
 use Rattle.fancy_grammar.proofs.Pattern.Absent.{repeater_reads, stopper_reads, expression_reads}
 use Rattle.fancy_grammar.proofs.Pattern.Becomes.{Becomes}
-use Rattle.fancy_grammar.proofs.Pattern.Cases.{m, ReadsTree, leaf_reads, group_reads, look_reads, define_reads, atomic_by}
+use Rattle.fancy_grammar.proofs.Pattern.Cases.{m, ReadsTree, leaf_reads, group_reads, look_reads, define_reads}
+use Rattle.fancy_grammar.proofs.Pattern.Cases.{atomic_by}
 use Rattle.fancy_grammar.proofs.Pattern.Conditionals.{conditional_reads}
 use Rattle.fancy_grammar.proofs.Pattern.Groups.{whole_behind_setting}
 use Rattle.fancy_grammar.proofs.Pattern.Induction.{ReadsBy}
