@@ -5,7 +5,9 @@ use fancy_syntax::flags::{
     FLAG_IGNORE_NUMBERED_GROUPS_WHEN_NAMED_GROUPS_EXIST, FLAG_IGNORE_SPACE, FLAG_ONIGURUMA_MODE,
     FLAG_UNICODE,
 };
-use std::alloc::Global;
+use fancy_syntax::span::Span;
+use fancy_syntax::spanned::{SpannedNode, SpannedTree};
+use std::alloc::{AllocError, Global};
 
 const NAMED: u32 = FLAG_UNICODE | FLAG_IGNORE_NUMBERED_GROUPS_WHEN_NAMED_GROUPS_EXIST;
 
@@ -142,17 +144,34 @@ static SPANS: [(u32, &str, &str); 49] = [
     ),
 ];
 
-/// Whether the nodes of the pattern's tree have these spans.
+/// Adds a span to a line of spans.
+fn push_span(alloc: Global, line: &mut String, span: Span) -> Result<(), AllocError> {
+    if !line.is_empty() {
+        line.push(' ')?;
+    }
+    line.push_str(format!(in alloc; "{}..{}", span.start, span.end)?.as_str())
+}
+
+/// Adds the spans of a node and of those below it, by a walk.
+fn push_walked(alloc: Global, line: &mut String, node: SpannedNode<'_>) -> Result<(), AllocError> {
+    push_span(alloc, line, node.span())?;
+    for child in node.children() {
+        push_walked(alloc, line, child)?;
+    }
+    Ok(())
+}
+
+/// Whether the nodes of the pattern's tree have these spans, in the list and by a walk.
 fn has_spans(alloc: Global, flags: u32, pattern: &str, wanted: &str) -> Result<bool, Error> {
     let (_, spans) = Expr::parse_tree_with_spans(alloc, pattern, flags)?;
-    let mut line = String::new(alloc);
+    let mut listed = String::new(alloc);
     for span in &spans {
-        if !line.is_empty() {
-            line.push(' ')?;
-        }
-        line.push_str(format!(in alloc; "{}..{}", span.start, span.end)?.as_str())?;
+        push_span(alloc, &mut listed, *span)?;
     }
-    Ok(line.as_str() == wanted)
+    let parsed = SpannedTree::parse(alloc, pattern, flags)?;
+    let mut walked = String::new(alloc);
+    push_walked(alloc, &mut walked, parsed.root())?;
+    Ok(listed.as_str() == wanted && walked.as_str() == wanted)
 }
 
 /// The number of the first row whose nodes have other spans.
@@ -168,5 +187,46 @@ fn first_other(alloc: Global) -> Result<Option<usize>, Error> {
 #[test]
 fn parse_tree_with_spans_returns_where_nodes_stand(rt: HostRuntime) -> Result<(), Error> {
     assert_eq!(rt; first_other(rt.alloc())?, None);
+    Ok(())
+}
+
+/// The texts of the children that have one in the pattern, with a bar behind each.
+fn texts_of_children(
+    alloc: Global,
+    node: SpannedNode<'_>,
+    pattern: &str,
+) -> Result<String, AllocError> {
+    let mut texts = String::new(alloc);
+    for child in node.children() {
+        if let Some(text) = child.text(pattern) {
+            texts.push_str(text)?;
+            texts.push('|')?;
+        }
+    }
+    Ok(texts)
+}
+
+#[test]
+fn nodes_have_their_text(rt: HostRuntime) -> Result<(), Error> {
+    let pattern = "(?<n>a)*\u{e9}(?i)b";
+    let parsed = SpannedTree::parse(rt.alloc(), pattern, FLAG_UNICODE)?;
+    let root = parsed.root();
+    assert_eq!(rt; *root.expr() == parsed.tree.expr, true);
+    let texts = texts_of_children(rt.alloc(), root, pattern)?;
+    assert_eq!(rt; texts.as_str(), "(?<n>a)*|\u{e9}|b|");
+    let others = texts_of_children(rt.alloc(), root, "(?<n>a)*x\u{e9}")?;
+    assert_eq!(rt; others.as_str(), "(?<n>a)*|");
+    Ok(())
+}
+
+#[test]
+fn nodes_that_were_added_have_no_span(rt: HostRuntime) -> Result<(), Error> {
+    let mut parsed = SpannedTree::parse(rt.alloc(), "ab", FLAG_UNICODE)?;
+    if let Expr::Concat(children) = &mut parsed.tree.expr {
+        children.push(Expr::Empty)?;
+    }
+    let mut line = String::new(rt.alloc());
+    push_walked(rt.alloc(), &mut line, parsed.root())?;
+    assert_eq!(rt; line.as_str(), "0..2 0..1 1..2 0..0");
     Ok(())
 }
