@@ -1,4 +1,5 @@
 //! Where a node stands in its pattern.
+ghost use Rattle.std.specs.Str.Pattern.{GetsRange};
 
 /// The part of a pattern that a node was parsed from, in byte offsets.
 #[derive(Debug, Clone, Copy, PartialEq, Eq)]
@@ -10,11 +11,11 @@ pub struct Span {
 }
 
 impl Span {
-    /// Returns the part of the pattern at this span. Returns `None` if the span does not end within the pattern, or does not
+    /// Returns the part of the text at this span. Returns `None` if the span does not end within the text, or does not
     /// begin and end between two of its characters.
-    pub fn text<'p>(&self, pattern: &'p str) -> Option<&'p str> {
-        let (front, _) = pattern.split_at_checked(self.end)?;
-        let (_, text) = front.split_at_checked(self.start)?;
-        Some(text)
+    pub fn text<'p>(&self, pattern: &'p str) -> Option<&'p str>
+        ensures { GetsRange pattern.now self.now.start self.now.end result }
+    {
+        pattern.get(self.start..self.end)
     }
 }
