@@ -1,4 +1,4 @@
-//! A tree that knows where each of its nodes stands.
+//! A tree with the spans of its nodes.
 ghost use Rattle.std.specs.Prelude.{◌≡◌, ◌++◌, chars, drop, length, map, take, IfErr, IfOk, OnOk};
 ghost use Rattle.std.specs.Iterator.{YieldsFirstBy, item_count};
 ghost use Rattle.std.specs.List.{AllByRecursion, flat_map};
@@ -7,11 +7,12 @@ ghost use Rattle.fancy_lex.specs.Flags.{flags_of};
 ghost use Rattle.fancy_grammar.specs.Answer.{IsTreeOf, IsFaultOf, IsOnlyFault, IsPlacedIn};
 ghost use Rattle.fancy_grammar.specs.Answered.{IsAnsweredWith, HasGroupsOf, IsSmall};
 ghost use Rattle.fancy_grammar.specs.Grammar.{DerivesTree};
+ghost use Rattle.fancy_grammar.specs.Tree.{children};
 ghost use Rattle.fancy_syntax.specs.Answer.{marks_of};
 ghost use Rattle.fancy_syntax.specs.Children.{children_of};
 ghost use Rattle.fancy_syntax.specs.Spanned as spec;
 ghost use Rattle.fancy_syntax.specs.Spanned.{IsWhole, part_of, part_of_tree, remaining_parts, side_by_side};
-ghost use Rattle.fancy_syntax.specs.View.{view};
+ghost use Rattle.fancy_syntax.specs.View.{view, views};
 
 use crate::expr::{Expr, ExprChildrenIter};
 use crate::span::Span;
@@ -111,6 +112,7 @@ impl<'a> SpannedNode<'a> {
     /// Returns an iterator over the immediate children, in the order of `Expr::children_iter`. Each step takes constant
     /// time, and nothing is allocated.
     pub fn children(&self) -> SpannedChildren<'a>
+        ensures trees { views (map (λ p. p.expr) (remaining_parts result)) ≡ children (view (part_of self.now).expr) }
         ensures exprs { map (λ p. p.expr) (remaining_parts result) ≡ children_of (part_of self.now).expr }
         ensures parts { remaining_parts result ≡ side_by_side (children_of (part_of self.now).expr)
             (drop 1 (part_of self.now).spans) (drop 1 (part_of self.now).sizes) }
