@@ -10,7 +10,7 @@ use Rattle.fancy_grammar.specs.Label as label
 use Rattle.fancy_grammar.specs.Preorder.{preorder, preorder_all}
 use Rattle.fancy_grammar.specs.Tree.{Tree, leaf, over, row, Trees, no_trees, more_trees, list_of, children}
 use Rattle.fancy_syntax.specs.Children.{children_of}
-use Rattle.fancy_syntax.specs.Spanned.{Part, IsWhole, sizes, sizes_all, first_size, side_by_side}
+use Rattle.fancy_syntax.specs.Spanned.{Spanned, IsWhole, sizes, sizes_all, first_size, side_by_side}
 use Rattle.fancy_syntax.specs.View.{view, views}
 use Rattle.fancy_syntax.specs.declared.expr.Expr.{Expr}
 use Rattle.fancy_syntax.specs.declared.span.Span.{Span}
@@ -84,7 +84,7 @@ pub record AreWhole (es : List Expr) (s : List Span) (n : List ℕ) : Type 0 whe
   pub spanned : length s ≡ length n
 
 -- of a whole node's children they are
-pub children_whole : (p : Part) (es : List Expr) (s : List Span) (n : List ℕ) → views es ≡ children (view p.expr) →
+pub children_whole : (p : Spanned) (es : List Expr) (s : List Span) (n : List ℕ) → views es ≡ children (view p.expr) →
     s ≡ drop 1 p.spans → n ≡ drop 1 p.sizes → IsWhole p → AreWhole es s n
 children_whole p es s n h f g w = record {
   sized = g ∙ ap (drop 1) w.sized ∙ ap (drop 1) (sizes_node (view p.expr)) ∙ ap (flat_map sizes) (sym h);

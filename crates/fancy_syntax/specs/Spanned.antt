@@ -24,21 +24,21 @@ abbrev mutual
   sizes_all (more_trees t ts) = sizes t ++ sizes_all ts
 
 -- a node, with the spans of it and of those below it in preorder, and how many nodes each of these has
-pub record Part : Type 0 where
+pub record Spanned : Type 0 where
   pub expr : Expr
   pub spans : List Span
   pub sizes : List ℕ
 
 -- there are as many spans as nodes
-pub record IsWhole (p : Part) : Type 0 where
+pub record IsWhole (p : Spanned) : Type 0 where
   pub sized : p.sizes ≡ sizes (view p.expr)
   pub spanned : length p.spans ≡ length p.sizes
 
-abbrev pub part_of : SpannedNode → Part
-part_of n = record { expr = n.expr.now; spans = n.spans.now; sizes = n.sizes.now }
+abbrev pub spanned_of : SpannedNode → Spanned
+spanned_of n = record { expr = n.expr.now; spans = n.spans.now; sizes = n.sizes.now }
 
-abbrev pub part_of_tree : SpannedTree → Part
-part_of_tree t = record { expr = t.tree.expr; spans = t.spans.items; sizes = t.sizes.items }
+abbrev pub spanned_of_tree : SpannedTree → Spanned
+spanned_of_tree t = record { expr = t.tree.expr; spans = t.spans.items; sizes = t.sizes.items }
 
 -- the first span; no byte where there is none
 abbrev pub first_span : List Span → Span
@@ -51,12 +51,12 @@ first_size [] = 0
 first_size (n ∷ ns) = n
 
 -- nodes side by side: the first has as many of the spans as the first number says, the next as many of the others
-abbrev pub side_by_side : List Expr → List Span → List ℕ → List Part
+abbrev pub side_by_side : List Expr → List Span → List ℕ → List Spanned
 side_by_side [] s n = []
 side_by_side (e ∷ es) s n =
     (record { expr = e; spans = take (first_size n) s; sizes = take (first_size n) n })
     ∷ side_by_side es (drop (first_size n) s) (drop (first_size n) n)
 
 -- the children that an iterator has still to give
-abbrev pub remaining_parts : SpannedChildren → List Part
-remaining_parts i = side_by_side (remaining_children i.exprs) i.spans.now i.sizes.now
+abbrev pub remaining_spanned : SpannedChildren → List Spanned
+remaining_spanned i = side_by_side (remaining_children i.exprs) i.spans.now i.sizes.now

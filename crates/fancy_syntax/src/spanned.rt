@@ -11,7 +11,7 @@ ghost use Rattle.fancy_grammar.specs.Tree.{children};
 ghost use Rattle.fancy_syntax.specs.Answer.{marks_of};
 ghost use Rattle.fancy_syntax.specs.Children.{children_of};
 ghost use Rattle.fancy_syntax.specs.Spanned as spec;
-ghost use Rattle.fancy_syntax.specs.Spanned.{IsWhole, part_of, part_of_tree, remaining_parts, side_by_side};
+ghost use Rattle.fancy_syntax.specs.Spanned.{IsWhole, spanned_of, spanned_of_tree, remaining_spanned, side_by_side};
 ghost use Rattle.fancy_syntax.specs.View.{view, views};
 
 use crate::expr::{Expr, ExprChildrenIter};
@@ -50,7 +50,7 @@ impl SpannedTree {
         ensures answered { IfOk result (λ t. IsAnsweredWith (view t.tree.expr) (marks_of t.tree)) }
         ensures groups { IfOk result (λ t. (r : _) → DerivesTree (flags_of flags) (chars re.now) r →
             HasGroupsOf (flags_of flags) (chars re.now) r (view t.tree.expr)) }
-        ensures sized { IfOk result (λ t. (part_of_tree t).sizes ≡ spec.sizes (view t.tree.expr)) }
+        ensures sized { IfOk result (λ t. (spanned_of_tree t).sizes ≡ spec.sizes (view t.tree.expr)) }
         ensures fault { IfErr result (λ e. IsOnlyFault e (flags_of flags) (chars re.now)) }
         ensures place { IfErr result (λ e. IsPlacedIn e re.now) }
     {
@@ -62,7 +62,7 @@ impl SpannedTree {
     /// Returns the root of the tree. The nodes below it are those of `tree` even if that was changed; their spans are then
     /// those of the nodes that stood there, or 0 to 0 for nodes without a span in `spans`.
     pub fn root(&self) -> SpannedNode<'_>
-        ensures { part_of result ≡ part_of_tree self.now }
+        ensures { spanned_of result ≡ spanned_of_tree self.now }
     {
         SpannedNode {
             expr: &self.tree.expr,
@@ -85,14 +85,14 @@ pub struct SpannedNode<'a> {
 impl<'a> SpannedNode<'a> {
     /// Returns the node itself.
     pub fn expr(&self) -> &'a Expr
-        ensures { result.now ≡ (part_of self.now).expr }
+        ensures { result.now ≡ (spanned_of self.now).expr }
     {
         self.expr
     }
 
     /// Returns the part of the pattern that the node was parsed from, in byte offsets.
     pub fn span(&self) -> Span
-        ensures { result ≡ spec.first_span (part_of self.now).spans }
+        ensures { result ≡ spec.first_span (spanned_of self.now).spans }
     {
         match self.spans.first() {
             Some(span) => *span,
@@ -103,7 +103,7 @@ impl<'a> SpannedNode<'a> {
     /// Returns the text of the node: the part of the pattern at its span. Returns `None` if this text has no such part, as
     /// happens only if it is not the pattern that was parsed.
     pub fn text<'p>(&self, pattern: &'p str) -> Option<&'p str>
-        ensures { let span = spec.first_span (part_of self.now).spans in
+        ensures { let span = spec.first_span (spanned_of self.now).spans in
             GetsRange pattern.now span.start span.end result }
     {
         self.span().text(pattern)
@@ -112,13 +112,13 @@ impl<'a> SpannedNode<'a> {
     /// Returns an iterator over the immediate children, in the order of `Expr::children_iter`. Each step takes constant
     /// time, and nothing is allocated.
     pub fn children(&self) -> SpannedChildren<'a>
-        ensures trees { views (map (λ p. p.expr) (remaining_parts result)) ≡ children (view (part_of self.now).expr) }
-        ensures exprs { map (λ p. p.expr) (remaining_parts result) ≡ children_of (part_of self.now).expr }
-        ensures parts { remaining_parts result ≡ side_by_side (children_of (part_of self.now).expr)
-            (drop 1 (part_of self.now).spans) (drop 1 (part_of self.now).sizes) }
-        ensures whole { IsWhole (part_of self.now) → AllByRecursion IsWhole (remaining_parts result) }
-        ensures spans { IsWhole (part_of self.now) → flat_map (λ p. p.spans) (remaining_parts result) ≡
-            drop 1 (part_of self.now).spans }
+        ensures trees { views (map (λ p. p.expr) (remaining_spanned result)) ≡ children (view (spanned_of self.now).expr) }
+        ensures exprs { map (λ p. p.expr) (remaining_spanned result) ≡ children_of (spanned_of self.now).expr }
+        ensures values { remaining_spanned result ≡ side_by_side (children_of (spanned_of self.now).expr)
+            (drop 1 (spanned_of self.now).spans) (drop 1 (spanned_of self.now).sizes) }
+        ensures whole { IsWhole (spanned_of self.now) → AllByRecursion IsWhole (remaining_spanned result) }
+        ensures spans { IsWhole (spanned_of self.now) → flat_map (λ p. p.spans) (remaining_spanned result) ≡
+            drop 1 (spanned_of self.now).spans }
     {
         SpannedChildren {
             exprs: self.expr.children_iter(),
@@ -141,9 +141,9 @@ pub struct SpannedChildren<'a> {
 impl<'a> Iterator for SpannedChildren<'a> {
     type Item = SpannedNode<'a>;
 
-    ghost next_gives = { YieldsFirstBy part_of remaining_parts };
+    ghost next_gives = { YieldsFirstBy spanned_of remaining_spanned };
 
-    ghost remaining = { item_count remaining_parts };
+    ghost remaining = { item_count remaining_spanned };
 
     fn next(&mut self) -> Option<SpannedNode<'a>> {
         let expr = self.exprs.next()?;
