@@ -33,6 +33,40 @@ first_is : (t : Tree) (l : List ℕ) → first_size (sizes t ++ l) ≡ length (s
 first_is t l =
     ap (λ n. first_size (n ++ l)) (sizes_node t) ∙ sym (ap length (sizes_node t))
 
+both_halves : {A : Type 0} (P : A → Type 0) (l m : List A) → AllByRecursion P (l ++ m) →
+    AllByRecursion P l × AllByRecursion P m
+both_halves P [] m h = (tt, h)
+both_halves P (x ∷ l) m (f, g) = let (a, b) = both_halves P l m g in ((f, a), b)
+
+-- in an answered tree every node counts
+mutual
+  many_sizes : (t : Tree) → IsAnswered t → length (sizes t) ≡ length (preorder t)
+  many_sizes (leaf l) h = refl
+  many_sizes (over (label.ast_group name place) t) h = absurd h.0
+  many_sizes (over w t) h = ap suc (many_sizes t h.1)
+  many_sizes (row r ts) h = ap suc (all_many_sizes ts h.1)
+
+  all_many_sizes : (ts : Trees) → AllByRecursion IsAnsweredNode (preorder_all ts) →
+      length (sizes_all ts) ≡ length (preorder_all ts)
+  all_many_sizes no_trees h = refl
+  all_many_sizes (more_trees t ts) h =
+      let (f, g) = both_halves IsAnsweredNode (preorder t) (preorder_all ts) h in
+      omega (
+        arith,
+        length-append (sizes t) (sizes_all ts),
+        length-append (preorder t) (preorder_all ts),
+        many_sizes t f,
+        all_many_sizes ts g,
+      )
+
+-- a node of an answered tree that has as many spans as nodes
+pub whole_of_nodes : (p : Spanned) → p.sizes ≡ sizes (view p.expr) → IsAnswered (view p.expr) →
+    length p.spans ≡ length (preorder (view p.expr)) → IsWhole p
+whole_of_nodes p s a n = record {
+  sized = s;
+  spanned = n ∙ sym (many_sizes (view p.expr) a) ∙ ap length (sym s);
+}
+
 -- ---- the numbers so far, behind what stood there before, with some children left
 
 pub record Counting (t : Tree) (old now : List ℕ) (left : List Expr) : Type 0 where
