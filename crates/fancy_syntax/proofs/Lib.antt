@@ -5,6 +5,7 @@ pub mod SameLemmas
 pub mod Descents
 pub mod LoanLemmas
 pub mod WriteLemmas
+pub mod SpannedLemmas
 -- ---- the loop of the grammar
 mod TreesLemmas
 mod StepLemmas

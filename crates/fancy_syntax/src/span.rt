@@ -1,4 +1,5 @@
 //! Where a node stands in its pattern.
+ghost use Rattle.std.specs.Str.Pattern.{GetsRange};
 
 /// The part of a pattern that a node was parsed from, in byte offsets.
 #[derive(Debug, Clone, Copy, PartialEq, Eq)]
@@ -7,4 +8,14 @@ pub struct Span {
     pub start: usize,
     /// One past the offset of the last byte.
     pub end: usize,
+}
+
+impl Span {
+    /// Returns the part of the text at this span. Returns `None` if the span does not end within the text, or does not
+    /// begin and end between two of its characters.
+    pub fn text<'p>(&self, pattern: &'p str) -> Option<&'p str>
+        ensures { GetsRange pattern.now self.now.start self.now.end result }
+    {
+        pattern.get(self.start..self.end)
+    }
 }

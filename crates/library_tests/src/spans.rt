@@ -5,7 +5,9 @@ use fancy_syntax::flags::{
     FLAG_IGNORE_NUMBERED_GROUPS_WHEN_NAMED_GROUPS_EXIST, FLAG_IGNORE_SPACE, FLAG_ONIGURUMA_MODE,
     FLAG_UNICODE,
 };
-use std::alloc::Global;
+use fancy_syntax::span::Span;
+use fancy_syntax::spanned::{SpannedNode, SpannedTree};
+use std::alloc::{AllocError, Global};
 
 const NAMED: u32 = FLAG_UNICODE | FLAG_IGNORE_NUMBERED_GROUPS_WHEN_NAMED_GROUPS_EXIST;
 
@@ -142,15 +144,20 @@ static SPANS: [(u32, &str, &str); 49] = [
     ),
 ];
 
+/// Adds a span to a line of spans.
+fn push_span(alloc: Global, line: &mut String, span: Span) -> Result<(), AllocError> {
+    if !line.is_empty() {
+        line.push(' ')?;
+    }
+    line.push_str(format!(in alloc; "{}..{}", span.start, span.end)?.as_str())
+}
+
 /// Whether the nodes of the pattern's tree have these spans.
 fn has_spans(alloc: Global, flags: u32, pattern: &str, wanted: &str) -> Result<bool, Error> {
     let (_, spans) = Expr::parse_tree_with_spans(alloc, pattern, flags)?;
     let mut line = String::new(alloc);
     for span in &spans {
-        if !line.is_empty() {
-            line.push(' ')?;
-        }
-        line.push_str(format!(in alloc; "{}..{}", span.start, span.end)?.as_str())?;
+        push_span(alloc, &mut line, *span)?;
     }
     Ok(line.as_str() == wanted)
 }
@@ -168,5 +175,97 @@ fn first_other(alloc: Global) -> Result<Option<usize>, Error> {
 #[test]
 fn parse_tree_with_spans_returns_where_nodes_stand(rt: HostRuntime) -> Result<(), Error> {
     assert_eq!(rt; first_other(rt.alloc())?, None);
+    Ok(())
+}
+
+/// Flags, a pattern of three levels at most, and the span of each node of its tree.
+static WALKED: [(u32, &str, &str); 7] = [
+    (FLAG_UNICODE, "abc", "0..3 0..1 1..2 2..3"),
+    (FLAG_UNICODE, "a*+", "0..3 0..3 0..1"),
+    (
+        FLAG_UNICODE,
+        r"(?<n>a)\k<n>\1",
+        "0..14 0..7 5..6 7..12 12..14",
+    ),
+    (
+        FLAG_UNICODE,
+        "(a)(?(1)b|c)",
+        "0..12 0..3 1..2 3..12 6..7 8..9 10..11",
+    ),
+    (
+        FLAG_UNICODE,
+        "(?((?=a))b|c)",
+        "0..13 3..8 6..7 9..10 11..12",
+    ),
+    (FLAG_UNICODE, "(?~|a|b)c", "0..9 0..8 4..5 6..7 8..9"),
+    (SPACED, "a|  |b", "0..6 0..1 2..4 5..6"),
+];
+
+/// Adds the spans of a node's children, each before those of its own.
+fn push_below(alloc: Global, line: &mut String, node: SpannedNode<'_>) -> Result<(), AllocError> {
+    for child in node.children() {
+        push_span(alloc, line, child.span())?;
+        for inner in child.children() {
+            push_span(alloc, line, inner.span())?;
+        }
+    }
+    Ok(())
+}
+
+/// Whether a walk meets nodes with these spans.
+fn is_walked(alloc: Global, flags: u32, pattern: &str, wanted: &str) -> Result<bool, Error> {
+    let parsed = SpannedTree::parse(alloc, pattern, flags)?;
+    let root = parsed.root();
+    let mut line = String::new(alloc);
+    push_span(alloc, &mut line, root.span())?;
+    push_below(alloc, &mut line, root)?;
+    Ok(line.as_str() == wanted && *root.expr() == parsed.tree.expr)
+}
+
+#[test]
+fn a_walk_meets_each_node_with_its_span(rt: HostRuntime) -> Result<(), Error> {
+    for (flags, pattern, spans) in WALKED.iter() {
+        assert_eq!(rt; is_walked(rt.alloc(), *flags, pattern, spans)?, true);
+    }
+    Ok(())
+}
+
+/// The texts of the children that have one in the pattern, with a bar behind each.
+fn texts_of_children(
+    alloc: Global,
+    node: SpannedNode<'_>,
+    pattern: &str,
+) -> Result<String, AllocError> {
+    let mut texts = String::new(alloc);
+    for child in node.children() {
+        if let Some(text) = child.text(pattern) {
+            texts.push_str(text)?;
+            texts.push('|')?;
+        }
+    }
+    Ok(texts)
+}
+
+#[test]
+fn nodes_have_their_text(rt: HostRuntime) -> Result<(), Error> {
+    let pattern = "(?<n>a)*\u{e9}(?i)b";
+    let parsed = SpannedTree::parse(rt.alloc(), pattern, FLAG_UNICODE)?;
+    let root = parsed.root();
+    let texts = texts_of_children(rt.alloc(), root, pattern)?;
+    assert_eq!(rt; texts.as_str(), "(?<n>a)*|\u{e9}|b|");
+    let others = texts_of_children(rt.alloc(), root, "(?<n>a)*x\u{e9}")?;
+    assert_eq!(rt; others.as_str(), "(?<n>a)*|");
+    Ok(())
+}
+
+#[test]
+fn nodes_that_were_added_have_no_span(rt: HostRuntime) -> Result<(), Error> {
+    let mut parsed = SpannedTree::parse(rt.alloc(), "ab", FLAG_UNICODE)?;
+    if let Expr::Concat(children) = &mut parsed.tree.expr {
+        children.push(Expr::Empty)?;
+    }
+    let mut line = String::new(rt.alloc());
+    push_below(rt.alloc(), &mut line, parsed.root())?;
+    assert_eq!(rt; line.as_str(), "0..1 1..2 0..0");
     Ok(())
 }

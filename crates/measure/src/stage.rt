@@ -12,6 +12,8 @@ pub(crate) enum Stage {
     Decode,
     /// The pattern is read.
     Read,
+    /// The pattern is read with the spans of its nodes; no stage after this one does so.
+    Locate,
     /// The text of the tree is made by `to_pattern`.
     Write,
     /// The tree is asked whether it is printable.
@@ -26,6 +28,7 @@ impl Stage {
         Some(match mode {
             "none" => Stage::Decode,
             "parse" => Stage::Read,
+            "spans" => Stage::Locate,
             "pattern" => Stage::Write,
             "printable" => Stage::Ask,
             "text" => Stage::Print,
@@ -33,18 +36,30 @@ impl Stage {
         })
     }
 
-    /// The bytes of the pattern where it is only decoded; 1 where it is read, or is printable; the bytes of its tree's
-    /// text where that is made. 0 where the pattern has a fault, or its tree is not printable.
+    /// The bytes of the pattern where it is only decoded; 1 where it is read, or is printable; the spans of its nodes, or
+    /// the bytes of its tree's text, where these are made. 0 where the pattern has a fault, or its tree is not printable.
     pub(crate) fn amount(self, alloc: Global, sample: &Sample) -> Result<usize> {
         let [word, pattern] = &sample.words;
         let flags = flags_named(word.as_str()).context("no flags")?;
-        if let Stage::Decode = self {
-            return Ok(pattern.len());
-        }
-        match Expr::parse_tree_with_flags(alloc, pattern.as_str(), flags) {
-            Ok(tree) => Ok(self.amount_of_tree(alloc, &tree, flags)?),
+        match self.amount_under(alloc, pattern.as_str(), flags) {
+            Ok(amount) => Ok(amount),
             Err(Error::OutOfMemory) => bail!("out of memory"),
             Err(Error::ParseError(_, _)) => Ok(0),
+        }
+    }
+
+    /// The same of a pattern that has no fault.
+    fn amount_under(self, alloc: Global, pattern: &str, flags: u32) -> Result<usize, Error> {
+        match self {
+            Stage::Decode => Ok(pattern.len()),
+            Stage::Locate => {
+                let (_, spans) = Expr::parse_tree_with_spans(alloc, pattern, flags)?;
+                Ok(spans.len())
+            }
+            Stage::Read | Stage::Write | Stage::Ask | Stage::Print => {
+                let tree = Expr::parse_tree_with_flags(alloc, pattern, flags)?;
+                Ok(self.amount_of_tree(alloc, &tree, flags)?)
+            }
         }
     }
 
@@ -59,7 +74,7 @@ impl Stage {
             Stage::Write => Ok(tree.to_pattern(alloc, flags)?.map_or(0, |text| text.len())),
             Stage::Ask => Ok(usize::from(tree.expr.is_printable(alloc)?)),
             Stage::Print => Ok(tree.expr.print(alloc, WHOLE)?.map_or(0, |text| text.len())),
-            Stage::Decode | Stage::Read => Ok(1),
+            Stage::Decode | Stage::Read | Stage::Locate => Ok(1),
         }
     }
 }

@@ -7,6 +7,7 @@ mod groups;
 mod places;
 mod printing;
 mod proved;
+mod spans;
 mod summary;
 mod walks;
 
@@ -16,10 +17,11 @@ use crate::groups::{calls_nothing, group_named};
 use crate::places::pointed;
 use crate::printing::in_a_row;
 use crate::proved::{formatted, group_count};
+use crate::spans::push_nested_repeats;
 use crate::summary::summary;
 use crate::walks::{push_literals, repeats_without_bound};
 use anyhow::Result;
-use fancy_syntax::{Expr, ExprTree};
+use fancy_syntax::{Expr, ExprTree, FLAG_UNICODE, SpannedTree};
 
 fn show_summary(rt: &HostRuntime, pattern: &str) -> Result<()> {
     let (groups, text) = summary(rt.alloc(), pattern)?;
@@ -77,6 +79,15 @@ fn show_pattern(rt: &HostRuntime, pattern: &str) -> Result<()> {
     show_tree(rt, &tree)
 }
 
+fn show_nested_repeats(rt: &HostRuntime, pattern: &str) -> Result<()> {
+    let parsed = SpannedTree::parse(rt.alloc(), pattern, FLAG_UNICODE)?;
+    let mut lines = String::new(rt.alloc());
+    push_nested_repeats(rt.alloc(), &mut lines, pattern, parsed.root(), false)?;
+    println!(rt; "{pattern}")?;
+    print!(rt; "{lines}")?;
+    Ok(())
+}
+
 fn show_change(rt: &HostRuntime) -> Result<()> {
     let mut tree = Expr::parse_tree(rt.alloc(), "a|b")?.expr;
     if replace_child(&mut tree, 1, Expr::Empty) {
@@ -121,6 +132,7 @@ fn main(rt: HostRuntime) -> Result<()> {
     for pattern in PATTERNS.iter() {
         show_pattern(&rt, pattern)?;
     }
+    show_nested_repeats(&rt, r"(?:\w+\s?)*(?:-\d+)+$")?;
     show_change(&rt)?;
     show_rewritten(&rt, DATE, 1)?;
     show_rewritten(&rt, DATE, 0)?;
