@@ -3,5 +3,6 @@
 
 mod fault;
 pub mod flag_word;
+pub mod names;
 pub mod program;
 mod report;

@@ -1,7 +1,8 @@
 //! The lines that say what a pattern reads as. Each ends with LF.
+use crate::names::{absent_name, assertion_name, look_around_name, node_name, verb_name};
 use fancy_lex::escape::Assertion;
 use fancy_lex::name::CaptureGroupTarget;
-use fancy_syntax::expr::{Absent, AstNode, BacktrackingControlVerb, Expr, LookAround};
+use fancy_syntax::expr::{AstNode, Expr};
 use fancy_syntax::tree::ExprTree;
 use std::collections::{BTreeMap, BTreeSet};
 use std::io::Write;
@@ -103,86 +104,23 @@ impl fmt::Display for Target<'_> {
     }
 }
 
-fn look_around_name(look_around: LookAround) -> &'static str {
-    match look_around {
-        LookAround::LookAhead => "LookAhead",
-        LookAround::LookAheadNeg => "LookAheadNeg",
-        LookAround::LookBehind => "LookBehind",
-        LookAround::LookBehindNeg => "LookBehindNeg",
+/// The field of an assertion that has one.
+fn crlf_of(assertion: Assertion) -> Option<bool> {
+    match assertion {
+        Assertion::EndTextIgnoreTrailingNewlines { crlf }
+        | Assertion::StartLine { crlf }
+        | Assertion::StartLineOniguruma { crlf }
+        | Assertion::EndLine { crlf } => Some(crlf),
+        _ => None,
     }
 }
 
-fn verb_name(verb: BacktrackingControlVerb) -> &'static str {
-    match verb {
-        BacktrackingControlVerb::Fail => "Fail",
-        BacktrackingControlVerb::Accept => "Accept",
-        BacktrackingControlVerb::Commit => "Commit",
-        BacktrackingControlVerb::Skip => "Skip",
-        BacktrackingControlVerb::Prune => "Prune",
-    }
-}
-
-fn absent_name(absent: &Absent) -> &'static str {
-    match absent {
-        Absent::Repeater(_) => "Repeater",
-        Absent::Expression { .. } => "Expression",
-        Absent::Stopper(_) => "Stopper",
-        Absent::Clear => "Clear",
-    }
-}
-
-/// An assertion's name, with its field where it has one.
-#[derive(Clone, Copy)]
-struct AssertionText(Assertion);
-
-impl fmt::Display for AssertionText {
-    fn fmt<W: fmt::Write>(&self, f: &mut fmt::Formatter<W>) -> fmt::Result {
-        match self.0 {
-            Assertion::StartText => f.write_str("StartText"),
-            Assertion::EndText => f.write_str("EndText"),
-            Assertion::EndTextIgnoreTrailingNewlines { crlf } => {
-                write!(f, "EndTextIgnoreTrailingNewlines crlf={crlf}")
-            }
-            Assertion::StartLine { crlf } => write!(f, "StartLine crlf={crlf}"),
-            Assertion::StartLineOniguruma { crlf } => write!(f, "StartLineOniguruma crlf={crlf}"),
-            Assertion::EndLine { crlf } => write!(f, "EndLine crlf={crlf}"),
-            Assertion::LeftWordBoundary => f.write_str("LeftWordBoundary"),
-            Assertion::LeftWordHalfBoundary => f.write_str("LeftWordHalfBoundary"),
-            Assertion::RightWordBoundary => f.write_str("RightWordBoundary"),
-            Assertion::RightWordHalfBoundary => f.write_str("RightWordHalfBoundary"),
-            Assertion::WordBoundary => f.write_str("WordBoundary"),
-            Assertion::NotWordBoundary => f.write_str("NotWordBoundary"),
-        }
-    }
-}
-
-/// The name of a node's variant.
-fn node_name(node: &Expr) -> &'static str {
-    match node {
-        Expr::Empty => "Empty",
-        Expr::Any { .. } => "Any",
-        Expr::Assertion(_) => "Assertion",
-        Expr::GeneralNewline { .. } => "GeneralNewline",
-        Expr::Literal { .. } => "Literal",
-        Expr::LiteralBytes { .. } => "LiteralBytes",
-        Expr::Concat(_) => "Concat",
-        Expr::Alt(_) => "Alt",
-        Expr::Group(_) => "Group",
-        Expr::LookAround(_, _) => "LookAround",
-        Expr::Repeat { .. } => "Repeat",
-        Expr::Delegate { .. } => "Delegate",
-        Expr::Backref { .. } => "Backref",
-        Expr::BackrefWithRelativeRecursionLevel { .. } => "BackrefWithRelativeRecursionLevel",
-        Expr::AtomicGroup(_) => "AtomicGroup",
-        Expr::KeepOut => "KeepOut",
-        Expr::ContinueFromPreviousMatchEnd => "ContinueFromPreviousMatchEnd",
-        Expr::BackrefExistsCondition { .. } => "BackrefExistsCondition",
-        Expr::Conditional { .. } => "Conditional",
-        Expr::SubroutineCall(_) => "SubroutineCall",
-        Expr::BacktrackingControlVerb(_) => "BacktrackingControlVerb",
-        Expr::Absent(_) => "Absent",
-        Expr::DefineGroup { .. } => "DefineGroup",
-        Expr::AstNode(_, _) => "AstNode",
+/// Writes an assertion's name, with its field where it has one.
+fn write_assertion<W: fmt::Write>(f: &mut fmt::Formatter<W>, assertion: Assertion) -> fmt::Result {
+    write!(f, " {}", assertion_name(assertion))?;
+    match crlf_of(assertion) {
+        Some(crlf) => write!(f, " crlf={crlf}"),
+        None => Ok(()),
     }
 }
 
@@ -224,7 +162,7 @@ impl fmt::Display for Fields<'_> {
     fn fmt<W: fmt::Write>(&self, f: &mut fmt::Formatter<W>) -> fmt::Result {
         match self.0 {
             Expr::Any { newline, crlf } => write!(f, " newline={newline} crlf={crlf}"),
-            Expr::Assertion(assertion) => write!(f, " {}", AssertionText(*assertion)),
+            Expr::Assertion(assertion) => write_assertion(f, *assertion),
             Expr::GeneralNewline { unicode } => write!(f, " unicode={unicode}"),
             Expr::Literal { val, casei } => write_text_fields(f, val, *casei),
             Expr::LiteralBytes { bytes } => write!(f, " {}", Hex(bytes)),

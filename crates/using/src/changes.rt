@@ -6,7 +6,7 @@ ghost use Rattle.using.specs.Forms.{HasMarksOf};
 use fancy_syntax::{Error, Expr, FLAG_UNICODE};
 use std::alloc::Global;
 
-/// Puts a tree in the place of the child i, and answers whether there is such a child.
+/// Replaces the child i by a tree, and returns whether there is such a child.
 pub fn replace_child(tree: &mut Expr, i: usize, new: Expr) -> bool {
     match tree.child_mut(i) {
         Some(child) => {
@@ -17,8 +17,8 @@ pub fn replace_child(tree: &mut Expr, i: usize, new: Expr) -> bool {
     }
 }
 
-/// The pattern with the child i of its tree replaced; none where there is no such child, or where what is said of groups
-/// and references would change.
+/// The pattern with the child i of its tree replaced; `None` if there is no such child, or if the group information would
+/// change.
 pub fn with_child(
     alloc: Global,
     pattern: &str,

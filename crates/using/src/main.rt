@@ -2,9 +2,9 @@
 #![tactic(auto)]
 
 mod changes;
-mod faults;
+mod errors;
 mod groups;
-mod places;
+mod positions;
 mod printing;
 mod proved;
 mod spans;
@@ -12,9 +12,9 @@ mod summary;
 mod walks;
 
 use crate::changes::{replace_child, with_child};
-use crate::faults::{REFUSED, fault};
+use crate::errors::{INVALID, first_error};
 use crate::groups::{calls_nothing, group_named};
-use crate::places::pointed;
+use crate::positions::pointed;
 use crate::printing::in_a_row;
 use crate::proved::{formatted, group_count};
 use crate::spans::push_nested_repeats;
@@ -32,10 +32,10 @@ fn show_summary(rt: &HostRuntime, pattern: &str) -> Result<()> {
     Ok(())
 }
 
-fn show_fault(rt: &HostRuntime, pattern: &str, flags: u32) -> Result<()> {
-    if let Some((place, kind)) = fault(rt.alloc(), pattern, flags)? {
-        println!(rt; "{}", pointed(rt.alloc(), pattern, place)?)?;
-        println!(rt; "byte {place}: {kind}")?;
+fn show_error(rt: &HostRuntime, pattern: &str, flags: u32) -> Result<()> {
+    if let Some((position, kind)) = first_error(rt.alloc(), pattern, flags)? {
+        println!(rt; "{}", pointed(rt.alloc(), pattern, position)?)?;
+        println!(rt; "byte {position}: {kind}")?;
     }
     Ok(())
 }
@@ -126,8 +126,8 @@ static PATTERNS: [&str; 4] = ["x(y|z)*", r"(?<day>\d)-\k<day>", r"(a)\g<day>", "
 fn main(rt: HostRuntime) -> Result<()> {
     show_summary(&rt, "(a|b)c*")?;
     show_summary(&rt, r"(a)\1")?;
-    for (pattern, flags) in REFUSED.iter() {
-        show_fault(&rt, pattern, *flags)?;
+    for (pattern, flags) in INVALID.iter() {
+        show_error(&rt, pattern, *flags)?;
     }
     for pattern in PATTERNS.iter() {
         show_pattern(&rt, pattern)?;

@@ -2,7 +2,7 @@
 use fancy_syntax::{Expr, PIECE};
 use std::alloc::{AllocError, Global};
 
-/// The text of the two trees in a row; none where one of them is not printable.
+/// The text of the two trees in a row; `None` if one of them is not printable.
 pub fn in_a_row(alloc: Global, first: &Expr, second: &Expr) -> Result<Option<String>, AllocError> {
     let Some(mut text) = first.print(alloc, PIECE)? else {
         return Ok(None);

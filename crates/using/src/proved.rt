@@ -10,7 +10,7 @@ ghost use Rattle.using.specs.Forms.{IsFormOf, HasNoForm};
 use fancy_syntax::{Error, Expr, FLAG_UNICODE, WHOLE};
 use std::alloc::Global;
 
-/// The text that the pattern prints as; none where its tree is not printable.
+/// The text that the pattern prints as; `None` if its tree is not printable.
 pub fn formatted(alloc: Global, pattern: &str) -> Result<Option<String>, Error>
     ensures form { IfOk result (λ text. MatchOption text (HasNoForm (flags_of FLAG_UNICODE) (chars pattern.now))
         (λ s. IsFormOf (flags_of FLAG_UNICODE) (chars pattern.now) (string_bytes s))) }

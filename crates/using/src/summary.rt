@@ -2,7 +2,7 @@
 use fancy_syntax::{Error, Expr, WHOLE};
 use std::alloc::Global;
 
-/// How many groups the pattern has, and its text as it prints; no text where its tree is not printable.
+/// How many groups the pattern has, and its text as it prints; `None` for the text if its tree is not printable.
 pub fn summary(alloc: Global, pattern: &str) -> Result<(usize, Option<String>), Error> {
     let tree = Expr::parse_tree(alloc, pattern)?;
     let text = tree.expr.print(alloc, WHOLE)?;

@@ -1,9 +1,9 @@
-//! Every kind of fault.
+//! Every kind of error.
 use fancy_syntax::{Error, Expr, FLAG_ONIGURUMA_MODE, FLAG_UNICODE, ParseError};
 use std::alloc::Global;
 
-/// A pattern or more for each kind, with the flags that it is read under; and two whose places are no columns.
-pub static REFUSED: [(&str, u32); 19] = [
+/// A pattern or more for each kind, with the flags that it is parsed under; and two whose positions are no columns.
+pub static INVALID: [(&str, u32); 19] = [
     ("a)", FLAG_UNICODE),
     ("(?(a))", FLAG_UNICODE),
     ("(?~|a|b|c)", FLAG_UNICODE),
@@ -25,15 +25,15 @@ pub static REFUSED: [(&str, u32); 19] = [
     (r"(?#\", FLAG_UNICODE),
 ];
 
-/// Where the pattern is refused, and why; none where it has a tree.
-pub fn fault(
+/// The position and the kind of the pattern's error; `None` if it has a tree.
+pub fn first_error(
     alloc: Global,
     pattern: &str,
     flags: u32,
 ) -> Result<Option<(usize, ParseError)>, Error> {
     match Expr::parse_tree_with_flags(alloc, pattern, flags) {
         Ok(_) => Ok(None),
-        Err(Error::ParseError(place, kind)) => Ok(Some((place, kind))),
+        Err(Error::ParseError(position, kind)) => Ok(Some((position, kind))),
         Err(Error::OutOfMemory) => Err(Error::OutOfMemory),
     }
 }

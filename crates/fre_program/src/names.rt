@@ -1,0 +1,82 @@
+//! The names of the variants of a tree, as `Expr` has them.
+use fancy_lex::escape::Assertion;
+use fancy_syntax::expr::{Absent, BacktrackingControlVerb, Expr, LookAround};
+
+/// Returns the name of a node's variant, as `Literal`.
+pub fn node_name(node: &Expr) -> &'static str {
+    match node {
+        Expr::Empty => "Empty",
+        Expr::Any { .. } => "Any",
+        Expr::Assertion(_) => "Assertion",
+        Expr::GeneralNewline { .. } => "GeneralNewline",
+        Expr::Literal { .. } => "Literal",
+        Expr::LiteralBytes { .. } => "LiteralBytes",
+        Expr::Concat(_) => "Concat",
+        Expr::Alt(_) => "Alt",
+        Expr::Group(_) => "Group",
+        Expr::LookAround(_, _) => "LookAround",
+        Expr::Repeat { .. } => "Repeat",
+        Expr::Delegate { .. } => "Delegate",
+        Expr::Backref { .. } => "Backref",
+        Expr::BackrefWithRelativeRecursionLevel { .. } => "BackrefWithRelativeRecursionLevel",
+        Expr::AtomicGroup(_) => "AtomicGroup",
+        Expr::KeepOut => "KeepOut",
+        Expr::ContinueFromPreviousMatchEnd => "ContinueFromPreviousMatchEnd",
+        Expr::BackrefExistsCondition { .. } => "BackrefExistsCondition",
+        Expr::Conditional { .. } => "Conditional",
+        Expr::SubroutineCall(_) => "SubroutineCall",
+        Expr::BacktrackingControlVerb(_) => "BacktrackingControlVerb",
+        Expr::Absent(_) => "Absent",
+        Expr::DefineGroup { .. } => "DefineGroup",
+        Expr::AstNode(_, _) => "AstNode",
+    }
+}
+
+/// Returns the name of an assertion, as `StartText`.
+pub fn assertion_name(assertion: Assertion) -> &'static str {
+    match assertion {
+        Assertion::StartText => "StartText",
+        Assertion::EndText => "EndText",
+        Assertion::EndTextIgnoreTrailingNewlines { .. } => "EndTextIgnoreTrailingNewlines",
+        Assertion::StartLine { .. } => "StartLine",
+        Assertion::StartLineOniguruma { .. } => "StartLineOniguruma",
+        Assertion::EndLine { .. } => "EndLine",
+        Assertion::LeftWordBoundary => "LeftWordBoundary",
+        Assertion::LeftWordHalfBoundary => "LeftWordHalfBoundary",
+        Assertion::RightWordBoundary => "RightWordBoundary",
+        Assertion::RightWordHalfBoundary => "RightWordHalfBoundary",
+        Assertion::WordBoundary => "WordBoundary",
+        Assertion::NotWordBoundary => "NotWordBoundary",
+    }
+}
+
+/// Returns the name of a kind of look-around, as `LookAhead`.
+pub fn look_around_name(look_around: LookAround) -> &'static str {
+    match look_around {
+        LookAround::LookAhead => "LookAhead",
+        LookAround::LookAheadNeg => "LookAheadNeg",
+        LookAround::LookBehind => "LookBehind",
+        LookAround::LookBehindNeg => "LookBehindNeg",
+    }
+}
+
+/// Returns the name of a backtracking control verb, as `Fail`.
+pub fn verb_name(verb: BacktrackingControlVerb) -> &'static str {
+    match verb {
+        BacktrackingControlVerb::Fail => "Fail",
+        BacktrackingControlVerb::Accept => "Accept",
+        BacktrackingControlVerb::Commit => "Commit",
+        BacktrackingControlVerb::Skip => "Skip",
+        BacktrackingControlVerb::Prune => "Prune",
+    }
+}
+
+/// Returns the name of an absent form, as `Repeater`.
+pub fn absent_name(absent: &Absent) -> &'static str {
+    match absent {
+        Absent::Repeater(_) => "Repeater",
+        Absent::Expression { .. } => "Expression",
+        Absent::Stopper(_) => "Stopper",
+        Absent::Clear => "Clear",
+    }
+}
