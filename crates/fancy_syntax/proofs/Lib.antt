@@ -12,6 +12,7 @@ mod MachineLemmas
 mod RoomLemmas
 mod ShownLemmas
 mod TreeLemmas
+mod NotingLemmas
 -- ---- the resolver
 pub mod WalkLemmas
 pub mod NoItems

@@ -39,6 +39,7 @@ pub mod Machine
 pub mod Room
 pub mod Log
 pub mod LogViews
+pub mod Noting
 -- ---- the resolver's walks
 pub mod Notes
 -- ---- the writing of texts
