@@ -13,6 +13,7 @@ mod RoomLemmas
 mod ShownLemmas
 mod TreeLemmas
 mod NotingLemmas
+mod NotingLaws
 -- ---- the resolver
 pub mod WalkLemmas
 pub mod NoItems

@@ -267,3 +267,18 @@ module _ (named : Bool) where
             (and_then o (λ b v. if v.flags.oniguruma_mode then adjacent max_adjacent d b v else done b v))
         by_first (done b v) i = by_mode v.flags.oniguruma_mode b v i
         by_first (fault k p) i = tt
+
+-- ---- the steps of adjacent quantifiers
+
+-- no byte more
+pub noted_ends : (k : ℕ) (a : Tree) (s : State) (l : Log) {b : Tree} {t : State} →
+    quant (bytes s.rest) a s ≡ done b t → is_unmoved s t ≡ true → adjacent_noted k a s l ≡ quant_noted a s l
+noted_ends zero a s l e u = refl
+noted_ends (suc k) a s l e u = rw (e, u) refl
+
+-- one more
+pub noted_counts : (k j : ℕ) (a : Tree) (s : State) (l : Log) {b : Tree} {t : State} →
+    quant (bytes s.rest) a s ≡ done b t → is_unmoved s t ≡ false → k ≡ j + 1 →
+    adjacent_noted k a s l ≡ adjacent_noted j b t (quant_noted a s l)
+noted_counts zero j a s l e u i = absurd (omega (arith, i))
+noted_counts (suc k) j a s l e u i = let same : k ≡ j = omega arith in rw (e, u, same) refl
