@@ -1,4 +1,4 @@
-use Rattle.fancy_syntax.proofs.NotingLaws.{part_begins}
+use Rattle.fancy_syntax.proofs.NotingLaws.{whole_noted}
 use Rattle.std.proofs.Common.{◌∙◌, [], ◌∷◌, ◌++◌, ap}
 use Rattle.std.proofs.lemmas.Str.{chars-nil, IsUtf8-nil}
 use Rattle.fancy_lex.specs.Text.{Text}
