@@ -40,6 +40,7 @@ pub mod Room
 pub mod Log
 pub mod LogViews
 pub mod Noting
+pub mod NotedWhole
 -- ---- the resolver's walks
 pub mod Notes
 -- ---- the writing of texts

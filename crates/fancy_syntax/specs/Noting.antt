@@ -1,14 +1,14 @@
 -- What is noted of the places of nodes once a text is read: the events of the log in the order of the derivation.
-use Rattle.std.specs.Prelude.{ℕ, zero, suc, ◌+◌, Bool, true, false, ◌||◌, ◌&&◌, List, [], ◌∷◌, length, Option, None}
+use Rattle.std.specs.Prelude.{◌≡◌, ℕ, zero, suc, ◌+◌, Bool, true, false, ◌||◌, ◌&&◌, List, [], ◌∷◌, length, Option, None}
 use Rattle.std.specs.Prelude.{if◌then◌else◌}
 use Rattle.std.specs.Option.{option_and_then}
-use Rattle.fancy_lex.specs.LayoutSteps.{past_layout}
+use Rattle.fancy_lex.specs.LayoutSteps.{Skipped, rest, fault as open_comment, past_layout}
 use Rattle.fancy_lex.specs.Reading.{choose}
 use Rattle.fancy_lex.specs.Text.{Text, bytes, reach_of}
 use Rattle.fancy_lex.specs.declared.flags.Flags.{Flags}
 use Rattle.fancy_parts.specs.Quantifier.{counts}
 use Rattle.fancy_parts.specs.declared.counts.Counts.{Counts}
-use Rattle.fancy_grammar.specs.Ahead.{Ahead}
+use Rattle.fancy_grammar.specs.Ahead.{Ahead, nothing, read, with_head, condition, body, absent_branch, ahead}
 use Rattle.fancy_grammar.specs.Grammar.{Alternation, alternation, Branches, last, more, branch_fault, Branch, branch}
 use Rattle.fancy_grammar.specs.Grammar.{Pieces, stop, next, piece_fault, Piece, piece, layout_fault, Atom, atom, AtomOf}
 use Rattle.fancy_grammar.specs.Grammar.{a_nothing, a_read, a_group, a_condition, condition_fault, a_body, two_branches}
@@ -17,8 +17,8 @@ use Rattle.fancy_grammar.specs.Head.{Head, capture, scope}
 use Rattle.fancy_grammar.specs.Join.{is_empty, solid}
 use Rattle.fancy_grammar.specs.Quantified.{quant, suffix, Suffix, is_repeatable, is_swapped, is_unmoved, max_adjacent}
 use Rattle.fancy_grammar.specs.Spans.{end_of, if_done, quantifier_end}
-use Rattle.fancy_grammar.specs.State.{State, at, Outcome}
-use Rattle.fancy_grammar.specs.Tree.{Tree, alt, list_of}
+use Rattle.fancy_grammar.specs.State.{State, at, skipped, Outcome, done}
+use Rattle.fancy_grammar.specs.Tree.{Tree, alt, list_of, empty}
 use Rattle.fancy_syntax.specs.Log.{Log, leaf_noted, left_out, wrapped, opened, body_opened, part_begun, branch_begun}
 use Rattle.fancy_syntax.specs.Log.{branch_ended, choice_ended, body_split, branch_lacked, part_dropped, atom_closed}
 use Rattle.fancy_syntax.specs.Log.{atom_ended}
@@ -135,3 +135,39 @@ abbrev mutual
   pub body_noted : {d : ℕ} {c : Tree} {s : State} {o : Outcome Tree} → Body d c s o → Log → Log
   body_noted {o} (the_body {q} a) l =
       let m = alternation_noted a l in if_done q (λ r v. conditional_noted r (reach_of v.rest) (end_of o) m) m
+
+-- ---- derivations with what was noted before and is noted behind
+
+abbrev pub PieceTo : ℕ → State → Outcome Tree → Log → Log → Type 0
+PieceTo d s o l m = (a : Piece d s o) × (piece_noted a l ≡ m)
+
+abbrev pub PiecesTo : ℕ → State → Outcome (List Tree) → Log → Log → Type 0
+PiecesTo d s o l m = (a : Pieces d s o) × (pieces_noted a l ≡ m)
+
+abbrev pub BranchTo : ℕ → State → Outcome Tree → Log → Log → Type 0
+BranchTo d s o l m = (a : Branch d s o) × (branch_noted a l ≡ m)
+
+abbrev pub BranchesTo : ℕ → State → Outcome (List Tree) → Log → Log → Type 0
+BranchesTo d s o l m = (a : Branches d s o) × (branches_noted a l ≡ m)
+
+abbrev pub AlternationTo : ℕ → State → Outcome Tree → Log → Log → Type 0
+AlternationTo d s o l m = (a : Alternation d s o) × (alternation_noted a l ≡ m)
+
+-- ---- the steps of the loop
+
+-- behind what stands ahead: a piece, or the opening of a part; so many bytes were left where the piece began
+abbrev pub ahead_noted : ℕ → State → Ahead → Log → Log
+ahead_noted left s nothing l = quants_noted left (done empty s) (leaf_noted (reach_of s.rest) (reach_of s.rest) l)
+ahead_noted left s (read o) l = quants_noted left o (leaf_noted (reach_of s.rest) (end_of o) l)
+ahead_noted left s (with_head h t) l = opened (reach_of s.rest) (reach_of t.rest) l
+ahead_noted left s (condition t) l = opened (reach_of s.rest) (reach_of t.rest) l
+ahead_noted left s (body c t) l = body_opened s t l
+ahead_noted left s (absent_branch t) l = opened (reach_of s.rest) (reach_of t.rest) l
+
+-- behind the layout before a piece
+abbrev pub skipped_noted : ℕ → State → Skipped → Log → Log
+skipped_noted d s (rest u) l = ahead_noted (bytes s.rest) (at s u) (ahead d (at s u)) l
+skipped_noted d s (open_comment p) l = l
+
+abbrev pub step_noted : ℕ → State → Log → Log
+step_noted d s l = skipped_noted d s (skipped s) l
