@@ -9,6 +9,7 @@ pub mod WriteLemmas
 mod TreesLemmas
 mod StepLemmas
 mod MachineLemmas
+mod PlainLaws
 mod RoomLemmas
 mod ShownLemmas
 mod TreeLemmas

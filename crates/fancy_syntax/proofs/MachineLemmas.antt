@@ -19,14 +19,19 @@ use Rattle.fancy_grammar.specs.Grammar.{piece_fault, Piece, piece, layout_fault,
 use Rattle.fancy_grammar.specs.Grammar.{condition_fault, two_branches, one_branch, absent_fault, closed, closed_at}
 use Rattle.fancy_grammar.specs.Grammar.{more, next, restored, conditional_behind, clear_or_stopper, Pieces, Branches}
 use Rattle.fancy_grammar.specs.Grammar as grammar
-use Rattle.fancy_grammar.specs.Join.{solid, one_or, choice}
+use Rattle.fancy_grammar.specs.Join.{solid, one_or, choice, is_empty}
 use Rattle.fancy_grammar.specs.Spans.{end_of}
 use Rattle.fancy_syntax.specs.Log.{Log, part_begun, branch_begun, branch_ended, atom_closed}
 use Rattle.fancy_syntax.specs.Noting.{PieceTo, PiecesTo, BranchTo, BranchesTo, AlternationTo, piece_noted, pieces_noted}
 use Rattle.fancy_syntax.specs.Noting.{branches_noted, atom_noted, inside_noted, quants_noted, group_noted}
 use Rattle.fancy_syntax.specs.Noting.{conditional_noted, stopper_noted, choice_noted, added}
 use Rattle.fancy_syntax.specs.View.{view}
-use Rattle.fancy_syntax.specs.Machine.{part_noted, taken_noted}
+use Rattle.fancy_grammar.specs.Ahead.{Ahead, nothing, read, ahead}
+use Rattle.fancy_grammar.specs.Grammar.{a_nothing, a_read}
+use Rattle.fancy_syntax.specs.Log.{leaf_noted, left_out}
+use Rattle.fancy_syntax.specs.Machine.{IsNotedPlain}
+use Rattle.fancy_syntax.specs.Noting.{ahead_noted, skipped_noted, step_noted}
+use Rattle.fancy_syntax.specs.Machine.{part_noted, close_noted, taken_noted}
 use Rattle.fancy_syntax.specs.Machine.{OpenPart, top, group, condition, body, first, second, part_of, holds_one}
 use Rattle.fancy_syntax.specs.Machine.{is_second, opened_by_bar, branches_at_bar, IsFaultOfBar, Part, OpensPart}
 use Rattle.fancy_syntax.specs.Machine.{a_group}
@@ -39,7 +44,7 @@ use Rattle.fancy_grammar.specs.Head.{group_node}
 use Rattle.fancy_grammar.specs.Quantified.{quants}
 use Rattle.fancy_grammar.specs.Errors.{IsErrorAmong}
 use Rattle.fancy_grammar.specs.State.{ends, skipped, State, at, Outcome, done, fault, faulted, and_then, seen_through}
-use Rattle.fancy_grammar.specs.Tree.{Tree, concat, expression}
+use Rattle.fancy_grammar.specs.Tree.{Tree, concat, empty, expression}
 use Rattle.fancy_syntax.specs.declared.grammar.frame.Frame.{Frame}
 use Rattle.fancy_syntax.specs.declared.grammar.step.Step.{Step}
 use Rattle.fancy_syntax.specs.declared.grammar.step.Step.TheVariants as step
@@ -73,6 +78,45 @@ steps_piece s n (Ok (step.Open opener)) v i k x h j = absurd h
 steps_piece {d} {left} s {t} {a = tree} n (Err e) v i k (x, y) h j =
     IsErrorAmong-map (λ o. quants d left tree t ≡ o) (Piece d s) e
     (λ c p g. piece_as k x (subst (λ z. quants d z tree t ≡ fault c p) i g)) h
+
+-- what a step notes is told by what stands ahead
+pub step_ahead : (d : ℕ) (s : State) {u : Text} {k : Ahead} (l : Log) → skipped s ≡ rest u → ahead d (at s u) ≡ k →
+    step_noted d s l ≡ ahead_noted (bytes s.rest) (at s u) k l
+step_ahead d s {u} l i e =
+    ap (λ z. skipped_noted d s z l) i ∙ ap (λ k. ahead_noted (bytes s.rest) (at s u) k l) e
+
+pub read_noted : (d left : ℕ) (s : State) {t : State} {u : Text} {a : Tree} (l : Log) → left ≡ bytes s.rest →
+    skipped s ≡ rest u → ahead d (at s u) ≡ read (done a t) →
+    quants_noted left (done a t) (leaf_noted (reach_of u) (reach_of t.rest) l) ≡ step_noted d s l
+read_noted d left s {t} {u} {a} l i k e =
+    sym (step_ahead d s l k e
+    ∙ ap (λ z. quants_noted z (done a t) (leaf_noted (reach_of u) (reach_of t.rest) l)) (sym i))
+
+pub nothing_noted : (d left : ℕ) (s : State) {u : Text} (l : Log) → left ≡ bytes s.rest →
+    skipped s ≡ rest u → ahead d (at s u) ≡ nothing →
+    quants_noted left (done empty (at s u)) (leaf_noted (reach_of u) (reach_of u) l) ≡ step_noted d s l
+nothing_noted d left s {u} l i k e =
+    sym (step_ahead d s l k e
+    ∙ ap (λ z. quants_noted z (done empty (at s u)) (leaf_noted (reach_of u) (reach_of u) l)) (sym i))
+
+-- a step that reads an atom at once, or none
+pub steps_read : (d left : ℕ) (s : State) {t : State} {u : Text} {a : Tree} (l : Log) (r : Result Step Failure)
+    (v : State) → left ≡ bytes s.rest → skipped s ≡ rest u → ahead d (at s u) ≡ read (done a t) →
+    GivesPiece r (quants d left a t) v → GivesStep r d s l v (step_noted d s l)
+steps_read d left s l r v i k e h =
+    steps_piece {d = d} {left = left} s (step_noted d s l) r v i k (atom e a_read, refl) h (read_noted d left s l i k e)
+
+pub steps_nothing : (d left : ℕ) (s : State) {u : Text} (l : Log) (r : Result Step Failure)
+    (v : State) → left ≡ bytes s.rest → skipped s ≡ rest u → ahead d (at s u) ≡ nothing →
+    GivesPiece r (quants d left empty (at s u)) v → GivesStep r d s l v (step_noted d s l)
+steps_nothing d left s l r v i k e h =
+    steps_piece {d = d} {left = left} s (step_noted d s l) r v i k (atom e a_nothing, refl) h (nothing_noted d left s l i k e)
+
+-- a step that opens a part
+pub steps_open : {d : ℕ} {s t : State} {u : Text} {k : Ahead} {p : OpenPart} {l : Log} → skipped s ≡ rest u →
+    ahead d (at s u) ≡ k → OpensPart d s l p t (ahead_noted (bytes s.rest) (at s u) k l) →
+    OpensPart d s l p t (step_noted d s l)
+steps_open {d} {s} {t} {p} {l} i e h = subst (OpensPart d s l p t) (sym (step_ahead d s l i e)) h
 
 -- a fault of the layout before a piece is the piece's
 pub steps_layout : (d : ℕ) (s : State) {p : ℕ} (e : Failure) → e ≡ At p UnclosedOpenParen →
@@ -199,18 +243,48 @@ ended_fault {d} {q} {s} {k} {p} {l} n r w x y f h = by_goes (goes_on p) refl
     by_goes false g =
         let (u, i, a) = opens_ended n r w x y g f in piece i (subst (Atom d (at s u)) (ap (restored s.flags) h) a.0)
 
+-- what is noted where what is open ends with the atom, or goes on
+pub close_ends : (left : ℕ) (flags : Flags) (p : OpenPart) (r : Tree) (w : State) (n : Log) {a : Tree} {t : State} →
+    ended_part p r w ≡ done a t → goes_on p ≡ false → close_noted left flags p r w n
+    ≡ quants_noted left (done a (record t { flags = flags })) (part_noted p r (reach_of w.rest) (reach_of t.rest) n)
+close_ends left flags p r w n e g = rw (e, g) refl
+
+pub close_goes_on : (left : ℕ) (flags : Flags) (p : OpenPart) (r : Tree) (w : State) (n : Log) {a : Tree}
+    {t : State} → ended_part p r w ≡ done a t → goes_on p ≡ true → close_noted left flags p r w n
+    ≡ part_begun (reach_of t.rest) (part_noted p r (reach_of w.rest) (reach_of t.rest) n)
+close_goes_on left flags p r w n e g = rw (e, g) refl
+
 -- the atom that ends with a part, under its quantifiers
-pub closes : {d left : ℕ} {s v t : State} {a : Tree} {p : OpenPart} {l m : Log} (n : Log) (r : Tree) (w : State)
-    (q : Result Step Failure) (z : State) (k : Log) → OpensPart d s l p v m →
+pub closes : {d left : ℕ} {s v t : State} {a : Tree} {p : OpenPart} {l m : Log} (n : Log) (flags : Flags) (r : Tree)
+    (w : State) (q : Result Step Failure) (z : State) → OpensPart d s l p v m →
     Part p (d + 1) v (done r w) m n → goes_on p ≡ false → strip bar w.rest ≡ None → ended_part p r w ≡ done a t →
-    left ≡ bytes s.rest →
+    left ≡ bytes s.rest → flags ≡ s.flags →
     GivesPiece q (quants d left a (record t { flags = s.flags })) z →
-    quants_noted left (done a (record t { flags = s.flags })) (part_noted p r (reach_of w.rest) (reach_of t.rest) n) ≡ k →
-    GivesStep q d s l z k
-closes {d} {s} {p} {l} n r w q z k x y g f h i e j =
+    GivesStep q d s l z (close_noted left flags p r w n)
+closes {d} {left} {s} {t} {a} {p} {l} n flags r w q z x y g f h i j e =
     let (u, c, b) = opens_ended n r w x y g (λ _ _. f) in
-    steps_piece s k q z i c (subst (λ o. AtomTo d (at s u) (restored s.flags o) l
-    (part_noted p r (reach_of w.rest) (end_of o) n)) h b) e j
+    let m = part_noted p r (reach_of w.rest) (reach_of t.rest) n in
+    steps_piece s (close_noted left flags p r w n) q z i c (subst (λ o. AtomTo d (at s u) (restored s.flags o) l
+    (part_noted p r (reach_of w.rest) (end_of o) n)) h b) e
+    (sym (close_ends left flags p r w n h g ∙ ap (λ f. quants_noted left (done a (record t { flags = f })) m) j))
+
+-- where it goes on, what comes next
+pub closes_condition : {d : ℕ} {s v t : State} {c : Tree} {p : OpenPart} {l m : Log} (left : ℕ) (n : Log) (flags : Flags)
+    (r : Tree) (w : State) → OpensPart d s l p v m →
+    Part p (d + 1) v (done r w) m n → goes_on p ≡ true → ended_part p r w ≡ done c t →
+    OpensPart d s l (body c (bytes t.rest)) t (close_noted left flags p r w n)
+closes_condition {d} {s} {t} {c} {p} {l} left n flags r w x y g h =
+    subst (OpensPart d s l (body c (bytes t.rest)) t)
+    (sym (close_goes_on left flags p r w n h g ∙ ap (part_begun (reach_of t.rest)) (of_condition p g)))
+    (condition_ended n r w x y g h)
+  where
+    of_condition : (p : OpenPart) → goes_on p ≡ true → part_noted p r (reach_of w.rest) (reach_of t.rest) n ≡ n
+    of_condition condition g = refl
+    of_condition top g = absurd (true≢false (sym g))
+    of_condition (group h q) g = absurd (true≢false (sym g))
+    of_condition (body c left) g = absurd (true≢false (sym g))
+    of_condition first g = absurd (true≢false (sym g))
+    of_condition (second a) g = absurd (true≢false (sym g))
 
 -- ---- what is read of the innermost part
 
@@ -496,6 +570,21 @@ running_piece {t} {v} {l} {m} {r} all h e a i = record {
   levels = h.levels;
   reading = reading_piece _ _ h.reading e (subst (λ d. PieceTo d t (done r v) l m) (sym h.is_depth) a) refl refl;
 }
+
+-- a leaf that a look ahead reads
+pub running_leaf : {start t : State} {none l : Log} {stack : List Frame} {f : Frame} {trees : List Tree} {u : Text}
+    {r : Tree} (all : List Tree) → Running start none stack f trees t l → IsNotedPlain t r u →
+    all ≡ trees ++ solid (r ∷ []) →
+    Running start none stack f all (at t u) (leaf_noted (reach_of t.rest) (reach_of u) l)
+running_leaf {start} {t} {none} {l} {stack} {f} {u} {r} all h p e =
+    let m = leaf_noted (reach_of t.rest) (reach_of u) l in
+    subst (Running start none stack f all (at t u)) (ap (λ b. if b then left_out m else m) p.solid)
+    (running_piece all h p.more (p.piece _ l) e)
+
+-- a leaf behind others, where it is no Empty
+pub added_leaf : (r : Tree) (a b x y : ℕ) (l : Log) → is_empty r ≡ false → a ≡ x → b ≡ y →
+    added r (leaf_noted a b l) ≡ leaf_noted x y l
+added_leaf r a b x y l e i j = rw (i, j, e) refl
 
 -- a part is opened in the piece that began there
 running_open : {start t v : State} {none l m : Log} {stack : List Frame} {f : Frame} {trees : List Tree} {o : OpenPart}

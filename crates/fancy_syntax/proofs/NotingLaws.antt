@@ -20,7 +20,7 @@ use Rattle.fancy_grammar.specs.Grammar.{Pieces, stop, next, piece_fault, Piece, 
 use Rattle.fancy_grammar.specs.Grammar.{a_nothing, a_read, a_group, a_condition, condition_fault, a_body, two_branches}
 use Rattle.fancy_grammar.specs.Grammar.{one_branch, absent_fault, Inside, inside, Body, the_body}
 use Rattle.fancy_grammar.specs.Grammar.{closed, closed_at, branches_of, conditional_of, conditional_behind}
-use Rattle.fancy_grammar.specs.Grammar.{is_condition, clear_or_stopper}
+use Rattle.fancy_grammar.specs.Grammar.{is_condition, clear_or_stopper, whole, start, ended}
 use Rattle.fancy_grammar.specs.Head.{Head, capture, scope, look, atomic, define, repeater, group_node}
 use Rattle.fancy_grammar.specs.Join.{solid, is_empty, one_or, choice}
 use Rattle.fancy_grammar.specs.Label as label
@@ -45,6 +45,8 @@ use Rattle.fancy_syntax.specs.Log.{part_dropped, atom_closed, atom_ended, first_
 use Rattle.fancy_syntax.specs.Log.{atom_opened}
 use Rattle.fancy_syntax.specs.Noting.{alternation_noted, branches_noted, branch_noted, pieces_noted, piece_noted}
 use Rattle.fancy_syntax.specs.Noting.{atom_noted, atom_of_noted, inside_noted, body_noted, quants_noted, group_noted}
+use Rattle.fancy_syntax.specs.NotedWhole.{ShowsWhole}
+use Rattle.fancy_syntax.specs.Noting.{AlternationTo}
 use Rattle.fancy_syntax.specs.Noting.{body_parted, conditional_noted, stopper_noted, choice_noted, added}
 use Rattle.fancy_syntax.specs.declared.grammar.noted.FirstBar.{FirstBar}
 use Rattle.fancy_syntax.specs.declared.grammar.noted.Noted.{Noted}
@@ -857,3 +859,10 @@ module _ (named : Bool) where
         branch = record { branch = refl; pieces = refl };
       }) in
       ap (shown named) h.is_noted ∙ fits_shown named r (alternation_spans named a) h.xs h.fits
+
+pub whole_shown : {f : Flags} {text : Text} {r : Tree} {t : State} {m : Log} →
+    AlternationTo 0 (start f text) (done r t) (started (reach_of text)) m → ShowsWhole f text (ended r t) m
+whole_shown (a, e) = (
+  whole a,
+  λ named. ap (λ (m : Log). shown named m.noted) (sym e) ∙ whole_noted named a,
+)

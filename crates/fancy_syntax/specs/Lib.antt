@@ -23,6 +23,9 @@ pub use Rattle.fancy_grammar.specs.Marks
 pub mod Answer
 pub use Rattle.fancy_grammar.specs.Preorder
 pub use Rattle.fancy_grammar.specs.Answered
+-- ---- where the nodes stand
+pub use Rattle.fancy_grammar.specs.Spans
+pub mod SpanViews
 -- ---- printing, and what a printed text reads as
 pub use Rattle.fancy_grammar.specs.Printed
 pub use Rattle.fancy_grammar.specs.HasDelegate
