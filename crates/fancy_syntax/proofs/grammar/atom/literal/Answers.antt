@@ -1,5 +1,3 @@
-use Rattle.fancy_syntax.proofs.MachineLemmas.{running_closing}
-use Rattle.fancy_syntax.proofs.NotingLaws.{whole_noted}
 use Rattle.std.proofs.Common.{◌∙◌, [], ◌∷◌, ◌++◌, ap}
 use Rattle.std.proofs.lemmas.Str.{chars-nil, IsUtf8-nil}
 use Rattle.fancy_lex.specs.Text.{Text}
