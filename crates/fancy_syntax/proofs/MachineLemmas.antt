@@ -176,9 +176,10 @@ opens_ended : {d : ℕ} {s v : State} {p : OpenPart} {l m : Log} (n : Log) (r : 
 opens_ended {d} {s} {l} n q w (a_group {u} {h} i e) (r, x) g f = (
   u,
   i,
-  closed_to s.flags (group_node h (reach_of u)) q w (λ o. group_noted h (end_of o) n) l
-      (atom e (grammar.a_group (inside r)),
-      ap (group_noted h (end_of (seen_through (group_node h (reach_of u)) (closed q w)))) x),
+  closed_to s.flags (group_node h (reach_of u)) q w (λ o. group_noted h (end_of o) n) l (
+    atom e (grammar.a_group (inside r)),
+    ap (group_noted h (end_of (seen_through (group_node h (reach_of u)) (closed q w)))) x,
+  ),
 )
 opens_ended n q w (a_condition i e) r g f = absurd (true≢false g)
 opens_ended n q w (a_body {t} {u} {c} i e) (r, x) g f = (

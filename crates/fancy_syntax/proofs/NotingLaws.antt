@@ -266,7 +266,7 @@ module _ (named : Bool) where
       let k : length (list_of ts) ≡ suc (length b.others) =
       ap (λ ts. length (list_of ts)) b.is_tree ∙ ap (λ l. suc (length l)) (list_back b.others) in
       let parts : body_parts (alt ts) v x
-          ≡ (b.first, one_or_node (record { start = b.bar; end = b.head.end }) b.rest) =
+      ≡ (b.first, one_or_node (record { start = b.bar; end = b.head.end }) b.rest) =
       ap (body_parts (alt ts) v) b.is_spans in
       subst (λ p. Parted l m (body_split (length (list_of ts)) m) p.0 p.1) (sym parts)
       (subst (λ w. Parted l m w b.first (one_or_node (record { start = b.bar; end = b.head.end }) b.rest))

@@ -97,10 +97,10 @@ loop-parser-preserved-in-Continue-branch-3 g c =
       depth = c.in_ok-step.ensures.depth;
       room = rw (c.in_ok-step.ensures.capacity, c.in_ok-add_leaf.ensures.stack) c.loop-parser.invariant.room;
       within = omega (
-          arith,
-          c.loop-parser.invariant.within,
-          c.in_ok-add_leaf.ensures.within,
-          c.in_ok-step.ensures.shorter,
+        arith,
+        c.loop-parser.invariant.within,
+        c.in_ok-add_leaf.ensures.within,
+        c.in_ok-step.ensures.shorter,
       );
     }
 
@@ -114,10 +114,10 @@ loop-parser-preserved-in-Continue-branch-4 g c =
       depth = rw (c.in_ok-bar.ensures.stack, c.in_ok-add_leaf.ensures.stack) c.loop-parser.invariant.depth;
       room = rw (c.in_ok-bar.ensures.stack, c.in_ok-add_leaf.ensures.stack) c.loop-parser.invariant.room;
       within = rw c.in_ok-bar.ensures.rest (omega (
-          arith,
-          c.loop-parser.invariant.within,
-          c.in_ok-add_leaf.ensures.within,
-          c.in-Some.ensures.shorter,
+        arith,
+        c.loop-parser.invariant.within,
+        c.in_ok-add_leaf.ensures.within,
+        c.in-Some.ensures.shorter,
       ));
     }
 
@@ -131,9 +131,9 @@ loop-parser-preserved g c =
       depth = c.in_ok-tree.ensures.depth;
       room = rw (c.in_ok-tree.ensures.capacity, c.in_ok-add_leaf.ensures.stack) c.loop-parser.invariant.room;
       within = omega (
-          arith,
-          c.loop-parser.invariant.within,
-          c.in_ok-add_leaf.ensures.within,
-          rw c.in_default-2.is at c.in_ok-tree.ensures.shorter,
+        arith,
+        c.loop-parser.invariant.within,
+        c.in_ok-add_leaf.ensures.within,
+        rw c.in_default-2.is at c.in_ok-tree.ensures.shorter,
       );
     }

@@ -67,11 +67,10 @@ loop-behind-preserved g c =
       deep = some.1;
       within = omega (arith, c.loop-behind.invariant.within, c.in_ok-quantify_once.ensures.within);
       spans = λ m h.
-          let (n, k, e) = c.loop-behind.invariant.spans m h in
-          (
+          let (n, k, e) = c.loop-behind.invariant.spans m h in (
             _,
             c.in_ok-quantify_once.ensures.spans n k,
             e ∙ noted_counts c.loop-behind.more (c.loop-behind.more - 1) _ _ n once
-            (moved_is _ _ _ _ (sym c.byte_len.ensures) (sym c.byte_len-before.ensures) c.if-byte_len-before.false) one,
+                (moved_is _ _ _ _ (sym c.byte_len.ensures) (sym c.byte_len-before.ensures) c.if-byte_len-before.false) one,
           );
     }

@@ -6,8 +6,7 @@ use Rattle.fancy_syntax.proofs.grammar.parser.Parser.add_leaf.Goals as goal
 
 pub returns-in-Some-clause-reading : goal.returns-in-Some-clause-reading
 returns-in-Some-clause-reading g c start none l h =
-    let p = c.in-Some.ensures.plain in
-    (
+    let p = c.in-Some.ensures.plain in (
       _,
       running_leaf _ h p (rw c.in_ok-leaf.ensures at c.in_ok-add.ensures.trees),
       λ n. subst (g.S.Spanning.notes c.add.new.spans)
@@ -18,8 +17,7 @@ returns-in-Some-clause-reading g c start none l h =
 
 pub returns-clause-reading : goal.returns-clause-reading
 returns-clause-reading g c start none l h =
-    let p = c.in-Some-plain_escape.ensures.plain in
-    (
+    let p = c.in-Some-plain_escape.ensures.plain in (
       _,
       running_leaf _ h p (rw c.in_ok-leaf-2.ensures at c.in_ok-add-2.ensures.trees),
       λ n. subst (g.S.Spanning.notes c.add-2.new.spans)

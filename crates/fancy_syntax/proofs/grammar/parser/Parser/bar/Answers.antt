@@ -19,8 +19,7 @@ returns-in_err-bar-clause-reading g c start none l h =
 
 pub returns-clause-reading : goal.returns-clause-reading
 returns-clause-reading g c start none l h =
-    let f = c.in_ok-bar.ensures in
-    (
+    let f = c.in_ok-bar.ensures in (
       _,
       running_bar _ c.bar.new.self h c.requires.last c.requires.bar f.allowed
           (f.opener h.below h.branches h.pieces h.holds) (f.trees h.below h.branches h.pieces h.holds),

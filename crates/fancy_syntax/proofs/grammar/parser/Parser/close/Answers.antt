@@ -16,8 +16,7 @@ use Rattle.fancy_syntax.proofs.grammar.parser.Parser.close.Goals as goal
 pub returns-in_default-clause-reading : goal.returns-in_default-clause-reading
 returns-in_default-clause-reading g c start none l h =
     let empty : c.args.self.now.stack.items ≡ [] =
-    nil_from_length _ (omega (arith, c.args.self.now.stack.ok.0, c.in_default.ensures.cases.0)) in
-    (
+    nil_from_length _ (omega (arith, c.args.self.now.stack.ok.0, c.in_default.ensures.cases.0)) in (
       _,
       running_end (view c.in_ok-inner.inner) h c.requires.last c.requires.no_bar
           (c.in_ok-inner.ensures.tree h.below h.branches h.pieces h.holds) empty,
@@ -59,8 +58,7 @@ returns-clause-reading g c start none l h =
     (part_of c.replace-opener.result.opener) (view c.in_ok-inner.inner) (state c.args.self.now.here) m in
     let steps = subst (λ d. IsStep d w.here w.noted made (state c.close.new.here) k) n
     (c.in_ok-step.ensures.value w.here w.inside w.noted w.before m w.began.0 w.began.1 (rw n w.opens) (rw n w.whole)) in
-    let taken = c.in_ok-take.ensures in
-    (
+    let taken = c.in_ok-take.ensures in (
       _,
       rw taken.here (running_step k made w.outer w.began w.more steps taken.taken),
       λ n. taken.spans k (c.in_ok-step.ensures.spans m (subst (g.S.Spanning.notes c.finish.new.spans)

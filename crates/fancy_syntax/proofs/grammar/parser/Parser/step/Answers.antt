@@ -28,8 +28,7 @@ returns-clause-reading g c start none l h =
     let k = step_noted c.len.result (state c.args.self.now.here) l in
     let steps = subst (λ d. IsStep d (state c.args.self.now.here) l made (state c.read_step.new.here) k) n
     (c.in_ok-step.ensures.value l) in
-    let taken = c.in_ok-take.ensures in
-    (
+    let taken = c.in_ok-take.ensures in (
       _,
       rw taken.here
           (running_step k made (running_began c.byte_len-self.result c.args.self.now.here.flags h)
