@@ -1,4 +1,4 @@
--- A plain character is a piece, and so is an escape of one character.
+-- Behind a plain character stands no quantifier, and before it no layout.
 use Rattle.std.proofs.Common.{◌≡◌, if◌then◌else◌, zero, suc, ℕ, Bool, true, false, ◌==◌, [], ◌∷◌, None, refl, sym}
 use Rattle.std.proofs.Common.{subst, ◌∙◌, ap, arith, tests, rules}
 use Rattle.std.proofs.lemmas.Bool.Decides.{nat_tests}
@@ -12,18 +12,16 @@ use Rattle.fancy_lex.specs.Reading.{gives}
 use Rattle.fancy_lex.specs.Text.{Text, bytes}
 use Rattle.fancy_parts.specs.Quantifier.{counts}
 use Rattle.fancy_grammar.specs.Ahead.{ahead, read, leaf_node, leaf_outcome}
-use Rattle.fancy_grammar.specs.Grammar.{atom, a_read}
-use Rattle.fancy_grammar.specs.Plain.{is_special, is_suffix, IsPlain}
+use Rattle.fancy_grammar.specs.Plain.{is_special, is_suffix}
 use Rattle.fancy_grammar.specs.Quantified.{quant, quants, adjacent, max_adjacent, is_unmoved}
 use Rattle.fancy_grammar.specs.State.{ends, State, at, Outcome, done, and_then}
 use Rattle.fancy_grammar.specs.Tree.{Tree, literal}
-use Rattle.fancy_grammar.proofs.OutcomeLemmas.{piece_as}
 
 -- a state is where it is
 pub unmoved : (s : State) → is_unmoved s s ≡ true
 unmoved s = search (tests, rules)
 
-not_open : (c : ℕ) → is_special c ≡ false → (c == code "(") ≡ false
+pub not_open : (c : ℕ) → is_special c ≡ false → (c == code "(") ≡ false
 not_open c e = grind (arith, nat_tests)
 
 not_hash : (c : ℕ) → is_layout true c ≡ false → (c == hash) ≡ false
@@ -32,42 +30,42 @@ not_hash c e = grind (arith, nat_tests)
 not_blank : (c : ℕ) → is_layout true c ≡ false → is_blank c ≡ false
 not_blank c e = grind (arith, nat_tests)
 
-not_paren : (c : ℕ) → is_suffix c ≡ false → (c == code "(") ≡ false
+pub not_paren : (c : ℕ) → is_suffix c ≡ false → (c == code "(") ≡ false
 not_paren c e = grind (arith, nat_tests)
 
-no_layout : (c : ℕ) (x : Bool) (t : Text) → (c == code "(") ≡ false → is_layout x c ≡ false →
+pub no_layout : (c : ℕ) (x : Bool) (t : Text) → (c == code "(") ≡ false → is_layout x c ≡ false →
     layout x (c ∷ t) ≡ rest (c ∷ t)
 unfolding layout_from
 no_layout c false t e h = rw e refl
 no_layout c true t e h = rw (e, not_hash c h, not_blank c h) refl
 
-no_end : (c : ℕ) (t : Text) → is_special c ≡ false → ends (c ∷ t) ≡ false
+pub no_end : (c : ℕ) (t : Text) → is_special c ≡ false → ends (c ∷ t) ≡ false
 no_end c t e = grind (arith, nat_tests)
 
-is_leaf : (d c : ℕ) (s : State) (t : Text) → is_special c ≡ false →
+pub is_leaf : (d c : ℕ) (s : State) (t : Text) → is_special c ≡ false →
     ahead d (at s (c ∷ t)) ≡ read (done (literal (c ∷ []) s.flags.casei) (at s t))
 unfolding ahead
 is_leaf d c s t e = grind (arith, nat_tests)
 
-no_counts : (c : ℕ) (x : Bool) (t : Text) → is_suffix c ≡ false → ◌≡◌ {A = _} (counts x (c ∷ t)) None
+pub no_counts : (c : ℕ) (x : Bool) (t : Text) → is_suffix c ≡ false → ◌≡◌ {A = _} (counts x (c ∷ t)) None
 unfolding counts
 no_counts c x t e = grind (arith, nat_tests)
 
-no_quant : (left c : ℕ) (a : Tree) (s : State) (t : Text) → is_layout s.flags.ignore_space c ≡ false →
+pub no_quant : (left c : ℕ) (a : Tree) (s : State) (t : Text) → is_layout s.flags.ignore_space c ≡ false →
     is_suffix c ≡ false → quant left a (at s (c ∷ t)) ≡ done a (at s (c ∷ t))
 unfolding quant
 no_quant left c a s t x e =
     rw (no_layout c s.flags.ignore_space t (not_paren c e) x, no_counts c s.flags.ignore_space t e) refl
 
-no_layout_at_end : (x : Bool) → layout x [] ≡ rest []
+pub no_layout_at_end : (x : Bool) → layout x [] ≡ rest []
 unfolding layout_from
 no_layout_at_end x = refl
 
-no_counts_at_end : (x : Bool) → ◌≡◌ {A = _} (counts x []) None
+pub no_counts_at_end : (x : Bool) → ◌≡◌ {A = _} (counts x []) None
 unfolding counts
 no_counts_at_end x = refl
 
-no_quant_at_end : (left : ℕ) (a : Tree) (s : State) → quant left a (at s []) ≡ done a (at s [])
+pub no_quant_at_end : (left : ℕ) (a : Tree) (s : State) → quant left a (at s []) ≡ done a (at s [])
 unfolding quant
 no_quant_at_end left a s = rw (no_layout_at_end s.flags.ignore_space, no_counts_at_end s.flags.ignore_space) refl
 
@@ -98,32 +96,11 @@ unquantified s c t d left a e x h =
     subst (λ u. quants d left a (at s u) ≡ done a (at s u)) (sym e)
     (no_quants d left a (at s (c ∷ t)) (λ l. no_quant l c a s t x h))
 
-pub is_plain : (s : State) (c d : ℕ) (t u : Text) → is_layout s.flags.ignore_space c ≡ false →
-    is_layout s.flags.ignore_space d ≡ false →
-    s.rest ≡ c ∷ t → t ≡ d ∷ u → is_special c ≡ false → is_suffix d ≡ false →
-    IsPlain s (literal (c ∷ []) s.flags.casei) t
-is_plain s c d t u x y e f h k = record {
-  more = ap ends e ∙ no_end c t h;
-  piece = λ b. piece_as (rw e (no_layout c s.flags.ignore_space t (not_open c h) x))
-      (atom (is_leaf b c s t h) a_read)
-      (rw f (no_quants b _ _ (at s (d ∷ u)) (λ l. no_quant l d _ s u y k)));
-}
-
-backslash_no_layout : (x : Bool) → is_layout x backslash ≡ false
+pub backslash_no_layout : (x : Bool) → is_layout x backslash ≡ false
 backslash_no_layout true = refl
 backslash_no_layout false = refl
 
-is_escape : (d : ℕ) (s : State) (t u : Text) (e : Escape) → escape s.flags false t ≡ gives e u →
+pub is_escape : (d : ℕ) (s : State) (t u : Text) (e : Escape) → escape s.flags false t ≡ gives e u →
     ahead d (at s (backslash ∷ t)) ≡ read (done (leaf_node e) (at s u))
 unfolding ahead
 is_escape d s t u e h = ap (λ o. read (leaf_outcome leaf_node s o)) h
-
-pub is_plain_escape : (s : State) (t u : Text) (e : Escape) → s.rest ≡ backslash ∷ t →
-    escape s.flags false t ≡ gives e u →
-    ((d left : ℕ) (a : Tree) → quants d left a (at s u) ≡ done a (at s u)) → IsPlain s (leaf_node e) u
-is_plain_escape s t u e i h q = record {
-  more = ap ends i;
-  piece = λ b. piece_as (rw i (no_layout backslash s.flags.ignore_space t refl
-      (backslash_no_layout s.flags.ignore_space)))
-      (atom (is_escape b s t u e h) a_read) (q b _ _);
-}

@@ -22,7 +22,7 @@ pub mod Marks
 pub mod Answer
 pub mod Preorder
 pub mod Answered
--- ---- where the nodes stand, which no call answers yet
+-- ---- where the nodes stand
 pub mod Spans
 -- ---- printing, and what a printed text reads as
 pub mod Printed

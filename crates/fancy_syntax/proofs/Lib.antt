@@ -10,9 +10,12 @@ pub mod SpannedLemmas
 mod TreesLemmas
 mod StepLemmas
 mod MachineLemmas
+mod PlainLaws
 mod RoomLemmas
 mod ShownLemmas
 mod TreeLemmas
+mod NotingLemmas
+mod NotingLaws
 -- ---- the resolver
 pub mod WalkLemmas
 pub mod NoItems

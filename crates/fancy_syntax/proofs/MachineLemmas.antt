@@ -17,9 +17,21 @@ use Rattle.fancy_lex.specs.declared.error.ParseError.TheVariants.{UnclosedOpenPa
 use Rattle.fancy_grammar.specs.Grammar.{Alternation, alternation, Branches, last, branch_fault, Branch, branch, stop}
 use Rattle.fancy_grammar.specs.Grammar.{piece_fault, Piece, piece, layout_fault, Atom, atom, Inside, inside, the_body}
 use Rattle.fancy_grammar.specs.Grammar.{condition_fault, two_branches, one_branch, absent_fault, closed, closed_at}
-use Rattle.fancy_grammar.specs.Grammar.{restored}
+use Rattle.fancy_grammar.specs.Grammar.{more, next, restored, conditional_behind, clear_or_stopper, Pieces, Branches}
 use Rattle.fancy_grammar.specs.Grammar as grammar
-use Rattle.fancy_grammar.specs.Join.{solid, one_or, choice}
+use Rattle.fancy_grammar.specs.Join.{solid, one_or, choice, is_empty}
+use Rattle.fancy_grammar.specs.Spans.{end_of}
+use Rattle.fancy_syntax.specs.Log.{Log, part_begun, branch_begun, branch_ended, atom_closed}
+use Rattle.fancy_syntax.specs.Noting.{PieceTo, PiecesTo, BranchTo, BranchesTo, AlternationTo, piece_noted, pieces_noted}
+use Rattle.fancy_syntax.specs.Noting.{branches_noted, atom_noted, inside_noted, quants_noted, group_noted}
+use Rattle.fancy_syntax.specs.Noting.{conditional_noted, stopper_noted, choice_noted, added}
+use Rattle.fancy_syntax.specs.View.{view}
+use Rattle.fancy_grammar.specs.Ahead.{Ahead, nothing, read, ahead}
+use Rattle.fancy_grammar.specs.Grammar.{a_nothing, a_read}
+use Rattle.fancy_syntax.specs.Log.{leaf_noted, left_out}
+use Rattle.fancy_syntax.specs.Machine.{IsNotedPlain}
+use Rattle.fancy_syntax.specs.Noting.{ahead_noted, skipped_noted, step_noted}
+use Rattle.fancy_syntax.specs.Machine.{part_noted, close_noted, taken_noted}
 use Rattle.fancy_syntax.specs.Machine.{OpenPart, top, group, condition, body, first, second, part_of, holds_one}
 use Rattle.fancy_syntax.specs.Machine.{is_second, opened_by_bar, branches_at_bar, IsFaultOfBar, Part, OpensPart}
 use Rattle.fancy_syntax.specs.Machine.{a_group}
@@ -32,7 +44,7 @@ use Rattle.fancy_grammar.specs.Head.{group_node}
 use Rattle.fancy_grammar.specs.Quantified.{quants}
 use Rattle.fancy_grammar.specs.Errors.{IsErrorAmong}
 use Rattle.fancy_grammar.specs.State.{ends, skipped, State, at, Outcome, done, fault, faulted, and_then, seen_through}
-use Rattle.fancy_grammar.specs.Tree.{Tree, concat, expression}
+use Rattle.fancy_grammar.specs.Tree.{Tree, concat, empty, expression}
 use Rattle.fancy_syntax.specs.declared.grammar.frame.Frame.{Frame}
 use Rattle.fancy_syntax.specs.declared.grammar.step.Step.{Step}
 use Rattle.fancy_syntax.specs.declared.grammar.step.Step.TheVariants as step
@@ -44,19 +56,67 @@ use Rattle.fancy_grammar.proofs.Slices.{here, on, strip_slice}
 
 -- ---- a step
 
--- an atom behind layout is a piece under its quantifiers
-pub piece_of : {d left : ℕ} {s : State} {u : Text} {q o : Outcome Tree} → left ≡ bytes s.rest → skipped s ≡ rest u →
-    Atom d (at s u) q →
-    and_then q (quants d left) ≡ o → Piece d s o
-piece_of {d} {q} {o} i l a e = piece_as l a (subst (λ m. and_then q (quants d m) ≡ o) i e)
+-- an atom with what was noted before and is noted behind
+abbrev AtomTo : ℕ → State → Outcome Tree → Log → Log → Type 0
+AtomTo d s o l m = (a : Atom d s o) × (atom_noted a l ≡ m)
 
-pub steps_piece : {d left : ℕ} (s : State) {t : State} {u : Text} {a : Tree} (r : Result Step Failure) (v : State) →
-    left ≡ bytes s.rest →
-    skipped s ≡ rest u → Atom d (at s u) (done a t) → GivesPiece r (quants d left a t) v → GivesStep r d s v
-steps_piece s (Ok (step.Piece tree)) v i l a h = piece_of i l a h
-steps_piece s (Ok (step.Open opener)) v i l a h = absurd h
-steps_piece {d} {left} s {t} {a = tree} (Err e) v i l a h =
-    IsErrorAmong-map (λ o. quants d left tree t ≡ o) (Piece d s) e (λ k p g. piece_of i l a g) h
+-- an atom behind layout is a piece under its quantifiers
+pub piece_to : {d : ℕ} {s : State} {u : Text} {q o : Outcome Tree} {l m n : Log} → skipped s ≡ rest u →
+    AtomTo d (at s u) q l m → and_then q (quants d (bytes s.rest)) ≡ o → quants_noted (bytes s.rest) q m ≡ n →
+    PieceTo d s o l n
+piece_to {d} {s} {q} {l} {n} i (a, h) e j =
+    subst (λ o. PieceTo d s o l n) e (piece i a, ap (quants_noted (bytes s.rest) q) h ∙ j)
+
+pub steps_piece : {d left : ℕ} (s : State) {t : State} {u : Text} {a : Tree} {l m : Log} (n : Log)
+    (r : Result Step Failure) (v : State) → left ≡ bytes s.rest → skipped s ≡ rest u →
+    AtomTo d (at s u) (done a t) l m → GivesPiece r (quants d left a t) v → quants_noted left (done a t) m ≡ n →
+    GivesStep r d s l v n
+steps_piece {d} {left} s {t} {u} {a} {l} {m} n (Ok (step.Piece tree)) v i k x h j =
+    piece_to k x (subst (λ z. quants d z a t ≡ done (view tree) v) i h)
+    (subst (λ z. quants_noted z (done a t) m ≡ n) i j)
+steps_piece s n (Ok (step.Open opener)) v i k x h j = absurd h
+steps_piece {d} {left} s {t} {a = tree} n (Err e) v i k (x, y) h j =
+    IsErrorAmong-map (λ o. quants d left tree t ≡ o) (Piece d s) e
+    (λ c p g. piece_as k x (subst (λ z. quants d z tree t ≡ fault c p) i g)) h
+
+-- what a step notes is told by what stands ahead
+pub step_ahead : (d : ℕ) (s : State) {u : Text} {k : Ahead} (l : Log) → skipped s ≡ rest u → ahead d (at s u) ≡ k →
+    step_noted d s l ≡ ahead_noted (bytes s.rest) (at s u) k l
+step_ahead d s {u} l i e =
+    ap (λ z. skipped_noted d s z l) i ∙ ap (λ k. ahead_noted (bytes s.rest) (at s u) k l) e
+
+pub read_noted : (d left : ℕ) (s : State) {t : State} {u : Text} {a : Tree} (l : Log) → left ≡ bytes s.rest →
+    skipped s ≡ rest u → ahead d (at s u) ≡ read (done a t) →
+    quants_noted left (done a t) (leaf_noted (reach_of u) (reach_of t.rest) l) ≡ step_noted d s l
+read_noted d left s {t} {u} {a} l i k e =
+    sym (step_ahead d s l k e
+    ∙ ap (λ z. quants_noted z (done a t) (leaf_noted (reach_of u) (reach_of t.rest) l)) (sym i))
+
+pub nothing_noted : (d left : ℕ) (s : State) {u : Text} (l : Log) → left ≡ bytes s.rest →
+    skipped s ≡ rest u → ahead d (at s u) ≡ nothing →
+    quants_noted left (done empty (at s u)) (leaf_noted (reach_of u) (reach_of u) l) ≡ step_noted d s l
+nothing_noted d left s {u} l i k e =
+    sym (step_ahead d s l k e
+    ∙ ap (λ z. quants_noted z (done empty (at s u)) (leaf_noted (reach_of u) (reach_of u) l)) (sym i))
+
+-- a step that reads an atom at once, or none
+pub steps_read : (d left : ℕ) (s : State) {t : State} {u : Text} {a : Tree} (l : Log) (r : Result Step Failure)
+    (v : State) → left ≡ bytes s.rest → skipped s ≡ rest u → ahead d (at s u) ≡ read (done a t) →
+    GivesPiece r (quants d left a t) v → GivesStep r d s l v (step_noted d s l)
+steps_read d left s l r v i k e h =
+    steps_piece {d = d} {left = left} s (step_noted d s l) r v i k (atom e a_read, refl) h (read_noted d left s l i k e)
+
+pub steps_nothing : (d left : ℕ) (s : State) {u : Text} (l : Log) (r : Result Step Failure)
+    (v : State) → left ≡ bytes s.rest → skipped s ≡ rest u → ahead d (at s u) ≡ nothing →
+    GivesPiece r (quants d left empty (at s u)) v → GivesStep r d s l v (step_noted d s l)
+steps_nothing d left s l r v i k e h =
+    steps_piece {d = d} {left = left} s (step_noted d s l) r v i k (atom e a_nothing, refl) h (nothing_noted d left s l i k e)
+
+-- a step that opens a part
+pub steps_open : {d : ℕ} {s t : State} {u : Text} {k : Ahead} {p : OpenPart} {l : Log} → skipped s ≡ rest u →
+    ahead d (at s u) ≡ k → OpensPart d s l p t (ahead_noted (bytes s.rest) (at s u) k l) →
+    OpensPart d s l p t (step_noted d s l)
+steps_open {d} {s} {t} {p} {l} i e h = subst (OpensPart d s l p t) (sym (step_ahead d s l i e)) h
 
 -- a fault of the layout before a piece is the piece's
 pub steps_layout : (d : ℕ) (s : State) {p : ℕ} (e : Failure) → e ≡ At p UnclosedOpenParen →
@@ -66,14 +126,14 @@ steps_layout d s e i l = rw i (layout_fault l)
 -- ---- what is open
 
 -- a fault inside is the piece's
-pub opens_fault : {d p : ℕ} {s v : State} {k : Kind} {o : OpenPart} → OpensPart d s o v →
-    Part o (d + 1) v (fault k p) → Piece d s (fault k p)
-opens_fault (a_group l e) r = piece l (atom e (grammar.a_group (inside r)))
-opens_fault (a_condition l e) r = piece l (atom e (condition_fault (inside r)))
-opens_fault (a_body l e) r = piece l (atom e (grammar.a_body (the_body r)))
-opens_fault (behind_condition (a_condition l e) i) r = piece l (atom e (grammar.a_condition i (the_body r)))
-opens_fault (a_branch l e) r = piece l (atom e (absent_fault r))
-opens_fault (behind_branch (a_branch l e) b f) r = piece l (atom e (two_branches b f r))
+pub opens_fault : {d p : ℕ} {s v : State} {k : Kind} {o : OpenPart} {l m : Log} (n : Log) → OpensPart d s l o v m →
+    Part o (d + 1) v (fault k p) m n → Piece d s (fault k p)
+opens_fault n (a_group l e) (r, x) = piece l (atom e (grammar.a_group (inside r)))
+opens_fault n (a_condition l e) (r, x) = piece l (atom e (condition_fault (inside r)))
+opens_fault n (a_body l e) (r, x) = piece l (atom e (grammar.a_body (the_body r)))
+opens_fault n (behind_condition (a_condition l e) i) (r, x) = piece l (atom e (grammar.a_condition i (the_body r)))
+opens_fault n (a_branch l e) (r, x) = piece l (atom e (absent_fault r))
+opens_fault n (behind_branch (a_branch l e) b f) (r, x) = piece l (atom e (two_branches b f r))
 
 -- a closing parenthesis is taken whatever the tree
 closed_through : (f : Tree → Tree) (r : Tree) (s : State) → seen_through f (closed r s) ≡ closed (f r) s
@@ -101,44 +161,78 @@ ended_closed p r s e = rw e refl
 abbrev MayEnd : OpenPart → State → Type 0
 MayEnd p s = holds_one p ≡ true → is_second p ≡ false → strip bar s.rest ≡ None
 
--- a part ends, and with it the atom: the flags from before it hold again
-opens_ended : {d : ℕ} {s v : State} {p : OpenPart} (r : Tree) (w : State) → OpensPart d s p v →
-    Part p (d + 1) v (done r w) → goes_on p ≡ false →
-    MayEnd p w → (t : Text) × (skipped s ≡ rest t) × Atom d (at s t) (restored s.flags (ended_part p r w))
-opens_ended {d} {s} q w (a_group {u} {h} l e) r g f = (
+-- the same where what is noted is told by the outcome
+closed_to : {d : ℕ} {s : State} (f : Flags) (g : Tree → Tree) (r : Tree) (w : State) (h : Outcome Tree → Log) (l : Log) →
+    AtomTo d s (restored f (seen_through g (closed r w))) l (h (seen_through g (closed r w))) →
+    AtomTo d s (restored f (closed (g r) w)) l (h (closed (g r) w))
+closed_to {d} {s} f g r w h l a = subst (λ o. AtomTo d s (restored f o) l (h o)) (closed_through g r w) a
+
+-- a part ends, and with it the atom: the flags from before it hold again; the end of the outcome tells what is noted
+opens_ended : {d : ℕ} {s v : State} {p : OpenPart} {l m : Log} (n : Log) (r : Tree) (w : State) → OpensPart d s l p v m →
+    Part p (d + 1) v (done r w) m n → goes_on p ≡ false →
+    MayEnd p w → (t : Text) × (skipped s ≡ rest t)
+    × AtomTo d (at s t) (restored s.flags (ended_part p r w)) l
+    (part_noted p r (reach_of w.rest) (end_of (ended_part p r w)) n)
+opens_ended {d} {s} {l} n q w (a_group {u} {h} i e) (r, x) g f = (
   u,
-  l,
-  subst (λ o. Atom d (at s u) (restored s.flags o)) (closed_through (group_node h (reach_of u)) q w)
-      (atom e (grammar.a_group (inside r))),
+  i,
+  closed_to s.flags (group_node h (reach_of u)) q w (λ o. group_noted h (end_of o) n) l (
+    atom e (grammar.a_group (inside r)),
+    ap (group_noted h (end_of (seen_through (group_node h (reach_of u)) (closed q w)))) x,
+  ),
 )
-opens_ended q w (a_condition l e) r g f = absurd (true≢false g)
-opens_ended q w (a_body {u} l e) r g f = (u, l, atom e (grammar.a_body (the_body r)))
-opens_ended q w (behind_condition (a_condition {u} l e) i) r g f =
-    (u, l, atom e (grammar.a_condition i (the_body r)))
-opens_ended q w (a_branch {u} l e) r g f = (u, l, atom e (one_branch r (f refl refl)))
-opens_ended q w (behind_branch (a_branch {u} l e) b i) r g f = (u, l, atom e (two_branches b i r))
+opens_ended n q w (a_condition i e) r g f = absurd (true≢false g)
+opens_ended n q w (a_body {t} {u} {c} i e) (r, x) g f = (
+  u,
+  i,
+  (
+    atom e (grammar.a_body (the_body r)),
+    ap (conditional_noted q (reach_of w.rest) (end_of (conditional_behind c (bytes t.rest) q w))) x,
+  ),
+)
+opens_ended n q w (behind_condition {v} {c} (a_condition {u} i e) j) (r, x) g f = (
+  u,
+  i,
+  (
+    atom e (grammar.a_condition j (the_body r)),
+    ap (conditional_noted q (reach_of w.rest) (end_of (conditional_behind c (bytes v.rest) q w))) x,
+  ),
+)
+opens_ended n q w (a_branch {u} i e) (r, x) g f = (
+  u,
+  i,
+  (atom e (one_branch r (f refl refl)), ap (stopper_noted q (end_of (closed (clear_or_stopper q) w))) x),
+)
+opens_ended n q w (behind_branch {a} (a_branch {u} i e) b j) (r, x) g f = (
+  u,
+  i,
+  (atom e (two_branches b j r), ap (atom_closed (end_of (closed (expression a q) w)) false) x),
+)
 
 -- where the atom goes on, the body of the conditional comes next
-pub condition_ended : {d : ℕ} {s v t : State} {p : OpenPart} {c : Tree} (r : Tree) (w : State) → OpensPart d s p v →
-    Part p (d + 1) v (done r w) → goes_on p ≡ true →
-    ended_part p r w ≡ done c t → OpensPart d s (body c (bytes t.rest)) t
-condition_ended {d} {v} r w (a_condition l e) x g h =
-    behind_condition (a_condition l e) (subst (Inside d v) h (inside x))
-condition_ended r w (a_group l e) x g h = absurd (true≢false (sym g))
-condition_ended r w (a_body l e) x g h = absurd (true≢false (sym g))
-condition_ended r w (behind_condition x y) z g h = absurd (true≢false (sym g))
-condition_ended r w (a_branch l e) x g h = absurd (true≢false (sym g))
-condition_ended r w (behind_branch x y z) a g h = absurd (true≢false (sym g))
+pub condition_ended : {d : ℕ} {s v t : State} {p : OpenPart} {c : Tree} {l m : Log} (n : Log) (r : Tree) (w : State) →
+    OpensPart d s l p v m → Part p (d + 1) v (done r w) m n → goes_on p ≡ true →
+    ended_part p r w ≡ done c t → OpensPart d s l (body c (bytes t.rest)) t (part_begun (reach_of t.rest) n)
+condition_ended {d} {s} {v} {t} {c} {l} {m} n r w (a_condition i e) (x, y) g h =
+    let (z, k) = subst (λ o. (a : Inside d v o) × (inside_noted a m ≡ n)) h (inside x, y) in
+    subst (λ n. OpensPart d s l (body c (bytes t.rest)) t (part_begun (reach_of t.rest) n)) k
+    (behind_condition (a_condition i e) z)
+condition_ended n r w (a_group l e) x g h = absurd (true≢false (sym g))
+condition_ended n r w (a_body l e) x g h = absurd (true≢false (sym g))
+condition_ended n r w (behind_condition x y) z g h = absurd (true≢false (sym g))
+condition_ended n r w (a_branch l e) x g h = absurd (true≢false (sym g))
+condition_ended n r w (behind_branch x y z) a g h = absurd (true≢false (sym g))
 
 -- a fault at the end of a part is the piece's
-pub ended_fault : {d q : ℕ} {s v : State} {k : Kind} {p : OpenPart} (r : Tree) (w : State) → OpensPart d s p v →
-    Part p (d + 1) v (done r w) →
+pub ended_fault : {d q : ℕ} {s v : State} {k : Kind} {p : OpenPart} {l m : Log} (n : Log) (r : Tree) (w : State) →
+    OpensPart d s l p v m → Part p (d + 1) v (done r w) m n →
     MayEnd p w → ended_part p r w ≡ fault k q → Piece d s (fault k q)
-ended_fault {d} {q} {s} {k} {p} r w x y f h = by_goes (goes_on p) refl
+ended_fault {d} {q} {s} {k} {p} {l} n r w x y f h = by_goes (goes_on p) refl
   where
-    of_condition : {v : State} {p : OpenPart} → OpensPart d s p v → Part p (d + 1) v (done r w) → goes_on p ≡ true →
-        ended_part p r w ≡ fault k q → Piece d s (fault k q)
-    of_condition {v} (a_condition l e) x g h = piece l (atom e (condition_fault (subst (Inside d v) h (inside x))))
+    of_condition : {v : State} {p : OpenPart} {m : Log} → OpensPart d s l p v m → Part p (d + 1) v (done r w) m n →
+        goes_on p ≡ true → ended_part p r w ≡ fault k q → Piece d s (fault k q)
+    of_condition {v} (a_condition l e) (x, y) g h =
+        piece l (atom e (condition_fault (subst (Inside d v) h (inside x))))
     of_condition (a_group l e) x g h = absurd (true≢false (sym g))
     of_condition (a_body l e) x g h = absurd (true≢false (sym g))
     of_condition (behind_condition x y) z g h = absurd (true≢false (sym g))
@@ -148,131 +242,213 @@ ended_fault {d} {q} {s} {k} {p} r w x y f h = by_goes (goes_on p) refl
     by_goes : (b : Bool) → goes_on p ≡ b → Piece d s (fault k q)
     by_goes true g = of_condition x y g h
     by_goes false g =
-        let (u, i, a) = opens_ended r w x y g f in piece i (subst (Atom d (at s u)) (ap (restored s.flags) h) a)
+        let (u, i, a) = opens_ended n r w x y g f in piece i (subst (Atom d (at s u)) (ap (restored s.flags) h) a.0)
+
+-- what is noted where what is open ends with the atom, or goes on
+pub close_ends : (left : ℕ) (flags : Flags) (p : OpenPart) (r : Tree) (w : State) (n : Log) {a : Tree} {t : State} →
+    ended_part p r w ≡ done a t → goes_on p ≡ false → close_noted left flags p r w n
+    ≡ quants_noted left (done a (record t { flags = flags })) (part_noted p r (reach_of w.rest) (reach_of t.rest) n)
+close_ends left flags p r w n e g = rw (e, g) refl
+
+pub close_goes_on : (left : ℕ) (flags : Flags) (p : OpenPart) (r : Tree) (w : State) (n : Log) {a : Tree}
+    {t : State} → ended_part p r w ≡ done a t → goes_on p ≡ true → close_noted left flags p r w n
+    ≡ part_begun (reach_of t.rest) (part_noted p r (reach_of w.rest) (reach_of t.rest) n)
+close_goes_on left flags p r w n e g = rw (e, g) refl
 
 -- the atom that ends with a part, under its quantifiers
-pub closes : {d left : ℕ} {s v t : State} {a : Tree} {p : OpenPart} (r : Tree) (w : State) (q : Result Step Failure)
-    (z : State) → OpensPart d s p v →
-    Part p (d + 1) v (done r w) → goes_on p ≡ false → strip bar w.rest ≡ None → ended_part p r w ≡ done a t →
-    left ≡ bytes s.rest →
-    GivesPiece q (quants d left a (record t { flags = s.flags })) z → GivesStep q d s z
-closes {d} {s} r w q z x y g f h i e =
-    let (u, l, b) = opens_ended r w x y g (λ _ _. f) in
-    steps_piece s q z i l (subst (Atom d (at s u)) (ap (restored s.flags) h) b) e
+pub closes : {d left : ℕ} {s v t : State} {a : Tree} {p : OpenPart} {l m : Log} (n : Log) (flags : Flags) (r : Tree)
+    (w : State) (q : Result Step Failure) (z : State) → OpensPart d s l p v m →
+    Part p (d + 1) v (done r w) m n → goes_on p ≡ false → strip bar w.rest ≡ None → ended_part p r w ≡ done a t →
+    left ≡ bytes s.rest → flags ≡ s.flags →
+    GivesPiece q (quants d left a (record t { flags = s.flags })) z →
+    GivesStep q d s l z (close_noted left flags p r w n)
+closes {d} {left} {s} {t} {a} {p} {l} n flags r w q z x y g f h i j e =
+    let (u, c, b) = opens_ended n r w x y g (λ _ _. f) in
+    let m = part_noted p r (reach_of w.rest) (reach_of t.rest) n in
+    steps_piece s (close_noted left flags p r w n) q z i c (subst (λ o. AtomTo d (at s u) (restored s.flags o) l
+    (part_noted p r (reach_of w.rest) (end_of o) n)) h b) e
+    (sym (close_ends left flags p r w n h g ∙ ap (λ f. quants_noted left (done a (record t { flags = f })) m) j))
+
+-- where it goes on, what comes next
+pub closes_condition : {d : ℕ} {s v t : State} {c : Tree} {p : OpenPart} {l m : Log} (left : ℕ) (n : Log) (flags : Flags)
+    (r : Tree) (w : State) → OpensPart d s l p v m →
+    Part p (d + 1) v (done r w) m n → goes_on p ≡ true → ended_part p r w ≡ done c t →
+    OpensPart d s l (body c (bytes t.rest)) t (close_noted left flags p r w n)
+closes_condition {d} {s} {t} {c} {p} {l} left n flags r w x y g h =
+    subst (OpensPart d s l (body c (bytes t.rest)) t)
+    (sym (close_goes_on left flags p r w n h g ∙ ap (part_begun (reach_of t.rest)) (of_condition p g)))
+    (condition_ended n r w x y g h)
+  where
+    of_condition : (p : OpenPart) → goes_on p ≡ true → part_noted p r (reach_of w.rest) (reach_of t.rest) n ≡ n
+    of_condition condition g = refl
+    of_condition top g = absurd (true≢false (sym g))
+    of_condition (group h q) g = absurd (true≢false (sym g))
+    of_condition (body c left) g = absurd (true≢false (sym g))
+    of_condition first g = absurd (true≢false (sym g))
+    of_condition (second a) g = absurd (true≢false (sym g))
 
 -- ---- what is read of the innermost part
 
-reading_new : (d : ℕ) (p : OpenPart) (s : State) (bs ps : List Tree) → bs ≡ [] → ps ≡ [] → ReadSoFar d p s bs ps s
-reading_new d p s bs ps e f = record {
+reading_new : (d : ℕ) (p : OpenPart) (s : State) (l : Log) (bs ps : List Tree) → bs ≡ [] → ps ≡ [] →
+    ReadSoFar d p s l bs ps s l
+reading_new d p s l bs ps e f = record {
   begin = s;
+  before = l;
   read = [];
   same = rw f;
-  branch = λ o b. rw before-nil b;
-  all = λ o b. rw (e, before-nil) b;
-  one = λ _. (refl, e);
+  branch = λ o m b. rw before-nil b;
+  all = λ o m b. rw (e, before-nil) b;
+  one = λ _. (refl, e, refl);
   slice = here s.rest;
 }
 
-reading_piece : {d : ℕ} {p : OpenPart} {s t v : State} {r : Tree} {bs ps : List Tree} (cs qs : List Tree) →
-    ReadSoFar d p s bs ps t → ends t.rest ≡ false →
-    Piece d t (done r v) → cs ≡ bs → qs ≡ ps ++ solid (r ∷ []) → ReadSoFar d p s cs qs v
-reading_piece {r} cs qs h e a i j = record {
+-- a piece more, or a branch
+next_to : {d : ℕ} {s t : State} {r : Tree} {l m n : Log} (o : Outcome (List Tree)) → ends s.rest ≡ false →
+    PieceTo d s (done r t) l m → PiecesTo d t o (added r m) n → PiecesTo d s (trees_before (r ∷ []) o) l n
+next_to {r} o e (a, x) (b, y) = (next e a b, ap (λ m. pieces_noted b (added r m)) x ∙ y)
+
+more_to : {d : ℕ} {s t : State} {u : Text} {r : Tree} {l m n : Log} (o : Outcome (List Tree)) →
+    BranchTo d s (done r t) l m → strip bar t.rest ≡ Some u →
+    BranchesTo d (at t u) o (branch_begun (reach_of u) m) n → BranchesTo d s (trees_before (r ∷ []) o) l n
+more_to {u} o (a, x) e (b, y) = (more a e b, ap (λ m. branches_noted b (branch_begun (reach_of u) m)) x ∙ y)
+
+reading_piece : {d : ℕ} {p : OpenPart} {s t v : State} {r : Tree} {bs ps : List Tree} {l m n : Log}
+    (cs qs : List Tree) → ReadSoFar d p s l bs ps t m → ends t.rest ≡ false →
+    PieceTo d t (done r v) m n → cs ≡ bs → qs ≡ ps ++ solid (r ∷ []) → ReadSoFar d p s l cs qs v (added r n)
+reading_piece {d} {r} cs qs h e a i j = record {
   begin = h.begin;
+  before = h.before;
   read = h.read ++ r ∷ [];
   same = solid-append h.read (r ∷ []) ∙ ap (λ x. x ++ solid (r ∷ [])) h.same ∙ sym j;
-  branch = λ o p. rw (before-push h.read r o) (h.branch _ (next_any o e a p));
-  all = λ o b. rw i (h.all o b);
-  one = λ k. ((h.one k).0, i ∙ (h.one k).1);
-  slice = on h.slice (piece_read a).span.slice;
+  branch = λ o k p.
+      subst (λ q. PiecesTo d h.begin q h.before k) (sym (before-push h.read r o)) (h.branch _ k (next_to o e a p));
+  all = λ o k b. rw i (h.all o k b);
+  one = λ k. ((h.one k).0, i ∙ (h.one k).1, (h.one k).2);
+  slice = on h.slice (piece_read a.0).span.slice;
 }
 
 -- the tree of the branch that is open
 abbrev pub joined : List Tree → Tree
 joined = one_or concat
 
--- the open branch ends at t
-reading_branch : {d : ℕ} {p : OpenPart} {s t : State} {bs ps : List Tree} (h : ReadSoFar d p s bs ps t) →
+-- the open branch, of these pieces, ends at t
+abbrev pub branch_closed : List Tree → State → Log → Log
+branch_closed ps t l = branch_ended (length ps) (reach_of t.rest) l
+
+reading_branch : {d : ℕ} {p : OpenPart} {s t : State} {bs ps : List Tree} {l m : Log} (h : ReadSoFar d p s l bs ps t m) →
     ends t.rest ≡ true →
-    Branch d h.begin (done (joined ps) t)
-reading_branch {d} {t} h e =
-    let b = branch (h.branch (done [] t) (stop e)) in
-    subst (λ x. Branch d h.begin (done (one_or concat x) t)) (ap solid (append-nil h.read) ∙ h.same) b
+    BranchTo d h.begin (done (joined ps) t) h.before (branch_closed ps t m)
+reading_branch {d} {t} {m} h e =
+    let (p, x) = h.branch (done [] t) m (stop e, refl) in
+    subst (λ x. BranchTo d h.begin (done (one_or concat x) t) h.before (branch_closed x t m))
+    (ap solid (append-nil h.read) ∙ h.same)
+    (branch p, ap (branch_closed (solid (h.read ++ [])) t) x)
 
 -- the one branch of a part that holds no other
-reading_one : {d : ℕ} {p : OpenPart} {s t : State} {bs ps : List Tree} → ReadSoFar d p s bs ps t →
+reading_one : {d : ℕ} {p : OpenPart} {s t : State} {bs ps : List Tree} {l m : Log} → ReadSoFar d p s l bs ps t m →
     holds_one p ≡ true → ends t.rest ≡ true →
-    Branch d s (done (joined ps) t)
-reading_one {d} {t} {ps} h k e = subst (λ (x : State). Branch d x (done (joined ps) t)) (h.one k).0
-    (reading_branch h e)
+    BranchTo d s (done (joined ps) t) l (branch_closed ps t m)
+reading_one {d} {t} {ps} {m} h k e =
+    subst (λ l. BranchTo d _ (done (joined ps) t) l (branch_closed ps t m)) (h.one k).2
+    (subst (λ (x : State). BranchTo d x (done (joined ps) t) h.before (branch_closed ps t m)) (h.one k).0
+    (reading_branch h e))
 
-reading_bar : {d : ℕ} {p : OpenPart} {s t : State} {u : Text} {bs ps : List Tree} (cs qs : List Tree) →
-    ReadSoFar d p s bs ps t → holds_one p ≡ false →
+reading_bar : {d : ℕ} {p : OpenPart} {s t : State} {u : Text} {bs ps : List Tree} {l m : Log} (cs qs : List Tree) →
+    ReadSoFar d p s l bs ps t m → holds_one p ≡ false →
     ends t.rest ≡ true → strip bar t.rest ≡ Some u → cs ≡ bs ++ joined ps ∷ [] → qs ≡ [] →
-    ReadSoFar d p s cs qs (at t u)
-reading_bar {d} {s} {t} {u} {bs} {ps} cs qs h k e f i j = record {
+    ReadSoFar d p s l cs qs (at t u) (branch_begun (reach_of u) (branch_closed ps t m))
+reading_bar {d} {s} {t} {u} {bs} {ps} {l} {m} cs qs h k e f i j = record {
   begin = at t u;
+  before = branch_begun (reach_of u) (branch_closed ps t m);
   read = [];
   same = rw j;
-  branch = λ o p. rw before-nil p;
-  all = λ o b.
-      subst (λ l. Branches d s (trees_before l o)) (sym i)
-      (subst (Branches d s) (sym (before-push bs (joined ps) o)) (h.all _ (more_any o (reading_branch h e) f b)));
+  branch = λ o n p. rw before-nil p;
+  all = λ o n b.
+      subst (λ c. BranchesTo d s (trees_before c o) l n) (sym i)
+      (subst (λ q. BranchesTo d s q l n) (sym (before-push bs (joined ps) o))
+      (h.all _ n (more_to o (reading_branch h e) f b)));
   one = λ l. absurd (true≢false (sym l ∙ k));
   slice = on h.slice (strip_slice bar t.rest u f);
 }
 
-reading_alternation : {d : ℕ} {p : OpenPart} {s t : State} {bs ps : List Tree} → ReadSoFar d p s bs ps t →
-    ends t.rest ≡ true → strip bar t.rest ≡ None →
-    Alternation d s (done (choice (bs ++ joined ps ∷ [])) t)
-reading_alternation h e f = alternation (h.all _ (last (reading_branch h e) f))
+-- what is open ends at t with these branches and pieces
+abbrev pub choice_closed : List Tree → List Tree → State → Log → Log
+choice_closed bs ps t l = choice_noted (bs ++ joined ps ∷ []) (reach_of t.rest) (branch_closed ps t l)
+
+reading_alternation : {d : ℕ} {p : OpenPart} {s t : State} {bs ps : List Tree} {l m : Log} →
+    ReadSoFar d p s l bs ps t m → ends t.rest ≡ true → strip bar t.rest ≡ None →
+    AlternationTo d s (done (choice (bs ++ joined ps ∷ [])) t) l (choice_closed bs ps t m)
+reading_alternation {t} {bs} {ps} h e f =
+    let (b, x) = reading_branch h e in
+    let (a, y) = h.all _ _ (last b f, x) in
+    (alternation a, ap (choice_noted (bs ++ joined ps ∷ []) (reach_of t.rest)) y)
 
 -- what is open ends at t
-reading_end : {d : ℕ} {s t : State} {bs ps : List Tree} (p : OpenPart) → ReadSoFar d p s bs ps t →
+reading_end : {d : ℕ} {s t : State} {bs ps : List Tree} {l m : Log} (p : OpenPart) → ReadSoFar d p s l bs ps t m →
     ends t.rest ≡ true → strip bar t.rest ≡ None →
-    Part p d s (done (choice (bs ++ joined ps ∷ [])) t)
+    Part p d s (done (choice (bs ++ joined ps ∷ [])) t) l (choice_closed bs ps t m)
 reading_end top h e f = reading_alternation h e f
 reading_end (group _ _) h e f = reading_alternation h e f
 reading_end condition h e f = reading_alternation h e f
 reading_end (body _ _) h e f = reading_alternation h e f
-reading_end {d} {s} {t} {ps} first h e f =
-    subst (λ l. Branch d s (done (choice (l ++ joined ps ∷ [])) t)) (sym (h.one refl).1) (reading_one h refl e)
-reading_end {d} {s} {t} {ps} (second a) h e f =
-    subst (λ l. Branch d s (done (choice (l ++ joined ps ∷ [])) t)) (sym (h.one refl).1) (reading_one h refl e)
+reading_end {d} {s} {t} {ps} {l} {m} first h e f =
+    subst (λ c. BranchTo d s (done (choice (c ++ joined ps ∷ [])) t) l (choice_closed c ps t m)) (sym (h.one refl).1)
+    (reading_one h refl e)
+reading_end {d} {s} {t} {ps} {l} {m} (second a) h e f =
+    subst (λ c. BranchTo d s (done (choice (c ++ joined ps ∷ [])) t) l (choice_closed c ps t m)) (sym (h.one refl).1)
+    (reading_one h refl e)
 
-reading_branch_fault : {d q : ℕ} {p : OpenPart} {s t : State} {k : Kind} {bs ps : List Tree}
-    (h : ReadSoFar d p s bs ps t) → ends t.rest ≡ false →
-    Piece d t (fault k q) → Branch d h.begin (fault k q)
-reading_branch_fault {q} {k} h e a = branch (h.branch (fault k q) (piece_fault e a))
+reading_branch_fault : {d q : ℕ} {p : OpenPart} {s t : State} {k : Kind} {bs ps : List Tree} {l m : Log}
+    (h : ReadSoFar d p s l bs ps t m) → ends t.rest ≡ false →
+    Piece d t (fault k q) → (n : Log) × BranchTo d h.begin (fault k q) h.before n
+reading_branch_fault {q} {k} {m} h e a =
+    let (p, x) = h.branch (fault k q) (piece_noted a m) (piece_fault e a, refl) in (_, (branch p, x))
 
-reading_fault : {d q : ℕ} {s t : State} {k : Kind} {bs ps : List Tree} (p : OpenPart) → ReadSoFar d p s bs ps t →
-    ends t.rest ≡ false →
-    Piece d t (fault k q) → Part p d s (fault k q)
-reading_fault {q} {k} top h e a = alternation (h.all (fault k q) (branch_fault (reading_branch_fault h e a)))
-reading_fault {q} {k} (group _ _) h e a = alternation (h.all (fault k q) (branch_fault (reading_branch_fault h e a)))
-reading_fault {q} {k} condition h e a = alternation (h.all (fault k q) (branch_fault (reading_branch_fault h e a)))
-reading_fault {q} {k} (body _ _) h e a = alternation (h.all (fault k q) (branch_fault (reading_branch_fault h e a)))
-reading_fault {d} {q} {k} first h e a =
-    subst (λ (x : State). Branch d x (fault k q)) (h.one refl).0 (reading_branch_fault h e a)
-reading_fault {d} {q} {k} (second b) h e a =
-    subst (λ (x : State). Branch d x (fault k q)) (h.one refl).0 (reading_branch_fault h e a)
+reading_fault : {d q : ℕ} {s t : State} {k : Kind} {bs ps : List Tree} {l m : Log} (p : OpenPart) →
+    ReadSoFar d p s l bs ps t m → ends t.rest ≡ false →
+    Piece d t (fault k q) → (n : Log) × Part p d s (fault k q) l n
+reading_fault {d} {q} {s} {k} {bs} {l} p h e a = by_part p h.one
+  where
+    f : (n : Log) × BranchTo d h.begin (fault k q) h.before n
+    f = reading_branch_fault h e a
+
+    several : (n : Log) × AlternationTo d s (fault k q) l n
+    several = let (b, x) = h.all (fault k q) f.0 (branch_fault f.1.0, f.1.1) in (_, (alternation b, x))
+
+    only : (h.begin ≡ s) × (bs ≡ []) × (h.before ≡ l) → (n : Log) × BranchTo d s (fault k q) l n
+    only i = (
+      f.0,
+      subst (λ l. BranchTo d s (fault k q) l f.0) i.2
+          (subst (λ (x : State). BranchTo d x (fault k q) h.before f.0) i.0 f.1),
+    )
+
+    by_part : (p : OpenPart) → (holds_one p ≡ true → (h.begin ≡ s) × (bs ≡ []) × (h.before ≡ l)) →
+        (n : Log) × Part p d s (fault k q) l n
+    by_part top i = several
+    by_part (group _ _) i = several
+    by_part condition i = several
+    by_part (body _ _) i = several
+    by_part first i = only (i refl)
+    by_part (second b) i = only (i refl)
 
 -- ---- the stack of open groups
 
 -- the fault of what is open is that of the whole
-levels_fault : {start : State} {d p : ℕ} {s : State} {k : Kind} {fs : List Frame} {ts : List Tree}
-    {o : OpenPart} → OpenGroups start fs ts o d s →
-    Part o d s (fault k p) → Alternation 0 start (fault k p)
-levels_fault outermost r = r
-levels_fault (inner f e x l h i m j) r = levels_fault l (reading_fault (part_of f.opener) h m (opens_fault j r))
+levels_fault : {start : State} {none : Log} {d p : ℕ} {s : State} {k : Kind} {fs : List Frame} {ts : List Tree}
+    {o : OpenPart} {l : Log} (n : Log) → OpenGroups start none fs ts o d s l →
+    Part o d s (fault k p) l n → Alternation 0 start (fault k p)
+levels_fault n outermost (r, x) = r
+levels_fault n (inner f e x l h i m j) r =
+    let (k, y) = reading_fault (part_of f.opener) h m (opens_fault n j r) in levels_fault k l y
 
 push-not_nil : {A : Type 0} (l : List A) (x : A) → [] ≡ l ++ x ∷ [] → ⊥
 push-not_nil [] x e = cc
 push-not_nil (y ∷ l) x e = cc
 
-levels_none : {start : State} {d : ℕ} {s : State} {fs : List Frame} {ts : List Tree} {o : OpenPart} →
-    OpenGroups start fs ts o d s →
-    fs ≡ [] → (d ≡ 0) × (s ≡ start) × (o ≡ top)
-levels_none outermost e = (refl, refl, refl)
+levels_none : {start : State} {none : Log} {d : ℕ} {s : State} {fs : List Frame} {ts : List Tree} {o : OpenPart}
+    {l : Log} → OpenGroups start none fs ts o d s l →
+    fs ≡ [] → (d ≡ 0) × (s ≡ start) × (o ≡ top) × (l ≡ none)
+levels_none outermost e = (refl, refl, refl, refl)
 levels_none (inner {frames} f i x l h a j k) e = absurd (push-not_nil frames f (sym e ∙ i))
 
 push-same : {A : Type 0} (l m : List A) (x y : A) → l ++ x ∷ [] ≡ m ++ y ∷ [] → (l ≡ m) × (x ≡ y)
@@ -284,42 +460,46 @@ push-same (a ∷ c ∷ l) [] x y e = absurd cc
 push-same (a ∷ l) (b ∷ m) x y e = let t : l ++ x ∷ [] ≡ m ++ y ∷ [] = cc in let h = push-same l m x y t in (cc, h.1)
 
 -- the group on top of the stack, in which the innermost part was opened, and the trees that stand to its end
-record Outer (start : State) (gs : List Frame) (g : Frame) (ts : List Tree) (o : OpenPart) (d : ℕ)
-    (s : State) : Type 0 where
+record Outer (start : State) (none : Log) (gs : List Frame) (g : Frame) (ts : List Tree) (o : OpenPart) (d : ℕ)
+    (s : State) (l : Log) : Type 0 where
   depth : ℕ
   begin : State
+  before : Log
   here : State
+  noted : Log
   below : List Tree
   branches : List Tree
   pieces : List Tree
   deeper : d ≡ depth + 1
   holds : HoldsTrees g ts below branches pieces
-  levels : OpenGroups start gs below (part_of g.opener) depth begin
-  reading : ReadSoFar depth (part_of g.opener) begin branches pieces here
+  levels : OpenGroups start none gs below (part_of g.opener) depth begin before
+  reading : ReadSoFar depth (part_of g.opener) begin before branches pieces here noted
   began : Began g here
   more : ends here.rest ≡ false
-  opens : OpensPart depth here o s
+  opens : OpensPart depth here noted o s l
 
-levels_pop : {start : State} (gs : List Frame) (g : Frame) {d : ℕ} {s : State} {fs : List Frame}
-    {ts : List Tree} {o : OpenPart} → OpenGroups start fs ts o d s →
-    fs ≡ gs ++ g ∷ [] → Outer start gs g ts o d s
+levels_pop : {start : State} {none : Log} (gs : List Frame) (g : Frame) {d : ℕ} {s : State} {fs : List Frame}
+    {ts : List Tree} {o : OpenPart} {l : Log} → OpenGroups start none fs ts o d s l →
+    fs ≡ gs ++ g ∷ [] → Outer start none gs g ts o d s l
 levels_pop gs g outermost e = absurd (push-not_nil gs g e)
-levels_pop {start} gs g {ts} (inner {d} {s} {t} {frames} {below} {branches} {pieces} f i x l h a m j) e =
+levels_pop {start} {none} gs g {ts} (inner {d} {s} {l = c} {t} {m} {frames} {below} {branches} {pieces} f i x l h a w j) e =
     let p = push-same frames gs f g (sym i ∙ e) in
     record {
       depth = d;
       begin = s;
+      before = c;
       here = t;
+      noted = m;
       below = below;
       branches = branches;
       pieces = pieces;
       deeper = refl;
       holds = subst (λ (y : Frame). HoldsTrees y ts below branches pieces) p.1 x;
-      levels = subst (λ (y : Frame). OpenGroups start gs below (part_of y.opener) d s) p.1
-          (subst (λ y. OpenGroups start y below (part_of f.opener) d s) p.0 l);
-      reading = subst (λ (y : Frame). ReadSoFar d (part_of y.opener) s branches pieces t) p.1 h;
+      levels = subst (λ (y : Frame). OpenGroups start none gs below (part_of y.opener) d s c) p.1
+          (subst (λ y. OpenGroups start none y below (part_of f.opener) d s c) p.0 l);
+      reading = subst (λ (y : Frame). ReadSoFar d (part_of y.opener) s c branches pieces t m) p.1 h;
       began = subst (λ (y : Frame). Began y t) p.1 a;
-      more = m;
+      more = w;
       opens = j;
     }
 
@@ -331,27 +511,29 @@ holds_new : (g : Frame) (trees : List Tree) → g.branches ≡ length trees → 
 holds_new g trees i j =
     let n = append-nil trees in (sym (append-nil (trees ++ []) ∙ n), i, j ∙ ap length (sym n))
 
-pub running_start : (start : State) (stack : List Frame) (f : Frame) (trees : List Tree) → stack ≡ [] →
-    trees ≡ [] → f.branches ≡ 0 → f.pieces ≡ 0 → part_of f.opener ≡ top → Running start stack f trees start
-running_start start stack f trees e x i j k = record {
+pub running_start : (start : State) (none : Log) (stack : List Frame) (f : Frame) (trees : List Tree) → stack ≡ [] →
+    trees ≡ [] → f.branches ≡ 0 → f.pieces ≡ 0 → part_of f.opener ≡ top → Running start none stack f trees start none
+running_start start none stack f trees e x i j k = record {
   depth = 0;
   begin = start;
+  before = none;
   below = [];
   branches = [];
   pieces = [];
   is_depth = rw e;
   holds = (x, i, j);
   levels = rw (e, k) outermost;
-  reading = reading_new 0 _ start _ _ refl refl;
+  reading = reading_new 0 _ start none _ _ refl refl;
 }
 
 -- what stands on the stack does not change by where the piece began
-pub running_began : {start t : State} {stack : List Frame} {f : Frame} {trees : List Tree} (left : ℕ)
-    (flags : Flags) → Running start stack f trees t →
-    Running start stack (record f { left = left; flags = flags }) trees t
+pub running_began : {start t : State} {none l : Log} {stack : List Frame} {f : Frame} {trees : List Tree} (left : ℕ)
+    (flags : Flags) → Running start none stack f trees t l →
+    Running start none stack (record f { left = left; flags = flags }) trees t l
 running_began left flags h = record {
   depth = h.depth;
   begin = h.begin;
+  before = h.before;
   below = h.below;
   branches = h.branches;
   pieces = h.pieces;
@@ -361,19 +543,22 @@ running_began left flags h = record {
   reading = h.reading;
 }
 
-pub running_fault : {start t : State} {stack : List Frame} {f : Frame} {trees : List Tree} {p : ℕ} {k : Kind}
-    (h : Running start stack f trees t) → ends t.rest ≡ false →
+pub running_fault : {start t : State} {none l : Log} {stack : List Frame} {f : Frame} {trees : List Tree} {p : ℕ}
+    {k : Kind} (h : Running start none stack f trees t l) → ends t.rest ≡ false →
     Piece (length stack) t (fault k p) → Alternation 0 start (fault k p)
 running_fault {t} {f} {p} {k} h e a =
-    levels_fault h.levels
-    (reading_fault (part_of f.opener) h.reading e (subst (λ d. Piece d t (fault k p)) (sym h.is_depth) a))
+    let (n, x) = reading_fault (part_of f.opener) h.reading e
+    (subst (λ d. Piece d t (fault k p)) (sym h.is_depth) a) in
+    levels_fault n h.levels x
 
-pub running_piece : {start t v : State} {stack : List Frame} {f : Frame} {trees : List Tree} {r : Tree}
-    (all : List Tree) → Running start stack f trees t → ends t.rest ≡ false →
-    Piece (length stack) t (done r v) → all ≡ trees ++ solid (r ∷ []) → Running start stack f all v
-running_piece {t} {v} {r} all h e a i = record {
+pub running_piece : {start t v : State} {none l m : Log} {stack : List Frame} {f : Frame} {trees : List Tree} {r : Tree}
+    (all : List Tree) → Running start none stack f trees t l → ends t.rest ≡ false →
+    PieceTo (length stack) t (done r v) l m → all ≡ trees ++ solid (r ∷ []) →
+    Running start none stack f all v (added r m)
+running_piece {t} {v} {l} {m} {r} all h e a i = record {
   depth = h.depth;
   begin = h.begin;
+  before = h.before;
   below = h.below;
   branches = h.branches;
   pieces = h.pieces ++ solid (r ∷ []);
@@ -384,33 +569,50 @@ running_piece {t} {v} {r} all h e a i = record {
     h.holds.2,
   );
   levels = h.levels;
-  reading = reading_piece _ _ h.reading e (subst (λ d. Piece d t (done r v)) (sym h.is_depth) a) refl refl;
+  reading = reading_piece _ _ h.reading e (subst (λ d. PieceTo d t (done r v) l m) (sym h.is_depth) a) refl refl;
 }
 
+-- a leaf that a look ahead reads
+pub running_leaf : {start t : State} {none l : Log} {stack : List Frame} {f : Frame} {trees : List Tree} {u : Text}
+    {r : Tree} (all : List Tree) → Running start none stack f trees t l → IsNotedPlain t r u →
+    all ≡ trees ++ solid (r ∷ []) →
+    Running start none stack f all (at t u) (leaf_noted (reach_of t.rest) (reach_of u) l)
+running_leaf {start} {t} {none} {l} {stack} {f} {u} {r} all h p e =
+    let m = leaf_noted (reach_of t.rest) (reach_of u) l in
+    subst (Running start none stack f all (at t u)) (ap (λ b. if b then left_out m else m) p.solid)
+    (running_piece all h p.more (p.piece _ l) e)
+
+-- a leaf behind others, where it is no Empty
+pub added_leaf : (r : Tree) (a b x y : ℕ) (l : Log) → is_empty r ≡ false → a ≡ x → b ≡ y →
+    added r (leaf_noted a b l) ≡ leaf_noted x y l
+added_leaf r a b x y l e i j = rw (i, j, e) refl
+
 -- a part is opened in the piece that began there
-running_open : {start t v : State} {stack : List Frame} {f : Frame} {trees : List Tree} {o : OpenPart}
-    (all : List Frame) (g : Frame) → Running start stack f trees t →
-    Began f t → ends t.rest ≡ false → OpensPart (length stack) t o v → all ≡ stack ++ f ∷ [] → part_of g.opener ≡ o →
-    g.branches ≡ length trees → g.pieces ≡ length trees → Running start all g trees v
-running_open {t} {v} {stack} {f} {trees} {o} all g h b e a i j k l = record {
+running_open : {start t v : State} {none l m : Log} {stack : List Frame} {f : Frame} {trees : List Tree} {o : OpenPart}
+    (all : List Frame) (g : Frame) → Running start none stack f trees t l →
+    Began f t → ends t.rest ≡ false → OpensPart (length stack) t l o v m → all ≡ stack ++ f ∷ [] →
+    part_of g.opener ≡ o → g.branches ≡ length trees → g.pieces ≡ length trees → Running start none all g trees v m
+running_open {t} {v} {l = c} {m} {stack} {f} {trees} {o} all g h b e a i j k l = record {
   depth = h.depth + 1;
   begin = v;
+  before = m;
   below = trees;
   branches = [];
   pieces = [];
   is_depth = omega (arith, h.is_depth, ap length i, length_push stack f);
   holds = holds_new g trees k l;
   levels = rw j
-      (inner f i h.holds h.levels h.reading b e (subst (λ d. OpensPart d t o v) (sym h.is_depth) a));
-  reading = reading_new _ _ v _ _ refl refl;
+      (inner f i h.holds h.levels h.reading b e (subst (λ d. OpensPart d t c o v m) (sym h.is_depth) a));
+  reading = reading_new _ _ v m _ _ refl refl;
 }
 
 -- a step is taken
-pub running_step : {start t v : State} {stack all : List Frame} {f g : Frame} {trees ts : List Tree}
-    (made : Step) → Running start stack f trees t → Began f t → ends t.rest ≡ false →
-    IsStep (length stack) t made v → Takes made stack f trees all g ts → Running start all g ts v
-running_step {ts} (step.Piece tree) h b e a i = rw (i.0, i.1) (running_piece ts h e a i.2)
-running_step {all} {g} (step.Open opener) h b e a i =
+pub running_step : {start t v : State} {none l : Log} {stack all : List Frame} {f g : Frame} {trees ts : List Tree}
+    (m : Log) (made : Step) → Running start none stack f trees t l → Began f t → ends t.rest ≡ false →
+    IsStep (length stack) t l made v m → Takes made stack f trees all g ts →
+    Running start none all g ts v (taken_noted made m)
+running_step {ts} m (step.Piece tree) h b e a i = rw (i.0, i.1) (running_piece ts h e a i.2)
+running_step {all} {g} m (step.Open opener) h b e a i =
     rw i.1 (running_open all g h b e a i.0 (ap part_of i.2) i.3 i.4)
 
 -- no more groups are open behind it than may be
@@ -427,25 +629,33 @@ opens_below d (step.Piece tree) h = tt
 opens_below d (step.Open opener) h = h
 
 -- behind a bar the second branch of an absent expression is open
-levels_bar : {d : ℕ} {start s t : State} {u : Text} {a : Tree} {fs : List Frame} {ts : List Tree} →
-    OpenGroups start fs ts first d s → Branch d s (done a t) →
-    strip bar t.rest ≡ Some u → OpenGroups start fs ts (second a) d (at t u)
-levels_bar (inner f i l h m j x y) b e = inner f i l h m j x (behind_branch y b e)
+levels_bar : {d : ℕ} {start s t : State} {none l m : Log} {u : Text} {a : Tree} {fs : List Frame} {ts : List Tree} →
+    OpenGroups start none fs ts first d s l → BranchTo d s (done a t) l m →
+    strip bar t.rest ≡ Some u →
+    OpenGroups start none fs ts (second a) d (at t u) (branch_begun (reach_of u) m)
+levels_bar {start} {t} {none} {u} {a} {fs} {ts} (inner {d} f i l h m j x y) (b, z) e =
+    subst (λ m. OpenGroups start none fs ts (second a) (d + 1) (at t u) (branch_begun (reach_of u) m)) z
+    (inner f i l h m j x (behind_branch y b e))
 
-pub running_bar : {start t : State} {u : Text} {stack : List Frame} {f : Frame} {trees : List Tree}
-    (all : List Tree) (g : Frame) (h : Running start stack f trees t) → ends t.rest ≡ true →
+pub running_bar : {start t : State} {none l : Log} {u : Text} {stack : List Frame} {f : Frame} {trees : List Tree}
+    (all : List Tree) (g : Frame) (h : Running start none stack f trees t l) → ends t.rest ≡ true →
     strip bar t.rest ≡ Some u → is_second (part_of f.opener) ≡ false →
     part_of g.opener ≡ opened_by_bar (part_of f.opener) (joined h.pieces) →
     HoldsTrees g all h.below (branches_at_bar (part_of f.opener) h.branches (joined h.pieces)) [] →
-    Running start stack g all (at t u)
-running_bar {start} {t} {u} {stack} {f} all g h e b x i j = by_open (part_of f.opener) h.levels h.reading x i j
+    Running start none stack g all (at t u) (branch_begun (reach_of u) (branch_closed h.pieces t l))
+running_bar {start} {t} {none} {l = c} {u} {stack} {f} all g h e b x i j =
+    by_open (part_of f.opener) h.levels h.reading x i j
   where
-    ordinary : {p : OpenPart} → holds_one p ≡ false → OpenGroups start stack h.below p h.depth h.begin →
-        ReadSoFar h.depth p h.begin h.branches h.pieces t → part_of g.opener ≡ p →
-        HoldsTrees g all h.below (h.branches ++ joined h.pieces ∷ []) [] → Running start stack g all (at t u)
+    n : Log
+    n = branch_begun (reach_of u) (branch_closed h.pieces t c)
+
+    ordinary : {p : OpenPart} → holds_one p ≡ false → OpenGroups start none stack h.below p h.depth h.begin h.before →
+        ReadSoFar h.depth p h.begin h.before h.branches h.pieces t c → part_of g.opener ≡ p →
+        HoldsTrees g all h.below (h.branches ++ joined h.pieces ∷ []) [] → Running start none stack g all (at t u) n
     ordinary z l r i j = record {
       depth = h.depth;
       begin = h.begin;
+      before = h.before;
       below = h.below;
       branches = h.branches ++ joined h.pieces ∷ [];
       pieces = [];
@@ -455,11 +665,11 @@ running_bar {start} {t} {u} {stack} {f} all g h e b x i j = by_open (part_of f.o
       reading = rw i (reading_bar _ _ r z e b refl refl);
     }
 
-    by_open : (p : OpenPart) → OpenGroups start stack h.below p h.depth h.begin →
-        ReadSoFar h.depth p h.begin h.branches h.pieces t →
+    by_open : (p : OpenPart) → OpenGroups start none stack h.below p h.depth h.begin h.before →
+        ReadSoFar h.depth p h.begin h.before h.branches h.pieces t c →
         is_second p ≡ false → part_of g.opener ≡ opened_by_bar p (joined h.pieces) →
         HoldsTrees g all h.below (branches_at_bar p h.branches (joined h.pieces)) [] →
-        Running start stack g all (at t u)
+        Running start none stack g all (at t u) n
     by_open top l r x i j = ordinary refl l r i j
     by_open (group _ _) l r x i j = ordinary refl l r i j
     by_open condition l r x i j = ordinary refl l r i j
@@ -467,13 +677,14 @@ running_bar {start} {t} {u} {stack} {f} all g h e b x i j = by_open (part_of f.o
     by_open first l r x i j = record {
       depth = h.depth;
       begin = at t u;
+      before = n;
       below = h.below;
       branches = h.branches;
       pieces = [];
       is_depth = h.is_depth;
       holds = j;
       levels = rw i (levels_bar l (reading_one r refl e) b);
-      reading = rw i (reading_new _ _ _ _ _ (r.one refl).1 refl);
+      reading = rw i (reading_new _ _ _ _ _ _ (r.one refl).1 refl);
     }
     by_open (second a) l r x i j = absurd (true≢false x)
 
@@ -504,20 +715,21 @@ closed_other r t c u e h = ap (closed_at r t) e ∙ other (c == code ")") (searc
 bar_does_not_close : bar ≢ code ")"
 bar_does_not_close e = omega (arith, e)
 
-second_fault : {d p : ℕ} {start s t : State} {k : Kind} {a r : Tree} {fs : List Frame} {ts : List Tree} →
-    OpenGroups start fs ts (second a) d s → Branch d s (done r t) →
+second_fault : {d p : ℕ} {start s t : State} {none l m : Log} {k : Kind} {a r : Tree} {fs : List Frame}
+    {ts : List Tree} → OpenGroups start none fs ts (second a) d s l → BranchTo d s (done r t) l m →
     closed (expression a r) t ≡ fault k p → Alternation 0 start (fault k p)
 second_fault {t} {a} {r} (inner f i y l h m j x) b e =
-    levels_fault l (reading_fault (part_of f.opener) h j (ended_fault r t x b (λ _ z. absurd (true≢false z)) e))
+    let (n, z) = reading_fault (part_of f.opener) h j (ended_fault _ r t x b (λ _ z. absurd (true≢false z)) e) in
+    levels_fault n l z
 
-pub running_bar_fault : {start t : State} {u : Text} {stack : List Frame} {f : Frame} {trees : List Tree}
-    (o : Outcome Tree) → Running start stack f trees t →
+pub running_bar_fault : {start t : State} {none l : Log} {u : Text} {stack : List Frame} {f : Frame}
+    {trees : List Tree} (o : Outcome Tree) → Running start none stack f trees t l →
     ends t.rest ≡ true → strip bar t.rest ≡ Some u → IsFaultOfBar (part_of f.opener) t.rest o →
     Alternation 0 start o
-running_bar_fault {start} {t} {u} {stack} {f} o h e b x = by_open (part_of f.opener) h.levels h.reading x
+running_bar_fault {start} {t} {none} {l = c} {u} {stack} {f} o h e b x = by_open (part_of f.opener) h.levels h.reading x
   where
-    by_open : (p : OpenPart) → OpenGroups start stack h.below p h.depth h.begin →
-        ReadSoFar h.depth p h.begin h.branches h.pieces t →
+    by_open : (p : OpenPart) → OpenGroups start none stack h.below p h.depth h.begin h.before →
+        ReadSoFar h.depth p h.begin h.before h.branches h.pieces t c →
         IsFaultOfBar p t.rest o → Alternation 0 start o
     by_open (second a) l r x =
         subst (Alternation 0 start) (sym x)
@@ -530,42 +742,51 @@ running_bar_fault {start} {t} {u} {stack} {f} o h e b x = by_open (part_of f.ope
     by_open (body _ _) l r x = absurd x
     by_open first l r x = absurd x
 
-pub running_end : {start t : State} {stack : List Frame} {f : Frame} {trees : List Tree} (r : Tree)
-    (h : Running start stack f trees t) → ends t.rest ≡ true → strip bar t.rest ≡ None →
-    r ≡ choice (h.branches ++ joined h.pieces ∷ []) → stack ≡ [] → Alternation 0 start (done r t)
-running_end {start} {t} r h e a i j =
-    let m = levels_none h.levels j in
+pub running_end : {start t : State} {none l : Log} {stack : List Frame} {f : Frame} {trees : List Tree} (r : Tree)
+    (h : Running start none stack f trees t l) → ends t.rest ≡ true → strip bar t.rest ≡ None →
+    r ≡ choice (h.branches ++ joined h.pieces ∷ []) → stack ≡ [] →
+    AlternationTo 0 start (done r t) none (choice_closed h.branches h.pieces t l)
+running_end {start} {t} {none} {l} r h e a i j =
+    let (d, s, p, c) = levels_none h.levels j in
     let whole = choice (h.branches ++ joined h.pieces ∷ []) in
-    rw i (subst (λ s. Alternation 0 s (done whole t)) m.1
-    (subst (λ d. Alternation d h.begin (done whole t)) m.0 (reading_alternation h.reading e a)))
+    let n = choice_closed h.branches h.pieces t l in
+    rw i (subst (λ c. AlternationTo 0 start (done whole t) c n) c
+    (subst (λ s. AlternationTo 0 s (done whole t) h.before n) s
+    (subst (λ d. AlternationTo d h.begin (done whole t) h.before n) d (reading_alternation h.reading e a))))
 
 -- what the part that is to be closed stands in
-pub record Closing (start : State) (stack : List Frame) (g : Frame) (trees : List Tree) (o : OpenPart)
-    (r : Tree) (t : State) : Type 0 where
+pub record Closing (start : State) (none : Log) (stack : List Frame) (g : Frame) (trees : List Tree) (o : OpenPart)
+    (r : Tree) (t : State) (n : Log) : Type 0 where
   pub here : State
+  pub noted : Log
   pub inside : State
-  pub outer : Running start stack g trees here
+  pub before : Log
+  pub outer : Running start none stack g trees here noted
   pub began : Began g here
   pub more : ends here.rest ≡ false
-  pub opens : OpensPart (length stack) here o inside
-  pub whole : Part o (length stack + 1) inside (done r t)
+  pub opens : OpensPart (length stack) here noted o inside before
+  pub whole : Part o (length stack + 1) inside (done r t) before n
 
-pub running_closing : {start t : State} {all : List Frame} {f : Frame} {trees : List Tree}
+pub running_closing : {start t : State} {none l : Log} {all : List Frame} {f : Frame} {trees : List Tree}
     (stack : List Frame) (g : Frame) (below : List Tree) (r : Tree) (q : OpenPart) → q ≡ part_of f.opener →
-    (h : Running start all f trees t) → ends t.rest ≡ true → strip bar t.rest ≡ None →
+    (h : Running start none all f trees t l) → ends t.rest ≡ true → strip bar t.rest ≡ None →
     r ≡ choice (h.branches ++ joined h.pieces ∷ []) → below ≡ h.below → all ≡ stack ++ g ∷ [] →
-    Closing start stack g below q r t
-running_closing {t} {f} stack g below r q z h e a i k j =
+    Closing start none stack g below q r t (choice_closed h.branches h.pieces t l)
+running_closing {t} {l} {f} stack g below r q z h e a i k j =
     let o = levels_pop stack g h.levels j in
     let m : o.depth ≡ length stack = omega (arith, o.deeper, h.is_depth, ap length j, length_push stack g) in
-    let opens : OpensPart (length stack) o.here q h.begin =
-    rw z (subst (λ d. OpensPart d o.here (part_of f.opener) h.begin) m o.opens) in
+    let opens : OpensPart (length stack) o.here o.noted q h.begin h.before =
+    rw z (subst (λ d. OpensPart d o.here o.noted (part_of f.opener) h.begin h.before) m o.opens) in
+    let n = choice_closed h.branches h.pieces t l in
     record {
       here = o.here;
+      noted = o.noted;
       inside = h.begin;
+      before = h.before;
       outer = record {
         depth = o.depth;
         begin = o.begin;
+        before = o.before;
         below = o.below;
         branches = o.branches;
         pieces = o.pieces;
@@ -578,6 +799,6 @@ running_closing {t} {f} stack g below r q z h e a i k j =
       more = o.more;
       opens = opens;
       whole = rw (z, i) (subst (λ d. Part (part_of f.opener) d h.begin
-          (done (choice (h.branches ++ joined h.pieces ∷ [])) t)) (o.deeper ∙ ap (λ d. d + 1) m)
+          (done (choice (h.branches ++ joined h.pieces ∷ [])) t) h.before n) (o.deeper ∙ ap (λ d. d + 1) m)
           (reading_end (part_of f.opener) h.reading e a));
     }

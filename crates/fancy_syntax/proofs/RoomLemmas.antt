@@ -22,6 +22,7 @@ use Rattle.fancy_grammar.specs.Tree.{Tree}
 use Rattle.fancy_grammar.proofs.AheadLaws.{AheadReads, ahead_reads}
 use Rattle.fancy_grammar.proofs.ReadLaws.{inside_read, branch_read}
 use Rattle.fancy_grammar.proofs.Slices.{skipped_slice, strip_slice}
+use Rattle.fancy_syntax.specs.Log.{Log}
 use Rattle.fancy_syntax.specs.Machine.{OpenPart, OpensPart, a_group, a_condition, a_body, behind_condition, a_branch}
 use Rattle.fancy_syntax.specs.Machine.{behind_branch, OpenGroups, outermost, inner, Running, IsStep}
 use Rattle.fancy_syntax.specs.Machine.{OpensBelow}
@@ -88,7 +89,8 @@ opens_ahead d s k u e h a long =
     let (t, first) = first_opens d s (subst Opens (sym e) h) in one_fewer first a long
 
 -- a part is opened by a parenthesis or more
-opened_fewer : {d : ℕ} {s t : State} {o : OpenPart} → OpensPart d s o t → open_parens t.rest + 1 ≤ open_parens s.rest
+opened_fewer : {d : ℕ} {s t : State} {o : OpenPart} {l m : Log} → OpensPart d s l o t m →
+    open_parens t.rest + 1 ≤ open_parens s.rest
 opened_fewer (a_group {d} {s} {t} {u} l e) =
     let past = subst (AheadReads (at s u)) e (ahead_reads d (at s u)) in
     omega (arith, fewer_behind (skipped_slice s u l), opens_ahead d (at s u) _ t.rest e tt past.0 past.1)
@@ -112,15 +114,16 @@ opened_fewer (behind_branch {v} {u} x b e) =
 -- ---- the stack
 
 -- each group that is open has taken one
-groups_fewer : {start : State} {d : ℕ} {s : State} {fs : List Frame} {ts : List Tree} {o : OpenPart} →
-    OpenGroups start fs ts o d s → length fs + open_parens s.rest ≤ open_parens start.rest
+groups_fewer : {start : State} {none l : Log} {d : ℕ} {s : State} {fs : List Frame} {ts : List Tree} {o : OpenPart} →
+    OpenGroups start none fs ts o d s l → length fs + open_parens s.rest ≤ open_parens start.rest
 groups_fewer outermost = omega arith
 groups_fewer (inner {frames} f i x l h a m j) =
     omega (arith, groups_fewer l, ap length i, length_push frames f, fewer_behind h.slice, opened_fewer j)
 
 -- so there is room for one more where one opens
-room_for_one : {start t v : State} {stack : List Frame} {f : Frame} {trees : List Tree} {o : OpenPart} (room : ℕ) →
-    Running start stack f trees t → OpensPart (length stack) t o v → length stack + 1 < max_depth →
+room_for_one : {start t v : State} {none l m : Log} {stack : List Frame} {f : Frame} {trees : List Tree} {o : OpenPart}
+    (room : ℕ) → Running start none stack f trees t l → OpensPart (length stack) t l o v m →
+    length stack + 1 < max_depth →
     groups_at_once start.rest ≤ room → length stack < room
 room_for_one {start} {stack} room h opens below fits =
     let open_here : length stack + 1 ≤ open_parens start.rest =
@@ -132,11 +135,12 @@ room_for_one {start} {stack} room h opens below fits =
     by_test true i k = omega (arith, below, k)
     by_test false i k = omega (arith, i, k)
 
-pub room_for_step : {start t : State} {stack : List Frame} {f : Frame} {trees : List Tree} (v : State) (made : Step)
-    (r : Parser) → Running start stack f trees t → IsStep (length stack) t made v → OpensBelow made (length stack) →
+pub room_for_step : {start t : State} {none l : Log} {stack : List Frame} {f : Frame} {trees : List Tree} (v : State)
+    (m : Log) (made : Step) (r : Parser) → Running start none stack f trees t l →
+    IsStep (length stack) t l made v m → OpensBelow made (length stack) →
     HasRoom r start.rest → vec_len r.stack ≡ length stack → HasRoomFor made r
-room_for_step v (step.Piece piece) r h steps below room e = tt
-room_for_step v (step.Open opener) r h steps below room e =
+room_for_step v m (step.Piece piece) r h steps below room e = tt
+room_for_step v m (step.Open opener) r h steps below room e =
     omega (arith, e, room_for_one (vec_capacity r.stack) h steps below room)
 
 -- ---- the count

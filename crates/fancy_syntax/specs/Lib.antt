@@ -23,6 +23,9 @@ pub use Rattle.fancy_grammar.specs.Marks
 pub mod Answer
 pub use Rattle.fancy_grammar.specs.Preorder
 pub use Rattle.fancy_grammar.specs.Answered
+-- ---- where the nodes stand
+pub use Rattle.fancy_grammar.specs.Spans
+pub mod SpanViews
 pub mod Spanned
 -- ---- printing, and what a printed text reads as
 pub use Rattle.fancy_grammar.specs.Printed
@@ -40,6 +43,8 @@ pub mod Machine
 pub mod Room
 pub mod Log
 pub mod LogViews
+pub mod Noting
+pub mod NotedWhole
 -- ---- the resolver's walks
 pub mod Notes
 -- ---- the writing of texts

@@ -6,14 +6,19 @@ use Rattle.fancy_lex.specs.FaultTable.{bar_for_close_paren, body_wanting}
 use Rattle.fancy_lex.specs.LayoutSteps.{rest}
 use Rattle.fancy_lex.specs.Text.{Text, bytes, reach_of, strip}
 use Rattle.fancy_lex.specs.declared.error.Failure.{Failure}
+use Rattle.fancy_lex.specs.declared.flags.Flags.{Flags}
 use Rattle.fancy_grammar.specs.Ahead.{ahead}
 use Rattle.fancy_grammar.specs.Depth.{max_depth}
 use Rattle.fancy_grammar.specs.Ahead as seen
-use Rattle.fancy_grammar.specs.Grammar.{Alternation, Branches, Branch, Pieces, Piece, Inside, closed, is_condition}
+use Rattle.fancy_grammar.specs.Grammar.{Branch, Piece, Inside, closed, is_condition}
 use Rattle.fancy_grammar.specs.Grammar.{branches_of, conditional_of, clear_or_stopper}
 use Rattle.fancy_grammar.specs.Head.{Head, group_node}
-use Rattle.fancy_grammar.specs.Join.{solid}
+use Rattle.fancy_grammar.specs.Join.{solid, is_empty}
 use Rattle.fancy_grammar.specs.Slices.{Slice}
+use Rattle.fancy_grammar.specs.Spans.{if_done}
+use Rattle.fancy_syntax.specs.Log.{Log, leaf_noted, opened, body_opened, part_begun, branch_begun, atom_closed}
+use Rattle.fancy_syntax.specs.Noting.{PieceTo, PiecesTo, BranchTo, BranchesTo, AlternationTo, inside_noted, branch_noted}
+use Rattle.fancy_syntax.specs.Noting.{group_noted, conditional_noted, stopper_noted, quants_noted, added}
 use Rattle.fancy_syntax.specs.Parsed.{head_of, state}
 use Rattle.fancy_grammar.specs.Errors.{IsErrorAmong}
 use Rattle.fancy_grammar.specs.State.{ends, skipped, State, at, Outcome, done, faulted, seen_through}
@@ -68,27 +73,30 @@ abbrev pub IsFaultOfBar : OpenPart → Text → Outcome Tree → Type 0
 IsFaultOfBar (second a) t o = o ≡ faulted (bar_for_close_paren t)
 IsFaultOfBar _ t o = ⊥
 
--- what is read of what is open
-abbrev pub Part : OpenPart → ℕ → State → Outcome Tree → Type 0
-Part first d s o = Branch d s o
-Part (second a) d s o = Branch d s o
-Part top d s o = Alternation d s o
-Part (group h p) d s o = Alternation d s o
-Part condition d s o = Alternation d s o
-Part (body c left) d s o = Alternation d s o
+-- what is read of what is open, noted from the one log to the other
+abbrev pub Part : OpenPart → ℕ → State → Outcome Tree → Log → Log → Type 0
+Part first d s o l m = BranchTo d s o l m
+Part (second a) d s o l m = BranchTo d s o l m
+Part top d s o l m = AlternationTo d s o l m
+Part (group h p) d s o l m = AlternationTo d s o l m
+Part condition d s o l m = AlternationTo d s o l m
+Part (body c left) d s o l m = AlternationTo d s o l m
 
--- a piece at s opens this, and what is read of it begins at t
-pub data OpensPart : ℕ → State → OpenPart → State → Type 0 where
-  a_group : {d s t u h : _} → skipped s ≡ rest u → ahead d (at s u) ≡ seen.with_head h t →
-      OpensPart d s (group h (reach_of u)) t
-  a_condition : {d s t u : _} → skipped s ≡ rest u → ahead d (at s u) ≡ seen.condition t → OpensPart d s condition t
-  a_body : {d s t u c : _} → skipped s ≡ rest u → ahead d (at s u) ≡ seen.body c t →
-      OpensPart d s (body c (bytes t.rest)) t
-  behind_condition : {d s t v c : _} → OpensPart d s condition t → Inside d t (done c v) →
-      OpensPart d s (body c (bytes v.rest)) v
-  a_branch : {d s t u : _} → skipped s ≡ rest u → ahead d (at s u) ≡ seen.absent_branch t → OpensPart d s first t
-  behind_branch : {d s t v u a : _} → OpensPart d s first t → Branch (d + 1) t (done a v) →
-      strip bar v.rest ≡ Some u → OpensPart d s (second a) (at v u)
+-- a piece at s opens this, and what is read of it begins at t; l is noted before, and the last log behind
+pub data OpensPart : ℕ → State → Log → OpenPart → State → Log → Type 0 where
+  a_group : {d s l t u h : _} → skipped s ≡ rest u → ahead d (at s u) ≡ seen.with_head h t →
+      OpensPart d s l (group h (reach_of u)) t (opened (reach_of u) (reach_of t.rest) l)
+  a_condition : {d s l t u : _} → skipped s ≡ rest u → ahead d (at s u) ≡ seen.condition t →
+      OpensPart d s l condition t (opened (reach_of u) (reach_of t.rest) l)
+  a_body : {d s l t u c : _} → skipped s ≡ rest u → ahead d (at s u) ≡ seen.body c t →
+      OpensPart d s l (body c (bytes t.rest)) t (body_opened (at s u) t l)
+  behind_condition : {d s l t m v c : _} → OpensPart d s l condition t m → (i : Inside d t (done c v)) →
+      OpensPart d s l (body c (bytes v.rest)) v (part_begun (reach_of v.rest) (inside_noted i m))
+  a_branch : {d s l t u : _} → skipped s ≡ rest u → ahead d (at s u) ≡ seen.absent_branch t →
+      OpensPart d s l first t (opened (reach_of u) (reach_of t.rest) l)
+  behind_branch : {d s l t m v u a : _} → OpensPart d s l first t m → (b : Branch (d + 1) t (done a v)) →
+      strip bar v.rest ≡ Some u →
+      OpensPart d s l (second a) (at v u) (branch_begun (reach_of u) (branch_noted b m))
 
 -- the body of a conditional is wanting: it takes no byte, and the condition cannot do without
 abbrev pub lacks_body : OpenPart → State → Bool
@@ -115,15 +123,31 @@ ended_part p r s =
     if lacks_body p s then faulted (body_wanting s.rest)
     else closed (node_of_part p r) s
 
+-- what is noted where it ends with the tree r: its parenthesis begins at the one reach and ends at the other
+abbrev pub part_noted : OpenPart → Tree → ℕ → ℕ → Log → Log
+part_noted top r paren end l = l
+part_noted (group h p) r paren end l = group_noted h end l
+part_noted condition r paren end l = l
+part_noted (body c left) r paren end l = conditional_noted r paren end l
+part_noted first r paren end l = stopper_noted r end l
+part_noted (second a) r paren end l = atom_closed end false l
+
+-- the same with what follows: the body of a conditional begins, or quantifiers are read under the flags before the piece
+abbrev pub close_noted : ℕ → Flags → OpenPart → Tree → State → Log → Log
+close_noted left flags p r s l = if_done (ended_part p r s) (λ a t.
+    let m = part_noted p r (reach_of s.rest) (reach_of t.rest) l in
+    if goes_on p then part_begun (reach_of t.rest) m
+    else quants_noted left (done a (record t { flags = flags })) m) l
+
 -- a group is opened only where one may open inside d groups
 abbrev pub OpensBelow : Step → ℕ → Type 0
 OpensBelow (step.Piece piece) d = ⊤
 OpensBelow (step.Open opener) d = d + 1 < max_depth
 
--- a step from s reads a piece, or opens a part of one, and ends at t
-abbrev pub IsStep : ℕ → State → Step → State → Type 0
-IsStep d s (step.Piece piece) t = Piece d s (done (view piece) t)
-IsStep d s (step.Open opener) t = OpensPart d s (part_of opener) t
+-- a step from s reads a piece, or opens a part of one, and ends at t; what is noted goes from l to m
+abbrev pub IsStep : ℕ → State → Log → Step → State → Log → Type 0
+IsStep d s l (step.Piece piece) t m = PieceTo d s (done (view piece) t) l m
+IsStep d s l (step.Open opener) t m = OpensPart d s l (part_of opener) t m
 
 -- the stack, the innermost group and all trees behind a step: a tree more, or a group more in which nothing is read
 abbrev pub Takes : Step → List Frame → Frame → List Tree → List Frame → Frame → List Tree → Type 0
@@ -132,9 +156,14 @@ Takes (step.Open opener) fs f ts gs g us =
     (gs ≡ fs ++ f ∷ []) × (us ≡ ts) ×
     (g.opener ≡ opener) × (g.branches ≡ length ts) × (g.pieces ≡ length ts)
 
--- a step from s to t, or the fault of a piece there
-abbrev pub GivesStep : Result Step Failure → ℕ → State → State → Type 0
-GivesStep r d s t = MatchResult r (λ p. IsStep d s p t) (λ e. IsErrorAmong e (Piece d s))
+-- what is noted once a step is taken: an Empty is left out
+abbrev pub taken_noted : Step → Log → Log
+taken_noted (step.Piece piece) l = added (view piece) l
+taken_noted (step.Open opener) l = l
+
+-- a step from s to t, noted from l to m, or the fault of a piece there
+abbrev pub GivesStep : Result Step Failure → ℕ → State → Log → State → Log → Type 0
+GivesStep r d s l t m = MatchResult r (λ p. IsStep d s l p t m) (λ e. IsErrorAmong e (Piece d s))
 
 -- the step reads a piece, to this outcome
 abbrev pub IsPiece : Step → State → Outcome Tree → Type 0
@@ -145,14 +174,19 @@ IsPiece (step.Open opener) t o = ⊥
 abbrev pub GivesPiece : Result Step Failure → Outcome Tree → State → Type 0
 GivesPiece r o t = MatchResult r (λ p. IsPiece p t o) (λ e. IsErrorAmong e (λ q. o ≡ q))
 
--- what is read of a part that begins at s: branches, and the pieces of the branch that is open at t
-pub record ReadSoFar (d : ℕ) (p : OpenPart) (s : State) (branches pieces : List Tree) (t : State) : Type 0 where
+-- what is read of a part that begins at s: branches, and the pieces of the branch that is open at t; what is noted goes
+-- from the log `start` to l
+pub record ReadSoFar (d : ℕ) (p : OpenPart) (s : State) (start : Log) (branches pieces : List Tree) (t : State)
+    (l : Log) : Type 0 where
   pub begin : State
+  pub before : Log
   pub read : List Tree
   pub same : solid read ≡ pieces
-  pub branch : (o : Outcome (List Tree)) → Pieces d t o → Pieces d begin (seen_through (λ l. read ++ l) o)
-  pub all : (o : Outcome (List Tree)) → Branches d begin o → Branches d s (seen_through (λ l. branches ++ l) o)
-  pub one : holds_one p ≡ true → (begin ≡ s) × (branches ≡ [])
+  pub branch : (o : Outcome (List Tree)) (m : Log) → PiecesTo d t o l m →
+      PiecesTo d begin (seen_through (λ l. read ++ l) o) before m
+  pub all : (o : Outcome (List Tree)) (m : Log) → BranchesTo d begin o before m →
+      BranchesTo d s (seen_through (λ l. branches ++ l) o) start m
+  pub one : holds_one p ≡ true → (begin ≡ s) × (branches ≡ []) × (before ≡ start)
   pub slice : Slice s.rest t.rest
 
 -- the piece in which the parts above the frame were opened began at the state
@@ -164,29 +198,40 @@ abbrev pub HoldsTrees : Frame → (trees below branches pieces : List Tree) → 
 HoldsTrees f trees below branches pieces =
     (trees ≡ below ++ branches ++ pieces) × (f.branches ≡ length below) × (f.pieces ≡ length (below ++ branches))
 
--- the open groups of a text that begins at `start`, and the trees that they hold; what is read of the innermost begins
--- at s, at depth d, and its own trees are not among these
-pub data OpenGroups (start : State) : List Frame → List Tree → OpenPart → ℕ → State → Type 0 where
-  outermost : OpenGroups start [] [] top 0 start
-  inner : {d s t v p all frames trees below branches pieces : _} (f : Frame) → all ≡ frames ++ f ∷ [] →
-      HoldsTrees f trees below branches pieces → OpenGroups start frames below (part_of f.opener) d s →
-      ReadSoFar d (part_of f.opener) s branches pieces t → Began f t → ends t.rest ≡ false → OpensPart d t p v →
-      OpenGroups start all trees p (d + 1) v
+-- the open groups of a text that begins at `start`, where `none` is noted, and the trees that they hold; what is read of
+-- the innermost begins at s, at depth d, where l is noted, and its own trees are not among these
+pub data OpenGroups (start : State) (none : Log) : List Frame → List Tree → OpenPart → ℕ → State → Log → Type 0 where
+  outermost : OpenGroups start none [] [] top 0 start none
+  inner : {d s l t m v n p all frames trees below branches pieces : _} (f : Frame) → all ≡ frames ++ f ∷ [] →
+      HoldsTrees f trees below branches pieces → OpenGroups start none frames below (part_of f.opener) d s l →
+      ReadSoFar d (part_of f.opener) s l branches pieces t m → Began f t → ends t.rest ≡ false →
+      OpensPart d t m p v n → OpenGroups start none all trees p (d + 1) v n
 
 -- what is open is read of a text that begins at `start`, up to t: the frames, the trees that they hold, and the frame
--- on top of them
-pub record Running (start : State) (stack : List Frame) (f : Frame) (trees : List Tree) (t : State) : Type 0
-  where
-    pub depth : ℕ
-    pub begin : State
-    pub below : List Tree
-    pub branches : List Tree
-    pub pieces : List Tree
-    pub is_depth : depth ≡ length stack
-    pub holds : HoldsTrees f trees below branches pieces
-    pub levels : OpenGroups start stack below (part_of f.opener) depth begin
-    pub reading : ReadSoFar depth (part_of f.opener) begin branches pieces t
+-- on top of them; what is noted goes from `none` to l
+pub record Running (start : State) (none : Log) (stack : List Frame) (f : Frame) (trees : List Tree) (t : State)
+    (l : Log) : Type 0 where
+  pub depth : ℕ
+  pub begin : State
+  pub before : Log
+  pub below : List Tree
+  pub branches : List Tree
+  pub pieces : List Tree
+  pub is_depth : depth ≡ length stack
+  pub holds : HoldsTrees f trees below branches pieces
+  pub levels : OpenGroups start none stack below (part_of f.opener) depth begin before
+  pub reading : ReadSoFar depth (part_of f.opener) begin before branches pieces t l
 
 -- the same of what the loop holds
-abbrev pub HasRead : State → Parser → Type 0
-HasRead start r = Running start r.stack.items r.frame (views r.trees.items) (state r.here)
+abbrev pub HasRead : State → Log → Parser → Log → Type 0
+HasRead start none r l = Running start none r.stack.items r.frame (views r.trees.items) (state r.here) l
+
+-- the same, where what is noted then is as told
+abbrev pub HasReadTo : State → Log → Parser → (Log → Type 0) → Type 0
+HasReadTo start none r P = (l : Log) × HasRead start none r l × P l
+
+-- the leaf r stands at s and is a piece at any depth, noted as a leaf alone, and t follows it
+pub record IsNotedPlain (s : State) (r : Tree) (t : Text) : Type 0 where
+  pub more : ends s.rest ≡ false
+  pub piece : (d : ℕ) (l : Log) → PieceTo d s (done r (at s t)) l (leaf_noted (reach_of s.rest) (reach_of t) l)
+  pub solid : is_empty r ≡ false

@@ -5,6 +5,7 @@ use Rattle.fancy_lex.specs.Characters.{open_paren}
 use Rattle.fancy_lex.specs.Text.{Text}
 use Rattle.fancy_grammar.specs.Depth.{most_open}
 use Rattle.fancy_grammar.specs.State.{State}
+use Rattle.fancy_syntax.specs.Log.{Log}
 use Rattle.fancy_syntax.specs.Machine.{HasRead}
 use Rattle.fancy_syntax.specs.declared.grammar.parser.Parser.{Parser}
 use Rattle.fancy_syntax.specs.declared.grammar.step.Step.{Step}
@@ -25,7 +26,7 @@ HasRoom r text = groups_at_once text ≤ vec_capacity r.stack
 
 -- what is read is read of some text, and the stack has room for its groups
 abbrev pub IsRoomy : Parser → Type 0
-IsRoomy r = (start : State) × HasRead start r × HasRoom r start.rest
+IsRoomy r = (start : State) × (none : Log) × (l : Log) × HasRead start none r l × HasRoom r start.rest
 
 -- there is room for what the step opens
 abbrev pub HasRoomFor : Step → Parser → Type 0

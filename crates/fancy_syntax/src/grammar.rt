@@ -1,7 +1,13 @@
 //! The grammar: a loop over a stack of open groups reads the raw tree of a text.
-ghost use Rattle.std.specs.Prelude.{◌<◌, ◌≤◌, length, chars, IfOk};
+ghost use Rattle.std.specs.Prelude.{◌≡◌, ◌<◌, ◌≤◌, length, chars, IfOk};
 ghost use Rattle.fancy_grammar.specs.Grammar as spec;
+ghost use Rattle.fancy_grammar.specs.State.{done};
+ghost use Rattle.fancy_lex.specs.Text.{reach_of};
+ghost use Rattle.fancy_syntax.specs.Log.{Log, started};
+ghost use Rattle.fancy_syntax.specs.NotedWhole.{IsNotedWhole};
+ghost use Rattle.fancy_syntax.specs.Noting.{AlternationTo};
 ghost use Rattle.fancy_syntax.specs.Parsed.{state, IsTreeRead};
+ghost use Rattle.fancy_syntax.specs.View.{view};
 ghost use Rattle.fancy_syntax.specs.Reads.{ReadsWhole};
 
 mod ahead;
@@ -41,6 +47,8 @@ pub(crate) fn parse<S: Spanning>(
     spans: &mut S,
 ) -> Result<Expr, Failure>
     ensures reads { ReadsWhole result flags (chars text.now) }
+    ensures spans { (l : Log) → l ≡ started (reach_of (chars text.now)) → S.notes spans.old l →
+        IfOk result (λ e. (m : Log) × S.notes spans.new m × IsNotedWhole flags (chars text.now) (view e) m) }
 {
     let (tree, here) = alternation(alloc, State { flags, rest: text }, spans)?;
     match next(here.rest) {
@@ -60,6 +68,8 @@ fn alternation<'a, S: Spanning>(
 ) -> Result<(Expr, State<'a>), Failure>
     ensures value { IsTreeRead result (spec.Alternation 0 (state start.entry)) }
     ensures within { IfOk result (λ p. length p.1.rest.now ≤ length start.entry.rest.now) }
+    ensures spans { (l : Log) → S.notes spans.old l → IfOk result (λ p. (m : Log) × S.notes spans.new m
+        × AlternationTo 0 (state start.entry) (done (view p.0) (state p.1)) l m) }
 {
     let mut parser = Parser::new(alloc, start)?;
     loop {

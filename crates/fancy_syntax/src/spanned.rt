@@ -7,11 +7,14 @@ ghost use Rattle.fancy_lex.specs.Flags.{flags_of};
 ghost use Rattle.fancy_grammar.specs.Answer.{IsTreeOf, IsFaultOf, IsOnlyFault, IsPlacedIn};
 ghost use Rattle.fancy_grammar.specs.Answered.{IsAnsweredWith, HasGroupsOf, IsSmall};
 ghost use Rattle.fancy_grammar.specs.Grammar.{DerivesTree};
+ghost use Rattle.fancy_grammar.specs.Preorder.{preorder};
+ghost use Rattle.fancy_grammar.specs.Spans.{AreSpansOf, IsCutOut, Nests};
 ghost use Rattle.fancy_grammar.specs.Tree.{children};
 ghost use Rattle.fancy_syntax.specs.Answer.{marks_of};
 ghost use Rattle.fancy_syntax.specs.Children.{children_of};
 ghost use Rattle.fancy_syntax.specs.Spanned as spec;
 ghost use Rattle.fancy_syntax.specs.Spanned.{IsWhole, spanned_of, spanned_of_tree, remaining_spanned, side_by_side};
+ghost use Rattle.fancy_syntax.specs.SpanViews.{spans_of};
 ghost use Rattle.fancy_syntax.specs.View.{view, views};
 
 use crate::expr::{Expr, ExprChildrenIter};
@@ -40,6 +43,7 @@ impl SpannedTree {
     ///     println!(rt; "{}..{}", child.span().start, child.span().end)?; // 0..5, then 5..7
     /// }
     /// ```
+    #[tactic(auto, using(crate::proofs::SpannedLemmas::whole_of_nodes))]
     pub fn parse(alloc: Global, re: &str, flags: u32) -> Result<SpannedTree>
         ensures found { IfOk result (λ t. IsTreeOf (flags_of flags) (chars re.now) (view t.tree.expr)
             (marks_of t.tree)) }
@@ -51,6 +55,13 @@ impl SpannedTree {
         ensures groups { IfOk result (λ t. (r : _) → DerivesTree (flags_of flags) (chars re.now) r →
             HasGroupsOf (flags_of flags) (chars re.now) r (view t.tree.expr)) }
         ensures sized { IfOk result (λ t. (spanned_of_tree t).sizes ≡ spec.sizes (view t.tree.expr)) }
+        ensures spans { IfOk result (λ t. AreSpansOf (flags_of flags) (chars re.now) (spans_of t.spans)) }
+        ensures only_spans { IfOk result (λ t. (l : _) → AreSpansOf (flags_of flags) (chars re.now) l →
+            l ≡ spans_of t.spans) }
+        ensures each { IfOk result (λ t. length t.spans.items ≡ length (preorder (view t.tree.expr))) }
+        ensures nested { IfOk result (λ t. Nests 0 (length re.now) (view t.tree.expr) (spans_of t.spans)) }
+        ensures cut { IfOk result (λ t. AllByRecursion (IsCutOut re.now) (spans_of t.spans)) }
+        ensures whole { IfOk result (λ t. IsWhole (spanned_of_tree t)) }
         ensures fault { IfErr result (λ e. IsOnlyFault e (flags_of flags) (chars re.now)) }
         ensures place { IfErr result (λ e. IsPlacedIn e re.now) }
     {

@@ -1,12 +1,18 @@
 //! Parsing a pattern.
+ghost use Rattle.std.specs.List.{AllByRecursion};
 ghost use Rattle.std.specs.Prelude.{◌≡◌, chars, length, IfOk, IfErr};
 ghost use Rattle.fancy_lex.specs.ErrorViews.{error_in};
 ghost use Rattle.fancy_lex.specs.Flags.{flags_of, unicode_alone};
-ghost use Rattle.fancy_lex.specs.Text.{bytes};
+ghost use Rattle.fancy_lex.specs.Text.{reach_of};
 ghost use Rattle.fancy_grammar.specs.Answer.{IsTreeOf, IsFaultOf, IsOnlyFault, IsPlacedIn};
 ghost use Rattle.fancy_syntax.specs.Answer.{marks_of};
 ghost use Rattle.fancy_grammar.specs.Answered.{IsAnsweredWith, HasGroupsOf, IsSmall};
 ghost use Rattle.fancy_grammar.specs.Grammar.{DerivesTree};
+ghost use Rattle.fancy_grammar.specs.Preorder.{preorder};
+ghost use Rattle.fancy_grammar.specs.Spans.{AreSpansOf, IsCutOut, Nests};
+ghost use Rattle.fancy_syntax.specs.Log.{Log, started};
+ghost use Rattle.fancy_syntax.specs.LogViews.{answered_spans};
+ghost use Rattle.fancy_syntax.specs.SpanViews.{spans_of};
 ghost use Rattle.fancy_syntax.specs.View.{view};
 
 use crate::expr::Expr;
@@ -119,6 +125,12 @@ impl Expr {
         ensures answered { IfOk result (λ p. IsAnsweredWith (view p.0.expr) (marks_of p.0)) }
         ensures groups { IfOk result (λ p. (r : _) → DerivesTree (flags_of flags) (chars re.now) r →
             HasGroupsOf (flags_of flags) (chars re.now) r (view p.0.expr)) }
+        ensures spans { IfOk result (λ p. AreSpansOf (flags_of flags) (chars re.now) (spans_of p.1)) }
+        ensures only_spans { IfOk result (λ p. (l : _) → AreSpansOf (flags_of flags) (chars re.now) l →
+            l ≡ spans_of p.1) }
+        ensures each { IfOk result (λ p. length p.1.items ≡ length (preorder (view p.0.expr))) }
+        ensures nested { IfOk result (λ p. Nests 0 (length re.now) (view p.0.expr) (spans_of p.1)) }
+        ensures cut { IfOk result (λ p. AllByRecursion (IsCutOut re.now) (spans_of p.1)) }
         ensures fault { IfErr result (λ e. IsOnlyFault e (flags_of flags) (chars re.now)) }
         ensures place { IfErr result (λ e. IsPlacedIn e re.now) }
     {
@@ -162,6 +174,9 @@ fn read<S: Spanning>(
     ensures found { IfOk result (λ t. IsTreeOf flags (chars re.now) (view t.expr) (marks_of t)) }
     ensures fault { IfErr result (λ e. IsOnlyFault (error_in (chars re.now) e) flags (chars re.now)) }
     ensures place { IfErr result (λ e. IsPlacedIn (error_in (chars re.now) e) re.now) }
+    ensures spans { (l : Log) → l ≡ started (reach_of (chars re.now)) → S.notes spans.old l →
+        IfOk result (λ t. (m : Log) × S.notes spans.new m × AreSpansOf flags (chars re.now)
+        (answered_spans (chars re.now) (marks_of t).numbered_groups_ignored m)) }
 {
     let raw = parse(alloc, re, flags, spans)?;
     resolve(alloc, raw, re, flags)
@@ -176,6 +191,7 @@ fn read_with_spans(
     ensures found { IfOk result (λ p. IsTreeOf flags (chars re.now) (view p.0.expr) (marks_of p.0)) }
     ensures fault { IfErr result (λ e. IsOnlyFault (error_in (chars re.now) e) flags (chars re.now)) }
     ensures place { IfErr result (λ e. IsPlacedIn (error_in (chars re.now) e) re.now) }
+    ensures spans { IfOk result (λ p. AreSpansOf flags (chars re.now) (spans_of p.1)) }
 {
     let mut noted = Spans::new(alloc, reach(re));
     let tree = read(alloc, re, flags, &mut noted)?;

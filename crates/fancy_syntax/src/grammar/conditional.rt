@@ -1,8 +1,10 @@
 //! Conditionals and absent nodes: what becomes of the trees that were read inside them.
-ghost use Rattle.std.specs.Prelude.{◌≡◌, IfOk};
+ghost use Rattle.std.specs.Prelude.{◌≡◌, ◌&&◌, true, false, if◌then◌else◌, IfOk, OnOk};
 ghost use Rattle.fancy_grammar.specs.Grammar as spec;
 ghost use Rattle.fancy_grammar.specs.Join as join;
 ghost use Rattle.fancy_grammar.specs.Tree.{alt, trees_of, conditional as conditional_node};
+ghost use Rattle.fancy_syntax.specs.Log.{Log, atom_closed, atom_ended, part_dropped};
+ghost use Rattle.fancy_syntax.specs.Noting.{stopper_noted};
 ghost use Rattle.fancy_syntax.specs.View.{view, view_ast, views};
 
 use crate::expr::{Absent, AstNode, Expr};
@@ -78,8 +80,11 @@ pub(crate) fn conditional<S: Spanning>(
     end: usize,
     spans: &mut S,
 ) -> Result<Expr, AllocError>
-    ensures { IfOk result (λ e. view e ≡
+    ensures tree { IfOk result (λ e. view e ≡
         spec.conditional_of (view condition.value) (view branches.0) (view branches.1)) }
+    ensures spans { (l : Log) → S.notes spans.old l → OnOk result (S.notes spans.new
+        (if join.is_empty (view branches.0) && join.is_empty (view branches.1)
+        then atom_ended (part_dropped l) else atom_closed end false l)) }
 {
     if is_empty(&branches.0) && is_empty(&branches.1) {
         drop(branches);
@@ -124,7 +129,9 @@ pub(crate) fn clear_or_stopper<S: Spanning>(
     end: usize,
     spans: &mut S,
 ) -> Result<Expr, AllocError>
-    ensures { IfOk result (λ e. view e ≡ spec.clear_or_stopper (view branch)) }
+    ensures tree { IfOk result (λ e. view e ≡ spec.clear_or_stopper (view branch)) }
+    ensures spans { (l : Log) → S.notes spans.old l →
+        OnOk result (S.notes spans.new (stopper_noted (view branch) end l)) }
 {
     if is_empty(&branch) {
         drop(branch);

@@ -1,8 +1,10 @@
 //! The groups that are open.
-ghost use Rattle.std.specs.Prelude.{◌≡◌, ◌≤◌, List, [], ◌∷◌, ◌++◌, vec_len, IfOk, OnOk};
+ghost use Rattle.std.specs.Prelude.{◌≡◌, ◌≤◌, List, [], ◌∷◌, ◌++◌, length, vec_len, IfOk, OnOk};
 ghost use Rattle.fancy_grammar.specs.Join.{one_or, choice};
 ghost use Rattle.fancy_grammar.specs.Tree.{Tree, concat};
+ghost use Rattle.fancy_syntax.specs.Log.{Log, branch_ended};
 ghost use Rattle.fancy_syntax.specs.Machine.{HoldsTrees};
+ghost use Rattle.fancy_syntax.specs.Noting.{choice_noted};
 ghost use Rattle.fancy_syntax.specs.View.{view, views};
 
 use crate::expr::Expr;
@@ -84,6 +86,9 @@ impl<'a> Frame<'a> {
             OnOk result (HoldsTrees self.new (views trees.new.items) below
             (branches_at_bar (part_of self.old.opener) branches (one_or concat pieces)) []) }
         ensures allowed { IfOk result (λ _. is_second (part_of self.old.opener) ≡ false) }
+        ensures spans { (below branches pieces : List Tree) (l : Log) →
+            HoldsTrees self.old (views trees.old.items) below branches pieces →
+            S.notes spans.old l → OnOk result (S.notes spans.new (branch_ended (length pieces) reach l)) }
         ensures fault { (t : _) → reach ≡ reach_of t →
             IfErr result (λ e. IsErrorAmong e (IsFaultOfBar (part_of self.old.opener) t)) }
     {
@@ -110,6 +115,9 @@ impl<'a> Frame<'a> {
         ensures trees { (below branches pieces : List Tree) →
             HoldsTrees self.old (views trees.old.items) below branches pieces →
             OnOk result (HoldsTrees self.new (views trees.new.items) below (branches ++ one_or concat pieces ∷ []) []) }
+        ensures spans { (below branches pieces : List Tree) (l : Log) →
+            HoldsTrees self.old (views trees.old.items) below branches pieces →
+            S.notes spans.old l → OnOk result (S.notes spans.new (branch_ended (length pieces) reach l)) }
     {
         let branch = take_branch(trees, self.pieces, reach, spans)?;
         push(trees, branch)?;
@@ -132,6 +140,10 @@ impl<'a> Frame<'a> {
         ensures below { (below branches pieces : List Tree) →
             HoldsTrees self.now (views trees.old.items) below branches pieces →
             OnOk result (views trees.new.items ≡ below) }
+        ensures spans { (below branches pieces : List Tree) (l : Log) →
+            HoldsTrees self.now (views trees.old.items) below branches pieces →
+            S.notes spans.old l → OnOk result (S.notes spans.new
+            (choice_noted (branches ++ one_or concat pieces ∷ []) reach (branch_ended (length pieces) reach l))) }
     {
         let branch = take_branch(trees, self.pieces, reach, spans)?;
         // Mostly it is the only one.

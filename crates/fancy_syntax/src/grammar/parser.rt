@@ -8,7 +8,9 @@ ghost use Rattle.fancy_grammar.specs.Errors.{IsErrorAmong};
 ghost use Rattle.fancy_grammar.specs.Grammar.{Alternation};
 ghost use Rattle.fancy_grammar.specs.State.{done, ends};
 ghost use Rattle.fancy_grammar.specs.State as states;
-ghost use Rattle.fancy_syntax.specs.Machine.{Takes, HasRead};
+ghost use Rattle.fancy_syntax.specs.Log.{Log};
+ghost use Rattle.fancy_syntax.specs.Machine.{Takes, HasRead, HasReadTo, taken_noted};
+ghost use Rattle.fancy_syntax.specs.Noting.{AlternationTo};
 ghost use Rattle.fancy_syntax.specs.Parsed.{state};
 ghost use Rattle.fancy_syntax.specs.Room.{groups_at_once, HasRoom, IsRoomy, HasRoomFor, OpensAlways};
 ghost use Rattle.fancy_syntax.specs.View.{view, views};
@@ -51,7 +53,7 @@ impl<'a> Parser<'a> {
     pub(crate) fn new(alloc: Global, start: State<'a>) -> Result<Parser<'a>, AllocError>
         ensures here { IfOk result (λ r. r.here ≡ start.entry) }
         ensures depth { IfOk result (λ r. length r.stack.items < max_depth) }
-        ensures reading { IfOk result (λ r. HasRead (state start.entry) r) }
+        ensures reading { (l : Log) → IfOk result (λ r. HasRead (state start.entry) l r l) }
         ensures room { IfOk result (λ r. HasRoom r (chars start.entry.rest.now)) }
     {
         let mut parser = Parser {
@@ -71,8 +73,8 @@ impl<'a> Parser<'a> {
         alloc: Global,
         spans: &mut S,
     ) -> Result<bool, AllocError>
-        ensures reading { (start : states.State) → HasRead start self.old →
-            OnOk result (HasRead start self.new) }
+        ensures reading { (start : states.State) (none l : Log) → HasRead start none self.old l →
+            OnOk result (HasReadTo start none self.new (λ m. S.notes spans.old l → S.notes spans.new m)) }
         ensures stack { self.new.stack ≡ self.old.stack }
         ensures within { length self.new.here.rest.now ≤ length self.old.here.rest.now }
         ensures shorter { IfOk result (λ found. found ≡ true →
@@ -101,8 +103,10 @@ impl<'a> Parser<'a> {
         requires room { IsRoomy self.old }
         requires depth { length self.old.stack.items < max_depth }
         requires more { ends (chars self.old.here.rest.now) ≡ false }
-        ensures reading { (start : states.State) → HasRead start self.old →
-            MatchResult result (λ _. HasRead start self.new) (λ e. IsErrorAmong e (Alternation 0 start)) }
+        ensures reading { (start : states.State) (none l : Log) → HasRead start none self.old l →
+            MatchResult result
+            (λ _. HasReadTo start none self.new (λ m. S.notes spans.old l → S.notes spans.new m))
+            (λ e. IsErrorAmong e (Alternation 0 start)) }
         ensures depth { OnOk result (length self.new.stack.items < max_depth) }
         ensures capacity { OnOk result (vec_capacity self.new.stack ≡ vec_capacity self.old.stack) }
         ensures shorter { OnOk result (length self.new.here.rest.now < length self.old.here.rest.now) }
@@ -124,8 +128,10 @@ impl<'a> Parser<'a> {
         requires pieces { self.old.frame.pieces ≤ vec_len self.old.trees }
         requires last { ends (chars self.old.here.rest.now) ≡ true }
         requires bar { strip bar (chars self.old.here.rest.now) ≡ Some (chars rest.now) }
-        ensures reading { (start : states.State) → HasRead start self.old →
-            MatchResult result (λ _. HasRead start self.new) (λ e. IsErrorAmong e (Alternation 0 start)) }
+        ensures reading { (start : states.State) (none l : Log) → HasRead start none self.old l →
+            MatchResult result
+            (λ _. HasReadTo start none self.new (λ m. S.notes spans.old l → S.notes spans.new m))
+            (λ e. IsErrorAmong e (Alternation 0 start)) }
         ensures stack { self.new.stack ≡ self.old.stack }
         ensures rest { OnOk result (self.new.here.rest ≡ rest.entry) }
     {
@@ -149,9 +155,11 @@ impl<'a> Parser<'a> {
         requires pieces { self.old.frame.pieces ≤ vec_len self.old.trees }
         requires last { ends (chars self.old.here.rest.now) ≡ true }
         requires no_bar { strip bar (chars self.old.here.rest.now) ≡ None }
-        ensures reading { (start : states.State) → HasRead start self.old →
-            MatchResult result (λ found. MatchOption found (HasRead start self.new)
-            (λ tree. Alternation 0 start (done (view tree) (state self.new.here))))
+        ensures reading { (start : states.State) (none l : Log) → HasRead start none self.old l →
+            MatchResult result (λ found. MatchOption found
+            (HasReadTo start none self.new (λ m. S.notes spans.old l → S.notes spans.new m))
+            (λ tree. (m : Log) × AlternationTo 0 start (done (view tree) (state self.new.here)) none m
+            × (S.notes spans.old l → S.notes spans.new m)))
             (λ e. IsErrorAmong e (Alternation 0 start)) }
         ensures depth { OnOk result (length self.new.stack.items < max_depth) }
         ensures capacity { OnOk result (vec_capacity self.new.stack ≡ vec_capacity self.old.stack) }
@@ -190,6 +198,8 @@ impl<'a> Parser<'a> {
         ensures here { self.new.here ≡ self.old.here }
         ensures capacity { vec_capacity self.new.stack ≡ vec_capacity self.old.stack }
         ensures opens { OpensAlways step.entry result }
+        ensures spans { (l : Log) → S.notes spans.old l →
+            OnOk result (S.notes spans.new (taken_noted step.entry l)) }
     {
         match step {
             Step::Piece(piece) => add(&mut self.trees, piece, spans),

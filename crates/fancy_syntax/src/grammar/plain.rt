@@ -2,9 +2,11 @@
 ghost use Rattle.std.specs.Prelude.{◌≡◌, ◌<◌, ℕ, true, [], ◌∷◌, length, chars, IfSome};
 ghost use Rattle.fancy_lex.specs.EscapeViews.{escape_of};
 ghost use Rattle.fancy_grammar.specs.Ahead.{leaf_node};
+ghost use Rattle.fancy_syntax.specs.Log.{Log};
+ghost use Rattle.fancy_syntax.specs.Machine.{IsNotedPlain};
+ghost use Rattle.fancy_syntax.specs.Noting.{quants_noted};
 ghost use Rattle.fancy_syntax.specs.Parsed.{state};
 ghost use Rattle.fancy_grammar.specs.Plain as spec;
-ghost use Rattle.fancy_grammar.specs.Plain.{IsPlain};
 ghost use Rattle.fancy_grammar.specs.Quantified.{quants};
 ghost use Rattle.fancy_grammar.specs.State.{done};
 ghost use Rattle.fancy_grammar.specs.Tree.{Tree, literal};
@@ -18,7 +20,7 @@ use fancy_lex::text::{after, next};
 /// no quantifier.
 #[inline]
 pub(crate) fn plain<'a>(here: State<'a>) -> Option<(char, &'a str)>
-    ensures plain { IfSome result (λ p. IsPlain (state here.entry)
+    ensures plain { IfSome result (λ p. IsNotedPlain (state here.entry)
         (literal (p.0 ∷ []) here.entry.flags.casei) (chars p.1.now)) }
     ensures shorter { IfSome result (λ p. length p.1.now < length here.entry.rest.now) }
 {
@@ -37,7 +39,7 @@ pub(crate) fn plain<'a>(here: State<'a>) -> Option<(char, &'a str)>
 /// no quantifier behind it.
 #[inline(always)]
 pub(crate) fn plain_escape<'a>(here: State<'a>) -> Option<(Escaped<'a>, &'a str)>
-    ensures plain { IfSome result (λ p. IsPlain (state here.entry) (leaf_node (escape_of p.0)) (chars p.1.now)) }
+    ensures plain { IfSome result (λ p. IsNotedPlain (state here.entry) (leaf_node (escape_of p.0)) (chars p.1.now)) }
     ensures shorter { IfSome result (λ p. length p.1.now < length here.entry.rest.now) }
 {
     let text = after(here.rest, '\\')?;
@@ -55,8 +57,10 @@ pub(crate) fn plain_escape<'a>(here: State<'a>) -> Option<(Escaped<'a>, &'a str)
 /// Whether one look ahead shows that no quantifier follows, and no layout before one.
 #[inline]
 pub(crate) fn is_unquantified(here: State) -> bool
-    ensures { result ≡ true → (d left : ℕ) (a : Tree) →
+    ensures quants { result ≡ true → (d left : ℕ) (a : Tree) →
         quants d left a (state here.entry) ≡ done a (state here.entry) }
+    ensures spans { result ≡ true → (left : ℕ) (a : Tree) (l : Log) →
+        quants_noted left (done a (state here.entry)) l ≡ l }
 {
     let Some((c, _)) = next(here.rest) else {
         return true;

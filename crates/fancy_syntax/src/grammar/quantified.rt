@@ -3,7 +3,10 @@ ghost use Rattle.std.specs.Prelude.{◌≡◌, ◌≤◌, ◌<◌, ◌+◌, true
 ghost use Rattle.fancy_grammar.specs.Depth.{max_depth};
 ghost use Rattle.fancy_grammar.specs.Join.{is_empty};
 ghost use Rattle.fancy_grammar.specs.Quantified as spec;
+ghost use Rattle.fancy_grammar.specs.State.{done};
 ghost use Rattle.fancy_grammar.specs.Tree.{repeat, atomic_group};
+ghost use Rattle.fancy_syntax.specs.Log.{Log};
+ghost use Rattle.fancy_syntax.specs.Noting.{adjacent_noted, counted_noted, quant_noted, quants_noted};
 ghost use Rattle.fancy_syntax.specs.Parsed.{state, suffix_of, Turns, GivesSuffix};
 ghost use Rattle.fancy_syntax.specs.View.{view};
 
@@ -73,6 +76,8 @@ pub(crate) fn quantify<S: Spanning>(
     ensures value { Turns result (view tree.new) (state here.new)
         (spec.quants depth left (view tree.old) (state here.old)) }
     ensures within { length here.new.rest.now ≤ length here.old.rest.now }
+    ensures spans { (l : Log) → S.notes spans.old l →
+        OnOk result (S.notes spans.new (quants_noted left (done (view tree.old) (state here.old)) l)) }
 {
     quantify_once(alloc, tree, here, left, spans)?;
     if here.flags.oniguruma_mode {
@@ -93,6 +98,8 @@ fn quantify_adjacent<S: Spanning>(
     ensures value { Turns result (view tree.new) (state here.new)
         (spec.adjacent spec.max_adjacent depth (view tree.old) (state here.old)) }
     ensures within { length here.new.rest.now ≤ length here.old.rest.now }
+    ensures spans { (l : Log) → S.notes spans.old l →
+        OnOk result (S.notes spans.new (adjacent_noted spec.max_adjacent (view tree.old) (state here.old) l)) }
 {
     let mut depth = depth;
     let mut more = MAX_ADJACENT;
@@ -132,6 +139,8 @@ fn quantify_once<S: Spanning>(
     ensures value { Turns result (view tree.new) (state here.new)
         (spec.quant left (view tree.old) (state here.old)) }
     ensures within { length here.new.rest.now ≤ length here.old.rest.now }
+    ensures spans { (l : Log) → S.notes spans.old l →
+        OnOk result (S.notes spans.new (quant_noted (view tree.old) (state here.old) l)) }
 {
     here.rest = skip_layout(*here)?;
     let Some((counts, rest)) = counts(here.rest, here.flags.ignore_space) else {
@@ -155,6 +164,8 @@ fn repeat<S: Spanning>(
     ensures value { Turns result (view tree.new) (state here.new)
         (spec.with_counts left (view tree.old) (state here.old) (Some (counts, chars here.old.rest.now))) }
     ensures within { length here.new.rest.now ≤ length here.old.rest.now }
+    ensures spans { (l : Log) → S.notes spans.old l → OnOk result (S.notes spans.new
+        (counted_noted (view tree.old) (state here.old) l (counts, chars here.old.rest.now))) }
 {
     if is_repeatable(here.flags, tree) {
         let behind_counts = reach(here.rest);

@@ -5,8 +5,9 @@ ghost use Rattle.fancy_lex.specs.Text.{bytes, reach_of};
 ghost use Rattle.fancy_grammar.specs.Spans.{condition_text, placed};
 ghost use Rattle.fancy_syntax.specs.Log as spec;
 ghost use Rattle.fancy_syntax.specs.Log.{reaches, shown};
-ghost use Rattle.fancy_syntax.specs.LogViews.{log_of, span_of, spans_of};
+ghost use Rattle.fancy_syntax.specs.LogViews.{log_of};
 ghost use Rattle.fancy_syntax.specs.Parsed.{state};
+ghost use Rattle.fancy_syntax.specs.SpanViews.{span_of, spans_of};
 
 use crate::grammar::noted::{FirstBar, Last, Noted, Open};
 use crate::grammar::spanning::Spanning;

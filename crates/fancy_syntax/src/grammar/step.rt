@@ -1,13 +1,16 @@
 //! The steps of the loop that read a piece, or come to the next part of a group.
-ghost use Rattle.std.specs.Prelude.{◌≡◌, ◌+◌, ◌<◌, ◌≤◌, true, false, length, chars, IfOk, MatchResult, None};
+ghost use Rattle.std.specs.Prelude.{◌≡◌, ◌+◌, ◌<◌, ◌≤◌, true, false, length, chars, IfOk, OnOk, MatchResult, None};
 ghost use Rattle.fancy_lex.specs.Characters.{bar};
-ghost use Rattle.fancy_lex.specs.Text.{bytes, strip};
+ghost use Rattle.fancy_lex.specs.Text.{bytes, reach_of, strip};
 ghost use Rattle.fancy_grammar.specs.State.{ends};
 ghost use Rattle.fancy_grammar.specs.Depth.{max_depth};
 ghost use Rattle.fancy_grammar.specs.Grammar as spec;
+ghost use Rattle.fancy_syntax.specs.Log.{Log};
 ghost use Rattle.fancy_syntax.specs.Machine as machine;
 ghost use Rattle.fancy_syntax.specs.Machine.{OpensPart, OpensBelow, Part, GivesStep, GivesPiece, ended_part, part_of};
-ghost use Rattle.fancy_syntax.specs.Parsed.{state, GivesTree};
+ghost use Rattle.fancy_syntax.specs.Machine.{close_noted, part_noted};
+ghost use Rattle.fancy_syntax.specs.Noting.{body_parted, group_noted, quants_noted, step_noted};
+ghost use Rattle.fancy_syntax.specs.Parsed.{head_of, state, GivesTree};
 ghost use Rattle.fancy_grammar.specs.Quantified.{quants};
 ghost use Rattle.fancy_grammar.specs.Errors.{IsErrorAmong};
 ghost use Rattle.fancy_grammar.specs.State as states;
@@ -47,7 +50,10 @@ pub(crate) fn read_step<'a, S: Spanning>(
 ) -> Result<Step<'a>, Failure>
     requires depth { depth < max_depth }
     requires more { ends (chars here.old.rest.now) ≡ false }
-    ensures value { GivesStep result depth (state here.old) (state here.new) }
+    ensures value { (l : Log) →
+        GivesStep result depth (state here.old) l (state here.new) (step_noted depth (state here.old) l) }
+    ensures spans { (l : Log) → S.notes spans.old l →
+        OnOk result (S.notes spans.new (step_noted depth (state here.old) l)) }
     ensures shorter { IfOk result (λ _. length here.new.rest.now < length here.old.rest.now) }
     ensures below { IfOk result (λ p. OpensBelow p depth) }
 {
@@ -102,6 +108,8 @@ fn piece<'a, S: Spanning>(
 ) -> Result<Step<'a>, Failure>
     requires depth { depth < max_depth }
     ensures value { GivesPiece result (quants depth left (view atom) (state here.old)) (state here.new) }
+    ensures spans { (l : Log) → S.notes spans.old l →
+        OnOk result (S.notes spans.new (quants_noted left (states.done (view atom) (state here.old)) l)) }
     ensures within { length here.new.rest.now ≤ length here.old.rest.now }
 {
     let mut piece = atom;
@@ -129,10 +137,13 @@ pub(crate) fn close<'a, S: Spanning>(
     requires depth { depth < max_depth }
     requires last { ends (chars here.old.rest.now) ≡ true }
     requires no_bar { strip bar (chars here.old.rest.now) ≡ None }
-    ensures value { (s t : states.State) → left ≡ bytes s.rest → flags ≡ s.flags →
-        OpensPart depth s (part_of opener.entry) t →
-        Part (part_of opener.entry) (depth + 1) t (states.done (view inner) (state here.old)) →
-        GivesStep result depth s (state here.new) }
+    ensures value { (s t : states.State) (l m n : Log) → left ≡ bytes s.rest → flags ≡ s.flags →
+        OpensPart depth s l (part_of opener.entry) t m →
+        Part (part_of opener.entry) (depth + 1) t (states.done (view inner) (state here.old)) m n →
+        GivesStep result depth s l (state here.new)
+        (close_noted left flags (part_of opener.entry) (view inner) (state here.old) n) }
+    ensures spans { (l : Log) → S.notes spans.old l → OnOk result (S.notes spans.new
+        (close_noted left flags (part_of opener.entry) (view inner) (state here.old) l)) }
     ensures shorter { IfOk result (λ _. length here.new.rest.now < length here.old.rest.now) }
 {
     let has_body = goes_on(&opener);
@@ -173,6 +184,9 @@ fn end_part<S: Spanning>(
     ensures value { GivesTree result (state here.new)
         (ended_part (part_of opener.entry) (view inner) (state here.old)) }
     ensures shorter { IfOk result (λ _. length here.new.rest.now < length here.old.rest.now) }
+    ensures spans { (l : Log) → S.notes spans.old l → OnOk result (S.notes spans.new (part_noted
+        (part_of opener.entry) (view inner) (reach_of (chars here.old.rest.now)) (reach_of (chars here.new.rest.now))
+        l)) }
 {
     let paren = reach(here.rest);
     if let Err(fault) = read_end(alloc, &opener, here) {
@@ -219,7 +233,9 @@ fn node_of_part<S: Spanning>(
     end: usize,
     spans: &mut S,
 ) -> Result<Expr, AllocError>
-    ensures { IfOk result (λ e. view e ≡ machine.node_of_part (part_of opener.entry) (view inner)) }
+    ensures tree { IfOk result (λ e. view e ≡ machine.node_of_part (part_of opener.entry) (view inner)) }
+    ensures spans { (l : Log) → S.notes spans.old l →
+        OnOk result (S.notes spans.new (part_noted (part_of opener.entry) (view inner) paren end l)) }
 {
     match opener {
         Opener::Top | Opener::Condition => Ok(inner),
@@ -242,7 +258,9 @@ fn node_of_part<S: Spanning>(
 
 /// Ends a group of one alternation at the reach: flags leave no node.
 #[inline(always)]
-fn close_group<S: Spanning>(head: &Head, end: usize, spans: &mut S) -> Result<(), AllocError> {
+fn close_group<S: Spanning>(head: &Head, end: usize, spans: &mut S) -> Result<(), AllocError>
+    ensures { (l : Log) → S.notes spans.old l → OnOk result (S.notes spans.new (group_noted (head_of head.now) end l)) }
+{
     match head {
         Head::Scope => {
             spans.close_bare();
@@ -256,7 +274,9 @@ fn close_group<S: Spanning>(head: &Head, end: usize, spans: &mut S) -> Result<()
 /// Notes the branches of the body of a conditional, which ends at the reach: of an Alt the first, and the choice among
 /// the others; else the body, and an Empty.
 #[inline(always)]
-fn part_body<S: Spanning>(body: &Expr, end: usize, spans: &mut S) -> Result<(), AllocError> {
+fn part_body<S: Spanning>(body: &Expr, end: usize, spans: &mut S) -> Result<(), AllocError>
+    ensures { (l : Log) → S.notes spans.old l → OnOk result (S.notes spans.new (body_parted (view body.now) end l)) }
+{
     match body {
         Expr::Alt(branches) => spans.split(branches.len()),
         _ => spans.lack_branch(end),

@@ -1,5 +1,6 @@
-use Rattle.std.proofs.Common.{arith}
+use Rattle.std.proofs.Common.{arith, refl}
 use Rattle.std.proofs.lemmas.Result.{err_from_is_err_and}
+use Rattle.fancy_syntax.specs.Log.{started}
 use Rattle.fancy_syntax.specs.Parsed.{state}
 use Rattle.fancy_syntax.proofs.TreesLemmas.{holds_below, views_length}
 use Rattle.fancy_syntax.proofs.grammar.alternation.Goals as goal
@@ -8,7 +9,7 @@ pub loop-parser-init : goal.loop-parser-init
 loop-parser-init g c =
     let r = c.in_ok-parser.ensures in
     record {
-      reading = r.reading;
+      reading = λ none. (none, r.reading none, λ n. n);
       depth = r.depth;
       room = r.room;
       within = rw r.here (omega arith);
@@ -17,32 +18,122 @@ loop-parser-init g c =
 pub returns-in_err-step-clause-value : goal.returns-in_err-step-clause-value
 returns-in_err-step-clause-value g c =
     let e = err_from_is_err_and c.from_residual-in_err-step.result c.from_residual-in_err-step.ensures.1 in
-    let r = c.in_ok-add_leaf.ensures.reading _ c.loop-parser.invariant.reading in
-    rw (e.1, e.2) (c.in_err-step.ensures.reading _ r)
+    let (l, h, n) = c.loop-parser.invariant.reading (started 0) in
+    let (m, r, k) = c.in_ok-add_leaf.ensures.reading _ _ l h in
+    rw (e.1, e.2) (c.in_err-step.ensures.reading _ _ m r)
 
 pub step-requires-clause-room : goal.step-requires-clause-room
 step-requires-clause-room g c =
-    let r = c.in_ok-add_leaf.ensures.reading _ c.loop-parser.invariant.reading in
-    (state c.args.start, r, rw c.in_ok-add_leaf.ensures.stack c.loop-parser.invariant.room)
+    let (l, h, n) = c.loop-parser.invariant.reading (started 0) in
+    let (m, r, k) = c.in_ok-add_leaf.ensures.reading _ _ l h in
+    (state c.args.start, started 0, m, r, rw c.in_ok-add_leaf.ensures.stack c.loop-parser.invariant.room)
 
 pub bar-requires-clause-pieces : goal.bar-requires-clause-pieces
 bar-requires-clause-pieces g c =
-    let r = c.in_ok-add_leaf.ensures.reading _ c.loop-parser.invariant.reading in
+    let (l, h, n) = c.loop-parser.invariant.reading (started 0) in
+    let (m, r, k) = c.in_ok-add_leaf.ensures.reading _ _ l h in
     let h = holds_below c.add_leaf.new.self.frame r.below r.branches r.pieces r.holds in
     omega (arith, h.1, c.add_leaf.new.self.trees.ok.0, views_length c.add_leaf.new.self.trees.items)
 
 pub close-requires-clause-branches : goal.close-requires-clause-branches
 close-requires-clause-branches g c =
-    let r = c.in_ok-add_leaf.ensures.reading _ c.loop-parser.invariant.reading in
+    let (l, h, n) = c.loop-parser.invariant.reading (started 0) in
+    let (m, r, k) = c.in_ok-add_leaf.ensures.reading _ _ l h in
     (holds_below c.add_leaf.new.self.frame r.below r.branches r.pieces r.holds).0
 
 pub close-requires-clause-pieces : goal.close-requires-clause-pieces
 close-requires-clause-pieces g c =
-    let r = c.in_ok-add_leaf.ensures.reading _ c.loop-parser.invariant.reading in
+    let (l, h, n) = c.loop-parser.invariant.reading (started 0) in
+    let (m, r, k) = c.in_ok-add_leaf.ensures.reading _ _ l h in
     let h = holds_below c.add_leaf.new.self.frame r.below r.branches r.pieces r.holds in
     omega (arith, h.1, c.add_leaf.new.self.trees.ok.0, views_length c.add_leaf.new.self.trees.items)
 
 pub returns-in-Some-2-clause-value : goal.returns-in-Some-2-clause-value
 returns-in-Some-2-clause-value g c =
-    let r = c.in_ok-add_leaf.ensures.reading _ c.loop-parser.invariant.reading in
-    rw c.in-Some-2.is at (c.in_ok-tree.ensures.reading _ r)
+    let (l, h, n) = c.loop-parser.invariant.reading (started 0) in
+    let (m, r, k) = c.in_ok-add_leaf.ensures.reading _ _ l h in
+    let (j, a, i) = rw c.in-Some-2.is at (c.in_ok-tree.ensures.reading _ _ m r) in
+    a.0
+
+pub returns-in-Some-2-clause-spans : goal.returns-in-Some-2-clause-spans
+returns-in-Some-2-clause-spans g c none x =
+    let (l, h, n) = c.loop-parser.invariant.reading none in
+    let (m, r, k) = c.in_ok-add_leaf.ensures.reading _ _ l h in
+    let (j, a, i) = rw c.in-Some-2.is at (c.in_ok-tree.ensures.reading _ _ m r) in
+    (j, i (k (n x)), a)
+
+pub returns-in_err-bar-clause-value : goal.returns-in_err-bar-clause-value
+returns-in_err-bar-clause-value g c =
+    let e = err_from_is_err_and c.from_residual-in_err-bar.result c.from_residual-in_err-bar.ensures.1 in
+    let (l, h, n) = c.loop-parser.invariant.reading (started 0) in
+    let (m, r, k) = c.in_ok-add_leaf.ensures.reading _ _ l h in
+    rw (e.1, e.2) (c.in_err-bar.ensures.reading _ _ m r)
+
+pub returns-in_err-tree-clause-value : goal.returns-in_err-tree-clause-value
+returns-in_err-tree-clause-value g c =
+    let e = err_from_is_err_and c.from_residual-in_err-tree.result c.from_residual-in_err-tree.ensures.1 in
+    let (l, h, n) = c.loop-parser.invariant.reading (started 0) in
+    let (m, r, k) = c.in_ok-add_leaf.ensures.reading _ _ l h in
+    rw (e.1, e.2) (c.in_err-tree.ensures.reading _ _ m r)
+
+pub loop-parser-preserved-then-branch : goal.loop-parser-preserved-then-branch
+loop-parser-preserved-then-branch g c =
+    record {
+      reading = λ none.
+          let (l, h, n) = c.loop-parser.invariant.reading none in
+          let (m, r, k) = c.in_ok-add_leaf.ensures.reading _ _ l h in (m, r, λ x. k (n x));
+      depth = rw c.in_ok-add_leaf.ensures.stack c.loop-parser.invariant.depth;
+      room = rw c.in_ok-add_leaf.ensures.stack c.loop-parser.invariant.room;
+      within = omega (arith, c.loop-parser.invariant.within, c.in_ok-add_leaf.ensures.within);
+    }
+
+pub loop-parser-preserved-in-Continue-branch-3 : goal.loop-parser-preserved-in-Continue-branch-3
+loop-parser-preserved-in-Continue-branch-3 g c =
+    record {
+      reading = λ none.
+          let (l, h, n) = c.loop-parser.invariant.reading none in
+          let (m, r, k) = c.in_ok-add_leaf.ensures.reading _ _ l h in
+          let (j, a, i) = c.in_ok-step.ensures.reading _ _ m r in (j, a, λ x. i (k (n x)));
+      depth = c.in_ok-step.ensures.depth;
+      room = rw (c.in_ok-step.ensures.capacity, c.in_ok-add_leaf.ensures.stack) c.loop-parser.invariant.room;
+      within = omega (
+        arith,
+        c.loop-parser.invariant.within,
+        c.in_ok-add_leaf.ensures.within,
+        c.in_ok-step.ensures.shorter,
+      );
+    }
+
+pub loop-parser-preserved-in-Continue-branch-4 : goal.loop-parser-preserved-in-Continue-branch-4
+loop-parser-preserved-in-Continue-branch-4 g c =
+    record {
+      reading = λ none.
+          let (l, h, n) = c.loop-parser.invariant.reading none in
+          let (m, r, k) = c.in_ok-add_leaf.ensures.reading _ _ l h in
+          let (j, a, i) = c.in_ok-bar.ensures.reading _ _ m r in (j, a, λ x. i (k (n x)));
+      depth = rw (c.in_ok-bar.ensures.stack, c.in_ok-add_leaf.ensures.stack) c.loop-parser.invariant.depth;
+      room = rw (c.in_ok-bar.ensures.stack, c.in_ok-add_leaf.ensures.stack) c.loop-parser.invariant.room;
+      within = rw c.in_ok-bar.ensures.rest (omega (
+        arith,
+        c.loop-parser.invariant.within,
+        c.in_ok-add_leaf.ensures.within,
+        c.in-Some.ensures.shorter,
+      ));
+    }
+
+pub loop-parser-preserved : goal.loop-parser-preserved
+loop-parser-preserved g c =
+    record {
+      reading = λ none.
+          let (l, h, n) = c.loop-parser.invariant.reading none in
+          let (m, r, k) = c.in_ok-add_leaf.ensures.reading _ _ l h in
+          let (j, a, i) = rw c.in_default-2.is at (c.in_ok-tree.ensures.reading _ _ m r) in (j, a, λ x. i (k (n x)));
+      depth = c.in_ok-tree.ensures.depth;
+      room = rw (c.in_ok-tree.ensures.capacity, c.in_ok-add_leaf.ensures.stack) c.loop-parser.invariant.room;
+      within = omega (
+        arith,
+        c.loop-parser.invariant.within,
+        c.in_ok-add_leaf.ensures.within,
+        rw c.in_default-2.is at c.in_ok-tree.ensures.shorter,
+      );
+    }

@@ -1,40 +1,54 @@
 use Rattle.std.proofs.Common.{ap, subst}
 use Rattle.std.proofs.lemmas.Result.{err_from_is_err_and}
 use Rattle.std.specs.Str.{chars}
+use Rattle.fancy_lex.specs.Text.{reach_of}
 use Rattle.fancy_grammar.specs.Grammar.{Alternation, Whole, whole, start, ended_at}
+use Rattle.fancy_grammar.specs.State.{done}
+use Rattle.fancy_syntax.specs.Log.{Log}
+use Rattle.fancy_syntax.specs.NotedWhole.{ShowsWhole}
+use Rattle.fancy_syntax.specs.Noting.{AlternationTo}
 use Rattle.fancy_syntax.specs.Parsed.{state}
 use Rattle.fancy_syntax.specs.View.{view}
 use Rattle.fancy_grammar.proofs.FaultLemmas.{says_end}
 use Rattle.fancy_grammar.proofs.OutcomeLemmas.{IsErrorAmong-map, IsErrorAmong-is}
+use Rattle.fancy_syntax.proofs.NotingLaws.{whole_shown}
 use Rattle.fancy_syntax.proofs.grammar.parse.Goals as goal
 
-pub returns-in_err-tree : goal.returns-in_err-tree
-returns-in_err-tree g c =
+pub returns-in_err-tree-clause-reads : goal.returns-in_err-tree-clause-reads
+returns-in_err-tree-clause-reads g c =
     let e = err_from_is_err_and c.from_residual.result c.from_residual.ensures.1 in
-    record {
-      reads = rw (e.1, e.2) (IsErrorAmong-map (Alternation 0 (start c.args.flags (chars c.args.text.now)))
-          (Whole c.args.flags (chars c.args.text.now)) c.in_err-tree.field-0.0 (λ k p h. whole h)
-          c.in_err-tree.ensures.value);
-    }
+    rw (e.1, e.2) (IsErrorAmong-map (Alternation 0 (start c.args.flags (chars c.args.text.now)))
+    (Whole c.args.flags (chars c.args.text.now)) c.in_err-tree.field-0.0 (λ k p h. whole h)
+    c.in_err-tree.ensures.value)
 
-pub returns-in-None : goal.returns-in-None
-returns-in-None g c =
+pub returns-in-None-clause-reads : goal.returns-in-None-clause-reads
+returns-in-None-clause-reads g c =
+    let here = state c.in_ok-tree.here in (
+      here,
+      subst (Whole c.args.flags (chars c.args.text.now))
+          (ap (ended_at (view c.in_ok-tree.tree) here) c.in-None.ensures.value) (whole c.in_ok-tree.ensures.value),
+    )
+
+pub returns-in-None-clause-spans : goal.returns-in-None-clause-spans
+returns-in-None-clause-spans g c l is n =
     let here = state c.in_ok-tree.here in
-    record {
-      reads = (
+    let (m, k, a) = c.in_ok-tree.ensures.spans l n in
+    let from = subst (λ (l : Log). AlternationTo 0 (start c.args.flags (chars c.args.text.now))
+    (done (view c.in_ok-tree.tree) here) l m) is a in (
+      m,
+      k,
+      (
         here,
-        subst (Whole c.args.flags (chars c.args.text.now))
-            (ap (ended_at (view c.in_ok-tree.tree) here) c.in-None.ensures.value) (whole c.in_ok-tree.ensures.value),
-      );
-    }
+        subst (λ o. ShowsWhole c.args.flags (chars c.args.text.now) o m)
+            (ap (ended_at (view c.in_ok-tree.tree) here) c.in-None.ensures.value) (whole_shown from),
+      ),
+    )
 
-pub returns-in-Some : goal.returns-in-Some
-returns-in-Some g c =
+pub returns-in-Some-clause-reads : goal.returns-in-Some-clause-reads
+returns-in-Some-clause-reads g c =
     let f = says_end c.general.result c.reach.result c.general.ensures in
     let here = state c.in_ok-tree.here in
-    record {
-      reads = IsErrorAmong-is (Whole c.args.flags (chars c.args.text.now)) c.general.result _ _
-          (rw c.reach.ensures at f)
-          (subst (Whole c.args.flags (chars c.args.text.now))
-          (ap (ended_at (view c.in_ok-tree.tree) here) c.in-Some.ensures.value) (whole c.in_ok-tree.ensures.value));
-    }
+    IsErrorAmong-is (Whole c.args.flags (chars c.args.text.now)) c.general.result _ _
+    (rw c.reach.ensures at f)
+    (subst (Whole c.args.flags (chars c.args.text.now))
+    (ap (ended_at (view c.in_ok-tree.tree) here) c.in-Some.ensures.value) (whole c.in_ok-tree.ensures.value))

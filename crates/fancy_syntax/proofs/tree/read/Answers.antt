@@ -1,14 +1,20 @@
-use Rattle.std.proofs.Common.{◌≡◌, None, Result, Ok, Err, IfOk, chars}
+use Rattle.std.proofs.Common.{◌≡◌, None, Result, Ok, Err, IfOk, chars, map, ap, ◌∙◌}
 use Rattle.std.proofs.lemmas.Result.{err_from_is_err_and, IfErr-weaker}
 use Rattle.fancy_lex.specs.Text.{Text, bytes}
 use Rattle.fancy_lex.specs.declared.error.Failure.{Failure}
 use Rattle.fancy_lex.specs.declared.flags.Flags.{Flags}
 use Rattle.fancy_grammar.specs.Answer.{IsTreeOf}
 use Rattle.fancy_grammar.specs.Grammar.{DerivesTree}
-use Rattle.fancy_grammar.specs.Marks.{marks}
+use Rattle.fancy_parts.specs.Ranks.{only_named}
+use Rattle.fancy_grammar.specs.Items.{openings}
+use Rattle.fancy_grammar.specs.Marks.{Marks, marks}
+use Rattle.fancy_grammar.specs.Spans.{AreSpansOf, placed}
 use Rattle.fancy_grammar.specs.Resolved.{resolved, fault_of}
 use Rattle.fancy_grammar.specs.Tree.{Tree}
 use Rattle.fancy_syntax.specs.Answer.{marks_of}
+use Rattle.fancy_syntax.specs.Log.{Log, shown}
+use Rattle.fancy_syntax.specs.LogViews.{answered_spans}
+use Rattle.fancy_syntax.specs.NotedWhole.{IsNotedWhole}
 use Rattle.fancy_syntax.specs.View.{view}
 use Rattle.fancy_syntax.specs.declared.tree.ExprTree.{ExprTree}
 use Rattle.fancy_grammar.proofs.Verdict.{only_reading, only_resolving, reading_placed, resolving_placed, text_order}
@@ -52,3 +58,24 @@ returns-clause-place g c =
     (λ e first. resolving_placed e c.args.flags c.args.re.now (view c.in_ok-raw.raw) c.utf8.re
     c.in_ok-raw.ensures.reads first)
     c.resolve.ensures.fault
+
+-- the spans of the text, where these are those of the nodes of this raw tree
+spans_of_tree : {f : Flags} {text : Text} {r : Tree} {N : Log → Type 0} (o : Result ExprTree Failure) →
+    (m : Log) × N m × IsNotedWhole f text r m → IfOk o (λ t. marks_of t ≡ marks f text r) → IfOk o (λ t.
+    (m : Log) × N m × AreSpansOf f text (answered_spans text (marks_of t).numbered_groups_ignored m))
+spans_of_tree {f} {text} {r} (Ok t) (m, n, (v, (a, shows))) said = (
+  m,
+  n,
+  (
+    r,
+    v,
+    a,
+    ap (map (placed (bytes text)))
+        (ap (λ (k : Marks). shown k.numbered_groups_ignored m.noted) said ∙ shows (only_named f (openings r))),
+  ),
+)
+spans_of_tree (Err e) m said = tt
+
+pub returns-clause-spans : goal.returns-clause-spans
+returns-clause-spans g c l is n =
+    spans_of_tree c.resolve.result (c.in_ok-raw.ensures.spans l is n) c.resolve.ensures.marks

@@ -1,9 +1,14 @@
-use Rattle.std.proofs.Common.{chars, subst, sym}
+use Rattle.std.proofs.Common.{chars, subst, sym, ◌∙◌}
+use Rattle.std.proofs.lemmas.List.{length-map}
+use Rattle.fancy_lex.proofs.TextLemmas.{bytes_chars}
 use Rattle.fancy_grammar.specs.Answer.{IsTreeOf, IsOnlyFault, IsPlacedIn}
+use Rattle.fancy_grammar.specs.Spans.{AreSpansOf, Nests}
 use Rattle.fancy_syntax.specs.Answer.{marks_of}
+use Rattle.fancy_syntax.specs.SpanViews.{span_of, spans_of}
 use Rattle.fancy_syntax.specs.View.{view}
 use Rattle.fancy_grammar.proofs.AnsweredLaws.{answered_with, groups_of_raw}
 use Rattle.fancy_grammar.proofs.BoundLaws.{bounded}
+use Rattle.fancy_grammar.proofs.SpansAnswer.{only_spans, spans_of_nodes, spans_nest, spans_cut}
 use Rattle.fancy_grammar.proofs.Verdict.{only_tree, no_fault}
 use Rattle.fancy_syntax.proofs.expr.Expr.parse_tree_with_spans.Goals as goal
 
@@ -26,6 +31,28 @@ returns-in-Ok-clause-answered c = answered_with (returns-in-Ok-clause-found c)
 
 pub returns-in-Ok-clause-groups : goal.returns-in-Ok-clause-groups
 returns-in-Ok-clause-groups c = groups_of_raw (returns-in-Ok-clause-found c)
+
+pub returns-in-Ok-clause-spans : goal.returns-in-Ok-clause-spans
+returns-in-Ok-clause-spans c =
+    subst (λ f. AreSpansOf f (chars c.args.re.now) (spans_of c.in-Ok.found.1)) c.from_bits-flags.ensures
+    c.in-Ok.ensures.spans
+
+pub returns-in-Ok-clause-only_spans : goal.returns-in-Ok-clause-only_spans
+returns-in-Ok-clause-only_spans c = λ l h. only_spans _ l (returns-in-Ok-clause-spans c) h
+
+pub returns-in-Ok-clause-each : goal.returns-in-Ok-clause-each
+returns-in-Ok-clause-each c =
+    sym (length-map c.in-Ok.found.1.items span_of)
+    ∙ spans_of_nodes _ _ _ (returns-in-Ok-clause-spans c) (returns-in-Ok-clause-found c)
+
+pub returns-in-Ok-clause-nested : goal.returns-in-Ok-clause-nested
+returns-in-Ok-clause-nested c =
+    let all = spans_nest _ _ _ (returns-in-Ok-clause-spans c) (returns-in-Ok-clause-found c) in
+    subst (λ n. Nests 0 n (view c.in-Ok.found.0.expr) (spans_of c.in-Ok.found.1))
+    (bytes_chars c.args.re.now c.utf8.re) all
+
+pub returns-in-Ok-clause-cut : goal.returns-in-Ok-clause-cut
+returns-in-Ok-clause-cut c = spans_cut _ c.utf8.re (returns-in-Ok-clause-spans c)
 
 pub returns-in-Err-clause-fault : goal.returns-in-Err-clause-fault
 returns-in-Err-clause-fault c =

@@ -1,4 +1,4 @@
-use Rattle.std.proofs.Common.{◌≡◌, ◌+◌, ◌-◌, sym, ◌∙◌, arith}
+use Rattle.std.proofs.Common.{◌≡◌, ◌+◌, ◌-◌, sym, ◌∙◌, arith, subst, refl}
 use Rattle.std.proofs.lemmas.Result.{err_from_is_err_and}
 use Rattle.fancy_syntax.specs.Parsed.{state}
 use Rattle.fancy_grammar.specs.Quantified.{quant, adjacent, max_adjacent}
@@ -7,6 +7,7 @@ use Rattle.fancy_syntax.specs.View.{view}
 use Rattle.fancy_grammar.proofs.OutcomeLemmas.{IsErrorAmong-map}
 use Rattle.fancy_grammar.proofs.QuantLemmas.{adjacent_fault, adjacent_ends, adjacent_stops, adjacent_counts}
 use Rattle.fancy_grammar.proofs.QuantLemmas.{some_may_count, unmoved_is, moved_is, from_start}
+use Rattle.fancy_syntax.proofs.NotingLemmas.{noted_ends, noted_counts}
 use Rattle.fancy_syntax.proofs.grammar.quantified.quantify_adjacent.Goals as goal
 
 pub returns-in_err-quantify_once-clause-value : goal.returns-in_err-quantify_once-clause-value
@@ -29,6 +30,16 @@ returns-then-byte_len-before-clause-value g c =
     c.loop-behind.invariant.value
     ∙ adjacent_ends _ _ _ _ once (unmoved_is _ _ _ (sym c.byte_len.ensures ∙ c.if-byte_len-before.true)
     (sym c.byte_len-before.ensures))
+
+pub returns-then-byte_len-before-clause-spans : goal.returns-then-byte_len-before-clause-spans
+returns-then-byte_len-before-clause-spans g c m h =
+    let (n, k, e) = c.loop-behind.invariant.spans m h in
+    let once = from_start c.byte_len-before.result (view c.loop-behind.tree) (state c.loop-behind.here)
+    (done (view c.quantify_once.new.tree) (state c.quantify_once.new.here)) c.byte_len-before.ensures
+    c.in_ok-quantify_once.ensures.value in
+    subst (g.S.Spanning.notes c.quantify_once.new.spans)
+    (sym (e ∙ noted_ends c.loop-behind.more _ _ n once (unmoved_is _ _ _ (sym c.byte_len.ensures
+    ∙ c.if-byte_len-before.true) (sym c.byte_len-before.ensures)))) (c.in_ok-quantify_once.ensures.spans n k)
 
 pub returns-then-not-may_count-clause-value : goal.returns-then-not-may_count-clause-value
 returns-then-not-may_count-clause-value g c =
@@ -55,4 +66,11 @@ loop-behind-preserved g c =
           one;
       deep = some.1;
       within = omega (arith, c.loop-behind.invariant.within, c.in_ok-quantify_once.ensures.within);
+      spans = λ m h.
+          let (n, k, e) = c.loop-behind.invariant.spans m h in (
+            _,
+            c.in_ok-quantify_once.ensures.spans n k,
+            e ∙ noted_counts c.loop-behind.more (c.loop-behind.more - 1) _ _ n once
+                (moved_is _ _ _ _ (sym c.byte_len.ensures) (sym c.byte_len-before.ensures) c.if-byte_len-before.false) one,
+          );
     }

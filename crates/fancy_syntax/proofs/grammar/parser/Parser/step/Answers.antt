@@ -3,6 +3,7 @@ use Rattle.std.proofs.lemmas.Result.{err_from_is_err_and}
 use Rattle.fancy_grammar.specs.Grammar.{Alternation, Piece}
 use Rattle.fancy_grammar.specs.State.{fault}
 use Rattle.fancy_syntax.specs.Machine.{IsStep, OpensBelow}
+use Rattle.fancy_syntax.specs.Noting.{step_noted}
 use Rattle.fancy_syntax.specs.Parsed.{state}
 use Rattle.fancy_syntax.proofs.MachineLemmas.{running_began, running_fault, running_step}
 use Rattle.fancy_syntax.proofs.RoomLemmas.{room_for_step}
@@ -10,35 +11,40 @@ use Rattle.fancy_grammar.proofs.OutcomeLemmas.{IsErrorAmong-map}
 use Rattle.fancy_syntax.proofs.grammar.parser.Parser.step.Goals as goal
 
 pub returns-in_err-step-clause-reading : goal.returns-in_err-step-clause-reading
-returns-in_err-step-clause-reading g c start h =
+returns-in_err-step-clause-reading g c start none l h =
     let n : c.len.result ≡ length c.args.self.now.stack.items =
     omega (arith, c.len.ensures, c.args.self.now.stack.ok.0) in
     let e = err_from_is_err_and c.from_residual.result c.from_residual.ensures.1 in
     rw (e.1, e.2) (IsErrorAmong-map (Piece c.len.result (state c.args.self.now.here)) (Alternation 0 start)
     c.in_err-step.field-0.0
     (λ k p a. running_fault h c.requires.more
-    (subst (λ d. Piece d (state c.args.self.now.here) (fault k p)) n a)) c.in_err-step.ensures.value)
+    (subst (λ d. Piece d (state c.args.self.now.here) (fault k p)) n a)) (c.in_err-step.ensures.value l))
 
 pub returns-clause-reading : goal.returns-clause-reading
-returns-clause-reading g c start h =
+returns-clause-reading g c start none l h =
     let n : c.len.result ≡ length c.args.self.now.stack.items =
     omega (arith, c.len.ensures, c.args.self.now.stack.ok.0) in
     let made = c.in_ok-step.step in
-    let steps = subst (λ d. IsStep d (state c.args.self.now.here) made (state c.read_step.new.here)) n
-    c.in_ok-step.ensures.value in
-    let taken = c.in_ok-take.ensures in
-    rw taken.here
-    (running_step made (running_began c.byte_len-self.result c.args.self.now.here.flags h)
-    (c.byte_len-self.ensures, refl) c.requires.more steps taken.taken)
+    let k = step_noted c.len.result (state c.args.self.now.here) l in
+    let steps = subst (λ d. IsStep d (state c.args.self.now.here) l made (state c.read_step.new.here) k) n
+    (c.in_ok-step.ensures.value l) in
+    let taken = c.in_ok-take.ensures in (
+      _,
+      rw taken.here
+          (running_step k made (running_began c.byte_len-self.result c.args.self.now.here.flags h)
+          (c.byte_len-self.ensures, refl) c.requires.more steps taken.taken),
+      λ n. taken.spans k (c.in_ok-step.ensures.spans l n),
+    )
 
 pub take-requires : goal.take-requires
 take-requires g c =
     let n : c.len.result ≡ length c.args.self.now.stack.items = omega (arith, c.len.ensures, c.args.self.now.stack.ok.0) in
     let made = c.in_ok-step.step in
-    let (start, h, room) = c.requires.room in
-    let steps = subst (λ d. IsStep d (state c.args.self.now.here) made (state c.read_step.new.here)) n
-    c.in_ok-step.ensures.value in
+    let (start, none, l, h, room) = c.requires.room in
+    let k = step_noted c.len.result (state c.args.self.now.here) l in
+    let steps = subst (λ d. IsStep d (state c.args.self.now.here) l made (state c.read_step.new.here) k) n
+    (c.in_ok-step.ensures.value l) in
     record {
-      room = room_for_step (state c.read_step.new.here) made _ h steps (subst (OpensBelow made) n c.in_ok-step.ensures.below) room
+      room = room_for_step (state c.read_step.new.here) k made _ h steps (subst (OpensBelow made) n c.in_ok-step.ensures.below) room
           (omega (arith, c.args.self.now.stack.ok.0));
     }

@@ -2,7 +2,7 @@ use Rattle.std.proofs.Common.{◌≡◌, chars, map, take}
 use Rattle.fancy_lex.specs.Text.{bytes}
 use Rattle.fancy_grammar.specs.Spans.{placed}
 use Rattle.fancy_syntax.specs.Log.{shown}
-use Rattle.fancy_syntax.specs.LogViews.{spans_of}
+use Rattle.fancy_syntax.specs.SpanViews.{spans_of}
 use Rattle.fancy_syntax.proofs.grammar.spans.Spans.answered.Given as goal
 
 abbrev pub invariant-loop-noted : goal.invariant-loop-noted
