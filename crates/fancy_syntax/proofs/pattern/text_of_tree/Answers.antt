@@ -1,4 +1,5 @@
-use Rattle.std.proofs.Common.{◌≡◌, [], ◌++◌, subst, ap, ◌∙◌, chars}
+use Rattle.std.proofs.Common.{◌≡◌, [], ◌++◌, subst, ap, ◌∙◌, chars, string_bytes}
+use Rattle.fancy_grammar.specs.Pattern.{pattern_text}
 use Rattle.std.proofs.lemmas.Str.{chars-nil}
 use Rattle.fancy_grammar.specs.PatternWalk.{needs_listed}
 use Rattle.fancy_lex.specs.Text.{text_of}
@@ -20,4 +21,6 @@ returns c =
     let nothing : text_of c.in_ok-text.text ≡ [] = ap chars c.in_ok-text.ensures.bytes ∙ chars-nil in
     let written = (c.in_ok-put_pattern.ensures (marks_of c.args.tree.now) f c.in_ok-known.ensures
     c.in_ok-needs.ensures.common at).behind [] nothing in
-    ok_then _ _ _ c.from_str.ensures.ok (λ s same. ap chars (same ∙ c.as_str.ensures.value) ∙ written)
+    ok_then c.from_str.result (λ s. string_bytes s ≡ c.as_str.result.now)
+    (λ s. text_of s ≡ pattern_text f tree (marks_of c.args.tree.now)) c.from_str.ensures.ok
+    (λ s same. ap chars (same ∙ c.as_str.ensures.value) ∙ written)
