@@ -7,7 +7,6 @@ ghost use Rattle.fancy_grammar.specs.ReadAs.{IsReadAs};
 ghost use Rattle.fancy_syntax.specs.Answer.{marks_of};
 ghost use Rattle.fancy_syntax.specs.View.{view};
 
-mod counter;
 mod flags;
 mod group;
 mod here;
@@ -23,10 +22,9 @@ mod sink;
 mod source;
 mod write;
 
-use crate::pattern::counter::Counter;
 use crate::pattern::here::Here;
 use crate::pattern::names::Known;
-use crate::pattern::needs::{all_needs, common_needs};
+use crate::pattern::needs::push_needs;
 use crate::pattern::same::is_read_as;
 use crate::pattern::write::put_pattern;
 use crate::tree::ExprTree;
@@ -64,18 +62,20 @@ impl ExprTree {
     }
 }
 
-/// The tree's text. It is counted first, so that the string takes memory once.
+/// What a list has capacity for from the start, so that a small one does not grow.
+const FIRST_CAPACITY: usize = 32;
+
+/// The tree's text. It is written to a string that has capacity for more than a byte a node from the start, and grows
+/// from there; what is answered owns memory for the text alone.
 fn text_of_tree(alloc: Global, tree: &ExprTree, flags: Flags) -> Result<String, AllocError>
     ensures { IfOk result (λ s. text_of s ≡ pattern_text flags (view tree.now.expr) (marks_of tree.now)) }
 {
     let known = Known::new(alloc, tree)?;
-    let needs = all_needs(alloc, &tree.expr, flags.oniguruma_mode)?;
-    let here = Here::at_start(flags, needs.as_slice());
-    let agreed = common_needs(&tree.expr, flags.oniguruma_mode);
-    let mut counter = Counter::new();
-    put_pattern(&mut counter, &known, &tree.expr, agreed, here)?;
-    let mut text = String::new(alloc);
-    text.reserve(counter.bytes)?;
-    put_pattern(&mut text, &known, &tree.expr, agreed, here)?;
-    Ok(text)
+    let mut listed = Vec::with_capacity(alloc, FIRST_CAPACITY)?;
+    let needs = push_needs(&mut listed, &tree.expr, flags.oniguruma_mode)?;
+    let here = Here::at_start(flags, listed.as_slice());
+    let capacity = listed.len().saturating_add(FIRST_CAPACITY);
+    let mut text = String::with_capacity(alloc, capacity)?;
+    put_pattern(&mut text, &known, &tree.expr, needs.common, here)?;
+    String::from_str(alloc, text.as_str())
 }

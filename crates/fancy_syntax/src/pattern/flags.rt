@@ -7,6 +7,7 @@ ghost use Rattle.fancy_syntax.specs.Sink.{Added};
 ghost use Rattle.fancy_syntax.specs.Wheres.{IsHere};
 
 use crate::pattern::here::Here;
+use crate::pattern::needs::are_met;
 use crate::pattern::sink::{Sink, put_ascii};
 use fancy_grammar::needs::Needs;
 use fancy_lex::flags::Flags;
@@ -72,6 +73,9 @@ pub(super) fn put_setting<'a, S: Sink>(
         × ((h : place.Here) (l : List Needs) → IsHere here.entry h l →
         IsHere i (place.under (spec.with_needs h.flags needs) h) l)) }
 {
+    if are_met(here.flags, needs) {
+        return Ok(here);
+    }
     let set = here.with(needs);
     put_group(out, here.flags, set.flags)?;
     Ok(set)

@@ -1,5 +1,5 @@
 //! What a tree needs of the flags that a text sets.
-ghost use Rattle.std.specs.Prelude.{◌≡◌, Bool, chars, ◌++◌, IfOk};
+ghost use Rattle.std.specs.Prelude.{◌≡◌, Bool, chars, ◌++◌, Decides, IfOk, OnOk};
 ghost use Rattle.std.specs.List.{list_all};
 ghost use Rattle.fancy_grammar.specs.Label.{literal, delegate};
 ghost use Rattle.fancy_grammar.specs.PatternNeeds as spec;
@@ -11,7 +11,7 @@ use crate::pattern::parting::is_text;
 use fancy_grammar::needs::{Need, Needs};
 use fancy_lex::flags::Flags;
 use fancy_lex::text::next;
-use std::alloc::{AllocError, Global};
+use std::alloc::AllocError;
 
 /// Nothing.
 pub(super) fn no_needs() -> Needs
@@ -181,48 +181,40 @@ fn both_needs(one: Needs, other: Needs) -> Needs
     }
 }
 
-/// Adds for each node of the tree, in preorder, what the first leaf in it needs that needs something, and answers what
-/// that is for the tree.
-fn push_needs(list: &mut Vec<Needs>, tree: &Expr, oniguruma_mode: bool) -> Result<Needs, AllocError>
-    ensures { IfOk result (λ n. (n ≡ spec.needs spec.first oniguruma_mode (view tree.now))
-        × (list.new.items ≡ list.old.items ++ needs_listed oniguruma_mode (view tree.now))) }
-{
-    let at = list.len();
-    let mut needs = leaf_needs(tree, oniguruma_mode);
-    list.push(needs)?;
-    let mut children = tree.children_iter();
-    while let Some(child) = children.next() {
-        needs = first_needs(needs, push_needs(list, child, oniguruma_mode)?);
-    }
-    if let Some(place) = list.get_mut(at) {
-        *place = needs;
-    }
-    Ok(needs)
+/// What a tree needs.
+#[derive(Clone, Copy)]
+pub(super) struct TreeNeeds {
+    /// What the first leaf in it needs that needs something, for each flag.
+    pub(super) first: Needs,
+    /// What all leaves in it need together.
+    pub(super) common: Needs,
 }
 
-/// For each node of the tree, in preorder, what the first leaf in it needs that needs something.
-pub(super) fn all_needs(
-    alloc: Global,
+/// Adds for each node of the tree, in preorder, what the first leaf in it needs that needs something, and answers what
+/// the tree needs.
+pub(super) fn push_needs(
+    list: &mut Vec<Needs>,
     tree: &Expr,
     oniguruma_mode: bool,
-) -> Result<Vec<Needs>, AllocError>
-    ensures { IfOk result (λ v. v.items ≡ needs_listed oniguruma_mode (view tree.now)) }
+) -> Result<TreeNeeds, AllocError>
+    ensures first { IfOk result (λ n. n.first ≡ spec.needs spec.first oniguruma_mode (view tree.now)) }
+    ensures common { IfOk result (λ n. n.common ≡ spec.needs spec.both oniguruma_mode (view tree.now)) }
+    ensures list { OnOk result (list.new.items ≡ list.old.items ++ needs_listed oniguruma_mode (view tree.now)) }
 {
-    let mut list = Vec::new(alloc);
-    push_needs(&mut list, tree, oniguruma_mode)?;
-    Ok(list)
-}
-
-/// What all leaves of the tree need together.
-pub(super) fn common_needs(tree: &Expr, oniguruma_mode: bool) -> Needs
-    ensures { result ≡ spec.needs spec.both oniguruma_mode (view tree.now) }
-{
-    let mut needs = leaf_needs(tree, oniguruma_mode);
+    let at = list.len();
+    let mut first = leaf_needs(tree, oniguruma_mode);
+    let mut common = first;
+    list.push(first)?;
     let mut children = tree.children_iter();
     while let Some(child) = children.next() {
-        needs = both_needs(needs, common_needs(child, oniguruma_mode));
+        let below = push_needs(list, child, oniguruma_mode)?;
+        first = first_needs(first, below.first);
+        common = both_needs(common, below.common);
     }
-    needs
+    if let Some(place) = list.get_mut(at) {
+        *place = first;
+    }
+    Ok(TreeNeeds { first, common })
 }
 
 /// The flag as it is needed, or else as it is.
@@ -233,6 +225,26 @@ fn fixed_or(flag: bool, need: Need) -> bool
         Need::Fixed(on) => on,
         _ => flag,
     }
+}
+
+/// Whether the flag is as it is needed.
+fn is_met(flag: bool, need: Need) -> bool
+    ensures { Decides result (spec.fixed_or flag need ≡ flag) }
+{
+    match need {
+        Need::Fixed(on) => on == flag,
+        _ => true,
+    }
+}
+
+/// Whether the flags are as they are needed.
+pub(super) fn are_met(flags: Flags, needs: Needs) -> bool
+    ensures { Decides result (spec.with_needs flags needs ≡ flags) }
+{
+    is_met(flags.casei, needs.casei)
+        && is_met(flags.multi, needs.multi)
+        && is_met(flags.dotnl, needs.dotnl)
+        && is_met(flags.crlf, needs.crlf)
 }
 
 /// The flags as they are needed.

@@ -1,9 +1,9 @@
-use Rattle.std.proofs.Common.{◌≡◌, ◌<◌, ◌∙◌, sym, ap, arith, length}
+use Rattle.std.proofs.Common.{◌≡◌, ◌<◌, ◌∙◌, ap, arith, length}
 use Rattle.std.proofs.Math.ListN.{set}
-use Rattle.fancy_grammar.proofs.NeedsLemmas.{first_joins}
-use Rattle.fancy_grammar.specs.PatternNeeds.{first, needs}
+use Rattle.fancy_grammar.proofs.NeedsLemmas.{first_joins, both_joins}
+use Rattle.fancy_grammar.specs.PatternNeeds.{first, both, needs}
 use Rattle.fancy_grammar.specs.Tree.{levels}
-use Rattle.fancy_syntax.specs.View.{view, views}
+use Rattle.fancy_syntax.specs.View.{view}
 use Rattle.fancy_syntax.proofs.Descents.{within_start, within_head, within_next, levels_of_child}
 use Rattle.fancy_syntax.proofs.NeedsWalk.{joining_starts, joining_next, joining_ends, listing_starts, listing_next}
 use Rattle.fancy_syntax.proofs.NeedsWalk.{table_stands}
@@ -12,8 +12,8 @@ use Rattle.fancy_syntax.proofs.pattern.needs.+push_needs.Goals as goal
 pub push_needs-requires : goal.push_needs-requires
 push_needs-requires t c =
     let less : levels (view c.in-Some.child.now) < levels (view c.args.tree.now) =
-    levels_of_child c.args.tree.now c.in-Some.child.now
-    (ap views (sym c.children_iter-children.ensures.values) ∙ c.children_iter-children.ensures.trees)
+    levels_of_child c.args.tree.now c.in-Some.child.now _ c.children_iter-children.ensures.values
+    c.children_iter-children.ensures.trees
     (within_head c.args.tree.now c.in-Some.child.now _ _ c.loop-child.invariant.within c.in-Some.ensures.steps) in
     (omega (arith, less), tt)
 
@@ -21,9 +21,11 @@ pub loop-child-init : goal.loop-child-init
 loop-child-init t c = record {
   within = within_start c.args.tree.now _ c.children_iter-children.ensures.values;
   joining = joining_starts first first_joins c.args.oniguruma_mode (view c.args.tree.now) _ _
-      c.leaf_needs-needs.ensures c.children_iter-children.ensures.trees;
+      c.leaf_needs-first.ensures c.children_iter-children.ensures.trees;
+  common = joining_starts both both_joins c.args.oniguruma_mode (view c.args.tree.now) _ _
+      c.leaf_needs-first.ensures c.children_iter-children.ensures.trees;
   listing = listing_starts c.args.oniguruma_mode (view c.args.tree.now) c.args.list.now.items _ _ _
-      c.leaf_needs-needs.ensures c.in_ok-push.ensures.items c.children_iter-children.ensures.trees;
+      c.leaf_needs-first.ensures c.in_ok-push.ensures.items c.children_iter-children.ensures.trees;
 }
 
 pub loop-child-preserved : goal.loop-child-preserved
@@ -33,18 +35,26 @@ loop-child-preserved t c =
     record {
       within = within_next c.args.tree.now child _ _ c.loop-child.invariant.within steps;
       joining = joining_next first first_joins c.args.oniguruma_mode (view c.args.tree.now) _ _ _ child _ _
-          c.loop-child.invariant.joining steps c.first_needs-needs.ensures c.in_ok-push_needs.ensures.0;
+          c.loop-child.invariant.joining steps c.first_needs-first.ensures c.in_ok-below.ensures.first;
+      common = joining_next both both_joins c.args.oniguruma_mode (view c.args.tree.now) _ _ _ child _ _
+          c.loop-child.invariant.common steps c.both_needs-common.ensures c.in_ok-below.ensures.common;
       listing = listing_next c.args.oniguruma_mode (view c.args.tree.now) c.args.list.now.items _ _ child _ _
-          c.loop-child.invariant.listing steps c.in_ok-push_needs.ensures.1;
+          c.loop-child.invariant.listing steps c.in_ok-below.ensures.list;
     }
 
-pub returns-in-Some-get_mut : goal.returns-in-Some-get_mut
-returns-in-Some-get_mut t c =
+pub returns-in-Some-get_mut-clause-first : goal.returns-in-Some-get_mut-clause-first
+returns-in-Some-get_mut-clause-first t c =
+    joining_ends first first_joins _ _ _ _ c.loop-child.invariant.joining c.in_default.ensures.steps.0
+
+pub returns-in-Some-get_mut-clause-common : goal.returns-in-Some-get_mut-clause-common
+returns-in-Some-get_mut-clause-common t c =
+    joining_ends both both_joins _ _ _ _ c.loop-child.invariant.common c.in_default.ensures.steps.0
+
+pub returns-in-Some-get_mut-clause-list : goal.returns-in-Some-get_mut-clause-list
+returns-in-Some-get_mut-clause-list t c =
     let none = c.in_default.ensures.steps.0 in
-    let whole : c.loop-child.needs ≡ needs first c.args.oniguruma_mode (view c.args.tree.now) =
+    let whole : c.loop-child.first ≡ needs first c.args.oniguruma_mode (view c.args.tree.now) =
     joining_ends first first_joins _ _ _ _ c.loop-child.invariant.joining none in
-    let long : c.len-at.result ≡ length c.args.list.now.items = omega (arith, c.args.list.now.ok.0) in (
-      whole,
-      ap (λ k. set c.loop-child.list.items k c.loop-child.needs) long
-          ∙ table_stands _ _ c.args.list.now.items _ _ _ c.loop-child.invariant.listing none whole,
-    )
+    let long : c.len-at.result ≡ length c.args.list.now.items = omega (arith, c.args.list.now.ok.0) in
+    ap (λ k. set c.loop-child.list.items k c.loop-child.first) long
+    ∙ table_stands _ _ c.args.list.now.items _ _ _ c.loop-child.invariant.listing none whole

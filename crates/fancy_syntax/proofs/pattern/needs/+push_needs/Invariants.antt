@@ -1,5 +1,5 @@
 use Rattle.std.proofs.Common.{length}
-use Rattle.fancy_grammar.specs.PatternNeeds.{first}
+use Rattle.fancy_grammar.specs.PatternNeeds.{first, both}
 use Rattle.fancy_grammar.specs.Tree.{levels}
 use Rattle.fancy_syntax.specs.View.{view}
 use Rattle.fancy_syntax.specs.Children.{remaining_children}
@@ -13,7 +13,8 @@ decreases-push_needs l = levels (view l.tree.now)
 abbrev pub invariant-loop-child : goal.invariant-loop-child
 invariant-loop-child l = record {
   within : Within l.tree (remaining_children l.children);
-  joining : Joining first l.oniguruma_mode (view l.tree) l.needs (remaining_children l.children);
+  joining : Joining first l.oniguruma_mode (view l.tree) l.first (remaining_children l.children);
+  common : Joining both l.oniguruma_mode (view l.tree) l.common (remaining_children l.children);
   listing : Listing l.oniguruma_mode (view l.tree) l.fn.list.items l.list.items (remaining_children l.children);
 }
 
