@@ -26,14 +26,18 @@ levels_child (over w t) zero d h = omega arith
 levels_child (over w t) (suc i) d h = absurd (omega arith)
 levels_child (row r ts) i d h = omega (arith, levels_member ts i d h)
 
-pub levels_of_child : (e c : Expr) (all : List Expr) → all ≡ children_of e → views all ≡ children (view e) →
-    IsAmong (children_of e) c → levels (view c) < levels (view e)
-levels_of_child e c all values trees (i, (h, is)) =
-    let same : views (children_of e) ≡ children (view e) = ap views (sym values) ∙ trees in
+pub levels_of_child : (e c : Expr) → views (children_of e) ≡ children (view e) → IsAmong (children_of e) c →
+    levels (view c) < levels (view e)
+levels_of_child e c same (i, (h, is)) =
     let long : i < length (children (view e)) = omega (arith, length-map (children_of e) view, ap length same) in
     let at : get_or (children (view e)) i (view c) ≡ view c = ap (λ ts. get_or ts i (view c)) (sym same)
     ∙ get_or-map view (children_of e) i c (view c) h ∙ ap view (sym is) in
     subst (λ t. levels t < levels (view e)) at (levels_child (view e) i (view c) long)
+
+-- the same by what is known of the iterator that gives the children
+pub levels_of_given : (e c : Expr) (all : List Expr) → all ≡ children_of e → views all ≡ children (view e) →
+    IsAmong (children_of e) c → levels (view c) < levels (view e)
+levels_of_given e c all values trees among = levels_of_child e c (ap views (sym values) ∙ trees) among
 
 -- ---- the children that are left
 

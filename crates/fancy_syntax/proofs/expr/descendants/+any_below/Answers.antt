@@ -3,7 +3,7 @@ use Rattle.std.specs.Fn.{FnReturnsAt}
 use Rattle.fancy_grammar.specs.Tree.{levels}
 use Rattle.fancy_syntax.specs.View.{view}
 use Rattle.fancy_syntax.specs.Descendants.{child, deeper}
-use Rattle.fancy_syntax.proofs.Descents.{sweep_head, sweep_next, sweep_end, levels_of_child}
+use Rattle.fancy_syntax.proofs.Descents.{sweep_head, sweep_next, sweep_end, levels_of_given}
 use Rattle.fancy_syntax.proofs.expr.descendants.+any_below.Goals as goal
 
 pub holds-requires : goal.holds-requires
@@ -23,7 +23,7 @@ pub any_below-requires : goal.any_below-requires
 any_below-requires g t c κs within =
     let among = sweep_head _ c.args.tree.now c.in-Some.child.now _ _ c.loop-child.invariant c.in-Some.ensures.steps in
     let less : levels (view c.in-Some.child.now) < levels (view c.args.tree.now) =
-    levels_of_child c.args.tree.now c.in-Some.child.now _ c.children_iter-children.ensures.values
+    levels_of_given c.args.tree.now c.in-Some.child.now _ c.children_iter-children.ensures.values
     c.children_iter-children.ensures.trees among in
     (omega (arith, less), (search rules, λ x b. c.requires x (deeper among b)))
 

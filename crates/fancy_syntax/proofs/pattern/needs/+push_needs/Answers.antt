@@ -4,7 +4,7 @@ use Rattle.fancy_grammar.proofs.NeedsLemmas.{first_joins, both_joins}
 use Rattle.fancy_grammar.specs.PatternNeeds.{first, both, needs}
 use Rattle.fancy_grammar.specs.Tree.{levels}
 use Rattle.fancy_syntax.specs.View.{view}
-use Rattle.fancy_syntax.proofs.Descents.{within_start, within_head, within_next, levels_of_child}
+use Rattle.fancy_syntax.proofs.Descents.{within_start, within_head, within_next, levels_of_given}
 use Rattle.fancy_syntax.proofs.NeedsWalk.{joining_starts, joining_next, joining_ends, listing_starts, listing_next}
 use Rattle.fancy_syntax.proofs.NeedsWalk.{table_stands}
 use Rattle.fancy_syntax.proofs.pattern.needs.+push_needs.Goals as goal
@@ -12,7 +12,7 @@ use Rattle.fancy_syntax.proofs.pattern.needs.+push_needs.Goals as goal
 pub push_needs-requires : goal.push_needs-requires
 push_needs-requires t c =
     let less : levels (view c.in-Some.child.now) < levels (view c.args.tree.now) =
-    levels_of_child c.args.tree.now c.in-Some.child.now _ c.children_iter-children.ensures.values
+    levels_of_given c.args.tree.now c.in-Some.child.now _ c.children_iter-children.ensures.values
     c.children_iter-children.ensures.trees
     (within_head c.args.tree.now c.in-Some.child.now _ _ c.loop-child.invariant.within c.in-Some.ensures.steps) in
     (omega (arith, less), tt)
