@@ -1,13 +1,13 @@
 //! Runs the examples of `docs/grammar.md`: `grammar_page FILE` parses each pattern of the page's tables, and compares its
 //! tree, its error or its text with what the row says. It writes each row that is wrong, and then how many examples were
-//! right.
+//! right. The status is 0 if all were.
 #![tactic(auto)]
 
 mod example;
 mod notation;
 mod page;
 
-use anyhow::{Context, Result};
+use anyhow::{Context, Result, ensure};
 use example::Example;
 use page::{Column, Table, cells, spans};
 use std::alloc::Global;
@@ -84,6 +84,7 @@ fn run(rt: &(impl Files + Print + AllocGlobal), name: &str) -> Result<()> {
         "{name}: {} examples are right, {} wrong",
         counts.right, counts.wrong
     )?;
+    ensure!(counts.wrong == 0, "{} examples are wrong", counts.wrong);
     Ok(())
 }
 
