@@ -43,7 +43,6 @@ impl SpannedTree {
     ///     println!(rt; "{}..{}", child.span().start, child.span().end)?; // 0..5, then 5..7
     /// }
     /// ```
-    #[tactic(auto, using(crate::proofs::SpannedLemmas::whole_of_nodes))]
     pub fn parse(alloc: Global, re: &str, flags: u32) -> Result<SpannedTree>
         ensures found { IfOk result (λ t. IsTreeOf (flags_of flags) (chars re.now) (view t.tree.expr)
             (marks_of t.tree)) }
