@@ -5,7 +5,7 @@
     >>> tree.named_groups
     {'year': (1,)}
     >>> [(type(node).__name__, node.span) for node in tree.walk()]
-    [('Concat', (0, 16)), ('Group', (0, 15)), ('Repeat', (8, 13)), ('Delegate', (8, 10)), ('Literal', (15, 16))]
+    [('Concat', (0, 15)), ('Group', (0, 14)), ('Repeat', (8, 13)), ('Delegate', (8, 10)), ('Literal', (14, 15))]
     >>> fancy.format("(?x) a {2,2}  # twice", fancy.UNICODE)
     'a{2}'
     >>> try:

@@ -17,7 +17,7 @@ use Rattle.fancy_c.proofs.RowLemmas.{put_more, put_length}
 pub number_put : (names : List Name) (first o n : ℕ) (ks : List ℕ) (i : ℕ) → first + length ks ≤ length names →
     i < length ks
     → set (paste names first (rows_of_name o n ks) i) (first + i)
-    (record { text = o; size = n; number = get_or ks i 0 })
+    (record { text = o; text_size = n; group = get_or ks i 0 })
     ≡ paste names first (rows_of_name o n ks) (i + 1)
 number_put names first o n ks i room here =
     let row : ℕ → Name = λ j. record { text = o; text_size = n; group = j } in
