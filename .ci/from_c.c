@@ -111,10 +111,10 @@ static bool is_text_short(const char *pattern, size_t length, uint32_t flags, wr
 }
 
 // Whether the text of a kind is what the message begins with, which a read pattern has.
-static bool is_message_begun(const char *pattern, size_t length, uint32_t flags, fancy_result read) {
-    char text[64], *message = malloc(64 + length);
-    fancy_result begun = fancy_error_text(read.kind, text, sizeof text);
-    fancy_result whole = fancy_message(pattern, length, flags, message, 64 + length);
+static bool is_message_begun(const char *pattern, size_t length, uint32_t flags, fancy_result told) {
+    char text[47], *message = malloc(told.size);
+    fancy_result begun = fancy_error_text(told.kind, text, sizeof text);
+    fancy_result whole = fancy_message(pattern, length, flags, message, told.size);
     bool is_right = begun.status == FANCY_STATUS_OK && begun.size > 0 && whole.status == FANCY_STATUS_REFUSED &&
                     begun.size <= whole.size && memcmp(message, text, begun.size) == 0;
     free(message);
@@ -126,7 +126,7 @@ static bool is_short_said(const char *pattern, size_t length, uint32_t flags) {
     fancy_result told = fancy_message(pattern, length, flags, NULL, 0);
     if (told.kind != read.kind || told.position != read.position) return false;
     if (read.status == FANCY_STATUS_REFUSED)
-        return is_text_short(pattern, length, flags, fancy_message) && is_message_begun(pattern, length, flags, read);
+        return is_text_short(pattern, length, flags, fancy_message) && is_message_begun(pattern, length, flags, told);
     fancy_info info;
     fancy_parse(pattern, length, flags, NULL, 0, NULL, 0, NULL, 0, NULL, 0, &info);
     for (int i = 0; i < 4; i++)

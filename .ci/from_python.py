@@ -33,6 +33,10 @@ def hexed(text):
     return (text if isinstance(text, bytes) else text.encode()).hex() or "-"
 
 
+def unhexed(field):
+    return bytes.fromhex("" if field == "-" else field)
+
+
 def target(node):
     if isinstance(node.target, fancy.Relative):
         return f"relative:{node.target.number}"
@@ -110,11 +114,11 @@ def are_spans_in_characters(pattern, flags):
 
 def is_recorded(row):
     if row[0] == "text":
-        return fancy.format(bytes.fromhex(row[2]).decode(), flags_named(row[1])).encode() == bytes.fromhex(row[3].replace("-", ""))
+        return fancy.format(unhexed(row[2]).decode(), flags_named(row[1])).encode() == unhexed(row[3])
     if not (row[0] == "-" or (row[0] and set(row[0]) <= set(LETTERS))):
         return row[2] == "2"
-    status, out, err = int(row[2]), *(bytes.fromhex("" if field == "-" else field).decode() for field in row[3:5])
-    flags, given = flags_named(row[0]), bytes.fromhex("" if row[1] == "-" else row[1])
+    status, out, err = int(row[2]), *(unhexed(field).decode() for field in row[3:5])
+    flags, given = flags_named(row[0]), unhexed(row[1])
     pattern = given.decode()
     return answer(pattern, flags) == answer(given, flags) == (status, out, err) and are_spans_in_characters(pattern, flags)
 
