@@ -200,6 +200,17 @@ def are_numbers_right(header):
     return numbers == {name: int(number) for name, number in written.items() if name not in elsewhere}
 
 
+def are_null_pointers_taken():
+    """Whether the library's own symbols, which the header's inline functions stand before in C, take null pointers."""
+    call, none = fancy._library, (None, 0)
+    got = [
+        call.fancy_check(*none, 0), call.fancy_message(*none, 0, *none), call.fancy_error_text(0, *none),
+        call.fancy_print(*none, 0, 0, *none), call.fancy_pattern(*none, 0, *none),
+        call.fancy_parse(*none, 0, *none, *none, *none, *none, None),
+    ]  # fmt: skip
+    return [it.status for it in got] == [0, 0, 0, 0, 0, 4]
+
+
 def is_command_right():
     with tempfile.TemporaryDirectory() as folder:
         file = pathlib.Path(folder, "patterns")
@@ -225,6 +236,7 @@ def main():
         "errors": are_errors_right(),
         "trees": are_trees_right(),
         "the command": is_command_right(),
+        "null pointers": are_null_pointers_taken(),
         "the numbers": are_numbers_right(pathlib.Path(sys.argv[2]).read_text()),
         "the recorded answers": all([replay(folder / f"{name}.tsv") for name in ("rows", "numbered", "texts")]),
     }
