@@ -40,7 +40,8 @@ item_put d i x rest room =
 -- ---- names
 
 pub rows_of_name_length : (o n : ℕ) (ks : List ℕ) → length (rows_of_name o n ks) ≡ length ks
-rows_of_name_length o n ks = let row : ℕ → Name = λ k. record { text = o; text_size = n; group = k } in length-map ks row
+rows_of_name_length o n ks =
+    let row : ℕ → Name = λ k. record { text = o; text_size = n; group = k } in length-map ks row
 
 pub names_length : (o p : ℕ) (l : List (Text × List ℕ)) → length (name_rows o l) ≡ length (name_rows p l)
 names_length o p [] = refl

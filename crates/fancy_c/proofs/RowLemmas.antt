@@ -139,7 +139,8 @@ text_put t bytes bytes' bytes'' o p is room put puts =
 
 -- ---- a writing that is on its way: the rows of `all` stand behind n₀ and o₀ when those of `left` are put behind n and
 -- o
-pub record Putting (at : SpanAt) (nodes₀ nodes : List Node) (bytes₀ bytes : List ℕ) (n₀ o₀ n o : ℕ) (all left : List Tree) : Type 0
+pub record Putting (at : SpanAt) (nodes₀ nodes : List Node) (bytes₀ bytes : List ℕ) (n₀ o₀ n o : ℕ)
+    (all left : List Tree) : Type 0
   where
     pub nodes_room : n + length left ≤ length nodes
     pub bytes_room : o + length (texts left) ≤ length bytes
@@ -190,7 +191,8 @@ putting_next at nodes₀ nodes nodes' bytes₀ bytes bytes' n₀ o₀ n o n' o' 
       bytes_end = omega (arith, p.bytes_end, both_texts, at_o);
       nodes_is =
           ap (λ d. put_at d n' (rows at n' o' left)) put_n
-          ∙ put_more nodes n n' (rows at n o xs) (rows at n' o' left) (omega (arith, at_n, rows_xs)) (omega (arith, fits_n))
+          ∙ put_more nodes n n' (rows at n o xs) (rows at n' o' left) (omega (arith, at_n, rows_xs))
+          (omega (arith, fits_n))
           ∙ ap (λ l. put_at nodes n (rows at n o xs ++ l))
           (rows_at at n' (n + length xs) o' (o + length (texts xs)) left at_n at_o)
           ∙ ap (put_at nodes n) (sym (rows-append at n o xs left))
@@ -202,7 +204,8 @@ putting_next at nodes₀ nodes nodes' bytes₀ bytes bytes' n₀ o₀ n o n' o' 
           ∙ p.bytes_is;
     }
 
-pub putting_ends : (at : SpanAt) (nodes₀ nodes : List Node) (bytes₀ bytes : List ℕ) (n₀ o₀ n o : ℕ) (all left : List Tree)
+pub putting_ends : (at : SpanAt) (nodes₀ nodes : List Node) (bytes₀ bytes : List ℕ) (n₀ o₀ n o : ℕ)
+    (all left : List Tree)
     → Putting at nodes₀ nodes bytes₀ bytes n₀ o₀ n o all left → left ≡ []
     → (n ≡ n₀ + length all) × (o ≡ o₀ + length (texts all)) × (nodes ≡ put_at nodes₀ n₀ (rows at n₀ o₀ all))
     × (bytes ≡ put_at bytes₀ o₀ (texts all))
@@ -218,7 +221,8 @@ putting_ends at nodes₀ nodes bytes₀ bytes n₀ o₀ n o all left p is =
         sym (put_none bytes o) ∙ q.bytes_is,
       )
 
-pub putting_room : {at : SpanAt} {nodes₀ nodes : List Node} {bytes₀ bytes : List ℕ} {n₀ o₀ n o : ℕ} {all left : List Tree}
+pub putting_room : {at : SpanAt} {nodes₀ nodes : List Node} {bytes₀ bytes : List ℕ} {n₀ o₀ n o : ℕ}
+    {all left : List Tree}
     (xs rest : List Tree) → left ≡ xs ++ rest
     → Putting at nodes₀ nodes bytes₀ bytes n₀ o₀ n o all left →
     (n + length xs ≤ length nodes) × (o + length (texts xs) ≤ length bytes)

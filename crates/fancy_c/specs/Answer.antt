@@ -16,15 +16,15 @@ use Rattle.fancy_grammar.specs.Answer.{IsTreeOf, IsFaultOf}
 use Rattle.fancy_grammar.specs.Answered.{IsAnsweredWith, IsSmall}
 use Rattle.fancy_grammar.specs.Marks.{Marks}
 use Rattle.fancy_grammar.specs.Tree.{Tree}
-use Rattle.fancy_c.specs.declared.answer.TheConstants.{STATUS_NOT_UTF8, STATUS_REFUSED, STATUS_OUT_OF_MEMORY, ERROR_NONE}
-use Rattle.fancy_c.specs.declared.answer.TheConstants.{ERROR_GENERAL_PARSE_ERROR, ERROR_UNCLOSED_OPEN_PAREN, ERROR_INVALID_REPEAT}
-use Rattle.fancy_c.specs.declared.answer.TheConstants.{ERROR_RECURSION_EXCEEDED}
-use Rattle.fancy_c.specs.declared.answer.TheConstants.{ERROR_TRAILING_BACKSLASH, ERROR_INVALID_ESCAPE, ERROR_UNCLOSED_UNICODE_NAME}
-use Rattle.fancy_c.specs.declared.answer.TheConstants.{ERROR_INVALID_HEX}
-use Rattle.fancy_c.specs.declared.answer.TheConstants.{ERROR_INVALID_CODEPOINT_VALUE, ERROR_INVALID_CLASS, ERROR_UNKNOWN_FLAG}
-use Rattle.fancy_c.specs.declared.answer.TheConstants.{ERROR_CHANGING_UNICODE_MODE_UNSUPPORTED}
-use Rattle.fancy_c.specs.declared.answer.TheConstants.{ERROR_INVALID_BACKREF, ERROR_TARGET_NOT_REPEATABLE, ERROR_INVALID_GROUP_NAME}
-use Rattle.fancy_c.specs.declared.answer.TheConstants.{ERROR_INVALID_GROUP_NAME_BACKREF}
+use Rattle.fancy_c.specs.declared.answer.TheConstants.{STATUS_NOT_UTF8, STATUS_REFUSED, STATUS_OUT_OF_MEMORY}
+use Rattle.fancy_c.specs.declared.answer.TheConstants.{ERROR_NONE, ERROR_GENERAL_PARSE_ERROR, ERROR_UNCLOSED_OPEN_PAREN}
+use Rattle.fancy_c.specs.declared.answer.TheConstants.{ERROR_INVALID_REPEAT, ERROR_RECURSION_EXCEEDED}
+use Rattle.fancy_c.specs.declared.answer.TheConstants.{ERROR_TRAILING_BACKSLASH, ERROR_INVALID_ESCAPE}
+use Rattle.fancy_c.specs.declared.answer.TheConstants.{ERROR_UNCLOSED_UNICODE_NAME, ERROR_INVALID_HEX}
+use Rattle.fancy_c.specs.declared.answer.TheConstants.{ERROR_INVALID_CODEPOINT_VALUE, ERROR_INVALID_CLASS}
+use Rattle.fancy_c.specs.declared.answer.TheConstants.{ERROR_UNKNOWN_FLAG, ERROR_CHANGING_UNICODE_MODE_UNSUPPORTED}
+use Rattle.fancy_c.specs.declared.answer.TheConstants.{ERROR_INVALID_BACKREF, ERROR_TARGET_NOT_REPEATABLE}
+use Rattle.fancy_c.specs.declared.answer.TheConstants.{ERROR_INVALID_GROUP_NAME, ERROR_INVALID_GROUP_NAME_BACKREF}
 use Rattle.fancy_c.specs.declared.answer.Answer.{Answer}
 use Rattle.fancy_c.specs.declared.read.Refusal.{Refusal}
 use Rattle.fancy_c.specs.declared.read.Refusal.TheVariants.{NoUtf8, Fault}
@@ -86,5 +86,6 @@ pub record IsTold (a : Answer) (place : ℕ) (k : Kind) : Type 0 where
 -- what is told of a refusal
 abbrev pub answer_of : Refusal → Answer
 answer_of (NoUtf8 p) = record { status = STATUS_NOT_UTF8; kind = ERROR_NONE; position = p; size = 0 }
-answer_of (Fault (ParseError p k)) = record { status = STATUS_REFUSED; kind = number_of_kind (kind_of k); position = p; size = 0 }
+answer_of (Fault (ParseError p k)) =
+    record { status = STATUS_REFUSED; kind = number_of_kind (kind_of k); position = p; size = 0 }
 answer_of (Fault OutOfMemory) = record { status = STATUS_OUT_OF_MEMORY; kind = ERROR_NONE; position = 0; size = 0 }

@@ -48,8 +48,8 @@ told t m = record {
   numbered_groups_ignored = m.numbered_groups_ignored;
 }
 
--- the buffers hold a tree, with these spans, and its marks: the rows of its nodes, the texts, the rows of the names, and
--- the back references
+-- the buffers hold a tree, with these spans, and its marks: the rows of its nodes, the texts, the rows of the names,
+-- and the back references
 pub record AreWritten (t : Tree) (m : Marks) (spans : SpanAt) (nodes nodes' : List Node) (bytes bytes' : List ℕ)
     (names names' : List Name) (backrefs backrefs' : List ℕ) : Type 0 where
   pub nodes_are : Fills nodes nodes' (rows spans 0 0 (listed t))

@@ -1,6 +1,6 @@
 -- The nodes of a tree as an array: a row for each.
-use Rattle.std.specs.Prelude.{ℕ, ◌+◌, min, get_or, ℤ, pos, Bool, true, false, List, [], ◌∷◌, ◌++◌, length, Option, Some, None}
-use Rattle.std.specs.Prelude.{encode_utf8_all}
+use Rattle.std.specs.Prelude.{ℕ, ◌+◌, ℤ, pos, Bool, true, false, List, [], ◌∷◌, ◌++◌, length, Option, Some, None}
+use Rattle.std.specs.Prelude.{min, get_or, encode_utf8_all}
 use Rattle.fancy_lex.specs.Target.{Target, by_number, by_name, relative}
 use Rattle.fancy_lex.specs.Text.{Text}
 use Rattle.fancy_lex.specs.declared.escape.Assertion.{Assertion}
@@ -99,16 +99,20 @@ plain k s n = record {
 
 abbrev pub condition : Stand → ℕ → Option ℤ → Node
 condition s n None = record (plain number.NODE_BACKREF_EXISTS_CONDITION s 0) { group = n }
-condition s n (Some l) = record (plain number.NODE_BACKREF_EXISTS_CONDITION s 0) { group = n; level = l; has_level = true }
+condition s n (Some l) =
+    record (plain number.NODE_BACKREF_EXISTS_CONDITION s 0) { group = n; level = l; has_level = true }
 
 abbrev pub with_text : Stand → ℕ → Text → Bool → Node
 with_text s k w casei = record (plain k s (length (encode_utf8_all w))) { casei = casei }
 
 -- of a call that was read and not resolved
 abbrev pub row_of_call : Stand → Target → ℕ → Node
-row_of_call s (by_number n) p = record (plain number.NODE_AST_NODE s 0) { which = number.TARGET_BY_NUMBER; group = n; position = p }
-row_of_call s (by_name w) p = record (with_text s number.NODE_AST_NODE w false) { which = number.TARGET_BY_NAME; position = p }
-row_of_call s (relative z) p = record (plain number.NODE_AST_NODE s 0) { which = number.TARGET_RELATIVE; level = z; position = p }
+row_of_call s (by_number n) p =
+    record (plain number.NODE_AST_NODE s 0) { which = number.TARGET_BY_NUMBER; group = n; position = p }
+row_of_call s (by_name w) p =
+    record (with_text s number.NODE_AST_NODE w false) { which = number.TARGET_BY_NAME; position = p }
+row_of_call s (relative z) p =
+    record (plain number.NODE_AST_NODE s 0) { which = number.TARGET_RELATIVE; level = z; position = p }
 
 abbrev pub row_of_read : Stand → AstReference → ℕ → Node
 row_of_read s (ast_call t) p = row_of_call s t p

@@ -134,12 +134,12 @@ fn tell(
     }
 }
 
-/// Parses a pattern as `fancy_check_nonnull` does, and sets `info` to the sizes of its tree and to its group information.
-/// If all of it fits, returns `STATUS_OK`, and the buffers hold, from their front: the nodes of the tree in preorder, each
-/// with its span in the pattern; the texts of the nodes, and after them the names of groups; for each name in byte order
-/// its group numbers, ascending; and the numbers of the back references, ascending. If something does not fit, returns
-/// `STATUS_BUFFER_TOO_SHORT`, and no buffer is written. A pattern of n bytes has at most 2 n + 1 nodes. For a pattern
-/// without a tree it returns what `fancy_check_nonnull` returns, and nothing is written.
+/// Parses a pattern as `fancy_check_nonnull` does, and sets `info` to the sizes of its tree and to its group
+/// information. If all of it fits, returns `STATUS_OK`, and the buffers hold, from their front: the nodes of the tree
+/// in preorder, each with its span in the pattern; the texts of the nodes, and after them the names of groups; for each
+/// name in byte order its group numbers, ascending; and the numbers of the back references, ascending. If something
+/// does not fit, returns `STATUS_BUFFER_TOO_SHORT`, and no buffer is written. A pattern of n bytes has at most 2 n + 1
+/// nodes. For a pattern without a tree it returns what `fancy_check_nonnull` returns, and nothing is written.
 #[unsafe(no_mangle)]
 pub extern "C" fn fancy_parse_nonnull(
     alloc: Global,

@@ -29,8 +29,8 @@ fn text_of(alloc: Global, tree: &Expr, precedence: u8) -> Result<Option<String>,
 
 /// Writes the tree's text at the front of the buffer, where it has one and that fits.
 fn print(alloc: Global, tree: &Expr, precedence: u8, buffer: &mut [u8]) -> Answer
-    ensures read { result.status ≡ STATUS_OK → (w : List ℕ) × IsText (view tree.now) precedence w × (result.size ≡ length w)
-        × Fills buffer.old buffer.new w }
+    ensures read { result.status ≡ STATUS_OK → (w : List ℕ) × IsText (view tree.now) precedence w
+        × (result.size ≡ length w) × Fills buffer.old buffer.new w }
     ensures short { result.status ≡ STATUS_BUFFER_TOO_SHORT →
         (w : List ℕ) × IsText (view tree.now) precedence w × (result.size ≡ length w)
         × (length buffer.old < length w) }
@@ -59,11 +59,11 @@ fn print(alloc: Global, tree: &Expr, precedence: u8, buffer: &mut [u8]) -> Answe
     }
 }
 
-/// Parses a pattern as `fancy_check_nonnull` does, and prints its tree at a precedence to the front of `buffer`. Returns
-/// `STATUS_OK` with the size of the text in bytes; `STATUS_BUFFER_TOO_SHORT` with that size if the text does not fit;
-/// `STATUS_NOT_PRINTABLE` if the tree is not printable; else what `fancy_check_nonnull` returns. Unless it returns
-/// `STATUS_OK`, nothing is written. Above precedence 0 an `Alt`, above 1 a `Concat` and above 2 a `Repeat` is put into a
-/// group.
+/// Parses a pattern as `fancy_check_nonnull` does, and prints its tree at a precedence to the front of `buffer`.
+/// Returns `STATUS_OK` with the size of the text in bytes; `STATUS_BUFFER_TOO_SHORT` with that size if the text does
+/// not fit; `STATUS_NOT_PRINTABLE` if the tree is not printable; else what `fancy_check_nonnull` returns. Unless it
+/// returns `STATUS_OK`, nothing is written. Above precedence 0 an `Alt`, above 1 a `Concat` and above 2 a `Repeat` is
+/// put into a group.
 #[unsafe(no_mangle)]
 pub extern "C" fn fancy_print_nonnull(
     alloc: Global,
@@ -74,7 +74,8 @@ pub extern "C" fn fancy_print_nonnull(
 ) -> Answer
     ensures read { result.status ≡ STATUS_OK → (w : List ℕ) × IsTextOfBytes (flags_of flags) pattern.now precedence w
         × (result.size ≡ length w) × Fills buffer.old buffer.new w }
-    ensures short { result.status ≡ STATUS_BUFFER_TOO_SHORT → (w : List ℕ) × IsTextOfBytes (flags_of flags) pattern.now precedence w
+    ensures short { result.status ≡ STATUS_BUFFER_TOO_SHORT → (w : List ℕ)
+        × IsTextOfBytes (flags_of flags) pattern.now precedence w
         × (result.size ≡ length w) × (length buffer.old < length w) }
     ensures not_printable { result.status ≡ STATUS_NOT_PRINTABLE → (t : Tree) × (m : Marks)
         × IsTreeOfBytes (flags_of flags) pattern.now t m × (printable t ≡ false) }

@@ -10,8 +10,8 @@ pub const VERSION_MINOR: u32 = 0;
 /// Counts corrections. It begins again at 0 after each change of the minor one.
 pub const VERSION_PATCH: u32 = 0;
 
-/// Returns the version of the library as one number: the major one times 1,000,000, plus the minor one times 1,000, plus
-/// the patch.
+/// Returns the version of the library as one number: the major one times 1,000,000, plus the minor one times 1,000,
+/// plus the patch.
 #[unsafe(no_mangle)]
 pub extern "C" fn fancy_version() -> u32
     ensures { result ≡ 1000000 * VERSION_MAJOR + 1000 * VERSION_MINOR + VERSION_PATCH }

@@ -16,8 +16,9 @@ decreases-put_children l = 2 * levels (view l.tree.now)
 abbrev pub invariant-put_children-loop-child : goal.invariant-put_children-loop-child
 invariant-put_children-loop-child l = record {
   sweep : Sweep (λ _. Unit {0}) l.tree (remaining_children l.children);
-  putting : Putting (spans_in l.spans.size l.spans.list.items) l.initial.nodes l.nodes l.initial.bytes l.bytes l.fn.before.rows l.fn.before.text l.behind.rows
-      l.behind.text (listed_each (children (view l.tree))) (listed_each (views (remaining_children l.children)));
+  putting : Putting (spans_in l.spans.size l.spans.list.items) l.initial.nodes l.nodes l.initial.bytes l.bytes
+      l.fn.before.rows l.fn.before.text l.behind.rows l.behind.text
+      (listed_each (children (view l.tree))) (listed_each (views (remaining_children l.children)));
 }
 
 abbrev pub decreases-put_children-loop-child : goal.decreases-put_children-loop-child
