@@ -1,10 +1,10 @@
 // Compares what C gets with recorded answers: `from_c FILE [refuse]`, where a line of the file has flags, a pattern, a status,
-// and what `fre` writes on standard output and on standard error, in hexadecimal with tabs between. Each line is answered by
-// `examples/lines.c` with buffers that have just the room, then with each buffer one too short, which has to be said and to
-// leave every buffer as it was, and with `refuse` with the first request of the library for memory refused, then with
-// the second, and so on. A line of fewer fields is passed over. The status is 1 where an answer is another. It is linked with --wrap for malloc, realloc and free.
-#define LINES_WITHOUT_MAIN
-#include "../examples/lines.c"
+// and what `fre` writes on standard output and on standard error, in hexadecimal with tabs between; or the word `text`, flags,
+// a pattern, and the text that is written for its tree. A line of the first kind is answered by `examples/lines.c` with
+// buffers of just the size, then with each buffer one too short, which has to be said and to leave every buffer as it was,
+// and with `refuse` with the first request of the library for memory refused, then with the second, and so on. Other lines
+// are passed over. The status is 1 where an answer is another. It is linked with --wrap for malloc, realloc and free.
+#include "records.h"
 
 static size_t left_until_refusal; // 0: none is refused
 static bool was_refused;
@@ -38,38 +38,22 @@ void __wrap_free(void *old) {
 
 static size_t refused;
 
-static int nibble(char c) { return c <= '9' ? c - '0' : c - 'a' + 10; }
-
-// The bytes of a field, in memory of just their size.
-static uint8_t *decode(const char *field, size_t *size) {
-    *size = strcmp(field, "-") == 0 ? 0 : strlen(field) / 2;
-    uint8_t *bytes = __real_malloc(*size + 1);
-    for (size_t i = 0; i < *size; i++) bytes[i] = (uint8_t)(nibble(field[2 * i]) * 16 + nibble(field[2 * i + 1]));
-    return bytes;
-}
-
 // Whether the answer now is the recorded one; where memory was refused, that it was is enough.
-static bool is_answered(const uint8_t *pattern, size_t length, uint32_t flags, char **fields) {
-    char *out, *err;
-    size_t out_size, err_size, wanted_out_size, wanted_err_size;
+static bool is_answered(const char *pattern, size_t length, uint32_t flags, char **fields) {
+    answer now;
     size_t left = left_until_refusal;
     left_until_refusal = 0;
-    FILE *out_file = open_memstream(&out, &out_size), *err_file = open_memstream(&err, &err_size);
+    FILE *out = open_memstream(&now.out, &now.out_size), *err = open_memstream(&now.err, &now.err_size);
     left_until_refusal = left;
     size_t before = in_use;
-    uint32_t answer = write_pattern(out_file, err_file, pattern, length, flags);
+    now.status = write_pattern(out, err, pattern, length, flags);
     bool leaks = in_use != before;
     left_until_refusal = 0;
-    fclose(out_file);
-    fclose(err_file);
-    uint8_t *wanted_out = decode(fields[3], &wanted_out_size), *wanted_err = decode(fields[4], &wanted_err_size);
-    bool is_same = answer == (uint32_t)atoi(fields[2]) && out_size == wanted_out_size && err_size == wanted_err_size &&
-                   memcmp(out, wanted_out, out_size) == 0 && memcmp(err, wanted_err, err_size) == 0;
-    __real_free(wanted_out);
-    __real_free(wanted_err);
-    __real_free(out);
-    __real_free(err);
-    return !leaks && (was_refused ? answer == FANCY_NO_MEMORY : is_same);
+    fclose(out);
+    fclose(err);
+    bool is_right = was_refused ? now.status == FANCY_STATUS_OUT_OF_MEMORY : is_recorded(&now, fields);
+    forget(&now);
+    return is_right && !leaks;
 }
 
 static bool is_untouched(const void *buffer, size_t size) {
@@ -79,93 +63,166 @@ static bool is_untouched(const void *buffer, size_t size) {
     return true;
 }
 
+static void *untouched(size_t size) { return memset(malloc(size + 1), 0xA5, size + 1); }
+
 // Whether a buffer that is one too short is said to be, and every buffer left alone: which of the four it is.
-static bool is_told_short(const uint8_t *pattern, size_t length, uint32_t flags, const fancy_marks *told, int which) {
-    size_t rooms[] = {told->nodes, told->texts, told->names, told->backrefs};
+static bool is_tree_short(const char *pattern, size_t length, uint32_t flags, const fancy_info *info, int which) {
+    size_t capacities[] = {info->node_count, info->texts_size, info->name_count, info->backref_count};
     size_t sizes[] = {sizeof(fancy_node), 1, sizeof(fancy_name), sizeof(size_t)};
-    if (rooms[which] == 0) return true;
-    rooms[which]--;
+    if (capacities[which] == 0) return true;
+    capacities[which]--;
     void *buffers[4];
-    for (int i = 0; i < 4; i++) memset(buffers[i] = __real_malloc(rooms[i] * sizes[i] + 1), 0xA5, rooms[i] * sizes[i] + 1);
-    fancy_marks marks;
-    fancy_answer got = fancy_nodes(pattern, length, flags, buffers[0], rooms[0], buffers[1], rooms[1], buffers[2], rooms[2],
-                                   buffers[3], rooms[3], &marks);
-    bool is_right = got.answer == FANCY_SHORT && marks.nodes == told->nodes && marks.texts == told->texts;
+    for (int i = 0; i < 4; i++) buffers[i] = untouched(capacities[i] * sizes[i]);
+    fancy_info again;
+    fancy_result got = fancy_parse(pattern, length, flags, buffers[0], capacities[0], buffers[1], capacities[1], buffers[2],
+                                   capacities[2], buffers[3], capacities[3], &again);
+    bool is_right = got.status == FANCY_STATUS_BUFFER_TOO_SHORT && again.node_count == info->node_count &&
+                    again.texts_size == info->texts_size && again.name_count == info->name_count &&
+                    again.backref_count == info->backref_count;
     for (int i = 0; i < 4; i++) {
-        is_right = is_right && is_untouched(buffers[i], rooms[i] * sizes[i] + 1);
-        __real_free(buffers[i]);
+        is_right = is_right && is_untouched(buffers[i], capacities[i] * sizes[i] + 1);
+        free(buffers[i]);
     }
     return is_right;
 }
 
-// The same of a text: of the tree's, or of the fault's words.
-static bool is_text_told_short(const uint8_t *pattern, size_t length, uint32_t flags, bool is_message) {
-    uint8_t none;
-    fancy_answer whole = is_message ? fancy_message(pattern, length, flags, &none, 0) : fancy_print(pattern, length, flags, 0, &none, 0);
-    if (whole.size == 0) return true;
-    size_t room = whole.size - 1;
-    uint8_t *buffer = __real_malloc(room + 1);
-    memset(buffer, 0xA5, room + 1);
-    fancy_answer got = is_message ? fancy_message(pattern, length, flags, buffer, room) : fancy_print(pattern, length, flags, 0, buffer, room);
-    bool is_right = got.answer == FANCY_SHORT && got.size == whole.size && is_untouched(buffer, room + 1);
-    __real_free(buffer);
+// A call that writes a text.
+typedef fancy_result writer(const char *pattern, size_t length, uint32_t flags, char *buffer, size_t capacity);
+
+static fancy_result print_whole(const char *pattern, size_t length, uint32_t flags, char *buffer, size_t capacity) {
+    return fancy_print(pattern, length, flags, FANCY_PRECEDENCE_WHOLE, buffer, capacity);
+}
+
+static fancy_result write_kind(const char *pattern, size_t length, uint32_t kind, char *buffer, size_t capacity) {
+    (void)pattern, (void)length;
+    return fancy_error_text(kind, buffer, capacity);
+}
+
+// The same of a text. A null pointer with a length of 0 is as good as any.
+static bool is_text_short(const char *pattern, size_t length, uint32_t flags, writer *call) {
+    fancy_result whole = call(pattern, length, flags, NULL, 0);
+    if (whole.size == 0) return whole.status != FANCY_STATUS_BUFFER_TOO_SHORT;
+    char *buffer = untouched(whole.size - 1);
+    fancy_result got = call(pattern, length, flags, buffer, whole.size - 1);
+    bool is_right = whole.status == FANCY_STATUS_BUFFER_TOO_SHORT && got.status == whole.status && got.size == whole.size &&
+                    is_untouched(buffer, whole.size);
+    free(buffer);
     return is_right;
 }
 
-static bool is_short_said(const uint8_t *pattern, size_t length, uint32_t flags) {
-    fancy_answer read = fancy_read(pattern, length, flags);
-    if (read.answer == FANCY_REFUSED) {
-        fancy_answer told = fancy_message(pattern, length, flags, (uint8_t *)&told, 0);
-        return told.kind == read.kind && told.place == read.place && is_text_told_short(pattern, length, flags, true);
-    }
-    fancy_node node;
-    fancy_name name;
-    uint8_t byte;
-    size_t number;
-    fancy_marks told;
-    fancy_nodes(pattern, length, flags, &node, 0, &byte, 0, &name, 0, &number, 0, &told);
+// Whether the text of a kind is what the message begins with, which a read pattern has.
+static bool is_message_begun(const char *pattern, size_t length, uint32_t flags, fancy_result told) {
+    char text[47], *message = malloc(told.size);
+    fancy_result begun = fancy_error_text(told.kind, text, sizeof text);
+    fancy_result whole = fancy_message(pattern, length, flags, message, told.size);
+    bool is_right = begun.status == FANCY_STATUS_OK && begun.size > 0 && whole.status == FANCY_STATUS_REFUSED &&
+                    begun.size <= whole.size && memcmp(message, text, begun.size) == 0;
+    free(message);
+    return is_right;
+}
+
+static bool is_short_said(const char *pattern, size_t length, uint32_t flags) {
+    fancy_result read = fancy_check(pattern, length, flags);
+    fancy_result told = fancy_message(pattern, length, flags, NULL, 0);
+    if (told.kind != read.kind || told.position != read.position) return false;
+    if (read.status == FANCY_STATUS_REFUSED)
+        return is_text_short(pattern, length, flags, fancy_message) && is_message_begun(pattern, length, flags, told);
+    fancy_info info;
+    fancy_parse(pattern, length, flags, NULL, 0, NULL, 0, NULL, 0, NULL, 0, &info);
     for (int i = 0; i < 4; i++)
-        if (!is_told_short(pattern, length, flags, &told, i)) return false;
-    return told.nodes <= 2 * length + 1 && is_text_told_short(pattern, length, flags, false);
+        if (!is_tree_short(pattern, length, flags, &info, i)) return false;
+    return info.node_count <= 2 * length + 1 && is_text_short(pattern, length, flags, print_whole) &&
+           is_text_short(pattern, length, flags, fancy_pattern);
+}
+
+// Whether each span lies in that of the parent.
+static bool are_spans_nested(const tree *t, size_t at) {
+    for (size_t child = at + 1; child < t->nodes[at].end; child = t->nodes[child].end)
+        if (t->nodes[child].start < t->nodes[at].start || t->nodes[child].stop > t->nodes[at].stop ||
+            !are_spans_nested(t, child))
+            return false;
+    return t->nodes[at].start <= t->nodes[at].stop;
+}
+
+static bool are_spans_right(const char *pattern, size_t length, uint32_t flags) {
+    tree t;
+    bool is_tree = take(&t, pattern, length, flags).status == FANCY_STATUS_OK;
+    bool is_right = !is_tree || (t.nodes[0].stop <= length && are_spans_nested(&t, 0));
+    release(&t);
+    return is_right;
 }
 
 static bool is_line_right(char **fields, bool refuses) {
     uint32_t flags = 0;
     if (!read_flags(fields[0], &flags)) return strcmp(fields[2], "2") == 0;
     size_t length;
-    uint8_t *pattern = decode(fields[1], &length);
-    // of just its size, so that a read past the end is seen
-    uint8_t *exact = __real_malloc(length ? length : 1);
-    memcpy(exact, pattern, length);
-    __real_free(pattern);
-    bool is_right = is_answered(exact, length, flags, fields) && is_short_said(exact, length, flags);
+    char *pattern = decode(fields[1], &length);
+    bool is_right = is_answered(pattern, length, flags, fields) && is_short_said(pattern, length, flags) &&
+                    are_spans_right(pattern, length, flags);
     for (size_t n = 1; refuses && is_right; n++) {
         left_until_refusal = n;
         was_refused = false;
-        is_right = is_answered(exact, length, flags, fields);
+        is_right = is_answered(pattern, length, flags, fields);
         if (!was_refused) break;
         refused++;
     }
     was_refused = false;
-    __real_free(exact);
+    free(pattern);
     return is_right;
 }
 
-int main(int count, char **words) {
-    FILE *file = fopen(words[1], "r");
-    char *line = NULL;
-    size_t room = 0, same = 0, different = 0;
-    ssize_t size;
-    while (file && (size = getline(&line, &room, file)) > 0) {
-        line[strcspn(line, "\n")] = 0;
-        char *fields[5], *rest = line;
-        for (int i = 0; i < 5; i++) fields[i] = rest ? strsep(&rest, "\t") : NULL;
-        if (!fields[3]) continue; // a tree that is printed, which C cannot make
-        if (is_line_right(fields, count > 2)) same++;
-        else printf("different: %s %s\n", fields[0], fields[1]), different++;
+// Whether the text that is written for the tree of a pattern is the recorded one.
+static bool is_written(char **fields) {
+    uint32_t flags = 0;
+    size_t length, wanted_size;
+    if (!read_flags(fields[1], &flags)) return false;
+    char *pattern = decode(fields[2], &length), *wanted = decode(fields[3], &wanted_size);
+    char *text = malloc(wanted_size + 1);
+    fancy_result got = fancy_pattern(pattern, length, flags, text, wanted_size);
+    bool is_right = got.status == FANCY_STATUS_OK && got.size == wanted_size && memcmp(text, wanted, wanted_size) == 0;
+    free(pattern);
+    free(wanted);
+    free(text);
+    return is_right;
+}
+
+// What hangs on no pattern: the version; and null pointers, each with a length of 0.
+static bool is_rest_right(void) {
+    char text[64];
+    fancy_info info = {0};
+    fancy_node node;
+    bool is_right = fancy_version() == FANCY_VERSION && fancy_check(NULL, 0, 0).status == FANCY_STATUS_OK &&
+                    fancy_message(NULL, 0, 0, NULL, 0).status == FANCY_STATUS_OK &&
+                    fancy_print(NULL, 0, 0, 0, NULL, 0).status == FANCY_STATUS_OK &&
+                    fancy_pattern(NULL, 0, 0, NULL, 0).status == FANCY_STATUS_OK &&
+                    fancy_parse(NULL, 0, 0, NULL, 0, NULL, 0, NULL, 0, NULL, 0, NULL).status ==
+                        FANCY_STATUS_BUFFER_TOO_SHORT &&
+                    fancy_parse(NULL, 0, 0, &node, 1, NULL, 0, NULL, 0, NULL, 0, &info).status == FANCY_STATUS_OK &&
+                    info.node_count == 1 && node.kind == FANCY_NODE_EMPTY && node.start == 0 && node.stop == 0 && node.end == 1;
+    for (uint32_t kind = 0; kind < 300; kind++) {
+        fancy_result got = fancy_error_text(kind, text, sizeof text);
+        bool has_text = kind >= FANCY_ERROR_GENERAL_PARSE_ERROR && kind <= FANCY_ERROR_INVALID_GROUP_NAME_BACKREF;
+        is_right = is_right && got.status == FANCY_STATUS_OK && (got.size > 0) == has_text && got.size <= 47 &&
+                   is_text_short(NULL, 0, kind, write_kind);
     }
-    __real_free(line);
+    return is_right;
+}
+
+int main(int count, char **arguments) {
+    FILE *file = fopen(arguments[1], "r");
+    char *line = NULL;
+    size_t capacity = 0, same = 0, different = !is_rest_right();
+    ssize_t size;
+    if (different > 0) puts("different: without a pattern");
+    while (file && (size = getline(&line, &capacity, file)) > 0) {
+        char *fields[5];
+        part(line, fields);
+        if (!fields[3]) continue; // a tree that is printed, which C cannot make
+        if (strcmp(fields[0], "text") == 0 ? is_written(fields) : is_line_right(fields, count > 2)) same++;
+        else printf("different: %s %s %s\n", fields[0], fields[1], fields[2]), different++;
+    }
+    free(line);
     if (file) fclose(file);
-    printf("%s: %zu same, %zu different, %zu requests refused\n", words[1], same, different, refused);
+    printf("%s: %zu same, %zu different, %zu requests refused\n", arguments[1], same, different, refused);
     return !file || different > 0 || same == 0;
 }

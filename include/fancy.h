@@ -1,11 +1,12 @@
-/* Patterns of fancy-regex, read and printed by proved code.
+/* Patterns of fancy-regex, parsed and printed by proved code.
  *
- * Each call reads a pattern anew, keeps nothing and owns nothing when it returns. It writes into buffers of the caller's,
- * at their front, never past their end, and all of a text or a tree or none of it. What the proof covers, and what the
- * caller has to keep, is in docs/from-c.md: above all, no pointer may be null, also where its length is 0, and no two
- * buffers may overlap.
+ * Each call parses a pattern anew, keeps nothing, and owns nothing when it returns. It writes into buffers of the caller,
+ * from their start, never past their end, and the whole of a text or a tree or nothing. docs/from-c.md says how to build
+ * and link the library, what is proved, and what the caller has to guarantee.
  *
- * Lengths, sizes and places are counts of bytes; the room for nodes, names and back references is a count of items.
+ * A pattern is UTF-8 and need not be NUL-terminated. Lengths, sizes, positions and the capacities of text buffers are in
+ * bytes; the capacities for nodes, names and back references are counts of items. A pointer may be null if its length or
+ * capacity is 0. Texts that are written are UTF-8 and not NUL-terminated.
  */
 #ifndef FANCY_H
 #define FANCY_H
@@ -14,184 +15,257 @@
 #include <stddef.h>
 #include <stdint.h>
 
+/* The version of this header. fancy_version returns that of the library. CHANGELOG.md says what a change of each means. */
+#define FANCY_VERSION_MAJOR 1
+#define FANCY_VERSION_MINOR 0
+#define FANCY_VERSION_PATCH 0
+#define FANCY_VERSION (FANCY_VERSION_MAJOR * 1000000 + FANCY_VERSION_MINOR * 1000 + FANCY_VERSION_PATCH)
+
 #ifdef __cplusplus
 extern "C" {
 #endif
 
-/* Flags: bits, of which any may be set. Other bits say nothing. */
+/* Flags: bits, of which any may be set. Other bits are ignored. */
 enum {
-    FANCY_CASEI = 1,           /* literals, classes, properties and back references ignore case */
-    FANCY_MULTI = 2,           /* ^ and $ stand for the ends of lines too */
-    FANCY_DOTNL = 4,           /* . stands for a new line too */
-    FANCY_SWAP_GREED = 8,      /* a quantifier is lazy without ?, and greedy with it */
-    FANCY_IGNORE_SPACE = 16,   /* blanks and line comments are layout */
-    FANCY_UNICODE = 32,        /* classes and escapes are read as Unicode's */
-    FANCY_CRLF = 64,           /* CR LF ends a line as one */
-    FANCY_ONIGURUMA_MODE = 128, /* the pattern is one of Oniguruma's */
-    FANCY_IGNORE_NUMBERED = 256 /* where a group has a name, the groups without one have no number */
+    FANCY_FLAG_CASEI = 1,        /* case-insensitive */
+    FANCY_FLAG_MULTI = 2,        /* ^ and $ match at line breaks too */
+    FANCY_FLAG_DOTNL = 4,        /* . matches a line feed too */
+    FANCY_FLAG_SWAP_GREED = 8,   /* quantifiers are lazy, and greedy with a ? after them */
+    FANCY_FLAG_IGNORE_SPACE = 16, /* whitespace and comments from # to the end of a line are ignored */
+    FANCY_FLAG_UNICODE = 32,     /* classes and escapes are those of Unicode */
+    FANCY_FLAG_CRLF = 64,        /* CR is a line break, and CR LF a single one */
+    FANCY_FLAG_ONIGURUMA_MODE = 128, /* the pattern is in Oniguruma's syntax */
+    FANCY_FLAG_IGNORE_NUMBERED_GROUPS_WHEN_NAMED_GROUPS_EXIST = 256
 };
 
 /* What became of a call. All these numbers, here and below, never change. */
 enum {
-    FANCY_READ = 0,         /* the pattern has a tree */
-    FANCY_REFUSED = 1,      /* it has a fault: kind and place are told */
-    FANCY_NO_UTF8 = 2,      /* place is the length of the longest front that is UTF-8 */
-    FANCY_NO_MEMORY = 3,    /* memory was refused */
-    FANCY_SHORT = 4,        /* a buffer is too short: no buffer was written */
-    FANCY_NOT_PRINTABLE = 5 /* the pattern has a tree that is not printable */
+    FANCY_STATUS_OK = 0,
+    FANCY_STATUS_REFUSED = 1,          /* the pattern is invalid: kind and position are set */
+    FANCY_STATUS_NOT_UTF8 = 2,         /* position is the length of the valid UTF-8 prefix */
+    FANCY_STATUS_OUT_OF_MEMORY = 3,    /* it says nothing about the pattern */
+    FANCY_STATUS_BUFFER_TOO_SHORT = 4, /* no buffer was written, and the size that is needed is set */
+    FANCY_STATUS_NOT_PRINTABLE = 5,    /* of fancy_print: the pattern is valid, and its tree is not printable */
+    FANCY_STATUS_NO_PATTERN = 6        /* of fancy_pattern: the text written does not parse back. No pattern is known for it */
 };
 
-/* Kinds of faults. */
+/* Kinds of errors. */
 enum {
-    FANCY_NO_KIND = 0,
-    FANCY_GENERAL_PARSE_ERROR = 1,
-    FANCY_UNCLOSED_OPEN_PAREN = 2,
-    FANCY_INVALID_REPEAT = 3,
-    FANCY_RECURSION_EXCEEDED = 4,
-    FANCY_TRAILING_BACKSLASH = 5,
-    FANCY_INVALID_ESCAPE = 6,
-    FANCY_UNCLOSED_UNICODE_NAME = 7,
-    FANCY_INVALID_HEX = 8,
-    FANCY_INVALID_CODEPOINT_VALUE = 9,
-    FANCY_INVALID_CLASS = 10,
-    FANCY_UNKNOWN_FLAG = 11,
-    FANCY_CHANGING_UNICODE_MODE_UNSUPPORTED = 12,
-    FANCY_INVALID_BACKREF = 13,
-    FANCY_TARGET_NOT_REPEATABLE = 14,
-    FANCY_INVALID_GROUP_NAME = 15,
-    FANCY_INVALID_GROUP_NAME_BACKREF = 16
+    FANCY_ERROR_NONE = 0,
+    FANCY_ERROR_GENERAL_PARSE_ERROR = 1,
+    FANCY_ERROR_UNCLOSED_OPEN_PAREN = 2,
+    FANCY_ERROR_INVALID_REPEAT = 3,
+    FANCY_ERROR_RECURSION_EXCEEDED = 4,
+    FANCY_ERROR_TRAILING_BACKSLASH = 5,
+    FANCY_ERROR_INVALID_ESCAPE = 6,
+    FANCY_ERROR_UNCLOSED_UNICODE_NAME = 7,
+    FANCY_ERROR_INVALID_HEX = 8,
+    FANCY_ERROR_INVALID_CODEPOINT_VALUE = 9,
+    FANCY_ERROR_INVALID_CLASS = 10,
+    FANCY_ERROR_UNKNOWN_FLAG = 11,
+    FANCY_ERROR_CHANGING_UNICODE_MODE_UNSUPPORTED = 12,
+    FANCY_ERROR_INVALID_BACKREF = 13,
+    FANCY_ERROR_TARGET_NOT_REPEATABLE = 14,
+    FANCY_ERROR_INVALID_GROUP_NAME = 15,
+    FANCY_ERROR_INVALID_GROUP_NAME_BACKREF = 16
 };
 
-/* Kinds of nodes; behind each which of the node's fields say something beside kind and end. */
+/* Kinds of nodes, each with the fields of the node that it uses beside kind, end, start and stop. */
 enum {
-    FANCY_EMPTY = 1,
-    FANCY_ANY = 2,              /* newline, crlf */
-    FANCY_ASSERTION = 3,        /* which, crlf */
-    FANCY_GENERAL_NEWLINE = 4,  /* unicode */
-    FANCY_LITERAL = 5,          /* text, size, casei */
-    FANCY_LITERAL_BYTES = 6,    /* text, size */
-    FANCY_CONCAT = 7,
-    FANCY_ALT = 8,
-    FANCY_GROUP = 9,
-    FANCY_LOOK_AROUND = 10,     /* which */
-    FANCY_REPEAT = 11,          /* least, most, greedy */
-    FANCY_DELEGATE = 12,        /* text, size, casei */
-    FANCY_BACKREF = 13,         /* number, casei */
-    FANCY_BACKREF_AT_LEVEL = 14, /* number, has_level, level, casei */
-    FANCY_ATOMIC_GROUP = 15,
-    FANCY_KEEP_OUT = 16,
-    FANCY_CONTINUE_FROM_PREVIOUS_MATCH_END = 17,
-    FANCY_BACKREF_EXISTS_CONDITION = 18, /* number, has_level, level */
-    FANCY_CONDITIONAL = 19,     /* three nodes stand in it: the condition, the branch where it holds, the other */
-    FANCY_SUBROUTINE_CALL = 20, /* number; 0 is the whole pattern */
-    FANCY_VERB = 21,            /* which */
-    FANCY_ABSENT = 22,          /* which */
-    FANCY_DEFINE_GROUP = 23,
-    FANCY_AST_NODE = 24         /* a call that means no group: place, which, and number, or text and size, or level */
+    FANCY_NODE_EMPTY = 1,
+    FANCY_NODE_ANY = 2,              /* newline, crlf */
+    FANCY_NODE_ASSERTION = 3,        /* which: FANCY_ASSERTION_..; crlf */
+    FANCY_NODE_GENERAL_NEWLINE = 4,  /* unicode */
+    FANCY_NODE_LITERAL = 5,          /* text, text_size, casei */
+    FANCY_NODE_LITERAL_BYTES = 6,    /* text, text_size */
+    FANCY_NODE_CONCAT = 7,
+    FANCY_NODE_ALT = 8,
+    FANCY_NODE_GROUP = 9,
+    FANCY_NODE_LOOK_AROUND = 10,     /* which: FANCY_LOOK_.. */
+    FANCY_NODE_REPEAT = 11,          /* lo, hi, greedy */
+    FANCY_NODE_DELEGATE = 12,        /* a class, a class escape or a property, as its text: text, text_size, casei */
+    FANCY_NODE_BACKREF = 13,         /* group, casei */
+    FANCY_NODE_BACKREF_AT_LEVEL = 14, /* group, has_level, level, casei */
+    FANCY_NODE_ATOMIC_GROUP = 15,
+    FANCY_NODE_KEEP_OUT = 16,
+    FANCY_NODE_CONTINUE_FROM_PREVIOUS_MATCH_END = 17,
+    FANCY_NODE_BACKREF_EXISTS_CONDITION = 18, /* group, has_level, level */
+    FANCY_NODE_CONDITIONAL = 19,     /* it has three children: the condition, the branch if it holds, the other branch */
+    FANCY_NODE_SUBROUTINE_CALL = 20, /* group; 0 is the whole pattern */
+    FANCY_NODE_VERB = 21,            /* which: FANCY_VERB_.. */
+    FANCY_NODE_ABSENT = 22,          /* which: FANCY_ABSENT_.. */
+    FANCY_NODE_DEFINE_GROUP = 23,
+    FANCY_NODE_AST_NODE = 24         /* an unresolved call: position; which: FANCY_TARGET_..; group, or text and text_size,
+                                        or level */
 };
 
-/* Which assertion it is. */
 enum {
-    FANCY_START_TEXT = 1,
-    FANCY_END_TEXT = 2,
-    FANCY_END_TEXT_IGNORE_TRAILING_NEWLINES = 3, /* crlf */
-    FANCY_START_LINE = 4,                        /* crlf */
-    FANCY_START_LINE_ONIGURUMA = 5,              /* crlf */
-    FANCY_END_LINE = 6,                          /* crlf */
-    FANCY_LEFT_WORD_BOUNDARY = 7,
-    FANCY_LEFT_WORD_HALF_BOUNDARY = 8,
-    FANCY_RIGHT_WORD_BOUNDARY = 9,
-    FANCY_RIGHT_WORD_HALF_BOUNDARY = 10,
-    FANCY_WORD_BOUNDARY = 11,
-    FANCY_NOT_WORD_BOUNDARY = 12
+    FANCY_ASSERTION_START_TEXT = 1,
+    FANCY_ASSERTION_END_TEXT = 2,
+    FANCY_ASSERTION_END_TEXT_IGNORE_TRAILING_NEWLINES = 3, /* crlf */
+    FANCY_ASSERTION_START_LINE = 4,                        /* crlf */
+    FANCY_ASSERTION_START_LINE_ONIGURUMA = 5,              /* crlf */
+    FANCY_ASSERTION_END_LINE = 6,                          /* crlf */
+    FANCY_ASSERTION_LEFT_WORD_BOUNDARY = 7,
+    FANCY_ASSERTION_LEFT_WORD_HALF_BOUNDARY = 8,
+    FANCY_ASSERTION_RIGHT_WORD_BOUNDARY = 9,
+    FANCY_ASSERTION_RIGHT_WORD_HALF_BOUNDARY = 10,
+    FANCY_ASSERTION_WORD_BOUNDARY = 11,
+    FANCY_ASSERTION_NOT_WORD_BOUNDARY = 12
 };
 
-/* Which look-around it is. */
 enum { FANCY_LOOK_AHEAD = 1, FANCY_LOOK_AHEAD_NEG = 2, FANCY_LOOK_BEHIND = 3, FANCY_LOOK_BEHIND_NEG = 4 };
 
-/* Which verb it is. */
-enum { FANCY_FAIL = 1, FANCY_ACCEPT = 2, FANCY_COMMIT = 3, FANCY_SKIP = 4, FANCY_PRUNE = 5 };
+enum { FANCY_VERB_FAIL = 1, FANCY_VERB_ACCEPT = 2, FANCY_VERB_COMMIT = 3, FANCY_VERB_SKIP = 4, FANCY_VERB_PRUNE = 5 };
 
-/* Which absent expression it is. */
-enum { FANCY_REPEATER = 1, FANCY_EXPRESSION = 2, FANCY_STOPPER = 3, FANCY_CLEAR = 4 };
+enum { FANCY_ABSENT_REPEATER = 1, FANCY_ABSENT_EXPRESSION = 2, FANCY_ABSENT_STOPPER = 3, FANCY_ABSENT_CLEAR = 4 };
 
-/* What a call names: a group by its number, by its name (text and size), or so many groups away (level). */
-enum { FANCY_BY_NUMBER = 1, FANCY_BY_NAME = 2, FANCY_RELATIVE = 3 };
+/* What an unresolved call names: a group by its number (group), by its name (text, text_size), or by a relative number
+ * (level). */
+enum { FANCY_TARGET_BY_NUMBER = 1, FANCY_TARGET_BY_NAME = 2, FANCY_TARGET_RELATIVE = 3 };
 
-/* What became of a call. */
+/* What a printed text is to be: a whole pattern or the inside of a group, a branch of an alternation, a part of a
+ * concatenation, the operand of a quantifier. */
+enum {
+    FANCY_PRECEDENCE_WHOLE = 0,
+    FANCY_PRECEDENCE_BRANCH = 1,
+    FANCY_PRECEDENCE_PIECE = 2,
+    FANCY_PRECEDENCE_OPERAND = 3
+};
+
+/* What a call returns. */
 typedef struct {
-    uint32_t answer; /* FANCY_READ to FANCY_NOT_PRINTABLE */
-    uint32_t kind;   /* the kind of the fault, FANCY_NO_KIND where none is told */
-    size_t place;    /* of the fault, at most one past the pattern's end; or of the first byte that is no UTF-8; else 0 */
-    size_t size;     /* of the text that was to be written, in bytes, where fancy_message or fancy_print has one; else 0 */
-} fancy_answer;
+    uint32_t status; /* FANCY_STATUS_.. */
+    uint32_t kind;   /* FANCY_ERROR_.., FANCY_ERROR_NONE if no error is reported */
+    size_t position; /* of the error, at most one past the end of the pattern; or the length of the valid UTF-8 prefix;
+                        else 0 */
+    size_t size;     /* of the text that was to be written, whether or not it fitted; else 0 */
+} fancy_result;
 
-/* A node. What its kind does not have is 0 or false, and text is 0 where size is. */
+/* A node of a tree. What its kind does not use is 0 or false, and text is 0 if text_size is 0. */
 typedef struct {
-    uint32_t kind;
+    uint32_t kind;    /* FANCY_NODE_.. */
     uint32_t which;
-    size_t end;      /* the index behind its last descendant: its first child, if it has one, is the next node, and each
-                        further child begins at the end of the one before */
-    size_t text;     /* where its text begins in the buffer of texts, 0 where it has none; a text has no 0 behind it */
-    size_t size;     /* of its text, in bytes */
-    size_t least;    /* how often at least */
-    size_t most;     /* how often at most, SIZE_MAX for no bound */
-    size_t number;   /* of a group */
-    ptrdiff_t level; /* of recursion, relative to the one here; or how many groups away */
-    size_t place;    /* where a call stands in the pattern, as a byte offset */
-    bool newline;    /* it may be a line break */
-    bool crlf;       /* a carriage return counts as a line break too */
-    bool unicode;    /* the line breaks of Unicode count too */
-    bool casei;      /* upper and lower case are one */
-    bool greedy;     /* as often as possible is tried first */
-    bool has_level;  /* a level of recursion is meant: always of a FANCY_BACKREF_AT_LEVEL */
+    size_t end;       /* one past the index of its last descendant: its first child, if it has one, is the next node, and
+                         each further child is at the end of the one before */
+    size_t text;      /* where its text begins in the buffer of texts */
+    size_t text_size; /* of its text, in bytes */
+    size_t lo;        /* the lower bound of a repetition */
+    size_t hi;        /* the upper bound, SIZE_MAX for none */
+    size_t group;     /* the number of a group */
+    ptrdiff_t level;  /* a recursion level, relative to the current one; or the relative number of a group */
+    size_t position;  /* of an unresolved call, as a byte offset */
+    size_t start;     /* its part of the pattern: the offset of the first byte */
+    size_t stop;      /* one past the offset of the last byte: start <= stop <= the length of the pattern */
+    bool newline;     /* it matches a line break too */
+    bool crlf;        /* CR is a line break, and CR LF a single one */
+    bool unicode;     /* the line breaks of Unicode count too */
+    bool casei;       /* case-insensitive */
+    bool greedy;
+    bool has_level;   /* a recursion level is given: always of a FANCY_NODE_BACKREF_AT_LEVEL */
 } fancy_node;
 
-/* A name of a group with its number. A name that several groups have stands once for each. */
+/* A name of a group, with its number. A name that several groups have is listed once for each. */
 typedef struct {
-    size_t text;   /* where the name begins in the buffer of texts */
-    size_t size;   /* of the name, in bytes */
-    size_t number; /* of the group */
+    size_t text;      /* where the name begins in the buffer of texts */
+    size_t text_size; /* of the name, in bytes */
+    size_t group;     /* the number of the group */
 } fancy_name;
 
-/* How much room a tree asks for, and what is said of the pattern. */
+/* The sizes of a tree, and the group information of its pattern. */
 typedef struct {
-    size_t nodes;          /* at most 2 n + 1 for a pattern of n bytes */
-    size_t texts;          /* in bytes */
-    size_t names;
-    size_t backrefs;
-    size_t groups;         /* how many groups have a number: the k-th FANCY_GROUP of the nodes has the number k */
-    size_t out_of_range;   /* the number of the first back reference to a group that is not there */
-    bool has_out_of_range; /* there is one */
-    bool numeric;          /* some back reference is a backslash and digits, or some call is by a number */
-    bool calls;            /* some group is called */
-    bool self_recursive;   /* some call is of the whole pattern */
-    bool ignored;          /* the groups without a name have no number */
-} fancy_marks;
+    size_t node_count;   /* at most 2 n + 1 for a pattern of n bytes */
+    size_t texts_size;   /* in bytes */
+    size_t name_count;
+    size_t backref_count;
+    size_t total_groups; /* the k-th FANCY_NODE_GROUP of the nodes has the number k */
+    size_t out_of_range_backref; /* the number of the first back reference above total_groups */
+    bool has_out_of_range_backref;
+    bool numeric_capture_group_references; /* the pattern has a back reference in digits, or a call by number */
+    bool contains_subroutines;             /* the pattern has a subroutine call */
+    bool self_recursive;                   /* the pattern calls itself by the number 0 */
+    bool numbered_groups_ignored;          /* groups without a name have no number */
+} fancy_info;
 
-/* Reads a pattern: FANCY_READ, FANCY_REFUSED, FANCY_NO_UTF8 or FANCY_NO_MEMORY. */
-fancy_answer fancy_read(const uint8_t *pattern, size_t length, uint32_t flags);
+/* ---- The proved functions. No pointer of theirs may be null. Call the functions below, which have no such condition. */
 
-/* Writes the words of a pattern's fault, without its place and with no 0 behind them: FANCY_REFUSED, or FANCY_SHORT where
- * they do not fit; both tell the kind, the place, and the size of the words. Else as fancy_read, and nothing is written. */
-fancy_answer fancy_message(const uint8_t *pattern, size_t length, uint32_t flags, uint8_t *buffer, size_t room);
+fancy_result fancy_check_nonnull(const char *pattern, size_t length, uint32_t flags);
+fancy_result fancy_message_nonnull(const char *pattern, size_t length, uint32_t flags, char *buffer, size_t capacity);
+fancy_result fancy_error_text_nonnull(uint32_t kind, char *buffer, size_t capacity);
+fancy_result fancy_parse_nonnull(const char *pattern, size_t length, uint32_t flags, fancy_node *nodes, size_t node_capacity,
+                                 char *texts, size_t texts_capacity, fancy_name *names, size_t name_capacity,
+                                 size_t *backrefs, size_t backref_capacity, fancy_info *info);
+fancy_result fancy_print_nonnull(const char *pattern, size_t length, uint32_t flags, uint8_t precedence, char *buffer,
+                                 size_t capacity);
+fancy_result fancy_pattern_nonnull(const char *pattern, size_t length, uint32_t flags, char *buffer, size_t capacity);
 
-/* Writes the text of a pattern's tree, with no 0 behind it: FANCY_READ, or FANCY_SHORT where it does not fit; both tell
- * its size. FANCY_NOT_PRINTABLE where the tree is not printable. Else as fancy_read; nothing is written but for FANCY_READ.
- * Above precedence 0 an Alt, above 1 a Concat and above 2 a Repeat stands in a group of its own. */
-fancy_answer fancy_print(const uint8_t *pattern, size_t length, uint32_t flags, uint8_t precedence, uint8_t *buffer,
-                         size_t room);
+/* ---- The functions to call. They are inline, and libfancy has them as symbols too, for callers without this header. */
 
-/* Writes a pattern's tree. FANCY_READ where all of it fits: then the buffers hold, from their front,
- *   nodes      the nodes in preorder, each before those that stand in it, in the order of the text;
- *   texts      the texts of the nodes, and the names behind them;
- *   names      the names in the order of their bytes, each with its numbers ascending;
- *   backrefs   the numbers that back references have, up to `groups`, ascending, each once;
- * and marks says how many. FANCY_SHORT where a buffer is too short: marks says how many there are, and nothing else is
- * written. Else as fancy_read, and nothing is written. */
-fancy_answer fancy_nodes(const uint8_t *pattern, size_t length, uint32_t flags, fancy_node *nodes, size_t nodes_room,
-                         uint8_t *texts, size_t texts_room, fancy_name *names, size_t names_room, size_t *backrefs,
-                         size_t backrefs_room, fancy_marks *marks);
+#ifndef FANCY_INLINE
+#define FANCY_INLINE static inline
+#endif
+
+/* Returns the version of the library, in the form of FANCY_VERSION. */
+uint32_t fancy_version(void);
+
+/* Checks whether a pattern is valid: OK, REFUSED, NOT_UTF8 or OUT_OF_MEMORY. */
+FANCY_INLINE fancy_result fancy_check(const char *pattern, size_t length, uint32_t flags) {
+    return fancy_check_nonnull(pattern ? pattern : "", length, flags);
+}
+
+/* Checks whether a pattern is valid, and if not, writes the message of its error, without the position. Returns what
+ * fancy_check returns, with the size of the message; or BUFFER_TOO_SHORT, with the kind, the position and that size.
+ * Unless it returns REFUSED, nothing is written. */
+FANCY_INLINE fancy_result fancy_message(const char *pattern, size_t length, uint32_t flags, char *buffer, size_t capacity) {
+    char none;
+    return fancy_message_nonnull(pattern ? pattern : "", length, flags, buffer ? buffer : &none, capacity);
+}
+
+/* Writes the message of a kind of error, without a pattern. Four messages end with a text from the pattern, those of
+ * FANCY_ERROR_GENERAL_PARSE_ERROR, _INVALID_ESCAPE, _UNKNOWN_FLAG and _INVALID_GROUP_NAME_BACKREF: of these it writes what
+ * comes before that text. At most 47 bytes; none for a number that no kind has. OK, BUFFER_TOO_SHORT or OUT_OF_MEMORY. */
+FANCY_INLINE fancy_result fancy_error_text(uint32_t kind, char *buffer, size_t capacity) {
+    char none;
+    return fancy_error_text_nonnull(kind, buffer ? buffer : &none, capacity);
+}
+
+/* Parses a pattern, and sets *info, unless info is null. OK if all of it fits; then the buffers hold, from their start,
+ *   nodes      the nodes in preorder: each before its children, and these in the order of the pattern;
+ *   texts      the texts of the nodes, and after them the names of groups;
+ *   names      the names in the order of their bytes, each with its group numbers in ascending order;
+ *   backrefs   the group numbers of back references, up to total_groups, in ascending order, each once.
+ * BUFFER_TOO_SHORT if a buffer is too short: *info says how much is needed, and nothing else is written. Otherwise it
+ * returns what fancy_check returns, and nothing is written. */
+FANCY_INLINE fancy_result fancy_parse(const char *pattern, size_t length, uint32_t flags, fancy_node *nodes,
+                                      size_t node_capacity, char *texts, size_t texts_capacity, fancy_name *names,
+                                      size_t name_capacity, size_t *backrefs, size_t backref_capacity, fancy_info *info) {
+    fancy_node no_node;
+    char no_text;
+    fancy_name no_name;
+    size_t no_number;
+    fancy_info no_info;
+    return fancy_parse_nonnull(pattern ? pattern : "", length, flags, nodes ? nodes : &no_node, node_capacity,
+                               texts ? texts : &no_text, texts_capacity, names ? names : &no_name, name_capacity,
+                               backrefs ? backrefs : &no_number, backref_capacity, info ? info : &no_info);
+}
+
+/* Prints the tree of a pattern in its normal form: OK with the size of the text, BUFFER_TOO_SHORT with that size, or
+ * NOT_PRINTABLE: references, look-arounds, atomic groups, calls and the like have no text here. Otherwise it returns what
+ * fancy_check returns. Unless it returns OK, nothing is written. Above FANCY_PRECEDENCE_WHOLE an alternation is put into
+ * a group, above _BRANCH a concatenation too, and above _PIECE a repetition too. */
+FANCY_INLINE fancy_result fancy_print(const char *pattern, size_t length, uint32_t flags, uint8_t precedence, char *buffer,
+                                      size_t capacity) {
+    char none;
+    return fancy_print_nonnull(pattern ? pattern : "", length, flags, precedence, buffer ? buffer : &none, capacity);
+}
+
+/* Writes a pattern that is parsed, under the same flags, as the same tree with the same groups and names; comments,
+ * ignored whitespace, and how a thing was written are lost. OK with the size of the text, BUFFER_TOO_SHORT with that size,
+ * or NO_PATTERN. Otherwise it returns what fancy_check returns. Unless it returns OK, nothing is written. */
+FANCY_INLINE fancy_result fancy_pattern(const char *pattern, size_t length, uint32_t flags, char *buffer, size_t capacity) {
+    char none;
+    return fancy_pattern_nonnull(pattern ? pattern : "", length, flags, buffer ? buffer : &none, capacity);
+}
 
 #ifdef __cplusplus
 }

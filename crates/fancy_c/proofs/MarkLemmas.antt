@@ -17,10 +17,10 @@ use Rattle.fancy_c.proofs.RowLemmas.{put_more, put_length}
 pub number_put : (names : List Name) (first o n : ℕ) (ks : List ℕ) (i : ℕ) → first + length ks ≤ length names →
     i < length ks
     → set (paste names first (rows_of_name o n ks) i) (first + i)
-    (record { text = o; size = n; number = get_or ks i 0 })
+    (record { text = o; text_size = n; group = get_or ks i 0 })
     ≡ paste names first (rows_of_name o n ks) (i + 1)
 number_put names first o n ks i room here =
-    let row : ℕ → Name = λ j. record { text = o; size = n; number = j } in
+    let row : ℕ → Name = λ j. record { text = o; text_size = n; group = j } in
     let size = length-map ks row in
     ap (λ r. set (paste names first (rows_of_name o n ks) i) (first + i) r) (sym (get_or-map row ks i 0 (row 0) here))
     ∙ paste_more names first (rows_of_name o n ks) i (row 0) (omega arith) (omega (arith, size))
@@ -40,7 +40,8 @@ item_put d i x rest room =
 -- ---- names
 
 pub rows_of_name_length : (o n : ℕ) (ks : List ℕ) → length (rows_of_name o n ks) ≡ length ks
-rows_of_name_length o n ks = let row : ℕ → Name = λ k. record { text = o; size = n; number = k } in length-map ks row
+rows_of_name_length o n ks =
+    let row : ℕ → Name = λ k. record { text = o; text_size = n; group = k } in length-map ks row
 
 pub names_length : (o p : ℕ) (l : List (Text × List ℕ)) → length (name_rows o l) ≡ length (name_rows p l)
 names_length o p [] = refl

@@ -9,7 +9,7 @@ use Rattle.fancy_grammar.specs.Label as label
 use Rattle.fancy_grammar.specs.Tree.{Tree, leaf, over, row as row_of, Trees, no_trees, more_trees, list_of, children}
 use Rattle.fancy_parts.specs.Room.{in_word}
 use Rattle.fancy_c.specs.Buffer.{put_at}
-use Rattle.fancy_c.specs.Node.{listed, listed_all, listed_each, carried, texts, start_of_text, row, rows}
+use Rattle.fancy_c.specs.Node.{listed, listed_all, listed_each, carried, texts, start_of_text, row, rows, SpanAt}
 use Rattle.fancy_c.specs.declared.node.Node.{Node}
 
 -- ---- the nodes of a tree are the node and those of its children
@@ -37,21 +37,21 @@ texts-append (x ∷ xs) ys = ap (λ l. carried x ++ l) (texts-append xs ys)
 pub texts_length : (xs ys : List Tree) → length (texts (xs ++ ys)) ≡ length (texts xs) + length (texts ys)
 texts_length xs ys = ap length (texts-append xs ys) ∙ length-append (texts xs) (texts ys)
 
-pub rows_length : (i o : ℕ) (xs : List Tree) → length (rows i o xs) ≡ length xs
-rows_length i o [] = refl
-rows_length i o (x ∷ xs) = ap suc (rows_length (i + 1) (o + length (carried x)) xs)
+pub rows_length : (at : SpanAt) (i o : ℕ) (xs : List Tree) → length (rows at i o xs) ≡ length xs
+rows_length at i o [] = refl
+rows_length at i o (x ∷ xs) = ap suc (rows_length at (i + 1) (o + length (carried x)) xs)
 
-rows_at : (i j o p : ℕ) (xs : List Tree) → i ≡ j → o ≡ p → rows i o xs ≡ rows j p xs
-rows_at i j o p xs e f = ap (λ k. rows k o xs) e ∙ ap (λ q. rows j q xs) f
+rows_at : (at : SpanAt) (i j o p : ℕ) (xs : List Tree) → i ≡ j → o ≡ p → rows at i o xs ≡ rows at j p xs
+rows_at at i j o p xs e f = ap (λ k. rows at k o xs) e ∙ ap (λ q. rows at j q xs) f
 
-pub rows-append : (i o : ℕ) (xs ys : List Tree) →
-    rows i o (xs ++ ys) ≡ rows i o xs ++ rows (i + length xs) (o + length (texts xs)) ys
-rows-append i o [] ys = rows_at i (i + 0) o (o + 0) ys (omega arith) (omega arith)
-rows-append i o (x ∷ xs) ys =
-    ap (λ l. row (record { end = i + length (listed x); text = start_of_text o (carried x) }) x ∷ l)
-    (rows-append (i + 1) (o + length (carried x)) xs ys
-    ∙ ap (λ l. rows (i + 1) (o + length (carried x)) xs ++ l)
-    (rows_at _ _ _ _ ys (omega arith) (omega (arith, length-append (carried x) (texts xs)))))
+pub rows-append : (at : SpanAt) (i o : ℕ) (xs ys : List Tree) →
+    rows at i o (xs ++ ys) ≡ rows at i o xs ++ rows at (i + length xs) (o + length (texts xs)) ys
+rows-append at i o [] ys = rows_at at i (i + 0) o (o + 0) ys (omega arith) (omega arith)
+rows-append at i o (x ∷ xs) ys =
+    ap (λ l. row (record { end = i + length (listed x); text = start_of_text o (carried x); span = at i }) x ∷ l)
+    (rows-append at (i + 1) (o + length (carried x)) xs ys
+    ∙ ap (λ l. rows at (i + 1) (o + length (carried x)) xs ++ l)
+    (rows_at at _ _ _ _ ys (omega arith) (omega (arith, length-append (carried x) (texts xs)))))
 
 -- ---- what is written
 
@@ -112,20 +112,21 @@ texts_size t = ap length (texts_is t) ∙ length-append (carried t) (texts (list
 pub text_place : (w v : List ℕ) (o p : ℕ) → w ≡ v → p ≡ o + length w → p ≡ o + length v
 text_place w v o p is at = at ∙ ap (λ u. o + length u) is
 
-pub row_put : (t : Tree) (nodes nodes' : List Node) (n o b p : ℕ) → b ≡ n + 1 + length (listed_each (children t)) →
+pub row_put : (at : SpanAt) (t : Tree) (nodes nodes' : List Node) (n o b p : ℕ) →
+    b ≡ n + 1 + length (listed_each (children t)) →
     p ≡ start_of_text o (carried t) → n + length (listed t) ≤ length nodes
-    → nodes' ≡ put_at nodes (n + 1) (rows (n + 1) (o + length (carried t)) (listed_each (children t)))
-    → set nodes' n (row (record { end = b; text = p }) t) ≡ put_at nodes n (rows n o (listed t))
-row_put t nodes nodes' n o b p end start room put =
-    let inside = rows (n + 1) (o + length (carried t)) (listed_each (children t)) in
-    let size = rows_length (n + 1) (o + length (carried t)) (listed_each (children t)) in
+    → nodes' ≡ put_at nodes (n + 1) (rows at (n + 1) (o + length (carried t)) (listed_each (children t)))
+    → set nodes' n (row (record { end = b; text = p; span = at n }) t) ≡ put_at nodes n (rows at n o (listed t))
+row_put at t nodes nodes' n o b p end start room put =
+    let inside = rows at (n + 1) (o + length (carried t)) (listed_each (children t)) in
+    let size = rows_length at (n + 1) (o + length (carried t)) (listed_each (children t)) in
     let long = listed_length t in
     let end_is : b ≡ n + length (listed t) = omega (arith, end, long) in
-    ap (λ l. set l n (row (record { end = b; text = p }) t)) put
-    ∙ put_before nodes n (row (record { end = b; text = p }) t) inside (omega (arith, room, long, size))
-    ∙ ap (λ e. put_at nodes n (row (record { end = e; text = p }) t ∷ inside)) end_is
-    ∙ ap (λ q. put_at nodes n (row (record { end = n + length (listed t); text = q }) t ∷ inside)) start
-    ∙ ap (λ l. put_at nodes n (rows n o l)) (sym (listed_is t))
+    ap (λ l. set l n (row (record { end = b; text = p; span = at n }) t)) put
+    ∙ put_before nodes n (row (record { end = b; text = p; span = at n }) t) inside (omega (arith, room, long, size))
+    ∙ ap (λ e. put_at nodes n (row (record { end = e; text = p; span = at n }) t ∷ inside)) end_is
+    ∙ ap (λ q. put_at nodes n (row (record { end = n + length (listed t); text = q; span = at n }) t ∷ inside)) start
+    ∙ ap (λ l. put_at nodes n (rows at n o l)) (sym (listed_is t))
 
 pub text_put : (t : Tree) (bytes bytes' bytes'' : List ℕ) (o p : ℕ) → p ≡ o + length (carried t) →
     o + length (texts (listed t)) ≤ length bytes
@@ -138,21 +139,22 @@ text_put t bytes bytes' bytes'' o p is room put puts =
 
 -- ---- a writing that is on its way: the rows of `all` stand behind n₀ and o₀ when those of `left` are put behind n and
 -- o
-pub record Putting (nodes₀ nodes : List Node) (bytes₀ bytes : List ℕ) (n₀ o₀ n o : ℕ) (all left : List Tree) : Type 0
+pub record Putting (at : SpanAt) (nodes₀ nodes : List Node) (bytes₀ bytes : List ℕ) (n₀ o₀ n o : ℕ)
+    (all left : List Tree) : Type 0
   where
     pub nodes_room : n + length left ≤ length nodes
     pub bytes_room : o + length (texts left) ≤ length bytes
     pub nodes_end : n + length left ≡ n₀ + length all
     pub bytes_end : o + length (texts left) ≡ o₀ + length (texts all)
-    pub nodes_is : put_at nodes n (rows n o left) ≡ put_at nodes₀ n₀ (rows n₀ o₀ all)
+    pub nodes_is : put_at nodes n (rows at n o left) ≡ put_at nodes₀ n₀ (rows at n₀ o₀ all)
     pub bytes_is : put_at bytes o (texts left) ≡ put_at bytes₀ o₀ (texts all)
 
-pub putting_starts : (nodes : List Node) (bytes : List ℕ) (n o : ℕ) (all left : List Tree) → left ≡ all
+pub putting_starts : (at : SpanAt) (nodes : List Node) (bytes : List ℕ) (n o : ℕ) (all left : List Tree) → left ≡ all
     → n + length all ≤ length nodes → o + length (texts all) ≤ length bytes →
-    Putting nodes nodes bytes bytes n o n o all left
-putting_starts nodes bytes n o all left is room more =
-    subst (λ l. Putting nodes nodes bytes bytes n o n o all l) (sym is) here where
-      here : Putting nodes nodes bytes bytes n o n o all all
+    Putting at nodes nodes bytes bytes n o n o all left
+putting_starts at nodes bytes n o all left is room more =
+    subst (λ l. Putting at nodes nodes bytes bytes n o n o all l) (sym is) here where
+      here : Putting at nodes nodes bytes bytes n o n o all all
       here = record {
         nodes_room = room;
         bytes_room = more;
@@ -163,24 +165,24 @@ putting_starts nodes bytes n o all left is room more =
             refl;
       }
 
-pub putting_as : {nodes₀ nodes : List Node} {bytes₀ bytes : List ℕ} {n₀ o₀ n o : ℕ} {all left : List Tree}
+pub putting_as : {at : SpanAt} {nodes₀ nodes : List Node} {bytes₀ bytes : List ℕ} {n₀ o₀ n o : ℕ} {all left : List Tree}
     (other : List Tree) → left ≡ other
-    → Putting nodes₀ nodes bytes₀ bytes n₀ o₀ n o all left → Putting nodes₀ nodes bytes₀ bytes n₀ o₀ n o all other
-putting_as {nodes₀} {nodes} {bytes₀} {bytes} {n₀} {o₀} {n} {o} {all} {left} other is p =
-    subst (λ l. Putting nodes₀ nodes bytes₀ bytes n₀ o₀ n o all l) is p
+    → Putting at nodes₀ nodes bytes₀ bytes n₀ o₀ n o all left → Putting at nodes₀ nodes bytes₀ bytes n₀ o₀ n o all other
+putting_as {at} {nodes₀} {nodes} {bytes₀} {bytes} {n₀} {o₀} {n} {o} {all} {left} other is p =
+    subst (λ l. Putting at nodes₀ nodes bytes₀ bytes n₀ o₀ n o all l) is p
 
-pub putting_next : (nodes₀ nodes nodes' : List Node) (bytes₀ bytes bytes' : List ℕ) (n₀ o₀ n o n' o' : ℕ)
+pub putting_next : (at : SpanAt) (nodes₀ nodes nodes' : List Node) (bytes₀ bytes bytes' : List ℕ) (n₀ o₀ n o n' o' : ℕ)
     (all xs left : List Tree)
-    → Putting nodes₀ nodes bytes₀ bytes n₀ o₀ n o all (xs ++ left) → n' ≡ n + length xs → o' ≡ o + length (texts xs)
-    → nodes' ≡ put_at nodes n (rows n o xs) → bytes' ≡ put_at bytes o (texts xs)
-    → Putting nodes₀ nodes' bytes₀ bytes' n₀ o₀ n' o' all left
-putting_next nodes₀ nodes nodes' bytes₀ bytes bytes' n₀ o₀ n o n' o' all xs left p at_n at_o put_n put_o =
+    → Putting at nodes₀ nodes bytes₀ bytes n₀ o₀ n o all (xs ++ left) → n' ≡ n + length xs → o' ≡ o + length (texts xs)
+    → nodes' ≡ put_at nodes n (rows at n o xs) → bytes' ≡ put_at bytes o (texts xs)
+    → Putting at nodes₀ nodes' bytes₀ bytes' n₀ o₀ n' o' all left
+putting_next at nodes₀ nodes nodes' bytes₀ bytes bytes' n₀ o₀ n o n' o' all xs left p at_n at_o put_n put_o =
     let both = length-append xs left in
     let both_texts = texts_length xs left in
-    let rows_xs = rows_length n o xs in
-    let fits_n : n + length (rows n o xs) ≤ length nodes = omega (arith, p.nodes_room, both, rows_xs) in
+    let rows_xs = rows_length at n o xs in
+    let fits_n : n + length (rows at n o xs) ≤ length nodes = omega (arith, p.nodes_room, both, rows_xs) in
     let fits_o : o + length (texts xs) ≤ length bytes = omega (arith, p.bytes_room, both_texts) in
-    let long_n : length nodes' ≡ length nodes = ap length put_n ∙ put_length nodes n (rows n o xs) fits_n in
+    let long_n : length nodes' ≡ length nodes = ap length put_n ∙ put_length nodes n (rows at n o xs) fits_n in
     let long_o : length bytes' ≡ length bytes = ap length put_o ∙ put_length bytes o (texts xs) fits_o in
     record {
       nodes_room = omega (arith, p.nodes_room, both, at_n, long_n);
@@ -188,11 +190,12 @@ putting_next nodes₀ nodes nodes' bytes₀ bytes bytes' n₀ o₀ n o n' o' all
       nodes_end = omega (arith, p.nodes_end, both, at_n);
       bytes_end = omega (arith, p.bytes_end, both_texts, at_o);
       nodes_is =
-          ap (λ d. put_at d n' (rows n' o' left)) put_n
-          ∙ put_more nodes n n' (rows n o xs) (rows n' o' left) (omega (arith, at_n, rows_xs)) (omega (arith, fits_n))
-          ∙ ap (λ l. put_at nodes n (rows n o xs ++ l))
-          (rows_at n' (n + length xs) o' (o + length (texts xs)) left at_n at_o)
-          ∙ ap (put_at nodes n) (sym (rows-append n o xs left))
+          ap (λ d. put_at d n' (rows at n' o' left)) put_n
+          ∙ put_more nodes n n' (rows at n o xs) (rows at n' o' left) (omega (arith, at_n, rows_xs))
+          (omega (arith, fits_n))
+          ∙ ap (λ l. put_at nodes n (rows at n o xs ++ l))
+          (rows_at at n' (n + length xs) o' (o + length (texts xs)) left at_n at_o)
+          ∙ ap (put_at nodes n) (sym (rows-append at n o xs left))
           ∙ p.nodes_is;
       bytes_is =
           ap (λ d. put_at d o' (texts left)) put_o
@@ -201,14 +204,15 @@ putting_next nodes₀ nodes nodes' bytes₀ bytes bytes' n₀ o₀ n o n' o' all
           ∙ p.bytes_is;
     }
 
-pub putting_ends : (nodes₀ nodes : List Node) (bytes₀ bytes : List ℕ) (n₀ o₀ n o : ℕ) (all left : List Tree)
-    → Putting nodes₀ nodes bytes₀ bytes n₀ o₀ n o all left → left ≡ []
-    → (n ≡ n₀ + length all) × (o ≡ o₀ + length (texts all)) × (nodes ≡ put_at nodes₀ n₀ (rows n₀ o₀ all))
+pub putting_ends : (at : SpanAt) (nodes₀ nodes : List Node) (bytes₀ bytes : List ℕ) (n₀ o₀ n o : ℕ)
+    (all left : List Tree)
+    → Putting at nodes₀ nodes bytes₀ bytes n₀ o₀ n o all left → left ≡ []
+    → (n ≡ n₀ + length all) × (o ≡ o₀ + length (texts all)) × (nodes ≡ put_at nodes₀ n₀ (rows at n₀ o₀ all))
     × (bytes ≡ put_at bytes₀ o₀ (texts all))
-putting_ends nodes₀ nodes bytes₀ bytes n₀ o₀ n o all left p is =
-    here (subst (λ l. Putting nodes₀ nodes bytes₀ bytes n₀ o₀ n o all l) is p) where
-      here : Putting nodes₀ nodes bytes₀ bytes n₀ o₀ n o all [] →
-          (n ≡ n₀ + length all) × (o ≡ o₀ + length (texts all)) × (nodes ≡ put_at nodes₀ n₀ (rows n₀ o₀ all))
+putting_ends at nodes₀ nodes bytes₀ bytes n₀ o₀ n o all left p is =
+    here (subst (λ l. Putting at nodes₀ nodes bytes₀ bytes n₀ o₀ n o all l) is p) where
+      here : Putting at nodes₀ nodes bytes₀ bytes n₀ o₀ n o all [] →
+          (n ≡ n₀ + length all) × (o ≡ o₀ + length (texts all)) × (nodes ≡ put_at nodes₀ n₀ (rows at n₀ o₀ all))
           × (bytes ≡ put_at bytes₀ o₀ (texts all))
       here q = (
         omega (arith, q.nodes_end),
@@ -217,9 +221,10 @@ putting_ends nodes₀ nodes bytes₀ bytes n₀ o₀ n o all left p is =
         sym (put_none bytes o) ∙ q.bytes_is,
       )
 
-pub putting_room : {nodes₀ nodes : List Node} {bytes₀ bytes : List ℕ} {n₀ o₀ n o : ℕ} {all left : List Tree}
+pub putting_room : {at : SpanAt} {nodes₀ nodes : List Node} {bytes₀ bytes : List ℕ} {n₀ o₀ n o : ℕ}
+    {all left : List Tree}
     (xs rest : List Tree) → left ≡ xs ++ rest
-    → Putting nodes₀ nodes bytes₀ bytes n₀ o₀ n o all left →
+    → Putting at nodes₀ nodes bytes₀ bytes n₀ o₀ n o all left →
     (n + length xs ≤ length nodes) × (o + length (texts xs) ≤ length bytes)
 putting_room {n = n} {o = o} xs rest is p =
     let size = ap length is ∙ length-append xs rest in

@@ -1,14 +1,20 @@
--- The text of a printable tree.
+-- The texts of trees.
 use Rattle.std.proofs.Common.{◌≡◌, ℕ, Result, Ok, Err, Option, None, Some, IfOk, IfSome, MatchOption, is_some, false}
-use Rattle.std.proofs.Common.{chars, sym}
+use Rattle.std.proofs.Common.{IfNone, chars, sym, ap, ◌∙◌}
 use Rattle.std.specs.Prelude.{String, encode_utf8_all, string_bytes}
 use Rattle.std.specs.declared.alloc.AllocError.{AllocError}
 use Rattle.std.specs.declared.alloc.Global.{Global}
+use Rattle.fancy_lex.specs.Text.{text_of}
+use Rattle.fancy_lex.specs.declared.flags.Flags.{Flags}
+use Rattle.fancy_grammar.specs.Marks.{Marks}
+use Rattle.fancy_grammar.specs.Pattern.{pattern_text}
 use Rattle.fancy_grammar.specs.Printable.{printable}
 use Rattle.fancy_grammar.specs.Printed.{printed}
+use Rattle.fancy_grammar.specs.ReadAs.{IsReadAs}
 use Rattle.fancy_grammar.specs.ReadBack.{IsReadBack}
 use Rattle.fancy_grammar.specs.Tree.{Tree}
-use Rattle.fancy_c.specs.Text.{IsText}
+use Rattle.fancy_c.specs.Text.{IsText, IsPatternText}
+use Rattle.fancy_c.proofs.NodeLemmas.{string_text}
 
 pub text_told : (t : Tree) (p : ℕ) (r : Result (Option (String Global)) AllocError) →
     IfOk r (λ o. is_some o ≡ printable t) →
@@ -18,3 +24,13 @@ pub text_told : (t : Tree) (p : ℕ) (r : Result (Option (String Global)) AllocE
 text_told t p (Ok (Some s)) is told reads = record { printable_is = sym is; is = told; reads_back = reads }
 text_told t p (Ok None) is told reads = sym is
 text_told t p (Err e) is told reads = tt
+
+pub pattern_told : (f : Flags) (t : Tree) (m : Marks) (r : Result (Option (String Global)) AllocError) →
+    IfOk r (λ o. IfSome o (λ s. text_of s ≡ pattern_text f t m)) →
+    IfOk r (λ o. IfSome o (λ s. IsReadAs f (text_of s) t m)) →
+    IfOk r (λ o. IfNone o (IsReadAs f (pattern_text f t m) t m → ⊥)) →
+    IfOk r (λ o. MatchOption o (IsReadAs f (pattern_text f t m) t m → ⊥) (λ s. IsPatternText f t m (string_bytes s)))
+pattern_told f t m (Ok (Some s)) text reads none =
+    record { is = sym (string_text s) ∙ ap encode_utf8_all text; reads_as = reads }
+pattern_told f t m (Ok None) text reads none = none
+pattern_told f t m (Err e) text reads none = tt

@@ -16,37 +16,37 @@ use Rattle.fancy_grammar.specs.Answer.{IsTreeOf, IsFaultOf}
 use Rattle.fancy_grammar.specs.Answered.{IsAnsweredWith, IsSmall}
 use Rattle.fancy_grammar.specs.Marks.{Marks}
 use Rattle.fancy_grammar.specs.Tree.{Tree}
-use Rattle.fancy_c.specs.declared.answer.TheConstants.{NO_UTF8, REFUSED, NO_MEMORY, NO_KIND}
-use Rattle.fancy_c.specs.declared.answer.TheConstants.{GENERAL_PARSE_ERROR, UNCLOSED_OPEN_PAREN, INVALID_REPEAT}
-use Rattle.fancy_c.specs.declared.answer.TheConstants.{RECURSION_EXCEEDED}
-use Rattle.fancy_c.specs.declared.answer.TheConstants.{TRAILING_BACKSLASH, INVALID_ESCAPE, UNCLOSED_UNICODE_NAME}
-use Rattle.fancy_c.specs.declared.answer.TheConstants.{INVALID_HEX}
-use Rattle.fancy_c.specs.declared.answer.TheConstants.{INVALID_CODEPOINT_VALUE, INVALID_CLASS, UNKNOWN_FLAG}
-use Rattle.fancy_c.specs.declared.answer.TheConstants.{CHANGING_UNICODE_MODE_UNSUPPORTED}
-use Rattle.fancy_c.specs.declared.answer.TheConstants.{INVALID_BACKREF, TARGET_NOT_REPEATABLE, INVALID_GROUP_NAME}
-use Rattle.fancy_c.specs.declared.answer.TheConstants.{INVALID_GROUP_NAME_BACKREF}
+use Rattle.fancy_c.specs.declared.answer.TheConstants.{STATUS_NOT_UTF8, STATUS_REFUSED, STATUS_OUT_OF_MEMORY}
+use Rattle.fancy_c.specs.declared.answer.TheConstants.{ERROR_NONE, ERROR_GENERAL_PARSE_ERROR, ERROR_UNCLOSED_OPEN_PAREN}
+use Rattle.fancy_c.specs.declared.answer.TheConstants.{ERROR_INVALID_REPEAT, ERROR_RECURSION_EXCEEDED}
+use Rattle.fancy_c.specs.declared.answer.TheConstants.{ERROR_TRAILING_BACKSLASH, ERROR_INVALID_ESCAPE}
+use Rattle.fancy_c.specs.declared.answer.TheConstants.{ERROR_UNCLOSED_UNICODE_NAME, ERROR_INVALID_HEX}
+use Rattle.fancy_c.specs.declared.answer.TheConstants.{ERROR_INVALID_CODEPOINT_VALUE, ERROR_INVALID_CLASS}
+use Rattle.fancy_c.specs.declared.answer.TheConstants.{ERROR_UNKNOWN_FLAG, ERROR_CHANGING_UNICODE_MODE_UNSUPPORTED}
+use Rattle.fancy_c.specs.declared.answer.TheConstants.{ERROR_INVALID_BACKREF, ERROR_TARGET_NOT_REPEATABLE}
+use Rattle.fancy_c.specs.declared.answer.TheConstants.{ERROR_INVALID_GROUP_NAME, ERROR_INVALID_GROUP_NAME_BACKREF}
 use Rattle.fancy_c.specs.declared.answer.Answer.{Answer}
 use Rattle.fancy_c.specs.declared.read.Refusal.{Refusal}
 use Rattle.fancy_c.specs.declared.read.Refusal.TheVariants.{NoUtf8, Fault}
 
 -- the number of a kind
 abbrev pub number_of_kind : Kind → ℕ
-number_of_kind (general_parse_error s) = GENERAL_PARSE_ERROR
-number_of_kind unclosed_open_paren = UNCLOSED_OPEN_PAREN
-number_of_kind invalid_repeat = INVALID_REPEAT
-number_of_kind recursion_exceeded = RECURSION_EXCEEDED
-number_of_kind trailing_backslash = TRAILING_BACKSLASH
-number_of_kind (invalid_escape s) = INVALID_ESCAPE
-number_of_kind unclosed_unicode_name = UNCLOSED_UNICODE_NAME
-number_of_kind invalid_hex = INVALID_HEX
-number_of_kind invalid_codepoint_value = INVALID_CODEPOINT_VALUE
-number_of_kind invalid_class = INVALID_CLASS
-number_of_kind (unknown_flag s) = UNKNOWN_FLAG
-number_of_kind changing_unicode_mode_unsupported = CHANGING_UNICODE_MODE_UNSUPPORTED
-number_of_kind invalid_backref = INVALID_BACKREF
-number_of_kind target_not_repeatable = TARGET_NOT_REPEATABLE
-number_of_kind invalid_group_name = INVALID_GROUP_NAME
-number_of_kind (invalid_group_name_backref s) = INVALID_GROUP_NAME_BACKREF
+number_of_kind (general_parse_error s) = ERROR_GENERAL_PARSE_ERROR
+number_of_kind unclosed_open_paren = ERROR_UNCLOSED_OPEN_PAREN
+number_of_kind invalid_repeat = ERROR_INVALID_REPEAT
+number_of_kind recursion_exceeded = ERROR_RECURSION_EXCEEDED
+number_of_kind trailing_backslash = ERROR_TRAILING_BACKSLASH
+number_of_kind (invalid_escape s) = ERROR_INVALID_ESCAPE
+number_of_kind unclosed_unicode_name = ERROR_UNCLOSED_UNICODE_NAME
+number_of_kind invalid_hex = ERROR_INVALID_HEX
+number_of_kind invalid_codepoint_value = ERROR_INVALID_CODEPOINT_VALUE
+number_of_kind invalid_class = ERROR_INVALID_CLASS
+number_of_kind (unknown_flag s) = ERROR_UNKNOWN_FLAG
+number_of_kind changing_unicode_mode_unsupported = ERROR_CHANGING_UNICODE_MODE_UNSUPPORTED
+number_of_kind invalid_backref = ERROR_INVALID_BACKREF
+number_of_kind target_not_repeatable = ERROR_TARGET_NOT_REPEATABLE
+number_of_kind invalid_group_name = ERROR_INVALID_GROUP_NAME
+number_of_kind (invalid_group_name_backref s) = ERROR_INVALID_GROUP_NAME_BACKREF
 
 -- the bytes are the UTF-8 of a pattern that has this tree with these marks, and no other and no fault; of n bytes it
 -- has at most 2 n + 1 nodes and 832 levels; and the marks are those of its nodes
@@ -80,11 +80,12 @@ IsRefusalOf (Fault OutOfMemory) f bytes = Unit {0}
 -- the answer tells the kind and the place, and how many bytes the kind's words have
 pub record IsTold (a : Answer) (place : ℕ) (k : Kind) : Type 0 where
   pub kind : a.kind ≡ number_of_kind k
-  pub place_is : a.place ≡ place
+  pub position : a.position ≡ place
   pub size : a.size ≡ length (kind_text k)
 
 -- what is told of a refusal
 abbrev pub answer_of : Refusal → Answer
-answer_of (NoUtf8 p) = record { answer = NO_UTF8; kind = NO_KIND; place = p; size = 0 }
-answer_of (Fault (ParseError p k)) = record { answer = REFUSED; kind = number_of_kind (kind_of k); place = p; size = 0 }
-answer_of (Fault OutOfMemory) = record { answer = NO_MEMORY; kind = NO_KIND; place = 0; size = 0 }
+answer_of (NoUtf8 p) = record { status = STATUS_NOT_UTF8; kind = ERROR_NONE; position = p; size = 0 }
+answer_of (Fault (ParseError p k)) =
+    record { status = STATUS_REFUSED; kind = number_of_kind (kind_of k); position = p; size = 0 }
+answer_of (Fault OutOfMemory) = record { status = STATUS_OUT_OF_MEMORY; kind = ERROR_NONE; position = 0; size = 0 }

@@ -8,14 +8,14 @@ use Rattle.fancy_grammar.specs.Marks.{Marks}
 use Rattle.fancy_grammar.specs.Tree.{Tree}
 use Rattle.fancy_c.specs.Answer.{IsTreeOfBytes}
 use Rattle.fancy_c.specs.Buffer.{Fills}
-use Rattle.fancy_c.specs.Node.{listed, rows, texts}
+use Rattle.fancy_c.specs.Node.{listed, rows, texts, SpanAt}
 use Rattle.fancy_c.specs.declared.marks.Name.{Name}
 use Rattle.fancy_c.specs.declared.node.Node.{Node}
-use Rattle.fancy_c.specs.declared.marks.TreeMarks.{TreeMarks}
+use Rattle.fancy_c.specs.declared.marks.TreeInfo.{TreeInfo}
 
 -- the rows of a name that stands at the byte o and has n bytes: one for each of its numbers
 abbrev pub rows_of_name : ℕ → ℕ → List ℕ → List Name
-rows_of_name o n ks = map (λ k. record { text = o; size = n; number = k }) ks
+rows_of_name o n ks = map (λ k. record { text = o; text_size = n; group = k }) ks
 
 -- the names, one behind the other
 abbrev pub name_texts : List (Text × List ℕ) → List ℕ
@@ -33,32 +33,36 @@ abbrev pub all_texts : Tree → Marks → List ℕ
 all_texts t m = texts (listed t) ++ name_texts m.named_groups
 
 -- what is told of a tree and its marks; a count past the greatest word is the greatest
-abbrev pub told : Tree → Marks → TreeMarks
+abbrev pub told : Tree → Marks → TreeInfo
 told t m = record {
-  nodes = in_word (length (listed t));
-  texts = in_word (length (all_texts t m));
-  names = in_word (length (name_rows 0 m.named_groups));
-  backrefs = length m.backrefs;
-  groups = m.total_groups;
-  out_of_range = unwrap_or m.out_of_range_backref 0;
-  has_out_of_range = is_some m.out_of_range_backref;
-  numeric = m.numeric_capture_group_references;
-  calls = m.contains_subroutines;
+  node_count = in_word (length (listed t));
+  texts_size = in_word (length (all_texts t m));
+  name_count = in_word (length (name_rows 0 m.named_groups));
+  backref_count = length m.backrefs;
+  total_groups = m.total_groups;
+  out_of_range_backref = unwrap_or m.out_of_range_backref 0;
+  has_out_of_range_backref = is_some m.out_of_range_backref;
+  numeric_capture_group_references = m.numeric_capture_group_references;
+  contains_subroutines = m.contains_subroutines;
   self_recursive = m.self_recursive;
-  ignored = m.numbered_groups_ignored;
+  numbered_groups_ignored = m.numbered_groups_ignored;
 }
 
--- the buffers hold a tree and its marks: the rows of its nodes, the texts, the rows of the names, and the back
--- references
-pub record AreWritten (t : Tree) (m : Marks) (nodes nodes' : List Node) (bytes bytes' : List ℕ)
+-- the buffers hold a tree, with these spans, and its marks: the rows of its nodes, the texts, the rows of the names,
+-- and the back references
+pub record AreWritten (t : Tree) (m : Marks) (spans : SpanAt) (nodes nodes' : List Node) (bytes bytes' : List ℕ)
     (names names' : List Name) (backrefs backrefs' : List ℕ) : Type 0 where
-  pub nodes_are : Fills nodes nodes' (rows 0 0 (listed t))
+  pub nodes_are : Fills nodes nodes' (rows spans 0 0 (listed t))
   pub texts_are : Fills bytes bytes' (all_texts t m)
   pub names_are : Fills names names' (name_rows (length (texts (listed t))) m.named_groups)
   pub backrefs_are : Fills backrefs backrefs' m.backrefs
 
+-- each span lies in a pattern of n bytes
+abbrev pub AreSpansIn : ℕ → SpanAt → Type 0
+AreSpansIn n spans = (i : ℕ) → ((spans i).start ≤ (spans i).end) × ((spans i).end ≤ n)
+
 -- what is told is said of the tree of the bytes, and its nodes are at most 2 n + 1 where there are n bytes
-pub record IsToldOf (told_marks : TreeMarks) (f : Flags) (bytes : List ℕ) (t : Tree) (m : Marks) : Type 0 where
+pub record IsToldOf (info : TreeInfo) (f : Flags) (bytes : List ℕ) (t : Tree) (m : Marks) : Type 0 where
   pub tree : IsTreeOfBytes f bytes t m
-  pub is : told_marks ≡ told t m
-  pub few : told_marks.nodes ≤ 2 * length bytes + 1
+  pub is : info ≡ told t m
+  pub few : info.node_count ≤ 2 * length bytes + 1

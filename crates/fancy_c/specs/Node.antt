@@ -1,6 +1,6 @@
 -- The nodes of a tree as an array: a row for each.
 use Rattle.std.specs.Prelude.{ℕ, ◌+◌, ℤ, pos, Bool, true, false, List, [], ◌∷◌, ◌++◌, length, Option, Some, None}
-use Rattle.std.specs.Prelude.{encode_utf8_all}
+use Rattle.std.specs.Prelude.{min, get_or, encode_utf8_all}
 use Rattle.fancy_lex.specs.Target.{Target, by_number, by_name, relative}
 use Rattle.fancy_lex.specs.Text.{Text}
 use Rattle.fancy_lex.specs.declared.escape.Assertion.{Assertion}
@@ -16,6 +16,7 @@ use Rattle.fancy_grammar.specs.Tree.{group, look_around, repeat, delegate, backr
 use Rattle.fancy_grammar.specs.Tree.{keep_out, continue_from_previous_match_end, backref_exists, subroutine_call, verb}
 use Rattle.fancy_grammar.specs.Tree.{define_group, ast_node, ast_group, Trees, no_trees, more_trees, repeater, stopper}
 use Rattle.fancy_grammar.specs.Tree.{clear, leaf, over, row as row_of}
+use Rattle.fancy_syntax.specs.declared.span.Span.{Span}
 use Rattle.fancy_c.specs.declared.node.Node.{Node}
 use Rattle.fancy_c.specs.declared.node.Stand.{Stand}
 use Rattle.fancy_c.specs.declared.node.TheConstants as number
@@ -23,18 +24,18 @@ use Rattle.fancy_c.specs.declared.node.TheConstants as number
 -- ---- which one of several
 
 abbrev pub assertion_number : Assertion → ℕ
-assertion_number is.StartText = number.START_TEXT
-assertion_number is.EndText = number.END_TEXT
-assertion_number (is.EndTextIgnoreTrailingNewlines crlf) = number.END_TEXT_IGNORE_TRAILING_NEWLINES
-assertion_number (is.StartLine crlf) = number.START_LINE
-assertion_number (is.StartLineOniguruma crlf) = number.START_LINE_ONIGURUMA
-assertion_number (is.EndLine crlf) = number.END_LINE
-assertion_number is.LeftWordBoundary = number.LEFT_WORD_BOUNDARY
-assertion_number is.LeftWordHalfBoundary = number.LEFT_WORD_HALF_BOUNDARY
-assertion_number is.RightWordBoundary = number.RIGHT_WORD_BOUNDARY
-assertion_number is.RightWordHalfBoundary = number.RIGHT_WORD_HALF_BOUNDARY
-assertion_number is.WordBoundary = number.WORD_BOUNDARY
-assertion_number is.NotWordBoundary = number.NOT_WORD_BOUNDARY
+assertion_number is.StartText = number.ASSERTION_START_TEXT
+assertion_number is.EndText = number.ASSERTION_END_TEXT
+assertion_number (is.EndTextIgnoreTrailingNewlines crlf) = number.ASSERTION_END_TEXT_IGNORE_TRAILING_NEWLINES
+assertion_number (is.StartLine crlf) = number.ASSERTION_START_LINE
+assertion_number (is.StartLineOniguruma crlf) = number.ASSERTION_START_LINE_ONIGURUMA
+assertion_number (is.EndLine crlf) = number.ASSERTION_END_LINE
+assertion_number is.LeftWordBoundary = number.ASSERTION_LEFT_WORD_BOUNDARY
+assertion_number is.LeftWordHalfBoundary = number.ASSERTION_LEFT_WORD_HALF_BOUNDARY
+assertion_number is.RightWordBoundary = number.ASSERTION_RIGHT_WORD_BOUNDARY
+assertion_number is.RightWordHalfBoundary = number.ASSERTION_RIGHT_WORD_HALF_BOUNDARY
+assertion_number is.WordBoundary = number.ASSERTION_WORD_BOUNDARY
+assertion_number is.NotWordBoundary = number.ASSERTION_NOT_WORD_BOUNDARY
 
 abbrev pub has_crlf : Assertion → Bool
 has_crlf (is.EndTextIgnoreTrailingNewlines crlf) = crlf
@@ -50,11 +51,11 @@ look_around_number looks.LookBehind = number.LOOK_BEHIND
 look_around_number looks.LookBehindNeg = number.LOOK_BEHIND_NEG
 
 abbrev pub verb_number : BacktrackingControlVerb → ℕ
-verb_number verbs.Fail = number.FAIL
-verb_number verbs.Accept = number.ACCEPT
-verb_number verbs.Commit = number.COMMIT
-verb_number verbs.Skip = number.SKIP
-verb_number verbs.Prune = number.PRUNE
+verb_number verbs.Fail = number.VERB_FAIL
+verb_number verbs.Accept = number.VERB_ACCEPT
+verb_number verbs.Commit = number.VERB_COMMIT
+verb_number verbs.Skip = number.VERB_SKIP
+verb_number verbs.Prune = number.VERB_PRUNE
 
 -- ---- what a node carries
 
@@ -80,12 +81,14 @@ plain k s n = record {
   which = 0;
   end = s.end;
   text = s.text;
-  size = n;
-  least = 0;
-  most = 0;
-  number = 0;
+  text_size = n;
+  lo = 0;
+  hi = 0;
+  group = 0;
   level = pos 0;
-  place = 0;
+  position = 0;
+  start = s.span.start;
+  stop = s.span.end;
   newline = false;
   crlf = false;
   unicode = false;
@@ -95,56 +98,60 @@ plain k s n = record {
 }
 
 abbrev pub condition : Stand → ℕ → Option ℤ → Node
-condition s n None = record (plain number.BACKREF_EXISTS_CONDITION s 0) { number = n }
-condition s n (Some l) = record (plain number.BACKREF_EXISTS_CONDITION s 0) { number = n; level = l; has_level = true }
+condition s n None = record (plain number.NODE_BACKREF_EXISTS_CONDITION s 0) { group = n }
+condition s n (Some l) =
+    record (plain number.NODE_BACKREF_EXISTS_CONDITION s 0) { group = n; level = l; has_level = true }
 
 abbrev pub with_text : Stand → ℕ → Text → Bool → Node
 with_text s k w casei = record (plain k s (length (encode_utf8_all w))) { casei = casei }
 
 -- of a call that was read and not resolved
 abbrev pub row_of_call : Stand → Target → ℕ → Node
-row_of_call s (by_number n) p = record (plain number.AST_NODE s 0) { which = number.BY_NUMBER; number = n; place = p }
-row_of_call s (by_name w) p = record (with_text s number.AST_NODE w false) { which = number.BY_NAME; place = p }
-row_of_call s (relative z) p = record (plain number.AST_NODE s 0) { which = number.RELATIVE; level = z; place = p }
+row_of_call s (by_number n) p =
+    record (plain number.NODE_AST_NODE s 0) { which = number.TARGET_BY_NUMBER; group = n; position = p }
+row_of_call s (by_name w) p =
+    record (with_text s number.NODE_AST_NODE w false) { which = number.TARGET_BY_NAME; position = p }
+row_of_call s (relative z) p =
+    record (plain number.NODE_AST_NODE s 0) { which = number.TARGET_RELATIVE; level = z; position = p }
 
 abbrev pub row_of_read : Stand → AstReference → ℕ → Node
 row_of_read s (ast_call t) p = row_of_call s t p
-row_of_read s _ p = plain number.AST_NODE s 0
+row_of_read s _ p = plain number.NODE_AST_NODE s 0
 
 -- of an absent form
 abbrev pub absent_row : Stand → ℕ → Node
-absent_row s n = record (plain number.ABSENT s 0) { which = n }
+absent_row s n = record (plain number.NODE_ABSENT s 0) { which = n }
 
 abbrev pub row : Stand → Tree → Node
-row s empty = plain number.EMPTY s 0
-row s (any newline crlf) = record (plain number.ANY s 0) { newline = newline; crlf = crlf }
-row s (assertion a) = record (plain number.ASSERTION s 0) { which = assertion_number a; crlf = has_crlf a }
-row s (general_newline u) = record (plain number.GENERAL_NEWLINE s 0) { unicode = u }
-row s (literal w casei) = with_text s number.LITERAL w casei
-row s (literal_bytes b) = plain number.LITERAL_BYTES s (length b)
-row s (concat ts) = plain number.CONCAT s 0
-row s (alt ts) = plain number.ALT s 0
-row s (group t) = plain number.GROUP s 0
-row s (look_around t l) = record (plain number.LOOK_AROUND s 0) { which = look_around_number l }
-row s (repeat t lo hi greedy) = record (plain number.REPEAT s 0) { least = lo; most = hi; greedy = greedy }
-row s (delegate w casei) = with_text s number.DELEGATE w casei
-row s (backref n casei) = record (plain number.BACKREF s 0) { number = n; casei = casei }
+row s empty = plain number.NODE_EMPTY s 0
+row s (any newline crlf) = record (plain number.NODE_ANY s 0) { newline = newline; crlf = crlf }
+row s (assertion a) = record (plain number.NODE_ASSERTION s 0) { which = assertion_number a; crlf = has_crlf a }
+row s (general_newline u) = record (plain number.NODE_GENERAL_NEWLINE s 0) { unicode = u }
+row s (literal w casei) = with_text s number.NODE_LITERAL w casei
+row s (literal_bytes b) = plain number.NODE_LITERAL_BYTES s (length b)
+row s (concat ts) = plain number.NODE_CONCAT s 0
+row s (alt ts) = plain number.NODE_ALT s 0
+row s (group t) = plain number.NODE_GROUP s 0
+row s (look_around t l) = record (plain number.NODE_LOOK_AROUND s 0) { which = look_around_number l }
+row s (repeat t lo hi greedy) = record (plain number.NODE_REPEAT s 0) { lo = lo; hi = hi; greedy = greedy }
+row s (delegate w casei) = with_text s number.NODE_DELEGATE w casei
+row s (backref n casei) = record (plain number.NODE_BACKREF s 0) { group = n; casei = casei }
 row s (backref_at_level n l casei) =
-    record (plain number.BACKREF_AT_LEVEL s 0) { number = n; level = l; has_level = true; casei = casei }
-row s (atomic_group t) = plain number.ATOMIC_GROUP s 0
-row s keep_out = plain number.KEEP_OUT s 0
-row s continue_from_previous_match_end = plain number.CONTINUE_FROM_PREVIOUS_MATCH_END s 0
+    record (plain number.NODE_BACKREF_AT_LEVEL s 0) { group = n; level = l; has_level = true; casei = casei }
+row s (atomic_group t) = plain number.NODE_ATOMIC_GROUP s 0
+row s keep_out = plain number.NODE_KEEP_OUT s 0
+row s continue_from_previous_match_end = plain number.NODE_CONTINUE_FROM_PREVIOUS_MATCH_END s 0
 row s (backref_exists n l) = condition s n l
-row s (row_of label.conditional ts) = plain number.CONDITIONAL s 0
-row s (subroutine_call n) = record (plain number.SUBROUTINE_CALL s 0) { number = n }
-row s (verb v) = record (plain number.VERB s 0) { which = verb_number v }
-row s (repeater t) = absent_row s number.REPEATER
-row s (row_of label.expression ts) = absent_row s number.EXPRESSION
-row s (stopper t) = absent_row s number.STOPPER
-row s clear = absent_row s number.CLEAR
-row s (define_group t) = plain number.DEFINE_GROUP s 0
+row s (row_of label.conditional ts) = plain number.NODE_CONDITIONAL s 0
+row s (subroutine_call n) = record (plain number.NODE_SUBROUTINE_CALL s 0) { group = n }
+row s (verb v) = record (plain number.NODE_VERB s 0) { which = verb_number v }
+row s (repeater t) = absent_row s number.ABSENT_REPEATER
+row s (row_of label.expression ts) = absent_row s number.ABSENT_EXPRESSION
+row s (stopper t) = absent_row s number.ABSENT_STOPPER
+row s clear = absent_row s number.ABSENT_CLEAR
+row s (define_group t) = plain number.NODE_DEFINE_GROUP s 0
 row s (ast_node r place) = row_of_read s r place
-row s (ast_group name place t) = plain number.AST_NODE s 0
+row s (ast_group name place t) = plain number.NODE_AST_NODE s 0
 
 -- ---- the rows of a tree
 
@@ -171,12 +178,24 @@ abbrev pub start_of_text : ℕ → List ℕ → ℕ
 start_of_text o [] = 0
 start_of_text o (b ∷ bs) = o
 
+-- the span of each node, by its index; all that the rows need of spans
+abbrev pub SpanAt : Type 0
+SpanAt = ℕ → Span
+
+-- the span as far as it lies in a pattern of n bytes
+abbrev pub cut : ℕ → Span → Span
+cut n s = record { start = min s.start (min s.end n); end = min s.end n }
+
+-- the spans of a list, each as far as it lies in a pattern of n bytes; 0 to 0 past the end of the list
+abbrev pub spans_in : ℕ → List Span → SpanAt
+spans_in n spans i = cut n (get_or spans i (record { start = 0; end = 0 }))
+
 -- their rows, from the index i and the byte o on
-abbrev pub rows : ℕ → ℕ → List Tree → List Node
-rows i o [] = []
-rows i o (t ∷ ts) =
-    row (record { end = i + length (listed t); text = start_of_text o (carried t) }) t
-    ∷ rows (i + 1) (o + length (carried t)) ts
+abbrev pub rows : SpanAt → ℕ → ℕ → List Tree → List Node
+rows at i o [] = []
+rows at i o (t ∷ ts) =
+    row (record { end = i + length (listed t); text = start_of_text o (carried t); span = at i }) t
+    ∷ rows at (i + 1) (o + length (carried t)) ts
 
 -- the nodes of several trees
 abbrev pub listed_each : List Tree → List Tree

@@ -1,6 +1,8 @@
-//! Writing into a buffer that a caller lends.
-ghost use Rattle.std.specs.Prelude.{◌≡◌, ◌<◌, length, true, false};
+//! Writing into a buffer of the caller's.
+ghost use Rattle.std.specs.Prelude.{◌≡◌, ◌≢◌, ◌<◌, ◌⊎◌, length, true, false};
 ghost use Rattle.fancy_c.specs.Buffer.{Fills};
+
+use crate::answer::{Answer, ERROR_NONE, STATUS_BUFFER_TOO_SHORT, STATUS_OK};
 
 /// Writes the text at the buffer's front, where it fits, and answers whether it does.
 pub(crate) fn fill(buffer: &mut [u8], text: &[u8]) -> bool
@@ -14,4 +16,27 @@ pub(crate) fn fill(buffer: &mut [u8], text: &[u8]) -> bool
     }
     buffer[..size].copy_from_slice(text);
     true
+}
+
+/// Writes the text at the buffer's front, where it fits, and answers what a caller in C is told.
+pub(crate) fn write(buffer: &mut [u8], text: &[u8]) -> Answer
+    ensures read { result.status ≡ STATUS_OK → Fills buffer.old buffer.new text.now }
+    ensures short { result.status ≡ STATUS_BUFFER_TOO_SHORT → length buffer.old < length text.now }
+    ensures kept { result.status ≢ STATUS_OK → buffer.new ≡ buffer.old }
+    ensures status { (result.status ≡ STATUS_OK) ⊎ (result.status ≡ STATUS_BUFFER_TOO_SHORT) }
+    ensures size { result.size ≡ length text.now }
+    ensures no_kind { result.kind ≡ ERROR_NONE }
+    ensures no_position { result.position ≡ 0 }
+{
+    let status = if fill(buffer, text) {
+        STATUS_OK
+    } else {
+        STATUS_BUFFER_TOO_SHORT
+    };
+    Answer {
+        status,
+        kind: ERROR_NONE,
+        position: 0,
+        size: text.len(),
+    }
 }

@@ -1,5 +1,6 @@
-//! Patterns for callers in C: each function that C calls reads a pattern anew, keeps nothing, and writes into buffers
-//! that are lent to it.
+//! Patterns for callers in C: each function that C calls parses a pattern anew, keeps nothing, and writes into buffers
+//! of the caller's. The functions that take pointers end in `nonnull`, since none of their pointers may be null;
+//! `include/fancy.h` has for each a function that takes null pointers with a length of 0 too.
 #![tactic(auto)]
 
 pub mod answer;
@@ -8,6 +9,8 @@ pub mod marks;
 pub mod message;
 pub mod node;
 pub mod nodes;
+pub mod pattern;
 pub mod print;
 pub mod read;
 mod rows;
+pub mod version;

@@ -1,4 +1,4 @@
-//! What is said of a tree beside it, as a caller in C gets it.
+//! The sizes of a tree and the group information beside it, as a caller in C gets them.
 ghost use Rattle.std.specs.Prelude.{◌≡◌, ◌+◌, ◌≤◌, length, map};
 ghost use Rattle.fancy_parts.specs.Groups.{entry_of};
 ghost use Rattle.fancy_parts.specs.Room.{in_word};
@@ -8,44 +8,44 @@ ghost use Rattle.fancy_c.specs.Marks.{rows_of_name, name_rows, name_texts};
 use crate::rows::{Counts, put_text};
 use std::collections::{BTreeMap, BTreeSet};
 
-/// How much room a pattern's tree asks for, and what is said of it.
+/// The sizes of a tree, and the group information of its pattern.
 #[repr(C)]
 #[derive(Clone, Copy)]
-pub struct TreeMarks {
-    /// How many nodes the tree has.
-    pub nodes: usize,
-    /// How many bytes the texts of its nodes have, and the names of its groups behind them.
-    pub texts: usize,
-    /// How many groups have a name, each name with each of its numbers.
-    pub names: usize,
-    /// How many numbers its back references have, up to the number of groups; 0 too.
-    pub backrefs: usize,
-    /// How many groups have a number.
-    pub groups: usize,
-    /// The number of the first back reference to a group that is not there.
-    pub out_of_range: usize,
+pub struct TreeInfo {
+    /// The number of nodes.
+    pub node_count: usize,
+    /// The size in bytes of the texts of the nodes and, after them, of the names of groups.
+    pub texts_size: usize,
+    /// The number of names, each counted once for each of its groups.
+    pub name_count: usize,
+    /// The number of different group numbers of back references, up to `total_groups`; 0 too.
+    pub backref_count: usize,
+    /// The number of groups that have a number.
+    pub total_groups: usize,
+    /// The number of the first back reference above `total_groups`, which is no error.
+    pub out_of_range_backref: usize,
     /// Whether there is one.
-    pub has_out_of_range: bool,
-    /// Whether some back reference was written as a backslash and digits, or some call by a number.
-    pub numeric: bool,
-    /// Whether some group is called.
-    pub calls: bool,
-    /// Whether some call is by the number 0: of the whole pattern.
+    pub has_out_of_range_backref: bool,
+    /// Whether the pattern has a back reference in digits, or a subroutine call by number.
+    pub numeric_capture_group_references: bool,
+    /// Whether the pattern has a subroutine call.
+    pub contains_subroutines: bool,
+    /// Whether the pattern calls itself by the number 0.
     pub self_recursive: bool,
-    /// Whether the groups without a name have no number.
-    pub ignored: bool,
+    /// Whether groups without a name have no number.
+    pub numbered_groups_ignored: bool,
 }
 
-/// A name of a group, with its number. A name that several groups have stands once for each.
+/// A name of a group, with its number. A name that several groups have is listed once for each.
 #[repr(C)]
 #[derive(Clone, Copy)]
 pub struct Name {
     /// Where the name begins in the buffer of texts, as a byte offset.
     pub text: usize,
-    /// How many bytes the name has.
-    pub size: usize,
+    /// The size of the name in bytes.
+    pub text_size: usize,
     /// The number of the group.
-    pub number: usize,
+    pub group: usize,
 }
 
 /// What the counts come to behind the names, each the greatest word where it is more.
@@ -78,8 +78,8 @@ fn put_numbers(
     for (i, number) in numbers.iter().enumerate() {
         names[first + i] = Name {
             text,
-            size,
-            number: *number,
+            text_size: size,
+            group: *number,
         };
     }
     first + numbers.len()

@@ -1,15 +1,24 @@
-//! The words of a fault.
-ghost use Rattle.std.specs.Prelude.{◌≡◌, ◌≢◌, ◌<◌, ◌≤◌, IfOk, length, string_bytes};
+//! The message of an error.
+ghost use Rattle.std.specs.Prelude.{◌≡◌, ◌≢◌, ◌<◌, ◌≤◌, ℕ, List, [], IfOk, length, string_bytes};
 ghost use Rattle.fancy_lex.specs.Fault.{Kind, kind_text};
 ghost use Rattle.fancy_lex.specs.ErrorViews.{kind_of};
 ghost use Rattle.fancy_lex.specs.Flags.{flags_of};
 ghost use Rattle.fancy_grammar.specs.Marks.{Marks};
 ghost use Rattle.fancy_grammar.specs.Tree.{Tree};
-ghost use Rattle.fancy_c.specs.Answer.{IsTold, IsTreeOfBytes, IsFaultOfBytes, IsNoUtf8};
+ghost use Rattle.fancy_c.specs.Answer.{number_of_kind, IsTold, IsTreeOfBytes, IsFaultOfBytes, IsNoUtf8};
 ghost use Rattle.fancy_c.specs.Buffer.{Fills};
+ghost use Rattle.fancy_c.specs.Text.{carried, NamesKind, IsErrorText};
 
-use crate::answer::{Answer, NO_KIND, NO_MEMORY, NO_UTF8, READ, REFUSED, SHORT, kind_number};
-use crate::buffer::fill;
+use crate::answer::{
+    Answer, ERROR_CHANGING_UNICODE_MODE_UNSUPPORTED, ERROR_GENERAL_PARSE_ERROR,
+    ERROR_INVALID_BACKREF, ERROR_INVALID_CLASS, ERROR_INVALID_CODEPOINT_VALUE,
+    ERROR_INVALID_ESCAPE, ERROR_INVALID_GROUP_NAME, ERROR_INVALID_GROUP_NAME_BACKREF,
+    ERROR_INVALID_HEX, ERROR_INVALID_REPEAT, ERROR_NONE, ERROR_RECURSION_EXCEEDED,
+    ERROR_TARGET_NOT_REPEATABLE, ERROR_TRAILING_BACKSLASH, ERROR_UNCLOSED_OPEN_PAREN,
+    ERROR_UNCLOSED_UNICODE_NAME, ERROR_UNKNOWN_FLAG, STATUS_BUFFER_TOO_SHORT, STATUS_NOT_UTF8,
+    STATUS_OK, STATUS_OUT_OF_MEMORY, STATUS_REFUSED, kind_number,
+};
+use crate::buffer::{fill, write};
 use crate::read::{Refusal, read};
 use fancy_syntax::error::{Error, ParseError};
 use std::alloc::{AllocError, Global};
@@ -21,80 +30,142 @@ fn words(alloc: Global, kind: &ParseError) -> Result<String, AllocError>
     format!(in alloc; "{kind}")
 }
 
-/// Writes the words of the fault at the front of the buffer, where they fit: the answer is then `REFUSED`, and else
-/// `SHORT`.
+/// Writes the words of the fault at the front of the buffer, where they fit: the answer is then `STATUS_REFUSED`, and
+/// else `STATUS_BUFFER_TOO_SHORT`.
 fn tell(alloc: Global, place: usize, kind: &ParseError, buffer: &mut [u8]) -> Answer
-    ensures told { result.answer ≢ NO_MEMORY → IsTold result place (kind_of kind.now) }
-    ensures refused { result.answer ≡ REFUSED → Fills buffer.old buffer.new (kind_text (kind_of kind.now)) }
-    ensures short { result.answer ≡ SHORT → length buffer.old < result.size }
-    ensures kept { result.answer ≢ REFUSED → buffer.new ≡ buffer.old }
-    ensures fault { (result.answer ≢ READ) × (result.answer ≢ NO_UTF8) }
-    ensures answers { result.answer ≤ SHORT }
-    ensures no_kind { result.answer ≡ NO_MEMORY → result.kind ≡ NO_KIND }
-    ensures no_place { result.answer ≡ NO_MEMORY → result.place ≡ 0 }
-    ensures no_size { result.answer ≡ NO_MEMORY → result.size ≡ 0 }
+    ensures told { result.status ≢ STATUS_OUT_OF_MEMORY → IsTold result place (kind_of kind.now) }
+    ensures refused { result.status ≡ STATUS_REFUSED → Fills buffer.old buffer.new (kind_text (kind_of kind.now)) }
+    ensures short { result.status ≡ STATUS_BUFFER_TOO_SHORT → length buffer.old < result.size }
+    ensures kept { result.status ≢ STATUS_REFUSED → buffer.new ≡ buffer.old }
+    ensures fault { (result.status ≢ STATUS_OK) × (result.status ≢ STATUS_NOT_UTF8) }
+    ensures status { result.status ≤ STATUS_BUFFER_TOO_SHORT }
+    ensures no_kind { result.status ≡ STATUS_OUT_OF_MEMORY → result.kind ≡ ERROR_NONE }
+    ensures no_position { result.status ≡ STATUS_OUT_OF_MEMORY → result.position ≡ 0 }
+    ensures no_size { result.status ≡ STATUS_OUT_OF_MEMORY → result.size ≡ 0 }
 {
     let Ok(words) = words(alloc, kind) else {
         return Answer {
-            answer: NO_MEMORY,
-            kind: NO_KIND,
-            place: 0,
+            status: STATUS_OUT_OF_MEMORY,
+            kind: ERROR_NONE,
+            position: 0,
             size: 0,
         };
     };
-    let answer = if fill(buffer, words.as_bytes()) {
-        REFUSED
+    let status = if fill(buffer, words.as_bytes()) {
+        STATUS_REFUSED
     } else {
-        SHORT
+        STATUS_BUFFER_TOO_SHORT
     };
     Answer {
-        answer,
+        status,
         kind: kind_number(kind),
-        place,
+        position: place,
         size: words.len(),
     }
 }
 
-/// Reads a pattern as `fancy_read` does, and where it is refused writes the words of its fault at the front of
-/// `buffer`, without its place. The answer is that of `fancy_read`, with the size of the words in bytes, but `SHORT`
-/// where they do not fit. Where it is another than `REFUSED`, nothing is written.
+/// Parses a pattern as `fancy_check_nonnull` does, and if it is refused, writes the message of its error to the front
+/// of `buffer`, without its position. Returns what `fancy_check_nonnull` returns, with the size of the message in
+/// bytes, but `STATUS_BUFFER_TOO_SHORT` if the message does not fit: then too with the kind, the position and the size.
+/// Unless it returns `STATUS_REFUSED`, nothing is written.
 #[unsafe(no_mangle)]
-pub extern "C" fn fancy_message(
+pub extern "C" fn fancy_message_nonnull(
     alloc: Global,
     pattern: &[u8],
     flags: u32,
     buffer: &mut [u8],
 ) -> Answer
-    ensures read { result.answer ≡ READ → (t : Tree) × (m : Marks) × IsTreeOfBytes (flags_of flags) pattern.now t m }
-    ensures refused { result.answer ≡ REFUSED → (k : Kind) × IsTold result result.place k
-        × IsFaultOfBytes (flags_of flags) pattern.now k result.place × Fills buffer.old buffer.new (kind_text k) }
-    ensures short { result.answer ≡ SHORT → (k : Kind) × IsTold result result.place k
-        × IsFaultOfBytes (flags_of flags) pattern.now k result.place × (length buffer.old < result.size) }
-    ensures no_utf8 { result.answer ≡ NO_UTF8 → IsNoUtf8 pattern.now result.place }
-    ensures kept { result.answer ≢ REFUSED → buffer.new ≡ buffer.old }
-    ensures answers { result.answer ≤ SHORT }
-    ensures no_kind { result.answer ≢ REFUSED → result.answer ≢ SHORT → result.kind ≡ NO_KIND }
-    ensures no_place { result.answer ≢ REFUSED → result.answer ≢ SHORT → result.answer ≢ NO_UTF8 → result.place ≡ 0 }
-    ensures no_size { result.answer ≢ REFUSED → result.answer ≢ SHORT → result.size ≡ 0 }
+    ensures read { result.status ≡ STATUS_OK → (t : Tree) × (m : Marks)
+        × IsTreeOfBytes (flags_of flags) pattern.now t m }
+    ensures refused { result.status ≡ STATUS_REFUSED → (k : Kind) × IsTold result result.position k
+        × IsFaultOfBytes (flags_of flags) pattern.now k result.position × Fills buffer.old buffer.new (kind_text k) }
+    ensures short { result.status ≡ STATUS_BUFFER_TOO_SHORT → (k : Kind) × IsTold result result.position k
+        × IsFaultOfBytes (flags_of flags) pattern.now k result.position × (length buffer.old < result.size) }
+    ensures no_utf8 { result.status ≡ STATUS_NOT_UTF8 → IsNoUtf8 pattern.now result.position }
+    ensures kept { result.status ≢ STATUS_REFUSED → buffer.new ≡ buffer.old }
+    ensures status { result.status ≤ STATUS_BUFFER_TOO_SHORT }
+    ensures no_kind { result.status ≢ STATUS_REFUSED → result.status ≢ STATUS_BUFFER_TOO_SHORT →
+        result.kind ≡ ERROR_NONE }
+    ensures no_position { result.status ≢ STATUS_REFUSED → result.status ≢ STATUS_BUFFER_TOO_SHORT →
+        result.status ≢ STATUS_NOT_UTF8 → result.position ≡ 0 }
+    ensures no_size { result.status ≢ STATUS_REFUSED → result.status ≢ STATUS_BUFFER_TOO_SHORT → result.size ≡ 0 }
 {
     match read(alloc, pattern, flags) {
         Ok(_) => Answer {
-            answer: READ,
-            kind: NO_KIND,
-            place: 0,
+            status: STATUS_OK,
+            kind: ERROR_NONE,
+            position: 0,
             size: 0,
         },
         Err(Refusal::Fault(Error::ParseError(place, kind))) => tell(alloc, place, &kind, buffer),
         Err(Refusal::Fault(Error::OutOfMemory)) => Answer {
-            answer: NO_MEMORY,
-            kind: NO_KIND,
-            place: 0,
+            status: STATUS_OUT_OF_MEMORY,
+            kind: ERROR_NONE,
+            position: 0,
             size: 0,
         },
         Err(Refusal::NoUtf8(place)) => Answer {
-            answer: NO_UTF8,
-            kind: NO_KIND,
-            place,
+            status: STATUS_NOT_UTF8,
+            kind: ERROR_NONE,
+            position: place,
+            size: 0,
+        },
+    }
+}
+
+/// The kind with this number, without a text.
+fn kind_of_number(alloc: Global, number: u32) -> ParseError
+    requires { NamesKind number }
+    ensures number { number_of_kind (kind_of result) ≡ number }
+    ensures bare { carried (kind_of result) ≡ [] }
+{
+    match number {
+        ERROR_GENERAL_PARSE_ERROR => ParseError::GeneralParseError(String::new(alloc)),
+        ERROR_UNCLOSED_OPEN_PAREN => ParseError::UnclosedOpenParen,
+        ERROR_INVALID_REPEAT => ParseError::InvalidRepeat,
+        ERROR_RECURSION_EXCEEDED => ParseError::RecursionExceeded,
+        ERROR_TRAILING_BACKSLASH => ParseError::TrailingBackslash,
+        ERROR_INVALID_ESCAPE => ParseError::InvalidEscape(String::new(alloc)),
+        ERROR_UNCLOSED_UNICODE_NAME => ParseError::UnclosedUnicodeName,
+        ERROR_INVALID_HEX => ParseError::InvalidHex,
+        ERROR_INVALID_CODEPOINT_VALUE => ParseError::InvalidCodepointValue,
+        ERROR_INVALID_CLASS => ParseError::InvalidClass,
+        ERROR_UNKNOWN_FLAG => ParseError::UnknownFlag(String::new(alloc)),
+        ERROR_CHANGING_UNICODE_MODE_UNSUPPORTED => ParseError::ChangingUnicodeModeUnsupported,
+        ERROR_INVALID_BACKREF => ParseError::InvalidBackref,
+        ERROR_TARGET_NOT_REPEATABLE => ParseError::TargetNotRepeatable,
+        ERROR_INVALID_GROUP_NAME => ParseError::InvalidGroupName,
+        _ => ParseError::InvalidGroupNameBackref(String::new(alloc)),
+    }
+}
+
+/// Writes the message of a kind of error to the front of `buffer`, without reading a pattern. The messages of
+/// `ERROR_GENERAL_PARSE_ERROR`, `ERROR_INVALID_ESCAPE`, `ERROR_UNKNOWN_FLAG` and `ERROR_INVALID_GROUP_NAME_BACKREF` end
+/// with a text from the pattern: of these it writes all that comes before that text. For a number that no kind has, it
+/// writes an empty text. Returns `STATUS_OK` with the size of the text in bytes; `STATUS_BUFFER_TOO_SHORT` with that
+/// size if it does not fit; or `STATUS_OUT_OF_MEMORY`. Unless it returns `STATUS_OK`, nothing is written.
+#[unsafe(no_mangle)]
+pub extern "C" fn fancy_error_text_nonnull(alloc: Global, kind: u32, buffer: &mut [u8]) -> Answer
+    ensures read { result.status ≡ STATUS_OK → (w : List ℕ) × IsErrorText kind w × (result.size ≡ length w)
+        × Fills buffer.old buffer.new w }
+    ensures short { result.status ≡ STATUS_BUFFER_TOO_SHORT → (w : List ℕ) × IsErrorText kind w
+        × (result.size ≡ length w) × (length buffer.old < length w) }
+    ensures kept { result.status ≢ STATUS_OK → buffer.new ≡ buffer.old }
+    ensures status { result.status ≤ STATUS_BUFFER_TOO_SHORT }
+    ensures no_pattern { (result.status ≢ STATUS_REFUSED) × (result.status ≢ STATUS_NOT_UTF8) }
+    ensures no_kind { result.kind ≡ ERROR_NONE }
+    ensures no_position { result.position ≡ 0 }
+    ensures no_size { result.status ≡ STATUS_OUT_OF_MEMORY → result.size ≡ 0 }
+{
+    if kind == ERROR_NONE || kind > ERROR_INVALID_GROUP_NAME_BACKREF {
+        return write(buffer, &[]);
+    }
+    match words(alloc, &kind_of_number(alloc, kind)) {
+        Ok(words) => write(buffer, words.as_bytes()),
+        Err(AllocError) => Answer {
+            status: STATUS_OUT_OF_MEMORY,
+            kind: ERROR_NONE,
+            position: 0,
             size: 0,
         },
     }

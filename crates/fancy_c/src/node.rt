@@ -7,107 +7,118 @@ ghost use Rattle.fancy_c.specs.Node as spec;
 use fancy_syntax::expr::{
     Absent, Assertion, AstNode, BacktrackingControlVerb, CaptureGroupTarget, Expr, LookAround,
 };
+use fancy_syntax::span::Span;
 
-pub const EMPTY: u32 = 1;
+pub const NODE_EMPTY: u32 = 1;
 
-pub const ANY: u32 = 2;
+pub const NODE_ANY: u32 = 2;
 
-pub const ASSERTION: u32 = 3;
+pub const NODE_ASSERTION: u32 = 3;
 
-pub const GENERAL_NEWLINE: u32 = 4;
+pub const NODE_GENERAL_NEWLINE: u32 = 4;
 
-pub const LITERAL: u32 = 5;
+pub const NODE_LITERAL: u32 = 5;
 
-pub const LITERAL_BYTES: u32 = 6;
+pub const NODE_LITERAL_BYTES: u32 = 6;
 
-pub const CONCAT: u32 = 7;
+pub const NODE_CONCAT: u32 = 7;
 
-pub const ALT: u32 = 8;
+pub const NODE_ALT: u32 = 8;
 
-pub const GROUP: u32 = 9;
+pub const NODE_GROUP: u32 = 9;
 
-pub const LOOK_AROUND: u32 = 10;
+pub const NODE_LOOK_AROUND: u32 = 10;
 
-pub const REPEAT: u32 = 11;
+pub const NODE_REPEAT: u32 = 11;
 
-pub const DELEGATE: u32 = 12;
+pub const NODE_DELEGATE: u32 = 12;
 
-pub const BACKREF: u32 = 13;
+pub const NODE_BACKREF: u32 = 13;
 
-pub const BACKREF_AT_LEVEL: u32 = 14;
+pub const NODE_BACKREF_AT_LEVEL: u32 = 14;
 
-pub const ATOMIC_GROUP: u32 = 15;
+pub const NODE_ATOMIC_GROUP: u32 = 15;
 
-pub const KEEP_OUT: u32 = 16;
+pub const NODE_KEEP_OUT: u32 = 16;
 
-pub const CONTINUE_FROM_PREVIOUS_MATCH_END: u32 = 17;
+pub const NODE_CONTINUE_FROM_PREVIOUS_MATCH_END: u32 = 17;
 
-pub const BACKREF_EXISTS_CONDITION: u32 = 18;
+pub const NODE_BACKREF_EXISTS_CONDITION: u32 = 18;
 
-pub const CONDITIONAL: u32 = 19;
+pub const NODE_CONDITIONAL: u32 = 19;
 
-pub const SUBROUTINE_CALL: u32 = 20;
+pub const NODE_SUBROUTINE_CALL: u32 = 20;
 
-pub const VERB: u32 = 21;
+pub const NODE_VERB: u32 = 21;
 
-pub const ABSENT: u32 = 22;
+pub const NODE_ABSENT: u32 = 22;
 
-pub const DEFINE_GROUP: u32 = 23;
+pub const NODE_DEFINE_GROUP: u32 = 23;
 
-pub const AST_NODE: u32 = 24;
+pub const NODE_AST_NODE: u32 = 24;
 
 // Callers in C compare with these very numbers.
-const _: () = prove!(EMPTY == 1 && ANY == 2 && ASSERTION == 3);
+const _: () = prove!(NODE_EMPTY == 1 && NODE_ANY == 2 && NODE_ASSERTION == 3);
 
-const _: () = prove!(GENERAL_NEWLINE == 4 && LITERAL == 5 && LITERAL_BYTES == 6);
+const _: () = prove!(NODE_GENERAL_NEWLINE == 4 && NODE_LITERAL == 5 && NODE_LITERAL_BYTES == 6);
 
-const _: () = prove!(CONCAT == 7 && ALT == 8 && GROUP == 9);
+const _: () = prove!(NODE_CONCAT == 7 && NODE_ALT == 8 && NODE_GROUP == 9);
 
-const _: () = prove!(LOOK_AROUND == 10 && REPEAT == 11 && DELEGATE == 12);
+const _: () = prove!(NODE_LOOK_AROUND == 10 && NODE_REPEAT == 11 && NODE_DELEGATE == 12);
 
-const _: () = prove!(BACKREF == 13 && BACKREF_AT_LEVEL == 14 && ATOMIC_GROUP == 15);
+const _: () = prove!(NODE_BACKREF == 13 && NODE_BACKREF_AT_LEVEL == 14 && NODE_ATOMIC_GROUP == 15);
 
-const _: () = prove!(KEEP_OUT == 16 && CONTINUE_FROM_PREVIOUS_MATCH_END == 17);
+const _: () = prove!(NODE_KEEP_OUT == 16 && NODE_CONTINUE_FROM_PREVIOUS_MATCH_END == 17);
 
-const _: () = prove!(BACKREF_EXISTS_CONDITION == 18 && CONDITIONAL == 19 && SUBROUTINE_CALL == 20);
+const _: () = prove!(
+    NODE_BACKREF_EXISTS_CONDITION == 18 && NODE_CONDITIONAL == 19 && NODE_SUBROUTINE_CALL == 20
+);
 
-const _: () = prove!(VERB == 21 && ABSENT == 22 && DEFINE_GROUP == 23);
+const _: () = prove!(NODE_VERB == 21 && NODE_ABSENT == 22 && NODE_DEFINE_GROUP == 23);
 
-const _: () = prove!(AST_NODE == 24);
+const _: () = prove!(NODE_AST_NODE == 24);
 
-pub const START_TEXT: u32 = 1;
+pub const ASSERTION_START_TEXT: u32 = 1;
 
-pub const END_TEXT: u32 = 2;
+pub const ASSERTION_END_TEXT: u32 = 2;
 
-pub const END_TEXT_IGNORE_TRAILING_NEWLINES: u32 = 3;
+pub const ASSERTION_END_TEXT_IGNORE_TRAILING_NEWLINES: u32 = 3;
 
-pub const START_LINE: u32 = 4;
+pub const ASSERTION_START_LINE: u32 = 4;
 
-pub const START_LINE_ONIGURUMA: u32 = 5;
+pub const ASSERTION_START_LINE_ONIGURUMA: u32 = 5;
 
-pub const END_LINE: u32 = 6;
+pub const ASSERTION_END_LINE: u32 = 6;
 
-pub const LEFT_WORD_BOUNDARY: u32 = 7;
+pub const ASSERTION_LEFT_WORD_BOUNDARY: u32 = 7;
 
-pub const LEFT_WORD_HALF_BOUNDARY: u32 = 8;
+pub const ASSERTION_LEFT_WORD_HALF_BOUNDARY: u32 = 8;
 
-pub const RIGHT_WORD_BOUNDARY: u32 = 9;
+pub const ASSERTION_RIGHT_WORD_BOUNDARY: u32 = 9;
 
-pub const RIGHT_WORD_HALF_BOUNDARY: u32 = 10;
+pub const ASSERTION_RIGHT_WORD_HALF_BOUNDARY: u32 = 10;
 
-pub const WORD_BOUNDARY: u32 = 11;
+pub const ASSERTION_WORD_BOUNDARY: u32 = 11;
 
-pub const NOT_WORD_BOUNDARY: u32 = 12;
+pub const ASSERTION_NOT_WORD_BOUNDARY: u32 = 12;
 
-const _: () = prove!(START_TEXT == 1 && END_TEXT == 2 && END_TEXT_IGNORE_TRAILING_NEWLINES == 3);
+const _: () = prove!(
+    ASSERTION_START_TEXT == 1
+        && ASSERTION_END_TEXT == 2
+        && ASSERTION_END_TEXT_IGNORE_TRAILING_NEWLINES == 3
+);
 
-const _: () = prove!(START_LINE == 4 && START_LINE_ONIGURUMA == 5 && END_LINE == 6);
+const _: () = prove!(
+    ASSERTION_START_LINE == 4 && ASSERTION_START_LINE_ONIGURUMA == 5 && ASSERTION_END_LINE == 6
+);
 
-const _: () = prove!(LEFT_WORD_BOUNDARY == 7 && LEFT_WORD_HALF_BOUNDARY == 8);
+const _: () = prove!(ASSERTION_LEFT_WORD_BOUNDARY == 7 && ASSERTION_LEFT_WORD_HALF_BOUNDARY == 8);
 
-const _: () = prove!(RIGHT_WORD_BOUNDARY == 9 && RIGHT_WORD_HALF_BOUNDARY == 10);
+const _: () = prove!(
+    ASSERTION_RIGHT_WORD_BOUNDARY == 9 && ASSERTION_RIGHT_WORD_HALF_BOUNDARY == 10
+);
 
-const _: () = prove!(WORD_BOUNDARY == 11 && NOT_WORD_BOUNDARY == 12);
+const _: () = prove!(ASSERTION_WORD_BOUNDARY == 11 && ASSERTION_NOT_WORD_BOUNDARY == 12);
 
 pub const LOOK_AHEAD: u32 = 1;
 
@@ -121,83 +132,89 @@ const _: () = prove!(LOOK_AHEAD == 1 && LOOK_AHEAD_NEG == 2 && LOOK_BEHIND == 3)
 
 const _: () = prove!(LOOK_BEHIND_NEG == 4);
 
-pub const FAIL: u32 = 1;
+pub const VERB_FAIL: u32 = 1;
 
-pub const ACCEPT: u32 = 2;
+pub const VERB_ACCEPT: u32 = 2;
 
-pub const COMMIT: u32 = 3;
+pub const VERB_COMMIT: u32 = 3;
 
-pub const SKIP: u32 = 4;
+pub const VERB_SKIP: u32 = 4;
 
-pub const PRUNE: u32 = 5;
+pub const VERB_PRUNE: u32 = 5;
 
-const _: () = prove!(FAIL == 1 && ACCEPT == 2 && COMMIT == 3);
+const _: () = prove!(VERB_FAIL == 1 && VERB_ACCEPT == 2 && VERB_COMMIT == 3);
 
-const _: () = prove!(SKIP == 4 && PRUNE == 5);
+const _: () = prove!(VERB_SKIP == 4 && VERB_PRUNE == 5);
 
-pub const REPEATER: u32 = 1;
+pub const ABSENT_REPEATER: u32 = 1;
 
-pub const EXPRESSION: u32 = 2;
+pub const ABSENT_EXPRESSION: u32 = 2;
 
-pub const STOPPER: u32 = 3;
+pub const ABSENT_STOPPER: u32 = 3;
 
-pub const CLEAR: u32 = 4;
+pub const ABSENT_CLEAR: u32 = 4;
 
-const _: () = prove!(REPEATER == 1 && EXPRESSION == 2 && STOPPER == 3);
+const _: () = prove!(ABSENT_REPEATER == 1 && ABSENT_EXPRESSION == 2 && ABSENT_STOPPER == 3);
 
-const _: () = prove!(CLEAR == 4);
+const _: () = prove!(ABSENT_CLEAR == 4);
 
-pub const BY_NUMBER: u32 = 1;
+pub const TARGET_BY_NUMBER: u32 = 1;
 
-pub const BY_NAME: u32 = 2;
+pub const TARGET_BY_NAME: u32 = 2;
 
-pub const RELATIVE: u32 = 3;
+pub const TARGET_RELATIVE: u32 = 3;
 
-const _: () = prove!(BY_NUMBER == 1 && BY_NAME == 2 && RELATIVE == 3);
+const _: () = prove!(TARGET_BY_NUMBER == 1 && TARGET_BY_NAME == 2 && TARGET_RELATIVE == 3);
 
 /// A node. What its kind does not have is 0 or false.
 #[repr(C)]
 #[derive(Clone, Copy)]
 pub struct Node {
-    /// `EMPTY` to `AST_NODE`.
+    /// `NODE_EMPTY` to `NODE_AST_NODE`.
     pub kind: u32,
     /// Which assertion, look-around, verb or absent expression it is, or what a call names.
     pub which: u32,
-    /// The index behind its last descendant.
+    /// One past the index of its last descendant.
     pub end: usize,
-    /// Where its text begins in the buffer of texts, as a byte offset; 0 where it has none.
+    /// Where its text begins in the buffer of texts, as a byte offset; 0 if it has none.
     pub text: usize,
-    /// How many bytes its text has.
-    pub size: usize,
-    /// How often at least.
-    pub least: usize,
-    /// How often at most; the greatest number for no bound.
-    pub most: usize,
+    /// The size of its text in bytes.
+    pub text_size: usize,
+    /// The lower bound of a repetition.
+    pub lo: usize,
+    /// The upper bound of a repetition, `usize::MAX` for none.
+    pub hi: usize,
     /// The number of a group.
-    pub number: usize,
-    /// The level of recursion that is meant, or how many groups away a call's is.
+    pub group: usize,
+    /// The recursion level, relative to the current one; or the relative number of the group that is called.
     pub level: isize,
-    /// The byte offset of a call in the pattern.
-    pub place: usize,
-    /// Whether it may be a line break.
+    /// The position of an unresolved call, as a byte offset.
+    pub position: usize,
+    /// Where its part of the pattern starts, as a byte offset.
+    pub start: usize,
+    /// Where its part of the pattern ends: one past the offset of the last byte.
+    pub stop: usize,
+    /// Whether it matches a line break too.
     pub newline: bool,
-    /// Whether a carriage return counts as a line break too.
+    /// Whether CR is a line break, and CR LF a single one.
     pub crlf: bool,
     /// Whether the line breaks of Unicode count too.
     pub unicode: bool,
-    /// Whether upper and lower case are one.
+    /// Whether it is case-insensitive.
     pub casei: bool,
-    /// Whether as often as possible is tried first.
+    /// Whether a repetition is greedy.
     pub greedy: bool,
-    /// Whether a level of recursion is meant; of a `BACKREF_AT_LEVEL` always.
+    /// Whether a recursion level is given; of a `NODE_BACKREF_AT_LEVEL` always.
     pub has_level: bool,
 }
 
-/// Where a node stands: the index behind its last descendant, and where its text begins, 0 where it has none.
+/// Where a node stands: the index behind its last descendant, where its text begins, 0 where it has none, and its span
+/// in the pattern.
 #[derive(Clone, Copy)]
 pub(crate) struct Stand {
     pub(crate) end: usize,
     pub(crate) text: usize,
+    pub(crate) span: Span,
 }
 
 /// The number of the assertion.
@@ -205,18 +222,19 @@ fn assertion_number(assertion: Assertion) -> u32
     ensures { result ≡ spec.assertion_number assertion }
 {
     match assertion {
-        Assertion::StartText => START_TEXT,
-        Assertion::EndText => END_TEXT,
-        Assertion::EndTextIgnoreTrailingNewlines { .. } => END_TEXT_IGNORE_TRAILING_NEWLINES,
-        Assertion::StartLine { .. } => START_LINE,
-        Assertion::StartLineOniguruma { .. } => START_LINE_ONIGURUMA,
-        Assertion::EndLine { .. } => END_LINE,
-        Assertion::LeftWordBoundary => LEFT_WORD_BOUNDARY,
-        Assertion::LeftWordHalfBoundary => LEFT_WORD_HALF_BOUNDARY,
-        Assertion::RightWordBoundary => RIGHT_WORD_BOUNDARY,
-        Assertion::RightWordHalfBoundary => RIGHT_WORD_HALF_BOUNDARY,
-        Assertion::WordBoundary => WORD_BOUNDARY,
-        Assertion::NotWordBoundary => NOT_WORD_BOUNDARY,
+        Assertion::StartText => ASSERTION_START_TEXT,
+        Assertion::EndText => ASSERTION_END_TEXT,
+        Assertion::EndTextIgnoreTrailingNewlines { .. } =>
+            ASSERTION_END_TEXT_IGNORE_TRAILING_NEWLINES,
+        Assertion::StartLine { .. } => ASSERTION_START_LINE,
+        Assertion::StartLineOniguruma { .. } => ASSERTION_START_LINE_ONIGURUMA,
+        Assertion::EndLine { .. } => ASSERTION_END_LINE,
+        Assertion::LeftWordBoundary => ASSERTION_LEFT_WORD_BOUNDARY,
+        Assertion::LeftWordHalfBoundary => ASSERTION_LEFT_WORD_HALF_BOUNDARY,
+        Assertion::RightWordBoundary => ASSERTION_RIGHT_WORD_BOUNDARY,
+        Assertion::RightWordHalfBoundary => ASSERTION_RIGHT_WORD_HALF_BOUNDARY,
+        Assertion::WordBoundary => ASSERTION_WORD_BOUNDARY,
+        Assertion::NotWordBoundary => ASSERTION_NOT_WORD_BOUNDARY,
     }
 }
 
@@ -250,11 +268,11 @@ fn verb_number(verb: BacktrackingControlVerb) -> u32
     ensures { result ≡ spec.verb_number verb }
 {
     match verb {
-        BacktrackingControlVerb::Fail => FAIL,
-        BacktrackingControlVerb::Accept => ACCEPT,
-        BacktrackingControlVerb::Commit => COMMIT,
-        BacktrackingControlVerb::Skip => SKIP,
-        BacktrackingControlVerb::Prune => PRUNE,
+        BacktrackingControlVerb::Fail => VERB_FAIL,
+        BacktrackingControlVerb::Accept => VERB_ACCEPT,
+        BacktrackingControlVerb::Commit => VERB_COMMIT,
+        BacktrackingControlVerb::Skip => VERB_SKIP,
+        BacktrackingControlVerb::Prune => VERB_PRUNE,
     }
 }
 
@@ -263,10 +281,10 @@ fn absent_number(absent: &Absent) -> u32
     ensures { (s : _) → spec.row s (view_absent absent.now) ≡ spec.absent_row s result }
 {
     match absent {
-        Absent::Repeater(_) => REPEATER,
-        Absent::Expression { .. } => EXPRESSION,
-        Absent::Stopper(_) => STOPPER,
-        Absent::Clear => CLEAR,
+        Absent::Repeater(_) => ABSENT_REPEATER,
+        Absent::Expression { .. } => ABSENT_EXPRESSION,
+        Absent::Stopper(_) => ABSENT_STOPPER,
+        Absent::Clear => ABSENT_CLEAR,
     }
 }
 
@@ -316,12 +334,14 @@ impl Stand {
             which: 0,
             end: self.end,
             text: self.text,
-            size,
-            least: 0,
-            most: 0,
-            number: 0,
+            text_size: size,
+            lo: 0,
+            hi: 0,
+            group: 0,
             level: 0,
-            place: 0,
+            position: 0,
+            start: self.span.start,
+            stop: self.span.end,
             newline: false,
             crlf: false,
             unicode: false,
@@ -358,19 +378,19 @@ impl Stand {
     {
         match target {
             CaptureGroupTarget::ByNumber(number) => Node {
-                number: *number,
-                place,
-                ..self.one_of(AST_NODE, BY_NUMBER)
+                group: *number,
+                position: place,
+                ..self.one_of(NODE_AST_NODE, TARGET_BY_NUMBER)
             },
             CaptureGroupTarget::ByName(name) => Node {
-                which: BY_NAME,
-                place,
-                ..self.with_text(AST_NODE, name.as_str(), false)
+                which: TARGET_BY_NAME,
+                position: place,
+                ..self.with_text(NODE_AST_NODE, name.as_str(), false)
             },
             CaptureGroupTarget::Relative(amount) => Node {
                 level: *amount,
-                place,
-                ..self.one_of(AST_NODE, RELATIVE)
+                position: place,
+                ..self.one_of(NODE_AST_NODE, TARGET_RELATIVE)
             },
         }
     }
@@ -383,7 +403,7 @@ impl Stand {
             AstNode::SubroutineCall(target) => self.call(target, place),
             AstNode::AstGroup { .. }
             | AstNode::Backref { .. }
-            | AstNode::BackrefExistsCondition { .. } => { self.plain(AST_NODE, 0) }
+            | AstNode::BackrefExistsCondition { .. } => { self.plain(NODE_AST_NODE, 0) }
         }
     }
 
@@ -392,10 +412,10 @@ impl Stand {
         ensures { result ≡ spec.condition self group level }
     {
         Node {
-            number: group,
+            group,
             level: level.unwrap_or(0),
             has_level: level.is_some(),
-            ..self.plain(BACKREF_EXISTS_CONDITION, 0)
+            ..self.plain(NODE_BACKREF_EXISTS_CONDITION, 0)
         }
     }
 
@@ -404,68 +424,72 @@ impl Stand {
         ensures { result ≡ spec.row self (view tree.now) }
     {
         match tree {
-            Expr::Empty => self.plain(EMPTY, 0),
+            Expr::Empty => self.plain(NODE_EMPTY, 0),
             Expr::Any { newline, crlf } => Node {
                 newline: *newline,
                 crlf: *crlf,
-                ..self.plain(ANY, 0)
+                ..self.plain(NODE_ANY, 0)
             },
             Expr::Assertion(assertion) => Node {
                 crlf: has_crlf(*assertion),
-                ..self.one_of(ASSERTION, assertion_number(*assertion))
+                ..self.one_of(NODE_ASSERTION, assertion_number(*assertion))
             },
             Expr::GeneralNewline { unicode } => Node {
                 unicode: *unicode,
-                ..self.plain(GENERAL_NEWLINE, 0)
+                ..self.plain(NODE_GENERAL_NEWLINE, 0)
             },
-            Expr::Literal { val, casei } => self.with_text(LITERAL, val.as_str(), *casei),
-            Expr::LiteralBytes { bytes } => self.plain(LITERAL_BYTES, bytes.len()),
-            Expr::Concat(_) => self.plain(CONCAT, 0),
-            Expr::Alt(_) => self.plain(ALT, 0),
-            Expr::Group(_) => self.plain(GROUP, 0),
+            Expr::Literal { val, casei } => self.with_text(NODE_LITERAL, val.as_str(), *casei),
+            Expr::LiteralBytes { bytes } => self.plain(NODE_LITERAL_BYTES, bytes.len()),
+            Expr::Concat(_) => self.plain(NODE_CONCAT, 0),
+            Expr::Alt(_) => self.plain(NODE_ALT, 0),
+            Expr::Group(_) => self.plain(NODE_GROUP, 0),
             Expr::LookAround(_, look_around) => {
-                self.one_of(LOOK_AROUND, look_around_number(*look_around))
+                self.one_of(NODE_LOOK_AROUND, look_around_number(*look_around))
             }
             Expr::Repeat { lo, hi, greedy, .. } => Node {
-                least: *lo,
-                most: *hi,
+                lo: *lo,
+                hi: *hi,
                 greedy: *greedy,
-                ..self.plain(REPEAT, 0)
+                ..self.plain(NODE_REPEAT, 0)
             },
-            Expr::Delegate { inner, casei } => self.with_text(DELEGATE, inner.as_str(), *casei),
+            Expr::Delegate { inner, casei } => self.with_text(
+                NODE_DELEGATE,
+                inner.as_str(),
+                *casei,
+            ),
             Expr::Backref { group, casei } => Node {
-                number: *group,
+                group: *group,
                 casei: *casei,
-                ..self.plain(BACKREF, 0)
+                ..self.plain(NODE_BACKREF, 0)
             },
             Expr::BackrefWithRelativeRecursionLevel {
                 group,
                 relative_level,
                 casei,
             } => Node {
-                number: *group,
+                group: *group,
                 level: *relative_level,
                 has_level: true,
                 casei: *casei,
-                ..self.plain(BACKREF_AT_LEVEL, 0)
+                ..self.plain(NODE_BACKREF_AT_LEVEL, 0)
             },
-            Expr::AtomicGroup(_) => self.plain(ATOMIC_GROUP, 0),
-            Expr::KeepOut => self.plain(KEEP_OUT, 0),
+            Expr::AtomicGroup(_) => self.plain(NODE_ATOMIC_GROUP, 0),
+            Expr::KeepOut => self.plain(NODE_KEEP_OUT, 0),
             Expr::ContinueFromPreviousMatchEnd => {
-                self.plain(CONTINUE_FROM_PREVIOUS_MATCH_END, 0)
+                self.plain(NODE_CONTINUE_FROM_PREVIOUS_MATCH_END, 0)
             }
             Expr::BackrefExistsCondition {
                 group,
                 relative_recursion_level,
             } => self.condition(*group, *relative_recursion_level),
-            Expr::Conditional { .. } => self.plain(CONDITIONAL, 0),
+            Expr::Conditional { .. } => self.plain(NODE_CONDITIONAL, 0),
             Expr::SubroutineCall(group) => Node {
-                number: *group,
-                ..self.plain(SUBROUTINE_CALL, 0)
+                group: *group,
+                ..self.plain(NODE_SUBROUTINE_CALL, 0)
             },
-            Expr::BacktrackingControlVerb(verb) => self.one_of(VERB, verb_number(*verb)),
-            Expr::Absent(absent) => self.one_of(ABSENT, absent_number(absent)),
-            Expr::DefineGroup { .. } => self.plain(DEFINE_GROUP, 0),
+            Expr::BacktrackingControlVerb(verb) => self.one_of(NODE_VERB, verb_number(*verb)),
+            Expr::Absent(absent) => self.one_of(NODE_ABSENT, absent_number(absent)),
+            Expr::DefineGroup { .. } => self.plain(NODE_DEFINE_GROUP, 0),
             Expr::AstNode(node, place) => self.read_node(node, *place),
         }
     }

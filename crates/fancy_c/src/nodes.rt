@@ -7,19 +7,21 @@ ghost use Rattle.fancy_grammar.specs.Tree.{Tree};
 ghost use Rattle.fancy_syntax.specs.Answer.{marks_of};
 ghost use Rattle.fancy_syntax.specs.View.{view};
 ghost use Rattle.fancy_c.specs.Answer.{number_of_kind, IsFaultOfBytes, IsNoUtf8};
-ghost use Rattle.fancy_c.specs.Marks.{told, all_texts, name_rows, AreWritten, IsToldOf};
-ghost use Rattle.fancy_c.specs.Node.{listed};
+ghost use Rattle.fancy_c.specs.Marks.{told, all_texts, name_rows, AreWritten, AreSpansIn, IsToldOf};
+ghost use Rattle.fancy_c.specs.Node.{listed, spans_in, SpanAt};
 
-use crate::answer::{Answer, NO_KIND, NO_UTF8, READ, REFUSED, SHORT};
-use crate::marks::{Name, TreeMarks, count_names, put_backrefs, put_names};
+use crate::answer::{
+    Answer, ERROR_NONE, STATUS_BUFFER_TOO_SHORT, STATUS_NOT_UTF8, STATUS_OK, STATUS_REFUSED,
+};
+use crate::marks::{Name, TreeInfo, count_names, put_backrefs, put_names};
 use crate::node::Node;
-use crate::read::read;
-use crate::rows::{Counts, count, put_tree};
+use crate::read::read_with_spans;
+use crate::rows::{Counts, Spans, count, put_tree};
 use fancy_syntax::tree::ExprTree;
 use std::alloc::Global;
 
 /// How much room the tree asks for, and what is said of it.
-fn marks_told(tree: &ExprTree) -> TreeMarks
+fn info_told(tree: &ExprTree) -> TreeInfo
     ensures { result ≡ told (view tree.now.expr) (marks_of tree.now) }
 {
     let nodes = count(&tree.expr, Counts { rows: 0, text: 0 });
@@ -28,18 +30,18 @@ fn marks_told(tree: &ExprTree) -> TreeMarks
         text: nodes.text,
     };
     let names = count_names(&tree.named_groups, before);
-    TreeMarks {
-        nodes: nodes.rows,
-        texts: names.text,
-        names: names.rows,
-        backrefs: tree.backrefs.len(),
-        groups: tree.total_groups,
-        out_of_range: tree.out_of_range_backref.unwrap_or(0),
-        has_out_of_range: tree.out_of_range_backref.is_some(),
-        numeric: tree.numeric_capture_group_references,
-        calls: tree.contains_subroutines,
+    TreeInfo {
+        node_count: nodes.rows,
+        texts_size: names.text,
+        name_count: names.rows,
+        backref_count: tree.backrefs.len(),
+        total_groups: tree.total_groups,
+        out_of_range_backref: tree.out_of_range_backref.unwrap_or(0),
+        has_out_of_range_backref: tree.out_of_range_backref.is_some(),
+        numeric_capture_group_references: tree.numeric_capture_group_references,
+        contains_subroutines: tree.contains_subroutines,
         self_recursive: tree.self_recursive,
-        ignored: tree.numbered_groups_ignored,
+        numbered_groups_ignored: tree.numbered_groups_ignored,
     }
 }
 
@@ -50,15 +52,16 @@ fn put_all(
     names: &mut [Name],
     backrefs: &mut [usize],
     tree: &ExprTree,
+    spans: &Spans,
 )
     requires nodes_room { length (listed (view tree.now.expr)) ≤ length nodes.old }
     requires texts_room { length (all_texts (view tree.now.expr) (marks_of tree.now)) ≤ length texts.old }
     requires names_room { length (name_rows 0 (marks_of tree.now).named_groups) ≤ length names.old }
     requires backrefs_room { length tree.now.backrefs.keys ≤ length backrefs.old }
-    ensures { AreWritten (view tree.now.expr) (marks_of tree.now) nodes.old nodes.new texts.old texts.new
-        names.old names.new backrefs.old backrefs.new }
+    ensures { AreWritten (view tree.now.expr) (marks_of tree.now) (spans_in spans.now.size spans.now.list.items)
+        nodes.old nodes.new texts.old texts.new names.old names.new backrefs.old backrefs.new }
 {
-    let behind = put_tree(nodes, texts, &tree.expr, Counts { rows: 0, text: 0 });
+    let behind = put_tree(nodes, texts, &tree.expr, spans, Counts { rows: 0, text: 0 });
     let before = Counts {
         rows: 0,
         text: behind.text,
@@ -68,22 +71,22 @@ fn put_all(
 }
 
 /// Whether buffers of these lengths have the room.
-fn fits(told: TreeMarks, nodes: usize, texts: usize, names: usize, backrefs: usize) -> bool
-    ensures room { result ≡ true → (told.nodes ≤ nodes) × (told.texts ≤ texts) × (told.names ≤ names)
-        × (told.backrefs ≤ backrefs) }
-    ensures short { result ≡ false → (nodes < told.nodes) ⊎ ((texts < told.texts) ⊎ ((names < told.names)
-        ⊎ (backrefs < told.backrefs))) }
+fn fits(told: TreeInfo, nodes: usize, texts: usize, names: usize, backrefs: usize) -> bool
+    ensures room { result ≡ true → (told.node_count ≤ nodes) × (told.texts_size ≤ texts) × (told.name_count ≤ names)
+        × (told.backref_count ≤ backrefs) }
+    ensures short { result ≡ false → (nodes < told.node_count) ⊎ ((texts < told.texts_size) ⊎ ((names < told.name_count)
+        ⊎ (backrefs < told.backref_count))) }
 {
-    if nodes < told.nodes {
+    if nodes < told.node_count {
         return false;
     }
-    if texts < told.texts {
+    if texts < told.texts_size {
         return false;
     }
-    if names < told.names {
+    if names < told.name_count {
         return false;
     }
-    told.backrefs <= backrefs
+    told.backref_count <= backrefs
 }
 
 /// Tells of the tree, and writes it at the front of the buffers, where all of it fits.
@@ -92,50 +95,53 @@ fn tell(
     texts: &mut [u8],
     names: &mut [Name],
     backrefs: &mut [usize],
-    marks: &mut TreeMarks,
+    info: &mut TreeInfo,
     tree: &ExprTree,
+    spans: &Spans,
 ) -> Answer
-    ensures read { result.answer ≡ READ → AreWritten (view tree.now.expr) (marks_of tree.now) nodes.old nodes.new
+    ensures read { result.status ≡ STATUS_OK → AreWritten (view tree.now.expr) (marks_of tree.now)
+        (spans_in spans.now.size spans.now.list.items) nodes.old nodes.new
         texts.old texts.new names.old names.new backrefs.old backrefs.new }
-    ensures short { result.answer ≡ SHORT → (length nodes.old < marks.new.nodes) ⊎ ((length texts.old < marks.new.texts)
-        ⊎ ((length names.old < marks.new.names) ⊎ (length backrefs.old < marks.new.backrefs))) }
-    ensures marks { marks.new ≡ told (view tree.now.expr) (marks_of tree.now) }
-    ensures nodes_kept { result.answer ≢ READ → nodes.new ≡ nodes.old }
-    ensures texts_kept { result.answer ≢ READ → texts.new ≡ texts.old }
-    ensures names_kept { result.answer ≢ READ → names.new ≡ names.old }
-    ensures backrefs_kept { result.answer ≢ READ → backrefs.new ≡ backrefs.old }
-    ensures answers { (result.answer ≡ READ) ⊎ (result.answer ≡ SHORT) }
-    ensures no_kind { result.kind ≡ NO_KIND }
-    ensures no_place { result.place ≡ 0 }
+    ensures short { result.status ≡ STATUS_BUFFER_TOO_SHORT → (length nodes.old < info.new.node_count)
+        ⊎ ((length texts.old < info.new.texts_size)
+        ⊎ ((length names.old < info.new.name_count) ⊎ (length backrefs.old < info.new.backref_count))) }
+    ensures info { info.new ≡ told (view tree.now.expr) (marks_of tree.now) }
+    ensures nodes_kept { result.status ≢ STATUS_OK → nodes.new ≡ nodes.old }
+    ensures texts_kept { result.status ≢ STATUS_OK → texts.new ≡ texts.old }
+    ensures names_kept { result.status ≢ STATUS_OK → names.new ≡ names.old }
+    ensures backrefs_kept { result.status ≢ STATUS_OK → backrefs.new ≡ backrefs.old }
+    ensures status { (result.status ≡ STATUS_OK) ⊎ (result.status ≡ STATUS_BUFFER_TOO_SHORT) }
+    ensures no_kind { result.kind ≡ ERROR_NONE }
+    ensures no_position { result.position ≡ 0 }
     ensures no_size { result.size ≡ 0 }
 {
-    let told = marks_told(tree);
-    *marks = told;
+    let told = info_told(tree);
+    *info = told;
     if !fits(told, nodes.len(), texts.len(), names.len(), backrefs.len()) {
         return Answer {
-            answer: SHORT,
-            kind: NO_KIND,
-            place: 0,
+            status: STATUS_BUFFER_TOO_SHORT,
+            kind: ERROR_NONE,
+            position: 0,
             size: 0,
         };
     }
-    put_all(nodes, texts, names, backrefs, tree);
+    put_all(nodes, texts, names, backrefs, tree, spans);
     Answer {
-        answer: READ,
-        kind: NO_KIND,
-        place: 0,
+        status: STATUS_OK,
+        kind: ERROR_NONE,
+        position: 0,
         size: 0,
     }
 }
 
-/// Reads a pattern as `fancy_read` does, and tells in `marks` how much room its tree asks for and what is said of it.
-/// Where all of it fits, the answer is `READ`, and at the front of each buffer stand: the tree's nodes in preorder; the
-/// texts of the nodes, and the names of the groups behind them; for each name in byte order its numbers, ascending; and
-/// the numbers of the back references, ascending. Where something does not fit, the answer is `SHORT`, and none of them
-/// is written. A pattern of n bytes has at most 2 n + 1 nodes. For a pattern without a tree the answer is that of
-/// `fancy_read`, and nothing is written.
+/// Parses a pattern as `fancy_check_nonnull` does, and sets `info` to the sizes of its tree and to its group
+/// information. If all of it fits, returns `STATUS_OK`, and the buffers hold, from their front: the nodes of the tree
+/// in preorder, each with its span in the pattern; the texts of the nodes, and after them the names of groups; for each
+/// name in byte order its group numbers, ascending; and the numbers of the back references, ascending. If something
+/// does not fit, returns `STATUS_BUFFER_TOO_SHORT`, and no buffer is written. A pattern of n bytes has at most 2 n + 1
+/// nodes. For a pattern without a tree it returns what `fancy_check_nonnull` returns, and nothing is written.
 #[unsafe(no_mangle)]
-pub extern "C" fn fancy_nodes(
+pub extern "C" fn fancy_parse_nonnull(
     alloc: Global,
     pattern: &[u8],
     flags: u32,
@@ -143,29 +149,30 @@ pub extern "C" fn fancy_nodes(
     texts: &mut [u8],
     names: &mut [Name],
     backrefs: &mut [usize],
-    marks: &mut TreeMarks,
+    info: &mut TreeInfo,
 ) -> Answer
-    ensures read { result.answer ≡ READ → (t : Tree) × (m : Marks) × IsToldOf marks.new (flags_of flags) pattern.now t m
-        × AreWritten t m nodes.old nodes.new texts.old texts.new names.old names.new backrefs.old backrefs.new }
-    ensures short { result.answer ≡ SHORT →
-        (t : Tree) × (m : Marks) × IsToldOf marks.new (flags_of flags) pattern.now t m
-        × ((length nodes.old < marks.new.nodes) ⊎ ((length texts.old < marks.new.texts)
-        ⊎ ((length names.old < marks.new.names) ⊎ (length backrefs.old < marks.new.backrefs)))) }
-    ensures refused { result.answer ≡ REFUSED → (k : Kind) × (result.kind ≡ number_of_kind k)
-        × IsFaultOfBytes (flags_of flags) pattern.now k result.place }
-    ensures no_utf8 { result.answer ≡ NO_UTF8 → IsNoUtf8 pattern.now result.place }
-    ensures nodes_kept { result.answer ≢ READ → nodes.new ≡ nodes.old }
-    ensures texts_kept { result.answer ≢ READ → texts.new ≡ texts.old }
-    ensures names_kept { result.answer ≢ READ → names.new ≡ names.old }
-    ensures backrefs_kept { result.answer ≢ READ → backrefs.new ≡ backrefs.old }
-    ensures marks_kept { result.answer ≢ READ → result.answer ≢ SHORT → marks.new ≡ marks.old }
-    ensures answers { result.answer ≤ SHORT }
-    ensures no_kind { result.answer ≢ REFUSED → result.kind ≡ NO_KIND }
-    ensures no_place { result.answer ≢ REFUSED → result.answer ≢ NO_UTF8 → result.place ≡ 0 }
+    ensures read { result.status ≡ STATUS_OK → (t : Tree) × (m : Marks) × (spans : SpanAt)
+        × IsToldOf info.new (flags_of flags) pattern.now t m × AreSpansIn (length pattern.now) spans
+        × AreWritten t m spans nodes.old nodes.new texts.old texts.new names.old names.new backrefs.old backrefs.new }
+    ensures short { result.status ≡ STATUS_BUFFER_TOO_SHORT →
+        (t : Tree) × (m : Marks) × IsToldOf info.new (flags_of flags) pattern.now t m
+        × ((length nodes.old < info.new.node_count) ⊎ ((length texts.old < info.new.texts_size)
+        ⊎ ((length names.old < info.new.name_count) ⊎ (length backrefs.old < info.new.backref_count)))) }
+    ensures refused { result.status ≡ STATUS_REFUSED → (k : Kind) × (result.kind ≡ number_of_kind k)
+        × IsFaultOfBytes (flags_of flags) pattern.now k result.position }
+    ensures no_utf8 { result.status ≡ STATUS_NOT_UTF8 → IsNoUtf8 pattern.now result.position }
+    ensures nodes_kept { result.status ≢ STATUS_OK → nodes.new ≡ nodes.old }
+    ensures texts_kept { result.status ≢ STATUS_OK → texts.new ≡ texts.old }
+    ensures names_kept { result.status ≢ STATUS_OK → names.new ≡ names.old }
+    ensures backrefs_kept { result.status ≢ STATUS_OK → backrefs.new ≡ backrefs.old }
+    ensures info_kept { result.status ≢ STATUS_OK → result.status ≢ STATUS_BUFFER_TOO_SHORT → info.new ≡ info.old }
+    ensures status { result.status ≤ STATUS_BUFFER_TOO_SHORT }
+    ensures no_kind { result.status ≢ STATUS_REFUSED → result.kind ≡ ERROR_NONE }
+    ensures no_position { result.status ≢ STATUS_REFUSED → result.status ≢ STATUS_NOT_UTF8 → result.position ≡ 0 }
     ensures no_size { result.size ≡ 0 }
 {
-    match read(alloc, pattern, flags) {
-        Ok(tree) => tell(nodes, texts, names, backrefs, marks, &tree),
+    match read_with_spans(alloc, pattern, flags) {
+        Ok((tree, spans)) => tell(nodes, texts, names, backrefs, info, &tree, &spans),
         Err(refusal) => refusal.answer(),
     }
 }

@@ -10,8 +10,11 @@ ghost use Rattle.fancy_c.specs.Answer.{number_of_kind, IsTreeOfBytes, IsFaultOfB
 ghost use Rattle.fancy_c.specs.Buffer.{Fills};
 ghost use Rattle.fancy_c.specs.Text.{IsText, IsTextOfBytes};
 
-use crate::answer::{Answer, NO_KIND, NO_MEMORY, NO_UTF8, NOT_PRINTABLE, READ, REFUSED, SHORT};
-use crate::buffer::fill;
+use crate::answer::{
+    Answer, ERROR_NONE, STATUS_BUFFER_TOO_SHORT, STATUS_NOT_PRINTABLE, STATUS_NOT_UTF8, STATUS_OK,
+    STATUS_OUT_OF_MEMORY, STATUS_REFUSED,
+};
+use crate::buffer::write;
 use crate::read::read;
 use fancy_syntax::expr::Expr;
 use std::alloc::{AllocError, Global};
@@ -26,74 +29,64 @@ fn text_of(alloc: Global, tree: &Expr, precedence: u8) -> Result<Option<String>,
 
 /// Writes the tree's text at the front of the buffer, where it has one and that fits.
 fn print(alloc: Global, tree: &Expr, precedence: u8, buffer: &mut [u8]) -> Answer
-    ensures read { result.answer ≡ READ → (w : List ℕ) × IsText (view tree.now) precedence w × (result.size ≡ length w)
-        × Fills buffer.old buffer.new w }
-    ensures short { result.answer ≡ SHORT →
+    ensures read { result.status ≡ STATUS_OK → (w : List ℕ) × IsText (view tree.now) precedence w
+        × (result.size ≡ length w) × Fills buffer.old buffer.new w }
+    ensures short { result.status ≡ STATUS_BUFFER_TOO_SHORT →
         (w : List ℕ) × IsText (view tree.now) precedence w × (result.size ≡ length w)
         × (length buffer.old < length w) }
-    ensures not_printable { result.answer ≡ NOT_PRINTABLE → printable (view tree.now) ≡ false }
-    ensures kept { result.answer ≢ READ → buffer.new ≡ buffer.old }
-    ensures fault { (result.answer ≢ REFUSED) × (result.answer ≢ NO_UTF8) }
-    ensures answers { result.answer ≤ NOT_PRINTABLE }
-    ensures no_kind { result.kind ≡ NO_KIND }
-    ensures no_place { result.place ≡ 0 }
-    ensures no_size { result.answer ≢ READ → result.answer ≢ SHORT → result.size ≡ 0 }
+    ensures not_printable { result.status ≡ STATUS_NOT_PRINTABLE → printable (view tree.now) ≡ false }
+    ensures kept { result.status ≢ STATUS_OK → buffer.new ≡ buffer.old }
+    ensures fault { (result.status ≢ STATUS_REFUSED) × (result.status ≢ STATUS_NOT_UTF8) }
+    ensures status { result.status ≤ STATUS_NOT_PRINTABLE }
+    ensures no_kind { result.kind ≡ ERROR_NONE }
+    ensures no_position { result.position ≡ 0 }
+    ensures no_size { result.status ≢ STATUS_OK → result.status ≢ STATUS_BUFFER_TOO_SHORT → result.size ≡ 0 }
 {
     match text_of(alloc, tree, precedence) {
-        Ok(Some(text)) => {
-            let answer = if fill(buffer, text.as_bytes()) {
-                READ
-            } else {
-                SHORT
-            };
-            Answer {
-                answer,
-                kind: NO_KIND,
-                place: 0,
-                size: text.len(),
-            }
-        }
+        Ok(Some(text)) => write(buffer, text.as_bytes()),
         Ok(None) => Answer {
-            answer: NOT_PRINTABLE,
-            kind: NO_KIND,
-            place: 0,
+            status: STATUS_NOT_PRINTABLE,
+            kind: ERROR_NONE,
+            position: 0,
             size: 0,
         },
         Err(AllocError) => Answer {
-            answer: NO_MEMORY,
-            kind: NO_KIND,
-            place: 0,
+            status: STATUS_OUT_OF_MEMORY,
+            kind: ERROR_NONE,
+            position: 0,
             size: 0,
         },
     }
 }
 
-/// Reads a pattern as `fancy_read` does, and writes its text at a precedence at the front of `buffer`. The answer is
-/// `READ`, with the size of the text in bytes, but `SHORT` where it does not fit, and `NOT_PRINTABLE` where the tree is
-/// not printable; for a pattern without a tree it is that of `fancy_read`. Where it is another than `READ`, nothing is
-/// written. Above precedence 0 an `Alt`, above 1 a `Concat` and above 2 a `Repeat` stands in a group of its own.
+/// Parses a pattern as `fancy_check_nonnull` does, and prints its tree at a precedence to the front of `buffer`.
+/// Returns `STATUS_OK` with the size of the text in bytes; `STATUS_BUFFER_TOO_SHORT` with that size if the text does
+/// not fit; `STATUS_NOT_PRINTABLE` if the tree is not printable; else what `fancy_check_nonnull` returns. Unless it
+/// returns `STATUS_OK`, nothing is written. Above precedence 0 an `Alt`, above 1 a `Concat` and above 2 a `Repeat` is
+/// put into a group.
 #[unsafe(no_mangle)]
-pub extern "C" fn fancy_print(
+pub extern "C" fn fancy_print_nonnull(
     alloc: Global,
     pattern: &[u8],
     flags: u32,
     precedence: u8,
     buffer: &mut [u8],
 ) -> Answer
-    ensures read { result.answer ≡ READ → (w : List ℕ) × IsTextOfBytes (flags_of flags) pattern.now precedence w
+    ensures read { result.status ≡ STATUS_OK → (w : List ℕ) × IsTextOfBytes (flags_of flags) pattern.now precedence w
         × (result.size ≡ length w) × Fills buffer.old buffer.new w }
-    ensures short { result.answer ≡ SHORT → (w : List ℕ) × IsTextOfBytes (flags_of flags) pattern.now precedence w
+    ensures short { result.status ≡ STATUS_BUFFER_TOO_SHORT → (w : List ℕ)
+        × IsTextOfBytes (flags_of flags) pattern.now precedence w
         × (result.size ≡ length w) × (length buffer.old < length w) }
-    ensures not_printable { result.answer ≡ NOT_PRINTABLE → (t : Tree) × (m : Marks)
+    ensures not_printable { result.status ≡ STATUS_NOT_PRINTABLE → (t : Tree) × (m : Marks)
         × IsTreeOfBytes (flags_of flags) pattern.now t m × (printable t ≡ false) }
-    ensures refused { result.answer ≡ REFUSED → (k : Kind) × (result.kind ≡ number_of_kind k)
-        × IsFaultOfBytes (flags_of flags) pattern.now k result.place }
-    ensures no_utf8 { result.answer ≡ NO_UTF8 → IsNoUtf8 pattern.now result.place }
-    ensures kept { result.answer ≢ READ → buffer.new ≡ buffer.old }
-    ensures answers { result.answer ≤ NOT_PRINTABLE }
-    ensures no_kind { result.answer ≢ REFUSED → result.kind ≡ NO_KIND }
-    ensures no_place { result.answer ≢ REFUSED → result.answer ≢ NO_UTF8 → result.place ≡ 0 }
-    ensures no_size { result.answer ≢ READ → result.answer ≢ SHORT → result.size ≡ 0 }
+    ensures refused { result.status ≡ STATUS_REFUSED → (k : Kind) × (result.kind ≡ number_of_kind k)
+        × IsFaultOfBytes (flags_of flags) pattern.now k result.position }
+    ensures no_utf8 { result.status ≡ STATUS_NOT_UTF8 → IsNoUtf8 pattern.now result.position }
+    ensures kept { result.status ≢ STATUS_OK → buffer.new ≡ buffer.old }
+    ensures status { result.status ≤ STATUS_NOT_PRINTABLE }
+    ensures no_kind { result.status ≢ STATUS_REFUSED → result.kind ≡ ERROR_NONE }
+    ensures no_position { result.status ≢ STATUS_REFUSED → result.status ≢ STATUS_NOT_UTF8 → result.position ≡ 0 }
+    ensures no_size { result.status ≢ STATUS_OK → result.status ≢ STATUS_BUFFER_TOO_SHORT → result.size ≡ 0 }
 {
     match read(alloc, pattern, flags) {
         Ok(tree) => print(alloc, &tree.expr, precedence, buffer),

@@ -1,14 +1,20 @@
-//! Bytes read as a pattern.
-ghost use Rattle.std.specs.Prelude.{◌≡◌, ◌≢◌, ◌≤◌, IfOk, IfErr};
+//! Bytes parsed as a pattern.
+ghost use Rattle.std.specs.Prelude.{◌≡◌, ◌≢◌, ◌≤◌, IfOk, IfErr, length};
+ghost use Rattle.std.specs.Str.{IsUtf8};
 ghost use Rattle.fancy_lex.specs.Fault.{Kind};
 ghost use Rattle.fancy_lex.specs.Flags.{flags_of};
+ghost use Rattle.fancy_lex.specs.declared.flags.Flags.{Flags};
 ghost use Rattle.fancy_grammar.specs.Marks.{Marks};
 ghost use Rattle.fancy_grammar.specs.Tree.{Tree};
 ghost use Rattle.fancy_syntax.specs.Answer.{marks_of};
 ghost use Rattle.fancy_syntax.specs.View.{view};
 ghost use Rattle.fancy_c.specs.Answer.{number_of_kind, IsTreeOfBytes, IsFaultOfBytes, IsNoUtf8, IsRefusalOf, answer_of};
 
-use crate::answer::{Answer, NO_KIND, NO_MEMORY, NO_UTF8, READ, REFUSED, kind_number};
+use crate::answer::{
+    Answer, ERROR_NONE, STATUS_NOT_UTF8, STATUS_OK, STATUS_OUT_OF_MEMORY, STATUS_REFUSED,
+    kind_number,
+};
+use crate::rows::Spans;
 use fancy_syntax::error::Error;
 use fancy_syntax::expr::Expr;
 use fancy_syntax::tree::ExprTree;
@@ -31,24 +37,35 @@ impl Refusal {
     {
         match self {
             Refusal::NoUtf8(place) => Answer {
-                answer: NO_UTF8,
-                kind: NO_KIND,
-                place: *place,
+                status: STATUS_NOT_UTF8,
+                kind: ERROR_NONE,
+                position: *place,
                 size: 0,
             },
             Refusal::Fault(Error::ParseError(place, kind)) => Answer {
-                answer: REFUSED,
+                status: STATUS_REFUSED,
                 kind: kind_number(kind),
-                place: *place,
+                position: *place,
                 size: 0,
             },
             Refusal::Fault(Error::OutOfMemory) => Answer {
-                answer: NO_MEMORY,
-                kind: NO_KIND,
-                place: 0,
+                status: STATUS_OUT_OF_MEMORY,
+                kind: ERROR_NONE,
+                position: 0,
                 size: 0,
             },
         }
+    }
+}
+
+/// The text whose UTF-8 the bytes are.
+fn text_of(pattern: &[u8]) -> Result<&str, Refusal>
+    ensures text { IfOk result (λ text. (text.now ≡ pattern.now) × IsUtf8 pattern.now) }
+    ensures refusal { IfErr result (λ r. (f : Flags) → IsRefusalOf r f pattern.now) }
+{
+    match str::from_utf8(pattern) {
+        Ok(text) => Ok(text),
+        Err(error) => Err(Refusal::NoUtf8(error.valid_up_to())),
     }
 }
 
@@ -57,34 +74,56 @@ pub(crate) fn read(alloc: Global, pattern: &[u8], flags: u32) -> Result<ExprTree
     ensures tree { IfOk result (λ t. IsTreeOfBytes (flags_of flags) pattern.now (view t.expr) (marks_of t)) }
     ensures refusal { IfErr result (λ r. IsRefusalOf r (flags_of flags) pattern.now) }
 {
-    match str::from_utf8(pattern) {
-        Ok(text) => match Expr::parse_tree_with_flags(alloc, text, flags) {
-            Ok(tree) => Ok(tree),
-            Err(error) => Err(Refusal::Fault(error)),
-        },
-        Err(error) => Err(Refusal::NoUtf8(error.valid_up_to())),
+    let text = text_of(pattern)?;
+    match Expr::parse_tree_with_flags(alloc, text, flags) {
+        Ok(tree) => Ok(tree),
+        Err(error) => Err(Refusal::Fault(error)),
     }
 }
 
-/// Reads the bytes at `pattern` as a pattern, under the flags whose bits are set. The answer is `READ`; `REFUSED`, with
-/// the kind and the place of the pattern's only fault; `NO_UTF8`, with the length of the longest front that is UTF-8;
-/// or `NO_MEMORY`. The size is 0.
+/// The same, with the spans of the tree's nodes.
+pub(crate) fn read_with_spans(
+    alloc: Global,
+    pattern: &[u8],
+    flags: u32,
+) -> Result<(ExprTree, Spans), Refusal>
+    ensures tree { IfOk result (λ p. IsTreeOfBytes (flags_of flags) pattern.now (view p.0.expr) (marks_of p.0)) }
+    ensures size { IfOk result (λ p. p.1.size ≡ length pattern.now) }
+    ensures refusal { IfErr result (λ r. IsRefusalOf r (flags_of flags) pattern.now) }
+{
+    let text = text_of(pattern)?;
+    match Expr::parse_tree_with_spans(alloc, text, flags) {
+        Ok((tree, list)) => Ok((
+            tree,
+            Spans {
+                list,
+                size: pattern.len(),
+            },
+        )),
+        Err(error) => Err(Refusal::Fault(error)),
+    }
+}
+
+/// Checks whether the bytes at `pattern` are a valid pattern under the flags whose bits are set. Returns `STATUS_OK`;
+/// `STATUS_REFUSED`, with the kind and the position of the pattern's only error; `STATUS_NOT_UTF8`, with the length of
+/// the valid UTF-8 prefix; or `STATUS_OUT_OF_MEMORY`. The size is 0.
 #[unsafe(no_mangle)]
-pub extern "C" fn fancy_read(alloc: Global, pattern: &[u8], flags: u32) -> Answer
-    ensures read { result.answer ≡ READ → (t : Tree) × (m : Marks) × IsTreeOfBytes (flags_of flags) pattern.now t m }
-    ensures refused { result.answer ≡ REFUSED → (k : Kind) × (result.kind ≡ number_of_kind k)
-        × IsFaultOfBytes (flags_of flags) pattern.now k result.place }
-    ensures no_utf8 { result.answer ≡ NO_UTF8 → IsNoUtf8 pattern.now result.place }
-    ensures answers { result.answer ≤ NO_MEMORY }
-    ensures no_kind { result.answer ≢ REFUSED → result.kind ≡ NO_KIND }
-    ensures no_place { result.answer ≢ REFUSED → result.answer ≢ NO_UTF8 → result.place ≡ 0 }
+pub extern "C" fn fancy_check_nonnull(alloc: Global, pattern: &[u8], flags: u32) -> Answer
+    ensures read { result.status ≡ STATUS_OK → (t : Tree) × (m : Marks)
+        × IsTreeOfBytes (flags_of flags) pattern.now t m }
+    ensures refused { result.status ≡ STATUS_REFUSED → (k : Kind) × (result.kind ≡ number_of_kind k)
+        × IsFaultOfBytes (flags_of flags) pattern.now k result.position }
+    ensures no_utf8 { result.status ≡ STATUS_NOT_UTF8 → IsNoUtf8 pattern.now result.position }
+    ensures status { result.status ≤ STATUS_OUT_OF_MEMORY }
+    ensures no_kind { result.status ≢ STATUS_REFUSED → result.kind ≡ ERROR_NONE }
+    ensures no_position { result.status ≢ STATUS_REFUSED → result.status ≢ STATUS_NOT_UTF8 → result.position ≡ 0 }
     ensures no_size { result.size ≡ 0 }
 {
     match read(alloc, pattern, flags) {
         Ok(_) => Answer {
-            answer: READ,
-            kind: NO_KIND,
-            place: 0,
+            status: STATUS_OK,
+            kind: ERROR_NONE,
+            position: 0,
             size: 0,
         },
         Err(refusal) => refusal.answer(),

@@ -5,16 +5,41 @@ ghost use Rattle.fancy_grammar.specs.Tree.{children};
 ghost use Rattle.fancy_syntax.specs.View.{view};
 ghost use Rattle.fancy_c.specs.Buffer.{put_at};
 ghost use Rattle.fancy_c.specs.Node as spec;
-ghost use Rattle.fancy_c.specs.Node.{listed, listed_each, rows, texts};
+ghost use Rattle.fancy_c.specs.Node.{listed, listed_each, rows, texts, spans_in};
 
 use crate::node::{Node, Stand, carried};
 use fancy_syntax::expr::Expr;
+use fancy_syntax::span::Span;
 
 /// How many rows, and how many bytes of their texts.
 #[derive(Clone, Copy)]
 pub(crate) struct Counts {
     pub(crate) rows: usize,
     pub(crate) text: usize,
+}
+
+/// The spans of a tree's nodes, in preorder, and how many bytes its pattern has.
+#[derive(Drop)]
+pub(crate) struct Spans {
+    pub(crate) list: Vec<Span>,
+    pub(crate) size: usize,
+}
+
+impl Spans {
+    /// The span of the node with this index, as far as it lies in the pattern; 0 to 0 where there is none.
+    fn at(&self, i: usize) -> Span
+        ensures { result ≡ spans_in self.now.size self.now.list.items i }
+    {
+        let span = match self.list.get(i) {
+            Some(span) => *span,
+            None => Span { start: 0, end: 0 },
+        };
+        let end = span.end.min(self.size);
+        Span {
+            start: span.start.min(end),
+            end,
+        }
+    }
 }
 
 /// What the counts before a tree come to behind it, each the greatest word where it is more.
@@ -56,12 +81,19 @@ fn start_of_text(place: usize, text: &[u8]) -> usize
 
 /// Writes the rows of a tree's nodes, and their texts, behind the counts, and answers the counts behind them.
 #[cycle(put)]
-pub(crate) fn put_tree(nodes: &mut [Node], bytes: &mut [u8], tree: &Expr, before: Counts) -> Counts
+pub(crate) fn put_tree(
+    nodes: &mut [Node],
+    bytes: &mut [u8],
+    tree: &Expr,
+    spans: &Spans,
+    before: Counts,
+) -> Counts
     requires nodes_room { before.rows + length (listed (view tree.now)) ≤ length nodes.old }
     requires bytes_room { before.text + length (texts (listed (view tree.now))) ≤ length bytes.old }
     ensures behind { result.rows ≡ before.rows + length (listed (view tree.now)) }
     ensures text_behind { result.text ≡ before.text + length (texts (listed (view tree.now))) }
-    ensures nodes { nodes.new ≡ put_at nodes.old before.rows (rows before.rows before.text (listed (view tree.now))) }
+    ensures nodes { nodes.new ≡ put_at nodes.old before.rows
+        (rows (spans_in spans.now.size spans.now.list.items) before.rows before.text (listed (view tree.now))) }
     ensures bytes { bytes.new ≡ put_at bytes.old before.text (texts (listed (view tree.now))) }
 {
     let text = carried(tree);
@@ -69,10 +101,11 @@ pub(crate) fn put_tree(nodes: &mut [Node], bytes: &mut [u8], tree: &Expr, before
         rows: before.rows + 1,
         text: put_text(bytes, before.text, text),
     };
-    let behind = put_children(nodes, bytes, tree, first);
+    let behind = put_children(nodes, bytes, tree, spans, first);
     let stand = Stand {
         end: behind.rows,
         text: start_of_text(before.text, text),
+        span: spans.at(before.rows),
     };
     nodes[before.rows] = stand.row(tree);
     behind
@@ -80,19 +113,26 @@ pub(crate) fn put_tree(nodes: &mut [Node], bytes: &mut [u8], tree: &Expr, before
 
 /// Writes the rows of what stands in a node in the same way.
 #[cycle(put)]
-fn put_children(nodes: &mut [Node], bytes: &mut [u8], tree: &Expr, before: Counts) -> Counts
+fn put_children(
+    nodes: &mut [Node],
+    bytes: &mut [u8],
+    tree: &Expr,
+    spans: &Spans,
+    before: Counts,
+) -> Counts
     requires nodes_room { before.rows + length (listed_each (children (view tree.now))) ≤ length nodes.old }
     requires bytes_room { before.text + length (texts (listed_each (children (view tree.now)))) ≤ length bytes.old }
     ensures behind { result.rows ≡ before.rows + length (listed_each (children (view tree.now))) }
     ensures text_behind { result.text ≡ before.text + length (texts (listed_each (children (view tree.now)))) }
     ensures nodes { nodes.new ≡ put_at nodes.old before.rows
-        (rows before.rows before.text (listed_each (children (view tree.now)))) }
+        (rows (spans_in spans.now.size spans.now.list.items) before.rows before.text
+        (listed_each (children (view tree.now)))) }
     ensures bytes { bytes.new ≡ put_at bytes.old before.text (texts (listed_each (children (view tree.now)))) }
 {
     let mut behind = before;
     let mut children = tree.children_iter();
     while let Some(child) = children.next() {
-        behind = put_tree(nodes, bytes, child, behind);
+        behind = put_tree(nodes, bytes, child, spans, behind);
     }
     behind
 }

@@ -6,7 +6,7 @@ use Rattle.fancy_c.proofs.marks.put_numbers.Goals as goal
 pub loop-i-preserved : goal.loop-i-preserved
 loop-i-preserved c =
     let row : Name =
-    record { text = c.args.text; size = c.args.size; number = get_or c.args.numbers.now c.loop-i.i 0 } in
+    record { text = c.args.text; text_size = c.args.size; group = get_or c.args.numbers.now c.loop-i.i 0 } in
     let put : List Name → List Name = λ names. set names (c.args.first + c.loop-i.i) row in
     ap put c.loop-i.invariant
     ∙ number_put c.args.names.now c.args.first c.args.text c.args.size c.args.numbers.now c.loop-i.i c.requires

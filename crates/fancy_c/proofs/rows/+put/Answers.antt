@@ -2,7 +2,7 @@ use Rattle.std.proofs.Common.{◌+◌, ◌<◌, ◌∙◌, ap, sym, set, length,
 use Rattle.fancy_grammar.specs.Tree.{levels, children}
 use Rattle.fancy_syntax.specs.View.{view, views}
 use Rattle.fancy_syntax.proofs.Descents.{sweep_start, sweep_head, sweep_next, levels_of_child}
-use Rattle.fancy_c.specs.Node.{listed_each, rows, start_of_text}
+use Rattle.fancy_c.specs.Node.{listed_each, row, rows, start_of_text, spans_in}
 use Rattle.fancy_c.specs.Buffer.{put_at}
 use Rattle.fancy_c.proofs.RowLemmas.{putting_starts, putting_as, putting_next, putting_ends, putting_room, put_length}
 use Rattle.fancy_c.proofs.RowLemmas.{listed_length, texts_size, row_put, text_put, text_place}
@@ -11,7 +11,7 @@ use Rattle.fancy_c.proofs.rows.+put.Goals as goal
 pub put_children-loop-child-init : goal.put_children-loop-child-init
 put_children-loop-child-init t c = record {
   sweep = sweep_start _ c.args.tree.now _ c.children_iter-children.ensures.values;
-  putting = putting_starts _ _ _ _ _ _ (ap listed_each c.children_iter-children.ensures.trees) c.requires.nodes_room
+  putting = putting_starts _ _ _ _ _ _ _ (ap listed_each c.children_iter-children.ensures.trees) c.requires.nodes_room
       c.requires.bytes_room;
 }
 
@@ -32,29 +32,29 @@ put_children-loop-child-preserved t c =
     record {
       sweep = sweep_next _ c.args.tree.now c.in-Some.child.now _ _ c.loop-child.invariant.sweep c.in-Some.ensures.steps
           (record { here = tt; below = λ d b. tt });
-      putting = putting_next _ _ _ _ _ _ _ _ _ _ _ _ _ _ _
+      putting = putting_next _ _ _ _ _ _ _ _ _ _ _ _ _ _ _ _
           (putting_as _ (ap (λ es. listed_each (views es)) c.in-Some.ensures.steps) c.loop-child.invariant.putting)
           put.behind put.text_behind put.nodes put.bytes;
     }
 
 pub put_children-returns-clause-behind : goal.put_children-returns-clause-behind
 put_children-returns-clause-behind t c =
-    (putting_ends _ _ _ _ _ _ _ _ _ _ c.loop-child.invariant.putting
+    (putting_ends _ _ _ _ _ _ _ _ _ _ _ c.loop-child.invariant.putting
     (ap (λ es. listed_each (views es)) c.in_default.ensures.steps.0)).0
 
 pub put_children-returns-clause-text_behind : goal.put_children-returns-clause-text_behind
 put_children-returns-clause-text_behind t c =
-    (putting_ends _ _ _ _ _ _ _ _ _ _ c.loop-child.invariant.putting
+    (putting_ends _ _ _ _ _ _ _ _ _ _ _ c.loop-child.invariant.putting
     (ap (λ es. listed_each (views es)) c.in_default.ensures.steps.0)).1
 
 pub put_children-returns-clause-nodes : goal.put_children-returns-clause-nodes
 put_children-returns-clause-nodes t c =
-    (putting_ends _ _ _ _ _ _ _ _ _ _ c.loop-child.invariant.putting
+    (putting_ends _ _ _ _ _ _ _ _ _ _ _ c.loop-child.invariant.putting
     (ap (λ es. listed_each (views es)) c.in_default.ensures.steps.0)).2
 
 pub put_children-returns-clause-bytes : goal.put_children-returns-clause-bytes
 put_children-returns-clause-bytes t c =
-    (putting_ends _ _ _ _ _ _ _ _ _ _ c.loop-child.invariant.putting
+    (putting_ends _ _ _ _ _ _ _ _ _ _ _ c.loop-child.invariant.putting
     (ap (λ es. listed_each (views es)) c.in_default.ensures.steps.0)).3
 
 pub put_tree-put_text-requires : goal.put_tree-put_text-requires
@@ -96,11 +96,17 @@ put_tree-returns-clause-nodes t c =
     let n = c.args.before.rows in
     let put = c.put_children-behind.ensures in
     let at_text = text_place _ _ _ _ c.carried-text.ensures c.put_text.ensures.behind in
+    let spans = spans_in c.args.spans.now.size c.args.spans.now.list.items in
     ap (λ r. set c.put_children-behind.new.nodes n r) c.row.ensures
-    ∙ row_put tree c.args.nodes.now c.put_children-behind.new.nodes n c.args.before.text
+    ∙ ap (λ s. set c.put_children-behind.new.nodes n (row (record {
+      end = c.put_children-behind.result.rows;
+      text = c.start_of_text.result;
+      span = s;
+    }) tree)) c.at.ensures
+    ∙ row_put spans tree c.args.nodes.now c.put_children-behind.new.nodes n c.args.before.text
     c.put_children-behind.result.rows _ put.behind
     (c.start_of_text.ensures ∙ ap (start_of_text c.args.before.text) c.carried-text.ensures) c.requires.nodes_room
-    (put.nodes ∙ ap (λ o. put_at c.args.nodes.now (n + 1) (rows (n + 1) o (listed_each (children tree)))) at_text)
+    (put.nodes ∙ ap (λ o. put_at c.args.nodes.now (n + 1) (rows spans (n + 1) o (listed_each (children tree)))) at_text)
 
 pub put_tree-returns-clause-bytes : goal.put_tree-returns-clause-bytes
 put_tree-returns-clause-bytes t c =

@@ -1,0 +1,248 @@
+"""Compares what Python gets with recorded answers: `from_python.py FOLDER HEADER`, where the folder holds rows.tsv,
+numbered.tsv and texts.tsv. From the nodes and fields of `fancy.parse` it writes what `fre` writes. Besides, it runs the
+examples of the module's docstring, compares its numbers with those of the header, and positions and spans, in characters and
+in bytes, with those written here."""
+
+import doctest
+import pathlib
+import pickle
+import re
+import subprocess
+import sys
+import tempfile
+
+import fancy
+
+NAMES = {"BackrefAtLevel": "BackrefWithRelativeRecursionLevel", "Verb": "BacktrackingControlVerb"}
+LETTERS = "imsUxuRon"
+
+
+def flags_named(letters):
+    return fancy.Flag(0 if letters == "-" else sum(1 << LETTERS.index(letter) for letter in letters))
+
+
+def camel(kind):
+    return "".join(word.capitalize() for word in kind.name.split("_"))
+
+
+def boolean(value):
+    return "true" if value else "false"
+
+
+def hexed(text):
+    return (text if isinstance(text, bytes) else text.encode()).hex() or "-"
+
+
+def unhexed(field):
+    return bytes.fromhex("" if field == "-" else field)
+
+
+def target(node):
+    if isinstance(node.target, fancy.Relative):
+        return f"relative:{node.target.number}"
+    return f"number:{node.target}" if isinstance(node.target, int) else f"name:{hexed(node.target)}"
+
+
+def fields(node):
+    if isinstance(node, fancy.Any):
+        return f" newline={boolean(node.newline)} crlf={boolean(node.crlf)}"
+    if isinstance(node, fancy.Assertion):
+        asks = fancy.AssertionKind.END_TEXT_IGNORE_TRAILING_NEWLINES <= node.which <= fancy.AssertionKind.END_LINE
+        return f" {camel(node.which)}" + (f" crlf={boolean(node.crlf)}" if asks else "")
+    if isinstance(node, fancy.GeneralNewline):
+        return f" unicode={boolean(node.unicode)}"
+    if isinstance(node, (fancy.Literal, fancy.Delegate)):
+        return f" {hexed(node.text)} casei={boolean(node.casei)}"
+    if isinstance(node, fancy.LiteralBytes):
+        return f" {hexed(node.value)}"
+    if isinstance(node, fancy.LookAround):
+        return f" Look{camel(node.which)}"
+    if isinstance(node, (fancy.Verb, fancy.Absent)):
+        return f" {camel(node.which)}"
+    if isinstance(node, fancy.Repeat):
+        return f" {node.lo} {2**64 - 1 if node.hi is None else node.hi} greedy={boolean(node.greedy)}"
+    if isinstance(node, fancy.Backref):
+        return f" {node.group} casei={boolean(node.casei)}"
+    if isinstance(node, fancy.BackrefAtLevel):
+        return f" {node.group} {node.level} casei={boolean(node.casei)}"
+    if isinstance(node, fancy.BackrefExistsCondition):
+        return f" {node.group} {'none' if node.level is None else node.level}"
+    if isinstance(node, fancy.SubroutineCall):
+        return f" {node.group}"
+    if isinstance(node, fancy.AstNode):
+        return f" SubroutineCall {target(node)} {node.byte_position}"
+    return ""
+
+
+def lines(node, level=0):
+    yield f"{'  ' * level}{NAMES.get(node.kind, node.kind)}{fields(node)}"
+    for child in node.children:
+        yield from lines(child, level + 1)
+
+
+def information(tree):
+    named = ";".join(f"{hexed(name)}:{','.join(map(str, numbers))}" for name, numbers in tree.named_groups.items())
+    outside = "none" if tree.out_of_range_backref is None else tree.out_of_range_backref
+    return (
+        f"marks groups={tree.total_groups} backrefs={','.join(map(str, tree.backrefs)) or '-'} named={named or '-'}"
+        f" numeric={boolean(tree.numeric_capture_group_references)} calls={boolean(tree.contains_subroutines)}"
+        f" self={boolean(tree.self_recursive)} out_of_range={outside} ignored={boolean(tree.numbered_groups_ignored)}"
+    )
+
+
+def answer(pattern, flags):
+    """The status, and what `fre` writes on standard output and on standard error."""
+    try:
+        tree = fancy.parse(pattern, flags)
+    except fancy.Error as error:
+        return 1, "", f"Parsing error at position {error.byte_position}: {error.message}\n"
+    text = fancy.normal_form(pattern, flags)
+    printed = "none" if text is None else hexed(text)
+    return 0, "\n".join([*lines(tree.root), information(tree), f"text {printed}"]) + "\n", ""
+
+
+def are_spans_in_characters(pattern, flags):
+    """Whether the spans in characters and in bytes are the same parts of the pattern, and names those of the groups."""
+    if fancy.check(pattern, flags) is not None:
+        return True
+    tree, whole = fancy.parse(pattern, flags), pattern.encode()
+    numbers = {name: tuple(g.group for g in tree.walk() if isinstance(g, fancy.Group) and g.name == name) for name in tree.named_groups}
+    return numbers == tree.named_groups and all(
+        pattern[slice(*node.span)].encode() == whole[slice(*node.byte_span)] for node in tree.walk()
+    )
+
+
+def is_recorded(row):
+    if row[0] == "text":
+        return fancy.format(unhexed(row[2]).decode(), flags_named(row[1])).encode() == unhexed(row[3])
+    if not (row[0] == "-" or (row[0] and set(row[0]) <= set(LETTERS))):
+        return row[2] == "2"
+    status, out, err = int(row[2]), *(unhexed(field).decode() for field in row[3:5])
+    flags, given = flags_named(row[0]), unhexed(row[1])
+    pattern = given.decode()
+    return answer(pattern, flags) == answer(given, flags) == (status, out, err) and are_spans_in_characters(pattern, flags)
+
+
+def replay(file):
+    rows = [line.split("\t") for line in file.read_text().splitlines()]
+    rows = [row for row in rows if len(row) > 3]
+    different = [row for row in rows if not is_recorded(row)]
+    for row in different:
+        print("different:", *row)
+    print(f"{file.name}: {len(rows) - len(different)} same, {len(different)} different")
+    return bool(rows) and not different
+
+
+def is_error(pattern, kind, message, position, byte_position, lineno, colno):
+    """Whether the pattern has this error, raised and returned, also after it was pickled."""
+    try:
+        fancy.parse(pattern)
+    except fancy.Error as raised:
+        errors = [raised, fancy.check(pattern), pickle.loads(pickle.dumps(raised))]
+        return isinstance(raised, ValueError) and all(
+            (e.pattern, e.kind, e.message, e.position, e.byte_position, e.lineno, e.colno, e.msg, e.pos)
+            == (pattern, kind, message, position, byte_position, lineno, colno, message, position)
+            and str(e) == f"{message} at position {position}" and message.startswith(kind.text)
+            for e in errors
+        )  # fmt: skip
+    return False
+
+
+def spans(pattern, flags=fancy.UNICODE):
+    return [node.span for node in fancy.parse(pattern, flags).walk()]
+
+
+def are_errors_right():
+    kinds, unclosed = fancy.ErrorKind, "Opening parenthesis without closing parenthesis"
+    return (
+        is_error("(é", kinds.UNCLOSED_OPEN_PAREN, unclosed, 2, 3, 1, 3)
+        and is_error("(é".encode(), kinds.UNCLOSED_OPEN_PAREN, unclosed, 3, 3, 1, 4)
+        and is_error("é\nαβ)", kinds.GENERAL_PARSE_ERROR, fancy.check("a)").message, 4, 7, 2, 3)
+        and is_error("é(?#\\", kinds.UNCLOSED_OPEN_PAREN, unclosed, 6, 7, 1, 7)
+        and is_error(b"a\xffb", kinds.NOT_UTF8, "Not UTF-8", 1, 1, 1, 2)
+        and is_error("é\ud800", kinds.NOT_UTF8, "Not UTF-8", 1, 2, 1, 2)
+        and fancy.check("(a)") is None
+    )
+
+
+def are_trees_right():
+    deep = "(" * 63 + ")" * 63
+    named = fancy.parse("(?<n>a)(b)\\k<n>")
+    return (
+        spans("(a|b)c*") == [(0, 7), (0, 5), (1, 4), (1, 2), (3, 4), (5, 7), (5, 6)]
+        and spans("é[α-ω]é") == [(0, 7), (0, 1), (1, 6), (6, 7)]
+        and spans("é[α-ω]é".encode()) == [(0, 11), (0, 2), (2, 9), (9, 11)]
+        and spans("") == spans(b"") == [(0, 0)]
+        and fancy.parse("a(?:b)") == fancy.parse("a(?:b)")
+        and fancy.parse("a(?:b)").root == fancy.parse("ab").root != fancy.parse("ac").root
+        and [(g.group, g.name) for g in named.walk() if isinstance(g, fancy.Group)] == [(1, "n"), (2, None)]
+        and sum(1 for _ in fancy.parse(deep).walk()) == 64
+        and fancy.parse("a{2,}").root.hi is None
+        and len(list(fancy.parse("a" * 5000).walk())) == 5001
+        and fancy.format("(?x) a {2,2}  # twice") == "a{2}"
+        and fancy.normal_form("(?=a)") is None
+        and fancy.normal_form("a|b", precedence=fancy.Precedence.PIECE) == "(?:a|b)"
+    )
+
+
+def are_numbers_right(header):
+    """Whether the module's numbers are those of the header, each of them."""
+    enums = {
+        "FLAG": fancy.Flag, "ERROR": fancy.ErrorKind, "ASSERTION": fancy.AssertionKind, "LOOK": fancy.LookKind,
+        "VERB": fancy.VerbKind, "ABSENT": fancy.AbsentKind, "PRECEDENCE": fancy.Precedence,
+    }  # fmt: skip
+    numbers = {f"{prefix}_{it.name}": int(it) for prefix, enum in enums.items() for it in enum}
+    numbers["ERROR_NONE"] = numbers.pop("ERROR_NOT_UTF8")
+    for kind in fancy.Node.__subclasses__():
+        numbers["NODE" + re.sub("[A-Z]", lambda letter: f"_{letter[0]}", kind.__name__).upper()] = kind.number
+    written = dict(re.findall(r"FANCY_([A-Z_0-9]+) = (\d+)", header))
+    elsewhere = {name for name in written if name.startswith(("STATUS_", "TARGET_"))}
+    return numbers == {name: int(number) for name, number in written.items() if name not in elsewhere}
+
+
+def are_null_pointers_taken():
+    """Whether the library's own symbols, which the header's inline functions stand before in C, take null pointers."""
+    call, none = fancy._library, (None, 0)
+    got = [
+        call.fancy_check(*none, 0), call.fancy_message(*none, 0, *none), call.fancy_error_text(0, *none),
+        call.fancy_print(*none, 0, 0, *none), call.fancy_pattern(*none, 0, *none),
+        call.fancy_parse(*none, 0, *none, *none, *none, *none, None),
+    ]  # fmt: skip
+    return [it.status for it in got] == [0, 0, 0, 0, 0, 4]
+
+
+def is_command_right():
+    with tempfile.TemporaryDirectory() as folder:
+        file = pathlib.Path(folder, "patterns")
+        file.write_bytes("a(b|c)*\n(é\n[a\r\n".encode() + b"\xff\n(?=a)")
+        command = [sys.executable, "-m", "fancy"]
+        checked = subprocess.run([*command, "check", file], capture_output=True, text=True)
+        wanted = "2:3: Opening parenthesis without closing parenthesis", "3:3: Invalid character class", "4:1: Not UTF-8"
+        formatted = subprocess.run([*command, "format", "-"], input="(?: a|b)\n", capture_output=True, text=True)
+        missing = subprocess.run([*command, "check", f"{file}.none"], capture_output=True, text=True)
+        return (
+            (checked.returncode, checked.stderr) == (1, "")
+            and checked.stdout == "".join(f"{file}:{line}\n" for line in wanted)
+            and (formatted.returncode, formatted.stdout) == (0, " a|b\n")
+            and missing.returncode == 2
+            and subprocess.run([*command, "check", "--flags", "q"], capture_output=True).returncode == 2
+        )
+
+
+def main():
+    folder = pathlib.Path(sys.argv[1])
+    results = {
+        "the docstring": doctest.testmod(fancy).failed == 0,
+        "errors": are_errors_right(),
+        "trees": are_trees_right(),
+        "the command": is_command_right(),
+        "null pointers": are_null_pointers_taken(),
+        "the numbers": are_numbers_right(pathlib.Path(sys.argv[2]).read_text()),
+        "the recorded answers": all([replay(folder / f"{name}.tsv") for name in ("rows", "numbered", "texts")]),
+    }
+    failed = [name for name, is_right in results.items() if not is_right]
+    print("Python", fancy.__version__, "failed: " + ", ".join(failed) if failed else "passed")
+    return bool(failed)
+
+
+sys.exit(main())

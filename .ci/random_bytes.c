@@ -1,0 +1,149 @@
+// Random byte strings as patterns: `random_bytes SEED COUNT FILE` makes so many, parses each under random flags by every call,
+// and writes on the file a line for each that is UTF-8, as a recorded answer: what `examples/lines.c` says of it, to be
+// compared with `fre`. Of each other string it compares the status and the position with a check of its own. The same seed
+// makes the same strings. The status is 1 where an answer is wrong.
+#include "records.h"
+
+static uint64_t state;
+
+// xorshift64*
+static uint64_t draw(void) {
+    state ^= state >> 12;
+    state ^= state << 25;
+    state ^= state >> 27;
+    return state * 2685821657736338717u;
+}
+
+static size_t below(size_t bound) { return (size_t)((draw() >> 32) % bound); }
+
+static const char *const pieces[] = {
+    "(", ")", "(?:", "(?i)", "(?<n>", "(?'n'", "(?P<m>", "(?>", "(?=", "(?!", "(?<=", "(?<!", "(?~", "(?~|", "(?(1)", "(?(<n>)",
+    "(?(DEFINE)", "(?#", "(?x-i:", "[", "]", "[^", "&&", "[:alpha:]", "|", "*", "+", "?", "{2,3}", "{,4}", "{", "}", "^", "$", ".",
+    "\\", "\\d", "\\b", "\\b{start}", "\\p{", "\\p{Greek}", "\\x{41}", "\\u0041", "\\1", "\\12", "\\k<n>", "\\k<-1>", "\\k<n+1>",
+    "\\g<n>", "\\g<0>", "\\g<+1>", "(?&n)", "(?P=n)", "(*FAIL)", "(*X)", "\\K", "\\G", "\\R", "\\Q", "#", " ", "\n", "a", "b", "z",
+    "0", "1", "n", "-", "<", ">", "'", "!", "=", ":", ",", "\xc3\xa9", "\xce\xb1", "\xe2\x82\xac", "\xf0\x9f\x98\x80"};
+
+// Puts a string into the bytes, and returns its length: of any bytes, of ASCII, or of pieces of patterns, some of these with
+// a byte changed.
+static size_t make(unsigned char *bytes, size_t capacity) {
+    size_t kind = below(4), parts = below(10), length = 0;
+    for (size_t i = 0; i < parts; i++) {
+        if (kind == 0) bytes[length++] = (unsigned char)below(256);
+        else if (kind == 1) bytes[length++] = (unsigned char)below(128);
+        else {
+            const char *piece = pieces[below(sizeof pieces / sizeof *pieces)];
+            size_t size = strlen(piece);
+            if (length + size > capacity) break;
+            memcpy(bytes + length, piece, size);
+            length += size;
+        }
+    }
+    if (kind == 3 && length > 0) bytes[below(length)] = (unsigned char)below(256);
+    return length;
+}
+
+// How many bytes the character at the front has: 0 where there is none (table 3-7 of the Unicode standard).
+static size_t character(const unsigned char *s, size_t left) {
+    static const struct { unsigned char first, last, size, low, high; } rows[] = {
+        {0x00, 0x7F, 1, 0, 0},       {0xC2, 0xDF, 2, 0x80, 0xBF}, {0xE0, 0xE0, 3, 0xA0, 0xBF}, {0xE1, 0xEC, 3, 0x80, 0xBF},
+        {0xED, 0xED, 3, 0x80, 0x9F}, {0xEE, 0xEF, 3, 0x80, 0xBF}, {0xF0, 0xF0, 4, 0x90, 0xBF}, {0xF1, 0xF3, 4, 0x80, 0xBF},
+        {0xF4, 0xF4, 4, 0x80, 0x8F}};
+    for (size_t i = 0; i < sizeof rows / sizeof *rows; i++) {
+        if (s[0] < rows[i].first || s[0] > rows[i].last) continue;
+        if (rows[i].size > left) return 0;
+        if (rows[i].size > 1 && (s[1] < rows[i].low || s[1] > rows[i].high)) return 0;
+        for (size_t k = 2; k < rows[i].size; k++)
+            if (s[k] < 0x80 || s[k] > 0xBF) return 0;
+        return rows[i].size;
+    }
+    return 0;
+}
+
+static size_t valid_prefix(const unsigned char *s, size_t length) {
+    size_t at = 0, size;
+    while (at < length && (size = character(s + at, length - at)) > 0) at += size;
+    return at;
+}
+
+static bool is_not_utf8(fancy_result got, size_t position) {
+    return got.status == FANCY_STATUS_NOT_UTF8 && got.kind == FANCY_ERROR_NONE && got.position == position && got.size == 0;
+}
+
+// Whether each call says where the pattern stops to be UTF-8.
+static bool is_refused_by_all(const char *pattern, size_t length, uint32_t flags, size_t position) {
+    fancy_info info;
+    return is_not_utf8(fancy_check(pattern, length, flags), position) &&
+           is_not_utf8(fancy_message(pattern, length, flags, NULL, 0), position) &&
+           is_not_utf8(fancy_parse(pattern, length, flags, NULL, 0, NULL, 0, NULL, 0, NULL, 0, &info), position) &&
+           is_not_utf8(fancy_print(pattern, length, flags, 0, NULL, 0), position) &&
+           is_not_utf8(fancy_pattern(pattern, length, flags, NULL, 0), position);
+}
+
+// Whether the text that is written for the pattern's tree is written for its own tree too, under the same flags.
+static bool is_written(const char *pattern, size_t length, uint32_t flags) {
+    fancy_result size = fancy_pattern(pattern, length, flags, NULL, 0);
+    if (size.status == FANCY_STATUS_REFUSED) return fancy_check(pattern, length, flags).status == FANCY_STATUS_REFUSED;
+    char *text = malloc(size.size + 1), *again = malloc(size.size + 1);
+    fancy_result once = fancy_pattern(pattern, length, flags, text, size.size);
+    fancy_result twice = fancy_pattern(text, once.size, flags, again, once.size);
+    bool is_right = once.status == FANCY_STATUS_OK && twice.status == FANCY_STATUS_OK && once.size == size.size &&
+                    twice.size == size.size && memcmp(text, again, size.size) == 0;
+    free(text);
+    free(again);
+    return is_right;
+}
+
+static void write_flags(FILE *file, uint32_t flags) {
+    if (flags == 0) fputc('-', file);
+    for (int i = 0; i < 9; i++)
+        if (flags >> i & 1) fputc("imsUxuRon"[i], file);
+}
+
+static void write_record(FILE *file, const char *pattern, size_t length, uint32_t flags) {
+    answer now;
+    FILE *out = open_memstream(&now.out, &now.out_size), *err = open_memstream(&now.err, &now.err_size);
+    now.status = write_pattern(out, err, pattern, length, flags);
+    fclose(out);
+    fclose(err);
+    write_flags(file, flags);
+    fputc('\t', file);
+    write_hex(file, pattern, length);
+    fprintf(file, "\t%u\t", (unsigned)now.status);
+    write_hex(file, now.out, now.out_size);
+    fputc('\t', file);
+    write_hex(file, now.err, now.err_size);
+    fputc('\n', file);
+    forget(&now);
+}
+
+int main(int argument_count, char **arguments) {
+    if (argument_count != 4) return 2;
+    // far apart, also for seeds that follow one another
+    state = (strtoull(arguments[1], NULL, 10) + 1) * 11400714819323198485u;
+    size_t count = strtoull(arguments[2], NULL, 10), refused = 0, wrong = 0;
+    FILE *file = fopen(arguments[3], "w");
+    if (!file) return 2;
+    for (size_t i = 0; i < count; i++) {
+        unsigned char bytes[128];
+        size_t length = make(bytes, sizeof bytes);
+        uint32_t flags = (uint32_t)below(512);
+        // in memory of just its size, so that a read past the end is seen
+        char *pattern = malloc(length ? length : 1);
+        memcpy(pattern, bytes, length);
+        size_t prefix = valid_prefix(bytes, length);
+        bool is_right = true;
+        if (prefix < length) refused++, is_right = is_refused_by_all(pattern, length, flags, prefix);
+        else is_right = is_written(pattern, length, flags), write_record(file, pattern, length, flags);
+        free(pattern);
+        if (is_right) continue;
+        wrong++;
+        printf("wrong: ");
+        write_flags(stdout, flags);
+        putchar(' ');
+        write_hex(stdout, (const char *)bytes, length);
+        putchar('\n');
+    }
+    fclose(file);
+    printf("%zu strings, %zu of them not UTF-8: %zu wrong\n", count, refused, wrong);
+    return wrong > 0;
+}

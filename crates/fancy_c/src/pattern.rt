@@ -1,0 +1,101 @@
+//! The text of any pattern's tree, for the flags that the pattern was parsed under.
+ghost use Rattle.std.specs.Prelude.{◌≡◌, ◌≢◌, ◌<◌, ◌≤◌, ℕ, List, IfOk, MatchOption, length, string_bytes};
+ghost use Rattle.fancy_lex.specs.Fault.{Kind};
+ghost use Rattle.fancy_lex.specs.Flags.{flags_of};
+ghost use Rattle.fancy_grammar.specs.Pattern.{pattern_text};
+ghost use Rattle.fancy_grammar.specs.ReadAs.{IsReadAs};
+ghost use Rattle.fancy_syntax.specs.Answer.{marks_of};
+ghost use Rattle.fancy_syntax.specs.View.{view};
+ghost use Rattle.fancy_c.specs.Answer.{number_of_kind, IsFaultOfBytes, IsNoUtf8};
+ghost use Rattle.fancy_c.specs.Buffer.{Fills};
+ghost use Rattle.fancy_c.specs.Text.{IsPatternText, IsPatternTextOfBytes, HasNoPatternText};
+
+use crate::answer::{
+    Answer, ERROR_NONE, STATUS_BUFFER_TOO_SHORT, STATUS_NO_PATTERN, STATUS_NOT_PRINTABLE,
+    STATUS_NOT_UTF8, STATUS_OK, STATUS_OUT_OF_MEMORY, STATUS_REFUSED,
+};
+use crate::buffer::write;
+use crate::read::read;
+use fancy_syntax::tree::ExprTree;
+use std::alloc::{AllocError, Global};
+
+/// What is written for the tree, where that reads as the tree.
+fn pattern_of(alloc: Global, tree: &ExprTree, flags: u32) -> Result<Option<String>, AllocError>
+    ensures { IfOk result (λ text. MatchOption text
+        (IsReadAs (flags_of flags) (pattern_text (flags_of flags) (view tree.now.expr) (marks_of tree.now))
+        (view tree.now.expr) (marks_of tree.now) → ⊥)
+        (λ s. IsPatternText (flags_of flags) (view tree.now.expr) (marks_of tree.now) (string_bytes s))) }
+{
+    tree.to_pattern(alloc, flags)
+}
+
+/// Writes it at the front of the buffer, where there is one and that fits.
+fn put_pattern(alloc: Global, tree: &ExprTree, flags: u32, buffer: &mut [u8]) -> Answer
+    ensures read { result.status ≡ STATUS_OK → (w : List ℕ)
+        × IsPatternText (flags_of flags) (view tree.now.expr) (marks_of tree.now) w × (result.size ≡ length w)
+        × Fills buffer.old buffer.new w }
+    ensures short { result.status ≡ STATUS_BUFFER_TOO_SHORT → (w : List ℕ)
+        × IsPatternText (flags_of flags) (view tree.now.expr) (marks_of tree.now) w × (result.size ≡ length w)
+        × (length buffer.old < length w) }
+    ensures no_pattern { result.status ≡ STATUS_NO_PATTERN →
+        IsReadAs (flags_of flags) (pattern_text (flags_of flags) (view tree.now.expr) (marks_of tree.now))
+        (view tree.now.expr) (marks_of tree.now) → ⊥ }
+    ensures kept { result.status ≢ STATUS_OK → buffer.new ≡ buffer.old }
+    ensures fault { (result.status ≢ STATUS_REFUSED) × (result.status ≢ STATUS_NOT_UTF8) }
+    ensures printed { result.status ≢ STATUS_NOT_PRINTABLE }
+    ensures status { result.status ≤ STATUS_NO_PATTERN }
+    ensures no_kind { result.kind ≡ ERROR_NONE }
+    ensures no_position { result.position ≡ 0 }
+    ensures no_size { result.status ≢ STATUS_OK → result.status ≢ STATUS_BUFFER_TOO_SHORT → result.size ≡ 0 }
+{
+    match pattern_of(alloc, tree, flags) {
+        Ok(Some(text)) => write(buffer, text.as_bytes()),
+        Ok(None) => Answer {
+            status: STATUS_NO_PATTERN,
+            kind: ERROR_NONE,
+            position: 0,
+            size: 0,
+        },
+        Err(AllocError) => Answer {
+            status: STATUS_OUT_OF_MEMORY,
+            kind: ERROR_NONE,
+            position: 0,
+            size: 0,
+        },
+    }
+}
+
+/// Parses a pattern as `fancy_check_nonnull` does, and writes to the front of `buffer` a pattern that is parsed, under
+/// the same flags, as the same tree with the same group information; only the position of an unresolved call may
+/// differ. Every node and every name is written; comments and ignored whitespace are not. Returns `STATUS_OK` with the
+/// size of the text in bytes; `STATUS_BUFFER_TOO_SHORT` with that size if the text does not fit; `STATUS_NO_PATTERN` if
+/// what is written for the tree does not parse back as it, which no pattern is known for; else what
+/// `fancy_check_nonnull` returns. Unless it returns `STATUS_OK`, nothing is written.
+#[unsafe(no_mangle)]
+pub extern "C" fn fancy_pattern_nonnull(
+    alloc: Global,
+    pattern: &[u8],
+    flags: u32,
+    buffer: &mut [u8],
+) -> Answer
+    ensures read { result.status ≡ STATUS_OK → (w : List ℕ) × IsPatternTextOfBytes (flags_of flags) pattern.now w
+        × (result.size ≡ length w) × Fills buffer.old buffer.new w }
+    ensures short { result.status ≡ STATUS_BUFFER_TOO_SHORT → (w : List ℕ)
+        × IsPatternTextOfBytes (flags_of flags) pattern.now w
+        × (result.size ≡ length w) × (length buffer.old < length w) }
+    ensures no_pattern { result.status ≡ STATUS_NO_PATTERN → HasNoPatternText (flags_of flags) pattern.now }
+    ensures refused { result.status ≡ STATUS_REFUSED → (k : Kind) × (result.kind ≡ number_of_kind k)
+        × IsFaultOfBytes (flags_of flags) pattern.now k result.position }
+    ensures no_utf8 { result.status ≡ STATUS_NOT_UTF8 → IsNoUtf8 pattern.now result.position }
+    ensures kept { result.status ≢ STATUS_OK → buffer.new ≡ buffer.old }
+    ensures printed { result.status ≢ STATUS_NOT_PRINTABLE }
+    ensures status { result.status ≤ STATUS_NO_PATTERN }
+    ensures no_kind { result.status ≢ STATUS_REFUSED → result.kind ≡ ERROR_NONE }
+    ensures no_position { result.status ≢ STATUS_REFUSED → result.status ≢ STATUS_NOT_UTF8 → result.position ≡ 0 }
+    ensures no_size { result.status ≢ STATUS_OK → result.status ≢ STATUS_BUFFER_TOO_SHORT → result.size ≡ 0 }
+{
+    match read(alloc, pattern, flags) {
+        Ok(tree) => put_pattern(alloc, &tree, flags, buffer),
+        Err(refusal) => refusal.answer(),
+    }
+}

@@ -1,0 +1,20 @@
+//! The version of the library.
+ghost use Rattle.std.specs.Prelude.{◌≡◌, ◌+◌, ◌*◌};
+
+/// Counts changes after which a caller may have to change: a name that goes, another meaning, another layout.
+pub const VERSION_MAJOR: u32 = 1;
+
+/// Counts additions: a call, a status, a kind or a flag more. It begins again at 0 after each change of the major one.
+pub const VERSION_MINOR: u32 = 0;
+
+/// Counts corrections. It begins again at 0 after each change of the minor one.
+pub const VERSION_PATCH: u32 = 0;
+
+/// Returns the version of the library as one number: the major one times 1,000,000, plus the minor one times 1,000,
+/// plus the patch.
+#[unsafe(no_mangle)]
+pub extern "C" fn fancy_version() -> u32
+    ensures { result ≡ 1000000 * VERSION_MAJOR + 1000 * VERSION_MINOR + VERSION_PATCH }
+{
+    VERSION_MAJOR * 1_000_000 + VERSION_MINOR * 1_000 + VERSION_PATCH
+}

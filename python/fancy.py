@@ -1,0 +1,751 @@
+"""Patterns in the syntax of fancy-regex: parse them, check them, and write them in one form. They are not matched.
+
+    >>> import fancy
+    >>> tree = fancy.parse(r"(?<year>\\d{4})-")
+    >>> tree.named_groups
+    {'year': (1,)}
+    >>> [(type(node).__name__, node.span) for node in tree.walk()]
+    [('Concat', (0, 15)), ('Group', (0, 14)), ('Repeat', (8, 13)), ('Delegate', (8, 10)), ('Literal', (14, 15))]
+    >>> fancy.format("(?x) a {2,2}  # twice", fancy.UNICODE)
+    'a{2}'
+    >>> try:
+    ...     fancy.parse("(é")
+    ... except fancy.Error as error:
+    ...     print(error, error.byte_position)
+    Opening parenthesis without closing parenthesis at position 2 3
+
+A pattern is a `str`, or `bytes` that are UTF-8. A position or a span counts characters of a `str` and bytes of `bytes`, so
+that it can be used as an index; beside it stands the same in bytes of the UTF-8, as `byte_position` and `byte_span`.
+
+The work is done by the shared library libfancy, whose functions are proved to meet their contracts. It is the file that
+the environment variable FANCY_LIBRARY names; or else the one that `make -C c` built in this source tree; or else the one
+that is installed. Its functions may be called in several threads at once. Python 3.8 or later.
+
+On the command line, `python -m fancy check FILE` reports each line of a file that is not a valid pattern.
+"""
+
+from __future__ import annotations
+
+import argparse
+import bisect
+import ctypes
+import ctypes.util
+import enum
+import itertools
+import os
+import sys
+from dataclasses import dataclass, field
+from typing import Callable, ClassVar, Dict, Iterator, List, Optional, Sequence, Tuple, Type, Union
+
+Pattern = Union[str, bytes]
+Span = Tuple[int, int]
+
+
+# ---- flags, and kinds of things. The numbers are those of fancy.h.
+
+
+class Flag(enum.IntFlag):
+    """Flags of a pattern, to be combined by `|`."""
+
+    CASEI = 1
+    MULTI = 2
+    DOTNL = 4
+    SWAP_GREED = 8
+    IGNORE_SPACE = 16
+    UNICODE = 32
+    CRLF = 64
+    ONIGURUMA_MODE = 128
+    IGNORE_NUMBERED_GROUPS_WHEN_NAMED_GROUPS_EXIST = 256
+
+
+CASEI = Flag.CASEI
+MULTI = Flag.MULTI
+DOTNL = Flag.DOTNL
+SWAP_GREED = Flag.SWAP_GREED
+IGNORE_SPACE = Flag.IGNORE_SPACE
+UNICODE = Flag.UNICODE
+CRLF = Flag.CRLF
+ONIGURUMA_MODE = Flag.ONIGURUMA_MODE
+IGNORE_NUMBERED_GROUPS_WHEN_NAMED_GROUPS_EXIST = Flag.IGNORE_NUMBERED_GROUPS_WHEN_NAMED_GROUPS_EXIST
+
+_LETTERS = "imsUxuRon"  # of the flags, in the order of their bits
+
+
+class ErrorKind(enum.IntEnum):
+    """Kinds of errors."""
+
+    NOT_UTF8 = 0  #: the pattern is not UTF-8: bytes that are none, or a str with a lone surrogate
+    GENERAL_PARSE_ERROR = 1
+    UNCLOSED_OPEN_PAREN = 2
+    INVALID_REPEAT = 3
+    RECURSION_EXCEEDED = 4
+    TRAILING_BACKSLASH = 5
+    INVALID_ESCAPE = 6
+    UNCLOSED_UNICODE_NAME = 7
+    INVALID_HEX = 8
+    INVALID_CODEPOINT_VALUE = 9
+    INVALID_CLASS = 10
+    UNKNOWN_FLAG = 11
+    CHANGING_UNICODE_MODE_UNSUPPORTED = 12
+    INVALID_BACKREF = 13
+    TARGET_NOT_REPEATABLE = 14
+    INVALID_GROUP_NAME = 15
+    INVALID_GROUP_NAME_BACKREF = 16
+
+    @property
+    def text(self) -> str:
+        """The message of this kind; of four kinds, what comes before a text from the pattern, with which it ends."""
+        if self is ErrorKind.NOT_UTF8:
+            return "Not UTF-8"
+        return _text(lambda buffer, capacity: _library.fancy_error_text(self, buffer, capacity))[1].decode()
+
+
+class AssertionKind(enum.IntEnum):
+    """Which assertion an `Assertion` is."""
+
+    START_TEXT = 1
+    END_TEXT = 2
+    END_TEXT_IGNORE_TRAILING_NEWLINES = 3
+    START_LINE = 4
+    START_LINE_ONIGURUMA = 5
+    END_LINE = 6
+    LEFT_WORD_BOUNDARY = 7
+    LEFT_WORD_HALF_BOUNDARY = 8
+    RIGHT_WORD_BOUNDARY = 9
+    RIGHT_WORD_HALF_BOUNDARY = 10
+    WORD_BOUNDARY = 11
+    NOT_WORD_BOUNDARY = 12
+
+
+class LookKind(enum.IntEnum):
+    """Which look-around a `LookAround` is."""
+
+    AHEAD = 1
+    AHEAD_NEG = 2
+    BEHIND = 3
+    BEHIND_NEG = 4
+
+
+class VerbKind(enum.IntEnum):
+    """Which verb a `Verb` is."""
+
+    FAIL = 1
+    ACCEPT = 2
+    COMMIT = 3
+    SKIP = 4
+    PRUNE = 5
+
+
+class AbsentKind(enum.IntEnum):
+    """Which absent expression an `Absent` is."""
+
+    REPEATER = 1
+    EXPRESSION = 2
+    STOPPER = 3
+    CLEAR = 4
+
+
+class Precedence(enum.IntEnum):
+    """What a printed text is to be: a whole pattern, a branch of an alternation, a part of a concatenation, or the
+    operand of a quantifier."""
+
+    WHOLE = 0
+    BRANCH = 1
+    PIECE = 2
+    OPERAND = 3
+
+
+# ---- errors
+
+
+class Error(ValueError):
+    """Why a pattern is invalid. A pattern has at most one error."""
+
+    pattern: Pattern  #: as it was given
+    kind: ErrorKind
+    message: str  #: without the position
+    position: int  #: an index into `pattern`, at most one past its end
+    byte_position: int  #: the same in bytes of the UTF-8
+    lineno: int  #: the line of the position, from 1
+    colno: int  #: its column, in characters or bytes as `position`, from 1
+
+    def __init__(self, pattern: Pattern, kind: ErrorKind, message: str, position: int, byte_position: int) -> None:
+        super().__init__(f"{message} at position {position}")
+        self.pattern, self.kind, self.message = pattern, kind, message
+        self.position, self.byte_position = position, byte_position
+        newline, before = ("\n", pattern[:position]) if isinstance(pattern, str) else (b"\n", pattern[:position])
+        self.lineno = before.count(newline) + 1  # type: ignore[arg-type]
+        self.colno = position - before.rfind(newline)  # type: ignore[arg-type]
+
+    def __reduce__(self) -> Tuple[Type[Error], Tuple[Pattern, ErrorKind, str, int, int]]:
+        return Error, (self.pattern, self.kind, self.message, self.position, self.byte_position)
+
+    @property
+    def msg(self) -> str:
+        """The message, under the name that `re.error` has for it."""
+        return self.message
+
+    @property
+    def pos(self) -> int:
+        """The position, under the name that `re.error` has for it."""
+        return self.position
+
+
+# ---- nodes
+
+
+@dataclass(frozen=True)
+class Node:
+    """A node of a tree. Nodes are equal if their kinds, their fields and their children are; spans are not compared."""
+
+    span: Span = field(compare=False)  #: the part of the pattern: `pattern[start:stop]`
+    byte_span: Span = field(compare=False)  #: the same in bytes of the UTF-8
+    children: Tuple[Node, ...]
+    number: ClassVar[int] = 0  #: of the kind, in fancy.h
+
+    @property
+    def kind(self) -> str:
+        """The name of the kind, as "Literal"."""
+        return type(self).__name__
+
+    def walk(self) -> Iterator[Node]:
+        """The node and its descendants in preorder: each before its children, these in the order of the pattern."""
+        ahead: List[Node] = [self]
+        while ahead:
+            node = ahead.pop()
+            yield node
+            ahead.extend(reversed(node.children))
+
+
+@dataclass(frozen=True)
+class Empty(Node):
+    """Nothing."""
+
+
+@dataclass(frozen=True)
+class Any(Node):
+    """Any character: `.`"""
+
+    newline: bool  #: it matches a line break too
+    crlf: bool  #: CR is a line break, and CR LF a single one
+
+
+@dataclass(frozen=True)
+class Assertion(Node):
+    """An assertion, as `^`, `$`, `\\b`."""
+
+    which: AssertionKind
+    crlf: bool  #: CR is a line break, and CR LF a single one
+
+
+@dataclass(frozen=True)
+class GeneralNewline(Node):
+    """A line break: `\\R`"""
+
+    unicode: bool  #: the line breaks of Unicode count too
+
+
+@dataclass(frozen=True)
+class Literal(Node):
+    """A text: of a parsed pattern, one character."""
+
+    text: str
+    casei: bool
+
+
+@dataclass(frozen=True)
+class LiteralBytes(Node):
+    """Bytes."""
+
+    value: bytes
+
+
+@dataclass(frozen=True)
+class Concat(Node):
+    """Its children one after another."""
+
+
+@dataclass(frozen=True)
+class Alt(Node):
+    """One of its children: `a|b`"""
+
+
+@dataclass(frozen=True)
+class Group(Node):
+    """A capturing group."""
+
+    group: int  #: its number, from 1
+    name: Optional[str]
+
+
+@dataclass(frozen=True)
+class LookAround(Node):
+    """A look-ahead or a look-behind."""
+
+    which: LookKind
+
+
+@dataclass(frozen=True)
+class Repeat(Node):
+    """Its child, repeated."""
+
+    lo: int
+    hi: Optional[int]  #: None for no bound
+    greedy: bool
+
+
+@dataclass(frozen=True)
+class Delegate(Node):
+    """A character class, a class escape or a property, as its text."""
+
+    text: str
+    casei: bool
+
+
+@dataclass(frozen=True)
+class Backref(Node):
+    """A back reference to a group."""
+
+    group: int
+    casei: bool
+
+
+@dataclass(frozen=True)
+class BackrefAtLevel(Node):
+    """A back reference to a group at a recursion level."""
+
+    group: int
+    level: int
+    casei: bool
+
+
+@dataclass(frozen=True)
+class AtomicGroup(Node):
+    """An atomic group: `(?>a)`"""
+
+
+@dataclass(frozen=True)
+class KeepOut(Node):
+    """`\\K`"""
+
+
+@dataclass(frozen=True)
+class ContinueFromPreviousMatchEnd(Node):
+    """`\\G`"""
+
+
+@dataclass(frozen=True)
+class BackrefExistsCondition(Node):
+    """The condition that a group has matched."""
+
+    group: int
+    level: Optional[int]
+
+
+@dataclass(frozen=True)
+class Conditional(Node):
+    """Three children: the condition, the branch if it holds, and the other branch."""
+
+
+@dataclass(frozen=True)
+class SubroutineCall(Node):
+    """A call of a group; of the whole pattern if the number is 0."""
+
+    group: int
+
+
+@dataclass(frozen=True)
+class Verb(Node):
+    """A verb, as `(*FAIL)`."""
+
+    which: VerbKind
+
+
+@dataclass(frozen=True)
+class Absent(Node):
+    """An absent expression, as `(?~a)`."""
+
+    which: AbsentKind
+
+
+@dataclass(frozen=True)
+class DefineGroup(Node):
+    """`(?(DEFINE)..)`"""
+
+
+@dataclass(frozen=True)
+class Relative:
+    """A relative number of a group, in an unresolved call."""
+
+    number: int
+
+
+@dataclass(frozen=True)
+class AstNode(Node):
+    """A call that cannot be resolved."""
+
+    target: Union[int, str, Relative]  #: the number, the name or the relative number that it has
+    position: int  #: where it is, as an index into the pattern
+    byte_position: int  #: the same in bytes of the UTF-8
+
+
+_KINDS: List[Type[Node]] = [
+    Empty, Any, Assertion, GeneralNewline, Literal, LiteralBytes, Concat, Alt, Group, LookAround, Repeat, Delegate, Backref,
+    BackrefAtLevel, AtomicGroup, KeepOut, ContinueFromPreviousMatchEnd, BackrefExistsCondition, Conditional, SubroutineCall,
+    Verb, Absent, DefineGroup, AstNode,
+]  # fmt: skip
+for _number, _kind in enumerate(_KINDS, 1):
+    _kind.number = _number
+
+
+@dataclass(frozen=True)
+class Tree:
+    """The tree of a pattern, with its group information."""
+
+    pattern: Pattern  #: as it was given
+    flags: Flag
+    root: Node
+    total_groups: int  #: how many groups have a number
+    named_groups: Dict[str, Tuple[int, ...]]  #: the group numbers of each name, ascending
+    backrefs: Tuple[int, ...]  #: the group numbers of back references, up to `total_groups`; 0 too
+    numeric_capture_group_references: bool  #: the pattern has a back reference in digits, or a call by number
+    contains_subroutines: bool  #: the pattern has a subroutine call
+    self_recursive: bool  #: the pattern calls itself by the number 0
+    out_of_range_backref: Optional[int]  #: the number of the first back reference above `total_groups`
+    numbered_groups_ignored: bool  #: groups without a name have no number
+
+    def walk(self) -> Iterator[Node]:
+        """All nodes in preorder."""
+        return self.root.walk()
+
+
+# ---- the library
+
+
+class _Result(ctypes.Structure):
+    _fields_ = [
+        ("status", ctypes.c_uint32), ("kind", ctypes.c_uint32), ("position", ctypes.c_size_t), ("size", ctypes.c_size_t),
+    ]  # fmt: skip
+
+
+class _Node(ctypes.Structure):
+    _fields_ = [
+        ("kind", ctypes.c_uint32), ("which", ctypes.c_uint32), ("end", ctypes.c_size_t), ("text", ctypes.c_size_t),
+        ("text_size", ctypes.c_size_t), ("lo", ctypes.c_size_t), ("hi", ctypes.c_size_t), ("group", ctypes.c_size_t),
+        ("level", ctypes.c_ssize_t), ("position", ctypes.c_size_t), ("start", ctypes.c_size_t), ("stop", ctypes.c_size_t),
+        ("newline", ctypes.c_bool), ("crlf", ctypes.c_bool), ("unicode", ctypes.c_bool), ("casei", ctypes.c_bool),
+        ("greedy", ctypes.c_bool), ("has_level", ctypes.c_bool),
+    ]  # fmt: skip
+
+
+class _Name(ctypes.Structure):
+    _fields_ = [("text", ctypes.c_size_t), ("text_size", ctypes.c_size_t), ("group", ctypes.c_size_t)]
+
+
+class _Info(ctypes.Structure):
+    _fields_ = [
+        ("node_count", ctypes.c_size_t), ("texts_size", ctypes.c_size_t), ("name_count", ctypes.c_size_t),
+        ("backref_count", ctypes.c_size_t), ("total_groups", ctypes.c_size_t), ("out_of_range_backref", ctypes.c_size_t),
+        ("has_out_of_range_backref", ctypes.c_bool), ("numeric_capture_group_references", ctypes.c_bool),
+        ("contains_subroutines", ctypes.c_bool), ("self_recursive", ctypes.c_bool),
+        ("numbered_groups_ignored", ctypes.c_bool),
+    ]  # fmt: skip
+
+
+_OK, _REFUSED, _NOT_UTF8, _OUT_OF_MEMORY, _BUFFER_TOO_SHORT, _NOT_PRINTABLE, _NO_PATTERN = range(7)
+_UNBOUNDED = ctypes.c_size_t(-1).value
+_MAJOR = 1
+
+
+def _load() -> ctypes.CDLL:
+    built = os.path.join(os.path.dirname(os.path.abspath(__file__)), "..", "c", "out", f"libfancy.so.{_MAJOR}")
+    name = os.environ.get("FANCY_LIBRARY") or (built if os.path.exists(built) else f"libfancy.so.{_MAJOR}")
+    try:
+        library = ctypes.CDLL(name)
+    except OSError as error:
+        found = ctypes.util.find_library("fancy") if "FANCY_LIBRARY" not in os.environ else None
+        if found is None:
+            raise ImportError(f"the library libfancy cannot be loaded: {error}") from error
+        library = ctypes.CDLL(found)
+    pattern = [ctypes.c_char_p, ctypes.c_size_t, ctypes.c_uint32]
+    buffer = [ctypes.c_void_p, ctypes.c_size_t]
+    library.fancy_version.argtypes, library.fancy_version.restype = [], ctypes.c_uint32
+    for call, arguments in {
+        "fancy_check": pattern,
+        "fancy_message": pattern + buffer,
+        "fancy_error_text": [ctypes.c_uint32] + buffer,
+        "fancy_parse": pattern + 4 * buffer + [ctypes.POINTER(_Info)],
+        "fancy_print": pattern + [ctypes.c_uint8] + buffer,
+        "fancy_pattern": pattern + buffer,
+    }.items():
+        function = getattr(library, call)
+        function.argtypes, function.restype = arguments, _Result
+    major = library.fancy_version() // 1_000_000
+    if major != _MAJOR:
+        raise ImportError(f"{name} has the major version {major}, and {_MAJOR} is needed")
+    return library
+
+
+_library = _load()
+
+
+def _version() -> str:
+    number = _library.fancy_version()
+    return f"{number // 1_000_000}.{number // 1000 % 1000}.{number % 1000}"
+
+
+__version__ = _version()  #: of the library
+
+
+def _text(call: Callable[[Optional[ctypes.Array], int], _Result]) -> Tuple[_Result, bytes]:
+    """What a call returns, and the text that it writes, into a buffer that is large enough."""
+    capacity = 256
+    while True:
+        buffer = ctypes.create_string_buffer(capacity)
+        got = call(buffer, capacity)
+        if got.status != _BUFFER_TOO_SHORT:
+            return got, buffer.raw[: got.size]
+        capacity = got.size
+
+
+class _Source:
+    """A pattern as the library takes it, and its positions."""
+
+    def __init__(self, pattern: Pattern, flags: int) -> None:
+        if not isinstance(pattern, (str, bytes)):
+            raise TypeError(f"a pattern is str or bytes, not {type(pattern).__name__}")
+        self.pattern, self.flags = pattern, Flag(flags)
+        # a lone surrogate is handed on, to be refused as what is not UTF-8
+        self.bytes = pattern.encode("utf-8", "surrogatepass") if isinstance(pattern, str) else pattern
+        self.arguments = (self.bytes, len(self.bytes), int(flags))
+        self._starts: Optional[List[int]] = None
+        if isinstance(pattern, str) and len(self.bytes) != len(pattern):
+            sizes = (len(character.encode("utf-8", "surrogatepass")) for character in pattern)
+            self._starts = list(itertools.accumulate(sizes, initial=0))
+
+    def index(self, offset: int) -> int:
+        """The index into the pattern of a byte offset, which may be one past the end."""
+        if self._starts is None:
+            return offset
+        past = max(offset - len(self.bytes), 0)
+        return bisect.bisect_left(self._starts, offset - past) + past
+
+    def span(self, node: _Node) -> Span:
+        return self.index(node.start), self.index(node.stop)
+
+    def error(self, got: _Result, message: str) -> Error:
+        kind = ErrorKind(got.kind)
+        return Error(self.pattern, kind, message, self.index(got.position), got.position)
+
+    def refusal(self) -> Optional[Error]:
+        """The error of the pattern, if it has one."""
+        got, message = _text(lambda buffer, capacity: _library.fancy_message(*self.arguments, buffer, capacity))
+        if got.status == _OK:
+            return None
+        if got.status == _OUT_OF_MEMORY:
+            raise MemoryError
+        return self.error(got, message.decode() if got.status == _REFUSED else ErrorKind.NOT_UTF8.text)
+
+    def text(self, call: Callable[[Optional[ctypes.Array], int], _Result]) -> Tuple[int, str]:
+        """The status of a call, and the text that it writes. Raises the error of a pattern that is not valid."""
+        got, text = _text(call)
+        if got.status == _OUT_OF_MEMORY:
+            raise MemoryError
+        if got.status in (_REFUSED, _NOT_UTF8):
+            raise self.refusal() or AssertionError
+        return got.status, text.decode()
+
+
+class _Builder:
+    """Makes the nodes of a tree from the rows that the library writes."""
+
+    def __init__(self, source: _Source, rows: Sequence[_Node], texts: bytes, names: Dict[int, str]) -> None:
+        self.source, self.rows, self.texts, self.names = source, rows, texts, names
+        # of each row, how many groups there are up to it
+        self.groups = list(itertools.accumulate(int(row.kind == Group.number) for row in rows))
+
+    def root(self) -> Node:
+        """The node of the first row, with all the others below it."""
+        apart: List[Tuple[int, Node]] = []  # nodes without a parent as yet, with their indices, the first on top
+        for at in range(len(self.rows) - 1, -1, -1):
+            row, children = self.rows[at], []
+            while apart and apart[-1][0] < row.end:
+                children.append(apart.pop()[1])
+            kind = _KINDS[row.kind - 1]
+            fields = self.fields(at, row, kind)
+            apart.append((at, kind(self.source.span(row), (row.start, row.stop), tuple(children), *fields)))
+        return apart[0][1]
+
+    def fields(self, at: int, row: _Node, kind: Type[Node]) -> tuple:
+        """The fields that a node has beside those of each, in order."""
+        text = self.texts[row.text : row.text + row.text_size]
+        if kind is Group:
+            return self.groups[at], self.names.get(self.groups[at])
+        if kind in (Literal, Delegate):
+            return text.decode(), row.casei
+        if kind is LiteralBytes:
+            return (text,)
+        if kind is Repeat:
+            return row.lo, None if row.hi == _UNBOUNDED else row.hi, row.greedy
+        if kind is Any:
+            return row.newline, row.crlf
+        if kind is Assertion:
+            return AssertionKind(row.which), row.crlf
+        if kind is GeneralNewline:
+            return (row.unicode,)
+        if kind in _WHICH:
+            return (_WHICH[kind](row.which),)
+        if kind is Backref:
+            return row.group, row.casei
+        if kind is BackrefAtLevel:
+            return row.group, row.level, row.casei
+        if kind is BackrefExistsCondition:
+            return row.group, row.level if row.has_level else None
+        if kind is SubroutineCall:
+            return (row.group,)
+        if kind is AstNode:
+            target = (row.group, text.decode(), Relative(row.level))[row.which - 1]
+            return target, self.source.index(row.position), row.position
+        return ()
+
+
+_WHICH: Dict[Type[Node], Type[enum.IntEnum]] = {LookAround: LookKind, Verb: VerbKind, Absent: AbsentKind}
+
+
+def _named_groups(names: ctypes.Array, texts: bytes) -> Dict[str, Tuple[int, ...]]:
+    named: Dict[str, Tuple[int, ...]] = {}
+    for row in names:
+        name = texts[row.text : row.text + row.text_size].decode()
+        named[name] = (*named.get(name, ()), row.group)
+    return named
+
+
+# ---- what a caller calls
+
+
+def parse(pattern: Pattern, flags: int = UNICODE) -> Tree:
+    """Parses a pattern. Raises `Error` if it is invalid."""
+    source, info = _Source(pattern, flags), _Info()
+    # of n bytes there are at most 2 n + 1 nodes; for the rest, try as much as most patterns need
+    nodes = (_Node * min(2 * len(source.bytes) + 1, 1024))()
+    texts = ctypes.create_string_buffer(2 * len(source.bytes) + 64)
+    names, backrefs = (_Name * 16)(), (ctypes.c_size_t * 16)()
+    while True:
+        got = _library.fancy_parse(
+            *source.arguments, nodes, len(nodes), texts, len(texts), names, len(names), backrefs, len(backrefs),
+            ctypes.byref(info),
+        )  # fmt: skip
+        if got.status != _BUFFER_TOO_SHORT:
+            break
+        nodes, texts = (_Node * info.node_count)(), ctypes.create_string_buffer(max(info.texts_size, 1))
+        names, backrefs = (_Name * info.name_count)(), (ctypes.c_size_t * info.backref_count)()
+    if got.status == _OUT_OF_MEMORY:
+        raise MemoryError
+    if got.status != _OK:
+        raise source.refusal() or AssertionError
+    written = texts.raw[: info.texts_size]
+    named = _named_groups(names[: info.name_count], written)
+    by_number = {number: name for name, numbers in named.items() for number in numbers}
+    return Tree(
+        pattern=pattern,
+        flags=source.flags,
+        root=_Builder(source, nodes[: info.node_count], written, by_number).root(),
+        total_groups=info.total_groups,
+        named_groups=named,
+        backrefs=tuple(backrefs[: info.backref_count]),
+        numeric_capture_group_references=info.numeric_capture_group_references,
+        contains_subroutines=info.contains_subroutines,
+        self_recursive=info.self_recursive,
+        out_of_range_backref=info.out_of_range_backref if info.has_out_of_range_backref else None,
+        numbered_groups_ignored=info.numbered_groups_ignored,
+    )
+
+
+def check(pattern: Pattern, flags: int = UNICODE) -> Optional[Error]:
+    """Returns the error of a pattern, which it does not raise, or None if the pattern is valid."""
+    return _Source(pattern, flags).refusal()
+
+
+def format(pattern: Pattern, flags: int = UNICODE) -> str:
+    """Returns a pattern that is parsed, under the same flags, as the same tree with the same groups and names. Comments,
+    ignored whitespace, and how a thing was written are lost. Raises `Error` if the pattern is invalid; RuntimeError if
+    what is written does not parse back as the tree, which no pattern is known for."""
+    source = _Source(pattern, flags)
+    status, text = source.text(
+        lambda buffer, capacity: _library.fancy_pattern(*source.arguments, buffer, capacity)
+    )
+    if status == _NO_PATTERN:
+        raise RuntimeError("what is written for the tree does not parse back as it")
+    return text
+
+
+def normal_form(pattern: Pattern, flags: int = UNICODE, precedence: int = Precedence.WHOLE) -> Optional[str]:
+    """Returns the text of a pattern's tree in its normal form, or None if the tree is not printable: references,
+    look-arounds, atomic groups, calls and the like have no text here. Raises `Error` if the pattern is invalid."""
+    source = _Source(pattern, flags)
+    status, text = source.text(
+        lambda buffer, capacity: _library.fancy_print(*source.arguments, precedence, buffer, capacity)
+    )
+    return None if status == _NOT_PRINTABLE else text
+
+
+# ---- the command line
+
+
+def _flags(letters: str) -> Flag:
+    if letters != "-" and (not letters or not set(letters) <= set(_LETTERS)):
+        raise argparse.ArgumentTypeError(f"the letters are {_LETTERS}, or - for none")
+    return Flag(sum(1 << _LETTERS.index(letter) for letter in set(letters) - {"-"}))
+
+
+def _lines(name: str) -> Iterator[Tuple[int, Pattern]]:
+    """The patterns of a file, each with the number of its line. A line that is not UTF-8 comes as its bytes."""
+    if name == "-":
+        content = sys.stdin.buffer.read()
+    else:
+        with open(name, "rb") as file:
+            content = file.read()
+    lines = content.split(b"\n")
+    if lines[-1] == b"":
+        lines.pop()
+    for number, line in enumerate(lines, 1):
+        line = line[:-1] if line.endswith(b"\r") else line
+        try:
+            yield number, line.decode()
+        except UnicodeDecodeError:
+            yield number, line
+
+
+def _main(arguments: Optional[Sequence[str]] = None) -> int:
+    parser = argparse.ArgumentParser(prog="python -m fancy", description="Checks and formats files of patterns.")
+    parser.add_argument("--version", action="version", version=f"libfancy {__version__}")
+    subcommands = parser.add_subparsers(dest="subcommand", required=True, metavar="check|format")
+    for name, summary in {
+        "check": "reports each line that is not a valid pattern, as FILE:LINE:COLUMN: message",
+        "format": "writes each pattern in one form, or as it is if it is invalid",
+    }.items():
+        subcommand = subcommands.add_parser(name, help=summary, description=f"{name} {summary}.")
+        subcommand.add_argument("--flags", type=_flags, default=UNICODE, metavar="LETTERS", help=f"of {_LETTERS}")
+        subcommand.add_argument("files", nargs="*", default=["-"], metavar="FILE", help="one pattern per line; - is standard input")
+    given = parser.parse_args(arguments)
+    status = 0
+    for file in given.files:
+        try:
+            for number, pattern in _lines(file):
+                error = check(pattern, given.flags)
+                if error is not None:
+                    status = max(status, 1)
+                    where = sys.stdout if given.subcommand == "check" else sys.stderr
+                    print(f"{file}:{number}:{error.position + 1}: {error.message}", file=where)
+                if given.subcommand == "format":
+                    text = pattern if error is not None else format(pattern, given.flags)
+                    sys.stdout.flush()
+                    sys.stdout.buffer.write((text.encode() if isinstance(text, str) else text) + b"\n")
+        except OSError as error:
+            print(f"{file}: {error.strerror}", file=sys.stderr)
+            status = 2
+    return status
+
+
+if __name__ == "__main__":
+    sys.exit(_main())
