@@ -1,8 +1,8 @@
 /* Patterns of fancy-regex, parsed and printed by proved code.
  *
- * Each call parses a pattern anew, keeps nothing, and owns nothing when it returns. It writes into buffers of the caller,
- * from their start, never past their end, and the whole of a text or a tree or nothing. docs/from-c.md says how to build
- * and link the library, what is proved, and what the caller has to guarantee.
+ * Each call parses a pattern anew, keeps nothing, and owns nothing when it returns. It writes to buffers of the caller,
+ * from their start and never past their end: either a whole text or tree, or nothing. docs/from-c.md says how to build and
+ * link the library, what is proved, and what the caller has to guarantee.
  *
  * A pattern is UTF-8 and need not be NUL-terminated. Lengths, sizes, positions and the capacities of text buffers are in
  * bytes; the capacities for nodes, names and back references are counts of items. A pointer may be null if its length or
@@ -15,7 +15,8 @@
 #include <stddef.h>
 #include <stdint.h>
 
-/* The version of this header. fancy_version returns that of the library. CHANGELOG.md says what a change of each means. */
+/* The version of this header. fancy_version returns that of the library. CHANGELOG.md says what a change of each number
+ * means. */
 #define FANCY_VERSION_MAJOR 1
 #define FANCY_VERSION_MINOR 0
 #define FANCY_VERSION_PATCH 0
@@ -32,21 +33,23 @@ enum {
     FANCY_FLAG_DOTNL = 4,        /* . matches a line feed too */
     FANCY_FLAG_SWAP_GREED = 8,   /* quantifiers are lazy, and greedy with a ? after them */
     FANCY_FLAG_IGNORE_SPACE = 16, /* whitespace and comments from # to the end of a line are ignored */
-    FANCY_FLAG_UNICODE = 32,     /* classes and escapes are those of Unicode */
+    FANCY_FLAG_UNICODE = 32,     /* \p{alnum} and the like, \x80 to \xFF and \R are those of Unicode */
     FANCY_FLAG_CRLF = 64,        /* CR is a line break, and CR LF a single one */
     FANCY_FLAG_ONIGURUMA_MODE = 128, /* the pattern is in Oniguruma's syntax */
+    /* if some group has a name, groups without a name have no number */
     FANCY_FLAG_IGNORE_NUMBERED_GROUPS_WHEN_NAMED_GROUPS_EXIST = 256
 };
 
-/* What became of a call. All these numbers, here and below, never change. */
+/* The status of a call. These numbers, and all those below, never change. */
 enum {
     FANCY_STATUS_OK = 0,
     FANCY_STATUS_REFUSED = 1,          /* the pattern is invalid: kind and position are set */
     FANCY_STATUS_NOT_UTF8 = 2,         /* position is the length of the valid UTF-8 prefix */
-    FANCY_STATUS_OUT_OF_MEMORY = 3,    /* it says nothing about the pattern */
-    FANCY_STATUS_BUFFER_TOO_SHORT = 4, /* no buffer was written, and the size that is needed is set */
+    FANCY_STATUS_OUT_OF_MEMORY = 3,    /* the pattern may be valid or not */
+    FANCY_STATUS_BUFFER_TOO_SHORT = 4, /* no buffer was written; the size that is needed is set */
     FANCY_STATUS_NOT_PRINTABLE = 5,    /* of fancy_print: the pattern is valid, and its tree is not printable */
-    FANCY_STATUS_NO_PATTERN = 6        /* of fancy_pattern: the text written does not parse back. No pattern is known for it */
+    FANCY_STATUS_NO_PATTERN = 6        /* of fancy_pattern: the text for the tree does not parse back as it. No pattern is
+                                          known for which this happens */
 };
 
 /* Kinds of errors. */
@@ -70,7 +73,7 @@ enum {
     FANCY_ERROR_INVALID_GROUP_NAME_BACKREF = 16
 };
 
-/* Kinds of nodes, each with the fields of the node that it uses beside kind, end, start and stop. */
+/* Kinds of nodes. The comment of each lists the fields that it uses, besides kind, end, start and stop. */
 enum {
     FANCY_NODE_EMPTY = 1,
     FANCY_NODE_ANY = 2,              /* newline, crlf */
@@ -90,7 +93,7 @@ enum {
     FANCY_NODE_KEEP_OUT = 16,
     FANCY_NODE_CONTINUE_FROM_PREVIOUS_MATCH_END = 17,
     FANCY_NODE_BACKREF_EXISTS_CONDITION = 18, /* group, has_level, level */
-    FANCY_NODE_CONDITIONAL = 19,     /* it has three children: the condition, the branch if it holds, the other branch */
+    FANCY_NODE_CONDITIONAL = 19,     /* it has three children: the condition, the branch taken if it holds, and the other */
     FANCY_NODE_SUBROUTINE_CALL = 20, /* group; 0 is the whole pattern */
     FANCY_NODE_VERB = 21,            /* which: FANCY_VERB_.. */
     FANCY_NODE_ABSENT = 22,          /* which: FANCY_ABSENT_.. */
@@ -146,29 +149,29 @@ typedef struct {
 typedef struct {
     uint32_t kind;    /* FANCY_NODE_.. */
     uint32_t which;
-    size_t end;       /* one past the index of its last descendant: its first child, if it has one, is the next node, and
-                         each further child is at the end of the one before */
+    size_t end;       /* one past the index of its last descendant. Its first child, if it has one, is the next node, and
+                         each further child is at the index that is the end of the child before */
     size_t text;      /* where its text begins in the buffer of texts */
-    size_t text_size; /* of its text, in bytes */
+    size_t text_size; /* the size of its text, in bytes */
     size_t lo;        /* the lower bound of a repetition */
     size_t hi;        /* the upper bound, SIZE_MAX for none */
     size_t group;     /* the number of a group */
     ptrdiff_t level;  /* a recursion level, relative to the current one; or the relative number of a group */
     size_t position;  /* of an unresolved call, as a byte offset */
-    size_t start;     /* its part of the pattern: the offset of the first byte */
-    size_t stop;      /* one past the offset of the last byte: start <= stop <= the length of the pattern */
+    size_t start;     /* its span, the part of the pattern that it was parsed from: the offset of the first byte */
+    size_t stop;      /* one past the offset of the last byte of its span: start <= stop <= the length of the pattern */
     bool newline;     /* it matches a line break too */
     bool crlf;        /* CR is a line break, and CR LF a single one */
     bool unicode;     /* the line breaks of Unicode count too */
     bool casei;       /* case-insensitive */
     bool greedy;
-    bool has_level;   /* a recursion level is given: always of a FANCY_NODE_BACKREF_AT_LEVEL */
+    bool has_level;   /* the reference has a recursion level; a FANCY_NODE_BACKREF_AT_LEVEL always has one */
 } fancy_node;
 
 /* A name of a group, with its number. A name that several groups have is listed once for each. */
 typedef struct {
     size_t text;      /* where the name begins in the buffer of texts */
-    size_t text_size; /* of the name, in bytes */
+    size_t text_size; /* the size of the name, in bytes */
     size_t group;     /* the number of the group */
 } fancy_name;
 
@@ -187,7 +190,7 @@ typedef struct {
     bool numbered_groups_ignored;          /* groups without a name have no number */
 } fancy_info;
 
-/* ---- The proved functions. No pointer of theirs may be null. Call the functions below, which have no such condition. */
+/* ---- The proved functions. They take no null pointer. The functions below them do, and are the ones to call. */
 
 fancy_result fancy_check_nonnull(const char *pattern, size_t length, uint32_t flags);
 fancy_result fancy_message_nonnull(const char *pattern, size_t length, uint32_t flags, char *buffer, size_t capacity);
@@ -208,7 +211,7 @@ fancy_result fancy_pattern_nonnull(const char *pattern, size_t length, uint32_t 
 /* Returns the version of the library, in the form of FANCY_VERSION. */
 uint32_t fancy_version(void);
 
-/* Checks whether a pattern is valid: OK, REFUSED, NOT_UTF8 or OUT_OF_MEMORY. */
+/* Checks whether a pattern is valid. Returns OK, REFUSED, NOT_UTF8 or OUT_OF_MEMORY. */
 FANCY_INLINE fancy_result fancy_check(const char *pattern, size_t length, uint32_t flags) {
     return fancy_check_nonnull(pattern ? pattern : "", length, flags);
 }
@@ -221,21 +224,22 @@ FANCY_INLINE fancy_result fancy_message(const char *pattern, size_t length, uint
     return fancy_message_nonnull(pattern ? pattern : "", length, flags, buffer ? buffer : &none, capacity);
 }
 
-/* Writes the message of a kind of error, without a pattern. Four messages end with a text from the pattern, those of
- * FANCY_ERROR_GENERAL_PARSE_ERROR, _INVALID_ESCAPE, _UNKNOWN_FLAG and _INVALID_GROUP_NAME_BACKREF: of these it writes what
- * comes before that text. At most 47 bytes; none for a number that no kind has. OK, BUFFER_TOO_SHORT or OUT_OF_MEMORY. */
+/* Writes the message of a kind of error, without a pattern: at most 47 bytes, and none for a number that no kind has. The
+ * messages of FANCY_ERROR_GENERAL_PARSE_ERROR, _INVALID_ESCAPE, _UNKNOWN_FLAG and _INVALID_GROUP_NAME_BACKREF end with a
+ * text that depends on the pattern: of these it writes what comes before that text. Returns OK or BUFFER_TOO_SHORT,
+ * each with the size of the message; or OUT_OF_MEMORY. */
 FANCY_INLINE fancy_result fancy_error_text(uint32_t kind, char *buffer, size_t capacity) {
     char none;
     return fancy_error_text_nonnull(kind, buffer ? buffer : &none, capacity);
 }
 
-/* Parses a pattern, and sets *info, unless info is null. OK if all of it fits; then the buffers hold, from their start,
+/* Parses a pattern, and sets *info, unless info is null. Returns OK if everything fits; then the buffers hold:
  *   nodes      the nodes in preorder: each before its children, and these in the order of the pattern;
  *   texts      the texts of the nodes, and after them the names of groups;
  *   names      the names in the order of their bytes, each with its group numbers in ascending order;
  *   backrefs   the group numbers of back references, up to total_groups, in ascending order, each once.
- * BUFFER_TOO_SHORT if a buffer is too short: *info says how much is needed, and nothing else is written. Otherwise it
- * returns what fancy_check returns, and nothing is written. */
+ * Returns BUFFER_TOO_SHORT if a buffer is too short: *info says how much is needed, and nothing else is written. Otherwise
+ * it returns what fancy_check returns, and nothing is written. */
 FANCY_INLINE fancy_result fancy_parse(const char *pattern, size_t length, uint32_t flags, fancy_node *nodes,
                                       size_t node_capacity, char *texts, size_t texts_capacity, fancy_name *names,
                                       size_t name_capacity, size_t *backrefs, size_t backref_capacity, fancy_info *info) {
@@ -249,19 +253,20 @@ FANCY_INLINE fancy_result fancy_parse(const char *pattern, size_t length, uint32
                                backrefs ? backrefs : &no_number, backref_capacity, info ? info : &no_info);
 }
 
-/* Prints the tree of a pattern in its normal form: OK with the size of the text, BUFFER_TOO_SHORT with that size, or
- * NOT_PRINTABLE: references, look-arounds, atomic groups, calls and the like have no text here. Otherwise it returns what
- * fancy_check returns. Unless it returns OK, nothing is written. Above FANCY_PRECEDENCE_WHOLE an alternation is put into
- * a group, above _BRANCH a concatenation too, and above _PIECE a repetition too. */
+/* Prints the tree of a pattern in its normal form. Returns OK or BUFFER_TOO_SHORT, each with the size of the text; or
+ * NOT_PRINTABLE, since references, look-arounds, atomic groups, calls and the like have no text here. Otherwise it returns
+ * what fancy_check returns. Unless it returns OK, nothing is written. Above FANCY_PRECEDENCE_WHOLE an alternation is put
+ * into a group, above _BRANCH a concatenation too, and above _PIECE a repetition too. */
 FANCY_INLINE fancy_result fancy_print(const char *pattern, size_t length, uint32_t flags, uint8_t precedence, char *buffer,
                                       size_t capacity) {
     char none;
     return fancy_print_nonnull(pattern ? pattern : "", length, flags, precedence, buffer ? buffer : &none, capacity);
 }
 
-/* Writes a pattern that is parsed, under the same flags, as the same tree with the same groups and names; comments,
- * ignored whitespace, and how a thing was written are lost. OK with the size of the text, BUFFER_TOO_SHORT with that size,
- * or NO_PATTERN. Otherwise it returns what fancy_check returns. Unless it returns OK, nothing is written. */
+/* Writes a pattern that is parsed, under the same flags, as the same tree with the same groups and names. Comments, ignored
+ * whitespace, and the choice among several ways to write the same node are lost. Returns OK or BUFFER_TOO_SHORT, each with
+ * the size of the text; or NO_PATTERN. Otherwise it returns what fancy_check returns. Unless it returns OK, nothing is
+ * written. */
 FANCY_INLINE fancy_result fancy_pattern(const char *pattern, size_t length, uint32_t flags, char *buffer, size_t capacity) {
     char none;
     return fancy_pattern_nonnull(pattern ? pattern : "", length, flags, buffer ? buffer : &none, capacity);

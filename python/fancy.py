@@ -15,7 +15,7 @@
     Opening parenthesis without closing parenthesis at position 2 3
 
 A pattern is a `str`, or `bytes` that are UTF-8. A position or a span counts characters of a `str` and bytes of `bytes`, so
-that it can be used as an index; beside it stands the same in bytes of the UTF-8, as `byte_position` and `byte_span`.
+that it can be used as an index. `byte_position` and `byte_span` are the same in bytes of the UTF-8.
 
 The work is done by the shared library libfancy, whose functions are proved to meet their contracts. It is the file that
 the environment variable FANCY_LIBRARY names; or else the one that `make -C c` built in this source tree; or else the one
@@ -74,7 +74,7 @@ _LETTERS = "imsUxuRon"  # of the flags, in the order of their bits
 class ErrorKind(enum.IntEnum):
     """Kinds of errors."""
 
-    NOT_UTF8 = 0  #: the pattern is not UTF-8: bytes that are none, or a str with a lone surrogate
+    NOT_UTF8 = 0  #: the pattern is `bytes` that are not UTF-8, or a `str` with a lone surrogate
     GENERAL_PARSE_ERROR = 1
     UNCLOSED_OPEN_PAREN = 2
     INVALID_REPEAT = 3
@@ -94,7 +94,8 @@ class ErrorKind(enum.IntEnum):
 
     @property
     def text(self) -> str:
-        """The message of this kind; of four kinds, what comes before a text from the pattern, with which it ends."""
+        """The message of this kind. Four messages end with a text that depends on the pattern: of these, what comes
+        before that text, as `Invalid escape: `."""
         if self is ErrorKind.NOT_UTF8:
             return "Not UTF-8"
         return _text(lambda buffer, capacity: _library.fancy_error_text(self, buffer, capacity))[1].decode()
@@ -219,7 +220,7 @@ class Node:
 
 @dataclass(frozen=True)
 class Empty(Node):
-    """Nothing."""
+    """Nothing, as between the bars of `a||b`."""
 
 
 @dataclass(frozen=True)
@@ -255,7 +256,7 @@ class Literal(Node):
 
 @dataclass(frozen=True)
 class LiteralBytes(Node):
-    """Bytes."""
+    """Bytes, as `\\x80` without `UNICODE`."""
 
     value: bytes
 
@@ -315,7 +316,7 @@ class BackrefAtLevel(Node):
     """A back reference to a group at a recursion level."""
 
     group: int
-    level: int
+    level: int  #: relative to the current one
     casei: bool
 
 
@@ -339,12 +340,12 @@ class BackrefExistsCondition(Node):
     """The condition that a group has matched."""
 
     group: int
-    level: Optional[int]
+    level: Optional[int]  #: relative to the current one; None if the condition has no level
 
 
 @dataclass(frozen=True)
 class Conditional(Node):
-    """Three children: the condition, the branch if it holds, and the other branch."""
+    """A conditional. It has three children: the condition, the branch taken if it holds, and the other branch."""
 
 
 @dataclass(frozen=True)
@@ -384,8 +385,8 @@ class Relative:
 class AstNode(Node):
     """A call that cannot be resolved."""
 
-    target: Union[int, str, Relative]  #: the number, the name or the relative number that it has
-    position: int  #: where it is, as an index into the pattern
+    target: Union[int, str, Relative]  #: the group that it names: by number, by name or by relative number
+    position: int  #: the position of the call, as an index into the pattern
     byte_position: int  #: the same in bytes of the UTF-8
 
 
@@ -407,7 +408,7 @@ class Tree:
     root: Node
     total_groups: int  #: how many groups have a number
     named_groups: Dict[str, Tuple[int, ...]]  #: the group numbers of each name, ascending
-    backrefs: Tuple[int, ...]  #: the group numbers of back references, up to `total_groups`; 0 too
+    backrefs: Tuple[int, ...]  #: the group numbers of back references, up to `total_groups`, ascending; may contain 0
     numeric_capture_group_references: bool  #: the pattern has a back reference in digits, or a call by number
     contains_subroutines: bool  #: the pattern has a subroutine call
     self_recursive: bool  #: the pattern calls itself by the number 0
@@ -662,14 +663,15 @@ def parse(pattern: Pattern, flags: int = UNICODE) -> Tree:
 
 
 def check(pattern: Pattern, flags: int = UNICODE) -> Optional[Error]:
-    """Returns the error of a pattern, which it does not raise, or None if the pattern is valid."""
+    """Returns the error of a pattern, or None if the pattern is valid. It does not raise the error."""
     return _Source(pattern, flags).refusal()
 
 
 def format(pattern: Pattern, flags: int = UNICODE) -> str:
     """Returns a pattern that is parsed, under the same flags, as the same tree with the same groups and names. Comments,
-    ignored whitespace, and how a thing was written are lost. Raises `Error` if the pattern is invalid; RuntimeError if
-    what is written does not parse back as the tree, which no pattern is known for."""
+    ignored whitespace, and the choice among several ways to write the same node are lost. Raises `Error` if the pattern
+    is invalid, and `RuntimeError` if the text for the tree does not parse back as it; no pattern is known for which this
+    happens."""
     source = _Source(pattern, flags)
     status, text = source.text(
         lambda buffer, capacity: _library.fancy_pattern(*source.arguments, buffer, capacity)

@@ -141,8 +141,8 @@ fn kind_of_number(alloc: Global, number: u32) -> ParseError
 
 /// Writes the message of a kind of error to the front of `buffer`, without reading a pattern. The messages of
 /// `ERROR_GENERAL_PARSE_ERROR`, `ERROR_INVALID_ESCAPE`, `ERROR_UNKNOWN_FLAG` and `ERROR_INVALID_GROUP_NAME_BACKREF` end
-/// with a text from the pattern: of these it writes all that comes before that text. For a number that no kind has, it
-/// writes an empty text. Returns `STATUS_OK` with the size of the text in bytes; `STATUS_BUFFER_TOO_SHORT` with that
+/// with a text that depends on the pattern: of these it writes what comes before that text. For a number that no kind
+/// has, it writes an empty text. Returns `STATUS_OK` with the size of the text in bytes; `STATUS_BUFFER_TOO_SHORT` with that
 /// size if it does not fit; or `STATUS_OUT_OF_MEMORY`. Unless it returns `STATUS_OK`, nothing is written.
 #[unsafe(no_mangle)]
 pub extern "C" fn fancy_error_text_nonnull(alloc: Global, kind: u32, buffer: &mut [u8]) -> Answer

@@ -35,8 +35,8 @@ impl ExprTree {
     /// Returns a pattern that is parsed, under the same flags, as this tree with the same group information; only the
     /// position in an `AstNode` may differ. Pass the flags that the tree was parsed under.
     ///
-    /// Returns `None` if the text that is written for the tree does not parse back as it, as can happen with other
-    /// flags or after the tree was changed. Returns `AllocError` if out of memory.
+    /// Returns `None` if the text for the tree does not parse back as this tree, as can happen with other flags or after
+    /// the tree was changed. Returns `AllocError` if out of memory.
     ///
     /// ```rust
     /// let tree = Expr::parse_tree_with_flags(alloc, "(?<n>a)\\k<n>++", flags)?;

@@ -1,4 +1,4 @@
-//! Where a node stands in its pattern.
+//! Where a node is in its pattern.
 ghost use Rattle.std.specs.Str.Pattern.{GetsRange};
 
 /// The part of a pattern that a node was parsed from, in byte offsets.
@@ -11,8 +11,8 @@ pub struct Span {
 }
 
 impl Span {
-    /// Returns the part of the text at this span. Returns `None` if the span does not end within the text, or does not
-    /// begin and end between two of its characters.
+    /// Returns the part of the pattern at this span, or `None` if `start` is after `end`, or one of the two is after the
+    /// end of the pattern or within a character.
     pub fn text<'p>(&self, pattern: &'p str) -> Option<&'p str>
         ensures { GetsRange pattern.now self.now.start self.now.end result }
     {

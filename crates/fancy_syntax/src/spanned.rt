@@ -35,7 +35,7 @@ pub struct SpannedTree {
 }
 
 impl SpannedTree {
-    /// Parses the pattern as `Expr::parse_tree_with_spans` does, with the same tree, the same spans and the same errors.
+    /// Parses the pattern as `Expr::parse_tree_with_spans` does: with the same tree, the same spans and the same errors.
     ///
     /// ```rust
     /// let parsed = SpannedTree::parse(alloc, "(a|b)c*", FLAG_UNICODE)?;
@@ -69,8 +69,8 @@ impl SpannedTree {
         Ok(SpannedTree { tree, spans, sizes })
     }
 
-    /// Returns the root of the tree. The nodes below it are those of `tree` even if that was changed; their spans are then
-    /// those of the nodes that stood there, or 0 to 0 for nodes without a span in `spans`.
+    /// Returns the root of the tree. If `tree` was changed after parsing, the nodes are the changed ones. Each has the
+    /// span of the parsed node that the same steps from the root lead to, or 0 to 0 if there is no such node.
     pub fn root(&self) -> SpannedNode<'_>
         ensures { spanned_of result ≡ spanned_of_tree self.now }
     {
@@ -82,7 +82,7 @@ impl SpannedTree {
     }
 }
 
-/// A node of a `SpannedTree`. A copy costs no more than a few references.
+/// A node of a `SpannedTree`. It borrows from the tree, and is cheap to copy.
 #[derive(Debug, Clone, Copy)]
 pub struct SpannedNode<'a> {
     expr: &'a Expr,
@@ -110,8 +110,8 @@ impl<'a> SpannedNode<'a> {
         }
     }
 
-    /// Returns the text of the node: the part of the pattern at its span. Returns `None` if this text has no such part, as
-    /// happens only if it is not the pattern that was parsed.
+    /// Returns the text of the node, which is the part of the pattern at its span. Pass the pattern that was parsed. Given
+    /// another text, it may return `None`, as `Span::text` does.
     pub fn text<'p>(&self, pattern: &'p str) -> Option<&'p str>
         ensures { let span = spec.first_span (spanned_of self.now).spans in
             GetsRange pattern.now span.start span.end result }
@@ -138,7 +138,7 @@ impl<'a> SpannedNode<'a> {
     }
 }
 
-/// An iterator over the immediate children of a `SpannedNode`, in the order of the text.
+/// An iterator over the immediate children of a `SpannedNode`, in the order of the pattern.
 #[derive(Drop)]
 pub struct SpannedChildren<'a> {
     exprs: ExprChildrenIter<'a>,

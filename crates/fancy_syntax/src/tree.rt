@@ -33,8 +33,8 @@ use std::collections::{BTreeMap, BTreeSet};
 pub struct ExprTree {
     /// The tree. Its k-th `Group` in preorder is the group with the number k.
     pub expr: Expr,
-    /// The group numbers of back references, as 1 in `(a)\1`, up to `total_groups`; 0 too, as in `\k<-1>`. Conditions
-    /// and subroutine calls do not count.
+    /// The group numbers of back references, as 1 in `(a)\1`, up to `total_groups`. A relative reference to group 0, as
+    /// `\k<-1>` before the first group, counts too. Conditions and subroutine calls do not.
     pub backrefs: BTreeSet<usize>,
     /// The group numbers of each name, ascending.
     pub named_groups: BTreeMap<String, Vec<usize>>,
@@ -46,7 +46,7 @@ pub struct ExprTree {
     pub self_recursive: bool,
     /// The number of groups that have a number.
     pub total_groups: usize,
-    /// The number of the first back reference above `total_groups`, as 12 in `\12`, which is no error.
+    /// The number of the first back reference above `total_groups`, as 12 in `\12`. Such a reference is not an error.
     pub out_of_range_backref: Option<usize>,
     /// Whether groups without a name have no number: `FLAG_IGNORE_NUMBERED_GROUPS_WHEN_NAMED_GROUPS_EXIST` is set, and
     /// some group has a name.
@@ -104,9 +104,9 @@ impl Expr {
         }
     }
 
-    /// Parses the pattern as `parse_tree_with_flags` does, with the same tree and the same errors, and returns the span
-    /// of each node of the tree too, in preorder. A quantified node starts where its operand does and ends after the
-    /// quantifier. A group that has no node, as `(?:a)`, is part of its parent alone.
+    /// Parses the pattern as `parse_tree_with_flags` does, with the same tree and the same errors, and also returns the
+    /// span of each node of the tree, in preorder. A quantified node starts where its operand does and ends after the
+    /// quantifier. A group that has no node, as `(?:a)`, is in the span of its parent alone.
     ///
     /// ```rust
     /// let (tree, spans) = Expr::parse_tree_with_spans(alloc, "(a|b)c*", FLAG_UNICODE)?;

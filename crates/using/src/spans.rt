@@ -2,7 +2,7 @@
 use fancy_syntax::{Expr, SpannedNode};
 use std::alloc::{AllocError, Global};
 
-/// Adds a line for each repeat without a bound in another one: where it is, and its text.
+/// Adds a line for each unbounded repeat inside another one, with its byte offset and its text.
 pub fn push_nested_repeats(
     alloc: Global,
     lines: &mut String,
