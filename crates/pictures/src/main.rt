@@ -1,42 +1,54 @@
-//! Writes a picture of each pattern of the standard input, one after another.
+//! Writes the pictures of `docs/pictures` in the order of their names, and then the page there.
 #![tactic(auto)]
 
-use patterns_program::picture::{Canvas, draw_picture};
-use std::io;
-use std::io::{BufRead, BufReader, BufWriter, Write};
-use std::process::ExitCode;
-use std::str;
+mod samples;
 
-fn one<O: Write>(rt: &HostRuntime, line: &str, out: &mut O) -> io::Result<u8> {
-    let Some((flags, code)) = line.split_once('\t') else {
-        return Ok(9);
-    };
-    let (canvas, flags) = match flags.strip_prefix("p") {
-        Some(flags) => (Canvas::Page, flags),
-        None => (Canvas::Svg, flags),
-    };
-    let Ok(flags) = flags.parse::<u32>() else { return Ok(9); };
-    let bytes = match hex::decode(rt.alloc(), code) { Ok(b) => b, Err(_) => return Ok(9) };
-    let Ok(pattern) = str::from_utf8(&bytes) else { return Ok(9); };
-    let status = draw_picture(rt.alloc(), flags, canvas, pattern, out, &mut rt.stderr());
-    writeln!(out, "\u{c}{status}")?;
-    Ok(status)
+use fancy_syntax::flags::FLAG_UNICODE;
+use patterns_program::fault::{Fault, give_up};
+use patterns_program::picture::{Canvas, draw_picture};
+use samples::{DATE, SAMPLES};
+use std::alloc::AllocError;
+use std::io;
+use std::io::{BufWriter, Write};
+use std::process::ExitCode;
+
+/// Writes the pictures, up to one that cannot be written, and returns the status of the last.
+fn write_pictures<O: Write>(rt: &HostRuntime, out: &mut O) -> u8 {
+    for (pattern, flags) in SAMPLES.iter() {
+        let status = draw_picture(
+            rt.alloc(),
+            *flags,
+            Canvas::Svg,
+            pattern,
+            out,
+            &mut rt.stderr(),
+        );
+        if status != 0 {
+            return status;
+        }
+    }
+    draw_picture(
+        rt.alloc(),
+        FLAG_UNICODE,
+        Canvas::Page,
+        DATE,
+        out,
+        &mut rt.stderr(),
+    )
 }
 
+/// Writes all; an error if there is no memory to begin.
 fn run(rt: &HostRuntime) -> io::Result<u8> {
     let mut out = BufWriter::new(rt.alloc(), rt.stdout())?;
-    let reader = BufReader::new(rt.alloc(), rt.stdin())?;
-    for line in reader.lines(rt.alloc()) {
-        let line = line?;
-        one(rt, line.as_str(), &mut out)?;
-    }
-    out.flush()?;
-    Ok(0)
+    Ok(write_pictures(rt, &mut out))
 }
 
 fn main(rt: HostRuntime) -> ExitCode {
     match run(&rt) {
         Ok(status) => ExitCode::from(status),
-        Err(_) => ExitCode::from(3),
+        Err(_) => ExitCode::from(give_up(&mut rt.stderr(), Fault::Memory(AllocError))),
     }
 }
+
+#[cfg(test)]
+mod tests;

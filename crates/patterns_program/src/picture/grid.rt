@@ -129,7 +129,7 @@ impl<'a> Grid<'a> {
     fn write_run<O: Write>(&self, out: &mut O, start: usize, text: &str) -> io::Result<()> {
         let (left, top) = self.corner(start);
         let base = top.saturating_add(17);
-        write!(out, "<text class=\"source\" x=\"{left}\" y=\"{base}\"")?;
+        write!(out, "<text class=\"pattern\" x=\"{left}\" y=\"{base}\"")?;
         if text.len() > 1 && text.starts_with(is_plain) {
             let width = text.len().saturating_mul(COLUMN);
             write!(out, " textLength=\"{width}\"")?;

@@ -292,7 +292,7 @@ impl<'a> Picture<'a> {
     ) -> Result<(), Fault> {
         writeln!(
             out,
-            "<path class=\"mark\" d=\"{}\"/>",
+            "<path class=\"area\" d=\"{}\"/>",
             self.grid.area(node.span)
         )?;
         write_box(out, node)?;

@@ -33,7 +33,7 @@ fn is_hidden(c: char) -> bool {
 impl Shown {
     fn of(c: char) -> Shown {
         match c {
-            '\n' => Shown::Escape(r"\n"),
+            '\n' => Shown::Itself('\u{21B5}'),
             '\r' => Shown::Escape(r"\r"),
             '\t' => Shown::Escape(r"\t"),
             _ if is_hidden(c) => Shown::Code(u32::from(c)),
