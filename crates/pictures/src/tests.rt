@@ -2,6 +2,7 @@
 use fancy_syntax::flags::FLAG_UNICODE;
 use patterns_program::picture::{Canvas, draw_picture};
 use std::alloc::Global;
+use std::str;
 use std::test::Fail;
 
 /// Patterns, and the widths and heights of their pictures. Round the tree are 36 pixels at either side, and 16 above it; below
@@ -39,7 +40,7 @@ fn has_size(alloc: Global, pattern: &str, width: usize, height: usize) -> Result
         &mut err,
     );
     let size = format!(in alloc; " width=\"{width}\" height=\"{height}\" ")?;
-    let text = std::str::from_utf8(&out)?;
+    let text = str::from_utf8(&out)?;
     let head = text.lines().next().unwrap_or("");
     Ok(status == 0 && head.contains(size.as_str()))
 }
@@ -69,5 +70,49 @@ fn refused(rt: HostRuntime) -> Result<(), Fail> {
         &mut err,
     );
     assert!(rt; status == 1 && out.is_empty() && !err.is_empty());
+    Ok(())
+}
+
+/// What a page has of the pattern: the picture, the tree, the groups and what is known of them, and no script.
+#[test]
+fn page(rt: HostRuntime) -> Result<(), Fail> {
+    let mut out = Vec::new(rt.alloc());
+    let mut err = Vec::new(rt.alloc());
+    let pattern = r"(?<n><)\k<n>";
+    let status = draw_picture(
+        rt.alloc(),
+        FLAG_UNICODE,
+        Canvas::Page,
+        pattern,
+        &mut out,
+        &mut err,
+    );
+    let text = str::from_utf8(&out)?;
+    let wanted = [
+        "<svg",
+        "literal &quot;&lt;&quot;",
+        "back reference to group 1, named &quot;n&quot;",
+        "Back references to group 1.",
+    ];
+    assert!(rt; status == 0 && wanted.iter().all(|part| text.contains(*part)));
+    assert!(rt; !text.contains("<script"));
+    Ok(())
+}
+
+/// A write that fails is told.
+#[test]
+fn refused_write(rt: HostRuntime) -> Result<(), Fail> {
+    let mut room = [0; 100];
+    let mut out: &mut [u8] = &mut room;
+    let mut err = Vec::new(rt.alloc());
+    let status = draw_picture(
+        rt.alloc(),
+        FLAG_UNICODE,
+        Canvas::Svg,
+        "a",
+        &mut out,
+        &mut err,
+    );
+    assert!(rt; status == 3 && err.as_slice() == b"patterns: cannot write\n".as_slice());
     Ok(())
 }

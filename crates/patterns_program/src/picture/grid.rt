@@ -56,7 +56,8 @@ impl<'a> Grid<'a> {
         for c in pattern.chars() {
             grid.push(c, limit)?;
         }
-        grid.cells.push(grid.next)?;
+        let end = grid.next;
+        grid.cells.push(end)?;
         Ok(grid)
     }
 
@@ -75,7 +76,8 @@ impl<'a> Grid<'a> {
             self.end_line();
         }
         let bytes = self.cells.len().saturating_add(c.len_utf8());
-        self.cells.resize(bytes, self.next)?;
+        let cell = self.next;
+        self.cells.resize(bytes, cell)?;
         self.next.column = self.next.column.saturating_add(columns_of_char(c));
         self.columns = self.columns.max(self.next.column);
         if c == '\n' {

@@ -70,6 +70,11 @@ pub(crate) struct Layout<'a> {
     groups: usize,
 }
 
+/// The nodes after the first ones, of which there are so many.
+fn past<'l, 'a>(nodes: &'l [Drawn<'a>], count: usize) -> &'l [Drawn<'a>] {
+    nodes.split_at(count.min(nodes.len())).1
+}
+
 /// The children of a node.
 #[derive(Drop)]
 pub(crate) struct Children<'l, 'a> {
@@ -88,7 +93,7 @@ impl<'l, 'a> Iterator for Children<'l, 'a> {
     fn next(&mut self) -> Option<&'l Drawn<'a>> {
         self.left = self.left.checked_sub(1)?;
         let child = self.nodes.first()?;
-        self.nodes = self.nodes.get(child.nodes..).unwrap_or(&[]);
+        self.nodes = past(self.nodes, child.nodes);
         Some(child)
     }
 }
@@ -169,13 +174,10 @@ impl<'a> Layout<'a> {
 
     /// The children of the node at the index.
     pub(crate) fn children(&self, index: usize) -> Children<'_, 'a> {
-        let nodes = self.nodes.get(index..).unwrap_or(&[]);
-        match nodes.split_first() {
-            Some((node, nodes)) => Children {
-                nodes,
-                left: node.children,
-            },
-            None => Children { nodes, left: 0 },
+        let nodes = past(&self.nodes, index);
+        Children {
+            nodes: past(nodes, 1),
+            left: nodes.first().map_or(0, |node| node.children),
         }
     }
 

@@ -14,6 +14,7 @@ text-anchor: middle; white-space: pre; direction: ltr; unicode-bidi: bidi-overri
 .picture .leaf .box { stroke: #8c959f }
 .picture .frame .box, .picture .parts .box { stroke: #8c959f; stroke-dasharray: 4 3 }
 .picture .parts .box { fill: #fff }
+.picture .character .area, .picture .leaf .area { fill-opacity: .6 }
 .picture .insensitive .text { font-style: italic }
 .picture .group .box { stroke-dasharray: none; stroke-width: 1.5 }
 .picture .group:target .box { stroke-width: 4 }
