@@ -1,4 +1,4 @@
-use Rattle.std.proofs.Common.{rules, ◌<◌, ◌∙◌, ap, sym, arith}
+use Rattle.std.proofs.Common.{◌<◌, ◌∙◌, ap, sym, arith}
 use Rattle.fancy_syntax.specs.Children.{remaining_children}
 use Rattle.fancy_syntax.specs.Tree.{levels}
 use Rattle.fancy_syntax.specs.View.{view, views}
@@ -11,12 +11,12 @@ loop-child-init t c =
     ∙ c.children_iter-child-items.ensures.values)
 
 pub measure-requires : goal.measure-requires
-measure-requires t c κs within =
+measure-requires t c =
     let among = sweep_head _ c.args.tree.now c.in-Some.child.now _ _ c.loop-child.invariant c.in-Some.ensures.steps in
     let less : levels (view c.in-Some.child.now) < levels (view c.args.tree.now) =
     levels_of_child c.args.tree.now c.in-Some.child.now
     (ap views (sym c.children_iter-child-items.ensures.values) ∙ c.children_iter-child-items.ensures.trees) among in
-    (omega (arith, less), search rules)
+    (omega (arith, less), tt)
 
 pub loop-child-preserved : goal.loop-child-preserved
 loop-child-preserved t c =
