@@ -1,9 +1,10 @@
 //! What the program does with its arguments.
-use crate::words::{command, flags_chosen, style_chosen, verb_chosen};
+use crate::words::{canvas_chosen, command, flags_chosen, style_chosen, verb_chosen};
 use clap::error::ErrorKind;
 use clap::{ArgMatches, Error};
 use patterns_program::draw::draw_tree;
 use patterns_program::fault::{Fault, give_up};
+use patterns_program::picture::draw_picture;
 use patterns_program::run::{Job, run};
 use patterns_program::sources::Sources;
 use std::alloc::{AllocError, Global};
@@ -35,6 +36,22 @@ fn explain_flags<E: Write>(err: &mut E) -> Result<u8, Fault> {
     Ok(MISUSED)
 }
 
+/// Draws the tree of a pattern, in lines of text or as a picture.
+fn answer_pattern<O: Write, E: Write>(
+    alloc: Global,
+    name: &str,
+    flags: u32,
+    pattern: &str,
+    matches: &ArgMatches<'_>,
+    out: &mut O,
+    err: &mut E,
+) -> u8 {
+    if name == "picture" {
+        return draw_picture(alloc, flags, canvas_chosen(matches), pattern, out, err);
+    }
+    draw_tree(alloc, flags, style_chosen(matches), pattern, out, err)
+}
+
 /// Runs a subcommand.
 fn answer_verb<S: Sources, O: Write, E: Write>(
     alloc: Global,
@@ -48,8 +65,7 @@ fn answer_verb<S: Sources, O: Write, E: Write>(
         return explain_flags(err);
     };
     if let Some(pattern) = matches.get_str("pattern") {
-        let style = style_chosen(matches);
-        return Ok(draw_tree(alloc, flags, style, pattern, out, err));
+        return Ok(answer_pattern(alloc, name, flags, pattern, matches, out, err));
     }
     let (Some(verb), Some(files)) = (verb_chosen(name, matches), matches.get_strs("files")) else {
         return Ok(MISUSED);

@@ -123,7 +123,7 @@ patterns: broken: connection reset
 ";
 
 /// Words, the standard input, and the status, the output and the error of a run.
-static RUNS: [(&[&str], &[u8], u8, &str, &str); 15] = [
+static RUNS: [(&[&str], &[u8], u8, &str, &str); 16] = [
     (&["patterns", "check", "good", "empty"], b"", 0, "", ""),
     (&["patterns", "check"], b"", 0, "", ""),
     (&["patterns", "check", "mixed"], b"", 2, MIXED, NO_TEXT),
@@ -171,6 +171,7 @@ static RUNS: [(&[&str], &[u8], u8, &str, &str); 15] = [
         "",
     ),
     (&["patterns", "tree", "a\n("], b"", 1, "", UNNAMED),
+    (&["patterns", "picture", "a\n("], b"", 1, "", UNNAMED),
     (
         &["patterns", "groups"],
         b"(?<y>a)(b)\\k<y>\\2\\g<1>\\g0\n\\g<-2>",
@@ -230,11 +231,12 @@ fn answers(rt: HostRuntime) -> Result<(), Fail> {
 }
 
 /// Words that are wrong, or ask for help, and the status.
-static USAGES: [(&[&str], u8); 6] = [
+static USAGES: [(&[&str], u8); 7] = [
     (&["patterns"], 2),
     (&["patterns", "chek"], 2),
     (&["patterns", "check", "--flag"], 2),
     (&["patterns", "tree"], 2),
+    (&["patterns", "picture", "--html"], 2),
     (&["patterns", "--help"], 0),
     (&["patterns", "format", "--help"], 0),
 ];

@@ -2,6 +2,7 @@
 use clap::{Arg, ArgAction, ArgMatches, Command};
 use fre_program::flag_word::flags_named;
 use patterns_program::draw::Style;
+use patterns_program::picture::Canvas;
 use patterns_program::run::{STANDARD_INPUT, Verb};
 use std::alloc::{AllocError, Global};
 
@@ -31,6 +32,11 @@ const FILES_HELP: &str = "Files with one pattern per line, in UTF-8; - is standa
 const CHECK: &str = "Reports each pattern that is refused, with the position and the reason";
 
 const TREE: &str = "Draws the tree of a pattern, and describes its groups and references";
+
+const PICTURE: &str = "Draws the tree of a pattern as a railroad diagram, in SVG";
+
+const HTML_HELP: &str =
+    "Writes a page of HTML with the diagram, the tree, and the groups and references";
 
 const FORMAT: &str =
     "Writes each pattern in one form, which parses to the same tree under the same flags";
@@ -69,22 +75,37 @@ fn over_files<'a>(alloc: Global, name: &'a str, about: &'a str) -> Result<Comman
         .arg(files_arg(alloc))
 }
 
-/// The subcommand for one pattern.
+fn pattern_arg<'a>(alloc: Global) -> Arg<'a> {
+    Arg::new(alloc, "pattern")
+        .value_name("PATTERN")
+        .required(true)
+        .help("The pattern; put -- before one that begins with -")
+}
+
 fn tree_command<'a>(alloc: Global) -> Result<Command<'a>, AllocError> {
     let ascii = Arg::new(alloc, "ascii")
         .long("ascii")
         .action(ArgAction::SetTrue)
         .help("Draws with ASCII characters");
-    let pattern = Arg::new(alloc, "pattern")
-        .value_name("PATTERN")
-        .required(true)
-        .help("The pattern; put -- before one that begins with -");
     Command::new(alloc, "tree")
         .about(TREE)
         .after_help(LETTERS)
         .arg(flags_arg(alloc))?
         .arg(ascii)?
-        .arg(pattern)
+        .arg(pattern_arg(alloc))
+}
+
+fn picture_command<'a>(alloc: Global) -> Result<Command<'a>, AllocError> {
+    let html = Arg::new(alloc, "html")
+        .long("html")
+        .action(ArgAction::SetTrue)
+        .help(HTML_HELP);
+    Command::new(alloc, "picture")
+        .about(PICTURE)
+        .after_help(LETTERS)
+        .arg(flags_arg(alloc))?
+        .arg(html)?
+        .arg(pattern_arg(alloc))
 }
 
 fn format_command<'a>(alloc: Global) -> Result<Command<'a>, AllocError> {
@@ -107,6 +128,7 @@ pub(crate) fn command<'a>(alloc: Global) -> Result<Command<'a>, AllocError> {
         .arg_required_else_help(true)
         .subcommand(over_files(alloc, "check", CHECK)?)?
         .subcommand(tree_command(alloc)?)?
+        .subcommand(picture_command(alloc)?)?
         .subcommand(format_command(alloc)?)?
         .subcommand(over_files(alloc, "groups", GROUPS)?)
 }
@@ -128,6 +150,15 @@ pub(crate) fn style_chosen(matches: &ArgMatches<'_>) -> Style {
         Style::Ascii
     } else {
         Style::Lines
+    }
+}
+
+/// What the arguments choose for a picture to be written as.
+pub(crate) fn canvas_chosen(matches: &ArgMatches<'_>) -> Canvas {
+    if matches.get_flag("html") {
+        Canvas::Page
+    } else {
+        Canvas::Svg
     }
 }
 

@@ -100,7 +100,7 @@ impl Drawing<'_> {
 }
 
 /// What a child is to its parent, where so many follow it.
-fn role(parent: &Expr, following: usize) -> &'static str {
+pub(crate) fn role(parent: &Expr, following: usize) -> &'static str {
     match (parent, following) {
         (Expr::Conditional { .. }, 2) => "if: ",
         (Expr::Conditional { .. }, 1) => "then: ",
@@ -130,7 +130,7 @@ fn draw<O: Write>(
 }
 
 /// Draws the pattern's tree, and writes what is known of it.
-fn write_tree<O: Write>(
+pub(crate) fn write_tree<O: Write>(
     alloc: Global,
     style: Style,
     pattern: &str,

@@ -17,7 +17,11 @@ use std::io;
 use std::io::Write;
 
 /// Writes the groups that have a number, a line each.
-fn write_numbered<O: Write>(out: &mut O, total: usize, names: &Names<'_>) -> io::Result<()> {
+pub(crate) fn write_numbered<O: Write>(
+    out: &mut O,
+    total: usize,
+    names: &Names<'_>,
+) -> io::Result<()> {
     if total == 0 {
         return writeln!(out, "  no numbered groups");
     }
@@ -28,7 +32,7 @@ fn write_numbered<O: Write>(out: &mut O, total: usize, names: &Names<'_>) -> io:
 }
 
 /// Writes the references and calls of the tree in the order of the text, a line each.
-fn write_references<O: Write>(
+pub(crate) fn write_references<O: Write>(
     out: &mut O,
     tree: &Expr,
     names: &Names<'_>,

@@ -9,6 +9,7 @@ mod lines;
 mod marks;
 mod names;
 mod outcome;
+pub mod picture;
 pub mod place;
 mod printing;
 mod reading;
