@@ -5,6 +5,7 @@ mod check;
 pub mod draw;
 pub mod fault;
 mod groups;
+pub mod lint;
 mod lines;
 mod marks;
 mod names;

@@ -1,0 +1,137 @@
+//! Branches that are surely not meant.
+ghost use Rattle.std.specs.Prelude.{◌≡◌, true, ◌×◌};
+ghost use Rattle.fancy_syntax.specs.View.{view};
+ghost use Rattle.patterns_program.specs.Branches as spec;
+
+use crate::lint::fingerprint::Fingerprint;
+use crate::lint::problem::Problem;
+use fancy_syntax::expr::Expr;
+use std::alloc::{AllocError, Global};
+use std::collections::HashMap;
+use std::slice;
+
+/// The pieces of a branch.
+fn pieces(branch: &Expr) -> &[Expr] {
+    match branch {
+        Expr::Concat(trees) => trees,
+        _ => slice::from_ref(branch),
+    }
+}
+
+/// Whether the one is a literal that matches what the other matches, which is a literal too.
+fn covers(earlier: &Expr, later: &Expr) -> bool {
+    let (Expr::Literal { val, casei }, Expr::Literal { val: other, casei: is_other_casei }) =
+        (earlier, later)
+    else {
+        return false;
+    };
+    val == other && (*casei || !*is_other_casei)
+}
+
+/// Whether the later branch begins with the literals that are all of the earlier one.
+fn is_unreachable(earlier: &Expr, later: &Expr) -> bool {
+    let (earlier, later) = (pieces(earlier), pieces(later));
+    earlier.len() <= later.len() && earlier.iter().zip(later).all(|(a, b)| covers(a, b))
+}
+
+/// The branches before one, by their fingerprints: of each the first, so that a branch is compared with few.
+#[derive(Drop)]
+pub(super) struct Earlier {
+    /// By all that they hold.
+    whole: HashMap<u64, usize>,
+    /// Those of literals alone, by their text.
+    literals: HashMap<u64, usize>,
+}
+
+/// Adds the branch of this index, where none is known by the fingerprint.
+fn add_first(
+    known: &mut HashMap<u64, usize>,
+    fingerprint: Fingerprint,
+    i: usize,
+) -> Result<(), AllocError> {
+    if !known.contains_key(&fingerprint.number()) {
+        known.insert(fingerprint.number(), i)?;
+    }
+    Ok(())
+}
+
+impl Earlier {
+    /// No branch.
+    pub(super) fn none(alloc: Global) -> Earlier {
+        Earlier {
+            whole: HashMap::new(alloc),
+            literals: HashMap::new(alloc),
+        }
+    }
+
+    /// Adds the branch, which has this index.
+    pub(super) fn add(&mut self, i: usize, branch: &Expr) -> Result<(), AllocError> {
+        add_first(&mut self.whole, Fingerprint::of(branch), i)?;
+        match text_of(branch) {
+            Some(text) => add_first(&mut self.literals, text, i),
+            None => Ok(()),
+        }
+    }
+
+    /// The branch that is equal to this one.
+    fn equal_to(&self, earlier: &[Expr], branch: &Expr) -> Option<usize> {
+        let i = *self.whole.get(&Fingerprint::of(branch).number())?;
+        if earlier.get(i)? == branch { Some(i) } else { None }
+    }
+
+    /// The branch whose literals this one begins with.
+    fn beginning_of(&self, earlier: &[Expr], branch: &Expr) -> Option<usize> {
+        let mut text = Fingerprint::new();
+        for piece in pieces(branch) {
+            let Expr::Literal { val, .. } = piece else {
+                return None;
+            };
+            text = text.with(val.as_str());
+            if let Some(i) = self.literals.get(&text.number())
+                && let Some(beginning) = earlier.get(*i)
+                && is_unreachable(beginning, branch)
+            {
+                return Some(*i);
+            }
+        }
+        None
+    }
+
+    /// What is wrong with a branch behind these. Where something follows the alternation, another branch may be tried
+    /// after one that matched.
+    pub(super) fn problem(
+        &self,
+        earlier: &[Expr],
+        branch: &Expr,
+        is_last_branch: bool,
+        is_at_end: bool,
+    ) -> Option<Problem<'static>> {
+        if let Expr::Empty = branch {
+            return if is_last_branch { None } else { Some(Problem::EmptyBranch) };
+        }
+        if let Some(i) = self.equal_to(earlier, branch) {
+            return Some(Problem::DuplicateBranch {
+                earlier: i.saturating_add(1),
+            });
+        }
+        if !is_at_end {
+            return None;
+        }
+        let i = self.beginning_of(earlier, branch)?;
+        Some(Problem::UnreachableBranch {
+            earlier: i.saturating_add(1),
+        })
+    }
+}
+
+/// The fingerprint of the text of a branch that is literals alone.
+fn text_of(branch: &Expr) -> Option<Fingerprint> {
+    let mut text = Fingerprint::new();
+    for piece in pieces(branch) {
+        let Expr::Literal { val, .. } = piece else {
+            return None;
+        };
+        text = text.with(val.as_str());
+    }
+    Some(text)
+}

@@ -1,0 +1,27 @@
+//! Classes that are surely not meant.
+ghost use Rattle.std.specs.Prelude.{◌≡◌};
+ghost use Rattle.fancy_syntax.specs.View.{view};
+
+use fancy_lex::text::{after, next};
+use fancy_syntax::expr::Expr;
+
+/// The one letter or digit of a class.
+fn only_character(class: &str) -> Option<char> {
+    let (c, rest) = next(after(class, '[')?)?;
+    if !c.is_alphanumeric() || after(rest, ']')? != "" {
+        return None;
+    }
+    Some(c)
+}
+
+/// Whether the node is a class of one letter or digit. A digit after another is none: with no brackets the two would be
+/// one number.
+pub(super) fn is_single_character_class(tree: &Expr, before: &str) -> bool {
+    let Expr::Delegate { inner, .. } = tree else {
+        return false;
+    };
+    match only_character(inner.as_str()) {
+        Some(c) => !(c.is_ascii_digit() && before.ends_with(|d: char| d.is_ascii_digit())),
+        None => false,
+    }
+}
