@@ -1,2 +1,4 @@
 pub mod Line
 pub mod Empty
+pub mod Quantifiers
+pub mod Branches

@@ -9,6 +9,7 @@ pub mod chosen;
 mod classes;
 mod empty;
 mod fingerprint;
+mod flags;
 mod problem;
 mod quantifiers;
 mod references;
@@ -19,6 +20,7 @@ mod walk;
 
 use crate::fault::Fault;
 use crate::lint::chosen::{Chosen, Level};
+use crate::lint::flags::useless_flags;
 use crate::lint::problem::Found;
 use crate::lint::references::{Ways, follow};
 use crate::lint::report::write_report;
@@ -37,6 +39,7 @@ use std::io::Write;
 fn problems<'a>(
     alloc: Global,
     pattern: &str,
+    flags: u32,
     tree: &'a ExprTree,
     spans: &'a [Span],
 ) -> Result<Vec<Found<'a>>, AllocError> {
@@ -52,6 +55,7 @@ fn problems<'a>(
     ways.report_unused()?;
     let mut found = walk.found;
     found.extend_from_slice(&ways.walk.found)?;
+    found.extend_from_slice(&useless_flags(alloc, pattern, &walk.leaves, flags)?)?;
     found.sort_by_key(|f| f.span.start)?;
     Ok(found)
 }
@@ -88,7 +92,7 @@ pub(crate) fn lint<O: Write>(
 ) -> Result<Outcome, Fault> {
     match Expr::parse_tree_with_spans(alloc, pattern, flags) {
         Ok((tree, spans)) => {
-            let found = problems(alloc, pattern, &tree, &spans)?;
+            let found = problems(alloc, pattern, flags, &tree, &spans)?;
             write_problems(at, pattern, &found, chosen, out)
         }
         Err(Error::ParseError(place, kind)) => {

@@ -1,17 +1,20 @@
 //! Branches that are surely not meant.
-ghost use Rattle.std.specs.Prelude.{◌≡◌, true, ◌×◌};
-ghost use Rattle.fancy_syntax.specs.View.{view};
+ghost use Rattle.std.specs.Prelude.{◌≡◌, true, IfSome, IsSomeAnd, slice_get};
+ghost use Rattle.fancy_syntax.specs.View.{view, views};
 ghost use Rattle.patterns_program.specs.Branches as spec;
 
 use crate::lint::fingerprint::Fingerprint;
 use crate::lint::problem::Problem;
+use fancy_lex::text::is_same_text;
 use fancy_syntax::expr::Expr;
 use std::alloc::{AllocError, Global};
 use std::collections::HashMap;
 use std::slice;
 
 /// The pieces of a branch.
-fn pieces(branch: &Expr) -> &[Expr] {
+fn pieces(branch: &Expr) -> &[Expr]
+    ensures { views result.now ≡ spec.pieces (view branch.now) }
+{
     match branch {
         Expr::Concat(trees) => trees,
         _ => slice::from_ref(branch),
@@ -19,19 +22,41 @@ fn pieces(branch: &Expr) -> &[Expr] {
 }
 
 /// Whether the one is a literal that matches what the other matches, which is a literal too.
-fn covers(earlier: &Expr, later: &Expr) -> bool {
-    let (Expr::Literal { val, casei }, Expr::Literal { val: other, casei: is_other_casei }) =
-        (earlier, later)
-    else {
+fn covers(earlier: &Expr, later: &Expr) -> bool
+    ensures { result ≡ spec.covers (view earlier.now) (view later.now) }
+{
+    match (earlier, later) {
+        (
+            Expr::Literal { val, casei },
+            Expr::Literal {
+                val: other,
+                casei: is_other_casei,
+            },
+        ) => is_same_text(val.as_str(), other.as_str()) && (*casei || !*is_other_casei),
+        _ => false,
+    }
+}
+
+/// Whether the trees begin with ones that the others cover one by one.
+fn begins_with(earlier: &[Expr], later: &[Expr]) -> bool
+    ensures { result ≡ spec.begins_with (views earlier.now) (views later.now) }
+{
+    if later.len() < earlier.len() {
         return false;
-    };
-    val == other && (*casei || !*is_other_casei)
+    }
+    for (a, b) in earlier.iter().zip(later) {
+        if !covers(a, b) {
+            return false;
+        }
+    }
+    true
 }
 
 /// Whether the later branch begins with the literals that are all of the earlier one.
-fn is_unreachable(earlier: &Expr, later: &Expr) -> bool {
-    let (earlier, later) = (pieces(earlier), pieces(later));
-    earlier.len() <= later.len() && earlier.iter().zip(later).all(|(a, b)| covers(a, b))
+fn is_unreachable(earlier: &Expr, later: &Expr) -> bool
+    ensures { result ≡ spec.is_unreachable (view earlier.now) (view later.now) }
+{
+    begins_with(pieces(earlier), pieces(later))
 }
 
 /// The branches before one, by their fingerprints: of each the first, so that a branch is compared with few.
@@ -74,13 +99,21 @@ impl Earlier {
     }
 
     /// The branch that is equal to this one.
-    fn equal_to(&self, earlier: &[Expr], branch: &Expr) -> Option<usize> {
+    fn equal_to(&self, earlier: &[Expr], branch: &Expr) -> Option<usize>
+        ensures { IfSome result (λ i. IsSomeAnd (slice_get (views earlier.now) i) (λ e. e ≡ view branch.now)) }
+    {
         let i = *self.whole.get(&Fingerprint::of(branch).number())?;
-        if earlier.get(i)? == branch { Some(i) } else { None }
+        if earlier.get(i)? == branch {
+            return Some(i);
+        }
+        None
     }
 
     /// The branch whose literals this one begins with.
-    fn beginning_of(&self, earlier: &[Expr], branch: &Expr) -> Option<usize> {
+    fn beginning_of(&self, earlier: &[Expr], branch: &Expr) -> Option<usize>
+        ensures { IfSome result (λ i. IsSomeAnd (slice_get (views earlier.now) i)
+            (λ e. spec.is_unreachable e (view branch.now) ≡ true)) }
+    {
         let mut text = Fingerprint::new();
         for piece in pieces(branch) {
             let Expr::Literal { val, .. } = piece else {

@@ -26,8 +26,8 @@ pub(super) enum Problem<'a> {
     EmptyLoop,
     UselessQuantifier,
     ZeroQuantifier,
-    /// A flag that holds already, or does not.
-    UselessFlag { letter: char, is_set: bool },
+    /// A flag that is set already.
+    UselessFlag { letter: char },
     SingleCharacterClass,
 }
 
@@ -108,12 +108,7 @@ impl fmt::Display for Problem<'_> {
             }
             Problem::UselessQuantifier => f.write_str("quantifier that repeats exactly once"),
             Problem::ZeroQuantifier => f.write_str("quantifier that repeats zero times"),
-            Problem::UselessFlag { letter, is_set: true } => {
-                write!(f, "flag {letter} is set already")
-            }
-            Problem::UselessFlag { letter, is_set: false } => {
-                write!(f, "flag {letter} is cleared, and is not set")
-            }
+            Problem::UselessFlag { letter } => write!(f, "flag {letter} is set already"),
             Problem::SingleCharacterClass => f.write_str("class of one character"),
         }
     }

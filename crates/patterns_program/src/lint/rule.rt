@@ -29,7 +29,7 @@ pub enum Rule {
     UselessQuantifier,
     /// A quantifier that repeats never.
     ZeroQuantifier,
-    /// A flag that is set where it is set already, or cleared where it is clear.
+    /// A flag that is set where it is set already.
     UselessFlag,
     /// A class of one letter or digit.
     SingleCharacterClass,
@@ -140,7 +140,7 @@ impl Rule {
             },
             Rule::UselessFlag => About {
                 name: "useless-flag",
-                what: "a flag that is set where it is set already, or cleared where it is clear",
+                what: "a flag that is set where it is set already",
                 example: r"(?i)a(?i:b)",
                 help: "remove the flag",
             },

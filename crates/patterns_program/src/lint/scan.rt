@@ -64,7 +64,11 @@ pub(super) fn scan<'a>(
             scan(absent, walk, about, false)?;
             scan(exp, walk, about, false)
         }
-        _ => Ok(()),
+        Expr::Empty => Ok(()),
+        _ => {
+            walk.leaves.push(span)?;
+            Ok(())
+        }
     }
 }
 

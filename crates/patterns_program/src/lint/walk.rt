@@ -8,6 +8,8 @@ use std::alloc::{AllocError, Global};
 pub(super) struct Walk<'a> {
     spans: &'a [Span],
     pub(super) found: Vec<Found<'a>>,
+    /// The spans of the leaves that take text.
+    pub(super) leaves: Vec<Span>,
 }
 
 impl<'a> Walk<'a> {
@@ -16,6 +18,7 @@ impl<'a> Walk<'a> {
         Walk {
             spans,
             found: Vec::new(alloc),
+            leaves: Vec::new(alloc),
         }
     }
 
