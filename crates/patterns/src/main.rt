@@ -28,6 +28,8 @@ fn main(rt: HostRuntime) -> ExitCode {
 }
 
 #[cfg(test)]
+mod lints;
+#[cfg(test)]
 mod memory;
 #[cfg(test)]
 mod tests;

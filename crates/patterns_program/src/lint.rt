@@ -1,7 +1,9 @@
 //! The subcommand `lint`: what a pattern says and is surely not meant.
-ghost use Rattle.std.specs.Prelude.{◌≡◌, chars, Ok};
+ghost use Rattle.std.specs.Prelude.{◌≡◌, ◌⊎◌, chars, Ok, IfOk, OnSome, IfNone, Contains};
+ghost use Rattle.std.specs.Bool.{OnTrue};
 ghost use Rattle.fancy_lex.specs.Flags.{flags_of};
 ghost use Rattle.fre_program.specs.Words.{HasTree, HasFault};
+ghost use Rattle.patterns_program.specs.declared.lint.chosen.Level.{Level};
 ghost use Rattle.patterns_program.specs.declared.outcome.Outcome.{Outcome};
 
 mod branches;
@@ -60,25 +62,47 @@ fn problems<'a>(
     Ok(found)
 }
 
-/// Writes a report for each problem whose rule is not allowed, and answers whether the rule of one is denied.
+/// Writes a report for each problem whose rule is not allowed, and answers whether that of one is denied.
 fn write_problems<O: Write>(
     at: Location<'_>,
     pattern: &str,
     found: &[Found<'_>],
     chosen: &Chosen,
     out: &mut O,
-) -> Result<Outcome, Fault> {
-    let mut outcome = Outcome::Good;
+) -> Result<bool, Fault>
+    ensures { IfOk result (λ is_denied. OnTrue is_denied (Contains chosen.now.levels Level.Deny)) }
+{
+    let mut is_denied = false;
     for problem in found {
         let level = chosen.level(problem.problem.rule());
         if level != Level::Allow {
             write_report(out, at, pattern, level, *problem)?;
         }
-        if level == Level::Deny {
-            outcome = Outcome::Refused;
-        }
+        is_denied = is_denied || level == Level::Deny;
     }
-    Ok(outcome)
+    Ok(is_denied)
+}
+
+/// The tree of the pattern with the spans of its nodes; none if it is refused, and then the position and the reason are
+/// written to `out`.
+fn read_with_spans<O: Write>(
+    alloc: Global,
+    flags: u32,
+    at: Location<'_>,
+    pattern: &str,
+    out: &mut O,
+) -> Result<Option<(ExprTree, Vec<Span>)>, Fault>
+    ensures read { IfOk result (λ answer. OnSome answer (HasTree (flags_of flags) (chars pattern.now))) }
+    ensures refused { IfOk result (λ answer. IfNone answer (HasFault (flags_of flags) (chars pattern.now))) }
+{
+    match Expr::parse_tree_with_spans(alloc, pattern, flags) {
+        Ok(read) => Ok(Some(read)),
+        Err(Error::ParseError(place, kind)) => {
+            write_refusal(out, at, pattern, place, &kind)?;
+            Ok(None)
+        }
+        Err(Error::OutOfMemory) => Err(Fault::Memory(AllocError)),
+    }
 }
 
 /// Writes to `out` what is surely not meant in the pattern, or the position and the reason if it is refused.
@@ -89,16 +113,18 @@ pub(crate) fn lint<O: Write>(
     pattern: &str,
     chosen: &Chosen,
     out: &mut O,
-) -> Result<Outcome, Fault> {
-    match Expr::parse_tree_with_spans(alloc, pattern, flags) {
-        Ok((tree, spans)) => {
-            let found = problems(alloc, pattern, flags, &tree, &spans)?;
-            write_problems(at, pattern, &found, chosen, out)
-        }
-        Err(Error::ParseError(place, kind)) => {
-            write_refusal(out, at, pattern, place, &kind)?;
-            Ok(Outcome::Refused)
-        }
-        Err(Error::OutOfMemory) => Err(Fault::Memory(AllocError)),
+) -> Result<Outcome, Fault>
+    ensures good { result ≡ Ok Outcome.Good → HasTree (flags_of flags) (chars pattern.now) }
+    ensures refused { result ≡ Ok Outcome.Refused → HasFault (flags_of flags) (chars pattern.now)
+        ⊎ Contains chosen.now.levels Level.Deny }
+    ensures read { result ≡ Ok Outcome.Unread → ⊥ }
+{
+    let Some((tree, spans)) = read_with_spans(alloc, flags, at, pattern, out)? else {
+        return Ok(Outcome::Refused);
+    };
+    let found = problems(alloc, pattern, flags, &tree, &spans)?;
+    if write_problems(at, pattern, &found, chosen, out)? {
+        return Ok(Outcome::Refused);
     }
+    Ok(Outcome::Good)
 }

@@ -59,6 +59,18 @@ fn is_unreachable(earlier: &Expr, later: &Expr) -> bool
     begins_with(pieces(earlier), pieces(later))
 }
 
+/// Where a branch is.
+#[derive(Clone, Copy)]
+pub(super) struct Situation {
+    /// Whether no branch follows it.
+    pub(super) is_last: bool,
+    /// Whether nothing follows its alternation; otherwise another branch may be tried after one that matched.
+    pub(super) is_at_end: bool,
+    /// Whether the pattern has calls, so that something may follow where the alternation is called. An empty branch may
+    /// come first then, to end a recursion.
+    pub(super) has_calls: bool,
+}
+
 /// The branches before one, by their fingerprints: of each the first, so that a branch is compared with few.
 #[derive(Drop)]
 pub(super) struct Earlier {
@@ -130,24 +142,23 @@ impl Earlier {
         None
     }
 
-    /// What is wrong with a branch behind these. Where something follows the alternation, another branch may be tried
-    /// after one that matched.
+    /// What is wrong with a branch after these.
     pub(super) fn problem(
         &self,
         earlier: &[Expr],
         branch: &Expr,
-        is_last_branch: bool,
-        is_at_end: bool,
+        here: Situation,
     ) -> Option<Problem<'static>> {
         if let Expr::Empty = branch {
-            return if is_last_branch { None } else { Some(Problem::EmptyBranch) };
+            let may_be_empty = here.is_last || here.has_calls && earlier.is_empty();
+            return if may_be_empty { None } else { Some(Problem::EmptyBranch) };
         }
         if let Some(i) = self.equal_to(earlier, branch) {
             return Some(Problem::DuplicateBranch {
                 earlier: i.saturating_add(1),
             });
         }
-        if !is_at_end {
+        if !here.is_at_end || here.has_calls {
             return None;
         }
         let i = self.beginning_of(earlier, branch)?;

@@ -1,5 +1,7 @@
 //! Which rules of `lint` speak, and how.
-use crate::lint::rule::{RULES, Rule};
+ghost use Rattle.std.specs.Prelude.{◌≡◌, Contains};
+
+use crate::lint::rule::Rule;
 
 /// What a report of a rule is.
 #[derive(Debug, Clone, Copy, PartialEq, Eq)]
@@ -27,7 +29,9 @@ impl Chosen {
     }
 
     /// The level of the rule.
-    pub fn level(&self, rule: Rule) -> Level {
+    pub fn level(&self, rule: Rule) -> Level
+        ensures denied { result ≡ Level.Deny → Contains self.now.levels Level.Deny }
+    {
         self.levels.get(rule as usize).copied().unwrap_or(Level::Warn)
     }
 

@@ -1,5 +1,5 @@
 //! The rules that look at a node, or at the branches of one.
-use crate::lint::branches::Earlier;
+use crate::lint::branches::{Earlier, Situation};
 use crate::lint::classes::is_single_character_class;
 use crate::lint::problem::Problem;
 use crate::lint::quantifiers::quantifier_problem;
@@ -98,9 +98,13 @@ fn scan_branches<'a>(
 ) -> Result<(), AllocError> {
     let mut earlier = Earlier::none(about.alloc);
     for (i, branch) in branches.iter().enumerate() {
-        let is_last_branch = i.saturating_add(1) == branches.len();
+        let here = Situation {
+            is_last: i.saturating_add(1) == branches.len(),
+            is_at_end,
+            has_calls: about.has_calls,
+        };
         let before = branches.get(..i).unwrap_or(&[]);
-        if let Some(problem) = earlier.problem(before, branch, is_last_branch, is_at_end && !about.has_calls) {
+        if let Some(problem) = earlier.problem(before, branch, here) {
             walk.report(walk.next_span(), problem)?;
         }
         earlier.add(i, branch)?;
