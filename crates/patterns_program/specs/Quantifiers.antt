@@ -25,5 +25,5 @@ is_useless_quantifier _ = false
 
 -- a quantifier that repeats no times; but where there are calls, a group may be defined so
 abbrev pub is_zero_quantifier : Bool → Tree → Bool
-is_zero_quantifier has_calls (repeat t lo hi greedy) = (hi == 0) && not (has_calls && has_group t)
+is_zero_quantifier has_calls (repeat t lo hi greedy) = (lo == 0) && (hi == 0) && not (has_calls && has_group t)
 is_zero_quantifier _ _ = false

@@ -41,13 +41,15 @@ fn covers(earlier: &Expr, later: &Expr) -> bool
 fn begins_with(earlier: &[Expr], later: &[Expr]) -> bool
     ensures { result ≡ spec.begins_with (views earlier.now) (views later.now) }
 {
-    if later.len() < earlier.len() {
-        return false;
-    }
-    for (a, b) in earlier.iter().zip(later) {
-        if !covers(a, b) {
+    let mut rest = later;
+    for piece in earlier {
+        let Some((first, more)) = rest.split_first() else {
+            return false;
+        };
+        if !covers(piece, first) {
             return false;
         }
+        rest = more;
     }
     true
 }

@@ -44,7 +44,12 @@ fn is_zero_quantifier(tree: &Expr, has_calls: bool) -> bool
     ensures { result ≡ spec.is_zero_quantifier has_calls (view tree.now) }
 {
     match tree {
-        Expr::Repeat { child, hi: 0, .. } => !(has_calls && has_group(child)),
+        Expr::Repeat {
+            child,
+            lo: 0,
+            hi: 0,
+            ..
+        } => !(has_calls && has_group(child)),
         _ => false,
     }
 }
