@@ -2,3 +2,5 @@ pub mod Line
 pub mod Empty
 pub mod Quantifiers
 pub mod Branches
+pub mod Rules
+pub mod Targets

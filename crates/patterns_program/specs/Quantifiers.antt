@@ -1,6 +1,8 @@
 -- Quantifiers that are surely not meant.
-use Rattle.std.specs.Prelude.{ℕ, Bool, true, false, ◌&&◌, ◌==◌, ◌-◌, ◌^◌, not}
+use Rattle.std.specs.Prelude.{ℕ, Bool, true, false, ◌&&◌, ◌==◌, not, if◌then◌else◌, Option, Some, None}
 use Rattle.fancy_grammar.specs.Tree.{Tree, repeat}
+use Rattle.patterns_program.specs.declared.lint.problem.Problem.{Problem}
+use Rattle.patterns_program.specs.declared.lint.problem.Problem.TheVariants as problem
 use Rattle.patterns_program.specs.Empty.{matches_only_empty, can_match_empty, has_group}
 
 -- the upper count of a quantifier without a limit
@@ -27,3 +29,12 @@ is_useless_quantifier _ = false
 abbrev pub is_zero_quantifier : Bool → Tree → Bool
 is_zero_quantifier has_calls (repeat t lo hi greedy) = (lo == 0) && (hi == 0) && not (has_calls && has_group t)
 is_zero_quantifier _ _ = false
+
+-- what is wrong with the quantifier of a node, if it has one
+abbrev pub quantifier_problem : Bool → Tree → Option Problem
+quantifier_problem has_calls t =
+    if is_zero_quantifier has_calls t then Some problem.ZeroQuantifier
+    else if is_useless_quantifier t then Some problem.UselessQuantifier
+    else if is_quantified_assertion t then Some problem.QuantifiedAssertion
+    else if is_empty_loop t then Some problem.EmptyLoop
+    else None

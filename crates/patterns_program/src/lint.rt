@@ -18,6 +18,7 @@ mod references;
 mod report;
 pub mod rule;
 mod scan;
+mod targets;
 mod walk;
 
 use crate::fault::Fault;
@@ -48,6 +49,7 @@ fn problems<'a>(
     let about = About {
         alloc,
         pattern,
+        total: tree.total_groups,
         has_calls: tree.contains_subroutines,
     };
     let mut walk = Walk::new(alloc, spans);

@@ -1,14 +1,15 @@
 //! Classes that are surely not meant.
-ghost use Rattle.std.specs.Prelude.{◌≡◌};
-ghost use Rattle.fancy_syntax.specs.View.{view};
+ghost use Rattle.std.specs.Prelude.{◌≡◌, ◌++◌, ◌∷◌, chars, codes, IfSome};
 
 use fancy_lex::text::{after, next};
 use fancy_syntax::expr::Expr;
 
 /// The one letter or digit of a class.
-fn only_character(class: &str) -> Option<char> {
+fn only_character(class: &str) -> Option<char>
+    ensures { IfSome result (λ c. chars class.now ≡ codes "[" ++ (c ∷ codes "]")) }
+{
     let (c, rest) = next(after(class, '[')?)?;
-    if !c.is_alphanumeric() || after(rest, ']')? != "" {
+    if !c.is_alphanumeric() || !after(rest, ']')?.is_empty() {
         return None;
     }
     Some(c)

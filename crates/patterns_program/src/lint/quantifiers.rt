@@ -55,7 +55,9 @@ fn is_zero_quantifier(tree: &Expr, has_calls: bool) -> bool
 }
 
 /// What is wrong with the node's quantifier.
-pub(super) fn quantifier_problem(tree: &Expr, has_calls: bool) -> Option<Problem<'static>> {
+pub(super) fn quantifier_problem(tree: &Expr, has_calls: bool) -> Option<Problem<'static>>
+    ensures { result ≡ spec.quantifier_problem has_calls (view tree.now) }
+{
     if is_zero_quantifier(tree, has_calls) {
         Some(Problem::ZeroQuantifier)
     } else if is_useless_quantifier(tree) {

@@ -84,11 +84,6 @@ impl<'a> Ways<'a> {
         })
     }
 
-    /// How many groups have a number.
-    fn total(&self) -> usize {
-        self.captures.len().saturating_sub(1)
-    }
-
     /// Whether an earlier repetition of a loop round here may have matched the group, which has opened.
     fn is_in_loop(&self, group: usize) -> bool {
         self.before_loop.is_some_and(|before| before < group)
@@ -165,37 +160,16 @@ impl<'a> Ways<'a> {
         }
     }
 
-    /// Notes that something refers to the group, and answers whether there is one of this number.
-    fn refer(&mut self, group: usize) -> bool {
-        match self.captures.get_mut(group) {
-            Some(capture) => {
-                capture.is_referred_to = true;
-                true
-            }
-            None => false,
+    /// Notes that something refers to the group.
+    fn refer(&mut self, group: usize) {
+        if let Some(capture) = self.captures.get_mut(group) {
+            capture.is_referred_to = true;
         }
-    }
-
-    /// Looks at a condition on a group.
-    fn look_at_condition(&mut self, span: Span, group: usize) -> Result<(), AllocError> {
-        if self.refer(group) {
-            return Ok(());
-        }
-        let total = self.total();
-        self.walk.report(span, Problem::MissingGroup { group, total })
-    }
-
-    /// Looks at a call.
-    fn look_at_call(&mut self, span: Span, group: usize) -> Result<(), AllocError> {
-        if self.refer(group) {
-            return Ok(());
-        }
-        self.walk.report(span, Problem::UnresolvedCall)
     }
 
     /// Looks at a back reference.
     fn look_at_backref(&mut self, span: Span, group: usize) -> Result<(), AllocError> {
-        self.look_at_condition(span, group)?;
+        self.refer(group);
         if self.has_calls {
             return Ok(());
         }
@@ -300,12 +274,12 @@ pub(super) fn follow(tree: &Expr, ways: &mut Ways<'_>) -> Result<(), AllocError>
             follow(exp, ways)
         }
         Expr::Backref { group, .. } => ways.look_at_backref(span, *group),
-        Expr::BackrefWithRelativeRecursionLevel { group, .. } => {
-            ways.look_at_condition(span, *group)
+        Expr::BackrefWithRelativeRecursionLevel { group, .. }
+        | Expr::BackrefExistsCondition { group, .. }
+        | Expr::SubroutineCall(group) => {
+            ways.refer(*group);
+            Ok(())
         }
-        Expr::BackrefExistsCondition { group, .. } => ways.look_at_condition(span, *group),
-        Expr::SubroutineCall(group) => ways.look_at_call(span, *group),
-        Expr::AstNode(..) => ways.walk.report(span, Problem::UnresolvedCall),
         _ => Ok(()),
     }
 }

@@ -1,4 +1,7 @@
 //! The rules of `lint`.
+ghost use Rattle.std.specs.Prelude.{◌≡◌, IfSome};
+ghost use Rattle.patterns_program.specs.Rules.{rule_name};
+
 use crate::fault::Fault;
 use std::io::Write;
 
@@ -64,7 +67,9 @@ struct About {
 
 impl Rule {
     /// What is said of the rule.
-    fn about(self) -> About {
+    fn about(self) -> About
+        ensures name { result.name.now ≡ rule_name self }
+    {
         match self {
             Rule::MissingGroup => About {
                 name: "missing-group",
@@ -154,7 +159,9 @@ impl Rule {
     }
 
     /// The rule's name, as options and reports have it: words in lower case with hyphens.
-    pub fn name(self) -> &'static str {
+    pub fn name(self) -> &'static str
+        ensures { result.now ≡ rule_name self }
+    {
         self.about().name
     }
 
@@ -168,8 +175,10 @@ impl Rule {
         self.about().help
     }
 
-    /// The rule of this name.
-    pub fn named(name: &str) -> Option<Rule> {
+    /// The rule of this name; none if no rule has it.
+    pub fn named(name: &str) -> Option<Rule>
+        ensures { IfSome result (λ rule. rule_name rule ≡ name.now) }
+    {
         for rule in RULES.iter() {
             if rule.name() == name {
                 return Some(*rule);

@@ -3,6 +3,7 @@ use crate::lint::branches::{Earlier, Situation};
 use crate::lint::classes::is_single_character_class;
 use crate::lint::problem::Problem;
 use crate::lint::quantifiers::quantifier_problem;
+use crate::lint::targets::{is_unresolved_call, missing_group};
 use crate::lint::walk::Walk;
 use fancy_syntax::expr::{Absent, Expr, LookAround};
 use fancy_syntax::span::Span;
@@ -13,6 +14,8 @@ use std::alloc::{AllocError, Global};
 pub(super) struct About<'a> {
     pub(super) alloc: Global,
     pub(super) pattern: &'a str,
+    /// How many groups have a number.
+    pub(super) total: usize,
     /// Whether it has calls, so that a group may be matched elsewhere than it stands.
     pub(super) has_calls: bool,
 }
@@ -22,6 +25,13 @@ fn node_problem(tree: &Expr, span: Span, about: About<'_>) -> Option<Problem<'st
     let before = about.pattern.get(..span.start).unwrap_or("");
     if is_single_character_class(tree, before) {
         return Some(Problem::SingleCharacterClass);
+    }
+    if is_unresolved_call(tree, about.total) {
+        return Some(Problem::UnresolvedCall);
+    }
+    if let Some(group) = missing_group(tree, about.total) {
+        let total = about.total;
+        return Some(Problem::MissingGroup { group, total });
     }
     quantifier_problem(tree, about.has_calls)
 }
