@@ -36,6 +36,7 @@ use fancy_syntax::expr::Expr;
 use fancy_syntax::span::Span;
 use fancy_syntax::tree::ExprTree;
 use std::alloc::{AllocError, Global};
+use std::io;
 use std::io::Write;
 
 /// All that the rules find, in the order of the text.
@@ -64,6 +65,18 @@ fn problems<'a>(
     Ok(found)
 }
 
+/// How many reports are written of a pattern. Each shows the pattern's line, which may be long.
+const MAX_REPORTS: usize = 100;
+
+/// Says how many reports are not written.
+fn write_rest<O: Write>(out: &mut O, at: Location<'_>, total: usize) -> io::Result<()> {
+    let more = total.saturating_sub(MAX_REPORTS);
+    if more > 0 {
+        writeln!(out, "{at}: {more} more reports are not shown")?;
+    }
+    Ok(())
+}
+
 /// Writes a report for each problem whose rule is not allowed, and answers whether that of one is denied.
 fn write_problems<O: Write>(
     at: Location<'_>,
@@ -74,14 +87,20 @@ fn write_problems<O: Write>(
 ) -> Result<bool, Fault>
     ensures { IfOk result (λ is_denied. OnTrue is_denied (Contains chosen.now.levels Level.Deny)) }
 {
+    let mut total = 0usize;
     let mut is_denied = false;
-    for problem in found {
-        let level = chosen.level(problem.problem.rule());
-        if level != Level::Allow {
-            write_report(out, at, pattern, level, *problem)?;
+    for one in found {
+        let level = chosen.level(one.problem.rule());
+        if level == Level::Allow {
+            continue;
         }
+        if total < MAX_REPORTS {
+            write_report(out, at, pattern, level, *one)?;
+        }
+        total = total.saturating_add(1);
         is_denied = is_denied || level == Level::Deny;
     }
+    write_rest(out, at, total)?;
     Ok(is_denied)
 }
 

@@ -103,20 +103,25 @@ impl Earlier {
         }
     }
 
-    /// Adds the branch, which has this index.
-    pub(super) fn add(&mut self, i: usize, branch: &Expr) -> Result<(), AllocError> {
-        add_first(&mut self.whole, Fingerprint::of(branch), i)?;
+    /// Adds the branch, which has this index and this fingerprint.
+    pub(super) fn add(
+        &mut self,
+        i: usize,
+        branch: &Expr,
+        whole: Fingerprint,
+    ) -> Result<(), AllocError> {
+        add_first(&mut self.whole, whole, i)?;
         match text_of(branch) {
             Some(text) => add_first(&mut self.literals, text, i),
             None => Ok(()),
         }
     }
 
-    /// The branch that is equal to this one.
-    fn equal_to(&self, earlier: &[Expr], branch: &Expr) -> Option<usize>
+    /// The branch that is equal to this one, which has this fingerprint.
+    fn equal_to(&self, earlier: &[Expr], branch: &Expr, whole: Fingerprint) -> Option<usize>
         ensures { IfSome result (λ i. IsSomeAnd (slice_get (views earlier.now) i) (λ e. e ≡ view branch.now)) }
     {
-        let i = *self.whole.get(&Fingerprint::of(branch).number())?;
+        let i = *self.whole.get(&whole.number())?;
         if earlier.get(i)? == branch {
             return Some(i);
         }
@@ -144,18 +149,19 @@ impl Earlier {
         None
     }
 
-    /// What is wrong with a branch after these.
+    /// What is wrong with a branch after these, which has this fingerprint.
     pub(super) fn problem(
         &self,
         earlier: &[Expr],
         branch: &Expr,
+        whole: Fingerprint,
         here: Situation,
     ) -> Option<Problem<'static>> {
         if let Expr::Empty = branch {
             let may_be_empty = here.is_last || here.has_calls && earlier.is_empty();
             return if may_be_empty { None } else { Some(Problem::EmptyBranch) };
         }
-        if let Some(i) = self.equal_to(earlier, branch) {
+        if let Some(i) = self.equal_to(earlier, branch, whole) {
             return Some(Problem::DuplicateBranch {
                 earlier: i.saturating_add(1),
             });

@@ -1,5 +1,6 @@
 //! The rules that look at a node, or at the branches of one.
 use crate::lint::branches::{Earlier, Situation};
+use crate::lint::fingerprint::Fingerprint;
 use crate::lint::classes::is_single_character_class;
 use crate::lint::problem::Problem;
 use crate::lint::quantifiers::quantifier_problem;
@@ -114,10 +115,11 @@ fn scan_branches<'a>(
             has_calls: about.has_calls,
         };
         let before = branches.get(..i).unwrap_or(&[]);
-        if let Some(problem) = earlier.problem(before, branch, here) {
+        let whole = Fingerprint::of(branch);
+        if let Some(problem) = earlier.problem(before, branch, whole, here) {
             walk.report(walk.next_span(), problem)?;
         }
-        earlier.add(i, branch)?;
+        earlier.add(i, branch, whole)?;
         scan(branch, walk, about, is_at_end)?;
     }
     Ok(())
