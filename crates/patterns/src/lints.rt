@@ -133,7 +133,10 @@ static ROWS: [(&str, &str); 98] = [
     (r"((?i)a)(?i)b", ""),
     (r"()(?(1)(?i)a|(?i)b)(?i)c", "16 useless-flag"),
     (r"(?i)[(?i)]\(?i(?#(?i)", ""),
-    (r"(?<n(?x>a)(?x)b( ?x:c)(?x)", "19 useless-flag, 25 useless-flag"),
+    (
+        r"(?<n(?x>a)(?x)b( ?x:c)(?x)",
+        "19 useless-flag, 25 useless-flag",
+    ),
     (r"(?-mix:a(?-mix:b))", ""),
     (r"(?((?i)a)(?i)b|c)d(?i)e", "12 useless-flag"),
     (r"[a]b", "1 single-character-class"),
@@ -141,7 +144,10 @@ static ROWS: [(&str, &str); 98] = [
     (r"[ab][^a][.][ ][\d]", ""),
     (r"\d[0]", "3 single-character-class"),
     (r"(a)\1[0]", ""),
-    (r"\A(?:\d{4}-\d\d|(?<t>now|today))(?:[ T](?<z>[+-]\d+|Z)?)*\z", ""),
+    (
+        r"\A(?:\d{4}-\d\d|(?<t>now|today))(?:[ T](?<z>[+-]\d+|Z)?)*\z",
+        "",
+    ),
 ];
 
 #[test]

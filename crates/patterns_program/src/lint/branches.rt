@@ -159,7 +159,11 @@ impl Earlier {
     ) -> Option<Problem<'static>> {
         if let Expr::Empty = branch {
             let may_be_empty = here.is_last || here.has_calls && earlier.is_empty();
-            return if may_be_empty { None } else { Some(Problem::EmptyBranch) };
+            return if may_be_empty {
+                None
+            } else {
+                Some(Problem::EmptyBranch)
+            };
         }
         if let Some(i) = self.equal_to(earlier, branch, whole) {
             return Some(Problem::DuplicateBranch {

@@ -32,7 +32,10 @@ impl Chosen {
     pub fn level(&self, rule: Rule) -> Level
         ensures denied { result ≡ Level.Deny → Contains self.now.levels Level.Deny }
     {
-        self.levels.get(rule as usize).copied().unwrap_or(Level::Warn)
+        self.levels
+            .get(rule as usize)
+            .copied()
+            .unwrap_or(Level::Warn)
     }
 
     /// Gives the rule this level.

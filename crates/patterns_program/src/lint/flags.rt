@@ -92,7 +92,11 @@ impl<'a> Reading<'a> {
 
     /// Opens a group, whose inside begins at the text.
     fn open(&mut self, inside: &'a str) -> Result<(), AllocError> {
-        let outer = if self.opens_condition { None } else { Some(self.flags) };
+        let outer = if self.opens_condition {
+            None
+        } else {
+            Some(self.flags)
+        };
         self.opens_condition = false;
         self.outer.push(outer)?;
         self.rest = inside;

@@ -79,10 +79,17 @@ impl fmt::Display for Problem<'_> {
     fn fmt<W: fmt::Write>(&self, f: &mut fmt::Formatter<W>) -> fmt::Result {
         match self {
             Problem::MissingGroup { group, total } => {
-                write!(f, "reference to group {group}, but the pattern has {}", Total(*total))
+                write!(
+                    f,
+                    "reference to group {group}, but the pattern has {}",
+                    Total(*total)
+                )
             }
             Problem::UselessBackreference { group } => {
-                write!(f, "back reference to {group}, which cannot have matched here")
+                write!(
+                    f,
+                    "back reference to {group}, which cannot have matched here"
+                )
             }
             Problem::UnresolvedCall => f.write_str("subroutine call that refers to no group"),
             Problem::DuplicateGroupName { group } => {

@@ -128,7 +128,8 @@ impl<'a> Ways<'a> {
         }
         if self.add_name(group) {
             let group = self.names.group(group);
-            self.walk.report(span, Problem::DuplicateGroupName { group })?;
+            self.walk
+                .report(span, Problem::DuplicateGroupName { group })?;
         }
         Ok(group)
     }
@@ -190,7 +191,8 @@ impl<'a> Ways<'a> {
 
     fn report_useless(&mut self, span: Span, group: usize) -> Result<(), AllocError> {
         let group = self.names.group(group);
-        self.walk.report(span, Problem::UselessBackreference { group })
+        self.walk
+            .report(span, Problem::UselessBackreference { group })
     }
 
     /// Leaves the outermost loop: what has not opened in it is not matched by an earlier repetition.

@@ -31,9 +31,18 @@ pub(super) fn write_report<O: Write>(
     } = Cut::at(pattern, span.start);
     let line = at.line.saturating_add(above as u64);
     let column = column_after(before);
-    let word = if level == Level::Deny { "error" } else { "warning" };
+    let word = if level == Level::Deny {
+        "error"
+    } else {
+        "warning"
+    };
     let rule = problem.rule();
-    writeln!(out, "{}:{line}:{column}: {word}: {problem} [{}]", at.file, rule.name())?;
+    writeln!(
+        out,
+        "{}:{line}:{column}: {word}: {problem} [{}]",
+        at.file,
+        rule.name()
+    )?;
     writeln!(out, "{before}{after}")?;
     let length = span.end.saturating_sub(span.start);
     write_underline(out, before, after.get(..length).unwrap_or(after))?;

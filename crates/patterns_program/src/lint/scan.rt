@@ -1,7 +1,7 @@
 //! The rules that look at a node, or at the branches of one.
 use crate::lint::branches::{Earlier, Situation};
-use crate::lint::fingerprint::Fingerprint;
 use crate::lint::classes::is_single_character_class;
+use crate::lint::fingerprint::Fingerprint;
 use crate::lint::problem::Problem;
 use crate::lint::quantifiers::quantifier_problem;
 use crate::lint::targets::{is_unresolved_call, missing_group};
