@@ -1,5 +1,5 @@
 //! Branches that are surely not meant.
-ghost use Rattle.std.specs.Prelude.{◌≡◌, true, IfSome, IsSomeAnd, slice_get};
+ghost use Rattle.std.specs.Prelude.{◌≡◌, ◌↔◌, true, IsTrue, IfSome, IsSomeAnd, slice_get};
 ghost use Rattle.fancy_syntax.specs.View.{view, views};
 ghost use Rattle.patterns_program.specs.Branches as spec;
 
@@ -59,6 +59,13 @@ fn is_unreachable(earlier: &Expr, later: &Expr) -> bool
     ensures { result ≡ spec.is_unreachable (view earlier.now) (view later.now) }
 {
     begins_with(pieces(earlier), pieces(later))
+}
+
+/// Whether the two are equal.
+fn is_equal(earlier: &Expr, later: &Expr) -> bool
+    ensures { IsTrue result ↔ (view earlier.now ≡ view later.now) }
+{
+    earlier == later
 }
 
 /// Where a branch is.
@@ -121,9 +128,11 @@ impl Earlier {
     fn equal_to(&self, earlier: &[Expr], branch: &Expr, whole: Fingerprint) -> Option<usize>
         ensures { IfSome result (λ i. IsSomeAnd (slice_get (views earlier.now) i) (λ e. e ≡ view branch.now)) }
     {
-        let i = *self.whole.get(&whole.number())?;
-        if earlier.get(i)? == branch {
-            return Some(i);
+        if let Some(i) = self.whole.get(&whole.number())
+            && let Some(one) = earlier.get(*i)
+            && is_equal(one, branch)
+        {
+            return Some(*i);
         }
         None
     }

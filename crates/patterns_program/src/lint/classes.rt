@@ -5,11 +5,14 @@ use fancy_lex::text::{after, next};
 use fancy_syntax::expr::Expr;
 
 /// The one letter or digit of a class.
+#[tactic(auto, using(fancy_lex::proofs::TextLemmas::strip_is))]
 fn only_character(class: &str) -> Option<char>
     ensures { IfSome result (λ c. chars class.now ≡ codes "[" ++ (c ∷ codes "]")) }
 {
-    let (c, rest) = next(after(class, '[')?)?;
-    if !c.is_alphanumeric() || !after(rest, ']')?.is_empty() {
+    let inside = after(class, '[')?;
+    let (c, rest) = next(inside)?;
+    let end = after(rest, ']')?;
+    if !c.is_alphanumeric() || next(end).is_some() {
         return None;
     }
     Some(c)

@@ -1,7 +1,7 @@
 //! What matches the empty text.
 ghost use Rattle.std.specs.Prelude.{◌≡◌};
 ghost use Rattle.fancy_syntax.specs.Tree.{trees_of};
-ghost use Rattle.fancy_syntax.specs.View.{view, views};
+ghost use Rattle.fancy_syntax.specs.View.{view, view_absent, views};
 ghost use Rattle.patterns_program.specs.Empty as spec;
 
 use fancy_syntax::expr::{Absent, Expr};
@@ -19,9 +19,8 @@ pub(super) fn matches_only_empty(tree: &Expr) -> bool
         | Expr::ContinueFromPreviousMatchEnd
         | Expr::BackrefExistsCondition { .. }
         | Expr::BacktrackingControlVerb(_)
-        | Expr::DefineGroup { .. }
-        | Expr::Absent(Absent::Stopper(_))
-        | Expr::Absent(Absent::Clear) => true,
+        | Expr::DefineGroup { .. } => true,
+        Expr::Absent(absent) => matches!(absent, Absent::Stopper(_) | Absent::Clear),
         Expr::Concat(trees) => all_match_only_empty(trees),
         Expr::Alt(trees) => all_match_only_empty(trees),
         Expr::Group(child) => matches_only_empty(child),
@@ -65,9 +64,8 @@ pub(super) fn can_match_empty(tree: &Expr) -> bool
         | Expr::KeepOut
         | Expr::ContinueFromPreviousMatchEnd
         | Expr::BackrefExistsCondition { .. }
-        | Expr::DefineGroup { .. }
-        | Expr::Absent(Absent::Stopper(_))
-        | Expr::Absent(Absent::Clear) => true,
+        | Expr::DefineGroup { .. } => true,
+        Expr::Absent(absent) => matches!(absent, Absent::Stopper(_) | Absent::Clear),
         Expr::Concat(trees) => all_can_match_empty(trees),
         Expr::Alt(trees) => any_can_match_empty(trees),
         Expr::Group(child) => can_match_empty(child),
@@ -125,15 +123,26 @@ pub(super) fn has_group(tree: &Expr) -> bool
         Expr::Repeat { child, .. } => has_group(child),
         Expr::AtomicGroup(child) => has_group(child),
         Expr::DefineGroup { definitions } => has_group(definitions),
-        Expr::Absent(Absent::Repeater(child)) => has_group(child),
-        Expr::Absent(Absent::Stopper(child)) => has_group(child),
-        Expr::Absent(Absent::Expression { absent, exp }) => has_group(absent) || has_group(exp),
+        Expr::Absent(absent) => absent_has_group(absent),
         Expr::Conditional {
             condition,
             true_branch,
             false_branch,
         } => has_group(condition) || has_group(true_branch) || has_group(false_branch),
         _ => false,
+    }
+}
+
+/// Whether the absent form holds a capturing group.
+#[cycle(has_group)]
+fn absent_has_group(absent: &Absent) -> bool
+    ensures { result ≡ spec.has_group (view_absent absent.now) }
+{
+    match absent {
+        Absent::Repeater(child) => has_group(child),
+        Absent::Expression { absent, exp } => has_group(absent) || has_group(exp),
+        Absent::Stopper(child) => has_group(child),
+        Absent::Clear => false,
     }
 }
 

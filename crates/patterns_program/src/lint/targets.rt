@@ -3,7 +3,7 @@ ghost use Rattle.std.specs.Prelude.{◌≡◌, if◌then◌else◌, nat_lt, Some
 ghost use Rattle.fancy_syntax.specs.View.{view};
 ghost use Rattle.patterns_program.specs.Targets as spec;
 
-use fancy_syntax::expr::{AstNode, Expr};
+use fancy_syntax::expr::Expr;
 
 /// The number, if it is above the number of groups.
 fn above(total: usize, group: usize) -> Option<usize>
@@ -24,13 +24,13 @@ pub(super) fn missing_group(tree: &Expr, total: usize) -> Option<usize>
     }
 }
 
-/// Whether the node is a call that refers to no group.
+/// Whether the node is a call that refers to no group. No other node of a returned tree is an `AstNode`.
 pub(super) fn is_unresolved_call(tree: &Expr, total: usize) -> bool
     ensures { result ≡ spec.is_unresolved_call total (view tree.now) }
 {
     match tree {
         Expr::SubroutineCall(group) => total < *group,
-        Expr::AstNode(AstNode::SubroutineCall(_), _) => true,
+        Expr::AstNode(..) => true,
         _ => false,
     }
 }
