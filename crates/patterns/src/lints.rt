@@ -30,8 +30,8 @@ fn told(line: &str) -> Option<(&str, &str)> {
 }
 
 /// What is reported of the pattern: a column and a rule each, with commas between.
-fn reported(alloc: Global, pattern: &str) -> Result<String, Fail> {
-    let (_, out) = lint(alloc, pattern, Chosen::new())?;
+fn reported(alloc: Global, pattern: &str, chosen: Chosen) -> Result<String, Fail> {
+    let (_, out) = lint(alloc, pattern, chosen)?;
     let mut reported = String::new(alloc);
     for line in str::from_utf8(&out.text)?.lines() {
         if let Some((column, rule)) = told(line) {
@@ -42,8 +42,8 @@ fn reported(alloc: Global, pattern: &str) -> Result<String, Fail> {
     Ok(reported)
 }
 
-/// Patterns, and what is reported of each.
-static ROWS: [(&str, &str); 98] = [
+/// Patterns, and what is reported of each where no level was chosen.
+static ROWS: [(&str, &str); 94] = [
     (r"(a)\2", "4 missing-group"),
     (r"(a)\1", ""),
     (r"(?<a>x)\k<a>", ""),
@@ -75,11 +75,7 @@ static ROWS: [(&str, &str); 98] = [
     (r"(?<a>x)|(?<a>y)", ""),
     (r"(?:(?<a>x)|(?<a>y))(?<a>z)", "20 duplicate-group-name"),
     (r"(?(?<b>x)(?<a>x)|(?<a>y))", ""),
-    (r"(?<a>x)(y)", "8 unused-capturing-group"),
-    (r"(?<a>x)(y)\2", ""),
-    (r"(?<a>x)(y)(?(2)z)", ""),
-    (r"(?<a>x)(y)\g<2>", ""),
-    (r"(x)(y)", ""),
+    (r"(?<a>x)(y)", ""),
     (r"a|b|a", "5 duplicate-branch"),
     (r"(?:foo)|bar|foo", "13 duplicate-branch"),
     (r"(?:\d+|x|\d+)y", "10 duplicate-branch"),
@@ -153,15 +149,37 @@ static ROWS: [(&str, &str); 98] = [
 #[test]
 fn reports(rt: HostRuntime) -> Result<(), Fail> {
     for (pattern, expected) in ROWS.iter() {
-        let reported = reported(rt.alloc(), pattern)?;
+        let reported = reported(rt.alloc(), pattern, Chosen::new())?;
         assert!(rt; reported.as_str() == *expected, "{pattern}: {reported}");
     }
     Ok(())
 }
 
-/// Whether the rule reports its example, and is found by its name.
+/// Patterns, and what is reported of each where `unused-capturing-group`, which is off by default, was chosen.
+static UNUSED: [(&str, &str); 5] = [
+    (r"(?<a>x)(y)", "8 unused-capturing-group"),
+    (r"(?<a>x)(y)\2", ""),
+    (r"(?<a>x)(y)(?(2)z)", ""),
+    (r"(?<a>x)(y)\g<2>", ""),
+    (r"(x)(y)", ""),
+];
+
+#[test]
+fn unused_groups(rt: HostRuntime) -> Result<(), Fail> {
+    let mut chosen = Chosen::new();
+    chosen.set(Rule::UnusedCapturingGroup, Level::Warn);
+    for (pattern, expected) in UNUSED.iter() {
+        let reported = reported(rt.alloc(), pattern, chosen)?;
+        assert!(rt; reported.as_str() == *expected, "{pattern}: {reported}");
+    }
+    Ok(())
+}
+
+/// Whether the rule reports its example where it is chosen, and is found by its name.
 fn is_shown(alloc: Global, rule: Rule) -> Result<bool, Fail> {
-    let reported = reported(alloc, rule.example())?;
+    let mut chosen = Chosen::new();
+    chosen.set(rule, Level::Warn);
+    let reported = reported(alloc, rule.example(), chosen)?;
     Ok(reported.as_str().contains(rule.name()) && Rule::named(rule.name()) == Some(rule))
 }
 

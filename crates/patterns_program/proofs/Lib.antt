@@ -1,1 +1,2 @@
 mod BranchLemmas
+mod NodeLemmas

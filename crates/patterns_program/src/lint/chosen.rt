@@ -21,11 +21,14 @@ pub struct Chosen {
 }
 
 impl Chosen {
-    /// Every rule warns.
+    /// Every rule warns but `unused-capturing-group`, which is silent: many patterns have named and numbered groups on
+    /// purpose.
     pub fn new() -> Chosen {
-        Chosen {
+        let mut chosen = Chosen {
             levels: [Level::Warn; 14],
-        }
+        };
+        chosen.set(Rule::UnusedCapturingGroup, Level::Allow);
+        chosen
     }
 
     /// The level of the rule.

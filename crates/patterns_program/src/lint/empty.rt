@@ -7,6 +7,7 @@ ghost use Rattle.patterns_program.specs.Empty as spec;
 use fancy_syntax::expr::{Absent, Expr};
 
 /// Whether the tree matches nothing but the empty text, as far as its form says.
+#[tactic(auto, using(crate::proofs::NodeLemmas::node_steps))]
 #[cycle(only_empty)]
 pub(super) fn matches_only_empty(tree: &Expr) -> bool
     ensures { result ≡ spec.matches_only_empty (view tree.now) }
@@ -35,7 +36,15 @@ pub(super) fn matches_only_empty(tree: &Expr) -> bool
                 && matches_only_empty(true_branch)
                 && matches_only_empty(false_branch)
         }
-        _ => false,
+        Expr::Any { .. }
+        | Expr::GeneralNewline { .. }
+        | Expr::Literal { .. }
+        | Expr::LiteralBytes { .. }
+        | Expr::Delegate { .. }
+        | Expr::Backref { .. }
+        | Expr::BackrefWithRelativeRecursionLevel { .. }
+        | Expr::SubroutineCall(_) => false,
+        Expr::AstNode(..) => false,
     }
 }
 
@@ -53,6 +62,7 @@ fn all_match_only_empty(trees: &[Expr]) -> bool
 }
 
 /// Whether the tree can match the empty text, as far as its form says. Of a reference, a call or a verb it does not.
+#[tactic(auto, using(crate::proofs::NodeLemmas::node_steps))]
 #[cycle(can_be_empty)]
 pub(super) fn can_match_empty(tree: &Expr) -> bool
     ensures { result ≡ spec.can_match_empty (view tree.now) }
@@ -80,7 +90,16 @@ pub(super) fn can_match_empty(tree: &Expr) -> bool
                 && can_match_empty(true_branch)
                 && can_match_empty(false_branch)
         }
-        _ => false,
+        Expr::Any { .. }
+        | Expr::GeneralNewline { .. }
+        | Expr::Literal { .. }
+        | Expr::LiteralBytes { .. }
+        | Expr::Delegate { .. }
+        | Expr::Backref { .. }
+        | Expr::BackrefWithRelativeRecursionLevel { .. }
+        | Expr::BacktrackingControlVerb(_)
+        | Expr::SubroutineCall(_) => false,
+        Expr::AstNode(..) => false,
     }
 }
 
@@ -111,6 +130,7 @@ fn any_can_match_empty(trees: &[Expr]) -> bool
 }
 
 /// Whether the tree holds a capturing group.
+#[tactic(auto, using(crate::proofs::NodeLemmas::node_steps))]
 #[cycle(has_group)]
 pub(super) fn has_group(tree: &Expr) -> bool
     ensures { result ≡ spec.has_group (view tree.now) }
@@ -129,7 +149,21 @@ pub(super) fn has_group(tree: &Expr) -> bool
             true_branch,
             false_branch,
         } => has_group(condition) || has_group(true_branch) || has_group(false_branch),
-        _ => false,
+        Expr::Empty
+        | Expr::Any { .. }
+        | Expr::Assertion(_)
+        | Expr::GeneralNewline { .. }
+        | Expr::Literal { .. }
+        | Expr::LiteralBytes { .. }
+        | Expr::Delegate { .. }
+        | Expr::Backref { .. }
+        | Expr::BackrefWithRelativeRecursionLevel { .. }
+        | Expr::KeepOut
+        | Expr::ContinueFromPreviousMatchEnd
+        | Expr::BackrefExistsCondition { .. }
+        | Expr::BacktrackingControlVerb(_)
+        | Expr::SubroutineCall(_) => false,
+        Expr::AstNode(..) => false,
     }
 }
 

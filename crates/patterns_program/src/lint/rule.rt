@@ -16,7 +16,7 @@ pub enum Rule {
     UnresolvedCall,
     /// A name that several groups have, which can take part in one match.
     DuplicateGroupName,
-    /// A group with a number that nothing refers to, beside groups with a name.
+    /// A group with a number that nothing refers to, beside groups with a name. It is silent unless it is chosen.
     UnusedCapturingGroup,
     /// A branch that is equal to an earlier one.
     DuplicateBranch,
@@ -97,7 +97,7 @@ impl Rule {
             },
             Rule::UnusedCapturingGroup => About {
                 name: "unused-capturing-group",
-                what: "a group with a number that nothing refers to, beside groups with a name",
+                what: "a group with a number that nothing refers to, beside groups with a name (off by default)",
                 example: r"(?<a>x)(y)",
                 help: "give it a name, or write it as (?:...)",
             },

@@ -25,6 +25,7 @@ pub(super) fn missing_group(tree: &Expr, total: usize) -> Option<usize>
 }
 
 /// Whether the node is a call that refers to no group. No other node of a returned tree is an `AstNode`.
+#[tactic(auto, using(crate::proofs::NodeLemmas::node_steps))]
 pub(super) fn is_unresolved_call(tree: &Expr, total: usize) -> bool
     ensures { result ≡ spec.is_unresolved_call total (view tree.now) }
 {
