@@ -30,7 +30,7 @@ of_ast f b h k n place =
     ap (λ g. f (g place)) (fold_out-AstNode Tree (ℕ → Tree) Tree absent_step ast_step expr_step n)
     ∙ ast_cases f b h k (out-AstNode n) place
 
-view_AstNode : (n : ast.AstNode) (place : ℕ) → view (AstNode n place) ≡ view_ast n place
+pub view_AstNode : (n : ast.AstNode) (place : ℕ) → view (AstNode n place) ≡ view_ast n place
 view_AstNode n place = search (rules, the_lemmas)
 
 pub ast_only_empty : (n : ast.AstNode) (p : ℕ) → matches_only_empty (view_ast n p) ≡ false

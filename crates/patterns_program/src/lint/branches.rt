@@ -65,7 +65,7 @@ fn is_unreachable(earlier: &Expr, later: &Expr) -> bool
 fn is_equal(earlier: &Expr, later: &Expr) -> bool
     ensures { IsTrue result ↔ (view earlier.now ≡ view later.now) }
 {
-    earlier == later
+    *earlier == *later
 }
 
 /// Where a branch is.

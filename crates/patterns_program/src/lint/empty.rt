@@ -6,6 +6,19 @@ ghost use Rattle.patterns_program.specs.Empty as spec;
 
 use fancy_syntax::expr::{Absent, Expr};
 
+/// Whether the absent form takes no text.
+fn takes_nothing(absent: &Absent) -> bool
+    ensures only { result ≡ spec.matches_only_empty (view_absent absent.now) }
+    ensures can { result ≡ spec.can_match_empty (view_absent absent.now) }
+{
+    match absent {
+        Absent::Stopper(_) => true,
+        Absent::Clear => true,
+        Absent::Repeater(_) => false,
+        Absent::Expression { .. } => false,
+    }
+}
+
 /// Whether the tree matches nothing but the empty text, as far as its form says.
 #[tactic(auto, using(crate::proofs::NodeLemmas::node_steps))]
 #[cycle(only_empty)]
@@ -21,7 +34,7 @@ pub(super) fn matches_only_empty(tree: &Expr) -> bool
         | Expr::BackrefExistsCondition { .. }
         | Expr::BacktrackingControlVerb(_)
         | Expr::DefineGroup { .. } => true,
-        Expr::Absent(absent) => matches!(absent, Absent::Stopper(_) | Absent::Clear),
+        Expr::Absent(absent) => takes_nothing(absent),
         Expr::Concat(trees) => all_match_only_empty(trees),
         Expr::Alt(trees) => all_match_only_empty(trees),
         Expr::Group(child) => matches_only_empty(child),
@@ -75,7 +88,7 @@ pub(super) fn can_match_empty(tree: &Expr) -> bool
         | Expr::ContinueFromPreviousMatchEnd
         | Expr::BackrefExistsCondition { .. }
         | Expr::DefineGroup { .. } => true,
-        Expr::Absent(absent) => matches!(absent, Absent::Stopper(_) | Absent::Clear),
+        Expr::Absent(absent) => takes_nothing(absent),
         Expr::Concat(trees) => all_can_match_empty(trees),
         Expr::Alt(trees) => any_can_match_empty(trees),
         Expr::Group(child) => can_match_empty(child),

@@ -198,11 +198,14 @@ impl<'a> Ways<'a> {
     /// Leaves the outermost loop: what has not opened in it is not matched by an earlier repetition.
     fn leave_loop(&mut self) -> Result<(), AllocError> {
         self.before_loop = None;
-        while let Some(Pending { span, group }) = self.pending.pop() {
-            if group > self.opened {
+        for i in 0..self.pending.len() {
+            if let Some(Pending { span, group }) = self.pending.get(i).copied()
+                && group > self.opened
+            {
                 self.report_useless(span, group)?;
             }
         }
+        self.pending.clear();
         Ok(())
     }
 
