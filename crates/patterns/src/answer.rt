@@ -1,11 +1,13 @@
 //! What the program does with its arguments.
+use crate::rules::rules_chosen;
 use crate::words::{canvas_chosen, command, flags_chosen, style_chosen, verb_chosen};
 use clap::error::ErrorKind;
 use clap::{ArgMatches, Error};
 use patterns_program::draw::draw_tree;
 use patterns_program::fault::{Fault, give_up};
+use patterns_program::lint::rule::write_rules;
 use patterns_program::picture::draw_picture;
-use patterns_program::run::{Job, run};
+use patterns_program::run::{Job, Verb, run};
 use patterns_program::sources::Sources;
 use std::alloc::{AllocError, Global};
 use std::io::Write;
@@ -52,6 +54,37 @@ fn answer_pattern<O: Write, E: Write>(
     draw_tree(alloc, flags, style_chosen(matches), pattern, out, err)
 }
 
+/// Lists the rules of `lint`, or reports what they find in files.
+fn answer_lint<S: Sources, O: Write, E: Write>(
+    alloc: Global,
+    flags: u32,
+    matches: &ArgMatches<'_>,
+    sources: &S,
+    out: &mut O,
+    err: &mut E,
+) -> Result<u8, Fault> {
+    if matches.get_flag("rules") {
+        write_rules(out)?;
+        out.flush()?;
+        return Ok(0);
+    }
+    let chosen = match rules_chosen(matches) {
+        Ok(chosen) => chosen,
+        Err(name) => {
+            writeln!(
+                err,
+                "patterns: no rule is named {name}; lint --rules lists them"
+            )?;
+            return Ok(MISUSED);
+        }
+    };
+    let Some(files) = matches.get_strs("files") else {
+        return Ok(MISUSED);
+    };
+    let verb = Verb::Lint(chosen);
+    Ok(run(alloc, Job { verb, flags }, files, sources, out, err))
+}
+
 /// Runs a subcommand.
 fn answer_verb<S: Sources, O: Write, E: Write>(
     alloc: Global,
@@ -66,6 +99,9 @@ fn answer_verb<S: Sources, O: Write, E: Write>(
     };
     if let Some(pattern) = matches.get_str("pattern") {
         return Ok(answer_pattern(alloc, name, flags, pattern, matches, out, err));
+    }
+    if name == "lint" {
+        return answer_lint(alloc, flags, matches, sources, out, err);
     }
     let (Some(verb), Some(files)) = (verb_chosen(name, matches), matches.get_strs("files")) else {
         return Ok(MISUSED);

@@ -3,6 +3,7 @@
 
 mod answer;
 mod files;
+mod rules;
 mod words;
 
 use answer::answer;
@@ -27,6 +28,8 @@ fn main(rt: HostRuntime) -> ExitCode {
     }
 }
 
+#[cfg(test)]
+mod lints;
 #[cfg(test)]
 mod memory;
 #[cfg(test)]

@@ -89,6 +89,20 @@ const GROUPS: &str = "-:1: (?<y>a)(b)\\k<y>\\2\\g<1>\\g0
   unresolved call \\g<-2>, column 3
 ";
 
+const WARNED: &str = "-:1:5: warning: branch that is equal to branch 1 [duplicate-branch]
+a|b|a
+    ^
+help: remove it
+";
+
+const DENIED: &str = "-:1:5: error: branch that is equal to branch 1 [duplicate-branch]
+a|b|a
+    ^
+help: remove it
+";
+
+const NO_RULE: &str = "patterns: no rule is named branch; lint --rules lists them\n";
+
 const FORMATTED: &str = "ab*
 (?<n>x)\\k<n>
 (
@@ -123,7 +137,7 @@ patterns: broken: connection reset
 ";
 
 /// Words, the standard input, and the status, the output and the error of a run.
-static RUNS: [(&[&str], &[u8], u8, &str, &str); 16] = [
+static RUNS: [(&[&str], &[u8], u8, &str, &str); 20] = [
     (&["patterns", "check", "good", "empty"], b"", 0, "", ""),
     (&["patterns", "check"], b"", 0, "", ""),
     (&["patterns", "check", "mixed"], b"", 2, MIXED, NO_TEXT),
@@ -179,6 +193,28 @@ static RUNS: [(&[&str], &[u8], u8, &str, &str); 16] = [
         GROUPS,
         "",
     ),
+    (&["patterns", "lint"], b"a|b|a", 0, WARNED, ""),
+    (
+        &["patterns", "lint", "--allow", "duplicate-branch"],
+        b"a|b|a",
+        0,
+        "",
+        "",
+    ),
+    (
+        &["patterns", "lint", "--deny", "duplicate-branch"],
+        b"a|b|a",
+        1,
+        DENIED,
+        "",
+    ),
+    (
+        &["patterns", "lint", "--warn", "branch"],
+        b"a",
+        2,
+        "",
+        NO_RULE,
+    ),
     (
         &["patterns", "format"],
         b"(?:a)b{0,}\n(?<n>x)\\k<n>\n(\n",
@@ -231,7 +267,7 @@ fn answers(rt: HostRuntime) -> Result<(), Fail> {
 }
 
 /// Words that are wrong, or ask for help, and the status.
-static USAGES: [(&[&str], u8); 7] = [
+static USAGES: [(&[&str], u8); 8] = [
     (&["patterns"], 2),
     (&["patterns", "chek"], 2),
     (&["patterns", "check", "--flag"], 2),
@@ -239,6 +275,7 @@ static USAGES: [(&[&str], u8); 7] = [
     (&["patterns", "picture", "--html"], 2),
     (&["patterns", "--help"], 0),
     (&["patterns", "format", "--help"], 0),
+    (&["patterns", "lint", "--rules"], 0),
 ];
 
 /// Whether the run ends so, with a text on the output where that is 0, and else on the error.

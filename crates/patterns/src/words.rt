@@ -41,6 +41,12 @@ const HTML_HELP: &str =
 const FORMAT: &str =
     "Writes each pattern in one form, which parses to the same tree under the same flags";
 
+const LINT: &str = "Reports what is accepted in a pattern and is surely not meant";
+
+const LINT_STATUSES: &str =
+    "The exit status is 0 if every pattern is accepted and no denied rule reports, also if there are \
+warnings, and 1 if not. docs/lint.md says what each rule reports, and when it is silent.";
+
 const GROUPS: &str = "Lists the groups of each pattern, and what its references and calls refer to";
 
 const FORMATTED: &str =
@@ -118,6 +124,28 @@ fn format_command<'a>(alloc: Global) -> Result<Command<'a>, AllocError> {
         .arg(is_check)
 }
 
+/// An option that gives a level to a rule.
+fn level_arg<'a>(alloc: Global, name: &'a str, help: &'a str) -> Arg<'a> {
+    Arg::new(alloc, name)
+        .long(name)
+        .value_name("RULE")
+        .action(ArgAction::Append)
+        .help(help)
+}
+
+fn lint_command<'a>(alloc: Global) -> Result<Command<'a>, AllocError> {
+    let rules = Arg::new(alloc, "rules")
+        .long("rules")
+        .action(ArgAction::SetTrue)
+        .help("Lists the rules with an example of each, and reads no file");
+    over_files(alloc, "lint", LINT)?
+        .before_help(LINT_STATUSES)
+        .arg(level_arg(alloc, "allow", "Silences a rule"))?
+        .arg(level_arg(alloc, "warn", "Makes the reports of a rule warnings"))?
+        .arg(level_arg(alloc, "deny", "Makes the reports of a rule errors"))?
+        .arg(rules)
+}
+
 /// The command line.
 pub(crate) fn command<'a>(alloc: Global) -> Result<Command<'a>, AllocError> {
     Command::new(alloc, "patterns")
@@ -129,6 +157,7 @@ pub(crate) fn command<'a>(alloc: Global) -> Result<Command<'a>, AllocError> {
         .subcommand(over_files(alloc, "check", CHECK)?)?
         .subcommand(tree_command(alloc)?)?
         .subcommand(picture_command(alloc)?)?
+        .subcommand(lint_command(alloc)?)?
         .subcommand(format_command(alloc)?)?
         .subcommand(over_files(alloc, "groups", GROUPS)?)
 }

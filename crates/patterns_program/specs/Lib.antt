@@ -1,1 +1,6 @@
 pub mod Line
+pub mod Empty
+pub mod Quantifiers
+pub mod Branches
+pub mod Rules
+pub mod Targets

@@ -6,6 +6,7 @@ pub mod draw;
 pub mod fault;
 mod groups;
 mod lines;
+pub mod lint;
 mod marks;
 mod names;
 mod outcome;

@@ -34,9 +34,9 @@ pub fn column_after(text: &str) -> usize
 #[derive(Clone, Copy)]
 pub(crate) struct Cut<'a> {
     /// How many line feeds stand before the line.
-    above: usize,
-    before: &'a str,
-    after: &'a str,
+    pub(crate) above: usize,
+    pub(crate) before: &'a str,
+    pub(crate) after: &'a str,
 }
 
 impl Cut<'_> {
@@ -64,7 +64,7 @@ impl fmt::Display for Cut<'_> {
 
 /// As many blanks as the text takes columns. A tab stays a tab, so that it takes what it takes in the text.
 #[derive(Clone, Copy)]
-struct Blank<'a>(&'a str);
+pub(crate) struct Blank<'a>(pub(crate) &'a str);
 
 impl fmt::Display for Blank<'_> {
     fn fmt<W: fmt::Write>(&self, f: &mut fmt::Formatter<W>) -> fmt::Result {

@@ -5,6 +5,8 @@ use crate::check::check;
 use crate::fault::{Fault, give_up};
 use crate::groups::list_groups;
 use crate::lines::next_line;
+use crate::lint::chosen::Chosen;
+use crate::lint::lint;
 use crate::outcome::Outcome;
 use crate::place::Location;
 use crate::printing::{format_pattern, is_formatted};
@@ -27,6 +29,8 @@ pub enum Verb {
     IsFormatted,
     /// List its groups, and what its references and calls refer to.
     Groups,
+    /// Report what is surely not meant in it.
+    Lint(Chosen),
 }
 
 /// A subcommand over files, and the flags that the patterns are parsed under.
@@ -70,6 +74,7 @@ fn answer_line<O: Write, E: Write>(
         Verb::Format => format_pattern(alloc, job.flags, at, pattern, out, err),
         Verb::IsFormatted => is_formatted(alloc, job.flags, at, pattern, err),
         Verb::Groups => list_groups(alloc, job.flags, at, pattern, out, err),
+        Verb::Lint(chosen) => lint(alloc, job.flags, at, pattern, &chosen, out),
     }
 }
 

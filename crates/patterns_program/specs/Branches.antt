@@ -1,0 +1,25 @@
+-- Branches that are never reached.
+use Rattle.std.specs.Prelude.{Bool, true, false, ◌&&◌, ◌||◌, not, List, [], ◌∷◌}
+use Rattle.std.specs.Str.{bytes_eq}
+use Rattle.fancy_grammar.specs.Tree.{Tree, literal, concat, list_of}
+
+-- what stands in a row in a branch
+abbrev pub pieces : Tree → List Tree
+pieces (concat ts) = list_of ts
+pieces t = t ∷ []
+
+-- whether a literal matches what another one matches: it has the same text, and ignores case if the other does
+abbrev pub covers : Tree → Tree → Bool
+covers (literal text casei) (literal other is_other_casei) = bytes_eq text other && (casei || not is_other_casei)
+covers _ _ = false
+
+-- whether the trees begin with ones that the others cover one by one
+abbrev pub begins_with : List Tree → List Tree → Bool
+begins_with [] ts = true
+begins_with (e ∷ es) [] = false
+begins_with (e ∷ es) (t ∷ ts) = covers e t && begins_with es ts
+
+-- whether the later branch begins with literals that are all of the earlier one, so that wherever the later one matches
+-- the earlier one does
+abbrev pub is_unreachable : Tree → Tree → Bool
+is_unreachable earlier later = begins_with (pieces earlier) (pieces later)

@@ -1,0 +1,82 @@
+-- What matches the empty text, as far as the form of a tree says.
+use Rattle.std.specs.Prelude.{ℕ, Bool, true, false, ◌&&◌, ◌||◌, ◌==◌}
+use Rattle.fancy_grammar.specs.Label as label
+use Rattle.fancy_grammar.specs.Label.{Leaf, Wrap, Row}
+use Rattle.fancy_grammar.specs.Tree.{Tree, leaf, over, row, Trees, no_trees, more_trees}
+
+-- whether a leaf matches nothing but the empty text: assertions, conditions, verbs and what else takes no character
+abbrev pub leaf_matches_only_empty : Leaf → Bool
+leaf_matches_only_empty label.empty = true
+leaf_matches_only_empty (label.assertion a) = true
+leaf_matches_only_empty label.keep_out = true
+leaf_matches_only_empty label.continue_from_previous_match_end = true
+leaf_matches_only_empty (label.backref_exists n level) = true
+leaf_matches_only_empty (label.verb v) = true
+leaf_matches_only_empty label.clear = true
+leaf_matches_only_empty _ = false
+
+abbrev mutual
+  -- whether a tree matches nothing but the empty text: look-around does, and what holds only such trees
+  pub matches_only_empty : Tree → Bool
+  matches_only_empty (leaf l) = leaf_matches_only_empty l
+  matches_only_empty (over label.group t) = matches_only_empty t
+  matches_only_empty (over (label.look_around l) t) = true
+  matches_only_empty (over (label.repeat lo hi greedy) t) = matches_only_empty t
+  matches_only_empty (over label.atomic_group t) = matches_only_empty t
+  matches_only_empty (over label.define_group t) = true
+  matches_only_empty (over label.stopper t) = true
+  matches_only_empty (over w t) = false
+  matches_only_empty (row label.expression ts) = false
+  matches_only_empty (row r ts) = all_match_only_empty ts
+
+  pub all_match_only_empty : Trees → Bool
+  all_match_only_empty no_trees = true
+  all_match_only_empty (more_trees t ts) = matches_only_empty t && all_match_only_empty ts
+
+-- whether a leaf can match the empty text; of a reference, a call or a verb it is not said
+abbrev pub leaf_can_match_empty : Leaf → Bool
+leaf_can_match_empty label.empty = true
+leaf_can_match_empty (label.assertion a) = true
+leaf_can_match_empty label.keep_out = true
+leaf_can_match_empty label.continue_from_previous_match_end = true
+leaf_can_match_empty (label.backref_exists n level) = true
+leaf_can_match_empty label.clear = true
+leaf_can_match_empty _ = false
+
+abbrev mutual
+  -- whether a tree can match the empty text: what may repeat no times can, an alternation where one branch can, and a
+  -- concatenation or a conditional where all that it holds can
+  pub can_match_empty : Tree → Bool
+  can_match_empty (leaf l) = leaf_can_match_empty l
+  can_match_empty (over label.group t) = can_match_empty t
+  can_match_empty (over (label.look_around l) t) = true
+  can_match_empty (over (label.repeat lo hi greedy) t) = (lo == 0) || can_match_empty t
+  can_match_empty (over label.atomic_group t) = can_match_empty t
+  can_match_empty (over label.define_group t) = true
+  can_match_empty (over label.stopper t) = true
+  can_match_empty (over w t) = false
+  can_match_empty (row label.concat ts) = all_can_match_empty ts
+  can_match_empty (row label.alt ts) = any_can_match_empty ts
+  can_match_empty (row label.expression ts) = false
+  can_match_empty (row label.conditional ts) = all_can_match_empty ts
+
+  pub all_can_match_empty : Trees → Bool
+  all_can_match_empty no_trees = true
+  all_can_match_empty (more_trees t ts) = can_match_empty t && all_can_match_empty ts
+
+  pub any_can_match_empty : Trees → Bool
+  any_can_match_empty no_trees = false
+  any_can_match_empty (more_trees t ts) = can_match_empty t || any_can_match_empty ts
+
+abbrev mutual
+  -- whether a capturing group stands in a tree
+  pub has_group : Tree → Bool
+  has_group (leaf l) = false
+  has_group (over label.group t) = true
+  has_group (over (label.ast_group name place) t) = false
+  has_group (over w t) = has_group t
+  has_group (row r ts) = any_has_group ts
+
+  pub any_has_group : Trees → Bool
+  any_has_group no_trees = false
+  any_has_group (more_trees t ts) = has_group t || any_has_group ts

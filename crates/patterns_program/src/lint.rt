@@ -1,0 +1,151 @@
+//! The subcommand `lint`: what a pattern says and is surely not meant.
+ghost use Rattle.std.specs.Prelude.{◌≡◌, ◌⊎◌, chars, Ok, IfOk, OnSome, IfNone, Contains};
+ghost use Rattle.std.specs.Bool.{OnTrue};
+ghost use Rattle.fancy_lex.specs.Flags.{flags_of};
+ghost use Rattle.fre_program.specs.Words.{HasTree, HasFault};
+ghost use Rattle.patterns_program.specs.declared.lint.chosen.Level.{Level};
+ghost use Rattle.patterns_program.specs.declared.outcome.Outcome.{Outcome};
+
+mod branches;
+pub mod chosen;
+mod classes;
+mod empty;
+mod fingerprint;
+mod flags;
+mod problem;
+mod quantifiers;
+mod references;
+mod report;
+pub mod rule;
+mod scan;
+mod targets;
+mod walk;
+
+use crate::fault::Fault;
+use crate::lint::chosen::{Chosen, Level};
+use crate::lint::flags::useless_flags;
+use crate::lint::problem::Found;
+use crate::lint::references::{Ways, follow};
+use crate::lint::report::write_report;
+use crate::lint::scan::{About, scan};
+use crate::lint::walk::Walk;
+use crate::outcome::Outcome;
+use crate::place::{Location, write_refusal};
+use fancy_syntax::error::Error;
+use fancy_syntax::expr::Expr;
+use fancy_syntax::span::Span;
+use fancy_syntax::tree::ExprTree;
+use std::alloc::{AllocError, Global};
+use std::io;
+use std::io::Write;
+
+/// All that the rules find, in the order of the text.
+fn problems<'a>(
+    alloc: Global,
+    pattern: &str,
+    flags: u32,
+    tree: &'a ExprTree,
+    spans: &'a [Span],
+) -> Result<Vec<Found<'a>>, AllocError> {
+    let about = About {
+        alloc,
+        pattern,
+        total: tree.total_groups,
+        has_calls: tree.contains_subroutines,
+    };
+    let mut walk = Walk::new(alloc, spans);
+    scan(&tree.expr, &mut walk, about, true)?;
+    let mut ways = Ways::new(alloc, tree, spans)?;
+    follow(&tree.expr, &mut ways)?;
+    ways.report_unused()?;
+    let mut found = walk.found;
+    found.extend_from_slice(&ways.walk.found)?;
+    found.extend_from_slice(&useless_flags(alloc, pattern, &walk.leaves, flags)?)?;
+    found.sort_by_key(|f| f.span.start)?;
+    Ok(found)
+}
+
+/// How many reports are written of a pattern. Each shows the pattern's line, which may be long.
+const MAX_REPORTS: usize = 100;
+
+/// Says how many reports are not written.
+fn write_rest<O: Write>(out: &mut O, at: Location<'_>, total: usize) -> io::Result<()> {
+    let more = total.saturating_sub(MAX_REPORTS);
+    if more > 0 {
+        writeln!(out, "{at}: {more} more reports are not shown")?;
+    }
+    Ok(())
+}
+
+/// Writes a report for each problem whose rule is not allowed, and answers whether that of one is denied.
+fn write_problems<O: Write>(
+    at: Location<'_>,
+    pattern: &str,
+    found: &[Found<'_>],
+    chosen: &Chosen,
+    out: &mut O,
+) -> Result<bool, Fault>
+    ensures { IfOk result (λ is_denied. OnTrue is_denied (Contains chosen.now.levels Level.Deny)) }
+{
+    let mut total = 0usize;
+    let mut is_denied = false;
+    for one in found {
+        let level = chosen.level(one.problem.rule());
+        if level == Level::Allow {
+            continue;
+        }
+        if total < MAX_REPORTS {
+            write_report(out, at, pattern, level, *one)?;
+        }
+        total = total.saturating_add(1);
+        is_denied = is_denied || level == Level::Deny;
+    }
+    write_rest(out, at, total)?;
+    Ok(is_denied)
+}
+
+/// The tree of the pattern with the spans of its nodes; none if it is refused, and then the position and the reason are
+/// written to `out`.
+fn read_with_spans<O: Write>(
+    alloc: Global,
+    flags: u32,
+    at: Location<'_>,
+    pattern: &str,
+    out: &mut O,
+) -> Result<Option<(ExprTree, Vec<Span>)>, Fault>
+    ensures read { IfOk result (λ answer. OnSome answer (HasTree (flags_of flags) (chars pattern.now))) }
+    ensures refused { IfOk result (λ answer. IfNone answer (HasFault (flags_of flags) (chars pattern.now))) }
+{
+    match Expr::parse_tree_with_spans(alloc, pattern, flags) {
+        Ok(read) => Ok(Some(read)),
+        Err(Error::ParseError(place, kind)) => {
+            write_refusal(out, at, pattern, place, &kind)?;
+            Ok(None)
+        }
+        Err(Error::OutOfMemory) => Err(Fault::Memory(AllocError)),
+    }
+}
+
+/// Writes to `out` what is surely not meant in the pattern, or the position and the reason if it is refused.
+pub(crate) fn lint<O: Write>(
+    alloc: Global,
+    flags: u32,
+    at: Location<'_>,
+    pattern: &str,
+    chosen: &Chosen,
+    out: &mut O,
+) -> Result<Outcome, Fault>
+    ensures good { result ≡ Ok Outcome.Good → HasTree (flags_of flags) (chars pattern.now) }
+    ensures refused { result ≡ Ok Outcome.Refused → HasFault (flags_of flags) (chars pattern.now)
+        ⊎ Contains chosen.now.levels Level.Deny }
+    ensures read { result ≡ Ok Outcome.Unread → ⊥ }
+{
+    let Some((tree, spans)) = read_with_spans(alloc, flags, at, pattern, out)? else {
+        return Ok(Outcome::Refused);
+    };
+    let found = problems(alloc, pattern, flags, &tree, &spans)?;
+    if write_problems(at, pattern, &found, chosen, out)? {
+        return Ok(Outcome::Refused);
+    }
+    Ok(Outcome::Good)
+}

@@ -1,0 +1,50 @@
+//! How a report of `lint` is written.
+use crate::lint::chosen::Level;
+use crate::lint::problem::Found;
+use crate::place::{Blank, Cut, Location, column_after};
+use std::io;
+use std::io::Write;
+use unicode_width::UnicodeWidthStr;
+
+/// Writes the line below a part of the pattern: as many carets as it takes columns in its first line, and at least one.
+fn write_underline<O: Write>(out: &mut O, before: &str, part: &str) -> io::Result<()> {
+    write!(out, "{}^", Blank(before))?;
+    for _ in 1..part.width() {
+        out.write_all(b"^")?;
+    }
+    out.write_all(b"\n")
+}
+
+/// Writes a report: where and what, the line of the pattern, carets below the part, and help.
+pub(super) fn write_report<O: Write>(
+    out: &mut O,
+    at: Location<'_>,
+    pattern: &str,
+    level: Level,
+    found: Found<'_>,
+) -> io::Result<()> {
+    let Found { span, problem } = found;
+    let Cut {
+        above,
+        before,
+        after,
+    } = Cut::at(pattern, span.start);
+    let line = at.line.saturating_add(above as u64);
+    let column = column_after(before);
+    let word = if level == Level::Deny {
+        "error"
+    } else {
+        "warning"
+    };
+    let rule = problem.rule();
+    writeln!(
+        out,
+        "{}:{line}:{column}: {word}: {problem} [{}]",
+        at.file,
+        rule.name()
+    )?;
+    writeln!(out, "{before}{after}")?;
+    let length = span.end.saturating_sub(span.start);
+    write_underline(out, before, after.get(..length).unwrap_or(after))?;
+    writeln!(out, "help: {}", rule.help())
+}
