@@ -26,20 +26,22 @@ impl fmt::Display for Count {
     }
 }
 
+/// What comes before a child.
+fn before(is_first: bool) -> &'static str {
+    if is_first { "[" } else { ", " }
+}
+
 /// Writes the node, and in brackets its children.
 fn show<W: fmt::Write>(f: &mut fmt::Formatter<W>, tree: &Expr) -> fmt::Result {
     show_node(f, tree)?;
     if tree.is_leaf_node() {
         return Ok(());
     }
-    let mut before = "[";
-    if let Expr::Repeat { .. } = tree {
-        before = " [";
-    }
+    let mut is_first = true;
     for child in tree.children_iter() {
-        f.write_str(before)?;
+        f.write_str(before(is_first))?;
         show(f, child)?;
-        before = ", ";
+        is_first = false;
     }
     f.write_str("]")
 }
@@ -66,7 +68,7 @@ fn show_node<W: fmt::Write>(f: &mut fmt::Formatter<W>, node: &Expr) -> fmt::Resu
         } => show_condition(f, *group, *relative_recursion_level),
         Expr::Repeat { lo, hi, greedy, .. } => {
             let lazy = if *greedy { "" } else { "lazy " };
-            write!(f, "{lazy}Repeat {} {}", Count(*lo), Count(*hi))
+            write!(f, "{lazy}Repeat {} {} ", Count(*lo), Count(*hi))
         }
         _ => f.write_str(name(node)),
     }

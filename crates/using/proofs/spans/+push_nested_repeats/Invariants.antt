@@ -9,4 +9,4 @@ abbrev pub decreases-push_nested_repeats : goal.decreases-push_nested_repeats
 decreases-push_nested_repeats l = levels (view (spanned_of l.node).expr)
 
 abbrev pub invariant-loop-child : goal.invariant-loop-child
-invariant-loop-child l = Within (spanned_of l.node).expr (map (λ p. p.expr) (remaining_spanned l.child-iterator))
+invariant-loop-child l = Within (spanned_of l.fn.node).expr (map (λ p. p.expr) (remaining_spanned l.child-iterator))
