@@ -14,8 +14,8 @@ loop-child-init t c =
 pub push_nested_repeats-requires : goal.push_nested_repeats-requires
 push_nested_repeats-requires t c =
     let e = (spanned_of c.args.node).expr in
-    let child = (spanned_of c.in-Some.child).expr in
-    let among = within_head e child _ _ c.loop-child.invariant (ap (map (λ p. p.expr)) c.in-Some.ensures.steps) in
+    let child = (spanned_of c.in-Some-child.child).expr in
+    let among = within_head e child _ _ c.loop-child.invariant (ap (map (λ p. p.expr)) c.in-Some-child.ensures.steps) in
     let less : levels (view child) < levels (view e) =
     levels_of_child e child
     (ap views (sym c.children-child-items.ensures.exprs) ∙ c.children-child-items.ensures.trees) among in
@@ -23,5 +23,5 @@ push_nested_repeats-requires t c =
 
 pub loop-child-preserved : goal.loop-child-preserved
 loop-child-preserved t c =
-    within_next (spanned_of c.args.node).expr (spanned_of c.in-Some.child).expr _ _ c.loop-child.invariant
-    (ap (map (λ p. p.expr)) c.in-Some.ensures.steps)
+    within_next (spanned_of c.args.node).expr (spanned_of c.in-Some-child.child).expr _ _ c.loop-child.invariant
+    (ap (map (λ p. p.expr)) c.in-Some-child.ensures.steps)
