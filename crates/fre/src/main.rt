@@ -1,4 +1,4 @@
-//! `fre FLAGS PATTERN` writes the tree of a pattern, its marks and its text, a line each.
+//! `fre FLAGS PATTERN` writes the tree of a pattern, its group information and its text as lines.
 #![tactic(auto)]
 
 use fre_program::program::{fre_run, out_of_memory};
@@ -6,7 +6,7 @@ use std::io::BufWriter;
 use std::process::ExitCode;
 use std::{env, io};
 
-/// Runs the program on the words behind its name; an error where memory is wanting for them.
+/// Runs the program on the arguments after its name; an error if memory runs out for them.
 fn run(rt: &HostRuntime) -> io::Result<u8> {
     let words: Vec<String> = env::args(rt)?.skip(1).collect(rt.alloc())?;
     let mut out = BufWriter::new(rt.alloc(), rt.stdout())?;

@@ -1,4 +1,4 @@
-//! What the program `fre` does: it reads a pattern under flags, and writes its tree, its marks and its text.
+//! What the program `fre` does: it parses a pattern under flags, and writes its tree, its group information and its text.
 #![tactic(auto)]
 
 mod fault;

@@ -1,4 +1,4 @@
-//! `patterns VERB ..` checks and shows patterns, as `patterns --help` says.
+//! `patterns SUBCOMMAND ..` checks, shows and formats patterns, as `patterns --help` says.
 #![tactic(auto)]
 
 mod answer;
@@ -14,7 +14,7 @@ use std::io::BufWriter;
 use std::process::ExitCode;
 use std::{env, io};
 
-/// Runs the program on its words; an error where memory is wanting for them.
+/// Runs the program on its arguments; an error if memory runs out for them.
 fn run(rt: &HostRuntime) -> io::Result<u8> {
     let words: Vec<String> = env::args(rt)?.collect(rt.alloc())?;
     let mut out = BufWriter::new(rt.alloc(), rt.stdout())?;

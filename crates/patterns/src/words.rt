@@ -7,8 +7,8 @@ use patterns_program::run::{STANDARD_INPUT, Verb};
 use std::alloc::{AllocError, Global};
 
 const ABOUT: &str =
-    "Checks, shows and formats patterns in the syntax of fancy-regex. Nothing is matched. Flags \
-that are set in a group end with it.";
+    "Checks, shows and formats patterns in the syntax of fancy-regex. It does not match them. Flags \
+that are set inside a group end with the group.";
 
 const STATUSES: &str =
     "The exit status is 0 if every pattern passes, 1 if one does not, 2 if the arguments are \
@@ -21,7 +21,7 @@ const LETTERS: &str = "The letters of --flags:
   m  multi-line: ^ and $ match at the start and the end of each line
   s  . matches a line feed too
   U  a quantifier is lazy without ?, and greedy with it
-  x  verbose: whitespace is ignored, and # with what follows it in its line
+  x  verbose: whitespace is ignored, and so is # with the rest of its line
   u  Unicode
   R  CR LF is one line terminator
   o  Oniguruma's syntax
@@ -41,17 +41,18 @@ const HTML_HELP: &str =
 const FORMAT: &str =
     "Writes each pattern in one form, which parses to the same tree under the same flags";
 
-const LINT: &str = "Reports what is accepted in a pattern and is surely not meant";
+const LINT: &str = "Reports likely mistakes in patterns that are accepted";
 
 const LINT_STATUSES: &str =
-    "The exit status is 0 if every pattern is accepted and no denied rule reports, also if there are \
+    "The exit status is 0 if every pattern is accepted and no denied rule reports, even if there are \
 warnings, and 1 if not. docs/lint.md says what each rule reports, and when it is silent.";
 
 const GROUPS: &str = "Lists the groups of each pattern, and what its references and calls refer to";
 
 const FORMATTED: &str =
-    "What is written for a pattern parses, under the flags that were chosen, to the same tree with \
-the same groups and names. Lost are comments, ignored whitespace, and how a thing was written. A line ends with LF.
+    "The text that is written for a pattern parses, under the same flags, to the same tree with the \
+same groups and names. Comments, ignored whitespace, and the choice among several ways to write the \
+same thing are lost. Each line ends with LF.
 
 A pattern that is refused is written unchanged; standard error has the position and the reason.";
 

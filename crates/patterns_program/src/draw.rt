@@ -1,4 +1,4 @@
-//! The subcommand `tree`: a pattern's tree with branches, and its group information.
+//! The subcommand `tree`: a pattern's tree, drawn with branches, and its group information.
 ghost use Rattle.std.specs.Prelude.{◌≡◌, ◌≤◌, ◌⊎◌, chars, Ok, IfOk};
 ghost use Rattle.fancy_lex.specs.Flags.{flags_of};
 ghost use Rattle.fre_program.specs.Words.{HasTree, HasFault};
@@ -174,9 +174,9 @@ fn answer<O: Write, E: Write>(
     Ok(0)
 }
 
-/// Draws the tree of a pattern, and answers the status: 0 where the pattern is read, with its tree and then what is
-/// known of its groups and references on `out`; 1 where it is refused, with where and why on `err`; 3 where memory or a
-/// write was wanting, which is tried on `err`. Then `out` may hold a beginning.
+/// Draws the tree of a pattern, and returns the exit status: 0 if the pattern is accepted, with its tree and then its
+/// group information on `out`; 1 if it is refused, with the position and the reason on `err`; 3 if memory ran out or a
+/// write failed, which is reported on `err` if that is possible, and `out` may then have part of the output.
 pub fn draw_tree<O: Write, E: Write>(
     alloc: Global,
     flags: u32,

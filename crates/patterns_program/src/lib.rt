@@ -1,4 +1,4 @@
-//! What the program `patterns` does: it reads files of patterns, a pattern a line, and says of each what a verb asks.
+//! What the program `patterns` does: it reads files with one pattern per line, and does with each what a subcommand says.
 #![tactic(auto)]
 
 mod check;

@@ -1,4 +1,4 @@
-//! The subcommand `lint`: what a pattern says and is surely not meant.
+//! The subcommand `lint`: likely mistakes in patterns that are accepted.
 ghost use Rattle.std.specs.Prelude.{◌≡◌, ◌⊎◌, chars, Ok, IfOk, OnSome, IfNone, Contains};
 ghost use Rattle.std.specs.Bool.{OnTrue};
 ghost use Rattle.fancy_lex.specs.Flags.{flags_of};
@@ -126,7 +126,7 @@ fn read_with_spans<O: Write>(
     }
 }
 
-/// Writes to `out` what is surely not meant in the pattern, or the position and the reason if it is refused.
+/// Writes the likely mistakes in the pattern to `out`, or the position and the reason if it is refused.
 pub(crate) fn lint<O: Write>(
     alloc: Global,
     flags: u32,

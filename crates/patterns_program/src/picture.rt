@@ -30,7 +30,7 @@ use svg::{Subject, write_picture};
 pub enum Canvas {
     /// As SVG.
     Svg,
-    /// As a page of HTML, with the drawn tree and what is known of the groups.
+    /// As a page of HTML, with the drawn tree and the group information.
     Page,
 }
 
@@ -105,9 +105,9 @@ fn answer<O: Write, E: Write>(
     Ok(0)
 }
 
-/// Draws the tree of a pattern as a railroad diagram, and returns the status: 0 if the pattern is accepted, with the picture
-/// on `out`; 1 if it is refused, with the position and the reason on `err`; 3 if memory ran out or a write failed, which is
-/// reported on `err` if that is possible. Then `out` may hold a beginning.
+/// Draws the tree of a pattern as a railroad diagram, and returns the exit status: 0 if the pattern is accepted, with the
+/// picture on `out`; 1 if it is refused, with the position and the reason on `err`; 3 if memory ran out or a write failed,
+/// which is reported on `err` if that is possible, and `out` may then have part of the output.
 pub fn draw_picture<O: Write, E: Write>(
     alloc: Global,
     flags: u32,

@@ -12,7 +12,7 @@ use unicode_width::UnicodeWidthStr;
 pub struct Location<'a> {
     /// The file's name as an argument.
     pub file: &'a str,
-    /// The number of the pattern's first line, from 1.
+    /// The number of the pattern's first line, counted from 1.
     pub line: u64,
 }
 

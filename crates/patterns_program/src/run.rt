@@ -21,15 +21,15 @@ pub const STANDARD_INPUT: &str = "-";
 /// What is done with each pattern.
 #[derive(Clone, Copy)]
 pub enum Verb {
-    /// Check it; the position and the reason of a refusal are written to the output.
+    /// Check it; if it is refused, the position and the reason are written to the output.
     Check,
-    /// Write it as it prints.
+    /// Write it in one form.
     Format,
     /// Check whether `Format` would write it unchanged.
     IsFormatted,
     /// List its groups, and what its references and calls refer to.
     Groups,
-    /// Report what is surely not meant in it.
+    /// Report likely mistakes in it.
     Lint(Chosen),
 }
 

@@ -6,7 +6,7 @@ pub fn group_named(tree: &ExprTree, name: &str) -> Option<usize> {
     tree.named_groups.get(name)?.last().copied()
 }
 
-/// Whether a call stays as it was read, because it means no group.
+/// Whether the tree has a call that cannot be resolved.
 pub fn calls_nothing(tree: &Expr) -> bool {
     is_unresolved(tree) || tree.has_descendant(is_unresolved)
 }

@@ -9,7 +9,7 @@ pub fn column(pattern: &str, position: usize) -> usize {
     before.count().saturating_add(1)
 }
 
-/// The pattern, and below it a mark under the position.
+/// The pattern, and below it a caret under the position.
 pub fn pointed(alloc: Global, pattern: &str, position: usize) -> Result<String, AllocError> {
     let column = column(pattern, position);
     format!(in alloc; "{pattern}\n{:>column$}", '^')

@@ -1,4 +1,4 @@
-//! Branches that are surely not meant.
+//! Branches that are likely mistakes.
 ghost use Rattle.std.specs.Prelude.{◌≡◌, ◌↔◌, true, IsTrue, IfSome, IsSomeAnd, slice_get};
 ghost use Rattle.fancy_syntax.specs.View.{view, views};
 ghost use Rattle.patterns_program.specs.Branches as spec;

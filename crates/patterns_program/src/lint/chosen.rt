@@ -21,8 +21,8 @@ pub struct Chosen {
 }
 
 impl Chosen {
-    /// Every rule warns but `unused-capturing-group`, which is silent: many patterns have named and numbered groups on
-    /// purpose.
+    /// Every rule warns, except `unused-capturing-group`, which is silent: many patterns mix named and numbered groups
+    /// on purpose.
     pub fn new() -> Chosen {
         let mut chosen = Chosen {
             levels: [Level::Warn; 14],

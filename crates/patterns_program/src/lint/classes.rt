@@ -1,4 +1,4 @@
-//! Classes that are surely not meant.
+//! Classes that are likely mistakes.
 ghost use Rattle.std.specs.Prelude.{◌≡◌, ◌++◌, ◌∷◌, chars, codes, IfSome};
 
 use fancy_lex::text::{after, next};

@@ -93,7 +93,7 @@ impl fmt::Display for Problem<'_> {
             }
             Problem::UnresolvedCall => f.write_str("subroutine call that refers to no group"),
             Problem::DuplicateGroupName { group } => {
-                write!(f, "{group}, as an earlier group is")
+                write!(f, "{group}, has the name of an earlier group")
             }
             Problem::UnusedCapturingGroup { group } => write!(
                 f,
@@ -104,7 +104,7 @@ impl fmt::Display for Problem<'_> {
             }
             Problem::UnreachableBranch { earlier } => write!(
                 f,
-                "branch that is never reached: where it matches, branch {earlier} has matched before"
+                "branch that is never reached: whenever it would match, branch {earlier} matches first"
             ),
             Problem::EmptyBranch => f.write_str("empty branch before another branch"),
             Problem::QuantifiedAssertion => {

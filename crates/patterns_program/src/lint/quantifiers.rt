@@ -1,4 +1,4 @@
-//! Quantifiers that are surely not meant.
+//! Quantifiers that are likely mistakes.
 ghost use Rattle.std.specs.Prelude.{◌≡◌};
 ghost use Rattle.fancy_syntax.specs.View.{view};
 ghost use Rattle.patterns_program.specs.Quantifiers as spec;

@@ -14,9 +14,9 @@ pub enum Rule {
     UselessBackreference,
     /// A subroutine call that refers to no group.
     UnresolvedCall,
-    /// A name that several groups have, which can take part in one match.
+    /// A name of several groups that can take part in the same match.
     DuplicateGroupName,
-    /// A group with a number that nothing refers to, beside groups with a name. It is silent unless it is chosen.
+    /// A group without a name that nothing refers to, beside groups with a name. The rule is off by default.
     UnusedCapturingGroup,
     /// A branch that is equal to an earlier one.
     DuplicateBranch,
@@ -24,15 +24,15 @@ pub enum Rule {
     UnreachableBranch,
     /// An empty branch that is not the last one.
     EmptyBranch,
-    /// A quantifier on what matches nothing but the empty text.
+    /// A quantifier on what matches only the empty text.
     QuantifiedAssertion,
-    /// A quantifier without a limit on what can match the empty text.
+    /// An unlimited quantifier on what can match the empty text.
     EmptyLoop,
-    /// A quantifier that repeats once.
+    /// A quantifier that repeats exactly once.
     UselessQuantifier,
-    /// A quantifier that repeats never.
+    /// A quantifier that repeats zero times.
     ZeroQuantifier,
-    /// A flag that is set where it is set already.
+    /// A flag that is set although it is set already.
     UselessFlag,
     /// A class of one letter or digit.
     SingleCharacterClass,
@@ -91,13 +91,13 @@ impl Rule {
             },
             Rule::DuplicateGroupName => About {
                 name: "duplicate-group-name",
-                what: "a name that several groups of one match have",
+                what: "a name of several groups that can take part in the same match",
                 example: r"(?<a>x)(?<a>y)",
                 help: "give each group a name of its own; a reference by the name means the last group",
             },
             Rule::UnusedCapturingGroup => About {
                 name: "unused-capturing-group",
-                what: "a group with a number that nothing refers to, beside groups with a name (off by default)",
+                what: "a group without a name that nothing refers to, beside groups with a name (off by default)",
                 example: r"(?<a>x)(y)",
                 help: "give it a name, or write it as (?:...)",
             },
@@ -121,7 +121,7 @@ impl Rule {
             },
             Rule::QuantifiedAssertion => About {
                 name: "quantified-assertion",
-                what: "a quantifier on what matches nothing but the empty text",
+                what: "a quantifier on what matches only the empty text",
                 example: r"(?:^|\b)*a",
                 help: "remove the quantifier",
             },
@@ -145,7 +145,7 @@ impl Rule {
             },
             Rule::UselessFlag => About {
                 name: "useless-flag",
-                what: "a flag that is set where it is set already",
+                what: "a flag that is set although it is set already",
                 example: r"(?i)a(?i:b)",
                 help: "remove the flag",
             },
