@@ -43,16 +43,19 @@ const FORMAT: &str =
 
 const LINT: &str = "Reports likely mistakes in patterns that are accepted";
 
-const LINT_STATUSES: &str =
-    "The exit status is 0 if every pattern is accepted and no denied rule reports, even if there are \
+const LINT_MORE: &str = "Reports likely mistakes in patterns that are accepted.
+
+The exit status is 0 if every pattern is accepted and no denied rule reports, even if there are \
 warnings, and 1 if not. docs/lint.md says what each rule reports, and when it is silent.";
 
 const GROUPS: &str = "Lists the groups of each pattern, and what its references and calls refer to";
 
-const FORMATTED: &str =
-    "The text that is written for a pattern parses, under the same flags, to the same tree with the \
-same groups and names. Comments, ignored whitespace, and the choice among several ways to write the \
-same thing are lost. Each line ends with LF.
+const FORMAT_MORE: &str =
+    "Writes each pattern in one form. Comments, ignored whitespace, and the choice among several ways to \
+write the same thing are lost.
+
+The text that is written for a pattern parses, under the same flags, to the same tree with the \
+same groups and names. Each line ends with LF.
 
 A pattern that is refused is written unchanged; standard error has the position and the reason.";
 
@@ -121,7 +124,7 @@ fn format_command<'a>(alloc: Global) -> Result<Command<'a>, AllocError> {
         .action(ArgAction::SetTrue)
         .help("Writes no pattern; the exit status is 1 if a line would change or is refused");
     over_files(alloc, "format", FORMAT)?
-        .before_help(FORMATTED)
+        .long_about(FORMAT_MORE)
         .arg(is_check)
 }
 
@@ -140,7 +143,7 @@ fn lint_command<'a>(alloc: Global) -> Result<Command<'a>, AllocError> {
         .action(ArgAction::SetTrue)
         .help("Lists the rules with an example of each, and reads no file");
     over_files(alloc, "lint", LINT)?
-        .before_help(LINT_STATUSES)
+        .long_about(LINT_MORE)
         .arg(level_arg(alloc, "allow", "Silences a rule"))?
         .arg(level_arg(alloc, "warn", "Makes the reports of a rule warnings"))?
         .arg(level_arg(alloc, "deny", "Makes the reports of a rule errors"))?

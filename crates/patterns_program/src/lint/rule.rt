@@ -20,7 +20,7 @@ pub enum Rule {
     UnusedCapturingGroup,
     /// A branch that is equal to an earlier one.
     DuplicateBranch,
-    /// A branch that begins with all of an earlier one, where nothing follows the alternation.
+    /// A branch that begins with the whole of an earlier one, if nothing follows the alternation.
     UnreachableBranch,
     /// An empty branch that is not the last one.
     EmptyBranch,
@@ -85,7 +85,7 @@ impl Rule {
             },
             Rule::UnresolvedCall => About {
                 name: "unresolved-call",
-                what: "a subroutine call that refers to no group, or by a name that several have",
+                what: "a subroutine call that refers to no group, or is by a name that several groups have",
                 example: r"(?<a>x)\g<b>",
                 help: "call a group by its number, or by a name that one group has",
             },
@@ -109,7 +109,7 @@ impl Rule {
             },
             Rule::UnreachableBranch => About {
                 name: "unreachable-branch",
-                what: "a branch that begins with all of an earlier one, where nothing follows",
+                what: "a branch that begins with the whole of an earlier one, if nothing follows the alternation",
                 example: r"get|getter",
                 help: "put it before the earlier branch, or remove it",
             },
