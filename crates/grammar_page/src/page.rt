@@ -16,15 +16,18 @@ pub(crate) enum Column {
     Words,
 }
 
-/// The column with this head.
-fn column_headed(head: &str) -> Column {
-    match head {
+/// The column with this head beside patterns; none for a head that is not known, so that no example is left out unseen.
+fn column_headed(head: &str) -> Option<Column> {
+    Some(match head {
         "reads as" | "is returned as" | "is returned here as" | "outside it" => Column::Reading(0),
         "in Oniguruma mode" => Column::Reading(FLAG_ONIGURUMA_MODE),
         "its text under `FLAG_UNICODE`" => Column::Writing(0),
         "its text in Oniguruma mode" => Column::Writing(FLAG_ONIGURUMA_MODE),
-        _ => Column::Words,
-    }
+        "what is not kept" | "what is not checked" | "in Oniguruma" => Column::Words,
+        // what comes after the last bar
+        "" => Column::Words,
+        _ => return None,
+    })
 }
 
 /// The flag that a cell adds, or the head of the patterns.
@@ -70,10 +73,13 @@ impl Table {
     fn begin(&mut self, head: &[String]) -> Result<()> {
         let first = head.first().context("no head")?;
         let has_patterns = first.starts_with("pattern");
-        for cell in head {
-            let told = column_headed(cell);
-            self.columns
-                .push(if has_patterns { told } else { Column::Words })?;
+        self.columns.push(Column::Words)?;
+        for cell in head.iter().skip(1) {
+            self.columns.push(if has_patterns {
+                column_headed(cell).context(format_args!("an unknown head: {cell}"))?
+            } else {
+                Column::Words
+            })?;
         }
         self.flags = FLAG_UNICODE | flag_of(first);
         Ok(())
