@@ -1,6 +1,9 @@
 -- The trees whose texts are proved to read back.
-use Rattle.std.specs.Prelude.{◌≡◌, ◌^◌, ◌<◌, ◌≤◌, ◌&&◌, Bool, true, false, [], ◌∷◌, ◌++◌}
-use Rattle.fancy_lex.specs.Characters.{backslash, open_bracket}
+use Rattle.std.specs.Prelude.{◌≡◌, ℕ, zero, suc, ◌+◌, ◌^◌, ◌<◌, ◌≤◌, ◌&&◌, Bool, true, false, List, [], ◌∷◌, ◌++◌}
+use Rattle.std.specs.Prelude.{length, Option, option_map}
+use Rattle.std.specs.List.{AllByRecursion}
+use Prim.Native.Char.{code}
+use Rattle.fancy_lex.specs.Characters.{is_among, backslash, open_bracket}
 use Rattle.fancy_lex.specs.Class.{class}
 use Rattle.fancy_lex.specs.Escape.{escape}
 use Rattle.fancy_lex.specs.Escaped as escaped
@@ -8,6 +11,7 @@ use Rattle.fancy_lex.specs.Reading.{gives}
 use Rattle.fancy_lex.specs.Text.{Text}
 use Rattle.fancy_lex.specs.declared.escape.Assertion.TheVariants.{StartLineOniguruma}
 use Rattle.fancy_lex.specs.declared.flags.Flags.{Flags}
+use Rattle.fancy_parts.specs.Ranks.{Opening, is_counted, only_named, named_groups}
 use Rattle.fancy_grammar.specs.Depth.{max_depth}
 use Rattle.fancy_grammar.specs.Join.{is_empty}
 use Rattle.fancy_grammar.specs.Label.{Leaf, empty, any, assertion, general_newline, literal, literal_bytes, delegate}
@@ -16,6 +20,7 @@ use Rattle.fancy_grammar.specs.Label.{repeat, atomic_group, define_group, repeat
 use Rattle.fancy_grammar.specs.Label.{concat, alt}
 use Rattle.fancy_grammar.specs.Marks.{Marks}
 use Rattle.fancy_grammar.specs.Pattern.{group_count}
+use Rattle.fancy_grammar.specs.PatternReference.{name_of}
 use Rattle.fancy_grammar.specs.PatternNeeds.{settled}
 use Rattle.fancy_grammar.specs.PatternSource.{delegate_text}
 use Rattle.fancy_grammar.specs.Quantified.{is_repeatable}
@@ -88,9 +93,38 @@ abbrev mutual
   ArePieces f no_trees = Unit {0}
   ArePieces f (more_trees t ts) = AreNodesWritable f t × (is_empty t ≡ false) × ArePieces f ts
 
--- outside Oniguruma mode, a tree without references and names, of fewer than 64 levels, with its marks
+-- ---- groups and their names
+
+-- the name that the marks give the group of the number
+abbrev pub name_at : Marks → ℕ → Option Text
+name_at m n = option_map (λ e. e.0) (name_of m n)
+
+-- the openings of the next groups behind c others, so many, with the names that the marks give them; reaches are left out
+abbrev pub openings_told : Marks → ℕ → ℕ → List Opening
+openings_told m c zero = []
+openings_told m c (suc n) = record { reach = 0; name = name_at m (c + 1) } ∷ openings_told m (c + 1) n
+
+-- the marks of a tree that has these groups, and no reference
+abbrev pub marks_of_openings : Flags → List Opening → Marks
+marks_of_openings f l =
+    record (marks_of_groups (length l)) { named_groups = named_groups l; numbered_groups_ignored = only_named f l }
+
+-- each group has a number
+abbrev pub AreCounted : Bool → List Opening → Type 0
+AreCounted named l = AllByRecursion (λ o. is_counted named o.name ≡ true) l
+
+-- a name that can be written between `<` and `>`, or between two `'`
+abbrev pub IsNameWritable : Text → Type 0
+IsNameWritable [] = ⊥
+IsNameWritable (c ∷ w) = (is_among (code ">") (c ∷ w) && is_among (code "'") (c ∷ w)) ≡ false
+
+-- ---- the trees
+
+-- outside Oniguruma mode, a tree without references, of fewer than 64 levels, with its marks
 pub record IsWritable (f : Flags) (m : Marks) (t : Tree) : Type 0 where
   pub mode : f.oniguruma_mode ≡ false
-  pub marks : m ≡ marks_of_groups (group_count t)
+  pub marks : m ≡ marks_of_openings f (openings_told m 0 (group_count t))
+  pub counted : AreCounted m.numbered_groups_ignored (openings_told m 0 (group_count t))
+  pub names : AllByRecursion (λ e. IsNameWritable e.0) m.named_groups
   pub nodes : AreNodesWritable f t
   pub levels : levels t < max_depth

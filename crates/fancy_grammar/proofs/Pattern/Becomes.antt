@@ -1,115 +1,158 @@
 -- Raw trees that resolve to given ones where they stand, whatever stands around them.
-use Rattle.std.proofs.Common.{◌≡◌, ℕ, suc, ◌+◌, true, false, List, [], ◌∷◌, ◌++◌, length}
+use Rattle.std.proofs.Common.{◌≡◌, ℕ, suc, ◌+◌, Bool, true, false, List, [], ◌∷◌, ◌++◌, length}
 use Rattle.std.proofs.Common.{refl, sym, ap, ap₂, ◌∙◌, subst, arith}
-use Rattle.std.proofs.lemmas.Bool.{cond-false}
+use Rattle.std.proofs.lemmas.Bool.{cond-true, cond-false}
 use Rattle.fancy_lex.specs.Text.{Text}
 use Rattle.fancy_lex.specs.declared.flags.Flags.{Flags}
-use Rattle.fancy_parts.specs.Ranks.{numbered_openings_in}
+use Rattle.fancy_parts.specs.Ranks.{Opening, numbered_openings_in}
 use Rattle.fancy_grammar.specs.Items.{Item, opening, reference, items, items_all, openings_in}
 use Rattle.fancy_grammar.specs.Join.{is_empty, solid, one_or}
 use Rattle.fancy_grammar.specs.Label.{Row}
+use Rattle.fancy_grammar.specs.Marks.{Marks}
 use Rattle.fancy_grammar.specs.Pattern.{group_count, group_count_all}
 use Rattle.fancy_grammar.specs.Quantified.{is_repeatable}
 use Rattle.fancy_grammar.specs.Resolved.{resolved_in, resolved_all}
 use Rattle.fancy_grammar.specs.Tree.{Tree, row, more_trees, trees_of, empty, ast_group}
 use Rattle.fancy_grammar.specs.Tree.{ast_node}
-use Rattle.fancy_grammar.proofs.ReadBack.RuleLemmas.{OnlyGroups}
+use Rattle.fancy_grammar.specs.Writable.{name_at, AreCounted}
 
--- how many groups with a number open among the items
+-- how many groups open among the items
 abbrev pub opened : List Item → ℕ
-opened l = length (numbered_openings_in false (openings_in l))
+opened l = length (openings_in l)
 
--- behind the openings of c groups it resolves to x, has as many groups, and holds no reference, and no name
-pub record Becomes (c : ℕ) (r x : Tree) : Type 0 where
-  pub is : (n : ℕ) (numbers_of : Text → List ℕ) → resolved_in n false numbers_of c r ≡ x
+-- behind the openings of c groups they are groups, each with the name that the marks give it, and no reference
+abbrev pub AreGroups : Marks → ℕ → List Item → Type 0
+AreGroups μ c [] = Unit {0}
+AreGroups μ c (opening o ∷ l) = (o.name ≡ name_at μ (c + 1)) × AreGroups μ (c + 1) l
+AreGroups μ c (reference r p ∷ l) = ⊥
+
+-- behind the openings of c groups it resolves to x, where each of its groups has a number; it has as many groups, with
+-- the names that the marks give them, and holds no reference
+pub record Becomes (μ : Marks) (c : ℕ) (r x : Tree) : Type 0 where
+  pub is : (named : Bool) → AreCounted named (openings_in (items r)) → (n : ℕ) (numbers_of : Text → List ℕ) →
+      resolved_in n named numbers_of c r ≡ x
   pub count : opened (items r) ≡ group_count x
-  pub groups : OnlyGroups (items r)
+  pub groups : AreGroups μ c (items r)
 
 -- each of the trees becomes the one at its place, one behind another
-abbrev pub EachBecomes : ℕ → List Tree → List Tree → Type 0
-EachBecomes c [] [] = Unit {0}
-EachBecomes c (r ∷ l) (x ∷ m) = Becomes c r x × EachBecomes (c + group_count x) l m
-EachBecomes c _ _ = ⊥
+abbrev pub EachBecomes : Marks → ℕ → List Tree → List Tree → Type 0
+EachBecomes μ c [] [] = Unit {0}
+EachBecomes μ c (r ∷ l) (x ∷ m) = Becomes μ c r x × EachBecomes μ (c + group_count x) l m
+EachBecomes μ c _ _ = ⊥
 
 -- ---- items, one behind another
 
-groups_append : (l m : List Item) → OnlyGroups l → OnlyGroups m → OnlyGroups (l ++ m)
-groups_append [] m h k = k
-groups_append (opening o ∷ l) m h k = (h.0, groups_append l m h.1 k)
-groups_append (reference r p ∷ l) m h k = absurd h
+groups_append : (μ : Marks) (c : ℕ) (l m : List Item) → AreGroups μ c l → AreGroups μ (c + opened l) m →
+    AreGroups μ c (l ++ m)
+groups_append μ c [] m h k = subst (λ n. AreGroups μ n m) (omega arith) k
+groups_append μ c (opening o ∷ l) m h k =
+    (h.0, groups_append μ (c + 1) l m h.1 (subst (λ n. AreGroups μ n m) (omega arith) k))
+groups_append μ c (reference r p ∷ l) m h k = absurd h
 
-opened_append : (l m : List Item) → OnlyGroups l → opened (l ++ m) ≡ opened l + opened m
-opened_append [] m h = omega arith
-opened_append (opening o ∷ l) m h = ap suc (opened_append l m h.1) ∙ omega arith
-opened_append (reference r p ∷ l) m h = absurd h
+openings_append : (l m : List Item) → openings_in (l ++ m) ≡ openings_in l ++ openings_in m
+openings_append [] m = refl
+openings_append (opening o ∷ l) m = ap (λ k. o ∷ k) (openings_append l m)
+openings_append (reference r p ∷ l) m = openings_append l m
+
+opened_append : (l m : List Item) → opened (l ++ m) ≡ opened l + opened m
+opened_append [] m = omega arith
+opened_append (opening o ∷ l) m = ap suc (opened_append l m) ∙ omega arith
+opened_append (reference r p ∷ l) m = opened_append l m
+
+counted_split : (named : Bool) (l m : List Opening) → AreCounted named (l ++ m) →
+    AreCounted named l × AreCounted named m
+counted_split named [] m h = (tt, h)
+counted_split named (o ∷ l) m h = let (a, b) = counted_split named l m h.1 in ((h.0, a), b)
+
+-- where each has a number, those that have one are all
+pub counted_all : (named : Bool) (l : List Opening) → AreCounted named l → numbered_openings_in named l ≡ l
+counted_all named [] h = refl
+counted_all named (o ∷ l) h = cond-true _ _ _ h.0 ∙ ap (λ m. o ∷ m) (counted_all named l h.1)
+
+-- where the others have numbers too, each has one
+pub counted_unnamed : (l : List Opening) → AreCounted false l
+counted_unnamed [] = tt
+counted_unnamed (o ∷ l) = (refl, counted_unnamed l)
+
+-- what it resolves to where all groups have a number
+pub becomes_plain : (μ : Marks) (c : ℕ) (r x : Tree) → Becomes μ c r x → resolved_in 0 false (λ u. []) c r ≡ x
+becomes_plain μ c r x b = b.is false (counted_unnamed (openings_in (items r))) 0 (λ u. [])
 
 -- ---- several trees
 
-all_groups : (l m : List Tree) (c : ℕ) → EachBecomes c l m → OnlyGroups (items_all (trees_of l))
-all_groups [] [] c h = tt
-all_groups (r ∷ l) (x ∷ m) c h = groups_append (items r) (items_all (trees_of l)) h.0.groups (all_groups l m _ h.1)
-all_groups [] (x ∷ m) c h = absurd h
-all_groups (r ∷ l) [] c h = absurd h
+all_groups : (μ : Marks) (l m : List Tree) (c : ℕ) → EachBecomes μ c l m → AreGroups μ c (items_all (trees_of l))
+all_groups μ [] [] c h = tt
+all_groups μ (r ∷ l) (x ∷ m) c h =
+    groups_append μ c (items r) (items_all (trees_of l)) h.0.groups
+    (subst (λ k. AreGroups μ (c + k) (items_all (trees_of l))) (sym h.0.count) (all_groups μ l m _ h.1))
+all_groups μ [] (x ∷ m) c h = absurd h
+all_groups μ (r ∷ l) [] c h = absurd h
 
-all_count : (l m : List Tree) (c : ℕ) → EachBecomes c l m →
+all_count : (μ : Marks) (l m : List Tree) (c : ℕ) → EachBecomes μ c l m →
     opened (items_all (trees_of l)) ≡ group_count_all (trees_of m)
-all_count [] [] c h = refl
-all_count (r ∷ l) (x ∷ m) c h =
-    opened_append (items r) (items_all (trees_of l)) h.0.groups ∙ ap₂ (λ a b. a + b) h.0.count (all_count l m _ h.1)
-all_count [] (x ∷ m) c h = absurd h
-all_count (r ∷ l) [] c h = absurd h
+all_count μ [] [] c h = refl
+all_count μ (r ∷ l) (x ∷ m) c h =
+    opened_append (items r) (items_all (trees_of l)) ∙ ap₂ (λ a b. a + b) h.0.count (all_count μ l m _ h.1)
+all_count μ [] (x ∷ m) c h = absurd h
+all_count μ (r ∷ l) [] c h = absurd h
 
-each_resolved : (l m : List Tree) (c : ℕ) → EachBecomes c l m → (n : ℕ) (numbers_of : Text → List ℕ) →
-    resolved_all n false numbers_of c (trees_of l) ≡ trees_of m
-each_resolved [] [] c h n u = refl
-each_resolved (r ∷ l) (x ∷ m) c h n u =
-    ap₂ more_trees (h.0.is n u)
-    (ap (λ k. resolved_all n false u (c + k) (trees_of l)) h.0.count ∙ each_resolved l m _ h.1 n u)
-each_resolved [] (x ∷ m) c h n u = absurd h
-each_resolved (r ∷ l) [] c h n u = absurd h
+each_resolved : (μ : Marks) (l m : List Tree) (c : ℕ) → EachBecomes μ c l m → (named : Bool) →
+    AreCounted named (openings_in (items_all (trees_of l))) → (n : ℕ) (numbers_of : Text → List ℕ) →
+    resolved_all n named numbers_of c (trees_of l) ≡ trees_of m
+each_resolved μ [] [] c h named k n u = refl
+each_resolved μ (r ∷ l) (x ∷ m) c h named k n u =
+    let others = items_all (trees_of l) in
+    let (a, b) = counted_split named (openings_in (items r)) (openings_in others)
+    (subst (AreCounted named) (openings_append (items r) others) k) in
+    let same : length (numbered_openings_in named (openings_in (items r))) ≡ group_count x
+    = ap length (counted_all named (openings_in (items r)) a) ∙ h.0.count in
+    ap₂ more_trees (h.0.is named a n u)
+    (ap (λ k. resolved_all n named u (c + k) (trees_of l)) same ∙ each_resolved μ l m _ h.1 named b n u)
+each_resolved μ [] (x ∷ m) c h named k n u = absurd h
+each_resolved μ (r ∷ l) [] c h named k n u = absurd h
 
-pub row_becomes : (w : Row) (l m : List Tree) (c : ℕ) → EachBecomes c l m →
-    Becomes c (row w (trees_of l)) (row w (trees_of m))
-row_becomes w l m c h = record {
-  is = λ n u. ap (row w) (each_resolved l m c h n u);
-  count = all_count l m c h;
-  groups = all_groups l m c h;
+pub row_becomes : (μ : Marks) (w : Row) (l m : List Tree) (c : ℕ) → EachBecomes μ c l m →
+    Becomes μ c (row w (trees_of l)) (row w (trees_of m))
+row_becomes μ w l m c h = record {
+  is = λ named k n u. ap (row w) (each_resolved μ l m c h named k n u);
+  count = all_count μ l m c h;
+  groups = all_groups μ l m c h;
 }
 
-pub one_becomes : (w : Row) (l m : List Tree) (c : ℕ) → EachBecomes c l m →
-    Becomes c (one_or (row w) l) (one_or (row w) m)
-one_becomes w [] [] c h = record { is = λ n u. refl; count = refl; groups = tt }
-one_becomes w (r ∷ []) (x ∷ []) c h = h.0
-one_becomes w (r ∷ s ∷ l) (x ∷ y ∷ m) c h = row_becomes w (r ∷ s ∷ l) (x ∷ y ∷ m) c h
-one_becomes w (r ∷ []) (x ∷ y ∷ m) c h = absurd h.1
-one_becomes w (r ∷ s ∷ l) (x ∷ []) c h = absurd h.1
-one_becomes w [] (x ∷ m) c h = absurd h
-one_becomes w (r ∷ l) [] c h = absurd h
+pub one_becomes : (μ : Marks) (w : Row) (l m : List Tree) (c : ℕ) → EachBecomes μ c l m →
+    Becomes μ c (one_or (row w) l) (one_or (row w) m)
+one_becomes μ w [] [] c h = record { is = λ named k n u. refl; count = refl; groups = tt }
+one_becomes μ w (r ∷ []) (x ∷ []) c h = h.0
+one_becomes μ w (r ∷ s ∷ l) (x ∷ y ∷ m) c h = row_becomes μ w (r ∷ s ∷ l) (x ∷ y ∷ m) c h
+one_becomes μ w (r ∷ []) (x ∷ y ∷ m) c h = absurd h.1
+one_becomes μ w (r ∷ s ∷ l) (x ∷ []) c h = absurd h.1
+one_becomes μ w [] (x ∷ m) c h = absurd h
+one_becomes μ w (r ∷ l) [] c h = absurd h
 
 -- ---- Empties
 
 -- what becomes no Empty is none
-pub stays_solid : (c : ℕ) (r x : Tree) → Becomes c r x → is_empty x ≡ false → is_empty r ≡ false
-stays_solid c empty x b e = absurd-empty (ap is_empty (b.is 0 (λ u. [])) ∙ e)
+pub stays_solid : (μ : Marks) (c : ℕ) (r x : Tree) → Becomes μ c r x → is_empty x ≡ false → is_empty r ≡ false
+stays_solid μ c empty x b e = absurd-empty (ap is_empty (becomes_plain μ c empty x b) ∙ e)
   where
     absurd-empty : {A : Type 0} → true ≡ false → A
     absurd-empty e = absurd cc
-stays_solid c r x b e = refl
+stays_solid μ c r x b e = refl
 
-pub solid_also : (c : ℕ) (r x : Tree) (l m : List Tree) → Becomes c r x → is_empty x ≡ false →
-    EachBecomes (c + group_count x) (solid l) m → EachBecomes c (solid (r ∷ l)) (x ∷ m)
-solid_also c r x l m b e h =
-    subst (λ k. EachBecomes c k (x ∷ m)) (sym (cond-false _ _ _ (stays_solid c r x b e))) (b, h)
+pub solid_also : (μ : Marks) (c : ℕ) (r x : Tree) (l m : List Tree) → Becomes μ c r x → is_empty x ≡ false →
+    EachBecomes μ (c + group_count x) (solid l) m → EachBecomes μ c (solid (r ∷ l)) (x ∷ m)
+solid_also μ c r x l m b e h =
+    subst (λ k. EachBecomes μ c k (x ∷ m)) (sym (cond-false _ _ _ (stays_solid μ c r x b e))) (b, h)
 
 -- ---- what may stand under a quantifier
 
-place_free : (f : Flags) (r : Tree) (c : ℕ) → OnlyGroups (items r) →
+place_free : (μ : Marks) (f : Flags) (r : Tree) (c : ℕ) → AreGroups μ c (items r) →
     is_repeatable f (resolved_in 0 false (λ u. []) c r) ≡ is_repeatable f r
-place_free f (ast_group m p t) c h = refl
-place_free f (ast_node r p) c h = absurd h
-place_free f _ c h = refl
+place_free μ f (ast_group m p t) c h = refl
+place_free μ f (ast_node r p) c h = absurd h
+place_free μ f _ c h = refl
 
-pub stays_repeatable : (f : Flags) (c : ℕ) (r x : Tree) → Becomes c r x → is_repeatable f x ≡ true →
+pub stays_repeatable : (μ : Marks) (f : Flags) (c : ℕ) (r x : Tree) → Becomes μ c r x → is_repeatable f x ≡ true →
     is_repeatable f r ≡ true
-stays_repeatable f c r x b e =
-    sym (place_free f r c b.groups) ∙ (ap (is_repeatable f) (b.is 0 (λ u. [])) ∙ e)
+stays_repeatable μ f c r x b e =
+    sym (place_free μ f r c b.groups) ∙ (ap (is_repeatable f) (becomes_plain μ c r x b) ∙ e)

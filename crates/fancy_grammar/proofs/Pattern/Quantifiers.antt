@@ -31,6 +31,7 @@ use Rattle.fancy_grammar.specs.State.{done, seen_through}
 use Rattle.fancy_grammar.specs.Tree.{Tree, repeat, atomic_group}
 use Rattle.fancy_grammar.specs.Join.{is_empty}
 use Rattle.fancy_grammar.specs.Label.{atomic_group as atomic, repeat as repeated}
+use Rattle.fancy_grammar.specs.Marks.{Marks}
 use Rattle.fancy_grammar.specs.Pattern.{Here, past_groups, group_count}
 use Rattle.fancy_grammar.proofs.OutcomeLemmas.{piece_as}
 use Rattle.fancy_grammar.proofs.Pattern.Becomes.{Becomes, stays_repeatable}
@@ -303,11 +304,11 @@ text_counted f possessive lo hi greedy v o l h =
 
 -- ---- an atom under it, before the pieces that follow
 
-over_quantified : (possessive : Bool) (c : ℕ) (r x : Tree) (lo hi : ℕ) (greedy : Bool) → Becomes c r x →
-    Becomes c (quantified_tree possessive r lo hi greedy) (quantified_tree possessive x lo hi greedy)
-over_quantified true c r x lo hi greedy b =
-    over_becomes atomic c _ _ tt (over_becomes (repeated lo hi greedy) c r x tt b)
-over_quantified false c r x lo hi greedy b = over_becomes (repeated lo hi greedy) c r x tt b
+over_quantified : (μ : Marks) (possessive : Bool) (c : ℕ) (r x : Tree) (lo hi : ℕ) (greedy : Bool) → Becomes μ c r x →
+    Becomes μ c (quantified_tree possessive r lo hi greedy) (quantified_tree possessive x lo hi greedy)
+over_quantified μ true c r x lo hi greedy b =
+    over_becomes μ atomic c _ _ tt (over_becomes μ (repeated lo hi greedy) c r x tt b)
+over_quantified μ false c r x lo hi greedy b = over_becomes μ (repeated lo hi greedy) c r x tt b
 
 solid_quantified : (possessive : Bool) (x : Tree) (lo hi : ℕ) (greedy : Bool) →
     is_empty (quantified_tree possessive x lo hi greedy) ≡ false
@@ -319,17 +320,19 @@ pub same_count : (possessive : Bool) (x : Tree) (lo hi : ℕ) (greedy : Bool) �
 same_count true x lo hi greedy = refl
 same_count false x lo hi greedy = refl
 
-pub lead_quantified : (h : Here) (s q v w : Text) (g : Flags) (x : Tree) (ys : List Tree) (possessive : Bool)
+pub lead_quantified : (μ : Marks) (h : Here) (s q v w : Text) (g : Flags) (x : Tree) (ys : List Tree)
+    (possessive : Bool)
     (lo hi : ℕ) (greedy : Bool) → h.flags.oniguruma_mode ≡ false → Begins h.flags.ignore_space s →
     Clear h.flags.ignore_space v → is_repeatable h.flags x ≡ true →
     Counted h.flags.ignore_space lo hi (lazy_mark h.flags greedy ++ (possessive_mark possessive ++ v)) q →
-    AtomAt h s q x → Rest (past_groups (group_count x) h) v g w ys →
-    Rest h s g w (quantified_tree possessive x lo hi greedy ∷ ys)
-lead_quantified h s q v w g x ys possessive lo hi greedy o b c r m a k =
-    let e = stays_repeatable h.flags h.opened a.tree x a.becomes r in
-    lead_piece h s v w g (quantified_tree possessive a.tree lo hi greedy) (quantified_tree possessive x lo hi greedy) ys b
-    (solid_quantified possessive x lo hi greedy) (over_quantified possessive h.opened a.tree x lo hi greedy a.becomes)
+    AtomAt μ h s q x → Rest μ (past_groups (group_count x) h) v g w ys →
+    Rest μ h s g w (quantified_tree possessive x lo hi greedy ∷ ys)
+lead_quantified μ h s q v w g x ys possessive lo hi greedy o b c r m a k =
+    let e = stays_repeatable μ h.flags h.opened a.tree x a.becomes r in
+    lead_piece μ h s v w g (quantified_tree possessive a.tree lo hi greedy)
+    (quantified_tree possessive x lo hi greedy) ys b
+    (solid_quantified possessive x lo hi greedy) (over_quantified μ possessive h.opened a.tree x lo hi greedy a.becomes)
     (piece_as b.clear.no_layout a.derives
     (quants_one h.depth (bytes s) h.flags a.tree _ q v o
     (quant_read (bytes s) h.flags a.tree q v possessive lo hi greedy o c e m)))
-    (subst (λ n. Rest (past_groups n h) v g w ys) (sym (same_count possessive x lo hi greedy)) k)
+    (subst (λ n. Rest μ (past_groups n h) v g w ys) (sym (same_count possessive x lo hi greedy)) k)

@@ -1,5 +1,5 @@
 -- What the grammar's rules read outside Oniguruma mode, under flags that change along the text.
-use Rattle.std.proofs.Common.{◌≡◌, ℕ, ◌+◌, Bool, true, false, ◌==◌, List, []}
+use Rattle.std.proofs.Common.{◌≡◌, ℕ, Bool, true, false, ◌==◌, List, []}
 use Rattle.std.proofs.Common.{◌∷◌, None, is_some, refl, ap, ◌∙◌, if◌then◌else◌}
 use Rattle.std.proofs.lemmas.Bool.{cond-false, or_parts}
 use Prim.Native.Char.{code}
@@ -16,6 +16,7 @@ use Rattle.fancy_grammar.specs.Grammar.{next}
 use Rattle.fancy_grammar.specs.Grammar.{Piece, Atom}
 use Rattle.fancy_grammar.specs.Join.{is_empty, solid, one_or, join, choice}
 use Rattle.fancy_grammar.specs.Label as label
+use Rattle.fancy_grammar.specs.Marks.{Marks}
 use Rattle.fancy_grammar.specs.Pattern.{Here, under, past_groups, group_count}
 use Rattle.fancy_grammar.specs.Quantified as quantified
 use Rattle.fancy_grammar.specs.Quantified.{quant, quant_at, quants}
@@ -109,34 +110,34 @@ no_brace (c ∷ s) h = rw ((no_mark_is c h).brace) refl
 
 -- ---- what the text from s to v reads as here: a tree that becomes x, with the flags g behind it
 
-pub record AtomAt (h : Here) (s v : Text) (x : Tree) : Type 0 where
+pub record AtomAt (μ : Marks) (h : Here) (s v : Text) (x : Tree) : Type 0 where
   pub tree : Tree
   pub derives : Atom h.depth (st h.flags s) (done tree (st h.flags v))
-  pub becomes : Becomes h.opened tree x
+  pub becomes : Becomes μ h.opened tree x
 
-pub record BranchAt (h : Here) (s : Text) (g : Flags) (v : Text) (x : Tree) : Type 0 where
+pub record BranchAt (μ : Marks) (h : Here) (s : Text) (g : Flags) (v : Text) (x : Tree) : Type 0 where
   pub tree : Tree
   pub derives : Branch h.depth (st h.flags s) (done tree (st g v))
-  pub becomes : Becomes h.opened tree x
+  pub becomes : Becomes μ h.opened tree x
 
-pub record BranchesAt (h : Here) (s : Text) (g : Flags) (v : Text) (ys : List Tree) : Type 0 where
+pub record BranchesAt (μ : Marks) (h : Here) (s : Text) (g : Flags) (v : Text) (ys : List Tree) : Type 0 where
   pub trees : List Tree
   pub derives : Branches h.depth (st h.flags s) (done trees (st g v))
-  pub become : EachBecomes h.opened trees ys
+  pub become : EachBecomes μ h.opened trees ys
 
-pub record WholeAt (h : Here) (s : Text) (g : Flags) (v : Text) (x : Tree) : Type 0 where
+pub record WholeAt (μ : Marks) (h : Here) (s : Text) (g : Flags) (v : Text) (x : Tree) : Type 0 where
   pub tree : Tree
   pub derives : Alternation h.depth (st h.flags s) (done tree (st g v))
-  pub becomes : Becomes h.opened tree x
+  pub becomes : Becomes μ h.opened tree x
 
 -- the pieces up to where the branch stops; without the Empties they become these
-pub record Rest (h : Here) (s : Text) (g : Flags) (v : Text) (ys : List Tree) : Type 0 where
+pub record Rest (μ : Marks) (h : Here) (s : Text) (g : Flags) (v : Text) (ys : List Tree) : Type 0 where
   pub trees : List Tree
   pub derives : Pieces h.depth (st h.flags s) (done trees (st g v))
-  pub become : EachBecomes h.opened (solid trees) ys
+  pub become : EachBecomes μ h.opened (solid trees) ys
 
-pub no_more : (h : Here) (v : Text) → Stops h.flags.ignore_space v → Rest h v h.flags v []
-no_more h v e = record { trees = []; derives = stop e.ends; become = tt }
+pub no_more : (μ : Marks) (h : Here) (v : Text) → Stops h.flags.ignore_space v → Rest μ h v h.flags v []
+no_more μ h v e = record { trees = []; derives = stop e.ends; become = tt }
 
 -- ---- pieces
 
@@ -155,30 +156,31 @@ quant_none left f a v c =
     ∙ ap (quantified.with_counts left a (st f v)) (no_counts f.ignore_space v c.no_mark)
 
 -- a piece that was read, before those that follow
-pub lead_piece : (h : Here) (s v w : Text) (g : Flags) (r x : Tree) (ys : List Tree) →
-    Begins h.flags.ignore_space s → is_empty x ≡ false → Becomes h.opened r x →
-    Piece h.depth (st h.flags s) (done r (st h.flags v)) → Rest (past_groups (group_count x) h) v g w ys →
-    Rest h s g w (x ∷ ys)
-lead_piece h s v w g r x ys b e k p q = record {
+pub lead_piece : (μ : Marks) (h : Here) (s v w : Text) (g : Flags) (r x : Tree) (ys : List Tree) →
+    Begins h.flags.ignore_space s → is_empty x ≡ false → Becomes μ h.opened r x →
+    Piece h.depth (st h.flags s) (done r (st h.flags v)) → Rest μ (past_groups (group_count x) h) v g w ys →
+    Rest μ h s g w (x ∷ ys)
+lead_piece μ h s v w g r x ys b e k p q = record {
   trees = r ∷ q.trees;
   derives = next b.goes p q.derives;
-  become = solid_also h.opened r x q.trees ys k e q.become;
+  become = solid_also μ h.opened r x q.trees ys k e q.become;
 }
 
 -- an atom that no quantifier follows
-pub lead : (h : Here) (s v w : Text) (g : Flags) (x : Tree) (ys : List Tree) → h.flags.oniguruma_mode ≡ false →
-    Begins h.flags.ignore_space s → Clear h.flags.ignore_space v → is_empty x ≡ false → AtomAt h s v x →
-    Rest (past_groups (group_count x) h) v g w ys → Rest h s g w (x ∷ ys)
-lead h s v w g x ys o b c e a q =
-    lead_piece h s v w g a.tree x ys b e a.becomes
+pub lead : (μ : Marks) (h : Here) (s v w : Text) (g : Flags) (x : Tree) (ys : List Tree) →
+    h.flags.oniguruma_mode ≡ false →
+    Begins h.flags.ignore_space s → Clear h.flags.ignore_space v → is_empty x ≡ false → AtomAt μ h s v x →
+    Rest μ (past_groups (group_count x) h) v g w ys → Rest μ h s g w (x ∷ ys)
+lead μ h s v w g x ys o b c e a q =
+    lead_piece μ h s v w g a.tree x ys b e a.becomes
     (piece_as b.clear.no_layout a.derives
     (quants_one h.depth (bytes s) h.flags a.tree a.tree v v o (quant_none (bytes s) h.flags a.tree v c))) q
 
 -- an Empty that is read at once, with other flags behind it
-pub lead_flags : (h : Here) (f g : Flags) (s v w : Text) (ys : List Tree) → f.oniguruma_mode ≡ false →
+pub lead_flags : (μ : Marks) (h : Here) (f g : Flags) (s v w : Text) (ys : List Tree) → f.oniguruma_mode ≡ false →
     Begins h.flags.ignore_space s → Clear f.ignore_space v → Atom h.depth (st h.flags s) (done empty (st f v)) →
-    Rest (under f h) v g w ys → Rest h s g w ys
-lead_flags h f g s v w ys o b c a q = record {
+    Rest μ (under f h) v g w ys → Rest μ h s g w ys
+lead_flags μ h f g s v w ys o b c a q = record {
   trees = empty ∷ q.trees;
   derives =
       next b.goes
@@ -189,35 +191,36 @@ lead_flags h f g s v w ys o b c a q = record {
 
 -- ---- branches
 
-pub reads_branch : (h : Here) (s v : Text) (g : Flags) (ys : List Tree) → Rest h s g v ys →
-    BranchAt h s g v (one_or concat ys)
-reads_branch h s v g ys r = record {
+pub reads_branch : (μ : Marks) (h : Here) (s v : Text) (g : Flags) (ys : List Tree) → Rest μ h s g v ys →
+    BranchAt μ h s g v (one_or concat ys)
+reads_branch μ h s v g ys r = record {
   tree = join r.trees;
   derives = branch r.derives;
-  becomes = one_becomes label.concat (solid r.trees) ys h.opened r.become;
+  becomes = one_becomes μ label.concat (solid r.trees) ys h.opened r.become;
 }
 
-pub reads_last : (h : Here) (s v : Text) (g : Flags) (x : Tree) → BranchAt h s g v x →
-    strip bar v ≡ None → BranchesAt h s g v (x ∷ [])
-reads_last h s v g x b e = record { trees = b.tree ∷ []; derives = last b.derives e; become = (b.becomes, tt) }
+pub reads_last : (μ : Marks) (h : Here) (s v : Text) (g : Flags) (x : Tree) → BranchAt μ h s g v x →
+    strip bar v ≡ None → BranchesAt μ h s g v (x ∷ [])
+reads_last μ h s v g x b e = record { trees = b.tree ∷ []; derives = last b.derives e; become = (b.becomes, tt) }
 
-pub reads_more : (h : Here) (s t v : Text) (f g : Flags) (x : Tree) (ys : List Tree) →
-    BranchAt h s f (code "|" ∷ t) x → BranchesAt (past_groups (group_count x) (under f h)) t g v ys →
-    BranchesAt h s g v (x ∷ ys)
-reads_more h s t v f g x ys b bs = record {
+pub reads_more : (μ : Marks) (h : Here) (s t v : Text) (f g : Flags) (x : Tree) (ys : List Tree) →
+    BranchAt μ h s f (code "|" ∷ t) x → BranchesAt μ (past_groups (group_count x) (under f h)) t g v ys →
+    BranchesAt μ h s g v (x ∷ ys)
+reads_more μ h s t v f g x ys b bs = record {
   trees = b.tree ∷ bs.trees;
   derives = more b.derives refl bs.derives;
   become = (b.becomes, bs.become);
 }
 
-pub reads_whole : (h : Here) (s v : Text) (g : Flags) (ys : List Tree) → BranchesAt h s g v ys →
-    WholeAt h s g v (choice ys)
-reads_whole h s v g ys b = record {
+pub reads_whole : (μ : Marks) (h : Here) (s v : Text) (g : Flags) (ys : List Tree) → BranchesAt μ h s g v ys →
+    WholeAt μ h s g v (choice ys)
+reads_whole μ h s v g ys b = record {
   tree = choice b.trees;
   derives = alternation b.derives;
-  becomes = one_becomes label.alt b.trees ys h.opened b.become;
+  becomes = one_becomes μ label.alt b.trees ys h.opened b.become;
 }
 
-pub reads_only : (h : Here) (s v : Text) (g : Flags) (x : Tree) → BranchAt h s g v x → strip bar v ≡ None →
-    WholeAt h s g v x
-reads_only h s v g x b e = reads_whole h s v g (x ∷ []) (reads_last h s v g x b e)
+pub reads_only : (μ : Marks) (h : Here) (s v : Text) (g : Flags) (x : Tree) → BranchAt μ h s g v x →
+    strip bar v ≡ None →
+    WholeAt μ h s g v x
+reads_only μ h s v g x b e = reads_whole μ h s v g (x ∷ []) (reads_last μ h s v g x b e)
