@@ -149,11 +149,19 @@ pub over_becomes : (μ : Marks) (w : Wrap) (c : ℕ) (r x : Tree) → IsKept w �
 over_becomes μ label.group c r x k b = absurd k
 over_becomes μ (label.ast_group name place) c r x k b = absurd k
 over_becomes μ (label.look_around l) c r x k b =
-    record { is = λ named k n u. ap (over (label.look_around l))
-    (b.is named k n u); count = b.count; groups = b.groups }
+    record {
+      is = λ named k n u. ap (over (label.look_around l))
+          (b.is named k n u);
+      count = b.count;
+      groups = b.groups;
+    }
 over_becomes μ (label.repeat lo hi greedy) c r x k b =
-    record { is = λ named k n u. ap (over (label.repeat lo hi greedy))
-    (b.is named k n u); count = b.count; groups = b.groups }
+    record {
+      is = λ named k n u. ap (over (label.repeat lo hi greedy))
+          (b.is named k n u);
+      count = b.count;
+      groups = b.groups;
+    }
 over_becomes μ label.atomic_group c r x k b =
     record { is = λ named k n u. ap (over label.atomic_group) (b.is named k n u); count = b.count; groups = b.groups }
 over_becomes μ label.define_group c r x k b =

@@ -5,9 +5,9 @@ use Rattle.std.proofs.Math.Bool.{and-false}
 use Rattle.std.proofs.lemmas.Bool.{cond-false, or_parts}
 use Rattle.std.specs.Str.{bytes_eq}
 use Prim.Native.Char.{code}
-use Rattle.fancy_lex.specs.Characters.{◌∈◌, backslash, open_bracket, close_bracket}
-use Rattle.fancy_lex.specs.Class.{class_head, class, escape_in_class, is_negated, written, Class, class_items}
-use Rattle.fancy_lex.specs.Class.{ClassItems, close, plain, escaped, nested}
+use Rattle.fancy_lex.specs.Characters.{◌∈◌, backslash, open_bracket}
+use Rattle.fancy_lex.specs.Class.{class_head, class, escape_in_class, is_negated, written, class_items}
+use Rattle.fancy_lex.specs.Class.{ClassItems, close, plain, escaped}
 use Rattle.fancy_lex.specs.Class.{OuterClass}
 use Rattle.fancy_lex.specs.Escape.{escape, escape_at, lone_escape}
 use Rattle.fancy_lex.specs.Escaped as leaves
@@ -16,8 +16,7 @@ use Rattle.fancy_lex.specs.Escaped.{hex_class, negated_hex_class}
 use Rattle.fancy_lex.specs.Reading.{gives, choose}
 use Rattle.fancy_lex.specs.Text.{Text}
 use Rattle.fancy_lex.specs.declared.flags.Flags.{Flags}
-use Rattle.fancy_lex.proofs.ClassLaws.{class_complete, class_reads, class_head_frame, before}
-use Rattle.fancy_lex.proofs.EscapeFrame.{escape_frame}
+use Rattle.fancy_lex.proofs.ClassLaws.{class_complete, class_reads, class_frame}
 use Rattle.fancy_grammar.specs.Label.{delegate}
 use Rattle.fancy_grammar.specs.PatternNeeds.{is_hex_class, settled, fixed_or}
 use Rattle.fancy_grammar.specs.PatternSource.{Part, part, replaced, replaced_part, single_part, part_at, source}
@@ -31,28 +30,6 @@ use Rattle.fancy_grammar.specs.declared.needs.Needs.{Needs}
 use Rattle.fancy_grammar.proofs.ReadBack.ClearLemmas.{apart, Each, no_more, also, each_among}
 
 -- ---- a class reads the same whatever follows it
-
-items_some : {f : Flags} {b a : Bool} {t w v : Text} → ClassItems f b t (written w a v) →
-    (c : ℕ) × (u : Text) × (t ≡ c ∷ u)
-items_some {v} close = (close_bracket, v, refl)
-items_some (plain {c} {t} p h) = (c, t, refl)
-items_some (escaped {t} q h) = (backslash, t, refl)
-items_some (nested {t} g h) = (open_bracket, t, refl)
-
-mutual
-  class_frame : {f : Flags} {b a : Bool} {t w v : Text} → Class f b t (written w a v) → (s : Text) →
-      Class f b (t ++ s) (written w a (v ++ s))
-  class_frame {t} (class_items e h) s =
-      let (c, u, q) = items_some h in
-      class_items (class_head_frame [] t s c u (ap (λ (p : Text × Text). p.1) e ∙ q) ∙ ap (before s) e)
-      (items_frame h s)
-
-  items_frame : {f : Flags} {b a : Bool} {t w v : Text} → ClassItems f b t (written w a v) →
-      (s : Text) → ClassItems f b (t ++ s) (written w a (v ++ s))
-  items_frame close s = close
-  items_frame (plain p h) s = plain p (items_frame h s)
-  items_frame {f} (escaped {t} {u} {e} q h) s = escaped (escape_frame f t u s e q) (items_frame h s)
-  items_frame (nested g h) s = nested (class_frame g s) (items_frame h s)
 
 class_follows : (f : Flags) (t s v : Text) → class f t ≡ gives s [] → class f (t ++ v) ≡ gives s v
 class_follows f t s v e =
