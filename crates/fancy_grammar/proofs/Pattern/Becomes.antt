@@ -1,36 +1,52 @@
 -- Raw trees that resolve to given ones where they stand, whatever stands around them.
 use Rattle.std.proofs.Common.{◌≡◌, ℕ, suc, ◌+◌, Bool, true, false, List, [], ◌∷◌, ◌++◌, length}
-use Rattle.std.proofs.Common.{refl, sym, ap, ap₂, ◌∙◌, subst, arith}
+use Rattle.std.proofs.Common.{refl, sym, ap, ap₂, ◌∙◌, subst, arith, ℤ, Some, None, Option}
 use Rattle.std.proofs.lemmas.Bool.{cond-true, cond-false}
 use Rattle.fancy_lex.specs.Text.{Text}
 use Rattle.fancy_lex.specs.declared.flags.Flags.{Flags}
-use Rattle.fancy_parts.specs.Ranks.{Opening, numbered_openings_in}
-use Rattle.fancy_grammar.specs.Items.{Item, opening, reference, items, items_all, openings_in}
+use Rattle.fancy_parts.specs.Ranks.{Opening, numbered_openings_in, numbers}
+use Rattle.fancy_grammar.specs.Items.{Item, opening, reference, items, items_all, openings_in, role_of, target_of}
 use Rattle.fancy_grammar.specs.Join.{is_empty, solid, one_or}
-use Rattle.fancy_grammar.specs.Label.{Row}
+use Rattle.fancy_grammar.specs.Label.{Row, AstReference, ast_backref, ast_call, ast_condition}
 use Rattle.fancy_grammar.specs.Marks.{Marks}
 use Rattle.fancy_grammar.specs.Pattern.{group_count, group_count_all}
 use Rattle.fancy_grammar.specs.Quantified.{is_repeatable}
-use Rattle.fancy_grammar.specs.Resolved.{resolved_in, resolved_all}
+use Rattle.fancy_grammar.specs.Resolved.{resolved_in, resolved_all, reference_node}
 use Rattle.fancy_grammar.specs.Tree.{Tree, row, more_trees, trees_of, empty, ast_group}
-use Rattle.fancy_grammar.specs.Tree.{ast_node}
-use Rattle.fancy_grammar.specs.Writable.{name_at, AreCounted}
+use Rattle.fancy_grammar.specs.Tree.{ast_node, backref, backref_at_level, subroutine_call, backref_exists}
+use Rattle.fancy_grammar.specs.Writable.{name_at, AreCounted, openings_told}
+use Rattle.fancy_lex.specs.Target.{Target, by_number}
+use Rattle.fancy_parts.specs.Meaning.{number, means}
 
 -- how many groups open among the items
 abbrev pub opened : List Item → ℕ
 opened l = length (openings_in l)
 
--- behind the openings of c groups they are groups, each with the name that the marks give it, and no reference
+-- the numbers of a name, by the marks
+abbrev pub numbers_told : Marks → Text → List ℕ
+numbers_told μ w = numbers w (openings_told μ 0 μ.total_groups)
+
+abbrev pub is_by_number : Target → Bool
+is_by_number (by_number n) = true
+is_by_number _ = false
+
+-- a reference that means a group behind the openings of c groups, and is not written as a number
+pub record MeansGroup (μ : Marks) (c : ℕ) (r : AstReference) : Type 0 where
+  pub group : ℕ
+  pub meant : means (numbers_told μ) c (role_of r) (target_of r) ≡ number group
+  pub named : is_by_number (target_of r) ≡ false
+
+-- behind the openings of c groups they are groups, each with the name that the marks give it, and such references
 abbrev pub AreGroups : Marks → ℕ → List Item → Type 0
 AreGroups μ c [] = Unit {0}
 AreGroups μ c (opening o ∷ l) = (o.name ≡ name_at μ (c + 1)) × AreGroups μ (c + 1) l
-AreGroups μ c (reference r p ∷ l) = ⊥
+AreGroups μ c (reference r p ∷ l) = MeansGroup μ c r × AreGroups μ c l
 
--- behind the openings of c groups it resolves to x, where each of its groups has a number; it has as many groups, with
--- the names that the marks give them, and holds no reference
+-- behind the openings of c groups it resolves to x, where each of its groups has a number and each name has those that
+-- the marks say; it has as many groups, with the names that the marks give them
 pub record Becomes (μ : Marks) (c : ℕ) (r x : Tree) : Type 0 where
   pub is : (named : Bool) → AreCounted named (openings_in (items r)) → (n : ℕ) (numbers_of : Text → List ℕ) →
-      resolved_in n named numbers_of c r ≡ x
+      ((w : Text) → numbers_of w ≡ numbers_told μ w) → resolved_in n named numbers_of c r ≡ x
   pub count : opened (items r) ≡ group_count x
   pub groups : AreGroups μ c (items r)
 
@@ -47,7 +63,7 @@ groups_append : (μ : Marks) (c : ℕ) (l m : List Item) → AreGroups μ c l �
 groups_append μ c [] m h k = subst (λ n. AreGroups μ n m) (omega arith) k
 groups_append μ c (opening o ∷ l) m h k =
     (h.0, groups_append μ (c + 1) l m h.1 (subst (λ n. AreGroups μ n m) (omega arith) k))
-groups_append μ c (reference r p ∷ l) m h k = absurd h
+groups_append μ c (reference r p ∷ l) m h k = (h.0, groups_append μ c l m h.1 k)
 
 openings_append : (l m : List Item) → openings_in (l ++ m) ≡ openings_in l ++ openings_in m
 openings_append [] m = refl
@@ -75,8 +91,8 @@ counted_unnamed [] = tt
 counted_unnamed (o ∷ l) = (refl, counted_unnamed l)
 
 -- what it resolves to where all groups have a number
-pub becomes_plain : (μ : Marks) (c : ℕ) (r x : Tree) → Becomes μ c r x → resolved_in 0 false (λ u. []) c r ≡ x
-becomes_plain μ c r x b = b.is false (counted_unnamed (openings_in (items r))) 0 (λ u. [])
+pub becomes_plain : (μ : Marks) (c : ℕ) (r x : Tree) → Becomes μ c r x → resolved_in 0 false (numbers_told μ) c r ≡ x
+becomes_plain μ c r x b = b.is false (counted_unnamed (openings_in (items r))) 0 (numbers_told μ) (λ w. refl)
 
 -- ---- several trees
 
@@ -98,30 +114,30 @@ all_count μ (r ∷ l) [] c h = absurd h
 
 each_resolved : (μ : Marks) (l m : List Tree) (c : ℕ) → EachBecomes μ c l m → (named : Bool) →
     AreCounted named (openings_in (items_all (trees_of l))) → (n : ℕ) (numbers_of : Text → List ℕ) →
-    resolved_all n named numbers_of c (trees_of l) ≡ trees_of m
-each_resolved μ [] [] c h named k n u = refl
-each_resolved μ (r ∷ l) (x ∷ m) c h named k n u =
+    ((w : Text) → numbers_of w ≡ numbers_told μ w) → resolved_all n named numbers_of c (trees_of l) ≡ trees_of m
+each_resolved μ [] [] c h named k n u e = refl
+each_resolved μ (r ∷ l) (x ∷ m) c h named k n u e =
     let others = items_all (trees_of l) in
     let (a, b) = counted_split named (openings_in (items r)) (openings_in others)
     (subst (AreCounted named) (openings_append (items r) others) k) in
     let same : length (numbered_openings_in named (openings_in (items r))) ≡ group_count x
     = ap length (counted_all named (openings_in (items r)) a) ∙ h.0.count in
-    ap₂ more_trees (h.0.is named a n u)
-    (ap (λ k. resolved_all n named u (c + k) (trees_of l)) same ∙ each_resolved μ l m _ h.1 named b n u)
-each_resolved μ [] (x ∷ m) c h named k n u = absurd h
-each_resolved μ (r ∷ l) [] c h named k n u = absurd h
+    ap₂ more_trees (h.0.is named a n u e)
+    (ap (λ k. resolved_all n named u (c + k) (trees_of l)) same ∙ each_resolved μ l m _ h.1 named b n u e)
+each_resolved μ [] (x ∷ m) c h named k n u e = absurd h
+each_resolved μ (r ∷ l) [] c h named k n u e = absurd h
 
 pub row_becomes : (μ : Marks) (w : Row) (l m : List Tree) (c : ℕ) → EachBecomes μ c l m →
     Becomes μ c (row w (trees_of l)) (row w (trees_of m))
 row_becomes μ w l m c h = record {
-  is = λ named k n u. ap (row w) (each_resolved μ l m c h named k n u);
+  is = λ named k n u e. ap (row w) (each_resolved μ l m c h named k n u e);
   count = all_count μ l m c h;
   groups = all_groups μ l m c h;
 }
 
 pub one_becomes : (μ : Marks) (w : Row) (l m : List Tree) (c : ℕ) → EachBecomes μ c l m →
     Becomes μ c (one_or (row w) l) (one_or (row w) m)
-one_becomes μ w [] [] c h = record { is = λ named k n u. refl; count = refl; groups = tt }
+one_becomes μ w [] [] c h = record { is = λ named k n u e. refl; count = refl; groups = tt }
 one_becomes μ w (r ∷ []) (x ∷ []) c h = h.0
 one_becomes μ w (r ∷ s ∷ l) (x ∷ y ∷ m) c h = row_becomes μ w (r ∷ s ∷ l) (x ∷ y ∷ m) c h
 one_becomes μ w (r ∷ []) (x ∷ y ∷ m) c h = absurd h.1
@@ -146,10 +162,30 @@ solid_also μ c r x l m b e h =
 
 -- ---- what may stand under a quantifier
 
+-- what a reference that means a group is resolved to
+node_of : {A : Type 0} (P : Tree → A) (a : A) (μ : Marks) (c : ℕ) (r : AstReference) (p : ℕ) → MeansGroup μ c r →
+    ((k : ℕ) → P (reference_node 0 (number k) r p) ≡ a) →
+    P (resolved_in 0 false (numbers_told μ) c (ast_node r p)) ≡ a
+node_of P a μ c r p h e = ap (λ m. P (reference_node 0 m r p)) h.meant ∙ e h.group
+
+-- it is a leaf of its own, whatever the reference
+pub node_told : {A : Type 0} (P : Tree → A) (a : A) (μ : Marks) (c : ℕ) (r : AstReference) (p : ℕ) →
+    ((n : ℕ) (casei : Bool) → P (backref n casei) ≡ a) →
+    ((n : ℕ) (level : ℤ) (casei : Bool) → P (backref_at_level n level casei) ≡ a) →
+    ((n : ℕ) → P (subroutine_call n) ≡ a) → ((n : ℕ) (level : Option ℤ) → P (backref_exists n level) ≡ a) →
+    MeansGroup μ c r → P (resolved_in 0 false (numbers_told μ) c (ast_node r p)) ≡ a
+node_told P a μ c (ast_backref t casei None) p x y z w h =
+    node_of P a μ c (ast_backref t casei None) p h (λ k. x k casei)
+node_told P a μ c (ast_backref t casei (Some level)) p x y z w h =
+    node_of P a μ c (ast_backref t casei (Some level)) p h (λ k. y k level casei)
+node_told P a μ c (ast_call t) p x y z w h = node_of P a μ c (ast_call t) p h z
+node_told P a μ c (ast_condition t level) p x y z w h = node_of P a μ c (ast_condition t level) p h (λ k. w k level)
+
 place_free : (μ : Marks) (f : Flags) (r : Tree) (c : ℕ) → AreGroups μ c (items r) →
-    is_repeatable f (resolved_in 0 false (λ u. []) c r) ≡ is_repeatable f r
+    is_repeatable f (resolved_in 0 false (numbers_told μ) c r) ≡ is_repeatable f r
 place_free μ f (ast_group m p t) c h = refl
-place_free μ f (ast_node r p) c h = absurd h
+place_free μ f (ast_node r p) c h =
+    node_told (is_repeatable f) true μ c r p (λ n i. refl) (λ n l i. refl) (λ n. refl) (λ n l. refl) h.0
 place_free μ f _ c h = refl
 
 pub stays_repeatable : (μ : Marks) (f : Flags) (c : ℕ) (r x : Tree) → Becomes μ c r x → is_repeatable f x ≡ true →

@@ -1,5 +1,5 @@
 -- Each kind of tree reads back where the trees below it do.
-use Rattle.std.proofs.Common.{◌≡◌, zero, ◌+◌, ◌<◌, Bool, false, not}
+use Rattle.std.proofs.Common.{◌≡◌, zero, ◌+◌, ◌<◌, Bool, false, not, ℕ}
 use Rattle.std.proofs.Common.{[], ◌∷◌, ◌++◌, codes, refl, sym, ap, ◌∙◌, subst, Option, Some, None, IfSome, option_map}
 use Rattle.std.proofs.lemmas.Bool.{cond-false, false≢true, cond_both}
 use Prim.Native.Char.{code}
@@ -39,6 +39,8 @@ use Rattle.fancy_grammar.proofs.ReadBack.ClearLemmas.{not_asking}
 use Rattle.fancy_grammar.proofs.ReadBack.RuleLemmas.{st}
 use Rattle.fancy_lex.specs.Characters.{◌∈◌, is_among}
 use Rattle.fancy_lex.specs.Reading.{choose}
+use Rattle.fancy_grammar.proofs.Pattern.Becomes.{numbers_told}
+use Rattle.fancy_grammar.proofs.Pattern.References.{backref_at, call_at}
 
 module _ (μ : Marks) where
   abbrev pub ReadsTree : Tree → Here → Type 0
@@ -71,44 +73,50 @@ module _ (μ : Marks) where
       (λ r. ap (λ w. setting h.flags g ++ w)
       (cond-false _ _ _ (ap not (sym (same_repeatable l h.flags g refl) ∙ r))))
 
-  outside : (f : Flags) (a : Assertion) → IsWritableLeaf f (label.assertion a) → IsOutside a
-  outside f (StartLineOniguruma crlf) k = k
-  outside f _ k = tt
+  outside : (f : Flags) (c : ℕ) (a : Assertion) → IsWritableLeaf f μ c (label.assertion a) → IsOutside a
+  outside f c (StartLineOniguruma crlf) k = k
+  outside f c _ k = tt
 
-  pub leaf_reads : (f : Flags) (l : Leaf) (h : Here) → h.flags.oniguruma_mode ≡ false → IsLike f h.flags →
-      h.depth + 1 < max_depth → IsWritableLeaf f l → ReadsTree (leaf l) h
-  leaf_reads f label.empty h o like d k = by_nothing μ h (codes "()") (codes "()")
-  leaf_reads f (label.any a b) h o like d k =
+  pub leaf_reads : μ.numeric_capture_group_references ≡ false →
+      ((k : ℕ) → IfSome (name_of μ k) (λ e. e.1 ≡ numbers_told μ e.0)) → (f : Flags) (l : Leaf) (h : Here) → h.flags.oniguruma_mode ≡ false → IsLike f h.flags →
+      h.depth + 1 < max_depth → IsWritableLeaf f μ h.opened l → ReadsTree (leaf l) h
+  leaf_reads none numbered f label.empty h o like d k = by_nothing μ h (codes "()") (codes "()")
+  leaf_reads none numbered f (label.any a b) h o like d k =
       let i = under (settled h.flags (leaf (label.any a b))) h in
       leaf_by (label.any a b) h o d refl (any_at μ i a b (any_fits i.flags a b
       (settled_again h.flags (leaf (label.any a b)))))
-  leaf_reads f (label.assertion a) h o like d k =
+  leaf_reads none numbered f (label.assertion a) h o like d k =
       let i = under (settled h.flags (leaf (label.assertion a))) h in
       leaf_by (label.assertion a) h o d refl
-      (assertion_at μ i a o (assertion_fits i.flags a (outside f a k)
+      (assertion_at μ i a o (assertion_fits i.flags a (outside f h.opened a k)
       (settled_again h.flags (leaf (label.assertion a)))))
-  leaf_reads f (label.general_newline u) h o like d k =
+  leaf_reads none numbered f (label.general_newline u) h o like d k =
       leaf_by (label.general_newline u) h o d refl (newline_at μ h u (ap (λ g. g.unicode) like ∙ k))
-  leaf_reads f (label.literal [] casei) h o like d k = absurd k
-  leaf_reads f (label.literal (c ∷ []) casei) h o like d k =
+  leaf_reads none numbered f (label.literal [] casei) h o like d k = absurd k
+  leaf_reads none numbered f (label.literal (c ∷ []) casei) h o like d k =
       let l = label.literal (c ∷ []) casei in
       let i = under (settled h.flags (leaf l)) h in
       leaf_by l h o d refl (literal_at μ i casei c (case_fits i.flags casei c o (settled_again h.flags (leaf l))))
-  leaf_reads f (label.literal (c ∷ e ∷ s) casei) h o like d k = absurd k
-  leaf_reads f (label.literal_bytes []) h o like d k = absurd k
-  leaf_reads f (label.literal_bytes (b ∷ [])) h o like d k =
+  leaf_reads none numbered f (label.literal (c ∷ e ∷ s) casei) h o like d k = absurd k
+  leaf_reads none numbered f (label.literal_bytes []) h o like d k = absurd k
+  leaf_reads none numbered f (label.literal_bytes (b ∷ [])) h o like d k =
       leaf_by (label.literal_bytes (b ∷ [])) h o d refl (byte_at μ h b (ap (λ g. g.unicode) like ∙ k.0) k.1 k.2)
-  leaf_reads f (label.literal_bytes (b ∷ e ∷ s)) h o like d k = absurd k
-  leaf_reads f (label.delegate s casei) h o like d k =
+  leaf_reads none numbered f (label.literal_bytes (b ∷ e ∷ s)) h o like d k = absurd k
+  leaf_reads none numbered f (label.delegate s casei) h o like d k =
       let l = label.delegate s casei in
       let i = under (settled h.flags (leaf l)) h in
       leaf_by l h o d refl (source_at μ i s casei _ (k i.flags like (settled_again h.flags (leaf l))))
-  leaf_reads f label.keep_out h o like d k = leaf_by label.keep_out h o d refl (keep_at μ h)
-  leaf_reads f label.continue_from_previous_match_end h o like d k =
+  leaf_reads none numbered f label.keep_out h o like d k = leaf_by label.keep_out h o d refl (keep_at μ h)
+  leaf_reads none numbered f label.continue_from_previous_match_end h o like d k =
       leaf_by label.continue_from_previous_match_end h o d refl (continue_at μ h)
-  leaf_reads f (label.verb v) h o like d k = leaf_by (label.verb v) h o d refl (verb_leaf_at μ h v d)
-  leaf_reads f label.clear h o like d k = leaf_by label.clear h o d refl (clear_at μ h d)
-  leaf_reads f _ h o like d k = absurd k
+  leaf_reads none numbered f (label.verb v) h o like d k = leaf_by (label.verb v) h o d refl (verb_leaf_at μ h v d)
+  leaf_reads none numbered f label.clear h o like d k = leaf_by label.clear h o d refl (clear_at μ h d)
+  leaf_reads none numbered f (label.backref n casei) h o like d k =
+      leaf_by (label.backref n casei) h o d refl
+      (backref_at μ (under (settled h.flags (leaf (label.backref n casei))) h) none numbered n k)
+  leaf_reads none numbered f (label.subroutine_call n) h o like d k =
+      leaf_by (label.subroutine_call n) h o d refl (call_at μ h none numbered n k)
+  leaf_reads none numbered f _ h o like d k = absurd k
 
   -- ---- groups
 

@@ -31,11 +31,12 @@ use Rattle.fancy_grammar.specs.Resolved.{resolved_in}
 use Rattle.fancy_grammar.specs.State.{State, Outcome, done, fault, seen_through}
 use Rattle.fancy_grammar.specs.Tree.{Tree, leaf, over, row, no_trees, more_trees, empty, conditional, ast_group}
 use Rattle.fancy_grammar.specs.Tree.{ast_node, trees_of, list_of}
-use Rattle.fancy_grammar.proofs.Pattern.Becomes.{Becomes, row_becomes, AreGroups, becomes_plain}
+use Rattle.fancy_grammar.proofs.Pattern.Becomes.{Becomes, row_becomes, AreGroups, becomes_plain, numbers_told}
+use Rattle.fancy_grammar.proofs.Pattern.Becomes.{node_told}
 use Rattle.fancy_grammar.proofs.Pattern.Rules.{Begins, begins_by, AtomAt, BranchAt, WholeAt, stops_bar, ends_close}
 use Rattle.fancy_grammar.specs.declared.precedence.Precedence.TheVariants.{Whole, Branch as BranchAlone}
 use Rattle.fancy_grammar.proofs.Pattern.Cases.{ReadsTree}
-use Rattle.fancy_grammar.proofs.ReadBack.RuleLemmas.{OnlyGroups, st}
+use Rattle.fancy_grammar.proofs.ReadBack.RuleLemmas.{st}
 
 -- ---- the branches of an alternation that was read
 
@@ -89,18 +90,20 @@ others {d} {s} {r} {t} a = let (q, e, b) = alternation_of a in others_of d s r t
 -- ---- a raw tree and what it becomes
 
 raw_empty : (μ : Marks) (r : Tree) (c : ℕ) → AreGroups μ c (items r) →
-    is_empty (resolved_in 0 false (λ u. []) c r) ≡ is_empty r
+    is_empty (resolved_in 0 false (numbers_told μ) c r) ≡ is_empty r
 raw_empty μ (ast_group m p t) c h = refl
-raw_empty μ (ast_node r p) c h = absurd h
+raw_empty μ (ast_node r p) c h =
+    node_told is_empty false μ c r p (λ n i. refl) (λ n l i. refl) (λ n. refl) (λ n l. refl) h.0
 raw_empty μ _ c h = refl
 
 same_empty : (μ : Marks) (c : ℕ) (r x : Tree) → Becomes μ c r x → is_empty r ≡ is_empty x
 same_empty μ c r x b = sym (raw_empty μ r c b.groups) ∙ ap is_empty (becomes_plain μ c r x b)
 
 raw_alt : (μ : Marks) (r : Tree) (c : ℕ) → AreGroups μ c (items r) →
-    is_alt (resolved_in 0 false (λ u. []) c r) ≡ is_alt r
+    is_alt (resolved_in 0 false (numbers_told μ) c r) ≡ is_alt r
 raw_alt μ (ast_group m p t) c h = refl
-raw_alt μ (ast_node r p) c h = absurd h
+raw_alt μ (ast_node r p) c h =
+    node_told is_alt false μ c r p (λ n i. refl) (λ n l i. refl) (λ n. refl) (λ n l. refl) h.0
 raw_alt μ (row label.concat ts) c h = refl
 raw_alt μ (row label.alt ts) c h = refl
 raw_alt μ (row label.expression ts) c h = refl
@@ -109,10 +112,6 @@ raw_alt μ _ c h = refl
 
 same_alt : (μ : Marks) (c : ℕ) (r x : Tree) → Becomes μ c r x → is_alt r ≡ is_alt x
 same_alt μ c r x b = sym (raw_alt μ r c b.groups) ∙ ap is_alt (becomes_plain μ c r x b)
-
-no_condition : (r : Tree) → OnlyGroups (items r) → is_condition r ≡ false
-no_condition (ast_node r p) h = absurd h
-no_condition _ h = refl
 
 -- what is no Alt is one branch
 abbrev OneBranch : Tree → Type 0
@@ -194,7 +193,7 @@ one_body μ d k f n t v g x c u e a b = record {
       (alone b.tree (same_alt μ n b.tree x b.becomes ∙ a)))
       (the_body (alternation (last b.derives refl)));
   one_becomes = b.becomes;
-  other_becomes = record { is = λ named k n u. refl; count = refl; groups = tt };
+  other_becomes = record { is = λ named k n u e. refl; count = refl; groups = tt };
 }
 
 -- ---- the text of a body

@@ -68,7 +68,7 @@ capture_at d f t l c = paren_at d f t l c.no_layout ∙ head_group f (code "(" �
 
 -- ---- names
 
-cut_before : (mark : ℕ) (w v : Text) → is_among mark w ≡ false → cut_at mark (w ++ mark ∷ v) ≡ Some (w, v)
+pub cut_before : (mark : ℕ) (w v : Text) → is_among mark w ≡ false → cut_at mark (w ++ mark ∷ v) ≡ Some (w, v)
 cut_before mark [] v h = grind (arith, nat_tests)
 cut_before mark (c ∷ []) v h =
     let other : (c == mark) ≡ false = grind (arith, nat_tests) in rw (other, cut_before mark [] v refl) refl
@@ -150,26 +150,24 @@ over_becomes μ label.group c r x k b = absurd k
 over_becomes μ (label.ast_group name place) c r x k b = absurd k
 over_becomes μ (label.look_around l) c r x k b =
     record {
-      is = λ named k n u. ap (over (label.look_around l))
-          (b.is named k n u);
+      is = λ named k n u e. ap (over (label.look_around l)) (b.is named k n u e);
       count = b.count;
       groups = b.groups;
     }
 over_becomes μ (label.repeat lo hi greedy) c r x k b =
     record {
-      is = λ named k n u. ap (over (label.repeat lo hi greedy))
-          (b.is named k n u);
+      is = λ named k n u e. ap (over (label.repeat lo hi greedy)) (b.is named k n u e);
       count = b.count;
       groups = b.groups;
     }
 over_becomes μ label.atomic_group c r x k b =
-    record { is = λ named k n u. ap (over label.atomic_group) (b.is named k n u); count = b.count; groups = b.groups }
+    record { is = λ named k n u e. ap (over label.atomic_group) (b.is named k n u e); count = b.count; groups = b.groups }
 over_becomes μ label.define_group c r x k b =
-    record { is = λ named k n u. ap (over label.define_group) (b.is named k n u); count = b.count; groups = b.groups }
+    record { is = λ named k n u e. ap (over label.define_group) (b.is named k n u e); count = b.count; groups = b.groups }
 over_becomes μ label.repeater c r x k b =
-    record { is = λ named k n u. ap (over label.repeater) (b.is named k n u); count = b.count; groups = b.groups }
+    record { is = λ named k n u e. ap (over label.repeater) (b.is named k n u e); count = b.count; groups = b.groups }
 over_becomes μ label.stopper c r x k b =
-    record { is = λ named k n u. ap (over label.stopper) (b.is named k n u); count = b.count; groups = b.groups }
+    record { is = λ named k n u e. ap (over label.stopper) (b.is named k n u e); count = b.count; groups = b.groups }
 
 pub reads_look : (μ : Marks) (h : Here) (l : LookAround) (g : Flags) (s t v : Text) (x : Tree) →
     ahead h.depth (st h.flags s) ≡ with_head (look l) (st h.flags t) → WholeAt μ (deeper h) t g (code ")" ∷ v) x →
@@ -207,7 +205,7 @@ reads_group μ h name g s t v x e is w = record {
   derives = atom e (a_group (inside w.derives));
   becomes = record {
     is =
-        λ named k n u. cond-true _ _ _ k.0 ∙ ap (over label.group) (w.becomes.is named k.1 n u);
+        λ named k n u q. cond-true _ _ _ k.0 ∙ ap (over label.group) (w.becomes.is named k.1 n u q);
     count = omega (arith, w.becomes.count);
     groups = (is, w.becomes.groups);
   };

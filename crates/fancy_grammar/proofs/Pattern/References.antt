@@ -1,0 +1,301 @@
+-- References that are written by the name of their group.
+use Rattle.std.proofs.Common.{◌≡◌, ℕ, Bool, true, false, not, ◌&&◌, ◌||◌, ◌==◌, nat_le, [], ◌∷◌, ◌++◌, List, codes}
+use Rattle.std.proofs.Common.{Option, Some, None, is_some, is_none, refl, sym, ap, ◌∙◌, subst, append_assoc, arith}
+use Rattle.std.proofs.Common.{if◌then◌else◌, IfSome, option_map, decimal, append-nil, ne_eqb, eqb-true, nat_lt}
+use Rattle.std.proofs.lemmas.Bool.{cond-true, cond-false, and_parts, false≢true}
+use Rattle.std.proofs.lemmas.Bool.Decides.{nat_tests}
+use Rattle.std.specs.List.{AllByRecursion}
+use Prim.Native.Char.{code}
+use Rattle.fancy_lex.specs.Characters.{is_among, ◌∈◌}
+use Rattle.fancy_lex.specs.Delimited.{marked_name, name_before}
+use Rattle.fancy_lex.specs.Escape.{escape, escape_at, lone_escape, outside, call_escape}
+use Rattle.fancy_lex.specs.EscapeReference as escapes
+use Rattle.fancy_lex.specs.EscapeReference.{is_relative, subroutine_call, marked_call, written_call}
+use Rattle.fancy_lex.specs.EscapeReference.{call_target}
+use Rattle.fancy_lex.specs.Escaped as escaped
+use Rattle.fancy_lex.specs.Id.{is_id_char, id_run, id, nonempty_front}
+use Rattle.fancy_lex.specs.IdReference.{id_alone, id_reference, with_id}
+use Rattle.fancy_lex.specs.NumberText.{number_text}
+use Rattle.fancy_lex.specs.Reading.{gives, choose}
+use Rattle.fancy_lex.specs.Referred.{reference_to, call_to, target_of_name, number_or_name, reference_of}
+use Rattle.fancy_lex.specs.Referred.{written_reference, reference_by_name}
+use Rattle.fancy_lex.specs.Target.{by_name}
+use Rattle.fancy_lex.specs.Text.{Text, reach_of}
+use Rattle.fancy_lex.specs.declared.flags.Flags.{Flags}
+use Rattle.fancy_lex.proofs.AsciiLemmas.{other_told}
+use Rattle.fancy_lex.proofs.IdLemmas.{id_cut}
+use Rattle.fancy_grammar.specs.PatternReference.{is_plain_name, Named, name_of, fit_name, is_last, is_only, distance}
+use Rattle.fancy_grammar.specs.PatternReference.{backref_text, call_text}
+use Rattle.fancy_grammar.proofs.Pattern.Groups.{cut_before}
+use Rattle.fancy_parts.specs.Meaning.{back_reference, call, number, means, back_to, last_of, only_one}
+use Rattle.fancy_grammar.specs.Ahead.{read, leaf_node, leaf_outcome}
+use Rattle.fancy_grammar.specs.Grammar.{atom, a_read}
+use Rattle.fancy_grammar.specs.Items.{role_of, target_of}
+use Rattle.fancy_grammar.specs.Label as label
+use Rattle.fancy_grammar.specs.Label.{Leaf, AstReference, ast_backref, ast_call}
+use Rattle.fancy_grammar.specs.Marks.{Marks}
+use Rattle.fancy_grammar.specs.Pattern.{Here, group_count}
+use Rattle.fancy_grammar.specs.Resolved.{reference_node}
+use Rattle.fancy_grammar.specs.Tree.{leaf, ast_node}
+use Rattle.fancy_grammar.proofs.Pattern.Becomes.{Becomes, numbers_told, is_by_number}
+use Rattle.fancy_grammar.proofs.Pattern.Leaves.{LeafAt}
+use Rattle.fancy_grammar.proofs.Pattern.Rules.{Begins, begins_by, AtomAt}
+use Rattle.fancy_grammar.proofs.ReadBack.RuleLemmas.{st, leaf_at}
+
+-- ---- plain names
+
+-- an id that is no number text, as a reference names a group by it
+pub record PlainName (w : Text) : Type 0 where
+  pub no_mark : is_among (code ">") w ≡ false
+  pub some : (c : ℕ) × (u : Text) × (w ≡ c ∷ u)
+  pub read : id_reference true w ≡ Some (id_alone w)
+  pub target : target_of_name w ≡ by_name w
+  pub not_relative : is_relative w ≡ false
+
+-- the id at the front is of id characters
+run_of_ids : (t : Text) → AllByRecursion (λ c. is_id_char c ≡ true) (id_run t).0
+unfolding id_run
+run_of_ids [] = tt
+run_of_ids (c ∷ t) = at (is_id_char c) refl (id_run t) (run_of_ids t)
+  where
+    at : (b : Bool) → is_id_char c ≡ b → (p : Text × Text) → AllByRecursion (λ c. is_id_char c ≡ true) p.0 →
+        AllByRecursion (λ c. is_id_char c ≡ true) (if◌then◌else◌ {A = Text × Text} b (c ∷ p.0, p.1) ([], c ∷ t)).0
+    at true e p h = (e, h)
+    at false e p h = tt
+
+no_id : (c : ℕ) → c ∈ ">+-" ≡ true → is_id_char c ≡ false
+no_id c h =
+    other_told c (grind (arith, nat_tests)) (grind (arith, nat_tests)) ∙ grind (arith, nat_tests)
+
+-- so that an id character is none of these
+id_apart : (c d : ℕ) → d ∈ ">+-" ≡ true → is_id_char c ≡ true → (c == d) ≡ false
+id_apart c d h i = ne_eqb c d (λ e. false≢true (sym (no_id d h) ∙ (ap is_id_char (sym e) ∙ i)))
+
+id_no_mark : (w : Text) → AllByRecursion (λ c. is_id_char c ≡ true) w → is_among (code ">") w ≡ false
+id_no_mark [] h = refl
+id_no_mark (c ∷ []) h = ne_eqb (code ">") c (λ e. false≢true (sym (no_id (code ">") refl) ∙ (ap is_id_char e ∙ h.0)))
+id_no_mark (c ∷ d ∷ w) h =
+    let first : (code ">" == c) ≡ false
+    = ne_eqb (code ">") c (λ e. false≢true (sym (no_id (code ">") refl) ∙ (ap is_id_char e ∙ h.0))) in
+    rw first (id_no_mark (d ∷ w) h.1)
+
+id_whole : (w : Text) → is_some (id_reference false w) ≡ true →
+    ◌≡◌ {A = Option (Text × Text)} (id w) (Some (w, []))
+unfolding id_reference
+id_whole w h = at (id w) refl h
+  where
+    at : (o : Option (Text × Text)) → ◌≡◌ {A = Option (Text × Text)} (id w) o →
+        is_some (choose o (λ q. with_id false q.0 q.1) None) ≡ true →
+        ◌≡◌ {A = Option (Text × Text)} (id w) (Some (w, []))
+    at None e h = absurd cc
+    at (Some (i, [])) e h = e ∙ (λ j. Some (sym (id_cut w i [] e ∙ append-nil i) j, []))
+    at (Some (i, d ∷ u)) e h = absurd cc
+
+ids_of : (w : Text) → ◌≡◌ {A = Option (Text × Text)} (id w) (Some (w, [])) →
+    AllByRecursion (λ c. is_id_char c ≡ true) w
+unfolding id
+ids_of w e = subst (AllByRecursion (λ c. is_id_char c ≡ true)) (at (id_run w) e) (run_of_ids w)
+  where
+    at : (p : Text × Text) → nonempty_front p ≡ Some (w, []) → p.0 ≡ w
+    at ([], v) e = absurd cc
+    at (c ∷ x, v) e =
+        let same : ◌≡◌ {A = Text × Text} (c ∷ x, v) (w, []) = cc in ap (λ (p : Text × Text). p.0) same
+
+some_of : (w : Text) → ◌≡◌ {A = Option (Text × Text)} (id w) (Some (w, [])) → (c : ℕ) × (u : Text) × (w ≡ c ∷ u)
+unfolding id id_run
+some_of [] e = absurd cc
+some_of (c ∷ u) e = (c, u, refl)
+
+none_of : (o : Option ℕ) → is_none o ≡ true → o ≡ None
+none_of None h = refl
+none_of (Some n) h = absurd cc
+
+no_relative : (w : Text) → AllByRecursion (λ c. is_id_char c ≡ true) w → is_relative w ≡ false
+unfolding is_relative
+no_relative [] h = refl
+no_relative (c ∷ t) h = rw (id_apart c (code "+") refl h.0, id_apart c (code "-") refl h.0) refl
+
+alone_read : (w : Text) → ◌≡◌ {A = Option (Text × Text)} (id w) (Some (w, [])) →
+    id_reference true w ≡ Some (id_alone w)
+unfolding id_reference
+alone_read w e = rw e refl
+
+named_by : (w : Text) → number_text w ≡ None → target_of_name w ≡ by_name w
+unfolding target_of_name
+named_by w e = ap (number_or_name w) e
+
+pub plain_name : (w : Text) → is_plain_name w ≡ true → PlainName w
+plain_name w h =
+    let (a, b) = and_parts (is_some (id_reference false w)) (is_none (number_text w)) h in
+    let e = id_whole w a in
+    let ids = ids_of w e in
+    record {
+      no_mark = id_no_mark w ids;
+      some = some_of w e;
+      read = alone_read w e;
+      target = named_by w (none_of (number_text w) b);
+      not_relative = no_relative w ids;
+    }
+
+-- ---- what is read
+
+marked_read : (c : ℕ) (u v : Text) → is_among (code ">") (c ∷ u) ≡ false →
+    ◌≡◌ {A = Option (Text × Text)} (marked_name (code "<" ∷ ((c ∷ u) ++ code ">" ∷ v))) (Some (c ∷ u, v))
+unfolding marked_name name_before
+marked_read c u v h = rw (cut_before (code ">") (c ∷ u) v h) refl
+
+module _ (w : Text) (h : PlainName w) (v : Text) where
+  abbrev in_marks : Text
+  in_marks = code "<" ∷ (w ++ code ">" ∷ v)
+
+  name_read : ◌≡◌ {A = Option (Text × Text)} (marked_name in_marks) (Some (w, v))
+  name_read =
+      let (c, u, e) = h.some in
+      subst (λ z. ◌≡◌ {A = Option (Text × Text)} (marked_name (code "<" ∷ (z ++ code ">" ∷ v))) (Some (z, v))) (sym e)
+      (marked_read c u v (sym (ap (is_among (code ">")) e) ∙ h.no_mark))
+
+  written_as : (p : ℕ) → written_reference p true w ≡ Some (reference_to p (by_name w) None)
+  unfolding written_reference reference_of
+  written_as p =
+      ap (option_map (reference_of p)) h.read ∙ ap (λ t. Some (reference_to p t None)) h.target
+
+  backref_read : (f : Flags) → escape f false (code "k" ∷ in_marks)
+      ≡ gives (escaped.backref (reference_to (reach_of in_marks) (by_name w) None) f.casei) v
+  unfolding escape_at lone_escape outside escapes.back_reference reference_by_name
+  backref_read f = rw (name_read, written_as (reach_of in_marks)) refl
+
+  called : (p : ℕ) → written_call p w ≡ Some (call_to p (by_name w))
+  unfolding written_call call_target
+  called p = rw (h.not_relative, h.target) refl
+
+  call_read : (f : Flags) → escape f false (code "g" ∷ in_marks)
+      ≡ gives (escaped.subroutine_call (call_to (reach_of in_marks) (by_name w))) v
+  unfolding escape_at lone_escape outside call_escape subroutine_call marked_call
+  call_read f = rw (name_read, called (reach_of in_marks)) refl
+
+-- ---- what it means
+
+reference_becomes : (μ : Marks) (c : ℕ) (r : AstReference) (p k : ℕ) (l : Leaf) →
+    means (numbers_told μ) c (role_of r) (target_of r) ≡ number k → is_by_number (target_of r) ≡ false →
+    ((n : ℕ) → reference_node n (number k) r p ≡ leaf l) → group_count (leaf l) ≡ 0 → Becomes μ c (ast_node r p) (leaf l)
+reference_becomes μ c r p k l meant named same count = record {
+  is =
+      λ _ _ n u e. (λ i. reference_node n (means (λ w. e w i) c (role_of r) (target_of r)) r p)
+      ∙ (ap (λ m. reference_node n m r p) meant ∙ same n);
+  count = sym count;
+  groups = (record { group = k; meant = meant; named = named }, tt);
+}
+
+-- the group of the number has a plain name, whose numbers are such
+record Fits (μ : Marks) (such : List ℕ → Bool) (n : ℕ) : Type 0 where
+  name : Text
+  fit : fit_name μ such n ≡ Some name
+  plain : PlainName name
+  are_such : such (numbers_told μ name) ≡ true
+
+abbrev name_if : Marks → (List ℕ → Bool) → Named → Option Text
+name_if μ such e =
+    if not μ.numeric_capture_group_references && (is_plain_name e.0 && such e.1) then Some e.0 else None
+
+fits : (μ : Marks) (such : List ℕ → Bool) (n : ℕ) → IfSome (name_of μ n) (λ e. e.1 ≡ numbers_told μ e.0) →
+    is_some (fit_name μ such n) ≡ true → Fits μ such n
+fits μ such n k h = at (name_of μ n) refl k h
+  where
+    at : (o : Option Named) → name_of μ n ≡ o → IfSome o (λ e. e.1 ≡ numbers_told μ e.0) →
+        is_some (choose o (name_if μ such) None) ≡ true → Fits μ such n
+    at None e k h = absurd cc
+    at (Some q) e k h =
+        by_test (not μ.numeric_capture_group_references && (is_plain_name q.0 && such q.1)) refl h
+      where
+        by_test : (b : Bool) → (not μ.numeric_capture_group_references && (is_plain_name q.0 && such q.1)) ≡ b →
+            is_some (if b then Some q.0 else None) ≡ true → Fits μ such n
+        by_test true t h =
+            let (x, y) = and_parts (not μ.numeric_capture_group_references) _ t in
+            let (z, s) = and_parts (is_plain_name q.0) (such q.1) y in
+            record {
+              name = q.0;
+              fit = ap (λ o. choose o (name_if μ such) None) e ∙ cond-true _ _ _ t;
+              plain = plain_name q.0 z;
+              are_such = sym (ap such k) ∙ s;
+            }
+        by_test false t h = absurd cc
+
+last_is : (n : ℕ) (l : List ℕ) → is_last n l ≡ true → last_of l ≡ Some n
+last_is n l h = at (last_of l) refl h
+  where
+    at : (o : Option ℕ) → last_of l ≡ o → choose o (λ k. k == n) false ≡ true → last_of l ≡ Some n
+    at None e h = absurd cc
+    at (Some k) e h = e ∙ ap Some (eqb-true k n h)
+
+only_is : (n : ℕ) (l : List ℕ) → is_only n l ≡ true → only_one l ≡ number n
+only_is n [] h = absurd cc
+only_is n (k ∷ []) h = ap number (eqb-true k n h)
+only_is n (k ∷ j ∷ l) h = absurd cc
+
+-- ---- the leaves
+
+begins_reference : (x : Bool) (t : Text) → Begins x (code "\\" ∷ t)
+begins_reference x t = begins_by x (code "\\") t refl refl refl refl
+
+-- the text of a reference by a name, in front of another
+reference_text : (w v : Text) → (code "<" ∷ (w ++ codes ">")) ++ v ≡ code "<" ∷ (w ++ code ">" ∷ v)
+reference_text w v = ap (λ z. code "<" ∷ z) (append_assoc w (codes ">") v)
+
+module _ (μ : Marks) (h : Here) (none : μ.numeric_capture_group_references ≡ false)
+    (numbered : (k : ℕ) → IfSome (name_of μ k) (λ e. e.1 ≡ numbers_told μ e.0)) where
+  pub backref_at : (n : ℕ) → is_some (fit_name μ (λ l. is_last n l && nat_le n h.opened) n) ≡ true →
+      LeafAt μ h (backref_text μ h.opened n) (label.backref n h.flags.casei)
+  backref_at n k =
+      let such = λ (l : List ℕ). is_last n l && nat_le n h.opened in
+      let q = fits μ such n (numbered n) k in
+      let (last, early) = and_parts (is_last n (numbers_told μ q.name)) (nat_le n h.opened) q.are_such in
+      let meant : means (numbers_told μ) h.opened back_reference (by_name q.name) ≡ number n
+      = ap (back_to h.opened q.name) (last_is n (numbers_told μ q.name) last) ∙ cond-true _ _ _ early in
+      let r = ast_backref (by_name q.name) h.flags.casei None in
+      let text : backref_text μ h.opened n ≡ codes "\\k<" ++ (q.name ++ codes ">")
+      = cond-false _ _ _ none ∙ ap (λ o. codes "\\k<" ++ (choose o (λ w. w) (decimal n) ++ codes ">")) q.fit in
+      subst (λ t. LeafAt μ h t (label.backref n h.flags.casei)) (sym text) (record {
+        reads =
+            λ v m. let t = in_marks q.name q.plain v in
+            subst (λ z. AtomAt μ h (codes "\\k" ++ z) v (leaf (label.backref n h.flags.casei)))
+            (sym (reference_text q.name v)) (record {
+              tree = ast_node r (reach_of t);
+              derives =
+                  atom
+                  (leaf_at h.depth h.flags (code "\\") (code "k" ∷ t) refl refl
+                  ∙ ap (λ o. read (leaf_outcome leaf_node (st h.flags (codes "\\k" ++ t)) o))
+                  (backref_read q.name q.plain v h.flags))
+                  a_read;
+              becomes =
+                  reference_becomes μ h.opened r (reach_of t) n (label.backref n h.flags.casei) meant refl (λ _. refl) refl;
+            });
+        begins = λ v. begins_reference h.flags.ignore_space _;
+      })
+
+  pub call_at : (n : ℕ) → is_some (fit_name μ (is_only n) n) ≡ true →
+      LeafAt μ h (call_text μ h.opened n) (label.subroutine_call n)
+  call_at n k =
+      let q = fits μ (is_only n) n (numbered n) k in
+      let meant : means (numbers_told μ) h.opened call (by_name q.name) ≡ number n
+      = only_is n (numbers_told μ q.name) q.are_such in
+      let r = ast_call (by_name q.name) in
+      let text : call_text μ h.opened n ≡ codes "\\g<" ++ (q.name ++ codes ">")
+      = ap (λ w. codes "\\g<" ++ (w ++ codes ">"))
+      (cond-false _ _ _ (ap (λ b. b && (nat_lt 0 n || μ.self_recursive)) none)
+      ∙ ap (λ o. choose o (λ w. w) (distance h.opened n)) q.fit) in
+      subst (λ t. LeafAt μ h t (label.subroutine_call n)) (sym text) (record {
+        reads =
+            λ v m. let t = in_marks q.name q.plain v in
+            subst (λ z. AtomAt μ h (codes "\\g" ++ z) v (leaf (label.subroutine_call n)))
+            (sym (reference_text q.name v)) (record {
+              tree = ast_node r (reach_of t);
+              derives =
+                  atom
+                  (leaf_at h.depth h.flags (code "\\") (code "g" ∷ t) refl refl
+                  ∙ ap (λ o. read (leaf_outcome leaf_node (st h.flags (codes "\\g" ++ t)) o))
+                  (call_read q.name q.plain v h.flags))
+                  a_read;
+              becomes = reference_becomes μ h.opened r (reach_of t) n (label.subroutine_call n) meant refl (λ _. refl) refl;
+            });
+        begins = λ v. begins_reference h.flags.ignore_space _;
+      })
