@@ -1,5 +1,5 @@
 -- The trees whose texts are proved to read back.
-use Rattle.std.specs.Prelude.{◌≡◌, ℕ, zero, suc, ◌+◌, ◌^◌, ◌<◌, ◌≤◌, ◌&&◌, Bool, true, false, List, [], ◌∷◌, ◌++◌}
+use Rattle.std.specs.Prelude.{◌≡◌, ℕ, zero, suc, ◌+◌, ◌-◌, ◌^◌, ◌<◌, ◌≤◌, ◌&&◌, Bool, true, false, List, [], ◌∷◌, ◌++◌}
 use Rattle.std.specs.Prelude.{length, Option, option_map, is_some, nat_le, nat_lt, filter, find}
 use Rattle.std.specs.List.{AllByRecursion}
 use Prim.Native.Char.{code}
@@ -7,6 +7,7 @@ use Rattle.fancy_lex.specs.Characters.{is_among, backslash, open_bracket}
 use Rattle.fancy_lex.specs.Class.{class}
 use Rattle.fancy_lex.specs.Escape.{escape}
 use Rattle.fancy_lex.specs.Escaped as escaped
+use Rattle.fancy_lex.specs.IdReference.{amount_bound}
 use Rattle.fancy_lex.specs.Reading.{gives}
 use Rattle.fancy_lex.specs.Text.{Text}
 use Rattle.fancy_lex.specs.declared.escape.Assertion.TheVariants.{StartLineOniguruma}
@@ -21,7 +22,7 @@ use Rattle.fancy_grammar.specs.Label.{repeat, atomic_group, define_group, repeat
 use Rattle.fancy_grammar.specs.Label.{concat, alt, backref, subroutine_call}
 use Rattle.fancy_grammar.specs.Marks.{Marks, ascending}
 use Rattle.fancy_grammar.specs.Pattern.{group_count}
-use Rattle.fancy_grammar.specs.PatternReference.{name_of, is_last, is_only, fit_name}
+use Rattle.fancy_grammar.specs.PatternReference.{name_of, is_last, fit_name}
 use Rattle.fancy_grammar.specs.PatternNeeds.{settled}
 use Rattle.fancy_grammar.specs.PatternSource.{delegate_text}
 use Rattle.fancy_grammar.specs.Quantified.{is_repeatable}
@@ -47,8 +48,8 @@ abbrev pub HasSource : Flags → Text → Bool → Type 0
 HasSource f s casei =
     (g : Flags) → IsLike f g → settled g (leaf (delegate s casei)) ≡ g → IsSource g s casei (delegate_text g casei s)
 
--- a leaf as it is read, behind the openings of c groups: a character, a byte without UNICODE, what has an escape, or a
--- reference that is written by its group's name
+-- a leaf as it is read, behind the openings of c groups: a character, a byte without UNICODE, what has an escape, a back
+-- reference that is written by its group's name, or a call whose group is not too far
 abbrev pub IsWritableLeaf : Flags → Marks → ℕ → Leaf → Type 0
 IsWritableLeaf f m c (literal (d ∷ []) casei) = Unit {0}
 IsWritableLeaf f m c (literal_bytes (b ∷ [])) = (f.unicode ≡ false) × (0x80 ≤ b) × (b ≤ 0xFF)
@@ -63,7 +64,7 @@ IsWritableLeaf f m c keep_out = Unit {0}
 IsWritableLeaf f m c continue_from_previous_match_end = Unit {0}
 IsWritableLeaf f m c clear = Unit {0}
 IsWritableLeaf f m c (backref n casei) = is_some (fit_name m (λ l. is_last n l && nat_le n c) n) ≡ true
-IsWritableLeaf f m c (subroutine_call n) = is_some (fit_name m (is_only n) n) ≡ true
+IsWritableLeaf f m c (subroutine_call n) = (n - c < amount_bound) × (c + 1 - n < amount_bound)
 IsWritableLeaf f m c _ = ⊥
 
 abbrev mutual
@@ -132,7 +133,7 @@ IsNameWritable (c ∷ w) = (is_among (code ">") (c ∷ w) && is_among (code "'")
 
 -- ---- the trees
 
--- outside Oniguruma mode, a tree of fewer than 64 levels with its marks, whose references are written by names
+-- outside Oniguruma mode, a tree of fewer than 64 levels with its marks, none of whose references is written as a number
 pub record IsWritable (f : Flags) (m : Marks) (t : Tree) : Type 0 where
   pub mode : f.oniguruma_mode ≡ false
   pub marks : m ≡ marks_of f (openings_told m 0 (group_count t)) t

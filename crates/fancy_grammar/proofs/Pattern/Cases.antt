@@ -115,7 +115,7 @@ module _ (μ : Marks) where
       leaf_by (label.backref n casei) h o d refl
       (backref_at μ (under (settled h.flags (leaf (label.backref n casei))) h) none numbered n k)
   leaf_reads none numbered f (label.subroutine_call n) h o like d k =
-      leaf_by (label.subroutine_call n) h o d refl (call_at μ h none numbered n k)
+      leaf_by (label.subroutine_call n) h o d refl (call_at μ h none numbered n k.0 k.1)
   leaf_reads none numbered f _ h o like d k = absurd k
 
   -- ---- groups

@@ -57,7 +57,7 @@ number_first : (ds s : Text) → IsNumeral 10 ds → at_digit (ds ++ s) ≡ true
 number_first [] s h = absurd (omega (arith, h.0))
 number_first (d ∷ ds) s h = (digit_is d h.1.0).0
 
-number_read : (n : ℕ) (s : Text) → n < 2 ^ 64 → at_digit s ≡ false → number (decimal n ++ s) ≡ Some (n, s)
+pub number_read : (n : ℕ) (s : Text) → n < 2 ^ 64 → at_digit s ≡ false → number (decimal n ++ s) ≡ Some (n, s)
 number_read n s h d =
     let (numeral, value) = decimal_is_IsNumeral n h in
     number_some (decimal n ++ s) (number_first (decimal n) s numeral)

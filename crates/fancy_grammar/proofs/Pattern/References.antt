@@ -1,10 +1,14 @@
--- References that are written by the name of their group.
-use Rattle.std.proofs.Common.{◌≡◌, ℕ, Bool, true, false, not, ◌&&◌, ◌||◌, ◌==◌, nat_le, [], ◌∷◌, ◌++◌, List, codes}
-use Rattle.std.proofs.Common.{Option, Some, None, is_some, is_none, refl, sym, ap, ◌∙◌, subst, append_assoc, arith}
-use Rattle.std.proofs.Common.{if◌then◌else◌, IfSome, option_map, decimal, append-nil, ne_eqb, eqb-true, nat_lt}
-use Rattle.std.proofs.lemmas.Bool.{cond-true, cond-false, and_parts, false≢true}
+-- References that are written by the name of their group, or by a distance.
+use Rattle.std.proofs.Common.{◌≡◌, ℕ, Bool, true, false, not, ◌&&◌, ◌||◌, ◌==◌, nat_le, [], ◌∷◌, ◌++◌, List, codes, ◌^◌}
+use Rattle.std.proofs.Common.{Option, Some, None, is_some, is_none, refl, sym, ap, ◌∙◌, subst, append_assoc, arith, ◌-◌}
+use Rattle.std.proofs.Common.{if◌then◌else◌, IfSome, option_map, decimal, append-nil, ne_eqb, eqb-true, nat_lt, suc}
+use Rattle.std.proofs.Common.{◌<◌, ◌≤◌, ℤ, pos, negsuc, lt-ltb, le-leb, ltb-true, ◌+◌}
+use Rattle.std.proofs.lemmas.Bool.{cond-true, cond-false, and_parts, false≢true, cond_both}
 use Rattle.std.proofs.lemmas.Bool.Decides.{nat_tests}
+use Rattle.std.proofs.lemmas.Fmt.{decimal_is_IsNumeral}
+use Rattle.std.proofs.lemmas.Option.{same_Some}
 use Rattle.std.specs.List.{AllByRecursion}
+use Rattle.std.specs.Ordering.{int_eq}
 use Prim.Native.Char.{code}
 use Rattle.fancy_lex.specs.Characters.{is_among, ◌∈◌}
 use Rattle.fancy_lex.specs.Delimited.{marked_name, name_before}
@@ -14,20 +18,22 @@ use Rattle.fancy_lex.specs.EscapeReference.{is_relative, subroutine_call, marked
 use Rattle.fancy_lex.specs.EscapeReference.{call_target}
 use Rattle.fancy_lex.specs.Escaped as escaped
 use Rattle.fancy_lex.specs.Id.{is_id_char, id_run, id, nonempty_front}
-use Rattle.fancy_lex.specs.IdReference.{id_alone, id_reference, with_id}
-use Rattle.fancy_lex.specs.NumberText.{number_text}
+use Rattle.fancy_lex.specs.IdReference.{id_alone, id_reference, with_id, amount, amount_alone, amount_bound, with_sign}
+use Rattle.fancy_lex.specs.Number as numbers
+use Rattle.fancy_lex.specs.NumberText.{number_text, whole_number, is_nothing}
 use Rattle.fancy_lex.specs.Reading.{gives, choose}
 use Rattle.fancy_lex.specs.Referred.{reference_to, call_to, target_of_name, number_or_name, reference_of}
 use Rattle.fancy_lex.specs.Referred.{written_reference, reference_by_name}
-use Rattle.fancy_lex.specs.Target.{by_name}
-use Rattle.fancy_lex.specs.Text.{Text, reach_of}
+use Rattle.fancy_lex.specs.Target.{by_name, Target, relative}
+use Rattle.fancy_lex.specs.Text.{Text, reach_of, strip}
 use Rattle.fancy_lex.specs.declared.flags.Flags.{Flags}
 use Rattle.fancy_lex.proofs.AsciiLemmas.{other_told}
 use Rattle.fancy_lex.proofs.IdLemmas.{id_cut}
+use Rattle.fancy_lex.proofs.ReadingLemmas.{choose_both}
 use Rattle.fancy_grammar.specs.PatternReference.{is_plain_name, Named, name_of, fit_name, is_last, is_only, distance}
-use Rattle.fancy_grammar.specs.PatternReference.{backref_text, call_text}
+use Rattle.fancy_grammar.specs.PatternReference.{backref_text, call_text, marked, call_name, name_or}
 use Rattle.fancy_grammar.proofs.Pattern.Groups.{cut_before}
-use Rattle.fancy_parts.specs.Meaning.{back_reference, call, number, means, back_to, last_of, only_one}
+use Rattle.fancy_parts.specs.Meaning.{back_reference, call, number, means, back_to, last_of, only_one, group_or_none}
 use Rattle.fancy_grammar.specs.Ahead.{read, leaf_node, leaf_outcome}
 use Rattle.fancy_grammar.specs.Grammar.{atom, a_read}
 use Rattle.fancy_grammar.specs.Items.{role_of, target_of}
@@ -39,8 +45,13 @@ use Rattle.fancy_grammar.specs.Resolved.{reference_node}
 use Rattle.fancy_grammar.specs.Tree.{leaf, ast_node}
 use Rattle.fancy_grammar.proofs.Pattern.Becomes.{Becomes, numbers_told, is_by_number}
 use Rattle.fancy_grammar.proofs.Pattern.Leaves.{LeafAt}
+use Rattle.fancy_grammar.proofs.Pattern.Quantifiers.{number_read}
 use Rattle.fancy_grammar.proofs.Pattern.Rules.{Begins, begins_by, AtomAt}
+use Rattle.fancy_grammar.proofs.ReadBack.CountTexts.{digit_is}
 use Rattle.fancy_grammar.proofs.ReadBack.RuleLemmas.{st, leaf_at}
+use Rattle.std.specs.Char.{is_ascii_digit}
+use Rattle.std.specs.Cmp.{signed_Decides}
+use Rattle.std.specs.Str.Parse.{AllDigits, IsNumeral}
 
 -- ---- plain names
 
@@ -144,6 +155,15 @@ marked_read : (c : ℕ) (u v : Text) → is_among (code ">") (c ∷ u) ≡ false
 unfolding marked_name name_before
 marked_read c u v h = rw (cut_before (code ">") (c ∷ u) v h) refl
 
+-- a name behind its letter, in its marks
+call_read_by : (f : Flags) (w v : Text) (target : Target) →
+    ◌≡◌ {A = Option (Text × Text)} (marked_name (code "<" ∷ (w ++ code ">" ∷ v))) (Some (w, v)) →
+    ((p : ℕ) → written_call p w ≡ Some (call_to p target)) →
+    escape f false (code "g" ∷ code "<" ∷ (w ++ code ">" ∷ v))
+    ≡ gives (escaped.subroutine_call (call_to (reach_of (code "<" ∷ (w ++ code ">" ∷ v))) target)) v
+unfolding escape_at lone_escape outside call_escape subroutine_call marked_call
+call_read_by f w v target e h = rw (e, h (reach_of (code "<" ∷ (w ++ code ">" ∷ v)))) refl
+
 module _ (w : Text) (h : PlainName w) (v : Text) where
   abbrev in_marks : Text
   in_marks = code "<" ∷ (w ++ code ">" ∷ v)
@@ -168,10 +188,95 @@ module _ (w : Text) (h : PlainName w) (v : Text) where
   unfolding written_call call_target
   called p = rw (h.not_relative, h.target) refl
 
-  call_read : (f : Flags) → escape f false (code "g" ∷ in_marks)
-      ≡ gives (escaped.subroutine_call (call_to (reach_of in_marks) (by_name w))) v
-  unfolding escape_at lone_escape outside call_escape subroutine_call marked_call
-  call_read f = rw (name_read, called (reach_of in_marks)) refl
+-- ---- distances
+
+whole_digits : (n : ℕ) → n < 2 ^ 64 → whole_number (decimal n) ≡ Some n
+unfolding whole_number
+whole_digits n h =
+    let e : numbers.number (decimal n) ≡ Some (n, [])
+    = subst (λ z. numbers.number z ≡ Some (n, [])) (append-nil (decimal n)) (number_read n [] h refl) in
+    rw (e, lt-ltb n (2 ^ 64) h) refl
+
+digit_apart : (c d : ℕ) → d ∈ ">+-" ≡ true → is_ascii_digit c ≡ true → (c == d) ≡ false
+digit_apart c d h e = grind (arith, nat_tests)
+
+no_sign : (ds : Text) → IsNumeral 10 ds → strip (code "+") ds ≡ None
+no_sign [] h = absurd (omega (arith, h.0))
+no_sign (d ∷ ds) h = rw (digit_apart d (code "+") refl ((digit_is d h.1.0).0)) refl
+
+digits_unmarked : (ds : Text) → AllDigits 10 ds → is_among (code ">") ds ≡ false
+digits_unmarked [] h = refl
+digits_unmarked (c ∷ []) h = digit_unmarked c ((digit_is c h.0).0)
+  where
+    digit_unmarked : (c : ℕ) → is_ascii_digit c ≡ true → (code ">" == c) ≡ false
+    digit_unmarked c e = grind (arith, nat_tests)
+digits_unmarked (c ∷ d ∷ ds) h =
+    rw (digit_unmarked c ((digit_is c h.0).0)) (digits_unmarked (d ∷ ds) h.1)
+  where
+    digit_unmarked : (c : ℕ) → is_ascii_digit c ≡ true → (code ">" == c) ≡ false
+    digit_unmarked c e = grind (arith, nat_tests)
+
+number_text_digits : (n : ℕ) → n < 2 ^ 64 → number_text (decimal n) ≡ Some n
+unfolding number_text
+number_text_digits n h = rw (no_sign (decimal n) ((decimal_is_IsNumeral n h).0)) (whole_digits n h)
+
+not_zero : (k : ℕ) → int_eq (pos (suc k)) (pos 0) ≡ false
+not_zero k = at (int_eq (pos (suc k)) (pos 0)) refl
+  where
+    value : ℤ → ℕ
+    value (pos n) = n
+    value (negsuc n) = 0
+
+    at : (b : Bool) → int_eq (pos (suc k)) (pos 0) ≡ b → int_eq (pos (suc k)) (pos 0) ≡ false
+    at true e =
+        let none : suc k ≡ 0 = ap value ((signed_Decides (pos (suc k)) (pos 0)).0 e) in absurd (omega (arith, none))
+    at false e = e
+
+-- the target of a sign and a number that is not 0
+module _ (sign k : ℕ) (z : ℤ) (is_sign : sign ∈ "+-" ≡ true) (small : suc k < amount_bound)
+    (is : with_sign sign (suc k) ≡ z) (some : int_eq z (pos 0) ≡ false) where
+  fits_word : suc k < 2 ^ 64
+  fits_word = omega (arith, small)
+
+  no_id_at_sign : ◌≡◌ {A = Option (Text × Text)} (id (sign ∷ decimal (suc k))) None
+  unfolding id id_run
+  no_id_at_sign = rw (no_id sign (later is_sign)) refl
+    where
+      later : sign ∈ "+-" ≡ true → sign ∈ ">+-" ≡ true
+      later h = grind (arith, nat_tests)
+
+  amount_read : amount (sign ∷ decimal (suc k)) ≡ Some z
+  unfolding amount
+  amount_read = rw (is_sign, whole_digits (suc k) fits_word, lt-ltb (suc k) amount_bound small) (ap Some is)
+
+  amount_alone_read : id_reference true (sign ∷ decimal (suc k)) ≡ Some (amount_alone z)
+  unfolding id_reference
+  amount_alone_read = rw (no_id_at_sign, amount_read, some) refl
+
+  is_relative_name : is_relative (sign ∷ decimal (suc k)) ≡ true
+  unfolding is_relative
+  is_relative_name = rw (is_sign, number_text_digits (suc k) fits_word) (or_true (is_nothing (decimal (suc k))))
+    where
+      or_true : (b : Bool) → (b || true) ≡ true
+      or_true true = refl
+      or_true false = refl
+
+  distance_called : (p : ℕ) → written_call p (sign ∷ decimal (suc k)) ≡ Some (call_to p (relative z))
+  unfolding written_call call_target
+  distance_called p = rw (is_relative_name, amount_alone_read) refl
+
+  distance_marked : (v : Text) → ◌≡◌ {A = Option (Text × Text)}
+      (marked_name (code "<" ∷ ((sign ∷ decimal (suc k)) ++ code ">" ∷ v))) (Some (sign ∷ decimal (suc k), v))
+  distance_marked v =
+      marked_read sign (decimal (suc k)) v
+      (unmarked (decimal (suc k)) (digits_unmarked (decimal (suc k)) ((decimal_is_IsNumeral (suc k) fits_word).0.1)))
+    where
+      sign_unmarked : sign ∈ "+-" ≡ true → (code ">" == sign) ≡ false
+      sign_unmarked h = grind (arith, nat_tests)
+
+      unmarked : (ds : Text) → is_among (code ">") ds ≡ false → is_among (code ">") (sign ∷ ds) ≡ false
+      unmarked [] h = sign_unmarked is_sign
+      unmarked (d ∷ ds) h = rw (sign_unmarked is_sign) h
 
 -- ---- what it means
 
@@ -272,30 +377,70 @@ module _ (μ : Marks) (h : Here) (none : μ.numeric_capture_group_references ≡
         begins = λ v. begins_reference h.flags.ignore_space _;
       })
 
-  pub call_at : (n : ℕ) → is_some (fit_name μ (is_only n) n) ≡ true →
+  call_by : (n : ℕ) (w : Text) (target : Target) →
+      ((v : Text) → ◌≡◌ {A = Option (Text × Text)} (marked_name (code "<" ∷ (w ++ code ">" ∷ v))) (Some (w, v))) →
+      ((p : ℕ) → written_call p w ≡ Some (call_to p target)) →
+      means (numbers_told μ) h.opened call target ≡ number n → is_by_number target ≡ false →
+      LeafAt μ h (marked (codes "\\g") w) (label.subroutine_call n)
+  call_by n w target name called meant named = record {
+    reads =
+        λ v m. let t = code "<" ∷ (w ++ code ">" ∷ v) in
+        subst (λ z. AtomAt μ h (codes "\\g" ++ z) v (leaf (label.subroutine_call n))) (sym (reference_text w v)) (record {
+          tree = ast_node (ast_call target) (reach_of t);
+          derives =
+              atom
+              (leaf_at h.depth h.flags (code "\\") (code "g" ∷ t) refl refl
+              ∙ ap (λ o. read (leaf_outcome leaf_node (st h.flags (codes "\\g" ++ t)) o))
+              (call_read_by h.flags w v target (name v) called))
+              a_read;
+          becomes =
+              reference_becomes μ h.opened (ast_call target) (reach_of t) n (label.subroutine_call n) meant named (λ _. refl)
+              refl;
+        });
+    begins = λ v. begins_reference h.flags.ignore_space _;
+  }
+
+  -- by the name, where it is fit, and else by the distance
+  pub call_at : (n : ℕ) → n - h.opened < amount_bound → h.opened + 1 - n < amount_bound →
       LeafAt μ h (call_text μ h.opened n) (label.subroutine_call n)
-  call_at n k =
-      let q = fits μ (is_only n) n (numbered n) k in
-      let meant : means (numbers_told μ) h.opened call (by_name q.name) ≡ number n
-      = only_is n (numbers_told μ q.name) q.are_such in
-      let r = ast_call (by_name q.name) in
-      let text : call_text μ h.opened n ≡ codes "\\g<" ++ (q.name ++ codes ">")
-      = ap (λ w. codes "\\g<" ++ (w ++ codes ">"))
-      (cond-false _ _ _ (ap (λ b. b && (nat_lt 0 n || μ.self_recursive)) none)
-      ∙ ap (λ o. choose o (λ w. w) (distance h.opened n)) q.fit) in
-      subst (λ t. LeafAt μ h t (label.subroutine_call n)) (sym text) (record {
-        reads =
-            λ v m. let t = in_marks q.name q.plain v in
-            subst (λ z. AtomAt μ h (codes "\\g" ++ z) v (leaf (label.subroutine_call n)))
-            (sym (reference_text q.name v)) (record {
-              tree = ast_node r (reach_of t);
-              derives =
-                  atom
-                  (leaf_at h.depth h.flags (code "\\") (code "g" ∷ t) refl refl
-                  ∙ ap (λ o. read (leaf_outcome leaf_node (st h.flags (codes "\\g" ++ t)) o))
-                  (call_read q.name q.plain v h.flags))
-                  a_read;
-              becomes = reference_becomes μ h.opened r (reach_of t) n (label.subroutine_call n) meant refl (λ _. refl) refl;
-            });
-        begins = λ v. begins_reference h.flags.ignore_space _;
-      })
+  call_at n ahead back =
+      let P = λ (w : Text). LeafAt μ h (marked (codes "\\g") w) (label.subroutine_call n) in
+      let text : call_name μ h.opened n ≡ name_or μ (is_only n) n (distance h.opened n)
+      = cond-false _ _ _ (ap (λ b. b && (nat_lt 0 n || μ.self_recursive)) none) in
+      subst P (sym text)
+      (choose_both P (fit_name μ (is_only n) n) _ _ (λ w e. by_fit w e)
+      (cond_both (nat_lt h.opened n) _ _ P (λ e. forward (ltb-true h.opened n e)) (λ e. backward (grind (arith, nat_tests)))))
+    where
+      by_fit : (w : Text) → fit_name μ (is_only n) n ≡ Some w →
+          LeafAt μ h (marked (codes "\\g") w) (label.subroutine_call n)
+      by_fit w e =
+          let q = fits μ (is_only n) n (numbered n) (ap is_some e) in
+          subst (λ w. LeafAt μ h (marked (codes "\\g") w) (label.subroutine_call n)) (same_Some q.name w (sym q.fit ∙ e))
+          (call_by n q.name (by_name q.name) (λ v. name_read q.name q.plain v) (called q.name q.plain [])
+          (only_is n (numbers_told μ q.name) q.are_such) refl)
+
+      forward : h.opened < n →
+          LeafAt μ h (marked (codes "\\g") (code "+" ∷ decimal (n - h.opened))) (label.subroutine_call n)
+      forward l =
+          let k = n - h.opened - 1 in
+          let m : suc k ≡ n - h.opened = omega arith in
+          let small : suc k < amount_bound = omega (arith, ahead) in
+          let same : h.opened + suc k ≡ n = omega arith in
+          subst (λ d. LeafAt μ h (marked (codes "\\g") (code "+" ∷ decimal d)) (label.subroutine_call n)) m
+          (call_by n (code "+" ∷ decimal (suc k)) (relative (pos (suc k)))
+          (distance_marked (code "+") k (pos (suc k)) refl small refl (not_zero k))
+          (distance_called (code "+") k (pos (suc k)) refl small refl (not_zero k)) (ap number same) refl)
+
+      backward : n ≤ h.opened →
+          LeafAt μ h (marked (codes "\\g") (code "-" ∷ decimal (h.opened + 1 - n))) (label.subroutine_call n)
+      backward l =
+          let k = h.opened - n in
+          let m : suc k ≡ h.opened + 1 - n = omega arith in
+          let small : suc k < amount_bound = omega (arith, back) in
+          let same : h.opened - k ≡ n = omega arith in
+          let near : nat_le k h.opened ≡ true = le-leb k h.opened (omega arith) in
+          subst (λ d. LeafAt μ h (marked (codes "\\g") (code "-" ∷ decimal d)) (label.subroutine_call n)) m
+          (call_by n (code "-" ∷ decimal (suc k)) (relative (negsuc k))
+          (distance_marked (code "-") k (negsuc k) refl small refl refl)
+          (distance_called (code "-") k (negsuc k) refl small refl refl)
+          (ap (group_or_none call) (cond-true _ _ _ near) ∙ ap number same) refl)
