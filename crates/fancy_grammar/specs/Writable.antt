@@ -8,6 +8,7 @@ use Rattle.fancy_lex.specs.Class.{class}
 use Rattle.fancy_lex.specs.Escape.{escape}
 use Rattle.fancy_lex.specs.Escaped as escaped
 use Rattle.fancy_lex.specs.IdReference.{amount_bound}
+use Rattle.fancy_lex.specs.Number.{at_digit}
 use Rattle.fancy_lex.specs.Reading.{gives}
 use Rattle.fancy_lex.specs.Text.{Text}
 use Rattle.fancy_lex.specs.declared.escape.Assertion.TheVariants.{StartLineOniguruma}
@@ -21,7 +22,7 @@ use Rattle.fancy_grammar.specs.Label.{keep_out, continue_from_previous_match_end
 use Rattle.fancy_grammar.specs.Label.{repeat, atomic_group, define_group, repeater, stopper, expression, conditional}
 use Rattle.fancy_grammar.specs.Label.{concat, alt, backref, subroutine_call}
 use Rattle.fancy_grammar.specs.Marks.{Marks, ascending}
-use Rattle.fancy_grammar.specs.Pattern.{group_count}
+use Rattle.fancy_grammar.specs.Pattern.{group_count, Here, is_in_digits, written_all}
 use Rattle.fancy_grammar.specs.PatternReference.{name_of, is_last, fit_name}
 use Rattle.fancy_grammar.specs.PatternNeeds.{settled}
 use Rattle.fancy_grammar.specs.PatternSource.{delegate_text}
@@ -48,8 +49,17 @@ abbrev pub HasSource : Flags → Text → Bool → Type 0
 HasSource f s casei =
     (g : Flags) → IsLike f g → settled g (leaf (delegate s casei)) ≡ g → IsSource g s casei (delegate_text g casei s)
 
+-- a back reference in digits, where some reference is written as a number, or else by its group's name
+abbrev pub IsBackrefWritable : Bool → Marks → ℕ → ℕ → Type 0
+IsBackrefWritable true m c n = n < 2 ^ 64
+IsBackrefWritable false m c n = is_some (fit_name m (λ l. is_last n l && nat_le n c) n) ≡ true
+
+-- no digit follows it, where it is a reference in digits, to which that would belong
+abbrev pub IsParted : Marks → Tree → Trees → Type 0
+IsParted m t ts = is_in_digits m t ≡ true → (h : Here) → at_digit (written_all m false ts h) ≡ false
+
 -- a leaf as it is read, behind the openings of c groups: a character, a byte without UNICODE, what has an escape, a back
--- reference that is written by its group's name, or a call whose group is not too far
+-- reference without a level, or, where no reference is written as a number, a call whose group is not too far
 abbrev pub IsWritableLeaf : Flags → Marks → ℕ → Leaf → Type 0
 IsWritableLeaf f m c (literal (d ∷ []) casei) = Unit {0}
 IsWritableLeaf f m c (literal_bytes (b ∷ [])) = (f.unicode ≡ false) × (0x80 ≤ b) × (b ≤ 0xFF)
@@ -63,8 +73,10 @@ IsWritableLeaf f m c empty = Unit {0}
 IsWritableLeaf f m c keep_out = Unit {0}
 IsWritableLeaf f m c continue_from_previous_match_end = Unit {0}
 IsWritableLeaf f m c clear = Unit {0}
-IsWritableLeaf f m c (backref n casei) = is_some (fit_name m (λ l. is_last n l && nat_le n c) n) ≡ true
-IsWritableLeaf f m c (subroutine_call n) = (n - c < amount_bound) × (c + 1 - n < amount_bound)
+IsWritableLeaf f m c (backref n casei) =
+    IsBackrefWritable m.numeric_capture_group_references m c n
+IsWritableLeaf f m c (subroutine_call n) =
+    (m.numeric_capture_group_references ≡ false) × (n - c < amount_bound) × (c + 1 - n < amount_bound)
 IsWritableLeaf f m c _ = ⊥
 
 abbrev mutual
@@ -96,7 +108,8 @@ abbrev mutual
 
   pub ArePieces : Flags → Marks → ℕ → Trees → Type 0
   ArePieces f m c no_trees = Unit {0}
-  ArePieces f m c (more_trees t ts) = AreNodesWritable f m c t × (is_empty t ≡ false) × ArePieces f m (c + group_count t) ts
+  ArePieces f m c (more_trees t ts) =
+      AreNodesWritable f m c t × (is_empty t ≡ false) × IsParted m t ts × ArePieces f m (c + group_count t) ts
 
 -- ---- groups and their names
 
@@ -109,12 +122,12 @@ abbrev pub openings_told : Marks → ℕ → ℕ → List Opening
 openings_told m c zero = []
 openings_told m c (suc n) = record { reach = 0; name = name_at m (c + 1) } ∷ openings_told m (c + 1) n
 
--- the marks of a tree that has these groups, and no reference that is written as a number
-abbrev pub marks_of : Flags → List Opening → Tree → Marks
-marks_of f l t = record {
+-- the marks of a tree that has these groups, where back references are written as numbers or no reference is
+abbrev pub marks_of : Flags → List Opening → Tree → Bool → Marks
+marks_of f l t numeric = record {
   backrefs = ascending (filter (λ n. nat_le n (length l)) (groups_referred t));
   named_groups = named_groups l;
-  numeric_capture_group_references = false;
+  numeric_capture_group_references = numeric;
   contains_subroutines = has_call t;
   self_recursive = false;
   total_groups = length l;
@@ -133,10 +146,12 @@ IsNameWritable (c ∷ w) = (is_among (code ">") (c ∷ w) && is_among (code "'")
 
 -- ---- the trees
 
--- outside Oniguruma mode, a tree of fewer than 64 levels with its marks, none of whose references is written as a number
+-- outside Oniguruma mode, a tree of fewer than 64 levels with its marks; where a reference is written as a number,
+-- no call is
 pub record IsWritable (f : Flags) (m : Marks) (t : Tree) : Type 0 where
   pub mode : f.oniguruma_mode ≡ false
-  pub marks : m ≡ marks_of f (openings_told m 0 (group_count t)) t
+  pub marks : m ≡ marks_of f (openings_told m 0 (group_count t)) t m.numeric_capture_group_references
+  pub numeric : m.numeric_capture_group_references ≡ true → 0 < length (groups_referred t)
   pub counted : AreCounted m.numbered_groups_ignored (openings_told m 0 (group_count t))
   pub names : AllByRecursion (λ e. IsNameWritable e.0) m.named_groups
   pub nodes : AreNodesWritable f m 0 t

@@ -22,7 +22,7 @@ use Rattle.fancy_grammar.specs.Tree.{Tree, over, row, no_trees, more_trees, empt
 use Rattle.fancy_grammar.specs.Tree.{repeater}
 use Rattle.fancy_grammar.specs.declared.precedence.Precedence.TheVariants.{Whole, Branch}
 use Rattle.fancy_grammar.proofs.OutcomeLemmas.{piece_as}
-use Rattle.fancy_grammar.proofs.Pattern.Becomes.{Becomes, row_becomes, stays_solid}
+use Rattle.fancy_grammar.proofs.Pattern.Becomes.{Becomes, row_becomes, stays_solid, in_longer}
 use Rattle.fancy_grammar.proofs.Pattern.Cases.{ReadsTree}
 use Rattle.fancy_grammar.proofs.Pattern.Groups.{parens_text, question_at, over_becomes, whole_behind}
 use Rattle.fancy_grammar.proofs.Pattern.Induction.{by_atom}
@@ -30,6 +30,9 @@ use Rattle.fancy_grammar.proofs.Pattern.Rules.{Begins, Stops, begins_by, stops_b
 use Rattle.fancy_grammar.proofs.Pattern.Rules.{WholeAt}
 use Rattle.fancy_grammar.proofs.Pattern.Rules.{quants_one, quant_none}
 use Rattle.fancy_grammar.proofs.ReadBack.RuleLemmas.{st}
+use Rattle.fancy_grammar.proofs.ReadLaws.{branch_read}
+use Rattle.fancy_grammar.proofs.Slices.{to_ends}
+use Rattle.fancy_lex.proofs.LeaveLaws.{ends_twice}
 
 -- ---- behind an empty comment
 
@@ -57,7 +60,7 @@ comment_whole μ h s v g x o w =
           (quants_one h.depth (bytes t) h.flags empty empty bar bar o
           (quant_none (bytes t) h.flags empty bar (stops_bar h.flags.ignore_space s).clear))) p)
           w.derives;
-      becomes = w.becomes;
+      becomes = in_longer μ bar t (codes "(?#)", refl) h.opened w.tree x w.becomes;
     }
 
 -- ---- a repeater
@@ -128,7 +131,8 @@ repeater_at μ h u g v x l p =
           (a_group (inside
           (subst (λ z. Alternation (h.depth + 1) (st h.flags z) (done p.reads.tree (st g (code ")" ∷ v)))) p.is
           p.reads.derives)));
-      becomes = over_becomes μ label.repeater h.opened p.reads.tree x tt p.reads.becomes;
+      becomes = over_becomes μ _ label.repeater h.opened p.reads.tree x tt
+          (in_longer μ _ _ (codes "(?~", refl) h.opened p.reads.tree x (subst (λ z. Becomes μ z h.opened p.reads.tree x) p.is p.reads.becomes));
     })
 
 -- ---- a stopper
@@ -140,14 +144,15 @@ stopper_same x (c ∷ t) b = refl
 stopper_at : (μ : Marks) (h : Here) (t v : Text) (g : Flags) (x : Tree) → h.depth + 1 < max_depth → is_empty x ≡ false →
     BranchAt μ (deeper h) t g (code ")" ∷ v) x → AtomAt μ h (codes "(?~|" ++ t) v (over label.stopper x)
 stopper_at μ h t v g x l e b =
-    let solid = stays_solid μ h.opened b.tree x b.becomes e in
+    let solid = stays_solid μ t h.opened b.tree x b.becomes e in
     let is : (if is_empty b.tree then clear else stopper b.tree) ≡ stopper b.tree = cond-false _ _ _ solid in
     record {
       tree = if is_empty b.tree then clear else stopper b.tree;
       derives = atom (question_at h.depth h.flags (codes "~|" ++ t) l) (one_branch b.derives refl);
       becomes =
-          subst (λ r. Becomes μ h.opened r (over label.stopper x)) (sym is)
-          (over_becomes μ label.stopper h.opened b.tree x tt b.becomes);
+          subst (λ r. Becomes μ (codes "(?~|" ++ t) h.opened r (over label.stopper x)) (sym is)
+          (over_becomes μ _ label.stopper h.opened b.tree x tt
+          (in_longer μ t _ (codes "(?~|", refl) h.opened b.tree x b.becomes));
     }
 
 -- ---- an absent expression
@@ -160,7 +165,14 @@ expression_at μ h t u v f g a e l b d = record {
   tree = expression b.tree d.tree;
   derives = atom (question_at h.depth h.flags (codes "~|" ++ t) l) (two_branches b.derives refl d.derives);
   becomes =
-      row_becomes μ label.expression (b.tree ∷ d.tree ∷ []) (a ∷ e ∷ []) h.opened (b.becomes, (d.becomes, tt));
+      row_becomes μ _ label.expression (b.tree ∷ d.tree ∷ []) (a ∷ e ∷ []) h.opened (
+        in_longer μ t _ (codes "(?~|", refl) _ b.tree a b.becomes,
+        (
+          in_longer μ u _ (ends_twice _ t u (codes "(?~|", refl)
+              (ends_twice t (code "|" ∷ u) u (to_ends (branch_read b.derives).span.slice) (codes "|", refl))) _ d.tree e d.becomes,
+          tt,
+        ),
+      );
 }
 
 -- ---- the trees
@@ -180,7 +192,7 @@ module _ (μ : Marks) (h : Here) (o : h.flags.oniguruma_mode ≡ false) (d : h.d
       let same = parens_text (codes "?~") text i in
       by_atom μ x h o d refl s _
       (λ v. subst (Begins h.flags.ignore_space) (sym (same v)) (begins_absent _))
-      (λ v k. subst (λ z. AtomAt μ i z v x) (sym (same v))
+      (λ v k _. subst (λ z. AtomAt μ i z v x) (sym (same v))
       (repeater_at μ i _ _ v t d
       (parted μ (deeper i) v _ t o w (r.whole (code ")" ∷ v) (ends_close h.flags.ignore_space v)))))
       refl (λ e. refl)
@@ -197,7 +209,7 @@ module _ (μ : Marks) (h : Here) (o : h.flags.oniguruma_mode ≡ false) (d : h.d
       let bare = stopper_same h.flags.ignore_space w (r.branch_begins solid []) in
       by_atom μ x h o d refl s _
       (λ v. subst (Begins h.flags.ignore_space) (sym (same v)) (begins_absent _))
-      (λ v k. subst (λ z. AtomAt μ i z v x)
+      (λ v k _. subst (λ z. AtomAt μ i z v x)
       (sym (same v ∙ ap (λ z. codes "(?~|" ++ (z ++ code ")" ∷ v)) bare))
       (stopper_at μ i (w ++ code ")" ∷ v) v _ t d solid
       (r.branch (code ")" ∷ v) (ends_close h.flags.ignore_space v).stops)))
@@ -219,7 +231,7 @@ module _ (μ : Marks) (h : Here) (o : h.flags.oniguruma_mode ≡ false) (d : h.d
       let second = λ (v : Text). written μ e Branch (behind a Branch (deeper i)) ++ code ")" ∷ v in
       by_atom μ x h o d refl s _
       (λ v. subst (Begins h.flags.ignore_space) (sym (same v)) (begins_absent _))
-      (λ v k. subst (λ z. AtomAt μ i z v x)
+      (λ v k _. subst (λ z. AtomAt μ i z v x)
       (sym (same v ∙ ap (λ z. codes "(?~|" ++ z) (append_assoc first _ (code ")" ∷ v))))
       (expression_at μ i (first ++ code "|" ∷ second v) (second v) v _ _ a e d
       (r.branch (code "|" ∷ second v) (stops_bar h.flags.ignore_space (second v)))

@@ -2,7 +2,7 @@
 use Rattle.std.proofs.Common.{◌≡◌, ℕ, suc, ◌+◌, Bool, true, false, List, [], ◌∷◌, ◌++◌, length}
 use Rattle.std.proofs.Common.{refl, sym, ap, ap₂, ◌∙◌, subst, arith, ℤ, Some, None, Option}
 use Rattle.std.proofs.lemmas.Bool.{cond-true, cond-false}
-use Rattle.fancy_lex.specs.Text.{Text}
+use Rattle.fancy_lex.specs.Text.{Text, EndsWith, reach_of}
 use Rattle.fancy_lex.specs.declared.flags.Flags.{Flags}
 use Rattle.fancy_parts.specs.Ranks.{Opening, numbered_openings_in, numbers}
 use Rattle.fancy_grammar.specs.Items.{Item, opening, reference, items, items_all, openings_in, role_of, target_of}
@@ -16,7 +16,9 @@ use Rattle.fancy_grammar.specs.Tree.{Tree, row, more_trees, trees_of, empty, ast
 use Rattle.fancy_grammar.specs.Tree.{ast_node, backref, backref_at_level, subroutine_call, backref_exists}
 use Rattle.fancy_grammar.specs.Writable.{name_at, AreCounted, openings_told}
 use Rattle.fancy_lex.specs.Target.{Target, by_number}
-use Rattle.fancy_parts.specs.Meaning.{number, means}
+use Rattle.fancy_parts.specs.Meaning.{number, means, back_reference}
+use Rattle.fancy_lex.specs.Characters.{backslash}
+use Rattle.fancy_lex.proofs.LeaveLaws.{ends_twice}
 
 -- how many groups open among the items
 abbrev pub opened : List Item → ℕ
@@ -30,40 +32,51 @@ abbrev pub is_by_number : Target → Bool
 is_by_number (by_number n) = true
 is_by_number _ = false
 
--- a reference that means a group behind the openings of c groups, and is not written as a number
+-- a reference that means a group behind the openings of c groups
 pub record MeansGroup (μ : Marks) (c : ℕ) (r : AstReference) : Type 0 where
   pub group : ℕ
   pub meant : means (numbers_told μ) c (role_of r) (target_of r) ≡ number group
-  pub named : is_by_number (target_of r) ≡ false
+
+-- a back reference right behind a backslash of the text, at this reach
+pub record IsInDigits (s : Text) (r : AstReference) (p : ℕ) : Type 0 where
+  pub role : role_of r ≡ back_reference
+  pub digits : Text
+  pub ends : EndsWith s (backslash ∷ digits)
+  pub reach : p ≡ reach_of digits
+
+-- it is by a number where some reference is to be written as one, and then it is in digits in the text
+pub record IsAsMarked (μ : Marks) (s : Text) (r : AstReference) (p : ℕ) : Type 0 where
+  pub number : is_by_number (target_of r) ≡ μ.numeric_capture_group_references
+  pub digits : is_by_number (target_of r) ≡ true → IsInDigits s r p
 
 -- behind the openings of c groups they are groups, each with the name that the marks give it, and such references
-abbrev pub AreGroups : Marks → ℕ → List Item → Type 0
-AreGroups μ c [] = Unit {0}
-AreGroups μ c (opening o ∷ l) = (o.name ≡ name_at μ (c + 1)) × AreGroups μ (c + 1) l
-AreGroups μ c (reference r p ∷ l) = MeansGroup μ c r × AreGroups μ c l
+abbrev pub AreGroups : Marks → Text → ℕ → List Item → Type 0
+AreGroups μ s c [] = Unit {0}
+AreGroups μ s c (opening o ∷ l) = (o.name ≡ name_at μ (c + 1)) × AreGroups μ s (c + 1) l
+AreGroups μ s c (reference r p ∷ l) = MeansGroup μ c r × IsAsMarked μ s r p × AreGroups μ s c l
 
 -- behind the openings of c groups it resolves to x, where each of its groups has a number and each name has those that
 -- the marks say; it has as many groups, with the names that the marks give them
-pub record Becomes (μ : Marks) (c : ℕ) (r x : Tree) : Type 0 where
+pub record Becomes (μ : Marks) (s : Text) (c : ℕ) (r x : Tree) : Type 0 where
   pub is : (named : Bool) → AreCounted named (openings_in (items r)) → (n : ℕ) (numbers_of : Text → List ℕ) →
       ((w : Text) → numbers_of w ≡ numbers_told μ w) → resolved_in n named numbers_of c r ≡ x
   pub count : opened (items r) ≡ group_count x
-  pub groups : AreGroups μ c (items r)
+  pub groups : AreGroups μ s c (items r)
 
 -- each of the trees becomes the one at its place, one behind another
-abbrev pub EachBecomes : Marks → ℕ → List Tree → List Tree → Type 0
-EachBecomes μ c [] [] = Unit {0}
-EachBecomes μ c (r ∷ l) (x ∷ m) = Becomes μ c r x × EachBecomes μ (c + group_count x) l m
-EachBecomes μ c _ _ = ⊥
+abbrev pub EachBecomes : Marks → Text → ℕ → List Tree → List Tree → Type 0
+EachBecomes μ s c [] [] = Unit {0}
+EachBecomes μ s c (r ∷ l) (x ∷ m) = Becomes μ s c r x × EachBecomes μ s (c + group_count x) l m
+EachBecomes μ s c _ _ = ⊥
 
 -- ---- items, one behind another
 
-groups_append : (μ : Marks) (c : ℕ) (l m : List Item) → AreGroups μ c l → AreGroups μ (c + opened l) m →
-    AreGroups μ c (l ++ m)
-groups_append μ c [] m h k = subst (λ n. AreGroups μ n m) (omega arith) k
-groups_append μ c (opening o ∷ l) m h k =
-    (h.0, groups_append μ (c + 1) l m h.1 (subst (λ n. AreGroups μ n m) (omega arith) k))
-groups_append μ c (reference r p ∷ l) m h k = (h.0, groups_append μ c l m h.1 k)
+groups_append : (μ : Marks) (s : Text) (c : ℕ) (l m : List Item) → AreGroups μ s c l → AreGroups μ s (c + opened l) m →
+    AreGroups μ s c (l ++ m)
+groups_append μ s c [] m h k = subst (λ n. AreGroups μ s n m) (omega arith) k
+groups_append μ s c (opening o ∷ l) m h k =
+    (h.0, groups_append μ s (c + 1) l m h.1 (subst (λ n. AreGroups μ s n m) (omega arith) k))
+groups_append μ s c (reference r p ∷ l) m h k = (h.0, h.1, groups_append μ s c l m h.2 k)
 
 openings_append : (l m : List Item) → openings_in (l ++ m) ≡ openings_in l ++ openings_in m
 openings_append [] m = refl
@@ -91,74 +104,74 @@ counted_unnamed [] = tt
 counted_unnamed (o ∷ l) = (refl, counted_unnamed l)
 
 -- what it resolves to where all groups have a number
-pub becomes_plain : (μ : Marks) (c : ℕ) (r x : Tree) → Becomes μ c r x → resolved_in 0 false (numbers_told μ) c r ≡ x
-becomes_plain μ c r x b = b.is false (counted_unnamed (openings_in (items r))) 0 (numbers_told μ) (λ w. refl)
+pub becomes_plain : (μ : Marks) (s : Text) (c : ℕ) (r x : Tree) → Becomes μ s c r x → resolved_in 0 false (numbers_told μ) c r ≡ x
+becomes_plain μ s c r x b = b.is false (counted_unnamed (openings_in (items r))) 0 (numbers_told μ) (λ w. refl)
 
 -- ---- several trees
 
-all_groups : (μ : Marks) (l m : List Tree) (c : ℕ) → EachBecomes μ c l m → AreGroups μ c (items_all (trees_of l))
-all_groups μ [] [] c h = tt
-all_groups μ (r ∷ l) (x ∷ m) c h =
-    groups_append μ c (items r) (items_all (trees_of l)) h.0.groups
-    (subst (λ k. AreGroups μ (c + k) (items_all (trees_of l))) (sym h.0.count) (all_groups μ l m _ h.1))
-all_groups μ [] (x ∷ m) c h = absurd h
-all_groups μ (r ∷ l) [] c h = absurd h
+all_groups : (μ : Marks) (s : Text) (l m : List Tree) (c : ℕ) → EachBecomes μ s c l m → AreGroups μ s c (items_all (trees_of l))
+all_groups μ s [] [] c h = tt
+all_groups μ s (r ∷ l) (x ∷ m) c h =
+    groups_append μ s c (items r) (items_all (trees_of l)) h.0.groups
+    (subst (λ k. AreGroups μ s (c + k) (items_all (trees_of l))) (sym h.0.count) (all_groups μ s l m _ h.1))
+all_groups μ s [] (x ∷ m) c h = absurd h
+all_groups μ s (r ∷ l) [] c h = absurd h
 
-all_count : (μ : Marks) (l m : List Tree) (c : ℕ) → EachBecomes μ c l m →
+all_count : (μ : Marks) (s : Text) (l m : List Tree) (c : ℕ) → EachBecomes μ s c l m →
     opened (items_all (trees_of l)) ≡ group_count_all (trees_of m)
-all_count μ [] [] c h = refl
-all_count μ (r ∷ l) (x ∷ m) c h =
-    opened_append (items r) (items_all (trees_of l)) ∙ ap₂ (λ a b. a + b) h.0.count (all_count μ l m _ h.1)
-all_count μ [] (x ∷ m) c h = absurd h
-all_count μ (r ∷ l) [] c h = absurd h
+all_count μ s [] [] c h = refl
+all_count μ s (r ∷ l) (x ∷ m) c h =
+    opened_append (items r) (items_all (trees_of l)) ∙ ap₂ (λ a b. a + b) h.0.count (all_count μ s l m _ h.1)
+all_count μ s [] (x ∷ m) c h = absurd h
+all_count μ s (r ∷ l) [] c h = absurd h
 
-each_resolved : (μ : Marks) (l m : List Tree) (c : ℕ) → EachBecomes μ c l m → (named : Bool) →
+each_resolved : (μ : Marks) (s : Text) (l m : List Tree) (c : ℕ) → EachBecomes μ s c l m → (named : Bool) →
     AreCounted named (openings_in (items_all (trees_of l))) → (n : ℕ) (numbers_of : Text → List ℕ) →
     ((w : Text) → numbers_of w ≡ numbers_told μ w) → resolved_all n named numbers_of c (trees_of l) ≡ trees_of m
-each_resolved μ [] [] c h named k n u e = refl
-each_resolved μ (r ∷ l) (x ∷ m) c h named k n u e =
+each_resolved μ s [] [] c h named k n u e = refl
+each_resolved μ s (r ∷ l) (x ∷ m) c h named k n u e =
     let others = items_all (trees_of l) in
     let (a, b) = counted_split named (openings_in (items r)) (openings_in others)
     (subst (AreCounted named) (openings_append (items r) others) k) in
     let same : length (numbered_openings_in named (openings_in (items r))) ≡ group_count x
     = ap length (counted_all named (openings_in (items r)) a) ∙ h.0.count in
     ap₂ more_trees (h.0.is named a n u e)
-    (ap (λ k. resolved_all n named u (c + k) (trees_of l)) same ∙ each_resolved μ l m _ h.1 named b n u e)
-each_resolved μ [] (x ∷ m) c h named k n u e = absurd h
-each_resolved μ (r ∷ l) [] c h named k n u e = absurd h
+    (ap (λ k. resolved_all n named u (c + k) (trees_of l)) same ∙ each_resolved μ s l m _ h.1 named b n u e)
+each_resolved μ s [] (x ∷ m) c h named k n u e = absurd h
+each_resolved μ s (r ∷ l) [] c h named k n u e = absurd h
 
-pub row_becomes : (μ : Marks) (w : Row) (l m : List Tree) (c : ℕ) → EachBecomes μ c l m →
-    Becomes μ c (row w (trees_of l)) (row w (trees_of m))
-row_becomes μ w l m c h = record {
-  is = λ named k n u e. ap (row w) (each_resolved μ l m c h named k n u e);
-  count = all_count μ l m c h;
-  groups = all_groups μ l m c h;
+pub row_becomes : (μ : Marks) (s : Text) (w : Row) (l m : List Tree) (c : ℕ) → EachBecomes μ s c l m →
+    Becomes μ s c (row w (trees_of l)) (row w (trees_of m))
+row_becomes μ s w l m c h = record {
+  is = λ named k n u e. ap (row w) (each_resolved μ s l m c h named k n u e);
+  count = all_count μ s l m c h;
+  groups = all_groups μ s l m c h;
 }
 
-pub one_becomes : (μ : Marks) (w : Row) (l m : List Tree) (c : ℕ) → EachBecomes μ c l m →
-    Becomes μ c (one_or (row w) l) (one_or (row w) m)
-one_becomes μ w [] [] c h = record { is = λ named k n u e. refl; count = refl; groups = tt }
-one_becomes μ w (r ∷ []) (x ∷ []) c h = h.0
-one_becomes μ w (r ∷ s ∷ l) (x ∷ y ∷ m) c h = row_becomes μ w (r ∷ s ∷ l) (x ∷ y ∷ m) c h
-one_becomes μ w (r ∷ []) (x ∷ y ∷ m) c h = absurd h.1
-one_becomes μ w (r ∷ s ∷ l) (x ∷ []) c h = absurd h.1
-one_becomes μ w [] (x ∷ m) c h = absurd h
-one_becomes μ w (r ∷ l) [] c h = absurd h
+pub one_becomes : (μ : Marks) (s : Text) (w : Row) (l m : List Tree) (c : ℕ) → EachBecomes μ s c l m →
+    Becomes μ s c (one_or (row w) l) (one_or (row w) m)
+one_becomes μ s w [] [] c h = record { is = λ named k n u e. refl; count = refl; groups = tt }
+one_becomes μ s w (r ∷ []) (x ∷ []) c h = h.0
+one_becomes μ s w (r ∷ z ∷ l) (x ∷ y ∷ m) c h = row_becomes μ s w (r ∷ z ∷ l) (x ∷ y ∷ m) c h
+one_becomes μ s w (r ∷ []) (x ∷ y ∷ m) c h = absurd h.1
+one_becomes μ s w (r ∷ z ∷ l) (x ∷ []) c h = absurd h.1
+one_becomes μ s w [] (x ∷ m) c h = absurd h
+one_becomes μ s w (r ∷ l) [] c h = absurd h
 
 -- ---- Empties
 
 -- what becomes no Empty is none
-pub stays_solid : (μ : Marks) (c : ℕ) (r x : Tree) → Becomes μ c r x → is_empty x ≡ false → is_empty r ≡ false
-stays_solid μ c empty x b e = absurd-empty (ap is_empty (becomes_plain μ c empty x b) ∙ e)
+pub stays_solid : (μ : Marks) (s : Text) (c : ℕ) (r x : Tree) → Becomes μ s c r x → is_empty x ≡ false → is_empty r ≡ false
+stays_solid μ s c empty x b e = absurd-empty (ap is_empty (becomes_plain μ s c empty x b) ∙ e)
   where
     absurd-empty : {A : Type 0} → true ≡ false → A
     absurd-empty e = absurd cc
-stays_solid μ c r x b e = refl
+stays_solid μ s c r x b e = refl
 
-pub solid_also : (μ : Marks) (c : ℕ) (r x : Tree) (l m : List Tree) → Becomes μ c r x → is_empty x ≡ false →
-    EachBecomes μ (c + group_count x) (solid l) m → EachBecomes μ c (solid (r ∷ l)) (x ∷ m)
-solid_also μ c r x l m b e h =
-    subst (λ k. EachBecomes μ c k (x ∷ m)) (sym (cond-false _ _ _ (stays_solid μ c r x b e))) (b, h)
+pub solid_also : (μ : Marks) (s : Text) (c : ℕ) (r x : Tree) (l m : List Tree) → Becomes μ s c r x → is_empty x ≡ false →
+    EachBecomes μ s (c + group_count x) (solid l) m → EachBecomes μ s c (solid (r ∷ l)) (x ∷ m)
+solid_also μ s c r x l m b e h =
+    subst (λ k. EachBecomes μ s c k (x ∷ m)) (sym (cond-false _ _ _ (stays_solid μ s c r x b e))) (b, h)
 
 -- ---- what may stand under a quantifier
 
@@ -181,14 +194,41 @@ node_told P a μ c (ast_backref t casei (Some level)) p x y z w h =
 node_told P a μ c (ast_call t) p x y z w h = node_of P a μ c (ast_call t) p h z
 node_told P a μ c (ast_condition t level) p x y z w h = node_of P a μ c (ast_condition t level) p h (λ k. w k level)
 
-place_free : (μ : Marks) (f : Flags) (r : Tree) (c : ℕ) → AreGroups μ c (items r) →
+place_free : (μ : Marks) (s : Text) (f : Flags) (r : Tree) (c : ℕ) → AreGroups μ s c (items r) →
     is_repeatable f (resolved_in 0 false (numbers_told μ) c r) ≡ is_repeatable f r
-place_free μ f (ast_group m p t) c h = refl
-place_free μ f (ast_node r p) c h =
+place_free μ s f (ast_group m p t) c h = refl
+place_free μ s f (ast_node r p) c h =
     node_told (is_repeatable f) true μ c r p (λ n i. refl) (λ n l i. refl) (λ n. refl) (λ n l. refl) h.0
-place_free μ f _ c h = refl
+place_free μ s f _ c h = refl
 
-pub stays_repeatable : (μ : Marks) (f : Flags) (c : ℕ) (r x : Tree) → Becomes μ c r x → is_repeatable f x ≡ true →
+pub stays_repeatable : (μ : Marks) (s : Text) (f : Flags) (c : ℕ) (r x : Tree) → Becomes μ s c r x → is_repeatable f x ≡ true →
     is_repeatable f r ≡ true
-stays_repeatable μ f c r x b e =
-    sym (place_free μ f r c b.groups) ∙ (ap (is_repeatable f) (becomes_plain μ c r x b) ∙ e)
+stays_repeatable μ s f c r x b e =
+    sym (place_free μ s f r c b.groups) ∙ (ap (is_repeatable f) (becomes_plain μ s c r x b) ∙ e)
+
+-- ---- in a longer text
+
+groups_in_longer : (μ : Marks) (s t : Text) → EndsWith t s → (c : ℕ) (l : List Item) → AreGroups μ s c l → AreGroups μ t c l
+groups_in_longer μ s t e c [] h = tt
+groups_in_longer μ s t e c (opening o ∷ l) h = (h.0, groups_in_longer μ s t e (c + 1) l h.1)
+groups_in_longer μ s t e c (reference r p ∷ l) h = (
+  h.0,
+  record {
+    number = h.1.number;
+    digits =
+        λ n. let d = h.1.digits n in
+        record { role = d.role; digits = d.digits; ends = ends_twice t s (backslash ∷ d.digits) e d.ends; reach = d.reach };
+  },
+  groups_in_longer μ s t e c l h.2,
+)
+
+pub in_longer : (μ : Marks) (s t : Text) → EndsWith t s → (c : ℕ) (r x : Tree) → Becomes μ s c r x → Becomes μ t c r x
+in_longer μ s t e c r x b =
+    record { is = b.is; count = b.count; groups = groups_in_longer μ s t e c (items r) b.groups }
+
+pub each_in_longer : (μ : Marks) (s t : Text) → EndsWith t s → (l m : List Tree) (c : ℕ) → EachBecomes μ s c l m →
+    EachBecomes μ t c l m
+each_in_longer μ s t e [] [] c h = tt
+each_in_longer μ s t e (r ∷ l) (x ∷ m) c h = (in_longer μ s t e c r x h.0, each_in_longer μ s t e l m _ h.1)
+each_in_longer μ s t e [] (x ∷ m) c h = absurd h
+each_in_longer μ s t e (r ∷ l) [] c h = absurd h

@@ -77,46 +77,45 @@ module _ (μ : Marks) where
   outside f c (StartLineOniguruma crlf) k = k
   outside f c _ k = tt
 
-  pub leaf_reads : μ.numeric_capture_group_references ≡ false →
-      ((k : ℕ) → IfSome (name_of μ k) (λ e. e.1 ≡ numbers_told μ e.0)) → (f : Flags) (l : Leaf) (h : Here) → h.flags.oniguruma_mode ≡ false → IsLike f h.flags →
+  pub leaf_reads : ((k : ℕ) → IfSome (name_of μ k) (λ e. e.1 ≡ numbers_told μ e.0)) → (f : Flags) (l : Leaf) (h : Here) → h.flags.oniguruma_mode ≡ false → IsLike f h.flags →
       h.depth + 1 < max_depth → IsWritableLeaf f μ h.opened l → ReadsTree (leaf l) h
-  leaf_reads none numbered f label.empty h o like d k = by_nothing μ h (codes "()") (codes "()")
-  leaf_reads none numbered f (label.any a b) h o like d k =
+  leaf_reads numbered f label.empty h o like d k = by_nothing μ h (codes "()") (codes "()")
+  leaf_reads numbered f (label.any a b) h o like d k =
       let i = under (settled h.flags (leaf (label.any a b))) h in
       leaf_by (label.any a b) h o d refl (any_at μ i a b (any_fits i.flags a b
       (settled_again h.flags (leaf (label.any a b)))))
-  leaf_reads none numbered f (label.assertion a) h o like d k =
+  leaf_reads numbered f (label.assertion a) h o like d k =
       let i = under (settled h.flags (leaf (label.assertion a))) h in
       leaf_by (label.assertion a) h o d refl
       (assertion_at μ i a o (assertion_fits i.flags a (outside f h.opened a k)
       (settled_again h.flags (leaf (label.assertion a)))))
-  leaf_reads none numbered f (label.general_newline u) h o like d k =
+  leaf_reads numbered f (label.general_newline u) h o like d k =
       leaf_by (label.general_newline u) h o d refl (newline_at μ h u (ap (λ g. g.unicode) like ∙ k))
-  leaf_reads none numbered f (label.literal [] casei) h o like d k = absurd k
-  leaf_reads none numbered f (label.literal (c ∷ []) casei) h o like d k =
+  leaf_reads numbered f (label.literal [] casei) h o like d k = absurd k
+  leaf_reads numbered f (label.literal (c ∷ []) casei) h o like d k =
       let l = label.literal (c ∷ []) casei in
       let i = under (settled h.flags (leaf l)) h in
       leaf_by l h o d refl (literal_at μ i casei c (case_fits i.flags casei c o (settled_again h.flags (leaf l))))
-  leaf_reads none numbered f (label.literal (c ∷ e ∷ s) casei) h o like d k = absurd k
-  leaf_reads none numbered f (label.literal_bytes []) h o like d k = absurd k
-  leaf_reads none numbered f (label.literal_bytes (b ∷ [])) h o like d k =
+  leaf_reads numbered f (label.literal (c ∷ e ∷ s) casei) h o like d k = absurd k
+  leaf_reads numbered f (label.literal_bytes []) h o like d k = absurd k
+  leaf_reads numbered f (label.literal_bytes (b ∷ [])) h o like d k =
       leaf_by (label.literal_bytes (b ∷ [])) h o d refl (byte_at μ h b (ap (λ g. g.unicode) like ∙ k.0) k.1 k.2)
-  leaf_reads none numbered f (label.literal_bytes (b ∷ e ∷ s)) h o like d k = absurd k
-  leaf_reads none numbered f (label.delegate s casei) h o like d k =
+  leaf_reads numbered f (label.literal_bytes (b ∷ e ∷ s)) h o like d k = absurd k
+  leaf_reads numbered f (label.delegate s casei) h o like d k =
       let l = label.delegate s casei in
       let i = under (settled h.flags (leaf l)) h in
       leaf_by l h o d refl (source_at μ i s casei _ (k i.flags like (settled_again h.flags (leaf l))))
-  leaf_reads none numbered f label.keep_out h o like d k = leaf_by label.keep_out h o d refl (keep_at μ h)
-  leaf_reads none numbered f label.continue_from_previous_match_end h o like d k =
+  leaf_reads numbered f label.keep_out h o like d k = leaf_by label.keep_out h o d refl (keep_at μ h)
+  leaf_reads numbered f label.continue_from_previous_match_end h o like d k =
       leaf_by label.continue_from_previous_match_end h o d refl (continue_at μ h)
-  leaf_reads none numbered f (label.verb v) h o like d k = leaf_by (label.verb v) h o d refl (verb_leaf_at μ h v d)
-  leaf_reads none numbered f label.clear h o like d k = leaf_by label.clear h o d refl (clear_at μ h d)
-  leaf_reads none numbered f (label.backref n casei) h o like d k =
+  leaf_reads numbered f (label.verb v) h o like d k = leaf_by (label.verb v) h o d refl (verb_leaf_at μ h v d)
+  leaf_reads numbered f label.clear h o like d k = leaf_by label.clear h o d refl (clear_at μ h d)
+  leaf_reads numbered f (label.backref n casei) h o like d k =
       leaf_by (label.backref n casei) h o d refl
-      (backref_at μ (under (settled h.flags (leaf (label.backref n casei))) h) none numbered n k)
-  leaf_reads none numbered f (label.subroutine_call n) h o like d k =
-      leaf_by (label.subroutine_call n) h o d refl (call_at μ h none numbered n k.0 k.1)
-  leaf_reads none numbered f _ h o like d k = absurd k
+      (backref_at μ (under (settled h.flags (leaf (label.backref n casei))) h) numbered n k)
+  leaf_reads numbered f (label.subroutine_call n) h o like d k =
+      leaf_by (label.subroutine_call n) h o d refl (call_at μ h numbered k.0 n k.1 k.2)
+  leaf_reads numbered f _ h o like d k = absurd k
 
   -- ---- groups
 
@@ -155,7 +154,7 @@ module _ (μ : Marks) where
         by_atom μ (over label.group t) h o d refl s _
         (λ v. subst (Begins h.flags.ignore_space) (sym (same v))
         (begins_head (name_of μ (h.opened + 1)) named h.flags.ignore_space (inside v) (clear v)))
-        (λ v k. subst (λ w. AtomAt μ i w v (over label.group t)) (sym (same v))
+        (λ v k _. subst (λ w. AtomAt μ i w v (over label.group t)) (sym (same v))
         (reads_group μ i _ _ _ (inside v) v t
         (group_head_read (name_of μ (h.opened + 1)) named i.flags (inside v) (clear v)) refl
         (r.whole (code ")" ∷ v) (ends_close h.flags.ignore_space v))))
@@ -183,7 +182,7 @@ module _ (μ : Marks) where
         let same = parens_text (look_head l) (written μ t Whole) i in
         by_atom μ (over (label.look_around l) t) h o d refl s _
         (λ v. subst (Begins h.flags.ignore_space) (sym (same v)) (begins_look h.flags.ignore_space l (inside v)))
-        (λ v k. subst (λ w. AtomAt μ i w v (over (label.look_around l) t)) (sym (same v))
+        (λ v k _. subst (λ w. AtomAt μ i w v (over (label.look_around l) t)) (sym (same v))
         (reads_look μ i l _ _ (inside v) v t (look_ahead_at i.flags l (inside v))
         (r.whole (code ")" ∷ v) (ends_close h.flags.ignore_space v))))
         refl (λ e. absurd (false≢true e))
@@ -197,7 +196,7 @@ module _ (μ : Marks) where
         by_atom μ (over label.define_group t) h o d refl s _
         (λ v. subst (Begins h.flags.ignore_space) (sym (same v))
         (begins_by h.flags.ignore_space (code "(") _ refl refl refl refl))
-        (λ v k. subst (λ w. AtomAt μ i w v (over label.define_group t)) (sym (same v))
+        (λ v k _. subst (λ w. AtomAt μ i w v (over label.define_group t)) (sym (same v))
         (reads_define μ i _ _ (inside v) v t (question_at h.depth i.flags (codes "(DEFINE)" ++ inside v) d)
         (r.whole (code ")" ∷ v) (ends_close h.flags.ignore_space v))))
         refl (λ e. refl)
@@ -217,7 +216,7 @@ module _ (μ : Marks) where
         by_atom μ (over label.atomic_group t) h o d refl s _
         (λ v. subst (Begins h.flags.ignore_space) (sym (same v))
         (begins_by h.flags.ignore_space (code "(") _ refl refl refl refl))
-        (λ v k. subst (λ w. AtomAt μ i w v (over label.atomic_group t)) (sym (same v))
+        (λ v k _. subst (λ w. AtomAt μ i w v (over label.atomic_group t)) (sym (same v))
         (reads_atomic μ i _ _ (inside v) v t (question_at h.depth i.flags (codes ">" ++ inside v) d)
         (r.whole (code ")" ∷ v) (ends_close h.flags.ignore_space v))))
         refl (λ e. refl)

@@ -7,7 +7,7 @@ use Rattle.std.proofs.lemmas.Bool.{cond-false, or_parts, false≢true}
 use Rattle.std.proofs.lemmas.Str.{len_utf8_bounds}
 use Rattle.std.specs.Str.{bytes_eq}
 use Prim.Native.Char.{code}
-use Rattle.fancy_lex.specs.Text.{Text, bytes}
+use Rattle.fancy_lex.specs.Text.{Text, bytes, EndsWith}
 use Rattle.fancy_lex.specs.declared.flags.Flags.{Flags}
 use Rattle.fancy_lex.proofs.TextLemmas.{bytes-append}
 use Rattle.fancy_parts.specs.HeadReference.{begins_target}
@@ -32,11 +32,14 @@ use Rattle.fancy_grammar.specs.State.{State, Outcome, done, fault, seen_through}
 use Rattle.fancy_grammar.specs.Tree.{Tree, leaf, over, row, no_trees, more_trees, empty, conditional, ast_group}
 use Rattle.fancy_grammar.specs.Tree.{ast_node, trees_of, list_of}
 use Rattle.fancy_grammar.proofs.Pattern.Becomes.{Becomes, row_becomes, AreGroups, becomes_plain, numbers_told}
-use Rattle.fancy_grammar.proofs.Pattern.Becomes.{node_told}
+use Rattle.fancy_grammar.proofs.Pattern.Becomes.{node_told, in_longer}
 use Rattle.fancy_grammar.proofs.Pattern.Rules.{Begins, begins_by, AtomAt, BranchAt, WholeAt, stops_bar, ends_close}
 use Rattle.fancy_grammar.specs.declared.precedence.Precedence.TheVariants.{Whole, Branch as BranchAlone}
 use Rattle.fancy_grammar.proofs.Pattern.Cases.{ReadsTree}
 use Rattle.fancy_grammar.proofs.ReadBack.RuleLemmas.{st}
+use Rattle.fancy_grammar.proofs.ReadLaws.{alternation_read}
+use Rattle.fancy_grammar.proofs.Slices.{to_ends}
+use Rattle.fancy_lex.proofs.LeaveLaws.{ends_twice}
 
 -- ---- the branches of an alternation that was read
 
@@ -89,29 +92,29 @@ others {d} {s} {r} {t} a = let (q, e, b) = alternation_of a in others_of d s r t
 
 -- ---- a raw tree and what it becomes
 
-raw_empty : (μ : Marks) (r : Tree) (c : ℕ) → AreGroups μ c (items r) →
+raw_empty : (μ : Marks) (s : Text) (r : Tree) (c : ℕ) → AreGroups μ s c (items r) →
     is_empty (resolved_in 0 false (numbers_told μ) c r) ≡ is_empty r
-raw_empty μ (ast_group m p t) c h = refl
-raw_empty μ (ast_node r p) c h =
+raw_empty μ s (ast_group m p t) c h = refl
+raw_empty μ s (ast_node r p) c h =
     node_told is_empty false μ c r p (λ n i. refl) (λ n l i. refl) (λ n. refl) (λ n l. refl) h.0
-raw_empty μ _ c h = refl
+raw_empty μ s _ c h = refl
 
-same_empty : (μ : Marks) (c : ℕ) (r x : Tree) → Becomes μ c r x → is_empty r ≡ is_empty x
-same_empty μ c r x b = sym (raw_empty μ r c b.groups) ∙ ap is_empty (becomes_plain μ c r x b)
+same_empty : (μ : Marks) (s : Text) (c : ℕ) (r x : Tree) → Becomes μ s c r x → is_empty r ≡ is_empty x
+same_empty μ s c r x b = sym (raw_empty μ s r c b.groups) ∙ ap is_empty (becomes_plain μ s c r x b)
 
-raw_alt : (μ : Marks) (r : Tree) (c : ℕ) → AreGroups μ c (items r) →
+raw_alt : (μ : Marks) (s : Text) (r : Tree) (c : ℕ) → AreGroups μ s c (items r) →
     is_alt (resolved_in 0 false (numbers_told μ) c r) ≡ is_alt r
-raw_alt μ (ast_group m p t) c h = refl
-raw_alt μ (ast_node r p) c h =
+raw_alt μ s (ast_group m p t) c h = refl
+raw_alt μ s (ast_node r p) c h =
     node_told is_alt false μ c r p (λ n i. refl) (λ n l i. refl) (λ n. refl) (λ n l. refl) h.0
-raw_alt μ (row label.concat ts) c h = refl
-raw_alt μ (row label.alt ts) c h = refl
-raw_alt μ (row label.expression ts) c h = refl
-raw_alt μ (row label.conditional ts) c h = refl
-raw_alt μ _ c h = refl
+raw_alt μ s (row label.concat ts) c h = refl
+raw_alt μ s (row label.alt ts) c h = refl
+raw_alt μ s (row label.expression ts) c h = refl
+raw_alt μ s (row label.conditional ts) c h = refl
+raw_alt μ s _ c h = refl
 
-same_alt : (μ : Marks) (c : ℕ) (r x : Tree) → Becomes μ c r x → is_alt r ≡ is_alt x
-same_alt μ c r x b = sym (raw_alt μ r c b.groups) ∙ ap is_alt (becomes_plain μ c r x b)
+same_alt : (μ : Marks) (s : Text) (c : ℕ) (r x : Tree) → Becomes μ s c r x → is_alt r ≡ is_alt x
+same_alt μ s c r x b = sym (raw_alt μ s r c b.groups) ∙ ap is_alt (becomes_plain μ s c r x b)
 
 -- what is no Alt is one branch
 abbrev OneBranch : Tree → Type 0
@@ -143,8 +146,8 @@ record BodyAt (μ : Marks) (d : ℕ) (k : Tree) (j : Here) (s v : Text) (t e : T
   one : Tree
   other : Tree
   derives : Body d k (st j.flags s) (done (conditional_of k one other) (st after v))
-  one_becomes : Becomes μ j.opened one t
-  other_becomes : Becomes μ (j.opened + group_count t) other e
+  one_becomes : Becomes μ s j.opened one t
+  other_becomes : Becomes μ s (j.opened + group_count t) other e
 
 closed_body : (k r : Tree) (left : ℕ) (g : Flags) (v : Text) (a b : Tree) →
     (bytes (code ")" ∷ v) == left) ≡ false → ◌≡◌ {A = Tree × Tree} (branches_of r) (a, b) →
@@ -176,7 +179,9 @@ two_body μ d k f n t u v g i x e b w =
           (closed_body k (choice (b.tree ∷ rest)) (bytes s) i v b.tree other (bar_left t u (code ")" ∷ v)) refl)
           (the_body (alternation (more b.derives refl o.derives)));
       one_becomes = b.becomes;
-      other_becomes = subst (λ r. Becomes μ (n + group_count x) r e) (sym same) w.becomes;
+      other_becomes =
+          in_longer μ (u ++ code ")" ∷ v) s (t ++ codes "|", sym (append_assoc t (codes "|") (u ++ code ")" ∷ v))) _ other e
+          (subst (λ r. Becomes μ (u ++ code ")" ∷ v) (n + group_count x) r e) (sym same) w.becomes);
     }
 
 one_body : (μ : Marks) (d : ℕ) (k : Tree) (f : Flags) (n : ℕ) (t v : Text) (g : Flags) (x : Tree) (c : ℕ) (u : Text) →
@@ -190,7 +195,7 @@ one_body μ d k f n t v g x c u e a b = record {
   derives =
       subst (Body d k (st f (t ++ code ")" ∷ v)))
       (closed_body k b.tree (bytes (t ++ code ")" ∷ v)) g v b.tree empty (some_left t (code ")" ∷ v) c u e)
-      (alone b.tree (same_alt μ n b.tree x b.becomes ∙ a)))
+      (alone b.tree (same_alt μ _ n b.tree x b.becomes ∙ a)))
       (the_body (alternation (last b.derives refl)));
   one_becomes = b.becomes;
   other_becomes = record { is = λ named k n u e. refl; count = refl; groups = tt };
@@ -253,18 +258,23 @@ conditional_at : (μ : Marks) (i : Here) (w z v : Text) (g : Flags) (c t e : Tre
     BodyAt μ i.depth b.tree (within i.depth g (i.opened + group_count c)) z v t e →
     AtomAt μ i (codes "(?((" ++ w) v (row label.conditional (more_trees c (more_trees t (more_trees e no_trees))))
 conditional_at μ i w z v g c t e l solid b y =
+    let inner_ends : EndsWith (codes "(?((" ++ w) z
+    = ends_twice (codes "(?((" ++ w) (code "(" ∷ w) z (codes "(?(", refl)
+    (ends_twice (code "(" ∷ w) (code ")" ∷ z) z (to_ends (alternation_read b.derives).span.slice) (codes ")", refl)) in
     let neither : (is_empty y.one && is_empty y.other) ≡ false
-    = ap₂ (λ p q. p && q) (same_empty μ _ y.one t y.one_becomes) (same_empty μ _ y.other e y.other_becomes) ∙ solid in
+    = ap₂ (λ p q. p && q) (same_empty μ z _ y.one t y.one_becomes) (same_empty μ z _ y.other e y.other_becomes) ∙ solid in
     let is : conditional_of b.tree y.one y.other ≡ conditional b.tree y.one y.other = cond-false _ _ _ neither in
     record {
       tree = conditional_of b.tree y.one y.other;
       derives = atom (open_ahead i.depth i.flags w l) (a_condition (inside b.derives) y.derives);
       becomes =
-          subst (λ r. Becomes μ i.opened r (row label.conditional
+          subst (λ r. Becomes μ (codes "(?((" ++ w) i.opened r (row label.conditional
           (more_trees c (more_trees t (more_trees e no_trees)))))
           (sym is)
-          (row_becomes μ label.conditional (b.tree ∷ y.one ∷ y.other ∷ []) (c ∷ t ∷ e ∷ []) i.opened
-          (b.becomes, (y.one_becomes, (y.other_becomes, tt))));
+          (row_becomes μ _ label.conditional (b.tree ∷ y.one ∷ y.other ∷ []) (c ∷ t ∷ e ∷ []) i.opened (
+            in_longer μ (code "(" ∷ w) _ (codes "(?(", refl) _ b.tree c b.becomes,
+            (in_longer μ z _ inner_ends _ y.one t y.one_becomes, (in_longer μ z _ inner_ends _ y.other e y.other_becomes, tt)),
+          ));
     }
 
 -- the setting before a look-around begins so too
@@ -321,7 +331,7 @@ module _ (μ : Marks) (h : Here) (o : h.flags.oniguruma_mode ≡ false) (d : h.d
       by_atom μ x h o d refl s _
       (λ v. subst (Begins h.flags.ignore_space) (sym (same v))
       (begins_by h.flags.ignore_space (code "(") _ refl refl refl refl))
-      (λ v y. subst (λ z. AtomAt μ i z v x) (sym (whole_text v))
+      (λ v y _. subst (λ z. AtomAt μ i z v x) (sym (whole_text v))
       (at_condition i k (b ++ code ")" ∷ v) v _ c t e d solid
       (subst (λ z. WholeAt μ (deeper i) (z ++ code ")" ∷ (b ++ code ")" ∷ v)) (flags_behind c Whole i.flags)
       (code ")" ∷ (b ++ code ")" ∷ v)) c) is (r.whole (code ")" ∷ (b ++ code ")" ∷ v)) (ends_close _ _)))

@@ -5,14 +5,14 @@ use Rattle.std.proofs.lemmas.Bool.{cond-false, or_parts, cond-true, cond_both}
 use Rattle.std.proofs.lemmas.Bool.Decides.{nat_tests}
 use Prim.Native.Char.{code}
 use Rattle.fancy_lex.specs.LayoutSteps.{layout, rest}
-use Rattle.fancy_lex.specs.Text.{Text, bytes, reach_of, cut_at}
+use Rattle.fancy_lex.specs.Text.{Text, bytes, reach_of, cut_at, EndsWith}
 use Rattle.fancy_lex.specs.declared.flags.Flags.{Flags}
 use Rattle.fancy_grammar.specs.Ahead.{with_head, ahead, behind_layout, group_ahead, behind_question, named_ahead}
 use Rattle.fancy_grammar.specs.Depth.{max_depth}
 use Rattle.fancy_grammar.specs.Grammar.{Alternation, alternation, Branches, last, more, branch_fault, Branch, branch}
 use Rattle.fancy_grammar.specs.Grammar.{Pieces, next, atom, a_read, a_group, inside}
 use Rattle.fancy_grammar.specs.Join.{join}
-use Rattle.fancy_grammar.specs.Head.{capture, scope, look, atomic, define}
+use Rattle.fancy_grammar.specs.Head.{capture, scope, look, atomic, define, Head}
 use Rattle.fancy_grammar.specs.Label as label
 use Rattle.fancy_grammar.specs.Label.{Wrap}
 use Rattle.fancy_grammar.specs.Marks.{Marks}
@@ -23,16 +23,18 @@ use Rattle.fancy_grammar.specs.State.{State, Outcome, done, fault, seen_through}
 use Rattle.fancy_grammar.specs.Tree.{Tree, over, empty, look_around, atomic_group, define_group, ast_group}
 use Rattle.fancy_grammar.specs.Writable.{IsNameWritable, name_at}
 use Rattle.fancy_grammar.specs.declared.kinds.LookAround.{LookAround}
-use Rattle.fancy_grammar.proofs.Pattern.Becomes.{Becomes}
+use Rattle.fancy_grammar.proofs.Pattern.Becomes.{Becomes, in_longer}
 use Rattle.fancy_grammar.proofs.Pattern.Letters.{changed, setting_ahead, scope_ahead, no_hash}
 use Rattle.fancy_grammar.proofs.Pattern.Rules.{Clear, Begins, begins_by, not_layout, no_question, no_star}
 use Rattle.fancy_grammar.proofs.Pattern.Rules.{AtomAt, WholeAt, Rest, lead_flags, quants_one, quant_none}
 use Rattle.fancy_grammar.proofs.OutcomeLemmas.{piece_as}
 use Rattle.fancy_grammar.proofs.ReadBack.RuleLemmas.{st}
+use Rattle.fancy_grammar.proofs.Slices.{to_ends}
 use Rattle.fancy_lex.specs.Characters.{◌∈◌, is_among}
 use Rattle.fancy_lex.specs.Delimited.{name_before}
 use Rattle.fancy_lex.specs.Reading.{gives}
 use Rattle.fancy_parts.specs.GroupName.{group_name}
+use Rattle.fancy_grammar.proofs.AheadLaws.{AheadReads, ahead_reads}
 
 -- ---- texts in parentheses
 
@@ -132,11 +134,19 @@ module _ (d : ℕ) (f : Flags) (c : ℕ) (w v : Text) (l : d + 1 < max_depth) wh
 abbrev pub inner : Flags → Here → Here
 inner g h = deeper (under g h)
 
+-- the text goes on behind a head
+head_ends : (d : ℕ) (f g : Flags) (s t : Text) (k : Head) → ahead d (st f s) ≡ with_head k (st g t) → EndsWith s t
+head_ends d f g s t k e = to_ends (subst (AheadReads (st f s)) e (ahead_reads d (st f s))).0
+
 pub reads_scope : (μ : Marks) (h : Here) (f g : Flags) (s t v : Text) (x : Tree) →
     ahead h.depth (st h.flags s) ≡ with_head scope (st f t) → WholeAt μ (inner f h) t g (code ")" ∷ v) x →
     AtomAt μ h s v x
 reads_scope μ h f g s t v x e w =
-    record { tree = w.tree; derives = atom e (a_group (inside w.derives)); becomes = w.becomes }
+    record {
+      tree = w.tree;
+      derives = atom e (a_group (inside w.derives));
+      becomes = in_longer μ t s (head_ends _ _ _ s t _ e) h.opened w.tree x w.becomes;
+    }
 
 -- nodes that hold a tree as they do when they are read
 abbrev pub IsKept : Wrap → Type 0
@@ -144,29 +154,29 @@ IsKept label.group = ⊥
 IsKept (label.ast_group name place) = ⊥
 IsKept _ = Unit {0}
 
-pub over_becomes : (μ : Marks) (w : Wrap) (c : ℕ) (r x : Tree) → IsKept w → Becomes μ c r x →
-    Becomes μ c (over w r) (over w x)
-over_becomes μ label.group c r x k b = absurd k
-over_becomes μ (label.ast_group name place) c r x k b = absurd k
-over_becomes μ (label.look_around l) c r x k b =
+pub over_becomes : (μ : Marks) (s : Text) (w : Wrap) (c : ℕ) (r x : Tree) → IsKept w → Becomes μ s c r x →
+    Becomes μ s c (over w r) (over w x)
+over_becomes μ s label.group c r x k b = absurd k
+over_becomes μ s (label.ast_group name place) c r x k b = absurd k
+over_becomes μ s (label.look_around l) c r x k b =
     record {
       is = λ named k n u e. ap (over (label.look_around l)) (b.is named k n u e);
       count = b.count;
       groups = b.groups;
     }
-over_becomes μ (label.repeat lo hi greedy) c r x k b =
+over_becomes μ s (label.repeat lo hi greedy) c r x k b =
     record {
       is = λ named k n u e. ap (over (label.repeat lo hi greedy)) (b.is named k n u e);
       count = b.count;
       groups = b.groups;
     }
-over_becomes μ label.atomic_group c r x k b =
+over_becomes μ s label.atomic_group c r x k b =
     record { is = λ named k n u e. ap (over label.atomic_group) (b.is named k n u e); count = b.count; groups = b.groups }
-over_becomes μ label.define_group c r x k b =
+over_becomes μ s label.define_group c r x k b =
     record { is = λ named k n u e. ap (over label.define_group) (b.is named k n u e); count = b.count; groups = b.groups }
-over_becomes μ label.repeater c r x k b =
+over_becomes μ s label.repeater c r x k b =
     record { is = λ named k n u e. ap (over label.repeater) (b.is named k n u e); count = b.count; groups = b.groups }
-over_becomes μ label.stopper c r x k b =
+over_becomes μ s label.stopper c r x k b =
     record { is = λ named k n u e. ap (over label.stopper) (b.is named k n u e); count = b.count; groups = b.groups }
 
 pub reads_look : (μ : Marks) (h : Here) (l : LookAround) (g : Flags) (s t v : Text) (x : Tree) →
@@ -175,7 +185,8 @@ pub reads_look : (μ : Marks) (h : Here) (l : LookAround) (g : Flags) (s t v : T
 reads_look μ h l g s t v x e w = record {
   tree = look_around w.tree l;
   derives = atom e (a_group (inside w.derives));
-  becomes = over_becomes μ (label.look_around l) h.opened w.tree x tt w.becomes;
+  becomes =
+      over_becomes μ s (label.look_around l) h.opened w.tree x tt (in_longer μ t s (head_ends _ _ _ s t _ e) h.opened w.tree x w.becomes);
 }
 
 pub reads_atomic : (μ : Marks) (h : Here) (g : Flags) (s t v : Text) (x : Tree) →
@@ -184,7 +195,8 @@ pub reads_atomic : (μ : Marks) (h : Here) (g : Flags) (s t v : Text) (x : Tree)
 reads_atomic μ h g s t v x e w = record {
   tree = atomic_group w.tree;
   derives = atom e (a_group (inside w.derives));
-  becomes = over_becomes μ label.atomic_group h.opened w.tree x tt w.becomes;
+  becomes =
+      over_becomes μ s label.atomic_group h.opened w.tree x tt (in_longer μ t s (head_ends _ _ _ s t _ e) h.opened w.tree x w.becomes);
 }
 
 pub reads_define : (μ : Marks) (h : Here) (g : Flags) (s t v : Text) (x : Tree) →
@@ -193,7 +205,8 @@ pub reads_define : (μ : Marks) (h : Here) (g : Flags) (s t v : Text) (x : Tree)
 reads_define μ h g s t v x e w = record {
   tree = define_group w.tree;
   derives = atom e (a_group (inside w.derives));
-  becomes = over_becomes μ label.define_group h.opened w.tree x tt w.becomes;
+  becomes =
+      over_becomes μ s label.define_group h.opened w.tree x tt (in_longer μ t s (head_ends _ _ _ s t _ e) h.opened w.tree x w.becomes);
 }
 
 -- a capturing group, whose name is that which the marks give it
@@ -207,7 +220,7 @@ reads_group μ h name g s t v x e is w = record {
     is =
         λ named k n u q. cond-true _ _ _ k.0 ∙ ap (over label.group) (w.becomes.is named k.1 n u q);
     count = omega (arith, w.becomes.count);
-    groups = (is, w.becomes.groups);
+    groups = (is, (in_longer μ t s (head_ends _ _ _ s t _ e) (h.opened + 1) w.tree x w.becomes).groups);
   };
 }
 
@@ -342,7 +355,11 @@ module _ (μ : Marks) (h : Here) (i m s r : Bool) (t v : Text) (k : Flags) (x : 
             (quants_one h.depth (bytes (codes "(?" ++ u)) then_flags empty empty t t o
             (quant_none (bytes (codes "(?" ++ u)) then_flags empty t c))) p)
             w.derives;
-        becomes = w.becomes;
+        becomes =
+            in_longer μ t (codes "(?" ++ u) (
+              codes "(?" ++ (letters_between h.flags then_flags ++ codes ")"),
+              sym (set_text μ h i m s r t),
+            ) h.opened w.tree x w.becomes;
       })
   set_whole false e w = subst (λ f. WholeAt μ (under f h) t k v x) (same_flags h.flags i m s r e) w
 

@@ -21,7 +21,7 @@ use Rattle.fancy_grammar.proofs.Pattern.Needed.{no_setting}
 use Rattle.fancy_grammar.proofs.Pattern.Quantifiers.{NoName, no_name}
 use Rattle.fancy_grammar.proofs.Pattern.Rules.{Clear, Begins, Stops, Ends, no_brace, ends_close, AtomAt, BranchAt}
 use Rattle.fancy_grammar.proofs.Pattern.Rules.{WholeAt}
-use Rattle.fancy_grammar.proofs.Pattern.Rules.{Rest, no_more, lead, reads_branch, reads_only}
+use Rattle.fancy_grammar.proofs.Pattern.Rules.{Rest, no_more, lead, reads_branch, reads_only, Follows, ends_no_digit}
 
 -- What the texts of a tree read as here, whatever follows: the whole of a group, a branch, a piece, and what a quantifier
 -- follows; with the flags that hold behind the first two.
@@ -34,9 +34,10 @@ pub record ReadsBy (μ : Marks) (t : Tree) (h : Here) (k0 k1 k2 k3 : Text) (g0 g
   pub whole : (v : Text) → Ends h.flags.ignore_space v → WholeAt μ h (k0 ++ v) g0 v t
   pub branch : (v : Text) → Stops h.flags.ignore_space v → BranchAt μ h (k1 ++ v) g1 v t
   pub piece : is_empty t ≡ false → (v w : Text) (g : Flags) (ys : List Tree) → Clear h.flags.ignore_space v →
+      Follows μ t v →
       Rest μ (behind t Piece h) v g w ys → Rest μ h (k2 ++ v) g w (t ∷ ys)
   pub atom : is_repeatable h.flags t ≡ true → settled h.flags t ≡ h.flags → (v : Text) →
-      NoName h.flags.ignore_space v → AtomAt μ h (k3 ++ v) v t
+      NoName h.flags.ignore_space v → Follows μ t v → AtomAt μ h (k3 ++ v) v t
 
 pub clear_name : (x : Bool) (v : Text) → Clear x v → NoName x v
 clear_name x v c = no_name x v c.no_layout (no_brace v c.no_mark)
@@ -44,27 +45,27 @@ clear_name x v c = no_name x v c.no_layout (no_brace v c.no_mark)
 -- from here on the pieces of a text are the tree, and those that follow
 abbrev pub LeadsTo : (μ : Marks) → Tree → Here → Text → Type 0
 LeadsTo μ t h s =
-    (v w : Text) (k : Flags) (ys : List Tree) → Clear h.flags.ignore_space v →
+    (v w : Text) (k : Flags) (ys : List Tree) → Clear h.flags.ignore_space v → Follows μ t v →
     Rest μ (past_groups (group_count t) h) v k w ys → Rest μ h (s ++ v) k w (t ∷ ys)
 
 abbrev pub BeginsHere : Here → Text → Type 0
 BeginsHere h s = (v : Text) → Begins h.flags.ignore_space (s ++ v)
 
 abbrev pub AtomHere : (μ : Marks) → Tree → Here → Text → Type 0
-AtomHere μ t h s = (v : Text) → NoName h.flags.ignore_space v → AtomAt μ h (s ++ v) v t
+AtomHere μ t h s = (v : Text) → NoName h.flags.ignore_space v → Follows μ t v → AtomAt μ h (s ++ v) v t
 
 module _ (μ : Marks) (t : Tree) (h : Here) (solid : is_empty t ≡ false) where
   pub one_branch : (s : Text) (g : Flags) → ((v w : Text) (k : Flags) (ys : List Tree) → Clear h.flags.ignore_space v →
-      Rest μ (past_groups (group_count t) (under g h)) v k w ys → Rest μ h (s ++ v) k w (t ∷ ys)) → (v : Text) →
+      Follows μ t v → Rest μ (past_groups (group_count t) (under g h)) v k w ys → Rest μ h (s ++ v) k w (t ∷ ys)) → (v : Text) →
       Stops h.flags.ignore_space v → g.ignore_space ≡ h.flags.ignore_space → BranchAt μ h (s ++ v) g v t
   one_branch s g p v e same =
       reads_branch μ h (s ++ v) v g (t ∷ [])
-      (p v v g [] e.clear
+      (p v v g [] e.clear (λ _. ends_no_digit v e.ends)
       (no_more μ (past_groups (group_count t) (under g h)) v (subst (λ x. Stops x v) (sym same) e)))
 
   pub atom_leads : (s : Text) → h.flags.oniguruma_mode ≡ false → BeginsHere h s → AtomHere μ t h s → LeadsTo μ t h s
-  atom_leads s o b a v w k ys c q =
-      lead μ h (s ++ v) v w k t ys o (b v) c solid (a v (clear_name h.flags.ignore_space v c)) q
+  atom_leads s o b a v w k ys c y q =
+      lead μ h (s ++ v) v w k t ys o (b v) c solid (a v (clear_name h.flags.ignore_space v c) y) q
 
 -- ---- what stands behind flags that are set for it
 
@@ -83,12 +84,12 @@ module _ (μ : Marks) (t : Tree) (h : Here) (o : h.flags.oniguruma_mode ≡ fals
       (b v))
 
   set_leads : (s : Text) → BeginsHere (under set_here h) s → LeadsTo μ t (under set_here h) s →
-      (v w : Text) (k : Flags) (ys : List Tree) → Clear h.flags.ignore_space v →
+      (v w : Text) (k : Flags) (ys : List Tree) → Clear h.flags.ignore_space v → Follows μ t v →
       Rest μ (past_groups (group_count t) (under set_here h)) v k w ys → Rest μ h (behind_set s ++ v) k w (t ∷ ys)
-  set_leads s b l v w k ys c q =
+  set_leads s b l v w k ys c y q =
       subst (λ z. Rest μ h z k w (t ∷ ys)) (sym (append_assoc (setting h.flags set_here) s v))
       (setting_rest μ h set_here.casei set_here.multi set_here.dotnl set_here.crlf (s ++ v) w k (t ∷ ys) o d (b v)
-      (l v w k ys c q))
+      (l v w k ys c y q))
 
   -- a tree that is a piece wherever it stands
   pub by_piece : (s k3 : Text) → BeginsHere (under set_here h) s → LeadsTo μ t (under set_here h) s →
@@ -108,7 +109,7 @@ module _ (μ : Marks) (t : Tree) (h : Here) (o : h.flags.oniguruma_mode ≡ fals
         whole = λ v i. reads_only μ h _ v set_here t (q v i.stops) i.no_bar;
         branch = q;
         piece =
-            λ _ v w k ys c r. p v w k ys c
+            λ _ v w k ys c y r. p v w k ys c y
             (subst (λ f. Rest μ (past_groups (group_count t) (under f h)) v k w ys) e r);
         atom = a;
       }
@@ -125,8 +126,8 @@ module _ (μ : Marks) (t : Tree) (h : Here) (o : h.flags.oniguruma_mode ≡ fals
       by_piece s k3 b (atom_leads μ t (under set_here h) solid s o b a) e
       (λ r. subst (BeginsHere h) (sym (same r)) (set_begins s b))
       (λ r u. subst (AtomHere μ t h) (sym (same r))
-      (λ v m. subst (λ w. AtomAt μ h w v t) (sym (set_none s v u))
-      (subst (λ f. AtomAt μ (under f h) (s ++ v) v t) u (a v m))))
+      (λ v m y. subst (λ w. AtomAt μ h w v t) (sym (set_none s v u))
+      (subst (λ f. AtomAt μ (under f h) (s ++ v) v t) u (a v m y))))
 
 -- ---- what stands in a group of flags where it is a piece
 
@@ -147,7 +148,7 @@ module _ (μ : Marks) (t : Tree) (h : Here) (o : h.flags.oniguruma_mode ≡ fals
 
   scope_atom : (s : Text) (g : Flags) →
       ((v : Text) → Ends h.flags.ignore_space v → WholeAt μ (inner set_in h) (s ++ v) g v t) → AtomHere μ t h (scoped s)
-  scope_atom s g w v m =
+  scope_atom s g w v m y =
       let u = s ++ code ")" ∷ v in
       subst (λ z. AtomAt μ h z v t) (sym (scope_text h.flags set_in s v))
       (reads_scope μ h set_in g (codes "(?" ++ (letters_between h.flags set_in ++ code ":" ∷ u)) u v t
@@ -172,7 +173,7 @@ module _ (μ : Marks) (t : Tree) (h : Here) (o : h.flags.oniguruma_mode ≡ fals
         whole = λ v i. reads_only μ h _ v g t (b v i.stops) i.no_bar;
         branch = b;
         piece =
-            λ _ v w k ys c r. atom_leads μ t h solid (scoped s) o (scope_begins s) a v w k ys c
+            λ _ v w k ys c y r. atom_leads μ t h solid (scoped s) o (scope_begins s) a v w k ys c y
             (subst (λ f. Rest μ (past_groups (group_count t) (under f h)) v k w ys) e r);
         atom = λ _ _. a;
       }
@@ -195,7 +196,7 @@ module _ (μ : Marks) (t : Tree) (h : Here) (o : h.flags.oniguruma_mode ≡ fals
         whole = q;
         branch = λ v i. one_branch μ t h solid (scoped s) h.flags l v i refl;
         piece =
-            λ _ v w k ys c r. l v w k ys c (subst (λ f. Rest μ (past_groups (group_count t) (under f h)) v k w ys) e r);
+            λ _ v w k ys c y r. l v w k ys c y (subst (λ f. Rest μ (past_groups (group_count t) (under f h)) v k w ys) e r);
         atom = λ _ _. a;
       }
 

@@ -42,7 +42,7 @@ use Rattle.fancy_grammar.proofs.ReadBack.RuleLemmas.{st, leaf_at}
 use Rattle.fancy_grammar.proofs.Pattern.Becomes.{Becomes}
 use Rattle.fancy_grammar.proofs.Pattern.Characters.{Spells, itself, by_escape, CaseFits, character_spells}
 use Rattle.fancy_grammar.proofs.Pattern.Characters.{reads_byte}
-use Rattle.fancy_grammar.proofs.Pattern.Rules.{Begins, begins_by, not_layout, AtomAt}
+use Rattle.fancy_grammar.proofs.Pattern.Rules.{Begins, begins_by, not_layout, AtomAt, Follows}
 
 abbrev some_verb : BacktrackingControlVerb → Text → Option (BacktrackingControlVerb × Text)
 some_verb b v = Some (b, v)
@@ -53,13 +53,13 @@ abbrev IsNoReference : Leaf → Type 0
 IsNoReference (label.ast_node r place) = ⊥
 IsNoReference _ = Unit {0}
 
-leaf_becomes : (μ : Marks) (c : ℕ) (l : Leaf) → IsNoReference l → Becomes μ c (leaf l) (leaf l)
-leaf_becomes μ c (label.ast_node r place) k = absurd k
-leaf_becomes μ c l k = record { is = λ named k n u e. refl; count = refl; groups = tt }
+leaf_becomes : (μ : Marks) (s : Text) (c : ℕ) (l : Leaf) → IsNoReference l → Becomes μ s c (leaf l) (leaf l)
+leaf_becomes μ s c (label.ast_node r place) k = absurd k
+leaf_becomes μ s c l k = record { is = λ named k n u e. refl; count = refl; groups = tt }
 
 pub reads_leaf : (μ : Marks) (h : Here) (s v : Text) (l : Leaf) → IsNoReference l →
     ahead h.depth (st h.flags s) ≡ read (done (leaf l) (st h.flags v)) → AtomAt μ h s v (leaf l)
-reads_leaf μ h s v l k e = record { tree = leaf l; derives = atom e a_read; becomes = leaf_becomes μ h.opened l k }
+reads_leaf μ h s v l k e = record { tree = leaf l; derives = atom e a_read; becomes = leaf_becomes μ s h.opened l k }
 
 -- an escape that is this leaf
 reads_escape : (μ : Marks) (h : Here) (t v : Text) (e : Escape) (l : Leaf) → IsNoReference l → leaf_node e ≡ leaf l →
@@ -128,7 +128,8 @@ begins_spelled f casei c t v (by_escape {t = w} e) = begins_escape f.ignore_spac
 -- in front of anything that no name in braces follows
 pub record LeafAt (μ : Marks) (h : Here) (t : Text) (l : Leaf) : Type 0 where
   pub reads : (v : Text) → ((p : ℕ) (negated : Bool) →
-      boundary h.flags.ignore_space p negated v ≡ gives (unnamed_boundary negated) v) → AtomAt μ h (t ++ v) v (leaf l)
+      boundary h.flags.ignore_space p negated v ≡ gives (unnamed_boundary negated) v) → Follows μ (leaf l) v →
+      AtomAt μ h (t ++ v) v (leaf l)
   pub begins : (v : Text) → Begins h.flags.ignore_space (t ++ v)
 
 pub literal_at : (μ : Marks) (h : Here) (casei : Bool) (c : ℕ) → CaseFits h.flags casei c →
@@ -137,7 +138,7 @@ literal_at μ h casei c k =
     let t = character h.flags casei c in
     let s = character_spells h.flags casei c k in
     subst (λ w. LeafAt μ h w (label.literal (c ∷ []) casei)) (sym (append-nil t)) (record {
-      reads = λ v m. reads_spelled μ h casei c t v s;
+      reads = λ v m _. reads_spelled μ h casei c t v s;
       begins = λ v. begins_spelled h.flags casei c t v s;
     })
 
@@ -146,7 +147,7 @@ pub byte_at : (μ : Marks) (h : Here) (b : ℕ) → h.flags.unicode ≡ false �
     (label.literal_bytes (b ∷ []))
 byte_at μ h b u l k = record {
   reads =
-      λ v m. reads_escape μ h _ v (escaped.literal_bytes b) (label.literal_bytes (b ∷ [])) tt refl
+      λ v m _. reads_escape μ h _ v (escaped.literal_bytes b) (label.literal_bytes (b ∷ [])) tt refl
       (reads_byte h.flags b v u l k);
   begins = λ v. begins_escape h.flags.ignore_space _;
 }
@@ -157,7 +158,7 @@ byte_at μ h b u l k = record {
 letter_at : (μ : Marks) (h : Here) (c : ℕ) (e : Escape) (l : Leaf) → IsNoReference l → leaf_node e ≡ leaf l →
     ((v : Text) → escape h.flags false (c ∷ v) ≡ gives e v) → LeafAt μ h (code "\\" ∷ c ∷ []) l
 letter_at μ h c e l k same q = record {
-  reads = λ v m. reads_escape μ h (c ∷ v) v e l k same (q v);
+  reads = λ v m _. reads_escape μ h (c ∷ v) v e l k same (q v);
   begins = λ v. begins_escape h.flags.ignore_space (c ∷ v);
 }
 
@@ -231,7 +232,7 @@ newline_at μ h u e =
 alone_at : (μ : Marks) (h : Here) (c : ℕ) (l : Leaf) → IsNoReference l → ((x : Bool) (v : Text) → Begins x (c ∷ v)) →
     ((v : Text) → ahead h.depth (st h.flags (c ∷ v)) ≡ read (done (leaf l) (st h.flags v))) → LeafAt μ h (c ∷ []) l
 alone_at μ h c l k b q = record {
-  reads = λ v m. reads_leaf μ h (c ∷ v) v l k (q v);
+  reads = λ v m _. reads_leaf μ h (c ∷ v) v l k (q v);
   begins = λ v. b h.flags.ignore_space v;
 }
 
@@ -324,7 +325,7 @@ boundary_at : (μ : Marks) (h : Here) (t : Text) (a : Assertion) →
     boundary h.flags.ignore_space p negated v ≡ gives (unnamed_boundary negated) v) →
     escape h.flags false (t ++ v) ≡ gives (escaped.assertion a) v) → LeafAt μ h (code "\\" ∷ t) (label.assertion a)
 boundary_at μ h t a q = record {
-  reads = λ v m. reads_escape μ h (t ++ v) v (escaped.assertion a) (label.assertion a) tt refl (q v m);
+  reads = λ v m _. reads_escape μ h (t ++ v) v (escaped.assertion a) (label.assertion a) tt refl (q v m);
   begins = λ v. begins_escape h.flags.ignore_space (t ++ v);
 }
 
@@ -383,7 +384,7 @@ begins_paren x c t e = begins_by x (code "(") (c ∷ t) (rw e refl) refl refl re
 verb_leaf : (μ : Marks) (h : Here) (t : Text) (b : BacktrackingControlVerb) → h.depth + 1 < max_depth →
     ((v : Text) → verb_at (t ++ v) ≡ some_verb b v) → LeafAt μ h (codes "(*" ++ t) (label.verb b)
 verb_leaf μ h t b l q = record {
-  reads = λ v m. verb_head μ h t v b l (q v);
+  reads = λ v m _. verb_head μ h t v b l (q v);
   begins = λ v. begins_paren h.flags.ignore_space (code "*") (t ++ v) refl;
 }
 
@@ -420,12 +421,12 @@ verb_leaf_at μ h Prune l = verb_leaf μ h (codes "PRUNE)") Prune l prune_read
 pub source_at : (μ : Marks) (h : Here) (s : Text) (casei : Bool) (t : Text) → IsSource h.flags s casei t →
     LeafAt μ h t (label.delegate s casei)
 source_at μ h s casei t (an_escape {t = w} e) = record {
-  reads = λ v m. reads_escape μ h (w ++ v) v (escaped.delegate s casei) (label.delegate s casei) tt refl (e v);
+  reads = λ v m _. reads_escape μ h (w ++ v) v (escaped.delegate s casei) (label.delegate s casei) tt refl (e v);
   begins = λ v. begins_escape h.flags.ignore_space (w ++ v);
 }
 source_at μ h s casei t (a_class {t = w} same e) = record {
   reads =
-      λ v m. reads_leaf μ h (code "[" ∷ (w ++ v)) v (label.delegate s casei) tt
+      λ v m _. reads_leaf μ h (code "[" ∷ (w ++ v)) v (label.delegate s casei) tt
       (leaf_at h.depth h.flags (code "[") (w ++ v) refl refl
       ∙ ap (λ o. read (leaf_outcome (λ u. leaf (label.delegate u h.flags.casei)) (st h.flags (code "[" ∷ (w ++ v))) o))
       (e v)
@@ -438,11 +439,11 @@ source_at μ h s casei t (a_class {t = w} same e) = record {
 pub clear_at : (μ : Marks) (h : Here) → h.depth + 1 < max_depth → LeafAt μ h (codes "(?~|)") label.clear
 clear_at μ h l = record {
   reads =
-      λ v m. record {
+      λ v m _. record {
         tree = leaf label.clear;
         derives =
             atom (question_at h.depth h.flags (codes "~|)" ++ v) l) (one_branch (branch (stop refl)) refl);
-        becomes = leaf_becomes μ h.opened label.clear tt;
+        becomes = leaf_becomes μ _ h.opened label.clear tt;
       };
   begins = λ v. begins_by h.flags.ignore_space (code "(") _ refl refl refl refl;
 }

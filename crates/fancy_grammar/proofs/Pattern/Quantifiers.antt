@@ -132,6 +132,7 @@ pub record Counted (x : Bool) (lo hi : ℕ) (s q : Text) : Type 0 where
   pub braces : Bool
   pub counted : counts x q ≡ counts_and_rest lo hi braces s
   pub no_layout : layout x q ≡ rest q
+  pub no_digit : at_digit q ≡ false
   pub no_name : NoName x q
 
 digit_first : (ds s : Text) → IsNumeral 10 ds → at_count (ds ++ s) ≡ true
@@ -159,17 +160,19 @@ brace_counted x lo hi n w r s h q e =
       braces = true;
       counted = ap (braced_counts x) same ∙ e;
       no_layout = at_character x (code "{") _ refl refl;
+      no_digit = refl;
       no_name = subst (λ y. NoName x (code "{" ∷ y)) (sym same) (brace_name x (decimal n) (w ++ code "}" ∷ s) numeral);
     }
 
 sign_counted : (x : Bool) (lo hi l h c : ℕ) (s : Text) → lo ≡ l → hi ≡ h →
     counts x (c ∷ s) ≡ counts_and_rest l h false s → layout x (c ∷ s) ≡ rest (c ∷ s) →
-    strip (code "{") (c ∷ s) ≡ None → Counted x lo hi s ((c ∷ []) ++ s)
-sign_counted x lo hi l h c s a b e o n =
+    strip (code "{") (c ∷ s) ≡ None → is_ascii_digit c ≡ false → Counted x lo hi s ((c ∷ []) ++ s)
+sign_counted x lo hi l h c s a b e o n z =
     record {
       braces = false;
       counted = e ∙ same_counts l h lo hi false s a b;
       no_layout = o;
+      no_digit = z;
       no_name = no_name x (c ∷ s) o n;
     }
 
@@ -192,15 +195,15 @@ module _ (x : Bool) (lo hi : ℕ) (s : Text) (l : lo < 2 ^ 64) (h : hi < 2 ^ 64)
       cond_both ((lo == 0) && (hi == 1)) _ _ (λ o. Counted x lo hi s (counts_as lo hi o ++ s))
       (λ e. let (a, b) = and_parts _ _ e in
       sign_counted x lo hi 0 1 (code "?") s (eqb-true lo 0 a) (eqb-true hi 1 b) refl
-      (at_character x (code "?") s refl refl) refl)
+      (at_character x (code "?") s refl refl) refl refl)
       (λ _. cond_both ((lo == 0) && (hi == most)) _ _ (λ o. Counted x lo hi s (counts_as lo hi o ++ s))
       (λ e. let (a, b) = and_parts _ _ e in
       sign_counted x lo hi 0 most (code "*") s (eqb-true lo 0 a) (eqb-true hi most b) refl
-      (at_character x (code "*") s refl refl) refl)
+      (at_character x (code "*") s refl refl) refl refl)
       (λ _. cond_both ((lo == 1) && (hi == most)) _ _ (λ o. Counted x lo hi s (counts_as lo hi o ++ s))
       (λ e. let (a, b) = and_parts _ _ e in
       sign_counted x lo hi 1 most (code "+") s (eqb-true lo 1 a) (eqb-true hi most b) refl
-      (at_character x (code "+") s refl refl) refl)
+      (at_character x (code "+") s refl refl) refl refl)
       (λ _. range_counted)))
 
 -- ---- the marks behind the counts
@@ -304,11 +307,11 @@ text_counted f possessive lo hi greedy v o l h =
 
 -- ---- an atom under it, before the pieces that follow
 
-over_quantified : (μ : Marks) (possessive : Bool) (c : ℕ) (r x : Tree) (lo hi : ℕ) (greedy : Bool) → Becomes μ c r x →
-    Becomes μ c (quantified_tree possessive r lo hi greedy) (quantified_tree possessive x lo hi greedy)
-over_quantified μ true c r x lo hi greedy b =
-    over_becomes μ atomic c _ _ tt (over_becomes μ (repeated lo hi greedy) c r x tt b)
-over_quantified μ false c r x lo hi greedy b = over_becomes μ (repeated lo hi greedy) c r x tt b
+over_quantified : (μ : Marks) (s : Text) (possessive : Bool) (c : ℕ) (r x : Tree) (lo hi : ℕ) (greedy : Bool) → Becomes μ s c r x →
+    Becomes μ s c (quantified_tree possessive r lo hi greedy) (quantified_tree possessive x lo hi greedy)
+over_quantified μ s true c r x lo hi greedy b =
+    over_becomes μ s atomic c _ _ tt (over_becomes μ s (repeated lo hi greedy) c r x tt b)
+over_quantified μ s false c r x lo hi greedy b = over_becomes μ s (repeated lo hi greedy) c r x tt b
 
 solid_quantified : (possessive : Bool) (x : Tree) (lo hi : ℕ) (greedy : Bool) →
     is_empty (quantified_tree possessive x lo hi greedy) ≡ false
@@ -328,10 +331,10 @@ pub lead_quantified : (μ : Marks) (h : Here) (s q v w : Text) (g : Flags) (x : 
     AtomAt μ h s q x → Rest μ (past_groups (group_count x) h) v g w ys →
     Rest μ h s g w (quantified_tree possessive x lo hi greedy ∷ ys)
 lead_quantified μ h s q v w g x ys possessive lo hi greedy o b c r m a k =
-    let e = stays_repeatable μ h.flags h.opened a.tree x a.becomes r in
+    let e = stays_repeatable μ s h.flags h.opened a.tree x a.becomes r in
     lead_piece μ h s v w g (quantified_tree possessive a.tree lo hi greedy)
     (quantified_tree possessive x lo hi greedy) ys b
-    (solid_quantified possessive x lo hi greedy) (over_quantified μ possessive h.opened a.tree x lo hi greedy a.becomes)
+    (solid_quantified possessive x lo hi greedy) (over_quantified μ s possessive h.opened a.tree x lo hi greedy a.becomes)
     (piece_as b.clear.no_layout a.derives
     (quants_one h.depth (bytes s) h.flags a.tree _ q v o
     (quant_read (bytes s) h.flags a.tree q v possessive lo hi greedy o c e m)))

@@ -1,4 +1,4 @@
--- References that are written by the name of their group, or by a distance.
+-- Back references in digits or by the name of their group, and calls by a name or by a distance.
 use Rattle.std.proofs.Common.{◌≡◌, ℕ, Bool, true, false, not, ◌&&◌, ◌||◌, ◌==◌, nat_le, [], ◌∷◌, ◌++◌, List, codes, ◌^◌}
 use Rattle.std.proofs.Common.{Option, Some, None, is_some, is_none, refl, sym, ap, ◌∙◌, subst, append_assoc, arith, ◌-◌}
 use Rattle.std.proofs.Common.{if◌then◌else◌, IfSome, option_map, decimal, append-nil, ne_eqb, eqb-true, nat_lt, suc}
@@ -12,19 +12,20 @@ use Rattle.std.specs.Ordering.{int_eq}
 use Prim.Native.Char.{code}
 use Rattle.fancy_lex.specs.Characters.{is_among, ◌∈◌}
 use Rattle.fancy_lex.specs.Delimited.{marked_name, name_before}
-use Rattle.fancy_lex.specs.Escape.{escape, escape_at, lone_escape, outside, call_escape}
+use Rattle.fancy_lex.specs.Escape.{escape, escape_at, lone_escape, outside, call_escape, number_escape}
 use Rattle.fancy_lex.specs.EscapeReference as escapes
 use Rattle.fancy_lex.specs.EscapeReference.{is_relative, subroutine_call, marked_call, written_call}
 use Rattle.fancy_lex.specs.EscapeReference.{call_target}
 use Rattle.fancy_lex.specs.Escaped as escaped
 use Rattle.fancy_lex.specs.Id.{is_id_char, id_run, id, nonempty_front}
 use Rattle.fancy_lex.specs.IdReference.{id_alone, id_reference, with_id, amount, amount_alone, amount_bound, with_sign}
+use Rattle.fancy_lex.specs.Number.{at_digit}
 use Rattle.fancy_lex.specs.Number as numbers
 use Rattle.fancy_lex.specs.NumberText.{number_text, whole_number, is_nothing}
 use Rattle.fancy_lex.specs.Reading.{gives, choose}
 use Rattle.fancy_lex.specs.Referred.{reference_to, call_to, target_of_name, number_or_name, reference_of}
 use Rattle.fancy_lex.specs.Referred.{written_reference, reference_by_name}
-use Rattle.fancy_lex.specs.Target.{by_name, Target, relative}
+use Rattle.fancy_lex.specs.Target.{by_name, Target, relative, by_number}
 use Rattle.fancy_lex.specs.Text.{Text, reach_of, strip}
 use Rattle.fancy_lex.specs.declared.flags.Flags.{Flags}
 use Rattle.fancy_lex.proofs.AsciiLemmas.{other_told}
@@ -43,7 +44,8 @@ use Rattle.fancy_grammar.specs.Marks.{Marks}
 use Rattle.fancy_grammar.specs.Pattern.{Here, group_count}
 use Rattle.fancy_grammar.specs.Resolved.{reference_node}
 use Rattle.fancy_grammar.specs.Tree.{leaf, ast_node}
-use Rattle.fancy_grammar.proofs.Pattern.Becomes.{Becomes, numbers_told, is_by_number}
+use Rattle.fancy_grammar.specs.Writable.{IsBackrefWritable}
+use Rattle.fancy_grammar.proofs.Pattern.Becomes.{Becomes, numbers_told, is_by_number, IsAsMarked}
 use Rattle.fancy_grammar.proofs.Pattern.Leaves.{LeafAt}
 use Rattle.fancy_grammar.proofs.Pattern.Quantifiers.{number_read}
 use Rattle.fancy_grammar.proofs.Pattern.Rules.{Begins, begins_by, AtomAt}
@@ -280,15 +282,15 @@ module _ (sign k : ℕ) (z : ℤ) (is_sign : sign ∈ "+-" ≡ true) (small : su
 
 -- ---- what it means
 
-reference_becomes : (μ : Marks) (c : ℕ) (r : AstReference) (p k : ℕ) (l : Leaf) →
-    means (numbers_told μ) c (role_of r) (target_of r) ≡ number k → is_by_number (target_of r) ≡ false →
-    ((n : ℕ) → reference_node n (number k) r p ≡ leaf l) → group_count (leaf l) ≡ 0 → Becomes μ c (ast_node r p) (leaf l)
-reference_becomes μ c r p k l meant named same count = record {
+reference_becomes : (μ : Marks) (s : Text) (c : ℕ) (r : AstReference) (p k : ℕ) (l : Leaf) →
+    means (numbers_told μ) c (role_of r) (target_of r) ≡ number k → IsAsMarked μ s r p →
+    ((n : ℕ) → reference_node n (number k) r p ≡ leaf l) → group_count (leaf l) ≡ 0 → Becomes μ s c (ast_node r p) (leaf l)
+reference_becomes μ s c r p k l meant marked same count = record {
   is =
       λ _ _ n u e. (λ i. reference_node n (means (λ w. e w i) c (role_of r) (target_of r)) r p)
       ∙ (ap (λ m. reference_node n m r p) meant ∙ same n);
   count = sym count;
-  groups = (record { group = k; meant = meant; named = named }, tt);
+  groups = (record { group = k; meant = meant }, marked, tt);
 }
 
 -- the group of the number has a plain name, whose numbers are such
@@ -346,11 +348,14 @@ begins_reference x t = begins_by x (code "\\") t refl refl refl refl
 reference_text : (w v : Text) → (code "<" ∷ (w ++ codes ">")) ++ v ≡ code "<" ∷ (w ++ code ">" ∷ v)
 reference_text w v = ap (λ z. code "<" ∷ z) (append_assoc w (codes ">") v)
 
-module _ (μ : Marks) (h : Here) (none : μ.numeric_capture_group_references ≡ false)
-    (numbered : (k : ℕ) → IfSome (name_of μ k) (λ e. e.1 ≡ numbers_told μ e.0)) where
-  pub backref_at : (n : ℕ) → is_some (fit_name μ (λ l. is_last n l && nat_le n h.opened) n) ≡ true →
+module _ (μ : Marks) (h : Here) (numbered : (k : ℕ) → IfSome (name_of μ k) (λ e. e.1 ≡ numbers_told μ e.0))
+    (none : μ.numeric_capture_group_references ≡ false) where
+  not_in_digits : (r : AstReference) (p : ℕ) (s : Text) → is_by_number (target_of r) ≡ false → IsAsMarked μ s r p
+  not_in_digits r p s e = record { number = e ∙ sym none; digits = λ y. absurd (false≢true (sym e ∙ y)) }
+
+  backref_by_name : (n : ℕ) → is_some (fit_name μ (λ l. is_last n l && nat_le n h.opened) n) ≡ true →
       LeafAt μ h (backref_text μ h.opened n) (label.backref n h.flags.casei)
-  backref_at n k =
+  backref_by_name n k =
       let such = λ (l : List ℕ). is_last n l && nat_le n h.opened in
       let q = fits μ such n (numbered n) k in
       let (last, early) = and_parts (is_last n (numbers_told μ q.name)) (nat_le n h.opened) q.are_such in
@@ -361,7 +366,7 @@ module _ (μ : Marks) (h : Here) (none : μ.numeric_capture_group_references ≡
       = cond-false _ _ _ none ∙ ap (λ o. codes "\\k<" ++ (choose o (λ w. w) (decimal n) ++ codes ">")) q.fit in
       subst (λ t. LeafAt μ h t (label.backref n h.flags.casei)) (sym text) (record {
         reads =
-            λ v m. let t = in_marks q.name q.plain v in
+            λ v m _. let t = in_marks q.name q.plain v in
             subst (λ z. AtomAt μ h (codes "\\k" ++ z) v (leaf (label.backref n h.flags.casei)))
             (sym (reference_text q.name v)) (record {
               tree = ast_node r (reach_of t);
@@ -372,7 +377,8 @@ module _ (μ : Marks) (h : Here) (none : μ.numeric_capture_group_references ≡
                   (backref_read q.name q.plain v h.flags))
                   a_read;
               becomes =
-                  reference_becomes μ h.opened r (reach_of t) n (label.backref n h.flags.casei) meant refl (λ _. refl) refl;
+                  reference_becomes μ _ h.opened r (reach_of t) n (label.backref n h.flags.casei) meant
+                  (not_in_digits r (reach_of t) _ refl) (λ _. refl) refl;
             });
         begins = λ v. begins_reference h.flags.ignore_space _;
       })
@@ -384,7 +390,7 @@ module _ (μ : Marks) (h : Here) (none : μ.numeric_capture_group_references ≡
       LeafAt μ h (marked (codes "\\g") w) (label.subroutine_call n)
   call_by n w target name called meant named = record {
     reads =
-        λ v m. let t = code "<" ∷ (w ++ code ">" ∷ v) in
+        λ v m _. let t = code "<" ∷ (w ++ code ">" ∷ v) in
         subst (λ z. AtomAt μ h (codes "\\g" ++ z) v (leaf (label.subroutine_call n))) (sym (reference_text w v)) (record {
           tree = ast_node (ast_call target) (reach_of t);
           derives =
@@ -394,7 +400,8 @@ module _ (μ : Marks) (h : Here) (none : μ.numeric_capture_group_references ≡
               (call_read_by h.flags w v target (name v) called))
               a_read;
           becomes =
-              reference_becomes μ h.opened (ast_call target) (reach_of t) n (label.subroutine_call n) meant named (λ _. refl)
+              reference_becomes μ _ h.opened (ast_call target) (reach_of t) n (label.subroutine_call n) meant
+              (not_in_digits (ast_call target) (reach_of t) _ named) (λ _. refl)
               refl;
         });
     begins = λ v. begins_reference h.flags.ignore_space _;
@@ -444,3 +451,55 @@ module _ (μ : Marks) (h : Here) (none : μ.numeric_capture_group_references ≡
           (distance_marked (code "-") k (negsuc k) refl small refl refl)
           (distance_called (code "-") k (negsuc k) refl small refl refl)
           (ap (group_or_none call) (cond-true _ _ _ near) ∙ ap number same) refl)
+
+-- ---- in digits
+
+digits_escape : (f : Flags) (ds v : Text) → IsNumeral 10 ds →
+    escape f false (ds ++ v) ≡ number_escape f false (reach_of (ds ++ v) + 1) (ds ++ v)
+unfolding escape_at
+digits_escape f [] v h = absurd (omega (arith, h.0))
+digits_escape f (d ∷ ds) v h = cond-true _ _ _ ((digit_is d h.1.0).0)
+
+digits_read_as : (f : Flags) (p n : ℕ) (v : Text) → n < 2 ^ 64 → at_digit v ≡ false →
+    number_escape f false p (decimal n ++ v)
+    ≡ gives (escaped.backref (reference_to (reach_of (decimal n ++ v)) (by_number n) None) f.casei) v
+unfolding number_escape escapes.numbered_reference escapes.group_number
+digits_read_as f p n v h d = rw (number_read n v h d, lt-ltb n (2 ^ 64) h) refl
+
+module _ (μ : Marks) (h : Here) where
+  backref_in_digits : (n : ℕ) → μ.numeric_capture_group_references ≡ true → n < 2 ^ 64 →
+      LeafAt μ h (backref_text μ h.opened n) (label.backref n h.flags.casei)
+  backref_in_digits n e l =
+      let r = ast_backref (by_number n) h.flags.casei None in
+      subst (λ t. LeafAt μ h t (label.backref n h.flags.casei)) (sym (cond-true _ _ _ e)) (record {
+        reads =
+            λ v m y. let t = decimal n ++ v in
+            record {
+              tree = ast_node r (reach_of t);
+              derives =
+                  atom
+                  (leaf_at h.depth h.flags (code "\\") t refl refl
+                  ∙ ap (λ o. read (leaf_outcome leaf_node (st h.flags (code "\\" ∷ t)) o))
+                  (digits_escape h.flags (decimal n) v ((decimal_is_IsNumeral n l).0)
+                  ∙ digits_read_as h.flags (reach_of t + 1) n v l (y e)))
+                  a_read;
+              becomes =
+                  reference_becomes μ _ h.opened r (reach_of t) n (label.backref n h.flags.casei) refl
+                  (record {
+                    number = sym e;
+                    digits = λ _. record { role = refl; digits = t; ends = ([], refl); reach = refl };
+                  }) (λ _. refl) refl;
+            };
+        begins = λ v. begins_reference h.flags.ignore_space _;
+      })
+
+  -- in digits, or by its group's name
+  pub backref_at : ((k : ℕ) → IfSome (name_of μ k) (λ e. e.1 ≡ numbers_told μ e.0)) → (n : ℕ) →
+      IsBackrefWritable μ.numeric_capture_group_references μ h.opened n →
+      LeafAt μ h (backref_text μ h.opened n) (label.backref n h.flags.casei)
+  backref_at numbered n k = by_mode μ.numeric_capture_group_references refl k
+    where
+      by_mode : (b : Bool) → μ.numeric_capture_group_references ≡ b → IsBackrefWritable b μ h.opened n →
+          LeafAt μ h (backref_text μ h.opened n) (label.backref n h.flags.casei)
+      by_mode true e l = backref_in_digits n e l
+      by_mode false e l = backref_by_name μ h numbered e n l

@@ -70,14 +70,14 @@ module _ (μ : Marks) where
 
       quantified_leads : LeadsTo μ (quantified_tree possessive t lo hi greedy) i
           (repeated possessive t lo hi greedy (written μ t) Whole i)
-      quantified_leads v w k ys c q =
+      quantified_leads v w k ys c y q =
           let counted = text_counted i.flags possessive lo hi greedy v o low high in
           let x = quantified_tree possessive t lo hi greedy in
           let s = written μ t (Operand zero) i in
           subst (λ z. Rest μ i (z ++ v) k w (x ∷ ys)) (sym (repeated_is possessive t lo hi greedy i o))
           (subst (λ z. Rest μ i z k w (x ∷ ys)) (sym (append_assoc s mark v))
           (lead_quantified μ i (s ++ (mark ++ v)) (mark ++ v) v w k t ys possessive lo hi greedy o
-          (r.atom_begins rep (mark ++ v)) c rep counted (r.atom rep none (mark ++ v) counted.no_name)
+          (r.atom_begins rep (mark ++ v)) c rep counted (r.atom rep none (mark ++ v) counted.no_name (λ _. counted.no_digit))
           (subst (λ n. Rest μ (past_groups n i) v k w ys) (same_count possessive t lo hi greedy) q)))
 
     -- a Repeat is all that stands in a group
@@ -108,11 +108,11 @@ module _ (μ : Marks) where
       operand : (x : Tree) (s : Text) → is_empty x ≡ false → settled h.flags x ≡ settled h.flags t →
           AtomHere μ x here s →
           settled h.flags x ≡ h.flags → AtomHere μ x h (setting h.flags (settled h.flags t) ++ s)
-      operand x s solid same a u v k =
+      operand x s solid same a u v k y =
           let e = sym same ∙ u in
           subst (λ w. AtomAt μ h w v x)
           (sym (ap (λ f. (setting h.flags f ++ s) ++ v) e ∙ ap (λ w. (w ++ s) ++ v) (no_setting h.flags)))
-          (subst (λ f. AtomAt μ (under f h) (s ++ v) v x) e (a v k))
+          (subst (λ f. AtomAt μ (under f h) (s ++ v) v x) e (a v k y))
 
       pub repeat_reads : ReadsTree μ (over (label.repeat lo hi greedy) t) h
       repeat_reads =
@@ -128,7 +128,7 @@ module _ (μ : Marks) where
           (λ v. subst (Begins h.flags.ignore_space) (sym (same v))
           (begins_by h.flags.ignore_space (code "(") _ refl refl refl refl)))
           (λ _. operand x (in_head (codes "?:")) refl refl
-          (λ v k. subst (λ w. AtomAt μ here w v x) (sym (same v))
+          (λ v k _. subst (λ w. AtomAt μ here w v x) (sym (same v))
           (reads_scope μ here here.flags here.flags _ (inside v) v x (plain_scope_at h.depth here.flags (inside v) d)
           (repeat_whole (deeper here) o repeatable_here again r1 (code ")" ∷ v) (ends_close h.flags.ignore_space v)))))
 
@@ -150,7 +150,7 @@ module _ (μ : Marks) where
           (λ v. subst (Begins h.flags.ignore_space) (sym (same v))
           (begins_by h.flags.ignore_space (code "(") _ refl refl refl refl)))
           (λ _. operand x (in_head (codes "?>")) refl refl
-          (λ v k. subst (λ w. AtomAt μ here w v x) (sym (same v))
+          (λ v k _. subst (λ w. AtomAt μ here w v x) (sym (same v))
           (reads_atomic μ here here.flags _ (inside v) v (over (label.repeat lo hi greedy) t)
           (question_at h.depth here.flags (codes ">" ++ inside v) d)
           (repeat_whole (deeper here) o repeatable_here again r1 (code ")" ∷ v) (ends_close h.flags.ignore_space v)))))

@@ -1,6 +1,6 @@
 -- A Concat, and an Alt, read back where the trees below them do.
 use Rattle.std.proofs.Common.{◌≡◌, ◌+◌, ◌<◌, Bool, false, [], ◌∷◌, ◌++◌}
-use Rattle.std.proofs.Common.{refl, sym, ap, ◌∙◌, subst, arith, append_assoc, ℕ}
+use Rattle.std.proofs.Common.{refl, sym, ap, ◌∙◌, subst, arith, append_assoc, ℕ, codes, true, if◌then◌else◌}
 use Prim.Native.Char.{code}
 use Rattle.fancy_lex.specs.Text.{Text}
 use Rattle.fancy_lex.specs.declared.flags.Flags.{Flags}
@@ -11,10 +11,10 @@ use Rattle.fancy_grammar.specs.Marks.{Marks}
 use Rattle.fancy_grammar.specs.Pattern.{Here, behind, flags_behind, flags_behind_all, written}
 use Rattle.fancy_grammar.specs.Pattern.{written_all, written_branches, written_barred, is_in_digits, group_count}
 use Rattle.fancy_grammar.specs.PatternNeeds.{settled}
-use Rattle.fancy_grammar.specs.Tree.{Tree, leaf, row, Trees, no_trees, more_trees, levels, levels_all, list_of}
+use Rattle.fancy_grammar.specs.Tree.{Tree, row, Trees, no_trees, more_trees, levels, levels_all, list_of}
 use Rattle.fancy_grammar.specs.Tree.{concat}
 use Rattle.fancy_grammar.specs.Tree.{trees_of}
-use Rattle.fancy_grammar.specs.Writable.{IsLike}
+use Rattle.fancy_grammar.specs.Writable.{IsLike, IsParted}
 use Rattle.fancy_grammar.specs.declared.precedence.Precedence.TheVariants.{Branch, Piece}
 use Rattle.fancy_grammar.proofs.NeedsLemmas.{listed}
 use Rattle.fancy_grammar.proofs.Pattern.Cases.{ReadsTree}
@@ -22,8 +22,9 @@ use Rattle.fancy_grammar.proofs.Pattern.Groups.{inner}
 use Rattle.fancy_grammar.proofs.Pattern.Induction.{by_branch, by_whole}
 use Rattle.fancy_grammar.proofs.Pattern.Needed.{like_behind}
 use Rattle.fancy_grammar.proofs.Pattern.Rules.{Clear, Begins, Stops, Ends, stops_bar, BranchAt, BranchesAt, WholeAt}
-use Rattle.fancy_grammar.proofs.Pattern.Rules.{Rest, no_more}
+use Rattle.fancy_grammar.proofs.Pattern.Rules.{Rest, no_more, ends_no_digit}
 use Rattle.fancy_grammar.proofs.Pattern.Rules.{reads_branch, reads_last, reads_more, reads_whole, reads_only}
+use Rattle.fancy_lex.specs.Number.{at_digit}
 
 module _ (μ : Marks) (f : Flags) (mode : f.oniguruma_mode ≡ false) where
   -- behind the openings of c groups the tree reads back wherever it stands, less deep than it has levels to spare
@@ -33,7 +34,8 @@ module _ (μ : Marks) (f : Flags) (mode : f.oniguruma_mode ≡ false) where
 
   abbrev pub EachPiece : ℕ → Trees → Type 0
   EachPiece c no_trees = Unit {0}
-  EachPiece c (more_trees t ts) = Everywhere c t × (is_empty t ≡ false) × EachPiece (c + group_count t) ts
+  EachPiece c (more_trees t ts) =
+      Everywhere c t × (is_empty t ≡ false) × IsParted μ t ts × EachPiece (c + group_count t) ts
 
   abbrev pub EachBranch : ℕ → Trees → Type 0
   EachBranch c no_trees = Unit {0}
@@ -48,74 +50,86 @@ module _ (μ : Marks) (f : Flags) (mode : f.oniguruma_mode ≡ false) where
 
   -- ---- pieces
 
-  -- no reference is written in digits
-  abbrev pub NoDigits : Type 0
-  NoDigits = μ.numeric_capture_group_references ≡ false
+  -- where no digit follows, nothing parts it from a reference in digits
+  front_digit : (s v : Text) → at_digit (s ++ v) ≡ false → at_digit s ≡ false
+  front_digit [] v h = refl
+  front_digit (c ∷ s) v h = h
 
-  not_digits : (none : NoDigits) (t : Tree) → is_in_digits μ t ≡ false
-  not_digits none (leaf (label.backref k casei)) = none
-  not_digits none _ = refl
+  both_digit : (s v : Text) → at_digit s ≡ false → at_digit v ≡ false → at_digit (s ++ v) ≡ false
+  both_digit [] v h k = k
+  both_digit (c ∷ s) v h k = h
+
+  unparted : (b : Bool) (ts : Trees) (h : Here) → (b ≡ true → at_digit (written_all μ false ts h) ≡ false) →
+      written_all μ b ts h ≡ written_all μ false ts h
+  unparted b no_trees h k = refl
+  unparted false (more_trees t ts) h k = refl
+  unparted true (more_trees t ts) h k =
+      let s = written μ t Piece h in
+      let v = written_all μ (is_in_digits μ t) ts (behind t Piece h) in
+      ap (λ b. (if b then codes "(?#)" ++ s else s) ++ v) (front_digit s v (k refl))
 
   -- the first of some pieces, before the others
-  pieces_text : (none : NoDigits) (t : Tree) (ts : Trees) (h : Here) (v : Text) →
+  pieces_text : (t : Tree) (ts : Trees) → IsParted μ t ts → (h : Here) (v : Text) →
       written_all μ false (more_trees t ts) h ++ v
       ≡ written μ t Piece h ++ (written_all μ false ts (behind t Piece h) ++ v)
-  pieces_text none t ts h v =
-      ap (λ b. (written μ t Piece h ++ written_all μ b ts (behind t Piece h)) ++ v) (not_digits none t)
+  pieces_text t ts k h v =
+      ap (λ z. (written μ t Piece h ++ z) ++ v)
+      (unparted (is_in_digits μ t) ts (behind t Piece h) (λ e. k e (behind t Piece h)))
       ∙ append_assoc (written μ t Piece h) (written_all μ false ts (behind t Piece h)) v
 
   like_next : (t : Tree) (h : Here) → IsLike f h.flags → IsLike f (behind t Piece h).flags
   like_next t h e = like_behind t Piece f h.flags e
 
-  pieces_begin : (none : NoDigits) (t : Tree) (ts : Trees) (h : Here) → EachPiece h.opened (more_trees t ts) →
+  pieces_begin : (t : Tree) (ts : Trees) (h : Here) → EachPiece h.opened (more_trees t ts) →
       IsLike f h.flags →
       h.depth + levels_all (more_trees t ts) < max_depth → (v : Text) →
       Begins h.flags.ignore_space (written_all μ false (more_trees t ts) h ++ v)
-  pieces_begin none t ts h k e d v =
-      subst (Begins h.flags.ignore_space) (sym (pieces_text none t ts h v))
+  pieces_begin t ts h k e d v =
+      subst (Begins h.flags.ignore_space) (sym (pieces_text t ts k.2 h v))
       ((k.0 h refl e (omega arith)).begins k.1 (written_all μ false ts (behind t Piece h) ++ v))
 
-  pieces_clear : (none : NoDigits) (ts : Trees) (h : Here) → EachPiece h.opened ts → IsLike f h.flags →
+  pieces_clear : (ts : Trees) (h : Here) → EachPiece h.opened ts → IsLike f h.flags →
       h.depth + levels_all ts < max_depth →
       (v : Text) → Clear h.flags.ignore_space v → Clear h.flags.ignore_space (written_all μ false ts h ++ v)
-  pieces_clear none no_trees h k e d v c = c
-  pieces_clear none (more_trees t ts) h k e d v c = (pieces_begin none t ts h k e d v).clear
+  pieces_clear no_trees h k e d v c = c
+  pieces_clear (more_trees t ts) h k e d v c = (pieces_begin t ts h k e d v).clear
 
-  pieces_rest : (none : NoDigits) (ts : Trees) (h : Here) → EachPiece h.opened ts → IsLike f h.flags →
+  pieces_rest : (ts : Trees) (h : Here) → EachPiece h.opened ts → IsLike f h.flags →
       h.depth + levels_all ts < max_depth →
       (v : Text) → Stops h.flags.ignore_space v →
       Rest μ h (written_all μ false ts h ++ v) (flags_behind_all ts Piece h.flags) v (list_of ts)
-  pieces_rest none no_trees h k e d v i = no_more μ h v i
-  pieces_rest none (more_trees t ts) h k e d v i =
+  pieces_rest no_trees h k e d v i = no_more μ h v i
+  pieces_rest (more_trees t ts) h k e d v i =
       let j = behind t Piece h in
       let next = like_next t h e in
       let same : h.flags.ignore_space ≡ j.flags.ignore_space = same_space h.flags j.flags e next in
       let i2 = subst (λ x. Stops x v) same i in
       let u = written_all μ false ts j ++ v in
-      let c = subst (λ x. Clear x u) (sym same) (pieces_clear none ts j k.2 next (omega arith) v i2.clear) in
-      subst (λ z. Rest μ h z (flags_behind_all ts Piece j.flags) v (t ∷ list_of ts)) (sym (pieces_text none t ts h v))
+      let c = subst (λ x. Clear x u) (sym same) (pieces_clear ts j k.3 next (omega arith) v i2.clear) in
+      subst (λ z. Rest μ h z (flags_behind_all ts Piece j.flags) v (t ∷ list_of ts)) (sym (pieces_text t ts k.2 h v))
       ((k.0 h refl e (omega arith)).piece k.1 u v (flags_behind_all ts Piece j.flags) (list_of ts) c
-      (pieces_rest none ts j k.2 next (omega arith) v i2))
+      (λ y. both_digit (written_all μ false ts j) v (k.2 y j) (ends_no_digit v i.ends))
+      (pieces_rest ts j k.3 next (omega arith) v i2))
 
   two_listed : (t u : Tree) (ts : Trees) → trees_of (list_of (more_trees t (more_trees u ts))) ≡ more_trees t (more_trees u ts)
   two_listed t u ts = listed (more_trees t (more_trees u ts))
 
-  pub concat_reads : (none : NoDigits) (t u : Tree) (us : Trees) (h : Here) →
+  pub concat_reads : (t u : Tree) (us : Trees) (h : Here) →
       EachPiece h.opened (more_trees t (more_trees u us)) →
       IsLike f h.flags → h.depth + levels (row label.concat (more_trees t (more_trees u us))) < max_depth →
       ReadsTree μ (row label.concat (more_trees t (more_trees u us))) h
-  concat_reads none t u us h k e d =
+  concat_reads t u us h k e d =
       let ts = more_trees t (more_trees u us) in
       let x = row label.concat ts in
       let j = inner (settled h.flags x) h in
       let is : one_or concat (list_of ts) ≡ x = ap (row label.concat) (two_listed t u us) in
       by_branch μ x h (same_mode h.flags e) (omega arith) refl (written_all μ false ts h) (written_all μ false ts j)
       (flags_behind_all ts Piece h.flags) (flags_behind_all ts Piece j.flags) (list_of ts) is
-      (pieces_begin none t (more_trees u us) h k e (omega arith)) (pieces_rest none ts h k e (omega arith))
+      (pieces_begin t (more_trees u us) h k e (omega arith)) (pieces_rest ts h k e (omega arith))
       (λ v i. reads_only μ j _ v (flags_behind_all ts Piece j.flags) x
       (subst (BranchAt μ j (written_all μ false ts j ++ v) (flags_behind_all ts Piece j.flags) v) is
       (reads_branch μ j _ v (flags_behind_all ts Piece j.flags) (list_of ts)
-      (pieces_rest none ts j k e (omega arith) v i.stops))) i.no_bar)
+      (pieces_rest ts j k e (omega arith) v i.stops))) i.no_bar)
       refl
 
   -- ---- branches

@@ -1,14 +1,17 @@
 -- What the grammar's rules read outside Oniguruma mode, under flags that change along the text.
 use Rattle.std.proofs.Common.{◌≡◌, ℕ, Bool, true, false, ◌==◌, List, []}
-use Rattle.std.proofs.Common.{◌∷◌, None, is_some, refl, ap, ◌∙◌, if◌then◌else◌}
+use Rattle.std.proofs.Common.{◌∷◌, None, is_some, refl, ap, ◌∙◌, if◌then◌else◌, codes, ◌+◌, arith}
 use Rattle.std.proofs.lemmas.Bool.{cond-false, or_parts}
+use Rattle.std.proofs.lemmas.Bool.Decides.{nat_tests}
 use Prim.Native.Char.{code}
 use Rattle.fancy_lex.specs.Characters.{bar, hash}
 use Rattle.fancy_lex.specs.Layout.{is_blank}
 use Rattle.fancy_lex.specs.LayoutSteps.{layout, after_comment_head, is_layout, layout_from, rest}
+use Rattle.fancy_lex.specs.Number.{at_digit}
 use Rattle.fancy_lex.specs.Text.{Text, bytes, strip}
 use Rattle.fancy_lex.specs.declared.flags.Flags.{Flags}
 use Rattle.fancy_lex.proofs.LayoutLemmas.{between_step}
+use Rattle.fancy_lex.proofs.LeaveLaws.{ends_twice}
 use Rattle.fancy_parts.specs.Quantifier.{counts}
 use Rattle.fancy_grammar.specs.State as states
 use Rattle.fancy_grammar.specs.Grammar.{Alternation, alternation, Branches, last, more, Branch, branch, Pieces, stop}
@@ -17,7 +20,7 @@ use Rattle.fancy_grammar.specs.Grammar.{Piece, Atom}
 use Rattle.fancy_grammar.specs.Join.{is_empty, solid, one_or, join, choice}
 use Rattle.fancy_grammar.specs.Label as label
 use Rattle.fancy_grammar.specs.Marks.{Marks}
-use Rattle.fancy_grammar.specs.Pattern.{Here, under, past_groups, group_count}
+use Rattle.fancy_grammar.specs.Pattern.{Here, under, past_groups, group_count, is_in_digits}
 use Rattle.fancy_grammar.specs.Quantified as quantified
 use Rattle.fancy_grammar.specs.Quantified.{quant, quant_at, quants}
 use Rattle.fancy_grammar.specs.State.{done}
@@ -25,7 +28,9 @@ use Rattle.fancy_grammar.specs.Tree.{Tree, empty, concat}
 use Rattle.fancy_grammar.proofs.OutcomeLemmas.{piece_as}
 use Rattle.fancy_grammar.proofs.ReadBack.ClearLemmas.{begins_mark, no_layout, no_mark_is}
 use Rattle.fancy_grammar.proofs.ReadBack.RuleLemmas.{st}
-use Rattle.fancy_grammar.proofs.Pattern.Becomes.{Becomes, EachBecomes, one_becomes, solid_also}
+use Rattle.fancy_grammar.proofs.Pattern.Becomes.{Becomes, EachBecomes, one_becomes, solid_also, each_in_longer}
+use Rattle.fancy_grammar.proofs.ReadLaws.{piece_read, atom_read, branch_read}
+use Rattle.fancy_grammar.proofs.Slices.{to_ends}
 
 -- ---- how a text begins
 
@@ -87,6 +92,14 @@ ends_nothing x = record {
   no_bar = refl;
 }
 
+pub ends_no_digit : (v : Text) → states.ends v ≡ true → at_digit v ≡ false
+ends_no_digit [] h = refl
+ends_no_digit (c ∷ t) h = grind (arith, nat_tests)
+
+-- no digit follows a reference in digits
+abbrev pub Follows : Marks → Tree → Text → Type 0
+Follows μ t v = is_in_digits μ t ≡ true → at_digit v ≡ false
+
 no_counts : (x : Bool) (s : Text) → begins_mark s ≡ false → counts x s ≡ None
 unfolding counts
 no_counts x [] h = refl
@@ -113,28 +126,28 @@ no_brace (c ∷ s) h = rw ((no_mark_is c h).brace) refl
 pub record AtomAt (μ : Marks) (h : Here) (s v : Text) (x : Tree) : Type 0 where
   pub tree : Tree
   pub derives : Atom h.depth (st h.flags s) (done tree (st h.flags v))
-  pub becomes : Becomes μ h.opened tree x
+  pub becomes : Becomes μ s h.opened tree x
 
 pub record BranchAt (μ : Marks) (h : Here) (s : Text) (g : Flags) (v : Text) (x : Tree) : Type 0 where
   pub tree : Tree
   pub derives : Branch h.depth (st h.flags s) (done tree (st g v))
-  pub becomes : Becomes μ h.opened tree x
+  pub becomes : Becomes μ s h.opened tree x
 
 pub record BranchesAt (μ : Marks) (h : Here) (s : Text) (g : Flags) (v : Text) (ys : List Tree) : Type 0 where
   pub trees : List Tree
   pub derives : Branches h.depth (st h.flags s) (done trees (st g v))
-  pub become : EachBecomes μ h.opened trees ys
+  pub become : EachBecomes μ s h.opened trees ys
 
 pub record WholeAt (μ : Marks) (h : Here) (s : Text) (g : Flags) (v : Text) (x : Tree) : Type 0 where
   pub tree : Tree
   pub derives : Alternation h.depth (st h.flags s) (done tree (st g v))
-  pub becomes : Becomes μ h.opened tree x
+  pub becomes : Becomes μ s h.opened tree x
 
 -- the pieces up to where the branch stops; without the Empties they become these
 pub record Rest (μ : Marks) (h : Here) (s : Text) (g : Flags) (v : Text) (ys : List Tree) : Type 0 where
   pub trees : List Tree
   pub derives : Pieces h.depth (st h.flags s) (done trees (st g v))
-  pub become : EachBecomes μ h.opened (solid trees) ys
+  pub become : EachBecomes μ s h.opened (solid trees) ys
 
 pub no_more : (μ : Marks) (h : Here) (v : Text) → Stops h.flags.ignore_space v → Rest μ h v h.flags v []
 no_more μ h v e = record { trees = []; derives = stop e.ends; become = tt }
@@ -157,13 +170,14 @@ quant_none left f a v c =
 
 -- a piece that was read, before those that follow
 pub lead_piece : (μ : Marks) (h : Here) (s v w : Text) (g : Flags) (r x : Tree) (ys : List Tree) →
-    Begins h.flags.ignore_space s → is_empty x ≡ false → Becomes μ h.opened r x →
+    Begins h.flags.ignore_space s → is_empty x ≡ false → Becomes μ s h.opened r x →
     Piece h.depth (st h.flags s) (done r (st h.flags v)) → Rest μ (past_groups (group_count x) h) v g w ys →
     Rest μ h s g w (x ∷ ys)
 lead_piece μ h s v w g r x ys b e k p q = record {
   trees = r ∷ q.trees;
   derives = next b.goes p q.derives;
-  become = solid_also μ h.opened r x q.trees ys k e q.become;
+  become = solid_also μ s h.opened r x q.trees ys k e
+      (each_in_longer μ v s (to_ends (piece_read p).span.slice) (solid q.trees) ys (h.opened + group_count x) q.become);
 }
 
 -- an atom that no quantifier follows
@@ -186,7 +200,8 @@ lead_flags μ h f g s v w ys o b c a q = record {
       next b.goes
       (piece_as b.clear.no_layout a
       (quants_one h.depth (bytes s) f empty empty v v o (quant_none (bytes s) f empty v c))) q.derives;
-  become = q.become;
+  become =
+      each_in_longer μ v s (to_ends (atom_read a).span.slice) (solid q.trees) ys h.opened q.become;
 }
 
 -- ---- branches
@@ -196,7 +211,7 @@ pub reads_branch : (μ : Marks) (h : Here) (s v : Text) (g : Flags) (ys : List T
 reads_branch μ h s v g ys r = record {
   tree = join r.trees;
   derives = branch r.derives;
-  becomes = one_becomes μ label.concat (solid r.trees) ys h.opened r.become;
+  becomes = one_becomes μ s label.concat (solid r.trees) ys h.opened r.become;
 }
 
 pub reads_last : (μ : Marks) (h : Here) (s v : Text) (g : Flags) (x : Tree) → BranchAt μ h s g v x →
@@ -209,7 +224,11 @@ pub reads_more : (μ : Marks) (h : Here) (s t v : Text) (f g : Flags) (x : Tree)
 reads_more μ h s t v f g x ys b bs = record {
   trees = b.tree ∷ bs.trees;
   derives = more b.derives refl bs.derives;
-  become = (b.becomes, bs.become);
+  become = (
+    b.becomes,
+    each_in_longer μ t s
+        (ends_twice s (code "|" ∷ t) t (to_ends (branch_read b.derives).span.slice) (codes "|", refl)) bs.trees ys _ bs.become,
+  );
 }
 
 pub reads_whole : (μ : Marks) (h : Here) (s v : Text) (g : Flags) (ys : List Tree) → BranchesAt μ h s g v ys →
@@ -217,7 +236,7 @@ pub reads_whole : (μ : Marks) (h : Here) (s v : Text) (g : Flags) (ys : List Tr
 reads_whole μ h s v g ys b = record {
   tree = choice b.trees;
   derives = alternation b.derives;
-  becomes = one_becomes μ label.alt b.trees ys h.opened b.become;
+  becomes = one_becomes μ s label.alt b.trees ys h.opened b.become;
 }
 
 pub reads_only : (μ : Marks) (h : Here) (s v : Text) (g : Flags) (x : Tree) → BranchAt μ h s g v x →

@@ -1,16 +1,19 @@
 -- The text of a writable tree is read as that tree, with its marks, and as nothing else.
-use Rattle.std.proofs.Common.{◌≡◌, ℕ, zero, ◌+◌, ◌<◌, Bool, true, false, ◌&&◌, List, [], ◌∷◌, ◌++◌}
-use Rattle.std.proofs.Common.{codes, length, filter_map, map, None, refl, sym, ap, ◌∙◌, subst, arith, nat_lt}
+use Rattle.std.proofs.Common.{◌≡◌, ℕ, zero, ◌+◌, ◌<◌, Bool, true, false, ◌&&◌, List, [], ◌∷◌, ◌++◌, lt-ltb, ◌-◌}
+use Rattle.std.proofs.Common.{codes, length, filter_map, map, None, refl, sym, ap, ◌∙◌, subst, arith, nat_lt, get_or}
 use Rattle.std.proofs.Common.{append-nil, ◌||◌, ◌==◌, Option, IfSome, is_some, ap₂, if◌then◌else◌, suc, filter, nat_le}
+use Rattle.std.proofs.Math.Seq.{get_or-append_seam}
+use Rattle.std.proofs.Math.Utf8.{encodes}
 use Rattle.std.specs.Prelude.{fold, find}
 use Rattle.std.specs.BTreeSet.{insert_key}
 use Rattle.std.specs.List.{list_any, AllByRecursion, cons_option}
-use Rattle.std.proofs.lemmas.Bool.{cond_both, cond-true}
+use Rattle.std.proofs.lemmas.Bool.{cond_both, cond-true, and_from}
 use Rattle.std.proofs.lemmas.List.{length-map}
-use Rattle.fancy_lex.specs.Text.{Text, bytes, place_at}
+use Rattle.std.proofs.lemmas.Str.{encodes-append}
+use Rattle.fancy_lex.specs.Text.{Text, bytes, place_at, reach_of}
 use Rattle.fancy_lex.specs.declared.flags.Flags.{Flags}
 use Rattle.fancy_parts.specs.Ranks.{is_named, only_named, named_groups, numbers, name_cmp}
-use Rattle.fancy_parts.specs.Ranks.{Opening, is_name, numbers_from, names, numbered_openings}
+use Rattle.fancy_parts.specs.Ranks.{Opening, is_name, numbers_from, names, numbered_openings, is_counted}
 use Rattle.fancy_grammar.specs.Answer.{IsTreeOf}
 use Rattle.fancy_grammar.specs.Answered.{IsAnsweredWith, groups_referred}
 use Rattle.fancy_grammar.specs.Depth.{max_depth}
@@ -19,7 +22,7 @@ use Rattle.fancy_grammar.specs.Items.{Item, opening, reference, items, openings,
 use Rattle.fancy_grammar.specs.Items.{meanings, role_of, target_of}
 use Rattle.fancy_grammar.specs.Label.{AstReference}
 use Rattle.fancy_grammar.specs.Label as label
-use Rattle.fancy_grammar.specs.Marks.{Marks, marks, ascending, is_call_of_all}
+use Rattle.fancy_grammar.specs.Marks.{Marks, marks, ascending, is_call_of_all, back_numbers}
 use Rattle.fancy_grammar.specs.Pattern.{Here, under, past_groups, deeper, after_setting, in_parens, group_count}
 use Rattle.fancy_grammar.specs.Pattern.{written, behind}
 use Rattle.fancy_grammar.specs.Pattern.{flags_behind}
@@ -34,11 +37,11 @@ use Rattle.fancy_grammar.specs.Writable.{AreCounted, IsNameWritable, marks_of, I
 use Rattle.fancy_grammar.specs.declared.precedence.Precedence.{Precedence}
 use Rattle.fancy_grammar.specs.declared.precedence.Precedence.TheVariants.{Whole, Branch as BranchAlone, Piece}
 use Rattle.fancy_grammar.specs.declared.precedence.Precedence.TheVariants.{Operand}
-use Rattle.fancy_grammar.proofs.AnsweredLaws.{answered_with}
+use Rattle.fancy_grammar.proofs.AnsweredLaws.{answered_with, numbers_referred}
 use Rattle.fancy_grammar.proofs.ReadAsLaws.{read_as}
 use Rattle.fancy_grammar.proofs.Pattern.Absent.{repeater_reads, stopper_reads, expression_reads}
 use Rattle.fancy_grammar.proofs.Pattern.Becomes.{Becomes, opened, AreGroups, counted_all, MeansGroup, numbers_told}
-use Rattle.fancy_grammar.proofs.Pattern.Becomes.{is_by_number}
+use Rattle.fancy_grammar.proofs.Pattern.Becomes.{is_by_number, IsAsMarked, IsInDigits}
 use Rattle.fancy_grammar.proofs.Pattern.Cases.{ReadsTree, leaf_reads, group_reads, look_reads, define_reads}
 use Rattle.fancy_grammar.proofs.Pattern.Cases.{atomic_by}
 use Rattle.fancy_grammar.proofs.Pattern.Conditionals.{conditional_reads}
@@ -51,7 +54,9 @@ use Rattle.fancy_grammar.proofs.Pattern.Rules.{Clear, ends_nothing, WholeAt}
 use Rattle.fancy_grammar.proofs.ReadBack.RuleLemmas.{st}
 use Rattle.fancy_lex.specs.Target.{Target, by_number, by_name, relative}
 use Rattle.fancy_parts.specs.Meaning.{Role, back_reference, call, condition, number, means, fault_or}
-use Rattle.fancy_parts.specs.Written.{is_numeric}
+use Rattle.fancy_parts.specs.Written.{is_numeric, is_numeric_role, is_behind_backslash}
+use Rattle.fancy_lex.specs.Characters.{backslash}
+use Rattle.fancy_lex.proofs.TextLemmas.{bytes-append, length_encodes}
 
 -- ---- every writable tree, wherever it stands
 
@@ -77,13 +82,13 @@ module _ (μ : Marks) where
       subst (λ (k : Precedence → Text). ReadsBy μ x h (k Whole) (k BranchAlone) (k Piece) (k (Operand zero)) g g) text
       (atomic_by μ t h o d r)
 
-  module _ (f : Flags) (mode : f.oniguruma_mode ≡ false) (none : μ.numeric_capture_group_references ≡ false)
+  module _ (f : Flags) (mode : f.oniguruma_mode ≡ false)
       (names : (k : ℕ) → IfSome (name_of μ k) (λ e. IsNameWritable e.0))
       (numbered : (k : ℕ) → IfSome (name_of μ k) (λ e. e.1 ≡ numbers_told μ e.0)) where
     mutual
       reads : (t : Tree) (h : Here) → AreNodesWritable f μ h.opened t → IsLike f h.flags →
           h.depth + levels t < max_depth → ReadsTree μ t h
-      reads (leaf l) h k e d = leaf_reads μ none numbered f l h (same_mode μ f mode h.flags e) e d k
+      reads (leaf l) h k e d = leaf_reads μ numbered f l h (same_mode μ f mode h.flags e) e d k
       reads (over (label.repeat lo hi greedy) t) h k e d =
           let i = under (settled h.flags t) h in
           repeat_reads μ t lo hi greedy k.2 k.3 h (same_mode μ f mode h.flags e) (omega arith)
@@ -145,7 +150,7 @@ module _ (μ : Marks) where
       reads (row label.expression (more_trees a (more_trees b (more_trees c ts)))) h k e d = absurd k
       reads (over (label.ast_group name place) t) h k e d = absurd k
       reads (row label.concat (more_trees t (more_trees u us))) h k e d =
-          concat_reads μ f mode none t u us h (each_piece (more_trees t (more_trees u us)) h.opened k) e d
+          concat_reads μ f mode t u us h (each_piece (more_trees t (more_trees u us)) h.opened k) e d
       reads (row label.alt (more_trees t (more_trees u us))) h k e d =
           alt_reads μ f mode t u us h (each_branch (more_trees t (more_trees u us)) h.opened k) e d
       reads (row label.concat no_trees) h k e d = absurd k
@@ -167,7 +172,7 @@ module _ (μ : Marks) where
       each_piece : (ts : Trees) (c : ℕ) → ArePieces f μ c ts → EachPiece μ f mode c ts
       each_piece no_trees c k = tt
       each_piece (more_trees t ts) c k =
-          ((λ h o e d. reads t h (subst (λ n. AreNodesWritable f μ n t) (sym o) k.0) e d), k.1, each_piece ts _ k.2)
+          ((λ h o e d. reads t h (subst (λ n. AreNodesWritable f μ n t) (sym o) k.0) e d), k.1, k.2, each_piece ts _ k.3)
 
       each_branch : (ts : Trees) (c : ℕ) → AreAllWritable f μ c ts → EachBranch μ f mode c ts
       each_branch no_trees c k = tt
@@ -177,64 +182,105 @@ module _ (μ : Marks) where
 -- ---- the marks of a tree whose references are written by names
 
 -- where each group has a number, the references mean groups, and none is written as a number
-module _ (μ : Marks) (named : Bool) (numbers_of : Text → List ℕ) (e : (w : Text) → numbers_of w ≡ numbers_told μ w) where
+module _ (μ : Marks) (s : Text) (named : Bool) (numbers_of : Text → List ℕ)
+    (e : (w : Text) → numbers_of w ≡ numbers_told μ w) where
   -- what a reference means
   meaning_is : (c : ℕ) (r : AstReference) (h : MeansGroup μ c r) →
       means numbers_of c (role_of r) (target_of r) ≡ number h.group
   meaning_is c r h = (λ i. means (λ w. e w i) c (role_of r) (target_of r)) ∙ h.meant
 
-  none_faulty : (c : ℕ) (l : List Item) → AreGroups μ c l → AreCounted named (openings_in l) →
+  none_faulty : (c : ℕ) (l : List Item) → AreGroups μ s c l → AreCounted named (openings_in l) →
       first_fault (meanings_in named numbers_of c l) ≡ None
   none_faulty c [] h k = refl
   none_faulty c (opening o ∷ l) h k =
       ap (λ n. first_fault (meanings_in named numbers_of n l)) (cond-true _ _ _ k.0) ∙ none_faulty (c + 1) l h.1 k.1
   none_faulty c (reference r p ∷ l) h k =
       ap (λ m. fault_or m p (first_fault (meanings_in named numbers_of c l))) (meaning_is c r h.0)
-      ∙ none_faulty c l h.1 k
+      ∙ none_faulty c l h.2 k
 
-  none_such : (such : Role → Target → ℕ → Bool) → ((role : Role) (t : Target) (p : ℕ) → is_by_number t ≡ false →
-      such role t p ≡ false) → (c : ℕ) (l : List Item) → AreGroups μ c l → AreCounted named (openings_in l) →
+  none_such : (such : Role → Target → ℕ → Bool) → ((r : AstReference) (p : ℕ) → IsAsMarked μ s r p →
+      such (role_of r) (target_of r) p ≡ false) → (c : ℕ) (l : List Item) → AreGroups μ s c l →
+      AreCounted named (openings_in l) →
       list_any (λ x. such (role_of x.0) (target_of x.0) x.1) (meanings_in named numbers_of c l) ≡ false
   none_such such never c [] h k = refl
   none_such such never c (opening o ∷ l) h k =
       ap (λ n. list_any (λ x. such (role_of x.0) (target_of x.0) x.1) (meanings_in named numbers_of n l))
       (cond-true _ _ _ k.0) ∙ none_such such never (c + 1) l h.1 k.1
-  none_such such never c (reference r p ∷ l) h k =
-      rw (never (role_of r) (target_of r) p h.0.named) (none_such such never c l h.1 k)
+  none_such such never c (reference r p ∷ l) h k = rw (never r p h.1) (none_such such never c l h.2 k)
 
-not_numeric : (text : Text) (role : Role) (t : Target) (p : ℕ) → is_by_number t ≡ false →
-    is_numeric text (place_at (bytes text) p) role t ≡ false
-not_numeric text role (by_number n) p h = absurd cc
-not_numeric text role (by_name w) p h = refl
-not_numeric text role (relative z) p h = refl
+  some_such : (such : Role → Target → ℕ → Bool) → ((r : AstReference) (p : ℕ) → IsAsMarked μ s r p →
+      such (role_of r) (target_of r) p ≡ true) → (c : ℕ) (l : List Item) → AreGroups μ s c l →
+      AreCounted named (openings_in l) → 0 < length (back_numbers (meanings_in named numbers_of c l)) →
+      list_any (λ x. such (role_of x.0) (target_of x.0) x.1) (meanings_in named numbers_of c l) ≡ true
+  some_such such always c [] h k some = absurd (omega (arith, some))
+  some_such such always c (opening o ∷ l) h k some =
+      let next = cond-true (is_counted named o.name) (c + 1) c k.0 in
+      ap (λ n. list_any (λ x. such (role_of x.0) (target_of x.0) x.1) (meanings_in named numbers_of n l)) next
+      ∙ some_such such always (c + 1) l h.1 k.1
+      (subst (λ n. 0 < length (back_numbers (meanings_in named numbers_of n l))) next some)
+  some_such such always c (reference r p ∷ l) h k some = rw (always r p h.1) refl
 
-not_of_all : (role : Role) (t : Target) (p : ℕ) → is_by_number t ≡ false → is_call_of_all role t ≡ false
-not_of_all call (by_number n) p h = absurd cc
-not_of_all role (by_name w) p h = by_role role
-  where
-    by_role : (role : Role) → is_call_of_all role (by_name w) ≡ false
-    by_role call = refl
-    by_role back_reference = refl
-    by_role condition = refl
-not_of_all role (relative z) p h = by_role role
-  where
-    by_role : (role : Role) → is_call_of_all role (relative z) ≡ false
-    by_role call = refl
-    by_role back_reference = refl
-    by_role condition = refl
-not_of_all back_reference (by_number n) p h = absurd cc
-not_of_all condition (by_number n) p h = absurd cc
+-- ---- which references are numeric
+
+not_numeric : (text : Text) (place : ℕ) (role : Role) (t : Target) → is_by_number t ≡ false →
+    is_numeric text place role t ≡ false
+not_numeric text place role (by_number n) h = absurd cc
+not_numeric text place role (by_name w) h = refl
+not_numeric text place role (relative z) h = refl
+
+numeric_by : (text : Text) (place : ℕ) (role : Role) (t : Target) → is_by_number t ≡ true →
+    is_numeric text place role t ≡ is_numeric_role text place role
+numeric_by text place role (by_number n) h = refl
+numeric_by text place role (by_name w) h = absurd cc
+numeric_by text place role (relative z) h = absurd cc
+
+not_of_all : (role : Role) (t : Target) → is_by_number t ≡ false → is_call_of_all role t ≡ false
+not_of_all call (by_number n) h = absurd cc
+not_of_all call (by_name w) h = refl
+not_of_all call (relative z) h = refl
+not_of_all back_reference t h = refl
+not_of_all condition t h = refl
+
+bytes_behind : (t : Text) → bytes (backslash ∷ t) ≡ bytes t + 1
+unfolding bytes
+bytes_behind t = omega arith
+
+-- a backslash stands right before the place of what follows it
+backslash_before : (w t : Text) →
+    is_behind_backslash (w ++ backslash ∷ t) (place_at (bytes (w ++ backslash ∷ t)) (reach_of t)) ≡ true
+unfolding lib.Utf8.encode
+backslash_before w t =
+    let text = w ++ backslash ∷ t in
+    let place : place_at (bytes text) (reach_of t) ≡ bytes w + 1
+    = omega (arith, bytes-append w (backslash ∷ t), bytes_behind t) in
+    let byte : get_or (encodes text) (bytes w) 0 ≡ backslash
+    = ap (λ l. get_or l (bytes w) 0) (encodes-append w (backslash ∷ t))
+    ∙ (ap (λ n. get_or (encodes w ++ encodes (backslash ∷ t)) n 0) (length_encodes w)
+    ∙ get_or-append_seam (encodes w) backslash (encodes t) 0) in
+    let before : bytes w + 1 - 1 ≡ bytes w = omega arith in
+    let first : nat_lt 0 (bytes w + 1) ≡ true = lt-ltb 0 (bytes w + 1) (omega arith) in
+    ap (is_behind_backslash text) place
+    ∙ and_from _ _ first
+    (ap (λ k. get_or (encodes text) k 0 == backslash) before ∙ ap (λ k. k == backslash) byte)
+
+in_digits : (text : Text) (r : AstReference) (p : ℕ) → is_by_number (target_of r) ≡ true → IsInDigits text r p →
+    is_numeric text (place_at (bytes text) p) (role_of r) (target_of r) ≡ true
+in_digits text r p n d =
+    let (w, e) = d.ends in
+    let place = place_at (bytes text) p in
+    numeric_by text place (role_of r) (target_of r) n ∙ (ap (is_numeric_role text place) d.role
+    ∙ ((λ i. is_behind_backslash (e i) (place_at (bytes (e i)) (d.reach i))) ∙ backslash_before w d.digits))
 
 -- an opening without its reach, of which marks say nothing
 abbrev unreached : Opening → Opening
 unreached o = record { reach = 0; name = o.name }
 
-told_openings : (μ : Marks) (c : ℕ) (l : List Item) → AreGroups μ c l →
+told_openings : (μ : Marks) (s : Text) (c : ℕ) (l : List Item) → AreGroups μ s c l →
     map unreached (openings_in l) ≡ openings_told μ c (opened l)
-told_openings μ c [] h = refl
-told_openings μ c (opening o ∷ l) h =
-    ap₂ (λ (n : Option Text) (m : List Opening). record { reach = 0; name = n } ∷ m) h.0 (told_openings μ (c + 1) l h.1)
-told_openings μ c (reference r p ∷ l) h = told_openings μ c l h.1
+told_openings μ s c [] h = refl
+told_openings μ s c (opening o ∷ l) h =
+    ap₂ (λ (n : Option Text) (m : List Opening). record { reach = 0; name = n } ∷ m) h.0 (told_openings μ s (c + 1) l h.1)
+told_openings μ s c (reference r p ∷ l) h = told_openings μ s c l h.2
 
 unreached_names : (l : List Opening) → filter_map (λ o. o.name) (map unreached l) ≡ filter_map (λ o. o.name) l
 unreached_names [] = refl
@@ -265,11 +311,11 @@ length_told : (μ : Marks) (c n : ℕ) → length (openings_told μ c n) ≡ n
 length_told μ c zero = refl
 length_told μ c (suc n) = ap suc (length_told μ (c + 1) n)
 
-module _ (μ : Marks) (f : Flags) (text : Text) (r x : Tree) (b : Becomes μ 0 r x)
-    (told : μ ≡ marks_of f (openings_told μ 0 (group_count x)) x)
+module _ (μ : Marks) (f : Flags) (text : Text) (r x : Tree) (b : Becomes μ text 0 r x)
+    (told : μ ≡ marks_of f (openings_told μ 0 (group_count x)) x μ.numeric_capture_group_references)
     (each : AreCounted μ.numbered_groups_ignored (openings_told μ 0 (group_count x))) where
   openings_are : map unreached (openings r) ≡ openings_told μ 0 (group_count x)
-  openings_are = told_openings μ 0 (items r) b.groups ∙ ap (openings_told μ 0) b.count
+  openings_are = told_openings μ text 0 (items r) b.groups ∙ ap (openings_told μ 0) b.count
 
   ignored : only_named f (openings r) ≡ μ.numbered_groups_ignored
   ignored =
@@ -294,19 +340,39 @@ module _ (μ : Marks) (f : Flags) (text : Text) (r x : Tree) (b : Becomes μ 0 r
 
   faultless : fault_of f r ≡ None
   faultless =
-      none_faulty μ (only_named f (openings r)) (numbers_in f r) same_numbers 0 (items r) b.groups all_counted
+      none_faulty μ text (only_named f (openings r)) (numbers_in f r) same_numbers 0 (items r) b.groups all_counted
 
   resolves : x ≡ resolved f (bytes text) r
   resolves = sym (b.is (only_named f (openings r)) all_counted (bytes text) (numbers_in f r) same_numbers)
 
-  no_number : (such : Role → Target → ℕ → Bool) → ((role : Role) (t : Target) (p : ℕ) → is_by_number t ≡ false →
-      such role t p ≡ false) → list_any (λ x. such (role_of x.0) (target_of x.0) x.1) (meanings f r) ≡ false
-  no_number such never =
-      none_such μ (only_named f (openings r)) (numbers_in f r) same_numbers such never 0 (items r) b.groups all_counted
+  no_such : (such : Role → Target → ℕ → Bool) → ((r : AstReference) (p : ℕ) → IsAsMarked μ text r p →
+      such (role_of r) (target_of r) p ≡ false) →
+      list_any (λ x. such (role_of x.0) (target_of x.0) x.1) (meanings f r) ≡ false
+  no_such such never =
+      none_such μ text (only_named f (openings r)) (numbers_in f r) same_numbers such never 0 (items r) b.groups all_counted
+
+  of_all : (r : AstReference) (p : ℕ) → IsAsMarked μ text r p → is_call_of_all (role_of r) (target_of r) ≡ false
+  of_all r p k = at (is_by_number (target_of r)) refl
+    where
+      at : (b : Bool) → is_by_number (target_of r) ≡ b → is_call_of_all (role_of r) (target_of r) ≡ false
+      at true e = ap (λ o. is_call_of_all o (target_of r)) (k.digits e).role
+      at false e = not_of_all (role_of r) (target_of r) e
+
+  -- whether some reference is written as a number
+  numeric_is : (b : Bool) → μ.numeric_capture_group_references ≡ b → (b ≡ true → 0 < length (back_numbers (meanings f r))) →
+      (marks f text r).numeric_capture_group_references ≡ b
+  numeric_is false e some =
+      no_such (λ role t p. is_numeric text (place_at (bytes text) p) role t)
+      (λ r p k. not_numeric text (place_at (bytes text) p) (role_of r) (target_of r) (k.number ∙ e))
+  numeric_is true e some =
+      some_such μ text (only_named f (openings r)) (numbers_in f r) same_numbers
+      (λ role t p. is_numeric text (place_at (bytes text) p) role t)
+      (λ r p k. in_digits text r p (k.number ∙ e) (k.digits (k.number ∙ e))) 0 (items r) b.groups all_counted (some refl)
 
   -- the marks that the text is read with
-  marked : DerivesTree f text r → μ ≡ marks f text r
-  marked d =
+  marked : DerivesTree f text r → (μ.numeric_capture_group_references ≡ true → 0 < length (groups_referred x)) →
+      μ ≡ marks f text r
+  marked d some =
       let m = marks f text r in
       let a : IsAnsweredWith x m = answered_with (r, d, faultless, resolves, refl) in
       let all = openings_told μ 0 (group_count x) in
@@ -314,16 +380,18 @@ module _ (μ : Marks) (f : Flags) (text : Text) (r x : Tree) (b : Becomes μ 0 r
       = ap length all_numbered ∙ (sym (length-map (openings r) unreached) ∙ ap length openings_are) in
       let named : m.named_groups ≡ named_groups all
       = ap named_groups all_numbered ∙ (sym (unreached_groups (openings r)) ∙ ap named_groups openings_are) in
-      let numeric : m.numeric_capture_group_references ≡ false
-      = no_number (λ role t p. is_numeric text (place_at (bytes text) p) role t) (not_numeric text) in
-      let self : m.self_recursive ≡ false = no_number (λ role t p. is_call_of_all role t) not_of_all in
+      let tree : IsTreeOf f text x m = (r, d, faultless, resolves, refl) in
+      let numeric : m.numeric_capture_group_references ≡ μ.numeric_capture_group_references
+      = numeric_is μ.numeric_capture_group_references refl
+      (λ e. subst (λ l. 0 < length l) (numbers_referred tree) (some e)) in
+      let self : m.self_recursive ≡ false = no_such (λ role t p. is_call_of_all role t) of_all in
       let only : m.numbered_groups_ignored ≡ only_named f all
       = sym (unreached_named f (openings r)) ∙ ap (only_named f) openings_are in
       let backrefs : m.backrefs ≡ ascending (filter (λ n. nat_le n (length all)) (groups_referred x))
       = a.backrefs ∙ ap (λ k. ascending (filter (λ n. nat_le n k) (groups_referred x))) total in
       let outside : m.out_of_range_backref ≡ find (λ n. nat_lt (length all) n) (groups_referred x)
       = a.out_of_range ∙ ap (λ k. find (λ n. nat_lt k n) (groups_referred x)) total in
-      let path : m ≡ marks_of f all x = λ i. record {
+      let path : m ≡ marks_of f all x μ.numeric_capture_group_references = λ i. record {
         backrefs = backrefs i;
         named_groups = named i;
         numeric_capture_group_references = numeric i;
@@ -339,15 +407,16 @@ module _ (μ : Marks) (f : Flags) (text : Text) (r x : Tree) (b : Becomes μ 0 r
 
 -- a whole text that reads as the tree
 from_whole : (μ : Marks) (f g : Flags) (text : Text) (x : Tree) →
-    μ ≡ marks_of f (openings_told μ 0 (group_count x)) x →
+    μ ≡ marks_of f (openings_told μ 0 (group_count x)) x μ.numeric_capture_group_references →
     AreCounted μ.numbered_groups_ignored (openings_told μ 0 (group_count x)) →
+    (μ.numeric_capture_group_references ≡ true → 0 < length (groups_referred x)) →
     WholeAt μ (record { flags = f; opened = 0; depth = 0 }) text g [] x → IsTreeOf f text x μ
-from_whole μ f g text x told each w = (
+from_whole μ f g text x told each some w = (
   w.tree,
   (st g [], whole w.derives),
   faultless μ f text w.tree x w.becomes told each,
   resolves μ f text w.tree x w.becomes told each,
-  marked μ f text w.tree x w.becomes told each (st g [], whole w.derives),
+  marked μ f text w.tree x w.becomes told each (st g [], whole w.derives) some,
 )
 
 -- what is true of each entry is true of the one that is found
@@ -376,12 +445,11 @@ reads_back f t μ w =
     (sym total) (all_numbers (openings_told μ 0 (group_count t)) _)) in
     let numbered = λ (k : ℕ). found (λ (e : Named). e.1 ≡ numbers_told μ e.0)
     (λ e. list_any (λ n. n == k) e.1) μ.named_groups entries in
-    let numeric : μ.numeric_capture_group_references ≡ false = ap (λ k. k.numeric_capture_group_references) w.marks in
-    let r = reads μ f w.mode numeric names numbered t (under g h) w.nodes refl (omega (arith, w.levels)) in
+    let r = reads μ f w.mode names numbered t (under g h) w.nodes refl (omega (arith, w.levels)) in
     let s = written μ t Whole (under g h) in
     let after = flags_behind t Whole g in
     let here = subst (λ u. WholeAt μ (under g h) u after [] t) (append-nil s)
     (r.whole [] (ends_nothing f.ignore_space)) in
     let clear = subst (Clear f.ignore_space) (append-nil s) (r.whole_clear [] (ends_nothing f.ignore_space).stops.clear) in
     let all = whole_behind_setting μ h g.casei g.multi g.dotnl g.crlf s [] after t w.mode (omega arith) clear here in
-    read_as f (setting f g ++ s) t t μ (from_whole μ f after (setting f g ++ s) t w.marks w.counted all) refl
+    read_as f (setting f g ++ s) t t μ (from_whole μ f after (setting f g ++ s) t w.marks w.counted w.numeric all) refl
