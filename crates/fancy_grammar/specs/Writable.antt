@@ -1,6 +1,6 @@
 -- The trees whose texts are proved to read back.
 use Rattle.std.specs.Prelude.{◌≡◌, ℕ, zero, suc, ◌+◌, ◌-◌, ◌^◌, ◌<◌, ◌≤◌, ◌&&◌, Bool, true, false, List, [], ◌∷◌, ◌++◌}
-use Rattle.std.specs.Prelude.{length, Option, option_map, is_some, nat_le, nat_lt, filter, find}
+use Rattle.std.specs.Prelude.{length, Option, option_map, is_some, nat_le, nat_lt, filter, find, ◌||◌}
 use Rattle.std.specs.List.{AllByRecursion}
 use Prim.Native.Char.{code}
 use Rattle.fancy_lex.specs.Characters.{is_among, backslash, open_bracket}
@@ -54,12 +54,17 @@ abbrev pub IsBackrefWritable : Bool → Marks → ℕ → ℕ → Type 0
 IsBackrefWritable true m c n = n < 2 ^ 64
 IsBackrefWritable false m c n = is_some (fit_name m (λ l. is_last n l && nat_le n c) n) ≡ true
 
+-- a call of a group by its number, where some reference is written as a number, or else of one that is not too far
+abbrev pub IsCallWritable : Bool → ℕ → ℕ → Type 0
+IsCallWritable true c n = (0 < n) × (n < 2 ^ 64)
+IsCallWritable false c n = (n - c < amount_bound) × (c + 1 - n < amount_bound)
+
 -- no digit follows it, where it is a reference in digits, to which that would belong
 abbrev pub IsParted : Marks → Tree → Trees → Type 0
 IsParted m t ts = is_in_digits m t ≡ true → (h : Here) → at_digit (written_all m false ts h) ≡ false
 
 -- a leaf as it is read, behind the openings of c groups: a character, a byte without UNICODE, what has an escape, a back
--- reference without a level, or, where no reference is written as a number, a call whose group is not too far
+-- reference without a level, or a call
 abbrev pub IsWritableLeaf : Flags → Marks → ℕ → Leaf → Type 0
 IsWritableLeaf f m c (literal (d ∷ []) casei) = Unit {0}
 IsWritableLeaf f m c (literal_bytes (b ∷ [])) = (f.unicode ≡ false) × (0x80 ≤ b) × (b ≤ 0xFF)
@@ -75,8 +80,7 @@ IsWritableLeaf f m c continue_from_previous_match_end = Unit {0}
 IsWritableLeaf f m c clear = Unit {0}
 IsWritableLeaf f m c (backref n casei) =
     IsBackrefWritable m.numeric_capture_group_references m c n
-IsWritableLeaf f m c (subroutine_call n) =
-    (m.numeric_capture_group_references ≡ false) × (n - c < amount_bound) × (c + 1 - n < amount_bound)
+IsWritableLeaf f m c (subroutine_call n) = IsCallWritable m.numeric_capture_group_references c n
 IsWritableLeaf f m c _ = ⊥
 
 abbrev mutual
@@ -122,7 +126,11 @@ abbrev pub openings_told : Marks → ℕ → ℕ → List Opening
 openings_told m c zero = []
 openings_told m c (suc n) = record { reach = 0; name = name_at m (c + 1) } ∷ openings_told m (c + 1) n
 
--- the marks of a tree that has these groups, where back references are written as numbers or no reference is
+-- a back reference or a call stands in it
+abbrev pub has_reference : Tree → Bool
+has_reference t = nat_lt 0 (length (groups_referred t)) || has_call t
+
+-- the marks of a tree that has these groups, whose references are all written as numbers, or none
 abbrev pub marks_of : Flags → List Opening → Tree → Bool → Marks
 marks_of f l t numeric = record {
   backrefs = ascending (filter (λ n. nat_le n (length l)) (groups_referred t));
@@ -146,12 +154,12 @@ IsNameWritable (c ∷ w) = (is_among (code ">") (c ∷ w) && is_among (code "'")
 
 -- ---- the trees
 
--- outside Oniguruma mode, a tree of fewer than 64 levels with its marks; where a reference is written as a number,
--- no call is
+-- outside Oniguruma mode, a tree of fewer than 64 levels with its marks, whose references are all written as numbers, or
+-- none
 pub record IsWritable (f : Flags) (m : Marks) (t : Tree) : Type 0 where
   pub mode : f.oniguruma_mode ≡ false
   pub marks : m ≡ marks_of f (openings_told m 0 (group_count t)) t m.numeric_capture_group_references
-  pub numeric : m.numeric_capture_group_references ≡ true → 0 < length (groups_referred t)
+  pub numeric : m.numeric_capture_group_references ≡ true → has_reference t ≡ true
   pub counted : AreCounted m.numbered_groups_ignored (openings_told m 0 (group_count t))
   pub names : AllByRecursion (λ e. IsNameWritable e.0) m.named_groups
   pub nodes : AreNodesWritable f m 0 t

@@ -1,6 +1,6 @@
 -- Raw trees that resolve to given ones where they stand, whatever stands around them.
 use Rattle.std.proofs.Common.{◌≡◌, ℕ, suc, ◌+◌, Bool, true, false, List, [], ◌∷◌, ◌++◌, length}
-use Rattle.std.proofs.Common.{refl, sym, ap, ap₂, ◌∙◌, subst, arith, ℤ, Some, None, Option}
+use Rattle.std.proofs.Common.{refl, sym, ap, ap₂, ◌∙◌, subst, arith, ℤ, Some, None, Option, ◌⊎◌, inl, inr, ⊎_elim}
 use Rattle.std.proofs.lemmas.Bool.{cond-true, cond-false}
 use Rattle.fancy_lex.specs.Text.{Text, EndsWith, reach_of}
 use Rattle.fancy_lex.specs.declared.flags.Flags.{Flags}
@@ -8,7 +8,7 @@ use Rattle.fancy_parts.specs.Ranks.{Opening, numbered_openings_in, numbers}
 use Rattle.fancy_grammar.specs.Items.{Item, opening, reference, items, items_all, openings_in, role_of, target_of}
 use Rattle.fancy_grammar.specs.Join.{is_empty, solid, one_or}
 use Rattle.fancy_grammar.specs.Label.{Row, AstReference, ast_backref, ast_call, ast_condition}
-use Rattle.fancy_grammar.specs.Marks.{Marks}
+use Rattle.fancy_grammar.specs.Marks.{Marks, is_call_of_all}
 use Rattle.fancy_grammar.specs.Pattern.{group_count, group_count_all}
 use Rattle.fancy_grammar.specs.Quantified.{is_repeatable}
 use Rattle.fancy_grammar.specs.Resolved.{resolved_in, resolved_all, reference_node}
@@ -16,7 +16,7 @@ use Rattle.fancy_grammar.specs.Tree.{Tree, row, more_trees, trees_of, empty, ast
 use Rattle.fancy_grammar.specs.Tree.{ast_node, backref, backref_at_level, subroutine_call, backref_exists}
 use Rattle.fancy_grammar.specs.Writable.{name_at, AreCounted, openings_told}
 use Rattle.fancy_lex.specs.Target.{Target, by_number}
-use Rattle.fancy_parts.specs.Meaning.{number, means, back_reference}
+use Rattle.fancy_parts.specs.Meaning.{number, means, back_reference, call}
 use Rattle.fancy_lex.specs.Characters.{backslash}
 use Rattle.fancy_lex.proofs.LeaveLaws.{ends_twice}
 
@@ -44,10 +44,12 @@ pub record IsInDigits (s : Text) (r : AstReference) (p : ℕ) : Type 0 where
   pub ends : EndsWith s (backslash ∷ digits)
   pub reach : p ≡ reach_of digits
 
--- it is by a number where some reference is to be written as one, and then it is in digits in the text
+-- it is by a number where some reference is to be written as one, and then it is a call, or in digits in the text; no
+-- call is one of all
 pub record IsAsMarked (μ : Marks) (s : Text) (r : AstReference) (p : ℕ) : Type 0 where
   pub number : is_by_number (target_of r) ≡ μ.numeric_capture_group_references
-  pub digits : is_by_number (target_of r) ≡ true → IsInDigits s r p
+  pub written : is_by_number (target_of r) ≡ true → (role_of r ≡ call) ⊎ IsInDigits s r p
+  pub not_of_all : is_call_of_all (role_of r) (target_of r) ≡ false
 
 -- behind the openings of c groups they are groups, each with the name that the marks give it, and such references
 abbrev pub AreGroups : Marks → Text → ℕ → List Item → Type 0
@@ -215,9 +217,15 @@ groups_in_longer μ s t e c (reference r p ∷ l) h = (
   h.0,
   record {
     number = h.1.number;
-    digits =
-        λ n. let d = h.1.digits n in
-        record { role = d.role; digits = d.digits; ends = ends_twice t s (backslash ∷ d.digits) e d.ends; reach = d.reach };
+    written =
+        λ n. ⊎_elim (λ c. inl c)
+        (λ d. inr (record {
+          role = d.role;
+          digits = d.digits;
+          ends = ends_twice t s (backslash ∷ d.digits) e d.ends;
+          reach = d.reach;
+        })) (h.1.written n);
+    not_of_all = h.1.not_of_all;
   },
   groups_in_longer μ s t e c l h.2,
 )

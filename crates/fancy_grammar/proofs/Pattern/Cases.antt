@@ -114,7 +114,7 @@ module _ (μ : Marks) where
       leaf_by (label.backref n casei) h o d refl
       (backref_at μ (under (settled h.flags (leaf (label.backref n casei))) h) numbered n k)
   leaf_reads numbered f (label.subroutine_call n) h o like d k =
-      leaf_by (label.subroutine_call n) h o d refl (call_at μ h numbered k.0 n k.1 k.2)
+      leaf_by (label.subroutine_call n) h o d refl (call_at μ h numbered n k)
   leaf_reads numbered f _ h o like d k = absurd k
 
   -- ---- groups

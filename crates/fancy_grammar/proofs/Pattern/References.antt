@@ -1,9 +1,9 @@
--- Back references in digits or by the name of their group, and calls by a name or by a distance.
+-- Back references in digits or by the name of their group, and calls by a number, a name or a distance.
 use Rattle.std.proofs.Common.{◌≡◌, ℕ, Bool, true, false, not, ◌&&◌, ◌||◌, ◌==◌, nat_le, [], ◌∷◌, ◌++◌, List, codes, ◌^◌}
 use Rattle.std.proofs.Common.{Option, Some, None, is_some, is_none, refl, sym, ap, ◌∙◌, subst, append_assoc, arith, ◌-◌}
 use Rattle.std.proofs.Common.{if◌then◌else◌, IfSome, option_map, decimal, append-nil, ne_eqb, eqb-true, nat_lt, suc}
-use Rattle.std.proofs.Common.{◌<◌, ◌≤◌, ℤ, pos, negsuc, lt-ltb, le-leb, ltb-true, ◌+◌}
-use Rattle.std.proofs.lemmas.Bool.{cond-true, cond-false, and_parts, false≢true, cond_both}
+use Rattle.std.proofs.Common.{◌<◌, ◌≤◌, ℤ, pos, negsuc, lt-ltb, le-leb, ltb-true, ◌+◌, inl, inr}
+use Rattle.std.proofs.lemmas.Bool.{cond-true, cond-false, and_parts, false≢true, cond_both, and_from}
 use Rattle.std.proofs.lemmas.Bool.Decides.{nat_tests}
 use Rattle.std.proofs.lemmas.Fmt.{decimal_is_IsNumeral}
 use Rattle.std.proofs.lemmas.Option.{same_Some}
@@ -35,16 +35,17 @@ use Rattle.fancy_grammar.specs.PatternReference.{is_plain_name, Named, name_of, 
 use Rattle.fancy_grammar.specs.PatternReference.{backref_text, call_text, marked, call_name, name_or}
 use Rattle.fancy_grammar.proofs.Pattern.Groups.{cut_before}
 use Rattle.fancy_parts.specs.Meaning.{back_reference, call, number, means, back_to, last_of, only_one, group_or_none}
+use Rattle.fancy_parts.specs.Meaning.{Role, condition}
 use Rattle.fancy_grammar.specs.Ahead.{read, leaf_node, leaf_outcome}
 use Rattle.fancy_grammar.specs.Grammar.{atom, a_read}
 use Rattle.fancy_grammar.specs.Items.{role_of, target_of}
 use Rattle.fancy_grammar.specs.Label as label
 use Rattle.fancy_grammar.specs.Label.{Leaf, AstReference, ast_backref, ast_call}
-use Rattle.fancy_grammar.specs.Marks.{Marks}
+use Rattle.fancy_grammar.specs.Marks.{Marks, is_call_of_all}
 use Rattle.fancy_grammar.specs.Pattern.{Here, group_count}
 use Rattle.fancy_grammar.specs.Resolved.{reference_node}
 use Rattle.fancy_grammar.specs.Tree.{leaf, ast_node}
-use Rattle.fancy_grammar.specs.Writable.{IsBackrefWritable}
+use Rattle.fancy_grammar.specs.Writable.{IsBackrefWritable, IsCallWritable}
 use Rattle.fancy_grammar.proofs.Pattern.Becomes.{Becomes, numbers_told, is_by_number, IsAsMarked}
 use Rattle.fancy_grammar.proofs.Pattern.Leaves.{LeafAt}
 use Rattle.fancy_grammar.proofs.Pattern.Quantifiers.{number_read}
@@ -341,6 +342,13 @@ only_is n (k ∷ j ∷ l) h = absurd cc
 
 -- ---- the leaves
 
+not_of_all : (role : Role) (t : Target) → is_by_number t ≡ false → is_call_of_all role t ≡ false
+not_of_all call (by_number n) h = absurd cc
+not_of_all call (by_name w) h = refl
+not_of_all call (relative z) h = refl
+not_of_all back_reference t h = refl
+not_of_all condition t h = refl
+
 begins_reference : (x : Bool) (t : Text) → Begins x (code "\\" ∷ t)
 begins_reference x t = begins_by x (code "\\") t refl refl refl refl
 
@@ -348,10 +356,39 @@ begins_reference x t = begins_by x (code "\\") t refl refl refl refl
 reference_text : (w v : Text) → (code "<" ∷ (w ++ codes ">")) ++ v ≡ code "<" ∷ (w ++ code ">" ∷ v)
 reference_text w v = ap (λ z. code "<" ∷ z) (append_assoc w (codes ">") v)
 
+-- a call by a name of some kind
+call_by : (μ : Marks) (h : Here) (n : ℕ) (w : Text) (target : Target) →
+    ((v : Text) → ◌≡◌ {A = Option (Text × Text)} (marked_name (code "<" ∷ (w ++ code ">" ∷ v))) (Some (w, v))) →
+    ((p : ℕ) → written_call p w ≡ Some (call_to p target)) →
+    means (numbers_told μ) h.opened call target ≡ number n → ((s : Text) (p : ℕ) → IsAsMarked μ s (ast_call target) p) →
+    LeafAt μ h (marked (codes "\\g") w) (label.subroutine_call n)
+call_by μ h n w target name called meant named = record {
+  reads =
+      λ v m _. let t = code "<" ∷ (w ++ code ">" ∷ v) in
+      subst (λ z. AtomAt μ h (codes "\\g" ++ z) v (leaf (label.subroutine_call n))) (sym (reference_text w v)) (record {
+        tree = ast_node (ast_call target) (reach_of t);
+        derives =
+            atom
+            (leaf_at h.depth h.flags (code "\\") (code "g" ∷ t) refl refl
+            ∙ ap (λ o. read (leaf_outcome leaf_node (st h.flags (codes "\\g" ++ t)) o))
+            (call_read_by h.flags w v target (name v) called))
+            a_read;
+        becomes =
+            reference_becomes μ _ h.opened (ast_call target) (reach_of t) n (label.subroutine_call n) meant
+            (named _ (reach_of t)) (λ _. refl)
+            refl;
+      });
+  begins = λ v. begins_reference h.flags.ignore_space _;
+}
+
 module _ (μ : Marks) (h : Here) (numbered : (k : ℕ) → IfSome (name_of μ k) (λ e. e.1 ≡ numbers_told μ e.0))
     (none : μ.numeric_capture_group_references ≡ false) where
   not_in_digits : (r : AstReference) (p : ℕ) (s : Text) → is_by_number (target_of r) ≡ false → IsAsMarked μ s r p
-  not_in_digits r p s e = record { number = e ∙ sym none; digits = λ y. absurd (false≢true (sym e ∙ y)) }
+  not_in_digits r p s e = record {
+    number = e ∙ sym none;
+    written = λ y. absurd (false≢true (sym e ∙ y));
+    not_of_all = not_of_all (role_of r) (target_of r) e;
+  }
 
   backref_by_name : (n : ℕ) → is_some (fit_name μ (λ l. is_last n l && nat_le n h.opened) n) ≡ true →
       LeafAt μ h (backref_text μ h.opened n) (label.backref n h.flags.casei)
@@ -383,34 +420,10 @@ module _ (μ : Marks) (h : Here) (numbered : (k : ℕ) → IfSome (name_of μ k)
         begins = λ v. begins_reference h.flags.ignore_space _;
       })
 
-  call_by : (n : ℕ) (w : Text) (target : Target) →
-      ((v : Text) → ◌≡◌ {A = Option (Text × Text)} (marked_name (code "<" ∷ (w ++ code ">" ∷ v))) (Some (w, v))) →
-      ((p : ℕ) → written_call p w ≡ Some (call_to p target)) →
-      means (numbers_told μ) h.opened call target ≡ number n → is_by_number target ≡ false →
-      LeafAt μ h (marked (codes "\\g") w) (label.subroutine_call n)
-  call_by n w target name called meant named = record {
-    reads =
-        λ v m _. let t = code "<" ∷ (w ++ code ">" ∷ v) in
-        subst (λ z. AtomAt μ h (codes "\\g" ++ z) v (leaf (label.subroutine_call n))) (sym (reference_text w v)) (record {
-          tree = ast_node (ast_call target) (reach_of t);
-          derives =
-              atom
-              (leaf_at h.depth h.flags (code "\\") (code "g" ∷ t) refl refl
-              ∙ ap (λ o. read (leaf_outcome leaf_node (st h.flags (codes "\\g" ++ t)) o))
-              (call_read_by h.flags w v target (name v) called))
-              a_read;
-          becomes =
-              reference_becomes μ _ h.opened (ast_call target) (reach_of t) n (label.subroutine_call n) meant
-              (not_in_digits (ast_call target) (reach_of t) _ named) (λ _. refl)
-              refl;
-        });
-    begins = λ v. begins_reference h.flags.ignore_space _;
-  }
-
   -- by the name, where it is fit, and else by the distance
-  pub call_at : (n : ℕ) → n - h.opened < amount_bound → h.opened + 1 - n < amount_bound →
+  call_without : (n : ℕ) → n - h.opened < amount_bound → h.opened + 1 - n < amount_bound →
       LeafAt μ h (call_text μ h.opened n) (label.subroutine_call n)
-  call_at n ahead back =
+  call_without n ahead back =
       let P = λ (w : Text). LeafAt μ h (marked (codes "\\g") w) (label.subroutine_call n) in
       let text : call_name μ h.opened n ≡ name_or μ (is_only n) n (distance h.opened n)
       = cond-false _ _ _ (ap (λ b. b && (nat_lt 0 n || μ.self_recursive)) none) in
@@ -423,8 +436,8 @@ module _ (μ : Marks) (h : Here) (numbered : (k : ℕ) → IfSome (name_of μ k)
       by_fit w e =
           let q = fits μ (is_only n) n (numbered n) (ap is_some e) in
           subst (λ w. LeafAt μ h (marked (codes "\\g") w) (label.subroutine_call n)) (same_Some q.name w (sym q.fit ∙ e))
-          (call_by n q.name (by_name q.name) (λ v. name_read q.name q.plain v) (called q.name q.plain [])
-          (only_is n (numbers_told μ q.name) q.are_such) refl)
+          (call_by μ h n q.name (by_name q.name) (λ v. name_read q.name q.plain v) (called q.name q.plain [])
+          (only_is n (numbers_told μ q.name) q.are_such) (λ s p. not_in_digits (ast_call (by_name q.name)) p s refl))
 
       forward : h.opened < n →
           LeafAt μ h (marked (codes "\\g") (code "+" ∷ decimal (n - h.opened))) (label.subroutine_call n)
@@ -434,9 +447,10 @@ module _ (μ : Marks) (h : Here) (numbered : (k : ℕ) → IfSome (name_of μ k)
           let small : suc k < amount_bound = omega (arith, ahead) in
           let same : h.opened + suc k ≡ n = omega arith in
           subst (λ d. LeafAt μ h (marked (codes "\\g") (code "+" ∷ decimal d)) (label.subroutine_call n)) m
-          (call_by n (code "+" ∷ decimal (suc k)) (relative (pos (suc k)))
+          (call_by μ h n (code "+" ∷ decimal (suc k)) (relative (pos (suc k)))
           (distance_marked (code "+") k (pos (suc k)) refl small refl (not_zero k))
-          (distance_called (code "+") k (pos (suc k)) refl small refl (not_zero k)) (ap number same) refl)
+          (distance_called (code "+") k (pos (suc k)) refl small refl (not_zero k)) (ap number same)
+          (λ s p. not_in_digits (ast_call (relative (pos (suc k)))) p s refl))
 
       backward : n ≤ h.opened →
           LeafAt μ h (marked (codes "\\g") (code "-" ∷ decimal (h.opened + 1 - n))) (label.subroutine_call n)
@@ -447,12 +461,34 @@ module _ (μ : Marks) (h : Here) (numbered : (k : ℕ) → IfSome (name_of μ k)
           let same : h.opened - k ≡ n = omega arith in
           let near : nat_le k h.opened ≡ true = le-leb k h.opened (omega arith) in
           subst (λ d. LeafAt μ h (marked (codes "\\g") (code "-" ∷ decimal d)) (label.subroutine_call n)) m
-          (call_by n (code "-" ∷ decimal (suc k)) (relative (negsuc k))
+          (call_by μ h n (code "-" ∷ decimal (suc k)) (relative (negsuc k))
           (distance_marked (code "-") k (negsuc k) refl small refl refl)
           (distance_called (code "-") k (negsuc k) refl small refl refl)
-          (ap (group_or_none call) (cond-true _ _ _ near) ∙ ap number same) refl)
+          (ap (group_or_none call) (cond-true _ _ _ near) ∙ ap number same)
+          (λ s p. not_in_digits (ast_call (relative (negsuc k))) p s refl))
 
 -- ---- in digits
+
+no_relative_digits : (ds : Text) → IsNumeral 10 ds → is_relative ds ≡ false
+unfolding is_relative
+no_relative_digits [] h = absurd (omega (arith, h.0))
+no_relative_digits (d ∷ ds) h =
+    let digit = (digit_is d h.1.0).0 in
+    rw (digit_apart d (code "+") refl digit, digit_apart d (code "-") refl digit) refl
+
+number_called : (n : ℕ) → n < 2 ^ 64 → (p : ℕ) → written_call p (decimal n) ≡ Some (call_to p (by_number n))
+unfolding written_call call_target target_of_name
+number_called n l p =
+    rw (no_relative_digits (decimal n) ((decimal_is_IsNumeral n l).0), number_text_digits n l) refl
+
+digits_marked : (n : ℕ) → n < 2 ^ 64 → (v : Text) →
+    ◌≡◌ {A = Option (Text × Text)} (marked_name (code "<" ∷ (decimal n ++ code ">" ∷ v))) (Some (decimal n, v))
+digits_marked n l v = at (decimal n) ((decimal_is_IsNumeral n l).0)
+  where
+    at : (ds : Text) → IsNumeral 10 ds →
+        ◌≡◌ {A = Option (Text × Text)} (marked_name (code "<" ∷ (ds ++ code ">" ∷ v))) (Some (ds, v))
+    at [] h = absurd (omega (arith, h.0))
+    at (d ∷ ds) h = marked_read d ds v (digits_unmarked (d ∷ ds) h.1)
 
 digits_escape : (f : Flags) (ds v : Text) → IsNumeral 10 ds →
     escape f false (ds ++ v) ≡ number_escape f false (reach_of (ds ++ v) + 1) (ds ++ v)
@@ -487,7 +523,8 @@ module _ (μ : Marks) (h : Here) where
                   reference_becomes μ _ h.opened r (reach_of t) n (label.backref n h.flags.casei) refl
                   (record {
                     number = sym e;
-                    digits = λ _. record { role = refl; digits = t; ends = ([], refl); reach = refl };
+                    written = λ _. inr (record { role = refl; digits = t; ends = ([], refl); reach = refl });
+                    not_of_all = refl;
                   }) (λ _. refl) refl;
             };
         begins = λ v. begins_reference h.flags.ignore_space _;
@@ -503,3 +540,26 @@ module _ (μ : Marks) (h : Here) where
           LeafAt μ h (backref_text μ h.opened n) (label.backref n h.flags.casei)
       by_mode true e l = backref_in_digits n e l
       by_mode false e l = backref_by_name μ h numbered e n l
+
+  -- by the number
+  call_by_number : (n : ℕ) → μ.numeric_capture_group_references ≡ true → 0 < n → n < 2 ^ 64 →
+      LeafAt μ h (call_text μ h.opened n) (label.subroutine_call n)
+  call_by_number n e some l =
+      let P = λ (w : Text). LeafAt μ h (marked (codes "\\g") w) (label.subroutine_call n) in
+      let first : nat_lt 0 n ≡ true = lt-ltb 0 n some in
+      let text : call_name μ h.opened n ≡ decimal n
+      = cond-true _ _ _ (and_from _ _ e (ap (λ b. b || μ.self_recursive) first)) in
+      subst P (sym text)
+      (call_by μ h n (decimal n) (by_number n) (digits_marked n l) (number_called n l) refl
+      (λ s p. record { number = sym e; written = λ _. inl refl; not_of_all = grind (arith, nat_tests) }))
+
+  -- by the number, where some reference is written so, and else by a name or a distance
+  pub call_at : ((k : ℕ) → IfSome (name_of μ k) (λ e. e.1 ≡ numbers_told μ e.0)) → (n : ℕ) →
+      IsCallWritable μ.numeric_capture_group_references h.opened n →
+      LeafAt μ h (call_text μ h.opened n) (label.subroutine_call n)
+  call_at numbered n k = by_mode μ.numeric_capture_group_references refl k
+    where
+      by_mode : (b : Bool) → μ.numeric_capture_group_references ≡ b → IsCallWritable b h.opened n →
+          LeafAt μ h (call_text μ h.opened n) (label.subroutine_call n)
+      by_mode true e k = call_by_number n e k.0 k.1
+      by_mode false e k = call_without μ h numbered e n k.0 k.1

@@ -1,13 +1,14 @@
 -- The text of a writable tree is read as that tree, with its marks, and as nothing else.
-use Rattle.std.proofs.Common.{◌≡◌, ℕ, zero, ◌+◌, ◌<◌, Bool, true, false, ◌&&◌, List, [], ◌∷◌, ◌++◌, lt-ltb, ◌-◌}
+use Rattle.std.proofs.Common.{◌≡◌, ℕ, zero, ◌+◌, ◌<◌, Bool, true, false, ◌&&◌, List, [], ◌∷◌, ◌++◌, lt-ltb, ◌-◌, ◌⊎◌}
 use Rattle.std.proofs.Common.{codes, length, filter_map, map, None, refl, sym, ap, ◌∙◌, subst, arith, nat_lt, get_or}
 use Rattle.std.proofs.Common.{append-nil, ◌||◌, ◌==◌, Option, IfSome, is_some, ap₂, if◌then◌else◌, suc, filter, nat_le}
+use Rattle.std.proofs.Common.{⊎_elim, ltb-true}
 use Rattle.std.proofs.Math.Seq.{get_or-append_seam}
 use Rattle.std.proofs.Math.Utf8.{encodes}
 use Rattle.std.specs.Prelude.{fold, find}
 use Rattle.std.specs.BTreeSet.{insert_key}
 use Rattle.std.specs.List.{list_any, AllByRecursion, cons_option}
-use Rattle.std.proofs.lemmas.Bool.{cond_both, cond-true, and_from}
+use Rattle.std.proofs.lemmas.Bool.{cond_both, cond-true, and_from, or_cases}
 use Rattle.std.proofs.lemmas.List.{length-map}
 use Rattle.std.proofs.lemmas.Str.{encodes-append}
 use Rattle.fancy_lex.specs.Text.{Text, bytes, place_at, reach_of}
@@ -15,14 +16,14 @@ use Rattle.fancy_lex.specs.declared.flags.Flags.{Flags}
 use Rattle.fancy_parts.specs.Ranks.{is_named, only_named, named_groups, numbers, name_cmp}
 use Rattle.fancy_parts.specs.Ranks.{Opening, is_name, numbers_from, names, numbered_openings, is_counted}
 use Rattle.fancy_grammar.specs.Answer.{IsTreeOf}
-use Rattle.fancy_grammar.specs.Answered.{IsAnsweredWith, groups_referred}
+use Rattle.fancy_grammar.specs.Answered.{IsAnsweredWith, groups_referred, has_call}
 use Rattle.fancy_grammar.specs.Depth.{max_depth}
 use Rattle.fancy_grammar.specs.Grammar.{whole, DerivesTree}
 use Rattle.fancy_grammar.specs.Items.{Item, opening, reference, items, openings, openings_in, meanings_in, numbers_in}
 use Rattle.fancy_grammar.specs.Items.{meanings, role_of, target_of}
 use Rattle.fancy_grammar.specs.Label.{AstReference}
 use Rattle.fancy_grammar.specs.Label as label
-use Rattle.fancy_grammar.specs.Marks.{Marks, marks, ascending, is_call_of_all, back_numbers}
+use Rattle.fancy_grammar.specs.Marks.{Marks, marks, ascending, is_call_of_all, back_numbers, is_call}
 use Rattle.fancy_grammar.specs.Pattern.{Here, under, past_groups, deeper, after_setting, in_parens, group_count}
 use Rattle.fancy_grammar.specs.Pattern.{written, behind}
 use Rattle.fancy_grammar.specs.Pattern.{flags_behind}
@@ -33,7 +34,7 @@ use Rattle.fancy_grammar.specs.ReadAs.{IsReadAs}
 use Rattle.fancy_grammar.specs.Resolved.{first_fault, fault_of, resolved}
 use Rattle.fancy_grammar.specs.Tree.{Tree, leaf, over, row, Trees, no_trees, more_trees, levels}
 use Rattle.fancy_grammar.specs.Writable.{AreNodesWritable, AreAllWritable, ArePieces, IsWritable, openings_told}
-use Rattle.fancy_grammar.specs.Writable.{AreCounted, IsNameWritable, marks_of, IsLike}
+use Rattle.fancy_grammar.specs.Writable.{AreCounted, IsNameWritable, marks_of, IsLike, has_reference}
 use Rattle.fancy_grammar.specs.declared.precedence.Precedence.{Precedence}
 use Rattle.fancy_grammar.specs.declared.precedence.Precedence.TheVariants.{Whole, Branch as BranchAlone, Piece}
 use Rattle.fancy_grammar.specs.declared.precedence.Precedence.TheVariants.{Operand}
@@ -53,7 +54,7 @@ use Rattle.fancy_grammar.proofs.Pattern.Rows.{EachPiece, EachBranch, concat_read
 use Rattle.fancy_grammar.proofs.Pattern.Rules.{Clear, ends_nothing, WholeAt}
 use Rattle.fancy_grammar.proofs.ReadBack.RuleLemmas.{st}
 use Rattle.fancy_lex.specs.Target.{Target, by_number, by_name, relative}
-use Rattle.fancy_parts.specs.Meaning.{Role, back_reference, call, condition, number, means, fault_or}
+use Rattle.fancy_parts.specs.Meaning.{Role, call, number, means, fault_or, Meaning}
 use Rattle.fancy_parts.specs.Written.{is_numeric, is_numeric_role, is_behind_backslash}
 use Rattle.fancy_lex.specs.Characters.{backslash}
 use Rattle.fancy_lex.proofs.TextLemmas.{bytes-append, length_encodes}
@@ -210,14 +211,14 @@ module _ (μ : Marks) (s : Text) (named : Bool) (numbers_of : Text → List ℕ)
 
   some_such : (such : Role → Target → ℕ → Bool) → ((r : AstReference) (p : ℕ) → IsAsMarked μ s r p →
       such (role_of r) (target_of r) p ≡ true) → (c : ℕ) (l : List Item) → AreGroups μ s c l →
-      AreCounted named (openings_in l) → 0 < length (back_numbers (meanings_in named numbers_of c l)) →
+      AreCounted named (openings_in l) → 0 < length (meanings_in named numbers_of c l) →
       list_any (λ x. such (role_of x.0) (target_of x.0) x.1) (meanings_in named numbers_of c l) ≡ true
   some_such such always c [] h k some = absurd (omega (arith, some))
   some_such such always c (opening o ∷ l) h k some =
       let next = cond-true (is_counted named o.name) (c + 1) c k.0 in
       ap (λ n. list_any (λ x. such (role_of x.0) (target_of x.0) x.1) (meanings_in named numbers_of n l)) next
       ∙ some_such such always (c + 1) l h.1 k.1
-      (subst (λ n. 0 < length (back_numbers (meanings_in named numbers_of n l))) next some)
+      (subst (λ n. 0 < length (meanings_in named numbers_of n l)) next some)
   some_such such always c (reference r p ∷ l) h k some = rw (always r p h.1) refl
 
 -- ---- which references are numeric
@@ -233,13 +234,6 @@ numeric_by : (text : Text) (place : ℕ) (role : Role) (t : Target) → is_by_nu
 numeric_by text place role (by_number n) h = refl
 numeric_by text place role (by_name w) h = absurd cc
 numeric_by text place role (relative z) h = absurd cc
-
-not_of_all : (role : Role) (t : Target) → is_by_number t ≡ false → is_call_of_all role t ≡ false
-not_of_all call (by_number n) h = absurd cc
-not_of_all call (by_name w) h = refl
-not_of_all call (relative z) h = refl
-not_of_all back_reference t h = refl
-not_of_all condition t h = refl
 
 bytes_behind : (t : Text) → bytes (backslash ∷ t) ≡ bytes t + 1
 unfolding bytes
@@ -263,13 +257,16 @@ backslash_before w t =
     ∙ and_from _ _ first
     (ap (λ k. get_or (encodes text) k 0 == backslash) before ∙ ap (λ k. k == backslash) byte)
 
-in_digits : (text : Text) (r : AstReference) (p : ℕ) → is_by_number (target_of r) ≡ true → IsInDigits text r p →
+numeric_written : (text : Text) (r : AstReference) (p : ℕ) → is_by_number (target_of r) ≡ true →
+    (role_of r ≡ call) ⊎ IsInDigits text r p →
     is_numeric text (place_at (bytes text) p) (role_of r) (target_of r) ≡ true
-in_digits text r p n d =
-    let (w, e) = d.ends in
+numeric_written text r p n h =
     let place = place_at (bytes text) p in
-    numeric_by text place (role_of r) (target_of r) n ∙ (ap (is_numeric_role text place) d.role
-    ∙ ((λ i. is_behind_backslash (e i) (place_at (bytes (e i)) (d.reach i))) ∙ backslash_before w d.digits))
+    numeric_by text place (role_of r) (target_of r) n
+    ∙ ⊎_elim (λ c. ap (is_numeric_role text place) c)
+    (λ d. let (w, e) = d.ends in
+    ap (is_numeric_role text place) d.role
+    ∙ ((λ i. is_behind_backslash (e i) (place_at (bytes (e i)) (d.reach i))) ∙ backslash_before w d.digits)) h
 
 -- an opening without its reach, of which marks say nothing
 abbrev unreached : Opening → Opening
@@ -311,6 +308,21 @@ length_told : (μ : Marks) (c n : ℕ) → length (openings_told μ c n) ≡ n
 length_told μ c zero = refl
 length_told μ c (suc n) = ap suc (length_told μ (c + 1) n)
 
+-- where there is a back reference or a call, there is a meaning
+some_number : (l : List (AstReference × ℕ × Meaning)) → 0 < length (back_numbers l) → 0 < length l
+some_number [] h = h
+some_number (x ∷ l) h = omega arith
+
+some_call : (l : List (AstReference × ℕ × Meaning)) → list_any (λ x. is_call (role_of x.0)) l ≡ true → 0 < length l
+some_call [] h = absurd cc
+some_call (x ∷ l) h = omega arith
+
+some_meaning : (x : Tree) (l : List (AstReference × ℕ × Meaning)) → groups_referred x ≡ back_numbers l →
+    has_call x ≡ list_any (λ y. is_call (role_of y.0)) l → has_reference x ≡ true → 0 < length l
+some_meaning x l numbers calls h =
+    ⊎_elim (λ n. some_number l (subst (λ k. 0 < length k) numbers (ltb-true 0 (length (groups_referred x)) n)))
+    (λ c. some_call l (sym calls ∙ c)) (or_cases (nat_lt 0 (length (groups_referred x))) (has_call x) h)
+
 module _ (μ : Marks) (f : Flags) (text : Text) (r x : Tree) (b : Becomes μ text 0 r x)
     (told : μ ≡ marks_of f (openings_told μ 0 (group_count x)) x μ.numeric_capture_group_references)
     (each : AreCounted μ.numbered_groups_ignored (openings_told μ 0 (group_count x))) where
@@ -351,15 +363,8 @@ module _ (μ : Marks) (f : Flags) (text : Text) (r x : Tree) (b : Becomes μ tex
   no_such such never =
       none_such μ text (only_named f (openings r)) (numbers_in f r) same_numbers such never 0 (items r) b.groups all_counted
 
-  of_all : (r : AstReference) (p : ℕ) → IsAsMarked μ text r p → is_call_of_all (role_of r) (target_of r) ≡ false
-  of_all r p k = at (is_by_number (target_of r)) refl
-    where
-      at : (b : Bool) → is_by_number (target_of r) ≡ b → is_call_of_all (role_of r) (target_of r) ≡ false
-      at true e = ap (λ o. is_call_of_all o (target_of r)) (k.digits e).role
-      at false e = not_of_all (role_of r) (target_of r) e
-
   -- whether some reference is written as a number
-  numeric_is : (b : Bool) → μ.numeric_capture_group_references ≡ b → (b ≡ true → 0 < length (back_numbers (meanings f r))) →
+  numeric_is : (b : Bool) → μ.numeric_capture_group_references ≡ b → (b ≡ true → 0 < length (meanings f r)) →
       (marks f text r).numeric_capture_group_references ≡ b
   numeric_is false e some =
       no_such (λ role t p. is_numeric text (place_at (bytes text) p) role t)
@@ -367,10 +372,10 @@ module _ (μ : Marks) (f : Flags) (text : Text) (r x : Tree) (b : Becomes μ tex
   numeric_is true e some =
       some_such μ text (only_named f (openings r)) (numbers_in f r) same_numbers
       (λ role t p. is_numeric text (place_at (bytes text) p) role t)
-      (λ r p k. in_digits text r p (k.number ∙ e) (k.digits (k.number ∙ e))) 0 (items r) b.groups all_counted (some refl)
+      (λ r p k. numeric_written text r p (k.number ∙ e) (k.written (k.number ∙ e))) 0 (items r) b.groups all_counted (some refl)
 
   -- the marks that the text is read with
-  marked : DerivesTree f text r → (μ.numeric_capture_group_references ≡ true → 0 < length (groups_referred x)) →
+  marked : DerivesTree f text r → (μ.numeric_capture_group_references ≡ true → has_reference x ≡ true) →
       μ ≡ marks f text r
   marked d some =
       let m = marks f text r in
@@ -383,8 +388,8 @@ module _ (μ : Marks) (f : Flags) (text : Text) (r x : Tree) (b : Becomes μ tex
       let tree : IsTreeOf f text x m = (r, d, faultless, resolves, refl) in
       let numeric : m.numeric_capture_group_references ≡ μ.numeric_capture_group_references
       = numeric_is μ.numeric_capture_group_references refl
-      (λ e. subst (λ l. 0 < length l) (numbers_referred tree) (some e)) in
-      let self : m.self_recursive ≡ false = no_such (λ role t p. is_call_of_all role t) of_all in
+      (λ e. some_meaning x (meanings f r) (numbers_referred tree) a.calls (some e)) in
+      let self : m.self_recursive ≡ false = no_such (λ role t p. is_call_of_all role t) (λ r p k. k.not_of_all) in
       let only : m.numbered_groups_ignored ≡ only_named f all
       = sym (unreached_named f (openings r)) ∙ ap (only_named f) openings_are in
       let backrefs : m.backrefs ≡ ascending (filter (λ n. nat_le n (length all)) (groups_referred x))
@@ -409,7 +414,7 @@ module _ (μ : Marks) (f : Flags) (text : Text) (r x : Tree) (b : Becomes μ tex
 from_whole : (μ : Marks) (f g : Flags) (text : Text) (x : Tree) →
     μ ≡ marks_of f (openings_told μ 0 (group_count x)) x μ.numeric_capture_group_references →
     AreCounted μ.numbered_groups_ignored (openings_told μ 0 (group_count x)) →
-    (μ.numeric_capture_group_references ≡ true → 0 < length (groups_referred x)) →
+    (μ.numeric_capture_group_references ≡ true → has_reference x ≡ true) →
     WholeAt μ (record { flags = f; opened = 0; depth = 0 }) text g [] x → IsTreeOf f text x μ
 from_whole μ f g text x told each some w = (
   w.tree,
