@@ -63,8 +63,8 @@ IsCallWritable false c n = (n - c < amount_bound) × (c + 1 - n < amount_bound)
 abbrev pub IsParted : Marks → Tree → Trees → Type 0
 IsParted m t ts = is_in_digits m t ≡ true → (h : Here) → at_digit (written_all m false ts h) ≡ false
 
--- a leaf as it is read, behind the openings of c groups: a character, a byte without UNICODE, what has an escape, a back
--- reference without a level, or a call
+-- a leaf as it is read, behind the openings of c groups: a character, a byte without UNICODE, what has an escape, a
+-- back reference without a level, or a call
 abbrev pub IsWritableLeaf : Flags → Marks → ℕ → Leaf → Type 0
 IsWritableLeaf f m c (literal (d ∷ []) casei) = Unit {0}
 IsWritableLeaf f m c (literal_bytes (b ∷ [])) = (f.unicode ≡ false) × (0x80 ≤ b) × (b ≤ 0xFF)
@@ -102,8 +102,10 @@ abbrev mutual
       (row conditional (more_trees (over (look_around l) k) (more_trees t (more_trees e no_trees)))) =
       AreNodesWritable f m c k × AreNodesWritable f m (c + group_count k) t
       × AreNodesWritable f m (c + group_count k + group_count t) e × ((is_empty t && is_empty e) ≡ false)
-  AreNodesWritable f m c (row concat (more_trees t (more_trees u ts))) = ArePieces f m c (more_trees t (more_trees u ts))
-  AreNodesWritable f m c (row alt (more_trees t (more_trees u ts))) = AreAllWritable f m c (more_trees t (more_trees u ts))
+  AreNodesWritable f m c (row concat (more_trees t (more_trees u ts))) =
+      ArePieces f m c (more_trees t (more_trees u ts))
+  AreNodesWritable f m c (row alt (more_trees t (more_trees u ts))) =
+      AreAllWritable f m c (more_trees t (more_trees u ts))
   AreNodesWritable f m c _ = ⊥
 
   pub AreAllWritable : Flags → Marks → ℕ → Trees → Type 0
@@ -121,7 +123,8 @@ abbrev mutual
 abbrev pub name_at : Marks → ℕ → Option Text
 name_at m n = option_map (λ e. e.0) (name_of m n)
 
--- the openings of the next groups behind c others, so many, with the names that the marks give them; reaches are left out
+-- the openings of the next groups behind c others, so many, with the names that the marks give them; reaches are left
+-- out
 abbrev pub openings_told : Marks → ℕ → ℕ → List Opening
 openings_told m c zero = []
 openings_told m c (suc n) = record { reach = 0; name = name_at m (c + 1) } ∷ openings_told m (c + 1) n
@@ -154,8 +157,8 @@ IsNameWritable (c ∷ w) = (is_among (code ">") (c ∷ w) && is_among (code "'")
 
 -- ---- the trees
 
--- outside Oniguruma mode, a tree of fewer than 64 levels with its marks, whose references are all written as numbers, or
--- none
+-- outside Oniguruma mode, a tree of fewer than 64 levels with its marks, whose references are all written as numbers,
+-- or none is
 pub record IsWritable (f : Flags) (m : Marks) (t : Tree) : Type 0 where
   pub mode : f.oniguruma_mode ≡ false
   pub marks : m ≡ marks_of f (openings_told m 0 (group_count t)) t m.numeric_capture_group_references

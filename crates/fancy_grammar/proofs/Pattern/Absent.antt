@@ -132,7 +132,8 @@ repeater_at μ h u g v x l p =
           (subst (λ z. Alternation (h.depth + 1) (st h.flags z) (done p.reads.tree (st g (code ")" ∷ v)))) p.is
           p.reads.derives)));
       becomes = over_becomes μ _ label.repeater h.opened p.reads.tree x tt
-          (in_longer μ _ _ (codes "(?~", refl) h.opened p.reads.tree x (subst (λ z. Becomes μ z h.opened p.reads.tree x) p.is p.reads.becomes));
+          (in_longer μ _ _ (codes "(?~", refl) h.opened p.reads.tree x
+          (subst (λ z. Becomes μ z h.opened p.reads.tree x) p.is p.reads.becomes));
     })
 
 -- ---- a stopper
@@ -169,7 +170,8 @@ expression_at μ h t u v f g a e l b d = record {
         in_longer μ t _ (codes "(?~|", refl) _ b.tree a b.becomes,
         (
           in_longer μ u _ (ends_twice _ t u (codes "(?~|", refl)
-              (ends_twice t (code "|" ∷ u) u (to_ends (branch_read b.derives).span.slice) (codes "|", refl))) _ d.tree e d.becomes,
+              (ends_twice t (code "|" ∷ u) u (to_ends (branch_read b.derives).span.slice)
+              (codes "|", refl))) _ d.tree e d.becomes,
           tt,
         ),
       );

@@ -106,12 +106,14 @@ counted_unnamed [] = tt
 counted_unnamed (o ∷ l) = (refl, counted_unnamed l)
 
 -- what it resolves to where all groups have a number
-pub becomes_plain : (μ : Marks) (s : Text) (c : ℕ) (r x : Tree) → Becomes μ s c r x → resolved_in 0 false (numbers_told μ) c r ≡ x
+pub becomes_plain : (μ : Marks) (s : Text) (c : ℕ) (r x : Tree) → Becomes μ s c r x →
+    resolved_in 0 false (numbers_told μ) c r ≡ x
 becomes_plain μ s c r x b = b.is false (counted_unnamed (openings_in (items r))) 0 (numbers_told μ) (λ w. refl)
 
 -- ---- several trees
 
-all_groups : (μ : Marks) (s : Text) (l m : List Tree) (c : ℕ) → EachBecomes μ s c l m → AreGroups μ s c (items_all (trees_of l))
+all_groups : (μ : Marks) (s : Text) (l m : List Tree) (c : ℕ) → EachBecomes μ s c l m →
+    AreGroups μ s c (items_all (trees_of l))
 all_groups μ s [] [] c h = tt
 all_groups μ s (r ∷ l) (x ∷ m) c h =
     groups_append μ s c (items r) (items_all (trees_of l)) h.0.groups
@@ -163,14 +165,16 @@ one_becomes μ s w (r ∷ l) [] c h = absurd h
 -- ---- Empties
 
 -- what becomes no Empty is none
-pub stays_solid : (μ : Marks) (s : Text) (c : ℕ) (r x : Tree) → Becomes μ s c r x → is_empty x ≡ false → is_empty r ≡ false
+pub stays_solid : (μ : Marks) (s : Text) (c : ℕ) (r x : Tree) → Becomes μ s c r x → is_empty x ≡ false →
+    is_empty r ≡ false
 stays_solid μ s c empty x b e = absurd-empty (ap is_empty (becomes_plain μ s c empty x b) ∙ e)
   where
     absurd-empty : {A : Type 0} → true ≡ false → A
     absurd-empty e = absurd cc
 stays_solid μ s c r x b e = refl
 
-pub solid_also : (μ : Marks) (s : Text) (c : ℕ) (r x : Tree) (l m : List Tree) → Becomes μ s c r x → is_empty x ≡ false →
+pub solid_also : (μ : Marks) (s : Text) (c : ℕ) (r x : Tree) (l m : List Tree) → Becomes μ s c r x →
+    is_empty x ≡ false →
     EachBecomes μ s (c + group_count x) (solid l) m → EachBecomes μ s c (solid (r ∷ l)) (x ∷ m)
 solid_also μ s c r x l m b e h =
     subst (λ k. EachBecomes μ s c k (x ∷ m)) (sym (cond-false _ _ _ (stays_solid μ s c r x b e))) (b, h)
@@ -203,14 +207,16 @@ place_free μ s f (ast_node r p) c h =
     node_told (is_repeatable f) true μ c r p (λ n i. refl) (λ n l i. refl) (λ n. refl) (λ n l. refl) h.0
 place_free μ s f _ c h = refl
 
-pub stays_repeatable : (μ : Marks) (s : Text) (f : Flags) (c : ℕ) (r x : Tree) → Becomes μ s c r x → is_repeatable f x ≡ true →
+pub stays_repeatable : (μ : Marks) (s : Text) (f : Flags) (c : ℕ) (r x : Tree) → Becomes μ s c r x →
+    is_repeatable f x ≡ true →
     is_repeatable f r ≡ true
 stays_repeatable μ s f c r x b e =
     sym (place_free μ s f r c b.groups) ∙ (ap (is_repeatable f) (becomes_plain μ s c r x b) ∙ e)
 
 -- ---- in a longer text
 
-groups_in_longer : (μ : Marks) (s t : Text) → EndsWith t s → (c : ℕ) (l : List Item) → AreGroups μ s c l → AreGroups μ t c l
+groups_in_longer : (μ : Marks) (s t : Text) → EndsWith t s → (c : ℕ) (l : List Item) → AreGroups μ s c l →
+    AreGroups μ t c l
 groups_in_longer μ s t e c [] h = tt
 groups_in_longer μ s t e c (opening o ∷ l) h = (h.0, groups_in_longer μ s t e (c + 1) l h.1)
 groups_in_longer μ s t e c (reference r p ∷ l) h = (

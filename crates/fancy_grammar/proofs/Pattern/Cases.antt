@@ -77,7 +77,8 @@ module _ (μ : Marks) where
   outside f c (StartLineOniguruma crlf) k = k
   outside f c _ k = tt
 
-  pub leaf_reads : ((k : ℕ) → IfSome (name_of μ k) (λ e. e.1 ≡ numbers_told μ e.0)) → (f : Flags) (l : Leaf) (h : Here) → h.flags.oniguruma_mode ≡ false → IsLike f h.flags →
+  pub leaf_reads : ((k : ℕ) → IfSome (name_of μ k) (λ e. e.1 ≡ numbers_told μ e.0)) →
+      (f : Flags) (l : Leaf) (h : Here) → h.flags.oniguruma_mode ≡ false → IsLike f h.flags →
       h.depth + 1 < max_depth → IsWritableLeaf f μ h.opened l → ReadsTree (leaf l) h
   leaf_reads numbered f label.empty h o like d k = by_nothing μ h (codes "()") (codes "()")
   leaf_reads numbered f (label.any a b) h o like d k =

@@ -134,11 +134,13 @@ EscapesAs f casei c t = EscapesIn false f casei c t
 pub reads_small : (inside : Bool) (f : Flags) (c : ℕ) → c < 0x80 →
     EscapesIn inside f f.casei c (code "x" ∷ upper_hex_digit (c / 16) ∷ upper_hex_digit (c % 16) ∷ [])
 reads_small inside f c h s =
-    escape_x f inside _ ∙ (hex_two f (c / 16) (c % 16) c s (omega arith) (omega arith) (omega arith) ∙ small_literal f _ c s h)
+    escape_x f inside _ ∙ (hex_two f (c / 16) (c % 16) c s (omega arith) (omega arith) (omega arith)
+    ∙ small_literal f _ c s h)
 
 pub reads_large : (inside : Bool) (f : Flags) (c : ℕ) → c < 0x10000 → is_scalar c ≡ true →
-    EscapesIn inside f f.casei c (code "u" ∷ upper_hex_digit (c / 4096) ∷ upper_hex_digit (c / 256 % 16) ∷ upper_hex_digit
-    (c / 16 % 16) ∷ upper_hex_digit (c % 16) ∷ [])
+    EscapesIn inside f f.casei c
+    (code "u" ∷ upper_hex_digit (c / 4096) ∷ upper_hex_digit (c / 256 % 16) ∷ upper_hex_digit (c / 16 % 16)
+    ∷ upper_hex_digit (c % 16) ∷ [])
 reads_large inside f c h k s =
     escape_u f inside _ ∙ (hex_four f (c / 4096) (c / 256 % 16) (c / 16 % 16) (c % 16) c s (omega arith) (omega arith)
     (omega arith) (omega arith) (omega arith) ∙ large_literal f _ c s k)
@@ -179,7 +181,8 @@ escapes_letter inside f c d =
     (λ _. cond_both (c == code "\u{1b}") _ _ Q (λ t e. from (code "e") (code "\u{1b}") e t (λ s. esc s))
     (λ _ e. absurd cc)))))))
   where
-    from : (y k : ℕ) → Some y ≡ Some d → (c == k) ≡ true → EscapesIn inside f false k (y ∷ []) → EscapesIn inside f false c (d ∷ [])
+    from : (y k : ℕ) → Some y ≡ Some d → (c == k) ≡ true → EscapesIn inside f false k (y ∷ []) →
+        EscapesIn inside f false c (d ∷ [])
     from y k e t h =
         subst (λ z. EscapesIn inside f false c (z ∷ [])) (same_Some y d e)
         (subst (λ z. EscapesIn inside f false z (y ∷ [])) (sym (eqb-true c k t)) h)

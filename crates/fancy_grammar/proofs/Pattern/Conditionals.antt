@@ -180,7 +180,11 @@ two_body μ d k f n t u v g i x e b w =
           (the_body (alternation (more b.derives refl o.derives)));
       one_becomes = b.becomes;
       other_becomes =
-          in_longer μ (u ++ code ")" ∷ v) s (t ++ codes "|", sym (append_assoc t (codes "|") (u ++ code ")" ∷ v))) _ other e
+          in_longer μ (u ++ code ")" ∷ v) s (
+            t ++ codes "|",
+            sym
+                (append_assoc t (codes "|") (u ++ code ")" ∷ v)),
+          ) _ other e
           (subst (λ r. Becomes μ (u ++ code ")" ∷ v) (n + group_count x) r e) (sym same) w.becomes);
     }
 
@@ -262,7 +266,8 @@ conditional_at μ i w z v g c t e l solid b y =
     = ends_twice (codes "(?((" ++ w) (code "(" ∷ w) z (codes "(?(", refl)
     (ends_twice (code "(" ∷ w) (code ")" ∷ z) z (to_ends (alternation_read b.derives).span.slice) (codes ")", refl)) in
     let neither : (is_empty y.one && is_empty y.other) ≡ false
-    = ap₂ (λ p q. p && q) (same_empty μ z _ y.one t y.one_becomes) (same_empty μ z _ y.other e y.other_becomes) ∙ solid in
+    = ap₂ (λ p q. p && q) (same_empty μ z _ y.one t y.one_becomes) (same_empty μ z _ y.other e y.other_becomes)
+    ∙ solid in
     let is : conditional_of b.tree y.one y.other ≡ conditional b.tree y.one y.other = cond-false _ _ _ neither in
     record {
       tree = conditional_of b.tree y.one y.other;
@@ -273,7 +278,10 @@ conditional_at μ i w z v g c t e l solid b y =
           (sym is)
           (row_becomes μ _ label.conditional (b.tree ∷ y.one ∷ y.other ∷ []) (c ∷ t ∷ e ∷ []) i.opened (
             in_longer μ (code "(" ∷ w) _ (codes "(?(", refl) _ b.tree c b.becomes,
-            (in_longer μ z _ inner_ends _ y.one t y.one_becomes, (in_longer μ z _ inner_ends _ y.other e y.other_becomes, tt)),
+            (
+              in_longer μ z _ inner_ends _ y.one t y.one_becomes,
+              (in_longer μ z _ inner_ends _ y.other e y.other_becomes, tt),
+            ),
           ));
     }
 

@@ -186,7 +186,8 @@ reads_look μ h l g s t v x e w = record {
   tree = look_around w.tree l;
   derives = atom e (a_group (inside w.derives));
   becomes =
-      over_becomes μ s (label.look_around l) h.opened w.tree x tt (in_longer μ t s (head_ends _ _ _ s t _ e) h.opened w.tree x w.becomes);
+      over_becomes μ s (label.look_around l) h.opened w.tree x tt
+      (in_longer μ t s (head_ends _ _ _ s t _ e) h.opened w.tree x w.becomes);
 }
 
 pub reads_atomic : (μ : Marks) (h : Here) (g : Flags) (s t v : Text) (x : Tree) →
@@ -196,7 +197,8 @@ reads_atomic μ h g s t v x e w = record {
   tree = atomic_group w.tree;
   derives = atom e (a_group (inside w.derives));
   becomes =
-      over_becomes μ s label.atomic_group h.opened w.tree x tt (in_longer μ t s (head_ends _ _ _ s t _ e) h.opened w.tree x w.becomes);
+      over_becomes μ s label.atomic_group h.opened w.tree x tt
+      (in_longer μ t s (head_ends _ _ _ s t _ e) h.opened w.tree x w.becomes);
 }
 
 pub reads_define : (μ : Marks) (h : Here) (g : Flags) (s t v : Text) (x : Tree) →
@@ -206,7 +208,8 @@ reads_define μ h g s t v x e w = record {
   tree = define_group w.tree;
   derives = atom e (a_group (inside w.derives));
   becomes =
-      over_becomes μ s label.define_group h.opened w.tree x tt (in_longer μ t s (head_ends _ _ _ s t _ e) h.opened w.tree x w.becomes);
+      over_becomes μ s label.define_group h.opened w.tree x tt
+      (in_longer μ t s (head_ends _ _ _ s t _ e) h.opened w.tree x w.becomes);
 }
 
 -- a capturing group, whose name is that which the marks give it

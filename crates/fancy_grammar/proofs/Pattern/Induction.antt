@@ -56,7 +56,8 @@ AtomHere μ t h s = (v : Text) → NoName h.flags.ignore_space v → Follows μ 
 
 module _ (μ : Marks) (t : Tree) (h : Here) (solid : is_empty t ≡ false) where
   pub one_branch : (s : Text) (g : Flags) → ((v w : Text) (k : Flags) (ys : List Tree) → Clear h.flags.ignore_space v →
-      Follows μ t v → Rest μ (past_groups (group_count t) (under g h)) v k w ys → Rest μ h (s ++ v) k w (t ∷ ys)) → (v : Text) →
+      Follows μ t v → Rest μ (past_groups (group_count t) (under g h)) v k w ys → Rest μ h (s ++ v) k w (t ∷ ys)) →
+      (v : Text) →
       Stops h.flags.ignore_space v → g.ignore_space ≡ h.flags.ignore_space → BranchAt μ h (s ++ v) g v t
   one_branch s g p v e same =
       reads_branch μ h (s ++ v) v g (t ∷ [])
@@ -196,7 +197,8 @@ module _ (μ : Marks) (t : Tree) (h : Here) (o : h.flags.oniguruma_mode ≡ fals
         whole = q;
         branch = λ v i. one_branch μ t h solid (scoped s) h.flags l v i refl;
         piece =
-            λ _ v w k ys c y r. l v w k ys c y (subst (λ f. Rest μ (past_groups (group_count t) (under f h)) v k w ys) e r);
+            λ _ v w k ys c y r. l v w k ys c y (subst
+            (λ f. Rest μ (past_groups (group_count t) (under f h)) v k w ys) e r);
         atom = λ _ _. a;
       }
 

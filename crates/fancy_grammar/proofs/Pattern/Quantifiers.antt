@@ -307,7 +307,8 @@ text_counted f possessive lo hi greedy v o l h =
 
 -- ---- an atom under it, before the pieces that follow
 
-over_quantified : (μ : Marks) (s : Text) (possessive : Bool) (c : ℕ) (r x : Tree) (lo hi : ℕ) (greedy : Bool) → Becomes μ s c r x →
+over_quantified : (μ : Marks) (s : Text) (possessive : Bool) (c : ℕ) (r x : Tree) (lo hi : ℕ) (greedy : Bool) →
+    Becomes μ s c r x →
     Becomes μ s c (quantified_tree possessive r lo hi greedy) (quantified_tree possessive x lo hi greedy)
 over_quantified μ s true c r x lo hi greedy b =
     over_becomes μ s atomic c _ _ tt (over_becomes μ s (repeated lo hi greedy) c r x tt b)

@@ -207,17 +207,14 @@ no_sign : (ds : Text) → IsNumeral 10 ds → strip (code "+") ds ≡ None
 no_sign [] h = absurd (omega (arith, h.0))
 no_sign (d ∷ ds) h = rw (digit_apart d (code "+") refl ((digit_is d h.1.0).0)) refl
 
+digit_unmarked : (c : ℕ) → is_ascii_digit c ≡ true → (code ">" == c) ≡ false
+digit_unmarked c e = grind (arith, nat_tests)
+
 digits_unmarked : (ds : Text) → AllDigits 10 ds → is_among (code ">") ds ≡ false
 digits_unmarked [] h = refl
 digits_unmarked (c ∷ []) h = digit_unmarked c ((digit_is c h.0).0)
-  where
-    digit_unmarked : (c : ℕ) → is_ascii_digit c ≡ true → (code ">" == c) ≡ false
-    digit_unmarked c e = grind (arith, nat_tests)
 digits_unmarked (c ∷ d ∷ ds) h =
     rw (digit_unmarked c ((digit_is c h.0).0)) (digits_unmarked (d ∷ ds) h.1)
-  where
-    digit_unmarked : (c : ℕ) → is_ascii_digit c ≡ true → (code ">" == c) ≡ false
-    digit_unmarked c e = grind (arith, nat_tests)
 
 number_text_digits : (n : ℕ) → n < 2 ^ 64 → number_text (decimal n) ≡ Some n
 unfolding number_text
@@ -285,7 +282,8 @@ module _ (sign k : ℕ) (z : ℤ) (is_sign : sign ∈ "+-" ≡ true) (small : su
 
 reference_becomes : (μ : Marks) (s : Text) (c : ℕ) (r : AstReference) (p k : ℕ) (l : Leaf) →
     means (numbers_told μ) c (role_of r) (target_of r) ≡ number k → IsAsMarked μ s r p →
-    ((n : ℕ) → reference_node n (number k) r p ≡ leaf l) → group_count (leaf l) ≡ 0 → Becomes μ s c (ast_node r p) (leaf l)
+    ((n : ℕ) → reference_node n (number k) r p ≡ leaf l) → group_count (leaf l) ≡ 0 →
+    Becomes μ s c (ast_node r p) (leaf l)
 reference_becomes μ s c r p k l meant marked same count = record {
   is =
       λ _ _ n u e. (λ i. reference_node n (means (λ w. e w i) c (role_of r) (target_of r)) r p)
@@ -429,13 +427,15 @@ module _ (μ : Marks) (h : Here) (numbered : (k : ℕ) → IfSome (name_of μ k)
       = cond-false _ _ _ (ap (λ b. b && (nat_lt 0 n || μ.self_recursive)) none) in
       subst P (sym text)
       (choose_both P (fit_name μ (is_only n) n) _ _ (λ w e. by_fit w e)
-      (cond_both (nat_lt h.opened n) _ _ P (λ e. forward (ltb-true h.opened n e)) (λ e. backward (grind (arith, nat_tests)))))
+      (cond_both (nat_lt h.opened n) _ _ P (λ e. forward (ltb-true h.opened n e))
+      (λ e. backward (grind (arith, nat_tests)))))
     where
       by_fit : (w : Text) → fit_name μ (is_only n) n ≡ Some w →
           LeafAt μ h (marked (codes "\\g") w) (label.subroutine_call n)
       by_fit w e =
           let q = fits μ (is_only n) n (numbered n) (ap is_some e) in
-          subst (λ w. LeafAt μ h (marked (codes "\\g") w) (label.subroutine_call n)) (same_Some q.name w (sym q.fit ∙ e))
+          subst (λ w. LeafAt μ h (marked (codes "\\g") w) (label.subroutine_call n))
+          (same_Some q.name w (sym q.fit ∙ e))
           (call_by μ h n q.name (by_name q.name) (λ v. name_read q.name q.plain v) (called q.name q.plain [])
           (only_is n (numbers_told μ q.name) q.are_such) (λ s p. not_in_digits (ast_call (by_name q.name)) p s refl))
 

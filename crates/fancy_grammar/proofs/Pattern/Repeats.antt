@@ -77,7 +77,8 @@ module _ (μ : Marks) where
           subst (λ z. Rest μ i (z ++ v) k w (x ∷ ys)) (sym (repeated_is possessive t lo hi greedy i o))
           (subst (λ z. Rest μ i z k w (x ∷ ys)) (sym (append_assoc s mark v))
           (lead_quantified μ i (s ++ (mark ++ v)) (mark ++ v) v w k t ys possessive lo hi greedy o
-          (r.atom_begins rep (mark ++ v)) c rep counted (r.atom rep none (mark ++ v) counted.no_name (λ _. counted.no_digit))
+          (r.atom_begins rep (mark ++ v)) c rep counted
+          (r.atom rep none (mark ++ v) counted.no_name (λ _. counted.no_digit))
           (subst (λ n. Rest μ (past_groups n i) v k w ys) (same_count possessive t lo hi greedy) q)))
 
     -- a Repeat is all that stands in a group

@@ -227,7 +227,8 @@ reads_more μ h s t v f g x ys b bs = record {
   become = (
     b.becomes,
     each_in_longer μ t s
-        (ends_twice s (code "|" ∷ t) t (to_ends (branch_read b.derives).span.slice) (codes "|", refl)) bs.trees ys _ bs.become,
+        (ends_twice s (code "|" ∷ t) t (to_ends (branch_read b.derives).span.slice)
+        (codes "|", refl)) bs.trees ys _ bs.become,
   );
 }
 

@@ -172,8 +172,13 @@ module _ (μ : Marks) where
 
       each_piece : (ts : Trees) (c : ℕ) → ArePieces f μ c ts → EachPiece μ f mode c ts
       each_piece no_trees c k = tt
-      each_piece (more_trees t ts) c k =
-          ((λ h o e d. reads t h (subst (λ n. AreNodesWritable f μ n t) (sym o) k.0) e d), k.1, k.2, each_piece ts _ k.3)
+      each_piece (more_trees t ts) c k = (
+        (λ h o e d. reads t h (subst (λ n. AreNodesWritable f μ n t)
+            (sym o) k.0) e d),
+        k.1,
+        k.2,
+        each_piece ts _ k.3,
+      )
 
       each_branch : (ts : Trees) (c : ℕ) → AreAllWritable f μ c ts → EachBranch μ f mode c ts
       each_branch no_trees c k = tt
@@ -276,7 +281,8 @@ told_openings : (μ : Marks) (s : Text) (c : ℕ) (l : List Item) → AreGroups 
     map unreached (openings_in l) ≡ openings_told μ c (opened l)
 told_openings μ s c [] h = refl
 told_openings μ s c (opening o ∷ l) h =
-    ap₂ (λ (n : Option Text) (m : List Opening). record { reach = 0; name = n } ∷ m) h.0 (told_openings μ s (c + 1) l h.1)
+    ap₂ (λ (n : Option Text) (m : List Opening). record { reach = 0; name = n } ∷ m) h.0
+    (told_openings μ s (c + 1) l h.1)
 told_openings μ s c (reference r p ∷ l) h = told_openings μ s c l h.2
 
 unreached_names : (l : List Opening) → filter_map (λ o. o.name) (map unreached l) ≡ filter_map (λ o. o.name) l
@@ -361,7 +367,8 @@ module _ (μ : Marks) (f : Flags) (text : Text) (r x : Tree) (b : Becomes μ tex
       such (role_of r) (target_of r) p ≡ false) →
       list_any (λ x. such (role_of x.0) (target_of x.0) x.1) (meanings f r) ≡ false
   no_such such never =
-      none_such μ text (only_named f (openings r)) (numbers_in f r) same_numbers such never 0 (items r) b.groups all_counted
+      none_such μ text (only_named f (openings r)) (numbers_in f r) same_numbers such never 0
+      (items r) b.groups all_counted
 
   -- whether some reference is written as a number
   numeric_is : (b : Bool) → μ.numeric_capture_group_references ≡ b → (b ≡ true → 0 < length (meanings f r)) →
@@ -372,7 +379,8 @@ module _ (μ : Marks) (f : Flags) (text : Text) (r x : Tree) (b : Becomes μ tex
   numeric_is true e some =
       some_such μ text (only_named f (openings r)) (numbers_in f r) same_numbers
       (λ role t p. is_numeric text (place_at (bytes text) p) role t)
-      (λ r p k. numeric_written text r p (k.number ∙ e) (k.written (k.number ∙ e))) 0 (items r) b.groups all_counted (some refl)
+      (λ r p k. numeric_written text r p (k.number ∙ e) (k.written (k.number ∙ e))) 0 (items r) b.groups all_counted
+      (some refl)
 
   -- the marks that the text is read with
   marked : DerivesTree f text r → (μ.numeric_capture_group_references ≡ true → has_reference x ≡ true) →
@@ -446,7 +454,8 @@ reads_back f t μ w =
     = ap (λ k. k.total_groups) w.marks ∙ length_told μ 0 (group_count t) in
     let entries : AllByRecursion (λ e. e.1 ≡ numbers_told μ e.0) μ.named_groups
     = subst (AllByRecursion (λ e. e.1 ≡ numbers_told μ e.0)) (sym (ap (λ k. k.named_groups) w.marks))
-    (subst (λ n. AllByRecursion (λ e. e.1 ≡ numbers e.0 (openings_told μ 0 n)) (named_groups (openings_told μ 0 (group_count t))))
+    (subst (λ n. AllByRecursion (λ e. e.1 ≡ numbers e.0 (openings_told μ 0 n))
+    (named_groups (openings_told μ 0 (group_count t))))
     (sym total) (all_numbers (openings_told μ 0 (group_count t)) _)) in
     let numbered = λ (k : ℕ). found (λ (e : Named). e.1 ≡ numbers_told μ e.0)
     (λ e. list_any (λ n. n == k) e.1) μ.named_groups entries in
