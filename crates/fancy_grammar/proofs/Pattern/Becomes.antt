@@ -2,7 +2,7 @@
 use Rattle.std.proofs.Common.{◌≡◌, ℕ, suc, ◌+◌, Bool, true, false, List, [], ◌∷◌, ◌++◌, length}
 use Rattle.std.proofs.Common.{refl, sym, ap, ap₂, ◌∙◌, subst, arith, ℤ, Some, None, Option, ◌⊎◌, inl, inr, ⊎_elim}
 use Rattle.std.proofs.lemmas.Bool.{cond-true, cond-false}
-use Rattle.fancy_lex.specs.Text.{Text, EndsWith, reach_of}
+use Rattle.fancy_lex.specs.Text.{Text, EndsWith, reach_of, bytes, place_at}
 use Rattle.fancy_lex.specs.declared.flags.Flags.{Flags}
 use Rattle.fancy_parts.specs.Ranks.{Opening, numbered_openings_in, numbers}
 use Rattle.fancy_grammar.specs.Items.{Item, opening, reference, items, items_all, openings_in, role_of, target_of}
@@ -17,6 +17,7 @@ use Rattle.fancy_grammar.specs.Tree.{ast_node, backref, backref_at_level, subrou
 use Rattle.fancy_grammar.specs.Writable.{name_at, AreCounted, openings_told}
 use Rattle.fancy_lex.specs.Target.{Target, by_number}
 use Rattle.fancy_parts.specs.Meaning.{number, means, back_reference, call}
+use Rattle.fancy_parts.specs.Written.{is_numeric}
 use Rattle.fancy_lex.specs.Characters.{backslash}
 use Rattle.fancy_lex.proofs.LeaveLaws.{ends_twice}
 
@@ -28,27 +29,15 @@ opened l = length (openings_in l)
 abbrev pub numbers_told : Marks → Text → List ℕ
 numbers_told μ w = numbers w (openings_told μ 0 μ.total_groups)
 
-abbrev pub is_by_number : Target → Bool
-is_by_number (by_number n) = true
-is_by_number _ = false
-
 -- a reference that means a group behind the openings of c groups
 pub record MeansGroup (μ : Marks) (c : ℕ) (r : AstReference) : Type 0 where
   pub group : ℕ
   pub meant : means (numbers_told μ) c (role_of r) (target_of r) ≡ number group
 
--- a back reference right behind a backslash of the text, at this reach
-pub record IsInDigits (s : Text) (r : AstReference) (p : ℕ) : Type 0 where
-  pub role : role_of r ≡ back_reference
-  pub digits : Text
-  pub ends : EndsWith s (backslash ∷ digits)
-  pub reach : p ≡ reach_of digits
-
--- it is by a number where some reference is to be written as one, and then it is a call, or in digits in the text; no
--- call is one of all
+-- in each text that ends so it is written as a number exactly if some reference is to be; no call is one of all
 pub record IsAsMarked (μ : Marks) (s : Text) (r : AstReference) (p : ℕ) : Type 0 where
-  pub number : is_by_number (target_of r) ≡ μ.numeric_capture_group_references
-  pub written : is_by_number (target_of r) ≡ true → (role_of r ≡ call) ⊎ IsInDigits s r p
+  pub numeric : (text : Text) → EndsWith text s →
+      is_numeric text (place_at (bytes text) p) (role_of r) (target_of r) ≡ μ.numeric_capture_group_references
   pub not_of_all : is_call_of_all (role_of r) (target_of r) ≡ false
 
 -- behind the openings of c groups they are groups, each with the name that the marks give it, and such references
@@ -221,18 +210,7 @@ groups_in_longer μ s t e c [] h = tt
 groups_in_longer μ s t e c (opening o ∷ l) h = (h.0, groups_in_longer μ s t e (c + 1) l h.1)
 groups_in_longer μ s t e c (reference r p ∷ l) h = (
   h.0,
-  record {
-    number = h.1.number;
-    written =
-        λ n. ⊎_elim (λ c. inl c)
-        (λ d. inr (record {
-          role = d.role;
-          digits = d.digits;
-          ends = ends_twice t s (backslash ∷ d.digits) e d.ends;
-          reach = d.reach;
-        })) (h.1.written n);
-    not_of_all = h.1.not_of_all;
-  },
+  record { numeric = λ w k. h.1.numeric w (ends_twice w t s k e); not_of_all = h.1.not_of_all },
   groups_in_longer μ s t e c l h.2,
 )
 

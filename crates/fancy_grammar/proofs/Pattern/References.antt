@@ -2,15 +2,18 @@
 use Rattle.std.proofs.Common.{◌≡◌, ℕ, Bool, true, false, not, ◌&&◌, ◌||◌, ◌==◌, nat_le, [], ◌∷◌, ◌++◌, List, codes, ◌^◌}
 use Rattle.std.proofs.Common.{Option, Some, None, is_some, is_none, refl, sym, ap, ◌∙◌, subst, append_assoc, arith, ◌-◌}
 use Rattle.std.proofs.Common.{if◌then◌else◌, IfSome, option_map, decimal, append-nil, ne_eqb, eqb-true, nat_lt, suc}
-use Rattle.std.proofs.Common.{◌<◌, ◌≤◌, ℤ, pos, negsuc, lt-ltb, le-leb, ltb-true, ◌+◌, inl, inr}
+use Rattle.std.proofs.Common.{◌<◌, ◌≤◌, ℤ, pos, negsuc, lt-ltb, le-leb, ltb-true, ◌+◌, inl, inr, get_or, length}
+use Rattle.std.proofs.Math.Seq.{get_or-append_seam}
+use Rattle.std.proofs.Math.Utf8.{encodes}
 use Rattle.std.proofs.lemmas.Bool.{cond-true, cond-false, and_parts, false≢true, cond_both, and_from}
 use Rattle.std.proofs.lemmas.Bool.Decides.{nat_tests}
 use Rattle.std.proofs.lemmas.Fmt.{decimal_is_IsNumeral}
 use Rattle.std.proofs.lemmas.Option.{same_Some}
+use Rattle.std.proofs.lemmas.Str.{encodes-append}
 use Rattle.std.specs.List.{AllByRecursion}
 use Rattle.std.specs.Ordering.{int_eq}
 use Prim.Native.Char.{code}
-use Rattle.fancy_lex.specs.Characters.{is_among, ◌∈◌}
+use Rattle.fancy_lex.specs.Characters.{is_among, ◌∈◌, backslash}
 use Rattle.fancy_lex.specs.Delimited.{marked_name, name_before}
 use Rattle.fancy_lex.specs.Escape.{escape, escape_at, lone_escape, outside, call_escape, number_escape}
 use Rattle.fancy_lex.specs.EscapeReference as escapes
@@ -26,16 +29,18 @@ use Rattle.fancy_lex.specs.Reading.{gives, choose}
 use Rattle.fancy_lex.specs.Referred.{reference_to, call_to, target_of_name, number_or_name, reference_of}
 use Rattle.fancy_lex.specs.Referred.{written_reference, reference_by_name}
 use Rattle.fancy_lex.specs.Target.{by_name, Target, relative, by_number}
-use Rattle.fancy_lex.specs.Text.{Text, reach_of, strip}
+use Rattle.fancy_lex.specs.Text.{Text, reach_of, strip, bytes, place_at}
 use Rattle.fancy_lex.specs.declared.flags.Flags.{Flags}
 use Rattle.fancy_lex.proofs.AsciiLemmas.{other_told}
 use Rattle.fancy_lex.proofs.IdLemmas.{id_cut}
 use Rattle.fancy_lex.proofs.ReadingLemmas.{choose_both}
+use Rattle.fancy_lex.proofs.TextLemmas.{bytes-append, length_encodes}
 use Rattle.fancy_grammar.specs.PatternReference.{is_plain_name, Named, name_of, fit_name, is_last, is_only, distance}
 use Rattle.fancy_grammar.specs.PatternReference.{backref_text, call_text, marked, call_name, name_or}
 use Rattle.fancy_grammar.proofs.Pattern.Groups.{cut_before}
 use Rattle.fancy_parts.specs.Meaning.{back_reference, call, number, means, back_to, last_of, only_one, group_or_none}
 use Rattle.fancy_parts.specs.Meaning.{Role, condition}
+use Rattle.fancy_parts.specs.Written.{is_numeric, is_behind_backslash}
 use Rattle.fancy_grammar.specs.Ahead.{read, leaf_node, leaf_outcome}
 use Rattle.fancy_grammar.specs.Grammar.{atom, a_read}
 use Rattle.fancy_grammar.specs.Items.{role_of, target_of}
@@ -46,7 +51,7 @@ use Rattle.fancy_grammar.specs.Pattern.{Here, group_count}
 use Rattle.fancy_grammar.specs.Resolved.{reference_node}
 use Rattle.fancy_grammar.specs.Tree.{leaf, ast_node}
 use Rattle.fancy_grammar.specs.Writable.{IsBackrefWritable, IsCallWritable}
-use Rattle.fancy_grammar.proofs.Pattern.Becomes.{Becomes, numbers_told, is_by_number, IsAsMarked}
+use Rattle.fancy_grammar.proofs.Pattern.Becomes.{Becomes, numbers_told, IsAsMarked}
 use Rattle.fancy_grammar.proofs.Pattern.Leaves.{LeafAt}
 use Rattle.fancy_grammar.proofs.Pattern.Quantifiers.{number_read}
 use Rattle.fancy_grammar.proofs.Pattern.Rules.{Begins, begins_by, AtomAt}
@@ -292,6 +297,10 @@ reference_becomes μ s c r p k l meant marked same count = record {
   groups = (record { group = k; meant = meant }, marked, tt);
 }
 
+abbrev is_by_number : Target → Bool
+is_by_number (by_number n) = true
+is_by_number _ = false
+
 -- the group of the number has a plain name, whose numbers are such
 record Fits (μ : Marks) (such : List ℕ → Bool) (n : ℕ) : Type 0 where
   name : Text
@@ -340,6 +349,39 @@ only_is n (k ∷ j ∷ l) h = absurd cc
 
 -- ---- the leaves
 
+not_numeric : (text : Text) (place : ℕ) (role : Role) (t : Target) → is_by_number t ≡ false →
+    is_numeric text place role t ≡ false
+not_numeric text place role (by_number n) h = absurd cc
+not_numeric text place role (by_name w) h = refl
+not_numeric text place role (relative z) h = refl
+
+-- whether a backslash stands right before the place of a text
+byte_before : (w t : Text) (c : ℕ) → encodes (c ∷ t) ≡ c ∷ encodes t → bytes (c ∷ t) ≡ bytes t + 1 →
+    is_behind_backslash (w ++ c ∷ t) (place_at (bytes (w ++ c ∷ t)) (reach_of t)) ≡ (c == backslash)
+byte_before w t c e k =
+    let text = w ++ c ∷ t in
+    let place : place_at (bytes text) (reach_of t) ≡ bytes w + 1 = omega (arith, bytes-append w (c ∷ t), k) in
+    let byte : get_or (encodes text) (bytes w) 0 ≡ c
+    = ap (λ l. get_or l (bytes w) 0) (encodes-append w (c ∷ t))
+    ∙ (ap (λ n. get_or (encodes w ++ encodes (c ∷ t)) n 0) (length_encodes w)
+    ∙ (ap (λ l. get_or (encodes w ++ l) (length (encodes w)) 0) e
+    ∙ get_or-append_seam (encodes w) c (encodes t) 0)) in
+    let before : bytes w + 1 - 1 ≡ bytes w = omega arith in
+    let first : nat_lt 0 (bytes w + 1) ≡ true = lt-ltb 0 (bytes w + 1) (omega arith) in
+    ap (is_behind_backslash text) place
+    ∙ (ap (λ b. b && (get_or (encodes text) (bytes w + 1 - 1) 0 == backslash)) first
+    ∙ (ap (λ k. get_or (encodes text) k 0 == backslash) before ∙ ap (λ k. k == backslash) byte))
+
+behind_backslash : (w t : Text) →
+    is_behind_backslash (w ++ backslash ∷ t) (place_at (bytes (w ++ backslash ∷ t)) (reach_of t)) ≡ true
+unfolding lib.Utf8.encode bytes
+behind_backslash w t = byte_before w t backslash refl (omega arith)
+
+behind_letter : (w t : Text) →
+    is_behind_backslash (w ++ code "k" ∷ t) (place_at (bytes (w ++ code "k" ∷ t)) (reach_of t)) ≡ false
+unfolding lib.Utf8.encode bytes
+behind_letter w t = byte_before w t (code "k") refl (omega arith)
+
 not_of_all : (role : Role) (t : Target) → is_by_number t ≡ false → is_call_of_all role t ≡ false
 not_of_all call (by_number n) h = absurd cc
 not_of_all call (by_name w) h = refl
@@ -383,8 +425,7 @@ module _ (μ : Marks) (h : Here) (numbered : (k : ℕ) → IfSome (name_of μ k)
     (none : μ.numeric_capture_group_references ≡ false) where
   not_in_digits : (r : AstReference) (p : ℕ) (s : Text) → is_by_number (target_of r) ≡ false → IsAsMarked μ s r p
   not_in_digits r p s e = record {
-    number = e ∙ sym none;
-    written = λ y. absurd (false≢true (sym e ∙ y));
+    numeric = λ w _. not_numeric w _ (role_of r) (target_of r) e ∙ sym none;
     not_of_all = not_of_all (role_of r) (target_of r) e;
   }
 
@@ -522,8 +563,9 @@ module _ (μ : Marks) (h : Here) where
               becomes =
                   reference_becomes μ _ h.opened r (reach_of t) n (label.backref n h.flags.casei) refl
                   (record {
-                    number = sym e;
-                    written = λ _. inr (record { role = refl; digits = t; ends = ([], refl); reach = refl });
+                    numeric =
+                        λ text (w, z). (λ i. is_behind_backslash (z i) (place_at (bytes (z i)) (reach_of t)))
+                        ∙ (behind_backslash w t ∙ sym e);
                     not_of_all = refl;
                   }) (λ _. refl) refl;
             };
@@ -551,7 +593,7 @@ module _ (μ : Marks) (h : Here) where
       = cond-true _ _ _ (and_from _ _ e (ap (λ b. b || μ.self_recursive) first)) in
       subst P (sym text)
       (call_by μ h n (decimal n) (by_number n) (digits_marked n l) (number_called n l) refl
-      (λ s p. record { number = sym e; written = λ _. inl refl; not_of_all = grind (arith, nat_tests) }))
+      (λ s p. record { numeric = λ w _. sym e; not_of_all = grind (arith, nat_tests) }))
 
   -- by the number, where some reference is written so, and else by a name or a distance
   pub call_at : ((k : ℕ) → IfSome (name_of μ k) (λ e. e.1 ≡ numbers_told μ e.0)) → (n : ℕ) →

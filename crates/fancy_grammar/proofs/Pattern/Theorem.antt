@@ -42,7 +42,7 @@ use Rattle.fancy_grammar.proofs.AnsweredLaws.{answered_with, numbers_referred}
 use Rattle.fancy_grammar.proofs.ReadAsLaws.{read_as}
 use Rattle.fancy_grammar.proofs.Pattern.Absent.{repeater_reads, stopper_reads, expression_reads}
 use Rattle.fancy_grammar.proofs.Pattern.Becomes.{Becomes, opened, AreGroups, counted_all, MeansGroup, numbers_told}
-use Rattle.fancy_grammar.proofs.Pattern.Becomes.{is_by_number, IsAsMarked, IsInDigits}
+use Rattle.fancy_grammar.proofs.Pattern.Becomes.{IsAsMarked}
 use Rattle.fancy_grammar.proofs.Pattern.Cases.{ReadsTree, leaf_reads, group_reads, look_reads, define_reads}
 use Rattle.fancy_grammar.proofs.Pattern.Cases.{atomic_by}
 use Rattle.fancy_grammar.proofs.Pattern.Conditionals.{conditional_reads}
@@ -58,6 +58,7 @@ use Rattle.fancy_parts.specs.Meaning.{Role, call, number, means, fault_or, Meani
 use Rattle.fancy_parts.specs.Written.{is_numeric, is_numeric_role, is_behind_backslash}
 use Rattle.fancy_lex.specs.Characters.{backslash}
 use Rattle.fancy_lex.proofs.TextLemmas.{bytes-append, length_encodes}
+use Rattle.fancy_lex.proofs.LeaveLaws.{ends_whole}
 
 -- ---- every writable tree, wherever it stands
 
@@ -226,53 +227,6 @@ module _ (μ : Marks) (s : Text) (named : Bool) (numbers_of : Text → List ℕ)
       (subst (λ n. 0 < length (meanings_in named numbers_of n l)) next some)
   some_such such always c (reference r p ∷ l) h k some = rw (always r p h.1) refl
 
--- ---- which references are numeric
-
-not_numeric : (text : Text) (place : ℕ) (role : Role) (t : Target) → is_by_number t ≡ false →
-    is_numeric text place role t ≡ false
-not_numeric text place role (by_number n) h = absurd cc
-not_numeric text place role (by_name w) h = refl
-not_numeric text place role (relative z) h = refl
-
-numeric_by : (text : Text) (place : ℕ) (role : Role) (t : Target) → is_by_number t ≡ true →
-    is_numeric text place role t ≡ is_numeric_role text place role
-numeric_by text place role (by_number n) h = refl
-numeric_by text place role (by_name w) h = absurd cc
-numeric_by text place role (relative z) h = absurd cc
-
-bytes_behind : (t : Text) → bytes (backslash ∷ t) ≡ bytes t + 1
-unfolding bytes
-bytes_behind t = omega arith
-
--- a backslash stands right before the place of what follows it
-backslash_before : (w t : Text) →
-    is_behind_backslash (w ++ backslash ∷ t) (place_at (bytes (w ++ backslash ∷ t)) (reach_of t)) ≡ true
-unfolding lib.Utf8.encode
-backslash_before w t =
-    let text = w ++ backslash ∷ t in
-    let place : place_at (bytes text) (reach_of t) ≡ bytes w + 1
-    = omega (arith, bytes-append w (backslash ∷ t), bytes_behind t) in
-    let byte : get_or (encodes text) (bytes w) 0 ≡ backslash
-    = ap (λ l. get_or l (bytes w) 0) (encodes-append w (backslash ∷ t))
-    ∙ (ap (λ n. get_or (encodes w ++ encodes (backslash ∷ t)) n 0) (length_encodes w)
-    ∙ get_or-append_seam (encodes w) backslash (encodes t) 0) in
-    let before : bytes w + 1 - 1 ≡ bytes w = omega arith in
-    let first : nat_lt 0 (bytes w + 1) ≡ true = lt-ltb 0 (bytes w + 1) (omega arith) in
-    ap (is_behind_backslash text) place
-    ∙ and_from _ _ first
-    (ap (λ k. get_or (encodes text) k 0 == backslash) before ∙ ap (λ k. k == backslash) byte)
-
-numeric_written : (text : Text) (r : AstReference) (p : ℕ) → is_by_number (target_of r) ≡ true →
-    (role_of r ≡ call) ⊎ IsInDigits text r p →
-    is_numeric text (place_at (bytes text) p) (role_of r) (target_of r) ≡ true
-numeric_written text r p n h =
-    let place = place_at (bytes text) p in
-    numeric_by text place (role_of r) (target_of r) n
-    ∙ ⊎_elim (λ c. ap (is_numeric_role text place) c)
-    (λ d. let (w, e) = d.ends in
-    ap (is_numeric_role text place) d.role
-    ∙ ((λ i. is_behind_backslash (e i) (place_at (bytes (e i)) (d.reach i))) ∙ backslash_before w d.digits)) h
-
 -- an opening without its reach, of which marks say nothing
 abbrev unreached : Opening → Opening
 unreached o = record { reach = 0; name = o.name }
@@ -375,11 +329,11 @@ module _ (μ : Marks) (f : Flags) (text : Text) (r x : Tree) (b : Becomes μ tex
       (marks f text r).numeric_capture_group_references ≡ b
   numeric_is false e some =
       no_such (λ role t p. is_numeric text (place_at (bytes text) p) role t)
-      (λ r p k. not_numeric text (place_at (bytes text) p) (role_of r) (target_of r) (k.number ∙ e))
+      (λ r p k. k.numeric text (ends_whole text) ∙ e)
   numeric_is true e some =
       some_such μ text (only_named f (openings r)) (numbers_in f r) same_numbers
       (λ role t p. is_numeric text (place_at (bytes text) p) role t)
-      (λ r p k. numeric_written text r p (k.number ∙ e) (k.written (k.number ∙ e))) 0 (items r) b.groups all_counted
+      (λ r p k. k.numeric text (ends_whole text) ∙ e) 0 (items r) b.groups all_counted
       (some refl)
 
   -- the marks that the text is read with
