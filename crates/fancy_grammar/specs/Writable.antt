@@ -1,6 +1,6 @@
 -- The trees whose texts are proved to read back.
 use Rattle.std.specs.Prelude.{◌≡◌, ℕ, zero, suc, ◌+◌, ◌-◌, ◌^◌, ◌<◌, ◌≤◌, ◌&&◌, Bool, true, false, List, [], ◌∷◌, ◌++◌}
-use Rattle.std.specs.Prelude.{length, Option, option_map, is_some, nat_le, nat_lt, filter, find, ◌||◌}
+use Rattle.std.specs.Prelude.{length, Option, option_map, nat_le, nat_lt, filter, find, ◌||◌}
 use Rattle.std.specs.List.{AllByRecursion}
 use Prim.Native.Char.{code}
 use Rattle.fancy_lex.specs.Characters.{is_among, backslash, open_bracket}
@@ -23,7 +23,7 @@ use Rattle.fancy_grammar.specs.Label.{repeat, atomic_group, define_group, repeat
 use Rattle.fancy_grammar.specs.Label.{concat, alt, backref, subroutine_call}
 use Rattle.fancy_grammar.specs.Marks.{Marks, ascending}
 use Rattle.fancy_grammar.specs.Pattern.{group_count, Here, is_in_digits, written_all}
-use Rattle.fancy_grammar.specs.PatternReference.{name_of, is_last, fit_name}
+use Rattle.fancy_grammar.specs.PatternReference.{name_of}
 use Rattle.fancy_grammar.specs.PatternNeeds.{settled}
 use Rattle.fancy_grammar.specs.PatternSource.{delegate_text}
 use Rattle.fancy_grammar.specs.Quantified.{is_repeatable}
@@ -49,17 +49,12 @@ abbrev pub HasSource : Flags → Text → Bool → Type 0
 HasSource f s casei =
     (g : Flags) → IsLike f g → settled g (leaf (delegate s casei)) ≡ g → IsSource g s casei (delegate_text g casei s)
 
--- a back reference in digits, where some reference is written as a number, or else by its group's name
-abbrev pub IsBackrefWritable : Bool → Marks → ℕ → ℕ → Type 0
-IsBackrefWritable true m c n = n < 2 ^ 64
-IsBackrefWritable false m c n = is_some (fit_name m (λ l. is_last n l && nat_le n c) n) ≡ true
-
 -- a call of a group by its number, where some reference is written as a number, or else of one that is not too far
 abbrev pub IsCallWritable : Bool → ℕ → ℕ → Type 0
 IsCallWritable true c n = (0 < n) × (n < 2 ^ 64)
 IsCallWritable false c n = (n - c < amount_bound) × (c + 1 - n < amount_bound)
 
--- no digit follows it, where it is a reference in digits, to which that would belong
+-- no digit follows it, where it is a back reference in digits, to which that would belong
 abbrev pub IsParted : Marks → Tree → Trees → Type 0
 IsParted m t ts = is_in_digits m t ≡ true → (h : Here) → at_digit (written_all m false ts h) ≡ false
 
@@ -78,8 +73,7 @@ IsWritableLeaf f m c empty = Unit {0}
 IsWritableLeaf f m c keep_out = Unit {0}
 IsWritableLeaf f m c continue_from_previous_match_end = Unit {0}
 IsWritableLeaf f m c clear = Unit {0}
-IsWritableLeaf f m c (backref n casei) =
-    IsBackrefWritable m.numeric_capture_group_references m c n
+IsWritableLeaf f m c (backref n casei) = n < 2 ^ 64
 IsWritableLeaf f m c (subroutine_call n) = IsCallWritable m.numeric_capture_group_references c n
 IsWritableLeaf f m c _ = ⊥
 
@@ -133,7 +127,7 @@ openings_told m c (suc n) = record { reach = 0; name = name_at m (c + 1) } ∷ o
 abbrev pub has_reference : Tree → Bool
 has_reference t = nat_lt 0 (length (groups_referred t)) || has_call t
 
--- the marks of a tree that has these groups, whose references are all written as numbers, or none
+-- the marks of a tree that has these groups, whose references all count as written as numbers, or none does
 abbrev pub marks_of : Flags → List Opening → Tree → Bool → Marks
 marks_of f l t numeric = record {
   backrefs = ascending (filter (λ n. nat_le n (length l)) (groups_referred t));
@@ -157,8 +151,8 @@ IsNameWritable (c ∷ w) = (is_among (code ">") (c ∷ w) && is_among (code "'")
 
 -- ---- the trees
 
--- outside Oniguruma mode, a tree of fewer than 64 levels with its marks, whose references are all written as numbers,
--- or none is
+-- outside Oniguruma mode, a tree of fewer than 64 levels with its marks, whose references all count as written as
+-- numbers, or none does
 pub record IsWritable (f : Flags) (m : Marks) (t : Tree) : Type 0 where
   pub mode : f.oniguruma_mode ≡ false
   pub marks : m ≡ marks_of f (openings_told m 0 (group_count t)) t m.numeric_capture_group_references

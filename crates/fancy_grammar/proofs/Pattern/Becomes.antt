@@ -1,8 +1,8 @@
 -- Raw trees that resolve to given ones where they stand, whatever stands around them.
 use Rattle.std.proofs.Common.{◌≡◌, ℕ, suc, ◌+◌, Bool, true, false, List, [], ◌∷◌, ◌++◌, length}
-use Rattle.std.proofs.Common.{refl, sym, ap, ap₂, ◌∙◌, subst, arith, ℤ, Some, None, Option, ◌⊎◌, inl, inr, ⊎_elim}
+use Rattle.std.proofs.Common.{refl, sym, ap, ap₂, ◌∙◌, subst, arith, ℤ, Some, None, Option}
 use Rattle.std.proofs.lemmas.Bool.{cond-true, cond-false}
-use Rattle.fancy_lex.specs.Text.{Text, EndsWith, reach_of, bytes, place_at}
+use Rattle.fancy_lex.specs.Text.{Text, EndsWith, bytes, place_at}
 use Rattle.fancy_lex.specs.declared.flags.Flags.{Flags}
 use Rattle.fancy_parts.specs.Ranks.{Opening, numbered_openings_in, numbers}
 use Rattle.fancy_grammar.specs.Items.{Item, opening, reference, items, items_all, openings_in, role_of, target_of}
@@ -15,10 +15,8 @@ use Rattle.fancy_grammar.specs.Resolved.{resolved_in, resolved_all, reference_no
 use Rattle.fancy_grammar.specs.Tree.{Tree, row, more_trees, trees_of, empty, ast_group}
 use Rattle.fancy_grammar.specs.Tree.{ast_node, backref, backref_at_level, subroutine_call, backref_exists}
 use Rattle.fancy_grammar.specs.Writable.{name_at, AreCounted, openings_told}
-use Rattle.fancy_lex.specs.Target.{Target, by_number}
-use Rattle.fancy_parts.specs.Meaning.{number, means, back_reference, call}
+use Rattle.fancy_parts.specs.Meaning.{number, means}
 use Rattle.fancy_parts.specs.Written.{is_numeric}
-use Rattle.fancy_lex.specs.Characters.{backslash}
 use Rattle.fancy_lex.proofs.LeaveLaws.{ends_twice}
 
 -- how many groups open among the items

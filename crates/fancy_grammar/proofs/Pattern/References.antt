@@ -1,8 +1,8 @@
--- Back references in digits or by the name of their group, and calls by a number, a name or a distance.
+-- Back references and calls: in digits, or between marks by a number, a name or a distance.
 use Rattle.std.proofs.Common.{◌≡◌, ℕ, Bool, true, false, not, ◌&&◌, ◌||◌, ◌==◌, nat_le, [], ◌∷◌, ◌++◌, List, codes, ◌^◌}
 use Rattle.std.proofs.Common.{Option, Some, None, is_some, is_none, refl, sym, ap, ◌∙◌, subst, append_assoc, arith, ◌-◌}
 use Rattle.std.proofs.Common.{if◌then◌else◌, IfSome, option_map, decimal, append-nil, ne_eqb, eqb-true, nat_lt, suc}
-use Rattle.std.proofs.Common.{◌<◌, ◌≤◌, ℤ, pos, negsuc, lt-ltb, le-leb, ltb-true, ◌+◌, inl, inr, get_or, length}
+use Rattle.std.proofs.Common.{◌<◌, ◌≤◌, ℤ, pos, negsuc, lt-ltb, le-leb, ltb-true, ◌+◌, get_or, length}
 use Rattle.std.proofs.Math.Seq.{get_or-append_seam}
 use Rattle.std.proofs.Math.Utf8.{encodes}
 use Rattle.std.proofs.lemmas.Bool.{cond-true, cond-false, and_parts, false≢true, cond_both, and_from}
@@ -31,7 +31,7 @@ use Rattle.fancy_lex.specs.Referred.{written_reference, reference_by_name}
 use Rattle.fancy_lex.specs.Target.{by_name, Target, relative, by_number}
 use Rattle.fancy_lex.specs.Text.{Text, reach_of, strip, bytes, place_at}
 use Rattle.fancy_lex.specs.declared.flags.Flags.{Flags}
-use Rattle.fancy_lex.proofs.AsciiLemmas.{other_told}
+use Rattle.fancy_lex.proofs.AsciiLemmas.{other_told, alphanumeric_told}
 use Rattle.fancy_lex.proofs.IdLemmas.{id_cut}
 use Rattle.fancy_lex.proofs.ReadingLemmas.{choose_both}
 use Rattle.fancy_lex.proofs.TextLemmas.{bytes-append, length_encodes}
@@ -50,7 +50,7 @@ use Rattle.fancy_grammar.specs.Marks.{Marks, is_call_of_all}
 use Rattle.fancy_grammar.specs.Pattern.{Here, group_count}
 use Rattle.fancy_grammar.specs.Resolved.{reference_node}
 use Rattle.fancy_grammar.specs.Tree.{leaf, ast_node}
-use Rattle.fancy_grammar.specs.Writable.{IsBackrefWritable, IsCallWritable}
+use Rattle.fancy_grammar.specs.Writable.{IsCallWritable}
 use Rattle.fancy_grammar.proofs.Pattern.Becomes.{Becomes, numbers_told, IsAsMarked}
 use Rattle.fancy_grammar.proofs.Pattern.Leaves.{LeafAt}
 use Rattle.fancy_grammar.proofs.Pattern.Quantifiers.{number_read}
@@ -172,6 +172,14 @@ call_read_by : (f : Flags) (w v : Text) (target : Target) →
 unfolding escape_at lone_escape outside call_escape subroutine_call marked_call
 call_read_by f w v target e h = rw (e, h (reach_of (code "<" ∷ (w ++ code ">" ∷ v)))) refl
 
+backref_read_by : (f : Flags) (w v : Text) (target : Target) →
+    ◌≡◌ {A = Option (Text × Text)} (marked_name (code "<" ∷ (w ++ code ">" ∷ v))) (Some (w, v)) →
+    ((p : ℕ) → written_reference p true w ≡ Some (reference_to p target None)) →
+    escape f false (code "k" ∷ code "<" ∷ (w ++ code ">" ∷ v))
+    ≡ gives (escaped.backref (reference_to (reach_of (code "<" ∷ (w ++ code ">" ∷ v))) target None) f.casei) v
+unfolding escape_at lone_escape outside escapes.back_reference reference_by_name
+backref_read_by f w v target e h = rw (e, h (reach_of (code "<" ∷ (w ++ code ">" ∷ v)))) refl
+
 module _ (w : Text) (h : PlainName w) (v : Text) where
   abbrev in_marks : Text
   in_marks = code "<" ∷ (w ++ code ">" ∷ v)
@@ -186,11 +194,6 @@ module _ (w : Text) (h : PlainName w) (v : Text) where
   unfolding written_reference reference_of
   written_as p =
       ap (option_map (reference_of p)) h.read ∙ ap (λ t. Some (reference_to p t None)) h.target
-
-  backref_read : (f : Flags) → escape f false (code "k" ∷ in_marks)
-      ≡ gives (escaped.backref (reference_to (reach_of in_marks) (by_name w) None) f.casei) v
-  unfolding escape_at lone_escape outside escapes.back_reference reference_by_name
-  backref_read f = rw (name_read, written_as (reach_of in_marks)) refl
 
   called : (p : ℕ) → written_call p w ≡ Some (call_to p (by_name w))
   unfolding written_call call_target
@@ -224,6 +227,48 @@ digits_unmarked (c ∷ d ∷ ds) h =
 number_text_digits : (n : ℕ) → n < 2 ^ 64 → number_text (decimal n) ≡ Some n
 unfolding number_text
 number_text_digits n h = rw (no_sign (decimal n) ((decimal_is_IsNumeral n h).0)) (whole_digits n h)
+
+no_relative_digits : (ds : Text) → IsNumeral 10 ds → is_relative ds ≡ false
+unfolding is_relative
+no_relative_digits [] h = absurd (omega (arith, h.0))
+no_relative_digits (d ∷ ds) h =
+    let digit = (digit_is d h.1.0).0 in
+    rw (digit_apart d (code "+") refl digit, digit_apart d (code "-") refl digit) refl
+
+number_called : (n : ℕ) → n < 2 ^ 64 → (p : ℕ) → written_call p (decimal n) ≡ Some (call_to p (by_number n))
+unfolding written_call call_target target_of_name
+number_called n l p =
+    rw (no_relative_digits (decimal n) ((decimal_is_IsNumeral n l).0), number_text_digits n l) refl
+
+digits_marked : (n : ℕ) → n < 2 ^ 64 → (v : Text) →
+    ◌≡◌ {A = Option (Text × Text)} (marked_name (code "<" ∷ (decimal n ++ code ">" ∷ v))) (Some (decimal n, v))
+digits_marked n l v = at (decimal n) ((decimal_is_IsNumeral n l).0)
+  where
+    at : (ds : Text) → IsNumeral 10 ds →
+        ◌≡◌ {A = Option (Text × Text)} (marked_name (code "<" ∷ (ds ++ code ">" ∷ v))) (Some (ds, v))
+    at [] h = absurd (omega (arith, h.0))
+    at (d ∷ ds) h = marked_read d ds v (digits_unmarked (d ∷ ds) h.1)
+
+digit_is_id : (c : ℕ) → is_ascii_digit c ≡ true → is_id_char c ≡ true
+digit_is_id c h = alphanumeric_told c (grind (arith, nat_tests))
+
+digits_are_id : (ds : Text) → AllDigits 10 ds → ◌≡◌ {A = Text × Text} (id_run ds) (ds, [])
+unfolding id_run
+digits_are_id [] h = refl
+digits_are_id (d ∷ ds) h =
+    rw (digit_is_id d ((digit_is d h.0).0)) (ap (λ (p : Text × Text). (d ∷ p.0, p.1)) (digits_are_id ds h.1))
+
+id_of_digits : (ds : Text) → IsNumeral 10 ds → ◌≡◌ {A = Option (Text × Text)} (id ds) (Some (ds, []))
+unfolding id
+id_of_digits [] h = absurd (omega (arith, h.0))
+id_of_digits (d ∷ ds) h = ap nonempty_front (digits_are_id (d ∷ ds) h.1)
+
+number_written : (n : ℕ) → n < 2 ^ 64 → (p : ℕ) →
+    written_reference p true (decimal n) ≡ Some (reference_to p (by_number n) None)
+unfolding written_reference reference_of target_of_name
+number_written n l p =
+    ap (option_map (reference_of p)) (alone_read (decimal n) (id_of_digits (decimal n) ((decimal_is_IsNumeral n l).0)))
+    ∙ ap (λ k. Some (reference_to p (number_or_name (decimal n) k) None)) (number_text_digits n l)
 
 not_zero : (k : ℕ) → int_eq (pos (suc k)) (pos 0) ≡ false
 not_zero k = at (int_eq (pos (suc k)) (pos 0)) refl
@@ -396,6 +441,32 @@ begins_reference x t = begins_by x (code "\\") t refl refl refl refl
 reference_text : (w v : Text) → (code "<" ∷ (w ++ codes ">")) ++ v ≡ code "<" ∷ (w ++ code ">" ∷ v)
 reference_text w v = ap (λ z. code "<" ∷ z) (append_assoc w (codes ">") v)
 
+-- a back reference by a name of some kind
+backref_by : (μ : Marks) (h : Here) (n : ℕ) (w : Text) (target : Target) →
+    ((v : Text) → ◌≡◌ {A = Option (Text × Text)} (marked_name (code "<" ∷ (w ++ code ">" ∷ v))) (Some (w, v))) →
+    ((p : ℕ) → written_reference p true w ≡ Some (reference_to p target None)) →
+    means (numbers_told μ) h.opened back_reference target ≡ number n →
+    ((t : Text) → IsAsMarked μ (codes "\\k" ++ t) (ast_backref target h.flags.casei None) (reach_of t)) →
+    LeafAt μ h (marked (codes "\\k") w) (label.backref n h.flags.casei)
+backref_by μ h n w target name written meant as_marked = record {
+  reads =
+      λ v m _. let t = code "<" ∷ (w ++ code ">" ∷ v) in
+      subst (λ z. AtomAt μ h (codes "\\k" ++ z) v (leaf (label.backref n h.flags.casei))) (sym (reference_text w v))
+      (record {
+        tree = ast_node (ast_backref target h.flags.casei None) (reach_of t);
+        derives =
+            atom
+            (leaf_at h.depth h.flags (code "\\") (code "k" ∷ t) refl refl
+            ∙ ap (λ o. read (leaf_outcome leaf_node (st h.flags (codes "\\k" ++ t)) o))
+            (backref_read_by h.flags w v target (name v) written))
+            a_read;
+        becomes =
+            reference_becomes μ _ h.opened (ast_backref target h.flags.casei None) (reach_of t) n
+            (label.backref n h.flags.casei) meant (as_marked t) (λ _. refl) refl;
+      });
+  begins = λ v. begins_reference h.flags.ignore_space _;
+}
+
 -- a call by a name of some kind
 call_by : (μ : Marks) (h : Here) (n : ℕ) (w : Text) (target : Target) →
     ((v : Text) → ◌≡◌ {A = Option (Text × Text)} (marked_name (code "<" ∷ (w ++ code ">" ∷ v))) (Some (w, v))) →
@@ -429,35 +500,34 @@ module _ (μ : Marks) (h : Here) (numbered : (k : ℕ) → IfSome (name_of μ k)
     not_of_all = not_of_all (role_of r) (target_of r) e;
   }
 
-  backref_by_name : (n : ℕ) → is_some (fit_name μ (λ l. is_last n l && nat_le n h.opened) n) ≡ true →
-      LeafAt μ h (backref_text μ h.opened n) (label.backref n h.flags.casei)
-  backref_by_name n k =
+  -- by the name, where it is fit, and else by the number
+  backref_without : (n : ℕ) → n < 2 ^ 64 → LeafAt μ h (backref_text μ h.opened n) (label.backref n h.flags.casei)
+  backref_without n l =
       let such = λ (l : List ℕ). is_last n l && nat_le n h.opened in
-      let q = fits μ such n (numbered n) k in
-      let (last, early) = and_parts (is_last n (numbers_told μ q.name)) (nat_le n h.opened) q.are_such in
-      let meant : means (numbers_told μ) h.opened back_reference (by_name q.name) ≡ number n
-      = ap (back_to h.opened q.name) (last_is n (numbers_told μ q.name) last) ∙ cond-true _ _ _ early in
-      let r = ast_backref (by_name q.name) h.flags.casei None in
-      let text : backref_text μ h.opened n ≡ codes "\\k<" ++ (q.name ++ codes ">")
-      = cond-false _ _ _ none ∙ ap (λ o. codes "\\k<" ++ (choose o (λ w. w) (decimal n) ++ codes ">")) q.fit in
-      subst (λ t. LeafAt μ h t (label.backref n h.flags.casei)) (sym text) (record {
-        reads =
-            λ v m _. let t = in_marks q.name q.plain v in
-            subst (λ z. AtomAt μ h (codes "\\k" ++ z) v (leaf (label.backref n h.flags.casei)))
-            (sym (reference_text q.name v)) (record {
-              tree = ast_node r (reach_of t);
-              derives =
-                  atom
-                  (leaf_at h.depth h.flags (code "\\") (code "k" ∷ t) refl refl
-                  ∙ ap (λ o. read (leaf_outcome leaf_node (st h.flags (codes "\\k" ++ t)) o))
-                  (backref_read q.name q.plain v h.flags))
-                  a_read;
-              becomes =
-                  reference_becomes μ _ h.opened r (reach_of t) n (label.backref n h.flags.casei) meant
-                  (not_in_digits r (reach_of t) _ refl) (λ _. refl) refl;
-            });
-        begins = λ v. begins_reference h.flags.ignore_space _;
-      })
+      let P = λ (w : Text). LeafAt μ h (marked (codes "\\k") w) (label.backref n h.flags.casei) in
+      subst (λ t. LeafAt μ h t (label.backref n h.flags.casei)) (sym (cond-false _ _ _ none))
+      (choose_both P (fit_name μ such n) _ _ (λ w e. by_fit w e)
+      (backref_by μ h n (decimal n) (by_number n) (digits_marked n l) (number_written n l) refl
+      (λ t. record {
+        numeric =
+            λ text (w, z). (λ i. is_behind_backslash ((z ∙ sym (append_assoc w (codes "\\") (code "k" ∷ t))) i)
+            (place_at (bytes ((z ∙ sym (append_assoc w (codes "\\") (code "k" ∷ t))) i)) (reach_of t)))
+            ∙ (behind_letter (w ++ codes "\\") t ∙ sym none);
+        not_of_all = refl;
+      })))
+    where
+      by_fit : (w : Text) → fit_name μ (λ l. is_last n l && nat_le n h.opened) n ≡ Some w →
+          LeafAt μ h (marked (codes "\\k") w) (label.backref n h.flags.casei)
+      by_fit w e =
+          let q = fits μ (λ l. is_last n l && nat_le n h.opened) n (numbered n) (ap is_some e) in
+          let (last, early) = and_parts (is_last n (numbers_told μ q.name)) (nat_le n h.opened) q.are_such in
+          let meant : means (numbers_told μ) h.opened back_reference (by_name q.name) ≡ number n
+          = ap (back_to h.opened q.name) (last_is n (numbers_told μ q.name) last) ∙ cond-true _ _ _ early in
+          subst (λ w. LeafAt μ h (marked (codes "\\k") w) (label.backref n h.flags.casei))
+          (same_Some q.name w (sym q.fit ∙ e))
+          (backref_by μ h n q.name (by_name q.name) (λ v. name_read q.name q.plain v)
+          (written_as q.name q.plain []) meant
+          (λ t. not_in_digits (ast_backref (by_name q.name) h.flags.casei None) (reach_of t) _ refl))
 
   -- by the name, where it is fit, and else by the distance
   call_without : (n : ℕ) → n - h.opened < amount_bound → h.opened + 1 - n < amount_bound →
@@ -510,27 +580,6 @@ module _ (μ : Marks) (h : Here) (numbered : (k : ℕ) → IfSome (name_of μ k)
 
 -- ---- in digits
 
-no_relative_digits : (ds : Text) → IsNumeral 10 ds → is_relative ds ≡ false
-unfolding is_relative
-no_relative_digits [] h = absurd (omega (arith, h.0))
-no_relative_digits (d ∷ ds) h =
-    let digit = (digit_is d h.1.0).0 in
-    rw (digit_apart d (code "+") refl digit, digit_apart d (code "-") refl digit) refl
-
-number_called : (n : ℕ) → n < 2 ^ 64 → (p : ℕ) → written_call p (decimal n) ≡ Some (call_to p (by_number n))
-unfolding written_call call_target target_of_name
-number_called n l p =
-    rw (no_relative_digits (decimal n) ((decimal_is_IsNumeral n l).0), number_text_digits n l) refl
-
-digits_marked : (n : ℕ) → n < 2 ^ 64 → (v : Text) →
-    ◌≡◌ {A = Option (Text × Text)} (marked_name (code "<" ∷ (decimal n ++ code ">" ∷ v))) (Some (decimal n, v))
-digits_marked n l v = at (decimal n) ((decimal_is_IsNumeral n l).0)
-  where
-    at : (ds : Text) → IsNumeral 10 ds →
-        ◌≡◌ {A = Option (Text × Text)} (marked_name (code "<" ∷ (ds ++ code ">" ∷ v))) (Some (ds, v))
-    at [] h = absurd (omega (arith, h.0))
-    at (d ∷ ds) h = marked_read d ds v (digits_unmarked (d ∷ ds) h.1)
-
 digits_escape : (f : Flags) (ds v : Text) → IsNumeral 10 ds →
     escape f false (ds ++ v) ≡ number_escape f false (reach_of (ds ++ v) + 1) (ds ++ v)
 unfolding escape_at
@@ -574,14 +623,13 @@ module _ (μ : Marks) (h : Here) where
 
   -- in digits, or by its group's name
   pub backref_at : ((k : ℕ) → IfSome (name_of μ k) (λ e. e.1 ≡ numbers_told μ e.0)) → (n : ℕ) →
-      IsBackrefWritable μ.numeric_capture_group_references μ h.opened n →
-      LeafAt μ h (backref_text μ h.opened n) (label.backref n h.flags.casei)
+      n < 2 ^ 64 → LeafAt μ h (backref_text μ h.opened n) (label.backref n h.flags.casei)
   backref_at numbered n k = by_mode μ.numeric_capture_group_references refl k
     where
-      by_mode : (b : Bool) → μ.numeric_capture_group_references ≡ b → IsBackrefWritable b μ h.opened n →
+      by_mode : (b : Bool) → μ.numeric_capture_group_references ≡ b → n < 2 ^ 64 →
           LeafAt μ h (backref_text μ h.opened n) (label.backref n h.flags.casei)
       by_mode true e l = backref_in_digits n e l
-      by_mode false e l = backref_by_name μ h numbered e n l
+      by_mode false e l = backref_without μ h numbered e n l
 
   -- by the number
   call_by_number : (n : ℕ) → μ.numeric_capture_group_references ≡ true → 0 < n → n < 2 ^ 64 →

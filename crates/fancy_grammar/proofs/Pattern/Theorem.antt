@@ -1,17 +1,14 @@
 -- The text of a writable tree is read as that tree, with its marks, and as nothing else.
-use Rattle.std.proofs.Common.{◌≡◌, ℕ, zero, ◌+◌, ◌<◌, Bool, true, false, ◌&&◌, List, [], ◌∷◌, ◌++◌, lt-ltb, ◌-◌, ◌⊎◌}
-use Rattle.std.proofs.Common.{codes, length, filter_map, map, None, refl, sym, ap, ◌∙◌, subst, arith, nat_lt, get_or}
+use Rattle.std.proofs.Common.{◌≡◌, ℕ, zero, ◌+◌, ◌<◌, Bool, true, false, ◌&&◌, List, [], ◌∷◌, ◌++◌}
+use Rattle.std.proofs.Common.{codes, length, filter_map, map, None, refl, sym, ap, ◌∙◌, subst, arith, nat_lt}
 use Rattle.std.proofs.Common.{append-nil, ◌||◌, ◌==◌, Option, IfSome, is_some, ap₂, if◌then◌else◌, suc, filter, nat_le}
 use Rattle.std.proofs.Common.{⊎_elim, ltb-true}
-use Rattle.std.proofs.Math.Seq.{get_or-append_seam}
-use Rattle.std.proofs.Math.Utf8.{encodes}
 use Rattle.std.specs.Prelude.{fold, find}
 use Rattle.std.specs.BTreeSet.{insert_key}
 use Rattle.std.specs.List.{list_any, AllByRecursion, cons_option}
-use Rattle.std.proofs.lemmas.Bool.{cond_both, cond-true, and_from, or_cases}
+use Rattle.std.proofs.lemmas.Bool.{cond_both, cond-true, or_cases}
 use Rattle.std.proofs.lemmas.List.{length-map}
-use Rattle.std.proofs.lemmas.Str.{encodes-append}
-use Rattle.fancy_lex.specs.Text.{Text, bytes, place_at, reach_of}
+use Rattle.fancy_lex.specs.Text.{Text, bytes, place_at}
 use Rattle.fancy_lex.specs.declared.flags.Flags.{Flags}
 use Rattle.fancy_parts.specs.Ranks.{is_named, only_named, named_groups, numbers, name_cmp}
 use Rattle.fancy_parts.specs.Ranks.{Opening, is_name, numbers_from, names, numbered_openings, is_counted}
@@ -53,11 +50,9 @@ use Rattle.fancy_grammar.proofs.Pattern.Repeats.{like_repeatable, repeat_reads, 
 use Rattle.fancy_grammar.proofs.Pattern.Rows.{EachPiece, EachBranch, concat_reads, alt_reads, same_mode}
 use Rattle.fancy_grammar.proofs.Pattern.Rules.{Clear, ends_nothing, WholeAt}
 use Rattle.fancy_grammar.proofs.ReadBack.RuleLemmas.{st}
-use Rattle.fancy_lex.specs.Target.{Target, by_number, by_name, relative}
-use Rattle.fancy_parts.specs.Meaning.{Role, call, number, means, fault_or, Meaning}
-use Rattle.fancy_parts.specs.Written.{is_numeric, is_numeric_role, is_behind_backslash}
-use Rattle.fancy_lex.specs.Characters.{backslash}
-use Rattle.fancy_lex.proofs.TextLemmas.{bytes-append, length_encodes}
+use Rattle.fancy_lex.specs.Target.{Target}
+use Rattle.fancy_parts.specs.Meaning.{Role, number, means, fault_or, Meaning}
+use Rattle.fancy_parts.specs.Written.{is_numeric}
 use Rattle.fancy_lex.proofs.LeaveLaws.{ends_whole}
 
 -- ---- every writable tree, wherever it stands
