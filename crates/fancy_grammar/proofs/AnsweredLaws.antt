@@ -287,7 +287,7 @@ module _ {f : Flags} {text : Text} {t : Tree} {m : Marks} (a : IsTreeOf f text t
       ∙ ap (list_any (λ x. is_call (role_of x.0))) (sym meanings_of_nodes)
       ∙ ap (λ k. k.contains_subroutines) (sym is_marks)
 
-  numbers_referred : groups_referred t ≡ back_numbers (meanings f raw)
+  pub numbers_referred : groups_referred t ≡ back_numbers (meanings f raw)
   numbers_referred =
       ap (filter_map group_referred) nodes ∙ numbers_kept (bytes text) named numbers_of 0 (preorder raw) nodes_read
       ∙ ap back_numbers (sym meanings_of_nodes)

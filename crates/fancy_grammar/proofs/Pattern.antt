@@ -9,6 +9,7 @@ pub mod Groups
 -- ---- leaves
 pub mod Characters
 pub mod Leaves
+pub mod References
 pub mod Sources
 -- ---- quantifiers
 pub mod Quantifiers

@@ -302,7 +302,7 @@ leaf_is_atom d s (fault k p) h = h
 -- ---- the grammar
 
 mutual
-  alternation_read : {d : ℕ} {s : State} {o : Outcome Tree} → Alternation d s o → Reads (IsAlternation d s) s o
+  pub alternation_read : {d : ℕ} {s : State} {o : Outcome Tree} → Alternation d s o → Reads (IsAlternation d s) s o
   alternation_read (alternation {d} {s} {q} b) =
       then_reads (AreBranches d s) (IsAlternation d s) s s q _ (here s.rest) (branches_are_read b) (λ l v h. record {
         span = listed (sym (items_choice l)) h.span;
@@ -358,7 +358,7 @@ mutual
   piece_read (layout_fault {s} l) =
       subst (SkippedSlice s.rest) l (layout_slice s.flags.ignore_space s.rest)
 
-  atom_read : {d : ℕ} {s : State} {o : Outcome Tree} → Atom d s o → Reads (IsAtom d s) s o
+  pub atom_read : {d : ℕ} {s : State} {o : Outcome Tree} → Atom d s o → Reads (IsAtom d s) s o
   atom_read (atom {d} {s} {e} {q} is a) =
       behind_keeps (Reads (IsAtom d s) s) (λ r t f i. record { span = i.span; read = i.read; size = i.size }) e s.flags q
       (of_read a (subst (AheadReads s) is (ahead_reads d s)) (subst (OpensBelow d) is (ahead_below d s)))

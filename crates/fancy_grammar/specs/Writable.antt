@@ -1,25 +1,32 @@
 -- The trees whose texts are proved to read back.
-use Rattle.std.specs.Prelude.{◌≡◌, ◌^◌, ◌<◌, ◌≤◌, ◌&&◌, Bool, true, false, [], ◌∷◌, ◌++◌}
-use Rattle.fancy_lex.specs.Characters.{backslash, open_bracket}
+use Rattle.std.specs.Prelude.{◌≡◌, ℕ, zero, suc, ◌+◌, ◌-◌, ◌^◌, ◌<◌, ◌≤◌, ◌&&◌, Bool, true, false, List, [], ◌∷◌, ◌++◌}
+use Rattle.std.specs.Prelude.{length, Option, option_map, nat_le, nat_lt, filter, find, ◌||◌}
+use Rattle.std.specs.List.{AllByRecursion}
+use Prim.Native.Char.{code}
+use Rattle.fancy_lex.specs.Characters.{is_among, backslash, open_bracket}
 use Rattle.fancy_lex.specs.Class.{class}
 use Rattle.fancy_lex.specs.Escape.{escape}
 use Rattle.fancy_lex.specs.Escaped as escaped
+use Rattle.fancy_lex.specs.IdReference.{amount_bound}
+use Rattle.fancy_lex.specs.Number.{at_digit}
 use Rattle.fancy_lex.specs.Reading.{gives}
 use Rattle.fancy_lex.specs.Text.{Text}
 use Rattle.fancy_lex.specs.declared.escape.Assertion.TheVariants.{StartLineOniguruma}
 use Rattle.fancy_lex.specs.declared.flags.Flags.{Flags}
+use Rattle.fancy_parts.specs.Ranks.{Opening, is_counted, only_named, named_groups}
+use Rattle.fancy_grammar.specs.Answered.{groups_referred, has_call}
 use Rattle.fancy_grammar.specs.Depth.{max_depth}
 use Rattle.fancy_grammar.specs.Join.{is_empty}
 use Rattle.fancy_grammar.specs.Label.{Leaf, empty, any, assertion, general_newline, literal, literal_bytes, delegate}
 use Rattle.fancy_grammar.specs.Label.{keep_out, continue_from_previous_match_end, verb, clear, group, look_around}
 use Rattle.fancy_grammar.specs.Label.{repeat, atomic_group, define_group, repeater, stopper, expression, conditional}
-use Rattle.fancy_grammar.specs.Label.{concat, alt}
-use Rattle.fancy_grammar.specs.Marks.{Marks}
-use Rattle.fancy_grammar.specs.Pattern.{group_count}
+use Rattle.fancy_grammar.specs.Label.{concat, alt, backref, subroutine_call}
+use Rattle.fancy_grammar.specs.Marks.{Marks, ascending}
+use Rattle.fancy_grammar.specs.Pattern.{group_count, Here, is_in_digits, written_all}
+use Rattle.fancy_grammar.specs.PatternReference.{name_of}
 use Rattle.fancy_grammar.specs.PatternNeeds.{settled}
 use Rattle.fancy_grammar.specs.PatternSource.{delegate_text}
 use Rattle.fancy_grammar.specs.Quantified.{is_repeatable}
-use Rattle.fancy_grammar.specs.ReadBack.{marks_of_groups}
 use Rattle.fancy_grammar.specs.Tree.{Tree, leaf, over, row, Trees, no_trees, more_trees, levels}
 
 -- the flags without those that a text sets
@@ -42,55 +49,115 @@ abbrev pub HasSource : Flags → Text → Bool → Type 0
 HasSource f s casei =
     (g : Flags) → IsLike f g → settled g (leaf (delegate s casei)) ≡ g → IsSource g s casei (delegate_text g casei s)
 
--- a leaf that is no reference, as it is read: a character, a byte without UNICODE, or what has an escape
-abbrev pub IsWritableLeaf : Flags → Leaf → Type 0
-IsWritableLeaf f (literal (c ∷ []) casei) = Unit {0}
-IsWritableLeaf f (literal_bytes (b ∷ [])) = (f.unicode ≡ false) × (0x80 ≤ b) × (b ≤ 0xFF)
-IsWritableLeaf f (delegate s casei) = HasSource f s casei
-IsWritableLeaf f (general_newline unicode) = f.unicode ≡ unicode
-IsWritableLeaf f (assertion (StartLineOniguruma crlf)) = ⊥
-IsWritableLeaf f (assertion a) = Unit {0}
-IsWritableLeaf f (any newline crlf) = Unit {0}
-IsWritableLeaf f (verb v) = Unit {0}
-IsWritableLeaf f empty = Unit {0}
-IsWritableLeaf f keep_out = Unit {0}
-IsWritableLeaf f continue_from_previous_match_end = Unit {0}
-IsWritableLeaf f clear = Unit {0}
-IsWritableLeaf f _ = ⊥
+-- a call of a group by its number, where some reference is written as a number, or else of one that is not too far
+abbrev pub IsCallWritable : Bool → ℕ → ℕ → Type 0
+IsCallWritable true c n = (0 < n) × (n < 2 ^ 64)
+IsCallWritable false c n = (n - c < amount_bound) × (c + 1 - n < amount_bound)
+
+-- no digit follows it, where it is a back reference in digits, to which that would belong
+abbrev pub IsParted : Marks → Tree → Trees → Type 0
+IsParted m t ts = is_in_digits m t ≡ true → (h : Here) → at_digit (written_all m false ts h) ≡ false
+
+-- a leaf as it is read, behind the openings of c groups: a character, a byte without UNICODE, what has an escape, a
+-- back reference without a level, or a call
+abbrev pub IsWritableLeaf : Flags → Marks → ℕ → Leaf → Type 0
+IsWritableLeaf f m c (literal (d ∷ []) casei) = Unit {0}
+IsWritableLeaf f m c (literal_bytes (b ∷ [])) = (f.unicode ≡ false) × (0x80 ≤ b) × (b ≤ 0xFF)
+IsWritableLeaf f m c (delegate s casei) = HasSource f s casei
+IsWritableLeaf f m c (general_newline unicode) = f.unicode ≡ unicode
+IsWritableLeaf f m c (assertion (StartLineOniguruma crlf)) = ⊥
+IsWritableLeaf f m c (assertion a) = Unit {0}
+IsWritableLeaf f m c (any newline crlf) = Unit {0}
+IsWritableLeaf f m c (verb v) = Unit {0}
+IsWritableLeaf f m c empty = Unit {0}
+IsWritableLeaf f m c keep_out = Unit {0}
+IsWritableLeaf f m c continue_from_previous_match_end = Unit {0}
+IsWritableLeaf f m c clear = Unit {0}
+IsWritableLeaf f m c (backref n casei) = n < 2 ^ 64
+IsWritableLeaf f m c (subroutine_call n) = IsCallWritable m.numeric_capture_group_references c n
+IsWritableLeaf f m c _ = ⊥
 
 abbrev mutual
   -- what stands under a quantifier is repeatable, a Concat or an Alt has two parts or more, no part of a Concat, nor what
   -- a stopper holds, is Empty, and a conditional has a look-around as its condition, and a branch that is not Empty
-  pub AreNodesWritable : Flags → Tree → Type 0
-  AreNodesWritable f (leaf l) = IsWritableLeaf f l
-  AreNodesWritable f (over (repeat lo hi greedy) t) =
-      AreNodesWritable f t × (is_repeatable f t ≡ true) × (lo < 2 ^ 64) × (hi < 2 ^ 64)
-  AreNodesWritable f (over group t) = AreNodesWritable f t
-  AreNodesWritable f (over (look_around l) t) = AreNodesWritable f t
-  AreNodesWritable f (over atomic_group t) = AreNodesWritable f t
-  AreNodesWritable f (over define_group t) = AreNodesWritable f t
-  AreNodesWritable f (over repeater t) = AreNodesWritable f t
-  AreNodesWritable f (over stopper t) = AreNodesWritable f t × (is_empty t ≡ false)
-  AreNodesWritable f (row expression (more_trees a (more_trees e no_trees))) =
-      AreNodesWritable f a × AreNodesWritable f e
-  AreNodesWritable f
-      (row conditional (more_trees (over (look_around l) c) (more_trees t (more_trees e no_trees)))) =
-      AreNodesWritable f c × AreNodesWritable f t × AreNodesWritable f e × ((is_empty t && is_empty e) ≡ false)
-  AreNodesWritable f (row concat (more_trees t (more_trees u ts))) = ArePieces f (more_trees t (more_trees u ts))
-  AreNodesWritable f (row alt (more_trees t (more_trees u ts))) = AreAllWritable f (more_trees t (more_trees u ts))
-  AreNodesWritable f _ = ⊥
+  pub AreNodesWritable : Flags → Marks → ℕ → Tree → Type 0
+  AreNodesWritable f m c (leaf l) = IsWritableLeaf f m c l
+  AreNodesWritable f m c (over (repeat lo hi greedy) t) =
+      AreNodesWritable f m c t × (is_repeatable f t ≡ true) × (lo < 2 ^ 64) × (hi < 2 ^ 64)
+  AreNodesWritable f m c (over group t) = AreNodesWritable f m (c + 1) t
+  AreNodesWritable f m c (over (look_around l) t) = AreNodesWritable f m c t
+  AreNodesWritable f m c (over atomic_group t) = AreNodesWritable f m c t
+  AreNodesWritable f m c (over define_group t) = AreNodesWritable f m c t
+  AreNodesWritable f m c (over repeater t) = AreNodesWritable f m c t
+  AreNodesWritable f m c (over stopper t) = AreNodesWritable f m c t × (is_empty t ≡ false)
+  AreNodesWritable f m c (row expression (more_trees a (more_trees e no_trees))) =
+      AreNodesWritable f m c a × AreNodesWritable f m (c + group_count a) e
+  AreNodesWritable f m c
+      (row conditional (more_trees (over (look_around l) k) (more_trees t (more_trees e no_trees)))) =
+      AreNodesWritable f m c k × AreNodesWritable f m (c + group_count k) t
+      × AreNodesWritable f m (c + group_count k + group_count t) e × ((is_empty t && is_empty e) ≡ false)
+  AreNodesWritable f m c (row concat (more_trees t (more_trees u ts))) =
+      ArePieces f m c (more_trees t (more_trees u ts))
+  AreNodesWritable f m c (row alt (more_trees t (more_trees u ts))) =
+      AreAllWritable f m c (more_trees t (more_trees u ts))
+  AreNodesWritable f m c _ = ⊥
 
-  pub AreAllWritable : Flags → Trees → Type 0
-  AreAllWritable f no_trees = Unit {0}
-  AreAllWritable f (more_trees t ts) = AreNodesWritable f t × AreAllWritable f ts
+  pub AreAllWritable : Flags → Marks → ℕ → Trees → Type 0
+  AreAllWritable f m c no_trees = Unit {0}
+  AreAllWritable f m c (more_trees t ts) = AreNodesWritable f m c t × AreAllWritable f m (c + group_count t) ts
 
-  pub ArePieces : Flags → Trees → Type 0
-  ArePieces f no_trees = Unit {0}
-  ArePieces f (more_trees t ts) = AreNodesWritable f t × (is_empty t ≡ false) × ArePieces f ts
+  pub ArePieces : Flags → Marks → ℕ → Trees → Type 0
+  ArePieces f m c no_trees = Unit {0}
+  ArePieces f m c (more_trees t ts) =
+      AreNodesWritable f m c t × (is_empty t ≡ false) × IsParted m t ts × ArePieces f m (c + group_count t) ts
 
--- outside Oniguruma mode, a tree without references and names, of fewer than 64 levels, with its marks
+-- ---- groups and their names
+
+-- the name that the marks give the group of the number
+abbrev pub name_at : Marks → ℕ → Option Text
+name_at m n = option_map (λ e. e.0) (name_of m n)
+
+-- the openings of the next groups behind c others, so many, with the names that the marks give them; reaches are left
+-- out
+abbrev pub openings_told : Marks → ℕ → ℕ → List Opening
+openings_told m c zero = []
+openings_told m c (suc n) = record { reach = 0; name = name_at m (c + 1) } ∷ openings_told m (c + 1) n
+
+-- a back reference or a call stands in it
+abbrev pub has_reference : Tree → Bool
+has_reference t = nat_lt 0 (length (groups_referred t)) || has_call t
+
+-- the marks of a tree that has these groups, whose references all count as written as numbers, or none does
+abbrev pub marks_of : Flags → List Opening → Tree → Bool → Marks
+marks_of f l t numeric = record {
+  backrefs = ascending (filter (λ n. nat_le n (length l)) (groups_referred t));
+  named_groups = named_groups l;
+  numeric_capture_group_references = numeric;
+  contains_subroutines = has_call t;
+  self_recursive = false;
+  total_groups = length l;
+  out_of_range_backref = find (λ n. nat_lt (length l) n) (groups_referred t);
+  numbered_groups_ignored = only_named f l;
+}
+
+-- each group has a number
+abbrev pub AreCounted : Bool → List Opening → Type 0
+AreCounted named l = AllByRecursion (λ o. is_counted named o.name ≡ true) l
+
+-- a name that can be written between `<` and `>`, or between two `'`
+abbrev pub IsNameWritable : Text → Type 0
+IsNameWritable [] = ⊥
+IsNameWritable (c ∷ w) = (is_among (code ">") (c ∷ w) && is_among (code "'") (c ∷ w)) ≡ false
+
+-- ---- the trees
+
+-- outside Oniguruma mode, a tree of fewer than 64 levels with its marks, whose references all count as written as
+-- numbers, or none does
 pub record IsWritable (f : Flags) (m : Marks) (t : Tree) : Type 0 where
   pub mode : f.oniguruma_mode ≡ false
-  pub marks : m ≡ marks_of_groups (group_count t)
-  pub nodes : AreNodesWritable f t
+  pub marks : m ≡ marks_of f (openings_told m 0 (group_count t)) t m.numeric_capture_group_references
+  pub numeric : m.numeric_capture_group_references ≡ true → has_reference t ≡ true
+  pub counted : AreCounted m.numbered_groups_ignored (openings_told m 0 (group_count t))
+  pub names : AllByRecursion (λ e. IsNameWritable e.0) m.named_groups
+  pub nodes : AreNodesWritable f m 0 t
   pub levels : levels t < max_depth

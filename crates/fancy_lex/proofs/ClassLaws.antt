@@ -323,7 +323,7 @@ class_head_frame out t s c u e =
     ∙ mark_frame close_bracket p.0 p.1 s d r q
 
 mutual
-  class_frame : {f : Flags} {b a : Bool} {t w v : Text} → Class f b t (written w a v) → (s : Text) →
+  pub class_frame : {f : Flags} {b a : Bool} {t w v : Text} → Class f b t (written w a v) → (s : Text) →
       Class f b (t ++ s) (written w a (v ++ s))
   class_frame {t} (class_items e h) s =
       let (c, u, q) = items_some h in

@@ -7,8 +7,8 @@ pub mod ReadingLemmas
 pub mod LayoutLemmas
 pub mod LayoutLaws
 pub mod NumberLemmas
-mod IdLemmas
-mod AsciiLemmas
+pub mod IdLemmas
+pub mod AsciiLemmas
 mod NumberIds
 pub mod ReferenceLaws
 pub mod ReferencePlaces

@@ -43,7 +43,7 @@ pub on_ok : {A E : Type 0} (r : Result A E) (s t u : Text) → s ≡ (if is_ok r
 on_ok (Ok a) s t u e = e
 on_ok (Err b) s t u e = tt
 
-length_encodes : (cs : Text) → bytes cs ≡ length (encodes cs)
+pub length_encodes : (cs : Text) → bytes cs ≡ length (encodes cs)
 unfolding bytes
 length_encodes [] = refl
 length_encodes (c ∷ cs) = rw (length_encodes cs, ← length-encode c) (sym (length-append (encode c) (encodes cs)))

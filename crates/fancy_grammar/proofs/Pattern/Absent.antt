@@ -13,6 +13,7 @@ use Rattle.fancy_grammar.specs.Grammar.{Alternation, next, atom, a_nothing, a_gr
 use Rattle.fancy_grammar.specs.Head as head
 use Rattle.fancy_grammar.specs.Join.{is_empty}
 use Rattle.fancy_grammar.specs.Label as label
+use Rattle.fancy_grammar.specs.Marks.{Marks}
 use Rattle.fancy_grammar.specs.Pattern.{Here, under, past_groups, deeper, group_count, in_parens, behind, written}
 use Rattle.fancy_grammar.specs.Pattern.{repeater_text, stopper_text}
 use Rattle.fancy_grammar.specs.PatternNeeds.{settled}
@@ -21,14 +22,17 @@ use Rattle.fancy_grammar.specs.Tree.{Tree, over, row, no_trees, more_trees, empt
 use Rattle.fancy_grammar.specs.Tree.{repeater}
 use Rattle.fancy_grammar.specs.declared.precedence.Precedence.TheVariants.{Whole, Branch}
 use Rattle.fancy_grammar.proofs.OutcomeLemmas.{piece_as}
-use Rattle.fancy_grammar.proofs.Pattern.Becomes.{Becomes, row_becomes, stays_solid}
-use Rattle.fancy_grammar.proofs.Pattern.Cases.{m, ReadsTree}
+use Rattle.fancy_grammar.proofs.Pattern.Becomes.{Becomes, row_becomes, stays_solid, in_longer}
+use Rattle.fancy_grammar.proofs.Pattern.Cases.{ReadsTree}
 use Rattle.fancy_grammar.proofs.Pattern.Groups.{parens_text, question_at, over_becomes, whole_behind}
 use Rattle.fancy_grammar.proofs.Pattern.Induction.{by_atom}
 use Rattle.fancy_grammar.proofs.Pattern.Rules.{Begins, Stops, begins_by, stops_bar, ends_close, AtomAt, BranchAt}
 use Rattle.fancy_grammar.proofs.Pattern.Rules.{WholeAt}
 use Rattle.fancy_grammar.proofs.Pattern.Rules.{quants_one, quant_none}
 use Rattle.fancy_grammar.proofs.ReadBack.RuleLemmas.{st}
+use Rattle.fancy_grammar.proofs.ReadLaws.{branch_read}
+use Rattle.fancy_grammar.proofs.Slices.{to_ends}
+use Rattle.fancy_lex.proofs.LeaveLaws.{ends_twice}
 
 -- ---- behind an empty comment
 
@@ -42,9 +46,9 @@ unfolding ahead
 nothing_at d f s = refl
 
 -- a text that begins with a bar reads the same behind it
-comment_whole : (h : Here) (s v : Text) (g : Flags) (x : Tree) → h.flags.oniguruma_mode ≡ false →
-    WholeAt h (code "|" ∷ s) g v x → WholeAt h (codes "(?#)|" ++ s) g v x
-comment_whole h s v g x o w =
+comment_whole : (μ : Marks) (h : Here) (s v : Text) (g : Flags) (x : Tree) → h.flags.oniguruma_mode ≡ false →
+    WholeAt μ h (code "|" ∷ s) g v x → WholeAt μ h (codes "(?#)|" ++ s) g v x
+comment_whole μ h s v g x o w =
     let t = codes "(?#)|" ++ s in
     let bar = code "|" ∷ s in
     record {
@@ -56,18 +60,18 @@ comment_whole h s v g x o w =
           (quants_one h.depth (bytes t) h.flags empty empty bar bar o
           (quant_none (bytes t) h.flags empty bar (stops_bar h.flags.ignore_space s).clear))) p)
           w.derives;
-      becomes = w.becomes;
+      becomes = in_longer μ bar t (codes "(?#)", refl) h.opened w.tree x w.becomes;
     }
 
 -- ---- a repeater
 
 -- no bar stands there, or an empty comment before it
-record Parted (h : Here) (t v : Text) (g : Flags) (x : Tree) : Type 0 where
+record Parted (μ : Marks) (h : Here) (t v : Text) (g : Flags) (x : Tree) : Type 0 where
   first : ℕ
   others : Text
   is : t ≡ first ∷ others
   no_bar : (first == code "|") ≡ false
-  reads : WholeAt h t g v x
+  reads : WholeAt μ h t g v x
 
 tilde_at : (s : State) (c : ℕ) (u : Text) → (c == code "|") ≡ false →
     behind_question s (code "~" ∷ c ∷ u) ≡ with_head head.repeater (st s.flags (c ∷ u))
@@ -79,12 +83,12 @@ starts_bar t = refl
 starts_other : (c : ℕ) (t : Text) → (c ≢ code "|") → starts_with nat_eq (c ∷ t) (codes "|") ≡ false
 starts_other c t h = rw (ne_eqb (code "|") c (λ e. h (sym e))) refl
 
-module _ (h : Here) (v : Text) (g : Flags) (x : Tree) (o : h.flags.oniguruma_mode ≡ false) where
+module _ (μ : Marks) (h : Here) (v : Text) (g : Flags) (x : Tree) (o : h.flags.oniguruma_mode ≡ false) where
   abbrev PartedIf : Bool → Text → Type 0
-  PartedIf b t = Parted h ((if b then codes "(?#)" ++ t else t) ++ code ")" ∷ v) (code ")" ∷ v) g x
+  PartedIf b t = Parted μ h ((if b then codes "(?#)" ++ t else t) ++ code ")" ∷ v) (code ")" ∷ v) g x
 
   abbrev ReadsHere : Text → Type 0
-  ReadsHere t = WholeAt h (t ++ code ")" ∷ v) g (code ")" ∷ v) x
+  ReadsHere t = WholeAt μ h (t ++ code ")" ∷ v) g (code ")" ∷ v) x
 
   parted_nothing : (b : Bool) → false ≡ b → ReadsHere [] → PartedIf b []
   parted_nothing true e w = absurd (false≢true e)
@@ -96,7 +100,7 @@ module _ (h : Here) (v : Text) (g : Flags) (x : Tree) (o : h.flags.oniguruma_mod
     others = codes "?#)|" ++ (t ++ code ")" ∷ v);
     is = refl;
     no_bar = refl;
-    reads = comment_whole h (t ++ code ")" ∷ v) (code ")" ∷ v) g x o w;
+    reads = comment_whole μ h (t ++ code ")" ∷ v) (code ")" ∷ v) g x o w;
   }
   parted_bar false t e w = absurd (false≢true (sym e))
 
@@ -114,10 +118,10 @@ module _ (h : Here) (v : Text) (g : Flags) (x : Tree) (o : h.flags.oniguruma_mod
       (λ e. parted_other (starts_with nat_eq (c ∷ t) (codes "|")) c t e (sym (starts_other c t e)) w)
       (cases_eq c (code "|"))
 
-repeater_at : (h : Here) (u : Text) (g : Flags) (v : Text) (x : Tree) → h.depth + 1 < max_depth →
-    Parted (deeper h) u (code ")" ∷ v) g x → AtomAt h (codes "(?~" ++ u) v (over label.repeater x)
-repeater_at h u g v x l p =
-    subst (λ z. AtomAt h (codes "(?~" ++ z) v (over label.repeater x)) (sym p.is)
+repeater_at : (μ : Marks) (h : Here) (u : Text) (g : Flags) (v : Text) (x : Tree) → h.depth + 1 < max_depth →
+    Parted μ (deeper h) u (code ")" ∷ v) g x → AtomAt μ h (codes "(?~" ++ u) v (over label.repeater x)
+repeater_at μ h u g v x l p =
+    subst (λ z. AtomAt μ h (codes "(?~" ++ z) v (over label.repeater x)) (sym p.is)
     (record {
       tree = repeater p.reads.tree;
       derives =
@@ -127,7 +131,9 @@ repeater_at h u g v x l p =
           (a_group (inside
           (subst (λ z. Alternation (h.depth + 1) (st h.flags z) (done p.reads.tree (st g (code ")" ∷ v)))) p.is
           p.reads.derives)));
-      becomes = over_becomes label.repeater h.opened p.reads.tree x tt p.reads.becomes;
+      becomes = over_becomes μ _ label.repeater h.opened p.reads.tree x tt
+          (in_longer μ _ _ (codes "(?~", refl) h.opened p.reads.tree x
+          (subst (λ z. Becomes μ z h.opened p.reads.tree x) p.is p.reads.becomes));
     })
 
 -- ---- a stopper
@@ -136,91 +142,100 @@ stopper_same : (x : Bool) (t : Text) → Begins x (t ++ []) → stopper_text t �
 stopper_same x [] b = absurd (false≢true (sym b.goes))
 stopper_same x (c ∷ t) b = refl
 
-stopper_at : (h : Here) (t v : Text) (g : Flags) (x : Tree) → h.depth + 1 < max_depth → is_empty x ≡ false →
-    BranchAt (deeper h) t g (code ")" ∷ v) x → AtomAt h (codes "(?~|" ++ t) v (over label.stopper x)
-stopper_at h t v g x l e b =
-    let solid = stays_solid h.opened b.tree x b.becomes e in
+stopper_at : (μ : Marks) (h : Here) (t v : Text) (g : Flags) (x : Tree) → h.depth + 1 < max_depth → is_empty x ≡ false →
+    BranchAt μ (deeper h) t g (code ")" ∷ v) x → AtomAt μ h (codes "(?~|" ++ t) v (over label.stopper x)
+stopper_at μ h t v g x l e b =
+    let solid = stays_solid μ t h.opened b.tree x b.becomes e in
     let is : (if is_empty b.tree then clear else stopper b.tree) ≡ stopper b.tree = cond-false _ _ _ solid in
     record {
       tree = if is_empty b.tree then clear else stopper b.tree;
       derives = atom (question_at h.depth h.flags (codes "~|" ++ t) l) (one_branch b.derives refl);
       becomes =
-          subst (λ r. Becomes h.opened r (over label.stopper x)) (sym is)
-          (over_becomes label.stopper h.opened b.tree x tt b.becomes);
+          subst (λ r. Becomes μ (codes "(?~|" ++ t) h.opened r (over label.stopper x)) (sym is)
+          (over_becomes μ _ label.stopper h.opened b.tree x tt
+          (in_longer μ t _ (codes "(?~|", refl) h.opened b.tree x b.becomes));
     }
 
 -- ---- an absent expression
 
-expression_at : (h : Here) (t u v : Text) (f g : Flags) (a e : Tree) → h.depth + 1 < max_depth →
-    BranchAt (deeper h) t f (code "|" ∷ u) a →
-    BranchAt (past_groups (group_count a) (under f (deeper h))) u g (code ")" ∷ v) e →
-    AtomAt h (codes "(?~|" ++ t) v (row label.expression (more_trees a (more_trees e no_trees)))
-expression_at h t u v f g a e l b d = record {
+expression_at : (μ : Marks) (h : Here) (t u v : Text) (f g : Flags) (a e : Tree) → h.depth + 1 < max_depth →
+    BranchAt μ (deeper h) t f (code "|" ∷ u) a →
+    BranchAt μ (past_groups (group_count a) (under f (deeper h))) u g (code ")" ∷ v) e →
+    AtomAt μ h (codes "(?~|" ++ t) v (row label.expression (more_trees a (more_trees e no_trees)))
+expression_at μ h t u v f g a e l b d = record {
   tree = expression b.tree d.tree;
   derives = atom (question_at h.depth h.flags (codes "~|" ++ t) l) (two_branches b.derives refl d.derives);
   becomes =
-      row_becomes label.expression (b.tree ∷ d.tree ∷ []) (a ∷ e ∷ []) h.opened (b.becomes, (d.becomes, tt));
+      row_becomes μ _ label.expression (b.tree ∷ d.tree ∷ []) (a ∷ e ∷ []) h.opened (
+        in_longer μ t _ (codes "(?~|", refl) _ b.tree a b.becomes,
+        (
+          in_longer μ u _ (ends_twice _ t u (codes "(?~|", refl)
+              (ends_twice t (code "|" ∷ u) u (to_ends (branch_read b.derives).span.slice)
+              (codes "|", refl))) _ d.tree e d.becomes,
+          tt,
+        ),
+      );
 }
 
 -- ---- the trees
 
-module _ (n : ℕ) (h : Here) (o : h.flags.oniguruma_mode ≡ false) (d : h.depth + 1 < max_depth) where
+module _ (μ : Marks) (h : Here) (o : h.flags.oniguruma_mode ≡ false) (d : h.depth + 1 < max_depth) where
   begins_absent : (u : Text) → Begins h.flags.ignore_space (codes "(?~" ++ u)
   begins_absent u = begins_by h.flags.ignore_space (code "(") _ refl refl refl refl
 
-  pub repeater_reads : (t : Tree) → ReadsTree n t (deeper (under (settled h.flags t) h)) →
-      ReadsTree n (over label.repeater t) h
+  pub repeater_reads : (t : Tree) → ReadsTree μ t (deeper (under (settled h.flags t) h)) →
+      ReadsTree μ (over label.repeater t) h
   repeater_reads t r =
       let x = over label.repeater t in
       let i = under (settled h.flags t) h in
-      let w = written (m n) t Whole (deeper i) in
-      let text = λ (j : Here). repeater_text (written (m n) t Whole j) in
+      let w = written μ t Whole (deeper i) in
+      let text = λ (j : Here). repeater_text (written μ t Whole j) in
       let s = in_parens (codes "?~") text i in
       let same = parens_text (codes "?~") text i in
-      by_atom x h o d refl s _
+      by_atom μ x h o d refl s _
       (λ v. subst (Begins h.flags.ignore_space) (sym (same v)) (begins_absent _))
-      (λ v k. subst (λ z. AtomAt i z v x) (sym (same v))
-      (repeater_at i _ _ v t d
-      (parted (deeper i) v _ t o w (r.whole (code ")" ∷ v) (ends_close h.flags.ignore_space v)))))
+      (λ v k _. subst (λ z. AtomAt μ i z v x) (sym (same v))
+      (repeater_at μ i _ _ v t d
+      (parted μ (deeper i) v _ t o w (r.whole (code ")" ∷ v) (ends_close h.flags.ignore_space v)))))
       refl (λ e. refl)
 
-  pub stopper_reads : (t : Tree) → is_empty t ≡ false → ReadsTree n t (deeper (under (settled h.flags t) h)) →
-      ReadsTree n (over label.stopper t) h
+  pub stopper_reads : (t : Tree) → is_empty t ≡ false → ReadsTree μ t (deeper (under (settled h.flags t) h)) →
+      ReadsTree μ (over label.stopper t) h
   stopper_reads t solid r =
       let x = over label.stopper t in
       let i = under (settled h.flags t) h in
-      let w = written (m n) t Branch (deeper i) in
-      let text = λ (j : Here). stopper_text (written (m n) t Branch j) in
+      let w = written μ t Branch (deeper i) in
+      let text = λ (j : Here). stopper_text (written μ t Branch j) in
       let s = in_parens (codes "?~|") text i in
       let same = parens_text (codes "?~|") text i in
       let bare = stopper_same h.flags.ignore_space w (r.branch_begins solid []) in
-      by_atom x h o d refl s _
+      by_atom μ x h o d refl s _
       (λ v. subst (Begins h.flags.ignore_space) (sym (same v)) (begins_absent _))
-      (λ v k. subst (λ z. AtomAt i z v x)
+      (λ v k _. subst (λ z. AtomAt μ i z v x)
       (sym (same v ∙ ap (λ z. codes "(?~|" ++ (z ++ code ")" ∷ v)) bare))
-      (stopper_at i (w ++ code ")" ∷ v) v _ t d solid
+      (stopper_at μ i (w ++ code ")" ∷ v) v _ t d solid
       (r.branch (code ")" ∷ v) (ends_close h.flags.ignore_space v).stops)))
       refl (λ e. refl)
 
   -- the second branch stands behind the first
   pub expression_reads : (a e : Tree) → let x = row label.expression (more_trees a (more_trees e no_trees)) in
       let i = deeper (under (settled h.flags x) h) in
-      (behind a Branch i).flags.ignore_space ≡ h.flags.ignore_space → ReadsTree n a i →
-      ReadsTree n e (behind a Branch i) → ReadsTree n x h
+      (behind a Branch i).flags.ignore_space ≡ h.flags.ignore_space → ReadsTree μ a i →
+      ReadsTree μ e (behind a Branch i) → ReadsTree μ x h
   expression_reads a e space r q =
       let x = row label.expression (more_trees a (more_trees e no_trees)) in
       let i = under (settled h.flags x) h in
       let text = λ (j : Here).
-      written (m n) a Branch j ++ (codes "|" ++ written (m n) e Branch (behind a Branch j)) in
+      written μ a Branch j ++ (codes "|" ++ written μ e Branch (behind a Branch j)) in
       let s = in_parens (codes "?~|") text i in
       let same = parens_text (codes "?~|") text i in
-      let first = written (m n) a Branch (deeper i) in
-      let second = λ (v : Text). written (m n) e Branch (behind a Branch (deeper i)) ++ code ")" ∷ v in
-      by_atom x h o d refl s _
+      let first = written μ a Branch (deeper i) in
+      let second = λ (v : Text). written μ e Branch (behind a Branch (deeper i)) ++ code ")" ∷ v in
+      by_atom μ x h o d refl s _
       (λ v. subst (Begins h.flags.ignore_space) (sym (same v)) (begins_absent _))
-      (λ v k. subst (λ z. AtomAt i z v x)
+      (λ v k _. subst (λ z. AtomAt μ i z v x)
       (sym (same v ∙ ap (λ z. codes "(?~|" ++ z) (append_assoc first _ (code ")" ∷ v))))
-      (expression_at i (first ++ code "|" ∷ second v) (second v) v _ _ a e d
+      (expression_at μ i (first ++ code "|" ∷ second v) (second v) v _ _ a e d
       (r.branch (code "|" ∷ second v) (stops_bar h.flags.ignore_space (second v)))
       (q.branch (code ")" ∷ v) (subst (λ y. Stops y (code ")" ∷ v)) (sym space) (ends_close h.flags.ignore_space v).stops))))
       refl (λ e. refl)

@@ -1,115 +1,224 @@
 -- Raw trees that resolve to given ones where they stand, whatever stands around them.
-use Rattle.std.proofs.Common.{◌≡◌, ℕ, suc, ◌+◌, true, false, List, [], ◌∷◌, ◌++◌, length}
-use Rattle.std.proofs.Common.{refl, sym, ap, ap₂, ◌∙◌, subst, arith}
-use Rattle.std.proofs.lemmas.Bool.{cond-false}
-use Rattle.fancy_lex.specs.Text.{Text}
+use Rattle.std.proofs.Common.{◌≡◌, ℕ, suc, ◌+◌, Bool, true, false, List, [], ◌∷◌, ◌++◌, length}
+use Rattle.std.proofs.Common.{refl, sym, ap, ap₂, ◌∙◌, subst, arith, ℤ, Some, None, Option}
+use Rattle.std.proofs.lemmas.Bool.{cond-true, cond-false}
+use Rattle.fancy_lex.specs.Text.{Text, EndsWith, bytes, place_at}
 use Rattle.fancy_lex.specs.declared.flags.Flags.{Flags}
-use Rattle.fancy_parts.specs.Ranks.{numbered_openings_in}
-use Rattle.fancy_grammar.specs.Items.{Item, opening, reference, items, items_all, openings_in}
+use Rattle.fancy_parts.specs.Ranks.{Opening, numbered_openings_in, numbers}
+use Rattle.fancy_grammar.specs.Items.{Item, opening, reference, items, items_all, openings_in, role_of, target_of}
 use Rattle.fancy_grammar.specs.Join.{is_empty, solid, one_or}
-use Rattle.fancy_grammar.specs.Label.{Row}
+use Rattle.fancy_grammar.specs.Label.{Row, AstReference, ast_backref, ast_call, ast_condition}
+use Rattle.fancy_grammar.specs.Marks.{Marks, is_call_of_all}
 use Rattle.fancy_grammar.specs.Pattern.{group_count, group_count_all}
 use Rattle.fancy_grammar.specs.Quantified.{is_repeatable}
-use Rattle.fancy_grammar.specs.Resolved.{resolved_in, resolved_all}
+use Rattle.fancy_grammar.specs.Resolved.{resolved_in, resolved_all, reference_node}
 use Rattle.fancy_grammar.specs.Tree.{Tree, row, more_trees, trees_of, empty, ast_group}
-use Rattle.fancy_grammar.specs.Tree.{ast_node}
-use Rattle.fancy_grammar.proofs.ReadBack.RuleLemmas.{OnlyGroups}
+use Rattle.fancy_grammar.specs.Tree.{ast_node, backref, backref_at_level, subroutine_call, backref_exists}
+use Rattle.fancy_grammar.specs.Writable.{name_at, AreCounted, openings_told}
+use Rattle.fancy_parts.specs.Meaning.{number, means}
+use Rattle.fancy_parts.specs.Written.{is_numeric}
+use Rattle.fancy_lex.proofs.LeaveLaws.{ends_twice}
 
--- how many groups with a number open among the items
+-- how many groups open among the items
 abbrev pub opened : List Item → ℕ
-opened l = length (numbered_openings_in false (openings_in l))
+opened l = length (openings_in l)
 
--- behind the openings of c groups it resolves to x, has as many groups, and holds no reference, and no name
-pub record Becomes (c : ℕ) (r x : Tree) : Type 0 where
-  pub is : (n : ℕ) (numbers_of : Text → List ℕ) → resolved_in n false numbers_of c r ≡ x
+-- the numbers of a name, by the marks
+abbrev pub numbers_told : Marks → Text → List ℕ
+numbers_told μ w = numbers w (openings_told μ 0 μ.total_groups)
+
+-- a reference that means a group behind the openings of c groups
+pub record MeansGroup (μ : Marks) (c : ℕ) (r : AstReference) : Type 0 where
+  pub group : ℕ
+  pub meant : means (numbers_told μ) c (role_of r) (target_of r) ≡ number group
+
+-- in each text that ends so it is written as a number exactly if some reference is to be; no call is one of all
+pub record IsAsMarked (μ : Marks) (s : Text) (r : AstReference) (p : ℕ) : Type 0 where
+  pub numeric : (text : Text) → EndsWith text s →
+      is_numeric text (place_at (bytes text) p) (role_of r) (target_of r) ≡ μ.numeric_capture_group_references
+  pub not_of_all : is_call_of_all (role_of r) (target_of r) ≡ false
+
+-- behind the openings of c groups they are groups, each with the name that the marks give it, and such references
+abbrev pub AreGroups : Marks → Text → ℕ → List Item → Type 0
+AreGroups μ s c [] = Unit {0}
+AreGroups μ s c (opening o ∷ l) = (o.name ≡ name_at μ (c + 1)) × AreGroups μ s (c + 1) l
+AreGroups μ s c (reference r p ∷ l) = MeansGroup μ c r × IsAsMarked μ s r p × AreGroups μ s c l
+
+-- behind the openings of c groups it resolves to x, where each of its groups has a number and each name has those that
+-- the marks say; it has as many groups, with the names that the marks give them
+pub record Becomes (μ : Marks) (s : Text) (c : ℕ) (r x : Tree) : Type 0 where
+  pub is : (named : Bool) → AreCounted named (openings_in (items r)) → (n : ℕ) (numbers_of : Text → List ℕ) →
+      ((w : Text) → numbers_of w ≡ numbers_told μ w) → resolved_in n named numbers_of c r ≡ x
   pub count : opened (items r) ≡ group_count x
-  pub groups : OnlyGroups (items r)
+  pub groups : AreGroups μ s c (items r)
 
 -- each of the trees becomes the one at its place, one behind another
-abbrev pub EachBecomes : ℕ → List Tree → List Tree → Type 0
-EachBecomes c [] [] = Unit {0}
-EachBecomes c (r ∷ l) (x ∷ m) = Becomes c r x × EachBecomes (c + group_count x) l m
-EachBecomes c _ _ = ⊥
+abbrev pub EachBecomes : Marks → Text → ℕ → List Tree → List Tree → Type 0
+EachBecomes μ s c [] [] = Unit {0}
+EachBecomes μ s c (r ∷ l) (x ∷ m) = Becomes μ s c r x × EachBecomes μ s (c + group_count x) l m
+EachBecomes μ s c _ _ = ⊥
 
 -- ---- items, one behind another
 
-groups_append : (l m : List Item) → OnlyGroups l → OnlyGroups m → OnlyGroups (l ++ m)
-groups_append [] m h k = k
-groups_append (opening o ∷ l) m h k = (h.0, groups_append l m h.1 k)
-groups_append (reference r p ∷ l) m h k = absurd h
+groups_append : (μ : Marks) (s : Text) (c : ℕ) (l m : List Item) → AreGroups μ s c l → AreGroups μ s (c + opened l) m →
+    AreGroups μ s c (l ++ m)
+groups_append μ s c [] m h k = subst (λ n. AreGroups μ s n m) (omega arith) k
+groups_append μ s c (opening o ∷ l) m h k =
+    (h.0, groups_append μ s (c + 1) l m h.1 (subst (λ n. AreGroups μ s n m) (omega arith) k))
+groups_append μ s c (reference r p ∷ l) m h k = (h.0, h.1, groups_append μ s c l m h.2 k)
 
-opened_append : (l m : List Item) → OnlyGroups l → opened (l ++ m) ≡ opened l + opened m
-opened_append [] m h = omega arith
-opened_append (opening o ∷ l) m h = ap suc (opened_append l m h.1) ∙ omega arith
-opened_append (reference r p ∷ l) m h = absurd h
+openings_append : (l m : List Item) → openings_in (l ++ m) ≡ openings_in l ++ openings_in m
+openings_append [] m = refl
+openings_append (opening o ∷ l) m = ap (λ k. o ∷ k) (openings_append l m)
+openings_append (reference r p ∷ l) m = openings_append l m
+
+opened_append : (l m : List Item) → opened (l ++ m) ≡ opened l + opened m
+opened_append [] m = omega arith
+opened_append (opening o ∷ l) m = ap suc (opened_append l m) ∙ omega arith
+opened_append (reference r p ∷ l) m = opened_append l m
+
+counted_split : (named : Bool) (l m : List Opening) → AreCounted named (l ++ m) →
+    AreCounted named l × AreCounted named m
+counted_split named [] m h = (tt, h)
+counted_split named (o ∷ l) m h = let (a, b) = counted_split named l m h.1 in ((h.0, a), b)
+
+-- where each has a number, those that have one are all
+pub counted_all : (named : Bool) (l : List Opening) → AreCounted named l → numbered_openings_in named l ≡ l
+counted_all named [] h = refl
+counted_all named (o ∷ l) h = cond-true _ _ _ h.0 ∙ ap (λ m. o ∷ m) (counted_all named l h.1)
+
+-- where the others have numbers too, each has one
+pub counted_unnamed : (l : List Opening) → AreCounted false l
+counted_unnamed [] = tt
+counted_unnamed (o ∷ l) = (refl, counted_unnamed l)
+
+-- what it resolves to where all groups have a number
+pub becomes_plain : (μ : Marks) (s : Text) (c : ℕ) (r x : Tree) → Becomes μ s c r x →
+    resolved_in 0 false (numbers_told μ) c r ≡ x
+becomes_plain μ s c r x b = b.is false (counted_unnamed (openings_in (items r))) 0 (numbers_told μ) (λ w. refl)
 
 -- ---- several trees
 
-all_groups : (l m : List Tree) (c : ℕ) → EachBecomes c l m → OnlyGroups (items_all (trees_of l))
-all_groups [] [] c h = tt
-all_groups (r ∷ l) (x ∷ m) c h = groups_append (items r) (items_all (trees_of l)) h.0.groups (all_groups l m _ h.1)
-all_groups [] (x ∷ m) c h = absurd h
-all_groups (r ∷ l) [] c h = absurd h
+all_groups : (μ : Marks) (s : Text) (l m : List Tree) (c : ℕ) → EachBecomes μ s c l m →
+    AreGroups μ s c (items_all (trees_of l))
+all_groups μ s [] [] c h = tt
+all_groups μ s (r ∷ l) (x ∷ m) c h =
+    groups_append μ s c (items r) (items_all (trees_of l)) h.0.groups
+    (subst (λ k. AreGroups μ s (c + k) (items_all (trees_of l))) (sym h.0.count) (all_groups μ s l m _ h.1))
+all_groups μ s [] (x ∷ m) c h = absurd h
+all_groups μ s (r ∷ l) [] c h = absurd h
 
-all_count : (l m : List Tree) (c : ℕ) → EachBecomes c l m →
+all_count : (μ : Marks) (s : Text) (l m : List Tree) (c : ℕ) → EachBecomes μ s c l m →
     opened (items_all (trees_of l)) ≡ group_count_all (trees_of m)
-all_count [] [] c h = refl
-all_count (r ∷ l) (x ∷ m) c h =
-    opened_append (items r) (items_all (trees_of l)) h.0.groups ∙ ap₂ (λ a b. a + b) h.0.count (all_count l m _ h.1)
-all_count [] (x ∷ m) c h = absurd h
-all_count (r ∷ l) [] c h = absurd h
+all_count μ s [] [] c h = refl
+all_count μ s (r ∷ l) (x ∷ m) c h =
+    opened_append (items r) (items_all (trees_of l)) ∙ ap₂ (λ a b. a + b) h.0.count (all_count μ s l m _ h.1)
+all_count μ s [] (x ∷ m) c h = absurd h
+all_count μ s (r ∷ l) [] c h = absurd h
 
-each_resolved : (l m : List Tree) (c : ℕ) → EachBecomes c l m → (n : ℕ) (numbers_of : Text → List ℕ) →
-    resolved_all n false numbers_of c (trees_of l) ≡ trees_of m
-each_resolved [] [] c h n u = refl
-each_resolved (r ∷ l) (x ∷ m) c h n u =
-    ap₂ more_trees (h.0.is n u)
-    (ap (λ k. resolved_all n false u (c + k) (trees_of l)) h.0.count ∙ each_resolved l m _ h.1 n u)
-each_resolved [] (x ∷ m) c h n u = absurd h
-each_resolved (r ∷ l) [] c h n u = absurd h
+each_resolved : (μ : Marks) (s : Text) (l m : List Tree) (c : ℕ) → EachBecomes μ s c l m → (named : Bool) →
+    AreCounted named (openings_in (items_all (trees_of l))) → (n : ℕ) (numbers_of : Text → List ℕ) →
+    ((w : Text) → numbers_of w ≡ numbers_told μ w) → resolved_all n named numbers_of c (trees_of l) ≡ trees_of m
+each_resolved μ s [] [] c h named k n u e = refl
+each_resolved μ s (r ∷ l) (x ∷ m) c h named k n u e =
+    let others = items_all (trees_of l) in
+    let (a, b) = counted_split named (openings_in (items r)) (openings_in others)
+    (subst (AreCounted named) (openings_append (items r) others) k) in
+    let same : length (numbered_openings_in named (openings_in (items r))) ≡ group_count x
+    = ap length (counted_all named (openings_in (items r)) a) ∙ h.0.count in
+    ap₂ more_trees (h.0.is named a n u e)
+    (ap (λ k. resolved_all n named u (c + k) (trees_of l)) same ∙ each_resolved μ s l m _ h.1 named b n u e)
+each_resolved μ s [] (x ∷ m) c h named k n u e = absurd h
+each_resolved μ s (r ∷ l) [] c h named k n u e = absurd h
 
-pub row_becomes : (w : Row) (l m : List Tree) (c : ℕ) → EachBecomes c l m →
-    Becomes c (row w (trees_of l)) (row w (trees_of m))
-row_becomes w l m c h = record {
-  is = λ n u. ap (row w) (each_resolved l m c h n u);
-  count = all_count l m c h;
-  groups = all_groups l m c h;
+pub row_becomes : (μ : Marks) (s : Text) (w : Row) (l m : List Tree) (c : ℕ) → EachBecomes μ s c l m →
+    Becomes μ s c (row w (trees_of l)) (row w (trees_of m))
+row_becomes μ s w l m c h = record {
+  is = λ named k n u e. ap (row w) (each_resolved μ s l m c h named k n u e);
+  count = all_count μ s l m c h;
+  groups = all_groups μ s l m c h;
 }
 
-pub one_becomes : (w : Row) (l m : List Tree) (c : ℕ) → EachBecomes c l m →
-    Becomes c (one_or (row w) l) (one_or (row w) m)
-one_becomes w [] [] c h = record { is = λ n u. refl; count = refl; groups = tt }
-one_becomes w (r ∷ []) (x ∷ []) c h = h.0
-one_becomes w (r ∷ s ∷ l) (x ∷ y ∷ m) c h = row_becomes w (r ∷ s ∷ l) (x ∷ y ∷ m) c h
-one_becomes w (r ∷ []) (x ∷ y ∷ m) c h = absurd h.1
-one_becomes w (r ∷ s ∷ l) (x ∷ []) c h = absurd h.1
-one_becomes w [] (x ∷ m) c h = absurd h
-one_becomes w (r ∷ l) [] c h = absurd h
+pub one_becomes : (μ : Marks) (s : Text) (w : Row) (l m : List Tree) (c : ℕ) → EachBecomes μ s c l m →
+    Becomes μ s c (one_or (row w) l) (one_or (row w) m)
+one_becomes μ s w [] [] c h = record { is = λ named k n u e. refl; count = refl; groups = tt }
+one_becomes μ s w (r ∷ []) (x ∷ []) c h = h.0
+one_becomes μ s w (r ∷ z ∷ l) (x ∷ y ∷ m) c h = row_becomes μ s w (r ∷ z ∷ l) (x ∷ y ∷ m) c h
+one_becomes μ s w (r ∷ []) (x ∷ y ∷ m) c h = absurd h.1
+one_becomes μ s w (r ∷ z ∷ l) (x ∷ []) c h = absurd h.1
+one_becomes μ s w [] (x ∷ m) c h = absurd h
+one_becomes μ s w (r ∷ l) [] c h = absurd h
 
 -- ---- Empties
 
 -- what becomes no Empty is none
-pub stays_solid : (c : ℕ) (r x : Tree) → Becomes c r x → is_empty x ≡ false → is_empty r ≡ false
-stays_solid c empty x b e = absurd-empty (ap is_empty (b.is 0 (λ u. [])) ∙ e)
+pub stays_solid : (μ : Marks) (s : Text) (c : ℕ) (r x : Tree) → Becomes μ s c r x → is_empty x ≡ false →
+    is_empty r ≡ false
+stays_solid μ s c empty x b e = absurd-empty (ap is_empty (becomes_plain μ s c empty x b) ∙ e)
   where
     absurd-empty : {A : Type 0} → true ≡ false → A
     absurd-empty e = absurd cc
-stays_solid c r x b e = refl
+stays_solid μ s c r x b e = refl
 
-pub solid_also : (c : ℕ) (r x : Tree) (l m : List Tree) → Becomes c r x → is_empty x ≡ false →
-    EachBecomes (c + group_count x) (solid l) m → EachBecomes c (solid (r ∷ l)) (x ∷ m)
-solid_also c r x l m b e h =
-    subst (λ k. EachBecomes c k (x ∷ m)) (sym (cond-false _ _ _ (stays_solid c r x b e))) (b, h)
+pub solid_also : (μ : Marks) (s : Text) (c : ℕ) (r x : Tree) (l m : List Tree) → Becomes μ s c r x →
+    is_empty x ≡ false →
+    EachBecomes μ s (c + group_count x) (solid l) m → EachBecomes μ s c (solid (r ∷ l)) (x ∷ m)
+solid_also μ s c r x l m b e h =
+    subst (λ k. EachBecomes μ s c k (x ∷ m)) (sym (cond-false _ _ _ (stays_solid μ s c r x b e))) (b, h)
 
 -- ---- what may stand under a quantifier
 
-place_free : (f : Flags) (r : Tree) (c : ℕ) → OnlyGroups (items r) →
-    is_repeatable f (resolved_in 0 false (λ u. []) c r) ≡ is_repeatable f r
-place_free f (ast_group m p t) c h = refl
-place_free f (ast_node r p) c h = absurd h
-place_free f _ c h = refl
+-- what a reference that means a group is resolved to
+node_of : {A : Type 0} (P : Tree → A) (a : A) (μ : Marks) (c : ℕ) (r : AstReference) (p : ℕ) → MeansGroup μ c r →
+    ((k : ℕ) → P (reference_node 0 (number k) r p) ≡ a) →
+    P (resolved_in 0 false (numbers_told μ) c (ast_node r p)) ≡ a
+node_of P a μ c r p h e = ap (λ m. P (reference_node 0 m r p)) h.meant ∙ e h.group
 
-pub stays_repeatable : (f : Flags) (c : ℕ) (r x : Tree) → Becomes c r x → is_repeatable f x ≡ true →
+-- it is a leaf of its own, whatever the reference
+pub node_told : {A : Type 0} (P : Tree → A) (a : A) (μ : Marks) (c : ℕ) (r : AstReference) (p : ℕ) →
+    ((n : ℕ) (casei : Bool) → P (backref n casei) ≡ a) →
+    ((n : ℕ) (level : ℤ) (casei : Bool) → P (backref_at_level n level casei) ≡ a) →
+    ((n : ℕ) → P (subroutine_call n) ≡ a) → ((n : ℕ) (level : Option ℤ) → P (backref_exists n level) ≡ a) →
+    MeansGroup μ c r → P (resolved_in 0 false (numbers_told μ) c (ast_node r p)) ≡ a
+node_told P a μ c (ast_backref t casei None) p x y z w h =
+    node_of P a μ c (ast_backref t casei None) p h (λ k. x k casei)
+node_told P a μ c (ast_backref t casei (Some level)) p x y z w h =
+    node_of P a μ c (ast_backref t casei (Some level)) p h (λ k. y k level casei)
+node_told P a μ c (ast_call t) p x y z w h = node_of P a μ c (ast_call t) p h z
+node_told P a μ c (ast_condition t level) p x y z w h = node_of P a μ c (ast_condition t level) p h (λ k. w k level)
+
+place_free : (μ : Marks) (s : Text) (f : Flags) (r : Tree) (c : ℕ) → AreGroups μ s c (items r) →
+    is_repeatable f (resolved_in 0 false (numbers_told μ) c r) ≡ is_repeatable f r
+place_free μ s f (ast_group m p t) c h = refl
+place_free μ s f (ast_node r p) c h =
+    node_told (is_repeatable f) true μ c r p (λ n i. refl) (λ n l i. refl) (λ n. refl) (λ n l. refl) h.0
+place_free μ s f _ c h = refl
+
+pub stays_repeatable : (μ : Marks) (s : Text) (f : Flags) (c : ℕ) (r x : Tree) → Becomes μ s c r x →
+    is_repeatable f x ≡ true →
     is_repeatable f r ≡ true
-stays_repeatable f c r x b e =
-    sym (place_free f r c b.groups) ∙ (ap (is_repeatable f) (b.is 0 (λ u. [])) ∙ e)
+stays_repeatable μ s f c r x b e =
+    sym (place_free μ s f r c b.groups) ∙ (ap (is_repeatable f) (becomes_plain μ s c r x b) ∙ e)
+
+-- ---- in a longer text
+
+groups_in_longer : (μ : Marks) (s t : Text) → EndsWith t s → (c : ℕ) (l : List Item) → AreGroups μ s c l →
+    AreGroups μ t c l
+groups_in_longer μ s t e c [] h = tt
+groups_in_longer μ s t e c (opening o ∷ l) h = (h.0, groups_in_longer μ s t e (c + 1) l h.1)
+groups_in_longer μ s t e c (reference r p ∷ l) h = (
+  h.0,
+  record { numeric = λ w k. h.1.numeric w (ends_twice w t s k e); not_of_all = h.1.not_of_all },
+  groups_in_longer μ s t e c l h.2,
+)
+
+pub in_longer : (μ : Marks) (s t : Text) → EndsWith t s → (c : ℕ) (r x : Tree) → Becomes μ s c r x → Becomes μ t c r x
+in_longer μ s t e c r x b =
+    record { is = b.is; count = b.count; groups = groups_in_longer μ s t e c (items r) b.groups }
+
+pub each_in_longer : (μ : Marks) (s t : Text) → EndsWith t s → (l m : List Tree) (c : ℕ) → EachBecomes μ s c l m →
+    EachBecomes μ t c l m
+each_in_longer μ s t e [] [] c h = tt
+each_in_longer μ s t e (r ∷ l) (x ∷ m) c h = (in_longer μ s t e c r x h.0, each_in_longer μ s t e l m _ h.1)
+each_in_longer μ s t e [] (x ∷ m) c h = absurd h
+each_in_longer μ s t e (r ∷ l) [] c h = absurd h

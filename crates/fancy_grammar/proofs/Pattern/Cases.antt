@@ -1,7 +1,7 @@
 -- Each kind of tree reads back where the trees below it do.
-use Rattle.std.proofs.Common.{◌≡◌, ℕ, zero, ◌+◌, ◌<◌, Bool, false, not}
-use Rattle.std.proofs.Common.{[], ◌∷◌, ◌++◌, codes, refl, sym, ap, ◌∙◌, subst}
-use Rattle.std.proofs.lemmas.Bool.{cond-false, false≢true}
+use Rattle.std.proofs.Common.{◌≡◌, zero, ◌+◌, ◌<◌, Bool, false, not, ℕ}
+use Rattle.std.proofs.Common.{[], ◌∷◌, ◌++◌, codes, refl, sym, ap, ◌∙◌, subst, Option, Some, None, IfSome, option_map}
+use Rattle.std.proofs.lemmas.Bool.{cond-false, false≢true, cond_both}
 use Prim.Native.Char.{code}
 use Rattle.fancy_lex.specs.Text.{Text}
 use Rattle.fancy_lex.specs.declared.escape.Assertion.{Assertion}
@@ -9,7 +9,7 @@ use Rattle.fancy_lex.specs.declared.escape.Assertion.TheVariants.{StartLineOnigu
 use Rattle.fancy_lex.specs.declared.flags.Flags.{Flags}
 use Rattle.fancy_grammar.specs.Ahead.{with_head, ahead}
 use Rattle.fancy_grammar.specs.Depth.{max_depth}
-use Rattle.fancy_grammar.specs.Head.{look}
+use Rattle.fancy_grammar.specs.Head.{look, capture}
 use Rattle.fancy_grammar.specs.Join.{is_empty}
 use Rattle.fancy_grammar.specs.Label as label
 use Rattle.fancy_grammar.specs.Label.{Leaf}
@@ -18,16 +18,16 @@ use Rattle.fancy_grammar.specs.Pattern.{Here, under, past_groups, deeper, in_par
 use Rattle.fancy_grammar.specs.Pattern.{flags_behind, written, leaf_text}
 use Rattle.fancy_grammar.specs.Pattern.{look_head}
 use Rattle.fancy_grammar.specs.PatternNeeds.{settled, setting}
+use Rattle.fancy_grammar.specs.PatternReference.{Named, name_of, name_head, group_head}
 use Rattle.fancy_grammar.specs.Quantified.{is_repeatable}
-use Rattle.fancy_grammar.specs.ReadBack.{marks_of_groups}
 use Rattle.fancy_grammar.specs.Tree.{Tree, leaf, over}
-use Rattle.fancy_grammar.specs.Writable.{IsLike, IsWritableLeaf}
+use Rattle.fancy_grammar.specs.Writable.{IsLike, IsWritableLeaf, IsNameWritable}
 use Rattle.fancy_grammar.specs.declared.kinds.LookAround.{LookAround}
 use Rattle.fancy_grammar.specs.declared.kinds.LookAround.TheVariants.{LookAhead, LookAheadNeg, LookBehind}
 use Rattle.fancy_grammar.specs.declared.kinds.LookAround.TheVariants.{LookBehindNeg}
 use Rattle.fancy_grammar.specs.declared.precedence.Precedence.TheVariants.{Whole, Branch, Piece, Operand}
 use Rattle.fancy_grammar.proofs.Pattern.Groups.{parens_text, question_at, reads_look, reads_atomic}
-use Rattle.fancy_grammar.proofs.Pattern.Groups.{reads_define, reads_group}
+use Rattle.fancy_grammar.proofs.Pattern.Groups.{reads_define, reads_group, capture_at, head_read}
 use Rattle.fancy_grammar.proofs.Pattern.Induction.{ReadsBy}
 use Rattle.fancy_grammar.proofs.Pattern.Induction.{by_atom, by_nothing}
 use Rattle.fancy_grammar.proofs.Pattern.Leaves.{LeafAt, literal_at, byte_at, keep_at, continue_at, newline_at, any_at}
@@ -37,15 +37,15 @@ use Rattle.fancy_grammar.proofs.Pattern.Needed.{assertion_fits}
 use Rattle.fancy_grammar.proofs.Pattern.Rules.{Clear, Begins, begins_by, no_question, ends_close, AtomAt}
 use Rattle.fancy_grammar.proofs.ReadBack.ClearLemmas.{not_asking}
 use Rattle.fancy_grammar.proofs.ReadBack.RuleLemmas.{st}
+use Rattle.fancy_lex.specs.Characters.{◌∈◌, is_among}
+use Rattle.fancy_lex.specs.Reading.{choose}
+use Rattle.fancy_grammar.proofs.Pattern.Becomes.{numbers_told}
+use Rattle.fancy_grammar.proofs.Pattern.References.{backref_at, call_at}
 
-module _ (n : ℕ) where
-  -- no group has a name, and no reference stands in the tree
-  abbrev pub m : Marks
-  m = marks_of_groups n
-
+module _ (μ : Marks) where
   abbrev pub ReadsTree : Tree → Here → Type 0
   ReadsTree t h =
-      ReadsBy t h (written m t Whole h) (written m t Branch h) (written m t Piece h) (written m t (Operand zero) h)
+      ReadsBy μ t h (written μ t Whole h) (written μ t Branch h) (written μ t Piece h) (written μ t (Operand zero) h)
       (flags_behind t Whole h.flags) (flags_behind t Branch h.flags)
 
   -- ---- leaves
@@ -61,54 +61,62 @@ module _ (n : ℕ) where
 
   leaf_by : (l : Leaf) (h : Here) → h.flags.oniguruma_mode ≡ false → h.depth + 1 < max_depth →
       is_empty (leaf l) ≡ false →
-      LeafAt (under (settled h.flags (leaf l)) h) (leaf_text m l (under (settled h.flags (leaf l)) h)) l →
-      ReadsBy (leaf l) h (after_setting (leaf l) (leaf_text m l) h) (after_setting (leaf l) (leaf_text m l) h)
-      (after_setting (leaf l) (leaf_text m l) h)
-      (after_setting (leaf l) (as_atom (leaf l) (Operand zero) (leaf_text m l)) h) (settled h.flags (leaf l))
+      LeafAt μ (under (settled h.flags (leaf l)) h) (leaf_text μ l (under (settled h.flags (leaf l)) h)) l →
+      ReadsBy μ (leaf l) h (after_setting (leaf l) (leaf_text μ l) h) (after_setting (leaf l) (leaf_text μ l) h)
+      (after_setting (leaf l) (leaf_text μ l) h)
+      (after_setting (leaf l) (as_atom (leaf l) (Operand zero) (leaf_text μ l)) h) (settled h.flags (leaf l))
       (settled h.flags (leaf l))
   leaf_by l h o d e a =
       let g = settled h.flags (leaf l) in
       let i = under g h in
-      by_atom (leaf l) h o d e (leaf_text m l i) _ a.begins a.reads refl
+      by_atom μ (leaf l) h o d e (leaf_text μ l i) _ a.begins a.reads refl
       (λ r. ap (λ w. setting h.flags g ++ w)
       (cond-false _ _ _ (ap not (sym (same_repeatable l h.flags g refl) ∙ r))))
 
-  outside : (f : Flags) (a : Assertion) → IsWritableLeaf f (label.assertion a) → IsOutside a
-  outside f (StartLineOniguruma crlf) k = k
-  outside f _ k = tt
+  outside : (f : Flags) (c : ℕ) (a : Assertion) → IsWritableLeaf f μ c (label.assertion a) → IsOutside a
+  outside f c (StartLineOniguruma crlf) k = k
+  outside f c _ k = tt
 
-  pub leaf_reads : (f : Flags) (l : Leaf) (h : Here) → h.flags.oniguruma_mode ≡ false → IsLike f h.flags →
-      h.depth + 1 < max_depth → IsWritableLeaf f l → ReadsTree (leaf l) h
-  leaf_reads f label.empty h o like d k = by_nothing h (codes "()") (codes "()")
-  leaf_reads f (label.any a b) h o like d k =
+  pub leaf_reads : ((k : ℕ) → IfSome (name_of μ k) (λ e. e.1 ≡ numbers_told μ e.0)) →
+      (f : Flags) (l : Leaf) (h : Here) → h.flags.oniguruma_mode ≡ false → IsLike f h.flags →
+      h.depth + 1 < max_depth → IsWritableLeaf f μ h.opened l → ReadsTree (leaf l) h
+  leaf_reads numbered f label.empty h o like d k = by_nothing μ h (codes "()") (codes "()")
+  leaf_reads numbered f (label.any a b) h o like d k =
       let i = under (settled h.flags (leaf (label.any a b))) h in
-      leaf_by (label.any a b) h o d refl (any_at i a b (any_fits i.flags a b (settled_again h.flags (leaf (label.any a b)))))
-  leaf_reads f (label.assertion a) h o like d k =
+      leaf_by (label.any a b) h o d refl (any_at μ i a b (any_fits i.flags a b
+      (settled_again h.flags (leaf (label.any a b)))))
+  leaf_reads numbered f (label.assertion a) h o like d k =
       let i = under (settled h.flags (leaf (label.assertion a))) h in
       leaf_by (label.assertion a) h o d refl
-      (assertion_at i a o (assertion_fits i.flags a (outside f a k) (settled_again h.flags (leaf (label.assertion a)))))
-  leaf_reads f (label.general_newline u) h o like d k =
-      leaf_by (label.general_newline u) h o d refl (newline_at h u (ap (λ g. g.unicode) like ∙ k))
-  leaf_reads f (label.literal [] casei) h o like d k = absurd k
-  leaf_reads f (label.literal (c ∷ []) casei) h o like d k =
+      (assertion_at μ i a o (assertion_fits i.flags a (outside f h.opened a k)
+      (settled_again h.flags (leaf (label.assertion a)))))
+  leaf_reads numbered f (label.general_newline u) h o like d k =
+      leaf_by (label.general_newline u) h o d refl (newline_at μ h u (ap (λ g. g.unicode) like ∙ k))
+  leaf_reads numbered f (label.literal [] casei) h o like d k = absurd k
+  leaf_reads numbered f (label.literal (c ∷ []) casei) h o like d k =
       let l = label.literal (c ∷ []) casei in
       let i = under (settled h.flags (leaf l)) h in
-      leaf_by l h o d refl (literal_at i casei c (case_fits i.flags casei c o (settled_again h.flags (leaf l))))
-  leaf_reads f (label.literal (c ∷ e ∷ s) casei) h o like d k = absurd k
-  leaf_reads f (label.literal_bytes []) h o like d k = absurd k
-  leaf_reads f (label.literal_bytes (b ∷ [])) h o like d k =
-      leaf_by (label.literal_bytes (b ∷ [])) h o d refl (byte_at h b (ap (λ g. g.unicode) like ∙ k.0) k.1 k.2)
-  leaf_reads f (label.literal_bytes (b ∷ e ∷ s)) h o like d k = absurd k
-  leaf_reads f (label.delegate s casei) h o like d k =
+      leaf_by l h o d refl (literal_at μ i casei c (case_fits i.flags casei c o (settled_again h.flags (leaf l))))
+  leaf_reads numbered f (label.literal (c ∷ e ∷ s) casei) h o like d k = absurd k
+  leaf_reads numbered f (label.literal_bytes []) h o like d k = absurd k
+  leaf_reads numbered f (label.literal_bytes (b ∷ [])) h o like d k =
+      leaf_by (label.literal_bytes (b ∷ [])) h o d refl (byte_at μ h b (ap (λ g. g.unicode) like ∙ k.0) k.1 k.2)
+  leaf_reads numbered f (label.literal_bytes (b ∷ e ∷ s)) h o like d k = absurd k
+  leaf_reads numbered f (label.delegate s casei) h o like d k =
       let l = label.delegate s casei in
       let i = under (settled h.flags (leaf l)) h in
-      leaf_by l h o d refl (source_at i s casei _ (k i.flags like (settled_again h.flags (leaf l))))
-  leaf_reads f label.keep_out h o like d k = leaf_by label.keep_out h o d refl (keep_at h)
-  leaf_reads f label.continue_from_previous_match_end h o like d k =
-      leaf_by label.continue_from_previous_match_end h o d refl (continue_at h)
-  leaf_reads f (label.verb v) h o like d k = leaf_by (label.verb v) h o d refl (verb_leaf_at h v d)
-  leaf_reads f label.clear h o like d k = leaf_by label.clear h o d refl (clear_at h d)
-  leaf_reads f _ h o like d k = absurd k
+      leaf_by l h o d refl (source_at μ i s casei _ (k i.flags like (settled_again h.flags (leaf l))))
+  leaf_reads numbered f label.keep_out h o like d k = leaf_by label.keep_out h o d refl (keep_at μ h)
+  leaf_reads numbered f label.continue_from_previous_match_end h o like d k =
+      leaf_by label.continue_from_previous_match_end h o d refl (continue_at μ h)
+  leaf_reads numbered f (label.verb v) h o like d k = leaf_by (label.verb v) h o d refl (verb_leaf_at μ h v d)
+  leaf_reads numbered f label.clear h o like d k = leaf_by label.clear h o d refl (clear_at μ h d)
+  leaf_reads numbered f (label.backref n casei) h o like d k =
+      leaf_by (label.backref n casei) h o d refl
+      (backref_at μ (under (settled h.flags (leaf (label.backref n casei))) h) numbered n k)
+  leaf_reads numbered f (label.subroutine_call n) h o like d k =
+      leaf_by (label.subroutine_call n) h o d refl (call_at μ h numbered n k)
+  leaf_reads numbered f _ h o like d k = absurd k
 
   -- ---- groups
 
@@ -116,18 +124,41 @@ module _ (n : ℕ) where
   begins_open x s c = begins_by x (code "(") s (not_asking s (no_question s c.no_mark)) refl refl refl
 
   module _ (t : Tree) (h : Here) (o : h.flags.oniguruma_mode ≡ false) (d : h.depth + 1 < max_depth) where
-    pub group_reads : ReadsTree t (deeper (past_groups 1 (under (settled h.flags t) h))) →
-        ReadsTree (over label.group t) h
-    group_reads r =
+    -- a group whose name the marks give it
+    group_head_read : (o : Option Named) → IfSome o (λ e. IsNameWritable e.0) → (f : Flags) (u : Text) →
+        Clear f.ignore_space u →
+        ahead h.depth (st f (code "(" ∷ (choose o (λ e. name_head e.0) [] ++ u)))
+        ≡ with_head (capture (option_map (λ e. e.0) o)) (st f u)
+    group_head_read None k f u c = capture_at h.depth f u d c
+    group_head_read (Some ([], l)) k f u c = absurd k
+    group_head_read (Some (z ∷ w, l)) k f u c = head_read h.depth f z w u d k
+
+    begins_head : (o : Option Named) → IfSome o (λ e. IsNameWritable e.0) → (x : Bool) (u : Text) → Clear x u →
+        Begins x (code "(" ∷ (choose o (λ e. name_head e.0) [] ++ u))
+    begins_head None k x u c = begins_open x u c
+    begins_head (Some ([], l)) k x u c = absurd k
+    begins_head (Some (z ∷ w, l)) k x u c =
+        cond_both (is_among (code ">") (z ∷ w)) _ _ (λ r. Begins x (code "(" ∷ (r ++ u)))
+        (λ _. begins_by x (code "(") _ refl refl refl refl)
+        (λ _. cond_both (z ∈ "=!") _ _ (λ r. Begins x (code "(" ∷ ((r ++ (codes "<" ++ ((z ∷ w) ++ codes ">"))) ++ u)))
+        (λ _. begins_by x (code "(") _ refl refl refl refl) (λ _. begins_by x (code "(") _ refl refl refl refl))
+
+    pub group_reads : IfSome (name_of μ (h.opened + 1)) (λ e. IsNameWritable e.0) →
+        ReadsTree t (deeper (past_groups 1 (under (settled h.flags t) h))) → ReadsTree (over label.group t) h
+    group_reads named r =
         let i = under (settled h.flags t) h in
-        let s = in_parens [] (written m t Whole) (past_groups 1 i) in
-        let inside = λ (v : Text). written m t Whole (deeper (past_groups 1 i)) ++ code ")" ∷ v in
+        let head = group_head μ (h.opened + 1) in
+        let s = in_parens head (written μ t Whole) (past_groups 1 i) in
+        let inside = λ (v : Text). written μ t Whole (deeper (past_groups 1 i)) ++ code ")" ∷ v in
         let clear = λ (v : Text). r.whole_clear (code ")" ∷ v) (ends_close h.flags.ignore_space v).stops.clear in
-        let same = parens_text [] (written m t Whole) (past_groups 1 i) in
-        by_atom (over label.group t) h o d refl s _
-        (λ v. subst (Begins h.flags.ignore_space) (sym (same v)) (begins_open h.flags.ignore_space (inside v) (clear v)))
-        (λ v k. subst (λ w. AtomAt i w v (over label.group t)) (sym (same v))
-        (reads_group i _ (inside v) v t d (clear v) (r.whole (code ")" ∷ v) (ends_close h.flags.ignore_space v))))
+        let same = parens_text head (written μ t Whole) (past_groups 1 i) in
+        by_atom μ (over label.group t) h o d refl s _
+        (λ v. subst (Begins h.flags.ignore_space) (sym (same v))
+        (begins_head (name_of μ (h.opened + 1)) named h.flags.ignore_space (inside v) (clear v)))
+        (λ v k _. subst (λ w. AtomAt μ i w v (over label.group t)) (sym (same v))
+        (reads_group μ i _ _ _ (inside v) v t
+        (group_head_read (name_of μ (h.opened + 1)) named i.flags (inside v) (clear v)) refl
+        (r.whole (code ")" ∷ v) (ends_close h.flags.ignore_space v))))
         refl (λ e. refl)
 
     look_ahead_at : (f : Flags) (l : LookAround) (u : Text) →
@@ -147,46 +178,46 @@ module _ (n : ℕ) where
         ReadsTree (over (label.look_around l) t) h
     look_reads l r =
         let i = under (settled h.flags t) h in
-        let s = in_parens (look_head l) (written m t Whole) i in
-        let inside = λ (v : Text). written m t Whole (deeper i) ++ code ")" ∷ v in
-        let same = parens_text (look_head l) (written m t Whole) i in
-        by_atom (over (label.look_around l) t) h o d refl s _
+        let s = in_parens (look_head l) (written μ t Whole) i in
+        let inside = λ (v : Text). written μ t Whole (deeper i) ++ code ")" ∷ v in
+        let same = parens_text (look_head l) (written μ t Whole) i in
+        by_atom μ (over (label.look_around l) t) h o d refl s _
         (λ v. subst (Begins h.flags.ignore_space) (sym (same v)) (begins_look h.flags.ignore_space l (inside v)))
-        (λ v k. subst (λ w. AtomAt i w v (over (label.look_around l) t)) (sym (same v))
-        (reads_look i l _ _ (inside v) v t (look_ahead_at i.flags l (inside v))
+        (λ v k _. subst (λ w. AtomAt μ i w v (over (label.look_around l) t)) (sym (same v))
+        (reads_look μ i l _ _ (inside v) v t (look_ahead_at i.flags l (inside v))
         (r.whole (code ")" ∷ v) (ends_close h.flags.ignore_space v))))
         refl (λ e. absurd (false≢true e))
 
     pub define_reads : ReadsTree t (deeper (under (settled h.flags t) h)) → ReadsTree (over label.define_group t) h
     define_reads r =
         let i = under (settled h.flags t) h in
-        let s = in_parens (codes "?(DEFINE)") (written m t Whole) i in
-        let inside = λ (v : Text). written m t Whole (deeper i) ++ code ")" ∷ v in
-        let same = parens_text (codes "?(DEFINE)") (written m t Whole) i in
-        by_atom (over label.define_group t) h o d refl s _
+        let s = in_parens (codes "?(DEFINE)") (written μ t Whole) i in
+        let inside = λ (v : Text). written μ t Whole (deeper i) ++ code ")" ∷ v in
+        let same = parens_text (codes "?(DEFINE)") (written μ t Whole) i in
+        by_atom μ (over label.define_group t) h o d refl s _
         (λ v. subst (Begins h.flags.ignore_space) (sym (same v))
         (begins_by h.flags.ignore_space (code "(") _ refl refl refl refl))
-        (λ v k. subst (λ w. AtomAt i w v (over label.define_group t)) (sym (same v))
-        (reads_define i _ _ (inside v) v t (question_at h.depth i.flags (codes "(DEFINE)" ++ inside v) d)
+        (λ v k _. subst (λ w. AtomAt μ i w v (over label.define_group t)) (sym (same v))
+        (reads_define μ i _ _ (inside v) v t (question_at h.depth i.flags (codes "(DEFINE)" ++ inside v) d)
         (r.whole (code ")" ∷ v) (ends_close h.flags.ignore_space v))))
         refl (λ e. refl)
 
     -- where it is none of a quantifier
     pub atomic_by : ReadsTree t (deeper (under (settled h.flags t) h)) →
-        ReadsBy (over label.atomic_group t) h
-        (after_setting t (in_parens (codes "?>") (written m t Whole)) h)
-        (after_setting t (in_parens (codes "?>") (written m t Whole)) h)
-        (after_setting t (in_parens (codes "?>") (written m t Whole)) h)
-        (after_setting t (in_parens (codes "?>") (written m t Whole)) h) (settled h.flags t) (settled h.flags t)
+        ReadsBy μ (over label.atomic_group t) h
+        (after_setting t (in_parens (codes "?>") (written μ t Whole)) h)
+        (after_setting t (in_parens (codes "?>") (written μ t Whole)) h)
+        (after_setting t (in_parens (codes "?>") (written μ t Whole)) h)
+        (after_setting t (in_parens (codes "?>") (written μ t Whole)) h) (settled h.flags t) (settled h.flags t)
     atomic_by r =
         let i = under (settled h.flags t) h in
-        let s = in_parens (codes "?>") (written m t Whole) i in
-        let inside = λ (v : Text). written m t Whole (deeper i) ++ code ")" ∷ v in
-        let same = parens_text (codes "?>") (written m t Whole) i in
-        by_atom (over label.atomic_group t) h o d refl s _
+        let s = in_parens (codes "?>") (written μ t Whole) i in
+        let inside = λ (v : Text). written μ t Whole (deeper i) ++ code ")" ∷ v in
+        let same = parens_text (codes "?>") (written μ t Whole) i in
+        by_atom μ (over label.atomic_group t) h o d refl s _
         (λ v. subst (Begins h.flags.ignore_space) (sym (same v))
         (begins_by h.flags.ignore_space (code "(") _ refl refl refl refl))
-        (λ v k. subst (λ w. AtomAt i w v (over label.atomic_group t)) (sym (same v))
-        (reads_atomic i _ _ (inside v) v t (question_at h.depth i.flags (codes ">" ++ inside v) d)
+        (λ v k _. subst (λ w. AtomAt μ i w v (over label.atomic_group t)) (sym (same v))
+        (reads_atomic μ i _ _ (inside v) v t (question_at h.depth i.flags (codes ">" ++ inside v) d)
         (r.whole (code ")" ∷ v) (ends_close h.flags.ignore_space v))))
         refl (λ e. refl)

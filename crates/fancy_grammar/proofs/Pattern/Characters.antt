@@ -4,7 +4,7 @@ use Rattle.std.proofs.Common.{nat_lt, [], ◌∷◌, ◌++◌, codes, Option, So
 use Rattle.std.proofs.Common.{⊎_elim, eqb-true, if◌then◌else◌}
 use Rattle.std.proofs.lemmas.Bool.{cond-true, cond-false, cond_both, or_parts, or_cases, and_parts, false≢true}
 use Rattle.std.proofs.lemmas.Bool.Decides.{nat_tests}
-use Rattle.std.specs.Char.{digit_value, is_ascii_digit, is_ascii_alphanumeric}
+use Rattle.std.specs.Char.{is_ascii_digit, is_ascii_alphanumeric}
 use Rattle.std.proofs.lemmas.Option.{same_Some}
 use Prim.Native.Char.{code}
 use Rattle.fancy_lex.specs.Characters.{◌∈◌}
@@ -22,15 +22,10 @@ use Rattle.fancy_grammar.specs.PatternLetters.{is_unseen, coded, letter_of, plai
 use Rattle.fancy_grammar.specs.PatternNeeds.{is_kept_by_backslash}
 use Rattle.fancy_lex.proofs.ReadingLemmas.{choose_both}
 use Rattle.fancy_grammar.proofs.Pattern.Rules.{not_layout}
+use Rattle.fancy_grammar.proofs.ReadBack.ChunkLemmas.{hex_value, hex_paren, digits_read}
 use Rattle.fancy_grammar.proofs.ReadBack.ClearLemmas.{apart, not_open, no_more, also, each_among}
 
 -- ---- codes
-
-hex_value : (d : ℕ) → d < 16 → digit_value (upper_hex_digit d) ≡ d
-hex_value d h = grind (arith, nat_tests)
-
-hex_paren : (d : ℕ) → d < 16 → (upper_hex_digit d == code "(") ≡ false
-hex_paren d h = grind (arith, nat_tests)
 
 hex_layout : (d : ℕ) → d < 16 → is_layout true (upper_hex_digit d) ≡ false
 hex_layout d h = grind (arith, nat_tests)
@@ -42,11 +37,6 @@ both_layout false c h = refl
 digits_layout : (x : Bool) (d : ℕ) (t : Text) → d < 16 → layout x (upper_hex_digit d ∷ t) ≡ rest (upper_hex_digit d ∷ t)
 digits_layout x d t h =
     not_layout x (upper_hex_digit d) t (not_open _ t (hex_paren d h)) (both_layout x (upper_hex_digit d) (hex_layout d h))
-
-digits_two : (a b : ℕ) (s : Text) → a < 16 → b < 16 →
-    fixed_digits 2 0 (upper_hex_digit a ∷ upper_hex_digit b ∷ s) ≡ Some ((0 * 16 + a) * 16 + b, s)
-unfolding fixed_digits hexes.hex_digit
-digits_two a b s h k = rw (hex_value a h, lt-ltb a 16 h, hex_value b k, lt-ltb b 16 k) refl
 
 digits_four : (a b c d : ℕ) (s : Text) → a < 16 → b < 16 → c < 16 → d < 16 →
     fixed_digits 4 0 (upper_hex_digit a ∷ upper_hex_digit b ∷ upper_hex_digit c ∷ upper_hex_digit d ∷ s)
@@ -71,7 +61,7 @@ unfolding hex value
 hex_two f a b n s h k e =
     let t = upper_hex_digit a ∷ upper_hex_digit b ∷ s in
     let same : (0 * 16 + a) * 16 + b ≡ n = omega arith in
-    rw (digits_layout f.ignore_space a (upper_hex_digit b ∷ s) h, digits_two a b s h k) (
+    rw (digits_layout f.ignore_space a (upper_hex_digit b ∷ s) h, digits_read a b s h k) (
     ap (λ v. leaf_of_value f 2 (reach_of t) v s) same)
 
 hex_four : (f : Flags) (a b c d n : ℕ) (s : Text) → a < 16 → b < 16 → c < 16 → d < 16 →
@@ -118,36 +108,41 @@ byte_literal f p b s u l h =
     let high : nat_le b 0xFF ≡ true = grind (arith, nat_tests) in
     rw (u, low, high) refl
 
-escape_x : (f : Flags) (t : Text) → escape f false (code "x" ∷ t) ≡ hex f 2 t
+escape_x : (f : Flags) (inside : Bool) (t : Text) → escape f inside (code "x" ∷ t) ≡ hex f 2 t
 unfolding escape_at
-escape_x f t = refl
+escape_x f inside t = refl
 
-escape_u : (f : Flags) (t : Text) → escape f false (code "u" ∷ t) ≡ hex f 4 t
+escape_u : (f : Flags) (inside : Bool) (t : Text) → escape f inside (code "u" ∷ t) ≡ hex f 4 t
 unfolding escape_at
-escape_u f t = refl
+escape_u f inside t = refl
 
 pub reads_byte : (f : Flags) (b : ℕ) (s : Text) → f.unicode ≡ false → 0x80 ≤ b → b ≤ 0xFF →
     escape f false (code "x" ∷ upper_hex_digit (b / 16) ∷ upper_hex_digit (b % 16) ∷ s) ≡ gives (escaped.literal_bytes b) s
 reads_byte f b s u l h =
-    escape_x f _ ∙ (hex_two f (b / 16) (b % 16) b s (omega arith) (omega arith) (omega arith)
+    escape_x f false _ ∙ (hex_two f (b / 16) (b % 16) b s (omega arith) (omega arith) (omega arith)
     ∙ byte_literal f _ b s u l h)
 
 -- ---- what stands behind the backslash of a character
 
--- what reads as the character behind a backslash, with this case flag
+-- what reads as the character behind a backslash, with this case flag, in a class or outside
+abbrev pub EscapesIn : Bool → Flags → Bool → ℕ → Text → Type 0
+EscapesIn inside f casei c t = (s : Text) → escape f inside (t ++ s) ≡ gives (escaped.literal c casei) s
+
 abbrev pub EscapesAs : Flags → Bool → ℕ → Text → Type 0
-EscapesAs f casei c t = (s : Text) → escape f false (t ++ s) ≡ gives (escaped.literal c casei) s
+EscapesAs f casei c t = EscapesIn false f casei c t
 
-reads_small : (f : Flags) (c : ℕ) → c < 0x80 →
-    EscapesAs f f.casei c (code "x" ∷ upper_hex_digit (c / 16) ∷ upper_hex_digit (c % 16) ∷ [])
-reads_small f c h s =
-    escape_x f _ ∙ (hex_two f (c / 16) (c % 16) c s (omega arith) (omega arith) (omega arith) ∙ small_literal f _ c s h)
+pub reads_small : (inside : Bool) (f : Flags) (c : ℕ) → c < 0x80 →
+    EscapesIn inside f f.casei c (code "x" ∷ upper_hex_digit (c / 16) ∷ upper_hex_digit (c % 16) ∷ [])
+reads_small inside f c h s =
+    escape_x f inside _ ∙ (hex_two f (c / 16) (c % 16) c s (omega arith) (omega arith) (omega arith)
+    ∙ small_literal f _ c s h)
 
-reads_large : (f : Flags) (c : ℕ) → c < 0x10000 → is_scalar c ≡ true →
-    EscapesAs f f.casei c (code "u" ∷ upper_hex_digit (c / 4096) ∷ upper_hex_digit (c / 256 % 16) ∷ upper_hex_digit
-    (c / 16 % 16) ∷ upper_hex_digit (c % 16) ∷ [])
-reads_large f c h k s =
-    escape_u f _ ∙ (hex_four f (c / 4096) (c / 256 % 16) (c / 16 % 16) (c % 16) c s (omega arith) (omega arith)
+pub reads_large : (inside : Bool) (f : Flags) (c : ℕ) → c < 0x10000 → is_scalar c ≡ true →
+    EscapesIn inside f f.casei c
+    (code "u" ∷ upper_hex_digit (c / 4096) ∷ upper_hex_digit (c / 256 % 16) ∷ upper_hex_digit (c / 16 % 16)
+    ∷ upper_hex_digit (c % 16) ∷ [])
+reads_large inside f c h k s =
+    escape_u f inside _ ∙ (hex_four f (c / 4096) (c / 256 % 16) (c / 16 % 16) (c % 16) c s (omega arith) (omega arith)
     (omega arith) (omega arith) (omega arith) ∙ large_literal f _ c s k)
 
 -- by itself
@@ -173,10 +168,10 @@ reads_kept f c h s =
     digit c h = grind (arith, nat_tests)
 
 -- by a letter
-escapes_letter : (f : Flags) (c d : ℕ) → letter_of c ≡ Some d → EscapesAs f false c (d ∷ [])
+pub escapes_letter : (inside : Bool) (f : Flags) (c d : ℕ) → letter_of c ≡ Some d → EscapesIn inside f false c (d ∷ [])
 unfolding escape_at lone_escape
-escapes_letter f c d =
-    let Q : Option ℕ → Type 0 = λ o. o ≡ Some d → EscapesAs f false c (d ∷ []) in
+escapes_letter inside f c d =
+    let Q : Option ℕ → Type 0 = λ o. o ≡ Some d → EscapesIn inside f false c (d ∷ []) in
     cond_both (c == code "\n") _ _ Q (λ t e. from (code "n") (code "\n") e t (λ s. n s))
     (λ _. cond_both (c == code "\t") _ _ Q (λ t e. from (code "t") (code "\t") e t (λ s. tab s))
     (λ _. cond_both (c == code "\r") _ _ Q (λ t e. from (code "r") (code "\r") e t (λ s. r s))
@@ -186,30 +181,31 @@ escapes_letter f c d =
     (λ _. cond_both (c == code "\u{1b}") _ _ Q (λ t e. from (code "e") (code "\u{1b}") e t (λ s. esc s))
     (λ _ e. absurd cc)))))))
   where
-    from : (y k : ℕ) → Some y ≡ Some d → (c == k) ≡ true → EscapesAs f false k (y ∷ []) → EscapesAs f false c (d ∷ [])
+    from : (y k : ℕ) → Some y ≡ Some d → (c == k) ≡ true → EscapesIn inside f false k (y ∷ []) →
+        EscapesIn inside f false c (d ∷ [])
     from y k e t h =
-        subst (λ z. EscapesAs f false c (z ∷ [])) (same_Some y d e)
-        (subst (λ z. EscapesAs f false z (y ∷ [])) (sym (eqb-true c k t)) h)
+        subst (λ z. EscapesIn inside f false c (z ∷ [])) (same_Some y d e)
+        (subst (λ z. EscapesIn inside f false z (y ∷ [])) (sym (eqb-true c k t)) h)
 
-    n : EscapesAs f false (code "\n") (code "n" ∷ [])
+    n : EscapesIn inside f false (code "\n") (code "n" ∷ [])
     n s = refl
 
-    tab : EscapesAs f false (code "\t") (code "t" ∷ [])
+    tab : EscapesIn inside f false (code "\t") (code "t" ∷ [])
     tab s = refl
 
-    r : EscapesAs f false (code "\r") (code "r" ∷ [])
+    r : EscapesIn inside f false (code "\r") (code "r" ∷ [])
     r s = refl
 
-    form : EscapesAs f false (code "\u{c}") (code "f" ∷ [])
+    form : EscapesIn inside f false (code "\u{c}") (code "f" ∷ [])
     form s = refl
 
-    v : EscapesAs f false (code "\u{b}") (code "v" ∷ [])
+    v : EscapesIn inside f false (code "\u{b}") (code "v" ∷ [])
     v s = refl
 
-    bell : EscapesAs f false (code "\u{7}") (code "a" ∷ [])
+    bell : EscapesIn inside f false (code "\u{7}") (code "a" ∷ [])
     bell s = refl
 
-    esc : EscapesAs f false (code "\u{1b}") (code "e" ∷ [])
+    esc : EscapesIn inside f false (code "\u{1b}") (code "e" ∷ [])
     esc s = refl
 
 -- ---- characters
@@ -221,14 +217,14 @@ pub data Spells (f : Flags) (casei : Bool) (c : ℕ) : Text → Type 0 where
   by_escape : {t : Text} → EscapesAs f casei c t → Spells f casei c (code "\\" ∷ t)
 
 -- what is not seen has a code
-unseen_small : (c : ℕ) → is_unseen c ≡ true → (c < 0x10000) × (is_scalar c ≡ true)
+pub unseen_small : (c : ℕ) → is_unseen c ≡ true → (c < 0x10000) × (is_scalar c ≡ true)
 unseen_small c h = grind (arith, nat_tests)
 
 coded_spells : (f : Flags) (c : ℕ) → c < 0x10000 → is_scalar c ≡ true → Spells f f.casei c (coded c)
 coded_spells f c h k =
     cond_both (nat_lt c 0x80) _ _ (Spells f f.casei c)
-    (λ e. by_escape (reads_small f c (grind (arith, nat_tests))))
-    (λ e. by_escape (reads_large f c h k))
+    (λ e. by_escape (reads_small false f c (grind (arith, nat_tests))))
+    (λ e. by_escape (reads_large false f c h k))
 
 blanks_unseen : (c : ℕ) → is_unseen c ≡ false → c ∈ " #" ≡ false → is_layout true c ≡ false
 blanks_unseen c h k = grind (arith, nat_tests)
@@ -281,7 +277,7 @@ character_spells f true c h =
     with_case _ (coded_spells f c a b))
     (λ e. let (a, b) = or_parts (c ∈ "\\.+*?()|[{^$") _ e in with_case _ (plain_spells f c a b))
 character_spells f false c h =
-    choose_both (Spells f false c) (letter_of c) _ _ (λ d e. by_escape (escapes_letter f c d e))
+    choose_both (Spells f false c) (letter_of c) _ _ (λ d e. by_escape (escapes_letter false f c d e))
     (cond_both (c ∈ "\\.+*?()|[]{}^$" || (letters.is_layout f c || f.casei)) _ _ (Spells f false c)
     (λ e. by_escape (reads_kept f c
     (⊎_elim (λ m. mark_kept c m)

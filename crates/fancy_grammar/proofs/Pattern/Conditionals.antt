@@ -7,7 +7,7 @@ use Rattle.std.proofs.lemmas.Bool.{cond-false, or_parts, false≢true}
 use Rattle.std.proofs.lemmas.Str.{len_utf8_bounds}
 use Rattle.std.specs.Str.{bytes_eq}
 use Prim.Native.Char.{code}
-use Rattle.fancy_lex.specs.Text.{Text, bytes}
+use Rattle.fancy_lex.specs.Text.{Text, bytes, EndsWith}
 use Rattle.fancy_lex.specs.declared.flags.Flags.{Flags}
 use Rattle.fancy_lex.proofs.TextLemmas.{bytes-append}
 use Rattle.fancy_parts.specs.HeadReference.{begins_target}
@@ -24,17 +24,22 @@ use Rattle.fancy_grammar.specs.Pattern.{flags_behind}
 use Rattle.fancy_grammar.specs.PatternNeeds.{settled, turns_on, letters_between}
 use Rattle.fancy_grammar.specs.declared.kinds.LookAround.{LookAround}
 use Rattle.fancy_grammar.specs.Ahead.{ahead, condition}
+use Rattle.fancy_grammar.specs.Marks.{Marks}
 use Rattle.fancy_grammar.proofs.Pattern.Groups.{parens_text, question_at}
 use Rattle.fancy_grammar.proofs.Pattern.Induction.{by_atom}
 use Rattle.fancy_grammar.specs.Resolved.{resolved_in}
 use Rattle.fancy_grammar.specs.State.{State, Outcome, done, fault, seen_through}
 use Rattle.fancy_grammar.specs.Tree.{Tree, leaf, over, row, no_trees, more_trees, empty, conditional, ast_group}
 use Rattle.fancy_grammar.specs.Tree.{ast_node, trees_of, list_of}
-use Rattle.fancy_grammar.proofs.Pattern.Becomes.{Becomes, row_becomes}
+use Rattle.fancy_grammar.proofs.Pattern.Becomes.{Becomes, row_becomes, AreGroups, becomes_plain, numbers_told}
+use Rattle.fancy_grammar.proofs.Pattern.Becomes.{node_told, in_longer}
 use Rattle.fancy_grammar.proofs.Pattern.Rules.{Begins, begins_by, AtomAt, BranchAt, WholeAt, stops_bar, ends_close}
 use Rattle.fancy_grammar.specs.declared.precedence.Precedence.TheVariants.{Whole, Branch as BranchAlone}
-use Rattle.fancy_grammar.proofs.Pattern.Cases.{m, ReadsTree}
-use Rattle.fancy_grammar.proofs.ReadBack.RuleLemmas.{OnlyGroups, st}
+use Rattle.fancy_grammar.proofs.Pattern.Cases.{ReadsTree}
+use Rattle.fancy_grammar.proofs.ReadBack.RuleLemmas.{st}
+use Rattle.fancy_grammar.proofs.ReadLaws.{alternation_read}
+use Rattle.fancy_grammar.proofs.Slices.{to_ends}
+use Rattle.fancy_lex.proofs.LeaveLaws.{ends_twice}
 
 -- ---- the branches of an alternation that was read
 
@@ -87,29 +92,29 @@ others {d} {s} {r} {t} a = let (q, e, b) = alternation_of a in others_of d s r t
 
 -- ---- a raw tree and what it becomes
 
-raw_empty : (r : Tree) (c : ℕ) → OnlyGroups (items r) → is_empty (resolved_in 0 false (λ u. []) c r) ≡ is_empty r
-raw_empty (ast_group m p t) c h = refl
-raw_empty (ast_node r p) c h = absurd h
-raw_empty _ c h = refl
+raw_empty : (μ : Marks) (s : Text) (r : Tree) (c : ℕ) → AreGroups μ s c (items r) →
+    is_empty (resolved_in 0 false (numbers_told μ) c r) ≡ is_empty r
+raw_empty μ s (ast_group m p t) c h = refl
+raw_empty μ s (ast_node r p) c h =
+    node_told is_empty false μ c r p (λ n i. refl) (λ n l i. refl) (λ n. refl) (λ n l. refl) h.0
+raw_empty μ s _ c h = refl
 
-same_empty : (c : ℕ) (r x : Tree) → Becomes c r x → is_empty r ≡ is_empty x
-same_empty c r x b = sym (raw_empty r c b.groups) ∙ ap is_empty (b.is 0 (λ u. []))
+same_empty : (μ : Marks) (s : Text) (c : ℕ) (r x : Tree) → Becomes μ s c r x → is_empty r ≡ is_empty x
+same_empty μ s c r x b = sym (raw_empty μ s r c b.groups) ∙ ap is_empty (becomes_plain μ s c r x b)
 
-raw_alt : (r : Tree) (c : ℕ) → OnlyGroups (items r) → is_alt (resolved_in 0 false (λ u. []) c r) ≡ is_alt r
-raw_alt (ast_group m p t) c h = refl
-raw_alt (ast_node r p) c h = absurd h
-raw_alt (row label.concat ts) c h = refl
-raw_alt (row label.alt ts) c h = refl
-raw_alt (row label.expression ts) c h = refl
-raw_alt (row label.conditional ts) c h = refl
-raw_alt _ c h = refl
+raw_alt : (μ : Marks) (s : Text) (r : Tree) (c : ℕ) → AreGroups μ s c (items r) →
+    is_alt (resolved_in 0 false (numbers_told μ) c r) ≡ is_alt r
+raw_alt μ s (ast_group m p t) c h = refl
+raw_alt μ s (ast_node r p) c h =
+    node_told is_alt false μ c r p (λ n i. refl) (λ n l i. refl) (λ n. refl) (λ n l. refl) h.0
+raw_alt μ s (row label.concat ts) c h = refl
+raw_alt μ s (row label.alt ts) c h = refl
+raw_alt μ s (row label.expression ts) c h = refl
+raw_alt μ s (row label.conditional ts) c h = refl
+raw_alt μ s _ c h = refl
 
-same_alt : (c : ℕ) (r x : Tree) → Becomes c r x → is_alt r ≡ is_alt x
-same_alt c r x b = sym (raw_alt r c b.groups) ∙ ap is_alt (b.is 0 (λ u. []))
-
-no_condition : (r : Tree) → OnlyGroups (items r) → is_condition r ≡ false
-no_condition (ast_node r p) h = absurd h
-no_condition _ h = refl
+same_alt : (μ : Marks) (s : Text) (c : ℕ) (r x : Tree) → Becomes μ s c r x → is_alt r ≡ is_alt x
+same_alt μ s c r x b = sym (raw_alt μ s r c b.groups) ∙ ap is_alt (becomes_plain μ s c r x b)
 
 -- what is no Alt is one branch
 abbrev OneBranch : Tree → Type 0
@@ -136,13 +141,13 @@ bar_left t u v =
     (omega (arith, bytes-append t (code "|" ∷ (u ++ v)), bytes-append u v))
 
 -- the body of a conditional with the raw condition k reads as these branches
-record BodyAt (d : ℕ) (k : Tree) (j : Here) (s v : Text) (t e : Tree) : Type 0 where
+record BodyAt (μ : Marks) (d : ℕ) (k : Tree) (j : Here) (s v : Text) (t e : Tree) : Type 0 where
   after : Flags
   one : Tree
   other : Tree
   derives : Body d k (st j.flags s) (done (conditional_of k one other) (st after v))
-  one_becomes : Becomes j.opened one t
-  other_becomes : Becomes (j.opened + group_count t) other e
+  one_becomes : Becomes μ s j.opened one t
+  other_becomes : Becomes μ s (j.opened + group_count t) other e
 
 closed_body : (k r : Tree) (left : ℕ) (g : Flags) (v : Text) (a b : Tree) →
     (bytes (code ")" ∷ v) == left) ≡ false → ◌≡◌ {A = Tree × Tree} (branches_of r) (a, b) →
@@ -155,11 +160,11 @@ closed_body k r left g v a b e is =
 abbrev within : ℕ → Flags → ℕ → Here
 within d f n = record { flags = f; opened = n; depth = d + 1 }
 
-two_body : (d : ℕ) (k : Tree) (f : Flags) (n : ℕ) (t u v : Text) (g i : Flags) (x e : Tree) →
-    BranchAt (within d f n) (t ++ code "|" ∷ (u ++ code ")" ∷ v)) g (code "|" ∷ (u ++ code ")" ∷ v)) x →
-    WholeAt (past_groups (group_count x) (under g (within d f n))) (u ++ code ")" ∷ v) i (code ")" ∷ v) e →
-    BodyAt d k (within d f n) (t ++ code "|" ∷ (u ++ code ")" ∷ v)) v x e
-two_body d k f n t u v g i x e b w =
+two_body : (μ : Marks) (d : ℕ) (k : Tree) (f : Flags) (n : ℕ) (t u v : Text) (g i : Flags) (x e : Tree) →
+    BranchAt μ (within d f n) (t ++ code "|" ∷ (u ++ code ")" ∷ v)) g (code "|" ∷ (u ++ code ")" ∷ v)) x →
+    WholeAt μ (past_groups (group_count x) (under g (within d f n))) (u ++ code ")" ∷ v) i (code ")" ∷ v) e →
+    BodyAt μ d k (within d f n) (t ++ code "|" ∷ (u ++ code ")" ∷ v)) v x e
+two_body μ d k f n t u v g i x e b w =
     let s = t ++ code "|" ∷ (u ++ code ")" ∷ v) in
     let o = others w.derives in
     let rest = o.first ∷ o.others in
@@ -174,23 +179,30 @@ two_body d k f n t u v g i x e b w =
           (closed_body k (choice (b.tree ∷ rest)) (bytes s) i v b.tree other (bar_left t u (code ")" ∷ v)) refl)
           (the_body (alternation (more b.derives refl o.derives)));
       one_becomes = b.becomes;
-      other_becomes = subst (λ r. Becomes (n + group_count x) r e) (sym same) w.becomes;
+      other_becomes =
+          in_longer μ (u ++ code ")" ∷ v) s (
+            t ++ codes "|",
+            sym
+                (append_assoc t (codes "|") (u ++ code ")" ∷ v)),
+          ) _ other e
+          (subst (λ r. Becomes μ (u ++ code ")" ∷ v) (n + group_count x) r e) (sym same) w.becomes);
     }
 
-one_body : (d : ℕ) (k : Tree) (f : Flags) (n : ℕ) (t v : Text) (g : Flags) (x : Tree) (c : ℕ) (u : Text) → t ≡ c ∷ u →
-    is_alt x ≡ false → BranchAt (within d f n) (t ++ code ")" ∷ v) g (code ")" ∷ v) x →
-    BodyAt d k (within d f n) (t ++ code ")" ∷ v) v x (leaf label.empty)
-one_body d k f n t v g x c u e a b = record {
+one_body : (μ : Marks) (d : ℕ) (k : Tree) (f : Flags) (n : ℕ) (t v : Text) (g : Flags) (x : Tree) (c : ℕ) (u : Text) →
+    t ≡ c ∷ u →
+    is_alt x ≡ false → BranchAt μ (within d f n) (t ++ code ")" ∷ v) g (code ")" ∷ v) x →
+    BodyAt μ d k (within d f n) (t ++ code ")" ∷ v) v x (leaf label.empty)
+one_body μ d k f n t v g x c u e a b = record {
   after = g;
   one = b.tree;
   other = empty;
   derives =
       subst (Body d k (st f (t ++ code ")" ∷ v)))
       (closed_body k b.tree (bytes (t ++ code ")" ∷ v)) g v b.tree empty (some_left t (code ")" ∷ v) c u e)
-      (alone b.tree (same_alt n b.tree x b.becomes ∙ a)))
+      (alone b.tree (same_alt μ _ n b.tree x b.becomes ∙ a)))
       (the_body (alternation (last b.derives refl)));
   one_becomes = b.becomes;
-  other_becomes = record { is = λ n u. refl; count = refl; groups = tt };
+  other_becomes = record { is = λ named k n u e. refl; count = refl; groups = tt };
 }
 
 -- ---- the text of a body
@@ -203,23 +215,25 @@ empty_is : (x : Tree) → is_empty x ≡ true → leaf label.empty ≡ x
 empty_is (leaf label.empty) e = refl
 empty_is _ e = absurd cc
 
-module _ (n : ℕ) (d : ℕ) (k : Tree) (f : Flags) (c : ℕ) (t e : Tree) (v : Text)
-    (solid : (is_empty t && is_empty e) ≡ false) (r : ReadsTree n t (within d f c))
-    (q : ReadsTree n e (behind t BranchAlone (within d f c))) where
+module _ (μ : Marks) (d : ℕ) (k : Tree) (f : Flags) (c : ℕ) (t e : Tree) (v : Text)
+    (solid : (is_empty t && is_empty e) ≡ false) (r : ReadsTree μ t (within d f c))
+    (q : ReadsTree μ e (behind t BranchAlone (within d f c))) where
   abbrev first_text : Text
-  first_text = written (m n) t BranchAlone (within d f c)
+  first_text = written μ t BranchAlone (within d f c)
 
   abbrev second_text : Text
-  second_text = written (m n) e Whole (behind t BranchAlone (within d f c))
+  second_text = written μ e Whole (behind t BranchAlone (within d f c))
 
   abbrev text_if : Bool → Text
   text_if b = first_text ++ (if b then codes "|" ++ second_text else [])
 
-  body_if : (b : Bool) → (not (is_empty e) || is_alt t) ≡ b → BodyAt d k (within d f c) (text_if b ++ code ")" ∷ v) v t e
+  body_if : (b : Bool) → (not (is_empty e) || is_alt t) ≡ b →
+      BodyAt μ d k (within d f c) (text_if b ++ code ")" ∷ v) v t e
   body_if true h =
       let u = second_text ++ code ")" ∷ v in
-      subst (λ s. BodyAt d k (within d f c) s v t e) (sym (append_assoc first_text (codes "|" ++ second_text) (code ")" ∷ v)))
-      (two_body d k f c first_text second_text v _ _ t e
+      subst (λ s. BodyAt μ d k (within d f c) s v t e) (sym (append_assoc first_text (codes "|" ++ second_text)
+      (code ")" ∷ v)))
+      (two_body μ d k f c first_text second_text v _ _ t e
       (r.branch (code "|" ∷ u) (stops_bar f.ignore_space u))
       (q.whole (code ")" ∷ v) (ends_close _ v)))
   body_if false h =
@@ -227,13 +241,13 @@ module _ (n : ℕ) (d : ℕ) (k : Tree) (f : Flags) (c : ℕ) (t e : Tree) (v : 
       let none : is_empty e ≡ true = sym (not-not (is_empty e)) ∙ ap not a in
       let some : is_empty t ≡ false = sym (and-true (is_empty t)) ∙ (ap (λ y. is_empty t && y) (sym none) ∙ solid) in
       let (z, u, is) = begun f.ignore_space first_text (r.branch_begins some []) in
-      subst (λ s. BodyAt d k (within d f c) (s ++ code ")" ∷ v) v t e) (sym (append-nil first_text))
-      (subst (BodyAt d k (within d f c) (first_text ++ code ")" ∷ v) v t) (empty_is e none)
-      (one_body d k f c first_text v _ t z u is b (r.branch (code ")" ∷ v) (ends_close f.ignore_space v).stops)))
+      subst (λ s. BodyAt μ d k (within d f c) (s ++ code ")" ∷ v) v t e) (sym (append-nil first_text))
+      (subst (BodyAt μ d k (within d f c) (first_text ++ code ")" ∷ v) v t) (empty_is e none)
+      (one_body μ d k f c first_text v _ t z u is b (r.branch (code ")" ∷ v) (ends_close f.ignore_space v).stops)))
 
-  body_at : BodyAt d k (within d f c) (branches_text t e first_text second_text ++ code ")" ∷ v) v t e
+  body_at : BodyAt μ d k (within d f c) (branches_text t e first_text second_text ++ code ")" ∷ v) v t e
   body_at =
-      subst (λ s. BodyAt d k (within d f c) (s ++ code ")" ∷ v) v t e) (sym (cond-false _ _ _ solid))
+      subst (λ s. BodyAt μ d k (within d f c) (s ++ code ")" ∷ v) v t e) (sym (cond-false _ _ _ solid))
       (body_if (not (is_empty e) || is_alt t) refl)
 
 -- ---- a condition that begins with a parenthesis
@@ -243,22 +257,32 @@ open_ahead : (d : ℕ) (f : Flags) (u : Text) → d + 1 < max_depth →
 unfolding begins_target
 open_ahead d f u l = question_at d f (codes "((" ++ u) l
 
-conditional_at : (i : Here) (w z v : Text) (g : Flags) (c t e : Tree) → i.depth + 1 < max_depth →
-    (is_empty t && is_empty e) ≡ false → (b : WholeAt (deeper i) (code "(" ∷ w) g (code ")" ∷ z) c) →
-    BodyAt i.depth b.tree (within i.depth g (i.opened + group_count c)) z v t e →
-    AtomAt i (codes "(?((" ++ w) v (row label.conditional (more_trees c (more_trees t (more_trees e no_trees))))
-conditional_at i w z v g c t e l solid b y =
+conditional_at : (μ : Marks) (i : Here) (w z v : Text) (g : Flags) (c t e : Tree) → i.depth + 1 < max_depth →
+    (is_empty t && is_empty e) ≡ false → (b : WholeAt μ (deeper i) (code "(" ∷ w) g (code ")" ∷ z) c) →
+    BodyAt μ i.depth b.tree (within i.depth g (i.opened + group_count c)) z v t e →
+    AtomAt μ i (codes "(?((" ++ w) v (row label.conditional (more_trees c (more_trees t (more_trees e no_trees))))
+conditional_at μ i w z v g c t e l solid b y =
+    let inner_ends : EndsWith (codes "(?((" ++ w) z
+    = ends_twice (codes "(?((" ++ w) (code "(" ∷ w) z (codes "(?(", refl)
+    (ends_twice (code "(" ∷ w) (code ")" ∷ z) z (to_ends (alternation_read b.derives).span.slice) (codes ")", refl)) in
     let neither : (is_empty y.one && is_empty y.other) ≡ false
-    = ap₂ (λ p q. p && q) (same_empty _ y.one t y.one_becomes) (same_empty _ y.other e y.other_becomes) ∙ solid in
+    = ap₂ (λ p q. p && q) (same_empty μ z _ y.one t y.one_becomes) (same_empty μ z _ y.other e y.other_becomes)
+    ∙ solid in
     let is : conditional_of b.tree y.one y.other ≡ conditional b.tree y.one y.other = cond-false _ _ _ neither in
     record {
       tree = conditional_of b.tree y.one y.other;
       derives = atom (open_ahead i.depth i.flags w l) (a_condition (inside b.derives) y.derives);
       becomes =
-          subst (λ r. Becomes i.opened r (row label.conditional (more_trees c (more_trees t (more_trees e no_trees)))))
+          subst (λ r. Becomes μ (codes "(?((" ++ w) i.opened r (row label.conditional
+          (more_trees c (more_trees t (more_trees e no_trees)))))
           (sym is)
-          (row_becomes label.conditional (b.tree ∷ y.one ∷ y.other ∷ []) (c ∷ t ∷ e ∷ []) i.opened
-          (b.becomes, (y.one_becomes, (y.other_becomes, tt))));
+          (row_becomes μ _ label.conditional (b.tree ∷ y.one ∷ y.other ∷ []) (c ∷ t ∷ e ∷ []) i.opened (
+            in_longer μ (code "(" ∷ w) _ (codes "(?(", refl) _ b.tree c b.becomes,
+            (
+              in_longer μ z _ inner_ends _ y.one t y.one_becomes,
+              (in_longer μ z _ inner_ends _ y.other e y.other_becomes, tt),
+            ),
+          ));
     }
 
 -- the setting before a look-around begins so too
@@ -275,7 +299,7 @@ regroup : (c b r : Text) → ((code "(" ∷ (c ++ code ")" ∷ [])) ++ b) ++ r �
 regroup c b r =
     append_assoc (code "(" ∷ (c ++ code ")" ∷ [])) b r ∙ ap (λ z. code "(" ∷ z) (append_assoc c (code ")" ∷ []) (b ++ r))
 
-module _ (n : ℕ) (h : Here) (o : h.flags.oniguruma_mode ≡ false) (d : h.depth + 1 < max_depth) where
+module _ (μ : Marks) (h : Here) (o : h.flags.oniguruma_mode ≡ false) (d : h.depth + 1 < max_depth) where
   abbrev conditional_on : LookAround → Tree → Tree → Tree → Tree
   conditional_on l a t e =
       row label.conditional (more_trees (over (label.look_around l) a) (more_trees t (more_trees e no_trees)))
@@ -287,46 +311,46 @@ module _ (n : ℕ) (h : Here) (o : h.flags.oniguruma_mode ≡ false) (d : h.dept
   pub conditional_reads : (l : LookAround) (a t e : Tree) → (is_empty t && is_empty e) ≡ false →
       let c = over (label.look_around l) a in
       let i = inside_conditional (conditional_on l a t e) in
-      ReadsTree n c i → ReadsTree n t (behind c Whole i) → ReadsTree n e (behind t BranchAlone (behind c Whole i)) →
-      ReadsTree n (conditional_on l a t e) h
+      ReadsTree μ c i → ReadsTree μ t (behind c Whole i) → ReadsTree μ e (behind t BranchAlone (behind c Whole i)) →
+      ReadsTree μ (conditional_on l a t e) h
   conditional_reads l a t e solid r q u =
       let c = over (label.look_around l) a in
       let x = conditional_on l a t e in
       let i = under (settled h.flags x) h in
       let j = behind c Whole (deeper i) in
       let text = λ (k : Here).
-      parenthesized (condition_text (m n) c (written (m n) c Whole k))
-      ++ branches_text t e (written (m n) t BranchAlone (behind c Whole k))
-      (written (m n) e Whole (behind t BranchAlone (behind c Whole k))) in
+      parenthesized (condition_text μ c (written μ c Whole k))
+      ++ branches_text t e (written μ t BranchAlone (behind c Whole k))
+      (written μ e Whole (behind t BranchAlone (behind c Whole k))) in
       let s = in_parens (codes "?") text i in
       let same = parens_text (codes "?") text i in
-      let w = written (m n) c Whole (deeper i) in
-      let b = branches_text t e (written (m n) t BranchAlone j) (written (m n) e Whole (behind t BranchAlone j)) in
+      let w = written μ c Whole (deeper i) in
+      let b = branches_text t e (written μ t BranchAlone j) (written μ e Whole (behind t BranchAlone j)) in
       let (k, is) = opens
       (turns_on i.flags (settled i.flags c) || turns_on (settled i.flags c) i.flags)
       (letters_between i.flags (settled i.flags c) ++ codes ")")
-      (look_head l ++ (written (m n) a Whole (deeper (under (settled i.flags c) (deeper i))) ++ codes ")")) in
-      let bare : condition_text (m n) c w ≡ w
+      (look_head l ++ (written μ a Whole (deeper (under (settled i.flags c) (deeper i))) ++ codes ")")) in
+      let bare : condition_text μ c w ≡ w
       = cond-false _ _ _ (subst (λ z. (begins_target z || bytes_eq z (codes "DEFINE")) ≡ false) (sym is)
       (plain_condition k)) in
       let whole_text = λ (v : Text).
-      same v ∙ ap (λ z. codes "(?" ++ z) (regroup (condition_text (m n) c w) b (code ")" ∷ v)
+      same v ∙ ap (λ z. codes "(?" ++ z) (regroup (condition_text μ c w) b (code ")" ∷ v)
       ∙ ap (λ z. code "(" ∷ (z ++ code ")" ∷ (b ++ code ")" ∷ v))) (bare ∙ is)) in
-      by_atom x h o d refl s _
+      by_atom μ x h o d refl s _
       (λ v. subst (Begins h.flags.ignore_space) (sym (same v))
       (begins_by h.flags.ignore_space (code "(") _ refl refl refl refl))
-      (λ v y. subst (λ z. AtomAt i z v x) (sym (whole_text v))
+      (λ v y _. subst (λ z. AtomAt μ i z v x) (sym (whole_text v))
       (at_condition i k (b ++ code ")" ∷ v) v _ c t e d solid
-      (subst (λ z. WholeAt (deeper i) (z ++ code ")" ∷ (b ++ code ")" ∷ v)) (flags_behind c Whole i.flags)
+      (subst (λ z. WholeAt μ (deeper i) (z ++ code ")" ∷ (b ++ code ")" ∷ v)) (flags_behind c Whole i.flags)
       (code ")" ∷ (b ++ code ")" ∷ v)) c) is (r.whole (code ")" ∷ (b ++ code ")" ∷ v)) (ends_close _ _)))
-      (λ k. body_at n i.depth k j.flags j.opened t e v solid q u)))
+      (λ k. body_at μ i.depth k j.flags j.opened t e v solid q u)))
       refl (λ e. refl)
     where
       at_condition : (i : Here) (w z v : Text) (g : Flags) (c t e : Tree) → i.depth + 1 < max_depth →
           (is_empty t && is_empty e) ≡ false →
-          WholeAt (deeper i) (code "(" ∷ (w ++ code ")" ∷ z)) g (code ")" ∷ z) c →
-          ((k : Tree) → BodyAt i.depth k (within i.depth g (i.opened + group_count c)) z v t e) →
-          AtomAt i (codes "(?((" ++ (w ++ code ")" ∷ z)) v
+          WholeAt μ (deeper i) (code "(" ∷ (w ++ code ")" ∷ z)) g (code ")" ∷ z) c →
+          ((k : Tree) → BodyAt μ i.depth k (within i.depth g (i.opened + group_count c)) z v t e) →
+          AtomAt μ i (codes "(?((" ++ (w ++ code ")" ∷ z)) v
           (row label.conditional (more_trees c (more_trees t (more_trees e no_trees))))
       at_condition i w z v g c t e l solid b y =
-          conditional_at i (w ++ code ")" ∷ z) z v g c t e l solid b (y b.tree)
+          conditional_at μ i (w ++ code ")" ∷ z) z v g c t e l solid b (y b.tree)

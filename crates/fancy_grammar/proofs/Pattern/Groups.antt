@@ -1,31 +1,40 @@
 -- Groups, and flags that are set, outside Oniguruma mode.
 use Rattle.std.proofs.Common.{◌≡◌, ℕ, ◌+◌, ◌<◌, Bool, true, false, not, ◌&&◌, ◌||◌, ◌==◌, nat_le, List, [], ◌∷◌, ◌++◌}
-use Rattle.std.proofs.Common.{codes, None, refl, sym, ap, ◌∙◌, subst, arith, append_assoc, if◌then◌else◌}
-use Rattle.std.proofs.lemmas.Bool.{cond-false, or_parts}
+use Rattle.std.proofs.Common.{codes, None, refl, sym, ap, ◌∙◌, subst, arith, append_assoc, if◌then◌else◌, Some, Option}
+use Rattle.std.proofs.lemmas.Bool.{cond-false, or_parts, cond-true, cond_both}
 use Rattle.std.proofs.lemmas.Bool.Decides.{nat_tests}
 use Prim.Native.Char.{code}
 use Rattle.fancy_lex.specs.LayoutSteps.{layout, rest}
-use Rattle.fancy_lex.specs.Text.{Text, bytes, reach_of}
+use Rattle.fancy_lex.specs.Text.{Text, bytes, reach_of, cut_at, EndsWith}
 use Rattle.fancy_lex.specs.declared.flags.Flags.{Flags}
-use Rattle.fancy_grammar.specs.Ahead.{with_head, ahead, behind_layout, group_ahead, behind_question}
+use Rattle.fancy_grammar.specs.Ahead.{with_head, ahead, behind_layout, group_ahead, behind_question, named_ahead}
 use Rattle.fancy_grammar.specs.Depth.{max_depth}
 use Rattle.fancy_grammar.specs.Grammar.{Alternation, alternation, Branches, last, more, branch_fault, Branch, branch}
 use Rattle.fancy_grammar.specs.Grammar.{Pieces, next, atom, a_read, a_group, inside}
 use Rattle.fancy_grammar.specs.Join.{join}
-use Rattle.fancy_grammar.specs.Head.{capture, scope, look, atomic, define}
+use Rattle.fancy_grammar.specs.Head.{capture, scope, look, atomic, define, Head}
 use Rattle.fancy_grammar.specs.Label as label
 use Rattle.fancy_grammar.specs.Label.{Wrap}
+use Rattle.fancy_grammar.specs.Marks.{Marks}
 use Rattle.fancy_grammar.specs.Pattern.{Here, under, past_groups, deeper, in_parens}
 use Rattle.fancy_grammar.specs.PatternNeeds.{letters_between, setting, turns_on}
+use Rattle.fancy_grammar.specs.PatternReference.{name_head}
 use Rattle.fancy_grammar.specs.State.{State, Outcome, done, fault, seen_through}
 use Rattle.fancy_grammar.specs.Tree.{Tree, over, empty, look_around, atomic_group, define_group, ast_group}
+use Rattle.fancy_grammar.specs.Writable.{IsNameWritable, name_at}
 use Rattle.fancy_grammar.specs.declared.kinds.LookAround.{LookAround}
-use Rattle.fancy_grammar.proofs.Pattern.Becomes.{Becomes}
+use Rattle.fancy_grammar.proofs.Pattern.Becomes.{Becomes, in_longer}
 use Rattle.fancy_grammar.proofs.Pattern.Letters.{changed, setting_ahead, scope_ahead, no_hash}
 use Rattle.fancy_grammar.proofs.Pattern.Rules.{Clear, Begins, begins_by, not_layout, no_question, no_star}
 use Rattle.fancy_grammar.proofs.Pattern.Rules.{AtomAt, WholeAt, Rest, lead_flags, quants_one, quant_none}
 use Rattle.fancy_grammar.proofs.OutcomeLemmas.{piece_as}
 use Rattle.fancy_grammar.proofs.ReadBack.RuleLemmas.{st}
+use Rattle.fancy_grammar.proofs.Slices.{to_ends}
+use Rattle.fancy_lex.specs.Characters.{◌∈◌, is_among}
+use Rattle.fancy_lex.specs.Delimited.{name_before}
+use Rattle.fancy_lex.specs.Reading.{gives}
+use Rattle.fancy_parts.specs.GroupName.{group_name}
+use Rattle.fancy_grammar.proofs.AheadLaws.{AheadReads, ahead_reads}
 
 -- ---- texts in parentheses
 
@@ -59,15 +68,85 @@ pub capture_at : (d : ℕ) (f : Flags) (t : Text) → d + 1 < max_depth → Clea
     ahead d (st f (code "(" ∷ t)) ≡ with_head (capture None) (st f t)
 capture_at d f t l c = paren_at d f t l c.no_layout ∙ head_group f (code "(" ∷ t) t c
 
+-- ---- names
+
+pub cut_before : (mark : ℕ) (w v : Text) → is_among mark w ≡ false → cut_at mark (w ++ mark ∷ v) ≡ Some (w, v)
+cut_before mark [] v h = grind (arith, nat_tests)
+cut_before mark (c ∷ []) v h =
+    let other : (c == mark) ≡ false = grind (arith, nat_tests) in rw (other, cut_before mark [] v refl) refl
+cut_before mark (c ∷ d ∷ w) v h =
+    let (a, b) = or_parts (mark == c) (is_among mark (d ∷ w)) h in
+    let other : (c == mark) ≡ false = grind (arith, nat_tests) in rw (other, cut_before mark (d ∷ w) v b) refl
+
+name_read : (mark c : ℕ) (w t v : Text) → is_among mark (c ∷ w) ≡ false →
+    group_name mark t (c ∷ (w ++ mark ∷ v)) ≡ gives (c ∷ w) v
+unfolding group_name name_before
+name_read mark c w t v h = rw (cut_before mark (c ∷ w) v h) refl
+
+module _ (d : ℕ) (f : Flags) (c : ℕ) (w v : Text) (l : d + 1 < max_depth) where
+  abbrev Reads : Text → Type 0
+  Reads head = ahead d (st f (code "(" ∷ (head ++ v))) ≡ with_head (capture (Some (c ∷ w))) (st f v)
+
+  -- the name in its marks, behind some text
+  marked_text : (mark : ℕ) → ((c ∷ w) ++ mark ∷ []) ++ v ≡ (c ∷ w) ++ mark ∷ v
+  marked_text mark = append_assoc (c ∷ w) (mark ∷ []) v
+
+  in_quotes : is_among (code "'") (c ∷ w) ≡ false → Reads (codes "?'" ++ ((c ∷ w) ++ codes "'"))
+  in_quotes h =
+      let t = (c ∷ w) ++ code "'" ∷ v in
+      subst (λ z. ahead d (st f (codes "(?'" ++ z)) ≡ with_head (capture (Some (c ∷ w))) (st f v))
+      (sym (marked_text (code "'")))
+      (question_at d f (code "'" ∷ t) l
+      ∙ ap (named_ahead (st f (codes "(?'" ++ t))) (name_read (code "'") c w (code "'" ∷ t) v h))
+
+  with_letter : is_among (code ">") (c ∷ w) ≡ false → Reads (codes "?P<" ++ ((c ∷ w) ++ codes ">"))
+  with_letter h =
+      let t = (c ∷ w) ++ code ">" ∷ v in
+      subst (λ z. ahead d (st f (codes "(?P<" ++ z)) ≡ with_head (capture (Some (c ∷ w))) (st f v))
+      (sym (marked_text (code ">")))
+      (question_at d f (codes "P<" ++ t) l
+      ∙ ap (named_ahead (st f (codes "(?P<" ++ t))) (name_read (code ">") c w (codes "P<" ++ t) v h))
+
+  without_letter : is_among (code ">") (c ∷ w) ≡ false → c ∈ "=!" ≡ false → Reads (codes "?<" ++ ((c ∷ w) ++ codes ">"))
+  without_letter h k =
+      let t = (c ∷ w) ++ code ">" ∷ v in
+      subst (λ z. ahead d (st f (codes "(?<" ++ z)) ≡ with_head (capture (Some (c ∷ w))) (st f v))
+      (sym (marked_text (code ">")))
+      (question_at d f (code "<" ∷ t) l
+      ∙ no_look
+      ∙ ap (named_ahead (st f (codes "(?<" ++ t))) (name_read (code ">") c w (code "<" ∷ t) v h))
+    where
+      no_look : behind_question (st f (codes "(?<" ++ ((c ∷ w) ++ code ">" ∷ v))) (code "<" ∷ ((c ∷ w) ++ code ">" ∷ v))
+          ≡ named_ahead (st f (codes "(?<" ++ ((c ∷ w) ++ code ">" ∷ v)))
+          (group_name (code ">") (code "<" ∷ ((c ∷ w) ++ code ">" ∷ v)) ((c ∷ w) ++ code ">" ∷ v))
+      no_look =
+          let (a, b) = or_parts (c == code "=") (c == code "!") k in rw (a, b) refl
+
+  pub head_read : IsNameWritable (c ∷ w) → Reads (name_head (c ∷ w))
+  head_read h =
+      cond_both (is_among (code ">") (c ∷ w)) _ _ Reads
+      (λ e. in_quotes (sym (ap (λ b. b && is_among (code "'") (c ∷ w)) e) ∙ h))
+      (λ e. cond_both (c ∈ "=!") _ _ (λ z. Reads (z ++ (codes "<" ++ ((c ∷ w) ++ codes ">"))))
+      (λ _. with_letter e) (λ k. without_letter e k))
+
 -- ---- what a group reads as
 
 abbrev pub inner : Flags → Here → Here
 inner g h = deeper (under g h)
 
-pub reads_scope : (h : Here) (f g : Flags) (s t v : Text) (x : Tree) →
-    ahead h.depth (st h.flags s) ≡ with_head scope (st f t) → WholeAt (inner f h) t g (code ")" ∷ v) x → AtomAt h s v x
-reads_scope h f g s t v x e w =
-    record { tree = w.tree; derives = atom e (a_group (inside w.derives)); becomes = w.becomes }
+-- the text goes on behind a head
+head_ends : (d : ℕ) (f g : Flags) (s t : Text) (k : Head) → ahead d (st f s) ≡ with_head k (st g t) → EndsWith s t
+head_ends d f g s t k e = to_ends (subst (AheadReads (st f s)) e (ahead_reads d (st f s))).0
+
+pub reads_scope : (μ : Marks) (h : Here) (f g : Flags) (s t v : Text) (x : Tree) →
+    ahead h.depth (st h.flags s) ≡ with_head scope (st f t) → WholeAt μ (inner f h) t g (code ")" ∷ v) x →
+    AtomAt μ h s v x
+reads_scope μ h f g s t v x e w =
+    record {
+      tree = w.tree;
+      derives = atom e (a_group (inside w.derives));
+      becomes = in_longer μ t s (head_ends _ _ _ s t _ e) h.opened w.tree x w.becomes;
+    }
 
 -- nodes that hold a tree as they do when they are read
 abbrev pub IsKept : Wrap → Type 0
@@ -75,60 +154,76 @@ IsKept label.group = ⊥
 IsKept (label.ast_group name place) = ⊥
 IsKept _ = Unit {0}
 
-pub over_becomes : (w : Wrap) (c : ℕ) (r x : Tree) → IsKept w → Becomes c r x → Becomes c (over w r) (over w x)
-over_becomes label.group c r x k b = absurd k
-over_becomes (label.ast_group name place) c r x k b = absurd k
-over_becomes (label.look_around l) c r x k b =
-    record { is = λ n u. ap (over (label.look_around l)) (b.is n u); count = b.count; groups = b.groups }
-over_becomes (label.repeat lo hi greedy) c r x k b =
-    record { is = λ n u. ap (over (label.repeat lo hi greedy)) (b.is n u); count = b.count; groups = b.groups }
-over_becomes label.atomic_group c r x k b =
-    record { is = λ n u. ap (over label.atomic_group) (b.is n u); count = b.count; groups = b.groups }
-over_becomes label.define_group c r x k b =
-    record { is = λ n u. ap (over label.define_group) (b.is n u); count = b.count; groups = b.groups }
-over_becomes label.repeater c r x k b =
-    record { is = λ n u. ap (over label.repeater) (b.is n u); count = b.count; groups = b.groups }
-over_becomes label.stopper c r x k b =
-    record { is = λ n u. ap (over label.stopper) (b.is n u); count = b.count; groups = b.groups }
+pub over_becomes : (μ : Marks) (s : Text) (w : Wrap) (c : ℕ) (r x : Tree) → IsKept w → Becomes μ s c r x →
+    Becomes μ s c (over w r) (over w x)
+over_becomes μ s label.group c r x k b = absurd k
+over_becomes μ s (label.ast_group name place) c r x k b = absurd k
+over_becomes μ s (label.look_around l) c r x k b =
+    record {
+      is = λ named k n u e. ap (over (label.look_around l)) (b.is named k n u e);
+      count = b.count;
+      groups = b.groups;
+    }
+over_becomes μ s (label.repeat lo hi greedy) c r x k b =
+    record {
+      is = λ named k n u e. ap (over (label.repeat lo hi greedy)) (b.is named k n u e);
+      count = b.count;
+      groups = b.groups;
+    }
+over_becomes μ s label.atomic_group c r x k b =
+    record { is = λ named k n u e. ap (over label.atomic_group) (b.is named k n u e); count = b.count; groups = b.groups }
+over_becomes μ s label.define_group c r x k b =
+    record { is = λ named k n u e. ap (over label.define_group) (b.is named k n u e); count = b.count; groups = b.groups }
+over_becomes μ s label.repeater c r x k b =
+    record { is = λ named k n u e. ap (over label.repeater) (b.is named k n u e); count = b.count; groups = b.groups }
+over_becomes μ s label.stopper c r x k b =
+    record { is = λ named k n u e. ap (over label.stopper) (b.is named k n u e); count = b.count; groups = b.groups }
 
-pub reads_look : (h : Here) (l : LookAround) (g : Flags) (s t v : Text) (x : Tree) →
-    ahead h.depth (st h.flags s) ≡ with_head (look l) (st h.flags t) → WholeAt (deeper h) t g (code ")" ∷ v) x →
-    AtomAt h s v (over (label.look_around l) x)
-reads_look h l g s t v x e w = record {
+pub reads_look : (μ : Marks) (h : Here) (l : LookAround) (g : Flags) (s t v : Text) (x : Tree) →
+    ahead h.depth (st h.flags s) ≡ with_head (look l) (st h.flags t) → WholeAt μ (deeper h) t g (code ")" ∷ v) x →
+    AtomAt μ h s v (over (label.look_around l) x)
+reads_look μ h l g s t v x e w = record {
   tree = look_around w.tree l;
   derives = atom e (a_group (inside w.derives));
-  becomes = over_becomes (label.look_around l) h.opened w.tree x tt w.becomes;
+  becomes =
+      over_becomes μ s (label.look_around l) h.opened w.tree x tt
+      (in_longer μ t s (head_ends _ _ _ s t _ e) h.opened w.tree x w.becomes);
 }
 
-pub reads_atomic : (h : Here) (g : Flags) (s t v : Text) (x : Tree) →
-    ahead h.depth (st h.flags s) ≡ with_head atomic (st h.flags t) → WholeAt (deeper h) t g (code ")" ∷ v) x →
-    AtomAt h s v (over label.atomic_group x)
-reads_atomic h g s t v x e w = record {
+pub reads_atomic : (μ : Marks) (h : Here) (g : Flags) (s t v : Text) (x : Tree) →
+    ahead h.depth (st h.flags s) ≡ with_head atomic (st h.flags t) → WholeAt μ (deeper h) t g (code ")" ∷ v) x →
+    AtomAt μ h s v (over label.atomic_group x)
+reads_atomic μ h g s t v x e w = record {
   tree = atomic_group w.tree;
   derives = atom e (a_group (inside w.derives));
-  becomes = over_becomes label.atomic_group h.opened w.tree x tt w.becomes;
+  becomes =
+      over_becomes μ s label.atomic_group h.opened w.tree x tt
+      (in_longer μ t s (head_ends _ _ _ s t _ e) h.opened w.tree x w.becomes);
 }
 
-pub reads_define : (h : Here) (g : Flags) (s t v : Text) (x : Tree) →
-    ahead h.depth (st h.flags s) ≡ with_head define (st h.flags t) → WholeAt (deeper h) t g (code ")" ∷ v) x →
-    AtomAt h s v (over label.define_group x)
-reads_define h g s t v x e w = record {
+pub reads_define : (μ : Marks) (h : Here) (g : Flags) (s t v : Text) (x : Tree) →
+    ahead h.depth (st h.flags s) ≡ with_head define (st h.flags t) → WholeAt μ (deeper h) t g (code ")" ∷ v) x →
+    AtomAt μ h s v (over label.define_group x)
+reads_define μ h g s t v x e w = record {
   tree = define_group w.tree;
   derives = atom e (a_group (inside w.derives));
-  becomes = over_becomes label.define_group h.opened w.tree x tt w.becomes;
+  becomes =
+      over_becomes μ s label.define_group h.opened w.tree x tt
+      (in_longer μ t s (head_ends _ _ _ s t _ e) h.opened w.tree x w.becomes);
 }
 
--- a capturing group
-pub reads_group : (h : Here) (g : Flags) (s v : Text) (x : Tree) → h.depth + 1 < max_depth →
-    Clear h.flags.ignore_space s → WholeAt (deeper (past_groups 1 h)) s g (code ")" ∷ v) x →
-    AtomAt h (code "(" ∷ s) v (over label.group x)
-reads_group h g s v x l c w = record {
-  tree = ast_group None (reach_of (code "(" ∷ s)) w.tree;
-  derives = atom (capture_at h.depth h.flags s l c) (a_group (inside w.derives));
+-- a capturing group, whose name is that which the marks give it
+pub reads_group : (μ : Marks) (h : Here) (name : Option Text) (g : Flags) (s t v : Text) (x : Tree) →
+    ahead h.depth (st h.flags s) ≡ with_head (capture name) (st h.flags t) → name ≡ name_at μ (h.opened + 1) →
+    WholeAt μ (deeper (past_groups 1 h)) t g (code ")" ∷ v) x → AtomAt μ h s v (over label.group x)
+reads_group μ h name g s t v x e is w = record {
+  tree = ast_group name (reach_of s) w.tree;
+  derives = atom e (a_group (inside w.derives));
   becomes = record {
-    is = λ n u. ap (over label.group) (w.becomes.is n u);
+    is =
+        λ named k n u q. cond-true _ _ _ k.0 ∙ ap (over label.group) (w.becomes.is named k.1 n u q);
     count = omega (arith, w.becomes.count);
-    groups = (refl, w.becomes.groups);
+    groups = (is, (in_longer μ t s (head_ends _ _ _ s t _ e) (h.opened + 1) w.tree x w.becomes).groups);
   };
 }
 
@@ -181,7 +276,7 @@ same_flags f i m s r e =
     let e4 = same_flag f.crlf r x4 y4 in
     λ k. changed f (e1 k) (e2 k) (e3 k) (e4 k)
 
-module _ (h : Here) (i m s r : Bool) where
+module _ (μ : Marks) (h : Here) (i m s r : Bool) where
   abbrev g : Flags
   g = changed h.flags i m s r
 
@@ -200,21 +295,23 @@ module _ (h : Here) (i m s r : Bool) where
   begins_setting x t b = begins_set x (turns_on h.flags g || turns_on g h.flags) t b
 
   set_rest : (b : Bool) → turns_on h.flags g || turns_on g h.flags ≡ b → (t w : Text) (k : Flags) (ys : List Tree) →
-      h.flags.oniguruma_mode ≡ false → h.depth + 1 < max_depth → Begins h.flags.ignore_space t → Rest (under g h) t k w ys →
-      Rest h (set_if b ++ t) k w ys
+      h.flags.oniguruma_mode ≡ false → h.depth + 1 < max_depth → Begins h.flags.ignore_space t →
+      Rest μ (under g h) t k w ys →
+      Rest μ h (set_if b ++ t) k w ys
   set_rest true e t w k ys o l n q =
       let u = letters_between h.flags g ++ code ")" ∷ t in
-      subst (λ z. Rest h z k w ys) (sym (set_text t))
-      (lead_flags h g k (codes "(?" ++ u) t w ys o (begins_letters h.flags.ignore_space h.flags i m s r (code ")") t refl)
+      subst (λ z. Rest μ h z k w ys) (sym (set_text t))
+      (lead_flags μ h g k (codes "(?" ++ u) t w ys o (begins_letters h.flags.ignore_space h.flags i m s r
+      (code ")") t refl)
       n.clear
       (atom
       (question_at h.depth h.flags u l
       ∙ setting_ahead (st h.flags (code "(" ∷ code "?" ∷ u)) i m s r t e)
       a_read) q)
-  set_rest false e t w k ys o l n q = subst (λ f. Rest (under f h) t k w ys) (same_flags h.flags i m s r e) q
+  set_rest false e t w k ys o l n q = subst (λ f. Rest μ (under f h) t k w ys) (same_flags h.flags i m s r e) q
 
   pub setting_rest : (t w : Text) (k : Flags) (ys : List Tree) → h.flags.oniguruma_mode ≡ false → h.depth + 1 < max_depth →
-      Begins h.flags.ignore_space t → Rest (under g h) t k w ys → Rest h (setting h.flags g ++ t) k w ys
+      Begins h.flags.ignore_space t → Rest μ (under g h) t k w ys → Rest μ h (setting h.flags g ++ t) k w ys
   setting_rest t w k ys o l n q = set_rest (turns_on h.flags g || turns_on g h.flags) refl t w k ys o l n q
 
 -- ---- flags that are set before a whole text
@@ -236,14 +333,15 @@ module _ (d : ℕ) (s u : State) (first : (q : Outcome (List Tree)) → Pieces d
     pub whole_behind : {q : Outcome Tree} → Alternation d s q → Alternation d u q
     whole_behind (alternation b) = alternation (branches_behind b)
 
-module _ (h : Here) (i m s r : Bool) (t v : Text) (k : Flags) (x : Tree) (o : h.flags.oniguruma_mode ≡ false)
+module _ (μ : Marks) (h : Here) (i m s r : Bool) (t v : Text) (k : Flags) (x : Tree)
+    (o : h.flags.oniguruma_mode ≡ false)
     (l : h.depth + 1 < max_depth) (c : Clear h.flags.ignore_space t) where
   abbrev then_flags : Flags
   then_flags = changed h.flags i m s r
 
   set_whole : (b : Bool) → turns_on h.flags then_flags || turns_on then_flags h.flags ≡ b →
-      WholeAt (under then_flags h) t k v x →
-      WholeAt h ((if b then codes "(?" ++ (letters_between h.flags then_flags ++ codes ")") else []) ++ t) k v x
+      WholeAt μ (under then_flags h) t k v x →
+      WholeAt μ h ((if b then codes "(?" ++ (letters_between h.flags then_flags ++ codes ")") else []) ++ t) k v x
   set_whole true e w =
       let u = letters_between h.flags then_flags ++ code ")" ∷ t in
       let b = begins_letters h.flags.ignore_space h.flags i m s r (code ")") t refl in
@@ -251,7 +349,7 @@ module _ (h : Here) (i m s r : Bool) (t v : Text) (k : Flags) (x : Tree) (o : h.
       (question_at h.depth h.flags u l
       ∙ setting_ahead (st h.flags (code "(" ∷ code "?" ∷ u)) i m s r t e)
       a_read in
-      subst (λ z. WholeAt h z k v x) (sym (set_text h i m s r t)) (record {
+      subst (λ z. WholeAt μ h z k v x) (sym (set_text μ h i m s r t)) (record {
         tree = w.tree;
         derives =
             whole_behind h.depth (st then_flags t) (st h.flags (codes "(?" ++ u))
@@ -260,9 +358,14 @@ module _ (h : Here) (i m s r : Bool) (t v : Text) (k : Flags) (x : Tree) (o : h.
             (quants_one h.depth (bytes (codes "(?" ++ u)) then_flags empty empty t t o
             (quant_none (bytes (codes "(?" ++ u)) then_flags empty t c))) p)
             w.derives;
-        becomes = w.becomes;
+        becomes =
+            in_longer μ t (codes "(?" ++ u) (
+              codes "(?" ++ (letters_between h.flags then_flags ++ codes ")"),
+              sym (set_text μ h i m s r t),
+            ) h.opened w.tree x w.becomes;
       })
-  set_whole false e w = subst (λ f. WholeAt (under f h) t k v x) (same_flags h.flags i m s r e) w
+  set_whole false e w = subst (λ f. WholeAt μ (under f h) t k v x) (same_flags h.flags i m s r e) w
 
-  pub whole_behind_setting : WholeAt (under then_flags h) t k v x → WholeAt h (setting h.flags then_flags ++ t) k v x
+  pub whole_behind_setting : WholeAt μ (under then_flags h) t k v x →
+      WholeAt μ h (setting h.flags then_flags ++ t) k v x
   whole_behind_setting w = set_whole (turns_on h.flags then_flags || turns_on then_flags h.flags) refl w

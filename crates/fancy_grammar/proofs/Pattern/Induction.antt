@@ -8,6 +8,7 @@ use Rattle.fancy_lex.specs.declared.flags.Flags.{Flags}
 use Rattle.fancy_grammar.specs.Depth.{max_depth}
 use Rattle.fancy_grammar.specs.Join.{is_empty, one_or}
 use Rattle.fancy_grammar.specs.Label as label
+use Rattle.fancy_grammar.specs.Marks.{Marks}
 use Rattle.fancy_grammar.specs.Pattern.{Here, under, past_groups, behind, flags_behind}
 use Rattle.fancy_grammar.specs.Pattern.{group_count}
 use Rattle.fancy_grammar.specs.PatternNeeds.{setting, settled, letters_between}
@@ -20,54 +21,56 @@ use Rattle.fancy_grammar.proofs.Pattern.Needed.{no_setting}
 use Rattle.fancy_grammar.proofs.Pattern.Quantifiers.{NoName, no_name}
 use Rattle.fancy_grammar.proofs.Pattern.Rules.{Clear, Begins, Stops, Ends, no_brace, ends_close, AtomAt, BranchAt}
 use Rattle.fancy_grammar.proofs.Pattern.Rules.{WholeAt}
-use Rattle.fancy_grammar.proofs.Pattern.Rules.{Rest, no_more, lead, reads_branch, reads_only}
+use Rattle.fancy_grammar.proofs.Pattern.Rules.{Rest, no_more, lead, reads_branch, reads_only, Follows, ends_no_digit}
 
 -- What the texts of a tree read as here, whatever follows: the whole of a group, a branch, a piece, and what a quantifier
 -- follows; with the flags that hold behind the first two.
-pub record ReadsBy (t : Tree) (h : Here) (k0 k1 k2 k3 : Text) (g0 g1 : Flags) : Type 0 where
+pub record ReadsBy (μ : Marks) (t : Tree) (h : Here) (k0 k1 k2 k3 : Text) (g0 g1 : Flags) : Type 0 where
   pub whole_clear : (v : Text) → Clear h.flags.ignore_space v → Clear h.flags.ignore_space (k0 ++ v)
   pub branch_clear : (v : Text) → Clear h.flags.ignore_space v → Clear h.flags.ignore_space (k1 ++ v)
   pub branch_begins : is_empty t ≡ false → (v : Text) → Begins h.flags.ignore_space (k1 ++ v)
   pub begins : is_empty t ≡ false → (v : Text) → Begins h.flags.ignore_space (k2 ++ v)
   pub atom_begins : is_repeatable h.flags t ≡ true → (v : Text) → Begins h.flags.ignore_space (k3 ++ v)
-  pub whole : (v : Text) → Ends h.flags.ignore_space v → WholeAt h (k0 ++ v) g0 v t
-  pub branch : (v : Text) → Stops h.flags.ignore_space v → BranchAt h (k1 ++ v) g1 v t
+  pub whole : (v : Text) → Ends h.flags.ignore_space v → WholeAt μ h (k0 ++ v) g0 v t
+  pub branch : (v : Text) → Stops h.flags.ignore_space v → BranchAt μ h (k1 ++ v) g1 v t
   pub piece : is_empty t ≡ false → (v w : Text) (g : Flags) (ys : List Tree) → Clear h.flags.ignore_space v →
-      Rest (behind t Piece h) v g w ys → Rest h (k2 ++ v) g w (t ∷ ys)
+      Follows μ t v →
+      Rest μ (behind t Piece h) v g w ys → Rest μ h (k2 ++ v) g w (t ∷ ys)
   pub atom : is_repeatable h.flags t ≡ true → settled h.flags t ≡ h.flags → (v : Text) →
-      NoName h.flags.ignore_space v → AtomAt h (k3 ++ v) v t
+      NoName h.flags.ignore_space v → Follows μ t v → AtomAt μ h (k3 ++ v) v t
 
 pub clear_name : (x : Bool) (v : Text) → Clear x v → NoName x v
 clear_name x v c = no_name x v c.no_layout (no_brace v c.no_mark)
 
 -- from here on the pieces of a text are the tree, and those that follow
-abbrev pub LeadsTo : Tree → Here → Text → Type 0
-LeadsTo t h s =
-    (v w : Text) (k : Flags) (ys : List Tree) → Clear h.flags.ignore_space v →
-    Rest (past_groups (group_count t) h) v k w ys → Rest h (s ++ v) k w (t ∷ ys)
+abbrev pub LeadsTo : (μ : Marks) → Tree → Here → Text → Type 0
+LeadsTo μ t h s =
+    (v w : Text) (k : Flags) (ys : List Tree) → Clear h.flags.ignore_space v → Follows μ t v →
+    Rest μ (past_groups (group_count t) h) v k w ys → Rest μ h (s ++ v) k w (t ∷ ys)
 
 abbrev pub BeginsHere : Here → Text → Type 0
 BeginsHere h s = (v : Text) → Begins h.flags.ignore_space (s ++ v)
 
-abbrev pub AtomHere : Tree → Here → Text → Type 0
-AtomHere t h s = (v : Text) → NoName h.flags.ignore_space v → AtomAt h (s ++ v) v t
+abbrev pub AtomHere : (μ : Marks) → Tree → Here → Text → Type 0
+AtomHere μ t h s = (v : Text) → NoName h.flags.ignore_space v → Follows μ t v → AtomAt μ h (s ++ v) v t
 
-module _ (t : Tree) (h : Here) (solid : is_empty t ≡ false) where
+module _ (μ : Marks) (t : Tree) (h : Here) (solid : is_empty t ≡ false) where
   pub one_branch : (s : Text) (g : Flags) → ((v w : Text) (k : Flags) (ys : List Tree) → Clear h.flags.ignore_space v →
-      Rest (past_groups (group_count t) (under g h)) v k w ys → Rest h (s ++ v) k w (t ∷ ys)) → (v : Text) →
-      Stops h.flags.ignore_space v → g.ignore_space ≡ h.flags.ignore_space → BranchAt h (s ++ v) g v t
+      Follows μ t v → Rest μ (past_groups (group_count t) (under g h)) v k w ys → Rest μ h (s ++ v) k w (t ∷ ys)) →
+      (v : Text) →
+      Stops h.flags.ignore_space v → g.ignore_space ≡ h.flags.ignore_space → BranchAt μ h (s ++ v) g v t
   one_branch s g p v e same =
-      reads_branch h (s ++ v) v g (t ∷ [])
-      (p v v g [] e.clear
-      (no_more (past_groups (group_count t) (under g h)) v (subst (λ x. Stops x v) (sym same) e)))
+      reads_branch μ h (s ++ v) v g (t ∷ [])
+      (p v v g [] e.clear (λ _. ends_no_digit v e.ends)
+      (no_more μ (past_groups (group_count t) (under g h)) v (subst (λ x. Stops x v) (sym same) e)))
 
-  pub atom_leads : (s : Text) → h.flags.oniguruma_mode ≡ false → BeginsHere h s → AtomHere t h s → LeadsTo t h s
-  atom_leads s o b a v w k ys c q =
-      lead h (s ++ v) v w k t ys o (b v) c solid (a v (clear_name h.flags.ignore_space v c)) q
+  pub atom_leads : (s : Text) → h.flags.oniguruma_mode ≡ false → BeginsHere h s → AtomHere μ t h s → LeadsTo μ t h s
+  atom_leads s o b a v w k ys c y q =
+      lead μ h (s ++ v) v w k t ys o (b v) c solid (a v (clear_name h.flags.ignore_space v c) y) q
 
 -- ---- what stands behind flags that are set for it
 
-module _ (t : Tree) (h : Here) (o : h.flags.oniguruma_mode ≡ false) (d : h.depth + 1 < max_depth)
+module _ (μ : Marks) (t : Tree) (h : Here) (o : h.flags.oniguruma_mode ≡ false) (d : h.depth + 1 < max_depth)
     (solid : is_empty t ≡ false) where
   abbrev pub set_here : Flags
   set_here = settled h.flags t
@@ -78,35 +81,37 @@ module _ (t : Tree) (h : Here) (o : h.flags.oniguruma_mode ≡ false) (d : h.dep
   pub set_begins : (s : Text) → BeginsHere (under set_here h) s → BeginsHere h (behind_set s)
   set_begins s b v =
       subst (Begins h.flags.ignore_space) (sym (append_assoc (setting h.flags set_here) s v))
-      (begins_setting h set_here.casei set_here.multi set_here.dotnl set_here.crlf h.flags.ignore_space (s ++ v) (b v))
+      (begins_setting μ h set_here.casei set_here.multi set_here.dotnl set_here.crlf h.flags.ignore_space (s ++ v)
+      (b v))
 
-  set_leads : (s : Text) → BeginsHere (under set_here h) s → LeadsTo t (under set_here h) s →
-      (v w : Text) (k : Flags) (ys : List Tree) → Clear h.flags.ignore_space v →
-      Rest (past_groups (group_count t) (under set_here h)) v k w ys → Rest h (behind_set s ++ v) k w (t ∷ ys)
-  set_leads s b l v w k ys c q =
-      subst (λ z. Rest h z k w (t ∷ ys)) (sym (append_assoc (setting h.flags set_here) s v))
-      (setting_rest h set_here.casei set_here.multi set_here.dotnl set_here.crlf (s ++ v) w k (t ∷ ys) o d (b v)
-      (l v w k ys c q))
+  set_leads : (s : Text) → BeginsHere (under set_here h) s → LeadsTo μ t (under set_here h) s →
+      (v w : Text) (k : Flags) (ys : List Tree) → Clear h.flags.ignore_space v → Follows μ t v →
+      Rest μ (past_groups (group_count t) (under set_here h)) v k w ys → Rest μ h (behind_set s ++ v) k w (t ∷ ys)
+  set_leads s b l v w k ys c y q =
+      subst (λ z. Rest μ h z k w (t ∷ ys)) (sym (append_assoc (setting h.flags set_here) s v))
+      (setting_rest μ h set_here.casei set_here.multi set_here.dotnl set_here.crlf (s ++ v) w k (t ∷ ys) o d (b v)
+      (l v w k ys c y q))
 
   -- a tree that is a piece wherever it stands
-  pub by_piece : (s k3 : Text) → BeginsHere (under set_here h) s → LeadsTo t (under set_here h) s →
+  pub by_piece : (s k3 : Text) → BeginsHere (under set_here h) s → LeadsTo μ t (under set_here h) s →
       flags_behind t Piece h.flags ≡ set_here → (is_repeatable h.flags t ≡ true → BeginsHere h k3) →
-      (is_repeatable h.flags t ≡ true → settled h.flags t ≡ h.flags → AtomHere t h k3) →
-      ReadsBy t h (behind_set s) (behind_set s) (behind_set s) k3 set_here set_here
+      (is_repeatable h.flags t ≡ true → settled h.flags t ≡ h.flags → AtomHere μ t h k3) →
+      ReadsBy μ t h (behind_set s) (behind_set s) (behind_set s) k3 set_here set_here
   by_piece s k3 b l e n a =
       let p = set_leads s b l in
-      let q = λ (v : Text) (i : Stops h.flags.ignore_space v). one_branch t h solid (behind_set s) set_here p v i refl in
+      let q = λ (v : Text) (i : Stops h.flags.ignore_space v). one_branch μ t h solid
+      (behind_set s) set_here p v i refl in
       record {
         whole_clear = λ v c. (set_begins s b v).clear;
         branch_clear = λ v c. (set_begins s b v).clear;
         branch_begins = λ _. set_begins s b;
         begins = λ _. set_begins s b;
         atom_begins = n;
-        whole = λ v i. reads_only h _ v set_here t (q v i.stops) i.no_bar;
+        whole = λ v i. reads_only μ h _ v set_here t (q v i.stops) i.no_bar;
         branch = q;
         piece =
-            λ _ v w k ys c r. p v w k ys c
-            (subst (λ f. Rest (past_groups (group_count t) (under f h)) v k w ys) e r);
+            λ _ v w k ys c y r. p v w k ys c y
+            (subst (λ f. Rest μ (past_groups (group_count t) (under f h)) v k w ys) e r);
         atom = a;
       }
 
@@ -115,19 +120,19 @@ module _ (t : Tree) (h : Here) (o : h.flags.oniguruma_mode ≡ false) (d : h.dep
       ap (λ f. (setting h.flags f ++ s) ++ v) e ∙ ap (λ w. (w ++ s) ++ v) (no_setting h.flags)
 
   -- a tree that is an atom wherever it stands
-  pub by_atom : (s k3 : Text) → BeginsHere (under set_here h) s → AtomHere t (under set_here h) s →
+  pub by_atom : (s k3 : Text) → BeginsHere (under set_here h) s → AtomHere μ t (under set_here h) s →
       flags_behind t Piece h.flags ≡ set_here → (is_repeatable h.flags t ≡ true → k3 ≡ behind_set s) →
-      ReadsBy t h (behind_set s) (behind_set s) (behind_set s) k3 set_here set_here
+      ReadsBy μ t h (behind_set s) (behind_set s) (behind_set s) k3 set_here set_here
   by_atom s k3 b a e same =
-      by_piece s k3 b (atom_leads t (under set_here h) solid s o b a) e
+      by_piece s k3 b (atom_leads μ t (under set_here h) solid s o b a) e
       (λ r. subst (BeginsHere h) (sym (same r)) (set_begins s b))
-      (λ r u. subst (AtomHere t h) (sym (same r))
-      (λ v m. subst (λ w. AtomAt h w v t) (sym (set_none s v u))
-      (subst (λ f. AtomAt (under f h) (s ++ v) v t) u (a v m))))
+      (λ r u. subst (AtomHere μ t h) (sym (same r))
+      (λ v m y. subst (λ w. AtomAt μ h w v t) (sym (set_none s v u))
+      (subst (λ f. AtomAt μ (under f h) (s ++ v) v t) u (a v m y))))
 
 -- ---- what stands in a group of flags where it is a piece
 
-module _ (t : Tree) (h : Here) (o : h.flags.oniguruma_mode ≡ false) (d : h.depth + 1 < max_depth)
+module _ (μ : Marks) (t : Tree) (h : Here) (o : h.flags.oniguruma_mode ≡ false) (d : h.depth + 1 < max_depth)
     (solid : is_empty t ≡ false) where
   abbrev pub set_in : Flags
   set_in = settled h.flags t
@@ -143,46 +148,46 @@ module _ (t : Tree) (h : Here) (o : h.flags.oniguruma_mode ≡ false) (d : h.dep
       (s ++ code ")" ∷ v) refl)
 
   scope_atom : (s : Text) (g : Flags) →
-      ((v : Text) → Ends h.flags.ignore_space v → WholeAt (inner set_in h) (s ++ v) g v t) → AtomHere t h (scoped s)
-  scope_atom s g w v m =
+      ((v : Text) → Ends h.flags.ignore_space v → WholeAt μ (inner set_in h) (s ++ v) g v t) → AtomHere μ t h (scoped s)
+  scope_atom s g w v m y =
       let u = s ++ code ")" ∷ v in
-      subst (λ z. AtomAt h z v t) (sym (scope_text h.flags set_in s v))
-      (reads_scope h set_in g (codes "(?" ++ (letters_between h.flags set_in ++ code ":" ∷ u)) u v t
+      subst (λ z. AtomAt μ h z v t) (sym (scope_text h.flags set_in s v))
+      (reads_scope μ h set_in g (codes "(?" ++ (letters_between h.flags set_in ++ code ":" ∷ u)) u v t
       (scope_at h.depth h.flags set_in.casei set_in.multi set_in.dotnl set_in.crlf u d)
       (w (code ")" ∷ v) (ends_close h.flags.ignore_space v)))
 
   -- a Concat: pieces as they are in a branch
   pub by_branch : (k s : Text) (g f : Flags) (ys : List Tree) → one_or concat ys ≡ t →
-      BeginsHere h k → ((v : Text) → Stops h.flags.ignore_space v → Rest h (k ++ v) g v ys) →
-      ((v : Text) → Ends h.flags.ignore_space v → WholeAt (inner set_in h) (s ++ v) f v t) →
-      flags_behind t Piece h.flags ≡ h.flags → ReadsBy t h k k (scoped s) (scoped s) g g
+      BeginsHere h k → ((v : Text) → Stops h.flags.ignore_space v → Rest μ h (k ++ v) g v ys) →
+      ((v : Text) → Ends h.flags.ignore_space v → WholeAt μ (inner set_in h) (s ++ v) f v t) →
+      flags_behind t Piece h.flags ≡ h.flags → ReadsBy μ t h k k (scoped s) (scoped s) g g
   by_branch k s g f ys is c q w e =
       let a = scope_atom s f w in
       let b = λ (v : Text) (i : Stops h.flags.ignore_space v).
-      subst (BranchAt h (k ++ v) g v) is (reads_branch h (k ++ v) v g ys (q v i)) in
+      subst (BranchAt μ h (k ++ v) g v) is (reads_branch μ h (k ++ v) v g ys (q v i)) in
       record {
         whole_clear = λ v _. (c v).clear;
         branch_clear = λ v _. (c v).clear;
         branch_begins = λ _. c;
         begins = λ _. scope_begins s;
         atom_begins = λ _. scope_begins s;
-        whole = λ v i. reads_only h _ v g t (b v i.stops) i.no_bar;
+        whole = λ v i. reads_only μ h _ v g t (b v i.stops) i.no_bar;
         branch = b;
         piece =
-            λ _ v w k ys c r. atom_leads t h solid (scoped s) o (scope_begins s) a v w k ys c
-            (subst (λ f. Rest (past_groups (group_count t) (under f h)) v k w ys) e r);
+            λ _ v w k ys c y r. atom_leads μ t h solid (scoped s) o (scope_begins s) a v w k ys c y
+            (subst (λ f. Rest μ (past_groups (group_count t) (under f h)) v k w ys) e r);
         atom = λ _ _. a;
       }
 
   -- an Alt: branches as they are in a group
   pub by_whole : (k s : Text) (g f : Flags) →
       ((v : Text) → Clear h.flags.ignore_space v → Clear h.flags.ignore_space (k ++ v)) →
-      ((v : Text) → Ends h.flags.ignore_space v → WholeAt h (k ++ v) g v t) →
-      ((v : Text) → Ends h.flags.ignore_space v → WholeAt (inner set_in h) (s ++ v) f v t) →
-      flags_behind t Piece h.flags ≡ h.flags → ReadsBy t h k (scoped s) (scoped s) (scoped s) g h.flags
+      ((v : Text) → Ends h.flags.ignore_space v → WholeAt μ h (k ++ v) g v t) →
+      ((v : Text) → Ends h.flags.ignore_space v → WholeAt μ (inner set_in h) (s ++ v) f v t) →
+      flags_behind t Piece h.flags ≡ h.flags → ReadsBy μ t h k (scoped s) (scoped s) (scoped s) g h.flags
   by_whole k s g f c q w e =
       let a = scope_atom s f w in
-      let l = atom_leads t h solid (scoped s) o (scope_begins s) a in
+      let l = atom_leads μ t h solid (scoped s) o (scope_begins s) a in
       record {
         whole_clear = c;
         branch_clear = λ v c. (scope_begins s v).clear;
@@ -190,24 +195,25 @@ module _ (t : Tree) (h : Here) (o : h.flags.oniguruma_mode ≡ false) (d : h.dep
         begins = λ _. scope_begins s;
         atom_begins = λ _. scope_begins s;
         whole = q;
-        branch = λ v i. one_branch t h solid (scoped s) h.flags l v i refl;
+        branch = λ v i. one_branch μ t h solid (scoped s) h.flags l v i refl;
         piece =
-            λ _ v w k ys c r. l v w k ys c (subst (λ f. Rest (past_groups (group_count t) (under f h)) v k w ys) e r);
+            λ _ v w k ys c y r. l v w k ys c y (subst
+            (λ f. Rest μ (past_groups (group_count t) (under f h)) v k w ys) e r);
         atom = λ _ _. a;
       }
 
 -- nothing, where branches or pieces may stand
-pub by_nothing : (h : Here) (k2 k3 : Text) → ReadsBy (leaf label.empty) h [] [] k2 k3 h.flags h.flags
-by_nothing h k2 k3 =
+pub by_nothing : (μ : Marks) (h : Here) (k2 k3 : Text) → ReadsBy μ (leaf label.empty) h [] [] k2 k3 h.flags h.flags
+by_nothing μ h k2 k3 =
     let q = λ (v : Text) (i : Stops h.flags.ignore_space v).
-    reads_branch h v v h.flags [] (no_more h v i) in
+    reads_branch μ h v v h.flags [] (no_more μ h v i) in
     record {
       whole_clear = λ v c. c;
       branch_clear = λ v c. c;
       branch_begins = λ e. absurd (false≢true (sym e));
       begins = λ e. absurd (false≢true (sym e));
       atom_begins = λ e. absurd (false≢true e);
-      whole = λ v i. reads_only h v v h.flags (leaf label.empty) (q v i.stops) i.no_bar;
+      whole = λ v i. reads_only μ h v v h.flags (leaf label.empty) (q v i.stops) i.no_bar;
       branch = q;
       piece = λ e. absurd (false≢true (sym e));
       atom = λ e. absurd (false≢true e);

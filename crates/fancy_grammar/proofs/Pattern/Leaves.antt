@@ -31,6 +31,7 @@ use Rattle.fancy_grammar.specs.Ahead.{refused, read, ahead, leaf_node, leaf_outc
 use Rattle.fancy_grammar.specs.Grammar.{atom, a_read, one_branch, branch, stop}
 use Rattle.fancy_grammar.specs.Label as label
 use Rattle.fancy_grammar.specs.Label.{Leaf}
+use Rattle.fancy_grammar.specs.Marks.{Marks}
 use Rattle.fancy_grammar.specs.Pattern.{Here, parenthesized, verb_name}
 use Rattle.fancy_grammar.specs.PatternLetters.{any_text, assertion_text, character}
 use Rattle.fancy_grammar.specs.State.{done}
@@ -41,7 +42,7 @@ use Rattle.fancy_grammar.proofs.ReadBack.RuleLemmas.{st, leaf_at}
 use Rattle.fancy_grammar.proofs.Pattern.Becomes.{Becomes}
 use Rattle.fancy_grammar.proofs.Pattern.Characters.{Spells, itself, by_escape, CaseFits, character_spells}
 use Rattle.fancy_grammar.proofs.Pattern.Characters.{reads_byte}
-use Rattle.fancy_grammar.proofs.Pattern.Rules.{Begins, begins_by, not_layout, AtomAt}
+use Rattle.fancy_grammar.proofs.Pattern.Rules.{Begins, begins_by, not_layout, AtomAt, Follows}
 
 abbrev some_verb : BacktrackingControlVerb → Text → Option (BacktrackingControlVerb × Text)
 some_verb b v = Some (b, v)
@@ -52,19 +53,19 @@ abbrev IsNoReference : Leaf → Type 0
 IsNoReference (label.ast_node r place) = ⊥
 IsNoReference _ = Unit {0}
 
-leaf_becomes : (c : ℕ) (l : Leaf) → IsNoReference l → Becomes c (leaf l) (leaf l)
-leaf_becomes c (label.ast_node r place) k = absurd k
-leaf_becomes c l k = record { is = λ n u. refl; count = refl; groups = tt }
+leaf_becomes : (μ : Marks) (s : Text) (c : ℕ) (l : Leaf) → IsNoReference l → Becomes μ s c (leaf l) (leaf l)
+leaf_becomes μ s c (label.ast_node r place) k = absurd k
+leaf_becomes μ s c l k = record { is = λ named k n u e. refl; count = refl; groups = tt }
 
-pub reads_leaf : (h : Here) (s v : Text) (l : Leaf) → IsNoReference l →
-    ahead h.depth (st h.flags s) ≡ read (done (leaf l) (st h.flags v)) → AtomAt h s v (leaf l)
-reads_leaf h s v l k e = record { tree = leaf l; derives = atom e a_read; becomes = leaf_becomes h.opened l k }
+pub reads_leaf : (μ : Marks) (h : Here) (s v : Text) (l : Leaf) → IsNoReference l →
+    ahead h.depth (st h.flags s) ≡ read (done (leaf l) (st h.flags v)) → AtomAt μ h s v (leaf l)
+reads_leaf μ h s v l k e = record { tree = leaf l; derives = atom e a_read; becomes = leaf_becomes μ s h.opened l k }
 
 -- an escape that is this leaf
-reads_escape : (h : Here) (t v : Text) (e : Escape) (l : Leaf) → IsNoReference l → leaf_node e ≡ leaf l →
-    escape h.flags false t ≡ gives e v → AtomAt h (code "\\" ∷ t) v (leaf l)
-reads_escape h t v e l k same q =
-    reads_leaf h (code "\\" ∷ t) v l k
+reads_escape : (μ : Marks) (h : Here) (t v : Text) (e : Escape) (l : Leaf) → IsNoReference l → leaf_node e ≡ leaf l →
+    escape h.flags false t ≡ gives e v → AtomAt μ h (code "\\" ∷ t) v (leaf l)
+reads_escape μ h t v e l k same q =
+    reads_leaf μ h (code "\\" ∷ t) v l k
     (leaf_at h.depth h.flags (code "\\") t refl refl
     ∙ ap (λ r. read (leaf_outcome leaf_node (st h.flags (code "\\" ∷ t)) r)) q
     ∙ ap (λ x. read (done x (st h.flags v))) same)
@@ -109,14 +110,14 @@ begins_plain x c v e h =
       goes = rw (is_not (code "|") refl, is_not (code ")") refl) refl;
     }
 
-reads_spelled : (h : Here) (casei : Bool) (c : ℕ) (t v : Text) → Spells h.flags casei c t →
-    AtomAt h (t ++ v) v (leaf (label.literal (c ∷ []) casei))
-reads_spelled h casei c t v (itself e m k) =
-    reads_leaf h (c ∷ v) v (label.literal (c ∷ []) casei) tt
+reads_spelled : (μ : Marks) (h : Here) (casei : Bool) (c : ℕ) (t v : Text) → Spells h.flags casei c t →
+    AtomAt μ h (t ++ v) v (leaf (label.literal (c ∷ []) casei))
+reads_spelled μ h casei c t v (itself e m k) =
+    reads_leaf μ h (c ∷ v) v (label.literal (c ∷ []) casei) tt
     (plain_leaf h.depth h.flags c v m
     ∙ ap (λ b. read (done (leaf (label.literal (c ∷ []) b)) (st h.flags v))) e)
-reads_spelled h casei c t v (by_escape {t = w} e) =
-    reads_escape h (w ++ v) v (escaped.literal c casei) (label.literal (c ∷ []) casei) tt refl (e v)
+reads_spelled μ h casei c t v (by_escape {t = w} e) =
+    reads_escape μ h (w ++ v) v (escaped.literal c casei) (label.literal (c ∷ []) casei) tt refl (e v)
 
 begins_spelled : (f : Flags) (casei : Bool) (c : ℕ) (t v : Text) → Spells f casei c t → Begins f.ignore_space (t ++ v)
 begins_spelled f casei c t v (itself e m k) = begins_plain f.ignore_space c v m k
@@ -125,27 +126,28 @@ begins_spelled f casei c t v (by_escape {t = w} e) = begins_escape f.ignore_spac
 -- ---- what a leaf's text reads as
 
 -- in front of anything that no name in braces follows
-pub record LeafAt (h : Here) (t : Text) (l : Leaf) : Type 0 where
+pub record LeafAt (μ : Marks) (h : Here) (t : Text) (l : Leaf) : Type 0 where
   pub reads : (v : Text) → ((p : ℕ) (negated : Bool) →
-      boundary h.flags.ignore_space p negated v ≡ gives (unnamed_boundary negated) v) → AtomAt h (t ++ v) v (leaf l)
+      boundary h.flags.ignore_space p negated v ≡ gives (unnamed_boundary negated) v) → Follows μ (leaf l) v →
+      AtomAt μ h (t ++ v) v (leaf l)
   pub begins : (v : Text) → Begins h.flags.ignore_space (t ++ v)
 
-pub literal_at : (h : Here) (casei : Bool) (c : ℕ) → CaseFits h.flags casei c →
-    LeafAt h (character h.flags casei c ++ []) (label.literal (c ∷ []) casei)
-literal_at h casei c k =
+pub literal_at : (μ : Marks) (h : Here) (casei : Bool) (c : ℕ) → CaseFits h.flags casei c →
+    LeafAt μ h (character h.flags casei c ++ []) (label.literal (c ∷ []) casei)
+literal_at μ h casei c k =
     let t = character h.flags casei c in
     let s = character_spells h.flags casei c k in
-    subst (λ w. LeafAt h w (label.literal (c ∷ []) casei)) (sym (append-nil t)) (record {
-      reads = λ v m. reads_spelled h casei c t v s;
+    subst (λ w. LeafAt μ h w (label.literal (c ∷ []) casei)) (sym (append-nil t)) (record {
+      reads = λ v m _. reads_spelled μ h casei c t v s;
       begins = λ v. begins_spelled h.flags casei c t v s;
     })
 
-pub byte_at : (h : Here) (b : ℕ) → h.flags.unicode ≡ false → 0x80 ≤ b → b ≤ 0xFF →
-    LeafAt h (code "\\" ∷ code "x" ∷ upper_hex_digit (b / 16) ∷ upper_hex_digit (b % 16) ∷ [])
+pub byte_at : (μ : Marks) (h : Here) (b : ℕ) → h.flags.unicode ≡ false → 0x80 ≤ b → b ≤ 0xFF →
+    LeafAt μ h (code "\\" ∷ code "x" ∷ upper_hex_digit (b / 16) ∷ upper_hex_digit (b % 16) ∷ [])
     (label.literal_bytes (b ∷ []))
-byte_at h b u l k = record {
+byte_at μ h b u l k = record {
   reads =
-      λ v m. reads_escape h _ v (escaped.literal_bytes b) (label.literal_bytes (b ∷ [])) tt refl
+      λ v m _. reads_escape μ h _ v (escaped.literal_bytes b) (label.literal_bytes (b ∷ [])) tt refl
       (reads_byte h.flags b v u l k);
   begins = λ v. begins_escape h.flags.ignore_space _;
 }
@@ -153,10 +155,10 @@ byte_at h b u l k = record {
 -- ---- escapes of one letter
 
 -- by a letter that is all of its escape
-letter_at : (h : Here) (c : ℕ) (e : Escape) (l : Leaf) → IsNoReference l → leaf_node e ≡ leaf l →
-    ((v : Text) → escape h.flags false (c ∷ v) ≡ gives e v) → LeafAt h (code "\\" ∷ c ∷ []) l
-letter_at h c e l k same q = record {
-  reads = λ v m. reads_escape h (c ∷ v) v e l k same (q v);
+letter_at : (μ : Marks) (h : Here) (c : ℕ) (e : Escape) (l : Leaf) → IsNoReference l → leaf_node e ≡ leaf l →
+    ((v : Text) → escape h.flags false (c ∷ v) ≡ gives e v) → LeafAt μ h (code "\\" ∷ c ∷ []) l
+letter_at μ h c e l k same q = record {
+  reads = λ v m _. reads_escape μ h (c ∷ v) v e l k same (q v);
   begins = λ v. begins_escape h.flags.ignore_space (c ∷ v);
 }
 
@@ -212,43 +214,44 @@ escape_B : (f : Flags) (v : Text) → escape f false (code "B" ∷ v) ≡ bounda
 unfolding escape_at lone_escape outside
 escape_B f v = refl
 
-pub keep_at : (h : Here) → LeafAt h (codes "\\K") label.keep_out
-keep_at h = letter_at h (code "K") _ label.keep_out tt refl (escape_K h.flags)
+pub keep_at : (μ : Marks) (h : Here) → LeafAt μ h (codes "\\K") label.keep_out
+keep_at μ h = letter_at μ h (code "K") _ label.keep_out tt refl (escape_K h.flags)
 
-pub continue_at : (h : Here) → LeafAt h (codes "\\G") label.continue_from_previous_match_end
-continue_at h = letter_at h (code "G") _ label.continue_from_previous_match_end tt refl (escape_G h.flags)
+pub continue_at : (μ : Marks) (h : Here) → LeafAt μ h (codes "\\G") label.continue_from_previous_match_end
+continue_at μ h = letter_at μ h (code "G") _ label.continue_from_previous_match_end tt refl (escape_G h.flags)
 
-pub newline_at : (h : Here) (u : Bool) → h.flags.unicode ≡ u → LeafAt h (codes "\\R") (label.general_newline u)
-newline_at h u e =
-    subst (λ u. LeafAt h (codes "\\R") (label.general_newline u)) e
-    (letter_at h (code "R") _ (label.general_newline h.flags.unicode) tt refl (escape_R h.flags))
+pub newline_at : (μ : Marks) (h : Here) (u : Bool) → h.flags.unicode ≡ u →
+    LeafAt μ h (codes "\\R") (label.general_newline u)
+newline_at μ h u e =
+    subst (λ u. LeafAt μ h (codes "\\R") (label.general_newline u)) e
+    (letter_at μ h (code "R") _ (label.general_newline h.flags.unicode) tt refl (escape_R h.flags))
 
 -- ---- one character
 
 -- a character that is this leaf
-alone_at : (h : Here) (c : ℕ) (l : Leaf) → IsNoReference l → ((x : Bool) (v : Text) → Begins x (c ∷ v)) →
-    ((v : Text) → ahead h.depth (st h.flags (c ∷ v)) ≡ read (done (leaf l) (st h.flags v))) → LeafAt h (c ∷ []) l
-alone_at h c l k b q = record {
-  reads = λ v m. reads_leaf h (c ∷ v) v l k (q v);
+alone_at : (μ : Marks) (h : Here) (c : ℕ) (l : Leaf) → IsNoReference l → ((x : Bool) (v : Text) → Begins x (c ∷ v)) →
+    ((v : Text) → ahead h.depth (st h.flags (c ∷ v)) ≡ read (done (leaf l) (st h.flags v))) → LeafAt μ h (c ∷ []) l
+alone_at μ h c l k b q = record {
+  reads = λ v m _. reads_leaf μ h (c ∷ v) v l k (q v);
   begins = λ v. b h.flags.ignore_space v;
 }
 
-dot_at : (h : Here) → LeafAt h (codes ".") (label.any h.flags.dotnl h.flags.crlf)
-dot_at h =
-    alone_at h (code ".") _ tt (λ x v. begins_by x (code ".") v refl refl refl refl)
+dot_at : (μ : Marks) (h : Here) → LeafAt μ h (codes ".") (label.any h.flags.dotnl h.flags.crlf)
+dot_at μ h =
+    alone_at μ h (code ".") _ tt (λ x v. begins_by x (code ".") v refl refl refl refl)
     (λ v. leaf_at h.depth h.flags (code ".") v refl refl)
 
-caret_at : (h : Here) (a : Assertion) → start_anchor h.flags ≡ a →
-    LeafAt h (codes "^") (label.assertion a)
-caret_at h a e =
-    alone_at h (code "^") _ tt (λ x v. begins_by x (code "^") v refl refl refl refl)
+caret_at : (μ : Marks) (h : Here) (a : Assertion) → start_anchor h.flags ≡ a →
+    LeafAt μ h (codes "^") (label.assertion a)
+caret_at μ h a e =
+    alone_at μ h (code "^") _ tt (λ x v. begins_by x (code "^") v refl refl refl refl)
     (λ v. leaf_at h.depth h.flags (code "^") v refl refl
     ∙ ap (λ b. read (done (assertion b) (st h.flags v))) e)
 
-dollar_at : (h : Here) (a : Assertion) → end_anchor h.flags ≡ a →
-    LeafAt h (codes "$") (label.assertion a)
-dollar_at h a e =
-    alone_at h (code "$") _ tt (λ x v. begins_by x (code "$") v refl refl refl refl)
+dollar_at : (μ : Marks) (h : Here) (a : Assertion) → end_anchor h.flags ≡ a →
+    LeafAt μ h (codes "$") (label.assertion a)
+dollar_at μ h a e =
+    alone_at μ h (code "$") _ tt (λ x v. begins_by x (code "$") v refl refl refl refl)
     (λ v. leaf_at h.depth h.flags (code "$") v refl refl
     ∙ ap (λ b. read (done (assertion b) (st h.flags v))) e)
 
@@ -259,11 +262,12 @@ beq_is false true e = absurd cc
 beq_is false false e = refl
 
 -- a dot, where the flags say as the fields do
-dot_is : (h : Here) (a b : Bool) → beq h.flags.dotnl a && beq h.flags.crlf b ≡ true → LeafAt h (codes ".") (label.any a b)
-dot_is h a b e =
+dot_is : (μ : Marks) (h : Here) (a b : Bool) → beq h.flags.dotnl a && beq h.flags.crlf b ≡ true →
+    LeafAt μ h (codes ".") (label.any a b)
+dot_is μ h a b e =
     let (x, y) = and_parts _ _ e in
-    subst (λ a. LeafAt h (codes ".") (label.any a b)) (beq_is h.flags.dotnl a x)
-    (subst (λ b. LeafAt h (codes ".") (label.any h.flags.dotnl b)) (beq_is h.flags.crlf b y) (dot_at h))
+    subst (λ a. LeafAt μ h (codes ".") (label.any a b)) (beq_is h.flags.dotnl a x)
+    (subst (λ b. LeafAt μ h (codes ".") (label.any h.flags.dotnl b)) (beq_is h.flags.crlf b y) (dot_at μ h))
 
 -- where the fields are unlike, the flags say as they do
 abbrev pub AnyFits : Flags → Bool → Bool → Type 0
@@ -275,22 +279,23 @@ beq_same : (a b : Bool) → a ≡ b → beq a b ≡ true
 beq_same true b e = subst (λ b. beq true b ≡ true) e refl
 beq_same false b e = subst (λ b. beq false b ≡ true) e refl
 
-unlike_at : (h : Here) (a b : Bool) (t : Text) → (h.flags.dotnl ≡ a) × (h.flags.crlf ≡ b) →
-    LeafAt h (if beq h.flags.dotnl a && beq h.flags.crlf b then codes "." else t) (label.any a b)
-unlike_at h a b t k =
+unlike_at : (μ : Marks) (h : Here) (a b : Bool) (t : Text) → (h.flags.dotnl ≡ a) × (h.flags.crlf ≡ b) →
+    LeafAt μ h (if beq h.flags.dotnl a && beq h.flags.crlf b then codes "." else t) (label.any a b)
+unlike_at μ h a b t k =
     let e : beq h.flags.dotnl a && beq h.flags.crlf b ≡ true
     = and_from _ _ (beq_same h.flags.dotnl a k.0) (beq_same h.flags.crlf b k.1) in
-    subst (λ t. LeafAt h t (label.any a b)) (sym (cond-true _ _ _ e)) (dot_is h a b e)
+    subst (λ t. LeafAt μ h t (label.any a b)) (sym (cond-true _ _ _ e)) (dot_is μ h a b e)
 
-pub any_at : (h : Here) (a b : Bool) → AnyFits h.flags a b → LeafAt h (any_text h.flags a b) (label.any a b)
-any_at h true true k =
-    cond_both (beq h.flags.dotnl true && beq h.flags.crlf true) _ _ (λ t. LeafAt h t (label.any true true))
-    (λ e. dot_is h true true e) (λ e. letter_at h (code "O") _ (label.any true true) tt refl (escape_O h.flags))
-any_at h false false k =
-    cond_both (beq h.flags.dotnl false && beq h.flags.crlf false) _ _ (λ t. LeafAt h t (label.any false false))
-    (λ e. dot_is h false false e) (λ e. letter_at h (code "N") _ (label.any false false) tt refl (escape_N h.flags))
-any_at h true false k = unlike_at h true false (codes "\\O") k
-any_at h false true k = unlike_at h false true (codes "\\N") k
+pub any_at : (μ : Marks) (h : Here) (a b : Bool) → AnyFits h.flags a b →
+    LeafAt μ h (any_text h.flags a b) (label.any a b)
+any_at μ h true true k =
+    cond_both (beq h.flags.dotnl true && beq h.flags.crlf true) _ _ (λ t. LeafAt μ h t (label.any true true))
+    (λ e. dot_is μ h true true e) (λ e. letter_at μ h (code "O") _ (label.any true true) tt refl (escape_O h.flags))
+any_at μ h false false k =
+    cond_both (beq h.flags.dotnl false && beq h.flags.crlf false) _ _ (λ t. LeafAt μ h t (label.any false false))
+    (λ e. dot_is μ h false false e) (λ e. letter_at μ h (code "N") _ (label.any false false) tt refl (escape_N h.flags))
+any_at μ h true false k = unlike_at μ h true false (codes "\\O") k
+any_at μ h false true k = unlike_at μ h false true (codes "\\N") k
 
 -- ---- conditions on a place
 
@@ -315,55 +320,56 @@ half_end true p v = refl
 half_end false p v = refl
 
 -- a boundary behind its letter
-boundary_at : (h : Here) (t : Text) (a : Assertion) →
+boundary_at : (μ : Marks) (h : Here) (t : Text) (a : Assertion) →
     ((v : Text) → ((p : ℕ) (negated : Bool) →
     boundary h.flags.ignore_space p negated v ≡ gives (unnamed_boundary negated) v) →
-    escape h.flags false (t ++ v) ≡ gives (escaped.assertion a) v) → LeafAt h (code "\\" ∷ t) (label.assertion a)
-boundary_at h t a q = record {
-  reads = λ v m. reads_escape h (t ++ v) v (escaped.assertion a) (label.assertion a) tt refl (q v m);
+    escape h.flags false (t ++ v) ≡ gives (escaped.assertion a) v) → LeafAt μ h (code "\\" ∷ t) (label.assertion a)
+boundary_at μ h t a q = record {
+  reads = λ v m _. reads_escape μ h (t ++ v) v (escaped.assertion a) (label.assertion a) tt refl (q v m);
   begins = λ v. begins_escape h.flags.ignore_space (t ++ v);
 }
 
-pub assertion_at : (h : Here) (a : Assertion) → h.flags.oniguruma_mode ≡ false → AssertionFits h.flags a →
-    LeafAt h (assertion_text h.flags a) (label.assertion a)
-assertion_at h StartText o k =
-    cond_both h.flags.multi _ _ (λ t. LeafAt h t (label.assertion StartText))
-    (λ e. letter_at h (code "A") _ (label.assertion StartText) tt refl (escape_A h.flags))
-    (λ e. caret_at h StartText (cond-false _ _ _ e))
-assertion_at h EndText o k =
-    cond_both h.flags.multi _ _ (λ t. LeafAt h t (label.assertion EndText))
-    (λ e. letter_at h (code "z") _ (label.assertion EndText) tt refl (escape_z h.flags))
-    (λ e. dollar_at h EndText (cond-false _ _ _ e))
-assertion_at h (EndTextIgnoreTrailingNewlines crlf) o k =
-    subst (λ b. LeafAt h (codes "\\Z") (label.assertion (EndTextIgnoreTrailingNewlines b))) k
-    (letter_at h (code "Z") _ (label.assertion (EndTextIgnoreTrailingNewlines h.flags.crlf)) tt refl (escape_Z h.flags))
-assertion_at h (StartLine crlf) o k =
-    caret_at h (StartLine crlf) (cond-true _ _ _ k.0 ∙ (cond-false _ _ _ o ∙ ap StartLine k.1))
-assertion_at h (StartLineOniguruma crlf) o k = absurd k
-assertion_at h (EndLine crlf) o k = dollar_at h (EndLine crlf) (cond-true _ _ _ k.0 ∙ ap EndLine k.1)
-assertion_at h WordBoundary o k =
-    boundary_at h (codes "b") WordBoundary (λ v m. escape_b h.flags v ∙ m _ false)
-assertion_at h NotWordBoundary o k =
-    boundary_at h (codes "B") NotWordBoundary (λ v m. escape_B h.flags v ∙ m _ true)
-assertion_at h LeftWordBoundary o k =
-    subst (λ b. LeafAt h (if b then codes "\\b{start}" else codes "\\<") (label.assertion LeftWordBoundary)) (sym o)
-    (letter_at h (code "<") _ (label.assertion LeftWordBoundary) tt refl (λ v. escape_left h.flags v o))
-assertion_at h RightWordBoundary o k =
-    subst (λ b. LeafAt h (if b then codes "\\b{end}" else codes "\\>") (label.assertion RightWordBoundary)) (sym o)
-    (letter_at h (code ">") _ (label.assertion RightWordBoundary) tt refl (λ v. escape_right h.flags v o))
-assertion_at h LeftWordHalfBoundary o k =
-    boundary_at h (codes "b{start-half}") LeftWordHalfBoundary
+pub assertion_at : (μ : Marks) (h : Here) (a : Assertion) → h.flags.oniguruma_mode ≡ false → AssertionFits h.flags a →
+    LeafAt μ h (assertion_text h.flags a) (label.assertion a)
+assertion_at μ h StartText o k =
+    cond_both h.flags.multi _ _ (λ t. LeafAt μ h t (label.assertion StartText))
+    (λ e. letter_at μ h (code "A") _ (label.assertion StartText) tt refl (escape_A h.flags))
+    (λ e. caret_at μ h StartText (cond-false _ _ _ e))
+assertion_at μ h EndText o k =
+    cond_both h.flags.multi _ _ (λ t. LeafAt μ h t (label.assertion EndText))
+    (λ e. letter_at μ h (code "z") _ (label.assertion EndText) tt refl (escape_z h.flags))
+    (λ e. dollar_at μ h EndText (cond-false _ _ _ e))
+assertion_at μ h (EndTextIgnoreTrailingNewlines crlf) o k =
+    subst (λ b. LeafAt μ h (codes "\\Z") (label.assertion (EndTextIgnoreTrailingNewlines b))) k
+    (letter_at μ h (code "Z") _ (label.assertion (EndTextIgnoreTrailingNewlines h.flags.crlf)) tt refl
+    (escape_Z h.flags))
+assertion_at μ h (StartLine crlf) o k =
+    caret_at μ h (StartLine crlf) (cond-true _ _ _ k.0 ∙ (cond-false _ _ _ o ∙ ap StartLine k.1))
+assertion_at μ h (StartLineOniguruma crlf) o k = absurd k
+assertion_at μ h (EndLine crlf) o k = dollar_at μ h (EndLine crlf) (cond-true _ _ _ k.0 ∙ ap EndLine k.1)
+assertion_at μ h WordBoundary o k =
+    boundary_at μ h (codes "b") WordBoundary (λ v m. escape_b h.flags v ∙ m _ false)
+assertion_at μ h NotWordBoundary o k =
+    boundary_at μ h (codes "B") NotWordBoundary (λ v m. escape_B h.flags v ∙ m _ true)
+assertion_at μ h LeftWordBoundary o k =
+    subst (λ b. LeafAt μ h (if b then codes "\\b{start}" else codes "\\<") (label.assertion LeftWordBoundary)) (sym o)
+    (letter_at μ h (code "<") _ (label.assertion LeftWordBoundary) tt refl (λ v. escape_left h.flags v o))
+assertion_at μ h RightWordBoundary o k =
+    subst (λ b. LeafAt μ h (if b then codes "\\b{end}" else codes "\\>") (label.assertion RightWordBoundary)) (sym o)
+    (letter_at μ h (code ">") _ (label.assertion RightWordBoundary) tt refl (λ v. escape_right h.flags v o))
+assertion_at μ h LeftWordHalfBoundary o k =
+    boundary_at μ h (codes "b{start-half}") LeftWordHalfBoundary
     (λ v m. escape_b h.flags _ ∙ half_start h.flags.ignore_space _ v)
-assertion_at h RightWordHalfBoundary o k =
-    boundary_at h (codes "b{end-half}") RightWordHalfBoundary
+assertion_at μ h RightWordHalfBoundary o k =
+    boundary_at μ h (codes "b{end-half}") RightWordHalfBoundary
     (λ v m. escape_b h.flags _ ∙ half_end h.flags.ignore_space _ v)
 
 -- ---- verbs
 
-verb_head : (h : Here) (t v : Text) (b : BacktrackingControlVerb) → h.depth + 1 < max_depth →
-    verb_at (t ++ v) ≡ some_verb b v → AtomAt h (codes "(*" ++ (t ++ v)) v (leaf (label.verb b))
-verb_head h t v b l e =
-    reads_leaf h _ v (label.verb b) tt
+verb_head : (μ : Marks) (h : Here) (t v : Text) (b : BacktrackingControlVerb) → h.depth + 1 < max_depth →
+    verb_at (t ++ v) ≡ some_verb b v → AtomAt μ h (codes "(*" ++ (t ++ v)) v (leaf (label.verb b))
+verb_head μ h t v b l e =
+    reads_leaf μ h _ v (label.verb b) tt
     (paren_at h.depth h.flags (code "*" ∷ (t ++ v)) l (begins_star h.flags.ignore_space)
     ∙ ap (λ o. choose o (λ p. read (done (leaf (label.verb p.0)) (st h.flags p.1)))
     (refused (unknown_verb (code "*" ∷ (t ++ v))))) e)
@@ -375,10 +381,10 @@ verb_head h t v b l e =
 begins_paren : (x : Bool) (c : ℕ) (t : Text) → (c == code "?") ≡ false → Begins x (code "(" ∷ c ∷ t)
 begins_paren x c t e = begins_by x (code "(") (c ∷ t) (rw e refl) refl refl refl
 
-verb_leaf : (h : Here) (t : Text) (b : BacktrackingControlVerb) → h.depth + 1 < max_depth →
-    ((v : Text) → verb_at (t ++ v) ≡ some_verb b v) → LeafAt h (codes "(*" ++ t) (label.verb b)
-verb_leaf h t b l q = record {
-  reads = λ v m. verb_head h t v b l (q v);
+verb_leaf : (μ : Marks) (h : Here) (t : Text) (b : BacktrackingControlVerb) → h.depth + 1 < max_depth →
+    ((v : Text) → verb_at (t ++ v) ≡ some_verb b v) → LeafAt μ h (codes "(*" ++ t) (label.verb b)
+verb_leaf μ h t b l q = record {
+  reads = λ v m _. verb_head μ h t v b l (q v);
   begins = λ v. begins_paren h.flags.ignore_space (code "*") (t ++ v) refl;
 }
 
@@ -402,25 +408,25 @@ prune_read : (v : Text) → verb_at (codes "PRUNE)" ++ v) ≡ some_verb Prune v
 unfolding verb_at
 prune_read v = refl
 
-pub verb_leaf_at : (h : Here) (b : BacktrackingControlVerb) → h.depth + 1 < max_depth →
-    LeafAt h (parenthesized (verb_name b)) (label.verb b)
-verb_leaf_at h Fail l = verb_leaf h (codes "FAIL)") Fail l fail_read
-verb_leaf_at h Accept l = verb_leaf h (codes "ACCEPT)") Accept l accept_read
-verb_leaf_at h Commit l = verb_leaf h (codes "COMMIT)") Commit l commit_read
-verb_leaf_at h Skip l = verb_leaf h (codes "SKIP)") Skip l skip_read
-verb_leaf_at h Prune l = verb_leaf h (codes "PRUNE)") Prune l prune_read
+pub verb_leaf_at : (μ : Marks) (h : Here) (b : BacktrackingControlVerb) → h.depth + 1 < max_depth →
+    LeafAt μ h (parenthesized (verb_name b)) (label.verb b)
+verb_leaf_at μ h Fail l = verb_leaf μ h (codes "FAIL)") Fail l fail_read
+verb_leaf_at μ h Accept l = verb_leaf μ h (codes "ACCEPT)") Accept l accept_read
+verb_leaf_at μ h Commit l = verb_leaf μ h (codes "COMMIT)") Commit l commit_read
+verb_leaf_at μ h Skip l = verb_leaf μ h (codes "SKIP)") Skip l skip_read
+verb_leaf_at μ h Prune l = verb_leaf μ h (codes "PRUNE)") Prune l prune_read
 
 -- ---- Delegates
 
-pub source_at : (h : Here) (s : Text) (casei : Bool) (t : Text) → IsSource h.flags s casei t →
-    LeafAt h t (label.delegate s casei)
-source_at h s casei t (an_escape {t = w} e) = record {
-  reads = λ v m. reads_escape h (w ++ v) v (escaped.delegate s casei) (label.delegate s casei) tt refl (e v);
+pub source_at : (μ : Marks) (h : Here) (s : Text) (casei : Bool) (t : Text) → IsSource h.flags s casei t →
+    LeafAt μ h t (label.delegate s casei)
+source_at μ h s casei t (an_escape {t = w} e) = record {
+  reads = λ v m _. reads_escape μ h (w ++ v) v (escaped.delegate s casei) (label.delegate s casei) tt refl (e v);
   begins = λ v. begins_escape h.flags.ignore_space (w ++ v);
 }
-source_at h s casei t (a_class {t = w} same e) = record {
+source_at μ h s casei t (a_class {t = w} same e) = record {
   reads =
-      λ v m. reads_leaf h (code "[" ∷ (w ++ v)) v (label.delegate s casei) tt
+      λ v m _. reads_leaf μ h (code "[" ∷ (w ++ v)) v (label.delegate s casei) tt
       (leaf_at h.depth h.flags (code "[") (w ++ v) refl refl
       ∙ ap (λ o. read (leaf_outcome (λ u. leaf (label.delegate u h.flags.casei)) (st h.flags (code "[" ∷ (w ++ v))) o))
       (e v)
@@ -430,14 +436,14 @@ source_at h s casei t (a_class {t = w} same e) = record {
 
 -- ---- clear
 
-pub clear_at : (h : Here) → h.depth + 1 < max_depth → LeafAt h (codes "(?~|)") label.clear
-clear_at h l = record {
+pub clear_at : (μ : Marks) (h : Here) → h.depth + 1 < max_depth → LeafAt μ h (codes "(?~|)") label.clear
+clear_at μ h l = record {
   reads =
-      λ v m. record {
+      λ v m _. record {
         tree = leaf label.clear;
         derives =
             atom (question_at h.depth h.flags (codes "~|)" ++ v) l) (one_branch (branch (stop refl)) refl);
-        becomes = leaf_becomes h.opened label.clear tt;
+        becomes = leaf_becomes μ _ h.opened label.clear tt;
       };
   begins = λ v. begins_by h.flags.ignore_space (code "(") _ refl refl refl refl;
 }

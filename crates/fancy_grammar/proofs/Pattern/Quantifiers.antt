@@ -31,6 +31,7 @@ use Rattle.fancy_grammar.specs.State.{done, seen_through}
 use Rattle.fancy_grammar.specs.Tree.{Tree, repeat, atomic_group}
 use Rattle.fancy_grammar.specs.Join.{is_empty}
 use Rattle.fancy_grammar.specs.Label.{atomic_group as atomic, repeat as repeated}
+use Rattle.fancy_grammar.specs.Marks.{Marks}
 use Rattle.fancy_grammar.specs.Pattern.{Here, past_groups, group_count}
 use Rattle.fancy_grammar.proofs.OutcomeLemmas.{piece_as}
 use Rattle.fancy_grammar.proofs.Pattern.Becomes.{Becomes, stays_repeatable}
@@ -56,7 +57,7 @@ number_first : (ds s : Text) → IsNumeral 10 ds → at_digit (ds ++ s) ≡ true
 number_first [] s h = absurd (omega (arith, h.0))
 number_first (d ∷ ds) s h = (digit_is d h.1.0).0
 
-number_read : (n : ℕ) (s : Text) → n < 2 ^ 64 → at_digit s ≡ false → number (decimal n ++ s) ≡ Some (n, s)
+pub number_read : (n : ℕ) (s : Text) → n < 2 ^ 64 → at_digit s ≡ false → number (decimal n ++ s) ≡ Some (n, s)
 number_read n s h d =
     let (numeral, value) = decimal_is_IsNumeral n h in
     number_some (decimal n ++ s) (number_first (decimal n) s numeral)
@@ -131,6 +132,7 @@ pub record Counted (x : Bool) (lo hi : ℕ) (s q : Text) : Type 0 where
   pub braces : Bool
   pub counted : counts x q ≡ counts_and_rest lo hi braces s
   pub no_layout : layout x q ≡ rest q
+  pub no_digit : at_digit q ≡ false
   pub no_name : NoName x q
 
 digit_first : (ds s : Text) → IsNumeral 10 ds → at_count (ds ++ s) ≡ true
@@ -158,17 +160,19 @@ brace_counted x lo hi n w r s h q e =
       braces = true;
       counted = ap (braced_counts x) same ∙ e;
       no_layout = at_character x (code "{") _ refl refl;
+      no_digit = refl;
       no_name = subst (λ y. NoName x (code "{" ∷ y)) (sym same) (brace_name x (decimal n) (w ++ code "}" ∷ s) numeral);
     }
 
 sign_counted : (x : Bool) (lo hi l h c : ℕ) (s : Text) → lo ≡ l → hi ≡ h →
     counts x (c ∷ s) ≡ counts_and_rest l h false s → layout x (c ∷ s) ≡ rest (c ∷ s) →
-    strip (code "{") (c ∷ s) ≡ None → Counted x lo hi s ((c ∷ []) ++ s)
-sign_counted x lo hi l h c s a b e o n =
+    strip (code "{") (c ∷ s) ≡ None → is_ascii_digit c ≡ false → Counted x lo hi s ((c ∷ []) ++ s)
+sign_counted x lo hi l h c s a b e o n z =
     record {
       braces = false;
       counted = e ∙ same_counts l h lo hi false s a b;
       no_layout = o;
+      no_digit = z;
       no_name = no_name x (c ∷ s) o n;
     }
 
@@ -191,15 +195,15 @@ module _ (x : Bool) (lo hi : ℕ) (s : Text) (l : lo < 2 ^ 64) (h : hi < 2 ^ 64)
       cond_both ((lo == 0) && (hi == 1)) _ _ (λ o. Counted x lo hi s (counts_as lo hi o ++ s))
       (λ e. let (a, b) = and_parts _ _ e in
       sign_counted x lo hi 0 1 (code "?") s (eqb-true lo 0 a) (eqb-true hi 1 b) refl
-      (at_character x (code "?") s refl refl) refl)
+      (at_character x (code "?") s refl refl) refl refl)
       (λ _. cond_both ((lo == 0) && (hi == most)) _ _ (λ o. Counted x lo hi s (counts_as lo hi o ++ s))
       (λ e. let (a, b) = and_parts _ _ e in
       sign_counted x lo hi 0 most (code "*") s (eqb-true lo 0 a) (eqb-true hi most b) refl
-      (at_character x (code "*") s refl refl) refl)
+      (at_character x (code "*") s refl refl) refl refl)
       (λ _. cond_both ((lo == 1) && (hi == most)) _ _ (λ o. Counted x lo hi s (counts_as lo hi o ++ s))
       (λ e. let (a, b) = and_parts _ _ e in
       sign_counted x lo hi 1 most (code "+") s (eqb-true lo 1 a) (eqb-true hi most b) refl
-      (at_character x (code "+") s refl refl) refl)
+      (at_character x (code "+") s refl refl) refl refl)
       (λ _. range_counted)))
 
 -- ---- the marks behind the counts
@@ -303,11 +307,12 @@ text_counted f possessive lo hi greedy v o l h =
 
 -- ---- an atom under it, before the pieces that follow
 
-over_quantified : (possessive : Bool) (c : ℕ) (r x : Tree) (lo hi : ℕ) (greedy : Bool) → Becomes c r x →
-    Becomes c (quantified_tree possessive r lo hi greedy) (quantified_tree possessive x lo hi greedy)
-over_quantified true c r x lo hi greedy b =
-    over_becomes atomic c _ _ tt (over_becomes (repeated lo hi greedy) c r x tt b)
-over_quantified false c r x lo hi greedy b = over_becomes (repeated lo hi greedy) c r x tt b
+over_quantified : (μ : Marks) (s : Text) (possessive : Bool) (c : ℕ) (r x : Tree) (lo hi : ℕ) (greedy : Bool) →
+    Becomes μ s c r x →
+    Becomes μ s c (quantified_tree possessive r lo hi greedy) (quantified_tree possessive x lo hi greedy)
+over_quantified μ s true c r x lo hi greedy b =
+    over_becomes μ s atomic c _ _ tt (over_becomes μ s (repeated lo hi greedy) c r x tt b)
+over_quantified μ s false c r x lo hi greedy b = over_becomes μ s (repeated lo hi greedy) c r x tt b
 
 solid_quantified : (possessive : Bool) (x : Tree) (lo hi : ℕ) (greedy : Bool) →
     is_empty (quantified_tree possessive x lo hi greedy) ≡ false
@@ -319,17 +324,19 @@ pub same_count : (possessive : Bool) (x : Tree) (lo hi : ℕ) (greedy : Bool) �
 same_count true x lo hi greedy = refl
 same_count false x lo hi greedy = refl
 
-pub lead_quantified : (h : Here) (s q v w : Text) (g : Flags) (x : Tree) (ys : List Tree) (possessive : Bool)
+pub lead_quantified : (μ : Marks) (h : Here) (s q v w : Text) (g : Flags) (x : Tree) (ys : List Tree)
+    (possessive : Bool)
     (lo hi : ℕ) (greedy : Bool) → h.flags.oniguruma_mode ≡ false → Begins h.flags.ignore_space s →
     Clear h.flags.ignore_space v → is_repeatable h.flags x ≡ true →
     Counted h.flags.ignore_space lo hi (lazy_mark h.flags greedy ++ (possessive_mark possessive ++ v)) q →
-    AtomAt h s q x → Rest (past_groups (group_count x) h) v g w ys →
-    Rest h s g w (quantified_tree possessive x lo hi greedy ∷ ys)
-lead_quantified h s q v w g x ys possessive lo hi greedy o b c r m a k =
-    let e = stays_repeatable h.flags h.opened a.tree x a.becomes r in
-    lead_piece h s v w g (quantified_tree possessive a.tree lo hi greedy) (quantified_tree possessive x lo hi greedy) ys b
-    (solid_quantified possessive x lo hi greedy) (over_quantified possessive h.opened a.tree x lo hi greedy a.becomes)
+    AtomAt μ h s q x → Rest μ (past_groups (group_count x) h) v g w ys →
+    Rest μ h s g w (quantified_tree possessive x lo hi greedy ∷ ys)
+lead_quantified μ h s q v w g x ys possessive lo hi greedy o b c r m a k =
+    let e = stays_repeatable μ s h.flags h.opened a.tree x a.becomes r in
+    lead_piece μ h s v w g (quantified_tree possessive a.tree lo hi greedy)
+    (quantified_tree possessive x lo hi greedy) ys b
+    (solid_quantified possessive x lo hi greedy) (over_quantified μ s possessive h.opened a.tree x lo hi greedy a.becomes)
     (piece_as b.clear.no_layout a.derives
     (quants_one h.depth (bytes s) h.flags a.tree _ q v o
     (quant_read (bytes s) h.flags a.tree q v possessive lo hi greedy o c e m)))
-    (subst (λ n. Rest (past_groups n h) v g w ys) (sym (same_count possessive x lo hi greedy)) k)
+    (subst (λ n. Rest μ (past_groups n h) v g w ys) (sym (same_count possessive x lo hi greedy)) k)

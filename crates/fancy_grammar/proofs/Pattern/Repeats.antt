@@ -11,6 +11,7 @@ use Rattle.fancy_grammar.specs.Depth.{max_depth}
 use Rattle.fancy_grammar.specs.Head.{scope}
 use Rattle.fancy_grammar.specs.Join.{is_empty}
 use Rattle.fancy_grammar.specs.Label as label
+use Rattle.fancy_grammar.specs.Marks.{Marks}
 use Rattle.fancy_grammar.specs.Pattern.{Here, under, past_groups, deeper, in_parens}
 use Rattle.fancy_grammar.specs.Pattern.{written}
 use Rattle.fancy_grammar.specs.Pattern.{repeated, room}
@@ -27,14 +28,14 @@ use Rattle.fancy_grammar.proofs.Pattern.Quantifiers.{quantified_tree, text_count
 use Rattle.fancy_grammar.proofs.Pattern.Rules.{Begins, Ends, begins_by, ends_close, AtomAt, WholeAt}
 use Rattle.fancy_grammar.proofs.Pattern.Rules.{Rest, reads_only}
 use Rattle.fancy_grammar.proofs.ReadBack.RuleLemmas.{st}
-use Rattle.fancy_grammar.proofs.Pattern.Cases.{m, ReadsTree, same_repeatable}
+use Rattle.fancy_grammar.proofs.Pattern.Cases.{ReadsTree, same_repeatable}
 
-module _ (n : ℕ) where
+module _ (μ : Marks) where
   -- ---- quantifiers
 
   pub like_repeatable : (t : Tree) (f g : Flags) → f.oniguruma_mode ≡ g.oniguruma_mode →
       is_repeatable f t ≡ is_repeatable g t
-  like_repeatable (leaf l) f g e = same_repeatable n l f g e
+  like_repeatable (leaf l) f g e = same_repeatable μ l f g e
   like_repeatable _ f g e = refl
 
   room_none : (i : Here) → i.flags.oniguruma_mode ≡ false → room Whole i ≡ 0
@@ -42,10 +43,10 @@ module _ (n : ℕ) where
 
   repeated_is : (possessive : Bool) (t : Tree) (lo hi : ℕ) (greedy : Bool) (i : Here) →
       i.flags.oniguruma_mode ≡ false →
-      repeated possessive t lo hi greedy (written (m n) t) Whole i
-      ≡ written (m n) t (Operand zero) i ++ quantifier_text i.flags possessive false lo hi greedy
+      repeated possessive t lo hi greedy (written μ t) Whole i
+      ≡ written μ t (Operand zero) i ++ quantifier_text i.flags possessive false lo hi greedy
   repeated_is possessive t lo hi greedy i o =
-      ap (λ k. written (m n) t (Operand k) i
+      ap (λ k. written μ t (Operand k) i
       ++ quantifier_text i.flags possessive (nat_lt 0 k && is_quantified i.flags t) lo hi greedy) (room_none i o)
 
   plain_scope_at : (d : ℕ) (f : Flags) (u : Text) → d + 1 < max_depth →
@@ -57,42 +58,43 @@ module _ (n : ℕ) where
   module _ (t : Tree) (lo hi : ℕ) (greedy : Bool) (low : lo < 2 ^ 64) (high : hi < 2 ^ 64) where
     -- an atom and its quantifier, where no flag is to be set
     module _ (possessive : Bool) (i : Here) (o : i.flags.oniguruma_mode ≡ false)
-        (rep : is_repeatable i.flags t ≡ true) (none : settled i.flags t ≡ i.flags) (r : ReadsTree n t i) where
+        (rep : is_repeatable i.flags t ≡ true) (none : settled i.flags t ≡ i.flags) (r : ReadsTree μ t i) where
       abbrev mark : Text
       mark = quantifier_text i.flags possessive false lo hi greedy
 
-      quantified_begins : BeginsHere i (repeated possessive t lo hi greedy (written (m n) t) Whole i)
+      quantified_begins : BeginsHere i (repeated possessive t lo hi greedy (written μ t) Whole i)
       quantified_begins v =
           subst (λ w. Begins i.flags.ignore_space (w ++ v)) (sym (repeated_is possessive t lo hi greedy i o))
-          (subst (Begins i.flags.ignore_space) (sym (append_assoc (written (m n) t (Operand zero) i) mark v))
+          (subst (Begins i.flags.ignore_space) (sym (append_assoc (written μ t (Operand zero) i) mark v))
           (r.atom_begins rep (mark ++ v)))
 
-      quantified_leads : LeadsTo (quantified_tree possessive t lo hi greedy) i
-          (repeated possessive t lo hi greedy (written (m n) t) Whole i)
-      quantified_leads v w k ys c q =
+      quantified_leads : LeadsTo μ (quantified_tree possessive t lo hi greedy) i
+          (repeated possessive t lo hi greedy (written μ t) Whole i)
+      quantified_leads v w k ys c y q =
           let counted = text_counted i.flags possessive lo hi greedy v o low high in
           let x = quantified_tree possessive t lo hi greedy in
-          let s = written (m n) t (Operand zero) i in
-          subst (λ z. Rest i (z ++ v) k w (x ∷ ys)) (sym (repeated_is possessive t lo hi greedy i o))
-          (subst (λ z. Rest i z k w (x ∷ ys)) (sym (append_assoc s mark v))
-          (lead_quantified i (s ++ (mark ++ v)) (mark ++ v) v w k t ys possessive lo hi greedy o
-          (r.atom_begins rep (mark ++ v)) c rep counted (r.atom rep none (mark ++ v) counted.no_name)
-          (subst (λ n. Rest (past_groups n i) v k w ys) (same_count possessive t lo hi greedy) q)))
+          let s = written μ t (Operand zero) i in
+          subst (λ z. Rest μ i (z ++ v) k w (x ∷ ys)) (sym (repeated_is possessive t lo hi greedy i o))
+          (subst (λ z. Rest μ i z k w (x ∷ ys)) (sym (append_assoc s mark v))
+          (lead_quantified μ i (s ++ (mark ++ v)) (mark ++ v) v w k t ys possessive lo hi greedy o
+          (r.atom_begins rep (mark ++ v)) c rep counted
+          (r.atom rep none (mark ++ v) counted.no_name (λ _. counted.no_digit))
+          (subst (λ n. Rest μ (past_groups n i) v k w ys) (same_count possessive t lo hi greedy) q)))
 
     -- a Repeat is all that stands in a group
     repeat_whole : (i : Here) (o : i.flags.oniguruma_mode ≡ false) (rep : is_repeatable i.flags t ≡ true)
-        (none : settled i.flags t ≡ i.flags) (r : ReadsTree n t i) (v : Text) → Ends i.flags.ignore_space v →
-        WholeAt i (repeated false t lo hi greedy (written (m n) t) Whole i ++ v) i.flags v
+        (none : settled i.flags t ≡ i.flags) (r : ReadsTree μ t i) (v : Text) → Ends i.flags.ignore_space v →
+        WholeAt μ i (repeated false t lo hi greedy (written μ t) Whole i ++ v) i.flags v
         (over (label.repeat lo hi greedy) t)
     repeat_whole i o rep none r v e =
         let x = over (label.repeat lo hi greedy) t in
-        reads_only i _ v i.flags x
-        (one_branch x i refl (repeated false t lo hi greedy (written (m n) t) Whole i) i.flags
+        reads_only μ i _ v i.flags x
+        (one_branch μ x i refl (repeated false t lo hi greedy (written μ t) Whole i) i.flags
         (quantified_leads false i o rep none r) v e.stops refl) e.no_bar
 
     module _ (h : Here) (o : h.flags.oniguruma_mode ≡ false) (d : h.depth + 1 < max_depth)
-        (rep : is_repeatable h.flags t ≡ true) (r : ReadsTree n t (under (settled h.flags t) h))
-        (r1 : ReadsTree n t (deeper (under (settled h.flags t) h))) where
+        (rep : is_repeatable h.flags t ≡ true) (r : ReadsTree μ t (under (settled h.flags t) h))
+        (r1 : ReadsTree μ t (deeper (under (settled h.flags t) h))) where
       abbrev here : Here
       here = under (settled h.flags t) h
 
@@ -101,54 +103,55 @@ module _ (n : ℕ) where
 
       -- in parentheses, behind a head
       abbrev in_head : Text → Text
-      in_head head = in_parens head (repeated false t lo hi greedy (written (m n) t) Whole) here
+      in_head head = in_parens head (repeated false t lo hi greedy (written μ t) Whole) here
 
       -- the text of it as an operand, where no flag is to be set
-      operand : (x : Tree) (s : Text) → is_empty x ≡ false → settled h.flags x ≡ settled h.flags t → AtomHere x here s →
-          settled h.flags x ≡ h.flags → AtomHere x h (setting h.flags (settled h.flags t) ++ s)
-      operand x s solid same a u v k =
+      operand : (x : Tree) (s : Text) → is_empty x ≡ false → settled h.flags x ≡ settled h.flags t →
+          AtomHere μ x here s →
+          settled h.flags x ≡ h.flags → AtomHere μ x h (setting h.flags (settled h.flags t) ++ s)
+      operand x s solid same a u v k y =
           let e = sym same ∙ u in
-          subst (λ w. AtomAt h w v x)
+          subst (λ w. AtomAt μ h w v x)
           (sym (ap (λ f. (setting h.flags f ++ s) ++ v) e ∙ ap (λ w. (w ++ s) ++ v) (no_setting h.flags)))
-          (subst (λ f. AtomAt (under f h) (s ++ v) v x) e (a v k))
+          (subst (λ f. AtomAt μ (under f h) (s ++ v) v x) e (a v k y))
 
-      pub repeat_reads : ReadsTree n (over (label.repeat lo hi greedy) t) h
+      pub repeat_reads : ReadsTree μ (over (label.repeat lo hi greedy) t) h
       repeat_reads =
           let x = over (label.repeat lo hi greedy) t in
           let again = settled_again h.flags t in
-          let inside = λ (v : Text). repeated false t lo hi greedy (written (m n) t) Whole (deeper here) ++ code ")" ∷ v in
-          let same = parens_text (codes "?:") (repeated false t lo hi greedy (written (m n) t) Whole) here in
-          by_piece x h o d refl (repeated false t lo hi greedy (written (m n) t) Whole here)
+          let inside = λ (v : Text). repeated false t lo hi greedy (written μ t) Whole (deeper here) ++ code ")" ∷ v in
+          let same = parens_text (codes "?:") (repeated false t lo hi greedy (written μ t) Whole) here in
+          by_piece μ x h o d refl (repeated false t lo hi greedy (written μ t) Whole here)
           (setting h.flags (settled h.flags t) ++ in_head (codes "?:"))
           (quantified_begins false here o repeatable_here again r) (quantified_leads false here o repeatable_here again r)
           refl
-          (λ _. set_begins x h o d refl (in_head (codes "?:"))
+          (λ _. set_begins μ x h o d refl (in_head (codes "?:"))
           (λ v. subst (Begins h.flags.ignore_space) (sym (same v))
           (begins_by h.flags.ignore_space (code "(") _ refl refl refl refl)))
           (λ _. operand x (in_head (codes "?:")) refl refl
-          (λ v k. subst (λ w. AtomAt here w v x) (sym (same v))
-          (reads_scope here here.flags here.flags _ (inside v) v x (plain_scope_at h.depth here.flags (inside v) d)
+          (λ v k _. subst (λ w. AtomAt μ here w v x) (sym (same v))
+          (reads_scope μ here here.flags here.flags _ (inside v) v x (plain_scope_at h.depth here.flags (inside v) d)
           (repeat_whole (deeper here) o repeatable_here again r1 (code ")" ∷ v) (ends_close h.flags.ignore_space v)))))
 
       -- a possessive quantifier
-      pub possessive_reads : ReadsTree n (over label.atomic_group (over (label.repeat lo hi greedy) t)) h
+      pub possessive_reads : ReadsTree μ (over label.atomic_group (over (label.repeat lo hi greedy) t)) h
       possessive_reads =
           let x = over label.atomic_group (over (label.repeat lo hi greedy) t) in
           let again = settled_again h.flags t in
-          let inside = λ (v : Text). repeated false t lo hi greedy (written (m n) t) Whole (deeper here) ++ code ")" ∷ v in
-          let same = parens_text (codes "?>") (repeated false t lo hi greedy (written (m n) t) Whole) here in
-          let text = repeated true t lo hi greedy (written (m n) t) Whole here in
+          let inside = λ (v : Text). repeated false t lo hi greedy (written μ t) Whole (deeper here) ++ code ")" ∷ v in
+          let same = parens_text (codes "?>") (repeated false t lo hi greedy (written μ t) Whole) here in
+          let text = repeated true t lo hi greedy (written μ t) Whole here in
           let s = if not (is_possessive here.flags lo hi) then in_head (codes "?>") else text in
           let is : s ≡ text = cond-false _ _ _ (ap (λ b. not (not b || nat_lt lo hi)) o) in
-          by_piece x h o d refl s (setting h.flags (settled h.flags t) ++ in_head (codes "?>"))
+          by_piece μ x h o d refl s (setting h.flags (settled h.flags t) ++ in_head (codes "?>"))
           (subst (BeginsHere here) (sym is) (quantified_begins true here o repeatable_here again r))
-          (subst (LeadsTo x here) (sym is) (quantified_leads true here o repeatable_here again r))
+          (subst (LeadsTo μ x here) (sym is) (quantified_leads true here o repeatable_here again r))
           refl
-          (λ _. set_begins x h o d refl (in_head (codes "?>"))
+          (λ _. set_begins μ x h o d refl (in_head (codes "?>"))
           (λ v. subst (Begins h.flags.ignore_space) (sym (same v))
           (begins_by h.flags.ignore_space (code "(") _ refl refl refl refl)))
           (λ _. operand x (in_head (codes "?>")) refl refl
-          (λ v k. subst (λ w. AtomAt here w v x) (sym (same v))
-          (reads_atomic here here.flags _ (inside v) v (over (label.repeat lo hi greedy) t)
+          (λ v k _. subst (λ w. AtomAt μ here w v x) (sym (same v))
+          (reads_atomic μ here here.flags _ (inside v) v (over (label.repeat lo hi greedy) t)
           (question_at h.depth here.flags (codes ">" ++ inside v) d)
           (repeat_whole (deeper here) o repeatable_here again r1 (code ")" ∷ v) (ends_close h.flags.ignore_space v)))))

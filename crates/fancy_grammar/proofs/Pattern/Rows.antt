@@ -1,41 +1,45 @@
 -- A Concat, and an Alt, read back where the trees below them do.
-use Rattle.std.proofs.Common.{◌≡◌, ℕ, ◌+◌, ◌<◌, Bool, false, [], ◌∷◌, ◌++◌}
-use Rattle.std.proofs.Common.{refl, sym, ap, ◌∙◌, subst, arith, append_assoc}
+use Rattle.std.proofs.Common.{◌≡◌, ◌+◌, ◌<◌, Bool, false, [], ◌∷◌, ◌++◌}
+use Rattle.std.proofs.Common.{refl, sym, ap, ◌∙◌, subst, arith, append_assoc, ℕ, codes, true, if◌then◌else◌}
 use Prim.Native.Char.{code}
 use Rattle.fancy_lex.specs.Text.{Text}
 use Rattle.fancy_lex.specs.declared.flags.Flags.{Flags}
 use Rattle.fancy_grammar.specs.Depth.{max_depth}
 use Rattle.fancy_grammar.specs.Join.{is_empty, one_or, choice}
 use Rattle.fancy_grammar.specs.Label as label
+use Rattle.fancy_grammar.specs.Marks.{Marks}
 use Rattle.fancy_grammar.specs.Pattern.{Here, behind, flags_behind, flags_behind_all, written}
-use Rattle.fancy_grammar.specs.Pattern.{written_all, written_branches, written_barred, is_in_digits}
+use Rattle.fancy_grammar.specs.Pattern.{written_all, written_branches, written_barred, is_in_digits, group_count}
 use Rattle.fancy_grammar.specs.PatternNeeds.{settled}
-use Rattle.fancy_grammar.specs.Tree.{Tree, leaf, row, Trees, no_trees, more_trees, levels, levels_all, list_of}
+use Rattle.fancy_grammar.specs.Tree.{Tree, row, Trees, no_trees, more_trees, levels, levels_all, list_of}
 use Rattle.fancy_grammar.specs.Tree.{concat}
 use Rattle.fancy_grammar.specs.Tree.{trees_of}
-use Rattle.fancy_grammar.specs.Writable.{IsLike}
+use Rattle.fancy_grammar.specs.Writable.{IsLike, IsParted}
 use Rattle.fancy_grammar.specs.declared.precedence.Precedence.TheVariants.{Branch, Piece}
 use Rattle.fancy_grammar.proofs.NeedsLemmas.{listed}
-use Rattle.fancy_grammar.proofs.Pattern.Cases.{m, ReadsTree}
+use Rattle.fancy_grammar.proofs.Pattern.Cases.{ReadsTree}
 use Rattle.fancy_grammar.proofs.Pattern.Groups.{inner}
 use Rattle.fancy_grammar.proofs.Pattern.Induction.{by_branch, by_whole}
 use Rattle.fancy_grammar.proofs.Pattern.Needed.{like_behind}
 use Rattle.fancy_grammar.proofs.Pattern.Rules.{Clear, Begins, Stops, Ends, stops_bar, BranchAt, BranchesAt, WholeAt}
-use Rattle.fancy_grammar.proofs.Pattern.Rules.{Rest, no_more}
+use Rattle.fancy_grammar.proofs.Pattern.Rules.{Rest, no_more, ends_no_digit}
 use Rattle.fancy_grammar.proofs.Pattern.Rules.{reads_branch, reads_last, reads_more, reads_whole, reads_only}
+use Rattle.fancy_lex.specs.Number.{at_digit}
 
-module _ (n : ℕ) (f : Flags) (mode : f.oniguruma_mode ≡ false) where
-  -- the tree reads back wherever it stands, less deep than it has levels to spare
-  abbrev pub Everywhere : Tree → Type 0
-  Everywhere t = (h : Here) → IsLike f h.flags → h.depth + levels t < max_depth → ReadsTree n t h
+module _ (μ : Marks) (f : Flags) (mode : f.oniguruma_mode ≡ false) where
+  -- behind the openings of c groups the tree reads back wherever it stands, less deep than it has levels to spare
+  abbrev pub Everywhere : ℕ → Tree → Type 0
+  Everywhere c t =
+      (h : Here) → h.opened ≡ c → IsLike f h.flags → h.depth + levels t < max_depth → ReadsTree μ t h
 
-  abbrev pub EachPiece : Trees → Type 0
-  EachPiece no_trees = Unit {0}
-  EachPiece (more_trees t ts) = Everywhere t × (is_empty t ≡ false) × EachPiece ts
+  abbrev pub EachPiece : ℕ → Trees → Type 0
+  EachPiece c no_trees = Unit {0}
+  EachPiece c (more_trees t ts) =
+      Everywhere c t × (is_empty t ≡ false) × IsParted μ t ts × EachPiece (c + group_count t) ts
 
-  abbrev pub EachBranch : Trees → Type 0
-  EachBranch no_trees = Unit {0}
-  EachBranch (more_trees t ts) = Everywhere t × EachBranch ts
+  abbrev pub EachBranch : ℕ → Trees → Type 0
+  EachBranch c no_trees = Unit {0}
+  EachBranch c (more_trees t ts) = Everywhere c t × EachBranch (c + group_count t) ts
 
   pub same_mode : (g : Flags) → IsLike f g → g.oniguruma_mode ≡ false
   same_mode g e = ap (λ k. k.oniguruma_mode) e ∙ mode
@@ -46,129 +50,149 @@ module _ (n : ℕ) (f : Flags) (mode : f.oniguruma_mode ≡ false) where
 
   -- ---- pieces
 
-  not_digits : (t : Tree) → is_in_digits (m n) t ≡ false
-  not_digits (leaf (label.backref k casei)) = refl
-  not_digits _ = refl
+  -- where no digit follows, nothing parts it from a reference in digits
+  front_digit : (s v : Text) → at_digit (s ++ v) ≡ false → at_digit s ≡ false
+  front_digit [] v h = refl
+  front_digit (c ∷ s) v h = h
+
+  both_digit : (s v : Text) → at_digit s ≡ false → at_digit v ≡ false → at_digit (s ++ v) ≡ false
+  both_digit [] v h k = k
+  both_digit (c ∷ s) v h k = h
+
+  unparted : (b : Bool) (ts : Trees) (h : Here) → (b ≡ true → at_digit (written_all μ false ts h) ≡ false) →
+      written_all μ b ts h ≡ written_all μ false ts h
+  unparted b no_trees h k = refl
+  unparted false (more_trees t ts) h k = refl
+  unparted true (more_trees t ts) h k =
+      let s = written μ t Piece h in
+      let v = written_all μ (is_in_digits μ t) ts (behind t Piece h) in
+      ap (λ b. (if b then codes "(?#)" ++ s else s) ++ v) (front_digit s v (k refl))
 
   -- the first of some pieces, before the others
-  pieces_text : (t : Tree) (ts : Trees) (h : Here) (v : Text) →
-      written_all (m n) false (more_trees t ts) h ++ v
-      ≡ written (m n) t Piece h ++ (written_all (m n) false ts (behind t Piece h) ++ v)
-  pieces_text t ts h v =
-      ap (λ b. (written (m n) t Piece h ++ written_all (m n) b ts (behind t Piece h)) ++ v) (not_digits t)
-      ∙ append_assoc (written (m n) t Piece h) (written_all (m n) false ts (behind t Piece h)) v
+  pieces_text : (t : Tree) (ts : Trees) → IsParted μ t ts → (h : Here) (v : Text) →
+      written_all μ false (more_trees t ts) h ++ v
+      ≡ written μ t Piece h ++ (written_all μ false ts (behind t Piece h) ++ v)
+  pieces_text t ts k h v =
+      ap (λ z. (written μ t Piece h ++ z) ++ v)
+      (unparted (is_in_digits μ t) ts (behind t Piece h) (λ e. k e (behind t Piece h)))
+      ∙ append_assoc (written μ t Piece h) (written_all μ false ts (behind t Piece h)) v
 
   like_next : (t : Tree) (h : Here) → IsLike f h.flags → IsLike f (behind t Piece h).flags
   like_next t h e = like_behind t Piece f h.flags e
 
-  pieces_begin : (t : Tree) (ts : Trees) → EachPiece (more_trees t ts) → (h : Here) → IsLike f h.flags →
+  pieces_begin : (t : Tree) (ts : Trees) (h : Here) → EachPiece h.opened (more_trees t ts) →
+      IsLike f h.flags →
       h.depth + levels_all (more_trees t ts) < max_depth → (v : Text) →
-      Begins h.flags.ignore_space (written_all (m n) false (more_trees t ts) h ++ v)
-  pieces_begin t ts k h e d v =
-      subst (Begins h.flags.ignore_space) (sym (pieces_text t ts h v))
-      ((k.0 h e (omega arith)).begins k.1 (written_all (m n) false ts (behind t Piece h) ++ v))
+      Begins h.flags.ignore_space (written_all μ false (more_trees t ts) h ++ v)
+  pieces_begin t ts h k e d v =
+      subst (Begins h.flags.ignore_space) (sym (pieces_text t ts k.2 h v))
+      ((k.0 h refl e (omega arith)).begins k.1 (written_all μ false ts (behind t Piece h) ++ v))
 
-  pieces_clear : (ts : Trees) → EachPiece ts → (h : Here) → IsLike f h.flags → h.depth + levels_all ts < max_depth →
-      (v : Text) → Clear h.flags.ignore_space v → Clear h.flags.ignore_space (written_all (m n) false ts h ++ v)
-  pieces_clear no_trees k h e d v c = c
-  pieces_clear (more_trees t ts) k h e d v c = (pieces_begin t ts k h e d v).clear
+  pieces_clear : (ts : Trees) (h : Here) → EachPiece h.opened ts → IsLike f h.flags →
+      h.depth + levels_all ts < max_depth →
+      (v : Text) → Clear h.flags.ignore_space v → Clear h.flags.ignore_space (written_all μ false ts h ++ v)
+  pieces_clear no_trees h k e d v c = c
+  pieces_clear (more_trees t ts) h k e d v c = (pieces_begin t ts h k e d v).clear
 
-  pieces_rest : (ts : Trees) → EachPiece ts → (h : Here) → IsLike f h.flags → h.depth + levels_all ts < max_depth →
+  pieces_rest : (ts : Trees) (h : Here) → EachPiece h.opened ts → IsLike f h.flags →
+      h.depth + levels_all ts < max_depth →
       (v : Text) → Stops h.flags.ignore_space v →
-      Rest h (written_all (m n) false ts h ++ v) (flags_behind_all ts Piece h.flags) v (list_of ts)
-  pieces_rest no_trees k h e d v i = no_more h v i
-  pieces_rest (more_trees t ts) k h e d v i =
+      Rest μ h (written_all μ false ts h ++ v) (flags_behind_all ts Piece h.flags) v (list_of ts)
+  pieces_rest no_trees h k e d v i = no_more μ h v i
+  pieces_rest (more_trees t ts) h k e d v i =
       let j = behind t Piece h in
       let next = like_next t h e in
       let same : h.flags.ignore_space ≡ j.flags.ignore_space = same_space h.flags j.flags e next in
       let i2 = subst (λ x. Stops x v) same i in
-      let u = written_all (m n) false ts j ++ v in
-      let c = subst (λ x. Clear x u) (sym same) (pieces_clear ts k.2 j next (omega arith) v i2.clear) in
-      subst (λ z. Rest h z (flags_behind_all ts Piece j.flags) v (t ∷ list_of ts)) (sym (pieces_text t ts h v))
-      ((k.0 h e (omega arith)).piece k.1 u v (flags_behind_all ts Piece j.flags) (list_of ts) c
-      (pieces_rest ts k.2 j next (omega arith) v i2))
+      let u = written_all μ false ts j ++ v in
+      let c = subst (λ x. Clear x u) (sym same) (pieces_clear ts j k.3 next (omega arith) v i2.clear) in
+      subst (λ z. Rest μ h z (flags_behind_all ts Piece j.flags) v (t ∷ list_of ts)) (sym (pieces_text t ts k.2 h v))
+      ((k.0 h refl e (omega arith)).piece k.1 u v (flags_behind_all ts Piece j.flags) (list_of ts) c
+      (λ y. both_digit (written_all μ false ts j) v (k.2 y j) (ends_no_digit v i.ends))
+      (pieces_rest ts j k.3 next (omega arith) v i2))
 
   two_listed : (t u : Tree) (ts : Trees) → trees_of (list_of (more_trees t (more_trees u ts))) ≡ more_trees t (more_trees u ts)
   two_listed t u ts = listed (more_trees t (more_trees u ts))
 
-  pub concat_reads : (t u : Tree) (us : Trees) → EachPiece (more_trees t (more_trees u us)) → (h : Here) →
+  pub concat_reads : (t u : Tree) (us : Trees) (h : Here) →
+      EachPiece h.opened (more_trees t (more_trees u us)) →
       IsLike f h.flags → h.depth + levels (row label.concat (more_trees t (more_trees u us))) < max_depth →
-      ReadsTree n (row label.concat (more_trees t (more_trees u us))) h
-  concat_reads t u us k h e d =
+      ReadsTree μ (row label.concat (more_trees t (more_trees u us))) h
+  concat_reads t u us h k e d =
       let ts = more_trees t (more_trees u us) in
       let x = row label.concat ts in
       let j = inner (settled h.flags x) h in
       let is : one_or concat (list_of ts) ≡ x = ap (row label.concat) (two_listed t u us) in
-      by_branch x h (same_mode h.flags e) (omega arith) refl (written_all (m n) false ts h) (written_all (m n) false ts j)
+      by_branch μ x h (same_mode h.flags e) (omega arith) refl (written_all μ false ts h) (written_all μ false ts j)
       (flags_behind_all ts Piece h.flags) (flags_behind_all ts Piece j.flags) (list_of ts) is
-      (pieces_begin t (more_trees u us) k h e (omega arith)) (pieces_rest ts k h e (omega arith))
-      (λ v i. reads_only j _ v (flags_behind_all ts Piece j.flags) x
-      (subst (BranchAt j (written_all (m n) false ts j ++ v) (flags_behind_all ts Piece j.flags) v) is
-      (reads_branch j _ v (flags_behind_all ts Piece j.flags) (list_of ts)
-      (pieces_rest ts k j e (omega arith) v i.stops))) i.no_bar)
+      (pieces_begin t (more_trees u us) h k e (omega arith)) (pieces_rest ts h k e (omega arith))
+      (λ v i. reads_only μ j _ v (flags_behind_all ts Piece j.flags) x
+      (subst (BranchAt μ j (written_all μ false ts j ++ v) (flags_behind_all ts Piece j.flags) v) is
+      (reads_branch μ j _ v (flags_behind_all ts Piece j.flags) (list_of ts)
+      (pieces_rest ts j k e (omega arith) v i.stops))) i.no_bar)
       refl
 
   -- ---- branches
 
   branches_text : (t : Tree) (ts : Trees) (h : Here) (v : Text) →
-      written_branches (m n) (more_trees t ts) h ++ v
-      ≡ written (m n) t Branch h ++ (written_barred (m n) ts (behind t Branch h) ++ v)
-  branches_text t ts h v = append_assoc (written (m n) t Branch h) (written_barred (m n) ts (behind t Branch h)) v
+      written_branches μ (more_trees t ts) h ++ v
+      ≡ written μ t Branch h ++ (written_barred μ ts (behind t Branch h) ++ v)
+  branches_text t ts h v = append_assoc (written μ t Branch h) (written_barred μ ts (behind t Branch h)) v
 
-  barred_clear : (x : Bool) (ts : Trees) (h : Here) (v : Text) → Clear x v → Clear x (written_barred (m n) ts h ++ v)
+  barred_clear : (x : Bool) (ts : Trees) (h : Here) (v : Text) → Clear x v → Clear x (written_barred μ ts h ++ v)
   barred_clear x no_trees h v c = c
   barred_clear x (more_trees t ts) h v c = (stops_bar x _).clear
 
-  branches_clear : (t : Tree) (ts : Trees) → EachBranch (more_trees t ts) → (h : Here) → IsLike f h.flags →
+  branches_clear : (t : Tree) (ts : Trees) (h : Here) → EachBranch h.opened (more_trees t ts) → IsLike f h.flags →
       h.depth + levels_all (more_trees t ts) < max_depth → (v : Text) → Clear h.flags.ignore_space v →
-      Clear h.flags.ignore_space (written_branches (m n) (more_trees t ts) h ++ v)
-  branches_clear t ts k h e d v c =
+      Clear h.flags.ignore_space (written_branches μ (more_trees t ts) h ++ v)
+  branches_clear t ts h k e d v c =
       subst (Clear h.flags.ignore_space) (sym (branches_text t ts h v))
-      ((k.0 h e (omega arith)).branch_clear (written_barred (m n) ts (behind t Branch h) ++ v)
+      ((k.0 h refl e (omega arith)).branch_clear (written_barred μ ts (behind t Branch h) ++ v)
       (barred_clear h.flags.ignore_space ts (behind t Branch h) v c))
 
-  branches_at : (ts : Trees) (t : Tree) → EachBranch (more_trees t ts) → (h : Here) → IsLike f h.flags →
+  branches_at : (ts : Trees) (t : Tree) (h : Here) → EachBranch h.opened (more_trees t ts) → IsLike f h.flags →
       h.depth + levels_all (more_trees t ts) < max_depth → (v : Text) → Ends h.flags.ignore_space v →
-      BranchesAt h (written_branches (m n) (more_trees t ts) h ++ v) (flags_behind_all (more_trees t ts) Branch h.flags) v
+      BranchesAt μ h (written_branches μ (more_trees t ts) h ++ v) (flags_behind_all (more_trees t ts) Branch h.flags) v
       (t ∷ list_of ts)
-  branches_at no_trees t k h e d v i =
-      subst (λ z. BranchesAt h z (flags_behind t Branch h.flags) v (t ∷ [])) (sym (branches_text t no_trees h v))
-      (reads_last h (written (m n) t Branch h ++ v) v (flags_behind t Branch h.flags) t
-      ((k.0 h e (omega arith)).branch v i.stops) i.no_bar)
-  branches_at (more_trees u us) t k h e d v i =
+  branches_at no_trees t h k e d v i =
+      subst (λ z. BranchesAt μ h z (flags_behind t Branch h.flags) v (t ∷ [])) (sym (branches_text t no_trees h v))
+      (reads_last μ h (written μ t Branch h ++ v) v (flags_behind t Branch h.flags) t
+      ((k.0 h refl e (omega arith)).branch v i.stops) i.no_bar)
+  branches_at (more_trees u us) t h k e d v i =
       let j = behind t Branch h in
       let next = like_behind t Branch f h.flags e in
       let same : h.flags.ignore_space ≡ j.flags.ignore_space = same_space h.flags j.flags e next in
-      let w = written_branches (m n) (more_trees u us) j ++ v in
+      let w = written_branches μ (more_trees u us) j ++ v in
       let g = flags_behind_all (more_trees u us) Branch j.flags in
-      subst (λ z. BranchesAt h z g v (t ∷ u ∷ list_of us)) (sym (branches_text t (more_trees u us) h v))
-      (reads_more h (written (m n) t Branch h ++ code "|" ∷ w) w v (flags_behind t Branch h.flags) g t (u ∷ list_of us)
-      ((k.0 h e (omega arith)).branch (code "|" ∷ w) (stops_bar h.flags.ignore_space w))
-      (branches_at us u k.1 j next (omega arith) v (subst (λ x. Ends x v) same i)))
+      subst (λ z. BranchesAt μ h z g v (t ∷ u ∷ list_of us)) (sym (branches_text t (more_trees u us) h v))
+      (reads_more μ h (written μ t Branch h ++ code "|" ∷ w) w v (flags_behind t Branch h.flags) g t (u ∷ list_of us)
+      ((k.0 h refl e (omega arith)).branch (code "|" ∷ w) (stops_bar h.flags.ignore_space w))
+      (branches_at us u j k.1 next (omega arith) v (subst (λ x. Ends x v) same i)))
 
-  alt_whole : (t u : Tree) (us : Trees) → EachBranch (more_trees t (more_trees u us)) → (h : Here) →
+  alt_whole : (t u : Tree) (us : Trees) (h : Here) → EachBranch h.opened (more_trees t (more_trees u us)) →
       IsLike f h.flags → h.depth + levels_all (more_trees t (more_trees u us)) < max_depth → (v : Text) →
       Ends h.flags.ignore_space v →
-      WholeAt h (written_branches (m n) (more_trees t (more_trees u us)) h ++ v)
+      WholeAt μ h (written_branches μ (more_trees t (more_trees u us)) h ++ v)
       (flags_behind_all (more_trees t (more_trees u us)) Branch h.flags) v
       (row label.alt (more_trees t (more_trees u us)))
-  alt_whole t u us k h e d v i =
+  alt_whole t u us h k e d v i =
       let ts = more_trees t (more_trees u us) in
       let g = flags_behind_all ts Branch h.flags in
       let is : choice (list_of ts) ≡ row label.alt ts = ap (row label.alt) (two_listed t u us) in
-      subst (WholeAt h (written_branches (m n) ts h ++ v) g v) is
-      (reads_whole h (written_branches (m n) ts h ++ v) v g (list_of ts) (branches_at (more_trees u us) t k h e d v i))
+      subst (WholeAt μ h (written_branches μ ts h ++ v) g v) is
+      (reads_whole μ h (written_branches μ ts h ++ v) v g (list_of ts) (branches_at (more_trees u us) t h k e d v i))
 
-  pub alt_reads : (t u : Tree) (us : Trees) → EachBranch (more_trees t (more_trees u us)) → (h : Here) →
+  pub alt_reads : (t u : Tree) (us : Trees) (h : Here) → EachBranch h.opened (more_trees t (more_trees u us)) →
       IsLike f h.flags → h.depth + levels (row label.alt (more_trees t (more_trees u us))) < max_depth →
-      ReadsTree n (row label.alt (more_trees t (more_trees u us))) h
-  alt_reads t u us k h e d =
+      ReadsTree μ (row label.alt (more_trees t (more_trees u us))) h
+  alt_reads t u us h k e d =
       let ts = more_trees t (more_trees u us) in
       let x = row label.alt ts in
       let j = inner (settled h.flags x) h in
-      by_whole x h (same_mode h.flags e) (omega arith) refl (written_branches (m n) ts h) (written_branches (m n) ts j)
+      by_whole μ x h (same_mode h.flags e) (omega arith) refl (written_branches μ ts h) (written_branches μ ts j)
       (flags_behind_all ts Branch h.flags) (flags_behind_all ts Branch j.flags)
-      (branches_clear t (more_trees u us) k h e (omega arith))
-      (alt_whole t u us k h e (omega arith))
-      (alt_whole t u us k j e (omega arith))
+      (branches_clear t (more_trees u us) h k e (omega arith))
+      (alt_whole t u us h k e (omega arith))
+      (alt_whole t u us j k e (omega arith))
       refl

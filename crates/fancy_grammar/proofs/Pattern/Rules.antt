@@ -1,14 +1,17 @@
 -- What the grammar's rules read outside Oniguruma mode, under flags that change along the text.
-use Rattle.std.proofs.Common.{◌≡◌, ℕ, ◌+◌, Bool, true, false, ◌==◌, List, []}
-use Rattle.std.proofs.Common.{◌∷◌, None, is_some, refl, ap, ◌∙◌, if◌then◌else◌}
+use Rattle.std.proofs.Common.{◌≡◌, ℕ, Bool, true, false, ◌==◌, List, []}
+use Rattle.std.proofs.Common.{◌∷◌, None, is_some, refl, ap, ◌∙◌, if◌then◌else◌, codes, ◌+◌, arith}
 use Rattle.std.proofs.lemmas.Bool.{cond-false, or_parts}
+use Rattle.std.proofs.lemmas.Bool.Decides.{nat_tests}
 use Prim.Native.Char.{code}
 use Rattle.fancy_lex.specs.Characters.{bar, hash}
 use Rattle.fancy_lex.specs.Layout.{is_blank}
 use Rattle.fancy_lex.specs.LayoutSteps.{layout, after_comment_head, is_layout, layout_from, rest}
+use Rattle.fancy_lex.specs.Number.{at_digit}
 use Rattle.fancy_lex.specs.Text.{Text, bytes, strip}
 use Rattle.fancy_lex.specs.declared.flags.Flags.{Flags}
 use Rattle.fancy_lex.proofs.LayoutLemmas.{between_step}
+use Rattle.fancy_lex.proofs.LeaveLaws.{ends_twice}
 use Rattle.fancy_parts.specs.Quantifier.{counts}
 use Rattle.fancy_grammar.specs.State as states
 use Rattle.fancy_grammar.specs.Grammar.{Alternation, alternation, Branches, last, more, Branch, branch, Pieces, stop}
@@ -16,7 +19,8 @@ use Rattle.fancy_grammar.specs.Grammar.{next}
 use Rattle.fancy_grammar.specs.Grammar.{Piece, Atom}
 use Rattle.fancy_grammar.specs.Join.{is_empty, solid, one_or, join, choice}
 use Rattle.fancy_grammar.specs.Label as label
-use Rattle.fancy_grammar.specs.Pattern.{Here, under, past_groups, group_count}
+use Rattle.fancy_grammar.specs.Marks.{Marks}
+use Rattle.fancy_grammar.specs.Pattern.{Here, under, past_groups, group_count, is_in_digits}
 use Rattle.fancy_grammar.specs.Quantified as quantified
 use Rattle.fancy_grammar.specs.Quantified.{quant, quant_at, quants}
 use Rattle.fancy_grammar.specs.State.{done}
@@ -24,7 +28,9 @@ use Rattle.fancy_grammar.specs.Tree.{Tree, empty, concat}
 use Rattle.fancy_grammar.proofs.OutcomeLemmas.{piece_as}
 use Rattle.fancy_grammar.proofs.ReadBack.ClearLemmas.{begins_mark, no_layout, no_mark_is}
 use Rattle.fancy_grammar.proofs.ReadBack.RuleLemmas.{st}
-use Rattle.fancy_grammar.proofs.Pattern.Becomes.{Becomes, EachBecomes, one_becomes, solid_also}
+use Rattle.fancy_grammar.proofs.Pattern.Becomes.{Becomes, EachBecomes, one_becomes, solid_also, each_in_longer}
+use Rattle.fancy_grammar.proofs.ReadLaws.{piece_read, atom_read, branch_read}
+use Rattle.fancy_grammar.proofs.Slices.{to_ends}
 
 -- ---- how a text begins
 
@@ -86,6 +92,14 @@ ends_nothing x = record {
   no_bar = refl;
 }
 
+pub ends_no_digit : (v : Text) → states.ends v ≡ true → at_digit v ≡ false
+ends_no_digit [] h = refl
+ends_no_digit (c ∷ t) h = grind (arith, nat_tests)
+
+-- no digit follows a reference in digits
+abbrev pub Follows : Marks → Tree → Text → Type 0
+Follows μ t v = is_in_digits μ t ≡ true → at_digit v ≡ false
+
 no_counts : (x : Bool) (s : Text) → begins_mark s ≡ false → counts x s ≡ None
 unfolding counts
 no_counts x [] h = refl
@@ -109,34 +123,34 @@ no_brace (c ∷ s) h = rw ((no_mark_is c h).brace) refl
 
 -- ---- what the text from s to v reads as here: a tree that becomes x, with the flags g behind it
 
-pub record AtomAt (h : Here) (s v : Text) (x : Tree) : Type 0 where
+pub record AtomAt (μ : Marks) (h : Here) (s v : Text) (x : Tree) : Type 0 where
   pub tree : Tree
   pub derives : Atom h.depth (st h.flags s) (done tree (st h.flags v))
-  pub becomes : Becomes h.opened tree x
+  pub becomes : Becomes μ s h.opened tree x
 
-pub record BranchAt (h : Here) (s : Text) (g : Flags) (v : Text) (x : Tree) : Type 0 where
+pub record BranchAt (μ : Marks) (h : Here) (s : Text) (g : Flags) (v : Text) (x : Tree) : Type 0 where
   pub tree : Tree
   pub derives : Branch h.depth (st h.flags s) (done tree (st g v))
-  pub becomes : Becomes h.opened tree x
+  pub becomes : Becomes μ s h.opened tree x
 
-pub record BranchesAt (h : Here) (s : Text) (g : Flags) (v : Text) (ys : List Tree) : Type 0 where
+pub record BranchesAt (μ : Marks) (h : Here) (s : Text) (g : Flags) (v : Text) (ys : List Tree) : Type 0 where
   pub trees : List Tree
   pub derives : Branches h.depth (st h.flags s) (done trees (st g v))
-  pub become : EachBecomes h.opened trees ys
+  pub become : EachBecomes μ s h.opened trees ys
 
-pub record WholeAt (h : Here) (s : Text) (g : Flags) (v : Text) (x : Tree) : Type 0 where
+pub record WholeAt (μ : Marks) (h : Here) (s : Text) (g : Flags) (v : Text) (x : Tree) : Type 0 where
   pub tree : Tree
   pub derives : Alternation h.depth (st h.flags s) (done tree (st g v))
-  pub becomes : Becomes h.opened tree x
+  pub becomes : Becomes μ s h.opened tree x
 
 -- the pieces up to where the branch stops; without the Empties they become these
-pub record Rest (h : Here) (s : Text) (g : Flags) (v : Text) (ys : List Tree) : Type 0 where
+pub record Rest (μ : Marks) (h : Here) (s : Text) (g : Flags) (v : Text) (ys : List Tree) : Type 0 where
   pub trees : List Tree
   pub derives : Pieces h.depth (st h.flags s) (done trees (st g v))
-  pub become : EachBecomes h.opened (solid trees) ys
+  pub become : EachBecomes μ s h.opened (solid trees) ys
 
-pub no_more : (h : Here) (v : Text) → Stops h.flags.ignore_space v → Rest h v h.flags v []
-no_more h v e = record { trees = []; derives = stop e.ends; become = tt }
+pub no_more : (μ : Marks) (h : Here) (v : Text) → Stops h.flags.ignore_space v → Rest μ h v h.flags v []
+no_more μ h v e = record { trees = []; derives = stop e.ends; become = tt }
 
 -- ---- pieces
 
@@ -155,69 +169,78 @@ quant_none left f a v c =
     ∙ ap (quantified.with_counts left a (st f v)) (no_counts f.ignore_space v c.no_mark)
 
 -- a piece that was read, before those that follow
-pub lead_piece : (h : Here) (s v w : Text) (g : Flags) (r x : Tree) (ys : List Tree) →
-    Begins h.flags.ignore_space s → is_empty x ≡ false → Becomes h.opened r x →
-    Piece h.depth (st h.flags s) (done r (st h.flags v)) → Rest (past_groups (group_count x) h) v g w ys →
-    Rest h s g w (x ∷ ys)
-lead_piece h s v w g r x ys b e k p q = record {
+pub lead_piece : (μ : Marks) (h : Here) (s v w : Text) (g : Flags) (r x : Tree) (ys : List Tree) →
+    Begins h.flags.ignore_space s → is_empty x ≡ false → Becomes μ s h.opened r x →
+    Piece h.depth (st h.flags s) (done r (st h.flags v)) → Rest μ (past_groups (group_count x) h) v g w ys →
+    Rest μ h s g w (x ∷ ys)
+lead_piece μ h s v w g r x ys b e k p q = record {
   trees = r ∷ q.trees;
   derives = next b.goes p q.derives;
-  become = solid_also h.opened r x q.trees ys k e q.become;
+  become = solid_also μ s h.opened r x q.trees ys k e
+      (each_in_longer μ v s (to_ends (piece_read p).span.slice) (solid q.trees) ys (h.opened + group_count x) q.become);
 }
 
 -- an atom that no quantifier follows
-pub lead : (h : Here) (s v w : Text) (g : Flags) (x : Tree) (ys : List Tree) → h.flags.oniguruma_mode ≡ false →
-    Begins h.flags.ignore_space s → Clear h.flags.ignore_space v → is_empty x ≡ false → AtomAt h s v x →
-    Rest (past_groups (group_count x) h) v g w ys → Rest h s g w (x ∷ ys)
-lead h s v w g x ys o b c e a q =
-    lead_piece h s v w g a.tree x ys b e a.becomes
+pub lead : (μ : Marks) (h : Here) (s v w : Text) (g : Flags) (x : Tree) (ys : List Tree) →
+    h.flags.oniguruma_mode ≡ false →
+    Begins h.flags.ignore_space s → Clear h.flags.ignore_space v → is_empty x ≡ false → AtomAt μ h s v x →
+    Rest μ (past_groups (group_count x) h) v g w ys → Rest μ h s g w (x ∷ ys)
+lead μ h s v w g x ys o b c e a q =
+    lead_piece μ h s v w g a.tree x ys b e a.becomes
     (piece_as b.clear.no_layout a.derives
     (quants_one h.depth (bytes s) h.flags a.tree a.tree v v o (quant_none (bytes s) h.flags a.tree v c))) q
 
 -- an Empty that is read at once, with other flags behind it
-pub lead_flags : (h : Here) (f g : Flags) (s v w : Text) (ys : List Tree) → f.oniguruma_mode ≡ false →
+pub lead_flags : (μ : Marks) (h : Here) (f g : Flags) (s v w : Text) (ys : List Tree) → f.oniguruma_mode ≡ false →
     Begins h.flags.ignore_space s → Clear f.ignore_space v → Atom h.depth (st h.flags s) (done empty (st f v)) →
-    Rest (under f h) v g w ys → Rest h s g w ys
-lead_flags h f g s v w ys o b c a q = record {
+    Rest μ (under f h) v g w ys → Rest μ h s g w ys
+lead_flags μ h f g s v w ys o b c a q = record {
   trees = empty ∷ q.trees;
   derives =
       next b.goes
       (piece_as b.clear.no_layout a
       (quants_one h.depth (bytes s) f empty empty v v o (quant_none (bytes s) f empty v c))) q.derives;
-  become = q.become;
+  become =
+      each_in_longer μ v s (to_ends (atom_read a).span.slice) (solid q.trees) ys h.opened q.become;
 }
 
 -- ---- branches
 
-pub reads_branch : (h : Here) (s v : Text) (g : Flags) (ys : List Tree) → Rest h s g v ys →
-    BranchAt h s g v (one_or concat ys)
-reads_branch h s v g ys r = record {
+pub reads_branch : (μ : Marks) (h : Here) (s v : Text) (g : Flags) (ys : List Tree) → Rest μ h s g v ys →
+    BranchAt μ h s g v (one_or concat ys)
+reads_branch μ h s v g ys r = record {
   tree = join r.trees;
   derives = branch r.derives;
-  becomes = one_becomes label.concat (solid r.trees) ys h.opened r.become;
+  becomes = one_becomes μ s label.concat (solid r.trees) ys h.opened r.become;
 }
 
-pub reads_last : (h : Here) (s v : Text) (g : Flags) (x : Tree) → BranchAt h s g v x →
-    strip bar v ≡ None → BranchesAt h s g v (x ∷ [])
-reads_last h s v g x b e = record { trees = b.tree ∷ []; derives = last b.derives e; become = (b.becomes, tt) }
+pub reads_last : (μ : Marks) (h : Here) (s v : Text) (g : Flags) (x : Tree) → BranchAt μ h s g v x →
+    strip bar v ≡ None → BranchesAt μ h s g v (x ∷ [])
+reads_last μ h s v g x b e = record { trees = b.tree ∷ []; derives = last b.derives e; become = (b.becomes, tt) }
 
-pub reads_more : (h : Here) (s t v : Text) (f g : Flags) (x : Tree) (ys : List Tree) →
-    BranchAt h s f (code "|" ∷ t) x → BranchesAt (past_groups (group_count x) (under f h)) t g v ys →
-    BranchesAt h s g v (x ∷ ys)
-reads_more h s t v f g x ys b bs = record {
+pub reads_more : (μ : Marks) (h : Here) (s t v : Text) (f g : Flags) (x : Tree) (ys : List Tree) →
+    BranchAt μ h s f (code "|" ∷ t) x → BranchesAt μ (past_groups (group_count x) (under f h)) t g v ys →
+    BranchesAt μ h s g v (x ∷ ys)
+reads_more μ h s t v f g x ys b bs = record {
   trees = b.tree ∷ bs.trees;
   derives = more b.derives refl bs.derives;
-  become = (b.becomes, bs.become);
+  become = (
+    b.becomes,
+    each_in_longer μ t s
+        (ends_twice s (code "|" ∷ t) t (to_ends (branch_read b.derives).span.slice)
+        (codes "|", refl)) bs.trees ys _ bs.become,
+  );
 }
 
-pub reads_whole : (h : Here) (s v : Text) (g : Flags) (ys : List Tree) → BranchesAt h s g v ys →
-    WholeAt h s g v (choice ys)
-reads_whole h s v g ys b = record {
+pub reads_whole : (μ : Marks) (h : Here) (s v : Text) (g : Flags) (ys : List Tree) → BranchesAt μ h s g v ys →
+    WholeAt μ h s g v (choice ys)
+reads_whole μ h s v g ys b = record {
   tree = choice b.trees;
   derives = alternation b.derives;
-  becomes = one_becomes label.alt b.trees ys h.opened b.become;
+  becomes = one_becomes μ s label.alt b.trees ys h.opened b.become;
 }
 
-pub reads_only : (h : Here) (s v : Text) (g : Flags) (x : Tree) → BranchAt h s g v x → strip bar v ≡ None →
-    WholeAt h s g v x
-reads_only h s v g x b e = reads_whole h s v g (x ∷ []) (reads_last h s v g x b e)
+pub reads_only : (μ : Marks) (h : Here) (s v : Text) (g : Flags) (x : Tree) → BranchAt μ h s g v x →
+    strip bar v ≡ None →
+    WholeAt μ h s g v x
+reads_only μ h s v g x b e = reads_whole μ h s v g (x ∷ []) (reads_last μ h s v g x b e)

@@ -175,7 +175,7 @@ turn_ok b (c ∷ w) h = by_test (c == caret)
 abbrev cut_found : Text → Text → Option (Text × Text)
 cut_found w s = Some (w, s)
 
-cut_back : (w s : Text) → IsName w → cut_at (code "}") (w ++ code "}" ∷ s) ≡ cut_found w s
+pub cut_back : (w s : Text) → IsName w → cut_at (code "}") (w ++ code "}" ∷ s) ≡ cut_found w s
 cut_back [] s h = refl
 cut_back (c ∷ w) s h = cond-false _ _ _ h.0 ∙ ap (option_map (λ p. (c ∷ p.0, p.1))) (cut_back w s h.1.1)
 
@@ -183,36 +183,36 @@ abbrev pub prop : Bool → PropertyName → Property
 prop b name = record { negated = b; name = name }
 
 -- in a class or outside
-module _ (inside : Bool) where
+module _ (f : Flags) (inside : Bool) where
   pub single_small : (c : ℕ) (s : Text) → (c == code "{") ≡ false →
-      escape (unicode_flags false) inside (code "p" ∷ c ∷ s) ≡ gives
-      (delegate (property_text false inside (prop false (single c))) false) s
+      escape f inside (code "p" ∷ c ∷ s) ≡ gives
+      (delegate (property_text f.unicode inside (prop false (single c))) f.casei) s
   unfolding escape_at property read_property name_at
   single_small c s h = rw h refl
 
   pub single_large : (c : ℕ) (s : Text) → (c == code "{") ≡ false →
-      escape (unicode_flags false) inside (code "P" ∷ c ∷ s) ≡ gives
-      (delegate (property_text false inside (prop true (single c))) false) s
+      escape f inside (code "P" ∷ c ∷ s) ≡ gives
+      (delegate (property_text f.unicode inside (prop true (single c))) f.casei) s
   unfolding escape_at property read_property name_at
   single_large c s h = rw h refl
 
   pub braced_small : (w s : Text) → IsName w →
-      escape (unicode_flags false) inside (code "p" ∷ code "{" ∷ (w ++ code "}" ∷ s)) ≡ gives
-      (delegate (property_text false inside (prop false (braced w))) false) s
+      escape f inside (code "p" ∷ code "{" ∷ (w ++ code "}" ∷ s)) ≡ gives
+      (delegate (property_text f.unicode inside (prop false (braced w))) f.casei) s
   unfolding escape_at property read_property name_at
   braced_small w s h = rw (cut_back w s h) refl
 
   pub braced_large : (w s : Text) → IsName w →
-      escape (unicode_flags false) inside (code "P" ∷ code "{" ∷ (w ++ code "}" ∷ s)) ≡ gives
-      (delegate (property_text false inside (prop true (braced w))) false) s
+      escape f inside (code "P" ∷ code "{" ∷ (w ++ code "}" ∷ s)) ≡ gives
+      (delegate (property_text f.unicode inside (prop true (braced w))) f.casei) s
   unfolding escape_at property read_property name_at
   braced_large w s h = rw (cut_back w s h) refl
 
 single_chunk : (b : Bool) (c : ℕ) → (c == code "{") ≡ false → IsScalar c → Chunk (letter b ++ c ∷ [])
 single_chunk false c h k = escape_chunk (code "p" ∷ c ∷ []) _ (and_from _ true k refl)
-    (λ s. single_small true c s h)
+    (λ s. single_small (unicode_flags false) true c s h)
 single_chunk true c h k = escape_chunk (code "P" ∷ c ∷ []) _ (and_from _ true k refl)
-    (λ s. single_large true c s h)
+    (λ s. single_large (unicode_flags false) true c s h)
 
 small_chunk : (w : Text) → IsName w → Chunk (code "\\" ∷ code "p" ∷ code "{" ∷ (w ++ code "}" ∷ []))
 small_chunk w h =
@@ -220,7 +220,7 @@ small_chunk w h =
     (scalars_append w (code "}" ∷ []) (name_scalars w h) refl)
     (λ s. ap (λ z. escape (unicode_flags false) true (code "p" ∷ code "{" ∷ z))
     (append_assoc w (code "}" ∷ []) s)
-    ∙ braced_small true w s h)
+    ∙ braced_small (unicode_flags false) true w s h)
 
 large_chunk : (w : Text) → IsName w → Chunk (code "\\" ∷ code "P" ∷ code "{" ∷ (w ++ code "}" ∷ []))
 large_chunk w h =
@@ -228,7 +228,7 @@ large_chunk w h =
     (scalars_append w (code "}" ∷ []) (name_scalars w h) refl)
     (λ s. ap (λ z. escape (unicode_flags false) true (code "P" ∷ code "{" ∷ z))
     (append_assoc w (code "}" ∷ []) s)
-    ∙ braced_large true w s h)
+    ∙ braced_large (unicode_flags false) true w s h)
 
 -- closed escapes
 letter_chunks : Each (λ c. Chunk (code "\\" ∷ c ∷ [])) (codes "dDsSwWtnvfr")
@@ -250,13 +250,13 @@ pub letter_chunk : (c : ℕ) → c ∈ "dDsSwWtnvfr" ≡ true → Chunk (code "\
 letter_chunk c h = each_among (λ c. Chunk (code "\\" ∷ c ∷ [])) (codes "dDsSwWtnvfr") c letter_chunks h
 
 -- a byte
-hex_value : (d : ℕ) → d < 16 → digit_value (upper_hex_digit d) ≡ d
+pub hex_value : (d : ℕ) → d < 16 → digit_value (upper_hex_digit d) ≡ d
 hex_value d h = grind (arith, nat_tests)
 
 hex_scalar : (d : ℕ) → d < 16 → IsScalar (upper_hex_digit d)
 hex_scalar d h = grind (arith, nat_tests)
 
-hex_paren : (d : ℕ) → d < 16 → (upper_hex_digit d == code "(") ≡ false
+pub hex_paren : (d : ℕ) → d < 16 → (upper_hex_digit d == code "(") ≡ false
 hex_paren d h = grind (arith, nat_tests)
 
 small_scalar : (v : ℕ) → v < 256 → is_scalar v ≡ true
@@ -273,7 +273,7 @@ coded_some h v s l =
       by_tests false true k = (_, refl)
       by_tests false false k = absurd cc
 
-digits_read : (a b : ℕ) (s : Text) → a < 16 → b < 16 →
+pub digits_read : (a b : ℕ) (s : Text) → a < 16 → b < 16 →
     fixed_digits 2 0 (upper_hex_digit a ∷ upper_hex_digit b ∷ s) ≡ Some ((0 * 16 + a) * 16 + b, s)
 unfolding fixed_digits hexes.hex_digit
 digits_read a b s h k = rw (hex_value a h, lt-ltb a 16 h, hex_value b k, lt-ltb b 16 k) refl

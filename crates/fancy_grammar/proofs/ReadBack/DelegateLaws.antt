@@ -100,17 +100,17 @@ small_whole : (w : Text) → IsName w → IsWhole (code "\\" ∷ code "p" ∷ co
 small_whole w h =
     escape_whole (code "p" ∷ code "{" ∷ (w ++ code "}" ∷ [])) _ _
     (scalars_append w (code "}" ∷ []) (name_scalars w h) refl)
-    (braced_small false w [] h)
+    (braced_small (unicode_flags false) false w [] h)
 
 large_whole : (w : Text) → IsName w → IsWhole (code "\\" ∷ code "P" ∷ code "{" ∷ (w ++ code "}" ∷ []))
 large_whole w h =
     escape_whole (code "P" ∷ code "{" ∷ (w ++ code "}" ∷ [])) _ _
     (scalars_append w (code "}" ∷ []) (name_scalars w h) refl)
-    (braced_large false w [] h)
+    (braced_large (unicode_flags false) false w [] h)
 
 single_whole : (b : Bool) (c : ℕ) → (c == code "{") ≡ false → IsScalar c → IsWhole (letter b ++ c ∷ [])
-single_whole false c h k = escape_whole (code "p" ∷ c ∷ []) _ _ (and_from _ true k refl) (single_small false c [] h)
-single_whole true c h k = escape_whole (code "P" ∷ c ∷ []) _ _ (and_from _ true k refl) (single_large false c [] h)
+single_whole false c h k = escape_whole (code "p" ∷ c ∷ []) _ _ (and_from _ true k refl) (single_small (unicode_flags false) false c [] h)
+single_whole true c h k = escape_whole (code "P" ∷ c ∷ []) _ _ (and_from _ true k refl) (single_large (unicode_flags false) false c [] h)
 
 letters_whole : Each (λ c. IsWhole (code "\\" ∷ c ∷ [])) (codes "dDsSwW")
 unfolding class_of escape_at lone_escape
