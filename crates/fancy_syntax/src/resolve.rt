@@ -30,6 +30,7 @@ use fancy_parts::ranks::Groups;
 use std::alloc::{AllocError, Global};
 
 /// The raw tree of the pattern resolved in its place, with its marks, or the first fault of its references.
+#[inline(always)]
 pub(crate) fn resolve(
     alloc: Global,
     raw: Expr,
@@ -65,6 +66,7 @@ pub(crate) fn resolve(
 }
 
 /// The resolved tree with what is said of its groups and references.
+#[inline(always)]
 fn answer(expr: Expr, named: bool, groups: Groups, progress: Progress) -> ExprTree
     ensures tree { result.expr ≡ expr }
     ensures marks { marks_of result ≡ marks_found named (groups_of groups) (progress_of progress) }
@@ -93,6 +95,7 @@ fn answer(expr: Expr, named: bool, groups: Groups, progress: Progress) -> ExprTr
 
 /// Resolves the tree in its place, and answers what was noted on the way, or the first fault. A tree where nothing was
 /// met is not walked.
+#[inline(always)]
 fn walk(alloc: Global, tree: &mut Expr, known: &Known, met: bool) -> Result<Progress, Failure>
     requires room { length (openings (view tree.old)) < amount_bound }
     requires met { met ≡ has_items (items (view tree.old)) }
@@ -112,6 +115,7 @@ fn walk(alloc: Global, tree: &mut Expr, known: &Known, met: bool) -> Result<Prog
 }
 
 /// The groups that have a number, and whether only those with a name have one, which the flag may ask for.
+#[inline(always)]
 fn find_groups(alloc: Global, tree: &Expr, ignore: bool) -> Result<(bool, Found), AllocError>
     requires { length (openings (view tree.now)) < amount_bound }
     ensures named { IfOk result (λ p. p.0 ≡ (ignore && list_any is_named (openings (view tree.now)))) }

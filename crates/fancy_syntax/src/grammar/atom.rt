@@ -1,5 +1,5 @@
 //! The start of an atom: a leaf, or what opens a group.
-ghost use Rattle.std.specs.Prelude.{◌≡◌, false, ◌+◌, ◌<◌, ◌≤◌, ◌^◌, ◌∷◌, [], length, chars, IfOk};
+ghost use Rattle.std.specs.Prelude.{◌≡◌, false, ◌+◌, ◌<◌, ◌≤◌, ◌^◌, ◌∷◌, [], length, chars, string_bytes, IfOk};
 ghost use Rattle.fancy_lex.specs.Characters.{open_paren};
 ghost use Rattle.fancy_lex.specs.Class as classes;
 ghost use Rattle.fancy_lex.specs.Escape as escapes;
@@ -180,6 +180,17 @@ pub(crate) fn literal(alloc: Global, c: char, casei: bool) -> Result<Expr, Alloc
     ensures { IfOk result (λ e. view e ≡ literal (c ∷ []) casei) }
 {
     let mut bytes = [0; 4];
-    let val = String::from_str(alloc, c.encode_utf8(&mut bytes))?;
+    let val = copied(alloc, c.encode_utf8(&mut bytes))?;
     Ok(Expr::Literal { val, casei })
+}
+
+/// A copy of the text. Mostly it is one byte, which is copied without a call where its length is known.
+#[inline(always)]
+fn copied(alloc: Global, text: &str) -> Result<String, AllocError>
+    ensures ok { IfOk result (λ s. string_bytes s ≡ text.now) }
+{
+    if text.len() == 1 {
+        return String::from_str(alloc, text);
+    }
+    String::from_str(alloc, text)
 }

@@ -11,7 +11,7 @@ use crate::expr::Expr;
 use crate::grammar::fault::general;
 use crate::grammar::group::head::Head;
 use crate::grammar::spanning::Spanning;
-use crate::grammar::trees::{push, take_branch};
+use crate::grammar::trees::{push, take_above, take_branch};
 use fancy_lex::error::Failure;
 use fancy_lex::flags::Flags;
 use std::alloc::{AllocError, Global};
@@ -94,18 +94,19 @@ impl<'a> Frame<'a> {
     {
         match &self.opener {
             Opener::First => {
-                let branch = take_branch(trees, self.pieces, reach, spans)?;
+                let branch = take_branch(alloc, trees, self.pieces, reach, spans)?;
                 self.opener = Opener::Second(Box::new(alloc, branch)?);
                 Ok(())
             }
             Opener::Second(_) => Err(general(alloc, "expected close paren", reach)),
-            _ => Ok(self.end_branch(trees, reach, spans)?),
+            _ => Ok(self.end_branch(alloc, trees, reach, spans)?),
         }
     }
 
     /// Ends the open branch at the reach, and opens the next.
     fn end_branch<S: Spanning>(
         &mut self,
+        alloc: Global,
         trees: &mut Vec<Expr>,
         reach: usize,
         spans: &mut S,
@@ -119,7 +120,7 @@ impl<'a> Frame<'a> {
             HoldsTrees self.old (views trees.old.items) below branches pieces →
             S.notes spans.old l → OnOk result (S.notes spans.new (branch_ended (length pieces) reach l)) }
     {
-        let branch = take_branch(trees, self.pieces, reach, spans)?;
+        let branch = take_branch(alloc, trees, self.pieces, reach, spans)?;
         push(trees, branch)?;
         self.pieces = trees.len();
         Ok(())
@@ -128,6 +129,7 @@ impl<'a> Frame<'a> {
     /// Ends the group, whose last branch ends at the reach: the tree of its inside.
     pub(crate) fn finish<S: Spanning>(
         &self,
+        alloc: Global,
         trees: &mut Vec<Expr>,
         reach: usize,
         spans: &mut S,
@@ -145,13 +147,13 @@ impl<'a> Frame<'a> {
             S.notes spans.old l → OnOk result (S.notes spans.new
             (choice_noted (branches ++ one_or concat pieces ∷ []) reach (branch_ended (length pieces) reach l))) }
     {
-        let branch = take_branch(trees, self.pieces, reach, spans)?;
+        let branch = take_branch(alloc, trees, self.pieces, reach, spans)?;
         // Mostly it is the only one.
         if self.branches == self.pieces {
             return Ok(branch);
         }
         push(trees, branch)?;
         spans.end_choice(reach)?;
-        Ok(Expr::Alt(trees.split_off(self.branches)?))
+        Ok(Expr::Alt(take_above(alloc, trees, self.branches)?))
     }
 }

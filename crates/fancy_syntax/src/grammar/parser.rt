@@ -50,6 +50,7 @@ const TREES: usize = 12;
 
 impl<'a> Parser<'a> {
     /// Nothing is read yet.
+    #[inline(always)]
     pub(crate) fn new(alloc: Global, start: State<'a>) -> Result<Parser<'a>, AllocError>
         ensures here { IfOk result (λ r. r.here ≡ start.entry) }
         ensures depth { IfOk result (λ r. length r.stack.items < max_depth) }
@@ -168,7 +169,7 @@ impl<'a> Parser<'a> {
             (λ _. self.new.here ≡ self.old.here)) }
     {
         let end = reach(self.here.rest);
-        let inner = self.frame.finish(&mut self.trees, end, spans)?;
+        let inner = self.frame.finish(alloc, &mut self.trees, end, spans)?;
         let Some(outer) = self.stack.pop() else {
             return Ok(Some(inner));
         };

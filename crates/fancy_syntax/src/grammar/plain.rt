@@ -18,7 +18,7 @@ use fancy_lex::text::{after, next};
 
 /// The character at the front and what follows it, where one look ahead shows that it is a literal with no layout and
 /// no quantifier.
-#[inline]
+#[inline(always)]
 pub(crate) fn plain<'a>(here: State<'a>) -> Option<(char, &'a str)>
     ensures plain { IfSome result (λ p. IsNotedPlain (state here.entry)
         (literal (p.0 ∷ []) here.entry.flags.casei) (chars p.1.now)) }

@@ -127,7 +127,7 @@ fn may_count(more: usize, depth: usize) -> bool
 }
 
 /// Reads layout and the quantifier that follows the tree, if one does, and puts the tree under it.
-#[inline]
+#[inline(always)]
 #[tactic(auto, unfolding(fancy_grammar::specs::Quantified::quant))]
 fn quantify_once<S: Spanning>(
     alloc: Global,
@@ -189,6 +189,7 @@ fn repeat<S: Spanning>(
 }
 
 /// Reads layout and the marks behind the counts of a quantifier: the lazy one, and directly the possessive one.
+#[inline(always)]
 fn read_suffix(here: &mut State, counts: Counts) -> Result<Suffix, Failure>
     ensures value { GivesSuffix result (state here.new) (spec.suffix (state here.old) counts) }
     ensures flags { here.new.flags ≡ here.old.flags }
@@ -223,6 +224,7 @@ fn may_be_possessive(flags: Flags, counts: Counts) -> bool
 }
 
 /// Puts the tree under a quantifier of these counts and marks.
+#[inline(always)]
 fn put_under(
     alloc: Global,
     tree: &mut Expr,

@@ -9,7 +9,7 @@ ghost use Rattle.fancy_syntax.specs.View.{view, views};
 
 use crate::expr::Expr;
 use crate::grammar::spanning::Spanning;
-use std::alloc::AllocError;
+use std::alloc::{AllocError, Global};
 use std::mem;
 
 /// Adds a piece; an Empty one is left out.
@@ -45,7 +45,9 @@ pub(crate) fn push(trees: &mut Vec<Expr>, tree: Expr) -> Result<(), AllocError>
 }
 
 /// Takes the trees that stand above so many others, the pieces of a branch that ends at the reach: its tree.
+#[inline(always)]
 pub(crate) fn take_branch<S: Spanning>(
+    alloc: Global,
     trees: &mut Vec<Expr>,
     height: usize,
     reach: usize,
@@ -62,8 +64,27 @@ pub(crate) fn take_branch<S: Spanning>(
     match pieces {
         0 => Ok(Expr::Empty),
         1 => Ok(trees.take_last()),
-        _ => Ok(Expr::Concat(trees.split_off(height)?)),
+        _ => Ok(Expr::Concat(take_above(alloc, trees, height)?)),
     }
+}
+
+/// Takes the trees that stand above so many others, as a list of their own.
+///
+/// Where they are all, a list that is more than half full is handed on as it is: a copy beside it would double the
+/// memory of a long branch.
+pub(crate) fn take_above(
+    alloc: Global,
+    trees: &mut Vec<Expr>,
+    height: usize,
+) -> Result<Vec<Expr>, AllocError>
+    requires { height ≤ vec_len trees.old }
+    ensures above { IfOk result (λ v. v.items ≡ drop height trees.old.items) }
+    ensures below { OnOk result (trees.new.items ≡ take height trees.old.items) }
+{
+    if height == 0 && trees.len() > trees.capacity() / 2 {
+        return Ok(mem::replace(trees, Vec::new(alloc)));
+    }
+    trees.split_off(height)
 }
 
 /// Whether the tree is Empty.

@@ -10,11 +10,11 @@ returns-clause-tree g c below branches pieces h =
     let put = c.in_ok-push.ensures ∙ ap (λ l. l ++ view c.in_ok-branch.branch ∷ []) c.in_ok-branch.ensures.below in
     view_Alt _
     ∙ branches_taken c.args.self.now below branches pieces (view c.in_ok-branch.branch) c.push.new.trees.items _ h
-    c.in_ok-branch.ensures.tree put c.if-self.false c.in_ok-split_off.ensures.tail
+    c.in_ok-branch.ensures.tree put c.if-self.false c.in_ok-take_above.ensures.above
 
 pub returns-clause-below : goal.returns-clause-below
 returns-clause-below g c below branches pieces h =
     let put = c.in_ok-push.ensures ∙ ap (λ l. l ++ view c.in_ok-branch.branch ∷ []) c.in_ok-branch.ensures.below in
-    ap views c.in_ok-split_off.ensures.items ∙ sym (take-map view c.args.self.now.branches c.push.new.trees.items)
+    ap views c.in_ok-take_above.ensures.below ∙ sym (take-map view c.args.self.now.branches c.push.new.trees.items)
     ∙ branches_below c.args.self.now below branches pieces (view c.in_ok-branch.branch) c.push.new.trees.items h
     c.in_ok-branch.ensures.tree put
