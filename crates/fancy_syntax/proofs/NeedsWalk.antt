@@ -36,6 +36,12 @@ module _ (join : Need → Need → Need) (j : IsJoin join) (o : Bool) (t : Tree)
   joining_ends n left s h =
       sym (joined-behind join j n) ∙ ap (λ es. joined join n (needs_all join o (trees_of (views es)))) (sym h) ∙ s.whole
 
+-- of a tree without children
+pub leaf_joins : (join : Need → Need → Need) (j : IsJoin join) (o : Bool) (t : Tree) (n : Needs) →
+    n ≡ needs_alone o t → children t ≡ [] → n ≡ needs join o t
+leaf_joins join j o t n e none =
+    joining_ends join j o t n [] (joining_starts join j o t n [] e (sym none)) refl
+
 -- ---- the table so far, behind what stood there before, with some children left
 
 pub record Listing (o : Bool) (t : Tree) (old now : List Needs) (left : List Expr) : Type 0 where
@@ -76,4 +82,12 @@ module _ (o : Bool) (t : Tree) (old : List Needs) where
       ap (λ l. set l (length old) n) (listing_ends now left s h)
       ∙ set_behind old (needs_alone o t) n (flat_map (needs_listed o) (children t))
       ∙ ap (λ m. old ++ m ∷ flat_map (needs_listed o) (children t)) e
+      ∙ ap (λ l. old ++ l) (sym (table_node o t))
+
+  -- that of a tree without children
+  pub leaf_table : (n : Needs) (now : List Needs) → n ≡ needs first o t → children t ≡ [] → now ≡ old ++ n ∷ [] →
+      now ≡ old ++ needs_listed o t
+  leaf_table n now e none p =
+      p ∙ ap (λ m. old ++ m ∷ []) e
+      ∙ ap (λ ts. old ++ needs first o t ∷ flat_map (needs_listed o) ts) (sym none)
       ∙ ap (λ l. old ++ l) (sym (table_node o t))

@@ -205,6 +205,9 @@ pub(super) fn push_needs(
     let mut first = leaf_needs(tree, oniguruma_mode);
     let mut common = first;
     list.push(first)?;
+    if tree.is_leaf_node() {
+        return Ok(TreeNeeds { first, common });
+    }
     let mut children = tree.children_iter();
     while let Some(child) = children.next() {
         let below = push_needs(list, child, oniguruma_mode)?;

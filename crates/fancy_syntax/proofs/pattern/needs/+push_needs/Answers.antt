@@ -1,12 +1,13 @@
 use Rattle.std.proofs.Common.{◌≡◌, ◌<◌, ◌∙◌, ap, arith, length}
 use Rattle.std.proofs.Math.ListN.{set}
+use Rattle.std.proofs.lemmas.Bool.{OnTrue_at}
 use Rattle.fancy_grammar.proofs.NeedsLemmas.{first_joins, both_joins}
 use Rattle.fancy_grammar.specs.PatternNeeds.{first, both, needs}
 use Rattle.fancy_grammar.specs.Tree.{levels}
 use Rattle.fancy_syntax.specs.View.{view}
 use Rattle.fancy_syntax.proofs.Descents.{within_start, within_head, within_next, levels_of_given}
 use Rattle.fancy_syntax.proofs.NeedsWalk.{joining_starts, joining_next, joining_ends, listing_starts, listing_next}
-use Rattle.fancy_syntax.proofs.NeedsWalk.{table_stands}
+use Rattle.fancy_syntax.proofs.NeedsWalk.{table_stands, leaf_joins, leaf_table}
 use Rattle.fancy_syntax.proofs.pattern.needs.+push_needs.Goals as goal
 
 pub push_needs-requires : goal.push_needs-requires
@@ -41,6 +42,23 @@ loop-child-preserved t c =
       listing = listing_next c.args.oniguruma_mode (view c.args.tree.now) c.args.list.now.items _ _ child _ _
           c.loop-child.invariant.listing steps c.in_ok-below.ensures.list;
     }
+
+pub returns-then-is_leaf_node-clause-first : goal.returns-then-is_leaf_node-clause-first
+returns-then-is_leaf_node-clause-first t c =
+    leaf_joins first first_joins _ _ _ c.leaf_needs-first.ensures
+    (OnTrue_at c.if-is_leaf_node.true c.is_leaf_node.ensures.childless)
+
+pub returns-then-is_leaf_node-clause-common : goal.returns-then-is_leaf_node-clause-common
+returns-then-is_leaf_node-clause-common t c =
+    leaf_joins both both_joins _ _ _ c.leaf_needs-first.ensures
+    (OnTrue_at c.if-is_leaf_node.true c.is_leaf_node.ensures.childless)
+
+pub returns-then-is_leaf_node-clause-list : goal.returns-then-is_leaf_node-clause-list
+returns-then-is_leaf_node-clause-list t c =
+    let none = OnTrue_at c.if-is_leaf_node.true c.is_leaf_node.ensures.childless in
+    leaf_table _ _ c.args.list.now.items _ _
+    (leaf_joins first first_joins c.args.oniguruma_mode (view c.args.tree.now) _ c.leaf_needs-first.ensures none) none
+    c.in_ok-push.ensures.items
 
 pub returns-in-Some-get_mut-clause-first : goal.returns-in-Some-get_mut-clause-first
 returns-in-Some-get_mut-clause-first t c =
