@@ -2,14 +2,24 @@
 use Rattle.std.proofs.Common.{◌≡◌, Bool, List, [], ◌∷◌, ◌++◌, refl, ap, sym, ◌∙◌, append_assoc, append-nil, length}
 use Rattle.std.proofs.Math.ListN.{set}
 use Rattle.std.specs.List.{flat_map}
-use Rattle.fancy_grammar.proofs.NeedsLemmas.{IsJoin, joined-behind, needs_node, needs_next, table_node}
-use Rattle.fancy_grammar.specs.PatternNeeds.{first, joined, needs, needs_all}
+use Rattle.fancy_grammar.proofs.NeedsLemmas.{IsJoin, first_joins, both_joins, joined-behind}
+use Rattle.fancy_grammar.proofs.NeedsLemmas.{needs_node, needs_next, table_node}
+use Rattle.fancy_grammar.specs.PatternNeeds.{first, both, joined, needs, needs_all}
 use Rattle.fancy_grammar.specs.PatternWalk.{needs_alone, needs_listed}
 use Rattle.fancy_grammar.specs.Tree.{Tree, children, trees_of}
 use Rattle.fancy_grammar.specs.declared.needs.Need.{Need}
+use Rattle.fancy_grammar.specs.declared.needs.Need.TheVariants.{Free}
 use Rattle.fancy_grammar.specs.declared.needs.Needs.{Needs}
 use Rattle.fancy_syntax.specs.View.{view, views}
 use Rattle.fancy_syntax.specs.declared.expr.Expr.{Expr}
+
+-- ---- what needs nothing adds nothing
+
+pub first_free : (a b : Need) → b ≡ Free → a ≡ first a b
+first_free a b e = sym (ap (first a) e ∙ first_joins.behind a)
+
+pub both_free : (a b : Need) → b ≡ Free → a ≡ both a b
+both_free a b e = sym (ap (both a) e ∙ both_joins.behind a)
 
 -- ---- needs that are joined so far, with some children left
 
