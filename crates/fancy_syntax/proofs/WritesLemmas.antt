@@ -68,11 +68,11 @@ module _ {S : Type 0} (holds : S → Text → Type 0) where
       Writes holds a b i i (λ o. []) t (λ h. h)
   placed_writes a b i t p = record { writes = λ h l is. (p h l is, is) }
 
-  pub ok_placed : {X E : Type 0} (r : Result X E) (a b : S) (i : code.Here) (t : Here → Text) →
+  pub on_placed : {X E : Type 0} (r : Result X E) (a b : S) (i : code.Here) (t : Here → Text) →
       ((h : Here) (l : List Needs) → IsHere i h l → OnOk r (Added holds a b (t h))) →
       OnOk r (Writes holds a b i i (λ o. []) t (λ h. h))
-  ok_placed (Ok x) a b i t p = placed_writes a b i t p
-  ok_placed (Err e) a b i t p = tt
+  on_placed (Ok x) a b i t p = placed_writes a b i t p
+  on_placed (Err e) a b i t p = tt
 
   -- a node is passed that nothing is written for
   pub past_writes : (a b : S) (i j k : code.Here) (d : Bool → Needs) (l : Bool → List Needs) (t : Here → Text)

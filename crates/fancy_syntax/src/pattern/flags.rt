@@ -63,6 +63,7 @@ fn put_group<S: Sink>(out: &mut S, from: Flags, to: Flags) -> Result<(), AllocEr
 }
 
 /// Sets the flags that are needed from here on, where they do not hold.
+#[inline(always)]
 pub(super) fn put_setting<S: Sink>(
     out: &mut S,
     needs: Needs,
@@ -80,6 +81,7 @@ pub(super) fn put_setting<S: Sink>(
 }
 
 /// Sets the flags that are needed from here on.
+#[inline(never)]
 fn put_new_setting<S: Sink>(out: &mut S, needs: Needs, here: &mut Here) -> Result<(), AllocError>
     ensures { OnOk result (Added S.holds out.old out.new
         (spec.setting here.old.flags (spec.with_needs here.old.flags needs))

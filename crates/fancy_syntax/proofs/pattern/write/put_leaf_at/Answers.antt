@@ -2,7 +2,7 @@ use Rattle.std.proofs.Common.{true, false, [], sym, ◌∙◌}
 use Rattle.fancy_syntax.specs.View.{view}
 use Rattle.fancy_syntax.specs.Wheres.{alone_text}
 use Rattle.fancy_syntax.proofs.NodeLemmas.{atom_writes}
-use Rattle.fancy_syntax.proofs.WritesLemmas.{on_then, parens_writes, placed_writes, ok_placed}
+use Rattle.fancy_syntax.proofs.WritesLemmas.{on_then, parens_writes, placed_writes, on_placed}
 use Rattle.fancy_syntax.proofs.pattern.write.put_leaf_at.Goals as goal
 
 pub returns-then-needs_group : goal.returns-then-needs_group
@@ -16,6 +16,6 @@ returns-then-needs_group g c = λ m known. on_then _ _ _ c.close.ensures
 
 pub returns : goal.returns
 returns g c = λ m known. on_then _ _ _
-    (ok_placed g.S.Sink.holds _ _ _ _ _ (λ h l is. c.put_leaf-2.ensures m h l known is))
+    (on_placed g.S.Sink.holds _ _ _ _ _ (λ h l is. c.put_leaf-2.ensures m h l known is))
     (λ w. atom_writes g.S.Sink.holds _ _ _ _ (view c.args.leaf.now) c.args.precedence _ _ _ false
     (sym c.if-needs_group.false ∙ c.needs_group.ensures) w)
