@@ -25,6 +25,7 @@ pub mod PrintLemmas
 mod EmptyLemmas
 -- ---- the texts of all trees
 pub mod SinkLemmas
+mod LetterLemmas
 pub mod PartingLemmas
 pub mod WritesLemmas
 pub mod SettledLemmas

@@ -2,14 +2,24 @@
 use Rattle.std.proofs.Common.{◌≡◌, Bool, List, [], ◌∷◌, ◌++◌, refl, ap, sym, ◌∙◌, append_assoc, append-nil, length}
 use Rattle.std.proofs.Math.ListN.{set}
 use Rattle.std.specs.List.{flat_map}
-use Rattle.fancy_grammar.proofs.NeedsLemmas.{IsJoin, joined-behind, needs_node, needs_next, table_node}
-use Rattle.fancy_grammar.specs.PatternNeeds.{first, joined, needs, needs_all}
+use Rattle.fancy_grammar.proofs.NeedsLemmas.{IsJoin, first_joins, both_joins, joined-behind}
+use Rattle.fancy_grammar.proofs.NeedsLemmas.{needs_node, needs_next, table_node}
+use Rattle.fancy_grammar.specs.PatternNeeds.{first, both, joined, needs, needs_all}
 use Rattle.fancy_grammar.specs.PatternWalk.{needs_alone, needs_listed}
 use Rattle.fancy_grammar.specs.Tree.{Tree, children, trees_of}
 use Rattle.fancy_grammar.specs.declared.needs.Need.{Need}
+use Rattle.fancy_grammar.specs.declared.needs.Need.TheVariants.{Free}
 use Rattle.fancy_grammar.specs.declared.needs.Needs.{Needs}
 use Rattle.fancy_syntax.specs.View.{view, views}
 use Rattle.fancy_syntax.specs.declared.expr.Expr.{Expr}
+
+-- ---- what needs nothing adds nothing
+
+pub first_free : (a b : Need) → b ≡ Free → a ≡ first a b
+first_free a b e = sym (ap (first a) e ∙ first_joins.behind a)
+
+pub both_free : (a b : Need) → b ≡ Free → a ≡ both a b
+both_free a b e = sym (ap (both a) e ∙ both_joins.behind a)
 
 -- ---- needs that are joined so far, with some children left
 
@@ -35,6 +45,12 @@ module _ (join : Need → Need → Need) (j : IsJoin join) (o : Bool) (t : Tree)
   pub joining_ends : (n : Needs) (left : List Expr) → Joining join o t n left → left ≡ [] → n ≡ needs join o t
   joining_ends n left s h =
       sym (joined-behind join j n) ∙ ap (λ es. joined join n (needs_all join o (trees_of (views es)))) (sym h) ∙ s.whole
+
+-- of a tree without children
+pub leaf_joins : (join : Need → Need → Need) (j : IsJoin join) (o : Bool) (t : Tree) (n : Needs) →
+    n ≡ needs_alone o t → children t ≡ [] → n ≡ needs join o t
+leaf_joins join j o t n e none =
+    joining_ends join j o t n [] (joining_starts join j o t n [] e (sym none)) refl
 
 -- ---- the table so far, behind what stood there before, with some children left
 
@@ -76,4 +92,12 @@ module _ (o : Bool) (t : Tree) (old : List Needs) where
       ap (λ l. set l (length old) n) (listing_ends now left s h)
       ∙ set_behind old (needs_alone o t) n (flat_map (needs_listed o) (children t))
       ∙ ap (λ m. old ++ m ∷ flat_map (needs_listed o) (children t)) e
+      ∙ ap (λ l. old ++ l) (sym (table_node o t))
+
+  -- that of a tree without children
+  pub leaf_table : (n : Needs) (now : List Needs) → n ≡ needs first o t → children t ≡ [] → now ≡ old ++ n ∷ [] →
+      now ≡ old ++ needs_listed o t
+  leaf_table n now e none p =
+      p ∙ ap (λ m. old ++ m ∷ []) e
+      ∙ ap (λ ts. old ++ needs first o t ∷ flat_map (needs_listed o) ts) (sym none)
       ∙ ap (λ l. old ++ l) (sym (table_node o t))

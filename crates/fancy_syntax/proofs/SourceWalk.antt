@@ -3,7 +3,7 @@ use Rattle.std.proofs.Common.{◌≡◌, ◌≢◌, ◌⊎◌, inl, inr, ℕ, �
 use Rattle.std.proofs.Common.{List, [], ◌∷◌, ◌++◌, length, length-append, Option, Some, None, if◌then◌else◌}
 use Rattle.std.proofs.Common.{refl, ap, sym, subst, ◌∙◌, arith, eq-eqb}
 use Rattle.std.proofs.Math.Bool.{or-false}
-use Rattle.std.proofs.lemmas.Bool.{ne_eqb}
+use Rattle.std.proofs.lemmas.Bool.{ne_eqb, or_parts}
 use Rattle.std.specs.Option.{option_or}
 use Rattle.fancy_lex.specs.Characters.{◌∈◌, backslash, open_brace, close_brace}
 use Rattle.fancy_lex.specs.Property.{letter}
@@ -44,6 +44,21 @@ pub found_either : (seen : Bool) (t : Text) (l k : List Replaced) (r a b : Optio
 found_either seen t l k r a b e p q =
     ap found_part e ∙ found_or a b ∙ ap (λ o. option_or o (found_part b)) p
     ∙ ap (option_or (replaced_part seen l t)) q ∙ sym (replaced-append seen t l k)
+
+-- none, where the text begins with a character that the reader writes for none
+pub none_replaced : (unicode seen : Bool) (c : ℕ) (t text : Text) → text ≡ c ∷ t → c ∈ "\\[&" ≡ false →
+    None ≡ replaced_part seen (replaced unicode) text
+none_replaced unicode seen c t text e h =
+    let (slash, others) = or_parts _ _ h in
+    let (bracket, joints) = or_parts _ _ others in
+    subst (λ u. None ≡ replaced_part seen (replaced unicode) u) (sym e) (at unicode seen slash bracket joints)
+  where
+    at : (b s : Bool) → (c == backslash) ≡ false → (c == 91) ≡ false → (c == 38) ≡ false →
+        None ≡ replaced_part s (replaced b) (c ∷ t)
+    at true true slash bracket joints = rw (slash, bracket, joints) refl
+    at true false slash bracket joints = rw (slash, bracket) refl
+    at false true slash bracket joints = rw slash refl
+    at false false slash bracket joints = rw slash refl
 
 -- ---- the parts that are written
 

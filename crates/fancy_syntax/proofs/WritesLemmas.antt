@@ -1,8 +1,8 @@
 -- Writers one behind the other, and writers in groups.
 use Rattle.std.proofs.Common.{◌≡◌, ℕ, Bool, List, [], ◌∷◌, ◌++◌, subst, append_assoc}
 use Rattle.std.proofs.Common.{sym, ◌∙◌, codes}
-use Rattle.std.specs.Prelude.{Result, Ok, Err, IfOk}
-use Rattle.std.proofs.lemmas.Result.{IfOk-weaker}
+use Rattle.std.specs.Prelude.{Result, Ok, Err, IfOk, OnOk}
+use Rattle.std.proofs.lemmas.Result.{IfOk-weaker, on_ok_weaker}
 use Rattle.fancy_lex.specs.Text.{Text, bytes}
 use Rattle.fancy_grammar.specs.Pattern.{Here, deeper, in_parens}
 use Rattle.fancy_grammar.specs.declared.needs.Needs.{Needs}
@@ -16,13 +16,21 @@ use Rattle.fancy_syntax.proofs.SinkLemmas.{added_nothing, added_as, then_added}
 abbrev pub KeepsMode : (Here → Here) → Type 0
 KeepsMode next = (h : Here) → (next h).flags.oniguruma_mode ≡ h.flags.oniguruma_mode
 
+-- what holds where a call succeeds gives what follows from it
+pub on_then : {X E : Type 0} (r : Result X E) (P Q : Type 0) → OnOk r P → (P → Q) → OnOk r Q
+on_then r P Q p f = on_ok_weaker r f p
+
+-- and holds beside what holds anyway
+pub on_both : {X E : Type 0} (r : Result X E) (P Q : Type 0) → OnOk r P → Q → OnOk r (P × Q)
+on_both r P Q p q = on_ok_weaker r (λ x. (x, q)) p
+
+pub on_when : {X E N : Type 0} (r : Result X E) (P : Type 0) → (N → OnOk r P) → OnOk r (N → P)
+on_when (Ok x) P f = f
+on_when (Err e) P f = tt
+
 -- what holds of every value holds of one that follows from it
 pub ok_then : {X E : Type 0} (r : Result X E) (P Q : X → Type 0) → IfOk r P → ((x : X) → P x → Q x) → IfOk r Q
 ok_then r P Q p f = IfOk-weaker r P Q f p
-
-pub ok_when : {X E N : Type 0} (r : Result X E) (P : X → Type 0) → (N → IfOk r P) → IfOk r (λ x. N → P x)
-ok_when (Ok x) P f = f
-ok_when (Err e) P f = tt
 
 module _ {S : Type 0} (holds : S → Text → Type 0) where
   pub nothing_writes : (a : S) (i : code.Here) → Writes holds a a i i (λ o. []) (λ h. []) (λ h. h)
@@ -59,6 +67,12 @@ module _ {S : Type 0} (holds : S → Text → Type 0) where
       ((h : Here) (l : List Needs) → IsHere i h l → Added holds a b (t h)) →
       Writes holds a b i i (λ o. []) t (λ h. h)
   placed_writes a b i t p = record { writes = λ h l is. (p h l is, is) }
+
+  pub on_placed : {X E : Type 0} (r : Result X E) (a b : S) (i : code.Here) (t : Here → Text) →
+      ((h : Here) (l : List Needs) → IsHere i h l → OnOk r (Added holds a b (t h))) →
+      OnOk r (Writes holds a b i i (λ o. []) t (λ h. h))
+  on_placed (Ok x) a b i t p = placed_writes a b i t p
+  on_placed (Err e) a b i t p = tt
 
   -- a node is passed that nothing is written for
   pub past_writes : (a b : S) (i j k : code.Here) (d : Bool → Needs) (l : Bool → List Needs) (t : Here → Text)

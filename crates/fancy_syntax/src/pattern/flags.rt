@@ -1,5 +1,5 @@
 //! Groups that set flags.
-ghost use Rattle.std.specs.Prelude.{◌≡◌, ◌∷◌, [], ◌++◌, codes, List, IfOk, OnOk, if◌then◌else◌};
+ghost use Rattle.std.specs.Prelude.{◌≡◌, ◌∷◌, [], ◌++◌, codes, List, OnOk, if◌then◌else◌};
 ghost use Rattle.fancy_grammar.specs.Pattern as place;
 ghost use Rattle.fancy_grammar.specs.PatternNeeds as spec;
 ghost use Rattle.fancy_grammar.specs.declared.needs.Needs.{Needs};
@@ -62,23 +62,35 @@ fn put_group<S: Sink>(out: &mut S, from: Flags, to: Flags) -> Result<(), AllocEr
     out.put(')')
 }
 
-/// Sets the flags that are needed from here on, where they do not hold, and answers where that is done.
-pub(super) fn put_setting<'a, S: Sink>(
+/// Sets the flags that are needed from here on, where they do not hold.
+#[inline(always)]
+pub(super) fn put_setting<S: Sink>(
     out: &mut S,
     needs: Needs,
-    here: Here<'a>,
-) -> Result<Here<'a>, AllocError>
-    ensures { IfOk result (λ i. Added S.holds out.old out.new
-        (spec.setting here.entry.flags (spec.with_needs here.entry.flags needs))
-        × ((h : place.Here) (l : List Needs) → IsHere here.entry h l →
-        IsHere i (place.under (spec.with_needs h.flags needs) h) l)) }
+    here: &mut Here,
+) -> Result<(), AllocError>
+    ensures { OnOk result (Added S.holds out.old out.new
+        (spec.setting here.old.flags (spec.with_needs here.old.flags needs))
+        × ((h : place.Here) (l : List Needs) → IsHere here.old h l →
+        IsHere here.new (place.under (spec.with_needs h.flags needs) h) l)) }
 {
     if are_met(here.flags, needs) {
-        return Ok(here);
+        return Ok(());
     }
-    let set = here.with(needs);
-    put_group(out, here.flags, set.flags)?;
-    Ok(set)
+    put_new_setting(out, needs, here)
+}
+
+/// Sets the flags that are needed from here on.
+#[inline(never)]
+fn put_new_setting<S: Sink>(out: &mut S, needs: Needs, here: &mut Here) -> Result<(), AllocError>
+    ensures { OnOk result (Added S.holds out.old out.new
+        (spec.setting here.old.flags (spec.with_needs here.old.flags needs))
+        × ((h : place.Here) (l : List Needs) → IsHere here.old h l →
+        IsHere here.new (place.under (spec.with_needs h.flags needs) h) l)) }
+{
+    let from = here.flags;
+    here.set(needs);
+    put_group(out, from, here.flags)
 }
 
 /// Writes what opens a group in which the flags `from` are the flags `to`.
@@ -90,18 +102,20 @@ fn put_scope_head<S: Sink>(out: &mut S, from: Flags, to: Flags) -> Result<(), Al
     out.put(':')
 }
 
-/// Opens a group in which the flags that are needed are set, and answers where its inside begins.
-pub(super) fn open_scope<'a, S: Sink>(
+/// Opens a group in which the flags that are needed are set, and goes into it.
+pub(super) fn open_scope<S: Sink>(
     out: &mut S,
     needs: Needs,
-    here: Here<'a>,
-) -> Result<Here<'a>, AllocError>
-    ensures { IfOk result (λ i. Added S.holds out.old out.new
-        (codes "(?" ++ (spec.letters_between here.entry.flags (spec.with_needs here.entry.flags needs) ++ codes ":"))
-        × ((h : place.Here) (l : List Needs) → IsHere here.entry h l →
-        IsHere i (place.deeper (place.under (spec.with_needs h.flags needs) h)) l)) }
+    here: &mut Here,
+) -> Result<(), AllocError>
+    ensures { OnOk result (Added S.holds out.old out.new
+        (codes "(?" ++ (spec.letters_between here.old.flags (spec.with_needs here.old.flags needs) ++ codes ":"))
+        × ((h : place.Here) (l : List Needs) → IsHere here.old h l →
+        IsHere here.new (place.deeper (place.under (spec.with_needs h.flags needs) h)) l)) }
 {
-    let set = here.with(needs);
-    put_scope_head(out, here.flags, set.flags)?;
-    Ok(set.inside())
+    let from = here.flags;
+    here.set(needs);
+    put_scope_head(out, from, here.flags)?;
+    here.enter();
+    Ok(())
 }

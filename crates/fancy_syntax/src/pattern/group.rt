@@ -1,5 +1,5 @@
 //! Groups.
-ghost use Rattle.std.specs.Prelude.{◌≡◌, ◌++◌, codes, true, nat_lt, List, IfOk};
+ghost use Rattle.std.specs.Prelude.{◌≡◌, ◌++◌, codes, true, nat_lt, List, OnOk};
 ghost use Rattle.std.specs.List.{list_all};
 ghost use Rattle.fancy_grammar.specs.Pattern as spec;
 ghost use Rattle.fancy_grammar.specs.declared.needs.Needs.{Needs};
@@ -11,33 +11,25 @@ use crate::pattern::here::Here;
 use crate::pattern::sink::{Sink, put_ascii};
 use std::alloc::AllocError;
 
-/// Opens a group with this head, and answers where its inside begins.
-pub(super) fn open<'a, S: Sink>(
-    out: &mut S,
-    head: &str,
-    here: Here<'a>,
-) -> Result<Here<'a>, AllocError>
+/// Opens a group with this head, and goes into it.
+pub(super) fn open<S: Sink>(out: &mut S, head: &str, here: &mut Here) -> Result<(), AllocError>
     requires { list_all (λ b. nat_lt b 128) head.now ≡ true }
-    ensures { IfOk result (λ i. Added S.holds out.old out.new (codes "(" ++ head.now)
-        × ((h : spec.Here) (l : List Needs) → IsHere here.entry h l → IsHere i (spec.deeper h) l)) }
+    ensures { OnOk result (Added S.holds out.old out.new (codes "(" ++ head.now)
+        × ((h : spec.Here) (l : List Needs) → IsHere here.old h l → IsHere here.new (spec.deeper h) l)) }
 {
+    here.enter();
     out.put('(')?;
-    put_ascii(out, head)?;
-    Ok(here.inside())
+    put_ascii(out, head)
 }
 
-/// Closes the group that stands at `outside`, whose inside ends at `end`, and answers where what follows stands.
-pub(super) fn close<'a, S: Sink>(
-    out: &mut S,
-    outside: Here<'a>,
-    end: Here<'a>,
-) -> Result<Here<'a>, AllocError>
-    ensures { IfOk result (λ i. Added S.holds out.old out.new (codes ")")
-        × ((h e : spec.Here) (k l : List Needs) → IsHere outside.entry h k → IsHere end.entry e l →
-        IsHere i (record h { opened = e.opened }) l)) }
+/// Closes the group that stands at `outside`, and leaves it.
+pub(super) fn close<S: Sink>(out: &mut S, outside: &Here, here: &mut Here) -> Result<(), AllocError>
+    ensures { OnOk result (Added S.holds out.old out.new (codes ")")
+        × ((h e : spec.Here) (k l : List Needs) → IsHere outside.now h k → IsHere here.old e l →
+        IsHere here.new (record h { opened = e.opened }) l)) }
 {
-    out.put(')')?;
-    Ok(outside.behind(end))
+    here.leave(outside);
+    out.put(')')
 }
 
 /// The head of a look-around.

@@ -1,5 +1,5 @@
 //! Where a text stands.
-ghost use Rattle.std.specs.Prelude.{◌≡◌, ◌∷◌, List, IfOk};
+ghost use Rattle.std.specs.Prelude.{◌≡◌, ◌∷◌, List, OnOk};
 ghost use Rattle.fancy_lex.specs.declared.flags.Flags.{Flags};
 ghost use Rattle.fancy_grammar.specs.Pattern as spec;
 ghost use Rattle.fancy_grammar.specs.PatternNeeds.{with_needs};
@@ -39,66 +39,57 @@ impl<'a> Here<'a> {
     }
 
     /// What the next node needs, which is passed.
-    pub(super) fn next_node(self) -> (Needs, Here<'a>)
-        ensures { (h : spec.Here) (n : Needs) (l : List Needs) → IsHere self.entry h (n ∷ l) →
-            (result.0 ≡ n) × IsHere result.1 h l }
+    pub(super) fn next_node(&mut self) -> Needs
+        ensures { (h : spec.Here) (n : Needs) (l : List Needs) → IsHere self.old h (n ∷ l) →
+            (result ≡ n) × IsHere self.new h l }
     {
         match self.needs {
             [first, rest @ ..] => {
-                let mut here = self;
-                here.needs = rest;
-                (*first, here)
+                self.needs = rest;
+                *first
             }
-            [] => (no_needs(), self),
+            [] => no_needs(),
         }
     }
 
-    /// Past the next node.
-    pub(super) fn past_node(self) -> Here<'a>
-        ensures { (h : spec.Here) (n : Needs) (l : List Needs) → IsHere self.entry h (n ∷ l) → IsHere result h l }
+    /// Passes the next node.
+    pub(super) fn pass_node(&mut self)
+        ensures { (h : spec.Here) (n : Needs) (l : List Needs) → IsHere self.old h (n ∷ l) → IsHere self.new h l }
     {
-        let (_needs, here) = self.next_node();
-        here
+        let _needs = self.next_node();
     }
 
-    /// Where the flags are set as they are needed.
-    pub(super) fn with(self, needs: Needs) -> Here<'a>
-        ensures flags { result.flags ≡ with_needs self.entry.flags needs }
-        ensures here { (h : spec.Here) (l : List Needs) → IsHere self.entry h l →
-            IsHere result (spec.under (with_needs h.flags needs) h) l }
+    /// Sets the flags as they are needed.
+    pub(super) fn set(&mut self, needs: Needs)
+        ensures flags { self.new.flags ≡ with_needs self.old.flags needs }
+        ensures here { (h : spec.Here) (l : List Needs) → IsHere self.old h l →
+            IsHere self.new (spec.under (with_needs h.flags needs) h) l }
     {
-        let mut here = self;
-        here.flags = with_needs(self.flags, needs);
-        here
+        self.flags = with_needs(self.flags, needs);
     }
 
-    /// In a group that stands here.
-    pub(super) fn inside(self) -> Here<'a>
-        ensures { (h : spec.Here) (l : List Needs) → IsHere self.entry h l → IsHere result (spec.deeper h) l }
+    /// Goes into a group.
+    pub(super) fn enter(&mut self)
+        ensures { (h : spec.Here) (l : List Needs) → IsHere self.old h l → IsHere self.new (spec.deeper h) l }
     {
-        let mut here = self;
-        here.left = self.left.saturating_sub(1);
-        here
+        self.left = self.left.saturating_sub(1);
     }
 
-    /// One group with a number on. There are fewer than a word holds: no memory has room for more.
-    pub(super) fn past_opening(self) -> Result<Here<'a>, AllocError>
-        ensures { (h : spec.Here) (l : List Needs) → IsHere self.entry h l →
-            IfOk result (λ i. IsHere i (spec.past_groups 1 h) l) }
+    /// Counts a group with a number. There are fewer than a word holds: no memory has room for more.
+    pub(super) fn count_opening(&mut self) -> Result<(), AllocError>
+        ensures { OnOk result ((h : spec.Here) (l : List Needs) → IsHere self.old h l →
+            IsHere self.new (spec.past_groups 1 h) l) }
     {
-        let mut here = self;
-        here.opened = self.opened.checked_add(1).ok_or(AllocError)?;
-        Ok(here)
+        self.opened = self.opened.checked_add(1).ok_or(AllocError)?;
+        Ok(())
     }
 
-    /// Behind a group that stands here, whose inside ends there: the flags from before hold again.
-    pub(super) fn behind(self, end: Here<'a>) -> Here<'a>
-        ensures { (h e : spec.Here) (k l : List Needs) → IsHere self.entry h k → IsHere end.entry e l →
-            IsHere result (record h { opened = e.opened }) l }
+    /// Leaves a group that stands at `outside`: the flags from before hold again.
+    pub(super) fn leave(&mut self, outside: &Here)
+        ensures { (h e : spec.Here) (k l : List Needs) → IsHere outside.now h k → IsHere self.old e l →
+            IsHere self.new (record h { opened = e.opened }) l }
     {
-        let mut here = end;
-        here.flags = self.flags;
-        here.left = self.left;
-        here
+        self.flags = outside.flags;
+        self.left = outside.left;
     }
 }

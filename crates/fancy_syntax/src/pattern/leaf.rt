@@ -127,9 +127,9 @@ pub(super) fn put_leaf<S: Sink>(
     out: &mut S,
     known: &Known,
     leaf: &Expr,
-    here: Here,
+    here: &Here,
 ) -> Result<(), AllocError>
-    ensures { (m : Marks) (h : spec.Here) (l : List Needs) → IsKnown known.now m → IsHere here.entry h l →
+    ensures { (m : Marks) (h : spec.Here) (l : List Needs) → IsKnown known.now m → IsHere here.now h l →
         OnOk result (Added S.holds out.old out.new (alone_text m (view leaf.now) h)) }
 {
     match leaf {

@@ -1,5 +1,6 @@
 //! Characters: as they stand, behind a backslash, and by their codes.
 ghost use Rattle.std.specs.Prelude.{◌≡◌, ◌<◌, ◌/◌, ◌%◌, ◌∷◌, [], true, false, chars, map, OnOk};
+ghost use Rattle.std.specs.Bool.{OnTrue};
 ghost use Rattle.std.specs.List.{flat_map};
 ghost use Rattle.fancy_lex.specs.Characters.{◌∈◌, backslash};
 ghost use Rattle.fancy_lex.specs.Class.{byte_text, upper_hex_digit};
@@ -160,10 +161,23 @@ fn put_cased<S: Sink>(out: &mut S, c: char, flags: Flags) -> Result<(), AllocErr
     }
 }
 
+/// Whether an ASCII letter or digit stands for itself in a Literal: with its case kept it needs a backslash where the
+/// flag is on.
+#[tactic(auto, using(crate::proofs::LetterLemmas::stands_for_itself))]
+fn is_itself(c: char, casei: bool, flags: Flags) -> bool
+    ensures { OnTrue result (spec.character flags casei c ≡ c ∷ []) }
+{
+    c.is_ascii_alphanumeric() && (casei || !flags.casei)
+}
+
 /// Writes a character of a Literal.
+#[tactic(auto, using(crate::proofs::SinkLemmas::added_steps))]
 fn put_character<S: Sink>(out: &mut S, c: char, casei: bool, flags: Flags) -> Result<(), AllocError>
     ensures { OnOk result (Added S.holds out.old out.new (spec.character flags casei c)) }
 {
+    if is_itself(c, casei, flags) {
+        return out.put(c);
+    }
     if casei {
         put_caseless(out, c, flags)
     } else {

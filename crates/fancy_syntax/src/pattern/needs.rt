@@ -145,16 +145,26 @@ fn first(one: Need, other: Need) -> Need
     }
 }
 
-/// The same for each flag.
-fn first_needs(one: Needs, other: Needs) -> Needs
-    ensures { result ≡ spec.joined spec.first one other }
+/// Adds to what the one needs what the other behind it does.
+#[inline(always)]
+#[tactic(auto, using(crate::proofs::NeedsWalk::first_free))]
+fn join_first(one: &mut Need, other: Need)
+    ensures { one.new ≡ spec.first one.old other }
 {
-    Needs {
-        casei: first(one.casei, other.casei),
-        multi: first(one.multi, other.multi),
-        dotnl: first(one.dotnl, other.dotnl),
-        crlf: first(one.crlf, other.crlf),
+    match other {
+        Need::Free => {}
+        _ => *one = first(*one, other),
     }
+}
+
+/// The same for each flag.
+fn join_first_needs(one: &mut Needs, other: &Needs)
+    ensures { one.new ≡ spec.joined spec.first one.old other.now }
+{
+    join_first(&mut one.casei, other.casei);
+    join_first(&mut one.multi, other.multi);
+    join_first(&mut one.dotnl, other.dotnl);
+    join_first(&mut one.crlf, other.crlf);
 }
 
 /// What both need together.
@@ -169,16 +179,26 @@ fn both(one: Need, other: Need) -> Need
     }
 }
 
-/// The same for each flag.
-fn both_needs(one: Needs, other: Needs) -> Needs
-    ensures { result ≡ spec.joined spec.both one other }
+/// Adds to what the one needs what the other does.
+#[inline(always)]
+#[tactic(auto, using(crate::proofs::NeedsWalk::both_free))]
+fn join_both(one: &mut Need, other: Need)
+    ensures { one.new ≡ spec.both one.old other }
 {
-    Needs {
-        casei: both(one.casei, other.casei),
-        multi: both(one.multi, other.multi),
-        dotnl: both(one.dotnl, other.dotnl),
-        crlf: both(one.crlf, other.crlf),
+    match other {
+        Need::Free => {}
+        _ => *one = both(*one, other),
     }
+}
+
+/// The same for each flag.
+fn join_both_needs(one: &mut Needs, other: &Needs)
+    ensures { one.new ≡ spec.joined spec.both one.old other.now }
+{
+    join_both(&mut one.casei, other.casei);
+    join_both(&mut one.multi, other.multi);
+    join_both(&mut one.dotnl, other.dotnl);
+    join_both(&mut one.crlf, other.crlf);
 }
 
 /// What a tree needs.
@@ -188,6 +208,18 @@ pub(super) struct TreeNeeds {
     pub(super) first: Needs,
     /// What all leaves in it need together.
     pub(super) common: Needs,
+}
+
+impl TreeNeeds {
+    /// Adds what a tree behind it needs. It is lent, and not inlined, so that its bytes are not moved one by one.
+    #[inline(never)]
+    fn join(&mut self, below: &TreeNeeds)
+        ensures first { self.new.first ≡ spec.joined spec.first self.old.first below.now.first }
+        ensures common { self.new.common ≡ spec.joined spec.both self.old.common below.now.common }
+    {
+        join_first_needs(&mut self.first, &below.first);
+        join_both_needs(&mut self.common, &below.common);
+    }
 }
 
 /// Adds for each node of the tree, in preorder, what the first leaf in it needs that needs something, and answers what
@@ -202,19 +234,24 @@ pub(super) fn push_needs(
     ensures list { OnOk result (list.new.items ≡ list.old.items ++ needs_listed oniguruma_mode (view tree.now)) }
 {
     let at = list.len();
-    let mut first = leaf_needs(tree, oniguruma_mode);
-    let mut common = first;
-    list.push(first)?;
+    let alone = leaf_needs(tree, oniguruma_mode);
+    list.push(alone)?;
+    let mut needs = TreeNeeds {
+        first: alone,
+        common: alone,
+    };
+    if tree.is_leaf_node() {
+        return Ok(needs);
+    }
     let mut children = tree.children_iter();
     while let Some(child) = children.next() {
         let below = push_needs(list, child, oniguruma_mode)?;
-        first = first_needs(first, below.first);
-        common = both_needs(common, below.common);
+        needs.join(&below);
     }
     if let Some(place) = list.get_mut(at) {
-        *place = first;
+        *place = needs.first;
     }
-    Ok(TreeNeeds { first, common })
+    Ok(needs)
 }
 
 /// The flag as it is needed, or else as it is.

@@ -1,9 +1,10 @@
 //! What a Delegate was written as: a text that the reader writes as that of the Delegate.
 ghost use Rattle.std.specs.Prelude.{◌≡◌, ◌∷◌, [], Bool, true, nat_lt, chars, option_map, IfOk, OnOk};
 ghost use Rattle.std.specs.List.{list_all};
+ghost use Rattle.fancy_lex.specs.Characters.{◌∈◌};
 ghost use Rattle.fancy_lex.specs.Class.{joint};
 ghost use Rattle.fancy_lex.specs.Property as property;
-ghost use Rattle.fancy_lex.specs.Text.{strip_word};
+ghost use Rattle.fancy_lex.specs.Text.{Text, strip_word};
 ghost use Rattle.fancy_grammar.specs.PatternSource as spec;
 ghost use Rattle.fancy_syntax.specs.Sink.{Added};
 ghost use Rattle.fancy_syntax.specs.Source.{AddedPart, found_part};
@@ -90,6 +91,25 @@ fn replaced(text: &str, unicode: bool, seen: bool) -> Option<Found<'_>>
         replaced_with_unicode(text, seen)
     } else {
         items(text, r"\t ", r"\p{blank}")
+    }
+}
+
+/// Whether what the reader writes for an escape may begin with the character.
+fn may_be_replaced(c: char) -> bool
+    ensures { result ≡ (c ∈ "\\[&") }
+{
+    matches!(c, '\\' | '[' | '&')
+}
+
+/// The escape at the front of a text that begins with the character.
+fn replaced_at(c: char, text: &str, unicode: bool, seen: bool) -> Option<Found<'_>>
+    ensures { (t : Text) → chars text.now ≡ c ∷ t →
+        found_part result ≡ spec.replaced_part seen (spec.replaced unicode) (chars text.now) }
+{
+    if may_be_replaced(c) {
+        replaced(text, unicode, seen)
+    } else {
+        None
     }
 }
 
@@ -181,7 +201,7 @@ fn put_source<S: Sink>(out: &mut S, text: &str, unicode: bool) -> Result<(), All
     let mut rest = text;
     let mut seen = false;
     while let Some((c, behind)) = next(rest) {
-        match replaced(rest, unicode, seen) {
+        match replaced_at(c, rest, unicode, seen) {
             Some(found) => {
                 out.put_text(found.escape)?;
                 seen |= found.negated;

@@ -1,5 +1,5 @@
 //! The walk that writes a tree's text.
-ghost use Rattle.std.specs.Prelude.{◌≡◌, ◌+◌, ◌++◌, not, ◌&&◌, ◌||◌, [], codes, nat_lt, true, false, if◌then◌else◌, List, IfOk, OnOk};
+ghost use Rattle.std.specs.Prelude.{◌≡◌, ◌+◌, ◌++◌, not, ◌&&◌, ◌||◌, [], codes, nat_lt, true, false, if◌then◌else◌, List, OnOk};
 ghost use Rattle.std.specs.List.{list_all};
 ghost use Rattle.fancy_lex.specs.Number.{at_digit};
 ghost use Rattle.fancy_lex.specs.declared.flags.Flags.{Flags};
@@ -51,49 +51,46 @@ pub(super) fn put_pattern<S: Sink>(
         IsHere here.entry (record { flags = f; opened = 0; depth = 0 }) (needs_listed f.oniguruma_mode (view tree.now)) →
         OnOk result (Added S.holds out.old out.new (spec.pattern_text f (view tree.now) m)) }
 {
-    let here = put_setting(out, agreed, here)?;
-    put_tree(out, known, tree, Precedence::Whole, here)?;
-    Ok(())
+    let mut here = here;
+    put_setting(out, agreed, &mut here)?;
+    put_tree(out, known, tree, Precedence::Whole, &mut here)
 }
 
-/// Writes a tree's text where it stands, and answers where what follows it does.
+/// Writes a tree's text where it stands, and goes to where what follows it does.
 #[cycle(write)]
-fn put_tree<'a, S: Sink>(
+fn put_tree<S: Sink>(
     out: &mut S,
     known: &Known,
     tree: &Expr,
     precedence: Precedence,
-    here: Here<'a>,
-) -> Result<Here<'a>, AllocError>
-    ensures { (m : Marks) → IsKnown known.now m → IfOk result (λ i. Writes S.holds out.old out.new here.entry i
+    here: &mut Here,
+) -> Result<(), AllocError>
+    ensures { (m : Marks) → IsKnown known.now m → OnOk result (Writes S.holds out.old out.new here.old here.new
         (λ o. needs_listed o (view tree.now)) (spec.written m (view tree.now) precedence)
         (spec.behind (view tree.now) precedence)) }
 {
-    let (needs, here) = here.next_node();
+    let needs = here.next_node();
     match tree {
-        Expr::Empty => put_empty(out, precedence, here),
+        Expr::Empty => put_empty(out, precedence),
         Expr::Concat(pieces) => put_concat(out, known, pieces, precedence, needs, here),
         Expr::Alt(branches) => put_alt(out, known, branches, precedence, needs, here),
         _ => {
-            let here = put_setting(out, needs, here)?;
+            put_setting(out, needs, here)?;
             put_settled(out, known, tree, precedence, here)
         }
     }
 }
 
 /// Writes an Empty: as a group, where pieces may not stand.
-fn put_empty<'a, S: Sink>(
-    out: &mut S,
-    precedence: Precedence,
-    here: Here<'a>,
-) -> Result<Here<'a>, AllocError>
-    ensures { IfOk result (λ i. Writes S.holds out.old out.new here.entry i (λ o. [])
-        (λ h. if spec.takes_pieces precedence then [] else codes "()") (λ h. h)) }
+#[tactic(auto, using(crate::proofs::SinkLemmas::added_steps))]
+fn put_empty<S: Sink>(out: &mut S, precedence: Precedence) -> Result<(), AllocError>
+    ensures { OnOk result (Added S.holds out.old out.new (if spec.takes_pieces precedence then [] else codes "()")) }
 {
-    if !takes_pieces(precedence) {
-        put_ascii(out, "()")?;
+    if takes_pieces(precedence) {
+        Ok(())
+    } else {
+        put_ascii(out, "()")
     }
-    Ok(here)
 }
 
 /// Whether pieces may stand there one behind another.
@@ -125,8 +122,8 @@ fn is_last_operand(precedence: Precedence) -> bool
 }
 
 /// How many quantifiers may stand before that of a tree at this precedence.
-fn room(precedence: Precedence, here: Here) -> usize
-    ensures { (h : spec.Here) (l : List Needs) → IsHere here.entry h l → result ≡ spec.room precedence h }
+fn room(precedence: Precedence, here: &Here) -> usize
+    ensures { (h : spec.Here) (l : List Needs) → IsHere here.now h l → result ≡ spec.room precedence h }
 {
     match precedence {
         Precedence::Operand(room) if room > 0 => room - 1,
@@ -136,17 +133,17 @@ fn room(precedence: Precedence, here: Here) -> usize
 
 /// Writes a Concat, in a group of its own where pieces may not stand.
 #[cycle(write)]
-fn put_concat<'a, S: Sink>(
+fn put_concat<S: Sink>(
     out: &mut S,
     known: &Known,
     pieces: &[Expr],
     precedence: Precedence,
     needs: Needs,
-    here: Here<'a>,
-) -> Result<Here<'a>, AllocError>
+    here: &mut Here,
+) -> Result<(), AllocError>
     ensures { (m : Marks) → IsKnown known.now m →
-        needs ≡ needs_all first here.entry.flags.oniguruma_mode (trees_of (views pieces.now)) →
-        IfOk result (λ i. Writes S.holds out.old out.new here.entry i (λ o. all_listed o (trees_of (views pieces.now)))
+        needs ≡ needs_all first here.old.flags.oniguruma_mode (trees_of (views pieces.now)) →
+        OnOk result (Writes S.holds out.old out.new here.old here.new (λ o. all_listed o (trees_of (views pieces.now)))
         (spec.in_scope_unless (spec.takes_pieces precedence) (concat (trees_of (views pieces.now)))
         (spec.written_all m false (trees_of (views pieces.now))))
         (spec.behind (concat (trees_of (views pieces.now))) precedence)) }
@@ -154,32 +151,32 @@ fn put_concat<'a, S: Sink>(
     if takes_pieces(precedence) {
         return put_pieces(out, known, pieces, here);
     }
-    let inside = open_scope(out, needs, here)?;
-    let end = put_pieces(out, known, pieces, inside)?;
-    close(out, here, end)
+    let outside = *here;
+    open_scope(out, needs, here)?;
+    put_pieces(out, known, pieces, here)?;
+    close(out, &outside, here)
 }
 
 /// Writes trees one behind the other. What begins with a digit is parted from a reference in digits before it.
 #[cycle(write)]
-fn put_pieces<'a, S: Sink>(
+fn put_pieces<S: Sink>(
     out: &mut S,
     known: &Known,
     pieces: &[Expr],
-    here: Here<'a>,
-) -> Result<Here<'a>, AllocError>
-    ensures { (m : Marks) → IsKnown known.now m → IfOk result (λ i. Writes S.holds out.old out.new here.entry i
+    here: &mut Here,
+) -> Result<(), AllocError>
+    ensures { (m : Marks) → IsKnown known.now m → OnOk result (Writes S.holds out.old out.new here.old here.new
         (λ o. all_listed o (trees_of (views pieces.now))) (spec.written_all m false (trees_of (views pieces.now)))
         (behind_all (trees_of (views pieces.now)) Piece)) }
 {
-    let mut here = here;
     let mut behind_digits = false;
     for piece in pieces {
         let place = out.len();
-        here = put_tree(out, known, piece, Precedence::Piece, here)?;
+        put_tree(out, known, piece, Precedence::Piece, here)?;
         part_behind_digits(out, place, behind_digits)?;
         behind_digits = is_in_digits(known, piece);
     }
-    Ok(here)
+    Ok(())
 }
 
 /// Parts what was written from the place on from the reference in digits before it, if there is one.
@@ -206,17 +203,17 @@ fn is_in_digits(known: &Known, tree: &Expr) -> bool
 
 /// Writes an Alt, in a group of its own where branches may not stand.
 #[cycle(write)]
-fn put_alt<'a, S: Sink>(
+fn put_alt<S: Sink>(
     out: &mut S,
     known: &Known,
     branches: &[Expr],
     precedence: Precedence,
     needs: Needs,
-    here: Here<'a>,
-) -> Result<Here<'a>, AllocError>
+    here: &mut Here,
+) -> Result<(), AllocError>
     ensures { (m : Marks) → IsKnown known.now m →
-        needs ≡ needs_all first here.entry.flags.oniguruma_mode (trees_of (views branches.now)) →
-        IfOk result (λ i. Writes S.holds out.old out.new here.entry i (λ o. all_listed o (trees_of (views branches.now)))
+        needs ≡ needs_all first here.old.flags.oniguruma_mode (trees_of (views branches.now)) →
+        OnOk result (Writes S.holds out.old out.new here.old here.new (λ o. all_listed o (trees_of (views branches.now)))
         (spec.in_scope_unless (spec.takes_branches precedence) (alt (trees_of (views branches.now)))
         (spec.written_branches m (trees_of (views branches.now))))
         (spec.behind (alt (trees_of (views branches.now))) precedence)) }
@@ -224,46 +221,47 @@ fn put_alt<'a, S: Sink>(
     if takes_branches(precedence) {
         return put_branches(out, known, branches, here);
     }
-    let inside = open_scope(out, needs, here)?;
-    let end = put_branches(out, known, branches, inside)?;
-    close(out, here, end)
+    let outside = *here;
+    open_scope(out, needs, here)?;
+    put_branches(out, known, branches, here)?;
+    close(out, &outside, here)
 }
 
 /// Writes trees with bars between.
 #[cycle(write)]
-fn put_branches<'a, S: Sink>(
+fn put_branches<S: Sink>(
     out: &mut S,
     known: &Known,
     branches: &[Expr],
-    here: Here<'a>,
-) -> Result<Here<'a>, AllocError>
-    ensures { (m : Marks) → IsKnown known.now m → IfOk result (λ i. Writes S.holds out.old out.new here.entry i
+    here: &mut Here,
+) -> Result<(), AllocError>
+    ensures { (m : Marks) → IsKnown known.now m → OnOk result (Writes S.holds out.old out.new here.old here.new
         (λ o. all_listed o (trees_of (views branches.now))) (spec.written_branches m (trees_of (views branches.now)))
         (behind_all (trees_of (views branches.now)) Branch)) }
 {
     let [first, others @ ..] = branches else {
-        return Ok(here);
+        return Ok(());
     };
-    let mut here = put_tree(out, known, first, Precedence::Branch, here)?;
+    put_tree(out, known, first, Precedence::Branch, here)?;
     for branch in others {
         out.put('|')?;
-        here = put_tree(out, known, branch, Precedence::Branch, here)?;
+        put_tree(out, known, branch, Precedence::Branch, here)?;
     }
-    Ok(here)
+    Ok(())
 }
 
 /// Writes any other tree where its flags are set.
 #[cycle(write)]
-fn put_settled<'a, S: Sink>(
+fn put_settled<S: Sink>(
     out: &mut S,
     known: &Known,
     tree: &Expr,
     precedence: Precedence,
-    here: Here<'a>,
-) -> Result<Here<'a>, AllocError>
+    here: &mut Here,
+) -> Result<(), AllocError>
     requires { takes_setting (view tree.now) ≡ true }
-    ensures { (m : Marks) → IsKnown known.now m → IfOk result (λ i.
-        WritesSettled S.holds out.old out.new here.entry i m (view tree.now) precedence) }
+    ensures { (m : Marks) → IsKnown known.now m → OnOk result
+        (WritesSettled S.holds out.old out.new here.old here.new m (view tree.now) precedence) }
 {
     match tree {
         Expr::Group(child) => put_group(out, known, child, here),
@@ -308,98 +306,102 @@ fn needs_group(tree: &Expr, precedence: Precedence, flags: Flags) -> bool
 }
 
 /// Writes a leaf, in a group where a quantifier follows that may not stand behind it.
-fn put_leaf_at<'a, S: Sink>(
+fn put_leaf_at<S: Sink>(
     out: &mut S,
     known: &Known,
     leaf: &Expr,
     precedence: Precedence,
-    here: Here<'a>,
-) -> Result<Here<'a>, AllocError>
-    ensures { (m : Marks) → IsKnown known.now m → IfOk result (λ i. Writes S.holds out.old out.new here.entry i (λ o. [])
+    here: &mut Here,
+) -> Result<(), AllocError>
+    ensures { (m : Marks) → IsKnown known.now m → OnOk result (Writes S.holds out.old out.new here.old here.new (λ o. [])
         (spec.as_atom (view leaf.now) precedence (alone_text m (view leaf.now))) (λ h. h)) }
 {
     if needs_group(leaf, precedence, here.flags) {
-        let inside = open(out, "", here)?;
-        put_leaf(out, known, leaf, inside)?;
-        return close(out, here, inside);
+        let outside = *here;
+        open(out, "", here)?;
+        put_leaf(out, known, leaf, here)?;
+        return close(out, &outside, here);
     }
-    put_leaf(out, known, leaf, here)?;
-    Ok(here)
+    put_leaf(out, known, leaf, here)
 }
 
 /// Writes a tree in a group with this head.
 #[cycle(write)]
-fn put_in_group<'a, S: Sink>(
+fn put_in_group<S: Sink>(
     out: &mut S,
     known: &Known,
     head: &str,
     child: &Expr,
-    here: Here<'a>,
-) -> Result<Here<'a>, AllocError>
+    here: &mut Here,
+) -> Result<(), AllocError>
     requires { list_all (λ b. nat_lt b 128) head.now ≡ true }
-    ensures { (m : Marks) → IsKnown known.now m → IfOk result (λ i. Writes S.holds out.old out.new here.entry i
+    ensures { (m : Marks) → IsKnown known.now m → OnOk result (Writes S.holds out.old out.new here.old here.new
         (λ o. needs_listed o (view child.now)) (spec.in_parens head.now (spec.written m (view child.now) Whole))
         (spec.past_groups (spec.group_count (view child.now)))) }
 {
-    let inside = open(out, head, here)?;
-    let end = put_tree(out, known, child, Precedence::Whole, inside)?;
-    close(out, here, end)
+    let outside = *here;
+    open(out, head, here)?;
+    put_tree(out, known, child, Precedence::Whole, here)?;
+    close(out, &outside, here)
 }
 
 /// Writes a look-around, in a group where a quantifier follows.
 #[cycle(write)]
-fn put_look_around<'a, S: Sink>(
+fn put_look_around<S: Sink>(
     out: &mut S,
     known: &Known,
     child: &Expr,
     look: LookAround,
     precedence: Precedence,
-    here: Here<'a>,
-) -> Result<Here<'a>, AllocError>
-    ensures { (m : Marks) → IsKnown known.now m → IfOk result (λ i. Writes S.holds out.old out.new here.entry i
+    here: &mut Here,
+) -> Result<(), AllocError>
+    ensures { (m : Marks) → IsKnown known.now m → OnOk result (Writes S.holds out.old out.new here.old here.new
         (λ o. needs_listed o (view child.now))
         (spec.as_atom (look_around (view child.now) look) precedence
         (spec.in_parens (spec.look_head look) (spec.written m (view child.now) Whole)))
         (spec.past_groups (spec.group_count (view child.now)))) }
 {
     if is_operand(precedence) {
-        let inside = open(out, "", here)?;
-        let end = put_in_group(out, known, look_head(look), child, inside)?;
-        return close(out, here, end);
+        let outside = *here;
+        open(out, "", here)?;
+        put_in_group(out, known, look_head(look), child, here)?;
+        return close(out, &outside, here);
     }
     put_in_group(out, known, look_head(look), child, here)
 }
 
 /// Writes a capturing group.
 #[cycle(write)]
-fn put_group<'a, S: Sink>(
+fn put_group<S: Sink>(
     out: &mut S,
     known: &Known,
     child: &Expr,
-    here: Here<'a>,
-) -> Result<Here<'a>, AllocError>
-    ensures { (m : Marks) → IsKnown known.now m → IfOk result (λ i. Writes S.holds out.old out.new here.entry i
+    here: &mut Here,
+) -> Result<(), AllocError>
+    ensures { (m : Marks) → IsKnown known.now m → OnOk result (Writes S.holds out.old out.new here.old here.new
         (λ o. needs_listed o (view child.now))
         (λ h. spec.in_parens (group_head m (h.opened + 1)) (spec.written m (view child.now) Whole) (spec.past_groups 1 h))
         (spec.past_groups (spec.group_count (view child.now) + 1))) }
 {
-    let inside = open(out, "", here)?.past_opening()?;
-    put_group_head(out, known, inside.opened)?;
-    let end = put_tree(out, known, child, Precedence::Whole, inside)?;
-    close(out, here, end)
+    let outside = *here;
+    open(out, "", here)?;
+    here.count_opening()?;
+    put_group_head(out, known, here.opened)?;
+    put_tree(out, known, child, Precedence::Whole, here)?;
+    close(out, &outside, here)
 }
 
 /// Writes a Repeat, in a group where no quantifier may stand before the one that follows.
 #[cycle(write)]
-fn put_repeat<'a, S: Sink>(
+fn put_repeat<S: Sink>(
     out: &mut S,
     known: &Known,
     child: &Expr,
     quantifier: Quantifier,
     precedence: Precedence,
-    here: Here<'a>,
-) -> Result<Here<'a>, AllocError>
-    ensures { (m : Marks) → IsKnown known.now m → IfOk result (λ i. Writes S.holds out.old out.new here.entry i
+    here: &mut Here,
+) -> Result<(), AllocError>
+    ensures { (m : Marks) → IsKnown known.now m → OnOk result (Writes S.holds out.old out.new here.old here.new
         (λ o. needs_listed o (view child.now))
         (spec.in_parens_if (spec.is_last_operand precedence) (codes "?:")
         (spec.repeated quantifier.possessive (view child.now) quantifier.lo quantifier.hi quantifier.greedy
@@ -422,15 +424,15 @@ fn needs_atomic_group(lo: usize, hi: usize, precedence: Precedence, flags: Flags
 
 /// Writes an AtomicGroup: of a Repeat by a possessive quantifier, where one is read so.
 #[cycle(write)]
-fn put_atomic<'a, S: Sink>(
+fn put_atomic<S: Sink>(
     out: &mut S,
     known: &Known,
     child: &Expr,
     precedence: Precedence,
-    here: Here<'a>,
-) -> Result<Here<'a>, AllocError>
-    ensures { (m : Marks) → IsKnown known.now m → IfOk result (λ i.
-        WritesSettled S.holds out.old out.new here.entry i m (atomic_group (view child.now)) precedence) }
+    here: &mut Here,
+) -> Result<(), AllocError>
+    ensures { (m : Marks) → IsKnown known.now m → OnOk result
+        (WritesSettled S.holds out.old out.new here.old here.new m (atomic_group (view child.now)) precedence) }
 {
     let Expr::Repeat {
         child: repeated,
@@ -441,40 +443,42 @@ fn put_atomic<'a, S: Sink>(
     else {
         return put_in_group(out, known, "?>", child, here);
     };
-    let past = here.past_node();
+    let grouped = needs_atomic_group(*lo, *hi, precedence, here.flags);
+    here.pass_node();
     let mut quantifier = Quantifier {
         lo: *lo,
         hi: *hi,
         greedy: *greedy,
         possessive: true,
     };
-    if needs_atomic_group(*lo, *hi, precedence, here.flags) {
+    if grouped {
         quantifier.possessive = false;
-        return put_quantified_in_group(out, known, "?>", repeated, quantifier, past);
+        return put_quantified_in_group(out, known, "?>", repeated, quantifier, here);
     }
-    put_quantified(out, known, repeated, quantifier, precedence, past)
+    put_quantified(out, known, repeated, quantifier, precedence, here)
 }
 
 /// Writes a tree and the quantifier behind it in a group with this head.
 #[cycle(write)]
-fn put_quantified_in_group<'a, S: Sink>(
+fn put_quantified_in_group<S: Sink>(
     out: &mut S,
     known: &Known,
     head: &str,
     child: &Expr,
     quantifier: Quantifier,
-    here: Here<'a>,
-) -> Result<Here<'a>, AllocError>
+    here: &mut Here,
+) -> Result<(), AllocError>
     requires { list_all (λ b. nat_lt b 128) head.now ≡ true }
-    ensures { (m : Marks) → IsKnown known.now m → IfOk result (λ i. Writes S.holds out.old out.new here.entry i
+    ensures { (m : Marks) → IsKnown known.now m → OnOk result (Writes S.holds out.old out.new here.old here.new
         (λ o. needs_listed o (view child.now))
         (spec.in_parens head.now (spec.repeated quantifier.possessive (view child.now) quantifier.lo quantifier.hi quantifier.greedy
         (spec.written m (view child.now)) Whole))
         (spec.past_groups (spec.group_count (view child.now)))) }
 {
-    let inside = open(out, head, here)?;
-    let end = put_quantified(out, known, child, quantifier, Precedence::Whole, inside)?;
-    close(out, here, end)
+    let outside = *here;
+    open(out, head, here)?;
+    put_quantified(out, known, child, quantifier, Precedence::Whole, here)?;
+    close(out, &outside, here)
 }
 
 /// Whether the quantifier of the tree stands directly behind another.
@@ -486,58 +490,60 @@ fn is_adjacent(room: usize, child: &Expr, flags: Flags) -> bool
 
 /// Writes a tree and the quantifier behind it.
 #[cycle(write)]
-fn put_quantified<'a, S: Sink>(
+fn put_quantified<S: Sink>(
     out: &mut S,
     known: &Known,
     child: &Expr,
     quantifier: Quantifier,
     precedence: Precedence,
-    here: Here<'a>,
-) -> Result<Here<'a>, AllocError>
-    ensures { (m : Marks) → IsKnown known.now m → IfOk result (λ i. Writes S.holds out.old out.new here.entry i
+    here: &mut Here,
+) -> Result<(), AllocError>
+    ensures { (m : Marks) → IsKnown known.now m → OnOk result (Writes S.holds out.old out.new here.old here.new
         (λ o. needs_listed o (view child.now)) (spec.repeated quantifier.possessive (view child.now) quantifier.lo quantifier.hi quantifier.greedy
         (spec.written m (view child.now)) precedence)
         (spec.past_groups (spec.group_count (view child.now)))) }
 {
-    let room = room(precedence, here);
-    let adjacent = is_adjacent(room, child, here.flags);
-    let end = put_tree(out, known, child, Precedence::Operand(room), here)?;
-    put_quantifier(out, quantifier, adjacent, here.flags)?;
-    Ok(here.behind(end))
+    let outside = *here;
+    let room = room(precedence, &outside);
+    let adjacent = is_adjacent(room, child, outside.flags);
+    put_tree(out, known, child, Precedence::Operand(room), here)?;
+    here.leave(&outside);
+    put_quantifier(out, quantifier, adjacent, outside.flags)
 }
 
 /// Writes a Conditional.
 #[cycle(write)]
-fn put_conditional<'a, S: Sink>(
+fn put_conditional<S: Sink>(
     out: &mut S,
     known: &Known,
     tree: &Expr,
-    here: Here<'a>,
-) -> Result<Here<'a>, AllocError>
+    here: &mut Here,
+) -> Result<(), AllocError>
     ensures { (m : Marks) → IsKnown known.now m → is_conditional (view tree.now) ≡ true →
-        IfOk result (λ i. Writes S.holds out.old out.new here.entry i
+        OnOk result (Writes S.holds out.old out.new here.old here.new
         (λ o. needs_below o (view tree.now)) (parts_text m (view tree.now))
         (spec.past_groups (spec.group_count (view tree.now)))) }
 {
     let Expr::Conditional { condition, .. } = tree else {
-        return Ok(here);
+        return Ok(());
     };
-    let inside = open(out, "?(", here)?;
-    let behind = put_condition(out, known, condition, inside)?;
+    let outside = *here;
+    open(out, "?(", here)?;
+    put_condition(out, known, condition, here)?;
     out.put(')')?;
-    let end = put_choice(out, known, tree, behind)?;
-    close(out, here, end)
+    put_choice(out, known, tree, here)?;
+    close(out, &outside, here)
 }
 
 /// Writes a condition.
 #[cycle(write)]
-fn put_condition<'a, S: Sink>(
+fn put_condition<S: Sink>(
     out: &mut S,
     known: &Known,
     condition: &Expr,
-    here: Here<'a>,
-) -> Result<Here<'a>, AllocError>
-    ensures { (m : Marks) → IsKnown known.now m → IfOk result (λ i. Writes S.holds out.old out.new here.entry i
+    here: &mut Here,
+) -> Result<(), AllocError>
+    ensures { (m : Marks) → IsKnown known.now m → OnOk result (Writes S.holds out.old out.new here.old here.new
         (λ o. needs_listed o (view condition.now))
         (λ h. spec.condition_text m (view condition.now) (spec.written m (view condition.now) Whole h))
         (spec.behind (view condition.now) Whole)) }
@@ -547,18 +553,17 @@ fn put_condition<'a, S: Sink>(
             group,
             relative_recursion_level,
         } => {
-            put_target(out, known, *group, *relative_recursion_level)?;
-            Ok(here.past_node())
+            here.pass_node();
+            put_target(out, known, *group, *relative_recursion_level)
         }
         Expr::BacktrackingControlVerb(verb) => {
-            put_ascii(out, verb_name(*verb))?;
-            Ok(here.past_node())
+            here.pass_node();
+            put_ascii(out, verb_name(*verb))
         }
         _ => {
             let place = out.len();
-            let end = put_tree(out, known, condition, Precedence::Whole, here)?;
-            out.part(place, Parting::Condition)?;
-            Ok(end)
+            put_tree(out, known, condition, Precedence::Whole, here)?;
+            out.part(place, Parting::Condition)
         }
     }
 }
@@ -579,14 +584,14 @@ fn needs_bar(true_branch: &Expr, false_branch: &Expr) -> bool
 
 /// Writes the branches of a Conditional.
 #[cycle(write)]
-fn put_choice<'a, S: Sink>(
+fn put_choice<S: Sink>(
     out: &mut S,
     known: &Known,
     tree: &Expr,
-    here: Here<'a>,
-) -> Result<Here<'a>, AllocError>
+    here: &mut Here,
+) -> Result<(), AllocError>
     ensures { (m : Marks) → IsKnown known.now m → is_conditional (view tree.now) ≡ true →
-        IfOk result (λ i. Writes S.holds out.old out.new here.entry i
+        OnOk result (Writes S.holds out.old out.new here.old here.new
         (λ o. branches_needs o (view tree.now)) (choice_text m (view tree.now)) (behind_branches (view tree.now))) }
 {
     let Expr::Conditional {
@@ -595,64 +600,68 @@ fn put_choice<'a, S: Sink>(
         ..
     } = tree
     else {
-        return Ok(here);
+        return Ok(());
     };
     if are_empty(true_branch, false_branch) {
-        put_ascii(out, "()")?;
-        return Ok(here.past_node().past_node());
+        here.pass_node();
+        here.pass_node();
+        return put_ascii(out, "()");
     }
-    let behind = put_tree(out, known, true_branch, Precedence::Branch, here)?;
+    put_tree(out, known, true_branch, Precedence::Branch, here)?;
     if !needs_bar(true_branch, false_branch) {
-        return Ok(behind.past_node());
+        here.pass_node();
+        return Ok(());
     }
     out.put('|')?;
-    put_tree(out, known, false_branch, Precedence::Whole, behind)
+    put_tree(out, known, false_branch, Precedence::Whole, here)
 }
 
 /// Writes an absent repeater: with a bar in front it would be another absent form.
 #[cycle(write)]
-fn put_repeater<'a, S: Sink>(
+fn put_repeater<S: Sink>(
     out: &mut S,
     known: &Known,
     child: &Expr,
-    here: Here<'a>,
-) -> Result<Here<'a>, AllocError>
-    ensures { (m : Marks) → IsKnown known.now m → IfOk result (λ i. Writes S.holds out.old out.new here.entry i
+    here: &mut Here,
+) -> Result<(), AllocError>
+    ensures { (m : Marks) → IsKnown known.now m → OnOk result (Writes S.holds out.old out.new here.old here.new
         (λ o. needs_listed o (view child.now))
         (spec.in_parens (codes "?~") (λ h. spec.repeater_text (spec.written m (view child.now) Whole h)))
         (spec.past_groups (spec.group_count (view child.now)))) }
 {
-    let inside = open(out, "?~", here)?;
+    let outside = *here;
+    open(out, "?~", here)?;
     let place = out.len();
-    let end = put_tree(out, known, child, Precedence::Whole, inside)?;
+    put_tree(out, known, child, Precedence::Whole, here)?;
     out.part(place, Parting::Absent)?;
-    close(out, here, end)
+    close(out, &outside, here)
 }
 
 /// Writes an absent expression of two parts.
 #[cycle(write)]
-fn put_expression<'a, S: Sink>(
+fn put_expression<S: Sink>(
     out: &mut S,
     known: &Known,
     tree: &Expr,
-    here: Here<'a>,
-) -> Result<Here<'a>, AllocError>
+    here: &mut Here,
+) -> Result<(), AllocError>
     ensures { (m : Marks) → IsKnown known.now m → is_expression (view tree.now) ≡ true →
-        IfOk result (λ i. Writes S.holds out.old out.new here.entry i
+        OnOk result (Writes S.holds out.old out.new here.old here.new
         (λ o. needs_below o (view tree.now)) (parts_text m (view tree.now))
         (spec.past_groups (spec.group_count (view tree.now)))) }
 {
     let Expr::Absent(parts) = tree else {
-        return Ok(here);
+        return Ok(());
     };
     let Absent::Expression { absent, exp } = parts else {
-        return Ok(here);
+        return Ok(());
     };
-    let inside = open(out, "?~|", here)?;
-    let behind = put_tree(out, known, absent, Precedence::Branch, inside)?;
+    let outside = *here;
+    open(out, "?~|", here)?;
+    put_tree(out, known, absent, Precedence::Branch, here)?;
     out.put('|')?;
-    let end = put_tree(out, known, exp, Precedence::Branch, behind)?;
-    close(out, here, end)
+    put_tree(out, known, exp, Precedence::Branch, here)?;
+    close(out, &outside, here)
 }
 
 /// Writes an empty group, where nothing was written from the place on.
@@ -668,20 +677,21 @@ fn fill<S: Sink>(out: &mut S, place: usize) -> Result<(), AllocError>
 
 /// Writes an absent stopper: without a text it would be a clear.
 #[cycle(write)]
-fn put_stopper<'a, S: Sink>(
+fn put_stopper<S: Sink>(
     out: &mut S,
     known: &Known,
     child: &Expr,
-    here: Here<'a>,
-) -> Result<Here<'a>, AllocError>
-    ensures { (m : Marks) → IsKnown known.now m → IfOk result (λ i. Writes S.holds out.old out.new here.entry i
+    here: &mut Here,
+) -> Result<(), AllocError>
+    ensures { (m : Marks) → IsKnown known.now m → OnOk result (Writes S.holds out.old out.new here.old here.new
         (λ o. needs_listed o (view child.now))
         (spec.in_parens (codes "?~|") (λ h. spec.stopper_text (spec.written m (view child.now) Branch h)))
         (spec.past_groups (spec.group_count (view child.now)))) }
 {
-    let inside = open(out, "?~|", here)?;
+    let outside = *here;
+    open(out, "?~|", here)?;
     let place = out.len();
-    let end = put_tree(out, known, child, Precedence::Branch, inside)?;
+    put_tree(out, known, child, Precedence::Branch, here)?;
     fill(out, place)?;
-    close(out, here, end)
+    close(out, &outside, here)
 }

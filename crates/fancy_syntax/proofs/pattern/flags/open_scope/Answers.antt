@@ -6,7 +6,7 @@ use Rattle.fancy_syntax.proofs.pattern.flags.open_scope.Goals as goal
 pub returns : goal.returns
 returns g c = (
   subst (λ f. Added g.S.Sink.holds c.args.out.now c.put_scope_head.new.out
-      (codes "(?" ++ (letters_between c.args.here.flags f ++ codes ":")))
-      c.with-set.ensures.flags c.in_ok-put_scope_head.ensures,
-  λ h l is. c.inside.ensures _ _ (c.with-set.ensures.here h l is),
+      (codes "(?" ++ (letters_between c.args.here.now.flags f ++ codes ":")))
+      c.set.ensures.flags c.in_ok-put_scope_head.ensures,
+  λ h l is. c.enter.ensures _ _ (c.set.ensures.here h l is),
 )

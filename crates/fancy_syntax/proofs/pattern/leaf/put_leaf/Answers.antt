@@ -21,7 +21,7 @@ pub returns-in-BackrefWithRelativeRecursionLevel : goal.returns-in-BackrefWithRe
 returns-in-BackrefWithRelativeRecursionLevel g c m h l known is =
     let b = c.in-BackrefWithRelativeRecursionLevel in
     let fits : SFits w64 b.relative_level = search rules in
-    last_as g.S.Sink.holds _ _ _ (backref_at_level_text m c.args.here.opened b.group b.relative_level) _
+    last_as g.S.Sink.holds _ _ _ (backref_at_level_text m c.args.here.now.opened b.group b.relative_level) _
     (simp to_z-of_z at (c.put_backref_at_level.ensures m known))
     (ap (λ n. backref_at_level_text m n b.group b.relative_level) is.opened
     ∙ ap (λ t. alone_text m t h) (sym (ap view b.is ∙ view_at_level b.group b.relative_level b.casei)))
@@ -29,6 +29,6 @@ returns-in-BackrefWithRelativeRecursionLevel g c m h l known is =
 pub returns-in-SubroutineCall : goal.returns-in-SubroutineCall
 returns-in-SubroutineCall g c m h l known is =
     let b = c.in-SubroutineCall in
-    last_as g.S.Sink.holds _ _ _ (call_text m c.args.here.opened b.group) _ (c.put_call.ensures m known)
+    last_as g.S.Sink.holds _ _ _ (call_text m c.args.here.now.opened b.group) _ (c.put_call.ensures m known)
     (ap (λ n. call_text m n b.group) is.opened
     ∙ ap (λ t. alone_text m t h) (sym (ap view b.is ∙ view_call b.group)))

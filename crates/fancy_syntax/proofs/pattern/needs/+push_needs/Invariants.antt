@@ -13,8 +13,8 @@ decreases-push_needs l = levels (view l.tree.now)
 abbrev pub invariant-loop-child : goal.invariant-loop-child
 invariant-loop-child l = record {
   within : Within l.tree (remaining_children l.children);
-  joining : Joining first l.oniguruma_mode (view l.tree) l.first (remaining_children l.children);
-  common : Joining both l.oniguruma_mode (view l.tree) l.common (remaining_children l.children);
+  joining : Joining first l.oniguruma_mode (view l.tree) l.needs.first (remaining_children l.children);
+  common : Joining both l.oniguruma_mode (view l.tree) l.needs.common (remaining_children l.children);
   listing : Listing l.oniguruma_mode (view l.tree) l.fn.list.items l.list.items (remaining_children l.children);
 }
 
