@@ -1,6 +1,6 @@
 -- The trees whose texts are proved to read back.
 use Rattle.std.specs.Prelude.{◌≡◌, ℕ, zero, suc, ◌+◌, ◌-◌, ◌^◌, ◌<◌, ◌≤◌, ◌&&◌, Bool, true, false, List, [], ◌∷◌, ◌++◌}
-use Rattle.std.specs.Prelude.{length, Option, option_map, nat_le, nat_lt, filter, find, ◌||◌}
+use Rattle.std.specs.Prelude.{length, Option, option_map, nat_le, nat_lt, filter, find, ◌||◌, ℤ, pos, negsuc}
 use Rattle.std.specs.List.{AllByRecursion}
 use Prim.Native.Char.{code}
 use Rattle.fancy_lex.specs.Characters.{is_among, backslash, open_bracket}
@@ -20,7 +20,7 @@ use Rattle.fancy_grammar.specs.Join.{is_empty}
 use Rattle.fancy_grammar.specs.Label.{Leaf, empty, any, assertion, general_newline, literal, literal_bytes, delegate}
 use Rattle.fancy_grammar.specs.Label.{keep_out, continue_from_previous_match_end, verb, clear, group, look_around}
 use Rattle.fancy_grammar.specs.Label.{repeat, atomic_group, define_group, repeater, stopper, expression, conditional}
-use Rattle.fancy_grammar.specs.Label.{concat, alt, backref, subroutine_call}
+use Rattle.fancy_grammar.specs.Label.{concat, alt, backref, subroutine_call, backref_at_level}
 use Rattle.fancy_grammar.specs.Marks.{Marks, ascending}
 use Rattle.fancy_grammar.specs.Pattern.{group_count, Here, is_in_digits, written_all}
 use Rattle.fancy_grammar.specs.PatternReference.{name_of}
@@ -49,6 +49,11 @@ abbrev pub HasSource : Flags → Text → Bool → Type 0
 HasSource f s casei =
     (g : Flags) → IsLike f g → settled g (leaf (delegate s casei)) ≡ g → IsSource g s casei (delegate_text g casei s)
 
+-- a level that can be written
+abbrev pub IsLevelWritable : ℤ → Type 0
+IsLevelWritable (pos n) = n < amount_bound
+IsLevelWritable (negsuc n) = n + 1 < amount_bound
+
 -- a call of a group by its number, where some reference is written as a number, or else of one that is not too far
 abbrev pub IsCallWritable : Bool → ℕ → ℕ → Type 0
 IsCallWritable true c n = (0 < n) × (n < 2 ^ 64)
@@ -59,7 +64,7 @@ abbrev pub IsParted : Marks → Tree → Trees → Type 0
 IsParted m t ts = is_in_digits m t ≡ true → (h : Here) → at_digit (written_all m false ts h) ≡ false
 
 -- a leaf as it is read, behind the openings of c groups: a character, a byte without UNICODE, what has an escape, a
--- back reference without a level, or a call
+-- back reference, or a call
 abbrev pub IsWritableLeaf : Flags → Marks → ℕ → Leaf → Type 0
 IsWritableLeaf f m c (literal (d ∷ []) casei) = Unit {0}
 IsWritableLeaf f m c (literal_bytes (b ∷ [])) = (f.unicode ≡ false) × (0x80 ≤ b) × (b ≤ 0xFF)
@@ -74,6 +79,8 @@ IsWritableLeaf f m c keep_out = Unit {0}
 IsWritableLeaf f m c continue_from_previous_match_end = Unit {0}
 IsWritableLeaf f m c clear = Unit {0}
 IsWritableLeaf f m c (backref n casei) = n < 2 ^ 64
+IsWritableLeaf f m c (backref_at_level n level casei) =
+    (m.numeric_capture_group_references ≡ false) × (n < 2 ^ 64) × IsLevelWritable level
 IsWritableLeaf f m c (subroutine_call n) = IsCallWritable m.numeric_capture_group_references c n
 IsWritableLeaf f m c _ = ⊥
 

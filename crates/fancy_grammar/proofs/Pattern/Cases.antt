@@ -40,7 +40,7 @@ use Rattle.fancy_grammar.proofs.ReadBack.RuleLemmas.{st}
 use Rattle.fancy_lex.specs.Characters.{◌∈◌, is_among}
 use Rattle.fancy_lex.specs.Reading.{choose}
 use Rattle.fancy_grammar.proofs.Pattern.Becomes.{numbers_told}
-use Rattle.fancy_grammar.proofs.Pattern.References.{backref_at, call_at}
+use Rattle.fancy_grammar.proofs.Pattern.References.{backref_at, call_at, level_at}
 
 module _ (μ : Marks) where
   abbrev pub ReadsTree : Tree → Here → Type 0
@@ -114,6 +114,9 @@ module _ (μ : Marks) where
   leaf_reads numbered f (label.backref n casei) h o like d k =
       leaf_by (label.backref n casei) h o d refl
       (backref_at μ (under (settled h.flags (leaf (label.backref n casei))) h) numbered n k)
+  leaf_reads numbered f (label.backref_at_level n level casei) h o like d k =
+      leaf_by (label.backref_at_level n level casei) h o d refl
+      (level_at μ (under (settled h.flags (leaf (label.backref_at_level n level casei))) h) numbered k.0 n level k.1 k.2)
   leaf_reads numbered f (label.subroutine_call n) h o like d k =
       leaf_by (label.subroutine_call n) h o d refl (call_at μ h numbered n k)
   leaf_reads numbered f _ h o like d k = absurd k

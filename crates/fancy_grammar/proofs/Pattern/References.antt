@@ -5,7 +5,7 @@ use Rattle.std.proofs.Common.{if◌then◌else◌, IfSome, option_map, decimal, 
 use Rattle.std.proofs.Common.{◌<◌, ◌≤◌, ℤ, pos, negsuc, lt-ltb, le-leb, ltb-true, ◌+◌, get_or, length}
 use Rattle.std.proofs.Math.Seq.{get_or-append_seam}
 use Rattle.std.proofs.Math.Utf8.{encodes}
-use Rattle.std.proofs.lemmas.Bool.{cond-true, cond-false, and_parts, false≢true, cond_both, and_from}
+use Rattle.std.proofs.lemmas.Bool.{cond-true, cond-false, and_parts, false≢true, cond_both, and_from, or_parts}
 use Rattle.std.proofs.lemmas.Bool.Decides.{nat_tests}
 use Rattle.std.proofs.lemmas.Fmt.{decimal_is_IsNumeral}
 use Rattle.std.proofs.lemmas.Option.{same_Some}
@@ -22,6 +22,7 @@ use Rattle.fancy_lex.specs.EscapeReference.{call_target}
 use Rattle.fancy_lex.specs.Escaped as escaped
 use Rattle.fancy_lex.specs.Id.{is_id_char, id_run, id, nonempty_front}
 use Rattle.fancy_lex.specs.IdReference.{id_alone, id_reference, with_id, amount, amount_alone, amount_bound, with_sign}
+use Rattle.fancy_lex.specs.IdReference.{id_and_amount}
 use Rattle.fancy_lex.specs.Number.{at_digit}
 use Rattle.fancy_lex.specs.Number as numbers
 use Rattle.fancy_lex.specs.NumberText.{number_text, whole_number, is_nothing}
@@ -37,6 +38,7 @@ use Rattle.fancy_lex.proofs.ReadingLemmas.{choose_both}
 use Rattle.fancy_lex.proofs.TextLemmas.{bytes-append, length_encodes}
 use Rattle.fancy_grammar.specs.PatternReference.{is_plain_name, Named, name_of, fit_name, is_last, is_only, distance}
 use Rattle.fancy_grammar.specs.PatternReference.{backref_text, call_text, marked, call_name, name_or}
+use Rattle.fancy_grammar.specs.PatternReference.{backref_at_level_text, signed}
 use Rattle.fancy_grammar.proofs.Pattern.Groups.{cut_before}
 use Rattle.fancy_parts.specs.Meaning.{back_reference, call, number, means, back_to, last_of, only_one, group_or_none}
 use Rattle.fancy_parts.specs.Meaning.{Role, condition}
@@ -50,7 +52,7 @@ use Rattle.fancy_grammar.specs.Marks.{Marks, is_call_of_all}
 use Rattle.fancy_grammar.specs.Pattern.{Here, group_count}
 use Rattle.fancy_grammar.specs.Resolved.{reference_node}
 use Rattle.fancy_grammar.specs.Tree.{leaf, ast_node}
-use Rattle.fancy_grammar.specs.Writable.{IsCallWritable}
+use Rattle.fancy_grammar.specs.Writable.{IsCallWritable, IsLevelWritable}
 use Rattle.fancy_grammar.proofs.Pattern.Becomes.{Becomes, numbers_told, IsAsMarked}
 use Rattle.fancy_grammar.proofs.Pattern.Leaves.{LeafAt}
 use Rattle.fancy_grammar.proofs.Pattern.Quantifiers.{number_read}
@@ -70,6 +72,7 @@ pub record PlainName (w : Text) : Type 0 where
   pub read : id_reference true w ≡ Some (id_alone w)
   pub target : target_of_name w ≡ by_name w
   pub not_relative : is_relative w ≡ false
+  pub ids : AllByRecursion (λ c. is_id_char c ≡ true) w
 
 -- the id at the front is of id characters
 run_of_ids : (t : Text) → AllByRecursion (λ c. is_id_char c ≡ true) (id_run t).0
@@ -154,6 +157,7 @@ plain_name w h =
       read = alone_read w e;
       target = named_by w (none_of (number_text w) b);
       not_relative = no_relative w ids;
+      ids = ids;
     }
 
 -- ---- what is read
@@ -172,13 +176,13 @@ call_read_by : (f : Flags) (w v : Text) (target : Target) →
 unfolding escape_at lone_escape outside call_escape subroutine_call marked_call
 call_read_by f w v target e h = rw (e, h (reach_of (code "<" ∷ (w ++ code ">" ∷ v)))) refl
 
-backref_read_by : (f : Flags) (w v : Text) (target : Target) →
+backref_read_by : (f : Flags) (w v : Text) (target : Target) (level : Option ℤ) →
     ◌≡◌ {A = Option (Text × Text)} (marked_name (code "<" ∷ (w ++ code ">" ∷ v))) (Some (w, v)) →
-    ((p : ℕ) → written_reference p true w ≡ Some (reference_to p target None)) →
+    ((p : ℕ) → written_reference p true w ≡ Some (reference_to p target level)) →
     escape f false (code "k" ∷ code "<" ∷ (w ++ code ">" ∷ v))
-    ≡ gives (escaped.backref (reference_to (reach_of (code "<" ∷ (w ++ code ">" ∷ v))) target None) f.casei) v
+    ≡ gives (escaped.backref (reference_to (reach_of (code "<" ∷ (w ++ code ">" ∷ v))) target level) f.casei) v
 unfolding escape_at lone_escape outside escapes.back_reference reference_by_name
-backref_read_by f w v target e h = rw (e, h (reach_of (code "<" ∷ (w ++ code ">" ∷ v)))) refl
+backref_read_by f w v target level e h = rw (e, h (reach_of (code "<" ∷ (w ++ code ">" ∷ v)))) refl
 
 module _ (w : Text) (h : PlainName w) (v : Text) where
   abbrev in_marks : Text
@@ -263,12 +267,111 @@ unfolding id
 id_of_digits [] h = absurd (omega (arith, h.0))
 id_of_digits (d ∷ ds) h = ap nonempty_front (digits_are_id (d ∷ ds) h.1)
 
+digit_ids : (ds : Text) → AllDigits 10 ds → AllByRecursion (λ c. is_id_char c ≡ true) ds
+digit_ids [] h = tt
+digit_ids (d ∷ ds) h = (digit_is_id d ((digit_is d h.0).0), digit_ids ds h.1)
+
+number_target : (n : ℕ) → n < 2 ^ 64 → target_of_name (decimal n) ≡ by_number n
+unfolding target_of_name
+number_target n l = ap (number_or_name (decimal n)) (number_text_digits n l)
+
 number_written : (n : ℕ) → n < 2 ^ 64 → (p : ℕ) →
     written_reference p true (decimal n) ≡ Some (reference_to p (by_number n) None)
 unfolding written_reference reference_of target_of_name
 number_written n l p =
     ap (option_map (reference_of p)) (alone_read (decimal n) (id_of_digits (decimal n) ((decimal_is_IsNumeral n l).0)))
     ∙ ap (λ k. Some (reference_to p (number_or_name (decimal n) k) None)) (number_text_digits n l)
+
+-- ---- levels
+
+amount_of : (sign n : ℕ) → sign ∈ "+-" ≡ true → n < amount_bound → amount (sign ∷ decimal n) ≡ Some (with_sign sign n)
+unfolding amount
+amount_of sign n is small =
+    let fits : n < 2 ^ 64 = omega (arith, small) in
+    rw (is, whole_digits n fits, lt-ltb n amount_bound small) refl
+
+-- a level as it is written: a sign, and a number behind it
+pub record WrittenLevel (z : ℤ) : Type 0 where
+  pub sign : ℕ
+  pub digits : Text
+  pub is : signed z ≡ sign ∷ digits
+  pub is_sign : sign ∈ "+-" ≡ true
+  pub value : amount (sign ∷ digits) ≡ Some z
+  pub no_mark : is_among (code ">") (sign ∷ digits) ≡ false
+
+sign_marks : (sign : ℕ) (ds : Text) → sign ∈ "+-" ≡ true → is_among (code ">") ds ≡ false →
+    is_among (code ">") (sign ∷ ds) ≡ false
+sign_marks sign [] i h = grind (arith, nat_tests)
+sign_marks sign (d ∷ ds) i h = rw (no_mark sign i) h
+  where
+    no_mark : (sign : ℕ) → sign ∈ "+-" ≡ true → (code ">" == sign) ≡ false
+    no_mark sign i = grind (arith, nat_tests)
+
+written_level : (z : ℤ) → IsLevelWritable z → WrittenLevel z
+written_level (pos n) small = record {
+  sign = code "+";
+  digits = decimal n;
+  is = refl;
+  is_sign = refl;
+  value = amount_of (code "+") n refl small;
+  no_mark =
+      sign_marks (code "+") (decimal n) refl
+      (digits_unmarked (decimal n) ((decimal_is_IsNumeral n (omega (arith, small))).0.1));
+}
+written_level (negsuc n) small =
+    let same : suc n ≡ n + 1 = omega arith in
+    record {
+      sign = code "-";
+      digits = decimal (n + 1);
+      is = refl;
+      is_sign = refl;
+      value = subst (λ k. amount (code "-" ∷ decimal k) ≡ Some (negsuc n)) same
+          (amount_of (code "-") (suc n) refl (omega (arith, small)));
+      no_mark =
+          sign_marks (code "-") (decimal (n + 1)) refl
+          (digits_unmarked (decimal (n + 1)) ((decimal_is_IsNumeral (n + 1) (omega (arith, small))).0.1));
+    }
+
+both_unmarked : (w v : Text) → is_among (code ">") w ≡ false → is_among (code ">") v ≡ false →
+    is_among (code ">") (w ++ v) ≡ false
+both_unmarked [] v h k = k
+both_unmarked (c ∷ []) [] h k = h
+both_unmarked (c ∷ []) (d ∷ v) h k = rw h k
+both_unmarked (c ∷ d ∷ w) v h k =
+    let (a, b) = or_parts (code ">" == c) (is_among (code ">") (d ∷ w)) h in rw a (both_unmarked (d ∷ w) v b k)
+
+run_before : (w ds : Text) (sign : ℕ) → AllByRecursion (λ c. is_id_char c ≡ true) w → is_id_char sign ≡ false →
+    ◌≡◌ {A = Text × Text} (id_run (w ++ sign ∷ ds)) (w, sign ∷ ds)
+unfolding id_run
+run_before [] ds sign h i = rw i refl
+run_before (c ∷ w) ds sign h i =
+    rw h.0 (ap (λ (p : Text × Text). (c ∷ p.0, p.1)) (run_before w ds sign h.1 i))
+
+-- a name before a level
+module _ (c : ℕ) (u : Text) (z : ℤ) (l : WrittenLevel z) (ids : AllByRecursion (λ c. is_id_char c ≡ true) (c ∷ u)) where
+  no_sign_id : is_id_char l.sign ≡ false
+  no_sign_id = no_id l.sign (later l.sign l.is_sign)
+    where
+      later : (sign : ℕ) → sign ∈ "+-" ≡ true → sign ∈ ">+-" ≡ true
+      later sign h = grind (arith, nat_tests)
+
+  id_before : ◌≡◌ {A = Option (Text × Text)} (id ((c ∷ u) ++ l.sign ∷ l.digits)) (Some (c ∷ u, l.sign ∷ l.digits))
+  unfolding id
+  id_before = ap nonempty_front (run_before (c ∷ u) l.digits l.sign ids no_sign_id)
+
+  level_read : id_reference true ((c ∷ u) ++ l.sign ∷ l.digits) ≡ Some (id_and_amount (c ∷ u) z)
+  unfolding id_reference
+  level_read = rw (id_before, l.value) refl
+
+  level_written : (target : Target) → target_of_name (c ∷ u) ≡ target → (p : ℕ) →
+      written_reference p true ((c ∷ u) ++ l.sign ∷ l.digits) ≡ Some (reference_to p target (Some z))
+  unfolding written_reference reference_of
+  level_written target t p = ap (option_map (reference_of p)) level_read ∙ ap (λ t. Some (reference_to p t (Some z))) t
+
+  level_marked : is_among (code ">") (c ∷ u) ≡ false → (v : Text) → ◌≡◌ {A = Option (Text × Text)}
+      (marked_name (code "<" ∷ (((c ∷ u) ++ l.sign ∷ l.digits) ++ code ">" ∷ v)))
+      (Some ((c ∷ u) ++ l.sign ∷ l.digits, v))
+  level_marked h v = marked_read c (u ++ l.sign ∷ l.digits) v (both_unmarked (c ∷ u) (l.sign ∷ l.digits) h l.no_mark)
 
 not_zero : (k : ℕ) → int_eq (pos (suc k)) (pos 0) ≡ false
 not_zero k = at (int_eq (pos (suc k)) (pos 0)) refl
@@ -442,27 +545,29 @@ reference_text : (w v : Text) → (code "<" ∷ (w ++ codes ">")) ++ v ≡ code 
 reference_text w v = ap (λ z. code "<" ∷ z) (append_assoc w (codes ">") v)
 
 -- a back reference by a name of some kind
-backref_by : (μ : Marks) (h : Here) (n : ℕ) (w : Text) (target : Target) →
+backref_by : (μ : Marks) (h : Here) (n : ℕ) (w : Text) (target : Target) (level : Option ℤ) (l : Leaf) →
     ((v : Text) → ◌≡◌ {A = Option (Text × Text)} (marked_name (code "<" ∷ (w ++ code ">" ∷ v))) (Some (w, v))) →
-    ((p : ℕ) → written_reference p true w ≡ Some (reference_to p target None)) →
+    ((p : ℕ) → written_reference p true w ≡ Some (reference_to p target level)) →
     means (numbers_told μ) h.opened back_reference target ≡ number n →
-    ((t : Text) → IsAsMarked μ (codes "\\k" ++ t) (ast_backref target h.flags.casei None) (reach_of t)) →
-    LeafAt μ h (marked (codes "\\k") w) (label.backref n h.flags.casei)
-backref_by μ h n w target name written meant as_marked = record {
+    ((m p : ℕ) → reference_node m (number n) (ast_backref target h.flags.casei level) p ≡ leaf l) →
+    group_count (leaf l) ≡ 0 →
+    ((t : Text) → IsAsMarked μ (codes "\\k" ++ t) (ast_backref target h.flags.casei level) (reach_of t)) →
+    LeafAt μ h (marked (codes "\\k") w) l
+backref_by μ h n w target level l name written meant node count as_marked = record {
   reads =
       λ v m _. let t = code "<" ∷ (w ++ code ">" ∷ v) in
-      subst (λ z. AtomAt μ h (codes "\\k" ++ z) v (leaf (label.backref n h.flags.casei))) (sym (reference_text w v))
+      subst (λ z. AtomAt μ h (codes "\\k" ++ z) v (leaf l)) (sym (reference_text w v))
       (record {
-        tree = ast_node (ast_backref target h.flags.casei None) (reach_of t);
+        tree = ast_node (ast_backref target h.flags.casei level) (reach_of t);
         derives =
             atom
             (leaf_at h.depth h.flags (code "\\") (code "k" ∷ t) refl refl
             ∙ ap (λ o. read (leaf_outcome leaf_node (st h.flags (codes "\\k" ++ t)) o))
-            (backref_read_by h.flags w v target (name v) written))
+            (backref_read_by h.flags w v target level (name v) written))
             a_read;
         becomes =
-            reference_becomes μ _ h.opened (ast_backref target h.flags.casei None) (reach_of t) n
-            (label.backref n h.flags.casei) meant (as_marked t) (λ _. refl) refl;
+            reference_becomes μ _ h.opened (ast_backref target h.flags.casei level) (reach_of t) n
+            l meant (as_marked t) (λ m. node m (reach_of t)) count;
       });
   begins = λ v. begins_reference h.flags.ignore_space _;
 }
@@ -507,7 +612,8 @@ module _ (μ : Marks) (h : Here) (numbered : (k : ℕ) → IfSome (name_of μ k)
       let P = λ (w : Text). LeafAt μ h (marked (codes "\\k") w) (label.backref n h.flags.casei) in
       subst (λ t. LeafAt μ h t (label.backref n h.flags.casei)) (sym (cond-false _ _ _ none))
       (choose_both P (fit_name μ such n) _ _ (λ w e. by_fit w e)
-      (backref_by μ h n (decimal n) (by_number n) (digits_marked n l) (number_written n l) refl
+      (backref_by μ h n (decimal n) (by_number n) None (label.backref n h.flags.casei) (digits_marked n l)
+      (number_written n l) refl (λ _ _. refl) refl
       (λ t. record {
         numeric =
             λ text (w, z). (λ i. is_behind_backslash ((z ∙ sym (append_assoc w (codes "\\") (code "k" ∷ t))) i)
@@ -525,9 +631,59 @@ module _ (μ : Marks) (h : Here) (numbered : (k : ℕ) → IfSome (name_of μ k)
           = ap (back_to h.opened q.name) (last_is n (numbers_told μ q.name) last) ∙ cond-true _ _ _ early in
           subst (λ w. LeafAt μ h (marked (codes "\\k") w) (label.backref n h.flags.casei))
           (same_Some q.name w (sym q.fit ∙ e))
-          (backref_by μ h n q.name (by_name q.name) (λ v. name_read q.name q.plain v)
-          (written_as q.name q.plain []) meant
+          (backref_by μ h n q.name (by_name q.name) None (label.backref n h.flags.casei)
+          (λ v. name_read q.name q.plain v) (written_as q.name q.plain []) meant (λ _ _. refl) refl
           (λ t. not_in_digits (ast_backref (by_name q.name) h.flags.casei None) (reach_of t) _ refl))
+
+  -- the same with a level
+  pub level_at : (n : ℕ) (z : ℤ) → n < 2 ^ 64 → IsLevelWritable z →
+      LeafAt μ h (backref_at_level_text μ h.opened n z) (label.backref_at_level n z h.flags.casei)
+  level_at n z small level =
+      let P = λ (w : Text). LeafAt μ h (marked (codes "\\k") (w ++ signed z))
+      (label.backref_at_level n z h.flags.casei) in
+      choose_both P (fit_name μ (λ l. is_last n l && nat_le n h.opened) n) _ _ (λ w e. by_fit w e)
+      (by_digits (decimal n) ((decimal_is_IsNumeral n small).0) (number_target n small))
+    where
+      named_so : (c : ℕ) (u : Text) → AllByRecursion (λ c. is_id_char c ≡ true) (c ∷ u) →
+          is_among (code ">") (c ∷ u) ≡ false → (target : Target) → target_of_name (c ∷ u) ≡ target →
+          means (numbers_told μ) h.opened back_reference target ≡ number n →
+          ((t : Text) → IsAsMarked μ (codes "\\k" ++ t) (ast_backref target h.flags.casei (Some z)) (reach_of t)) →
+          LeafAt μ h (marked (codes "\\k") ((c ∷ u) ++ signed z)) (label.backref_at_level n z h.flags.casei)
+      named_so c u ids unmarked target told meant as_marked =
+          let l = written_level z level in
+          subst (λ t. LeafAt μ h (marked (codes "\\k") ((c ∷ u) ++ t)) (label.backref_at_level n z h.flags.casei))
+          (sym l.is)
+          (backref_by μ h n ((c ∷ u) ++ l.sign ∷ l.digits) target (Some z) (label.backref_at_level n z h.flags.casei)
+          (level_marked c u z l ids unmarked) (level_written c u z l ids target told) meant
+          (λ _ _. refl) refl as_marked)
+
+      by_digits : (ds : Text) → IsNumeral 10 ds → target_of_name ds ≡ by_number n →
+          LeafAt μ h (marked (codes "\\k") (ds ++ signed z)) (label.backref_at_level n z h.flags.casei)
+      by_digits [] i t = absurd (omega (arith, i.0))
+      by_digits (d ∷ ds) i t =
+          named_so d ds (digit_ids (d ∷ ds) i.1) (digits_unmarked (d ∷ ds) i.1) (by_number n) t refl
+          (λ t. record {
+            numeric =
+                λ text (w, z). (λ i. is_behind_backslash ((z ∙ sym (append_assoc w (codes "\\") (code "k" ∷ t))) i)
+                (place_at (bytes ((z ∙ sym (append_assoc w (codes "\\") (code "k" ∷ t))) i)) (reach_of t)))
+                ∙ (behind_letter (w ++ codes "\\") t ∙ sym none);
+            not_of_all = refl;
+          })
+
+      by_fit : (w : Text) → fit_name μ (λ l. is_last n l && nat_le n h.opened) n ≡ Some w →
+          LeafAt μ h (marked (codes "\\k") (w ++ signed z)) (label.backref_at_level n z h.flags.casei)
+      by_fit w e =
+          let q = fits μ (λ l. is_last n l && nat_le n h.opened) n (numbered n) (ap is_some e) in
+          let (last, early) = and_parts (is_last n (numbers_told μ q.name)) (nat_le n h.opened) q.are_such in
+          let meant : means (numbers_told μ) h.opened back_reference (by_name q.name) ≡ number n
+          = ap (back_to h.opened q.name) (last_is n (numbers_told μ q.name) last) ∙ cond-true _ _ _ early in
+          let (c, u, is) = q.plain.some in
+          subst (λ w. LeafAt μ h (marked (codes "\\k") (w ++ signed z)) (label.backref_at_level n z h.flags.casei))
+          (sym is ∙ same_Some q.name w (sym q.fit ∙ e))
+          (named_so c u (subst (AllByRecursion (λ c. is_id_char c ≡ true)) is q.plain.ids)
+          (sym (ap (is_among (code ">")) is) ∙ q.plain.no_mark) (by_name q.name)
+          (sym (ap target_of_name is) ∙ q.plain.target) meant
+          (λ t. not_in_digits (ast_backref (by_name q.name) h.flags.casei (Some z)) (reach_of t) _ refl))
 
   -- by the name, where it is fit, and else by the distance
   call_without : (n : ℕ) → n - h.opened < amount_bound → h.opened + 1 - n < amount_bound →
