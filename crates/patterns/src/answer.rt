@@ -6,6 +6,7 @@ use clap::{ArgMatches, Error};
 use patterns_program::draw::draw_tree;
 use patterns_program::fault::{Fault, give_up};
 use patterns_program::lint::rule::write_rules;
+use patterns_program::objects::tree::write_tree;
 use patterns_program::picture::draw_picture;
 use patterns_program::run::{Job, Verb, run};
 use patterns_program::sources::Sources;
@@ -51,6 +52,9 @@ fn answer_pattern<O: Write, E: Write>(
     if name == "picture" {
         return draw_picture(alloc, flags, canvas_chosen(matches), pattern, out, err);
     }
+    if matches.get_flag("json") {
+        return write_tree(alloc, flags, pattern, out, err);
+    }
     draw_tree(alloc, flags, style_chosen(matches), pattern, out, err)
 }
 
@@ -81,7 +85,11 @@ fn answer_lint<S: Sources, O: Write, E: Write>(
     let Some(files) = matches.get_strs("files") else {
         return Ok(MISUSED);
     };
-    let verb = Verb::Lint(chosen);
+    let verb = if matches.get_flag("json") {
+        Verb::LintJson(chosen)
+    } else {
+        Verb::Lint(chosen)
+    };
     Ok(run(alloc, Job { verb, flags }, files, sources, out, err))
 }
 

@@ -7,6 +7,8 @@ use crate::groups::list_groups;
 use crate::lines::next_line;
 use crate::lint::chosen::Chosen;
 use crate::lint::lint;
+use crate::lint::objects::lint_objects;
+use crate::objects::{Report, report_pattern};
 use crate::outcome::Outcome;
 use crate::place::Location;
 use crate::printing::{format_pattern, is_formatted};
@@ -31,6 +33,10 @@ pub enum Verb {
     Groups,
     /// Report what is surely not meant in it.
     Lint(Chosen),
+    /// Report on it as JSON.
+    Json(Report),
+    /// Report as JSON what is surely not meant in it.
+    LintJson(Chosen),
 }
 
 /// A subcommand over files, and the flags that the patterns are parsed under.
@@ -75,6 +81,8 @@ fn answer_line<O: Write, E: Write>(
         Verb::IsFormatted => is_formatted(alloc, job.flags, at, pattern, err),
         Verb::Groups => list_groups(alloc, job.flags, at, pattern, out, err),
         Verb::Lint(chosen) => lint(alloc, job.flags, at, pattern, &chosen, out),
+        Verb::Json(what) => report_pattern(alloc, job.flags, at, pattern, what, out),
+        Verb::LintJson(chosen) => lint_objects(alloc, job.flags, at, pattern, &chosen, out),
     }
 }
 
