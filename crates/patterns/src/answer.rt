@@ -1,6 +1,8 @@
 //! What the program does with its arguments.
 use crate::rules::rules_chosen;
-use crate::words::{canvas_chosen, command, flags_chosen, style_chosen, verb_chosen};
+use crate::words::{
+    canvas_chosen, command, ending_chosen, flags_chosen, style_chosen, verb_chosen,
+};
 use clap::error::ErrorKind;
 use clap::{ArgMatches, Error};
 use patterns_program::draw::draw_tree;
@@ -90,7 +92,13 @@ fn answer_lint<S: Sources, O: Write, E: Write>(
     } else {
         Verb::Lint(chosen)
     };
-    Ok(run(alloc, Job { verb, flags }, files, sources, out, err))
+    let ending = ending_chosen(matches);
+    let job = Job {
+        verb,
+        flags,
+        ending,
+    };
+    Ok(run(alloc, job, files, sources, out, err))
 }
 
 /// Runs a subcommand.
@@ -114,7 +122,12 @@ fn answer_verb<S: Sources, O: Write, E: Write>(
     let (Some(verb), Some(files)) = (verb_chosen(name, matches), matches.get_strs("files")) else {
         return Ok(MISUSED);
     };
-    let job = Job { verb, flags };
+    let ending = ending_chosen(matches);
+    let job = Job {
+        verb,
+        flags,
+        ending,
+    };
     Ok(run(alloc, job, files, sources, out, err))
 }
 

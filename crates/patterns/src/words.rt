@@ -2,6 +2,7 @@
 use clap::{Arg, ArgAction, ArgMatches, Command};
 use fre_program::flag_word::flags_named;
 use patterns_program::draw::Style;
+use patterns_program::lines::Ending;
 use patterns_program::objects::Report;
 use patterns_program::picture::Canvas;
 use patterns_program::run::{STANDARD_INPUT, Verb};
@@ -29,6 +30,8 @@ const LETTERS: &str = "The letters of --flags:
   n  if some group has a name, groups without a name have no number";
 
 const FILES_HELP: &str = "Files with one pattern per line, in UTF-8; - is standard input";
+
+const NULL_HELP: &str = "A pattern ends with NUL, and not with its line";
 
 const JSON_HELP: &str = "Writes JSON, one object per line, to standard output";
 
@@ -75,12 +78,21 @@ fn files_arg<'a>(alloc: Global) -> Arg<'a> {
         .help(FILES_HELP)
 }
 
+fn null_arg<'a>(alloc: Global) -> Arg<'a> {
+    Arg::new(alloc, "null-data")
+        .short('z')
+        .long("null-data")
+        .action(ArgAction::SetTrue)
+        .help(NULL_HELP)
+}
+
 /// A subcommand over files.
 fn over_files<'a>(alloc: Global, name: &'a str, about: &'a str) -> Result<Command<'a>, AllocError> {
     Command::new(alloc, name)
         .about(about)
         .after_help(LETTERS)
         .arg(flags_arg(alloc))?
+        .arg(null_arg(alloc))?
         .arg(files_arg(alloc))
 }
 
@@ -184,6 +196,15 @@ pub(crate) fn verb_chosen(name: &str, matches: &ArgMatches<'_>) -> Option<Verb> 
         "groups" if matches.get_flag("json") => Some(Verb::Json(Report::Groups)),
         "groups" => Some(Verb::Groups),
         _ => None,
+    }
+}
+
+/// What a pattern ends with, as the arguments choose.
+pub(crate) fn ending_chosen(matches: &ArgMatches<'_>) -> Ending {
+    if matches.get_flag("null-data") {
+        Ending::Null
+    } else {
+        Ending::Line
     }
 }
 

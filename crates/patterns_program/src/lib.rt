@@ -5,7 +5,7 @@ mod check;
 pub mod draw;
 pub mod fault;
 mod groups;
-mod lines;
+pub mod lines;
 pub mod lint;
 mod marks;
 mod names;
