@@ -1,11 +1,14 @@
 //! What the program does with its arguments.
 use crate::rules::rules_chosen;
-use crate::words::{canvas_chosen, command, flags_chosen, style_chosen, verb_chosen};
+use crate::words::{
+    canvas_chosen, command, ending_chosen, flags_chosen, style_chosen, verb_chosen,
+};
 use clap::error::ErrorKind;
 use clap::{ArgMatches, Error};
 use patterns_program::draw::draw_tree;
 use patterns_program::fault::{Fault, give_up};
 use patterns_program::lint::rule::write_rules;
+use patterns_program::objects::tree::write_tree;
 use patterns_program::picture::draw_picture;
 use patterns_program::run::{Job, Verb, run};
 use patterns_program::sources::Sources;
@@ -51,6 +54,9 @@ fn answer_pattern<O: Write, E: Write>(
     if name == "picture" {
         return draw_picture(alloc, flags, canvas_chosen(matches), pattern, out, err);
     }
+    if matches.get_flag("json") {
+        return write_tree(alloc, flags, pattern, out, err);
+    }
     draw_tree(alloc, flags, style_chosen(matches), pattern, out, err)
 }
 
@@ -81,8 +87,18 @@ fn answer_lint<S: Sources, O: Write, E: Write>(
     let Some(files) = matches.get_strs("files") else {
         return Ok(MISUSED);
     };
-    let verb = Verb::Lint(chosen);
-    Ok(run(alloc, Job { verb, flags }, files, sources, out, err))
+    let verb = if matches.get_flag("json") {
+        Verb::LintJson(chosen)
+    } else {
+        Verb::Lint(chosen)
+    };
+    let ending = ending_chosen(matches);
+    let job = Job {
+        verb,
+        flags,
+        ending,
+    };
+    Ok(run(alloc, job, files, sources, out, err))
 }
 
 /// Runs a subcommand.
@@ -106,7 +122,12 @@ fn answer_verb<S: Sources, O: Write, E: Write>(
     let (Some(verb), Some(files)) = (verb_chosen(name, matches), matches.get_strs("files")) else {
         return Ok(MISUSED);
     };
-    let job = Job { verb, flags };
+    let ending = ending_chosen(matches);
+    let job = Job {
+        verb,
+        flags,
+        ending,
+    };
     Ok(run(alloc, job, files, sources, out, err))
 }
 

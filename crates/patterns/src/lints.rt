@@ -1,5 +1,6 @@
 //! What `lint` reports of patterns, and what it does not.
 use crate::memory::{Limited, Memory};
+use patterns_program::lines::Ending;
 use patterns_program::lint::chosen::{Chosen, Level};
 use patterns_program::lint::rule::{RULES, Rule};
 use patterns_program::run::{Job, Verb, run};
@@ -12,6 +13,7 @@ fn lint(alloc: Global, pattern: &str, chosen: Chosen) -> Result<(u8, Limited), F
     let job = Job {
         verb: Verb::Lint(chosen),
         flags: 32,
+        ending: Ending::Line,
     };
     let input = Memory {
         input: pattern.as_bytes(),

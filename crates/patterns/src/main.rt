@@ -33,4 +33,6 @@ mod lints;
 #[cfg(test)]
 mod memory;
 #[cfg(test)]
+mod objects;
+#[cfg(test)]
 mod tests;

@@ -128,6 +128,14 @@ const TERSE: &str = "(?<day>\\d{2})/\\k<day>(?=x)
 (?:\\p\r)
 ";
 
+/// The second pattern begins in line 3 and is refused in line 4, where a NUL ends a line.
+const NULL: &str = "-:4:1: Opening parenthesis without closing parenthesis
+
+^
+";
+
+const NULL_TEXT: &str = "-:3: the line is not valid UTF-8\n";
+
 const NO_FLAGS: &str = "patterns: --flags takes letters of imsUxuRon, or - for none\n";
 
 const NO_TEXT: &str = "mixed:4: the line is not valid UTF-8\n";
@@ -137,7 +145,7 @@ patterns: broken: connection reset
 ";
 
 /// Words, the standard input, and the status, the output and the error of a run.
-static RUNS: [(&[&str], &[u8], u8, &str, &str); 20] = [
+static RUNS: [(&[&str], &[u8], u8, &str, &str); 24] = [
     (&["patterns", "check", "good", "empty"], b"", 0, "", ""),
     (&["patterns", "check"], b"", 0, "", ""),
     (&["patterns", "check", "mixed"], b"", 2, MIXED, NO_TEXT),
@@ -237,6 +245,28 @@ static RUNS: [(&[&str], &[u8], u8, &str, &str); 20] = [
         "",
     ),
     (&["patterns", "format", "--check"], b"\\Ka{0,}\n", 1, "", ""),
+    (&["patterns", "check", "-z"], b"a\n|b\0(\n\0c", 1, NULL, ""),
+    (
+        &["patterns", "check", "--null-data"],
+        b"a\r\n\0\xFF\0b",
+        2,
+        "",
+        NULL_TEXT,
+    ),
+    (
+        &["patterns", "format", "-z", "--flags", "x"],
+        b"a{0,} # \n b\0\\x00\0(?:c)",
+        0,
+        "a*b\0\\x00\0c\0",
+        "",
+    ),
+    (
+        &["patterns", "format", "-z"],
+        b"a\r\n\0b\r\0",
+        0,
+        "a\\r\\n\0b\\r\0",
+        "",
+    ),
 ];
 
 fn is_answer(

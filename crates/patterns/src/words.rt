@@ -2,6 +2,8 @@
 use clap::{Arg, ArgAction, ArgMatches, Command};
 use fre_program::flag_word::flags_named;
 use patterns_program::draw::Style;
+use patterns_program::lines::Ending;
+use patterns_program::objects::Report;
 use patterns_program::picture::Canvas;
 use patterns_program::run::{STANDARD_INPUT, Verb};
 use std::alloc::{AllocError, Global};
@@ -28,6 +30,10 @@ const LETTERS: &str = "The letters of --flags:
   n  if some group has a name, groups without a name have no number";
 
 const FILES_HELP: &str = "Files with one pattern per line, in UTF-8; - is standard input";
+
+const NULL_HELP: &str = "A pattern ends with NUL, and not with its line";
+
+const JSON_HELP: &str = "Writes JSON, one object per line, to standard output";
 
 const CHECK: &str = "Reports each pattern that is refused, with the position and the reason";
 
@@ -76,13 +82,29 @@ fn files_arg<'a>(alloc: Global) -> Arg<'a> {
         .help(FILES_HELP)
 }
 
+fn null_arg<'a>(alloc: Global) -> Arg<'a> {
+    Arg::new(alloc, "null-data")
+        .short('z')
+        .long("null-data")
+        .action(ArgAction::SetTrue)
+        .help(NULL_HELP)
+}
+
 /// A subcommand over files.
 fn over_files<'a>(alloc: Global, name: &'a str, about: &'a str) -> Result<Command<'a>, AllocError> {
     Command::new(alloc, name)
         .about(about)
         .after_help(LETTERS)
         .arg(flags_arg(alloc))?
+        .arg(null_arg(alloc))?
         .arg(files_arg(alloc))
+}
+
+fn json_arg<'a>(alloc: Global) -> Arg<'a> {
+    Arg::new(alloc, "json")
+        .long("json")
+        .action(ArgAction::SetTrue)
+        .help(JSON_HELP)
 }
 
 fn pattern_arg<'a>(alloc: Global) -> Arg<'a> {
@@ -102,6 +124,7 @@ fn tree_command<'a>(alloc: Global) -> Result<Command<'a>, AllocError> {
         .after_help(LETTERS)
         .arg(flags_arg(alloc))?
         .arg(ascii)?
+        .arg(json_arg(alloc))?
         .arg(pattern_arg(alloc))
 }
 
@@ -147,6 +170,7 @@ fn lint_command<'a>(alloc: Global) -> Result<Command<'a>, AllocError> {
         .arg(level_arg(alloc, "allow", "Silences a rule"))?
         .arg(level_arg(alloc, "warn", "Makes the reports of a rule warnings"))?
         .arg(level_arg(alloc, "deny", "Makes the reports of a rule errors"))?
+        .arg(json_arg(alloc))?
         .arg(rules)
 }
 
@@ -158,22 +182,33 @@ pub(crate) fn command<'a>(alloc: Global) -> Result<Command<'a>, AllocError> {
         .after_help(STATUSES)
         .subcommand_required(true)
         .arg_required_else_help(true)
-        .subcommand(over_files(alloc, "check", CHECK)?)?
+        .subcommand(over_files(alloc, "check", CHECK)?.arg(json_arg(alloc))?)?
         .subcommand(tree_command(alloc)?)?
         .subcommand(picture_command(alloc)?)?
         .subcommand(lint_command(alloc)?)?
         .subcommand(format_command(alloc)?)?
-        .subcommand(over_files(alloc, "groups", GROUPS)?)
+        .subcommand(over_files(alloc, "groups", GROUPS)?.arg(json_arg(alloc))?)
 }
 
 /// The subcommand over files that the arguments choose.
 pub(crate) fn verb_chosen(name: &str, matches: &ArgMatches<'_>) -> Option<Verb> {
     match name {
+        "check" if matches.get_flag("json") => Some(Verb::Json(Report::Check)),
         "check" => Some(Verb::Check),
         "format" if matches.get_flag("check") => Some(Verb::IsFormatted),
         "format" => Some(Verb::Format),
+        "groups" if matches.get_flag("json") => Some(Verb::Json(Report::Groups)),
         "groups" => Some(Verb::Groups),
         _ => None,
+    }
+}
+
+/// What a pattern ends with, as the arguments choose.
+pub(crate) fn ending_chosen(matches: &ArgMatches<'_>) -> Ending {
+    if matches.get_flag("null-data") {
+        Ending::Null
+    } else {
+        Ending::Line
     }
 }
 

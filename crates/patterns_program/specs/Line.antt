@@ -14,10 +14,11 @@ use Rattle.fancy_syntax.specs.Tree.{Tree}
 abbrev pub is_new : ℕ → List ℕ → List ℕ → Bool
 is_new byte w pattern = list_any (λ b. b == byte) w && not (list_any (λ b. b == byte) pattern)
 
--- whether the text, in a line of its own, would be read as another: it holds an LF or a CR that the pattern does not
--- hold, or ends with a CR, which would belong to the end of the line
+-- whether the text, in a line of its own, would be read as another: it holds an LF, a CR or a NUL that the pattern does
+-- not hold, or ends with a CR, which would belong to the end of the line
 abbrev pub breaks_line : List ℕ → List ℕ → Bool
-breaks_line w pattern = (is_new (code "\n") w pattern || is_new (code "\r") w pattern) || ends_with (λ a b. a == b) w (code "\r" ∷ [])
+breaks_line w pattern = (is_new (code "\n") w pattern || is_new (code "\r") w pattern || is_new 0 w pattern)
+    || ends_with (λ a b. a == b) w (code "\r" ∷ [])
 
 -- the bytes are the tree's text, for the line of the pattern: under the flags it is read as the tree with its marks, and
 -- it stands in a line

@@ -12,6 +12,7 @@ mod classes;
 mod empty;
 mod fingerprint;
 mod flags;
+pub(crate) mod objects;
 mod problem;
 mod quantifiers;
 mod references;

@@ -23,11 +23,16 @@ impl<'a> Names<'a> {
         Ok(Names { by_number })
     }
 
+    /// The name of the group of this number, if it has one.
+    pub(crate) fn name(&self, number: usize) -> Option<&'a str> {
+        self.by_number.get(number).copied().flatten()
+    }
+
     /// The group of this number, with its name.
     pub(crate) fn group(&self, number: usize) -> Named<'a> {
         Named {
             number,
-            name: self.by_number.get(number).copied().flatten(),
+            name: self.name(number),
         }
     }
 }

@@ -9,11 +9,13 @@ ghost use Rattle.patterns_program.specs.Line.{IsLineOf, HasNoLine, Stays, Change
 ghost use Rattle.patterns_program.specs.declared.outcome.Outcome.{Outcome};
 
 use crate::fault::Fault;
+use crate::lines::Ending;
 use crate::outcome::Outcome;
 use crate::place::Location;
 use crate::reading::read;
 use fancy_syntax::tree::ExprTree;
 use std::alloc::Global;
+use std::io;
 use std::io::Write;
 
 /// Whether a byte stands in the text, and not in the pattern.
@@ -23,12 +25,15 @@ fn is_new(byte: u8, text: &str, pattern: &str) -> bool
     text.as_bytes().contains(&byte) && !pattern.as_bytes().contains(&byte)
 }
 
-/// Whether the text, in a line of its own, would be read as another: it holds an end of a line that the pattern does
-/// not hold, or ends with a CR.
+/// Whether the text, in a line of its own, would be read as another: it holds an end of a line or of a record that the
+/// pattern does not hold, or ends with a CR.
 fn breaks_line(text: &str, pattern: &str) -> bool
     ensures { result ≡ spec.breaks_line text.now pattern.now }
 {
-    is_new(b'\n', text, pattern) || is_new(b'\r', text, pattern) || text.as_bytes().ends_with(b"\r")
+    is_new(b'\n', text, pattern)
+        || is_new(b'\r', text, pattern)
+        || is_new(b'\0', text, pattern)
+        || text.as_bytes().ends_with(b"\r")
 }
 
 /// The text of the pattern's tree, for the pattern's line. None where it is not read as the tree, or cannot stand in the
@@ -53,11 +58,18 @@ fn text_of(
     Ok(Some(text))
 }
 
-/// Writes the text of the pattern's tree as a line of `out`. A pattern that is refused is written unchanged, with the
+/// Writes the text, and what it ends with.
+fn write_ended<O: Write>(out: &mut O, text: &str, ending: Ending) -> io::Result<()> {
+    out.write_all(text.as_bytes())?;
+    out.write_all(&[ending.byte()])
+}
+
+/// Writes the text of the pattern's tree as a line of `out`, or a record. A pattern that is refused is written unchanged, with the
 /// position and the reason on `err`.
 pub(crate) fn format_pattern<O: Write, E: Write>(
     alloc: Global,
     flags: u32,
+    ending: Ending,
     at: Location<'_>,
     pattern: &str,
     out: &mut O,
@@ -68,12 +80,12 @@ pub(crate) fn format_pattern<O: Write, E: Write>(
     ensures read { result ≡ Ok Outcome.Unread → ⊥ }
 {
     let Some(tree) = read(alloc, flags, at, pattern, err)? else {
-        writeln!(out, "{pattern}")?;
+        write_ended(out, pattern, ending)?;
         return Ok(Outcome::Refused);
     };
     match text_of(alloc, flags, pattern, &tree)? {
-        Some(text) => writeln!(out, "{text}")?,
-        None => writeln!(out, "{pattern}")?,
+        Some(text) => write_ended(out, text.as_str(), ending)?,
+        None => write_ended(out, pattern, ending)?,
     }
     Ok(Outcome::Good)
 }

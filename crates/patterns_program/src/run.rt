@@ -4,9 +4,11 @@ ghost use Rattle.std.specs.Prelude.{◌≤◌};
 use crate::check::check;
 use crate::fault::{Fault, give_up};
 use crate::groups::list_groups;
-use crate::lines::next_line;
+use crate::lines::{Ending, lines_in, next_record};
 use crate::lint::chosen::Chosen;
 use crate::lint::lint;
+use crate::lint::objects::lint_objects;
+use crate::objects::{Report, report_pattern};
 use crate::outcome::Outcome;
 use crate::place::Location;
 use crate::printing::{format_pattern, is_formatted};
@@ -31,27 +33,32 @@ pub enum Verb {
     Groups,
     /// Report likely mistakes in it.
     Lint(Chosen),
+    /// Report on it as JSON.
+    Json(Report),
+    /// Report as JSON what is surely not meant in it.
+    LintJson(Chosen),
 }
 
-/// A subcommand over files, and the flags that the patterns are parsed under.
+/// A subcommand over files, the flags that the patterns are parsed under, and what a pattern ends with.
 #[derive(Clone, Copy)]
 pub struct Job {
     pub verb: Verb,
     pub flags: u32,
+    pub ending: Ending,
 }
 
 /// Says that the line is no text; where lines are formatted, it is written as it was.
 fn pass_over<O: Write, E: Write>(
-    verb: Verb,
+    job: Job,
     at: Location<'_>,
     line: &[u8],
     out: &mut O,
     err: &mut E,
 ) -> io::Result<()> {
     writeln!(err, "{at}: the line is not valid UTF-8")?;
-    if let Verb::Format = verb {
+    if let Verb::Format = job.verb {
         out.write_all(line)?;
-        out.write_all(b"\n")?;
+        out.write_all(&[job.ending.byte()])?;
     }
     Ok(())
 }
@@ -66,15 +73,17 @@ fn answer_line<O: Write, E: Write>(
     err: &mut E,
 ) -> Result<Outcome, Fault> {
     let Ok(pattern) = str::from_utf8(line) else {
-        pass_over(job.verb, at, line, out, err)?;
+        pass_over(job, at, line, out, err)?;
         return Ok(Outcome::Unread);
     };
     match job.verb {
         Verb::Check => check(alloc, job.flags, at, pattern, out),
-        Verb::Format => format_pattern(alloc, job.flags, at, pattern, out, err),
+        Verb::Format => format_pattern(alloc, job.flags, job.ending, at, pattern, out, err),
         Verb::IsFormatted => is_formatted(alloc, job.flags, at, pattern, err),
         Verb::Groups => list_groups(alloc, job.flags, at, pattern, out, err),
         Verb::Lint(chosen) => lint(alloc, job.flags, at, pattern, &chosen, out),
+        Verb::Json(what) => report_pattern(alloc, job.flags, at, pattern, what, out),
+        Verb::LintJson(chosen) => lint_objects(alloc, job.flags, at, pattern, &chosen, out),
     }
 }
 
@@ -98,10 +107,12 @@ fn answer_lines<R: BufRead, O: Write, E: Write>(
 ) -> Result<Outcome, Fault> {
     let mut buffer = Vec::new(alloc);
     let mut outcome = Outcome::Good;
-    for line in 1..u64::MAX {
-        match next_line(reader, &mut buffer) {
+    let mut line = 1u64;
+    for _ in 0..u64::MAX {
+        match next_record(reader, job.ending, &mut buffer) {
             Ok(Some(text)) => {
                 let at = Location { file, line };
+                line = line.saturating_add(lines_in(text));
                 outcome = outcome.and(answer_line(alloc, job, at, text, out, err)?);
             }
             Ok(None) => return Ok(outcome),
@@ -149,10 +160,11 @@ fn answer_files<S: Sources, O: Write, E: Write>(
     Ok(outcome)
 }
 
-/// Does the job on each pattern of the files, one a line, and returns the exit status: 0 if every pattern passes; 1 if
+/// Does the job on each pattern of the files, and returns the exit status: 0 if every pattern passes; 1 if
 /// one does not; 2 if a file, or a line of one, cannot be read, which is reported on `err` while the others are still
 /// read; 3 if memory ran out or a write failed, which is reported on `err` if that is possible, and `out` may then have
-/// part of the output. A line ends with LF or CR LF. The file `-` is standard input.
+/// part of the output. A pattern ends as the job says, and is reported with the number of its first line; a NUL that ends a
+/// pattern ends a line too. The file `-` is standard input.
 pub fn run<S: Sources, O: Write, E: Write>(
     alloc: Global,
     job: Job,

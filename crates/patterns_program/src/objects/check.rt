@@ -1,0 +1,30 @@
+//! The subcommand `check`, in JSON.
+ghost use Rattle.std.specs.Prelude.{◌≡◌, chars, Ok};
+ghost use Rattle.fancy_lex.specs.Flags.{flags_of};
+ghost use Rattle.fre_program.specs.Words.{HasTree, HasFault};
+ghost use Rattle.patterns_program.specs.declared.outcome.Outcome.{Outcome};
+
+use crate::fault::Fault;
+use crate::objects::reading::read;
+use crate::outcome::Outcome;
+use crate::place::Location;
+use std::alloc::Global;
+use std::io::Write;
+
+/// Writes the error of the pattern, if it is refused.
+pub(super) fn check<O: Write>(
+    alloc: Global,
+    flags: u32,
+    at: Location<'_>,
+    pattern: &str,
+    out: &mut O,
+) -> Result<Outcome, Fault>
+    ensures good { result ≡ Ok Outcome.Good → HasTree (flags_of flags) (chars pattern.now) }
+    ensures refused { result ≡ Ok Outcome.Refused → HasFault (flags_of flags) (chars pattern.now) }
+    ensures read { result ≡ Ok Outcome.Unread → ⊥ }
+{
+    match read(alloc, flags, at, pattern, out)? {
+        Some(_) => Ok(Outcome::Good),
+        None => Ok(Outcome::Refused),
+    }
+}

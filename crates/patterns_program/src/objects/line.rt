@@ -1,0 +1,62 @@
+//! An object of JSON, written as a line.
+use crate::fault::Fault;
+use crate::objects::places::Places;
+use crate::place::Location;
+use fancy_syntax::span::Span;
+use json::Writer;
+use std::alloc::{AllocError, Global};
+use std::io::Write;
+
+/// Writes a field that is a text.
+pub(crate) fn write_text(writer: &mut Writer, name: &str, text: &str) -> Result<(), AllocError> {
+    writer.key(name)?;
+    writer.string(text)
+}
+
+/// Writes a field that is a number.
+pub(crate) fn write_number(writer: &mut Writer, name: &str, number: u64) -> Result<(), AllocError> {
+    writer.key(name)?;
+    writer.u64(number)
+}
+
+/// Writes a field that is true or false.
+pub(crate) fn write_truth(writer: &mut Writer, name: &str, is_so: bool) -> Result<(), AllocError> {
+    writer.key(name)?;
+    writer.boolean(is_so)
+}
+
+/// Begins an object of this type on a pattern.
+pub(crate) fn begin(
+    alloc: Global,
+    kind: &str,
+    at: Location<'_>,
+    pattern: &str,
+) -> Result<Writer, AllocError> {
+    let mut writer = Writer::new(Vec::new(alloc));
+    writer.begin_object()?;
+    write_text(&mut writer, "type", kind)?;
+    write_text(&mut writer, "file", at.file)?;
+    write_number(&mut writer, "line", at.line)?;
+    write_text(&mut writer, "pattern", pattern)?;
+    Ok(writer)
+}
+
+/// Writes the fields of a span: in bytes, and in characters.
+pub(crate) fn write_span(
+    writer: &mut Writer,
+    places: &Places,
+    span: Span,
+) -> Result<(), AllocError> {
+    write_number(writer, "start", span.start as u64)?;
+    write_number(writer, "end", span.end as u64)?;
+    write_number(writer, "start_character", places.character(span.start))?;
+    write_number(writer, "end_character", places.character(span.end))
+}
+
+/// Ends the object, and writes it.
+pub(crate) fn finish<O: Write>(mut writer: Writer, out: &mut O) -> Result<(), Fault> {
+    writer.end_object()?;
+    out.write_all(&writer.into_inner())?;
+    out.write_all(b"\n")?;
+    Ok(())
+}

@@ -1,0 +1,113 @@
+//! The groups and references of a pattern, as JSON.
+use crate::names::Names;
+use crate::objects::line::{write_number, write_span, write_text, write_truth};
+use crate::objects::node::{write_own, write_some_number};
+use crate::objects::places::Places;
+use crate::words::is_reference;
+use fancy_syntax::expr::Expr;
+use fancy_syntax::span::Span;
+use fancy_syntax::spanned::{SpannedNode, SpannedTree};
+use fancy_syntax::tree::ExprTree;
+use json::Writer;
+use std::alloc::{AllocError, Global};
+
+/// Adds the spans of the groups, in the order of their numbers.
+fn push_groups(groups: &mut Vec<Span>, node: SpannedNode<'_>) -> Result<(), AllocError> {
+    if let Expr::Group(_) = node.expr() {
+        groups.push(node.span())?;
+    }
+    for child in node.children() {
+        push_groups(groups, child)?;
+    }
+    Ok(())
+}
+
+/// Writes a field that is a text or nothing.
+fn write_some_text(writer: &mut Writer, name: &str, text: Option<&str>) -> Result<(), AllocError> {
+    writer.key(name)?;
+    match text {
+        Some(text) => writer.string(text),
+        None => writer.null(),
+    }
+}
+
+/// Writes a group as an object.
+fn write_group(
+    writer: &mut Writer,
+    places: &Places,
+    number: usize,
+    name: Option<&str>,
+    span: Span,
+) -> Result<(), AllocError> {
+    writer.begin_object()?;
+    write_number(writer, "number", number as u64)?;
+    write_some_text(writer, "name", name)?;
+    write_span(writer, places, span)?;
+    writer.end_object()
+}
+
+/// Writes the groups that have a number.
+pub(super) fn write_groups(
+    alloc: Global,
+    writer: &mut Writer,
+    places: &Places,
+    parsed: &SpannedTree,
+) -> Result<(), AllocError> {
+    let names = Names::of(alloc, &parsed.tree)?;
+    let mut groups = Vec::new(alloc);
+    push_groups(&mut groups, parsed.root())?;
+    writer.key("groups")?;
+    writer.begin_array()?;
+    let mut number = 0usize;
+    for span in &groups {
+        number = number.saturating_add(1);
+        write_group(writer, places, number, names.name(number), *span)?;
+    }
+    writer.end_array()
+}
+
+/// Writes the references and calls below the node, and the node if it is one.
+pub(super) fn write_references(
+    writer: &mut Writer,
+    places: &Places,
+    node: SpannedNode<'_>,
+) -> Result<(), AllocError> {
+    if is_reference(node.expr()) {
+        writer.begin_object()?;
+        write_own(writer, places, node)?;
+        writer.end_object()?;
+    }
+    for child in node.children() {
+        write_references(writer, places, child)?;
+    }
+    Ok(())
+}
+
+/// Writes the groups that back references refer to.
+fn write_backrefs(writer: &mut Writer, tree: &ExprTree) -> Result<(), AllocError> {
+    writer.key("backrefs")?;
+    writer.begin_array()?;
+    for number in tree.backrefs.iter() {
+        writer.u64(*number as u64)?;
+    }
+    writer.end_array()
+}
+
+/// Writes the other fields of an `ExprTree`, under the names that they have there.
+pub(super) fn write_marks(writer: &mut Writer, tree: &ExprTree) -> Result<(), AllocError> {
+    write_number(writer, "total_groups", tree.total_groups as u64)?;
+    write_backrefs(writer, tree)?;
+    write_truth(
+        writer,
+        "numeric_capture_group_references",
+        tree.numeric_capture_group_references,
+    )?;
+    write_truth(writer, "contains_subroutines", tree.contains_subroutines)?;
+    write_truth(writer, "self_recursive", tree.self_recursive)?;
+    write_some_number(writer, "out_of_range_backref", tree.out_of_range_backref)?;
+    write_truth(
+        writer,
+        "numbered_groups_ignored",
+        tree.numbered_groups_ignored,
+    )
+}
