@@ -1,6 +1,6 @@
 //! What the program does with its arguments.
 use crate::rules::rules_chosen;
-use crate::words::{canvas_chosen, command, flags_chosen, style_chosen, verb_chosen};
+use crate::words::{canvas_chosen, command, flags_chosen, look_chosen, verb_chosen};
 use clap::error::ErrorKind;
 use clap::{ArgMatches, Error};
 use patterns_program::draw::draw_tree;
@@ -51,7 +51,7 @@ fn answer_pattern<O: Write, E: Write>(
     if name == "picture" {
         return draw_picture(alloc, flags, canvas_chosen(matches), pattern, out, err);
     }
-    draw_tree(alloc, flags, style_chosen(matches), pattern, out, err)
+    draw_tree(alloc, flags, look_chosen(matches), pattern, out, err)
 }
 
 /// Lists the rules of `lint`, or reports what they find in files.

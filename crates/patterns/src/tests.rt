@@ -76,17 +76,31 @@ Has subroutine calls.
 The pattern calls itself.
 ";
 
+const SPANS: &str = "alternation at 0..18: \u{65E5}(?<n>|\\t)\\k<n>|
+├─ concatenation at 0..17: \u{65E5}(?<n>|\\t)\\k<n>
+│  ├─ literal \"\u{65E5}\" at 0..3: \u{65E5}
+│  ├─ group 1, named \"n\" at 3..12: (?<n>|\\t)
+│  │  └─ alternation at 8..11: |\\t
+│  │     ├─ empty at 8..8
+│  │     └─ literal \"\\t\" at 9..11: \\t
+│  └─ back reference to group 1, named \"n\" at 12..17: \\k<n>
+└─ empty at 18..18
+1 numbered group.
+Name \"n\": group 1.
+Back references to group 1.
+";
+
 const GROUPS: &str = "-:1: (?<y>a)(b)\\k<y>\\2\\g<1>\\g0
-  group 1, named \"y\"
-  group 2
-  back reference to group 1, named \"y\"
-  back reference to group 2
-  call of group 1, named \"y\"
-  call of the whole pattern
-  the pattern calls itself
--:2: \\g<-2>
-  no numbered groups
-  unresolved call \\g<-2>, column 3
+-:1:1-7: group 1, named \"y\"
+-:1:8-10: group 2
+-:1:11-15: back reference to group 1, named \"y\"
+-:1:16-17: back reference to group 2
+-:1:18-22: call of group 1, named \"y\"
+-:1:23-25: call of the whole pattern
+-:1: the pattern calls itself
+-:2: \u{65E5}\\g<-2>
+-:2: no numbered groups
+-:2:3-8: unresolved call \\g<-2>, column 5
 ";
 
 const WARNED: &str = "-:1:5: warning: branch that is equal to branch 1 [duplicate-branch]
@@ -137,7 +151,7 @@ patterns: broken: connection reset
 ";
 
 /// Words, the standard input, and the status, the output and the error of a run.
-static RUNS: [(&[&str], &[u8], u8, &str, &str); 20] = [
+static RUNS: [(&[&str], &[u8], u8, &str, &str); 21] = [
     (&["patterns", "check", "good", "empty"], b"", 0, "", ""),
     (&["patterns", "check"], b"", 0, "", ""),
     (&["patterns", "check", "mixed"], b"", 2, MIXED, NO_TEXT),
@@ -184,11 +198,18 @@ static RUNS: [(&[&str], &[u8], u8, &str, &str); 20] = [
         ASCII,
         "",
     ),
+    (
+        &["patterns", "tree", "--spans", "\u{65E5}(?<n>|\\t)\\k<n>|"],
+        b"",
+        0,
+        SPANS,
+        "",
+    ),
     (&["patterns", "tree", "a\n("], b"", 1, "", UNNAMED),
     (&["patterns", "picture", "a\n("], b"", 1, "", UNNAMED),
     (
         &["patterns", "groups"],
-        b"(?<y>a)(b)\\k<y>\\2\\g<1>\\g0\n\\g<-2>",
+        b"(?<y>a)(b)\\k<y>\\2\\g<1>\\g0\n\xE6\x97\xA5\\g<-2>",
         0,
         GROUPS,
         "",

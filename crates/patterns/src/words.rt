@@ -1,7 +1,7 @@
 //! The arguments of the program.
 use clap::{Arg, ArgAction, ArgMatches, Command};
 use fre_program::flag_word::flags_named;
-use patterns_program::draw::Style;
+use patterns_program::draw::{Look, Style};
 use patterns_program::picture::Canvas;
 use patterns_program::run::{STANDARD_INPUT, Verb};
 use std::alloc::{AllocError, Global};
@@ -33,6 +33,9 @@ const CHECK: &str = "Reports each pattern that is refused, with the position and
 
 const TREE: &str = "Draws the tree of a pattern, and describes its groups and references";
 
+const SPANS_HELP: &str =
+    "Writes after each node its span, as START..END in byte offsets, and its text";
+
 const PICTURE: &str = "Draws the tree of a pattern as a railroad diagram, in SVG";
 
 const HTML_HELP: &str =
@@ -48,6 +51,10 @@ const LINT_STATUSES: &str =
 warnings, and 1 if not. docs/lint.md says what each rule reports, and when it is silent.";
 
 const GROUPS: &str = "Lists the groups of each pattern, and what its references and calls refer to";
+
+const GROUPS_LINES: &str =
+    "Each pattern is written as FILE:LINE: PATTERN, and below it each group, reference and call as \
+FILE:LINE:FIRST-LAST: DESCRIPTION, where FIRST and LAST are the columns of its first and last character.";
 
 const FORMATTED: &str =
     "What is written for a pattern parses, under the flags that were chosen, to the same tree with \
@@ -93,11 +100,16 @@ fn tree_command<'a>(alloc: Global) -> Result<Command<'a>, AllocError> {
         .long("ascii")
         .action(ArgAction::SetTrue)
         .help("Draws with ASCII characters");
+    let spans = Arg::new(alloc, "spans")
+        .long("spans")
+        .action(ArgAction::SetTrue)
+        .help(SPANS_HELP);
     Command::new(alloc, "tree")
         .about(TREE)
         .after_help(LETTERS)
         .arg(flags_arg(alloc))?
         .arg(ascii)?
+        .arg(spans)?
         .arg(pattern_arg(alloc))
 }
 
@@ -146,6 +158,10 @@ fn lint_command<'a>(alloc: Global) -> Result<Command<'a>, AllocError> {
         .arg(rules)
 }
 
+fn groups_command<'a>(alloc: Global) -> Result<Command<'a>, AllocError> {
+    Ok(over_files(alloc, "groups", GROUPS)?.before_help(GROUPS_LINES))
+}
+
 /// The command line.
 pub(crate) fn command<'a>(alloc: Global) -> Result<Command<'a>, AllocError> {
     Command::new(alloc, "patterns")
@@ -159,7 +175,7 @@ pub(crate) fn command<'a>(alloc: Global) -> Result<Command<'a>, AllocError> {
         .subcommand(picture_command(alloc)?)?
         .subcommand(lint_command(alloc)?)?
         .subcommand(format_command(alloc)?)?
-        .subcommand(over_files(alloc, "groups", GROUPS)?)
+        .subcommand(groups_command(alloc)?)
 }
 
 /// The subcommand over files that the arguments choose.
@@ -173,12 +189,16 @@ pub(crate) fn verb_chosen(name: &str, matches: &ArgMatches<'_>) -> Option<Verb> 
     }
 }
 
-/// The style of drawing that the arguments choose.
-pub(crate) fn style_chosen(matches: &ArgMatches<'_>) -> Style {
-    if matches.get_flag("ascii") {
+/// How the arguments choose a tree to be drawn.
+pub(crate) fn look_chosen(matches: &ArgMatches<'_>) -> Look {
+    let style = if matches.get_flag("ascii") {
         Style::Ascii
     } else {
         Style::Lines
+    };
+    Look {
+        style,
+        has_spans: matches.get_flag("spans"),
     }
 }
 

@@ -9,6 +9,7 @@ mod lines;
 pub mod lint;
 mod marks;
 mod names;
+mod nodes;
 mod outcome;
 pub mod picture;
 pub mod place;

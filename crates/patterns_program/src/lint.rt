@@ -1,5 +1,5 @@
 //! The subcommand `lint`: what a pattern says and is surely not meant.
-ghost use Rattle.std.specs.Prelude.{◌≡◌, ◌⊎◌, chars, Ok, IfOk, OnSome, IfNone, Contains};
+ghost use Rattle.std.specs.Prelude.{◌≡◌, ◌⊎◌, chars, Ok, IfOk, Contains};
 ghost use Rattle.std.specs.Bool.{OnTrue};
 ghost use Rattle.fancy_lex.specs.Flags.{flags_of};
 ghost use Rattle.fre_program.specs.Words.{HasTree, HasFault};
@@ -30,9 +30,8 @@ use crate::lint::report::write_report;
 use crate::lint::scan::{About, scan};
 use crate::lint::walk::Walk;
 use crate::outcome::Outcome;
-use crate::place::{Location, write_refusal};
-use fancy_syntax::error::Error;
-use fancy_syntax::expr::Expr;
+use crate::place::Location;
+use crate::reading::read_with_spans;
 use fancy_syntax::span::Span;
 use fancy_syntax::tree::ExprTree;
 use std::alloc::{AllocError, Global};
@@ -102,28 +101,6 @@ fn write_problems<O: Write>(
     }
     write_rest(out, at, total)?;
     Ok(is_denied)
-}
-
-/// The tree of the pattern with the spans of its nodes; none if it is refused, and then the position and the reason are
-/// written to `out`.
-fn read_with_spans<O: Write>(
-    alloc: Global,
-    flags: u32,
-    at: Location<'_>,
-    pattern: &str,
-    out: &mut O,
-) -> Result<Option<(ExprTree, Vec<Span>)>, Fault>
-    ensures read { IfOk result (λ answer. OnSome answer (HasTree (flags_of flags) (chars pattern.now))) }
-    ensures refused { IfOk result (λ answer. IfNone answer (HasFault (flags_of flags) (chars pattern.now))) }
-{
-    match Expr::parse_tree_with_spans(alloc, pattern, flags) {
-        Ok(read) => Ok(Some(read)),
-        Err(Error::ParseError(place, kind)) => {
-            write_refusal(out, at, pattern, place, &kind)?;
-            Ok(None)
-        }
-        Err(Error::OutOfMemory) => Err(Fault::Memory(AllocError)),
-    }
 }
 
 /// Writes to `out` what is surely not meant in the pattern, or the position and the reason if it is refused.
