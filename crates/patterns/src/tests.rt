@@ -142,6 +142,21 @@ const TERSE: &str = "(?<day>\\d{2})/\\k<day>(?=x)
 (?:\\p\r)
 ";
 
+const KEPT: &str = "-:1:6: comments would be lost; use --drop-comments
+a  b # c
+     ^
+";
+
+const KEPT_SHORTER: &str = "-:1:4: comments would be lost; use --drop-comments
+ab # c
+   ^
+";
+
+const CHANGED: &str = "-:2: would change
+-a  b
++ab
+";
+
 const NO_FLAGS: &str = "patterns: --flags takes letters of imsUxuRon, or - for none\n";
 
 const NO_TEXT: &str = "mixed:4: the line is not valid UTF-8\n";
@@ -151,7 +166,7 @@ patterns: broken: connection reset
 ";
 
 /// Words, the standard input, and the status, the output and the error of a run.
-static RUNS: [(&[&str], &[u8], u8, &str, &str); 21] = [
+static RUNS: [(&[&str], &[u8], u8, &str, &str); 23] = [
     (&["patterns", "check", "good", "empty"], b"", 0, "", ""),
     (&["patterns", "check"], b"", 0, "", ""),
     (&["patterns", "check", "mixed"], b"", 2, MIXED, NO_TEXT),
@@ -244,11 +259,25 @@ static RUNS: [(&[&str], &[u8], u8, &str, &str); 21] = [
         LEFT,
     ),
     (
-        &["patterns", "format", "--flags", "uxi"],
+        &["patterns", "format", "--flags", "uxi", "--drop-comments"],
         VERBOSE,
         0,
         TERSE,
         "",
+    ),
+    (
+        &["patterns", "format", "--flags", "ux"],
+        b"a  b # c\na  b",
+        1,
+        "a  b # c\nab\n",
+        KEPT,
+    ),
+    (
+        &["patterns", "format", "--check", "--flags", "ux"],
+        b"ab # c\na  b",
+        1,
+        CHANGED,
+        KEPT_SHORTER,
     ),
     (
         &["patterns", "format", "--check"],
@@ -257,7 +286,13 @@ static RUNS: [(&[&str], &[u8], u8, &str, &str); 21] = [
         "",
         "",
     ),
-    (&["patterns", "format", "--check"], b"\\Ka{0,}\n", 1, "", ""),
+    (
+        &["patterns", "format", "--check"],
+        b"\\Ka{0,}\n",
+        1,
+        "-:1: would change\n-\\Ka{0,}\n+\\Ka*\n",
+        "",
+    ),
 ];
 
 fn is_answer(

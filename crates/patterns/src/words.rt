@@ -3,6 +3,7 @@ use clap::{Arg, ArgAction, ArgMatches, Command};
 use fre_program::flag_word::flags_named;
 use patterns_program::draw::{Look, Style};
 use patterns_program::picture::Canvas;
+use patterns_program::printing::Comments;
 use patterns_program::run::{STANDARD_INPUT, Verb};
 use std::alloc::{AllocError, Global};
 
@@ -44,6 +45,10 @@ const HTML_HELP: &str =
 const FORMAT: &str =
     "Writes each pattern in one form, which parses to the same tree under the same flags";
 
+const IS_CHECK_HELP: &str =
+    "Writes for each line that would change FILE:LINE and what it is and would be; the exit status is 1 if one would \
+change or is refused";
+
 const LINT: &str = "Reports what is accepted in a pattern and is surely not meant";
 
 const LINT_STATUSES: &str =
@@ -58,9 +63,10 @@ FILE:LINE:FIRST-LAST: DESCRIPTION, where FIRST and LAST are the columns of its f
 
 const FORMATTED: &str =
     "What is written for a pattern parses, under the flags that were chosen, to the same tree with \
-the same groups and names. Lost are comments, ignored whitespace, and how a thing was written. A line ends with LF.
+the same groups and names. Lost are comments (only with --drop-comments), ignored whitespace, and how a thing was written. \
+A line ends with LF.
 
-A pattern that is refused is written unchanged; standard error has the position and the reason.";
+A pattern that is refused, or that has a comment, is written unchanged; standard error has the position and the reason.";
 
 fn flags_arg<'a>(alloc: Global) -> Arg<'a> {
     Arg::new(alloc, "flags")
@@ -130,10 +136,15 @@ fn format_command<'a>(alloc: Global) -> Result<Command<'a>, AllocError> {
     let is_check = Arg::new(alloc, "check")
         .long("check")
         .action(ArgAction::SetTrue)
-        .help("Writes no pattern; the exit status is 1 if a line would change or is refused");
+        .help(IS_CHECK_HELP);
+    let drop_comments = Arg::new(alloc, "drop-comments")
+        .long("drop-comments")
+        .action(ArgAction::SetTrue)
+        .help("Writes patterns that have comments too, without the comments");
     over_files(alloc, "format", FORMAT)?
         .before_help(FORMATTED)
-        .arg(is_check)
+        .arg(is_check)?
+        .arg(drop_comments)
 }
 
 /// An option that gives a level to a rule.
@@ -178,12 +189,21 @@ pub(crate) fn command<'a>(alloc: Global) -> Result<Command<'a>, AllocError> {
         .subcommand(groups_command(alloc)?)
 }
 
+/// What the arguments choose to become of comments.
+fn comments_chosen(matches: &ArgMatches<'_>) -> Comments {
+    if matches.get_flag("drop-comments") {
+        Comments::Drop
+    } else {
+        Comments::Keep
+    }
+}
+
 /// The subcommand over files that the arguments choose.
 pub(crate) fn verb_chosen(name: &str, matches: &ArgMatches<'_>) -> Option<Verb> {
     match name {
         "check" => Some(Verb::Check),
-        "format" if matches.get_flag("check") => Some(Verb::IsFormatted),
-        "format" => Some(Verb::Format),
+        "format" if matches.get_flag("check") => Some(Verb::IsFormatted(comments_chosen(matches))),
+        "format" => Some(Verb::Format(comments_chosen(matches))),
         "groups" => Some(Verb::Groups),
         _ => None,
     }

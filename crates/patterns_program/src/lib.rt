@@ -2,6 +2,7 @@
 #![tactic(auto)]
 
 mod check;
+mod comments;
 pub mod draw;
 pub mod fault;
 mod groups;
@@ -13,7 +14,7 @@ mod nodes;
 mod outcome;
 pub mod picture;
 pub mod place;
-mod printing;
+pub mod printing;
 mod reading;
 pub mod run;
 pub mod sources;

@@ -23,6 +23,11 @@ impl<'a> Names<'a> {
         Ok(Names { by_number })
     }
 
+    /// Whether the group of this number has a name.
+    pub(crate) fn has(&self, number: usize) -> bool {
+        self.group(number).name.is_some()
+    }
+
     /// The group of this number, with its name.
     pub(crate) fn group(&self, number: usize) -> Named<'a> {
         Named {

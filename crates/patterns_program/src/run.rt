@@ -9,7 +9,7 @@ use crate::lint::chosen::Chosen;
 use crate::lint::lint;
 use crate::outcome::Outcome;
 use crate::place::Location;
-use crate::printing::{format_pattern, is_formatted};
+use crate::printing::{Comments, format_pattern, is_formatted};
 use crate::sources::Sources;
 use std::alloc::{AllocError, Global};
 use std::io::{BufRead, ErrorKind, Write};
@@ -24,9 +24,9 @@ pub enum Verb {
     /// Check it; the position and the reason of a refusal are written to the output.
     Check,
     /// Write it as it prints.
-    Format,
+    Format(Comments),
     /// Check whether `Format` would write it unchanged.
-    IsFormatted,
+    IsFormatted(Comments),
     /// List its groups, and what its references and calls refer to.
     Groups,
     /// Report what is surely not meant in it.
@@ -49,7 +49,7 @@ fn pass_over<O: Write, E: Write>(
     err: &mut E,
 ) -> io::Result<()> {
     writeln!(err, "{at}: the line is not valid UTF-8")?;
-    if let Verb::Format = verb {
+    if let Verb::Format(_) = verb {
         out.write_all(line)?;
         out.write_all(b"\n")?;
     }
@@ -71,8 +71,8 @@ fn answer_line<O: Write, E: Write>(
     };
     match job.verb {
         Verb::Check => check(alloc, job.flags, at, pattern, out),
-        Verb::Format => format_pattern(alloc, job.flags, at, pattern, out, err),
-        Verb::IsFormatted => is_formatted(alloc, job.flags, at, pattern, err),
+        Verb::Format(kept) => format_pattern(alloc, job.flags, kept, at, pattern, out, err),
+        Verb::IsFormatted(kept) => is_formatted(alloc, job.flags, kept, at, pattern, out, err),
         Verb::Groups => list_groups(alloc, job.flags, at, pattern, out, err),
         Verb::Lint(chosen) => lint(alloc, job.flags, at, pattern, &chosen, out),
     }
