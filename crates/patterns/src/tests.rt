@@ -353,6 +353,21 @@ fn words_are_explained(rt: HostRuntime) -> Result<(), Fail> {
     Ok(())
 }
 
+/// Whether the help of the subcommand begins with an example of it.
+fn begins_with_example(alloc: Global, name: &str) -> Result<bool, Fail> {
+    let run = run(alloc, &["patterns", "help", name], b"", usize::MAX)?;
+    let example = format!(in alloc; "Example: patterns {name} ")?;
+    Ok(run.status == 0 && run.out.text.starts_with(example.as_bytes()))
+}
+
+#[test]
+fn help_begins_with_examples(rt: HostRuntime) -> Result<(), Fail> {
+    for name in ["check", "tree", "picture", "lint", "format", "groups"] {
+        assert!(rt; begins_with_example(rt.alloc(), name)?, "{name}");
+    }
+    Ok(())
+}
+
 /// Whether a run whose output takes so many bytes says that it cannot write, and has written a beginning.
 fn tells_of_write(alloc: Global, room: usize) -> Result<bool, Fail> {
     let run = run(alloc, &["patterns", "check", "mixed"], b"", room)?;

@@ -30,12 +30,30 @@ const LETTERS: &str = "The letters of --flags:
 
 const FILES_HELP: &str = "Files with one pattern per line, in UTF-8; - is standard input";
 
+const CHECK_EXAMPLE: &str = r"Example: patterns check dates.txt
+
+  dates.txt:2:29: Opening parenthesis without closing parenthesis
+  (?<year>\d{4})-(?<month>\d\d
+                              ^";
+
 const CHECK: &str = "Reports each pattern that is refused, with the position and the reason";
+
+const TREE_EXAMPLE: &str = r#"Example: patterns tree '(a|b)+'
+
+  repeat 1 or more times, greedy
+  └─ group 1
+     └─ alternation
+        ├─ literal "a"
+        └─ literal "b"
+  1 numbered group."#;
 
 const TREE: &str = "Draws the tree of a pattern, and describes its groups and references";
 
 const SPANS_HELP: &str =
     "Writes after each node its span, as START..END in byte offsets, and its text";
+
+const PICTURE_EXAMPLE: &str =
+    r"Example: patterns picture '(?<year>\d{4})-(?<month>\d\d)' >date.svg";
 
 const PICTURE: &str = "Draws the tree of a pattern as a railroad diagram, in SVG";
 
@@ -51,18 +69,33 @@ change or is refused";
 
 const LINT: &str = "Reports what is accepted in a pattern and is surely not meant";
 
-const LINT_STATUSES: &str =
-    "The exit status is 0 if every pattern is accepted and no denied rule reports, also if there are \
+const LINT_STATUSES: &str = "Example: patterns lint words.txt
+
+  words.txt:3:5: warning: branch that is equal to branch 1 [duplicate-branch]
+  a|b|a
+      ^
+  help: remove it
+
+The exit status is 0 if every pattern is accepted and no denied rule reports, also if there are \
 warnings, and 1 if not. docs/lint.md says what each rule reports, and when it is silent.";
 
 const GROUPS: &str = "Lists the groups of each pattern, and what its references and calls refer to";
 
-const GROUPS_LINES: &str =
-    "Each pattern is written as FILE:LINE: PATTERN, and below it each group, reference and call as \
-FILE:LINE:FIRST-LAST: DESCRIPTION, where FIRST and LAST are the columns of its first and last character.";
+const GROUPS_LINES: &str = r#"Example: patterns groups dates.txt
 
-const FORMATTED: &str =
-    "What is written for a pattern parses, under the flags that were chosen, to the same tree with \
+  dates.txt:1: (?<year>\d{4})-(\d\d)
+  dates.txt:1:1-14: group 1, named "year"
+  dates.txt:1:16-21: group 2
+
+Each pattern is written as FILE:LINE: PATTERN, and below it each group, reference and call as
+FILE:LINE:FIRST-LAST: DESCRIPTION, where FIRST and LAST are the columns of its first and last character."#;
+
+const FORMATTED: &str = "Example: patterns format --flags ux words.txt
+
+  writes for the line  (?<y> \\d{4} ) - (?P=y)
+  the line             (?<y>\\d{4})-\\k<y>
+
+What is written for a pattern parses, under the flags that were chosen, to the same tree with \
 the same groups and names. Lost are comments (only with --drop-comments), ignored whitespace, and how a thing was written. \
 A line ends with LF.
 
@@ -85,10 +118,16 @@ fn files_arg<'a>(alloc: Global) -> Arg<'a> {
         .help(FILES_HELP)
 }
 
-/// A subcommand over files.
-fn over_files<'a>(alloc: Global, name: &'a str, about: &'a str) -> Result<Command<'a>, AllocError> {
+/// A subcommand over files; `before` begins its help.
+fn over_files<'a>(
+    alloc: Global,
+    name: &'a str,
+    about: &'a str,
+    before: &'a str,
+) -> Result<Command<'a>, AllocError> {
     Command::new(alloc, name)
         .about(about)
+        .before_help(before)
         .after_help(LETTERS)
         .arg(flags_arg(alloc))?
         .arg(files_arg(alloc))
@@ -112,6 +151,7 @@ fn tree_command<'a>(alloc: Global) -> Result<Command<'a>, AllocError> {
         .help(SPANS_HELP);
     Command::new(alloc, "tree")
         .about(TREE)
+        .before_help(TREE_EXAMPLE)
         .after_help(LETTERS)
         .arg(flags_arg(alloc))?
         .arg(ascii)?
@@ -126,6 +166,7 @@ fn picture_command<'a>(alloc: Global) -> Result<Command<'a>, AllocError> {
         .help(HTML_HELP);
     Command::new(alloc, "picture")
         .about(PICTURE)
+        .before_help(PICTURE_EXAMPLE)
         .after_help(LETTERS)
         .arg(flags_arg(alloc))?
         .arg(html)?
@@ -141,8 +182,7 @@ fn format_command<'a>(alloc: Global) -> Result<Command<'a>, AllocError> {
         .long("drop-comments")
         .action(ArgAction::SetTrue)
         .help("Writes patterns that have comments too, without the comments");
-    over_files(alloc, "format", FORMAT)?
-        .before_help(FORMATTED)
+    over_files(alloc, "format", FORMAT, FORMATTED)?
         .arg(is_check)?
         .arg(drop_comments)
 }
@@ -161,16 +201,11 @@ fn lint_command<'a>(alloc: Global) -> Result<Command<'a>, AllocError> {
         .long("rules")
         .action(ArgAction::SetTrue)
         .help("Lists the rules with an example of each, and reads no file");
-    over_files(alloc, "lint", LINT)?
-        .before_help(LINT_STATUSES)
+    over_files(alloc, "lint", LINT, LINT_STATUSES)?
         .arg(level_arg(alloc, "allow", "Silences a rule"))?
         .arg(level_arg(alloc, "warn", "Makes the reports of a rule warnings"))?
         .arg(level_arg(alloc, "deny", "Makes the reports of a rule errors"))?
         .arg(rules)
-}
-
-fn groups_command<'a>(alloc: Global) -> Result<Command<'a>, AllocError> {
-    Ok(over_files(alloc, "groups", GROUPS)?.before_help(GROUPS_LINES))
 }
 
 /// The command line.
@@ -181,12 +216,12 @@ pub(crate) fn command<'a>(alloc: Global) -> Result<Command<'a>, AllocError> {
         .after_help(STATUSES)
         .subcommand_required(true)
         .arg_required_else_help(true)
-        .subcommand(over_files(alloc, "check", CHECK)?)?
+        .subcommand(over_files(alloc, "check", CHECK, CHECK_EXAMPLE)?)?
         .subcommand(tree_command(alloc)?)?
         .subcommand(picture_command(alloc)?)?
         .subcommand(lint_command(alloc)?)?
         .subcommand(format_command(alloc)?)?
-        .subcommand(groups_command(alloc)?)
+        .subcommand(over_files(alloc, "groups", GROUPS, GROUPS_LINES)?)
 }
 
 /// What the arguments choose to become of comments.
