@@ -54,6 +54,15 @@ fn answer_pattern<O: Write, E: Write>(
     draw_tree(alloc, flags, look_chosen(matches), pattern, out, err)
 }
 
+/// The job that the arguments choose for the subcommand.
+fn job_chosen(verb: Verb, flags: u32, matches: &ArgMatches<'_>) -> Job {
+    Job {
+        verb,
+        flags,
+        is_quiet: matches.get_flag("quiet"),
+    }
+}
+
 /// Lists the rules of `lint`, or reports what they find in files.
 fn answer_lint<S: Sources, O: Write, E: Write>(
     alloc: Global,
@@ -81,8 +90,8 @@ fn answer_lint<S: Sources, O: Write, E: Write>(
     let Some(files) = matches.get_strs("files") else {
         return Ok(MISUSED);
     };
-    let verb = Verb::Lint(chosen);
-    Ok(run(alloc, Job { verb, flags }, files, sources, out, err))
+    let job = job_chosen(Verb::Lint(chosen), flags, matches);
+    Ok(run(alloc, job, files, sources, out, err))
 }
 
 /// Runs a subcommand.
@@ -106,7 +115,7 @@ fn answer_verb<S: Sources, O: Write, E: Write>(
     let (Some(verb), Some(files)) = (verb_chosen(name, matches), matches.get_strs("files")) else {
         return Ok(MISUSED);
     };
-    let job = Job { verb, flags };
+    let job = job_chosen(verb, flags, matches);
     Ok(run(alloc, job, files, sources, out, err))
 }
 

@@ -13,7 +13,11 @@ fn format(
     verb: Verb,
     flags: u32,
 ) -> Result<(u8, Limited, Limited), Fail> {
-    let job = Job { verb, flags };
+    let job = Job {
+        verb,
+        flags,
+        is_quiet: true,
+    };
     let input = Memory {
         input: lines.as_bytes(),
     };

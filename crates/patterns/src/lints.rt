@@ -12,6 +12,7 @@ fn lint(alloc: Global, pattern: &str, chosen: Chosen) -> Result<(u8, Limited), F
     let job = Job {
         verb: Verb::Lint(chosen),
         flags: 32,
+        is_quiet: true,
     };
     let input = Memory {
         input: pattern.as_bytes(),

@@ -2,6 +2,7 @@
 use crate::answer::answer;
 use crate::memory::{Limited, Memory};
 use std::alloc::Global;
+use std::str;
 use std::test::Fail;
 
 /// What a run came to: its status, and what was written on the two outputs.
@@ -125,6 +126,7 @@ const FORMATTED: &str = "ab*
 const LEFT: &str = "-:3:2: Opening parenthesis without closing parenthesis
 (
  ^
+3 patterns, 1 refused
 ";
 
 const VERBOSE: &[u8] = b"(?<day> \\d{2} ) / (?P=day) (?=x)  # twice
@@ -145,11 +147,13 @@ const TERSE: &str = "(?<day>\\d{2})/\\k<day>(?=x)
 const KEPT: &str = "-:1:6: comments would be lost; use --drop-comments
 a  b # c
      ^
+2 patterns, 1 refused
 ";
 
 const KEPT_SHORTER: &str = "-:1:4: comments would be lost; use --drop-comments
 ab # c
    ^
+2 patterns, 1 refused, 1 would change
 ";
 
 const CHANGED: &str = "-:2: would change
@@ -159,16 +163,32 @@ const CHANGED: &str = "-:2: would change
 
 const NO_FLAGS: &str = "patterns: --flags takes letters of imsUxuRon, or - for none\n";
 
-const NO_TEXT: &str = "mixed:4: the line is not valid UTF-8\n";
+const NO_TEXT: &str = "mixed:4: the line is not valid UTF-8
+4 patterns, 2 refused
+";
 
 const NO_FILES: &str = "patterns: none: entity not found
 patterns: broken: connection reset
+1 pattern, 1 refused
 ";
 
 /// Words, the standard input, and the status, the output and the error of a run.
-static RUNS: [(&[&str], &[u8], u8, &str, &str); 23] = [
-    (&["patterns", "check", "good", "empty"], b"", 0, "", ""),
-    (&["patterns", "check"], b"", 0, "", ""),
+static RUNS: [(&[&str], &[u8], u8, &str, &str); 24] = [
+    (
+        &["patterns", "check", "good", "empty"],
+        b"",
+        0,
+        "",
+        "3 patterns, 0 refused\n",
+    ),
+    (
+        &["patterns", "check"],
+        b"",
+        0,
+        "",
+        "0 patterns, 0 refused\n",
+    ),
+    (&["patterns", "check", "--quiet", "good"], b"", 0, "", ""),
     (&["patterns", "check", "mixed"], b"", 2, MIXED, NO_TEXT),
     (
         &["patterns", "check", "none", "broken"],
@@ -177,13 +197,19 @@ static RUNS: [(&[&str], &[u8], u8, &str, &str); 23] = [
         BROKEN,
         NO_FILES,
     ),
-    (&["patterns", "check", "-"], b"\t\xE6\x97\xA5(", 1, WIDE, ""),
+    (
+        &["patterns", "check", "-"],
+        b"\t\xE6\x97\xA5(",
+        1,
+        WIDE,
+        "1 pattern, 1 refused\n",
+    ),
     (
         &["patterns", "check", "--flags", "x", "spaced"],
         b"",
         0,
         "",
-        "",
+        "1 pattern, 0 refused\n",
     ),
     (
         &["patterns", "check", "--flags", "uz", "good"],
@@ -227,22 +253,28 @@ static RUNS: [(&[&str], &[u8], u8, &str, &str); 23] = [
         b"(?<y>a)(b)\\k<y>\\2\\g<1>\\g0\n\xE6\x97\xA5\\g<-2>",
         0,
         GROUPS,
-        "",
+        "2 patterns, 0 refused\n",
     ),
-    (&["patterns", "lint"], b"a|b|a", 0, WARNED, ""),
+    (
+        &["patterns", "lint"],
+        b"a|b|a",
+        0,
+        WARNED,
+        "1 pattern, 0 refused, 1 warning\n",
+    ),
     (
         &["patterns", "lint", "--allow", "duplicate-branch"],
         b"a|b|a",
         0,
         "",
-        "",
+        "1 pattern, 0 refused\n",
     ),
     (
         &["patterns", "lint", "--deny", "duplicate-branch"],
         b"a|b|a",
         1,
         DENIED,
-        "",
+        "1 pattern, 0 refused, 1 error\n",
     ),
     (
         &["patterns", "lint", "--warn", "branch"],
@@ -263,7 +295,7 @@ static RUNS: [(&[&str], &[u8], u8, &str, &str); 23] = [
         VERBOSE,
         0,
         TERSE,
-        "",
+        "5 patterns, 0 refused\n",
     ),
     (
         &["patterns", "format", "--flags", "ux"],
@@ -284,14 +316,14 @@ static RUNS: [(&[&str], &[u8], u8, &str, &str); 23] = [
         b"ab*\n(?<n>a)\\k<n>\n",
         0,
         "",
-        "",
+        "2 patterns, 0 refused\n",
     ),
     (
         &["patterns", "format", "--check"],
         b"\\Ka{0,}\n",
         1,
         "-:1: would change\n-\\Ka{0,}\n+\\Ka*\n",
-        "",
+        "1 pattern, 0 refused, 1 would change\n",
     ),
 ];
 
@@ -378,6 +410,27 @@ fn tells_of_write(alloc: Global, room: usize) -> Result<bool, Fail> {
 fn refused_writes(rt: HostRuntime) -> Result<(), Fail> {
     for room in 0..MIXED.len() {
         assert!(rt; tells_of_write(rt.alloc(), room)?, "{room} bytes");
+    }
+    Ok(())
+}
+
+/// Whether a check of so many lines says at the end that there were so many patterns.
+fn is_counted(alloc: Global, lines: usize, patterns: &str) -> Result<bool, Fail> {
+    let input = "\n".repeat(alloc, lines)?;
+    let run = run(alloc, &["patterns", "check"], input.as_bytes(), usize::MAX)?;
+    let told = str::from_utf8(&run.err.text)?;
+    Ok(run.status == 0 && told.strip_suffix(", 0 refused\n") == Some(patterns))
+}
+
+#[test]
+fn counts(rt: HostRuntime) -> Result<(), Fail> {
+    for (lines, patterns) in [
+        (1, "1 pattern"),
+        (999, "999 patterns"),
+        (1000, "1,000 patterns"),
+        (12_034, "12,034 patterns"),
+    ] {
+        assert!(rt; is_counted(rt.alloc(), lines, patterns)?, "{lines}");
     }
     Ok(())
 }

@@ -125,11 +125,16 @@ fn over_files<'a>(
     about: &'a str,
     before: &'a str,
 ) -> Result<Command<'a>, AllocError> {
+    let quiet = Arg::new(alloc, "quiet")
+        .long("quiet")
+        .action(ArgAction::SetTrue)
+        .help("Does not say at the end on standard error how many patterns there were");
     Command::new(alloc, name)
         .about(about)
         .before_help(before)
         .after_help(LETTERS)
         .arg(flags_arg(alloc))?
+        .arg(quiet)?
         .arg(files_arg(alloc))
 }
 

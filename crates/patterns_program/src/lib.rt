@@ -18,4 +18,5 @@ pub mod printing;
 mod reading;
 pub mod run;
 pub mod sources;
+mod tally;
 mod words;

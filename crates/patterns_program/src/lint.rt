@@ -32,6 +32,7 @@ use crate::lint::walk::Walk;
 use crate::outcome::Outcome;
 use crate::place::Location;
 use crate::reading::read_with_spans;
+use crate::tally::Tally;
 use fancy_syntax::span::Span;
 use fancy_syntax::tree::ExprTree;
 use std::alloc::{AllocError, Global};
@@ -83,6 +84,7 @@ fn write_problems<O: Write>(
     found: &[Found<'_>],
     chosen: &Chosen,
     out: &mut O,
+    tally: &mut Tally,
 ) -> Result<bool, Fault>
     ensures { IfOk result (λ is_denied. OnTrue is_denied (Contains chosen.now.levels Level.Deny)) }
 {
@@ -97,6 +99,7 @@ fn write_problems<O: Write>(
             write_report(out, at, pattern, level, *one)?;
         }
         total = total.saturating_add(1);
+        tally.report(level);
         is_denied = is_denied || level == Level::Deny;
     }
     write_rest(out, at, total)?;
@@ -111,6 +114,7 @@ pub(crate) fn lint<O: Write>(
     pattern: &str,
     chosen: &Chosen,
     out: &mut O,
+    tally: &mut Tally,
 ) -> Result<Outcome, Fault>
     ensures good { result ≡ Ok Outcome.Good → HasTree (flags_of flags) (chars pattern.now) }
     ensures refused { result ≡ Ok Outcome.Refused → HasFault (flags_of flags) (chars pattern.now)
@@ -121,7 +125,8 @@ pub(crate) fn lint<O: Write>(
         return Ok(Outcome::Refused);
     };
     let found = problems(alloc, pattern, flags, &tree, &spans)?;
-    if write_problems(at, pattern, &found, chosen, out)? {
+    if write_problems(at, pattern, &found, chosen, out, tally)? {
+        tally.denied = tally.denied.saturating_add(1);
         return Ok(Outcome::Refused);
     }
     Ok(Outcome::Good)

@@ -15,6 +15,7 @@ use crate::fault::Fault;
 use crate::outcome::Outcome;
 use crate::place::{Location, write_refusal};
 use crate::reading::read;
+use crate::tally::Tally;
 use fancy_syntax::tree::ExprTree;
 use std::alloc::Global;
 use std::io::Write;
@@ -130,6 +131,7 @@ pub(crate) fn is_formatted<O: Write, E: Write>(
     pattern: &str,
     out: &mut O,
     err: &mut E,
+    tally: &mut Tally,
 ) -> Result<Outcome, Fault>
     ensures good { result ≡ Ok Outcome.Good → Stays (flags_of flags) pattern.now }
     ensures refused { result ≡ Ok Outcome.Refused → HasFault (flags_of flags) (chars pattern.now)
@@ -147,6 +149,7 @@ pub(crate) fn is_formatted<O: Write, E: Write>(
     };
     if text.as_str() != pattern {
         writeln!(out, "{at}: would change\n-{pattern}\n+{text}")?;
+        tally.changed = tally.changed.saturating_add(1);
         return Ok(Outcome::Refused);
     }
     Ok(Outcome::Good)

@@ -11,6 +11,7 @@ use crate::outcome::Outcome;
 use crate::place::Location;
 use crate::printing::{Comments, format_pattern, is_formatted};
 use crate::sources::Sources;
+use crate::tally::Tally;
 use std::alloc::{AllocError, Global};
 use std::io::{BufRead, ErrorKind, Write};
 use std::{io, str};
@@ -38,6 +39,8 @@ pub enum Verb {
 pub struct Job {
     pub verb: Verb,
     pub flags: u32,
+    /// Whether nothing is said at the end of the run.
+    pub is_quiet: bool,
 }
 
 /// Says that the line is no text; where lines are formatted, it is written as it was.
@@ -64,6 +67,7 @@ fn answer_line<O: Write, E: Write>(
     line: &[u8],
     out: &mut O,
     err: &mut E,
+    tally: &mut Tally,
 ) -> Result<Outcome, Fault> {
     let Ok(pattern) = str::from_utf8(line) else {
         pass_over(job.verb, at, line, out, err)?;
@@ -72,9 +76,11 @@ fn answer_line<O: Write, E: Write>(
     match job.verb {
         Verb::Check => check(alloc, job.flags, at, pattern, out),
         Verb::Format(kept) => format_pattern(alloc, job.flags, kept, at, pattern, out, err),
-        Verb::IsFormatted(kept) => is_formatted(alloc, job.flags, kept, at, pattern, out, err),
+        Verb::IsFormatted(kept) => {
+            is_formatted(alloc, job.flags, kept, at, pattern, out, err, tally)
+        }
         Verb::Groups => list_groups(alloc, job.flags, at, pattern, out, err),
-        Verb::Lint(chosen) => lint(alloc, job.flags, at, pattern, &chosen, out),
+        Verb::Lint(chosen) => lint(alloc, job.flags, at, pattern, &chosen, out, tally),
     }
 }
 
@@ -95,6 +101,7 @@ fn answer_lines<R: BufRead, O: Write, E: Write>(
     reader: &mut R,
     out: &mut O,
     err: &mut E,
+    tally: &mut Tally,
 ) -> Result<Outcome, Fault> {
     let mut buffer = Vec::new(alloc);
     let mut outcome = Outcome::Good;
@@ -102,7 +109,9 @@ fn answer_lines<R: BufRead, O: Write, E: Write>(
         match next_line(reader, &mut buffer) {
             Ok(Some(text)) => {
                 let at = Location { file, line };
-                outcome = outcome.and(answer_line(alloc, job, at, text, out, err)?);
+                let found = answer_line(alloc, job, at, text, out, err, tally)?;
+                tally.add(found);
+                outcome = outcome.and(found);
             }
             Ok(None) => return Ok(outcome),
             Err(error) => return unread(file, error, err),
@@ -119,15 +128,16 @@ fn answer_file<S: Sources, O: Write, E: Write>(
     sources: &S,
     out: &mut O,
     err: &mut E,
+    tally: &mut Tally,
 ) -> Result<Outcome, Fault> {
     if file == STANDARD_INPUT {
         return match sources.input() {
-            Ok(mut input) => answer_lines(alloc, job, file, &mut input, out, err),
+            Ok(mut input) => answer_lines(alloc, job, file, &mut input, out, err, tally),
             Err(error) => unread(file, error, err),
         };
     }
     match sources.open(file) {
-        Ok(mut opened) => answer_lines(alloc, job, file, &mut opened, out, err),
+        Ok(mut opened) => answer_lines(alloc, job, file, &mut opened, out, err, tally),
         Err(error) => unread(file, error, err),
     }
 }
@@ -142,17 +152,22 @@ fn answer_files<S: Sources, O: Write, E: Write>(
     err: &mut E,
 ) -> Result<Outcome, Fault> {
     let mut outcome = Outcome::Good;
+    let mut tally = Tally::new();
     for file in files {
-        outcome = outcome.and(answer_file(alloc, job, file, sources, out, err)?);
+        outcome = outcome.and(answer_file(alloc, job, file, sources, out, err, &mut tally)?);
     }
     out.flush()?;
+    if !job.is_quiet {
+        writeln!(err, "{tally}")?;
+    }
     Ok(outcome)
 }
 
 /// Does the job on each pattern of the files, one a line, and returns the exit status: 0 if every pattern passes; 1 if
 /// one does not; 2 if a file, or a line of one, cannot be read, which is reported on `err` while the others are still
 /// read; 3 if memory ran out or a write failed, which is reported on `err` if that is possible, and `out` may then have
-/// part of the output. A line ends with LF or CR LF. The file `-` is standard input.
+/// part of the output. A line ends with LF or CR LF. The file `-` is standard input. The last line on `err` says how many
+/// patterns there were and what became of them, unless the job is quiet or the status is 3.
 pub fn run<S: Sources, O: Write, E: Write>(
     alloc: Global,
     job: Job,
