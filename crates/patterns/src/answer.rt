@@ -1,8 +1,6 @@
 //! What the program does with its arguments.
 use crate::rules::rules_chosen;
-use crate::words::{
-    canvas_chosen, command, ending_chosen, flags_chosen, style_chosen, verb_chosen,
-};
+use crate::words::{canvas_chosen, command, ending_chosen, flags_chosen, look_chosen, verb_chosen};
 use clap::error::ErrorKind;
 use clap::{ArgMatches, Error};
 use patterns_program::draw::draw_tree;
@@ -57,7 +55,17 @@ fn answer_pattern<O: Write, E: Write>(
     if matches.get_flag("json") {
         return write_tree(alloc, flags, pattern, out, err);
     }
-    draw_tree(alloc, flags, style_chosen(matches), pattern, out, err)
+    draw_tree(alloc, flags, look_chosen(matches), pattern, out, err)
+}
+
+/// The job that the arguments choose for the subcommand.
+fn job_chosen(verb: Verb, flags: u32, matches: &ArgMatches<'_>) -> Job {
+    Job {
+        verb,
+        flags,
+        ending: ending_chosen(matches),
+        is_quiet: matches.get_flag("quiet"),
+    }
 }
 
 /// Lists the rules of `lint`, or reports what they find in files.
@@ -92,12 +100,7 @@ fn answer_lint<S: Sources, O: Write, E: Write>(
     } else {
         Verb::Lint(chosen)
     };
-    let ending = ending_chosen(matches);
-    let job = Job {
-        verb,
-        flags,
-        ending,
-    };
+    let job = job_chosen(verb, flags, matches);
     Ok(run(alloc, job, files, sources, out, err))
 }
 
@@ -122,12 +125,7 @@ fn answer_verb<S: Sources, O: Write, E: Write>(
     let (Some(verb), Some(files)) = (verb_chosen(name, matches), matches.get_strs("files")) else {
         return Ok(MISUSED);
     };
-    let ending = ending_chosen(matches);
-    let job = Job {
-        verb,
-        flags,
-        ending,
-    };
+    let job = job_chosen(verb, flags, matches);
     Ok(run(alloc, job, files, sources, out, err))
 }
 

@@ -14,6 +14,7 @@ fn lint(alloc: Global, pattern: &str, chosen: Chosen) -> Result<(u8, Limited), F
         verb: Verb::Lint(chosen),
         flags: 32,
         ending: Ending::Line,
+        is_quiet: true,
     };
     let input = Memory {
         input: pattern.as_bytes(),

@@ -29,6 +29,8 @@ fn main(rt: HostRuntime) -> ExitCode {
 }
 
 #[cfg(test)]
+mod formats;
+#[cfg(test)]
 mod lints;
 #[cfg(test)]
 mod memory;

@@ -2,6 +2,7 @@
 use crate::answer::answer;
 use crate::memory::{Limited, Memory};
 use std::alloc::Global;
+use std::str;
 use std::test::Fail;
 
 /// What a run came to: its status, and what was written on the two outputs.
@@ -76,17 +77,31 @@ Has subroutine calls.
 The pattern calls itself.
 ";
 
+const SPANS: &str = "alternation at 0..18: \u{65E5}(?<n>|\\t)\\k<n>|
+├─ concatenation at 0..17: \u{65E5}(?<n>|\\t)\\k<n>
+│  ├─ literal \"\u{65E5}\" at 0..3: \u{65E5}
+│  ├─ group 1, named \"n\" at 3..12: (?<n>|\\t)
+│  │  └─ alternation at 8..11: |\\t
+│  │     ├─ empty at 8..8
+│  │     └─ literal \"\\t\" at 9..11: \\t
+│  └─ back reference to group 1, named \"n\" at 12..17: \\k<n>
+└─ empty at 18..18
+1 numbered group.
+Name \"n\": group 1.
+Back references to group 1.
+";
+
 const GROUPS: &str = "-:1: (?<y>a)(b)\\k<y>\\2\\g<1>\\g0
-  group 1, named \"y\"
-  group 2
-  back reference to group 1, named \"y\"
-  back reference to group 2
-  call of group 1, named \"y\"
-  call of the whole pattern
-  the pattern calls itself
--:2: \\g<-2>
-  no numbered groups
-  unresolved call \\g<-2>, column 3
+-:1:1-7: group 1, named \"y\"
+-:1:8-10: group 2
+-:1:11-15: back reference to group 1, named \"y\"
+-:1:16-17: back reference to group 2
+-:1:18-22: call of group 1, named \"y\"
+-:1:23-25: call of the whole pattern
+-:1: the pattern calls itself
+-:2: \u{65E5}\\g<-2>
+-:2: no numbered groups
+-:2:3-8: unresolved call \\g<-2>, column 5
 ";
 
 const WARNED: &str = "-:1:5: warning: branch that is equal to branch 1 [duplicate-branch]
@@ -111,6 +126,7 @@ const FORMATTED: &str = "ab*
 const LEFT: &str = "-:3:2: Opening parenthesis without closing parenthesis
 (
  ^
+3 patterns, 1 refused
 ";
 
 const VERBOSE: &[u8] = b"(?<day> \\d{2} ) / (?P=day) (?=x)  # twice
@@ -134,20 +150,61 @@ const NULL: &str = "-:4:1: Opening parenthesis without closing parenthesis
 ^
 ";
 
-const NULL_TEXT: &str = "-:3: the line is not valid UTF-8\n";
+const NULL_TEXT: &str = "-:3: the line is not valid UTF-8
+2 patterns, 0 refused
+";
+
+const NULL_KEPT: &str = "-:1:3: comments would be lost; use --drop-comments
+a # 
+  ^
+2 patterns, 1 refused
+";
+
+const KEPT: &str = "-:1:6: comments would be lost; use --drop-comments
+a  b # c
+     ^
+2 patterns, 1 refused
+";
+
+const KEPT_SHORTER: &str = "-:1:4: comments would be lost; use --drop-comments
+ab # c
+   ^
+2 patterns, 1 refused, 1 would change
+";
+
+const CHANGED: &str = "-:2: would change
+-a  b
++ab
+";
 
 const NO_FLAGS: &str = "patterns: --flags takes letters of imsUxuRon, or - for none\n";
 
-const NO_TEXT: &str = "mixed:4: the line is not valid UTF-8\n";
+const NO_TEXT: &str = "mixed:4: the line is not valid UTF-8
+4 patterns, 2 refused
+";
 
 const NO_FILES: &str = "patterns: none: entity not found
 patterns: broken: connection reset
+1 pattern, 1 refused
 ";
 
 /// Words, the standard input, and the status, the output and the error of a run.
-static RUNS: [(&[&str], &[u8], u8, &str, &str); 24] = [
-    (&["patterns", "check", "good", "empty"], b"", 0, "", ""),
-    (&["patterns", "check"], b"", 0, "", ""),
+static RUNS: [(&[&str], &[u8], u8, &str, &str); 29] = [
+    (
+        &["patterns", "check", "good", "empty"],
+        b"",
+        0,
+        "",
+        "3 patterns, 0 refused\n",
+    ),
+    (
+        &["patterns", "check"],
+        b"",
+        0,
+        "",
+        "0 patterns, 0 refused\n",
+    ),
+    (&["patterns", "check", "--quiet", "good"], b"", 0, "", ""),
     (&["patterns", "check", "mixed"], b"", 2, MIXED, NO_TEXT),
     (
         &["patterns", "check", "none", "broken"],
@@ -156,13 +213,19 @@ static RUNS: [(&[&str], &[u8], u8, &str, &str); 24] = [
         BROKEN,
         NO_FILES,
     ),
-    (&["patterns", "check", "-"], b"\t\xE6\x97\xA5(", 1, WIDE, ""),
+    (
+        &["patterns", "check", "-"],
+        b"\t\xE6\x97\xA5(",
+        1,
+        WIDE,
+        "1 pattern, 1 refused\n",
+    ),
     (
         &["patterns", "check", "--flags", "x", "spaced"],
         b"",
         0,
         "",
-        "",
+        "1 pattern, 0 refused\n",
     ),
     (
         &["patterns", "check", "--flags", "uz", "good"],
@@ -192,29 +255,42 @@ static RUNS: [(&[&str], &[u8], u8, &str, &str); 24] = [
         ASCII,
         "",
     ),
+    (
+        &["patterns", "tree", "--spans", "\u{65E5}(?<n>|\\t)\\k<n>|"],
+        b"",
+        0,
+        SPANS,
+        "",
+    ),
     (&["patterns", "tree", "a\n("], b"", 1, "", UNNAMED),
     (&["patterns", "picture", "a\n("], b"", 1, "", UNNAMED),
     (
         &["patterns", "groups"],
-        b"(?<y>a)(b)\\k<y>\\2\\g<1>\\g0\n\\g<-2>",
+        b"(?<y>a)(b)\\k<y>\\2\\g<1>\\g0\n\xE6\x97\xA5\\g<-2>",
         0,
         GROUPS,
-        "",
+        "2 patterns, 0 refused\n",
     ),
-    (&["patterns", "lint"], b"a|b|a", 0, WARNED, ""),
+    (
+        &["patterns", "lint"],
+        b"a|b|a",
+        0,
+        WARNED,
+        "1 pattern, 0 refused, 1 warning\n",
+    ),
     (
         &["patterns", "lint", "--allow", "duplicate-branch"],
         b"a|b|a",
         0,
         "",
-        "",
+        "1 pattern, 0 refused\n",
     ),
     (
         &["patterns", "lint", "--deny", "duplicate-branch"],
         b"a|b|a",
         1,
         DENIED,
-        "",
+        "1 pattern, 0 refused, 1 error\n",
     ),
     (
         &["patterns", "lint", "--warn", "branch"],
@@ -231,21 +307,47 @@ static RUNS: [(&[&str], &[u8], u8, &str, &str); 24] = [
         LEFT,
     ),
     (
-        &["patterns", "format", "--flags", "uxi"],
+        &["patterns", "format", "--flags", "uxi", "--drop-comments"],
         VERBOSE,
         0,
         TERSE,
-        "",
+        "5 patterns, 0 refused\n",
+    ),
+    (
+        &["patterns", "format", "--flags", "ux"],
+        b"a  b # c\na  b",
+        1,
+        "a  b # c\nab\n",
+        KEPT,
+    ),
+    (
+        &["patterns", "format", "--check", "--flags", "ux"],
+        b"ab # c\na  b",
+        1,
+        CHANGED,
+        KEPT_SHORTER,
     ),
     (
         &["patterns", "format", "--check"],
         b"ab*\n(?<n>a)\\k<n>\n",
         0,
         "",
-        "",
+        "2 patterns, 0 refused\n",
     ),
-    (&["patterns", "format", "--check"], b"\\Ka{0,}\n", 1, "", ""),
-    (&["patterns", "check", "-z"], b"a\n|b\0(\n\0c", 1, NULL, ""),
+    (
+        &["patterns", "format", "--check"],
+        b"\\Ka{0,}\n",
+        1,
+        "-:1: would change\n-\\Ka{0,}\n+\\Ka*\n",
+        "1 pattern, 0 refused, 1 would change\n",
+    ),
+    (
+        &["patterns", "check", "-z"],
+        b"a\n|b\0(\n\0c",
+        1,
+        NULL,
+        "3 patterns, 1 refused\n",
+    ),
     (
         &["patterns", "check", "--null-data"],
         b"a\r\n\0\xFF\0b",
@@ -254,18 +356,32 @@ static RUNS: [(&[&str], &[u8], u8, &str, &str); 24] = [
         NULL_TEXT,
     ),
     (
-        &["patterns", "format", "-z", "--flags", "x"],
+        &[
+            "patterns",
+            "format",
+            "-z",
+            "--flags",
+            "x",
+            "--drop-comments",
+        ],
         b"a{0,} # \n b\0\\x00\0(?:c)",
         0,
         "a*b\0\\x00\0c\0",
-        "",
+        "3 patterns, 0 refused\n",
+    ),
+    (
+        &["patterns", "format", "-z", "--flags", "x"],
+        b"a # \n b\0c d",
+        1,
+        "a # \n b\0cd\0",
+        NULL_KEPT,
     ),
     (
         &["patterns", "format", "-z"],
         b"a\r\n\0b\r\0",
         0,
         "a\\r\\n\0b\\r\0",
-        "",
+        "2 patterns, 0 refused\n",
     ),
 ];
 
@@ -327,6 +443,21 @@ fn words_are_explained(rt: HostRuntime) -> Result<(), Fail> {
     Ok(())
 }
 
+/// Whether the help of the subcommand begins with an example of it.
+fn begins_with_example(alloc: Global, name: &str) -> Result<bool, Fail> {
+    let run = run(alloc, &["patterns", "help", name], b"", usize::MAX)?;
+    let example = format!(in alloc; "Example: patterns {name} ")?;
+    Ok(run.status == 0 && run.out.text.starts_with(example.as_bytes()))
+}
+
+#[test]
+fn help_begins_with_examples(rt: HostRuntime) -> Result<(), Fail> {
+    for name in ["check", "tree", "picture", "lint", "format", "groups"] {
+        assert!(rt; begins_with_example(rt.alloc(), name)?, "{name}");
+    }
+    Ok(())
+}
+
 /// Whether a run whose output takes so many bytes says that it cannot write, and has written a beginning.
 fn tells_of_write(alloc: Global, room: usize) -> Result<bool, Fail> {
     let run = run(alloc, &["patterns", "check", "mixed"], b"", room)?;
@@ -337,6 +468,27 @@ fn tells_of_write(alloc: Global, room: usize) -> Result<bool, Fail> {
 fn refused_writes(rt: HostRuntime) -> Result<(), Fail> {
     for room in 0..MIXED.len() {
         assert!(rt; tells_of_write(rt.alloc(), room)?, "{room} bytes");
+    }
+    Ok(())
+}
+
+/// Whether a check of so many lines says at the end that there were so many patterns.
+fn is_counted(alloc: Global, lines: usize, patterns: &str) -> Result<bool, Fail> {
+    let input = "\n".repeat(alloc, lines)?;
+    let run = run(alloc, &["patterns", "check"], input.as_bytes(), usize::MAX)?;
+    let told = str::from_utf8(&run.err.text)?;
+    Ok(run.status == 0 && told.strip_suffix(", 0 refused\n") == Some(patterns))
+}
+
+#[test]
+fn counts(rt: HostRuntime) -> Result<(), Fail> {
+    for (lines, patterns) in [
+        (1, "1 pattern"),
+        (999, "999 patterns"),
+        (1000, "1,000 patterns"),
+        (12_034, "12,034 patterns"),
+    ] {
+        assert!(rt; is_counted(rt.alloc(), lines, patterns)?, "{lines}");
     }
     Ok(())
 }

@@ -1,10 +1,11 @@
 //! The arguments of the program.
 use clap::{Arg, ArgAction, ArgMatches, Command};
 use fre_program::flag_word::flags_named;
-use patterns_program::draw::Style;
+use patterns_program::draw::{Look, Style};
 use patterns_program::lines::Ending;
 use patterns_program::objects::Report;
 use patterns_program::picture::Canvas;
+use patterns_program::printing::Comments;
 use patterns_program::run::{STANDARD_INPUT, Verb};
 use std::alloc::{AllocError, Global};
 
@@ -35,9 +36,33 @@ const NULL_HELP: &str = "A pattern ends with NUL, and not with its line";
 
 const JSON_HELP: &str = "Writes JSON, one object per line, to standard output";
 
+const QUIET_HELP: &str =
+    "Does not write at the end, to standard error, how many patterns there were";
+
+const CHECK_EXAMPLE: &str = r"Example: patterns check dates.txt
+
+  dates.txt:2:29: Opening parenthesis without closing parenthesis
+  (?<year>\d{4})-(?<month>\d\d
+                              ^";
+
 const CHECK: &str = "Reports each pattern that is refused, with the position and the reason";
 
+const TREE_EXAMPLE: &str = r#"Example: patterns tree '(a|b)+'
+
+  repeat 1 or more times, greedy
+  └─ group 1
+     └─ alternation
+        ├─ literal "a"
+        └─ literal "b"
+  1 numbered group."#;
+
 const TREE: &str = "Draws the tree of a pattern, and describes its groups and references";
+
+const SPANS_HELP: &str =
+    "Writes after each node its span, as START..END in byte offsets, and its text";
+
+const PICTURE_EXAMPLE: &str =
+    r"Example: patterns picture '(?<year>\d{4})-(?<month>\d\d)' >date.svg";
 
 const PICTURE: &str = "Draws the tree of a pattern as a railroad diagram, in SVG";
 
@@ -46,6 +71,17 @@ const HTML_HELP: &str =
 
 const FORMAT: &str =
     "Writes each pattern in one form, which parses to the same tree under the same flags";
+
+const IS_CHECK_HELP: &str =
+    "Writes, for each line that would change, FILE:LINE and what it is and would be; the exit status is 1 if one would \
+change or is refused";
+
+const LINT_EXAMPLE: &str = "Example: patterns lint words.txt
+
+  words.txt:3:5: warning: branch that is equal to branch 1 [duplicate-branch]
+  a|b|a
+      ^
+  help: remove it";
 
 const LINT: &str = "Reports likely mistakes in patterns that are accepted";
 
@@ -56,14 +92,31 @@ warnings, and 1 if not. docs/lint.md says what each rule reports, and when it is
 
 const GROUPS: &str = "Lists the groups of each pattern, and what its references and calls refer to";
 
+const GROUPS_MORE: &str =
+    "Lists the groups of each pattern, and what its references and calls refer to.
+
+Each pattern is written as FILE:LINE: PATTERN, and below it each group, reference and call as
+FILE:LINE:FIRST-LAST: DESCRIPTION, where FIRST and LAST are the columns of its first and last character.";
+
+const GROUPS_EXAMPLE: &str = r#"Example: patterns groups dates.txt
+
+  dates.txt:1: (?<year>\d{4})-(\d\d)
+  dates.txt:1:1-14: group 1, named "year"
+  dates.txt:1:16-21: group 2"#;
+
+const FORMAT_EXAMPLE: &str = r"Example: patterns format --flags ux words.txt
+
+  writes for the line  (?<y> \d{4} ) - (?P=y)
+  the line             (?<y>\d{4})-\k<y>";
+
 const FORMAT_MORE: &str =
-    "Writes each pattern in one form. Comments, ignored whitespace, and the choice among several ways to \
-write the same thing are lost.
+    "Writes each pattern in one form. Comments (only with --drop-comments), ignored whitespace, and the choice among several \
+ways to write the same thing are lost.
 
 The text that is written for a pattern parses, under the same flags, to the same tree with the \
 same groups and names. Each line ends with LF.
 
-A pattern that is refused is written unchanged; standard error has the position and the reason.";
+A pattern that is refused, or that has a comment, is written unchanged; standard error has the position and the reason.";
 
 fn flags_arg<'a>(alloc: Global) -> Arg<'a> {
     Arg::new(alloc, "flags")
@@ -90,13 +143,27 @@ fn null_arg<'a>(alloc: Global) -> Arg<'a> {
         .help(NULL_HELP)
 }
 
-/// A subcommand over files.
-fn over_files<'a>(alloc: Global, name: &'a str, about: &'a str) -> Result<Command<'a>, AllocError> {
+fn quiet_arg<'a>(alloc: Global) -> Arg<'a> {
+    Arg::new(alloc, "quiet")
+        .long("quiet")
+        .action(ArgAction::SetTrue)
+        .help(QUIET_HELP)
+}
+
+/// A subcommand over files; the example begins its help.
+fn over_files<'a>(
+    alloc: Global,
+    name: &'a str,
+    about: &'a str,
+    example: &'a str,
+) -> Result<Command<'a>, AllocError> {
     Command::new(alloc, name)
         .about(about)
+        .before_help(example)
         .after_help(LETTERS)
         .arg(flags_arg(alloc))?
         .arg(null_arg(alloc))?
+        .arg(quiet_arg(alloc))?
         .arg(files_arg(alloc))
 }
 
@@ -119,11 +186,17 @@ fn tree_command<'a>(alloc: Global) -> Result<Command<'a>, AllocError> {
         .long("ascii")
         .action(ArgAction::SetTrue)
         .help("Draws with ASCII characters");
+    let spans = Arg::new(alloc, "spans")
+        .long("spans")
+        .action(ArgAction::SetTrue)
+        .help(SPANS_HELP);
     Command::new(alloc, "tree")
         .about(TREE)
+        .before_help(TREE_EXAMPLE)
         .after_help(LETTERS)
         .arg(flags_arg(alloc))?
         .arg(ascii)?
+        .arg(spans)?
         .arg(json_arg(alloc))?
         .arg(pattern_arg(alloc))
 }
@@ -135,6 +208,7 @@ fn picture_command<'a>(alloc: Global) -> Result<Command<'a>, AllocError> {
         .help(HTML_HELP);
     Command::new(alloc, "picture")
         .about(PICTURE)
+        .before_help(PICTURE_EXAMPLE)
         .after_help(LETTERS)
         .arg(flags_arg(alloc))?
         .arg(html)?
@@ -145,10 +219,15 @@ fn format_command<'a>(alloc: Global) -> Result<Command<'a>, AllocError> {
     let is_check = Arg::new(alloc, "check")
         .long("check")
         .action(ArgAction::SetTrue)
-        .help("Writes no pattern; the exit status is 1 if a line would change or is refused");
-    over_files(alloc, "format", FORMAT)?
+        .help(IS_CHECK_HELP);
+    let drop_comments = Arg::new(alloc, "drop-comments")
+        .long("drop-comments")
+        .action(ArgAction::SetTrue)
+        .help("Writes patterns that have comments too, without the comments");
+    over_files(alloc, "format", FORMAT, FORMAT_EXAMPLE)?
         .long_about(FORMAT_MORE)
-        .arg(is_check)
+        .arg(is_check)?
+        .arg(drop_comments)
 }
 
 /// An option that gives a level to a rule.
@@ -165,13 +244,19 @@ fn lint_command<'a>(alloc: Global) -> Result<Command<'a>, AllocError> {
         .long("rules")
         .action(ArgAction::SetTrue)
         .help("Lists the rules with an example of each, and reads no file");
-    over_files(alloc, "lint", LINT)?
+    over_files(alloc, "lint", LINT, LINT_EXAMPLE)?
         .long_about(LINT_MORE)
         .arg(level_arg(alloc, "allow", "Silences a rule"))?
         .arg(level_arg(alloc, "warn", "Makes the reports of a rule warnings"))?
         .arg(level_arg(alloc, "deny", "Makes the reports of a rule errors"))?
         .arg(json_arg(alloc))?
         .arg(rules)
+}
+
+fn groups_command<'a>(alloc: Global) -> Result<Command<'a>, AllocError> {
+    over_files(alloc, "groups", GROUPS, GROUPS_EXAMPLE)?
+        .long_about(GROUPS_MORE)
+        .arg(json_arg(alloc))
 }
 
 /// The command line.
@@ -182,12 +267,21 @@ pub(crate) fn command<'a>(alloc: Global) -> Result<Command<'a>, AllocError> {
         .after_help(STATUSES)
         .subcommand_required(true)
         .arg_required_else_help(true)
-        .subcommand(over_files(alloc, "check", CHECK)?.arg(json_arg(alloc))?)?
+        .subcommand(over_files(alloc, "check", CHECK, CHECK_EXAMPLE)?.arg(json_arg(alloc))?)?
         .subcommand(tree_command(alloc)?)?
         .subcommand(picture_command(alloc)?)?
         .subcommand(lint_command(alloc)?)?
         .subcommand(format_command(alloc)?)?
-        .subcommand(over_files(alloc, "groups", GROUPS)?.arg(json_arg(alloc))?)
+        .subcommand(groups_command(alloc)?)
+}
+
+/// What the arguments choose to become of comments.
+fn comments_chosen(matches: &ArgMatches<'_>) -> Comments {
+    if matches.get_flag("drop-comments") {
+        Comments::Drop
+    } else {
+        Comments::Keep
+    }
 }
 
 /// The subcommand over files that the arguments choose.
@@ -195,8 +289,8 @@ pub(crate) fn verb_chosen(name: &str, matches: &ArgMatches<'_>) -> Option<Verb> 
     match name {
         "check" if matches.get_flag("json") => Some(Verb::Json(Report::Check)),
         "check" => Some(Verb::Check),
-        "format" if matches.get_flag("check") => Some(Verb::IsFormatted),
-        "format" => Some(Verb::Format),
+        "format" if matches.get_flag("check") => Some(Verb::IsFormatted(comments_chosen(matches))),
+        "format" => Some(Verb::Format(comments_chosen(matches))),
         "groups" if matches.get_flag("json") => Some(Verb::Json(Report::Groups)),
         "groups" => Some(Verb::Groups),
         _ => None,
@@ -212,12 +306,16 @@ pub(crate) fn ending_chosen(matches: &ArgMatches<'_>) -> Ending {
     }
 }
 
-/// The style of drawing that the arguments choose.
-pub(crate) fn style_chosen(matches: &ArgMatches<'_>) -> Style {
-    if matches.get_flag("ascii") {
+/// How the arguments choose a tree to be drawn.
+pub(crate) fn look_chosen(matches: &ArgMatches<'_>) -> Look {
+    let style = if matches.get_flag("ascii") {
         Style::Ascii
     } else {
         Style::Lines
+    };
+    Look {
+        style,
+        has_spans: matches.get_flag("spans"),
     }
 }
 

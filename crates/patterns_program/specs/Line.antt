@@ -9,6 +9,8 @@ use Rattle.fancy_grammar.specs.ReadAs.{IsReadAs}
 use Rattle.fancy_syntax.specs.Answer.{IsTreeOf}
 use Rattle.fancy_syntax.specs.Marks.{Marks}
 use Rattle.fancy_syntax.specs.Tree.{Tree}
+use Rattle.patterns_program.specs.declared.printing.Comments.{Comments}
+use Rattle.patterns_program.specs.declared.printing.Comments.TheVariants as kept
 
 -- whether a byte stands in the text, and not in the pattern
 abbrev pub is_new : ℕ → List ℕ → List ℕ → Bool
@@ -19,6 +21,10 @@ is_new byte w pattern = list_any (λ b. b == byte) w && not (list_any (λ b. b =
 abbrev pub breaks_line : List ℕ → List ℕ → Bool
 breaks_line w pattern = (is_new (code "\n") w pattern || is_new (code "\r") w pattern || is_new 0 w pattern)
     || ends_with (λ a b. a == b) w (code "\r" ∷ [])
+
+-- comments are to be kept, and the pattern may have one: it holds a `#`
+abbrev pub MayKeep : Comments → List ℕ → Type 0
+MayKeep comments pattern = (comments ≡ kept.Keep) × (list_any (λ b. b == code "#") pattern ≡ true)
 
 -- the bytes are the tree's text, for the line of the pattern: under the flags it is read as the tree with its marks, and
 -- it stands in a line

@@ -7,9 +7,10 @@ use crate::fault::{Fault, give_up};
 use crate::marks::write_marks;
 use crate::names::Names;
 use crate::place::Location;
-use crate::reading::read;
-use crate::words::{Held, is_reference, write_reference};
+use crate::reading::read_with_spans;
+use crate::words::{Held, Visible, is_reference, write_reference};
 use fancy_syntax::expr::{Absent, Expr};
+use fancy_syntax::span::Span;
 use fancy_syntax::tree::ExprTree;
 use std::alloc::Global;
 use std::io::Write;
@@ -24,11 +25,26 @@ pub enum Style {
     Ascii,
 }
 
+/// How a tree is drawn.
+#[derive(Clone, Copy)]
+pub struct Look {
+    pub style: Style,
+    /// Whether the span of each node is written, in byte offsets, and its text.
+    pub has_spans: bool,
+}
+
 /// What stands before a node: for each level from the first whether the node that it runs through is the last there.
 #[derive(Clone, Copy)]
 struct Branches<'a> {
     style: Style,
     lasts: &'a [bool],
+}
+
+impl Look {
+    /// The spans that are written.
+    fn shown(self, spans: &[Span]) -> &[Span] {
+        if self.has_spans { spans } else { &[] }
+    }
 }
 
 impl Style {
@@ -73,6 +89,8 @@ struct Drawing<'a> {
     /// How many groups are drawn.
     groups: usize,
     lasts: Vec<bool>,
+    /// The spans of the nodes that are still to come; none where they are not written.
+    spans: &'a [Span],
 }
 
 impl Drawing<'_> {
@@ -83,9 +101,26 @@ impl Drawing<'_> {
         }
         if let Expr::Group(_) = node {
             self.groups = self.groups.saturating_add(1);
-            return writeln!(out, "{}", self.names.group(self.groups));
+            return write!(out, "{}", self.names.group(self.groups));
         }
-        writeln!(out, "{}", Held(node))
+        write!(out, "{}", Held(node))
+    }
+
+    /// Writes the span of the node that comes next, and its text.
+    fn write_span<O: Write>(&mut self, out: &mut O) -> io::Result<()> {
+        let Some((span, rest)) = self.spans.split_first() else {
+            return Ok(());
+        };
+        self.spans = rest;
+        let text = span.text(self.pattern).unwrap_or("");
+        let colon = if text.is_empty() { "" } else { ": " };
+        write!(
+            out,
+            " at {}..{}{colon}{}",
+            span.start,
+            span.end,
+            Visible(text)
+        )
     }
 
     /// Writes the node's line; `role` is what it is to its parent.
@@ -95,7 +130,9 @@ impl Drawing<'_> {
             lasts: &self.lasts,
         };
         write!(out, "{branches}{role}")?;
-        self.write_label(out, node)
+        self.write_label(out, node)?;
+        self.write_span(out)?;
+        out.write_all(b"\n")
     }
 }
 
@@ -129,12 +166,13 @@ fn draw<O: Write>(
     Ok(())
 }
 
-/// Draws the pattern's tree, and writes what is known of it.
+/// Draws the pattern's tree, with the spans if there are any, and writes what is known of it.
 pub(crate) fn write_tree<O: Write>(
     alloc: Global,
     style: Style,
     pattern: &str,
     tree: &ExprTree,
+    spans: &[Span],
     out: &mut O,
 ) -> Result<(), Fault> {
     let mut drawing = Drawing {
@@ -143,6 +181,7 @@ pub(crate) fn write_tree<O: Write>(
         names: Names::of(alloc, tree)?,
         groups: 0,
         lasts: Vec::new(alloc),
+        spans,
     };
     draw(out, &mut drawing, "", &tree.expr)?;
     write_marks(out, tree)?;
@@ -154,7 +193,7 @@ pub(crate) fn write_tree<O: Write>(
 fn answer<O: Write, E: Write>(
     alloc: Global,
     flags: u32,
-    style: Style,
+    look: Look,
     pattern: &str,
     out: &mut O,
     err: &mut E,
@@ -167,10 +206,10 @@ fn answer<O: Write, E: Write>(
         file: "PATTERN",
         line: 1,
     };
-    let Some(tree) = read(alloc, flags, at, pattern, err)? else {
+    let Some((tree, spans)) = read_with_spans(alloc, flags, at, pattern, err)? else {
         return Ok(1);
     };
-    write_tree(alloc, style, pattern, &tree, out)?;
+    write_tree(alloc, look.style, pattern, &tree, look.shown(&spans), out)?;
     Ok(0)
 }
 
@@ -180,7 +219,7 @@ fn answer<O: Write, E: Write>(
 pub fn draw_tree<O: Write, E: Write>(
     alloc: Global,
     flags: u32,
-    style: Style,
+    look: Look,
     pattern: &str,
     out: &mut O,
     err: &mut E,
@@ -189,7 +228,7 @@ pub fn draw_tree<O: Write, E: Write>(
     ensures refused { result ≡ 1 → HasFault (flags_of flags) (chars pattern.now) }
     ensures status { (result ≡ 0) ⊎ ((result ≡ 1) ⊎ (result ≡ 3)) }
 {
-    match answer(alloc, flags, style, pattern, out, err) {
+    match answer(alloc, flags, look, pattern, out, err) {
         Ok(status) => status,
         Err(fault) => give_up(err, fault),
     }

@@ -6,44 +6,82 @@ ghost use Rattle.patterns_program.specs.declared.outcome.Outcome.{Outcome};
 
 use crate::fault::Fault;
 use crate::names::Names;
+use crate::nodes::{Node, nodes_of};
 use crate::outcome::Outcome;
-use crate::place::Location;
-use crate::reading::read;
+use crate::place::{Columns, Location};
+use crate::reading::read_with_spans;
 use crate::words::{is_reference, write_reference};
 use fancy_syntax::expr::Expr;
+use fancy_syntax::span::Span;
 use fancy_syntax::tree::ExprTree;
 use std::alloc::Global;
 use std::io;
 use std::io::Write;
 
+/// What the line of a group or a reference begins with.
+#[derive(Clone, Copy)]
+pub(crate) enum Lead<'a> {
+    /// Blanks.
+    Indent,
+    /// The pattern's file and line.
+    At(Location<'a>),
+}
+
+impl Lead<'_> {
+    /// Begins the line of what has the span.
+    fn write<O: Write>(self, out: &mut O, pattern: &str, span: Span) -> io::Result<()> {
+        match self {
+            Lead::Indent => out.write_all(b"  "),
+            Lead::At(at) => write!(out, "{at}:{}: ", Columns::of(pattern, span)),
+        }
+    }
+
+    /// Begins a line on the whole pattern.
+    fn write_whole<O: Write>(self, out: &mut O) -> io::Result<()> {
+        match self {
+            Lead::Indent => out.write_all(b"  "),
+            Lead::At(at) => write!(out, "{at}: "),
+        }
+    }
+}
+
 /// Writes the groups that have a number, a line each.
 pub(crate) fn write_numbered<O: Write>(
     out: &mut O,
-    total: usize,
+    lead: Lead<'_>,
+    pattern: &str,
+    nodes: &[Node<'_>],
     names: &Names<'_>,
 ) -> io::Result<()> {
-    if total == 0 {
-        return writeln!(out, "  no numbered groups");
+    let mut number = 0usize;
+    for node in nodes {
+        if let Expr::Group(_) = node.expr {
+            number = number.saturating_add(1);
+            lead.write(out, pattern, node.span)?;
+            writeln!(out, "{}", names.group(number))?;
+        }
     }
-    for number in 1..=total {
-        writeln!(out, "  {}", names.group(number))?;
+    if number == 0 {
+        lead.write_whole(out)?;
+        writeln!(out, "no numbered groups")?;
     }
     Ok(())
 }
 
-/// Writes the references and calls of the tree in the order of the text, a line each.
+/// Writes the references and calls in the order of the text, a line each.
 pub(crate) fn write_references<O: Write>(
     out: &mut O,
-    tree: &Expr,
-    names: &Names<'_>,
+    lead: Lead<'_>,
     pattern: &str,
+    nodes: &[Node<'_>],
+    names: &Names<'_>,
 ) -> io::Result<()> {
-    if is_reference(tree) {
-        out.write_all(b"  ")?;
-        write_reference(out, tree, names, pattern)?;
-    }
-    for child in tree.children_iter() {
-        write_references(out, child, names, pattern)?;
+    for node in nodes {
+        if is_reference(node.expr) {
+            lead.write(out, pattern, node.span)?;
+            write_reference(out, node.expr, names, pattern)?;
+            out.write_all(b"\n")?;
+        }
     }
     Ok(())
 }
@@ -54,14 +92,16 @@ fn write_groups<O: Write>(
     at: Location<'_>,
     pattern: &str,
     tree: &ExprTree,
+    spans: &[Span],
     out: &mut O,
 ) -> Result<(), Fault> {
     writeln!(out, "{at}: {pattern}")?;
     let names = Names::of(alloc, tree)?;
-    write_numbered(out, tree.total_groups, &names)?;
-    write_references(out, &tree.expr, &names, pattern)?;
+    let nodes = nodes_of(alloc, &tree.expr, spans)?;
+    write_numbered(out, Lead::At(at), pattern, &nodes, &names)?;
+    write_references(out, Lead::At(at), pattern, &nodes, &names)?;
     if tree.self_recursive {
-        writeln!(out, "  the pattern calls itself")?;
+        writeln!(out, "{at}: the pattern calls itself")?;
     }
     Ok(())
 }
@@ -80,9 +120,9 @@ pub(crate) fn list_groups<O: Write, E: Write>(
     ensures refused { result ≡ Ok Outcome.Refused → HasFault (flags_of flags) (chars pattern.now) }
     ensures read { result ≡ Ok Outcome.Unread → ⊥ }
 {
-    let Some(tree) = read(alloc, flags, at, pattern, err)? else {
+    let Some((tree, spans)) = read_with_spans(alloc, flags, at, pattern, err)? else {
         return Ok(Outcome::Refused);
     };
-    write_groups(alloc, at, pattern, &tree, out)?;
+    write_groups(alloc, at, pattern, &tree, &spans, out)?;
     Ok(Outcome::Good)
 }

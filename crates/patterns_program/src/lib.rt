@@ -2,6 +2,7 @@
 #![tactic(auto)]
 
 mod check;
+mod comments;
 pub mod draw;
 pub mod fault;
 mod groups;
@@ -9,12 +10,14 @@ pub mod lines;
 pub mod lint;
 mod marks;
 mod names;
+mod nodes;
 pub mod objects;
 mod outcome;
 pub mod picture;
 pub mod place;
-mod printing;
+pub mod printing;
 mod reading;
 pub mod run;
 pub mod sources;
+mod tally;
 mod words;

@@ -1,5 +1,5 @@
 //! The subcommand `lint`: likely mistakes in patterns that are accepted.
-ghost use Rattle.std.specs.Prelude.{◌≡◌, ◌⊎◌, chars, Ok, IfOk, OnSome, IfNone, Contains};
+ghost use Rattle.std.specs.Prelude.{◌≡◌, ◌⊎◌, chars, Ok, IfOk, Contains};
 ghost use Rattle.std.specs.Bool.{OnTrue};
 ghost use Rattle.fancy_lex.specs.Flags.{flags_of};
 ghost use Rattle.fre_program.specs.Words.{HasTree, HasFault};
@@ -31,9 +31,9 @@ use crate::lint::report::write_report;
 use crate::lint::scan::{About, scan};
 use crate::lint::walk::Walk;
 use crate::outcome::Outcome;
-use crate::place::{Location, write_refusal};
-use fancy_syntax::error::Error;
-use fancy_syntax::expr::Expr;
+use crate::place::Location;
+use crate::reading::read_with_spans;
+use crate::tally::Tally;
 use fancy_syntax::span::Span;
 use fancy_syntax::tree::ExprTree;
 use std::alloc::{AllocError, Global};
@@ -85,6 +85,7 @@ fn write_problems<O: Write>(
     found: &[Found<'_>],
     chosen: &Chosen,
     out: &mut O,
+    tally: &mut Tally,
 ) -> Result<bool, Fault>
     ensures { IfOk result (λ is_denied. OnTrue is_denied (Contains chosen.now.levels Level.Deny)) }
 {
@@ -99,32 +100,11 @@ fn write_problems<O: Write>(
             write_report(out, at, pattern, level, *one)?;
         }
         total = total.saturating_add(1);
+        tally.report(level);
         is_denied = is_denied || level == Level::Deny;
     }
     write_rest(out, at, total)?;
     Ok(is_denied)
-}
-
-/// The tree of the pattern with the spans of its nodes; none if it is refused, and then the position and the reason are
-/// written to `out`.
-fn read_with_spans<O: Write>(
-    alloc: Global,
-    flags: u32,
-    at: Location<'_>,
-    pattern: &str,
-    out: &mut O,
-) -> Result<Option<(ExprTree, Vec<Span>)>, Fault>
-    ensures read { IfOk result (λ answer. OnSome answer (HasTree (flags_of flags) (chars pattern.now))) }
-    ensures refused { IfOk result (λ answer. IfNone answer (HasFault (flags_of flags) (chars pattern.now))) }
-{
-    match Expr::parse_tree_with_spans(alloc, pattern, flags) {
-        Ok(read) => Ok(Some(read)),
-        Err(Error::ParseError(place, kind)) => {
-            write_refusal(out, at, pattern, place, &kind)?;
-            Ok(None)
-        }
-        Err(Error::OutOfMemory) => Err(Fault::Memory(AllocError)),
-    }
 }
 
 /// Writes the likely mistakes in the pattern to `out`, or the position and the reason if it is refused.
@@ -135,6 +115,7 @@ pub(crate) fn lint<O: Write>(
     pattern: &str,
     chosen: &Chosen,
     out: &mut O,
+    tally: &mut Tally,
 ) -> Result<Outcome, Fault>
     ensures good { result ≡ Ok Outcome.Good → HasTree (flags_of flags) (chars pattern.now) }
     ensures refused { result ≡ Ok Outcome.Refused → HasFault (flags_of flags) (chars pattern.now)
@@ -145,7 +126,8 @@ pub(crate) fn lint<O: Write>(
         return Ok(Outcome::Refused);
     };
     let found = problems(alloc, pattern, flags, &tree, &spans)?;
-    if write_problems(at, pattern, &found, chosen, out)? {
+    if write_problems(at, pattern, &found, chosen, out, tally)? {
+        tally.denied = tally.denied.saturating_add(1);
         return Ok(Outcome::Refused);
     }
     Ok(Outcome::Good)

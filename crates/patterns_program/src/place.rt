@@ -2,7 +2,7 @@
 ghost use Rattle.std.specs.Prelude.{◌≡◌, ◌+◌, chars, false};
 ghost use Rattle.unicode_width.specs.Width.{str_width};
 
-use fancy_lex::error::ParseError;
+use fancy_syntax::span::Span;
 use std::io::Write;
 use std::{fmt, io};
 use unicode_width::UnicodeWidthStr;
@@ -62,6 +62,31 @@ impl fmt::Display for Cut<'_> {
     }
 }
 
+/// The columns of a part of a pattern, from the first one to the last one.
+#[derive(Clone, Copy)]
+pub(crate) struct Columns {
+    first: usize,
+    last: usize,
+}
+
+impl Columns {
+    /// Those of the span, in its line.
+    pub(crate) fn of(pattern: &str, span: Span) -> Columns {
+        let before = Cut::at(pattern, span.start).before;
+        let until = Cut::at(pattern, span.end).before;
+        Columns {
+            first: column_after(before),
+            last: until.width(),
+        }
+    }
+}
+
+impl fmt::Display for Columns {
+    fn fmt<W: fmt::Write>(&self, f: &mut fmt::Formatter<W>) -> fmt::Result {
+        write!(f, "{}-{}", self.first, self.last)
+    }
+}
+
 /// As many blanks as the text takes columns. A tab stays a tab, so that it takes what it takes in the text.
 #[derive(Clone, Copy)]
 pub(crate) struct Blank<'a>(pub(crate) &'a str);
@@ -81,12 +106,12 @@ impl fmt::Display for Blank<'_> {
 }
 
 /// Writes where and why a pattern is refused, the line of the place, and a caret under the place.
-pub(crate) fn write_refusal<O: Write>(
+pub(crate) fn write_refusal<O: Write, K: fmt::Display>(
     out: &mut O,
     at: Location<'_>,
     pattern: &str,
     place: usize,
-    kind: &ParseError,
+    kind: &K,
 ) -> io::Result<()> {
     let Cut {
         above,

@@ -1,22 +1,38 @@
 //! The subcommand `format`: each pattern as the text of its tree.
+ghost use Rattle.std.specs.Bool.{OnTrue};
 ghost use Rattle.std.specs.Prelude.{◌≡◌, ◌⊎◌, chars, string_bytes, Ok, IfOk, IfSome, IfNone};
 ghost use Rattle.fancy_lex.specs.Flags.{flags_of};
 ghost use Rattle.fancy_syntax.specs.Answer.{marks_of};
 ghost use Rattle.fancy_syntax.specs.View.{view};
 ghost use Rattle.fre_program.specs.Words.{HasTree, HasFault};
 ghost use Rattle.patterns_program.specs.Line as spec;
-ghost use Rattle.patterns_program.specs.Line.{IsLineOf, HasNoLine, Stays, Changes};
+ghost use Rattle.patterns_program.specs.Line.{IsLineOf, HasNoLine, MayKeep, Stays, Changes};
 ghost use Rattle.patterns_program.specs.declared.outcome.Outcome.{Outcome};
+ghost use Rattle.patterns_program.specs.declared.printing.Comments.{Comments};
 
+use crate::comments::first_comment;
 use crate::fault::Fault;
 use crate::lines::Ending;
 use crate::outcome::Outcome;
-use crate::place::Location;
+use crate::place::{Location, write_refusal};
 use crate::reading::read;
+use crate::tally::Tally;
 use fancy_syntax::tree::ExprTree;
 use std::alloc::Global;
 use std::io;
 use std::io::Write;
+
+/// Why a pattern with a comment stays as it is.
+const LOST: &str = "comments would be lost; use --drop-comments";
+
+/// What becomes of a pattern that has a comment, which its text does not keep.
+#[derive(Clone, Copy, PartialEq, Eq)]
+pub enum Comments {
+    /// It stays as it is, and that is reported.
+    Keep,
+    /// It is written without the comment.
+    Drop,
+}
 
 /// Whether a byte stands in the text, and not in the pattern.
 fn is_new(byte: u8, text: &str, pattern: &str) -> bool
@@ -64,25 +80,52 @@ fn write_ended<O: Write>(out: &mut O, text: &str, ending: Ending) -> io::Result<
     out.write_all(&[ending.byte()])
 }
 
-/// Writes the text of the pattern's tree as a line of `out`, or a record. A pattern that is refused is written unchanged, with the
-/// position and the reason on `err`.
+/// Whether the pattern has a comment that is to be kept. The position is reported on `err` then.
+fn keeps_comment<E: Write>(
+    alloc: Global,
+    flags: u32,
+    comments: Comments,
+    at: Location<'_>,
+    pattern: &str,
+    err: &mut E,
+) -> Result<bool, Fault>
+    ensures { IfOk result (λ keeps. OnTrue keeps (MayKeep comments pattern.now)) }
+{
+    if comments == Comments::Drop || !pattern.as_bytes().contains(&b'#') {
+        return Ok(false);
+    }
+    let Some(position) = first_comment(alloc, flags, pattern)? else {
+        return Ok(false);
+    };
+    write_refusal(err, at, pattern, position, &LOST)?;
+    Ok(true)
+}
+
+/// Writes the text of the pattern's tree as a line of `out`, or a record. A pattern that is refused, or whose comments are
+/// kept, is written unchanged, with the position and the reason on `err`.
 pub(crate) fn format_pattern<O: Write, E: Write>(
     alloc: Global,
     flags: u32,
     ending: Ending,
+    comments: Comments,
     at: Location<'_>,
     pattern: &str,
     out: &mut O,
     err: &mut E,
 ) -> Result<Outcome, Fault>
     ensures good { result ≡ Ok Outcome.Good → HasTree (flags_of flags) (chars pattern.now) }
-    ensures refused { result ≡ Ok Outcome.Refused → HasFault (flags_of flags) (chars pattern.now) }
+    ensures refused { result ≡ Ok Outcome.Refused → HasFault (flags_of flags) (chars pattern.now)
+        ⊎ MayKeep comments pattern.now }
     ensures read { result ≡ Ok Outcome.Unread → ⊥ }
 {
     let Some(tree) = read(alloc, flags, at, pattern, err)? else {
         write_ended(out, pattern, ending)?;
         return Ok(Outcome::Refused);
     };
+    if keeps_comment(alloc, flags, comments, at, pattern, err)? {
+        write_ended(out, pattern, ending)?;
+        return Ok(Outcome::Refused);
+    }
     match text_of(alloc, flags, pattern, &tree)? {
         Some(text) => write_ended(out, text.as_str(), ending)?,
         None => write_ended(out, pattern, ending)?,
@@ -90,26 +133,35 @@ pub(crate) fn format_pattern<O: Write, E: Write>(
     Ok(Outcome::Good)
 }
 
-/// Whether the pattern would be written unchanged. If it is refused, the position and the reason are written to `err`.
-pub(crate) fn is_formatted<E: Write>(
+/// Whether the pattern would be written unchanged. If not, what it is and what it would be is written to `out`; if it is
+/// refused, or its comments are kept, the position and the reason to `err`.
+pub(crate) fn is_formatted<O: Write, E: Write>(
     alloc: Global,
     flags: u32,
+    comments: Comments,
     at: Location<'_>,
     pattern: &str,
+    out: &mut O,
     err: &mut E,
+    tally: &mut Tally,
 ) -> Result<Outcome, Fault>
     ensures good { result ≡ Ok Outcome.Good → Stays (flags_of flags) pattern.now }
     ensures refused { result ≡ Ok Outcome.Refused → HasFault (flags_of flags) (chars pattern.now)
-        ⊎ Changes (flags_of flags) pattern.now }
+        ⊎ (MayKeep comments pattern.now ⊎ Changes (flags_of flags) pattern.now) }
     ensures read { result ≡ Ok Outcome.Unread → ⊥ }
 {
     let Some(tree) = read(alloc, flags, at, pattern, err)? else {
         return Ok(Outcome::Refused);
     };
+    if keeps_comment(alloc, flags, comments, at, pattern, err)? {
+        return Ok(Outcome::Refused);
+    }
     let Some(text) = text_of(alloc, flags, pattern, &tree)? else {
         return Ok(Outcome::Good);
     };
     if text.as_str() != pattern {
+        writeln!(out, "{at}: would change\n-{pattern}\n+{text}")?;
+        tally.changed = tally.changed.saturating_add(1);
         return Ok(Outcome::Refused);
     }
     Ok(Outcome::Good)

@@ -11,8 +11,9 @@ use crate::lint::objects::lint_objects;
 use crate::objects::{Report, report_pattern};
 use crate::outcome::Outcome;
 use crate::place::Location;
-use crate::printing::{format_pattern, is_formatted};
+use crate::printing::{Comments, format_pattern, is_formatted};
 use crate::sources::Sources;
+use crate::tally::Tally;
 use std::alloc::{AllocError, Global};
 use std::io::{BufRead, ErrorKind, Write};
 use std::{io, str};
@@ -26,16 +27,16 @@ pub enum Verb {
     /// Check it; if it is refused, the position and the reason are written to the output.
     Check,
     /// Write it in one form.
-    Format,
+    Format(Comments),
     /// Check whether `Format` would write it unchanged.
-    IsFormatted,
+    IsFormatted(Comments),
     /// List its groups, and what its references and calls refer to.
     Groups,
     /// Report likely mistakes in it.
     Lint(Chosen),
     /// Report on it as JSON.
     Json(Report),
-    /// Report as JSON what is surely not meant in it.
+    /// Report likely mistakes in it as JSON.
     LintJson(Chosen),
 }
 
@@ -45,6 +46,8 @@ pub struct Job {
     pub verb: Verb,
     pub flags: u32,
     pub ending: Ending,
+    /// Whether nothing is said at the end of the run.
+    pub is_quiet: bool,
 }
 
 /// Says that the line is no text; where lines are formatted, it is written as it was.
@@ -56,7 +59,7 @@ fn pass_over<O: Write, E: Write>(
     err: &mut E,
 ) -> io::Result<()> {
     writeln!(err, "{at}: the line is not valid UTF-8")?;
-    if let Verb::Format = job.verb {
+    if let Verb::Format(_) = job.verb {
         out.write_all(line)?;
         out.write_all(&[job.ending.byte()])?;
     }
@@ -71,6 +74,7 @@ fn answer_line<O: Write, E: Write>(
     line: &[u8],
     out: &mut O,
     err: &mut E,
+    tally: &mut Tally,
 ) -> Result<Outcome, Fault> {
     let Ok(pattern) = str::from_utf8(line) else {
         pass_over(job, at, line, out, err)?;
@@ -78,12 +82,16 @@ fn answer_line<O: Write, E: Write>(
     };
     match job.verb {
         Verb::Check => check(alloc, job.flags, at, pattern, out),
-        Verb::Format => format_pattern(alloc, job.flags, job.ending, at, pattern, out, err),
-        Verb::IsFormatted => is_formatted(alloc, job.flags, at, pattern, err),
+        Verb::Format(kept) => format_pattern(
+            alloc, job.flags, job.ending, kept, at, pattern, out, err,
+        ),
+        Verb::IsFormatted(kept) => {
+            is_formatted(alloc, job.flags, kept, at, pattern, out, err, tally)
+        }
         Verb::Groups => list_groups(alloc, job.flags, at, pattern, out, err),
-        Verb::Lint(chosen) => lint(alloc, job.flags, at, pattern, &chosen, out),
+        Verb::Lint(chosen) => lint(alloc, job.flags, at, pattern, &chosen, out, tally),
         Verb::Json(what) => report_pattern(alloc, job.flags, at, pattern, what, out),
-        Verb::LintJson(chosen) => lint_objects(alloc, job.flags, at, pattern, &chosen, out),
+        Verb::LintJson(chosen) => lint_objects(alloc, job.flags, at, pattern, &chosen, out, tally),
     }
 }
 
@@ -104,6 +112,7 @@ fn answer_lines<R: BufRead, O: Write, E: Write>(
     reader: &mut R,
     out: &mut O,
     err: &mut E,
+    tally: &mut Tally,
 ) -> Result<Outcome, Fault> {
     let mut buffer = Vec::new(alloc);
     let mut outcome = Outcome::Good;
@@ -112,8 +121,10 @@ fn answer_lines<R: BufRead, O: Write, E: Write>(
         match next_record(reader, job.ending, &mut buffer) {
             Ok(Some(text)) => {
                 let at = Location { file, line };
+                let found = answer_line(alloc, job, at, text, out, err, tally)?;
                 line = line.saturating_add(lines_in(text));
-                outcome = outcome.and(answer_line(alloc, job, at, text, out, err)?);
+                tally.add(found);
+                outcome = outcome.and(found);
             }
             Ok(None) => return Ok(outcome),
             Err(error) => return unread(file, error, err),
@@ -130,15 +141,16 @@ fn answer_file<S: Sources, O: Write, E: Write>(
     sources: &S,
     out: &mut O,
     err: &mut E,
+    tally: &mut Tally,
 ) -> Result<Outcome, Fault> {
     if file == STANDARD_INPUT {
         return match sources.input() {
-            Ok(mut input) => answer_lines(alloc, job, file, &mut input, out, err),
+            Ok(mut input) => answer_lines(alloc, job, file, &mut input, out, err, tally),
             Err(error) => unread(file, error, err),
         };
     }
     match sources.open(file) {
-        Ok(mut opened) => answer_lines(alloc, job, file, &mut opened, out, err),
+        Ok(mut opened) => answer_lines(alloc, job, file, &mut opened, out, err, tally),
         Err(error) => unread(file, error, err),
     }
 }
@@ -153,10 +165,14 @@ fn answer_files<S: Sources, O: Write, E: Write>(
     err: &mut E,
 ) -> Result<Outcome, Fault> {
     let mut outcome = Outcome::Good;
+    let mut tally = Tally::new();
     for file in files {
-        outcome = outcome.and(answer_file(alloc, job, file, sources, out, err)?);
+        outcome = outcome.and(answer_file(alloc, job, file, sources, out, err, &mut tally)?);
     }
     out.flush()?;
+    if !job.is_quiet {
+        writeln!(err, "{tally}")?;
+    }
     Ok(outcome)
 }
 
@@ -164,7 +180,8 @@ fn answer_files<S: Sources, O: Write, E: Write>(
 /// one does not; 2 if a file, or a line of one, cannot be read, which is reported on `err` while the others are still
 /// read; 3 if memory ran out or a write failed, which is reported on `err` if that is possible, and `out` may then have
 /// part of the output. A pattern ends as the job says, and is reported with the number of its first line; a NUL that ends a
-/// pattern ends a line too. The file `-` is standard input.
+/// pattern ends a line too. The file `-` is standard input. The last line on `err` says how many patterns there were and
+/// what became of them, unless the job is quiet or the status is 3.
 pub fn run<S: Sources, O: Write, E: Write>(
     alloc: Global,
     job: Job,

@@ -9,7 +9,7 @@ use std::{fmt, io};
 
 /// A text in which each control character is written as its code.
 #[derive(Clone, Copy)]
-struct Visible<'a>(&'a str);
+pub(crate) struct Visible<'a>(pub(crate) &'a str);
 
 impl fmt::Display for Visible<'_> {
     fn fmt<W: fmt::Write>(&self, f: &mut fmt::Formatter<W>) -> fmt::Result {
@@ -186,7 +186,7 @@ pub(crate) fn write_reference<O: Write>(
     match node {
         Expr::Backref { group, casei } => {
             let case = case_words(*casei);
-            writeln!(out, "back reference to {}{case}", names.group(*group))
+            write!(out, "back reference to {}{case}", names.group(*group))
         }
         Expr::BackrefWithRelativeRecursionLevel {
             group,
@@ -195,7 +195,7 @@ pub(crate) fn write_reference<O: Write>(
         } => {
             let level = Level(Some(*relative_level));
             let case = case_words(*casei);
-            writeln!(
+            write!(
                 out,
                 "back reference to {}{level}{case}",
                 names.group(*group)
@@ -206,13 +206,13 @@ pub(crate) fn write_reference<O: Write>(
             relative_recursion_level,
         } => {
             let level = Level(*relative_recursion_level);
-            writeln!(out, "condition on {}{level}", names.group(*group))
+            write!(out, "condition on {}{level}", names.group(*group))
         }
-        Expr::SubroutineCall(0) => writeln!(out, "call of the whole pattern"),
-        Expr::SubroutineCall(group) => writeln!(out, "call of {}", names.group(*group)),
+        Expr::SubroutineCall(0) => write!(out, "call of the whole pattern"),
+        Expr::SubroutineCall(group) => write!(out, "call of {}", names.group(*group)),
         Expr::AstNode(AstNode::SubroutineCall(target), place) => {
             let at = Cut::at(pattern, *place);
-            writeln!(out, r"unresolved call \g<{}>, {at}", Target(target))
+            write!(out, r"unresolved call \g<{}>, {at}", Target(target))
         }
         _ => Ok(()),
     }

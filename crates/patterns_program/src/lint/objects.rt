@@ -15,6 +15,7 @@ use crate::objects::places::Places;
 use crate::objects::reading::read;
 use crate::outcome::Outcome;
 use crate::place::Location;
+use crate::tally::Tally;
 use std::alloc::Global;
 use std::io::Write;
 
@@ -76,6 +77,7 @@ fn write_objects<O: Write>(
     found: &[Found<'_>],
     chosen: &Chosen,
     out: &mut O,
+    tally: &mut Tally,
 ) -> Result<bool, Fault>
     ensures { IfOk result (λ is_denied. OnTrue is_denied (Contains chosen.now.levels Level.Deny)) }
 {
@@ -91,13 +93,14 @@ fn write_objects<O: Write>(
             write_object(alloc, at, pattern, level, &places, *one, out)?;
         }
         total = total.saturating_add(1);
+        tally.report(level);
         is_denied = is_denied || level == Level::Deny;
     }
     write_omitted(alloc, at, pattern, total, out)?;
     Ok(is_denied)
 }
 
-/// Writes to `out` what is surely not meant in the pattern, or its error if it is refused, an object a line.
+/// Writes to `out` the likely mistakes in the pattern, or its error if it is refused, an object a line.
 pub(crate) fn lint_objects<O: Write>(
     alloc: Global,
     flags: u32,
@@ -105,6 +108,7 @@ pub(crate) fn lint_objects<O: Write>(
     pattern: &str,
     chosen: &Chosen,
     out: &mut O,
+    tally: &mut Tally,
 ) -> Result<Outcome, Fault>
     ensures good { result ≡ Ok Outcome.Good → HasTree (flags_of flags) (chars pattern.now) }
     ensures refused { result ≡ Ok Outcome.Refused → HasFault (flags_of flags) (chars pattern.now)
@@ -115,7 +119,8 @@ pub(crate) fn lint_objects<O: Write>(
         return Ok(Outcome::Refused);
     };
     let found = problems(alloc, pattern, flags, &parsed.tree, &parsed.spans)?;
-    if write_objects(alloc, at, pattern, &found, chosen, out)? {
+    if write_objects(alloc, at, pattern, &found, chosen, out, tally)? {
+        tally.denied = tally.denied.saturating_add(1);
         return Ok(Outcome::Refused);
     }
     Ok(Outcome::Good)

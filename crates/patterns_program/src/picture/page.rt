@@ -3,8 +3,9 @@ use super::svg::{Subject, write_picture};
 use super::text::{Xml, XmlLines};
 use crate::draw::{Style, write_tree};
 use crate::fault::Fault;
-use crate::groups::{write_numbered, write_references};
+use crate::groups::{Lead, write_numbered, write_references};
 use crate::names::Names;
+use crate::nodes::nodes_of;
 use std::alloc::Global;
 use std::io::Write;
 use std::{io, str};
@@ -26,11 +27,16 @@ fn write_section<O: Write>(out: &mut O, heading: &str, text: &[u8]) -> io::Resul
 
 /// Writes the groups, and what is known of them.
 fn write_groups<O: Write>(alloc: Global, subject: Subject<'_>, out: &mut O) -> Result<(), Fault> {
-    let Subject { pattern, tree, .. } = subject;
+    let Subject {
+        pattern,
+        tree,
+        spans,
+    } = subject;
     let names = Names::of(alloc, tree)?;
+    let nodes = nodes_of(alloc, &tree.expr, spans)?;
     let mut text = Vec::new(alloc);
-    write_numbered(&mut text, tree.total_groups, &names)?;
-    write_references(&mut text, &tree.expr, &names, pattern)?;
+    write_numbered(&mut text, Lead::Indent, pattern, &nodes, &names)?;
+    write_references(&mut text, Lead::Indent, pattern, &nodes, &names)?;
     write_section(out, "Groups and references", &text)?;
     Ok(())
 }
@@ -47,6 +53,7 @@ fn write_drawn_tree<O: Write>(
         Style::Lines,
         subject.pattern,
         subject.tree,
+        &[],
         &mut text,
     )?;
     write_section(out, "Tree", &text)?;

@@ -1,0 +1,117 @@
+//! The line that ends a run over files.
+use crate::lint::chosen::Level;
+use crate::outcome::Outcome;
+use std::fmt;
+
+/// How many patterns a run has met, and what became of them.
+#[derive(Clone, Copy)]
+pub(crate) struct Tally {
+    patterns: u64,
+    /// Those that are not as the verb asks.
+    failed: u64,
+    /// Those among them that are accepted, and would be written otherwise.
+    pub(crate) changed: u64,
+    /// Those among them that are accepted, and in which a denied rule reports.
+    pub(crate) denied: u64,
+    errors: u64,
+    warnings: u64,
+}
+
+impl Tally {
+    pub(crate) fn new() -> Tally {
+        Tally {
+            patterns: 0,
+            failed: 0,
+            changed: 0,
+            denied: 0,
+            errors: 0,
+            warnings: 0,
+        }
+    }
+
+    /// Counts a pattern; a line that holds no text is none.
+    pub(crate) fn add(&mut self, outcome: Outcome) {
+        if outcome != Outcome::Unread {
+            self.patterns = self.patterns.saturating_add(1);
+        }
+        if outcome == Outcome::Refused {
+            self.failed = self.failed.saturating_add(1);
+        }
+    }
+
+    /// Counts a report of a rule that has the level.
+    pub(crate) fn report(&mut self, level: Level) {
+        if level == Level::Deny {
+            self.errors = self.errors.saturating_add(1);
+        } else {
+            self.warnings = self.warnings.saturating_add(1);
+        }
+    }
+
+    /// How many patterns are refused.
+    fn refused(&self) -> u64 {
+        self.failed
+            .saturating_sub(self.changed)
+            .saturating_sub(self.denied)
+    }
+}
+
+/// A number with commas between the thousands.
+#[derive(Clone, Copy)]
+struct Thousands(u64);
+
+/// What the groups of three digits are multiples of.
+static GROUPS: [u64; 7] = [
+    1_000_000_000_000_000_000,
+    1_000_000_000_000_000,
+    1_000_000_000_000,
+    1_000_000_000,
+    1_000_000,
+    1_000,
+    1,
+];
+
+impl fmt::Display for Thousands {
+    fn fmt<W: fmt::Write>(&self, f: &mut fmt::Formatter<W>) -> fmt::Result {
+        let mut is_begun = false;
+        for group in GROUPS.iter() {
+            let above = self.0.checked_div(*group).unwrap_or(0);
+            if is_begun {
+                write!(f, ",{:03}", above % 1000)?;
+            } else if above > 0 || *group == 1 {
+                write!(f, "{above}")?;
+                is_begun = true;
+            }
+        }
+        Ok(())
+    }
+}
+
+/// A number, and what is counted.
+#[derive(Clone, Copy)]
+struct Counted(u64, &'static str);
+
+impl fmt::Display for Counted {
+    fn fmt<W: fmt::Write>(&self, f: &mut fmt::Formatter<W>) -> fmt::Result {
+        let Counted(count, what) = *self;
+        let plural = if count == 1 { "" } else { "s" };
+        write!(f, "{} {what}{plural}", Thousands(count))
+    }
+}
+
+impl fmt::Display for Tally {
+    fn fmt<W: fmt::Write>(&self, f: &mut fmt::Formatter<W>) -> fmt::Result {
+        let patterns = Counted(self.patterns, "pattern");
+        write!(f, "{patterns}, {} refused", Thousands(self.refused()))?;
+        if self.changed > 0 {
+            write!(f, ", {} would change", Thousands(self.changed))?;
+        }
+        if self.errors > 0 {
+            write!(f, ", {}", Counted(self.errors, "error"))?;
+        }
+        if self.warnings > 0 {
+            write!(f, ", {}", Counted(self.warnings, "warning"))?;
+        }
+        Ok(())
+    }
+}
