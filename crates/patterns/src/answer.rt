@@ -1,12 +1,15 @@
 //! What the program does with its arguments.
 use crate::rules::rules_chosen;
-use crate::words::{canvas_chosen, command, ending_chosen, flags_chosen, look_chosen, verb_chosen};
+use crate::words::{
+    canvas_chosen, command, ending_chosen, flags_chosen, look_chosen, paints_chosen, verb_chosen,
+};
 use clap::error::ErrorKind;
 use clap::{ArgMatches, Error};
 use patterns_program::draw::draw_tree;
 use patterns_program::fault::{Fault, give_up};
 use patterns_program::lint::rule::write_rules;
 use patterns_program::objects::tree::write_tree;
+use patterns_program::paint::Paints;
 use patterns_program::picture::draw_picture;
 use patterns_program::run::{Job, Verb, run};
 use patterns_program::sources::Sources;
@@ -58,19 +61,38 @@ fn answer_pattern<O: Write, E: Write>(
     draw_tree(alloc, flags, look_chosen(matches), pattern, out, err)
 }
 
-/// The job that the arguments choose for the subcommand.
-fn job_chosen(verb: Verb, flags: u32, matches: &ArgMatches<'_>) -> Job {
-    Job {
+/// Runs a subcommand over files.
+fn answer_files<S: Sources, O: Write, E: Write>(
+    alloc: Global,
+    auto: Paints,
+    verb: Verb,
+    flags: u32,
+    matches: &ArgMatches<'_>,
+    sources: &S,
+    out: &mut O,
+    err: &mut E,
+) -> Result<u8, Fault> {
+    let Some(files) = matches.get_strs("files") else {
+        return Ok(MISUSED);
+    };
+    let Some(paints) = paints_chosen(matches, auto) else {
+        writeln!(err, "patterns: --color takes auto, always or never")?;
+        return Ok(MISUSED);
+    };
+    let job = Job {
         verb,
         flags,
         ending: ending_chosen(matches),
         is_quiet: matches.get_flag("quiet"),
-    }
+        paints,
+    };
+    Ok(run(alloc, job, files, sources, out, err))
 }
 
 /// Lists the rules of `lint`, or reports what they find in files.
 fn answer_lint<S: Sources, O: Write, E: Write>(
     alloc: Global,
+    auto: Paints,
     flags: u32,
     matches: &ArgMatches<'_>,
     sources: &S,
@@ -92,21 +114,18 @@ fn answer_lint<S: Sources, O: Write, E: Write>(
             return Ok(MISUSED);
         }
     };
-    let Some(files) = matches.get_strs("files") else {
-        return Ok(MISUSED);
-    };
     let verb = if matches.get_flag("json") {
         Verb::LintJson(chosen)
     } else {
         Verb::Lint(chosen)
     };
-    let job = job_chosen(verb, flags, matches);
-    Ok(run(alloc, job, files, sources, out, err))
+    answer_files(alloc, auto, verb, flags, matches, sources, out, err)
 }
 
 /// Runs a subcommand.
 fn answer_verb<S: Sources, O: Write, E: Write>(
     alloc: Global,
+    auto: Paints,
     name: &str,
     matches: &ArgMatches<'_>,
     sources: &S,
@@ -120,18 +139,18 @@ fn answer_verb<S: Sources, O: Write, E: Write>(
         return Ok(answer_pattern(alloc, name, flags, pattern, matches, out, err));
     }
     if name == "lint" {
-        return answer_lint(alloc, flags, matches, sources, out, err);
+        return answer_lint(alloc, auto, flags, matches, sources, out, err);
     }
-    let (Some(verb), Some(files)) = (verb_chosen(name, matches), matches.get_strs("files")) else {
+    let Some(verb) = verb_chosen(name, matches) else {
         return Ok(MISUSED);
     };
-    let job = job_chosen(verb, flags, matches);
-    Ok(run(alloc, job, files, sources, out, err))
+    answer_files(alloc, auto, verb, flags, matches, sources, out, err)
 }
 
 /// Runs the subcommand that the arguments choose, or reports what is wrong with them.
 fn try_answer<S: Sources, O: Write, E: Write>(
     alloc: Global,
+    auto: Paints,
     words: &[String],
     sources: &S,
     out: &mut O,
@@ -139,7 +158,7 @@ fn try_answer<S: Sources, O: Write, E: Write>(
 ) -> Result<u8, Fault> {
     match command(alloc)?.try_get_matches_from(words) {
         Ok(matches) => match matches.subcommand() {
-            Some((name, chosen)) => answer_verb(alloc, name, chosen, sources, out, err),
+            Some((name, chosen)) => answer_verb(alloc, auto, name, chosen, sources, out, err),
             None => Ok(MISUSED),
         },
         Err(error) => explain(&error, out, err),
@@ -147,15 +166,17 @@ fn try_answer<S: Sources, O: Write, E: Write>(
 }
 
 /// Does what the arguments ask, the program's name first, and returns the exit status: that of the run, or 0 if help
-/// was asked for, 2 if the arguments are wrong, and 3 if memory ran out or a write failed.
+/// was asked for, 2 if the arguments are wrong, and 3 if memory ran out or a write failed. Where the arguments leave it open,
+/// `auto` says which stream has colours.
 pub(crate) fn answer<S: Sources, O: Write, E: Write>(
     alloc: Global,
+    auto: Paints,
     words: &[String],
     sources: &S,
     out: &mut O,
     err: &mut E,
 ) -> u8 {
-    match try_answer(alloc, words, sources, out, err) {
+    match try_answer(alloc, auto, words, sources, out, err) {
         Ok(status) => status,
         Err(fault) => give_up(err, fault),
     }

@@ -1,6 +1,7 @@
 //! What `format` takes for a comment, and that what it writes stays.
 use crate::memory::{Limited, Memory};
 use patterns_program::lines::Ending;
+use patterns_program::paint::{Paint, Paints};
 use patterns_program::printing::Comments;
 use patterns_program::run::{Job, Verb, run};
 use std::alloc::Global;
@@ -19,6 +20,7 @@ fn format(
         flags,
         ending: Ending::Line,
         is_quiet: true,
+        paints: Paints::both(Paint::Plain),
     };
     let input = Memory {
         input: lines.as_bytes(),

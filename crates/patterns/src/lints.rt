@@ -3,6 +3,7 @@ use crate::memory::{Limited, Memory};
 use patterns_program::lines::Ending;
 use patterns_program::lint::chosen::{Chosen, Level};
 use patterns_program::lint::rule::{RULES, Rule};
+use patterns_program::paint::{Paint, Paints};
 use patterns_program::run::{Job, Verb, run};
 use std::alloc::Global;
 use std::str;
@@ -15,6 +16,7 @@ fn lint(alloc: Global, pattern: &str, chosen: Chosen) -> Result<(u8, Limited), F
         flags: 32,
         ending: Ending::Line,
         is_quiet: true,
+        paints: Paints::both(Paint::Plain),
     };
     let input = Memory {
         input: pattern.as_bytes(),

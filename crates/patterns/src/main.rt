@@ -9,16 +9,41 @@ mod words;
 use answer::answer;
 use files::Host;
 use patterns_program::fault::{Fault, give_up};
+use patterns_program::paint::{Paint, Paints};
 use std::alloc::AllocError;
-use std::io::BufWriter;
+use std::env::VarError;
+use std::io::{BufWriter, IsTerminal};
 use std::process::ExitCode;
 use std::{env, io};
+
+/// The colours of the two streams where the arguments leave it open: a terminal has colours, unless `NO_COLOR` is set and
+/// not empty.
+fn paints_of(rt: &HostRuntime) -> Result<Paints, AllocError> {
+    let is_wanted = match env::var(rt, "NO_COLOR") {
+        Ok(value) => value.is_empty(),
+        Err(VarError::NotPresent) => true,
+        Err(VarError::NotUnicode) => false,
+        Err(VarError::OutOfMemory) => return Err(AllocError),
+    };
+    Ok(Paints {
+        out: Paint::colored_if(is_wanted && rt.stdout().is_terminal()),
+        err: Paint::colored_if(is_wanted && rt.stderr().is_terminal()),
+    })
+}
 
 /// Runs the program on its arguments; an error if memory runs out for them.
 fn run(rt: &HostRuntime) -> io::Result<u8> {
     let words: Vec<String> = env::args(rt)?.collect(rt.alloc())?;
     let mut out = BufWriter::new(rt.alloc(), rt.stdout())?;
-    Ok(answer(rt.alloc(), &words, &Host { rt }, &mut out, &mut rt.stderr()))
+    let auto = paints_of(rt)?;
+    Ok(answer(
+        rt.alloc(),
+        auto,
+        &words,
+        &Host { rt },
+        &mut out,
+        &mut rt.stderr(),
+    ))
 }
 
 fn main(rt: HostRuntime) -> ExitCode {

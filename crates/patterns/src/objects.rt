@@ -1,12 +1,13 @@
 //! What the program writes as JSON, parsed again.
 use crate::answer::answer;
 use crate::memory::{Limited, Memory};
+use patterns_program::paint::{Paint, Paints};
 use serde_json::Value;
 use std::alloc::Global;
 use std::str;
 use std::test::Fail;
 
-/// Runs the program on the words, and returns the status and what was written.
+/// Runs the program on the words, where both outputs have colours, and returns the status and what was written.
 fn run(alloc: Global, words: &[&str], input: &[u8]) -> Result<(u8, Limited), Fail> {
     let mut owned = Vec::new(alloc);
     for word in words {
@@ -14,7 +15,8 @@ fn run(alloc: Global, words: &[&str], input: &[u8]) -> Result<(u8, Limited), Fai
     }
     let mut out = Limited::new(alloc, usize::MAX);
     let mut err = Limited::new(alloc, usize::MAX);
-    let status = answer(alloc, &owned, &Memory { input }, &mut out, &mut err);
+    let auto = Paints::both(Paint::Colored);
+    let status = answer(alloc, auto, &owned, &Memory { input }, &mut out, &mut err);
     Ok((status, out))
 }
 

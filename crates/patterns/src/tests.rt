@@ -1,6 +1,7 @@
 //! What the program writes, and what it ends with.
 use crate::answer::answer;
 use crate::memory::{Limited, Memory};
+use patterns_program::paint::{Paint, Paints};
 use std::alloc::Global;
 use std::str;
 use std::test::Fail;
@@ -13,16 +14,27 @@ struct Ending {
     err: Limited,
 }
 
-/// Runs the program on the words, where so many bytes can be written on each output.
-fn run(alloc: Global, words: &[&str], input: &[u8], room: usize) -> Result<Ending, Fail> {
+/// Runs the program on the words, where so many bytes can be written on each output, and `auto` says which has colours.
+fn run_with(
+    alloc: Global,
+    auto: Paints,
+    words: &[&str],
+    input: &[u8],
+    room: usize,
+) -> Result<Ending, Fail> {
     let mut owned = Vec::new(alloc);
     for word in words {
         owned.push(String::from_str(alloc, word)?)?;
     }
     let mut out = Limited::new(alloc, room);
     let mut err = Limited::new(alloc, room);
-    let status = answer(alloc, &owned, &Memory { input }, &mut out, &mut err);
+    let status = answer(alloc, auto, &owned, &Memory { input }, &mut out, &mut err);
     Ok(Ending { status, out, err })
+}
+
+/// The same without colours.
+fn run(alloc: Global, words: &[&str], input: &[u8], room: usize) -> Result<Ending, Fail> {
+    run_with(alloc, Paints::both(Paint::Plain), words, input, room)
 }
 
 const MIXED: &str = "mixed:2:2: Opening parenthesis without closing parenthesis
@@ -116,6 +128,44 @@ a|b|a
 help: remove it
 ";
 
+const COLORED: &str =
+    "\x1b[1m-:1:5:\x1b[0m \x1b[1;33mwarning\x1b[0m: branch that is equal to branch 1 [duplicate-branch]
+a|b|a
+    \x1b[1;33m^\x1b[0m
+help: remove it
+";
+
+/// Colours on the output alone.
+const OUT: Paints = Paints {
+    out: Paint::Colored,
+    err: Paint::Plain,
+};
+
+/// Colours on the error alone.
+const ERR: Paints = Paints {
+    out: Paint::Plain,
+    err: Paint::Colored,
+};
+
+const PLAIN_REFUSAL: &str = "-:1:2: Opening parenthesis without closing parenthesis
+(
+ ^
+";
+
+const COLORED_REFUSAL: &str = "\x1b[1m-:1:2:\x1b[0m Opening parenthesis without closing parenthesis
+(
+ \x1b[1;31m^\x1b[0m
+";
+
+const COLORED_GROUPS: &str = "\x1b[1m-:1:\x1b[0m (a)
+\x1b[1m-:1:1-3:\x1b[0m group 1
+";
+
+const COLORED_CHANGE: &str = "\x1b[1m-:1:\x1b[0m would change
+\x1b[31m-(?:a)\x1b[0m
+\x1b[32m+a\x1b[0m
+";
+
 const NO_RULE: &str = "patterns: no rule is named branch; lint --rules lists them\n";
 
 const FORMATTED: &str = "ab*
@@ -189,7 +239,7 @@ patterns: broken: connection reset
 ";
 
 /// Words, the standard input, and the status, the output and the error of a run.
-static RUNS: [(&[&str], &[u8], u8, &str, &str); 29] = [
+static RUNS: [(&[&str], &[u8], u8, &str, &str); 34] = [
     (
         &["patterns", "check", "good", "empty"],
         b"",
@@ -270,6 +320,41 @@ static RUNS: [(&[&str], &[u8], u8, &str, &str); 29] = [
         0,
         GROUPS,
         "2 patterns, 0 refused\n",
+    ),
+    (
+        &["patterns", "lint", "--color", "always"],
+        b"a|b|a",
+        0,
+        COLORED,
+        "1 pattern, 0 refused, 1 warning\n",
+    ),
+    (
+        &["patterns", "check", "--color", "always"],
+        b"(",
+        1,
+        COLORED_REFUSAL,
+        "1 pattern, 1 refused\n",
+    ),
+    (
+        &["patterns", "groups", "--color", "always"],
+        b"(a)",
+        0,
+        COLORED_GROUPS,
+        "1 pattern, 0 refused\n",
+    ),
+    (
+        &["patterns", "format", "--check", "--color", "always"],
+        b"(?:a)",
+        1,
+        COLORED_CHANGE,
+        "1 pattern, 0 refused, 1 would change\n",
+    ),
+    (
+        &["patterns", "check", "--color", "red"],
+        b"(",
+        2,
+        "",
+        "patterns: --color takes auto, always or never\n",
     ),
     (
         &["patterns", "lint"],
@@ -408,6 +493,38 @@ fn answers(rt: HostRuntime) -> Result<(), Fail> {
             is_answer(rt.alloc(), words, input, *status, out, err)?,
             "{words:?}"
         );
+    }
+    Ok(())
+}
+
+/// Words, and which of the two streams alone has colours, so that what is written of `(` has some.
+static STREAMS: [(&[&str], Paints, &str); 6] = [
+    (&["patterns", "check"], OUT, COLORED_REFUSAL),
+    (&["patterns", "check"], ERR, PLAIN_REFUSAL),
+    (&["patterns", "lint"], OUT, COLORED_REFUSAL),
+    (&["patterns", "groups"], ERR, COLORED_REFUSAL),
+    (&["patterns", "groups"], OUT, PLAIN_REFUSAL),
+    (
+        &["patterns", "groups", "--color", "never"],
+        ERR,
+        PLAIN_REFUSAL,
+    ),
+];
+
+/// Whether the refusal of `(` is written so, on one of the streams.
+fn is_refused(alloc: Global, auto: Paints, words: &[&str], refusal: &str) -> Result<bool, Fail> {
+    let run = run_with(alloc, auto, words, b"(", usize::MAX)?;
+    Ok(
+        run.status == 1
+            && (run.out.text.starts_with(refusal.as_bytes())
+                || run.err.text.starts_with(refusal.as_bytes())),
+    )
+}
+
+#[test]
+fn colors_of_streams(rt: HostRuntime) -> Result<(), Fail> {
+    for (words, auto, refusal) in STREAMS.iter() {
+        assert!(rt; is_refused(rt.alloc(), *auto, words, refusal)?, "{words:?}");
     }
     Ok(())
 }

@@ -4,6 +4,7 @@ use fre_program::flag_word::flags_named;
 use patterns_program::draw::{Look, Style};
 use patterns_program::lines::Ending;
 use patterns_program::objects::Report;
+use patterns_program::paint::{Paint, Paints};
 use patterns_program::picture::Canvas;
 use patterns_program::printing::Comments;
 use patterns_program::run::{STANDARD_INPUT, Verb};
@@ -38,6 +39,10 @@ const JSON_HELP: &str = "Writes JSON, one object per line, to standard output";
 
 const QUIET_HELP: &str =
     "Does not write at the end, to standard error, how many patterns there were";
+
+const COLOR_HELP: &str =
+    "When to write colours: always, never, or auto, which is to a terminal unless the environment variable NO_COLOR is \
+set and not empty";
 
 const CHECK_EXAMPLE: &str = r"Example: patterns check dates.txt
 
@@ -150,6 +155,14 @@ fn quiet_arg<'a>(alloc: Global) -> Arg<'a> {
         .help(QUIET_HELP)
 }
 
+fn color_arg<'a>(alloc: Global) -> Arg<'a> {
+    Arg::new(alloc, "color")
+        .long("color")
+        .value_name("WHEN")
+        .default_value("auto")
+        .help(COLOR_HELP)
+}
+
 /// A subcommand over files; the example begins its help.
 fn over_files<'a>(
     alloc: Global,
@@ -164,6 +177,7 @@ fn over_files<'a>(
         .arg(flags_arg(alloc))?
         .arg(null_arg(alloc))?
         .arg(quiet_arg(alloc))?
+        .arg(color_arg(alloc))?
         .arg(files_arg(alloc))
 }
 
@@ -273,6 +287,17 @@ pub(crate) fn command<'a>(alloc: Global) -> Result<Command<'a>, AllocError> {
         .subcommand(lint_command(alloc)?)?
         .subcommand(format_command(alloc)?)?
         .subcommand(groups_command(alloc)?)
+}
+
+/// The colours that the arguments choose for the two streams; `auto` where they leave it open, and none if it is another
+/// word.
+pub(crate) fn paints_chosen(matches: &ArgMatches<'_>, auto: Paints) -> Option<Paints> {
+    match matches.get_str("color")? {
+        "auto" => Some(auto),
+        "always" => Some(Paints::both(Paint::Colored)),
+        "never" => Some(Paints::both(Paint::Plain)),
+        _ => None,
+    }
 }
 
 /// What the arguments choose to become of comments.

@@ -202,10 +202,7 @@ fn answer<O: Write, E: Write>(
     ensures refused { result ≡ Ok 1 → HasFault (flags_of flags) (chars pattern.now) }
     ensures status { IfOk result (λ n. n ≤ 1) }
 {
-    let at = Location {
-        file: "PATTERN",
-        line: 1,
-    };
+    let at = Location::plain("PATTERN", 1);
     let Some((tree, spans)) = read_with_spans(alloc, flags, at, pattern, err)? else {
         return Ok(1);
     };

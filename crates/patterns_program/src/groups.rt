@@ -8,6 +8,7 @@ use crate::fault::Fault;
 use crate::names::Names;
 use crate::nodes::{Node, nodes_of};
 use crate::outcome::Outcome;
+use crate::paint::Ink;
 use crate::place::{Columns, Location};
 use crate::reading::read_with_spans;
 use crate::words::{is_reference, write_reference};
@@ -17,6 +18,12 @@ use fancy_syntax::tree::ExprTree;
 use std::alloc::Global;
 use std::io;
 use std::io::Write;
+
+/// Begins a line on the whole pattern with its file and line.
+fn write_at<O: Write>(out: &mut O, at: Location<'_>) -> io::Result<()> {
+    let (bold, end) = (at.listed.begin(Ink::Position), at.listed.end());
+    write!(out, "{bold}{at}:{end} ")
+}
 
 /// What the line of a group or a reference begins with.
 #[derive(Clone, Copy)]
@@ -32,7 +39,10 @@ impl Lead<'_> {
     fn write<O: Write>(self, out: &mut O, pattern: &str, span: Span) -> io::Result<()> {
         match self {
             Lead::Indent => out.write_all(b"  "),
-            Lead::At(at) => write!(out, "{at}:{}: ", Columns::of(pattern, span)),
+            Lead::At(at) => {
+                let (bold, end) = (at.listed.begin(Ink::Position), at.listed.end());
+                write!(out, "{bold}{at}:{}:{end} ", Columns::of(pattern, span))
+            }
         }
     }
 
@@ -40,7 +50,7 @@ impl Lead<'_> {
     fn write_whole<O: Write>(self, out: &mut O) -> io::Result<()> {
         match self {
             Lead::Indent => out.write_all(b"  "),
-            Lead::At(at) => write!(out, "{at}: "),
+            Lead::At(at) => write_at(out, at),
         }
     }
 }
@@ -95,13 +105,15 @@ fn write_groups<O: Write>(
     spans: &[Span],
     out: &mut O,
 ) -> Result<(), Fault> {
-    writeln!(out, "{at}: {pattern}")?;
+    write_at(out, at)?;
+    writeln!(out, "{pattern}")?;
     let names = Names::of(alloc, tree)?;
     let nodes = nodes_of(alloc, &tree.expr, spans)?;
     write_numbered(out, Lead::At(at), pattern, &nodes, &names)?;
     write_references(out, Lead::At(at), pattern, &nodes, &names)?;
     if tree.self_recursive {
-        writeln!(out, "{at}: the pattern calls itself")?;
+        write_at(out, at)?;
+        out.write_all(b"the pattern calls itself\n")?;
     }
     Ok(())
 }

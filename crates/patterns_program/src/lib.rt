@@ -13,6 +13,7 @@ mod names;
 mod nodes;
 pub mod objects;
 mod outcome;
+pub mod paint;
 pub mod picture;
 pub mod place;
 pub mod printing;

@@ -51,10 +51,7 @@ fn parsed<O: Write>(
     ensures read { IfOk result (λ answer. OnSome answer (HasTree (flags_of flags) (chars pattern.now))) }
     ensures refused { IfOk result (λ answer. IfNone answer (HasFault (flags_of flags) (chars pattern.now))) }
 {
-    let at = Location {
-        file: "PATTERN",
-        line: 1,
-    };
+    let at = Location::plain("PATTERN", 1);
     match Expr::parse_tree_with_spans(alloc, pattern, flags) {
         Ok((tree, spans)) => Ok(Some(Found { tree, spans })),
         Err(Error::ParseError(place, kind)) => {

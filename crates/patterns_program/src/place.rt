@@ -2,18 +2,35 @@
 ghost use Rattle.std.specs.Prelude.{◌≡◌, ◌+◌, chars, false};
 ghost use Rattle.unicode_width.specs.Width.{str_width};
 
+use crate::paint::{Ink, Paint};
 use fancy_syntax::span::Span;
 use std::io::Write;
 use std::{fmt, io};
 use unicode_width::UnicodeWidthStr;
 
-/// Where a pattern is in its file.
+/// Where a pattern is in its file, and the colours of what is written of it.
 #[derive(Clone, Copy)]
 pub struct Location<'a> {
     /// The file's name as an argument.
     pub file: &'a str,
     /// The number of the pattern's first line, counted from 1.
     pub line: u64,
+    /// Of reports: that it is refused, and what `lint` finds.
+    pub reported: Paint,
+    /// Of its groups, and of how it would change.
+    pub listed: Paint,
+}
+
+impl Location<'_> {
+    /// Where a pattern is, without colours.
+    pub(crate) fn plain(file: &str, line: u64) -> Location<'_> {
+        Location {
+            file,
+            line,
+            reported: Paint::Plain,
+            listed: Paint::Plain,
+        }
+    }
 }
 
 impl fmt::Display for Location<'_> {
@@ -119,7 +136,13 @@ pub(crate) fn write_refusal<O: Write, K: fmt::Display>(
         after,
     } = Cut::at(pattern, place);
     let line = at.line.saturating_add(above as u64);
-    writeln!(out, "{}:{line}:{}: {kind}", at.file, column_after(before))?;
+    let column = column_after(before);
+    let (bold, red, end) = (
+        at.reported.begin(Ink::Position),
+        at.reported.begin(Ink::Error),
+        at.reported.end(),
+    );
+    writeln!(out, "{bold}{}:{line}:{column}:{end} {kind}", at.file)?;
     writeln!(out, "{before}{after}")?;
-    writeln!(out, "{}^", Blank(before))
+    writeln!(out, "{}{red}^{end}", Blank(before))
 }

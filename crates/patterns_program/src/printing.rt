@@ -14,6 +14,7 @@ use crate::comments::first_comment;
 use crate::fault::Fault;
 use crate::lines::Ending;
 use crate::outcome::Outcome;
+use crate::paint::Ink;
 use crate::place::{Location, write_refusal};
 use crate::reading::read;
 use crate::tally::Tally;
@@ -133,6 +134,24 @@ pub(crate) fn format_pattern<O: Write, E: Write>(
     Ok(Outcome::Good)
 }
 
+/// Writes that the pattern would change, what it is, and what it would be.
+fn write_change<O: Write>(
+    out: &mut O,
+    at: Location<'_>,
+    pattern: &str,
+    text: &str,
+) -> io::Result<()> {
+    let (bold, red, green, end) = (
+        at.listed.begin(Ink::Position),
+        at.listed.begin(Ink::Removed),
+        at.listed.begin(Ink::Added),
+        at.listed.end(),
+    );
+    writeln!(out, "{bold}{at}:{end} would change")?;
+    writeln!(out, "{red}-{pattern}{end}")?;
+    writeln!(out, "{green}+{text}{end}")
+}
+
 /// Whether the pattern would be written unchanged. If not, what it is and what it would be is written to `out`; if it is
 /// refused, or its comments are kept, the position and the reason to `err`.
 pub(crate) fn is_formatted<O: Write, E: Write>(
@@ -160,7 +179,7 @@ pub(crate) fn is_formatted<O: Write, E: Write>(
         return Ok(Outcome::Good);
     };
     if text.as_str() != pattern {
-        writeln!(out, "{at}: would change\n-{pattern}\n+{text}")?;
+        write_change(out, at, pattern, text.as_str())?;
         tally.changed = tally.changed.saturating_add(1);
         return Ok(Outcome::Refused);
     }

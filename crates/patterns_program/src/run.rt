@@ -10,6 +10,7 @@ use crate::lint::lint;
 use crate::lint::objects::lint_objects;
 use crate::objects::{Report, report_pattern};
 use crate::outcome::Outcome;
+use crate::paint::Paints;
 use crate::place::Location;
 use crate::printing::{Comments, format_pattern, is_formatted};
 use crate::sources::Sources;
@@ -48,6 +49,21 @@ pub struct Job {
     pub ending: Ending,
     /// Whether nothing is said at the end of the run.
     pub is_quiet: bool,
+    pub paints: Paints,
+}
+
+/// Where a pattern is, with the colours of the streams that the verb writes to.
+fn located(job: Job, file: &str, line: u64) -> Location<'_> {
+    let reported = match job.verb {
+        Verb::Check | Verb::Lint(_) => job.paints.out,
+        _ => job.paints.err,
+    };
+    Location {
+        file,
+        line,
+        reported,
+        listed: job.paints.out,
+    }
 }
 
 /// Says that the line is no text; where lines are formatted, it is written as it was.
@@ -120,7 +136,7 @@ fn answer_lines<R: BufRead, O: Write, E: Write>(
     for _ in 0..u64::MAX {
         match next_record(reader, job.ending, &mut buffer) {
             Ok(Some(text)) => {
-                let at = Location { file, line };
+                let at = located(job, file, line);
                 let found = answer_line(alloc, job, at, text, out, err, tally)?;
                 line = line.saturating_add(lines_in(text));
                 tally.add(found);

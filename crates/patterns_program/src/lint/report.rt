@@ -1,18 +1,25 @@
 //! How a report of `lint` is written.
 use crate::lint::chosen::Level;
 use crate::lint::problem::Found;
+use crate::paint::{Ink, Paint};
 use crate::place::{Blank, Cut, Location, column_after};
 use std::io;
 use std::io::Write;
 use unicode_width::UnicodeWidthStr;
 
 /// Writes the line below a part of the pattern: as many carets as it takes columns in its first line, and at least one.
-fn write_underline<O: Write>(out: &mut O, before: &str, part: &str) -> io::Result<()> {
-    write!(out, "{}^", Blank(before))?;
+fn write_underline<O: Write>(
+    out: &mut O,
+    paint: Paint,
+    ink: Ink,
+    before: &str,
+    part: &str,
+) -> io::Result<()> {
+    write!(out, "{}{}^", Blank(before), paint.begin(ink))?;
     for _ in 1..part.width() {
         out.write_all(b"^")?;
     }
-    out.write_all(b"\n")
+    writeln!(out, "{}", paint.end())
 }
 
 /// Writes a report: where and what, the line of the pattern, carets below the part, and help.
@@ -31,20 +38,26 @@ pub(super) fn write_report<O: Write>(
     } = Cut::at(pattern, span.start);
     let line = at.line.saturating_add(above as u64);
     let column = column_after(before);
-    let word = if level == Level::Deny {
-        "error"
+    let (word, ink) = if level == Level::Deny {
+        ("error", Ink::Error)
     } else {
-        "warning"
+        ("warning", Ink::Warning)
     };
     let rule = problem.rule();
-    writeln!(
+    let (bold, color, end) = (
+        at.reported.begin(Ink::Position),
+        at.reported.begin(ink),
+        at.reported.end(),
+    );
+    write!(
         out,
-        "{}:{line}:{column}: {word}: {problem} [{}]",
-        at.file,
-        rule.name()
+        "{bold}{}:{line}:{column}:{end} {color}{word}{end}",
+        at.file
     )?;
+    writeln!(out, ": {problem} [{}]", rule.name())?;
     writeln!(out, "{before}{after}")?;
     let length = span.end.saturating_sub(span.start);
-    write_underline(out, before, after.get(..length).unwrap_or(after))?;
+    let part = after.get(..length).unwrap_or(after);
+    write_underline(out, at.reported, ink, before, part)?;
     writeln!(out, "help: {}", rule.help())
 }

@@ -37,10 +37,7 @@ fn answer<O: Write>(alloc: Global, flags: u32, pattern: &str, out: &mut O) -> Re
     ensures refused { result ≡ Ok 1 → HasFault (flags_of flags) (chars pattern.now) }
     ensures status { IfOk result (λ n. n ≤ 1) }
 {
-    let at = Location {
-        file: "PATTERN",
-        line: 1,
-    };
+    let at = Location::plain("PATTERN", 1);
     let Some(parsed) = read(alloc, flags, at, pattern, out)? else {
         out.flush()?;
         return Ok(1);
