@@ -197,9 +197,9 @@ fn read_class(alloc: Global, text: &str, flags: Flags) -> Result<(String, &str),
     Err(Failure::At(AT_END, ParseError::InvalidClass))
 }
 
-/// Reads a class behind its opening bracket, in the text with which the pattern ends: the text that is written for it,
-/// and the text left. Where the pattern ends in the class, the fault is `InvalidClass` at its end; else it is the
-/// fault of the first escape that cannot be read. What follows the class changes nothing.
+/// Parses a class after its opening bracket, in `text`, a suffix of the pattern: the text that is written for it, and
+/// the text left. If the pattern ends in the class, the error is `InvalidClass` at its end; otherwise it is the error
+/// of the first escape that cannot be parsed. It does not depend on what follows the class.
 pub fn class(alloc: Global, text: &str, flags: Flags) -> Result<(String, &str), Failure>
     ensures value { IsReadingOrNoMemory text_of result (spec.class flags (chars text.now)) }
     ensures derives { Derives text_of result (spec.OuterClass flags (chars text.now)) }

@@ -24,13 +24,13 @@ pub enum Error {
     OutOfMemory,
 }
 
-/// Why a reader stops: the pattern's fault, or that memory was refused.
+/// Why a reader stops: the error in the pattern, or out of memory.
 #[derive(Debug, Drop)]
 pub enum Failure {
-    /// The pattern's fault: its reach, which is how many bytes lie from its place to one past the end of the pattern,
-    /// and what is wrong there.
+    /// The error in the pattern: its reach, which is the number of bytes from its position to one past the end of the
+    /// pattern, and its kind.
     At(usize, ParseError),
-    /// Memory was refused. It says nothing of the pattern.
+    /// Memory ran out. This says nothing about the pattern.
     OutOfMemory,
 }
 

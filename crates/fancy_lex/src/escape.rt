@@ -54,7 +54,7 @@ pub enum Assertion {
     NotWordBoundary,
 }
 
-/// What an escape stands for: a leaf of the tree, in fields of the same names.
+/// What an escape means: a leaf of the tree, in fields of the same names.
 #[derive(Clone, Copy)]
 pub enum Escaped<'a> {
     Literal {
@@ -400,9 +400,9 @@ fn short_call(text: &str) -> Option<(Escaped<'_>, &str)>
     Some((Escaped::SubroutineCall(call), rest))
 }
 
-/// The escape at the front, behind a backslash outside a class, where a look ahead reads all of it, and what follows
-/// it: a character alone, a code of so many digits with no layout before them, a property of one character, a
-/// reference or a call.
+/// The escape at the front, after a backslash outside a class, if a look-ahead parses all of it, and what follows it: a
+/// character alone, a code of a fixed number of digits without whitespace and comments before them, a property of one
+/// character, a reference or a call.
 #[inline(always)]
 #[tactic(auto, unfolding(crate::specs::Escape::escape_at, crate::specs::Escape::lone_escape, crate::specs::Escape::outside, crate::specs::Escape::number_escape))]
 pub fn short_escape(text: &str, flags: Flags) -> Option<(Escaped<'_>, &str)>
@@ -426,13 +426,14 @@ pub fn short_escape(text: &str, flags: Flags) -> Option<(Escaped<'_>, &str)>
     Some((leaf, rest))
 }
 
-/// Reads what stands behind a backslash, in a class where `inside` says so.
+/// Parses what follows a backslash, in a class if `inside` says so.
 ///
-/// The faults, at the backslash where nothing else is named: TrailingBackslash at the end of the text; InvalidEscape
-/// for a letter that is no escape, for a `g` at the end of the text, and for a boundary's braces that are not closed or
-/// hold no name; UnclosedUnicodeName for a property's; InvalidClass for digits in a class; InvalidBackref at the first
-/// of digits whose number no word holds; those of `hex` behind `x`, `u` and `U`; those of `back_reference` behind `k`,
-/// and of `subroutine_call` behind `g`, outside a class; UnclosedOpenParen where a comment in layout is open.
+/// The errors, at the backslash if nothing else is named: TrailingBackslash at the end of the text; InvalidEscape for a
+/// letter that is no escape, for a `g` at the end of the text, and for a boundary whose braces are not closed or hold
+/// no name; UnclosedUnicodeName for a property whose braces are not closed; InvalidClass for digits in a class;
+/// InvalidBackref at the first digit, if the number does not fit in `usize`; those of `hex` after `x`, `u` and `U`;
+/// those of `back_reference` after `k`, and of `subroutine_call` after `g`, outside a class; UnclosedOpenParen if a
+/// comment is not closed.
 #[inline]
 pub fn escape<'a>(
     alloc: Global,

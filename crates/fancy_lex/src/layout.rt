@@ -60,7 +60,8 @@ fn is_blank(c: char) -> bool
     c == ' ' || c == '\r' || c == '\n' || c == '\t'
 }
 
-/// Whether a blank or a line comment begins with the character, where these are layout.
+/// Whether the character is whitespace that is ignored, or begins a comment to the end of the line, if `ignore_space`
+/// is set.
 #[inline]
 pub fn is_layout(ignore_space: bool, c: char) -> bool
     ensures { result ≡ spec.is_layout ignore_space c }
@@ -134,9 +135,9 @@ fn read_layout(text: &str, ignore_space: bool) -> Result<&str, usize>
     }
 }
 
-/// Reads the layout at the front of `text`, with which the pattern ends: the text behind it. Where a comment in it is
-/// not closed, the error is the reach of that fault: `AT_END`, or `PAST_END` where the pattern ends with a backslash
-/// that guards nothing.
+/// Skips the whitespace and the comments, called layout, at the front of `text`, a suffix of the pattern, and returns
+/// the text after them. If a comment is not closed, the error is the reach of that error: `AT_END`, or `PAST_END` if
+/// the pattern ends with a backslash that escapes nothing.
 #[inline]
 pub fn layout(text: &str, ignore_space: bool) -> Result<&str, usize>
     ensures value { spec.layout ignore_space (chars text.now) ≡ skipped_of result }
@@ -151,7 +152,7 @@ pub fn layout(text: &str, ignore_space: bool) -> Result<&str, usize>
     read_layout(text, ignore_space)
 }
 
-/// What follows the layout at the front, if no comment in it is open.
+/// What follows the layout at the front, if every comment in it is closed.
 #[inline]
 pub fn past_layout(text: &str, ignore_space: bool) -> Option<&str>
     ensures value { spec.past_layout ignore_space (chars text.now) ≡ option_map (λ r. chars r.now) result }
@@ -160,7 +161,7 @@ pub fn past_layout(text: &str, ignore_space: bool) -> Option<&str>
     layout(text, ignore_space).ok()
 }
 
-/// The layout at the front, as `layout` reads it, with the fault as an error: UnclosedOpenParen at its reach.
+/// Skips the layout at the front, as `layout` does, with its error as a `Failure`: UnclosedOpenParen at its reach.
 #[inline]
 pub fn skip(text: &str, ignore_space: bool) -> Result<&str, Failure>
     ensures value { ReadsRest result (layout_reading (spec.layout ignore_space (chars text.now))) }

@@ -14,14 +14,14 @@ use std::alloc::AllocError;
 pub enum PropertyName<'a> {
     /// One character.
     Single(char),
-    /// What stands in braces.
+    /// A name in braces.
     Braced(&'a str),
 }
 
 /// A property as the pattern names it.
 #[derive(Clone, Copy)]
 pub struct Property<'a> {
-    /// Whether it stands behind `\P`.
+    /// Whether it is written with `\P`.
     pub negated: bool,
     pub name: PropertyName<'a>,
 }

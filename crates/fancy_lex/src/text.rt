@@ -27,7 +27,7 @@ pub fn after(text: &str, mark: char) -> Option<&str>
     if c == mark { Some(rest) } else { None }
 }
 
-/// What follows the word, if the text begins with it.
+/// What follows `word`, if the text begins with it.
 pub fn after_word<'a>(text: &'a str, word: &str) -> Option<&'a str>
     ensures value { strip_word (chars word.now) (chars text.now) ≡ option_map (λ r. chars r.now) result }
     ensures within { IfSome result (λ r. length r.now ≤ length text.now) }
@@ -35,7 +35,7 @@ pub fn after_word<'a>(text: &'a str, word: &str) -> Option<&'a str>
     text.strip_prefix(word)
 }
 
-/// The text before the first such mark, an ASCII character, and the text behind it.
+/// The text before the first occurrence of `mark`, an ASCII character, and the text after it.
 pub fn split_at(text: &str, mark: char) -> Option<(&str, &str)>
     requires { mark < 128 }
     ensures value { cut_at mark (chars text.now) ≡ parts result }
@@ -66,8 +66,8 @@ pub const AT_END: usize = 1;
 /// The reach of one past the end of a pattern.
 pub const PAST_END: usize = 0;
 
-/// The reach of the place where `text` begins, with which a pattern ends: how many bytes lie from there to one past
-/// the end.
+/// The reach of the position where `text`, a suffix of the pattern, begins: the number of bytes from there to one past
+/// the end of the pattern.
 #[inline]
 pub fn reach(text: &str) -> usize
     ensures { result ≡ reach_of (chars text.now) }
@@ -83,7 +83,7 @@ pub fn reach_before(text: &str) -> usize
     text.len() + 2
 }
 
-/// The place of this reach in the pattern.
+/// The position in the pattern that has this reach.
 #[inline]
 pub fn place_at(pattern: &str, reach: usize) -> usize
     ensures { result ≡ place_at (bytes (chars pattern.now)) reach }

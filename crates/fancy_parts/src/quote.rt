@@ -153,7 +153,7 @@ pub fn quantifier_len(lo: usize, hi: usize, greedy: bool) -> usize
     counts_len(lo, hi) + usize::from(!greedy)
 }
 
-/// The mark that stands for a least and a greatest count.
+/// The quantifier character that means a least and a greatest count.
 #[tactic(auto, unfolding(crate::specs::Quote::mark))]
 pub fn mark(lo: usize, hi: usize) -> Option<char>
     ensures { spec.mark lo hi ≡ result }

@@ -17,7 +17,7 @@ use std::collections::BTreeMap;
 /// What a reference does with the group that it means.
 #[derive(Clone, Copy, PartialEq, Eq, Debug, Drop)]
 pub enum Role {
-    /// It stands for what the group matched.
+    /// It matches what the group matched.
     BackReference,
     /// It calls the group.
     Call,
@@ -32,7 +32,7 @@ pub enum Meaning {
     Number(usize),
     /// No group: the call is left as it is.
     Unresolved,
-    /// No group, which is a fault.
+    /// No group, which is an error.
     Faulty(ParseError),
 }
 
@@ -56,8 +56,8 @@ impl Groups {
         }
     }
 
-    /// Adds a group, which has the next number. Where the groups had their ranks for numbers, they have so with it
-    /// behind them. Where memory runs out, they stay as they were; a group without a name takes none.
+    /// Adds a group, which has the next number. If the groups were numbered in the order of their openings, they still
+    /// are with this one after them. If memory runs out, they are unchanged; a group without a name allocates nothing.
     pub fn add(&mut self, alloc: Global, name: Option<&str>) -> Result<(), AllocError>
         requires { self.old.total + 1 < 2 ^ 64 }
         ensures added { IfOk result
@@ -106,7 +106,7 @@ fn add_number(
     Ok(())
 }
 
-/// What a target means behind the openings of so many groups. Memory is wanted for the text of a fault alone.
+/// What a target refers to after the openings of so many groups. Memory is allocated only for the text of an error.
 pub fn meaning_behind(
     groups: &Groups,
     passed: usize,

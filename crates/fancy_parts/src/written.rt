@@ -7,8 +7,8 @@ ghost use Rattle.fancy_parts.specs.Written as spec;
 use crate::ranks::Role;
 use fancy_lex::name::CaptureGroupTarget;
 
-/// Whether a reference counts as numeric, which has its place in the pattern: a call by a number, and a back reference
-/// by a number right behind its backslash.
+/// Whether a reference at this position of the pattern counts as numeric: a call by a number, and a back reference by a
+/// number directly after its backslash.
 pub fn is_numeric(pattern: &str, place: usize, role: Role, target: &CaptureGroupTarget) -> bool
     ensures { result ≡ spec.is_numeric (chars pattern.now) place (role_of role) (view_target target.now) }
 {

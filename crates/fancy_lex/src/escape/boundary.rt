@@ -197,9 +197,9 @@ fn read_boundary<'a>(
     named_boundary(alloc, inside, negated, flags.ignore_space, reach)
 }
 
-/// Reads a word boundary behind its letter, `B` where it is negated; its backslash stands at `reach`. Braces belong to
-/// it unless they begin a repeat. UnclosedOpenParen where a comment in its layout is open; InvalidEscape at the
-/// backslash where its braces are not closed, or hold no name of a boundary.
+/// Parses a word boundary after its letter, `B` if it is negated; its backslash is at `reach`. Braces belong to it
+/// unless they begin a quantifier. UnclosedOpenParen if a comment in it is not closed; InvalidEscape at the backslash
+/// if its braces are not closed, or hold no name of a boundary.
 #[inline]
 pub fn boundary<'a>(
     alloc: Global,

@@ -148,9 +148,9 @@ pub(crate) fn short_hex(text: &str, width: u32, flags: Flags) -> Option<(Escaped
     Some((leaf, rest))
 }
 
-/// Reads a hex code behind its letter: layout, then `width` digits, or one to eight in braces with layout round them.
-/// Its faults stand behind the first layout: InvalidHex, and InvalidCodepointValue where the value is no character; or
-/// the fault is UnclosedOpenParen where a comment in layout is open.
+/// Parses a hex code after its letter: layout, then `width` digits, or one to eight in braces with layout around them.
+/// Its errors are at the position after the first layout: InvalidHex, and InvalidCodepointValue if the value is no
+/// character; or the error is UnclosedOpenParen if a comment is not closed.
 #[inline]
 pub fn hex<'a>(text: &'a str, width: u32, flags: Flags) -> Result<(Escaped<'a>, &'a str), Failure>
     requires width { width ≤ 8 }

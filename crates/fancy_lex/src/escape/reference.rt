@@ -31,8 +31,8 @@ pub(crate) fn group_number(text: &str) -> Result<(usize, &str), Failure>
     }
 }
 
-/// Reads a back reference in digits, behind its backslash. Its reach is that of the first digit. The fault is
-/// InvalidBackref there, where no digit stands at the front, or no word holds the number.
+/// Parses a back reference in digits, after its backslash. Its reach is that of the first digit. The error is
+/// InvalidBackref there, if there is no digit at the front, or the number does not fit in `usize`.
 #[inline(always)]
 #[tactic(auto, unfolding(crate::specs::EscapeReference::numbered_reference))]
 pub fn numbered_reference(text: &str) -> Result<(Reference<'_>, &str), Failure>
@@ -51,8 +51,8 @@ pub fn numbered_reference(text: &str) -> Result<(Reference<'_>, &str), Failure>
     Ok((reference, rest))
 }
 
-/// Reads a back reference behind `\k`: an id reference between `<` and `>` or between two `'`. Its reach is that of the
-/// opening mark, and so is that of the fault: InvalidGroupName where it does not read.
+/// Parses a back reference after `\k`: an id reference between `<` and `>` or between two `'`. Its reach is that of the
+/// opening delimiter, and so is that of the error: InvalidGroupName if it cannot be parsed.
 #[inline(always)]
 #[tactic(auto, unfolding(crate::specs::EscapeReference::back_reference))]
 pub fn back_reference(text: &str) -> Result<(Reference<'_>, &str), Failure>
@@ -134,9 +134,9 @@ fn is_at_digit(text: &str) -> bool
     }
 }
 
-/// Reads a call behind `\g`: all the digits there, or a name between `<` and `>` or between two `'`. Its reach is that
-/// of the first digit or of the opening mark, and so is that of the fault: InvalidBackref for digits whose number no
-/// word holds; InvalidGroupName where no name reads, or where one that is relative is no id reference.
+/// Parses a call after `\g`: all the digits there, or a name between `<` and `>` or between two `'`. Its reach is that
+/// of the first digit or of the opening delimiter, and so is that of the error: InvalidBackref for digits whose number
+/// does not fit in `usize`; InvalidGroupName if there is no name, or one that is relative and no id reference.
 #[inline(always)]
 #[tactic(auto, unfolding(crate::specs::EscapeReference::subroutine_call))]
 pub fn subroutine_call(text: &str) -> Result<(Call<'_>, &str), Failure>

@@ -5,8 +5,8 @@ ghost use Rattle.fancy_lex.specs.Views.{parts};
 
 use crate::text::{next, split_at};
 
-/// Reads a name, one or more characters up to the first closing mark, which is an ASCII character: the name, and the
-/// text behind the mark. None where no character or no closing mark stands there.
+/// Parses a name, which is one or more characters up to the first closing delimiter, an ASCII character: the name, and
+/// the text after the delimiter. None if there is no character before it, or no closing delimiter.
 #[tactic(auto, unfolding(crate::specs::Delimited::name_before))]
 pub fn name_before(text: &str, mark: char) -> Option<(&str, &str)>
     requires ascii { mark < 128 }
@@ -20,8 +20,8 @@ pub fn name_before(text: &str, mark: char) -> Option<(&str, &str)>
     Some((name, rest))
 }
 
-/// Reads a name between `<` and `>`, or between two `'`: the name, and the text behind the closing mark. None where no
-/// opening mark stands at the front, or no name and closing mark behind it.
+/// Parses a name between `<` and `>`, or between two `'`: the name, and the text after the closing delimiter. None if
+/// there is no opening delimiter at the front, or no name with a closing delimiter after it.
 #[tactic(auto, unfolding(crate::specs::Delimited::marked_name))]
 pub fn marked_name(text: &str) -> Option<(&str, &str)>
     ensures value { spec.marked_name (chars text.now) ≡ parts result }

@@ -52,8 +52,8 @@ fn behind_id(text: &str) -> &str
     rest
 }
 
-/// Reads the id at the front, all the id characters there, and answers it with the text behind it. None where no id
-/// character stands there.
+/// Parses the id at the front, all the id characters there, and returns it with the text after it. None if there is no
+/// id character.
 pub fn id(text: &str) -> Option<(&str, &str)>
     ensures value { spec.id (chars text.now) ≡ parts result }
     ensures shorter { IfSome result (λ p. length p.1.now < length text.now) }
@@ -103,8 +103,8 @@ fn amount_alone(text: &str) -> Option<IdReference<'_>>
     }
 }
 
-/// What all of the text says as an id reference: an id, and where `relative` allows it an amount behind it or in its
-/// place, which is a sign and ASCII digits of a number of at most `isize::MAX`; 0 only behind an id. None for any other
+/// What the whole text means as an id reference: an id, and if `relative` allows it, an amount after it or instead of
+/// it, which is a sign and the ASCII digits of a number of at most `isize::MAX`; 0 only after an id. None for any other
 /// text.
 #[tactic(auto, unfolding(crate::specs::IdReference::id_reference))]
 pub fn id_reference(text: &str, relative: bool) -> Option<IdReference<'_>>

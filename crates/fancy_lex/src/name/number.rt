@@ -64,7 +64,7 @@ fn more_digits(number: usize, text: &str) -> (Option<usize>, &str)
     (Some(value), rest)
 }
 
-/// Reads the digits at the front: their value, where a word holds it, and the text after them.
+/// Parses the digits at the front: their value, if it fits in `usize`, and the text after them.
 #[inline(always)]
 #[tactic(auto, using(crate::proofs::NumberLemmas::number_none))]
 pub fn number(text: &str) -> Option<(Option<usize>, &str)>

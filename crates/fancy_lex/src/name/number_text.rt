@@ -15,8 +15,8 @@ pub(crate) fn whole_number(text: &str) -> Option<usize>
     if next(rest).is_none() { value } else { None }
 }
 
-/// The value of a number text, which is ASCII digits of a number that a word holds, and before them nothing or a plus.
-/// None for any other text.
+/// The value of a number text, which is the ASCII digits of a number that fits in `usize`, and before them nothing or a
+/// plus. None for any other text.
 #[inline(always)]
 #[tactic(auto, unfolding(crate::specs::NumberText::number_text))]
 pub fn number_text(text: &str) -> Option<usize>

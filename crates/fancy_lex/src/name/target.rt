@@ -22,7 +22,7 @@ pub enum Target<'a> {
     ByNumber(usize),
     /// The last group of this name.
     ByName(&'a str),
-    /// So many groups before or behind the reference.
+    /// So many groups before or after the reference.
     Relative(isize),
 }
 
@@ -46,7 +46,7 @@ pub struct Reference<'a> {
     pub target: Target<'a>,
     /// The level of recursion, where one is written.
     pub level: Option<isize>,
-    /// How many bytes lie from the reference to one past the end of the pattern.
+    /// The number of bytes from the reference to one past the end of the pattern.
     pub reach: usize,
 }
 
@@ -54,7 +54,7 @@ pub struct Reference<'a> {
 #[derive(Clone, Copy, Debug)]
 pub struct Call<'a> {
     pub target: Target<'a>,
-    /// How many bytes lie from the call to one past the end of the pattern.
+    /// The number of bytes from the call to one past the end of the pattern.
     pub reach: usize,
 }
 
@@ -124,8 +124,9 @@ fn written_reference(text: &str, amounts: bool, reach: usize) -> Option<Referenc
     }
 }
 
-/// The reference at the reach that the name writes, and the text behind it, where one was found; `amounts` allows
-/// amounts. The fault is InvalidGroupName at the reach, where no name was found, or one that is no id reference.
+/// The reference that the name means, whose position has the reach, and the text after it, if a name was found;
+/// `amounts` allows amounts. The error is InvalidGroupName at the reach, if no name was found, or one that is no id
+/// reference.
 #[inline(always)]
 #[tactic(auto, unfolding(crate::specs::Referred::reference_by_name))]
 pub fn reference_by_name<'a>(

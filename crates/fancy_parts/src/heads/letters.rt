@@ -179,10 +179,10 @@ fn read_letters(alloc: Global, text: &str, flags: Flags) -> Result<(Letters, &st
     }
 }
 
-/// Reads the letters of a flag group, which begin behind the `(?`: what they come to, and the text behind the
-/// parenthesis or the colon. UnknownFlag at the first letter for a letter that names no flag, for a second minus, and
-/// where no letter stands before the end; ChangingUnicodeModeUnsupported at a `u` that is not the mode;
-/// UnclosedOpenParen where the text ends, or a comment in layout is open.
+/// Parses the letters of a flag group, which begin after the `(?`: what they mean, and the text after the parenthesis
+/// or the colon. UnknownFlag at the first letter for a letter that is no flag, for a second minus, and if there is no
+/// letter before the end; ChangingUnicodeModeUnsupported at a `u` that is not the mode; UnclosedOpenParen if the text
+/// ends, or a comment is not closed.
 pub fn flag_letters(alloc: Global, text: &str, flags: Flags) -> Result<(Letters, &str), Failure>
     ensures value { Answers letters_of result (steps.letters flags (chars text.now)) }
     ensures derives { Derives letters_of result (spec.FlagGroup flags (chars text.now)) }

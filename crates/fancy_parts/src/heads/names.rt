@@ -29,9 +29,9 @@ impl ClosingMark {
     }
 }
 
-/// Reads the name of a group behind its opening mark: one or more characters as they stand, and the closing mark. What
-/// stands behind the question mark of the head is `head`. The fault is InvalidGroupName at
-/// the question mark, where no name or no closing mark stands there.
+/// Parses the name of a group after its opening delimiter: one or more characters, taken literally, and the closing
+/// delimiter. `head` is the text after the question mark of the group. The error is InvalidGroupName at the question
+/// mark, if there is no name or no closing delimiter.
 #[tactic(auto, unfolding(crate::specs::GroupName::group_name))]
 pub fn group_name<'a>(
     head: &str,

@@ -97,9 +97,9 @@ fn read_counts(text: &str, ignore_space: bool) -> Option<(Counts, &str)>
     }
 }
 
-/// Reads the counts of a quantifier, `?`, `*`, `+` or braces that read whole, and the text behind the mark or the
-/// closing brace. None where no quantifier stands. Inside braces layout is passed over, comments always and blanks
-/// where `ignore_space` says so.
+/// Parses the counts of a quantifier, `?`, `*`, `+` or braces that are complete, and returns them with the text after
+/// the character or the closing brace. None if there is no quantifier. Inside braces layout is skipped, comments always
+/// and whitespace if `ignore_space` is set.
 #[inline]
 pub fn counts(text: &str, ignore_space: bool) -> Option<(Counts, &str)>
     ensures value { spec.counts ignore_space (chars text.now) ≡ option_map (λ p. (p.0, chars p.1.now)) result }

@@ -10,8 +10,8 @@ use fancy_lex::name::delimited::{marked_name, name_before};
 use fancy_lex::name::target::{Call, Reference, reference_by_name, target_of_name};
 use fancy_lex::text::{after, next, reach};
 
-/// Reads a back reference behind `(?P=`: an id, and the closing parenthesis. Its reach is that of the id, and so is
-/// that of the fault: InvalidGroupName where it does not read.
+/// Parses a back reference after `(?P=`: an id, and the closing parenthesis. Its reach is that of the id, and so is
+/// that of the error: InvalidGroupName if it cannot be parsed.
 #[tactic(auto, unfolding(crate::specs::HeadReference::named_reference))]
 pub fn named_reference(text: &str) -> Result<(Reference<'_>, &str), Failure>
     ensures value { Reads view_reference result (spec.named_reference (chars text.now)) }
@@ -20,8 +20,8 @@ pub fn named_reference(text: &str) -> Result<(Reference<'_>, &str), Failure>
     reference_by_name(name_before(text, ')'), false, reach(text))
 }
 
-/// Reads a call behind `(?P>`: a name, which is a number or itself, and the closing parenthesis. Its reach is that of
-/// the name, and so is that of the fault: InvalidGroupName where no name or no parenthesis stands there.
+/// Parses a call after `(?P>`: a name, which is a number or itself, and the closing parenthesis. Its reach is that of
+/// the name, and so is that of the error: InvalidGroupName if there is no name or no parenthesis.
 #[tactic(auto, unfolding(crate::specs::HeadReference::named_call))]
 pub fn named_call(text: &str) -> Result<(Call<'_>, &str), Failure>
     ensures value { Reads view_call result (spec.named_call (chars text.now)) }
@@ -60,8 +60,9 @@ fn condition_name(text: &str) -> Option<(&str, &str)>
     Some((name, after(rest, ')')?))
 }
 
-/// Reads what a condition asks for right behind its `(?(`: an id reference as `'ref')`, `<ref>)` or `ref)`. Its reach
-/// is that of the text right behind the `(?(`, and so is that of the fault: InvalidGroupName where it does not read.
+/// Parses what a condition refers to, directly after its `(?(`: an id reference as `'ref')`, `<ref>)` or `ref)`. Its
+/// reach is that of the text directly after the `(?(`, and so is that of the error: InvalidGroupName if it cannot be
+/// parsed.
 #[tactic(auto, unfolding(crate::specs::HeadReference::condition_target))]
 pub fn condition_target(text: &str) -> Result<(Reference<'_>, &str), Failure>
     ensures value { Reads view_reference result (spec.condition_target (chars text.now)) }
