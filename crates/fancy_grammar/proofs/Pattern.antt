@@ -1,6 +1,7 @@
 -- The text of a tree reads back, in reading order: the theorem stands last.
 
 -- ---- what a raw tree becomes where references are resolved
+pub mod Unplaced
 pub mod Becomes
 -- ---- what the rules read, under flags that change along the text
 pub mod Rules
@@ -9,6 +10,7 @@ pub mod Groups
 -- ---- leaves
 pub mod Characters
 pub mod Leaves
+pub mod Names
 pub mod References
 pub mod Sources
 -- ---- quantifiers
@@ -22,4 +24,5 @@ pub mod Rows
 pub mod Absent
 pub mod Conditionals
 -- ---- the theorem
+pub mod Marked
 pub mod Theorem

@@ -1,7 +1,7 @@
 -- The trees whose texts are proved to read back.
 use Rattle.std.specs.Prelude.{◌≡◌, ℕ, zero, suc, ◌+◌, ◌-◌, ◌^◌, ◌<◌, ◌≤◌, ◌&&◌, Bool, true, false, List, [], ◌∷◌, ◌++◌}
-use Rattle.std.specs.Prelude.{length, Option, option_map, nat_le, nat_lt, filter, find, ◌||◌, ℤ, pos, negsuc}
-use Rattle.std.specs.List.{AllByRecursion}
+use Rattle.std.specs.Prelude.{length, Option, option_map, nat_le, nat_lt, filter, find, ◌||◌, ℤ, pos, negsuc, ◌==◌}
+use Rattle.std.specs.List.{AllByRecursion, list_any}
 use Prim.Native.Char.{code}
 use Rattle.fancy_lex.specs.Characters.{is_among, backslash, open_bracket}
 use Rattle.fancy_lex.specs.Class.{class}
@@ -26,6 +26,7 @@ use Rattle.fancy_grammar.specs.Pattern.{group_count, Here, is_in_digits, written
 use Rattle.fancy_grammar.specs.PatternReference.{name_of}
 use Rattle.fancy_grammar.specs.PatternNeeds.{settled}
 use Rattle.fancy_grammar.specs.PatternSource.{delegate_text}
+use Rattle.fancy_grammar.specs.Preorder.{preorder}
 use Rattle.fancy_grammar.specs.Quantified.{is_repeatable}
 use Rattle.fancy_grammar.specs.Tree.{Tree, leaf, over, row, Trees, no_trees, more_trees, levels}
 
@@ -54,9 +55,13 @@ abbrev pub IsLevelWritable : ℤ → Type 0
 IsLevelWritable (pos n) = n < amount_bound
 IsLevelWritable (negsuc n) = n + 1 < amount_bound
 
--- a call of a group by its number, where some reference is written as a number, or else of one that is not too far
+-- a call is written as a number where some reference was one: of a group, or of 0 where some call of 0 was one
+abbrev pub is_called_by_number : Marks → ℕ → Bool
+is_called_by_number m n = m.numeric_capture_group_references && (nat_lt 0 n || m.self_recursive)
+
+-- a call of a group by its number, where that is written, or else of one that is not too far
 abbrev pub IsCallWritable : Bool → ℕ → ℕ → Type 0
-IsCallWritable true c n = (0 < n) × (n < 2 ^ 64)
+IsCallWritable true c n = n < 2 ^ 64
 IsCallWritable false c n = (n - c < amount_bound) × (c + 1 - n < amount_bound)
 
 -- no digit follows it, where it is a back reference in digits, to which that would belong
@@ -79,9 +84,8 @@ IsWritableLeaf f m c keep_out = Unit {0}
 IsWritableLeaf f m c continue_from_previous_match_end = Unit {0}
 IsWritableLeaf f m c clear = Unit {0}
 IsWritableLeaf f m c (backref n casei) = n < 2 ^ 64
-IsWritableLeaf f m c (backref_at_level n level casei) =
-    (m.numeric_capture_group_references ≡ false) × (n < 2 ^ 64) × IsLevelWritable level
-IsWritableLeaf f m c (subroutine_call n) = IsCallWritable m.numeric_capture_group_references c n
+IsWritableLeaf f m c (backref_at_level n level casei) = (n < 2 ^ 64) × IsLevelWritable level
+IsWritableLeaf f m c (subroutine_call n) = IsCallWritable (is_called_by_number m n) c n
 IsWritableLeaf f m c _ = ⊥
 
 abbrev mutual
@@ -130,18 +134,25 @@ abbrev pub openings_told : Marks → ℕ → ℕ → List Opening
 openings_told m c zero = []
 openings_told m c (suc n) = record { reach = 0; name = name_at m (c + 1) } ∷ openings_told m (c + 1) n
 
--- a back reference or a call stands in it
-abbrev pub has_reference : Tree → Bool
-has_reference t = nat_lt 0 (length (groups_referred t)) || has_call t
+-- the node is a reference that is written as a number, where these are the marks
+abbrev pub is_numbered : Marks → Tree → Bool
+is_numbered m (leaf (backref n casei)) = m.numeric_capture_group_references
+is_numbered m (leaf (subroutine_call n)) = is_called_by_number m n
+is_numbered m _ = false
 
--- the marks of a tree that has these groups, whose references all count as written as numbers, or none does
-abbrev pub marks_of : Flags → List Opening → Tree → Bool → Marks
-marks_of f l t numeric = record {
+-- the node is a call of 0 that is written as a number
+abbrev pub is_numbered_call_of_all : Marks → Tree → Bool
+is_numbered_call_of_all m (leaf (subroutine_call n)) = is_called_by_number m n && n == 0
+is_numbered_call_of_all m _ = false
+
+-- the marks of a tree that has these groups, where the second marks say how its references are written
+abbrev pub marks_of : Flags → List Opening → Tree → Marks → Marks
+marks_of f l t m = record {
   backrefs = ascending (filter (λ n. nat_le n (length l)) (groups_referred t));
   named_groups = named_groups l;
-  numeric_capture_group_references = numeric;
+  numeric_capture_group_references = list_any (is_numbered m) (preorder t);
   contains_subroutines = has_call t;
-  self_recursive = false;
+  self_recursive = list_any (is_numbered_call_of_all m) (preorder t);
   total_groups = length l;
   out_of_range_backref = find (λ n. nat_lt (length l) n) (groups_referred t);
   numbered_groups_ignored = only_named f l;
@@ -158,12 +169,10 @@ IsNameWritable (c ∷ w) = (is_among (code ">") (c ∷ w) && is_among (code "'")
 
 -- ---- the trees
 
--- outside Oniguruma mode, a tree of fewer than 64 levels with its marks, whose references all count as written as
--- numbers, or none does
+-- outside Oniguruma mode, a tree of fewer than 64 levels with its marks
 pub record IsWritable (f : Flags) (m : Marks) (t : Tree) : Type 0 where
   pub mode : f.oniguruma_mode ≡ false
-  pub marks : m ≡ marks_of f (openings_told m 0 (group_count t)) t m.numeric_capture_group_references
-  pub numeric : m.numeric_capture_group_references ≡ true → has_reference t ≡ true
+  pub marks : m ≡ marks_of f (openings_told m 0 (group_count t)) t m
   pub counted : AreCounted m.numbered_groups_ignored (openings_told m 0 (group_count t))
   pub names : AllByRecursion (λ e. IsNameWritable e.0) m.named_groups
   pub nodes : AreNodesWritable f m 0 t

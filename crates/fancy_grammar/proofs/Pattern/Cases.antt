@@ -116,7 +116,7 @@ module _ (μ : Marks) where
       (backref_at μ (under (settled h.flags (leaf (label.backref n casei))) h) numbered n k)
   leaf_reads numbered f (label.backref_at_level n level casei) h o like d k =
       leaf_by (label.backref_at_level n level casei) h o d refl
-      (level_at μ (under (settled h.flags (leaf (label.backref_at_level n level casei))) h) numbered k.0 n level k.1 k.2)
+      (level_at μ (under (settled h.flags (leaf (label.backref_at_level n level casei))) h) numbered n level k.0 k.1)
   leaf_reads numbered f (label.subroutine_call n) h o like d k =
       leaf_by (label.subroutine_call n) h o d refl (call_at μ h numbered n k)
   leaf_reads numbered f _ h o like d k = absurd k

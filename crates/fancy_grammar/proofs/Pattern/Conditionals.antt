@@ -32,7 +32,8 @@ use Rattle.fancy_grammar.specs.State.{State, Outcome, done, fault, seen_through}
 use Rattle.fancy_grammar.specs.Tree.{Tree, leaf, over, row, no_trees, more_trees, empty, conditional, ast_group}
 use Rattle.fancy_grammar.specs.Tree.{ast_node, trees_of, list_of}
 use Rattle.fancy_grammar.proofs.Pattern.Becomes.{Becomes, row_becomes, AreGroups, becomes_plain, numbers_told}
-use Rattle.fancy_grammar.proofs.Pattern.Becomes.{node_told, in_longer}
+use Rattle.fancy_grammar.proofs.Pattern.Becomes.{node_told, in_longer, meaning_told}
+use Rattle.fancy_grammar.proofs.Pattern.Unplaced.{empty_unplaced, alt_unplaced}
 use Rattle.fancy_grammar.proofs.Pattern.Rules.{Begins, begins_by, AtomAt, BranchAt, WholeAt, stops_bar, ends_close}
 use Rattle.fancy_grammar.specs.declared.precedence.Precedence.TheVariants.{Whole, Branch as BranchAlone}
 use Rattle.fancy_grammar.proofs.Pattern.Cases.{ReadsTree}
@@ -96,17 +97,22 @@ raw_empty : (μ : Marks) (s : Text) (r : Tree) (c : ℕ) → AreGroups μ s c (i
     is_empty (resolved_in 0 false (numbers_told μ) c r) ≡ is_empty r
 raw_empty μ s (ast_group m p t) c h = refl
 raw_empty μ s (ast_node r p) c h =
-    node_told is_empty false μ c r p (λ n i. refl) (λ n l i. refl) (λ n. refl) (λ n l. refl) h.0
+    node_told is_empty false (meaning_told μ c r) r p (λ n i. refl) (λ n l i. refl) (λ n. refl) (λ n l. refl) (λ q. refl)
+    h.0
 raw_empty μ s _ c h = refl
 
 same_empty : (μ : Marks) (s : Text) (c : ℕ) (r x : Tree) → Becomes μ s c r x → is_empty r ≡ is_empty x
-same_empty μ s c r x b = sym (raw_empty μ s r c b.groups) ∙ ap is_empty (becomes_plain μ s c r x b)
+same_empty μ s c r x b =
+    let resolves = resolved_in 0 false (numbers_told μ) c r in
+    sym (raw_empty μ s r c b.groups)
+    ∙ (sym (empty_unplaced resolves) ∙ (ap is_empty (becomes_plain μ s c r x b) ∙ empty_unplaced x))
 
 raw_alt : (μ : Marks) (s : Text) (r : Tree) (c : ℕ) → AreGroups μ s c (items r) →
     is_alt (resolved_in 0 false (numbers_told μ) c r) ≡ is_alt r
 raw_alt μ s (ast_group m p t) c h = refl
 raw_alt μ s (ast_node r p) c h =
-    node_told is_alt false μ c r p (λ n i. refl) (λ n l i. refl) (λ n. refl) (λ n l. refl) h.0
+    node_told is_alt false (meaning_told μ c r) r p (λ n i. refl) (λ n l i. refl) (λ n. refl) (λ n l. refl) (λ q. refl)
+    h.0
 raw_alt μ s (row label.concat ts) c h = refl
 raw_alt μ s (row label.alt ts) c h = refl
 raw_alt μ s (row label.expression ts) c h = refl
@@ -114,7 +120,10 @@ raw_alt μ s (row label.conditional ts) c h = refl
 raw_alt μ s _ c h = refl
 
 same_alt : (μ : Marks) (s : Text) (c : ℕ) (r x : Tree) → Becomes μ s c r x → is_alt r ≡ is_alt x
-same_alt μ s c r x b = sym (raw_alt μ s r c b.groups) ∙ ap is_alt (becomes_plain μ s c r x b)
+same_alt μ s c r x b =
+    let resolves = resolved_in 0 false (numbers_told μ) c r in
+    sym (raw_alt μ s r c b.groups)
+    ∙ (sym (alt_unplaced resolves) ∙ (ap is_alt (becomes_plain μ s c r x b) ∙ alt_unplaced x))
 
 -- what is no Alt is one branch
 abbrev OneBranch : Tree → Type 0
