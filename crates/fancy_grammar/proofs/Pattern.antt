@@ -12,6 +12,7 @@ pub mod Characters
 pub mod Leaves
 pub mod Names
 pub mod References
+pub mod Conditions
 pub mod Sources
 -- ---- quantifiers
 pub mod Quantifiers
@@ -23,6 +24,7 @@ pub mod Repeats
 pub mod Rows
 pub mod Absent
 pub mod Conditionals
+pub mod GroupConditionals
 -- ---- the theorem
 pub mod Marked
 pub mod Theorem

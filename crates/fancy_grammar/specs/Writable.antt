@@ -2,6 +2,7 @@
 use Rattle.std.specs.Prelude.{◌≡◌, ℕ, zero, suc, ◌+◌, ◌-◌, ◌^◌, ◌<◌, ◌≤◌, ◌&&◌, Bool, true, false, List, [], ◌∷◌, ◌++◌}
 use Rattle.std.specs.Prelude.{length, Option, option_map, nat_le, nat_lt, filter, find, ◌||◌, ℤ, pos, negsuc, ◌==◌}
 use Rattle.std.specs.List.{AllByRecursion, list_any}
+use Rattle.std.specs.Option.{IfSome}
 use Prim.Native.Char.{code}
 use Rattle.fancy_lex.specs.Characters.{is_among, backslash, open_bracket}
 use Rattle.fancy_lex.specs.Class.{class}
@@ -20,7 +21,7 @@ use Rattle.fancy_grammar.specs.Join.{is_empty}
 use Rattle.fancy_grammar.specs.Label.{Leaf, empty, any, assertion, general_newline, literal, literal_bytes, delegate}
 use Rattle.fancy_grammar.specs.Label.{keep_out, continue_from_previous_match_end, verb, clear, group, look_around}
 use Rattle.fancy_grammar.specs.Label.{repeat, atomic_group, define_group, repeater, stopper, expression, conditional}
-use Rattle.fancy_grammar.specs.Label.{concat, alt, backref, subroutine_call, backref_at_level}
+use Rattle.fancy_grammar.specs.Label.{concat, alt, backref, subroutine_call, backref_at_level, backref_exists}
 use Rattle.fancy_grammar.specs.Marks.{Marks, ascending}
 use Rattle.fancy_grammar.specs.Pattern.{group_count, Here, is_in_digits, written_all}
 use Rattle.fancy_grammar.specs.PatternReference.{name_of}
@@ -69,7 +70,7 @@ abbrev pub IsParted : Marks → Tree → Trees → Type 0
 IsParted m t ts = is_in_digits m t ≡ true → (h : Here) → at_digit (written_all m false ts h) ≡ false
 
 -- a leaf as it is read, behind the openings of c groups: a character, a byte without UNICODE, what has an escape, a
--- back reference, or a call
+-- back reference, a call, or a condition on a group alone
 abbrev pub IsWritableLeaf : Flags → Marks → ℕ → Leaf → Type 0
 IsWritableLeaf f m c (literal (d ∷ []) casei) = Unit {0}
 IsWritableLeaf f m c (literal_bytes (b ∷ [])) = (f.unicode ≡ false) × (0x80 ≤ b) × (b ≤ 0xFF)
@@ -86,11 +87,13 @@ IsWritableLeaf f m c clear = Unit {0}
 IsWritableLeaf f m c (backref n casei) = n < 2 ^ 64
 IsWritableLeaf f m c (backref_at_level n level casei) = (n < 2 ^ 64) × IsLevelWritable level
 IsWritableLeaf f m c (subroutine_call n) = IsCallWritable (is_called_by_number m n) c n
+IsWritableLeaf f m c (backref_exists n level) = (n < 2 ^ 64) × IfSome level IsLevelWritable
 IsWritableLeaf f m c _ = ⊥
 
 abbrev mutual
   -- what stands under a quantifier is repeatable, a Concat or an Alt has two parts or more, no part of a Concat, nor what
-  -- a stopper holds, is Empty, and a conditional has a look-around as its condition, and a branch that is not Empty
+  -- a stopper holds, is Empty, and a conditional has a look-around or a group as its condition, and a branch that is not
+  -- Empty
   pub AreNodesWritable : Flags → Marks → ℕ → Tree → Type 0
   AreNodesWritable f m c (leaf l) = IsWritableLeaf f m c l
   AreNodesWritable f m c (over (repeat lo hi greedy) t) =
@@ -107,6 +110,10 @@ abbrev mutual
       (row conditional (more_trees (over (look_around l) k) (more_trees t (more_trees e no_trees)))) =
       AreNodesWritable f m c k × AreNodesWritable f m (c + group_count k) t
       × AreNodesWritable f m (c + group_count k + group_count t) e × ((is_empty t && is_empty e) ≡ false)
+  AreNodesWritable f m c
+      (row conditional (more_trees (leaf (backref_exists n level)) (more_trees t (more_trees e no_trees)))) =
+      IsWritableLeaf f m c (backref_exists n level) × AreNodesWritable f m c t
+      × AreNodesWritable f m (c + group_count t) e × ((is_empty t && is_empty e) ≡ false)
   AreNodesWritable f m c (row concat (more_trees t (more_trees u ts))) =
       ArePieces f m c (more_trees t (more_trees u ts))
   AreNodesWritable f m c (row alt (more_trees t (more_trees u ts))) =

@@ -1,4 +1,4 @@
--- Conditionals read back where the trees below them do; the condition is a look-around or a verb.
+-- Conditionals read back where the trees below them do; the condition is a look-around.
 use Rattle.std.proofs.Common.{◌≡◌, ℕ, ◌+◌, ◌<◌, Bool, true, false, not, ◌&&◌, ◌||◌, ◌==◌, List, [], ◌∷◌}
 use Rattle.std.proofs.Common.{◌++◌, codes, refl, sym, ap, ap₂, ◌∙◌, subst, arith, append_assoc, append-nil, ne_eqb}
 use Rattle.std.proofs.Common.{if◌then◌else◌}
@@ -101,7 +101,7 @@ raw_empty μ s (ast_node r p) c h =
     h.0
 raw_empty μ s _ c h = refl
 
-same_empty : (μ : Marks) (s : Text) (c : ℕ) (r x : Tree) → Becomes μ s c r x → is_empty r ≡ is_empty x
+pub same_empty : (μ : Marks) (s : Text) (c : ℕ) (r x : Tree) → Becomes μ s c r x → is_empty r ≡ is_empty x
 same_empty μ s c r x b =
     let resolves = resolved_in 0 false (numbers_told μ) c r in
     sym (raw_empty μ s r c b.groups)
@@ -150,13 +150,13 @@ bar_left t u v =
     (omega (arith, bytes-append t (code "|" ∷ (u ++ v)), bytes-append u v))
 
 -- the body of a conditional with the raw condition k reads as these branches
-record BodyAt (μ : Marks) (d : ℕ) (k : Tree) (j : Here) (s v : Text) (t e : Tree) : Type 0 where
-  after : Flags
-  one : Tree
-  other : Tree
-  derives : Body d k (st j.flags s) (done (conditional_of k one other) (st after v))
-  one_becomes : Becomes μ s j.opened one t
-  other_becomes : Becomes μ s (j.opened + group_count t) other e
+pub record BodyAt (μ : Marks) (d : ℕ) (k : Tree) (j : Here) (s v : Text) (t e : Tree) : Type 0 where
+  pub after : Flags
+  pub one : Tree
+  pub other : Tree
+  pub derives : Body d k (st j.flags s) (done (conditional_of k one other) (st after v))
+  pub one_becomes : Becomes μ s j.opened one t
+  pub other_becomes : Becomes μ s (j.opened + group_count t) other e
 
 closed_body : (k r : Tree) (left : ℕ) (g : Flags) (v : Text) (a b : Tree) →
     (bytes (code ")" ∷ v) == left) ≡ false → ◌≡◌ {A = Tree × Tree} (branches_of r) (a, b) →
@@ -166,7 +166,7 @@ closed_body k r left g v a b e is =
     ∙ ap (λ (p : Tree × Tree). closed (conditional_of k p.0 p.1) (st g (code ")" ∷ v))) is
 
 -- a place so deep inside
-abbrev within : ℕ → Flags → ℕ → Here
+abbrev pub within : ℕ → Flags → ℕ → Here
 within d f n = record { flags = f; opened = n; depth = d + 1 }
 
 two_body : (μ : Marks) (d : ℕ) (k : Tree) (f : Flags) (n : ℕ) (t u v : Text) (g i : Flags) (x e : Tree) →
@@ -254,7 +254,7 @@ module _ (μ : Marks) (d : ℕ) (k : Tree) (f : Flags) (c : ℕ) (t e : Tree) (v
       (subst (BodyAt μ d k (within d f c) (first_text ++ code ")" ∷ v) v t) (empty_is e none)
       (one_body μ d k f c first_text v _ t z u is b (r.branch (code ")" ∷ v) (ends_close f.ignore_space v).stops)))
 
-  body_at : BodyAt μ d k (within d f c) (branches_text t e first_text second_text ++ code ")" ∷ v) v t e
+  pub body_at : BodyAt μ d k (within d f c) (branches_text t e first_text second_text ++ code ")" ∷ v) v t e
   body_at =
       subst (λ s. BodyAt μ d k (within d f c) (s ++ code ")" ∷ v) v t e) (sym (cond-false _ _ _ solid))
       (body_if (not (is_empty e) || is_alt t) refl)
@@ -304,7 +304,7 @@ plain_condition : (w : Text) → (begins_target (code "(" ∷ w) || bytes_eq (co
 unfolding begins_target
 plain_condition w = refl
 
-regroup : (c b r : Text) → ((code "(" ∷ (c ++ code ")" ∷ [])) ++ b) ++ r ≡ code "(" ∷ (c ++ code ")" ∷ (b ++ r))
+pub regroup : (c b r : Text) → ((code "(" ∷ (c ++ code ")" ∷ [])) ++ b) ++ r ≡ code "(" ∷ (c ++ code ")" ∷ (b ++ r))
 regroup c b r =
     append_assoc (code "(" ∷ (c ++ code ")" ∷ [])) b r ∙ ap (λ z. code "(" ∷ z) (append_assoc c (code ")" ∷ []) (b ++ r))
 

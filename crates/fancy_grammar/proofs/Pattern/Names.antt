@@ -196,14 +196,16 @@ pub no_sign : (ds : Text) → IsNumeral 10 ds → strip (code "+") ds ≡ None
 no_sign [] h = absurd (omega (arith, h.0))
 no_sign (d ∷ ds) h = rw (digit_apart d (code "+") refl ((digit_is d h.1.0).0)) refl
 
-pub digit_unmarked : (c : ℕ) → is_ascii_digit c ≡ true → (code ">" == c) ≡ false
-digit_unmarked c e = grind (arith, nat_tests)
+-- what is no digit is not among digits
+pub digits_without : (mark : ℕ) → is_ascii_digit mark ≡ false → (ds : Text) → AllDigits 10 ds → is_among mark ds ≡ false
+digits_without mark k [] h = refl
+digits_without mark k (c ∷ []) h = ne_eqb mark c (λ e. false≢true (sym k ∙ (ap is_ascii_digit e ∙ (digit_is c h.0).0)))
+digits_without mark k (c ∷ d ∷ ds) h =
+    rw (ne_eqb mark c (λ e. false≢true (sym k ∙ (ap is_ascii_digit e ∙ (digit_is c h.0).0))))
+    (digits_without mark k (d ∷ ds) h.1)
 
 pub digits_unmarked : (ds : Text) → AllDigits 10 ds → is_among (code ">") ds ≡ false
-digits_unmarked [] h = refl
-digits_unmarked (c ∷ []) h = digit_unmarked c ((digit_is c h.0).0)
-digits_unmarked (c ∷ d ∷ ds) h =
-    rw (digit_unmarked c ((digit_is c h.0).0)) (digits_unmarked (d ∷ ds) h.1)
+digits_unmarked ds h = digits_without (code ">") refl ds h
 
 pub number_text_digits : (n : ℕ) → n < 2 ^ 64 → number_text (decimal n) ≡ Some n
 unfolding number_text
@@ -274,15 +276,21 @@ pub record WrittenLevel (z : ℤ) : Type 0 where
   pub is : signed z ≡ sign ∷ digits
   pub is_sign : sign ∈ "+-" ≡ true
   pub value : amount (sign ∷ digits) ≡ Some z
-  pub no_mark : is_among (code ">") (sign ∷ digits) ≡ false
+  pub no_mark : (mark : ℕ) → mark ∈ ">)" ≡ true → is_among mark (sign ∷ digits) ≡ false
 
-pub sign_marks : (sign : ℕ) (ds : Text) → sign ∈ "+-" ≡ true → is_among (code ">") ds ≡ false →
-    is_among (code ">") (sign ∷ ds) ≡ false
-sign_marks sign [] i h = grind (arith, nat_tests)
-sign_marks sign (d ∷ ds) i h = rw (no_mark sign i) h
+pub sign_marks : (mark sign : ℕ) (ds : Text) → sign ∈ "+-" ≡ true → mark ∈ ">)" ≡ true → AllDigits 10 ds →
+    is_among mark (sign ∷ ds) ≡ false
+sign_marks mark sign [] i m h = no_sign mark sign i m
   where
-    no_mark : (sign : ℕ) → sign ∈ "+-" ≡ true → (code ">" == sign) ≡ false
-    no_mark sign i = grind (arith, nat_tests)
+    no_sign : (mark sign : ℕ) → sign ∈ "+-" ≡ true → mark ∈ ">)" ≡ true → (mark == sign) ≡ false
+    no_sign mark sign i m = grind (arith, nat_tests)
+sign_marks mark sign (d ∷ ds) i m h = rw (no_sign mark sign i m) (digits_without mark (no_digit mark m) (d ∷ ds) h)
+  where
+    no_sign : (mark sign : ℕ) → sign ∈ "+-" ≡ true → mark ∈ ">)" ≡ true → (mark == sign) ≡ false
+    no_sign mark sign i m = grind (arith, nat_tests)
+
+    no_digit : (mark : ℕ) → mark ∈ ">)" ≡ true → is_ascii_digit mark ≡ false
+    no_digit mark m = grind (arith, nat_tests)
 
 pub written_level : (z : ℤ) → IsLevelWritable z → WrittenLevel z
 written_level (pos n) small = record {
@@ -292,8 +300,8 @@ written_level (pos n) small = record {
   is_sign = refl;
   value = amount_of (code "+") n refl small;
   no_mark =
-      sign_marks (code "+") (decimal n) refl
-      (digits_unmarked (decimal n) ((decimal_is_IsNumeral n (omega (arith, small))).0.1));
+      λ mark m.
+      sign_marks mark (code "+") (decimal n) refl m ((decimal_is_IsNumeral n (omega (arith, small))).0.1);
 }
 written_level (negsuc n) small =
     let same : suc n ≡ n + 1 = omega arith in
@@ -305,17 +313,18 @@ written_level (negsuc n) small =
       value = subst (λ k. amount (code "-" ∷ decimal k) ≡ Some (negsuc n)) same
           (amount_of (code "-") (suc n) refl (omega (arith, small)));
       no_mark =
-          sign_marks (code "-") (decimal (n + 1)) refl
-          (digits_unmarked (decimal (n + 1)) ((decimal_is_IsNumeral (n + 1) (omega (arith, small))).0.1));
+          λ mark m.
+          sign_marks mark (code "-") (decimal (n + 1)) refl m
+          ((decimal_is_IsNumeral (n + 1) (omega (arith, small))).0.1);
     }
 
-pub both_unmarked : (w v : Text) → is_among (code ">") w ≡ false → is_among (code ">") v ≡ false →
-    is_among (code ">") (w ++ v) ≡ false
-both_unmarked [] v h k = k
-both_unmarked (c ∷ []) [] h k = h
-both_unmarked (c ∷ []) (d ∷ v) h k = rw h k
-both_unmarked (c ∷ d ∷ w) v h k =
-    let (a, b) = or_parts (code ">" == c) (is_among (code ">") (d ∷ w)) h in rw a (both_unmarked (d ∷ w) v b k)
+pub both_unmarked : (mark : ℕ) (w v : Text) → is_among mark w ≡ false → is_among mark v ≡ false →
+    is_among mark (w ++ v) ≡ false
+both_unmarked mark [] v h k = k
+both_unmarked mark (c ∷ []) [] h k = h
+both_unmarked mark (c ∷ []) (d ∷ v) h k = rw h k
+both_unmarked mark (c ∷ d ∷ w) v h k =
+    let (a, b) = or_parts (mark == c) (is_among mark (d ∷ w)) h in rw a (both_unmarked mark (d ∷ w) v b k)
 
 pub run_before : (w ds : Text) (sign : ℕ) → AllByRecursion (λ c. is_id_char c ≡ true) w → is_id_char sign ≡ false →
     ◌≡◌ {A = Text × Text} (id_run (w ++ sign ∷ ds)) (w, sign ∷ ds)
@@ -348,7 +357,7 @@ module _ (c : ℕ) (u : Text) (z : ℤ) (l : WrittenLevel z) (ids : AllByRecursi
   pub level_marked : is_among (code ">") (c ∷ u) ≡ false → (v : Text) → ◌≡◌ {A = Option (Text × Text)}
       (marked_name (code "<" ∷ (((c ∷ u) ++ l.sign ∷ l.digits) ++ code ">" ∷ v)))
       (Some ((c ∷ u) ++ l.sign ∷ l.digits, v))
-  level_marked h v = marked_read c (u ++ l.sign ∷ l.digits) v (both_unmarked (c ∷ u) (l.sign ∷ l.digits) h l.no_mark)
+  level_marked h v = marked_read c (u ++ l.sign ∷ l.digits) v (both_unmarked (code ">") (c ∷ u) (l.sign ∷ l.digits) h (l.no_mark (code ">") refl))
 
 pub not_zero : (k : ℕ) → int_eq (pos (suc k)) (pos 0) ≡ false
 not_zero k = at (int_eq (pos (suc k)) (pos 0)) refl

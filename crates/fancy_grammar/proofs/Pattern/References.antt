@@ -179,7 +179,7 @@ pub begins_reference : (x : Bool) (t : Text) → Begins x (code "\\" ∷ t)
 begins_reference x t = begins_by x (code "\\") t refl refl refl refl
 
 -- the text of a reference by a name, in front of another
-reference_text : (w v : Text) → (code "<" ∷ (w ++ codes ">")) ++ v ≡ code "<" ∷ (w ++ code ">" ∷ v)
+pub reference_text : (w v : Text) → (code "<" ∷ (w ++ codes ">")) ++ v ≡ code "<" ∷ (w ++ code ">" ∷ v)
 reference_text w v = ap (λ z. code "<" ∷ z) (append_assoc w (codes ">") v)
 
 -- a back reference by a name of some kind

@@ -42,6 +42,7 @@ use Rattle.fancy_grammar.proofs.Pattern.Becomes.{Becomes, opened, AreGroups, cou
 use Rattle.fancy_grammar.proofs.Pattern.Cases.{ReadsTree, leaf_reads, group_reads, look_reads, define_reads}
 use Rattle.fancy_grammar.proofs.Pattern.Cases.{atomic_by}
 use Rattle.fancy_grammar.proofs.Pattern.Conditionals.{conditional_reads}
+use Rattle.fancy_grammar.proofs.Pattern.GroupConditionals.{on_group_reads}
 use Rattle.fancy_grammar.proofs.Pattern.Groups.{whole_behind_setting}
 use Rattle.fancy_grammar.proofs.Pattern.Induction.{ReadsBy}
 use Rattle.fancy_grammar.proofs.Pattern.Marked.{none_faulty, numeric_told, of_all_told}
@@ -161,6 +162,16 @@ module _ (μ : Marks) where
           (reads (over (label.look_around l) c) i k.0 e (omega arith))
           (reads t j k.1 e (omega arith))
           (reads b (behind t BranchAlone j) k.2 (like_behind t BranchAlone f j.flags e) (omega arith))
+      reads (row label.conditional (more_trees (leaf (label.backref_exists n l)) (more_trees t (more_trees b no_trees)))) h k
+          e d =
+          let c = leaf (label.backref_exists n l) in
+          let x = row label.conditional (more_trees c (more_trees t (more_trees b no_trees))) in
+          let j = behind c Whole (deeper (under (settled h.flags x) h)) in
+          let none : h.opened ≡ j.opened = omega arith in
+          on_group_reads μ n l h (same_mode μ f mode h.flags e) (omega arith) (numbered n) k.0.0 k.0.1 t b k.3
+          (reads t j (subst (λ n. AreNodesWritable f μ n t) none k.1) e (omega arith))
+          (reads b (behind t BranchAlone j) (subst (λ n. AreNodesWritable f μ (n + group_count t) b) none k.2)
+          (like_behind t BranchAlone f j.flags e) (omega arith))
       reads (row label.conditional ts) h k e d = absurd k
 
       each_piece : (ts : Trees) (c : ℕ) → ArePieces f μ c ts → EachPiece μ f mode c ts
