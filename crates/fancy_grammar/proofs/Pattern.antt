@@ -12,6 +12,7 @@ pub mod Characters
 pub mod Leaves
 pub mod Names
 pub mod References
+pub mod Unresolved
 pub mod Conditions
 pub mod Sources
 -- ---- quantifiers

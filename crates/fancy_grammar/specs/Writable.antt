@@ -1,27 +1,33 @@
 -- The trees whose texts are proved to read back.
 use Rattle.std.specs.Prelude.{◌≡◌, ℕ, zero, suc, ◌+◌, ◌-◌, ◌^◌, ◌<◌, ◌≤◌, ◌&&◌, Bool, true, false, List, [], ◌∷◌, ◌++◌}
 use Rattle.std.specs.Prelude.{length, Option, option_map, nat_le, nat_lt, filter, find, ◌||◌, ℤ, pos, negsuc, ◌==◌}
+use Rattle.std.specs.Prelude.{None}
 use Rattle.std.specs.List.{AllByRecursion, list_any}
 use Rattle.std.specs.Option.{IfSome}
 use Prim.Native.Char.{code}
 use Rattle.fancy_lex.specs.Characters.{is_among, backslash, open_bracket}
 use Rattle.fancy_lex.specs.Class.{class}
 use Rattle.fancy_lex.specs.Escape.{escape}
+use Rattle.fancy_lex.specs.EscapeReference.{is_relative}
 use Rattle.fancy_lex.specs.Escaped as escaped
 use Rattle.fancy_lex.specs.IdReference.{amount_bound}
 use Rattle.fancy_lex.specs.Number.{at_digit}
+use Rattle.fancy_lex.specs.NumberText.{number_text}
 use Rattle.fancy_lex.specs.Reading.{gives}
+use Rattle.fancy_lex.specs.Target.{Target, by_number, by_name, relative}
 use Rattle.fancy_lex.specs.Text.{Text}
 use Rattle.fancy_lex.specs.declared.escape.Assertion.TheVariants.{StartLineOniguruma}
 use Rattle.fancy_lex.specs.declared.flags.Flags.{Flags}
-use Rattle.fancy_parts.specs.Ranks.{Opening, is_counted, only_named, named_groups}
+use Rattle.fancy_parts.specs.Meaning.{call, means, unresolved}
+use Rattle.fancy_parts.specs.Ranks.{Opening, is_counted, only_named, named_groups, numbers}
 use Rattle.fancy_grammar.specs.Answered.{groups_referred, has_call}
 use Rattle.fancy_grammar.specs.Depth.{max_depth}
 use Rattle.fancy_grammar.specs.Join.{is_empty}
 use Rattle.fancy_grammar.specs.Label.{Leaf, empty, any, assertion, general_newline, literal, literal_bytes, delegate}
 use Rattle.fancy_grammar.specs.Label.{keep_out, continue_from_previous_match_end, verb, clear, group, look_around}
 use Rattle.fancy_grammar.specs.Label.{repeat, atomic_group, define_group, repeater, stopper, expression, conditional}
-use Rattle.fancy_grammar.specs.Label.{concat, alt, backref, subroutine_call, backref_at_level, backref_exists}
+use Rattle.fancy_grammar.specs.Label.{concat, alt, backref, subroutine_call, backref_at_level, backref_exists, ast_node}
+use Rattle.fancy_grammar.specs.Label.{ast_call}
 use Rattle.fancy_grammar.specs.Marks.{Marks, ascending}
 use Rattle.fancy_grammar.specs.Pattern.{group_count, Here, is_in_digits, written_all}
 use Rattle.fancy_grammar.specs.PatternReference.{name_of}
@@ -51,6 +57,22 @@ abbrev pub HasSource : Flags → Text → Bool → Type 0
 HasSource f s casei =
     (g : Flags) → IsLike f g → settled g (leaf (delegate s casei)) ≡ g → IsSource g s casei (delegate_text g casei s)
 
+-- ---- groups and references, by the marks
+
+-- the name that the marks give the group of the number
+abbrev pub name_at : Marks → ℕ → Option Text
+name_at m n = option_map (λ e. e.0) (name_of m n)
+
+-- the openings of the next groups behind c others, so many, with the names that the marks give them; reaches are left
+-- out
+abbrev pub openings_told : Marks → ℕ → ℕ → List Opening
+openings_told m c zero = []
+openings_told m c (suc n) = record { reach = 0; name = name_at m (c + 1) } ∷ openings_told m (c + 1) n
+
+-- the numbers of a name
+abbrev pub numbers_told : Marks → Text → List ℕ
+numbers_told m w = numbers w (openings_told m 0 m.total_groups)
+
 -- a level that can be written
 abbrev pub IsLevelWritable : ℤ → Type 0
 IsLevelWritable (pos n) = n < amount_bound
@@ -65,12 +87,28 @@ abbrev pub IsCallWritable : Bool → ℕ → ℕ → Type 0
 IsCallWritable true c n = n < 2 ^ 64
 IsCallWritable false c n = (n - c < amount_bound) × (c + 1 - n < amount_bound)
 
+-- between marks no call can be written by the name: it would be read as a distance, or holds both closing marks
+abbrev pub is_called_in_parens : Text → Bool
+is_called_in_parens w = is_relative w || (is_among (code ">") w && is_among (code "'") w)
+
+-- a name that is no number, and that a call can be written by
+abbrev pub IsCalledName : Text → Type 0
+IsCalledName [] = ⊥
+IsCalledName (c ∷ w) =
+    (number_text (c ∷ w) ≡ None) × (is_called_in_parens (c ∷ w) ≡ true → is_among (code ")") (c ∷ w) ≡ false)
+
+-- what a call can be written by that means no group
+abbrev pub IsCalledTarget : Target → Type 0
+IsCalledTarget (by_name w) = IsCalledName w
+IsCalledTarget (relative z) = IsLevelWritable z
+IsCalledTarget (by_number n) = ⊥
+
 -- no digit follows it, where it is a back reference in digits, to which that would belong
 abbrev pub IsParted : Marks → Tree → Trees → Type 0
 IsParted m t ts = is_in_digits m t ≡ true → (h : Here) → at_digit (written_all m false ts h) ≡ false
 
 -- a leaf as it is read, behind the openings of c groups: a character, a byte without UNICODE, what has an escape, a
--- back reference, a call, or a condition on a group alone
+-- back reference, a call, which may mean no group, or a condition on a group alone
 abbrev pub IsWritableLeaf : Flags → Marks → ℕ → Leaf → Type 0
 IsWritableLeaf f m c (literal (d ∷ []) casei) = Unit {0}
 IsWritableLeaf f m c (literal_bytes (b ∷ [])) = (f.unicode ≡ false) × (0x80 ≤ b) × (b ≤ 0xFF)
@@ -88,6 +126,7 @@ IsWritableLeaf f m c (backref n casei) = n < 2 ^ 64
 IsWritableLeaf f m c (backref_at_level n level casei) = (n < 2 ^ 64) × IsLevelWritable level
 IsWritableLeaf f m c (subroutine_call n) = IsCallWritable (is_called_by_number m n) c n
 IsWritableLeaf f m c (backref_exists n level) = (n < 2 ^ 64) × IfSome level IsLevelWritable
+IsWritableLeaf f m c (ast_node (ast_call t) place) = IsCalledTarget t × (means (numbers_told m) c call t ≡ unresolved)
 IsWritableLeaf f m c _ = ⊥
 
 abbrev mutual
@@ -129,17 +168,7 @@ abbrev mutual
   ArePieces f m c (more_trees t ts) =
       AreNodesWritable f m c t × (is_empty t ≡ false) × IsParted m t ts × ArePieces f m (c + group_count t) ts
 
--- ---- groups and their names
-
--- the name that the marks give the group of the number
-abbrev pub name_at : Marks → ℕ → Option Text
-name_at m n = option_map (λ e. e.0) (name_of m n)
-
--- the openings of the next groups behind c others, so many, with the names that the marks give them; reaches are left
--- out
-abbrev pub openings_told : Marks → ℕ → ℕ → List Opening
-openings_told m c zero = []
-openings_told m c (suc n) = record { reach = 0; name = name_at m (c + 1) } ∷ openings_told m (c + 1) n
+-- ---- the marks of a tree
 
 -- the node is a reference that is written as a number, where these are the marks
 abbrev pub is_numbered : Marks → Tree → Bool

@@ -4,7 +4,7 @@ use Rattle.std.proofs.Common.{refl, sym, ap, ap₂, ◌∙◌, subst, arith, ℤ
 use Rattle.std.proofs.lemmas.Bool.{cond-true, cond-false}
 use Rattle.fancy_lex.specs.Text.{Text, EndsWith, bytes, place_at}
 use Rattle.fancy_lex.specs.declared.flags.Flags.{Flags}
-use Rattle.fancy_parts.specs.Ranks.{Opening, numbered_openings_in, numbers}
+use Rattle.fancy_parts.specs.Ranks.{Opening, numbered_openings_in}
 use Rattle.fancy_grammar.specs.Items.{Item, opening, reference, items, items_all, openings_in, role_of, target_of}
 use Rattle.fancy_grammar.specs.Join.{is_empty, solid, one_or}
 use Rattle.fancy_grammar.specs.Label.{Row, AstReference, ast_backref, ast_call, ast_condition}
@@ -15,7 +15,8 @@ use Rattle.fancy_grammar.specs.Resolved.{resolved_in, resolved_all, reference_no
 use Rattle.fancy_grammar.specs.Tree.{Tree, row, more_trees, trees_of, empty, ast_group}
 use Rattle.fancy_grammar.specs.Tree.{ast_node, backref, backref_at_level, subroutine_call, backref_exists}
 use Rattle.fancy_grammar.specs.ReadAs.{unplaced, unplaced_all}
-use Rattle.fancy_grammar.specs.Writable.{name_at, AreCounted, openings_told, is_numbered, is_numbered_call_of_all}
+pub use Rattle.fancy_grammar.specs.Writable.{numbers_told}
+use Rattle.fancy_grammar.specs.Writable.{name_at, AreCounted, is_numbered, is_numbered_call_of_all}
 use Rattle.fancy_grammar.proofs.Pattern.Unplaced.{empty_unplaced, repeatable_unplaced}
 use Rattle.fancy_parts.specs.Meaning.{Meaning, number, unresolved, faulty, means}
 use Rattle.fancy_parts.specs.Written.{is_numeric}
@@ -24,10 +25,6 @@ use Rattle.fancy_lex.proofs.LeaveLaws.{ends_twice}
 -- how many groups open among the items
 abbrev pub opened : List Item → ℕ
 opened l = length (openings_in l)
-
--- the numbers of a name, by the marks
-abbrev pub numbers_told : Marks → Text → List ℕ
-numbers_told μ w = numbers w (openings_told μ 0 μ.total_groups)
 
 -- what a reference means behind the openings of c groups, by the marks
 abbrev pub meaning_told : Marks → ℕ → AstReference → Meaning

@@ -42,6 +42,7 @@ use Rattle.fancy_lex.specs.Reading.{choose}
 use Rattle.fancy_grammar.proofs.Pattern.Becomes.{numbers_told}
 use Rattle.fancy_grammar.proofs.Pattern.Conditions.{condition_at, exists_at}
 use Rattle.fancy_grammar.proofs.Pattern.References.{backref_at, call_at, level_at}
+use Rattle.fancy_grammar.proofs.Pattern.Unresolved.{unresolved_at}
 
 module _ (μ : Marks) where
   abbrev pub ReadsTree : Tree → Here → Type 0
@@ -123,6 +124,8 @@ module _ (μ : Marks) where
   leaf_reads numbered f (label.backref_exists n level) h o like d k =
       leaf_by (label.backref_exists n level) h o d refl
       (exists_at μ h (target_text μ n level) n level (condition_at μ h n d level (numbered n) k.0 k.1))
+  leaf_reads numbered f (label.ast_node (label.ast_call t) place) h o like d k =
+      leaf_by (label.ast_node (label.ast_call t) place) h o d refl (unresolved_at μ h t place d k.0 k.1)
   leaf_reads numbered f _ h o like d k = absurd k
 
   -- ---- groups
