@@ -22,6 +22,7 @@ pub mod Needed
 pub mod Induction
 pub mod Cases
 pub mod Repeats
+pub mod Parted
 pub mod Rows
 pub mod Absent
 pub mod Conditionals

@@ -11,7 +11,6 @@ use Rattle.fancy_lex.specs.Escape.{escape}
 use Rattle.fancy_lex.specs.EscapeReference.{is_relative}
 use Rattle.fancy_lex.specs.Escaped as escaped
 use Rattle.fancy_lex.specs.IdReference.{amount_bound}
-use Rattle.fancy_lex.specs.Number.{at_digit}
 use Rattle.fancy_lex.specs.NumberText.{number_text}
 use Rattle.fancy_lex.specs.Reading.{gives}
 use Rattle.fancy_lex.specs.Target.{Target, by_number, by_name, relative}
@@ -29,7 +28,7 @@ use Rattle.fancy_grammar.specs.Label.{repeat, atomic_group, define_group, repeat
 use Rattle.fancy_grammar.specs.Label.{concat, alt, backref, subroutine_call, backref_at_level, backref_exists, ast_node}
 use Rattle.fancy_grammar.specs.Label.{ast_call}
 use Rattle.fancy_grammar.specs.Marks.{Marks, ascending}
-use Rattle.fancy_grammar.specs.Pattern.{group_count, Here, is_in_digits, written_all}
+use Rattle.fancy_grammar.specs.Pattern.{group_count}
 use Rattle.fancy_grammar.specs.PatternReference.{name_of}
 use Rattle.fancy_grammar.specs.PatternNeeds.{settled}
 use Rattle.fancy_grammar.specs.PatternSource.{delegate_text}
@@ -103,10 +102,6 @@ IsCalledTarget (by_name w) = IsCalledName w
 IsCalledTarget (relative z) = IsLevelWritable z
 IsCalledTarget (by_number n) = ⊥
 
--- no digit follows it, where it is a back reference in digits, to which that would belong
-abbrev pub IsParted : Marks → Tree → Trees → Type 0
-IsParted m t ts = is_in_digits m t ≡ true → (h : Here) → at_digit (written_all m false ts h) ≡ false
-
 -- a leaf as it is read, behind the openings of c groups: a character, a byte without UNICODE, what has an escape, a
 -- back reference, a call, which may mean no group, or a condition on a group alone
 abbrev pub IsWritableLeaf : Flags → Marks → ℕ → Leaf → Type 0
@@ -166,7 +161,7 @@ abbrev mutual
   pub ArePieces : Flags → Marks → ℕ → Trees → Type 0
   ArePieces f m c no_trees = Unit {0}
   ArePieces f m c (more_trees t ts) =
-      AreNodesWritable f m c t × (is_empty t ≡ false) × IsParted m t ts × ArePieces f m (c + group_count t) ts
+      AreNodesWritable f m c t × (is_empty t ≡ false) × ArePieces f m (c + group_count t) ts
 
 -- ---- the marks of a tree
 

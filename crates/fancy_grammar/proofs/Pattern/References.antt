@@ -383,31 +383,36 @@ unfolding number_escape escapes.numbered_reference escapes.group_number
 digits_read_as f p n v h d = rw (number_read n v h d, lt-ltb n (2 ^ 64) h) refl
 
 module _ (μ : Marks) (h : Here) where
+  -- in front of a text that begins with no digit
+  pub digits_atom : (n : ℕ) → μ.numeric_capture_group_references ≡ true → n < 2 ^ 64 → (v : Text) →
+      at_digit v ≡ false → AtomAt μ h (backslash ∷ (decimal n ++ v)) v (leaf (label.backref n h.flags.casei))
+  digits_atom n e l v y =
+      let r = ast_backref (by_number n) h.flags.casei None in
+      let t = decimal n ++ v in
+      record {
+        tree = ast_node r (reach_of t);
+        derives =
+            atom
+            (leaf_at h.depth h.flags (code "\\") t refl refl
+            ∙ ap (λ o. read (leaf_outcome leaf_node (st h.flags (code "\\" ∷ t)) o))
+            (digits_escape h.flags (decimal n) v ((decimal_is_IsNumeral n l).0)
+            ∙ digits_read_as h.flags (reach_of t + 1) n v l y))
+            a_read;
+        becomes =
+            reference_becomes μ _ h.opened r (reach_of t) n (label.backref n h.flags.casei) refl
+            (record {
+              numeric =
+                  λ text (w, z). (λ i. is_behind_backslash (z i) (place_at (bytes (z i)) (reach_of t)))
+                  ∙ (behind_backslash w t ∙ sym e);
+              of_all = refl;
+            }) (λ _. refl) refl;
+      }
+
   backref_in_digits : (n : ℕ) → μ.numeric_capture_group_references ≡ true → n < 2 ^ 64 →
       LeafAt μ h (backref_text μ h.opened n) (label.backref n h.flags.casei)
   backref_in_digits n e l =
-      let r = ast_backref (by_number n) h.flags.casei None in
       subst (λ t. LeafAt μ h t (label.backref n h.flags.casei)) (sym (cond-true _ _ _ e)) (record {
-        reads =
-            λ v m y. let t = decimal n ++ v in
-            record {
-              tree = ast_node r (reach_of t);
-              derives =
-                  atom
-                  (leaf_at h.depth h.flags (code "\\") t refl refl
-                  ∙ ap (λ o. read (leaf_outcome leaf_node (st h.flags (code "\\" ∷ t)) o))
-                  (digits_escape h.flags (decimal n) v ((decimal_is_IsNumeral n l).0)
-                  ∙ digits_read_as h.flags (reach_of t + 1) n v l (y e)))
-                  a_read;
-              becomes =
-                  reference_becomes μ _ h.opened r (reach_of t) n (label.backref n h.flags.casei) refl
-                  (record {
-                    numeric =
-                        λ text (w, z). (λ i. is_behind_backslash (z i) (place_at (bytes (z i)) (reach_of t)))
-                        ∙ (behind_backslash w t ∙ sym e);
-                    of_all = refl;
-                  }) (λ _. refl) refl;
-            };
+        reads = λ v m y. digits_atom n e l v (y e);
         begins = λ v. begins_reference h.flags.ignore_space _;
       })
 

@@ -48,6 +48,7 @@ use Rattle.fancy_grammar.proofs.Pattern.Induction.{ReadsBy}
 use Rattle.fancy_grammar.proofs.Pattern.Marked.{none_faulty, numeric_told, of_all_told}
 use Rattle.fancy_grammar.proofs.Pattern.Needed.{like_behind}
 use Rattle.fancy_grammar.proofs.Pattern.Unplaced.{same_referred, same_call, same_numbered, same_of_all}
+use Rattle.fancy_grammar.proofs.Pattern.Parted.{leads_past}
 use Rattle.fancy_grammar.proofs.Pattern.Repeats.{like_repeatable, repeat_reads, possessive_reads}
 use Rattle.fancy_grammar.proofs.Pattern.Rows.{EachPiece, EachBranch, concat_reads, alt_reads, same_mode}
 use Rattle.fancy_grammar.proofs.Pattern.Rules.{Clear, ends_nothing, WholeAt}
@@ -180,8 +181,8 @@ module _ (μ : Marks) where
         (λ h o e d. reads t h (subst (λ n. AreNodesWritable f μ n t)
             (sym o) k.0) e d),
         k.1,
-        k.2,
-        each_piece ts _ k.3,
+        (λ y h e d. leads_past μ f c t k.0 y h (same_mode μ f mode h.flags e) d),
+        each_piece ts _ k.2,
       )
 
       each_branch : (ts : Trees) (c : ℕ) → AreAllWritable f μ c ts → EachBranch μ f mode c ts
