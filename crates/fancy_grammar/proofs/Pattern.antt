@@ -21,5 +21,7 @@ pub mod Repeats
 pub mod Rows
 pub mod Absent
 pub mod Conditionals
+-- ---- where texts fit
+pub mod Levels
 -- ---- the theorem
 pub mod Theorem
