@@ -23,5 +23,7 @@ pub mod Absent
 pub mod Conditionals
 -- ---- where texts fit
 pub mod Levels
+pub mod Suited
+pub mod Fitting
 -- ---- the theorem
 pub mod Theorem

@@ -19,7 +19,7 @@ use Rattle.fancy_grammar.proofs.Pattern.Repeats.{like_repeatable}
 
 -- ---- what fits without parentheses and within them fits either way
 
-atom_fits : (t : Tree) (p : Precedence) (inside : Here → Type 0) (h : Here) →
+pub atom_fits : (t : Tree) (p : Precedence) (inside : Here → Type 0) (h : Here) →
     (is_operand p ≡ true → is_repeatable h.flags t ≡ true) → inside h → FitsAsAtom t p inside h
 atom_fits t p inside h s x = by (is_operand p) (is_repeatable h.flags t) s
   where
@@ -28,12 +28,12 @@ atom_fits t p inside h s x = by (is_operand p) (is_repeatable h.flags t) s
     by true false s = absurd (false≢true (s refl))
     by false b s = x
 
-parens_fit : (b : Bool) (inside : Precedence → Here → Type 0) (p : Precedence) (h : Here) → MayOpen h →
+pub parens_fit : (b : Bool) (inside : Precedence → Here → Type 0) (p : Precedence) (h : Here) → MayOpen h →
     inside Whole (deeper h) → inside p h → FitsInParensIf b inside p h
 parens_fit true inside p h d x y = (d, x)
 parens_fit false inside p h d x y = y
 
-scope_fits : (b : Bool) (t : Tree) (inside : Here → Type 0) (h : Here) → MayOpen h → inside h →
+pub scope_fits : (b : Bool) (t : Tree) (inside : Here → Type 0) (h : Here) → MayOpen h → inside h →
     inside (deeper (under (settled h.flags t) h)) → FitsInScopeUnless b t inside h
 scope_fits true t inside h d x y = x
 scope_fits false t inside h d x y = (d, y)

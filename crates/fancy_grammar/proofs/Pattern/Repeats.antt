@@ -32,6 +32,9 @@ use Rattle.fancy_grammar.proofs.Pattern.Rules.{Rest, reads_only}
 use Rattle.fancy_grammar.proofs.ReadBack.RuleLemmas.{st}
 use Rattle.fancy_grammar.proofs.Pattern.Cases.{ReadsTree, same_repeatable}
 
+pub room_none : (i : Here) → i.flags.oniguruma_mode ≡ false → room Whole i ≡ 0
+room_none i o = ap (λ b. (if b then min (max_adjacent + 1) (max_depth - i.depth) else 1) - 1) o
+
 module _ (μ : Marks) where
   -- ---- quantifiers
 
@@ -39,9 +42,6 @@ module _ (μ : Marks) where
       is_repeatable f t ≡ is_repeatable g t
   like_repeatable (leaf l) f g e = same_repeatable μ l f g e
   like_repeatable _ f g e = refl
-
-  room_none : (i : Here) → i.flags.oniguruma_mode ≡ false → room Whole i ≡ 0
-  room_none i o = ap (λ b. (if b then min (max_adjacent + 1) (max_depth - i.depth) else 1) - 1) o
 
   repeated_is : (possessive : Bool) (t : Tree) (lo hi : ℕ) (greedy : Bool) (i : Here) →
       i.flags.oniguruma_mode ≡ false →
