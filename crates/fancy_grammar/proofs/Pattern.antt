@@ -27,6 +27,10 @@ pub mod Rows
 pub mod Absent
 pub mod Conditionals
 pub mod GroupConditionals
+-- ---- where texts fit
+pub mod Levels
+pub mod Suited
+pub mod Fitting
 -- ---- the theorem
 pub mod Marked
 pub mod Theorem

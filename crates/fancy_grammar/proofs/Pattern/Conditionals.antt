@@ -21,6 +21,7 @@ use Rattle.fancy_grammar.specs.Label as label
 use Rattle.fancy_grammar.specs.Pattern.{Here, under, past_groups, deeper, group_count, is_alt, behind, written}
 use Rattle.fancy_grammar.specs.Pattern.{branches_text, in_parens, parenthesized, condition_text, look_head}
 use Rattle.fancy_grammar.specs.Pattern.{flags_behind}
+use Rattle.fancy_grammar.specs.PatternDepth.{Fits}
 use Rattle.fancy_grammar.specs.PatternNeeds.{settled, turns_on, letters_between}
 use Rattle.fancy_grammar.specs.declared.kinds.LookAround.{LookAround}
 use Rattle.fancy_grammar.specs.Ahead.{ahead, condition}
@@ -226,7 +227,8 @@ empty_is _ e = absurd cc
 
 module _ (μ : Marks) (d : ℕ) (k : Tree) (f : Flags) (c : ℕ) (t e : Tree) (v : Text)
     (solid : (is_empty t && is_empty e) ≡ false) (r : ReadsTree μ t (within d f c))
-    (q : ReadsTree μ e (behind t BranchAlone (within d f c))) where
+    (q : ReadsTree μ e (behind t BranchAlone (within d f c))) (first_fits : Fits t BranchAlone (within d f c))
+    (second_fits : Fits e Whole (behind t BranchAlone (within d f c))) where
   abbrev first_text : Text
   first_text = written μ t BranchAlone (within d f c)
 
@@ -243,16 +245,16 @@ module _ (μ : Marks) (d : ℕ) (k : Tree) (f : Flags) (c : ℕ) (t e : Tree) (v
       subst (λ s. BodyAt μ d k (within d f c) s v t e) (sym (append_assoc first_text (codes "|" ++ second_text)
       (code ")" ∷ v)))
       (two_body μ d k f c first_text second_text v _ _ t e
-      (r.branch (code "|" ∷ u) (stops_bar f.ignore_space u))
-      (q.whole (code ")" ∷ v) (ends_close _ v)))
+      (r.branch first_fits (code "|" ∷ u) (stops_bar f.ignore_space u))
+      (q.whole second_fits (code ")" ∷ v) (ends_close _ v)))
   body_if false h =
       let (a, b) = or_parts (not (is_empty e)) (is_alt t) h in
       let none : is_empty e ≡ true = sym (not-not (is_empty e)) ∙ ap not a in
       let some : is_empty t ≡ false = sym (and-true (is_empty t)) ∙ (ap (λ y. is_empty t && y) (sym none) ∙ solid) in
-      let (z, u, is) = begun f.ignore_space first_text (r.branch_begins some []) in
+      let (z, u, is) = begun f.ignore_space first_text (r.branch_begins first_fits some []) in
       subst (λ s. BodyAt μ d k (within d f c) (s ++ code ")" ∷ v) v t e) (sym (append-nil first_text))
       (subst (BodyAt μ d k (within d f c) (first_text ++ code ")" ∷ v) v t) (empty_is e none)
-      (one_body μ d k f c first_text v _ t z u is b (r.branch (code ")" ∷ v) (ends_close f.ignore_space v).stops)))
+      (one_body μ d k f c first_text v _ t z u is b (r.branch first_fits (code ")" ∷ v) (ends_close f.ignore_space v).stops)))
 
   pub body_at : BodyAt μ d k (within d f c) (branches_text t e first_text second_text ++ code ")" ∷ v) v t e
   body_at =
@@ -308,7 +310,7 @@ pub regroup : (c b r : Text) → ((code "(" ∷ (c ++ code ")" ∷ [])) ++ b) ++
 regroup c b r =
     append_assoc (code "(" ∷ (c ++ code ")" ∷ [])) b r ∙ ap (λ z. code "(" ∷ z) (append_assoc c (code ")" ∷ []) (b ++ r))
 
-module _ (μ : Marks) (h : Here) (o : h.flags.oniguruma_mode ≡ false) (d : h.depth + 1 < max_depth) where
+module _ (μ : Marks) (h : Here) (o : h.flags.oniguruma_mode ≡ false) where
   abbrev conditional_on : LookAround → Tree → Tree → Tree → Tree
   conditional_on l a t e =
       row label.conditional (more_trees (over (label.look_around l) a) (more_trees t (more_trees e no_trees)))
@@ -345,15 +347,15 @@ module _ (μ : Marks) (h : Here) (o : h.flags.oniguruma_mode ≡ false) (d : h.d
       let whole_text = λ (v : Text).
       same v ∙ ap (λ z. codes "(?" ++ z) (regroup (condition_text μ c w) b (code ")" ∷ v)
       ∙ ap (λ z. code "(" ∷ (z ++ code ")" ∷ (b ++ code ")" ∷ v))) (bare ∙ is)) in
-      by_atom μ x h o d refl s _
-      (λ v. subst (Begins h.flags.ignore_space) (sym (same v))
+      by_atom μ x h o refl (Fits x Whole h) (Fits x Whole h) s _ (λ d. d.0)
+      (λ _ v. subst (Begins h.flags.ignore_space) (sym (same v))
       (begins_by h.flags.ignore_space (code "(") _ refl refl refl refl))
-      (λ v y _. subst (λ z. AtomAt μ i z v x) (sym (whole_text v))
-      (at_condition i k (b ++ code ")" ∷ v) v _ c t e d solid
+      (λ d v y _. subst (λ z. AtomAt μ i z v x) (sym (whole_text v))
+      (at_condition i k (b ++ code ")" ∷ v) v _ c t e d.1.0 solid
       (subst (λ z. WholeAt μ (deeper i) (z ++ code ")" ∷ (b ++ code ")" ∷ v)) (flags_behind c Whole i.flags)
-      (code ")" ∷ (b ++ code ")" ∷ v)) c) is (r.whole (code ")" ∷ (b ++ code ")" ∷ v)) (ends_close _ _)))
-      (λ k. body_at μ i.depth k j.flags j.opened t e v solid q u)))
-      refl (λ e. refl)
+      (code ")" ∷ (b ++ code ")" ∷ v)) c) is (r.whole d.1.1.0 (code ")" ∷ (b ++ code ")" ∷ v)) (ends_close _ _)))
+      (λ k. body_at μ i.depth k j.flags j.opened t e v solid q u d.1.1.2 d.1.1.3)))
+      refl (λ e. ((λ d. d), refl))
     where
       at_condition : (i : Here) (w z v : Text) (g : Flags) (c t e : Tree) → i.depth + 1 < max_depth →
           (is_empty t && is_empty e) ≡ false →

@@ -4,13 +4,13 @@ use Rattle.std.proofs.Common.{IfSome, ◌^◌, Option, append_assoc}
 use Rattle.std.proofs.lemmas.Bool.{cond-false}
 use Prim.Native.Char.{code}
 use Rattle.fancy_lex.specs.Text.{Text, EndsWith}
-use Rattle.fancy_grammar.specs.Depth.{max_depth}
 use Rattle.fancy_grammar.specs.Grammar.{atom, a_body, conditional_of}
 use Rattle.fancy_grammar.specs.Join.{is_empty}
 use Rattle.fancy_grammar.specs.Label as label
 use Rattle.fancy_grammar.specs.Marks.{Marks}
 use Rattle.fancy_grammar.specs.Pattern.{Here, under, deeper, group_count, behind, written, branches_text, in_parens}
 use Rattle.fancy_grammar.specs.Pattern.{parenthesized, condition_text}
+use Rattle.fancy_grammar.specs.PatternDepth.{Fits}
 use Rattle.fancy_grammar.specs.PatternNeeds.{settled}
 use Rattle.fancy_grammar.specs.PatternReference.{name_of, target_text}
 use Rattle.fancy_grammar.specs.Tree.{Tree, leaf, row, no_trees, more_trees, conditional}
@@ -59,13 +59,13 @@ module _ (μ : Marks) (n : ℕ) (level : Option ℤ) where
             ));
       }
 
-  pub on_group_reads : (h : Here) → h.flags.oniguruma_mode ≡ false → h.depth + 1 < max_depth →
+  pub on_group_reads : (h : Here) → h.flags.oniguruma_mode ≡ false →
       IfSome (name_of μ n) (λ e. e.1 ≡ numbers_told μ e.0) → n < 2 ^ 64 → IfSome level IsLevelWritable →
       (t e : Tree) → (is_empty t && is_empty e) ≡ false →
       let i = deeper (under (settled h.flags (conditional_on t e)) h) in
       ReadsTree μ t (behind asking Whole i) →
       ReadsTree μ e (behind t BranchAlone (behind asking Whole i)) → ReadsTree μ (conditional_on t e) h
-  on_group_reads h o d numbered small fine t e solid q u =
+  on_group_reads h o numbered small fine t e solid q u =
       let x = conditional_on t e in
       let i = under (settled h.flags x) h in
       let j = behind asking Whole (deeper i) in
@@ -77,12 +77,12 @@ module _ (μ : Marks) (n : ℕ) (level : Option ℤ) where
       let all = in_parens (codes "?") text i in
       let same = parens_text (codes "?") text i in
       let b = branches_text t e (written μ t BranchAlone j) (written μ e Whole (behind t BranchAlone j)) in
-      let c = condition_at μ i n d level numbered small fine in
       let whole_text = λ (v : Text). same v ∙ ap (λ z. codes "(?" ++ z) (regroup s b (code ")" ∷ v)) in
-      by_atom μ x h o d refl all _
-      (λ v. subst (Begins h.flags.ignore_space) (sym (same v))
+      by_atom μ x h o refl (Fits x Whole h) (Fits x Whole h) all _ (λ d. d.0)
+      (λ _ v. subst (Begins h.flags.ignore_space) (sym (same v))
       (begins_by h.flags.ignore_space (code "(") _ refl refl refl refl))
-      (λ v y _. subst (λ z. AtomAt μ i z v x) (sym (whole_text v))
+      (λ d v y _. let c = condition_at μ i n d.1.0 level numbered small fine in
+      subst (λ z. AtomAt μ i z v x) (sym (whole_text v))
       (with_body i s (b ++ code ")" ∷ v) v t e solid c
-      (body_at μ i.depth (c.node (b ++ code ")" ∷ v)) j.flags j.opened t e v solid q u)))
-      refl (λ e. refl)
+      (body_at μ i.depth (c.node (b ++ code ")" ∷ v)) j.flags j.opened t e v solid q u d.1.1.2 d.1.1.3)))
+      refl (λ e. ((λ d. d), refl))
