@@ -127,8 +127,7 @@ IsWritableLeaf f m c _ = ⊥
 
 abbrev mutual
   -- what stands under a quantifier is repeatable, a Concat or an Alt has two parts or more, no part of a Concat, nor what
-  -- a stopper holds, is Empty, and a conditional has a look-around or a group as its condition, and a branch that is not
-  -- Empty
+  -- a stopper holds, is Empty, and a conditional has a branch that is not Empty
   pub AreNodesWritable : Flags → Marks → ℕ → Tree → Type 0
   AreNodesWritable f m c (leaf l) = IsWritableLeaf f m c l
   AreNodesWritable f m c (over (repeat lo hi greedy) t) =
@@ -141,14 +140,9 @@ abbrev mutual
   AreNodesWritable f m c (over stopper t) = AreNodesWritable f m c t × (is_empty t ≡ false)
   AreNodesWritable f m c (row expression (more_trees a (more_trees e no_trees))) =
       AreNodesWritable f m c a × AreNodesWritable f m (c + group_count a) e
-  AreNodesWritable f m c
-      (row conditional (more_trees (over (look_around l) k) (more_trees t (more_trees e no_trees)))) =
+  AreNodesWritable f m c (row conditional (more_trees k (more_trees t (more_trees e no_trees)))) =
       AreNodesWritable f m c k × AreNodesWritable f m (c + group_count k) t
       × AreNodesWritable f m (c + group_count k + group_count t) e × ((is_empty t && is_empty e) ≡ false)
-  AreNodesWritable f m c
-      (row conditional (more_trees (leaf (backref_exists n level)) (more_trees t (more_trees e no_trees)))) =
-      IsWritableLeaf f m c (backref_exists n level) × AreNodesWritable f m c t
-      × AreNodesWritable f m (c + group_count t) e × ((is_empty t && is_empty e) ≡ false)
   AreNodesWritable f m c (row concat (more_trees t (more_trees u ts))) =
       ArePieces f m c (more_trees t (more_trees u ts))
   AreNodesWritable f m c (row alt (more_trees t (more_trees u ts))) =

@@ -39,7 +39,7 @@ use Rattle.fancy_grammar.proofs.Pattern.Becomes.{Becomes, opened, AreGroups, cou
 use Rattle.fancy_grammar.proofs.Pattern.Cases.{ReadsTree, leaf_reads, group_reads, look_reads, define_reads}
 use Rattle.fancy_grammar.proofs.Pattern.Cases.{atomic_by}
 use Rattle.fancy_grammar.proofs.Pattern.Conditionals.{conditional_reads}
-use Rattle.fancy_grammar.proofs.Pattern.GroupConditionals.{on_group_reads}
+use Rattle.fancy_grammar.proofs.Pattern.ConditionTexts.{before_of}
 use Rattle.fancy_grammar.proofs.Pattern.Groups.{whole_behind_setting}
 use Rattle.fancy_grammar.proofs.Pattern.Marked.{none_faulty, numeric_told, of_all_told}
 use Rattle.fancy_grammar.proofs.Pattern.Needed.{like_behind}
@@ -137,25 +137,15 @@ module _ (μ : Marks) where
       reads (row label.concat (more_trees t no_trees)) h k e = absurd k
       reads (row label.alt no_trees) h k e = absurd k
       reads (row label.alt (more_trees t no_trees)) h k e = absurd k
-      reads (row label.conditional (more_trees (over (label.look_around l) c) (more_trees t (more_trees b no_trees)))) h k e =
-          let x = row label.conditional
-          (more_trees (over (label.look_around l) c) (more_trees t (more_trees b no_trees))) in
-          let i = deeper (under (settled h.flags x) h) in
-          let j = behind (over (label.look_around l) c) Whole i in
-          conditional_reads μ h (same_mode μ f mode h.flags e) l c t b k.3
-          (reads (over (label.look_around l) c) i k.0 e)
-          (reads t j k.1 e)
-          (reads b (behind t BranchAlone j) k.2 (like_behind t BranchAlone f j.flags e))
-      reads (row label.conditional (more_trees (leaf (label.backref_exists n l)) (more_trees t (more_trees b no_trees)))) h k
-          e =
-          let c = leaf (label.backref_exists n l) in
+      reads (row label.conditional (more_trees c (more_trees t (more_trees b no_trees)))) h k e =
           let x = row label.conditional (more_trees c (more_trees t (more_trees b no_trees))) in
-          let j = behind c Whole (deeper (under (settled h.flags x) h)) in
-          let none : h.opened ≡ j.opened = omega arith in
-          on_group_reads μ n l h (same_mode μ f mode h.flags e) (numbered n) k.0.0 k.0.1 t b k.3
-          (reads t j (subst (λ n. AreNodesWritable f μ n t) none k.1) e)
-          (reads b (behind t BranchAlone j) (subst (λ n. AreNodesWritable f μ (n + group_count t) b) none k.2)
-          (like_behind t BranchAlone f j.flags e))
+          let i = under (settled h.flags x) h in
+          let j = behind c Whole (deeper i) in
+          let next = like_behind c Whole f i.flags e in
+          conditional_reads μ h (same_mode μ f mode h.flags e) c t b k.3
+          (before_of μ f numbered c i k.0 (same_mode μ f mode h.flags e) (reads c (deeper i) k.0 e))
+          (reads t j k.1 next)
+          (reads b (behind t BranchAlone j) k.2 (like_behind t BranchAlone f j.flags next))
       reads (row label.conditional ts) h k e = absurd k
 
       each_piece : (ts : Trees) (c : ℕ) → ArePieces f μ c ts → EachPiece μ f mode c ts
