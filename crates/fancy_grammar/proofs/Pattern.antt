@@ -25,5 +25,6 @@ pub mod Conditionals
 pub mod Levels
 pub mod Suited
 pub mod Fitting
+pub mod Told
 -- ---- the theorem
 pub mod Theorem
