@@ -26,5 +26,6 @@ pub mod Levels
 pub mod Suited
 pub mod Fitting
 pub mod Told
+pub mod Ahead
 -- ---- the theorem
 pub mod Theorem
