@@ -27,5 +27,8 @@ pub mod Suited
 pub mod Fitting
 pub mod Told
 pub mod Ahead
+pub mod Nested
+pub mod NestedGroups
+pub mod ReadFits
 -- ---- the theorem
 pub mod Theorem

@@ -1,7 +1,7 @@
 -- What stands before an atom: a leaf without parentheses suits the flags, and a group keeps the mode.
-use Rattle.std.proofs.Common.{◌≡◌, ℕ, ◌+◌, ◌<◌, ◌≤◌, Bool, true, false, List, [], ◌∷◌, codes, Option, Some, None, refl, sym}
-use Rattle.std.proofs.Common.{ap, ◌∙◌, subst, arith, nat_le, ◌==◌, nat_lt, ltb-true}
-use Rattle.std.proofs.lemmas.Bool.{cond_both, false≢true, ltb-false}
+use Rattle.std.proofs.Common.{◌≡◌, ℕ, ◌+◌, ◌<◌, ◌≤◌, Bool, false, [], ◌∷◌, codes, refl}
+use Rattle.std.proofs.Common.{◌∙◌, arith, nat_le, ◌==◌}
+use Rattle.std.proofs.lemmas.Bool.{cond_both}
 use Rattle.std.proofs.lemmas.Bool.Decides.{nat_tests}
 use Prim.Native.Char.{code}
 use Rattle.fancy_lex.specs.Class.{class}
@@ -20,17 +20,17 @@ use Rattle.fancy_parts.specs.HeadReference.{named_reference, named_call, begins_
 use Rattle.fancy_parts.specs.LetterSteps.{letters}
 use Rattle.fancy_grammar.specs.Ahead.{Ahead, nothing, read, with_head, condition, body, absent_branch, ahead, ahead_of}
 use Rattle.fancy_grammar.specs.Ahead.{behind_layout, group_ahead, behind_question, condition_ahead, repeater_ahead}
-use Rattle.fancy_grammar.specs.Ahead.{verb_ahead, flags_ahead, leaf_node, leaf_outcome, leaf_of, is_before_nothing}
+use Rattle.fancy_grammar.specs.Ahead.{flags_ahead, leaf_node, leaf_outcome, leaf_of, is_before_nothing}
 use Rattle.fancy_grammar.specs.Ahead.{named_ahead, target_ahead, backref_node, call_node}
 use Rattle.fancy_grammar.specs.Depth.{max_depth}
 use Rattle.fancy_grammar.specs.Label as label
 use Rattle.fancy_grammar.specs.Label.{Leaf, ast_backref, ast_call, ast_condition}
 use Rattle.fancy_grammar.specs.PatternDepth.{is_in_parens}
-use Rattle.fancy_grammar.specs.State.{skipped, State, at, Outcome, done, fault}
-use Rattle.fancy_grammar.specs.Tree.{Tree, leaf, delegate, verb}
+use Rattle.fancy_grammar.specs.State.{skipped, State, at}
+use Rattle.fancy_grammar.specs.Tree.{Tree, leaf, delegate}
 use Rattle.fancy_grammar.specs.Verb.{verb_at}
 use Rattle.fancy_grammar.proofs.OutcomeLemmas.{Holds}
-use Rattle.fancy_grammar.proofs.Pattern.Suited.{none_met, Suits}
+use Rattle.fancy_grammar.proofs.Pattern.Suited.{Suits}
 use Rattle.fancy_grammar.proofs.Pattern.Told.{Gives, HasMode, letters_mode, IsBare, IsTold, told_escape, literal_suits}
 use Rattle.fancy_grammar.proofs.Pattern.Told.{delegate_suits, dot_suits, start_suits, end_suits}
 
@@ -42,7 +42,7 @@ IsLast d = max_depth ≤ d + 1
 abbrev pub IsPlain : Flags → Leaf → Type 0
 IsPlain f (label.ast_node (ast_backref t casei level) place) = casei ≡ f.casei
 IsPlain f (label.ast_node (ast_call t) place) = IsBare t
-IsPlain f (label.ast_node (ast_condition t level) place) = Unit {0}
+IsPlain f (label.ast_node (ast_condition t level) place) = ⊥
 IsPlain f l = (is_in_parens l ≡ false) × Suits f (leaf l)
 
 abbrev pub IsPlainTree : Flags → Tree → Type 0
@@ -85,7 +85,6 @@ module _ (d : ℕ) (s : State) (o : s.flags.oniguruma_mode ≡ false) where
       stays = λ x. absurd (omega (arith, x, b));
       mode = m;
     }
-
 
     flags_tell : (f : Flags) → f.oniguruma_mode ≡ false → (q : Reading Letters) → Gives (HasMode f.oniguruma_mode) q →
         AheadTells d s (flags_ahead q)

@@ -11,7 +11,7 @@ use Rattle.fancy_grammar.specs.Pattern.{Here, under, past_groups, deeper, takes_
 use Rattle.fancy_grammar.specs.Pattern.{is_last_operand, room, behind}
 use Rattle.fancy_grammar.specs.PatternDepth.{MayOpen, MayOpenIf, MaySet, FitsInParens, FitsInParensIf, is_in_parens}
 use Rattle.fancy_grammar.specs.PatternDepth.{FitsAsCondition, Fits, FitAll}
-use Rattle.fancy_grammar.specs.PatternNeeds.{settled, turns_on}
+use Rattle.fancy_grammar.specs.PatternNeeds.{settled}
 use Rattle.fancy_grammar.specs.PatternQuantifier.{is_possessive}
 use Rattle.fancy_grammar.specs.Quantified.{is_repeatable}
 use Rattle.fancy_grammar.specs.Tree.{Tree, leaf, over, row, Trees, no_trees, more_trees}
@@ -182,11 +182,11 @@ or-false false = refl
 unquantified : (t : Tree) (p : Precedence) → IsLow p → (i : Here) → i.flags.oniguruma_mode ≡ false →
     Fits t (Operand zero) i → (b : Bool) → b ≡ is_last_operand p →
     FitsInParensIf b (λ q j. Fits t (Operand (room q j)) j) p i
-unquantified t Whole u i o x b e = 
+unquantified t Whole u i o x b e =
     subst (λ c. FitsInParensIf c (λ q j. Fits t (Operand (room q j)) j) Whole i) (sym e) (in_no_room t i o x)
-unquantified t Branch u i o x b e = 
+unquantified t Branch u i o x b e =
     subst (λ c. FitsInParensIf c (λ q j. Fits t (Operand (room q j)) j) Branch i) (sym e) (in_no_room t i o x)
-unquantified t Piece u i o x b e = 
+unquantified t Piece u i o x b e =
     subst (λ c. FitsInParensIf c (λ q j. Fits t (Operand (room q j)) j) Piece i) (sym e) (in_no_room t i o x)
 unquantified t (Operand k) u i o x b e = absurd u
 
@@ -279,7 +279,7 @@ module _ (d : ℕ) (b : d + 1 < max_depth) (f : Flags) where
       (inner_ready x s h o l) in
       (λ _. omega (arith, l, b), (omega (arith, l, b), (y.0, y.1.0)))
 
-  as_condition : (c : Tree) (F : Type 0) → F → FitsAsCondition c F
+  pub as_condition : (c : Tree) (F : Type 0) → F → FitsAsCondition c F
   as_condition (leaf (label.backref_exists n level)) F k = tt
   as_condition (leaf (label.verb v)) F k = tt
   as_condition _ F k = k

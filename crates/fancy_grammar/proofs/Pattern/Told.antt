@@ -1,11 +1,11 @@
 -- What is read without parentheses suits the flags that hold there; and letters of flags leave the mode as it is.
-use Rattle.std.proofs.Common.{◌≡◌, ℕ, zero, suc, ◌+◌, ◌<◌, Bool, true, false, not, ◌&&◌, ◌||◌, ◌==◌, List, [], ◌∷◌, codes}
-use Rattle.std.proofs.Common.{Option, Some, None, IfSome, refl, sym, ap, ◌∙◌, subst, arith, nat_le, if◌then◌else◌}
+use Rattle.std.proofs.Common.{◌≡◌, ℕ, zero, suc, ◌+◌, Bool, true, false, not, ◌&&◌, ◌||◌, ◌==◌, [], ◌∷◌, codes}
+use Rattle.std.proofs.Common.{Option, Some, None, IfSome, refl, sym, ap, ◌∙◌, subst, arith, nat_le}
 use Rattle.std.proofs.Common.{◌⊎◌, inl, inr}
 use Rattle.std.specs.Prelude.{option_map, nat_eq}
 use Rattle.std.specs.Option.{option_and_then}
 use Rattle.std.specs.Str.{bytes_eq}
-use Rattle.std.specs.List.{starts_with, list_all, AllByRecursion}
+use Rattle.std.specs.List.{starts_with, list_all}
 use Rattle.std.specs.Char.{is_ascii_digit}
 use Rattle.std.proofs.lemmas.Bool.{cond_both, cond-true, cond-false, false≢true}
 use Rattle.std.proofs.lemmas.Bool.Decides.{nat_tests}
@@ -29,9 +29,9 @@ use Rattle.fancy_lex.specs.LayoutSteps.{layout}
 use Rattle.fancy_lex.specs.Number.{at_digit}
 use Rattle.fancy_lex.specs.NumberText.{number_text}
 use Rattle.fancy_lex.specs.Property.{read_property, property_text}
-use Rattle.fancy_lex.specs.Reading.{Reading, gives, fails, ◌>=>◌, layout_reading, choose, read_or}
+use Rattle.fancy_lex.specs.Reading.{Reading, gives, fails, ◌>=>◌, layout_reading, choose}
 use Rattle.fancy_lex.specs.Referred.{Reference, Call, call_to, target_of_name, number_or_name, name_reading}
-use Rattle.fancy_lex.specs.Target.{Target, by_number, by_name, relative}
+use Rattle.fancy_lex.specs.Target.{Target, by_name}
 use Rattle.fancy_lex.specs.Text.{Text, cut_at, strip, reach_of, bytes}
 use Rattle.fancy_lex.specs.declared.escape.Assertion.{Assertion}
 use Rattle.fancy_lex.specs.declared.escape.Assertion.TheVariants.{LeftWordBoundary, RightWordBoundary}
@@ -44,11 +44,9 @@ use Rattle.std.proofs.Math.Bool.{beq}
 use Rattle.fancy_grammar.specs.Ahead.{leaf_node, start_anchor, end_anchor}
 use Rattle.fancy_grammar.specs.Label.{AstReference, ast_call}
 use Rattle.fancy_grammar.specs.Label as label
-use Rattle.fancy_grammar.specs.PatternNeeds.{leaf_needs, no_needs, needs_case, is_hex_class, is_kept_by_backslash}
-use Rattle.fancy_grammar.specs.PatternNeeds.{needs_dot, assertion_needs}
-use Rattle.fancy_grammar.specs.PatternReference.{unresolved_text, unresolved_call_by_name}
-use Rattle.fancy_grammar.specs.Tree.{Tree, leaf}
-use Rattle.fancy_grammar.specs.declared.needs.Needs.{Needs}
+use Rattle.fancy_grammar.specs.PatternNeeds.{is_hex_class, is_kept_by_backslash}
+use Rattle.fancy_grammar.specs.PatternReference.{unresolved_text}
+use Rattle.fancy_grammar.specs.Tree.{leaf}
 use Rattle.fancy_grammar.proofs.Pattern.Suited.{AreMet, none_met, Suits}
 
 -- what is read is so
@@ -371,7 +369,7 @@ module _ (f : Flags) (o : f.oniguruma_mode ≡ false) where
       λ _. none_met f,
       (
         λ _. none_met f,
-        (λ _. none_met f, (λ _. none_met f, (λ _. none_met f, (λ _. none_met f, (λ _. none_met f, (λ _. none_met f, (λ _. none_met f, tt)))))))
+        (λ _. none_met f, (λ _. none_met f, (λ _. none_met f, (λ _. none_met f, (λ _. none_met f, (λ _. none_met f, (λ _. none_met f, tt))))))),
       ),
     ),
   )
@@ -387,8 +385,19 @@ module _ (f : Flags) (o : f.oniguruma_mode ≡ false) where
             λ _. record { casei = tt; multi = tt; dotnl = tt; crlf = refl },
             (
               λ _. none_met f,
-              (λ _. none_met f, (λ _. none_met f, (λ _. none_met f, (λ _. none_met f,
-                (λ _. last LeftWordBoundary (none_met f), (λ _. last RightWordBoundary (none_met f), tt)))))),
+              (
+                λ _. none_met f,
+                (
+                  λ _. none_met f,
+                  (
+                    λ _. none_met f,
+                    (
+                      λ _. none_met f,
+                      (λ _. last LeftWordBoundary (none_met f), (λ _. last RightWordBoundary (none_met f), tt)),
+                    ),
+                  ),
+                ),
+              ),
             ),
           ),
         ),
