@@ -32,6 +32,11 @@ pub mod ConditionTexts
 pub mod Levels
 pub mod Suited
 pub mod Fitting
+pub mod Told
+pub mod Ahead
+pub mod Nested
+pub mod NestedGroups
+pub mod ReadFits
 -- ---- the theorem
 pub mod Marked
 pub mod Theorem
