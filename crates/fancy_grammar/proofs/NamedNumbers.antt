@@ -70,7 +70,7 @@ module _ (P : Text → Type 0) where
     by_order Equal more = (a, hs)
     by_order Greater more = (a, more)
 
-  fold_all : (us ws : List Text) → AllByRecursion P us → AllByRecursion P ws →
+  pub fold_all : (us ws : List Text) → AllByRecursion P us → AllByRecursion P ws →
       AllByRecursion P (fold (insert_key name_cmp) us ws)
   fold_all us [] h hs = h
   fold_all us (w ∷ ws) h (a, hs) = fold_all (insert_key name_cmp us w) ws (insert_all w us a h) hs

@@ -1,0 +1,6 @@
+-- What is true of each tree that is parsed, by the clauses of `IsWritable`; in reading order, the join stands last.
+
+-- ---- the marks
+pub mod Lists
+pub mod Told
+pub mod Marks
