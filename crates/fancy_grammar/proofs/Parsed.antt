@@ -4,3 +4,5 @@
 pub mod Lists
 pub mod Told
 pub mod Marks
+-- ---- what is read without trees
+pub mod Readers

@@ -1,0 +1,356 @@
+-- What the readers of parts without trees give: flags of the same mode, counts that a word holds, names that can be
+-- written, and escapes.
+use Rattle.std.proofs.Common.{◌≡◌, ℕ, zero, suc, ◌+◌, ◌<◌, ◌^◌, Bool, true, false, not, ◌&&◌, ◌==◌, if◌then◌else◌, [], ◌∷◌}
+use Rattle.std.proofs.Common.{Option, Some, None, IfSome, option_map, unwrap_or, nat_lt, nat_le, refl, ◌∙◌, subst, arith}
+use Rattle.std.proofs.Common.{rules}
+use Rattle.std.specs.Prelude.{option_and_then, codes}
+use Rattle.std.specs.Char.{is_ascii_digit}
+use Rattle.std.specs.Str.{bytes_eq}
+use Rattle.std.proofs.lemmas.Bool.{cond_both}
+use Rattle.std.proofs.lemmas.Bool.Decides.{nat_tests}
+use Rattle.std.proofs.Math.Bool.{beq}
+use Prim.Native.Char.{code}
+use Rattle.fancy_lex.proofs.LoneLemmas.{AtRows, of_lone}
+use Rattle.fancy_lex.proofs.ReadingLemmas.{choose_both}
+use Rattle.fancy_lex.specs.Boundary as boundaries
+use Rattle.fancy_lex.specs.BoundarySteps as boundary_steps
+use Rattle.fancy_lex.specs.Characters.{open_brace, ◌∈◌}
+use Rattle.fancy_lex.specs.Escape.{escape, escape_at, number_escape, call_escape, property, outside}
+use Rattle.fancy_lex.specs.Escape.{lone_escape, lone_outside}
+use Rattle.fancy_lex.specs.EscapeReference.{numbered_reference, back_reference, subroutine_call as called}
+use Rattle.fancy_lex.specs.Escaped.{Escape, literal, literal_bytes, assertion, general_newline}
+use Rattle.fancy_lex.specs.Escaped.{backref, subroutine_call}
+use Rattle.fancy_lex.specs.Hex as hexes
+use Rattle.fancy_lex.specs.LayoutSteps.{layout, past_layout}
+use Rattle.fancy_lex.specs.Number.{number}
+use Rattle.fancy_lex.specs.Property.{read_property}
+use Rattle.fancy_lex.specs.Reading.{Reading, gives, fails, ◌>=>◌, layout_reading}
+use Rattle.fancy_lex.specs.Text.{Text, strip, reach_of, bytes}
+use Rattle.fancy_lex.specs.declared.escape.Assertion.{Assertion}
+use Rattle.fancy_lex.specs.declared.escape.Assertion.TheVariants.{StartLineOniguruma, LeftWordBoundary}
+use Rattle.fancy_lex.specs.declared.escape.Assertion.TheVariants.{RightWordBoundary}
+use Rattle.fancy_lex.specs.declared.flags.Flags.{Flags}
+use Rattle.fancy_parts.specs.FlagLetters.{Letters, setting, scope, LetterStep, flags_end, flags_go_on, with_letter}
+use Rattle.fancy_parts.specs.LetterSteps.{step, unknown_letter, flag_or_fault, behind_step, letters_in, letters}
+use Rattle.fancy_parts.specs.Quantifier.{counts, braced_counts, counts_from, in_braces, spaced_count, count}
+use Rattle.fancy_parts.specs.Quantifier.{count_of, exact_or_range, most}
+use Rattle.fancy_parts.specs.declared.counts.Counts.{Counts}
+
+-- what a reading gives is so
+abbrev pub IfGives : {A : Type 0} → (A → Type 0) → Reading A → Type 0
+IfGives P (gives a u) = P a
+IfGives P (fails e) = Unit {0}
+
+pub gives_both : {A B : Type 0} (P : A → Type 0) (Q : B → Type 0) (o : Reading A) (f : A → Text → Reading B) →
+    IfGives P o → ((a : A) (u : Text) → P a → IfGives Q (f a u)) → IfGives Q (o >=> f)
+gives_both P Q (gives a u) f h g = g a u h
+gives_both P Q (fails e) f h g = tt
+
+-- whatever was read before
+gives_after : {A B : Type 0} (Q : B → Type 0) (o : Reading A) (f : A → Text → Reading B) →
+    ((a : A) (u : Text) → IfGives Q (f a u)) → IfGives Q (o >=> f)
+gives_after Q (gives a u) f g = g a u
+gives_after Q (fails e) f g = tt
+
+-- ---- flags
+
+-- the flags without those that have a letter
+abbrev pub unlettered : Flags → Flags
+unlettered f = record f {
+  casei = false;
+  multi = false;
+  dotnl = false;
+  crlf = false;
+  swap_greed = false;
+  ignore_space = false;
+}
+
+-- the flags differ in no more than those, as a pattern may set them
+abbrev pub IsSameMode : Flags → Flags → Type 0
+IsSameMode f g = unlettered g ≡ unlettered f
+
+abbrev IsModeOf : Flags → Letters → Type 0
+IsModeOf f (setting g) = IsSameMode f g
+IsModeOf f (scope g) = IsSameMode f g
+
+abbrev IsStepOf : Flags → LetterStep → Type 0
+IsStepOf f (flags_end l) = IsModeOf f l
+IsStepOf f (flags_go_on clears g) = IsSameMode f g
+
+letter_mode : (f : Flags) (on : Bool) (c : ℕ) → IfSome (with_letter f on c) (λ g. IsSameMode f g)
+letter_mode f on c =
+    let P = λ (o : Option Flags). IfSome o (λ g. IsSameMode f g) in
+    cond_both (c == code "i") _ _ P (λ _. refl) (λ _.
+    cond_both (c == code "m") _ _ P (λ _. refl) (λ _.
+    cond_both (c == code "R") _ _ P (λ _. refl) (λ _.
+    cond_both (c == code "s") _ _ P (λ _. refl) (λ _.
+    cond_both (c == code "U") _ _ P (λ _. refl) (λ _.
+    cond_both (c == code "x") _ _ P (λ _. refl) (λ _. tt))))))
+
+module _ (t : Text) where
+  step_mode : (f g : Flags) → IsSameMode f g → (clears : Bool) (u : Text) → IfGives (IsStepOf f) (step t clears g u)
+  step_mode f g h clears [] = tt
+  step_mode f g h clears (c ∷ u) =
+      let P = IfGives (IsStepOf f) in
+      cond_both (c == code ")") _ _ P
+      (λ _. cond_both _ (unknown_letter t u) (gives (flags_end (setting g)) u) P (λ _. tt) (λ _. h)) (λ _.
+      cond_both (c == code ":") _ _ P
+      (λ _. cond_both _ (unknown_letter t u) (gives (flags_end (scope g)) u) P (λ _. tt) (λ _. h)) (λ _.
+      cond_both (c == code "-") _ _ P
+      (λ _. cond_both clears (unknown_letter t u) (gives (flags_go_on true g) u) P (λ _. tt) (λ _. h)) (λ _.
+      cond_both (c == code "u") _ _ P (λ _. cond_both (beq clears g.unicode) _ _ P (λ _. tt) (λ _. h))
+      (λ _. by_letter (with_letter g (not clears) c) (letter_mode g (not clears) c)))))
+    where
+      by_letter : (o : Option Flags) → IfSome o (λ k. IsSameMode g k) →
+          IfGives (IsStepOf f) (flag_or_fault t clears u o)
+      by_letter None k = tt
+      by_letter (Some j) k = k ∙ h
+
+  letters_in_mode : (k : ℕ) (f g : Flags) → IsSameMode f g → (clears : Bool) (u : Text) →
+      IfGives (IsModeOf f) (letters_in t k clears g u)
+  unfolding letters_in
+  letters_in_mode zero f g h clears u = tt
+  letters_in_mode (suc k) f g h clears u =
+      gives_after (IsModeOf f) (layout_reading (layout g.ignore_space u)) _ (λ _ v.
+      gives_both (IsStepOf f) (IsModeOf f) (step t clears g v) _ (step_mode f g h clears v)
+      (λ s w i. behind s w i (λ b j x e. letters_in_mode k f j e b x)))
+    where
+      behind : (s : LetterStep) (w : Text) → IsStepOf f s →
+          ((b : Bool) (j : Flags) (x : Text) → IsSameMode f j → IfGives (IsModeOf f) (letters_in t k b j x)) →
+          IfGives (IsModeOf f) (behind_step (letters_in t k) s w)
+      behind (flags_end l) w i more = i
+      behind (flags_go_on b j) w i more = more b j w i
+
+-- the letters of a flag group leave the mode as it is
+pub letters_mode : (f : Flags) (t : Text) → IfGives (IsModeOf f) (letters f t)
+unfolding letters
+letters_mode f t = letters_in_mode t (suc (bytes t)) f f refl false t
+
+-- ---- counts
+
+-- a word holds both
+abbrev pub AreWords : Counts → Type 0
+AreWords c = (c.low < 2 ^ 64) × (c.high < 2 ^ 64)
+
+abbrev IsWordOrNone : Option ℕ → Type 0
+IsWordOrNone n = IfSome n (λ k. k < 2 ^ 64)
+
+abbrev IfWords : Option (Counts × Text) → Type 0
+IfWords o = IfSome o (λ p. AreWords p.0)
+
+abbrev IfWord : Option (Option ℕ × Text) → Type 0
+IfWord o = IfSome o (λ p. IsWordOrNone p.0)
+
+count_word : (t : Text) → IfWord (count t)
+unfolding count
+count_word t = by_number (number t)
+  where
+    by_number : (o : Option (ℕ × Text)) → IfWord (count_of t o)
+    by_number None = tt
+    by_number (Some (n, u)) =
+        cond_both (nat_lt n (2 ^ 64)) _ _ IfWord (λ e. grind (arith, nat_tests, e)) (λ _. tt)
+
+spaced_word : (x : Bool) (t : Text) → IfWord (spaced_count x t)
+unfolding spaced_count
+spaced_word x t = by_first (past_layout x t)
+  where
+    by_last : (n : Option ℕ) → IsWordOrNone n → (o : Option Text) → IfWord (option_map (λ v. (n, v)) o)
+    by_last n h None = tt
+    by_last n h (Some v) = h
+
+    by_count : (o : Option (Option ℕ × Text)) → IfWord o →
+        IfWord (option_and_then (λ p. option_map (λ v. (p.0, v)) (past_layout x p.1)) o)
+    by_count None h = tt
+    by_count (Some (n, v)) h = by_last n h (past_layout x v)
+
+    by_first : (o : Option Text) →
+        IfWord (option_and_then (λ u. option_and_then (λ p. option_map (λ v. (p.0, v)) (past_layout x p.1)) (count u)) o)
+    by_first None = tt
+    by_first (Some u) = by_count (count u) (count_word u)
+
+word_or : (n : Option ℕ) (k : ℕ) → IsWordOrNone n → k < 2 ^ 64 → unwrap_or n k < 2 ^ 64
+word_or None k h e = e
+word_or (Some n) k h e = h
+
+from_words : (x : Bool) (low : ℕ) (t : Text) → low < 2 ^ 64 → IfWords (counts_from x low t)
+unfolding counts_from
+from_words x low t l = by_count (spaced_count x t) (spaced_word x t)
+  where
+    closed : (n : Option ℕ) → IsWordOrNone n → (o : Option Text) →
+        IfWords (option_map (λ v. (in_braces low (unwrap_or n most), v)) o)
+    closed n h None = tt
+    closed n h (Some v) = (l, word_or n most h (omega arith))
+
+    by_count : (o : Option (Option ℕ × Text)) → IfWord o →
+        IfWords (option_and_then
+        (λ p. option_map (λ v. (in_braces low (unwrap_or p.0 most), v)) (strip (code "}") p.1)) o)
+    by_count None h = tt
+    by_count (Some p) h = closed p.0 h (strip (code "}") p.1)
+
+braced_words : (x : Bool) (t : Text) → IfWords (braced_counts x t)
+unfolding braced_counts
+braced_words x t = by_count (spaced_count x t) (spaced_word x t)
+  where
+    exact : (low : Option ℕ) (v : Text) → IsWordOrNone low → IfWords (option_map (λ n. (in_braces n n, v)) low)
+    exact None v h = tt
+    exact (Some n) v h = (h, h)
+
+    range : (low : ℕ) → low < 2 ^ 64 → (o : Option Text) → IfWords (option_and_then (counts_from x low) o)
+    range low l None = tt
+    range low l (Some v) = from_words x low v l
+
+    closed : (low : Option ℕ) (u : Text) → IsWordOrNone low → (o : Option Text) → IfWords (exact_or_range x low u o)
+    closed low u h (Some v) = exact low v h
+    closed low u h None = range (unwrap_or low 0) (word_or low 0 h (omega arith)) (strip (code ",") u)
+
+    by_count : (o : Option (Option ℕ × Text)) → IfWord o →
+        IfWords (option_and_then (λ p. exact_or_range x p.0 p.1 (strip (code "}") p.1)) o)
+    by_count None h = tt
+    by_count (Some p) h = closed p.0 p.1 h (strip (code "}") p.1)
+
+-- a word holds each count of a quantifier
+pub counts_words : (x : Bool) (t : Text) → IfWords (counts x t)
+unfolding counts
+counts_words x [] = tt
+counts_words x (c ∷ t) =
+    cond_both (c == code "?") _ _ IfWords (λ _. (omega arith, omega arith)) (λ _.
+    cond_both (c == code "*") _ _ IfWords (λ _. (omega arith, omega arith)) (λ _.
+    cond_both (c == code "+") _ _ IfWords (λ _. (omega arith, omega arith)) (λ _.
+    cond_both (c == code "{") _ _ IfWords (λ _. braced_words x t) (λ _. tt))))
+
+-- ---- escapes
+
+-- the assertion is the start of a line in Oniguruma mode
+abbrev pub is_line_of_oniguruma : Assertion → Bool
+is_line_of_oniguruma (StartLineOniguruma crlf) = true
+is_line_of_oniguruma _ = false
+
+-- what an escape says of the flags: a byte is read without Unicode, a general new line tells it, and no assertion is
+-- the start of a line in Oniguruma mode
+abbrev pub IsOfMode : Flags → Escape → Type 0
+IsOfMode f (literal_bytes b) = f.unicode ≡ false
+IsOfMode f (general_newline unicode) = f.unicode ≡ unicode
+IsOfMode f (assertion a) = is_line_of_oniguruma a ≡ false
+IsOfMode f _ = Unit {0}
+
+module _ (f : Flags) where
+  abbrev Sound : Reading Escape → Type 0
+  Sound = IfGives (IsOfMode f)
+
+  after : {A : Type 0} (o : Reading A) (g : A → Text → Reading Escape) → ((a : A) (u : Text) → Sound (g a u)) →
+      Sound (o >=> g)
+  after = gives_after (IsOfMode f)
+
+  coded_mode : (width h v : ℕ) (u : Text) → Sound (hexes.leaf_of_value f width h v u)
+  unfolding hexes.leaf_of_value
+  coded_mode width h v u =
+      cond_both (width == 2 && not f.unicode && nat_le 0x80 v && nat_le v 0xFF) _ _ Sound
+      (λ e. byte (width == 2) f.unicode e) (λ _. cond_both (hexes.is_scalar v) _ _ Sound (λ _. tt) (λ _. tt))
+    where
+      byte : (a b : Bool) → (a && not b && nat_le 0x80 v && nat_le v 0xFF) ≡ true → b ≡ false
+      byte true false e = refl
+      byte true true e = absurd cc
+      byte false b e = absurd cc
+
+  hex_mode : (width : ℕ) (t : Text) → Sound (hexes.hex f width t)
+  unfolding hexes.hex
+  hex_mode width t =
+      after (layout_reading (layout f.ignore_space t)) _ (λ _ u.
+      after (hexes.value f.ignore_space (reach_of u) width u) _ (λ v w. coded_mode width (reach_of u) v w))
+
+  boundary_mode : (p : ℕ) (negated : Bool) (t : Text) → Sound (boundary_steps.boundary f.ignore_space p negated t)
+  unfolding boundary_steps.boundary boundary_steps.named_boundary
+  boundary_mode p negated t =
+      after (layout_reading (layout f.ignore_space t)) _ (λ _ u.
+      choose_both Sound (strip open_brace u) _ _ (λ v _.
+      after (layout_reading (layout f.ignore_space v)) _ (λ _ w.
+      cond_both (boundaries.at_count w) _ _ Sound (λ _. unnamed negated) (λ _. braces v))) (unnamed negated))
+    where
+      unnamed : (b : Bool) → IsOfMode f (boundaries.unnamed_boundary b)
+      unnamed true = refl
+      unnamed false = refl
+
+      names : (w : Text) → IfSome (boundaries.boundary_of_name negated w) (λ a. is_line_of_oniguruma a ≡ false)
+      names w =
+          let P = λ (o : Option Assertion). IfSome o (λ a. is_line_of_oniguruma a ≡ false) in
+          cond_both negated _ _ P (λ _. tt) (λ _.
+          cond_both (bytes_eq w (codes "start")) _ _ P (λ _. refl) (λ _.
+          cond_both (bytes_eq w (codes "end")) _ _ P (λ _. refl) (λ _.
+          cond_both (bytes_eq w (codes "start-half")) _ _ P (λ _. refl) (λ _.
+          cond_both (bytes_eq w (codes "end-half")) _ _ P (λ _. refl) (λ _. tt)))))
+
+      named : (w u : Text) (o : Option Assertion) → IfSome o (λ a. is_line_of_oniguruma a ≡ false) → (a : Assertion) →
+          o ≡ Some a → is_line_of_oniguruma a ≡ false
+      named w u o h a e = subst (λ q. IfSome q (λ a. is_line_of_oniguruma a ≡ false)) e h
+
+      braces : (v : Text) → Sound (boundary_steps.named_boundary f.ignore_space p negated v)
+      braces v =
+          after (boundary_steps.name f.ignore_space p _ v) _ (λ w u.
+          choose_both Sound (boundaries.boundary_of_name negated w) _ _
+          (λ a e. named w u (boundaries.boundary_of_name negated w) (names w) a e) tt)
+
+  call_mode : (p c : ℕ) (t : Text) → Sound (call_escape p c t)
+  unfolding call_escape
+  call_mode p c [] = tt
+  call_mode p c (d ∷ t) = after (called (d ∷ t)) (λ r u. gives (subroutine_call r) u) (λ r u. tt)
+
+  number_mode : (p : ℕ) (t : Text) → Sound (number_escape f false p t)
+  unfolding number_escape
+  number_mode p t = after (numbered_reference t) (λ r u. gives (backref r f.casei) u) (λ r u. tt)
+
+  property_mode : (p c : ℕ) (t : Text) → Sound (property f false p c t)
+  unfolding property
+  property_mode p c [] = tt
+  property_mode p c (d ∷ t) = choose_both Sound (read_property (c ∈ "P") (d ∷ t)) _ _ (λ q _. tt) tt
+
+  outside_mode : (p c : ℕ) (t : Text) → Sound (outside f p c t)
+  unfolding outside
+  outside_mode p c t =
+      cond_both (c ∈ "k") _ _ Sound
+      (λ _. after (back_reference t) (λ r u. gives (backref r f.casei) u) (λ r u. tt)) (λ _.
+      cond_both (c ∈ "g") _ _ Sound (λ _. call_mode p c t) (λ _.
+      cond_both (c ∈ "bB") _ _ Sound (λ _. boundary_mode p _ t) (λ _. tt)))
+
+  lone_mode : (c : ℕ) (t : Text) (e : Escape) → lone_escape f false c ≡ Some e → IsOfMode f e
+  lone_mode c t =
+      of_lone (IsOfMode f) f false c (λ _. tt) (search rules) outside_rows
+    where
+      pointed : (b : Bool) (x : ℕ) (a : Assertion) → is_line_of_oniguruma a ≡ false →
+          IsOfMode f (if b then literal x false else assertion a)
+      pointed true x a e = tt
+      pointed false x a e = e
+
+      outside_rows : AtRows (IsOfMode f) c (lone_outside f c)
+      outside_rows =
+          let here = pointed f.oniguruma_mode c in (
+            λ _. refl,
+            (
+              λ _. refl,
+              (
+                λ _. refl,
+                (
+                  λ _. tt,
+                  (
+                    λ _. tt,
+                    (
+                      λ _. refl,
+                      (λ _. tt, (λ _. tt, (λ _. here LeftWordBoundary refl, (λ _. here RightWordBoundary refl, tt)))),
+                    ),
+                  ),
+                ),
+              ),
+            ),
+          )
+
+  -- all that an escape stands for
+  pub escape_mode : (t : Text) → Sound (escape f false t)
+  unfolding escape_at
+  escape_mode [] = tt
+  escape_mode (c ∷ t) =
+      let p = reach_of (c ∷ t) + 1 in
+      cond_both (is_ascii_digit c) _ _ Sound (λ _. number_mode p (c ∷ t)) (λ _.
+      cond_both (c ∈ "x") _ _ Sound (λ _. hex_mode 2 t) (λ _.
+      cond_both (c ∈ "u") _ _ Sound (λ _. hex_mode 4 t) (λ _.
+      cond_both (c ∈ "U") _ _ Sound (λ _. hex_mode 8 t) (λ _.
+      cond_both (c ∈ "pP") _ _ Sound (λ _. property_mode p c t) (λ _.
+      choose_both Sound (lone_escape f false c) _ _ (λ e i. lone_mode c t e i) (outside_mode p c t))))))
