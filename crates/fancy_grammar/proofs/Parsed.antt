@@ -6,3 +6,6 @@ pub mod Told
 pub mod Marks
 -- ---- what is read without trees
 pub mod Readers
+-- ---- the raw tree
+pub mod Nodes
+pub mod Derived

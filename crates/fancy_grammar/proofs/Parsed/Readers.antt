@@ -14,7 +14,10 @@ use Rattle.fancy_lex.proofs.LoneLemmas.{AtRows, of_lone}
 use Rattle.fancy_lex.proofs.ReadingLemmas.{choose_both}
 use Rattle.fancy_lex.specs.Boundary as boundaries
 use Rattle.fancy_lex.specs.BoundarySteps as boundary_steps
-use Rattle.fancy_lex.specs.Characters.{open_brace, ◌∈◌}
+use Rattle.fancy_lex.specs.Characters.{open_brace, is_among, ◌∈◌}
+use Rattle.fancy_lex.specs.Delimited.{name_before}
+use Rattle.fancy_lex.specs.FaultTable.{group_not_named}
+use Rattle.fancy_lex.specs.Id.{nonempty_front}
 use Rattle.fancy_lex.specs.Escape.{escape, escape_at, number_escape, call_escape, property, outside}
 use Rattle.fancy_lex.specs.Escape.{lone_escape, lone_outside}
 use Rattle.fancy_lex.specs.EscapeReference.{numbered_reference, back_reference, subroutine_call as called}
@@ -24,17 +27,19 @@ use Rattle.fancy_lex.specs.Hex as hexes
 use Rattle.fancy_lex.specs.LayoutSteps.{layout, past_layout}
 use Rattle.fancy_lex.specs.Number.{number}
 use Rattle.fancy_lex.specs.Property.{read_property}
-use Rattle.fancy_lex.specs.Reading.{Reading, gives, fails, ◌>=>◌, layout_reading}
-use Rattle.fancy_lex.specs.Text.{Text, strip, reach_of, bytes}
+use Rattle.fancy_lex.specs.Reading.{Reading, gives, fails, ◌>=>◌, layout_reading, read_or}
+use Rattle.fancy_lex.specs.Text.{Text, strip, reach_of, bytes, cut_at}
 use Rattle.fancy_lex.specs.declared.escape.Assertion.{Assertion}
 use Rattle.fancy_lex.specs.declared.escape.Assertion.TheVariants.{StartLineOniguruma, LeftWordBoundary}
 use Rattle.fancy_lex.specs.declared.escape.Assertion.TheVariants.{RightWordBoundary}
 use Rattle.fancy_lex.specs.declared.flags.Flags.{Flags}
 use Rattle.fancy_parts.specs.FlagLetters.{Letters, setting, scope, LetterStep, flags_end, flags_go_on, with_letter}
+use Rattle.fancy_parts.specs.GroupName.{group_name}
 use Rattle.fancy_parts.specs.LetterSteps.{step, unknown_letter, flag_or_fault, behind_step, letters_in, letters}
 use Rattle.fancy_parts.specs.Quantifier.{counts, braced_counts, counts_from, in_braces, spaced_count, count}
 use Rattle.fancy_parts.specs.Quantifier.{count_of, exact_or_range, most}
 use Rattle.fancy_parts.specs.declared.counts.Counts.{Counts}
+use Rattle.fancy_grammar.specs.Writable.{IsNameWritable}
 
 -- what a reading gives is so
 abbrev pub IfGives : {A : Type 0} → (A → Type 0) → Reading A → Type 0
@@ -69,7 +74,8 @@ unlettered f = record f {
 abbrev pub IsSameMode : Flags → Flags → Type 0
 IsSameMode f g = unlettered g ≡ unlettered f
 
-abbrev IsModeOf : Flags → Letters → Type 0
+-- so do those that letters set
+abbrev pub IsModeOf : Flags → Letters → Type 0
 IsModeOf f (setting g) = IsSameMode f g
 IsModeOf f (scope g) = IsSameMode f g
 
@@ -135,7 +141,7 @@ AreWords c = (c.low < 2 ^ 64) × (c.high < 2 ^ 64)
 abbrev IsWordOrNone : Option ℕ → Type 0
 IsWordOrNone n = IfSome n (λ k. k < 2 ^ 64)
 
-abbrev IfWords : Option (Counts × Text) → Type 0
+abbrev pub IfWords : Option (Counts × Text) → Type 0
 IfWords o = IfSome o (λ p. AreWords p.0)
 
 abbrev IfWord : Option (Option ℕ × Text) → Type 0
@@ -354,3 +360,52 @@ module _ (f : Flags) where
       cond_both (c ∈ "U") _ _ Sound (λ _. hex_mode 8 t) (λ _.
       cond_both (c ∈ "pP") _ _ Sound (λ _. property_mode p c t) (λ _.
       choose_both Sound (lone_escape f false c) _ _ (λ e i. lone_mode c t e i) (outside_mode p c t))))))
+
+-- ---- names
+
+-- the text is not empty, and has none of the mark
+abbrev pub IsFreeOf : ℕ → Text → Type 0
+IsFreeOf mark [] = ⊥
+IsFreeOf mark (c ∷ w) = is_among mark (c ∷ w) ≡ false
+
+-- what is cut off the front has none of it
+abbrev IfFree : ℕ → Option (Text × Text) → Type 0
+IfFree mark o = IfSome o (λ p. is_among mark p.0 ≡ false)
+
+none_before : (mark : ℕ) (t : Text) → IfFree mark (cut_at mark t)
+none_before mark [] = tt
+none_before mark (c ∷ t) = by_test (c == mark) refl (cut_at mark t) (none_before mark t)
+  where
+    other : (c == mark) ≡ false → (mark == c) ≡ false
+    other e = grind (arith, nat_tests)
+
+    by_test : (b : Bool) → (c == mark) ≡ b → (o : Option (Text × Text)) → IfFree mark o →
+        IfFree mark (if b then Some ([], t) else option_map (λ p. (c ∷ p.0, p.1)) o)
+    by_test true e o h = refl
+    by_test false e None h = tt
+    by_test false e (Some ([], u)) h = other e
+    by_test false e (Some (d ∷ w, u)) h = rw (other e) h
+
+-- so is the name of a group
+pub name_free : (mark : ℕ) (t u : Text) → IfGives (IsFreeOf mark) (group_name mark t u)
+unfolding group_name name_before
+name_free mark t u = by_cut (cut_at mark u) (none_before mark u)
+  where
+    by_cut : (o : Option (Text × Text)) → IfFree mark o →
+        IfGives (IsFreeOf mark) (read_or (group_not_named t) (option_and_then nonempty_front o))
+    by_cut None h = tt
+    by_cut (Some ([], v)) h = tt
+    by_cut (Some (c ∷ w, v)) h = h
+
+-- such a name can be written
+pub angled_writable : (w : Text) → IsFreeOf (code ">") w → IsNameWritable w
+angled_writable [] h = absurd h
+angled_writable (c ∷ w) h = rw h refl
+
+pub quoted_writable : (w : Text) → IsFreeOf (code "'") w → IsNameWritable w
+quoted_writable [] h = absurd h
+quoted_writable (c ∷ w) h = by_test (is_among (code ">") (c ∷ w)) _ h
+  where
+    by_test : (a b : Bool) → b ≡ false → (a && b) ≡ false
+    by_test true b e = e
+    by_test false b e = refl
