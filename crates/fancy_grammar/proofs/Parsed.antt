@@ -9,3 +9,7 @@ pub mod Readers
 -- ---- the raw tree
 pub mod Nodes
 pub mod Derived
+-- ---- the parsed tree
+pub mod Resolved
+-- ---- the join
+pub mod Join
