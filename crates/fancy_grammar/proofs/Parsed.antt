@@ -6,6 +6,7 @@ pub mod Told
 pub mod Marks
 -- ---- what is read without trees
 pub mod Readers
+pub mod Targets
 -- ---- the raw tree
 pub mod Nodes
 pub mod Derived

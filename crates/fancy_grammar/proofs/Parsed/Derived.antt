@@ -6,6 +6,7 @@ use Rattle.std.specs.Prelude.{◌==◌, not, nat_lt, nat_le, ◌&&◌, codes}
 use Rattle.std.proofs.lemmas.Bool.{cond_both}
 use Prim.Native.Char.{code}
 use Rattle.fancy_lex.proofs.ReadingLemmas.{choose_both}
+use Rattle.fancy_lex.proofs.ReferencePlaces.{IfGives}
 use Rattle.fancy_lex.specs.Class.{class}
 use Rattle.fancy_lex.specs.Escape.{escape}
 use Rattle.fancy_lex.specs.Escaped as escaped
@@ -23,7 +24,8 @@ use Rattle.fancy_parts.specs.Quantifier.{counts}
 use Rattle.fancy_parts.specs.declared.counts.Counts.{Counts}
 use Rattle.fancy_grammar.specs.Ahead.{Ahead, nothing, read, with_head, condition, body, absent_branch, ahead, ahead_of}
 use Rattle.fancy_grammar.specs.Ahead.{start_anchor, end_anchor, leaf_node, leaf_outcome, leaf_of}
-use Rattle.fancy_grammar.specs.Ahead.{backref_node, call_node, is_before_nothing, named_ahead, target_ahead, flags_ahead}
+use Rattle.fancy_grammar.specs.Ahead.{backref_node, call_node, is_before_nothing, named_ahead, target_ahead}
+use Rattle.fancy_grammar.specs.Ahead.{flags_ahead}
 use Rattle.fancy_grammar.specs.Ahead.{condition_ahead, repeater_ahead, behind_question, group_ahead}
 use Rattle.fancy_grammar.specs.Ahead.{behind_layout}
 use Rattle.fancy_grammar.specs.Depth.{max_depth}
@@ -45,7 +47,7 @@ use Rattle.fancy_grammar.proofs.OutcomeLemmas.{Holds, then_holds}
 use Rattle.fancy_grammar.proofs.Parsed.Nodes.{IsParsed, AreParsed, IsHeadParsed, by_escape, by_class, join_parsed}
 use Rattle.fancy_grammar.proofs.Parsed.Nodes.{choice_parsed, quantified_parsed, node_parsed, conditional_parsed}
 use Rattle.fancy_grammar.proofs.Parsed.Nodes.{branches_parsed, expression_parsed, stopper_parsed}
-use Rattle.fancy_grammar.proofs.Parsed.Readers.{IfGives, IsSameMode, IsModeOf, letters_mode, IfWords}
+use Rattle.fancy_grammar.proofs.Parsed.Readers.{IsSameMode, IsModeOf, letters_mode, IfWords}
 use Rattle.fancy_grammar.proofs.Parsed.Readers.{counts_words, is_line_of_oniguruma, IsOfMode, escape_mode, IsFreeOf}
 use Rattle.fancy_grammar.proofs.Parsed.Readers.{name_free, angled_writable, quoted_writable}
 

@@ -16,7 +16,8 @@ use Rattle.fancy_grammar.specs.Pattern.{group_count, pattern_text}
 use Rattle.fancy_grammar.specs.Preorder.{preorder, preorder_all}
 use Rattle.fancy_grammar.specs.ReadAs.{IsReadAs}
 use Rattle.fancy_grammar.specs.Tree.{Tree, leaf, over, row, Trees, no_trees, more_trees, levels, list_of}
-use Rattle.fancy_grammar.specs.Writable.{IsWritable, AreNodesWritable, AreAllWritable, ArePieces, IsWritableLeaf, IsParted}
+use Rattle.fancy_grammar.specs.Writable.{IsWritable, AreNodesWritable, AreAllWritable, ArePieces, IsWritableLeaf}
+use Rattle.fancy_grammar.specs.Writable.{IsParted}
 use Rattle.fancy_grammar.specs.Writable.{marks_of, openings_told}
 use Rattle.fancy_grammar.proofs.AnsweredLaws.{answered_with}
 use Rattle.fancy_grammar.proofs.Parsed.Lists.{each_split}

@@ -1,6 +1,7 @@
 -- The marks of a parsed tree are those that the definition of writable trees makes of it.
 use Rattle.std.proofs.Common.{◌≡◌, ℕ, suc, ◌+◌, Bool, true, false, ◌||◌, if◌then◌else◌, List, [], ◌∷◌}
-use Rattle.std.proofs.Common.{length, map, filter, filter_map, Option, Some, None, is_some, nat_le, nat_lt, refl, sym, ap}
+use Rattle.std.proofs.Common.{length, map, filter, filter_map, Option, Some, None, is_some, nat_le, nat_lt, refl, sym}
+use Rattle.std.proofs.Common.{ap}
 use Rattle.std.proofs.Common.{◌∙◌, subst, arith, IfSome}
 use Rattle.std.proofs.lemmas.Bool.Decides.{nat_tests}
 use Rattle.std.proofs.lemmas.List.{length-map}

@@ -1,4 +1,5 @@
--- What is true of each node of a raw tree under the flags that its pattern is read under, by how trees are put together.
+-- What is true of each node of a raw tree under the flags that its pattern is read under, by how trees are put
+-- together.
 use Rattle.std.proofs.Common.{◌≡◌, ℕ, ◌<◌, ◌≤◌, ◌^◌, ◌∷◌, [], List, refl, sym, subst, arith, Bool, true, false}
 use Rattle.std.proofs.Common.{length, if◌then◌else◌, IfSome}
 use Rattle.std.specs.Prelude.{◌&&◌}
@@ -48,9 +49,9 @@ AreBranched (more_trees c (more_trees t (more_trees e no_trees))) = (is_empty t 
 AreBranched _ = ⊥
 
 -- Under flags with the mode of these: a byte is read without Unicode, a general new line tells it, the start of a line
--- is that of Oniguruma mode there alone, a Delegate's source was read, what stands under a quantifier is repeatable, and
--- a word holds its counts, a stopper holds no Empty, a name can be written, a Concat has two parts or more, none of them
--- Empty, an absent expression has two, and a conditional three, of which a branch is not Empty
+-- is that of Oniguruma mode there alone, and a Delegate's source was read. What stands under a quantifier is
+-- repeatable, and a word holds its counts; a stopper holds no Empty; a name can be written. A Concat has two parts or
+-- more, none of them Empty, an absent expression two, and a conditional three, of which a branch is not Empty.
 abbrev pub IsParsedNode : Flags → Tree → Type 0
 IsParsedNode f (leaf (label.literal_bytes w)) = f.unicode ≡ false
 IsParsedNode f (leaf (label.general_newline unicode)) = f.unicode ≡ unicode

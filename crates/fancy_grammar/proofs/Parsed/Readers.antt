@@ -1,7 +1,9 @@
 -- What the readers of parts without trees give: flags of the same mode, counts that a word holds, names that can be
 -- written, and escapes.
-use Rattle.std.proofs.Common.{◌≡◌, ℕ, zero, suc, ◌+◌, ◌<◌, ◌^◌, Bool, true, false, not, ◌&&◌, ◌==◌, if◌then◌else◌, [], ◌∷◌}
-use Rattle.std.proofs.Common.{Option, Some, None, IfSome, option_map, unwrap_or, nat_lt, nat_le, refl, ◌∙◌, subst, arith}
+use Rattle.std.proofs.Common.{◌≡◌, ℕ, zero, suc, ◌+◌, ◌<◌, ◌^◌, Bool, true, false, not, ◌&&◌, ◌==◌, if◌then◌else◌, []}
+use Rattle.std.proofs.Common.{◌∷◌}
+use Rattle.std.proofs.Common.{Option, Some, None, IfSome, option_map, unwrap_or, nat_lt, nat_le, refl, ◌∙◌, subst}
+use Rattle.std.proofs.Common.{arith}
 use Rattle.std.proofs.Common.{rules}
 use Rattle.std.specs.Prelude.{option_and_then, codes}
 use Rattle.std.specs.Char.{is_ascii_digit}
@@ -12,6 +14,7 @@ use Rattle.std.proofs.Math.Bool.{beq}
 use Prim.Native.Char.{code}
 use Rattle.fancy_lex.proofs.LoneLemmas.{AtRows, of_lone}
 use Rattle.fancy_lex.proofs.ReadingLemmas.{choose_both}
+use Rattle.fancy_lex.proofs.ReferencePlaces.{IfGives}
 use Rattle.fancy_lex.specs.Boundary as boundaries
 use Rattle.fancy_lex.specs.BoundarySteps as boundary_steps
 use Rattle.fancy_lex.specs.Characters.{open_brace, is_among, ◌∈◌}
@@ -41,11 +44,7 @@ use Rattle.fancy_parts.specs.Quantifier.{count_of, exact_or_range, most}
 use Rattle.fancy_parts.specs.declared.counts.Counts.{Counts}
 use Rattle.fancy_grammar.specs.Writable.{IsNameWritable}
 
--- what a reading gives is so
-abbrev pub IfGives : {A : Type 0} → (A → Type 0) → Reading A → Type 0
-IfGives P (gives a u) = P a
-IfGives P (fails e) = Unit {0}
-
+-- one step after another
 pub gives_both : {A B : Type 0} (P : A → Type 0) (Q : B → Type 0) (o : Reading A) (f : A → Text → Reading B) →
     IfGives P o → ((a : A) (u : Text) → P a → IfGives Q (f a u)) → IfGives Q (o >=> f)
 gives_both P Q (gives a u) f h g = g a u h
@@ -170,7 +169,8 @@ spaced_word x t = by_first (past_layout x t)
     by_count (Some (n, v)) h = by_last n h (past_layout x v)
 
     by_first : (o : Option Text) →
-        IfWord (option_and_then (λ u. option_and_then (λ p. option_map (λ v. (p.0, v)) (past_layout x p.1)) (count u)) o)
+        IfWord
+        (option_and_then (λ u. option_and_then (λ p. option_map (λ v. (p.0, v)) (past_layout x p.1)) (count u)) o)
     by_first None = tt
     by_first (Some u) = by_count (count u) (count_word u)
 
@@ -386,16 +386,27 @@ none_before mark (c ∷ t) = by_test (c == mark) refl (cut_at mark t) (none_befo
     by_test false e (Some ([], u)) h = other e
     by_test false e (Some (d ∷ w, u)) h = rw (other e) h
 
--- so is the name of a group
-pub name_free : (mark : ℕ) (t u : Text) → IfGives (IsFreeOf mark) (group_name mark t u)
-unfolding group_name name_before
-name_free mark t u = by_cut (cut_at mark u) (none_before mark u)
+-- so is a name
+abbrev pub IfNameFree : ℕ → Option (Text × Text) → Type 0
+IfNameFree mark o = IfSome o (λ p. IsFreeOf mark p.0)
+
+pub before_free : (mark : ℕ) (t : Text) → IfNameFree mark (name_before mark t)
+unfolding name_before
+before_free mark t = by_cut (cut_at mark t) (none_before mark t)
   where
-    by_cut : (o : Option (Text × Text)) → IfFree mark o →
-        IfGives (IsFreeOf mark) (read_or (group_not_named t) (option_and_then nonempty_front o))
+    by_cut : (o : Option (Text × Text)) → IfFree mark o → IfNameFree mark (option_and_then nonempty_front o)
     by_cut None h = tt
     by_cut (Some ([], v)) h = tt
     by_cut (Some (c ∷ w, v)) h = h
+
+-- and that of a group
+pub name_free : (mark : ℕ) (t u : Text) → IfGives (IsFreeOf mark) (group_name mark t u)
+unfolding group_name
+name_free mark t u = by_name (name_before mark u) (before_free mark u)
+  where
+    by_name : (o : Option (Text × Text)) → IfNameFree mark o → IfGives (IsFreeOf mark) (read_or (group_not_named t) o)
+    by_name None h = tt
+    by_name (Some (w, v)) h = h
 
 -- such a name can be written
 pub angled_writable : (w : Text) → IsFreeOf (code ">") w → IsNameWritable w

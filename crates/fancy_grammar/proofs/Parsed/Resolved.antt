@@ -115,7 +115,8 @@ module _ (f : Flags) (z : ℕ) (named : Bool) (numbers_of : Text → List ℕ) w
       AllByRecursion (IsResolvedNode f named) (kept_here c l)
   nodes_kept c [] h = tt
   nodes_kept c (ast_group name place t ∷ l) h =
-      elim (is_counted named name) as (λ b. AllByRecursion (IsResolvedNode f named) (kept_if z named numbers_of b c t l)) [
+      elim (is_counted named name) as (λ b.
+      AllByRecursion (IsResolvedNode f named) (kept_if z named numbers_of b c t l)) [
         | true ↦ (tt, nodes_kept (c + 1) l h.1)
         | false ↦ nodes_kept c l h.1
       ]

@@ -105,7 +105,8 @@ told_openings_are m l e = told_from m l e 0 l (λ k. ap (slice_get l) (omega ari
 -- ---- those that have a number
 
 -- each has one
-pub counted_filtered : (named : Bool) (l : List Opening) → AreCounted named (map unreached (numbered_openings_in named l))
+pub counted_filtered : (named : Bool) (l : List Opening) →
+    AreCounted named (map unreached (numbered_openings_in named l))
 counted_filtered named [] = tt
 counted_filtered named (o ∷ l) =
     cond_both (is_counted named o.name) _ _ (λ n. AreCounted named (map unreached n))
@@ -120,7 +121,8 @@ one_more_named named false None l m o is e h = h
 one_more_named true false (Some u) l m o is e h = absurd cc
 one_more_named false false (Some u) l m o is e h = absurd cc
 
-any_filtered : (named : Bool) (l : List Opening) → list_any is_named (numbered_openings_in named l) ≡ list_any is_named l
+any_filtered : (named : Bool) (l : List Opening) →
+    list_any is_named (numbered_openings_in named l) ≡ list_any is_named l
 any_filtered named [] = refl
 any_filtered named (o ∷ l) =
     one_more_named named (is_counted named o.name) o.name l (numbered_openings_in named l) o refl refl
