@@ -7,6 +7,7 @@ pub mod Marks
 -- ---- what is read without trees
 pub mod Readers
 pub mod Targets
+pub mod Escapes
 -- ---- the raw tree
 pub mod Nodes
 pub mod Derived

@@ -1,7 +1,7 @@
 -- Each node of a raw tree that a pattern derives is so, and the flags keep their mode. By one induction on the
 -- derivation, as of what is read in `ReadLaws`.
 use Rattle.std.proofs.Common.{◌≡◌, ℕ, zero, suc, ◌+◌, ◌∷◌, [], List, refl, sym, ap, ◌∙◌, subst, Bool, true, false}
-use Rattle.std.proofs.Common.{Option, Some, None}
+use Rattle.std.proofs.Common.{Option, Some, None, IfSome}
 use Rattle.std.specs.Prelude.{◌==◌, not, nat_lt, nat_le, ◌&&◌, codes}
 use Rattle.std.proofs.lemmas.Bool.{cond_both}
 use Prim.Native.Char.{code}
@@ -14,7 +14,7 @@ use Rattle.fancy_lex.specs.Escaped.{Escape}
 use Rattle.fancy_lex.specs.LayoutSteps.{Skipped, rest, fault as open_comment}
 use Rattle.fancy_lex.specs.Reading.{Reading, gives, fails}
 use Rattle.fancy_lex.specs.Referred.{Reference}
-use Rattle.fancy_lex.specs.Text.{Text, bytes, strip, strip_word, reach_of}
+use Rattle.fancy_lex.specs.Text.{Text, bytes, place_at, strip, strip_word, reach_of}
 use Rattle.fancy_lex.specs.declared.flags.Flags.{Flags}
 use Rattle.fancy_parts.specs.FlagLetters.{Letters, setting, scope as scoped}
 use Rattle.fancy_parts.specs.GroupName.{group_name}
@@ -48,18 +48,32 @@ use Rattle.fancy_grammar.proofs.Parsed.Nodes.{IsParsed, AreParsed, IsHeadParsed,
 use Rattle.fancy_grammar.proofs.Parsed.Nodes.{choice_parsed, quantified_parsed, node_parsed, conditional_parsed}
 use Rattle.fancy_grammar.proofs.Parsed.Nodes.{branches_parsed, expression_parsed, stopper_parsed}
 use Rattle.fancy_grammar.proofs.Parsed.Readers.{IsSameMode, IsModeOf, letters_mode, IfWords}
-use Rattle.fancy_grammar.proofs.Parsed.Readers.{counts_words, is_line_of_oniguruma, IsOfMode, escape_mode, IsFreeOf}
+use Rattle.fancy_grammar.proofs.Parsed.Readers.{counts_words, IsFreeOf}
 use Rattle.fancy_grammar.proofs.Parsed.Readers.{name_free, angled_writable, quoted_writable}
+use Rattle.std.proofs.Common.{ℤ, ◌++◌, ap₂, append_assoc, arith}
+use Rattle.std.proofs.lemmas.Bool.Decides.{nat_tests}
+use Rattle.fancy_lex.specs.Characters.{bar, backslash}
+use Rattle.fancy_lex.specs.Referred.{Call}
+use Rattle.fancy_lex.specs.Text.{place_at}
+use Rattle.fancy_parts.specs.Written.{is_behind_backslash}
+use Rattle.fancy_grammar.specs.Slices.{Slice}
+use Rattle.fancy_grammar.proofs.AheadLaws.{AheadReads, ahead_reads}
+use Rattle.fancy_grammar.proofs.Slices.{here, on, strip_slice, skipped_slice}
+use Rattle.fancy_grammar.proofs.ReadLaws.{branch_read, piece_read, inside_read}
+use Rattle.fancy_grammar.proofs.Pattern.References.{behind_letter}
+use Rattle.fancy_grammar.proofs.Parsed.Escapes.{IsBehindLetter, is_line_of_oniguruma, IsOfMode, escape_mode}
+use Rattle.fancy_grammar.proofs.Parsed.Targets.{IsReferenceRead, IsCallRead, condition_target_read, named_reference_read}
+use Rattle.fancy_grammar.proofs.Parsed.Targets.{named_reference_plain, named_call_read}
 
 -- a tree that is read, behind which the flags keep the mode
-pub record IsPart (f : Flags) (r : Tree) (t : State) : Type 0 where
+pub record IsPart (f : Flags) (text : Text) (r : Tree) (t : State) : Type 0 where
   pub mode : IsSameMode f t.flags
-  pub parsed : IsParsed f r
+  pub parsed : IsParsed f text r
 
 -- trees that are read one after another
-pub record AreParts (f : Flags) (l : List Tree) (t : State) : Type 0 where
+pub record AreParts (f : Flags) (text : Text) (l : List Tree) (t : State) : Type 0 where
   pub mode : IsSameMode f t.flags
-  pub parsed : AreParsed f l
+  pub parsed : AreParsed f text l
 
 mode_repeatable : (a : Tree) (f g : Flags) → f.oniguruma_mode ≡ g.oniguruma_mode →
     is_repeatable f a ≡ is_repeatable g a
@@ -73,9 +87,9 @@ anchor_plain g e =
 end_plain : (g : Flags) → is_line_of_oniguruma (end_anchor g) ≡ false
 end_plain g = cond_both g.multi _ _ (λ a. is_line_of_oniguruma a ≡ false) (λ _. refl) (λ _. refl)
 
-module _ (f : Flags) where
+module _ (f : Flags) (text : Text) where
   abbrev P : Outcome Tree → Type 0
-  P = Holds (IsPart f)
+  P = Holds (IsPart f text)
 
   same_oniguruma : (g : Flags) → IsSameMode f g → g.oniguruma_mode ≡ f.oniguruma_mode
   same_oniguruma g m = ap (λ k. k.oniguruma_mode) m
@@ -101,7 +115,7 @@ module _ (f : Flags) where
       by_layout (rest t) = choose_both W (strip (code "?") t) _ _ (λ u e. behind_mark true u) (behind_mark false t)
       by_layout (open_comment p) = tt
 
-  quant_part : (left : ℕ) (a : Tree) (t : State) → IsPart f a t → P (quant left a t)
+  quant_part : (left : ℕ) (a : Tree) (t : State) → IsPart f text a t → P (quant left a t)
   unfolding quant
   quant_part left a t h = by_layout (skipped t)
     where
@@ -111,37 +125,37 @@ module _ (f : Flags) where
           let marks = suffix_mode (at t u) c h.mode in
           let M = λ (m : Suffix) (v : State). IsSameMode f v.flags in
           cond_both (is_repeatable t.flags a) _ _ P
-          (λ e. then_holds M (IsPart f) (suffix (at t u) c) _ marks (λ m x k. record {
+          (λ e. then_holds M (IsPart f text) (suffix (at t u) c) _ marks (λ m x k. record {
             mode = k;
-            parsed = quantified_parsed f t.flags c m a
+            parsed = quantified_parsed f text t.flags c m a
                 (mode_repeatable a f t.flags (sym (same_oniguruma t.flags h.mode)) ∙ e) w h.parsed;
           })) (λ _.
           cond_both (is_dropped t.flags left a u) _ _ P
-          (λ _. then_holds M (IsPart f) (suffix (at t u) c) _ marks (λ m x k. record { mode = k; parsed = h.parsed }))
+          (λ _. then_holds M (IsPart f text) (suffix (at t u) c) _ marks (λ m x k. record { mode = k; parsed = h.parsed }))
           (λ _. tt))
 
       by_layout : (j : Skipped) → P (quant_at left a t j)
       by_layout (rest v) = by_counts v (counts t.flags.ignore_space v) (counts_words t.flags.ignore_space v)
       by_layout (open_comment p) = tt
 
-  adjacent_part : (k d : ℕ) (a : Tree) (t : State) → IsPart f a t → P (adjacent k d a t)
+  adjacent_part : (k d : ℕ) (a : Tree) (t : State) → IsPart f text a t → P (adjacent k d a t)
   unfolding adjacent
   adjacent_part zero d a t h =
-      then_holds (IsPart f) (IsPart f) (quant (bytes t.rest) a t) _ (quant_part (bytes t.rest) a t h)
+      then_holds (IsPart f text) (IsPart f text) (quant (bytes t.rest) a t) _ (quant_part (bytes t.rest) a t h)
       (λ b v i. cond_both (is_unmoved t v) _ _ P (λ _. i) (λ _. tt))
   adjacent_part (suc k) d a t h =
-      then_holds (IsPart f) (IsPart f) (quant (bytes t.rest) a t) _ (quant_part (bytes t.rest) a t h)
+      then_holds (IsPart f text) (IsPart f text) (quant (bytes t.rest) a t) _ (quant_part (bytes t.rest) a t h)
       (λ b v i. cond_both (is_unmoved t v) _ _ P (λ _. i) (λ _.
       cond_both (nat_lt (d + 1) max_depth) _ _ P (λ _. adjacent_part k (d + 1) b v i) (λ _. tt)))
 
-  quants_part : (d left : ℕ) (a : Tree) (t : State) → IsPart f a t → P (quants d left a t)
+  quants_part : (d left : ℕ) (a : Tree) (t : State) → IsPart f text a t → P (quants d left a t)
   quants_part d left a t h =
-      then_holds (IsPart f) (IsPart f) (quant left a t) _ (quant_part left a t h)
+      then_holds (IsPart f text) (IsPart f text) (quant left a t) _ (quant_part left a t h)
       (λ b v i. cond_both v.flags.oniguruma_mode _ _ P (λ _. adjacent_part max_adjacent d b v i) (λ _. i))
 
   -- ---- what a part comes to behind its last one
 
-  closed_part : (r : Tree) (t : State) → IsPart f r t → P (closed r t)
+  closed_part : (r : Tree) (t : State) → IsPart f text r t → P (closed r t)
   closed_part r t h = by_text t.rest
     where
       by_text : (u : Text) → P (closed_at r t u)
@@ -149,21 +163,21 @@ module _ (f : Flags) where
       by_text (c ∷ u) =
           cond_both (c == code ")") _ _ P (λ _. record { mode = h.mode; parsed = h.parsed }) (λ _. tt)
 
-  ended_part : (r : Tree) (t : State) → IsPart f r t → P (ended r t)
+  ended_part : (r : Tree) (t : State) → IsPart f text r t → P (ended r t)
   ended_part r t h = by_text t.rest
     where
       by_text : (u : Text) → P (ended_at r t u)
       by_text [] = h
       by_text (c ∷ u) = tt
 
-  conditional_part : (c r : Tree) (left : ℕ) (v : State) → IsParsed f c → IsPart f r v →
+  conditional_part : (c r : Tree) (left : ℕ) (v : State) → IsParsed f text c → IsPart f text r v →
       P (conditional_behind c left r v)
   conditional_part c r left v k h =
-      let each = branches_parsed f r h.parsed in
+      let each = branches_parsed f text r h.parsed in
       cond_both (bytes v.rest == left && not (is_condition c)) _ _ P (λ _. tt)
       (λ _. closed_part (conditional_of c (branches_of r).0 (branches_of r).1) v (record {
         mode = h.mode;
-        parsed = conditional_parsed f c (branches_of r).0 (branches_of r).1 k each.0 each.1;
+        parsed = conditional_parsed f text c (branches_of r).0 (branches_of r).1 k each.0 each.1;
       }))
 
   -- ---- what stands before an atom
@@ -171,20 +185,37 @@ module _ (f : Flags) where
   abbrev AheadParsed : Ahead → Type 0
   AheadParsed nothing = Unit {0}
   AheadParsed (read o) = P o
-  AheadParsed (with_head h t) = IsSameMode f t.flags × IsHeadParsed f h
+  AheadParsed (with_head h t) = IsSameMode f t.flags × IsHeadParsed f text h
   AheadParsed (condition t) = IsSameMode f t.flags
-  AheadParsed (body c t) = IsSameMode f t.flags × IsParsed f c
+  AheadParsed (body c t) = IsSameMode f t.flags × IsParsed f text c
   AheadParsed (absent_branch t) = IsSameMode f t.flags
 
-  escape_part : (s : State) (t : Text) → IsSameMode f s.flags → P (leaf_outcome leaf_node s (escape s.flags false t))
-  escape_part s t m = by_reading (escape s.flags false t) refl (escape_mode s.flags t)
+  -- a reference with a level stands behind the letter of its escape
+  behind_no_backslash : (t : Text) → Slice text (backslash ∷ t) → (p : ℕ) → IsBehindLetter t p →
+      is_behind_backslash text (place_at (bytes text) p) ≡ false
+  behind_no_backslash [] i p h = absurd h
+  behind_no_backslash (c ∷ u) i p h =
+      let is : text ≡ (i.word ++ (backslash ∷ [])) ++ (code "k" ∷ u)
+      = i.cut ∙ (ap (λ d. i.word ++ (backslash ∷ d ∷ u)) h.0 ∙ sym (append_assoc i.word (backslash ∷ []) (code "k" ∷ u))) in
+      ap₂ (λ (s : Text) (q : ℕ). is_behind_backslash s (place_at (bytes s) q)) is h.1
+      ∙ behind_letter (i.word ++ (backslash ∷ [])) u
+
+  escape_part : (s : State) (t : Text) → IsSameMode f s.flags → Slice text (backslash ∷ t) →
+      P (leaf_outcome leaf_node s (escape s.flags false t))
+  escape_part s t m i = by_reading (escape s.flags false t) refl (escape_mode s.flags t)
     where
-      by_reading : (o : Reading Escape) → escape s.flags false t ≡ o → IfGives (IsOfMode s.flags) o →
+      levelled : (o : Option ℤ) (p : ℕ) → IfSome o (λ z. IsBehindLetter t p) →
+          IfSome o (λ z. is_behind_backslash text (place_at (bytes text) p) ≡ false)
+      levelled None p h = tt
+      levelled (Some z) p h = behind_no_backslash t i p h
+
+      by_reading : (o : Reading Escape) → escape s.flags false t ≡ o → IfGives (IsOfMode s.flags t) o →
           P (leaf_outcome leaf_node s o)
       by_reading (fails e) is h = tt
       by_reading (gives e u) is h = record { mode = m; parsed = by_leaf e is h }
         where
-          by_leaf : (e : Escape) → escape s.flags false t ≡ gives e u → IsOfMode s.flags e → IsParsed f (leaf_node e)
+          by_leaf : (e : Escape) → escape s.flags false t ≡ gives e u → IsOfMode s.flags t e →
+              IsParsed f text (leaf_node e)
           by_leaf (escaped.literal c casei) is h = (tt, tt)
           by_leaf (escaped.literal_bytes b) is h = (sym (same_unicode s.flags m) ∙ h, tt)
           by_leaf (escaped.any newline crlf) is h = (tt, tt)
@@ -193,8 +224,8 @@ module _ (f : Flags) where
           by_leaf escaped.keep_out is h = (tt, tt)
           by_leaf escaped.continue_from_previous_match_end is h = (tt, tt)
           by_leaf (escaped.delegate w casei) is h = (by_escape s.flags t u m is, tt)
-          by_leaf (escaped.backref r casei) is h = (tt, tt)
-          by_leaf (escaped.subroutine_call c) is h = (tt, tt)
+          by_leaf (escaped.backref r casei) is h = ((h.0.0, h.0.1, levelled r.level r.reach h.1), tt)
+          by_leaf (escaped.subroutine_call c) is h = (h, tt)
 
   class_part : (s : State) (t : Text) → IsSameMode f s.flags →
       P (leaf_outcome (λ w. leaf (label.delegate w s.flags.casei)) s (class s.flags t))
@@ -205,17 +236,20 @@ module _ (f : Flags) where
       by_reading (fails e) is = tt
       by_reading (gives w u) is = record { mode = m; parsed = (by_class s.flags t u m refl is, tt) }
 
-  leaf_part : (s : State) (c : ℕ) (t : Text) → IsSameMode f s.flags → P (leaf_of s c t)
-  leaf_part s c t m =
+  leaf_part : (s : State) (c : ℕ) (t : Text) → IsSameMode f s.flags → Slice text (c ∷ t) → P (leaf_of s c t)
+  leaf_part s c t m i =
       cond_both (c == code ".") _ _ P (λ _. record { mode = m; parsed = (tt, tt) }) (λ _.
       cond_both (c == code "^") _ _ P (λ _. record {
         mode = m;
         parsed = ((λ o. anchor_plain s.flags (same_oniguruma s.flags m ∙ o)), tt);
       }) (λ _.
       cond_both (c == code "$") _ _ P (λ _. record { mode = m; parsed = ((λ o. end_plain s.flags), tt) }) (λ _.
-      cond_both (c == code "\\") _ _ P (λ _. escape_part s t m) (λ _.
+      cond_both (c == code "\\") _ _ P (λ e. escape_part s t m (subst (λ d. Slice text (d ∷ t)) (is_backslash e) i)) (λ _.
       cond_both (c == code "[") _ _ P (λ _. class_part s t m)
       (λ _. record { mode = m; parsed = (tt, tt) })))))
+    where
+      is_backslash : (c == code "\\") ≡ true → c ≡ backslash
+      is_backslash e = grind (arith, nat_tests)
 
   letters_part : (s : State) (t : Text) → IsSameMode f s.flags → AheadParsed (flags_ahead (letters s.flags t))
   letters_part s t m = by_reading (letters s.flags t) (letters_mode s.flags t)
@@ -226,7 +260,7 @@ module _ (f : Flags) where
       by_reading (fails e) h = tt
 
   named_part : (s : State) (mark : ℕ) (t u : Text) → IsSameMode f s.flags →
-      ((w : Text) → IsFreeOf mark w → IsHeadParsed f (capture (Some w))) →
+      ((w : Text) → IsFreeOf mark w → IsHeadParsed f text (capture (Some w))) →
       AheadParsed (named_ahead s (group_name mark t u))
   named_part s mark t u m k = by_reading (group_name mark t u) (name_free mark t u)
     where
@@ -234,19 +268,37 @@ module _ (f : Flags) where
       by_reading (gives w v) h = (m, k w h)
       by_reading (fails e) h = tt
 
-  reference_part : {A : Type 0} (node : A → Tree) (s : State) (o : Reading A) → ((a : A) → IsParsed f (node a)) →
-      IsSameMode f s.flags → P (leaf_outcome node s o)
-  reference_part node s (gives a u) k m = record { mode = m; parsed = k a }
-  reference_part node s (fails e) k m = tt
+  backref_part : (s : State) (casei : Bool) (o : Reading Reference) → IfGives IsReferenceRead o →
+      IfGives (λ (r : Reference). r.level ≡ None) o → IsSameMode f s.flags →
+      P (leaf_outcome (backref_node casei) s o)
+  backref_part s casei (gives r u) h e m = record {
+    mode = m;
+    parsed = (
+      (
+        h.0,
+        h.1,
+        subst (λ o. IfSome o (λ z. is_behind_backslash text (place_at (bytes text) r.reach) ≡ false))
+            (sym e) tt,
+      ),
+      tt,
+    );
+  }
+  backref_part s casei (fails e) h i m = tt
 
-  target_part : (s : State) (o : Reading Reference) → IsSameMode f s.flags → AheadParsed (target_ahead s o)
-  target_part s (gives r u) m = (m, (tt, tt))
-  target_part s (fails e) m = tt
+  call_part : (s : State) (o : Reading Call) → IfGives (λ (c : Call). IsCallRead c.target) o → IsSameMode f s.flags →
+      P (leaf_outcome call_node s o)
+  call_part s (gives c u) h m = record { mode = m; parsed = (h, tt) }
+  call_part s (fails e) h m = tt
+
+  target_part : (s : State) (o : Reading Reference) → IfGives IsReferenceRead o → IsSameMode f s.flags →
+      AheadParsed (target_ahead s o)
+  target_part s (gives r u) h m = (m, ((h.0, h.1), tt))
+  target_part s (fails e) h m = tt
 
   condition_part : (s : State) (t : Text) → IsSameMode f s.flags → AheadParsed (condition_ahead s t)
   condition_part s [] m = tt
   condition_part s (c ∷ t) m =
-      cond_both (begins_target (c ∷ t)) _ _ AheadParsed (λ _. target_part s (condition_target (c ∷ t)) m) (λ _.
+      cond_both (begins_target (c ∷ t)) _ _ AheadParsed (λ _. target_part s (condition_target (c ∷ t)) (condition_target_read (c ∷ t)) m) (λ _.
       cond_both (c == code "*") _ _ AheadParsed
       (λ _. choose_both AheadParsed (verb_at t) _ _ (λ p e. (m, (tt, tt))) tt) (λ _. m))
 
@@ -265,9 +317,9 @@ module _ (f : Flags) where
       choose_both Q (strip_word (codes "'") t) _ _ (λ u e. named_part s (code "'") t u m quoted_writable) (
       choose_both Q (strip_word (codes "P<") t) _ _ (λ u e. named_part s (code ">") t u m angled_writable) (
       choose_both Q (strip_word (codes "P=") t) _ _
-      (λ u e. reference_part (backref_node s.flags.casei) s (named_reference u) (λ a. (tt, tt)) m) (
+      (λ u e. backref_part s s.flags.casei (named_reference u) (named_reference_read u) (named_reference_plain u) m) (
       choose_both Q (strip_word (codes "P>") t) _ _
-      (λ u e. reference_part call_node s (named_call u) (λ a. (tt, tt)) m) (
+      (λ u e. call_part s (named_call u) (named_call_read u) m) (
       choose_both Q (strip_word (codes "~|") t) _ _ (λ u e. m) (
       choose_both Q (strip_word (codes "~") t) _ _ (λ u e. repeater_part s u m) (
       choose_both Q (strip_word (codes ">") t) _ _ (λ u e. (m, tt)) (
@@ -285,17 +337,17 @@ module _ (f : Flags) where
   behind_part s (rest u) m = group_part s u m
   behind_part s (open_comment p) m = tt
 
-  ahead_part : (d : ℕ) (s : State) → IsSameMode f s.flags → AheadParsed (ahead d s)
+  ahead_part : (d : ℕ) (s : State) → IsSameMode f s.flags → Slice text s.rest → AheadParsed (ahead d s)
   unfolding ahead
-  ahead_part d s m = by_text s.rest
+  ahead_part d s m i = by_text s.rest i
     where
-      by_text : (t : Text) → AheadParsed (ahead_of d s t)
-      by_text [] = tt
-      by_text (c ∷ t) =
+      by_text : (t : Text) → Slice text t → AheadParsed (ahead_of d s t)
+      by_text [] i = tt
+      by_text (c ∷ t) i =
           cond_both (c == code "(") _ _ AheadParsed (λ _.
           cond_both (nat_le max_depth (d + 1)) _ _ AheadParsed (λ _. tt)
           (λ _. behind_part s (skipped (at s t)) m)) (λ _.
-          cond_both (is_before_nothing c) _ _ AheadParsed (λ _. tt) (λ _. leaf_part s c t m))
+          cond_both (is_before_nothing c) _ _ AheadParsed (λ _. tt) (λ _. leaf_part s c t m i))
 
   -- behind an atom the flags from before it hold, or those that it sets
   restored_part : (g : Flags) (q : Outcome Tree) → IsSameMode f g → P q → P (restored g q)
@@ -313,79 +365,87 @@ module _ (f : Flags) where
   -- ---- the grammar
 
   mutual
-    alternation_part : {d : ℕ} {s : State} {o : Outcome Tree} → Alternation d s o → IsSameMode f s.flags → P o
-    alternation_part (alternation {q} b) m =
-        then_holds (AreParts f) (IsPart f) q _ (branches_part b m)
-        (λ l v h. record { mode = h.mode; parsed = choice_parsed f l h.parsed })
+    alternation_part : {d : ℕ} {s : State} {o : Outcome Tree} → Alternation d s o → IsSameMode f s.flags →
+        Slice text s.rest → P o
+    alternation_part (alternation {q} b) m i =
+        then_holds (AreParts f text) (IsPart f text) q _ (branches_part b m i)
+        (λ l v h. record { mode = h.mode; parsed = choice_parsed f text l h.parsed })
 
     branches_part : {d : ℕ} {s : State} {o : Outcome (List Tree)} → Branches d s o → IsSameMode f s.flags →
-        Holds (AreParts f) o
-    branches_part (last b e) m = let h = branch_part b m in record { mode = h.mode; parsed = (h.parsed, tt) }
-    branches_part (more {q} b e n) m =
-        let h = branch_part b m in
-        then_holds (AreParts f) (AreParts f) q _ (branches_part n h.mode)
-        (λ l v i. record { mode = i.mode; parsed = (h.parsed, i.parsed) })
-    branches_part (branch_fault b) m = tt
+        Slice text s.rest → Holds (AreParts f text) o
+    branches_part (last b e) m i = let h = branch_part b m i in record { mode = h.mode; parsed = (h.parsed, tt) }
+    branches_part (more {t} {u} {q} b e n) m i =
+        let h = branch_part b m i in
+        let next = on (on i (branch_read b).span.slice) (strip_slice bar t.rest u e) in
+        then_holds (AreParts f text) (AreParts f text) q _ (branches_part n h.mode next)
+        (λ l v k. record { mode = k.mode; parsed = (h.parsed, k.parsed) })
+    branches_part (branch_fault b) m i = tt
 
-    branch_part : {d : ℕ} {s : State} {o : Outcome Tree} → Branch d s o → IsSameMode f s.flags → P o
-    branch_part (branch {q} b) m =
-        then_holds (AreParts f) (IsPart f) q _ (pieces_part b m)
-        (λ l v h. record { mode = h.mode; parsed = join_parsed f l h.parsed })
+    branch_part : {d : ℕ} {s : State} {o : Outcome Tree} → Branch d s o → IsSameMode f s.flags →
+        Slice text s.rest → P o
+    branch_part (branch {q} b) m i =
+        then_holds (AreParts f text) (IsPart f text) q _ (pieces_part b m i)
+        (λ l v h. record { mode = h.mode; parsed = join_parsed f text l h.parsed })
 
     pieces_part : {d : ℕ} {s : State} {o : Outcome (List Tree)} → Pieces d s o → IsSameMode f s.flags →
-        Holds (AreParts f) o
-    pieces_part (stop e) m = record { mode = m; parsed = tt }
-    pieces_part (next {q} e a n) m =
-        let h = piece_part a m in
-        then_holds (AreParts f) (AreParts f) q _ (pieces_part n h.mode)
-        (λ l v i. record { mode = i.mode; parsed = (h.parsed, i.parsed) })
-    pieces_part (piece_fault e a) m = tt
+        Slice text s.rest → Holds (AreParts f text) o
+    pieces_part (stop e) m i = record { mode = m; parsed = tt }
+    pieces_part (next {q} e a n) m i =
+        let h = piece_part a m i in
+        then_holds (AreParts f text) (AreParts f text) q _ (pieces_part n h.mode (on i (piece_read a).span.slice))
+        (λ l v k. record { mode = k.mode; parsed = (h.parsed, k.parsed) })
+    pieces_part (piece_fault e a) m i = tt
 
-    piece_part : {d : ℕ} {s : State} {o : Outcome Tree} → Piece d s o → IsSameMode f s.flags → P o
-    piece_part (piece {d} {s} {q} l x) m =
-        then_holds (IsPart f) (IsPart f) q _ (atom_part x m) (λ a t h. quants_part d (bytes s.rest) a t h)
-    piece_part (layout_fault l) m = tt
+    piece_part : {d : ℕ} {s : State} {o : Outcome Tree} → Piece d s o → IsSameMode f s.flags → Slice text s.rest → P o
+    piece_part (piece {d} {s} {u} {q} l x) m i =
+        then_holds (IsPart f text) (IsPart f text) q _ (atom_part x m (on i (skipped_slice s u l)))
+        (λ a t h. quants_part d (bytes s.rest) a t h)
+    piece_part (layout_fault l) m i = tt
 
-    atom_part : {d : ℕ} {s : State} {o : Outcome Tree} → Atom d s o → IsSameMode f s.flags → P o
-    atom_part (atom {d} {s} {e} {q} is a) m =
-        atom_flags e s.flags q m (of_part a (subst AheadParsed is (ahead_part d s m)) m)
+    atom_part : {d : ℕ} {s : State} {o : Outcome Tree} → Atom d s o → IsSameMode f s.flags → Slice text s.rest → P o
+    atom_part (atom {d} {s} {e} {q} is a) m i =
+        atom_flags e s.flags q m
+        (of_part a (subst AheadParsed is (ahead_part d s m i)) (subst (AheadReads s) is (ahead_reads d s)) m i)
 
-    of_part : {k : Ahead} {d : ℕ} {s : State} {o : Outcome Tree} → AtomOf k d s o → AheadParsed k →
-        IsSameMode f s.flags → P o
-    of_part a_nothing h m = record { mode = m; parsed = (tt, tt) }
-    of_part a_read h m = h
-    of_part (a_group {s} {h = head} {q} i) h m =
-        then_holds (IsPart f) (IsPart f) q _ (inside_part i h.0)
-        (λ r v k. record { mode = k.mode; parsed = node_parsed f head (reach_of s.rest) r h.1 k.parsed })
-    of_part (a_condition i n) h m = let c = inside_part i h in body_part n c.mode c.parsed
-    of_part (condition_fault i) h m = tt
-    of_part (a_body n) h m = body_part n h.0 h.1
-    of_part (two_branches {a} {q} b e n) h m =
-        let c = branch_part b h in
-        then_holds (IsPart f) (IsPart f) q _ (branch_part n c.mode)
-        (λ r w i. closed_part (expression a r) w (record {
-          mode = i.mode;
-          parsed = expression_parsed f a r c.parsed i.parsed;
+    of_part : {k : Ahead} {d : ℕ} {s : State} {o : Outcome Tree} → AtomOf k d s o → AheadParsed k → AheadReads s k →
+        IsSameMode f s.flags → Slice text s.rest → P o
+    of_part a_nothing h x m i = record { mode = m; parsed = (tt, tt) }
+    of_part a_read h x m i = h
+    of_part (a_group {s} {h = head} {q} n) h x m i =
+        then_holds (IsPart f text) (IsPart f text) q _ (inside_part n h.0 (on i x.0))
+        (λ r v k. record { mode = k.mode; parsed = node_parsed f text head (reach_of s.rest) r h.1 k.parsed })
+    of_part (a_condition n b) h x m i =
+        let c = inside_part n h (on i x.0) in
+        body_part b c.mode c.parsed (on (on i x.0) (inside_read n).span.slice)
+    of_part (condition_fault n) h x m i = tt
+    of_part (a_body n) h x m i = body_part n h.0 h.1 (on i x.0.slice)
+    of_part (two_branches {v} {u} {a} {q} b e n) h x m i =
+        let c = branch_part b h (on i x.0) in
+        let next = on (on (on i x.0) (branch_read b).span.slice) (strip_slice bar v.rest u e) in
+        then_holds (IsPart f text) (IsPart f text) q _ (branch_part n c.mode next)
+        (λ r w k. closed_part (expression a r) w (record {
+          mode = k.mode;
+          parsed = expression_parsed f text a r c.parsed k.parsed;
         }))
-    of_part (one_branch {v} {a} b e) h m =
-        let c = branch_part b h in
-        closed_part (clear_or_stopper a) v (record { mode = c.mode; parsed = stopper_parsed f a c.parsed })
-    of_part (absent_fault b) h m = tt
+    of_part (one_branch {v} {a} b e) h x m i =
+        let c = branch_part b h (on i x.0) in
+        closed_part (clear_or_stopper a) v (record { mode = c.mode; parsed = stopper_parsed f text a c.parsed })
+    of_part (absent_fault b) h x m i = tt
 
-    inside_part : {d : ℕ} {s : State} {o : Outcome Tree} → Inside d s o → IsSameMode f s.flags → P o
-    inside_part (inside {q} a) m =
-        then_holds (IsPart f) (IsPart f) q _ (alternation_part a m) (λ r v h. closed_part r v h)
+    inside_part : {d : ℕ} {s : State} {o : Outcome Tree} → Inside d s o → IsSameMode f s.flags → Slice text s.rest → P o
+    inside_part (inside {q} a) m i =
+        then_holds (IsPart f text) (IsPart f text) q _ (alternation_part a m i) (λ r v h. closed_part r v h)
 
     body_part : {d : ℕ} {c : Tree} {t : State} {o : Outcome Tree} → Body d c t o → IsSameMode f t.flags →
-        IsParsed f c → P o
-    body_part (the_body {c} {s} {q} a) m k =
-        then_holds (IsPart f) (IsPart f) q _ (alternation_part a m)
+        IsParsed f text c → Slice text t.rest → P o
+    body_part (the_body {c} {s} {q} a) m k i =
+        then_holds (IsPart f text) (IsPart f text) q _ (alternation_part a m i)
         (λ r v h. conditional_part c r (bytes s.rest) v k h)
 
-  whole_part : {text : Text} {o : Outcome Tree} → Whole f text o → P o
+  whole_part : {o : Outcome Tree} → Whole f text o → P o
   whole_part (whole {q} a) =
-      then_holds (IsPart f) (IsPart f) q _ (alternation_part a refl) (λ r t h. ended_part r t h)
+      then_holds (IsPart f text) (IsPart f text) q _ (alternation_part a refl (here text)) (λ r t h. ended_part r t h)
 
 -- each node of the raw tree of a text is so
-pub derived_parsed : {f : Flags} {text : Text} {r : Tree} → DerivesTree f text r → IsParsed f r
-derived_parsed {f} d = (whole_part f d.1).parsed
+pub derived_parsed : {f : Flags} {text : Text} {r : Tree} → DerivesTree f text r → IsParsed f text r
+derived_parsed {f} {text} d = (whole_part f text d.1).parsed

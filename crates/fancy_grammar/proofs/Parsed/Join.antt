@@ -23,7 +23,7 @@ use Rattle.fancy_grammar.proofs.AnsweredLaws.{answered_with}
 use Rattle.fancy_grammar.proofs.Parsed.Lists.{each_split}
 use Rattle.fancy_grammar.proofs.Parsed.Marks.{marks_told, counted_told, numeric_told}
 use Rattle.fancy_grammar.proofs.Parsed.Nodes.{IsSolid, AreTwo, AreBranched}
-use Rattle.fancy_grammar.proofs.Parsed.Readers.{is_line_of_oniguruma}
+use Rattle.fancy_grammar.proofs.Parsed.Escapes.{is_line_of_oniguruma}
 use Rattle.fancy_grammar.proofs.Parsed.Resolved.{IsResolvedNode, nodes_told, names_writable}
 use Rattle.fancy_grammar.proofs.Pattern.Theorem.{reads_back}
 

@@ -9,22 +9,26 @@ use Rattle.fancy_lex.specs.Class.{class}
 use Rattle.fancy_lex.specs.Escape.{escape}
 use Rattle.fancy_lex.specs.Escaped as escaped
 use Rattle.fancy_lex.specs.Reading.{gives}
-use Rattle.fancy_lex.specs.Text.{Text}
+use Rattle.fancy_lex.specs.Text.{Text, bytes, place_at}
 use Rattle.fancy_lex.specs.declared.flags.Flags.{Flags}
+use Rattle.fancy_parts.specs.Written.{is_behind_backslash}
 use Rattle.fancy_parts.specs.declared.counts.Counts.{Counts}
 use Rattle.fancy_grammar.specs.Grammar.{branches_of, conditional_of, clear_or_stopper}
 use Rattle.fancy_grammar.specs.Head.{Head, capture, scope, look, atomic, define, repeater, group_node}
 use Rattle.fancy_grammar.specs.Join.{join, choice, solid, is_empty, one_or}
 use Rattle.fancy_grammar.specs.Label as label
+use Rattle.fancy_grammar.specs.Label.{AstReference, ast_backref, ast_call, ast_condition}
 use Rattle.fancy_grammar.specs.Preorder.{preorder, preorder_all}
 use Rattle.fancy_grammar.specs.Quantified.{is_swapped, quantified, is_repeatable, Suffix}
 use Rattle.fancy_grammar.specs.Tree.{leaf, Tree, Trees, no_trees, more_trees, concat, alt, trees_of, list_of}
 use Rattle.fancy_grammar.specs.Tree.{over, row}
-use Rattle.fancy_grammar.specs.Writable.{IsNameWritable}
+use Rattle.fancy_grammar.specs.Writable.{IsNameWritable, IsLevelWritable}
 use Rattle.fancy_grammar.proofs.OutcomeLemmas.{each_append, each_solid}
 use Rattle.fancy_grammar.proofs.TreeLaws.{list_back}
 use Rattle.fancy_grammar.proofs.Parsed.Lists.{each_split}
-use Rattle.fancy_grammar.proofs.Parsed.Readers.{IsSameMode, is_line_of_oniguruma, AreWords}
+use Rattle.fancy_grammar.proofs.Parsed.Escapes.{is_line_of_oniguruma}
+use Rattle.fancy_grammar.proofs.Parsed.Readers.{IsSameMode, AreWords}
+use Rattle.fancy_grammar.proofs.Parsed.Targets.{IsTargetRead, IsCallRead}
 
 -- ---- nodes
 
@@ -48,40 +52,49 @@ abbrev pub AreBranched : Trees → Type 0
 AreBranched (more_trees c (more_trees t (more_trees e no_trees))) = (is_empty t && is_empty e) ≡ false
 AreBranched _ = ⊥
 
+-- a reference at a reach of the text: what it names was read so, and one with a level stands behind no backslash
+abbrev pub IsAstRead : Text → AstReference → ℕ → Type 0
+IsAstRead text (ast_backref t casei level) p =
+    IsTargetRead t × IfSome level IsLevelWritable
+    × IfSome level (λ z. is_behind_backslash text (place_at (bytes text) p) ≡ false)
+IsAstRead text (ast_call t) p = IsCallRead t
+IsAstRead text (ast_condition t level) p = IsTargetRead t × IfSome level IsLevelWritable
+
 -- Under flags with the mode of these: a byte is read without Unicode, a general new line tells it, the start of a line
 -- is that of Oniguruma mode there alone, and a Delegate's source was read. What stands under a quantifier is
 -- repeatable, and a word holds its counts; a stopper holds no Empty; a name can be written. A Concat has two parts or
 -- more, none of them Empty, an absent expression two, and a conditional three, of which a branch is not Empty.
-abbrev pub IsParsedNode : Flags → Tree → Type 0
-IsParsedNode f (leaf (label.literal_bytes w)) = f.unicode ≡ false
-IsParsedNode f (leaf (label.general_newline unicode)) = f.unicode ≡ unicode
-IsParsedNode f (leaf (label.assertion a)) = f.oniguruma_mode ≡ false → is_line_of_oniguruma a ≡ false
-IsParsedNode f (leaf (label.delegate s casei)) = IsSourceRead f s casei
-IsParsedNode f (over (label.repeat lo hi greedy) t) = (is_repeatable f t ≡ true) × (lo < 2 ^ 64) × (hi < 2 ^ 64)
-IsParsedNode f (over label.stopper t) = IsSolid t
-IsParsedNode f (over (label.ast_group name reach) t) = IfSome name IsNameWritable
-IsParsedNode f (row label.concat ts) = (2 ≤ length (list_of ts)) × AllByRecursion IsSolid (list_of ts)
-IsParsedNode f (row label.expression ts) = AreTwo ts
-IsParsedNode f (row label.conditional ts) = AreBranched ts
-IsParsedNode f _ = Unit {0}
+abbrev pub IsParsedNode : Flags → Text → Tree → Type 0
+IsParsedNode f text (leaf (label.literal_bytes w)) = f.unicode ≡ false
+IsParsedNode f text (leaf (label.general_newline unicode)) = f.unicode ≡ unicode
+IsParsedNode f text (leaf (label.assertion a)) = f.oniguruma_mode ≡ false → is_line_of_oniguruma a ≡ false
+IsParsedNode f text (leaf (label.delegate s casei)) = IsSourceRead f s casei
+IsParsedNode f text (leaf (label.ast_node r p)) = IsAstRead text r p
+IsParsedNode f text (over (label.repeat lo hi greedy) t) = (is_repeatable f t ≡ true) × (lo < 2 ^ 64) × (hi < 2 ^ 64)
+IsParsedNode f text (over label.stopper t) = IsSolid t
+IsParsedNode f text (over (label.ast_group name reach) t) = IfSome name IsNameWritable
+IsParsedNode f text (row label.concat ts) = (2 ≤ length (list_of ts)) × AllByRecursion IsSolid (list_of ts)
+IsParsedNode f text (row label.expression ts) = AreTwo ts
+IsParsedNode f text (row label.conditional ts) = AreBranched ts
+IsParsedNode f text _ = Unit {0}
 
 -- ---- trees
 
-module _ (f : Flags) where
+module _ (f : Flags) (text : Text) where
   abbrev pub IsParsed : Tree → Type 0
-  IsParsed t = AllByRecursion (IsParsedNode f) (preorder t)
+  IsParsed t = AllByRecursion (IsParsedNode f text) (preorder t)
 
   abbrev pub AreParsed : List Tree → Type 0
   AreParsed ts = AllByRecursion IsParsed ts
 
-  pub all_parsed : (ts : List Tree) → AreParsed ts → AllByRecursion (IsParsedNode f) (preorder_all (trees_of ts))
+  pub all_parsed : (ts : List Tree) → AreParsed ts → AllByRecursion (IsParsedNode f text) (preorder_all (trees_of ts))
   all_parsed [] h = tt
-  all_parsed (t ∷ ts) h = each_append (IsParsedNode f) (preorder t) (preorder_all (trees_of ts)) h.0 (all_parsed ts h.1)
+  all_parsed (t ∷ ts) h = each_append (IsParsedNode f text) (preorder t) (preorder_all (trees_of ts)) h.0 (all_parsed ts h.1)
 
-  each_parsed : (ts : Trees) → AllByRecursion (IsParsedNode f) (preorder_all ts) → AreParsed (list_of ts)
+  each_parsed : (ts : Trees) → AllByRecursion (IsParsedNode f text) (preorder_all ts) → AreParsed (list_of ts)
   each_parsed no_trees h = tt
   each_parsed (more_trees t ts) h =
-      let (a, b) = each_split (IsParsedNode f) (preorder t) (preorder_all ts) h in (a, each_parsed ts b)
+      let (a, b) = each_split (IsParsedNode f text) (preorder t) (preorder_all ts) h in (a, each_parsed ts b)
 
   solid_solid : (ts : List Tree) → AllByRecursion IsSolid (solid ts)
   solid_solid [] = tt

@@ -1,40 +1,23 @@
--- What the readers of parts without trees give: flags of the same mode, counts that a word holds, names that can be
--- written, and escapes.
-use Rattle.std.proofs.Common.{◌≡◌, ℕ, zero, suc, ◌+◌, ◌<◌, ◌^◌, Bool, true, false, not, ◌&&◌, ◌==◌, if◌then◌else◌, []}
+-- What the readers of parts without trees give: flags of the same mode, counts that a word holds, and names that can be
+-- written.
+use Rattle.std.proofs.Common.{◌≡◌, ℕ, zero, suc, ◌<◌, ◌^◌, Bool, true, false, not, ◌&&◌, ◌==◌, if◌then◌else◌, []}
 use Rattle.std.proofs.Common.{◌∷◌}
-use Rattle.std.proofs.Common.{Option, Some, None, IfSome, option_map, unwrap_or, nat_lt, nat_le, refl, ◌∙◌, subst}
+use Rattle.std.proofs.Common.{Option, Some, None, IfSome, option_map, unwrap_or, nat_lt, refl, ◌∙◌}
 use Rattle.std.proofs.Common.{arith}
-use Rattle.std.proofs.Common.{rules}
-use Rattle.std.specs.Prelude.{option_and_then, codes}
-use Rattle.std.specs.Char.{is_ascii_digit}
-use Rattle.std.specs.Str.{bytes_eq}
+use Rattle.std.specs.Prelude.{option_and_then}
 use Rattle.std.proofs.lemmas.Bool.{cond_both}
 use Rattle.std.proofs.lemmas.Bool.Decides.{nat_tests}
 use Rattle.std.proofs.Math.Bool.{beq}
 use Prim.Native.Char.{code}
-use Rattle.fancy_lex.proofs.LoneLemmas.{AtRows, of_lone}
-use Rattle.fancy_lex.proofs.ReadingLemmas.{choose_both}
 use Rattle.fancy_lex.proofs.ReferencePlaces.{IfGives}
-use Rattle.fancy_lex.specs.Boundary as boundaries
-use Rattle.fancy_lex.specs.BoundarySteps as boundary_steps
-use Rattle.fancy_lex.specs.Characters.{open_brace, is_among, ◌∈◌}
+use Rattle.fancy_lex.specs.Characters.{is_among}
 use Rattle.fancy_lex.specs.Delimited.{name_before}
 use Rattle.fancy_lex.specs.FaultTable.{group_not_named}
 use Rattle.fancy_lex.specs.Id.{nonempty_front}
-use Rattle.fancy_lex.specs.Escape.{escape, escape_at, number_escape, call_escape, property, outside}
-use Rattle.fancy_lex.specs.Escape.{lone_escape, lone_outside}
-use Rattle.fancy_lex.specs.EscapeReference.{numbered_reference, back_reference, subroutine_call as called}
-use Rattle.fancy_lex.specs.Escaped.{Escape, literal, literal_bytes, assertion, general_newline}
-use Rattle.fancy_lex.specs.Escaped.{backref, subroutine_call}
-use Rattle.fancy_lex.specs.Hex as hexes
 use Rattle.fancy_lex.specs.LayoutSteps.{layout, past_layout}
 use Rattle.fancy_lex.specs.Number.{number}
-use Rattle.fancy_lex.specs.Property.{read_property}
 use Rattle.fancy_lex.specs.Reading.{Reading, gives, fails, ◌>=>◌, layout_reading, read_or}
-use Rattle.fancy_lex.specs.Text.{Text, strip, reach_of, bytes, cut_at}
-use Rattle.fancy_lex.specs.declared.escape.Assertion.{Assertion}
-use Rattle.fancy_lex.specs.declared.escape.Assertion.TheVariants.{StartLineOniguruma, LeftWordBoundary}
-use Rattle.fancy_lex.specs.declared.escape.Assertion.TheVariants.{RightWordBoundary}
+use Rattle.fancy_lex.specs.Text.{Text, strip, bytes, cut_at}
 use Rattle.fancy_lex.specs.declared.flags.Flags.{Flags}
 use Rattle.fancy_parts.specs.FlagLetters.{Letters, setting, scope, LetterStep, flags_end, flags_go_on, with_letter}
 use Rattle.fancy_parts.specs.GroupName.{group_name}
@@ -51,7 +34,7 @@ gives_both P Q (gives a u) f h g = g a u h
 gives_both P Q (fails e) f h g = tt
 
 -- whatever was read before
-gives_after : {A B : Type 0} (Q : B → Type 0) (o : Reading A) (f : A → Text → Reading B) →
+pub gives_after : {A B : Type 0} (Q : B → Type 0) (o : Reading A) (f : A → Text → Reading B) →
     ((a : A) (u : Text) → IfGives Q (f a u)) → IfGives Q (o >=> f)
 gives_after Q (gives a u) f g = g a u
 gives_after Q (fails e) f g = tt
@@ -223,143 +206,6 @@ counts_words x (c ∷ t) =
     cond_both (c == code "*") _ _ IfWords (λ _. (omega arith, omega arith)) (λ _.
     cond_both (c == code "+") _ _ IfWords (λ _. (omega arith, omega arith)) (λ _.
     cond_both (c == code "{") _ _ IfWords (λ _. braced_words x t) (λ _. tt))))
-
--- ---- escapes
-
--- the assertion is the start of a line in Oniguruma mode
-abbrev pub is_line_of_oniguruma : Assertion → Bool
-is_line_of_oniguruma (StartLineOniguruma crlf) = true
-is_line_of_oniguruma _ = false
-
--- what an escape says of the flags: a byte is read without Unicode, a general new line tells it, and no assertion is
--- the start of a line in Oniguruma mode
-abbrev pub IsOfMode : Flags → Escape → Type 0
-IsOfMode f (literal_bytes b) = f.unicode ≡ false
-IsOfMode f (general_newline unicode) = f.unicode ≡ unicode
-IsOfMode f (assertion a) = is_line_of_oniguruma a ≡ false
-IsOfMode f _ = Unit {0}
-
-module _ (f : Flags) where
-  abbrev Sound : Reading Escape → Type 0
-  Sound = IfGives (IsOfMode f)
-
-  after : {A : Type 0} (o : Reading A) (g : A → Text → Reading Escape) → ((a : A) (u : Text) → Sound (g a u)) →
-      Sound (o >=> g)
-  after = gives_after (IsOfMode f)
-
-  coded_mode : (width h v : ℕ) (u : Text) → Sound (hexes.leaf_of_value f width h v u)
-  unfolding hexes.leaf_of_value
-  coded_mode width h v u =
-      cond_both (width == 2 && not f.unicode && nat_le 0x80 v && nat_le v 0xFF) _ _ Sound
-      (λ e. byte (width == 2) f.unicode e) (λ _. cond_both (hexes.is_scalar v) _ _ Sound (λ _. tt) (λ _. tt))
-    where
-      byte : (a b : Bool) → (a && not b && nat_le 0x80 v && nat_le v 0xFF) ≡ true → b ≡ false
-      byte true false e = refl
-      byte true true e = absurd cc
-      byte false b e = absurd cc
-
-  hex_mode : (width : ℕ) (t : Text) → Sound (hexes.hex f width t)
-  unfolding hexes.hex
-  hex_mode width t =
-      after (layout_reading (layout f.ignore_space t)) _ (λ _ u.
-      after (hexes.value f.ignore_space (reach_of u) width u) _ (λ v w. coded_mode width (reach_of u) v w))
-
-  boundary_mode : (p : ℕ) (negated : Bool) (t : Text) → Sound (boundary_steps.boundary f.ignore_space p negated t)
-  unfolding boundary_steps.boundary boundary_steps.named_boundary
-  boundary_mode p negated t =
-      after (layout_reading (layout f.ignore_space t)) _ (λ _ u.
-      choose_both Sound (strip open_brace u) _ _ (λ v _.
-      after (layout_reading (layout f.ignore_space v)) _ (λ _ w.
-      cond_both (boundaries.at_count w) _ _ Sound (λ _. unnamed negated) (λ _. braces v))) (unnamed negated))
-    where
-      unnamed : (b : Bool) → IsOfMode f (boundaries.unnamed_boundary b)
-      unnamed true = refl
-      unnamed false = refl
-
-      names : (w : Text) → IfSome (boundaries.boundary_of_name negated w) (λ a. is_line_of_oniguruma a ≡ false)
-      names w =
-          let P = λ (o : Option Assertion). IfSome o (λ a. is_line_of_oniguruma a ≡ false) in
-          cond_both negated _ _ P (λ _. tt) (λ _.
-          cond_both (bytes_eq w (codes "start")) _ _ P (λ _. refl) (λ _.
-          cond_both (bytes_eq w (codes "end")) _ _ P (λ _. refl) (λ _.
-          cond_both (bytes_eq w (codes "start-half")) _ _ P (λ _. refl) (λ _.
-          cond_both (bytes_eq w (codes "end-half")) _ _ P (λ _. refl) (λ _. tt)))))
-
-      named : (w u : Text) (o : Option Assertion) → IfSome o (λ a. is_line_of_oniguruma a ≡ false) → (a : Assertion) →
-          o ≡ Some a → is_line_of_oniguruma a ≡ false
-      named w u o h a e = subst (λ q. IfSome q (λ a. is_line_of_oniguruma a ≡ false)) e h
-
-      braces : (v : Text) → Sound (boundary_steps.named_boundary f.ignore_space p negated v)
-      braces v =
-          after (boundary_steps.name f.ignore_space p _ v) _ (λ w u.
-          choose_both Sound (boundaries.boundary_of_name negated w) _ _
-          (λ a e. named w u (boundaries.boundary_of_name negated w) (names w) a e) tt)
-
-  call_mode : (p c : ℕ) (t : Text) → Sound (call_escape p c t)
-  unfolding call_escape
-  call_mode p c [] = tt
-  call_mode p c (d ∷ t) = after (called (d ∷ t)) (λ r u. gives (subroutine_call r) u) (λ r u. tt)
-
-  number_mode : (p : ℕ) (t : Text) → Sound (number_escape f false p t)
-  unfolding number_escape
-  number_mode p t = after (numbered_reference t) (λ r u. gives (backref r f.casei) u) (λ r u. tt)
-
-  property_mode : (p c : ℕ) (t : Text) → Sound (property f false p c t)
-  unfolding property
-  property_mode p c [] = tt
-  property_mode p c (d ∷ t) = choose_both Sound (read_property (c ∈ "P") (d ∷ t)) _ _ (λ q _. tt) tt
-
-  outside_mode : (p c : ℕ) (t : Text) → Sound (outside f p c t)
-  unfolding outside
-  outside_mode p c t =
-      cond_both (c ∈ "k") _ _ Sound
-      (λ _. after (back_reference t) (λ r u. gives (backref r f.casei) u) (λ r u. tt)) (λ _.
-      cond_both (c ∈ "g") _ _ Sound (λ _. call_mode p c t) (λ _.
-      cond_both (c ∈ "bB") _ _ Sound (λ _. boundary_mode p _ t) (λ _. tt)))
-
-  lone_mode : (c : ℕ) (t : Text) (e : Escape) → lone_escape f false c ≡ Some e → IsOfMode f e
-  lone_mode c t =
-      of_lone (IsOfMode f) f false c (λ _. tt) (search rules) outside_rows
-    where
-      pointed : (b : Bool) (x : ℕ) (a : Assertion) → is_line_of_oniguruma a ≡ false →
-          IsOfMode f (if b then literal x false else assertion a)
-      pointed true x a e = tt
-      pointed false x a e = e
-
-      outside_rows : AtRows (IsOfMode f) c (lone_outside f c)
-      outside_rows =
-          let here = pointed f.oniguruma_mode c in (
-            λ _. refl,
-            (
-              λ _. refl,
-              (
-                λ _. refl,
-                (
-                  λ _. tt,
-                  (
-                    λ _. tt,
-                    (
-                      λ _. refl,
-                      (λ _. tt, (λ _. tt, (λ _. here LeftWordBoundary refl, (λ _. here RightWordBoundary refl, tt)))),
-                    ),
-                  ),
-                ),
-              ),
-            ),
-          )
-
-  -- all that an escape stands for
-  pub escape_mode : (t : Text) → Sound (escape f false t)
-  unfolding escape_at
-  escape_mode [] = tt
-  escape_mode (c ∷ t) =
-      let p = reach_of (c ∷ t) + 1 in
-      cond_both (is_ascii_digit c) _ _ Sound (λ _. number_mode p (c ∷ t)) (λ _.
-      cond_both (c ∈ "x") _ _ Sound (λ _. hex_mode 2 t) (λ _.
-      cond_both (c ∈ "u") _ _ Sound (λ _. hex_mode 4 t) (λ _.
-      cond_both (c ∈ "U") _ _ Sound (λ _. hex_mode 8 t) (λ _.
-      cond_both (c ∈ "pP") _ _ Sound (λ _. property_mode p c t) (λ _.
-      choose_both Sound (lone_escape f false c) _ _ (λ e i. lone_mode c t e i) (outside_mode p c t))))))
 
 -- ---- names
 

@@ -32,7 +32,8 @@ AreThree _ = ⊥
 -- the same as of raw nodes, but that where groups without a name have no number, which leave their insides, what stands
 -- under a quantifier need not be repeatable, and a part of a Concat, a stopper's, and both branches may be Empty
 abbrev pub IsResolvedNode : Flags → Bool → Tree → Type 0
-IsResolvedNode f named (leaf l) = IsParsedNode f (leaf l)
+IsResolvedNode f named (leaf (label.ast_node r place)) = Unit {0}
+IsResolvedNode f named (leaf l) = IsParsedNode f [] (leaf l)
 IsResolvedNode f named (over (label.repeat lo hi greedy) t) =
     (named ≡ false → is_repeatable f t ≡ true) × (lo < 2 ^ 64) × (hi < 2 ^ 64)
 IsResolvedNode f named (over label.stopper t) = named ≡ false → IsSolid t
@@ -63,7 +64,7 @@ reference_plain f z _ r place = record { fact = λ b. tt; solid = refl; repeatab
 
 -- ---- what resolving keeps
 
-module _ (f : Flags) (z : ℕ) (named : Bool) (numbers_of : Text → List ℕ) where
+module _ (f : Flags) (text : Text) (z : ℕ) (named : Bool) (numbers_of : Text → List ℕ) where
   abbrev there : ℕ → Tree → Tree
   there = resolved_in z named numbers_of
 
@@ -111,7 +112,7 @@ module _ (f : Flags) (z : ℕ) (named : Bool) (numbers_of : Text → List ℕ) w
   abbrev kept_here : ℕ → List Tree → List Tree
   kept_here = kept z named numbers_of
 
-  nodes_kept : (c : ℕ) (l : List Tree) → AllByRecursion (IsParsedNode f) l →
+  nodes_kept : (c : ℕ) (l : List Tree) → AllByRecursion (IsParsedNode f text) l →
       AllByRecursion (IsResolvedNode f named) (kept_here c l)
   nodes_kept c [] h = tt
   nodes_kept c (ast_group name place t ∷ l) h =
@@ -136,12 +137,12 @@ module _ (f : Flags) (z : ℕ) (named : Bool) (numbers_of : Text → List ℕ) w
 
 -- ---- the names of groups
 
-names_in : (f : Flags) (l : List Tree) → AllByRecursion (IsParsedNode f) l →
+names_in : (f : Flags) (text : Text) (l : List Tree) → AllByRecursion (IsParsedNode f text) l →
     AllByRecursion (λ o. IfSome o.name IsNameWritable) (openings_in (items_of_all l))
-names_in f [] h = tt
-names_in f (ast_group name place t ∷ l) h = (h.0, names_in f l h.1)
-names_in f (ast_node r place ∷ l) h = names_in f l h.1
-names_in f (_ ∷ l) h = names_in f l h.1
+names_in f text [] h = tt
+names_in f text (ast_group name place t ∷ l) h = (h.0, names_in f text l h.1)
+names_in f text (ast_node r place ∷ l) h = names_in f text l h.1
+names_in f text (_ ∷ l) h = names_in f text l h.1
 
 -- ---- parsed trees
 
@@ -154,11 +155,11 @@ module _ {f : Flags} {text : Text} {t : Tree} {m : Marks} (a : IsTreeOf f text t
       subst (λ b. AllByRecursion (IsResolvedNode f b) (preorder t)) (sym (ap (λ k. k.numbered_groups_ignored) a.4))
       (subst (AllByRecursion (IsResolvedNode f named))
       (sym (ap preorder a.3 ∙ resolved_nodes (bytes text) named (numbers_in f r) 0 r))
-      (nodes_kept f (bytes text) named (numbers_in f r) 0 (preorder r) (derived_parsed a.1)))
+      (nodes_kept f text (bytes text) named (numbers_in f r) 0 (preorder r) (derived_parsed a.1)))
 
   -- each name can be written
   pub names_writable : AllByRecursion (λ (e : Text × List ℕ). IsNameWritable e.0) m.named_groups
   names_writable =
       names_told a IsNameWritable
       (subst (λ l. AllByRecursion (λ o. IfSome o.name IsNameWritable) (openings_in l)) (sym (items_of_nodes a.0))
-      (names_in f (preorder a.0) (derived_parsed a.1)))
+      (names_in f text (preorder a.0) (derived_parsed a.1)))

@@ -18,6 +18,7 @@ use Rattle.fancy_lex.specs.EscapeReference.{is_relative}
 use Rattle.fancy_lex.specs.Id.{id}
 use Rattle.fancy_lex.specs.IdReference.{IdReference, id_alone, id_and_amount, amount_alone, id_reference, amount}
 use Rattle.fancy_lex.specs.IdReference.{amount_bound, small_amount, with_sign, with_id, without_id}
+use Rattle.fancy_lex.specs.Reading.{choose}
 use Rattle.fancy_lex.specs.Number.{at_digit, number}
 use Rattle.fancy_lex.specs.NumberText.{number_text, whole_number, number_alone, is_nothing}
 use Rattle.fancy_lex.specs.Referred.{Reference, Call, call_to, reference_of, written_reference}
@@ -175,6 +176,25 @@ back_reference_read t = named_read (reach_of t) true (marked_name t)
 pub named_reference_read : (t : Text) → IfGives IsReferenceRead (named_reference t)
 unfolding named_reference
 named_reference_read t = named_read (reach_of t) false (name_before close_paren t)
+
+-- without amounts there is no level
+pub named_reference_plain : (t : Text) → IfGives (λ (r : Reference). r.level ≡ None) (named_reference t)
+unfolding named_reference reference_by_name written_reference id_reference reference_of
+named_reference_plain t =
+    named_at (reach_of t) IsPlain (written_reference (reach_of t) false) (name_before close_paren t)
+    (λ w r e. by_id (id w) e)
+  where
+    IsPlain : Reference → Type 0
+    IsPlain r = r.level ≡ None
+
+    alone : (i v : Text) (r : Reference) → option_map (reference_of (reach_of t)) (with_id false i v) ≡ Some r → IsPlain r
+    alone i [] r e = let same : reference_of (reach_of t) (id_alone i) ≡ r = cc in subst IsPlain same refl
+    alone i (c ∷ v) r e = absurd cc
+
+    by_id : (o : Option (Text × Text)) {r : Reference} →
+        option_map (reference_of (reach_of t)) (choose o (λ q. with_id false q.0 q.1) None) ≡ Some r → IsPlain r
+    by_id None e = absurd cc
+    by_id (Some q) {r} e = alone q.0 q.1 r e
 
 pub condition_target_read : (t : Text) → IfGives IsReferenceRead (condition_target t)
 unfolding condition_target
