@@ -13,5 +13,7 @@ pub mod Nodes
 pub mod Derived
 -- ---- the parsed tree
 pub mod Resolved
+pub mod References
+pub mod Numeric
 -- ---- the join
 pub mod Join

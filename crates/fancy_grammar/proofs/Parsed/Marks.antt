@@ -1,34 +1,29 @@
 -- The marks of a parsed tree are those that the definition of writable trees makes of it.
-use Rattle.std.proofs.Common.{◌≡◌, ℕ, suc, ◌+◌, Bool, true, false, ◌||◌, if◌then◌else◌, List, [], ◌∷◌}
-use Rattle.std.proofs.Common.{length, map, filter, filter_map, Option, Some, None, is_some, nat_le, nat_lt, refl, sym}
+use Rattle.std.proofs.Common.{◌≡◌, ℕ, List, [], ◌∷◌}
+use Rattle.std.proofs.Common.{length, map, filter, filter_map, Option, Some, None, nat_le, nat_lt, refl, sym}
 use Rattle.std.proofs.Common.{ap}
 use Rattle.std.proofs.Common.{◌∙◌, subst, arith, IfSome}
-use Rattle.std.proofs.lemmas.Bool.Decides.{nat_tests}
 use Rattle.std.proofs.lemmas.List.{length-map}
 use Rattle.std.specs.List.{AllByRecursion, list_any, cons_option}
 use Rattle.std.specs.Prelude.{find}
-use Rattle.fancy_lex.specs.Target.{by_number, by_name, relative}
-use Rattle.fancy_lex.specs.Text.{Text, bytes, place_at}
+use Rattle.fancy_lex.specs.Text.{Text}
 use Rattle.fancy_lex.specs.declared.flags.Flags.{Flags}
-use Rattle.fancy_parts.specs.Meaning.{means}
-use Rattle.fancy_parts.specs.Ranks.{Opening, is_counted, only_named, numbered_openings, named_groups, names, numbers}
-use Rattle.fancy_parts.specs.Written.{is_numeric}
+use Rattle.fancy_parts.specs.Ranks.{Opening, only_named, numbered_openings, named_groups, names, numbers}
 use Rattle.fancy_grammar.specs.Answer.{IsTreeOf}
 use Rattle.fancy_grammar.specs.Answered.{IsAnsweredNode, IsAnswered, IsAnsweredWith, is_group, groups, groups_referred}
-use Rattle.fancy_grammar.specs.Answered.{has_call}
-use Rattle.fancy_grammar.specs.Items.{Item, opening, reference, items, openings, meanings_in, meanings}
-use Rattle.fancy_grammar.specs.Items.{numbers_in, role_of, target_of}
-use Rattle.fancy_grammar.specs.Label.{AstReference, ast_backref, ast_call, ast_condition, group, ast_group}
-use Rattle.fancy_grammar.specs.Marks.{Marks, ascending, back_number, back_numbers, is_call}
+use Rattle.fancy_grammar.specs.Items.{openings}
+use Rattle.fancy_grammar.specs.Items.{numbers_in}
+use Rattle.fancy_grammar.specs.Label.{group, ast_group}
+use Rattle.fancy_grammar.specs.Marks.{Marks, ascending}
 use Rattle.fancy_grammar.specs.Pattern.{group_count, group_count_all}
 use Rattle.fancy_grammar.specs.Preorder.{preorder, preorder_all}
 use Rattle.fancy_grammar.specs.Tree.{Tree, leaf, over, row, Trees, no_trees, more_trees}
-use Rattle.fancy_grammar.specs.Writable.{openings_told, marks_of, AreCounted, has_reference}
-use Rattle.fancy_grammar.proofs.AnsweredLaws.{answered_with, numbers_referred}
+use Rattle.fancy_grammar.specs.Writable.{numbers_told, is_numbered, is_numbered_call_of_all, openings_told, marks_of, AreCounted}
+use Rattle.fancy_grammar.proofs.AnsweredLaws.{answered_with}
 use Rattle.fancy_grammar.proofs.NamedNumbers.{fold_all}
 use Rattle.fancy_grammar.proofs.Parsed.Lists.{each_split, each_filtered, length_filtered}
 use Rattle.fancy_grammar.proofs.Parsed.Told.{told_openings_are, counted_filtered, only_filtered}
-use Rattle.fancy_grammar.proofs.Pattern.Theorem.{unreached, unreached_groups, unreached_named}
+use Rattle.fancy_grammar.proofs.Pattern.Theorem.{unreached, unreached_numbers, unreached_groups, unreached_named}
 
 -- ---- how many groups have a number
 
@@ -46,51 +41,6 @@ mutual
   count_all (more_trees t ts) h =
       let (a, b) = each_split IsAnsweredNode (preorder t) (preorder_all ts) h in
       omega (arith, count_is t a, count_all ts b, length_filtered is_group (preorder t) (preorder_all ts))
-
--- ---- a reference that counts as written as a number
-
--- it has a number, or is a call
-number_or_call : (text : Text) (place : ℕ) (u : Text → List ℕ) (c : ℕ) (r : AstReference) →
-    is_numeric text place (role_of r) (target_of r) ≡ true →
-    (is_some (back_number (role_of r) (means u c (role_of r) (target_of r))) || is_call (role_of r)) ≡ true
-number_or_call text place u c (ast_backref (by_number n) casei level) e = refl
-number_or_call text place u c (ast_backref (by_name w) casei level) e = absurd cc
-number_or_call text place u c (ast_backref (relative z) casei level) e = absurd cc
-number_or_call text place u c (ast_call t) e = refl
-number_or_call text place u c (ast_condition (by_number n) level) e = absurd cc
-number_or_call text place u c (ast_condition (by_name w) level) e = absurd cc
-number_or_call text place u c (ast_condition (relative z) level) e = absurd cc
-
--- it, or one behind it
-or_later : (a more : Bool) (q : Option ℕ) (b : Bool) (l : List ℕ) (d : Bool) → (a ≡ true → (is_some q || b) ≡ true) →
-    (more ≡ true → (nat_lt 0 (length l) || d) ≡ true) → (a || more) ≡ true →
-    (nat_lt 0 (length (cons_option q l)) || (b || d)) ≡ true
-or_later a more (Some n) b l d f g e =
-    let some : nat_lt 0 (suc (length l)) ≡ true = grind (arith, nat_tests) in rw some refl
-or_later a more None true l d f g e = by_test (nat_lt 0 (length l))
-  where
-    by_test : (c : Bool) → (c || true) ≡ true
-    by_test true = refl
-    by_test false = refl
-or_later true more None false l d f g e = absurd-here (f refl)
-  where
-    absurd-here : {A : Type 0} → false ≡ true → A
-    absurd-here e = absurd cc
-or_later false more None false l d f g e = g e
-
-some_refer : (text : Text) (named : Bool) (u : Text → List ℕ) (c : ℕ) (l : List Item) →
-    list_any (λ x. is_numeric text (place_at (bytes text) x.1) (role_of x.0) (target_of x.0)) (meanings_in named u c l)
-    ≡ true →
-    (nat_lt 0 (length (back_numbers (meanings_in named u c l)))
-    || list_any (λ x. is_call (role_of x.0)) (meanings_in named u c l)) ≡ true
-some_refer text named u c [] e = absurd cc
-some_refer text named u c (opening o ∷ l) e =
-    some_refer text named u (if is_counted named o.name then c + 1 else c) l e
-some_refer text named u c (reference r p ∷ l) e =
-    or_later (is_numeric text (place_at (bytes text) p) (role_of r) (target_of r)) _
-    (back_number (role_of r) (means u c (role_of r) (target_of r))) (is_call (role_of r))
-    (back_numbers (meanings_in named u c l)) (list_any (λ x. is_call (role_of x.0)) (meanings_in named u c l))
-    (number_or_call text (place_at (bytes text) p) u c r) (some_refer text named u c l) e
 
 -- ---- names
 
@@ -148,11 +98,11 @@ module _ {f : Flags} {text : Text} {t : Tree} {m : Marks} (a : IsTreeOf f text t
       ∙ (sym (only_filtered f (only_named f (openings raw)) (openings raw))
       ∙ (sym (unreached_named f numbered) ∙ ap (only_named f) (sym told)))
 
-  -- they are those of the tree with its names by number; whether some call is one of the whole pattern stands in them
-  pub marks_told : m ≡ record (marks_of f (openings_told m 0 (group_count t)) t m.numeric_capture_group_references) {
-    self_recursive = m.self_recursive;
-  }
-  marks_told =
+  -- they are those of the tree with its names by number, where its references say how they are written
+  pub marks_told : m.numeric_capture_group_references ≡ list_any (is_numbered m) (preorder t) →
+      m.self_recursive ≡ list_any (is_numbered_call_of_all m) (preorder t) →
+      m ≡ marks_of f (openings_told m 0 (group_count t)) t m
+  marks_told numeric self =
       let all = openings_told m 0 (group_count t) in
       let named : m.named_groups ≡ named_groups all
       = groups_named ∙ (sym (unreached_groups numbered) ∙ ap named_groups (sym told)) in
@@ -163,13 +113,18 @@ module _ {f : Flags} {text : Text} {t : Tree} {m : Marks} (a : IsTreeOf f text t
       λ i. record {
         backrefs = backrefs i;
         named_groups = named i;
-        numeric_capture_group_references = m.numeric_capture_group_references;
+        numeric_capture_group_references = numeric i;
         contains_subroutines = sym is_so.calls i;
-        self_recursive = m.self_recursive;
+        self_recursive = self i;
         total_groups = sym length_is i;
         out_of_range_backref = outside i;
         numbered_groups_ignored = ignored_is i;
       }
+
+  -- a name has the numbers that the marks tell of
+  pub numbers_are : (w : Text) → numbers_told m w ≡ numbers_in f raw w
+  numbers_are w =
+      ap (λ n. numbers w (openings_told m 0 n)) (sym count_told) ∙ (ap (numbers w) told ∙ unreached_numbers 0 w numbered)
 
   -- each group of the tree has a number
   pub counted_told : AreCounted m.numbered_groups_ignored (openings_told m 0 (group_count t))
@@ -177,15 +132,6 @@ module _ {f : Flags} {text : Text} {t : Tree} {m : Marks} (a : IsTreeOf f text t
       subst (AreCounted m.numbered_groups_ignored) (sym told)
       (subst (λ b. AreCounted b (map unreached numbered)) (sym (ap (λ k. k.numbered_groups_ignored) a.4))
       (counted_filtered (only_named f (openings raw)) (openings raw)))
-
-  -- where some reference counts as written as a number, a back reference or a call stands in the tree
-  pub numeric_told : m.numeric_capture_group_references ≡ true → has_reference t ≡ true
-  numeric_told e =
-      let some = some_refer text (only_named f (openings raw)) (numbers_in f raw) 0 (items raw)
-      (sym (ap (λ k. k.numeric_capture_group_references) a.4) ∙ e) in
-      let calls : has_call t ≡ list_any (λ x. is_call (role_of x.0)) (meanings f raw)
-      = is_so.calls ∙ ap (λ k. k.contains_subroutines) a.4 in
-      (λ i. nat_lt 0 (length (numbers_referred a i)) || calls i) ∙ some
 
   -- what holds of the name of each group in the pattern holds of each that the marks say
   pub names_told : (P : Text → Type 0) → AllByRecursion (λ o. IfSome o.name P) (openings raw) →

@@ -208,7 +208,7 @@ unreached_names : (l : List Opening) → filter_map (λ o. o.name) (map unreache
 unreached_names [] = refl
 unreached_names (o ∷ l) = ap (cons_option o.name) (unreached_names l)
 
-unreached_numbers : (n : ℕ) (w : Text) (l : List Opening) → numbers_from n w (map unreached l) ≡ numbers_from n w l
+pub unreached_numbers : (n : ℕ) (w : Text) (l : List Opening) → numbers_from n w (map unreached l) ≡ numbers_from n w l
 unreached_numbers n w [] = refl
 unreached_numbers n w (o ∷ l) =
     ap (λ k. if is_name w o.name then (n + 1) ∷ k else k) (unreached_numbers (n + 1) w l)
