@@ -10,7 +10,7 @@ pub mod Groups
 pub mod Characters
 pub mod Leaves
 pub mod References
-pub mod Sources
+pub mod Source
 -- ---- quantifiers
 pub mod Quantifiers
 -- ---- the induction

@@ -1,0 +1,117 @@
+-- Which Delegates have a source: by a class or an escape that is read as them, and escapes of one letter.
+use Rattle.std.proofs.Common.{◌≡◌, ℕ, Bool, true, false, not, ◌&&◌, [], ◌∷◌}
+use Rattle.std.proofs.Common.{◌++◌, codes, refl, sym, ap, ◌∙◌, subst}
+use Rattle.std.proofs.Math.Bool.{and-false}
+use Rattle.std.proofs.lemmas.Bool.{cond-false, or_parts}
+use Rattle.std.specs.Str.{bytes_eq}
+use Prim.Native.Char.{code}
+use Rattle.fancy_lex.specs.Characters.{◌∈◌, backslash, open_bracket}
+use Rattle.fancy_lex.specs.Class.{class}
+use Rattle.fancy_lex.specs.Class.{OuterClass}
+use Rattle.fancy_lex.specs.Escape.{escape, escape_at, lone_escape}
+use Rattle.fancy_lex.specs.Escaped as leaves
+use Rattle.fancy_lex.specs.Escaped.{Escape}
+use Rattle.fancy_lex.specs.Escaped.{hex_class, negated_hex_class}
+use Rattle.fancy_lex.specs.Reading.{gives}
+use Rattle.fancy_lex.specs.Text.{Text}
+use Rattle.fancy_lex.specs.declared.flags.Flags.{Flags}
+use Rattle.fancy_lex.proofs.ClassLaws.{class_complete, class_reads, class_frame}
+use Rattle.fancy_grammar.specs.Label.{delegate}
+use Rattle.fancy_grammar.specs.PatternNeeds.{is_hex_class, settled, fixed_or}
+use Rattle.fancy_grammar.specs.PatternSource.{source}
+use Rattle.fancy_grammar.specs.PatternSource.{source_from}
+use Rattle.fancy_grammar.specs.PatternSource.{delegate_text}
+use Rattle.fancy_grammar.specs.Tree.{leaf}
+use Rattle.fancy_grammar.specs.Writable.{IsLike, IsSource, an_escape, a_class, HasSource}
+use Rattle.fancy_grammar.specs.declared.needs.Needs.{Needs}
+use Rattle.fancy_grammar.proofs.ReadBack.ClearLemmas.{Each, no_more, also, each_among}
+
+-- ---- a class reads the same whatever follows it
+
+class_follows : (f : Flags) (t s v : Text) → class f t ≡ gives s [] → class f (t ++ v) ≡ gives s v
+class_follows f t s v e =
+    let (a, h) = subst (OuterClass f t) e (class_reads f t) in class_complete f (t ++ v) _ (class_frame h v)
+
+-- ---- what a Delegate needs
+
+not_hex : (x y : Bool) (s : Text) → bytes_eq s hex_class ≡ false → (x && not y && bytes_eq s hex_class) ≡ false
+not_hex x y s e = ap (λ z. x && not y && z) e ∙ and-false (x && not y)
+
+not_negated : (x y : Bool) (s : Text) → bytes_eq s negated_hex_class ≡ false →
+    (x && not y && bytes_eq s negated_hex_class) ≡ false
+not_negated x y s e = ap (λ z. x && not y && z) e ∙ and-false (x && not y)
+
+module _ (s : Text) (h : is_hex_class s ≡ false) where
+  -- no hex class is written as its source
+  source_is : (f : Flags) (casei : Bool) → delegate_text f casei s ≡ source f.unicode s
+  source_is f casei =
+      let (a, b) = or_parts (bytes_eq s hex_class) _ h in
+      cond-false _ _ _ (not_hex f.casei casei s a) ∙ cond-false _ _ _ (not_negated f.casei casei s b)
+
+  same_case : (f : Flags) (casei : Bool) → settled f (leaf (delegate s casei)) ≡ f → f.casei ≡ casei
+  same_case f true e = sym (ap (λ g. g.casei) e)
+  same_case f false e =
+      sym (ap (λ g. g.casei) e) ∙ ap (λ (n : Needs). fixed_or f.casei n.casei) (cond-false _ _ _ h)
+
+  -- a class whose source is read alone as it
+  pub class_source : (f : Flags) (t : Text) (casei : Bool) → source f.unicode s ≡ open_bracket ∷ t →
+      ((g : Flags) → IsLike f g → class g t ≡ gives s []) → HasSource f s casei
+  class_source f t casei e c g like none =
+      let text = source_is g casei ∙ (ap (λ u. source u s) (ap (λ k. k.unicode) like) ∙ e) in
+      subst (IsSource g s casei) (sym text)
+      (a_class (same_case g casei none) (λ v. class_follows g t s v (c g like)))
+
+  -- an escape that reads as it, as it stands
+  pub escape_source : (f : Flags) (t : Text) (casei : Bool) → source f.unicode s ≡ backslash ∷ t →
+      ((g : Flags) → IsLike f g → (v : Text) → escape g false (t ++ v) ≡ gives (leaves.delegate s g.casei) v) →
+      HasSource f s casei
+  escape_source f t casei e q g like none =
+      let text = source_is g casei ∙ (ap (λ u. source u s) (ap (λ k. k.unicode) like) ∙ e) in
+      subst (IsSource g s casei) (sym text)
+      (an_escape (λ v. q g like v ∙ ap (λ b. gives (leaves.delegate s b) v) (same_case g casei none)))
+
+-- ---- escapes of one letter
+
+abbrev Letter : ℕ → Type 0
+Letter c = (f : Flags) (casei : Bool) → HasSource f (backslash ∷ c ∷ []) casei
+
+abbrev ReadsLetter : ℕ → Type 0
+ReadsLetter c = (g : Flags) (v : Text) → escape g false (c ∷ v) ≡ gives (leaves.delegate (backslash ∷ c ∷ []) g.casei) v
+
+abbrev IsOwnSource : ℕ → Type 0
+IsOwnSource c = (u : Bool) → source u (backslash ∷ c ∷ []) ≡ backslash ∷ c ∷ []
+
+letter_by : (c : ℕ) → is_hex_class (backslash ∷ c ∷ []) ≡ false → IsOwnSource c → ReadsLetter c → Letter c
+letter_by c h e q f casei = escape_source (backslash ∷ c ∷ []) h f (c ∷ []) casei (e f.unicode) (λ g like v. q g v)
+
+own_source : Each IsOwnSource (codes "dDsSwW")
+unfolding source_from
+own_source =
+    also (own (code "d") refl refl)
+    (also (own (code "D") refl refl)
+    (also (own (code "s") refl refl)
+    (also (own (code "S") refl refl) (also (own (code "w") refl refl) (also (own (code "W") refl refl) no_more)))))
+  where
+    own : (c : ℕ) → source true (backslash ∷ c ∷ []) ≡ backslash ∷ c ∷ [] →
+        source false (backslash ∷ c ∷ []) ≡ backslash ∷ c ∷ [] → IsOwnSource c
+    own c a b true = a
+    own c a b false = b
+
+reads_letter : Each ReadsLetter (codes "dDsSwW")
+unfolding escape_at lone_escape
+reads_letter =
+    also (λ g v. refl) (also (λ g v. refl) (also (λ g v. refl)
+    (also (λ g v. refl) (also (λ g v. refl) (also (λ g v. refl)
+    no_more)))))
+
+no_hex : Each (λ c. is_hex_class (backslash ∷ c ∷ []) ≡ false) (codes "dDsSwW")
+no_hex = also refl (also refl (also refl (also refl (also refl (also refl no_more)))))
+
+-- `\d`, `\D`, `\s`, `\S`, `\w`, `\W`
+pub letters_have_source : (f : Flags) (c : ℕ) (casei : Bool) → c ∈ "dDsSwW" ≡ true →
+    HasSource f (backslash ∷ c ∷ []) casei
+letters_have_source f c casei h =
+    letter_by c (each_among (λ c. is_hex_class (backslash ∷ c ∷ []) ≡ false) (codes "dDsSwW") c no_hex h)
+    (each_among IsOwnSource (codes "dDsSwW") c own_source h)
+    (each_among ReadsLetter (codes "dDsSwW") c reads_letter h) f
+    casei
