@@ -138,10 +138,12 @@ negated_hex_has_source f false g like none =
 -- ---- classes
 
 -- a class, as it is written
-pub class_has_source : (f : Flags) (t v s : Text) → class f t ≡ gives s v → (casei : Bool) → HasSource f s casei
-class_has_source f t v s e casei =
-    let (a, h) = subst (OuterClass f t) e (class_reads f t) in
-    by_hex (is_hex_class s) refl (class_source_of h false (λ e. absurd cc))
+pub class_has_source : (f g : Flags) (t v s : Text) → f.unicode ≡ g.unicode → class g t ≡ gives s v → (casei : Bool) →
+    HasSource f s casei
+class_has_source f g t v s same e casei =
+    let (a, h) = subst (OuterClass g t) e (class_reads g t) in
+    by_hex (is_hex_class s) refl
+    (subst (λ u. ClassSource u false s a) (sym same) (class_source_of h false (λ e. absurd cc)))
   where
     by_hex : (b : Bool) {m : Bool} → is_hex_class s ≡ b → ClassSource f.unicode false s m → HasSource f s casei
     by_hex true hex c =
@@ -291,17 +293,18 @@ module _ (f : Flags) (negated : Bool) (l : Text) (casei : Bool) (free : HasNoBra
       (λ _. any_has_source) (λ e7. other_has_source e1 e2 e3 e4 e5 e6 e7)))))))
 
 -- a property, outside a class
-property_has_source : (f : Flags) (negated : Bool) (name : PropertyName) (casei : Bool) → IsFree name →
-    HasSource f (property_text f.unicode false (prop negated name)) casei
+property_has_source : (f : Flags) (u negated : Bool) (name : PropertyName) (casei : Bool) → f.unicode ≡ u →
+    IsFree name → HasSource f (property_text u false (prop negated name)) casei
 unfolding property_text
-property_has_source f negated (single c) casei h = short_has_source f negated c casei h
-property_has_source f negated (braced w) casei h =
+property_has_source f u negated (single c) casei same h = short_has_source f negated c casei h
+property_has_source f u negated (braced w) casei same h =
     let p = turn negated w in
-    form_has_source f p.0 (lowercase p.1) casei (lower_free p.1 (turn_free negated w h)) (lower_twice p.1) f.unicode refl
+    form_has_source f p.0 (lowercase p.1) casei (lower_free p.1 (turn_free negated w h)) (lower_twice p.1) u same
 
 -- ---- escapes
 
-module _ (f : Flags) where
+-- read under g, where UNICODE is as under f
+module _ (f g : Flags) (same : f.unicode ≡ g.unicode) where
   -- a Delegate has a source
   abbrev Told : Escape → Type 0
   Told (leaves.delegate s casei) = HasSource f s casei
@@ -316,10 +319,10 @@ module _ (f : Flags) where
   told_then (gives a t) k h = h a t
   told_then (fails e) k h = tt
 
-  reference_told : (o : Reading Reference) → ToldOf (backref_leaf f o)
+  reference_told : (o : Reading Reference) → ToldOf (backref_leaf g o)
   reference_told o = told_then o _ (λ r u. tt)
 
-  number_told : (p : ℕ) (t : Text) → ToldOf (number_escape f false p t)
+  number_told : (p : ℕ) (t : Text) → ToldOf (number_escape g false p t)
   unfolding number_escape
   number_told p t = reference_told (numbered_reference t)
 
@@ -328,62 +331,62 @@ module _ (f : Flags) where
   call_told p c [] = tt
   call_told p c (d ∷ t) = told_then (subroutine_call (d ∷ t)) _ (λ r u. tt)
 
-  coded_told : (width h v : ℕ) (t : Text) → ToldOf (leaf_of_value f width h v t)
+  coded_told : (width h v : ℕ) (t : Text) → ToldOf (leaf_of_value g width h v t)
   unfolding leaf_of_value
   coded_told width h v t =
-      cond_both (width == 2 && not f.unicode && nat_le 0x80 v && nat_le v 0xFF) _ _ ToldOf (λ _. tt)
+      cond_both (width == 2 && not g.unicode && nat_le 0x80 v && nat_le v 0xFF) _ _ ToldOf (λ _. tt)
       (λ _. cond_both (is_scalar v) _ _ ToldOf (λ _. tt) (λ _. tt))
 
-  hex_told : (width : ℕ) (t : Text) → ToldOf (hex f width t)
+  hex_told : (width : ℕ) (t : Text) → ToldOf (hex g width t)
   unfolding hex
   hex_told width t =
-      told_then (layout_reading (layout f.ignore_space t)) _
-      (λ _ v. told_then (value f.ignore_space (reach_of v) width v) _ (λ a r. coded_told width (reach_of v) a r))
+      told_then (layout_reading (layout g.ignore_space t)) _
+      (λ _ v. told_then (value g.ignore_space (reach_of v) width v) _ (λ a r. coded_told width (reach_of v) a r))
 
-  property_told : (p c : ℕ) (t : Text) → ToldOf (property f false p c t)
+  property_told : (p c : ℕ) (t : Text) → ToldOf (property g false p c t)
   unfolding property read_property
   property_told p c [] = tt
   property_told p c (d ∷ t) = from (name_at (d ∷ t)) (name_free (d ∷ t))
     where
       from : (o : Option (PropertyName × Text)) → IsNameFree o →
           ToldOf (choose (option_map {T = PropertyName × Text} {U = Property × Text} (λ q. (prop (c ∈ "P") q.0, q.1)) o)
-          (λ q. gives (leaves.delegate (property_text f.unicode false q.0) f.casei) q.1)
+          (λ q. gives (leaves.delegate (property_text g.unicode false q.0) g.casei) q.1)
           (fails (property_not_closed p)))
       from None h = tt
-      from (Some q) h = property_has_source f (c ∈ "P") q.0 f.casei h
+      from (Some q) h = property_has_source f g.unicode (c ∈ "P") q.0 g.casei same h
 
-  boundary_told : (p : ℕ) (negated : Bool) (t : Text) → ToldOf (boundary_steps.boundary f.ignore_space p negated t)
+  boundary_told : (p : ℕ) (negated : Bool) (t : Text) → ToldOf (boundary_steps.boundary g.ignore_space p negated t)
   unfolding boundary_steps.boundary boundary_steps.named_boundary
   boundary_told p negated t =
-      told_then (layout_reading (layout f.ignore_space t)) _
+      told_then (layout_reading (layout g.ignore_space t)) _
       (λ _ u. choose_both ToldOf (strip open_brace u) _ _
-      (λ v _. told_then (layout_reading (layout f.ignore_space v)) _
+      (λ v _. told_then (layout_reading (layout g.ignore_space v)) _
       (λ _ w. cond_both (boundaries.at_count w) _ _ ToldOf (λ _. tt) (λ _. braces v))) tt)
     where
-      braces : (v : Text) → ToldOf (boundary_steps.named_boundary f.ignore_space p negated v)
+      braces : (v : Text) → ToldOf (boundary_steps.named_boundary g.ignore_space p negated v)
       braces v =
-          told_then (boundary_steps.name f.ignore_space p _ v) _
+          told_then (boundary_steps.name g.ignore_space p _ v) _
           (λ w u. choose_both ToldOf (boundaries.boundary_of_name negated w) _ _ (λ a _. tt) tt)
 
-  outside_told : (p c : ℕ) (t : Text) → ToldOf (outside f p c t)
+  outside_told : (p c : ℕ) (t : Text) → ToldOf (outside g p c t)
   unfolding outside
   outside_told p c t =
       cond_both (c ∈ "k") _ _ ToldOf (λ _. reference_told (back_reference t)) (λ _.
       cond_both (c ∈ "g") _ _ ToldOf (λ _. call_told p c t) (λ _.
       cond_both (c ∈ "bB") _ _ ToldOf (λ _. boundary_told p _ t) (λ _. tt)))
 
-  lone_told : (c : ℕ) (e : Escape) → lone_escape f false c ≡ Some e → Told e
+  lone_told : (c : ℕ) (e : Escape) → lone_escape g false c ≡ Some e → Told e
   lone_told c =
-      of_lone Told f false c (λ _. tt)
+      of_lone Told g false c (λ _. tt)
       anywhere (search rules)
     where
-      anywhere : AtRows Told c (lone_anywhere f c)
+      anywhere : AtRows Told c (lone_anywhere g c)
       anywhere = (
-        λ h. letters_have_source f c f.casei h,
+        λ h. letters_have_source f c g.casei h,
         (λ _. hex_has_source f false, (λ _. negated_hex_has_source f false, (search rules))),
       )
 
-  escape_told : (t : Text) → ToldOf (escape f false t)
+  escape_told : (t : Text) → ToldOf (escape g false t)
   unfolding escape_at
   escape_told [] = tt
   escape_told (c ∷ t) =
@@ -393,25 +396,24 @@ module _ (f : Flags) where
       cond_both (c ∈ "u") _ _ ToldOf (λ _. hex_told 4 t) (λ _.
       cond_both (c ∈ "U") _ _ ToldOf (λ _. hex_told 8 t) (λ _.
       cond_both (c ∈ "pP") _ _ ToldOf (λ _. property_told p c t) (λ _.
-      choose_both ToldOf (lone_escape f false c) _ _ (λ e q. lone_told c e q) (outside_told p c t))))))
+      choose_both ToldOf (lone_escape g false c) _ _ (λ e q. lone_told c e q) (outside_told p c t))))))
 
 -- what an escape outside a class gives
-pub escape_has_source : (f : Flags) (t v s : Text) (casei : Bool) → escape f false t ≡ gives (leaves.delegate s casei) v →
-    HasSource f s casei
-escape_has_source f t v s casei e = subst (ToldOf f) e (escape_told f t)
+pub escape_has_source : (f g : Flags) (t v s : Text) (casei : Bool) → f.unicode ≡ g.unicode →
+    escape g false t ≡ gives (leaves.delegate s casei) v → HasSource f s casei
+escape_has_source f g t v s casei same e = subst (ToldOf f g same) e (escape_told f g same t)
 
 -- ---- the law
 
--- a Delegate as a reader gives it: an escape outside a class, or a class, which has the case flag that holds
+-- A Delegate as a reader gives it, under flags that have UNICODE where these have it: an escape outside a class, or a
+-- class, which has the case flag that holds.
 pub data IsReadDelegate (f : Flags) (s : Text) (casei : Bool) : Type 0 where
-  by_escape : (t v : Text) → escape f false t ≡ gives (leaves.delegate s casei) v → IsReadDelegate f s casei
-  by_class : (t v : Text) → f.casei ≡ casei → class f t ≡ gives s v → IsReadDelegate f s casei
+  by_escape : (g : Flags) (t v : Text) → f.unicode ≡ g.unicode → escape g false t ≡ gives (leaves.delegate s casei) v →
+      IsReadDelegate f s casei
+  by_class : (g : Flags) (t v : Text) → f.unicode ≡ g.unicode → g.casei ≡ casei → class g t ≡ gives s v →
+      IsReadDelegate f s casei
 
-has_source_under : (f g : Flags) (s : Text) (casei : Bool) → IsLike f g → HasSource g s casei → HasSource f s casei
-has_source_under f g s casei like h k alike = h k (alike ∙ sym like)
-
--- each has a source, also under flags that a text sets before it
-pub sources_read : (f g : Flags) (s : Text) (casei : Bool) → IsLike f g → IsReadDelegate g s casei →
-    HasSource f s casei
-sources_read f g s casei like (by_escape t v e) = has_source_under f g s casei like (escape_has_source g t v s casei e)
-sources_read f g s casei like (by_class t v same e) = has_source_under f g s casei like (class_has_source g t v s e casei)
+-- each has a source
+pub sources_read : (f : Flags) (s : Text) (casei : Bool) → IsReadDelegate f s casei → HasSource f s casei
+sources_read f s casei (by_escape g t v same e) = escape_has_source f g t v s casei same e
+sources_read f s casei (by_class g t v same case e) = class_has_source f g t v s same e casei
