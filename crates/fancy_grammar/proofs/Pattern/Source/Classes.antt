@@ -1,16 +1,19 @@
 -- What a class writes is read as itself: by induction along the class.
-use Rattle.std.proofs.Common.{◌≡◌, ℕ, Bool, true, false, not, ◌==◌, [], ◌∷◌, ◌++◌, codes, Option, Some, None}
+use Rattle.std.proofs.Common.{◌≡◌, ℕ, Bool, true, false, ◌==◌, [], ◌∷◌, ◌++◌, codes, Option, Some, None}
 use Rattle.std.proofs.Common.{refl, ap, ◌∙◌, sym, subst, append_assoc, if◌then◌else◌, eqb-true}
+use Rattle.std.proofs.lemmas.Bool.{not-true}
 use Prim.Native.Char.{code}
 use Rattle.fancy_lex.specs.Characters.{◌∈◌}
-use Rattle.fancy_lex.specs.Class.{class_head, escape_in_class, is_negated, is_plain_in_class, written, Class, class_items}
+use Rattle.fancy_lex.specs.Class.{class_head, escape_in_class, is_negated, is_plain_in_class, written, Class}
+use Rattle.fancy_lex.specs.Class.{class_items}
 use Rattle.fancy_lex.specs.Class.{ClassItems, close, plain, escaped, nested}
 use Rattle.fancy_lex.specs.Text.{Text, strip}
 use Rattle.fancy_lex.specs.declared.flags.Flags.{Flags}
 use Rattle.fancy_grammar.specs.PatternSource.{source_from}
 use Rattle.fancy_grammar.proofs.ReadBack.ChunkLemmas.{open_plain, open_caret}
 use Rattle.fancy_grammar.proofs.ReadBack.ClearLemmas.{apart}
-use Rattle.fancy_grammar.proofs.Pattern.Source.Steps.{NoProperty, NoSet, NoJoined, char_source, char_on, close_on, open_on}
+use Rattle.fancy_grammar.proofs.Pattern.Source.Steps.{NoProperty, NoSet, NoJoined, char_source, char_on, close_on}
+use Rattle.fancy_grammar.proofs.Pattern.Source.Steps.{open_on}
 use Rattle.fancy_grammar.proofs.Pattern.Source.Steps.{open_caret_on}
 use Rattle.fancy_grammar.proofs.Pattern.Source.Parts.{char_items}
 use Rattle.fancy_grammar.proofs.Pattern.Source.Items.{InClass, IsBelow}
@@ -36,7 +39,8 @@ head_is t head u e = subst (λ (p : Text × Text). HeadOf t p.0 p.1) e (of t)
         at : (b : Bool) → (c == code "]") ≡ b →
             HeadOf (code "^" ∷ c ∷ t) (class_head [] (code "^" ∷ c ∷ t)).0 (class_head [] (code "^" ∷ c ∷ t)).1
         at true e =
-            subst (λ d. HeadOf (code "^" ∷ d ∷ t) (class_head [] (code "^" ∷ d ∷ t)).0 (class_head [] (code "^" ∷ d ∷ t)).1)
+            subst
+            (λ d. HeadOf (code "^" ∷ d ∷ t) (class_head [] (code "^" ∷ d ∷ t)).0 (class_head [] (code "^" ∷ d ∷ t)).1)
             (sym (eqb-true c (code "]") e)) negated_closing
         at false e =
             subst (λ (p : Text × Text). HeadOf (code "^" ∷ c ∷ t) p.0 p.1) (sym (open_caret (c ∷ t) (rw e refl)))
@@ -69,11 +73,7 @@ open_both t = refl
 -- ---- what the text of items begins with
 
 plain_not : (c : ℕ) → is_plain_in_class c ≡ true → c ∈ "\\[]" ≡ false
-plain_not c h = so (c ∈ "\\[]") h
-  where
-    so : (b : Bool) → not b ≡ true → b ≡ false
-    so true e = absurd cc
-    so false e = refl
+plain_not c h = not-true (c ∈ "\\[]") h
 
 none_again : (m c : ℕ) (t u : Text) → strip m (c ∷ t) ≡ None → strip m (c ∷ u) ≡ None
 none_again m c t u e = at (c == m) e

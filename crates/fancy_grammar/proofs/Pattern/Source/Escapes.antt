@@ -1,12 +1,14 @@
 -- What a class writes for an escape is read as itself.
-use Rattle.std.proofs.Common.{◌≡◌, ℕ, ◌+◌, ◌<◌, ◌≤◌, ◌/◌, ◌%◌, Bool, true, false, not, ◌&&◌, ◌==◌, nat_le, [], ◌∷◌, ◌++◌}
+use Rattle.std.proofs.Common.{◌≡◌, ℕ, ◌+◌, ◌<◌, ◌≤◌, ◌/◌, ◌%◌, Bool, true, false, not, ◌&&◌, ◌==◌, nat_le}
+use Rattle.std.proofs.Common.{[], ◌∷◌, ◌++◌}
 use Rattle.std.proofs.Common.{codes, Option, Some, None, option_map, refl, ap, ◌∙◌, sym, subst, arith}
 use Rattle.std.proofs.lemmas.Bool.{cond_both}
 use Rattle.std.proofs.lemmas.Bool.Decides.{nat_tests}
 use Rattle.std.specs.Char.{is_ascii_digit}
 use Prim.Native.Char.{code}
 use Rattle.fancy_lex.specs.Characters.{◌∈◌, backslash, open_brace, close_brace}
-use Rattle.fancy_lex.specs.Class.{joint, escape_in_class, is_negated, needs_backslash_in_class, upper_hex_digit, byte_text}
+use Rattle.fancy_lex.specs.Class.{joint, escape_in_class, is_negated, needs_backslash_in_class, upper_hex_digit}
+use Rattle.fancy_lex.specs.Class.{byte_text}
 use Rattle.fancy_lex.specs.Escape.{escape, escape_at, number_escape, property, lone_escape, lone_anywhere}
 use Rattle.fancy_lex.specs.EscapeReference.{group_number}
 use Rattle.fancy_lex.specs.Escaped as leaves

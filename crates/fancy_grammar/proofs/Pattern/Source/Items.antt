@@ -60,7 +60,8 @@ in_by u b σ n x source below reads front opens = record {
   opens = opens;
 }
 
-pub unjoined : (u b σ : Bool) (t : Text) → is_negated_set t ≡ false → InClass u b σ (is_negated_set t) t → InText u b σ t
+pub unjoined : (u b σ : Bool) (t : Text) → is_negated_set t ≡ false → InClass u b σ (is_negated_set t) t →
+    InText u b σ t
 unjoined u b σ t h i = subst (InClass u b σ (is_negated_set t)) (sym (none b)) i
   where
     none : (b : Bool) → joint (b && is_negated_set t) ++ t ≡ t
@@ -112,7 +113,8 @@ front_char b c r h k l m = record {
 }
 
 -- a negated set, behind `&&` where one was written
-pub front_set : (b n : Bool) (r : Text) → ((z : Text) → NoProperty (r ++ z)) → Front b (joint (b && n) ++ (codes "[^" ++ r))
+pub front_set : (b n : Bool) (r : Text) → ((z : Text) → NoProperty (r ++ z)) →
+    Front b (joint (b && n) ++ (codes "[^" ++ r))
 front_set true true r h = record {
   property = λ z. record { space = refl; control = refl };
   set = λ e z. record { space = refl; control = refl };
@@ -156,7 +158,8 @@ opens_joined false r = opens_by (code "[") _ refl refl
 
 -- ---- names
 
-pub rowless_in : (u b σ negated : Bool) (w : Text) → IsBelow σ b → IsRowless w → InText u b σ (property_written negated w)
+pub rowless_in : (u b σ negated : Bool) (w : Text) → IsBelow σ b → IsRowless w →
+    InText u b σ (property_written negated w)
 rowless_in u b σ negated w below h =
     unjoined u b σ (property_written negated w) (no_set negated)
     (in_by u b σ _ (property_written negated w) _ below (rowless_read u σ negated w h) (front negated w h.lower)
@@ -209,7 +212,8 @@ in_set u b σ true items source below i front opens h =
 
 -- items that are replaced by one escape
 pub row_read : (u σ negated : Bool) (c : ℕ) (t name : Text) → HasNoBrace name →
-    ((z : Text) → part_at u σ c (t ++ z) ≡ part (backslash ∷ negated_letter negated ∷ code "{" ∷ (name ++ codes "}")) z) →
+    ((z : Text) → part_at u σ c (t ++ z)
+    ≡ part (backslash ∷ negated_letter negated ∷ code "{" ∷ (name ++ codes "}")) z) →
     property_text u true (prop negated (braced name)) ≡ c ∷ t → is_negated_set (c ∷ t) ≡ false →
     Reads u σ σ (c ∷ t) (backslash ∷ negated_letter negated ∷ code "{" ∷ (name ++ codes "}"))
 row_read u σ negated c t name free at is n =

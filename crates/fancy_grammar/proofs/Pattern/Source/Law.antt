@@ -37,7 +37,8 @@ use Rattle.fancy_grammar.proofs.ReadBack.ChunkLemmas.{HasNoBrace, prop, open_pla
 use Rattle.fancy_grammar.proofs.Pattern.Source.Parts.{Reads, SetItems, bracket_read, negated_read, closed_items}
 use Rattle.fancy_grammar.proofs.Pattern.Source.Names.{IsRowless, named_reads, rowless_read, rowless_reads, named_behind}
 use Rattle.fancy_grammar.proofs.Pattern.Source.Names.{short_read, short_reads}
-use Rattle.fancy_grammar.proofs.Pattern.Source.Rows.{IsFree, any, alpha_digit, blanks, controls, tab_blank, posix, word_set}
+use Rattle.fancy_grammar.proofs.Pattern.Source.Rows.{IsFree, any, alpha_digit, blanks, controls, tab_blank, posix}
+use Rattle.fancy_grammar.proofs.Pattern.Source.Rows.{word_set}
 use Rattle.fancy_grammar.proofs.Pattern.Source.Rows.{set_read, graph, print, turned_graph, turned_print, free_of}
 use Rattle.fancy_grammar.proofs.Pattern.Source.Rows.{lower_free, lower_twice, turn_free}
 use Rattle.fancy_grammar.proofs.Pattern.Source.Escapes.{IsNameFree, name_free, hex_items}
@@ -91,7 +92,8 @@ hex_as_class : (g : Flags) (casei : Bool) → g.casei ≡ casei → IsSource g h
 hex_as_class g casei e =
     let w = codes "0-9A-Fa-f" in
     let i = hex_items g.unicode false in
-    subst (IsSource g hex_class casei) (sym (alone g.unicode false hex_class hex_class (bracket_read g.unicode false w w i)))
+    subst (IsSource g hex_class casei)
+    (sym (alone g.unicode false hex_class hex_class (bracket_read g.unicode false w w i)))
     (a_class e (λ v. set_is_read g.unicode w w i g refl v))
 
 negated_hex_as_class : (g : Flags) (casei : Bool) → g.casei ≡ casei →
@@ -147,7 +149,8 @@ class_has_source f g t v s same e casei =
   where
     by_hex : (b : Bool) {m : Bool} → is_hex_class s ≡ b → ClassSource f.unicode false s m → HasSource f s casei
     by_hex true hex c =
-        ⊎_elim (λ e. subst (λ x. HasSource f x casei) (sym ((bytes_eq-Decides s hex_class).0 e)) (hex_has_source f casei))
+        ⊎_elim
+        (λ e. subst (λ x. HasSource f x casei) (sym ((bytes_eq-Decides s hex_class).0 e)) (hex_has_source f casei))
         (λ e. subst (λ x. HasSource f x casei) (sym ((bytes_eq-Decides s negated_hex_class).0 e))
         (negated_hex_has_source f casei))
         (or_cases (bytes_eq s hex_class) (bytes_eq s negated_hex_class) hex)
@@ -261,17 +264,22 @@ module _ (f : Flags) (negated : Bool) (l : Text) (casei : Bool) (free : HasNoBra
   form_has_source true same =
       cond_both (bytes_eq l (codes "alnum")) _ _ (λ k. HasSource f (form_text false negated (form true k l)) casei)
       (λ _. set_has_source f true negated casei _ _ same (alpha_digit false) refl refl)
-      (λ e1. cond_both (bytes_eq l (codes "blank")) _ _ (λ k. HasSource f (form_text false negated (form true k l)) casei)
+      (λ e1. cond_both (bytes_eq l (codes "blank")) _ _
+      (λ k. HasSource f (form_text false negated (form true k l)) casei)
       (λ _. set_has_source f true negated casei _ _ same (blanks false) refl refl)
-      (λ e2. cond_both (bytes_eq l (codes "cntrl")) _ _ (λ k. HasSource f (form_text false negated (form true k l)) casei)
+      (λ e2. cond_both (bytes_eq l (codes "cntrl")) _ _
+      (λ k. HasSource f (form_text false negated (form true k l)) casei)
       (λ _. set_has_source f true negated casei _ _ same (controls false) refl refl)
-      (λ e3. cond_both (bytes_eq l (codes "word")) _ _ (λ k. HasSource f (form_text false negated (form true k l)) casei)
+      (λ e3. cond_both (bytes_eq l (codes "word")) _ _
+      (λ k. HasSource f (form_text false negated (form true k l)) casei)
       (λ _. pair_has_source (codes "\\w") (codes "\\W") (letters_have_source f (code "w") casei refl)
       (letters_have_source f (code "W") casei refl))
-      (λ e4. cond_both (bytes_eq l (codes "graph")) _ _ (λ k. HasSource f (form_text false negated (form true k l)) casei)
+      (λ e4. cond_both (bytes_eq l (codes "graph")) _ _
+      (λ k. HasSource f (form_text false negated (form true k l)) casei)
       (λ _. pair_has_source (codes "[^\\p{White_Space}\\p{C}]") (codes "[\\p{White_Space}\\p{C}]")
       (graph_has_source same) (turned_graph_has_source same))
-      (λ e5. cond_both (bytes_eq l (codes "print")) _ _ (λ k. HasSource f (form_text false negated (form true k l)) casei)
+      (λ e5. cond_both (bytes_eq l (codes "print")) _ _
+      (λ k. HasSource f (form_text false negated (form true k l)) casei)
       (λ _. pair_has_source (codes "[^\\p{C}\\t\\n\\v\\f\\r]") (codes "[\\p{C}\\t\\n\\v\\f\\r]")
       (print_has_source same) (turned_print_has_source same))
       (λ e6. cond_both (bytes_eq l (codes "cs")) _ _ (λ k. HasSource f (form_text false negated (form true k l)) casei)
@@ -279,15 +287,20 @@ module _ (f : Flags) (negated : Bool) (l : Text) (casei : Bool) (free : HasNoBra
   form_has_source false same =
       cond_both (bytes_eq l (codes "alnum")) _ _ (λ k. HasSource f (form_text false negated (form false k l)) casei)
       (λ _. set_has_source f false negated casei _ _ same (posix false false (codes "alnum:") refl) refl refl)
-      (λ e1. cond_both (bytes_eq l (codes "blank")) _ _ (λ k. HasSource f (form_text false negated (form false k l)) casei)
+      (λ e1. cond_both (bytes_eq l (codes "blank")) _ _
+      (λ k. HasSource f (form_text false negated (form false k l)) casei)
       (λ _. set_has_source f false negated casei _ _ same (tab_blank false) refl refl)
-      (λ e2. cond_both (bytes_eq l (codes "cntrl")) _ _ (λ k. HasSource f (form_text false negated (form false k l)) casei)
+      (λ e2. cond_both (bytes_eq l (codes "cntrl")) _ _
+      (λ k. HasSource f (form_text false negated (form false k l)) casei)
       (λ _. set_has_source f false negated casei _ _ same (posix false false (codes "cntrl:") refl) refl refl)
-      (λ e3. cond_both (bytes_eq l (codes "word")) _ _ (λ k. HasSource f (form_text false negated (form false k l)) casei)
+      (λ e3. cond_both (bytes_eq l (codes "word")) _ _
+      (λ k. HasSource f (form_text false negated (form false k l)) casei)
       (λ _. set_has_source f false negated casei _ _ same (word_set false false) refl refl)
-      (λ e4. cond_both (bytes_eq l (codes "graph")) _ _ (λ k. HasSource f (form_text false negated (form false k l)) casei)
+      (λ e4. cond_both (bytes_eq l (codes "graph")) _ _
+      (λ k. HasSource f (form_text false negated (form false k l)) casei)
       (λ _. set_has_source f false negated casei _ _ same (posix false false (codes "graph:") refl) refl refl)
-      (λ e5. cond_both (bytes_eq l (codes "print")) _ _ (λ k. HasSource f (form_text false negated (form false k l)) casei)
+      (λ e5. cond_both (bytes_eq l (codes "print")) _ _
+      (λ k. HasSource f (form_text false negated (form false k l)) casei)
       (λ _. set_has_source f false negated casei _ _ same (posix false false (codes "print:") refl) refl refl)
       (λ e6. cond_both (bytes_eq l (codes "cs")) _ _ (λ k. HasSource f (form_text false negated (form false k l)) casei)
       (λ _. any_has_source) (λ e7. other_has_source e1 e2 e3 e4 e5 e6 e7)))))))

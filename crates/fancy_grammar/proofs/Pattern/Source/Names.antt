@@ -64,7 +64,8 @@ rowless_text u inside negated w h =
     ∙ (ap (form_text inside negated) (h.other u) ∙ by_sign negated)
   where
     by_sign : (negated : Bool) →
-        form_text inside negated (pair (property_written false w) (property_written true w)) ≡ property_written negated w
+        form_text inside negated (pair (property_written false w) (property_written true w))
+        ≡ property_written negated w
     by_sign true = refl
     by_sign false = refl
 
@@ -173,7 +174,8 @@ rowless_on u σ negated w z h =
     part_is false true false = own false
     part_is false false false = own false
 
-no_set : (negated : Bool) (w : Text) (casei : Bool) → is_negated (leaves.delegate (property_written negated w) casei) ≡ false
+no_set : (negated : Bool) (w : Text) (casei : Bool) →
+    is_negated (leaves.delegate (property_written negated w) casei) ≡ false
 no_set true w casei = refl
 no_set false w casei = refl
 

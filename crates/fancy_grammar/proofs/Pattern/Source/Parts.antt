@@ -1,7 +1,7 @@
 -- Parts of the text of a class: their sources, and that these are read as them.
 use Rattle.std.proofs.Common.{◌≡◌, ℕ, Bool, true, false, not, ◌&&◌, ◌||◌, ◌==◌, [], ◌∷◌, ◌++◌, codes, None}
 use Rattle.std.proofs.Common.{refl, ap, ◌∙◌, sym, subst, append_assoc}
-use Rattle.std.proofs.lemmas.Bool.{cond-false, or_parts, and_parts}
+use Rattle.std.proofs.lemmas.Bool.{cond-false, or_parts, and_parts, not-true, false≢true}
 use Rattle.std.specs.List.{list_all}
 use Prim.Native.Char.{code}
 use Rattle.fancy_lex.specs.Characters.{◌∈◌, backslash}
@@ -73,13 +73,9 @@ char_items g σ c v r w a h k = from (char_source c) (char_source_is c)
 pub char_read : (u σ : Bool) (c : ℕ) → c ∈ "\\[]" ≡ false → (c == code "&") ≡ false →
     Reads u σ σ (c ∷ []) (char_source c)
 char_read u σ c h k = record {
-  is = λ z. char_on u σ c z h (λ e. absurd (both_ways (c == code "&") e k));
+  is = λ z. char_on u σ c z h (λ e. absurd (false≢true (sym k ∙ e)));
   reads = λ g like v r w a m. char_items g σ c v r w a h m;
 }
-  where
-    both_ways : (b : Bool) → b ≡ true → b ≡ false → ⊥
-    both_ways true e k = absurd cc
-    both_ways false e k = absurd cc
 
 -- a character that is seen, and no `&`
 abbrev pub is_shown : ℕ → Bool
@@ -87,10 +83,6 @@ is_shown c = not (c ∈ "\\[]") && (not (c == code "&") && not (is_unseen c))
 
 pub shown_source : (c : ℕ) → is_unseen c ≡ false → char_source c ≡ c ∷ []
 shown_source c h = rw (no_letter c h, h) refl
-
-not_so : (b : Bool) → not b ≡ true → b ≡ false
-not_so true e = absurd cc
-not_so false e = refl
 
 -- such characters
 pub word_read : (u σ : Bool) (w : Text) → list_all is_shown w ≡ true → Reads u σ σ w w
@@ -100,8 +92,8 @@ word_read u σ (c ∷ w) h =
     let (plain_here, seen_here) = and_parts (not (c ∈ "\\[]")) _ here in
     let (no_joint, no_code) = and_parts (not (c == code "&")) (not (is_unseen c)) seen_here in
     both_read u σ σ σ (c ∷ []) w (c ∷ []) w
-    (subst (Reads u σ σ (c ∷ [])) (shown_source c (not_so (is_unseen c) no_code))
-    (char_read u σ c (not_so (c ∈ "\\[]") plain_here) (not_so (c == code "&") no_joint)))
+    (subst (Reads u σ σ (c ∷ [])) (shown_source c (not-true (is_unseen c) no_code))
+    (char_read u σ c (not-true (c ∈ "\\[]") plain_here) (not-true (c == code "&") no_joint)))
     (word_read u σ w more)
 
 -- ---- escapes

@@ -177,7 +177,8 @@ module _ (t name : Text) (row : IsRow t name) where
         after σ,
       ))
     where
-      told : (σ : Bool) → joint (σ && is_negated_set (codes "[^" ++ t)) ++ (codes "[^" ++ t) ≡ joint σ ++ (codes "[^" ++ t)
+      told : (σ : Bool) →
+          joint (σ && is_negated_set (codes "[^" ++ t)) ++ (codes "[^" ++ t) ≡ joint σ ++ (codes "[^" ++ t)
       told true = ap (λ n. joint n ++ (codes "[^" ++ t)) row.negated
       told false = refl
 
@@ -189,7 +190,8 @@ module _ (t name : Text) (row : IsRow t name) where
   row_in b σ below =
       subst (InClass true b σ (is_negated_set (codes "[^" ++ t))) (sym (joint_is b)) (by b σ below)
     where
-      joint_is : (b : Bool) → joint (b && is_negated_set (codes "[^" ++ t)) ++ (codes "[^" ++ t) ≡ joint b ++ (codes "[^" ++ t)
+      joint_is : (b : Bool) →
+          joint (b && is_negated_set (codes "[^" ++ t)) ++ (codes "[^" ++ t) ≡ joint b ++ (codes "[^" ++ t)
       joint_is true = ap (λ n. joint n ++ (codes "[^" ++ t)) row.negated
       joint_is false = refl
 
@@ -324,17 +326,21 @@ module _ (b σ negated : Bool) (l : Text) (below : IsBelow σ b) (free : HasNoBr
   form_in false =
       cond_both (bytes_eq l (codes "alnum")) _ _ (λ k. InText false b σ (form_text true negated (form false k l)))
       (λ _. posix_in false b σ negated (codes "alnum:") below refl)
-      (λ e1. cond_both (bytes_eq l (codes "blank")) _ _ (λ k. InText false b σ (form_text true negated (form false k l)))
+      (λ e1. cond_both (bytes_eq l (codes "blank")) _ _
+      (λ k. InText false b σ (form_text true negated (form false k l)))
       (λ _. in_set false b σ negated _ _ below (tab_blank σ) (front_escape b (code "t") _ refl)
       (opens_by backslash _ refl refl) refl)
-      (λ e2. cond_both (bytes_eq l (codes "cntrl")) _ _ (λ k. InText false b σ (form_text true negated (form false k l)))
+      (λ e2. cond_both (bytes_eq l (codes "cntrl")) _ _
+      (λ k. InText false b σ (form_text true negated (form false k l)))
       (λ _. posix_in false b σ negated (codes "cntrl:") below refl)
       (λ e3. cond_both (bytes_eq l (codes "word")) _ _ (λ k. InText false b σ (form_text true negated (form false k l)))
       (λ _. in_set false b σ negated _ _ below (word_set false σ) (front_char b (code "_") _ refl refl refl refl)
       (opens_by (code "_") _ refl refl) refl)
-      (λ e4. cond_both (bytes_eq l (codes "graph")) _ _ (λ k. InText false b σ (form_text true negated (form false k l)))
+      (λ e4. cond_both (bytes_eq l (codes "graph")) _ _
+      (λ k. InText false b σ (form_text true negated (form false k l)))
       (λ _. posix_in false b σ negated (codes "graph:") below refl)
-      (λ e5. cond_both (bytes_eq l (codes "print")) _ _ (λ k. InText false b σ (form_text true negated (form false k l)))
+      (λ e5. cond_both (bytes_eq l (codes "print")) _ _
+      (λ k. InText false b σ (form_text true negated (form false k l)))
       (λ _. posix_in false b σ negated (codes "print:") below refl)
       (λ e6. cond_both (bytes_eq l (codes "cs")) _ _ (λ k. InText false b σ (form_text true negated (form false k l)))
       (λ _. any_in false) (λ e7. other_in false e1 e2 e3 e4 e5 e6 e7)))))))
