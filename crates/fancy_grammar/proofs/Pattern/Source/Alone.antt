@@ -1,30 +1,23 @@
--- Which Delegates have a source: by a class or an escape that is read as them, and escapes of one letter.
-use Rattle.std.proofs.Common.{◌≡◌, ℕ, Bool, true, false, not, ◌&&◌, [], ◌∷◌}
-use Rattle.std.proofs.Common.{◌++◌, codes, refl, sym, ap, ◌∙◌, subst}
+-- A Delegate has a source where a class or an escape is read as it.
+use Rattle.std.proofs.Common.{◌≡◌, Bool, true, false, not, ◌&&◌, [], ◌∷◌, ◌++◌, sym, ap, ◌∙◌, subst}
 use Rattle.std.proofs.Math.Bool.{and-false}
 use Rattle.std.proofs.lemmas.Bool.{cond-false, or_parts}
 use Rattle.std.specs.Str.{bytes_eq}
-use Prim.Native.Char.{code}
-use Rattle.fancy_lex.specs.Characters.{◌∈◌, backslash, open_bracket}
-use Rattle.fancy_lex.specs.Class.{class}
-use Rattle.fancy_lex.specs.Class.{OuterClass}
-use Rattle.fancy_lex.specs.Escape.{escape, escape_at, lone_escape}
+use Rattle.fancy_lex.specs.Characters.{backslash, open_bracket}
+use Rattle.fancy_lex.specs.Class.{class, OuterClass}
+use Rattle.fancy_lex.specs.Escape.{escape}
 use Rattle.fancy_lex.specs.Escaped as leaves
-use Rattle.fancy_lex.specs.Escaped.{Escape}
-use Rattle.fancy_lex.specs.Escaped.{hex_class, negated_hex_class}
+use Rattle.fancy_lex.specs.Escaped.{Escape, hex_class, negated_hex_class}
 use Rattle.fancy_lex.specs.Reading.{gives}
 use Rattle.fancy_lex.specs.Text.{Text}
 use Rattle.fancy_lex.specs.declared.flags.Flags.{Flags}
 use Rattle.fancy_lex.proofs.ClassLaws.{class_complete, class_reads, class_frame}
 use Rattle.fancy_grammar.specs.Label.{delegate}
 use Rattle.fancy_grammar.specs.PatternNeeds.{is_hex_class, settled, fixed_or}
-use Rattle.fancy_grammar.specs.PatternSource.{source}
-use Rattle.fancy_grammar.specs.PatternSource.{source_from}
-use Rattle.fancy_grammar.specs.PatternSource.{delegate_text}
+use Rattle.fancy_grammar.specs.PatternSource.{source, delegate_text}
 use Rattle.fancy_grammar.specs.Tree.{leaf}
 use Rattle.fancy_grammar.specs.Writable.{IsLike, IsSource, an_escape, a_class, HasSource}
 use Rattle.fancy_grammar.specs.declared.needs.Needs.{Needs}
-use Rattle.fancy_grammar.proofs.ReadBack.ClearLemmas.{Each, no_more, also, each_among}
 
 -- ---- a class reads the same whatever follows it
 
@@ -69,49 +62,3 @@ module _ (s : Text) (h : is_hex_class s ≡ false) where
       let text = source_is g casei ∙ (ap (λ u. source u s) (ap (λ k. k.unicode) like) ∙ e) in
       subst (IsSource g s casei) (sym text)
       (an_escape (λ v. q g like v ∙ ap (λ b. gives (leaves.delegate s b) v) (same_case g casei none)))
-
--- ---- escapes of one letter
-
-abbrev Letter : ℕ → Type 0
-Letter c = (f : Flags) (casei : Bool) → HasSource f (backslash ∷ c ∷ []) casei
-
-abbrev ReadsLetter : ℕ → Type 0
-ReadsLetter c = (g : Flags) (v : Text) → escape g false (c ∷ v) ≡ gives (leaves.delegate (backslash ∷ c ∷ []) g.casei) v
-
-abbrev IsOwnSource : ℕ → Type 0
-IsOwnSource c = (u : Bool) → source u (backslash ∷ c ∷ []) ≡ backslash ∷ c ∷ []
-
-letter_by : (c : ℕ) → is_hex_class (backslash ∷ c ∷ []) ≡ false → IsOwnSource c → ReadsLetter c → Letter c
-letter_by c h e q f casei = escape_source (backslash ∷ c ∷ []) h f (c ∷ []) casei (e f.unicode) (λ g like v. q g v)
-
-own_source : Each IsOwnSource (codes "dDsSwW")
-unfolding source_from
-own_source =
-    also (own (code "d") refl refl)
-    (also (own (code "D") refl refl)
-    (also (own (code "s") refl refl)
-    (also (own (code "S") refl refl) (also (own (code "w") refl refl) (also (own (code "W") refl refl) no_more)))))
-  where
-    own : (c : ℕ) → source true (backslash ∷ c ∷ []) ≡ backslash ∷ c ∷ [] →
-        source false (backslash ∷ c ∷ []) ≡ backslash ∷ c ∷ [] → IsOwnSource c
-    own c a b true = a
-    own c a b false = b
-
-reads_letter : Each ReadsLetter (codes "dDsSwW")
-unfolding escape_at lone_escape
-reads_letter =
-    also (λ g v. refl) (also (λ g v. refl) (also (λ g v. refl)
-    (also (λ g v. refl) (also (λ g v. refl) (also (λ g v. refl)
-    no_more)))))
-
-no_hex : Each (λ c. is_hex_class (backslash ∷ c ∷ []) ≡ false) (codes "dDsSwW")
-no_hex = also refl (also refl (also refl (also refl (also refl (also refl no_more)))))
-
--- `\d`, `\D`, `\s`, `\S`, `\w`, `\W`
-pub letters_have_source : (f : Flags) (c : ℕ) (casei : Bool) → c ∈ "dDsSwW" ≡ true →
-    HasSource f (backslash ∷ c ∷ []) casei
-letters_have_source f c casei h =
-    letter_by c (each_among (λ c. is_hex_class (backslash ∷ c ∷ []) ≡ false) (codes "dDsSwW") c no_hex h)
-    (each_among IsOwnSource (codes "dDsSwW") c own_source h)
-    (each_among ReadsLetter (codes "dDsSwW") c reads_letter h) f
-    casei

@@ -1,12 +1,10 @@
 -- Characters and escapes that a class writes as they stand, and characters that are not seen.
-use Rattle.std.proofs.Common.{◌≡◌, None, ℕ, Bool, true, false, [], ◌∷◌}
-use Rattle.std.proofs.Common.{codes, refl, ◌/◌, ◌%◌, nat_lt, arith}
+use Rattle.std.proofs.Common.{◌≡◌, None, ℕ, Bool, true, false, [], ◌∷◌, codes, refl, ◌/◌, ◌%◌, nat_lt, arith}
 use Rattle.std.proofs.lemmas.Bool.{cond_both}
 use Rattle.std.proofs.lemmas.Bool.Decides.{nat_tests}
 use Prim.Native.Char.{code}
 use Rattle.fancy_lex.specs.Characters.{◌∈◌, backslash}
-use Rattle.fancy_lex.specs.Class.{escape_in_class, is_negated}
-use Rattle.fancy_lex.specs.Class.{needs_backslash_in_class, upper_hex_digit}
+use Rattle.fancy_lex.specs.Class.{escape_in_class, is_negated, needs_backslash_in_class, upper_hex_digit}
 use Rattle.fancy_lex.specs.Escape.{escape, escape_at, lone_escape}
 use Rattle.fancy_lex.specs.Escaped.{Escape}
 use Rattle.fancy_lex.specs.Reading.{gives}

@@ -5,16 +5,14 @@ use Rattle.std.proofs.lemmas.Bool.{not-true}
 use Prim.Native.Char.{code}
 use Rattle.fancy_lex.specs.Characters.{◌∈◌}
 use Rattle.fancy_lex.specs.Class.{class_head, escape_in_class, is_negated, is_plain_in_class, written, Class}
-use Rattle.fancy_lex.specs.Class.{class_items}
-use Rattle.fancy_lex.specs.Class.{ClassItems, close, plain, escaped, nested}
+use Rattle.fancy_lex.specs.Class.{class_items, ClassItems, close, plain, escaped, nested}
 use Rattle.fancy_lex.specs.Text.{Text, strip}
 use Rattle.fancy_lex.specs.declared.flags.Flags.{Flags}
 use Rattle.fancy_grammar.specs.PatternSource.{source_from}
 use Rattle.fancy_grammar.proofs.ReadBack.ChunkLemmas.{open_plain, open_caret}
 use Rattle.fancy_grammar.proofs.ReadBack.ClearLemmas.{apart}
 use Rattle.fancy_grammar.proofs.Pattern.Source.Steps.{NoProperty, NoSet, NoJoined, char_source, char_on, close_on}
-use Rattle.fancy_grammar.proofs.Pattern.Source.Steps.{open_on}
-use Rattle.fancy_grammar.proofs.Pattern.Source.Steps.{open_caret_on}
+use Rattle.fancy_grammar.proofs.Pattern.Source.Steps.{open_on, open_caret_on}
 use Rattle.fancy_grammar.proofs.Pattern.Source.Parts.{char_items}
 use Rattle.fancy_grammar.proofs.Pattern.Source.Items.{InClass, IsBelow}
 use Rattle.fancy_grammar.proofs.Pattern.Source.Escapes.{escape_in, char_no_caret, char_no_close}

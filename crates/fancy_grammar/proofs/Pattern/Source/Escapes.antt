@@ -1,7 +1,6 @@
 -- What a class writes for an escape is read as itself.
 use Rattle.std.proofs.Common.{◌≡◌, ℕ, ◌+◌, ◌<◌, ◌≤◌, ◌/◌, ◌%◌, Bool, true, false, not, ◌&&◌, ◌==◌, nat_le}
-use Rattle.std.proofs.Common.{[], ◌∷◌, ◌++◌}
-use Rattle.std.proofs.Common.{codes, Option, Some, None, option_map, refl, ap, ◌∙◌, sym, subst, arith}
+use Rattle.std.proofs.Common.{[], ◌∷◌, ◌++◌, codes, Option, Some, None, option_map, refl, ap, ◌∙◌, sym, subst, arith}
 use Rattle.std.proofs.lemmas.Bool.{cond_both}
 use Rattle.std.proofs.lemmas.Bool.Decides.{nat_tests}
 use Rattle.std.specs.Char.{is_ascii_digit}
@@ -181,6 +180,12 @@ name_free (c ∷ t) =
 
 -- ---- escapes in a class
 
+pub letter_kept : (c : ℕ) → c ∈ "dDsSwW" ≡ true → c ∈ "dDsSwW\\.+*?()|[]{}^$#&-~" ≡ true
+letter_kept c h = grind (arith, nat_tests)
+
+letter_other : (c : ℕ) → c ∈ "dDsSwW" ≡ true → (c == code "p") ≡ false
+letter_other c h = grind (arith, nat_tests)
+
 module _ (f : Flags) (b σ : Bool) (below : IsBelow σ b) where
   abbrev Item : Escape → Type 0
   Item e = InClass f.unicode b σ (is_negated e) (escape_in_class b e)
@@ -232,12 +237,6 @@ module _ (f : Flags) (b σ : Bool) (below : IsBelow σ b) where
           (fails (property_not_closed p)))
       from None h = tt
       from (Some q) h = property_in f.unicode b σ (c ∈ "P") q.0 below h
-
-  letter_kept : (c : ℕ) → c ∈ "dDsSwW" ≡ true → c ∈ "dDsSwW\\.+*?()|[]{}^$#&-~" ≡ true
-  letter_kept c h = grind (arith, nat_tests)
-
-  letter_other : (c : ℕ) → c ∈ "dDsSwW" ≡ true → (c == code "p") ≡ false
-  letter_other c h = grind (arith, nat_tests)
 
   letter_item : (c : ℕ) → c ∈ "dDsSwW" ≡ true → Item (leaves.delegate (backslash ∷ c ∷ []) f.casei)
   letter_item c h =

@@ -6,15 +6,13 @@ use Rattle.fancy_lex.specs.Characters.{◌∈◌, backslash}
 use Rattle.fancy_lex.specs.Class.{joint}
 use Rattle.fancy_lex.specs.Escape.{escape}
 use Rattle.fancy_lex.specs.Escaped as leaves
-use Rattle.fancy_lex.specs.Property.{set, braced, letter, lowercase}
-use Rattle.fancy_lex.specs.Property.{form_text, property_text, is_negated_set}
+use Rattle.fancy_lex.specs.Property.{set, braced, letter, lowercase, form_text, property_text, is_negated_set}
 use Rattle.fancy_lex.specs.Reading.{gives}
 use Rattle.fancy_lex.specs.Text.{Text, strip}
 use Rattle.fancy_grammar.specs.PatternSource.{part, part_at}
 use Rattle.fancy_grammar.proofs.ReadBack.ChunkLemmas.{HasNoBrace, prop}
 use Rattle.fancy_grammar.proofs.Pattern.Source.Steps.{NoProperty, NoSet, NoJoined, part_on}
-use Rattle.fancy_grammar.proofs.Pattern.Source.Parts.{Reads, single_read, kept_read}
-use Rattle.fancy_grammar.proofs.Pattern.Source.Parts.{SetItems, joined_read}
+use Rattle.fancy_grammar.proofs.Pattern.Source.Parts.{Reads, single_read, kept_read, SetItems, joined_read}
 use Rattle.fancy_grammar.proofs.Pattern.Source.Names.{IsRowless, named_reads, rowless_read, short_read}
 use Rattle.fancy_grammar.proofs.Pattern.Source.Names.{negated_letter, property_written, no_capital}
 

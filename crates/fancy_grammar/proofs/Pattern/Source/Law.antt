@@ -34,6 +34,8 @@ use Rattle.fancy_grammar.specs.PatternSource.{source}
 use Rattle.fancy_grammar.specs.Writable.{IsLike, IsSource, an_escape, a_class, HasSource}
 use Rattle.fancy_grammar.proofs.SourceLemmas.{source_ends}
 use Rattle.fancy_grammar.proofs.ReadBack.ChunkLemmas.{HasNoBrace, prop, open_plain, open_caret}
+use Rattle.fancy_grammar.proofs.ReadBack.ClearLemmas.{Each, no_more, also, each_among}
+use Rattle.fancy_grammar.proofs.Pattern.Source.Parts.{kept_read}
 use Rattle.fancy_grammar.proofs.Pattern.Source.Parts.{Reads, SetItems, bracket_read, negated_read, closed_items}
 use Rattle.fancy_grammar.proofs.Pattern.Source.Names.{IsRowless, named_reads, rowless_read, rowless_reads, named_behind}
 use Rattle.fancy_grammar.proofs.Pattern.Source.Names.{short_read, short_reads}
@@ -41,9 +43,9 @@ use Rattle.fancy_grammar.proofs.Pattern.Source.Rows.{IsFree, any, alpha_digit, b
 use Rattle.fancy_grammar.proofs.Pattern.Source.Rows.{word_set}
 use Rattle.fancy_grammar.proofs.Pattern.Source.Rows.{set_read, graph, print, turned_graph, turned_print, free_of}
 use Rattle.fancy_grammar.proofs.Pattern.Source.Rows.{lower_free, lower_twice, turn_free}
-use Rattle.fancy_grammar.proofs.Pattern.Source.Escapes.{IsNameFree, name_free, hex_items}
+use Rattle.fancy_grammar.proofs.Pattern.Source.Escapes.{IsNameFree, name_free, hex_items, letter_kept}
 use Rattle.fancy_grammar.proofs.Pattern.Source.Classes.{ClassSource, class_source_of}
-use Rattle.fancy_grammar.proofs.Pattern.Source.Alone.{class_source, escape_source, letters_have_source}
+use Rattle.fancy_grammar.proofs.Pattern.Source.Alone.{class_source, escape_source}
 use Rattle.fancy_grammar.proofs.Pattern.Source.Names.{negated_letter, property_written}
 
 -- ---- one part alone
@@ -59,6 +61,25 @@ alone_under f u τ x s same r = ap (λ b. source b x) same ∙ alone u τ x s r
 
 like_unicode : (f g : Flags) → IsLike f g → g.unicode ≡ f.unicode
 like_unicode f g like = ap (λ k. k.unicode) like
+
+-- ---- escapes of one letter
+
+abbrev ReadsLetter : ℕ → Type 0
+ReadsLetter c = (g : Flags) (v : Text) → escape g false (c ∷ v) ≡ gives (leaves.delegate (backslash ∷ c ∷ []) g.casei) v
+
+reads_letter : Each ReadsLetter (codes "dDsSwW")
+unfolding escape_at lone_escape
+reads_letter =
+    also (λ g v. refl) (also (λ g v. refl) (also (λ g v. refl)
+    (also (λ g v. refl) (also (λ g v. refl) (also (λ g v. refl)
+    no_more)))))
+
+-- `\d`, `\D`, `\s`, `\S`, `\w`, `\W`
+letters_have_source : (f : Flags) (c : ℕ) (casei : Bool) → c ∈ "dDsSwW" ≡ true → HasSource f (backslash ∷ c ∷ []) casei
+letters_have_source f c casei h =
+    escape_source (backslash ∷ c ∷ []) refl f (c ∷ []) casei
+    (alone f.unicode false _ _ (kept_read f.unicode false c (letter_kept c h)))
+    (λ g like v. each_among ReadsLetter (codes "dDsSwW") c reads_letter h g v)
 
 -- ---- sets
 
