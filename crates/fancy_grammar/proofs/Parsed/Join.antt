@@ -1,5 +1,5 @@
 -- Parsed trees are writable, but for what is open.
-use Rattle.std.proofs.Common.{◌≡◌, ℕ, ◌+◌, ◌<◌, Bool, false, List, [], ◌∷◌, refl, ap}
+use Rattle.std.proofs.Common.{◌≡◌, ℕ, ◌+◌, ◌<◌, Bool, true, false, List, [], ◌∷◌, refl, ap}
 use Rattle.std.proofs.Common.{◌∙◌, subst, arith}
 use Rattle.std.specs.List.{AllByRecursion}
 use Rattle.fancy_lex.specs.Text.{Text}
@@ -33,17 +33,14 @@ use Rattle.fancy_grammar.proofs.Parsed.References.{AreReferencesWritable, AreAll
 use Rattle.fancy_grammar.proofs.Parsed.References.{groups_fit, each_numbered, met}
 use Rattle.fancy_grammar.proofs.AnsweredLaws.{answered_with}
 use Rattle.fancy_grammar.proofs.Parsed.Lists.{each_split}
-use Rattle.fancy_grammar.proofs.Parsed.Nodes.{IsSolid, AreTwo, AreBranched}
+use Rattle.fancy_grammar.proofs.Parsed.Nodes.{IsSolid, AreTwo, AreBranched, IsSourceRead, by_escape, by_class}
+use Rattle.fancy_grammar.proofs.Pattern.Source.Law.{sources_read, by_escape as escaped_so, by_class as classed_so}
+use Rattle.fancy_grammar.specs.Quantified.{is_repeatable}
 use Rattle.fancy_grammar.proofs.Parsed.Escapes.{is_line_of_oniguruma}
 use Rattle.fancy_grammar.proofs.Parsed.Resolved.{IsResolvedNode, nodes_told, names_writable}
 use Rattle.fancy_grammar.proofs.Pattern.Theorem.{reads_back}
 
 -- ---- what is open
-
--- a Delegate has a source
-abbrev pub HasLeafSource : Flags → Leaf → Type 0
-HasLeafSource f (label.delegate s casei) = HasSource f s casei
-HasLeafSource f l = Unit {0}
 
 -- the first tree is a look-around, or a condition on a group
 abbrev pub BeginsWithLookOrGroup : Trees → Type 0
@@ -51,11 +48,46 @@ BeginsWithLookOrGroup (more_trees (over (label.look_around l) k) ts) = Unit {0}
 BeginsWithLookOrGroup (more_trees (leaf (label.backref_exists n level)) ts) = Unit {0}
 BeginsWithLookOrGroup _ = ⊥
 
--- of a node: a Delegate has a source, and the condition of a conditional is a look-around, or one on a group
-abbrev pub IsOpenMet : Flags → Tree → Type 0
-IsOpenMet f (leaf l) = HasLeafSource f l
-IsOpenMet f (row label.conditional ts) = BeginsWithLookOrGroup ts
-IsOpenMet f _ = Unit {0}
+-- of a conditional: its condition is a look-around, or one on a group
+abbrev pub IsOpenMet : Tree → Type 0
+IsOpenMet (row label.conditional ts) = BeginsWithLookOrGroup ts
+IsOpenMet _ = Unit {0}
+
+-- what stands under a quantifier is repeatable, no part of a Concat, nor what a stopper holds, is Empty, and of both
+-- branches one is not
+abbrev pub IsWholeNode : Flags → Tree → Type 0
+IsWholeNode f (over (label.repeat lo hi greedy) t) = is_repeatable f t ≡ true
+IsWholeNode f (over label.stopper t) = IsSolid t
+IsWholeNode f (row label.concat ts) = AllByRecursion IsSolid (list_of ts)
+IsWholeNode f (row label.conditional ts) = AreBranched ts
+IsWholeNode f _ = Unit {0}
+
+-- so it is where each group has a number, or else by itself
+module _ (f : Flags) where
+  node_whole : (t : Tree) → IsResolvedNode f true t → IsWholeNode f t → IsResolvedNode f false t
+  node_whole (over (label.repeat lo hi greedy) t) h w = ((λ e. w), h.1, h.2)
+  node_whole (over label.stopper t) h w = λ e. w
+  node_whole (row label.concat ts) h w = (h.0, λ e. w)
+  node_whole (row label.conditional ts) h w = (h.0, λ e. w)
+  node_whole (leaf l) h w = h
+  node_whole _ h w = h
+
+  each_whole : (l : List Tree) → AllByRecursion (IsResolvedNode f true) l → AllByRecursion (IsWholeNode f) l →
+      AllByRecursion (IsResolvedNode f false) l
+  each_whole [] h w = tt
+  each_whole (t ∷ l) h w = (node_whole t h.0 w.0, each_whole l h.1 w.1)
+
+  whole_or_counted : (named : Bool) (l : List Tree) → AllByRecursion (IsResolvedNode f named) l →
+      (named ≡ true → AllByRecursion (IsWholeNode f) l) → AllByRecursion (IsResolvedNode f false) l
+  whole_or_counted true l h w = each_whole l h (w refl)
+  whole_or_counted false l h w = h
+
+-- a Delegate that was read has a source
+source_had : (f : Flags) (s : Text) (casei : Bool) → IsSourceRead f s casei → HasSource f s casei
+source_had f s casei (by_escape g t u same e) =
+    sources_read f s casei (escaped_so g t u (ap (λ k. k.unicode) (sym same)) e)
+source_had f s casei (by_class g t u same case e) =
+    sources_read f s casei (classed_so g t u (ap (λ k. k.unicode) (sym same)) case e)
 
 -- ---- the join
 
@@ -64,7 +96,7 @@ module _ (f : Flags) (m : Marks) (mode : f.oniguruma_mode ≡ false) where
   Answered = AllByRecursion IsAnsweredNode
 
   abbrev Met : List Tree → Type 0
-  Met = AllByRecursion (IsOpenMet f)
+  Met = AllByRecursion IsOpenMet
 
   abbrev Resolved : List Tree → Type 0
   Resolved = AllByRecursion (IsResolvedNode f false)
@@ -75,27 +107,27 @@ module _ (f : Flags) (m : Marks) (mode : f.oniguruma_mode ≡ false) where
   assertion_writable c _ e = tt
 
   leaf_writable : (c : ℕ) (l : Leaf) → IsAnsweredNode (leaf l) → IsResolvedNode f false (leaf l) →
-      HasLeafSource f l → AreReferencesWritable f m c (leaf l) → IsWritableLeaf f m c l
-  leaf_writable c (label.literal (d ∷ []) casei) a h o r = tt
-  leaf_writable c (label.literal [] casei) a h o r = absurd (omega (arith, a))
-  leaf_writable c (label.literal (d ∷ e ∷ w) casei) a h o r = absurd (omega (arith, a))
-  leaf_writable c (label.literal_bytes (b ∷ [])) a h o r = (h, a.1.0.0, a.1.0.1)
-  leaf_writable c (label.literal_bytes []) a h o r = absurd (omega (arith, a.0))
-  leaf_writable c (label.literal_bytes (b ∷ d ∷ w)) a h o r = absurd (omega (arith, a.0))
-  leaf_writable c (label.delegate s casei) a h o r = o
-  leaf_writable c (label.general_newline unicode) a h o r = h
-  leaf_writable c (label.assertion x) a h o r = assertion_writable c x (h mode)
-  leaf_writable c (label.any newline crlf) a h o r = tt
-  leaf_writable c (label.verb v) a h o r = tt
-  leaf_writable c label.empty a h o r = tt
-  leaf_writable c label.keep_out a h o r = tt
-  leaf_writable c label.continue_from_previous_match_end a h o r = tt
-  leaf_writable c label.clear a h o r = tt
-  leaf_writable c (label.backref n casei) a h o r = r
-  leaf_writable c (label.backref_at_level n level casei) a h o r = r
-  leaf_writable c (label.backref_exists n level) a h o r = r
-  leaf_writable c (label.subroutine_call n) a h o r = r
-  leaf_writable c (label.ast_node x place) a h o r = r
+      AreReferencesWritable f m c (leaf l) → IsWritableLeaf f m c l
+  leaf_writable c (label.literal (d ∷ []) casei) a h r = tt
+  leaf_writable c (label.literal [] casei) a h r = absurd (omega (arith, a))
+  leaf_writable c (label.literal (d ∷ e ∷ w) casei) a h r = absurd (omega (arith, a))
+  leaf_writable c (label.literal_bytes (b ∷ [])) a h r = (h, a.1.0.0, a.1.0.1)
+  leaf_writable c (label.literal_bytes []) a h r = absurd (omega (arith, a.0))
+  leaf_writable c (label.literal_bytes (b ∷ d ∷ w)) a h r = absurd (omega (arith, a.0))
+  leaf_writable c (label.delegate s casei) a h r = source_had f s casei h
+  leaf_writable c (label.general_newline unicode) a h r = h
+  leaf_writable c (label.assertion x) a h r = assertion_writable c x (h mode)
+  leaf_writable c (label.any newline crlf) a h r = tt
+  leaf_writable c (label.verb v) a h r = tt
+  leaf_writable c label.empty a h r = tt
+  leaf_writable c label.keep_out a h r = tt
+  leaf_writable c label.continue_from_previous_match_end a h r = tt
+  leaf_writable c label.clear a h r = tt
+  leaf_writable c (label.backref n casei) a h r = r
+  leaf_writable c (label.backref_at_level n level casei) a h r = r
+  leaf_writable c (label.backref_exists n level) a h r = r
+  leaf_writable c (label.subroutine_call n) a h r = r
+  leaf_writable c (label.ast_node x place) a h r = r
 
   expression_writable : (c : ℕ) (ts : Trees) → AreTwo ts → AreAllWritable f m c ts →
       AreNodesWritable f m c (row label.expression ts)
@@ -123,7 +155,7 @@ module _ (f : Flags) (m : Marks) (mode : f.oniguruma_mode ≡ false) where
   mutual
     nodes_writable : (c : ℕ) (t : Tree) → Answered (preorder t) → Resolved (preorder t) → Met (preorder t) →
         AreReferencesWritable f m c t → AreNodesWritable f m c t
-    nodes_writable c (leaf l) a h o r = leaf_writable c l a.0 h.0 o.0 r
+    nodes_writable c (leaf l) a h o r = leaf_writable c l a.0 h.0 r
     nodes_writable c (over (label.repeat lo hi greedy) t) a h o r =
         (nodes_writable c t a.1 h.1 o.1 r, h.0.0 refl, h.0.1, h.0.2)
     nodes_writable c (over label.group t) a h o r = nodes_writable (c + 1) t a.1 h.1 o.1 r
@@ -152,7 +184,7 @@ module _ (f : Flags) (m : Marks) (mode : f.oniguruma_mode ≡ false) where
     all_writable c (more_trees t ts) a h o r =
         let (x, y) = each_split IsAnsweredNode (preorder t) (preorder_all ts) a in
         let (j, k) = each_split (IsResolvedNode f false) (preorder t) (preorder_all ts) h in
-        let (v, w) = each_split (IsOpenMet f) (preorder t) (preorder_all ts) o in
+        let (v, w) = each_split IsOpenMet (preorder t) (preorder_all ts) o in
         (nodes_writable c t x j v r.0, all_writable (c + group_count t) ts y k w r.1)
 
     pieces_writable : (c : ℕ) (ts : Trees) → Answered (preorder_all ts) → Resolved (preorder_all ts) →
@@ -162,7 +194,7 @@ module _ (f : Flags) (m : Marks) (mode : f.oniguruma_mode ≡ false) where
     pieces_writable c (more_trees t ts) a h s o r =
         let (x, y) = each_split IsAnsweredNode (preorder t) (preorder_all ts) a in
         let (j, k) = each_split (IsResolvedNode f false) (preorder t) (preorder_all ts) h in
-        let (v, w) = each_split (IsOpenMet f) (preorder t) (preorder_all ts) o in
+        let (v, w) = each_split IsOpenMet (preorder t) (preorder_all ts) o in
         (nodes_writable c t x j v r.0, s.0, pieces_writable (c + group_count t) ts y k s.1 w r.1)
 
 -- ---- parsed trees
@@ -229,23 +261,24 @@ module _ {f : Flags} {text : Text} {t : Tree} {m : Marks} (a : IsTreeOf f text t
       (derived_read a.1.1) marked (subst (λ x. AllByRecursion IsAnsweredNode (preorder x)) a.3 (answered_with a).nodes)
       (omega arith))
 
-  -- Outside Oniguruma mode the tree is writable, where each group has a number, it has fewer than 64 levels, and what is
-  -- open is met.
-  pub parsed_is_writable : bytes text < 2 ^ 63 → f.oniguruma_mode ≡ false → m.numbered_groups_ignored ≡ false →
-      levels t < max_depth → AllByRecursion (IsOpenMet f) (preorder t) → IsWritable f m t
-  parsed_is_writable small mode counted deep o = record {
+  -- Outside Oniguruma mode the tree is writable, where it has fewer than 64 levels, where the condition of each
+  -- conditional is a look-around or one on a group, and where its nodes are whole if some groups have no number.
+  pub parsed_is_writable : bytes text < 2 ^ 63 → f.oniguruma_mode ≡ false → levels t < max_depth →
+      AllByRecursion IsOpenMet (preorder t) →
+      (m.numbered_groups_ignored ≡ true → AllByRecursion (IsWholeNode f) (preorder t)) → IsWritable f m t
+  parsed_is_writable small mode deep o w = record {
     mode = mode;
     marks = marks_told a numeric_told self_told;
     counted = counted_told a;
     names = names_writable a;
     nodes = nodes_writable f m mode 0 t (answered_with a).nodes
-        (subst (λ b. AllByRecursion (IsResolvedNode f b) (preorder t)) counted (nodes_told a)) o
-        (references_writable small);
+        (whole_or_counted f m.numbered_groups_ignored (preorder t) (nodes_told a) w) o (references_writable small);
     levels = deep;
   }
 
   -- then its text reads back
-  pub parsed_reads_back : bytes text < 2 ^ 63 → f.oniguruma_mode ≡ false → m.numbered_groups_ignored ≡ false →
-      levels t < max_depth → AllByRecursion (IsOpenMet f) (preorder t) → IsReadAs f (pattern_text f t m) t m
-  parsed_reads_back small mode counted deep o =
-      reads_back f t m (parsed_is_writable small mode counted deep o)
+  pub parsed_reads_back : bytes text < 2 ^ 63 → f.oniguruma_mode ≡ false → levels t < max_depth →
+      AllByRecursion IsOpenMet (preorder t) →
+      (m.numbered_groups_ignored ≡ true → AllByRecursion (IsWholeNode f) (preorder t)) →
+      IsReadAs f (pattern_text f t m) t m
+  parsed_reads_back small mode deep o w = reads_back f t m (parsed_is_writable small mode deep o w)
