@@ -357,7 +357,9 @@ module _ (c : ℕ) (u : Text) (z : ℤ) (l : WrittenLevel z) (ids : AllByRecursi
   pub level_marked : is_among (code ">") (c ∷ u) ≡ false → (v : Text) → ◌≡◌ {A = Option (Text × Text)}
       (marked_name (code "<" ∷ (((c ∷ u) ++ l.sign ∷ l.digits) ++ code ">" ∷ v)))
       (Some ((c ∷ u) ++ l.sign ∷ l.digits, v))
-  level_marked h v = marked_read c (u ++ l.sign ∷ l.digits) v (both_unmarked (code ">") (c ∷ u) (l.sign ∷ l.digits) h (l.no_mark (code ">") refl))
+  level_marked h v =
+      marked_read c (u ++ l.sign ∷ l.digits) v
+      (both_unmarked (code ">") (c ∷ u) (l.sign ∷ l.digits) h (l.no_mark (code ">") refl))
 
 pub not_zero : (k : ℕ) → int_eq (pos (suc k)) (pos 0) ≡ false
 not_zero k = at (int_eq (pos (suc k)) (pos 0)) refl
