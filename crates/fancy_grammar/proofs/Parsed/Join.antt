@@ -19,6 +19,7 @@ use Rattle.fancy_grammar.specs.Tree.{Tree, leaf, over, row, Trees, no_trees, mor
 use Rattle.fancy_grammar.specs.Writable.{IsWritable, AreNodesWritable, AreAllWritable, ArePieces, IsWritableLeaf}
 use Rattle.fancy_grammar.specs.Writable.{HasSource, is_numbered, is_numbered_call_of_all}
 use Rattle.std.proofs.Common.{sym, length, ◌≤◌, ◌^◌}
+use Rattle.std.specs.Cmp.{both_ways}
 use Rattle.std.specs.List.{list_any}
 use Rattle.fancy_lex.specs.Text.{bytes}
 use Rattle.fancy_parts.specs.Ranks.{only_named, numbered_openings}
@@ -27,7 +28,7 @@ use Rattle.fancy_grammar.proofs.PreorderLaws.{kept, resolved_nodes, items_of_nod
 use Rattle.fancy_grammar.proofs.ReadLaws.{derived_read, ordered_within}
 use Rattle.fancy_grammar.proofs.Parsed.Derived.{derived_parsed}
 use Rattle.fancy_grammar.proofs.Parsed.Marks.{marks_told, counted_told, numbers_are}
-use Rattle.fancy_grammar.proofs.Parsed.Numeric.{same_truth, numbered_by, called_by, meant, is_written, is_of_all}
+use Rattle.fancy_grammar.proofs.Parsed.Numeric.{numbered_by, called_by, meant, is_written, is_of_all}
 use Rattle.fancy_grammar.proofs.Parsed.Numeric.{marked_nodes, numbered_some, called_some}
 use Rattle.fancy_grammar.proofs.Parsed.References.{AreReferencesWritable, AreAllReferencesWritable, IsMarkedNode}
 use Rattle.fancy_grammar.proofs.Parsed.References.{groups_fit, each_numbered, met}
@@ -49,9 +50,9 @@ BeginsWithLookOrGroup (more_trees (leaf (label.backref_exists n level)) ts) = Un
 BeginsWithLookOrGroup _ = ⊥
 
 -- of a conditional: its condition is a look-around, or one on a group
-abbrev pub IsOpenMet : Tree → Type 0
-IsOpenMet (row label.conditional ts) = BeginsWithLookOrGroup ts
-IsOpenMet _ = Unit {0}
+abbrev pub IsConditionWritable : Tree → Type 0
+IsConditionWritable (row label.conditional ts) = BeginsWithLookOrGroup ts
+IsConditionWritable _ = Unit {0}
 
 -- what stands under a quantifier is repeatable, no part of a Concat, nor what a stopper holds, is Empty, and of both
 -- branches one is not
@@ -96,7 +97,7 @@ module _ (f : Flags) (m : Marks) (mode : f.oniguruma_mode ≡ false) where
   Answered = AllByRecursion IsAnsweredNode
 
   abbrev Met : List Tree → Type 0
-  Met = AllByRecursion IsOpenMet
+  Met = AllByRecursion IsConditionWritable
 
   abbrev Resolved : List Tree → Type 0
   Resolved = AllByRecursion (IsResolvedNode f false)
@@ -184,7 +185,7 @@ module _ (f : Flags) (m : Marks) (mode : f.oniguruma_mode ≡ false) where
     all_writable c (more_trees t ts) a h o r =
         let (x, y) = each_split IsAnsweredNode (preorder t) (preorder_all ts) a in
         let (j, k) = each_split (IsResolvedNode f false) (preorder t) (preorder_all ts) h in
-        let (v, w) = each_split IsOpenMet (preorder t) (preorder_all ts) o in
+        let (v, w) = each_split IsConditionWritable (preorder t) (preorder_all ts) o in
         (nodes_writable c t x j v r.0, all_writable (c + group_count t) ts y k w r.1)
 
     pieces_writable : (c : ℕ) (ts : Trees) → Answered (preorder_all ts) → Resolved (preorder_all ts) →
@@ -194,7 +195,7 @@ module _ (f : Flags) (m : Marks) (mode : f.oniguruma_mode ≡ false) where
     pieces_writable c (more_trees t ts) a h s o r =
         let (x, y) = each_split IsAnsweredNode (preorder t) (preorder_all ts) a in
         let (j, k) = each_split (IsResolvedNode f false) (preorder t) (preorder_all ts) h in
-        let (v, w) = each_split IsOpenMet (preorder t) (preorder_all ts) o in
+        let (v, w) = each_split IsConditionWritable (preorder t) (preorder_all ts) o in
         (nodes_writable c t x j v r.0, s.0, pieces_writable (c + group_count t) ts y k s.1 w r.1)
 
 -- ---- parsed trees
@@ -236,7 +237,7 @@ module _ {f : Flags} {text : Text} {t : Tree} {m : Marks} (a : IsTreeOf f text t
   -- a reference counts as written as a number exactly if some node is to be
   pub numeric_told : m.numeric_capture_group_references ≡ list_any (is_numbered m) (preorder t)
   numeric_told =
-      same_truth m.numeric_capture_group_references (list_any (is_numbered m) (preorder t))
+      both_ways m.numeric_capture_group_references (list_any (is_numbered m) (preorder t))
       (λ b. ap (list_any (is_numbered m)) nodes
       ∙ numbered_some f m text (bytes text) named numbers_of b 0 (preorder raw) (derived_parsed a.1) marked
       (sym numeric_is ∙ b))
@@ -245,7 +246,7 @@ module _ {f : Flags} {text : Text} {t : Tree} {m : Marks} (a : IsTreeOf f text t
   -- and one is a call of all by its number exactly if some node is
   pub self_told : m.self_recursive ≡ list_any (is_numbered_call_of_all m) (preorder t)
   self_told =
-      same_truth m.self_recursive (list_any (is_numbered_call_of_all m) (preorder t))
+      both_ways m.self_recursive (list_any (is_numbered_call_of_all m) (preorder t))
       (λ b. ap (list_any (is_numbered_call_of_all m)) nodes
       ∙ called_some f m text (bytes text) named numbers_of 0 (preorder raw) marked (sym self_is ∙ b))
       (called_by m (preorder t))
@@ -264,7 +265,7 @@ module _ {f : Flags} {text : Text} {t : Tree} {m : Marks} (a : IsTreeOf f text t
   -- Outside Oniguruma mode the tree is writable, where it has fewer than 64 levels, where the condition of each
   -- conditional is a look-around or one on a group, and where its nodes are whole if some groups have no number.
   pub parsed_is_writable : bytes text < 2 ^ 63 → f.oniguruma_mode ≡ false → levels t < max_depth →
-      AllByRecursion IsOpenMet (preorder t) →
+      AllByRecursion IsConditionWritable (preorder t) →
       (m.numbered_groups_ignored ≡ true → AllByRecursion (IsWholeNode f) (preorder t)) → IsWritable f m t
   parsed_is_writable small mode deep o w = record {
     mode = mode;
@@ -278,7 +279,7 @@ module _ {f : Flags} {text : Text} {t : Tree} {m : Marks} (a : IsTreeOf f text t
 
   -- then its text reads back
   pub parsed_reads_back : bytes text < 2 ^ 63 → f.oniguruma_mode ≡ false → levels t < max_depth →
-      AllByRecursion IsOpenMet (preorder t) →
+      AllByRecursion IsConditionWritable (preorder t) →
       (m.numbered_groups_ignored ≡ true → AllByRecursion (IsWholeNode f) (preorder t)) →
       IsReadAs f (pattern_text f t m) t m
   parsed_reads_back small mode deep o w = reads_back f t m (parsed_is_writable small mode deep o w)
