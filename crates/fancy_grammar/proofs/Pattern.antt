@@ -1,15 +1,20 @@
 -- The text of a tree reads back, in reading order: the theorem stands last.
 
 -- ---- what a raw tree becomes where references are resolved
+pub mod Unplaced
 pub mod Becomes
 -- ---- what the rules read, under flags that change along the text
 pub mod Rules
 pub mod Letters
 pub mod Groups
+pub mod Commented
 -- ---- leaves
 pub mod Characters
 pub mod Leaves
+pub mod Names
 pub mod References
+pub mod Unresolved
+pub mod Conditions
 pub mod Sources
 -- ---- quantifiers
 pub mod Quantifiers
@@ -18,9 +23,11 @@ pub mod Needed
 pub mod Induction
 pub mod Cases
 pub mod Repeats
+pub mod Parted
 pub mod Rows
 pub mod Absent
 pub mod Conditionals
+pub mod ConditionTexts
 -- ---- where texts fit
 pub mod Levels
 pub mod Suited
@@ -31,4 +38,5 @@ pub mod Nested
 pub mod NestedGroups
 pub mod ReadFits
 -- ---- the theorem
+pub mod Marked
 pub mod Theorem

@@ -279,11 +279,6 @@ module _ (d : ℕ) (b : d + 1 < max_depth) (f : Flags) where
       (inner_ready x s h o l) in
       (λ _. omega (arith, l, b), (omega (arith, l, b), (y.0, y.1.0)))
 
-  pub as_condition : (c : Tree) (F : Type 0) → F → FitsAsCondition c F
-  as_condition (leaf (label.backref_exists n level)) F k = tt
-  as_condition (leaf (label.verb v)) F k = tt
-  as_condition _ F k = k
-
   -- the condition is a target or a verb, or fits as an alternation
   abbrev pub FitsOrTarget : Tree → Type 0
   FitsOrTarget c = FitsAsCondition c (Fit (d + 1) Whole c)

@@ -8,6 +8,7 @@ use Rattle.fancy_grammar.specs.Marks.{Marks}
 use Rattle.fancy_grammar.specs.Pattern.{Here, under, past_groups, deeper, takes_pieces, takes_branches, is_operand}
 use Rattle.fancy_grammar.specs.Pattern.{is_last_operand, room, behind}
 use Rattle.fancy_grammar.specs.PatternDepth.{MayOpen, FitsInParensIf, FitsInScopeUnless, FitsAsAtom, Fits, FitAll}
+use Rattle.fancy_grammar.specs.PatternDepth.{FitsAsCondition}
 use Rattle.fancy_grammar.specs.PatternNeeds.{settled, agreed}
 use Rattle.fancy_grammar.specs.Quantified.{is_repeatable}
 use Rattle.fancy_grammar.specs.Tree.{Tree, leaf, over, row, Trees, no_trees, more_trees, levels, levels_all}
@@ -39,6 +40,11 @@ scope_fits true t inside h d x y = x
 scope_fits false t inside h d x y = (d, y)
 
 -- ---- the tree
+
+pub as_condition : (c : Tree) (F : Type 0) → F → FitsAsCondition c F
+as_condition (leaf (label.backref_exists n level)) F k = tt
+as_condition (leaf (label.verb v)) F k = tt
+as_condition c F k = k
 
 module _ (f : Flags) (μ : Marks) where
   -- no quantifier follows what is not repeatable
@@ -136,20 +142,20 @@ module _ (f : Flags) (μ : Marks) where
             ),
           ),
         )
-    levels_fit (row label.conditional (more_trees (over (label.look_around l) a) (more_trees t (more_trees b no_trees))))
-        p h c k e s d =
-        let x = over (label.look_around l) a in
-        let i = deeper (under (settled h.flags (row label.conditional (more_trees x (more_trees t (more_trees b no_trees)))))
+    levels_fit (row label.conditional (more_trees a (more_trees t (more_trees b no_trees)))) p h c k e s d =
+        let i = deeper (under (settled h.flags (row label.conditional (more_trees a (more_trees t (more_trees b no_trees)))))
         h) in
-        let j = behind x Whole i in (
+        let j = behind a Whole i in
+        let next = like_behind a Whole f i.flags e in (
           λ _. omega arith,
           (
             omega arith,
             (
-              levels_fit (over (label.look_around l) a) Whole i c k.0 e (λ y. absurd (false≢true y)) (omega arith),
+              as_condition a (Fits a Whole i)
+                  (levels_fit a Whole i c k.0 e (λ y. absurd (false≢true y)) (omega arith)),
               λ y. absurd (false≢true (sym k.3 ∙ y)),
-              levels_fit t Branch j _ k.1 e (λ y. absurd (false≢true y)) (omega arith),
-              levels_fit b Whole (behind t Branch j) _ k.2 (like_behind t Branch f j.flags e)
+              levels_fit t Branch j _ k.1 next (λ y. absurd (false≢true y)) (omega arith),
+              levels_fit b Whole (behind t Branch j) _ k.2 (like_behind t Branch f j.flags next)
                   (λ y. absurd (false≢true y)) (omega arith),
             ),
           ),
@@ -161,7 +167,7 @@ module _ (f : Flags) (μ : Marks) where
     pieces_fit no_trees h c k e d = tt
     pieces_fit (more_trees t ts) h c k e d = (
       levels_fit t Piece h c k.0 e (λ x. absurd (false≢true x)) (omega arith),
-      pieces_fit ts (behind t Piece h) _ k.3 (like_behind t Piece f h.flags e) (omega arith),
+      pieces_fit ts (behind t Piece h) _ k.2 (like_behind t Piece f h.flags e) (omega arith),
     )
 
     branches_fit : (ts : Trees) (h : Here) (c : ℕ) → AreAllWritable f μ c ts → IsLike f h.flags →

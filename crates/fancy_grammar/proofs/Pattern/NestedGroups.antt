@@ -25,7 +25,8 @@ use Rattle.fancy_grammar.proofs.NeedsLemmas.{listed}
 use Rattle.fancy_grammar.proofs.Pattern.Ahead.{IsLast, IsTarget}
 use Rattle.fancy_grammar.proofs.Pattern.Fitting.{Fit, SuitsLast, enclosed_fit, group_fit, look_fit, atomic_fit}
 use Rattle.fancy_grammar.proofs.Pattern.Fitting.{define_fit, repeater_fit, stopper_fit, expression_fit, FitsOrTarget}
-use Rattle.fancy_grammar.proofs.Pattern.Fitting.{as_condition, conditional_fit, leaf_fit}
+use Rattle.fancy_grammar.proofs.Pattern.Fitting.{conditional_fit, leaf_fit}
+use Rattle.fancy_grammar.proofs.Pattern.Levels.{as_condition}
 use Rattle.fancy_grammar.proofs.Pattern.Nested.{StandsAs, used, never_operand, Fitted, EachFitted, BranchesFitted, Part}
 use Rattle.fancy_grammar.proofs.Pattern.Nested.{Grouped, fewer, R as resolved_at, counted_in, open_leaf, empty_fitted}
 use Rattle.fancy_grammar.proofs.Pattern.Nested.{choice_fitted}
@@ -96,7 +97,7 @@ module _ (z : ℕ) (named : Bool) (numbers_of : Text → List ℕ) where
 
     -- a condition that is an alternation
     pub condition_fitted : (c : ℕ) → FitsOrTarget d b f (R c r)
-    condition_fitted c = as_condition d b f (R c r) (Fit (d + 1) Whole (R c r)) (h.fitted.fits c Whole tt)
+    condition_fitted c = as_condition (R c r) (Fit (d + 1) Whole (R c r)) (h.fitted.fits c Whole tt)
 
     pub condition_alone : Grouped R d r
     condition_alone = grouped r alone (λ _. less_branches d r b h.branches)
