@@ -44,7 +44,7 @@ off_and_on : (b : Bool) → b && not b ≡ false
 off_and_on true = refl
 off_and_on false = refl
 
-turns_none : (f : Flags) → turns_on f f ≡ false
+pub turns_none : (f : Flags) → turns_on f f ≡ false
 turns_none f = rw (off_and_on f.casei, off_and_on f.multi, off_and_on f.dotnl, off_and_on f.crlf) refl
 
 pub no_setting : (f : Flags) → setting f f ≡ []
