@@ -1,4 +1,8 @@
 -- Parsed trees are writable, and their texts read back, but for what groups without a number leave.
+use Rattle.std.proofs.Common.{zero, suc}
+use Rattle.fancy_parts.specs.Ranks.{is_counted}
+use Rattle.fancy_grammar.specs.Pattern.{group_count_all}
+use Rattle.fancy_grammar.specs.Writable.{AreCounted, openings_told, name_at}
 use Rattle.std.proofs.Common.{◌≡◌, ℕ, ◌+◌, ◌<◌, Bool, true, false, List, [], ◌∷◌, refl, ap}
 use Rattle.std.proofs.Common.{◌∙◌, subst, arith}
 use Rattle.std.specs.List.{AllByRecursion}
@@ -131,48 +135,73 @@ module _ (f : Flags) (m : Marks) (mode : f.oniguruma_mode ≡ false) where
   conditional_writable c (more_trees k (more_trees t no_trees)) h w = absurd h
   conditional_writable c (more_trees k (more_trees t (more_trees e (more_trees x ts)))) h w = absurd h
 
+  -- so many groups behind c others have a number
+  abbrev Counted : ℕ → ℕ → Type 0
+  Counted c n = AreCounted m.numbered_groups_ignored (openings_told m c n)
+
+  counted_first : (c n : ℕ) → Counted c (n + 1) →
+      (is_counted m.numbered_groups_ignored (name_at m (c + 1)) ≡ true) × Counted (c + 1) n
+  counted_first c n q = let next : n + 1 ≡ suc n = omega arith in at (subst (λ k. Counted c k) next q)
+    where
+      at : Counted c (suc n) → (is_counted m.numbered_groups_ignored (name_at m (c + 1)) ≡ true) × Counted (c + 1) n
+      at q = q
+
+  counted_split : (k n c : ℕ) → Counted c (k + n) → Counted c k × Counted (c + k) n
+  counted_split zero n c q =
+      let none : 0 + n ≡ n = omega arith in
+      let here : c ≡ c + 0 = omega arith in
+      (tt, subst (λ c. Counted c n) here (subst (λ n. Counted c n) none q))
+  counted_split (suc k) n c q =
+      let next : suc k + n ≡ (k + n) + 1 = omega arith in
+      let behind : (c + 1) + k ≡ c + suc k = omega arith in
+      let (x, y) = counted_first c (k + n) (subst (λ n. Counted c n) next q) in
+      let (v, w) = counted_split k n (c + 1) y in ((x, v), subst (λ c. Counted c n) behind w)
+
   mutual
     nodes_writable : (c : ℕ) (t : Tree) → Answered (preorder t) → Resolved (preorder t) →
-        AreReferencesWritable f m c t → AreNodesWritable f m c t
-    nodes_writable c (leaf l) a h r = leaf_writable c l a.0 h.0 r
-    nodes_writable c (over (label.repeat lo hi greedy) t) a h r =
-        (nodes_writable c t a.1 h.1 r, h.0.0 refl, h.0.1, h.0.2)
-    nodes_writable c (over label.group t) a h r = nodes_writable (c + 1) t a.1 h.1 r
-    nodes_writable c (over (label.look_around l) t) a h r = nodes_writable c t a.1 h.1 r
-    nodes_writable c (over label.atomic_group t) a h r = nodes_writable c t a.1 h.1 r
-    nodes_writable c (over label.define_group t) a h r = nodes_writable c t a.1 h.1 r
-    nodes_writable c (over label.repeater t) a h r = nodes_writable c t a.1 h.1 r
-    nodes_writable c (over label.stopper t) a h r = (nodes_writable c t a.1 h.1 r, h.0 refl)
-    nodes_writable c (over (label.ast_group name place) t) a h r = absurd a.0
-    nodes_writable c (row label.concat (more_trees t (more_trees u ts))) a h r =
-        pieces_writable c (more_trees t (more_trees u ts)) a.1 h.1 (h.0.1 refl) r
-    nodes_writable c (row label.concat no_trees) a h r = absurd (omega (arith, h.0.0))
-    nodes_writable c (row label.concat (more_trees t no_trees)) a h r = absurd (omega (arith, h.0.0))
-    nodes_writable c (row label.alt (more_trees t (more_trees u ts))) a h r =
-        all_writable c (more_trees t (more_trees u ts)) a.1 h.1 r
-    nodes_writable c (row label.alt no_trees) a h r = absurd (omega (arith, a.0))
-    nodes_writable c (row label.alt (more_trees t no_trees)) a h r = absurd (omega (arith, a.0))
-    nodes_writable c (row label.expression ts) a h r =
-        expression_writable c ts h.0 (all_writable c ts a.1 h.1 r)
-    nodes_writable c (row label.conditional ts) a h r =
-        conditional_writable c ts (h.0.1 refl) (all_writable c ts a.1 h.1 r)
+        AreReferencesWritable f m c t → Counted c (group_count t) → AreNodesWritable f m c t
+    nodes_writable c (leaf l) a h r q = leaf_writable c l a.0 h.0 r
+    nodes_writable c (over (label.repeat lo hi greedy) t) a h r q =
+        (nodes_writable c t a.1 h.1 r q, h.0.0 refl, h.0.1, h.0.2)
+    nodes_writable c (over label.group t) a h r q =
+        let (x, y) = counted_first c (group_count t) q in (x, nodes_writable (c + 1) t a.1 h.1 r y)
+    nodes_writable c (over (label.look_around l) t) a h r q = nodes_writable c t a.1 h.1 r q
+    nodes_writable c (over label.atomic_group t) a h r q = nodes_writable c t a.1 h.1 r q
+    nodes_writable c (over label.define_group t) a h r q = nodes_writable c t a.1 h.1 r q
+    nodes_writable c (over label.repeater t) a h r q = nodes_writable c t a.1 h.1 r q
+    nodes_writable c (over label.stopper t) a h r q = (nodes_writable c t a.1 h.1 r q, h.0 refl)
+    nodes_writable c (over (label.ast_group name place) t) a h r q = absurd a.0
+    nodes_writable c (row label.concat (more_trees t (more_trees u ts))) a h r q =
+        pieces_writable c (more_trees t (more_trees u ts)) a.1 h.1 (h.0.1 refl) r q
+    nodes_writable c (row label.concat no_trees) a h r q = absurd (omega (arith, h.0.0))
+    nodes_writable c (row label.concat (more_trees t no_trees)) a h r q = absurd (omega (arith, h.0.0))
+    nodes_writable c (row label.alt (more_trees t (more_trees u ts))) a h r q =
+        all_writable c (more_trees t (more_trees u ts)) a.1 h.1 r q
+    nodes_writable c (row label.alt no_trees) a h r q = absurd (omega (arith, a.0))
+    nodes_writable c (row label.alt (more_trees t no_trees)) a h r q = absurd (omega (arith, a.0))
+    nodes_writable c (row label.expression ts) a h r q =
+        expression_writable c ts h.0 (all_writable c ts a.1 h.1 r q)
+    nodes_writable c (row label.conditional ts) a h r q =
+        conditional_writable c ts (h.0.1 refl) (all_writable c ts a.1 h.1 r q)
 
     all_writable : (c : ℕ) (ts : Trees) → Answered (preorder_all ts) → Resolved (preorder_all ts) →
-        AreAllReferencesWritable f m c ts → AreAllWritable f m c ts
-    all_writable c no_trees a h r = tt
-    all_writable c (more_trees t ts) a h r =
+        AreAllReferencesWritable f m c ts → Counted c (group_count_all ts) → AreAllWritable f m c ts
+    all_writable c no_trees a h r q = tt
+    all_writable c (more_trees t ts) a h r q =
         let (x, y) = each_split IsAnsweredNode (preorder t) (preorder_all ts) a in
         let (j, k) = each_split (IsResolvedNode f false) (preorder t) (preorder_all ts) h in
-        (nodes_writable c t x j r.0, all_writable (c + group_count t) ts y k r.1)
+        let (o, w) = counted_split (group_count t) (group_count_all ts) c q in
+        (nodes_writable c t x j r.0 o, all_writable (c + group_count t) ts y k r.1 w)
 
     pieces_writable : (c : ℕ) (ts : Trees) → Answered (preorder_all ts) → Resolved (preorder_all ts) →
-        AllByRecursion IsSolid (list_of ts) → AreAllReferencesWritable f m c ts →
+        AllByRecursion IsSolid (list_of ts) → AreAllReferencesWritable f m c ts → Counted c (group_count_all ts) →
         ArePieces f m c ts
-    pieces_writable c no_trees a h s r = tt
-    pieces_writable c (more_trees t ts) a h s r =
+    pieces_writable c no_trees a h s r q = tt
+    pieces_writable c (more_trees t ts) a h s r q =
         let (x, y) = each_split IsAnsweredNode (preorder t) (preorder_all ts) a in
         let (j, k) = each_split (IsResolvedNode f false) (preorder t) (preorder_all ts) h in
-        (nodes_writable c t x j r.0, s.0, pieces_writable (c + group_count t) ts y k s.1 r.1)
+        let (o, w) = counted_split (group_count t) (group_count_all ts) c q in
+        (nodes_writable c t x j r.0 o, s.0, pieces_writable (c + group_count t) ts y k s.1 r.1 w)
 
 -- ---- parsed trees
 
@@ -244,10 +273,10 @@ module _ {f : Flags} {text : Text} {t : Tree} {m : Marks} (a : IsTreeOf f text t
   parsed_is_writable small mode w = record {
     mode = mode;
     marks = marks_told a numeric_told self_told;
-    counted = counted_told a;
     names = names_writable a;
     nodes = nodes_writable f m mode 0 t (answered_with a).nodes
-        (whole_or_counted f m.numbered_groups_ignored (preorder t) (nodes_told a) w) (references_writable small);
+        (whole_or_counted f m.numbered_groups_ignored (preorder t) (nodes_told a) w) (references_writable small)
+        (counted_told a);
     fits = answered_fits f text t m mode a;
   }
 

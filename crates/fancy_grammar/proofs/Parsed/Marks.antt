@@ -23,7 +23,8 @@ use Rattle.fancy_grammar.specs.Writable.{AreCounted}
 use Rattle.fancy_grammar.proofs.AnsweredLaws.{answered_with}
 use Rattle.fancy_grammar.proofs.NamedNumbers.{fold_all}
 use Rattle.fancy_grammar.proofs.Parsed.Lists.{each_split, each_filtered, length_filtered}
-use Rattle.fancy_grammar.proofs.Parsed.Told.{told_openings_are, counted_filtered, only_filtered}
+use Rattle.fancy_grammar.proofs.Parsed.Told.{told_openings_are}
+use Rattle.fancy_grammar.proofs.Pattern.Theorem.{counted_filtered, only_filtered}
 use Rattle.fancy_grammar.proofs.Pattern.Theorem.{unreached, unreached_numbers, unreached_groups, unreached_named}
 
 -- ---- how many groups have a number

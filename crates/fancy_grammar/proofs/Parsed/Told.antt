@@ -102,33 +102,3 @@ pub told_openings_are : (m : Marks) (l : List Opening) → m.named_groups ≡ na
     openings_told m 0 (length l) ≡ map unreached l
 told_openings_are m l e = told_from m l e 0 l (λ k. ap (slice_get l) (omega arith))
 
--- ---- those that have a number
-
--- each has one
-pub counted_filtered : (named : Bool) (l : List Opening) →
-    AreCounted named (map unreached (numbered_openings_in named l))
-counted_filtered named [] = tt
-counted_filtered named (o ∷ l) =
-    cond_both (is_counted named o.name) _ _ (λ n. AreCounted named (map unreached n))
-    (λ e. (e, counted_filtered named l)) (λ _. counted_filtered named l)
-
--- one that has a name has a number
-one_more_named : (named b : Bool) (n : Option Text) (l m : List Opening) (o : Opening) → o.name ≡ n →
-    is_counted named n ≡ b → list_any is_named m ≡ list_any is_named l →
-    list_any is_named (if b then o ∷ m else m) ≡ (is_some n || list_any is_named l)
-one_more_named named true n l m o is e h = ap₂ (λ (x : Option Text) (y : Bool). is_some x || y) is h
-one_more_named named false None l m o is e h = h
-one_more_named true false (Some u) l m o is e h = absurd cc
-one_more_named false false (Some u) l m o is e h = absurd cc
-
-any_filtered : (named : Bool) (l : List Opening) →
-    list_any is_named (numbered_openings_in named l) ≡ list_any is_named l
-any_filtered named [] = refl
-any_filtered named (o ∷ l) =
-    one_more_named named (is_counted named o.name) o.name l (numbered_openings_in named l) o refl refl
-    (any_filtered named l)
-
--- a name is among them exactly if it is among all
-pub only_filtered : (f : Flags) (named : Bool) (l : List Opening) →
-    only_named f (numbered_openings_in named l) ≡ only_named f l
-only_filtered f named l = ap (λ b. f.ignore_numbered_groups && b) (any_filtered named l)

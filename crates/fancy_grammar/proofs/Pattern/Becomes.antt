@@ -1,10 +1,11 @@
 -- Raw trees that resolve to given ones where they stand, whatever stands around them.
+use Rattle.std.proofs.Common.{if◌then◌else◌}
 use Rattle.std.proofs.Common.{◌≡◌, ℕ, suc, ◌+◌, Bool, true, false, List, [], ◌∷◌, ◌++◌, length}
 use Rattle.std.proofs.Common.{refl, sym, ap, ap₂, ◌∙◌, subst, arith, ℤ, Some, None, Option}
-use Rattle.std.proofs.lemmas.Bool.{cond-true, cond-false}
+use Rattle.std.proofs.lemmas.Bool.{cond-false, true≢false}
 use Rattle.fancy_lex.specs.Text.{Text, EndsWith, bytes, place_at}
 use Rattle.fancy_lex.specs.declared.flags.Flags.{Flags}
-use Rattle.fancy_parts.specs.Ranks.{Opening, numbered_openings_in}
+use Rattle.fancy_parts.specs.Ranks.{Opening, is_counted, numbered_openings_in}
 use Rattle.fancy_grammar.specs.Items.{Item, opening, reference, items, items_all, openings_in, role_of, target_of}
 use Rattle.fancy_grammar.specs.Join.{is_empty, solid, one_or}
 use Rattle.fancy_grammar.specs.Label.{Row, AstReference, ast_backref, ast_call, ast_condition}
@@ -22,9 +23,9 @@ use Rattle.fancy_parts.specs.Meaning.{Meaning, number, unresolved, faulty, means
 use Rattle.fancy_parts.specs.Written.{is_numeric}
 use Rattle.fancy_lex.proofs.LeaveLaws.{ends_twice}
 
--- how many groups open among the items
-abbrev pub opened : List Item → ℕ
-opened l = length (openings_in l)
+-- how many groups that have a number open among the items
+abbrev pub opened : Bool → List Item → ℕ
+opened named l = length (numbered_openings_in named (openings_in l))
 
 -- what a reference means behind the openings of c groups, by the marks
 abbrev pub meaning_told : Marks → ℕ → AstReference → Meaning
@@ -41,19 +42,29 @@ pub record IsAsMarked (μ : Marks) (s : Text) (r : AstReference) (m : Meaning) (
       is_numeric text (place_at (bytes text) p) (role_of r) (target_of r) ≡ is_numbered μ (reference_node 0 m r 0)
   pub of_all : is_call_of_all (role_of r) (target_of r) ≡ is_numbered_call_of_all μ (reference_node 0 m r 0)
 
--- behind the openings of c groups they are groups, each with the name that the marks give it, and such references
+-- behind the openings of c groups a group that has a number has the name that the marks give it
+abbrev pub IsOpening : Bool → Marks → ℕ → Option Text → Type 0
+IsOpening true μ c name = name ≡ name_at μ (c + 1)
+IsOpening false μ c name = Unit {0}
+
+-- how many that have a number are open behind another
+abbrev pub count_behind : Marks → ℕ → Opening → ℕ
+count_behind μ c o = if is_counted μ.numbered_groups_ignored o.name then c + 1 else c
+
+-- behind the openings of c groups they are such groups, and such references
 abbrev pub AreGroups : Marks → Text → ℕ → List Item → Type 0
 AreGroups μ s c [] = Unit {0}
-AreGroups μ s c (opening o ∷ l) = (o.name ≡ name_at μ (c + 1)) × AreGroups μ s (c + 1) l
+AreGroups μ s c (opening o ∷ l) =
+    IsOpening (is_counted μ.numbered_groups_ignored o.name) μ c o.name × AreGroups μ s (count_behind μ c o) l
 AreGroups μ s c (reference r p ∷ l) =
     MeansGroup (meaning_told μ c r) × IsAsMarked μ s r (meaning_told μ c r) p × AreGroups μ s c l
 
--- behind the openings of c groups it resolves to x, but for places, where each of its groups has a number and each name
--- has those that the marks say; it has as many groups, with the names that the marks give them
+-- behind the openings of c groups it resolves to x, but for places, where each name has the numbers that the marks say;
+-- it has as many groups that have a number, with the names that the marks give them
 pub record Becomes (μ : Marks) (s : Text) (c : ℕ) (r x : Tree) : Type 0 where
-  pub is : (named : Bool) → AreCounted named (openings_in (items r)) → (n : ℕ) (numbers_of : Text → List ℕ) →
-      ((w : Text) → numbers_of w ≡ numbers_told μ w) → unplaced (resolved_in n named numbers_of c r) ≡ unplaced x
-  pub count : opened (items r) ≡ group_count x
+  pub is : (n : ℕ) (numbers_of : Text → List ℕ) → ((w : Text) → numbers_of w ≡ numbers_told μ w) →
+      unplaced (resolved_in n μ.numbered_groups_ignored numbers_of c r) ≡ unplaced x
+  pub count : opened μ.numbered_groups_ignored (items r) ≡ group_count x
   pub groups : AreGroups μ s c (items r)
 
 -- each of the trees becomes the one at its place, one behind another
@@ -64,42 +75,41 @@ EachBecomes μ s c _ _ = ⊥
 
 -- ---- items, one behind another
 
-groups_append : (μ : Marks) (s : Text) (c : ℕ) (l m : List Item) → AreGroups μ s c l → AreGroups μ s (c + opened l) m →
-    AreGroups μ s c (l ++ m)
+-- one group more, if it has a number
+one_more : (b : Bool) (c : ℕ) (o : Opening) (l : List Opening) →
+    c + length (if b then o ∷ l else l) ≡ (if b then c + 1 else c) + length l
+one_more true c o l = omega arith
+one_more false c o l = refl
+
+groups_append : (μ : Marks) (s : Text) (c : ℕ) (l m : List Item) → AreGroups μ s c l →
+    AreGroups μ s (c + opened μ.numbered_groups_ignored l) m → AreGroups μ s c (l ++ m)
 groups_append μ s c [] m h k = subst (λ n. AreGroups μ s n m) (omega arith) k
-groups_append μ s c (opening o ∷ l) m h k =
-    (h.0, groups_append μ s (c + 1) l m h.1 (subst (λ n. AreGroups μ s n m) (omega arith) k))
+groups_append μ s c (opening o ∷ l) m h k = (
+  h.0,
+  groups_append μ s (count_behind μ c o) l m h.1
+      (subst (λ n. AreGroups μ s n m)
+      (one_more (is_counted μ.numbered_groups_ignored o.name) c o
+      (numbered_openings_in μ.numbered_groups_ignored (openings_in l))) k),
+)
 groups_append μ s c (reference r p ∷ l) m h k = (h.0, h.1, groups_append μ s c l m h.2 k)
 
-openings_append : (l m : List Item) → openings_in (l ++ m) ≡ openings_in l ++ openings_in m
-openings_append [] m = refl
-openings_append (opening o ∷ l) m = ap (λ k. o ∷ k) (openings_append l m)
-openings_append (reference r p ∷ l) m = openings_append l m
+opened_append : (named : Bool) (l m : List Item) → opened named (l ++ m) ≡ opened named l + opened named m
+opened_append named [] m = omega arith
+opened_append named (opening o ∷ l) m = at (is_counted named o.name) (opened_append named l m)
+  where
+    at : (b : Bool) → opened named (l ++ m) ≡ opened named l + opened named m →
+        length (if b then o ∷ numbered_openings_in named (openings_in (l ++ m))
+        else numbered_openings_in named (openings_in (l ++ m)))
+        ≡ length (if b then o ∷ numbered_openings_in named (openings_in l) else numbered_openings_in named (openings_in l))
+        + opened named m
+    at true e = ap suc e ∙ omega arith
+    at false e = e
+opened_append named (reference r p ∷ l) m = opened_append named l m
 
-opened_append : (l m : List Item) → opened (l ++ m) ≡ opened l + opened m
-opened_append [] m = omega arith
-opened_append (opening o ∷ l) m = ap suc (opened_append l m) ∙ omega arith
-opened_append (reference r p ∷ l) m = opened_append l m
-
-counted_split : (named : Bool) (l m : List Opening) → AreCounted named (l ++ m) →
-    AreCounted named l × AreCounted named m
-counted_split named [] m h = (tt, h)
-counted_split named (o ∷ l) m h = let (a, b) = counted_split named l m h.1 in ((h.0, a), b)
-
--- where each has a number, those that have one are all
-pub counted_all : (named : Bool) (l : List Opening) → AreCounted named l → numbered_openings_in named l ≡ l
-counted_all named [] h = refl
-counted_all named (o ∷ l) h = cond-true _ _ _ h.0 ∙ ap (λ m. o ∷ m) (counted_all named l h.1)
-
--- where the others have numbers too, each has one
-pub counted_unnamed : (l : List Opening) → AreCounted false l
-counted_unnamed [] = tt
-counted_unnamed (o ∷ l) = (refl, counted_unnamed l)
-
--- what it resolves to, but for places, where all groups have a number
+-- what it resolves to, but for places
 pub becomes_plain : (μ : Marks) (s : Text) (c : ℕ) (r x : Tree) → Becomes μ s c r x →
-    unplaced (resolved_in 0 false (numbers_told μ) c r) ≡ unplaced x
-becomes_plain μ s c r x b = b.is false (counted_unnamed (openings_in (items r))) 0 (numbers_told μ) (λ w. refl)
+    unplaced (resolved_in 0 μ.numbered_groups_ignored (numbers_told μ) c r) ≡ unplaced x
+becomes_plain μ s c r x b = b.is 0 (numbers_told μ) (λ w. refl)
 
 -- ---- several trees
 
@@ -113,41 +123,36 @@ all_groups μ s [] (x ∷ m) c h = absurd h
 all_groups μ s (r ∷ l) [] c h = absurd h
 
 all_count : (μ : Marks) (s : Text) (l m : List Tree) (c : ℕ) → EachBecomes μ s c l m →
-    opened (items_all (trees_of l)) ≡ group_count_all (trees_of m)
+    opened μ.numbered_groups_ignored (items_all (trees_of l)) ≡ group_count_all (trees_of m)
 all_count μ s [] [] c h = refl
 all_count μ s (r ∷ l) (x ∷ m) c h =
-    opened_append (items r) (items_all (trees_of l)) ∙ ap₂ (λ a b. a + b) h.0.count (all_count μ s l m _ h.1)
+    opened_append μ.numbered_groups_ignored (items r) (items_all (trees_of l))
+    ∙ ap₂ (λ a b. a + b) h.0.count (all_count μ s l m _ h.1)
 all_count μ s [] (x ∷ m) c h = absurd h
 all_count μ s (r ∷ l) [] c h = absurd h
 
-each_resolved : (μ : Marks) (s : Text) (l m : List Tree) (c : ℕ) → EachBecomes μ s c l m → (named : Bool) →
-    AreCounted named (openings_in (items_all (trees_of l))) → (n : ℕ) (numbers_of : Text → List ℕ) →
-    ((w : Text) → numbers_of w ≡ numbers_told μ w) →
-    unplaced_all (resolved_all n named numbers_of c (trees_of l)) ≡ unplaced_all (trees_of m)
-each_resolved μ s [] [] c h named k n u e = refl
-each_resolved μ s (r ∷ l) (x ∷ m) c h named k n u e =
-    let others = items_all (trees_of l) in
-    let (a, b) = counted_split named (openings_in (items r)) (openings_in others)
-    (subst (AreCounted named) (openings_append (items r) others) k) in
-    let same : length (numbered_openings_in named (openings_in (items r))) ≡ group_count x
-    = ap length (counted_all named (openings_in (items r)) a) ∙ h.0.count in
-    ap₂ more_trees (h.0.is named a n u e)
-    (ap (λ k. unplaced_all (resolved_all n named u (c + k) (trees_of l))) same
-    ∙ each_resolved μ s l m _ h.1 named b n u e)
-each_resolved μ s [] (x ∷ m) c h named k n u e = absurd h
-each_resolved μ s (r ∷ l) [] c h named k n u e = absurd h
+each_resolved : (μ : Marks) (s : Text) (l m : List Tree) (c : ℕ) → EachBecomes μ s c l m → (n : ℕ)
+    (numbers_of : Text → List ℕ) → ((w : Text) → numbers_of w ≡ numbers_told μ w) →
+    unplaced_all (resolved_all n μ.numbered_groups_ignored numbers_of c (trees_of l)) ≡ unplaced_all (trees_of m)
+each_resolved μ s [] [] c h n u e = refl
+each_resolved μ s (r ∷ l) (x ∷ m) c h n u e =
+    ap₂ more_trees (h.0.is n u e)
+    (ap (λ k. unplaced_all (resolved_all n μ.numbered_groups_ignored u (c + k) (trees_of l))) h.0.count
+    ∙ each_resolved μ s l m _ h.1 n u e)
+each_resolved μ s [] (x ∷ m) c h n u e = absurd h
+each_resolved μ s (r ∷ l) [] c h n u e = absurd h
 
 pub row_becomes : (μ : Marks) (s : Text) (w : Row) (l m : List Tree) (c : ℕ) → EachBecomes μ s c l m →
     Becomes μ s c (row w (trees_of l)) (row w (trees_of m))
 row_becomes μ s w l m c h = record {
-  is = λ named k n u e. ap (row w) (each_resolved μ s l m c h named k n u e);
+  is = λ n u e. ap (row w) (each_resolved μ s l m c h n u e);
   count = all_count μ s l m c h;
   groups = all_groups μ s l m c h;
 }
 
 pub one_becomes : (μ : Marks) (s : Text) (w : Row) (l m : List Tree) (c : ℕ) → EachBecomes μ s c l m →
     Becomes μ s c (one_or (row w) l) (one_or (row w) m)
-one_becomes μ s w [] [] c h = record { is = λ named k n u e. refl; count = refl; groups = tt }
+one_becomes μ s w [] [] c h = record { is = λ n u e. refl; count = refl; groups = tt }
 one_becomes μ s w (r ∷ []) (x ∷ []) c h = h.0
 one_becomes μ s w (r ∷ z ∷ l) (x ∷ y ∷ m) c h = row_becomes μ s w (r ∷ z ∷ l) (x ∷ y ∷ m) c h
 one_becomes μ s w (r ∷ []) (x ∷ y ∷ m) c h = absurd h.1
@@ -191,29 +196,37 @@ node_told P a unresolved (ast_call t) p x y z w v h = v _
 node_told P a unresolved (ast_condition t level) p x y z w v h = v _
 node_told P a (faulty k) r p x y z w v h = absurd h
 
-place_free : (μ : Marks) (s : Text) (f : Flags) (r : Tree) (c : ℕ) → AreGroups μ s c (items r) →
-    is_repeatable f (resolved_in 0 false (numbers_told μ) c r) ≡ is_repeatable f r
-place_free μ s f (ast_group m p t) c h = refl
-place_free μ s f (ast_node r p) c h =
+abbrev pub is_raw_group : Tree → Bool
+is_raw_group (ast_group m p t) = true
+is_raw_group _ = false
+
+place_free : (μ : Marks) (s : Text) (f : Flags) (r : Tree) (c : ℕ) → is_raw_group r ≡ false → AreGroups μ s c (items r) →
+    is_repeatable f (resolved_in 0 μ.numbered_groups_ignored (numbers_told μ) c r) ≡ is_repeatable f r
+place_free μ s f (ast_group m p t) c g h = absurd (true≢false g)
+place_free μ s f (ast_node r p) c g h =
     node_told (is_repeatable f) true (meaning_told μ c r) r p (λ n i. refl) (λ n l i. refl) (λ n. refl) (λ n l. refl)
     (λ q. refl) h.0
-place_free μ s f _ c h = refl
+place_free μ s f _ c g h = refl
 
 pub stays_repeatable : (μ : Marks) (s : Text) (f : Flags) (c : ℕ) (r x : Tree) → Becomes μ s c r x →
     is_repeatable f x ≡ true →
     is_repeatable f r ≡ true
-stays_repeatable μ s f c r x b e =
-    let resolves = resolved_in 0 false (numbers_told μ) c r in
-    sym (place_free μ s f r c b.groups)
-    ∙ (sym (repeatable_unplaced f resolves)
-    ∙ (ap (is_repeatable f) (becomes_plain μ s c r x b) ∙ (repeatable_unplaced f x ∙ e)))
+stays_repeatable μ s f c (ast_group m p t) x b e = refl
+stays_repeatable μ s f c r x b e = at r refl b
+  where
+    at : (r : Tree) → is_raw_group r ≡ false → Becomes μ s c r x → is_repeatable f r ≡ true
+    at r g b =
+        let resolves = resolved_in 0 μ.numbered_groups_ignored (numbers_told μ) c r in
+        sym (place_free μ s f r c g b.groups)
+        ∙ (sym (repeatable_unplaced f resolves)
+        ∙ (ap (is_repeatable f) (becomes_plain μ s c r x b) ∙ (repeatable_unplaced f x ∙ e)))
 
 -- ---- in a longer text
 
 groups_in_longer : (μ : Marks) (s t : Text) → EndsWith t s → (c : ℕ) (l : List Item) → AreGroups μ s c l →
     AreGroups μ t c l
 groups_in_longer μ s t e c [] h = tt
-groups_in_longer μ s t e c (opening o ∷ l) h = (h.0, groups_in_longer μ s t e (c + 1) l h.1)
+groups_in_longer μ s t e c (opening o ∷ l) h = (h.0, groups_in_longer μ s t e (count_behind μ c o) l h.1)
 groups_in_longer μ s t e c (reference r p ∷ l) h = (
   h.0,
   record { numeric = λ w k. h.1.numeric w (ends_twice w t s k e); of_all = h.1.of_all },

@@ -1,4 +1,5 @@
 -- Each kind of tree reads back where the trees below it do.
+use Rattle.std.proofs.Common.{true}
 use Rattle.std.proofs.Common.{◌≡◌, zero, ◌+◌, Bool, false, not, ℕ}
 use Rattle.std.proofs.Common.{[], ◌∷◌, ◌++◌, codes, refl, sym, ap, ◌∙◌, subst, Option, Some, None, IfSome, option_map}
 use Rattle.std.proofs.lemmas.Bool.{cond-false, false≢true, cond_both}
@@ -22,7 +23,8 @@ use Rattle.fancy_grammar.specs.PatternNeeds.{settled, setting}
 use Rattle.fancy_grammar.specs.PatternReference.{Named, name_of, name_head, group_head, target_text}
 use Rattle.fancy_grammar.specs.Quantified.{is_repeatable}
 use Rattle.fancy_grammar.specs.Tree.{Tree, leaf, over}
-use Rattle.fancy_grammar.specs.Writable.{IsLike, IsWritableLeaf, IsNameWritable}
+use Rattle.fancy_grammar.specs.Writable.{IsLike, IsWritableLeaf, IsNameWritable, name_at}
+use Rattle.fancy_parts.specs.Ranks.{is_counted}
 use Rattle.fancy_grammar.specs.declared.kinds.LookAround.{LookAround}
 use Rattle.fancy_grammar.specs.declared.kinds.LookAround.TheVariants.{LookAhead, LookAheadNeg, LookBehind}
 use Rattle.fancy_grammar.specs.declared.kinds.LookAround.TheVariants.{LookBehindNeg}
@@ -166,8 +168,9 @@ module _ (μ : Marks) where
         (λ _. begins_by x (code "(") _ refl refl refl refl) (λ _. begins_by x (code "(") _ refl refl refl refl))
 
     pub group_reads : IfSome (name_of μ (h.opened + 1)) (λ e. IsNameWritable e.0) →
+        is_counted μ.numbered_groups_ignored (name_at μ (h.opened + 1)) ≡ true →
         ReadsTree t (deeper (past_groups 1 (under (settled h.flags t) h))) → ReadsTree (over label.group t) h
-    group_reads named r =
+    group_reads named counted r =
         let i = under (settled h.flags t) h in
         let head = group_head μ (h.opened + 1) in
         let s = in_parens head (written μ t Whole) (past_groups 1 i) in
@@ -181,7 +184,7 @@ module _ (μ : Marks) where
         (begins_head (name_of μ (h.opened + 1)) named h.flags.ignore_space (inside v) (clear d v)))
         (λ d v k _. subst (λ w. AtomAt μ i w v (over label.group t)) (sym (same v))
         (reads_group μ i _ _ _ (inside v) v t
-        (group_head_read d.1.0 (name_of μ (h.opened + 1)) named i.flags (inside v) (clear d v)) refl
+        (group_head_read d.1.0 (name_of μ (h.opened + 1)) named i.flags (inside v) (clear d v)) refl counted
         (r.whole d.1.1 (code ")" ∷ v) (ends_close h.flags.ignore_space v))))
         refl (λ e. ((λ d. d), refl))
 

@@ -126,7 +126,7 @@ module _ (μ : Marks) (i : Here) (d : MayOpen i) where
   on_verb : (b : BacktrackingControlVerb) → Before μ i (verb_name b) i.flags (leaf (label.verb b))
   on_verb b = record {
     node = λ z. leaf (label.verb b);
-    becomes = λ z. record { is = λ named k n u e. refl; count = refl; groups = tt };
+    becomes = λ z. record { is = λ n u e. refl; count = refl; groups = tt };
     leads = λ z v r f y. atom (stands b z) (a_body y);
   }
     where

@@ -28,6 +28,9 @@ use Rattle.fancy_grammar.specs.State.{State, Outcome, done, fault, seen_through}
 use Rattle.fancy_grammar.specs.Tree.{Tree, leaf, row, empty, conditional, ast_group}
 use Rattle.fancy_grammar.specs.Tree.{ast_node, trees_of, list_of}
 use Rattle.fancy_grammar.proofs.Pattern.Becomes.{Becomes, row_becomes, AreGroups, becomes_plain, numbers_told}
+use Rattle.fancy_grammar.proofs.Pattern.Becomes.{is_raw_group, stays_solid}
+use Rattle.std.proofs.Math.Bool.{and-false}
+use Rattle.std.proofs.lemmas.Bool.{true≢false}
 use Rattle.fancy_grammar.proofs.Pattern.Becomes.{node_told, in_longer, meaning_told}
 use Rattle.fancy_grammar.proofs.Pattern.Unplaced.{empty_unplaced, alt_unplaced}
 use Rattle.fancy_grammar.proofs.Pattern.Rules.{Begins, begins_by, AtomAt, BranchAt, WholeAt, stops_bar, ends_close}
@@ -86,37 +89,33 @@ others {d} {s} {r} {t} a = let (q, e, b) = alternation_of a in others_of d s r t
 
 -- ---- a raw tree and what it becomes
 
-raw_empty : (μ : Marks) (s : Text) (r : Tree) (c : ℕ) → AreGroups μ s c (items r) →
-    is_empty (resolved_in 0 false (numbers_told μ) c r) ≡ is_empty r
-raw_empty μ s (ast_group m p t) c h = refl
-raw_empty μ s (ast_node r p) c h =
-    node_told is_empty false (meaning_told μ c r) r p (λ n i. refl) (λ n l i. refl) (λ n. refl) (λ n l. refl) (λ q. refl)
-    h.0
-raw_empty μ s _ c h = refl
+-- of two one is not Empty
+one_solid : (a b p q : Bool) → (a ≡ false → p ≡ false) → (b ≡ false → q ≡ false) → (a && b) ≡ false → (p && q) ≡ false
+one_solid true true p q x y h = absurd (true≢false h)
+one_solid true false p q x y h = ap (λ q. p && q) (y refl) ∙ and-false p
+one_solid false b p q x y h = ap (λ p. p && q) (x refl)
 
-same_empty : (μ : Marks) (s : Text) (c : ℕ) (r x : Tree) → Becomes μ s c r x → is_empty r ≡ is_empty x
-same_empty μ s c r x b =
-    let resolves = resolved_in 0 false (numbers_told μ) c r in
-    sym (raw_empty μ s r c b.groups)
-    ∙ (sym (empty_unplaced resolves) ∙ (ap is_empty (becomes_plain μ s c r x b) ∙ empty_unplaced x))
-
-raw_alt : (μ : Marks) (s : Text) (r : Tree) (c : ℕ) → AreGroups μ s c (items r) →
-    is_alt (resolved_in 0 false (numbers_told μ) c r) ≡ is_alt r
-raw_alt μ s (ast_group m p t) c h = refl
-raw_alt μ s (ast_node r p) c h =
+raw_alt : (μ : Marks) (s : Text) (r : Tree) (c : ℕ) → is_raw_group r ≡ false → AreGroups μ s c (items r) →
+    is_alt (resolved_in 0 μ.numbered_groups_ignored (numbers_told μ) c r) ≡ is_alt r
+raw_alt μ s (ast_group m p t) c g h = absurd (true≢false g)
+raw_alt μ s (ast_node r p) c g h =
     node_told is_alt false (meaning_told μ c r) r p (λ n i. refl) (λ n l i. refl) (λ n. refl) (λ n l. refl) (λ q. refl)
     h.0
-raw_alt μ s (row label.concat ts) c h = refl
-raw_alt μ s (row label.alt ts) c h = refl
-raw_alt μ s (row label.expression ts) c h = refl
-raw_alt μ s (row label.conditional ts) c h = refl
-raw_alt μ s _ c h = refl
+raw_alt μ s (row label.concat ts) c g h = refl
+raw_alt μ s (row label.alt ts) c g h = refl
+raw_alt μ s (row label.expression ts) c g h = refl
+raw_alt μ s (row label.conditional ts) c g h = refl
+raw_alt μ s _ c g h = refl
 
-same_alt : (μ : Marks) (s : Text) (c : ℕ) (r x : Tree) → Becomes μ s c r x → is_alt r ≡ is_alt x
-same_alt μ s c r x b =
-    let resolves = resolved_in 0 false (numbers_told μ) c r in
-    sym (raw_alt μ s r c b.groups)
-    ∙ (sym (alt_unplaced resolves) ∙ (ap is_alt (becomes_plain μ s c r x b) ∙ alt_unplaced x))
+stays_one : (μ : Marks) (s : Text) (c : ℕ) (r x : Tree) → Becomes μ s c r x → is_alt x ≡ false → is_alt r ≡ false
+stays_one μ s c (ast_group m p t) x b e = refl
+stays_one μ s c r x b e = at r refl b
+  where
+    at : (r : Tree) → is_raw_group r ≡ false → Becomes μ s c r x → is_alt r ≡ false
+    at r g b =
+        let resolves = resolved_in 0 μ.numbered_groups_ignored (numbers_told μ) c r in
+        sym (raw_alt μ s r c g b.groups)
+        ∙ (sym (alt_unplaced resolves) ∙ (ap is_alt (becomes_plain μ s c r x b) ∙ (alt_unplaced x ∙ e)))
 
 -- what is no Alt is one branch
 abbrev OneBranch : Tree → Type 0
@@ -201,10 +200,10 @@ one_body μ d k f n t v g x c u e a b = record {
   derives =
       subst (Body d k (st f (t ++ code ")" ∷ v)))
       (closed_body k b.tree (bytes (t ++ code ")" ∷ v)) g v b.tree empty (some_left t (code ")" ∷ v) c u e)
-      (alone b.tree (same_alt μ _ n b.tree x b.becomes ∙ a)))
+      (alone b.tree (stays_one μ _ n b.tree x b.becomes a)))
       (the_body (alternation (last b.derives refl)));
   one_becomes = b.becomes;
-  other_becomes = record { is = λ named k n u e. refl; count = refl; groups = tt };
+  other_becomes = record { is = λ n u e. refl; count = refl; groups = tt };
 }
 
 -- ---- the text of a body
@@ -272,8 +271,8 @@ module _ (μ : Marks) where
       AtomAt μ i (codes "(?(" ++ (s ++ code ")" ∷ z)) v (conditional c t e)
   with_body i s z v g c t e solid b y =
       let neither : (is_empty y.one && is_empty y.other) ≡ false
-      = ap₂ (λ p q. p && q) (same_empty μ z _ y.one t y.one_becomes) (same_empty μ z _ y.other e y.other_becomes)
-      ∙ solid in
+      = one_solid (is_empty t) (is_empty e) (is_empty y.one) (is_empty y.other)
+      (stays_solid μ z _ y.one t y.one_becomes) (stays_solid μ z _ y.other e y.other_becomes) solid in
       let is : conditional_of (b.node z) y.one y.other ≡ conditional (b.node z) y.one y.other
       = cond-false _ _ _ neither in
       let all = codes "(?(" ++ (s ++ code ")" ∷ z) in

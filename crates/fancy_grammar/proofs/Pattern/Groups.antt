@@ -25,7 +25,10 @@ use Rattle.fancy_grammar.specs.State.{State, Outcome, done, fault, seen_through}
 use Rattle.fancy_grammar.specs.Tree.{Tree, over, empty, look_around, atomic_group, define_group, ast_group}
 use Rattle.fancy_grammar.specs.Writable.{IsNameWritable, name_at}
 use Rattle.fancy_grammar.specs.declared.kinds.LookAround.{LookAround}
-use Rattle.fancy_grammar.proofs.Pattern.Becomes.{Becomes, in_longer}
+use Rattle.fancy_grammar.proofs.Pattern.Becomes.{Becomes, in_longer, AreGroups, IsOpening}
+use Rattle.fancy_grammar.specs.Items.{items}
+use Rattle.fancy_parts.specs.Ranks.{is_counted}
+use Rattle.std.proofs.Common.{length, suc}
 use Rattle.fancy_grammar.proofs.Pattern.Letters.{changed, setting_ahead, scope_ahead, no_hash}
 use Rattle.fancy_grammar.proofs.Pattern.Rules.{Clear, Begins, begins_by, not_layout, no_question, no_star}
 use Rattle.fancy_grammar.proofs.Pattern.Rules.{AtomAt, WholeAt, Rest, lead_flags, quants_one, quant_none}
@@ -162,24 +165,24 @@ over_becomes μ s label.group c r x k b = absurd k
 over_becomes μ s (label.ast_group name place) c r x k b = absurd k
 over_becomes μ s (label.look_around l) c r x k b =
     record {
-      is = λ named k n u e. ap (over (label.look_around l)) (b.is named k n u e);
+      is = λ n u e. ap (over (label.look_around l)) (b.is n u e);
       count = b.count;
       groups = b.groups;
     }
 over_becomes μ s (label.repeat lo hi greedy) c r x k b =
     record {
-      is = λ named k n u e. ap (over (label.repeat lo hi greedy)) (b.is named k n u e);
+      is = λ n u e. ap (over (label.repeat lo hi greedy)) (b.is n u e);
       count = b.count;
       groups = b.groups;
     }
 over_becomes μ s label.atomic_group c r x k b =
-    record { is = λ named k n u e. ap (over label.atomic_group) (b.is named k n u e); count = b.count; groups = b.groups }
+    record { is = λ n u e. ap (over label.atomic_group) (b.is n u e); count = b.count; groups = b.groups }
 over_becomes μ s label.define_group c r x k b =
-    record { is = λ named k n u e. ap (over label.define_group) (b.is named k n u e); count = b.count; groups = b.groups }
+    record { is = λ n u e. ap (over label.define_group) (b.is n u e); count = b.count; groups = b.groups }
 over_becomes μ s label.repeater c r x k b =
-    record { is = λ named k n u e. ap (over label.repeater) (b.is named k n u e); count = b.count; groups = b.groups }
+    record { is = λ n u e. ap (over label.repeater) (b.is n u e); count = b.count; groups = b.groups }
 over_becomes μ s label.stopper c r x k b =
-    record { is = λ named k n u e. ap (over label.stopper) (b.is named k n u e); count = b.count; groups = b.groups }
+    record { is = λ n u e. ap (over label.stopper) (b.is n u e); count = b.count; groups = b.groups }
 
 pub reads_look : (μ : Marks) (h : Here) (l : LookAround) (g : Flags) (s t v : Text) (x : Tree) →
     ahead h.depth (st h.flags s) ≡ with_head (look l) (st h.flags t) → WholeAt μ (deeper h) t g (code ")" ∷ v) x →
@@ -214,18 +217,22 @@ reads_define μ h g s t v x e w = record {
       (in_longer μ t s (head_ends _ _ _ s t _ e) h.opened w.tree x w.becomes);
 }
 
--- a capturing group, whose name is that which the marks give it
+-- a capturing group that has a number, whose name is that which the marks give it
 pub reads_group : (μ : Marks) (h : Here) (name : Option Text) (g : Flags) (s t v : Text) (x : Tree) →
     ahead h.depth (st h.flags s) ≡ with_head (capture name) (st h.flags t) → name ≡ name_at μ (h.opened + 1) →
+    is_counted μ.numbered_groups_ignored name ≡ true →
     WholeAt μ (deeper (past_groups 1 h)) t g (code ")" ∷ v) x → AtomAt μ h s v (over label.group x)
-reads_group μ h name g s t v x e is w = record {
+reads_group μ h name g s t v x e is counted w = record {
   tree = ast_group name (reach_of s) w.tree;
   derives = atom e (a_group (inside w.derives));
   becomes = record {
-    is =
-        λ named k n u q. ap unplaced (cond-true _ _ _ k.0) ∙ ap (over label.group) (w.becomes.is named k.1 n u q);
-    count = omega (arith, w.becomes.count);
-    groups = (is, (in_longer μ t s (head_ends _ _ _ s t _ e) (h.opened + 1) w.tree x w.becomes).groups);
+    is = λ n u q. ap unplaced (cond-true _ _ _ counted) ∙ ap (over label.group) (w.becomes.is n u q);
+    count = ap length (cond-true _ _ _ counted) ∙ (ap suc w.becomes.count ∙ omega arith);
+    groups = (
+      subst (λ b. IsOpening b μ h.opened name) (sym counted) is,
+      subst (λ b. AreGroups μ s (if b then h.opened + 1 else h.opened) (items w.tree)) (sym counted)
+          (in_longer μ t s (head_ends _ _ _ s t _ e) (h.opened + 1) w.tree x w.becomes).groups,
+    );
   };
 }
 

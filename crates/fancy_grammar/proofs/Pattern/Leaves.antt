@@ -55,7 +55,7 @@ IsNoReference _ = Unit {0}
 
 leaf_becomes : (μ : Marks) (s : Text) (c : ℕ) (l : Leaf) → IsNoReference l → Becomes μ s c (leaf l) (leaf l)
 leaf_becomes μ s c (label.ast_node r place) k = absurd k
-leaf_becomes μ s c l k = record { is = λ named k n u e. refl; count = refl; groups = tt }
+leaf_becomes μ s c l k = record { is = λ n u e. refl; count = refl; groups = tt }
 
 pub reads_leaf : (μ : Marks) (h : Here) (s v : Text) (l : Leaf) → IsNoReference l →
     ahead h.depth (st h.flags s) ≡ read (done (leaf l) (st h.flags v)) → AtomAt μ h s v (leaf l)

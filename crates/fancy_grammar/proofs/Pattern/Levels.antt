@@ -75,7 +75,7 @@ module _ (f : Flags) (μ : Marks) where
       λ _. omega arith,
       (
         omega arith,
-        levels_fit t Whole (deeper (past_groups 1 (under (settled h.flags t) h))) _ k e (λ x. absurd (false≢true x))
+        levels_fit t Whole (deeper (past_groups 1 (under (settled h.flags t) h))) _ k.1 e (λ x. absurd (false≢true x))
             (omega arith),
       ),
     )

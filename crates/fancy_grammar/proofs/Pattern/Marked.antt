@@ -20,47 +20,43 @@ use Rattle.fancy_grammar.specs.Preorder.{preorder}
 use Rattle.fancy_grammar.specs.Resolved.{reference_node, resolved, first_fault}
 use Rattle.fancy_grammar.specs.Tree.{Tree, leaf, over, row, Trees, ast_node, ast_group}
 use Rattle.fancy_grammar.specs.Writable.{AreCounted, is_numbered, is_numbered_call_of_all}
-use Rattle.fancy_grammar.proofs.Pattern.Becomes.{AreGroups, IsAsMarked, MeansGroup, meaning_told, numbers_told}
+use Rattle.fancy_grammar.proofs.Pattern.Becomes.{AreGroups, count_behind, IsAsMarked, MeansGroup, meaning_told, numbers_told}
 use Rattle.fancy_grammar.proofs.PreorderLaws.{kept, kept_if, resolved_nodes, items_of_all, items_of_nodes}
 use Rattle.fancy_grammar.proofs.ReadLaws.{derived_read}
 use Rattle.fancy_grammar.proofs.TreeLaws.{IsReadNode}
 
--- ---- among references that mean groups where each group has a number
+-- ---- among references that mean groups
 
 no_fault : (m : Meaning) (p : ℕ) (o : Option Fault) → MeansGroup m → fault_or m p o ≡ o
 no_fault (number n) p o h = refl
 no_fault unresolved p o h = refl
 no_fault (faulty k) p o h = absurd h
 
-module _ (μ : Marks) (s : Text) (named : Bool) (numbers_of : Text → List ℕ)
-    (e : (w : Text) → numbers_of w ≡ numbers_told μ w) where
+module _ (μ : Marks) (s : Text) (numbers_of : Text → List ℕ) (e : (w : Text) → numbers_of w ≡ numbers_told μ w) where
+  abbrev meanings_here : ℕ → List Item → List (AstReference × ℕ × Meaning)
+  meanings_here = meanings_in μ.numbered_groups_ignored numbers_of
+
   -- what a reference means
   meaning_is : (c : ℕ) (r : AstReference) → means numbers_of c (role_of r) (target_of r) ≡ meaning_told μ c r
   meaning_is c r = λ i. means (λ w. e w i) c (role_of r) (target_of r)
 
-  pub none_faulty : (c : ℕ) (l : List Item) → AreGroups μ s c l → AreCounted named (openings_in l) →
-      first_fault (meanings_in named numbers_of c l) ≡ None
-  none_faulty c [] h k = refl
-  none_faulty c (opening o ∷ l) h k =
-      ap (λ n. first_fault (meanings_in named numbers_of n l)) (cond-true _ _ _ k.0) ∙ none_faulty (c + 1) l h.1 k.1
-  none_faulty c (reference r p ∷ l) h k =
-      ap (λ m. fault_or m p (first_fault (meanings_in named numbers_of c l))) (meaning_is c r)
-      ∙ (no_fault (meaning_told μ c r) p _ h.0 ∙ none_faulty c l h.2 k)
+  pub none_faulty : (c : ℕ) (l : List Item) → AreGroups μ s c l → first_fault (meanings_here c l) ≡ None
+  none_faulty c [] h = refl
+  none_faulty c (opening o ∷ l) h = none_faulty (count_behind μ c o) l h.1
+  none_faulty c (reference r p ∷ l) h =
+      ap (λ m. fault_or m p (first_fault (meanings_here c l))) (meaning_is c r)
+      ∙ (no_fault (meaning_told μ c r) p _ h.0 ∙ none_faulty c l h.2)
 
   -- some is of the one kind where some is of the other
   same_such : (a b : AstReference × ℕ × Meaning → Bool) →
       ((r : AstReference) (p : ℕ) (m : Meaning) → IsAsMarked μ s r m p → a (r, p, m) ≡ b (r, p, m)) →
-      (c : ℕ) (l : List Item) → AreGroups μ s c l → AreCounted named (openings_in l) →
-      list_any a (meanings_in named numbers_of c l) ≡ list_any b (meanings_in named numbers_of c l)
-  same_such a b same c [] h k = refl
-  same_such a b same c (opening o ∷ l) h k =
-      let next = cond-true (is_counted named o.name) (c + 1) c k.0 in
-      subst (λ n. list_any a (meanings_in named numbers_of n l) ≡ list_any b (meanings_in named numbers_of n l))
-      (sym next) (same_such a b same (c + 1) l h.1 k.1)
-  same_such a b same c (reference r p ∷ l) h k =
+      (c : ℕ) (l : List Item) → AreGroups μ s c l → list_any a (meanings_here c l) ≡ list_any b (meanings_here c l)
+  same_such a b same c [] h = refl
+  same_such a b same c (opening o ∷ l) h = same_such a b same (count_behind μ c o) l h.1
+  same_such a b same c (reference r p ∷ l) h =
       ap₂ (λ x y. x || y)
       (subst (λ m. a (r, p, m) ≡ b (r, p, m)) (sym (meaning_is c r)) (same r p (meaning_told μ c r) h.1))
-      (same_such a b same c l h.2 k)
+      (same_such a b same c l h.2)
 
 -- ---- nodes of a kind that is told where references are resolved
 
@@ -125,20 +121,26 @@ of_all_leaf μ _ h = refl
 -- ---- the two marks
 
 module _ (μ : Marks) (f : Flags) (text : Text) (r : Tree) (d : DerivesTree f text r)
-    (e : (w : Text) → numbers_in f r w ≡ numbers_told μ w) (groups : AreGroups μ text 0 (items r))
-    (counted : AreCounted (only_named f (openings r)) (openings r)) where
+    (ignored : only_named f (openings r) ≡ μ.numbered_groups_ignored)
+    (e : (w : Text) → numbers_in f r w ≡ numbers_told μ w) (groups : AreGroups μ text 0 (items r)) where
   abbrev tree : Tree
   tree = resolved f (bytes text) r
+
+  same_told : (a b : AstReference × ℕ × Meaning → Bool) →
+      ((r : AstReference) (p : ℕ) (m : Meaning) → IsAsMarked μ text r m p → a (r, p, m) ≡ b (r, p, m)) →
+      list_any a (meanings f r) ≡ list_any b (meanings f r)
+  same_told a b same =
+      subst (λ n. list_any a (meanings_in n (numbers_in f r) 0 (items r))
+      ≡ list_any b (meanings_in n (numbers_in f r) 0 (items r))) (sym ignored)
+      (same_such μ text (numbers_in f r) e a b same 0 (items r) groups)
 
   -- some reference is written as a number
   pub numeric_told :
       list_any (λ x. is_numeric text (place_at (bytes text) x.1) (role_of x.0) (target_of x.0)) (meanings f r)
       ≡ list_any (is_numbered μ) (preorder tree)
   numeric_told =
-      same_such μ text (only_named f (openings r)) (numbers_in f r) e
-      (λ x. is_numeric text (place_at (bytes text) x.1) (role_of x.0) (target_of x.0))
-      (λ x. is_numbered μ (reference_node 0 x.2 x.0 0)) (λ r p m k. k.numeric text (ends_whole text)) 0 (items r) groups
-      counted
+      same_told (λ x. is_numeric text (place_at (bytes text) x.1) (role_of x.0) (target_of x.0))
+      (λ x. is_numbered μ (reference_node 0 x.2 x.0 0)) (λ r p m k. k.numeric text (ends_whole text))
       ∙ any_resolved (is_numbered μ) (numbered_leaf μ) (λ w t. refl) (λ w ts. refl) f text r d
 
   -- some call is one of all
@@ -146,7 +148,6 @@ module _ (μ : Marks) (f : Flags) (text : Text) (r : Tree) (d : DerivesTree f te
       list_any (λ x. is_call_of_all (role_of x.0) (target_of x.0)) (meanings f r)
       ≡ list_any (is_numbered_call_of_all μ) (preorder tree)
   of_all_told =
-      same_such μ text (only_named f (openings r)) (numbers_in f r) e
-      (λ x. is_call_of_all (role_of x.0) (target_of x.0))
-      (λ x. is_numbered_call_of_all μ (reference_node 0 x.2 x.0 0)) (λ r p m k. k.of_all) 0 (items r) groups counted
+      same_told (λ x. is_call_of_all (role_of x.0) (target_of x.0))
+      (λ x. is_numbered_call_of_all μ (reference_node 0 x.2 x.0 0)) (λ r p m k. k.of_all)
       ∙ any_resolved (is_numbered_call_of_all μ) (of_all_leaf μ) (λ w t. refl) (λ w ts. refl) f text r d

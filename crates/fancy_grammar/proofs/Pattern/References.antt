@@ -68,7 +68,7 @@ pub reference_becomes : (μ : Marks) (s : Text) (c : ℕ) (r : AstReference) (p 
     Becomes μ s c (ast_node r p) (leaf l)
 reference_becomes μ s c r p k l meant marked same count = record {
   is =
-      λ _ _ n u e. (λ i. unplaced (reference_node n (means (λ w. e w i) c (role_of r) (target_of r)) r p))
+      λ n u e. (λ i. unplaced (reference_node n (means (λ w. e w i) c (role_of r) (target_of r)) r p))
       ∙ (ap (λ m. unplaced (reference_node n m r p)) meant ∙ ap unplaced (same n));
   count = sym count;
   groups = (subst MeansGroup (sym meant) tt, subst (λ m. IsAsMarked μ s r m p) (sym meant) marked, tt);

@@ -35,7 +35,12 @@ use Rattle.fancy_grammar.specs.declared.precedence.Precedence.TheVariants.{Whole
 use Rattle.fancy_grammar.proofs.AnsweredLaws.{answered_with}
 use Rattle.fancy_grammar.proofs.ReadAsLaws.{read_as}
 use Rattle.fancy_grammar.proofs.Pattern.Absent.{repeater_reads, stopper_reads, expression_reads}
-use Rattle.fancy_grammar.proofs.Pattern.Becomes.{Becomes, opened, AreGroups, counted_all, numbers_told}
+use Rattle.fancy_grammar.proofs.Pattern.Becomes.{Becomes, opened, AreGroups, IsOpening, count_behind}
+use Rattle.fancy_grammar.specs.Writable.{numbers_told}
+use Rattle.std.proofs.Common.{Some, not}
+use Rattle.fancy_parts.specs.Ranks.{is_counted, numbered_openings_in}
+use Rattle.fancy_grammar.specs.Resolved.{first_fault, resolved_in}
+use Rattle.fancy_grammar.specs.Items.{meanings_in}
 use Rattle.fancy_grammar.proofs.Pattern.Cases.{ReadsTree, leaf_reads, group_reads, look_reads, define_reads}
 use Rattle.fancy_grammar.proofs.Pattern.Cases.{atomic_by}
 use Rattle.fancy_grammar.proofs.Pattern.Conditionals.{conditional_reads}
@@ -75,8 +80,8 @@ module _ (μ : Marks) where
           (like_repeatable μ t h.flags f (ap (λ j. j.oniguruma_mode) e) ∙ k.1)
           (reads t i k.0 e) (reads t (deeper i) k.0 e)
       reads (over label.group t) h k e =
-          group_reads μ t h (same_mode μ f mode h.flags e) (names (h.opened + 1))
-          (reads t (deeper (past_groups 1 (under (settled h.flags t) h))) k e)
+          group_reads μ t h (same_mode μ f mode h.flags e) (names (h.opened + 1)) k.0
+          (reads t (deeper (past_groups 1 (under (settled h.flags t) h))) k.1 e)
       reads (over (label.look_around l) t) h k e =
           look_reads μ t h (same_mode μ f mode h.flags e) l
           (reads t (deeper (under (settled h.flags t) h)) k e)
@@ -170,11 +175,17 @@ abbrev pub unreached : Opening → Opening
 unreached o = record { reach = 0; name = o.name }
 
 told_openings : (μ : Marks) (s : Text) (c : ℕ) (l : List Item) → AreGroups μ s c l →
-    map unreached (openings_in l) ≡ openings_told μ c (opened l)
+    map unreached (numbered_openings_in μ.numbered_groups_ignored (openings_in l))
+    ≡ openings_told μ c (opened μ.numbered_groups_ignored l)
 told_openings μ s c [] h = refl
 told_openings μ s c (opening o ∷ l) h =
-    ap₂ (λ (n : Option Text) (m : List Opening). record { reach = 0; name = n } ∷ m) h.0
-    (told_openings μ s (c + 1) l h.1)
+    at (is_counted μ.numbered_groups_ignored o.name) h.0 (told_openings μ s (count_behind μ c o) l h.1)
+  where
+    at : (b : Bool) → IsOpening b μ c o.name → let m = numbered_openings_in μ.numbered_groups_ignored (openings_in l) in
+        map unreached m ≡ openings_told μ (if b then c + 1 else c) (length m) →
+        map unreached (if b then o ∷ m else m) ≡ openings_told μ c (length (if b then o ∷ m else m))
+    at true is e = ap₂ (λ (n : Option Text) (m : List Opening). record { reach = 0; name = n } ∷ m) is e
+    at false is e = e
 told_openings μ s c (reference r p ∷ l) h = told_openings μ s c l h.2
 
 unreached_names : (l : List Opening) → filter_map (λ o. o.name) (map unreached l) ≡ filter_map (λ o. o.name) l
@@ -198,51 +209,78 @@ unreached_named f l = ap (λ b. f.ignore_numbered_groups && b) (each l)
     each [] = refl
     each (o ∷ l) = ap (λ b. is_some o.name || b) (each l)
 
-unreached_counted : (named : Bool) (l : List Opening) → AreCounted named (map unreached l) → AreCounted named l
-unreached_counted named [] h = tt
-unreached_counted named (o ∷ l) h = (h.0, unreached_counted named l h.1)
+-- each of those that have a number has one
+pub counted_filtered : (named : Bool) (l : List Opening) →
+    AreCounted named (map unreached (numbered_openings_in named l))
+counted_filtered named [] = tt
+counted_filtered named (o ∷ l) =
+    cond_both (is_counted named o.name) _ _ (λ n. AreCounted named (map unreached n))
+    (λ e. (e, counted_filtered named l)) (λ _. counted_filtered named l)
+
+-- one that has a name has a number
+one_more_named : (named b : Bool) (n : Option Text) (l m : List Opening) (o : Opening) → o.name ≡ n →
+    is_counted named n ≡ b → list_any is_named m ≡ list_any is_named l →
+    list_any is_named (if b then o ∷ m else m) ≡ (is_some n || list_any is_named l)
+one_more_named named true n l m o is e h = ap₂ (λ (x : Option Text) (y : Bool). is_some x || y) is h
+one_more_named named false None l m o is e h = h
+one_more_named true false (Some u) l m o is e h = absurd cc
+one_more_named false false (Some u) l m o is e h = absurd cc
+
+any_filtered : (named : Bool) (l : List Opening) →
+    list_any is_named (numbered_openings_in named l) ≡ list_any is_named l
+any_filtered named [] = refl
+any_filtered named (o ∷ l) =
+    one_more_named named (is_counted named o.name) o.name l (numbered_openings_in named l) o refl refl
+    (any_filtered named l)
+
+-- a name is among them exactly if it is among all
+pub only_filtered : (f : Flags) (named : Bool) (l : List Opening) →
+    only_named f (numbered_openings_in named l) ≡ only_named f l
+only_filtered f named l = ap (λ b. f.ignore_numbered_groups && b) (any_filtered named l)
 
 pub length_told : (μ : Marks) (c n : ℕ) → length (openings_told μ c n) ≡ n
 length_told μ c zero = refl
 length_told μ c (suc n) = ap suc (length_told μ (c + 1) n)
 
 module _ (μ : Marks) (f : Flags) (text : Text) (r x : Tree) (b : Becomes μ text 0 r x)
-    (told : μ ≡ marks_of f (openings_told μ 0 (group_count x)) x μ)
-    (each : AreCounted μ.numbered_groups_ignored (openings_told μ 0 (group_count x))) where
-  openings_are : map unreached (openings r) ≡ openings_told μ 0 (group_count x)
+    (told : μ ≡ marks_of f (openings_told μ 0 (group_count x)) x μ) where
+  abbrev numbered : List Opening
+  numbered = numbered_openings_in μ.numbered_groups_ignored (openings r)
+
+  openings_are : map unreached numbered ≡ openings_told μ 0 (group_count x)
   openings_are = told_openings μ text 0 (items r) b.groups ∙ ap (openings_told μ 0) b.count
 
+  ignored_among : only_named f (openings r) ≡ only_named f (openings_told μ 0 (group_count x))
+  ignored_among =
+      sym (only_filtered f μ.numbered_groups_ignored (openings r))
+      ∙ (sym (unreached_named f numbered) ∙ ap (only_named f) openings_are)
+
   ignored : only_named f (openings r) ≡ μ.numbered_groups_ignored
-  ignored =
-      sym (unreached_named f (openings r)) ∙ (ap (only_named f) openings_are
-      ∙ sym (ap (λ k. k.numbered_groups_ignored) told))
+  ignored = ignored_among ∙ sym (ap (λ k. k.numbered_groups_ignored) told)
 
-  all_counted : AreCounted (only_named f (openings r)) (openings r)
-  all_counted =
-      subst (λ n. AreCounted n (openings r)) (sym ignored)
-      (unreached_counted μ.numbered_groups_ignored (openings r)
-      (subst (AreCounted μ.numbered_groups_ignored) (sym openings_are) each))
-
-  all_numbered : numbered_openings f (openings r) ≡ openings r
-  all_numbered = counted_all (only_named f (openings r)) (openings r) all_counted
+  all_numbered : numbered_openings f (openings r) ≡ numbered
+  all_numbered = ap (λ n. numbered_openings_in n (openings r)) ignored
 
   same_numbers : (w : Text) → numbers_in f r w ≡ numbers_told μ w
   same_numbers w =
       let total : group_count x ≡ μ.total_groups
       = sym (length_told μ 0 (group_count x)) ∙ sym (ap (λ k. k.total_groups) told) in
-      ap (numbers w) all_numbered ∙ (sym (unreached_numbers 0 w (openings r))
+      ap (numbers w) all_numbered ∙ (sym (unreached_numbers 0 w numbered)
       ∙ (ap (numbers w) openings_are ∙ ap (λ n. numbers w (openings_told μ 0 n)) total))
 
   faultless : fault_of f r ≡ None
   faultless =
-      none_faulty μ text (only_named f (openings r)) (numbers_in f r) same_numbers 0 (items r) b.groups all_counted
+      ap (λ n. first_fault (meanings_in n (numbers_in f r) 0 (items r))) ignored
+      ∙ none_faulty μ text (numbers_in f r) same_numbers 0 (items r) b.groups
 
   -- what is read, which differs from the tree in places alone
   abbrev pub tree : Tree
   tree = resolved f (bytes text) r
 
   resolves : unplaced tree ≡ unplaced x
-  resolves = b.is (only_named f (openings r)) all_counted (bytes text) (numbers_in f r) same_numbers
+  resolves =
+      ap (λ n. unplaced (resolved_in (bytes text) n (numbers_in f r) 0 r)) ignored
+      ∙ b.is (bytes text) (numbers_in f r) same_numbers
 
   -- the marks that the text is read with
   marked : DerivesTree f text r → μ ≡ marks f text r
@@ -251,15 +289,14 @@ module _ (μ : Marks) (f : Flags) (text : Text) (r x : Tree) (b : Becomes μ tex
       let a : IsAnsweredWith tree m = answered_with (r, d, faultless, refl, refl) in
       let all = openings_told μ 0 (group_count x) in
       let total : m.total_groups ≡ length all
-      = ap length all_numbered ∙ (sym (length-map (openings r) unreached) ∙ ap length openings_are) in
+      = ap length all_numbered ∙ (sym (length-map numbered unreached) ∙ ap length openings_are) in
       let named : m.named_groups ≡ named_groups all
-      = ap named_groups all_numbered ∙ (sym (unreached_groups (openings r)) ∙ ap named_groups openings_are) in
+      = ap named_groups all_numbered ∙ (sym (unreached_groups numbered) ∙ ap named_groups openings_are) in
       let numeric : m.numeric_capture_group_references ≡ list_any (is_numbered μ) (preorder x)
-      = numeric_told μ f text r d same_numbers b.groups all_counted ∙ same_numbered tree x resolves μ in
+      = numeric_told μ f text r d ignored same_numbers b.groups ∙ same_numbered tree x resolves μ in
       let self : m.self_recursive ≡ list_any (is_numbered_call_of_all μ) (preorder x)
-      = of_all_told μ f text r d same_numbers b.groups all_counted ∙ same_of_all tree x resolves μ in
-      let only : m.numbered_groups_ignored ≡ only_named f all
-      = sym (unreached_named f (openings r)) ∙ ap (only_named f) openings_are in
+      = of_all_told μ f text r d ignored same_numbers b.groups ∙ same_of_all tree x resolves μ in
+      let only : m.numbered_groups_ignored ≡ only_named f all = ignored_among in
       let referred : groups_referred tree ≡ groups_referred x = same_referred tree x resolves in
       let backrefs : m.backrefs ≡ ascending (filter (λ n. nat_le n (length all)) (groups_referred x))
       = a.backrefs ∙ (λ i. ascending (filter (λ n. nat_le n (total i)) (referred i))) in
@@ -283,18 +320,17 @@ module _ (μ : Marks) (f : Flags) (text : Text) (r x : Tree) (b : Becomes μ tex
 -- a whole text that reads as the tree, but for places
 from_whole : (μ : Marks) (f g : Flags) (text : Text) (x : Tree) →
     μ ≡ marks_of f (openings_told μ 0 (group_count x)) x μ →
-    AreCounted μ.numbered_groups_ignored (openings_told μ 0 (group_count x)) →
     WholeAt μ (record { flags = f; opened = 0; depth = 0 }) text g [] x → IsReadAs f text x μ
-from_whole μ f g text x told each w =
+from_whole μ f g text x told w =
     let d : DerivesTree f text w.tree = (st g [], whole w.derives) in
     let is : IsTreeOf f text (resolved f (bytes text) w.tree) μ = (
       w.tree,
       d,
-      faultless μ f text w.tree x w.becomes told each,
+      faultless μ f text w.tree x w.becomes told,
       refl,
-      marked μ f text w.tree x w.becomes told each d,
+      marked μ f text w.tree x w.becomes told d,
     ) in
-    read_as f text (resolved f (bytes text) w.tree) x μ is (resolves μ f text w.tree x w.becomes told each)
+    read_as f text (resolved f (bytes text) w.tree) x μ is (resolves μ f text w.tree x w.becomes told)
 
 -- what is true of each entry is true of the one that is found
 found : {A : Type 0} (P : A → Type 0) (p : A → Bool) (l : List A) → AllByRecursion P l → IfSome (find p l) P
@@ -330,4 +366,4 @@ reads_back f t μ w =
     (r.whole w.fits [] (ends_nothing f.ignore_space)) in
     let clear = subst (Clear f.ignore_space) (append-nil s) (r.whole_clear w.fits [] (ends_nothing f.ignore_space).stops.clear) in
     let all = whole_behind_setting μ h g.casei g.multi g.dotnl g.crlf s [] after t w.mode clear (λ _. omega arith) here in
-    from_whole μ f after (setting f g ++ s) t w.marks w.counted all
+    from_whole μ f after (setting f g ++ s) t w.marks all

@@ -71,7 +71,7 @@ module _ (μ : Marks) (h : Here) (t : Target) (place : ℕ) (none : is_by_number
   stays : (s : Text) (p : ℕ) → Becomes μ s h.opened (ast_node (ast_call t) p) (leaf without)
   stays s p = record {
     is =
-        λ _ _ n u e. (λ i. unplaced (reference_node n (means (λ w. e w i) h.opened call t) (ast_call t) p))
+        λ n u e. (λ i. unplaced (reference_node n (means (λ w. e w i) h.opened call t) (ast_call t) p))
         ∙ ap (λ m. unplaced (reference_node n m (ast_call t) p)) meant;
     count = refl;
     groups = (
