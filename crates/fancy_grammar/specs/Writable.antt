@@ -157,7 +157,8 @@ abbrev mutual
   pub ArePieces : Flags → Marks → ℕ → Trees → Type 0
   ArePieces f m c no_trees = Unit {0}
   ArePieces f m c (more_trees t ts) =
-      AreNodesWritable f m c t × (is_empty t ≡ false) × ArePieces f m (c + group_count t) ts
+      AreNodesWritable f m c t × (m.numbered_groups_ignored ≡ false → is_empty t ≡ false)
+      × ArePieces f m (c + group_count t) ts
 
 -- ---- the marks of a tree
 

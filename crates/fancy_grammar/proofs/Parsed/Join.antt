@@ -201,7 +201,7 @@ module _ (f : Flags) (m : Marks) (mode : f.oniguruma_mode ≡ false) where
         let (x, y) = each_split IsAnsweredNode (preorder t) (preorder_all ts) a in
         let (j, k) = each_split (IsResolvedNode f false) (preorder t) (preorder_all ts) h in
         let (o, w) = counted_split (group_count t) (group_count_all ts) c q in
-        (nodes_writable c t x j r.0 o, s.0, pieces_writable (c + group_count t) ts y k s.1 r.1 w)
+        (nodes_writable c t x j r.0 o, (λ _. s.0), pieces_writable (c + group_count t) ts y k s.1 r.1 w)
 
 -- ---- parsed trees
 

@@ -173,10 +173,10 @@ stays_solid μ s c empty x b e =
 stays_solid μ s c r x b e = refl
 
 pub solid_also : (μ : Marks) (s : Text) (c : ℕ) (r x : Tree) (l m : List Tree) → Becomes μ s c r x →
-    is_empty x ≡ false →
+    is_empty r ≡ false →
     EachBecomes μ s (c + group_count x) (solid l) m → EachBecomes μ s c (solid (r ∷ l)) (x ∷ m)
 solid_also μ s c r x l m b e h =
-    subst (λ k. EachBecomes μ s c k (x ∷ m)) (sym (cond-false _ _ _ (stays_solid μ s c r x b e))) (b, h)
+    subst (λ k. EachBecomes μ s c k (x ∷ m)) (sym (cond-false _ _ _ e)) (b, h)
 
 -- ---- what may stand under a quantifier
 

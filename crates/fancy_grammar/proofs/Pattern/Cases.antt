@@ -97,7 +97,7 @@ module _ (μ : Marks) where
   pub leaf_reads : ((k : ℕ) → IfSome (name_of μ k) (λ e. e.1 ≡ numbers_told μ e.0)) →
       (f : Flags) (l : Leaf) (h : Here) → h.flags.oniguruma_mode ≡ false → IsLike f h.flags →
       IsWritableLeaf f μ h.opened l → ReadsTree (leaf l) h
-  leaf_reads numbered f label.empty h o like k = by_nothing μ h _ _ _ _ (codes "()") (codes "()")
+  leaf_reads numbered f label.empty h o like k = by_nothing μ h _ _ _ _ (codes "()") o (λ d. d refl)
   leaf_reads numbered f (label.any a b) h o like k =
       let i = under (settled h.flags (leaf (label.any a b))) h in
       leaf_by (label.any a b) h o refl (λ _. any_at μ i a b (any_fits i.flags a b

@@ -1,4 +1,11 @@
 -- Groups, and flags that are set, outside Oniguruma mode.
+use Rattle.fancy_grammar.proofs.Pattern.Rules.{lead_raw, BranchAt, Stops}
+use Rattle.fancy_grammar.specs.Join.{is_empty, one_or}
+use Rattle.fancy_grammar.specs.Tree.{concat}
+use Rattle.fancy_grammar.specs.Grammar.{stop}
+use Rattle.fancy_grammar.specs.Quantified.{is_repeatable}
+use Rattle.fancy_grammar.specs.Pattern.{group_count}
+use Rattle.fancy_grammar.proofs.Pattern.Rules.{ends_close, reads_only, reads_branch, no_more}
 use Rattle.std.proofs.Common.{◌≡◌, ℕ, ◌+◌, ◌<◌, Bool, true, false, not, ◌&&◌, ◌||◌, ◌==◌, nat_le, List, [], ◌∷◌, ◌++◌}
 use Rattle.std.proofs.Common.{codes, None, refl, sym, ap, ◌∙◌, subst, arith, append_assoc, if◌then◌else◌, Some, Option}
 use Rattle.std.proofs.lemmas.Bool.{cond-false, or_parts, cond-true, cond_both}
@@ -235,6 +242,80 @@ reads_group μ h name g s t v x e is counted w = record {
     );
   };
 }
+
+-- one that has none, since only those with a name have, is its inside
+pub record BareAt (μ : Marks) (h : Here) (s v : Text) (x : Tree) : Type 0 where
+  pub atom : AtomAt μ h s v x
+  pub solid : is_empty atom.tree ≡ false
+  pub repeatable : is_repeatable h.flags atom.tree ≡ true
+
+pub reads_bare : (μ : Marks) (h : Here) (g : Flags) (s t v : Text) (x : Tree) →
+    ahead h.depth (st h.flags s) ≡ with_head (capture None) (st h.flags t) → μ.numbered_groups_ignored ≡ true →
+    WholeAt μ (deeper h) t g (code ")" ∷ v) x → BareAt μ h s v x
+reads_bare μ h g s t v x e ignored w =
+    let uncounted : is_counted μ.numbered_groups_ignored None ≡ false = ap (λ b. not b || false) ignored in
+    record {
+      atom = record {
+        tree = ast_group None (reach_of s) w.tree;
+        derives = atom e (a_group (inside w.derives));
+        becomes = record {
+          is = λ n u q. ap unplaced (cond-false _ _ _ uncounted) ∙ w.becomes.is n u q;
+          count = ap length (cond-false _ _ _ uncounted) ∙ w.becomes.count;
+          groups = (
+            subst (λ b. IsOpening b μ h.opened None) (sym uncounted) tt,
+            subst (λ b. AreGroups μ s (if b then h.opened + 1 else h.opened) (items w.tree)) (sym uncounted)
+                (in_longer μ t s (head_ends _ _ _ s t _ e) h.opened w.tree x w.becomes).groups,
+          );
+        };
+      };
+      solid = refl;
+      repeatable = refl;
+    }
+
+-- with nothing in it
+pub reads_nothing : (μ : Marks) (h : Here) (v : Text) → h.depth + 1 < max_depth → μ.numbered_groups_ignored ≡ true →
+    BareAt μ h (codes "()" ++ v) v empty
+reads_nothing μ h v l ignored =
+    let i = deeper h in
+    let s = ends_close h.flags.ignore_space v in
+    reads_bare μ h h.flags (codes "()" ++ v) (code ")" ∷ v) v empty
+    (capture_at h.depth h.flags (code ")" ∷ v) l s.stops.clear) ignored
+    (reads_only μ i (code ")" ∷ v) (code ")" ∷ v) h.flags empty
+    (reads_branch μ i (code ")" ∷ v) (code ")" ∷ v) h.flags [] (no_more μ i (code ")" ∷ v) s.stops)) s.no_bar)
+
+pub begins_nothing : (x : Bool) (v : Text) → Begins x (codes "()" ++ v)
+begins_nothing x v = begins_by x (code "(") (code ")" ∷ v) refl refl refl refl
+
+-- a bare group before other pieces
+pub bare_rest : (μ : Marks) (h : Here) (s v w : Text) (g : Flags) (x : Tree) (ys : List Tree) →
+    h.flags.oniguruma_mode ≡ false → Begins h.flags.ignore_space s → Clear h.flags.ignore_space v → BareAt μ h s v x →
+    Rest μ (past_groups (group_count x) h) v g w ys → Rest μ h s g w (x ∷ ys)
+bare_rest μ h s v w g x ys o b c a r =
+    lead_raw μ h s v w g a.atom.tree x ys b a.solid a.atom.becomes
+    (piece_as b.clear.no_layout a.atom.derives
+    (quants_one h.depth (bytes s) h.flags a.atom.tree a.atom.tree v v o (quant_none (bytes s) h.flags a.atom.tree v c))) r
+
+-- a branch that is one
+pub record BareBranch (μ : Marks) (h : Here) (s : Text) (g : Flags) (v : Text) (x : Tree) : Type 0 where
+  pub branch : BranchAt μ h s g v x
+  pub solid : is_empty branch.tree ≡ false
+
+pub bare_branch : (μ : Marks) (h : Here) (s v : Text) (x : Tree) → h.flags.oniguruma_mode ≡ false →
+    Begins h.flags.ignore_space s → Stops h.flags.ignore_space v → BareAt μ h s v x → BareBranch μ h s h.flags v x
+bare_branch μ h s v x o b c a =
+    let r = a.atom.tree in
+    let alone : join (r ∷ []) ≡ r = ap (one_or concat) (cond-false _ _ _ a.solid) in
+    record {
+      branch = record {
+        tree = r;
+        derives =
+            subst (λ z. Branch h.depth (st h.flags s) (done z (st h.flags v))) alone
+            (branch (next b.goes (piece_as b.clear.no_layout a.atom.derives
+            (quants_one h.depth (bytes s) h.flags r r v v o (quant_none (bytes s) h.flags r v c.clear))) (stop c.ends)));
+        becomes = a.atom.becomes;
+      };
+      solid = a.solid;
+    }
 
 -- ---- a group of flags
 

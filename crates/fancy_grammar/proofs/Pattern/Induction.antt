@@ -1,4 +1,12 @@
 -- The text of a writable tree reads back, wherever it stands: by induction on the tree.
+use Rattle.std.proofs.Common.{◌+◌, ◌<◌}
+use Rattle.fancy_grammar.specs.Depth.{max_depth}
+use Rattle.std.proofs.Common.{None, ℕ}
+use Rattle.fancy_lex.specs.Text.{bytes, reach_of}
+use Rattle.fancy_grammar.specs.Tree.{empty, ast_group}
+use Rattle.fancy_grammar.proofs.OutcomeLemmas.{piece_as}
+use Rattle.fancy_grammar.proofs.Pattern.Groups.{reads_nothing, begins_nothing, bare_rest}
+use Rattle.fancy_grammar.proofs.Pattern.Rules.{lead_raw, quants_one, quant_none, begins_by}
 use Rattle.std.proofs.Common.{◌≡◌, Bool, true, false, List, [], ◌∷◌, ◌++◌}
 use Rattle.std.proofs.Common.{codes, refl, sym, ap, ◌∙◌, subst, append_assoc}
 use Rattle.std.proofs.lemmas.Bool.{false≢true}
@@ -23,6 +31,10 @@ use Rattle.fancy_grammar.proofs.Pattern.Rules.{Clear, Begins, Stops, Ends, no_br
 use Rattle.fancy_grammar.proofs.Pattern.Rules.{WholeAt}
 use Rattle.fancy_grammar.proofs.Pattern.Rules.{Rest, no_more, lead, reads_branch, reads_only, Follows, ends_no_digit}
 
+-- it is not Empty, unless groups without a number, whose insides are left, may be
+abbrev pub MayBeLeft : Marks → Tree → Type 0
+MayBeLeft μ t = μ.numbered_groups_ignored ≡ false → is_empty t ≡ false
+
 -- What the texts of a tree read as here, whatever follows: the whole of a group, a branch, a piece, and what a quantifier
 -- follows; with the flags that hold behind the first two. Each is read so where it fits.
 pub record ReadsBy (μ : Marks) (t : Tree) (h : Here) (d0 d1 d2 d3 : Type 0) (k0 k1 k2 k3 : Text) (g0 g1 : Flags) :
@@ -30,11 +42,11 @@ pub record ReadsBy (μ : Marks) (t : Tree) (h : Here) (d0 d1 d2 d3 : Type 0) (k0
   pub whole_clear : d0 → (v : Text) → Clear h.flags.ignore_space v → Clear h.flags.ignore_space (k0 ++ v)
   pub branch_clear : d1 → (v : Text) → Clear h.flags.ignore_space v → Clear h.flags.ignore_space (k1 ++ v)
   pub branch_begins : d1 → is_empty t ≡ false → (v : Text) → Begins h.flags.ignore_space (k1 ++ v)
-  pub begins : d2 → is_empty t ≡ false → (v : Text) → Begins h.flags.ignore_space (k2 ++ v)
+  pub begins : d2 → MayBeLeft μ t → (v : Text) → Begins h.flags.ignore_space (k2 ++ v)
   pub atom_begins : d3 → is_repeatable h.flags t ≡ true → (v : Text) → Begins h.flags.ignore_space (k3 ++ v)
   pub whole : d0 → (v : Text) → Ends h.flags.ignore_space v → WholeAt μ h (k0 ++ v) g0 v t
   pub branch : d1 → (v : Text) → Stops h.flags.ignore_space v → BranchAt μ h (k1 ++ v) g1 v t
-  pub piece : d2 → is_empty t ≡ false → (v w : Text) (g : Flags) (ys : List Tree) → Clear h.flags.ignore_space v →
+  pub piece : d2 → MayBeLeft μ t → (v w : Text) (g : Flags) (ys : List Tree) → Clear h.flags.ignore_space v →
       Follows μ t v →
       Rest μ (behind t Piece h) v g w ys → Rest μ h (k2 ++ v) g w (t ∷ ys)
   pub atom : d3 → is_repeatable h.flags t ≡ true → settled h.flags t ≡ h.flags → (v : Text) →
@@ -225,19 +237,25 @@ module _ (μ : Marks) (t : Tree) (h : Here) (o : h.flags.oniguruma_mode ≡ fals
       }
 
 -- nothing, where branches or pieces may stand
-pub by_nothing : (μ : Marks) (h : Here) (d0 d1 d2 d3 : Type 0) (k2 k3 : Text) →
-    ReadsBy μ (leaf label.empty) h d0 d1 d2 d3 [] [] k2 k3 h.flags h.flags
-by_nothing μ h d0 d1 d2 d3 k2 k3 =
+pub by_left : (b : Bool) → (b ≡ false → true ≡ false) → b ≡ true
+by_left true h = refl
+by_left false h = sym (h refl)
+
+pub by_nothing : (μ : Marks) (h : Here) (d0 d1 d2 d3 : Type 0) (k3 : Text) → h.flags.oniguruma_mode ≡ false →
+    (d2 → h.depth + 1 < max_depth) → ReadsBy μ (leaf label.empty) h d0 d1 d2 d3 [] [] (codes "()") k3 h.flags h.flags
+by_nothing μ h d0 d1 d2 d3 k3 o m =
     let q = λ (v : Text) (i : Stops h.flags.ignore_space v).
     reads_branch μ h v v h.flags [] (no_more μ h v i) in
     record {
       whole_clear = λ _ v c. c;
       branch_clear = λ _ v c. c;
       branch_begins = λ _ e. absurd (false≢true (sym e));
-      begins = λ _ e. absurd (false≢true (sym e));
+      begins = λ _ _ v. begins_nothing h.flags.ignore_space v;
       atom_begins = λ _ e. absurd (false≢true e);
       whole = λ _ v i. reads_only μ h v v h.flags (leaf label.empty) (q v i.stops) i.no_bar;
       branch = λ _. q;
-      piece = λ _ e. absurd (false≢true (sym e));
+      piece =
+          λ d e v w g ys c y r. bare_rest μ h (codes "()" ++ v) v w g (leaf label.empty) ys o
+          (begins_nothing h.flags.ignore_space v) c (reads_nothing μ h v (m d) (by_left μ.numbered_groups_ignored e)) r;
       atom = λ _ e. absurd (false≢true e);
     }

@@ -20,7 +20,7 @@ use Rattle.fancy_grammar.specs.declared.precedence.Precedence.TheVariants.{Whole
 use Rattle.fancy_grammar.proofs.NeedsLemmas.{listed}
 use Rattle.fancy_grammar.proofs.Pattern.Cases.{ReadsTree}
 use Rattle.fancy_grammar.proofs.Pattern.Groups.{inner}
-use Rattle.fancy_grammar.proofs.Pattern.Induction.{by_branch, by_whole}
+use Rattle.fancy_grammar.proofs.Pattern.Induction.{MayBeLeft, by_branch, by_whole}
 use Rattle.fancy_grammar.proofs.Pattern.Needed.{like_behind}
 use Rattle.fancy_grammar.proofs.Pattern.Parted.{LeadsPast}
 use Rattle.fancy_grammar.proofs.Pattern.Rules.{Clear, Begins, Stops, Ends, stops_bar, BranchAt, BranchesAt, WholeAt}
@@ -42,7 +42,7 @@ module _ (μ : Marks) (f : Flags) (mode : f.oniguruma_mode ≡ false) where
   abbrev pub EachPiece : ℕ → Trees → Type 0
   EachPiece c no_trees = Unit {0}
   EachPiece c (more_trees t ts) =
-      Everywhere c t × (is_empty t ≡ false) × IsParted t × EachPiece (c + group_count t) ts
+      Everywhere c t × MayBeLeft μ t × IsParted t × EachPiece (c + group_count t) ts
 
   abbrev pub EachBranch : ℕ → Trees → Type 0
   EachBranch c no_trees = Unit {0}

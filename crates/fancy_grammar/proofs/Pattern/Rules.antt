@@ -29,6 +29,7 @@ use Rattle.fancy_grammar.proofs.OutcomeLemmas.{piece_as}
 use Rattle.fancy_grammar.proofs.ReadBack.ClearLemmas.{begins_mark, no_layout, no_mark_is}
 use Rattle.fancy_grammar.proofs.ReadBack.RuleLemmas.{st}
 use Rattle.fancy_grammar.proofs.Pattern.Becomes.{Becomes, EachBecomes, one_becomes, solid_also, each_in_longer}
+use Rattle.fancy_grammar.proofs.Pattern.Becomes.{stays_solid}
 use Rattle.fancy_grammar.proofs.ReadLaws.{piece_read, atom_read, branch_read}
 use Rattle.fancy_grammar.proofs.Slices.{to_ends}
 
@@ -179,16 +180,22 @@ pub quant_none : (left : ℕ) (f : Flags) (a : Tree) (v : Text) → Clear f.igno
 quant_none left f a v c = quant_past left f a v v c.no_layout c.no_mark
 
 -- a piece that was read, before those that follow
-pub lead_piece : (μ : Marks) (h : Here) (s v w : Text) (g : Flags) (r x : Tree) (ys : List Tree) →
-    Begins h.flags.ignore_space s → is_empty x ≡ false → Becomes μ s h.opened r x →
+pub lead_raw : (μ : Marks) (h : Here) (s v w : Text) (g : Flags) (r x : Tree) (ys : List Tree) →
+    Begins h.flags.ignore_space s → is_empty r ≡ false → Becomes μ s h.opened r x →
     Piece h.depth (st h.flags s) (done r (st h.flags v)) → Rest μ (past_groups (group_count x) h) v g w ys →
     Rest μ h s g w (x ∷ ys)
-lead_piece μ h s v w g r x ys b e k p q = record {
+lead_raw μ h s v w g r x ys b e k p q = record {
   trees = r ∷ q.trees;
   derives = next b.goes p q.derives;
   become = solid_also μ s h.opened r x q.trees ys k e
       (each_in_longer μ v s (to_ends (piece_read p).span.slice) (solid q.trees) ys (h.opened + group_count x) q.become);
 }
+
+pub lead_piece : (μ : Marks) (h : Here) (s v w : Text) (g : Flags) (r x : Tree) (ys : List Tree) →
+    Begins h.flags.ignore_space s → is_empty x ≡ false → Becomes μ s h.opened r x →
+    Piece h.depth (st h.flags s) (done r (st h.flags v)) → Rest μ (past_groups (group_count x) h) v g w ys →
+    Rest μ h s g w (x ∷ ys)
+lead_piece μ h s v w g r x ys b e k p q = lead_raw μ h s v w g r x ys b (stays_solid μ s h.opened r x k e) k p q
 
 -- an atom that no quantifier follows
 pub lead : (μ : Marks) (h : Here) (s v w : Text) (g : Flags) (x : Tree) (ys : List Tree) →
