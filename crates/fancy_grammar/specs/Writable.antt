@@ -138,12 +138,14 @@ abbrev mutual
   AreNodesWritable f m c (over atomic_group t) = AreNodesWritable f m c t
   AreNodesWritable f m c (over define_group t) = AreNodesWritable f m c t
   AreNodesWritable f m c (over repeater t) = AreNodesWritable f m c t
-  AreNodesWritable f m c (over stopper t) = AreNodesWritable f m c t × (is_empty t ≡ false)
+  AreNodesWritable f m c (over stopper t) =
+      AreNodesWritable f m c t × (m.numbered_groups_ignored ≡ false → is_empty t ≡ false)
   AreNodesWritable f m c (row expression (more_trees a (more_trees e no_trees))) =
       AreNodesWritable f m c a × AreNodesWritable f m (c + group_count a) e
   AreNodesWritable f m c (row conditional (more_trees k (more_trees t (more_trees e no_trees)))) =
       AreNodesWritable f m c k × AreNodesWritable f m (c + group_count k) t
-      × AreNodesWritable f m (c + group_count k + group_count t) e × ((is_empty t && is_empty e) ≡ false)
+      × AreNodesWritable f m (c + group_count k + group_count t) e
+      × (m.numbered_groups_ignored ≡ false → (is_empty t && is_empty e) ≡ false)
   AreNodesWritable f m c (row concat (more_trees t (more_trees u ts))) =
       ArePieces f m c (more_trees t (more_trees u ts))
   AreNodesWritable f m c (row alt (more_trees t (more_trees u ts))) =

@@ -129,7 +129,8 @@ module _ (f : Flags) (m : Marks) (mode : f.oniguruma_mode ≡ false) where
 
   conditional_writable : (c : ℕ) (ts : Trees) → AreBranched ts → AreAllWritable f m c ts →
       AreNodesWritable f m c (row label.conditional ts)
-  conditional_writable c (more_trees k (more_trees t (more_trees e no_trees))) h w = (w.0, w.1.0, w.1.1.0, h)
+  conditional_writable c (more_trees k (more_trees t (more_trees e no_trees))) h w =
+      (w.0, w.1.0, w.1.1.0, (λ _. h))
   conditional_writable c no_trees h w = absurd h
   conditional_writable c (more_trees k no_trees) h w = absurd h
   conditional_writable c (more_trees k (more_trees t no_trees)) h w = absurd h
@@ -169,7 +170,7 @@ module _ (f : Flags) (m : Marks) (mode : f.oniguruma_mode ≡ false) where
     nodes_writable c (over label.atomic_group t) a h r q = nodes_writable c t a.1 h.1 r q
     nodes_writable c (over label.define_group t) a h r q = nodes_writable c t a.1 h.1 r q
     nodes_writable c (over label.repeater t) a h r q = nodes_writable c t a.1 h.1 r q
-    nodes_writable c (over label.stopper t) a h r q = (nodes_writable c t a.1 h.1 r q, h.0 refl)
+    nodes_writable c (over label.stopper t) a h r q = (nodes_writable c t a.1 h.1 r q, (λ _. h.0 refl))
     nodes_writable c (over (label.ast_group name place) t) a h r q = absurd a.0
     nodes_writable c (row label.concat (more_trees t (more_trees u ts))) a h r q =
         pieces_writable c (more_trees t (more_trees u ts)) a.1 h.1 (h.0.1 refl) r q

@@ -25,7 +25,8 @@ use Rattle.fancy_grammar.proofs.OutcomeLemmas.{piece_as}
 use Rattle.fancy_grammar.proofs.Pattern.Becomes.{Becomes, row_becomes, stays_solid, in_longer}
 use Rattle.fancy_grammar.proofs.Pattern.Cases.{ReadsTree}
 use Rattle.fancy_grammar.proofs.Pattern.Groups.{parens_text, question_at, over_becomes, whole_behind}
-use Rattle.fancy_grammar.proofs.Pattern.Induction.{by_atom}
+use Rattle.fancy_grammar.proofs.Pattern.Induction.{MayBeLeft, by_left, by_atom}
+use Rattle.fancy_grammar.proofs.Pattern.Groups.{bare_branch, begins_nothing, reads_nothing}
 use Rattle.fancy_grammar.proofs.Pattern.Rules.{Begins, Stops, begins_by, stops_bar, ends_close, AtomAt, BranchAt}
 use Rattle.fancy_grammar.proofs.Pattern.Rules.{WholeAt}
 use Rattle.fancy_grammar.proofs.Pattern.Rules.{quants_one, quant_none, comment_passed}
@@ -138,10 +139,10 @@ stopper_same : (x : Bool) (t : Text) → Begins x (t ++ []) → stopper_text t �
 stopper_same x [] b = absurd (false≢true (sym b.goes))
 stopper_same x (c ∷ t) b = refl
 
-stopper_at : (μ : Marks) (h : Here) (t v : Text) (g : Flags) (x : Tree) → h.depth + 1 < max_depth → is_empty x ≡ false →
-    BranchAt μ (deeper h) t g (code ")" ∷ v) x → AtomAt μ h (codes "(?~|" ++ t) v (over label.stopper x)
-stopper_at μ h t v g x l e b =
-    let solid = stays_solid μ t h.opened b.tree x b.becomes e in
+stopper_at : (μ : Marks) (h : Here) (t v : Text) (g : Flags) (x : Tree) → h.depth + 1 < max_depth →
+    (b : BranchAt μ (deeper h) t g (code ")" ∷ v) x) → is_empty b.tree ≡ false →
+    AtomAt μ h (codes "(?~|" ++ t) v (over label.stopper x)
+stopper_at μ h t v g x l b solid =
     let is : (if is_empty b.tree then clear else stopper b.tree) ≡ stopper b.tree = cond-false _ _ _ solid in
     record {
       tree = if is_empty b.tree then clear else stopper b.tree;
@@ -195,9 +196,9 @@ module _ (μ : Marks) (h : Here) (o : h.flags.oniguruma_mode ≡ false) where
       (parted μ (deeper i) v _ t o w (r.whole d.1.1 (code ")" ∷ v) (ends_close h.flags.ignore_space v)))))
       refl (λ e. ((λ d. d), refl))
 
-  pub stopper_reads : (t : Tree) → is_empty t ≡ false → ReadsTree μ t (deeper (under (settled h.flags t) h)) →
+  solid_stopper : (t : Tree) → is_empty t ≡ false → ReadsTree μ t (deeper (under (settled h.flags t) h)) →
       ReadsTree μ (over label.stopper t) h
-  stopper_reads t solid r =
+  solid_stopper t solid r =
       let x = over label.stopper t in
       let i = under (settled h.flags t) h in
       let w = written μ t Branch (deeper i) in
@@ -207,11 +208,27 @@ module _ (μ : Marks) (h : Here) (o : h.flags.oniguruma_mode ≡ false) where
       let bare = λ (d : Fits x Whole h). stopper_same h.flags.ignore_space w (r.branch_begins d.1.1.1 solid []) in
       by_atom μ x h o refl (Fits x Whole h) (Fits x Whole h) s _ (λ d. d.0)
       (λ _ v. subst (Begins h.flags.ignore_space) (sym (same v)) (begins_absent _))
-      (λ d v k _. subst (λ z. AtomAt μ i z v x)
-      (sym (same v ∙ ap (λ z. codes "(?~|" ++ (z ++ code ")" ∷ v)) (bare d)))
-      (stopper_at μ i (w ++ code ")" ∷ v) v _ t d.1.0 solid
-      (r.branch d.1.1.1 (code ")" ∷ v) (ends_close h.flags.ignore_space v).stops)))
+      (λ d v k _. let b = r.branch d.1.1.1 (code ")" ∷ v) (ends_close h.flags.ignore_space v).stops in
+      subst (λ z. AtomAt μ i z v x) (sym (same v ∙ ap (λ z. codes "(?~|" ++ (z ++ code ")" ∷ v)) (bare d)))
+      (stopper_at μ i (w ++ code ")" ∷ v) v _ t d.1.0 b (stays_solid μ _ h.opened b.tree t b.becomes solid)))
       refl (λ e. ((λ d. d), refl))
+
+  nothing_stopper : μ.numbered_groups_ignored ≡ true → ReadsTree μ (over label.stopper empty) h
+  nothing_stopper ignored =
+      let x = over label.stopper empty in
+      let text = λ (j : Here). codes "()" in
+      by_atom μ x h o refl (Fits x Whole h) (Fits x Whole h) (in_parens (codes "?~|") text h) _ (λ d. d.0)
+      (λ _ v. begins_absent _)
+      (λ d v k _. let b = bare_branch μ (deeper h) (codes "()" ++ code ")" ∷ v) (code ")" ∷ v) empty o
+      (begins_nothing h.flags.ignore_space (code ")" ∷ v)) (ends_close h.flags.ignore_space v).stops
+      (reads_nothing μ (deeper h) (code ")" ∷ v) (d.1.1.0 refl) ignored) in
+      stopper_at μ h (codes "()" ++ code ")" ∷ v) v h.flags empty d.1.0 b.branch b.solid)
+      refl (λ e. ((λ d. d), refl))
+
+  pub stopper_reads : (t : Tree) → MayBeLeft μ t → ReadsTree μ t (deeper (under (settled h.flags t) h)) →
+      ReadsTree μ (over label.stopper t) h
+  stopper_reads empty left r = nothing_stopper (by_left μ.numbered_groups_ignored left)
+  stopper_reads t left r = solid_stopper t refl r
 
   -- the second branch stands behind the first
   pub expression_reads : (a e : Tree) → let x = row label.expression (more_trees a (more_trees e no_trees)) in

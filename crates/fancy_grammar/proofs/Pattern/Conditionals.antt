@@ -18,7 +18,12 @@ use Rattle.fancy_grammar.specs.Label as label
 use Rattle.fancy_grammar.specs.Pattern.{Here, under, past_groups, deeper, group_count, is_alt, behind, written}
 use Rattle.fancy_grammar.specs.Pattern.{branches_text, in_parens, parenthesized, condition_text}
 use Rattle.fancy_grammar.specs.Pattern.{flags_behind}
-use Rattle.fancy_grammar.specs.PatternDepth.{MayOpen, Fits, FitsAsCondition}
+use Rattle.fancy_grammar.specs.PatternDepth.{MayOpen, MayOpenIf, Fits, FitsAsCondition}
+use Rattle.fancy_grammar.specs.Depth.{max_depth}
+use Rattle.fancy_grammar.proofs.Pattern.Groups.{bare_branch, begins_nothing, reads_nothing}
+use Rattle.fancy_grammar.proofs.Pattern.Induction.{by_left}
+use Rattle.std.proofs.lemmas.Bool.{and_parts, cond-true}
+use Rattle.std.proofs.Common.{◌<◌}
 use Rattle.fancy_grammar.specs.PatternNeeds.{settled}
 use Rattle.fancy_grammar.specs.Marks.{Marks}
 use Rattle.fancy_grammar.proofs.Pattern.Groups.{parens_text}
@@ -149,6 +154,7 @@ record BodyAt (μ : Marks) (d : ℕ) (k : Tree) (j : Here) (s v : Text) (t e : T
   derives : Body d k (st j.flags s) (done (conditional_of k one other) (st after v))
   one_becomes : Becomes μ s j.opened one t
   other_becomes : Becomes μ s (j.opened + group_count t) other e
+  solid : (is_empty one && is_empty other) ≡ false
 
 closed_body : (k r : Tree) (left : ℕ) (g : Flags) (v : Text) (a b : Tree) →
     (bytes (code ")" ∷ v) == left) ≡ false → ◌≡◌ {A = Tree × Tree} (branches_of r) (a, b) →
@@ -162,10 +168,11 @@ abbrev within : ℕ → Flags → ℕ → Here
 within d f n = record { flags = f; opened = n; depth = d + 1 }
 
 two_body : (μ : Marks) (d : ℕ) (k : Tree) (f : Flags) (n : ℕ) (t u v : Text) (g i : Flags) (x e : Tree) →
+    (is_empty x && is_empty e) ≡ false →
     BranchAt μ (within d f n) (t ++ code "|" ∷ (u ++ code ")" ∷ v)) g (code "|" ∷ (u ++ code ")" ∷ v)) x →
     WholeAt μ (past_groups (group_count x) (under g (within d f n))) (u ++ code ")" ∷ v) i (code ")" ∷ v) e →
     BodyAt μ d k (within d f n) (t ++ code "|" ∷ (u ++ code ")" ∷ v)) v x e
-two_body μ d k f n t u v g i x e b w =
+two_body μ d k f n t u v g i x e some b w =
     let s = t ++ code "|" ∷ (u ++ code ")" ∷ v) in
     let o = others w.derives in
     let rest = o.first ∷ o.others in
@@ -187,13 +194,15 @@ two_body μ d k f n t u v g i x e b w =
                 (append_assoc t (codes "|") (u ++ code ")" ∷ v)),
           ) _ other e
           (subst (λ r. Becomes μ (u ++ code ")" ∷ v) (n + group_count x) r e) (sym same) w.becomes);
+      solid = one_solid (is_empty x) (is_empty e) (is_empty b.tree) (is_empty other) (stays_solid μ s n b.tree x b.becomes)
+          (λ q. ap is_empty same ∙ stays_solid μ _ _ w.tree e w.becomes q) some;
     }
 
 one_body : (μ : Marks) (d : ℕ) (k : Tree) (f : Flags) (n : ℕ) (t v : Text) (g : Flags) (x : Tree) (c : ℕ) (u : Text) →
     t ≡ c ∷ u →
-    is_alt x ≡ false → BranchAt μ (within d f n) (t ++ code ")" ∷ v) g (code ")" ∷ v) x →
+    is_alt x ≡ false → (b : BranchAt μ (within d f n) (t ++ code ")" ∷ v) g (code ")" ∷ v) x) → is_empty b.tree ≡ false →
     BodyAt μ d k (within d f n) (t ++ code ")" ∷ v) v x (leaf label.empty)
-one_body μ d k f n t v g x c u e a b = record {
+one_body μ d k f n t v g x c u e a b solid = record {
   after = g;
   one = b.tree;
   other = empty;
@@ -204,7 +213,19 @@ one_body μ d k f n t v g x c u e a b = record {
       (the_body (alternation (last b.derives refl)));
   one_becomes = b.becomes;
   other_becomes = record { is = λ n u e. refl; count = refl; groups = tt };
+  solid = ap (λ q. q && true) solid;
 }
+
+-- two Empties, the first in a group without a number
+nothing_body : (μ : Marks) (d : ℕ) (k : Tree) (f : Flags) (n : ℕ) (v : Text) → f.oniguruma_mode ≡ false →
+    d + 1 + 1 < max_depth → μ.numbered_groups_ignored ≡ true →
+    BodyAt μ d k (within d f n) (codes "()" ++ code ")" ∷ v) v (leaf label.empty) (leaf label.empty)
+nothing_body μ d k f n v o l ignored =
+    let i = within d f n in
+    let b = bare_branch μ i (codes "()" ++ code ")" ∷ v) (code ")" ∷ v) empty o
+    (begins_nothing f.ignore_space (code ")" ∷ v)) (ends_close f.ignore_space v).stops
+    (reads_nothing μ i (code ")" ∷ v) l ignored) in
+    one_body μ d k f n (codes "()") v f empty (code "(") (codes ")") refl refl b.branch b.solid
 
 -- ---- the text of a body
 
@@ -235,7 +256,7 @@ module _ (μ : Marks) (d : ℕ) (k : Tree) (f : Flags) (c : ℕ) (t e : Tree) (v
       let u = second_text ++ code ")" ∷ v in
       subst (λ s. BodyAt μ d k (within d f c) s v t e) (sym (append_assoc first_text (codes "|" ++ second_text)
       (code ")" ∷ v)))
-      (two_body μ d k f c first_text second_text v _ _ t e
+      (two_body μ d k f c first_text second_text v _ _ t e solid
       (r.branch first_fits (code "|" ∷ u) (stops_bar f.ignore_space u))
       (q.whole second_fits (code ")" ∷ v) (ends_close _ v)))
   body_if false h =
@@ -245,12 +266,36 @@ module _ (μ : Marks) (d : ℕ) (k : Tree) (f : Flags) (c : ℕ) (t e : Tree) (v
       let (z, u, is) = begun f.ignore_space first_text (r.branch_begins first_fits some []) in
       subst (λ s. BodyAt μ d k (within d f c) (s ++ code ")" ∷ v) v t e) (sym (append-nil first_text))
       (subst (BodyAt μ d k (within d f c) (first_text ++ code ")" ∷ v) v t) (empty_is e none)
-      (one_body μ d k f c first_text v _ t z u is b (r.branch first_fits (code ")" ∷ v) (ends_close f.ignore_space v).stops)))
+      (let a = r.branch first_fits (code ")" ∷ v) (ends_close f.ignore_space v).stops in
+      one_body μ d k f c first_text v _ t z u is b a (stays_solid μ _ c a.tree t a.becomes some)))
 
-  body_at : BodyAt μ d k (within d f c) (branches_text t e first_text second_text ++ code ")" ∷ v) v t e
-  body_at =
+  solid_body : BodyAt μ d k (within d f c) (branches_text t e first_text second_text ++ code ")" ∷ v) v t e
+  solid_body =
       subst (λ s. BodyAt μ d k (within d f c) (s ++ code ")" ∷ v) v t e) (sym (cond-false _ _ _ solid))
       (body_if (not (is_empty e) || is_alt t) refl)
+
+module _ (μ : Marks) (d : ℕ) (k : Tree) (f : Flags) (c : ℕ) (t e : Tree) (v : Text) (o : f.oniguruma_mode ≡ false)
+    (left : μ.numbered_groups_ignored ≡ false → (is_empty t && is_empty e) ≡ false)
+    (fits : MayOpenIf (is_empty t && is_empty e) (within d f c)) (r : ReadsTree μ t (within d f c))
+    (q : ReadsTree μ e (behind t BranchAlone (within d f c))) (first_fits : Fits t BranchAlone (within d f c))
+    (second_fits : Fits e Whole (behind t BranchAlone (within d f c))) where
+  abbrev both_text : Text
+  both_text =
+      branches_text t e (written μ t BranchAlone (within d f c)) (written μ e Whole (behind t BranchAlone (within d f c)))
+
+  body_at : BodyAt μ d k (within d f c) (both_text ++ code ")" ∷ v) v t e
+  body_at = by_test (is_empty t && is_empty e) refl
+    where
+      by_test : (b : Bool) → (is_empty t && is_empty e) ≡ b →
+          BodyAt μ d k (within d f c) (both_text ++ code ")" ∷ v) v t e
+      by_test false h = solid_body μ d k f c t e v h r q first_fits second_fits
+      by_test true h =
+          let (a, b) = and_parts (is_empty t) (is_empty e) h in
+          let ignored = by_left μ.numbered_groups_ignored (λ n. sym h ∙ left n) in
+          subst (λ s. BodyAt μ d k (within d f c) (s ++ code ")" ∷ v) v t e) (sym (cond-true _ _ _ h))
+          (subst (λ x. BodyAt μ d k (within d f c) (codes "()" ++ code ")" ∷ v) v x e) (empty_is t a)
+          (subst (BodyAt μ d k (within d f c) (codes "()" ++ code ")" ∷ v) v empty) (empty_is e b)
+          (nothing_body μ d k f c v o (fits h) ignored)))
 
 -- ---- a condition before a body
 
@@ -266,15 +311,11 @@ regroup c b r =
     append_assoc (code "(" ∷ (c ++ code ")" ∷ [])) b r ∙ ap (λ z. code "(" ∷ z) (append_assoc c (code ")" ∷ []) (b ++ r))
 
 module _ (μ : Marks) where
-  with_body : (i : Here) (s z v : Text) (g : Flags) (c t e : Tree) → (is_empty t && is_empty e) ≡ false →
-      (b : Before μ i s g c) → BodyAt μ i.depth (b.node z) (within i.depth g (i.opened + group_count c)) z v t e →
+  with_body : (i : Here) (s z v : Text) (g : Flags) (c t e : Tree) → (b : Before μ i s g c) → BodyAt μ i.depth (b.node z) (within i.depth g (i.opened + group_count c)) z v t e →
       AtomAt μ i (codes "(?(" ++ (s ++ code ")" ∷ z)) v (conditional c t e)
-  with_body i s z v g c t e solid b y =
-      let neither : (is_empty y.one && is_empty y.other) ≡ false
-      = one_solid (is_empty t) (is_empty e) (is_empty y.one) (is_empty y.other)
-      (stays_solid μ z _ y.one t y.one_becomes) (stays_solid μ z _ y.other e y.other_becomes) solid in
+  with_body i s z v g c t e b y =
       let is : conditional_of (b.node z) y.one y.other ≡ conditional (b.node z) y.one y.other
-      = cond-false _ _ _ neither in
+      = cond-false _ _ _ y.solid in
       let all = codes "(?(" ++ (s ++ code ")" ∷ z) in
       let inner : EndsWith all z
       = (codes "(?(" ++ (s ++ codes ")"), sym (ap (λ w. codes "(?(" ++ w) (append_assoc s (codes ")") z))) in
@@ -293,12 +334,13 @@ module _ (μ : Marks) where
       }
 
   pub conditional_reads : (h : Here) → h.flags.oniguruma_mode ≡ false → (c t e : Tree) →
-      (is_empty t && is_empty e) ≡ false → let j = under (settled h.flags (conditional c t e)) h in let i = deeper j in
+      (μ.numbered_groups_ignored ≡ false → (is_empty t && is_empty e) ≡ false) →
+      let j = under (settled h.flags (conditional c t e)) h in let i = deeper j in
       (MayOpen j → FitsAsCondition c (Fits c Whole i) →
       Before μ j (condition_text μ c (written μ c Whole i)) (flags_behind c Whole j.flags) c) →
       ReadsTree μ t (behind c Whole i) → ReadsTree μ e (behind t BranchAlone (behind c Whole i)) →
-      ReadsTree μ (conditional c t e) h
-  conditional_reads h o c t e solid before q u =
+      (behind c Whole i).flags.oniguruma_mode ≡ false → ReadsTree μ (conditional c t e) h
+  conditional_reads h o c t e left before q u same_mode =
       let x = conditional c t e in
       let i = under (settled h.flags x) h in
       let j = behind c Whole (deeper i) in
@@ -316,6 +358,6 @@ module _ (μ : Marks) where
       (begins_by h.flags.ignore_space (code "(") _ refl refl refl refl))
       (λ d v y _. let a = before d.1.0 d.1.1.0 in let z = b ++ code ")" ∷ v in
       subst (λ z. AtomAt μ i z v x) (sym (whole_text v))
-      (with_body i s z v _ c t e solid a
-      (body_at μ i.depth (a.node z) j.flags j.opened t e v solid q u d.1.1.2 d.1.1.3)))
+      (with_body i s z v _ c t e a
+      (body_at μ i.depth (a.node z) j.flags j.opened t e v same_mode left d.1.1.1 q u d.1.1.2 d.1.1.3)))
       refl (λ e. ((λ d. d), refl))

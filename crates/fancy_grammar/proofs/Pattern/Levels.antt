@@ -41,6 +41,11 @@ scope_fits false t inside h d x y = (d, y)
 
 -- ---- the tree
 
+some_level : (t : Tree) → 0 < levels t
+some_level (leaf l) = omega arith
+some_level (over w t) = omega arith
+some_level (row w ts) = omega arith
+
 pub as_condition : (c : Tree) (F : Type 0) → F → FitsAsCondition c F
 as_condition (leaf (label.backref_exists n level)) F k = tt
 as_condition (leaf (label.verb v)) F k = tt
@@ -125,7 +130,7 @@ module _ (f : Flags) (μ : Marks) where
       (
         omega arith,
         (
-          λ x. absurd (false≢true (sym k.1 ∙ x)),
+          λ x. omega (arith, some_level t),
           levels_fit t Branch (deeper (under (settled h.flags t) h)) c k.0 e (λ x. absurd (false≢true x)) (omega arith),
         ),
       ),
@@ -153,7 +158,7 @@ module _ (f : Flags) (μ : Marks) where
             (
               as_condition a (Fits a Whole i)
                   (levels_fit a Whole i c k.0 e (λ y. absurd (false≢true y)) (omega arith)),
-              λ y. absurd (false≢true (sym k.3 ∙ y)),
+              λ y. omega (arith, some_level t),
               levels_fit t Branch j _ k.1 next (λ y. absurd (false≢true y)) (omega arith),
               levels_fit b Whole (behind t Branch j) _ k.2 (like_behind t Branch f j.flags next)
                   (λ y. absurd (false≢true y)) (omega arith),

@@ -151,6 +151,7 @@ module _ (μ : Marks) where
           (before_of μ f numbered c i k.0 (same_mode μ f mode h.flags e) (reads c (deeper i) k.0 e))
           (reads t j k.1 next)
           (reads b (behind t BranchAlone j) k.2 (like_behind t BranchAlone f j.flags next))
+          (same_mode μ f mode j.flags next)
       reads (row label.conditional ts) h k e = absurd k
 
       each_piece : (ts : Trees) (c : ℕ) → ArePieces f μ c ts → EachPiece μ f mode c ts
