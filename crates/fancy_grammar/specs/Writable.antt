@@ -126,12 +126,14 @@ IsWritableLeaf f m c (ast_node (ast_call t) place) = IsCalledTarget t × (means 
 IsWritableLeaf f m c _ = ⊥
 
 abbrev mutual
-  -- each group has a number, what stands under a quantifier is repeatable, a Concat or an Alt has two parts or more, no part of a Concat, nor what
-  -- a stopper holds, is Empty, and a conditional has a branch that is not Empty
+  -- each group has a number, and a Concat or an Alt has two parts or more. Unless groups without a name have no number,
+  -- of which the insides are left: what stands under a quantifier is repeatable, no part of a Concat, nor what a stopper
+  -- holds, is Empty, and a conditional has a branch that is not Empty
   pub AreNodesWritable : Flags → Marks → ℕ → Tree → Type 0
   AreNodesWritable f m c (leaf l) = IsWritableLeaf f m c l
   AreNodesWritable f m c (over (repeat lo hi greedy) t) =
-      AreNodesWritable f m c t × (is_repeatable f t ≡ true) × (lo < 2 ^ 64) × (hi < 2 ^ 64)
+      AreNodesWritable f m c t × (m.numbered_groups_ignored ≡ false → is_repeatable f t ≡ true)
+      × (lo < 2 ^ 64) × (hi < 2 ^ 64)
   AreNodesWritable f m c (over group t) =
       (is_counted m.numbered_groups_ignored (name_at m (c + 1)) ≡ true) × AreNodesWritable f m (c + 1) t
   AreNodesWritable f m c (over (look_around l) t) = AreNodesWritable f m c t

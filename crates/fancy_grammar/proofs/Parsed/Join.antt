@@ -3,7 +3,7 @@ use Rattle.std.proofs.Common.{zero, suc}
 use Rattle.fancy_parts.specs.Ranks.{is_counted}
 use Rattle.fancy_grammar.specs.Pattern.{group_count_all}
 use Rattle.fancy_grammar.specs.Writable.{AreCounted, openings_told, name_at}
-use Rattle.std.proofs.Common.{◌≡◌, ℕ, ◌+◌, ◌<◌, Bool, true, false, List, [], ◌∷◌, refl, ap}
+use Rattle.std.proofs.Common.{◌≡◌, ℕ, ◌+◌, ◌<◌, Bool, true, false, List, [], ◌∷◌, ap}
 use Rattle.std.proofs.Common.{◌∙◌, subst, arith}
 use Rattle.std.specs.List.{AllByRecursion}
 use Rattle.fancy_lex.specs.Text.{Text}
@@ -39,42 +39,12 @@ use Rattle.fancy_grammar.proofs.AnsweredLaws.{answered_with}
 use Rattle.fancy_grammar.proofs.Parsed.Lists.{each_split}
 use Rattle.fancy_grammar.proofs.Parsed.Nodes.{IsSolid, AreTwo, AreBranched, IsSourceRead, by_escape, by_class}
 use Rattle.fancy_grammar.proofs.Pattern.Source.Law.{sources_read, by_escape as escaped_so, by_class as classed_so}
-use Rattle.fancy_grammar.specs.Quantified.{is_repeatable}
 use Rattle.fancy_grammar.proofs.Parsed.Escapes.{is_line_of_oniguruma}
-use Rattle.fancy_grammar.proofs.Parsed.Resolved.{IsResolvedNode, nodes_told, names_writable}
+use Rattle.fancy_grammar.proofs.Parsed.Resolved.{IsResolvedNode, AreThree, nodes_told, names_writable}
 use Rattle.fancy_grammar.proofs.Pattern.ReadFits.{answered_fits}
 use Rattle.fancy_grammar.proofs.Pattern.Theorem.{reads_back}
 
--- ---- groups without a number
-
--- what stands under a quantifier is repeatable, no part of a Concat, nor what a stopper holds, is Empty, and of both
--- branches one is not
-abbrev pub IsWholeNode : Flags → Tree → Type 0
-IsWholeNode f (over (label.repeat lo hi greedy) t) = is_repeatable f t ≡ true
-IsWholeNode f (over label.stopper t) = IsSolid t
-IsWholeNode f (row label.concat ts) = AllByRecursion IsSolid (list_of ts)
-IsWholeNode f (row label.conditional ts) = AreBranched ts
-IsWholeNode f _ = Unit {0}
-
--- so it is where each group has a number, or else by itself
-module _ (f : Flags) where
-  node_whole : (t : Tree) → IsResolvedNode f true t → IsWholeNode f t → IsResolvedNode f false t
-  node_whole (over (label.repeat lo hi greedy) t) h w = ((λ e. w), h.1, h.2)
-  node_whole (over label.stopper t) h w = λ e. w
-  node_whole (row label.concat ts) h w = (h.0, λ e. w)
-  node_whole (row label.conditional ts) h w = (h.0, λ e. w)
-  node_whole (leaf l) h w = h
-  node_whole _ h w = h
-
-  each_whole : (l : List Tree) → AllByRecursion (IsResolvedNode f true) l → AllByRecursion (IsWholeNode f) l →
-      AllByRecursion (IsResolvedNode f false) l
-  each_whole [] h w = tt
-  each_whole (t ∷ l) h w = (node_whole t h.0 w.0, each_whole l h.1 w.1)
-
-  whole_or_counted : (named : Bool) (l : List Tree) → AllByRecursion (IsResolvedNode f named) l →
-      (named ≡ true → AllByRecursion (IsWholeNode f) l) → AllByRecursion (IsResolvedNode f false) l
-  whole_or_counted true l h w = each_whole l h (w refl)
-  whole_or_counted false l h w = h
+-- ---- Delegates
 
 -- a Delegate that was read has a source
 source_had : (f : Flags) (s : Text) (casei : Bool) → IsSourceRead f s casei → HasSource f s casei
@@ -90,14 +60,14 @@ module _ (f : Flags) (m : Marks) (mode : f.oniguruma_mode ≡ false) where
   Answered = AllByRecursion IsAnsweredNode
 
   abbrev Resolved : List Tree → Type 0
-  Resolved = AllByRecursion (IsResolvedNode f false)
+  Resolved = AllByRecursion (IsResolvedNode f m.numbered_groups_ignored)
 
   assertion_writable : (c : ℕ) (a : Assertion) → is_line_of_oniguruma a ≡ false →
       IsWritableLeaf f m c (label.assertion a)
   assertion_writable c (StartLineOniguruma crlf) e = absurd cc
   assertion_writable c _ e = tt
 
-  leaf_writable : (c : ℕ) (l : Leaf) → IsAnsweredNode (leaf l) → IsResolvedNode f false (leaf l) →
+  leaf_writable : (c : ℕ) (l : Leaf) → IsAnsweredNode (leaf l) → IsResolvedNode f m.numbered_groups_ignored (leaf l) →
       AreReferencesWritable f m c (leaf l) → IsWritableLeaf f m c l
   leaf_writable c (label.literal (d ∷ []) casei) a h r = tt
   leaf_writable c (label.literal [] casei) a h r = absurd (omega (arith, a))
@@ -127,14 +97,13 @@ module _ (f : Flags) (m : Marks) (mode : f.oniguruma_mode ≡ false) where
   expression_writable c (more_trees a no_trees) h w = absurd h
   expression_writable c (more_trees a (more_trees e (more_trees x ts))) h w = absurd h
 
-  conditional_writable : (c : ℕ) (ts : Trees) → AreBranched ts → AreAllWritable f m c ts →
-      AreNodesWritable f m c (row label.conditional ts)
-  conditional_writable c (more_trees k (more_trees t (more_trees e no_trees))) h w =
-      (w.0, w.1.0, w.1.1.0, (λ _. h))
-  conditional_writable c no_trees h w = absurd h
-  conditional_writable c (more_trees k no_trees) h w = absurd h
-  conditional_writable c (more_trees k (more_trees t no_trees)) h w = absurd h
-  conditional_writable c (more_trees k (more_trees t (more_trees e (more_trees x ts)))) h w = absurd h
+  conditional_writable : (c : ℕ) (ts : Trees) → AreThree ts → (m.numbered_groups_ignored ≡ false → AreBranched ts) →
+      AreAllWritable f m c ts → AreNodesWritable f m c (row label.conditional ts)
+  conditional_writable c (more_trees k (more_trees t (more_trees e no_trees))) h b w = (w.0, w.1.0, w.1.1.0, b)
+  conditional_writable c no_trees h b w = absurd h
+  conditional_writable c (more_trees k no_trees) h b w = absurd h
+  conditional_writable c (more_trees k (more_trees t no_trees)) h b w = absurd h
+  conditional_writable c (more_trees k (more_trees t (more_trees e (more_trees x ts)))) h b w = absurd h
 
   -- so many groups behind c others have a number
   abbrev Counted : ℕ → ℕ → Type 0
@@ -163,17 +132,17 @@ module _ (f : Flags) (m : Marks) (mode : f.oniguruma_mode ≡ false) where
         AreReferencesWritable f m c t → Counted c (group_count t) → AreNodesWritable f m c t
     nodes_writable c (leaf l) a h r q = leaf_writable c l a.0 h.0 r
     nodes_writable c (over (label.repeat lo hi greedy) t) a h r q =
-        (nodes_writable c t a.1 h.1 r q, h.0.0 refl, h.0.1, h.0.2)
+        (nodes_writable c t a.1 h.1 r q, h.0.0, h.0.1, h.0.2)
     nodes_writable c (over label.group t) a h r q =
         let (x, y) = counted_first c (group_count t) q in (x, nodes_writable (c + 1) t a.1 h.1 r y)
     nodes_writable c (over (label.look_around l) t) a h r q = nodes_writable c t a.1 h.1 r q
     nodes_writable c (over label.atomic_group t) a h r q = nodes_writable c t a.1 h.1 r q
     nodes_writable c (over label.define_group t) a h r q = nodes_writable c t a.1 h.1 r q
     nodes_writable c (over label.repeater t) a h r q = nodes_writable c t a.1 h.1 r q
-    nodes_writable c (over label.stopper t) a h r q = (nodes_writable c t a.1 h.1 r q, (λ _. h.0 refl))
+    nodes_writable c (over label.stopper t) a h r q = (nodes_writable c t a.1 h.1 r q, h.0)
     nodes_writable c (over (label.ast_group name place) t) a h r q = absurd a.0
     nodes_writable c (row label.concat (more_trees t (more_trees u ts))) a h r q =
-        pieces_writable c (more_trees t (more_trees u ts)) a.1 h.1 (h.0.1 refl) r q
+        pieces_writable c (more_trees t (more_trees u ts)) a.1 h.1 h.0.1 r q
     nodes_writable c (row label.concat no_trees) a h r q = absurd (omega (arith, h.0.0))
     nodes_writable c (row label.concat (more_trees t no_trees)) a h r q = absurd (omega (arith, h.0.0))
     nodes_writable c (row label.alt (more_trees t (more_trees u ts))) a h r q =
@@ -183,26 +152,26 @@ module _ (f : Flags) (m : Marks) (mode : f.oniguruma_mode ≡ false) where
     nodes_writable c (row label.expression ts) a h r q =
         expression_writable c ts h.0 (all_writable c ts a.1 h.1 r q)
     nodes_writable c (row label.conditional ts) a h r q =
-        conditional_writable c ts (h.0.1 refl) (all_writable c ts a.1 h.1 r q)
+        conditional_writable c ts h.0.0 h.0.1 (all_writable c ts a.1 h.1 r q)
 
     all_writable : (c : ℕ) (ts : Trees) → Answered (preorder_all ts) → Resolved (preorder_all ts) →
         AreAllReferencesWritable f m c ts → Counted c (group_count_all ts) → AreAllWritable f m c ts
     all_writable c no_trees a h r q = tt
     all_writable c (more_trees t ts) a h r q =
         let (x, y) = each_split IsAnsweredNode (preorder t) (preorder_all ts) a in
-        let (j, k) = each_split (IsResolvedNode f false) (preorder t) (preorder_all ts) h in
+        let (j, k) = each_split (IsResolvedNode f m.numbered_groups_ignored) (preorder t) (preorder_all ts) h in
         let (o, w) = counted_split (group_count t) (group_count_all ts) c q in
         (nodes_writable c t x j r.0 o, all_writable (c + group_count t) ts y k r.1 w)
 
     pieces_writable : (c : ℕ) (ts : Trees) → Answered (preorder_all ts) → Resolved (preorder_all ts) →
-        AllByRecursion IsSolid (list_of ts) → AreAllReferencesWritable f m c ts → Counted c (group_count_all ts) →
+        (m.numbered_groups_ignored ≡ false → AllByRecursion IsSolid (list_of ts)) → AreAllReferencesWritable f m c ts → Counted c (group_count_all ts) →
         ArePieces f m c ts
     pieces_writable c no_trees a h s r q = tt
     pieces_writable c (more_trees t ts) a h s r q =
         let (x, y) = each_split IsAnsweredNode (preorder t) (preorder_all ts) a in
-        let (j, k) = each_split (IsResolvedNode f false) (preorder t) (preorder_all ts) h in
+        let (j, k) = each_split (IsResolvedNode f m.numbered_groups_ignored) (preorder t) (preorder_all ts) h in
         let (o, w) = counted_split (group_count t) (group_count_all ts) c q in
-        (nodes_writable c t x j r.0 o, (λ _. s.0), pieces_writable (c + group_count t) ts y k s.1 r.1 w)
+        (nodes_writable c t x j r.0 o, (λ n. (s n).0), pieces_writable (c + group_count t) ts y k (λ n. (s n).1) r.1 w)
 
 -- ---- parsed trees
 
@@ -268,21 +237,17 @@ module _ {f : Flags} {text : Text} {t : Tree} {m : Marks} (a : IsTreeOf f text t
       (derived_read a.1.1) marked (subst (λ x. AllByRecursion IsAnsweredNode (preorder x)) a.3 (answered_with a).nodes)
       (omega arith))
 
-  -- Outside Oniguruma mode the tree is writable, where its nodes are whole if some groups have no number.
-  pub parsed_is_writable : bytes text < 2 ^ 63 → f.oniguruma_mode ≡ false →
-      (m.numbered_groups_ignored ≡ true → AllByRecursion (IsWholeNode f) (preorder t)) → IsWritable f m t
-  parsed_is_writable small mode w = record {
+  -- outside Oniguruma mode the tree is writable
+  pub parsed_is_writable : bytes text < 2 ^ 63 → f.oniguruma_mode ≡ false → IsWritable f m t
+  parsed_is_writable small mode = record {
     mode = mode;
     marks = marks_told a numeric_told self_told;
     names = names_writable a;
-    nodes = nodes_writable f m mode 0 t (answered_with a).nodes
-        (whole_or_counted f m.numbered_groups_ignored (preorder t) (nodes_told a) w) (references_writable small)
+    nodes = nodes_writable f m mode 0 t (answered_with a).nodes (nodes_told a) (references_writable small)
         (counted_told a);
     fits = answered_fits f text t m mode a;
   }
 
   -- then its text reads back
-  pub parsed_reads_back : bytes text < 2 ^ 63 → f.oniguruma_mode ≡ false →
-      (m.numbered_groups_ignored ≡ true → AllByRecursion (IsWholeNode f) (preorder t)) →
-      IsReadAs f (pattern_text f t m) t m
-  parsed_reads_back small mode w = reads_back f t m (parsed_is_writable small mode w)
+  pub parsed_reads_back : bytes text < 2 ^ 63 → f.oniguruma_mode ≡ false → IsReadAs f (pattern_text f t m) t m
+  parsed_reads_back small mode = reads_back f t m (parsed_is_writable small mode)

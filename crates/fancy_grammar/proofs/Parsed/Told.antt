@@ -1,22 +1,20 @@
 -- The groups that the marks tell of are those that have a number, each with its name.
-use Rattle.std.proofs.Common.{◌≡◌, ℕ, zero, suc, ◌+◌, ◌==◌, Bool, true, false, ◌||◌, ◌&&◌, if◌then◌else◌, List}
-use Rattle.std.proofs.Common.{[], ◌∷◌, length, map, Option, Some, None, is_some, option_map, unwrap_or, refl, ap}
+use Rattle.std.proofs.Common.{◌≡◌, ℕ, zero, suc, ◌+◌, ◌==◌, Bool, true, false, if◌then◌else◌, List}
+use Rattle.std.proofs.Common.{[], ◌∷◌, length, map, Option, Some, None, option_map, unwrap_or, refl, ap}
 use Rattle.std.proofs.Common.{ap₂, ◌∙◌, subst, arith}
-use Rattle.std.proofs.lemmas.Bool.{cond_both}
 use Rattle.std.proofs.lemmas.Slice.Eq.{bytes_eq-Decides}
 use Rattle.std.specs.Cmp.Lexicographic.{nat_list_eq_equiv}
 use Rattle.std.specs.List.{list_any}
 use Rattle.std.specs.Map.{lookup}
 use Rattle.std.specs.Prelude.{bytes_eq, find, slice_get}
 use Rattle.fancy_lex.specs.Text.{Text}
-use Rattle.fancy_lex.specs.declared.flags.Flags.{Flags}
 use Rattle.fancy_parts.proofs.NamedLaws.{under_named}
 use Rattle.fancy_parts.specs.Groups.{numbers_under}
-use Rattle.fancy_parts.specs.Ranks.{Opening, is_named, is_counted, only_named, numbered_openings_in, numbers, names}
+use Rattle.fancy_parts.specs.Ranks.{Opening, numbers, names}
 use Rattle.fancy_parts.specs.Ranks.{named_groups, is_name}
 use Rattle.fancy_grammar.specs.Marks.{Marks}
 use Rattle.fancy_grammar.specs.PatternReference.{Named}
-use Rattle.fancy_grammar.specs.Writable.{AreCounted, name_at, openings_told}
+use Rattle.fancy_grammar.specs.Writable.{name_at, openings_told}
 use Rattle.fancy_grammar.proofs.NamedNumbers.{carries, number_carried}
 use Rattle.fancy_grammar.proofs.Pattern.Theorem.{unreached}
 
@@ -101,4 +99,3 @@ told_from m l e c (o ∷ n) h =
 pub told_openings_are : (m : Marks) (l : List Opening) → m.named_groups ≡ named_groups l →
     openings_told m 0 (length l) ≡ map unreached l
 told_openings_are m l e = told_from m l e 0 l (λ k. ap (slice_get l) (omega arith))
-

@@ -1,4 +1,5 @@
 -- Absent expressions, stoppers and repeaters read back where the trees below them do.
+use Rattle.std.proofs.lemmas.Bool.{true≢false}
 use Rattle.std.proofs.Common.{◌≡◌, ℕ, ◌+◌, ◌<◌, Bool, true, false, [], ◌∷◌, ◌++◌, codes, nat_eq, refl, sym, ap}
 use Rattle.std.proofs.Common.{◌∙◌, subst, append_assoc, ne_eqb, ⊎_elim, ◌≢◌, ◌==◌, if◌then◌else◌}
 use Rattle.std.proofs.lemmas.Bool.{cond-false, cases_eq, false≢true}
@@ -194,7 +195,7 @@ module _ (μ : Marks) (h : Here) (o : h.flags.oniguruma_mode ≡ false) where
       (λ d v k _. subst (λ z. AtomAt μ i z v x) (sym (same v))
       (repeater_at μ i _ _ v t d.1.0
       (parted μ (deeper i) v _ t o w (r.whole d.1.1 (code ")" ∷ v) (ends_close h.flags.ignore_space v)))))
-      refl (λ e. ((λ d. d), refl))
+      refl (λ e. ((λ d. d), refl)) (λ _ e. absurd (true≢false e))
 
   solid_stopper : (t : Tree) → is_empty t ≡ false → ReadsTree μ t (deeper (under (settled h.flags t) h)) →
       ReadsTree μ (over label.stopper t) h
@@ -211,7 +212,7 @@ module _ (μ : Marks) (h : Here) (o : h.flags.oniguruma_mode ≡ false) where
       (λ d v k _. let b = r.branch d.1.1.1 (code ")" ∷ v) (ends_close h.flags.ignore_space v).stops in
       subst (λ z. AtomAt μ i z v x) (sym (same v ∙ ap (λ z. codes "(?~|" ++ (z ++ code ")" ∷ v)) (bare d)))
       (stopper_at μ i (w ++ code ")" ∷ v) v _ t d.1.0 b (stays_solid μ _ h.opened b.tree t b.becomes solid)))
-      refl (λ e. ((λ d. d), refl))
+      refl (λ e. ((λ d. d), refl)) (λ _ e. absurd (true≢false e))
 
   nothing_stopper : μ.numbered_groups_ignored ≡ true → ReadsTree μ (over label.stopper empty) h
   nothing_stopper ignored =
@@ -223,7 +224,7 @@ module _ (μ : Marks) (h : Here) (o : h.flags.oniguruma_mode ≡ false) where
       (begins_nothing h.flags.ignore_space (code ")" ∷ v)) (ends_close h.flags.ignore_space v).stops
       (reads_nothing μ (deeper h) (code ")" ∷ v) (d.1.1.0 refl) ignored) in
       stopper_at μ h (codes "()" ++ code ")" ∷ v) v h.flags empty d.1.0 b.branch b.solid)
-      refl (λ e. ((λ d. d), refl))
+      refl (λ e. ((λ d. d), refl)) (λ _ e. absurd (true≢false e))
 
   pub stopper_reads : (t : Tree) → MayBeLeft μ t → ReadsTree μ t (deeper (under (settled h.flags t) h)) →
       ReadsTree μ (over label.stopper t) h
@@ -251,4 +252,4 @@ module _ (μ : Marks) (h : Here) (o : h.flags.oniguruma_mode ≡ false) where
       (expression_at μ i (first ++ code "|" ∷ second v) (second v) v _ _ a e d.1.0
       (r.branch d.1.1.0 (code "|" ∷ second v) (stops_bar h.flags.ignore_space (second v)))
       (q.branch d.1.1.1 (code ")" ∷ v) (subst (λ y. Stops y (code ")" ∷ v)) (sym space) (ends_close h.flags.ignore_space v).stops))))
-      refl (λ e. ((λ d. d), refl))
+      refl (λ e. ((λ d. d), refl)) (λ _ e. absurd (true≢false e))

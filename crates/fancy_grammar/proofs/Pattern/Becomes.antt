@@ -17,7 +17,7 @@ use Rattle.fancy_grammar.specs.Tree.{Tree, row, more_trees, trees_of, empty, ast
 use Rattle.fancy_grammar.specs.Tree.{ast_node, backref, backref_at_level, subroutine_call, backref_exists}
 use Rattle.fancy_grammar.specs.ReadAs.{unplaced, unplaced_all}
 pub use Rattle.fancy_grammar.specs.Writable.{numbers_told}
-use Rattle.fancy_grammar.specs.Writable.{name_at, AreCounted, is_numbered, is_numbered_call_of_all}
+use Rattle.fancy_grammar.specs.Writable.{name_at, is_numbered, is_numbered_call_of_all}
 use Rattle.fancy_grammar.proofs.Pattern.Unplaced.{empty_unplaced, repeatable_unplaced}
 use Rattle.fancy_parts.specs.Meaning.{Meaning, number, unresolved, faulty, means}
 use Rattle.fancy_parts.specs.Written.{is_numeric}

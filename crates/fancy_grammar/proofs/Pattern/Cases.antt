@@ -1,4 +1,8 @@
 -- Each kind of tree reads back where the trees below it do.
+use Rattle.std.proofs.lemmas.Bool.{true≢false, cond-true}
+use Rattle.fancy_grammar.proofs.Pattern.Groups.{BareAt}
+use Rattle.fancy_grammar.proofs.Pattern.Induction.{bare_by}
+use Rattle.fancy_grammar.proofs.Pattern.Rules.{WholeAt}
 use Rattle.std.proofs.Common.{true}
 use Rattle.std.proofs.Common.{◌≡◌, zero, ◌+◌, Bool, false, not, ℕ}
 use Rattle.std.proofs.Common.{[], ◌∷◌, ◌++◌, codes, refl, sym, ap, ◌∙◌, subst, Option, Some, None, IfSome, option_map}
@@ -73,14 +77,21 @@ module _ (μ : Marks) where
   abbrev FitsUnder : Leaf → Here → Type 0
   FitsUnder l h = FitsAfterSetting (leaf l) (FitsAsAtom (leaf l) (Operand zero) (MayOpenIf (is_in_parens l))) h
 
+  -- the leaf's text reads so in a group, where the leaf is not repeatable
+  abbrev BareLeaf : Leaf → Here → Type 0
+  BareLeaf l h =
+      let i = deeper (under (settled h.flags (leaf l)) h) in
+      is_repeatable i.flags (leaf l) ≡ false → MayOpenIf (is_in_parens l) i → LeafAt μ i (leaf_text μ l i) l
+
   leaf_by : (l : Leaf) (h : Here) → h.flags.oniguruma_mode ≡ false → is_empty (leaf l) ≡ false →
       (MayOpenIf (is_in_parens l) h →
       LeafAt μ (under (settled h.flags (leaf l)) h) (leaf_text μ l (under (settled h.flags (leaf l)) h)) l) →
+      BareLeaf l h →
       ReadsBy μ (leaf l) h (FitsAlone l h) (FitsAlone l h) (FitsAlone l h) (FitsUnder l h) (after_setting (leaf l) (leaf_text μ l) h) (after_setting (leaf l) (leaf_text μ l) h)
       (after_setting (leaf l) (leaf_text μ l) h)
       (after_setting (leaf l) (as_atom (leaf l) (Operand zero) (leaf_text μ l)) h) (settled h.flags (leaf l))
       (settled h.flags (leaf l))
-  leaf_by l h o e a =
+  leaf_by l h o e a bare =
       let g = settled h.flags (leaf l) in
       let i = under g h in
       by_atom μ (leaf l) h o e (FitsAlone l h) (FitsUnder l h) (leaf_text μ l i) _ (λ x. x.0) (λ x. (a x.1).begins)
@@ -89,6 +100,16 @@ module _ (μ : Marks) where
         λ x. (x.0, subst (λ b. FitsInParensIf b (λ q. MayOpenIf (is_in_parens l)) (Operand zero) i) not_so x.1),
         ap (λ w. setting h.flags g ++ w) (cond-false _ _ _ not_so),
       ))
+      (λ x r q. let so : not (is_repeatable g (leaf l)) ≡ true = ap not (sym (same_repeatable l h.flags g refl) ∙ r) in
+      let inner = λ (x : FitsUnder l h).
+      bare (sym (same_repeatable l h.flags g refl) ∙ r)
+      (subst (λ b. FitsInParensIf b (λ q. MayOpenIf (is_in_parens l)) (Operand zero) i) so x.1).1 in
+      subst (λ w. ((v : Text) → Begins h.flags.ignore_space ((setting h.flags g ++ w) ++ v))
+      × (settled h.flags (leaf l) ≡ h.flags → (v : Text) → BareAt μ h ((setting h.flags g ++ w) ++ v) v (leaf l)))
+      (sym (cond-true _ _ _ so))
+      (bare_by μ (leaf l) h o e (FitsUnder l h) (leaf_text μ l (deeper i))
+      (λ x. (subst (λ b. FitsInParensIf b (λ q. MayOpenIf (is_in_parens l)) (Operand zero) i) so x.1).0)
+      (λ x. (inner x).begins) (λ x. (inner x).reads) x r q))
 
   outside : (f : Flags) (c : ℕ) (a : Assertion) → IsWritableLeaf f μ c (label.assertion a) → IsOutside a
   outside f c (StartLineOniguruma crlf) k = k
@@ -97,49 +118,64 @@ module _ (μ : Marks) where
   pub leaf_reads : ((k : ℕ) → IfSome (name_of μ k) (λ e. e.1 ≡ numbers_told μ e.0)) →
       (f : Flags) (l : Leaf) (h : Here) → h.flags.oniguruma_mode ≡ false → IsLike f h.flags →
       IsWritableLeaf f μ h.opened l → ReadsTree (leaf l) h
-  leaf_reads numbered f label.empty h o like k = by_nothing μ h _ _ _ _ (codes "()") o (λ d. d refl)
+  leaf_reads numbered f label.empty h o like k = by_nothing μ h _ _ _ _ o (λ d. d refl) (λ d. d refl)
   leaf_reads numbered f (label.any a b) h o like k =
       let i = under (settled h.flags (leaf (label.any a b))) h in
       leaf_by (label.any a b) h o refl (λ _. any_at μ i a b (any_fits i.flags a b
       (settled_again h.flags (leaf (label.any a b)))))
+      (λ e. absurd (true≢false e))
   leaf_reads numbered f (label.assertion a) h o like k =
       let i = under (settled h.flags (leaf (label.assertion a))) h in
       leaf_by (label.assertion a) h o refl (λ _. assertion_at μ i a o (assertion_fits i.flags a (outside f h.opened a k)
       (settled_again h.flags (leaf (label.assertion a)))))
+      (λ e. absurd (true≢false (sym (ap not o) ∙ e)))
   leaf_reads numbered f (label.general_newline u) h o like k =
       leaf_by (label.general_newline u) h o refl (λ _. newline_at μ h u (ap (λ g. g.unicode) like ∙ k))
+      (λ e. absurd (true≢false e))
   leaf_reads numbered f (label.literal [] casei) h o like k = absurd k
   leaf_reads numbered f (label.literal (c ∷ []) casei) h o like k =
       let l = label.literal (c ∷ []) casei in
       let i = under (settled h.flags (leaf l)) h in
       leaf_by l h o refl (λ _. literal_at μ i casei c (case_fits i.flags casei c o (settled_again h.flags (leaf l))))
+      (λ e. absurd (true≢false e))
   leaf_reads numbered f (label.literal (c ∷ e ∷ s) casei) h o like k = absurd k
   leaf_reads numbered f (label.literal_bytes []) h o like k = absurd k
   leaf_reads numbered f (label.literal_bytes (b ∷ [])) h o like k =
       leaf_by (label.literal_bytes (b ∷ [])) h o refl (λ _. byte_at μ h b (ap (λ g. g.unicode) like ∙ k.0) k.1 k.2)
+      (λ e. absurd (true≢false e))
   leaf_reads numbered f (label.literal_bytes (b ∷ e ∷ s)) h o like k = absurd k
   leaf_reads numbered f (label.delegate s casei) h o like k =
       let l = label.delegate s casei in
       let i = under (settled h.flags (leaf l)) h in
       leaf_by l h o refl (λ _. source_at μ i s casei _ (k i.flags like (settled_again h.flags (leaf l))))
+      (λ e. absurd (true≢false e))
   leaf_reads numbered f label.keep_out h o like k = leaf_by label.keep_out h o refl (λ _. keep_at μ h)
+      (λ _ _. keep_at μ _)
   leaf_reads numbered f label.continue_from_previous_match_end h o like k =
       leaf_by label.continue_from_previous_match_end h o refl (λ _. continue_at μ h)
+      (λ _ _. continue_at μ _)
   leaf_reads numbered f (label.verb v) h o like k = leaf_by (label.verb v) h o refl (λ d. verb_leaf_at μ h v (d refl))
+      (λ _ d. verb_leaf_at μ _ v (d refl))
   leaf_reads numbered f label.clear h o like k = leaf_by label.clear h o refl (λ d. clear_at μ h (d refl))
+      (λ e. absurd (true≢false e))
   leaf_reads numbered f (label.backref n casei) h o like k =
       leaf_by (label.backref n casei) h o refl
       (λ _. backref_at μ (under (settled h.flags (leaf (label.backref n casei))) h) numbered n k)
+      (λ e. absurd (true≢false e))
   leaf_reads numbered f (label.backref_at_level n level casei) h o like k =
       let l = label.backref_at_level n level casei in
       leaf_by l h o refl (λ _. level_at μ (under (settled h.flags (leaf l)) h) numbered n level k.0 k.1)
+      (λ e. absurd (true≢false e))
   leaf_reads numbered f (label.subroutine_call n) h o like k =
       leaf_by (label.subroutine_call n) h o refl (λ _. call_at μ h numbered n k)
+      (λ e. absurd (true≢false e))
   leaf_reads numbered f (label.backref_exists n level) h o like k =
       leaf_by (label.backref_exists n level) h o refl
       (λ d. exists_at μ h (target_text μ n level) n level (condition_at μ h n (d refl) level (numbered n) k.0 k.1))
+      (λ e. absurd (true≢false e))
   leaf_reads numbered f (label.ast_node (label.ast_call t) place) h o like k =
       leaf_by (label.ast_node (label.ast_call t) place) h o refl (λ d. unresolved_at μ h t place d k.0 k.1)
+      (λ e. absurd (true≢false e))
   leaf_reads numbered f _ h o like k = absurd k
 
   -- ---- groups
@@ -186,14 +222,7 @@ module _ (μ : Marks) where
         (reads_group μ i _ _ _ (inside v) v t
         (group_head_read d.1.0 (name_of μ (h.opened + 1)) named i.flags (inside v) (clear d v)) refl counted
         (r.whole d.1.1 (code ")" ∷ v) (ends_close h.flags.ignore_space v))))
-        refl (λ e. ((λ d. d), refl))
-
-    look_ahead_at : MayOpen h → (f : Flags) (l : LookAround) (u : Text) →
-        ahead h.depth (st f (code "(" ∷ (look_head l ++ u))) ≡ with_head (look l) (st f u)
-    look_ahead_at d f LookAhead u = question_at h.depth f (code "=" ∷ u) d
-    look_ahead_at d f LookAheadNeg u = question_at h.depth f (code "!" ∷ u) d
-    look_ahead_at d f LookBehind u = question_at h.depth f (codes "<=" ++ u) d
-    look_ahead_at d f LookBehindNeg u = question_at h.depth f (codes "<!" ++ u) d
+        refl (λ e. ((λ d. d), refl)) (λ _ e. absurd (true≢false e))
 
     begins_look : (x : Bool) (l : LookAround) (u : Text) → Begins x (code "(" ∷ (look_head l ++ u))
     begins_look x LookAhead u = begins_by x (code "(") _ refl refl refl refl
@@ -201,20 +230,39 @@ module _ (μ : Marks) where
     begins_look x LookBehind u = begins_by x (code "(") _ refl refl refl refl
     begins_look x LookBehindNeg u = begins_by x (code "(") _ refl refl refl refl
 
+    -- its text, where it may stand
+    look_atom : (l : LookAround) (i : Here) → MayOpen i → (v : Text) →
+        WholeAt μ (deeper i) (written μ t Whole (deeper i) ++ code ")" ∷ v) (flags_behind t Whole i.flags) (code ")" ∷ v) t →
+        AtomAt μ i (in_parens (look_head l) (written μ t Whole) i ++ v) v (over (label.look_around l) t)
+    look_atom l i d v w =
+        subst (λ z. AtomAt μ i z v (over (label.look_around l) t)) (sym (parens_text (look_head l) (written μ t Whole) i v))
+        (reads_look μ i l _ _ (written μ t Whole (deeper i) ++ code ")" ∷ v) v t
+        (look_ahead_in d i.flags l (written μ t Whole (deeper i) ++ code ")" ∷ v)) w)
+      where
+        look_ahead_in : MayOpen i → (f : Flags) (l : LookAround) (u : Text) →
+            ahead i.depth (st f (code "(" ∷ (look_head l ++ u))) ≡ with_head (look l) (st f u)
+        look_ahead_in d f LookAhead u = question_at i.depth f (code "=" ∷ u) d
+        look_ahead_in d f LookAheadNeg u = question_at i.depth f (code "!" ∷ u) d
+        look_ahead_in d f LookBehind u = question_at i.depth f (codes "<=" ++ u) d
+        look_ahead_in d f LookBehindNeg u = question_at i.depth f (codes "<!" ++ u) d
+
     pub look_reads : (l : LookAround) → ReadsTree t (deeper (under (settled h.flags t) h)) →
-        ReadsTree (over (label.look_around l) t) h
-    look_reads l r =
+        ReadsTree t (deeper (deeper (under (settled h.flags t) h))) → ReadsTree (over (label.look_around l) t) h
+    look_reads l r r2 =
         let i = under (settled h.flags t) h in
-        let s = in_parens (look_head l) (written μ t Whole) i in
-        let inside = λ (v : Text). written μ t Whole (deeper i) ++ code ")" ∷ v in
-        let same = parens_text (look_head l) (written μ t Whole) i in
-        let fits = λ (p : Precedence). Fits (over (label.look_around l) t) p h in
-        by_atom μ (over (label.look_around l) t) h o refl (fits Whole) (fits (Operand zero)) s _ (λ d. d.0)
-        (λ _ v. subst (Begins h.flags.ignore_space) (sym (same v)) (begins_look h.flags.ignore_space l (inside v)))
-        (λ d v k _. subst (λ w. AtomAt μ i w v (over (label.look_around l) t)) (sym (same v))
-        (reads_look μ i l _ _ (inside v) v t (look_ahead_at d.1.0 i.flags l (inside v))
-        (r.whole d.1.1 (code ")" ∷ v) (ends_close h.flags.ignore_space v))))
+        let x = over (label.look_around l) t in
+        let text = in_parens (look_head l) (written μ t Whole) in
+        let fits = λ (p : Precedence). Fits x p h in
+        let begins = λ (j : Here) (v : Text).
+        subst (Begins h.flags.ignore_space) (sym (parens_text (look_head l) (written μ t Whole) j v))
+        (begins_look h.flags.ignore_space l (written μ t Whole (deeper j) ++ code ")" ∷ v)) in
+        let close = λ (v : Text). ends_close h.flags.ignore_space v in
+        by_atom μ x h o refl (fits Whole) (fits (Operand zero)) (text i) _ (λ d. d.0)
+        (λ _ v. begins i v)
+        (λ d v k _. look_atom l i d.1.0 v (r.whole d.1.1 (code ")" ∷ v) (close v)))
         refl (λ e. absurd (false≢true e))
+        (bare_by μ x h o refl (fits (Operand zero)) (text (deeper i)) (λ d. d.1.0) (λ _ v. begins (deeper i) v)
+        (λ d v k _. look_atom l (deeper i) d.1.1.0 v (r2.whole d.1.1.1 (code ")" ∷ v) (close v))))
 
     pub define_reads : ReadsTree t (deeper (under (settled h.flags t) h)) → ReadsTree (over label.define_group t) h
     define_reads r =
@@ -229,7 +277,7 @@ module _ (μ : Marks) where
         (λ d v k _. subst (λ w. AtomAt μ i w v (over label.define_group t)) (sym (same v))
         (reads_define μ i _ _ (inside v) v t (question_at h.depth i.flags (codes "(DEFINE)" ++ inside v) d.1.0)
         (r.whole d.1.1 (code ")" ∷ v) (ends_close h.flags.ignore_space v))))
-        refl (λ e. ((λ d. d), refl))
+        refl (λ e. ((λ d. d), refl)) (λ _ e. absurd (true≢false e))
 
     -- where it is none of a quantifier
     pub atomic_by : ReadsTree t (deeper (under (settled h.flags t) h)) →
@@ -251,4 +299,4 @@ module _ (μ : Marks) where
         (λ d v k _. subst (λ w. AtomAt μ i w v (over label.atomic_group t)) (sym (same v))
         (reads_atomic μ i _ _ (inside v) v t (question_at h.depth i.flags (codes ">" ++ inside v) d.1.0)
         (r.whole d.1.1 (code ")" ∷ v) (ends_close h.flags.ignore_space v))))
-        refl (λ e. ((λ d. d), refl))
+        refl (λ e. ((λ d. d), refl)) (λ _ e. absurd (true≢false e))

@@ -1,6 +1,6 @@
 -- Conditionals read back where their conditions and branches do.
 use Rattle.std.proofs.Common.{◌≡◌, ℕ, ◌+◌, Bool, true, false, not, ◌&&◌, ◌||◌, ◌==◌, List, [], ◌∷◌}
-use Rattle.std.proofs.Common.{◌++◌, codes, refl, sym, ap, ap₂, ◌∙◌, subst, arith, append_assoc, append-nil, ne_eqb}
+use Rattle.std.proofs.Common.{◌++◌, codes, refl, sym, ap, ◌∙◌, subst, arith, append_assoc, append-nil, ne_eqb}
 use Rattle.std.proofs.Common.{if◌then◌else◌}
 use Rattle.std.proofs.Math.Bool.{and-true, not-not}
 use Rattle.std.proofs.lemmas.Bool.{cond-false, or_parts, false≢true}
@@ -37,7 +37,7 @@ use Rattle.fancy_grammar.proofs.Pattern.Becomes.{is_raw_group, stays_solid}
 use Rattle.std.proofs.Math.Bool.{and-false}
 use Rattle.std.proofs.lemmas.Bool.{true≢false}
 use Rattle.fancy_grammar.proofs.Pattern.Becomes.{node_told, in_longer, meaning_told}
-use Rattle.fancy_grammar.proofs.Pattern.Unplaced.{empty_unplaced, alt_unplaced}
+use Rattle.fancy_grammar.proofs.Pattern.Unplaced.{alt_unplaced}
 use Rattle.fancy_grammar.proofs.Pattern.Rules.{Begins, begins_by, AtomAt, BranchAt, WholeAt, stops_bar, ends_close}
 use Rattle.fancy_grammar.specs.declared.precedence.Precedence.TheVariants.{Whole, Branch as BranchAlone}
 use Rattle.fancy_grammar.proofs.Pattern.Cases.{ReadsTree}
@@ -360,4 +360,4 @@ module _ (μ : Marks) where
       subst (λ z. AtomAt μ i z v x) (sym (whole_text v))
       (with_body i s z v _ c t e a
       (body_at μ i.depth (a.node z) j.flags j.opened t e v same_mode left d.1.1.1 q u d.1.1.2 d.1.1.3)))
-      refl (λ e. ((λ d. d), refl))
+      refl (λ e. ((λ d. d), refl)) (λ _ e. absurd (true≢false e))

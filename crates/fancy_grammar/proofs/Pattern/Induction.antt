@@ -1,12 +1,13 @@
 -- The text of a writable tree reads back, wherever it stands: by induction on the tree.
+use Rattle.fancy_grammar.specs.Pattern.{deeper}
+use Rattle.fancy_grammar.proofs.Pattern.Groups.{reads_bare, capture_at}
+use Rattle.fancy_grammar.proofs.Pattern.Rules.{no_question}
+use Rattle.fancy_grammar.proofs.ReadBack.ClearLemmas.{not_asking}
 use Rattle.std.proofs.Common.{◌+◌, ◌<◌}
 use Rattle.fancy_grammar.specs.Depth.{max_depth}
-use Rattle.std.proofs.Common.{None, ℕ}
-use Rattle.fancy_lex.specs.Text.{bytes, reach_of}
-use Rattle.fancy_grammar.specs.Tree.{empty, ast_group}
-use Rattle.fancy_grammar.proofs.OutcomeLemmas.{piece_as}
-use Rattle.fancy_grammar.proofs.Pattern.Groups.{reads_nothing, begins_nothing, bare_rest}
-use Rattle.fancy_grammar.proofs.Pattern.Rules.{lead_raw, quants_one, quant_none, begins_by}
+use Rattle.fancy_grammar.proofs.Pattern.Groups.{reads_nothing, begins_nothing, bare_rest, BareAt}
+use Rattle.std.proofs.lemmas.Bool.{true≢false}
+use Rattle.fancy_grammar.proofs.Pattern.Rules.{begins_by}
 use Rattle.std.proofs.Common.{◌≡◌, Bool, true, false, List, [], ◌∷◌, ◌++◌}
 use Rattle.std.proofs.Common.{codes, refl, sym, ap, ◌∙◌, subst, append_assoc}
 use Rattle.std.proofs.lemmas.Bool.{false≢true}
@@ -35,6 +36,13 @@ use Rattle.fancy_grammar.proofs.Pattern.Rules.{Rest, no_more, lead, reads_branch
 abbrev pub MayBeLeft : Marks → Tree → Type 0
 MayBeLeft μ t = μ.numbered_groups_ignored ≡ false → is_empty t ≡ false
 
+-- where it is not repeatable, the text is a group without a number
+abbrev pub BareHere : Marks → Tree → Here → Type 0 → Text → Type 0
+BareHere μ t h d k =
+    d → is_repeatable h.flags t ≡ false → μ.numbered_groups_ignored ≡ true →
+    ((v : Text) → Begins h.flags.ignore_space (k ++ v))
+    × (settled h.flags t ≡ h.flags → (v : Text) → BareAt μ h (k ++ v) v t)
+
 -- What the texts of a tree read as here, whatever follows: the whole of a group, a branch, a piece, and what a quantifier
 -- follows; with the flags that hold behind the first two. Each is read so where it fits.
 pub record ReadsBy (μ : Marks) (t : Tree) (h : Here) (d0 d1 d2 d3 : Type 0) (k0 k1 k2 k3 : Text) (g0 g1 : Flags) :
@@ -51,6 +59,7 @@ pub record ReadsBy (μ : Marks) (t : Tree) (h : Here) (d0 d1 d2 d3 : Type 0) (k0
       Rest μ (behind t Piece h) v g w ys → Rest μ h (k2 ++ v) g w (t ∷ ys)
   pub atom : d3 → is_repeatable h.flags t ≡ true → settled h.flags t ≡ h.flags → (v : Text) →
       NoName h.flags.ignore_space v → Follows μ t v → AtomAt μ h (k3 ++ v) v t
+  pub bare : BareHere μ t h d3 k3
 
 -- where it fits by one condition, it is read so by any that has that
 pub refit : {μ : Marks} {t : Tree} {h : Here} {d e0 e1 e2 d3 : Type 0} {k0 k1 k2 k3 : Text} {g0 g1 : Flags} →
@@ -66,6 +75,7 @@ refit f0 f1 f2 r = record {
   branch = λ x. r.branch (f1 x);
   piece = λ x. r.piece (f2 x);
   atom = r.atom;
+  bare = r.bare;
 }
 
 pub clear_name : (x : Bool) (v : Text) → Clear x v → NoName x v
@@ -124,9 +134,9 @@ module _ (μ : Marks) (t : Tree) (h : Here) (o : h.flags.oniguruma_mode ≡ fals
   pub by_piece : (d d3 : Type 0) (s k3 : Text) → (d → MaySet set_here h) → (d → BeginsHere (under set_here h) s) →
       (d → LeadsTo μ t (under set_here h) s) →
       flags_behind t Piece h.flags ≡ set_here → (d3 → is_repeatable h.flags t ≡ true → BeginsHere h k3) →
-      (d3 → is_repeatable h.flags t ≡ true → settled h.flags t ≡ h.flags → AtomHere μ t h k3) →
+      (d3 → is_repeatable h.flags t ≡ true → settled h.flags t ≡ h.flags → AtomHere μ t h k3) → BareHere μ t h d3 k3 →
       ReadsBy μ t h d d d d3 (behind_set s) (behind_set s) (behind_set s) k3 set_here set_here
-  by_piece d d3 s k3 m b l e n a =
+  by_piece d d3 s k3 m b l e n a bare =
       let p = λ (x : d). set_leads (m x) s (b x) (l x) in
       let q = λ (x : d) (v : Text) (i : Stops h.flags.ignore_space v). one_branch μ t h solid
       (behind_set s) set_here (p x) v i refl in
@@ -142,6 +152,7 @@ module _ (μ : Marks) (t : Tree) (h : Here) (o : h.flags.oniguruma_mode ≡ fals
             λ x _ v w k ys c y r. p x v w k ys c y
             (subst (λ f. Rest μ (past_groups (group_count t) (under f h)) v k w ys) e r);
         atom = a;
+        bare = bare;
       }
 
   pub set_none : (s v : Text) → settled h.flags t ≡ h.flags → behind_set s ++ v ≡ s ++ v
@@ -152,17 +163,42 @@ module _ (μ : Marks) (t : Tree) (h : Here) (o : h.flags.oniguruma_mode ≡ fals
   pub by_atom : (d d3 : Type 0) (s k3 : Text) → (d → MaySet set_here h) → (d → BeginsHere (under set_here h) s) →
       (d → AtomHere μ t (under set_here h) s) →
       flags_behind t Piece h.flags ≡ set_here → (is_repeatable h.flags t ≡ true → (d3 → d) × (k3 ≡ behind_set s)) →
-      ReadsBy μ t h d d d d3 (behind_set s) (behind_set s) (behind_set s) k3 set_here set_here
-  by_atom d d3 s k3 m b a e same =
+      BareHere μ t h d3 k3 → ReadsBy μ t h d d d d3 (behind_set s) (behind_set s) (behind_set s) k3 set_here set_here
+  by_atom d d3 s k3 m b a e same bare =
       by_piece d d3 s k3 m b (λ x. atom_leads μ t (under set_here h) solid s o (b x) (a x)) e
       (λ x r. subst (BeginsHere h) (sym (same r).1) (set_begins s (b ((same r).0 x))))
       (λ x r u. subst (AtomHere μ t h) (sym (same r).1)
       (λ v m y. subst (λ w. AtomAt μ h w v t) (sym (set_none s v u))
-      (subst (λ f. AtomAt μ (under f h) (s ++ v) v t) u (a ((same r).0 x) v m y))))
+      (subst (λ f. AtomAt μ (under f h) (s ++ v) v t) u (a ((same r).0 x) v m y)))) bare
+
+  -- in a group without a number
+  pub bare_by : (d : Type 0) (text : Text) → (d → h.depth + 1 < max_depth) → (d → BeginsHere (under set_here h) text) →
+      (d → AtomHere μ t (deeper (under set_here h)) text) →
+      BareHere μ t h d (setting h.flags set_here ++ (codes "(" ++ (text ++ codes ")")))
+  bare_by d text m b a x e g =
+      let i = under set_here h in
+      let s = codes "(" ++ (text ++ codes ")") in
+      let same : (v : Text) → s ++ v ≡ code "(" ∷ (text ++ code ")" ∷ v)
+      = λ v. ap (λ z. code "(" ∷ z) (append_assoc text (codes ")") v) in
+      let first = λ (v : Text). b x (code ")" ∷ v) in
+      let here = λ (v : Text). let q = ends_close h.flags.ignore_space v in
+      subst (λ z. BareAt μ i z v t) (sym (same v))
+      (reads_bare μ i i.flags (code "(" ∷ (text ++ code ")" ∷ v)) (text ++ code ")" ∷ v) v t
+      (capture_at i.depth i.flags (text ++ code ")" ∷ v) (m x) (first v).clear) g
+      (reads_only μ (deeper i) (text ++ code ")" ∷ v) (code ")" ∷ v) i.flags t
+      (one_branch μ t (deeper i) solid text i.flags (atom_leads μ t (deeper i) solid text o (b x) (a x)) (code ")" ∷ v)
+      q.stops refl) q.no_bar)) in (
+        set_begins s (λ v. subst (Begins h.flags.ignore_space) (sym (same v)) (begins_by h.flags.ignore_space (code "(") _
+            (not_asking (text ++ code ")" ∷ v) (no_question (text ++ code ")" ∷ v) (first v).clear.no_mark)) refl refl
+            refl)),
+        λ u v. subst (λ z. BareAt μ h z v t) (sym (set_none s v u))
+            (subst (λ f. BareAt μ (under f h) (s ++ v) v t) u (here v)),
+      )
 
 -- ---- what stands in a group of flags where it is a piece
 
-module _ (μ : Marks) (t : Tree) (h : Here) (o : h.flags.oniguruma_mode ≡ false) (solid : is_empty t ≡ false) where
+module _ (μ : Marks) (t : Tree) (h : Here) (o : h.flags.oniguruma_mode ≡ false) (solid : is_empty t ≡ false)
+    (rep : is_repeatable h.flags t ≡ true) where
   abbrev pub set_in : Flags
   set_in = settled h.flags t
 
@@ -208,6 +244,7 @@ module _ (μ : Marks) (t : Tree) (h : Here) (o : h.flags.oniguruma_mode ≡ fals
             λ x _ v w k ys c y r. atom_leads μ t h solid (scoped s) o (scope_begins s) (a x) v w k ys c y
             (subst (λ f. Rest μ (past_groups (group_count t) (under f h)) v k w ys) e r);
         atom = λ x _ _. a x;
+        bare = λ _ e. absurd (true≢false (sym rep ∙ e));
       }
 
   -- an Alt: branches as they are in a group
@@ -234,6 +271,7 @@ module _ (μ : Marks) (t : Tree) (h : Here) (o : h.flags.oniguruma_mode ≡ fals
             λ x _ v w k ys c y r. l x v w k ys c y (subst
             (λ f. Rest μ (past_groups (group_count t) (under f h)) v k w ys) e r);
         atom = λ x _ _. a x;
+        bare = λ _ e. absurd (true≢false (sym rep ∙ e));
       }
 
 -- nothing, where branches or pieces may stand
@@ -241,9 +279,10 @@ pub by_left : (b : Bool) → (b ≡ false → true ≡ false) → b ≡ true
 by_left true h = refl
 by_left false h = sym (h refl)
 
-pub by_nothing : (μ : Marks) (h : Here) (d0 d1 d2 d3 : Type 0) (k3 : Text) → h.flags.oniguruma_mode ≡ false →
-    (d2 → h.depth + 1 < max_depth) → ReadsBy μ (leaf label.empty) h d0 d1 d2 d3 [] [] (codes "()") k3 h.flags h.flags
-by_nothing μ h d0 d1 d2 d3 k3 o m =
+pub by_nothing : (μ : Marks) (h : Here) (d0 d1 d2 d3 : Type 0) → h.flags.oniguruma_mode ≡ false →
+    (d2 → h.depth + 1 < max_depth) → (d3 → h.depth + 1 < max_depth) →
+    ReadsBy μ (leaf label.empty) h d0 d1 d2 d3 [] [] (codes "()") (codes "()") h.flags h.flags
+by_nothing μ h d0 d1 d2 d3 o m n =
     let q = λ (v : Text) (i : Stops h.flags.ignore_space v).
     reads_branch μ h v v h.flags [] (no_more μ h v i) in
     record {
@@ -258,4 +297,5 @@ by_nothing μ h d0 d1 d2 d3 k3 o m =
           λ d e v w g ys c y r. bare_rest μ h (codes "()" ++ v) v w g (leaf label.empty) ys o
           (begins_nothing h.flags.ignore_space v) c (reads_nothing μ h v (m d) (by_left μ.numbered_groups_ignored e)) r;
       atom = λ _ e. absurd (false≢true e);
+      bare = λ d _ g. ((λ v. begins_nothing h.flags.ignore_space v), (λ _ v. reads_nothing μ h v (n d) g));
     }

@@ -1,5 +1,5 @@
 -- The text of a writable tree of fewer than 64 levels fits.
-use Rattle.std.proofs.Common.{◌≡◌, ℕ, ◌+◌, ◌<◌, Bool, true, false, not, ◌&&◌, refl, sym, ap, ◌∙◌, arith}
+use Rattle.std.proofs.Common.{◌≡◌, ℕ, ◌+◌, ◌<◌, Bool, true, false, not, ◌&&◌, refl, arith}
 use Rattle.std.proofs.lemmas.Bool.{false≢true}
 use Rattle.fancy_lex.specs.declared.flags.Flags.{Flags}
 use Rattle.fancy_grammar.specs.Depth.{max_depth}
@@ -16,7 +16,6 @@ use Rattle.fancy_grammar.specs.Writable.{AreNodesWritable, AreAllWritable, ArePi
 use Rattle.fancy_grammar.specs.declared.precedence.Precedence.{Precedence}
 use Rattle.fancy_grammar.specs.declared.precedence.Precedence.TheVariants.{Whole, Branch, Piece, Operand}
 use Rattle.fancy_grammar.proofs.Pattern.Needed.{like_behind}
-use Rattle.fancy_grammar.proofs.Pattern.Repeats.{like_repeatable}
 
 -- ---- what fits without parentheses and within them fits either way
 
@@ -39,6 +38,27 @@ pub scope_fits : (b : Bool) (t : Tree) (inside : Here → Type 0) (h : Here) →
 scope_fits true t inside h d x y = x
 scope_fits false t inside h d x y = (d, y)
 
+-- where a quantifier follows, within them
+atom_fits_if : (t : Tree) (p : Precedence) (inside : Here → Type 0) (h : Here) →
+    (is_operand p ≡ true → MayOpen h × inside (deeper h)) → inside h → FitsAsAtom t p inside h
+atom_fits_if t p inside h s x = by (is_operand p) (is_repeatable h.flags t) s
+  where
+    by : (a b : Bool) → (a ≡ true → MayOpen h × inside (deeper h)) → FitsInParensIf (a && not b) (λ q. inside) p h
+    by true true s = x
+    by true false s = s refl
+    by false b s = x
+
+parens_fit_if : (b : Bool) (inside : Precedence → Here → Type 0) (p : Precedence) (h : Here) →
+    (b ≡ true → MayOpen h × inside Whole (deeper h)) → inside p h → FitsInParensIf b inside p h
+parens_fit_if true inside p h x y = x refl
+parens_fit_if false inside p h x y = y
+
+last_is_operand : (p : Precedence) → is_last_operand p ≡ true → is_operand p ≡ true
+last_is_operand (Operand k) e = refl
+last_is_operand Whole e = absurd (false≢true e)
+last_is_operand Branch e = absurd (false≢true e)
+last_is_operand Piece e = absurd (false≢true e)
+
 -- ---- the tree
 
 some_level : (t : Tree) → 0 < levels t
@@ -52,18 +72,18 @@ as_condition (leaf (label.verb v)) F k = tt
 as_condition c F k = k
 
 module _ (f : Flags) (μ : Marks) where
-  -- no quantifier follows what is not repeatable
-  abbrev Stands : Tree → Precedence → Flags → Type 0
-  Stands t p g = is_operand p ≡ true → is_repeatable g t ≡ true
-
-  standing : (t : Tree) (g : Flags) → IsLike f g → is_repeatable f t ≡ true → is_repeatable g t ≡ true
-  standing t g e k = like_repeatable μ t g f (ap (λ j. j.oniguruma_mode) e) ∙ k
+  -- a group more may stand under a quantifier
+  abbrev Stands : Tree → Precedence → Here → Type 0
+  Stands t p h = is_operand p ≡ true → h.depth + levels t + 1 < max_depth
 
   mutual
     pub levels_fit : (t : Tree) (p : Precedence) (h : Here) (c : ℕ) → AreNodesWritable f μ c t → IsLike f h.flags →
-        Stands t p h.flags → h.depth + levels t < max_depth → Fits t p h
+        Stands t p h → h.depth + levels t < max_depth → Fits t p h
     levels_fit (leaf label.empty) p h c k e s d = λ _. d
-    levels_fit (leaf l) p h c k e s d = (λ _. d, atom_fits (leaf l) p _ (under (settled h.flags (leaf l)) h) s (λ _. d))
+    levels_fit (leaf l) p h c k e s d = (
+      λ _. d,
+      atom_fits_if (leaf l) p _ (under (settled h.flags (leaf l)) h) (λ q. (d, λ _. omega (arith, s q))) (λ _. d),
+    )
     levels_fit (row label.concat (more_trees t (more_trees u us))) p h c k e s d =
         let ts = more_trees t (more_trees u us) in
         scope_fits (takes_pieces p) (row label.concat ts) (FitAll ts Piece) h (omega arith)
@@ -87,22 +107,36 @@ module _ (f : Flags) (μ : Marks) where
     levels_fit (over (label.look_around l) t) p h c k e s d =
         let i = under (settled h.flags t) h in (
           λ _. omega arith,
-          atom_fits (over (label.look_around l) t) p _ i s
+          atom_fits_if (over (label.look_around l) t) p _ i
+              (λ q. (
+                omega arith,
+                (
+                  omega (arith, s q),
+                  levels_fit t Whole (deeper (deeper i)) c k e (λ x. absurd (false≢true x)) (omega (arith, s q)),
+                ),
+              ))
               (omega arith, levels_fit t Whole (deeper i) c k e (λ x. absurd (false≢true x)) (omega arith)),
         )
     levels_fit (over (label.repeat lo hi greedy) t) p h c k e s d =
         let i = under (settled h.flags t) h in (
           λ _. omega arith,
-          parens_fit (is_last_operand p) (λ q j. Fits t (Operand (room q j)) j) p i (omega arith)
-              (levels_fit t (Operand (room Whole (deeper i))) (deeper i) c k.0 e (λ _. standing t i.flags e k.1) (omega arith))
-              (levels_fit t (Operand (room p i)) i c k.0 e (λ _. standing t i.flags e k.1) (omega arith)),
+          parens_fit_if (is_last_operand p) (λ q j. Fits t (Operand (room q j)) j) p i
+              (λ q. (
+                omega arith,
+                levels_fit t (Operand (room Whole (deeper i))) (deeper i) c k.0 e
+                    (λ _. omega (arith, s (last_is_operand p q))) (omega arith),
+              ))
+              (levels_fit t (Operand (room p i)) i c k.0 e (λ _. omega arith) (omega arith)),
         )
     levels_fit (over label.atomic_group (over (label.repeat lo hi greedy) t)) p h c k e s d =
         let i = under (settled h.flags t) h in (
           λ _. omega arith,
-          parens_fit _ (λ q j. Fits t (Operand (room q j)) j) p i (omega arith)
-              (levels_fit t (Operand (room Whole (deeper i))) (deeper i) c k.0 e (λ _. standing t i.flags e k.1) (omega arith))
-              (levels_fit t (Operand (room p i)) i c k.0 e (λ _. standing t i.flags e k.1) (omega arith)),
+          parens_fit_if _ (λ q j. Fits t (Operand (room q j)) j) p i
+              (λ _. (
+                omega arith,
+                levels_fit t (Operand (room Whole (deeper i))) (deeper i) c k.0 e (λ _. omega arith) (omega arith),
+              ))
+              (levels_fit t (Operand (room p i)) i c k.0 e (λ _. omega arith) (omega arith)),
         )
     levels_fit (over label.atomic_group t) p h c k e s d = (
       λ _. omega arith,

@@ -1,7 +1,6 @@
 -- The marks of a tree that say how its references are written.
 use Rattle.std.proofs.Common.{◌≡◌, ℕ, ◌+◌, ◌||◌, Bool, true, false, List, [], ◌∷◌, Option, Some, None, refl, sym}
 use Rattle.std.proofs.Common.{ap, ap₂, ◌∙◌, subst, if◌then◌else◌}
-use Rattle.std.proofs.lemmas.Bool.{cond-true}
 use Rattle.std.specs.List.{AllByRecursion, list_any}
 use Rattle.fancy_lex.specs.Fault.{Fault}
 use Rattle.fancy_lex.specs.Text.{Text, bytes, place_at}
@@ -11,7 +10,7 @@ use Rattle.fancy_parts.specs.Meaning.{Meaning, number, unresolved, faulty, means
 use Rattle.fancy_parts.specs.Ranks.{is_counted, only_named}
 use Rattle.fancy_parts.specs.Written.{is_numeric}
 use Rattle.fancy_grammar.specs.Grammar.{DerivesTree}
-use Rattle.fancy_grammar.specs.Items.{Item, opening, reference, openings, openings_in, meanings_in, numbers_in}
+use Rattle.fancy_grammar.specs.Items.{Item, opening, reference, openings, meanings_in, numbers_in}
 use Rattle.fancy_grammar.specs.Items.{items, meanings, role_of, target_of}
 use Rattle.fancy_grammar.specs.Label as label
 use Rattle.fancy_grammar.specs.Label.{AstReference, Leaf, Wrap, Row, ast_backref, ast_call, ast_condition}
@@ -19,7 +18,7 @@ use Rattle.fancy_grammar.specs.Marks.{Marks, is_call_of_all}
 use Rattle.fancy_grammar.specs.Preorder.{preorder}
 use Rattle.fancy_grammar.specs.Resolved.{reference_node, resolved, first_fault}
 use Rattle.fancy_grammar.specs.Tree.{Tree, leaf, over, row, Trees, ast_node, ast_group}
-use Rattle.fancy_grammar.specs.Writable.{AreCounted, is_numbered, is_numbered_call_of_all}
+use Rattle.fancy_grammar.specs.Writable.{is_numbered, is_numbered_call_of_all}
 use Rattle.fancy_grammar.proofs.Pattern.Becomes.{AreGroups, count_behind, IsAsMarked, MeansGroup, meaning_told, numbers_told}
 use Rattle.fancy_grammar.proofs.PreorderLaws.{kept, kept_if, resolved_nodes, items_of_all, items_of_nodes}
 use Rattle.fancy_grammar.proofs.ReadLaws.{derived_read}

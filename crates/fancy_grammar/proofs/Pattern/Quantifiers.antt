@@ -34,7 +34,7 @@ use Rattle.fancy_grammar.specs.Label.{atomic_group as atomic, repeat as repeated
 use Rattle.fancy_grammar.specs.Marks.{Marks}
 use Rattle.fancy_grammar.specs.Pattern.{Here, past_groups, group_count}
 use Rattle.fancy_grammar.proofs.OutcomeLemmas.{piece_as}
-use Rattle.fancy_grammar.proofs.Pattern.Becomes.{Becomes, stays_repeatable}
+use Rattle.fancy_grammar.proofs.Pattern.Becomes.{Becomes}
 use Rattle.fancy_grammar.proofs.Pattern.Groups.{over_becomes}
 use Rattle.fancy_grammar.proofs.Pattern.Rules.{Clear, Begins, AtomAt, Rest, not_layout, no_question, no_plus}
 use Rattle.fancy_grammar.proofs.Pattern.Rules.{quants_one, lead_piece}
@@ -327,12 +327,11 @@ same_count false x lo hi greedy = refl
 pub lead_quantified : (μ : Marks) (h : Here) (s q v w : Text) (g : Flags) (x : Tree) (ys : List Tree)
     (possessive : Bool)
     (lo hi : ℕ) (greedy : Bool) → h.flags.oniguruma_mode ≡ false → Begins h.flags.ignore_space s →
-    Clear h.flags.ignore_space v → is_repeatable h.flags x ≡ true →
+    Clear h.flags.ignore_space v →
     Counted h.flags.ignore_space lo hi (lazy_mark h.flags greedy ++ (possessive_mark possessive ++ v)) q →
-    AtomAt μ h s q x → Rest μ (past_groups (group_count x) h) v g w ys →
+    (a : AtomAt μ h s q x) → is_repeatable h.flags a.tree ≡ true → Rest μ (past_groups (group_count x) h) v g w ys →
     Rest μ h s g w (quantified_tree possessive x lo hi greedy ∷ ys)
-lead_quantified μ h s q v w g x ys possessive lo hi greedy o b c r m a k =
-    let e = stays_repeatable μ s h.flags h.opened a.tree x a.becomes r in
+lead_quantified μ h s q v w g x ys possessive lo hi greedy o b c m a e k =
     lead_piece μ h s v w g (quantified_tree possessive a.tree lo hi greedy)
     (quantified_tree possessive x lo hi greedy) ys b
     (solid_quantified possessive x lo hi greedy) (over_quantified μ s possessive h.opened a.tree x lo hi greedy a.becomes)

@@ -1,4 +1,9 @@
 -- Quantifiers: a Repeat, and a possessive one, read back where the tree below does.
+use Rattle.std.proofs.lemmas.Bool.{true≢false}
+use Rattle.fancy_grammar.proofs.Pattern.Becomes.{stays_repeatable}
+use Rattle.fancy_grammar.proofs.Pattern.Induction.{by_left}
+use Rattle.fancy_grammar.proofs.Pattern.Quantifiers.{NoName}
+use Rattle.fancy_grammar.proofs.Pattern.Rules.{Follows}
 use Rattle.std.proofs.Common.{◌≡◌, ℕ, zero, ◌+◌, ◌-◌, ◌^◌, ◌<◌, Bool, true, false, not, ◌&&◌, ◌||◌, nat_lt}
 use Rattle.std.proofs.Common.{◌∷◌, ◌++◌, codes, refl, sym, ap, ◌∙◌, subst, append_assoc, min}
 use Rattle.std.proofs.Common.{if◌then◌else◌}
@@ -60,16 +65,30 @@ module _ (μ : Marks) where
   module _ (t : Tree) (lo hi : ℕ) (greedy : Bool) (low : lo < 2 ^ 64) (high : hi < 2 ^ 64) where
     -- an atom and its quantifier, where no flag is to be set
     module _ (possessive : Bool) (i : Here) (o : i.flags.oniguruma_mode ≡ false)
-        (rep : is_repeatable i.flags t ≡ true) (none : settled i.flags t ≡ i.flags) (r : ReadsTree μ t i)
+        (rep : μ.numbered_groups_ignored ≡ false → is_repeatable i.flags t ≡ true) (none : settled i.flags t ≡ i.flags) (r : ReadsTree μ t i)
         (d : Fits t (Operand zero) i) where
       abbrev mark : Text
       mark = quantifier_text i.flags possessive false lo hi greedy
+
+      -- what is not repeatable stands in a group without a number
+      ignored : is_repeatable i.flags t ≡ false → μ.numbered_groups_ignored ≡ true
+      ignored e = by_left μ.numbered_groups_ignored (λ n. sym (rep n) ∙ e)
+
+      operand_begins : (b : Bool) → is_repeatable i.flags t ≡ b → BeginsHere i (written μ t (Operand zero) i)
+      operand_begins true e = r.atom_begins d e
+      operand_begins false e = (r.bare d e (ignored e)).0
+
+      operand_reads : (b : Bool) → is_repeatable i.flags t ≡ b → (v : Text) → NoName i.flags.ignore_space v →
+          Follows μ t v → (a : AtomAt μ i (written μ t (Operand zero) i ++ v) v t) × (is_repeatable i.flags a.tree ≡ true)
+      operand_reads true e v n y =
+          let a = r.atom d e none v n y in (a, stays_repeatable μ _ i.flags i.opened a.tree t a.becomes e)
+      operand_reads false e v n y = let a = (r.bare d e (ignored e)).1 none v in (a.atom, a.repeatable)
 
       quantified_begins : BeginsHere i (repeated possessive t lo hi greedy (written μ t) Whole i)
       quantified_begins v =
           subst (λ w. Begins i.flags.ignore_space (w ++ v)) (sym (repeated_is possessive t lo hi greedy i o))
           (subst (Begins i.flags.ignore_space) (sym (append_assoc (written μ t (Operand zero) i) mark v))
-          (r.atom_begins d rep (mark ++ v)))
+          (operand_begins (is_repeatable i.flags t) refl (mark ++ v)))
 
       quantified_leads : LeadsTo μ (quantified_tree possessive t lo hi greedy) i
           (repeated possessive t lo hi greedy (written μ t) Whole i)
@@ -77,15 +96,16 @@ module _ (μ : Marks) where
           let counted = text_counted i.flags possessive lo hi greedy v o low high in
           let x = quantified_tree possessive t lo hi greedy in
           let s = written μ t (Operand zero) i in
+          let a = operand_reads (is_repeatable i.flags t) refl (mark ++ v) counted.no_name (λ _. counted.no_digit) in
           subst (λ z. Rest μ i (z ++ v) k w (x ∷ ys)) (sym (repeated_is possessive t lo hi greedy i o))
           (subst (λ z. Rest μ i z k w (x ∷ ys)) (sym (append_assoc s mark v))
           (lead_quantified μ i (s ++ (mark ++ v)) (mark ++ v) v w k t ys possessive lo hi greedy o
-          (r.atom_begins d rep (mark ++ v)) c rep counted
-          (r.atom d rep none (mark ++ v) counted.no_name (λ _. counted.no_digit))
+          (operand_begins (is_repeatable i.flags t) refl (mark ++ v)) c counted a.0 a.1
           (subst (λ n. Rest μ (past_groups n i) v k w ys) (same_count possessive t lo hi greedy) q)))
 
     -- a Repeat is all that stands in a group
-    repeat_whole : (i : Here) (o : i.flags.oniguruma_mode ≡ false) (rep : is_repeatable i.flags t ≡ true)
+    repeat_whole : (i : Here) (o : i.flags.oniguruma_mode ≡ false)
+        (rep : μ.numbered_groups_ignored ≡ false → is_repeatable i.flags t ≡ true)
         (none : settled i.flags t ≡ i.flags) (r : ReadsTree μ t i) (d : Fits t (Operand zero) i) (v : Text) → Ends i.flags.ignore_space v →
         WholeAt μ i (repeated false t lo hi greedy (written μ t) Whole i ++ v) i.flags v
         (over (label.repeat lo hi greedy) t)
@@ -96,13 +116,13 @@ module _ (μ : Marks) where
         (quantified_leads false i o rep none r d) v e.stops refl) e.no_bar
 
     module _ (h : Here) (o : h.flags.oniguruma_mode ≡ false)
-        (rep : is_repeatable h.flags t ≡ true) (r : ReadsTree μ t (under (settled h.flags t) h))
+        (rep : μ.numbered_groups_ignored ≡ false → is_repeatable h.flags t ≡ true) (r : ReadsTree μ t (under (settled h.flags t) h))
         (r1 : ReadsTree μ t (deeper (under (settled h.flags t) h))) where
       abbrev here : Here
       here = under (settled h.flags t) h
 
-      repeatable_here : is_repeatable here.flags t ≡ true
-      repeatable_here = like_repeatable t here.flags h.flags refl ∙ rep
+      repeatable_here : μ.numbered_groups_ignored ≡ false → is_repeatable here.flags t ≡ true
+      repeatable_here n = like_repeatable t here.flags h.flags refl ∙ rep n
 
       -- where the tree fits under its quantifier, whose room is none
       roomless : (i : Here) → i.flags.oniguruma_mode ≡ false → Fits t (Operand (room Whole i)) i →
@@ -141,7 +161,9 @@ module _ (μ : Marks) where
           (λ d _. operand x (in_head (codes "?:")) refl refl
           (λ v k _. subst (λ w. AtomAt μ here w v x) (sym (same v))
           (reads_scope μ here here.flags here.flags _ (inside v) v x (plain_scope_at h.depth here.flags (inside v) d.1.0)
-          (repeat_whole (deeper here) o repeatable_here again r1 (roomless (deeper here) o d.1.1) (code ")" ∷ v) (ends_close h.flags.ignore_space v)))))
+          (repeat_whole (deeper here) o repeatable_here again r1 (roomless (deeper here) o d.1.1) (code ")" ∷ v)
+          (ends_close h.flags.ignore_space v)))))
+          (λ _ e. absurd (true≢false e))
 
       -- a possessive quantifier
       pub possessive_reads : ReadsTree μ (over label.atomic_group (over (label.repeat lo hi greedy) t)) h
@@ -174,4 +196,6 @@ module _ (μ : Marks) where
           (λ v k _. subst (λ w. AtomAt μ here w v x) (sym (same v))
           (reads_atomic μ here here.flags _ (inside v) v (over (label.repeat lo hi greedy) t)
           (question_at h.depth here.flags (codes ">" ++ inside v) d.1.0)
-          (repeat_whole (deeper here) o repeatable_here again r1 (roomless (deeper here) o d.1.1) (code ")" ∷ v) (ends_close h.flags.ignore_space v))))))
+          (repeat_whole (deeper here) o repeatable_here again r1 (roomless (deeper here) o d.1.1) (code ")" ∷ v)
+          (ends_close h.flags.ignore_space v)))))
+          (λ _ e. absurd (true≢false e)))

@@ -5,7 +5,7 @@ use Rattle.std.proofs.lemmas.Bool.{cond_both, and_parts, false≢true}
 use Prim.Native.Char.{code}
 use Rattle.fancy_lex.specs.Text.{Text}
 use Rattle.fancy_lex.specs.declared.flags.Flags.{Flags}
-use Rattle.fancy_grammar.specs.Join.{is_empty, one_or, choice}
+use Rattle.fancy_grammar.specs.Join.{one_or, choice}
 use Rattle.fancy_grammar.specs.Label as label
 use Rattle.fancy_grammar.specs.Marks.{Marks}
 use Rattle.fancy_grammar.specs.Pattern.{Here, behind, flags_behind, flags_behind_all, written}
@@ -134,7 +134,7 @@ module _ (μ : Marks) (f : Flags) (mode : f.oniguruma_mode ≡ false) where
       let x = row label.concat ts in
       let j = inner (settled h.flags x) h in
       let is : one_or concat (list_of ts) ≡ x = ap (row label.concat) (two_listed t u us) in
-      by_branch μ x h (same_mode h.flags e) refl (Fits x Whole h) (FitAll ts Piece) (written_all μ false ts h)
+      by_branch μ x h (same_mode h.flags e) refl refl (Fits x Whole h) (FitAll ts Piece) (written_all μ false ts h)
       (written_all μ false ts j) (flags_behind_all ts Piece h.flags) (flags_behind_all ts Piece j.flags) (list_of ts) is
       (pieces_begin t (more_trees u us) h k e) (pieces_rest ts h k e)
       (λ d v i. reads_only μ j _ v (flags_behind_all ts Piece j.flags) x
@@ -200,7 +200,7 @@ module _ (μ : Marks) (f : Flags) (mode : f.oniguruma_mode ≡ false) where
       let ts = more_trees t (more_trees u us) in
       let x = row label.alt ts in
       let j = inner (settled h.flags x) h in
-      by_whole μ x h (same_mode h.flags e) refl (Fits x Whole h) (FitAll ts Branch) (written_branches μ ts h)
+      by_whole μ x h (same_mode h.flags e) refl refl (Fits x Whole h) (FitAll ts Branch) (written_branches μ ts h)
       (written_branches μ ts j) (flags_behind_all ts Branch h.flags) (flags_behind_all ts Branch j.flags)
       (branches_clear t (more_trees u us) h k e)
       (alt_whole t u us h k e)

@@ -37,7 +37,7 @@ use Rattle.fancy_grammar.proofs.ReadAsLaws.{read_as}
 use Rattle.fancy_grammar.proofs.Pattern.Absent.{repeater_reads, stopper_reads, expression_reads}
 use Rattle.fancy_grammar.proofs.Pattern.Becomes.{Becomes, opened, AreGroups, IsOpening, count_behind}
 use Rattle.fancy_grammar.specs.Writable.{numbers_told}
-use Rattle.std.proofs.Common.{Some, not}
+use Rattle.std.proofs.Common.{Some}
 use Rattle.fancy_parts.specs.Ranks.{is_counted, numbered_openings_in}
 use Rattle.fancy_grammar.specs.Resolved.{first_fault, resolved_in}
 use Rattle.fancy_grammar.specs.Items.{meanings_in}
@@ -77,21 +77,21 @@ module _ (μ : Marks) where
       reads (over (label.repeat lo hi greedy) t) h k e =
           let i = under (settled h.flags t) h in
           repeat_reads μ t lo hi greedy k.2 k.3 h (same_mode μ f mode h.flags e)
-          (like_repeatable μ t h.flags f (ap (λ j. j.oniguruma_mode) e) ∙ k.1)
+          (λ n. like_repeatable μ t h.flags f (ap (λ j. j.oniguruma_mode) e) ∙ k.1 n)
           (reads t i k.0 e) (reads t (deeper i) k.0 e)
       reads (over label.group t) h k e =
           group_reads μ t h (same_mode μ f mode h.flags e) (names (h.opened + 1)) k.0
           (reads t (deeper (past_groups 1 (under (settled h.flags t) h))) k.1 e)
       reads (over (label.look_around l) t) h k e =
-          look_reads μ t h (same_mode μ f mode h.flags e) l
-          (reads t (deeper (under (settled h.flags t) h)) k e)
+          let i = deeper (under (settled h.flags t) h) in
+          look_reads μ t h (same_mode μ f mode h.flags e) l (reads t i k e) (reads t (deeper i) k e)
       reads (over label.define_group t) h k e =
           define_reads μ t h (same_mode μ f mode h.flags e)
           (reads t (deeper (under (settled h.flags t) h)) k e)
       reads (over label.atomic_group (over (label.repeat lo hi greedy) t)) h k e =
           let i = under (settled h.flags t) h in
           possessive_reads μ t lo hi greedy k.2 k.3 h (same_mode μ f mode h.flags e)
-          (like_repeatable μ t h.flags f (ap (λ j. j.oniguruma_mode) e) ∙ k.1)
+          (λ n. like_repeatable μ t h.flags f (ap (λ j. j.oniguruma_mode) e) ∙ k.1 n)
           (reads t i k.0 e) (reads t (deeper i) k.0 e)
       reads (over label.atomic_group (leaf l)) h k e =
           atomic_reads (leaf l) refl h (same_mode μ f mode h.flags e)
