@@ -39,7 +39,8 @@ use Rattle.fancy_lex.specs.declared.flags.Flags.{Flags}
 use Rattle.fancy_lex.proofs.LoneLemmas.{AtRows, of_lone}
 use Rattle.fancy_lex.proofs.ReadingLemmas.{choose_both}
 use Rattle.fancy_parts.specs.FlagLetters.{Letters, setting, scope, with_letter, LetterStep, flags_end, flags_go_on}
-use Rattle.fancy_parts.specs.LetterSteps.{letters, letters_in, step, flag_or_fault, behind_step, is_first, is_behind_minus}
+use Rattle.fancy_parts.specs.LetterSteps.{letters, letters_in, step, flag_or_fault, behind_step, is_first}
+use Rattle.fancy_parts.specs.LetterSteps.{is_behind_minus}
 use Rattle.std.proofs.Math.Bool.{beq}
 use Rattle.fancy_grammar.specs.Ahead.{leaf_node, start_anchor, end_anchor}
 use Rattle.fancy_grammar.specs.Label.{AstReference, ast_call}
@@ -315,7 +316,8 @@ module _ (f : Flags) (o : f.oniguruma_mode ≡ false) where
   unfolding property
   told_property p c [] = tt
   told_property p c (d ∷ t) =
-      choose_both (Gives (IsTold f)) (read_property (c ∈ "P") (d ∷ t)) _ _ (λ q _. delegate_suits f (property_text f.unicode false q.0) f.casei refl) tt
+      choose_both (Gives (IsTold f)) (read_property (c ∈ "P") (d ∷ t)) _ _
+      (λ q _. delegate_suits f (property_text f.unicode false q.0) f.casei refl) tt
 
   boundary_suits : (negated : Bool) (w : Text) →
       IfSome (boundaries.boundary_of_name negated w) (λ a. Suits f (leaf (label.assertion a)))
@@ -377,7 +379,8 @@ module _ (f : Flags) (o : f.oniguruma_mode ≡ false) where
   outside_rows : (c : ℕ) → AtRows (IsTold f) c (lone_outside f c)
   outside_rows c =
       let last = λ (a : Assertion) (k : Suits f (leaf (label.assertion a))).
-      cond_both f.oniguruma_mode (escaped.literal c false) (escaped.assertion a) (IsTold f) (λ e. absurd (false≢true (sym o ∙ e))) (λ _. k) in (
+      cond_both f.oniguruma_mode (escaped.literal c false) (escaped.assertion a) (IsTold f)
+      (λ e. absurd (false≢true (sym o ∙ e))) (λ _. k) in (
         λ _. none_met f,
         (
           λ _. none_met f,
