@@ -15,7 +15,7 @@ pub mod Names
 pub mod References
 pub mod Unresolved
 pub mod Conditions
-pub mod Sources
+pub mod Source
 -- ---- quantifiers
 pub mod Quantifiers
 -- ---- the induction

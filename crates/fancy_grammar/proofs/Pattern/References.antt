@@ -154,7 +154,7 @@ behind_backslash : (w t : Text) →
 unfolding lib.Utf8.encode bytes
 behind_backslash w t = byte_before w t backslash refl (omega arith)
 
-behind_letter : (w t : Text) →
+pub behind_letter : (w t : Text) →
     is_behind_backslash (w ++ code "k" ∷ t) (place_at (bytes (w ++ code "k" ∷ t)) (reach_of t)) ≡ false
 unfolding lib.Utf8.encode bytes
 behind_letter w t = byte_before w t (code "k") refl (omega arith)

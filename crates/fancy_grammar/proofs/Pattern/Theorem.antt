@@ -166,7 +166,7 @@ module _ (μ : Marks) where
 -- ---- the marks of a tree
 
 -- an opening without its reach, of which marks say nothing
-abbrev unreached : Opening → Opening
+abbrev pub unreached : Opening → Opening
 unreached o = record { reach = 0; name = o.name }
 
 told_openings : (μ : Marks) (s : Text) (c : ℕ) (l : List Item) → AreGroups μ s c l →
@@ -181,17 +181,17 @@ unreached_names : (l : List Opening) → filter_map (λ o. o.name) (map unreache
 unreached_names [] = refl
 unreached_names (o ∷ l) = ap (cons_option o.name) (unreached_names l)
 
-unreached_numbers : (n : ℕ) (w : Text) (l : List Opening) → numbers_from n w (map unreached l) ≡ numbers_from n w l
+pub unreached_numbers : (n : ℕ) (w : Text) (l : List Opening) → numbers_from n w (map unreached l) ≡ numbers_from n w l
 unreached_numbers n w [] = refl
 unreached_numbers n w (o ∷ l) =
     ap (λ k. if is_name w o.name then (n + 1) ∷ k else k) (unreached_numbers (n + 1) w l)
 
-unreached_groups : (l : List Opening) → named_groups (map unreached l) ≡ named_groups l
+pub unreached_groups : (l : List Opening) → named_groups (map unreached l) ≡ named_groups l
 unreached_groups l =
     ap (λ k. map (λ t. (t, numbers t (map unreached l))) (fold (insert_key name_cmp) [] k)) (unreached_names l)
     ∙ (λ i. map (λ t. (t, unreached_numbers 0 t l i)) (names l))
 
-unreached_named : (f : Flags) (l : List Opening) → only_named f (map unreached l) ≡ only_named f l
+pub unreached_named : (f : Flags) (l : List Opening) → only_named f (map unreached l) ≡ only_named f l
 unreached_named f l = ap (λ b. f.ignore_numbered_groups && b) (each l)
   where
     each : (l : List Opening) → list_any is_named (map unreached l) ≡ list_any is_named l
@@ -202,7 +202,7 @@ unreached_counted : (named : Bool) (l : List Opening) → AreCounted named (map 
 unreached_counted named [] h = tt
 unreached_counted named (o ∷ l) h = (h.0, unreached_counted named l h.1)
 
-length_told : (μ : Marks) (c n : ℕ) → length (openings_told μ c n) ≡ n
+pub length_told : (μ : Marks) (c n : ℕ) → length (openings_told μ c n) ≡ n
 length_told μ c zero = refl
 length_told μ c (suc n) = ap suc (length_told μ (c + 1) n)
 
