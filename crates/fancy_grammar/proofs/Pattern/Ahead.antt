@@ -90,7 +90,8 @@ module _ (d : ℕ) (s : State) (o : s.flags.oniguruma_mode ≡ false) where
 
     flags_tell : (f : Flags) → f.oniguruma_mode ≡ false → (q : Reading Letters) → IfGives (IsModeOf f) q →
         AheadTells d s (flags_ahead q)
-    flags_tell f m (gives (setting g) u) h = open_leaf label.empty (record { flags = g; rest = u }) (ap (λ k. k.oniguruma_mode) h ∙ m)
+    flags_tell f m (gives (setting g) u) h =
+        open_leaf label.empty (record { flags = g; rest = u }) (ap (λ k. k.oniguruma_mode) h ∙ m)
     flags_tell f m (gives (scoped g) u) h = ap (λ k. k.oniguruma_mode) h ∙ m
     flags_tell f m (fails e) h = tt
 

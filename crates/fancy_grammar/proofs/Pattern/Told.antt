@@ -179,7 +179,8 @@ module _ (f : Flags) (o : f.oniguruma_mode ≡ false) where
   told_coded width h v u =
       cond_both (width == 2 && not f.unicode && nat_le 0x80 v && nat_le v 0xFF) _ _ (IfGives (IsTold f))
       (λ _. none_met f)
-      (λ _. cond_both (hexes.is_scalar v) _ _ (IfGives (IsTold f)) (λ _. literal_suits f (v ∷ []) f.casei refl) (λ _. tt))
+      (λ _. cond_both (hexes.is_scalar v) _ _ (IfGives (IsTold f)) (λ _. literal_suits f (v ∷ []) f.casei refl)
+      (λ _. tt))
 
   told_hex : (width : ℕ) (t : Text) → IfGives (IsTold f) (hexes.hex f width t)
   unfolding hexes.hex
@@ -241,16 +242,11 @@ module _ (f : Flags) (o : f.oniguruma_mode ≡ false) where
       cond_both (c ∈ "bB") _ _ P (λ _. told_boundary p _ t) (λ _. tt)))
 
   anywhere_rows : (c : ℕ) → AtRows (IsTold f) c (lone_anywhere f c)
-  anywhere_rows c = (
-    λ _. delegate_suits f (backslash ∷ c ∷ []) f.casei refl,
-    (
-      λ _. none_met f,
-      (
-        λ _. none_met f,
-        (λ _. none_met f, (λ _. none_met f, (λ _. none_met f, (λ _. none_met f, (λ _. none_met f, (λ _. none_met f, (λ _. none_met f, tt))))))),
-      ),
-    ),
-  )
+  anywhere_rows c =
+      let e = none_met f in (
+        λ _. delegate_suits f (backslash ∷ c ∷ []) f.casei refl,
+        (λ _. e, (λ _. e, (λ _. e, (λ _. e, (λ _. e, (λ _. e, (λ _. e, (λ _. e, (λ _. e, tt))))))))),
+      )
 
   outside_rows : (c : ℕ) → AtRows (IsTold f) c (lone_outside f c)
   outside_rows c =
