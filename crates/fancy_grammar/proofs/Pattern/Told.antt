@@ -1,0 +1,299 @@
+-- What is read without parentheses suits the flags that hold there.
+use Rattle.std.proofs.Common.{◌≡◌, ℕ, ◌+◌, Bool, true, false, not, ◌&&◌, ◌==◌, [], ◌∷◌, codes}
+use Rattle.std.proofs.Common.{Option, Some, None, IfSome, refl, sym, ap, ◌∙◌, subst, nat_le}
+use Rattle.std.specs.Prelude.{option_map, nat_eq}
+use Rattle.std.specs.Option.{option_and_then}
+use Rattle.std.specs.Str.{bytes_eq}
+use Rattle.std.specs.List.{starts_with, list_all}
+use Rattle.std.specs.Char.{is_ascii_digit}
+use Rattle.std.proofs.lemmas.Bool.{cond_both, cond-true, false≢true}
+use Prim.Native.Char.{code}
+use Rattle.fancy_lex.specs.Boundary as boundaries
+use Rattle.fancy_lex.specs.BoundarySteps as boundary_steps
+use Rattle.fancy_lex.specs.Characters.{open_brace, backslash, ◌∈◌, is_among}
+use Rattle.fancy_lex.specs.Delimited.{marked_name, of_name}
+use Rattle.fancy_lex.specs.Escape.{escape, escape_at, number_escape, call_escape, backref_leaf, property}
+use Rattle.fancy_lex.specs.Escape.{outside, lone_escape, lone_anywhere, lone_outside}
+use Rattle.fancy_lex.specs.EscapeReference.{group_number, numbered_reference, back_reference, subroutine_call}
+use Rattle.fancy_lex.specs.EscapeReference.{numbered_call, marked_call, written_call, call_target, is_relative}
+use Rattle.fancy_lex.specs.EscapeReference.{relative_target}
+use Rattle.fancy_lex.specs.Escaped.{Escape, hex_class, negated_hex_class}
+use Rattle.fancy_lex.specs.Escaped as escaped
+use Rattle.fancy_lex.specs.Hex as hexes
+use Rattle.fancy_lex.specs.IdReference.{IdReference, id_alone, id_and_amount, amount_alone, id_reference}
+use Rattle.fancy_lex.specs.FaultTable.{name_of_no_boundary}
+use Rattle.fancy_lex.specs.LayoutSteps.{layout}
+use Rattle.fancy_lex.specs.Number.{at_digit}
+use Rattle.fancy_lex.specs.NumberText.{number_text}
+use Rattle.fancy_lex.specs.Property.{read_property, property_text}
+use Rattle.fancy_lex.specs.Reading.{Reading, gives, fails, layout_reading, choose}
+use Rattle.fancy_lex.specs.Referred.{Reference, Call, call_to, target_of_name, number_or_name, name_reading}
+use Rattle.fancy_lex.specs.Target.{Target, by_name}
+use Rattle.fancy_lex.specs.Text.{Text, strip, reach_of}
+use Rattle.fancy_lex.specs.declared.escape.Assertion.{Assertion}
+use Rattle.fancy_lex.specs.declared.escape.Assertion.TheVariants.{LeftWordBoundary, RightWordBoundary}
+use Rattle.fancy_lex.specs.declared.flags.Flags.{Flags}
+use Rattle.fancy_lex.proofs.LoneLemmas.{AtRows, of_lone}
+use Rattle.fancy_lex.proofs.ReadingLemmas.{choose_both}
+use Rattle.fancy_lex.proofs.ReferencePlaces.{IfGives}
+use Rattle.std.proofs.Math.Bool.{beq}
+use Rattle.fancy_grammar.specs.Ahead.{leaf_node, start_anchor, end_anchor}
+use Rattle.fancy_grammar.specs.Label.{AstReference, ast_call}
+use Rattle.fancy_grammar.specs.Label as label
+use Rattle.fancy_grammar.specs.PatternNeeds.{is_hex_class, is_kept_by_backslash}
+use Rattle.fancy_grammar.specs.PatternReference.{unresolved_text}
+use Rattle.fancy_grammar.specs.Tree.{leaf}
+use Rattle.fancy_grammar.specs.Writable.{IsNameWritable}
+use Rattle.fancy_grammar.proofs.Parsed.Readers.{gives_both, gives_after}
+use Rattle.fancy_grammar.proofs.Parsed.Targets.{IfNamed, marked_writable}
+use Rattle.fancy_grammar.proofs.Pattern.Suited.{AreMet, none_met, Suits}
+
+-- ---- leaves with the case of the flags
+
+module _ (f : Flags) where
+  pub literal_suits : (s : Text) (b : Bool) → b ≡ f.casei → Suits f (leaf (label.literal s b))
+  literal_suits s true e = record { casei = e; multi = tt; dotnl = tt; crlf = tt }
+  literal_suits s false e =
+      cond_both (list_all (is_kept_by_backslash false) s) _ _ (λ n. AreMet n f) (λ _. none_met f)
+      (λ _. record { casei = e; multi = tt; dotnl = tt; crlf = tt })
+
+  pub delegate_suits : (s : Text) (b : Bool) → b ≡ f.casei → Suits f (leaf (label.delegate s b))
+  delegate_suits s true e = record { casei = e; multi = tt; dotnl = tt; crlf = tt }
+  delegate_suits s false e =
+      cond_both (is_hex_class s) _ _ (λ n. AreMet n f) (λ _. none_met f)
+      (λ _. record { casei = e; multi = tt; dotnl = tt; crlf = tt })
+
+  pub dot_suits : Suits f (leaf (label.any f.dotnl f.crlf))
+  dot_suits =
+      cond_both (beq f.dotnl f.crlf) _ _ (λ n. AreMet n f) (λ _. none_met f)
+      (λ _. record { casei = tt; multi = tt; dotnl = refl; crlf = refl })
+
+  module _ (o : f.oniguruma_mode ≡ false) where
+    pub start_suits : Suits f (leaf (label.assertion (start_anchor f)))
+    start_suits =
+        let P = λ (a : Assertion). Suits f (leaf (label.assertion a)) in
+        cond_both f.multi _ _ P
+        (λ e. cond_both f.oniguruma_mode _ _ P (λ k. absurd (false≢true (sym o ∙ k)))
+        (λ _. record { casei = tt; multi = sym e; dotnl = tt; crlf = refl })) (λ _. none_met f)
+
+    pub end_suits : Suits f (leaf (label.assertion (end_anchor f)))
+    end_suits =
+        cond_both f.multi _ _ (λ a. Suits f (leaf (label.assertion a)))
+        (λ e. record { casei = tt; multi = sym e; dotnl = tt; crlf = refl }) (λ _. none_met f)
+
+-- ---- calls between marks have a name that is written so
+
+-- the call is not written as a group
+abbrev pub IsBare : Target → Type 0
+IsBare g = starts_with nat_eq (unresolved_text (ast_call g)) (codes "(") ≡ false
+
+bare_name : (w : Text) → is_relative w ≡ false → IsNameWritable w → IsBare (by_name w)
+bare_name [] r h = absurd h
+bare_name (c ∷ w) r h =
+    let P = λ (t : Text). starts_with nat_eq t (codes "(") ≡ false in
+    let angle = is_among (code ">") (c ∷ w) in
+    let quote = is_among (code "'") (c ∷ w) in
+    cond_both (is_relative (c ∷ w)) _ _ P (λ e. absurd (false≢true (sym r ∙ e))) (λ _.
+    cond_both (not angle) _ _ P (λ _. refl) (λ e.
+    cond_both (not quote) _ _ P (λ _. refl) (λ k. absurd (false≢true (sym h ∙ both angle quote e k)))))
+  where
+    both : (a b : Bool) → not a ≡ false → not b ≡ false → (a && b) ≡ true
+    both true true e k = refl
+    both true false e k = absurd cc
+    both false b e k = absurd cc
+
+bare_target : (w : Text) → IsNameWritable w → IfSome (call_target w) IsBare
+unfolding call_target target_of_name
+bare_target w h =
+    let P = λ (o : Option Target). IfSome o IsBare in
+    cond_both (is_relative w) _ _ P (λ _. of_amount (id_reference true w)) (λ e. of_number e (number_text w))
+  where
+    of_amount : (o : Option IdReference) → IfSome (option_and_then relative_target o) IsBare
+    of_amount None = tt
+    of_amount (Some (amount_alone z)) = refl
+    of_amount (Some (id_alone v)) = tt
+    of_amount (Some (id_and_amount v z)) = tt
+
+    of_number : is_relative w ≡ false → (o : Option ℕ) → IsBare (number_or_name w o)
+    of_number e (Some n) = refl
+    of_number e None = bare_name w e h
+
+bare_written : (p : ℕ) (w : Text) → IsNameWritable w → IfSome (written_call p w) (λ c. IsBare c.target)
+unfolding written_call
+bare_written p w h = seen (call_target w) (bare_target w h)
+  where
+    seen : (o : Option Target) → IfSome o IsBare → IfSome (option_map (call_to p) o) (λ c. IsBare c.target)
+    seen None k = tt
+    seen (Some g) k = k
+
+bare_marked : (p : ℕ) (t : Text) → IfSome (marked_call p t) (λ q. IsBare (q.0).target)
+unfolding marked_call
+bare_marked p t = by_name_of (marked_name t) (marked_writable t)
+  where
+    seen : (u : Text) (o : Option Call) → IfSome o (λ c. IsBare c.target) →
+        IfSome (option_map (λ a. (a, u)) o) (λ (q : Call × Text). IsBare (q.0).target)
+    seen u None k = tt
+    seen u (Some c) k = k
+
+    by_name_of : (o : Option (Text × Text)) → IfNamed o →
+        IfSome (of_name (written_call p) o) (λ (q : Call × Text). IsBare (q.0).target)
+    by_name_of None h = tt
+    by_name_of (Some (w, u)) h = seen u (written_call p w) (bare_written p w h)
+
+bare_call : (t : Text) → IfGives (λ c. IsBare c.target) (subroutine_call t)
+unfolding subroutine_call numbered_call
+bare_call t =
+    let P = IfGives (λ (c : Call). IsBare c.target) in
+    cond_both (at_digit t) _ _ P (λ _. gives_after (λ (c : Call). IsBare c.target) (group_number t) _ (λ k u. refl))
+    (λ _. read_so (marked_call (reach_of t) t) (bare_marked (reach_of t) t))
+  where
+    read_so : (o : Option (Call × Text)) → IfSome o (λ q. IsBare (q.0).target) →
+        IfGives (λ c. IsBare c.target) (name_reading (reach_of t) o)
+    read_so None h = tt
+    read_so (Some q) h = h
+
+-- ---- escapes
+
+-- a back reference has the case of the flags, a call is bare, and any other leaf suits them
+abbrev pub IsTold : Flags → Escape → Type 0
+IsTold f (escaped.backref r casei) = casei ≡ f.casei
+IsTold f (escaped.subroutine_call c) = IsBare c.target
+IsTold f e = Suits f (leaf_node e)
+
+module _ (f : Flags) (o : f.oniguruma_mode ≡ false) where
+  told_backref : (q : Reading Reference) → IfGives (IsTold f) (backref_leaf f q)
+  told_backref q = gives_after (IsTold f) q _ (λ r u. refl)
+
+  told_number : (p : ℕ) (t : Text) → IfGives (IsTold f) (number_escape f false p t)
+  unfolding number_escape
+  told_number p t = told_backref (numbered_reference t)
+
+  told_call : (p c : ℕ) (t : Text) → IfGives (IsTold f) (call_escape p c t)
+  unfolding call_escape
+  told_call p c [] = tt
+  told_call p c (d ∷ t) =
+      gives_both (λ (c : Call). IsBare c.target) (IsTold f) (subroutine_call (d ∷ t)) _ (bare_call (d ∷ t)) (λ a u h. h)
+
+  told_coded : (width h v : ℕ) (u : Text) → IfGives (IsTold f) (hexes.leaf_of_value f width h v u)
+  unfolding hexes.leaf_of_value
+  told_coded width h v u =
+      cond_both (width == 2 && not f.unicode && nat_le 0x80 v && nat_le v 0xFF) _ _ (IfGives (IsTold f))
+      (λ _. none_met f)
+      (λ _. cond_both (hexes.is_scalar v) _ _ (IfGives (IsTold f)) (λ _. literal_suits f (v ∷ []) f.casei refl)
+      (λ _. tt))
+
+  told_hex : (width : ℕ) (t : Text) → IfGives (IsTold f) (hexes.hex f width t)
+  unfolding hexes.hex
+  told_hex width t =
+      gives_after (IsTold f) (layout_reading (layout f.ignore_space t)) _
+      (λ _ u. gives_after (IsTold f) (hexes.value f.ignore_space (reach_of u) width u) _
+      (λ v w. told_coded width (reach_of u) v w))
+
+  told_property : (p c : ℕ) (t : Text) → IfGives (IsTold f) (property f false p c t)
+  unfolding property
+  told_property p c [] = tt
+  told_property p c (d ∷ t) =
+      choose_both (IfGives (IsTold f)) (read_property (c ∈ "P") (d ∷ t)) _ _
+      (λ q _. delegate_suits f (property_text f.unicode false q.0) f.casei refl) tt
+
+  boundary_suits : (negated : Bool) (w : Text) →
+      IfSome (boundaries.boundary_of_name negated w) (λ a. Suits f (leaf (label.assertion a)))
+  boundary_suits true w = tt
+  boundary_suits false w =
+      let P = λ (o : Option Assertion). IfSome o (λ a. Suits f (leaf (label.assertion a))) in
+      cond_both (bytes_eq w (codes "start")) _ _ P (λ _. none_met f) (λ _.
+      cond_both (bytes_eq w (codes "end")) _ _ P (λ _. none_met f) (λ _.
+      cond_both (bytes_eq w (codes "start-half")) _ _ P (λ _. none_met f) (λ _.
+      cond_both (bytes_eq w (codes "end-half")) _ _ P (λ _. none_met f) (λ _. tt))))
+
+  unnamed_suits : (negated : Bool) → IsTold f (boundaries.unnamed_boundary negated)
+  unnamed_suits true = none_met f
+  unnamed_suits false = none_met f
+
+  told_named : (p : ℕ) (negated : Bool) (t : Text) →
+      IfGives (IsTold f) (boundary_steps.named_boundary f.ignore_space p negated t)
+  unfolding boundary_steps.named_boundary
+  told_named p negated t =
+      gives_after (IsTold f) (boundary_steps.name f.ignore_space p _ t) _
+      (λ w u. read_so u (boundaries.boundary_of_name negated w) (boundary_suits negated w) w)
+    where
+      read_so : (u : Text) (o : Option Assertion) → IfSome o (λ a. Suits f (leaf (label.assertion a))) → (w : Text) →
+          IfGives (IsTold f) (choose o (λ a. gives (escaped.assertion a) u)
+          (fails (name_of_no_boundary p negated w)))
+      read_so u None h w = tt
+      read_so u (Some a) h w = h
+
+  told_boundary : (p : ℕ) (negated : Bool) (t : Text) →
+      IfGives (IsTold f) (boundary_steps.boundary f.ignore_space p negated t)
+  unfolding boundary_steps.boundary
+  told_boundary p negated t =
+      gives_after (IsTold f) (layout_reading (layout f.ignore_space t)) _
+      (λ _ u. choose_both (IfGives (IsTold f)) (strip open_brace u) _ _
+      (λ v _. gives_after (IsTold f) (layout_reading (layout f.ignore_space v)) _
+      (λ _ w. cond_both (boundaries.at_count w) _ _ (IfGives (IsTold f)) (λ _. unnamed_suits negated)
+      (λ _. told_named p negated v))) (unnamed_suits negated))
+
+  told_outside : (p c : ℕ) (t : Text) → IfGives (IsTold f) (outside f p c t)
+  unfolding outside
+  told_outside p c t =
+      let P = IfGives (IsTold f) in
+      cond_both (c ∈ "k") _ _ P (λ _. told_backref (back_reference t)) (λ _.
+      cond_both (c ∈ "g") _ _ P (λ _. told_call p c t) (λ _.
+      cond_both (c ∈ "bB") _ _ P (λ _. told_boundary p _ t) (λ _. tt)))
+
+  anywhere_rows : (c : ℕ) → AtRows (IsTold f) c (lone_anywhere f c)
+  anywhere_rows c =
+      let e = none_met f in (
+        λ _. delegate_suits f (backslash ∷ c ∷ []) f.casei refl,
+        (λ _. e, (λ _. e, (λ _. e, (λ _. e, (λ _. e, (λ _. e, (λ _. e, (λ _. e, (λ _. e, tt))))))))),
+      )
+
+  outside_rows : (c : ℕ) → AtRows (IsTold f) c (lone_outside f c)
+  outside_rows c =
+      let last = λ (a : Assertion) (k : Suits f (leaf (label.assertion a))).
+      cond_both f.oniguruma_mode (escaped.literal c false) (escaped.assertion a) (IsTold f)
+      (λ e. absurd (false≢true (sym o ∙ e))) (λ _. k) in (
+        λ _. none_met f,
+        (
+          λ _. none_met f,
+          (
+            λ _. record { casei = tt; multi = tt; dotnl = tt; crlf = refl },
+            (
+              λ _. none_met f,
+              (
+                λ _. none_met f,
+                (
+                  λ _. none_met f,
+                  (
+                    λ _. none_met f,
+                    (
+                      λ _. none_met f,
+                      (λ _. last LeftWordBoundary (none_met f), (λ _. last RightWordBoundary (none_met f), tt)),
+                    ),
+                  ),
+                ),
+              ),
+            ),
+          ),
+        ),
+      )
+
+  told_lone : (c : ℕ) (e : Escape) → lone_escape f false c ≡ Some e → IsTold f e
+  told_lone c =
+      of_lone (IsTold f) f false c
+      (λ e. subst (λ n. AreMet n f) (sym (cond-true _ _ _ (ap (λ b. b && true) e))) (none_met f))
+      (anywhere_rows c) (outside_rows c)
+
+  -- of all that an escape stands for
+  pub told_escape : (t : Text) → IfGives (IsTold f) (escape f false t)
+  unfolding escape_at
+  told_escape [] = tt
+  told_escape (c ∷ t) =
+      let P = IfGives (IsTold f) in
+      let p = reach_of (c ∷ t) + 1 in
+      cond_both (is_ascii_digit c) _ _ P (λ _. told_number p (c ∷ t)) (λ _.
+      cond_both (c ∈ "x") _ _ P (λ _. told_hex 2 t) (λ _.
+      cond_both (c ∈ "u") _ _ P (λ _. told_hex 4 t) (λ _.
+      cond_both (c ∈ "U") _ _ P (λ _. told_hex 8 t) (λ _.
+      cond_both (c ∈ "pP") _ _ P (λ _. told_property p c t) (λ _.
+      choose_both P (lone_escape f false c) _ _ (told_lone c) (told_outside p c t))))))
