@@ -40,7 +40,7 @@ use Rattle.fancy_grammar.proofs.Pattern.Induction.{ReadsBy}
 use Rattle.fancy_grammar.proofs.Pattern.Induction.{by_atom, by_nothing}
 use Rattle.fancy_grammar.proofs.Pattern.Leaves.{LeafAt, literal_at, byte_at, keep_at, continue_at, newline_at, any_at}
 use Rattle.fancy_grammar.proofs.Pattern.Leaves.{assertion_at, verb_leaf_at, clear_at, source_at}
-use Rattle.fancy_grammar.proofs.Pattern.Needed.{settled_again, case_fits, any_fits, IsOutside}
+use Rattle.fancy_grammar.proofs.Pattern.Needed.{like_repeatable, settled_again, case_fits, any_fits, IsOutside}
 use Rattle.fancy_grammar.proofs.Pattern.Needed.{assertion_fits}
 use Rattle.fancy_grammar.proofs.Pattern.Rules.{Clear, Begins, begins_by, no_question, ends_close, AtomAt}
 use Rattle.fancy_grammar.proofs.ReadBack.ClearLemmas.{not_asking}
@@ -61,15 +61,6 @@ module _ (μ : Marks) where
 
   -- ---- leaves
 
-  pub same_repeatable : (l : Leaf) (f g : Flags) → f.oniguruma_mode ≡ g.oniguruma_mode →
-      is_repeatable f (leaf l) ≡ is_repeatable g (leaf l)
-  same_repeatable (label.assertion a) f g e = ap not e
-  same_repeatable label.empty f g e = refl
-  same_repeatable label.keep_out f g e = refl
-  same_repeatable label.continue_from_previous_match_end f g e = refl
-  same_repeatable (label.verb v) f g e = refl
-  same_repeatable _ f g e = refl
-
   -- where a leaf fits, alone and under a quantifier
   abbrev FitsAlone : Leaf → Here → Type 0
   FitsAlone l h = FitsAfterSetting (leaf l) (MayOpenIf (is_in_parens l)) h
@@ -87,7 +78,8 @@ module _ (μ : Marks) where
       (MayOpenIf (is_in_parens l) h →
       LeafAt μ (under (settled h.flags (leaf l)) h) (leaf_text μ l (under (settled h.flags (leaf l)) h)) l) →
       BareLeaf l h →
-      ReadsBy μ (leaf l) h (FitsAlone l h) (FitsAlone l h) (FitsAlone l h) (FitsUnder l h) (after_setting (leaf l) (leaf_text μ l) h) (after_setting (leaf l) (leaf_text μ l) h)
+      ReadsBy μ (leaf l) h (FitsAlone l h) (FitsAlone l h) (FitsAlone l h) (FitsUnder l h)
+      (after_setting (leaf l) (leaf_text μ l) h) (after_setting (leaf l) (leaf_text μ l) h)
       (after_setting (leaf l) (leaf_text μ l) h)
       (after_setting (leaf l) (as_atom (leaf l) (Operand zero) (leaf_text μ l)) h) (settled h.flags (leaf l))
       (settled h.flags (leaf l))
@@ -96,13 +88,13 @@ module _ (μ : Marks) where
       let i = under g h in
       by_atom μ (leaf l) h o e (FitsAlone l h) (FitsUnder l h) (leaf_text μ l i) _ (λ x. x.0) (λ x. (a x.1).begins)
       (λ x. (a x.1).reads) refl
-      (λ r. let not_so = ap not (sym (same_repeatable l h.flags g refl) ∙ r) in (
+      (λ r. let not_so = ap not (sym (like_repeatable (leaf l) h.flags g refl) ∙ r) in (
         λ x. (x.0, subst (λ b. FitsInParensIf b (λ q. MayOpenIf (is_in_parens l)) (Operand zero) i) not_so x.1),
         ap (λ w. setting h.flags g ++ w) (cond-false _ _ _ not_so),
       ))
-      (λ x r q. let so : not (is_repeatable g (leaf l)) ≡ true = ap not (sym (same_repeatable l h.flags g refl) ∙ r) in
+      (λ x r q. let so : not (is_repeatable g (leaf l)) ≡ true = ap not (sym (like_repeatable (leaf l) h.flags g refl) ∙ r) in
       let inner = λ (x : FitsUnder l h).
-      bare (sym (same_repeatable l h.flags g refl) ∙ r)
+      bare (sym (like_repeatable (leaf l) h.flags g refl) ∙ r)
       (subst (λ b. FitsInParensIf b (λ q. MayOpenIf (is_in_parens l)) (Operand zero) i) so x.1).1 in
       subst (λ w. ((v : Text) → Begins h.flags.ignore_space ((setting h.flags g ++ w) ++ v))
       × (settled h.flags (leaf l) ≡ h.flags → (v : Text) → BareAt μ h ((setting h.flags g ++ w) ++ v) v (leaf l)))
