@@ -17,6 +17,7 @@ use Rattle.fancy_grammar.specs.Label.{Leaf}
 use Rattle.fancy_grammar.specs.Marks.{Marks}
 use Rattle.fancy_grammar.specs.Pattern.{group_count, pattern_text}
 use Rattle.fancy_grammar.specs.Preorder.{preorder, preorder_all}
+use Rattle.fancy_grammar.specs.OfPattern.{IsOfPattern}
 use Rattle.fancy_grammar.specs.ReadAs.{IsReadAs}
 use Rattle.fancy_grammar.specs.Tree.{Tree, leaf, over, row, Trees, no_trees, more_trees, list_of}
 use Rattle.fancy_grammar.specs.Writable.{IsWritable, AreNodesWritable, AreAllWritable, ArePieces, IsWritableLeaf}
@@ -251,3 +252,8 @@ module _ {f : Flags} {text : Text} {t : Tree} {m : Marks} (a : IsTreeOf f text t
   -- then its text reads back
   pub parsed_reads_back : bytes text < 2 ^ 63 → f.oniguruma_mode ≡ false → IsReadAs f (pattern_text f t m) t m
   parsed_reads_back small mode = reads_back f t m (parsed_is_writable small mode)
+
+-- there is no tree of a pattern whose text does not
+pub none_of_pattern : (f : Flags) (t : Tree) (m : Marks) → (IsReadAs f (pattern_text f t m) t m → ⊥) →
+    IsOfPattern f t m → ⊥
+none_of_pattern f t m never (text, tree, small, mode) = never (parsed_reads_back tree small mode)
