@@ -724,7 +724,7 @@ def _main(arguments: Optional[Sequence[str]] = None) -> int:
     subcommands = parser.add_subparsers(dest="subcommand", required=True, metavar="check|format")
     for name, summary in {
         "check": "reports each line that is not a valid pattern, as FILE:LINE:COLUMN: message",
-        "format": "writes each pattern in one form, or as it is if it is invalid",
+        "format": "writes each pattern in one form and without its comments, or as it is if it is invalid",
     }.items():
         subcommand = subcommands.add_parser(name, help=summary, description=f"{name} {summary}.")
         subcommand.add_argument("--flags", type=_flags, default=UNICODE, metavar="LETTERS", help=f"of {_LETTERS}")

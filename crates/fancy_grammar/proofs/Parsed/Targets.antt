@@ -227,10 +227,10 @@ call_target_read w h =
     by_id (Some (id_and_amount v z)) h = tt
     by_id (Some (amount_alone z)) h = h
 
-abbrev IfNamed : Option (Text × Text) → Type 0
+abbrev pub IfNamed : Option (Text × Text) → Type 0
 IfNamed o = IfSome o (λ q. IsNameWritable q.0)
 
-marked_writable : (t : Text) → IfNamed (marked_name t)
+pub marked_writable : (t : Text) → IfNamed (marked_name t)
 unfolding marked_name
 marked_writable [] = tt
 marked_writable (c ∷ t) =

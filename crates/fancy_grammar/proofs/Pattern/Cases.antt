@@ -20,7 +20,6 @@ use Rattle.fancy_grammar.specs.PatternDepth.{MayOpen, MayOpenIf, FitsInParens, F
 use Rattle.fancy_grammar.specs.PatternDepth.{FitsAsAtom, is_in_parens, Fits}
 use Rattle.fancy_grammar.specs.PatternNeeds.{settled, setting}
 use Rattle.fancy_grammar.specs.PatternReference.{Named, name_of, name_head, group_head, target_text}
-use Rattle.fancy_grammar.specs.Quantified.{is_repeatable}
 use Rattle.fancy_grammar.specs.Tree.{Tree, leaf, over}
 use Rattle.fancy_grammar.specs.Writable.{IsLike, IsWritableLeaf, IsNameWritable}
 use Rattle.fancy_grammar.specs.declared.kinds.LookAround.{LookAround}
@@ -34,7 +33,7 @@ use Rattle.fancy_grammar.proofs.Pattern.Induction.{ReadsBy}
 use Rattle.fancy_grammar.proofs.Pattern.Induction.{by_atom, by_nothing}
 use Rattle.fancy_grammar.proofs.Pattern.Leaves.{LeafAt, literal_at, byte_at, keep_at, continue_at, newline_at, any_at}
 use Rattle.fancy_grammar.proofs.Pattern.Leaves.{assertion_at, verb_leaf_at, clear_at, source_at}
-use Rattle.fancy_grammar.proofs.Pattern.Needed.{settled_again, case_fits, any_fits, IsOutside}
+use Rattle.fancy_grammar.proofs.Pattern.Needed.{like_repeatable, settled_again, case_fits, any_fits, IsOutside}
 use Rattle.fancy_grammar.proofs.Pattern.Needed.{assertion_fits}
 use Rattle.fancy_grammar.proofs.Pattern.Rules.{Clear, Begins, begins_by, no_question, ends_close, AtomAt}
 use Rattle.fancy_grammar.proofs.ReadBack.ClearLemmas.{not_asking}
@@ -55,15 +54,6 @@ module _ (μ : Marks) where
 
   -- ---- leaves
 
-  pub same_repeatable : (l : Leaf) (f g : Flags) → f.oniguruma_mode ≡ g.oniguruma_mode →
-      is_repeatable f (leaf l) ≡ is_repeatable g (leaf l)
-  same_repeatable (label.assertion a) f g e = ap not e
-  same_repeatable label.empty f g e = refl
-  same_repeatable label.keep_out f g e = refl
-  same_repeatable label.continue_from_previous_match_end f g e = refl
-  same_repeatable (label.verb v) f g e = refl
-  same_repeatable _ f g e = refl
-
   -- where a leaf fits, alone and under a quantifier
   abbrev FitsAlone : Leaf → Here → Type 0
   FitsAlone l h = FitsAfterSetting (leaf l) (MayOpenIf (is_in_parens l)) h
@@ -74,7 +64,8 @@ module _ (μ : Marks) where
   leaf_by : (l : Leaf) (h : Here) → h.flags.oniguruma_mode ≡ false → is_empty (leaf l) ≡ false →
       (MayOpenIf (is_in_parens l) h →
       LeafAt μ (under (settled h.flags (leaf l)) h) (leaf_text μ l (under (settled h.flags (leaf l)) h)) l) →
-      ReadsBy μ (leaf l) h (FitsAlone l h) (FitsAlone l h) (FitsAlone l h) (FitsUnder l h) (after_setting (leaf l) (leaf_text μ l) h) (after_setting (leaf l) (leaf_text μ l) h)
+      ReadsBy μ (leaf l) h (FitsAlone l h) (FitsAlone l h) (FitsAlone l h) (FitsUnder l h)
+      (after_setting (leaf l) (leaf_text μ l) h) (after_setting (leaf l) (leaf_text μ l) h)
       (after_setting (leaf l) (leaf_text μ l) h)
       (after_setting (leaf l) (as_atom (leaf l) (Operand zero) (leaf_text μ l)) h) (settled h.flags (leaf l))
       (settled h.flags (leaf l))
@@ -83,7 +74,7 @@ module _ (μ : Marks) where
       let i = under g h in
       by_atom μ (leaf l) h o e (FitsAlone l h) (FitsUnder l h) (leaf_text μ l i) _ (λ x. x.0) (λ x. (a x.1).begins)
       (λ x. (a x.1).reads) refl
-      (λ r. let not_so = ap not (sym (same_repeatable l h.flags g refl) ∙ r) in (
+      (λ r. let not_so = ap not (sym (like_repeatable (leaf l) h.flags g refl) ∙ r) in (
         λ x. (x.0, subst (λ b. FitsInParensIf b (λ q. MayOpenIf (is_in_parens l)) (Operand zero) i) not_so x.1),
         ap (λ w. setting h.flags g ++ w) (cond-false _ _ _ not_so),
       ))
@@ -126,9 +117,11 @@ module _ (μ : Marks) where
   leaf_reads numbered f (label.verb v) h o like k = leaf_by (label.verb v) h o refl (λ d. verb_leaf_at μ h v (d refl))
   leaf_reads numbered f label.clear h o like k = leaf_by label.clear h o refl (λ d. clear_at μ h (d refl))
   leaf_reads numbered f (label.backref n casei) h o like k =
-      leaf_by (label.backref n casei) h o refl (λ _. backref_at μ (under (settled h.flags (leaf (label.backref n casei))) h) numbered n k)
+      leaf_by (label.backref n casei) h o refl
+      (λ _. backref_at μ (under (settled h.flags (leaf (label.backref n casei))) h) numbered n k)
   leaf_reads numbered f (label.backref_at_level n level casei) h o like k =
-      leaf_by (label.backref_at_level n level casei) h o refl (λ _. level_at μ (under (settled h.flags (leaf (label.backref_at_level n level casei))) h) numbered n level k.0 k.1)
+      let l = label.backref_at_level n level casei in
+      leaf_by l h o refl (λ _. level_at μ (under (settled h.flags (leaf l)) h) numbered n level k.0 k.1)
   leaf_reads numbered f (label.subroutine_call n) h o like k =
       leaf_by (label.subroutine_call n) h o refl (λ _. call_at μ h numbered n k)
   leaf_reads numbered f (label.backref_exists n level) h o like k =

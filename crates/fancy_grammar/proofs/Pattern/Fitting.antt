@@ -1,6 +1,7 @@
 -- Where a tree fits if its parts do: wherever the flags suit it, or another group may open. Outside Oniguruma mode.
 use Rattle.std.proofs.Common.{◌≡◌, ℕ, zero, suc, ◌+◌, ◌<◌, ◌≤◌, Bool, true, false, not, ◌&&◌, ◌||◌, refl, sym, ap, ◌∙◌}
 use Rattle.std.proofs.Common.{subst, arith, ◌⊎◌, inl, inr, nat_lt, ltb-true}
+use Rattle.std.proofs.Math.Bool.{or-false}
 use Rattle.std.proofs.lemmas.Bool.{false≢true, ltb-false}
 use Rattle.fancy_lex.specs.declared.flags.Flags.{Flags}
 use Rattle.fancy_grammar.specs.Depth.{max_depth}
@@ -175,10 +176,6 @@ no_operand Branch u e = false≢true e
 no_operand Piece u e = false≢true e
 no_operand (Operand k) u e = u
 
-or-false : (b : Bool) → (b || false) ≡ b
-or-false true = refl
-or-false false = refl
-
 unquantified : (t : Tree) (p : Precedence) → IsLow p → (i : Here) → i.flags.oniguruma_mode ≡ false →
     Fits t (Operand zero) i → (b : Bool) → b ≡ is_last_operand p →
     FitsInParensIf b (λ q j. Fits t (Operand (room q j)) j) p i
@@ -308,7 +305,8 @@ module _ (d : ℕ) (b : d + 1 < max_depth) (f : Flags) where
             condition_fits c k0 i o (omega (arith, l)) (first_ready c (more_trees t (more_trees e no_trees)) i r0),
             λ y. omega (arith, l, z y),
             k1 j o1 (omega (arith, l)) (first_ready t (more_trees e no_trees) j r1),
-            k2 (behind t Branch j) (behind_mode t Branch j o1) (omega (arith, l)) (first_ready e no_trees (behind t Branch j) r2),
+            k2 (behind t Branch j) (behind_mode t Branch j o1) (omega (arith, l))
+                (first_ready e no_trees (behind t Branch j) r2),
           ),
         ),
       )

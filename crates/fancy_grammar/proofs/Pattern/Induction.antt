@@ -23,8 +23,8 @@ use Rattle.fancy_grammar.proofs.Pattern.Rules.{Clear, Begins, Stops, Ends, no_br
 use Rattle.fancy_grammar.proofs.Pattern.Rules.{WholeAt}
 use Rattle.fancy_grammar.proofs.Pattern.Rules.{Rest, no_more, lead, reads_branch, reads_only, Follows, ends_no_digit}
 
--- What the texts of a tree read as here, whatever follows: the whole of a group, a branch, a piece, and what a quantifier
--- follows; with the flags that hold behind the first two. Each is read so where it fits.
+-- What the texts of a tree read as here, whatever follows: the whole of a group, a branch, a piece, and what a
+-- quantifier follows; with the flags that hold behind the first two. Each is read so where it fits.
 pub record ReadsBy (μ : Marks) (t : Tree) (h : Here) (d0 d1 d2 d3 : Type 0) (k0 k1 k2 k3 : Text) (g0 g1 : Flags) :
     Type 0 where
   pub whole_clear : d0 → (v : Text) → Clear h.flags.ignore_space v → Clear h.flags.ignore_space (k0 ++ v)
@@ -174,8 +174,9 @@ module _ (μ : Marks) (t : Tree) (h : Here) (o : h.flags.oniguruma_mode ≡ fals
       (w (code ")" ∷ v) (ends_close h.flags.ignore_space v)))
 
   -- a Concat: pieces as they are in a branch
-  pub by_branch : (d : Type 0) (inside : Here → Type 0) (k s : Text) (g f : Flags) (ys : List Tree) → one_or concat ys ≡ t →
-      (d → BeginsHere h k) → (d → (v : Text) → Stops h.flags.ignore_space v → Rest μ h (k ++ v) g v ys) →
+  pub by_branch : (d : Type 0) (inside : Here → Type 0) (k s : Text) (g f : Flags) (ys : List Tree) →
+      one_or concat ys ≡ t → (d → BeginsHere h k) →
+      (d → (v : Text) → Stops h.flags.ignore_space v → Rest μ h (k ++ v) g v ys) →
       (inside (inner set_in h) → (v : Text) → Ends h.flags.ignore_space v → WholeAt μ (inner set_in h) (s ++ v) f v t) →
       flags_behind t Piece h.flags ≡ h.flags →
       ReadsBy μ t h d d (FitsInParens inside (under set_in h)) (FitsInParens inside (under set_in h)) k k (scoped s)

@@ -15,8 +15,7 @@ use Rattle.fancy_grammar.specs.Tree.{Tree, leaf, over, row, Trees, no_trees, mor
 use Rattle.fancy_grammar.specs.Writable.{AreNodesWritable, AreAllWritable, ArePieces, IsLike}
 use Rattle.fancy_grammar.specs.declared.precedence.Precedence.{Precedence}
 use Rattle.fancy_grammar.specs.declared.precedence.Precedence.TheVariants.{Whole, Branch, Piece, Operand}
-use Rattle.fancy_grammar.proofs.Pattern.Needed.{like_behind}
-use Rattle.fancy_grammar.proofs.Pattern.Repeats.{like_repeatable}
+use Rattle.fancy_grammar.proofs.Pattern.Needed.{like_repeatable, like_behind}
 
 -- ---- what fits without parentheses and within them fits either way
 
@@ -52,7 +51,7 @@ module _ (f : Flags) (μ : Marks) where
   Stands t p g = is_operand p ≡ true → is_repeatable g t ≡ true
 
   standing : (t : Tree) (g : Flags) → IsLike f g → is_repeatable f t ≡ true → is_repeatable g t ≡ true
-  standing t g e k = like_repeatable μ t g f (ap (λ j. j.oniguruma_mode) e) ∙ k
+  standing t g e k = like_repeatable t g f (ap (λ j. j.oniguruma_mode) e) ∙ k
 
   mutual
     pub levels_fit : (t : Tree) (p : Precedence) (h : Here) (c : ℕ) → AreNodesWritable f μ c t → IsLike f h.flags →
@@ -89,14 +88,16 @@ module _ (f : Flags) (μ : Marks) where
         let i = under (settled h.flags t) h in (
           λ _. omega arith,
           parens_fit (is_last_operand p) (λ q j. Fits t (Operand (room q j)) j) p i (omega arith)
-              (levels_fit t (Operand (room Whole (deeper i))) (deeper i) c k.0 e (λ _. standing t i.flags e k.1) (omega arith))
+              (levels_fit t (Operand (room Whole (deeper i))) (deeper i) c k.0 e
+              (λ _. standing t i.flags e k.1) (omega arith))
               (levels_fit t (Operand (room p i)) i c k.0 e (λ _. standing t i.flags e k.1) (omega arith)),
         )
     levels_fit (over label.atomic_group (over (label.repeat lo hi greedy) t)) p h c k e s d =
         let i = under (settled h.flags t) h in (
           λ _. omega arith,
           parens_fit _ (λ q j. Fits t (Operand (room q j)) j) p i (omega arith)
-              (levels_fit t (Operand (room Whole (deeper i))) (deeper i) c k.0 e (λ _. standing t i.flags e k.1) (omega arith))
+              (levels_fit t (Operand (room Whole (deeper i))) (deeper i) c k.0 e
+              (λ _. standing t i.flags e k.1) (omega arith))
               (levels_fit t (Operand (room p i)) i c k.0 e (λ _. standing t i.flags e k.1) (omega arith)),
         )
     levels_fit (over label.atomic_group t) p h c k e s d = (
@@ -143,8 +144,8 @@ module _ (f : Flags) (μ : Marks) where
           ),
         )
     levels_fit (row label.conditional (more_trees a (more_trees t (more_trees b no_trees)))) p h c k e s d =
-        let i = deeper (under (settled h.flags (row label.conditional (more_trees a (more_trees t (more_trees b no_trees)))))
-        h) in
+        let x = row label.conditional (more_trees a (more_trees t (more_trees b no_trees))) in
+        let i = deeper (under (settled h.flags x) h) in
         let j = behind a Whole i in
         let next = like_behind a Whole f i.flags e in (
           λ _. omega arith,

@@ -1,5 +1,5 @@
 -- What is read, once it is resolved, nests in its text no deeper than in the pattern: the parts, and what they come to.
-use Rattle.std.proofs.Common.{◌≡◌, ℕ, zero, suc, ◌+◌, ◌<◌, ◌≤◌, Bool, true, false, not, List, [], ◌∷◌, length}
+use Rattle.std.proofs.Common.{◌≡◌, ℕ, zero, suc, ◌+◌, ◌<◌, ◌≤◌, Bool, true, false, List, [], ◌∷◌, length}
 use Rattle.std.proofs.Common.{Option, Some, None, refl, sym, ap, ◌∙◌, arith, ◌⊎◌, inl, inr, nat_lt, ltb-true}
 use Rattle.std.proofs.lemmas.Bool.{cond_both, false≢true, ltb-false, and_parts}
 use Rattle.std.specs.List.{AllByRecursion}
@@ -20,7 +20,8 @@ use Rattle.fancy_grammar.specs.Label as label
 use Rattle.fancy_grammar.specs.Label.{Leaf, AstReference, ast_backref, ast_call, ast_condition}
 use Rattle.fancy_grammar.specs.Pattern.{is_operand}
 use Rattle.fancy_grammar.specs.PatternDepth.{is_in_parens}
-use Rattle.fancy_grammar.specs.Quantified.{is_repeatable, quant, quant_at, with_counts, suffix, suffix_at, behind_lazy, is_greedy}
+use Rattle.fancy_grammar.specs.Quantified.{is_repeatable, quant, quant_at, with_counts, suffix, suffix_at}
+use Rattle.fancy_grammar.specs.Quantified.{behind_lazy, is_greedy}
 use Rattle.fancy_grammar.specs.Quantified.{may_be_possessive, Suffix, quantified, is_swapped, is_dropped, quants}
 use Rattle.fancy_grammar.specs.Resolved.{resolved_in, resolved_all, reference_node}
 use Rattle.fancy_grammar.specs.State.{skipped, State, at, Outcome}
@@ -31,26 +32,17 @@ use Rattle.fancy_grammar.proofs.OutcomeLemmas.{Holds, then_holds, each_solid}
 use Rattle.fancy_grammar.proofs.Pattern.Ahead.{IsLast, IsPlain, LeafRead}
 use Rattle.fancy_grammar.proofs.Pattern.Fitting.{Fit, EachFit, all_fit, leaf_fit, IsUsed, IsLow, repeat_fit}
 use Rattle.fancy_grammar.proofs.Pattern.Fitting.{possessive_fit}
+use Rattle.fancy_grammar.proofs.Pattern.Needed.{like_repeatable}
 use Rattle.fancy_grammar.proofs.Pattern.Suited.{none_met, Suits, SuitAll}
 
 -- ---- where what is read may stand
-
-repeats_alike : (t : Tree) (f g : Flags) → f.oniguruma_mode ≡ g.oniguruma_mode →
-    is_repeatable f t ≡ is_repeatable g t
-repeats_alike (leaf (label.assertion a)) f g e = ap not e
-repeats_alike (leaf label.empty) f g e = refl
-repeats_alike (leaf label.keep_out) f g e = refl
-repeats_alike (leaf label.continue_from_previous_match_end) f g e = refl
-repeats_alike (leaf (label.verb v)) f g e = refl
-repeats_alike (over (label.look_around l) t) f g e = refl
-repeats_alike _ f g e = refl
 
 -- a quantifier may follow it outside Oniguruma mode
 abbrev pub Repeats : Tree → Type 0
 Repeats r = (f : Flags) → f.oniguruma_mode ≡ false → is_repeatable f r ≡ true
 
 pub repeats : (r : Tree) (f : Flags) → f.oniguruma_mode ≡ false → is_repeatable f r ≡ true → Repeats r
-repeats r f o e g m = repeats_alike r g f (m ∙ sym o) ∙ e
+repeats r f o e g m = like_repeatable r g f (m ∙ sym o) ∙ e
 
 -- the precedences at which may stand what is read as an alternation, with the number 0, a branch, a piece or an atom
 abbrev pub StandsAs : ℕ → Tree → Precedence → Type 0
@@ -174,11 +166,14 @@ module _ (z : ℕ) (named : Bool) (numbers_of : Text → List ℕ) where
       leaf_fit (label.backref_exists n level) d p refl (λ _ f o. refl)
       (bare_here d (label.backref_exists n level) (λ x. absurd (h x)))
   reference_fit f d p m (ast_backref t casei level) place h =
-      leaf_fit (label.ast_node (ast_backref t casei level) (place_at z place)) d p refl (λ _ f o. refl) (λ e. absurd (false≢true e))
+      leaf_fit (label.ast_node (ast_backref t casei level) (place_at z place)) d p refl (λ _ f o. refl)
+      (λ e. absurd (false≢true e))
   reference_fit f d p m (ast_call t) place h =
-      leaf_fit (label.ast_node (ast_call t) (place_at z place)) d p refl (λ _ f o. refl) (bare_here d (label.ast_node (ast_call t) (place_at z place)) h)
+      leaf_fit (label.ast_node (ast_call t) (place_at z place)) d p refl (λ _ f o. refl)
+      (bare_here d (label.ast_node (ast_call t) (place_at z place)) h)
   reference_fit f d p m (ast_condition t level) place h =
-      leaf_fit (label.ast_node (ast_condition t level) (place_at z place)) d p refl (λ _ f o. refl) (λ e. absurd (false≢true e))
+      leaf_fit (label.ast_node (ast_condition t level) (place_at z place)) d p refl (λ _ f o. refl)
+      (λ e. absurd (false≢true e))
 
   reference_solid : (m : Meaning) (a : AstReference) (place : ℕ) → is_empty (reference_node z m a place) ≡ false
   reference_solid (number n) (ast_backref t casei None) place = refl
@@ -318,7 +313,8 @@ module _ (z : ℕ) (named : Bool) (numbers_of : Text → List ℕ) where
           choose_both W (strip (code "?") t) _ _ (λ u e. behind_mark true u) (behind_mark false t)
       by_layout (open_comment p) = tt
 
-  quant_part : (d left : ℕ) (s : State) (a : Tree) (t : State) → Part R 3 d s a t → Holds (Part R 2 d s) (quant left a t)
+  quant_part : (d left : ℕ) (s : State) (a : Tree) (t : State) → Part R 3 d s a t →
+      Holds (Part R 2 d s) (quant left a t)
   unfolding quant
   quant_part d left s a t h = by_layout (skipped t)
     where

@@ -125,7 +125,8 @@ module _ (z : ℕ) (named : Bool) (numbers_of : Text → List ℕ) where
     stopper_grouped a h s =
         cond_both (is_empty a) _ _ (Grouped R d) (λ _. open_leaf z named numbers_of d label.clear b)
         (λ e. grouped_as (over label.stopper a)
-        (λ c p. stopper_fit d b f (R c a) (h.fits c Branch (omega arith)) (λ x. s x c) (λ x. h.hollow c x e) p) (λ k. k))
+        (λ c p. stopper_fit d b f (R c a) (h.fits c Branch (omega arith)) (λ x. s x c) (λ x. h.hollow c x e) p)
+        (λ k. k))
 
     -- ---- conditionals
 
@@ -149,7 +150,8 @@ module _ (z : ℕ) (named : Bool) (numbers_of : Text → List ℕ) where
         subst (λ ts. SuitAll f (resolved_all z named numbers_of c ts)) (sym (listed (more_trees t (more_trees u us)))) h
 
     branches_suit : (r : Tree) (c : ℕ) → Suits f (R c r) →
-        Suits f (R c (branches_of r).0) × Suits f (R (c + counted_in z named numbers_of (branches_of r).0) (branches_of r).1)
+        Suits f (R c (branches_of r).0)
+        × Suits f (R (c + counted_in z named numbers_of (branches_of r).0) (branches_of r).1)
     branches_suit (row label.alt (more_trees t ts)) c h = (h.0, others_suit ts _ h.1)
     branches_suit (row label.alt no_trees) c h = (h, none_met f)
     branches_suit r c h = (h, none_met f)
@@ -175,7 +177,8 @@ module _ (z : ℕ) (named : Bool) (numbers_of : Text → List ℕ) where
         (λ x. grouped_as (row label.conditional (more_trees c (more_trees t (more_trees e no_trees))))
         (λ n p. let i = n + counted_in z named numbers_of c in
         let j = i + counted_in z named numbers_of t in
-        conditional_fit d b f (R n c) (R i t) (R j e) (k n) (both.0.fits i Branch (omega arith)) (both.1.fits j Whole tt)
+        conditional_fit d b f (R n c) (R i t) (R j e) (k n) (both.0.fits i Branch (omega arith))
+        (both.1.fits j Whole tt)
         (not_hollow t e i j both.0 both.1 x)
         (λ y. let w = branches_suit r i (q y i) in (s y n, (w.0, (w.1, tt)))) p) (λ k. k))
 
@@ -200,11 +203,13 @@ module _ (z : ℕ) (named : Bool) (numbers_of : Text → List ℕ) where
     pub target_fitted : (c : Tree) → IsTarget c → (n : ℕ) → FitsOrTarget d b f (R n c)
     target_fitted (leaf (label.verb v)) h n = tt
     target_fitted (leaf (label.ast_node (ast_condition t level) place)) h n =
-        told_target (means numbers_of n (role_of (ast_condition t level)) (target_of (ast_condition t level))) t level place
+        told_target (means numbers_of n (role_of (ast_condition t level)) (target_of (ast_condition t level))) t
+        level place
     target_fitted _ h n = absurd h
 
     pub target_suits : (c : Tree) → IsTarget c → (n : ℕ) → Suits f (R n c)
     target_suits (leaf (label.verb v)) h n = none_met f
     target_suits (leaf (label.ast_node (ast_condition t level) place)) h n =
-        target_needs (means numbers_of n (role_of (ast_condition t level)) (target_of (ast_condition t level))) t level place
+        target_needs (means numbers_of n (role_of (ast_condition t level)) (target_of (ast_condition t level))) t
+        level place
     target_suits _ h n = absurd h

@@ -254,4 +254,5 @@ answered_fits f text t m o h =
     let part = whole_fits (bytes text) (only_named f (openings h.0)) (numbers_in f h.0) (h.1).1 o in
     subst (λ u. Fits u AsWhole (record { flags = agreed f u; opened = 0; depth = 0 })) (sym h.3)
     (part.fitted.fits 0 AsWhole tt
-    (record { flags = agreed f (resolved f (bytes text) h.0); opened = 0; depth = 0 }) o (omega arith) (inl (omega arith)))
+    (record { flags = agreed f (resolved f (bytes text) h.0); opened = 0; depth = 0 }) o (omega arith)
+    (inl (omega arith)))

@@ -19,29 +19,24 @@ use Rattle.fancy_grammar.specs.PatternDepth.{Fits, FitsInParensIf, MaySet}
 use Rattle.fancy_grammar.specs.PatternNeeds.{settled, setting}
 use Rattle.fancy_grammar.specs.PatternQuantifier.{quantifier_text, is_quantified, is_possessive}
 use Rattle.fancy_grammar.specs.Quantified.{is_repeatable, max_adjacent}
-use Rattle.fancy_grammar.specs.Tree.{Tree, leaf, over}
+use Rattle.fancy_grammar.specs.Tree.{Tree, over}
 use Rattle.fancy_grammar.specs.declared.precedence.Precedence.{Precedence}
 use Rattle.fancy_grammar.specs.declared.precedence.Precedence.TheVariants.{Whole, Branch, Piece, Operand}
 use Rattle.fancy_grammar.proofs.Pattern.Groups.{parens_text, question_at, scope_at, reads_scope, reads_atomic}
 use Rattle.fancy_grammar.proofs.Pattern.Induction.{LeadsTo, BeginsHere, AtomHere, one_branch}
 use Rattle.fancy_grammar.proofs.Pattern.Induction.{set_begins, by_piece, refit}
-use Rattle.fancy_grammar.proofs.Pattern.Needed.{settled_again, no_setting, no_letters}
+use Rattle.fancy_grammar.proofs.Pattern.Needed.{like_repeatable, settled_again, no_setting, no_letters}
 use Rattle.fancy_grammar.proofs.Pattern.Quantifiers.{quantified_tree, text_counted, lead_quantified, same_count}
 use Rattle.fancy_grammar.proofs.Pattern.Rules.{Begins, Ends, begins_by, ends_close, AtomAt, WholeAt}
 use Rattle.fancy_grammar.proofs.Pattern.Rules.{Rest, reads_only}
 use Rattle.fancy_grammar.proofs.ReadBack.RuleLemmas.{st}
-use Rattle.fancy_grammar.proofs.Pattern.Cases.{ReadsTree, same_repeatable}
+use Rattle.fancy_grammar.proofs.Pattern.Cases.{ReadsTree}
 
 pub room_none : (i : Here) → i.flags.oniguruma_mode ≡ false → room Whole i ≡ 0
 room_none i o = ap (λ b. (if b then min (max_adjacent + 1) (max_depth - i.depth) else 1) - 1) o
 
 module _ (μ : Marks) where
   -- ---- quantifiers
-
-  pub like_repeatable : (t : Tree) (f g : Flags) → f.oniguruma_mode ≡ g.oniguruma_mode →
-      is_repeatable f t ≡ is_repeatable g t
-  like_repeatable (leaf l) f g e = same_repeatable μ l f g e
-  like_repeatable _ f g e = refl
 
   repeated_is : (possessive : Bool) (t : Tree) (lo hi : ℕ) (greedy : Bool) (i : Here) →
       i.flags.oniguruma_mode ≡ false →
@@ -86,7 +81,8 @@ module _ (μ : Marks) where
 
     -- a Repeat is all that stands in a group
     repeat_whole : (i : Here) (o : i.flags.oniguruma_mode ≡ false) (rep : is_repeatable i.flags t ≡ true)
-        (none : settled i.flags t ≡ i.flags) (r : ReadsTree μ t i) (d : Fits t (Operand zero) i) (v : Text) → Ends i.flags.ignore_space v →
+        (none : settled i.flags t ≡ i.flags) (r : ReadsTree μ t i) (d : Fits t (Operand zero) i) (v : Text) →
+        Ends i.flags.ignore_space v →
         WholeAt μ i (repeated false t lo hi greedy (written μ t) Whole i ++ v) i.flags v
         (over (label.repeat lo hi greedy) t)
     repeat_whole i o rep none r d v e =
@@ -140,8 +136,10 @@ module _ (μ : Marks) where
           (begins_by h.flags.ignore_space (code "(") _ refl refl refl refl)))
           (λ d _. operand x (in_head (codes "?:")) refl refl
           (λ v k _. subst (λ w. AtomAt μ here w v x) (sym (same v))
-          (reads_scope μ here here.flags here.flags _ (inside v) v x (plain_scope_at h.depth here.flags (inside v) d.1.0)
-          (repeat_whole (deeper here) o repeatable_here again r1 (roomless (deeper here) o d.1.1) (code ")" ∷ v) (ends_close h.flags.ignore_space v)))))
+          (reads_scope μ here here.flags here.flags _ (inside v) v x
+          (plain_scope_at h.depth here.flags (inside v) d.1.0)
+          (repeat_whole (deeper here) o repeatable_here again r1 (roomless (deeper here) o d.1.1)
+          (code ")" ∷ v) (ends_close h.flags.ignore_space v)))))
 
       -- a possessive quantifier
       pub possessive_reads : ReadsTree μ (over label.atomic_group (over (label.repeat lo hi greedy) t)) h
@@ -174,4 +172,5 @@ module _ (μ : Marks) where
           (λ v k _. subst (λ w. AtomAt μ here w v x) (sym (same v))
           (reads_atomic μ here here.flags _ (inside v) v (over (label.repeat lo hi greedy) t)
           (question_at h.depth here.flags (codes ">" ++ inside v) d.1.0)
-          (repeat_whole (deeper here) o repeatable_here again r1 (roomless (deeper here) o d.1.1) (code ")" ∷ v) (ends_close h.flags.ignore_space v))))))
+          (repeat_whole (deeper here) o repeatable_here again r1 (roomless (deeper here) o d.1.1)
+          (code ")" ∷ v) (ends_close h.flags.ignore_space v))))))

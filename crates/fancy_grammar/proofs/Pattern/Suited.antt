@@ -3,8 +3,8 @@ use Rattle.std.proofs.Common.{◌≡◌, Bool, true, false, refl, sym, ap, ◌�
 use Rattle.fancy_lex.specs.declared.flags.Flags.{Flags}
 use Rattle.fancy_grammar.specs.Label.{concat, alt, ast_group}
 use Rattle.fancy_grammar.specs.Pattern.{takes_pieces, takes_branches, flags_behind, flags_behind_all}
-use Rattle.fancy_grammar.specs.PatternNeeds.{no_needs, leaf_needs, first, joined, needs, needs_all, fixed_or, with_needs}
-use Rattle.fancy_grammar.specs.PatternNeeds.{settled}
+use Rattle.fancy_grammar.specs.PatternNeeds.{no_needs, leaf_needs, first, joined, needs, needs_all, fixed_or}
+use Rattle.fancy_grammar.specs.PatternNeeds.{with_needs, settled}
 use Rattle.fancy_grammar.specs.Tree.{Tree, leaf, over, row, Trees, no_trees, more_trees}
 use Rattle.fancy_grammar.specs.declared.needs.Need.{Need}
 use Rattle.fancy_grammar.specs.declared.needs.Need.TheVariants.{Free, Fixed, Torn}
@@ -113,8 +113,8 @@ mutual
   first_suit_all : (f g : Flags) (ts : Trees) → SuitAll f ts → AreMet (needs_all first false ts) g → SuitAll g ts
   first_suit_all f g no_trees h k = tt
   first_suit_all f g (more_trees t ts) h k =
-      let both = parts_all_met (needs first false t) (needs_all first false ts) f g (needs_met f t h.0) (all_met f ts h.1)
-      k in
+      let both = parts_all_met (needs first false t) (needs_all first false ts) f g (needs_met f t h.0)
+      (all_met f ts h.1) k in
       (first_suits f g t h.0 both.0, first_suit_all f g ts h.1 both.1)
 
 settles : (n : Need) (x y : Bool) → IsMet n x → IsMet n (fixed_or y n)

@@ -42,10 +42,10 @@ use Rattle.fancy_grammar.proofs.Pattern.Conditionals.{conditional_reads}
 use Rattle.fancy_grammar.proofs.Pattern.ConditionTexts.{before_of}
 use Rattle.fancy_grammar.proofs.Pattern.Groups.{whole_behind_setting}
 use Rattle.fancy_grammar.proofs.Pattern.Marked.{none_faulty, numeric_told, of_all_told}
-use Rattle.fancy_grammar.proofs.Pattern.Needed.{like_behind}
+use Rattle.fancy_grammar.proofs.Pattern.Needed.{like_repeatable, like_behind}
 use Rattle.fancy_grammar.proofs.Pattern.Unplaced.{same_referred, same_call, same_numbered, same_of_all}
 use Rattle.fancy_grammar.proofs.Pattern.Parted.{leads_past}
-use Rattle.fancy_grammar.proofs.Pattern.Repeats.{like_repeatable, repeat_reads, possessive_reads}
+use Rattle.fancy_grammar.proofs.Pattern.Repeats.{repeat_reads, possessive_reads}
 use Rattle.fancy_grammar.proofs.Pattern.Rows.{EachPiece, EachBranch, concat_reads, alt_reads, same_mode}
 use Rattle.fancy_grammar.proofs.Pattern.Rules.{Clear, ends_nothing, WholeAt}
 use Rattle.fancy_grammar.proofs.ReadBack.RuleLemmas.{st}
@@ -72,7 +72,7 @@ module _ (μ : Marks) where
       reads (over (label.repeat lo hi greedy) t) h k e =
           let i = under (settled h.flags t) h in
           repeat_reads μ t lo hi greedy k.2 k.3 h (same_mode μ f mode h.flags e)
-          (like_repeatable μ t h.flags f (ap (λ j. j.oniguruma_mode) e) ∙ k.1)
+          (like_repeatable t h.flags f (ap (λ j. j.oniguruma_mode) e) ∙ k.1)
           (reads t i k.0 e) (reads t (deeper i) k.0 e)
       reads (over label.group t) h k e =
           group_reads μ t h (same_mode μ f mode h.flags e) (names (h.opened + 1))
@@ -86,7 +86,7 @@ module _ (μ : Marks) where
       reads (over label.atomic_group (over (label.repeat lo hi greedy) t)) h k e =
           let i = under (settled h.flags t) h in
           possessive_reads μ t lo hi greedy k.2 k.3 h (same_mode μ f mode h.flags e)
-          (like_repeatable μ t h.flags f (ap (λ j. j.oniguruma_mode) e) ∙ k.1)
+          (like_repeatable t h.flags f (ap (λ j. j.oniguruma_mode) e) ∙ k.1)
           (reads t i k.0 e) (reads t (deeper i) k.0 e)
       reads (over label.atomic_group (leaf l)) h k e =
           atomic_reads (leaf l) refl h (same_mode μ f mode h.flags e)
