@@ -19,10 +19,6 @@ pub fn put(buf: &mut String, c: char)
     requires { HasRoom buf.old (c ∷ []) }
     ensures { Appended buf.old buf.new (c ∷ []) }
 {
-    // So no code to grow the buffer is compiled, here and below.
-    if buf.len() == buf.capacity() {
-        unreachable!();
-    }
     buf.push(c).unwrap();
 }
 
@@ -33,9 +29,6 @@ pub fn put_ascii(buf: &mut String, text: &str)
     requires room { HasRoom buf.old text.now }
     ensures { Appended buf.old buf.new text.now }
 {
-    if buf.capacity() - buf.len() < text.len() {
-        unreachable!();
-    }
     buf.push_str(text).unwrap();
 }
 
@@ -45,8 +38,5 @@ pub fn put_text(buf: &mut String, text: &str)
     requires { HasRoom buf.old (chars text.now) }
     ensures { Appended buf.old buf.new (chars text.now) }
 {
-    if buf.capacity() - buf.len() < text.len() {
-        unreachable!();
-    }
     buf.push_str(text).unwrap();
 }

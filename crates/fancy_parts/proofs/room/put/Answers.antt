@@ -1,13 +1,9 @@
 use Rattle.std.proofs.Common.{arith, rules, ap}
 use Rattle.std.specs.Prelude.{is_ok}
 use Rattle.std.proofs.Math.Utf8.{encode}
-use Rattle.std.proofs.lemmas.Str.{IsUtf8-encode, length-encode, len_utf8_bounds}
+use Rattle.std.proofs.lemmas.Str.{IsUtf8-encode}
 use Rattle.fancy_parts.proofs.RoomLemmas.{bytes_encode, chars_encode, pushed}
 use Rattle.fancy_parts.proofs.room.put.Goals as goal
-
-pub unreachable-requires : goal.unreachable-requires
-unreachable-requires c =
-    omega (arith, bytes_encode c.args.c (search rules), length-encode c.args.c, len_utf8_bounds c.args.c)
 
 pub unwrap-requires : goal.unwrap-requires
 unwrap-requires c = c.push.ensures.succeeds (omega (arith, bytes_encode c.args.c (search rules)))

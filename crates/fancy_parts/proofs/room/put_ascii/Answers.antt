@@ -4,9 +4,6 @@ use Rattle.std.proofs.lemmas.Str.{IsUtf8-from_ascii, chars-IsAscii}
 use Rattle.fancy_parts.proofs.RoomLemmas.{ascii, bytes_ascii, pushed}
 use Rattle.fancy_parts.proofs.room.put_ascii.Goals as goal
 
-pub unreachable-requires : goal.unreachable-requires
-unreachable-requires c = omega (arith, bytes_ascii c.args.text.now (ascii c.args.text.now c.requires.ascii))
-
 pub unwrap-requires : goal.unwrap-requires
 unwrap-requires c = c.push_str.ensures.succeeds
     (omega (arith, bytes_ascii c.args.text.now (ascii c.args.text.now c.requires.ascii)))

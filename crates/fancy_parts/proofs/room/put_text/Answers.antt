@@ -4,9 +4,6 @@ use Rattle.fancy_lex.proofs.TextLemmas.{bytes_chars}
 use Rattle.fancy_parts.proofs.RoomLemmas.{pushed}
 use Rattle.fancy_parts.proofs.room.put_text.Goals as goal
 
-pub unreachable-requires : goal.unreachable-requires
-unreachable-requires c = omega (arith, bytes_chars c.args.text.now c.utf8.text)
-
 pub unwrap-requires : goal.unwrap-requires
 unwrap-requires c = c.push_str.ensures.succeeds (omega (arith, bytes_chars c.args.text.now c.utf8.text))
 
