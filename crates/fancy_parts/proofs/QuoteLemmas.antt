@@ -4,6 +4,7 @@ use Rattle.std.proofs.Common.{length, get_or, String, Global, decimal, codes, So
 use Rattle.std.proofs.Common.{◌∙◌, append-nil, append_assoc, length-append, chars, if◌then◌else◌, nat_lt, Option}
 use Rattle.std.proofs.Common.{arith, rules}
 use Rattle.std.proofs.lemmas.Fmt.{decimal_step, decimal_digit, length-decimal-le, IsAscii-decimal}
+use Rattle.std.specs.Int.{from_bool}
 use Rattle.std.specs.List.{count_by}
 use Rattle.std.specs.Str.{IsUtf8}
 use Rattle.std.specs.Char.{len_utf8}
@@ -183,6 +184,18 @@ one_quoted [] b u l m e = absurd (omega arith)
 one_quoted (d ∷ []) b u l m e =
     ap quotes (character_alone (chars (d ∷ [])) d (encodes-chars (d ∷ []) u)) ∙ append-nil (quote d) ∙ ap quote (sym e)
 one_quoted (d ∷ f ∷ bs) b u l m e = absurd (omega arith)
+
+one_or_none : (b : Bool) → from_bool b ≡ (if b then 1 else 0)
+one_or_none true = refl
+one_or_none false = refl
+
+-- it is printed as its byte, and a backslash where that is marked
+pub one_counted : (bs : List ℕ) (b : ℕ) → IsUtf8 bs → 1 ≤ length bs → length bs < 2 → b ≡ get_or bs 0 0
+    → 1 + from_bool (marked b) ≡ bytes (quotes (chars bs))
+one_counted [] b u l m e = absurd (omega arith)
+one_counted (d ∷ []) b u l m e =
+    omega (arith, quotes_bytes (d ∷ []) u, ap (λ n. from_bool (marked n)) e, one_or_none (marked d))
+one_counted (d ∷ f ∷ bs) b u l m e = absurd (omega arith)
 
 -- ---- characters that are printed as they stand
 

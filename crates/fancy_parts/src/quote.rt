@@ -1,5 +1,5 @@
 //! The text that a character, a number or a quantifier is printed as: how many bytes it has, and its writing.
-ghost use Rattle.std.specs.Prelude.{◌≡◌, ◌+◌, ◌<◌, ◌≤◌, chars, decimal, is_some};
+ghost use Rattle.std.specs.Prelude.{◌≡◌, ◌+◌, ◌<◌, ◌≤◌, ◌∷◌, [], ◌++◌, chars, codes, decimal, is_some};
 ghost use Rattle.fancy_lex.specs.Number.{digit_code};
 ghost use Rattle.fancy_lex.specs.Text.{bytes};
 ghost use Rattle.fancy_parts.specs.Quote as spec;
@@ -9,21 +9,36 @@ ghost use Rattle.fancy_parts.specs.Room.{HasRoom, Appended};
 use crate::room::{put, put_text};
 use fancy_lex::text::{front, next};
 
+/// Whether a backslash stands before the character.
+#[inline]
+fn is_marked(c: char) -> bool
+    ensures { result ≡ is_some (spec.behind_backslash c) }
+{
+    // Most characters are letters, which this test tells at once.
+    if c.is_ascii_alphabetic() {
+        return false;
+    }
+    match c {
+        '\n' | '\t' | '\r' => true,
+        '\\' | '.' | '+' | '*' | '?' | '(' | ')' | '|' | '[' | ']' | '{' | '}' | '^' | '$' | '#' =>
+            true,
+        _ => false,
+    }
+}
+
 /// What is written behind a backslash for a character, if it is not written as itself.
+#[inline]
 pub(crate) fn behind_backslash(c: char) -> Option<char>
     ensures { spec.behind_backslash c ≡ result }
 {
-    // Most characters are told from the marks by these tests.
-    if c.is_ascii_alphanumeric() || !c.is_ascii() {
+    if !is_marked(c) {
         return None;
     }
     match c {
         '\n' => Some('n'),
         '\t' => Some('t'),
         '\r' => Some('r'),
-        '\\' | '.' | '+' | '*' | '?' | '(' | ')' | '|' | '[' | ']' | '{' | '}' | '^' | '$' | '#' =>
-            Some(c),
-        _ => None,
+        _ => Some(c),
     }
 }
 
@@ -32,7 +47,7 @@ pub(crate) fn behind_backslash(c: char) -> Option<char>
 fn is_quoted(byte: u8) -> bool
     ensures { result ≡ is_some (spec.behind_backslash byte) }
 {
-    behind_backslash(char::from(byte)).is_some()
+    is_marked(char::from(byte))
 }
 
 /// Writes a character, behind a backslash where it needs one.
@@ -44,16 +59,37 @@ fn put_quote(buf: &mut String, c: char)
 {
     match behind_backslash(c) {
         None => put(buf, c),
-        Some(letter) => {
-            put(buf, '\\');
-            put(buf, letter);
-        }
+        Some(letter) => put_behind_backslash(buf, letter),
     }
+}
+
+/// Writes a backslash, and what is written behind it.
+#[inline(never)]
+#[tactic(auto, using(crate::proofs::RoomLemmas::room_steps))]
+fn put_behind_backslash(buf: &mut String, letter: char)
+    requires { HasRoom buf.old (codes "\\" ++ letter ∷ []) }
+    ensures { Appended buf.old buf.new (codes "\\" ++ letter ∷ []) }
+{
+    put(buf, '\\');
+    put(buf, letter);
 }
 
 /// How many bytes a text is printed as.
 #[inline]
 pub fn quotes_len(text: &str) -> usize
+    ensures { result ≡ bytes (spec.quotes (chars text.now)) }
+{
+    // In the tree of a pattern a literal is one character.
+    if let [byte] = text.as_bytes() {
+        1 + usize::from(is_quoted(*byte))
+    } else {
+        runs_len(text)
+    }
+}
+
+/// How many bytes a text of any length is printed as.
+#[inline(never)]
+fn runs_len(text: &str) -> usize
     ensures { result ≡ bytes (spec.quotes (chars text.now)) }
 {
     let mut len = text.len();

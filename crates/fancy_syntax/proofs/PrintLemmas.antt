@@ -63,6 +63,9 @@ pub caseless_same : (t : Text) → caseless false t ≡ t
 unfolding caseless
 caseless_same t = refl
 
+pub minds_case : (b : Bool) (t : Text) → b ≡ false → caseless b t ≡ t
+minds_case b t e = rw e (caseless_same t)
+
 -- in the parentheses of a capturing group
 pub group_more : (t : Text) → bytes (codes "(" ++ (t ++ codes ")")) ≡ bytes t + 2
 unfolding bytes

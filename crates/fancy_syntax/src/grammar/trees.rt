@@ -68,10 +68,13 @@ pub(crate) fn take_branch<S: Spanning>(
     }
 }
 
+/// From so many trees on a list is handed on though others stand below, which are copied in their place.
+const MANY: usize = 32;
+
 /// Takes the trees that stand above so many others, as a list of their own.
 ///
-/// Where they are all, a list that is more than half full is handed on as it is: a copy beside it would double the
-/// memory of a long branch.
+/// Where they fill more than half of the list, it is handed on as it is: a copy beside it would double the memory of a
+/// long branch. A few trees are copied where others stand below.
 pub(crate) fn take_above(
     alloc: Global,
     trees: &mut Vec<Expr>,
@@ -81,10 +84,30 @@ pub(crate) fn take_above(
     ensures above { IfOk result (λ v. v.items ≡ drop height trees.old.items) }
     ensures below { OnOk result (trees.new.items ≡ take height trees.old.items) }
 {
-    if height == 0 && trees.len() > trees.capacity() / 2 {
+    let above = trees.len() - height;
+    if above <= trees.capacity() / 2 {
+        return trees.split_off(height);
+    }
+    if height == 0 {
         return Ok(mem::replace(trees, Vec::new(alloc)));
     }
-    trees.split_off(height)
+    if above < MANY {
+        return trees.split_off(height);
+    }
+    take_list(trees, height)
+}
+
+/// Takes the list, and leaves a copy of it up to the height.
+#[inline(never)]
+fn take_list(trees: &mut Vec<Expr>, height: usize) -> Result<Vec<Expr>, AllocError>
+    requires { height ≤ vec_len trees.old }
+    ensures above { IfOk result (λ v. v.items ≡ drop height trees.old.items) }
+    ensures below { OnOk result (trees.new.items ≡ take height trees.old.items) }
+{
+    let above = trees.len() - height;
+    trees.rotate_left(height);
+    let below = trees.split_off(above)?;
+    Ok(mem::replace(trees, below))
 }
 
 /// Whether the tree is Empty.

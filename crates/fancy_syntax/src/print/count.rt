@@ -46,7 +46,20 @@ fn branch_len(asked: bool, len: usize) -> usize
 
 /// The length of a tree's text.
 #[cycle(count)]
+#[inline]
 pub(super) fn tree_len(tree: &Expr, precedence: u8) -> usize
+    ensures { result ≡ in_word (bytes (printed (view tree.now) precedence)) }
+{
+    match tree {
+        Expr::Literal { val, casei: false } => quotes_len(val.as_str()),
+        _ => node_len(tree, precedence),
+    }
+}
+
+/// The length of the text of any node.
+#[cycle(count)]
+#[inline(never)]
+fn node_len(tree: &Expr, precedence: u8) -> usize
     ensures { result ≡ in_word (bytes (printed (view tree.now) precedence)) }
 {
     match tree {

@@ -36,7 +36,12 @@ fn put_fixed(buf: &mut String, text: &str)
     requires room { HasRoom buf.old text.now }
     ensures { Appended buf.old buf.new text.now }
 {
-    put_ascii(buf, text);
+    // Most such texts are one character, for which a push is shorter than a copy.
+    if let [byte] = text.as_bytes() {
+        put(buf, char::from(*byte));
+    } else {
+        put_ascii(buf, text);
+    }
 }
 
 /// Writes a Literal.
@@ -79,8 +84,23 @@ fn put_delegate(buf: &mut String, inner: &str, casei: bool)
 
 /// Writes a tree's text.
 #[cycle(write)]
+#[inline(always)]
 #[tactic(auto, using(crate::proofs::PrintLemmas::write_steps))]
 pub(super) fn put_tree(buf: &mut String, tree: &Expr, precedence: u8)
+    requires { HasRoom buf.old (printed (view tree.now) precedence) }
+    ensures { Appended buf.old buf.new (printed (view tree.now) precedence) }
+{
+    match tree {
+        Expr::Literal { val, casei: false } => put_quotes(buf, val.as_str()),
+        _ => put_node(buf, tree, precedence),
+    }
+}
+
+/// Writes the text of any node.
+#[cycle(write)]
+#[inline(never)]
+#[tactic(auto, using(crate::proofs::PrintLemmas::write_steps))]
+fn put_node(buf: &mut String, tree: &Expr, precedence: u8)
     requires { HasRoom buf.old (printed (view tree.now) precedence) }
     ensures { Appended buf.old buf.new (printed (view tree.now) precedence) }
 {

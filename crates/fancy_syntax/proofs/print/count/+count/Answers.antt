@@ -1,9 +1,11 @@
-use Rattle.std.proofs.Common.{◌≡◌, ◌++◌, ◌+◌, append_assoc, [], nat_lt, rules, codes, sym, ◌∙◌, arith}
+use Rattle.std.proofs.Common.{◌≡◌, ◌++◌, ◌+◌, append_assoc, [], false, nat_lt, rules, codes, sym, ◌∙◌, ap, chars, arith}
 use Rattle.fancy_parts.proofs.RoomLemmas.{counting_as, counting_later, counting_ends}
-use Rattle.fancy_grammar.specs.Printed.{printed, printed_all}
+use Rattle.fancy_lex.specs.Text.{bytes}
+use Rattle.fancy_parts.specs.Quote.{quotes}
+use Rattle.fancy_grammar.specs.Printed.{printed, printed_all, caseless}
 use Rattle.fancy_syntax.specs.View.{view}
 use Rattle.fancy_syntax.specs.declared.expr.Expr.{the_lemmas}
-use Rattle.fancy_syntax.proofs.PrintLemmas.{asked, left, branches, bytes_none}
+use Rattle.fancy_syntax.proofs.PrintLemmas.{asked, left, branches, bytes_none, minds_case}
 use Rattle.fancy_syntax.proofs.PrintLemmas.{all_step, all_end, branches_step, branches_end}
 use Rattle.fancy_syntax.proofs.print.count.+count.Goals as goal
 
@@ -38,7 +40,15 @@ alt_len-returns t c =
     let end = branches_end c.args.trees.now c.loop-i.i c.loop-i-test.false in
     c.grouped_len.ensures _ (counting_ends c.loop-i.len _ (counting_as _ _ _ _ end c.loop-i.invariant))
 
-pub tree_len-returns-in_default : goal.tree_len-returns-in_default
-tree_len-returns-in_default t c =
+pub tree_len-returns-in-Literal-default-false : goal.tree_len-returns-in-Literal-default-false
+tree_len-returns-in-Literal-default-false t c =
+    let text : printed (view c.args.tree.now) c.args.precedence
+    ≡ caseless c.in-Literal-default-false.casei (quotes (chars c.as_str.result.now)) = search (rules, the_lemmas) in
+    let minds : c.in-Literal-default-false.casei ≡ false = cc in
+    let plain = minds_case _ (quotes (chars c.as_str.result.now)) minds in
+    omega (arith, c.quotes_len.ensures, c.quotes_len.type_inv, ap bytes (text ∙ plain))
+
+pub node_len-returns-in_default : goal.node_len-returns-in_default
+node_len-returns-in_default t c =
     let none : printed (view c.args.tree.now) c.args.precedence ≡ [] = search (rules, the_lemmas) in
     omega (arith, bytes_none _ none)

@@ -1,10 +1,12 @@
-use Rattle.std.proofs.Common.{◌≡◌, ◌++◌, ◌+◌, [], nat_lt, rules, codes}
-use Rattle.fancy_parts.proofs.RoomLemmas.{writing_as, writing_room, writing_later, writing_ends}
-use Rattle.fancy_grammar.specs.Printed.{printed, printed_all}
+use Rattle.std.proofs.Common.{◌≡◌, ◌++◌, ◌+◌, ◌∙◌, [], false, nat_lt, rules, codes, chars, sym, subst}
+use Rattle.fancy_parts.proofs.RoomLemmas.{writing_as, writing_room, writing_later, writing_ends, written_as}
+use Rattle.fancy_parts.specs.Quote.{quotes}
+use Rattle.fancy_parts.specs.Room.{HasRoom}
+use Rattle.fancy_grammar.specs.Printed.{printed, printed_all, caseless}
 use Rattle.fancy_syntax.specs.View.{view}
 use Rattle.fancy_syntax.specs.declared.expr.Expr.{the_lemmas}
 use Rattle.fancy_syntax.proofs.PrintLemmas.{asked, left, branches, all_step, all_end, branches_step, branches_end}
-use Rattle.fancy_syntax.proofs.PrintLemmas.{bar_room, no_text_written}
+use Rattle.fancy_syntax.proofs.PrintLemmas.{bar_room, minds_case, no_text_written}
 use Rattle.fancy_syntax.proofs.print.write.+write.Goals as goal
 
 pub put_all-put_tree-requires : goal.put_all-put_tree-requires
@@ -63,7 +65,23 @@ put_branches-returns t c =
     writing_ends c.args.buf.now c.loop-i.buf _
     (writing_as _ _ _ _ _ (branches_end c.args.trees.now c.loop-i.i c.loop-i-test.false) c.loop-i.invariant)
 
-pub put_tree-returns-in_default : goal.put_tree-returns-in_default
-put_tree-returns-in_default t c =
+pub put_tree-put_quotes-requires : goal.put_tree-put_quotes-requires
+put_tree-put_quotes-requires t c =
+    let text : printed (view c.args.tree.now) c.args.precedence
+    ≡ caseless c.in-Literal-default-false.casei (quotes (chars c.as_str.result.now)) = search (rules, the_lemmas) in
+    let minds : c.in-Literal-default-false.casei ≡ false = cc in
+    let plain = minds_case _ (quotes (chars c.as_str.result.now)) minds in
+    subst (HasRoom c.args.buf.now) (text ∙ plain) c.requires
+
+pub put_tree-returns-in-Literal-default-false : goal.put_tree-returns-in-Literal-default-false
+put_tree-returns-in-Literal-default-false t c =
+    let text : printed (view c.args.tree.now) c.args.precedence
+    ≡ caseless c.in-Literal-default-false.casei (quotes (chars c.as_str.result.now)) = search (rules, the_lemmas) in
+    let minds : c.in-Literal-default-false.casei ≡ false = search rules in
+    let plain = minds_case _ (quotes (chars c.as_str.result.now)) minds in
+    written_as _ _ _ _ c.put_quotes.ensures (sym (text ∙ plain))
+
+pub put_node-returns-in_default : goal.put_node-returns-in_default
+put_node-returns-in_default t c =
     let none : printed (view c.args.tree.now) c.args.precedence ≡ [] = search (rules, the_lemmas) in
     no_text_written c.args.buf.now _ none
