@@ -1,5 +1,5 @@
 //! Escapes: what stands behind a backslash.
-ghost use Rattle.std.specs.Prelude.{◌≡◌, ℕ, Bool, true, ◌+◌, ◌^◌, ◌<◌, ◌≤◌, [], ◌∷◌, if◌then◌else◌, false, length, chars, IfErr, IfOk, IfSome, option_map};
+ghost use Rattle.std.specs.Prelude.{◌≡◌, ◌==◌, ℕ, Bool, true, ◌+◌, ◌^◌, ◌<◌, ◌≤◌, [], ◌∷◌, if◌then◌else◌, false, length, chars, IfErr, IfOk, IfSome, option_map};
 ghost use Rattle.fancy_lex.specs.Characters.{backslash};
 ghost use Rattle.fancy_lex.specs.Escape as spec;
 ghost use Rattle.fancy_lex.specs.EscapeReference as references;
@@ -400,6 +400,19 @@ fn short_call(text: &str) -> Option<(Escaped<'_>, &str)>
     Some((Escaped::SubroutineCall(call), rest))
 }
 
+/// How many digits a code has behind this letter, without braces.
+#[inline(always)]
+fn code_width(letter: char) -> u32
+    ensures value { result ≡ (if letter == 120 then 2 else if letter == 117 then 4 else 8) }
+    ensures within { result ≤ 8 }
+{
+    match letter {
+        'x' => 2,
+        'u' => 4,
+        _ => 8,
+    }
+}
+
 /// The escape at the front, after a backslash outside a class, if a look-ahead parses all of it, and what follows it: a
 /// character alone, a code of a fixed number of digits without whitespace and comments before them, a property of one
 /// character, a reference or a call.
@@ -414,9 +427,7 @@ pub fn short_escape(text: &str, flags: Flags) -> Option<(Escaped<'_>, &str)>
     let leaf = match c {
         'b' => bare_boundary(rest, false, flags.ignore_space)?,
         'B' => bare_boundary(rest, true, flags.ignore_space)?,
-        'x' => return short_hex(rest, 2, flags),
-        'u' => return short_hex(rest, 4, flags),
-        'U' => return short_hex(rest, 8, flags),
+        'x' | 'u' | 'U' => return short_hex(rest, code_width(c), flags),
         'p' | 'P' => return short_property(rest, c, flags),
         '0'..='9' => return numbered_backref(text, flags).ok(),
         'k' => return backref_escape(rest, flags).ok(),

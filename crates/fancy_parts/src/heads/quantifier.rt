@@ -82,6 +82,7 @@ fn as_mark(low: usize, high: usize) -> Counts
 }
 
 /// Reads a quantifier: a mark, or counts in braces.
+#[inline(always)]
 #[tactic(auto, unfolding(crate::specs::Quantifier::counts))]
 fn read_counts(text: &str, ignore_space: bool) -> Option<(Counts, &str)>
     ensures value { spec.counts ignore_space (chars text.now) ≡ option_map (λ p. (p.0, chars p.1.now)) result }
@@ -100,7 +101,7 @@ fn read_counts(text: &str, ignore_space: bool) -> Option<(Counts, &str)>
 /// Parses the counts of a quantifier, `?`, `*`, `+` or braces that are complete, and returns them with the text after
 /// the character or the closing brace. None if there is no quantifier. Inside braces layout is skipped, comments always
 /// and whitespace if `ignore_space` is set.
-#[inline]
+#[inline(always)]
 pub fn counts(text: &str, ignore_space: bool) -> Option<(Counts, &str)>
     ensures value { spec.counts ignore_space (chars text.now) ≡ option_map (λ p. (p.0, chars p.1.now)) result }
     ensures cut { IfSome result (λ p. EndsWith (chars text.now) (chars p.1.now)) }

@@ -88,7 +88,7 @@ impl<'a> Parser<'a> {
             self.here.rest = rest;
             return Ok(true);
         }
-        let Some((escaped, rest)) = plain_escape(self.here) else {
+        let Some((escaped, rest)) = plain_escape::<S>(self.here) else {
             return Ok(false);
         };
         let leaf = leaf_node(alloc, escaped)?;

@@ -11,6 +11,7 @@ ghost use Rattle.fancy_grammar.specs.Quantified.{quants};
 ghost use Rattle.fancy_grammar.specs.State.{done};
 ghost use Rattle.fancy_grammar.specs.Tree.{Tree, literal};
 
+use crate::grammar::spanning::Spanning;
 use crate::grammar::state::State;
 use fancy_lex::escape::{Escaped, short_escape};
 use fancy_lex::layout::is_layout;
@@ -36,9 +37,9 @@ pub(crate) fn plain<'a>(here: State<'a>) -> Option<(char, &'a str)>
 }
 
 /// What the escape at the front stands for and what follows it, where a look ahead reads all of it, with no layout and
-/// no quantifier behind it.
+/// no quantifier behind it. Each way of noting spans has one of its own, which is inlined where it is called.
 #[inline(always)]
-pub(crate) fn plain_escape<'a>(here: State<'a>) -> Option<(Escaped<'a>, &'a str)>
+pub(crate) fn plain_escape<'a, S: Spanning>(here: State<'a>) -> Option<(Escaped<'a>, &'a str)>
     ensures plain { IfSome result (λ p. IsNotedPlain (state here.entry) (leaf_node (escape_of p.0)) (chars p.1.now)) }
     ensures shorter { IfSome result (λ p. length p.1.now < length here.entry.rest.now) }
 {

@@ -153,6 +153,7 @@ fn quantify_once<S: Spanning>(
 /// Puts the tree under a quantifier of these counts, and reads what follows them.
 ///
 /// TargetNotRepeatable at the mark or the closing brace, where the tree takes no quantifier.
+#[inline(always)]
 fn repeat<S: Spanning>(
     alloc: Global,
     tree: &mut Expr,

@@ -6,7 +6,7 @@ use Rattle.fancy_syntax.specs.Parsed.{state}
 use Rattle.fancy_syntax.proofs.grammar.plain.plain_escape.Goals as goal
 
 pub returns-clause-plain : goal.returns-clause-plain
-returns-clause-plain c =
+returns-clause-plain g c =
     is_noted_escape (state c.args.here) (chars c.in_ok-text.text.now) (chars c.in_ok-leaf.rest.now)
     (escape_of c.in_ok-leaf.leaf) (strip_is _ _ _ c.in_ok-text.ensures.value) c.in_ok-leaf.ensures.value
     (c.is_unquantified.ensures.quants c.if-not-is_unquantified.false)
