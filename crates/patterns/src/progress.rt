@@ -11,8 +11,8 @@ use std::io::{Chain, ErrorKind};
 use std::test::Fail;
 use std::time::{Clock, Duration};
 
-/// Files in memory, and a clock that shows these milliseconds, one after the other, and then the last ones; it cannot be
-/// read where there are none.
+/// Files in memory, and a clock that shows these milliseconds, one after the other, and then the last ones; it cannot
+/// be read where there are none.
 #[derive(Drop)]
 struct Timed<'a> {
     memory: Memory<'a>,
@@ -71,8 +71,8 @@ const ERR: Terminals = Terminals {
     err: true,
 };
 
-/// A line of eight bytes, its end among them. The clock is asked when a run begins, when a file does, and after 8,192 bytes
-/// of patterns.
+/// A line of eight bytes, its end among them. The clock is asked when a run begins, when a file does, and after 8,192
+/// bytes of patterns.
 const LINE: &str = "abcdefg\n";
 
 /// What a run meets, and what it writes.
@@ -114,6 +114,9 @@ const LINE_AND_REFUSAL: &str = "\r0 of 1 file, 1,024 patterns\x1b[K\r\x1b[K\
 1,025 patterns, 1 refused
 ";
 
+const TWO_LINES: &str = "\r0 of 1 file, 2,048 patterns\x1b[K\r0 of 1 file, 4,096 patterns\x1b[K\
+\r\x1b[K5,121 patterns, 1 refused\n";
+
 static ROWS: [Row; 8] = [
     // Not before a second, and again not before a tenth of a second.
     Row {
@@ -122,7 +125,7 @@ static ROWS: [Row; 8] = [
         times: &[0, 500, 999, 1000, 1099, 1100],
         lines: 5120,
         out: LATE_REFUSAL,
-        err: "\r0 of 1 file, 2,048 patterns\x1b[K\r0 of 1 file, 4,096 patterns\x1b[K\r\x1b[K5,121 patterns, 1 refused\n",
+        err: TWO_LINES,
     },
     Row {
         words: &["patterns", "check", "good", "empty", "good", "-"],

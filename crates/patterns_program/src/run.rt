@@ -199,6 +199,8 @@ fn answer_files<S: System, O: Write, E: Write>(
 /// part of the output. A pattern ends as the job says, and is reported with the number of its first line; a NUL that ends a
 /// pattern ends a line too. The file `-` is standard input. The last line on `err` says how many patterns there were and
 /// what became of them, unless the job is quiet or the status is 3.
+/// Where `err` is a terminal and the job is not quiet, a line on it says how far the run is, once that takes longer than
+/// a second; it is erased before anything else is written.
 pub fn run<S: System, O: Write, E: Write>(
     alloc: Global,
     job: Job,
