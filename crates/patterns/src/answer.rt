@@ -11,8 +11,8 @@ use patterns_program::lint::rule::write_rules;
 use patterns_program::objects::tree::write_tree;
 use patterns_program::paint::Paints;
 use patterns_program::picture::draw_picture;
+use patterns_program::progress::System;
 use patterns_program::run::{Job, Verb, run};
-use patterns_program::sources::Sources;
 use std::alloc::{AllocError, Global};
 use std::io::Write;
 
@@ -62,7 +62,7 @@ fn answer_pattern<O: Write, E: Write>(
 }
 
 /// Runs a subcommand over files.
-fn answer_files<S: Sources, O: Write, E: Write>(
+fn answer_files<S: System, O: Write, E: Write>(
     alloc: Global,
     auto: Paints,
     verb: Verb,
@@ -90,7 +90,7 @@ fn answer_files<S: Sources, O: Write, E: Write>(
 }
 
 /// Lists the rules of `lint`, or reports what they find in files.
-fn answer_lint<S: Sources, O: Write, E: Write>(
+fn answer_lint<S: System, O: Write, E: Write>(
     alloc: Global,
     auto: Paints,
     flags: u32,
@@ -123,7 +123,7 @@ fn answer_lint<S: Sources, O: Write, E: Write>(
 }
 
 /// Runs a subcommand.
-fn answer_verb<S: Sources, O: Write, E: Write>(
+fn answer_verb<S: System, O: Write, E: Write>(
     alloc: Global,
     auto: Paints,
     name: &str,
@@ -148,7 +148,7 @@ fn answer_verb<S: Sources, O: Write, E: Write>(
 }
 
 /// Runs the subcommand that the arguments choose, or reports what is wrong with them.
-fn try_answer<S: Sources, O: Write, E: Write>(
+fn try_answer<S: System, O: Write, E: Write>(
     alloc: Global,
     auto: Paints,
     words: &[String],
@@ -168,7 +168,7 @@ fn try_answer<S: Sources, O: Write, E: Write>(
 /// Does what the arguments ask, the program's name first, and returns the exit status: that of the run, or 0 if help
 /// was asked for, 2 if the arguments are wrong, and 3 if memory ran out or a write failed. Where the arguments leave it open,
 /// `auto` says which stream has colours.
-pub(crate) fn answer<S: Sources, O: Write, E: Write>(
+pub(crate) fn answer<S: System, O: Write, E: Write>(
     alloc: Global,
     auto: Paints,
     words: &[String],

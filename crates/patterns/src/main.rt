@@ -10,15 +10,16 @@ use answer::answer;
 use files::Host;
 use patterns_program::fault::{Fault, give_up};
 use patterns_program::paint::{Paint, Paints};
+use patterns_program::progress::{System, Terminals};
 use std::alloc::AllocError;
 use std::env::VarError;
-use std::io::{BufWriter, IsTerminal};
+use std::io::BufWriter;
 use std::process::ExitCode;
 use std::{env, io};
 
 /// The colours of the two streams where the arguments leave it open: a terminal has colours, unless `NO_COLOR` is set and
 /// not empty.
-fn paints_of(rt: &HostRuntime) -> Result<Paints, AllocError> {
+fn paints_of(rt: &HostRuntime, terminals: Terminals) -> Result<Paints, AllocError> {
     let is_wanted = match env::var(rt, "NO_COLOR") {
         Ok(value) => value.is_empty(),
         Err(VarError::NotPresent) => true,
@@ -26,8 +27,8 @@ fn paints_of(rt: &HostRuntime) -> Result<Paints, AllocError> {
         Err(VarError::OutOfMemory) => return Err(AllocError),
     };
     Ok(Paints {
-        out: Paint::colored_if(is_wanted && rt.stdout().is_terminal()),
-        err: Paint::colored_if(is_wanted && rt.stderr().is_terminal()),
+        out: Paint::colored_if(is_wanted && terminals.out),
+        err: Paint::colored_if(is_wanted && terminals.err),
     })
 }
 
@@ -35,15 +36,9 @@ fn paints_of(rt: &HostRuntime) -> Result<Paints, AllocError> {
 fn run(rt: &HostRuntime) -> io::Result<u8> {
     let words: Vec<String> = env::args(rt)?.collect(rt.alloc())?;
     let mut out = BufWriter::new(rt.alloc(), rt.stdout())?;
-    let auto = paints_of(rt)?;
-    Ok(answer(
-        rt.alloc(),
-        auto,
-        &words,
-        &Host { rt },
-        &mut out,
-        &mut rt.stderr(),
-    ))
+    let host = Host { rt };
+    let auto = paints_of(rt, host.terminals())?;
+    Ok(answer(rt.alloc(), auto, &words, &host, &mut out, &mut rt.stderr()))
 }
 
 fn main(rt: HostRuntime) -> ExitCode {
@@ -61,5 +56,7 @@ mod lints;
 mod memory;
 #[cfg(test)]
 mod objects;
+#[cfg(test)]
+mod progress;
 #[cfg(test)]
 mod tests;

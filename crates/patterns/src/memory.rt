@@ -1,8 +1,10 @@
 //! Files, and writers, that lie in memory.
+use patterns_program::progress::{System, Terminals};
 use patterns_program::sources::Sources;
 use std::alloc::Global;
 use std::io;
 use std::io::{BufRead, Chain, ErrorKind, Read, Write};
+use std::time::{Clock, Duration};
 
 /// Nothing to read; or a fault where one would read on.
 #[derive(Clone, Copy)]
@@ -64,6 +66,26 @@ impl<'a> Sources for Memory<'a> {
 
     fn input(&self) -> io::Result<&'a [u8]> {
         Ok(self.input)
+    }
+}
+
+/// The clock stands still.
+impl Clock for Memory<'_> {
+    fn monotonic(&self) -> io::Result<Duration> {
+        Ok(Duration::ZERO)
+    }
+
+    fn since_1970(&self) -> io::Result<Duration> {
+        Ok(Duration::ZERO)
+    }
+}
+
+impl System for Memory<'_> {
+    fn terminals(&self) -> Terminals {
+        Terminals {
+            out: false,
+            err: false,
+        }
     }
 }
 

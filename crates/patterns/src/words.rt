@@ -38,7 +38,7 @@ const NULL_HELP: &str = "A pattern ends with NUL, and not with its line";
 const JSON_HELP: &str = "Writes JSON, one object per line, to standard output";
 
 const QUIET_HELP: &str =
-    "Does not write at the end, to standard error, how many patterns there were";
+    "Does not write to standard error how far the run is, nor at its end how many patterns there were";
 
 const COLOR_HELP: &str =
     "When to write colours: always, never, or auto, which is to a terminal unless the environment variable NO_COLOR is \

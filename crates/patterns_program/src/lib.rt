@@ -17,6 +17,7 @@ pub mod paint;
 pub mod picture;
 pub mod place;
 pub mod printing;
+pub mod progress;
 mod reading;
 pub mod run;
 pub mod sources;

@@ -13,10 +13,11 @@ use crate::outcome::Outcome;
 use crate::paint::Paints;
 use crate::place::Location;
 use crate::printing::{Comments, format_pattern, is_formatted};
-use crate::sources::Sources;
+use crate::progress::{Screen, System};
 use crate::tally::Tally;
 use std::alloc::{AllocError, Global};
 use std::io::{BufRead, ErrorKind, Write};
+use std::time::Clock;
 use std::{io, str};
 
 /// The file name that stands for standard input.
@@ -47,7 +48,7 @@ pub struct Job {
     pub verb: Verb,
     pub flags: u32,
     pub ending: Ending,
-    /// Whether nothing is said at the end of the run.
+    /// Whether the run says neither how far it is nor, at its end, what became of the patterns.
     pub is_quiet: bool,
     pub paints: Paints,
 }
@@ -121,13 +122,12 @@ fn unread<E: Write>(file: &str, error: io::Error, err: &mut E) -> Result<Outcome
 }
 
 /// Does the verb's work on each line of a reader.
-fn answer_lines<R: BufRead, O: Write, E: Write>(
+fn answer_lines<R: BufRead, C: Clock, O: Write, E: Write>(
     alloc: Global,
     job: Job,
     file: &str,
     reader: &mut R,
-    out: &mut O,
-    err: &mut E,
+    screen: &mut Screen<'_, C, O, E>,
     tally: &mut Tally,
 ) -> Result<Outcome, Fault> {
     let mut buffer = Vec::new(alloc);
@@ -137,57 +137,58 @@ fn answer_lines<R: BufRead, O: Write, E: Write>(
         match next_record(reader, job.ending, &mut buffer) {
             Ok(Some(text)) => {
                 let at = located(job, file, line);
+                let Screen { out, err, .. } = screen;
                 let found = answer_line(alloc, job, at, text, out, err, tally)?;
                 line = line.saturating_add(lines_in(text));
                 tally.add(found);
                 outcome = outcome.and(found);
+                screen.end_pattern(text.len(), tally)?;
             }
             Ok(None) => return Ok(outcome),
-            Err(error) => return unread(file, error, err),
+            Err(error) => return unread(file, error, &mut screen.err),
         }
     }
     Ok(Outcome::Unread)
 }
 
 /// Does the verb's work on each line of a file.
-fn answer_file<S: Sources, O: Write, E: Write>(
+fn answer_file<S: System, O: Write, E: Write>(
     alloc: Global,
     job: Job,
     file: &str,
     sources: &S,
-    out: &mut O,
-    err: &mut E,
+    screen: &mut Screen<'_, S, O, E>,
     tally: &mut Tally,
 ) -> Result<Outcome, Fault> {
     if file == STANDARD_INPUT {
         return match sources.input() {
-            Ok(mut input) => answer_lines(alloc, job, file, &mut input, out, err, tally),
-            Err(error) => unread(file, error, err),
+            Ok(mut input) => answer_lines(alloc, job, file, &mut input, screen, tally),
+            Err(error) => unread(file, error, &mut screen.err),
         };
     }
     match sources.open(file) {
-        Ok(mut opened) => answer_lines(alloc, job, file, &mut opened, out, err, tally),
-        Err(error) => unread(file, error, err),
+        Ok(mut opened) => answer_lines(alloc, job, file, &mut opened, screen, tally),
+        Err(error) => unread(file, error, &mut screen.err),
     }
 }
 
 /// Does the verb's work on each line of each file, and sees that it is written.
-fn answer_files<S: Sources, O: Write, E: Write>(
+fn answer_files<S: System, O: Write, E: Write>(
     alloc: Global,
     job: Job,
     files: &[&str],
     sources: &S,
-    out: &mut O,
-    err: &mut E,
+    screen: &mut Screen<'_, S, O, E>,
 ) -> Result<Outcome, Fault> {
     let mut outcome = Outcome::Good;
     let mut tally = Tally::new();
-    for file in files {
-        outcome = outcome.and(answer_file(alloc, job, file, sources, out, err, &mut tally)?);
+    for (done, file) in files.iter().enumerate() {
+        screen.begin_file(done, &tally)?;
+        outcome = outcome.and(answer_file(alloc, job, file, sources, screen, &mut tally)?);
     }
-    out.flush()?;
+    screen.out.flush()?;
     if !job.is_quiet {
-        writeln!(err, "{tally}")?;
+        writeln!(screen.err, "{tally}")?;
     }
     Ok(outcome)
 }
@@ -198,7 +199,9 @@ fn answer_files<S: Sources, O: Write, E: Write>(
 /// part of the output. A pattern ends as the job says, and is reported with the number of its first line; a NUL that ends a
 /// pattern ends a line too. The file `-` is standard input. The last line on `err` says how many patterns there were and
 /// what became of them, unless the job is quiet or the status is 3.
-pub fn run<S: Sources, O: Write, E: Write>(
+/// Where `err` is a terminal and the job is not quiet, a line on it says how far the run is, once that takes longer than
+/// a second; it is erased before anything else is written.
+pub fn run<S: System, O: Write, E: Write>(
     alloc: Global,
     job: Job,
     files: &[&str],
@@ -208,8 +211,9 @@ pub fn run<S: Sources, O: Write, E: Write>(
 ) -> u8
     ensures status { result ≤ 3 }
 {
-    match answer_files(alloc, job, files, sources, out, err) {
+    let mut screen = Screen::new(sources, job.is_quiet, files.len(), out, err);
+    match answer_files(alloc, job, files, sources, &mut screen) {
         Ok(outcome) => outcome.status(),
-        Err(fault) => give_up(err, fault),
+        Err(fault) => give_up(&mut screen.err, fault),
     }
 }

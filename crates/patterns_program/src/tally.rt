@@ -6,7 +6,7 @@ use std::fmt;
 /// How many patterns a run has met, and what became of them.
 #[derive(Clone, Copy)]
 pub(crate) struct Tally {
-    patterns: u64,
+    pub(crate) patterns: u64,
     /// Those that are not as the verb asks.
     failed: u64,
     /// Those among them that are accepted, and would be written otherwise.
@@ -58,7 +58,7 @@ impl Tally {
 
 /// A number with commas between the thousands.
 #[derive(Clone, Copy)]
-struct Thousands(u64);
+pub(crate) struct Thousands(pub(crate) u64);
 
 /// What the groups of three digits are multiples of.
 static GROUPS: [u64; 7] = [
@@ -89,7 +89,7 @@ impl fmt::Display for Thousands {
 
 /// A number, and what is counted.
 #[derive(Clone, Copy)]
-struct Counted(u64, &'static str);
+pub(crate) struct Counted(pub(crate) u64, pub(crate) &'static str);
 
 impl fmt::Display for Counted {
     fn fmt<W: fmt::Write>(&self, f: &mut fmt::Formatter<W>) -> fmt::Result {
