@@ -248,7 +248,7 @@ module _ {f : Flags} {text : Text} {t : Tree} {m : Marks} (a : IsTreeOf f text t
     names = names_writable a;
     nodes = nodes_writable f m mode 0 t (answered_with a).nodes
         (whole_or_counted f m.numbered_groups_ignored (preorder t) (nodes_told a) w) (references_writable small);
-    fits = answered_fits f text t m mode a;
+    fits = answered_fits f text t m a;
   }
 
   -- then its text reads back
