@@ -95,7 +95,8 @@ module _ (in_mode : Bool) (d : ℕ) (s : State) (o : s.flags.oniguruma_mode ≡ 
     flags_tell f m (gives (scoped g) u) h = ap (λ k. k.oniguruma_mode) h ∙ m
     flags_tell f m (fails e) h = tt
 
-    name_tells : (z : State) → z.flags.oniguruma_mode ≡ in_mode → (q : Reading Text) → AheadTells in_mode d s (named_ahead z q)
+    name_tells : (z : State) → z.flags.oniguruma_mode ≡ in_mode → (q : Reading Text) →
+        AheadTells in_mode d s (named_ahead z q)
     name_tells z m (gives w u) = m
     name_tells z m (fails e) = tt
 
@@ -114,18 +115,22 @@ module _ (in_mode : Bool) (d : ℕ) (s : State) (o : s.flags.oniguruma_mode ≡ 
     call_tells z m (gives c u) = open_leaf _ (at z u) m
     call_tells z m (fails e) = tt
 
-    condition_tells : (z : State) → z.flags.oniguruma_mode ≡ in_mode → (t : Text) → AheadTells in_mode d s (condition_ahead z t)
+    condition_tells : (z : State) → z.flags.oniguruma_mode ≡ in_mode → (t : Text) →
+        AheadTells in_mode d s (condition_ahead z t)
     condition_tells z m [] = tt
     condition_tells z m (c ∷ t) =
-        cond_both (begins_target (c ∷ t)) _ _ (AheadTells in_mode d s) (λ _. target_tells z m (condition_target (c ∷ t))) (λ _.
+        cond_both (begins_target (c ∷ t)) _ _ (AheadTells in_mode d s)
+        (λ _. target_tells z m (condition_target (c ∷ t))) (λ _.
         cond_both (c == code "*") _ _ (AheadTells in_mode d s)
         (λ _. choose_both (AheadTells in_mode d s) (verb_at t) _ _ (λ p _. (tt, m)) tt) (λ _. m))
 
-    repeater_tells : (z : State) → z.flags.oniguruma_mode ≡ in_mode → (t : Text) → AheadTells in_mode d s (repeater_ahead z t)
+    repeater_tells : (z : State) → z.flags.oniguruma_mode ≡ in_mode → (t : Text) →
+        AheadTells in_mode d s (repeater_ahead z t)
     repeater_tells z m [] = tt
     repeater_tells z m (c ∷ t) = m
 
-    question_tells : (z : State) → z.flags.oniguruma_mode ≡ in_mode → (t : Text) → AheadTells in_mode d s (behind_question z t)
+    question_tells : (z : State) → z.flags.oniguruma_mode ≡ in_mode → (t : Text) →
+        AheadTells in_mode d s (behind_question z t)
     question_tells z m t =
         let Q = AheadTells in_mode d s in
         choose_both Q (strip_word (codes "=") t) _ _ (λ _ _. m) (
@@ -148,9 +153,11 @@ module _ (in_mode : Bool) (d : ℕ) (s : State) (o : s.flags.oniguruma_mode ≡ 
     group_tells z m t =
         choose_both (AheadTells in_mode d s) (strip_word (codes "?") t) _ _ (λ u _. question_tells z m u) (
         choose_both (AheadTells in_mode d s) (strip_word (codes "*") t) _ _
-        (λ u _. choose_both (AheadTells in_mode d s) (verb_at u) _ _ (λ p _. open_leaf (label.verb p.0) (at z p.1) m) tt) m)
+        (λ u _. choose_both (AheadTells in_mode d s) (verb_at u) _ _
+        (λ p _. open_leaf (label.verb p.0) (at z p.1) m) tt) m)
 
-    behind_tells : (z : State) → z.flags.oniguruma_mode ≡ in_mode → (k : Skipped) → AheadTells in_mode d s (behind_layout z k)
+    behind_tells : (z : State) → z.flags.oniguruma_mode ≡ in_mode → (k : Skipped) →
+        AheadTells in_mode d s (behind_layout z k)
     behind_tells z m (rest u) = group_tells z m u
     behind_tells z m (open_comment p) = tt
 
@@ -159,7 +166,8 @@ module _ (in_mode : Bool) (d : ℕ) (s : State) (o : s.flags.oniguruma_mode ≡ 
   plain_leaf : (l : Leaf) (t : Text) → (IsLast d → IsPlain s.flags l) → LeafRead in_mode d s (leaf l) (at s t)
   plain_leaf l t h = record { is_leaf = tt; plain = h; stays = λ _. refl; mode = o }
 
-  escape_tells : (q : Reading Escape) → IfGives (IsTold s.flags) q → Holds (LeafRead in_mode d s) (leaf_outcome leaf_node s q)
+  escape_tells : (q : Reading Escape) → IfGives (IsTold s.flags) q →
+      Holds (LeafRead in_mode d s) (leaf_outcome leaf_node s q)
   escape_tells (gives (escaped.literal c casei) u) h = plain_leaf _ u (λ _. (refl, h))
   escape_tells (gives (escaped.literal_bytes b) u) h = plain_leaf _ u (λ _. (refl, h))
   escape_tells (gives (escaped.any newline crlf) u) h = plain_leaf _ u (λ _. (refl, h))

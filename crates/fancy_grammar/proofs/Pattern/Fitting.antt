@@ -1,7 +1,6 @@
 -- Where a tree fits if its parts do: wherever the flags suit it, or another group may open.
-use Rattle.std.proofs.Common.{◌≡◌, ℕ, zero, suc, ◌+◌, ◌<◌, ◌≤◌, Bool, true, false, not, ◌&&◌, ◌||◌, refl, sym, ap, ◌∙◌}
+use Rattle.std.proofs.Common.{◌≡◌, ℕ, ◌+◌, ◌<◌, ◌≤◌, Bool, true, false, ◌&&◌, ◌||◌, refl, sym, ap, ◌∙◌}
 use Rattle.std.proofs.Common.{subst, arith, ◌⊎◌, inl, inr, nat_lt, ltb-true}
-use Rattle.std.proofs.Math.Bool.{or-false}
 use Rattle.std.proofs.lemmas.Bool.{false≢true, ltb-false}
 use Rattle.fancy_lex.specs.declared.flags.Flags.{Flags}
 use Rattle.fancy_grammar.specs.Depth.{max_depth}
@@ -13,7 +12,6 @@ use Rattle.fancy_grammar.specs.Pattern.{is_last_operand, room, behind}
 use Rattle.fancy_grammar.specs.PatternDepth.{MayOpen, MayOpenIf, MaySet, FitsInParens, FitsInParensIf, is_in_parens}
 use Rattle.fancy_grammar.specs.PatternDepth.{FitsAsCondition, Fits, FitAll}
 use Rattle.fancy_grammar.specs.PatternNeeds.{settled}
-use Rattle.fancy_grammar.specs.PatternQuantifier.{is_possessive}
 use Rattle.fancy_grammar.specs.Quantified.{is_repeatable}
 use Rattle.fancy_grammar.specs.Tree.{Tree, leaf, over, row, Trees, no_trees, more_trees}
 use Rattle.fancy_grammar.specs.declared.kinds.LookAround.{LookAround}
@@ -21,7 +19,6 @@ use Rattle.fancy_grammar.specs.declared.precedence.Precedence.{Precedence}
 use Rattle.fancy_grammar.specs.declared.precedence.Precedence.TheVariants.{Whole, Branch, Piece, Operand}
 use Rattle.fancy_grammar.proofs.Pattern.Levels.{atom_fits, parens_fit, scope_fits}
 use Rattle.fancy_grammar.proofs.Pattern.Needed.{like_behind, settled_again, turns_none}
-use Rattle.fancy_grammar.proofs.Pattern.Repeats.{room_none}
 use Rattle.fancy_grammar.proofs.Pattern.Suited.{Suits, SuitAll, suited_settled, settled_suits, suited_behind}
 
 -- ---- where flags suit, or may be set

@@ -1,18 +1,13 @@
 -- What is read, once it is resolved, nests in its text no deeper than in the pattern: the parts, and what they come to.
-use Rattle.std.proofs.Common.{◌≡◌, ℕ, zero, suc, ◌+◌, ◌<◌, ◌≤◌, Bool, true, false, List, [], ◌∷◌, length}
-use Rattle.std.proofs.Common.{Option, Some, None, refl, sym, ap, ◌∙◌, arith, ◌⊎◌, inl, inr, nat_lt, ltb-true}
-use Rattle.std.proofs.lemmas.Bool.{cond_both, false≢true, ltb-false, and_parts}
+use Rattle.std.proofs.Common.{◌≡◌, ℕ, ◌+◌, ◌<◌, ◌≤◌, Bool, true, false, List, [], ◌∷◌, length}
+use Rattle.std.proofs.Common.{Some, None, refl, sym, ◌∙◌, arith, ◌⊎◌, inl, inr, nat_lt, ltb-true}
+use Rattle.std.proofs.lemmas.Bool.{cond_both, false≢true, ltb-false}
 use Rattle.std.specs.List.{AllByRecursion}
-use Prim.Native.Char.{code}
 use Rattle.fancy_lex.specs.Flags.{no_flag}
-use Rattle.fancy_lex.specs.LayoutSteps.{Skipped, rest, fault as open_comment}
-use Rattle.fancy_lex.specs.Text.{Text, strip, place_at}
+use Rattle.fancy_lex.specs.Text.{Text, place_at}
 use Rattle.fancy_lex.specs.declared.flags.Flags.{Flags}
-use Rattle.fancy_lex.proofs.ReadingLemmas.{choose_both}
 use Rattle.fancy_parts.specs.Meaning.{Meaning, number, means}
-use Rattle.fancy_parts.specs.Quantifier.{counts}
 use Rattle.fancy_parts.specs.Ranks.{numbered_openings_in}
-use Rattle.fancy_parts.specs.declared.counts.Counts.{Counts}
 use Rattle.fancy_grammar.specs.Depth.{max_depth}
 use Rattle.fancy_grammar.specs.Items.{openings, role_of, target_of}
 use Rattle.fancy_grammar.specs.Join.{is_empty, solid, one_or, join, choice}
@@ -20,15 +15,13 @@ use Rattle.fancy_grammar.specs.Label as label
 use Rattle.fancy_grammar.specs.Label.{Leaf, AstReference, ast_backref, ast_call, ast_condition}
 use Rattle.fancy_grammar.specs.Pattern.{is_operand}
 use Rattle.fancy_grammar.specs.PatternDepth.{is_in_parens}
-use Rattle.fancy_grammar.specs.Quantified.{is_repeatable, quant, quant_at, with_counts, suffix, suffix_at}
-use Rattle.fancy_grammar.specs.Quantified.{behind_lazy, is_greedy}
-use Rattle.fancy_grammar.specs.Quantified.{may_be_possessive, Suffix, quantified, is_swapped, is_dropped, quants}
+use Rattle.fancy_grammar.specs.Quantified.{is_repeatable}
 use Rattle.fancy_grammar.specs.Resolved.{resolved_in, resolved_all, reference_node}
-use Rattle.fancy_grammar.specs.State.{skipped, State, at, Outcome}
+use Rattle.fancy_grammar.specs.State.{State}
 use Rattle.fancy_grammar.specs.Tree.{Tree, leaf, over, row, Trees, no_trees, more_trees, trees_of, concat}
 use Rattle.fancy_grammar.specs.declared.precedence.Precedence.{Precedence}
 use Rattle.fancy_grammar.specs.declared.precedence.Precedence.TheVariants.{Whole, Branch, Piece, Operand}
-use Rattle.fancy_grammar.proofs.OutcomeLemmas.{Holds, then_holds, each_solid}
+use Rattle.fancy_grammar.proofs.OutcomeLemmas.{each_solid}
 use Rattle.fancy_grammar.proofs.Pattern.Ahead.{IsLast, IsPlain, LeafRead}
 use Rattle.fancy_grammar.proofs.Pattern.Fitting.{Fit, EachFit, FitAlone, all_fit, leaf_fit, IsUnquantified, alone_fit}
 use Rattle.fancy_grammar.proofs.Pattern.Fitting.{IsLow}
@@ -119,7 +112,8 @@ pub record Grouped (in_mode : Bool) (R : ℕ → Tree → Tree) (d : ℕ) (r : T
   pub fitted : Fitted in_mode R 3 d r
   pub branches : BranchesFitted in_mode R d r
 
-pub fewer : (in_mode : Bool) (R : ℕ → Tree → Tree) (j k d : ℕ) (r : Tree) → j ≤ k → Fitted in_mode R k d r → Fitted in_mode R j d r
+pub fewer : (in_mode : Bool) (R : ℕ → Tree → Tree) (j k d : ℕ) (r : Tree) → j ≤ k → Fitted in_mode R k d r →
+    Fitted in_mode R j d r
 fewer in_mode R j k d r l h = record {
   fits = λ c p u. h.fits c p (stands_more in_mode j k r p l u);
   alone = h.alone;
@@ -315,7 +309,8 @@ module _ (in_mode : Bool) (z : ℕ) (named : Bool) (numbers_of : Text → List �
   branches_each d [] h c = tt
   branches_each d (t ∷ ts) h c = ((h.0).fits c Branch (omega arith), branches_each d ts h.1 _)
 
-  pub choice_fitted : (d : ℕ) (l : List Tree) → AllByRecursion (Fitted in_mode R 1 d) l → Fitted in_mode R 0 d (choice l)
+  pub choice_fitted : (d : ℕ) (l : List Tree) → AllByRecursion (Fitted in_mode R 1 d) l →
+      Fitted in_mode R 0 d (choice l)
   choice_fitted d [] h = empty_fitted 0 d
   choice_fitted d (t ∷ []) h = fewer in_mode R 0 1 d t (omega arith) h.0
   choice_fitted d (t ∷ u ∷ ts) h = record {
@@ -324,7 +319,8 @@ module _ (in_mode : Bool) (z : ℕ) (named : Bool) (numbers_of : Text → List �
     hollow = λ c e n. absurd (false≢true e);
   }
     where
-      inside : (c : ℕ) (p : Precedence) → StandsAs in_mode 0 (choice (t ∷ u ∷ ts)) p → Fit in_mode d p (R c (choice (t ∷ u ∷ ts)))
+      inside : (c : ℕ) (p : Precedence) → StandsAs in_mode 0 (choice (t ∷ u ∷ ts)) p →
+          Fit in_mode d p (R c (choice (t ∷ u ∷ ts)))
       inside c Whole k =
           λ i o l r. all_fit in_mode d Branch (resolved_all z named numbers_of c (trees_of (t ∷ u ∷ ts))) i
           (branches_each d (t ∷ u ∷ ts) h c) o l r

@@ -24,7 +24,8 @@ use Rattle.fancy_grammar.specs.declared.precedence.Precedence.{Precedence}
 use Rattle.fancy_grammar.specs.declared.precedence.Precedence.TheVariants.{Whole, Branch}
 use Rattle.fancy_grammar.proofs.NeedsLemmas.{listed}
 use Rattle.fancy_grammar.proofs.Pattern.Ahead.{IsLast, IsTarget}
-use Rattle.fancy_grammar.proofs.Pattern.Fitting.{Fit, IsLow, fit_alone, alone_fit, SuitsLast, enclosed_fit, group_fit, look_fit, atomic_fit}
+use Rattle.fancy_grammar.proofs.Pattern.Fitting.{Fit, IsLow, fit_alone, alone_fit, SuitsLast, enclosed_fit}
+use Rattle.fancy_grammar.proofs.Pattern.Fitting.{group_fit, look_fit, atomic_fit}
 use Rattle.fancy_grammar.proofs.Pattern.Fitting.{define_fit, repeater_fit, stopper_fit, expression_fit, FitsOrTarget}
 use Rattle.fancy_grammar.proofs.Pattern.Fitting.{conditional_fit, leaf_fit}
 use Rattle.fancy_grammar.proofs.Pattern.Levels.{as_condition}
@@ -46,11 +47,13 @@ module _ (in_mode : Bool) (z : ℕ) (named : Bool) (numbers_of : Text → List �
     hollow = λ c e n. b;
   }
 
-  less_each : (k d : ℕ) (ts : Trees) → d + 1 < max_depth → EachFitted in_mode R k (d + 1) ts → EachFitted in_mode R k d ts
+  less_each : (k d : ℕ) (ts : Trees) → d + 1 < max_depth → EachFitted in_mode R k (d + 1) ts →
+      EachFitted in_mode R k d ts
   less_each k d no_trees b h = tt
   less_each k d (more_trees t ts) b h = (less k d t b h.0, less_each k d ts b h.1)
 
-  less_branches : (d : ℕ) (r : Tree) → d + 1 < max_depth → BranchesFitted in_mode R (d + 1) r → BranchesFitted in_mode R d r
+  less_branches : (d : ℕ) (r : Tree) → d + 1 < max_depth → BranchesFitted in_mode R (d + 1) r →
+      BranchesFitted in_mode R d r
   less_branches d (row label.alt (more_trees t ts)) b h = less_each 1 d (more_trees t ts) b h
   less_branches d (row label.alt no_trees) b h = less 1 d _ b h
   less_branches d r b h = less 1 d r b h
@@ -136,12 +139,14 @@ module _ (in_mode : Bool) (z : ℕ) (named : Bool) (numbers_of : Text → List �
     stopper_grouped a h s =
         cond_both (is_empty a) _ _ (Grouped in_mode R d) (λ _. open_leaf in_mode z named numbers_of d label.clear b)
         (λ e. grouped_as d b (over label.stopper a)
-        (λ c p. stopper_fit in_mode d b f o (R c a) (h.fits c Branch (omega arith)) (λ x. s x c) (λ x. h.hollow c x e) p)
+        (λ c p. stopper_fit in_mode d b f o (R c a) (h.fits c Branch (omega arith)) (λ x. s x c)
+        (λ x. h.hollow c x e) p)
         (λ k. k))
 
     -- ---- conditionals
 
-    each_listed : (ts : Trees) → EachFitted in_mode R 1 (d + 1) ts → AllByRecursion (Fitted in_mode R 1 (d + 1)) (list_of ts)
+    each_listed : (ts : Trees) → EachFitted in_mode R 1 (d + 1) ts →
+        AllByRecursion (Fitted in_mode R 1 (d + 1)) (list_of ts)
     each_listed no_trees h = tt
     each_listed (more_trees t ts) h = (h.0, each_listed ts h.1)
 

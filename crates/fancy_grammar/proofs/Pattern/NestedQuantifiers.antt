@@ -1,5 +1,5 @@
 -- What is read under its quantifiers, once it is resolved, nests in its text no deeper than in the pattern.
-use Rattle.std.proofs.Common.{◌≡◌, ℕ, zero, suc, ◌+◌, ◌<◌, ◌≤◌, Bool, true, false, not, ◌||◌, ◌&&◌, ◌==◌, List, [], ◌∷◌}
+use Rattle.std.proofs.Common.{◌≡◌, ℕ, zero, suc, ◌+◌, ◌<◌, ◌≤◌, Bool, true, false, not, ◌&&◌, ◌==◌, List, [], ◌∷◌}
 use Rattle.std.proofs.Common.{Option, Some, None, IfSome, refl, sym, ap, ◌∙◌, subst, arith, nat_lt, ltb-true}
 use Rattle.std.proofs.lemmas.Bool.{cond_both, false≢true, and_parts}
 use Rattle.std.proofs.lemmas.Bool.Decides.{nat_tests}
@@ -47,7 +47,8 @@ braces_from x low t = by_count (spaced_count x t)
     closed high (Some v) = λ e. absurd (false≢true (sym e))
 
     by_count : (o : Option (Option ℕ × Text)) →
-        IfMark (option_and_then (λ p. option_map (λ v. (in_braces low (unwrap_or p.0 most), v)) (strip (code "}") p.1)) o)
+        IfMark (option_and_then (λ p. option_map (λ v. (in_braces low (unwrap_or p.0 most), v))
+        (strip (code "}") p.1)) o)
     by_count None = tt
     by_count (Some p) = closed p.0 (strip (code "}") p.1)
 
@@ -275,8 +276,8 @@ module _ (in_mode : Bool) (z : ℕ) (named : Bool) (numbers_of : Text → List �
           (λ e. then_holds (SuffixTaken (at t u) c) (QuantRead j d s t) (suffix (at t u) c) _ (suffix_taken (at t u) c)
           (λ m w k. record {
             taken =
-                λ may. quantified_over j d s a t h may (repeats in_mode a t.flags h.part.mode e) w k.told.stays c m order
-                k.told.possessive;
+                λ may. quantified_over j d s a t h may (repeats in_mode a t.flags h.part.mode e) w k.told.stays c m
+                order k.told.possessive;
             unmoved = λ x. absurd (moved t w (omega (arith, long, k.fewer)) x);
           })) (λ _.
           cond_both (is_dropped t.flags left a u) _ _ P

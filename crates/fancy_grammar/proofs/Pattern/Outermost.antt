@@ -1,15 +1,14 @@
--- Where a tree under quantifiers fits: the outermost stand first, as many as the depth allows, and the others in a group.
--- So its atom stands no deeper than where it was read.
-use Rattle.std.proofs.Common.{◌≡◌, ℕ, zero, suc, ◌+◌, ◌-◌, ◌<◌, ◌≤◌, min, Bool, true, false, not, ◌||◌, refl, sym, ap}
+-- Where a tree under quantifiers fits: the outermost stand first, as many as the depth allows, and the others in a
+-- group. So its atom stands no deeper than where it was read.
+use Rattle.std.proofs.Common.{◌≡◌, ℕ, zero, suc, ◌+◌, ◌-◌, ◌≤◌, min, Bool, true, false, not, ◌||◌, sym, ap}
 use Rattle.std.proofs.Common.{◌∙◌, subst, arith, inl, nat_lt, if◌then◌else◌}
 use Rattle.std.proofs.Math.Bool.{or-false}
 use Rattle.std.proofs.Math.Nat.{le-min}
-use Rattle.std.proofs.lemmas.Bool.{false≢true}
 use Rattle.fancy_lex.specs.declared.flags.Flags.{Flags}
 use Rattle.fancy_grammar.specs.Depth.{max_depth}
 use Rattle.fancy_grammar.specs.Label as label
 use Rattle.fancy_grammar.specs.Pattern.{Here, under, deeper, is_last_operand, room}
-use Rattle.fancy_grammar.specs.PatternDepth.{MayOpen, FitsInParensIf, Fits}
+use Rattle.fancy_grammar.specs.PatternDepth.{FitsInParensIf, Fits}
 use Rattle.fancy_grammar.specs.PatternNeeds.{settled}
 use Rattle.fancy_grammar.specs.PatternQuantifier.{is_possessive, most_quantifiers}
 use Rattle.fancy_grammar.specs.Quantified.{max_adjacent}

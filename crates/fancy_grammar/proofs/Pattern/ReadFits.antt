@@ -1,6 +1,6 @@
 -- What is read nests in its text no deeper than in the pattern, so that the text of every tree that is answered fits.
 -- By one induction on the derivation.
-use Rattle.std.proofs.Common.{◌≡◌, ℕ, ◌+◌, ◌<◌, Bool, false, not, ◌&&◌, ◌==◌, List, [], ◌∷◌, refl, sym}
+use Rattle.std.proofs.Common.{◌≡◌, ℕ, ◌+◌, ◌<◌, Bool, not, ◌&&◌, ◌==◌, List, [], ◌∷◌, refl, sym}
 use Rattle.std.proofs.Common.{◌∙◌, subst, arith, inl}
 use Rattle.std.proofs.lemmas.Bool.{cond_both}
 use Rattle.std.specs.List.{AllByRecursion}
@@ -68,8 +68,8 @@ module _ (in_mode : Bool) (z : ℕ) (named : Bool) (numbers_of : Text → List �
   AtomHolds (read o) d s q = Holds (Part in_mode R 3 d s) q
   AtomHolds _ d s q = Holds (λ r t. Grouped in_mode R d r) q
 
-  restored_part : (d : ℕ) (s : State) → s.flags.oniguruma_mode ≡ in_mode → (r : Tree) (t : State) → Grouped in_mode R d r →
-      Part in_mode R 3 d s r (record t { flags = s.flags })
+  restored_part : (d : ℕ) (s : State) → s.flags.oniguruma_mode ≡ in_mode → (r : Tree) (t : State) →
+      Grouped in_mode R d r → Part in_mode R 3 d s r (record t { flags = s.flags })
   restored_part d s o r t h = record {
     fitted = h.fitted;
     branches = h.branches;
@@ -106,7 +106,8 @@ module _ (in_mode : Bool) (z : ℕ) (named : Bool) (numbers_of : Text → List �
         mode = h.mode;
       }
 
-  chosen : (d : ℕ) (s : State) (l : List Tree) (t : State) → Parts in_mode R 1 d s l t → Part in_mode R 0 d s (choice l) t
+  chosen : (d : ℕ) (s : State) (l : List Tree) (t : State) → Parts in_mode R 1 d s l t →
+      Part in_mode R 0 d s (choice l) t
   chosen d s l t h =
       let both = choice_is_fitted in_mode z named numbers_of d l h.each in record {
         fitted = both.0;
@@ -155,8 +156,7 @@ module _ (in_mode : Bool) (z : ℕ) (named : Bool) (numbers_of : Text → List �
         then_holds (Parts in_mode R 1 d s) (Part in_mode R 0 d s) q _ (branches_fit b l o) (chosen d s)
 
     branches_fit : {d : ℕ} {s : State} {q : Outcome (List Tree)} → Branches d s q → d < max_depth →
-        s.flags.oniguruma_mode ≡ in_mode →
-        Holds (Parts in_mode R 1 d s) q
+        s.flags.oniguruma_mode ≡ in_mode → Holds (Parts in_mode R 1 d s) q
     branches_fit (last {d} {s} {t} {r} b e) l o = one_part 1 d s r t (branch_fits b l o)
     branches_fit (more {d} {s} {t} {u} {r} {q} b e m) l o =
         let h = branch_fits b l o in
@@ -165,14 +165,12 @@ module _ (in_mode : Bool) (z : ℕ) (named : Bool) (numbers_of : Text → List �
     branches_fit (branch_fault b) l o = branch_fits b l o
 
     branch_fits : {d : ℕ} {s : State} {q : Outcome Tree} → Branch d s q → d < max_depth →
-        s.flags.oniguruma_mode ≡ in_mode →
-        Holds (Part in_mode R 1 d s) q
+        s.flags.oniguruma_mode ≡ in_mode → Holds (Part in_mode R 1 d s) q
     branch_fits (branch {d} {s} {q} b) l o =
         then_holds (Parts in_mode R 2 d s) (Part in_mode R 1 d s) q _ (pieces_fit b l o) (joined d s)
 
     pieces_fit : {d : ℕ} {s : State} {q : Outcome (List Tree)} → Pieces d s q → d < max_depth →
-        s.flags.oniguruma_mode ≡ in_mode →
-        Holds (Parts in_mode R 2 d s) q
+        s.flags.oniguruma_mode ≡ in_mode → Holds (Parts in_mode R 2 d s) q
     pieces_fit (stop e) l o = record { each = tt; suits = λ x. tt; stays = λ x. refl; mode = o }
     pieces_fit (next {d} {t} {r} {q} {s} e a m) l o =
         let h = piece_fits a l o in
@@ -181,8 +179,7 @@ module _ (in_mode : Bool) (z : ℕ) (named : Bool) (numbers_of : Text → List �
     pieces_fit (piece_fault e a) l o = piece_fits a l o
 
     piece_fits : {d : ℕ} {s : State} {q : Outcome Tree} → Piece d s q → d < max_depth →
-        s.flags.oniguruma_mode ≡ in_mode →
-        Holds (Part in_mode R 2 d s) q
+        s.flags.oniguruma_mode ≡ in_mode → Holds (Part in_mode R 2 d s) q
     piece_fits (piece {d} {s} {u} {q} e x) l o =
         then_holds (Part in_mode R 3 d (at s u)) (Part in_mode R 2 d s) q _ (atom_fits x l o)
         (λ a t h. quants_part in_mode z named numbers_of d (bytes s.rest) l s a t (record {
@@ -195,15 +192,14 @@ module _ (in_mode : Bool) (z : ℕ) (named : Bool) (numbers_of : Text → List �
     piece_fits (layout_fault e) l o = tt
 
     atom_fits : {d : ℕ} {s : State} {q : Outcome Tree} → Atom d s q → d < max_depth →
-        s.flags.oniguruma_mode ≡ in_mode →
-        Holds (Part in_mode R 3 d s) q
+        s.flags.oniguruma_mode ≡ in_mode → Holds (Part in_mode R 3 d s) q
     atom_fits (atom {d} {s} {e} {q} is a) l o =
         behind_part e d s o q
-        (of_fits a l o (subst (AheadTells in_mode d s) is (ahead_tells in_mode d s o)) (subst (OpensBelow d) is (ahead_below d s)))
+        (of_fits a l o (subst (AheadTells in_mode d s) is (ahead_tells in_mode d s o))
+        (subst (OpensBelow d) is (ahead_below d s)))
 
     of_fits : {k : Ahead} {d : ℕ} {s : State} {q : Outcome Tree} → AtomOf k d s q → d < max_depth →
-        s.flags.oniguruma_mode ≡ in_mode →
-        AheadTells in_mode d s k → OpensBelow d k → AtomHolds k d s q
+        s.flags.oniguruma_mode ≡ in_mode → AheadTells in_mode d s k → OpensBelow d k → AtomHolds k d s q
     of_fits (a_nothing {d} {s}) l o h b = empty_part in_mode z named numbers_of d s o
     of_fits (a_read {d} {s} {o = q}) l o h b = leaf_holds d s q h
     of_fits (a_group {d} {s} {t} {h = head} {q} i) l o h b =
@@ -232,20 +228,21 @@ module _ (in_mode : Bool) (z : ℕ) (named : Bool) (numbers_of : Text → List �
     of_fits (absent_fault m) l o h b = branch_fits m b h
 
     inside_fits : {d : ℕ} {s : State} {q : Outcome Tree} → Inside d s q → d + 1 < max_depth →
-        s.flags.oniguruma_mode ≡ in_mode →
-        Holds (Part in_mode R 0 (d + 1) s) q
+        s.flags.oniguruma_mode ≡ in_mode → Holds (Part in_mode R 0 (d + 1) s) q
     inside_fits (inside {d} {s} {q} a) l o =
         then_holds (Part in_mode R 0 (d + 1) s) (Part in_mode R 0 (d + 1) s) q _ (alternation_fits a l o)
         (closed_part 0 (d + 1) s)
 
     -- the body of a conditional, whose condition suits the flags f where no group may open in it
     body_fits : {d : ℕ} {c : Tree} {s : State} {q : Outcome Tree} → Body d c s q → s.flags.oniguruma_mode ≡ in_mode →
-        (b : d + 1 < max_depth) (f : Flags) (g : f.oniguruma_mode ≡ in_mode) → (IsLast (d + 1) → s.flags ≡ f) → Grouped in_mode R d c →
+        (b : d + 1 < max_depth) (f : Flags) (g : f.oniguruma_mode ≡ in_mode) → (IsLast (d + 1) → s.flags ≡ f) →
+        Grouped in_mode R d c →
         ((n : ℕ) → FitsOrTarget in_mode d b f g (R n c)) → (IsLast (d + 1) → (n : ℕ) → Suits f (R n c)) →
         Holds (λ r t. Grouped in_mode R d r) q
     body_fits (the_body {d} {c} {s} {q} a) o b f g e single k y =
         then_holds (Part in_mode R 0 (d + 1) s) (λ r t. Grouped in_mode R d r) q _ (alternation_fits a b o)
-        (λ r v i. cond_both (bytes v.rest == bytes s.rest && not (is_condition c)) _ _ (Holds (λ r t. Grouped in_mode R d r))
+        (λ r v i. cond_both (bytes v.rest == bytes s.rest && not (is_condition c)) _ _
+        (Holds (λ r t. Grouped in_mode R d r))
         (λ _. tt)
         (λ _. closed_holds (λ r t. Grouped in_mode R d r) (conditional_of c (branches_of r).0 (branches_of r).1) v
         (λ _. conditional_grouped in_mode z named numbers_of d b f g c r single k y i.branches
@@ -254,7 +251,8 @@ module _ (in_mode : Bool) (z : ℕ) (named : Bool) (numbers_of : Text → List �
   pub whole_fits : {f : Flags} {text : Text} {q : Outcome Tree} → Whole f text q → f.oniguruma_mode ≡ in_mode →
       Holds (Part in_mode R 0 0 (start f text)) q
   whole_fits (whole {f} {text} {q} a) o =
-      then_holds (Part in_mode R 0 0 (start f text)) (Part in_mode R 0 0 (start f text)) q _ (alternation_fits a (omega arith) o)
+      then_holds (Part in_mode R 0 0 (start f text)) (Part in_mode R 0 0 (start f text)) q _
+      (alternation_fits a (omega arith) o)
       (ended_holds (Part in_mode R 0 0 (start f text)))
 
 -- the text of each tree that is answered fits

@@ -161,11 +161,13 @@ kept_in true c e = ap (λ b. b && true) (and_parts _ _ e).0
 
 left_kept : (c : ℕ) → (c ∈ "<") ≡ true → is_kept_by_backslash true c ≡ true
 left_kept c e =
-    let same : c ≡ code "<" = grind (arith, nat_tests) in subst (λ a. is_kept_by_backslash true a ≡ true) (sym same) refl
+    let same : c ≡ code "<" = grind (arith, nat_tests) in
+    subst (λ a. is_kept_by_backslash true a ≡ true) (sym same) refl
 
 right_kept : (c : ℕ) → (c ∈ ">") ≡ true → is_kept_by_backslash true c ≡ true
 right_kept c e =
-    let same : c ≡ code ">" = grind (arith, nat_tests) in subst (λ a. is_kept_by_backslash true a ≡ true) (sym same) refl
+    let same : c ≡ code ">" = grind (arith, nat_tests) in
+    subst (λ a. is_kept_by_backslash true a ≡ true) (sym same) refl
 
 -- a back reference has the case of the flags, a call is bare, and any other leaf suits them
 abbrev pub IsTold : Flags → Escape → Type 0
