@@ -32,9 +32,11 @@ pub mod ConditionTexts
 pub mod Levels
 pub mod Suited
 pub mod Fitting
+pub mod Outermost
 pub mod Told
 pub mod Ahead
 pub mod Nested
+pub mod NestedQuantifiers
 pub mod NestedGroups
 pub mod ReadFits
 -- ---- the theorem

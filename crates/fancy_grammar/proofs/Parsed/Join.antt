@@ -246,7 +246,7 @@ module _ {f : Flags} {text : Text} {t : Tree} {m : Marks} (a : IsTreeOf f text t
     names = names_writable a;
     nodes = nodes_writable f m mode 0 t (answered_with a).nodes (nodes_told a) (references_writable small)
         (counted_told a);
-    fits = answered_fits f text t m mode a;
+    fits = answered_fits f text t m a;
   }
 
   -- then its text reads back

@@ -1,4 +1,4 @@
--- Flags that suit a tree: each leaf's need holds, so that none is set before it. Outside Oniguruma mode.
+-- Flags that suit a tree: each leaf's need in their mode holds, so that none is set before it.
 use Rattle.std.proofs.Common.{◌≡◌, Bool, true, false, refl, sym, ap, ◌∙◌, subst, if◌then◌else◌}
 use Rattle.fancy_lex.specs.declared.flags.Flags.{Flags}
 use Rattle.fancy_grammar.specs.Label.{concat, alt, ast_group}
@@ -27,7 +27,7 @@ pub record AreMet (n : Needs) (g : Flags) : Type 0 where
 abbrev mutual
   -- the flags are as each leaf needs them; what a capturing group holds before it is resolved is left out
   pub Suits : Flags → Tree → Type 0
-  Suits g (leaf l) = AreMet (leaf_needs false l) g
+  Suits g (leaf l) = AreMet (leaf_needs g.oniguruma_mode l) g
   Suits g (over (ast_group name place) t) = Unit {0}
   Suits g (over w t) = Suits g t
   Suits g (row r ts) = SuitAll g ts
@@ -55,16 +55,17 @@ firsts_met n m g h k = record {
 }
 
 mutual
-  needs_met : (g : Flags) (t : Tree) → Suits g t → AreMet (needs first false t) g
+  needs_met : (g : Flags) (t : Tree) → Suits g t → AreMet (needs first g.oniguruma_mode t) g
   needs_met g (leaf l) h = h
   needs_met g (over (ast_group name place) t) h = none_met g
   needs_met g (over w t) h = needs_met g t h
   needs_met g (row r ts) h = all_met g ts h
 
-  all_met : (g : Flags) (ts : Trees) → SuitAll g ts → AreMet (needs_all first false ts) g
+  all_met : (g : Flags) (ts : Trees) → SuitAll g ts → AreMet (needs_all first g.oniguruma_mode ts) g
   all_met g no_trees h = none_met g
   all_met g (more_trees t ts) h =
-      firsts_met (needs first false t) (needs_all first false ts) g (needs_met g t h.0) (all_met g ts h.1)
+      firsts_met (needs first g.oniguruma_mode t) (needs_all first g.oniguruma_mode ts) g (needs_met g t h.0)
+      (all_met g ts h.1)
 
 -- ---- flags that suit a tree are settled
 
@@ -73,11 +74,11 @@ met_stays Free x h = refl
 met_stays (Fixed c) x h = h
 met_stays Torn x h = absurd h
 
-pub suited_settled : (g : Flags) (t : Tree) → g.oniguruma_mode ≡ false → Suits g t → settled g t ≡ g
-suited_settled g t o h =
-    let n = needs first false t in
+pub suited_settled : (g : Flags) (t : Tree) → Suits g t → settled g t ≡ g
+suited_settled g t h =
+    let n = needs first g.oniguruma_mode t in
     let m = needs_met g t h in
-    ap (λ b. with_needs g (needs first b t)) o ∙ λ i. record g {
+    λ i. record g {
       casei = met_stays n.casei g.casei m.casei i;
       multi = met_stays n.multi g.multi m.multi i;
       dotnl = met_stays n.dotnl g.dotnl m.dotnl i;
@@ -103,36 +104,48 @@ parts_all_met n m f g h k j =
       record { casei = a.1; multi = b.1; dotnl = c.1; crlf = d.1 },
     )
 
-mutual
-  first_suits : (f g : Flags) (t : Tree) → Suits f t → AreMet (needs first false t) g → Suits g t
-  first_suits f g (leaf l) h k = k
-  first_suits f g (over (ast_group name place) t) h k = tt
-  first_suits f g (over w t) h k = first_suits f g t h k
-  first_suits f g (row r ts) h k = first_suit_all f g ts h k
+-- needs in the same mode
+needs_in : (join : Need → Need → Need) (f g : Flags) (t : Tree) → f.oniguruma_mode ≡ g.oniguruma_mode → (h : Flags) →
+    AreMet (needs join f.oniguruma_mode t) h → AreMet (needs join g.oniguruma_mode t) h
+needs_in join f g t e h = subst (λ o. AreMet (needs join o t) h) e
 
-  first_suit_all : (f g : Flags) (ts : Trees) → SuitAll f ts → AreMet (needs_all first false ts) g → SuitAll g ts
-  first_suit_all f g no_trees h k = tt
-  first_suit_all f g (more_trees t ts) h k =
-      let both = parts_all_met (needs first false t) (needs_all first false ts) f g (needs_met f t h.0)
-      (all_met f ts h.1) k in
-      (first_suits f g t h.0 both.0, first_suit_all f g ts h.1 both.1)
+all_in : (join : Need → Need → Need) (f g : Flags) (ts : Trees) → f.oniguruma_mode ≡ g.oniguruma_mode → (h : Flags) →
+    AreMet (needs_all join f.oniguruma_mode ts) h → AreMet (needs_all join g.oniguruma_mode ts) h
+all_in join f g ts e h = subst (λ o. AreMet (needs_all join o ts) h) e
+
+mutual
+  first_suits : (f g : Flags) (t : Tree) → f.oniguruma_mode ≡ g.oniguruma_mode → Suits f t →
+      AreMet (needs first g.oniguruma_mode t) g → Suits g t
+  first_suits f g (leaf l) e h k = k
+  first_suits f g (over (ast_group name place) t) e h k = tt
+  first_suits f g (over w t) e h k = first_suits f g t e h k
+  first_suits f g (row r ts) e h k = first_suit_all f g ts e h k
+
+  first_suit_all : (f g : Flags) (ts : Trees) → f.oniguruma_mode ≡ g.oniguruma_mode → SuitAll f ts →
+      AreMet (needs_all first g.oniguruma_mode ts) g → SuitAll g ts
+  first_suit_all f g no_trees e h k = tt
+  first_suit_all f g (more_trees t ts) e h k =
+      let o = g.oniguruma_mode in
+      let both = parts_all_met (needs first o t) (needs_all first o ts) f g
+      (needs_in first f g t e f (needs_met f t h.0)) (all_in first f g ts e f (all_met f ts h.1)) k in
+      (first_suits f g t e h.0 both.0, first_suit_all f g ts e h.1 both.1)
 
 settles : (n : Need) (x y : Bool) → IsMet n x → IsMet n (fixed_or y n)
 settles Free x y h = tt
 settles (Fixed c) x y h = refl
 settles Torn x y h = h
 
-pub settled_suits : (f g : Flags) (t : Tree) → g.oniguruma_mode ≡ false → Suits f t → Suits (settled g t) t
-settled_suits f g t o h =
-    let n = needs first false t in
-    let m = needs_met f t h in
-    subst (λ b. Suits (with_needs g (needs first b t)) t) (sym o)
-    (first_suits f (with_needs g n) t h (record {
+pub settled_suits : (f g : Flags) (t : Tree) → f.oniguruma_mode ≡ g.oniguruma_mode → Suits f t →
+    Suits (settled g t) t
+settled_suits f g t e h =
+    let n = needs first g.oniguruma_mode t in
+    let m = needs_in first f g t e f (needs_met f t h) in
+    first_suits f (with_needs g n) t e h (record {
       casei = settles n.casei f.casei g.casei m.casei;
       multi = settles n.multi f.multi g.multi m.multi;
       dotnl = settles n.dotnl f.dotnl g.dotnl m.dotnl;
       crlf = settles n.crlf f.crlf g.crlf m.crlf;
-    }))
+    })
 
 -- ---- behind a tree that they suit they hold as before it
 
@@ -141,14 +154,14 @@ if_same true f g e = e
 if_same false f g e = refl
 
 mutual
-  pub suited_behind : (t : Tree) (p : Precedence) (g : Flags) → g.oniguruma_mode ≡ false → Suits g t →
+  pub suited_behind : (t : Tree) (p : Precedence) (g : Flags) → Suits g t →
       flags_behind t p g ≡ g
-  suited_behind (row concat ts) p g o h = if_same (takes_pieces p) _ g (suited_behind_all ts Piece g o h)
-  suited_behind (row alt ts) p g o h = if_same (takes_branches p) _ g (suited_behind_all ts Branch g o h)
-  suited_behind t p g o h = suited_settled g t o h
+  suited_behind (row concat ts) p g h = if_same (takes_pieces p) _ g (suited_behind_all ts Piece g h)
+  suited_behind (row alt ts) p g h = if_same (takes_branches p) _ g (suited_behind_all ts Branch g h)
+  suited_behind t p g h = suited_settled g t h
 
-  pub suited_behind_all : (ts : Trees) (p : Precedence) (g : Flags) → g.oniguruma_mode ≡ false → SuitAll g ts →
+  pub suited_behind_all : (ts : Trees) (p : Precedence) (g : Flags) → SuitAll g ts →
       flags_behind_all ts p g ≡ g
-  suited_behind_all no_trees p g o h = refl
-  suited_behind_all (more_trees t ts) p g o h =
-      ap (flags_behind_all ts p) (suited_behind t p g o h.0) ∙ suited_behind_all ts p g o h.1
+  suited_behind_all no_trees p g h = refl
+  suited_behind_all (more_trees t ts) p g h =
+      ap (flags_behind_all ts p) (suited_behind t p g h.0) ∙ suited_behind_all ts p g h.1

@@ -1,12 +1,13 @@
 -- What is read without parentheses suits the flags that hold there.
 use Rattle.std.proofs.Common.{◌≡◌, ℕ, ◌+◌, Bool, true, false, not, ◌&&◌, ◌==◌, [], ◌∷◌, codes}
-use Rattle.std.proofs.Common.{Option, Some, None, IfSome, refl, sym, ap, ◌∙◌, subst, nat_le}
+use Rattle.std.proofs.Common.{Option, Some, None, IfSome, refl, sym, ap, ◌∙◌, subst, nat_le, arith}
 use Rattle.std.specs.Prelude.{option_map, nat_eq}
 use Rattle.std.specs.Option.{option_and_then}
 use Rattle.std.specs.Str.{bytes_eq}
 use Rattle.std.specs.List.{starts_with, list_all}
 use Rattle.std.specs.Char.{is_ascii_digit}
-use Rattle.std.proofs.lemmas.Bool.{cond_both, cond-true, false≢true}
+use Rattle.std.proofs.lemmas.Bool.{cond_both, cond-true, false≢true, and_parts}
+use Rattle.std.proofs.lemmas.Bool.Decides.{nat_tests}
 use Prim.Native.Char.{code}
 use Rattle.fancy_lex.specs.Boundary as boundaries
 use Rattle.fancy_lex.specs.BoundarySteps as boundary_steps
@@ -54,7 +55,7 @@ module _ (f : Flags) where
   pub literal_suits : (s : Text) (b : Bool) → b ≡ f.casei → Suits f (leaf (label.literal s b))
   literal_suits s true e = record { casei = e; multi = tt; dotnl = tt; crlf = tt }
   literal_suits s false e =
-      cond_both (list_all (is_kept_by_backslash false) s) _ _ (λ n. AreMet n f) (λ _. none_met f)
+      cond_both (list_all (is_kept_by_backslash f.oniguruma_mode) s) _ _ (λ n. AreMet n f) (λ _. none_met f)
       (λ _. record { casei = e; multi = tt; dotnl = tt; crlf = tt })
 
   pub delegate_suits : (s : Text) (b : Bool) → b ≡ f.casei → Suits f (leaf (label.delegate s b))
@@ -68,18 +69,17 @@ module _ (f : Flags) where
       cond_both (beq f.dotnl f.crlf) _ _ (λ n. AreMet n f) (λ _. none_met f)
       (λ _. record { casei = tt; multi = tt; dotnl = refl; crlf = refl })
 
-  module _ (o : f.oniguruma_mode ≡ false) where
-    pub start_suits : Suits f (leaf (label.assertion (start_anchor f)))
-    start_suits =
-        let P = λ (a : Assertion). Suits f (leaf (label.assertion a)) in
-        cond_both f.multi _ _ P
-        (λ e. cond_both f.oniguruma_mode _ _ P (λ k. absurd (false≢true (sym o ∙ k)))
-        (λ _. record { casei = tt; multi = sym e; dotnl = tt; crlf = refl })) (λ _. none_met f)
+  pub start_suits : Suits f (leaf (label.assertion (start_anchor f)))
+  start_suits =
+      let P = λ (a : Assertion). Suits f (leaf (label.assertion a)) in
+      cond_both f.multi _ _ P
+      (λ e. cond_both f.oniguruma_mode _ _ P (λ _. record { casei = tt; multi = sym e; dotnl = tt; crlf = refl })
+      (λ _. record { casei = tt; multi = sym e; dotnl = tt; crlf = refl })) (λ _. none_met f)
 
-    pub end_suits : Suits f (leaf (label.assertion (end_anchor f)))
-    end_suits =
-        cond_both f.multi _ _ (λ a. Suits f (leaf (label.assertion a)))
-        (λ e. record { casei = tt; multi = sym e; dotnl = tt; crlf = refl }) (λ _. none_met f)
+  pub end_suits : Suits f (leaf (label.assertion (end_anchor f)))
+  end_suits =
+      cond_both f.multi _ _ (λ a. Suits f (leaf (label.assertion a)))
+      (λ e. record { casei = tt; multi = sym e; dotnl = tt; crlf = refl }) (λ _. none_met f)
 
 -- ---- calls between marks have a name that is written so
 
@@ -154,13 +154,28 @@ bare_call t =
 
 -- ---- escapes
 
+-- what stands for itself behind a backslash outside Oniguruma mode does so in it
+kept_in : (o : Bool) (c : ℕ) → is_kept_by_backslash false c ≡ true → is_kept_by_backslash o c ≡ true
+kept_in false c e = e
+kept_in true c e = ap (λ b. b && true) (and_parts _ _ e).0
+
+left_kept : (c : ℕ) → (c ∈ "<") ≡ true → is_kept_by_backslash true c ≡ true
+left_kept c e =
+    let same : c ≡ code "<" = grind (arith, nat_tests) in
+    subst (λ a. is_kept_by_backslash true a ≡ true) (sym same) refl
+
+right_kept : (c : ℕ) → (c ∈ ">") ≡ true → is_kept_by_backslash true c ≡ true
+right_kept c e =
+    let same : c ≡ code ">" = grind (arith, nat_tests) in
+    subst (λ a. is_kept_by_backslash true a ≡ true) (sym same) refl
+
 -- a back reference has the case of the flags, a call is bare, and any other leaf suits them
 abbrev pub IsTold : Flags → Escape → Type 0
 IsTold f (escaped.backref r casei) = casei ≡ f.casei
 IsTold f (escaped.subroutine_call c) = IsBare c.target
 IsTold f e = Suits f (leaf_node e)
 
-module _ (f : Flags) (o : f.oniguruma_mode ≡ false) where
+module _ (f : Flags) where
   told_backref : (q : Reading Reference) → IfGives (IsTold f) (backref_leaf f q)
   told_backref q = gives_after (IsTold f) q _ (λ r u. refl)
 
@@ -241,18 +256,43 @@ module _ (f : Flags) (o : f.oniguruma_mode ≡ false) where
       cond_both (c ∈ "g") _ _ P (λ _. told_call p c t) (λ _.
       cond_both (c ∈ "bB") _ _ P (λ _. told_boundary p _ t) (λ _. tt)))
 
+  kept_suits : (c : ℕ) → is_kept_by_backslash f.oniguruma_mode c ≡ true → Suits f (leaf (label.literal (c ∷ []) false))
+  kept_suits c k = subst (λ n. AreMet n f) (sym (cond-true _ _ _ (ap (λ b. b && true) k))) (none_met f)
+
   anywhere_rows : (c : ℕ) → AtRows (IsTold f) c (lone_anywhere f c)
   anywhere_rows c =
-      let e = none_met f in (
+      let e = none_met f in
+      let k = λ (a : ℕ) (h : is_kept_by_backslash false a ≡ true). kept_suits a (kept_in f.oniguruma_mode a h) in (
         λ _. delegate_suits f (backslash ∷ c ∷ []) f.casei refl,
-        (λ _. e, (λ _. e, (λ _. e, (λ _. e, (λ _. e, (λ _. e, (λ _. e, (λ _. e, (λ _. e, tt))))))))),
+        (
+          λ _. e,
+          (
+            λ _. e,
+            (
+              λ _. k (code "\u{7}") refl,
+              (
+                λ _. k (code "\u{c}") refl,
+                (
+                  λ _. k (code "\n") refl,
+                  (
+                    λ _. k (code "\r") refl,
+                    (
+                      λ _. k (code "\t") refl,
+                      (λ _. k (code "\u{b}") refl, (λ _. k (code "\u{1b}") refl, tt)),
+                    ),
+                  ),
+                ),
+              ),
+            ),
+          ),
+        ),
       )
 
   outside_rows : (c : ℕ) → AtRows (IsTold f) c (lone_outside f c)
   outside_rows c =
-      let last = λ (a : Assertion) (k : Suits f (leaf (label.assertion a))).
+      let last = λ (at : is_kept_by_backslash true c ≡ true) (a : Assertion) (k : Suits f (leaf (label.assertion a))).
       cond_both f.oniguruma_mode (escaped.literal c false) (escaped.assertion a) (IsTold f)
-      (λ e. absurd (false≢true (sym o ∙ e))) (λ _. k) in (
+      (λ on. kept_suits c (subst (λ o. is_kept_by_backslash o c ≡ true) (sym on) at)) (λ _. k) in (
         λ _. none_met f,
         (
           λ _. none_met f,
@@ -268,7 +308,10 @@ module _ (f : Flags) (o : f.oniguruma_mode ≡ false) where
                     λ _. none_met f,
                     (
                       λ _. none_met f,
-                      (λ _. last LeftWordBoundary (none_met f), (λ _. last RightWordBoundary (none_met f), tt)),
+                      (
+                        λ e. last (left_kept c e) LeftWordBoundary (none_met f),
+                        (λ e. last (right_kept c e) RightWordBoundary (none_met f), tt),
+                      ),
                     ),
                   ),
                 ),
@@ -281,7 +324,7 @@ module _ (f : Flags) (o : f.oniguruma_mode ≡ false) where
   told_lone : (c : ℕ) (e : Escape) → lone_escape f false c ≡ Some e → IsTold f e
   told_lone c =
       of_lone (IsTold f) f false c
-      (λ e. subst (λ n. AreMet n f) (sym (cond-true _ _ _ (ap (λ b. b && true) e))) (none_met f))
+      (λ e. kept_suits c (kept_in f.oniguruma_mode c e))
       (anywhere_rows c) (outside_rows c)
 
   -- of all that an escape stands for
