@@ -5,3 +5,4 @@ pub mod Branches
 pub mod Rules
 pub mod Targets
 pub mod Codes
+pub mod Keys
