@@ -1,7 +1,7 @@
 //! What the program does with its arguments.
 use crate::rules::rules_chosen;
 use crate::words::{
-    canvas_chosen, command, ending_chosen, flags_chosen, look_chosen, paints_chosen, verb_chosen,
+    canvas_chosen, command, flags_chosen, form_chosen, look_chosen, paints_chosen, verb_chosen,
 };
 use clap::error::ErrorKind;
 use clap::{ArgMatches, Error};
@@ -82,7 +82,7 @@ fn answer_files<S: System, O: Write, E: Write>(
     let job = Job {
         verb,
         flags,
-        ending: ending_chosen(matches),
+        form: form_chosen(matches),
         is_quiet: matches.get_flag("quiet"),
         paints,
     };

@@ -1,5 +1,6 @@
 //! What `format` takes for a comment, and that what it writes stays.
 use crate::memory::{Limited, Memory};
+use patterns_program::form::Form;
 use patterns_program::lines::Ending;
 use patterns_program::paint::{Paint, Paints};
 use patterns_program::printing::Comments;
@@ -18,7 +19,7 @@ fn format(
     let job = Job {
         verb,
         flags,
-        ending: Ending::Line,
+        form: Form::Records(Ending::Line),
         is_quiet: true,
         paints: Paints::both(Paint::Plain),
     };

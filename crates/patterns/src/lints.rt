@@ -1,5 +1,6 @@
 //! What `lint` reports of patterns, and what it does not.
 use crate::memory::{Limited, Memory};
+use patterns_program::form::Form;
 use patterns_program::lines::Ending;
 use patterns_program::lint::chosen::{Chosen, Level};
 use patterns_program::lint::rule::{RULES, Rule};
@@ -14,7 +15,7 @@ fn lint(alloc: Global, pattern: &str, chosen: Chosen) -> Result<(u8, Limited), F
     let job = Job {
         verb: Verb::Lint(chosen),
         flags: 32,
-        ending: Ending::Line,
+        form: Form::Records(Ending::Line),
         is_quiet: true,
         paints: Paints::both(Paint::Plain),
     };

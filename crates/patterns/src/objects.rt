@@ -87,6 +87,17 @@ const DENIED: Fields = &[
     ("/code", Held::Text("duplicate-branch")),
 ];
 
+/// A pattern that is a text of JSON: it has a path and no line.
+const IN_JSON: Fields = &[
+    ("/type", Held::Text("error")),
+    ("/file", Held::Text("-")),
+    ("/line", Held::Nothing),
+    ("/path", Held::Text("[0][\"\u{E9}\"].end")),
+    ("/pattern", Held::Text("\u{E9}(")),
+    ("/start", Held::Number(3)),
+    ("/start_character", Held::Number(2)),
+];
+
 const REPEATED: Fields = &[
     ("/type", Held::Text("tree")),
     ("/file", Held::Text("PATTERN")),
@@ -141,7 +152,13 @@ const GROUPS: Fields = &[
 ];
 
 /// Words, the standard input, the status, and fields of the object that is written.
-static OBJECTS: [(&[&str], &[u8], u8, Fields); 8] = [
+static OBJECTS: [(&[&str], &[u8], u8, Fields); 9] = [
+    (
+        &["patterns", "check", "--json", "--textmate"],
+        b"[{\"\xC3\xA9\": {\"end\": \"\\u00E9(\"}}]",
+        1,
+        IN_JSON,
+    ),
     (
         &["patterns", "check", "--json"],
         b"\"\x01\xC3\xA9(\n",

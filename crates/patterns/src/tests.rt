@@ -238,8 +238,81 @@ patterns: broken: connection reset
 1 pattern, 1 refused
 ";
 
+const IN_GRAMMAR: &str =
+    "grammar:patterns[1].match[1].while:2:3: Opening parenthesis without closing parenthesis
+ (
+  ^
+grammar:repository[\"a \\\"b\\\"\\u000a\"].match:6: Invalid character class
+\u{E9}\\\"[a
+     ^
+";
+
+const NAMED: &str = "grammar:patterns[0].name:2: Opening parenthesis without closing parenthesis
+(
+ ^
+";
+
+const NO_GRAMMAR: &str = "cut:2:3: the file is not valid JSON
+mixed:4: the line is not valid UTF-8
+5 patterns, 2 refused
+";
+
+const IN_BEGIN: &str =
+    "ends:begin:4: warning: reference to group 2, but the pattern has 1 numbered group [missing-group]
+(a)\\2
+   ^^
+help: it never matches: correct the number, or remove it
+";
+
+const IN_WHILE: &str =
+    "ends:while:9: warning: reference to group 3, but the pattern has 1 numbered group [missing-group]
+(a)\\2(?(3)b)
+        ^
+help: it never matches: correct the number, or remove it
+";
+
+const IN_END: &str =
+    "ends:end:1: warning: back reference to group 1, which cannot have matched here [useless-backreference]
+\\1(a)
+^^
+help: move it after the group, or make it a subroutine call
+";
+
+const IN_GROUPS: &str = "ends:end: \\1(a)
+ends:end:3-5: group 1
+ends:end:1-2: back reference to group 1
+";
+
 /// Words, the standard input, and the status, the output and the error of a run.
-static RUNS: [(&[&str], &[u8], u8, &str, &str); 34] = [
+static RUNS: [(&[&str], &[u8], u8, &str, &str); 38] = [
+    (
+        &["patterns", "check", "--textmate", "cut", "grammar", "mixed"],
+        b"",
+        2,
+        IN_GRAMMAR,
+        NO_GRAMMAR,
+    ),
+    (
+        &["patterns", "check", "--keys", "name,begin", "grammar"],
+        b"",
+        1,
+        NAMED,
+        "2 patterns, 1 refused\n",
+    ),
+    (
+        &["patterns", "lint", "--keys", "end", "ends"],
+        b"",
+        0,
+        IN_END,
+        "1 pattern, 0 refused, 1 warning\n",
+    ),
+    (
+        &["patterns", "groups", "--keys", "end", "ends"],
+        b"",
+        0,
+        IN_GROUPS,
+        "1 pattern, 0 refused\n",
+    ),
     (
         &["patterns", "check", "good", "empty"],
         b"",
@@ -497,6 +570,45 @@ fn answers(rt: HostRuntime) -> Result<(), Fail> {
     Ok(())
 }
 
+/// Of back references in a grammar, those of `end` and `while` that are digits are not reported.
+#[test]
+fn references_to_begin(rt: HostRuntime) -> Result<(), Fail> {
+    let run = run(
+        rt.alloc(),
+        &["patterns", "lint", "--textmate", "ends"],
+        b"",
+        usize::MAX,
+    )?;
+    let out = str::from_utf8(&run.out.text)?;
+    assert!(rt;
+        run.status == 0 && out.strip_prefix(IN_BEGIN) == Some(IN_WHILE),
+        "{out}"
+    );
+    Ok(())
+}
+
+/// What a check of arrays that nest so deep says.
+fn told_of_depth(alloc: Global, depth: usize) -> Result<Ending, Fail> {
+    let mut text = "[".repeat(alloc, depth)?;
+    text.push_str("]".repeat(alloc, depth)?.as_str())?;
+    let words = ["patterns", "check", "--textmate"];
+    run(alloc, &words, text.as_bytes(), usize::MAX)
+}
+
+const DEEP: &str = "-:1:130: the JSON nests deeper than 128 levels
+0 patterns, 0 refused
+";
+
+#[test]
+fn deep_values(rt: HostRuntime) -> Result<(), Fail> {
+    let held = told_of_depth(rt.alloc(), 128)?;
+    assert!(rt; held.status == 0);
+    let deep = told_of_depth(rt.alloc(), 129)?;
+    let err = str::from_utf8(&deep.err.text)?;
+    assert!(rt; deep.status == 2 && err == DEEP, "{err}");
+    Ok(())
+}
+
 /// Words, and which of the two streams alone has colours, so that what is written of `(` has some.
 static STREAMS: [(&[&str], Paints, &str); 6] = [
     (&["patterns", "check"], OUT, COLORED_REFUSAL),
@@ -530,7 +642,11 @@ fn colors_of_streams(rt: HostRuntime) -> Result<(), Fail> {
 }
 
 /// Words that are wrong, or ask for help, and the status.
-static USAGES: [(&[&str], u8); 8] = [
+static USAGES: [(&[&str], u8); 12] = [
+    (&["patterns", "check", "--textmate", "-z"], 2),
+    (&["patterns", "lint", "--keys", "a", "-z"], 2),
+    (&["patterns", "groups", "--keys", "a", "--textmate"], 2),
+    (&["patterns", "format", "--textmate"], 2),
     (&["patterns"], 2),
     (&["patterns", "chek"], 2),
     (&["patterns", "check", "--flag"], 2),

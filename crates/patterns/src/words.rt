@@ -2,12 +2,14 @@
 use clap::{Arg, ArgAction, ArgMatches, Command};
 use fre_program::flag_word::flags_named;
 use patterns_program::draw::{Look, Style};
+use patterns_program::form::Form;
 use patterns_program::lines::Ending;
 use patterns_program::objects::Report;
 use patterns_program::paint::{Paint, Paints};
 use patterns_program::picture::Canvas;
 use patterns_program::printing::Comments;
 use patterns_program::run::{STANDARD_INPUT, Verb};
+use patterns_program::values::keys::Keys;
 use std::alloc::{AllocError, Global};
 
 const ABOUT: &str =
@@ -34,6 +36,13 @@ const LETTERS: &str = "The letters of --flags:
 const FILES_HELP: &str = "Files with one pattern per line, in UTF-8; - is standard input";
 
 const NULL_HELP: &str = "A pattern ends with NUL, and not with its line";
+
+const TEXTMATE_HELP: &str =
+    "Each file is JSON, as the grammars of TextMate and VS Code, and its texts under the keys match, begin, end and while \
+are the patterns; in those under end and while, a back reference such as \\1 refers to a group of begin";
+
+const KEYS_HELP: &str =
+    "Each file is JSON, and its texts under these keys are the patterns; commas separate the keys";
 
 const JSON_HELP: &str = "Writes JSON, one object per line, to standard output";
 
@@ -181,6 +190,22 @@ fn over_files<'a>(
         .arg(files_arg(alloc))
 }
 
+/// The options by which files are JSON.
+fn with_values<'a>(alloc: Global, command: Command<'a>) -> Result<Command<'a>, AllocError> {
+    let textmate = Arg::new(alloc, "textmate")
+        .long("textmate")
+        .action(ArgAction::SetTrue)
+        .help(TEXTMATE_HELP)
+        .conflicts_with("keys")?
+        .conflicts_with("null-data")?;
+    let keys = Arg::new(alloc, "keys")
+        .long("keys")
+        .value_name("NAME[,NAME..]")
+        .help(KEYS_HELP)
+        .conflicts_with("null-data")?;
+    command.arg(textmate)?.arg(keys)
+}
+
 fn json_arg<'a>(alloc: Global) -> Arg<'a> {
     Arg::new(alloc, "json")
         .long("json")
@@ -193,6 +218,10 @@ fn pattern_arg<'a>(alloc: Global) -> Arg<'a> {
         .value_name("PATTERN")
         .required(true)
         .help("The pattern; put -- before one that begins with -")
+}
+
+fn check_command<'a>(alloc: Global) -> Result<Command<'a>, AllocError> {
+    with_values(alloc, over_files(alloc, "check", CHECK, CHECK_EXAMPLE)?)?.arg(json_arg(alloc))
 }
 
 fn tree_command<'a>(alloc: Global) -> Result<Command<'a>, AllocError> {
@@ -258,7 +287,7 @@ fn lint_command<'a>(alloc: Global) -> Result<Command<'a>, AllocError> {
         .long("rules")
         .action(ArgAction::SetTrue)
         .help("Lists the rules with an example of each, and reads no file");
-    over_files(alloc, "lint", LINT, LINT_EXAMPLE)?
+    with_values(alloc, over_files(alloc, "lint", LINT, LINT_EXAMPLE)?)?
         .long_about(LINT_MORE)
         .arg(level_arg(alloc, "allow", "Silences a rule"))?
         .arg(level_arg(alloc, "warn", "Makes the reports of a rule warnings"))?
@@ -268,7 +297,7 @@ fn lint_command<'a>(alloc: Global) -> Result<Command<'a>, AllocError> {
 }
 
 fn groups_command<'a>(alloc: Global) -> Result<Command<'a>, AllocError> {
-    over_files(alloc, "groups", GROUPS, GROUPS_EXAMPLE)?
+    with_values(alloc, over_files(alloc, "groups", GROUPS, GROUPS_EXAMPLE)?)?
         .long_about(GROUPS_MORE)
         .arg(json_arg(alloc))
 }
@@ -281,7 +310,7 @@ pub(crate) fn command<'a>(alloc: Global) -> Result<Command<'a>, AllocError> {
         .after_help(STATUSES)
         .subcommand_required(true)
         .arg_required_else_help(true)
-        .subcommand(over_files(alloc, "check", CHECK, CHECK_EXAMPLE)?.arg(json_arg(alloc))?)?
+        .subcommand(check_command(alloc)?)?
         .subcommand(tree_command(alloc)?)?
         .subcommand(picture_command(alloc)?)?
         .subcommand(lint_command(alloc)?)?
@@ -323,11 +352,22 @@ pub(crate) fn verb_chosen(name: &str, matches: &ArgMatches<'_>) -> Option<Verb> 
 }
 
 /// What a pattern ends with, as the arguments choose.
-pub(crate) fn ending_chosen(matches: &ArgMatches<'_>) -> Ending {
+fn ending_chosen(matches: &ArgMatches<'_>) -> Ending {
     if matches.get_flag("null-data") {
         Ending::Null
     } else {
         Ending::Line
+    }
+}
+
+/// How the files have patterns, as the arguments choose.
+pub(crate) fn form_chosen<'a>(matches: &ArgMatches<'a>) -> Form<'a> {
+    if matches.get_flag("textmate") {
+        return Form::Values(Keys::TextMate);
+    }
+    match matches.get_str("keys") {
+        Some(names) => Form::Values(Keys::Named(names)),
+        None => Form::Records(ending_chosen(matches)),
     }
 }
 

@@ -6,3 +6,4 @@ pub mod Rules
 pub mod Targets
 pub mod Codes
 pub mod Progress
+pub mod Keys

@@ -1,10 +1,12 @@
-//! What the program `patterns` does: it reads files with one pattern per line, and does with each what a subcommand says.
+//! What the program `patterns` does: it reads files with one pattern per line, or with patterns in JSON, and does with each
+//! what a subcommand says.
 #![tactic(auto)]
 
 mod check;
 mod comments;
 pub mod draw;
 pub mod fault;
+pub mod form;
 mod groups;
 pub mod lines;
 pub mod lint;
@@ -22,4 +24,5 @@ mod reading;
 pub mod run;
 pub mod sources;
 mod tally;
+pub mod values;
 mod words;

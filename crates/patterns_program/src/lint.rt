@@ -43,8 +43,9 @@ use std::io::Write;
 /// All that the rules find, in the order of the text.
 fn problems<'a>(
     alloc: Global,
-    pattern: &str,
     flags: u32,
+    at: Location<'_>,
+    pattern: &str,
     tree: &'a ExprTree,
     spans: &'a [Span],
 ) -> Result<Vec<Found<'a>>, AllocError> {
@@ -62,6 +63,9 @@ fn problems<'a>(
     let mut found = walk.found;
     found.extend_from_slice(&ways.walk.found)?;
     found.extend_from_slice(&useless_flags(alloc, pattern, &walk.leaves, flags)?)?;
+    if at.refers_to_begin() {
+        found.retain(|f| !f.is_of_digits(pattern));
+    }
     found.sort_by_key(|f| f.span.start)?;
     Ok(found)
 }
@@ -125,7 +129,7 @@ pub(crate) fn lint<O: Write>(
     let Some((tree, spans)) = read_with_spans(alloc, flags, at, pattern, out)? else {
         return Ok(Outcome::Refused);
     };
-    let found = problems(alloc, pattern, flags, &tree, &spans)?;
+    let found = problems(alloc, flags, at, pattern, &tree, &spans)?;
     if write_problems(at, pattern, &found, chosen, out, tally)? {
         tally.denied = tally.denied.saturating_add(1);
         return Ok(Outcome::Refused);

@@ -3,39 +3,90 @@ ghost use Rattle.std.specs.Prelude.{◌≡◌, ◌+◌, chars, false};
 ghost use Rattle.unicode_width.specs.Width.{str_width};
 
 use crate::paint::{Ink, Paint};
+use crate::values::path::Path;
 use fancy_syntax::span::Span;
 use std::io::Write;
 use std::{fmt, io};
 use unicode_width::UnicodeWidthStr;
+
+/// Where a pattern is in its file.
+#[derive(Clone, Copy)]
+pub enum Spot<'a> {
+    /// Its first line has this number, counted from 1.
+    Line(u64),
+    /// It is a value of JSON.
+    Value {
+        path: Path<'a>,
+        /// Whether a number in a back reference is that of a group of another pattern, the `begin` beside this one.
+        refers_to_begin: bool,
+    },
+}
 
 /// Where a pattern is in its file, and the colours of what is written of it.
 #[derive(Clone, Copy)]
 pub struct Location<'a> {
     /// The file's name as an argument.
     pub file: &'a str,
-    /// The number of the pattern's first line, counted from 1.
-    pub line: u64,
+    pub spot: Spot<'a>,
     /// Of reports: that it is refused, and what `lint` finds.
     pub reported: Paint,
     /// Of its groups, and of how it would change.
     pub listed: Paint,
 }
 
-impl Location<'_> {
+impl<'a> Location<'a> {
     /// Where a pattern is, without colours.
-    pub(crate) fn plain(file: &str, line: u64) -> Location<'_> {
+    pub(crate) fn plain(file: &'a str, line: u64) -> Location<'a> {
         Location {
             file,
-            line,
+            spot: Spot::Line(line),
             reported: Paint::Plain,
             listed: Paint::Plain,
         }
+    }
+
+    /// The line of the pattern that is so many lines below its first.
+    pub(crate) fn below(self, lines: usize) -> LineOf<'a> {
+        LineOf { at: self, lines }
+    }
+
+    /// Whether a number in a back reference is that of a group of another pattern.
+    pub(crate) fn refers_to_begin(self) -> bool {
+        matches!(
+            self.spot,
+            Spot::Value {
+                refers_to_begin: true,
+                ..
+            }
+        )
     }
 }
 
 impl fmt::Display for Location<'_> {
     fn fmt<W: fmt::Write>(&self, f: &mut fmt::Formatter<W>) -> fmt::Result {
-        write!(f, "{}:{}", self.file, self.line)
+        write!(f, "{}", self.below(0))
+    }
+}
+
+/// A line of a pattern.
+#[derive(Clone, Copy)]
+pub(crate) struct LineOf<'a> {
+    at: Location<'a>,
+    /// How many lines of the pattern are above it.
+    lines: usize,
+}
+
+/// The file and the line; of a value of JSON the file, the path, and the line in the pattern if that is not the first.
+impl fmt::Display for LineOf<'_> {
+    fn fmt<W: fmt::Write>(&self, f: &mut fmt::Formatter<W>) -> fmt::Result {
+        let file = self.at.file;
+        match self.at.spot {
+            Spot::Line(line) => write!(f, "{file}:{}", line.saturating_add(self.lines as u64)),
+            Spot::Value { path, .. } if self.lines == 0 => write!(f, "{file}:{path}"),
+            Spot::Value { path, .. } => {
+                write!(f, "{file}:{path}:{}", self.lines.saturating_add(1))
+            }
+        }
     }
 }
 
@@ -135,14 +186,13 @@ pub(crate) fn write_refusal<O: Write, K: fmt::Display>(
         before,
         after,
     } = Cut::at(pattern, place);
-    let line = at.line.saturating_add(above as u64);
-    let column = column_after(before);
+    let (line, column) = (at.below(above), column_after(before));
     let (bold, red, end) = (
         at.reported.begin(Ink::Position),
         at.reported.begin(Ink::Error),
         at.reported.end(),
     );
-    writeln!(out, "{bold}{}:{line}:{column}:{end} {kind}", at.file)?;
+    writeln!(out, "{bold}{line}:{column}:{end} {kind}")?;
     writeln!(out, "{before}{after}")?;
     writeln!(out, "{}{red}^{end}", Blank(before))
 }

@@ -118,7 +118,7 @@ pub(crate) fn lint_objects<O: Write>(
     let Some(parsed) = read(alloc, flags, at, pattern, out)? else {
         return Ok(Outcome::Refused);
     };
-    let found = problems(alloc, pattern, flags, &parsed.tree, &parsed.spans)?;
+    let found = problems(alloc, flags, at, pattern, &parsed.tree, &parsed.spans)?;
     if write_objects(alloc, at, pattern, &found, chosen, out, tally)? {
         tally.denied = tally.denied.saturating_add(1);
         return Ok(Outcome::Refused);

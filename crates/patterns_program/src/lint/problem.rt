@@ -38,6 +38,19 @@ pub(super) struct Found<'a> {
     pub(super) problem: Problem<'a>,
 }
 
+impl Found<'_> {
+    /// Whether it is wrong with the number of a back reference that is a backslash and digits.
+    pub(super) fn is_of_digits(&self, pattern: &str) -> bool {
+        match self.problem {
+            Problem::MissingGroup { .. } | Problem::UselessBackreference { .. } => {
+                let text = self.span.text(pattern).unwrap_or("");
+                matches!(text.as_bytes(), [b'\\', b'0'..=b'9', ..])
+            }
+            _ => false,
+        }
+    }
+}
+
 impl Problem<'_> {
     /// The rule that reports it.
     pub(super) fn rule(self) -> Rule {

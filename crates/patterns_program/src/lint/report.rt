@@ -36,8 +36,7 @@ pub(super) fn write_report<O: Write>(
         before,
         after,
     } = Cut::at(pattern, span.start);
-    let line = at.line.saturating_add(above as u64);
-    let column = column_after(before);
+    let (line, column) = (at.below(above), column_after(before));
     let (word, ink) = if level == Level::Deny {
         ("error", Ink::Error)
     } else {
@@ -49,11 +48,7 @@ pub(super) fn write_report<O: Write>(
         at.reported.begin(ink),
         at.reported.end(),
     );
-    write!(
-        out,
-        "{bold}{}:{line}:{column}:{end} {color}{word}{end}",
-        at.file
-    )?;
+    write!(out, "{bold}{line}:{column}:{end} {color}{word}{end}")?;
     writeln!(out, ": {problem} [{}]", rule.name())?;
     writeln!(out, "{before}{after}")?;
     let length = span.end.saturating_sub(span.start);

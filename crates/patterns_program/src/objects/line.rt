@@ -1,7 +1,7 @@
 //! An object of JSON, written as a line.
 use crate::fault::Fault;
 use crate::objects::places::Places;
-use crate::place::Location;
+use crate::place::{Location, Spot};
 use fancy_syntax::span::Span;
 use json::Writer;
 use std::alloc::{AllocError, Global};
@@ -25,6 +25,16 @@ pub(crate) fn write_truth(writer: &mut Writer, name: &str, is_so: bool) -> Resul
     writer.boolean(is_so)
 }
 
+/// Writes the field that says where in its file a pattern is.
+fn write_spot(alloc: Global, writer: &mut Writer, spot: Spot<'_>) -> Result<(), AllocError> {
+    match spot {
+        Spot::Line(line) => write_number(writer, "line", line),
+        Spot::Value { path, .. } => {
+            write_text(writer, "path", format!(in alloc; "{path}")?.as_str())
+        }
+    }
+}
+
 /// Begins an object of this type on a pattern.
 pub(crate) fn begin(
     alloc: Global,
@@ -36,7 +46,7 @@ pub(crate) fn begin(
     writer.begin_object()?;
     write_text(&mut writer, "type", kind)?;
     write_text(&mut writer, "file", at.file)?;
-    write_number(&mut writer, "line", at.line)?;
+    write_spot(alloc, &mut writer, at.spot)?;
     write_text(&mut writer, "pattern", pattern)?;
     Ok(writer)
 }

@@ -1,0 +1,36 @@
+//! Patterns that are texts in a file of JSON.
+pub mod keys;
+pub mod path;
+mod refusal;
+pub(crate) mod trail;
+
+use crate::fault::Fault;
+use crate::values::refusal::{write_not_text, write_refusal, write_too_long};
+use json::{Error, Scratch, Tape};
+use std::alloc::{AllocError, Global};
+use std::io::Write;
+use std::str;
+
+/// The values of a file of JSON; none where it cannot be read as such, and then `err` says where and why.
+pub(crate) fn values_of<'a, E: Write>(
+    alloc: Global,
+    file: &str,
+    bytes: &'a [u8],
+    scratch: &'a mut Scratch,
+    err: &mut E,
+) -> Result<Option<Tape<'a>>, Fault> {
+    let text = match str::from_utf8(bytes) {
+        Ok(text) => text,
+        Err(error) => {
+            write_not_text(err, file, bytes, error.valid_up_to())?;
+            return Ok(None);
+        }
+    };
+    match Tape::parse(text, scratch, Vec::new(alloc)) {
+        Ok(values) => return Ok(Some(values)),
+        Err(Error::OutOfMemory) => return Err(Fault::Memory(AllocError)),
+        Err(Error::TooLong) => write_too_long(err, file)?,
+        Err(Error::Invalid | Error::DuplicateKey) => write_refusal(alloc, err, file, text)?,
+    }
+    Ok(None)
+}
