@@ -1,6 +1,7 @@
 -- What is read under its quantifiers, once it is resolved, nests in its text no deeper than in the pattern.
 use Rattle.std.proofs.Common.{◌≡◌, ℕ, zero, suc, ◌+◌, ◌<◌, ◌≤◌, Bool, true, false, not, ◌&&◌, ◌==◌, List, [], ◌∷◌}
 use Rattle.std.proofs.Common.{Option, Some, None, IfSome, refl, sym, ap, ◌∙◌, subst, arith, nat_lt, ltb-true}
+use Rattle.std.specs.Prelude.{option_map, option_and_then, unwrap_or}
 use Rattle.std.proofs.lemmas.Bool.{cond_both, false≢true, and_parts}
 use Rattle.std.proofs.lemmas.Bool.Decides.{nat_tests}
 use Prim.Native.Char.{code}
@@ -11,7 +12,6 @@ use Rattle.fancy_parts.specs.Quantifier.{counts, braced_counts, counts_from, in_
 use Rattle.fancy_parts.specs.Quantifier.{most}
 use Rattle.fancy_parts.specs.declared.counts.Counts.{Counts}
 use Rattle.fancy_parts.proofs.CountLaws.{Closed, closes_counts}
-use Rattle.std.specs.Prelude.{option_map, option_and_then, unwrap_or}
 use Rattle.fancy_grammar.specs.Depth.{max_depth}
 use Rattle.fancy_grammar.specs.Label as label
 use Rattle.fancy_grammar.specs.Quantified.{is_repeatable, quant, quant_at, with_counts, suffix, suffix_at, behind_lazy}
@@ -161,7 +161,7 @@ module _ (in_mode : Bool) (z : ℕ) (named : Bool) (numbers_of : Text → List �
     operands = λ e c n l. h.fitted.fits c (Operand n) (omega arith, e);
   }
 
-  -- the same with other states and as more
+  -- the same up to another state, and as under more quantifiers
   elsewhere : (i j d : ℕ) (s : State) (r : Tree) (t w : State) → i ≤ j → w.flags ≡ t.flags → Quantified i d s r t →
       Quantified j d s r w
   elsewhere i j d s r t w l same h = record {
@@ -295,7 +295,7 @@ module _ (in_mode : Bool) (z : ℕ) (named : Bool) (numbers_of : Text → List �
 
   -- ---- those adjacent to it
 
-  -- in Oniguruma mode; so many follow, and n groups and quantifiers count so far
+  -- in Oniguruma mode: so many more may follow, n levels count so far, and j quantifiers stand there
   adjacent_part : in_mode ≡ true → (k n j d : ℕ) (s : State) (a : Tree) (t : State) → j + k ≤ max_adjacent + 1 →
       j + d ≤ n + 1 → Quantified j d s a t → Holds (Part in_mode R 2 d s) (adjacent k n a t)
   unfolding adjacent
