@@ -194,7 +194,7 @@ module _ (z : ℕ) (named : Bool) (numbers_of : Text → List ℕ) where
   numbers_kept c (leaf (label.backref_at_level n level casei) ∷ l) h = absurd h.0
   numbers_kept c (_ ∷ l) h = numbers_kept c l h.1
 
-  list_length : (ts : Trees) (c : ℕ) → length (list_of (resolved_all z named numbers_of c ts)) ≡ length (list_of ts)
+  pub list_length : (ts : Trees) (c : ℕ) → length (list_of (resolved_all z named numbers_of c ts)) ≡ length (list_of ts)
   list_length no_trees c = refl
   list_length (more_trees t ts) c = ap suc (list_length ts _)
 

@@ -45,3 +45,5 @@ pub mod SourceLemmas
 pub mod HereLemmas
 pub mod ReadAsLaws
 pub mod Pattern
+-- ---- what is true of parsed trees
+pub mod Parsed

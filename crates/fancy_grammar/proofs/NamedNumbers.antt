@@ -19,7 +19,7 @@ ascend_below : (j k n : ℕ) (l : List ℕ) → j ≤ k → AscendingNumbers k n
 ascend_below j k n [] h a = tt
 ascend_below j k n (m ∷ l) h (a, b, c) = (omega (arith, h, a), b, c)
 
-ascend_from : (n : ℕ) (w : Text) (l : List Opening) → AscendingNumbers n (n + length l) (numbers_from n w l)
+pub ascend_from : (n : ℕ) (w : Text) (l : List Opening) → AscendingNumbers n (n + length l) (numbers_from n w l)
 ascend_from n w [] = tt
 ascend_from n w (o ∷ l) = by_test (is_name w o.name)
     (subst (λ m. AscendingNumbers (n + 1) m (numbers_from (n + 1) w l)) same (ascend_from (n + 1) w l)) where
@@ -70,7 +70,7 @@ module _ (P : Text → Type 0) where
     by_order Equal more = (a, hs)
     by_order Greater more = (a, more)
 
-  fold_all : (us ws : List Text) → AllByRecursion P us → AllByRecursion P ws →
+  pub fold_all : (us ws : List Text) → AllByRecursion P us → AllByRecursion P ws →
       AllByRecursion P (fold (insert_key name_cmp) us ws)
   fold_all us [] h hs = h
   fold_all us (w ∷ ws) h (a, hs) = fold_all (insert_key name_cmp us w) ws (insert_all w us a h) hs

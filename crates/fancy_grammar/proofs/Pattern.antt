@@ -1,6 +1,7 @@
 -- The text of a tree reads back, in reading order: the theorem stands last.
 
 -- ---- what a raw tree becomes where references are resolved
+pub mod Unplaced
 pub mod Becomes
 -- ---- what the rules read, under flags that change along the text
 pub mod Rules
@@ -9,8 +10,11 @@ pub mod Groups
 -- ---- leaves
 pub mod Characters
 pub mod Leaves
+pub mod Names
 pub mod References
-pub mod Sources
+pub mod Unresolved
+pub mod Conditions
+pub mod Source
 -- ---- quantifiers
 pub mod Quantifiers
 -- ---- the induction
@@ -18,8 +22,11 @@ pub mod Needed
 pub mod Induction
 pub mod Cases
 pub mod Repeats
+pub mod Parted
 pub mod Rows
 pub mod Absent
 pub mod Conditionals
+pub mod GroupConditionals
 -- ---- the theorem
+pub mod Marked
 pub mod Theorem

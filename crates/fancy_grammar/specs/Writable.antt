@@ -1,31 +1,38 @@
 -- The trees whose texts are proved to read back.
 use Rattle.std.specs.Prelude.{◌≡◌, ℕ, zero, suc, ◌+◌, ◌-◌, ◌^◌, ◌<◌, ◌≤◌, ◌&&◌, Bool, true, false, List, [], ◌∷◌, ◌++◌}
-use Rattle.std.specs.Prelude.{length, Option, option_map, nat_le, nat_lt, filter, find, ◌||◌, ℤ, pos, negsuc}
-use Rattle.std.specs.List.{AllByRecursion}
+use Rattle.std.specs.Prelude.{length, Option, option_map, nat_le, nat_lt, filter, find, ◌||◌, ℤ, pos, negsuc, ◌==◌}
+use Rattle.std.specs.Prelude.{None}
+use Rattle.std.specs.List.{AllByRecursion, list_any}
+use Rattle.std.specs.Option.{IfSome}
 use Prim.Native.Char.{code}
 use Rattle.fancy_lex.specs.Characters.{is_among, backslash, open_bracket}
 use Rattle.fancy_lex.specs.Class.{class}
 use Rattle.fancy_lex.specs.Escape.{escape}
+use Rattle.fancy_lex.specs.EscapeReference.{is_relative}
 use Rattle.fancy_lex.specs.Escaped as escaped
 use Rattle.fancy_lex.specs.IdReference.{amount_bound}
-use Rattle.fancy_lex.specs.Number.{at_digit}
+use Rattle.fancy_lex.specs.NumberText.{number_text}
 use Rattle.fancy_lex.specs.Reading.{gives}
+use Rattle.fancy_lex.specs.Target.{Target, by_number, by_name, relative}
 use Rattle.fancy_lex.specs.Text.{Text}
 use Rattle.fancy_lex.specs.declared.escape.Assertion.TheVariants.{StartLineOniguruma}
 use Rattle.fancy_lex.specs.declared.flags.Flags.{Flags}
-use Rattle.fancy_parts.specs.Ranks.{Opening, is_counted, only_named, named_groups}
+use Rattle.fancy_parts.specs.Meaning.{call, means, unresolved}
+use Rattle.fancy_parts.specs.Ranks.{Opening, is_counted, only_named, named_groups, numbers}
 use Rattle.fancy_grammar.specs.Answered.{groups_referred, has_call}
 use Rattle.fancy_grammar.specs.Depth.{max_depth}
 use Rattle.fancy_grammar.specs.Join.{is_empty}
 use Rattle.fancy_grammar.specs.Label.{Leaf, empty, any, assertion, general_newline, literal, literal_bytes, delegate}
 use Rattle.fancy_grammar.specs.Label.{keep_out, continue_from_previous_match_end, verb, clear, group, look_around}
 use Rattle.fancy_grammar.specs.Label.{repeat, atomic_group, define_group, repeater, stopper, expression, conditional}
-use Rattle.fancy_grammar.specs.Label.{concat, alt, backref, subroutine_call, backref_at_level}
+use Rattle.fancy_grammar.specs.Label.{concat, alt, backref, subroutine_call, backref_at_level, backref_exists, ast_node}
+use Rattle.fancy_grammar.specs.Label.{ast_call}
 use Rattle.fancy_grammar.specs.Marks.{Marks, ascending}
-use Rattle.fancy_grammar.specs.Pattern.{group_count, Here, is_in_digits, written_all}
+use Rattle.fancy_grammar.specs.Pattern.{group_count}
 use Rattle.fancy_grammar.specs.PatternReference.{name_of}
 use Rattle.fancy_grammar.specs.PatternNeeds.{settled}
 use Rattle.fancy_grammar.specs.PatternSource.{delegate_text}
+use Rattle.fancy_grammar.specs.Preorder.{preorder}
 use Rattle.fancy_grammar.specs.Quantified.{is_repeatable}
 use Rattle.fancy_grammar.specs.Tree.{Tree, leaf, over, row, Trees, no_trees, more_trees, levels}
 
@@ -49,22 +56,54 @@ abbrev pub HasSource : Flags → Text → Bool → Type 0
 HasSource f s casei =
     (g : Flags) → IsLike f g → settled g (leaf (delegate s casei)) ≡ g → IsSource g s casei (delegate_text g casei s)
 
+-- ---- groups and references, by the marks
+
+-- the name that the marks give the group of the number
+abbrev pub name_at : Marks → ℕ → Option Text
+name_at m n = option_map (λ e. e.0) (name_of m n)
+
+-- the openings of the next groups behind c others, so many, with the names that the marks give them; reaches are left
+-- out
+abbrev pub openings_told : Marks → ℕ → ℕ → List Opening
+openings_told m c zero = []
+openings_told m c (suc n) = record { reach = 0; name = name_at m (c + 1) } ∷ openings_told m (c + 1) n
+
+-- the numbers of a name
+abbrev pub numbers_told : Marks → Text → List ℕ
+numbers_told m w = numbers w (openings_told m 0 m.total_groups)
+
 -- a level that can be written
 abbrev pub IsLevelWritable : ℤ → Type 0
 IsLevelWritable (pos n) = n < amount_bound
 IsLevelWritable (negsuc n) = n + 1 < amount_bound
 
--- a call of a group by its number, where some reference is written as a number, or else of one that is not too far
+-- a call is written as a number where some reference was one: of a group, or of 0 where some call of 0 was one
+abbrev pub is_called_by_number : Marks → ℕ → Bool
+is_called_by_number m n = m.numeric_capture_group_references && (nat_lt 0 n || m.self_recursive)
+
+-- a call of a group by its number, where that is written, or else of one that is not too far
 abbrev pub IsCallWritable : Bool → ℕ → ℕ → Type 0
-IsCallWritable true c n = (0 < n) × (n < 2 ^ 64)
+IsCallWritable true c n = n < 2 ^ 64
 IsCallWritable false c n = (n - c < amount_bound) × (c + 1 - n < amount_bound)
 
--- no digit follows it, where it is a back reference in digits, to which that would belong
-abbrev pub IsParted : Marks → Tree → Trees → Type 0
-IsParted m t ts = is_in_digits m t ≡ true → (h : Here) → at_digit (written_all m false ts h) ≡ false
+-- between marks no call can be written by the name: it would be read as a distance, or holds both closing marks
+abbrev pub is_called_in_parens : Text → Bool
+is_called_in_parens w = is_relative w || (is_among (code ">") w && is_among (code "'") w)
+
+-- a name that is no number, and that a call can be written by
+abbrev pub IsCalledName : Text → Type 0
+IsCalledName [] = ⊥
+IsCalledName (c ∷ w) =
+    (number_text (c ∷ w) ≡ None) × (is_called_in_parens (c ∷ w) ≡ true → is_among (code ")") (c ∷ w) ≡ false)
+
+-- what a call can be written by that means no group
+abbrev pub IsCalledTarget : Target → Type 0
+IsCalledTarget (by_name w) = IsCalledName w
+IsCalledTarget (relative z) = IsLevelWritable z
+IsCalledTarget (by_number n) = ⊥
 
 -- a leaf as it is read, behind the openings of c groups: a character, a byte without UNICODE, what has an escape, a
--- back reference, or a call
+-- back reference, a call, which may mean no group, or a condition on a group alone
 abbrev pub IsWritableLeaf : Flags → Marks → ℕ → Leaf → Type 0
 IsWritableLeaf f m c (literal (d ∷ []) casei) = Unit {0}
 IsWritableLeaf f m c (literal_bytes (b ∷ [])) = (f.unicode ≡ false) × (0x80 ≤ b) × (b ≤ 0xFF)
@@ -79,14 +118,16 @@ IsWritableLeaf f m c keep_out = Unit {0}
 IsWritableLeaf f m c continue_from_previous_match_end = Unit {0}
 IsWritableLeaf f m c clear = Unit {0}
 IsWritableLeaf f m c (backref n casei) = n < 2 ^ 64
-IsWritableLeaf f m c (backref_at_level n level casei) =
-    (m.numeric_capture_group_references ≡ false) × (n < 2 ^ 64) × IsLevelWritable level
-IsWritableLeaf f m c (subroutine_call n) = IsCallWritable m.numeric_capture_group_references c n
+IsWritableLeaf f m c (backref_at_level n level casei) = (n < 2 ^ 64) × IsLevelWritable level
+IsWritableLeaf f m c (subroutine_call n) = IsCallWritable (is_called_by_number m n) c n
+IsWritableLeaf f m c (backref_exists n level) = (n < 2 ^ 64) × IfSome level IsLevelWritable
+IsWritableLeaf f m c (ast_node (ast_call t) place) = IsCalledTarget t × (means (numbers_told m) c call t ≡ unresolved)
 IsWritableLeaf f m c _ = ⊥
 
 abbrev mutual
   -- what stands under a quantifier is repeatable, a Concat or an Alt has two parts or more, no part of a Concat, nor what
-  -- a stopper holds, is Empty, and a conditional has a look-around as its condition, and a branch that is not Empty
+  -- a stopper holds, is Empty, and a conditional has a look-around or a group as its condition, and a branch that is not
+  -- Empty
   pub AreNodesWritable : Flags → Marks → ℕ → Tree → Type 0
   AreNodesWritable f m c (leaf l) = IsWritableLeaf f m c l
   AreNodesWritable f m c (over (repeat lo hi greedy) t) =
@@ -103,6 +144,10 @@ abbrev mutual
       (row conditional (more_trees (over (look_around l) k) (more_trees t (more_trees e no_trees)))) =
       AreNodesWritable f m c k × AreNodesWritable f m (c + group_count k) t
       × AreNodesWritable f m (c + group_count k + group_count t) e × ((is_empty t && is_empty e) ≡ false)
+  AreNodesWritable f m c
+      (row conditional (more_trees (leaf (backref_exists n level)) (more_trees t (more_trees e no_trees)))) =
+      IsWritableLeaf f m c (backref_exists n level) × AreNodesWritable f m c t
+      × AreNodesWritable f m (c + group_count t) e × ((is_empty t && is_empty e) ≡ false)
   AreNodesWritable f m c (row concat (more_trees t (more_trees u ts))) =
       ArePieces f m c (more_trees t (more_trees u ts))
   AreNodesWritable f m c (row alt (more_trees t (more_trees u ts))) =
@@ -116,32 +161,29 @@ abbrev mutual
   pub ArePieces : Flags → Marks → ℕ → Trees → Type 0
   ArePieces f m c no_trees = Unit {0}
   ArePieces f m c (more_trees t ts) =
-      AreNodesWritable f m c t × (is_empty t ≡ false) × IsParted m t ts × ArePieces f m (c + group_count t) ts
+      AreNodesWritable f m c t × (is_empty t ≡ false) × ArePieces f m (c + group_count t) ts
 
--- ---- groups and their names
+-- ---- the marks of a tree
 
--- the name that the marks give the group of the number
-abbrev pub name_at : Marks → ℕ → Option Text
-name_at m n = option_map (λ e. e.0) (name_of m n)
+-- the node is a reference that is written as a number, where these are the marks
+abbrev pub is_numbered : Marks → Tree → Bool
+is_numbered m (leaf (backref n casei)) = m.numeric_capture_group_references
+is_numbered m (leaf (subroutine_call n)) = is_called_by_number m n
+is_numbered m _ = false
 
--- the openings of the next groups behind c others, so many, with the names that the marks give them; reaches are left
--- out
-abbrev pub openings_told : Marks → ℕ → ℕ → List Opening
-openings_told m c zero = []
-openings_told m c (suc n) = record { reach = 0; name = name_at m (c + 1) } ∷ openings_told m (c + 1) n
+-- the node is a call of 0 that is written as a number
+abbrev pub is_numbered_call_of_all : Marks → Tree → Bool
+is_numbered_call_of_all m (leaf (subroutine_call n)) = is_called_by_number m n && n == 0
+is_numbered_call_of_all m _ = false
 
--- a back reference or a call stands in it
-abbrev pub has_reference : Tree → Bool
-has_reference t = nat_lt 0 (length (groups_referred t)) || has_call t
-
--- the marks of a tree that has these groups, whose references all count as written as numbers, or none does
-abbrev pub marks_of : Flags → List Opening → Tree → Bool → Marks
-marks_of f l t numeric = record {
+-- the marks of a tree that has these groups, where the second marks say how its references are written
+abbrev pub marks_of : Flags → List Opening → Tree → Marks → Marks
+marks_of f l t m = record {
   backrefs = ascending (filter (λ n. nat_le n (length l)) (groups_referred t));
   named_groups = named_groups l;
-  numeric_capture_group_references = numeric;
+  numeric_capture_group_references = list_any (is_numbered m) (preorder t);
   contains_subroutines = has_call t;
-  self_recursive = false;
+  self_recursive = list_any (is_numbered_call_of_all m) (preorder t);
   total_groups = length l;
   out_of_range_backref = find (λ n. nat_lt (length l) n) (groups_referred t);
   numbered_groups_ignored = only_named f l;
@@ -158,12 +200,10 @@ IsNameWritable (c ∷ w) = (is_among (code ">") (c ∷ w) && is_among (code "'")
 
 -- ---- the trees
 
--- outside Oniguruma mode, a tree of fewer than 64 levels with its marks, whose references all count as written as
--- numbers, or none does
+-- outside Oniguruma mode, a tree of fewer than 64 levels with its marks
 pub record IsWritable (f : Flags) (m : Marks) (t : Tree) : Type 0 where
   pub mode : f.oniguruma_mode ≡ false
-  pub marks : m ≡ marks_of f (openings_told m 0 (group_count t)) t m.numeric_capture_group_references
-  pub numeric : m.numeric_capture_group_references ≡ true → has_reference t ≡ true
+  pub marks : m ≡ marks_of f (openings_told m 0 (group_count t)) t m
   pub counted : AreCounted m.numbered_groups_ignored (openings_told m 0 (group_count t))
   pub names : AllByRecursion (λ e. IsNameWritable e.0) m.named_groups
   pub nodes : AreNodesWritable f m 0 t

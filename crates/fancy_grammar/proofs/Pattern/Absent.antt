@@ -4,7 +4,6 @@ use Rattle.std.proofs.Common.{◌∙◌, subst, append_assoc, ne_eqb, ⊎_elim, 
 use Rattle.std.proofs.lemmas.Bool.{cond-false, cases_eq, false≢true}
 use Rattle.std.specs.List.{starts_with}
 use Prim.Native.Char.{code}
-use Rattle.fancy_lex.specs.LayoutSteps.{layout, layout_from, rest}
 use Rattle.fancy_lex.specs.Text.{Text, bytes}
 use Rattle.fancy_lex.specs.declared.flags.Flags.{Flags}
 use Rattle.fancy_grammar.specs.Ahead.{nothing, with_head, ahead, behind_question}
@@ -28,18 +27,13 @@ use Rattle.fancy_grammar.proofs.Pattern.Groups.{parens_text, question_at, over_b
 use Rattle.fancy_grammar.proofs.Pattern.Induction.{by_atom}
 use Rattle.fancy_grammar.proofs.Pattern.Rules.{Begins, Stops, begins_by, stops_bar, ends_close, AtomAt, BranchAt}
 use Rattle.fancy_grammar.proofs.Pattern.Rules.{WholeAt}
-use Rattle.fancy_grammar.proofs.Pattern.Rules.{quants_one, quant_none}
+use Rattle.fancy_grammar.proofs.Pattern.Rules.{quants_one, quant_none, comment_passed}
 use Rattle.fancy_grammar.proofs.ReadBack.RuleLemmas.{st}
 use Rattle.fancy_grammar.proofs.ReadLaws.{branch_read}
 use Rattle.fancy_grammar.proofs.Slices.{to_ends}
 use Rattle.fancy_lex.proofs.LeaveLaws.{ends_twice}
 
 -- ---- behind an empty comment
-
-comment_passed : (x : Bool) (s : Text) → layout x (codes "(?#)|" ++ s) ≡ rest (code "|" ∷ s)
-unfolding layout_from
-comment_passed true s = refl
-comment_passed false s = refl
 
 nothing_at : (d : ℕ) (f : Flags) (s : Text) → ahead d (st f (code "|" ∷ s)) ≡ nothing
 unfolding ahead
@@ -56,7 +50,7 @@ comment_whole μ h s v g x o w =
       derives =
           whole_behind h.depth (st h.flags bar) (st h.flags t)
           (λ q p. next refl
-          (piece_as (comment_passed h.flags.ignore_space s) (atom (nothing_at h.depth h.flags s) a_nothing)
+          (piece_as (comment_passed h.flags.ignore_space bar ∙ (stops_bar h.flags.ignore_space s).clear.no_layout) (atom (nothing_at h.depth h.flags s) a_nothing)
           (quants_one h.depth (bytes t) h.flags empty empty bar bar o
           (quant_none (bytes t) h.flags empty bar (stops_bar h.flags.ignore_space s).clear))) p)
           w.derives;

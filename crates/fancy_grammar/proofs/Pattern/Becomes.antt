@@ -4,7 +4,7 @@ use Rattle.std.proofs.Common.{refl, sym, ap, ap₂, ◌∙◌, subst, arith, ℤ
 use Rattle.std.proofs.lemmas.Bool.{cond-true, cond-false}
 use Rattle.fancy_lex.specs.Text.{Text, EndsWith, bytes, place_at}
 use Rattle.fancy_lex.specs.declared.flags.Flags.{Flags}
-use Rattle.fancy_parts.specs.Ranks.{Opening, numbered_openings_in, numbers}
+use Rattle.fancy_parts.specs.Ranks.{Opening, numbered_openings_in}
 use Rattle.fancy_grammar.specs.Items.{Item, opening, reference, items, items_all, openings_in, role_of, target_of}
 use Rattle.fancy_grammar.specs.Join.{is_empty, solid, one_or}
 use Rattle.fancy_grammar.specs.Label.{Row, AstReference, ast_backref, ast_call, ast_condition}
@@ -14,8 +14,11 @@ use Rattle.fancy_grammar.specs.Quantified.{is_repeatable}
 use Rattle.fancy_grammar.specs.Resolved.{resolved_in, resolved_all, reference_node}
 use Rattle.fancy_grammar.specs.Tree.{Tree, row, more_trees, trees_of, empty, ast_group}
 use Rattle.fancy_grammar.specs.Tree.{ast_node, backref, backref_at_level, subroutine_call, backref_exists}
-use Rattle.fancy_grammar.specs.Writable.{name_at, AreCounted, openings_told}
-use Rattle.fancy_parts.specs.Meaning.{number, means}
+use Rattle.fancy_grammar.specs.ReadAs.{unplaced, unplaced_all}
+pub use Rattle.fancy_grammar.specs.Writable.{numbers_told}
+use Rattle.fancy_grammar.specs.Writable.{name_at, AreCounted, is_numbered, is_numbered_call_of_all}
+use Rattle.fancy_grammar.proofs.Pattern.Unplaced.{empty_unplaced, repeatable_unplaced}
+use Rattle.fancy_parts.specs.Meaning.{Meaning, number, unresolved, faulty, means}
 use Rattle.fancy_parts.specs.Written.{is_numeric}
 use Rattle.fancy_lex.proofs.LeaveLaws.{ends_twice}
 
@@ -23,32 +26,33 @@ use Rattle.fancy_lex.proofs.LeaveLaws.{ends_twice}
 abbrev pub opened : List Item → ℕ
 opened l = length (openings_in l)
 
--- the numbers of a name, by the marks
-abbrev pub numbers_told : Marks → Text → List ℕ
-numbers_told μ w = numbers w (openings_told μ 0 μ.total_groups)
+-- what a reference means behind the openings of c groups, by the marks
+abbrev pub meaning_told : Marks → ℕ → AstReference → Meaning
+meaning_told μ c r = means (numbers_told μ) c (role_of r) (target_of r)
 
--- a reference that means a group behind the openings of c groups
-pub record MeansGroup (μ : Marks) (c : ℕ) (r : AstReference) : Type 0 where
-  pub group : ℕ
-  pub meant : means (numbers_told μ) c (role_of r) (target_of r) ≡ number group
+-- a group, or none, but no fault
+abbrev pub MeansGroup : Meaning → Type 0
+MeansGroup (faulty k) = ⊥
+MeansGroup _ = Unit {0}
 
--- in each text that ends so it is written as a number exactly if some reference is to be; no call is one of all
-pub record IsAsMarked (μ : Marks) (s : Text) (r : AstReference) (p : ℕ) : Type 0 where
+-- in each text that ends so it is written as a number exactly if its node is to be, and so is a call of all
+pub record IsAsMarked (μ : Marks) (s : Text) (r : AstReference) (m : Meaning) (p : ℕ) : Type 0 where
   pub numeric : (text : Text) → EndsWith text s →
-      is_numeric text (place_at (bytes text) p) (role_of r) (target_of r) ≡ μ.numeric_capture_group_references
-  pub not_of_all : is_call_of_all (role_of r) (target_of r) ≡ false
+      is_numeric text (place_at (bytes text) p) (role_of r) (target_of r) ≡ is_numbered μ (reference_node 0 m r 0)
+  pub of_all : is_call_of_all (role_of r) (target_of r) ≡ is_numbered_call_of_all μ (reference_node 0 m r 0)
 
 -- behind the openings of c groups they are groups, each with the name that the marks give it, and such references
 abbrev pub AreGroups : Marks → Text → ℕ → List Item → Type 0
 AreGroups μ s c [] = Unit {0}
 AreGroups μ s c (opening o ∷ l) = (o.name ≡ name_at μ (c + 1)) × AreGroups μ s (c + 1) l
-AreGroups μ s c (reference r p ∷ l) = MeansGroup μ c r × IsAsMarked μ s r p × AreGroups μ s c l
+AreGroups μ s c (reference r p ∷ l) =
+    MeansGroup (meaning_told μ c r) × IsAsMarked μ s r (meaning_told μ c r) p × AreGroups μ s c l
 
--- behind the openings of c groups it resolves to x, where each of its groups has a number and each name has those that
--- the marks say; it has as many groups, with the names that the marks give them
+-- behind the openings of c groups it resolves to x, but for places, where each of its groups has a number and each name
+-- has those that the marks say; it has as many groups, with the names that the marks give them
 pub record Becomes (μ : Marks) (s : Text) (c : ℕ) (r x : Tree) : Type 0 where
   pub is : (named : Bool) → AreCounted named (openings_in (items r)) → (n : ℕ) (numbers_of : Text → List ℕ) →
-      ((w : Text) → numbers_of w ≡ numbers_told μ w) → resolved_in n named numbers_of c r ≡ x
+      ((w : Text) → numbers_of w ≡ numbers_told μ w) → unplaced (resolved_in n named numbers_of c r) ≡ unplaced x
   pub count : opened (items r) ≡ group_count x
   pub groups : AreGroups μ s c (items r)
 
@@ -92,9 +96,9 @@ pub counted_unnamed : (l : List Opening) → AreCounted false l
 counted_unnamed [] = tt
 counted_unnamed (o ∷ l) = (refl, counted_unnamed l)
 
--- what it resolves to where all groups have a number
+-- what it resolves to, but for places, where all groups have a number
 pub becomes_plain : (μ : Marks) (s : Text) (c : ℕ) (r x : Tree) → Becomes μ s c r x →
-    resolved_in 0 false (numbers_told μ) c r ≡ x
+    unplaced (resolved_in 0 false (numbers_told μ) c r) ≡ unplaced x
 becomes_plain μ s c r x b = b.is false (counted_unnamed (openings_in (items r))) 0 (numbers_told μ) (λ w. refl)
 
 -- ---- several trees
@@ -118,7 +122,8 @@ all_count μ s (r ∷ l) [] c h = absurd h
 
 each_resolved : (μ : Marks) (s : Text) (l m : List Tree) (c : ℕ) → EachBecomes μ s c l m → (named : Bool) →
     AreCounted named (openings_in (items_all (trees_of l))) → (n : ℕ) (numbers_of : Text → List ℕ) →
-    ((w : Text) → numbers_of w ≡ numbers_told μ w) → resolved_all n named numbers_of c (trees_of l) ≡ trees_of m
+    ((w : Text) → numbers_of w ≡ numbers_told μ w) →
+    unplaced_all (resolved_all n named numbers_of c (trees_of l)) ≡ unplaced_all (trees_of m)
 each_resolved μ s [] [] c h named k n u e = refl
 each_resolved μ s (r ∷ l) (x ∷ m) c h named k n u e =
     let others = items_all (trees_of l) in
@@ -127,7 +132,8 @@ each_resolved μ s (r ∷ l) (x ∷ m) c h named k n u e =
     let same : length (numbered_openings_in named (openings_in (items r))) ≡ group_count x
     = ap length (counted_all named (openings_in (items r)) a) ∙ h.0.count in
     ap₂ more_trees (h.0.is named a n u e)
-    (ap (λ k. resolved_all n named u (c + k) (trees_of l)) same ∙ each_resolved μ s l m _ h.1 named b n u e)
+    (ap (λ k. unplaced_all (resolved_all n named u (c + k) (trees_of l))) same
+    ∙ each_resolved μ s l m _ h.1 named b n u e)
 each_resolved μ s [] (x ∷ m) c h named k n u e = absurd h
 each_resolved μ s (r ∷ l) [] c h named k n u e = absurd h
 
@@ -154,7 +160,8 @@ one_becomes μ s w (r ∷ l) [] c h = absurd h
 -- what becomes no Empty is none
 pub stays_solid : (μ : Marks) (s : Text) (c : ℕ) (r x : Tree) → Becomes μ s c r x → is_empty x ≡ false →
     is_empty r ≡ false
-stays_solid μ s c empty x b e = absurd-empty (ap is_empty (becomes_plain μ s c empty x b) ∙ e)
+stays_solid μ s c empty x b e =
+    absurd-empty (ap is_empty (becomes_plain μ s c empty x b) ∙ (empty_unplaced x ∙ e))
   where
     absurd-empty : {A : Type 0} → true ≡ false → A
     absurd-empty e = absurd cc
@@ -168,37 +175,38 @@ solid_also μ s c r x l m b e h =
 
 -- ---- what may stand under a quantifier
 
--- what a reference that means a group is resolved to
-node_of : {A : Type 0} (P : Tree → A) (a : A) (μ : Marks) (c : ℕ) (r : AstReference) (p : ℕ) → MeansGroup μ c r →
-    ((k : ℕ) → P (reference_node 0 (number k) r p) ≡ a) →
-    P (resolved_in 0 false (numbers_told μ) c (ast_node r p)) ≡ a
-node_of P a μ c r p h e = ap (λ m. P (reference_node 0 m r p)) h.meant ∙ e h.group
-
--- it is a leaf of its own, whatever the reference
-pub node_told : {A : Type 0} (P : Tree → A) (a : A) (μ : Marks) (c : ℕ) (r : AstReference) (p : ℕ) →
+-- what a reference without a fault is resolved to: a leaf of its own, whatever the reference
+pub node_told : {A : Type 0} (P : Tree → A) (a : A) (m : Meaning) (r : AstReference) (p : ℕ) →
     ((n : ℕ) (casei : Bool) → P (backref n casei) ≡ a) →
     ((n : ℕ) (level : ℤ) (casei : Bool) → P (backref_at_level n level casei) ≡ a) →
     ((n : ℕ) → P (subroutine_call n) ≡ a) → ((n : ℕ) (level : Option ℤ) → P (backref_exists n level) ≡ a) →
-    MeansGroup μ c r → P (resolved_in 0 false (numbers_told μ) c (ast_node r p)) ≡ a
-node_told P a μ c (ast_backref t casei None) p x y z w h =
-    node_of P a μ c (ast_backref t casei None) p h (λ k. x k casei)
-node_told P a μ c (ast_backref t casei (Some level)) p x y z w h =
-    node_of P a μ c (ast_backref t casei (Some level)) p h (λ k. y k level casei)
-node_told P a μ c (ast_call t) p x y z w h = node_of P a μ c (ast_call t) p h z
-node_told P a μ c (ast_condition t level) p x y z w h = node_of P a μ c (ast_condition t level) p h (λ k. w k level)
+    ((q : ℕ) → P (ast_node r q) ≡ a) → MeansGroup m → P (reference_node 0 m r p) ≡ a
+node_told P a (number n) (ast_backref t casei None) p x y z w v h = x n casei
+node_told P a (number n) (ast_backref t casei (Some level)) p x y z w v h = y n level casei
+node_told P a (number n) (ast_call t) p x y z w v h = z n
+node_told P a (number n) (ast_condition t level) p x y z w v h = w n level
+node_told P a unresolved (ast_backref t casei None) p x y z w v h = v _
+node_told P a unresolved (ast_backref t casei (Some level)) p x y z w v h = v _
+node_told P a unresolved (ast_call t) p x y z w v h = v _
+node_told P a unresolved (ast_condition t level) p x y z w v h = v _
+node_told P a (faulty k) r p x y z w v h = absurd h
 
 place_free : (μ : Marks) (s : Text) (f : Flags) (r : Tree) (c : ℕ) → AreGroups μ s c (items r) →
     is_repeatable f (resolved_in 0 false (numbers_told μ) c r) ≡ is_repeatable f r
 place_free μ s f (ast_group m p t) c h = refl
 place_free μ s f (ast_node r p) c h =
-    node_told (is_repeatable f) true μ c r p (λ n i. refl) (λ n l i. refl) (λ n. refl) (λ n l. refl) h.0
+    node_told (is_repeatable f) true (meaning_told μ c r) r p (λ n i. refl) (λ n l i. refl) (λ n. refl) (λ n l. refl)
+    (λ q. refl) h.0
 place_free μ s f _ c h = refl
 
 pub stays_repeatable : (μ : Marks) (s : Text) (f : Flags) (c : ℕ) (r x : Tree) → Becomes μ s c r x →
     is_repeatable f x ≡ true →
     is_repeatable f r ≡ true
 stays_repeatable μ s f c r x b e =
-    sym (place_free μ s f r c b.groups) ∙ (ap (is_repeatable f) (becomes_plain μ s c r x b) ∙ e)
+    let resolves = resolved_in 0 false (numbers_told μ) c r in
+    sym (place_free μ s f r c b.groups)
+    ∙ (sym (repeatable_unplaced f resolves)
+    ∙ (ap (is_repeatable f) (becomes_plain μ s c r x b) ∙ (repeatable_unplaced f x ∙ e)))
 
 -- ---- in a longer text
 
@@ -208,7 +216,7 @@ groups_in_longer μ s t e c [] h = tt
 groups_in_longer μ s t e c (opening o ∷ l) h = (h.0, groups_in_longer μ s t e (c + 1) l h.1)
 groups_in_longer μ s t e c (reference r p ∷ l) h = (
   h.0,
-  record { numeric = λ w k. h.1.numeric w (ends_twice w t s k e); not_of_all = h.1.not_of_all },
+  record { numeric = λ w k. h.1.numeric w (ends_twice w t s k e); of_all = h.1.of_all },
   groups_in_longer μ s t e c l h.2,
 )
 

@@ -18,7 +18,7 @@ use Rattle.fancy_grammar.specs.Pattern.{Here, under, past_groups, deeper, in_par
 use Rattle.fancy_grammar.specs.Pattern.{flags_behind, written, leaf_text}
 use Rattle.fancy_grammar.specs.Pattern.{look_head}
 use Rattle.fancy_grammar.specs.PatternNeeds.{settled, setting}
-use Rattle.fancy_grammar.specs.PatternReference.{Named, name_of, name_head, group_head}
+use Rattle.fancy_grammar.specs.PatternReference.{Named, name_of, name_head, group_head, target_text}
 use Rattle.fancy_grammar.specs.Quantified.{is_repeatable}
 use Rattle.fancy_grammar.specs.Tree.{Tree, leaf, over}
 use Rattle.fancy_grammar.specs.Writable.{IsLike, IsWritableLeaf, IsNameWritable}
@@ -40,7 +40,9 @@ use Rattle.fancy_grammar.proofs.ReadBack.RuleLemmas.{st}
 use Rattle.fancy_lex.specs.Characters.{◌∈◌, is_among}
 use Rattle.fancy_lex.specs.Reading.{choose}
 use Rattle.fancy_grammar.proofs.Pattern.Becomes.{numbers_told}
+use Rattle.fancy_grammar.proofs.Pattern.Conditions.{condition_at, exists_at}
 use Rattle.fancy_grammar.proofs.Pattern.References.{backref_at, call_at, level_at}
+use Rattle.fancy_grammar.proofs.Pattern.Unresolved.{unresolved_at}
 
 module _ (μ : Marks) where
   abbrev pub ReadsTree : Tree → Here → Type 0
@@ -116,9 +118,14 @@ module _ (μ : Marks) where
       (backref_at μ (under (settled h.flags (leaf (label.backref n casei))) h) numbered n k)
   leaf_reads numbered f (label.backref_at_level n level casei) h o like d k =
       leaf_by (label.backref_at_level n level casei) h o d refl
-      (level_at μ (under (settled h.flags (leaf (label.backref_at_level n level casei))) h) numbered k.0 n level k.1 k.2)
+      (level_at μ (under (settled h.flags (leaf (label.backref_at_level n level casei))) h) numbered n level k.0 k.1)
   leaf_reads numbered f (label.subroutine_call n) h o like d k =
       leaf_by (label.subroutine_call n) h o d refl (call_at μ h numbered n k)
+  leaf_reads numbered f (label.backref_exists n level) h o like d k =
+      leaf_by (label.backref_exists n level) h o d refl
+      (exists_at μ h (target_text μ n level) n level (condition_at μ h n d level (numbered n) k.0 k.1))
+  leaf_reads numbered f (label.ast_node (label.ast_call t) place) h o like d k =
+      leaf_by (label.ast_node (label.ast_call t) place) h o d refl (unresolved_at μ h t place d k.0 k.1)
   leaf_reads numbered f _ h o like d k = absurd k
 
   -- ---- groups

@@ -116,10 +116,11 @@ escape_u : (f : Flags) (inside : Bool) (t : Text) → escape f inside (code "u" 
 unfolding escape_at
 escape_u f inside t = refl
 
-pub reads_byte : (f : Flags) (b : ℕ) (s : Text) → f.unicode ≡ false → 0x80 ≤ b → b ≤ 0xFF →
-    escape f false (code "x" ∷ upper_hex_digit (b / 16) ∷ upper_hex_digit (b % 16) ∷ s) ≡ gives (escaped.literal_bytes b) s
-reads_byte f b s u l h =
-    escape_x f false _ ∙ (hex_two f (b / 16) (b % 16) b s (omega arith) (omega arith) (omega arith)
+pub reads_byte : (inside : Bool) (f : Flags) (b : ℕ) (s : Text) → f.unicode ≡ false → 0x80 ≤ b → b ≤ 0xFF →
+    escape f inside (code "x" ∷ upper_hex_digit (b / 16) ∷ upper_hex_digit (b % 16) ∷ s)
+    ≡ gives (escaped.literal_bytes b) s
+reads_byte inside f b s u l h =
+    escape_x f inside _ ∙ (hex_two f (b / 16) (b % 16) b s (omega arith) (omega arith) (omega arith)
     ∙ byte_literal f _ b s u l h)
 
 -- ---- what stands behind the backslash of a character

@@ -1,4 +1,4 @@
--- Conditionals read back where the trees below them do; the condition is a look-around or a verb.
+-- Conditionals read back where the trees below them do; the condition is a look-around.
 use Rattle.std.proofs.Common.{◌≡◌, ℕ, ◌+◌, ◌<◌, Bool, true, false, not, ◌&&◌, ◌||◌, ◌==◌, List, [], ◌∷◌}
 use Rattle.std.proofs.Common.{◌++◌, codes, refl, sym, ap, ap₂, ◌∙◌, subst, arith, append_assoc, append-nil, ne_eqb}
 use Rattle.std.proofs.Common.{if◌then◌else◌}
@@ -32,7 +32,8 @@ use Rattle.fancy_grammar.specs.State.{State, Outcome, done, fault, seen_through}
 use Rattle.fancy_grammar.specs.Tree.{Tree, leaf, over, row, no_trees, more_trees, empty, conditional, ast_group}
 use Rattle.fancy_grammar.specs.Tree.{ast_node, trees_of, list_of}
 use Rattle.fancy_grammar.proofs.Pattern.Becomes.{Becomes, row_becomes, AreGroups, becomes_plain, numbers_told}
-use Rattle.fancy_grammar.proofs.Pattern.Becomes.{node_told, in_longer}
+use Rattle.fancy_grammar.proofs.Pattern.Becomes.{node_told, in_longer, meaning_told}
+use Rattle.fancy_grammar.proofs.Pattern.Unplaced.{empty_unplaced, alt_unplaced}
 use Rattle.fancy_grammar.proofs.Pattern.Rules.{Begins, begins_by, AtomAt, BranchAt, WholeAt, stops_bar, ends_close}
 use Rattle.fancy_grammar.specs.declared.precedence.Precedence.TheVariants.{Whole, Branch as BranchAlone}
 use Rattle.fancy_grammar.proofs.Pattern.Cases.{ReadsTree}
@@ -96,17 +97,22 @@ raw_empty : (μ : Marks) (s : Text) (r : Tree) (c : ℕ) → AreGroups μ s c (i
     is_empty (resolved_in 0 false (numbers_told μ) c r) ≡ is_empty r
 raw_empty μ s (ast_group m p t) c h = refl
 raw_empty μ s (ast_node r p) c h =
-    node_told is_empty false μ c r p (λ n i. refl) (λ n l i. refl) (λ n. refl) (λ n l. refl) h.0
+    node_told is_empty false (meaning_told μ c r) r p (λ n i. refl) (λ n l i. refl) (λ n. refl) (λ n l. refl) (λ q. refl)
+    h.0
 raw_empty μ s _ c h = refl
 
-same_empty : (μ : Marks) (s : Text) (c : ℕ) (r x : Tree) → Becomes μ s c r x → is_empty r ≡ is_empty x
-same_empty μ s c r x b = sym (raw_empty μ s r c b.groups) ∙ ap is_empty (becomes_plain μ s c r x b)
+pub same_empty : (μ : Marks) (s : Text) (c : ℕ) (r x : Tree) → Becomes μ s c r x → is_empty r ≡ is_empty x
+same_empty μ s c r x b =
+    let resolves = resolved_in 0 false (numbers_told μ) c r in
+    sym (raw_empty μ s r c b.groups)
+    ∙ (sym (empty_unplaced resolves) ∙ (ap is_empty (becomes_plain μ s c r x b) ∙ empty_unplaced x))
 
 raw_alt : (μ : Marks) (s : Text) (r : Tree) (c : ℕ) → AreGroups μ s c (items r) →
     is_alt (resolved_in 0 false (numbers_told μ) c r) ≡ is_alt r
 raw_alt μ s (ast_group m p t) c h = refl
 raw_alt μ s (ast_node r p) c h =
-    node_told is_alt false μ c r p (λ n i. refl) (λ n l i. refl) (λ n. refl) (λ n l. refl) h.0
+    node_told is_alt false (meaning_told μ c r) r p (λ n i. refl) (λ n l i. refl) (λ n. refl) (λ n l. refl) (λ q. refl)
+    h.0
 raw_alt μ s (row label.concat ts) c h = refl
 raw_alt μ s (row label.alt ts) c h = refl
 raw_alt μ s (row label.expression ts) c h = refl
@@ -114,7 +120,10 @@ raw_alt μ s (row label.conditional ts) c h = refl
 raw_alt μ s _ c h = refl
 
 same_alt : (μ : Marks) (s : Text) (c : ℕ) (r x : Tree) → Becomes μ s c r x → is_alt r ≡ is_alt x
-same_alt μ s c r x b = sym (raw_alt μ s r c b.groups) ∙ ap is_alt (becomes_plain μ s c r x b)
+same_alt μ s c r x b =
+    let resolves = resolved_in 0 false (numbers_told μ) c r in
+    sym (raw_alt μ s r c b.groups)
+    ∙ (sym (alt_unplaced resolves) ∙ (ap is_alt (becomes_plain μ s c r x b) ∙ alt_unplaced x))
 
 -- what is no Alt is one branch
 abbrev OneBranch : Tree → Type 0
@@ -141,13 +150,13 @@ bar_left t u v =
     (omega (arith, bytes-append t (code "|" ∷ (u ++ v)), bytes-append u v))
 
 -- the body of a conditional with the raw condition k reads as these branches
-record BodyAt (μ : Marks) (d : ℕ) (k : Tree) (j : Here) (s v : Text) (t e : Tree) : Type 0 where
-  after : Flags
-  one : Tree
-  other : Tree
-  derives : Body d k (st j.flags s) (done (conditional_of k one other) (st after v))
-  one_becomes : Becomes μ s j.opened one t
-  other_becomes : Becomes μ s (j.opened + group_count t) other e
+pub record BodyAt (μ : Marks) (d : ℕ) (k : Tree) (j : Here) (s v : Text) (t e : Tree) : Type 0 where
+  pub after : Flags
+  pub one : Tree
+  pub other : Tree
+  pub derives : Body d k (st j.flags s) (done (conditional_of k one other) (st after v))
+  pub one_becomes : Becomes μ s j.opened one t
+  pub other_becomes : Becomes μ s (j.opened + group_count t) other e
 
 closed_body : (k r : Tree) (left : ℕ) (g : Flags) (v : Text) (a b : Tree) →
     (bytes (code ")" ∷ v) == left) ≡ false → ◌≡◌ {A = Tree × Tree} (branches_of r) (a, b) →
@@ -157,7 +166,7 @@ closed_body k r left g v a b e is =
     ∙ ap (λ (p : Tree × Tree). closed (conditional_of k p.0 p.1) (st g (code ")" ∷ v))) is
 
 -- a place so deep inside
-abbrev within : ℕ → Flags → ℕ → Here
+abbrev pub within : ℕ → Flags → ℕ → Here
 within d f n = record { flags = f; opened = n; depth = d + 1 }
 
 two_body : (μ : Marks) (d : ℕ) (k : Tree) (f : Flags) (n : ℕ) (t u v : Text) (g i : Flags) (x e : Tree) →
@@ -245,7 +254,7 @@ module _ (μ : Marks) (d : ℕ) (k : Tree) (f : Flags) (c : ℕ) (t e : Tree) (v
       (subst (BodyAt μ d k (within d f c) (first_text ++ code ")" ∷ v) v t) (empty_is e none)
       (one_body μ d k f c first_text v _ t z u is b (r.branch (code ")" ∷ v) (ends_close f.ignore_space v).stops)))
 
-  body_at : BodyAt μ d k (within d f c) (branches_text t e first_text second_text ++ code ")" ∷ v) v t e
+  pub body_at : BodyAt μ d k (within d f c) (branches_text t e first_text second_text ++ code ")" ∷ v) v t e
   body_at =
       subst (λ s. BodyAt μ d k (within d f c) (s ++ code ")" ∷ v) v t e) (sym (cond-false _ _ _ solid))
       (body_if (not (is_empty e) || is_alt t) refl)
@@ -295,7 +304,7 @@ plain_condition : (w : Text) → (begins_target (code "(" ∷ w) || bytes_eq (co
 unfolding begins_target
 plain_condition w = refl
 
-regroup : (c b r : Text) → ((code "(" ∷ (c ++ code ")" ∷ [])) ++ b) ++ r ≡ code "(" ∷ (c ++ code ")" ∷ (b ++ r))
+pub regroup : (c b r : Text) → ((code "(" ∷ (c ++ code ")" ∷ [])) ++ b) ++ r ≡ code "(" ∷ (c ++ code ")" ∷ (b ++ r))
 regroup c b r =
     append_assoc (code "(" ∷ (c ++ code ")" ∷ [])) b r ∙ ap (λ z. code "(" ∷ z) (append_assoc c (code ")" ∷ []) (b ++ r))
 

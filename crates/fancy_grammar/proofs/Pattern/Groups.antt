@@ -19,6 +19,7 @@ use Rattle.fancy_grammar.specs.Marks.{Marks}
 use Rattle.fancy_grammar.specs.Pattern.{Here, under, past_groups, deeper, in_parens}
 use Rattle.fancy_grammar.specs.PatternNeeds.{letters_between, setting, turns_on}
 use Rattle.fancy_grammar.specs.PatternReference.{name_head}
+use Rattle.fancy_grammar.specs.ReadAs.{unplaced}
 use Rattle.fancy_grammar.specs.State.{State, Outcome, done, fault, seen_through}
 use Rattle.fancy_grammar.specs.Tree.{Tree, over, empty, look_around, atomic_group, define_group, ast_group}
 use Rattle.fancy_grammar.specs.Writable.{IsNameWritable, name_at}
@@ -221,7 +222,7 @@ reads_group μ h name g s t v x e is w = record {
   derives = atom e (a_group (inside w.derives));
   becomes = record {
     is =
-        λ named k n u q. cond-true _ _ _ k.0 ∙ ap (over label.group) (w.becomes.is named k.1 n u q);
+        λ named k n u q. ap unplaced (cond-true _ _ _ k.0) ∙ ap (over label.group) (w.becomes.is named k.1 n u q);
     count = omega (arith, w.becomes.count);
     groups = (is, (in_longer μ t s (head_ends _ _ _ s t _ e) (h.opened + 1) w.tree x w.becomes).groups);
   };

@@ -148,7 +148,7 @@ pub byte_at : (μ : Marks) (h : Here) (b : ℕ) → h.flags.unicode ≡ false �
 byte_at μ h b u l k = record {
   reads =
       λ v m _. reads_escape μ h _ v (escaped.literal_bytes b) (label.literal_bytes (b ∷ [])) tt refl
-      (reads_byte h.flags b v u l k);
+      (reads_byte false h.flags b v u l k);
   begins = λ v. begins_escape h.flags.ignore_space _;
 }
 

@@ -1,6 +1,7 @@
 -- A Concat, and an Alt, read back where the trees below them do.
 use Rattle.std.proofs.Common.{◌≡◌, ◌+◌, ◌<◌, Bool, false, [], ◌∷◌, ◌++◌}
-use Rattle.std.proofs.Common.{refl, sym, ap, ◌∙◌, subst, arith, append_assoc, ℕ, codes, true, if◌then◌else◌}
+use Rattle.std.proofs.Common.{refl, sym, ap, ◌∙◌, subst, arith, append_assoc, ℕ, codes, true, ◌&&◌}
+use Rattle.std.proofs.lemmas.Bool.{cond_both, and_parts, false≢true}
 use Prim.Native.Char.{code}
 use Rattle.fancy_lex.specs.Text.{Text}
 use Rattle.fancy_lex.specs.declared.flags.Flags.{Flags}
@@ -14,13 +15,14 @@ use Rattle.fancy_grammar.specs.PatternNeeds.{settled}
 use Rattle.fancy_grammar.specs.Tree.{Tree, row, Trees, no_trees, more_trees, levels, levels_all, list_of}
 use Rattle.fancy_grammar.specs.Tree.{concat}
 use Rattle.fancy_grammar.specs.Tree.{trees_of}
-use Rattle.fancy_grammar.specs.Writable.{IsLike, IsParted}
+use Rattle.fancy_grammar.specs.Writable.{IsLike}
 use Rattle.fancy_grammar.specs.declared.precedence.Precedence.TheVariants.{Branch, Piece}
 use Rattle.fancy_grammar.proofs.NeedsLemmas.{listed}
 use Rattle.fancy_grammar.proofs.Pattern.Cases.{ReadsTree}
 use Rattle.fancy_grammar.proofs.Pattern.Groups.{inner}
 use Rattle.fancy_grammar.proofs.Pattern.Induction.{by_branch, by_whole}
 use Rattle.fancy_grammar.proofs.Pattern.Needed.{like_behind}
+use Rattle.fancy_grammar.proofs.Pattern.Parted.{LeadsPast}
 use Rattle.fancy_grammar.proofs.Pattern.Rules.{Clear, Begins, Stops, Ends, stops_bar, BranchAt, BranchesAt, WholeAt}
 use Rattle.fancy_grammar.proofs.Pattern.Rules.{Rest, no_more, ends_no_digit}
 use Rattle.fancy_grammar.proofs.Pattern.Rules.{reads_branch, reads_last, reads_more, reads_whole, reads_only}
@@ -32,10 +34,15 @@ module _ (μ : Marks) (f : Flags) (mode : f.oniguruma_mode ≡ false) where
   Everywhere c t =
       (h : Here) → h.opened ≡ c → IsLike f h.flags → h.depth + levels t < max_depth → ReadsTree μ t h
 
+  -- a comment may stand behind it, where it is a reference in digits
+  abbrev pub IsParted : Tree → Type 0
+  IsParted t =
+      is_in_digits μ t ≡ true → (h : Here) → IsLike f h.flags → h.depth + levels t < max_depth → LeadsPast μ h t
+
   abbrev pub EachPiece : ℕ → Trees → Type 0
   EachPiece c no_trees = Unit {0}
   EachPiece c (more_trees t ts) =
-      Everywhere c t × (is_empty t ≡ false) × IsParted μ t ts × EachPiece (c + group_count t) ts
+      Everywhere c t × (is_empty t ≡ false) × IsParted t × EachPiece (c + group_count t) ts
 
   abbrev pub EachBranch : ℕ → Trees → Type 0
   EachBranch c no_trees = Unit {0}
@@ -50,32 +57,12 @@ module _ (μ : Marks) (f : Flags) (mode : f.oniguruma_mode ≡ false) where
 
   -- ---- pieces
 
-  -- where no digit follows, nothing parts it from a reference in digits
-  front_digit : (s v : Text) → at_digit (s ++ v) ≡ false → at_digit s ≡ false
-  front_digit [] v h = refl
-  front_digit (c ∷ s) v h = h
-
-  both_digit : (s v : Text) → at_digit s ≡ false → at_digit v ≡ false → at_digit (s ++ v) ≡ false
-  both_digit [] v h k = k
-  both_digit (c ∷ s) v h k = h
-
-  unparted : (b : Bool) (ts : Trees) (h : Here) → (b ≡ true → at_digit (written_all μ false ts h) ≡ false) →
-      written_all μ b ts h ≡ written_all μ false ts h
-  unparted b no_trees h k = refl
-  unparted false (more_trees t ts) h k = refl
-  unparted true (more_trees t ts) h k =
-      let s = written μ t Piece h in
-      let v = written_all μ (is_in_digits μ t) ts (behind t Piece h) in
-      ap (λ b. (if b then codes "(?#)" ++ s else s) ++ v) (front_digit s v (k refl))
-
   -- the first of some pieces, before the others
-  pieces_text : (t : Tree) (ts : Trees) → IsParted μ t ts → (h : Here) (v : Text) →
+  pieces_text : (t : Tree) (ts : Trees) (h : Here) (v : Text) →
       written_all μ false (more_trees t ts) h ++ v
-      ≡ written μ t Piece h ++ (written_all μ false ts (behind t Piece h) ++ v)
-  pieces_text t ts k h v =
-      ap (λ z. (written μ t Piece h ++ z) ++ v)
-      (unparted (is_in_digits μ t) ts (behind t Piece h) (λ e. k e (behind t Piece h)))
-      ∙ append_assoc (written μ t Piece h) (written_all μ false ts (behind t Piece h)) v
+      ≡ written μ t Piece h ++ (written_all μ (is_in_digits μ t) ts (behind t Piece h) ++ v)
+  pieces_text t ts h v =
+      append_assoc (written μ t Piece h) (written_all μ (is_in_digits μ t) ts (behind t Piece h)) v
 
   like_next : (t : Tree) (h : Here) → IsLike f h.flags → IsLike f (behind t Piece h).flags
   like_next t h e = like_behind t Piece f h.flags e
@@ -85,14 +72,35 @@ module _ (μ : Marks) (f : Flags) (mode : f.oniguruma_mode ≡ false) where
       h.depth + levels_all (more_trees t ts) < max_depth → (v : Text) →
       Begins h.flags.ignore_space (written_all μ false (more_trees t ts) h ++ v)
   pieces_begin t ts h k e d v =
-      subst (Begins h.flags.ignore_space) (sym (pieces_text t ts k.2 h v))
-      ((k.0 h refl e (omega arith)).begins k.1 (written_all μ false ts (behind t Piece h) ++ v))
+      subst (Begins h.flags.ignore_space) (sym (pieces_text t ts h v))
+      ((k.0 h refl e (omega arith)).begins k.1 (written_all μ (is_in_digits μ t) ts (behind t Piece h) ++ v))
 
   pieces_clear : (ts : Trees) (h : Here) → EachPiece h.opened ts → IsLike f h.flags →
       h.depth + levels_all ts < max_depth →
       (v : Text) → Clear h.flags.ignore_space v → Clear h.flags.ignore_space (written_all μ false ts h ++ v)
   pieces_clear no_trees h k e d v c = c
   pieces_clear (more_trees t ts) h k e d v c = (pieces_begin t ts h k e d v).clear
+
+  -- a piece has a first character
+  same_digit : (x : Bool) (s v : Text) → Begins x (s ++ []) → at_digit (s ++ v) ≡ at_digit s
+  same_digit x [] v b = absurd (false≢true (sym b.goes))
+  same_digit x (c ∷ s) v b = refl
+
+  -- behind a reference in digits or not, the pieces stand alone, or a digit is parted from it
+  next_text : (b : Bool) (ts : Trees) (h : Here) → EachPiece h.opened ts → IsLike f h.flags →
+      h.depth + levels_all ts < max_depth → (v : Text) → at_digit v ≡ false → (P : Text → Type 0) →
+      ((b ≡ true → at_digit (written_all μ false ts h ++ v) ≡ false) → P (written_all μ false ts h ++ v)) →
+      (b ≡ true → P (codes "(?#)" ++ (written_all μ false ts h ++ v))) → P (written_all μ b ts h ++ v)
+  next_text b no_trees h k e d v none P alone parted = alone (λ _. none)
+  next_text b (more_trees t ts) h k e d v none P alone parted =
+      let s = written μ t Piece h in
+      let others = written_all μ (is_in_digits μ t) ts (behind t Piece h) in
+      let first : at_digit ((s ++ others) ++ v) ≡ at_digit s
+      = ap at_digit (append_assoc s others v)
+      ∙ same_digit h.flags.ignore_space s (others ++ v) ((k.0 h refl e (omega arith)).begins k.1 []) in
+      cond_both (b && at_digit s) (codes "(?#)" ++ s) s (λ z. P ((z ++ others) ++ v))
+      (λ q. parted (and_parts b (at_digit s) q).0)
+      (λ q. alone (λ y. first ∙ (sym (ap (λ b. b && at_digit s) y) ∙ q)))
 
   pieces_rest : (ts : Trees) (h : Here) → EachPiece h.opened ts → IsLike f h.flags →
       h.depth + levels_all ts < max_depth →
@@ -106,10 +114,14 @@ module _ (μ : Marks) (f : Flags) (mode : f.oniguruma_mode ≡ false) where
       let i2 = subst (λ x. Stops x v) same i in
       let u = written_all μ false ts j ++ v in
       let c = subst (λ x. Clear x u) (sym same) (pieces_clear ts j k.3 next (omega arith) v i2.clear) in
-      subst (λ z. Rest μ h z (flags_behind_all ts Piece j.flags) v (t ∷ list_of ts)) (sym (pieces_text t ts k.2 h v))
-      ((k.0 h refl e (omega arith)).piece k.1 u v (flags_behind_all ts Piece j.flags) (list_of ts) c
-      (λ y. both_digit (written_all μ false ts j) v (k.2 y j) (ends_no_digit v i.ends))
-      (pieces_rest ts j k.3 next (omega arith) v i2))
+      let q = pieces_rest ts j k.3 next (omega arith) v i2 in
+      let g = flags_behind_all ts Piece j.flags in
+      let ys = list_of ts in
+      subst (λ z. Rest μ h z g v (t ∷ ys)) (sym (pieces_text t ts h v))
+      (next_text (is_in_digits μ t) ts j k.3 next (omega arith) v (ends_no_digit v i.ends)
+      (λ z. Rest μ h (written μ t Piece h ++ z) g v (t ∷ ys))
+      (λ y. (k.0 h refl e (omega arith)).piece k.1 u v g ys c y q)
+      (λ y. k.2 y h e (omega arith) u v g ys c q))
 
   two_listed : (t u : Tree) (ts : Trees) → trees_of (list_of (more_trees t (more_trees u ts))) ≡ more_trees t (more_trees u ts)
   two_listed t u ts = listed (more_trees t (more_trees u ts))

@@ -1,6 +1,6 @@
 -- What the grammar's rules read outside Oniguruma mode, under flags that change along the text.
 use Rattle.std.proofs.Common.{◌≡◌, ℕ, Bool, true, false, ◌==◌, List, []}
-use Rattle.std.proofs.Common.{◌∷◌, None, is_some, refl, ap, ◌∙◌, if◌then◌else◌, codes, ◌+◌, arith}
+use Rattle.std.proofs.Common.{◌∷◌, ◌++◌, None, is_some, refl, ap, ◌∙◌, if◌then◌else◌, codes, ◌+◌, arith}
 use Rattle.std.proofs.lemmas.Bool.{cond-false, or_parts}
 use Rattle.std.proofs.lemmas.Bool.Decides.{nat_tests}
 use Prim.Native.Char.{code}
@@ -66,6 +66,12 @@ pub layout_none : (x : Bool) → layout x [] ≡ rest []
 unfolding layout_from
 layout_none true = refl
 layout_none false = refl
+
+-- an empty comment is layout
+pub comment_passed : (x : Bool) (t : Text) → layout x (codes "(?#)" ++ t) ≡ layout x t
+unfolding layout_from
+comment_passed true t = refl
+comment_passed false t = refl
 
 -- told from the first characters
 pub clear_by : (x : Bool) (c : ℕ) (t : Text) → after_comment_head (c ∷ t) ≡ None → is_layout true c ≡ false →
@@ -161,12 +167,16 @@ quants_one d left f a b s v o e =
     if t.flags.oniguruma_mode then quantified.adjacent quantified.max_adjacent d b t else done b t)) e
     ∙ cond-false _ _ _ o
 
+-- behind layout no quantifier follows
+pub quant_past : (left : ℕ) (f : Flags) (a : Tree) (v u : Text) → layout f.ignore_space v ≡ rest u →
+    begins_mark u ≡ false → quant left a (st f v) ≡ done a (st f u)
+unfolding quant
+quant_past left f a v u e m =
+    ap (quant_at left a (st f v)) e ∙ ap (quantified.with_counts left a (st f u)) (no_counts f.ignore_space u m)
+
 pub quant_none : (left : ℕ) (f : Flags) (a : Tree) (v : Text) → Clear f.ignore_space v →
     quant left a (st f v) ≡ done a (st f v)
-unfolding quant
-quant_none left f a v c =
-    ap (quant_at left a (st f v)) c.no_layout
-    ∙ ap (quantified.with_counts left a (st f v)) (no_counts f.ignore_space v c.no_mark)
+quant_none left f a v c = quant_past left f a v v c.no_layout c.no_mark
 
 -- a piece that was read, before those that follow
 pub lead_piece : (μ : Marks) (h : Here) (s v w : Text) (g : Flags) (r x : Tree) (ys : List Tree) →

@@ -2,58 +2,57 @@
 use Rattle.std.proofs.Common.{◌≡◌, ℕ, zero, ◌+◌, ◌<◌, Bool, true, false, ◌&&◌, List, [], ◌∷◌, ◌++◌}
 use Rattle.std.proofs.Common.{codes, length, filter_map, map, None, refl, sym, ap, ◌∙◌, subst, arith, nat_lt}
 use Rattle.std.proofs.Common.{append-nil, ◌||◌, ◌==◌, Option, IfSome, is_some, ap₂, if◌then◌else◌, suc, filter, nat_le}
-use Rattle.std.proofs.Common.{⊎_elim, ltb-true}
 use Rattle.std.specs.Prelude.{fold, find}
 use Rattle.std.specs.BTreeSet.{insert_key}
 use Rattle.std.specs.List.{list_any, AllByRecursion, cons_option}
-use Rattle.std.proofs.lemmas.Bool.{cond_both, cond-true, or_cases}
+use Rattle.std.proofs.lemmas.Bool.{cond_both}
 use Rattle.std.proofs.lemmas.List.{length-map}
-use Rattle.fancy_lex.specs.Text.{Text, bytes, place_at}
+use Rattle.fancy_lex.specs.Text.{Text, bytes}
 use Rattle.fancy_lex.specs.declared.flags.Flags.{Flags}
 use Rattle.fancy_parts.specs.Ranks.{is_named, only_named, named_groups, numbers, name_cmp}
-use Rattle.fancy_parts.specs.Ranks.{Opening, is_name, numbers_from, names, numbered_openings, is_counted}
+use Rattle.fancy_parts.specs.Ranks.{Opening, is_name, numbers_from, names, numbered_openings}
 use Rattle.fancy_grammar.specs.Answer.{IsTreeOf}
 use Rattle.fancy_grammar.specs.Answered.{IsAnsweredWith, groups_referred, has_call}
 use Rattle.fancy_grammar.specs.Depth.{max_depth}
 use Rattle.fancy_grammar.specs.Grammar.{whole, DerivesTree}
-use Rattle.fancy_grammar.specs.Items.{Item, opening, reference, items, openings, openings_in, meanings_in, numbers_in}
-use Rattle.fancy_grammar.specs.Items.{meanings, role_of, target_of}
+use Rattle.fancy_grammar.specs.Items.{Item, opening, reference, items, openings, openings_in, numbers_in}
 use Rattle.fancy_grammar.specs.Label.{AstReference}
 use Rattle.fancy_grammar.specs.Label as label
-use Rattle.fancy_grammar.specs.Marks.{Marks, marks, ascending, is_call_of_all, back_numbers, is_call}
+use Rattle.fancy_grammar.specs.Marks.{Marks, marks, ascending}
 use Rattle.fancy_grammar.specs.Pattern.{Here, under, past_groups, deeper, after_setting, in_parens, group_count}
 use Rattle.fancy_grammar.specs.Pattern.{written, behind}
 use Rattle.fancy_grammar.specs.Pattern.{flags_behind}
 use Rattle.fancy_grammar.specs.Pattern.{pattern_text}
 use Rattle.fancy_grammar.specs.PatternNeeds.{setting, agreed, settled}
 use Rattle.fancy_grammar.specs.PatternReference.{Named, name_of}
-use Rattle.fancy_grammar.specs.ReadAs.{IsReadAs}
-use Rattle.fancy_grammar.specs.Resolved.{first_fault, fault_of, resolved}
+use Rattle.fancy_grammar.specs.Preorder.{preorder}
+use Rattle.fancy_grammar.specs.ReadAs.{IsReadAs, unplaced}
+use Rattle.fancy_grammar.specs.Resolved.{fault_of, resolved}
 use Rattle.fancy_grammar.specs.Tree.{Tree, leaf, over, row, Trees, no_trees, more_trees, levels}
 use Rattle.fancy_grammar.specs.Writable.{AreNodesWritable, AreAllWritable, ArePieces, IsWritable, openings_told}
-use Rattle.fancy_grammar.specs.Writable.{AreCounted, IsNameWritable, marks_of, IsLike, has_reference}
+use Rattle.fancy_grammar.specs.Writable.{AreCounted, IsNameWritable, marks_of, IsLike, is_numbered}
+use Rattle.fancy_grammar.specs.Writable.{is_numbered_call_of_all}
 use Rattle.fancy_grammar.specs.declared.precedence.Precedence.{Precedence}
 use Rattle.fancy_grammar.specs.declared.precedence.Precedence.TheVariants.{Whole, Branch as BranchAlone, Piece}
 use Rattle.fancy_grammar.specs.declared.precedence.Precedence.TheVariants.{Operand}
-use Rattle.fancy_grammar.proofs.AnsweredLaws.{answered_with, numbers_referred}
+use Rattle.fancy_grammar.proofs.AnsweredLaws.{answered_with}
 use Rattle.fancy_grammar.proofs.ReadAsLaws.{read_as}
 use Rattle.fancy_grammar.proofs.Pattern.Absent.{repeater_reads, stopper_reads, expression_reads}
-use Rattle.fancy_grammar.proofs.Pattern.Becomes.{Becomes, opened, AreGroups, counted_all, MeansGroup, numbers_told}
-use Rattle.fancy_grammar.proofs.Pattern.Becomes.{IsAsMarked}
+use Rattle.fancy_grammar.proofs.Pattern.Becomes.{Becomes, opened, AreGroups, counted_all, numbers_told}
 use Rattle.fancy_grammar.proofs.Pattern.Cases.{ReadsTree, leaf_reads, group_reads, look_reads, define_reads}
 use Rattle.fancy_grammar.proofs.Pattern.Cases.{atomic_by}
 use Rattle.fancy_grammar.proofs.Pattern.Conditionals.{conditional_reads}
+use Rattle.fancy_grammar.proofs.Pattern.GroupConditionals.{on_group_reads}
 use Rattle.fancy_grammar.proofs.Pattern.Groups.{whole_behind_setting}
 use Rattle.fancy_grammar.proofs.Pattern.Induction.{ReadsBy}
+use Rattle.fancy_grammar.proofs.Pattern.Marked.{none_faulty, numeric_told, of_all_told}
 use Rattle.fancy_grammar.proofs.Pattern.Needed.{like_behind}
+use Rattle.fancy_grammar.proofs.Pattern.Unplaced.{same_referred, same_call, same_numbered, same_of_all}
+use Rattle.fancy_grammar.proofs.Pattern.Parted.{leads_past}
 use Rattle.fancy_grammar.proofs.Pattern.Repeats.{like_repeatable, repeat_reads, possessive_reads}
 use Rattle.fancy_grammar.proofs.Pattern.Rows.{EachPiece, EachBranch, concat_reads, alt_reads, same_mode}
 use Rattle.fancy_grammar.proofs.Pattern.Rules.{Clear, ends_nothing, WholeAt}
 use Rattle.fancy_grammar.proofs.ReadBack.RuleLemmas.{st}
-use Rattle.fancy_lex.specs.Target.{Target}
-use Rattle.fancy_parts.specs.Meaning.{Role, number, means, fault_or, Meaning}
-use Rattle.fancy_parts.specs.Written.{is_numeric}
-use Rattle.fancy_lex.proofs.LeaveLaws.{ends_whole}
 
 -- ---- every writable tree, wherever it stands
 
@@ -164,6 +163,16 @@ module _ (μ : Marks) where
           (reads (over (label.look_around l) c) i k.0 e (omega arith))
           (reads t j k.1 e (omega arith))
           (reads b (behind t BranchAlone j) k.2 (like_behind t BranchAlone f j.flags e) (omega arith))
+      reads (row label.conditional (more_trees (leaf (label.backref_exists n l)) (more_trees t (more_trees b no_trees)))) h k
+          e d =
+          let c = leaf (label.backref_exists n l) in
+          let x = row label.conditional (more_trees c (more_trees t (more_trees b no_trees))) in
+          let j = behind c Whole (deeper (under (settled h.flags x) h)) in
+          let none : h.opened ≡ j.opened = omega arith in
+          on_group_reads μ n l h (same_mode μ f mode h.flags e) (omega arith) (numbered n) k.0.0 k.0.1 t b k.3
+          (reads t j (subst (λ n. AreNodesWritable f μ n t) none k.1) e (omega arith))
+          (reads b (behind t BranchAlone j) (subst (λ n. AreNodesWritable f μ (n + group_count t) b) none k.2)
+          (like_behind t BranchAlone f j.flags e) (omega arith))
       reads (row label.conditional ts) h k e d = absurd k
 
       each_piece : (ts : Trees) (c : ℕ) → ArePieces f μ c ts → EachPiece μ f mode c ts
@@ -172,8 +181,8 @@ module _ (μ : Marks) where
         (λ h o e d. reads t h (subst (λ n. AreNodesWritable f μ n t)
             (sym o) k.0) e d),
         k.1,
-        k.2,
-        each_piece ts _ k.3,
+        (λ y h e d. leads_past μ f c t k.0 y h (same_mode μ f mode h.flags e) d),
+        each_piece ts _ k.2,
       )
 
       each_branch : (ts : Trees) (c : ℕ) → AreAllWritable f μ c ts → EachBranch μ f mode c ts
@@ -181,49 +190,10 @@ module _ (μ : Marks) where
       each_branch (more_trees t ts) c k =
           ((λ h o e d. reads t h (subst (λ n. AreNodesWritable f μ n t) (sym o) k.0) e d), each_branch ts _ k.1)
 
--- ---- the marks of a tree whose references are written by names
-
--- where each group has a number, the references mean groups, and none is written as a number
-module _ (μ : Marks) (s : Text) (named : Bool) (numbers_of : Text → List ℕ)
-    (e : (w : Text) → numbers_of w ≡ numbers_told μ w) where
-  -- what a reference means
-  meaning_is : (c : ℕ) (r : AstReference) (h : MeansGroup μ c r) →
-      means numbers_of c (role_of r) (target_of r) ≡ number h.group
-  meaning_is c r h = (λ i. means (λ w. e w i) c (role_of r) (target_of r)) ∙ h.meant
-
-  none_faulty : (c : ℕ) (l : List Item) → AreGroups μ s c l → AreCounted named (openings_in l) →
-      first_fault (meanings_in named numbers_of c l) ≡ None
-  none_faulty c [] h k = refl
-  none_faulty c (opening o ∷ l) h k =
-      ap (λ n. first_fault (meanings_in named numbers_of n l)) (cond-true _ _ _ k.0) ∙ none_faulty (c + 1) l h.1 k.1
-  none_faulty c (reference r p ∷ l) h k =
-      ap (λ m. fault_or m p (first_fault (meanings_in named numbers_of c l))) (meaning_is c r h.0)
-      ∙ none_faulty c l h.2 k
-
-  none_such : (such : Role → Target → ℕ → Bool) → ((r : AstReference) (p : ℕ) → IsAsMarked μ s r p →
-      such (role_of r) (target_of r) p ≡ false) → (c : ℕ) (l : List Item) → AreGroups μ s c l →
-      AreCounted named (openings_in l) →
-      list_any (λ x. such (role_of x.0) (target_of x.0) x.1) (meanings_in named numbers_of c l) ≡ false
-  none_such such never c [] h k = refl
-  none_such such never c (opening o ∷ l) h k =
-      ap (λ n. list_any (λ x. such (role_of x.0) (target_of x.0) x.1) (meanings_in named numbers_of n l))
-      (cond-true _ _ _ k.0) ∙ none_such such never (c + 1) l h.1 k.1
-  none_such such never c (reference r p ∷ l) h k = rw (never r p h.1) (none_such such never c l h.2 k)
-
-  some_such : (such : Role → Target → ℕ → Bool) → ((r : AstReference) (p : ℕ) → IsAsMarked μ s r p →
-      such (role_of r) (target_of r) p ≡ true) → (c : ℕ) (l : List Item) → AreGroups μ s c l →
-      AreCounted named (openings_in l) → 0 < length (meanings_in named numbers_of c l) →
-      list_any (λ x. such (role_of x.0) (target_of x.0) x.1) (meanings_in named numbers_of c l) ≡ true
-  some_such such always c [] h k some = absurd (omega (arith, some))
-  some_such such always c (opening o ∷ l) h k some =
-      let next = cond-true (is_counted named o.name) (c + 1) c k.0 in
-      ap (λ n. list_any (λ x. such (role_of x.0) (target_of x.0) x.1) (meanings_in named numbers_of n l)) next
-      ∙ some_such such always (c + 1) l h.1 k.1
-      (subst (λ n. 0 < length (meanings_in named numbers_of n l)) next some)
-  some_such such always c (reference r p ∷ l) h k some = rw (always r p h.1) refl
+-- ---- the marks of a tree
 
 -- an opening without its reach, of which marks say nothing
-abbrev unreached : Opening → Opening
+abbrev pub unreached : Opening → Opening
 unreached o = record { reach = 0; name = o.name }
 
 told_openings : (μ : Marks) (s : Text) (c : ℕ) (l : List Item) → AreGroups μ s c l →
@@ -238,17 +208,17 @@ unreached_names : (l : List Opening) → filter_map (λ o. o.name) (map unreache
 unreached_names [] = refl
 unreached_names (o ∷ l) = ap (cons_option o.name) (unreached_names l)
 
-unreached_numbers : (n : ℕ) (w : Text) (l : List Opening) → numbers_from n w (map unreached l) ≡ numbers_from n w l
+pub unreached_numbers : (n : ℕ) (w : Text) (l : List Opening) → numbers_from n w (map unreached l) ≡ numbers_from n w l
 unreached_numbers n w [] = refl
 unreached_numbers n w (o ∷ l) =
     ap (λ k. if is_name w o.name then (n + 1) ∷ k else k) (unreached_numbers (n + 1) w l)
 
-unreached_groups : (l : List Opening) → named_groups (map unreached l) ≡ named_groups l
+pub unreached_groups : (l : List Opening) → named_groups (map unreached l) ≡ named_groups l
 unreached_groups l =
     ap (λ k. map (λ t. (t, numbers t (map unreached l))) (fold (insert_key name_cmp) [] k)) (unreached_names l)
     ∙ (λ i. map (λ t. (t, unreached_numbers 0 t l i)) (names l))
 
-unreached_named : (f : Flags) (l : List Opening) → only_named f (map unreached l) ≡ only_named f l
+pub unreached_named : (f : Flags) (l : List Opening) → only_named f (map unreached l) ≡ only_named f l
 unreached_named f l = ap (λ b. f.ignore_numbered_groups && b) (each l)
   where
     each : (l : List Opening) → list_any is_named (map unreached l) ≡ list_any is_named l
@@ -259,27 +229,12 @@ unreached_counted : (named : Bool) (l : List Opening) → AreCounted named (map 
 unreached_counted named [] h = tt
 unreached_counted named (o ∷ l) h = (h.0, unreached_counted named l h.1)
 
-length_told : (μ : Marks) (c n : ℕ) → length (openings_told μ c n) ≡ n
+pub length_told : (μ : Marks) (c n : ℕ) → length (openings_told μ c n) ≡ n
 length_told μ c zero = refl
 length_told μ c (suc n) = ap suc (length_told μ (c + 1) n)
 
--- where there is a back reference or a call, there is a meaning
-some_number : (l : List (AstReference × ℕ × Meaning)) → 0 < length (back_numbers l) → 0 < length l
-some_number [] h = h
-some_number (x ∷ l) h = omega arith
-
-some_call : (l : List (AstReference × ℕ × Meaning)) → list_any (λ x. is_call (role_of x.0)) l ≡ true → 0 < length l
-some_call [] h = absurd cc
-some_call (x ∷ l) h = omega arith
-
-some_meaning : (x : Tree) (l : List (AstReference × ℕ × Meaning)) → groups_referred x ≡ back_numbers l →
-    has_call x ≡ list_any (λ y. is_call (role_of y.0)) l → has_reference x ≡ true → 0 < length l
-some_meaning x l numbers calls h =
-    ⊎_elim (λ n. some_number l (subst (λ k. 0 < length k) numbers (ltb-true 0 (length (groups_referred x)) n)))
-    (λ c. some_call l (sym calls ∙ c)) (or_cases (nat_lt 0 (length (groups_referred x))) (has_call x) h)
-
 module _ (μ : Marks) (f : Flags) (text : Text) (r x : Tree) (b : Becomes μ text 0 r x)
-    (told : μ ≡ marks_of f (openings_told μ 0 (group_count x)) x μ.numeric_capture_group_references)
+    (told : μ ≡ marks_of f (openings_told μ 0 (group_count x)) x μ)
     (each : AreCounted μ.numbered_groups_ignored (openings_told μ 0 (group_count x))) where
   openings_are : map unreached (openings r) ≡ openings_told μ 0 (group_count x)
   openings_are = told_openings μ text 0 (items r) b.groups ∙ ap (openings_told μ 0) b.count
@@ -309,55 +264,40 @@ module _ (μ : Marks) (f : Flags) (text : Text) (r x : Tree) (b : Becomes μ tex
   faultless =
       none_faulty μ text (only_named f (openings r)) (numbers_in f r) same_numbers 0 (items r) b.groups all_counted
 
-  resolves : x ≡ resolved f (bytes text) r
-  resolves = sym (b.is (only_named f (openings r)) all_counted (bytes text) (numbers_in f r) same_numbers)
+  -- what is read, which differs from the tree in places alone
+  abbrev pub tree : Tree
+  tree = resolved f (bytes text) r
 
-  no_such : (such : Role → Target → ℕ → Bool) → ((r : AstReference) (p : ℕ) → IsAsMarked μ text r p →
-      such (role_of r) (target_of r) p ≡ false) →
-      list_any (λ x. such (role_of x.0) (target_of x.0) x.1) (meanings f r) ≡ false
-  no_such such never =
-      none_such μ text (only_named f (openings r)) (numbers_in f r) same_numbers such never 0
-      (items r) b.groups all_counted
-
-  -- whether some reference is written as a number
-  numeric_is : (b : Bool) → μ.numeric_capture_group_references ≡ b → (b ≡ true → 0 < length (meanings f r)) →
-      (marks f text r).numeric_capture_group_references ≡ b
-  numeric_is false e some =
-      no_such (λ role t p. is_numeric text (place_at (bytes text) p) role t)
-      (λ r p k. k.numeric text (ends_whole text) ∙ e)
-  numeric_is true e some =
-      some_such μ text (only_named f (openings r)) (numbers_in f r) same_numbers
-      (λ role t p. is_numeric text (place_at (bytes text) p) role t)
-      (λ r p k. k.numeric text (ends_whole text) ∙ e) 0 (items r) b.groups all_counted
-      (some refl)
+  resolves : unplaced tree ≡ unplaced x
+  resolves = b.is (only_named f (openings r)) all_counted (bytes text) (numbers_in f r) same_numbers
 
   -- the marks that the text is read with
-  marked : DerivesTree f text r → (μ.numeric_capture_group_references ≡ true → has_reference x ≡ true) →
-      μ ≡ marks f text r
-  marked d some =
+  marked : DerivesTree f text r → μ ≡ marks f text r
+  marked d =
       let m = marks f text r in
-      let a : IsAnsweredWith x m = answered_with (r, d, faultless, resolves, refl) in
+      let a : IsAnsweredWith tree m = answered_with (r, d, faultless, refl, refl) in
       let all = openings_told μ 0 (group_count x) in
       let total : m.total_groups ≡ length all
       = ap length all_numbered ∙ (sym (length-map (openings r) unreached) ∙ ap length openings_are) in
       let named : m.named_groups ≡ named_groups all
       = ap named_groups all_numbered ∙ (sym (unreached_groups (openings r)) ∙ ap named_groups openings_are) in
-      let tree : IsTreeOf f text x m = (r, d, faultless, resolves, refl) in
-      let numeric : m.numeric_capture_group_references ≡ μ.numeric_capture_group_references
-      = numeric_is μ.numeric_capture_group_references refl
-      (λ e. some_meaning x (meanings f r) (numbers_referred tree) a.calls (some e)) in
-      let self : m.self_recursive ≡ false = no_such (λ role t p. is_call_of_all role t) (λ r p k. k.not_of_all) in
+      let numeric : m.numeric_capture_group_references ≡ list_any (is_numbered μ) (preorder x)
+      = numeric_told μ f text r d same_numbers b.groups all_counted ∙ same_numbered tree x resolves μ in
+      let self : m.self_recursive ≡ list_any (is_numbered_call_of_all μ) (preorder x)
+      = of_all_told μ f text r d same_numbers b.groups all_counted ∙ same_of_all tree x resolves μ in
       let only : m.numbered_groups_ignored ≡ only_named f all
       = sym (unreached_named f (openings r)) ∙ ap (only_named f) openings_are in
+      let referred : groups_referred tree ≡ groups_referred x = same_referred tree x resolves in
       let backrefs : m.backrefs ≡ ascending (filter (λ n. nat_le n (length all)) (groups_referred x))
-      = a.backrefs ∙ ap (λ k. ascending (filter (λ n. nat_le n k) (groups_referred x))) total in
+      = a.backrefs ∙ (λ i. ascending (filter (λ n. nat_le n (total i)) (referred i))) in
       let outside : m.out_of_range_backref ≡ find (λ n. nat_lt (length all) n) (groups_referred x)
-      = a.out_of_range ∙ ap (λ k. find (λ n. nat_lt k n) (groups_referred x)) total in
-      let path : m ≡ marks_of f all x μ.numeric_capture_group_references = λ i. record {
+      = a.out_of_range ∙ (λ i. find (λ n. nat_lt (total i) n) (referred i)) in
+      let calls : m.contains_subroutines ≡ has_call x = sym a.calls ∙ same_call tree x resolves in
+      let path : m ≡ marks_of f all x μ = λ i. record {
         backrefs = backrefs i;
         named_groups = named i;
         numeric_capture_group_references = numeric i;
-        contains_subroutines = sym a.calls i;
+        contains_subroutines = calls i;
         self_recursive = self i;
         total_groups = total i;
         out_of_range_backref = outside i;
@@ -367,19 +307,21 @@ module _ (μ : Marks) (f : Flags) (text : Text) (r x : Tree) (b : Becomes μ tex
 
 -- ---- the theorem
 
--- a whole text that reads as the tree
+-- a whole text that reads as the tree, but for places
 from_whole : (μ : Marks) (f g : Flags) (text : Text) (x : Tree) →
-    μ ≡ marks_of f (openings_told μ 0 (group_count x)) x μ.numeric_capture_group_references →
+    μ ≡ marks_of f (openings_told μ 0 (group_count x)) x μ →
     AreCounted μ.numbered_groups_ignored (openings_told μ 0 (group_count x)) →
-    (μ.numeric_capture_group_references ≡ true → has_reference x ≡ true) →
-    WholeAt μ (record { flags = f; opened = 0; depth = 0 }) text g [] x → IsTreeOf f text x μ
-from_whole μ f g text x told each some w = (
-  w.tree,
-  (st g [], whole w.derives),
-  faultless μ f text w.tree x w.becomes told each,
-  resolves μ f text w.tree x w.becomes told each,
-  marked μ f text w.tree x w.becomes told each (st g [], whole w.derives) some,
-)
+    WholeAt μ (record { flags = f; opened = 0; depth = 0 }) text g [] x → IsReadAs f text x μ
+from_whole μ f g text x told each w =
+    let d : DerivesTree f text w.tree = (st g [], whole w.derives) in
+    let is : IsTreeOf f text (resolved f (bytes text) w.tree) μ = (
+      w.tree,
+      d,
+      faultless μ f text w.tree x w.becomes told each,
+      refl,
+      marked μ f text w.tree x w.becomes told each d,
+    ) in
+    read_as f text (resolved f (bytes text) w.tree) x μ is (resolves μ f text w.tree x w.becomes told each)
 
 -- what is true of each entry is true of the one that is found
 found : {A : Type 0} (P : A → Type 0) (p : A → Bool) (l : List A) → AllByRecursion P l → IfSome (find p l) P
@@ -415,4 +357,4 @@ reads_back f t μ w =
     (r.whole [] (ends_nothing f.ignore_space)) in
     let clear = subst (Clear f.ignore_space) (append-nil s) (r.whole_clear [] (ends_nothing f.ignore_space).stops.clear) in
     let all = whole_behind_setting μ h g.casei g.multi g.dotnl g.crlf s [] after t w.mode (omega arith) clear here in
-    read_as f (setting f g ++ s) t t μ (from_whole μ f after (setting f g ++ s) t w.marks w.counted w.numeric all) refl
+    from_whole μ f after (setting f g ++ s) t w.marks w.counted all

@@ -6,7 +6,7 @@ use Rattle.std.proofs.lemmas.Bool.{not-true, cond-false, cond_both, and_from, an
 use Rattle.std.proofs.lemmas.Bool.Decides.{nat_tests}
 use Rattle.std.specs.Char.{IsScalar, digit_value, is_ascii_digit, to_ascii_lowercase}
 use Rattle.std.specs.Cmp.{first_so, second_so}
-use Rattle.std.specs.List.{list_all}
+use Rattle.std.specs.List.{list_all, AllByRecursion}
 use Rattle.std.specs.Str.{all_scalars, bytes_eq}
 use Prim.Native.Char.{code}
 use Rattle.fancy_lex.specs.Characters.{caret, ◌∈◌}
@@ -175,9 +175,17 @@ turn_ok b (c ∷ w) h = by_test (c == caret)
 abbrev cut_found : Text → Text → Option (Text × Text)
 cut_found w s = Some (w, s)
 
-pub cut_back : (w s : Text) → IsName w → cut_at (code "}") (w ++ code "}" ∷ s) ≡ cut_found w s
+-- no closing brace stands in it
+abbrev pub HasNoBrace : Text → Type 0
+HasNoBrace w = AllByRecursion (λ c. (c == code "}") ≡ false) w
+
+pub no_brace : (w : Text) → IsName w → HasNoBrace w
+no_brace [] h = tt
+no_brace (c ∷ w) h = (h.0, no_brace w h.1.1)
+
+pub cut_back : (w s : Text) → HasNoBrace w → cut_at (code "}") (w ++ code "}" ∷ s) ≡ cut_found w s
 cut_back [] s h = refl
-cut_back (c ∷ w) s h = cond-false _ _ _ h.0 ∙ ap (option_map (λ p. (c ∷ p.0, p.1))) (cut_back w s h.1.1)
+cut_back (c ∷ w) s h = cond-false _ _ _ h.0 ∙ ap (option_map (λ p. (c ∷ p.0, p.1))) (cut_back w s h.1)
 
 abbrev pub prop : Bool → PropertyName → Property
 prop b name = record { negated = b; name = name }
@@ -196,13 +204,13 @@ module _ (f : Flags) (inside : Bool) where
   unfolding escape_at property read_property name_at
   single_large c s h = rw h refl
 
-  pub braced_small : (w s : Text) → IsName w →
+  pub braced_small : (w s : Text) → HasNoBrace w →
       escape f inside (code "p" ∷ code "{" ∷ (w ++ code "}" ∷ s)) ≡ gives
       (delegate (property_text f.unicode inside (prop false (braced w))) f.casei) s
   unfolding escape_at property read_property name_at
   braced_small w s h = rw (cut_back w s h) refl
 
-  pub braced_large : (w s : Text) → IsName w →
+  pub braced_large : (w s : Text) → HasNoBrace w →
       escape f inside (code "P" ∷ code "{" ∷ (w ++ code "}" ∷ s)) ≡ gives
       (delegate (property_text f.unicode inside (prop true (braced w))) f.casei) s
   unfolding escape_at property read_property name_at
@@ -220,7 +228,7 @@ small_chunk w h =
     (scalars_append w (code "}" ∷ []) (name_scalars w h) refl)
     (λ s. ap (λ z. escape (unicode_flags false) true (code "p" ∷ code "{" ∷ z))
     (append_assoc w (code "}" ∷ []) s)
-    ∙ braced_small (unicode_flags false) true w s h)
+    ∙ braced_small (unicode_flags false) true w s (no_brace w h))
 
 large_chunk : (w : Text) → IsName w → Chunk (code "\\" ∷ code "P" ∷ code "{" ∷ (w ++ code "}" ∷ []))
 large_chunk w h =
@@ -228,7 +236,7 @@ large_chunk w h =
     (scalars_append w (code "}" ∷ []) (name_scalars w h) refl)
     (λ s. ap (λ z. escape (unicode_flags false) true (code "P" ∷ code "{" ∷ z))
     (append_assoc w (code "}" ∷ []) s)
-    ∙ braced_large (unicode_flags false) true w s h)
+    ∙ braced_large (unicode_flags false) true w s (no_brace w h))
 
 -- closed escapes
 letter_chunks : Each (λ c. Chunk (code "\\" ∷ c ∷ [])) (codes "dDsSwWtnvfr")

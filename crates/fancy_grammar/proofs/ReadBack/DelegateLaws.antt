@@ -34,6 +34,7 @@ use Rattle.fancy_grammar.proofs.ReadBack.DelegateTexts.{no_other, nothing_whole}
 use Rattle.fancy_grammar.proofs.ReadBack.ChunkLemmas.{FormOf, Pairs, form_of, name_scalars, bracket_goes, caret_goes}
 use Rattle.fancy_grammar.proofs.ReadBack.ChunkLemmas.{IsName, NameOk, NameSome, name_ok, prop, single_small}
 use Rattle.fancy_grammar.proofs.ReadBack.ChunkLemmas.{single_large, braced_small, braced_large, hex_word, space_other}
+use Rattle.fancy_grammar.proofs.ReadBack.ChunkLemmas.{no_brace}
 use Rattle.fancy_grammar.proofs.ReadBack.ChunkLemmas.{unprinted, lowercase_ok, turn_ok}
 use Rattle.fancy_grammar.proofs.ReadBack.RewrittenLaws.{class_again}
 use Rattle.fancy_grammar.proofs.ReadBack.RuleLemmas.{st}
@@ -100,13 +101,13 @@ small_whole : (w : Text) → IsName w → IsWhole (code "\\" ∷ code "p" ∷ co
 small_whole w h =
     escape_whole (code "p" ∷ code "{" ∷ (w ++ code "}" ∷ [])) _ _
     (scalars_append w (code "}" ∷ []) (name_scalars w h) refl)
-    (braced_small (unicode_flags false) false w [] h)
+    (braced_small (unicode_flags false) false w [] (no_brace w h))
 
 large_whole : (w : Text) → IsName w → IsWhole (code "\\" ∷ code "P" ∷ code "{" ∷ (w ++ code "}" ∷ []))
 large_whole w h =
     escape_whole (code "P" ∷ code "{" ∷ (w ++ code "}" ∷ [])) _ _
     (scalars_append w (code "}" ∷ []) (name_scalars w h) refl)
-    (braced_large (unicode_flags false) false w [] h)
+    (braced_large (unicode_flags false) false w [] (no_brace w h))
 
 single_whole : (b : Bool) (c : ℕ) → (c == code "{") ≡ false → IsScalar c → IsWhole (letter b ++ c ∷ [])
 single_whole false c h k = escape_whole (code "p" ∷ c ∷ []) _ _ (and_from _ true k refl) (single_small (unicode_flags false) false c [] h)

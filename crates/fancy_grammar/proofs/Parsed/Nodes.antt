@@ -1,0 +1,158 @@
+-- What is true of each node of a raw tree under the flags that its pattern is read under, by how trees are put
+-- together.
+use Rattle.std.proofs.Common.{◌≡◌, ℕ, ◌<◌, ◌≤◌, ◌^◌, ◌∷◌, [], List, refl, sym, subst, arith, Bool, true, false}
+use Rattle.std.proofs.Common.{length, if◌then◌else◌, IfSome}
+use Rattle.std.specs.Prelude.{◌&&◌}
+use Rattle.std.proofs.lemmas.Bool.{cond_both}
+use Rattle.std.specs.List.{AllByRecursion}
+use Rattle.fancy_lex.specs.Class.{class}
+use Rattle.fancy_lex.specs.Escape.{escape}
+use Rattle.fancy_lex.specs.Escaped as escaped
+use Rattle.fancy_lex.specs.Reading.{gives}
+use Rattle.fancy_lex.specs.Text.{Text, bytes, place_at}
+use Rattle.fancy_lex.specs.declared.flags.Flags.{Flags}
+use Rattle.fancy_parts.specs.Written.{is_behind_backslash}
+use Rattle.fancy_parts.specs.declared.counts.Counts.{Counts}
+use Rattle.fancy_grammar.specs.Grammar.{branches_of, conditional_of, clear_or_stopper}
+use Rattle.fancy_grammar.specs.Head.{Head, capture, scope, look, atomic, define, repeater, group_node}
+use Rattle.fancy_grammar.specs.Join.{join, choice, solid, is_empty, one_or}
+use Rattle.fancy_grammar.specs.Label as label
+use Rattle.fancy_grammar.specs.Label.{AstReference, ast_backref, ast_call, ast_condition}
+use Rattle.fancy_grammar.specs.Preorder.{preorder, preorder_all}
+use Rattle.fancy_grammar.specs.Quantified.{is_swapped, quantified, is_repeatable, Suffix}
+use Rattle.fancy_grammar.specs.Tree.{leaf, Tree, Trees, no_trees, more_trees, concat, alt, trees_of, list_of}
+use Rattle.fancy_grammar.specs.Tree.{over, row}
+use Rattle.fancy_grammar.specs.Writable.{IsNameWritable, IsLevelWritable}
+use Rattle.fancy_grammar.proofs.OutcomeLemmas.{each_append, each_solid}
+use Rattle.fancy_grammar.proofs.TreeLaws.{list_back}
+use Rattle.fancy_grammar.proofs.Parsed.Lists.{each_split}
+use Rattle.fancy_grammar.proofs.Parsed.Escapes.{is_line_of_oniguruma}
+use Rattle.fancy_grammar.proofs.Parsed.Readers.{IsSameMode, AreWords}
+use Rattle.fancy_grammar.proofs.Parsed.Targets.{IsTargetRead, IsCallRead}
+
+-- ---- nodes
+
+-- a reader gave the source: of an escape outside of a class, or of a class, under flags of the same mode
+pub data IsSourceRead (f : Flags) (s : Text) (casei : Bool) : Type 0 where
+  by_escape : (g : Flags) (t u : Text) → IsSameMode f g → escape g false t ≡ gives (escaped.delegate s casei) u →
+      IsSourceRead f s casei
+  by_class : (g : Flags) (t u : Text) → IsSameMode f g → g.casei ≡ casei → class g t ≡ gives s u →
+      IsSourceRead f s casei
+
+abbrev pub IsSolid : Tree → Type 0
+IsSolid t = is_empty t ≡ false
+
+-- two trees, as an absent expression has them
+abbrev pub AreTwo : Trees → Type 0
+AreTwo (more_trees a (more_trees e no_trees)) = Unit {0}
+AreTwo _ = ⊥
+
+-- a condition and two branches, of which one is not Empty
+abbrev pub AreBranched : Trees → Type 0
+AreBranched (more_trees c (more_trees t (more_trees e no_trees))) = (is_empty t && is_empty e) ≡ false
+AreBranched _ = ⊥
+
+-- a reference at a reach of the text: what it names was read so, and one with a level stands behind no backslash
+abbrev pub IsAstRead : Text → AstReference → ℕ → Type 0
+IsAstRead text (ast_backref t casei level) p =
+    IsTargetRead t × IfSome level IsLevelWritable
+    × IfSome level (λ z. is_behind_backslash text (place_at (bytes text) p) ≡ false)
+IsAstRead text (ast_call t) p = IsCallRead t
+IsAstRead text (ast_condition t level) p = IsTargetRead t × IfSome level IsLevelWritable
+
+-- Under flags with the mode of these: a byte is read without Unicode, a general new line tells it, the start of a line
+-- is that of Oniguruma mode there alone, and a Delegate's source was read. What stands under a quantifier is
+-- repeatable, and a word holds its counts; a stopper holds no Empty; a name can be written. A Concat has two parts or
+-- more, none of them Empty, an absent expression two, and a conditional three, of which a branch is not Empty.
+abbrev pub IsParsedNode : Flags → Text → Tree → Type 0
+IsParsedNode f text (leaf (label.literal_bytes w)) = f.unicode ≡ false
+IsParsedNode f text (leaf (label.general_newline unicode)) = f.unicode ≡ unicode
+IsParsedNode f text (leaf (label.assertion a)) = f.oniguruma_mode ≡ false → is_line_of_oniguruma a ≡ false
+IsParsedNode f text (leaf (label.delegate s casei)) = IsSourceRead f s casei
+IsParsedNode f text (leaf (label.ast_node r p)) = IsAstRead text r p
+IsParsedNode f text (over (label.repeat lo hi greedy) t) = (is_repeatable f t ≡ true) × (lo < 2 ^ 64) × (hi < 2 ^ 64)
+IsParsedNode f text (over label.stopper t) = IsSolid t
+IsParsedNode f text (over (label.ast_group name reach) t) = IfSome name IsNameWritable
+IsParsedNode f text (row label.concat ts) = (2 ≤ length (list_of ts)) × AllByRecursion IsSolid (list_of ts)
+IsParsedNode f text (row label.expression ts) = AreTwo ts
+IsParsedNode f text (row label.conditional ts) = AreBranched ts
+IsParsedNode f text _ = Unit {0}
+
+-- ---- trees
+
+module _ (f : Flags) (text : Text) where
+  abbrev pub IsParsed : Tree → Type 0
+  IsParsed t = AllByRecursion (IsParsedNode f text) (preorder t)
+
+  abbrev pub AreParsed : List Tree → Type 0
+  AreParsed ts = AllByRecursion IsParsed ts
+
+  pub all_parsed : (ts : List Tree) → AreParsed ts → AllByRecursion (IsParsedNode f text) (preorder_all (trees_of ts))
+  all_parsed [] h = tt
+  all_parsed (t ∷ ts) h = each_append (IsParsedNode f text) (preorder t) (preorder_all (trees_of ts)) h.0 (all_parsed ts h.1)
+
+  each_parsed : (ts : Trees) → AllByRecursion (IsParsedNode f text) (preorder_all ts) → AreParsed (list_of ts)
+  each_parsed no_trees h = tt
+  each_parsed (more_trees t ts) h =
+      let (a, b) = each_split (IsParsedNode f text) (preorder t) (preorder_all ts) h in (a, each_parsed ts b)
+
+  solid_solid : (ts : List Tree) → AllByRecursion IsSolid (solid ts)
+  solid_solid [] = tt
+  solid_solid (t ∷ ts) = by_test (is_empty t) refl (solid_solid ts)
+    where
+      by_test : (b : Bool) → is_empty t ≡ b → AllByRecursion IsSolid (solid ts) →
+          AllByRecursion IsSolid (if b then solid ts else t ∷ solid ts)
+      by_test true e h = h
+      by_test false e h = (e, h)
+
+  pub join_parsed : (ts : List Tree) → AreParsed ts → IsParsed (join ts)
+  join_parsed ts h = of_solid (solid ts) (solid_solid ts) (each_solid IsParsed ts h)
+    where
+      of_solid : (l : List Tree) → AllByRecursion IsSolid l → AreParsed l → IsParsed (one_or concat l)
+      of_solid [] e k = (tt, tt)
+      of_solid (t ∷ []) e k = k.0
+      of_solid (t ∷ u ∷ l) e k = (
+        (omega arith, subst (AllByRecursion IsSolid) (sym (list_back (t ∷ u ∷ l))) e),
+        all_parsed (t ∷ u ∷ l) k,
+      )
+
+  pub choice_parsed : (ts : List Tree) → AreParsed ts → IsParsed (choice ts)
+  choice_parsed [] h = (tt, tt)
+  choice_parsed (t ∷ []) h = h.0
+  choice_parsed (t ∷ u ∷ ts) h = (tt, all_parsed (t ∷ u ∷ ts) h)
+
+  pub quantified_parsed : (g : Flags) (c : Counts) (m : Suffix) (a : Tree) → is_repeatable f a ≡ true → AreWords c →
+      IsParsed a → IsParsed (quantified g c m a)
+  quantified_parsed g c m a r w h =
+      cond_both (is_swapped g c) _ _ IsParsed (λ _. (tt, ((r, w.1, w.0), h)))
+      (λ _. cond_both m.possessive _ _ IsParsed (λ _. (tt, ((r, w.0, w.1), h))) (λ _. ((r, w.0, w.1), h)))
+
+  -- the name in a group's head can be written
+  abbrev pub IsHeadParsed : Head → Type 0
+  IsHeadParsed (capture name) = IfSome name IsNameWritable
+  IsHeadParsed _ = Unit {0}
+
+  pub node_parsed : (h : Head) (p : ℕ) (r : Tree) → IsHeadParsed h → IsParsed r → IsParsed (group_node h p r)
+  node_parsed (capture name) p r n i = (n, i)
+  node_parsed scope p r n i = i
+  node_parsed (look l) p r n i = (tt, i)
+  node_parsed atomic p r n i = (tt, i)
+  node_parsed define p r n i = (tt, i)
+  node_parsed repeater p r n i = (tt, i)
+
+  pub conditional_parsed : (c t e : Tree) → IsParsed c → IsParsed t → IsParsed e → IsParsed (conditional_of c t e)
+  conditional_parsed c t e h i j =
+      cond_both (is_empty t && is_empty e) _ _ IsParsed (λ _. h)
+      (λ n. (n, all_parsed (c ∷ t ∷ e ∷ []) (h, (i, (j, tt)))))
+
+  pub branches_parsed : (r : Tree) → IsParsed r → IsParsed (branches_of r).0 × IsParsed (branches_of r).1
+  branches_parsed (alt (more_trees t ts)) h =
+      let each = each_parsed (more_trees t ts) h.1 in (each.0, choice_parsed (list_of ts) each.1)
+  branches_parsed r h = (h, (tt, tt))
+
+  pub expression_parsed : (a e : Tree) → IsParsed a → IsParsed e →
+      IsParsed (row label.expression (more_trees a (more_trees e no_trees)))
+  expression_parsed a e h i = (tt, all_parsed (a ∷ e ∷ []) (h, (i, tt)))
+
+  pub stopper_parsed : (a : Tree) → IsParsed a → IsParsed (clear_or_stopper a)
+  stopper_parsed a h = cond_both (is_empty a) _ _ IsParsed (λ _. (tt, tt)) (λ e. (e, h))

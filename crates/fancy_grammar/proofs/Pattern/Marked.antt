@@ -1,0 +1,152 @@
+-- The marks of a tree that say how its references are written.
+use Rattle.std.proofs.Common.{◌≡◌, ℕ, ◌+◌, ◌||◌, Bool, true, false, List, [], ◌∷◌, Option, Some, None, refl, sym}
+use Rattle.std.proofs.Common.{ap, ap₂, ◌∙◌, subst, if◌then◌else◌}
+use Rattle.std.proofs.lemmas.Bool.{cond-true}
+use Rattle.std.specs.List.{AllByRecursion, list_any}
+use Rattle.fancy_lex.specs.Fault.{Fault}
+use Rattle.fancy_lex.specs.Text.{Text, bytes, place_at}
+use Rattle.fancy_lex.specs.declared.flags.Flags.{Flags}
+use Rattle.fancy_lex.proofs.LeaveLaws.{ends_whole}
+use Rattle.fancy_parts.specs.Meaning.{Meaning, number, unresolved, faulty, means, fault_or}
+use Rattle.fancy_parts.specs.Ranks.{is_counted, only_named}
+use Rattle.fancy_parts.specs.Written.{is_numeric}
+use Rattle.fancy_grammar.specs.Grammar.{DerivesTree}
+use Rattle.fancy_grammar.specs.Items.{Item, opening, reference, openings, openings_in, meanings_in, numbers_in}
+use Rattle.fancy_grammar.specs.Items.{items, meanings, role_of, target_of}
+use Rattle.fancy_grammar.specs.Label as label
+use Rattle.fancy_grammar.specs.Label.{AstReference, Leaf, Wrap, Row, ast_backref, ast_call, ast_condition}
+use Rattle.fancy_grammar.specs.Marks.{Marks, is_call_of_all}
+use Rattle.fancy_grammar.specs.Preorder.{preorder}
+use Rattle.fancy_grammar.specs.Resolved.{reference_node, resolved, first_fault}
+use Rattle.fancy_grammar.specs.Tree.{Tree, leaf, over, row, Trees, ast_node, ast_group}
+use Rattle.fancy_grammar.specs.Writable.{AreCounted, is_numbered, is_numbered_call_of_all}
+use Rattle.fancy_grammar.proofs.Pattern.Becomes.{AreGroups, IsAsMarked, MeansGroup, meaning_told, numbers_told}
+use Rattle.fancy_grammar.proofs.PreorderLaws.{kept, kept_if, resolved_nodes, items_of_all, items_of_nodes}
+use Rattle.fancy_grammar.proofs.ReadLaws.{derived_read}
+use Rattle.fancy_grammar.proofs.TreeLaws.{IsReadNode}
+
+-- ---- among references that mean groups where each group has a number
+
+no_fault : (m : Meaning) (p : ℕ) (o : Option Fault) → MeansGroup m → fault_or m p o ≡ o
+no_fault (number n) p o h = refl
+no_fault unresolved p o h = refl
+no_fault (faulty k) p o h = absurd h
+
+module _ (μ : Marks) (s : Text) (named : Bool) (numbers_of : Text → List ℕ)
+    (e : (w : Text) → numbers_of w ≡ numbers_told μ w) where
+  -- what a reference means
+  meaning_is : (c : ℕ) (r : AstReference) → means numbers_of c (role_of r) (target_of r) ≡ meaning_told μ c r
+  meaning_is c r = λ i. means (λ w. e w i) c (role_of r) (target_of r)
+
+  pub none_faulty : (c : ℕ) (l : List Item) → AreGroups μ s c l → AreCounted named (openings_in l) →
+      first_fault (meanings_in named numbers_of c l) ≡ None
+  none_faulty c [] h k = refl
+  none_faulty c (opening o ∷ l) h k =
+      ap (λ n. first_fault (meanings_in named numbers_of n l)) (cond-true _ _ _ k.0) ∙ none_faulty (c + 1) l h.1 k.1
+  none_faulty c (reference r p ∷ l) h k =
+      ap (λ m. fault_or m p (first_fault (meanings_in named numbers_of c l))) (meaning_is c r)
+      ∙ (no_fault (meaning_told μ c r) p _ h.0 ∙ none_faulty c l h.2 k)
+
+  -- some is of the one kind where some is of the other
+  same_such : (a b : AstReference × ℕ × Meaning → Bool) →
+      ((r : AstReference) (p : ℕ) (m : Meaning) → IsAsMarked μ s r m p → a (r, p, m) ≡ b (r, p, m)) →
+      (c : ℕ) (l : List Item) → AreGroups μ s c l → AreCounted named (openings_in l) →
+      list_any a (meanings_in named numbers_of c l) ≡ list_any b (meanings_in named numbers_of c l)
+  same_such a b same c [] h k = refl
+  same_such a b same c (opening o ∷ l) h k =
+      let next = cond-true (is_counted named o.name) (c + 1) c k.0 in
+      subst (λ n. list_any a (meanings_in named numbers_of n l) ≡ list_any b (meanings_in named numbers_of n l))
+      (sym next) (same_such a b same (c + 1) l h.1 k.1)
+  same_such a b same c (reference r p ∷ l) h k =
+      ap₂ (λ x y. x || y)
+      (subst (λ m. a (r, p, m) ≡ b (r, p, m)) (sym (meaning_is c r)) (same r p (meaning_told μ c r) h.1))
+      (same_such a b same c l h.2 k)
+
+-- ---- nodes of a kind that is told where references are resolved
+
+module _ (such : Tree → Bool) (leaves : (l : Leaf) → IsReadNode (leaf l) → such (leaf l) ≡ false)
+    (wraps : (w : Wrap) (t : Tree) → such (over w t) ≡ false)
+    (rows : (w : Row) (ts : Trees) → such (row w ts) ≡ false) where
+  -- of what kind its node will be
+  abbrev kind_of : AstReference × ℕ × Meaning → Bool
+  kind_of x = such (reference_node 0 x.2 x.0 0)
+
+  placed : (z : ℕ) (m : Meaning) (r : AstReference) (p : ℕ) →
+      such (reference_node z m r p) ≡ such (reference_node 0 m r 0)
+  placed z (number n) (ast_backref t casei None) p = refl
+  placed z (number n) (ast_backref t casei (Some level)) p = refl
+  placed z (number n) (ast_call t) p = refl
+  placed z (number n) (ast_condition t level) p = refl
+  placed z unresolved (ast_backref t casei level) p = leaves _ tt ∙ sym (leaves _ tt)
+  placed z unresolved (ast_call t) p = leaves _ tt ∙ sym (leaves _ tt)
+  placed z unresolved (ast_condition t level) p = leaves _ tt ∙ sym (leaves _ tt)
+  placed z (faulty k) (ast_backref t casei level) p = leaves _ tt ∙ sym (leaves _ tt)
+  placed z (faulty k) (ast_call t) p = leaves _ tt ∙ sym (leaves _ tt)
+  placed z (faulty k) (ast_condition t level) p = leaves _ tt ∙ sym (leaves _ tt)
+
+  module _ (z : ℕ) (named : Bool) (numbers_of : Text → List ℕ) where
+    any_kept : (c : ℕ) (l : List Tree) → AllByRecursion IsReadNode l →
+        list_any such (kept z named numbers_of c l)
+        ≡ list_any kind_of (meanings_in named numbers_of c (items_of_all l))
+    any_kept c [] h = refl
+    any_kept c (ast_group name place t ∷ l) h =
+        elim (is_counted named name) as (λ b. list_any such (kept_if z named numbers_of b c t l)
+        ≡ list_any kind_of (meanings_in named numbers_of (if b then c + 1 else c) (items_of_all l))) [
+          | true ↦ ap (λ b. b || list_any such (kept z named numbers_of (c + 1) l)) (wraps label.group _)
+              ∙ any_kept (c + 1) l h.1
+          | false ↦ any_kept c l h.1
+        ]
+    any_kept c (ast_node r place ∷ l) h =
+        ap₂ (λ a b. a || b) (placed z (means numbers_of c (role_of r) (target_of r)) r place) (any_kept c l h.1)
+    any_kept c (leaf x ∷ l) h =
+        ap (λ b. b || list_any such (kept z named numbers_of c l)) (leaves x h.0) ∙ any_kept c l h.1
+    any_kept c (over w t ∷ l) h =
+        ap (λ b. b || list_any such (kept z named numbers_of c l)) (wraps w _) ∙ any_kept c l h.1
+    any_kept c (row w ts ∷ l) h =
+        ap (λ b. b || list_any such (kept z named numbers_of c l)) (rows w _) ∙ any_kept c l h.1
+
+  any_resolved : (f : Flags) (text : Text) (r : Tree) → DerivesTree f text r →
+      list_any kind_of (meanings f r) ≡ list_any such (preorder (resolved f (bytes text) r))
+  any_resolved f text r d =
+      let named = only_named f (openings r) in
+      ap (λ l. list_any kind_of (meanings_in named (numbers_in f r) 0 l)) (items_of_nodes r)
+      ∙ (sym (any_kept (bytes text) named (numbers_in f r) 0 (preorder r) (derived_read d.1))
+      ∙ ap (list_any such) (sym (resolved_nodes (bytes text) named (numbers_in f r) 0 r)))
+
+numbered_leaf : (μ : Marks) (l : Leaf) → IsReadNode (leaf l) → is_numbered μ (leaf l) ≡ false
+numbered_leaf μ (label.backref n casei) h = absurd h
+numbered_leaf μ (label.subroutine_call n) h = absurd h
+numbered_leaf μ _ h = refl
+
+of_all_leaf : (μ : Marks) (l : Leaf) → IsReadNode (leaf l) → is_numbered_call_of_all μ (leaf l) ≡ false
+of_all_leaf μ (label.subroutine_call n) h = absurd h
+of_all_leaf μ _ h = refl
+
+-- ---- the two marks
+
+module _ (μ : Marks) (f : Flags) (text : Text) (r : Tree) (d : DerivesTree f text r)
+    (e : (w : Text) → numbers_in f r w ≡ numbers_told μ w) (groups : AreGroups μ text 0 (items r))
+    (counted : AreCounted (only_named f (openings r)) (openings r)) where
+  abbrev tree : Tree
+  tree = resolved f (bytes text) r
+
+  -- some reference is written as a number
+  pub numeric_told :
+      list_any (λ x. is_numeric text (place_at (bytes text) x.1) (role_of x.0) (target_of x.0)) (meanings f r)
+      ≡ list_any (is_numbered μ) (preorder tree)
+  numeric_told =
+      same_such μ text (only_named f (openings r)) (numbers_in f r) e
+      (λ x. is_numeric text (place_at (bytes text) x.1) (role_of x.0) (target_of x.0))
+      (λ x. is_numbered μ (reference_node 0 x.2 x.0 0)) (λ r p m k. k.numeric text (ends_whole text)) 0 (items r) groups
+      counted
+      ∙ any_resolved (is_numbered μ) (numbered_leaf μ) (λ w t. refl) (λ w ts. refl) f text r d
+
+  -- some call is one of all
+  pub of_all_told :
+      list_any (λ x. is_call_of_all (role_of x.0) (target_of x.0)) (meanings f r)
+      ≡ list_any (is_numbered_call_of_all μ) (preorder tree)
+  of_all_told =
+      same_such μ text (only_named f (openings r)) (numbers_in f r) e
+      (λ x. is_call_of_all (role_of x.0) (target_of x.0))
+      (λ x. is_numbered_call_of_all μ (reference_node 0 x.2 x.0 0)) (λ r p m k. k.of_all) 0 (items r) groups counted
+      ∙ any_resolved (is_numbered_call_of_all μ) (of_all_leaf μ) (λ w t. refl) (λ w ts. refl) f text r d

@@ -1,0 +1,49 @@
+-- An empty comment parts a reference in digits from a digit behind it.
+use Rattle.std.proofs.Common.{◌≡◌, ℕ, ◌+◌, ◌<◌, ◌^◌, Bool, true, false, List, ◌∷◌, ◌++◌, codes, decimal, refl, sym}
+use Rattle.std.proofs.Common.{◌∙◌, subst, append_assoc, arith}
+use Rattle.std.proofs.lemmas.Bool.{cond-true, false≢true}
+use Rattle.fancy_lex.specs.Characters.{backslash}
+use Rattle.fancy_lex.specs.Text.{Text, bytes}
+use Rattle.fancy_lex.specs.declared.flags.Flags.{Flags}
+use Rattle.fancy_grammar.specs.Depth.{max_depth}
+use Rattle.fancy_grammar.specs.Label as label
+use Rattle.fancy_grammar.specs.Marks.{Marks}
+use Rattle.fancy_grammar.specs.Pattern.{Here, under, behind, written, is_in_digits}
+use Rattle.fancy_grammar.specs.PatternNeeds.{settled, setting}
+use Rattle.fancy_grammar.specs.Tree.{Tree, leaf, levels}
+use Rattle.fancy_grammar.specs.Writable.{AreNodesWritable}
+use Rattle.fancy_grammar.specs.declared.precedence.Precedence.TheVariants.{Piece}
+use Rattle.fancy_grammar.proofs.OutcomeLemmas.{piece_as}
+use Rattle.fancy_grammar.proofs.Pattern.Groups.{setting_rest}
+use Rattle.fancy_grammar.proofs.Pattern.References.{digits_atom, begins_reference}
+use Rattle.fancy_grammar.proofs.Pattern.Rules.{Clear, Rest, lead_piece, quants_one, quant_past, comment_passed}
+
+module _ (μ : Marks) where
+  -- before an empty comment the text of the tree is a piece that ends behind it
+  abbrev pub LeadsPast : Here → Tree → Type 0
+  LeadsPast h t =
+      (u w : Text) (k : Flags) (ys : List Tree) → Clear h.flags.ignore_space u → Rest μ (behind t Piece h) u k w ys →
+      Rest μ h (written μ t Piece h ++ (codes "(?#)" ++ u)) k w (t ∷ ys)
+
+  digits_lead : (h : Here) (n : ℕ) (casei : Bool) → μ.numeric_capture_group_references ≡ true → n < 2 ^ 64 →
+      h.flags.oniguruma_mode ≡ false → h.depth + 1 < max_depth → LeadsPast h (leaf (label.backref n casei))
+  digits_lead h n casei e small o d u w k ys c q =
+      let t = leaf (label.backref n casei) in
+      let g = settled h.flags t in
+      let i = under g h in
+      let v = codes "(?#)" ++ u in
+      let s = backslash ∷ decimal n in
+      let b = begins_reference h.flags.ignore_space (decimal n ++ v) in
+      let a = digits_atom μ i n e small v refl in
+      let piece = piece_as b.clear.no_layout a.derives
+      (quants_one i.depth (bytes (s ++ v)) i.flags a.tree a.tree v u o
+      (quant_past (bytes (s ++ v)) i.flags a.tree v u (comment_passed i.flags.ignore_space u ∙ c.no_layout) c.no_mark)) in
+      subst (λ z. Rest μ h ((setting h.flags g ++ z) ++ v) k w (t ∷ ys)) (sym (cond-true _ _ _ e))
+      (subst (λ z. Rest μ h z k w (t ∷ ys)) (sym (append_assoc (setting h.flags g) s v))
+      (setting_rest μ h g.casei g.multi g.dotnl g.crlf (s ++ v) w k (t ∷ ys) o d b
+      (lead_piece μ i (s ++ v) u w k a.tree t ys b refl a.becomes piece q)))
+
+  pub leads_past : (f : Flags) (c : ℕ) (t : Tree) → AreNodesWritable f μ c t → is_in_digits μ t ≡ true → (h : Here) →
+      h.flags.oniguruma_mode ≡ false → h.depth + levels t < max_depth → LeadsPast h t
+  leads_past f c (leaf (label.backref n casei)) k e h o d = digits_lead h n casei e k o (omega (arith, d))
+  leads_past f c _ k e h o d = absurd (false≢true e)
